@@ -1,0 +1,10 @@
+//! What the rest stands on: epochs, tags and refusals.
+#![tactic(auto)]
+
+pub mod epoch;
+pub mod refused;
+pub mod tag;
+
+pub use epoch::Epoch;
+pub use refused::Refused;
+pub use tag::Tag;
