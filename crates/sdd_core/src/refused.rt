@@ -76,3 +76,6 @@ impl<T: Drop> From<AllocFailed<T>> for Refused {
         Refused::NoMemory
     }
 }
+
+#[cfg(test)]
+mod tests;
