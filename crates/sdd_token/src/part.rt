@@ -109,6 +109,8 @@ impl<K> Drop for Part<K> {
 
 unsafe impl<K> Send for Book<K> {}
 
+unsafe impl<K> Sync for Book<K> {}
+
 unsafe impl<K> Send for Part<K> {}
 
 unsafe impl<K> Sync for Part<K> {}
