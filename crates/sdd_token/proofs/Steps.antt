@@ -21,7 +21,12 @@ use types.Tokens.{bor_open, obor_alter, bor_fracture, one_token}
 use denote.Struct.Lending.{Lends}
 use denote.Steps.{nothing}
 use Rattle.atomic_table.specs.Seated.{halved, itself}
-use Rattle.sdd_token.specs.Units.{share_of, units, book_owns, tokens}
+use Rattle.sdd_token.specs.Units.{share_of, IsCount, units, book_owns, tokens}
+use Rattle.sdd_token.proofs.Counting.{counts-pos, counts-whole, counts-fits}
+
+-- units of one number have one value, and are no more than there are
+abbrev pub Meets : Gv → Gv → ℕ → ℕ → Type 0
+Meets g h m n = (g ≡ h) × (0 < m) × (m + n ≤ 2 ^ 63)
 
 module _ {M : Type 1} {𝓤 : Ura M} (𝓛 : Logic 𝓤) where
   open 𝓛 use {H, A}
@@ -74,28 +79,26 @@ module _ {M : Type 1} {𝓤 : Ura M} (𝓛 : Logic 𝓤) where
             subst (λ (x : Share). ⟦ at g t ⟧ ⊢ ⟦ at g x ⟧) (mem_unique (Share.op q r) n m) (id⊢ 𝓤 ⟦ at g t ⟧)))))
 
     -- ---- units
-    pub packs : (g : Gv) (k : ℕ) (q : Share) → Counts 63 q k → ⟦ at g q ⟧ ⊢ ⟦ units γ i g k ⟧
-    packs g k q c = qed 𝓛 (‵ (at g q) ∷ []) ∵ fpack ! (Counts 63 q k) (λ _. at g q) c $ fpack ! Share (λ s. fex (Counts 63 s k) (λ _. at g s)) q $ done !
+    pub packs : (g : Gv) (k : ℕ) (q : Share) → IsCount q k → ⟦ at g q ⟧ ⊢ ⟦ units γ i g k ⟧
+    packs g k q c = qed 𝓛 (‵ (at g q) ∷ []) ∵ fpack ! (IsCount q k) (λ _. at g q) c $ fpack ! Share (λ s. fex (IsCount s k) (λ _. at g s)) q $ done !
 
-    pub splits : (g : Gv) (k m n : ℕ) → 0 < m → 0 < n → m + n ≡ k → k ≤ 2 ^ 63 → ⟦ units γ i g k ⟧ ⊢ ⟦ units γ i g m ⟧ ∗ ⟦ units γ i g n ⟧
-    splits g k m n pm pn sum fits = let q = counts_some 63 m pm (omega arith) in let r = counts_some 63 n pn (omega arith) in
-        qed 𝓛 (‵ (units γ i g k) ∷ []) ∵ fpick ! (λ s. fpick ! (λ c. use1 𝓛 (‵ (at g q.0) ⊛ ‵ (at g r.0)) (cut_at g q.0 r.0 s (Counts-op 63 q.0 r.0 s m n k q.1 r.1 c sum)) $ split ! $
-        move ! (1 ∷ []) $ use1 𝓛 (‵ (units γ i g n)) (packs g n r.0 r.1) $ move ! (1 ∷ []) $ use1 𝓛 (‵ (units γ i g m)) (packs g m q.0 q.1) $ done !))
+    pub splits : (g : Gv) (k m n : ℕ) → 0 < m → 0 < n → m + n ≡ k → ⟦ units γ i g k ⟧ ⊢ guard 𝓤 (k ≤ 2 ^ 63) (⟦ units γ i g m ⟧ ∗ ⟦ units γ i g n ⟧)
+    splits g k m n pm pn sum = qed 𝓛 (‵ (units γ i g k) ∷ []) ∵ fpick ! (λ s. fpick ! (λ c. let fits = c.1 in let q = counts_some 63 m pm (omega arith) in let r = counts_some 63 n pn (omega arith) in
+        use1 𝓛 (‵ (at g q.0) ⊛ ‵ (at g r.0)) (cut_at g q.0 r.0 s (Counts-op 63 q.0 r.0 s m n k q.1 r.1 c.0 sum)) $ check ! fits $ split ! $
+        move ! (1 ∷ []) $ use1 𝓛 (‵ (units γ i g n)) (packs g n r.0 (r.1, omega arith)) $ move ! (1 ∷ []) $ use1 𝓛 (‵ (units γ i g m)) (packs g m q.0 (q.1, omega arith)) $ done !))
 
-    pub joins : (g h : Gv) (m n : ℕ) → 0 < m + n → m + n ≤ 2 ^ 63 → ⟦ units γ i g m ⟧ ∗ ⟦ units γ i h n ⟧ ⊢ guard 𝓤 (g ≡ h) ⟦ units γ i g (m + n) ⟧
-    joins g h m n pos fits = qed 𝓛 (‵ (units γ i g m) ∷ ‵ (units γ i h n) ∷ []) ∵ fpick ! (λ q. fpick ! (λ c. move ! (1 ∷ []) $ fpick ! (λ r. fpick ! (λ d. move ! (1 ∷ []) $
-        use2 𝓛 (given (g ≡ h) (exists (λ (s : Share). given (s ∈ Share.op q r) (‵ (at g s))))) (joined g h q r) $ learn ! (λ e. pick ! (λ s. learn ! (λ m'. check ! e $
-        let t = counts_some 63 (m + n) pos fits in let same : t.0 ≡ s = mem_unique (Share.op q r) (Counts-op 63 q r t.0 m n (m + n) c d t.1 refl) m' in
-        by ! (packs g (m + n) s (subst (λ (x : Share). Counts 63 x (m + n)) same t.1)))))))))
+    pub joins : (g h : Gv) (m n : ℕ) → ⟦ units γ i g m ⟧ ∗ ⟦ units γ i h n ⟧ ⊢ guard 𝓤 (Meets g h m n) ⟦ units γ i g (m + n) ⟧
+    joins g h m n = qed 𝓛 (‵ (units γ i g m) ∷ ‵ (units γ i h n) ∷ []) ∵ fpick ! (λ q. fpick ! (λ c. move ! (1 ∷ []) $ fpick ! (λ r. fpick ! (λ d. move ! (1 ∷ []) $
+        use2 𝓛 (given (g ≡ h) (exists (λ (s : Share). given (s ∈ Share.op q r) (‵ (at g s))))) (joined g h q r) $ learn ! (λ e. pick ! (λ s. learn ! (λ m'.
+        let pos = counts-pos q m c.0 in let fits = counts-fits q r s m n c.0 d.0 c.1 d.1 m' in check ! (e, pos, fits) $
+        let t = counts_some 63 (m + n) (omega arith) fits in let same : t.0 ≡ s = mem_unique (Share.op q r) (Counts-op 63 q r t.0 m n (m + n) c.0 d.0 t.1 refl) m' in
+        by ! (packs g (m + n) s (subst (λ (x : Share). Counts 63 x (m + n)) same t.1, fits)))))))))
 
     pub whole_out : (g : Gv) → ⟦ units γ i g (2 ^ 63) ⟧ ⊢ ⟦ at g full_share ⟧
-    whole_out g = let q = counts_some 63 1 (omega arith) (omega arith) in let r = counts_some 63 (2 ^ 63 - 1) (omega arith) (omega arith) in
-        let is : full_share ∈ Share.op q.0 r.0 = Counts-op 63 q.0 r.0 full_share 1 (2 ^ 63 - 1) (2 ^ 63) q.1 r.1 (Counts-all 63) refl in
-        qed 𝓛 (‵ (units γ i g (2 ^ 63)) ∷ []) ∵ fpick ! (λ s. fpick ! (λ c. let same : s ≡ full_share = mem_unique (Share.op q.0 r.0) (Counts-op 63 q.0 r.0 s 1 (2 ^ 63 - 1) (2 ^ 63) q.1 r.1 c refl) is in
-        by ! (subst (λ (x : Share). ⟦ at g s ⟧ ⊢ ⟦ at g x ⟧) same (id⊢ 𝓤 ⟦ at g s ⟧))))
+    whole_out g = qed 𝓛 (‵ (units γ i g (2 ^ 63)) ∷ []) ∵ fpick ! (λ s. fpick ! (λ c. by ! (subst (λ (x : Share). ⟦ at g s ⟧ ⊢ ⟦ at g x ⟧) (counts-whole s c.0) (id⊢ 𝓤 ⟦ at g s ⟧))))
 
     pub whole_in : (g : Gv) → ⟦ at g full_share ⟧ ⊢ ⟦ units γ i g (2 ^ 63) ⟧
-    whole_in g = packs g (2 ^ 63) full_share (Counts-all 63)
+    whole_in g = packs g (2 ^ 63) full_share (Counts-all 63, omega arith)
 
     -- who has the whole sets it
     pub resets_now : (g h : Gv) → ⟦ at g full_share ⟧ ⊢ upd 𝓤 ⟦ at h full_share ⟧
@@ -106,17 +109,20 @@ module _ {M : Type 1} {𝓤 : Ura M} (𝓛 : Logic 𝓤) where
     pub resets : (g h : Gv) → ⟦ at g full_share ⟧ ⊢ H.⇛ ⟦ at h full_share ⟧
     resets g h = via 𝓤 (upd 𝓤 ⟦ at h full_share ⟧) (resets_now g h) (basic 𝓛 ⟦ at h full_share ⟧)
 
-    -- units of one number agree, and both are kept
-    pub units_agree : (g h : Gv) (m n : ℕ) → ⟦ units γ i g m ⟧ ∗ ⟦ units γ i h n ⟧ ⊢ guard 𝓤 (g ≡ h) (⟦ units γ i g m ⟧ ∗ ⟦ units γ i h n ⟧)
-    units_agree g h m n = qed 𝓛 (‵ (units γ i g m) ∷ ‵ (units γ i h n) ∷ []) ∵ fpick ! (λ q. fpick ! (λ c. move ! (1 ∷ []) $ fpick ! (λ r. fpick ! (λ d. move ! (1 ∷ []) $
-        use2 𝓛 (given (g ≡ h) (‵ (at g q) ⊛ ‵ (at h r))) (agreed g h q r) $ learn ! (λ e. check ! e $ split ! $ use1 𝓛 (‵ (units γ i g m)) (packs g m q c) $ move ! (1 ∷ []) $ use1 𝓛 (‵ (units γ i h n)) (packs h n r d) $ move ! (1 ∷ 0 ∷ []) $ done !)))))
+    -- the same, and both are kept
+    pub apart_at : (g h : Gv) (m n : ℕ) → ⟦ units γ i g m ⟧ ∗ ⟦ units γ i h n ⟧ ⊢ guard 𝓤 (Meets g h m n) (⟦ units γ i g m ⟧ ∗ ⟦ units γ i h n ⟧)
+    apart_at g h m n = qed 𝓛 (‵ (units γ i g m) ∷ ‵ (units γ i h n) ∷ []) ∵ fpick ! (λ q. fpick ! (λ c. move ! (1 ∷ []) $ fpick ! (λ r. fpick ! (λ d. move ! (1 ∷ []) $
+        use2 𝓛 (given (g ≡ h) (exists (λ (s : Share). given (s ∈ Share.op q r) (‵ (at g s))))) (joined g h q r) $ learn ! (λ e. pick ! (λ s. learn ! (λ m'.
+        check ! (e, counts-pos q m c.0, counts-fits q r s m n c.0 d.0 c.1 d.1 m') $
+        use1 𝓛 (‵ (at g q) ⊛ ‵ (at h r)) (subst (λ (y : Gv). ⟦ at g s ⟧ ⊢ ⟦ at g q ⟧ ∗ ⟦ at y r ⟧) e (cut_at g q r s m')) $ split ! $
+        use1 𝓛 (‵ (units γ i g m)) (packs g m q c) $ move ! (1 ∷ []) $ use1 𝓛 (‵ (units γ i h n)) (packs h n r d) $ move ! (1 ∷ 0 ∷ []) $ done !)))))))
 
     pub sets_all : (g h : Gv) → ⟦ units γ i g (2 ^ 63) ⟧ ⊢ H.⇛ ⟦ units γ i h (2 ^ 63) ⟧
     sets_all g h = qed 𝓛 (‵ (units γ i g (2 ^ 63)) ∷ []) ∵ updating ! $ use1 𝓛 (‵ (at g full_share)) (whole_out g) $ use1 𝓛 (later (‵ (at h full_share))) (resets g h) $ await ! tt $
         use1 𝓛 (‵ (units γ i h (2 ^ 63))) (whole_in h) $ now ! $ done !
 
     -- ---- a `&`
-    again : (g : Gv) (k : ℕ) (κ : Lft) (q : Share) → Counts 63 q k → emp 𝓤 ⊢ ⟦ fwand (fsep (fdead κ) (fseps (at g q ∷ []))) (fupd (units γ i g k)) ⟧
+    again : (g : Gv) (k : ℕ) (κ : Lft) (q : Share) → IsCount q k → emp 𝓤 ⊢ ⟦ fwand (fsep (fdead κ) (fseps (at g q ∷ []))) (fupd (units γ i g k)) ⟧
     unfolding fseps
     again g k κ q c = qed 𝓛 [] ∵ assume ! (‵ (fsep (fdead κ) (fsep (at g q) ftrue))) $ suffices ! ⟦ units γ i g k ⟧ (upd_i 𝓤 ⟦ units γ i g k ⟧) $
         fsplit3 ! $ drop ! $ keep ! (0 ∷ []) $ by ! (packs g k q c)

@@ -54,16 +54,23 @@ impl<K> Book<K> {
 
 impl<K> Part<K> {
     pub fn split(&mut self, units: u64) -> Part<K>
-        requires { (0 < units) × (units < self.old.units) × (self.old.units ≤ 2 ^ 63) }
-        ensures { (self.new ≡ record self.old { units = self.old.units - units }) × (result ≡ record self.old { units = units }) }
+        requires some { 0 < units }
+        requires fewer { units < self.old.units }
+        ensures rest { self.new ≡ record self.old { units = self.old.units - units } }
+        ensures part { result ≡ record self.old { units = units } }
     {
         let _ = units;
         Part { of: PhantomData }
     }
 
     pub fn join(&mut self, other: Part<K>)
-        requires { (other.home ≡ self.old.home) × (other.number ≡ self.old.number) × (0 < self.old.units) × (self.old.units + other.units ≤ 2 ^ 63) }
-        ensures { (self.new ≡ record self.old { units = self.old.units + other.units }) × (other.round ≡ self.old.round) × (other.kind ≡ self.old.kind) × (other.shown ≡ self.old.shown) }
+        requires home { other.home ≡ self.old.home }
+        requires number { other.number ≡ self.old.number }
+        ensures joined { self.new ≡ record self.old { units = self.old.units + other.units } }
+        ensures fits { self.new.units ≤ 2 ^ 63 }
+        ensures round { other.round ≡ self.old.round }
+        ensures kind { other.kind ≡ self.old.kind }
+        ensures shown { other.shown ≡ self.old.shown }
     {
         let Part { of: _ } = other;
     }
