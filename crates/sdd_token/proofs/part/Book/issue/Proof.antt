@@ -24,7 +24,7 @@ issue_spec 𝓤 𝓛 𝓜 𝓡 wired X L =
     let others : Fml = fsep (flft κs.1.0 qs.1.0) (fsep (flft κs.1.1.0 qs.1.1.0) ftrue) in
     let d' : Row.Denot = record d { next = d.next + 1 } in
     let next : suc d.next ≡ d.next + 1 = omega arith in
-    let Told : Type 0 = (d.home ≡ d.home) × (d.next ≡ d.next) × (2 ^ 63 ≡ 2 ^ 63) × (x ≡ x) in
+    let says = λ (A : Type 0) (a : A). fact_i 𝓤 A (emp 𝓤) a in
     let y : (walk_of 𝓛 En hs c).Ghost = ((κs, qs, bounds, a, (vptr b o ∷ [], (vptr b' o' ∷ [], tt))), gh) in let Post : Val → SProp 𝓤 = (walk_of 𝓛 En hs c).post y in
     qed 𝓛 (((‵ (flft κ qs.0) ⊛ ‵ others) ⊛ ‵ (owns (types_at En.signature.params κs) a y.0.4)) ∷ raw ((c κs a).requires gh) ∷ []) ∵
     keep ! (0 ∷ []) $ split ! $ split ! $ move ! (2 ∷ []) $ fsplit ! $ fsplit3 ! $ keep ! (1 ∷ 2 ∷ 4 ∷ 5 ∷ []) $
@@ -36,6 +36,5 @@ issue_spec 𝓤 𝓛 𝓜 𝓡 wired X L =
     sets ! (agg ! (no_more !)) refl (tt, tt) $ sets ! (agg ! (and_then ! (get ! refl) (no_more !))) refl (tt, (tt, tt)) $
     move ! (2 ∷ 0 ∷ []) $ fjoin ! $ move ! (2 ∷ 0 ∷ 3 ∷ 4 ∷ 5 ∷ []) $ closes ! tt Row d' vs b o $
     feq_i ! (List Val) (vptr b o ∷ []) (vptr b o ∷ []) refl $ fjoin3 ! $ nothing ! $ nothing ! $ fjoin ! $ move ! (1 ∷ 0 ∷ []) $ fjoin ! $ move ! (1 ∷ 3 ∷ []) $ join ! $
-    move ! (2 ∷ []) $ use0 𝓛 (‵ ((Pin R).own_val (tt, tt) (token_val ∷ []))) (pin_made R 𝓛) $ fjoin ! $ use0 𝓛 (raw (fact 𝓤 (d' ≡ d'))) (fact_i 𝓤 (d' ≡ d') (emp 𝓤) refl) $ use0 𝓛 (raw (fact 𝓤 Told)) (fact_i 𝓤 Told (emp 𝓤) (refl, refl, refl, refl)) $
-    move ! (1 ∷ 0 ∷ []) $ join ! $
+    move ! (2 ∷ []) $ use0 𝓛 (‵ ((Pin R).own_val (tt, tt) (token_val ∷ []))) (pin_made R 𝓛) $ fjoin ! $ use0 𝓛 (raw (fact 𝓤 (x ≡ x))) (says (x ≡ x) refl) $ use0 𝓛 (raw (fact 𝓤 (2 ^ 63 ≡ 2 ^ 63))) (says (2 ^ 63 ≡ 2 ^ 63) refl) $ join ! $ use0 𝓛 (raw (fact 𝓤 (d.next ≡ d.next))) (says (d.next ≡ d.next) refl) $ join ! $ use0 𝓛 (raw (fact 𝓤 (d.home ≡ d.home))) (says (d.home ≡ d.home) refl) $ join ! $ use0 𝓛 (raw (fact 𝓤 (d' ≡ d'))) (says (d' ≡ d') refl) $ join ! $
     returns ! (look_at ! 0 refl) $ free_all ! refl $ keep ! (2 ∷ 3 ∷ 1 ∷ 0 ∷ []) $ by ! (leaves 𝓛 En hs c y token_val new (d', (tt, tt)) (tt, (tt, tt)))))))
