@@ -24,9 +24,12 @@ use Rattle.atomic_table.specs.Seated.{halved, itself}
 use Rattle.sdd_token.specs.Units.{share_of, IsCount, units, book_owns, tokens}
 use Rattle.sdd_token.proofs.Counting.{counts-pos, counts-whole, counts-fits}
 
--- units of one number have one value, and are no more than there are
-abbrev pub Meets : Gv → Gv → ℕ → ℕ → Type 0
-Meets g h m n = (g ≡ h) × (0 < m) × (m + n ≤ 2 ^ 63)
+-- parts of one number have one value, at least a unit each, and no more than there are
+pub record Meets (g h : Gv) (m n : ℕ) : Type 0 where
+  pub values : g ≡ h
+  pub some : 0 < m
+  pub others : 0 < n
+  pub fits : m + n ≤ 2 ^ 63
 
 module _ {M : Type 1} {𝓤 : Ura M} (𝓛 : Logic 𝓤) where
   open 𝓛 use {H, A}
@@ -90,7 +93,7 @@ module _ {M : Type 1} {𝓤 : Ura M} (𝓛 : Logic 𝓤) where
     pub joins : (g h : Gv) (m n : ℕ) → ⟦ units γ i g m ⟧ ∗ ⟦ units γ i h n ⟧ ⊢ guard 𝓤 (Meets g h m n) ⟦ units γ i g (m + n) ⟧
     joins g h m n = qed 𝓛 (‵ (units γ i g m) ∷ ‵ (units γ i h n) ∷ []) ∵ fpick ! (λ q. fpick ! (λ c. move ! (1 ∷ []) $ fpick ! (λ r. fpick ! (λ d. move ! (1 ∷ []) $
         use2 𝓛 (given (g ≡ h) (exists (λ (s : Share). given (s ∈ Share.op q r) (‵ (at g s))))) (joined g h q r) $ learn ! (λ e. pick ! (λ s. learn ! (λ m'.
-        let pos = counts-pos q m c.0 in let fits = counts-fits q r s m n c.0 d.0 c.1 d.1 m' in check ! (e, pos, fits) $
+        let pos = counts-pos q m c.0 in let fits = counts-fits q r s m n c.0 d.0 c.1 d.1 m' in check ! (record { values = e; some = pos; others = counts-pos r n d.0; fits = fits }) $
         let t = counts_some 63 (m + n) (omega arith) fits in let same : t.0 ≡ s = mem_unique (Share.op q r) (Counts-op 63 q r t.0 m n (m + n) c.0 d.0 t.1 refl) m' in
         by ! (packs g (m + n) s (subst (λ (x : Share). Counts 63 x (m + n)) same t.1, fits)))))))))
 
@@ -113,7 +116,7 @@ module _ {M : Type 1} {𝓤 : Ura M} (𝓛 : Logic 𝓤) where
     pub apart_at : (g h : Gv) (m n : ℕ) → ⟦ units γ i g m ⟧ ∗ ⟦ units γ i h n ⟧ ⊢ guard 𝓤 (Meets g h m n) (⟦ units γ i g m ⟧ ∗ ⟦ units γ i h n ⟧)
     apart_at g h m n = qed 𝓛 (‵ (units γ i g m) ∷ ‵ (units γ i h n) ∷ []) ∵ fpick ! (λ q. fpick ! (λ c. move ! (1 ∷ []) $ fpick ! (λ r. fpick ! (λ d. move ! (1 ∷ []) $
         use2 𝓛 (given (g ≡ h) (exists (λ (s : Share). given (s ∈ Share.op q r) (‵ (at g s))))) (joined g h q r) $ learn ! (λ e. pick ! (λ s. learn ! (λ m'.
-        check ! (e, counts-pos q m c.0, counts-fits q r s m n c.0 d.0 c.1 d.1 m') $
+        check ! (record { values = e; some = counts-pos q m c.0; others = counts-pos r n d.0; fits = counts-fits q r s m n c.0 d.0 c.1 d.1 m' }) $
         use1 𝓛 (‵ (at g q) ⊛ ‵ (at h r)) (subst (λ (y : Gv). ⟦ at g s ⟧ ⊢ ⟦ at g q ⟧ ∗ ⟦ at y r ⟧) e (cut_at g q r s m')) $ split ! $
         use1 𝓛 (‵ (units γ i g m)) (packs g m q c) $ move ! (1 ∷ []) $ use1 𝓛 (‵ (units γ i h n)) (packs h n r d) $ move ! (1 ∷ 0 ∷ []) $ done !)))))))
 

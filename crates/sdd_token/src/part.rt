@@ -98,6 +98,17 @@ impl<K> Part<K> {
         let _ = other;
     }
 
+    /// Two parts of one number have no unit in common. So who has all units is alone.
+    pub fn apart(&mut self, other: &mut Part<K>)
+        requires home { other.old.home ≡ self.old.home }
+        requires number { other.old.number ≡ self.old.number }
+        ensures kept { (self.new ≡ self.old) × (other.new ≡ other.old) }
+        ensures some { (0 < self.old.units) × (0 < other.old.units) }
+        ensures fits { self.old.units + other.old.units ≤ WHOLE }
+    {
+        let _ = other;
+    }
+
     /// Who has all units of a number sets its kind and the value that it shows.
     pub fn set<T>(&mut self, kind: &K, value: &T)
         requires { self.old.units ≡ WHOLE }

@@ -25,7 +25,7 @@ join_spec 𝓤 𝓛 𝓜 𝓡 wired X L =
     rewrite ! 0 (λ (m : ℕ × ℕ). ‵ (fsep (units m.0 m.1 h j) (tokens e.round j))) (λ i. ((homes i).name, numbers i)) refl $ move ! (1 ∷ []) $ fsplit3 ! $ keep ! (1 ∷ 2 ∷ 5 ∷ 6 ∷ 3 ∷ []) $
     enter ! 𝓣.C 𝓣.Λ fn (vptr b o ∷ token_val ∷ []) Post $ alloc_all ! (λ l. pass_all ! refl ((tt, tt), ((tt, (tt, tt)), tt)) $
     opens ! tt Row b o (λ vs. move ! (1 ∷ []) $ fsplit ! $ move ! (1 ∷ []) $ fsplit ! $ move ! (8 ∷ []) $ fsplit ! $ move ! (2 ∷ 0 ∷ []) $
-    use2 𝓛 (given (Meets g h k j) (‵ (units d.home.name d.number g (k + j)))) (joins 𝓛 d.home.name d.number g h k j) $ learn ! (λ meets. let some = meets.1 in let fits = meets.2 in let both = (told_coded R.coded).inj (d.round, (d.kind, d.shown)) (e.round, (e.kind, e.shown)) meets.0 in let rounds : e.round ≡ d.round = sym (λ i. (both i).0) in move ! (1 ∷ []) $ rewrite ! 0 (λ (m : ℕ). ‵ (tokens m j)) rounds refl $ move ! (2 ∷ 0 ∷ []) $ use2 𝓛 (‵ (tokens d.round (k + j))) (tokens_glue 𝓛 d.round k j (omega arith) fits) $ move ! (1 ∷ 0 ∷ []) $ fjoin ! $
+    use2 𝓛 (given (Meets g h k j) (‵ (units d.home.name d.number g (k + j)))) (joins 𝓛 d.home.name d.number g h k j) $ learn ! (λ meets. let some = meets.some in let fits = meets.fits in let both = (told_coded R.coded).inj (d.round, (d.kind, d.shown)) (e.round, (e.kind, e.shown)) meets.values in let rounds : e.round ≡ d.round = sym (λ i. (both i).0) in move ! (1 ∷ []) $ rewrite ! 0 (λ (m : ℕ). ‵ (tokens m j)) rounds refl $ move ! (2 ∷ 0 ∷ []) $ use2 𝓛 (‵ (tokens d.round (k + j))) (tokens_glue 𝓛 d.round k j (omega arith) fits) $ move ! (1 ∷ 0 ∷ []) $ fjoin ! $
     move ! (1 ∷ 0 ∷ []) $ fjoin ! $ move ! (1 ∷ 0 ∷ []) $ closes ! tt Row d' vs b o $ feq_i ! (List Val) (vptr b o ∷ []) (vptr b o ∷ []) refl $ fjoin3 ! $
     nothing ! $ nothing ! $ fjoin ! $ move ! (1 ∷ 0 ∷ []) $ fjoin ! $ move ! (1 ∷ 2 ∷ []) $ join ! $
     sets ! (of_opd ! (unit_lit !)) refl (tt, tt) $ use0 𝓛 (raw (fact 𝓤 (e.shown ≡ d.shown))) (says (e.shown ≡ d.shown) (sym (λ i. (both i).1.1))) $ use0 𝓛 (raw (fact 𝓤 (e.kind ≡ d.kind))) (says (e.kind ≡ d.kind) (sym (λ i. (both i).1.0))) $ join ! $ use0 𝓛 (raw (fact 𝓤 (e.round ≡ d.round))) (says (e.round ≡ d.round) rounds) $ join ! $ use0 𝓛 (raw (fact 𝓤 (k + j ≤ 2 ^ 63))) (says (k + j ≤ 2 ^ 63) fits) $ join ! $ use0 𝓛 (raw (fact 𝓤 (d' ≡ d'))) (says (d' ≡ d') refl) $ join ! $ feq_i ! (List Val) (vunit ∷ []) (vunit ∷ []) refl $
