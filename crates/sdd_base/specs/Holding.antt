@@ -1,0 +1,31 @@
+-- What a value holds of a world: its owners and its cells, by number
+use Rattle.std.specs.Prelude.{ℕ, List, [], ◌∷◌, ◌++◌, ◌≡◌, Option, None, Some, slice_index_or}
+use Rattle.sdd_token.specs.Units as token
+
+-- where the slots and the cells of a world or domain are numbered: no two have the same home
+pub record Home : Type 0 where
+  pub slots : token.Home
+  pub cells : token.Home
+
+-- one owner or cell: its number, and where that is numbered
+pub data Holding : Type 0 where
+  owned : (slot : ℕ) (home : token.Home) → Holding
+  atomic_owned : (cell : ℕ) (home : token.Home) → Holding
+
+-- it is of this home
+abbrev pub IsOf : Home → Holding → Type 0
+IsOf home (owned slot h) = h ≡ home.slots
+IsOf home (atomic_owned cell h) = h ≡ home.cells
+
+-- each of them is
+abbrev pub AreOf : Home → List Holding → Type 0
+AreOf home [] = Unit {0}
+AreOf home (h ∷ hs) = IsOf home h × AreOf home hs
+
+-- what the value in a slot holds is of this home
+abbrev pub ValueIsOf : {T : Type 0} → (T → List Holding) → Home → Option T → Type 0
+ValueIsOf holds home None = Unit {0}
+ValueIsOf holds home (Some value) = AreOf home (holds value)
+
+abbrev pub ValuesAreOf : {T : Type 0} → (T → List Holding) → Home → List (Option T) → Type 0
+ValuesAreOf holds home values = (k : ℕ) → ValueIsOf holds home (slice_index_or values k None)

@@ -1,0 +1,7 @@
+pub mod Holding
+pub mod World
+pub mod Seat
+pub mod Steps
+pub mod Ptr
+pub mod Limits
+pub mod Drains

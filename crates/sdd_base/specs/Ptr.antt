@@ -1,0 +1,24 @@
+-- What a pointer names
+use Rattle.std.specs.Prelude.{ℕ, ◌≡◌, Option, None, Some, MatchOption}
+use Rattle.sdd_core.specs.declared.tag.Tag.{Tag}
+use Rattle.sdd_base.specs.declared.ptr.Ptr.{Ptr}
+
+module _ {T : Type 0} where
+  -- the slot that it names; null names none
+  abbrev pub slot_named : Ptr T → Option ℕ
+  slot_named p = p.slot
+
+  abbrev pub tag_of : Ptr T → Tag
+  tag_of p = p.tag
+
+  -- a pointer is null whatever its tag
+  abbrev pub IsNull : Ptr T → Type 0
+  IsNull p = slot_named p ≡ None
+
+  -- it is null, or the slot that it names passes
+  abbrev pub NamesFilled : (ℕ → Type 0) → Ptr T → Type 0
+  NamesFilled filled p = (k : ℕ) → slot_named p ≡ Some k → filled k
+
+  -- it names a slot that shows the value
+  abbrev pub NamesShown : (ℕ → T → Type 0) → Ptr T → T → Type 0
+  NamesShown shows p value = (k : ℕ) × (slot_named p ≡ Some k) × shows k value

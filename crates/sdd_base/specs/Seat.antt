@@ -1,0 +1,18 @@
+-- Who calls, and on which loan of which world or domain
+use Rattle.std.specs.Prelude.{ℕ, ◌<◌, Bool, IsTrue}
+use Rattle.sdd_base.specs.Holding.{Home}
+
+pub record Seat : Type 0 where
+  pub place : ℕ
+  pub places : ℕ
+  pub loan : ℕ
+  pub home : Home
+  pub exact : Bool
+
+-- the participant is one of the world's
+abbrev pub IsSeated : Seat → Type 0
+IsSeated s = s.place < s.places
+
+-- the calls change the world by exactly what is said
+abbrev pub IsExact : Seat → Type 0
+IsExact s = IsTrue s.exact

@@ -1,0 +1,114 @@
+-- What each call does to a world
+use Rattle.std.specs.Prelude.{ℕ, ◌+◌, ◌%◌, ◌<◌, ◌≤◌, ◌≡◌, Bool, true, false, List, [], ◌∷◌, Option, Some, None, length, slice_set, if◌then◌else◌}
+use Rattle.sdd_core.specs.declared.tag.Tag.TheVariants.{None as no_tag}
+use Rattle.sdd_store.specs.Waiting.{What}
+use Rattle.sdd_store.specs.Waiting.What.{Item, Private, Job}
+use Rattle.sdd_store.specs.Time as time
+use Rattle.sdd_store.specs.Table.{entry_at, with_entry, without_entry, IsEmptyAt, IsFull}
+use Rattle.sdd_store.specs.Tally.{one_made, one_reclaimed}
+use Rattle.sdd_store.specs.declared.standing.Standing.{Standing}
+use Rattle.sdd_store.specs.declared.standing.Standing.TheVariants.{Owned, Raw, Shared, Retired, Private as privately}
+use Rattle.sdd_store.specs.declared.standing.Cell.{Cell}
+use Rattle.sdd_base.specs.Holding.{Holding, owned, atomic_owned}
+use Rattle.sdd_base.specs.World.{World, place_at, standing_at, value_at}
+
+module _ {T : Type 0} where
+  -- some slot that was free has the value, out as owned
+  abbrev pub made : World T → ℕ → T → World T
+  made w k value = record w { standings = with_entry w.standings k Owned; values = slice_set w.values k (Some value); tally = one_made w.tally }
+
+  -- the item in the slot waits with p
+  abbrev pub retired : World T → ℕ → ℕ → World T
+  retired w p k = record w { time = time.awaiting_at w.time p (Item k); standings = with_entry w.standings k Retired }
+
+  -- some cell that was free holds nothing
+  abbrev pub nulled : World T → ℕ → World T
+  nulled w c = record w { cells = with_entry w.cells c (record { held = None; tag = no_tag }) }
+
+  -- what a cell held is retired by p
+  abbrev pub spilled : World T → ℕ → Option ℕ → World T
+  spilled w p None = w
+  spilled w p (Some k) = retired w p k
+
+  abbrev pub held_in : Option Cell → Option ℕ
+  held_in None = None
+  held_in (Some cell) = cell.held
+
+  -- the cell is free, and p retires what it held
+  abbrev pub cell_closed : World T → ℕ → ℕ → World T
+  cell_closed w p c = spilled (record w { cells = without_entry w.cells c }) p (held_in (entry_at w.cells c))
+
+  -- p is given one of the things that a value held
+  abbrev pub given : World T → ℕ → Holding → World T
+  given w p (owned k home) = retired w p k
+  given w p (atomic_owned c home) = cell_closed w p c
+
+  abbrev pub given_all : World T → ℕ → List Holding → World T
+  given_all w p [] = w
+  given_all w p (h ∷ hs) = given_all (given w p h) p hs
+
+  -- the value of an item that waits in the slot
+  abbrev pub waiting_value : World T → ℕ → Option Standing → Option T
+  waiting_value w k None = None
+  waiting_value w k (Some Owned) = None
+  waiting_value w k (Some Raw) = None
+  waiting_value w k (Some (Shared n)) = None
+  waiting_value w k (Some Retired) = value_at w k
+  waiting_value w k (Some (privately c)) = value_at w k
+
+  -- the slot is free, and one item more was reclaimed
+  abbrev pub freed : World T → ℕ → World T
+  freed w k = record w { standings = without_entry w.standings k; values = slice_set w.values k None; tally = one_reclaimed w.tally }
+
+  module _ (holds : T → List Holding) where
+    -- the value is taken out of the slot, and gives up to p what it holds
+    abbrev pub taken_out : World T → ℕ → ℕ → Option T → World T
+    taken_out w p k None = w
+    taken_out w p k (Some value) = given_all (freed w k) p (holds value)
+
+    abbrev pub slot_reclaimed : World T → ℕ → ℕ → World T
+    slot_reclaimed w p k = taken_out w p k (waiting_value w k (standing_at w k))
+
+    -- p reclaims what waited
+    abbrev pub reclaimed : World T → ℕ → What → World T
+    reclaimed w p (Item k) = slot_reclaimed w p k
+    reclaimed w p (Private k c) = slot_reclaimed w p k
+    reclaimed w p (Job j) = w
+
+    abbrev pub all_reclaimed : World T → ℕ → List What → World T
+    all_reclaimed w p [] = w
+    all_reclaimed w p (x ∷ xs) = all_reclaimed (reclaimed w p x) p xs
+
+    -- a change of p: what waits has seen one change more, what has seen three is reclaimed, and then it is decided whether nothing waits
+    abbrev pub rotated : World T → ℕ → World T
+    rotated w p = record w { time = time.rotated_at w.time p }
+
+    abbrev pub settled : World T → ℕ → World T
+    settled w p = record w { time = time.settled_at w.time p }
+
+    abbrev pub changed : World T → ℕ → World T
+    changed w p = settled (all_reclaimed (rotated w p) p (time.due_next (place_at w p))) p
+
+    -- an outermost opening is a change if it finds another count
+    abbrev pub caught_up : World T → ℕ → World T
+    caught_up w p = if time.finds_another w.time p then changed w p else w
+
+    -- one more guard of p is open; only an outermost opening looks at the count
+    abbrev pub nested : World T → ℕ → World T
+    nested w p = record w { time = time.nested_at w.time p }
+
+    abbrev pub opened : World T → ℕ → World T
+    opened w p = if time.is_open (place_at w p) then nested w p else caught_up (nested w p) p
+
+  abbrev pub stirred : World T → ℕ → World T
+  stirred w p = record w { time = time.stirred_at w.time p }
+
+  abbrev pub accelerated : World T → ℕ → World T
+  accelerated w p = record w { time = time.accelerated_at w.time p }
+
+  -- a guard of p is closed
+  abbrev pub closed : World T → ℕ → World T
+  closed w p = record w { time = time.closed w.time p }
+
+  abbrev pub registered : World T → World T
+  registered w = record w { time = time.registered w.time }

@@ -1,0 +1,65 @@
+-- A world as clauses see it
+use Rattle.std.specs.Prelude.{ℕ, ◌+◌, ◌≤◌, ◌<◌, ◌≡◌, Bool, true, false, List, length, Option, Some, None, sum_by, count_by, slice_index_or}
+use Rattle.sdd_store.specs.Time.{Time}
+use Rattle.sdd_store.specs.Time as time
+use Rattle.sdd_store.specs.Table.{Entries, entry_at}
+use Rattle.sdd_store.specs.declared.standing.Standing.{Standing}
+use Rattle.sdd_store.specs.declared.standing.Standing.TheVariants.{Owned, Raw, Shared, Retired, Private}
+use Rattle.sdd_store.specs.declared.standing.Cell.{Cell}
+use Rattle.sdd_store.specs.declared.tally.Tally.{Tally}
+use Rattle.sdd_store.specs.declared.time.Participant.{Participant}
+use Rattle.sdd_base.specs.Holding.{Home, Holding}
+
+pub record World (T : Type 0) : Type 0 where
+  pub home : Home
+  pub time : Time
+  pub standings : Entries Standing
+  pub values : List (Option T)
+  pub cells : Entries Cell
+  pub tally : Tally
+
+module _ {T : Type 0} where
+  abbrev pub place_at : World T → ℕ → Participant
+  place_at w p = time.place_at w.time p
+
+  abbrev pub standing_at : World T → ℕ → Option Standing
+  standing_at w k = entry_at w.standings k
+
+  abbrev pub value_at : World T → ℕ → Option T
+  value_at w k = slice_index_or w.values k None
+
+  -- the place is one of the world's
+  abbrev pub IsPlaceOf : World T → ℕ → Type 0
+  IsPlaceOf w p = p < length w.time.places
+
+-- the item waits
+abbrev pub is_waiting : Option Standing → Bool
+is_waiting None = false
+is_waiting (Some Owned) = false
+is_waiting (Some Raw) = false
+is_waiting (Some (Shared n)) = false
+is_waiting (Some Retired) = true
+is_waiting (Some (Private k)) = true
+
+-- a slot that no participant's bags have
+abbrev pub is_loose : Option Standing → Bool
+is_loose s = elim (is_waiting s) [ true ↦ false | false ↦ true ]
+
+abbrev pub waiting_count : Participant → ℕ
+waiting_count p = length p.bags.waiting
+
+-- how many slots wait with some participant, and how many are loose
+abbrev pub weight : {T : Type 0} → World T → ℕ
+weight w = sum_by waiting_count w.time.places + count_by is_loose w.standings
+
+-- there is room for each slot to wait
+pub record IsRoomy {T : Type 0} (w : World T) : Type 0 where
+  pub counted : weight w ≤ length w.standings
+  pub reserved : w.time.room ≡ length w.standings
+
+-- the same home, as many places and slots, and the same room
+pub record KeepsSizes {T : Type 0} (old new : World T) : Type 0 where
+  pub home : new.home ≡ old.home
+  pub places : length new.time.places ≡ length old.time.places
+  pub slots : length new.standings ≡ length old.standings
+  pub room : new.time.room ≡ old.time.room

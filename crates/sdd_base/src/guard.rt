@@ -1,0 +1,84 @@
+ghost use Rattle.std.specs.Prelude.{◌≡◌, ◌%◌, MatchResult, IfOk};
+ghost use Rattle.sdd_core.specs.Epoch.{epoch_of};
+ghost use Rattle.sdd_base.specs.World.{World, place_at};
+ghost use Rattle.sdd_base.specs.Seat.{IsSeated, IsExact};
+ghost use Rattle.sdd_base.specs.Guard.{place_of};
+ghost use Rattle.sdd_base.specs.Steps.{opened, closed, stirred, accelerated};
+ghost use Rattle.sdd_store.specs.Time.{CanNest, with_garbage, has_garbage};
+ghost use Rattle.sdd_store.specs.Time as time;
+
+use crate::item::Item;
+use crate::space::Space;
+use sdd_core::{Epoch, Refused};
+
+/// An open guard: what is retired while it is open isn't reclaimed before it is closed.
+///
+/// It must be spent by `close`. Guards of one participant nest.
+pub struct Guard {
+    place: u32,
+}
+
+impl Guard {
+    /// Opens a guard. An outermost one publishes the count of epochs that it finds; if that is another than the participant found before, what waits with it has seen one change more, and what has seen three is reclaimed.
+    ///
+    /// `TooManyGuards` where as many are open as may nest.
+    pub fn new<T: Item<T>, S: Space<T>>(s: &mut S) -> Result<Guard, Refused>
+        requires seated { IsSeated (S.seat s.old) }
+        ensures seat { S.seat s.new ≡ S.seat s.old }
+        ensures place { IfOk result (λ guard. place_of guard ≡ (S.seat s.old).place) }
+        ensures exact { IsExact (S.seat s.old) → MatchResult result
+            (λ _. CanNest (S.world s.old).time (S.seat s.old).place × (S.world s.new ≡ opened T.holds (S.world s.old) (S.seat s.old).place))
+            (λ e. (e ≡ Refused.TooManyGuards) × ¬ (CanNest (S.world s.old).time (S.seat s.old).place) × (S.world s.new ≡ S.world s.old)) }
+    {
+        let place = s.open_guard()?;
+        Ok(Guard { place })
+    }
+
+    /// Closes the guard. The outermost close at countdown 0, as `accelerate` sets it, first tries to raise the count.
+    pub fn close<T: Item<T>, S: Space<T>>(self, s: &mut S)
+        requires seated { IsSeated (S.seat s.old) }
+        requires place { place_of self ≡ (S.seat s.old).place }
+        ensures seat { S.seat s.new ≡ S.seat s.old }
+        ensures exact { IsExact (S.seat s.old) → S.world s.new ≡ closed (S.world s.old) (S.seat s.old).place }
+    {
+        let Guard { place: _ } = self;
+        s.close_guard();
+    }
+
+    /// The global epoch at this moment, which isn't always the one that the guard published.
+    pub fn epoch<T: Item<T>, S: Space<T>>(&self, s: &S) -> Epoch
+        requires seated { IsSeated (S.seat s.now) }
+        ensures exact { IsExact (S.seat s.now) → result ≡ epoch_of (S.world s.now).time.count }
+    {
+        Epoch::of_count(s.count())
+    }
+
+    /// Something may wait with the participant.
+    pub fn has_garbage<T: Item<T>, S: Space<T>>(&self, s: &S) -> bool
+        requires seated { IsSeated (S.seat s.now) }
+        ensures own { result ≡ has_garbage (S.own s.now) }
+        ensures exact { IsExact (S.seat s.now) → result ≡ has_garbage (place_at (S.world s.now) (S.seat s.now).place) }
+    {
+        s.has_garbage()
+    }
+
+    /// Has the participant count down to a scan, as a retirement does.
+    pub fn set_has_garbage<T: Item<T>, S: Space<T>>(&self, s: &mut S)
+        requires seated { IsSeated (S.seat s.old) }
+        ensures seat { S.seat s.new ≡ S.seat s.old }
+        ensures own { S.own s.new ≡ with_garbage (S.own s.old) }
+        ensures exact { IsExact (S.seat s.old) → S.world s.new ≡ stirred (S.world s.old) (S.seat s.old).place }
+    {
+        s.stir();
+    }
+
+    /// Has the next outermost close of the participant scan.
+    pub fn accelerate<T: Item<T>, S: Space<T>>(&self, s: &mut S)
+        requires seated { IsSeated (S.seat s.old) }
+        ensures seat { S.seat s.new ≡ S.seat s.old }
+        ensures own { S.own s.new ≡ time.accelerated (S.own s.old) }
+        ensures exact { IsExact (S.seat s.old) → S.world s.new ≡ accelerated (S.world s.old) (S.seat s.old).place }
+    {
+        s.accelerate();
+    }
+}

@@ -1,0 +1,124 @@
+ghost use Rattle.std.specs.Prelude.{◌≡◌, List, []};
+ghost use Rattle.sdd_base.specs.Holding.{Holding, AreOf};
+ghost use Rattle.sdd_base.specs.World.{World};
+ghost use Rattle.sdd_base.specs.Seat.{Seat, IsSeated, IsExact};
+ghost use Rattle.sdd_base.specs.Steps.{given, given_all};
+ghost use Rattle.sdd_base.specs.Owned.{slots_home, cells_home, holding_of, cell_holding};
+
+use crate::atomic_owned::AtomicOwned;
+use crate::owned::Owned;
+
+/// Takes what a value gives up: each owner among it is retired at that moment, by the participant that reclaims the value.
+pub trait Giver<I> {
+    /// What the calls change.
+    ghost world: { Self → World I };
+    /// Who reclaims, and where: no call changes it.
+    ghost seat: { Self → Seat };
+
+    /// Retires the owner's item.
+    fn owned(&mut self, owner: Owned<I>)
+        requires seated { IsSeated (seat self.old) }
+        requires home { slots_home owner ≡ (seat self.old).home.slots }
+        ensures seat { seat self.new ≡ seat self.old }
+        ensures exact { IsExact (seat self.old) → world self.new ≡ given (world self.old) (seat self.old).place (holding_of owner) };
+
+    /// Frees the cell, and retires what it held.
+    fn atomic_owned(&mut self, cell: AtomicOwned<I>)
+        requires seated { IsSeated (seat self.old) }
+        requires home { cells_home cell ≡ (seat self.old).home.cells }
+        ensures seat { seat self.new ≡ seat self.old }
+        ensures exact { IsExact (seat self.old) → world self.new ≡ given (world self.old) (seat self.old).place (cell_holding cell) };
+}
+
+/// A value that may hold owners and cells of a space of items `I`.
+///
+/// A space of `T` needs `T: Item<T>`. Whole numbers and `String` give up nothing, whatever `I` is.
+pub trait Item<I>: Sized {
+    /// What it gives up, in order.
+    ghost holds: { Self → List Holding };
+
+    /// Consumes the value, and gives up every owner and cell that it holds.
+    fn give_up<G: Giver<I>>(self, giver: &mut G)
+        requires seated { IsSeated (G.seat giver.old) }
+        requires home { AreOf (G.seat giver.old).home (holds self) }
+        ensures seat { G.seat giver.new ≡ G.seat giver.old }
+        ensures exact { IsExact (G.seat giver.old) → G.world giver.new ≡ given_all (G.world giver.old) (G.seat giver.old).place (holds self) };
+}
+
+impl<I> Item<I> for u8 {
+    ghost holds = { λ _. [] };
+
+    fn give_up<G: Giver<I>>(self, _giver: &mut G) {}
+}
+
+impl<I> Item<I> for u16 {
+    ghost holds = { λ _. [] };
+
+    fn give_up<G: Giver<I>>(self, _giver: &mut G) {}
+}
+
+impl<I> Item<I> for u32 {
+    ghost holds = { λ _. [] };
+
+    fn give_up<G: Giver<I>>(self, _giver: &mut G) {}
+}
+
+impl<I> Item<I> for u64 {
+    ghost holds = { λ _. [] };
+
+    fn give_up<G: Giver<I>>(self, _giver: &mut G) {}
+}
+
+impl<I> Item<I> for u128 {
+    ghost holds = { λ _. [] };
+
+    fn give_up<G: Giver<I>>(self, _giver: &mut G) {}
+}
+
+impl<I> Item<I> for usize {
+    ghost holds = { λ _. [] };
+
+    fn give_up<G: Giver<I>>(self, _giver: &mut G) {}
+}
+
+impl<I> Item<I> for i8 {
+    ghost holds = { λ _. [] };
+
+    fn give_up<G: Giver<I>>(self, _giver: &mut G) {}
+}
+
+impl<I> Item<I> for i16 {
+    ghost holds = { λ _. [] };
+
+    fn give_up<G: Giver<I>>(self, _giver: &mut G) {}
+}
+
+impl<I> Item<I> for i32 {
+    ghost holds = { λ _. [] };
+
+    fn give_up<G: Giver<I>>(self, _giver: &mut G) {}
+}
+
+impl<I> Item<I> for i64 {
+    ghost holds = { λ _. [] };
+
+    fn give_up<G: Giver<I>>(self, _giver: &mut G) {}
+}
+
+impl<I> Item<I> for i128 {
+    ghost holds = { λ _. [] };
+
+    fn give_up<G: Giver<I>>(self, _giver: &mut G) {}
+}
+
+impl<I> Item<I> for isize {
+    ghost holds = { λ _. [] };
+
+    fn give_up<G: Giver<I>>(self, _giver: &mut G) {}
+}
+
+impl<I> Item<I> for String {
+    ghost holds = { λ _. [] };
+
+    fn give_up<G: Giver<I>>(self, _giver: &mut G) {}
+}

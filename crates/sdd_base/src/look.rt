@@ -1,0 +1,27 @@
+ghost use Rattle.std.specs.Prelude.{◌≡◌, ℕ, Some, MatchOption};
+ghost use Rattle.sdd_token.specs.Rights.{number_of, home_of};
+ghost use Rattle.sdd_base.specs.Holding.{Home};
+ghost use Rattle.sdd_base.specs.Ptr.{IsNull, NamesFilled, NamesShown};
+
+use crate::ptr::Ptr;
+use sdd_token::Right;
+
+/// Where items can be looked at: a world, a turn at it, a domain, a participant of it.
+pub trait Look<T> {
+    /// Where its slots and cells are numbered.
+    ghost home: { Self → Home };
+    /// The slot shows this value.
+    ghost shows: { Self → ℕ → T → Type 0 };
+    /// The slot shows some value.
+    ghost filled: { Self → ℕ → Type 0 };
+
+    /// The value of an owner's item.
+    fn value<'a>(&'a self, right: &'a Right) -> &'a T
+        requires home { home_of right.now ≡ (home self.now).slots }
+        ensures shown { shows self.now (number_of right.now) result.now };
+
+    /// The value that a pointer names; None for null.
+    fn look<'g>(&'g self, ptr: Ptr<'g, T>) -> Option<&'g T>
+        requires filled { NamesFilled (filled self.now) ptr.entry }
+        ensures null { MatchOption result (IsNull ptr.entry) (λ value. NamesShown (shows self.now) ptr.entry value.now) };
+}

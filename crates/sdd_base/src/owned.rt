@@ -1,0 +1,89 @@
+ghost use Rattle.std.specs.Prelude.{◌≡◌, IfOk, MatchResult, Some, None, slice_index_or};
+ghost use Rattle.sdd_token.specs.Rights.{number_of, home_of};
+ghost use Rattle.sdd_base.specs.Holding.{AreOf};
+ghost use Rattle.sdd_base.specs.World.{World};
+ghost use Rattle.sdd_base.specs.Seat.{IsSeated, IsExact};
+ghost use Rattle.sdd_base.specs.Steps.{made, retired};
+ghost use Rattle.sdd_base.specs.Owned.{slot_of, slots_home};
+ghost use Rattle.sdd_base.specs.Ptr.{IsTo};
+ghost use Rattle.sdd_store.specs.Table.{IsEmptyAt, IsFull};
+
+use crate::guard::Guard;
+use crate::item::Item;
+use crate::look::Look;
+use crate::ptr::Ptr;
+use crate::space::Space;
+use sdd_core::Refused;
+use sdd_token::Right;
+use std::marker::PhantomData;
+
+/// The one owner of an item.
+///
+/// It must be spent: by `retire`, or given into a value. It may lie in a value of its own item type.
+pub struct Owned<T> {
+    right: Right,
+    of: PhantomData<T>,
+}
+
+const _: () = prove!(size_of::<Owned<u64>>() == 4);
+
+impl<T> Owned<T> {
+    pub(crate) fn of_right(right: Right) -> Owned<T>
+        ensures { result.right ≡ right }
+    {
+        Owned {
+            right,
+            of: PhantomData,
+        }
+    }
+
+    pub(crate) fn into_right(self) -> Right
+        ensures { result ≡ self.right }
+    {
+        let Owned { right, of: _ } = self;
+        right
+    }
+
+    /// The item's value. Its owner alone can look at it without a guard.
+    pub fn get<'a, L: Look<T>>(&'a self, at: &'a L) -> &'a T
+        requires home { slots_home self.now ≡ (L.home at.now).slots }
+        ensures shown { L.shows at.now (slot_of self.now) result.now }
+    {
+        at.value(&self.right)
+    }
+
+    /// A pointer to the item, good while the guard is open, also after the item was retired.
+    pub fn get_guarded_ptr<'g>(&self, guard: &'g Guard) -> Ptr<'g, T>
+        ensures { IsTo result (slot_of self.now) guard.entry }
+    {
+        Ptr::to(self.right.number(), guard)
+    }
+}
+
+impl<T: Item<T>> Owned<T> {
+    /// Puts a value into a free slot.
+    ///
+    /// `NoSlot` where none is free; the value comes back.
+    pub fn new<S: Space<T>>(value: T, s: &mut S) -> Result<Owned<T>, (T, Refused)>
+        requires seated { IsSeated (S.seat s.old) }
+        requires home { AreOf (S.seat s.old).home (T.holds value) }
+        ensures seat { S.seat s.new ≡ S.seat s.old }
+        ensures own { S.own s.new ≡ S.own s.old }
+        ensures home { IfOk result (λ owner. slots_home owner ≡ (S.seat s.old).home.slots) }
+        ensures exact { IsExact (S.seat s.old) → MatchResult result
+            (λ owner. IsEmptyAt (S.world s.old).standings (slot_of owner) × (S.world s.new ≡ made (S.world s.old) (slot_of owner) value))
+            (λ e. IsFull (S.world s.old).standings × (e ≡ (value, Refused.NoSlot)) × (S.world s.new ≡ S.world s.old)) }
+    {
+        s.make(value)
+    }
+
+    /// Retires the item: it waits with the calling participant, which reclaims it at its third later outermost opening that finds another epoch.
+    pub fn retire<S: Space<T>>(self, s: &mut S)
+        requires seated { IsSeated (S.seat s.old) }
+        requires home { slots_home self ≡ (S.seat s.old).home.slots }
+        ensures seat { S.seat s.new ≡ S.seat s.old }
+        ensures exact { IsExact (S.seat s.old) → S.world s.new ≡ retired (S.world s.old) (S.seat s.old).place (slot_of self) }
+    {
+        s.retire(self);
+    }
+}

@@ -1,0 +1,103 @@
+ghost use Rattle.std.specs.Prelude.{◌≡◌, ℕ, IfOk, MatchResult};
+ghost use Rattle.sdd_store.specs.Waiting.What.{Item};
+ghost use Rattle.sdd_store.specs.declared.time.Participant.{Participant};
+ghost use Rattle.sdd_store.specs.Time.{CanNest, has_garbage, with_garbage};
+ghost use Rattle.sdd_store.specs.Time as time;
+ghost use Rattle.sdd_store.specs.Table.{IsEmptyAt, IsFull};
+ghost use Rattle.sdd_base.specs.Holding.{AreOf};
+ghost use Rattle.sdd_base.specs.World.{World, place_at};
+ghost use Rattle.sdd_base.specs.Seat.{Seat, IsSeated, IsExact};
+ghost use Rattle.sdd_base.specs.Steps.{made, retired, nulled, cell_closed, opened, closed, stirred, accelerated};
+ghost use Rattle.sdd_base.specs.Owned.{slot_of, slots_home, cell_of, cells_home};
+
+use crate::atomic_owned::AtomicOwned;
+use crate::item::Item;
+use crate::look::Look;
+use crate::owned::Owned;
+use sdd_core::Refused;
+
+/// A world or domain as one participant has it.
+pub trait Space<T: Item<T>>: Look<T> {
+    /// Only the caller's own calls change the space, so that what they do is said exactly.
+    const ALONE: bool;
+
+    /// Who calls, and on which loan of which world: no call changes it.
+    ghost seat: { Self → Seat };
+    /// What the participant keeps of its own.
+    ghost own: { Self → Participant };
+    /// What the calls change.
+    ghost world: { Self → World T };
+
+    /// Opens one more guard; an outermost one looks at the count.
+    fn open_guard(&mut self) -> Result<u32, Refused>
+        requires seated { IsSeated (seat self.old) }
+        ensures seat { seat self.new ≡ seat self.old }
+        ensures place { IfOk result (λ place. place ≡ (seat self.old).place) }
+        ensures exact { IsExact (seat self.old) → MatchResult result
+            (λ _. CanNest (world self.old).time (seat self.old).place × (world self.new ≡ opened T.holds (world self.old) (seat self.old).place))
+            (λ e. (e ≡ Refused.TooManyGuards) × ¬ (CanNest (world self.old).time (seat self.old).place) × (world self.new ≡ world self.old)) };
+
+    /// Closes a guard; the last one publishes the end, after a scan at countdown 0.
+    fn close_guard(&mut self)
+        requires seated { IsSeated (seat self.old) }
+        ensures seat { seat self.new ≡ seat self.old }
+        ensures exact { IsExact (seat self.old) → world self.new ≡ closed (world self.old) (seat self.old).place };
+
+    /// The count of epochs.
+    fn count(&self) -> u64
+        requires seated { IsSeated (seat self.now) }
+        ensures exact { IsExact (seat self.now) → result ≡ (world self.now).time.count };
+
+    fn has_garbage(&self) -> bool
+        requires seated { IsSeated (seat self.now) }
+        ensures own { result ≡ has_garbage (own self.now) }
+        ensures exact { IsExact (seat self.now) → result ≡ has_garbage (place_at (world self.now) (seat self.now).place) };
+
+    fn stir(&mut self)
+        requires seated { IsSeated (seat self.old) }
+        ensures seat { seat self.new ≡ seat self.old }
+        ensures own { own self.new ≡ with_garbage (own self.old) }
+        ensures exact { IsExact (seat self.old) → world self.new ≡ stirred (world self.old) (seat self.old).place };
+
+    fn accelerate(&mut self)
+        requires seated { IsSeated (seat self.old) }
+        ensures seat { seat self.new ≡ seat self.old }
+        ensures own { own self.new ≡ time.accelerated (own self.old) }
+        ensures exact { IsExact (seat self.old) → world self.new ≡ accelerated (world self.old) (seat self.old).place };
+
+    /// Puts a value into a free slot.
+    fn make(&mut self, value: T) -> Result<Owned<T>, (T, Refused)>
+        requires seated { IsSeated (seat self.old) }
+        requires home { AreOf (seat self.old).home (T.holds value) }
+        ensures seat { seat self.new ≡ seat self.old }
+        ensures own { own self.new ≡ own self.old }
+        ensures home { IfOk result (λ owner. slots_home owner ≡ (seat self.old).home.slots) }
+        ensures exact { IsExact (seat self.old) → MatchResult result
+            (λ owner. IsEmptyAt (world self.old).standings (slot_of owner) × (world self.new ≡ made (world self.old) (slot_of owner) value))
+            (λ e. IsFull (world self.old).standings × (e ≡ (value, Refused.NoSlot)) × (world self.new ≡ world self.old)) };
+
+    /// The item waits with the participant.
+    fn retire(&mut self, owner: Owned<T>)
+        requires seated { IsSeated (seat self.old) }
+        requires home { slots_home owner ≡ (seat self.old).home.slots }
+        ensures seat { seat self.new ≡ seat self.old }
+        ensures own { own self.new ≡ time.awaiting (Item (slot_of owner)) (own self.old) }
+        ensures exact { IsExact (seat self.old) → world self.new ≡ retired (world self.old) (seat self.old).place (slot_of owner) };
+
+    /// A free cell holds nothing.
+    fn make_cell(&mut self) -> Result<AtomicOwned<T>, Refused>
+        requires seated { IsSeated (seat self.old) }
+        ensures seat { seat self.new ≡ seat self.old }
+        ensures own { own self.new ≡ own self.old }
+        ensures home { IfOk result (λ cell. cells_home cell ≡ (seat self.old).home.cells) }
+        ensures exact { IsExact (seat self.old) → MatchResult result
+            (λ cell. IsEmptyAt (world self.old).cells (cell_of cell) × (world self.new ≡ nulled (world self.old) (cell_of cell)))
+            (λ e. IsFull (world self.old).cells × (e ≡ Refused.NoCell) × (world self.new ≡ world self.old)) };
+
+    /// The cell is free, and what it held is retired.
+    fn close_cell(&mut self, cell: AtomicOwned<T>)
+        requires seated { IsSeated (seat self.old) }
+        requires home { cells_home cell ≡ (seat self.old).home.cells }
+        ensures seat { seat self.new ≡ seat self.old }
+        ensures exact { IsExact (seat self.old) → world self.new ≡ cell_closed (world self.old) (seat self.old).place (cell_of cell) };
+}

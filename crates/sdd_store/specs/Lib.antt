@@ -1,0 +1,4 @@
+pub mod Waiting
+pub mod Bags
+pub mod Time
+pub mod Tally

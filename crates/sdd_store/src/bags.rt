@@ -1,0 +1,88 @@
+ghost use Rattle.std.specs.Prelude.{◌≡◌, ℕ, ◌+◌, ◌<◌, ◌≤◌, List, [], ◌∷◌, ◌++◌, length, IfOk, vec_capacity, map, IsTrue, ◌↔◌};
+ghost use Rattle.sdd_store.specs.Waiting.{What, aged, due, left, fresh};
+ghost use Rattle.sdd_store.specs.Waiting.What.{Item};
+ghost use Rattle.sdd_store.specs.Bags.{Bags};
+
+use std::alloc::{AllocError, Global};
+use std::marker::Model;
+
+/// What waits with a participant, in three bags of slot numbers: current, previous and next.
+///
+/// Memory is taken when the bags are made, and never again.
+#[derive(Drop)]
+pub struct Bags {
+    current: Vec<u32>,
+    previous: Vec<u32>,
+    next: Vec<u32>,
+    room: usize,
+}
+
+impl Model for Bags {
+    ghost use Rattle.sdd_store.specs.Bags.{Bags, waiting_of};
+    ghost use Rattle.std.specs.Prelude.{◌≤◌, vec_capacity};
+
+    ghost Value = { Bags };
+
+    ghost view = { λ b. record { waiting = waiting_of b.next.items b.previous.items b.current.items; room = b.room } };
+
+    ghost invariant = { λ b. (b.room ≤ vec_capacity b.current) × (b.room ≤ vec_capacity b.previous) × (b.room ≤ vec_capacity b.next) };
+}
+
+impl Bags {
+    /// Bags with no room.
+    pub fn empty(alloc: Global) -> Bags
+        ensures { result ≡ record { waiting = []; room = 0 } }
+    {
+        Bags {
+            current: Vec::new(alloc),
+            previous: Vec::new(alloc),
+            next: Vec::new(alloc),
+            room: 0,
+        }
+    }
+
+    /// Bags in which that many items can wait.
+    pub fn with_room(alloc: Global, room: usize) -> Result<Bags, AllocError>
+        ensures { IfOk result (λ b. b ≡ record { waiting = []; room = room }) }
+    {
+        let current = Vec::with_capacity(alloc, room)?;
+        let previous = Vec::with_capacity(alloc, room)?;
+        let next = Vec::with_capacity(alloc, room)?;
+        Ok(Bags {
+            current,
+            previous,
+            next,
+            room,
+        })
+    }
+
+    /// Puts an item into the current bag.
+    pub fn push(&mut self, slot: u32)
+        requires room { length self.old.waiting < self.old.room }
+        ensures { self.new ≡ record self.old { waiting = self.old.waiting ++ fresh (Item slot) ∷ [] } }
+    {
+        self.current.push(slot).unwrap();
+    }
+
+    /// Nothing waits.
+    pub fn is_empty(&self) -> bool
+        ensures { IsTrue result ↔ (self.now.waiting ≡ []) }
+    {
+        self.current.is_empty() && self.previous.is_empty() && self.next.is_empty()
+    }
+
+    /// Rotates, with an empty bag to become the current one, and gives out what is due.
+    pub fn rotate(&mut self, mut bag: Vec<u32>) -> Vec<u32>
+        requires empty { bag.items ≡ [] }
+        requires room { self.old.room ≤ vec_capacity bag }
+        ensures kept { self.new ≡ record self.old { waiting = left (aged self.old.waiting) } }
+        ensures taken { map Item result.items ≡ due (aged self.old.waiting) }
+        ensures room { self.old.room ≤ vec_capacity result }
+        ensures count { length self.new.waiting + length result.items ≡ length self.old.waiting }
+    {
+        std::mem::swap(&mut bag, &mut self.current);
+        std::mem::swap(&mut bag, &mut self.previous);
+        std::mem::swap(&mut bag, &mut self.next);
+        bag
+    }
+}

@@ -1,0 +1,14 @@
+//! What a world keeps by number, without values: its epoch and participants, tables of slots and cells, the tally.
+#![tactic(auto)]
+
+pub mod bags;
+pub mod standing;
+//pub mod table;
+pub mod tally;
+pub mod time;
+
+pub use bags::Bags;
+pub use standing::{Cell, Standing};
+//pub use table::Table;
+pub use tally::Tally;
+pub use time::{Participant, Phase, Time};

@@ -1,0 +1,23 @@
+use sdd_core::Tag;
+
+/// How an item stands. A slot without an item is free.
+#[derive(Clone, Copy, Debug, PartialEq, Eq)]
+pub enum Standing {
+    /// Out as owned.
+    Owned,
+    /// Out as raw.
+    Raw,
+    /// Shared by that many owners.
+    Shared(u64),
+    /// It waits as an ordinary item.
+    Retired,
+    /// It waits for the collector of that number.
+    Private(u32),
+}
+
+/// What a cell holds: an owned or shared item by its slot, or nothing, and a tag.
+#[derive(Clone, Copy, Debug, PartialEq, Eq)]
+pub struct Cell {
+    pub held: Option<u32>,
+    pub tag: Tag,
+}

@@ -1,0 +1,305 @@
+ghost use Rattle.std.specs.Prelude.{◌≡◌, ℕ, ◌+◌, ◌<◌, ◌≤◌, ◌==◌, List, [], ◌∷◌, ◌↔◌, map, length, IsTrue, IfOk, MatchResult, vec_capacity, false, Any, IsOk, Err, ◌⊎◌};
+ghost use Rattle.std.specs.List.{list_all};
+ghost use Rattle.sdd_store.specs.Waiting.{What, due, aged};
+ghost use Rattle.sdd_store.specs.Waiting.What.{Item};
+ghost use Rattle.sdd_store.specs.Time.{Time, place_at, IsCrowded, IsNext, CanNest, registered, with_garbage, has_garbage, accelerated, awaiting, nested, rotated, settled, passes, raised, scanned, closed, stirred_at, accelerated_at, awaiting_at, nested_at, rotated_at, settled_at, finds_another, is_open, due_next, counted_down};
+
+use crate::bags::Bags;
+use sdd_core::Refused;
+use std::alloc::{AllocError, Global};
+use std::marker::Model;
+
+/// What a place is.
+#[derive(Clone, Copy, Debug, PartialEq, Eq)]
+pub enum Phase {
+    /// Nobody's.
+    Free,
+    /// A participant's.
+    Live,
+    /// Ended, until another participant has adopted what it left.
+    Ended,
+}
+
+/// What a participant keeps.
+#[derive(Drop)]
+pub struct Participant {
+    pub phase: Phase,
+    /// The last count that it found, which it has published while a guard is open.
+    pub found: u64,
+    /// 0 to 128: a close at 0 scans, and at 128 there is no garbage.
+    pub countdown: u8,
+    /// How many guards are open.
+    pub guards: u32,
+    pub bags: Bags,
+}
+
+/// The epoch of a world and its participants.
+#[derive(Drop)]
+pub struct Time {
+    count: u64,
+    marked: bool,
+    places: Vec<Participant>,
+    participants: usize,
+    nesting: u32,
+    room: usize,
+}
+
+impl Model for Time {
+    ghost use Rattle.sdd_store.specs.Time.{Time, IsTimely};
+    ghost use Rattle.std.specs.Prelude.{vec_capacity};
+
+    ghost Value = { Time };
+
+    ghost view = { λ t. record { count = t.count; marked = t.marked; places = t.places.items; participants = t.participants; nesting = t.nesting; room = t.room } };
+
+    ghost invariant = { λ t. IsTimely t.places.items t.participants t.room (vec_capacity t.places) };
+}
+
+impl Participant {
+    fn stir(&mut self)
+        ensures { self.new ≡ with_garbage self.old }
+    {
+        if self.countdown == 128 {
+            self.countdown = 127;
+        }
+    }
+
+    fn wait(&mut self, slot: u32)
+        requires { length self.old.bags.waiting < self.old.bags.room }
+        ensures { self.new ≡ awaiting (Item slot) self.old }
+    {
+        self.bags.push(slot);
+        self.stir();
+    }
+
+    fn settle(&mut self)
+        ensures { self.new ≡ settled self.old }
+    {
+        self.countdown = if self.bags.is_empty() { 128 } else { 127 };
+    }
+
+    fn passes(&self, count: u64) -> bool
+        ensures { result ≡ passes count self.now }
+    {
+        self.guards == 0 || self.found == count
+    }
+
+    /// The last guard is closed.
+    fn leave(&mut self, marked: bool)
+        ensures { self.new ≡ record self.old { guards = 0; countdown = counted_down marked self.old.countdown } }
+    {
+        self.guards = 0;
+        self.countdown = match self.countdown {
+            0 => 127,
+            128 => {
+                if marked {
+                    127
+                } else {
+                    128
+                }
+            }
+            countdown => countdown - 1,
+        };
+    }
+}
+
+impl Time {
+    /// A time that starts at this count, without participants.
+    pub fn new(
+        alloc: Global,
+        count: u64,
+        participants: usize,
+        nesting: u32,
+        room: usize,
+    ) -> Result<Time, AllocError>
+        ensures { IfOk result (λ t. t ≡ record { count = count; marked = false; places = []; participants = participants; nesting = nesting; room = room }) }
+    {
+        let places = Vec::with_capacity(alloc, participants)?;
+        Ok(Time {
+            count,
+            marked: false,
+            places,
+            participants,
+            nesting,
+            room,
+        })
+    }
+
+    /// The next place becomes a participant's. Its bags take memory.
+    pub fn register(&mut self, alloc: Global) -> Result<usize, Refused>
+        ensures registered { MatchResult result (λ p. IsNext self.old p × (self.new ≡ registered self.old)) (λ _. self.new ≡ self.old) }
+        ensures crowded { (result ≡ Err Refused.NoPlace) ↔ IsCrowded self.old }
+        ensures no_memory { (result ≡ Err Refused.NoMemory) ⊎ (result ≡ Err Refused.NoPlace) ⊎ IsOk result }
+    {
+        if self.places.len() >= self.participants {
+            return Err(Refused::NoPlace);
+        }
+        let bags = Bags::with_room(alloc, self.room)?;
+        let place = self.places.len();
+        self.places.push_reserved(Participant {
+            phase: Phase::Live,
+            found: 0,
+            countdown: 128,
+            guards: 0,
+            bags,
+        });
+        Ok(place)
+    }
+
+    pub fn count(&self) -> u64
+        ensures { result ≡ self.now.count }
+    {
+        self.count
+    }
+
+    /// How many places were taken so far.
+    pub fn len(&self) -> usize
+        ensures { result ≡ length self.now.places }
+    {
+        self.places.len()
+    }
+
+    /// How many guards of a place are open.
+    pub fn guards(&self, place: usize) -> u32
+        requires { place < length self.now.places }
+        ensures { result ≡ (place_at self.now place).guards }
+    {
+        self.places[place].guards
+    }
+
+    /// One guard more is within the limit.
+    pub fn can_nest(&self, place: usize) -> bool
+        requires { place < length self.now.places }
+        ensures { IsTrue result ↔ CanNest self.now place }
+    {
+        self.places[place].guards < self.nesting
+    }
+
+    /// A guard of some place is open.
+    pub fn is_any_open(&self) -> bool
+        ensures { IsTrue result ↔ Any (λ p. IsTrue (is_open p)) self.now.places }
+    {
+        self.places.iter().any(|p| p.guards > 0)
+    }
+
+    pub fn has_garbage(&self, place: usize) -> bool
+        requires { place < length self.now.places }
+        ensures { result ≡ has_garbage (place_at self.now place) }
+    {
+        self.places[place].countdown != 128
+    }
+
+    pub fn stir(&mut self, place: usize)
+        requires { place < length self.old.places }
+        ensures { self.new ≡ stirred_at self.old place }
+    {
+        self.places[place].stir();
+    }
+
+    pub fn accelerate(&mut self, place: usize)
+        requires { place < length self.old.places }
+        ensures { self.new ≡ accelerated_at self.old place }
+    {
+        self.places[place].countdown = 0;
+    }
+
+    /// An item waits with a place from now on.
+    pub fn wait(&mut self, place: usize, slot: u32)
+        requires place { place < length self.old.places }
+        requires room { length (place_at self.old place).bags.waiting < self.old.room }
+        ensures { self.new ≡ awaiting_at self.old place (Item slot) }
+    {
+        self.places[place].wait(slot);
+    }
+
+    pub fn nest(&mut self, place: usize)
+        requires place { place < length self.old.places }
+        requires few { CanNest self.old place }
+        ensures { self.new ≡ nested_at self.old place }
+    {
+        self.places[place].guards += 1;
+    }
+
+    /// The last count that this place found isn't the count.
+    pub fn finds_another(&self, place: usize) -> bool
+        requires { place < length self.now.places }
+        ensures { result ≡ finds_another self.now place }
+    {
+        self.places[place].found != self.count
+    }
+
+    /// A change: what has seen three comes out, in place of an empty bag.
+    pub fn rotate(&mut self, place: usize, bag: Vec<u32>) -> Vec<u32>
+        requires place { place < length self.old.places }
+        requires empty { bag.items ≡ [] }
+        requires reserved { self.old.room ≤ vec_capacity bag }
+        ensures rotated { self.new ≡ rotated_at self.old place }
+        ensures taken { map Item result.items ≡ due_next (place_at self.old place) }
+        ensures reserved { self.old.room ≤ vec_capacity result }
+        ensures count { length (place_at self.new place).bags.waiting + length result.items ≡ length (place_at self.old place).bags.waiting }
+    {
+        let count = self.count;
+        let participant = &mut self.places[place];
+        participant.found = count;
+        participant.bags.rotate(bag)
+    }
+
+    /// After a rotation and the drops.
+    pub fn settle(&mut self, place: usize)
+        requires { place < length self.old.places }
+        ensures { self.new ≡ settled_at self.old place }
+    {
+        self.places[place].settle();
+    }
+
+    /// A scan at the count passes every place.
+    fn is_passable(&self) -> bool
+        ensures { result ≡ list_all (passes self.now.count) self.now.places }
+    {
+        let count = self.count;
+        self.places.iter().all(|p| p.passes(count))
+    }
+
+    /// The end of a scan.
+    fn raise(&mut self)
+        ensures { self.new ≡ raised self.old }
+    {
+        if self.count < u64::MAX && self.is_passable() {
+            self.count += 1;
+        }
+    }
+
+    fn scan(&mut self, place: usize)
+        requires { place < length self.old.places }
+        ensures { self.new ≡ scanned self.old place }
+    {
+        if self.places[place].found == self.count {
+            self.marked = false;
+            self.raise();
+        }
+    }
+
+    /// A guard of a place is closed; the last one at countdown 0 after a scan.
+    pub fn close(&mut self, place: usize)
+        requires { place < length self.old.places }
+        ensures { self.new ≡ closed self.old place }
+    {
+        match self.places[place].guards {
+            0 => {}
+            1 => self.leave(place),
+            _ => self.places[place].guards -= 1,
+        }
+    }
+
+    fn leave(&mut self, place: usize)
+        requires place { place < length self.old.places }
+        requires open { (place_at self.old place).guards ≡ 1 }
+        ensures { self.new ≡ closed self.old place }
+    {
+        let marked = self.marked;
+        if self.places[place].countdown == 0 {
+            self.scan(place);
+        }
+        self.places[place].leave(marked);
+    }
+}
