@@ -53,9 +53,7 @@ pub fn get<'a, T: Drop>(slot: &'a Option<T>, kept: &Part<Standing>, owner: &Part
     ensures { slot.now ≡ Some result.now }
 {
     kept.agree(owner);
-    let Some(value) = slot else {
-        unreachable!()
-    };
+    let Some(value) = slot else { unreachable!() };
     value
 }
 
