@@ -3,5 +3,6 @@ pub mod World
 pub mod Seat
 pub mod Steps
 pub mod Ptr
+pub mod Guard
+pub mod Owned
 pub mod Limits
-pub mod Drains

@@ -1,7 +1,7 @@
 -- What an owner and a cell name
 use Rattle.std.specs.Prelude.{ℕ}
 use Rattle.sdd_token.specs.Units as token
-use Rattle.sdd_token.specs.Rights.{number_of, home_of}
+use Rattle.sdd_token.specs.Right.{number_of, home_of}
 use Rattle.sdd_base.specs.declared.owned.Owned.{Owned}
 use Rattle.sdd_base.specs.declared.atomic_owned.AtomicOwned.{AtomicOwned}
 use Rattle.sdd_base.specs.Holding.{Holding, owned, atomic_owned}

@@ -12,6 +12,11 @@ use Rattle.sdd_store.specs.declared.standing.Cell.{Cell}
 use Rattle.sdd_base.specs.Holding.{Holding, owned, atomic_owned}
 use Rattle.sdd_base.specs.World.{World, place_at, standing_at, value_at}
 
+-- what a cell holds, if one is there
+abbrev pub held_in : Option Cell → Option ℕ
+held_in None = None
+held_in (Some cell) = cell.held
+
 module _ {T : Type 0} where
   -- some slot that was free has the value, out as owned
   abbrev pub made : World T → ℕ → T → World T
@@ -25,14 +30,20 @@ module _ {T : Type 0} where
   abbrev pub nulled : World T → ℕ → World T
   nulled w c = record w { cells = with_entry w.cells c (record { held = None; tag = no_tag }) }
 
-  -- what a cell held is retired by p
+
+  -- p is given the owner of the slot's item, which stands so: an item that is out as owned is retired
+  abbrev pub owner_given : World T → ℕ → ℕ → Option Standing → World T
+  owner_given w p k None = w
+  owner_given w p k (Some Owned) = retired w p k
+  owner_given w p k (Some Raw) = w
+  owner_given w p k (Some (Shared n)) = w
+  owner_given w p k (Some Retired) = w
+  owner_given w p k (Some (privately c)) = w
+
+  -- p is given what a cell held
   abbrev pub spilled : World T → ℕ → Option ℕ → World T
   spilled w p None = w
-  spilled w p (Some k) = retired w p k
-
-  abbrev pub held_in : Option Cell → Option ℕ
-  held_in None = None
-  held_in (Some cell) = cell.held
+  spilled w p (Some k) = owner_given w p k (standing_at w k)
 
   -- the cell is free, and p retires what it held
   abbrev pub cell_closed : World T → ℕ → ℕ → World T
@@ -40,7 +51,7 @@ module _ {T : Type 0} where
 
   -- p is given one of the things that a value held
   abbrev pub given : World T → ℕ → Holding → World T
-  given w p (owned k home) = retired w p k
+  given w p (owned k home) = owner_given w p k (standing_at w k)
   given w p (atomic_owned c home) = cell_closed w p c
 
   abbrev pub given_all : World T → ℕ → List Holding → World T

@@ -2,7 +2,6 @@
 #![tactic(auto)]
 
 pub mod atomic_owned;
-mod core;
 pub mod guard;
 pub mod item;
 pub mod limits;
@@ -10,8 +9,6 @@ pub mod look;
 pub mod owned;
 pub mod ptr;
 pub mod space;
-pub mod turn;
-pub mod world;
 
 pub use atomic_owned::AtomicOwned;
 pub use guard::Guard;
@@ -21,5 +18,3 @@ pub use look::Look;
 pub use owned::Owned;
 pub use ptr::Ptr;
 pub use space::Space;
-pub use turn::Turn;
-pub use world::{Place, World};

@@ -1,5 +1,5 @@
 ghost use Rattle.std.specs.Prelude.{◌≡◌, ℕ, Some, MatchOption};
-ghost use Rattle.sdd_token.specs.Rights.{number_of, home_of};
+ghost use Rattle.sdd_token.specs.Right.{number_of, home_of};
 ghost use Rattle.sdd_base.specs.Holding.{Home};
 ghost use Rattle.sdd_base.specs.Ptr.{IsNull, NamesFilled, NamesShown};
 
@@ -22,6 +22,6 @@ pub trait Look<T> {
 
     /// The value that a pointer names; None for null.
     fn look<'g>(&'g self, ptr: Ptr<'g, T>) -> Option<&'g T>
-        requires filled { NamesFilled (filled self.now) ptr.entry }
+        requires filled { NamesFilled (filled self.now) ptr }
         ensures null { MatchOption result (IsNull ptr.entry) (λ value. NamesShown (shows self.now) ptr.entry value.now) };
 }

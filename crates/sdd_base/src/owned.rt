@@ -1,11 +1,12 @@
 ghost use Rattle.std.specs.Prelude.{◌≡◌, IfOk, MatchResult, Some, None, slice_index_or};
-ghost use Rattle.sdd_token.specs.Rights.{number_of, home_of};
+ghost use Rattle.sdd_token.specs.Right.{number_of, home_of};
 ghost use Rattle.sdd_base.specs.Holding.{AreOf};
 ghost use Rattle.sdd_base.specs.World.{World};
 ghost use Rattle.sdd_base.specs.Seat.{IsSeated, IsExact};
 ghost use Rattle.sdd_base.specs.Steps.{made, retired};
 ghost use Rattle.sdd_base.specs.Owned.{slot_of, slots_home};
-ghost use Rattle.sdd_base.specs.Ptr.{IsTo};
+ghost use Rattle.sdd_core.specs.declared.tag.Tag.TheVariants.{None as no_tag};
+ghost use Rattle.sdd_base.specs.Ptr.{slot_named, tag_of};
 ghost use Rattle.sdd_store.specs.Table.{IsEmptyAt, IsFull};
 
 use crate::guard::Guard;
@@ -54,7 +55,8 @@ impl<T> Owned<T> {
 
     /// A pointer to the item, good while the guard is open, also after the item was retired.
     pub fn get_guarded_ptr<'g>(&self, guard: &'g Guard) -> Ptr<'g, T>
-        ensures { IsTo result (slot_of self.now) guard.entry }
+        ensures slot { slot_named result ≡ Some (slot_of self.now) }
+        ensures tag { tag_of result ≡ no_tag }
     {
         Ptr::to(self.right.number(), guard)
     }

@@ -1,4 +1,4 @@
-ghost use Rattle.std.specs.Prelude.{◌≡◌, ◌×◌, ◌↔◌, Option, None, Some, IsTrue, MatchOption};
+ghost use Rattle.std.specs.Prelude.{◌≡◌, ◌↔◌, Option, None, Some, IsTrue, MatchOption};
 ghost use Rattle.sdd_core.specs.declared.tag.Tag.TheVariants.{None as no_tag};
 ghost use Rattle.sdd_base.specs.Ptr.{slot_named, tag_of, IsNull, NamesFilled, NamesShown};
 
@@ -9,10 +9,15 @@ use std::alloc::AllocError;
 use std::marker::PhantomData;
 
 /// A pointer to an item, or null, with a tag. It is good while its guard is open.
+///
+/// Two pointers are equal exactly if they name the same slot, or none, and have the same tag.
+#[derive_where(PartialEq, Eq)]
 pub struct Ptr<'g, T> {
     slot: Option<u32>,
     tag: Tag,
+    #[derive_where(skip)]
     guard: Option<&'g Guard>,
+    #[derive_where(skip)]
     of: PhantomData<T>,
 }
 
@@ -120,11 +125,5 @@ impl<'g, T> Ptr<'g, T> {
 impl<T> Default for Ptr<'_, T> {
     fn default() -> Self {
         Ptr::null()
-    }
-}
-
-impl<T> PartialEq for Ptr<'_, T> {
-    fn eq(&self, other: &Self) -> bool {
-        self.slot == other.slot && self.tag == other.tag
     }
 }

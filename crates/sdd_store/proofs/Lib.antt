@@ -1,1 +1,2 @@
-
+pub mod Aging
+pub mod Listed

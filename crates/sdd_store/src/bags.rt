@@ -61,7 +61,7 @@ impl Bags {
         requires room { length self.old.waiting < self.old.room }
         ensures { self.new ≡ record self.old { waiting = self.old.waiting ++ fresh (Item slot) ∷ [] } }
     {
-        self.current.push(slot).unwrap();
+        self.current.push_reserved(slot);
     }
 
     /// Nothing waits.
@@ -69,6 +69,13 @@ impl Bags {
         ensures { IsTrue result ↔ (self.now.waiting ≡ []) }
     {
         self.current.is_empty() && self.previous.is_empty() && self.next.is_empty()
+    }
+
+    /// What the next rotation gives out.
+    pub fn due(&self) -> &[u32]
+        ensures { map Item result.now ≡ due (aged self.now.waiting) }
+    {
+        self.next.as_slice()
     }
 
     /// Rotates, with an empty bag to become the current one, and gives out what is due.
@@ -84,5 +91,31 @@ impl Bags {
         std::mem::swap(&mut bag, &mut self.previous);
         std::mem::swap(&mut bag, &mut self.next);
         bag
+    }
+}
+
+#[cfg(test)]
+mod tests {
+    use super::*;
+    use std::test::Fail;
+
+    #[test]
+    fn an_item_is_given_out_by_the_third_rotation(rt: HostRuntime) -> Result<(), Fail> {
+        let mut bags = Bags::with_room(rt.alloc(), 1)?;
+        bags.push(5);
+        let first = bags.rotate(Vec::with_capacity(rt.alloc(), 1)?);
+        assert!(rt; first.is_empty());
+        let second = bags.rotate(first);
+        assert!(rt; second.is_empty());
+        let third = bags.rotate(second);
+        assert_eq!(rt; third.as_slice(), [5].as_slice());
+        assert!(rt; bags.is_empty());
+        Ok(())
+    }
+
+    #[test]
+    fn bags_without_room_are_empty(rt: HostRuntime) -> Result<(), Fail> {
+        assert!(rt; Bags::empty(rt.alloc()).is_empty());
+        Ok(())
     }
 }

@@ -3,12 +3,12 @@
 
 pub mod bags;
 pub mod standing;
-//pub mod table;
+pub mod table;
 pub mod tally;
 pub mod time;
 
 pub use bags::Bags;
 pub use standing::{Cell, Standing};
-//pub use table::Table;
+pub use table::Table;
 pub use tally::Tally;
 pub use time::{Participant, Phase, Time};

@@ -167,6 +167,14 @@ impl Time {
         self.places[place].guards
     }
 
+    /// A guard of a place is open.
+    pub fn is_open(&self, place: usize) -> bool
+        requires { place < length self.now.places }
+        ensures { result ≡ is_open (place_at self.now place) }
+    {
+        self.places[place].guards > 0
+    }
+
     /// One guard more is within the limit.
     pub fn can_nest(&self, place: usize) -> bool
         requires { place < length self.now.places }
@@ -242,6 +250,14 @@ impl Time {
         let participant = &mut self.places[place];
         participant.found = count;
         participant.bags.rotate(bag)
+    }
+
+    /// What the next change of a place takes out.
+    pub fn due(&self, place: usize) -> &[u32]
+        requires { place < length self.now.places }
+        ensures { map Item result.now ≡ due_next (place_at self.now place) }
+    {
+        self.places[place].bags.due()
     }
 
     /// After a rotation and the drops.

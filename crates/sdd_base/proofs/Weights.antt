@@ -1,0 +1,90 @@
+-- No step makes more slots wait than there are
+use Rattle.std.proofs.Common.{◌≡◌, ℕ, ◌+◌, ◌-◌, ◌<◌, ◌≤◌, List, [], ◌∷◌, ◌++◌, length, Bool, cond, count_by, sum_by, refl, sym, ap, ◌∙◌, arith, true, false, Some, None, nat_lt, slice_index_or, slice_set, Option}
+use Rattle.std.proofs.lemmas.Grind.{common_steps, elements}
+use Rattle.std.proofs.lemmas.List.{get_or_past}
+use Rattle.std.proofs.lemmas.List.Sums.{sum_by-set}
+use Rattle.sdd_store.specs.Waiting.{What}
+use Rattle.sdd_store.specs.Waiting.What.{Item, Private, Job}
+use Rattle.sdd_store.specs.Time as time
+use Rattle.sdd_store.specs.Table.{entry_at, with_entry, without_entry}
+use Rattle.sdd_store.specs.declared.standing.Standing.{Standing}
+use Rattle.sdd_store.specs.declared.standing.Standing.TheVariants.{Owned, Raw, Shared, Retired, Private as privately}
+use Rattle.sdd_base.specs.World.{World, weight, is_loose, is_waiting, waiting_count, standing_at, place_at}
+use Rattle.sdd_base.specs.Steps.{retired, spilled, cell_closed, held_in, owner_given, given, given_all, freed, taken_out, waiting_value, slot_reclaimed, reclaimed, all_reclaimed}
+use Rattle.sdd_base.specs.Holding.{Holding, owned, atomic_owned}
+
+-- as many places, slots, room, and slots that wait or are loose
+pub record SameSize {T : Type 0} (old new : World T) : Type 0 where
+  pub weight_same : weight new ≡ weight old
+  pub places_same : length new.time.places ≡ length old.time.places
+  pub slots_same : length new.standings ≡ length old.standings
+
+-- an item that is out begins to wait
+pub SameSize-retired : {T : Type 0} (w : World T) (p k : ℕ) → p < length w.time.places → standing_at w k ≡ Some Owned → SameSize w (retired w p k)
+SameSize-retired w p k in_range there =
+    record { weight_same = grind (arith, common_steps); places_same = grind (arith, common_steps); slots_same = grind (arith, common_steps) }
+
+pub SameSize-refl : {T : Type 0} (w : World T) → SameSize w w
+SameSize-refl w = record { weight_same = refl; places_same = refl; slots_same = refl }
+
+pub SameSize-trans : {T : Type 0} {u v w : World T} → SameSize u v → SameSize v w → SameSize u w
+SameSize-trans a b = record { weight_same = b.weight_same ∙ a.weight_same; places_same = b.places_same ∙ a.places_same; slots_same = b.slots_same ∙ a.slots_same }
+
+pub SameSize-owner_given : {T : Type 0} (w : World T) (p k : ℕ) → p < length w.time.places → (s : Option Standing) → standing_at w k ≡ s → SameSize w (owner_given w p k s)
+SameSize-owner_given w p k l None is = SameSize-refl w
+SameSize-owner_given w p k l (Some Owned) is = SameSize-retired w p k l is
+SameSize-owner_given w p k l (Some Raw) is = SameSize-refl w
+SameSize-owner_given w p k l (Some (Shared n)) is = SameSize-refl w
+SameSize-owner_given w p k l (Some Retired) is = SameSize-refl w
+SameSize-owner_given w p k l (Some (privately c)) is = SameSize-refl w
+
+SameSize-spilled : {T : Type 0} (w : World T) (p : ℕ) → p < length w.time.places → (held : Option ℕ) → SameSize w (spilled w p held)
+SameSize-spilled w p l None = SameSize-refl w
+SameSize-spilled w p l (Some k) = SameSize-owner_given w p k l (standing_at w k) refl
+
+without_cell : {T : Type 0} (w : World T) (c : ℕ) → SameSize w (record w { cells = without_entry w.cells c })
+without_cell w c = record { weight_same = refl; places_same = refl; slots_same = refl }
+
+pub SameSize-cell_closed : {T : Type 0} (w : World T) (p c : ℕ) → p < length w.time.places → SameSize w (cell_closed w p c)
+SameSize-cell_closed w p c l = SameSize-trans (without_cell w c) (SameSize-spilled (record w { cells = without_entry w.cells c }) p l (held_in (entry_at w.cells c)))
+
+pub SameSize-given : {T : Type 0} (w : World T) (p : ℕ) (h : Holding) → p < length w.time.places → SameSize w (given w p h)
+SameSize-given w p (owned k home) l = SameSize-owner_given w p k l (standing_at w k) refl
+SameSize-given w p (atomic_owned c home) l = SameSize-cell_closed w p c l
+
+pub SameSize-given_all : {T : Type 0} (w : World T) (p : ℕ) (hs : List Holding) → p < length w.time.places → SameSize w (given_all w p hs)
+SameSize-given_all w p [] l = SameSize-refl w
+SameSize-given_all w p (h ∷ hs) l =
+    let one = SameSize-given w p h l in
+    SameSize-trans one (SameSize-given_all (given w p h) p hs (omega (arith, one.places_same)))
+
+-- at most one slot more is loose
+pub record FreesOne {T : Type 0} (old new : World T) : Type 0 where
+  pub weight_grows : weight new ≤ weight old + 1
+  pub places_same : length new.time.places ≡ length old.time.places
+  pub slots_same : length new.standings ≡ length old.standings
+
+pub FreesOne-refl : {T : Type 0} (w : World T) → FreesOne w w
+FreesOne-refl w = record { weight_grows = omega arith; places_same = refl; slots_same = refl }
+
+pub freed-FreesOne : {T : Type 0} (w : World T) (k : ℕ) → k < length w.standings → FreesOne w (freed w k)
+freed-FreesOne w k l =
+    let m = sum_by-set (λ s. cond (is_loose s) 1 0) w.standings k None None l in
+    record { weight_grows = omega (arith, m); places_same = refl; slots_same = grind (arith, common_steps) }
+
+FreesOne-then : {T : Type 0} {u v w : World T} → FreesOne u v → SameSize v w → FreesOne u w
+FreesOne-then a b = record { weight_grows = omega (arith, a.weight_grows, b.weight_same); places_same = b.places_same ∙ a.places_same; slots_same = b.slots_same ∙ a.slots_same }
+
+pub FreesOne-taken_out : {T : Type 0} (holds : T → List Holding) (w : World T) (p k : ℕ) → p < length w.time.places → k < length w.standings → (value : Option T) → FreesOne w (taken_out holds w p k value)
+FreesOne-taken_out holds w p k l lk None = FreesOne-refl w
+FreesOne-taken_out holds w p k l lk (Some value) = FreesOne-then (freed-FreesOne w k lk) (SameSize-given_all (freed w k) p (holds value) l)
+
+in_range : (xs : List (Option Standing)) (k : ℕ) (s : Standing) → slice_index_or xs k None ≡ Some s → k < length xs
+in_range xs k s is = grind (arith, get_or_past)
+
+FreesOne-standing : {T : Type 0} (holds : T → List Holding) (w : World T) (p k : ℕ) → p < length w.time.places → (s : Option Standing) → standing_at w k ≡ s → FreesOne w (taken_out holds w p k (waiting_value w k s))
+FreesOne-standing holds w p k l None is = FreesOne-refl w
+FreesOne-standing holds w p k l (Some s) is = FreesOne-taken_out holds w p k l (in_range w.standings k s is) (waiting_value w k (Some s))
+
+pub FreesOne-slot_reclaimed : {T : Type 0} (holds : T → List Holding) (w : World T) (p k : ℕ) → p < length w.time.places → FreesOne w (slot_reclaimed holds w p k)
+FreesOne-slot_reclaimed holds w p k l = FreesOne-standing holds w p k l (standing_at w k) refl

@@ -1,0 +1,124 @@
+ghost use Rattle.std.specs.Prelude.{◌≡◌, ℕ, ◌<◌, ◌≤◌, All, IsNone, IsSome, IsTrue, ◌↔◌, IfOk, MatchResult, Some, None, length, replicate};
+ghost use Rattle.sdd_store.specs.Table.{Entries, entry_at, with_entry, without_entry, IsEmptyAt, IsFull};
+
+use std::alloc::{AllocError, Global};
+use std::marker::Model;
+
+/// A table of a fixed number of places, each empty or with an entry.
+///
+/// An empty place is found at once, by a list of the empty ones. Memory is taken when the table is made, and never again.
+#[derive(Drop)]
+pub struct Table<E> {
+    entries: Vec<Option<E>>,
+    empty: Vec<u32>,
+}
+
+impl<E> Model for Table<E> {
+    ghost use Rattle.sdd_store.specs.Table.{Entries, IsListed};
+    ghost use Rattle.std.specs.Prelude.{◌≤◌, length, vec_capacity};
+
+    ghost Value = { Entries E };
+
+    ghost view = { λ t. t.entries.items };
+
+    ghost invariant = { λ t. IsListed t.entries.items t.empty.items (vec_capacity t.empty) };
+}
+
+impl<E> Table<E> {
+    /// A table of that many places, all empty.
+    pub fn new(alloc: Global, size: u32) -> Result<Table<E>, AllocError>
+        ensures { IfOk result (λ t. t ≡ replicate size None) }
+    {
+        let mut empty = Vec::with_capacity(alloc, size as usize)?;
+        let mut entries = Vec::with_capacity(alloc, size as usize)?;
+        for place in 0..size {
+            entries.push_reserved(None);
+            empty.push_reserved(place);
+        }
+        Ok(Table { entries, empty })
+    }
+
+    /// How many places there are.
+    pub fn len(&self) -> usize
+        ensures { result ≡ length self.now }
+    {
+        self.entries.len()
+    }
+
+    /// Puts an entry into some empty place, and tells which; where none is empty it comes back.
+    pub fn claim(&mut self, entry: E) -> Result<u32, E>
+        ensures claimed { MatchResult result
+            (λ k. IsEmptyAt self.old k × (self.new ≡ with_entry self.old k entry))
+            (λ back. IsFull self.old × (back ≡ entry) × (self.new ≡ self.old)) }
+    {
+        let Some(place) = self.empty.pop() else {
+            return Err(entry);
+        };
+        match self.entries[place as usize].replace(entry) {
+            None => Ok(place),
+            Some(_) => unreachable!(),
+        }
+    }
+
+    /// Takes the entry out, and leaves its place empty.
+    pub fn release(&mut self, place: u32) -> E
+        requires { IsSome (entry_at self.old place) }
+        ensures was { entry_at self.old place ≡ Some result }
+        ensures left { self.new ≡ without_entry self.old place }
+    {
+        let Some(entry) = self.entries[place as usize].take() else {
+            unreachable!()
+        };
+        self.empty.push_reserved(place);
+        entry
+    }
+
+    /// Puts another entry in the place of one, which comes back.
+    pub fn replace(&mut self, place: u32, entry: E) -> E
+        requires { IsSome (entry_at self.old place) }
+        ensures was { entry_at self.old place ≡ Some result }
+        ensures put { self.new ≡ with_entry self.old place entry }
+    {
+        match self.entries[place as usize].replace(entry) {
+            Some(was) => was,
+            None => unreachable!(),
+        }
+    }
+
+    /// The entry in a place, if one is there.
+    pub fn get(&self, place: u32) -> Option<E>
+    where
+        E: Copy,
+        ensures { result ≡ entry_at self.now place }
+    {
+        *self.entries.get(place as usize)?
+    }
+
+    /// Every place is empty.
+    pub fn is_empty(&self) -> bool
+        ensures { IsTrue result ↔ All (λ e. IsNone e) self.now }
+    {
+        self.empty.len() == self.len()
+    }
+}
+
+#[cfg(test)]
+mod tests {
+    use super::*;
+    use std::test::Fail;
+
+    #[test]
+    fn an_entry_is_put_replaced_and_taken_out(rt: HostRuntime) -> Result<(), Fail> {
+        let mut table = Table::new(rt.alloc(), 1)?;
+        assert!(rt; table.is_empty());
+        assert_eq!(rt; table.len(), 1);
+        let place = table.claim('a')?;
+        assert!(rt; !table.is_empty());
+        assert_eq!(rt; table.claim('b'), Err('b'));
+        assert_eq!(rt; table.replace(place, 'c'), 'a');
+        assert_eq!(rt; table.get(place), Some('c'));
+        assert_eq!(rt; table.release(place), 'c');
+        assert_eq!(rt; table.get(place), None);
+        Ok(())
+    }
+}
