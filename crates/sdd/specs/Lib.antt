@@ -1,3 +1,4 @@
+pub mod Val
 pub mod Desk
 pub mod Script
 pub mod Due

@@ -1,5 +1,6 @@
 -- The meaning of a script: what its calls answer, and what they leave
-use Rattle.std.specs.Prelude.{ℕ, ◌+◌, ◌<◌, ◌≤◌, ◌≡◌, List, [], ◌∷◌, ◌++◌, Option, None, Some, length, slice_index_or, slice_set, Contains, map, IsSome, IsStrictlyIncreasing, if◌then◌else◌, ◌↔◌}
+use Rattle.std.specs.Prelude.{ℕ, ◌+◌, ◌<◌, ◌≤◌, ◌≡◌, List, [], ◌∷◌, ◌++◌, Option, None, Some, length, slice_index_or, slice_set, Contains, map, IsSome, if◌then◌else◌, ◌↔◌}
+use Rattle.std.specs.List.Sorted.{IsStrictlyIncreasing}
 use Rattle.sdd_core.specs.Epoch.{epoch_of}
 use Rattle.sdd_core.specs.declared.refused.Refused.TheVariants.{NoSlot, NoCell, NoPlace, TooManyGuards}
 use Rattle.sdd_store.specs.Time.{IsCrowded, IsNext, CanNest, is_open, has_garbage}
@@ -80,7 +81,7 @@ Does old p (call.Set g) reply.Done names new = (names ≡ []) × (new ≡ record
 Does old p (call.Accelerate g) reply.Done names new = (names ≡ []) × (new ≡ record old { world = accelerated old.world p })
 -- a free cell and a free slot are taken, whichever
 Does old p (call.Owned n) (reply.Item o i) names new =
-    (o.0 ≡ length old.owners) × (i.0 ≡ length old.items) × (names ≡ []) × ((c k : ℕ) (v : Val) ×
+    (o.0 ≡ length old.owners) × (i.0 ≡ length old.items) × (names ≡ []) × ((c : ℕ) × (k : ℕ) × (v : Val) ×
     IsEmptyAt old.world.cells c × IsEmptyAt old.world.standings k × (body_of v ≡ n) × (link_of v ≡ c) × (link_home v ≡ old.world.home.cells) × (new ≡ with_item old c k v))
 Does old p (call.Owned n) (reply.Refused NoCell) names new = IsFull old.world.cells × (names ≡ []) × (new ≡ old)
 Does old p (call.Owned n) (reply.Refused NoSlot) names new = ¬ (IsFull old.world.cells) × IsFull old.world.standings × (names ≡ []) × (new ≡ old)

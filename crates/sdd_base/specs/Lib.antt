@@ -6,3 +6,4 @@ pub mod Ptr
 pub mod Guard
 pub mod Owned
 pub mod Limits
+pub mod Core

@@ -2,6 +2,7 @@
 #![tactic(auto)]
 
 pub mod atomic_owned;
+mod core;
 pub mod guard;
 pub mod item;
 pub mod limits;

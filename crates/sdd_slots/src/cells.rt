@@ -1,4 +1,4 @@
-ghost use Rattle.std.specs.Prelude.{◌≡◌, ◌<◌, ◌↔◌, All, IfNone, IfOk, IfSome, IsNone, IsTrue, None, OnNone, Some, replicate};
+ghost use Rattle.std.specs.Prelude.{◌≡◌, ◌<◌, ◌↔◌, All, IfNone, IfOk, IfSome, IsNone, IsTrue, None, Some, replicate};
 ghost use Rattle.sdd_token.specs.Right.{number_of, home_of};
 ghost use Rattle.sdd_store.specs.Table.{IsEmptyAt, IsFull, entry_at};
 ghost use Rattle.sdd_slots.specs.Cells.{with_null, without_cell};
@@ -58,7 +58,9 @@ impl Cells {
             held: None,
             tag: Tag::None,
         };
-        let cell = self.cells.claim(null).ok()?;
+        let Ok(cell) = self.cells.claim(null) else {
+            return None;
+        };
         Some(self.rights.grant(cell))
     }
 
@@ -70,5 +72,30 @@ impl Cells {
     {
         let cell = self.rights.redeem(right, Kind::Free);
         self.cells.release(cell)
+    }
+}
+
+#[cfg(test)]
+mod tests {
+    use super::*;
+    use std::test::Fail;
+
+    #[test]
+    fn a_cell_is_taken_and_closed(rt: HostRuntime) -> Result<(), Fail> {
+        let mut cells = Cells::new(rt.alloc(), 1)?;
+        let right = cells.null().expect(&rt, "a cell is free");
+        let is_full = match cells.null() {
+            Some(second) => {
+                cells.close(second);
+                false
+            }
+            None => true,
+        };
+        let cell = cells.close(right);
+        assert!(rt; is_full);
+        assert_eq!(rt; cell.held, None);
+        assert_eq!(rt; cell.tag, Tag::None);
+        assert!(rt; cells.is_unused());
+        Ok(())
     }
 }

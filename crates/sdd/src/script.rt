@@ -1,0 +1,4 @@
+//! Scripts: calls on a world, and what they answer.
+
+pub mod item;
+pub mod val;

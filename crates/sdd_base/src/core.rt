@@ -1,0 +1,204 @@
+ghost use Rattle.std.specs.Prelude.{◌≡◌, ℕ, ◌+◌, ◌<◌, ◌≤◌, List, [], map, length, vec_capacity, Some, None, Option, IsSome, MatchOption, MatchResult};
+ghost use Rattle.sdd_core.specs.Epoch.{epoch_of};
+ghost use Rattle.sdd_token.specs.Right.{number_of, home_of};
+ghost use Rattle.sdd_store.specs.Waiting.{What};
+ghost use Rattle.sdd_store.specs.Waiting.What.{Item};
+ghost use Rattle.sdd_store.specs.Time as time;
+ghost use Rattle.sdd_store.specs.Table.{entry_at, IsEmptyAt, IsFull};
+ghost use Rattle.sdd_base.specs.Holding.{Home, AreOf};
+ghost use Rattle.sdd_base.specs.World.{World, weight, KeepsSizes, place_at, standing_at, value_at, IsPlaceOf};
+ghost use Rattle.sdd_base.specs.Steps.{made, retired, nulled, cell_closed, given, given_all, slot_reclaimed, all_reclaimed, rotated, settled, nested, closed, stirred, accelerated};
+
+use crate::atomic_owned::AtomicOwned;
+use crate::item::{Giver, Item};
+use crate::owned::Owned;
+use sdd_slots::{Cells, Slots};
+use sdd_store::{Tally, Time};
+use sdd_token::Right;
+use std::marker::Model;
+
+/// The items and cells of a world, and those who wait with them.
+pub struct Core<T: Item<T>> {
+    time: Time,
+    slots: Slots<T>,
+    cells: Cells,
+    tally: Tally,
+}
+
+impl<T: Item<T>> Model for Core<T> {
+    ghost use Rattle.sdd_base.specs.World.{World, IsRoomy};
+    ghost use Rattle.sdd_base.specs.Core.{IsSound};
+
+    ghost Value = { World T };
+
+    ghost view = { λ c. record {
+        home = record { slots = c.slots.home; cells = c.cells.home };
+        time = c.time;
+        standings = c.slots.standings;
+        values = c.slots.values;
+        cells = c.cells.cells;
+        tally = c.tally;
+    } };
+
+    ghost invariant = { λ c. IsSound T.holds c.time c.slots c.cells };
+}
+
+impl<T: Item<T>> Core<T> {
+    /// Puts a value into a free slot.
+    pub fn make(&mut self, value: T) -> Result<Right, T>
+        requires home { AreOf self.old.home (T.holds value) }
+        ensures made { MatchResult result
+            (λ right. (home_of right ≡ self.old.home.slots) × IsEmptyAt self.old.standings (number_of right) × (self.new ≡ made self.old (number_of right) value))
+            (λ back. IsFull self.old.standings × (back ≡ value) × (self.new ≡ self.old)) }
+        ensures sizes { KeepsSizes self.old self.new }
+    {
+        let right = self.slots.make(value)?;
+        self.tally.count_made();
+        Ok(right)
+    }
+
+    /// The item waits with a place.
+    pub fn retire(&mut self, place: usize, right: Right)
+        requires place { IsPlaceOf self.old place }
+        requires home { home_of right ≡ self.old.home.slots }
+        ensures retired { self.new ≡ retired self.old place (number_of right) }
+        ensures sizes { KeepsSizes self.old self.new }
+    {
+        let slot = self.slots.retire(right);
+        self.time.wait(place, slot);
+    }
+
+    /// A free cell holds nothing.
+    pub fn null(&mut self) -> Option<Right>
+        ensures nulled { MatchOption result
+            (IsFull self.old.cells × (self.new ≡ self.old))
+            (λ right. (home_of right ≡ self.old.home.cells) × IsEmptyAt self.old.cells (number_of right) × (self.new ≡ nulled self.old (number_of right))) }
+        ensures sizes { KeepsSizes self.old self.new }
+    {
+        self.cells.null()
+    }
+
+    /// The cell is free again. No cell can hold an item yet, so there is nothing to retire.
+    pub fn close_cell(&mut self, place: usize, right: Right)
+        requires place { IsPlaceOf self.old place }
+        requires home { home_of right ≡ self.old.home.cells }
+        ensures closed { self.new ≡ cell_closed self.old place (number_of right) }
+        ensures sizes { KeepsSizes self.old self.new }
+    {
+        let _ = place;
+        let _ = self.cells.close(right);
+    }
+}
+
+/// Retires for a place what it is given.
+struct Retirement<'c, T: Item<T>> {
+    core: &'c mut Core<T>,
+    place: usize,
+}
+
+impl<T: Item<T>> Drop for Retirement<'_, T> {
+    fn drop(self)
+        ensures { self.exit.0.now ≡ self.entry.core.now }
+    {
+        let Retirement { core: _, place: _ } = self;
+    }
+}
+
+impl<T: Item<T>> Giver<T> for Retirement<'_, T> {
+    ghost use Rattle.std.specs.Prelude.{true, length};
+
+    ghost world = { λ r. r.core.now };
+
+    ghost seat = { λ r. record { place = r.place; places = length r.core.now.time.places; loan = r.core.ghost_name; home = r.core.now.home; exact = true } };
+
+    fn owned(&mut self, owner: Owned<T>) {
+        self.core.retire(self.place, owner.into_right());
+    }
+
+    fn atomic_owned(&mut self, cell: AtomicOwned<T>) {
+        self.core.close_cell(self.place, cell.into_right());
+    }
+}
+
+impl<T: Item<T>> Core<T> {
+    /// An item that waited is reclaimed, and its value gives up to the place what it holds.
+    fn reclaim(&mut self, place: usize, slot: u32)
+        requires place { IsPlaceOf self.old place }
+        requires room { weight self.old < length self.old.standings }
+        ensures reclaimed { self.new ≡ slot_reclaimed T.holds self.old place slot }
+        ensures sizes { KeepsSizes self.old self.new }
+    {
+        let Some(value) = self.slots.reclaim(slot) else {
+            return;
+        };
+        self.tally.count_reclaimed();
+        let mut giver = Retirement { core: self, place };
+        value.give_up(&mut giver);
+    }
+
+    pub fn reclaim_all(&mut self, place: usize, due: &[u32])
+        requires place { IsPlaceOf self.old place }
+        requires room { weight self.old + length due.now ≤ length self.old.standings }
+        ensures reclaimed { self.new ≡ all_reclaimed T.holds self.old place (map Item due.now) }
+        ensures sizes { KeepsSizes self.old self.new }
+    {
+        for slot in due {
+            self.reclaim(place, *slot);
+        }
+    }
+
+    pub fn nest(&mut self, place: usize)
+        requires place { IsPlaceOf self.old place }
+        requires few { time.CanNest self.old.time place }
+        ensures nested { self.new ≡ nested self.old place }
+        ensures sizes { KeepsSizes self.old self.new }
+    {
+        self.time.nest(place);
+    }
+
+    /// What has seen three changes comes out, in place of an empty bag.
+    pub fn rotate(&mut self, place: usize, bag: Vec<u32>) -> Vec<u32>
+        requires place { IsPlaceOf self.old place }
+        requires empty { bag.items ≡ [] }
+        requires reserved { length self.old.standings ≤ vec_capacity bag }
+        ensures rotated { self.new ≡ rotated self.old place }
+        ensures taken { map Item result.items ≡ time.due_next (place_at self.old place) }
+        ensures reserved { length self.old.standings ≤ vec_capacity result }
+        ensures room { weight self.new + length result.items ≤ length self.new.standings }
+        ensures sizes { KeepsSizes self.old self.new }
+    {
+        self.time.rotate(place, bag)
+    }
+
+    pub fn settle(&mut self, place: usize)
+        requires place { IsPlaceOf self.old place }
+        ensures settled { self.new ≡ settled self.old place }
+        ensures sizes { KeepsSizes self.old self.new }
+    {
+        self.time.settle(place);
+    }
+
+    pub fn stir(&mut self, place: usize)
+        requires place { IsPlaceOf self.old place }
+        ensures stirred { self.new ≡ stirred self.old place }
+        ensures sizes { KeepsSizes self.old self.new }
+    {
+        self.time.stir(place);
+    }
+
+    pub fn accelerate(&mut self, place: usize)
+        requires place { IsPlaceOf self.old place }
+        ensures accelerated { self.new ≡ accelerated self.old place }
+        ensures sizes { KeepsSizes self.old self.new }
+    {
+        self.time.accelerate(place);
+    }
+
+    pub fn close(&mut self, place: usize)
+        requires place { IsPlaceOf self.old place }
+        ensures closed { self.new ≡ closed self.old place }
+        ensures sizes { KeepsSizes self.old self.new }
+    {
+        self.time.close(place);
+    }
+}
