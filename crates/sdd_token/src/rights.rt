@@ -128,7 +128,8 @@ impl Rights {
     /// Who has the right to a number finds it owned.
     pub fn agrees(&self, right: &Right)
         requires { home_of right.now ≡ self.now.home }
-        ensures { (kept_at self.now (number_of right.now)).kind ≡ Kind.Owned }
+        ensures inside { number_of right.now < self.now.home.size }
+        ensures kind { (kept_at self.now (number_of right.now)).kind ≡ Kind.Owned }
     {
         self.agree(right.number as usize, &right.part);
     }

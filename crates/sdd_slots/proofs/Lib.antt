@@ -1,0 +1,2 @@
+pub mod SlotsKept
+pub mod CellsKept

@@ -1,0 +1,161 @@
+ghost use Rattle.std.specs.Prelude.{◌≡◌, ◌<◌, ◌≤◌, ◌↔◌, All, IfErr, IfNone, IfOk, IfSome, IsNone, IsSome, IsTrue, MatchResult, None, OnErr, OnSome, Some, length, option_copied, replicate};
+ghost use Rattle.sdd_token.specs.Right.{number_of, home_of};
+ghost use Rattle.sdd_store.specs.Table.{IsEmptyAt, IsFull};
+ghost use Rattle.sdd_slots.specs.Slots.{standing_at, value_at, with_made, with_retired, without_slot, IsWaiting};
+
+use sdd_store::{Standing, Table};
+use sdd_token::{Kind, Right, Rights};
+use std::alloc::{AllocError, Global};
+use std::marker::Model;
+
+/// Slots for values, each free or with a value and a standing.
+///
+/// Memory is taken when the slots are made, and never again. No call's cost depends on how many slots there are.
+#[derive(Drop)]
+pub struct Slots<T> {
+    rights: Rights,
+    standings: Table<Standing>,
+    values: Vec<Option<T>>,
+}
+
+impl<T> Model for Slots<T> {
+    ghost use Rattle.sdd_slots.specs.Slots.{Slots, AreKept};
+
+    ghost Value = { Slots T };
+
+    ghost view = { λ s. record { home = s.rights.home; standings = s.standings; values = s.values.items } };
+
+    ghost invariant = { λ s. AreKept s.rights.home s.rights.kept s.standings s.values.items };
+}
+
+/// Places for values, all empty.
+fn empty_places<T>(alloc: Global, size: u32) -> Result<Vec<Option<T>>, AllocError>
+    ensures { IfOk result (λ places. places.items ≡ replicate size None) }
+{
+    let mut places = Vec::with_capacity(alloc, size as usize)?;
+    for _place in 0..size {
+        places.push_reserved(None);
+    }
+    Ok(places)
+}
+
+impl<T> Slots<T> {
+    /// That many slots, all free, in a home of their own.
+    pub fn new(alloc: Global, size: u32) -> Result<Slots<T>, AllocError>
+        ensures size { IfOk result (λ slots. slots.home.size ≡ size) }
+        ensures standings { IfOk result (λ slots. slots.standings ≡ replicate size None) }
+        ensures values { IfOk result (λ slots. slots.values ≡ replicate size None) }
+    {
+        let rights = Rights::new(alloc, size as usize, Kind::Free)?;
+        let standings = Table::new(alloc, size)?;
+        let values = empty_places(alloc, size)?;
+        Ok(Slots {
+            rights,
+            standings,
+            values,
+        })
+    }
+
+    /// How many slots there are.
+    pub fn len(&self) -> usize
+        ensures home { result ≡ self.now.home.size }
+        ensures standings { result ≡ length self.now.standings }
+        ensures values { result ≡ length self.now.values }
+    {
+        self.values.len()
+    }
+
+    /// Every slot is free.
+    pub fn is_unused(&self) -> bool
+        ensures { IsTrue result ↔ All (λ standing. IsNone standing) self.now.standings }
+    {
+        self.standings.is_empty()
+    }
+
+    /// Puts a value into some free slot, whose owner has the right; where none is free the value comes back.
+    pub fn make(&mut self, value: T) -> Result<Right, T>
+        ensures home { IfOk result (λ right. home_of right ≡ self.old.home) }
+        ensures free { IfOk result (λ right. IsEmptyAt self.old.standings (number_of right)) }
+        ensures made { MatchResult result
+            (λ right. self.new ≡ with_made self.old (number_of right) value)
+            (λ _. self.new ≡ self.old) }
+        ensures full { OnErr result (IsFull self.old.standings) }
+        ensures back { IfErr result (λ back. back ≡ value) }
+    {
+        let Ok(slot) = self.standings.claim(Standing::Owned) else {
+            return Err(value);
+        };
+        put(&mut self.values[slot as usize], value);
+        Ok(self.rights.grant(slot))
+    }
+
+    /// The value of an owner.
+    pub fn value<'a>(&'a self, right: &'a Right) -> &'a T
+        requires { home_of right.now ≡ self.now.home }
+        ensures value { value_at self.now (number_of right.now) ≡ Some result.now }
+        ensures owned { standing_at self.now (number_of right.now) ≡ Some Standing.Owned }
+    {
+        self.rights.agrees(right);
+        let Some(value) = &self.values[right.number() as usize] else {
+            unreachable!()
+        };
+        value
+    }
+
+    /// The value in a slot, if one is there.
+    pub fn look(&self, slot: u32) -> Option<&T>
+        ensures { option_copied result ≡ value_at self.now slot }
+    {
+        self.values.get(slot as usize)?.as_ref()
+    }
+
+    /// The value of an owner waits to be reclaimed, in the slot that comes back.
+    pub fn retire(&mut self, right: Right) -> u32
+        requires { home_of right ≡ self.old.home }
+        ensures slot { result ≡ number_of right }
+        ensures owned { standing_at self.old result ≡ Some Standing.Owned }
+        ensures retired { self.new ≡ with_retired self.old result }
+    {
+        let slot = self.rights.redeem(right, Kind::Retired);
+        self.standings.replace(slot, Standing::Retired);
+        slot
+    }
+
+    /// Takes the value of a slot that waits, which is free then; of any other slot nothing.
+    pub fn reclaim(&mut self, slot: u32) -> Option<T>
+        ensures waited { IsSome result ↔ IsWaiting (standing_at self.old slot) }
+        ensures was { IfSome result (λ value. value_at self.old slot ≡ Some value) }
+        ensures freed { OnSome result (self.new ≡ without_slot self.old slot) }
+        ensures unchanged { IfNone result (self.new ≡ self.old) }
+    {
+        if !self.is_waiting(slot) {
+            return None;
+        }
+        self.standings.release(slot);
+        self.rights.set(slot as usize, Kind::Free);
+        let Some(value) = self.values[slot as usize].take() else {
+            unreachable!()
+        };
+        Some(value)
+    }
+
+    fn is_waiting(&self, slot: u32) -> bool
+        ensures { IsTrue result ↔ IsWaiting (standing_at self.now slot) }
+    {
+        matches!(
+            self.standings.get(slot),
+            Some(Standing::Retired | Standing::Private(_))
+        )
+    }
+}
+
+/// Puts a value into an empty place.
+fn put<T>(place: &mut Option<T>, value: T)
+    requires { place.old ≡ None }
+    ensures { place.new ≡ Some value }
+{
+    match place.replace(value) {
+        None => {}
+        Some(_) => unreachable!(),
+    }
+}
