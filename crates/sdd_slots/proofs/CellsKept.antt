@@ -23,13 +23,13 @@ taken-only (Some c) e = refl
 -- a cell changes
 pub cells-keep : {home : Home} {kept : List Kept} {cells : Entries Cell} (k : ℕ) (c : Option Cell) → AreKept home kept cells → AreKept home (slice_set kept k (kept_of_cell c)) (slice_set cells k c)
 cells-keep {home} {kept} {cells} k c a = record {
-    sized = length-set cells k c ∙ a.sized;
-    told = ap (λ (ks : List Kept). slice_set ks k (kept_of_cell c)) a.told ∙ sym (map-set kept_of_cell cells k c);
-  }
+  sized = length-set cells k c ∙ a.sized;
+  told = ap (λ (ks : List Kept). slice_set ks k (kept_of_cell c)) a.told ∙ sym (map-set kept_of_cell cells k c);
+}
 
 -- cells that are all free
 pub all-cells-free : (home : Home) (n : ℕ) → home.size ≡ n → AreKept home (replicate n (whole kind.Free)) (replicate n None)
 all-cells-free home n e = record {
-    sized = length-replicate n (let none : Option Cell = None in none) ∙ sym e;
-    told = sym (map-replicate kept_of_cell n None);
-  }
+  sized = length-replicate n (let none : Option Cell = None in none) ∙ sym e;
+  told = sym (map-replicate kept_of_cell n None);
+}

@@ -51,10 +51,10 @@ none-of (Some x) e = cc
 -- slots that are all free
 pub all-free : {T : Type 0} (home : Home) (n : ℕ) → home.size ≡ n → AreKept {T = T} home (replicate n (whole kind.Free)) (replicate n None) (replicate n None)
 all-free {T} home n e = record {
-    sized = length-replicate n (let none : Option Standing = None in none) ∙ sym e;
-    told = sym (map-replicate kept_of n None);
-    filled = map-replicate is_some n None ∙ sym (map-replicate is_some n None);
-  }
+  sized = length-replicate n (let none : Option Standing = None in none) ∙ sym e;
+  told = sym (map-replicate kept_of n None);
+  filled = map-replicate is_some n None ∙ sym (map-replicate is_some n None);
+}
 
 -- an entry is within its table
 pub inside-some : {E : Type 0} (entries : List (Option E)) (k : ℕ) → IsSome (slice_index_or entries k None) → k < length entries
@@ -65,15 +65,15 @@ inside-some (e ∷ es) (suc k) h = omega (arith, inside-some es k h)
 -- a slot and its value change together
 pub keeps : {T : Type 0} {home : Home} {kept : List Kept} {standings : Entries Standing} {values : List (Option T)} (k : ℕ) (s : Option Standing) (v : Option T) → is_some v ≡ is_some s → AreKept home kept standings values → AreKept home (slice_set kept k (kept_of s)) (slice_set standings k s) (slice_set values k v)
 keeps {T} {home} {kept} {standings} {values} k s v e a = record {
-    sized = length-set standings k s ∙ a.sized;
-    told = ap (λ (ks : List Kept). slice_set ks k (kept_of s)) a.told ∙ sym (map-set kept_of standings k s);
-    filled = map-set is_some values k v ∙ ap (λ (bs : List Bool). slice_set bs k (is_some v)) a.filled ∙ ap (λ (b : Bool). slice_set (map is_some standings) k b) e ∙ sym (map-set is_some standings k s);
-  }
+  sized = length-set standings k s ∙ a.sized;
+  told = ap (λ (ks : List Kept). slice_set ks k (kept_of s)) a.told ∙ sym (map-set kept_of standings k s);
+  filled = map-set is_some values k v ∙ ap (λ (bs : List Bool). slice_set bs k (is_some v)) a.filled ∙ ap (λ (b : Bool). slice_set (map is_some standings) k b) e ∙ sym (map-set is_some standings k s);
+}
 
 -- a slot that is not free stands otherwise, with its value
 pub keeps-value : {T : Type 0} {home : Home} {kept : List Kept} {standings : Entries Standing} {values : List (Option T)} (k : ℕ) (s : Option Standing) → is_some s ≡ is_some (slice_index_or standings k None) → AreKept home kept standings values → AreKept home (slice_set kept k (kept_of s)) (slice_set standings k s) values
 keeps-value {T} {home} {kept} {standings} {values} k s e a = record {
-    sized = length-set standings k s ∙ a.sized;
-    told = ap (λ (ks : List Kept). slice_set ks k (kept_of s)) a.told ∙ sym (map-set kept_of standings k s);
-    filled = a.filled ∙ sym (map-set_same is_some standings k s None e);
-  }
+  sized = length-set standings k s ∙ a.sized;
+  told = ap (λ (ks : List Kept). slice_set ks k (kept_of s)) a.told ∙ sym (map-set kept_of standings k s);
+  filled = a.filled ∙ sym (map-set_same is_some standings k s None e);
+}

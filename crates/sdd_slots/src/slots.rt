@@ -102,9 +102,10 @@ impl<T> Slots<T> {
         value
     }
 
-    /// The value in a slot, if one is there.
+    /// The value in a slot, if one is there: unless the slot is free, or is none of these.
     pub fn look(&self, slot: u32) -> Option<&T>
-        ensures { option_copied result ≡ value_at self.now slot }
+        ensures value { option_copied result ≡ value_at self.now slot }
+        ensures taken { IsSome result ↔ IsSome (standing_at self.now slot) }
     {
         self.values.get(slot as usize)?.as_ref()
     }
@@ -157,5 +158,38 @@ fn put<T>(place: &mut Option<T>, value: T)
     match place.replace(value) {
         None => {}
         Some(_) => unreachable!(),
+    }
+}
+
+#[cfg(test)]
+mod tests {
+    use super::*;
+    use std::test::Fail;
+
+    #[test]
+    fn a_value_goes_through_a_slot(rt: HostRuntime) -> Result<(), Fail> {
+        let mut slots = Slots::new(rt.alloc(), 1)?;
+        let right = slots.make(7u64).expect(&rt, "a slot is free");
+        let value = *slots.value(&right);
+        let seen = slots.look(right.number()).copied();
+        let early = slots.reclaim(right.number());
+        let full = match slots.make(8) {
+            Ok(second) => slots.reclaim(slots.retire(second)),
+            Err(back) => Some(back),
+        };
+        let slot = slots.retire(right);
+        let waiting = slots.look(slot).copied();
+        let reclaimed = slots.reclaim(slot);
+        let again = slots.reclaim(slot);
+        assert_eq!(rt; slots.len(), 1);
+        assert_eq!(rt; value, 7);
+        assert_eq!(rt; seen, Some(7));
+        assert_eq!(rt; early, None);
+        assert_eq!(rt; full, Some(8));
+        assert_eq!(rt; waiting, Some(7));
+        assert_eq!(rt; reclaimed, Some(7));
+        assert_eq!(rt; again, None);
+        assert!(rt; slots.is_unused());
+        Ok(())
     }
 }

@@ -5,5 +5,5 @@ abbrev pub invariant-loop-place : goal.invariant-loop-place
 invariant-loop-place g l = record {
   items : l.places.items ≡ replicate l._place None;
   len : vec_len l.places ≡ l._place;
-  room : l.size ≤ vec_capacity l.places
+  room : l.size ≤ vec_capacity l.places;
 }
