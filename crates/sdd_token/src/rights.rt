@@ -118,18 +118,50 @@ impl Rights {
         ensures kept { self.new.kept ≡ slice_set self.old.kept result (whole kind) }
     {
         let Right { number, mut part } = right;
-        let kept = &mut self.parts[number as usize];
-        kept.apart(&mut part);
-        kept.join(part);
-        kept.set(&kind, &());
+        let rest = &mut self.parts[number as usize];
+        rest.apart(&mut part);
+        rest.join(part);
+        rest.set(&kind, &());
         number
     }
 
     /// Who has the right to a number finds it owned.
     pub fn agrees(&self, right: &Right)
         requires { home_of right.now ≡ self.now.home }
-        ensures { (kept_at self.now (number_of right.now)).kind ≡ Kind.Owned }
+        ensures inside { number_of right.now < self.now.home.size }
+        ensures kind { (kept_at self.now (number_of right.now)).kind ≡ Kind.Owned }
     {
         self.agree(right.number as usize, &right.part);
+    }
+}
+
+#[cfg(test)]
+mod tests {
+    use super::*;
+    use std::test::Fail;
+
+    #[test]
+    fn a_right_comes_back(rt: HostRuntime) -> Result<(), Fail> {
+        let mut rights = Rights::new(rt.alloc(), 3, Kind::Free)?;
+        let right = rights.grant(2);
+        rights.agrees(&right);
+        let number = right.number();
+        let redeemed = rights.redeem(right, Kind::Retired);
+        assert_eq!(rt; number, 2);
+        assert_eq!(rt; redeemed, 2);
+        Ok(())
+    }
+
+    #[test]
+    fn units_come_back(rt: HostRuntime) -> Result<(), Fail> {
+        let mut rights = Rights::new(rt.alloc(), 3, Kind::Free)?;
+        rights.set(1, Kind::Shared);
+        let part = rights.split(1, 7);
+        rights.agree(1, &part);
+        rights.join(1, part);
+        rights.set(1, Kind::Free);
+        let right = rights.grant(1);
+        rights.redeem(right, Kind::Free);
+        Ok(())
     }
 }
