@@ -9,6 +9,7 @@ use std::marker::{Model, PhantomData};
 pub const WHOLE: u64 = 1 << 63;
 
 const _: () = prove!(size_of::<Book<u8>>() == 0);
+
 const _: () = prove!(size_of::<Part<u8>>() == 0);
 
 /// The numbers of a home that were not issued yet: `next` and all above it.
