@@ -1,7 +1,7 @@
 -- A share as a number of units, of which the whole has 2 ^ 63.
 use Rattle.std.proofs.Common.{◌≡◌, ℕ, zero, suc, ◌+◌, ◌-◌, ◌^◌, ◌<◌, ◌≤◌, arith, refl, sym, subst}
 use native.Mathlib.Decide.{dec_le, dec_lt}
-use mathlib.Mathlib.Data.Part.{Part, ◌∈◌, bind, mem_unique, mem-bind_iff}
+use mathlib.Mathlib.Data.Part.{Part, ◌∈◌, mem_unique, mem-bind_iff}
 use base.Fraction.{full_share}
 use base.FractionLaws.{Counts, counts_some, Counts-op, Counts-all, not-OpDef-full_share}
 use base.Fml.{Share}

@@ -94,7 +94,8 @@ pub fn shows_one<T>(kept: &Part<Standing>, owner: &Part<Standing>, one: &T, othe
 pub fn not_whole(one: &mut Part<Standing>, other: &mut Part<Standing>)
     requires home { other.old.home ≡ one.old.home }
     requires number { other.old.number ≡ one.old.number }
-    ensures { one.old.units < WHOLE }
+    ensures kept { (one.new ≡ one.old) × (other.new ≡ other.old) }
+    ensures fewer { one.old.units < WHOLE }
 {
     one.apart(other);
 }

@@ -1,5 +1,5 @@
 -- `join` glues the units.
-use Rattle.sdd_token.proofs.Names.{◌≡◌, [], ◌∷◌, refl, List, ℕ, ◌+◌, ◌^◌, ◌<◌, ◌≤◌, sym, arith, a_type, named, Val, vptr, vunit, inst_fn, SProp, emp, ‵, raw, ◌⊛◌, given, learn, ◌$◌, ◌∵◌, !, qed, by, keep, drop, split, fjoin, use0, use2, move, fsplit, fsplit3, fjoin3, join, feq_i, rewrite, of_opd, unit_lit, returns, enter, alloc_all, pass_all, free_all, look_at, sets, tables, RattleType, owns, types_at, plain, nothing, opens, closes, heard, param, layouts, Stays, stay_dropped, stay_ref, walk_of, Goes-dropped, Goes-ref, fact, fact_i, ftrue, Fml, fsep, flft, Lft, no, mut_vals, mut_Tells, proved, leaves, token_val, Gv}
+use Rattle.sdd_token.proofs.Names.{◌≡◌, [], ◌∷◌, refl, List, ℕ, ◌+◌, ◌^◌, ◌≤◌, sym, arith, a_type, named, Val, vptr, vunit, inst_fn, SProp, emp, ‵, raw, ◌⊛◌, given, learn, ◌$◌, ◌∵◌, !, qed, by, keep, drop, split, fjoin, use0, use2, move, fsplit, fsplit3, fjoin3, join, feq_i, rewrite, of_opd, unit_lit, returns, enter, alloc_all, pass_all, free_all, look_at, sets, tables, RattleType, owns, types_at, plain, nothing, opens, closes, heard, param, layouts, Stays, stay_dropped, stay_ref, walk_of, Goes-dropped, Goes-ref, fact, fact_i, ftrue, Fml, fsep, flft, Lft, no, mut_vals, mut_Tells, proved, leaves, token_val, Gv}
 use Rattle.sdd_token.specs.Units.{units, told, told_coded, tokens}
 use Rattle.sdd_token.proofs.Steps.{Meets, joins, tokens_glue}
 use Rattle.sdd_token.proofs.Fields.{pin_told}
