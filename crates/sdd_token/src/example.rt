@@ -37,6 +37,7 @@ pub fn put<T: Drop>(slot: &mut Option<T>, kept: &mut Part<Standing>, value: T) -
     ensures home { kept.new.home ≡ kept.old.home }
     ensures number { kept.new.number ≡ kept.old.number }
     ensures owner { result ≡ record kept.new { units = WHOLE - 1 } }
+    ensures shown { result.shown ≡ T.row.coded.code value }
 {
     kept.set(&Standing::Owned, &value);
     let owner = kept.split(WHOLE - 1);
@@ -45,7 +46,7 @@ pub fn put<T: Drop>(slot: &mut Option<T>, kept: &mut Part<Standing>, value: T) -
 }
 
 /// The value of an owner.
-pub fn get<'a, T: Drop>(slot: &'a Option<T>, kept: &Part<Standing>, owner: &Part<Standing>) -> &'a T
+pub fn get<'a, T>(slot: &'a Option<T>, kept: &Part<Standing>, owner: &Part<Standing>) -> &'a T
     requires fits { Fits slot.now kept.now }
     requires home { owner.now.home ≡ kept.now.home }
     requires number { owner.now.number ≡ kept.now.number }
@@ -85,7 +86,7 @@ pub fn shows_one<T>(kept: &Part<Standing>, owner: &Part<Standing>, one: &T, othe
     requires other { owner.now.shown ≡ T.row.coded.code other.now }
     ensures { one.now ≡ other.now }
 {
-    kept.agree(owner);
+    owner.agree(kept);
     kept.same(one, other);
 }
 
@@ -93,7 +94,34 @@ pub fn shows_one<T>(kept: &Part<Standing>, owner: &Part<Standing>, one: &T, othe
 pub fn not_whole(one: &mut Part<Standing>, other: &mut Part<Standing>)
     requires home { other.old.home ≡ one.old.home }
     requires number { other.old.number ≡ one.old.number }
-    ensures { one.old.units < WHOLE }
+    ensures kept { (one.new ≡ one.old) × (other.new ≡ other.old) }
+    ensures fewer { one.old.units < WHOLE }
 {
     one.apart(other);
+}
+
+#[cfg(test)]
+mod tests {
+    use super::*;
+
+    #[test]
+    fn a_value_is_put_read_and_taken(rt: HostRuntime) {
+        let (_, mut kept, _) = space_of(2);
+        let mut slot = None;
+        let mut owner = put(&mut slot, &mut kept, 7u64);
+        assert_eq!(rt; *get(&slot, &kept, &owner), 7);
+        not_whole(&mut kept, &mut owner);
+        shows_one(&kept, &owner, &7u64, &7u64);
+        assert_eq!(rt; take(&mut slot, &mut kept, owner), 7);
+        assert!(rt; slot.is_none());
+    }
+
+    fn goes_to_threads<T: Send + Sync>(_: &T) {}
+
+    #[test]
+    fn tokens_go_to_other_threads() {
+        let (book, part, _) = space_of(2);
+        goes_to_threads(&book);
+        goes_to_threads(&part);
+    }
 }
