@@ -1,5 +1,6 @@
 -- Who calls, and on which loan of which world or domain
-use Rattle.std.specs.Prelude.{ℕ, ◌<◌, Bool, IsTrue}
+use Rattle.std.specs.Prelude.{ℕ, ◌<◌, Bool, true, IsTrue, length}
+use Rattle.sdd_base.specs.World.{World}
 use Rattle.sdd_base.specs.Holding.{Home}
 
 pub record Seat : Type 0 where
@@ -16,3 +17,7 @@ IsSeated s = s.place < s.places
 -- the calls change the world by exactly what is said
 abbrev pub IsExact : Seat → Type 0
 IsExact s = IsTrue s.exact
+
+-- a place of a world, on this loan: nobody else can change the world meanwhile
+abbrev pub seat_on : {T : Type 0} → World T → ℕ → ℕ → Seat
+seat_on w place loan = record { place = place; places = length w.time.places; loan = loan; home = w.home; exact = true }

@@ -71,6 +71,18 @@ module _ {T : Type 0} where
   abbrev pub freed : World T → ℕ → World T
   freed w k = record w { standings = without_entry w.standings k; values = slice_set w.values k None; tally = one_reclaimed w.tally }
 
+  -- what waits with p has seen one change more, and what has seen three is taken out
+  abbrev pub rotated : World T → ℕ → World T
+  rotated w p = record w { time = time.rotated_at w.time p }
+
+  -- it is decided whether anything waits with p
+  abbrev pub settled : World T → ℕ → World T
+  settled w p = record w { time = time.settled_at w.time p }
+
+  -- one more guard of p is open
+  abbrev pub nested : World T → ℕ → World T
+  nested w p = record w { time = time.nested_at w.time p }
+
   module _ (holds : T → List Holding) where
     -- the value is taken out of the slot, and gives up to p what it holds
     abbrev pub taken_out : World T → ℕ → ℕ → Option T → World T
@@ -90,13 +102,7 @@ module _ {T : Type 0} where
     all_reclaimed w p [] = w
     all_reclaimed w p (x ∷ xs) = all_reclaimed (reclaimed w p x) p xs
 
-    -- a change of p: what waits has seen one change more, what has seen three is reclaimed, and then it is decided whether nothing waits
-    abbrev pub rotated : World T → ℕ → World T
-    rotated w p = record w { time = time.rotated_at w.time p }
-
-    abbrev pub settled : World T → ℕ → World T
-    settled w p = record w { time = time.settled_at w.time p }
-
+    -- a change of p: what it takes out is reclaimed, and then it is decided whether anything waits
     abbrev pub changed : World T → ℕ → World T
     changed w p = settled (all_reclaimed (rotated w p) p (time.due_next (place_at w p))) p
 
@@ -105,9 +111,6 @@ module _ {T : Type 0} where
     caught_up w p = if time.finds_another w.time p then changed w p else w
 
     -- one more guard of p is open; only an outermost opening looks at the count
-    abbrev pub nested : World T → ℕ → World T
-    nested w p = record w { time = time.nested_at w.time p }
-
     abbrev pub opened : World T → ℕ → World T
     opened w p = if time.is_open (place_at w p) then nested w p else caught_up (nested w p) p
 

@@ -6,6 +6,8 @@ ghost use Rattle.sdd_store.specs.Waiting.What.{Item};
 ghost use Rattle.sdd_store.specs.Time as time;
 ghost use Rattle.sdd_store.specs.Table.{entry_at, IsEmptyAt, IsFull};
 ghost use Rattle.sdd_base.specs.Holding.{Home, AreOf};
+ghost use Rattle.sdd_base.specs.Seat.{seat_on, IsSeated, IsExact};
+ghost use Rattle.sdd_base.specs.Owned.{slots_home, cells_home, holding_of, cell_holding};
 ghost use Rattle.sdd_base.specs.World.{World, weight, KeepsSizes, place_at, standing_at, value_at, IsPlaceOf};
 ghost use Rattle.sdd_base.specs.Steps.{made, retired, nulled, cell_closed, given, given_all, slot_reclaimed, all_reclaimed, rotated, settled, nested, closed, stirred, accelerated};
 
@@ -13,7 +15,7 @@ use crate::atomic_owned::AtomicOwned;
 use crate::item::{Giver, Item};
 use crate::owned::Owned;
 use sdd_slots::{Cells, Slots};
-use sdd_store::{Tally, Time};
+use sdd_store::{Standing, Tally, Time};
 use sdd_token::Right;
 use std::marker::Model;
 
@@ -61,6 +63,7 @@ impl<T: Item<T>> Core<T> {
     pub fn retire(&mut self, place: usize, right: Right)
         requires place { IsPlaceOf self.old place }
         requires home { home_of right ≡ self.old.home.slots }
+        ensures owned { standing_at self.old (number_of right) ≡ Some Standing.Owned }
         ensures retired { self.new ≡ retired self.old place (number_of right) }
         ensures sizes { KeepsSizes self.old self.new }
     {
@@ -105,17 +108,25 @@ impl<T: Item<T>> Drop for Retirement<'_, T> {
 }
 
 impl<T: Item<T>> Giver<T> for Retirement<'_, T> {
-    ghost use Rattle.std.specs.Prelude.{true, length};
-
     ghost world = { λ r. r.core.now };
 
-    ghost seat = { λ r. record { place = r.place; places = length r.core.now.time.places; loan = r.core.ghost_name; home = r.core.now.home; exact = true } };
+    ghost seat = { λ r. seat_on r.core.now r.place r.core.ghost_name };
 
-    fn owned(&mut self, owner: Owned<T>) {
+    fn owned(&mut self, owner: Owned<T>)
+        requires seated { IsSeated (seat_on self.old.core.now self.old.place self.old.core.ghost_name) }
+        requires home { slots_home owner ≡ self.old.core.now.home.slots }
+        ensures seat { seat_on self.new.core.now self.new.place self.new.core.ghost_name ≡ seat_on self.old.core.now self.old.place self.old.core.ghost_name }
+        ensures exact { IsExact (seat_on self.old.core.now self.old.place self.old.core.ghost_name) → self.new.core.now ≡ given self.old.core.now self.old.place (holding_of owner) }
+    {
         self.core.retire(self.place, owner.into_right());
     }
 
-    fn atomic_owned(&mut self, cell: AtomicOwned<T>) {
+    fn atomic_owned(&mut self, cell: AtomicOwned<T>)
+        requires seated { IsSeated (seat_on self.old.core.now self.old.place self.old.core.ghost_name) }
+        requires home { cells_home cell ≡ self.old.core.now.home.cells }
+        ensures seat { seat_on self.new.core.now self.new.place self.new.core.ghost_name ≡ seat_on self.old.core.now self.old.place self.old.core.ghost_name }
+        ensures exact { IsExact (seat_on self.old.core.now self.old.place self.old.core.ghost_name) → self.new.core.now ≡ given self.old.core.now self.old.place (cell_holding cell) }
+    {
         self.core.close_cell(self.place, cell.into_right());
     }
 }
@@ -125,8 +136,7 @@ impl<T: Item<T>> Core<T> {
     fn reclaim(&mut self, place: usize, slot: u32)
         requires place { IsPlaceOf self.old place }
         requires room { weight self.old < length self.old.standings }
-        ensures reclaimed { self.new ≡ slot_reclaimed T.holds self.old place slot }
-        ensures sizes { KeepsSizes self.old self.new }
+        ensures { self.new ≡ slot_reclaimed T.holds self.old place slot }
     {
         let Some(value) = self.slots.reclaim(slot) else {
             return;

@@ -1,0 +1,14 @@
+use Rattle.std.proofs.Common.{◌≡◌, ◌+◌, ◌<◌, ◌≤◌, length, drop, map}
+use Rattle.sdd_store.specs.Waiting.What.{Item}
+use Rattle.sdd_base.specs.World.{weight, KeepsSizes}
+use Rattle.sdd_base.specs.Steps.{all_reclaimed}
+use Rattle.sdd_base.proofs.core.Core.reclaim_all.Given as goal
+
+-- to reclaim what is left is to reclaim all, and there is room for it
+abbrev pub invariant-loop-slot : goal.invariant-loop-slot
+invariant-loop-slot g l = record {
+  rest : all_reclaimed g.T.Item.holds l.self l.place (map Item (drop l.slot-index l.due)) ≡ all_reclaimed g.T.Item.holds l.fn.self l.fn.place (map Item l.fn.due);
+  room : weight l.self + length (drop l.slot-index l.due) ≤ length l.self.standings;
+  place : l.place < length l.self.time.places;
+  sizes : KeepsSizes l.fn.self l.self
+}
