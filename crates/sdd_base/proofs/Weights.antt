@@ -9,7 +9,7 @@ use Rattle.sdd_store.specs.Time as time
 use Rattle.sdd_store.specs.Table.{entry_at, with_entry, without_entry}
 use Rattle.sdd_store.specs.declared.standing.Standing.{Standing}
 use Rattle.sdd_store.specs.declared.standing.Standing.TheVariants.{Owned, Raw, Shared, Retired, Private as privately}
-use Rattle.sdd_base.specs.World.{World, KeepsSizes, weight, is_loose, is_waiting, waiting_count, standing_at, place_at}
+use Rattle.sdd_base.specs.World.{World, KeepsSizes, weight, is_loose, waiting_count, standing_at, place_at}
 use Rattle.sdd_base.specs.Steps.{retired, spilled, cell_closed, held_in, owner_given, given, given_all, freed, taken_out, waiting_value, slot_reclaimed, reclaimed, all_reclaimed}
 use Rattle.sdd_base.specs.Holding.{Holding, owned, atomic_owned}
 

@@ -7,3 +7,4 @@ pub mod Guard
 pub mod Owned
 pub mod Limits
 pub mod Core
+pub mod Place

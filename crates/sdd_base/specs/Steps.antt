@@ -126,3 +126,8 @@ module _ {T : Type 0} where
 
   abbrev pub registered : World T → World T
   registered w = record w { time = time.registered w.time }
+
+  -- what an opening of p takes out to reclaim
+  abbrev pub reclaims : World T → ℕ → List What
+  reclaims w p =
+      if time.is_open (place_at w p) then [] else (if time.finds_another w.time p then time.due_next (place_at w p) else [])

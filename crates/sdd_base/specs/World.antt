@@ -1,5 +1,5 @@
 -- A world as clauses see it
-use Rattle.std.specs.Prelude.{ℕ, ◌+◌, ◌≤◌, ◌<◌, ◌≡◌, Bool, true, false, List, length, Option, Some, None, sum_by, count_by, slice_index_or}
+use Rattle.std.specs.Prelude.{ℕ, ◌+◌, ◌≤◌, ◌<◌, ◌≡◌, Bool, true, false, List, [], length, Option, Some, None, sum_by, count_by, slice_index_or, replicate}
 use Rattle.sdd_store.specs.Time.{Time}
 use Rattle.sdd_store.specs.Time as time
 use Rattle.sdd_store.specs.Table.{Entries, entry_at}
@@ -7,8 +7,11 @@ use Rattle.sdd_store.specs.declared.standing.Standing.{Standing}
 use Rattle.sdd_store.specs.declared.standing.Standing.TheVariants.{Owned, Raw, Shared, Retired, Private}
 use Rattle.sdd_store.specs.declared.standing.Cell.{Cell}
 use Rattle.sdd_store.specs.declared.tally.Tally.{Tally}
+use Rattle.sdd_store.specs.Tally.{no_items}
 use Rattle.sdd_store.specs.declared.time.Participant.{Participant}
+use Rattle.sdd_slots.specs.Slots.{is_waiting}
 use Rattle.sdd_base.specs.Holding.{Home, Holding}
+use Rattle.sdd_base.specs.declared.limits.Limits.{Limits}
 
 pub record World (T : Type 0) : Type 0 where
   pub home : Home
@@ -28,18 +31,21 @@ module _ {T : Type 0} where
   abbrev pub value_at : World T → ℕ → Option T
   value_at w k = slice_index_or w.values k None
 
+  -- a world without items: time is so, and there are that many slots and cells, all free
+  pub record IsBlank (t : Time) (slot_count cell_count : ℕ) (w : World T) : Type 0 where
+    pub time : w.time ≡ t
+    pub standings : w.standings ≡ replicate slot_count None
+    pub values : w.values ≡ replicate slot_count None
+    pub cells : w.cells ≡ replicate cell_count None
+    pub tally : w.tally ≡ no_items
+
+  -- a world without participants and items, at this count and with these limits
+  abbrev pub IsNew : Limits → ℕ → World T → Type 0
+  IsNew l count w = IsBlank (record { count = count; marked = false; places = []; participants = l.participants; nesting = l.nesting; room = l.slots }) l.slots l.cells w
+
   -- the place is one of the world's
   abbrev pub IsPlaceOf : World T → ℕ → Type 0
   IsPlaceOf w p = p < length w.time.places
-
--- the item waits
-abbrev pub is_waiting : Option Standing → Bool
-is_waiting None = false
-is_waiting (Some Owned) = false
-is_waiting (Some Raw) = false
-is_waiting (Some (Shared n)) = false
-is_waiting (Some Retired) = true
-is_waiting (Some (Private k)) = true
 
 -- a slot that no participant's bags have
 abbrev pub is_loose : Option Standing → Bool

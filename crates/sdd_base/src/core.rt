@@ -1,4 +1,4 @@
-ghost use Rattle.std.specs.Prelude.{◌≡◌, ℕ, ◌+◌, ◌<◌, ◌≤◌, List, [], map, length, vec_capacity, Some, None, Option, IsSome, MatchOption, MatchResult};
+ghost use Rattle.std.specs.Prelude.{◌≡◌, ℕ, ◌+◌, ◌<◌, ◌≤◌, List, [], map, length, vec_capacity, Some, None, Option, IsSome, MatchOption, MatchResult, IfOk, option_copied, ◌⊎◌};
 ghost use Rattle.sdd_core.specs.Epoch.{epoch_of};
 ghost use Rattle.sdd_token.specs.Right.{number_of, home_of};
 ghost use Rattle.sdd_store.specs.Waiting.{What};
@@ -8,15 +8,17 @@ ghost use Rattle.sdd_store.specs.Table.{entry_at, IsEmptyAt, IsFull};
 ghost use Rattle.sdd_base.specs.Holding.{Home, AreOf};
 ghost use Rattle.sdd_base.specs.Seat.{seat_on, IsSeated, IsExact};
 ghost use Rattle.sdd_base.specs.Owned.{slots_home, cells_home, holding_of, cell_holding};
-ghost use Rattle.sdd_base.specs.World.{World, weight, KeepsSizes, place_at, standing_at, value_at, IsPlaceOf};
-ghost use Rattle.sdd_base.specs.Steps.{made, retired, nulled, cell_closed, given, given_all, slot_reclaimed, all_reclaimed, rotated, settled, nested, closed, stirred, accelerated};
+ghost use Rattle.sdd_base.specs.World.{World, IsBlank, weight, KeepsSizes, place_at, standing_at, value_at, IsPlaceOf};
+ghost use Rattle.sdd_base.specs.Steps.{made, retired, nulled, cell_closed, given, given_all, slot_reclaimed, all_reclaimed, rotated, settled, nested, closed, stirred, accelerated, registered};
 
 use crate::atomic_owned::AtomicOwned;
 use crate::item::{Giver, Item};
 use crate::owned::Owned;
+use sdd_core::Refused;
 use sdd_slots::{Cells, Slots};
 use sdd_store::{Standing, Tally, Time};
 use sdd_token::Right;
+use std::alloc::{AllocError, Global};
 use std::marker::Model;
 
 /// The items and cells of a world, and those who wait with them.
@@ -210,5 +212,57 @@ impl<T: Item<T>> Core<T> {
         ensures sizes { KeepsSizes self.old self.new }
     {
         self.time.close(place);
+    }
+
+    /// A core without items, with time as it is.
+    pub fn new(alloc: Global, time: Time, slots: u32, cells: u32) -> Result<Core<T>, AllocError>
+        requires idle { time.places ≡ [] }
+        requires room { time.room ≡ slots }
+        ensures { IfOk result (IsBlank time slots cells) }
+    {
+        let cells = Cells::new(alloc, cells)?;
+        let slots = Slots::new(alloc, slots)?;
+        Ok(Core {
+            time,
+            slots,
+            cells,
+            tally: Tally::new(),
+        })
+    }
+
+    pub fn register(&mut self, alloc: Global) -> Result<usize, Refused>
+        ensures registered { MatchResult result
+            (λ p. time.IsNext self.old.time p × (self.new ≡ registered self.old))
+            (λ e. ((e ≡ Refused.NoPlace) × time.IsCrowded self.old.time ⊎ (e ≡ Refused.NoMemory) × ¬ (time.IsCrowded self.old.time)) × (self.new ≡ self.old)) }
+        ensures slots { (length self.new.standings ≡ length self.old.standings) × (self.new.home ≡ self.old.home) }
+    {
+        self.time.register(alloc)
+    }
+
+    pub fn time(&self) -> &Time
+        ensures { result.now ≡ self.now.time }
+    {
+        &self.time
+    }
+
+    pub fn tally(&self) -> Tally
+        ensures { result ≡ self.now.tally }
+    {
+        self.tally
+    }
+
+    /// The value of an owner's item.
+    pub fn value<'a>(&'a self, right: &'a Right) -> &'a T
+        requires { home_of right.now ≡ self.now.home.slots }
+        ensures { value_at self.now (number_of right.now) ≡ Some result.now }
+    {
+        self.slots.value(right)
+    }
+
+    /// The value in a slot, if one is there.
+    pub fn look(&self, slot: u32) -> Option<&T>
+        ensures { option_copied result ≡ value_at self.now slot }
+    {
+        self.slots.look(slot)
     }
 }

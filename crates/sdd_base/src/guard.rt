@@ -15,7 +15,7 @@ use sdd_core::{Epoch, Refused};
 ///
 /// It must be spent by `close`. Guards of one participant nest.
 pub struct Guard {
-    place: u32,
+    place: usize,
 }
 
 impl Guard {

@@ -10,6 +10,8 @@ pub mod look;
 pub mod owned;
 pub mod ptr;
 pub mod space;
+pub mod turn;
+pub mod world;
 
 pub use atomic_owned::AtomicOwned;
 pub use guard::Guard;
@@ -19,3 +21,5 @@ pub use look::Look;
 pub use owned::Owned;
 pub use ptr::Ptr;
 pub use space::Space;
+pub use turn::Turn;
+pub use world::{Place, World};

@@ -29,7 +29,7 @@ pub trait Space<T: Item<T>>: Look<T> {
     ghost world: { Self → World T };
 
     /// Opens one more guard; an outermost one looks at the count.
-    fn open_guard(&mut self) -> Result<u32, Refused>
+    fn open_guard(&mut self) -> Result<usize, Refused>
         requires seated { IsSeated (seat self.old) }
         ensures seat { seat self.new ≡ seat self.old }
         ensures place { IfOk result (λ place. place ≡ (seat self.old).place) }

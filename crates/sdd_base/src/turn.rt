@@ -1,0 +1,169 @@
+ghost use Rattle.std.specs.Prelude.{◌≡◌, ℕ, Some, MatchOption, IsSome};
+ghost use Rattle.sdd_base.specs.World.{World, IsPlaceOf, place_at, value_at};
+ghost use Rattle.sdd_base.specs.Place.{index_of};
+ghost use Rattle.sdd_base.specs.Seat.{seat_on, IsSeated, IsExact};
+ghost use Rattle.sdd_base.specs.Steps.{retired, cell_closed};
+ghost use Rattle.sdd_base.specs.Owned.{slot_of, slots_home, cell_of, cells_home};
+ghost use Rattle.sdd_store.specs.Time.{awaiting};
+ghost use Rattle.sdd_store.specs.Waiting.What.{Item};
+ghost use Rattle.sdd_base.specs.Ptr.{IsNull, NamesFilled, NamesShown};
+
+use crate::atomic_owned::AtomicOwned;
+use crate::guard::Guard;
+use crate::item::Item;
+use crate::look::Look;
+use crate::owned::Owned;
+use crate::ptr::Ptr;
+use crate::space::Space;
+use crate::world::{Place, World};
+use sdd_core::Refused;
+use sdd_token::Right;
+
+/// One participant's turn at a world: the space in which it makes its calls.
+pub struct Turn<'w, T: Item<T>> {
+    world: &'w mut World<T>,
+    place: usize,
+}
+
+impl<T: Item<T>> Drop for Turn<'_, T> {
+    fn drop(self)
+        ensures { self.exit.0.now ≡ self.entry.world.now }
+    {
+        let Turn { world: _, place: _ } = self;
+    }
+}
+
+impl<T: Item<T>> World<T> {
+    /// The turn of a participant of this world.
+    pub fn at(&mut self, place: &Place) -> Turn<'_, T>
+        requires place { IsPlaceOf self.old (index_of place.now) }
+        ensures world { result.world.now ≡ self.old }
+        ensures loan { result.world.ghost_name ≡ self.entry.ghost_name }
+        ensures place { result.place ≡ index_of place.now }
+    {
+        Turn {
+            world: self,
+            place: place.index(),
+        }
+    }
+}
+
+impl<T: Item<T>> Look<T> for World<T> {
+    ghost use Rattle.std.specs.Prelude.{◌≡◌, Some, IsSome};
+    ghost use Rattle.sdd_base.specs.World.{value_at};
+
+    ghost home = { λ w. w.home };
+
+    ghost shows = { λ w k value. value_at w k ≡ Some value };
+
+    ghost filled = { λ w k. IsSome (value_at w k) };
+
+    fn value<'a>(&'a self, right: &'a Right) -> &'a T {
+        World::value(self, right)
+    }
+
+    fn look<'g>(&'g self, ptr: Ptr<'g, T>) -> Option<&'g T>
+        requires filled { NamesFilled (λ k. IsSome (value_at self.now k)) ptr }
+        ensures null { MatchOption result (IsNull ptr.entry) (λ value. NamesShown (λ k v. value_at self.now k ≡ Some v) ptr.entry value.now) }
+    {
+        let slot = ptr.slot()?;
+        Some(self.shown(slot))
+    }
+}
+
+impl<T: Item<T>> Look<T> for Turn<'_, T> {
+    ghost use Rattle.std.specs.Prelude.{◌≡◌, Some, IsSome};
+    ghost use Rattle.sdd_base.specs.World.{value_at};
+
+    ghost home = { λ t. t.world.now.home };
+
+    ghost shows = { λ t k value. value_at t.world.now k ≡ Some value };
+
+    ghost filled = { λ t k. IsSome (value_at t.world.now k) };
+
+    fn value<'a>(&'a self, right: &'a Right) -> &'a T {
+        self.world.value(right)
+    }
+
+    fn look<'g>(&'g self, ptr: Ptr<'g, T>) -> Option<&'g T>
+        requires filled { NamesFilled (λ k. IsSome (value_at self.now.world.now k)) ptr }
+        ensures null { MatchOption result (IsNull ptr.entry) (λ value. NamesShown (λ k v. value_at self.now.world.now k ≡ Some v) ptr.entry value.now) }
+    {
+        let slot = ptr.slot()?;
+        Some(self.world.shown(slot))
+    }
+}
+
+impl<T: Item<T>> Space<T> for Turn<'_, T> {
+    ghost use Rattle.sdd_base.specs.Seat.{seat_on};
+    ghost use Rattle.sdd_base.specs.World.{place_at};
+
+    const ALONE: bool = true;
+
+    ghost seat = { λ t. seat_on t.world.now t.place t.world.ghost_name };
+
+    ghost own = { λ t. place_at t.world.now t.place };
+
+    ghost world = { λ t. t.world.now };
+
+    fn open_guard(&mut self) -> Result<usize, Refused> {
+        if !self.world.time().can_nest(self.place) {
+            return Err(Refused::TooManyGuards);
+        }
+        self.world.open(self.place);
+        Ok(self.place)
+    }
+
+    fn close_guard(&mut self) {
+        self.world.close_guard(self.place);
+    }
+
+    fn count(&self) -> u64 {
+        self.world.time().count()
+    }
+
+    fn has_garbage(&self) -> bool {
+        self.world.time().has_garbage(self.place)
+    }
+
+    fn stir(&mut self) {
+        self.world.stir(self.place);
+    }
+
+    fn accelerate(&mut self) {
+        self.world.accelerate(self.place);
+    }
+
+    fn make(&mut self, value: T) -> Result<Owned<T>, (T, Refused)> {
+        match self.world.make(value) {
+            Ok(right) => Ok(Owned::of_right(right)),
+            Err(value) => Err((value, Refused::NoSlot)),
+        }
+    }
+
+    fn retire(&mut self, owner: Owned<T>)
+        requires seated { IsSeated (seat_on self.old.world.now self.old.place self.old.world.ghost_name) }
+        requires home { slots_home owner ≡ self.old.world.now.home.slots }
+        ensures seat { seat_on self.new.world.now self.new.place self.new.world.ghost_name ≡ seat_on self.old.world.now self.old.place self.old.world.ghost_name }
+        ensures own { place_at self.new.world.now self.new.place ≡ awaiting (Item (slot_of owner)) (place_at self.old.world.now self.old.place) }
+        ensures exact { IsExact (seat_on self.old.world.now self.old.place self.old.world.ghost_name) → self.new.world.now ≡ retired self.old.world.now self.old.place (slot_of owner) }
+    {
+        self.world.retire(self.place, owner.into_right());
+    }
+
+    fn make_cell(&mut self) -> Result<AtomicOwned<T>, Refused> {
+        match self.world.null() {
+            Some(right) => Ok(AtomicOwned::of_right(right)),
+            None => Err(Refused::NoCell),
+        }
+    }
+
+    fn close_cell(&mut self, cell: AtomicOwned<T>)
+        requires seated { IsSeated (seat_on self.old.world.now self.old.place self.old.world.ghost_name) }
+        requires home { cells_home cell ≡ self.old.world.now.home.cells }
+        ensures seat { seat_on self.new.world.now self.new.place self.new.world.ghost_name ≡ seat_on self.old.world.now self.old.place self.old.world.ghost_name }
+        ensures exact { IsExact (seat_on self.old.world.now self.old.place self.old.world.ghost_name) → self.new.world.now ≡ cell_closed self.old.world.now self.old.place (cell_of cell) }
+    {
+        self.world.close_cell(self.place, cell.into_right());
+    }
+}

@@ -1,0 +1,220 @@
+ghost use Rattle.std.specs.Prelude.{◌≡◌, ℕ, ◌+◌, ◌<◌, ◌≤◌, ◌⊎◌, [], map, length, Some, None, Option, IfOk, MatchOption, MatchResult, IsSome, IsTrue, ◌↔◌};
+ghost use Rattle.sdd_token.specs.Right.{number_of, home_of};
+ghost use Rattle.sdd_store.specs.Waiting.What.{Item};
+ghost use Rattle.sdd_store.specs.Time.{CanNest, IsNext, IsCrowded, due_next};
+ghost use Rattle.sdd_store.specs.Table.{IsEmptyAt, IsFull};
+ghost use Rattle.sdd_base.specs.Holding.{AreOf};
+ghost use Rattle.sdd_base.specs.World.{World, KeepsSizes, IsPlaceOf, IsNew, place_at, standing_at, value_at};
+ghost use Rattle.sdd_base.specs.Limits.{AreInRange};
+ghost use Rattle.sdd_base.specs.Steps.{made, retired, nulled, cell_closed, opened, changed, closed, stirred, accelerated, registered, reclaims};
+
+use crate::core::Core;
+use crate::item::Item;
+use crate::limits::Limits;
+use sdd_core::Refused;
+use sdd_store::{Tally, Time};
+use sdd_token::Right;
+use std::alloc::Global;
+use std::marker::Model;
+use std::mem;
+
+/// All that the participants of one thread share: items, cells, and the epoch.
+///
+/// A world must be spent by `close`.
+pub struct World<T: Item<T>> {
+    core: Core<T>,
+    spare: Vec<u32>,
+    alloc: Global,
+}
+
+impl<T: Item<T>> Model for World<T> {
+    ghost use Rattle.std.specs.Prelude.{◌≡◌, ◌≤◌, [], length, vec_capacity};
+    ghost use Rattle.sdd_base.specs.World.{World};
+
+    ghost Value = { World T };
+
+    ghost view = { λ w. w.core };
+
+    ghost invariant = { λ w. (w.spare.items ≡ []) × (length w.core.standings ≤ vec_capacity w.spare) };
+}
+
+/// A participant of a world.
+#[derive(Drop)]
+pub struct Place {
+    index: usize,
+}
+
+impl Place {
+    ghost use Rattle.sdd_base.specs.Place.{index_of};
+
+    /// Its number: participants are numbered in the order of their registering.
+    pub fn index(&self) -> usize
+        ensures { result ≡ index_of self.now }
+    {
+        self.index
+    }
+}
+
+impl<T: Item<T>> World<T> {
+    ghost use Rattle.sdd_base.specs.Place.{index_of};
+
+    /// A world that starts at epoch 0.
+    ///
+    /// `BadLimits` where a limit is out of its range; `NoMemory` where the memory for all items and cells was refused.
+    pub fn new(alloc: Global, limits: Limits) -> Result<World<T>, Refused>
+        ensures new { IfOk result (IsNew limits 0) }
+        ensures limits { MatchResult result (λ _. AreInRange limits)
+            (λ e. ((e ≡ Refused.BadLimits) × ¬ (AreInRange limits)) ⊎ ((e ≡ Refused.NoMemory) × AreInRange limits)) }
+    {
+        World::starting_at(alloc, limits, 0)
+    }
+
+    /// A world that starts at a count of epochs, of which epochs show the last six bits.
+    ///
+    /// Refusals are those of `new`.
+    pub fn starting_at(alloc: Global, limits: Limits, count: u64) -> Result<World<T>, Refused>
+        ensures new { IfOk result (IsNew limits count) }
+        ensures limits { MatchResult result (λ _. AreInRange limits)
+            (λ e. ((e ≡ Refused.BadLimits) × ¬ (AreInRange limits)) ⊎ ((e ≡ Refused.NoMemory) × AreInRange limits)) }
+    {
+        if !limits.are_in_range() {
+            return Err(Refused::BadLimits);
+        }
+        let time = Time::new(alloc, count, limits.participants as usize, limits.nesting as u32, limits.slots as usize)?;
+        let spare = Vec::with_capacity(alloc, limits.slots as usize)?;
+        let core = Core::new(alloc, time, limits.slots as u32, limits.cells as u32)?;
+        Ok(World { core, spare, alloc })
+    }
+
+    /// Registers a participant.
+    ///
+    /// `NoPlace` where all places are taken; `NoMemory` where the memory for what may wait with it was refused.
+    pub fn register(&mut self) -> Result<Place, Refused>
+        ensures registered { MatchResult result
+            (λ place. IsNext self.old.time (index_of place) × (self.new ≡ registered self.old))
+            (λ e. ((e ≡ Refused.NoPlace) × IsCrowded self.old.time ⊎ (e ≡ Refused.NoMemory) × ¬ (IsCrowded self.old.time)) × (self.new ≡ self.old)) }
+    {
+        let index = self.core.register(self.alloc)?;
+        Ok(Place { index })
+    }
+
+    /// How many items were made, reclaimed and dropped in place so far.
+    pub fn tally(&self) -> Tally
+        ensures { result ≡ self.now.tally }
+    {
+        self.core.tally()
+    }
+
+    pub(crate) fn time(&self) -> &Time
+        ensures { result.now ≡ self.now.time }
+    {
+        self.core.time()
+    }
+
+    pub(crate) fn value<'a>(&'a self, right: &'a Right) -> &'a T
+        requires { home_of right.now ≡ self.now.home.slots }
+        ensures { value_at self.now (number_of right.now) ≡ Some result.now }
+    {
+        self.core.value(right)
+    }
+
+    /// The value in a slot that isn't free.
+    pub(crate) fn shown(&self, slot: u32) -> &T
+        requires { IsSome (value_at self.now slot) }
+        ensures { value_at self.now slot ≡ Some result.now }
+    {
+        let Some(value) = self.core.look(slot) else {
+            unreachable!()
+        };
+        value
+    }
+
+    pub(crate) fn make(&mut self, value: T) -> Result<Right, T>
+        requires home { AreOf self.old.home (T.holds value) }
+        ensures made { MatchResult result
+            (λ right. (home_of right ≡ self.old.home.slots) × IsEmptyAt self.old.standings (number_of right) × (self.new ≡ made self.old (number_of right) value))
+            (λ back. IsFull self.old.standings × (back ≡ value) × (self.new ≡ self.old)) }
+        ensures sizes { KeepsSizes self.old self.new }
+    {
+        self.core.make(value)
+    }
+
+    pub(crate) fn retire(&mut self, place: usize, right: Right)
+        requires place { IsPlaceOf self.old place }
+        requires home { home_of right ≡ self.old.home.slots }
+        ensures retired { self.new ≡ retired self.old place (number_of right) }
+        ensures sizes { KeepsSizes self.old self.new }
+    {
+        self.core.retire(place, right);
+    }
+
+    pub(crate) fn null(&mut self) -> Option<Right>
+        ensures nulled { MatchOption result
+            (IsFull self.old.cells × (self.new ≡ self.old))
+            (λ right. (home_of right ≡ self.old.home.cells) × IsEmptyAt self.old.cells (number_of right) × (self.new ≡ nulled self.old (number_of right))) }
+        ensures sizes { KeepsSizes self.old self.new }
+    {
+        self.core.null()
+    }
+
+    pub(crate) fn close_cell(&mut self, place: usize, right: Right)
+        requires place { IsPlaceOf self.old place }
+        requires home { home_of right ≡ self.old.home.cells }
+        ensures closed { self.new ≡ cell_closed self.old place (number_of right) }
+        ensures sizes { KeepsSizes self.old self.new }
+    {
+        self.core.close_cell(place, right);
+    }
+
+    /// Opens one more guard of a place.
+    pub(crate) fn open(&mut self, place: usize)
+        requires place { IsPlaceOf self.old place }
+        requires few { CanNest self.old.time place }
+        ensures opened { self.new ≡ opened T.holds self.old place }
+        ensures sizes { KeepsSizes self.old self.new }
+    {
+        let is_nested = self.core.time().is_open(place);
+        self.core.nest(place);
+        if !is_nested && self.core.time().finds_another(place) {
+            self.change(place);
+        }
+    }
+
+    /// A change of a place: what is due is reclaimed.
+    fn change(&mut self, place: usize)
+        requires place { IsPlaceOf self.old place }
+        ensures changed { self.new ≡ changed T.holds self.old place }
+        ensures sizes { KeepsSizes self.old self.new }
+    {
+        let bag = mem::replace(&mut self.spare, Vec::new(self.alloc));
+        let mut due = self.core.rotate(place, bag);
+        self.core.reclaim_all(place, due.as_slice());
+        self.core.settle(place);
+        due.clear();
+        self.spare = due;
+    }
+
+    pub(crate) fn close_guard(&mut self, place: usize)
+        requires place { IsPlaceOf self.old place }
+        ensures closed { self.new ≡ closed self.old place }
+        ensures sizes { KeepsSizes self.old self.new }
+    {
+        self.core.close(place);
+    }
+
+    pub(crate) fn stir(&mut self, place: usize)
+        requires place { IsPlaceOf self.old place }
+        ensures stirred { self.new ≡ stirred self.old place }
+        ensures sizes { KeepsSizes self.old self.new }
+    {
+        self.core.stir(place);
+    }
+
+    pub(crate) fn accelerate(&mut self, place: usize)
+        requires place { IsPlaceOf self.old place }
+        ensures accelerated { self.new ≡ accelerated self.old place }
+        ensures sizes { KeepsSizes self.old self.new }
+    {
+        self.core.accelerate(place);
+    }
+}
