@@ -6,5 +6,3 @@ pub mod Ptr
 pub mod Guard
 pub mod Owned
 pub mod Limits
-pub mod Core
-pub mod Place

@@ -1,17 +1,16 @@
-//! Worlds, the spaces that stand for them in generic code, and what is used in them: guards, owners, pointers and cells.
+//! What is used in a world or a domain: guards, owners, pointers and cells, and the traits by which generic code sees
+//! where it is.
 #![tactic(auto)]
 
 pub mod atomic_owned;
-mod core;
 pub mod guard;
+pub mod inner;
 pub mod item;
 pub mod limits;
 pub mod look;
 pub mod owned;
 pub mod ptr;
 pub mod space;
-pub mod turn;
-pub mod world;
 
 pub use atomic_owned::AtomicOwned;
 pub use guard::Guard;
@@ -21,5 +20,3 @@ pub use look::Look;
 pub use owned::Owned;
 pub use ptr::Ptr;
 pub use space::Space;
-pub use turn::Turn;
-pub use world::{Place, World};

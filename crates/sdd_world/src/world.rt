@@ -9,8 +9,7 @@ ghost use Rattle.sdd_base.specs.Limits.{AreInRange};
 ghost use Rattle.sdd_base.specs.Steps.{made, retired, nulled, cell_closed, opened, changed, closed, stirred, accelerated, registered, reclaims};
 
 use crate::core::Core;
-use crate::item::Item;
-use crate::limits::Limits;
+use sdd_base::{Item, Limits};
 use sdd_core::Refused;
 use sdd_store::{Tally, Time};
 use sdd_token::Right;
@@ -45,7 +44,7 @@ pub struct Place {
 }
 
 impl Place {
-    ghost use Rattle.sdd_base.specs.Place.{index_of};
+    ghost use Rattle.sdd_world.specs.Place.{index_of};
 
     /// Its number: participants are numbered in the order of their registering.
     pub fn index(&self) -> usize
@@ -56,7 +55,7 @@ impl Place {
 }
 
 impl<T: Item<T>> World<T> {
-    ghost use Rattle.sdd_base.specs.Place.{index_of};
+    ghost use Rattle.sdd_world.specs.Place.{index_of};
 
     /// A world that starts at epoch 0.
     ///

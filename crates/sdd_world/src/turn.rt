@@ -1,6 +1,6 @@
 ghost use Rattle.std.specs.Prelude.{◌≡◌, ℕ, Some, MatchOption, IsSome};
 ghost use Rattle.sdd_base.specs.World.{World, IsPlaceOf, place_at, value_at};
-ghost use Rattle.sdd_base.specs.Place.{index_of};
+ghost use Rattle.sdd_world.specs.Place.{index_of};
 ghost use Rattle.sdd_base.specs.Seat.{seat_on, IsSeated, IsExact};
 ghost use Rattle.sdd_base.specs.Steps.{retired, cell_closed};
 ghost use Rattle.sdd_base.specs.Owned.{slot_of, slots_home, cell_of, cells_home};
@@ -8,13 +8,8 @@ ghost use Rattle.sdd_store.specs.Time.{awaiting};
 ghost use Rattle.sdd_store.specs.Waiting.What.{Item};
 ghost use Rattle.sdd_base.specs.Ptr.{IsNull, NamesFilled, NamesShown};
 
-use crate::atomic_owned::AtomicOwned;
-use crate::guard::Guard;
-use crate::item::Item;
-use crate::look::Look;
-use crate::owned::Owned;
-use crate::ptr::Ptr;
-use crate::space::Space;
+use sdd_base::inner;
+use sdd_base::{AtomicOwned, Item, Look, Owned, Ptr, Space};
 use crate::world::{Place, World};
 use sdd_core::Refused;
 use sdd_token::Right;
@@ -66,7 +61,7 @@ impl<T: Item<T>> Look<T> for World<T> {
         requires filled { NamesFilled (λ k. IsSome (value_at self.now k)) ptr }
         ensures null { MatchOption result (IsNull ptr.entry) (λ value. NamesShown (λ k v. value_at self.now k ≡ Some v) ptr.entry value.now) }
     {
-        let slot = ptr.slot()?;
+        let slot = inner::slot_of_ptr(&ptr)?;
         Some(self.shown(slot))
     }
 }
@@ -89,7 +84,7 @@ impl<T: Item<T>> Look<T> for Turn<'_, T> {
         requires filled { NamesFilled (λ k. IsSome (value_at self.now.world.now k)) ptr }
         ensures null { MatchOption result (IsNull ptr.entry) (λ value. NamesShown (λ k v. value_at self.now.world.now k ≡ Some v) ptr.entry value.now) }
     {
-        let slot = ptr.slot()?;
+        let slot = inner::slot_of_ptr(&ptr)?;
         Some(self.world.shown(slot))
     }
 }
@@ -136,7 +131,7 @@ impl<T: Item<T>> Space<T> for Turn<'_, T> {
 
     fn make(&mut self, value: T) -> Result<Owned<T>, (T, Refused)> {
         match self.world.make(value) {
-            Ok(right) => Ok(Owned::of_right(right)),
+            Ok(right) => Ok(inner::owner_of(right)),
             Err(value) => Err((value, Refused::NoSlot)),
         }
     }
@@ -148,12 +143,12 @@ impl<T: Item<T>> Space<T> for Turn<'_, T> {
         ensures own { place_at self.new.world.now self.new.place ≡ awaiting (Item (slot_of owner)) (place_at self.old.world.now self.old.place) }
         ensures exact { IsExact (seat_on self.old.world.now self.old.place self.old.world.ghost_name) → self.new.world.now ≡ retired self.old.world.now self.old.place (slot_of owner) }
     {
-        self.world.retire(self.place, owner.into_right());
+        self.world.retire(self.place, inner::right_of_owner(owner));
     }
 
     fn make_cell(&mut self) -> Result<AtomicOwned<T>, Refused> {
         match self.world.null() {
-            Some(right) => Ok(AtomicOwned::of_right(right)),
+            Some(right) => Ok(inner::cell_with(right)),
             None => Err(Refused::NoCell),
         }
     }
@@ -164,6 +159,6 @@ impl<T: Item<T>> Space<T> for Turn<'_, T> {
         ensures seat { seat_on self.new.world.now self.new.place self.new.world.ghost_name ≡ seat_on self.old.world.now self.old.place self.old.world.ghost_name }
         ensures exact { IsExact (seat_on self.old.world.now self.old.place self.old.world.ghost_name) → self.new.world.now ≡ cell_closed self.old.world.now self.old.place (cell_of cell) }
     {
-        self.world.close_cell(self.place, cell.into_right());
+        self.world.close_cell(self.place, inner::right_of_cell(cell));
     }
 }

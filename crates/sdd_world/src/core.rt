@@ -11,9 +11,8 @@ ghost use Rattle.sdd_base.specs.Owned.{slots_home, cells_home, holding_of, cell_
 ghost use Rattle.sdd_base.specs.World.{World, IsBlank, weight, KeepsSizes, place_at, standing_at, value_at, IsPlaceOf};
 ghost use Rattle.sdd_base.specs.Steps.{made, retired, nulled, cell_closed, given, given_all, slot_reclaimed, all_reclaimed, rotated, settled, nested, closed, stirred, accelerated, registered};
 
-use crate::atomic_owned::AtomicOwned;
-use crate::item::{Giver, Item};
-use crate::owned::Owned;
+use sdd_base::inner;
+use sdd_base::{AtomicOwned, Giver, Item, Owned};
 use sdd_core::Refused;
 use sdd_slots::{Cells, Slots};
 use sdd_store::{Standing, Tally, Time};
@@ -31,7 +30,7 @@ pub struct Core<T: Item<T>> {
 
 impl<T: Item<T>> Model for Core<T> {
     ghost use Rattle.sdd_base.specs.World.{World, IsRoomy};
-    ghost use Rattle.sdd_base.specs.Core.{IsSound};
+    ghost use Rattle.sdd_world.specs.Core.{IsSound};
 
     ghost Value = { World T };
 
@@ -120,7 +119,7 @@ impl<T: Item<T>> Giver<T> for Retirement<'_, T> {
         ensures seat { seat_on self.new.core.now self.new.place self.new.core.ghost_name ≡ seat_on self.old.core.now self.old.place self.old.core.ghost_name }
         ensures exact { IsExact (seat_on self.old.core.now self.old.place self.old.core.ghost_name) → self.new.core.now ≡ given self.old.core.now self.old.place (holding_of owner) }
     {
-        self.core.retire(self.place, owner.into_right());
+        self.core.retire(self.place, inner::right_of_owner(owner));
     }
 
     fn atomic_owned(&mut self, cell: AtomicOwned<T>)
@@ -129,7 +128,7 @@ impl<T: Item<T>> Giver<T> for Retirement<'_, T> {
         ensures seat { seat_on self.new.core.now self.new.place self.new.core.ghost_name ≡ seat_on self.old.core.now self.old.place self.old.core.ghost_name }
         ensures exact { IsExact (seat_on self.old.core.now self.old.place self.old.core.ghost_name) → self.new.core.now ≡ given self.old.core.now self.old.place (cell_holding cell) }
     {
-        self.core.close_cell(self.place, cell.into_right());
+        self.core.close_cell(self.place, inner::right_of_cell(cell));
     }
 }
 

@@ -1,0 +1,9 @@
+//! The world: a space for the participants of one thread, with exact answers.
+#![tactic(auto)]
+
+mod core;
+pub mod turn;
+pub mod world;
+
+pub use turn::Turn;
+pub use world::{Place, World};
