@@ -2,9 +2,12 @@
 ghost use Rattle.std.specs.Prelude.{◌≡◌, Some};
 ghost use Rattle.sdd_token.specs.Right.{number_of, home_of};
 ghost use Rattle.sdd_base.specs.Owned.{slot_of, slots_home, cell_of, cells_home};
-ghost use Rattle.sdd_base.specs.Ptr.{slot_named};
+ghost use Rattle.sdd_base.specs.Ptr.{slot_named, tag_of};
+ghost use Rattle.sdd_base.specs.Guard.{place_of};
+ghost use Rattle.sdd_core.specs.declared.tag.Tag.TheVariants.{None as no_tag};
 
 use crate::atomic_owned::AtomicOwned;
+use crate::guard::Guard;
 use crate::owned::Owned;
 use crate::ptr::Ptr;
 use sdd_token::Right;
@@ -46,4 +49,31 @@ pub fn slot_of_ptr<T>(ptr: &Ptr<'_, T>) -> Option<u32>
     ensures { result ≡ slot_named ptr.now }
 {
     ptr.slot()
+}
+
+/// The slot of an owner's item.
+pub fn slot_of_owner<T>(owner: &Owned<T>) -> u32
+    ensures { result ≡ slot_of owner.now }
+{
+    owner.slot()
+}
+
+/// A pointer to the item in a slot, which the caller knows not to be retired before the guard's outermost opening.
+pub fn ptr_to<'g, T>(slot: u32, guard: &'g Guard) -> Ptr<'g, T>
+    ensures slot { slot_named result ≡ Some slot }
+    ensures tag { tag_of result ≡ no_tag }
+{
+    Ptr::to(slot, guard)
+}
+
+/// The place of the participant whose guard it is.
+pub fn place_of_guard(guard: &Guard) -> usize
+    ensures { result ≡ place_of guard.now }
+{
+    guard.place()
+}
+
+/// Lets go of a guard whose space is gone.
+pub fn discard_guard(guard: Guard) {
+    guard.discard();
 }

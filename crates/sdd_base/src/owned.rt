@@ -45,6 +45,12 @@ impl<T> Owned<T> {
         right
     }
 
+    pub(crate) fn slot(&self) -> u32
+        ensures { result ≡ slot_of self.now }
+    {
+        self.right.number()
+    }
+
     /// The item's value. Its owner alone can look at it without a guard.
     pub fn get<'a, L: Look<T>>(&'a self, at: &'a L) -> &'a T
         requires home { slots_home self.now ≡ (L.home at.now).slots }

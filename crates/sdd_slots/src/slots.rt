@@ -140,6 +140,19 @@ impl<T> Slots<T> {
         Some(value)
     }
 
+    /// What is kept of the slots' numbers, and the values of all slots, whoever has a right to them.
+    pub fn into_values(self) -> (Rights, Vec<Option<T>>)
+        ensures home { result.0.home ≡ self.home }
+        ensures values { result.1.items ≡ self.values }
+    {
+        let Slots {
+            rights,
+            standings: _,
+            values,
+        } = self;
+        (rights, values)
+    }
+
     fn is_waiting(&self, slot: u32) -> bool
         ensures { IsTrue result ↔ IsWaiting (standing_at self.now slot) }
     {

@@ -40,4 +40,9 @@ impl Right {
     {
         self.number
     }
+
+    /// Lets go of a right whose space is gone.
+    pub fn discard(self) {
+        let Right { number: _, part: _ } = self;
+    }
 }

@@ -1,11 +1,14 @@
 -- What the parts of a world keep true of each other
-use Rattle.std.specs.Prelude.{ℕ, ◌+◌, ◌≤◌, ◌≡◌, List, length, Option, None, sum_by, count_by}
+use Rattle.std.specs.Prelude.{ℕ, ◌+◌, ◌≤◌, ◌≡◌, Bool, false, List, [], length, Option, None, sum_by, count_by}
 use Rattle.sdd_store.specs.Time.{Time}
 use Rattle.sdd_store.specs.Table.{entry_at}
 use Rattle.sdd_slots.specs.Slots.{Slots}
 use Rattle.sdd_slots.specs.Cells.{Cells}
+use Rattle.sdd_token.specs.Units as token
+use Rattle.sdd_base.specs.Seat.{Seat}
 use Rattle.sdd_base.specs.Holding.{Holding, ValuesAreOf}
-use Rattle.sdd_base.specs.World.{waiting_count, is_loose}
+use Rattle.sdd_store.specs.Tally.{no_items}
+use Rattle.sdd_base.specs.World.{World, waiting_count, is_loose}
 use Rattle.sdd_base.specs.Steps.{held_in}
 
 pub record IsSound {T : Type 0} (holds : T → List Holding) (t : Time) (s : Slots T) (c : Cells) : Type 0 where
@@ -13,3 +16,19 @@ pub record IsSound {T : Type 0} (holds : T → List Holding) (t : Time) (s : Slo
   pub reserved : t.room ≡ length s.standings
   pub empty : (k : ℕ) → held_in (entry_at c.cells k) ≡ None
   pub homes : ValuesAreOf holds (record { slots = s.home; cells = c.home }) s.values
+
+-- no world: what a value is given up to once its world is gone
+abbrev pub nowhere : {T : Type 0} → World T
+nowhere =
+    record {
+      home = record { slots = record { name = 0; size = 0 }; cells = record { name = 0; size = 0 } };
+      time = record { count = 0; marked = false; places = []; participants = 0; nesting = 0; room = 0 };
+      standings = [];
+      values = [];
+      cells = [];
+      tally = no_items;
+    }
+
+-- nobody's seat, where slots and cells were of these homes: nothing is said of what a call changes
+abbrev pub seat_nowhere : token.Home → token.Home → Seat
+seat_nowhere slots cells = record { place = 0; places = 1; loan = 0; home = record { slots = slots; cells = cells }; exact = false }

@@ -2,6 +2,7 @@
 #![tactic(auto)]
 
 mod core;
+pub mod inner;
 pub mod turn;
 pub mod world;
 

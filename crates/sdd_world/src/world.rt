@@ -110,6 +110,28 @@ impl<T: Item<T>> World<T> {
         self.core.time()
     }
 
+    /// The slots whose items the next opening of a place reclaims.
+    pub(crate) fn reclaims(&self, place: usize) -> &[u32]
+        requires { IsPlaceOf self.now place }
+        ensures { map Item result.now ≡ reclaims self.now place }
+    {
+        let time = self.core.time();
+        if time.is_open(place) || !time.finds_another(place) {
+            return &[];
+        }
+        time.due(place)
+    }
+
+    /// Lets go of all, whoever still has a right to it.
+    pub(crate) fn dismantle(self) {
+        let World {
+            core,
+            spare: _,
+            alloc: _,
+        } = self;
+        core.dismantle();
+    }
+
     pub(crate) fn value<'a>(&'a self, right: &'a Right) -> &'a T
         requires { home_of right.now ≡ self.now.home.slots }
         ensures { value_at self.now (number_of right.now) ≡ Some result.now }
