@@ -1,7 +1,7 @@
 //! The answers of a script, each of which is a line.
 
 ghost use Rattle.std.specs.Prelude.{◌≡◌, ℕ, List, [], ◌∷◌, ◌++◌, map, Some, OnOk, IfOk, IfErr, string_bytes};
-ghost use Rattle.sdd_lines.specs.Answer.{refusal, ending, text_of, text_of_all};
+ghost use Rattle.sdd_lines.specs.Answer.{refusal, ending, text_of, text_of_all, text_of_fault};
 
 use crate::name::{GuardName, ItemName, JobName, Names, OwnerName, PlaceName};
 use sdd_core::{Epoch, Refused};
@@ -35,11 +35,13 @@ impl fmt::Display for Reply {
     fn fmt<W: fmt::Write>(&self, f: &mut fmt::Formatter<W>) -> fmt::Result {
         match *self {
             Reply::Place(place) => write!(f, "{place}"),
-            Reply::Tally(Tally {
-                made,
-                reclaimed,
-                in_place,
-            }) => write!(f, "made {made} reclaimed {reclaimed} in place {in_place}"),
+            Reply::Tally(
+                Tally {
+                    made,
+                    reclaimed,
+                    in_place,
+                },
+            ) => write!(f, "made {made} reclaimed {reclaimed} in place {in_place}"),
             Reply::Guard(guard, epoch) => write!(f, "{guard} epoch {}", u8::from(epoch)),
             Reply::Epoch(epoch) => write!(f, "{}", u8::from(epoch)),
             Reply::Truth(truth) => write!(f, "{truth}"),
@@ -73,6 +75,17 @@ pub fn print_all(alloc: Global, answers: &[Answer]) -> Result<Vec<u8>, Refused>
     for answer in answers {
         push_answer(&mut text, answer)?;
     }
+    Ok(text.into_bytes())
+}
+
+/// The text that tells that the line with this number, counted from 1, is the first that is no call.
+///
+/// Refused with `NoMemory` alone.
+pub fn print_fault(alloc: Global, line: u64) -> Result<Vec<u8>, Refused>
+    ensures text { IfOk result (λ bytes. bytes.items ≡ text_of_fault line) }
+    ensures err { IfErr result (λ refused. refused ≡ Refused.NoMemory) }
+{
+    let text = format!(in alloc; "line {line}: not a call\n")?;
     Ok(text.into_bytes())
 }
 

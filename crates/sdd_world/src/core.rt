@@ -1,4 +1,4 @@
-ghost use Rattle.std.specs.Prelude.{◌≡◌, ℕ, ◌+◌, ◌<◌, ◌≤◌, List, [], map, length, vec_capacity, Some, None, Option, IsSome, MatchOption, MatchResult, IfOk, option_copied, ◌⊎◌};
+ghost use Rattle.std.specs.Prelude.{◌≡◌, ℕ, ◌+◌, ◌<◌, ◌≤◌, List, [], map, length, vec_capacity, Some, None, Option, IsSome, MatchOption, MatchResult, IfOk, option_copied, ◌⊎◌, ◌↔◌};
 ghost use Rattle.sdd_core.specs.Epoch.{epoch_of};
 ghost use Rattle.sdd_token.specs.Right.{number_of, home_of};
 ghost use Rattle.sdd_store.specs.Waiting.{What};
@@ -261,7 +261,8 @@ impl<T: Item<T>> Core<T> {
 
     /// The value in a slot, if one is there.
     pub fn look(&self, slot: u32) -> Option<&T>
-        ensures { option_copied result ≡ value_at self.now slot }
+        ensures value { option_copied result ≡ value_at self.now slot }
+        ensures taken { IsSome result ↔ IsSome (standing_at self.now slot) }
     {
         self.slots.look(slot)
     }

@@ -1,5 +1,5 @@
 ghost use Rattle.std.specs.Prelude.{◌≡◌, ℕ, Some, MatchOption, IsSome};
-ghost use Rattle.sdd_base.specs.World.{World, IsPlaceOf, place_at, value_at};
+ghost use Rattle.sdd_base.specs.World.{World, IsPlaceOf, place_at, standing_at, value_at};
 ghost use Rattle.sdd_world.specs.Place.{index_of};
 ghost use Rattle.sdd_base.specs.Seat.{seat_on, IsSeated, IsExact};
 ghost use Rattle.sdd_base.specs.Steps.{retired, cell_closed};
@@ -45,20 +45,20 @@ impl<T: Item<T>> World<T> {
 
 impl<T: Item<T>> Look<T> for World<T> {
     ghost use Rattle.std.specs.Prelude.{◌≡◌, Some, IsSome};
-    ghost use Rattle.sdd_base.specs.World.{value_at};
+    ghost use Rattle.sdd_base.specs.World.{standing_at, value_at};
 
     ghost home = { λ w. w.home };
 
     ghost shows = { λ w k value. value_at w k ≡ Some value };
 
-    ghost filled = { λ w k. IsSome (value_at w k) };
+    ghost filled = { λ w k. IsSome (standing_at w k) };
 
     fn value<'a>(&'a self, right: &'a Right) -> &'a T {
         World::value(self, right)
     }
 
     fn look<'g>(&'g self, ptr: Ptr<'g, T>) -> Option<&'g T>
-        requires filled { NamesFilled (λ k. IsSome (value_at self.now k)) ptr }
+        requires filled { NamesFilled (λ k. IsSome (standing_at self.now k)) ptr }
         ensures null { MatchOption result (IsNull ptr.entry) (λ value. NamesShown (λ k v. value_at self.now k ≡ Some v) ptr.entry value.now) }
     {
         let slot = inner::slot_of_ptr(&ptr)?;
@@ -68,20 +68,20 @@ impl<T: Item<T>> Look<T> for World<T> {
 
 impl<T: Item<T>> Look<T> for Turn<'_, T> {
     ghost use Rattle.std.specs.Prelude.{◌≡◌, Some, IsSome};
-    ghost use Rattle.sdd_base.specs.World.{value_at};
+    ghost use Rattle.sdd_base.specs.World.{standing_at, value_at};
 
     ghost home = { λ t. t.world.now.home };
 
     ghost shows = { λ t k value. value_at t.world.now k ≡ Some value };
 
-    ghost filled = { λ t k. IsSome (value_at t.world.now k) };
+    ghost filled = { λ t k. IsSome (standing_at t.world.now k) };
 
     fn value<'a>(&'a self, right: &'a Right) -> &'a T {
         self.world.value(right)
     }
 
     fn look<'g>(&'g self, ptr: Ptr<'g, T>) -> Option<&'g T>
-        requires filled { NamesFilled (λ k. IsSome (value_at self.now.world.now k)) ptr }
+        requires filled { NamesFilled (λ k. IsSome (standing_at self.now.world.now k)) ptr }
         ensures null { MatchOption result (IsNull ptr.entry) (λ value. NamesShown (λ k v. value_at self.now.world.now k ≡ Some v) ptr.entry value.now) }
     {
         let slot = inner::slot_of_ptr(&ptr)?;

@@ -141,7 +141,7 @@ impl<T: Item<T>> World<T> {
 
     /// The value in a slot that isn't free.
     pub(crate) fn shown(&self, slot: u32) -> &T
-        requires { IsSome (value_at self.now slot) }
+        requires { IsSome (standing_at self.now slot) }
         ensures { value_at self.now slot ≡ Some result.now }
     {
         let Some(value) = self.core.look(slot) else {

@@ -3,10 +3,10 @@ use crate::script::item::{Fate, ItemState};
 use crate::script::val::Val;
 use sdd_base::inner;
 use sdd_base::{AtomicOwned, Guard, Limits, Owned, Ptr};
-use sdd_core::{Epoch, Refused};
+use sdd_core::Refused;
 use sdd_lines::{Action, Answer, Call, GuardName, ItemName, Names, OwnerName, PlaceName, Reply};
-use sdd_store::Tally;
-use sdd_world::{Place, Turn, World};
+use sdd_world::inner::{dismantle, is_open, reclaims_next};
+use sdd_world::{Place, World};
 use std::alloc::{AllocError, Global};
 
 /// An owner of a script, and the name of its item.
@@ -41,11 +41,17 @@ impl Stage {
         }
         let places = Vec::with_capacity(alloc, calls)?;
         let openings = Vec::with_capacity(alloc, calls)?;
-        let guards = Vec::with_capacity(alloc, calls)?;
-        let owners = Vec::with_capacity(alloc, calls)?;
         let items = Vec::with_capacity(alloc, calls)?;
         let names = vec![in alloc; 0; limits.slots as usize]?;
-        let world = World::new(alloc, limits)?;
+        let (guards, owners) = empty_desk(alloc, calls)?;
+        let world = match World::new(alloc, limits) {
+            Ok(world) => world,
+            Err(refused) => {
+                guards.destroy_empty();
+                owners.destroy_empty();
+                return Err(refused);
+            }
+        };
         Ok(Stage {
             world,
             alloc,
@@ -58,6 +64,25 @@ impl Stage {
             items,
             names,
         })
+    }
+
+    /// Lets go of all.
+    pub fn dismantle(self) {
+        let Stage {
+            world,
+            alloc: _,
+            moment: _,
+            calls: _,
+            places: _,
+            openings: _,
+            guards,
+            owners,
+            items: _,
+            names: _,
+        } = self;
+        discard_guards(guards);
+        discard_owners(owners);
+        dismantle(world);
     }
 
     /// One call; `NoMemory` alone leaves it undone.
@@ -122,5 +147,243 @@ impl Stage {
             Action::Close(guard) => self.close_guard(place, *guard),
             _ => Reply::Invalid,
         }
+    }
+
+    /// The names of the items that the next opening of a participant reclaims, in ascending order.
+    fn names_to_go(&self, place: usize) -> Result<Names<ItemName>, AllocError> {
+        let slots = reclaims_next(&self.world, &self.places[place]);
+        let mut names = Vec::with_capacity(self.alloc, slots.len())?;
+        for slot in slots {
+            names.push_reserved(ItemName(self.names[*slot as usize]));
+        }
+        names.sort_unstable();
+        Ok(Names::of(names))
+    }
+
+    fn open(&mut self, place: usize) -> Result<Answer, AllocError> {
+        let reclaimed = self.names_to_go(place)?;
+        let is_nested = is_open(&self.world, &self.places[place]);
+        let mut turn = self.world.at(&self.places[place]);
+        let guard = match Guard::new(&mut turn) {
+            Ok(guard) => guard,
+            Err(refused) => {
+                drop(turn);
+                return Ok(self.answer(Reply::Refused(refused)));
+            }
+        };
+        let epoch = guard.epoch(&turn);
+        drop(turn);
+        if !is_nested {
+            self.openings[place] = self.moment;
+        }
+        for name in reclaimed.as_slice() {
+            self.items[name.0 as usize].fate = Fate::Gone;
+        }
+        let name = GuardName(self.guards.len() as u64);
+        self.guards.push_reserved(Some(guard));
+        Ok(Answer {
+            reply: Reply::Guard(name, epoch),
+            reclaimed,
+            ran: Names::new(self.alloc),
+        })
+    }
+
+    fn epoch(&mut self, place: usize, name: GuardName) -> Reply {
+        let Some(guard) = open_guard(self.guards.as_slice(), place, name) else {
+            return Reply::Invalid;
+        };
+        let turn = self.world.at(&self.places[place]);
+        Reply::Epoch(guard.epoch(&turn))
+    }
+
+    fn garbage(&mut self, place: usize, name: GuardName) -> Reply {
+        let Some(guard) = open_guard(self.guards.as_slice(), place, name) else {
+            return Reply::Invalid;
+        };
+        let turn = self.world.at(&self.places[place]);
+        Reply::Truth(guard.has_garbage(&turn))
+    }
+
+    fn set(&mut self, place: usize, name: GuardName) -> Reply {
+        let Some(guard) = open_guard(self.guards.as_slice(), place, name) else {
+            return Reply::Invalid;
+        };
+        let mut turn = self.world.at(&self.places[place]);
+        guard.set_has_garbage(&mut turn);
+        Reply::Done
+    }
+
+    fn accelerate(&mut self, place: usize, name: GuardName) -> Reply {
+        let Some(guard) = open_guard(self.guards.as_slice(), place, name) else {
+            return Reply::Invalid;
+        };
+        let mut turn = self.world.at(&self.places[place]);
+        guard.accelerate(&mut turn);
+        Reply::Done
+    }
+
+    fn close_guard(&mut self, place: usize, name: GuardName) -> Reply {
+        if open_guard(self.guards.as_slice(), place, name).is_none() {
+            return Reply::Invalid;
+        }
+        let Some(guard) = self.guards[name.0 as usize].take() else {
+            return Reply::Invalid;
+        };
+        let mut turn = self.world.at(&self.places[place]);
+        guard.close(&mut turn);
+        Reply::Done
+    }
+
+    fn make(&mut self, place: usize, number: u64) -> Reply {
+        let mut turn = self.world.at(&self.places[place]);
+        let link = match AtomicOwned::null(&mut turn) {
+            Ok(link) => link,
+            Err(refused) => return Reply::Refused(refused),
+        };
+        match Owned::new(Val::new(number, link), &mut turn) {
+            Ok(owner) => {
+                drop(turn);
+                self.name_item(owner)
+            }
+            Err((value, refused)) => {
+                value.into_link().close(&mut turn);
+                Reply::Refused(refused)
+            }
+        }
+    }
+
+    /// An owner and its item get their names.
+    fn name_item(&mut self, owner: Owned<Val>) -> Reply {
+        let slot = inner::slot_of_owner(&owner);
+        let item = self.items.len() as u64;
+        let name = OwnerName(self.owners.len() as u64);
+        self.names[slot as usize] = item;
+        self.items.push_reserved(ItemState {
+            slot,
+            fate: Fate::Out,
+        });
+        self.owners.push_reserved(Some(Held { owner, item }));
+        Reply::Item(name, ItemName(item))
+    }
+
+    fn read(&self, name: OwnerName) -> Reply {
+        let Some(held) = held_by(self.owners.as_slice(), name) else {
+            return Reply::Invalid;
+        };
+        Reply::Value(held.owner.get(&self.world).body())
+    }
+
+    fn retire(&mut self, place: usize, name: OwnerName) -> Reply {
+        if held_by(self.owners.as_slice(), name).is_none() {
+            return Reply::Invalid;
+        }
+        let Some(held) = self.owners[name.0 as usize].take() else {
+            return Reply::Invalid;
+        };
+        let Held { owner, item } = held;
+        self.items[item as usize].fate = Fate::Retired(self.moment);
+        let mut turn = self.world.at(&self.places[place]);
+        owner.retire(&mut turn);
+        Reply::Done
+    }
+
+    fn look(&self, place: usize, item: ItemName, name: GuardName) -> Reply {
+        let Some(guard) = open_guard(self.guards.as_slice(), place, name) else {
+            return Reply::Invalid;
+        };
+        let Some(slot) = self.slot_since(item, self.openings[place]) else {
+            return Reply::Invalid;
+        };
+        let ptr: Ptr<'_, Val> = inner::ptr_to(slot, guard);
+        match ptr.as_ref(&self.world) {
+            Some(value) => Reply::Value(value.body()),
+            None => Reply::Invalid,
+        }
+    }
+
+    /// The slot of an item that was not retired before this moment.
+    fn slot_since(&self, name: ItemName, moment: u64) -> Option<u32> {
+        let state = self.items.get(usize::try_from(name.0).ok()?)?;
+        match state.fate {
+            Fate::Out => Some(state.slot),
+            Fate::Retired(at) if moment <= at => Some(state.slot),
+            Fate::Retired(_) | Fate::Gone => None,
+        }
+    }
+}
+
+/// Room for that many guards and owners.
+fn empty_desk(
+    alloc: Global,
+    calls: usize,
+) -> Result<(Vec<Option<Guard>>, Vec<Option<Held>>), AllocError> {
+    let guards = Vec::with_capacity(alloc, calls)?;
+    match Vec::with_capacity(alloc, calls) {
+        Ok(owners) => Ok((guards, owners)),
+        Err(error) => {
+            guards.destroy_empty();
+            Err(error)
+        }
+    }
+}
+
+/// The guard of this name, if it is open and the participant's.
+fn open_guard(guards: &[Option<Guard>], place: usize, name: GuardName) -> Option<&Guard> {
+    let index = usize::try_from(name.0).ok()?;
+    let guard = guards.get(index)?.as_ref()?;
+    if inner::place_of_guard(guard) == place {
+        Some(guard)
+    } else {
+        None
+    }
+}
+
+/// The owner of this name, if it isn't spent.
+fn held_by(owners: &[Option<Held>], name: OwnerName) -> Option<&Held> {
+    let index = usize::try_from(name.0).ok()?;
+    owners.get(index)?.as_ref()
+}
+
+/// Guards go, whose world goes.
+fn discard_guards(mut guards: Vec<Option<Guard>>) {
+    while let Some(guard) = guards.pop() {
+        if let Some(guard) = guard {
+            inner::discard_guard(guard);
+        }
+    }
+    guards.destroy_empty();
+}
+
+/// Owners go, whose world goes.
+fn discard_owners(mut owners: Vec<Option<Held>>) {
+    while let Some(held) = owners.pop() {
+        if let Some(Held { owner, item: _ }) = held {
+            inner::right_of_owner(owner).discard();
+        }
+    }
+    owners.destroy_empty();
+}
+
+#[cfg(test)]
+mod tests {
+    use super::*;
+    use std::test::Fail;
+
+    const LIMITS: Limits = Limits { participants: 8, slots: 64, cells: 128, jobs: 8, nesting: 8, tries: 1 };
+
+    #[test]
+    fn the_shortest_way(rt: HostRuntime) -> Result<(), Fail> {
+        let mut stage = Stage::new(rt.alloc(), LIMITS, 20)?;
+        let p = PlaceName(0);
+        let calls = [Call::Register, Call::At(p, Action::Owned(7)), Call::At(p, Action::Retire(OwnerName(0))),
+            Call::At(p, Action::Open), Call::At(p, Action::Accelerate(GuardName(0))), Call::At(p, Action::Close(GuardName(0))),
+            Call::At(p, Action::Open), Call::At(p, Action::Accelerate(GuardName(1))), Call::At(p, Action::Close(GuardName(1))),
+            Call::At(p, Action::Open), Call::At(p, Action::Accelerate(GuardName(2))), Call::At(p, Action::Close(GuardName(2))),
+            Call::At(p, Action::Open), Call::At(p, Action::Garbage(GuardName(3))), Call::Tally];
+        for call in &calls {
+            match stage.step(call) { Ok(answer) => { let _ = println!(rt; "{answer:?}"); } Err(_) => {} }
+        }
+        stage.dismantle();
+        Ok(())
     }
 }

@@ -1,4 +1,4 @@
-use Rattle.std.proofs.Common.{◌≡◌, ℕ, ◌<◌, ◌≤◌, true, length, get_or, Some, None, inl, inr, sym, ◌∙◌, lit<, arith, rules}
+use Rattle.std.proofs.Common.{◌≡◌, ◌≤◌, length, get_or, inl, inr, sym, ◌∙◌, lit<}
 use Rattle.std.proofs.lemmas.Bool.{both_ways, cases_lt}
 use Rattle.std.proofs.lemmas.Str.Pattern.{starts_char}
 use Rattle.std.proofs.lemmas.Str.Parse.{parse_plain}
@@ -8,9 +8,9 @@ use Rattle.sdd_lines.proofs.call.reading.number.Goals.{then-starts_with-via-then
 
 pub returns-then-starts_with : goal.returns-then-starts_with
 returns-then-starts_with c = elim c.then-starts_with.branch [
-    then-starts_with-via-then-starts_with w ↦ sym (number_at-signed c.args.word.now ((starts_char 43 c.args.word.now c.starts_with.result c.starts_with.ensures.cases (lit< tt) (lit< tt)).0 w.if-starts_with.true))
-    | then-starts_with-via-else-starts_with+then-has_leading_zero w ↦ (let zero = w.has_leading_zero.ensures.0 w.if-has_leading_zero.true in sym (number_at-zero_led c.args.word.now zero.0 zero.1))
-    ]
+  | then-starts_with-via-then-starts_with w ↦ sym (number_at-signed c.args.word.now ((starts_char 43 c.args.word.now c.starts_with.result c.starts_with.ensures.cases (lit< tt) (lit< tt)).0 w.if-starts_with.true))
+  | then-starts_with-via-else-starts_with+then-has_leading_zero w ↦ (let zero = w.has_leading_zero.ensures.0 w.if-has_leading_zero.true in sym (number_at-zero_led c.args.word.now zero.0 zero.1))
+]
 
 pub returns : goal.returns
 returns c =
