@@ -2,4 +2,6 @@ pub mod Val
 pub mod Desk
 pub mod Script
 pub mod Due
+pub mod Opened
+pub mod Sound
 pub mod Stage

@@ -2,21 +2,17 @@
 use Rattle.std.specs.Prelude.{ℕ, ◌+◌, ◌<◌, ◌≤◌, ◌≡◌, List, Option, Some, None, map, length, slice_index_or, slice_index, vec_len, vec_capacity}
 use Rattle.std.specs.Option.{option_map}
 use Rattle.sdd_token.specs.Units as token
-use Rattle.sdd_base.specs.Guard.{place_of}
 use Rattle.sdd_base.specs.Owned.{slot_of, slots_home}
-use Rattle.sdd_base.specs.declared.guard.Guard.{Guard}
 use Rattle.sdd_world.specs.Place.{index_of}
 use Rattle.sdd_world.specs.declared.world.Place.{Place}
 use Rattle.sdd.specs.Desk.{Desk, nothing}
+use Rattle.sdd.specs.Opened.{guard_place}
+use Rattle.sdd.specs.Sound.{IsThere}
 use Rattle.sdd.specs.declared.script.item.Fate.{Fate}
 use Rattle.sdd.specs.declared.script.item.Fate.TheVariants.{Out, Retired, Gone}
 use Rattle.sdd.specs.declared.script.item.ItemState.{ItemState}
 use Rattle.sdd.specs.declared.script.stage.Held.{Held}
 use Rattle.sdd.specs.declared.script.stage.Stage.{Stage}
-
-abbrev pub guard_place : Option Guard → Option ℕ
-guard_place None = None
-guard_place (Some guard) = Some (place_of guard)
 
 abbrev pub held_item : Option Held → Option ℕ
 held_item None = None
@@ -32,12 +28,6 @@ desk_of s =
       owners = map held_item s.owners.items;
       items = s.items.items;
     }
-
--- the item was not reclaimed
-abbrev pub IsThere : Fate → Type 0
-IsThere Out = Unit {0}
-IsThere (Retired at) = Unit {0}
-IsThere Gone = ⊥
 
 -- the places are numbered from 0 on
 abbrev pub AreNumbered : List Place → Type 0
@@ -61,24 +51,29 @@ abbrev pub AreNamed : List ItemState → List ℕ → Type 0
 AreNamed items names =
     (i : ℕ) → IsThere (slice_index_or items i nothing).fate → slice_index names (slice_index_or items i nothing).slot ≡ i
 
--- there is room for the names of the calls to come
-pub record HasRoom (s : Stage) : Type 0 where
-  pub places : vec_len s.places ≤ s.moment
-  pub guards : vec_len s.guards ≤ s.moment
-  pub owners : vec_len s.owners ≤ s.moment
-  pub items : vec_len s.items ≤ s.moment
+-- that many calls were made, and there is room for the names of those to come
+pub record HasRoom (made : ℕ) (s : Stage) : Type 0 where
+  pub places : vec_len s.places ≤ made
+  pub guards : vec_len s.guards ≤ made
+  pub owners : vec_len s.owners ≤ made
+  pub items : vec_len s.items ≤ made
   pub place_room : s.calls ≤ vec_capacity s.places
   pub opening_room : s.calls ≤ vec_capacity s.openings
   pub guard_room : s.calls ≤ vec_capacity s.guards
   pub owner_room : s.calls ≤ vec_capacity s.owners
   pub item_room : s.calls ≤ vec_capacity s.items
 
--- what a stage has in hand is what its desk says
-pub record IsTied (s : Stage) : Type 0 where
+-- the moment and the room are as before
+pub record KeepsLimits (old new : Stage) : Type 0 where
+  pub moment : new.moment ≡ old.moment
+  pub calls : new.calls ≡ old.calls
+
+-- what a stage has in hand after that many calls is what its desk says
+pub record IsTied (made : ℕ) (s : Stage) : Type 0 where
   pub places : AreNumbered s.places.items
   pub taken : vec_len s.places ≡ length s.world.time.places
   pub opened : vec_len s.openings ≡ vec_len s.places
   pub owners : AreOwners s.world.home.slots s.items.items s.owners.items
   pub names : AreNamed s.items.items s.names.items
   pub slots : vec_len s.names ≡ length s.world.standings
-  pub room : HasRoom s
+  pub room : HasRoom made s

@@ -1,4 +1,10 @@
 //! The world of a script in the middle of a run, with what its names stand for.
+ghost use Rattle.std.specs.Prelude.{◌≡◌, ℕ, ◌+◌, ◌<◌, ◌≤◌, ◌↔◌, [], List, IfOk, IfSome, IsSome, IsNone, None, Some, MatchOption, MatchResult, length, map, slice_index_or, option_copied};
+ghost use Rattle.sdd_base.specs.Guard.{place_of};
+ghost use Rattle.sdd_base.specs.World.{IsNew};
+ghost use Rattle.sdd_lines.specs.declared.name.ItemName.{ItemName};
+ghost use Rattle.sdd.specs.Opened.{guard_place};
+
 use crate::script::item::{Fate, ItemState};
 use crate::script::val::Val;
 use sdd_base::inner;
@@ -34,6 +40,11 @@ pub struct Stage {
 }
 
 impl Stage {
+    ghost use Rattle.sdd.specs.Desk.{Desk, IsPlace, IsGuardOf, IsOwnerOf, CanPointTo, item_at};
+    ghost use Rattle.sdd.specs.Script.{Does, Meets, Step, IsValid, AreReclaimed, later};
+    ghost use Rattle.sdd.specs.Stage.{desk_of, guard_place, held_item, IsTied, KeepsLimits};
+    ghost use Rattle.sdd.specs.Sound.{IsSound};
+
     /// A new world, and room for the names of that many calls.
     pub fn new(alloc: Global, limits: Limits, calls: usize) -> Result<Stage, Refused> {
         if !limits.are_in_range() {
@@ -129,7 +140,7 @@ impl Stage {
         }
         let reply = match action {
             Action::Owned(number) => self.make(place, *number),
-            Action::Read(owner) => self.read(*owner),
+            Action::Read(owner) => self.read(place, *owner),
             Action::Retire(owner) => self.retire(place, *owner),
             other => self.act_under(place, other),
         };
@@ -188,7 +199,15 @@ impl Stage {
         })
     }
 
-    fn epoch(&mut self, place: usize, name: GuardName) -> Reply {
+    fn epoch(&mut self, place: usize, name: GuardName) -> Reply
+        requires tied { IsTied self.old.moment self.old }
+        requires sound { IsSound (desk_of self.old) }
+        requires place { place < length self.old.world.time.places }
+        requires more { self.old.moment < self.old.calls }
+        ensures tied { IsTied (self.old.moment + 1) self.new }
+        ensures limits { KeepsLimits self.old self.new }
+        ensures does { Meets (desk_of self.old) (Call.At (record { 0 = place }) (Action.Epoch name)) result [] (desk_of self.new) }
+    {
         let Some(guard) = open_guard(self.guards.as_slice(), place, name) else {
             return Reply::Invalid;
         };
@@ -196,7 +215,15 @@ impl Stage {
         Reply::Epoch(guard.epoch(&turn))
     }
 
-    fn garbage(&mut self, place: usize, name: GuardName) -> Reply {
+    fn garbage(&mut self, place: usize, name: GuardName) -> Reply
+        requires tied { IsTied self.old.moment self.old }
+        requires sound { IsSound (desk_of self.old) }
+        requires place { place < length self.old.world.time.places }
+        requires more { self.old.moment < self.old.calls }
+        ensures tied { IsTied (self.old.moment + 1) self.new }
+        ensures limits { KeepsLimits self.old self.new }
+        ensures does { Meets (desk_of self.old) (Call.At (record { 0 = place }) (Action.Garbage name)) result [] (desk_of self.new) }
+    {
         let Some(guard) = open_guard(self.guards.as_slice(), place, name) else {
             return Reply::Invalid;
         };
@@ -204,7 +231,15 @@ impl Stage {
         Reply::Truth(guard.has_garbage(&turn))
     }
 
-    fn set(&mut self, place: usize, name: GuardName) -> Reply {
+    fn set(&mut self, place: usize, name: GuardName) -> Reply
+        requires tied { IsTied self.old.moment self.old }
+        requires sound { IsSound (desk_of self.old) }
+        requires place { place < length self.old.world.time.places }
+        requires more { self.old.moment < self.old.calls }
+        ensures tied { IsTied (self.old.moment + 1) self.new }
+        ensures limits { KeepsLimits self.old self.new }
+        ensures does { Meets (desk_of self.old) (Call.At (record { 0 = place }) (Action.Set name)) result [] (desk_of self.new) }
+    {
         let Some(guard) = open_guard(self.guards.as_slice(), place, name) else {
             return Reply::Invalid;
         };
@@ -213,7 +248,15 @@ impl Stage {
         Reply::Done
     }
 
-    fn accelerate(&mut self, place: usize, name: GuardName) -> Reply {
+    fn accelerate(&mut self, place: usize, name: GuardName) -> Reply
+        requires tied { IsTied self.old.moment self.old }
+        requires sound { IsSound (desk_of self.old) }
+        requires place { place < length self.old.world.time.places }
+        requires more { self.old.moment < self.old.calls }
+        ensures tied { IsTied (self.old.moment + 1) self.new }
+        ensures limits { KeepsLimits self.old self.new }
+        ensures does { Meets (desk_of self.old) (Call.At (record { 0 = place }) (Action.Accelerate name)) result [] (desk_of self.new) }
+    {
         let Some(guard) = open_guard(self.guards.as_slice(), place, name) else {
             return Reply::Invalid;
         };
@@ -222,7 +265,15 @@ impl Stage {
         Reply::Done
     }
 
-    fn close_guard(&mut self, place: usize, name: GuardName) -> Reply {
+    fn close_guard(&mut self, place: usize, name: GuardName) -> Reply
+        requires tied { IsTied self.old.moment self.old }
+        requires sound { IsSound (desk_of self.old) }
+        requires place { place < length self.old.world.time.places }
+        requires more { self.old.moment < self.old.calls }
+        ensures tied { IsTied (self.old.moment + 1) self.new }
+        ensures limits { KeepsLimits self.old self.new }
+        ensures does { Meets (desk_of self.old) (Call.At (record { 0 = place }) (Action.Close name)) result [] (desk_of self.new) }
+    {
         if open_guard(self.guards.as_slice(), place, name).is_none() {
             return Reply::Invalid;
         }
@@ -234,7 +285,15 @@ impl Stage {
         Reply::Done
     }
 
-    fn make(&mut self, place: usize, number: u64) -> Reply {
+    fn make(&mut self, place: usize, number: u64) -> Reply
+        requires tied { IsTied self.old.moment self.old }
+        requires sound { IsSound (desk_of self.old) }
+        requires place { place < length self.old.world.time.places }
+        requires more { self.old.moment < self.old.calls }
+        ensures tied { IsTied (self.old.moment + 1) self.new }
+        ensures limits { KeepsLimits self.old self.new }
+        ensures does { Meets (desk_of self.old) (Call.At (record { 0 = place }) (Action.Owned number)) result [] (desk_of self.new) }
+    {
         let mut turn = self.world.at(&self.places[place]);
         let link = match AtomicOwned::null(&mut turn) {
             Ok(link) => link,
@@ -266,14 +325,30 @@ impl Stage {
         Reply::Item(name, ItemName(item))
     }
 
-    fn read(&self, name: OwnerName) -> Reply {
+    fn read(&mut self, place: usize, name: OwnerName) -> Reply
+        requires tied { IsTied self.old.moment self.old }
+        requires sound { IsSound (desk_of self.old) }
+        requires place { place < length self.old.world.time.places }
+        requires more { self.old.moment < self.old.calls }
+        ensures tied { IsTied (self.old.moment + 1) self.new }
+        ensures limits { KeepsLimits self.old self.new }
+        ensures does { Meets (desk_of self.old) (Call.At (record { 0 = place }) (Action.Read name)) result [] (desk_of self.new) }
+    {
         let Some(held) = held_by(self.owners.as_slice(), name) else {
             return Reply::Invalid;
         };
         Reply::Value(held.owner.get(&self.world).body())
     }
 
-    fn retire(&mut self, place: usize, name: OwnerName) -> Reply {
+    fn retire(&mut self, place: usize, name: OwnerName) -> Reply
+        requires tied { IsTied self.old.moment self.old }
+        requires sound { IsSound (desk_of self.old) }
+        requires place { place < length self.old.world.time.places }
+        requires more { self.old.moment < self.old.calls }
+        ensures tied { IsTied (self.old.moment + 1) self.new }
+        ensures limits { KeepsLimits self.old self.new }
+        ensures does { Meets (desk_of self.old) (Call.At (record { 0 = place }) (Action.Retire name)) result [] (desk_of self.new) }
+    {
         if held_by(self.owners.as_slice(), name).is_none() {
             return Reply::Invalid;
         }
@@ -287,7 +362,15 @@ impl Stage {
         Reply::Done
     }
 
-    fn look(&self, place: usize, item: ItemName, name: GuardName) -> Reply {
+    fn look(&mut self, place: usize, item: ItemName, name: GuardName) -> Reply
+        requires tied { IsTied self.old.moment self.old }
+        requires sound { IsSound (desk_of self.old) }
+        requires place { place < length self.old.world.time.places }
+        requires more { self.old.moment < self.old.calls }
+        ensures tied { IsTied (self.old.moment + 1) self.new }
+        ensures limits { KeepsLimits self.old self.new }
+        ensures does { Meets (desk_of self.old) (Call.At (record { 0 = place }) (Action.Look item name)) result [] (desk_of self.new) }
+    {
         let Some(guard) = open_guard(self.guards.as_slice(), place, name) else {
             return Reply::Invalid;
         };
@@ -328,7 +411,10 @@ fn empty_desk(
 }
 
 /// The guard of this name, if it is open and the participant's.
-fn open_guard(guards: &[Option<Guard>], place: usize, name: GuardName) -> Option<&Guard> {
+fn open_guard(guards: &[Option<Guard>], place: usize, name: GuardName) -> Option<&Guard>
+    ensures open { IsSome result ↔ (slice_index_or (map guard_place guards.now) name.0 None ≡ Some place) }
+    ensures place { IfSome result (λ guard. place_of guard.now ≡ place) }
+{
     let index = usize::try_from(name.0).ok()?;
     let guard = guards.get(index)?.as_ref()?;
     if inner::place_of_guard(guard) == place {
@@ -339,7 +425,9 @@ fn open_guard(guards: &[Option<Guard>], place: usize, name: GuardName) -> Option
 }
 
 /// The owner of this name, if it isn't spent.
-fn held_by(owners: &[Option<Held>], name: OwnerName) -> Option<&Held> {
+fn held_by(owners: &[Option<Held>], name: OwnerName) -> Option<&Held>
+    ensures { option_copied result ≡ slice_index_or owners.now name.0 None }
+{
     let index = usize::try_from(name.0).ok()?;
     owners.get(index)?.as_ref()
 }
