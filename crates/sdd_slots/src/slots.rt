@@ -174,7 +174,10 @@ mod tests {
         let seen = slots.look(right.number()).copied();
         let early = slots.reclaim(right.number());
         let full = match slots.make(8) {
-            Ok(second) => slots.reclaim(slots.retire(second)),
+            Ok(second) => {
+                let slot = slots.retire(second);
+                slots.reclaim(slot)
+            }
             Err(back) => Some(back),
         };
         let slot = slots.retire(right);
