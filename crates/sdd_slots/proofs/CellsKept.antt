@@ -1,24 +1,14 @@
 -- What is kept of one cell, where it changes
-use Rattle.std.proofs.Common.{◌≡◌, ℕ, List, length, slice_index_or, slice_set, sym, ◌∙◌, ap, refl, Option, None, Some, true}
-use Rattle.std.specs.Prelude.{map, is_some, IsSome}
-use Rattle.std.proofs.Math.ListN.{get_or-map, length-set, replicate}
+use Rattle.std.proofs.Common.{◌≡◌, ℕ, List, slice_set, sym, ◌∙◌, ap, Option, None}
+use Rattle.std.proofs.Math.ListN.{length-set, replicate}
 use Rattle.std.proofs.lemmas.List.{map-set, length-replicate}
 use Rattle.sdd_token.specs.Units.{Home}
-use Rattle.sdd_token.specs.Rights.{Kept, whole, owned}
+use Rattle.sdd_token.specs.Rights.{Kept, whole}
 use Rattle.sdd_token.specs.declared.right.Kind.TheVariants as kind
 use Rattle.sdd_store.specs.Table.{Entries}
 use Rattle.sdd_store.specs.declared.standing.Cell.{Cell}
 use Rattle.sdd_slots.proofs.SlotsKept.{map-replicate}
 use Rattle.sdd_slots.specs.Cells.{AreKept, kept_of_cell}
-
--- what is kept of a number is what its cell says
-pub cell-there : {home : Home} {kept : List Kept} {cells : Entries Cell} (k : ℕ) → AreKept home kept cells → slice_index_or kept k (whole kind.Free) ≡ kept_of_cell (slice_index_or cells k None)
-cell-there {home} {kept} {cells} k a = ap (λ (ks : List Kept). slice_index_or ks k (whole kind.Free)) a.told ∙ get_or-map kept_of_cell cells k None
-
--- only a taken cell is kept as owned
-pub taken-only : (c : Option Cell) → kept_of_cell c ≡ owned → IsSome c
-taken-only None e = absurd (let k : kind.Free ≡ kind.Owned = ap (λ (x : Kept). x.kind) e in cc)
-taken-only (Some c) e = refl
 
 -- a cell changes
 pub cells-keep : {home : Home} {kept : List Kept} {cells : Entries Cell} (k : ℕ) (c : Option Cell) → AreKept home kept cells → AreKept home (slice_set kept k (kept_of_cell c)) (slice_set cells k c)

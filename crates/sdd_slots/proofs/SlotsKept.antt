@@ -1,17 +1,18 @@
 -- What is kept of one slot, where it changes
-use Rattle.std.proofs.Common.{◌≡◌, ℕ, List, length, slice_index_or, slice_set, sym, ◌∙◌, ap, refl, Option, None, Some, Bool, true, false, [], ◌∷◌, arith, zero}
+use Rattle.std.proofs.Common.{◌≡◌, ℕ, List, length, slice_index_or, slice_set, sym, ◌∙◌, ap, refl, Option, None, Some, Bool, false, [], ◌∷◌, arith, zero}
 use Rattle.std.specs.Prelude.{map, is_some, IsSome, ◌<◌, suc}
 use Rattle.std.proofs.Math.ListN.{get_or-map, length-set, replicate}
 use Rattle.std.proofs.Math.Seq.{map-set_same}
 use Rattle.std.proofs.lemmas.List.{map-set, get_or_read, length-map, length-replicate}
 use Rattle.sdd_token.specs.Units.{Home}
-use Rattle.sdd_token.specs.Rights.{Kept, whole, owned}
+use Rattle.sdd_token.specs.Rights.{Kept, whole}
 use Rattle.sdd_token.specs.declared.right.Kind.TheVariants as kind
 use Rattle.sdd_store.specs.Table.{Entries}
 use Rattle.sdd_store.specs.declared.standing.Standing.{Standing}
 use Rattle.sdd_store.specs.declared.standing.Standing.TheVariants.{Owned, Raw, Shared, Retired, Private}
 use Rattle.sdd_slots.specs.Slots.{AreKept, kept_of}
 
+-- each of the same, mapped
 pub map-replicate : {X Y : Type 0} (f : X → Y) (n : ℕ) (x : X) → map f (replicate n x) ≡ replicate n (f x)
 map-replicate {X} {Y} f zero x = refl
 map-replicate {X} {Y} f (suc n) x = ap (λ (ys : List Y). f x ∷ ys) (map-replicate f n x)
@@ -34,6 +35,7 @@ owned-only (Some (Shared n)) e = cc
 owned-only (Some Retired) e = cc
 owned-only (Some (Private n)) e = cc
 
+-- what is kept as owned stands as owned
 pub owned-there : {T : Type 0} {home : Home} {kept : List Kept} {standings : Entries Standing} {values : List (Option T)} (k : ℕ) → AreKept home kept standings values → (slice_index_or kept k (whole kind.Free)).kind ≡ kind.Owned → slice_index_or standings k None ≡ Some Owned
 owned-there k a e = owned-only _ (ap (λ (x : Kept). x.kind) (sym (kept-there k a)) ∙ e)
 
@@ -44,6 +46,7 @@ filled-here {T} {home} {kept} {standings} {values} k v a h e =
     let inside : k < length values = omega (arith, sized, h) in
     ap is_some (get_or_read values k v inside e None) ∙ filled-there k a
 
+-- what is no value is none
 pub none-of : {T : Type 0} (v : Option T) → is_some v ≡ false → v ≡ None
 none-of None e = refl
 none-of (Some x) e = cc

@@ -10,7 +10,7 @@ use std::marker::Model;
 
 /// What a space keeps of the numbers of its home: of each the kind, and some units, at least one.
 ///
-/// A space has one beside what it knows of its slots. It takes no memory for them.
+/// A space has one beside what it knows of its slots. The parts have no bytes; still `new` asks the allocator once, for none.
 #[derive(Drop)]
 pub struct Rights {
     book: Book<Kind>,
