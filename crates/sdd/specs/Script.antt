@@ -33,6 +33,19 @@ IsValid d p (call.Look i g) = IsPlace d p × IsGuardOf d p g.0 × CanPointTo d p
 IsValid d p (call.Retire o) = IsPlace d p × IsSome (slice_index_or d.owners o.0 None)
 IsValid d p (call.Close g) = IsPlace d p × IsGuardOf d p g.0
 
+-- the action is one under a guard
+abbrev pub NeedsGuard : Action → Type 0
+NeedsGuard call.Open = ⊥
+NeedsGuard (call.Epoch g) = Unit {0}
+NeedsGuard (call.Garbage g) = Unit {0}
+NeedsGuard (call.Set g) = Unit {0}
+NeedsGuard (call.Accelerate g) = Unit {0}
+NeedsGuard (call.Owned n) = ⊥
+NeedsGuard (call.Read o) = ⊥
+NeedsGuard (call.Look i g) = Unit {0}
+NeedsGuard (call.Retire o) = ⊥
+NeedsGuard (call.Close g) = Unit {0}
+
 -- the names of the items that an opening of p reclaims, in ascending order
 pub record AreReclaimed (d : Desk) (p : ℕ) (names : List ItemName) : Type 0 where
   pub ascending : IsStrictlyIncreasing (map (λ (i : ItemName). i.0) names)
@@ -52,14 +65,17 @@ with_guard d p names =
       items = all_gone d.items names;
     }
 
--- a new item in slot k, whose value is v
-abbrev pub with_item : Desk → ℕ → ℕ → Val → Desk
-with_item d c k v =
+-- an item in slot k and its owner get their names
+abbrev pub with_new_item : Desk → ℕ → Desk
+with_new_item d k =
     record d {
-      world = made (nulled d.world c) k v;
       owners = d.owners ++ Some (length d.items) ∷ [];
       items = d.items ++ record { slot = k; fate = Out } ∷ [];
     }
+
+-- a new item in slot k, whose value is v and holds the cell c
+abbrev pub with_item : Desk → ℕ → ℕ → Val → Desk
+with_item d c k v = with_new_item (record d { world = made (nulled d.world c) k v }) k
 
 -- item i is retired by p, and its owner o is spent
 abbrev pub with_retired : Desk → ℕ → ℕ → ℕ → Desk

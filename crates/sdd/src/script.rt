@@ -1,11 +1,11 @@
 //! Scripts: calls on a world, and what they answer.
 
 pub mod item;
-pub mod run;
+pub mod runner;
 pub mod scene;
 mod stage;
 pub mod val;
 
-pub use run::run;
+pub use runner::run;
 pub use scene::Scene;
 pub use val::Val;

@@ -1,7 +1,10 @@
 //! The world of a script in the middle of a run, with what its names stand for.
-ghost use Rattle.std.specs.Prelude.{◌≡◌, ℕ, ◌+◌, ◌<◌, ◌≤◌, ◌↔◌, [], List, IfOk, IfSome, IsSome, IsNone, None, Some, MatchOption, MatchResult, length, map, slice_index_or, option_copied};
+ghost use Rattle.std.specs.Prelude.{◌≡◌, ◌≢◌, ℕ, ◌+◌, ◌<◌, ◌≤◌, ◌↔◌, [], List, IfOk, OnOk, IfSome, IsSome, IsNone, None, Some, MatchOption, MatchResult, length, map, slice_index_or, option_copied, vec_capacity};
 ghost use Rattle.sdd_base.specs.Guard.{place_of};
-ghost use Rattle.sdd_base.specs.World.{IsNew};
+ghost use Rattle.sdd_base.specs.World.{standing_at, value_at};
+ghost use Rattle.sdd_base.specs.Owned.{slot_of, slots_home};
+ghost use Rattle.sdd.specs.declared.script.val.Val.{Val};
+ghost use Rattle.sdd.specs.Val.{body_of};
 ghost use Rattle.sdd_lines.specs.declared.name.ItemName.{ItemName};
 ghost use Rattle.sdd.specs.Opened.{guard_place};
 
@@ -39,11 +42,12 @@ pub struct Stage {
     pub names: Vec<u64>,
 }
 
+
 impl Stage {
-    ghost use Rattle.sdd.specs.Desk.{Desk, IsPlace, IsGuardOf, IsOwnerOf, CanPointTo, item_at};
-    ghost use Rattle.sdd.specs.Script.{Does, Meets, Step, IsValid, AreReclaimed, later};
-    ghost use Rattle.sdd.specs.Stage.{desk_of, guard_place, held_item, IsTied, KeepsLimits};
-    ghost use Rattle.sdd.specs.Sound.{IsSound};
+    ghost use Rattle.sdd.specs.Desk.{Desk, IsPlace, IsThereSince, nothing, item_at};
+    ghost use Rattle.sdd.specs.Script.{Meets, Step, NeedsGuard, AreReclaimed, with_new_item};
+    ghost use Rattle.sdd.specs.Stage.{desk_of, IsTied, KeepsLimits};
+    ghost use Rattle.sdd.specs.Sound.{IsSound, IsThere};
 
     /// A new world, and room for the names of that many calls.
     pub fn new(alloc: Global, limits: Limits, calls: usize) -> Result<Stage, Refused> {
@@ -97,7 +101,14 @@ impl Stage {
     }
 
     /// One call; `NoMemory` alone leaves it undone.
-    pub fn step(&mut self, call: &Call) -> Result<Answer, Refused> {
+    pub fn step(&mut self, call: &Call) -> Result<Answer, Refused>
+        requires tied { IsTied self.old.moment self.old }
+        requires sound { IsSound (desk_of self.old) }
+        requires more { self.old.moment < self.old.calls }
+        ensures tied { OnOk result (IsTied self.new.moment self.new) }
+        ensures limits { OnOk result (self.new.calls ≡ self.old.calls) }
+        ensures step { MatchResult result (λ answer. Step (desk_of self.old) call.now answer (desk_of self.new)) (λ refused. refused ≡ Refused.NoMemory) }
+    {
         let answer = match call {
             Call::Register => self.register()?,
             Call::Tally => self.answer(Reply::Tally(self.world.tally())),
@@ -108,7 +119,9 @@ impl Stage {
     }
 
     /// An answer without endings.
-    fn answer(&self, reply: Reply) -> Answer {
+    fn answer(&self, reply: Reply) -> Answer
+        ensures { result ≡ record { reply = reply; reclaimed = []; ran = [] } }
+    {
         Answer {
             reply,
             reclaimed: Names::new(self.alloc),
@@ -116,7 +129,16 @@ impl Stage {
         }
     }
 
-    fn register(&mut self) -> Result<Answer, Refused> {
+    fn register(&mut self) -> Result<Answer, Refused>
+        requires tied { IsTied self.old.moment self.old }
+        requires sound { IsSound (desk_of self.old) }
+        requires more { self.old.moment < self.old.calls }
+        ensures tied { IsTied (self.old.moment + 1) self.new }
+        ensures limits { KeepsLimits self.old self.new }
+        ensures meets { MatchResult result
+            (λ answer. (answer.ran ≡ []) × Meets (desk_of self.old) Call.Register answer.reply answer.reclaimed (desk_of self.new))
+            (λ refused. refused ≡ Refused.NoMemory) }
+    {
         match self.world.register() {
             Ok(place) => {
                 let name = PlaceName(self.places.len() as u64);
@@ -130,7 +152,14 @@ impl Stage {
     }
 
     /// What a participant does.
-    fn act(&mut self, place: u64, action: &Action) -> Result<Answer, AllocError> {
+    fn act(&mut self, place: u64, action: &Action) -> Result<Answer, AllocError>
+        requires tied { IsTied self.old.moment self.old }
+        requires sound { IsSound (desk_of self.old) }
+        requires more { self.old.moment < self.old.calls }
+        ensures tied { IsTied (self.old.moment + 1) self.new }
+        ensures limits { KeepsLimits self.old self.new }
+        ensures meets { IfOk result (λ answer. (answer.ran ≡ []) × Meets (desk_of self.old) (Call.At (record { 0 = place }) action.now) answer.reply answer.reclaimed (desk_of self.new)) }
+    {
         if place >= self.places.len() as u64 {
             return Ok(self.answer(Reply::Invalid));
         }
@@ -148,7 +177,16 @@ impl Stage {
     }
 
     /// What a participant does under a guard.
-    fn act_under(&mut self, place: usize, action: &Action) -> Reply {
+    fn act_under(&mut self, place: usize, action: &Action) -> Reply
+        requires tied { IsTied self.old.moment self.old }
+        requires sound { IsSound (desk_of self.old) }
+        requires place { place < length self.old.world.time.places }
+        requires under { NeedsGuard action.now }
+        requires more { self.old.moment < self.old.calls }
+        ensures tied { IsTied (self.old.moment + 1) self.new }
+        ensures limits { KeepsLimits self.old self.new }
+        ensures does { Meets (desk_of self.old) (Call.At (record { 0 = place }) action.now) result [] (desk_of self.new) }
+    {
         match action {
             Action::Epoch(guard) => self.epoch(place, *guard),
             Action::Garbage(guard) => self.garbage(place, *guard),
@@ -161,7 +199,12 @@ impl Stage {
     }
 
     /// The names of the items that the next opening of a participant reclaims, in ascending order.
-    fn names_to_go(&self, place: usize) -> Result<Names<ItemName>, AllocError> {
+    fn names_to_go(&self, place: usize) -> Result<Names<ItemName>, AllocError>
+        requires tied { IsTied self.now.moment self.now }
+        requires sound { IsSound (desk_of self.now) }
+        requires place { place < length self.now.world.time.places }
+        ensures { IfOk result (AreReclaimed (desk_of self.now) place) }
+    {
         let slots = reclaims_next(&self.world, &self.places[place]);
         let mut names = Vec::with_capacity(self.alloc, slots.len())?;
         for slot in slots {
@@ -171,7 +214,15 @@ impl Stage {
         Ok(Names::of(names))
     }
 
-    fn open(&mut self, place: usize) -> Result<Answer, AllocError> {
+    fn open(&mut self, place: usize) -> Result<Answer, AllocError>
+        requires tied { IsTied self.old.moment self.old }
+        requires sound { IsSound (desk_of self.old) }
+        requires place { place < length self.old.world.time.places }
+        requires more { self.old.moment < self.old.calls }
+        ensures tied { IsTied (self.old.moment + 1) self.new }
+        ensures limits { KeepsLimits self.old self.new }
+        ensures meets { IfOk result (λ answer. (answer.ran ≡ []) × Meets (desk_of self.old) (Call.At (record { 0 = place }) Action.Open) answer.reply answer.reclaimed (desk_of self.new)) }
+    {
         let reclaimed = self.names_to_go(place)?;
         let is_nested = is_open(&self.world, &self.places[place]);
         let mut turn = self.world.at(&self.places[place]);
@@ -265,6 +316,7 @@ impl Stage {
         Reply::Done
     }
 
+    #[tactic(auto, using(crate::proofs::Tied::map_set))]
     fn close_guard(&mut self, place: usize, name: GuardName) -> Reply
         requires tied { IsTied self.old.moment self.old }
         requires sound { IsSound (desk_of self.old) }
@@ -312,7 +364,17 @@ impl Stage {
     }
 
     /// An owner and its item get their names.
-    fn name_item(&mut self, owner: Owned<Val>) -> Reply {
+    fn name_item(&mut self, owner: Owned<Val>) -> Reply
+        requires tied { IsTied self.old.moment self.old }
+        requires more { self.old.moment < self.old.calls }
+        requires home { slots_home owner ≡ self.old.world.home.slots }
+        requires inside { slot_of owner < length self.old.world.standings }
+        requires fresh { (i : ℕ) → IsThere (slice_index_or self.old.items.items i nothing).fate → (slice_index_or self.old.items.items i nothing).slot ≢ slot_of owner }
+        ensures tied { IsTied (self.old.moment + 1) self.new }
+        ensures limits { KeepsLimits self.old self.new }
+        ensures named { result ≡ Reply.Item (record { 0 = length (desk_of self.old).owners }) (record { 0 = length (desk_of self.old).items }) }
+        ensures desk { desk_of self.new ≡ with_new_item (desk_of self.old) (slot_of owner) }
+    {
         let slot = inner::slot_of_owner(&owner);
         let item = self.items.len() as u64;
         let name = OwnerName(self.owners.len() as u64);
@@ -340,6 +402,7 @@ impl Stage {
         Reply::Value(held.owner.get(&self.world).body())
     }
 
+    #[tactic(auto, using(crate::proofs::Tied::map_set))]
     fn retire(&mut self, place: usize, name: OwnerName) -> Reply
         requires tied { IsTied self.old.moment self.old }
         requires sound { IsSound (desk_of self.old) }
@@ -371,21 +434,21 @@ impl Stage {
         ensures limits { KeepsLimits self.old self.new }
         ensures does { Meets (desk_of self.old) (Call.At (record { 0 = place }) (Action.Look item name)) result [] (desk_of self.new) }
     {
-        let Some(guard) = open_guard(self.guards.as_slice(), place, name) else {
-            return Reply::Invalid;
-        };
         let Some(slot) = self.slot_since(item, self.openings[place]) else {
             return Reply::Invalid;
         };
-        let ptr: Ptr<'_, Val> = inner::ptr_to(slot, guard);
-        match ptr.as_ref(&self.world) {
-            Some(value) => Reply::Value(value.body()),
+        match open_guard(self.guards.as_slice(), place, name) {
+            Some(guard) => Reply::Value(number_shown(&self.world, guard, slot)),
             None => Reply::Invalid,
         }
     }
 
     /// The slot of an item that was not retired before this moment.
-    fn slot_since(&self, name: ItemName, moment: u64) -> Option<u32> {
+    fn slot_since(&self, name: ItemName, moment: u64) -> Option<u32>
+        ensures { MatchOption result
+            (¬ (IsThereSince moment (slice_index_or self.now.items.items name.0 nothing).fate))
+            (λ slot. IsThereSince moment (slice_index_or self.now.items.items name.0 nothing).fate × (slot ≡ (slice_index_or self.now.items.items name.0 nothing).slot)) }
+    {
         let state = self.items.get(usize::try_from(name.0).ok()?)?;
         match state.fate {
             Fate::Out => Some(state.slot),
@@ -395,11 +458,26 @@ impl Stage {
     }
 }
 
+/// The number in a slot, as a pointer to its item shows it under a guard.
+fn number_shown(world: &World<Val>, guard: &Guard, slot: u32) -> u64
+    requires { IsSome (standing_at world.now slot) }
+    ensures { (v : Val) × (value_at world.now slot ≡ Some v) × (body_of v ≡ result) }
+{
+    let ptr: Ptr<'_, Val> = inner::ptr_to(slot, guard);
+    let Some(value) = ptr.as_ref(world) else {
+        unreachable!()
+    };
+    value.body()
+}
+
 /// Room for that many guards and owners.
 fn empty_desk(
     alloc: Global,
     calls: usize,
-) -> Result<(Vec<Option<Guard>>, Vec<Option<Held>>), AllocError> {
+) -> Result<(Vec<Option<Guard>>, Vec<Option<Held>>), AllocError>
+    ensures guards { IfOk result (λ desk. (desk.0.items ≡ []) × (calls ≤ vec_capacity desk.0)) }
+    ensures owners { IfOk result (λ desk. (desk.1.items ≡ []) × (calls ≤ vec_capacity desk.1)) }
+{
     let guards = Vec::with_capacity(alloc, calls)?;
     match Vec::with_capacity(alloc, calls) {
         Ok(owners) => Ok((guards, owners)),
