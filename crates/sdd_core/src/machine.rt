@@ -403,3 +403,6 @@ pub fn safety(alloc: Global, steps: &[Step]) -> Result<Machine, Refused>
     }
     Ok(machine)
 }
+
+#[cfg(test)]
+mod tests;
