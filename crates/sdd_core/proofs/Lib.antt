@@ -8,4 +8,6 @@ pub mod InBags
 pub mod Theorem
 pub mod Seen
 pub mod Gather
-pub mod SpotSets
+pub mod Walks
+pub mod Relinks
+pub mod Trios

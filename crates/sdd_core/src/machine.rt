@@ -10,6 +10,7 @@ ghost use Rattle.sdd_core.specs.History.{Safe, Exact};
 ghost use Rattle.sdd_core.specs.Laws.{AtEachMoment, ReclaimsWhatWasDue, WaitsWithOneHolder, IsRaisedAtMostOnce, KeepsGenerations, state_after};
 
 mod bags;
+mod chains;
 mod places;
 mod steps;
 
