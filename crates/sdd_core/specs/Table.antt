@@ -46,7 +46,7 @@ abbrev pub new_state : Size → State
 new_state size = record { count = 0; places = replicate size.places free_place; retired = replicate size.items false; scan = None }
 
 abbrev pub place_at : State → ℕ → Place
-place_at s p = slice_index_or s.places p free_place
+place_at state place = slice_index_or state.places place free_place
 
 abbrev pub is_free : Phase → Bool
 is_free Free = true
@@ -73,9 +73,9 @@ abbrev pub read_of : Phase → ℕ
 read_of (Reading c) = c
 read_of _ = 0
 
--- the lowest number from a on that isn't p
+-- the lowest number from one on that isn't the place's
 abbrev pub skip : ℕ → ℕ → ℕ
-skip p a = if a == p then a + 1 else a
+skip place number = if number == place then number + 1 else number
 
 -- nobody holds the lock
 abbrev pub is_idle : Option Scan → Bool
@@ -83,37 +83,37 @@ is_idle None = true
 is_idle (Some x) = false
 
 abbrev pub holds : ℕ → Option Scan → Bool
-holds p None = false
-holds p (Some x) = x.holder == p
+holds place None = false
+holds place (Some x) = x.holder == place
 
 abbrev pub adopts : ℕ → Option Scan → Bool
-adopts p None = false
-adopts p (Some x) = x.holder == p && x.cursor == skip p 0
+adopts place None = false
+adopts place (Some x) = x.holder == place && x.cursor == skip place 0
 
 abbrev pub looks : ℕ → ℕ → Option Scan → Bool
-looks n p None = false
-looks n p (Some x) = x.holder == p && not x.failed && nat_lt x.cursor n
+looks places place None = false
+looks places place (Some x) = x.holder == place && not x.failed && nat_lt x.cursor places
 
 abbrev pub advances : ℕ → ℕ → Option Scan → Bool
-advances n p None = false
-advances n p (Some x) = x.holder == p && not x.advanced && not x.failed && nat_le n x.cursor
+advances places place None = false
+advances places place (Some x) = x.holder == place && not x.advanced && not x.failed && nat_le places x.cursor
 
 abbrev pub possible : State → Step → Bool
-possible s (Register p) = nat_lt p (length s.places) && is_free (place_at s p).phase
-possible s (Read p) = is_closed (place_at s p).phase
-possible s (Publish p) = is_reading (place_at s p).phase
-possible s (Retire p i) = (is_closed (place_at s p).phase || is_open (place_at s p).phase) && nat_lt i (length s.retired) && not (slice_index_or s.retired i false)
-possible s (Lock p) = is_open (place_at s p).phase && is_idle s.scan
-possible s (Adopt p) = adopts p s.scan
-possible s (Look p) = looks (length s.places) p s.scan
-possible s (Advance p) = advances (length s.places) p s.scan
-possible s (Unlock p) = holds p s.scan
-possible s (Close p) = is_open (place_at s p).phase && not (holds p s.scan)
-possible s (End p) = is_closed (place_at s p).phase
+possible state (Register place) = nat_lt place (length state.places) && is_free (place_at state place).phase
+possible state (Read place) = is_closed (place_at state place).phase
+possible state (Publish place) = is_reading (place_at state place).phase
+possible state (Retire place item) = (is_closed (place_at state place).phase || is_open (place_at state place).phase) && nat_lt item (length state.retired) && not (slice_index_or state.retired item false)
+possible state (Lock place) = is_open (place_at state place).phase && is_idle state.scan
+possible state (Adopt place) = adopts place state.scan
+possible state (Look place) = looks (length state.places) place state.scan
+possible state (Advance place) = advances (length state.places) place state.scan
+possible state (Unlock place) = holds place state.scan
+possible state (Close place) = is_open (place_at state place).phase && not (holds place state.scan)
+possible state (End place) = is_closed (place_at state place).phase
 
 -- the state with one place changed
 abbrev pub with_place : State → ℕ → (Place → Place) → State
-with_place s p change = record s { places = slice_set s.places p (change (place_at s p)) }
+with_place state place change = record state { places = slice_set state.places place (change (place_at state place)) }
 
 abbrev pub phased : Phase → Place → Place
 phased phase x = record x { phase = phase }
@@ -134,7 +134,7 @@ abbrev pub ended : Place → Place
 ended = phased Ended
 
 abbrev pub retiring : ℕ → Place → Place
-retiring i x = record x { current = set.insert x.current i }
+retiring item x = record x { current = set.insert x.current item }
 
 -- whether the publish of what was read is a change
 abbrev pub finds_another : Place → Bool
@@ -181,50 +181,50 @@ abbrev pub passes : ℕ → Place → Bool
 passes found x = not (is_open x.phase) || x.found == found
 
 abbrev pub looked : State → Scan → Scan
-looked s x = record x { cursor = skip x.holder (x.cursor + 1); failed = not (passes (place_at s x.holder).found (place_at s x.cursor)) }
+looked state x = record x { cursor = skip x.holder (x.cursor + 1); failed = not (passes (place_at state x.holder).found (place_at state x.cursor)) }
 
 abbrev pub look_passes : State → Option Scan → Bool
-look_passes s None = false
-look_passes s (Some x) = passes (place_at s x.holder).found (place_at s x.cursor)
+look_passes state None = false
+look_passes state (Some x) = passes (place_at state x.holder).found (place_at state x.cursor)
 
 -- the scan after a look, and after an advance
 abbrev pub scan_looked : State → Option Scan → Option Scan
-scan_looked s None = None
-scan_looked s (Some x) = Some (looked s x)
+scan_looked state None = None
+scan_looked state (Some x) = Some (looked state x)
 
 abbrev pub scan_advanced : Option Scan → Option Scan
 scan_advanced None = None
 scan_advanced (Some x) = Some (record x { advanced = true })
 
 abbrev pub raises : State → ℕ → Bool
-raises s p = s.count == (place_at s p).found && nat_lt s.count (2 ^ 64 - 1)
+raises state place = state.count == (place_at state place).found && nat_lt state.count (2 ^ 64 - 1)
 
 -- the state after a step that is possible
 abbrev pub after : State → Step → State
-after s (Register p) = with_place s p registered
-after s (Read p) = with_place s p (reading s.count)
-after s (Publish p) = with_place s p published
-after s (Retire p i) = record (with_place s p (retiring i)) { retired = slice_set s.retired i true }
-after s (Lock p) = record s { scan = Some (record { holder = p; cursor = skip p 0; failed = false; advanced = false }) }
-after s (Adopt p) = with_place (record s { places = map freed s.places }) p (taking (left s.places))
-after s (Look p) = record s { scan = scan_looked s s.scan }
-after s (Advance p) = record s { count = (if raises s p then s.count + 1 else s.count); scan = scan_advanced s.scan }
-after s (Unlock p) = record s { scan = None }
-after s (Close p) = with_place s p closed
-after s (End p) = with_place s p ended
+after state (Register place) = with_place state place registered
+after state (Read place) = with_place state place (reading state.count)
+after state (Publish place) = with_place state place published
+after state (Retire place item) = record (with_place state place (retiring item)) { retired = slice_set state.retired item true }
+after state (Lock place) = record state { scan = Some (record { holder = place; cursor = skip place 0; failed = false; advanced = false }) }
+after state (Adopt place) = with_place (record state { places = map freed state.places }) place (taking (left state.places))
+after state (Look place) = record state { scan = scan_looked state state.scan }
+after state (Advance place) = record state { count = (if raises state place then state.count + 1 else state.count); scan = scan_advanced state.scan }
+after state (Unlock place) = record state { scan = None }
+after state (Close place) = with_place state place closed
+after state (End place) = with_place state place ended
 
 abbrev pub happens : State → Step → State
-happens s step = if possible s step then after s step else s
+happens state step = if possible state step then after state step else state
 
 -- what a publish takes out, and so reclaims
 abbrev pub taken_out : Place → Items
 taken_out x = if finds_another x then x.next else set.empty
 
 abbrev pub did_possible : State → Step → Did
-did_possible s (Publish p) = Opened (read_of (place_at s p).phase) (finds_another (place_at s p)) (set.len (taken_out (place_at s p)))
-did_possible s (Look p) = Looked (look_passes s s.scan)
-did_possible s (Advance p) = Advanced (raises s p)
-did_possible s _ = Done
+did_possible state (Publish place) = Opened (read_of (place_at state place).phase) (finds_another (place_at state place)) (set.len (taken_out (place_at state place)))
+did_possible state (Look place) = Looked (look_passes state state.scan)
+did_possible state (Advance place) = Advanced (raises state place)
+did_possible state _ = Done
 
 abbrev pub did : State → Step → Did
-did s step = if possible s step then did_possible s step else NotPossible
+did state step = if possible state step then did_possible state step else NotPossible

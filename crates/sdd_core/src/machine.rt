@@ -84,19 +84,19 @@ impl Machine {
         })
     }
 
-    fn phase(&self, p: u32) -> Phase
-        ensures { result ≡ (place_at self.now p).phase }
+    fn phase(&self, place: u32) -> Phase
+        ensures { result ≡ (place_at self.now place).phase }
     {
-        match self.posts.get(p as usize) {
+        match self.posts.get(place as usize) {
             Some(post) => post.phase,
             None => Phase::Free,
         }
     }
 
-    fn found(&self, p: u32) -> u64
-        ensures { result ≡ (place_at self.now p).found }
+    fn found(&self, place: u32) -> u64
+        ensures { result ≡ (place_at self.now place).found }
     {
-        match self.posts.get(p as usize) {
+        match self.posts.get(place as usize) {
             Some(post) => post.found,
             None => 0,
         }
@@ -141,66 +141,86 @@ impl Machine {
         self.scan = scan;
     }
 
-    fn is_retired(&self, i: u32) -> bool
-        ensures { result ≡ slice_index_or self.now.retired i false }
+    fn is_retired(&self, item: u32) -> bool
+        ensures { result ≡ slice_index_or self.now.retired item false }
     {
-        match self.retired.get(i as usize) {
+        match self.retired.get(item as usize) {
             Some(retired) => *retired,
             None => false,
         }
     }
 
-    fn set_phase(&mut self, p: u32, phase: Phase)
-        requires place { p < length self.old.places }
-        requires other { holds p self.old.scan ≡ true → is_open (place_at self.old p).phase ≡ false }
-        ensures { self.new ≡ with_place self.old p (phased phase) }
+    fn set_phase(&mut self, place: u32, phase: Phase)
+        requires place { place < length self.old.places }
+        requires other { holds place self.old.scan ≡ true → is_open (place_at self.old place).phase ≡ false }
+        ensures { self.new ≡ with_place self.old place (phased phase) }
     {
-        self.posts[p as usize].phase = phase;
+        self.posts[place as usize].phase = phase;
     }
 
-    fn set_post(&mut self, p: u32, phase: Phase, found: u64)
-        requires place { p < length self.old.places }
-        requires other { holds p self.old.scan ≡ true → is_open (place_at self.old p).phase ≡ false }
-        ensures { self.new ≡ with_place self.old p (posted phase found) }
+    fn set_post(&mut self, place: u32, phase: Phase, found: u64)
+        requires place { place < length self.old.places }
+        requires other { holds place self.old.scan ≡ true → is_open (place_at self.old place).phase ≡ false }
+        ensures { self.new ≡ with_place self.old place (posted phase found) }
     {
-        self.posts[p as usize] = Post { phase, found };
+        self.posts[place as usize] = Post { phase, found };
     }
 
-    fn rotate(&mut self, p: u32) -> u32
-        requires { p < length self.old.places }
-        ensures taken { result ≡ set.len (place_at self.old p).next }
-        ensures moved { self.new ≡ with_place self.old p rotated }
+    fn rotate(&mut self, place: u32) -> u32
+        requires { place < length self.old.places }
+        ensures taken { result ≡ set.len (place_at self.old place).next }
+        ensures moved { self.new ≡ with_place self.old place rotated }
     {
-        self.bags.rotate(p)
+        self.bags.rotate(place)
     }
 
-    fn retire(&mut self, p: u32, i: u32)
-        requires place { p < length self.old.places }
-        requires item { i < length self.old.retired }
-        requires fresh { slice_index_or self.old.retired i false ≡ false }
-        ensures { self.new ≡ after self.old (Step.Retire p i) }
+    fn retire(&mut self, place: u32, item: u32)
+        requires place { place < length self.old.places }
+        requires item { item < length self.old.retired }
+        requires fresh { slice_index_or self.old.retired item false ≡ false }
+        ensures { self.new ≡ after self.old (Step.Retire place item) }
     {
-        self.bags.put(p, i);
-        self.retired[i as usize] = true;
+        self.bags.put(place, item);
+        self.retired[item as usize] = true;
     }
 
-    fn adopt(&mut self, p: u32)
-        requires { adopts p self.old.scan ≡ true }
-        ensures { self.new ≡ after self.old (Step.Adopt p) }
+    fn adopt(&mut self, place: u32)
+        requires { adopts place self.old.scan ≡ true }
+        ensures { self.new ≡ after self.old (Step.Adopt place) }
     {
-        gather(&mut self.bags, self.posts.as_slice(), p);
+        gather(&mut self.bags, self.posts.as_slice(), place);
         free_ended(self.posts.as_mut_slice());
     }
 
-    fn publish(&mut self, p: u32) -> Did
-        requires { is_reading (place_at self.old p).phase ≡ true }
-        ensures did { result ≡ did_possible self.old (Step.Publish p) }
-        ensures new { self.new ≡ after self.old (Step.Publish p) }
+    fn read(&mut self, place: u32)
+        requires { is_closed (place_at self.old place).phase ≡ true }
+        ensures { self.new ≡ after self.old (Step.Read place) }
     {
-        let count = self.phase(p).read();
-        let changed = count != self.found(p);
-        self.set_post(p, Phase::Open, count);
-        let reclaimed = if changed { self.rotate(p) } else { 0 };
+        let count = self.count();
+        self.set_phase(place, Phase::Reading(count));
+    }
+
+    fn lock(&mut self, place: u32)
+        requires { is_open (place_at self.old place).phase ≡ true }
+        ensures { self.new ≡ after self.old (Step.Lock place) }
+    {
+        self.set_scan(Some(Scan {
+            holder: place,
+            cursor: skip(place, 0),
+            failed: false,
+            advanced: false,
+        }));
+    }
+
+    fn publish(&mut self, place: u32) -> Did
+        requires { is_reading (place_at self.old place).phase ≡ true }
+        ensures did { result ≡ did_possible self.old (Step.Publish place) }
+        ensures new { self.new ≡ after self.old (Step.Publish place) }
+    {
+        let count = self.phase(place).read();
+        let changed = count != self.found(place);
+        self.set_post(place, Phase::Open, count);
+        let reclaimed = if changed { self.rotate(place) } else { 0 };
         Did::Opened {
             count,
             changed,
@@ -214,10 +234,10 @@ impl Machine {
         !self.phase(scan.cursor).is_open() || self.found(scan.cursor) == self.found(scan.holder)
     }
 
-    fn look(&mut self, p: u32) -> Did
-        requires { looks (length self.old.places) p self.old.scan ≡ true }
-        ensures did { result ≡ did_possible self.old (Step.Look p) }
-        ensures new { self.new ≡ after self.old (Step.Look p) }
+    fn look(&mut self, place: u32) -> Did
+        requires { looks (length self.old.places) place self.old.scan ≡ true }
+        ensures did { result ≡ did_possible self.old (Step.Look place) }
+        ensures new { self.new ≡ after self.old (Step.Look place) }
     {
         let places = self.places();
         match self.scan() {
@@ -240,12 +260,12 @@ impl Machine {
         }
     }
 
-    fn advance(&mut self, p: u32) -> Did
-        ensures did { result ≡ did_possible self.old (Step.Advance p) }
-        ensures new { self.new ≡ after self.old (Step.Advance p) }
+    fn advance(&mut self, place: u32) -> Did
+        ensures did { result ≡ did_possible self.old (Step.Advance place) }
+        ensures new { self.new ≡ after self.old (Step.Advance place) }
     {
         let count = self.count();
-        let raised = count == self.found(p) && count < u64::MAX;
+        let raised = count == self.found(place) && count < u64::MAX;
         let scan = advanced(self.scan());
         if raised {
             self.set_count(count + 1);
@@ -254,10 +274,10 @@ impl Machine {
         Did::Advanced { raised }
     }
 
-    fn may_retire(&self, p: u32) -> bool
-        ensures { result ≡ (is_closed (place_at self.now p).phase || is_open (place_at self.now p).phase) }
+    fn may_retire(&self, place: u32) -> bool
+        ensures { result ≡ (is_closed (place_at self.now place).phase || is_open (place_at self.now place).phase) }
     {
-        let phase = self.phase(p);
+        let phase = self.phase(place);
         phase.is_closed() || phase.is_open()
     }
 
@@ -265,19 +285,19 @@ impl Machine {
         ensures { result ≡ possible self.now step }
     {
         match step {
-            Step::Register(p) => p < self.places() && self.phase(p).is_free(),
-            Step::Read(p) => self.phase(p).is_closed(),
-            Step::Publish(p) => self.phase(p).is_reading(),
-            Step::Retire(p, i) => {
-                self.may_retire(p) && (i as usize) < self.items() && !self.is_retired(i)
+            Step::Register(place) => place < self.places() && self.phase(place).is_free(),
+            Step::Read(place) => self.phase(place).is_closed(),
+            Step::Publish(place) => self.phase(place).is_reading(),
+            Step::Retire(place, item) => {
+                self.may_retire(place) && (item as usize) < self.items() && !self.is_retired(item)
             }
-            Step::Lock(p) => self.phase(p).is_open() && is_idle(self.scan()),
-            Step::Adopt(p) => adopts(p, self.scan()),
-            Step::Look(p) => looks(self.places(), p, self.scan()),
-            Step::Advance(p) => advances(self.places(), p, self.scan()),
-            Step::Unlock(p) => holds(p, self.scan()),
-            Step::Close(p) => self.phase(p).is_open() && !holds(p, self.scan()),
-            Step::End(p) => self.phase(p).is_closed(),
+            Step::Lock(place) => self.phase(place).is_open() && is_idle(self.scan()),
+            Step::Adopt(place) => adopts(place, self.scan()),
+            Step::Look(place) => looks(self.places(), place, self.scan()),
+            Step::Advance(place) => advances(self.places(), place, self.scan()),
+            Step::Unlock(place) => holds(place, self.scan()),
+            Step::Close(place) => self.phase(place).is_open() && !holds(place, self.scan()),
+            Step::End(place) => self.phase(place).is_closed(),
         }
     }
 
@@ -287,48 +307,19 @@ impl Machine {
         ensures new { self.new ≡ after self.old step }
     {
         match step {
-            Step::Register(p) => {
-                self.set_post(p, Phase::Closed, 0);
-                Did::Done
-            }
-            Step::Read(p) => {
-                let count = self.count();
-                self.set_phase(p, Phase::Reading(count));
-                Did::Done
-            }
-            Step::Publish(p) => self.publish(p),
-            Step::Retire(p, i) => {
-                self.retire(p, i);
-                Did::Done
-            }
-            Step::Lock(p) => {
-                self.set_scan(Some(Scan {
-                    holder: p,
-                    cursor: skip(p, 0),
-                    failed: false,
-                    advanced: false,
-                }));
-                Did::Done
-            }
-            Step::Adopt(p) => {
-                self.adopt(p);
-                Did::Done
-            }
-            Step::Look(p) => self.look(p),
-            Step::Advance(p) => self.advance(p),
-            Step::Unlock(_) => {
-                self.set_scan(None);
-                Did::Done
-            }
-            Step::Close(p) => {
-                self.set_phase(p, Phase::Closed);
-                Did::Done
-            }
-            Step::End(p) => {
-                self.set_phase(p, Phase::Ended);
-                Did::Done
-            }
+            Step::Publish(place) => return self.publish(place),
+            Step::Look(place) => return self.look(place),
+            Step::Advance(place) => return self.advance(place),
+            Step::Register(place) => self.set_post(place, Phase::Closed, 0),
+            Step::Read(place) => self.read(place),
+            Step::Retire(place, item) => self.retire(place, item),
+            Step::Lock(place) => self.lock(place),
+            Step::Adopt(place) => self.adopt(place),
+            Step::Unlock(_) => self.set_scan(None),
+            Step::Close(place) => self.set_phase(place, Phase::Closed),
+            Step::End(place) => self.set_phase(place, Phase::Ended),
         }
+        Did::Done
     }
 
     /// Takes one step, and says what it did. One that isn't possible changes nothing. It takes no memory.
@@ -345,16 +336,16 @@ impl Machine {
 }
 
 /// Moves everything left by ended places into the current bag of a place that isn't ended.
-fn gather(bags: &mut Bags, posts: &[Post], p: u32)
+fn gather(bags: &mut Bags, posts: &[Post], place: u32)
     requires few { length posts.now ≤ 1024 }
-    requires place { p < length posts.now }
+    requires place { place < length posts.now }
     requires same { length bags.old.trios ≡ length posts.now }
-    requires open { is_open (slice_index_or posts.now p free_post).phase ≡ true }
-    ensures { bags.new ≡ record bags.old { trios = gathered p posts.now bags.old.trios } }
+    requires open { is_open (slice_index_or posts.now place free_post).phase ≡ true }
+    ensures { bags.new ≡ record bags.old { trios = gathered place posts.now bags.old.trios } }
 {
-    for (q, post) in posts.iter().enumerate() {
+    for (number, post) in posts.iter().enumerate() {
         if post.phase.is_ended() {
-            bags.join(p, q as u32);
+            bags.join(place, number as u32);
         }
     }
 }

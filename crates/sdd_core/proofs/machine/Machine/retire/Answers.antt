@@ -7,26 +7,26 @@ use Rattle.sdd_core.proofs.Seen.{seen, within_bags, with_put, fits_put}
 use Rattle.sdd_core.proofs.machine.Machine.retire.Goals as goal
 
 pub put-requires-clause-place : goal.put-requires-clause-place
-put-requires-clause-place c = within_bags c.args.self.now c.self.inside.count c.self.inside.posts.items c.self.inside.bags.trios c.self.inside.retired.items c.self.inside.scan c.self.view_is c.self.invariant.same c.args.p c.requires.place
+put-requires-clause-place c = within_bags c.args.self.now c.self.inside.count c.self.inside.posts.items c.self.inside.bags.trios c.self.inside.retired.items c.self.inside.scan c.self.view_is c.self.invariant.same c.args.place c.requires.place
 
 pub put-requires-clause-item : goal.put-requires-clause-item
 put-requires-clause-item c =
-    let m : c.args.i < length c.self.inside.retired.items = subst (λ (s : State). c.args.i < length s.retired) (sym c.self.view_is) c.requires.item in
+    let m : c.args.item < length c.self.inside.retired.items = subst (λ (s : State). c.args.item < length s.retired) (sym c.self.view_is) c.requires.item in
     omega (arith, c.self.invariant.room)
 
 pub put-requires-clause-nowhere : goal.put-requires-clause-nowhere
 put-requires-clause-nowhere c =
-    let fresh : get_or c.self.inside.retired.items c.args.i false ≡ false = ap (λ (s : State). get_or s.retired c.args.i false) c.self.view_is ∙ c.requires.fresh in
-    λ q. false_from_ne_true (has (trio_at c.self.inside.bags.trios q) c.args.i) (λ h. true≢false (sym (c.self.invariant.waits q c.args.i h) ∙ fresh))
+    let fresh : get_or c.self.inside.retired.items c.args.item false ≡ false = ap (λ (s : State). get_or s.retired c.args.item false) c.self.view_is ∙ c.requires.fresh in
+    λ q. false_from_ne_true (has (trio_at c.self.inside.bags.trios q) c.args.item) (λ h. true≢false (sym (c.self.invariant.waits q c.args.item h) ∙ fresh))
 
 pub invariant_of-self : goal.invariant_of-self
 invariant_of-self c =
-    let l = within_bags c.args.self.now c.self.inside.count c.self.inside.posts.items c.self.inside.bags.trios c.self.inside.retired.items c.self.inside.scan c.self.view_is c.self.invariant.same c.args.p c.requires.place in
-    let m : c.args.i < length c.self.inside.retired.items = subst (λ (s : State). c.args.i < length s.retired) (sym c.self.view_is) c.requires.item in
-    subst (λ (b : Bagged). Fits c.self.inside.posts.items b (set c.self.inside.retired.items c.args.i true) c.self.inside.scan) (sym c.put.ensures)
-    (fits_put c.self.inside.posts.items c.self.inside.bags c.self.inside.retired.items c.self.inside.scan c.args.p c.args.i c.self.invariant l m)
+    let l = within_bags c.args.self.now c.self.inside.count c.self.inside.posts.items c.self.inside.bags.trios c.self.inside.retired.items c.self.inside.scan c.self.view_is c.self.invariant.same c.args.place c.requires.place in
+    let m : c.args.item < length c.self.inside.retired.items = subst (λ (s : State). c.args.item < length s.retired) (sym c.self.view_is) c.requires.item in
+    subst (λ (b : Bagged). Fits c.self.inside.posts.items b (set c.self.inside.retired.items c.args.item true) c.self.inside.scan) (sym c.put.ensures)
+    (fits_put c.self.inside.posts.items c.self.inside.bags c.self.inside.retired.items c.self.inside.scan c.args.place c.args.item c.self.invariant l m)
 
 pub returns : goal.returns
 returns c =
-    ap (λ (ts : List Trio). seen c.self.inside.count c.self.inside.posts.items ts (set c.self.inside.retired.items c.args.i true) c.self.inside.scan) (ap (λ (b : Bagged). b.trios) c.put.ensures)
-    ∙ with_put c.args.self.now c.self.inside.count c.self.inside.posts.items c.self.inside.bags.trios c.self.inside.retired.items c.self.inside.scan c.args.p c.args.i c.self.view_is c.self.invariant.same
+    ap (λ (ts : List Trio). seen c.self.inside.count c.self.inside.posts.items ts (set c.self.inside.retired.items c.args.item true) c.self.inside.scan) (ap (λ (b : Bagged). b.trios) c.put.ensures)
+    ∙ with_put c.args.self.now c.self.inside.count c.self.inside.posts.items c.self.inside.bags.trios c.self.inside.retired.items c.self.inside.scan c.args.place c.args.item c.self.view_is c.self.invariant.same
