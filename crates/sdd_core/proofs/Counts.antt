@@ -8,7 +8,8 @@ use Rattle.sdd_core.specs.declared.machine.places.Phase.{Phase}
 use Rattle.sdd_core.specs.declared.machine.places.Phase.TheVariants.{Free, Closed, Reading, Open, Ended}
 use Rattle.sdd_core.specs.declared.machine.places.Scan.{Scan}
 use Rattle.sdd_core.specs.Table.{Size, State, Place, place_at, free_place, is_free, is_closed, is_reading, is_open, is_ended, read_of, possible, registered, reading, closed, ended, retiring, published, left, freed, taking, raises, skip, looked, scan_looked, scan_advanced, holds, adopts, looks, advances}
-use Rattle.sdd_core.specs.History.{state, IsHistory, count_at, last_read, last_published}
+use Rattle.sdd_core.proofs.Histories.{IsHistory}
+use Rattle.sdd_core.specs.History.{state, count_at, last_read, last_published}
 use Rattle.sdd_core.proofs.Places.{at_place, in_range, closed_is, reading_is, open_is, effect, place_after}
 
 -- the count at q's last publish

@@ -7,7 +7,7 @@ use Rattle.sdd_core.specs.declared.machine.steps.Step.TheVariants.{Register, Rea
 use Rattle.sdd_core.specs.declared.machine.places.Phase.{Phase}
 use Rattle.sdd_core.specs.declared.machine.places.Phase.TheVariants.{Free, Closed, Reading, Open, Ended}
 use Rattle.sdd_core.specs.Table.{Size, Place, Items, place_at, is_closed, is_reading, is_open, is_ended, read_of, possible, registered, reading, closed, ended, retiring, published, left, freed, taking}
-use Rattle.sdd_core.specs.History.{state, IsHistory, count_at, last_read, last_published}
+use Rattle.sdd_core.specs.History.{state, count_at, last_read, last_published}
 use Rattle.sdd_core.proofs.Places.{at_place, free_is, closed_is, reading_is, open_is, effect}
 use Rattle.std.specs.Cmp.{nat_cmp_total, unsigned_tied}
 use Rattle.std.specs.FinSet as set

@@ -6,17 +6,19 @@ use Rattle.sdd_core.specs.declared.machine.places.Post.{Post}
 use Rattle.sdd_core.specs.Bags.{Trio, Bagged, no_items, all_of, joined}
 use Rattle.std.proofs.Common.{None, replicate, add-one, map}
 use Rattle.std.specs.Cmp.{nat_cmp_total}
-use Rattle.std.proofs.lemmas.Bool.{le-ltb, lt-ltb, false≢true, cases_eq, cases_lt, and_right, or_cases, or_left, or_right}
+use Rattle.std.proofs.lemmas.Bool.{true≢false, le-ltb, lt-ltb, false≢true, cases_eq, cases_lt, and_right, or_cases, or_left, or_right}
 use Rattle.std.proofs.lemmas.List.{ext_get_or, length-set, length-map, take_all}
 use Rattle.sdd_core.specs.Bags.{has}
-use Rattle.sdd_core.proofs.Places.{at_place}
+use Rattle.sdd_core.proofs.Places.{at_place, open_is}
 use Rattle.sdd_core.proofs.InBags.{contains-both, or_nothing}
 use Rattle.sdd_core.specs.Views.{Fits, freed_post}
-use Rattle.sdd_core.specs.Table.{is_ended, Place, free_place, new_state}
+use Rattle.sdd_core.specs.Table.{is_free, is_open, is_ended, Place, free_place, new_state}
 use Rattle.sdd_core.specs.Views.{places_of}
 use Rattle.sdd_core.specs.declared.machine.places.Scan.{Scan}
 use Rattle.std.proofs.Common.{Option}
-use Rattle.sdd_core.proofs.Seen.{seen, held_freed}
+use Rattle.sdd_core.proofs.Seen.{seen, held_freed, post_freed}
+use Rattle.sdd_core.specs.declared.machine.places.Phase.{Phase}
+use Rattle.sdd_core.specs.declared.machine.places.Phase.TheVariants.{Free}
 use Rattle.std.proofs.lemmas.List.{length-replicate}
 use Rattle.sdd_core.specs.Views.{free_post, left_in, emptied, gathered}
 
@@ -204,11 +206,28 @@ gathered_has p xs ts q i same l e =
     ] k)
     e
 
-pub fits_gathered : (p : ℕ) (xs : List Post) (b : Bagged) (rs : List Bool) (o : Option Scan) → Fits xs b rs o → p < length xs → Fits (map freed_post xs) (record b { trios = gathered p xs b.trios }) rs o
-fits_gathered p xs b rs o f l =
+-- after an adopt a free place has empty bags
+gathered_free : (p : ℕ) (xs : List Post) (b : Bagged) (rs : List Bool) (o : Option Scan) → Fits xs b rs o → p < length xs → is_open (get_or xs p free_post).phase ≡ true →
+    (q : ℕ) → is_free (get_or (map freed_post xs) q free_post).phase ≡ true → get_or (gathered p xs b.trios) q no_items ≡ no_items
+gathered_free p xs b rs o f l opened q is =
+    let t = get_or b.trios p no_items in
+    let v : Trio = record { current = set.union t.current (left_in xs b.trios); prev = t.prev; next = t.next } in
+    let free : is_free (cond (is_ended (get_or xs q free_post).phase) Free (get_or xs q free_post).phase) ≡ true = sym (ap (λ (y : Post). is_free y.phase) (post_freed xs q)) ∙ is in
+    let other : q ≡ p → ⊥ = λ e.
+    true≢false (sym (subst (λ (j : ℕ). is_free (cond (is_ended (get_or xs j free_post).phase) Free (get_or xs j free_post).phase) ≡ true) e free) ∙ ap (λ (k : Phase). is_free (cond (is_ended k) Free k)) (open_is _ opened)) in
+    get_or-set_other (emptied xs b.trios) p q v no_items other
+    ∙ (at-emptied xs b.trios q f.same
+    ∙ elim (is_ended (get_or xs q free_post).phase) as (λ w. is_free (cond w Free (get_or xs q free_post).phase) ≡ true → cond w no_items (get_or b.trios q no_items) ≡ no_items) [
+      | true ↦ λ _. refl
+      | false ↦ λ k. f.free q k
+    ] free)
+
+pub fits_gathered : (p : ℕ) (xs : List Post) (b : Bagged) (rs : List Bool) (o : Option Scan) → Fits xs b rs o → p < length xs → is_open (get_or xs p free_post).phase ≡ true → Fits (map freed_post xs) (record b { trios = gathered p xs b.trios }) rs o
+fits_gathered p xs b rs o f l opened =
     let t = get_or b.trios p no_items in
     record {
       held = held_freed xs o f.held;
+      free = gathered_free p xs b rs o f l opened;
       few = (let a = length-map xs freed_post in let c = f.few in omega arith);
       same = length-set (emptied xs b.trios) p (record t { current = set.union t.current (left_in xs b.trios) }) ∙ (length-emptied xs b.trios f.same ∙ (f.same ∙ sym (length-map xs freed_post)));
       room = f.room;
@@ -234,6 +253,7 @@ fits_new n m xs rs b e f g few =
     let size : length xs ≡ n = ap (λ (ys : List Post). length ys) e ∙ length-replicate n free_post in
     record {
       held = tt;
+      free = λ q _. ap (λ (c : Bagged). get_or c.trios q no_items) g ∙ get_or-no_items n q;
       few = omega arith;
       same = ap (λ (c : Bagged). length c.trios) g ∙ (length-replicate n no_items ∙ sym size);
       room = ap (λ (c : Bagged). c.items) g ∙ sym (ap (λ (ss : List Bool). length ss) f ∙ length-replicate m false);

@@ -6,7 +6,8 @@ use Rattle.sdd_core.specs.declared.machine.steps.Step.TheVariants.{Register, Rea
 use Rattle.sdd_core.specs.declared.machine.places.Phase.{Phase}
 use Rattle.sdd_core.specs.declared.machine.places.Phase.TheVariants.{Free, Open}
 use Rattle.sdd_core.specs.Table.{Size, State, Place, place_at, is_free, is_closed, is_reading, is_ended, possible, registered, reading, closed, ended, retiring, published, left, freed, taking, raises}
-use Rattle.sdd_core.specs.History.{state, IsHistory, count_at, last_read}
+use Rattle.sdd_core.proofs.Histories.{IsHistory}
+use Rattle.sdd_core.specs.History.{state, count_at, last_read}
 use Rattle.sdd_core.proofs.Places.{at_place, effect}
 use Rattle.std.proofs.lemmas.Bool.{or_parts, or_from}
 use Rattle.sdd_core.specs.History.{closes}

@@ -6,8 +6,9 @@ use Rattle.sdd_core.specs.declared.machine.steps.Step.TheVariants.{Register, Rea
 use Rattle.sdd_core.specs.declared.machine.places.Phase.{Phase}
 use Rattle.sdd_core.specs.declared.machine.places.Phase.TheVariants.{Free, Closed, Reading, Open, Ended}
 use Rattle.sdd_core.specs.Table.{Size, Place, Items, place_at, free_place, is_ended, possible, registered, reading, closed, ended, retiring, published, left, freed, taking}
-use Rattle.sdd_core.specs.History.{state, IsHistory, count_at, last_read, last_published}
-use Rattle.sdd_core.proofs.Places.{at_place, reading_is, effect}
+use Rattle.sdd_core.proofs.Histories.{IsHistory}
+use Rattle.sdd_core.specs.History.{state, count_at, last_read, last_published}
+use Rattle.sdd_core.proofs.Places.{at_place, free_is, reading_is, effect}
 use Rattle.std.proofs.lemmas.Bool.{or_from, or_left, or_right, eq-eqb, ne_eqb}
 use Rattle.std.specs.Ordering.{nat_cmp}
 use Rattle.std.specs.Cmp.{nat_cmp_total}
@@ -198,9 +199,23 @@ kept_from_flag (Waits p k) e = absurd (true≢false e)
 kept_from_flag (Left p k) e = absurd (true≢false e)
 kept_from_flag Gone e = absurd (true≢false e)
 
+-- a free place holds nothing
+free_none : (c r : ℕ) (at : ℕ → Place) (f : Fate) (q : ℕ) → FateOk c r at f → (at q).phase ≡ Free → (k : ℕ) → is_with f q k ≡ false
+free_none c r at Kept q ok free k = refl
+free_none c r at (Waits h j) q ok free k = not_so q h (eqb j k) (λ e. true≢false (sym ok.alive ∙ (ap live (subst (λ (m : ℕ). (at m).phase ≡ Free) e free))))
+free_none c r at (Left h j) q ok free k = not_so q h (eqb j k) (λ e. true≢false (sym (ap is_ended ok.2) ∙ ap is_ended (subst (λ (m : ℕ). (at m).phase ≡ Free) e free)))
+free_none c r at Gone q ok free k = refl
+
 bags_step : (size : Size) (h : List Step) (step : Step) (i : ℕ) → Good size h → possible (state size h) step ≡ true → Item size h i →
     (q : ℕ) → BagsOk (fate size i (step ∷ h)) q i (effect (state size h) step q (place_at (state size h) q))
-bags_step size h (Register p) i g can o q = let x = place_at (state size h) q in bags_with p q i (fate size i h) x (registered x) (o.bags q) (o.bags q)
+bags_step size h (Register p) i g can o q =
+    let s = state size h in let x = place_at s q in let f = fate size i h in
+    at_place p q (λ t. BagsOk f q i (cond t (registered x) x))
+    (λ e.
+    let none = free_none (count_at size h) (retired_at size i h) (place_at s) f q o.fated (subst (λ (j : ℕ). (place_at s j).phase ≡ Free) e (free_is _ (and_parts _ _ can).1)) in
+    let nothing = set.contains-empty nat_cmp i in
+    (nothing ∙ sym (none 0), nothing ∙ sym (none 1), nothing ∙ sym (none 2)))
+    (λ _. o.bags q)
 bags_step size h (Read p) i g can o q = let x = place_at (state size h) q in bags_with p q i (fate size i h) x (reading (count_at size h) x) (o.bags q) (o.bags q)
 bags_step size h (Publish p) i g can o q =
     let s = state size h in let f = fate size i h in

@@ -1,5 +1,6 @@
 pub mod Epochs
 pub mod Greatest
+pub mod Histories
 pub mod Places
 pub mod Counts
 pub mod Guards

@@ -1,6 +1,6 @@
 -- Chains through links that others share
-use Rattle.std.proofs.Common.{◌≡◌, ℕ, ◌+◌, ◌-◌, ◌<◌, ◌≤◌, ◌^◌, Bool, false, true, cond, ◌||◌, nat_eq, eqb, List, [], ◌∷◌, ◌++◌, length, map, get_or, set as list_set, zero, suc, refl, sym, ap, subst, ◌∙◌, ⊎_elim, arith, replicate, get_or-set_same, get_or-set_other}
-use Rattle.std.proofs.lemmas.Bool.{ne_eqb, eqb-true, cases_eq, or_parts, true≢false, eq-eqb}
+use Rattle.std.proofs.Common.{◌≡◌, ℕ, ◌+◌, ◌-◌, ◌<◌, ◌≤◌, ◌^◌, Bool, false, cond, ◌||◌, nat_eq, List, [], ◌∷◌, ◌++◌, length, map, get_or, set as list_set, zero, suc, refl, sym, ap, subst, ◌∙◌, ⊎_elim, arith, replicate, get_or-set_same, get_or-set_other}
+use Rattle.std.proofs.lemmas.Bool.{ne_eqb, cases_eq, or_parts, true≢false, eq-eqb}
 use Rattle.std.proofs.lemmas.List.{length-set, set-set, map-set}
 use Rattle.std.proofs.Math.ListN.{get_or-map}
 use Rattle.std.proofs.lemmas.List.Folds.{list_any-append}

@@ -98,9 +98,12 @@ has_rotated t i h =
     (λ b. or_left (set.contains t.current i || set.contains t.prev i) (set.contains t.next i) (or_right (set.contains t.current i) (set.contains t.prev i) b))
     (or_cases (set.contains (set.empty {R = nat_cmp}) i || set.contains t.current i) (set.contains t.prev i) h)
 
-fits_set : (xs : List Post) (b : Bagged) (rs : List Bool) (o : Option Scan) (p : ℕ) (u : Trio) → Fits xs b rs o → p < length b.trios → ((i : ℕ) → has u i ≡ true → get_or rs i false ≡ true) → Fits xs (record b { trios = set b.trios p u }) rs o
-fits_set xs b rs o p u f l h = record {
+fits_set : (xs : List Post) (b : Bagged) (rs : List Bool) (o : Option Scan) (p : ℕ) (u : Trio) → Fits xs b rs o → p < length b.trios → (is_free (get_or xs p free_post).phase ≡ true → u ≡ no_items) → ((i : ℕ) → has u i ≡ true → get_or rs i false ≡ true) → Fits xs (record b { trios = set b.trios p u }) rs o
+fits_set xs b rs o p u f l g h = record {
   held = f.held;
+  free = λ q. at_place p q (λ t. is_free (get_or xs q free_post).phase ≡ true → get_or (set b.trios p u) q no_items ≡ no_items)
+      (λ e is. subst (λ (j : ℕ). is_free (get_or xs j free_post).phase ≡ true → get_or (set b.trios p u) j no_items ≡ no_items) e (λ w. get_or-set_same b.trios p u no_items l ∙ g w) is)
+      (λ ne is. get_or-set_other b.trios p q u no_items (λ e. ne (sym e)) ∙ f.free q is);
   few = f.few;
   room = f.room;
   same = length-set b.trios p u ∙ f.same;
@@ -110,7 +113,7 @@ fits_set xs b rs o p u f l h = record {
 }
 
 pub fits_rotated : (xs : List Post) (b : Bagged) (rs : List Bool) (o : Option Scan) (p : ℕ) → Fits xs b rs o → p < length b.trios → Fits xs (record b { trios = set b.trios p (bags.rotated (get_or b.trios p no_items)) }) rs o
-fits_rotated xs b rs o p f l = fits_set xs b rs o p (bags.rotated (get_or b.trios p no_items)) f l (λ i h. f.waits p i (has_rotated (get_or b.trios p no_items) i h))
+fits_rotated xs b rs o p f l = fits_set xs b rs o p (bags.rotated (get_or b.trios p no_items)) f l (λ is. ap bags.rotated (f.free p is)) (λ i h. f.waits p i (has_rotated (get_or b.trios p no_items) i h))
 
 has_put : (t : Trio) (i j : ℕ) → has (put i t) j ≡ true → (i ≡ j) ⊎ (has t j ≡ true)
 has_put t i j h =
@@ -128,10 +131,10 @@ retired_more rs i j l h =
     (λ e. subst (λ (k : ℕ). get_or (set rs i true) k false ≡ true) e (get_or-set_same rs i true false l))
     (λ ne. get_or-set_other rs i j true false (λ e. ne (sym e)) ∙ ⊎_elim (λ e. absurd (ne e)) (λ g. g) h)
 
-pub fits_put : (xs : List Post) (b : Bagged) (rs : List Bool) (o : Option Scan) (p i : ℕ) → Fits xs b rs o → p < length b.trios → i < length rs → Fits xs (record b { trios = set b.trios p (put i (get_or b.trios p no_items)) }) (set rs i true) o
-fits_put xs b rs o p i f l m =
-    let g : Fits xs b (set rs i true) o = record { held = f.held; few = f.few; same = f.same; room = f.room ∙ sym (length-set rs i true); waits = λ q j h. retired_more rs i j m (inr (f.waits q j h)) } in
-    fits_set xs b (set rs i true) o p (put i (get_or b.trios p no_items)) g l
+pub fits_put : (xs : List Post) (b : Bagged) (rs : List Bool) (o : Option Scan) (p i : ℕ) → Fits xs b rs o → p < length b.trios → is_free (get_or xs p free_post).phase ≡ false → i < length rs → Fits xs (record b { trios = set b.trios p (put i (get_or b.trios p no_items)) }) (set rs i true) o
+fits_put xs b rs o p i f l busy m =
+    let g : Fits xs b (set rs i true) o = record { held = f.held; free = f.free; few = f.few; same = f.same; room = f.room ∙ sym (length-set rs i true); waits = λ q j h. retired_more rs i j m (inr (f.waits q j h)) } in
+    fits_set xs b (set rs i true) o p (put i (get_or b.trios p no_items)) g l (λ is. absurd (true≢false (sym is ∙ busy)))
     (λ j h. retired_more rs i j m (⊎_elim (λ e. inl e) (λ o. inr (f.waits p j o)) (has_put (get_or b.trios p no_items) i j h)))
 
 pub with_put : (v : State) (c : ℕ) (xs : List Post) (ts : List Trio) (rs : List Bool) (x : Option Scan) (p i : ℕ) → seen c xs ts rs x ≡ v → length ts ≡ length xs →
@@ -242,8 +245,11 @@ held_written xs (Some x) p y h other =
     ∙ h
 
 pub fits_written : (v : State) (c : ℕ) (xs : List Post) (b : Bagged) (rs : List Bool) (o : Option Scan) (p : ℕ) (y : Post) → seen c xs b.trios rs o ≡ v → Fits xs b rs o →
-    (holds p v.scan ≡ true → is_open (place_at v p).phase ≡ false) → Fits (set xs p y) b rs o
-fits_written v c xs b rs o p y e f other = record {
+    (holds p v.scan ≡ true → is_open (place_at v p).phase ≡ false) → p < length xs → is_free y.phase ≡ false → Fits (set xs p y) b rs o
+fits_written v c xs b rs o p y e f other l busy = record {
+  free = λ q. at_place p q (λ t. is_free (get_or (set xs p y) q free_post).phase ≡ true → trio_at b.trios q ≡ no_items)
+      (λ s is. absurd (true≢false (sym (subst (λ (j : ℕ). is_free (get_or (set xs p y) j free_post).phase ≡ true) (sym s) is) ∙ (ap (λ (z : Post). is_free z.phase) (get_or-set_same xs p y free_post l) ∙ busy))))
+      (λ ne is. f.free q (sym (ap (λ (z : Post). is_free z.phase) (get_or-set_other xs p q y free_post (λ s. ne (sym s)))) ∙ is));
   held = held_written xs o p y f.held
       (λ h. sym (ap (λ (z : Place). is_open z.phase) (at_seen v c xs b.trios rs o e f.same p)) ∙ other (sym (ap (λ (s : State). holds p s.scan) e) ∙ h));
   few = (let a = length-set xs p y in let l = f.few in omega arith);
@@ -253,4 +259,4 @@ fits_written v c xs b rs o p y e f other = record {
 }
 
 pub fits_scanned : (v : State) (c : ℕ) (xs : List Post) (b : Bagged) (rs : List Bool) (x o : Option Scan) → seen c xs b.trios rs x ≡ v → Fits xs b rs x → IsHeld v o → Fits xs b rs o
-fits_scanned v c xs b rs x o e f h = record { held = seen_held v c xs b.trios rs x o e f.same h; few = f.few; same = f.same; room = f.room; waits = f.waits }
+fits_scanned v c xs b rs x o e f h = record { held = seen_held v c xs b.trios rs x o e f.same h; free = f.free; few = f.few; same = f.same; room = f.room; waits = f.waits }

@@ -5,19 +5,18 @@ use Rattle.sdd_core.specs.declared.machine.steps.Step.{Step}
 use Rattle.sdd_core.specs.declared.machine.steps.Step.TheVariants.{Register, Read, Publish, Retire, Lock, Adopt, Look, Advance, Unlock, Close, End}
 use Rattle.sdd_core.specs.declared.machine.places.Phase.{Phase}
 use Rattle.sdd_core.specs.Table.{Size, State, Place, Items, place_at, is_ended, read_of, possible, after}
-use Rattle.sdd_core.specs.History.{state, IsHistory, count_at, last_read, last_published}
+use Rattle.sdd_core.proofs.Histories.{IsHistory}
+use Rattle.sdd_core.specs.History.{state, count_at, last_read, last_published}
 use Rattle.sdd_core.proofs.Places.{at_place, reading_is}
-use Rattle.std.proofs.lemmas.Bool.{or_parts, or_from, or_left, or_right, eq-eqb}
+use Rattle.std.proofs.lemmas.Bool.{or_left, or_right, eq-eqb}
 use Rattle.std.specs.Ordering.{nat_cmp}
 use Rattle.std.specs.FinSet as set
 use Rattle.sdd_core.specs.Table.{finds_another}
 use Rattle.sdd_core.specs.History.{is_change, fate, changed, taken_over, Fate, Kept, Waits, Left, Gone}
 use Rattle.sdd_core.specs.History as history
 use Rattle.sdd_core.proofs.Guards.{count_step}
-use Rattle.sdd_core.proofs.Counts.{since, PhaseOk, good, at_q}
+use Rattle.sdd_core.proofs.Counts.{since, PhaseOk, good}
 use Rattle.sdd_core.proofs.Fates.{WaitOk, FateOk, In, is_with, BagsOk, was_retired, retired_at, change_is}
-use Rattle.std.proofs.lemmas.Bool.{true_from_ne_false}
-use Rattle.std.proofs.lemmas.List.{append_assoc}
 use Rattle.std.specs.Prelude.{◌↔◌}
 use Rattle.sdd_core.specs.Table.{taken_out}
 use Rattle.sdd_core.specs.History.{Reclaims, IsDue, WasDue, Safe, Exact, IsWith, IsReclaimed, IsHolder, IsOpenGuard}
@@ -26,7 +25,7 @@ use Rattle.std.proofs.lemmas.List.{take_more}
 use Rattle.sdd_core.specs.Table.{happens}
 use Rattle.sdd_core.specs.History.{goes_on, history as history_of}
 use Rattle.sdd_core.specs.Epoch.{epoch_after, same_generation}
-use Rattle.sdd_core.specs.Laws.{ReclaimsWhatWasDue, WaitsWithOneHolder, IsRaisedAtMostOnce, KeepsGenerations, AtEachMoment}
+use Rattle.sdd_core.specs.Laws.{WaitsWithOneHolder, IsRaisedAtMostOnce, KeepsGenerations, AtEachMoment}
 use Rattle.sdd_core.specs.Sizes.{size_for}
 use Rattle.sdd_core.proofs.Guards.{count_grows, earlier, raised_once}
 use Rattle.sdd_core.proofs.InBags.{item}

@@ -1,5 +1,5 @@
 -- Bags by threes
-use Rattle.std.proofs.Common.{◌≡◌, ℕ, ◌+◌, ◌*◌, ◌<◌, Bool, true, false, ◌||◌, List, [], ◌∷◌, length, get_or, set as list_set, zero, suc, refl, sym, ap, subst, ◌∙◌, arith, replicate, get_or-set_same}
+use Rattle.std.proofs.Common.{◌≡◌, ℕ, ◌+◌, ◌*◌, ◌<◌, Bool, true, false, ◌||◌, List, [], ◌∷◌, length, set as list_set, zero, suc, refl, sym, ap, ◌∙◌, arith, replicate, get_or-set_same}
 use Rattle.std.proofs.lemmas.Bool.{or_parts}
 use Rattle.std.proofs.lemmas.List.{length-set, set-set}
 use Rattle.std.specs.Ordering.{nat_cmp}

@@ -14,11 +14,6 @@ abbrev pub state : Size → List Step → State
 state size [] = new_state size
 state size (step ∷ past) = after (state size past) step
 
--- each step was possible when it was taken
-abbrev pub IsHistory : Size → List Step → Type 0
-IsHistory size [] = Unit {0}
-IsHistory size (step ∷ past) = IsTrue (possible (state size past) step) × IsHistory size past
-
 -- the moment after more steps, the oldest first: those that are not possible are left out
 abbrev pub goes_on : Size → List Step → List Step → List Step
 goes_on size past [] = past

@@ -122,7 +122,7 @@ abbrev pub posted : Phase → ℕ → Place → Place
 posted phase found x = record x { phase = phase; found = found }
 
 abbrev pub registered : Place → Place
-registered = posted Closed 0
+registered x = record free_place { phase = Closed }
 
 abbrev pub reading : ℕ → Place → Place
 reading c = phased (Reading c)

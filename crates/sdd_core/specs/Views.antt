@@ -5,7 +5,7 @@ use Rattle.sdd_core.specs.Bags.{Trio, Bagged, trio_at, no_items, has, all_of}
 use Rattle.std.specs.FinSet as set
 use Rattle.sdd_core.specs.declared.machine.places.Phase.TheVariants.{Free}
 use Rattle.sdd_core.specs.declared.machine.places.Scan.{Scan}
-use Rattle.sdd_core.specs.Table.{State, Place, Items, place_at, is_open, is_ended}
+use Rattle.sdd_core.specs.Table.{State, Place, Items, place_at, is_free, is_open, is_ended}
 
 abbrev pub place_of : Post → Trio → Place
 place_of x t = record { phase = x.phase; found = x.found; current = t.current; prev = t.prev; next = t.next }
@@ -29,9 +29,11 @@ abbrev pub IsHeld : State → Option Scan → Type 0
 IsHeld s None = Unit {0}
 IsHeld s (Some scan) = is_open (place_at s scan.holder).phase ≡ true
 
--- as many bags as places, what is in a bag was retired, and the holder of the lock is open
+-- as many bags as places, what is in a bag was retired, a free place has empty bags, and the holder of the lock is
+-- open
 pub record Fits (posts : List Post) (bags : Bagged) (retired : List Bool) (scan : Option Scan) : Type 0 where
   pub held : IsHeldOpen posts scan
+  pub free : (place : ℕ) → is_free (slice_index_or posts place free_post).phase ≡ true → trio_at bags.trios place ≡ no_items
   pub few : length posts ≤ 1024
   pub same : length bags.trios ≡ length posts
   pub room : bags.items ≡ length retired

@@ -3,7 +3,7 @@
 //! Whatever steps are taken in whatever order, what the contract of [`safety`] says holds of each moment.
 
 ghost use Rattle.std.specs.Prelude.{◌≡◌, ◌<◌, ◌≤◌, ◌↔◌, ◌||◌, false, true, length, IfOk, IsOkUnless, IsTrue, List, slice_index_or};
-ghost use Rattle.sdd_core.specs.Table.{is_open, is_closed, is_reading};
+ghost use Rattle.sdd_core.specs.Table.{is_free, is_open, is_closed, is_reading};
 ghost use Rattle.sdd_core.specs.Views.{gathered, free_post};
 ghost use Rattle.sdd_core.specs.Sizes.{greatest, place_named, item_named, size_for};
 ghost use Rattle.sdd_core.specs.History.{Safe, Exact};
@@ -153,6 +153,7 @@ impl Machine {
     fn set_phase(&mut self, place: u32, phase: Phase)
         requires place { place < length self.old.places }
         requires other { holds place self.old.scan ≡ true → is_open (place_at self.old place).phase ≡ false }
+        requires busy { is_free phase ≡ false }
         ensures { self.new ≡ with_place self.old place (phased phase) }
     {
         self.posts[place as usize].phase = phase;
@@ -161,6 +162,7 @@ impl Machine {
     fn set_post(&mut self, place: u32, phase: Phase, found: u64)
         requires place { place < length self.old.places }
         requires other { holds place self.old.scan ≡ true → is_open (place_at self.old place).phase ≡ false }
+        requires busy { is_free phase ≡ false }
         ensures { self.new ≡ with_place self.old place (posted phase found) }
     {
         self.posts[place as usize] = Post { phase, found };
@@ -177,6 +179,7 @@ impl Machine {
     fn retire(&mut self, place: u32, item: u32)
         requires place { place < length self.old.places }
         requires item { item < length self.old.retired }
+        requires busy { is_free (place_at self.old place).phase ≡ false }
         requires fresh { slice_index_or self.old.retired item false ≡ false }
         ensures { self.new ≡ after self.old (Step.Retire place item) }
     {
@@ -190,6 +193,17 @@ impl Machine {
     {
         gather(&mut self.bags, self.posts.as_slice(), place);
         free_ended(self.posts.as_mut_slice());
+    }
+
+    fn register(&mut self, place: u32)
+        requires place { place < length self.old.places }
+        requires free { is_free (place_at self.old place).phase ≡ true }
+        ensures { self.new ≡ after self.old (Step.Register place) }
+    {
+        self.posts[place as usize] = Post {
+            phase: Phase::Closed,
+            found: 0,
+        };
     }
 
     fn read(&mut self, place: u32)
@@ -310,7 +324,7 @@ impl Machine {
             Step::Publish(place) => return self.publish(place),
             Step::Look(place) => return self.look(place),
             Step::Advance(place) => return self.advance(place),
-            Step::Register(place) => self.set_post(place, Phase::Closed, 0),
+            Step::Register(place) => self.register(place),
             Step::Read(place) => self.read(place),
             Step::Retire(place, item) => self.retire(place, item),
             Step::Lock(place) => self.lock(place),

@@ -43,5 +43,5 @@ invariant_of-self c =
     let moved : c.gather.new.bags ≡ record c.self.inside.bags { trios = gathered c.args.place xs c.self.inside.bags.trios } = c.gather.ensures ∙ ap (λ (ys : List Post). record c.self.inside.bags { trios = gathered c.args.place ys c.self.inside.bags.trios }) c.as_slice.ensures.value in
     let h : c.args.place < length xs = open_in_range xs c.args.place opened in
     let e : Fits (map freed_post xs) c.gather.new.bags c.self.inside.retired.items c.self.inside.scan =
-    subst (λ (b : Bagged). Fits (map freed_post xs) b c.self.inside.retired.items c.self.inside.scan) (sym moved) (fits_gathered c.args.place xs c.self.inside.bags c.self.inside.retired.items c.self.inside.scan c.self.invariant h) in
+    subst (λ (b : Bagged). Fits (map freed_post xs) b c.self.inside.retired.items c.self.inside.scan) (sym moved) (fits_gathered c.args.place xs c.self.inside.bags c.self.inside.retired.items c.self.inside.scan c.self.invariant h opened) in
     subst (λ (ys : List Post). Fits ys c.gather.new.bags c.self.inside.retired.items c.self.inside.scan) (sym posts) e

@@ -20,4 +20,6 @@ returns c =
     (ap (λ (x : Post). place_of (record { phase = c.args.phase; found = x.found }) (get_or c.self.inside.bags.trios c.args.place no_items)) (sym is))
 
 pub invariant_of-self : goal.invariant_of-self
-invariant_of-self c = fits_written c.args.self.now c.self.inside.count c.self.inside.posts.items c.self.inside.bags c.self.inside.retired.items c.self.inside.scan c.args.place (record { phase = c.args.phase; found = c.index_mut.result.now.found }) c.self.view_is c.self.invariant c.requires.other
+invariant_of-self c =
+    let h : c.args.place < length c.self.inside.posts.items = within_seen c.args.self.now c.self.inside.count c.self.inside.posts.items c.self.inside.bags.trios c.self.inside.retired.items c.self.inside.scan c.self.view_is c.self.invariant.same c.args.place c.requires.place in
+    fits_written c.args.self.now c.self.inside.count c.self.inside.posts.items c.self.inside.bags c.self.inside.retired.items c.self.inside.scan c.args.place (record { phase = c.args.phase; found = c.index_mut.result.now.found }) c.self.view_is c.self.invariant c.requires.other h c.requires.busy

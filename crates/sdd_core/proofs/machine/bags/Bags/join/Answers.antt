@@ -1,8 +1,6 @@
-use Rattle.std.proofs.Common.{◌≡◌, ℕ, ◌+◌, ◌*◌, ◌<◌, List, length, refl, sym, ap, subst, ◌∙◌, arith, slice_set, replicate}
-use Rattle.std.specs.FinSet as set
-use Rattle.sdd_core.specs.Table.{Items}
-use Rattle.sdd_core.specs.Bags.{Trio, Bagged, trio_at, no_items, has, put, rotated, joined, trios_of, AreTrios}
-use Rattle.sdd_core.specs.Chains.{Linked, bag_at}
+use Rattle.std.proofs.Common.{◌≡◌, ◌+◌, ◌*◌, ◌<◌, List, length, refl, sym, ap, subst, ◌∙◌, arith}
+use Rattle.sdd_core.specs.Bags.{Trio, Bagged, joined, trios_of, AreTrios}
+use Rattle.sdd_core.specs.Chains.{Linked}
 use Rattle.sdd_core.proofs.Trios.{moved, taken_in, taken_trios_in, trios_moved}
 use Rattle.sdd_core.proofs.machine.bags.Bags.join.Goals as goal
 

@@ -1,8 +1,8 @@
-use Rattle.std.proofs.Common.{◌≡◌, ℕ, ◌+◌, ◌*◌, ◌<◌, List, length, refl, sym, ap, subst, ◌∙◌, arith, slice_set, replicate}
+use Rattle.std.proofs.Common.{◌≡◌, ℕ, ◌*◌, List, length, refl, sym, ap, subst, ◌∙◌, replicate}
 use Rattle.std.specs.FinSet as set
 use Rattle.sdd_core.specs.Table.{Items}
-use Rattle.sdd_core.specs.Bags.{Trio, Bagged, trio_at, no_items, has, put, rotated, joined, trios_of, AreTrios}
-use Rattle.sdd_core.specs.Chains.{Linked, bag_at}
+use Rattle.sdd_core.specs.Bags.{Trio, no_items, trios_of, AreTrios}
+use Rattle.sdd_core.specs.Chains.{Linked}
 use Rattle.sdd_core.proofs.Trios.{new_trios}
 use Rattle.std.proofs.lemmas.List.{length-replicate}
 use Rattle.sdd_core.proofs.machine.bags.Bags.new.Goals as goal

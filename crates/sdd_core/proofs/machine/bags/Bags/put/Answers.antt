@@ -1,7 +1,6 @@
-use Rattle.std.proofs.Common.{◌≡◌, ℕ, ◌+◌, ◌*◌, ◌<◌, List, length, refl, sym, ap, subst, ◌∙◌, arith, slice_set, replicate}
+use Rattle.std.proofs.Common.{◌+◌, ◌*◌, ◌<◌, List, length, sym, ap, subst, ◌∙◌, arith, slice_set}
 use Rattle.std.specs.FinSet as set
-use Rattle.sdd_core.specs.Table.{Items}
-use Rattle.sdd_core.specs.Bags.{Trio, Bagged, trio_at, no_items, has, put, rotated, joined, trios_of, AreTrios}
+use Rattle.sdd_core.specs.Bags.{Trio, Bagged, trio_at, has, put, trios_of, AreTrios}
 use Rattle.sdd_core.specs.Chains.{Linked, bag_at}
 use Rattle.sdd_core.proofs.Trios.{put_trios, trios_set, in_no_bag}
 use Rattle.sdd_core.proofs.machine.bags.Bags.put.Goals as goal

@@ -1,8 +1,7 @@
-use Rattle.std.proofs.Common.{◌≡◌, ℕ, ◌+◌, ◌*◌, ◌<◌, List, length, refl, sym, ap, subst, ◌∙◌, arith, slice_set, replicate}
+use Rattle.std.proofs.Common.{◌≡◌, ◌+◌, ◌*◌, ◌<◌, List, length, refl, sym, ap, subst, ◌∙◌, arith, slice_set}
 use Rattle.std.specs.FinSet as set
-use Rattle.sdd_core.specs.Table.{Items}
-use Rattle.sdd_core.specs.Bags.{Trio, Bagged, trio_at, no_items, has, put, rotated, joined, trios_of, AreTrios}
-use Rattle.sdd_core.specs.Chains.{Linked, bag_at}
+use Rattle.sdd_core.specs.Bags.{Trio, Bagged, trio_at, rotated, trios_of, AreTrios}
+use Rattle.sdd_core.specs.Chains.{Linked}
 use Rattle.sdd_core.proofs.Trios.{moved, turned, turned_trios, taken_trios, trios_set, trios_moved}
 use Rattle.sdd_core.proofs.machine.bags.Bags.rotate.Goals as goal
 

@@ -1,9 +1,9 @@
-use Rattle.std.proofs.Common.{◌≡◌, ℕ, ◌<◌, ◌≤◌, ◌++◌, ◌∷◌, List, length, map, refl, sym, ap, subst, ◌∙◌, get_or, arith, slice_set}
-use Rattle.std.proofs.lemmas.List.{get_or_read, length-map, length-set, with_items_is}
+use Rattle.std.proofs.Common.{◌≡◌, ℕ, ◌<◌, ◌≤◌, ◌++◌, List, length, map, sym, ap, subst, ◌∙◌, get_or, arith, slice_set}
+use Rattle.std.proofs.lemmas.List.{get_or_read, length-map, with_items_is}
 use Rattle.std.specs.FinSet as set
 use Rattle.sdd_core.specs.declared.machine.chains.Chain.{Chain}
 use Rattle.sdd_core.specs.Table.{Items}
-use Rattle.sdd_core.specs.Chains.{Linked, items_of, occ, no_chain, all_items, bag_of, bag_at, AreChains}
+use Rattle.sdd_core.specs.Chains.{Linked, items_of, occ, no_chain, bag_of, bag_at, AreChains}
 use Rattle.sdd_core.proofs.Relinks.{both_once, joins_of, join_chains, join_bags}
 use Rattle.sdd_core.proofs.machine.chains.Chains.join.Goals as goal
 
