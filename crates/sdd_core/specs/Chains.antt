@@ -1,5 +1,5 @@
 -- Bags as chains through an array of links, one link for each item
-use Rattle.std.specs.Prelude.{◌≡◌, ℕ, zero, suc, ◌+◌, ◌-◌, ◌<◌, ◌≤◌, ◌^◌, if◌then◌else◌, ◌==◌, List, [], ◌∷◌, ◌++◌, slice_index_or, length, refl}
+use Rattle.std.specs.Prelude.{◌≡◌, ℕ, zero, suc, ◌+◌, ◌-◌, ◌<◌, ◌≤◌, ◌^◌, if◌then◌else◌, ◌==◌, List, [], ◌∷◌, ◌++◌, slice_index_or, slice_set, length, refl}
 use Rattle.std.specs.FinSet as set
 use Rattle.std.specs.Coded.{Coded, code_by, coded×, coded_ℕ, coded_list}
 use Rattle.sdd_core.specs.declared.machine.chains.Chain.{Chain}
@@ -51,3 +51,15 @@ linked_code = code_by (ℕ × List Items) (coded× coded_ℕ (coded_list items_c
 
 abbrev pub bag_at : List Items → ℕ → Items
 bag_at bags bag = slice_index_or bags bag set.empty
+
+-- an item put into a bag
+abbrev pub put_in : ℕ → ℕ → List Items → List Items
+put_in bag item bags = slice_set bags bag (set.insert (bag_at bags bag) item)
+
+-- a bag emptied
+abbrev pub emptied_at : ℕ → List Items → List Items
+emptied_at bag bags = slice_set bags bag set.empty
+
+-- everything in one bag moved into another
+abbrev pub moved_into : ℕ → ℕ → List Items → List Items
+moved_into to from bags = slice_set (emptied_at from bags) to (set.union (bag_at bags to) (bag_at bags from))

@@ -34,6 +34,9 @@ pub record Size : Type 0 where
   pub places : ℕ
   pub items : ℕ
 
+abbrev pub size_of : ℕ → ℕ → Size
+size_of places items = record { places = places; items = items }
+
 -- the sizes that a machine may have
 abbrev pub are_limits : Size → Bool
 are_limits size = nat_le 1 size.places && nat_le size.places 1024 && nat_le 1 size.items && nat_le size.items (2 ^ 24)

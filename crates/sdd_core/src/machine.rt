@@ -53,13 +53,18 @@ impl Model for Machine {
 
     ghost use Rattle.sdd_core.specs.Views.{places_of, Fits};
 
-    ghost view = { λ a. record { count = a.count; places = places_of a.posts.items a.bags.trios; retired = a.retired.items; scan = a.scan } };
+    ghost view = { λ a. record {
+      count = a.count;
+      places = places_of a.posts.items a.bags.trios;
+      retired = a.retired.items;
+      scan = a.scan;
+    } };
 
     ghost invariant = { λ a. Fits a.posts.items a.bags a.retired.items a.scan };
 }
 
 impl Machine {
-    ghost use Rattle.sdd_core.specs.Table.{State, new_state, place_at, with_place, phased, posted, rotated, are_limits, possible, after, did, did_possible, happens, holds, adopts, looks, advances, passes};
+    ghost use Rattle.sdd_core.specs.Table.{State, new_state, place_at, with_place, phased, posted, rotated, are_limits, size_of, possible, after, did, did_possible, happens, holds, adopts, looks, advances, passes};
     ghost use Rattle.sdd_core.specs.Views.{IsHeld};
     ghost use Rattle.std.specs.FinSet as set;
 
@@ -68,9 +73,10 @@ impl Machine {
     /// Refused with `BadLimits` outside of 1 to [`MAX_PLACES`] places and 1 to [`MAX_ITEMS`] items, and with
     /// `NoMemory` where memory was refused.
     pub fn new(alloc: Global, places: u32, items: u32) -> Result<Machine, Refused>
-        ensures machine { IfOk result (λ machine. machine ≡ new_state (record { places = places; items = items })) }
-        ensures bad_limits { (result ≡ Err Refused.BadLimits) ↔ (are_limits (record { places = places; items = items }) ≡ false) }
-        ensures no_memory { IsTrue (are_limits (record { places = places; items = items })) → IsOkUnless result Refused.NoMemory }
+        ensures machine { IfOk result (λ machine. machine ≡ new_state (size_of places items)) }
+        // Both ways: limits out of range are refused as such, and other ones only for want of memory.
+        ensures bad_limits { (result ≡ Err Refused.BadLimits) ↔ (are_limits (size_of places items) ≡ false) }
+        ensures no_memory { IsTrue (are_limits (size_of places items)) → IsOkUnless result Refused.NoMemory }
     {
         if places < 1 || MAX_PLACES < places || items < 1 || MAX_ITEMS < items {
             return Err(Refused::BadLimits);
@@ -289,7 +295,7 @@ impl Machine {
     }
 
     fn may_retire(&self, place: u32) -> bool
-        ensures { result ≡ (is_closed (place_at self.now place).phase || is_open (place_at self.now place).phase) }
+        ensures { let phase = (place_at self.now place).phase in result ≡ (is_closed phase || is_open phase) }
     {
         let phase = self.phase(place);
         phase.is_closed() || phase.is_open()

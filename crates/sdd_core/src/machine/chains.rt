@@ -1,6 +1,6 @@
 ghost use Rattle.std.specs.Prelude.{◌≡◌, ◌≢◌, ◌+◌, ◌++◌, ℕ, ◌<◌, ◌≤◌, ◌^◌, false, length, IfOk, replicate, slice_index_or, slice_set};
 ghost use Rattle.std.specs.FinSet as set;
-ghost use Rattle.sdd_core.specs.Chains.{items_of, IsChain, occ, bag_at};
+ghost use Rattle.sdd_core.specs.Chains.{items_of, IsChain, occ, bag_at, put_in, emptied_at, moved_into};
 
 use std::alloc::{AllocError, Global};
 use std::marker::Model;
@@ -30,7 +30,10 @@ impl Model for Chains {
 
     ghost use Rattle.sdd_core.specs.Chains.{bag_of, AreChains};
 
-    ghost view = { λ a. record { items = length a.links.items; bags = map (bag_of a.links.items) a.chains.items } };
+    ghost view = { λ a. record {
+      items = length a.links.items;
+      bags = map (bag_of a.links.items) a.chains.items;
+    } };
 
     ghost invariant = { λ a. AreChains a.links.items a.chains.items };
 }
@@ -61,7 +64,8 @@ fn joined(links: &mut [u32], first: Chain, second: Chain) -> Chain
     requires small { length links.old < 2 ^ 32 }
     ensures items { items_of links.new result ≡ items_of links.old first ++ items_of links.old second }
     ensures chain { IsChain links.new result }
-    ensures others { (i : ℕ) → (0 < first.len → i ≢ first.last) → slice_index_or links.new i 0 ≡ slice_index_or links.old i 0 }
+    ensures others { (i : ℕ) → (0 < first.len → i ≢ first.last) →
+        slice_index_or links.new i 0 ≡ slice_index_or links.old i 0 }
 {
     if first.len == 0 {
         return second;
@@ -92,7 +96,7 @@ impl Chains {
         requires bag { bag < length self.old.bags }
         requires item { item < self.old.items }
         requires nowhere { (k : ℕ) → set.contains (bag_at self.old.bags k) item ≡ false }
-        ensures { self.new ≡ record self.old { bags = slice_set self.old.bags bag (set.insert (bag_at self.old.bags bag) item) } }
+        ensures { self.new ≡ record self.old { bags = put_in bag item self.old.bags } }
     {
         let chain = self.chains[bag];
         self.chains[bag] = joined(self.links.as_mut_slice(), Chain::of(item), chain);
@@ -102,7 +106,7 @@ impl Chains {
     pub fn clear(&mut self, bag: usize) -> u32
         requires { bag < length self.old.bags }
         ensures taken { result ≡ set.len (bag_at self.old.bags bag) }
-        ensures cleared { self.new ≡ record self.old { bags = slice_set self.old.bags bag set.empty } }
+        ensures cleared { self.new ≡ record self.old { bags = emptied_at bag self.old.bags } }
     {
         let taken = self.chains[bag].len;
         self.chains[bag] = Chain::EMPTY;
@@ -114,7 +118,7 @@ impl Chains {
         requires to { to < length self.old.bags }
         requires from { from < length self.old.bags }
         requires other { to ≢ from }
-        ensures { self.new ≡ record self.old { bags = slice_set (slice_set self.old.bags from set.empty) to (set.union (bag_at self.old.bags to) (bag_at self.old.bags from)) } }
+        ensures { self.new ≡ record self.old { bags = moved_into to from self.old.bags } }
     {
         let first = self.chains[to];
         let second = self.chains[from];
