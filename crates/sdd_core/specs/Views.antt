@@ -8,13 +8,13 @@ use Rattle.sdd_core.specs.declared.machine.places.Scan.{Scan}
 use Rattle.sdd_core.specs.Table.{State, Place, Items, place_at, is_free, is_open, is_ended}
 
 abbrev pub place_of : Post → Trio → Place
-place_of x t = record { phase = x.phase; found = x.found; current = t.current; prev = t.prev; next = t.next }
+place_of post trio = record { phase = post.phase; found = post.found; current = trio.current; prev = trio.prev; next = trio.next }
 
 -- each place with its bags
 abbrev pub places_of : List Post → List Trio → List Place
-places_of [] ts = []
-places_of (x ∷ xs) [] = []
-places_of (x ∷ xs) (t ∷ ts) = place_of x t ∷ places_of xs ts
+places_of [] trios = []
+places_of (post ∷ posts) [] = []
+places_of (post ∷ posts) (trio ∷ trios) = place_of post trio ∷ places_of posts trios
 
 abbrev pub free_post : Post
 free_post = record { phase = Free; found = 0 }
@@ -26,8 +26,8 @@ IsHeldOpen posts (Some scan) = is_open (slice_index_or posts scan.holder free_po
 
 -- the same of a state
 abbrev pub IsHeld : State → Option Scan → Type 0
-IsHeld s None = Unit {0}
-IsHeld s (Some scan) = is_open (place_at s scan.holder).phase ≡ true
+IsHeld state None = Unit {0}
+IsHeld state (Some scan) = is_open (place_at state scan.holder).phase ≡ true
 
 -- as many bags as places, what is in a bag was retired, a free place has empty bags, and the holder of the lock is
 -- open
@@ -37,22 +37,22 @@ pub record Fits (posts : List Post) (bags : Bagged) (retired : List Bool) (scan 
   pub few : length posts ≤ 1024
   pub same : length bags.trios ≡ length posts
   pub room : bags.items ≡ length retired
-  pub waits : (q i : ℕ) → has (trio_at bags.trios q) i ≡ true → slice_index_or retired i false ≡ true
+  pub waits : (place item : ℕ) → has (trio_at bags.trios place) item ≡ true → slice_index_or retired item false ≡ true
 
 abbrev pub freed_post : Post → Post
-freed_post x = record { phase = (if is_ended x.phase then Free else x.phase); found = x.found }
+freed_post post = record { phase = (if is_ended post.phase then Free else post.phase); found = post.found }
 
 -- what is in the bags of ended places
 abbrev pub left_in : List Post → List Trio → Items
-left_in [] ts = set.empty
-left_in (x ∷ xs) [] = set.empty
-left_in (x ∷ xs) (t ∷ ts) = if is_ended x.phase then set.union (all_of t) (left_in xs ts) else left_in xs ts
+left_in [] trios = set.empty
+left_in (post ∷ posts) [] = set.empty
+left_in (post ∷ posts) (trio ∷ trios) = if is_ended post.phase then set.union (all_of trio) (left_in posts trios) else left_in posts trios
 
 -- the bags without these
 abbrev pub emptied : List Post → List Trio → List Trio
-emptied [] ts = []
-emptied (x ∷ xs) [] = []
-emptied (x ∷ xs) (t ∷ ts) = (if is_ended x.phase then no_items else t) ∷ emptied xs ts
+emptied [] trios = []
+emptied (post ∷ posts) [] = []
+emptied (post ∷ posts) (trio ∷ trios) = (if is_ended post.phase then no_items else trio) ∷ emptied posts trios
 
 abbrev pub gathered : ℕ → List Post → List Trio → List Trio
-gathered p xs ts = slice_set (emptied xs ts) p (record (trio_at ts p) { current = set.union (trio_at ts p).current (left_in xs ts) })
+gathered place posts trios = slice_set (emptied posts trios) place (record (trio_at trios place) { current = set.union (trio_at trios place).current (left_in posts trios) })

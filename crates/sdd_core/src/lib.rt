@@ -2,6 +2,7 @@
 #![tactic(auto)]
 
 pub mod epoch;
+pub mod inner;
 pub mod machine;
 pub mod refused;
 pub mod tag;

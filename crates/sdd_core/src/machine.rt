@@ -14,6 +14,7 @@ mod chains;
 mod places;
 mod steps;
 
+use crate::inner::machine_for;
 use crate::refused::Refused;
 use bags::Bags;
 use places::{
@@ -371,7 +372,7 @@ fn gather(bags: &mut Bags, posts: &[Post], place: u32)
 }
 
 /// As many places as the steps name.
-fn places_for(steps: &[Step]) -> u32
+pub(crate) fn places_for(steps: &[Step]) -> u32
     ensures { result ≡ (size_for steps.now).places }
 {
     let mut greatest = 0;
@@ -382,7 +383,7 @@ fn places_for(steps: &[Step]) -> u32
 }
 
 /// As many items as the steps name.
-fn items_for(steps: &[Step]) -> u32
+pub(crate) fn items_for(steps: &[Step]) -> u32
     ensures { result ≡ (size_for steps.now).items }
 {
     let mut greatest = 0;
@@ -409,7 +410,7 @@ pub fn safety(alloc: Global, steps: &[Step]) -> Result<Machine, Refused>
     ensures at_most_once { AtEachMoment steps.now IsRaisedAtMostOnce }
     ensures generations { AtEachMoment steps.now KeepsGenerations }
 {
-    let mut machine = Machine::new(alloc, places_for(steps), items_for(steps))?;
+    let mut machine = machine_for(alloc, steps)?;
     for step in steps {
         machine.step(*step);
     }
