@@ -1,0 +1,6 @@
+//! The store of a world.
+#![tactic(auto)]
+
+pub mod tally;
+
+pub use tally::Tally;
