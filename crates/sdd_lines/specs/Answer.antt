@@ -1,0 +1,53 @@
+-- The texts of answers
+use Rattle.std.specs.Prelude.{ℕ, List, [], ◌∷◌, ◌++◌, map, codes, true, false}
+use Rattle.std.specs.List.{flat_map}
+use Rattle.std.specs.Fmt.{decimal}
+use Rattle.sdd_core.specs.Refused.{number_of}
+use Rattle.sdd_core.specs.declared.refused.Refused.{Refused as Refusal}
+use Rattle.sdd_core.specs.declared.refused.Refused.TheVariants.{NoSlot, NoCell, NoJob, NoPlace, NoMemory, TooManyGuards, GuardOpen, NotAlone, OwnerOut, Contended, TooManyOwners, BadLimits}
+use Rattle.sdd_lines.specs.Call.{joined}
+use Rattle.sdd_lines.specs.Name.{place, guard, owner, item, job}
+use Rattle.sdd_lines.specs.declared.answer.Answer.{Answer}
+use Rattle.sdd_lines.specs.declared.answer.Reply.{Reply}
+use Rattle.sdd_lines.specs.declared.answer.Reply.TheVariants.{Place, Tally, Guard, Epoch, Truth, Done, Item, Value, Refused, Invalid}
+
+-- the name of a refusal
+abbrev pub refusal : Refusal → List ℕ
+refusal NoSlot = codes "NoSlot"
+refusal NoCell = codes "NoCell"
+refusal NoJob = codes "NoJob"
+refusal NoPlace = codes "NoPlace"
+refusal NoMemory = codes "NoMemory"
+refusal TooManyGuards = codes "TooManyGuards"
+refusal GuardOpen = codes "GuardOpen"
+refusal NotAlone = codes "NotAlone"
+refusal OwnerOut = codes "OwnerOut"
+refusal Contended = codes "Contended"
+refusal TooManyOwners = codes "TooManyOwners"
+refusal BadLimits = codes "BadLimits"
+
+abbrev pub words_of_reply : Reply → List (List ℕ)
+words_of_reply (Place p) = place p ∷ []
+words_of_reply (Tally t) = codes "made" ∷ decimal t.made ∷ codes "reclaimed" ∷ decimal t.reclaimed ∷ codes "in" ∷ codes "place" ∷ decimal t.in_place ∷ []
+words_of_reply (Guard g epoch) = guard g ∷ codes "epoch" ∷ decimal epoch ∷ []
+words_of_reply (Epoch epoch) = decimal epoch ∷ []
+words_of_reply (Truth true) = codes "true" ∷ []
+words_of_reply (Truth false) = codes "false" ∷ []
+words_of_reply Done = codes "ok" ∷ []
+words_of_reply (Item o i) = owner o ∷ item i ∷ []
+words_of_reply (Value n) = decimal n ∷ []
+words_of_reply (Refused r) = codes "refused" ∷ decimal (number_of r) ∷ refusal r ∷ []
+words_of_reply Invalid = codes "invalid" ∷ []
+
+-- a heading and names, each after a space, where there are names
+abbrev pub ending : List ℕ → List (List ℕ) → List ℕ
+ending heading [] = []
+ending heading (name ∷ names) = flat_map (λ word. 32 ∷ word) (heading ∷ name ∷ names)
+
+-- an answer, without a line feed
+abbrev pub text_of : Answer → List ℕ
+text_of answer = joined (words_of_reply answer.reply) ++ ending (codes "reclaimed") (map item answer.reclaimed) ++ ending (codes "ran") (map job answer.ran)
+
+-- answers, each with a line feed behind it
+abbrev pub text_of_all : List Answer → List ℕ
+text_of_all answers = flat_map (λ answer. text_of answer ++ codes "\n") answers

@@ -1,0 +1,4 @@
+pub mod Answer
+pub mod Call
+pub mod Name
+pub mod Script

@@ -1,0 +1,16 @@
+//! The calls and answers of a script: their texts, and the bytes that they are read from and written to.
+//!
+//! No world is known here: what a call does is said by the crate that runs it.
+#![tactic(auto)]
+
+pub mod answer;
+pub mod call;
+pub mod ended;
+pub mod name;
+pub mod script;
+
+pub use answer::{Answer, Reply};
+pub use call::{Action, Call};
+pub use ended::Ended;
+pub use name::{GuardName, ItemName, JobName, Names, OwnerName, PlaceName};
+pub use script::Script;
