@@ -1,6 +1,9 @@
 //! The calls of a script, each of which is a line.
 
+mod reading;
+
 use crate::name::{GuardName, ItemName, OwnerName, PlaceName};
+use std::str;
 
 /// A call of a script.
 #[derive(Clone, Copy, Debug, PartialEq, Eq)]
@@ -23,4 +26,19 @@ pub enum Action {
     Look(ItemName, GuardName),
     Retire(OwnerName),
     Close(GuardName),
+}
+
+impl Call {
+    ghost use Rattle.std.specs.Prelude.{◌≤◌, MatchOption, OnSome, length};
+    ghost use Rattle.sdd_lines.specs.Call.{IsTextOf, IsCallText};
+
+    /// The call whose text a line is, without a line feed, or `None` where it is that of no call.
+    pub fn parse(line: &[u8]) -> Option<Call>
+        ensures call { MatchOption result (¬ IsCallText line.now) (λ call. IsTextOf call line.now) }
+
+        // So a longer line is no call.
+        ensures short { OnSome result (length line.now ≤ 200) }
+    {
+        reading::call(str::from_utf8(line).ok()?)
+    }
 }
