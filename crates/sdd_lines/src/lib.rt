@@ -13,4 +13,4 @@ pub use answer::{Answer, Reply};
 pub use call::{Action, Call};
 pub use ended::Ended;
 pub use name::{GuardName, ItemName, JobName, Names, OwnerName, PlaceName};
-pub use script::Script;
+pub use script::{MOST_CALLS, Script, parse_all};

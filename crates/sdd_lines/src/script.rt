@@ -1,6 +1,15 @@
 //! A whole script: its lines as calls, or the first that is no call.
 
+ghost use Rattle.std.specs.Prelude.{◌≡◌, ◌≢◌, ℕ, ◌<◌, ◌∷◌, length, slice_index, MatchOption, IfOk, IfErr};
+ghost use Rattle.sdd_lines.specs.Call.{IsTextOf, IsCallText};
+ghost use Rattle.sdd_lines.specs.Script.{lines, IsScript};
+
 use crate::call::Call;
+use sdd_core::Refused;
+use std::alloc::Global;
+
+/// At most so many lines are calls, and the next is not.
+pub const MOST_CALLS: usize = 65536;
 
 /// What a text is as a script.
 #[derive(Debug, Drop)]
@@ -9,4 +18,56 @@ pub enum Script {
     Calls(Vec<Call>),
     /// The line with this number, counted from 1, is the first that is no call.
     Fault(u64),
+}
+
+/// Reads a text, line by line, as a script. The last line may lack its line feed; a text without a byte has no line.
+///
+/// Refused with `NoMemory` alone.
+pub fn parse_all(alloc: Global, text: &[u8]) -> Result<Script, Refused>
+    ensures script { IfOk result (λ script. IsScript text.now script) }
+    ensures err { IfErr result (λ refused. refused ≡ Refused.NoMemory) }
+{
+    let mut calls = Vec::new(alloc);
+    let mut rest = text;
+    while !rest.is_empty() {
+        let (line, after) = first_line(rest);
+        match call_after(calls.len(), line) {
+            Some(call) => calls.push(call)?,
+            None => return Ok(Script::Fault(calls.len() as u64 + 1)),
+        }
+        rest = after;
+    }
+    Ok(Script::Calls(calls))
+}
+
+/// The call that a line is, with so many calls before it.
+fn call_after(before: usize, line: &[u8]) -> Option<Call>
+    ensures { MatchOption result (¬ ((before < MOST_CALLS) × IsCallText line.now))
+        (λ call. (before < MOST_CALLS) × IsTextOf call line.now) }
+{
+    if before < MOST_CALLS {
+        Call::parse(line)
+    } else {
+        None
+    }
+}
+
+/// The line that a text begins with, without its line feed, and what follows it.
+fn first_line(text: &[u8]) -> (&[u8], &[u8])
+    requires { 0 < length text.now }
+    ensures lines { lines text.now ≡ result.0.now ∷ lines result.1.now }
+    ensures shorter { length result.1.now < length text.now }
+{
+    match line_feed_at(text) {
+        Some(end) => (&text[..end], &text[end + 1..]),
+        None => (text, &[]),
+    }
+}
+
+/// Where the first line feed stands.
+fn line_feed_at(text: &[u8]) -> Option<usize>
+    ensures { MatchOption result ((i : ℕ) → i < length text.now → slice_index text.now i ≢ 10)
+        (λ k. (k < length text.now) × (slice_index text.now k ≡ 10) × ((i : ℕ) → i < k → slice_index text.now i ≢ 10)) }
+{
+    text.iter().position(|byte| *byte == b'\n')
 }
