@@ -9,7 +9,7 @@ pub mod ended;
 pub mod name;
 pub mod script;
 
-pub use answer::{Answer, Reply};
+pub use answer::{Answer, Reply, print_all};
 pub use call::{Action, Call};
 pub use ended::Ended;
 pub use name::{GuardName, ItemName, JobName, Names, OwnerName, PlaceName};

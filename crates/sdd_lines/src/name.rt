@@ -1,6 +1,6 @@
 //! Names: a letter and a number, given in the order of making, for each letter by itself.
 
-ghost use Rattle.std.specs.Prelude.{◌≡◌, [], ◌∷◌, ◌++◌, Some, OnOk, OnErr};
+ghost use Rattle.std.specs.Prelude.{◌≡◌, ◌↔◌, [], ◌∷◌, ◌++◌, IsTrue, OnOk, OnErr};
 
 use std::alloc::{AllocError, Global};
 use std::fmt;
@@ -114,6 +114,12 @@ impl<N> Names<N> {
     {
         self.items.push(name)?;
         Ok(())
+    }
+
+    pub fn is_empty(&self) -> bool
+        ensures { IsTrue result ↔ (self.now ≡ []) }
+    {
+        self.items.is_empty()
     }
 
     pub fn as_slice(&self) -> &[N]
