@@ -1,5 +1,6 @@
 pub mod Answer
 pub mod Call
+pub mod Device
 pub mod Name
 pub mod Reading
 pub mod Script

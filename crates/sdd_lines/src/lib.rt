@@ -5,12 +5,14 @@
 
 pub mod answer;
 pub mod call;
+pub mod device;
 pub mod ended;
 pub mod name;
 pub mod script;
 
 pub use answer::{Answer, Reply, print_all};
 pub use call::{Action, Call};
+pub use device::{Fault, ReadEnd, Reader, Sink, Source, Writer, read_to_end, write_all};
 pub use ended::Ended;
 pub use name::{GuardName, ItemName, JobName, Names, OwnerName, PlaceName};
 pub use script::{MOST_CALLS, Script, parse_all};
