@@ -73,7 +73,6 @@ pub record IsForm (word : List ℕ) : Type 0 where
   pub nonempty : 0 < length word
   pub short : get_or word 0 0 ≡ 48 → length word ≡ 1
 
-
 -- where the first test holds the second does
 implied : (a b : Bool) → (not a || b) ≡ true → a ≡ true → b ≡ true
 implied true b h e = h
@@ -90,7 +89,7 @@ IsForm-from_test word h =
     record {
       digits = parts.0;
       nonempty = leb-true 1 (length word) lengths.0;
-      short = λ e. eqb-true (length word) 1 (implied (eqb (get_or word 0 0) 48) _ lengths.1 (rw e refl))
+      short = λ e. eqb-true (length word) 1 (implied (eqb (get_or word 0 0) 48) _ lengths.1 (rw e refl));
     }
 
 test-from_IsForm : (word : List ℕ) → IsForm word → is_decimal word ≡ true
@@ -109,7 +108,7 @@ IsForm-decimal : (n : ℕ) → n < 2 ^ 64 → IsForm (decimal n)
 IsForm-decimal n small = record {
   digits = digits_decimal own n small;
   nonempty = decimal_nonempty n small;
-  short = λ e. elim (cases_eq n 0) [ inl z ↦ rw z (ap length (decimal_digit 0 (omega arith))) | inr z ↦ absurd (omega (arith, first_decimal n (omega arith) small)) ]
+  short = λ e. elim (cases_eq n 0) [ inl z ↦ rw z (ap length (decimal_digit 0 (omega arith))) | inr z ↦ absurd (omega (arith, first_decimal n (omega arith) small)) ];
 }
 
 pub number_at-decimal : (n : ℕ) → n < 2 ^ 64 → number_at (decimal n) ≡ Some n

@@ -57,15 +57,15 @@ look_at text = do
 -- an action that takes more words
 unfoldable pub taking_at : List ℕ → List ℕ → Option Action
 taking_at verb text = if bytes_eq verb (codes "epoch") then option_map (λ g. Epoch g) (guard_at text)
-  else (if bytes_eq verb (codes "garbage") then option_map (λ g. Garbage g) (guard_at text)
-  else (if bytes_eq verb (codes "set") then option_map (λ g. Set g) (guard_at text)
-  else (if bytes_eq verb (codes "accelerate") then option_map (λ g. Accelerate g) (guard_at text)
-  else (if bytes_eq verb (codes "owned") then option_map (λ n. Owned n) (number_at text)
-  else (if bytes_eq verb (codes "read") then option_map (λ o. Read o) (owner_at text)
-  else (if bytes_eq verb (codes "look") then look_at text
-  else (if bytes_eq verb (codes "retire") then option_map (λ o. Retire o) (owner_at text)
-  else (if bytes_eq verb (codes "close") then option_map (λ g. Close g) (guard_at text)
-  else None))))))))
+    else (if bytes_eq verb (codes "garbage") then option_map (λ g. Garbage g) (guard_at text)
+    else (if bytes_eq verb (codes "set") then option_map (λ g. Set g) (guard_at text)
+    else (if bytes_eq verb (codes "accelerate") then option_map (λ g. Accelerate g) (guard_at text)
+    else (if bytes_eq verb (codes "owned") then option_map (λ n. Owned n) (number_at text)
+    else (if bytes_eq verb (codes "read") then option_map (λ o. Read o) (owner_at text)
+    else (if bytes_eq verb (codes "look") then look_at text
+    else (if bytes_eq verb (codes "retire") then option_map (λ o. Retire o) (owner_at text)
+    else (if bytes_eq verb (codes "close") then option_map (λ g. Close g) (guard_at text)
+    else None))))))))
 
 unfoldable pub action_at : List ℕ → Option Action
 action_at text = if bytes_eq text (codes "open") then Some Open else (split_word text >>= λ words. taking_at words.0 words.1)

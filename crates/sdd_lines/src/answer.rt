@@ -35,11 +35,13 @@ impl fmt::Display for Reply {
     fn fmt<W: fmt::Write>(&self, f: &mut fmt::Formatter<W>) -> fmt::Result {
         match *self {
             Reply::Place(place) => write!(f, "{place}"),
-            Reply::Tally(Tally {
-                made,
-                reclaimed,
-                in_place,
-            }) => write!(f, "made {made} reclaimed {reclaimed} in place {in_place}"),
+            Reply::Tally(
+                Tally {
+                    made,
+                    reclaimed,
+                    in_place,
+                },
+            ) => write!(f, "made {made} reclaimed {reclaimed} in place {in_place}"),
             Reply::Guard(guard, epoch) => write!(f, "{guard} epoch {}", u8::from(epoch)),
             Reply::Epoch(epoch) => write!(f, "{}", u8::from(epoch)),
             Reply::Truth(truth) => write!(f, "{truth}"),

@@ -6,8 +6,8 @@ ghost use Rattle.sdd_lines.specs.Device.{CountsFailure, CountsEnd, ConsumesSome,
 
 mod std_adapters;
 
-pub use std_adapters::{Reader, Writer};
 use std::alloc::{AllocError, Global};
+pub use std_adapters::{Reader, Writer};
 use thiserror::Error;
 
 /// A device failed: a read or a write came to nothing.

@@ -8,9 +8,9 @@ use Rattle.sdd_lines.proofs.call.reading.number.Goals.{then-starts_with-via-then
 
 pub returns-then-starts_with : goal.returns-then-starts_with
 returns-then-starts_with c = elim c.then-starts_with.branch [
-    then-starts_with-via-then-starts_with w ↦ sym (number_at-signed c.args.word.now ((starts_char 43 c.args.word.now c.starts_with.result c.starts_with.ensures.cases (lit< tt) (lit< tt)).0 w.if-starts_with.true))
-    | then-starts_with-via-else-starts_with+then-has_leading_zero w ↦ (let zero = w.has_leading_zero.ensures.0 w.if-has_leading_zero.true in sym (number_at-zero_led c.args.word.now zero.0 zero.1))
-    ]
+  | then-starts_with-via-then-starts_with w ↦ sym (number_at-signed c.args.word.now ((starts_char 43 c.args.word.now c.starts_with.result c.starts_with.ensures.cases (lit< tt) (lit< tt)).0 w.if-starts_with.true))
+  | then-starts_with-via-else-starts_with+then-has_leading_zero w ↦ (let zero = w.has_leading_zero.ensures.0 w.if-has_leading_zero.true in sym (number_at-zero_led c.args.word.now zero.0 zero.1))
+]
 
 pub returns : goal.returns
 returns c =
