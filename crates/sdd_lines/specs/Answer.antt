@@ -51,3 +51,7 @@ text_of answer = joined (words_of_reply answer.reply) ++ ending (codes "reclaime
 -- answers, each with a line feed behind it
 abbrev pub text_of_all : List Answer → List ℕ
 text_of_all answers = flat_map (λ answer. text_of answer ++ codes "\n") answers
+
+-- what is printed in place of answers where this line is the first that is no call
+abbrev pub text_of_fault : ℕ → List ℕ
+text_of_fault line = codes "line " ++ decimal line ++ codes ": not a call\n"

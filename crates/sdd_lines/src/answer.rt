@@ -1,7 +1,7 @@
 //! The answers of a script, each of which is a line.
 
 ghost use Rattle.std.specs.Prelude.{◌≡◌, ℕ, List, [], ◌∷◌, ◌++◌, map, Some, OnOk, IfOk, IfErr, string_bytes};
-ghost use Rattle.sdd_lines.specs.Answer.{refusal, ending, text_of, text_of_all};
+ghost use Rattle.sdd_lines.specs.Answer.{refusal, ending, text_of, text_of_all, text_of_fault};
 
 use crate::name::{GuardName, ItemName, JobName, Names, OwnerName, PlaceName};
 use sdd_core::{Epoch, Refused};
@@ -75,6 +75,17 @@ pub fn print_all(alloc: Global, answers: &[Answer]) -> Result<Vec<u8>, Refused>
     for answer in answers {
         push_answer(&mut text, answer)?;
     }
+    Ok(text.into_bytes())
+}
+
+/// The text that tells that the line with this number, counted from 1, is the first that is no call.
+///
+/// Refused with `NoMemory` alone.
+pub fn print_fault(alloc: Global, line: u64) -> Result<Vec<u8>, Refused>
+    ensures text { IfOk result (λ bytes. bytes.items ≡ text_of_fault line) }
+    ensures err { IfErr result (λ refused. refused ≡ Refused.NoMemory) }
+{
+    let text = format!(in alloc; "line {line}: not a call\n")?;
     Ok(text.into_bytes())
 }
 

@@ -1,0 +1,138 @@
+//! Lines that are calls, and lines that are none.
+
+use crate::{Action, Call, GuardName, ItemName, OwnerName, PlaceName, Script, parse_all};
+use std::alloc::{AllocError, Global};
+use std::test::Fail;
+
+#[test]
+fn lines_are_calls(rt: HostRuntime) {
+    let place = PlaceName(0);
+    let guard = GuardName(1);
+    let owner = OwnerName(2);
+    let item = ItemName(10);
+    for (line, call) in [
+        ("register", Call::Register),
+        ("tally", Call::Tally),
+        ("p7 open", Call::At(PlaceName(7), Action::Open)),
+        ("p0 epoch g1", Call::At(place, Action::Epoch(guard))),
+        ("p0 garbage g1", Call::At(place, Action::Garbage(guard))),
+        ("p0 set g1", Call::At(place, Action::Set(guard))),
+        (
+            "p0 accelerate g1",
+            Call::At(place, Action::Accelerate(guard)),
+        ),
+        ("p0 owned 0", Call::At(place, Action::Owned(0))),
+        (
+            "p0 owned 18446744073709551615",
+            Call::At(place, Action::Owned(u64::MAX)),
+        ),
+        ("p0 read o2", Call::At(place, Action::Read(owner))),
+        ("p0 look i10 g1", Call::At(place, Action::Look(item, guard))),
+        ("p0 retire o2", Call::At(place, Action::Retire(owner))),
+        ("p0 close g1", Call::At(place, Action::Close(guard))),
+        (
+            "p18446744073709551615 open",
+            Call::At(PlaceName(u64::MAX), Action::Open),
+        ),
+    ] {
+        assert_eq!(rt; Call::parse(line.as_bytes()), Some(call), "{line:?}");
+    }
+}
+
+#[test]
+fn malformed_lines_are_no_calls(rt: HostRuntime) {
+    for line in [
+        "",
+        " ",
+        " register",
+        "register ",
+        "Register",
+        "register 1",
+        "p0  open",
+        "p0\topen",
+        "register\r",
+        "register\n",
+        "p0 open\u{e9}",
+        "p00 open",
+        "P0 open",
+        "p open",
+        "p-1 open",
+        "p0",
+        "p0 ",
+        "open",
+        "p0 op",
+        "p0 open g0",
+        "p0 owned",
+        "p0 owned +1",
+        "p0 owned 01",
+        "p0 owned 18446744073709551616",
+        "p0 look i0",
+        "p0 look g0 i0",
+        "p0 look i0 g0 ",
+        "p18446744073709551616 open",
+        "close p0",
+        "p0 close o0",
+        "p0 close p0",
+        "p0 retire i0",
+        "p0 defer g0",
+        "p0 end",
+    ] {
+        assert_eq!(rt; Call::parse(line.as_bytes()), None, "{line:?}");
+    }
+    assert_eq!(rt;
+        Call::parse(&[b'p', b'0', b' ', b'o', b'p', b'e', b'n', 0xff]),
+        None
+    );
+    assert_eq!(rt; Call::parse(&[b'1'; 201]), None);
+}
+
+/// How many calls a script is, or its first fault.
+#[derive(Clone, Copy, Debug, PartialEq, Eq)]
+enum Outcome {
+    Calls(usize),
+    Fault(u64),
+}
+
+fn read(alloc: Global, text: &[u8]) -> Result<Outcome, Fail> {
+    Ok(match parse_all(alloc, text)? {
+        Script::Calls(calls) => Outcome::Calls(calls.len()),
+        Script::Fault(line) => Outcome::Fault(line),
+    })
+}
+
+fn registers(alloc: Global, lines: usize) -> Result<String, AllocError> {
+    let mut text = String::new(alloc);
+    for _ in 0..lines {
+        text.push_str("register\n")?;
+    }
+    Ok(text)
+}
+
+#[test]
+fn texts_are_scripts(rt: HostRuntime) -> Result<(), Fail> {
+    let alloc = rt.alloc();
+    for (text, want) in [
+        ("", Outcome::Calls(0)),
+        ("\n", Outcome::Fault(1)),
+        ("register", Outcome::Calls(1)),
+        ("register\n", Outcome::Calls(1)),
+        ("register\n\n", Outcome::Fault(2)),
+        ("register\np0 open\n", Outcome::Calls(2)),
+        ("register\np0 open", Outcome::Calls(2)),
+        ("register\r\np0 open", Outcome::Fault(1)),
+        ("register\np0 open\np0 op\np0", Outcome::Fault(3)),
+    ] {
+        assert_eq!(rt; read(alloc, text.as_bytes())?, want, "{text:?}");
+    }
+    Ok(())
+}
+
+#[test]
+fn a_script_has_a_most_of_calls(rt: HostRuntime) -> Result<(), Fail> {
+    let alloc = rt.alloc();
+    let most = registers(alloc, 65536)?;
+    assert_eq!(rt; read(alloc, most.as_bytes())?, Outcome::Calls(65536));
+    let more = registers(alloc, 65537)?;
+    assert_eq!(rt; read(alloc, more.as_bytes())?, Outcome::Fault(65537));
+    Ok(())
+}
