@@ -1,5 +1,5 @@
 -- What is read of a line is spelled so, and what is spelled so is read
-use Rattle.std.proofs.Common.{◌≡◌, ℕ, ◌+◌, ◌^◌, ◌<◌, ◌≤◌, Bool, true, false, cond, ltb, List, [], ◌∷◌, ◌++◌, length, length-append, Option, Some, None, IfSome, OnSome, MatchOption, MatchResult, Result, Ok, Err, refl, sym, ap, ◌∙◌, subst, lit<, arith}
+use Rattle.std.proofs.Common.{◌≡◌, ℕ, ◌+◌, ◌≤◌, true, cond, ltb, List, [], ◌∷◌, ◌++◌, length, length-append, Option, Some, None, IfSome, OnSome, MatchOption, MatchResult, Result, Ok, Err, refl, sym, ap, ◌∙◌, subst, lit<, arith}
 use Rattle.std.specs.Prelude.{codes}
 use Rattle.std.specs.Borrow.{Bor}
 use Rattle.std.specs.Result.{result_ok}
@@ -13,7 +13,7 @@ use Rattle.std.proofs.lemmas.Fmt.{IsAscii-decimal, length-decimal-le}
 use Rattle.std.proofs.lemmas.Slice.Eq.{bytes_eq-Decides}
 use Rattle.std.proofs.lemmas.Str.{IsAscii-append, IsUtf8-from_ascii}
 use Rattle.std.proofs.lemmas.Str.Ascii.{IsAscii-nil, IsAscii-cons}
-use Rattle.sdd_lines.proofs.Words.{HasNoSpace, HasNoSpace-decimal, split_word-at, split_word_is, number_at_is, number_at-decimal, numbered_at_is}
+use Rattle.sdd_lines.proofs.Words.{HasNoSpace-decimal, split_word-at, split_word_is, number_at_is, number_at-decimal, numbered_at_is}
 use Rattle.sdd_lines.specs.Name.{place, guard, owner, item}
 use Rattle.sdd_lines.specs.Call.{joined, words_of_action, line_of, IsNumber, ActionHasNumbers, HasNumbers, IsTextOf, IsCallText}
 use Rattle.sdd_lines.specs.Reading.{◌>>=◌, split_word, number_at, place_at, guard_at, owner_at, item_at, look_at, taking_at, action_at, place_call_at, call_at}

@@ -1,12 +1,13 @@
 -- The lines of a text, one by one, and the calls that they are
-use Rattle.std.proofs.Common.{◌≡◌, ℕ, zero, suc, false, ◌+◌, ◌-◌, ◌<◌, ◌≤◌, ◌≢◌, cond, eqb, List, [], ◌∷◌, ◌++◌, length, length-append, get_or, take, drop, map, refl, sym, ap, ◌∙◌, subst, arith}
+use Rattle.std.proofs.Common.{◌≡◌, ℕ, zero, suc, false, ◌+◌, ◌-◌, ◌<◌, ◌≤◌, ◌≢◌, eqb, List, [], ◌∷◌, ◌++◌, length, length-append, get_or, take, drop, map, refl, sym, ap, ◌∙◌, subst, arith}
 use Rattle.std.specs.List.{onto_first, AllByRecursion}
 use Rattle.std.proofs.lemmas.Bool.{ne_eqb, cond-false}
-use Rattle.std.proofs.lemmas.List.{take-append-drop, drop_more, length-take-le, get_or-take, length-map, map-append, append_assoc}
+use Rattle.std.proofs.lemmas.List.{take-append-drop, drop_more, length-take-le, get_or-take, length-map, append-nil, map-append, append_assoc}
 use Rattle.sdd_lines.specs.Call.{line_of, HasNumbers, IsTextOf, IsCallText}
-use Rattle.sdd_lines.specs.Script.{lines, IsFirstFault, IsCallAt}
+use Rattle.sdd_lines.specs.Script.{lines, AreCalls, IsFirstFault, IsCallAt}
 use Rattle.sdd_lines.specs.declared.script.TheConstants.{MOST_CALLS}
 use Rattle.sdd_lines.specs.declared.call.Call.{Call}
+use Rattle.sdd_lines.proofs.Lines.{line_of_injective}
 
 -- no byte of a line is a line feed
 abbrev pub HasNoFeed : List ℕ → Type 0
@@ -72,3 +73,22 @@ read_more calls call line more all same h =
 pub numbers_more : (calls : List Call) (call : Call) → AllByRecursion HasNumbers calls → HasNumbers call → AllByRecursion HasNumbers (calls ++ call ∷ [])
 numbers_more [] call h k = (k, tt)
 numbers_more (c ∷ calls) call h k = (h.0, numbers_more calls call h.1 k)
+
+-- no two lists of calls have the same lines
+pub same_calls : (a b : List Call) → AllByRecursion HasNumbers a → AllByRecursion HasNumbers b → map line_of a ≡ map line_of b → a ≡ b
+same_calls [] [] h k e = refl
+same_calls [] (c ∷ b) h k e = absurd (omega (arith, ap length e))
+same_calls (c ∷ a) [] h k e = absurd (omega (arith, ap length e))
+same_calls (c ∷ a) (d ∷ b) h k e =
+    let heads : line_of c ≡ line_of d = cc in
+    let tails : map line_of a ≡ map line_of b = cc in
+    let first = line_of_injective c d h.0 k.0 heads in
+    let others = same_calls a b h.1 k.1 tails in
+    cc
+
+-- no line of calls is a fault
+pub no_fault : (text : List ℕ) (calls : List Call) (n : ℕ) → AreCalls text calls → IsFirstFault text n → ⊥
+no_fault text calls n h f =
+    let below : n - 1 < length calls = omega (arith, f.counted, f.there, ap length h.texts, length-map calls line_of) in
+    let same : lines text ≡ map line_of calls ++ [] = h.texts ∙ sym (append-nil (map line_of calls)) in
+    f.fault (omega (arith, h.few), subst (λ ls. IsCallText (get_or ls (n - 1) [])) (sym same) (read_lines calls [] (n - 1) h.numbers below))

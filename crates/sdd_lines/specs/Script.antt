@@ -33,3 +33,8 @@ pub record IsFirstFault (text : List ℕ) (n : ℕ) : Type 0 where
 abbrev pub IsScript : List ℕ → Script → Type 0
 IsScript text (Calls calls) = AreCalls text calls.items
 IsScript text (Fault n) = IsFirstFault text n
+
+-- a script is these calls
+abbrev pub IsCalls : List Call → Script → Type 0
+IsCalls calls (Calls read) = read.items ≡ calls
+IsCalls calls (Fault n) = ⊥

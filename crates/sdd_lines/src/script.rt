@@ -1,8 +1,9 @@
 //! A whole script: its lines as calls, or the first that is no call.
 
-ghost use Rattle.std.specs.Prelude.{◌≡◌, ◌≢◌, ℕ, ◌<◌, ◌∷◌, length, slice_index, MatchOption, IfOk, IfErr};
+ghost use Rattle.std.specs.Prelude.{◌≡◌, ◌≢◌, ℕ, List, ◌<◌, ◌∷◌, length, slice_index, MatchOption, IfOk, IfErr};
 ghost use Rattle.sdd_lines.specs.Call.{IsTextOf, IsCallText};
-ghost use Rattle.sdd_lines.specs.Script.{lines, IsScript};
+ghost use Rattle.sdd_lines.specs.declared.call.Call.{Call};
+ghost use Rattle.sdd_lines.specs.Script.{lines, AreCalls, IsCalls, IsScript};
 
 use crate::call::Call;
 use sdd_core::Refused;
@@ -25,6 +26,9 @@ pub enum Script {
 /// Refused with `NoMemory` alone.
 pub fn parse_all(alloc: Global, text: &[u8]) -> Result<Script, Refused>
     ensures script { IfOk result (λ script. IsScript text.now script) }
+
+    // No other calls have this text.
+    ensures only { IfOk result (λ script. (calls : List Call) → AreCalls text.now calls → IsCalls calls script) }
     ensures err { IfErr result (λ refused. refused ≡ Refused.NoMemory) }
 {
     let mut calls = Vec::new(alloc);

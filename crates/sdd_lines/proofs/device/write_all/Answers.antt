@@ -1,4 +1,4 @@
-use Rattle.std.proofs.Common.{◌∙◌, refl}
+use Rattle.std.proofs.Common.{◌∙◌}
 use Rattle.std.proofs.lemmas.Result.{err_from_is_err_and}
 use Rattle.sdd_lines.proofs.Devices.{beginning_from_front, written_more}
 use Rattle.sdd_lines.proofs.device.write_all.Goals as goal

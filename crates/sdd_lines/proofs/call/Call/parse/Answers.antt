@@ -1,4 +1,4 @@
-use Rattle.std.proofs.Common.{None, MatchOption, sym, subst}
+use Rattle.std.proofs.Common.{MatchOption, sym, subst}
 use Rattle.sdd_lines.specs.Call.{IsTextOf, IsCallText}
 use Rattle.sdd_lines.specs.Reading.{call_at}
 use Rattle.sdd_lines.proofs.Lines.{call_at_answers, short_from_call, not_utf8, utf8_text}

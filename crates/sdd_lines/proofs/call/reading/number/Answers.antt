@@ -1,4 +1,4 @@
-use Rattle.std.proofs.Common.{◌≡◌, ℕ, ◌<◌, ◌≤◌, true, length, get_or, Some, None, inl, inr, sym, ◌∙◌, lit<, arith, rules}
+use Rattle.std.proofs.Common.{◌≡◌, ◌≤◌, length, get_or, inl, inr, sym, ◌∙◌, lit<}
 use Rattle.std.proofs.lemmas.Bool.{both_ways, cases_lt}
 use Rattle.std.proofs.lemmas.Str.Pattern.{starts_char}
 use Rattle.std.proofs.lemmas.Str.Parse.{parse_plain}
