@@ -90,7 +90,8 @@ pub fn print_fault(alloc: Global, line: u64) -> Result<Vec<u8>, Refused>
 }
 
 fn push_answer(text: &mut String, answer: &Answer) -> Result<(), AllocError>
-    ensures { OnOk result (string_bytes text.new ≡ string_bytes text.old ++ (text_of answer.now ++ 10 ∷ [])) }
+    ensures { OnOk result
+        (string_bytes text.new ≡ string_bytes text.old ++ (text_of answer.now ++ 10 ∷ [])) }
 {
     write!(text, "{}", answer.reply)?;
     push_ending(text, "reclaimed", answer.reclaimed.as_slice())?;
@@ -105,7 +106,8 @@ fn push_ending<N: fmt::Display>(
     names: &[N],
 ) -> Result<(), AllocError>
     ensures { (shown : N → List ℕ) → ((name : N) → N.output name ≡ Some (shown name)) →
-        OnOk result (string_bytes text.new ≡ string_bytes text.old ++ ending heading.now (map shown names.now)) }
+        OnOk result
+        (string_bytes text.new ≡ string_bytes text.old ++ ending heading.now (map shown names.now)) }
 {
     if names.is_empty() {
         return Ok(());

@@ -84,7 +84,8 @@ const CHUNK: usize = 4096;
 ///
 /// Ends with `Fault` where a read failed, and with `NoMemory` where memory was wanted.
 pub fn read_to_end<S: Source>(alloc: Global, source: &mut S) -> Result<Vec<u8>, ReadEnd>
-    ensures bytes { IfOk result (λ bytes. IfSome (S.remaining source.old) (λ all. bytes.items ≡ all)) }
+    ensures bytes { IfOk result
+        (λ bytes. IfSome (S.remaining source.old) (λ all. bytes.items ≡ all)) }
     ensures end { OnOk result (IsAtEnd (S.remaining source.new)) }
     ensures consumed { ConsumesSome (S.remaining source.old) (S.remaining source.new) }
     ensures counted { MatchResult result (λ _. S.failures source.new ≡ S.failures source.old)
@@ -104,7 +105,8 @@ pub fn read_to_end<S: Source>(alloc: Global, source: &mut S) -> Result<Vec<u8>, 
 /// Writes all of the bytes, or a beginning of them where a write failed.
 pub fn write_all<S: Sink>(sink: &mut S, bytes: &[u8]) -> Result<(), Fault>
     ensures ok { OnOk result (Appends (S.contents sink.old) (S.contents sink.new) bytes.now) }
-    ensures fault { OnErr result (AppendsBeginning (S.contents sink.old) (S.contents sink.new) bytes.now) }
+    ensures fault { OnErr result
+        (AppendsBeginning (S.contents sink.old) (S.contents sink.new) bytes.now) }
     ensures counted { CountsFailure (S.failures sink.old) (S.failures sink.new) result }
 {
     let mut rest = bytes;

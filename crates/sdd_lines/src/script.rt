@@ -28,7 +28,8 @@ pub fn parse_all(alloc: Global, text: &[u8]) -> Result<Script, Refused>
     ensures script { IfOk result (λ script. IsScript text.now script) }
 
     // No other calls have this text.
-    ensures only { IfOk result (λ script. (calls : List Call) → AreCalls text.now calls → IsCalls calls script) }
+    ensures only { IfOk result
+        (λ script. (calls : List Call) → AreCalls text.now calls → IsCalls calls script) }
     ensures err { IfErr result (λ refused. refused ≡ Refused.NoMemory) }
 {
     let mut calls = Vec::new(alloc);
@@ -71,7 +72,8 @@ fn first_line(text: &[u8]) -> (&[u8], &[u8])
 /// Where the first line feed stands.
 fn line_feed_at(text: &[u8]) -> Option<usize>
     ensures { MatchOption result ((i : ℕ) → i < length text.now → slice_index text.now i ≢ 10)
-        (λ k. (k < length text.now) × (slice_index text.now k ≡ 10) × ((i : ℕ) → i < k → slice_index text.now i ≢ 10)) }
+        (λ k. (k < length text.now) × (slice_index text.now k ≡ 10)
+        × ((i : ℕ) → i < k → slice_index text.now i ≢ 10)) }
 {
     text.iter().position(|byte| *byte == b'\n')
 }
