@@ -42,3 +42,4 @@ module _ {T : Type 0} where
 pub record Closes {T : Type 0} (holds : T → List Holding) (old new : World T) : Type 0 where
   pub changes : (places : List ℕ) × (new ≡ all_aged_out holds old places)
   pub time : new.time ≡ emptied old.time
+  pub home : new.home ≡ old.home

@@ -46,6 +46,7 @@ impl<T: Item<T>> World<T> {
         requires { IsPlaceOf self.old place }
         ensures changes { (places : List ℕ) × (self.new ≡ all_aged_out T.holds self.old places) }
         ensures time { self.new.time ≡ with_place self.old.time place (without_waiting (place_at self.old.time place)) }
+        ensures home { self.new.home ≡ self.old.home }
     {
         while !self.time().is_clear(place) {
             self.age_out(place);
@@ -63,3 +64,6 @@ impl<T: Item<T>> World<T> {
         self.core.set_pace(place, pace);
     }
 }
+
+#[cfg(test)]
+mod tests;

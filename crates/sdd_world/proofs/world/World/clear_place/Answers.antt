@@ -5,7 +5,7 @@ use Rattle.sdd_world.proofs.Closing.{MovesWaiting-refl, MovesWaiting-trans, Move
 use Rattle.sdd_world.proofs.world.World.clear_place.Goals as goal
 
 pub loop-self-init : goal.loop-self-init
-loop-self-init g c = record { changes = ([], refl); place = c.requires; only = MovesWaiting-refl _ _ }
+loop-self-init g c = record { changes = ([], refl); place = c.requires; only = MovesWaiting-refl _ _; home = refl }
 
 pub loop-self-smaller : goal.loop-self-smaller
 loop-self-smaller g c =
@@ -16,8 +16,10 @@ pub loop-self-preserved : goal.loop-self-preserved
 loop-self-preserved g c =
     let holds = g.T.Item.holds in
     let was = c.loop-self.invariant in
+    let home = rw c.age_out.ensures.aged at c.age_out.ensures.sizes.home in
     rw c.age_out.ensures.aged (record {
       changes = (was.changes.0 ++ c.args.place ∷ [], ap (λ w. aged_out holds w c.args.place) was.changes.1 ∙ sym (all_aged_out-append holds c.args.self.now was.changes.0 (c.args.place ∷ [])));
       place = aged_out-range holds c.loop-self.self c.args.place was.place;
       only = MovesWaiting-trans c.requires was.only (MovesWaiting-aged_out holds c.loop-self.self c.args.place was.place);
+      home = home ∙ was.home;
     })

@@ -9,7 +9,8 @@ abbrev pub invariant-loop-self : goal.invariant-loop-self
 invariant-loop-self g l = record {
   changes : (places : List ℕ) × (l.self ≡ all_aged_out g.T.Item.holds l.fn.self places);
   place : l.place < length l.self.time.places;
-  only : MovesWaiting l.place l.fn.self l.self
+  only : MovesWaiting l.place l.fn.self l.self;
+  home : l.self.home ≡ l.fn.self.home
 }
 
 abbrev pub decreases-loop-self : goal.decreases-loop-self
