@@ -1,6 +1,6 @@
 -- What is kept of one slot, where it changes
-use Rattle.std.proofs.Common.{◌≡◌, ℕ, List, length, slice_index_or, slice_set, sym, ◌∙◌, ap, refl, Option, None, Some, Bool, false, [], ◌∷◌, arith, zero}
-use Rattle.std.specs.Prelude.{map, is_some, IsSome, ◌<◌, suc}
+use Rattle.std.proofs.Common.{◌≡◌, ℕ, List, length, slice_index_or, slice_set, sym, ◌∙◌, ap, refl, Option, None, Some, Bool, true, false, [], ◌∷◌, arith, zero}
+use Rattle.std.specs.Prelude.{map, is_some, IsSome, IsNone, All, ◌<◌, suc}
 use Rattle.std.proofs.Math.ListN.{get_or-map, length-set, replicate}
 use Rattle.std.proofs.Math.Seq.{map-set_same}
 use Rattle.std.proofs.lemmas.List.{map-set, get_or_read, length-map, length-replicate}
@@ -80,3 +80,15 @@ keeps-value {T} {home} {kept} {standings} {values} k s e a = record {
   told = ap (λ (ks : List Kept). slice_set ks k (kept_of s)) a.told ∙ sym (map-set kept_of standings k s);
   filled = a.filled ∙ sym (map-set_same is_some standings k s None e);
 }
+
+no-value : {T : Type 0} (v : Option T) (s : Option Standing) → is_some v ≡ is_some s → IsNone s → IsNone v
+no-value None s e h = refl
+no-value (Some x) None e h = cc
+no-value (Some x) (Some s) e h = cc
+
+-- where every slot is free there is no value
+pub no-values : {T : Type 0} (values : List (Option T)) (standings : Entries Standing) → map is_some values ≡ map is_some standings → All (λ s. IsNone s) standings → All (λ v. IsNone v) values
+no-values [] standings e h k d lt = absurd (omega arith)
+no-values (v ∷ vs) [] e h k d lt = cc
+no-values (v ∷ vs) (s ∷ ss) e h zero d lt = no-value v s (cc) (h zero s (omega arith))
+no-values (v ∷ vs) (s ∷ ss) e h (suc k) d lt = no-values vs ss (cc) (λ j o l. h (suc j) o (omega arith)) k d (omega arith)

@@ -39,6 +39,19 @@ fn empty_places<T>(alloc: Global, size: u32) -> Result<Vec<Option<T>>, AllocErro
     Ok(places)
 }
 
+/// Lets go of places for values that are all empty.
+fn destroy_places<T>(mut places: Vec<Option<T>>)
+    requires { All (λ place. IsNone place) places.items }
+{
+    while let Some(place) = places.pop() {
+        match place {
+            None => {}
+            Some(_) => unreachable!(),
+        }
+    }
+    places.destroy_empty();
+}
+
 impl<T> Slots<T> {
     /// That many slots, all free, in a home of their own.
     pub fn new(alloc: Global, size: u32) -> Result<Slots<T>, AllocError>
@@ -151,6 +164,18 @@ impl<T> Slots<T> {
             values,
         } = self;
         (rights, values)
+    }
+
+    /// Lets go of slots that are all free. Their values need not be `Drop`, since there are none.
+    pub fn destroy(self)
+        requires { All (λ standing. IsNone standing) self.standings }
+    {
+        let Slots {
+            rights: _,
+            standings: _,
+            values,
+        } = self;
+        destroy_places(values);
     }
 
     fn is_waiting(&self, slot: u32) -> bool

@@ -6,6 +6,7 @@ use Rattle.sdd_store.specs.Bags.{Bags}
 use Rattle.sdd_store.specs.declared.time.Phase.{Phase}
 use Rattle.sdd_store.specs.declared.time.Phase.TheVariants.{Free, Live, Ended}
 use Rattle.sdd_store.specs.declared.time.Participant.{Participant}
+use Rattle.sdd_store.specs.declared.time.Pace.{Pace}
 
 -- the count of epochs, the ended mark, the places taken so far, how many there may be, how deep guards nest, and how much may wait with one place
 pub record Time : Type 0 where
@@ -89,6 +90,13 @@ due_next p = due (aged p.bags.waiting)
 abbrev pub settled : Participant → Participant
 settled p = record p { countdown = elim (p.bags.waiting) [ [] ↦ 128 | x ∷ xs ↦ 127 ] }
 
+-- the count that a participant found last, and its countdown
+abbrev pub pace_of : Participant → Pace
+pace_of p = record { found = p.found; countdown = p.countdown }
+
+abbrev pub paced : Pace → Participant → Participant
+paced pace p = record p { found = pace.found; countdown = pace.countdown }
+
 -- the same at a place
 abbrev pub stirred_at : Time → ℕ → Time
 stirred_at t p = with_place t p (with_garbage (place_at t p))
@@ -107,6 +115,9 @@ rotated_at t p = with_place t p (rotated t.count (place_at t p))
 
 abbrev pub settled_at : Time → ℕ → Time
 settled_at t p = with_place t p (settled (place_at t p))
+
+abbrev pub paced_at : Time → ℕ → Pace → Time
+paced_at t p pace = with_place t p (paced pace (place_at t p))
 
 -- p finds another count than the last one that it found
 abbrev pub finds_another : Time → ℕ → Bool

@@ -11,4 +11,4 @@ pub use bags::Bags;
 pub use standing::{Cell, Standing};
 pub use table::Table;
 pub use tally::Tally;
-pub use time::{Participant, Phase, Time};
+pub use time::{Pace, Participant, Phase, Time};

@@ -2,7 +2,7 @@ ghost use Rattle.std.specs.Prelude.{◌≡◌, ℕ, ◌+◌, ◌<◌, ◌≤◌,
 ghost use Rattle.std.specs.List.{list_all};
 ghost use Rattle.sdd_store.specs.Waiting.{What, due, aged};
 ghost use Rattle.sdd_store.specs.Waiting.What.{Item};
-ghost use Rattle.sdd_store.specs.Time.{Time, place_at, IsCrowded, IsNext, CanNest, registered, with_garbage, has_garbage, accelerated, awaiting, nested, rotated, settled, passes, raised, scanned, closed, stirred_at, accelerated_at, awaiting_at, nested_at, rotated_at, settled_at, finds_another, is_open, due_next, counted_down};
+ghost use Rattle.sdd_store.specs.Time.{Time, place_at, IsCrowded, IsNext, CanNest, registered, with_garbage, has_garbage, accelerated, awaiting, nested, rotated, settled, pace_of, passes, raised, scanned, closed, stirred_at, accelerated_at, awaiting_at, nested_at, rotated_at, settled_at, paced_at, finds_another, is_open, due_next, counted_down};
 
 use crate::bags::Bags;
 use sdd_core::Refused;
@@ -31,6 +31,13 @@ pub struct Participant {
     /// How many guards are open.
     pub guards: u32,
     pub bags: Bags,
+}
+
+/// How far a participant is: the last count that it found, and its countdown.
+#[derive(Clone, Copy, Debug, PartialEq, Eq)]
+pub struct Pace {
+    pub found: u64,
+    pub countdown: u8,
 }
 
 /// The epoch of a world and its participants.
@@ -266,6 +273,34 @@ impl Time {
         ensures { self.new ≡ settled_at self.old place }
     {
         self.places[place].settle();
+    }
+
+    /// Nothing waits with a place.
+    pub fn is_clear(&self, place: usize) -> bool
+        requires { place < length self.now.places }
+        ensures { IsTrue result ↔ ((place_at self.now place).bags.waiting ≡ []) }
+    {
+        self.places[place].bags.is_empty()
+    }
+
+    pub fn pace(&self, place: usize) -> Pace
+        requires { place < length self.now.places }
+        ensures { result ≡ pace_of (place_at self.now place) }
+    {
+        let participant = &self.places[place];
+        Pace {
+            found: participant.found,
+            countdown: participant.countdown,
+        }
+    }
+
+    pub fn set_pace(&mut self, place: usize, pace: Pace)
+        requires { place < length self.old.places }
+        ensures { self.new ≡ paced_at self.old place pace }
+    {
+        let participant = &mut self.places[place];
+        participant.found = pace.found;
+        participant.countdown = pace.countdown;
     }
 
     /// A scan at the count passes every place.

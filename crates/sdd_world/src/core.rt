@@ -1,4 +1,4 @@
-ghost use Rattle.std.specs.Prelude.{◌≡◌, ℕ, ◌+◌, ◌<◌, ◌≤◌, List, [], map, length, vec_capacity, Some, None, Option, IsSome, MatchOption, MatchResult, IfOk, option_copied, ◌⊎◌, ◌↔◌};
+ghost use Rattle.std.specs.Prelude.{◌≡◌, ℕ, ◌+◌, ◌<◌, ◌≤◌, List, [], map, length, vec_capacity, Some, None, Option, IsSome, MatchOption, MatchResult, IfOk, IsTrue, option_copied, ◌⊎◌, ◌↔◌};
 ghost use Rattle.sdd_core.specs.Epoch.{epoch_of};
 ghost use Rattle.sdd_token.specs.Right.{number_of, home_of};
 ghost use Rattle.sdd_store.specs.Waiting.{What};
@@ -11,12 +11,13 @@ ghost use Rattle.sdd_base.specs.Seat.{seat_on, IsSeated, IsExact};
 ghost use Rattle.sdd_base.specs.Owned.{slots_home, cells_home, holding_of, cell_holding};
 ghost use Rattle.sdd_base.specs.World.{World, IsBlank, weight, KeepsSizes, place_at, standing_at, value_at, IsPlaceOf};
 ghost use Rattle.sdd_base.specs.Steps.{made, retired, nulled, cell_closed, given, given_all, slot_reclaimed, all_reclaimed, rotated, settled, nested, closed, stirred, accelerated, registered};
+ghost use Rattle.sdd_world.specs.Closing.{paced, NothingIsOut};
 
 use sdd_base::inner;
 use sdd_base::{AtomicOwned, Giver, Item, Owned};
 use sdd_core::Refused;
 use sdd_slots::{Cells, Slots};
-use sdd_store::{Standing, Tally, Time};
+use sdd_store::{Pace, Standing, Tally, Time};
 use sdd_token::{Right, Rights};
 use std::alloc::{AllocError, Global};
 use std::marker::Model;
@@ -212,6 +213,36 @@ impl<T: Item<T>> Core<T> {
         ensures sizes { KeepsSizes self.old self.new }
     {
         self.time.close(place);
+    }
+
+    pub fn set_pace(&mut self, place: usize, pace: Pace)
+        requires place { IsPlaceOf self.old place }
+        ensures paced { self.new ≡ paced self.old place pace }
+        ensures sizes { KeepsSizes self.old self.new }
+    {
+        self.time.set_pace(place, pace);
+    }
+
+    /// Every slot and every cell is free.
+    pub fn is_unused(&self) -> bool
+        ensures { IsTrue result ↔ NothingIsOut self.now }
+    {
+        self.slots.is_unused() && self.cells.is_unused()
+    }
+
+    /// Lets go of a core whose slots and cells are all free.
+    pub fn destroy(self) -> Tally
+        requires { NothingIsOut self }
+        ensures { result ≡ self.tally }
+    {
+        let Core {
+            time: _,
+            slots,
+            cells: _,
+            tally,
+        } = self;
+        slots.destroy();
+        tally
     }
 
     /// A core without items, with time as it is.

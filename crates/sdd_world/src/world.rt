@@ -8,6 +8,8 @@ ghost use Rattle.sdd_base.specs.World.{World, KeepsSizes, IsPlaceOf, IsNew, plac
 ghost use Rattle.sdd_base.specs.Limits.{AreInRange};
 ghost use Rattle.sdd_base.specs.Steps.{made, retired, nulled, cell_closed, opened, changed, closed, stirred, accelerated, registered, reclaims};
 
+mod closing;
+
 use crate::core::Core;
 use sdd_base::{Item, Limits};
 use sdd_core::Refused;

@@ -1,0 +1,69 @@
+ghost use Rattle.std.specs.Prelude.{◌≡◌, ℕ, ◌⊎◌, List, MatchResult};
+ghost use Rattle.sdd_store.specs.Time.{place_at, with_place};
+ghost use Rattle.sdd_base.specs.World.{World, KeepsSizes, IsPlaceOf};
+ghost use Rattle.sdd_world.specs.Closing.{without_waiting, IsGuarded, NothingIsOut, aged_out, all_aged_out, Closes};
+
+use super::World;
+use sdd_base::Item;
+use sdd_core::Refused;
+use sdd_store::Tally;
+
+impl<T: Item<T>> World<T> {
+    /// Ends the world: reclaims what waits, with what it gives up in turn, and answers the tally. Participants need not have ended.
+    ///
+    /// `GuardOpen` where a guard of some participant is open: nothing has changed. `OwnerOut` where an owner or a cell is still out: what waited has been reclaimed. With either the world comes back.
+    pub fn close(mut self) -> Result<Tally, (World<T>, Refused)>
+        ensures closed { MatchResult result
+            (λ tally. ¬ (IsGuarded self) × ((end : World T) × Closes T.holds self end × NothingIsOut end × (tally ≡ end.tally)))
+            (λ e. ((e.1 ≡ Refused.GuardOpen) × IsGuarded self × (e.0 ≡ self)) ⊎ ((e.1 ≡ Refused.OwnerOut) × ¬ (IsGuarded self) × Closes T.holds self e.0 × ¬ (NothingIsOut e.0))) }
+    {
+        if self.time().is_any_open() {
+            return Err((self, Refused::GuardOpen));
+        }
+        self.clear();
+        if !self.core.is_unused() {
+            return Err((self, Refused::OwnerOut));
+        }
+        let World {
+            core,
+            spare: _,
+            alloc: _,
+        } = self;
+        Ok(core.destroy())
+    }
+
+    /// Reclaims what waits.
+    fn clear(&mut self)
+        ensures { Closes T.holds self.old self.new }
+    {
+        for place in 0..self.time().len() {
+            self.clear_place(place);
+        }
+    }
+
+    /// Reclaims what waits with a place.
+    fn clear_place(&mut self, place: usize)
+        requires { IsPlaceOf self.old place }
+        ensures changes { (places : List ℕ) × (self.new ≡ all_aged_out T.holds self.old places) }
+        ensures time { self.new.time ≡ with_place self.old.time place (without_waiting (place_at self.old.time place)) }
+        ensures home { self.new.home ≡ self.old.home }
+    {
+        while !self.time().is_clear(place) {
+            self.age_out(place);
+        }
+    }
+
+    /// A change of a place, which keeps its pace.
+    fn age_out(&mut self, place: usize)
+        requires { IsPlaceOf self.old place }
+        ensures aged { self.new ≡ aged_out T.holds self.old place }
+        ensures sizes { KeepsSizes self.old self.new }
+    {
+        let pace = self.time().pace(place);
+        self.change(place);
+        self.core.set_pace(place, pace);
+    }
+}
+
+#[cfg(test)]
+mod tests;
