@@ -1,4 +1,4 @@
-ghost use Rattle.std.specs.Prelude.{◌≡◌, ℕ, ◌+◌, ◌<◌, ◌≤◌, List, [], map, length, vec_capacity, Some, None, Option, IsSome, MatchOption, MatchResult, IfOk, option_copied, ◌⊎◌};
+ghost use Rattle.std.specs.Prelude.{◌≡◌, ℕ, ◌+◌, ◌<◌, ◌≤◌, List, [], map, length, vec_capacity, Some, None, Option, IsSome, MatchOption, MatchResult, IfOk, option_copied, ◌⊎◌, ◌↔◌, IsTrue};
 ghost use Rattle.sdd_core.specs.Epoch.{epoch_of};
 ghost use Rattle.sdd_token.specs.Right.{number_of, home_of};
 ghost use Rattle.sdd_store.specs.Waiting.{What};
@@ -47,6 +47,13 @@ impl<T: Item<T>> Model for Core<T> {
 }
 
 impl<T: Item<T>> Core<T> {
+    /// No slot is free.
+    pub fn is_full(&self) -> bool
+        ensures { IsTrue result ↔ IsFull self.now.standings }
+    {
+        self.slots.is_full()
+    }
+
     /// Puts a value into a free slot.
     pub fn make(&mut self, value: T) -> Result<Right, T>
         requires home { AreOf self.old.home (T.holds value) }
@@ -251,7 +258,7 @@ impl<T: Item<T>> Core<T> {
     }
 
     /// The value of an owner's item.
-    pub fn value<'a>(&'a self, right: &'a Right) -> &'a T
+    pub fn value<'a>(&'a self, right: &Right) -> &'a T
         requires { home_of right.now ≡ self.now.home.slots }
         ensures { value_at self.now (number_of right.now) ≡ Some result.now }
     {

@@ -9,7 +9,7 @@ ghost use Rattle.sdd_store.specs.Waiting.What.{Item};
 ghost use Rattle.sdd_base.specs.Ptr.{IsNull, NamesFilled, NamesShown};
 
 use sdd_base::inner;
-use sdd_base::{AtomicOwned, Item, Look, Owned, Ptr, Space};
+use sdd_base::{AtomicOwned, Guard, Item, Look, Owned, Ptr, Space};
 use crate::world::{Place, World};
 use sdd_core::Refused;
 use sdd_token::Right;
@@ -57,6 +57,10 @@ impl<T: Item<T>> Look<T> for World<T> {
         World::value(self, right)
     }
 
+    fn guarded<'g>(&'g self, right: &Right, _guard: &'g Guard) -> &'g T {
+        World::value(self, right)
+    }
+
     fn look<'g>(&'g self, ptr: Ptr<'g, T>) -> Option<&'g T>
         requires filled { NamesFilled (λ k. IsSome (value_at self.now k)) ptr }
         ensures null { MatchOption result (IsNull ptr.entry) (λ value. NamesShown (λ k v. value_at self.now k ≡ Some v) ptr.entry value.now) }
@@ -77,6 +81,10 @@ impl<T: Item<T>> Look<T> for Turn<'_, T> {
     ghost filled = { λ t k. IsSome (value_at t.world.now k) };
 
     fn value<'a>(&'a self, right: &'a Right) -> &'a T {
+        self.world.value(right)
+    }
+
+    fn guarded<'g>(&'g self, right: &Right, _guard: &'g Guard) -> &'g T {
         self.world.value(right)
     }
 
@@ -133,6 +141,16 @@ impl<T: Item<T>> Space<T> for Turn<'_, T> {
         match self.world.make(value) {
             Ok(right) => Ok(inner::owner_of(right)),
             Err(value) => Err((value, Refused::NoSlot)),
+        }
+    }
+
+    fn make_with<F: FnOnce() -> T>(&mut self, make: F) -> Result<Owned<T>, (F, Refused)> {
+        if self.world.is_full() {
+            return Err((make, Refused::NoSlot));
+        }
+        match self.world.make(make()) {
+            Ok(right) => Ok(inner::owner_of(right)),
+            Err(_) => unreachable!(),
         }
     }
 

@@ -110,7 +110,7 @@ impl<T: Item<T>> World<T> {
         self.core.time()
     }
 
-    pub(crate) fn value<'a>(&'a self, right: &'a Right) -> &'a T
+    pub(crate) fn value<'a>(&'a self, right: &Right) -> &'a T
         requires { home_of right.now ≡ self.now.home.slots }
         ensures { value_at self.now (number_of right.now) ≡ Some result.now }
     {
@@ -126,6 +126,13 @@ impl<T: Item<T>> World<T> {
             unreachable!()
         };
         value
+    }
+
+    /// No slot is free.
+    pub(crate) fn is_full(&self) -> bool
+        ensures { IsTrue result ↔ IsFull self.now.standings }
+    {
+        self.core.is_full()
     }
 
     pub(crate) fn make(&mut self, value: T) -> Result<Right, T>
