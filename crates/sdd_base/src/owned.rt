@@ -92,7 +92,10 @@ impl<T: Item<T>> Owned<T> {
     /// Puts the value that `f` makes into a free slot.
     ///
     /// `NoSlot` where none is free; `f` comes back uncalled.
-    pub fn new_with<S: Space<T>, F: FnOnce() -> T>(f: F, s: &mut S) -> Result<Owned<T>, (F, Refused)>
+    pub fn new_with<S: Space<T>, F: FnOnce() -> T>(
+        f: F,
+        s: &mut S,
+    ) -> Result<Owned<T>, (F, Refused)>
         requires seated { IsSeated (S.seat s.old) }
         requires callable { F.pre f }
         requires home { (value : T) → F.post f value → AreOf (S.seat s.old).home (T.holds value) }

@@ -11,8 +11,7 @@ ghost use Rattle.sdd_base.specs.Owned.{slots_home, cells_home, holding_of, cell_
 ghost use Rattle.sdd_base.specs.World.{World, IsBlank, weight, KeepsSizes, place_at, standing_at, value_at, IsPlaceOf};
 ghost use Rattle.sdd_base.specs.Steps.{made, retired, nulled, cell_closed, given, given_all, slot_reclaimed, all_reclaimed, rotated, settled, nested, closed, stirred, accelerated, registered};
 
-use sdd_base::inner;
-use sdd_base::{AtomicOwned, Giver, Item, Owned};
+use sdd_base::{AtomicOwned, Giver, Item, Owned, inner};
 use sdd_core::Refused;
 use sdd_slots::{Cells, Slots};
 use sdd_store::{Standing, Tally, Time};
@@ -35,12 +34,12 @@ impl<T: Item<T>> Model for Core<T> {
     ghost Value = { World T };
 
     ghost view = { λ c. record {
-        home = record { slots = c.slots.home; cells = c.cells.home };
-        time = c.time;
-        standings = c.slots.standings;
-        values = c.slots.values;
-        cells = c.cells.cells;
-        tally = c.tally;
+      home = record { slots = c.slots.home; cells = c.cells.home };
+      time = c.time;
+      standings = c.slots.standings;
+      values = c.slots.values;
+      cells = c.cells.cells;
+      tally = c.tally;
     } };
 
     ghost invariant = { λ c. IsSound T.holds c.time c.slots c.cells };
