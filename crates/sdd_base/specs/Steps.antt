@@ -30,7 +30,6 @@ module _ {T : Type 0} where
   abbrev pub nulled : World T → ℕ → World T
   nulled w c = record w { cells = with_entry w.cells c (record { held = None; tag = no_tag }) }
 
-
   -- p is given the owner of the slot's item, which stands so: an item that is out as owned is retired
   abbrev pub owner_given : World T → ℕ → ℕ → Option Standing → World T
   owner_given w p k None = w

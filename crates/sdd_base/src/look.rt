@@ -3,6 +3,7 @@ ghost use Rattle.sdd_token.specs.Right.{number_of, home_of};
 ghost use Rattle.sdd_base.specs.Holding.{Home};
 ghost use Rattle.sdd_base.specs.Ptr.{IsNull, NamesFilled, NamesShown};
 
+use crate::guard::Guard;
 use crate::ptr::Ptr;
 use sdd_token::Right;
 
@@ -17,6 +18,11 @@ pub trait Look<T> {
 
     /// The value of an owner's item.
     fn value<'a>(&'a self, right: &'a Right) -> &'a T
+        requires home { home_of right.now ≡ (home self.now).slots }
+        ensures shown { shows self.now (number_of right.now) result.now };
+
+    /// The value of an owner's item, good while the guard is open, also after the item was retired.
+    fn guarded<'g>(&'g self, right: &Right, guard: &'g Guard) -> &'g T
         requires home { home_of right.now ≡ (home self.now).slots }
         ensures shown { shows self.now (number_of right.now) result.now };
 

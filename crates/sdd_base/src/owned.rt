@@ -8,6 +8,8 @@ ghost use Rattle.sdd_base.specs.Owned.{slot_of, slots_home};
 ghost use Rattle.sdd_core.specs.declared.tag.Tag.TheVariants.{None as no_tag};
 ghost use Rattle.sdd_base.specs.Ptr.{slot_named, tag_of};
 ghost use Rattle.sdd_store.specs.Table.{IsEmptyAt, IsFull};
+ghost use Rattle.sdd_store.specs.Time as time;
+ghost use Rattle.sdd_store.specs.Waiting.What.{Item};
 
 use crate::guard::Guard;
 use crate::item::Item;
@@ -59,6 +61,14 @@ impl<T> Owned<T> {
         at.value(&self.right)
     }
 
+    /// The item's value, good while the guard is open, also after the item was retired.
+    pub fn get_guarded_ref<'g, L: Look<T>>(&self, guard: &'g Guard, at: &'g L) -> &'g T
+        requires home { slots_home self.now ≡ (L.home at.now).slots }
+        ensures shown { L.shows at.now (slot_of self.now) result.now }
+    {
+        at.guarded(&self.right, guard)
+    }
+
     /// A pointer to the item, good while the guard is open, also after the item was retired.
     pub fn get_guarded_ptr<'g>(&self, guard: &'g Guard) -> Ptr<'g, T>
         ensures slot { slot_named result ≡ Some (slot_of self.now) }
@@ -85,11 +95,32 @@ impl<T: Item<T>> Owned<T> {
         s.make(value)
     }
 
+    /// Puts the value that `f` makes into a free slot.
+    ///
+    /// `NoSlot` where none is free; `f` comes back uncalled.
+    pub fn new_with<S: Space<T>, F: FnOnce() -> T>(
+        f: F,
+        s: &mut S,
+    ) -> Result<Owned<T>, (F, Refused)>
+        requires seated { IsSeated (S.seat s.old) }
+        requires callable { F.pre f }
+        requires home { (value : T) → F.post f value → AreOf (S.seat s.old).home (T.holds value) }
+        ensures seat { S.seat s.new ≡ S.seat s.old }
+        ensures own { S.own s.new ≡ S.own s.old }
+        ensures home { IfOk result (λ owner. slots_home owner ≡ (S.seat s.old).home.slots) }
+        ensures exact { IsExact (S.seat s.old) → MatchResult result
+            (λ owner. IsEmptyAt (S.world s.old).standings (slot_of owner) × ((value : T) × F.post f value × (S.world s.new ≡ made (S.world s.old) (slot_of owner) value)))
+            (λ e. IsFull (S.world s.old).standings × (e ≡ (f, Refused.NoSlot)) × (S.world s.new ≡ S.world s.old)) }
+    {
+        s.make_with(f)
+    }
+
     /// Retires the item: it waits with the calling participant, which reclaims it at its third later outermost opening that finds another epoch.
     pub fn retire<S: Space<T>>(self, s: &mut S)
         requires seated { IsSeated (S.seat s.old) }
         requires home { slots_home self ≡ (S.seat s.old).home.slots }
         ensures seat { S.seat s.new ≡ S.seat s.old }
+        ensures own { S.own s.new ≡ time.awaiting (Item (slot_of self)) (S.own s.old) }
         ensures exact { IsExact (S.seat s.old) → S.world s.new ≡ retired (S.world s.old) (S.seat s.old).place (slot_of self) }
     {
         s.retire(self);

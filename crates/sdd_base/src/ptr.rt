@@ -123,6 +123,12 @@ impl<'g, T> Ptr<'g, T> {
 }
 
 impl<T> Default for Ptr<'_, T> {
+    ghost use Rattle.std.specs.Prelude.{◌≡◌};
+    ghost use Rattle.sdd_core.specs.declared.tag.Tag.TheVariants.{None as no_tag};
+    ghost use Rattle.sdd_base.specs.Ptr.{IsNull, tag_of};
+
+    ghost is_default = { λ p. IsNull p × (tag_of p ≡ no_tag) };
+
     fn default() -> Self {
         Ptr::null()
     }

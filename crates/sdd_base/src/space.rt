@@ -76,6 +76,18 @@ pub trait Space<T: Item<T>>: Look<T> {
             (λ owner. IsEmptyAt (world self.old).standings (slot_of owner) × (world self.new ≡ made (world self.old) (slot_of owner) value))
             (λ e. IsFull (world self.old).standings × (e ≡ (value, Refused.NoSlot)) × (world self.new ≡ world self.old)) };
 
+    /// Makes a value and puts it into a free slot; where none is free it isn't made.
+    fn make_with<F: FnOnce() -> T>(&mut self, make: F) -> Result<Owned<T>, (F, Refused)>
+        requires seated { IsSeated (seat self.old) }
+        requires callable { F.pre make }
+        requires home { (value : T) → F.post make value → AreOf (seat self.old).home (T.holds value) }
+        ensures seat { seat self.new ≡ seat self.old }
+        ensures own { own self.new ≡ own self.old }
+        ensures home { IfOk result (λ owner. slots_home owner ≡ (seat self.old).home.slots) }
+        ensures exact { IsExact (seat self.old) → MatchResult result
+            (λ owner. IsEmptyAt (world self.old).standings (slot_of owner) × ((value : T) × F.post make value × (world self.new ≡ made (world self.old) (slot_of owner) value)))
+            (λ e. IsFull (world self.old).standings × (e ≡ (make, Refused.NoSlot)) × (world self.new ≡ world self.old)) };
+
     /// The item waits with the participant.
     fn retire(&mut self, owner: Owned<T>)
         requires seated { IsSeated (seat self.old) }

@@ -85,6 +85,13 @@ impl<T> Slots<T> {
         self.standings.is_empty()
     }
 
+    /// No slot is free.
+    pub fn is_full(&self) -> bool
+        ensures { IsTrue result ↔ IsFull self.now.standings }
+    {
+        self.standings.is_full()
+    }
+
     /// Puts a value into some free slot, whose owner has the right; where none is free the value comes back.
     pub fn make(&mut self, value: T) -> Result<Right, T>
         ensures home { IfOk result (λ right. home_of right ≡ self.old.home) }
@@ -103,7 +110,7 @@ impl<T> Slots<T> {
     }
 
     /// The value of an owner.
-    pub fn value<'a>(&'a self, right: &'a Right) -> &'a T
+    pub fn value<'a>(&'a self, right: &Right) -> &'a T
         requires { home_of right.now ≡ self.now.home }
         ensures value { value_at self.now (number_of right.now) ≡ Some result.now }
         ensures owned { standing_at self.now (number_of right.now) ≡ Some Standing.Owned }
@@ -207,7 +214,9 @@ mod tests {
     #[test]
     fn a_value_goes_through_a_slot(rt: HostRuntime) -> Result<(), Fail> {
         let mut slots = Slots::new(rt.alloc(), 1)?;
+        let was_full = slots.is_full();
         let right = slots.make(7u64).expect(&rt, "a slot is free");
+        let is_full = slots.is_full();
         let value = *slots.value(&right);
         let seen = slots.look(right.number()).copied();
         let early = slots.reclaim(right.number());
@@ -223,6 +232,7 @@ mod tests {
         let reclaimed = slots.reclaim(slot);
         let again = slots.reclaim(slot);
         assert_eq!(rt; slots.len(), 1);
+        assert_eq!(rt; (was_full, is_full), (false, true));
         assert_eq!(rt; value, 7);
         assert_eq!(rt; seen, Some(7));
         assert_eq!(rt; early, None);

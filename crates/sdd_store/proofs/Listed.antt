@@ -64,6 +64,29 @@ module _ {E : Type 0} where
   empty-by-lengths t empty room m n h m_is n_is =
       (λ same. empty-from-count t (omega (arith, h.all, eqb-true m n same)), λ all. eq-eqb m n (omega (arith, h.all, count-from-empty t all)))
 
+  full_cons : (x : E) (xs : Entries E) → All (λ e. IsSome e) xs → All (λ e. IsSome e) (Some x ∷ xs)
+  full_cons x xs h zero d lt = refl
+  full_cons x xs h (suc k) d lt = h k d (omega arith)
+
+  -- no place is empty, if none is listed
+  pub full-from-count : (t : Entries E) → count_by is_none t ≡ 0 → All (λ e. IsSome e) t
+  full-from-count [] h = λ k d lt. absurd (omega arith)
+  full-from-count (None ∷ xs) h = absurd (omega (arith, h, sum_by-cons one_if_none None xs))
+  full-from-count (Some x ∷ xs) h =
+      let rest : count_by is_none xs ≡ 0 = omega (arith, h, sum_by-cons one_if_none (Some x) xs) in
+      full_cons x xs (full-from-count xs rest)
+
+  pub count-from-full : (t : Entries E) → All (λ e. IsSome e) t → count_by is_none t ≡ 0
+  count-from-full [] h = refl
+  count-from-full (x ∷ xs) h =
+      let here : one_if_none x ≡ 0 = zero-from-some x (h 0 x (omega arith)) in
+      let rest : count_by is_none xs ≡ 0 = count-from-full xs (λ k d lt. h (suc k) d (omega arith)) in
+      omega (arith, here, rest, sum_by-cons one_if_none x xs)
+
+  pub full-by-length : (t : Entries E) (empty : List ℕ) (room n : ℕ) → IsListed t empty room → n ≡ length empty → IsTrue (n == 0) ↔ All (λ e. IsSome e) t
+  full-by-length t empty room n h n_is =
+      (λ none. full-from-count t (omega (arith, h.all, eqb-true n 0 none)), λ all. eq-eqb n 0 (omega (arith, h.all, count-from-full t all)))
+
   -- there is room to list one more
   pub room-left : (t : Entries E) (k : ℕ) (empty : List ℕ) (room : ℕ) → IsListed t empty room → IsSome (entry_at t k) → length empty < room
   room-left t k empty room h some =

@@ -100,6 +100,13 @@ impl<E> Table<E> {
     {
         self.empty.len() == self.len()
     }
+
+    /// No place is empty.
+    pub fn is_full(&self) -> bool
+        ensures { IsTrue result ↔ IsFull self.now }
+    {
+        self.empty.is_empty()
+    }
 }
 
 #[cfg(test)]
@@ -112,8 +119,10 @@ mod tests {
         let mut table = Table::new(rt.alloc(), 1)?;
         assert!(rt; table.is_empty());
         assert_eq!(rt; table.len(), 1);
+        assert!(rt; !table.is_full());
         let place = table.claim('a')?;
         assert!(rt; !table.is_empty());
+        assert!(rt; table.is_full());
         assert_eq!(rt; table.claim('b'), Err('b'));
         assert_eq!(rt; table.replace(place, 'c'), 'a');
         assert_eq!(rt; table.get(place), Some('c'));

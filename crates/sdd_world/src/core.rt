@@ -13,8 +13,7 @@ ghost use Rattle.sdd_base.specs.World.{World, IsBlank, weight, KeepsSizes, place
 ghost use Rattle.sdd_base.specs.Steps.{made, retired, nulled, cell_closed, given, given_all, slot_reclaimed, all_reclaimed, rotated, settled, nested, closed, stirred, accelerated, registered};
 ghost use Rattle.sdd_world.specs.Closing.{paced, NothingIsOut};
 
-use sdd_base::inner;
-use sdd_base::{AtomicOwned, Giver, Item, Owned};
+use sdd_base::{AtomicOwned, Giver, Item, Owned, inner};
 use sdd_core::Refused;
 use sdd_slots::{Cells, Slots};
 use sdd_store::{Pace, Standing, Tally, Time};
@@ -37,18 +36,25 @@ impl<T: Item<T>> Model for Core<T> {
     ghost Value = { World T };
 
     ghost view = { λ c. record {
-        home = record { slots = c.slots.home; cells = c.cells.home };
-        time = c.time;
-        standings = c.slots.standings;
-        values = c.slots.values;
-        cells = c.cells.cells;
-        tally = c.tally;
+      home = record { slots = c.slots.home; cells = c.cells.home };
+      time = c.time;
+      standings = c.slots.standings;
+      values = c.slots.values;
+      cells = c.cells.cells;
+      tally = c.tally;
     } };
 
     ghost invariant = { λ c. IsSound T.holds c.time c.slots c.cells };
 }
 
 impl<T: Item<T>> Core<T> {
+    /// No slot is free.
+    pub fn is_full(&self) -> bool
+        ensures { IsTrue result ↔ IsFull self.now.standings }
+    {
+        self.slots.is_full()
+    }
+
     /// Puts a value into a free slot.
     pub fn make(&mut self, value: T) -> Result<Right, T>
         requires home { AreOf self.old.home (T.holds value) }
@@ -283,7 +289,7 @@ impl<T: Item<T>> Core<T> {
     }
 
     /// The value of an owner's item.
-    pub fn value<'a>(&'a self, right: &'a Right) -> &'a T
+    pub fn value<'a>(&'a self, right: &Right) -> &'a T
         requires { home_of right.now ≡ self.now.home.slots }
         ensures { value_at self.now (number_of right.now) ≡ Some result.now }
     {

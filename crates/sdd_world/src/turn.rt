@@ -8,9 +8,8 @@ ghost use Rattle.sdd_store.specs.Time.{awaiting};
 ghost use Rattle.sdd_store.specs.Waiting.What.{Item};
 ghost use Rattle.sdd_base.specs.Ptr.{IsNull, NamesFilled, NamesShown};
 
-use sdd_base::inner;
-use sdd_base::{AtomicOwned, Item, Look, Owned, Ptr, Space};
 use crate::world::{Place, World};
+use sdd_base::{AtomicOwned, Guard, Item, Look, Owned, Ptr, Space, inner};
 use sdd_core::Refused;
 use sdd_token::Right;
 
@@ -57,6 +56,10 @@ impl<T: Item<T>> Look<T> for World<T> {
         World::value(self, right)
     }
 
+    fn guarded<'g>(&'g self, right: &Right, _guard: &'g Guard) -> &'g T {
+        World::value(self, right)
+    }
+
     fn look<'g>(&'g self, ptr: Ptr<'g, T>) -> Option<&'g T>
         requires filled { NamesFilled (λ k. IsSome (standing_at self.now k)) ptr }
         ensures null { MatchOption result (IsNull ptr.entry) (λ value. NamesShown (λ k v. value_at self.now k ≡ Some v) ptr.entry value.now) }
@@ -77,6 +80,10 @@ impl<T: Item<T>> Look<T> for Turn<'_, T> {
     ghost filled = { λ t k. IsSome (standing_at t.world.now k) };
 
     fn value<'a>(&'a self, right: &'a Right) -> &'a T {
+        self.world.value(right)
+    }
+
+    fn guarded<'g>(&'g self, right: &Right, _guard: &'g Guard) -> &'g T {
         self.world.value(right)
     }
 
@@ -136,6 +143,16 @@ impl<T: Item<T>> Space<T> for Turn<'_, T> {
         }
     }
 
+    fn make_with<F: FnOnce() -> T>(&mut self, make: F) -> Result<Owned<T>, (F, Refused)> {
+        if self.world.is_full() {
+            return Err((make, Refused::NoSlot));
+        }
+        match self.world.make(make()) {
+            Ok(right) => Ok(inner::owner_of(right)),
+            Err(_) => unreachable!(),
+        }
+    }
+
     fn retire(&mut self, owner: Owned<T>)
         requires seated { IsSeated (seat_on self.old.world.now self.old.place self.old.world.ghost_name) }
         requires home { slots_home owner ≡ self.old.world.now.home.slots }
@@ -159,6 +176,7 @@ impl<T: Item<T>> Space<T> for Turn<'_, T> {
         ensures seat { seat_on self.new.world.now self.new.place self.new.world.ghost_name ≡ seat_on self.old.world.now self.old.place self.old.world.ghost_name }
         ensures exact { IsExact (seat_on self.old.world.now self.old.place self.old.world.ghost_name) → self.new.world.now ≡ cell_closed self.old.world.now self.old.place (cell_of cell) }
     {
-        self.world.close_cell(self.place, inner::right_of_cell(cell));
+        self.world
+            .close_cell(self.place, inner::right_of_cell(cell));
     }
 }

@@ -81,7 +81,13 @@ impl<T: Item<T>> World<T> {
         if !limits.are_in_range() {
             return Err(Refused::BadLimits);
         }
-        let time = Time::new(alloc, count, limits.participants as usize, limits.nesting as u32, limits.slots as usize)?;
+        let time = Time::new(
+            alloc,
+            count,
+            limits.participants as usize,
+            limits.nesting as u32,
+            limits.slots as usize,
+        )?;
         let spare = Vec::with_capacity(alloc, limits.slots as usize)?;
         let core = Core::new(alloc, time, limits.slots as u32, limits.cells as u32)?;
         Ok(World { core, spare, alloc })
@@ -134,7 +140,7 @@ impl<T: Item<T>> World<T> {
         core.dismantle();
     }
 
-    pub(crate) fn value<'a>(&'a self, right: &'a Right) -> &'a T
+    pub(crate) fn value<'a>(&'a self, right: &Right) -> &'a T
         requires { home_of right.now ≡ self.now.home.slots }
         ensures { value_at self.now (number_of right.now) ≡ Some result.now }
     {
@@ -150,6 +156,13 @@ impl<T: Item<T>> World<T> {
             unreachable!()
         };
         value
+    }
+
+    /// No slot is free.
+    pub(crate) fn is_full(&self) -> bool
+        ensures { IsTrue result ↔ IsFull self.now.standings }
+    {
+        self.core.is_full()
     }
 
     pub(crate) fn make(&mut self, value: T) -> Result<Right, T>
