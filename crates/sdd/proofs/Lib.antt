@@ -6,3 +6,5 @@ pub mod Opening
 pub mod Closing
 pub mod Items
 pub mod Happening
+pub mod Sound
+pub mod SoundOpened
