@@ -8,3 +8,6 @@ pub mod Items
 pub mod Happening
 pub mod Sound
 pub mod SoundOpened
+pub mod Known
+pub mod KnownOpened
+pub mod Due

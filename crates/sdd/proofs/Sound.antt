@@ -65,7 +65,7 @@ Sound-still old new s z =
 taken-other : {E : Type 0} (xs : List (Option E)) (s k : ℕ) (x : E) → slice_index_or xs s None ≡ Some x → slice_index_or xs k None ≡ None → s ≢ k
 taken-other {E} xs s k x h n e = let z : Some x ≡ None = sym h ∙ ap (λ (j : ℕ). slice_index_or xs j None) e ∙ n in cc
 
-some-inside : {E : Type 0} (xs : List (Option E)) (k : ℕ) (x : E) → slice_index_or xs k None ≡ Some x → k < length xs
+pub some-inside : {E : Type 0} (xs : List (Option E)) (k : ℕ) (x : E) → slice_index_or xs k None ≡ Some x → k < length xs
 some-inside {E} xs k x h =
     elim (cases_lt k (length xs)) [
       inl lt ↦ lt
@@ -73,7 +73,7 @@ some-inside {E} xs k x h =
     ]
 
 -- the owners after a push
-pushed-owner : (xs : List (Option ℕ)) (n o i : ℕ) → slice_index_or (xs ++ Some n ∷ []) o None ≡ Some i → ((o ≡ length xs) × (i ≡ n)) ⊎ (slice_index_or xs o None ≡ Some i)
+pub pushed-owner : (xs : List (Option ℕ)) (n o i : ℕ) → slice_index_or (xs ++ Some n ∷ []) o None ≡ Some i → ((o ≡ length xs) × (i ≡ n)) ⊎ (slice_index_or xs o None ≡ Some i)
 pushed-owner xs n o i h =
     elim (cases_eq o (length xs)) [
       inl e ↦
@@ -181,7 +181,7 @@ module _ (d : Desk) (p o i : ℕ) (place : IsPlace d p) (owner : IsOwnerOf d i o
       let z : Some Retired ≡ Some Owned = sym stood ∙ stands in cc
 
   -- the other owners are as before
-  owner-else : (r j : ℕ) → IsOwnerOf (with_retired d p o i) j r → (r ≢ o) × IsOwnerOf d j r
+  pub owner-else : (r j : ℕ) → IsOwnerOf (with_retired d p o i) j r → (r ≢ o) × IsOwnerOf d j r
   owner-else r j h =
       elim (cases_eq r o) [
         inl e ↦

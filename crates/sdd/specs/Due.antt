@@ -130,3 +130,8 @@ AllDue past (line ∷ lines) = ((i : ItemName) → Contains line.answer.reclaime
 abbrev pub Trace : Desk → List Line → Desk → Type 0
 Trace old [] new = new ≡ old
 Trace old (line ∷ lines) new = (line.count ≡ old.world.time.count) × ((mid : Desk) × Step old line.call line.answer mid × Trace mid lines new)
+
+-- what the answers to these calls name as reclaimed is what is due, line by line
+abbrev pub NamesWhatIsDue : Desk → List Call → List Answer → Desk → Type 0
+NamesWhatIsDue start calls answers new =
+    (lines : List Line) × (map (λ (line : Line). line.call) lines ≡ calls) × (map (λ (line : Line). line.answer) lines ≡ answers) × Trace start lines new × AllDue [] lines

@@ -2,3 +2,4 @@ pub mod Val
 pub mod Desk
 pub mod Script
 pub mod Due
+pub mod Start
