@@ -1,5 +1,5 @@
 -- What is due at a change, and what goes on waiting
-use Rattle.std.proofs.Common.{◌≡◌, ◌≢◌, ◌⊎◌, ℕ, ◌+◌, ◌<◌, ◌≤◌, true, false, List, [], ◌∷◌, inl, inr, refl, sym, ap, ◌∙◌, nat_lt, lt-ltb, le-ltb, arith}
+use Rattle.std.proofs.Common.{◌≡◌, ◌⊎◌, ℕ, ◌+◌, ◌<◌, ◌≤◌, true, false, List, [], ◌∷◌, inl, inr, sym, ap, nat_lt, lt-ltb, le-ltb, arith}
 use Rattle.std.proofs.lemmas.Bool.{cases_lt}
 use Rattle.sdd_store.specs.Waiting.{What, Waiting, having_seen, aged, due, left}
 use Rattle.sdd.proofs.Among.{Among}
@@ -24,8 +24,8 @@ among-due (w ∷ ws) x k old (inl e) =
     rw (due-old w ws (omega arith)) (inl (ap (λ (y : Waiting). y.what) e))
 among-due (w ∷ ws) x k old (inr h) =
     elim (cases_lt w.seen 2) [
-      inl young ↦ rw (due-young w ws young) (among-due ws x k old h)
-    | inr aged_so ↦ rw (due-old w ws aged_so) (inr (among-due ws x k old h))
+      | inl young ↦ rw (due-young w ws young) (among-due ws x k old h)
+      | inr aged_so ↦ rw (due-old w ws aged_so) (inr (among-due ws x k old h))
     ]
 
 -- only what has seen two changes is
@@ -33,13 +33,13 @@ pub due-among : (ws : List Waiting) (x : What) → Among (due (aged ws)) x → (
 due-among [] x h = absurd h
 due-among (w ∷ ws) x h =
     elim (cases_lt w.seen 2) [
-      inl young ↦ let r = due-among ws x (rw (due-young w ws young) at h) in (r.0, r.1, inr r.2)
-    | inr old ↦
-      let h2 : (w.what ≡ x) ⊎ Among (due (aged ws)) x = rw (due-old w ws old) at h in
-      elim h2 [
-        inl e ↦ (w.seen, old, inl (ap (having_seen w.seen) e))
-      | inr rest ↦ let r = due-among ws x rest in (r.0, r.1, inr r.2)
-      ]
+      | inl young ↦ let r = due-among ws x (rw (due-young w ws young) at h) in (r.0, r.1, inr r.2)
+      | inr old ↦
+          let h2 : (w.what ≡ x) ⊎ Among (due (aged ws)) x = rw (due-old w ws old) at h in
+          elim h2 [
+            | inl e ↦ (w.seen, old, inl (ap (having_seen w.seen) e))
+            | inr rest ↦ let r = due-among ws x rest in (r.0, r.1, inr r.2)
+          ]
     ]
 
 -- what has seen fewer goes on waiting
@@ -50,8 +50,8 @@ among-left (w ∷ ws) x k young (inl e) =
     rw (left-young w ws (omega arith)) (inl (ap (λ (y : Waiting). having_seen (y.seen + 1) y.what) e))
 among-left (w ∷ ws) x k young (inr h) =
     elim (cases_lt w.seen 2) [
-      inl young_too ↦ rw (left-young w ws young_too) (inr (among-left ws x k young h))
-    | inr old ↦ rw (left-old w ws old) (among-left ws x k young h)
+      | inl young_too ↦ rw (left-young w ws young_too) (inr (among-left ws x k young h))
+      | inr old ↦ rw (left-old w ws old) (among-left ws x k young h)
     ]
 
 -- only what has seen fewer does
@@ -59,11 +59,11 @@ pub left-among : (ws : List Waiting) (y : Waiting) → Among (left (aged ws)) y 
 left-among [] y h = absurd h
 left-among (w ∷ ws) y h =
     elim (cases_lt w.seen 2) [
-      inl young ↦
-      let h2 : (having_seen (w.seen + 1) w.what ≡ y) ⊎ Among (left (aged ws)) y = rw (left-young w ws young) at h in
-      elim h2 [
-        inl e ↦ (w.seen, young, ap (λ (z : Waiting). z.seen) (sym e), inl (ap (λ (z : Waiting). having_seen w.seen z.what) e))
-      | inr rest ↦ let r = left-among ws y rest in (r.0, r.1, r.2, inr r.3)
-      ]
-    | inr old ↦ let r = left-among ws y (rw (left-old w ws old) at h) in (r.0, r.1, r.2, inr r.3)
+      | inl young ↦
+          let h2 : (having_seen (w.seen + 1) w.what ≡ y) ⊎ Among (left (aged ws)) y = rw (left-young w ws young) at h in
+          elim h2 [
+            | inl e ↦ (w.seen, young, ap (λ (z : Waiting). z.seen) (sym e), inl (ap (λ (z : Waiting). having_seen w.seen z.what) e))
+            | inr rest ↦ let r = left-among ws y rest in (r.0, r.1, r.2, inr r.3)
+          ]
+      | inr old ↦ let r = left-among ws y (rw (left-old w ws old) at h) in (r.0, r.1, r.2, inr r.3)
     ]

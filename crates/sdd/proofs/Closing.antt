@@ -1,5 +1,5 @@
 -- What it changes that a guard is closed
-use Rattle.std.proofs.Common.{◌≡◌, ◌≢◌, ℕ, ◌+◌, ◌-◌, ◌<◌, ◌&&◌, ◌==◌, Bool, true, false, if◌then◌else◌, nat_lt, List, Option, length, slice_index_or, slice_set, refl, sym, ap, subst, ◌∙◌, ltb-false, arith}
+use Rattle.std.proofs.Common.{◌≡◌, ◌≢◌, ℕ, ◌+◌, ◌-◌, ◌<◌, ◌&&◌, ◌==◌, Bool, true, false, if◌then◌else◌, nat_lt, List, length, slice_index_or, slice_set, refl, sym, ap, subst, ◌∙◌, ltb-false, arith}
 use Rattle.std.specs.List.{list_all}
 use Rattle.sdd_store.specs.Time as time
 use Rattle.sdd_store.specs.Time.{Time, nobody}

@@ -6,21 +6,19 @@ use Rattle.sdd_store.specs.Waiting.{Waiting}
 use Rattle.sdd_store.specs.Time.{Time, nobody}
 use Rattle.sdd_store.specs.declared.time.Participant.{Participant}
 use Rattle.sdd_store.specs.declared.standing.Cell.{Cell}
-use Rattle.sdd_base.specs.World.{place_at}
 use Rattle.sdd_base.specs.Steps.{held_in}
 use Rattle.sdd_lines.specs.declared.name.ItemName.{ItemName}
 use Rattle.sdd_lines.specs.declared.call.Call.{Call}
 use Rattle.sdd_lines.specs.declared.answer.Answer.{Answer}
 use Rattle.sdd.specs.declared.script.item.ItemState.{ItemState}
 use Rattle.sdd.specs.Desk.{Desk, nothing, IsOwnerOf, Waits}
-use Rattle.sdd.specs.Script.{Step, Runs, later}
+use Rattle.sdd.specs.Script.{Step, Runs}
 use Rattle.sdd.specs.Start.{IsStart}
 use Rattle.sdd.specs.Due.{Line, Event, event, Trace, AllDue, IsDue, IsDueAt, NamesWhatIsDue}
 use Rattle.sdd.specs.Due.Event.{Opened, Closed, Made, Retired, Other}
 use Rattle.sdd.proofs.Among.{Among}
-use Rattle.sdd.proofs.Happening.{Happens, happens, Still, Quiet}
-use Rattle.sdd.proofs.Closing.{Closes, Closes-closed}
-use Rattle.sdd.proofs.Reclaiming.{HoldNothing}
+use Rattle.sdd.proofs.Happening.{Happens, happens}
+use Rattle.sdd.proofs.Closing.{Closes-closed}
 use Rattle.sdd.proofs.Sound.{Sound, Sound-later, Sound-still, Sound-made, Sound-retired, waiting}
 use Rattle.sdd.proofs.SoundOpened.{Sound-opened}
 use Rattle.sdd.proofs.Known.{Knows, Knows-later, Knows-other, Knows-closed, Knows-made, Knows-retired}
@@ -63,9 +61,10 @@ record Goes (line : Line) (past : List Line) (names : List ItemName) (new : Desk
 
 -- where nothing is reclaimed, nothing is due
 none-due : (line : Line) (past : List Line) (names : List ItemName) (e : Event) → event line ≡ e → names ≡ [] → ((i : ItemName) → IsDueAt i.0 e line past → ⊥) → (i : ItemName) → Contains names i ↔ IsDue i.0 line past
-none-due line past names e is none never i =
-    ((λ c. let lt : c.0 < length names = c.1 in let z : length names ≡ 0 = ap (λ (xs : List ItemName). length xs) none in absurd (omega arith)),
-    (λ h. absurd (never i (subst (λ (x : Event). IsDueAt i.0 x line past) is h))))
+none-due line past names e is none never i = (
+  (λ c. let lt : c.0 < length names = c.1 in let z : length names ≡ 0 = ap (λ (xs : List ItemName). length xs) none in absurd (omega arith)),
+  (λ h. absurd (never i (subst (λ (x : Event). IsDueAt i.0 x line past) is h))),
+)
 
 goes : (line : Line) (past : List Line) (names : List ItemName) (old new : Desk) (e : Event) → event line ≡ e → line.count ≡ old.world.time.count → Sound old → Knows past old → Happens old e names new → Goes line past names new
 goes line past names old new (Opened p) is count s k h =

@@ -1,12 +1,12 @@
 -- What happens to the desk in a line
-use Rattle.std.proofs.Common.{◌≡◌, ◌≢◌, ◌⊎◌, ℕ, ◌<◌, List, [], ◌∷◌, ◌++◌, Option, Some, None, length, slice_index_or, slice_set, refl, sym, ap, subst}
+use Rattle.std.proofs.Common.{◌≡◌, ℕ, List, [], ◌∷◌, ◌++◌, None, length, slice_set, refl, sym, subst}
 use Rattle.sdd_core.specs.declared.refused.Refused.TheVariants.{NoSlot, NoCell, NoPlace, TooManyGuards}
 use Rattle.sdd_store.specs.Time as time
 use Rattle.sdd_store.specs.Time.{Time, nobody, newcomer}
 use Rattle.sdd_store.specs.Table.{IsEmptyAt}
 use Rattle.sdd_store.specs.declared.time.Participant.{Participant}
 use Rattle.sdd_base.specs.World.{place_at}
-use Rattle.sdd_base.specs.Steps.{registered, stirred, accelerated, closed}
+use Rattle.sdd_base.specs.Steps.{registered, closed}
 use Rattle.sdd_lines.specs.declared.name.ItemName.{ItemName}
 use Rattle.sdd_lines.specs.declared.name.PlaceName.{PlaceName}
 use Rattle.sdd_lines.specs.declared.call.Call.{Call}
@@ -53,7 +53,10 @@ Quiet-registered d openings =
       still = record {
         found = at-each_pushed (λ (y : Participant). y.found) ps x nobody refl;
         waiting = at-each_pushed (λ (y : Participant). y.bags.waiting) ps x nobody refl;
-        standings = refl; cells = refl; owners = refl; items = refl;
+        standings = refl;
+        cells = refl;
+        owners = refl;
+        items = refl;
       };
       guards = at-each_pushed (λ (y : Participant). y.guards) ps x nobody refl;
     }
@@ -67,7 +70,10 @@ Quiet-countdown d p n =
       still = record {
         found = at-each (λ (y : Participant). y.found) ps p x nobody refl;
         waiting = at-each (λ (y : Participant). y.bags.waiting) ps p x nobody refl;
-        standings = refl; cells = refl; owners = refl; items = refl;
+        standings = refl;
+        cells = refl;
+        owners = refl;
+        items = refl;
       };
       guards = at-each (λ (y : Participant). y.guards) ps p x nobody refl;
     }

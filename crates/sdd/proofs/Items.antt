@@ -1,10 +1,10 @@
 -- What the names of items stand for, once some are spent
-use Rattle.std.proofs.Common.{◌≡◌, ◌≢◌, ◌⊎◌, ℕ, ◌<◌, List, [], ◌∷◌, length, slice_index_or, slice_set, inl, inr, refl, sym, ap, ◌∙◌}
+use Rattle.std.proofs.Common.{◌≡◌, ◌≢◌, ◌⊎◌, ℕ, ◌<◌, List, [], ◌∷◌, length, slice_index_or, inl, inr, refl, sym, ap, ◌∙◌}
 use Rattle.std.proofs.lemmas.Bool.{cases_eq, cases_lt}
 use Rattle.std.proofs.lemmas.List.{length-set, set_past, get_or_past}
 use Rattle.sdd_lines.specs.declared.name.ItemName.{ItemName}
 use Rattle.sdd.specs.declared.script.item.Fate.{Fate}
-use Rattle.sdd.specs.declared.script.item.Fate.TheVariants.{Out, Retired, Gone}
+use Rattle.sdd.specs.declared.script.item.Fate.TheVariants.{Gone}
 use Rattle.sdd.specs.declared.script.item.ItemState.{ItemState}
 use Rattle.sdd.specs.Desk.{nothing, with_fate, all_gone}
 use Rattle.sdd.proofs.Among.{Among}
@@ -26,10 +26,10 @@ with_fate-other items i fate j ne = ap (λ (x : ItemState). x.fate) (at-other it
 with_fate-gone : (items : List ItemState) (i : ℕ) → (slice_index_or (with_fate items i Gone) i nothing).fate ≡ Gone
 with_fate-gone items i =
     elim (cases_lt i (length items)) [
-      inl lt ↦ with_fate-here items i Gone lt
-    | inr past ↦
-      ap (λ (xs : List ItemState). (slice_index_or xs i nothing).fate) (set_past items i (record (slice_index_or items i nothing) { fate = Gone }) past)
-      ∙ ap (λ (x : ItemState). x.fate) (get_or_past items i nothing past)
+      | inl lt ↦ with_fate-here items i Gone lt
+      | inr past ↦
+          ap (λ (xs : List ItemState). (slice_index_or xs i nothing).fate) (set_past items i (record (slice_index_or items i nothing) { fate = Gone }) past)
+          ∙ ap (λ (x : ItemState). x.fate) (get_or_past items i nothing past)
     ]
 
 pub all_gone-slot : (items : List ItemState) (names : List ItemName) (j : ℕ) → (slice_index_or (all_gone items names) j nothing).slot ≡ (slice_index_or items j nothing).slot
@@ -53,16 +53,16 @@ pub stays-or-goes : (items : List ItemState) (names : List ItemName) (j : ItemNa
 stays-or-goes items [] j = inl (record { same = refl; unnamed = λ h. h })
 stays-or-goes items (i ∷ names) j =
     elim (stays-or-goes (with_fate items i.0 Gone) names j) [
-      inr goes ↦ inr (record { gone = goes.gone; named = inr goes.named })
-    | inl stays ↦
-      elim (cases_eq j.0 i.0) [
-        inl e ↦ inr (record {
-          gone = stays.same ∙ ap (λ (k : ℕ). (slice_index_or (with_fate items i.0 Gone) k nothing).fate) e ∙ with_fate-gone items i.0;
-          named = inl (ap (λ (n : ℕ). record i { 0 = n }) (sym e));
-        })
-      | inr ne ↦ inl (record {
-          same = stays.same ∙ with_fate-other items i.0 Gone j.0 ne;
-          unnamed = λ h. elim h [ inl e ↦ ne (ap (λ (k : ItemName). k.0) (sym e)) | inr rest ↦ stays.unnamed rest ];
-        })
-      ]
+      | inr goes ↦ inr (record { gone = goes.gone; named = inr goes.named })
+      | inl stays ↦
+          elim (cases_eq j.0 i.0) [
+            | inl e ↦ inr (record {
+              gone = stays.same ∙ ap (λ (k : ℕ). (slice_index_or (with_fate items i.0 Gone) k nothing).fate) e ∙ with_fate-gone items i.0;
+              named = inl (ap (λ (n : ℕ). record i { 0 = n }) (sym e));
+            })
+            | inr ne ↦ inl (record {
+              same = stays.same ∙ with_fate-other items i.0 Gone j.0 ne;
+              unnamed = λ h. elim h [ inl e ↦ ne (ap (λ (k : ItemName). k.0) (sym e)) | inr rest ↦ stays.unnamed rest ];
+            })
+          ]
     ]

@@ -1,8 +1,8 @@
 -- What the lines so far tell of the desk: open guards, found counts, owners' items, and what became of items
-use Rattle.std.proofs.Common.{◌≡◌, ◌≢◌, ◌⊎◌, ℕ, ◌+◌, ◌-◌, ◌<◌, ◌==◌, Bool, true, false, if◌then◌else◌, List, [], ◌∷◌, ◌++◌, Option, Some, None, length, slice_index_or, inl, inr, refl, sym, ap, ◌∙◌, subst, eq-eqb, ne_eqb, arith}
+use Rattle.std.proofs.Common.{◌≡◌, ◌≢◌, ℕ, ◌-◌, ◌<◌, ◌==◌, Bool, if◌then◌else◌, List, ◌∷◌, Option, Some, None, length, slice_index_or, inl, inr, refl, sym, ap, ◌∙◌, subst, eq-eqb, ne_eqb, arith}
 use Rattle.std.proofs.lemmas.Bool.{cases_eq}
 use Rattle.std.proofs.lemmas.List.{get_or_past}
-use Rattle.sdd_store.specs.Waiting.{What, Waiting, having_seen}
+use Rattle.sdd_store.specs.Waiting.{Waiting, having_seen}
 use Rattle.sdd_store.specs.Waiting.What.{Item}
 use Rattle.sdd_store.specs.Time as time
 use Rattle.sdd_store.specs.Time.{nobody}
@@ -16,13 +16,13 @@ use Rattle.sdd.specs.declared.script.val.Val.{Val}
 use Rattle.sdd.specs.Desk.{Desk, nothing, item_at, IsPlace, IsOwnerOf, Waits}
 use Rattle.sdd.specs.Script.{with_item, with_retired, later}
 use Rattle.sdd.specs.Due.{Line, Event, event, open_after, open_guards, opens, is_outermost, last_found, item_made, item_of, Fate, retired_if, is_item, fate_after, fate}
-use Rattle.sdd.specs.Due.Event.{Opened, Closed, Made, Retired, Other}
+use Rattle.sdd.specs.Due.Event.{Closed, Made, Retired, Other}
 use Rattle.sdd.specs.Due.Fate.{Kept, Waiting as Held, Gone}
 use Rattle.sdd.proofs.Among.{Among}
 use Rattle.sdd.proofs.Entry.{at-each, at-pushed, at-end}
 use Rattle.sdd.proofs.Items.{with_fate-slot, with_fate-here, with_fate-other}
-use Rattle.sdd.proofs.Happening.{Still, Quiet}
-use Rattle.sdd.proofs.Closing.{Closes, Closes-closed}
+use Rattle.sdd.proofs.Happening.{Quiet}
+use Rattle.sdd.proofs.Closing.{Closes-closed}
 use Rattle.sdd.proofs.Sound.{Sound, waiting, slot_of, some-inside, pushed-owner, owner-else, waits-still, waits-now}
 
 -- what became of an item, by the lines, and on the desk
@@ -48,9 +48,11 @@ Knows-later past d k = record { guards = k.guards; found = k.found; owners = k.o
 -- an item that is as it was, where more waits
 pub ties-grows : (d e : Desk) (i : ℕ) (f : Fate) → (item_at e i).fate ≡ (item_at d i).fate → slot_of e i ≡ slot_of d i → ((q : ℕ) (x : Waiting) → Among (waiting d q) x → Among (waiting e q) x) → Ties d i f → Ties e i f
 ties-grows d e i Kept same slot grows t = λ w. t (subst (λ (f : DeskFate). Waits f) same w)
-ties-grows d e i (Held q k) same slot grows t =
-    (t.0, subst (λ (f : DeskFate). Waits f) (sym same) t.1,
-    grows q (having_seen k (Item (slot_of e i))) (subst (λ (s : ℕ). Among (waiting d q) (having_seen k (Item s))) (sym slot) t.2))
+ties-grows d e i (Held q k) same slot grows t = (
+  t.0,
+  subst (λ (f : DeskFate). Waits f) (sym same) t.1,
+  grows q (having_seen k (Item (slot_of e i))) (subst (λ (s : ℕ). Among (waiting d q) (having_seen k (Item s))) (sym slot) t.2),
+)
 ties-grows d e i Gone same slot grows t = λ w. t (subst (λ (f : DeskFate). Waits f) same w)
 
 -- an item that did not wait, and does not
@@ -106,12 +108,12 @@ Knows-closed line past d p guards is place k =
       guards = λ q.
           guards-next line past (Closed p) is q
           ∙ elim (cases_eq p q) [
-            inl e ↦
-            pick-same p q (open_guards q past - 1) (open_guards q past) e
-            ∙ ap (λ (n : ℕ). n - 1) (ap (λ (r : ℕ). open_guards r past) (sym e) ∙ k.guards p) ∙ sym c.here
-            ∙ ap (λ (r : ℕ). (slice_index_or (time.closed d.world.time p).places r nobody).guards) e
-          | inr ne ↦
-            pick-other p q (open_guards q past - 1) (open_guards q past) ne ∙ k.guards q ∙ sym (c.others q (λ e. ne (sym e)))
+            | inl e ↦
+                pick-same p q (open_guards q past - 1) (open_guards q past) e
+                ∙ ap (λ (n : ℕ). n - 1) (ap (λ (r : ℕ). open_guards r past) (sym e) ∙ k.guards p) ∙ sym c.here
+                ∙ ap (λ (r : ℕ). (slice_index_or (time.closed d.world.time p).places r nobody).guards) e
+            | inr ne ↦
+                pick-other p q (open_guards q past - 1) (open_guards q past) ne ∙ k.guards q ∙ sym (c.others q (λ e. ne (sym e)))
           ];
       found = λ q. found-next line past (Closed p) is q ∙ k.found q ∙ sym (c.found q);
       owners = λ o i h. owner-next line past (Closed p) is o ∙ k.owners o i h;
@@ -133,25 +135,25 @@ Knows-made line past d o i c k v is next_owner next_item known =
       owners = λ r j h.
           owner-next line past (Made o i) is r
           ∙ elim (pushed-owner d.owners (length d.items) r j h) [
-            inl made ↦ pick-same o r (Some i) (item_of r past) (next_owner ∙ sym made.0) ∙ ap (λ (n : ℕ). Some n) (next_item ∙ sym made.1)
-          | inr old ↦
-            let inside = some-inside d.owners r j old in
-            pick-other o r (Some i) (item_of r past) (λ e. omega arith) ∙ known.owners r j old
+            | inl made ↦ pick-same o r (Some i) (item_of r past) (next_owner ∙ sym made.0) ∙ ap (λ (n : ℕ). Some n) (next_item ∙ sym made.1)
+            | inr old ↦
+                let inside = some-inside d.owners r j old in
+                pick-other o r (Some i) (item_of r past) (λ e. omega arith) ∙ known.owners r j old
           ];
       fates = λ j.
           subst (λ (f : Fate). Ties new j f) (sym (fate-next line past (Made o i) is j))
           (elim (cases_eq j (length d.items)) [
-            inl e ↦
-            ties-idle d new j (fate j past)
-            (λ w. subst (λ (f : DeskFate). Waits f) (ap (λ (x : ItemState). x.fate) (get_or_past d.items j nothing (omega arith))) w)
-            (λ w. subst (λ (f : DeskFate). Waits f) (ap (λ (n : ℕ). (item_at new n).fate) e ∙ ap (λ (x : ItemState). x.fate) (at-end d.items item nothing)) w)
-            (known.fates j)
-          | inr ne ↦
-            ties-grows d new j (fate j past)
-            (ap (λ (x : ItemState). x.fate) (at-pushed d.items item nothing j ne))
-            (ap (λ (x : ItemState). x.slot) (at-pushed d.items item nothing j ne))
-            (λ q x h. h)
-            (known.fates j)
+            | inl e ↦
+                ties-idle d new j (fate j past)
+                (λ w. subst (λ (f : DeskFate). Waits f) (ap (λ (x : ItemState). x.fate) (get_or_past d.items j nothing (omega arith))) w)
+                (λ w. subst (λ (f : DeskFate). Waits f) (ap (λ (n : ℕ). (item_at new n).fate) e ∙ ap (λ (x : ItemState). x.fate) (at-end d.items item nothing)) w)
+                (known.fates j)
+            | inr ne ↦
+                ties-grows d new j (fate j past)
+                (ap (λ (x : ItemState). x.fate) (at-pushed d.items item nothing j ne))
+                (ap (λ (x : ItemState). x.slot) (at-pushed d.items item nothing j ne))
+                (λ q x h. h)
+                (known.fates j)
           ]);
     }
 
@@ -166,22 +168,23 @@ Knows-retired line past d p o i is place owner s known =
       owners = λ r j h. owner-next line past (Retired p o) is r ∙ known.owners r j ((owner-else d p o i place owner s r j h).1);
       fates = λ j.
           let now : fate j (line ∷ past) ≡ retired_if (i == j) p (fate j past) =
-              fate-next line past (Retired p o) is j ∙ ap (λ (m : Option ℕ). retired_if (is_item j m) p (fate j past)) (known.owners o i owner) in
+          fate-next line past (Retired p o) is j ∙ ap (λ (m : Option ℕ). retired_if (is_item j m) p (fate j past)) (known.owners o i owner) in
           elim (cases_eq i j) [
-            inl e ↦
-            let held : fate j (line ∷ past) ≡ Held p 0 = now ∙ ap (λ (b : Bool). retired_if b p (fate j past)) (eq-eqb i j e) in
-            subst (λ (f : Fate). Ties new j f) (sym held)
-            (subst (λ (n : ℕ). Ties new n (Held p 0)) e
-            (omega arith,
-            subst (λ (f : DeskFate). Waits f) (sym (with_fate-here d.items i (desk.Retired d.moment) ((s.owned o i owner).0))) tt,
-            subst (λ (n : ℕ). Among (waiting new p) (having_seen 0 (Item n))) (sym (with_fate-slot d.items i (desk.Retired d.moment) i)) (waits-now d p o i place owner s)))
-          | inr ne ↦
-            let same : fate j (line ∷ past) ≡ fate j past = now ∙ ap (λ (b : Bool). retired_if b p (fate j past)) (ne_eqb i j ne) in
-            subst (λ (f : Fate). Ties new j f) (sym same)
-            (ties-grows d new j (fate j past)
-            (with_fate-other d.items i (desk.Retired d.moment) j (λ e. ne (sym e)))
-            (with_fate-slot d.items i (desk.Retired d.moment) j)
-            (waits-still d p o i place owner s)
-            (known.fates j))
+            | inl e ↦
+                let held : fate j (line ∷ past) ≡ Held p 0 = now ∙ ap (λ (b : Bool). retired_if b p (fate j past)) (eq-eqb i j e) in
+                subst (λ (f : Fate). Ties new j f) (sym held)
+                (subst (λ (n : ℕ). Ties new n (Held p 0)) e (
+                  omega arith,
+                  subst (λ (f : DeskFate). Waits f) (sym (with_fate-here d.items i (desk.Retired d.moment) ((s.owned o i owner).0))) tt,
+                  subst (λ (n : ℕ). Among (waiting new p) (having_seen 0 (Item n))) (sym (with_fate-slot d.items i (desk.Retired d.moment) i)) (waits-now d p o i place owner s),
+                ))
+            | inr ne ↦
+                let same : fate j (line ∷ past) ≡ fate j past = now ∙ ap (λ (b : Bool). retired_if b p (fate j past)) (ne_eqb i j ne) in
+                subst (λ (f : Fate). Ties new j f) (sym same)
+                (ties-grows d new j (fate j past)
+                (with_fate-other d.items i (desk.Retired d.moment) j (λ e. ne (sym e)))
+                (with_fate-slot d.items i (desk.Retired d.moment) j)
+                (waits-still d p o i place owner s)
+                (known.fates j))
           ];
     }

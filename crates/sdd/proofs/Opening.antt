@@ -1,5 +1,5 @@
 -- What an opening of a participant changes in a world of scripts
-use Rattle.std.proofs.Common.{◌≡◌, ◌≢◌, ◌⊎◌, ℕ, ◌+◌, ◌<◌, ◌&&◌, ◌==◌, Bool, true, false, not, if◌then◌else◌, List, [], ◌∷◌, Option, Some, None, length, slice_index_or, slice_set, inl, inr, refl, sym, ap, ◌∙◌, subst, arith}
+use Rattle.std.proofs.Common.{◌≡◌, ◌≢◌, ℕ, ◌+◌, ◌<◌, ◌&&◌, ◌==◌, Bool, true, false, not, if◌then◌else◌, List, [], Some, length, slice_index_or, slice_set, refl, ap, ◌∙◌, subst}
 use Rattle.std.proofs.lemmas.List.{length-set}
 use Rattle.sdd_store.specs.Waiting.{What, aged, left}
 use Rattle.sdd_store.specs.Time as time
@@ -7,11 +7,11 @@ use Rattle.sdd_store.specs.Time.{Time, nobody}
 use Rattle.sdd_store.specs.declared.time.Participant.{Participant}
 use Rattle.sdd_store.specs.declared.standing.Standing.TheVariants.{Owned}
 use Rattle.sdd_base.specs.World.{World, place_at, standing_at}
-use Rattle.sdd_base.specs.Steps.{nested, rotated, settled, all_reclaimed, changed, caught_up, opened}
+use Rattle.sdd_base.specs.Steps.{nested, rotated, settled, all_reclaimed, changed, opened}
 use Rattle.sdd.specs.declared.script.val.Val.{Val}
 use Rattle.sdd.specs.Val.{holdings_of}
 use Rattle.sdd.specs.Desk.{reclaims}
-use Rattle.sdd.proofs.Entry.{at-same, at-other, at-each}
+use Rattle.sdd.proofs.Entry.{at-same, at-other}
 use Rattle.sdd.proofs.Reclaiming.{HoldNothing, Names, Frees, Frees-all}
 
 -- an opening of p is outermost, and finds another count
@@ -70,7 +70,7 @@ Opens-settled w mid p lt f =
     let inside : p < length mid.time.places = rw (places, turned-length w.time.places p w.time.count) lt in
     let was : place_at mid p ≡ time.rotated w.time.count (time.nested (place_at w p)) = ap (λ (ps : List Participant). slice_index_or ps p nobody) places ∙ turned-here w.time.places p w.time.count lt in
     let here : place_at (settled mid p) p ≡ time.settled (time.rotated w.time.count (time.nested (place_at w p))) =
-        at-same mid.time.places p (time.settled (place_at mid p)) nobody inside ∙ ap time.settled was in
+    at-same mid.time.places p (time.settled (place_at mid p)) nobody inside ∙ ap time.settled was in
     record {
       others = λ q ne.
           at-other mid.time.places p q (time.settled (place_at mid p)) nobody ne
@@ -87,10 +87,10 @@ Opens-settled w mid p lt f =
 Opens-changed : (w : World Val) (p : ℕ) → p < length w.time.places → HoldNothing w.cells → Opens w (changed holdings_of (nested w p) p) p true
 Opens-changed w p lt empty =
     let same : time.due_next (place_at (nested w p) p) ≡ time.due_next (place_at w p) =
-        ap time.due_next (at-same w.time.places p (time.nested (place_at w p)) nobody lt) in
+    ap time.due_next (at-same w.time.places p (time.nested (place_at w p)) nobody lt) in
     let frees : Frees (rotated (nested w p) p) (all_reclaimed holdings_of (rotated (nested w p) p) p (time.due_next (place_at (nested w p) p))) (time.due_next (place_at w p)) =
-        subst (λ xs. Frees (rotated (nested w p) p) (all_reclaimed holdings_of (rotated (nested w p) p) p (time.due_next (place_at (nested w p) p))) xs) same
-        (Frees-all (rotated (nested w p) p) p (time.due_next (place_at (nested w p) p)) empty) in
+    subst (λ xs. Frees (rotated (nested w p) p) (all_reclaimed holdings_of (rotated (nested w p) p) p (time.due_next (place_at (nested w p) p))) xs) same
+    (Frees-all (rotated (nested w p) p) p (time.due_next (place_at (nested w p) p)) empty) in
     Opens-settled w (all_reclaimed holdings_of (rotated (nested w p) p) p (time.due_next (place_at (nested w p) p))) p lt frees
 
 Opens-by : (w : World Val) (p : ℕ) → p < length w.time.places → HoldNothing w.cells → (is_open finds : Bool) →
@@ -103,7 +103,7 @@ Opens-by w p lt empty false false = Opens-nested w p lt empty
 pub Opens-opened : (w : World Val) (p : ℕ) → p < length w.time.places → HoldNothing w.cells → Opens w (opened holdings_of w p) p (changes w.time p)
 Opens-opened w p lt empty =
     let same : time.finds_another (nested w p).time p ≡ time.finds_another w.time p =
-        ap (λ (x : Participant). not (x.found == w.time.count)) (at-same w.time.places p (time.nested (place_at w p)) nobody lt) in
+    ap (λ (x : Participant). not (x.found == w.time.count)) (at-same w.time.places p (time.nested (place_at w p)) nobody lt) in
     subst (λ b. Opens w (opened holdings_of w p) p (not (time.is_open (place_at w p)) && b)) same
     (Opens-by w p lt empty (time.is_open (place_at w p)) (time.finds_another (nested w p).time p))
 

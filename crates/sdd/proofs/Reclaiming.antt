@@ -1,17 +1,16 @@
 -- What it changes that a participant reclaims items of scripts: their slots are free, and no more
-use Rattle.std.proofs.Common.{◌≡◌, ◌≢◌, ◌⊎◌, ℕ, List, [], ◌∷◌, Option, Some, None, inl, inr, refl, sym, ap, ◌∙◌}
+use Rattle.std.proofs.Common.{◌≡◌, ◌≢◌, ◌⊎◌, ℕ, List, [], ◌∷◌, Option, Some, None, inl, inr, refl, sym, ◌∙◌}
 use Rattle.sdd_store.specs.Waiting.{What}
 use Rattle.sdd_store.specs.Waiting.What.{Item, Private, Job}
-use Rattle.sdd_store.specs.Time as time
 use Rattle.sdd_store.specs.Table.{Entries, entry_at, without_entry}
 use Rattle.sdd_store.specs.declared.standing.Standing.{Standing}
 use Rattle.sdd_store.specs.declared.standing.Standing.TheVariants.{Owned, Raw, Shared, Retired, Private as privately}
 use Rattle.sdd_store.specs.declared.standing.Cell.{Cell}
 use Rattle.sdd_base.specs.World.{World, standing_at}
-use Rattle.sdd_base.specs.Steps.{held_in, spilled, freed, taken_out, waiting_value, slot_reclaimed, reclaimed, all_reclaimed}
+use Rattle.sdd_base.specs.Steps.{held_in, spilled, freed, taken_out, waiting_value, reclaimed, all_reclaimed}
 use Rattle.sdd.specs.declared.script.val.Val.{Val}
 use Rattle.sdd.specs.Val.{holdings_of, link_of}
-use Rattle.sdd.proofs.Entry.{at-same, at-other, at-each}
+use Rattle.sdd.proofs.Entry.{at-other, at-each}
 
 -- no cell holds anything
 abbrev pub HoldNothing : Entries Cell → Type 0

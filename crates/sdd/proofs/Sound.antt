@@ -1,9 +1,9 @@
 -- What is true of every desk of a script: which slots wait, which are owned
-use Rattle.std.proofs.Common.{◌≡◌, ◌≢◌, ◌⊎◌, ℕ, ◌+◌, ◌<◌, ◌≤◌, List, [], ◌∷◌, ◌++◌, Option, Some, None, length, slice_index_or, slice_set, inl, inr, refl, sym, ap, ◌∙◌, subst, arith}
+use Rattle.std.proofs.Common.{◌≡◌, ◌≢◌, ◌⊎◌, ℕ, ◌<◌, List, [], ◌∷◌, ◌++◌, Option, Some, None, length, slice_index_or, slice_set, inl, inr, sym, ap, ◌∙◌, subst, arith}
 use Rattle.std.proofs.lemmas.Bool.{cases_eq, cases_lt}
 use Rattle.std.proofs.lemmas.List.{get_or_past, length_push}
 use Rattle.sdd_core.specs.declared.tag.Tag.TheVariants.{None as no_tag}
-use Rattle.sdd_store.specs.Waiting.{What, Waiting, having_seen, fresh}
+use Rattle.sdd_store.specs.Waiting.{Waiting, having_seen, fresh}
 use Rattle.sdd_store.specs.Waiting.What.{Item}
 use Rattle.sdd_store.specs.Time as time
 use Rattle.sdd_store.specs.Time.{nobody}
@@ -68,18 +68,18 @@ taken-other {E} xs s k x h n e = let z : Some x ≡ None = sym h ∙ ap (λ (j :
 pub some-inside : {E : Type 0} (xs : List (Option E)) (k : ℕ) (x : E) → slice_index_or xs k None ≡ Some x → k < length xs
 some-inside {E} xs k x h =
     elim (cases_lt k (length xs)) [
-      inl lt ↦ lt
-    | inr past ↦ let z : Some x ≡ None = sym h ∙ get_or_past xs k None past in absurd (cc)
+      | inl lt ↦ lt
+      | inr past ↦ let z : Some x ≡ None = sym h ∙ get_or_past xs k None past in absurd (cc)
     ]
 
 -- the owners after a push
 pub pushed-owner : (xs : List (Option ℕ)) (n o i : ℕ) → slice_index_or (xs ++ Some n ∷ []) o None ≡ Some i → ((o ≡ length xs) × (i ≡ n)) ⊎ (slice_index_or xs o None ≡ Some i)
 pushed-owner xs n o i h =
     elim (cases_eq o (length xs)) [
-      inl e ↦
-      let z : Some i ≡ Some n = sym h ∙ ap (λ (j : ℕ). slice_index_or (xs ++ Some n ∷ []) j None) e ∙ at-end xs (Some n) None in
-      inl (e, cc)
-    | inr ne ↦ inr (sym (at-pushed xs (Some n) None o ne) ∙ h)
+      | inl e ↦
+          let z : Some i ≡ Some n = sym h ∙ ap (λ (j : ℕ). slice_index_or (xs ++ Some n ∷ []) j None) e ∙ at-end xs (Some n) None in
+          inl (e, cc)
+      | inr ne ↦ inr (sym (at-pushed xs (Some n) None o ne) ∙ h)
     ]
 
 module _ (d : Desk) (c k : ℕ) (v : Val) (free : IsEmptyAt d.world.standings k) (s : Sound d) where
@@ -106,26 +106,29 @@ module _ (d : Desk) (c k : ℕ) (v : Val) (free : IsEmptyAt d.world.standings k)
     once = s.once;
     owned = λ o i h.
         elim (pushed-owner d.owners (length d.items) o i h) [
-          inl new ↦ (omega (arith, length_push d.items (record { slot = k; fate = desk.Out }), new.1),
-            ap (λ (j : ℕ). standing_at (with_item d c k v).world j) (slot-made i new.1) ∙ at-same d.world.standings k (Some Owned) None free.0)
-        | inr old ↦ let was = s.owned o i old in
-            (let lt = was.0 in omega (arith, length_push d.items (record { slot = k; fate = desk.Out })),
-            ap (λ (x : ItemState). standing_at (with_item d c k v).world x.slot) (item-made i was.0) ∙ stands-made (slot_of d i) Owned was.1)
+          | inl new ↦ (
+            omega (arith, length_push d.items (record { slot = k; fate = desk.Out }), new.1),
+            ap (λ (j : ℕ). standing_at (with_item d c k v).world j) (slot-made i new.1) ∙ at-same d.world.standings k (Some Owned) None free.0,
+          )
+          | inr old ↦ let was = s.owned o i old in (
+            let lt = was.0 in omega (arith, length_push d.items (record { slot = k; fate = desk.Out })),
+            ap (λ (x : ItemState). standing_at (with_item d c k v).world x.slot) (item-made i was.0) ∙ stands-made (slot_of d i) Owned was.1,
+          )
         ];
     apart = λ o r i j h1 h2 e.
         elim (pushed-owner d.owners (length d.items) o i h1) [
-          inl new ↦
-          elim (pushed-owner d.owners (length d.items) r j h2) [
-            inl new2 ↦ new.0 ∙ sym new2.0
-          | inr old2 ↦ absurd (other-slot r j i old2 new.1 (sym e))
-          ]
-        | inr old ↦
-          elim (pushed-owner d.owners (length d.items) r j h2) [
-            inl new2 ↦ absurd (other-slot o i j old new2.1 e)
-          | inr old2 ↦
-            s.apart o r i j old old2
-            (ap (λ (x : ItemState). x.slot) (sym (item-made i ((s.owned o i old).0))) ∙ e ∙ ap (λ (x : ItemState). x.slot) (item-made j ((s.owned r j old2).0)))
-          ]
+          | inl new ↦
+              elim (pushed-owner d.owners (length d.items) r j h2) [
+                | inl new2 ↦ new.0 ∙ sym new2.0
+                | inr old2 ↦ absurd (other-slot r j i old2 new.1 (sym e))
+              ]
+          | inr old ↦
+              elim (pushed-owner d.owners (length d.items) r j h2) [
+                | inl new2 ↦ absurd (other-slot o i j old new2.1 e)
+                | inr old2 ↦
+                    s.apart o r i j old old2
+                    (ap (λ (x : ItemState). x.slot) (sym (item-made i ((s.owned o i old).0))) ∙ e ∙ ap (λ (x : ItemState). x.slot) (item-made j ((s.owned r j old2).0)))
+              ]
         ];
     empty = λ j. at-each held_in d.world.cells c (Some (record { held = None; tag = no_tag })) None (sym (s.empty c)) j ∙ s.empty j;
   }
@@ -136,14 +139,14 @@ module _ (d : Desk) (p o i : ℕ) (place : IsPlace d p) (owner : IsOwnerOf d i o
   waits-retired q x h =
       let y = time.awaiting (Item (slot_of d i)) (place_at d.world p) in
       elim (cases_eq q p) [
-        inl e ↦
-        let here : waiting (with_retired d p o i) q ≡ waiting d p ++ fresh (Item (slot_of d i)) ∷ [] =
+        | inl e ↦
+            let here : waiting (with_retired d p o i) q ≡ waiting d p ++ fresh (Item (slot_of d i)) ∷ [] =
             ap (λ (j : ℕ). waiting (with_retired d p o i) j) e ∙ ap (λ (z : Participant). z.bags.waiting) (at-same d.world.time.places p y nobody place) in
-        elim (among-push_cases (waiting d p) (fresh (Item (slot_of d i))) x (subst (λ (ws : List Waiting). Among ws x) here h)) [
-          inl was ↦ inl (subst (λ (j : ℕ). Among (waiting d j) x) (sym e) was)
-        | inr is ↦ inr (e, is)
-        ]
-      | inr ne ↦ inl (subst (λ (z : Participant). Among z.bags.waiting x) (at-other d.world.time.places p q y nobody ne) h)
+            elim (among-push_cases (waiting d p) (fresh (Item (slot_of d i))) x (subst (λ (ws : List Waiting). Among ws x) here h)) [
+              | inl was ↦ inl (subst (λ (j : ℕ). Among (waiting d j) x) (sym e) was)
+              | inr is ↦ inr (e, is)
+            ]
+        | inr ne ↦ inl (subst (λ (z : Participant). Among z.bags.waiting x) (at-other d.world.time.places p q y nobody ne) h)
       ]
 
   -- what waited before still does
@@ -151,11 +154,11 @@ module _ (d : Desk) (p o i : ℕ) (place : IsPlace d p) (owner : IsOwnerOf d i o
   waits-still q x h =
       let y = time.awaiting (Item (slot_of d i)) (place_at d.world p) in
       elim (cases_eq q p) [
-        inl e ↦
-        let here : waiting (with_retired d p o i) q ≡ waiting d p ++ fresh (Item (slot_of d i)) ∷ [] =
+        | inl e ↦
+            let here : waiting (with_retired d p o i) q ≡ waiting d p ++ fresh (Item (slot_of d i)) ∷ [] =
             ap (λ (j : ℕ). waiting (with_retired d p o i) j) e ∙ ap (λ (z : Participant). z.bags.waiting) (at-same d.world.time.places p y nobody place) in
-        subst (λ (ws : List Waiting). Among ws x) (sym here) (among-push (waiting d p) (fresh (Item (slot_of d i))) x (subst (λ (j : ℕ). Among (waiting d j) x) e h))
-      | inr ne ↦ subst (λ (z : Participant). Among z.bags.waiting x) (sym (at-other d.world.time.places p q y nobody ne)) h
+            subst (λ (ws : List Waiting). Among ws x) (sym here) (among-push (waiting d p) (fresh (Item (slot_of d i))) x (subst (λ (j : ℕ). Among (waiting d j) x) e h))
+        | inr ne ↦ subst (λ (z : Participant). Among z.bags.waiting x) (sym (at-other d.world.time.places p q y nobody ne)) h
       ]
 
   -- the item does
@@ -184,43 +187,44 @@ module _ (d : Desk) (p o i : ℕ) (place : IsPlace d p) (owner : IsOwnerOf d i o
   pub owner-else : (r j : ℕ) → IsOwnerOf (with_retired d p o i) j r → (r ≢ o) × IsOwnerOf d j r
   owner-else r j h =
       elim (cases_eq r o) [
-        inl e ↦
-        let none : slice_index_or (slice_set d.owners o None) r None ≡ None = ap (λ (n : ℕ). slice_index_or (slice_set d.owners o None) n None) e ∙ at-same d.owners o None None (some-inside d.owners o i owner) in
-        let z : Some j ≡ None = sym h ∙ none in absurd (cc)
-      | inr ne ↦ (ne, sym (at-other d.owners o r None None ne) ∙ h)
+        | inl e ↦
+            let none : slice_index_or (slice_set d.owners o None) r None ≡ None = ap (λ (n : ℕ). slice_index_or (slice_set d.owners o None) n None) e ∙ at-same d.owners o None None (some-inside d.owners o i owner) in
+            let z : Some j ≡ None = sym h ∙ none in absurd (cc)
+        | inr ne ↦ (ne, sym (at-other d.owners o r None None ne) ∙ h)
       ]
 
   pub Sound-retired : Sound (with_retired d p o i)
   Sound-retired = record {
     retired = λ q x h.
         elim (waits-retired q x h) [
-          inl was ↦
-          let r = s.retired q x was in
-          elim (cases_eq r.0 (slot_of d i)) [
-            inl e ↦ (r.0, r.1, ap (λ (j : ℕ). standing_at (with_retired d p o i).world j) e ∙ stands-retired)
-          | inr ne ↦ (r.0, r.1, stands-else r.0 ne ∙ r.2)
-          ]
-        | inr new ↦ (slot_of d i, ap (λ (y : Waiting). y.what) (sym new.1), stands-retired)
+          | inl was ↦
+              let r = s.retired q x was in
+              elim (cases_eq r.0 (slot_of d i)) [
+                | inl e ↦ (r.0, r.1, ap (λ (j : ℕ). standing_at (with_retired d p o i).world j) e ∙ stands-retired)
+                | inr ne ↦ (r.0, r.1, stands-else r.0 ne ∙ r.2)
+              ]
+          | inr new ↦ (slot_of d i, ap (λ (y : Waiting). y.what) (sym new.1), stands-retired)
         ];
     once = λ q r k a b h1 h2.
         elim (waits-retired q (having_seen a (Item k)) h1) [
-          inl was1 ↦
-          elim (waits-retired r (having_seen b (Item k)) h2) [
-            inl was2 ↦ s.once q r k a b was1 was2
-          | inr new2 ↦ absurd (waited-not q a k was1 (let e : fresh (Item (slot_of d i)) ≡ having_seen b (Item k) = new2.1 in let w : Item (slot_of d i) ≡ Item k = ap (λ (y : Waiting). y.what) e in cc))
-          ]
-        | inr new1 ↦
-          elim (waits-retired r (having_seen b (Item k)) h2) [
-            inl was2 ↦ absurd (waited-not r b k was2 (let e : fresh (Item (slot_of d i)) ≡ having_seen a (Item k) = new1.1 in let w : Item (slot_of d i) ≡ Item k = ap (λ (y : Waiting). y.what) e in cc))
-          | inr new2 ↦ (new1.0 ∙ sym new2.0, ap (λ (y : Waiting). y.seen) (sym new1.1) ∙ ap (λ (y : Waiting). y.seen) new2.1)
-          ]
+          | inl was1 ↦
+              elim (waits-retired r (having_seen b (Item k)) h2) [
+                | inl was2 ↦ s.once q r k a b was1 was2
+                | inr new2 ↦ absurd (waited-not q a k was1 (let e : fresh (Item (slot_of d i)) ≡ having_seen b (Item k) = new2.1 in let w : Item (slot_of d i) ≡ Item k = ap (λ (y : Waiting). y.what) e in cc))
+              ]
+          | inr new1 ↦
+              elim (waits-retired r (having_seen b (Item k)) h2) [
+                | inl was2 ↦ absurd (waited-not r b k was2 (let e : fresh (Item (slot_of d i)) ≡ having_seen a (Item k) = new1.1 in let w : Item (slot_of d i) ≡ Item k = ap (λ (y : Waiting). y.what) e in cc))
+                | inr new2 ↦ (new1.0 ∙ sym new2.0, ap (λ (y : Waiting). y.seen) (sym new1.1) ∙ ap (λ (y : Waiting). y.seen) new2.1)
+              ]
         ];
     owned = λ r j h.
         let was = owner-else r j h in
         let had = s.owned r j was.1 in
-        let slot = with_fate-slot d.items i (desk.Retired d.moment) j in
-        (subst (λ (n : ℕ). j < n) (sym (with_fate-length d.items i (desk.Retired d.moment))) had.0,
-        ap (λ (n : ℕ). standing_at (with_retired d p o i).world n) slot ∙ stands-else (slot_of d j) (λ e. was.0 (s.apart r o j i was.1 owner e)) ∙ had.1);
+        let slot = with_fate-slot d.items i (desk.Retired d.moment) j in (
+          subst (λ (n : ℕ). j < n) (sym (with_fate-length d.items i (desk.Retired d.moment))) had.0,
+          ap (λ (n : ℕ). standing_at (with_retired d p o i).world n) slot ∙ stands-else (slot_of d j) (λ e. was.0 (s.apart r o j i was.1 owner e)) ∙ had.1,
+        );
     apart = λ r t j l h1 h2 e.
         s.apart r t j l ((owner-else r j h1).1) ((owner-else t l h2).1)
         (sym (with_fate-slot d.items i (desk.Retired d.moment) j) ∙ e ∙ with_fate-slot d.items i (desk.Retired d.moment) l);

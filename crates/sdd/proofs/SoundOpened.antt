@@ -1,11 +1,10 @@
 -- What is true of every desk stays so at an opening
-use Rattle.std.proofs.Common.{◌≡◌, ◌≢◌, ◌⊎◌, ℕ, ◌+◌, ◌<◌, ◌≤◌, ◌==◌, Bool, true, false, if◌then◌else◌, List, [], ◌∷◌, Some, None, length, inl, inr, refl, sym, ap, ◌∙◌, subst, eq-eqb, ne_eqb, arith}
+use Rattle.std.proofs.Common.{◌≡◌, ℕ, ◌+◌, ◌<◌, ◌≤◌, ◌==◌, Bool, true, false, if◌then◌else◌, List, [], ◌∷◌, inl, inr, refl, sym, ap, ◌∙◌, subst, eq-eqb, ne_eqb, arith}
 use Rattle.std.proofs.lemmas.Bool.{cases_eq, false≢true}
-use Rattle.sdd_store.specs.Waiting.{What, Waiting, having_seen, aged, left, due}
+use Rattle.sdd_store.specs.Waiting.{What, Waiting, having_seen, aged, left}
 use Rattle.sdd_store.specs.Waiting.What.{Item, Private, Job}
 use Rattle.sdd_store.specs.Time as time
 use Rattle.sdd_store.specs.declared.time.Participant.{Participant}
-use Rattle.sdd_store.specs.declared.standing.Standing.TheVariants.{Owned, Retired}
 use Rattle.sdd_base.specs.World.{World, place_at, standing_at}
 use Rattle.sdd_lines.specs.declared.name.ItemName.{ItemName}
 use Rattle.sdd.specs.declared.script.val.Val.{Val}
@@ -47,27 +46,27 @@ was : (old new : World Val) (p : ℕ) (change : Bool) → Opens old new p change
 was old new p false o q x h =
     was-same old p false q x refl (λ e1 e2. false≢true e1)
     (elim (cases_eq q p) [
-      inl e ↦
-      subst (λ (j : ℕ). Among (place_at old j).bags.waiting x) (sym e)
-      (subst (λ (ws : List Waiting). Among ws x) o.waiting (subst (λ (j : ℕ). Among (place_at new j).bags.waiting x) e h))
-    | inr ne ↦ subst (λ (y : Participant). Among y.bags.waiting x) (o.others q ne) h
+      | inl e ↦
+          subst (λ (j : ℕ). Among (place_at old j).bags.waiting x) (sym e)
+          (subst (λ (ws : List Waiting). Among ws x) o.waiting (subst (λ (j : ℕ). Among (place_at new j).bags.waiting x) e h))
+      | inr ne ↦ subst (λ (y : Participant). Among y.bags.waiting x) (o.others q ne) h
     ])
 was old new p true o q x h =
     elim (cases_eq q p) [
-      inl e ↦
-      let there : Among (left (aged (place_at old p).bags.waiting)) x =
+      | inl e ↦
+          let there : Among (left (aged (place_at old p).bags.waiting)) x =
           subst (λ (ws : List Waiting). Among ws x) o.waiting (subst (λ (j : ℕ). Among (place_at new j).bags.waiting x) e h) in
-      let r = left-among (place_at old p).bags.waiting x there in
-      let here : steps true (q == p) ≡ 1 = ap (λ (b : Bool). steps true b) (eq-eqb q p e) in
-      record {
-        seen = r.0;
-        among = subst (λ (j : ℕ). Among (place_at old j).bags.waiting (having_seen r.0 x.what)) (sym e) r.3;
-        grown = r.2 ∙ ap (λ (n : ℕ). r.0 + n) (sym here);
-        young = λ e1 e2. r.1;
-      }
-    | inr ne ↦
-      was-same old p true q x (ap (λ (b : Bool). steps true b) (ne_eqb q p ne)) (λ e1 e2. ne e2)
-      (subst (λ (y : Participant). Among y.bags.waiting x) (o.others q ne) h)
+          let r = left-among (place_at old p).bags.waiting x there in
+          let here : steps true (q == p) ≡ 1 = ap (λ (b : Bool). steps true b) (eq-eqb q p e) in
+          record {
+            seen = r.0;
+            among = subst (λ (j : ℕ). Among (place_at old j).bags.waiting (having_seen r.0 x.what)) (sym e) r.3;
+            grown = r.2 ∙ ap (λ (n : ℕ). r.0 + n) (sym here);
+            young = λ e1 e2. r.1;
+          }
+      | inr ne ↦
+          was-same old p true q x (ap (λ (b : Bool). steps true b) (ne_eqb q p ne)) (λ e1 e2. ne e2)
+          (subst (λ (y : Participant). Among y.bags.waiting x) (o.others q ne) h)
     ]
 
 -- a slot that is named is that of one of the things
@@ -90,7 +89,7 @@ unnamed d p true sound q s a h young names =
     let item = sound.retired p (having_seen old.0 r.0) old.2 in
     let slot : item.0 ≡ s = takes-item r.0 s item.0 r.2 item.1 in
     let there : Among (waiting d p) (having_seen old.0 (Item s)) =
-        subst (λ (x : What). Among (waiting d p) (having_seen old.0 x)) (item.1 ∙ ap Item slot) old.2 in
+    subst (λ (x : What). Among (waiting d p) (having_seen old.0 x)) (item.1 ∙ ap Item slot) old.2 in
     let same = sound.once q p s a old.0 h there in
     let few : a < 2 = young refl same.0 in
     let e : a ≡ old.0 = same.1 in
@@ -104,18 +103,21 @@ Sound-opened d p names place s =
     record {
       retired = λ q x h.
           let w = was d.world (with_guard d p names).world p change o q x h in
-          let r = s.retired q (having_seen w.seen x.what) w.among in
-          (r.0, r.1,
-          o.kept r.0 (unnamed d p change s q r.0 w.seen (subst (λ (y : What). Among (waiting d q) (having_seen w.seen y)) r.1 w.among) w.young) ∙ r.2);
+          let r = s.retired q (having_seen w.seen x.what) w.among in (
+            r.0,
+            r.1,
+            o.kept r.0 (unnamed d p change s q r.0 w.seen (subst (λ (y : What). Among (waiting d q) (having_seen w.seen y)) r.1 w.among) w.young) ∙ r.2,
+          );
       once = λ q r k a b h1 h2.
           let w1 = was d.world (with_guard d p names).world p change o q (having_seen a (Item k)) h1 in
           let w2 = was d.world (with_guard d p names).world p change o r (having_seen b (Item k)) h2 in
           let same = s.once q r k w1.seen w2.seen w1.among w2.among in
           (same.0, w1.grown ∙ ap (λ (n : ℕ). n + steps change (q == p)) same.1 ∙ ap (λ (j : ℕ). w2.seen + steps change (j == p)) same.0 ∙ sym w2.grown);
       owned = λ r j h.
-          let had = s.owned r j h in
-          (subst (λ (n : ℕ). j < n) (sym (all_gone-length d.items names)) had.0,
-          ap (λ (n : ℕ). standing_at (with_guard d p names).world n) (all_gone-slot d.items names j) ∙ o.owned (slot_of d j) had.1);
+          let had = s.owned r j h in (
+            subst (λ (n : ℕ). j < n) (sym (all_gone-length d.items names)) had.0,
+            ap (λ (n : ℕ). standing_at (with_guard d p names).world n) (all_gone-slot d.items names j) ∙ o.owned (slot_of d j) had.1,
+          );
       apart = λ r t j l h1 h2 e. s.apart r t j l h1 h2 (sym (all_gone-slot d.items names j) ∙ e ∙ all_gone-slot d.items names l);
       empty = o.empty;
     }

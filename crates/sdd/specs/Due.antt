@@ -2,7 +2,7 @@
 use Rattle.std.specs.Prelude.{ℕ, ◌+◌, ◌-◌, ◌≡◌, ◌==◌, ◌&&◌, Bool, true, false, not, List, [], ◌∷◌, Option, None, Some, Contains, IsTrue, if◌then◌else◌, ◌↔◌, map}
 use Rattle.sdd_lines.specs.declared.name.ItemName.{ItemName}
 use Rattle.sdd_lines.specs.declared.call.Call.{Call}
-use Rattle.sdd_lines.specs.declared.call.Call.TheVariants.{Register, Tally, At}
+use Rattle.sdd_lines.specs.declared.call.Call.TheVariants.{At}
 use Rattle.sdd_lines.specs.declared.call.Action.TheVariants as call
 use Rattle.sdd_lines.specs.declared.answer.Answer.{Answer}
 use Rattle.sdd_lines.specs.declared.answer.Reply.{Reply}
