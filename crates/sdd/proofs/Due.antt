@@ -24,6 +24,7 @@ use Rattle.sdd.proofs.SoundOpened.{Sound-opened}
 use Rattle.sdd.proofs.Known.{Knows, Knows-later, Knows-other, Knows-closed, Knows-made, Knows-retired}
 use Rattle.sdd.proofs.KnownOpened.{Knows-opened, due-opened}
 
+-- no place of an empty table has an entry
 none-at : (n c : ℕ) → slice_index_or {A = Option Cell} (replicate n None) c None ≡ None
 none-at zero c = refl
 none-at (suc n) zero = refl
@@ -54,7 +55,7 @@ Knows-start d s = record {
 }
 
 -- what a line leaves true, and what is due in it
-record Goes (line : Line) (past : List Line) (names : List ItemName) (new : Desk) : Type 0 where
+record Follows (line : Line) (past : List Line) (names : List ItemName) (new : Desk) : Type 0 where
   sound : Sound new
   knows : Knows (line ∷ past) new
   due : (i : ItemName) → Contains names i ↔ IsDue i.0 line past
@@ -66,7 +67,8 @@ none-due line past names e is none never i = (
   (λ h. absurd (never i (subst (λ (x : Event). IsDueAt i.0 x line past) is h))),
 )
 
-goes : (line : Line) (past : List Line) (names : List ItemName) (old new : Desk) (e : Event) → event line ≡ e → line.count ≡ old.world.time.count → Sound old → Knows past old → Happens old e names new → Goes line past names new
+-- whatever happens in a line
+goes : (line : Line) (past : List Line) (names : List ItemName) (old new : Desk) (e : Event) → event line ≡ e → line.count ≡ old.world.time.count → Sound old → Knows past old → Happens old e names new → Follows line past names new
 goes line past names old new (Opened p) is count s k h =
     rw h.2
     record {
@@ -105,7 +107,7 @@ goes line past names old new Other is count s k h = record {
 }
 
 -- a step of the trace
-stepped : (line : Line) (past : List Line) (old mid : Desk) → line.count ≡ old.world.time.count → Sound old → Knows past old → Step old line.call line.answer mid → Goes line past line.answer.reclaimed mid
+stepped : (line : Line) (past : List Line) (old mid : Desk) → line.count ≡ old.world.time.count → Sound old → Knows past old → Step old line.call line.answer mid → Follows line past line.answer.reclaimed mid
 stepped line past old mid count s k step =
     let g = goes line past line.answer.reclaimed old step.after (event line) refl count s k (happens old line.call line.answer.reply line.answer.reclaimed step.after step.meets) in
     rw step.moment

@@ -21,6 +21,7 @@ use Rattle.sdd.proofs.Opening.{Opens, Opens-opened, changes, reclaims-due}
 use Rattle.sdd.proofs.Sound.{Sound, waiting, slot_of}
 use Rattle.sdd.proofs.Known.{Knows, Ties, ties-grows, pick-same, pick-other, guards-next, outermost-next, found-next, owner-next, fate-next}
 
+-- there is none, or more
 zero-test : (n : ℕ) → (n == 0) ≡ not (nat_lt 0 n)
 zero-test n =
     elim (cases_eq n 0) [
@@ -28,6 +29,7 @@ zero-test n =
       | inr ne ↦ ne_eqb n 0 ne ∙ ap not (sym (lt-ltb 0 n (omega arith)))
     ]
 
+-- two numbers are the same either way round
 test-turned : (a b : ℕ) → (a == b) ≡ (b == a)
 test-turned a b =
     elim (cases_eq a b) [
@@ -93,7 +95,7 @@ module _ (d : Desk) (p : ℕ) (names : List ItemName) (change : Bool) (s : Sound
   slot-after : (i : ℕ) → slot_of after i ≡ slot_of d i
   slot-after i = all_gone-slot d.items names i
 
--- the change has seen, and what it makes of each
+-- a change of p reclaims what it held for two changes, makes older what it held for fewer, and leaves what another holds
 changed-gone : (p q k : ℕ) → q ≡ p → k ≡ 2 → changed p (Held q k) ≡ Gone
 changed-gone p q k e e2 =
     pick-same q p (if k == 2 then Gone else Held q (k + 1)) (Held q k) e ∙ pick-same k 2 Gone (Held q (k + 1)) e2
@@ -114,6 +116,7 @@ due-only d p i q k s lt h due =
     let e : k ≡ r.0 = same.1 in
     (same.0, omega arith)
 
+-- what became of each item, by the lines and on the desk, after an opening
 ties-opened : (d : Desk) (p : ℕ) (names : List ItemName) (change : Bool) → Sound d → Opens d.world (with_guard d p names).world p change →
     reclaims d.world p ≡ (if change then time.due_next (place_at d.world p) else []) → AreReclaimed d p names →
     (i : ℕ) (f : Fate) → Ties d i f → Ties (with_guard d p names) i (if change then changed p f else f)
@@ -170,6 +173,7 @@ due-held d p s i true Kept w due t = absurd (t w)
 due-held d p s i true Gone w due t = absurd (t w)
 due-held d p s i true (Held q k) w due t = let only = due-only d p i q k s t.0 t.2 due in (refl, ap₂ Held only.0 only.1)
 
+-- what p held for two changes is due
 held-due : (d : Desk) (p i : ℕ) (change : Bool) → change ≡ true → Ties d i (Held p 2) → Among (if change then time.due_next (place_at d.world p) else []) (Item (slot_of d i))
 held-due d p i false e t = absurd (false≢true e)
 held-due d p i true e t = among-due (waiting d p) (Item (slot_of d i)) 2 (omega arith) t.2

@@ -65,6 +65,7 @@ Sound-still old new s z =
 taken-other : {E : Type 0} (xs : List (Option E)) (s k : ℕ) (x : E) → slice_index_or xs s None ≡ Some x → slice_index_or xs k None ≡ None → s ≢ k
 taken-other {E} xs s k x h n e = let z : Some x ≡ None = sym h ∙ ap (λ (j : ℕ). slice_index_or xs j None) e ∙ n in cc
 
+-- an entry is one of the list's
 pub some-inside : {E : Type 0} (xs : List (Option E)) (k : ℕ) (x : E) → slice_index_or xs k None ≡ Some x → k < length xs
 some-inside {E} xs k x h =
     elim (cases_lt k (length xs)) [
