@@ -2,7 +2,7 @@
 use Rattle.std.specs.Prelude.{ℕ, ◌+◌, ◌-◌, ◌≡◌, ◌==◌, ◌&&◌, Bool, true, false, not, List, [], ◌∷◌, Option, None, Some, Contains, IsTrue, if◌then◌else◌, ◌↔◌, map}
 use Rattle.sdd_lines.specs.declared.name.ItemName.{ItemName}
 use Rattle.sdd_lines.specs.declared.call.Call.{Call}
-use Rattle.sdd_lines.specs.declared.call.Call.TheVariants.{Register, Tally, At}
+use Rattle.sdd_lines.specs.declared.call.Call.TheVariants.{At}
 use Rattle.sdd_lines.specs.declared.call.Action.TheVariants as call
 use Rattle.sdd_lines.specs.declared.answer.Answer.{Answer}
 use Rattle.sdd_lines.specs.declared.answer.Reply.{Reply}
@@ -130,3 +130,8 @@ AllDue past (line ∷ lines) = ((i : ItemName) → Contains line.answer.reclaime
 abbrev pub Trace : Desk → List Line → Desk → Type 0
 Trace old [] new = new ≡ old
 Trace old (line ∷ lines) new = (line.count ≡ old.world.time.count) × ((mid : Desk) × Step old line.call line.answer mid × Trace mid lines new)
+
+-- what the answers to these calls name as reclaimed is what is due, line by line
+abbrev pub NamesWhatIsDue : Desk → List Call → List Answer → Desk → Type 0
+NamesWhatIsDue start calls answers new =
+    (lines : List Line) × (map (λ (line : Line). line.call) lines ≡ calls) × (map (λ (line : Line). line.answer) lines ≡ answers) × Trace start lines new × AllDue [] lines

@@ -1,6 +1,7 @@
 pub mod Val
 pub mod Desk
 pub mod Script
+pub mod Start
 pub mod Due
 pub mod Opened
 pub mod Sound

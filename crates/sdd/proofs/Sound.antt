@@ -1,0 +1,233 @@
+-- What is true of every desk of a script: which slots wait, which are owned
+use Rattle.std.proofs.Common.{◌≡◌, ◌≢◌, ◌⊎◌, ℕ, ◌<◌, List, [], ◌∷◌, ◌++◌, Option, Some, None, length, slice_index_or, slice_set, inl, inr, sym, ap, ◌∙◌, subst, arith}
+use Rattle.std.proofs.lemmas.Bool.{cases_eq, cases_lt}
+use Rattle.std.proofs.lemmas.List.{get_or_past, length_push}
+use Rattle.sdd_core.specs.declared.tag.Tag.TheVariants.{None as no_tag}
+use Rattle.sdd_store.specs.Waiting.{Waiting, having_seen, fresh}
+use Rattle.sdd_store.specs.Waiting.What.{Item}
+use Rattle.sdd_store.specs.Time as time
+use Rattle.sdd_store.specs.Time.{nobody}
+use Rattle.sdd_store.specs.Table.{IsEmptyAt}
+use Rattle.sdd_store.specs.declared.time.Participant.{Participant}
+use Rattle.sdd_store.specs.declared.standing.Standing.{Standing}
+use Rattle.sdd_store.specs.declared.standing.Standing.TheVariants.{Owned, Retired}
+use Rattle.sdd_base.specs.World.{place_at, standing_at}
+use Rattle.sdd_base.specs.Steps.{held_in}
+use Rattle.sdd.specs.declared.script.item.Fate.TheVariants as desk
+use Rattle.sdd.specs.declared.script.item.ItemState.{ItemState}
+use Rattle.sdd.specs.declared.script.val.Val.{Val}
+use Rattle.sdd.specs.Desk.{Desk, nothing, item_at, IsPlace, IsOwnerOf}
+use Rattle.sdd.specs.Script.{with_item, with_retired, later}
+use Rattle.sdd.proofs.Among.{Among, among-push, among-last, among-push_cases}
+use Rattle.sdd.proofs.Entry.{at-same, at-other, at-each, at-pushed, at-end}
+use Rattle.sdd.proofs.Items.{with_fate-slot, with_fate-length}
+use Rattle.sdd.proofs.Reclaiming.{HoldNothing}
+use Rattle.sdd.proofs.Happening.{Still}
+
+abbrev pub waiting : Desk → ℕ → List Waiting
+waiting d q = (place_at d.world q).bags.waiting
+
+abbrev pub slot_of : Desk → ℕ → ℕ
+slot_of d i = (item_at d i).slot
+
+pub record Sound (d : Desk) : Type 0 where
+  -- what waits is an item whose slot stands as retired
+  pub retired : (q : ℕ) (x : Waiting) → Among (waiting d q) x → (s : ℕ) × (x.what ≡ Item s) × (standing_at d.world s ≡ Some Retired)
+  -- a slot waits with one participant, and has seen so many changes
+  pub once : (q r s a b : ℕ) → Among (waiting d q) (having_seen a (Item s)) → Among (waiting d r) (having_seen b (Item s)) → (q ≡ r) × (a ≡ b)
+  -- an item that has an owner is there, and its slot stands as owned
+  pub owned : (o i : ℕ) → IsOwnerOf d i o → (i < length d.items) × (standing_at d.world (slot_of d i) ≡ Some Owned)
+  -- two owners have two slots
+  pub apart : (o r i j : ℕ) → IsOwnerOf d i o → IsOwnerOf d j r → slot_of d i ≡ slot_of d j → o ≡ r
+  pub empty : HoldNothing d.world.cells
+
+pub Sound-later : (d : Desk) → Sound d → Sound (later d)
+Sound-later d s = record { retired = s.retired; once = s.once; owned = s.owned; apart = s.apart; empty = s.empty }
+
+-- where the same waits and stands
+pub Sound-still : (old new : Desk) → Sound old → Still old new → Sound new
+Sound-still old new s z =
+    let owner = λ (o i : ℕ) (h : IsOwnerOf new i o). subst (λ (os : List (Option ℕ)). slice_index_or os o None ≡ Some i) z.owners h in
+    let slot = λ (i : ℕ). ap (λ (xs : List ItemState). (slice_index_or xs i nothing).slot) z.items in
+    let stands = λ (k : ℕ). ap (λ (ss : List (Option Standing)). slice_index_or ss k None) z.standings in
+    record {
+      retired = λ q x h. let r = s.retired q x (subst (λ (ws : List Waiting). Among ws x) (z.waiting q) h) in (r.0, r.1, stands r.0 ∙ r.2);
+      once = λ q r k a b h1 h2.
+          s.once q r k a b (subst (λ (ws : List Waiting). Among ws (having_seen a (Item k))) (z.waiting q) h1)
+          (subst (λ (ws : List Waiting). Among ws (having_seen b (Item k))) (z.waiting r) h2);
+      owned = λ o i h. let r = s.owned o i (owner o i h) in
+          (subst (λ (xs : List ItemState). i < length xs) (sym z.items) r.0, stands (slot_of new i) ∙ ap (λ (k : ℕ). standing_at old.world k) (slot i) ∙ r.1);
+      apart = λ o r i j h1 h2 e. s.apart o r i j (owner o i h1) (owner r j h2) (sym (slot i) ∙ e ∙ slot j);
+      empty = subst HoldNothing (sym z.cells) s.empty;
+    }
+
+-- where one has an entry and another none, they are two
+taken-other : {E : Type 0} (xs : List (Option E)) (s k : ℕ) (x : E) → slice_index_or xs s None ≡ Some x → slice_index_or xs k None ≡ None → s ≢ k
+taken-other {E} xs s k x h n e = let z : Some x ≡ None = sym h ∙ ap (λ (j : ℕ). slice_index_or xs j None) e ∙ n in cc
+
+-- an entry is one of the list's
+pub some-inside : {E : Type 0} (xs : List (Option E)) (k : ℕ) (x : E) → slice_index_or xs k None ≡ Some x → k < length xs
+some-inside {E} xs k x h =
+    elim (cases_lt k (length xs)) [
+      | inl lt ↦ lt
+      | inr past ↦ let z : Some x ≡ None = sym h ∙ get_or_past xs k None past in absurd (cc)
+    ]
+
+-- the owners after a push
+pub pushed-owner : (xs : List (Option ℕ)) (n o i : ℕ) → slice_index_or (xs ++ Some n ∷ []) o None ≡ Some i → ((o ≡ length xs) × (i ≡ n)) ⊎ (slice_index_or xs o None ≡ Some i)
+pushed-owner xs n o i h =
+    elim (cases_eq o (length xs)) [
+      | inl e ↦
+          let z : Some i ≡ Some n = sym h ∙ ap (λ (j : ℕ). slice_index_or (xs ++ Some n ∷ []) j None) e ∙ at-end xs (Some n) None in
+          inl (e, cc)
+      | inr ne ↦ inr (sym (at-pushed xs (Some n) None o ne) ∙ h)
+    ]
+
+module _ (d : Desk) (c k : ℕ) (v : Val) (free : IsEmptyAt d.world.standings k) (s : Sound d) where
+  stands-made : (j : ℕ) (x : Standing) → standing_at d.world j ≡ Some x → standing_at (with_item d c k v).world j ≡ Some x
+  stands-made j x h = at-other d.world.standings k j (Some Owned) None (taken-other d.world.standings j k x h free.1) ∙ h
+
+  item-made : (i : ℕ) → i < length d.items → item_at (with_item d c k v) i ≡ item_at d i
+  item-made i lt = at-pushed d.items (record { slot = k; fate = desk.Out }) nothing i (λ e. omega arith)
+
+  slot-made : (i : ℕ) → i ≡ length d.items → slot_of (with_item d c k v) i ≡ k
+  slot-made i e =
+      ap (λ (j : ℕ). slot_of (with_item d c k v) j) e ∙ ap (λ (x : ItemState). x.slot) (at-end d.items (record { slot = k; fate = desk.Out }) nothing)
+
+  -- an owner of before has another slot
+  other-slot : (o i j : ℕ) → IsOwnerOf d i o → j ≡ length d.items → slot_of (with_item d c k v) i ≢ slot_of (with_item d c k v) j
+  other-slot o i j h e same =
+      let was = s.owned o i h in
+      let slot : slot_of d i ≡ k = ap (λ (x : ItemState). x.slot) (sym (item-made i was.0)) ∙ same ∙ slot-made j e in
+      taken-other d.world.standings (slot_of d i) k Owned was.1 free.1 slot
+
+  pub Sound-made : Sound (with_item d c k v)
+  Sound-made = record {
+    retired = λ q x h. let r = s.retired q x h in (r.0, r.1, stands-made r.0 Retired r.2);
+    once = s.once;
+    owned = λ o i h.
+        elim (pushed-owner d.owners (length d.items) o i h) [
+          | inl new ↦ (
+            omega (arith, length_push d.items (record { slot = k; fate = desk.Out }), new.1),
+            ap (λ (j : ℕ). standing_at (with_item d c k v).world j) (slot-made i new.1) ∙ at-same d.world.standings k (Some Owned) None free.0,
+          )
+          | inr old ↦ let was = s.owned o i old in (
+            let lt = was.0 in omega (arith, length_push d.items (record { slot = k; fate = desk.Out })),
+            ap (λ (x : ItemState). standing_at (with_item d c k v).world x.slot) (item-made i was.0) ∙ stands-made (slot_of d i) Owned was.1,
+          )
+        ];
+    apart = λ o r i j h1 h2 e.
+        elim (pushed-owner d.owners (length d.items) o i h1) [
+          | inl new ↦
+              elim (pushed-owner d.owners (length d.items) r j h2) [
+                | inl new2 ↦ new.0 ∙ sym new2.0
+                | inr old2 ↦ absurd (other-slot r j i old2 new.1 (sym e))
+              ]
+          | inr old ↦
+              elim (pushed-owner d.owners (length d.items) r j h2) [
+                | inl new2 ↦ absurd (other-slot o i j old new2.1 e)
+                | inr old2 ↦
+                    s.apart o r i j old old2
+                    (ap (λ (x : ItemState). x.slot) (sym (item-made i ((s.owned o i old).0))) ∙ e ∙ ap (λ (x : ItemState). x.slot) (item-made j ((s.owned r j old2).0)))
+              ]
+        ];
+    empty = λ j. at-each held_in d.world.cells c (Some (record { held = None; tag = no_tag })) None (sym (s.empty c)) j ∙ s.empty j;
+  }
+
+module _ (d : Desk) (p o i : ℕ) (place : IsPlace d p) (owner : IsOwnerOf d i o) (s : Sound d) where
+  -- what waits then waited before, or is the item
+  pub waits-retired : (q : ℕ) (x : Waiting) → Among (waiting (with_retired d p o i) q) x → Among (waiting d q) x ⊎ ((q ≡ p) × (fresh (Item (slot_of d i)) ≡ x))
+  waits-retired q x h =
+      let y = time.awaiting (Item (slot_of d i)) (place_at d.world p) in
+      elim (cases_eq q p) [
+        | inl e ↦
+            let here : waiting (with_retired d p o i) q ≡ waiting d p ++ fresh (Item (slot_of d i)) ∷ [] =
+            ap (λ (j : ℕ). waiting (with_retired d p o i) j) e ∙ ap (λ (z : Participant). z.bags.waiting) (at-same d.world.time.places p y nobody place) in
+            elim (among-push_cases (waiting d p) (fresh (Item (slot_of d i))) x (subst (λ (ws : List Waiting). Among ws x) here h)) [
+              | inl was ↦ inl (subst (λ (j : ℕ). Among (waiting d j) x) (sym e) was)
+              | inr is ↦ inr (e, is)
+            ]
+        | inr ne ↦ inl (subst (λ (z : Participant). Among z.bags.waiting x) (at-other d.world.time.places p q y nobody ne) h)
+      ]
+
+  -- what waited before still does
+  pub waits-still : (q : ℕ) (x : Waiting) → Among (waiting d q) x → Among (waiting (with_retired d p o i) q) x
+  waits-still q x h =
+      let y = time.awaiting (Item (slot_of d i)) (place_at d.world p) in
+      elim (cases_eq q p) [
+        | inl e ↦
+            let here : waiting (with_retired d p o i) q ≡ waiting d p ++ fresh (Item (slot_of d i)) ∷ [] =
+            ap (λ (j : ℕ). waiting (with_retired d p o i) j) e ∙ ap (λ (z : Participant). z.bags.waiting) (at-same d.world.time.places p y nobody place) in
+            subst (λ (ws : List Waiting). Among ws x) (sym here) (among-push (waiting d p) (fresh (Item (slot_of d i))) x (subst (λ (j : ℕ). Among (waiting d j) x) e h))
+        | inr ne ↦ subst (λ (z : Participant). Among z.bags.waiting x) (sym (at-other d.world.time.places p q y nobody ne)) h
+      ]
+
+  -- the item does
+  pub waits-now : Among (waiting (with_retired d p o i) p) (fresh (Item (slot_of d i)))
+  waits-now =
+      let y = time.awaiting (Item (slot_of d i)) (place_at d.world p) in
+      subst (λ (z : Participant). Among z.bags.waiting (fresh (Item (slot_of d i)))) (sym (at-same d.world.time.places p y nobody place)) (among-last (waiting d p) (fresh (Item (slot_of d i))))
+
+  stands-retired : standing_at (with_retired d p o i).world (slot_of d i) ≡ Some Retired
+  stands-retired = at-same d.world.standings (slot_of d i) (Some Retired) None (some-inside d.world.standings (slot_of d i) Owned ((s.owned o i owner).1))
+
+  stands-else : (j : ℕ) → j ≢ slot_of d i → standing_at (with_retired d p o i).world j ≡ standing_at d.world j
+  stands-else j ne = at-other d.world.standings (slot_of d i) j (Some Retired) None ne
+
+  -- its slot did not wait
+  waited-not : (q : ℕ) (a : ℕ) (k : ℕ) → Among (waiting d q) (having_seen a (Item k)) → k ≢ slot_of d i
+  waited-not q a k h e =
+      let r = s.retired q (having_seen a (Item k)) h in
+      let was : Item k ≡ Item r.0 = r.1 in
+      let slot : k ≡ r.0 = cc in
+      let stood : standing_at d.world k ≡ Some Retired = ap (λ (j : ℕ). standing_at d.world j) slot ∙ r.2 in
+      let stands : standing_at d.world k ≡ Some Owned = ap (λ (j : ℕ). standing_at d.world j) e ∙ (s.owned o i owner).1 in
+      let z : Some Retired ≡ Some Owned = sym stood ∙ stands in cc
+
+  -- the other owners are as before
+  pub owner-else : (r j : ℕ) → IsOwnerOf (with_retired d p o i) j r → (r ≢ o) × IsOwnerOf d j r
+  owner-else r j h =
+      elim (cases_eq r o) [
+        | inl e ↦
+            let none : slice_index_or (slice_set d.owners o None) r None ≡ None = ap (λ (n : ℕ). slice_index_or (slice_set d.owners o None) n None) e ∙ at-same d.owners o None None (some-inside d.owners o i owner) in
+            let z : Some j ≡ None = sym h ∙ none in absurd (cc)
+        | inr ne ↦ (ne, sym (at-other d.owners o r None None ne) ∙ h)
+      ]
+
+  pub Sound-retired : Sound (with_retired d p o i)
+  Sound-retired = record {
+    retired = λ q x h.
+        elim (waits-retired q x h) [
+          | inl was ↦
+              let r = s.retired q x was in
+              elim (cases_eq r.0 (slot_of d i)) [
+                | inl e ↦ (r.0, r.1, ap (λ (j : ℕ). standing_at (with_retired d p o i).world j) e ∙ stands-retired)
+                | inr ne ↦ (r.0, r.1, stands-else r.0 ne ∙ r.2)
+              ]
+          | inr new ↦ (slot_of d i, ap (λ (y : Waiting). y.what) (sym new.1), stands-retired)
+        ];
+    once = λ q r k a b h1 h2.
+        elim (waits-retired q (having_seen a (Item k)) h1) [
+          | inl was1 ↦
+              elim (waits-retired r (having_seen b (Item k)) h2) [
+                | inl was2 ↦ s.once q r k a b was1 was2
+                | inr new2 ↦ absurd (waited-not q a k was1 (let e : fresh (Item (slot_of d i)) ≡ having_seen b (Item k) = new2.1 in let w : Item (slot_of d i) ≡ Item k = ap (λ (y : Waiting). y.what) e in cc))
+              ]
+          | inr new1 ↦
+              elim (waits-retired r (having_seen b (Item k)) h2) [
+                | inl was2 ↦ absurd (waited-not r b k was2 (let e : fresh (Item (slot_of d i)) ≡ having_seen a (Item k) = new1.1 in let w : Item (slot_of d i) ≡ Item k = ap (λ (y : Waiting). y.what) e in cc))
+                | inr new2 ↦ (new1.0 ∙ sym new2.0, ap (λ (y : Waiting). y.seen) (sym new1.1) ∙ ap (λ (y : Waiting). y.seen) new2.1)
+              ]
+        ];
+    owned = λ r j h.
+        let was = owner-else r j h in
+        let had = s.owned r j was.1 in
+        let slot = with_fate-slot d.items i (desk.Retired d.moment) j in (
+          subst (λ (n : ℕ). j < n) (sym (with_fate-length d.items i (desk.Retired d.moment))) had.0,
+          ap (λ (n : ℕ). standing_at (with_retired d p o i).world n) slot ∙ stands-else (slot_of d j) (λ e. was.0 (s.apart r o j i was.1 owner e)) ∙ had.1,
+        );
+    apart = λ r t j l h1 h2 e.
+        s.apart r t j l ((owner-else r j h1).1) ((owner-else t l h2).1)
+        (sym (with_fate-slot d.items i (desk.Retired d.moment) j) ∙ e ∙ with_fate-slot d.items i (desk.Retired d.moment) l);
+    empty = s.empty;
+  }
