@@ -1,4 +1,10 @@
-//! Scripts of calls on a world, and every public name of the port.
+//! Epoch-based delayed reclamation, after the crate `sdd`: every public name of the port, and what scripts mean.
 #![tactic(auto)]
 
 pub mod script;
+
+pub use sdd_base::{AtomicOwned, Giver, Guard, Item, Limits, Look, Owned, Ptr, Space};
+pub use sdd_core::{Epoch, Refused, Tag};
+pub use sdd_core::machine::{Did, Machine, Step, safety};
+pub use sdd_store::Tally;
+pub use sdd_world::{Place, Turn, World};

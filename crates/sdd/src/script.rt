@@ -1,11 +1,10 @@
 //! Scripts: calls on a world, and what they answer.
+//!
+//! What a script means stands in `specs/`: a fold of calls over a desk, and which items are due in a line. Nothing runs
+//! scripts yet.
 
 pub mod item;
-pub mod runner;
-pub mod scene;
-mod stage;
 pub mod val;
 
-pub use runner::run;
-pub use scene::Scene;
+pub use item::{Fate, ItemState};
 pub use val::Val;
