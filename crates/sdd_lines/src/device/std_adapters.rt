@@ -29,9 +29,11 @@ impl<R: io::Read> Reader<R> {
 }
 
 impl<R: io::Read> Source for Reader<R> {
-    ghost remaining = { λ reader. R.remaining reader.inner };
+    ghost use Rattle.sdd_lines.specs.Adapters.{reader_inner, reader_failures};
 
-    ghost failures = { λ reader. reader.failures };
+    ghost remaining = { λ reader. R.remaining (reader_inner reader) };
+
+    ghost failures = { reader_failures };
 
     fn read(&mut self, buffer: &mut [u8]) -> Result<usize, Fault> {
         match self.inner.read(buffer) {
@@ -69,9 +71,11 @@ impl<W: io::Write> Writer<W> {
 }
 
 impl<W: io::Write> Sink for Writer<W> {
-    ghost contents = { λ writer. W.contents writer.inner };
+    ghost use Rattle.sdd_lines.specs.Adapters.{writer_inner, writer_failures};
 
-    ghost failures = { λ writer. writer.failures };
+    ghost contents = { λ writer. W.contents (writer_inner writer) };
+
+    ghost failures = { writer_failures };
 
     fn write(&mut self, bytes: &[u8]) -> Result<usize, Fault> {
         match self.inner.write(bytes) {
