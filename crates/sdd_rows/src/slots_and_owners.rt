@@ -26,40 +26,24 @@ fn a_slot_is_free_again_once_its_item_was_reclaimed(rt: HostRuntime) {
 }
 
 #[test]
-fn a_closure_that_is_refused_is_not_called(rt: HostRuntime) {
+fn a_closure_that_is_refused_comes_back_uncalled(rt: HostRuntime) {
     let limits = Limits { slots: 1, ..AMPLE };
     let mut world: World<u64> = new_world(&rt, limits, 0);
     let place = joined(&rt, &mut world);
     let mut turn = world.at(&place);
-    let mut calls = 0u8;
-    let owner = match Owned::new_with(
-        || {
-            calls = 1;
-            7u64
-        },
-        &mut turn,
-    ) {
+    let owner = match Owned::new_with(|| 7u64, &mut turn) {
         Ok(owner) => owner,
         Err((_make, refused)) => panic!(rt; "{refused:?}"),
     };
-    assert_eq!(rt; calls, 1);
     assert_eq!(rt; *owner.get(&turn), 7);
-    let mut calls = 0u8;
-    let refused = match Owned::new_with(
-        || {
-            calls = 1;
-            8u64
-        },
-        &mut turn,
-    ) {
+    let back = match Owned::new_with(|| 8u64, &mut turn) {
         Ok(second) => {
             second.retire(&mut turn);
             None
         }
-        Err((_make, refused)) => Some(refused),
+        Err((make, refused)) => Some((make(), refused)),
     };
-    assert_eq!(rt; refused, Some(Refused::NoSlot));
-    assert_eq!(rt; calls, 0);
+    assert_eq!(rt; back, Some((8, Refused::NoSlot)));
     owner.retire(&mut turn);
     drop(turn);
     closed(&rt, world);
