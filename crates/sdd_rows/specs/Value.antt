@@ -2,10 +2,9 @@
 use Rattle.std.specs.Prelude.{ℕ, List, [], ◌∷◌}
 use Rattle.sdd_base.specs.Owned.{holding_of}
 use Rattle.sdd_base.specs.Holding.{Holding}
-use Rattle.sdd_rows.specs.declared.value.Value.{Value}
-use Rattle.sdd_rows.specs.declared.value.Value.TheVariants.{Number, Of}
+use Rattle.sdd_rows.specs.declared.value.Value.{Value, out-Value}
+use Rattle.sdd_rows.specs.declared.value.Value.TheOpen.{Number, Of}
 
 -- a number holds nothing, an owner itself
 abbrev pub holdings_of : Value → List Holding
-holdings_of (Number n) = []
-holdings_of (Of owner) = holding_of owner ∷ []
+holdings_of v = elim (out-Value v) [ Number n ↦ [] | Of owner ↦ holding_of owner ∷ [] ]
