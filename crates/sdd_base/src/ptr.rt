@@ -22,6 +22,12 @@ pub struct Ptr<'g, T> {
 }
 
 impl<'g, T> Clone for Ptr<'g, T> {
+    ghost use Rattle.std.specs.Prelude.{◌≡◌};
+
+    ghost is_clone = { λ x y. y ≡ x };
+
+    ghost is_infallible = { λ _. Unit {0} };
+
     fn clone(&self) -> Result<Self, AllocError> {
         Ok(*self)
     }
