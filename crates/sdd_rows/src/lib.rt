@@ -1,0 +1,18 @@
+//! Worked examples of a world, as tests: which epoch each guard shows, and at which of them an item is reclaimed.
+#![tactic(auto)]
+
+#[cfg(test)]
+mod closing;
+#[cfg(test)]
+mod limits_and_memory;
+#[cfg(test)]
+mod nested_values;
+#[cfg(test)]
+mod openings;
+#[cfg(test)]
+mod slots_and_owners;
+#[cfg(test)]
+mod steps;
+pub mod value;
+
+pub use value::Value;

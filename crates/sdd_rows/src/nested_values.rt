@@ -1,0 +1,25 @@
+//! An owner that lies in a value.
+use crate::steps::{AMPLE, closed, joined, made, new_world, retire, shows};
+use crate::value::Value;
+use sdd_base::Guard;
+use sdd_world::World;
+
+#[test]
+fn an_inner_item_goes_three_epochs_after_the_outer_one(rt: HostRuntime) {
+    let mut world: World<Value> = new_world(&rt, AMPLE, 0);
+    let place = joined(&rt, &mut world);
+    let inner = made(&rt, &mut world, &place, Value::Number(7));
+    let outer = made(&rt, &mut world, &place, Value::Of(inner));
+    retire(&mut world, &place, outer);
+    shows(&rt, &mut world, &place, &[(0, 0), (1, 0), (2, 0)]);
+    let mut turn = world.at(&place);
+    let guard = Guard::new(&mut turn).expect(&rt, "a guard may be opened");
+    assert_eq!(rt; u8::from(guard.epoch(&turn)), 3);
+    assert!(rt; guard.has_garbage(&turn));
+    guard.accelerate(&mut turn);
+    guard.close(&mut turn);
+    drop(turn);
+    assert_eq!(rt; world.tally().reclaimed, 1);
+    shows(&rt, &mut world, &place, &[(4, 1), (5, 1), (6, 2)]);
+    closed(&rt, world);
+}

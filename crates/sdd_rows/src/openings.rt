@@ -1,0 +1,98 @@
+//! Which epochs guards show, and when an item that was retired is reclaimed.
+ghost use Rattle.std.specs.Prelude.{◌≡◌};
+ghost use Rattle.sdd_base.specs.World.{IsPlaceOf};
+ghost use Rattle.sdd_world.specs.Place.{index_of};
+ghost use Rattle.sdd_rows.specs.Stays.{Stays};
+
+use crate::steps::{AMPLE, accelerated, closed, joined, made, new_world, plain, retire, shows};
+use sdd_base::Guard;
+use sdd_world::{Place, World};
+use std::process::Abort;
+
+#[test]
+fn an_item_goes_at_the_fourth_accelerated_guard(rt: HostRuntime) {
+    let mut world: World<u64> = new_world(&rt, AMPLE, 0);
+    let place = joined(&rt, &mut world);
+    let owner = made(&rt, &mut world, &place, 7);
+    retire(&mut world, &place, owner);
+    shows(&rt, &mut world, &place, &[(0, 0), (1, 0), (2, 0), (3, 1)]);
+    closed(&rt, world);
+}
+
+/// Each of the next 128 guards shows the epoch, and reclaims nothing.
+fn shows_128_times(rt: &impl Abort, world: &mut World<u64>, place: &Place, epoch: u8)
+    requires place { IsPlaceOf world.old (index_of place.now) }
+    ensures stays { Stays world.old world.new }
+{
+    for opening in 1u8..129 {
+        assert_eq!(rt;
+            plain(rt, world, place),
+            epoch,
+            "at opening {opening} of {epoch}"
+        );
+        assert_eq!(rt;
+            world.tally().reclaimed,
+            0,
+            "at opening {opening} of {epoch}"
+        );
+    }
+}
+
+#[test]
+fn without_acceleration_an_item_goes_at_guard_385(rt: HostRuntime) {
+    let mut world: World<u64> = new_world(&rt, AMPLE, 0);
+    let place = joined(&rt, &mut world);
+    assert_eq!(rt; plain(&rt, &mut world, &place), 0);
+    let owner = made(&rt, &mut world, &place, 7);
+    retire(&mut world, &place, owner);
+    shows_128_times(&rt, &mut world, &place, 0);
+    shows_128_times(&rt, &mut world, &place, 1);
+    shows_128_times(&rt, &mut world, &place, 2);
+    assert_eq!(rt; plain(&rt, &mut world, &place), 3);
+    assert_eq!(rt; world.tally().reclaimed, 1);
+    closed(&rt, world);
+}
+
+#[test]
+fn an_open_guard_of_another_participant_keeps_an_item(rt: HostRuntime) {
+    let mut world: World<u64> = new_world(&rt, AMPLE, 0);
+    let first = joined(&rt, &mut world);
+    let second = joined(&rt, &mut world);
+    let mut turn = world.at(&first);
+    let guard = Guard::new(&mut turn).expect(&rt, "a guard may be opened");
+    assert_eq!(rt; u8::from(guard.epoch(&turn)), 0);
+    drop(turn);
+    let owner = made(&rt, &mut world, &second, 7);
+    retire(&mut world, &second, owner);
+    shows(&rt, &mut world, &second, &[(0, 0), (1, 0), (1, 0), (1, 0)]);
+    let mut turn = world.at(&first);
+    guard.close(&mut turn);
+    drop(turn);
+    shows(&rt, &mut world, &second, &[(1, 0), (2, 0), (3, 1)]);
+    closed(&rt, world);
+}
+
+#[test]
+fn at_the_last_count_an_item_stays_until_the_world_is_closed(rt: HostRuntime) {
+    let mut world: World<u64> = new_world(&rt, AMPLE, u64::MAX - 1);
+    let place = joined(&rt, &mut world);
+    assert_eq!(rt; accelerated(&rt, &mut world, &place), 62);
+    let mut turn = world.at(&place);
+    let guard = Guard::new(&mut turn).expect(&rt, "a guard may be opened");
+    assert_eq!(rt; u8::from(guard.epoch(&turn)), 63);
+    drop(turn);
+    let owner = made(&rt, &mut world, &place, 7);
+    retire(&mut world, &place, owner);
+    let mut turn = world.at(&place);
+    guard.accelerate(&mut turn);
+    guard.close(&mut turn);
+    drop(turn);
+    shows(
+        &rt,
+        &mut world,
+        &place,
+        &[(63, 0), (63, 0), (63, 0), (63, 0), (63, 0), (63, 0)],
+    );
+    let tally = closed(&rt, world);
+    assert_eq!(rt; (tally.made, tally.reclaimed, tally.in_place), (1, 1, 0));
+}

@@ -1,0 +1,124 @@
+//! Steps that the tests share.
+ghost use Rattle.std.specs.Prelude.{◌≡◌, ◌<◌, length};
+ghost use Rattle.sdd_base.specs.Holding.{AreOf};
+ghost use Rattle.sdd_base.specs.Owned.{slots_home};
+ghost use Rattle.sdd_base.specs.World.{IsPlaceOf};
+ghost use Rattle.sdd_world.specs.Place.{index_of};
+ghost use Rattle.sdd_rows.specs.Stays.{Stays};
+
+use sdd_base::{Guard, Item, Limits, Owned};
+use sdd_core::Refused;
+use sdd_store::Tally;
+use sdd_world::{Place, World};
+use std::process::Abort;
+
+/// Enough of everything.
+pub const AMPLE: Limits = Limits {
+    participants: 8,
+    slots: 64,
+    cells: 64,
+    jobs: 8,
+    nesting: 8,
+    tries: 1,
+};
+
+/// A world that starts at a count of epochs.
+pub fn new_world<R: Abort + AllocGlobal, T: Item<T>>(
+    rt: &R,
+    limits: Limits,
+    count: u64,
+) -> World<T> {
+    World::starting_at(rt.alloc(), limits, count).expect(rt, "the limits are in range")
+}
+
+/// One more participant.
+pub fn joined<T: Item<T>>(rt: &impl Abort, world: &mut World<T>) -> Place
+    ensures place { IsPlaceOf world.new (index_of result) }
+    ensures home { world.new.home ≡ world.old.home }
+    ensures places { length world.old.time.places < length world.new.time.places }
+{
+    world.register().expect(rt, "a place is free")
+}
+
+/// The tally of a world that a test is done with.
+pub fn closed<T: Item<T>>(rt: &impl Abort, world: World<T>) -> Tally {
+    match world.close() {
+        Ok(tally) => tally,
+        Err((_world, refused)) => panic!(rt; "{refused:?}"),
+    }
+}
+
+/// Opens and closes a guard, and tells which epoch it showed.
+pub fn plain<T: Item<T>>(rt: &impl Abort, world: &mut World<T>, place: &Place) -> u8
+    requires place { IsPlaceOf world.old (index_of place.now) }
+    ensures stays { Stays world.old world.new }
+{
+    let mut turn = world.at(place);
+    let guard = Guard::new(&mut turn).expect(rt, "a guard may be opened");
+    let epoch = guard.epoch(&turn);
+    guard.close(&mut turn);
+    u8::from(epoch)
+}
+
+/// Opens, accelerates and closes a guard, and tells which epoch it showed.
+pub fn accelerated<T: Item<T>>(rt: &impl Abort, world: &mut World<T>, place: &Place) -> u8
+    requires place { IsPlaceOf world.old (index_of place.now) }
+    ensures stays { Stays world.old world.new }
+{
+    let mut turn = world.at(place);
+    let guard = Guard::new(&mut turn).expect(rt, "a guard may be opened");
+    let epoch = guard.epoch(&turn);
+    guard.accelerate(&mut turn);
+    guard.close(&mut turn);
+    u8::from(epoch)
+}
+
+/// The accelerated guards of a participant show these epochs, and at each so many items are reclaimed in all.
+pub fn shows<T: Item<T>>(rt: &impl Abort, world: &mut World<T>, place: &Place, table: &[(u8, u128)])
+    requires place { IsPlaceOf world.old (index_of place.now) }
+    ensures stays { Stays world.old world.new }
+{
+    for (epoch, reclaimed) in table {
+        assert_eq!(rt; accelerated(rt, world, place), *epoch);
+        assert_eq!(rt; world.tally().reclaimed, *reclaimed, "at epoch {epoch}");
+    }
+}
+
+/// The owner of a new item.
+pub fn made<T: Item<T>>(rt: &impl Abort, world: &mut World<T>, place: &Place, value: T) -> Owned<T>
+    requires place { IsPlaceOf world.old (index_of place.now) }
+    requires home { AreOf world.old.home (T.holds value) }
+    ensures stays { Stays world.old world.new }
+    ensures home { slots_home result ≡ world.new.home.slots }
+{
+    let mut turn = world.at(place);
+    match Owned::new(value, &mut turn) {
+        Ok(owner) => owner,
+        Err((_value, refused)) => panic!(rt; "{refused:?}"),
+    }
+}
+
+/// The item waits with the participant.
+pub fn retire<T: Item<T>>(world: &mut World<T>, place: &Place, owner: Owned<T>)
+    requires place { IsPlaceOf world.old (index_of place.now) }
+    requires home { slots_home owner ≡ world.old.home.slots }
+    ensures stays { Stays world.old world.new }
+{
+    let mut turn = world.at(place);
+    owner.retire(&mut turn);
+}
+
+/// What an item that can't be made is refused with.
+pub fn refused(world: &mut World<u64>, place: &Place, value: u64) -> Option<(u64, Refused)>
+    requires place { IsPlaceOf world.old (index_of place.now) }
+    ensures stays { Stays world.old world.new }
+{
+    let mut turn = world.at(place);
+    match Owned::new(value, &mut turn) {
+        Ok(owner) => {
+            owner.retire(&mut turn);
+            None
+        }
+        Err(back) => Some(back),
+    }
+}
