@@ -1,6 +1,6 @@
 -- What is kept of one cell, where it changes
-use Rattle.std.proofs.Common.{◌≡◌, ℕ, List, length, slice_index_or, slice_set, sym, ◌∙◌, ap, refl, Option, None, Some, true}
-use Rattle.std.specs.Prelude.{map, is_some, IsSome}
+use Rattle.std.proofs.Common.{◌≡◌, ℕ, List, slice_index_or, slice_set, sym, ◌∙◌, ap, refl, Option, None, Some}
+use Rattle.std.specs.Prelude.{IsSome}
 use Rattle.std.proofs.Math.ListN.{get_or-map, length-set, replicate}
 use Rattle.std.proofs.lemmas.List.{map-set, length-replicate}
 use Rattle.sdd_token.specs.Units.{Home}

@@ -1,11 +1,11 @@
 -- What is kept of one slot, where it changes
-use Rattle.std.proofs.Common.{◌≡◌, ℕ, List, length, slice_index_or, slice_set, sym, ◌∙◌, ap, refl, Option, None, Some, Bool, true, false, [], ◌∷◌, arith, zero}
+use Rattle.std.proofs.Common.{◌≡◌, ℕ, List, length, slice_index_or, slice_set, sym, ◌∙◌, ap, refl, Option, None, Some, Bool, false, [], ◌∷◌, arith, zero}
 use Rattle.std.specs.Prelude.{map, is_some, IsSome, IsNone, All, ◌<◌, suc}
 use Rattle.std.proofs.Math.ListN.{get_or-map, length-set, replicate}
 use Rattle.std.proofs.Math.Seq.{map-set_same}
 use Rattle.std.proofs.lemmas.List.{map-set, get_or_read, length-map, length-replicate}
 use Rattle.sdd_token.specs.Units.{Home}
-use Rattle.sdd_token.specs.Rights.{Kept, whole, owned}
+use Rattle.sdd_token.specs.Rights.{Kept, whole}
 use Rattle.sdd_token.specs.declared.right.Kind.TheVariants as kind
 use Rattle.sdd_store.specs.Table.{Entries}
 use Rattle.sdd_store.specs.declared.standing.Standing.{Standing}

@@ -98,13 +98,7 @@ impl Participant {
         self.guards = 0;
         self.countdown = match self.countdown {
             0 => 127,
-            128 => {
-                if marked {
-                    127
-                } else {
-                    128
-                }
-            }
+            128 => { if marked { 127 } else { 128 } }
             countdown => countdown - 1,
         };
     }

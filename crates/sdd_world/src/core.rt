@@ -12,8 +12,7 @@ ghost use Rattle.sdd_base.specs.World.{World, IsBlank, weight, KeepsSizes, place
 ghost use Rattle.sdd_base.specs.Steps.{made, retired, nulled, cell_closed, given, given_all, slot_reclaimed, all_reclaimed, rotated, settled, nested, closed, stirred, accelerated, registered};
 ghost use Rattle.sdd_world.specs.Closing.{paced, NothingIsOut};
 
-use sdd_base::inner;
-use sdd_base::{AtomicOwned, Giver, Item, Owned};
+use sdd_base::{AtomicOwned, Giver, Item, Owned, inner};
 use sdd_core::Refused;
 use sdd_slots::{Cells, Slots};
 use sdd_store::{Pace, Standing, Tally, Time};
@@ -36,12 +35,12 @@ impl<T: Item<T>> Model for Core<T> {
     ghost Value = { World T };
 
     ghost view = { λ c. record {
-        home = record { slots = c.slots.home; cells = c.cells.home };
-        time = c.time;
-        standings = c.slots.standings;
-        values = c.slots.values;
-        cells = c.cells.cells;
-        tally = c.tally;
+      home = record { slots = c.slots.home; cells = c.cells.home };
+      time = c.time;
+      standings = c.slots.standings;
+      values = c.slots.values;
+      cells = c.cells.cells;
+      tally = c.tally;
     } };
 
     ghost invariant = { λ c. IsSound T.holds c.time c.slots c.cells };

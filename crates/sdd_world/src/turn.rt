@@ -8,9 +8,8 @@ ghost use Rattle.sdd_store.specs.Time.{awaiting};
 ghost use Rattle.sdd_store.specs.Waiting.What.{Item};
 ghost use Rattle.sdd_base.specs.Ptr.{IsNull, NamesFilled, NamesShown};
 
-use sdd_base::inner;
-use sdd_base::{AtomicOwned, Item, Look, Owned, Ptr, Space};
 use crate::world::{Place, World};
+use sdd_base::{AtomicOwned, Item, Look, Owned, Ptr, Space, inner};
 use sdd_core::Refused;
 use sdd_token::Right;
 
@@ -159,6 +158,7 @@ impl<T: Item<T>> Space<T> for Turn<'_, T> {
         ensures seat { seat_on self.new.world.now self.new.place self.new.world.ghost_name ≡ seat_on self.old.world.now self.old.place self.old.world.ghost_name }
         ensures exact { IsExact (seat_on self.old.world.now self.old.place self.old.world.ghost_name) → self.new.world.now ≡ cell_closed self.old.world.now self.old.place (cell_of cell) }
     {
-        self.world.close_cell(self.place, inner::right_of_cell(cell));
+        self.world
+            .close_cell(self.place, inner::right_of_cell(cell));
     }
 }

@@ -81,7 +81,13 @@ impl<T: Item<T>> World<T> {
         if !limits.are_in_range() {
             return Err(Refused::BadLimits);
         }
-        let time = Time::new(alloc, count, limits.participants as usize, limits.nesting as u32, limits.slots as usize)?;
+        let time = Time::new(
+            alloc,
+            count,
+            limits.participants as usize,
+            limits.nesting as u32,
+            limits.slots as usize,
+        )?;
         let spare = Vec::with_capacity(alloc, limits.slots as usize)?;
         let core = Core::new(alloc, time, limits.slots as u32, limits.cells as u32)?;
         Ok(World { core, spare, alloc })

@@ -1,4 +1,4 @@
-use Rattle.std.proofs.Common.{◌≡◌, ◌<◌, slice_index_or, sym, ap, ◌∙◌, refl, Some, None, Option, Bool, true, false, length, arith}
+use Rattle.std.proofs.Common.{◌<◌, ap, ◌∙◌, refl, Some, arith}
 use Rattle.std.specs.Prelude.{is_some}
 use Rattle.sdd_store.specs.declared.standing.Standing.TheVariants.{Owned}
 use Rattle.sdd_slots.proofs.SlotsKept.{filled-here, keeps, none-of}

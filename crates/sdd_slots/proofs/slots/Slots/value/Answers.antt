@@ -1,4 +1,4 @@
-use Rattle.std.proofs.Common.{◌≡◌, ◌<◌, slice_index_or, sym, ap, ◌∙◌, Some, None, true, false}
+use Rattle.std.proofs.Common.{◌≡◌, ◌<◌, slice_index_or, ap, ◌∙◌, Some, None, true, false}
 use Rattle.std.specs.Prelude.{is_some}
 use Rattle.sdd_store.specs.declared.standing.Standing.TheVariants.{Owned}
 use Rattle.sdd_slots.proofs.SlotsKept.{owned-there, filled-here}

@@ -10,5 +10,5 @@ invariant-loop-slot g l = record {
   rest : all_reclaimed g.T.Item.holds l.self l.place (map Item (drop l.slot-index l.due)) ≡ all_reclaimed g.T.Item.holds l.fn.self l.fn.place (map Item l.fn.due);
   room : weight l.self + length (drop l.slot-index l.due) ≤ length l.self.standings;
   place : l.place < length l.self.time.places;
-  sizes : KeepsSizes l.fn.self l.self
+  sizes : KeepsSizes l.fn.self l.self;
 }
