@@ -1,10 +1,8 @@
 -- The epoch of a world, and its participants
-use Rattle.std.specs.Prelude.{ℕ, ◌+◌, ◌-◌, ◌^◌, ◌==◌, ◌&&◌, ◌||◌, ◌≡◌, ◌<◌, ◌≤◌, All, Bool, true, false, List, [], ◌∷◌, ◌++◌, Option, Some, None, length, slice_index_or, slice_set, if◌then◌else◌, nat_lt, not}
+use Rattle.std.specs.Prelude.{ℕ, ◌+◌, ◌-◌, ◌^◌, ◌==◌, ◌&&◌, ◌||◌, ◌≡◌, ◌<◌, ◌≤◌, All, Bool, false, List, [], ◌∷◌, ◌++◌, Option, Some, None, length, slice_index_or, slice_set, if◌then◌else◌, nat_lt, not}
 use Rattle.std.specs.List.{list_all}
-use Rattle.sdd_store.specs.Waiting.{What, Waiting, fresh, aged, due, left}
-use Rattle.sdd_store.specs.Bags.{Bags}
-use Rattle.sdd_store.specs.declared.time.Phase.{Phase}
-use Rattle.sdd_store.specs.declared.time.Phase.TheVariants.{Free, Live, Ended}
+use Rattle.sdd_store.specs.Waiting.{What, fresh, aged, due, left}
+use Rattle.sdd_store.specs.declared.time.Phase.TheVariants.{Free, Live}
 use Rattle.sdd_store.specs.declared.time.Participant.{Participant}
 use Rattle.sdd_store.specs.declared.time.Pace.{Pace}
 

@@ -1,4 +1,4 @@
-use Rattle.std.proofs.Common.{sym, ap}
+use Rattle.std.proofs.Common.{sym}
 use Rattle.sdd_store.proofs.Aging.{due-aged}
 use Rattle.sdd_store.proofs.bags.Bags.due.Goals as goal
 

@@ -9,5 +9,5 @@ invariant-loop-place g l = record {
   changes : (places : List ℕ) × (l.self ≡ all_aged_out g.T.Item.holds l.fn.self places);
   time : l.self.time ≡ emptied_to l.fn.self.time l.place;
   home : l.self.home ≡ l.fn.self.home;
-  end : l.place-end ≡ length l.fn.self.time.places
+  end : l.place-end ≡ length l.fn.self.time.places;
 }

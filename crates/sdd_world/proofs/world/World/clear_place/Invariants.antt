@@ -10,7 +10,7 @@ invariant-loop-self g l = record {
   changes : (places : List ℕ) × (l.self ≡ all_aged_out g.T.Item.holds l.fn.self places);
   place : l.place < length l.self.time.places;
   only : MovesWaiting l.place l.fn.self l.self;
-  home : l.self.home ≡ l.fn.self.home
+  home : l.self.home ≡ l.fn.self.home;
 }
 
 abbrev pub decreases-loop-self : goal.decreases-loop-self
