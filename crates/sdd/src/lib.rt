@@ -4,7 +4,7 @@
 pub mod script;
 
 pub use sdd_base::{AtomicOwned, Giver, Guard, Item, Limits, Look, Owned, Ptr, Space};
-pub use sdd_core::{Epoch, Refused, Tag};
 pub use sdd_core::machine::{Did, Machine, Step, safety};
+pub use sdd_core::{Epoch, Refused, Tag};
 pub use sdd_store::Tally;
 pub use sdd_world::{Place, Turn, World};

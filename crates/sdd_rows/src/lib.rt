@@ -2,8 +2,6 @@
 #![tactic(auto)]
 
 #[cfg(test)]
-mod closing;
-#[cfg(test)]
 mod limits_and_memory;
 #[cfg(test)]
 mod nested_values;

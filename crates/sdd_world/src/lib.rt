@@ -1,8 +1,8 @@
 //! The world: a space for the participants of one thread, with exact answers.
 #![tactic(auto)]
 
-mod core;
 pub mod inner;
+mod inside;
 pub mod turn;
 pub mod world;
 

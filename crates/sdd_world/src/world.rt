@@ -10,7 +10,7 @@ ghost use Rattle.sdd_base.specs.Steps.{made, retired, nulled, cell_closed, opene
 
 mod closing;
 
-use crate::core::Core;
+use crate::inside::Core;
 use sdd_base::{Item, Limits};
 use sdd_core::Refused;
 use sdd_store::{Tally, Time};

@@ -1,6 +1,6 @@
 use Rattle.std.proofs.Common.{vec_len}
 use Rattle.sdd_base.specs.Holding.{ValuesAreOf}
-use Rattle.sdd_world.proofs.core.discard_all.Given as goal
+use Rattle.sdd_world.proofs.inside.discard_all.Given as goal
 
 -- what is left holds nothing of elsewhere
 abbrev pub invariant-loop-value : goal.invariant-loop-value

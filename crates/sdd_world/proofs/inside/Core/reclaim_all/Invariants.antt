@@ -2,7 +2,7 @@ use Rattle.std.proofs.Common.{◌≡◌, ◌+◌, ◌<◌, ◌≤◌, length, dr
 use Rattle.sdd_store.specs.Waiting.What.{Item}
 use Rattle.sdd_base.specs.World.{weight, KeepsSizes}
 use Rattle.sdd_base.specs.Steps.{all_reclaimed}
-use Rattle.sdd_world.proofs.core.Core.reclaim_all.Given as goal
+use Rattle.sdd_world.proofs.inside.Core.reclaim_all.Given as goal
 
 -- to reclaim what is left is to reclaim all, and there is room for it
 abbrev pub invariant-loop-slot : goal.invariant-loop-slot
