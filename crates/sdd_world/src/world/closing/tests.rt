@@ -1,9 +1,5 @@
-ghost use Rattle.std.specs.Prelude.{map, option_to_list};
-ghost use Rattle.sdd_base.specs.Owned.{holding_of};
-
 use super::World;
-use crate::world::Place;
-use sdd_base::{Giver, Guard, Item, Limits, Owned};
+use sdd_base::{Guard, Item, Limits, Owned};
 use sdd_core::Refused;
 use sdd_store::Tally;
 use std::process::Abort;
