@@ -33,19 +33,6 @@ IsValid d p (call.Look i g) = IsPlace d p × IsGuardOf d p g.0 × CanPointTo d p
 IsValid d p (call.Retire o) = IsPlace d p × IsSome (slice_index_or d.owners o.0 None)
 IsValid d p (call.Close g) = IsPlace d p × IsGuardOf d p g.0
 
--- the action is one under a guard
-abbrev pub NeedsGuard : Action → Type 0
-NeedsGuard call.Open = ⊥
-NeedsGuard (call.Epoch g) = Unit {0}
-NeedsGuard (call.Garbage g) = Unit {0}
-NeedsGuard (call.Set g) = Unit {0}
-NeedsGuard (call.Accelerate g) = Unit {0}
-NeedsGuard (call.Owned n) = ⊥
-NeedsGuard (call.Read o) = ⊥
-NeedsGuard (call.Look i g) = Unit {0}
-NeedsGuard (call.Retire o) = ⊥
-NeedsGuard (call.Close g) = Unit {0}
-
 -- the names of the items that an opening of p reclaims, in ascending order
 pub record AreReclaimed (d : Desk) (p : ℕ) (names : List ItemName) : Type 0 where
   pub ascending : IsStrictlyIncreasing (map (λ (i : ItemName). i.0) names)

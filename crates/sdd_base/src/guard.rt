@@ -11,7 +11,7 @@ use crate::item::Item;
 use crate::space::Space;
 use sdd_core::{Epoch, Refused};
 
-/// An open guard: what is retired while it is open isn't reclaimed before it is closed.
+/// An open guard: its participant has published a count, and a scan gives up while this count is behind.
 ///
 /// It must be spent by `close`. Guards of one participant nest.
 pub struct Guard {
