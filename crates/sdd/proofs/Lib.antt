@@ -11,3 +11,5 @@ pub mod SoundOpened
 pub mod Known
 pub mod KnownOpened
 pub mod Due
+pub mod Tied
+pub mod Worlds

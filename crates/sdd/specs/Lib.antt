@@ -3,3 +3,6 @@ pub mod Desk
 pub mod Script
 pub mod Start
 pub mod Due
+pub mod Opened
+pub mod Sound
+pub mod Stage

@@ -105,6 +105,13 @@ impl<N> Names<N> {
         }
     }
 
+    /// These names.
+    pub fn of(items: Vec<N>) -> Names<N>
+        ensures { result ≡ items.items }
+    {
+        Names { items }
+    }
+
     /// Adds a name at the end. An `Err` changes nothing.
     pub fn push(&mut self, name: N) -> Result<(), AllocError>
     where
