@@ -7,6 +7,7 @@ use Rattle.sdd_store.specs.Time.{Time, nobody}
 use Rattle.sdd_store.specs.declared.time.Participant.{Participant}
 use Rattle.sdd_store.specs.declared.standing.Cell.{Cell}
 use Rattle.sdd_base.specs.Steps.{held_in}
+use Rattle.sdd_base.specs.declared.limits.Limits.{Limits}
 use Rattle.sdd_lines.specs.declared.name.ItemName.{ItemName}
 use Rattle.sdd_lines.specs.declared.call.Call.{Call}
 use Rattle.sdd_lines.specs.declared.answer.Answer.{Answer}
@@ -30,26 +31,26 @@ none-at zero c = refl
 none-at (suc n) zero = refl
 none-at (suc n) (suc c) = none-at n c
 
-no-places : (d : Desk) → IsStart d → d.world.time.places ≡ []
-no-places d s = ap (λ (t : Time). t.places) s.world.1.time
+no-places : (l : Limits) (d : Desk) → IsStart l d → d.world.time.places ≡ []
+no-places l d s = ap (λ (t : Time). t.places) s.world.time
 
 -- a desk before its first line
-Sound-start : (d : Desk) → IsStart d → Sound d
-Sound-start d s =
-    let none = λ (q : ℕ) (x : Waiting) (h : Among (waiting d q) x). subst (λ (ps : List Participant). Among (slice_index_or ps q nobody).bags.waiting x) (no-places d s) h in
+pub Sound-start : (l : Limits) (d : Desk) → IsStart l d → Sound d
+Sound-start l d s =
+    let none = λ (q : ℕ) (x : Waiting) (h : Among (waiting d q) x). subst (λ (ps : List Participant). Among (slice_index_or ps q nobody).bags.waiting x) (no-places l d s) h in
     let unowned = λ (o i : ℕ) (h : IsOwnerOf d i o). let z : slice_index_or {A = Option ℕ} [] o None ≡ Some i = subst (λ (os : List (Option ℕ)). slice_index_or os o None ≡ Some i) s.owners h in z in
     record {
       retired = λ q x h. absurd (none q x h);
       once = λ q r k a b h1 h2. absurd (none q _ h1);
       owned = λ o i h. absurd (let z : None ≡ Some i = unowned o i h in cc);
       apart = λ o r i j h1 h2 e. absurd (let z : None ≡ Some i = unowned o i h1 in cc);
-      empty = λ c. ap held_in (ap (λ (cs : List (Option Cell)). slice_index_or cs c None) s.world.1.cells ∙ none-at s.world.0.cells c);
+      empty = λ c. ap held_in (ap (λ (cs : List (Option Cell)). slice_index_or cs c None) s.world.cells ∙ none-at l.cells c);
     }
 
-Knows-start : (d : Desk) → IsStart d → Knows [] d
-Knows-start d s = record {
-  guards = λ q. ap (λ (ps : List Participant). (slice_index_or ps q nobody).guards) (sym (no-places d s));
-  found = λ q. ap (λ (ps : List Participant). (slice_index_or ps q nobody).found) (sym (no-places d s));
+Knows-start : (l : Limits) (d : Desk) → IsStart l d → Knows [] d
+Knows-start l d s = record {
+  guards = λ q. ap (λ (ps : List Participant). (slice_index_or ps q nobody).guards) (sym (no-places l d s));
+  found = λ q. ap (λ (ps : List Participant). (slice_index_or ps q nobody).found) (sym (no-places l d s));
   owners = λ o i h. absurd (let z : None ≡ Some i = subst (λ (os : List (Option ℕ)). slice_index_or os o None ≡ Some i) s.owners h in cc);
   fates = λ i w. subst (λ (xs : List ItemState). Waits (slice_index_or xs i nothing).fate) s.items w;
 }
@@ -120,8 +121,8 @@ all_due-from past (line ∷ lines) old new s k t =
     (g.due, all_due-from (line ∷ past) lines t.1.0 new g.sound g.knows t.1.2)
 
 -- each line names as reclaimed exactly the items that are due in it
-pub all_due : (start : Desk) (lines : List Line) (new : Desk) → IsStart start → Trace start lines new → AllDue [] lines
-all_due start lines new s t = all_due-from [] lines start new (Sound-start start s) (Knows-start start s) t
+pub all_due : (l : Limits) (start : Desk) (lines : List Line) (new : Desk) → IsStart l start → Trace start lines new → AllDue [] lines
+all_due l start lines new s t = all_due-from [] lines start new (Sound-start l start s) (Knows-start l start s) t
 
 -- the lines of a trace are calls that run
 pub trace_runs : (start : Desk) (lines : List Line) (new : Desk) → Trace start lines new → Runs start (map (λ (line : Line). line.call) lines) (map (λ (line : Line). line.answer) lines) new
@@ -140,7 +141,7 @@ runs_trace start (call ∷ calls) (answer ∷ answers) new r =
     (line ∷ rest.0, ap (λ (cs : List Call). call ∷ cs) rest.1, ap (λ (given : List Answer). answer ∷ given) rest.2, (refl, (r.0, r.1, rest.3)))
 
 -- what the answers of a script name as reclaimed is what is due
-pub names_what_is_due : (start : Desk) (calls : List Call) (answers : List Answer) (new : Desk) → IsStart start → Runs start calls answers new → NamesWhatIsDue start calls answers new
-names_what_is_due start calls answers new s r =
+pub names_what_is_due : (l : Limits) (start : Desk) (calls : List Call) (answers : List Answer) (new : Desk) → IsStart l start → Runs start calls answers new → NamesWhatIsDue start calls answers new
+names_what_is_due l start calls answers new s r =
     let t = runs_trace start calls answers new r in
-    (t.0, t.1, t.2, t.3, all_due start t.0 new s t.3)
+    (t.0, t.1, t.2, t.3, all_due l start t.0 new s t.3)

@@ -1,4 +1,11 @@
 //! Runs of scripts.
+ghost use Rattle.std.specs.Prelude.{◌≡◌, ◌⊎◌, MatchResult, OnOk};
+ghost use Rattle.sdd_base.specs.Limits.{AreInRange};
+ghost use Rattle.sdd.specs.Desk.{Desk};
+ghost use Rattle.sdd.specs.Script.{Runs};
+ghost use Rattle.sdd.specs.Start.{IsStart};
+ghost use Rattle.sdd.specs.Due.{NamesWhatIsDue};
+
 use crate::script::scene::Scene;
 use crate::script::stage::Stage;
 use sdd_base::Limits;
@@ -6,10 +13,26 @@ use sdd_core::Refused;
 use sdd_lines::{Answer, Call};
 use std::alloc::Global;
 
-/// Runs calls on a new world, one after another.
-pub fn run(alloc: Global, limits: Limits, calls: &[Call]) -> Result<(Vec<Answer>, Scene), Refused> {
-    let mut answers = Vec::with_capacity(alloc, calls.len())?;
+/// Runs calls on a new world, one after another, and answers each.
+///
+/// `BadLimits` where a limit is out of its range. `NoMemory` where memory was refused, for the world, for the answers
+/// or for a call: then nothing is left of the run.
+pub fn run(alloc: Global, limits: Limits, calls: &[Call]) -> Result<(Vec<Answer>, Scene), Refused>
+    ensures runs { OnOk result (λ done. (start : Desk) × IsStart limits start × Runs start calls.now done.0.items done.1) }
+
+    // An answer names as reclaimed exactly the items that are due at its call, counted over the calls.
+    ensures due { OnOk result (λ done. (start : Desk) × IsStart limits start × NamesWhatIsDue start calls.now done.0.items done.1) }
+    ensures limits { MatchResult result (λ _. AreInRange limits)
+        (λ refused. ((refused ≡ Refused.BadLimits) × ¬ (AreInRange limits)) ⊎ ((refused ≡ Refused.NoMemory) × AreInRange limits)) }
+{
     let mut stage = Stage::new(alloc, limits, calls.len())?;
+    let mut answers = match Vec::with_capacity(alloc, calls.len()) {
+        Ok(answers) => answers,
+        Err(_) => {
+            stage.dismantle();
+            return Err(Refused::NoMemory);
+        }
+    };
     for call in calls {
         match stage.step(call) {
             Ok(answer) => answers.push_reserved(answer),
