@@ -6,10 +6,11 @@ use Rattle.sdd_store.specs.Waiting.{What, Waiting, having_seen}
 use Rattle.sdd_store.specs.Waiting.What.{Item}
 use Rattle.sdd_store.specs.Time as time
 use Rattle.sdd_store.specs.declared.time.Participant.{Participant}
+use Rattle.sdd_base.specs.Steps.{reclaims}
 use Rattle.sdd_base.specs.World.{place_at}
 use Rattle.sdd_lines.specs.declared.name.ItemName.{ItemName}
 use Rattle.sdd.specs.declared.script.item.Fate.{Fate as DeskFate}
-use Rattle.sdd.specs.Desk.{Desk, item_at, IsPlace, Waits, IsReclaimedAt, reclaims}
+use Rattle.sdd.specs.Desk.{Desk, item_at, IsPlace, Waits, IsReclaimedAt}
 use Rattle.sdd.specs.Script.{AreReclaimed, with_guard}
 use Rattle.sdd.specs.Due.{Line, Event, event, open_guards, is_outermost, last_found, is_change, Fate, changed, fate, IsDue, IsDueAt}
 use Rattle.sdd.specs.Due.Event.{Opened}

@@ -7,10 +7,10 @@ use Rattle.sdd_store.specs.Time.{Time, nobody}
 use Rattle.sdd_store.specs.declared.time.Participant.{Participant}
 use Rattle.sdd_store.specs.declared.standing.Standing.TheVariants.{Owned}
 use Rattle.sdd_base.specs.World.{World, place_at, standing_at}
-use Rattle.sdd_base.specs.Steps.{nested, rotated, settled, all_reclaimed, changed, opened}
+use Rattle.sdd_base.specs.Steps.{nested, rotated, settled, all_reclaimed, changed, opened, reclaims}
 use Rattle.sdd.specs.declared.script.val.Val.{Val}
 use Rattle.sdd.specs.Val.{holdings_of}
-use Rattle.sdd.specs.Desk.{reclaims}
+
 use Rattle.sdd.proofs.Entry.{at-same, at-other}
 use Rattle.sdd.proofs.Reclaiming.{HoldNothing, Names, Frees, Frees-all}
 

@@ -1,9 +1,8 @@
 -- A script's world, and what its names stand for
-use Rattle.std.specs.Prelude.{ℕ, ◌+◌, ◌<◌, ◌≤◌, ◌≡◌, List, [], ◌∷◌, ◌++◌, Option, None, Some, length, slice_index_or, slice_set, Contains, if◌then◌else◌, ◌↔◌}
-use Rattle.sdd_store.specs.Waiting.{What}
+use Rattle.std.specs.Prelude.{ℕ, ◌+◌, ◌<◌, ◌≤◌, ◌≡◌, List, [], ◌∷◌, ◌++◌, Option, None, Some, length, slice_index_or, slice_set, Contains, ◌↔◌}
 use Rattle.sdd_store.specs.Waiting.What.{Item}
-use Rattle.sdd_store.specs.Time as time
-use Rattle.sdd_base.specs.World.{World, place_at}
+use Rattle.sdd_base.specs.World.{World}
+use Rattle.sdd_base.specs.Steps.{reclaims}
 use Rattle.sdd_lines.specs.declared.name.ItemName.{ItemName}
 use Rattle.sdd.specs.declared.script.item.Fate.{Fate}
 use Rattle.sdd.specs.declared.script.item.Fate.TheVariants.{Out, Retired, Gone}
@@ -56,11 +55,6 @@ abbrev pub Waits : Fate → Type 0
 Waits Out = ⊥
 Waits (Retired at) = Unit {0}
 Waits Gone = ⊥
-
--- what an opening of p reclaims
-abbrev pub reclaims : World Val → ℕ → List What
-reclaims w p =
-    if time.is_open (place_at w p) then [] else (if time.finds_another w.time p then time.due_next (place_at w p) else [])
 
 -- the item is reclaimed at an opening of p
 abbrev pub IsReclaimedAt : Desk → ℕ → ℕ → Type 0
