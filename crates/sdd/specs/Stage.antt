@@ -5,8 +5,6 @@ use Rattle.sdd_token.specs.Units as token
 use Rattle.sdd_base.specs.Owned.{slot_of, slots_home}
 use Rattle.sdd_world.specs.Place.{index_of}
 use Rattle.sdd_world.specs.declared.world.Place.{Place}
-use Rattle.sdd_lines.specs.declared.call.Action.{Action}
-use Rattle.sdd_lines.specs.declared.call.Action.TheVariants as call
 use Rattle.sdd.specs.Desk.{Desk, nothing}
 use Rattle.sdd.specs.Opened.{guard_place}
 use Rattle.sdd.specs.Sound.{IsThere}
@@ -79,16 +77,3 @@ pub record IsTied (made : ℕ) (s : Stage) : Type 0 where
   pub names : AreNamed s.items.items s.names.items
   pub slots : vec_len s.names ≡ length s.world.standings
   pub room : HasRoom made s
-
--- the action is one under a guard
-abbrev pub NeedsGuard : Action → Type 0
-NeedsGuard call.Open = ⊥
-NeedsGuard (call.Epoch g) = Unit {0}
-NeedsGuard (call.Garbage g) = Unit {0}
-NeedsGuard (call.Set g) = Unit {0}
-NeedsGuard (call.Accelerate g) = Unit {0}
-NeedsGuard (call.Owned n) = ⊥
-NeedsGuard (call.Read o) = ⊥
-NeedsGuard (call.Look i g) = Unit {0}
-NeedsGuard (call.Retire o) = ⊥
-NeedsGuard (call.Close g) = Unit {0}
