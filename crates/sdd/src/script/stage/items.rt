@@ -1,5 +1,7 @@
 //! What participants do with items and their owners.
-ghost use Rattle.std.specs.Prelude.{◌≡◌, ◌≢◌, ℕ, ◌+◌, ◌<◌, [], IfOk, IsSome, None, Some, MatchOption, MatchResult, length, slice_index_or, option_copied};
+ghost use Rattle.std.specs.Prelude.{◌≡◌, ◌≢◌, ℕ, ◌+◌, ◌<◌, [], IfOk, IsSome, None, Some, MatchOption, MatchResult, length, slice_index_or, slice_set, option_copied, vec_capacity};
+ghost use Rattle.sdd_base.specs.Steps.{retired};
+ghost use Rattle.sdd.specs.Desk.{with_fate};
 ghost use Rattle.sdd_base.specs.World.{IsPlaceOf, standing_at, value_at};
 ghost use Rattle.sdd_base.specs.Owned.{slot_of, slots_home};
 ghost use Rattle.sdd.specs.declared.script.val.Val.{Val};
@@ -77,7 +79,6 @@ impl Stage {
         Reply::Value(held.owner.get(&self.world).body())
     }
 
-    #[tactic(auto, using(crate::proofs::Tied::map_set))]
     pub fn retire(&mut self, place: usize, name: OwnerName) -> Reply
         requires tied { IsTied self.old.moment self.old }
         requires sound { IsSound (desk_of self.old) }
@@ -87,16 +88,11 @@ impl Stage {
         ensures limits { KeepsLimits self.old self.new }
         ensures does { Meets (desk_of self.old) (Call.At (record { 0 = place }) (Action.Retire name)) result [] (desk_of self.new) }
     {
-        if held_by(self.owners.as_slice(), name).is_none() {
-            return Reply::Invalid;
-        }
-        let Some(held) = self.owners[name.0 as usize].take() else {
+        let Some(Held { owner, item }) = take_held(&mut self.owners, name) else {
             return Reply::Invalid;
         };
-        let Held { owner, item } = held;
-        self.items[item as usize].fate = Fate::Retired(self.moment);
-        let mut turn = self.world.at(&self.places[place]);
-        owner.retire(&mut turn);
+        retire_item(&mut self.world, &self.places[place], owner);
+        set_fate(&mut self.items, item, Fate::Retired(self.moment));
         Reply::Done
     }
 
@@ -171,4 +167,33 @@ fn held_by(owners: &[Option<Held>], name: OwnerName) -> Option<&Held>
 {
     let index = usize::try_from(name.0).ok()?;
     owners.get(index)?.as_ref()
+}
+
+/// The owner of this name, if it isn't spent. Now it is.
+fn take_held(owners: &mut Vec<Option<Held>>, name: OwnerName) -> Option<Held>
+    ensures held { result ≡ slice_index_or owners.old.items name.0 None }
+    ensures spent { owners.new.items ≡ slice_set owners.old.items name.0 None }
+    ensures room { vec_capacity owners.new ≡ vec_capacity owners.old }
+{
+    let index = usize::try_from(name.0).ok()?;
+    owners.get_mut(index)?.take()
+}
+
+/// The owner retires its item, which waits with the participant.
+fn retire_item(world: &mut World<Val>, place: &Place, owner: Owned<Val>)
+    requires place { IsPlaceOf world.old (index_of place.now) }
+    requires home { slots_home owner ≡ world.old.home.slots }
+    ensures { world.new ≡ retired world.old (index_of place.now) (slot_of owner) }
+{
+    let mut turn = world.at(place);
+    owner.retire(&mut turn);
+}
+
+/// What has become of an item.
+pub fn set_fate(items: &mut Vec<ItemState>, item: u64, fate: Fate)
+    requires inside { item < length items.old.items }
+    ensures items { items.new.items ≡ with_fate items.old.items item fate }
+    ensures room { vec_capacity items.new ≡ vec_capacity items.old }
+{
+    items[item as usize].fate = fate;
 }
