@@ -39,5 +39,5 @@ returns-clause-does c =
     let inside : c.args.place < length s.places.items = (let a = c.requires.tied.taken in let b = c.requires.place in omega (arith, a, b)) in
     let index : index_of c.index.result.now ≡ c.args.place = ap index_of c.index.ensures ∙ c.requires.tied.places c.args.place c.index.result.now inside in
     let retires : c.retire_item.new.world ≡ retired s.world c.args.place (slot_of held.owner) =
-    c.retire_item.ensures ∙ ap (λ (p : ℕ). retired s.world p (slot_of c.in-Some.owner)) index ∙ ap (λ (o : Owned Val). retired s.world c.args.place (slot_of o)) (sym c.in-Some.owner-is) in
+    c.retire_item.ensures ∙ ap (λ (p : ℕ). retired s.world p (slot_of held.owner)) index in
     meets-retired (desk_of s) c.retire_item.new.world c.args.place c.args.name.0 held.item (slot_of held.owner) (map held_item c.take_held.new.owners.items) c.set_fate.new.items.items c.requires.place owner owns.slot_is retires (ap (λ (os : List (Option Held)). map held_item os) c.take_held.ensures.spent ∙ map-set held_item s.owners.items c.args.name.0 None) c.set_fate.ensures.items
