@@ -14,3 +14,4 @@ pub mod Due
 pub mod Tied
 pub mod Worlds
 pub mod Acts
+pub mod Naming

@@ -5,6 +5,7 @@ use Rattle.sdd_token.specs.Units as token
 use Rattle.sdd_base.specs.Owned.{slot_of, slots_home}
 use Rattle.sdd_world.specs.Place.{index_of}
 use Rattle.sdd_world.specs.declared.world.Place.{Place}
+use Rattle.sdd_lines.specs.declared.name.ItemName.{ItemName}
 use Rattle.sdd.specs.Desk.{Desk, nothing}
 use Rattle.sdd.specs.Opened.{guard_place}
 use Rattle.sdd.specs.Sound.{IsThere}
@@ -45,6 +46,10 @@ OwnsItem home items (Some held) = IsOwnerOfItem home items held
 
 abbrev pub AreOwners : token.Home → List ItemState → List (Option Held) → Type 0
 AreOwners home items owners = (o : ℕ) → OwnsItem home items (slice_index_or owners o None)
+
+-- the name at a slot
+abbrev pub name_at : List ℕ → ℕ → ItemName
+name_at names slot = record { 0 = slice_index names slot }
 
 -- each item that is there has its name at its slot
 abbrev pub AreNamed : List ItemState → List ℕ → Type 0

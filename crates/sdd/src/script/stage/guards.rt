@@ -1,7 +1,8 @@
 //! What participants do with guards.
-ghost use Rattle.std.specs.Prelude.{◌≡◌, ℕ, ◌+◌, ◌<◌, ◌↔◌, [], IfOk, IfSome, IsSome, None, Some, length, map, slice_index_or};
+ghost use Rattle.std.specs.Prelude.{All, ◌≡◌, ℕ, ◌+◌, ◌<◌, ◌↔◌, [], IfOk, IfSome, IsSome, None, Some, length, map, slice_index_or};
 ghost use Rattle.sdd_base.specs.Guard.{place_of};
 ghost use Rattle.sdd.specs.Opened.{guard_place};
+ghost use Rattle.sdd.specs.Stage.{name_at};
 
 use super::Stage;
 use crate::script::item::Fate;
@@ -9,7 +10,7 @@ use sdd_base::Guard;
 use sdd_base::inner::place_of_guard;
 use sdd_lines::{Action, Answer, Call, GuardName, ItemName, Names, Reply};
 use sdd_world::inner::{is_open, reclaims_next};
-use std::alloc::AllocError;
+use std::alloc::{AllocError, Global};
 
 impl Stage {
     ghost use Rattle.sdd.specs.Script.{Meets, AreReclaimed};
@@ -60,10 +61,7 @@ impl Stage {
         ensures { IfOk result (AreReclaimed (desk_of self.now) place) }
     {
         let slots = reclaims_next(&self.world, &self.places[place]);
-        let mut names = Vec::with_capacity(self.alloc, slots.len())?;
-        for slot in slots {
-            names.push_reserved(ItemName(self.names[*slot as usize]));
-        }
+        let mut names = names_of(self.alloc, slots, self.names.as_slice())?;
         names.sort_unstable();
         Ok(Names::of(names))
     }
@@ -168,4 +166,16 @@ pub fn open_guard(guards: &[Option<Guard>], place: usize, name: GuardName) -> Op
     } else {
         None
     }
+}
+
+/// The names of the items that these slots had last.
+fn names_of(alloc: Global, slots: &[u32], names: &[u64]) -> Result<Vec<ItemName>, AllocError>
+    requires inside { All (λ slot. slot < length names.now) slots.now }
+    ensures { IfOk result (λ found. found.items ≡ map (name_at names.now) slots.now) }
+{
+    let mut found = Vec::with_capacity(alloc, slots.len())?;
+    for slot in slots {
+        found.push_reserved(ItemName(names[*slot as usize]));
+    }
+    Ok(found)
 }
