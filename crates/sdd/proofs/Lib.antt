@@ -15,3 +15,4 @@ pub mod Tied
 pub mod Worlds
 pub mod Acts
 pub mod Naming
+pub mod Sizes
