@@ -112,13 +112,27 @@ impl Stage {
         ensures limits { OnOk result (self.new.calls ≡ self.old.calls) }
         ensures step { MatchResult result (λ answer. Step (desk_of self.old) call.now answer (desk_of self.new)) (λ refused. refused ≡ Refused.NoMemory) }
     {
-        let answer = match call {
-            Call::Register => self.register()?,
-            Call::Tally => self.answer(Reply::Tally(self.world.tally())),
-            Call::At(place, action) => self.act(place.0, action)?,
-        };
+        let answer = self.answer_to(call)?;
         self.moment += 1;
         Ok(answer)
+    }
+
+    /// What a call answers, at the same moment.
+    fn answer_to(&mut self, call: &Call) -> Result<Answer, Refused>
+        requires tied { IsTied self.old.moment self.old }
+        requires sound { IsSound (desk_of self.old) }
+        requires more { self.old.moment < self.old.calls }
+        ensures tied { OnOk result (IsTied (self.old.moment + 1) self.new) }
+        ensures limits { OnOk result (KeepsLimits self.old self.new) }
+        ensures meets { MatchResult result
+            (λ answer. (answer.ran ≡ []) × Meets (desk_of self.old) call.now answer.reply answer.reclaimed (desk_of self.new))
+            (λ refused. refused ≡ Refused.NoMemory) }
+    {
+        match call {
+            Call::Register => self.register(),
+            Call::Tally => Ok(self.answer(Reply::Tally(self.world.tally()))),
+            Call::At(place, action) => Ok(self.act(place.0, action)?),
+        }
     }
 
     /// An answer without endings.
