@@ -11,13 +11,15 @@ use Rattle.sdd_base.specs.declared.limits.Limits.{Limits}
 use Rattle.sdd_lines.specs.declared.name.ItemName.{ItemName}
 use Rattle.sdd_lines.specs.declared.call.Call.{Call}
 use Rattle.sdd_lines.specs.declared.answer.Answer.{Answer}
+use Rattle.sdd.specs.declared.script.item.Fate.TheVariants.{Out, Gone}
 use Rattle.sdd.specs.declared.script.item.ItemState.{ItemState}
 use Rattle.sdd.specs.Desk.{Desk, nothing, IsOwnerOf, Waits}
 use Rattle.sdd.specs.Script.{Step, Runs}
 use Rattle.sdd.specs.Start.{IsStart}
 use Rattle.sdd.specs.Due.{Line, Event, event, Trace, AllDue, IsDue, IsDueAt, NamesWhatIsDue}
 use Rattle.sdd.specs.Due.Event.{Opened, Closed, Made, Retired, Other}
-use Rattle.sdd.proofs.Among.{Among}
+use Rattle.sdd.proofs.Among.{Among, AreApart}
+use Rattle.sdd.proofs.Ages.{whats}
 use Rattle.sdd.proofs.Happening.{Happens, happens}
 use Rattle.sdd.proofs.Closing.{Closes-closed}
 use Rattle.sdd.proofs.Sound.{Sound, Sound-later, Sound-still, Sound-made, Sound-retired, waiting}
@@ -42,12 +44,14 @@ Sound-start l d s =
     record {
       retired = λ q x h. absurd (none q x h);
       once = λ q r k a b h1 h2. absurd (none q _ h1);
+      distinct = λ q. subst (λ (ps : List Participant). AreApart (whats (slice_index_or ps q nobody).bags.waiting)) (sym (no-places l d s)) tt;
       owned = λ o i h. absurd (let z : None ≡ Some i = unowned o i h in cc);
       apart = λ o r i j h1 h2 e. absurd (let z : None ≡ Some i = unowned o i h1 in cc);
+      kept = λ i out. absurd (let z : Gone ≡ Out = ap (λ (xs : List ItemState). (slice_index_or xs i nothing).fate) (sym s.items) ∙ out in cc);
       empty = λ c. ap held_in (ap (λ (cs : List (Option Cell)). slice_index_or cs c None) s.world.cells ∙ none-at l.cells c);
     }
 
-Knows-start : (l : Limits) (d : Desk) → IsStart l d → Knows [] d
+pub Knows-start : (l : Limits) (d : Desk) → IsStart l d → Knows [] d
 Knows-start l d s = record {
   guards = λ q. ap (λ (ps : List Participant). (slice_index_or ps q nobody).guards) (sym (no-places l d s));
   found = λ q. ap (λ (ps : List Participant). (slice_index_or ps q nobody).found) (sym (no-places l d s));
@@ -56,10 +60,10 @@ Knows-start l d s = record {
 }
 
 -- what a line leaves true, and what is due in it
-record Follows (line : Line) (past : List Line) (names : List ItemName) (new : Desk) : Type 0 where
-  sound : Sound new
-  knows : Knows (line ∷ past) new
-  due : (i : ItemName) → Contains names i ↔ IsDue i.0 line past
+pub record Follows (line : Line) (past : List Line) (names : List ItemName) (new : Desk) : Type 0 where
+  pub sound : Sound new
+  pub knows : Knows (line ∷ past) new
+  pub due : (i : ItemName) → Contains names i ↔ IsDue i.0 line past
 
 -- where nothing is reclaimed, nothing is due
 none-due : (line : Line) (past : List Line) (names : List ItemName) (e : Event) → event line ≡ e → names ≡ [] → ((i : ItemName) → IsDueAt i.0 e line past → ⊥) → (i : ItemName) → Contains names i ↔ IsDue i.0 line past
@@ -73,7 +77,7 @@ goes : (line : Line) (past : List Line) (names : List ItemName) (old new : Desk)
 goes line past names old new (Opened p) is count s k h =
     rw h.2
     record {
-      sound = Sound-opened old p names h.0 s;
+      sound = Sound-opened old p names h.0 h.1 s;
       knows = Knows-opened line past old p is count k names h.0 s h.1;
       due = due-opened line past old p is count k names h.0 s h.1;
     }
@@ -108,7 +112,7 @@ goes line past names old new Other is count s k h = record {
 }
 
 -- a step of the trace
-stepped : (line : Line) (past : List Line) (old mid : Desk) → line.count ≡ old.world.time.count → Sound old → Knows past old → Step old line.call line.answer mid → Follows line past line.answer.reclaimed mid
+pub stepped : (line : Line) (past : List Line) (old mid : Desk) → line.count ≡ old.world.time.count → Sound old → Knows past old → Step old line.call line.answer mid → Follows line past line.answer.reclaimed mid
 stepped line past old mid count s k step =
     let g = goes line past line.answer.reclaimed old step.after (event line) refl count s k (happens old line.call line.answer.reply line.answer.reclaimed step.after step.meets) in
     rw step.moment

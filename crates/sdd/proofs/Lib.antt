@@ -11,5 +11,6 @@ pub mod SoundOpened
 pub mod Known
 pub mod KnownOpened
 pub mod Due
+pub mod Reached
 pub mod Tied
 pub mod Worlds

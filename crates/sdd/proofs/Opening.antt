@@ -10,7 +10,6 @@ use Rattle.sdd_base.specs.World.{World, place_at, standing_at}
 use Rattle.sdd_base.specs.Steps.{nested, rotated, settled, all_reclaimed, changed, opened, reclaims}
 use Rattle.sdd.specs.declared.script.val.Val.{Val}
 use Rattle.sdd.specs.Val.{holdings_of}
-
 use Rattle.sdd.proofs.Entry.{at-same, at-other}
 use Rattle.sdd.proofs.Reclaiming.{HoldNothing, Names, Frees, Frees-all}
 
