@@ -83,17 +83,17 @@ goes line past names old new (Opened p) is count s k h =
     }
 goes line past names old new (Closed p) is count s k h =
     let c = Closes-closed old.world.time p h.0 in
-    rw h.2.1
+    rw h.2.2
     record {
-      sound = Sound-still old _ s (record { found = c.found; waiting = c.waiting; standings = refl; cells = refl; owners = refl; items = refl });
+      sound = Sound-still old _ s (record { found = c.found; waiting = c.waiting; standings = refl; cells = refl; owners = refl; items = refl; values = refl; tally = refl });
       knows = Knows-closed line past old p _ is h.0 k;
       due = none-due line past names (Closed p) is h.1 (λ i z. z);
     }
 goes line past names old new (Made o i) is count s k h =
     let t = h.3 in
-    rw t.4
+    rw t.6
     record {
-      sound = Sound-made old t.0 t.1 t.2 t.3 s;
+      sound = Sound-made old t.0 t.1 t.2 t.4 s;
       knows = Knows-made line past old o i t.0 t.1 t.2 is h.0 h.1 k;
       due = none-due line past names (Made o i) is h.2 (λ i z. z);
     }

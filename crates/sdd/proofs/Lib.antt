@@ -12,5 +12,7 @@ pub mod Known
 pub mod KnownOpened
 pub mod Due
 pub mod Reached
+pub mod Tidy
+pub mod Accounts
 pub mod Tied
 pub mod Worlds

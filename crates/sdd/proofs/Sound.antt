@@ -130,10 +130,10 @@ module _ (d : Desk) (c k : ℕ) (v : Val) (free : IsEmptyAt d.world.standings k)
   stands-made : (j : ℕ) (x : Standing) → standing_at d.world j ≡ Some x → standing_at (with_item d c k v).world j ≡ Some x
   stands-made j x h = at-other d.world.standings k j (Some Owned) None (taken-other d.world.standings j k x h free.1) ∙ h
 
-  item-made : (i : ℕ) → i < length d.items → item_at (with_item d c k v) i ≡ item_at d i
+  pub item-made : (i : ℕ) → i < length d.items → item_at (with_item d c k v) i ≡ item_at d i
   item-made i lt = at-pushed d.items (record { slot = k; fate = desk.Out }) nothing i (λ e. omega arith)
 
-  slot-made : (i : ℕ) → i ≡ length d.items → slot_of (with_item d c k v) i ≡ k
+  pub slot-made : (i : ℕ) → i ≡ length d.items → slot_of (with_item d c k v) i ≡ k
   slot-made i e =
       ap (λ (j : ℕ). slot_of (with_item d c k v) j) e ∙ ap (λ (x : ItemState). x.slot) (at-end d.items (record { slot = k; fate = desk.Out }) nothing)
 

@@ -5,4 +5,5 @@ pub mod Start
 pub mod Due
 pub mod Opened
 pub mod Sound
+pub mod Out
 pub mod Stage
