@@ -142,7 +142,7 @@ Accounts-quiet old new z a =
     }
 
 -- what waits stands as retired
-stands-waiting : (d : Desk) → Sound d → (q k s : ℕ) → Among (waiting d q) (having_seen k (Item s)) → standing_at d.world s ≡ Some Retired
+pub stands-waiting : (d : Desk) → Sound d → (q k s : ℕ) → Among (waiting d q) (having_seen k (Item s)) → standing_at d.world s ≡ Some Retired
 stands-waiting d sound q k s h =
     let r = sound.retired q (having_seen k (Item s)) h in
     let same : Item s ≡ Item r.slot = r.what in
@@ -170,13 +170,13 @@ waits-on old new p change o e q k s stood t h =
     ]
 
 -- a guard more or less
-abbrev one_if : ℕ → Option ℕ → ℕ
+abbrev pub one_if : ℕ → Option ℕ → ℕ
 one_if q g = cond (is_of q g) 1 0
 
-one_of : (q p : ℕ) → q ≡ p → one_if q (Some p) ≡ 1
+pub one_of : (q p : ℕ) → q ≡ p → one_if q (Some p) ≡ 1
 one_of q p e = ap (λ (b : Bool). cond b 1 0) (eq-eqb p q (sym e))
 
-none_of : (q p : ℕ) → q ≢ p → one_if q (Some p) ≡ 0
+pub none_of : (q p : ℕ) → q ≢ p → one_if q (Some p) ≡ 0
 none_of q p ne = ap (λ (b : Bool). cond b 1 0) (ne_eqb p q (λ e. ne (sym e)))
 
 opened-push : (guards : List (Option ℕ)) (p q n m : ℕ) → n ≡ count_by (is_of q) guards → (q ≡ p → m ≡ n + 1) → (q ≢ p → m ≡ n) → m ≡ count_by (is_of q) (guards ++ Some p ∷ [])

@@ -14,5 +14,7 @@ pub mod Due
 pub mod Reached
 pub mod Tidy
 pub mod Accounts
+pub mod Out
+pub mod Ending
 pub mod Tied
 pub mod Worlds

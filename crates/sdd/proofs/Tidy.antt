@@ -51,7 +51,7 @@ pub filled-at : (w : World Val) → IsTidy w → (k : ℕ) → is_some (value_at
 filled-at w d k =
     sym (get_or-map is_some w.values k None) ∙ ap (λ (bs : List Bool). slice_index_or bs k false) d.filled ∙ get_or-map is_some w.standings k None
 
-abbrev one_if_some : {E : Type 0} → Option E → ℕ
+abbrev pub one_if_some : {E : Type 0} → Option E → ℕ
 one_if_some x = cond (is_some x) 1 0
 
 -- a slot that is taken is free, with its value's cell
