@@ -1,11 +1,9 @@
 -- What is out of a script's world is what its names stand for
-use Rattle.std.proofs.Common.{◌≡◌, ◌≢◌, ◌⊎◌, ℕ, zero, suc, ◌+◌, ◌*◌, ◌-◌, ◌^◌, ◌<◌, ◌≤◌, ◌==◌, ◌&&◌, Bool, true, false, not, if◌then◌else◌, cond, List, [], ◌∷◌, ◌++◌, Option, Some, None, IsSome, is_some, option_map, map, length, count_by, slice_index_or, slice_set, inl, inr, refl, sym, ap, ◌∙◌, subst, eq-eqb, ne_eqb, arith}
-use Rattle.std.proofs.lemmas.Bool.{cases_eq, cases_lt, false≢true}
+use Rattle.std.proofs.Common.{◌≡◌, ◌≢◌, ◌⊎◌, ℕ, ◌+◌, ◌-◌, ◌^◌, ◌<◌, ◌≤◌, Bool, true, false, if◌then◌else◌, cond, List, [], ◌∷◌, ◌++◌, Option, Some, None, IsSome, is_some, length, count_by, slice_index_or, slice_set, inl, inr, refl, sym, ap, ◌∙◌, subst, eq-eqb, ne_eqb, arith}
+use Rattle.std.proofs.lemmas.Bool.{cases_eq}
 use Rattle.std.proofs.lemmas.List.{length-set, length-map}
 use Rattle.std.proofs.lemmas.List.Sums.{sum_by-set, sum_by_push}
-use Rattle.std.proofs.lemmas.List.Folds.{sum_by-replicate}
-use Rattle.std.proofs.Math.ListN.{replicate, get_or-map}
-use Rattle.sdd_store.specs.Waiting.{What, Waiting, having_seen, aged, due, left}
+use Rattle.sdd_store.specs.Waiting.{Waiting, having_seen}
 use Rattle.sdd_store.specs.Waiting.What.{Item}
 use Rattle.sdd_store.specs.Time as time
 use Rattle.sdd_store.specs.Time.{Time, nobody}
@@ -14,9 +12,8 @@ use Rattle.sdd_store.specs.declared.tally.Tally.{Tally}
 use Rattle.sdd_store.specs.declared.time.Participant.{Participant}
 use Rattle.sdd_store.specs.declared.standing.Standing.{Standing}
 use Rattle.sdd_store.specs.declared.standing.Standing.TheVariants.{Owned, Retired}
-use Rattle.sdd_store.specs.declared.standing.Cell.{Cell}
-use Rattle.sdd_base.specs.World.{World, place_at, standing_at, value_at}
-use Rattle.sdd_base.specs.Steps.{held_in, nested, rotated, settled, all_reclaimed, changed, opened, closed}
+use Rattle.sdd_base.specs.World.{World, place_at, standing_at}
+use Rattle.sdd_base.specs.Steps.{closed}
 use Rattle.sdd_base.specs.declared.limits.Limits.{Limits}
 use Rattle.sdd_lines.specs.declared.name.ItemName.{ItemName}
 use Rattle.sdd_lines.specs.declared.call.Call.{Call}
@@ -24,86 +21,25 @@ use Rattle.sdd_lines.specs.declared.answer.Answer.{Answer}
 use Rattle.sdd.specs.declared.script.item.Fate.TheVariants as desk
 use Rattle.sdd.specs.declared.script.item.ItemState.{ItemState}
 use Rattle.sdd.specs.declared.script.val.Val.{Val}
-use Rattle.sdd.specs.Val.{holdings_of, link_of}
-use Rattle.sdd.specs.Desk.{Desk, item_at, IsPlace, IsGuardOf, IsOwnerOf}
+use Rattle.sdd.specs.Val.{link_of}
+use Rattle.sdd.specs.Desk.{Desk, IsPlace, IsGuardOf, IsOwnerOf}
 use Rattle.sdd.specs.Script.{Step, Runs, with_guard, with_item, with_retired, later}
 use Rattle.sdd.specs.Start.{IsStart}
-use Rattle.sdd.specs.Out.{IsTidy, is_of, OnlyOut, slots_out}
+use Rattle.sdd.specs.Out.{IsTidy, is_of}
 use Rattle.sdd.specs.Due.{Line, Event, event_of, Trace}
 use Rattle.sdd.specs.Due.Event.{Opened, Closed, Made, Retired as WasRetired, Other}
-use Rattle.sdd.proofs.Among.{Among, among-contains}
-use Rattle.sdd.proofs.Ages.{among-due, among-left}
-use Rattle.sdd.proofs.Entry.{at-same, at-other, at-each, at-pushed, at-end}
+use Rattle.sdd.proofs.Among.{Among}
+use Rattle.sdd.proofs.Ages.{left-or-due}
+use Rattle.sdd.proofs.Entry.{at-other, at-each, at-pushed, at-end, not-free, none-at}
 use Rattle.sdd.proofs.Items.{with_fate-slot, all_gone-slot}
 use Rattle.sdd.proofs.Happening.{Quiet, Happens, happens}
 use Rattle.sdd.proofs.Opening.{Opens, Opens-opened, changes}
 use Rattle.sdd.proofs.Closing.{Closes-closed}
-use Rattle.sdd.proofs.Tidy.{Tidy-time, Tidy-made, Tidy-retired, Empties, Empties-all}
+use Rattle.sdd.proofs.Tidy.{Tidy-time, Tidy-made, Tidy-retired, Tidy-same, Tidy-start}
 use Rattle.sdd.proofs.Sound.{Sound, waiting, slot_of, some-inside, item-made, slot-made, owner-else, waits-still, waits-now}
 use Rattle.sdd.proofs.Known.{Knows}
 use Rattle.sdd.proofs.Due.{Sound-start, Knows-start, stepped, runs_trace}
-
--- a taken slot is not free
-pub not-free : {E : Type 0} (x : Option E) → IsSome x → x ≡ None → ⊥
-not-free x t e = false≢true (ap is_some (sym e) ∙ t)
-
--- where the world is as it was but for time
-pub Tidy-same : (old new : World Val) → new.standings ≡ old.standings → new.values ≡ old.values → new.cells ≡ old.cells → new.tally ≡ old.tally → IsTidy old → IsTidy new
-Tidy-same old new standings values cells tally d = record {
-  filled = ap (λ (vs : List (Option Val)). map is_some vs) values ∙ d.filled ∙ ap (λ (ss : Entries Standing). map is_some ss) (sym standings);
-  linked = λ c t.
-      let r = d.linked c (subst (λ (cs : Entries Cell). IsSome (entry_at cs c)) cells t) in
-      (r.0, r.1, ap (λ (vs : List (Option Val)). slice_index_or vs r.0 None) values ∙ r.2, r.3);
-  unlinked = λ c. ap (λ (cs : Entries Cell). held_in (entry_at cs c)) cells ∙ d.unlinked c;
-  counted =
-      (let made = ap (λ (t : Tally). t.made) tally in
-      let reclaimed = ap (λ (t : Tally). t.reclaimed) tally in
-      let count = ap (λ (ss : Entries Standing). count_by is_some ss) standings in
-      let was = d.counted in
-      omega (arith, made, reclaimed, count, was));
-  fits = (let made = ap (λ (t : Tally). t.made) tally in let was = d.fits in omega (arith, made, was));
-  nowhere_else = ap (λ (t : Tally). t.in_place) tally ∙ d.nowhere_else;
-}
-
--- what a change of p reclaims
-pub Empties-changed : (w : World Val) (p : ℕ) → IsTidy w → Empties w (changed holdings_of w p) (time.due_next (place_at w p))
-Empties-changed w p d =
-    let xs = time.due_next (place_at w p) in
-    let e = Empties-all (rotated w p) p xs (Tidy-time w (time.rotated_at w.time p) d) in
-    let mid = all_reclaimed holdings_of (rotated w p) p xs in
-    record { kept = e.kept; gone = e.gone; made = e.made; tidy = Tidy-time mid (time.settled_at mid.time p) e.tidy }
-
-Empties-nested : (w : World Val) (p : ℕ) → IsTidy w → Empties w (nested w p) []
-Empties-nested w p d = record { kept = λ s. inl refl; gone = λ s h r. absurd h; made = refl; tidy = Tidy-time w (time.nested_at w.time p) d }
-
-Empties-caught_up : (w : World Val) (p : ℕ) → p < length w.time.places → IsTidy w → Empties w (changed holdings_of (nested w p) p) (time.due_next (place_at w p))
-Empties-caught_up w p lt d =
-    let e = Empties-changed (nested w p) p (Tidy-time w (time.nested_at w.time p) d) in
-    let same : time.due_next (place_at (nested w p) p) ≡ time.due_next (place_at w p) =
-    ap time.due_next (at-same w.time.places p (time.nested (place_at w p)) nobody lt) in
-    record { kept = e.kept; gone = λ s h r. e.gone s (subst (λ (xs : List What). Among xs (Item s)) (sym same) h) r; made = e.made; tidy = e.tidy }
-
-Empties-by : (w : World Val) (p : ℕ) → p < length w.time.places → IsTidy w → (is_open finds : Bool) →
-    Empties w (if is_open then nested w p else (if finds then changed holdings_of (nested w p) p else nested w p)) (if not is_open && finds then time.due_next (place_at w p) else [])
-Empties-by w p lt d true finds = Empties-nested w p d
-Empties-by w p lt d false true = Empties-caught_up w p lt d
-Empties-by w p lt d false false = Empties-nested w p d
-
--- and an opening of p
-Empties-opened : (w : World Val) (p : ℕ) → p < length w.time.places → IsTidy w → Empties w (opened holdings_of w p) (if changes w.time p then time.due_next (place_at w p) else [])
-Empties-opened w p lt d =
-    let same : time.finds_another (nested w p).time p ≡ time.finds_another w.time p =
-    ap (λ (x : Participant). not (x.found == w.time.count)) (at-same w.time.places p (time.nested (place_at w p)) nobody lt) in
-    subst (λ b. Empties w (opened holdings_of w p) (if not (time.is_open (place_at w p)) && b then time.due_next (place_at w p) else [])) same
-    (Empties-by w p lt d (time.is_open (place_at w p)) (time.finds_another (nested w p).time p))
-
--- what waits goes on waiting at a change, or is due
-pub left-or-due : (ws : List Waiting) (k s : ℕ) → Among ws (having_seen k (Item s)) → ((j : ℕ) × Among (left (aged ws)) (having_seen j (Item s))) ⊎ Among (due (aged ws)) (Item s)
-left-or-due ws k s h =
-    elim (cases_lt k 2) [
-      | inl young ↦ inl (k + 1, among-left ws (Item s) k young h)
-      | inr old ↦ inr (among-due ws (Item s) k old h)
-    ]
+use Rattle.sdd.proofs.Emptying.{Empties, Empties-opened}
 
 -- the slot is that of an owner's item
 abbrev pub IsOwned : Desk → ℕ → Type 0
@@ -169,7 +105,7 @@ waits-on old new p change o e q k s stood t h =
       | inr ne ↦ (k, subst (λ (y : Participant). Among y.bags.waiting (having_seen k (Item s))) (sym (o.others q ne)) h)
     ]
 
--- a guard more or less
+-- one for a guard of q, none for another
 abbrev pub one_if : ℕ → Option ℕ → ℕ
 one_if q g = cond (is_of q g) 1 0
 
@@ -285,9 +221,9 @@ Accounts-retired d p o i place owner sound a =
                 elim (a.taken s (subst (λ (x : Option Standing). IsSome x) (at-other d.world.standings k s (Some Retired) None ne) t)) [
                   | inl was ↦
                       let other : was.0 ≢ o = λ e. (
-                        let z : Some was.1 ≡ Some i = sym was.2 ∙ ap (λ (n : ℕ). slice_index_or d.owners n None) e ∙ owner in
-                        let same : was.1 ≡ i = cc in
-                        ne (sym was.3 ∙ ap (λ (j : ℕ). slot_of d j) same)
+                      let z : Some was.1 ≡ Some i = sym was.2 ∙ ap (λ (n : ℕ). slice_index_or d.owners n None) e ∙ owner in
+                      let same : was.1 ≡ i = cc in
+                      ne (sym was.3 ∙ ap (λ (j : ℕ). slot_of d j) same)
                       ) in
                       inl (
                         was.0,
@@ -304,40 +240,13 @@ Accounts-retired d p o i place owner sound a =
           omega arith);
     }
 
--- no place of an empty table is taken
-nothing_taken : (E : Type 0) (n : ℕ) → map is_some (replicate {A = Option E} n None) ≡ replicate n false
-nothing_taken E zero = refl
-nothing_taken E (suc n) = ap (λ (bs : List Bool). false ∷ bs) (nothing_taken E n)
-
-none-there : (E : Type 0) (n k : ℕ) → slice_index_or (replicate {A = Option E} n None) k None ≡ None
-none-there E zero k = refl
-none-there E (suc n) zero = refl
-none-there E (suc n) (suc k) = none-there E n k
-
-none-counted : (E : Type 0) (n : ℕ) → count_by is_some (replicate {A = Option E} n None) ≡ 0
-none-counted E n = let z = sum_by-replicate (λ (x : Option E). cond (is_some x) 1 0) n None in omega (arith, z)
-
-Tidy-start : (l : Limits) (d : Desk) → IsStart l d → IsTidy d.world
-Tidy-start l d s =
-    let made = ap (λ (t : Tally). t.made) s.world.tally in
-    let reclaimed = ap (λ (t : Tally). t.reclaimed) s.world.tally in
-    let count = ap (λ (ss : Entries Standing). count_by is_some ss) s.world.standings ∙ none-counted Standing l.slots in
-    record {
-      filled = ap (λ (vs : List (Option Val)). map is_some vs) s.world.values ∙ nothing_taken Val l.slots ∙ sym (nothing_taken Standing l.slots) ∙ ap (λ (ss : Entries Standing). map is_some ss) (sym s.world.standings);
-      linked = λ c t. absurd (not-free (entry_at d.world.cells c) t (ap (λ (cs : Entries Cell). slice_index_or cs c None) s.world.cells ∙ none-there Cell l.cells c));
-      unlinked = λ c. ap held_in (ap (λ (cs : Entries Cell). slice_index_or cs c None) s.world.cells ∙ none-there Cell l.cells c);
-      counted = omega (arith, made, reclaimed, count);
-      fits = omega (arith, made);
-      nowhere_else = ap (λ (t : Tally). t.in_place) s.world.tally;
-    }
-
 Accounts-start : (l : Limits) (d : Desk) → IsStart l d → Accounts d
 Accounts-start l d s = record {
   tidy = Tidy-start l d s;
   opened = λ q.
       ap (λ (ps : List Participant). (slice_index_or ps q nobody).guards) (ap (λ (t : Time). t.places) s.world.time)
       ∙ ap (λ (gs : List (Option ℕ)). count_by (is_of q) gs) (sym s.guards);
-  taken = λ k t. absurd (not-free (standing_at d.world k) t (ap (λ (ss : Entries Standing). slice_index_or ss k None) s.world.standings ∙ none-there Standing l.slots k));
+  taken = λ k t. absurd (not-free (standing_at d.world k) t (ap (λ (ss : Entries Standing). slice_index_or ss k None) s.world.standings ∙ none-at Standing l.slots k));
   placed = λ o i h. (let z : None ≡ Some i = ap (λ (os : List (Option ℕ)). slice_index_or os o None) (sym s.owners) ∙ h in absurd (cc));
 }
 

@@ -2,6 +2,7 @@
 use Rattle.std.proofs.Common.{◌≡◌, ◌⊎◌, ℕ, ◌+◌, ◌<◌, ◌≤◌, true, false, List, [], ◌∷◌, ◌++◌, map, inl, inr, refl, sym, ap, nat_lt, lt-ltb, le-ltb, arith}
 use Rattle.std.proofs.lemmas.Bool.{cases_lt}
 use Rattle.sdd_store.specs.Waiting.{What, Waiting, having_seen, aged, due, left}
+use Rattle.sdd_store.specs.Waiting.What.{Item}
 use Rattle.sdd.proofs.Among.{Among, AreApart}
 
 due-old : (w : Waiting) (ws : List Waiting) → 2 ≤ w.seen → due (aged (w ∷ ws)) ≡ w.what ∷ due (aged ws)
@@ -111,4 +112,12 @@ apart-due (w ∷ ws) apart =
     elim (cases_lt w.seen 2) [
       | inl young ↦ rw (due-young w ws young) (apart-due ws apart.1)
       | inr old ↦ rw (due-old w ws old) ((λ h. apart.0 (due-whats ws w.what h)), apart-due ws apart.1)
+    ]
+
+-- what waits goes on waiting at a change, or is due
+pub left-or-due : (ws : List Waiting) (k s : ℕ) → Among ws (having_seen k (Item s)) → ((j : ℕ) × Among (left (aged ws)) (having_seen j (Item s))) ⊎ Among (due (aged ws)) (Item s)
+left-or-due ws k s h =
+    elim (cases_lt k 2) [
+      | inl young ↦ inl (k + 1, among-left ws (Item s) k young h)
+      | inr old ↦ inr (among-due ws (Item s) k old h)
     ]

@@ -1,7 +1,6 @@
 -- Each line of a script names as reclaimed exactly the items that are due in it
-use Rattle.std.proofs.Common.{◌≡◌, ℕ, zero, suc, ◌<◌, ◌↔◌, List, [], ◌∷◌, Option, Some, None, length, map, slice_index_or, refl, sym, ap, ◌∙◌, subst, arith}
+use Rattle.std.proofs.Common.{◌≡◌, ℕ, ◌<◌, ◌↔◌, List, [], ◌∷◌, Option, Some, None, length, map, slice_index_or, refl, sym, ap, ◌∙◌, subst, arith}
 use Rattle.std.specs.Prelude.{Contains}
-use Rattle.std.proofs.Math.ListN.{replicate}
 use Rattle.sdd_store.specs.Waiting.{Waiting}
 use Rattle.sdd_store.specs.Time.{Time, nobody}
 use Rattle.sdd_store.specs.declared.time.Participant.{Participant}
@@ -19,6 +18,7 @@ use Rattle.sdd.specs.Start.{IsStart}
 use Rattle.sdd.specs.Due.{Line, Event, event, Trace, AllDue, IsDue, IsDueAt, NamesWhatIsDue}
 use Rattle.sdd.specs.Due.Event.{Opened, Closed, Made, Retired, Other}
 use Rattle.sdd.proofs.Among.{Among, AreApart}
+use Rattle.sdd.proofs.Entry.{none-at}
 use Rattle.sdd.proofs.Ages.{whats}
 use Rattle.sdd.proofs.Happening.{Happens, happens}
 use Rattle.sdd.proofs.Closing.{Closes-closed}
@@ -26,12 +26,6 @@ use Rattle.sdd.proofs.Sound.{Sound, Sound-later, Sound-still, Sound-made, Sound-
 use Rattle.sdd.proofs.SoundOpened.{Sound-opened}
 use Rattle.sdd.proofs.Known.{Knows, Knows-later, Knows-other, Knows-closed, Knows-made, Knows-retired}
 use Rattle.sdd.proofs.KnownOpened.{Knows-opened, due-opened}
-
--- no place of an empty table has an entry
-none-at : (n c : ℕ) → slice_index_or {A = Option Cell} (replicate n None) c None ≡ None
-none-at zero c = refl
-none-at (suc n) zero = refl
-none-at (suc n) (suc c) = none-at n c
 
 no-places : (l : Limits) (d : Desk) → IsStart l d → d.world.time.places ≡ []
 no-places l d s = ap (λ (t : Time). t.places) s.world.time
@@ -48,7 +42,7 @@ Sound-start l d s =
       owned = λ o i h. absurd (let z : None ≡ Some i = unowned o i h in cc);
       apart = λ o r i j h1 h2 e. absurd (let z : None ≡ Some i = unowned o i h1 in cc);
       kept = λ i out. absurd (let z : Gone ≡ Out = ap (λ (xs : List ItemState). (slice_index_or xs i nothing).fate) (sym s.items) ∙ out in cc);
-      empty = λ c. ap held_in (ap (λ (cs : List (Option Cell)). slice_index_or cs c None) s.world.cells ∙ none-at l.cells c);
+      empty = λ c. ap held_in (ap (λ (cs : List (Option Cell)). slice_index_or cs c None) s.world.cells ∙ none-at Cell l.cells c);
     }
 
 pub Knows-start : (l : Limits) (d : Desk) → IsStart l d → Knows [] d

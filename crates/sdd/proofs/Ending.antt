@@ -1,5 +1,5 @@
 -- The closing of a script's world leaves nothing out, once its owners are retired and its guards closed
-use Rattle.std.proofs.Common.{◌≡◌, ◌≢◌, ◌⊎◌, ℕ, zero, suc, ◌+◌, ◌<◌, ◌≤◌, true, false, cond, List, [], ◌∷◌, Option, Some, None, IsSome, IsNone, is_some, map, length, count_by, nat_lt, slice_index_or, inl, inr, refl, sym, ap, ◌∙◌, subst, arith}
+use Rattle.std.proofs.Common.{◌≡◌, ◌≢◌, ℕ, suc, false, List, [], ◌∷◌, Option, Some, None, IsSome, IsNone, is_some, length, count_by, nat_lt, slice_index_or, inl, inr, refl, sym, ap, ◌∙◌, subst, arith}
 use Rattle.std.proofs.lemmas.Bool.{cases_eq, cases_lt, false≢true}
 use Rattle.std.proofs.lemmas.List.{get_or_past, get_or_default, set_past}
 use Rattle.std.proofs.lemmas.List.Elements.{All-from_get_or}
@@ -13,7 +13,6 @@ use Rattle.sdd_store.specs.Table.{entry_at}
 use Rattle.sdd_store.specs.declared.time.Participant.{Participant}
 use Rattle.sdd_store.specs.declared.standing.Standing.{Standing}
 use Rattle.sdd_store.specs.declared.standing.Standing.TheVariants.{Retired}
-use Rattle.sdd_store.specs.declared.standing.Cell.{Cell}
 use Rattle.sdd_base.specs.World.{World, place_at, standing_at}
 use Rattle.sdd_base.specs.Steps.{rotated, all_reclaimed, changed}
 use Rattle.sdd_world.specs.Closing.{without_waiting, IsGuarded, NothingIsOut, aged_out, all_aged_out, Closes}
@@ -21,10 +20,12 @@ use Rattle.sdd.specs.declared.script.val.Val.{Val}
 use Rattle.sdd.specs.Val.{holdings_of}
 use Rattle.sdd.specs.Out.{IsTidy, is_of, OnlyOut}
 use Rattle.sdd.proofs.Among.{Among, contains-among}
-use Rattle.sdd.proofs.Entry.{at-same, at-other, at-each}
+use Rattle.sdd.proofs.Entry.{at-same, at-other, at-each, not-free}
 use Rattle.sdd.proofs.Reclaiming.{HoldNothing, Frees-all}
 use Rattle.sdd.proofs.Tidy.{Tidy-time, filled-at, one_if_some}
-use Rattle.sdd.proofs.Accounts.{Empties-changed, left-or-due, not-free, one_if}
+use Rattle.sdd.proofs.Ages.{left-or-due}
+use Rattle.sdd.proofs.Emptying.{Empties-changed}
+use Rattle.sdd.proofs.Accounts.{one_if}
 
 -- what is taken waits
 pub record Drains (made : ℕ) (w : World Val) : Type 0 where
@@ -111,17 +112,17 @@ pub record IsEnded (made : ℕ) (end : World Val) : Type 0 where
   pub free : NothingIsOut end
   pub made_as : end.tally.made ≡ made
   pub reclaimed_all : end.tally.reclaimed ≡ made
-  pub nowhere_else : end.tally.in_place ≡ 0
+  pub waited : end.tally.in_place ≡ 0
 
 ended : (made : ℕ) (w end : World Val) → Drains made w → Closes holdings_of w end → IsEnded made end
 ended made w end d c =
     let over : Drains made end = subst (Drains made) (sym c.changes.1) (Drains-all made w c.changes.0 d) in
     let slots : (s : ℕ) → standing_at end s ≡ None = λ s. none-if-never (standing_at end s) (λ t.
-      let waits = (over.waits s t).1 in
-      subst (λ (ws : List Waiting). Among ws (having_seen waits.1 (Item s))) (none-waits w end c waits.0) waits.2) in
+    let waits = (over.waits s t).1 in
+    subst (λ (ws : List Waiting). Among ws (having_seen waits.1 (Item s))) (none-waits w end c waits.0) waits.2) in
     let cells : (k : ℕ) → entry_at end.cells k ≡ None = λ k. none-if-never (entry_at end.cells k) (λ t.
-      let link = over.tidy.linked k t in
-      not-free (standing_at end link.0) (sym (filled-at end over.tidy link.0) ∙ ap is_some link.2) (slots link.0)) in
+    let link = over.tidy.linked k t in
+    not-free (standing_at end link.0) (sym (filled-at end over.tidy link.0) ∙ ap is_some link.2) (slots link.0)) in
     let count = none-taken end.standings slots in
     let counted = over.tidy.counted in
     let same = over.same in
@@ -132,7 +133,7 @@ ended made w end d c =
       );
       made_as = same;
       reclaimed_all = omega (arith, count, counted, same);
-      nowhere_else = over.tidy.nowhere_else;
+      waited = over.tidy.waited;
     }
 
 -- once every owner is spent, all that is taken waits

@@ -13,6 +13,7 @@ pub mod KnownOpened
 pub mod Due
 pub mod Reached
 pub mod Tidy
+pub mod Emptying
 pub mod Accounts
 pub mod Out
 pub mod Ending

@@ -1,8 +1,8 @@
 -- What is out of a script's world, as owners are retired and guards closed
-use Rattle.std.proofs.Common.{◌≡◌, ◌≢◌, ◌⊎◌, ℕ, ◌+◌, ◌-◌, ◌^◌, ◌<◌, ◌≤◌, cond, List, [], ◌∷◌, ◌++◌, Option, Some, None, IsSome, is_some, option_map, map, length, count_by, slice_index_or, slice_set, Contains, inl, inr, refl, sym, ap, ◌∙◌, subst, arith}
+use Rattle.std.proofs.Common.{◌≡◌, ◌≢◌, ◌⊎◌, ℕ, ◌+◌, ◌-◌, ◌^◌, ◌<◌, List, [], ◌∷◌, ◌++◌, Option, Some, None, IsSome, is_some, option_map, length, count_by, slice_index_or, slice_set, Contains, inl, inr, refl, sym, ap, ◌∙◌, subst, arith}
 use Rattle.std.proofs.lemmas.Bool.{cases_eq, cases_lt}
 use Rattle.std.proofs.lemmas.List.{length-set, get_or_past}
-use Rattle.std.proofs.lemmas.List.Sums.{sum_by-set}
+use Rattle.std.proofs.lemmas.List.Sums.{sum_by-set, sum_by_push}
 use Rattle.std.proofs.Math.ListN.{get_or-map}
 use Rattle.sdd_store.specs.Waiting.{Waiting, having_seen, fresh}
 use Rattle.sdd_store.specs.Waiting.What.{Item}
@@ -22,7 +22,7 @@ use Rattle.sdd.specs.Script.{Runs}
 use Rattle.sdd.specs.Start.{IsStart}
 use Rattle.sdd.specs.Out.{WaitsIn, is_of, OnlyOut, slots_out}
 use Rattle.sdd.proofs.Among.{Among, among-push, among-last, among-contains, contains-among}
-use Rattle.sdd.proofs.Entry.{at-same, at-other, at-each}
+use Rattle.sdd.proofs.Entry.{at-same, at-other, at-each, at-pushed, at-end, at-each_pushed}
 use Rattle.sdd.proofs.Closing.{Closes-closed}
 use Rattle.sdd.proofs.Tidy.{Tidy-time, Tidy-retired}
 use Rattle.sdd.proofs.Sound.{Sound, slot_of, some-inside}
@@ -186,3 +186,38 @@ OnlyOut-same w guards slots alike same out = record {
   taken = λ s t. elim (out.taken s t) [ inl was ↦ inl (was.0, same was.0 ∙ was.1) | inr was ↦ inr was ];
   placed = λ o s h. out.placed o s (sym (same o) ∙ h);
 }
+
+-- the last owner of the list is retired by p
+pub OnlyOut-retired_last : (w : World Val) (guards slots : List (Option ℕ)) (p k : ℕ) → p < length w.time.places → OnlyOut w guards (slots ++ Some k ∷ []) → OnlyOut (retired w p k) guards slots
+OnlyOut-retired_last w guards slots p k place out =
+    OnlyOut-retired w guards (slots ++ Some k ∷ []) slots p (length slots) k place (at-end slots (Some k) None)
+    (λ r ne. sym (at-pushed slots (Some k) None r ne))
+    (get_or_past slots (length slots) None (omega arith))
+    out
+
+-- the last owner of the list was spent
+pub OnlyOut-spent_last : (w : World Val) (guards slots : List (Option ℕ)) → OnlyOut w guards (slots ++ None ∷ []) → OnlyOut w guards slots
+OnlyOut-spent_last w guards slots out = OnlyOut-same w guards (slots ++ None ∷ []) slots (λ r. sym (at-each_pushed (λ (x : Option ℕ). x) slots None None refl r)) out
+
+-- the last guard of the list is closed
+pub OnlyOut-closed_last : (w : World Val) (guards slots : List (Option ℕ)) (p : ℕ) → OnlyOut w (guards ++ Some p ∷ []) slots → OnlyOut (closed w p) guards slots
+OnlyOut-closed_last w guards slots p out =
+    OnlyOut-closed w (guards ++ Some p ∷ []) guards slots p
+    (OnlyOut-place w (guards ++ Some p ∷ []) slots (length guards) p out (at-end guards (Some p) None))
+    (λ q. sum_by_push (one_if q) guards (Some p))
+    out
+
+-- the last guard of the list was closed
+pub OnlyOut-shut_last : (w : World Val) (guards slots : List (Option ℕ)) → OnlyOut w (guards ++ None ∷ []) slots → OnlyOut w guards slots
+OnlyOut-shut_last w guards slots out = record {
+  tidy = out.tidy;
+  opened = λ q. (let was = out.opened q in let push = sum_by_push (one_if q) guards None in omega (arith, was, push));
+  owned = out.owned;
+  apart = out.apart;
+  taken = out.taken;
+  placed = out.placed;
+}
+
+-- the last owner of the list was made at some place
+pub OnlyOut-some_place : (w : World Val) (guards slots : List (Option ℕ)) (k : ℕ) → OnlyOut w guards (slots ++ Some k ∷ []) → 0 < length w.time.places
+OnlyOut-some_place w guards slots k out = out.placed (length slots) k (at-end slots (Some k) None)

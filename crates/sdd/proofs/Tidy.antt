@@ -1,35 +1,30 @@
 -- A script's world keeps its slots, its cells and its tally true of each other
-use Rattle.std.proofs.Common.{◌≡◌, ◌≢◌, ◌⊎◌, ℕ, ◌+◌, ◌-◌, ◌^◌, ◌<◌, ◌≤◌, Bool, true, false, cond, List, [], ◌∷◌, Option, Some, None, IsSome, is_some, map, length, count_by, slice_index_or, slice_set, inl, inr, refl, sym, ap, ◌∙◌, subst, arith}
+use Rattle.std.proofs.Common.{◌≡◌, ◌≢◌, ℕ, ◌+◌, ◌^◌, ◌<◌, Bool, true, false, cond, List, Option, Some, None, IsSome, is_some, map, length, count_by, slice_index_or, slice_set, inl, inr, refl, sym, ap, ◌∙◌, subst, arith}
 use Rattle.std.proofs.lemmas.Bool.{cases_eq, cases_lt, false≢true}
 use Rattle.std.proofs.lemmas.List.{map-set, length-map, get_or_past, set_past}
 use Rattle.std.proofs.lemmas.List.Sums.{sum_by-set}
 use Rattle.std.proofs.Math.ListN.{get_or-map}
 use Rattle.std.proofs.Math.Seq.{map-set_same}
 use Rattle.sdd_core.specs.declared.tag.Tag.TheVariants.{None as no_tag}
-use Rattle.sdd_store.specs.Waiting.{What}
-use Rattle.sdd_store.specs.Waiting.What.{Item, Private, Job}
 use Rattle.sdd_store.specs.Time.{Time}
 use Rattle.sdd_store.specs.Table.{Entries, entry_at, with_entry, without_entry, IsEmptyAt}
 use Rattle.sdd_store.specs.declared.standing.Standing.{Standing}
-use Rattle.sdd_store.specs.declared.standing.Standing.TheVariants.{Owned, Raw, Shared, Retired, Private as privately}
+use Rattle.sdd_store.specs.declared.standing.Standing.TheVariants.{Owned, Retired}
 use Rattle.sdd_store.specs.declared.standing.Cell.{Cell}
 use Rattle.sdd_base.specs.World.{World, standing_at, value_at}
-use Rattle.sdd_base.specs.Steps.{held_in, freed, made, nulled, retired, taken_out, waiting_value, reclaimed, all_reclaimed}
+use Rattle.sdd_base.specs.Steps.{held_in, freed, made, nulled, retired}
 use Rattle.sdd.specs.declared.script.val.Val.{Val}
-use Rattle.sdd.specs.Val.{holdings_of, link_of}
+use Rattle.sdd.specs.Val.{link_of}
 use Rattle.sdd.specs.Out.{IsTidy}
-use Rattle.sdd.proofs.Among.{Among}
-use Rattle.sdd.proofs.Entry.{at-same, at-other, at-each}
-use Rattle.sdd.proofs.Reclaiming.{spills-nothing, without-cell}
+use Rattle.sdd.proofs.Entry.{at-same, at-other, at-each, none-at, none-taken, none-counted, not-free}
+use Rattle.sdd.proofs.Reclaiming.{without-cell}
+use Rattle.sdd_store.proofs.Listed.{entry-lt-length}
+use Rattle.sdd_store.specs.declared.tally.Tally.{Tally}
+use Rattle.sdd_base.specs.declared.limits.Limits.{Limits}
+use Rattle.sdd.specs.Desk.{Desk}
+use Rattle.sdd.specs.Start.{IsStart}
 
 module _ {E : Type 0} where
-  pub taken-inside : (xs : List (Option E)) (k : ℕ) → IsSome (slice_index_or xs k None) → k < length xs
-  taken-inside xs k t =
-      elim (cases_lt k (length xs)) [
-        | inl lt ↦ lt
-        | inr past ↦ absurd (false≢true (ap is_some (sym (get_or_past xs k None past)) ∙ t))
-      ]
-
   -- an entry that was taken out is gone
   pub none-here : (xs : List (Option E)) (k : ℕ) → slice_index_or (slice_set xs k None) k None ≡ None
   none-here xs k =
@@ -38,13 +33,9 @@ module _ {E : Type 0} where
         | inr past ↦ ap (λ (ys : List (Option E)). slice_index_or ys k None) (set_past xs k None past) ∙ get_or_past xs k None past
       ]
 
-  pub some-of : (x : Option E) → IsSome x → (y : E) × (x ≡ Some y)
-  some-of None t = absurd (false≢true t)
-  some-of (Some y) t = (y, refl)
-
 -- time has no part in it
 pub Tidy-time : (w : World Val) (t : Time) → IsTidy w → IsTidy (record w { time = t })
-Tidy-time w t d = record { filled = d.filled; linked = d.linked; unlinked = d.unlinked; counted = d.counted; fits = d.fits; nowhere_else = d.nowhere_else }
+Tidy-time w t d = record { filled = d.filled; linked = d.linked; unlinked = d.unlinked; counted = d.counted; fits = d.fits; waited = d.waited }
 
 -- a slot has a value exactly where it is taken
 pub filled-at : (w : World Val) → IsTidy w → (k : ℕ) → is_some (value_at w k) ≡ is_some (standing_at w k)
@@ -64,7 +55,7 @@ module _ (w : World Val) (k : ℕ) (v : Val) (d : IsTidy w) (has : value_at w k 
 
   counted-gone : count_by is_some (without_entry w.standings k) + 1 ≡ count_by is_some w.standings
   counted-gone =
-      let step = sum_by-set one_if_some w.standings k None None (taken-inside w.standings k taken-here) in
+      let step = sum_by-set one_if_some w.standings k None None (entry-lt-length w.standings k taken-here) in
       let was : one_if_some (standing_at w k) ≡ 1 = ap (λ (b : Bool). cond b 1 0) taken-here in
       omega (arith, step, was)
 
@@ -75,14 +66,14 @@ module _ (w : World Val) (k : ℕ) (v : Val) (d : IsTidy w) (has : value_at w k 
         | inr ne ↦
             let was = d.linked c (ap is_some (sym (at-other w.cells (link_of v) c None None ne)) ∙ t) in
             let other : was.0 ≢ k = λ e. (
-              let z : Some was.1 ≡ Some v = sym was.2 ∙ ap (λ (j : ℕ). value_at w j) e ∙ has in
-              let same : was.1 ≡ v = cc in
-              ne (sym was.3 ∙ ap link_of same)
+            let z : Some was.1 ≡ Some v = sym was.2 ∙ ap (λ (j : ℕ). value_at w j) e ∙ has in
+            let same : was.1 ≡ v = cc in
+            ne (sym was.3 ∙ ap link_of same)
             ) in
             (was.0, was.1, at-other w.values k was.0 None None other ∙ was.2, was.3)
       ]
 
-  Tidy-gone : IsTidy gone
+  pub Tidy-gone : IsTidy gone
   Tidy-gone = record {
     filled =
         map-set is_some w.values k None
@@ -92,96 +83,8 @@ module _ (w : World Val) (k : ℕ) (v : Val) (d : IsTidy w) (has : value_at w k 
     unlinked = without-cell w.cells (link_of v) d.unlinked;
     counted = (let c = d.counted in let f = d.fits in omega (arith, counted-gone, c, f));
     fits = d.fits;
-    nowhere_else = d.nowhere_else;
+    waited = d.waited;
   }
-
--- what waited is reclaimed: its slots are free, and no more
-pub record Empties (old new : World Val) (xs : List What) : Type 0 where
-  pub kept : (s : ℕ) → (standing_at new s ≡ standing_at old s) ⊎ (standing_at new s ≡ None)
-  pub gone : (s : ℕ) → Among xs (Item s) → standing_at old s ≡ Some Retired → standing_at new s ≡ None
-  pub made : new.tally.made ≡ old.tally.made
-  pub tidy : IsTidy new
-
-Empties-none : (w : World Val) (x : What) → ((s : ℕ) → x ≡ Item s → standing_at w s ≡ Some Retired → ⊥) → IsTidy w → Empties w w (x ∷ [])
-Empties-none w x never d = record {
-  kept = λ s. inl refl;
-  gone = λ s h r. absurd (elim h [ inl e ↦ never s e r | inr z ↦ z ]);
-  made = refl;
-  tidy = d;
-}
-
--- the slot is that of what is reclaimed
-Empties-gone : (w : World Val) (k : ℕ) (x : What) (v : Val) → ((s : ℕ) → x ≡ Item s → s ≡ k) → IsTidy w → value_at w k ≡ Some v → Empties w (record (freed w k) { cells = without_entry w.cells (link_of v) }) (x ∷ [])
-Empties-gone w k x v only d has = record {
-  kept = λ s.
-      elim (cases_eq s k) [
-        | inl e ↦ inr (ap (λ (j : ℕ). slice_index_or (without_entry w.standings k) j None) e ∙ none-here w.standings k)
-        | inr ne ↦ inl (at-other w.standings k s None None ne)
-      ];
-  gone = λ s h r.
-      elim h [
-        | inl e ↦ ap (λ (j : ℕ). slice_index_or (without_entry w.standings k) j None) (only s e) ∙ none-here w.standings k
-        | inr z ↦ absurd z
-      ];
-  made = refl;
-  tidy = Tidy-gone w k v d has;
-}
-
-Empties-taken : (w : World Val) (p k : ℕ) (x : What) (v : Val) → ((s : ℕ) → x ≡ Item s → s ≡ k) → IsTidy w → value_at w k ≡ Some v → Empties w (taken_out holdings_of w p k (Some v)) (x ∷ [])
-Empties-taken w p k x v only d has =
-    rw (spills-nothing (record (freed w k) { cells = without_entry w.cells (link_of v) }) p (held_in (entry_at w.cells (link_of v))) (d.unlinked (link_of v)))
-    (Empties-gone w k x v only d has)
-
--- a slot that waits has a value
-Empties-value : (w : World Val) (p k : ℕ) (x : What) (v : Option Val) → ((s : ℕ) → x ≡ Item s → s ≡ k) → IsTidy w → value_at w k ≡ v → IsSome (standing_at w k) → Empties w (taken_out holdings_of w p k v) (x ∷ [])
-Empties-value w p k x None only d has taken = absurd (false≢true (ap is_some (sym has) ∙ filled-at w d k ∙ taken))
-Empties-value w p k x (Some v) only d has taken = Empties-taken w p k x v only d has
-
--- a slot that does not wait is as it was
-Empties-other : (w : World Val) (k : ℕ) (x : What) → ((s : ℕ) → x ≡ Item s → s ≡ k) → (standing_at w k ≡ Some Retired → ⊥) → IsTidy w → Empties w w (x ∷ [])
-Empties-other w k x only never d = Empties-none w x (λ s e r. never (ap (λ (j : ℕ). standing_at w j) (sym (only s e)) ∙ r)) d
-
-Empties-standing : (w : World Val) (p k : ℕ) (x : What) → ((s : ℕ) → x ≡ Item s → s ≡ k) → IsTidy w → (s : Option Standing) → standing_at w k ≡ s → Empties w (taken_out holdings_of w p k (waiting_value w k s)) (x ∷ [])
-Empties-standing w p k x only d None is = Empties-other w k x only (λ r. let z : Some Retired ≡ None = sym r ∙ is in cc) d
-Empties-standing w p k x only d (Some Owned) is = Empties-other w k x only (λ r. let z : Some Retired ≡ Some Owned = sym r ∙ is in cc) d
-Empties-standing w p k x only d (Some Raw) is = Empties-other w k x only (λ r. let z : Some Retired ≡ Some Raw = sym r ∙ is in cc) d
-Empties-standing w p k x only d (Some (Shared n)) is = Empties-other w k x only (λ r. let z : Some Retired ≡ Some (Shared n) = sym r ∙ is in cc) d
-Empties-standing w p k x only d (Some Retired) is = Empties-value w p k x (value_at w k) only d refl (ap is_some is)
-Empties-standing w p k x only d (Some (privately c)) is = Empties-value w p k x (value_at w k) only d refl (ap is_some is)
-
-Empties-one : (w : World Val) (p : ℕ) (x : What) → IsTidy w → Empties w (reclaimed holdings_of w p x) (x ∷ [])
-Empties-one w p (Item k) d = Empties-standing w p k (Item k) (λ s e. let z : Item k ≡ Item s = e in cc) d (standing_at w k) refl
-Empties-one w p (Private k c) d = Empties-standing w p k (Private k c) (λ s e. let z : Private k c ≡ Item s = e in absurd (cc)) d (standing_at w k) refl
-Empties-one w p (Job j) d = Empties-none w (Job j) (λ s e r. let z : Job j ≡ Item s = e in absurd (cc)) d
-
-Empties-then : {u v w : World Val} (x : What) (xs : List What) → Empties u v (x ∷ []) → Empties v w xs → Empties u w (x ∷ xs)
-Empties-then {u} {v} {w} x xs a b = record {
-  kept = λ s.
-      elim (b.kept s) [
-        | inl same ↦ elim (a.kept s) [ inl before ↦ inl (same ∙ before) | inr none ↦ inr (same ∙ none) ]
-        | inr none ↦ inr none
-      ];
-  gone = λ s h r.
-      elim (a.kept s) [
-        | inr none ↦ elim (b.kept s) [ inl same ↦ same ∙ none | inr still ↦ still ]
-        | inl same ↦
-            elim h [
-              | inl e ↦
-                  let none = a.gone s (inl e) r in
-                  elim (b.kept s) [ inl after ↦ after ∙ none | inr still ↦ still ]
-              | inr rest ↦ b.gone s rest (same ∙ r)
-            ]
-      ];
-  made = b.made ∙ a.made;
-  tidy = b.tidy;
-}
-
--- all that is due is reclaimed
-pub Empties-all : (w : World Val) (p : ℕ) (xs : List What) → IsTidy w → Empties w (all_reclaimed holdings_of w p xs) xs
-Empties-all w p [] d = record { kept = λ s. inl refl; gone = λ s h r. absurd h; made = refl; tidy = d }
-Empties-all w p (x ∷ xs) d =
-    let one = Empties-one w p x d in
-    Empties-then x xs one (Empties-all (reclaimed holdings_of w p x) p xs one.tidy)
 
 -- an item is made, in a free slot, with a free cell
 module _ (w : World Val) (c k : ℕ) (v : Val) (d : IsTidy w) (slot : IsEmptyAt w.standings k) (link : link_of v ≡ c) (cell : IsEmptyAt w.cells c) where
@@ -225,7 +128,7 @@ module _ (w : World Val) (c k : ℕ) (v : Val) (d : IsTidy w) (slot : IsEmptyAt 
     unlinked = λ j. at-each held_in w.cells c (Some (record { held = None; tag = no_tag })) None (sym (d.unlinked c)) j ∙ d.unlinked j;
     counted = (let e = d.counted in omega (arith, counted-made, e, more));
     fits = (let f = d.fits in omega (arith, f));
-    nowhere_else = d.nowhere_else;
+    waited = d.waited;
   }
 
 -- an item that is out is retired
@@ -235,10 +138,43 @@ Tidy-retired w p k d taken = record {
   linked = d.linked;
   unlinked = d.unlinked;
   counted =
-      (let step = sum_by-set one_if_some w.standings k (Some Retired) None (taken-inside w.standings k taken) in
+      (let step = sum_by-set one_if_some w.standings k (Some Retired) None (entry-lt-length w.standings k taken) in
       let was : one_if_some (standing_at w k) ≡ 1 = ap (λ (b : Bool). cond b 1 0) taken in
       let c = d.counted in
       omega (arith, step, was, c));
   fits = d.fits;
-  nowhere_else = d.nowhere_else;
+  waited = d.waited;
 }
+
+-- where the world is as it was but for time
+pub Tidy-same : (old new : World Val) → new.standings ≡ old.standings → new.values ≡ old.values → new.cells ≡ old.cells → new.tally ≡ old.tally → IsTidy old → IsTidy new
+Tidy-same old new standings values cells tally d = record {
+  filled = ap (λ (vs : List (Option Val)). map is_some vs) values ∙ d.filled ∙ ap (λ (ss : Entries Standing). map is_some ss) (sym standings);
+  linked = λ c t.
+      let r = d.linked c (subst (λ (cs : Entries Cell). IsSome (entry_at cs c)) cells t) in
+      (r.0, r.1, ap (λ (vs : List (Option Val)). slice_index_or vs r.0 None) values ∙ r.2, r.3);
+  unlinked = λ c. ap (λ (cs : Entries Cell). held_in (entry_at cs c)) cells ∙ d.unlinked c;
+  counted =
+      (let made = ap (λ (t : Tally). t.made) tally in
+      let reclaimed = ap (λ (t : Tally). t.reclaimed) tally in
+      let count = ap (λ (ss : Entries Standing). count_by is_some ss) standings in
+      let was = d.counted in
+      omega (arith, made, reclaimed, count, was));
+  fits = (let made = ap (λ (t : Tally). t.made) tally in let was = d.fits in omega (arith, made, was));
+  waited = ap (λ (t : Tally). t.in_place) tally ∙ d.waited;
+}
+
+-- a script begins with a tidy world
+pub Tidy-start : (l : Limits) (d : Desk) → IsStart l d → IsTidy d.world
+Tidy-start l d s =
+    let made = ap (λ (t : Tally). t.made) s.world.tally in
+    let reclaimed = ap (λ (t : Tally). t.reclaimed) s.world.tally in
+    let count = ap (λ (ss : Entries Standing). count_by is_some ss) s.world.standings ∙ none-counted Standing l.slots in
+    record {
+      filled = ap (λ (vs : List (Option Val)). map is_some vs) s.world.values ∙ none-taken Val l.slots ∙ sym (none-taken Standing l.slots) ∙ ap (λ (ss : Entries Standing). map is_some ss) (sym s.world.standings);
+      linked = λ c t. absurd (not-free (entry_at d.world.cells c) t (ap (λ (cs : Entries Cell). slice_index_or cs c None) s.world.cells ∙ none-at Cell l.cells c));
+      unlinked = λ c. ap held_in (ap (λ (cs : Entries Cell). slice_index_or cs c None) s.world.cells ∙ none-at Cell l.cells c);
+      counted = omega (arith, made, reclaimed, count);
+      fits = omega (arith, made);
+      waited = ap (λ (t : Tally). t.in_place) s.world.tally;
+    }

@@ -17,11 +17,14 @@ pub record IsTidy (w : World Val) : Type 0 where
   pub filled : map is_some w.values ≡ map is_some w.standings
   -- a cell that is taken is the link of some slot's value
   pub linked : (c : ℕ) → IsSome (entry_at w.cells c) → (s : ℕ) × (v : Val) × (value_at w s ≡ Some v) × (link_of v ≡ c)
+  -- no cell holds anything
   pub unlinked : (c : ℕ) → held_in (entry_at w.cells c) ≡ None
   -- an item that was made has its slot, or was reclaimed
   pub counted : w.tally.made ≡ w.tally.reclaimed + count_by is_some w.standings
+  -- the count fits its number
   pub fits : w.tally.made < 2 ^ 128
-  pub nowhere_else : w.tally.in_place ≡ 0
+  -- none was dropped in place
+  pub waited : w.tally.in_place ≡ 0
 
 -- the slot's item waits with some participant
 abbrev pub WaitsIn : World Val → ℕ → Type 0
@@ -35,7 +38,9 @@ is_of p (Some q) = q == p
 -- only these are out of the world: of each guard its place, until it is closed, and of each owner its slot, until it is spent
 pub record OnlyOut (w : World Val) (guards slots : List (Option ℕ)) : Type 0 where
   pub tidy : IsTidy w
+  -- of each place as many guards are open
   pub opened : (p : ℕ) → (place_at w p).guards ≡ count_by (is_of p) guards
+  -- an owner's slot stands as owned, and is no other's
   pub owned : (o s : ℕ) → slice_index_or slots o None ≡ Some s → standing_at w s ≡ Some Owned
   pub apart : (o r s : ℕ) → slice_index_or slots o None ≡ Some s → slice_index_or slots r None ≡ Some s → o ≡ r
   -- a slot that is taken is an owner's, or waits
