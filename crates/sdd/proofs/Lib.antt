@@ -19,3 +19,5 @@ pub mod Out
 pub mod Ending
 pub mod Tied
 pub mod Worlds
+pub mod Acts
+pub mod Naming

@@ -6,4 +6,5 @@ pub mod Due
 pub mod Opened
 pub mod Sound
 pub mod Out
+pub mod Made
 pub mod Stage
