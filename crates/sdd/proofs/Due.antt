@@ -40,6 +40,7 @@ Sound-start l d s =
       once = λ q r k a b h1 h2. absurd (none q _ h1);
       distinct = λ q. subst (λ (ps : List Participant). AreApart (whats (slice_index_or ps q nobody).bags.waiting)) (sym (no-places l d s)) tt;
       owned = λ o i h. absurd (let z : None ≡ Some i = unowned o i h in cc);
+      out = λ o i h. absurd (let z : None ≡ Some i = unowned o i h in cc);
       apart = λ o r i j h1 h2 e. absurd (let z : None ≡ Some i = unowned o i h1 in cc);
       kept = λ i out. absurd (let z : Gone ≡ Out = ap (λ (xs : List ItemState). (slice_index_or xs i nothing).fate) (sym s.items) ∙ out in cc);
       empty = λ c. ap held_in (ap (λ (cs : List (Option Cell)). slice_index_or cs c None) s.world.cells ∙ none-at Cell l.cells c);

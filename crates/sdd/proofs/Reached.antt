@@ -88,6 +88,7 @@ distinct-slots (s ∷ slots) apart = (none-equal s slots apart.0, distinct-slots
 pub reached_sound : (d : Desk) → Reached d → IsSound d
 reached_sound d r = record {
   taken = λ i there. taken-there d i r.past (item_at d i).fate r.sound r.knows refl there;
+  out = r.sound.out;
   named = λ p s h. due-item d p s (changes d.world.time p) r.sound (subst (λ (xs : List What). Among xs (Item s)) (reclaims-due d.world p) (contains-among (reclaims d.world p) (Item s) h));
   once = λ p slots e. distinct-slots slots (subst AreApart (sym (reclaims-due d.world p) ∙ sym e) (due-apart d p (changes d.world.time p) r.sound));
 }

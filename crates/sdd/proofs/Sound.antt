@@ -47,8 +47,9 @@ pub record Sound (d : Desk) : Type 0 where
   pub once : (q r s a b : ℕ) → Among (waiting d q) (having_seen a (Item s)) → Among (waiting d r) (having_seen b (Item s)) → (q ≡ r) × (a ≡ b)
   -- nothing waits twice with a participant
   pub distinct : (q : ℕ) → AreApart (whats (waiting d q))
-  -- an item that has an owner is there, and its slot stands as owned
+  -- an item that has an owner is there, its slot stands as owned, and it was not retired
   pub owned : (o i : ℕ) → IsOwnerOf d i o → (i < length d.items) × (standing_at d.world (slot_of d i) ≡ Some Owned)
+  pub out : (o i : ℕ) → IsOwnerOf d i o → (item_at d i).fate ≡ desk.Out
   -- two owners have two slots
   pub apart : (o r i j : ℕ) → IsOwnerOf d i o → IsOwnerOf d j r → slot_of d i ≡ slot_of d j → o ≡ r
   -- an item that was not retired has an owner
@@ -61,6 +62,7 @@ Sound-later d s = record {
   once = s.once;
   distinct = s.distinct;
   owned = s.owned;
+  out = s.out;
   apart = s.apart;
   kept = s.kept;
   empty = s.empty;
@@ -89,6 +91,7 @@ Sound-still old new s z =
       distinct = λ q. subst (λ (ws : List Waiting). AreApart (whats ws)) (sym (z.waiting q)) (s.distinct q);
       owned = λ o i h. let r = s.owned o i (owner o i h) in
           (subst (λ (xs : List ItemState). i < length xs) (sym z.items) r.0, stands (slot_of new i) ∙ ap (λ (k : ℕ). standing_at old.world k) (slot i) ∙ r.1);
+      out = λ o i h. ap (λ (xs : List ItemState). (slice_index_or xs i nothing).fate) z.items ∙ s.out o i (owner o i h);
       apart = λ o r i j h1 h2 e. s.apart o r i j (owner o i h1) (owner r j h2) (sym (slot i) ∙ e ∙ slot j);
       kept = λ i out.
           let r = s.kept i (subst (λ (xs : List ItemState). (slice_index_or xs i nothing).fate ≡ desk.Out) z.items out) in
@@ -169,6 +172,13 @@ module _ (d : Desk) (c k : ℕ) (v : Val) (free : IsEmptyAt d.world.standings k)
             let lt = was.0 in omega (arith, length_push d.items (record { slot = k; fate = desk.Out })),
             ap (λ (x : ItemState). standing_at (with_item d c k v).world x.slot) (item-made i was.0) ∙ stands-made (slot_of d i) Owned was.1,
           )
+        ];
+    out = λ o i h.
+        elim (pushed-owner d.owners (length d.items) o i h) [
+          | inl new ↦
+              ap (λ (j : ℕ). (item_at (with_item d c k v) j).fate) new.1
+              ∙ ap (λ (x : ItemState). x.fate) (at-end d.items (record { slot = k; fate = desk.Out }) nothing)
+          | inr old ↦ ap (λ (x : ItemState). x.fate) (item-made i ((s.owned o i old).0)) ∙ s.out o i old
         ];
     apart = λ o r i j h1 h2 e.
         elim (pushed-owner d.owners (length d.items) o i h1) [
@@ -331,6 +341,10 @@ module _ (d : Desk) (p o i : ℕ) (place : IsPlace d p) (owner : IsOwnerOf d i o
           subst (λ (n : ℕ). j < n) (sym (with_fate-length d.items i (desk.Retired d.moment))) had.0,
           ap (λ (n : ℕ). standing_at (with_retired d p o i).world n) slot ∙ stands-else (slot_of d j) (λ e. was.0 (s.apart r o j i was.1 owner e)) ∙ had.1,
         );
+    out = λ r j h.
+        let was = owner-else r j h in
+        let other : j ≢ i = λ e. was.0 (s.apart r o j i was.1 owner (ap (λ (n : ℕ). slot_of d n) e)) in
+        with_fate-other d.items i (desk.Retired d.moment) j other ∙ s.out r j was.1;
     apart = λ r t j l h1 h2 e.
         s.apart r t j l ((owner-else r j h1).1) ((owner-else t l h2).1)
         (sym (with_fate-slot d.items i (desk.Retired d.moment) j) ∙ e ∙ with_fate-slot d.items i (desk.Retired d.moment) l);

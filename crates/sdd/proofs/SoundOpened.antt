@@ -155,6 +155,13 @@ Sound-opened d p names place are s =
             subst (λ (n : ℕ). j < n) (sym (all_gone-length d.items names)) had.0,
             ap (λ (n : ℕ). standing_at (with_guard d p names).world n) (all_gone-slot d.items names j) ∙ o.owned (slot_of d j) had.1,
           );
+      out = λ r j h.
+          elim (stays-or-goes d.items names (record { 0 = j })) [
+            | inl stays ↦ stays.same ∙ s.out r j h
+            | inr goes ↦
+                let waits = ((are.exactly (record { 0 = j })).0 (among-contains names (record { 0 = j }) goes.named)).0 in
+                absurd (subst (λ (f : Fate). Waits f) (s.out r j h) waits)
+          ];
       apart = λ r t j l h1 h2 e. s.apart r t j l h1 h2 (sym (all_gone-slot d.items names j) ∙ e ∙ all_gone-slot d.items names l);
       kept = λ i out.
           elim (stays-or-goes d.items names (record { 0 = i })) [
