@@ -18,6 +18,7 @@ pub mod Accounts
 pub mod Out
 pub mod Ending
 pub mod Tied
+pub mod Leaving
 pub mod Worlds
 pub mod Acts
 pub mod Naming

@@ -7,4 +7,5 @@ pub mod Opened
 pub mod Sound
 pub mod Out
 pub mod Made
+pub mod Leaving
 pub mod Stage
