@@ -22,3 +22,4 @@ pub mod Leaving
 pub mod Worlds
 pub mod Acts
 pub mod Naming
+pub mod Sizes

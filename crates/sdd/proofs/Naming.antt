@@ -14,7 +14,8 @@ use Rattle.sdd_base.specs.Steps.{reclaims}
 use Rattle.sdd_lines.specs.declared.name.ItemName.{ItemName}
 use Rattle.sdd.specs.declared.script.item.Fate.{Fate}
 use Rattle.sdd.specs.declared.script.item.Fate.TheVariants.{Out, Retired, Gone}
-use Rattle.sdd.specs.Desk.{Desk, item_at, Waits}
+use Rattle.sdd.specs.declared.script.item.ItemState.{ItemState}
+use Rattle.sdd.specs.Desk.{Desk, nothing, item_at, Waits}
 use Rattle.sdd.specs.Script.{AreReclaimed}
 use Rattle.sdd.specs.Sound.{IsSound, IsThere}
 use Rattle.sdd.specs.Stage.{AreNamed, name_at}
@@ -134,3 +135,13 @@ module _ (d : Desk) (p : ℕ) (slots names : List ℕ) (s : IsSound d) (are : ma
             Contains-permutation found sorted i moved (among-contains found i found_there)),
         );
       }
+
+-- only names of items are spent
+pub gone-inside : (d : Desk) (p : ℕ) (names : List ItemName) → AreReclaimed d p names → All (λ (i : ItemName). i.0 < length d.items) names
+gone-inside d p names are k e lt =
+    let i = slice_index_or names k e in
+    let waits = ((are.exactly i).0 (k, lt, get_or_default names k i e lt)).0 in
+    elim (cases_lt i.0 (length d.items)) [
+      | inl in_range ↦ in_range
+      | inr past ↦ absurd (subst (λ (x : ItemState). Waits x.fate) (get_or_past d.items i.0 nothing past) waits)
+    ]

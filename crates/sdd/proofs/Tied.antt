@@ -1,21 +1,25 @@
 -- Ties that last
-use Rattle.std.proofs.Common.{◌≡◌, ◌≢◌, ℕ, ◌+◌, ◌<◌, ◌≤◌, List, Option, Some, None, inl, inr, length, map, set, slice_index, slice_index_or, slice_set, vec_capacity, arith, ap, sym, subst, ◌∙◌}
+use Rattle.std.proofs.Common.{◌≡◌, ◌≢◌, ℕ, ◌+◌, ◌<◌, ◌≤◌, List, [], ◌∷◌, ◌++◌, Option, Some, None, inl, inr, length, map, set, slice_index, slice_index_or, slice_set, vec_capacity, arith, ap, sym, subst, ◌∙◌}
 use Rattle.std.proofs.Math.ListN.{get_or-map}
 use Rattle.std.specs.Global.{Vec}
 use Rattle.sdd_token.specs.Units as token
 use Rattle.sdd.specs.declared.script.item.ItemState.{ItemState}
 use Rattle.sdd.specs.declared.script.stage.Held.{Held}
-use Rattle.std.proofs.lemmas.List.{map-set, length-set, set_past, get_or_past}
+use Rattle.std.proofs.lemmas.List.{map-set, length-set, length_push, set_past, get_or_past}
 use Rattle.std.proofs.lemmas.Bool.{cases_eq, cases_lt}
 use Rattle.sdd_base.specs.Holding.{Home}
-use Rattle.sdd_base.specs.World.{World}
+use Rattle.sdd_base.specs.World.{World, KeepsSizes}
+use Rattle.sdd_base.specs.declared.guard.Guard.{Guard}
+use Rattle.sdd_lines.specs.declared.name.ItemName.{ItemName}
 use Rattle.sdd.specs.declared.script.item.Fate.{Fate}
 use Rattle.sdd.specs.declared.script.val.Val.{Val}
-use Rattle.sdd.specs.Desk.{nothing, with_fate}
+use Rattle.sdd.specs.Desk.{nothing, with_fate, all_gone}
+use Rattle.sdd_world.specs.Place.{index_of}
+use Rattle.sdd_world.specs.declared.world.Place.{Place}
 use Rattle.sdd.specs.Sound.{IsThere}
 use Rattle.sdd.specs.Stage.{IsTied, HasRoom, held_item, OwnsItem, AreOwners, IsOwnerOfItem, AreNamed}
 use Rattle.sdd.proofs.Entry.{at-same, at-other}
-use Rattle.sdd.proofs.Items.{with_fate-slot, with_fate-length, with_fate-other}
+use Rattle.sdd.proofs.Items.{with_fate-slot, with_fate-length, with_fate-other, all_gone-slot, all_gone-length, stays-or-goes}
 use Rattle.sdd.specs.declared.script.stage.Stage.{Stage}
 
 -- a call that gave no name
@@ -122,3 +126,59 @@ tied_spent made s w owners items o i fate t there spent owner_room become item_r
         item_room = subst (λ (n : ℕ). s.calls ≤ n) (sym item_room) r.item_room;
       };
     }
+
+-- an owner's item keeps its slot, however many names are spent
+owns-gone : (home : token.Home) (items : List ItemState) (names : List ItemName) (held : Option Held) → OwnsItem home items held → OwnsItem home (all_gone items names) held
+owns-gone home items names None owns = owns
+owns-gone home items names (Some held) owns = record {
+  named = subst (λ (n : ℕ). held.item < n) (sym (all_gone-length items names)) owns.named;
+  home_is = owns.home_is;
+  slot_is = owns.slot_is ∙ sym (all_gone-slot items names held.item);
+}
+
+-- an item that is there still was there before
+named-gone : (items : List ItemState) (spent : List ItemName) (names : List ℕ) → AreNamed items names → AreNamed (all_gone items spent) names
+named-gone items spent names are j h =
+    ap (λ (k : ℕ). slice_index names k) (all_gone-slot items spent j)
+    ∙ are j (elim (stays-or-goes items spent (record { 0 = j })) [
+      | inl stays ↦ subst IsThere stays.same h
+      | inr goes ↦ absurd (subst IsThere goes.gone h)
+    ])
+
+-- a guard is open
+pub tied_opened : (made : ℕ) (s : Stage) (w : World Val) (openings : Vec ℕ) (guards : Vec (Option Guard)) (items : Vec ItemState) (guard : Guard) (names : List ItemName) → IsTied made s →
+    KeepsSizes s.world w → length openings.items ≡ length s.openings.items → vec_capacity openings ≡ vec_capacity s.openings →
+    guards.items ≡ s.guards.items ++ Some guard ∷ [] → vec_capacity guards ≡ vec_capacity s.guards →
+    items.items ≡ all_gone s.items.items names → vec_capacity items ≡ vec_capacity s.items →
+    IsTied (made + 1) (record s { world = w; openings = openings; guards = guards; items = items })
+tied_opened made s w openings guards items guard names t sizes opening_count opening_room pushed guard_room gone item_room =
+    let r = t.room in
+    let owned : AreOwners w.home.slots items.items s.owners.items =
+    subst (λ (h : token.Home). AreOwners h items.items s.owners.items) (ap (λ (h : Home). h.slots) (sym sizes.home))
+    (subst (λ (xs : List ItemState). AreOwners s.world.home.slots xs s.owners.items) (sym gone)
+    (λ k. owns-gone s.world.home.slots s.items.items names (slice_index_or s.owners.items k None) (t.owners k))) in
+    let guard_count : length guards.items ≡ length s.guards.items + 1 = ap (λ (gs : List (Option Guard)). length gs) pushed ∙ length_push s.guards.items (Some guard) in
+    let item_count : length items.items ≡ length s.items.items = ap (λ (xs : List ItemState). length xs) gone ∙ all_gone-length s.items.items names in
+    record {
+      places = t.places;
+      taken = t.taken ∙ sym sizes.places;
+      opened = (let z = t.opened in omega (arith, z, opening_count));
+      owners = owned;
+      names = subst (λ (xs : List ItemState). AreNamed xs s.names.items) (sym gone) (named-gone s.items.items names s.names.items t.names);
+      slots = t.slots ∙ sym sizes.slots;
+      room = record {
+        places = (let z = r.places in omega (arith, z));
+        guards = (let z = r.guards in omega (arith, z, guard_count));
+        owners = (let z = r.owners in omega (arith, z));
+        items = (let z = r.items in omega (arith, z, item_count));
+        place_room = r.place_room;
+        opening_room = subst (λ (n : ℕ). s.calls ≤ n) (sym opening_room) r.opening_room;
+        guard_room = subst (λ (n : ℕ). s.calls ≤ n) (sym guard_room) r.guard_room;
+        owner_room = r.owner_room;
+        item_room = subst (λ (n : ℕ). s.calls ≤ n) (sym item_room) r.item_room;
+      };
+    }
+
+-- what is in hand under a place's name has its number
+pub place_index : (made : ℕ) (s : Stage) (p : ℕ) (place : Place) → IsTied made s → p < length s.world.time.places → place ≡ slice_index_or s.places.items p place → index_of place ≡ p
+place_index made s p place t lt is = ap index_of is ∙ t.places p place (let a = t.taken in omega (arith, a, lt))

@@ -1,15 +1,26 @@
 //! What participants do with guards.
-ghost use Rattle.std.specs.Prelude.{All, ◌≡◌, ℕ, ◌+◌, ◌<◌, ◌↔◌, [], IfOk, IfSome, IsSome, None, Some, length, map, slice_index_or};
+ghost use Rattle.std.specs.Prelude.{All, ◌≡◌, ℕ, ◌+◌, ◌<◌, ◌↔◌, [], IfOk, IfSome, IsSome, None, Some, MatchResult, length, map, slice_index_or, slice_set, vec_capacity, if◌then◌else◌};
+ghost use Rattle.sdd_core.specs.Epoch.{epoch_of};
+ghost use Rattle.sdd_store.specs.Time.{CanNest};
 ghost use Rattle.sdd_base.specs.Guard.{place_of};
+ghost use Rattle.sdd_base.specs.World.{IsPlaceOf};
+ghost use Rattle.sdd_base.specs.Steps.{opened};
+ghost use Rattle.sdd_world.specs.Place.{index_of};
+ghost use Rattle.sdd.specs.Val.{holdings_of};
+ghost use Rattle.sdd.specs.Desk.{all_gone};
 ghost use Rattle.sdd.specs.Opened.{guard_place};
 ghost use Rattle.sdd.specs.Stage.{name_at};
 
 use super::Stage;
-use crate::script::item::Fate;
+use super::items::set_fate;
+use crate::script::item::{Fate, ItemState};
+use crate::script::val::Val;
 use sdd_base::Guard;
 use sdd_base::inner::place_of_guard;
+use sdd_core::{Epoch, Refused};
 use sdd_lines::{Action, Answer, Call, GuardName, ItemName, Names, Reply};
 use sdd_world::inner::{is_open, reclaims_next};
+use sdd_world::{Place, World};
 use std::alloc::{AllocError, Global};
 
 impl Stage {
@@ -28,22 +39,12 @@ impl Stage {
     {
         let reclaimed = self.names_to_go(place)?;
         let is_nested = is_open(&self.world, &self.places[place]);
-        let mut turn = self.world.at(&self.places[place]);
-        let guard = match Guard::new(&mut turn) {
-            Ok(guard) => guard,
-            Err(refused) => {
-                drop(turn);
-                return Ok(self.answer(Reply::Refused(refused)));
-            }
+        let (guard, epoch) = match open_at(&mut self.world, &self.places[place]) {
+            Ok(opened) => opened,
+            Err(refused) => return Ok(self.answer(Reply::Refused(refused))),
         };
-        let epoch = guard.epoch(&turn);
-        drop(turn);
-        if !is_nested {
-            self.openings[place] = self.moment;
-        }
-        for name in reclaimed.as_slice() {
-            self.items[name.0 as usize].fate = Fate::Gone;
-        }
+        note_opening(&mut self.openings, place, self.moment, is_nested);
+        mark_gone(&mut self.items, reclaimed.as_slice());
         let name = GuardName(self.guards.len() as u64);
         self.guards.push_reserved(Some(guard));
         Ok(Answer {
@@ -178,4 +179,40 @@ fn names_of(alloc: Global, slots: &[u32], names: &[u64]) -> Result<Vec<ItemName>
         found.push_reserved(ItemName(names[*slot as usize]));
     }
     Ok(found)
+}
+
+/// A new guard of the participant, and the epoch then.
+fn open_at(world: &mut World<Val>, place: &Place) -> Result<(Guard, Epoch), Refused>
+    requires place { IsPlaceOf world.old (index_of place.now) }
+    ensures place { IfOk result (λ opened. place_of opened.0 ≡ index_of place.now) }
+    ensures opened { MatchResult result
+        (λ given. CanNest world.old.time (index_of place.now) × (world.new ≡ opened holdings_of world.old (index_of place.now)) × (given.1 ≡ epoch_of world.new.time.count))
+        (λ refused. (refused ≡ Refused.TooManyGuards) × ¬ (CanNest world.old.time (index_of place.now)) × (world.new ≡ world.old)) }
+{
+    let mut turn = world.at(place);
+    let guard = Guard::new(&mut turn)?;
+    let epoch = guard.epoch(&turn);
+    Ok((guard, epoch))
+}
+
+/// The names of these items are spent.
+fn mark_gone(items: &mut Vec<ItemState>, names: &[ItemName])
+    requires inside { All (λ name. name.0 < length items.old.items) names.now }
+    ensures items { items.new.items ≡ all_gone items.old.items names.now }
+    ensures room { vec_capacity items.new ≡ vec_capacity items.old }
+{
+    for name in names {
+        set_fate(items, name.0, Fate::Gone);
+    }
+}
+
+/// An opening that isn't nested is the place's last outermost one.
+fn note_opening(openings: &mut Vec<u64>, place: usize, moment: u64, is_nested: bool)
+    requires inside { place < length openings.old.items }
+    ensures openings { openings.new.items ≡ (if is_nested then openings.old.items else slice_set openings.old.items place moment) }
+    ensures room { vec_capacity openings.new ≡ vec_capacity openings.old }
+{
+    if !is_nested {
+        openings[place] = moment;
+    }
 }

@@ -12,7 +12,7 @@ use Rattle.sdd.specs.declared.script.stage.Held.{Held}
 use Rattle.sdd.specs.Sound.{IsThere}
 use Rattle.sdd.specs.Stage.{desk_of, held_item}
 use Rattle.sdd.proofs.Acts.{meets-retired}
-use Rattle.sdd.proofs.Tied.{tied_later, tied_spent, item_held, owner_held}
+use Rattle.sdd.proofs.Tied.{place_index, tied_later, tied_spent, item_held, owner_held}
 use Rattle.sdd.proofs.script.stage.Stage.retire.Goals as goal
 
 pub returns-clause-tied : goal.returns-clause-tied
@@ -36,8 +36,7 @@ returns-clause-does c =
     let is : Some held ≡ slice_index_or s.owners.items c.args.name.0 None = c.in-Some.ensures.held in
     let owner = item_held s.owners.items c.args.name.0 held is in
     let owns = owner_held s.world.home.slots s.items.items s.owners.items c.args.name.0 held c.requires.tied.owners is in
-    let inside : c.args.place < length s.places.items = (let a = c.requires.tied.taken in let b = c.requires.place in omega (arith, a, b)) in
-    let index : index_of c.index.result.now ≡ c.args.place = ap index_of c.index.ensures ∙ c.requires.tied.places c.args.place c.index.result.now inside in
+    let index : index_of c.index.result.now ≡ c.args.place = place_index s.moment s c.args.place c.index.result.now c.requires.tied c.requires.place c.index.ensures in
     let retires : c.retire_item.new.world ≡ retired s.world c.args.place (slot_of held.owner) =
     c.retire_item.ensures ∙ ap (λ (p : ℕ). retired s.world p (slot_of held.owner)) index in
     meets-retired (desk_of s) c.retire_item.new.world c.args.place c.args.name.0 held.item (slot_of held.owner) (map held_item c.take_held.new.owners.items) c.set_fate.new.items.items c.requires.place owner owns.slot_is retires (ap (λ (os : List (Option Held)). map held_item os) c.take_held.ensures.spent ∙ map-set held_item s.owners.items c.args.name.0 None) c.set_fate.ensures.items
