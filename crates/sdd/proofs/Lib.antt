@@ -11,7 +11,14 @@ pub mod SoundOpened
 pub mod Known
 pub mod KnownOpened
 pub mod Due
+pub mod Reached
+pub mod Tidy
+pub mod Emptying
+pub mod Accounts
+pub mod Out
+pub mod Ending
 pub mod Tied
+pub mod Leaving
 pub mod Worlds
 pub mod Acts
 pub mod Naming
