@@ -109,7 +109,8 @@ impl Stage {
         requires sound { IsSound (desk_of self.old) }
         requires more { self.old.moment < self.old.calls }
         ensures tied { OnOk result (IsTied self.new.moment self.new) }
-        ensures limits { OnOk result (self.new.calls ≡ self.old.calls) }
+        ensures moment { OnOk result (self.new.moment ≡ self.old.moment + 1) }
+        ensures calls { OnOk result (self.new.calls ≡ self.old.calls) }
         ensures step { MatchResult result (λ answer. Step (desk_of self.old) call.now answer (desk_of self.new)) (λ refused. refused ≡ Refused.NoMemory) }
     {
         let answer = self.answer_to(call)?;
