@@ -1,10 +1,12 @@
 -- A script leaves its world: it retires its owners and closes its guards, one after another
-use Rattle.std.proofs.Common.{◌≡◌, ℕ, ◌^◌, ◌<◌, List, [], ◌∷◌, ◌++◌, Option, Some, None, map, option_map, length, slice_index_or, refl, sym, ap, ◌∙◌, subst}
-use Rattle.std.proofs.lemmas.List.{map-append}
+use Rattle.std.proofs.Common.{◌≡◌, ℕ, ◌^◌, ◌<◌, List, [], ◌∷◌, ◌++◌, Option, Some, None, map, option_map, length, slice_index_or, inl, inr, refl, sym, ap, ◌∙◌, subst, arith}
+use Rattle.std.specs.Global.{Vec}
+use Rattle.std.proofs.lemmas.Bool.{cases_lt}
+use Rattle.std.proofs.lemmas.List.{map-append, get_or_append_left, get_or_past, length-set}
 use Rattle.std.proofs.Math.ListN.{get_or-map}
 use Rattle.sdd_token.specs.Units as token
 use Rattle.sdd_base.specs.Guard.{place_of}
-use Rattle.sdd_base.specs.Owned.{slot_of}
+use Rattle.sdd_base.specs.Owned.{slot_of, slots_home}
 use Rattle.sdd_base.specs.World.{World}
 use Rattle.sdd_base.specs.Steps.{retired, closed}
 use Rattle.sdd_base.specs.declared.guard.Guard.{Guard}
@@ -21,9 +23,12 @@ use Rattle.sdd.specs.Desk.{Desk, nothing}
 use Rattle.sdd.specs.Opened.{guard_place}
 use Rattle.sdd.specs.Script.{Runs}
 use Rattle.sdd.specs.Start.{IsStart}
-use Rattle.sdd.specs.Stage.{desk_of, held_item, OwnsItem, AreOwners, IsTied}
+use Rattle.sdd_world.specs.Place.{index_of}
+use Rattle.sdd_world.specs.declared.world.Place.{Place}
+use Rattle.sdd.specs.Stage.{desk_of, held_item, OwnsItem, IsOwnerOfItem, AreOwners, IsTied}
 use Rattle.sdd.specs.Out.{OnlyOut, slots_out}
-use Rattle.sdd.specs.Leaving.{slots_held, guards_held}
+use Rattle.sdd.specs.Leaving.{slots_held, guards_held, CanLeave}
+use Rattle.sdd.proofs.Closing.{Closes-closed}
 use Rattle.sdd.proofs.Entry.{at-end}
 use Rattle.sdd.proofs.Out.{runs_only_out, OnlyOut-same, OnlyOut-place, OnlyOut-retired_last, OnlyOut-spent_last, OnlyOut-closed_last, OnlyOut-shut_last, OnlyOut-some_place}
 use Rattle.sdd.proofs.Ending.{IsEnded, OnlyOut-ends, OnlyOut-unguarded}
@@ -99,3 +104,105 @@ left_unguarded w slots out = OnlyOut-unguarded w [] slots (λ g p e. let z : Non
 
 pub left_ends : (w end : World Val) (guards : List (Option ℕ)) → OnlyOut w guards [] → Closes holdings_of w end → IsEnded w.tally.made end
 left_ends w end guards out c = OnlyOut-ends w end guards [] (λ o s e. let z : None ≡ Some s = e in absurd (cc)) out c
+
+-- a script that ran can leave
+pub runs_can_leave : (l : Limits) (start : Desk) (calls : List Call) (answers : List Answer) (made : ℕ) (s : Stage) → length calls < 2 ^ 128 → IsStart l start → Runs start calls answers (desk_of s) → IsTied made s → CanLeave s
+runs_can_leave l start calls answers made s few is runs tied = record {
+  places = tied.places;
+  taken = tied.taken;
+  owners = tied.owners;
+  out = runs_stage_only_out l start calls answers made s few is runs tied;
+}
+
+-- the owners before the last one are owners
+owners-front : (home : token.Home) (items : List ItemState) (rest : List (Option Held)) (held : Option Held) → AreOwners home items (rest ++ held ∷ []) → AreOwners home items rest
+owners-front home items rest held are o =
+    elim (cases_lt o (length rest)) [
+      | inl lt ↦ subst (λ (x : Option Held). OwnsItem home items x) (get_or_append_left rest (held ∷ []) None o lt) (are o)
+      | inr past ↦ subst (λ (x : Option Held). OwnsItem home items x) (sym (get_or_past rest o None past)) tt
+    ]
+
+-- the last one is the owner of its item
+owner-last : (home : token.Home) (items : List ItemState) (rest : List (Option Held)) (held : Held) → AreOwners home items (rest ++ Some held ∷ []) → IsOwnerOfItem home items held
+owner-last home items rest held are = subst (λ (x : Option Held). OwnsItem home items x) (at-end rest (Some held) None) (are (length rest))
+
+module _ (s : Stage) (owners : Vec (Option Held)) (held : Option Held) (leaves : CanLeave s) (popped : s.owners.items ≡ owners.items ++ held ∷ []) where
+  owners-left : AreOwners s.world.home.slots s.items.items owners.items
+  owners-left = owners-front s.world.home.slots s.items.items owners.items held (subst (λ (os : List (Option Held)). AreOwners s.world.home.slots s.items.items os) popped leaves.owners)
+
+  out-before : OnlyOut s.world (guards_held s.guards.items) (slots_held (owners.items ++ held ∷ []))
+  out-before = subst (λ (os : List (Option Held)). OnlyOut s.world (guards_held s.guards.items) (slots_held os)) popped leaves.out
+
+  -- the last owner was spent before
+  pub leaves-spent : held ≡ None → CanLeave (record s { owners = owners })
+  leaves-spent none = record {
+    places = leaves.places;
+    taken = leaves.taken;
+    owners = owners-left;
+    out = passes_spent s.world (guards_held s.guards.items) owners.items (subst (λ (h : Option Held). OnlyOut s.world (guards_held s.guards.items) (slots_held (owners.items ++ h ∷ []))) none out-before);
+  }
+
+  module _ (one : Held) (some : held ≡ Some one) where
+    out-held : OnlyOut s.world (guards_held s.guards.items) (slots_held (owners.items ++ Some one ∷ []))
+    out-held = subst (λ (h : Option Held). OnlyOut s.world (guards_held s.guards.items) (slots_held (owners.items ++ h ∷ []))) some out-before
+
+    -- there is a place to retire it
+    pub some-place : 0 < length s.world.time.places
+    some-place = has_place s.world (guards_held s.guards.items) owners.items one out-held
+
+    -- it is one of the world's
+    pub at-home : slots_home one.owner ≡ s.world.home.slots
+    at-home =
+        (owner-last s.world.home.slots s.items.items owners.items one
+        (subst (λ (h : Option Held). AreOwners s.world.home.slots s.items.items (owners.items ++ h ∷ [])) some (subst (λ (os : List (Option Held)). AreOwners s.world.home.slots s.items.items os) popped leaves.owners))).home_is
+
+    -- place p retires it
+    pub leaves-retired : (w : World Val) (p : ℕ) → p < length s.world.time.places → w ≡ retired s.world p (slot_of one.owner) → CanLeave (record s { world = w; owners = owners })
+    leaves-retired w p lt retires =
+        subst (λ (v : World Val). CanLeave (record s { world = v; owners = owners })) (sym retires) (record {
+          places = leaves.places;
+          taken = leaves.taken ∙ sym (length-set s.world.time.places p _);
+          owners = owners-left;
+          out = retires_last s.world (guards_held s.guards.items) owners.items p one lt out-held;
+        })
+
+module _ (s : Stage) (guards : Vec (Option Guard)) (guard : Option Guard) (leaves : CanLeave s) (popped : s.guards.items ≡ guards.items ++ guard ∷ []) where
+  guards-before : OnlyOut s.world (guards_held (guards.items ++ guard ∷ [])) (slots_held s.owners.items)
+  guards-before = subst (λ (gs : List (Option Guard)). OnlyOut s.world (guards_held gs) (slots_held s.owners.items)) popped leaves.out
+
+  -- the last guard was closed before
+  pub leaves-shut : guard ≡ None → CanLeave (record s { guards = guards })
+  leaves-shut none = record {
+    places = leaves.places;
+    taken = leaves.taken;
+    owners = leaves.owners;
+    out = passes_closed s.world guards.items (slots_held s.owners.items) (subst (λ (g : Option Guard). OnlyOut s.world (guards_held (guards.items ++ g ∷ [])) (slots_held s.owners.items)) none guards-before);
+  }
+
+  module _ (one : Guard) (some : guard ≡ Some one) where
+    guards-held : OnlyOut s.world (guards_held (guards.items ++ Some one ∷ [])) (slots_held s.owners.items)
+    guards-held = subst (λ (g : Option Guard). OnlyOut s.world (guards_held (guards.items ++ g ∷ [])) (slots_held s.owners.items)) some guards-before
+
+    -- its place is there
+    pub guard-place : place_of one < length s.world.time.places
+    guard-place = place_there s.world guards.items (slots_held s.owners.items) one guards-held
+
+    -- it is closed
+    pub leaves-closed : (w : World Val) → w ≡ closed s.world (place_of one) → CanLeave (record s { world = w; guards = guards })
+    leaves-closed w closes =
+        subst (λ (v : World Val). CanLeave (record s { world = v; guards = guards })) (sym closes) (record {
+          places = leaves.places;
+          taken = leaves.taken ∙ sym (Closes-closed s.world.time (place_of one) guard-place).places;
+          owners = leaves.owners;
+          out = closes_last s.world guards.items (slots_held s.owners.items) one guards-held;
+        })
+
+-- what is in hand under a place's name has its number
+pub numbered : (s : Stage) (p : ℕ) (place : Place) → CanLeave s → p < length s.world.time.places → place ≡ slice_index_or s.places.items p place → index_of place ≡ p
+numbered s p place leaves lt is = ap index_of is ∙ leaves.places p place (let a = leaves.taken in omega (arith, a, lt))
+
+-- nothing is in hand any more
+pub has_left : (s : Stage) → CanLeave s → s.guards.items ≡ [] → s.owners.items ≡ [] → OnlyOut s.world [] []
+has_left s leaves guards owners =
+    subst (λ (gs : List (Option Guard)). OnlyOut s.world (guards_held gs) []) guards (subst (λ (os : List (Option Held)). OnlyOut s.world (guards_held s.guards.items) (slots_held os)) owners leaves.out)
+

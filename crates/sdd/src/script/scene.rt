@@ -17,16 +17,21 @@ pub struct Scene {
 impl Model for Scene {
     ghost use Rattle.sdd.specs.Desk.{Desk};
     ghost use Rattle.sdd.specs.Stage.{desk_of};
+    ghost use Rattle.sdd.specs.Leaving.{CanLeave};
 
     ghost Value = { Desk };
 
     ghost view = { λ scene. desk_of scene.stage };
+
+    ghost invariant = { λ scene. CanLeave scene.stage };
 }
 
 impl Scene {
     ghost use Rattle.sdd.specs.Stage.{desk_of};
+    ghost use Rattle.sdd.specs.Leaving.{CanLeave};
 
     pub(crate) fn of(stage: Stage) -> Scene
+        requires { CanLeave stage }
         ensures { result ≡ desk_of stage }
     {
         Scene { stage }
@@ -39,11 +44,15 @@ impl Scene {
         &self.stage.world
     }
 
-    /// Ends the scene, and answers how many items were made and reclaimed.
-    pub fn close(self) -> Tally {
+    /// Ends the scene: every owner is spent and every guard closed, and all that waits is reclaimed. Answers how many items were made and reclaimed.
+    ///
+    /// It takes no memory and is never refused.
+    pub fn close(self) -> Tally
+        ensures made { result.made ≡ self.world.tally.made }
+        ensures reclaimed { result.reclaimed ≡ self.world.tally.made }
+        ensures in_place { result.in_place ≡ 0 }
+    {
         let Scene { stage } = self;
-        let tally = stage.world.tally();
-        stage.dismantle();
-        tally
+        stage.close()
     }
 }

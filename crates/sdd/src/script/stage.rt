@@ -3,6 +3,7 @@ ghost use Rattle.std.specs.Prelude.{◌≡◌, ℕ, ◌+◌, ◌<◌, ◌≤◌,
 
 mod guards;
 mod items;
+mod leaving;
 
 use crate::script::item::ItemState;
 use crate::script::val::Val;

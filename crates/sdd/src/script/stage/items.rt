@@ -180,7 +180,7 @@ fn take_held(owners: &mut Vec<Option<Held>>, name: OwnerName) -> Option<Held>
 }
 
 /// The owner retires its item, which waits with the participant.
-fn retire_item(world: &mut World<Val>, place: &Place, owner: Owned<Val>)
+pub fn retire_item(world: &mut World<Val>, place: &Place, owner: Owned<Val>)
     requires place { IsPlaceOf world.old (index_of place.now) }
     requires home { slots_home owner ≡ world.old.home.slots }
     ensures { world.new ≡ retired world.old (index_of place.now) (slot_of owner) }

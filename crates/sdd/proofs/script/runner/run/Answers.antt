@@ -1,4 +1,4 @@
-use Rattle.std.proofs.Common.{◌≡◌, ℕ, ◌+◌, List, [], ◌∷◌, ◌++◌, length, take, slice_index_or, sym, ap, ◌∙◌, subst, arith}
+use Rattle.std.proofs.Common.{rules, ◌≡◌, ℕ, ◌+◌, List, [], ◌∷◌, ◌++◌, length, take, slice_index_or, sym, ap, ◌∙◌, subst, arith}
 use Rattle.std.proofs.lemmas.List.{take_more, take_all, length_push}
 use Rattle.sdd_lines.specs.declared.call.Call.{Call}
 use Rattle.sdd_lines.specs.declared.call.Call.TheVariants.{Register}
@@ -7,6 +7,7 @@ use Rattle.sdd.specs.Desk.{Desk}
 use Rattle.sdd.specs.Script.{Runs}
 use Rattle.sdd.specs.Stage.{desk_of}
 use Rattle.sdd.proofs.Reached.{runs_sound, runs_push}
+use Rattle.sdd.proofs.Leaving.{runs_can_leave}
 use Rattle.sdd.proofs.Due.{names_what_is_due}
 use Rattle.sdd.proofs.script.runner.run.Goals as goal
 
@@ -32,6 +33,12 @@ loop-call-preserved c =
       answered = (let a = before.answered in let b = ap (λ (given : List Answer). length given) pushed ∙ length_push c.loop-call.answers.items c.in-Ok-step.answer in omega (arith, a, b));
       room = (let a = before.room in let b = c.push_reserved.ensures.capacity in omega (arith, a, b));
     }
+
+pub of-requires : goal.of-requires
+of-requires c =
+    let all = take_all c.loop-call.call-index c.args.calls.now (let done = c.loop-call-test.false in omega (arith, done)) in
+    let ran = subst (λ (cs : List Call). Runs (desk_of c.in_ok-stage.stage) cs c.loop-call.answers.items (desk_of c.loop-call.stage)) all c.loop-call.invariant.runs in
+    runs_can_leave c.args.limits (desk_of c.in_ok-stage.stage) c.args.calls.now c.loop-call.answers.items c.loop-call.stage.moment c.loop-call.stage (search rules) c.in_ok-stage.ensures.start ran c.loop-call.invariant.tied
 
 -- the whole list of calls ran
 runs : (c : goal.After-of) → Runs (desk_of c.in_ok-stage.stage) c.args.calls.now c.loop-call.answers.items c.of.result
