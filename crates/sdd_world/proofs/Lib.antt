@@ -1,2 +1,5 @@
 pub mod Weights
+pub mod Own
+pub mod Shown
+pub mod Whole
 pub mod Closing

@@ -1,6 +1,6 @@
-use Rattle.std.proofs.Common.{◌≡◌, refl, inr, ap, ◌∙◌, true, false, IsTrue}
+use Rattle.std.proofs.Common.{refl, inr, ap, ◌∙◌, IsTrue}
 use Rattle.sdd_base.specs.World.{World}
-use Rattle.sdd_world.specs.Closing.{IsGuarded, NothingIsOut, Closes}
+use Rattle.sdd_world.specs.Closing.{IsGuarded, NothingIsOut}
 use Rattle.sdd_world.proofs.world.World.close.Goals as goal
 
 pub returns-then-not-is_unused : goal.returns-then-not-is_unused
