@@ -3,3 +3,4 @@ pub mod Own
 pub mod Shown
 pub mod Whole
 pub mod Closing
+pub mod Sweeping

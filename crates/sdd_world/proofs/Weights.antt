@@ -83,7 +83,7 @@ pub FreesOne-taken_out : {T : Type 0} (holds : T → List Holding) (w : World T)
 FreesOne-taken_out holds w p k l lk None = FreesOne-refl w
 FreesOne-taken_out holds w p k l lk (Some value) = FreesOne-then (freed-FreesOne w k lk) (SameSize-given_all (freed w k) p (holds value) l)
 
-in_range : (xs : List (Option Standing)) (k : ℕ) (s : Standing) → slice_index_or xs k None ≡ Some s → k < length xs
+pub in_range : (xs : List (Option Standing)) (k : ℕ) (s : Standing) → slice_index_or xs k None ≡ Some s → k < length xs
 in_range xs k s is = grind (arith, get_or_past)
 
 FreesOne-standing : {T : Type 0} (holds : T → List Holding) (w : World T) (p k : ℕ) → p < length w.time.places → (s : Option Standing) → standing_at w k ≡ s → FreesOne w (taken_out holds w p k (waiting_value w k s))
