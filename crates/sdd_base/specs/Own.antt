@@ -9,6 +9,14 @@ abbrev pub all_awaiting : List ℕ → Participant → Participant
 all_awaiting [] p = p
 all_awaiting (k ∷ ks) p = all_awaiting ks (awaiting (Item k) p)
 
+-- it is start, but that items in some slots wait as well
+abbrev pub HasGrown : Participant → Participant → Type 0
+HasGrown start p = (given : List ℕ) × (p ≡ all_awaiting given start)
+
+-- whatever old has grown from, new has grown from: some items more may wait, and nothing else has changed
+abbrev pub GrowsOn : Participant → Participant → Type 0
+GrowsOn old new = (start : Participant) → HasGrown start old → HasGrown start new
+
 -- a change at this count: what has then seen three is gone, and what that gave up, in these slots, waits; then it is decided whether anything waits
 abbrev pub changed_at : ℕ → List ℕ → Participant → Participant
 changed_at count given p = settled (all_awaiting given (rotated count p))

@@ -12,7 +12,7 @@ use Rattle.sdd_store.specs.declared.time.Participant.{Participant}
 use Rattle.sdd_store.specs.declared.standing.Standing.{Standing}
 use Rattle.sdd_store.specs.declared.standing.Standing.TheVariants.{Owned, Raw, Shared, Retired, Private as privately}
 use Rattle.sdd_base.specs.World.{World, standing_at, place_at}
-use Rattle.sdd_base.specs.Own.{all_awaiting, changed_at, opened_at}
+use Rattle.sdd_base.specs.Own.{all_awaiting, GrowsOn, changed_at, opened_at}
 use Rattle.sdd_base.specs.Steps.{retired, spilled, cell_closed, held_in, owner_given, given, given_all, freed, taken_out, waiting_value, slot_reclaimed, reclaimed, all_reclaimed, changed, opened, caught_up}
 use Rattle.sdd_base.specs.Steps as steps
 use Rattle.sdd_base.specs.Holding.{Holding, owned, atomic_owned}
@@ -61,7 +61,11 @@ module _ {T : Type 0} where
             ∙ again u.time p _ _;
       }
 
-  Gives-retired : (w : World T) (p k : ℕ) → Gives p w (retired w p k)
+  pub gives-grows : {p : ℕ} {u v : World T} → p < length u.time.places → Gives p u v → GrowsOn (place_at u p) (place_at v p)
+  gives-grows {p} {u} {v} l g =
+      λ start h. (h.0 ++ g.slots, Gives-here l g ∙ ap (λ (x : Participant). all_awaiting g.slots x) h.1 ∙ sym (all_awaiting-append h.0 g.slots start))
+
+  pub Gives-retired : (w : World T) (p k : ℕ) → Gives p w (retired w p k)
   Gives-retired w p k = record { slots = k ∷ []; time = refl }
 
   Gives-owner_given : (w : World T) (p k : ℕ) (s : Option Standing) → Gives p w (owner_given w p k s)
@@ -76,7 +80,7 @@ module _ {T : Type 0} where
   Gives-spilled w p None = Gives-nothing refl
   Gives-spilled w p (Some k) = Gives-owner_given w p k (standing_at w k)
 
-  Gives-cell_closed : (w : World T) (p c : ℕ) → p < length w.time.places → Gives p w (cell_closed w p c)
+  pub Gives-cell_closed : (w : World T) (p c : ℕ) → p < length w.time.places → Gives p w (cell_closed w p c)
   Gives-cell_closed w p c l = Gives-trans l (Gives-nothing refl) (Gives-spilled (record w { cells = without_entry w.cells c }) p (held_in (entry_at w.cells c)))
 
   pub Gives-given : (w : World T) (p : ℕ) (h : Holding) → p < length w.time.places → Gives p w (given w p h)
