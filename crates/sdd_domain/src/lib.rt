@@ -2,9 +2,14 @@
 #![tactic(auto)]
 
 mod board;
-mod domain;
+pub mod domain;
+pub mod local;
+mod own;
 mod plays;
+pub mod receipt;
 mod scan;
 mod steps;
 
 pub use domain::Domain;
+pub use local::Local;
+pub use receipt::Receipt;
