@@ -5,7 +5,6 @@ ghost use Rattle.sdd_domain.specs.Receipt.{capped, sum_of};
 
 use crate::board::Board;
 use crate::receipt::Receipt;
-use crate::steps;
 use atomic_table::Table;
 use sdd_base::Limits;
 use sdd_core::Refused;
@@ -74,16 +73,6 @@ impl Domain {
             limits,
             alloc,
         })
-    }
-
-    /// Some place is free at a moment of this call.
-    pub(crate) fn has_free_place(&self) -> bool {
-        for place in 0..self.participants {
-            if self.board.shared.peek(2 * place + 3) == steps::FREE {
-                return true;
-            }
-        }
-        false
     }
 
     /// Closes a domain, with the receipts of all its participants, and answers their tallies together.

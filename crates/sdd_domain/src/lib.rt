@@ -9,6 +9,8 @@ mod plays;
 pub mod receipt;
 mod scan;
 mod steps;
+#[cfg(test)]
+mod tests;
 
 pub use domain::Domain;
 pub use local::Local;

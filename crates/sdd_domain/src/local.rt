@@ -7,10 +7,9 @@ ghost use Rattle.sdd_domain.specs.Local.{CanNest, IsGuarded, IsNew, IsOpened, Op
 
 use crate::board::Token;
 use crate::domain::Domain;
-use crate::own;
 use crate::receipt::Receipt;
 use crate::scan::scan;
-use crate::steps;
+use crate::{own, steps};
 use sdd_core::Refused;
 use sdd_store::{Bags, Participant, Phase, Tally};
 use std::marker::Model;
@@ -52,6 +51,17 @@ fn take_place(domain: &Domain, token: &mut Token) -> Option<usize>
     None
 }
 
+/// What a registering without memory is refused with: where no place is free either, that goes before.
+fn want_of_memory(domain: &Domain) -> Refused
+    ensures { (result ≡ Refused.NoPlace) ⊎ (result ≡ Refused.NoMemory) }
+{
+    if (0..domain.participants).any(|place| steps::is_free(domain, place)) {
+        Refused::NoMemory
+    } else {
+        Refused::NoPlace
+    }
+}
+
 impl<'d> Local<'d> {
     /// Registers a participant.
     ///
@@ -61,11 +71,7 @@ impl<'d> Local<'d> {
         ensures refused { IfErr result (λ e. (e ≡ Refused.NoPlace) ⊎ (e ≡ Refused.NoMemory)) }
     {
         let Ok(bags) = Bags::with_room(domain.alloc, domain.limits.slots as usize) else {
-            return Err(if domain.has_free_place() {
-                Refused::NoMemory
-            } else {
-                Refused::NoPlace
-            });
+            return Err(want_of_memory(domain));
         };
         let mut token = steps::sit(domain);
         let Some(place) = take_place(domain, &mut token) else {
@@ -139,7 +145,7 @@ impl<'d> Local<'d> {
         requires { ¬ (IsGuarded self.old) }
         ensures { (count : ℕ) × IsOpened count self.old self.new }
     {
-        let count = steps::read(self.domain, &mut self.token);
+        let count = self.count();
         steps::write(self.domain, &mut self.token, self.place, count);
         steps::publish(self.domain, &mut self.token, self.place);
         own::catch_up(&mut self.own, count);

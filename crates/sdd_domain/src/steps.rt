@@ -32,6 +32,13 @@ pub fn sit(domain: &Domain) -> Token
     domain.board.shared.load_new_seat::<Sit>(0).1
 }
 
+/// The place is free at the moment of this call.
+pub fn is_free(domain: &Domain, place: usize) -> bool
+    requires { place < domain.now.participants }
+{
+    domain.board.shared.peek(2 * place + 3) == FREE
+}
+
 /// Tries to take a place, and answers its state before.
 pub fn register(domain: &Domain, token: &mut Token, place: usize) -> u64
     requires home { token.old.table_id ≡ domain.now.board.shared.table_id }

@@ -8,7 +8,7 @@ use lib.Seq.{set-get_or}
 use prog.Atomic.{either}
 use Rattle.atomic_table.proofs.Lists.{set_here, set_else, exchanged, at_longer}
 use Rattle.sdd_rule.specs.declared.EpochView.{EpochView}
-use Rattle.sdd_rule.specs.Epoch.{HasPlace, IsClosed, IsOpen, Scans, IsLone, IsPublished, Fits, Apart, EpochPart}
+use Rattle.sdd_rule.specs.Epoch.{HasPlace, IsClosed, IsOpen, Scans, IsLone, Fits, Apart, EpochPart}
 use Rattle.sdd_rule.specs.Steps.{Rises, Keeps, nobody, registered, knowing, counted, published, closed, ended, scanning, passed_by, unlocked, IsNext, Registers, Reads, Counts, Publishes, Closes, Ends, Locks, LooksAtState, LooksAtCount, Advances, Unlocks}
 use Rattle.sdd_rule.proofs.Frame.{each_set, two_set, each_snoc, two_snoc}
 

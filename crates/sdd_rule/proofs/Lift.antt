@@ -1,5 +1,5 @@
 -- A step of one part is a step of the table, if the other parts follow.
-use Rattle.std.proofs.Common.{◌≡◌, ◌⊎◌, ℕ, ◌+◌, ◌*◌, ◌<◌, ◌≤◌, ◌^◌, List, [], ◌∷◌, ◌++◌, map, length, get_or, set, sym, refl, ap, ◌∙◌, subst, arith, length-set}
+use Rattle.std.proofs.Common.{◌≡◌, ◌⊎◌, ℕ, ◌<◌, ◌≤◌, ◌^◌, List, [], ◌∷◌, map, length, get_or, set, sym, refl, ap, ◌∙◌, subst, arith, length-set}
 use mathlib.Core.Option.{some}
 use mathlib.Core.List.{map-append}
 use lib.ListN.{get_elem?}
@@ -9,9 +9,9 @@ use Rattle.atomic_table.proofs.Lists.{at_map}
 use Rattle.sdd_rule.specs.declared.EpochView.{EpochView}
 use Rattle.sdd_rule.specs.declared.View.{View}
 use Rattle.sdd_rule.specs.declared.Sizes.{Sizes}
-use Rattle.sdd_rule.specs.Words.{mark_word, after_places, cell_word, all_words}
+use Rattle.sdd_rule.specs.Words.{mark_word, after_places}
 use Rattle.sdd_rule.specs.Epoch.{EpochPart}
-use Rattle.sdd_rule.specs.Steps.{Rises, Keeps, nobody}
+use Rattle.sdd_rule.specs.Steps.{Rises, Keeps}
 use Rattle.sdd_rule.specs.Parts.{epoch_of, with_epoch, idle, PlacesPart, SlotsPart, CellsPart, Kept}
 use Rattle.sdd_rule.proofs.Frame.{same_part}
 use Rattle.sdd_rule.proofs.Epoch.{seated, blind}
@@ -65,7 +65,7 @@ module _ {S : Type 0} (sizes : Sizes) where
         (λ s w k _ at up _. (
           tt,
           let x : ℕ = f (get_or s.words i 0) in
-          record { places = places_spared s id i x me.0 (with_epoch me.0 w) k at low up refl; slots = slots_spared s id i x me.0 (with_epoch me.0 w) k at low up refl; cells = cells_spared s id i x me.0 (with_epoch me.0 w) k at low up refl },
+              record { places = places_spared s id i x me.0 (with_epoch me.0 w) k at low up refl; slots = slots_spared s id i x me.0 (with_epoch me.0 w) k at low up refl; cells = cells_spared s id i x me.0 (with_epoch me.0 w) k at low up refl },
         ))
 
     -- a step of another part, on a word that isn't the epoch's; it may use all that the epoch's part says

@@ -1,10 +1,10 @@
 -- The rule of a domain: a record of its parts
-use Rattle.std.specs.Prelude.{◌≡◌, ℕ, ◌+◌, ◌<◌, ◌≤◌, List, [], map, length}
-use Rattle.atomic_table.specs.Table.{State, Me}
+use Rattle.std.specs.Prelude.{ℕ, ◌<◌, ◌≤◌, map, length}
+use Rattle.atomic_table.specs.Table.{State}
 use Rattle.sdd_rule.specs.declared.EpochView.{EpochView}
 use Rattle.sdd_rule.specs.declared.View.{View}
 use Rattle.sdd_rule.specs.declared.Sizes.{Sizes}
-use Rattle.sdd_rule.specs.Words.{mark_word, after_places, job_word, cell_word, all_words}
+use Rattle.sdd_rule.specs.Words.{mark_word, cell_word, all_words}
 use Rattle.sdd_rule.specs.Epoch.{EpochPart}
 use Rattle.sdd_rule.specs.Steps.{nobody}
 

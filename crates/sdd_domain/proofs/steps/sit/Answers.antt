@@ -1,4 +1,4 @@
-use Rattle.std.proofs.Common.{arith, sym, ap, subst}
+use Rattle.std.proofs.Common.{arith}
 use Rattle.sdd_domain.proofs.Allowed.{may_sit}
 use Rattle.sdd_domain.proofs.steps.sit.Goals as goal
 
