@@ -1,5 +1,5 @@
 -- A participant of a domain as its callers see it, and what each call does to it
-use Rattle.std.specs.Prelude.{◌≡◌, ◌≢◌, ℕ, ◌+◌, ◌-◌, ◌^◌, ◌<◌, ◌≤◌, ◌==◌, false, [], if◌then◌else◌}
+use Rattle.std.specs.Prelude.{◌≡◌, ◌≢◌, ◌⊎◌, ℕ, ◌+◌, ◌-◌, ◌^◌, ◌<◌, ◌≤◌, ◌==◌, false, [], if◌then◌else◌}
 use Rattle.atomic_table.specs.Seated.{TableId}
 use Rattle.sdd_base.specs.declared.limits.Limits.{Limits}
 use Rattle.sdd_store.specs.declared.time.Participant.{Participant}
@@ -31,12 +31,13 @@ IsGuarded m = 0 < m.own.guards
 abbrev pub CanNest : Member → Type 0
 CanNest m = m.own.guards < m.limits.nesting
 
--- it has just registered with this domain
+-- it has just registered with this domain; where there may be no other, the count is 0 then
 pub record IsNew (domain : TableId) (most : Limits) (m : Member) : Type 0 where
   pub home : m.home ≡ domain
   pub limits : m.limits ≡ most
   pub place : m.place < most.participants
   pub own : m.own ≡ newcomer most.slots
+  pub only : IsOnly m → m.known ≡ 0
   pub tally : m.tally ≡ no_items
 
 -- the participant finds a count: another than the last one that it found is a change
@@ -69,11 +70,12 @@ pub record Closes (old new : Member) : Type 0 where
   pub inner : 1 < old.own.guards → new ≡ record old { own = record old.own { guards = old.own.guards - 1 } }
   pub last : old.own.guards ≡ 1 → IsLeft old new
 
--- a count that is told is at least the greatest that was known, and known from then on; under a guard it is the one at the guard's publish or the next
+-- a count that is told is at least the greatest that was known, and known from then on; under a guard it is the one at the guard's publish or the next, and the greatest that was known or the next
 pub record IsTold (count : ℕ) (old new : Member) : Type 0 where
   pub member : new ≡ record old { known = count }
   pub knew : old.known ≤ count
   pub guarded : IsGuarded old → (old.since ≤ count) × (count ≤ old.since + 1)
+  pub near : IsGuarded old → (count ≡ old.known) ⊎ (count ≡ old.known + 1)
   pub only : IsOnly old → count ≡ old.known
 
 -- what holds between two calls, of what the token knows
@@ -84,5 +86,6 @@ pub record IsPosed (n p : ℕ) (own : Participant) (v : EpochView) : Type 0 wher
   pub closed : own.guards ≡ 0 → IsClosed v
   pub opened : 0 < own.guards → IsOpen v × (v.count ≡ own.found)
   pub lone : 0 < own.guards → IsLone v → v.known ≡ v.count
+  pub low : 0 < own.guards → v.since ≤ v.known
   pub free : ¬ (Scans v)
   pub bare : own.bags.waiting ≡ []

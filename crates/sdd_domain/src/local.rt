@@ -41,7 +41,7 @@ fn take_place(domain: &Domain, token: &mut Token) -> Option<usize>
     requires home { token.old.table_id ≡ domain.now.board.shared.table_id }
     requires idle { epoch token.old ≡ nobody domain.now.participants }
     ensures home { token.new.table_id ≡ token.old.table_id }
-    ensures taken { IfSome result (λ place. (place < domain.now.participants) × ((count : ℕ) × (global : ℕ) × (epoch token.new ≡ registered domain.now.participants place count global))) }
+    ensures taken { IfSome result (λ place. (place < domain.now.participants) × ((count : ℕ) × (global : ℕ) × (epoch token.new ≡ registered domain.now.participants place count global) × (domain.now.participants ≡ 1 → global ≡ 0))) }
 {
     for place in 0..domain.participants {
         if steps::register(domain, token, place) == steps::FREE {

@@ -53,14 +53,21 @@ module _ (n : ℕ) where
   -- a step of the seat id, from v to w, with x in the word i
   moved : (ws : List ℕ) (vs : List EpochView) (id i x : ℕ) (v w : EpochView) → EpochPart n ws vs → get_elem? vs id ≡ some v → Fits n (set ws i x) w
       → ((j : ℕ) (u : EpochView) → j ≢ id → get_elem? vs j ≡ some u → Fits n ws u → Apart v u → Apart u v → Fits n (set ws i x) u × Apart w u × Apart u w)
+      → (n ≡ 1 → get_or (set ws i x) 3 0 ≡ 0 → get_or (set ws i x) 0 0 ≡ 0)
       → (get_or (set ws i x) 1 0 ≢ 0 → (j : ℕ) × (u : EpochView) × (get_elem? (set vs id w) j ≡ some u) × Scans u)
       → EpochPart n (set ws i x) (set vs id w)
-  moved ws vs id i x v w t at mine others held = record {
+  moved ws vs id i x v w t at mine others unused held = record {
     wide = let wide = t.wide in omega (arith, length-set ws i x);
     each = each_set (Fits n ws) (Fits n (set ws i x)) vs id w mine (λ j u apart e. (others j u apart e (t.each j u e) (t.two id j v u (λ z. apart (sym z)) at e) (t.two j id u v apart e at)).0);
     two = two_set Apart vs id w t.two (λ j u apart e. let o = others j u apart e (t.each j u e) (t.two id j v u (λ z. apart (sym z)) at e) (t.two j id u v apart e at) in (o.1, o.2));
+    unused = unused;
     held = held;
   }
+
+  -- the only place is taken by v, and its state word is as it was
+  used : (ws ws' : List ℕ) (v : EpochView) → Fits n ws v → HasPlace v → get_or ws' 3 0 ≡ get_or ws 3 0 → n ≡ 1 → ¬ (get_or ws' 3 0 ≡ 0)
+  used ws ws' v f live same one none = let i = f.inside live in let p : v.place ≡ 0 = omega arith in
+      let s : get_or ws 3 0 ≡ v.state = ap (λ (k : ℕ). get_or ws (2 * k + 3) 0) (sym p) ∙ f.state live in omega arith
 
   held_set : (ws : List ℕ) (vs : List EpochView) (id : ℕ) (v w : EpochView) → EpochPart n ws vs → get_elem? vs id ≡ some v → (Scans v → Scans w)
       → get_or ws 1 0 ≢ 0 → (j : ℕ) × (u : EpochView) × (get_elem? (set vs id w) j ≡ some u) × Scans u
@@ -77,6 +84,7 @@ module _ (n : ℕ) where
     wide = t.wide;
     each = each_set (Fits n ws) (Fits n ws) vs id w mine (λ j u apart e. t.each j u e);
     two = two_set Apart vs id w t.two (λ j u apart e. others u (t.each j u e) (t.two id j v u (λ z. apart (sym z)) at e) (t.two j id u v apart e at));
+    unused = t.unused;
     held = held_set ws vs id v w t at goes;
   }
 
@@ -88,17 +96,23 @@ module _ (n : ℕ) where
   level v = record { known = omega arith; found = omega arith }
 
   -- a step on a word of the seat's own place
-  own : (ws : List ℕ) (vs : List EpochView) (id i x : ℕ) (v w : EpochView) → EpochPart n ws vs → get_elem? vs id ≡ some v → HasPlace v → (i ≡ 2 * v.place + 3) ⊎ (i ≡ 2 * v.place + 4) → Fits n (set ws i x) w
+  own : (ws : List ℕ) (vs : List EpochView) (id i x : ℕ) (v w : EpochView) → EpochPart n ws vs → get_elem? vs id ≡ some v → HasPlace v → ((i ≡ 2 * v.place + 3) × (0 < x)) ⊎ (i ≡ 2 * v.place + 4) → Fits n (set ws i x) w
       → ((u : EpochView) → Fits n ws u → Apart v u → Apart u v → Apart w u × Apart u w)
       → (Scans v → Scans w) → EpochPart n (set ws i x) (set vs id w)
   own ws vs id i x v w t at live which mine others goes =
-      let high : 1 < i = ⊎_elim (λ (e : i ≡ 2 * v.place + 3). omega arith) (λ (e : i ≡ 2 * v.place + 4). omega arith) which in
+      let high : 1 < i = ⊎_elim (λ (e : (i ≡ 2 * v.place + 3) × (0 < x)). let e0 = e.0 in omega arith) (λ (e : i ≡ 2 * v.place + 4). omega arith) which in
+      let f = t.each id v at in let inside = f.inside live in let wide = t.wide in
       moved ws vs id i x v w t at mine
       (λ j u apart e f a b. let o = others u f a b in (
-        untouched ws i x u high (λ z. let p = a.places live z in ⊎_elim (λ (e : i ≡ 2 * v.place + 3). ((λ c. p (omega arith)), λ c. omega arith)) (λ (e : i ≡ 2 * v.place + 4). ((λ c. omega arith), λ c. p (omega arith))) which) f,
+        untouched ws i x u high (λ z. let p = a.places live z in ⊎_elim (λ (e : (i ≡ 2 * v.place + 3) × (0 < x)). let e0 = e.0 in ((λ c. p (omega arith)), λ c. omega arith)) (λ (e : i ≡ 2 * v.place + 4). ((λ c. omega arith), λ c. p (omega arith))) which) f,
         o.0,
         o.1,
       ))
+      (λ one none. ⊎_elim
+      (λ (e : (i ≡ 2 * v.place + 3) × (0 < x)). let e0 = e.0 in let e1 = e.1 in let is : i ≡ 3 = omega arith in let now : get_or (set ws i x) i 0 ≡ x = get_or-set_same ws i x 0 (omega arith) in
+      let now' : get_or (set ws i x) 3 0 ≡ x = ap (λ (k : ℕ). get_or (set ws i x) k 0) (sym is) ∙ now in absurd (omega arith))
+      (λ (e : i ≡ 2 * v.place + 4). absurd (used ws (set ws i x) v f live (get_or-set_other ws i 3 x 0 (λ c. omega arith)) one none))
+      which)
       (λ locked. held_set ws vs id v w t at goes (λ e. locked (get_or-set_other ws i 1 x 0 (λ e. omega arith) ∙ e)))
 
   -- read the global count
@@ -153,7 +167,7 @@ module _ (n : ℕ) where
   publishes id v shut low ws vs t at small = let i : ℕ = 2 * v.place + 3 in let g : ℕ = get_or ws 0 0 in let w : EpochView = published v g in let f = t.each id v at in let wide = t.wide in let inside = f.inside (omega arith) in let k = f.known in let l = f.found in
       let zero_same = get_or-set_other ws i 0 2 0 (λ e. omega arith) in (
         w,
-        own ws vs id i 2 v w t at (omega arith) (inl refl)
+        own ws vs id i 2 v w t at (omega arith) (inl (refl, omega arith))
             record {
               all = f.all;
               inside = λ _. inside;
@@ -180,7 +194,7 @@ module _ (n : ℕ) where
   closes id v is_open free ws vs t at small = let i : ℕ = 2 * v.place + 3 in let w : EpochView = closed v in let f = t.each id v at in let wide = t.wide in let inside = f.inside (omega arith) in
       let zero_same = get_or-set_other ws i 0 1 0 (λ e. omega arith) in (
         w,
-        own ws vs id i 1 v w t at (omega arith) (inl refl)
+        own ws vs id i 1 v w t at (omega arith) (inl (refl, omega arith))
             record {
               all = f.all;
               inside = λ _. inside;
@@ -207,7 +221,7 @@ module _ (n : ℕ) where
   ends id v shut ws vs t at small = let i : ℕ = 2 * v.place + 3 in let w : EpochView = ended v in let f = t.each id v at in let wide = t.wide in let inside = f.inside (omega arith) in
       let zero_same = get_or-set_other ws i 0 3 0 (λ e. omega arith) in (
         w,
-        own ws vs id i 3 v w t at (omega arith) (inl refl)
+        own ws vs id i 3 v w t at (omega arith) (inl (refl, omega arith))
             record {
               all = f.all;
               inside = λ z. absurd (omega arith);
@@ -257,6 +271,7 @@ module _ (n : ℕ) where
               record { places = a.places; locks = λ _ z. let l = (fu.locked z).0 in omega arith; passed = λ _ _ z. absurd (omega arith) },
               record { places = b.places; locks = λ z _. let l = (fu.locked z).0 in omega arith; passed = b.passed },
             ))
+            (λ one none. absurd (used ws (set ws 1 1) v f (omega arith) (get_or-set_other ws 1 3 1 0 (λ c. omega arith)) one none))
             (λ _. (id, w, set_here vs id w (at_length vs id v at), refl)),
         record { known = omega arith; found = omega arith },
         ((λ _. refl), (λ no. absurd (no hit)), never),
@@ -285,6 +300,7 @@ module _ (n : ℕ) where
           record { places = a.places; locks = λ z. absurd (omega arith); passed = λ z. absurd (omega arith) },
           record { places = b.places; locks = λ _ z. omega arith; passed = b.passed },
         ))
+        (λ one none. let l = (f.locked mine).1 in absurd (used ws (set ws 1 0) v f (omega arith) (get_or-set_other ws 1 3 0 0 (λ c. omega arith)) one none))
         (λ no. absurd (no (get_or-set_same ws 1 0 0 (omega arith)))),
     record { known = omega arith; found = omega arith },
     refl,
@@ -380,6 +396,7 @@ module _ (n : ℕ) where
               record { places = a.places; locks = a.locks; passed = a.passed },
               record { places = b.places; locks = b.locks; passed = b.passed },
             ))
+            (λ one none. let is_open = l.1 in absurd (used ws (set ws 0 y) v f (omega arith) (get_or-set_other ws 0 3 y 0 (λ c. omega arith)) one none))
             (λ locked. held_set ws vs id v w t at (λ z. z) (λ e. locked (one_same ∙ e))),
         record { known = omega arith; found = omega arith },
         ((λ _. refl), (λ no. absurd (no hit)), alone),
@@ -411,9 +428,10 @@ module _ (n : ℕ) where
               record { places = λ _ z e. other_place u fu z (sym e); locks = λ z. absurd (omega arith); passed = λ z. absurd (omega arith) },
               record { places = λ z _. other_place u fu z; locks = λ _ z. omega arith; passed = λ _ z. absurd (omega arith) },
             ))
+            (λ one none. let is : i ≡ 3 = omega arith in let now = get_or-set_same ws i 1 0 (omega arith) in let now' : get_or (set ws i 1) 3 0 ≡ 1 = ap (λ (k : ℕ). get_or (set ws i 1) k 0) (sym is) ∙ now in absurd (omega arith))
             (λ locked. held_set ws vs id v w t at (λ z. absurd (omega arith)) (λ e. locked (get_or-set_other ws i 1 1 0 (λ e. omega arith) ∙ e))),
         record { known = omega arith; found = omega arith },
-        λ p' is. ((λ _. (c, g, ap (λ (k : ℕ). registered n k c g) (let e : p ≡ p' = omega arith in e))), (λ no. absurd (no hit))),
+        λ p' is. ((λ _. (c, g, ap (λ (k : ℕ). registered n k c g) (let e : p ≡ p' = omega arith in e), λ one. let e : 3 ≡ i = omega arith in t.unused one (ap (λ (k : ℕ). get_or ws k 0) e ∙ hit))), (λ no. absurd (no hit))),
       ))
       (λ miss. (v, unmoved ws vs id i v t at, level v, λ p' is. ((λ e. absurd (miss e)), (λ _. refl))))
 
@@ -440,15 +458,17 @@ module _ (n : ℕ) where
     wide = t.wide;
     each = each_snoc (Fits n ws) vs (nobody a) t.each (fresh a is ws);
     two = two_snoc Apart vs (nobody a) t.two (with_nobody a);
+    unused = t.unused;
     held = λ z. let h = t.held z in (h.0, h.1, at_longer vs (nobody a ∷ []) h.0 h.1 h.2, h.3);
   }
 
   -- the start
-  pub starts : (ws : List ℕ) → 2 * n + 3 ≤ length ws → get_or ws 1 0 ≡ 0 → EpochPart n ws (nobody n ∷ [])
-  starts ws wide free = record {
+  pub starts : (ws : List ℕ) → 2 * n + 3 ≤ length ws → get_or ws 0 0 ≡ 0 → get_or ws 1 0 ≡ 0 → EpochPart n ws (nobody n ∷ [])
+  starts ws wide zero_first free = record {
     wide = wide;
     each = λ j v e. subst (λ (u : EpochView). Fits n ws u) (one j v e).1 (fresh n (λ _. refl) ws);
     two = λ j k v w apart e e'. absurd (apart ((one j v e).0 ∙ sym (one k w e').0));
+    unused = λ _ _. zero_first;
     held = λ z. absurd (z free);
   }
     where
@@ -467,5 +487,6 @@ module _ (n : ℕ) where
     each = λ j v e. let f = t.each j v e in untouched ws i x v high
         (λ z. let l = f.inside z in ⊎_elim (λ (e : i ≡ 2). ((λ c. omega arith), λ c. omega arith)) (λ (e : 2 * n + 3 ≤ i). ((λ c. omega arith), λ c. omega arith)) which) f;
     two = t.two;
+    unused = λ one z. get_or-set_other ws i 0 x 0 (λ e. omega arith) ∙ t.unused one (sym (get_or-set_other ws i 3 x 0 (λ e. ⊎_elim (λ (e' : i ≡ 2). omega arith) (λ (e' : 2 * n + 3 ≤ i). omega arith) which)) ∙ z);
     held = λ e. t.held (λ z. e (get_or-set_other ws i 1 x 0 (λ e. omega arith) ∙ z));
   }

@@ -46,9 +46,10 @@ pub record Apart (v w : EpochView) : Type 0 where
   pub locks : Scans v → ¬ (Scans w)
   pub passed : Scans v → IsOpen w → w.place < v.looked → v.count ≤ w.since
 
--- n places, the words, and what all participants know
+-- n places, the words, and what all participants know; where there is one place, the count is 0 until it is taken
 pub record EpochPart (n : ℕ) (ws : List ℕ) (vs : List EpochView) : Type 0 where
   pub wide : after_places n ≤ length ws
   pub each : (j : ℕ) (v : EpochView) → get_elem? vs j ≡ some v → Fits n ws v
   pub two : (j k : ℕ) (v w : EpochView) → j ≢ k → get_elem? vs j ≡ some v → get_elem? vs k ≡ some w → Apart v w
+  pub unused : n ≡ 1 → slice_index ws (state_word 0) ≡ 0 → slice_index ws global_word ≡ 0
   pub held : slice_index ws lock_word ≢ 0 → (j : ℕ) × (v : EpochView) × (get_elem? vs j ≡ some v) × Scans v

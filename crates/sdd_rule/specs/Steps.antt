@@ -52,7 +52,7 @@ IsNext v q = Scans v × ((q ≡ v.looked) ⊎ ((v.looked ≡ v.place) × (q ≡ 
 
 -- each of these: what was known before, the number found (at a store the number stored), and what is known after
 abbrev pub Registers : ℕ → EpochView → ℕ → EpochView → Type 0
-Registers i v x w = (p : ℕ) → i ≡ state_word p → (x ≡ 0 → (c : ℕ) × (g : ℕ) × (w ≡ registered v.all p c g)) × (x ≢ 0 → w ≡ v)
+Registers i v x w = (p : ℕ) → i ≡ state_word p → (x ≡ 0 → (c : ℕ) × (g : ℕ) × (w ≡ registered v.all p c g) × (IsLone v → g ≡ 0)) × (x ≢ 0 → w ≡ v)
 
 -- the count read is at least what was known; under an open guard it is the one at the publish, or one more
 abbrev pub Reads : EpochView → ℕ → EpochView → Type 0
