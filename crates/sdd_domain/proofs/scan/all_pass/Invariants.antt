@@ -1,0 +1,12 @@
+use Rattle.std.proofs.Common.{◌≡◌}
+use Rattle.sdd_rule.specs.Steps.{IsNext}
+use Rattle.sdd_domain.specs.Token.{epoch, IsSameBut}
+use Rattle.sdd_domain.specs.Scan.{looked_to}
+use Rattle.sdd_domain.proofs.scan.all_pass.Given as goal
+
+abbrev pub invariant-loop-other : goal.invariant-loop-other
+invariant-loop-other l = record {
+  same : IsSameBut l.fn.token l.token;
+  looked : epoch l.token ≡ looked_to (epoch l.fn.token) (epoch l.token).looked;
+  next : IsNext (epoch l.token) l.other;
+}

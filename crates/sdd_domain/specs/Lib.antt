@@ -1,0 +1,5 @@
+pub mod Token
+pub mod Scan
+pub mod Domain
+pub mod Local
+pub mod Receipt

@@ -1,0 +1,91 @@
+-- A participant of a domain as its callers see it, and what each call does to it
+use Rattle.std.specs.Prelude.{◌≡◌, ◌≢◌, ◌⊎◌, ℕ, ◌+◌, ◌-◌, ◌^◌, ◌<◌, ◌≤◌, ◌==◌, false, [], if◌then◌else◌}
+use Rattle.atomic_table.specs.Seated.{TableId}
+use Rattle.sdd_base.specs.declared.limits.Limits.{Limits}
+use Rattle.sdd_store.specs.declared.time.Participant.{Participant}
+use Rattle.sdd_store.specs.Time.{newcomer, nested, rotated, settled, counted_down}
+use Rattle.sdd_store.specs.declared.tally.Tally.{Tally}
+use Rattle.sdd_store.specs.Tally.{no_items}
+use Rattle.sdd_rule.specs.declared.EpochView.{EpochView}
+use Rattle.sdd_rule.specs.Epoch.{IsClosed, IsOpen, Scans, IsLone}
+
+-- the domain, its limits, the place, what the participant keeps of its own, the greatest count that it knows, the global count at its last publish, and what it made and reclaimed
+pub record Member : Type 0 where
+  pub home : TableId
+  pub limits : Limits
+  pub place : ℕ
+  pub own : Participant
+  pub known : ℕ
+  pub since : ℕ
+  pub tally : Tally
+
+-- there is no other participant
+abbrev pub IsOnly : Member → Type 0
+IsOnly m = m.limits.participants ≡ 1
+
+-- a guard is open
+abbrev pub IsGuarded : Member → Type 0
+IsGuarded m = 0 < m.own.guards
+
+-- one guard more is within the limit
+abbrev pub CanNest : Member → Type 0
+CanNest m = m.own.guards < m.limits.nesting
+
+-- it has just registered with this domain; where there may be no other, the count is 0 then
+pub record IsNew (domain : TableId) (most : Limits) (m : Member) : Type 0 where
+  pub home : m.home ≡ domain
+  pub limits : m.limits ≡ most
+  pub place : m.place < most.participants
+  pub own : m.own ≡ newcomer most.slots
+  pub only : IsOnly m → m.known ≡ 0
+  pub tally : m.tally ≡ no_items
+
+-- the participant finds a count: another than the last one that it found is a change
+abbrev pub caught_up : ℕ → Participant → Participant
+caught_up count p = if p.found == count then p else settled (rotated count p)
+
+-- an outermost opening finds a count, which is at least the greatest that was known; where the participant is the only one it is that one
+pub record IsOpened (count : ℕ) (old new : Member) : Type 0 where
+  pub member : new ≡ record old { own = nested (caught_up count old.own); known = new.since; since = new.since }
+  pub knew : old.known ≤ count
+  pub knows : count ≤ new.since
+  pub only : IsOnly old → (count ≡ old.known) × (new.since ≡ old.known)
+
+-- one guard more is open; only an outermost opening looks at the count
+pub record Opens (old new : Member) : Type 0 where
+  pub nested : IsGuarded old → new ≡ record old { own = nested old.own }
+  pub outermost : ¬ (IsGuarded old) → (count : ℕ) × IsOpened count old new
+
+-- the last guard is closed: at countdown 0 after a scan, which may raise the count; where the participant is the only one the scan does, but at the last count
+pub record IsLeft (old new : Member) : Type 0 where
+  pub member : new ≡ record old { own = record old.own { guards = 0; countdown = counted_down false old.own.countdown }; known = new.known }
+  pub knows : old.known ≤ new.known
+  pub quiet : old.own.countdown ≢ 0 → new.known ≡ old.known
+  pub raised : IsOnly old → old.own.countdown ≡ 0 → old.known + 1 < 2 ^ 64 → new.known ≡ old.known + 1
+  pub last : IsOnly old → old.own.countdown ≡ 0 → old.known + 1 ≡ 2 ^ 64 → new.known ≡ old.known
+
+-- a guard is closed; without an open one nothing happens
+pub record Closes (old new : Member) : Type 0 where
+  pub none : ¬ (IsGuarded old) → new ≡ old
+  pub inner : 1 < old.own.guards → new ≡ record old { own = record old.own { guards = old.own.guards - 1 } }
+  pub last : old.own.guards ≡ 1 → IsLeft old new
+
+-- a count that is told is at least the greatest that was known, and known from then on; under a guard it is the one at the guard's publish or the next, and the greatest that was known or the next
+pub record IsTold (count : ℕ) (old new : Member) : Type 0 where
+  pub member : new ≡ record old { known = count }
+  pub knew : old.known ≤ count
+  pub guarded : IsGuarded old → (old.since ≤ count) × (count ≤ old.since + 1)
+  pub near : IsGuarded old → (count ≡ old.known) ⊎ (count ≡ old.known + 1)
+  pub only : IsOnly old → count ≡ old.known
+
+-- what holds between two calls, of what the token knows
+pub record IsPosed (n p : ℕ) (own : Participant) (v : EpochView) : Type 0 where
+  pub all : v.all ≡ n
+  pub place : v.place ≡ p
+  pub inside : p < n
+  pub closed : own.guards ≡ 0 → IsClosed v
+  pub opened : 0 < own.guards → IsOpen v × (v.count ≡ own.found)
+  pub lone : 0 < own.guards → IsLone v → v.known ≡ v.count
+  pub low : 0 < own.guards → v.since ≤ v.known
+  pub free : ¬ (Scans v)
+  pub bare : own.bags.waiting ≡ []

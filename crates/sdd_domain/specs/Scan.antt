@@ -1,0 +1,21 @@
+-- What a scan leaves
+use Rattle.std.specs.Prelude.{◌≡◌, ℕ, ◌+◌, ◌^◌, ◌<◌, ◌≤◌}
+use Rattle.sdd_rule.specs.declared.EpochView.{EpochView}
+use Rattle.sdd_rule.specs.Epoch.{Scans, IsLone}
+
+-- the looks went on to the place k
+abbrev pub looked_to : EpochView → ℕ → EpochView
+looked_to v k = record v { looked = k }
+
+-- after a scan only the count that is known may have risen; a lone participant that knew its own count has raised it, unless it was the last
+pub record Scanned (v w : EpochView) : Type 0 where
+  pub all : w.all ≡ v.all
+  pub place : w.place ≡ v.place
+  pub state : w.state ≡ v.state
+  pub count : w.count ≡ v.count
+  pub since : w.since ≡ v.since
+  pub found : w.found ≡ v.found
+  pub free : ¬ (Scans w)
+  pub rises : v.known ≤ w.known
+  pub raised : IsLone v → v.known ≡ v.count → v.count + 1 < 2 ^ 64 → w.known ≡ v.count + 1
+  pub last : IsLone v → v.known ≡ v.count → v.count + 1 ≡ 2 ^ 64 → w.known ≡ v.known

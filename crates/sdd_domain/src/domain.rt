@@ -1,0 +1,97 @@
+ghost use Rattle.std.specs.Prelude.{◌≡◌, ◌+◌, ◌≤◌, ◌⊎◌, ◌^◌, Ok, IfOk, IfErr, MatchResult};
+ghost use Rattle.sdd_rule.specs.Words.{all_words};
+ghost use Rattle.sdd_base.specs.Limits.{AreInRange};
+ghost use Rattle.sdd_domain.specs.Receipt.{capped, sum_of};
+
+use crate::board::Board;
+use crate::receipt::Receipt;
+use atomic_table::Table;
+use sdd_base::Limits;
+use sdd_core::Refused;
+use sdd_rule::Sizes;
+use sdd_store::Tally;
+use std::alloc::Global;
+
+/// What participants in several threads share.
+///
+/// Each has a [`Local`](crate::Local) of its own. A domain must be spent by `close`.
+pub struct Domain {
+    pub(crate) board: Board,
+    pub(crate) participants: usize,
+    pub(crate) limits: Limits,
+    pub(crate) alloc: Global,
+    ghost sized: { (board.shared.key.participants ≡ participants) × (participants ≤ 1024) × (board.shared.table_id.words ≡ all_words board.shared.key) },
+    ghost limited: { AreInRange limits × (participants ≡ limits.participants) },
+}
+
+/// Words for a domain of these sizes.
+fn lay(alloc: Global, sizes: &Sizes) -> Result<Board, Refused>
+    requires { (sizes.now.participants ≤ 1024) × (sizes.now.slots ≤ 2 ^ 24) × (sizes.now.jobs ≤ 65536) × (sizes.now.cells ≤ 2 ^ 24) }
+    ensures sizes { IfOk result (λ board. (board.shared.key ≡ sizes.now) × (board.shared.table_id.words ≡ all_words sizes.now)) }
+    ensures refused { IfErr result (λ e. e ≡ Refused.NoMemory) }
+{
+    let count = 2 * sizes.participants + 3 + sizes.slots + sizes.jobs + sizes.cells;
+    let words = vec![in alloc; 0u64; count as usize]?;
+    let (board, _) = Table::of_words(alloc, words.as_slice(), sizes)?;
+    Ok(board)
+}
+
+fn add(sum: Tally, tally: Tally) -> Tally
+    ensures { result ≡ record { made = capped (sum.made + tally.made); reclaimed = capped (sum.reclaimed + tally.reclaimed); in_place = capped (sum.in_place + tally.in_place) } }
+{
+    Tally {
+        made: sum.made.saturating_add(tally.made),
+        reclaimed: sum.reclaimed.saturating_add(tally.reclaimed),
+        in_place: sum.in_place.saturating_add(tally.in_place),
+    }
+}
+
+impl Domain {
+    ghost use Rattle.sdd_domain.specs.Domain.{limits_of};
+
+    /// A domain without participants, at epoch 0.
+    ///
+    /// `BadLimits` where a limit is out of its range; `NoMemory` where the memory for its words was refused.
+    pub fn new(alloc: Global, limits: Limits) -> Result<Domain, Refused>
+        ensures new { IfOk result (λ domain. limits_of domain ≡ limits) }
+        ensures limits { MatchResult result (λ _. AreInRange limits)
+            (λ e. ((e ≡ Refused.BadLimits) × ¬ (AreInRange limits)) ⊎ ((e ≡ Refused.NoMemory) × AreInRange limits)) }
+    {
+        if !limits.are_in_range() {
+            return Err(Refused::BadLimits);
+        }
+        let sizes = Sizes {
+            participants: limits.participants,
+            slots: limits.slots,
+            jobs: limits.jobs,
+            cells: limits.cells,
+        };
+        let board = lay(alloc, &sizes)?;
+        Ok(Domain {
+            board,
+            participants: limits.participants as usize,
+            limits,
+            alloc,
+        })
+    }
+
+    /// Closes a domain, with the receipts of all its participants, and answers their tallies together.
+    ///
+    /// `OwnerOut` where something is still out; the domain and the receipts come back. There are no items yet, so that
+    /// it isn't answered.
+    pub fn close(self, receipts: Vec<Receipt>) -> Result<Tally, (Domain, Vec<Receipt>, Refused)>
+        ensures { result ≡ Ok (sum_of receipts.items) }
+    {
+        let Domain {
+            board: _,
+            participants: _,
+            limits: _,
+            alloc: _,
+        } = self;
+        let mut sum = Tally::new();
+        for receipt in &receipts {
+            sum = add(sum, receipt.tally());
+        }
+        Ok(sum)
+    }
+}

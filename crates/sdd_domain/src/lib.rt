@@ -1,0 +1,17 @@
+//! A domain: what participants in several threads share, with guards over it, and no items yet.
+#![tactic(auto)]
+
+mod board;
+pub mod domain;
+pub mod local;
+mod own;
+mod plays;
+pub mod receipt;
+mod scan;
+mod steps;
+#[cfg(test)]
+mod tests;
+
+pub use domain::Domain;
+pub use local::Local;
+pub use receipt::Receipt;

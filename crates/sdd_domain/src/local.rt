@@ -1,0 +1,205 @@
+ghost use Rattle.std.specs.Prelude.{◌≡◌, ◌⊎◌, ◌<◌, ℕ, IfSome, IfOk, IfErr, MatchResult};
+ghost use Rattle.sdd_store.specs.Time.{accelerated, has_garbage, with_garbage};
+ghost use Rattle.sdd_rule.specs.Steps.{nobody, registered};
+ghost use Rattle.sdd_domain.specs.Token.{epoch};
+ghost use Rattle.sdd_domain.specs.Domain.{home_of, limits_of};
+ghost use Rattle.sdd_domain.specs.Local.{CanNest, IsGuarded, IsNew, IsOpened, Opens, IsLeft, Closes, IsTold};
+
+use crate::board::Token;
+use crate::domain::Domain;
+use crate::receipt::Receipt;
+use crate::scan::scan;
+use crate::{own, steps};
+use sdd_core::Refused;
+use sdd_store::{Bags, Participant, Phase, Tally};
+use std::marker::Model;
+
+/// A participant of a domain.
+///
+/// It must be spent by `end`.
+pub struct Local<'d> {
+    domain: &'d Domain,
+    token: Token,
+    place: usize,
+    own: Participant,
+    tally: Tally,
+}
+
+impl<'d> Model for Local<'d> {
+    ghost use Rattle.std.specs.Prelude.{◌≡◌};
+    ghost use Rattle.sdd_domain.specs.Local.{Member, IsPosed};
+
+    ghost Value = { Member };
+
+    ghost view = { λ l. record { home = l.token.table_id; limits = l.domain.now.limits; place = l.place; own = l.own; known = l.token.me.0.epoch.known; since = l.token.me.0.epoch.since; tally = l.tally } };
+
+    ghost invariant = { λ l. (l.token.table_id ≡ l.domain.now.board.shared.table_id) × IsPosed l.domain.now.participants l.place l.own l.token.me.0.epoch };
+}
+
+/// Takes a free place.
+fn take_place(domain: &Domain, token: &mut Token) -> Option<usize>
+    requires home { token.old.table_id ≡ domain.now.board.shared.table_id }
+    requires idle { epoch token.old ≡ nobody domain.now.participants }
+    ensures home { token.new.table_id ≡ token.old.table_id }
+    ensures taken { IfSome result (λ place. (place < domain.now.participants) × ((count : ℕ) × (global : ℕ) × (epoch token.new ≡ registered domain.now.participants place count global) × (domain.now.participants ≡ 1 → global ≡ 0))) }
+{
+    for place in 0..domain.participants {
+        if steps::register(domain, token, place) == steps::FREE {
+            return Some(place);
+        }
+    }
+    None
+}
+
+/// What a registering without memory is refused with: where no place is free either, that goes before.
+fn want_of_memory(domain: &Domain) -> Refused
+    ensures { (result ≡ Refused.NoPlace) ⊎ (result ≡ Refused.NoMemory) }
+{
+    if (0..domain.participants).any(|place| steps::is_free(domain, place)) {
+        Refused::NoMemory
+    } else {
+        Refused::NoPlace
+    }
+}
+
+impl<'d> Local<'d> {
+    /// Registers a participant.
+    ///
+    /// `NoPlace` where all places were found taken; `NoMemory` where the memory for what may wait with it was refused.
+    pub fn register(domain: &'d Domain) -> Result<Local<'d>, Refused>
+        ensures registered { IfOk result (IsNew (home_of domain.now) (limits_of domain.now)) }
+        ensures refused { IfErr result (λ e. (e ≡ Refused.NoPlace) ⊎ (e ≡ Refused.NoMemory)) }
+    {
+        let Ok(bags) = Bags::with_room(domain.alloc, domain.limits.slots as usize) else {
+            return Err(want_of_memory(domain));
+        };
+        let mut token = steps::sit(domain);
+        let Some(place) = take_place(domain, &mut token) else {
+            return Err(Refused::NoPlace);
+        };
+        Ok(Local {
+            domain,
+            token,
+            place,
+            own: Participant {
+                phase: Phase::Live,
+                found: 0,
+                countdown: 128,
+                guards: 0,
+                bags,
+            },
+            tally: Tally::new(),
+        })
+    }
+
+    /// Ends the participant, whose place isn't free again.
+    ///
+    /// Where one of its guards is open it comes back.
+    pub fn end(self) -> Result<Receipt, Local<'d>>
+        ensures { MatchResult result
+            (λ receipt. ¬ (IsGuarded self.entry) × (receipt ≡ record { home = self.entry.home; tally = self.entry.tally }))
+            (λ local. IsGuarded self.entry × (local ≡ self.entry)) }
+    {
+        if self.own.guards > 0 {
+            return Err(self);
+        }
+        let Local {
+            domain,
+            mut token,
+            place,
+            own: _,
+            tally,
+        } = self;
+        steps::end(domain, &mut token, place);
+        Ok(Receipt::new(token, tally))
+    }
+
+    /// How many items it made, reclaimed and dropped in place.
+    pub fn tally(&self) -> Tally
+        ensures { result ≡ self.now.tally }
+    {
+        self.tally
+    }
+
+    /// Opens one more guard; an outermost one looks at the count.
+    ///
+    /// `TooManyGuards` where as many are open as may nest.
+    pub fn open_guard(&mut self) -> Result<usize, Refused>
+        ensures { MatchResult result
+            (λ place. (place ≡ self.old.place) × CanNest self.old × Opens self.old self.new)
+            (λ e. (e ≡ Refused.TooManyGuards) × ¬ (CanNest self.old) × (self.new ≡ self.old)) }
+    {
+        if u64::from(self.own.guards) >= self.domain.limits.nesting {
+            return Err(Refused::TooManyGuards);
+        }
+        if self.own.guards == 0 {
+            self.enter();
+        } else {
+            self.own.guards += 1;
+        }
+        Ok(self.place)
+    }
+
+    /// The outermost opening: reads the count, and then publishes it.
+    fn enter(&mut self)
+        requires { ¬ (IsGuarded self.old) }
+        ensures { (count : ℕ) × IsOpened count self.old self.new }
+    {
+        let count = self.count();
+        steps::write(self.domain, &mut self.token, self.place, count);
+        steps::publish(self.domain, &mut self.token, self.place);
+        own::catch_up(&mut self.own, count);
+        self.own.guards = 1;
+    }
+
+    /// Closes a guard; the last one publishes the end, after a scan at countdown 0.
+    pub fn close_guard(&mut self)
+        ensures { Closes self.old self.new }
+    {
+        match self.own.guards {
+            0 => {}
+            1 => self.leave(),
+            _ => self.own.guards -= 1,
+        }
+    }
+
+    /// The last close.
+    fn leave(&mut self)
+        requires { self.old.own.guards ≡ 1 }
+        ensures { IsLeft self.old self.new }
+    {
+        if self.own.countdown == 0 {
+            scan(self.domain, &mut self.token, self.place, self.own.found);
+        }
+        own::leave(&mut self.own);
+        steps::close(self.domain, &mut self.token, self.place);
+    }
+
+    /// The count of epochs at this moment.
+    pub fn count(&mut self) -> u64
+        ensures { IsTold result self.old self.new }
+    {
+        steps::read(self.domain, &mut self.token)
+    }
+
+    /// Something may wait with the participant.
+    pub fn has_garbage(&self) -> bool
+        ensures { result ≡ has_garbage self.now.own }
+    {
+        self.own.countdown != 128
+    }
+
+    /// Has the participant count down to a scan, as a retirement does.
+    pub fn stir(&mut self)
+        ensures { self.new ≡ record self.old { own = with_garbage self.old.own } }
+    {
+        own::stir(&mut self.own);
+    }
+
+    /// Has the last close of the participant scan.
+    pub fn accelerate(&mut self)
+        ensures { self.new ≡ record self.old { own = accelerated self.old.own } }
+    {
+        own::accelerate(&mut self.own);
+    }
+}

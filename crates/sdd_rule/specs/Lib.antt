@@ -1,0 +1,4 @@
+pub mod Words
+pub mod Epoch
+pub mod Steps
+pub mod Parts

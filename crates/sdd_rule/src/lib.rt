@@ -1,0 +1,51 @@
+//! The rule that the words of a domain keep, part by part, and what a participant knows of each part.
+//!
+//! No value of these types is made: a participant's token carries one for the proofs alone.
+#![tactic(auto)]
+
+/// What a participant knows of the epoch.
+pub struct EpochView {
+    /// How many places there are; 0 where it isn't a participant's token.
+    pub all: u64,
+    pub place: u64,
+    /// 0 with no place, 1 closed, 2 open.
+    pub state: u64,
+    /// What its own count word has.
+    pub count: u64,
+    /// The global count at its last publish.
+    pub since: u64,
+    /// The greatest global count that it knows.
+    pub known: u64,
+    /// The last count that it found.
+    pub found: u64,
+    /// 1 while it holds the lock.
+    pub scans: u64,
+    /// In its scan each other place below this one was looked at and passed.
+    pub looked: u64,
+}
+
+/// What a participant knows of ended places: nothing yet.
+pub struct PlacesView {}
+
+/// What a participant knows of slots and jobs: nothing yet.
+pub struct SlotsView {}
+
+/// What a participant knows of cells: nothing yet.
+pub struct CellsView {}
+
+/// What a participant knows.
+pub struct View {
+    pub epoch: EpochView,
+    pub places: PlacesView,
+    pub slots: SlotsView,
+    pub cells: CellsView,
+}
+
+/// How many of each a domain has, which says where its words are.
+#[derive(Drop)]
+pub struct Sizes {
+    pub participants: u64,
+    pub slots: u64,
+    pub jobs: u64,
+    pub cells: u64,
+}
