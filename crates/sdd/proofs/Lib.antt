@@ -13,3 +13,4 @@ pub mod KnownOpened
 pub mod Due
 pub mod Tied
 pub mod Worlds
+mod Plays

@@ -6,3 +6,4 @@ pub mod Due
 pub mod Opened
 pub mod Sound
 pub mod Stage
+pub mod Play

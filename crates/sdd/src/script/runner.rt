@@ -1,5 +1,5 @@
 //! Runs of scripts.
-ghost use Rattle.std.specs.Prelude.{◌≡◌, ◌⊎◌, MatchResult, OnOk};
+ghost use Rattle.std.specs.Prelude.{◌≡◌, ◌⊎◌, MatchResult, IfOk};
 ghost use Rattle.sdd_base.specs.Limits.{AreInRange};
 ghost use Rattle.sdd.specs.Desk.{Desk};
 ghost use Rattle.sdd.specs.Script.{Runs};
@@ -18,10 +18,10 @@ use std::alloc::Global;
 /// `BadLimits` where a limit is out of its range. `NoMemory` where memory was refused, for the world, for the answers
 /// or for a call: then nothing is left of the run.
 pub fn run(alloc: Global, limits: Limits, calls: &[Call]) -> Result<(Vec<Answer>, Scene), Refused>
-    ensures runs { OnOk result (λ done. (start : Desk) × IsStart limits start × Runs start calls.now done.0.items done.1) }
+    ensures runs { IfOk result (λ done. (start : Desk) × IsStart limits start × Runs start calls.now done.0.items done.1) }
 
     // An answer names as reclaimed exactly the items that are due at its call, counted over the calls.
-    ensures due { OnOk result (λ done. (start : Desk) × IsStart limits start × NamesWhatIsDue start calls.now done.0.items done.1) }
+    ensures due { IfOk result (λ done. (start : Desk) × IsStart limits start × NamesWhatIsDue start calls.now done.0.items done.1) }
     ensures limits { MatchResult result (λ _. AreInRange limits)
         (λ refused. ((refused ≡ Refused.BadLimits) × ¬ (AreInRange limits)) ⊎ ((refused ≡ Refused.NoMemory) × AreInRange limits)) }
 {
