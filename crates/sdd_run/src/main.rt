@@ -3,14 +3,15 @@
 
 mod arguments;
 mod program;
+#[cfg(test)]
+mod tests;
 
 use arguments::Choice;
 use program::{choice, status};
 use sdd::{Ended, Limits, Reader, Writer, play};
-use std::env;
-use std::io;
 use std::process::ExitCode;
 use std::rt::Env;
+use std::{env, io};
 
 const USAGE: &str = "usage: sdd-run [participants slots cells jobs nesting tries]";
 
