@@ -4,7 +4,6 @@ use super::devices::{Page, Trickle};
 use crate::arguments::USUAL_LIMITS;
 use sdd::{Ended, Limits, Reader, Writer, play};
 use std::alloc::Global;
-use std::test::Fail;
 
 /// The shortest way of an item: it is made and retired, and goes at the third later opening that finds another epoch.
 const SHORTEST_WAY: &str =
@@ -100,7 +99,7 @@ fn each_failed_read_ends_the_play(rt: HostRuntime) {
 }
 
 #[test]
-fn each_failed_write_leaves_a_beginning(rt: HostRuntime) -> Result<(), Fail> {
+fn each_failed_write_leaves_a_beginning(rt: HostRuntime) {
     for (text, end, whole) in [
         (SHORTEST_WAY, Ended::Played, ITS_ANSWERS),
         ("register\np0\n", Ended::NotACall(2), "line 2: not a call\n"),
@@ -123,7 +122,6 @@ fn each_failed_write_leaves_a_beginning(rt: HostRuntime) -> Result<(), Fail> {
             assert_eq!(rt; Some(page.written()), whole.get(..length), "{calls}");
         }
     }
-    Ok(())
 }
 
 /// With ample memory the play is whole. Under `rt try --test --fail-alloc N` one request is refused, and then nothing
