@@ -1,8 +1,9 @@
 -- What is due at a change, and what goes on waiting
-use Rattle.std.proofs.Common.{◌≡◌, ◌⊎◌, ℕ, ◌+◌, ◌<◌, ◌≤◌, true, false, List, [], ◌∷◌, inl, inr, sym, ap, nat_lt, lt-ltb, le-ltb, arith}
+use Rattle.std.proofs.Common.{◌≡◌, ◌⊎◌, ℕ, ◌+◌, ◌<◌, ◌≤◌, true, false, List, [], ◌∷◌, ◌++◌, map, inl, inr, refl, sym, ap, nat_lt, lt-ltb, le-ltb, arith}
 use Rattle.std.proofs.lemmas.Bool.{cases_lt}
 use Rattle.sdd_store.specs.Waiting.{What, Waiting, having_seen, aged, due, left}
-use Rattle.sdd.proofs.Among.{Among}
+use Rattle.sdd_store.specs.Waiting.What.{Item}
+use Rattle.sdd.proofs.Among.{Among, AreApart}
 
 due-old : (w : Waiting) (ws : List Waiting) → 2 ≤ w.seen → due (aged (w ∷ ws)) ≡ w.what ∷ due (aged ws)
 due-old w ws h = let t : nat_lt 2 (w.seen + 1) ≡ true = lt-ltb 2 (w.seen + 1) (omega arith) in rw t
@@ -66,4 +67,57 @@ left-among (w ∷ ws) y h =
             | inr rest ↦ let r = left-among ws y rest in (r.0, r.1, r.2, inr r.3)
           ]
       | inr old ↦ let r = left-among ws y (rw (left-old w ws old) at h) in (r.0, r.1, r.2, inr r.3)
+    ]
+
+-- what waits, without how long
+abbrev pub whats : List Waiting → List What
+whats ws = map (λ (w : Waiting). w.what) ws
+
+pub among-whats : (ws : List Waiting) (x : What) → Among (whats ws) x → (k : ℕ) × Among ws (having_seen k x)
+among-whats [] x h = absurd h
+among-whats (w ∷ ws) x (inl e) = (w.seen, inl (ap (having_seen w.seen) e))
+among-whats (w ∷ ws) x (inr h) = let r = among-whats ws x h in (r.0, inr r.1)
+
+pub whats-among : (ws : List Waiting) (x : What) (k : ℕ) → Among ws (having_seen k x) → Among (whats ws) x
+whats-among [] x k h = absurd h
+whats-among (w ∷ ws) x k (inl e) = inl (ap (λ (y : Waiting). y.what) e)
+whats-among (w ∷ ws) x k (inr h) = inr (whats-among ws x k h)
+
+pub whats-push : (ws : List Waiting) (w : Waiting) → whats (ws ++ w ∷ []) ≡ whats ws ++ w.what ∷ []
+whats-push [] w = refl
+whats-push (x ∷ ws) w = ap (λ (ys : List What). x.what ∷ ys) (whats-push ws w)
+
+left-whats : (ws : List Waiting) (x : What) → Among (whats (left (aged ws))) x → Among (whats ws) x
+left-whats ws x h =
+    let there = among-whats (left (aged ws)) x h in
+    let was = left-among ws (having_seen there.0 x) there.1 in
+    whats-among ws x was.0 was.3
+
+due-whats : (ws : List Waiting) (x : What) → Among (due (aged ws)) x → Among (whats ws) x
+due-whats ws x h = let was = due-among ws x h in whats-among ws x was.0 was.2
+
+-- where nothing waits twice, nothing goes on waiting twice
+pub apart-left : (ws : List Waiting) → AreApart (whats ws) → AreApart (whats (left (aged ws)))
+apart-left [] apart = tt
+apart-left (w ∷ ws) apart =
+    elim (cases_lt w.seen 2) [
+      | inl young ↦ rw (left-young w ws young) ((λ h. apart.0 (left-whats ws w.what h)), apart-left ws apart.1)
+      | inr old ↦ rw (left-old w ws old) (apart-left ws apart.1)
+    ]
+
+-- and nothing is due twice
+pub apart-due : (ws : List Waiting) → AreApart (whats ws) → AreApart (due (aged ws))
+apart-due [] apart = tt
+apart-due (w ∷ ws) apart =
+    elim (cases_lt w.seen 2) [
+      | inl young ↦ rw (due-young w ws young) (apart-due ws apart.1)
+      | inr old ↦ rw (due-old w ws old) ((λ h. apart.0 (due-whats ws w.what h)), apart-due ws apart.1)
+    ]
+
+-- what waits goes on waiting at a change, or is due
+pub left-or-due : (ws : List Waiting) (k s : ℕ) → Among ws (having_seen k (Item s)) → ((j : ℕ) × Among (left (aged ws)) (having_seen j (Item s))) ⊎ Among (due (aged ws)) (Item s)
+left-or-due ws k s h =
+    elim (cases_lt k 2) [
+      | inl young ↦ inl (k + 1, among-left ws (Item s) k young h)
+      | inr old ↦ inr (among-due ws (Item s) k old h)
     ]

@@ -1,11 +1,16 @@
 -- What a list has among its elements
-use Rattle.std.proofs.Common.{◌≡◌, ◌⊎◌, ℕ, zero, suc, ◌<◌, List, [], ◌∷◌, ◌++◌, length, slice_index_or, inl, inr, refl, arith}
+use Rattle.std.proofs.Common.{◌≡◌, ◌⊎◌, ℕ, zero, suc, ◌<◌, List, [], ◌∷◌, ◌++◌, length, slice_index_or, inl, inr, refl, sym, arith}
 use Rattle.std.specs.Prelude.{Contains}
 
 -- x is one of the list
 abbrev pub Among : {X : Type 0} → List X → X → Type 0
 Among [] x = ⊥
 Among (y ∷ ys) x = (y ≡ x) ⊎ Among ys x
+
+-- none of the list is there twice
+abbrev pub AreApart : {X : Type 0} → List X → Type 0
+AreApart [] = Unit {0}
+AreApart (x ∷ xs) = (Among xs x → ⊥) × AreApart xs
 
 module _ {X : Type 0} where
   -- what was there still is, after a push
@@ -25,6 +30,14 @@ module _ {X : Type 0} where
   among-push_cases [] y x (inr h) = absurd h
   among-push_cases (z ∷ xs) y x (inl e) = inl (inl e)
   among-push_cases (z ∷ xs) y x (inr h) = elim (among-push_cases xs y x h) [ inl a ↦ inl (inr a) | inr e ↦ inr e ]
+
+  -- what was not there is pushed
+  pub apart-push : (xs : List X) (y : X) → AreApart xs → (Among xs y → ⊥) → AreApart (xs ++ y ∷ [])
+  apart-push [] y apart new = ((λ h. h), tt)
+  apart-push (x ∷ xs) y apart new = (
+    (λ h. elim (among-push_cases xs y x h) [ inl was ↦ apart.0 was | inr e ↦ new (inl (sym e)) ]),
+    apart-push xs y apart.1 (λ h. new (inr h)),
+  )
 
   at-among : (xs : List X) (k : ℕ) (x : X) → k < length xs → slice_index_or xs k x ≡ x → Among xs x
   at-among [] k x lt e = absurd (omega arith)

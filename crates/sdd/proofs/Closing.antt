@@ -1,6 +1,7 @@
 -- What it changes that a guard is closed
 use Rattle.std.proofs.Common.{◌≡◌, ◌≢◌, ℕ, ◌+◌, ◌-◌, ◌<◌, ◌&&◌, ◌==◌, Bool, true, false, if◌then◌else◌, nat_lt, List, length, slice_index_or, slice_set, refl, sym, ap, subst, ◌∙◌, ltb-false, arith}
 use Rattle.std.specs.List.{list_all}
+use Rattle.std.proofs.lemmas.List.{length-set}
 use Rattle.sdd_store.specs.Time as time
 use Rattle.sdd_store.specs.Time.{Time, nobody}
 use Rattle.sdd_store.specs.declared.time.Participant.{Participant}
@@ -23,6 +24,7 @@ pub record Closes (old new : List Participant) (p : ℕ) : Type 0 where
   pub others : (q : ℕ) → q ≢ p → (slice_index_or new q nobody).guards ≡ (slice_index_or old q nobody).guards
   pub found : (q : ℕ) → (slice_index_or new q nobody).found ≡ (slice_index_or old q nobody).found
   pub waiting : (q : ℕ) → (slice_index_or new q nobody).bags.waiting ≡ (slice_index_or old q nobody).bags.waiting
+  pub places : length new ≡ length old
 
 -- only the guards and the countdown of p change
 closes-set : (old ps : List Participant) (p guards countdown : ℕ) → p < length old → ps ≡ old → guards ≡ (slice_index_or old p nobody).guards - 1 →
@@ -34,6 +36,7 @@ closes-set old ps p guards countdown lt e g =
       others = λ q ne. ap (λ (y : Participant). y.guards) (at-other old p q x nobody ne);
       found = at-each (λ (y : Participant). y.found) old p x nobody refl;
       waiting = at-each (λ (y : Participant). y.bags.waiting) old p x nobody refl;
+      places = length-set old p x;
     } in
     subst (λ qs. Closes old (slice_set qs p x) p) (sym e) kept
 
@@ -50,6 +53,7 @@ closes-by t p lt false false is_more is_open = record {
   others = λ q ne. refl;
   found = λ q. refl;
   waiting = λ q. refl;
+  places = refl;
 }
 
 -- a guard of p is closed

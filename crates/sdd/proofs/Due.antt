@@ -1,7 +1,6 @@
 -- Each line of a script names as reclaimed exactly the items that are due in it
-use Rattle.std.proofs.Common.{◌≡◌, ℕ, zero, suc, ◌<◌, ◌↔◌, List, [], ◌∷◌, Option, Some, None, length, map, slice_index_or, refl, sym, ap, ◌∙◌, subst, arith}
+use Rattle.std.proofs.Common.{◌≡◌, ℕ, ◌<◌, ◌↔◌, List, [], ◌∷◌, Option, Some, None, length, map, slice_index_or, refl, sym, ap, ◌∙◌, subst, arith}
 use Rattle.std.specs.Prelude.{Contains}
-use Rattle.std.proofs.Math.ListN.{replicate}
 use Rattle.sdd_store.specs.Waiting.{Waiting}
 use Rattle.sdd_store.specs.Time.{Time, nobody}
 use Rattle.sdd_store.specs.declared.time.Participant.{Participant}
@@ -11,25 +10,22 @@ use Rattle.sdd_base.specs.declared.limits.Limits.{Limits}
 use Rattle.sdd_lines.specs.declared.name.ItemName.{ItemName}
 use Rattle.sdd_lines.specs.declared.call.Call.{Call}
 use Rattle.sdd_lines.specs.declared.answer.Answer.{Answer}
+use Rattle.sdd.specs.declared.script.item.Fate.TheVariants.{Out, Gone}
 use Rattle.sdd.specs.declared.script.item.ItemState.{ItemState}
 use Rattle.sdd.specs.Desk.{Desk, nothing, IsOwnerOf, Waits}
 use Rattle.sdd.specs.Script.{Step, Runs}
 use Rattle.sdd.specs.Start.{IsStart}
 use Rattle.sdd.specs.Due.{Line, Event, event, Trace, AllDue, IsDue, IsDueAt, NamesWhatIsDue}
 use Rattle.sdd.specs.Due.Event.{Opened, Closed, Made, Retired, Other}
-use Rattle.sdd.proofs.Among.{Among}
+use Rattle.sdd.proofs.Among.{Among, AreApart}
+use Rattle.sdd.proofs.Entry.{none-at}
+use Rattle.sdd.proofs.Ages.{whats}
 use Rattle.sdd.proofs.Happening.{Happens, happens}
 use Rattle.sdd.proofs.Closing.{Closes-closed}
 use Rattle.sdd.proofs.Sound.{Sound, Sound-later, Sound-still, Sound-made, Sound-retired, waiting}
 use Rattle.sdd.proofs.SoundOpened.{Sound-opened}
 use Rattle.sdd.proofs.Known.{Knows, Knows-later, Knows-other, Knows-closed, Knows-made, Knows-retired}
 use Rattle.sdd.proofs.KnownOpened.{Knows-opened, due-opened}
-
--- no place of an empty table has an entry
-none-at : (n c : ℕ) → slice_index_or {A = Option Cell} (replicate n None) c None ≡ None
-none-at zero c = refl
-none-at (suc n) zero = refl
-none-at (suc n) (suc c) = none-at n c
 
 no-places : (l : Limits) (d : Desk) → IsStart l d → d.world.time.places ≡ []
 no-places l d s = ap (λ (t : Time). t.places) s.world.time
@@ -42,12 +38,15 @@ Sound-start l d s =
     record {
       retired = λ q x h. absurd (none q x h);
       once = λ q r k a b h1 h2. absurd (none q _ h1);
+      distinct = λ q. subst (λ (ps : List Participant). AreApart (whats (slice_index_or ps q nobody).bags.waiting)) (sym (no-places l d s)) tt;
       owned = λ o i h. absurd (let z : None ≡ Some i = unowned o i h in cc);
+      out = λ o i h. absurd (let z : None ≡ Some i = unowned o i h in cc);
       apart = λ o r i j h1 h2 e. absurd (let z : None ≡ Some i = unowned o i h1 in cc);
-      empty = λ c. ap held_in (ap (λ (cs : List (Option Cell)). slice_index_or cs c None) s.world.cells ∙ none-at l.cells c);
+      kept = λ i out. absurd (let z : Gone ≡ Out = ap (λ (xs : List ItemState). (slice_index_or xs i nothing).fate) (sym s.items) ∙ out in cc);
+      empty = λ c. ap held_in (ap (λ (cs : List (Option Cell)). slice_index_or cs c None) s.world.cells ∙ none-at Cell l.cells c);
     }
 
-Knows-start : (l : Limits) (d : Desk) → IsStart l d → Knows [] d
+pub Knows-start : (l : Limits) (d : Desk) → IsStart l d → Knows [] d
 Knows-start l d s = record {
   guards = λ q. ap (λ (ps : List Participant). (slice_index_or ps q nobody).guards) (sym (no-places l d s));
   found = λ q. ap (λ (ps : List Participant). (slice_index_or ps q nobody).found) (sym (no-places l d s));
@@ -56,10 +55,10 @@ Knows-start l d s = record {
 }
 
 -- what a line leaves true, and what is due in it
-record Follows (line : Line) (past : List Line) (names : List ItemName) (new : Desk) : Type 0 where
-  sound : Sound new
-  knows : Knows (line ∷ past) new
-  due : (i : ItemName) → Contains names i ↔ IsDue i.0 line past
+pub record Follows (line : Line) (past : List Line) (names : List ItemName) (new : Desk) : Type 0 where
+  pub sound : Sound new
+  pub knows : Knows (line ∷ past) new
+  pub due : (i : ItemName) → Contains names i ↔ IsDue i.0 line past
 
 -- where nothing is reclaimed, nothing is due
 none-due : (line : Line) (past : List Line) (names : List ItemName) (e : Event) → event line ≡ e → names ≡ [] → ((i : ItemName) → IsDueAt i.0 e line past → ⊥) → (i : ItemName) → Contains names i ↔ IsDue i.0 line past
@@ -73,23 +72,23 @@ goes : (line : Line) (past : List Line) (names : List ItemName) (old new : Desk)
 goes line past names old new (Opened p) is count s k h =
     rw h.2
     record {
-      sound = Sound-opened old p names h.0 s;
+      sound = Sound-opened old p names h.0 h.1 s;
       knows = Knows-opened line past old p is count k names h.0 s h.1;
       due = due-opened line past old p is count k names h.0 s h.1;
     }
 goes line past names old new (Closed p) is count s k h =
     let c = Closes-closed old.world.time p h.0 in
-    rw h.2.1
+    rw h.2.2
     record {
-      sound = Sound-still old _ s (record { found = c.found; waiting = c.waiting; standings = refl; cells = refl; owners = refl; items = refl });
+      sound = Sound-still old _ s (record { found = c.found; waiting = c.waiting; standings = refl; cells = refl; owners = refl; items = refl; values = refl; tally = refl });
       knows = Knows-closed line past old p _ is h.0 k;
       due = none-due line past names (Closed p) is h.1 (λ i z. z);
     }
 goes line past names old new (Made o i) is count s k h =
     let t = h.3 in
-    rw t.4
+    rw t.6
     record {
-      sound = Sound-made old t.0 t.1 t.2 t.3 s;
+      sound = Sound-made old t.0 t.1 t.2 t.4 s;
       knows = Knows-made line past old o i t.0 t.1 t.2 is h.0 h.1 k;
       due = none-due line past names (Made o i) is h.2 (λ i z. z);
     }
@@ -108,7 +107,7 @@ goes line past names old new Other is count s k h = record {
 }
 
 -- a step of the trace
-stepped : (line : Line) (past : List Line) (old mid : Desk) → line.count ≡ old.world.time.count → Sound old → Knows past old → Step old line.call line.answer mid → Follows line past line.answer.reclaimed mid
+pub stepped : (line : Line) (past : List Line) (old mid : Desk) → line.count ≡ old.world.time.count → Sound old → Knows past old → Step old line.call line.answer mid → Follows line past line.answer.reclaimed mid
 stepped line past old mid count s k step =
     let g = goes line past line.answer.reclaimed old step.after (event line) refl count s k (happens old line.call line.answer.reply line.answer.reclaimed step.after step.meets) in
     rw step.moment

@@ -1,6 +1,8 @@
 -- What a list has at each number, after one entry of it is replaced
-use Rattle.std.proofs.Common.{◌≡◌, ◌≢◌, ℕ, ◌<◌, List, ◌∷◌, [], ◌++◌, length, slice_index_or, slice_set, inl, inr, refl, sym, ap, ◌∙◌, arith}
-use Rattle.std.proofs.lemmas.Bool.{cases_lt, cases_eq, cases_order}
+use Rattle.std.proofs.Common.{◌≡◌, ◌≢◌, ℕ, zero, suc, ◌<◌, Bool, false, cond, Option, None, IsSome, is_some, map, count_by, List, ◌∷◌, [], ◌++◌, length, slice_index_or, slice_set, inl, inr, refl, sym, ap, ◌∙◌, arith}
+use Rattle.std.proofs.lemmas.Bool.{cases_lt, cases_eq, cases_order, false≢true}
+use Rattle.std.proofs.lemmas.List.Folds.{sum_by-replicate}
+use Rattle.std.proofs.Math.ListN.{replicate}
 use Rattle.std.proofs.lemmas.List.{get_or-set_same, get_or-set_other, set_past, get_or_append_left, get_or_push, get_or_past, length_push}
 
 module _ {X : Type 0} where
@@ -41,3 +43,21 @@ module _ {X : Type 0} where
         | inl same ↦ rw same (ap f (at-end xs x d) ∙ e ∙ ap f (sym (get_or_past xs (length xs) d (omega arith))))
         | inr other ↦ ap f (at-pushed xs x d j other)
       ]
+
+-- no place of an empty table has an entry
+pub none-at : (E : Type 0) (n k : ℕ) → slice_index_or (replicate {A = Option E} n None) k None ≡ None
+none-at E zero k = refl
+none-at E (suc n) zero = refl
+none-at E (suc n) (suc k) = none-at E n k
+
+-- none of it is taken
+pub none-taken : (E : Type 0) (n : ℕ) → map is_some (replicate {A = Option E} n None) ≡ replicate n false
+none-taken E zero = refl
+none-taken E (suc n) = ap (λ (bs : List Bool). false ∷ bs) (none-taken E n)
+
+pub none-counted : (E : Type 0) (n : ℕ) → count_by is_some (replicate {A = Option E} n None) ≡ 0
+none-counted E n = let z = sum_by-replicate (λ (x : Option E). cond (is_some x) 1 0) n None in omega (arith, z)
+
+-- an entry that is there isn't missing
+pub not-free : {E : Type 0} (x : Option E) → IsSome x → x ≡ None → ⊥
+not-free x t e = false≢true (ap is_some (sym e) ∙ t)

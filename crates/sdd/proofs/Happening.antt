@@ -1,5 +1,6 @@
 -- What happens to the desk in a line
-use Rattle.std.proofs.Common.{◌≡◌, ℕ, List, [], ◌∷◌, ◌++◌, None, length, slice_set, refl, sym, subst}
+use Rattle.std.proofs.Common.{◌≡◌, ℕ, ◌<◌, ◌≤◌, List, [], ◌∷◌, ◌++◌, None, length, slice_set, refl, sym, subst, arith}
+use Rattle.std.proofs.lemmas.List.{length_push, length-set}
 use Rattle.sdd_core.specs.declared.refused.Refused.TheVariants.{NoSlot, NoCell, NoPlace, TooManyGuards}
 use Rattle.sdd_store.specs.Time as time
 use Rattle.sdd_store.specs.Time.{Time, nobody, newcomer}
@@ -16,7 +17,8 @@ use Rattle.sdd_lines.specs.declared.call.Action.TheVariants as call
 use Rattle.sdd_lines.specs.declared.answer.Reply.{Reply}
 use Rattle.sdd_lines.specs.declared.answer.Reply.TheVariants as reply
 use Rattle.sdd.specs.declared.script.val.Val.{Val}
-use Rattle.sdd.specs.Desk.{Desk, IsPlace, IsOwnerOf}
+use Rattle.sdd.specs.Val.{link_of}
+use Rattle.sdd.specs.Desk.{Desk, IsPlace, IsGuardOf, IsOwnerOf}
 use Rattle.sdd.specs.Script.{Meets, AreReclaimed, with_guard, with_item, with_retired}
 use Rattle.sdd.specs.Due.{Event, event_of}
 use Rattle.sdd.specs.Due.Event.{Opened, Closed, Made, Retired, Other}
@@ -30,16 +32,22 @@ pub record Still (old new : Desk) : Type 0 where
   pub cells : new.world.cells ≡ old.world.cells
   pub owners : new.owners ≡ old.owners
   pub items : new.items ≡ old.items
+  pub values : new.world.values ≡ old.world.values
+  pub tally : new.world.tally ≡ old.world.tally
 
 -- and as many guards are open
 pub record Quiet (old new : Desk) : Type 0 where
   pub still : Still old new
   pub guards : (q : ℕ) → (place_at new.world q).guards ≡ (place_at old.world q).guards
+  pub names : new.guards ≡ old.guards
+  pub places : length old.world.time.places ≤ length new.world.time.places
 
 Quiet-refl : (d : Desk) → Quiet d d
 Quiet-refl d = record {
-  still = record { found = λ q. refl; waiting = λ q. refl; standings = refl; cells = refl; owners = refl; items = refl };
+  still = record { found = λ q. refl; waiting = λ q. refl; standings = refl; cells = refl; owners = refl; items = refl; values = refl; tally = refl };
   guards = λ q. refl;
+  names = refl;
+  places = omega arith;
 }
 
 Quiet-same : (old new : Desk) → new ≡ old → Quiet old new
@@ -57,8 +65,12 @@ Quiet-registered d openings =
         cells = refl;
         owners = refl;
         items = refl;
+        values = refl;
+        tally = refl;
       };
       guards = at-each_pushed (λ (y : Participant). y.guards) ps x nobody refl;
+      names = refl;
+      places = omega (arith, length_push ps x);
     }
 
 -- only the countdown of a place changes
@@ -74,15 +86,19 @@ Quiet-countdown d p n =
         cells = refl;
         owners = refl;
         items = refl;
+        values = refl;
+        tally = refl;
       };
       guards = at-each (λ (y : Participant). y.guards) ps p x nobody refl;
+      names = refl;
+      places = omega (arith, length-set ps p x);
     }
 
 -- what a line does to the desk, by what happens in it
 abbrev pub Happens : Desk → Event → List ItemName → Desk → Type 0
 Happens old (Opened p) names new = IsPlace old p × AreReclaimed old p names × (new ≡ with_guard old p names)
-Happens old (Closed p) names new = IsPlace old p × (names ≡ []) × ((g : ℕ) × (new ≡ record old { world = closed old.world p; guards = slice_set old.guards g None }))
-Happens old (Made o i) names new = (o ≡ length old.owners) × (i ≡ length old.items) × (names ≡ []) × ((c : ℕ) × (k : ℕ) × (v : Val) × IsEmptyAt old.world.standings k × (new ≡ with_item old c k v))
+Happens old (Closed p) names new = IsPlace old p × (names ≡ []) × ((g : ℕ) × IsGuardOf old p g × (new ≡ record old { world = closed old.world p; guards = slice_set old.guards g None }))
+Happens old (Made o i) names new = (o ≡ length old.owners) × (i ≡ length old.items) × (names ≡ []) × ((c : ℕ) × (k : ℕ) × (v : Val) × IsEmptyAt old.world.cells c × IsEmptyAt old.world.standings k × (link_of v ≡ c) × (new ≡ with_item old c k v)) × (0 < length old.world.time.places)
 Happens old (Retired p o) names new = IsPlace old p × (names ≡ []) × ((i : ℕ) × IsOwnerOf old i o × (new ≡ with_retired old p o i))
 Happens old Other names new = (names ≡ []) × Quiet old new
 
@@ -120,7 +136,7 @@ happens old (At p (call.Set g)) other names new m = absurd m.1
 happens old (At p (call.Accelerate g)) reply.Done names new m = (m.1.0, rw m.1.1 (Quiet-countdown old p.0 0))
 happens old (At p (call.Accelerate g)) other names new m = absurd m.1
 happens old (At p (call.Owned n)) (reply.Item o i) names new m =
-    let t = m.1.3 in (m.1.0, m.1.1, m.1.2, (t.0, t.1, t.2, t.4, t.8))
+    let t = m.1.3 in let place : p.0 < length old.world.time.places = m.0 in (m.1.0, m.1.1, m.1.2, (t.0, t.1, t.2, t.3, t.4, t.6, t.8), omega arith)
 happens old (At p (call.Owned n)) (reply.Refused NoCell) names new m = (m.1.1, Quiet-same old new m.1.2)
 happens old (At p (call.Owned n)) (reply.Refused NoSlot) names new m = (m.1.2, Quiet-same old new m.1.3)
 happens old (At p (call.Owned n)) other names new m = absurd m.1
@@ -130,5 +146,5 @@ happens old (At p (call.Look i g)) (reply.Value n) names new m = (m.1.1, Quiet-s
 happens old (At p (call.Look i g)) other names new m = absurd m.1
 happens old (At p (call.Retire o)) reply.Done names new m = (m.0.0, m.1.1, m.1.0)
 happens old (At p (call.Retire o)) other names new m = absurd m.1
-happens old (At p (call.Close g)) reply.Done names new m = (m.0.0, m.1.0, (g.0, m.1.1))
+happens old (At p (call.Close g)) reply.Done names new m = (m.0.0, m.1.0, (g.0, m.0.1, m.1.1))
 happens old (At p (call.Close g)) other names new m = absurd m.1

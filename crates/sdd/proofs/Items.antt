@@ -1,5 +1,5 @@
 -- What the names of items stand for, once some are spent
-use Rattle.std.proofs.Common.{◌≡◌, ◌≢◌, ◌⊎◌, ℕ, ◌<◌, List, [], ◌∷◌, length, slice_index_or, inl, inr, refl, sym, ap, ◌∙◌}
+use Rattle.std.proofs.Common.{◌≡◌, ◌≢◌, ◌⊎◌, ℕ, ◌<◌, List, [], ◌∷◌, length, slice_index_or, drop, drop-cons, add-one, ◌+◌, inl, inr, refl, sym, ap, ◌∙◌}
 use Rattle.std.proofs.lemmas.Bool.{cases_eq, cases_lt}
 use Rattle.std.proofs.lemmas.List.{length-set, set_past, get_or_past}
 use Rattle.sdd_lines.specs.declared.name.ItemName.{ItemName}
@@ -66,3 +66,7 @@ stays-or-goes items (i ∷ names) j =
             })
           ]
     ]
+
+-- the rest is spent by the next name, and then the others
+pub all_gone-drop : (items : List ItemState) (names : List ItemName) (i : ℕ) (d : ItemName) → i < length names → all_gone items (drop i names) ≡ all_gone (with_fate items (slice_index_or names i d).0 Gone) (drop (i + 1) names)
+all_gone-drop items names i d lt = ap (λ (ns : List ItemName). all_gone items ns) (drop-cons names i d lt ∙ ap (λ (n : ℕ). slice_index_or names i d ∷ drop n names) (sym (add-one i)))

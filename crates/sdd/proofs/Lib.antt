@@ -11,6 +11,16 @@ pub mod SoundOpened
 pub mod Known
 pub mod KnownOpened
 pub mod Due
+pub mod Reached
+pub mod Tidy
+pub mod Emptying
+pub mod Accounts
+pub mod Out
+pub mod Ending
 pub mod Tied
+pub mod Leaving
 pub mod Worlds
-mod Plays
+pub mod Plays
+pub mod Acts
+pub mod Naming
+pub mod Sizes

@@ -10,7 +10,6 @@ use Rattle.sdd_base.specs.World.{World, place_at, standing_at}
 use Rattle.sdd_base.specs.Steps.{nested, rotated, settled, all_reclaimed, changed, opened, reclaims}
 use Rattle.sdd.specs.declared.script.val.Val.{Val}
 use Rattle.sdd.specs.Val.{holdings_of}
-
 use Rattle.sdd.proofs.Entry.{at-same, at-other}
 use Rattle.sdd.proofs.Reclaiming.{HoldNothing, Names, Frees, Frees-all}
 
@@ -24,6 +23,7 @@ pub record Opens (old new : World Val) (p : ℕ) (change : Bool) : Type 0 where
   pub guards : (place_at new p).guards ≡ (place_at old p).guards + 1
   pub found : (place_at new p).found ≡ (if change then old.time.count else (place_at old p).found)
   pub waiting : (place_at new p).bags.waiting ≡ (if change then left (aged (place_at old p).bags.waiting) else (place_at old p).bags.waiting)
+  pub places : length new.time.places ≡ length old.time.places
   pub empty : HoldNothing new.cells
   pub owned : (s : ℕ) → standing_at old s ≡ Some Owned → standing_at new s ≡ Some Owned
   pub kept : (s : ℕ) → (Names (if change then time.due_next (place_at old p) else []) s → ⊥) → standing_at new s ≡ standing_at old s
@@ -36,6 +36,7 @@ Opens-nested w p lt empty =
       guards = ap (λ (x : Participant). x.guards) here;
       found = ap (λ (x : Participant). x.found) here;
       waiting = ap (λ (x : Participant). x.bags.waiting) here;
+      places = length-set w.time.places p (time.nested (place_at w p));
       empty = empty;
       owned = λ s e. e;
       kept = λ s n. refl;
@@ -79,6 +80,10 @@ Opens-settled w mid p lt f =
       guards = ap (λ (x : Participant). x.guards) here;
       found = ap (λ (x : Participant). x.found) here;
       waiting = ap (λ (x : Participant). x.bags.waiting) here;
+      places =
+          length-set mid.time.places p (time.settled (place_at mid p))
+          ∙ ap (λ (ps : List Participant). length ps) places
+          ∙ turned-length w.time.places p w.time.count;
       empty = f.empty;
       owned = f.owned;
       kept = f.others;

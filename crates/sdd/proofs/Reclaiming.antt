@@ -37,7 +37,7 @@ Frees-none : (w : World Val) (xs : List What) → HoldNothing w.cells → Frees 
 Frees-none w xs empty = record { time_same = refl; empty = empty; owned = λ s e. e; others = λ s n. refl }
 
 -- a cell that held nothing is free
-without-cell : (cells : Entries Cell) (c : ℕ) → HoldNothing cells → HoldNothing (without_entry cells c)
+pub without-cell : (cells : Entries Cell) (c : ℕ) → HoldNothing cells → HoldNothing (without_entry cells c)
 without-cell cells c empty j = at-each held_in cells c None None (sym (empty c)) j ∙ empty j
 
 -- a slot that is free, with its value's cell
@@ -50,7 +50,7 @@ Frees-freed w k c x takes empty waits = record {
 }
 
 -- a cell that holds nothing spills nothing
-spills-nothing : (w : World Val) (p : ℕ) (held : Option ℕ) → held ≡ None → spilled w p held ≡ w
+pub spills-nothing : (w : World Val) (p : ℕ) (held : Option ℕ) → held ≡ None → spilled w p held ≡ w
 spills-nothing w p held e = rw e
 
 Frees-taken : (w : World Val) (p k : ℕ) (x : What) → Takes x k → HoldNothing w.cells → standing_at w k ≢ Some Owned → (v : Option Val) → Frees w (taken_out holdings_of w p k v) (x ∷ [])

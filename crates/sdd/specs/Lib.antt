@@ -5,5 +5,8 @@ pub mod Start
 pub mod Due
 pub mod Opened
 pub mod Sound
+pub mod Out
+pub mod Made
+pub mod Leaving
 pub mod Stage
 pub mod Play

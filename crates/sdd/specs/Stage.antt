@@ -5,8 +5,7 @@ use Rattle.sdd_token.specs.Units as token
 use Rattle.sdd_base.specs.Owned.{slot_of, slots_home}
 use Rattle.sdd_world.specs.Place.{index_of}
 use Rattle.sdd_world.specs.declared.world.Place.{Place}
-use Rattle.sdd_lines.specs.declared.call.Action.{Action}
-use Rattle.sdd_lines.specs.declared.call.Action.TheVariants as call
+use Rattle.sdd_lines.specs.declared.name.ItemName.{ItemName}
 use Rattle.sdd.specs.Desk.{Desk, nothing}
 use Rattle.sdd.specs.Opened.{guard_place}
 use Rattle.sdd.specs.Sound.{IsThere}
@@ -48,6 +47,10 @@ OwnsItem home items (Some held) = IsOwnerOfItem home items held
 abbrev pub AreOwners : token.Home → List ItemState → List (Option Held) → Type 0
 AreOwners home items owners = (o : ℕ) → OwnsItem home items (slice_index_or owners o None)
 
+-- the name at a slot
+abbrev pub name_at : List ℕ → ℕ → ItemName
+name_at names slot = record { 0 = slice_index names slot }
+
 -- each item that is there has its name at its slot
 abbrev pub AreNamed : List ItemState → List ℕ → Type 0
 AreNamed items names =
@@ -79,16 +82,3 @@ pub record IsTied (made : ℕ) (s : Stage) : Type 0 where
   pub names : AreNamed s.items.items s.names.items
   pub slots : vec_len s.names ≡ length s.world.standings
   pub room : HasRoom made s
-
--- the action is one under a guard
-abbrev pub NeedsGuard : Action → Type 0
-NeedsGuard call.Open = ⊥
-NeedsGuard (call.Epoch g) = Unit {0}
-NeedsGuard (call.Garbage g) = Unit {0}
-NeedsGuard (call.Set g) = Unit {0}
-NeedsGuard (call.Accelerate g) = Unit {0}
-NeedsGuard (call.Owned n) = ⊥
-NeedsGuard (call.Read o) = ⊥
-NeedsGuard (call.Look i g) = Unit {0}
-NeedsGuard (call.Retire o) = ⊥
-NeedsGuard (call.Close g) = Unit {0}

@@ -1,5 +1,5 @@
 //! Runs of scripts.
-ghost use Rattle.std.specs.Prelude.{◌≡◌, ◌⊎◌, MatchResult, IfOk};
+ghost use Rattle.std.specs.Prelude.{◌≡◌, ◌⊎◌, IfOk, MatchResult};
 ghost use Rattle.sdd_base.specs.Limits.{AreInRange};
 ghost use Rattle.sdd.specs.Desk.{Desk};
 ghost use Rattle.sdd.specs.Script.{Runs};

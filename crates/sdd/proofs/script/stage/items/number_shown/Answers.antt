@@ -1,6 +1,6 @@
 use Rattle.std.proofs.Common.{◌≡◌, ℕ, Some, refl, sym, ap, ◌∙◌}
 use Rattle.sdd_base.specs.World.{value_at}
-use Rattle.sdd.proofs.script.stage.number_shown.Goals as goal
+use Rattle.sdd.proofs.script.stage.items.number_shown.Goals as goal
 
 pub returns : goal.returns
 returns c =

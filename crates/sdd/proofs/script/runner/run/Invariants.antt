@@ -1,0 +1,15 @@
+use Rattle.std.proofs.Common.{◌≡◌, ◌≤◌, length, take, vec_capacity}
+use Rattle.sdd.specs.Script.{Runs}
+use Rattle.sdd.specs.Stage.{desk_of, IsTied}
+use Rattle.sdd.proofs.script.runner.run.Given as goal
+
+-- the calls so far ran
+abbrev pub invariant-loop-call : goal.invariant-loop-call
+invariant-loop-call l = record {
+  runs : Runs (desk_of l.initial.stage) (take l.call-index l.calls) l.answers.items (desk_of l.stage);
+  tied : IsTied l.stage.moment l.stage;
+  moment : l.stage.moment ≡ l.call-index;
+  calls : l.stage.calls ≡ length l.calls;
+  answered : length l.answers.items ≡ l.call-index;
+  room : length l.calls ≤ vec_capacity l.answers;
+}
