@@ -24,7 +24,11 @@ impl Model for Scene {
 }
 
 impl Scene {
-    pub(crate) fn of(stage: Stage) -> Scene {
+    ghost use Rattle.sdd.specs.Stage.{desk_of};
+
+    pub(crate) fn of(stage: Stage) -> Scene
+        ensures { result ≡ desk_of stage }
+    {
         Scene { stage }
     }
 
