@@ -20,6 +20,7 @@ pub mod Ending
 pub mod Tied
 pub mod Leaving
 pub mod Worlds
+pub mod Plays
 pub mod Acts
 pub mod Naming
 pub mod Sizes

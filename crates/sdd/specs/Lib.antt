@@ -9,3 +9,4 @@ pub mod Out
 pub mod Made
 pub mod Leaving
 pub mod Stage
+pub mod Play

@@ -3,6 +3,10 @@
 
 pub mod script;
 
+pub use script::{
+    Action, Answer, Call, Ended, Fault, GuardName, ItemName, JobName, Names, OwnerName, PlaceName,
+    Reader, Reply, Scene, Sink, Source, Writer, play, run,
+};
 pub use sdd_base::{AtomicOwned, Giver, Guard, Item, Limits, Look, Owned, Ptr, Space};
 pub use sdd_core::machine::{Did, Machine, Step, safety};
 pub use sdd_core::{Epoch, Refused, Tag};

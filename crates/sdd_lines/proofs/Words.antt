@@ -1,5 +1,5 @@
 -- What reading a word gives: its parts, and the number that it is
-use Rattle.std.proofs.Common.{◌≡◌, ℕ, suc, ◌^◌, ◌<◌, ◌≤◌, ◌≢◌, Bool, true, false, ◌&&◌, ◌||◌, not, cond, eqb, ltb, leb, List, [], ◌∷◌, ◌++◌, length, get_or, Option, Some, None, IfSome, MatchOption, Result, Ok, Err, refl, sym, ap, ◌∙◌, inl, inr, arith}
+use Rattle.std.proofs.Common.{◌≡◌, ℕ, suc, ◌^◌, ◌<◌, ◌≤◌, ◌≢◌, Bool, true, false, ◌&&◌, ◌||◌, not, cond, eqb, ltb, leb, List, [], ◌∷◌, ◌++◌, length, get_or, Option, Some, None, IfSome, MatchOption, Result, Ok, Err, refl, sym, ap, subst, ◌∙◌, inl, inr, arith}
 use Rattle.std.specs.Result.{OkIff, result_ok}
 use Rattle.std.specs.Option.{option_map}
 use Rattle.std.specs.Borrow.{Bor}
@@ -10,6 +10,7 @@ use Rattle.std.proofs.lemmas.Bool.{eqb-true, ne_eqb, ltb-true, lt-ltb, leb-true,
 use Rattle.std.proofs.lemmas.Option.{IfSome_then}
 use Rattle.std.proofs.lemmas.Str.Parse.{IsNumeralModel, numerals_by_value, tells_all_ascii_digits, not_in_digits}
 use Rattle.std.proofs.lemmas.Fmt.{decimal_digit, decimal_nonempty, first_decimal, digits_decimal, digits_value-decimal, decimal-digits_value}
+use Rattle.sdd_lines.specs.Call.{IsWordOf}
 use Rattle.sdd_lines.specs.Reading.{split_word, is_decimal, number_at, numbered_at}
 
 -- std's test of digits and its value of them
@@ -116,6 +117,14 @@ unfolding number_at
 number_at-decimal n small =
     let value = digits_value-decimal own n small in
     cond-true _ _ _ (and_from (is_decimal (decimal n)) _ (test-from_IsForm _ (IsForm-decimal n small)) (lt-ltb (digits_value 10 (decimal n)) (2 ^ 64) (rw value small))) ∙ ap Some value
+
+-- where a word gives no number it is none
+pub number_at-none : (word : List ℕ) → number_at word ≡ None → ¬ ((n : ℕ) × IsWordOf n word)
+number_at-none word e = λ h. (let some : number_at word ≡ Some h.0 = ap number_at (sym h.1.1) ∙ number_at-decimal h.0 h.1.0 in cc)
+
+pub words_number : (word : List ℕ) (r : Option ℕ) → r ≡ number_at word → MatchOption r (¬ ((n : ℕ) × IsWordOf n word)) (λ n. IsWordOf n word)
+words_number word None e = number_at-none word (sym e)
+words_number word (Some n) e = subst (λ o. IfSome o (λ m. IsWordOf m word)) (sym e) (number_at_is word)
 
 -- a word with a sign or a leading zero is no number
 pub number_at-no_form : (word : List ℕ) → ¬ (IsForm word) → number_at word ≡ None

@@ -35,6 +35,10 @@ line_of (At p action) = joined (place p ∷ words_of_action action)
 abbrev pub IsNumber : ℕ → Type 0
 IsNumber n = n < 2 ^ 64
 
+-- a word is this number in its one form, without a sign and without leading zeros
+abbrev pub IsWordOf : ℕ → List ℕ → Type 0
+IsWordOf n word = IsNumber n × (decimal n ≡ word)
+
 abbrev pub ActionHasNumbers : Action → Type 0
 ActionHasNumbers Open = Unit {0}
 ActionHasNumbers (Epoch g) = IsNumber g.0

@@ -1,6 +1,6 @@
 //! The calls of a script, each of which is a line.
 
-mod reading;
+pub(crate) mod reading;
 
 use crate::name::{GuardName, ItemName, OwnerName, PlaceName};
 use std::str;

@@ -21,7 +21,7 @@ fn has_leading_zero(word: &str) -> bool
 }
 
 /// The number that a word is in its one form: without a sign and without a leading zero.
-fn number(word: &str) -> Option<u64>
+pub(crate) fn number(word: &str) -> Option<u64>
     ensures { result ≡ number_at word.now }
 {
     if word.starts_with('+') || has_leading_zero(word) {

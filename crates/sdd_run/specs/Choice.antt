@@ -1,0 +1,39 @@
+-- What the program is to do, by its arguments
+use Rattle.std.specs.Prelude.{◌≡◌, ℕ, List, [], ◌∷◌}
+use Rattle.sdd_base.specs.declared.limits.Limits.{Limits}
+use Rattle.sdd_lines.specs.Call.{IsWordOf}
+use Rattle.sdd_lines.specs.declared.ended.Ended.{Ended}
+use Rattle.sdd_lines.specs.declared.ended.Ended.TheVariants.{Played, NotACall, LimitsOutOfRange, CannotRead, CannotWrite, NoMemory}
+use Rattle.sdd_run.specs.declared.arguments.Choice.{Choice}
+use Rattle.sdd_run.specs.declared.arguments.Choice.TheVariants.{Script, Usage}
+
+-- the limits of a script where none are given
+abbrev pub usual_limits : Limits
+usual_limits = record { participants = 8; slots = 64; cells = 128; jobs = 8; nesting = 8; tries = 1 }
+
+-- the words are these numbers, one for each
+abbrev pub AreWordsOf : List ℕ → List (List ℕ) → Type 0
+AreWordsOf [] [] = Unit {0}
+AreWordsOf (n ∷ numbers) (word ∷ words) = IsWordOf n word × AreWordsOf numbers words
+AreWordsOf [] (word ∷ words) = ⊥
+AreWordsOf (n ∷ numbers) [] = ⊥
+
+-- the words are the six numbers of these limits, in their order
+abbrev pub AreLimits : Limits → List (List ℕ) → Type 0
+AreLimits l words = AreWordsOf (l.participants ∷ l.slots ∷ l.cells ∷ l.jobs ∷ l.nesting ∷ l.tries ∷ []) words
+
+-- what these arguments choose
+abbrev pub Chooses : List (List ℕ) → Choice → Type 0
+Chooses [] (Script limits) = limits ≡ usual_limits
+Chooses [] Usage = ⊥
+Chooses (word ∷ words) (Script limits) = AreLimits limits (word ∷ words)
+Chooses (word ∷ words) Usage = ¬ ((limits : Limits) × AreLimits limits (word ∷ words))
+
+-- the status that a play's end gives the program
+abbrev pub status_of : Ended → ℕ
+status_of Played = 0
+status_of (NotACall n) = 2
+status_of LimitsOutOfRange = 2
+status_of CannotRead = 1
+status_of CannotWrite = 1
+status_of NoMemory = 1
