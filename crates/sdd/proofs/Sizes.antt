@@ -12,10 +12,10 @@ use Rattle.sdd_world.proofs.Weights.{FreesOne-slot_reclaimed, FreesOne-sizes, Ke
 
 module _ {T : Type 0} (holds : T → List Holding) where
   keeps-same : (w : World T) → KeepsSizes w w
-  keeps-same w = record { home = refl; places = refl; slots = refl; room = refl }
+  keeps-same w = record { home = refl; places = refl; slots = refl; room = refl; nesting = refl }
 
   keeps-place : (w : World T) (p : ℕ) (x : Participant) → KeepsSizes w (record w { time = time.with_place w.time p x })
-  keeps-place w p x = record { home = refl; places = length-set w.time.places p x; slots = refl; room = refl }
+  keeps-place w p x = record { home = refl; places = length-set w.time.places p x; slots = refl; room = refl; nesting = refl }
 
   keeps-reclaimed : (w : World T) (p : ℕ) (x : What) → p < length w.time.places → KeepsSizes w (reclaimed holds w p x)
   keeps-reclaimed w p (Item k) lt = FreesOne-sizes (FreesOne-slot_reclaimed holds w p k lt)

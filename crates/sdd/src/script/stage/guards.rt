@@ -79,8 +79,8 @@ impl Stage {
         let Some(guard) = open_guard(self.guards.as_slice(), place, name) else {
             return Reply::Invalid;
         };
-        let turn = self.world.at(&self.places[place]);
-        Reply::Epoch(guard.epoch(&turn))
+        let mut turn = self.world.at(&self.places[place]);
+        Reply::Epoch(guard.epoch(&mut turn))
     }
 
     pub fn garbage(&mut self, place: usize, name: GuardName) -> Reply
@@ -191,7 +191,7 @@ fn open_at(world: &mut World<Val>, place: &Place) -> Result<(Guard, Epoch), Refu
 {
     let mut turn = world.at(place);
     let guard = Guard::new(&mut turn)?;
-    let epoch = guard.epoch(&turn);
+    let epoch = guard.epoch(&mut turn);
     Ok((guard, epoch))
 }
 
