@@ -205,4 +205,3 @@ numbered s p place leaves lt is = ap index_of is ∙ leaves.places p place (let 
 pub has_left : (s : Stage) → CanLeave s → s.guards.items ≡ [] → s.owners.items ≡ [] → OnlyOut s.world [] []
 has_left s leaves guards owners =
     subst (λ (gs : List (Option Guard)). OnlyOut s.world (guards_held gs) []) guards (subst (λ (os : List (Option Held)). OnlyOut s.world (guards_held s.guards.items) (slots_held os)) owners leaves.out)
-

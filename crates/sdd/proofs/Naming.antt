@@ -1,5 +1,5 @@
 -- The names of what an opening reclaims
-use Rattle.std.proofs.Common.{◌≡◌, ◌≢◌, ℕ, ◌+◌, ◌<◌, ◌==◌, List, [], ◌∷◌, length, map, slice_index, slice_index_or, inl, inr, refl, sym, ap, ◌∙◌, subst, eq-eqb, ne_eqb, arith, Option, None, IsSome}
+use Rattle.std.proofs.Common.{◌≡◌, ◌≢◌, ℕ, ◌<◌, List, [], ◌∷◌, length, map, slice_index, slice_index_or, inl, inr, refl, sym, ap, ◌∙◌, subst, eq-eqb, ne_eqb, arith, Option, None, IsSome}
 use Rattle.std.specs.Prelude.{All, Contains, eqb}
 use Rattle.std.specs.List.{IsDistinct}
 use Rattle.std.specs.List.Sorted.{IsPermutation, IsNonDecreasing, IsNonDecreasingBy}
@@ -7,7 +7,6 @@ use Rattle.std.proofs.lemmas.Bool.{eqb-false, cases_eq, cases_lt, false≢true}
 use Rattle.std.proofs.lemmas.List.{get_or-map, get_or_default, get_or_past, length-map}
 use Rattle.std.proofs.lemmas.List.Sorted.{IsPermutation-map, IsPermutation-sym, Contains-permutation}
 use Rattle.std.proofs.lemmas.Map.Keys.{IsDistinct-from_apart, apart_from_distinct, IsDistinct-IsPermutation, IsStrictlyIncreasing-from_distinct}
-use Rattle.sdd_store.specs.Waiting.{What}
 use Rattle.sdd_store.specs.Waiting.What.{Item}
 use Rattle.sdd_base.specs.World.{standing_at}
 use Rattle.sdd_base.specs.Steps.{reclaims}
@@ -36,14 +35,14 @@ map-among f (z ∷ xs) x (inr h) = inr (map-among f xs x h)
 distinct-map : (f : ℕ → ℕ) (xs : List ℕ) → ((a b : ℕ) → Contains xs a → Contains xs b → f a ≡ f b → a ≡ b) → IsDistinct eqb xs → IsDistinct eqb (map f xs)
 distinct-map f xs one h =
     IsDistinct-from_apart eqb (map f xs) (λ i j d lt inside.
-      let long = length-map xs f in
-      let i_in : i < length xs = omega (arith, long) in
-      let j_in : j < length xs = omega (arith, long) in
-      let a = slice_index_or xs i 0 in
-      let b = slice_index_or xs j 0 in
-      let apart : a ≢ b = eqb-false a b (apart_from_distinct eqb xs i j 0 h lt j_in) in
-      let images : f a ≢ f b = λ e. apart (one a b (i, i_in, get_or_default xs i a 0 i_in) (j, j_in, get_or_default xs j b 0 j_in) e) in
-      ap (λ n. eqb n (slice_index_or (map f xs) j d)) (get_or-map f xs i 0 d i_in) ∙ ap (λ n. eqb (f a) n) (get_or-map f xs j 0 d j_in) ∙ ne_eqb (f a) (f b) images)
+    let long = length-map xs f in
+    let i_in : i < length xs = omega (arith, long) in
+    let j_in : j < length xs = omega (arith, long) in
+    let a = slice_index_or xs i 0 in
+    let b = slice_index_or xs j 0 in
+    let apart : a ≢ b = eqb-false a b (apart_from_distinct eqb xs i j 0 h lt j_in) in
+    let images : f a ≢ f b = λ e. apart (one a b (i, i_in, get_or_default xs i a 0 i_in) (j, j_in, get_or_default xs j b 0 j_in) e) in
+    ap (λ n. eqb n (slice_index_or (map f xs) j d)) (get_or-map f xs i 0 d i_in) ∙ ap (λ n. eqb (f a) n) (get_or-map f xs j 0 d j_in) ∙ ne_eqb (f a) (f b) images)
 
 -- two numbers are the same either way round
 eqb-turned : (x y : ℕ) → eqb x y ≡ eqb y x
@@ -117,22 +116,22 @@ module _ (d : Desk) (p : ℕ) (slots names : List ℕ) (s : IsSound d) (are : ma
         ascending = IsStrictlyIncreasing-from_distinct (map f sorted) (rising f sorted up) apart;
         exactly = λ i. (
           (λ c.
-            let h = subst (λ xs. Among xs i) is (contains-among found i (Contains-permutation sorted found i (IsPermutation-sym found sorted moved) c)) in
-            let r = among-map (name_at names) slots i h in
-            let n = name-of r.0 r.1 in
-            let same : n.0 ≡ i.0 = sym n.3 ∙ ap f r.2 in
-            let waits = subst (λ j. Waits (item_at d j).fate) same n.1 in
-            let slot : r.0 ≡ (item_at d i.0).slot = sym n.2 ∙ ap (λ j. (item_at d j).slot) same in
-            let here = subst (λ xs. Among xs (Item r.0)) are (map-among Item slots r.0 r.1) in
-            (waits, among-contains (reclaims d.world p) (Item (item_at d i.0).slot) (subst (λ k. Among (reclaims d.world p) (Item k)) slot here))),
+              let h = subst (λ xs. Among xs i) is (contains-among found i (Contains-permutation sorted found i (IsPermutation-sym found sorted moved) c)) in
+              let r = among-map (name_at names) slots i h in
+              let n = name-of r.0 r.1 in
+              let same : n.0 ≡ i.0 = sym n.3 ∙ ap f r.2 in
+              let waits = subst (λ j. Waits (item_at d j).fate) same n.1 in
+              let slot : r.0 ≡ (item_at d i.0).slot = sym n.2 ∙ ap (λ j. (item_at d j).slot) same in
+              let here = subst (λ xs. Among xs (Item r.0)) are (map-among Item slots r.0 r.1) in
+              (waits, among-contains (reclaims d.world p) (Item (item_at d i.0).slot) (subst (λ k. Among (reclaims d.world p) (Item k)) slot here))),
           (λ r.
-            let at = subst (λ xs. Among xs (Item (item_at d i.0).slot)) (sym are) (contains-among (reclaims d.world p) (Item (item_at d i.0).slot) r.1) in
-            let k = among-map Item slots (Item (item_at d i.0).slot) at in
-            let slot : k.0 ≡ (item_at d i.0).slot = let e : Item k.0 ≡ Item (item_at d i.0).slot = k.2 in cc in
-            let name : slice_index names k.0 ≡ i.0 = ap (λ j. slice_index names j) slot ∙ named i.0 (there (item_at d i.0).fate r.0) in
-            let e : name_at names k.0 ≡ i = ap (λ n. record i { 0 = n }) name in
-            let found_there = subst (λ xs. Among xs i) (sym is) (subst (λ x. Among (map (name_at names) slots) x) e (map-among (name_at names) slots k.0 k.1)) in
-            Contains-permutation found sorted i moved (among-contains found i found_there)),
+              let at = subst (λ xs. Among xs (Item (item_at d i.0).slot)) (sym are) (contains-among (reclaims d.world p) (Item (item_at d i.0).slot) r.1) in
+              let k = among-map Item slots (Item (item_at d i.0).slot) at in
+              let slot : k.0 ≡ (item_at d i.0).slot = let e : Item k.0 ≡ Item (item_at d i.0).slot = k.2 in cc in
+              let name : slice_index names k.0 ≡ i.0 = ap (λ j. slice_index names j) slot ∙ named i.0 (there (item_at d i.0).fate r.0) in
+              let e : name_at names k.0 ≡ i = ap (λ n. record i { 0 = n }) name in
+              let found_there = subst (λ xs. Among xs i) (sym is) (subst (λ x. Among (map (name_at names) slots) x) e (map-among (name_at names) slots k.0 k.1)) in
+              Contains-permutation found sorted i moved (among-contains found i found_there)),
         );
       }
 

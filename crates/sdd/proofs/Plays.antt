@@ -1,17 +1,15 @@
 -- What a play read and wrote, from what its parts did
-use Rattle.std.proofs.Common.{◌≡◌, ℕ, List, [], ◌∷◌, ◌++◌, map, Option, None, Some, IfSome, refl, sym, ap, ◌∙◌, append-nil, subst}
-use Rattle.std.specs.Io.KnownBytes.{IsAtEnd, Appends}
+use Rattle.std.proofs.Common.{◌≡◌, ℕ, List, [], ◌∷◌, ◌++◌, map, Option, None, Some, IfSome, sym, ap, ◌∙◌, append-nil, subst}
+use Rattle.std.specs.Io.KnownBytes.{IsAtEnd}
 use Rattle.sdd_base.specs.declared.limits.Limits.{Limits}
 use Rattle.sdd_lines.specs.Device.{ConsumesSome}
 use Rattle.sdd_lines.specs.declared.call.Call.{Call}
 use Rattle.sdd_lines.specs.declared.answer.Answer.{Answer}
-use Rattle.sdd_lines.specs.declared.ended.Ended.{Ended}
-use Rattle.sdd_lines.specs.declared.ended.Ended.TheVariants.{Played, NotACall, LimitsOutOfRange, CannotRead, CannotWrite, NoMemory}
 use Rattle.sdd.specs.Desk.{Desk}
 use Rattle.sdd.specs.Script.{Runs}
 use Rattle.sdd.specs.Start.{IsStart}
 use Rattle.sdd.specs.Due.{Line, Trace, NamesWhatIsDue}
-use Rattle.sdd.specs.Play.{AreAnswers, Prints, ReadsAll, Plays, IsSilent, read_failures, write_failures}
+use Rattle.sdd.specs.Play.{AreAnswers, ReadsAll}
 
 -- the calls and answers of a trace are a run
 runs_traced : (start new : Desk) (lines : List Line) → Trace start lines new → Runs start (map (λ (line : Line). line.call) lines) (map (λ (line : Line). line.answer) lines) new

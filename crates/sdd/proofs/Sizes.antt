@@ -1,5 +1,5 @@
 -- An opening changes no size of a world
-use Rattle.std.proofs.Common.{◌≡◌, ℕ, ◌<◌, Bool, true, false, if◌then◌else◌, List, [], ◌∷◌, length, refl, sym, subst}
+use Rattle.std.proofs.Common.{ℕ, ◌<◌, Bool, true, false, if◌then◌else◌, List, [], ◌∷◌, length, refl, sym, subst}
 use Rattle.std.proofs.lemmas.List.{length-set}
 use Rattle.sdd_store.specs.Waiting.{What}
 use Rattle.sdd_store.specs.Waiting.What.{Item, Private, Job}
@@ -7,7 +7,7 @@ use Rattle.sdd_store.specs.Time as time
 use Rattle.sdd_store.specs.declared.time.Participant.{Participant}
 use Rattle.sdd_base.specs.Holding.{Holding}
 use Rattle.sdd_base.specs.World.{World, KeepsSizes, place_at}
-use Rattle.sdd_base.specs.Steps.{nested, rotated, settled, reclaimed, all_reclaimed, changed, opened}
+use Rattle.sdd_base.specs.Steps.{nested, rotated, reclaimed, all_reclaimed, changed, opened}
 use Rattle.sdd_world.proofs.Weights.{FreesOne-slot_reclaimed, FreesOne-sizes, KeepsSizes-trans}
 
 module _ {T : Type 0} (holds : T → List Holding) where

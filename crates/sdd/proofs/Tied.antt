@@ -1,5 +1,5 @@
 -- Ties that last
-use Rattle.std.proofs.Common.{◌≡◌, ◌≢◌, ℕ, ◌+◌, ◌<◌, ◌≤◌, List, [], ◌∷◌, ◌++◌, Option, Some, None, inl, inr, length, map, set, slice_index, slice_index_or, slice_set, vec_capacity, arith, ap, sym, subst, ◌∙◌}
+use Rattle.std.proofs.Common.{◌≡◌, ℕ, ◌+◌, ◌<◌, ◌≤◌, List, [], ◌∷◌, ◌++◌, Option, Some, None, inl, inr, length, map, set, slice_index, slice_index_or, slice_set, vec_capacity, arith, ap, sym, subst, ◌∙◌}
 use Rattle.std.proofs.Math.ListN.{get_or-map}
 use Rattle.std.specs.Global.{Vec}
 use Rattle.sdd_token.specs.Units as token
@@ -17,7 +17,7 @@ use Rattle.sdd.specs.Desk.{nothing, with_fate, all_gone}
 use Rattle.sdd_world.specs.Place.{index_of}
 use Rattle.sdd_world.specs.declared.world.Place.{Place}
 use Rattle.sdd.specs.Sound.{IsThere}
-use Rattle.sdd.specs.Stage.{IsTied, HasRoom, held_item, OwnsItem, AreOwners, IsOwnerOfItem, AreNamed}
+use Rattle.sdd.specs.Stage.{IsTied, held_item, OwnsItem, AreOwners, IsOwnerOfItem, AreNamed}
 use Rattle.sdd.proofs.Entry.{at-same, at-other}
 use Rattle.sdd.proofs.Items.{with_fate-slot, with_fate-length, with_fate-other, all_gone-slot, all_gone-length, stays-or-goes}
 use Rattle.sdd.specs.declared.script.stage.Stage.{Stage}

@@ -1,8 +1,8 @@
 -- Items that are made, and cells that are closed again
-use Rattle.std.proofs.Common.{◌≡◌, ℕ, ◌<◌, List, [], ◌∷◌, Option, Some, None, zero, suc, length, slice_index_or, slice_set, refl, sym, ap, subst, IsSome, ◌∙◌, set, get_or}
+use Rattle.std.proofs.Common.{◌≡◌, ℕ, List, [], ◌∷◌, Option, Some, None, zero, suc, slice_index_or, slice_set, refl, sym, ap, subst, IsSome, ◌∙◌}
 use Rattle.std.proofs.lemmas.Bool.{false≢true}
 use Rattle.std.proofs.lemmas.List.{get_or-set_same}
-use Rattle.sdd_store.specs.Table.{Entries, IsEmptyAt, IsFull, entry_at, with_entry, without_entry}
+use Rattle.sdd_store.specs.Table.{Entries, IsEmptyAt, IsFull, entry_at, with_entry}
 use Rattle.sdd_store.specs.declared.standing.Cell.{Cell}
 use Rattle.sdd_base.specs.World.{World}
 use Rattle.sdd_base.specs.Steps.{made, nulled, cell_closed, spilled, held_in}
@@ -54,7 +54,7 @@ refuses-slot old taken back new p c k empty nulls same cell full closes = (
     subst (λ (w : World Val). IsFull w.standings) nulls full,
   ),
   closes
-  ∙ ap (λ (w : World Val). cell_closed w p k) (same ∙ nulls)
-  ∙ ap (λ (j : ℕ). cell_closed (nulled old c) p j) cell
-  ∙ cell_closed-nulled old p c empty,
+      ∙ ap (λ (w : World Val). cell_closed w p k) (same ∙ nulls)
+      ∙ ap (λ (j : ℕ). cell_closed (nulled old c) p j) cell
+      ∙ cell_closed-nulled old p c empty,
 )

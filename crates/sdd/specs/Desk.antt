@@ -1,5 +1,5 @@
 -- A script's world, and what its names stand for
-use Rattle.std.specs.Prelude.{ℕ, ◌+◌, ◌<◌, ◌≤◌, ◌≡◌, List, [], ◌∷◌, ◌++◌, Option, None, Some, length, slice_index_or, slice_set, Contains, ◌↔◌}
+use Rattle.std.specs.Prelude.{ℕ, ◌<◌, ◌≤◌, ◌≡◌, List, [], ◌∷◌, Option, None, Some, length, slice_index_or, slice_set, Contains}
 use Rattle.sdd_store.specs.Waiting.What.{Item}
 use Rattle.sdd_base.specs.World.{World}
 use Rattle.sdd_base.specs.Steps.{reclaims}

@@ -1,11 +1,11 @@
 -- The meaning of a script: what its calls answer, and what they leave
-use Rattle.std.specs.Prelude.{ℕ, ◌+◌, ◌<◌, ◌≤◌, ◌≡◌, List, [], ◌∷◌, ◌++◌, Option, None, Some, length, slice_index_or, slice_set, Contains, map, IsSome, if◌then◌else◌, ◌↔◌}
+use Rattle.std.specs.Prelude.{ℕ, ◌+◌, ◌≡◌, List, [], ◌∷◌, ◌++◌, None, Some, length, slice_index_or, slice_set, Contains, map, IsSome, if◌then◌else◌, ◌↔◌}
 use Rattle.std.specs.List.Sorted.{IsStrictlyIncreasing}
 use Rattle.sdd_core.specs.Epoch.{epoch_of}
 use Rattle.sdd_core.specs.declared.refused.Refused.TheVariants.{NoSlot, NoCell, NoPlace, TooManyGuards}
 use Rattle.sdd_store.specs.Time.{IsCrowded, IsNext, CanNest, is_open, has_garbage}
 use Rattle.sdd_store.specs.Table.{IsEmptyAt, IsFull}
-use Rattle.sdd_base.specs.World.{World, place_at, value_at}
+use Rattle.sdd_base.specs.World.{place_at, value_at}
 use Rattle.sdd_base.specs.Steps.{registered, nulled, made, retired, opened, closed, stirred, accelerated}
 use Rattle.sdd_lines.specs.declared.name.ItemName.{ItemName}
 use Rattle.sdd_lines.specs.declared.call.Call.{Call}

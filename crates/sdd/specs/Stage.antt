@@ -1,6 +1,5 @@
 -- A script in the middle of a run, as its desk, and how the two are tied
-use Rattle.std.specs.Prelude.{ℕ, ◌+◌, ◌<◌, ◌≤◌, ◌≡◌, List, Option, Some, None, map, length, slice_index_or, slice_index, vec_len, vec_capacity}
-use Rattle.std.specs.Option.{option_map}
+use Rattle.std.specs.Prelude.{ℕ, ◌<◌, ◌≤◌, ◌≡◌, List, Option, Some, None, map, length, slice_index_or, slice_index, vec_len, vec_capacity}
 use Rattle.sdd_token.specs.Units as token
 use Rattle.sdd_base.specs.Owned.{slot_of, slots_home}
 use Rattle.sdd_world.specs.Place.{index_of}
@@ -9,8 +8,6 @@ use Rattle.sdd_lines.specs.declared.name.ItemName.{ItemName}
 use Rattle.sdd.specs.Desk.{Desk, nothing}
 use Rattle.sdd.specs.Opened.{guard_place}
 use Rattle.sdd.specs.Sound.{IsThere}
-use Rattle.sdd.specs.declared.script.item.Fate.{Fate}
-use Rattle.sdd.specs.declared.script.item.Fate.TheVariants.{Out, Retired, Gone}
 use Rattle.sdd.specs.declared.script.item.ItemState.{ItemState}
 use Rattle.sdd.specs.declared.script.stage.Held.{Held}
 use Rattle.sdd.specs.declared.script.stage.Stage.{Stage}

@@ -39,7 +39,6 @@ pub struct Stage {
     pub names: Vec<u64>,
 }
 
-
 impl Stage {
     ghost use Rattle.sdd_base.specs.Limits.{AreInRange};
     ghost use Rattle.sdd.specs.Start.{IsStart};

@@ -1,10 +1,5 @@
-use Rattle.std.proofs.Common.{◌≡◌, ℕ, List, [], inl, inr, ap, ◌∙◌, subst}
-use Rattle.sdd_base.specs.Guard.{place_of}
-use Rattle.sdd_base.specs.World.{World}
+use Rattle.std.proofs.Common.{ℕ, [], inl, inr, ap, ◌∙◌, subst}
 use Rattle.sdd_store.specs.declared.tally.Tally.{Tally}
-use Rattle.sdd.specs.declared.script.stage.Held.{Held}
-use Rattle.sdd.specs.declared.script.val.Val.{Val}
-use Rattle.sdd.specs.Out.{OnlyOut}
 use Rattle.sdd.proofs.Ending.{IsEnded}
 use Rattle.sdd.proofs.Leaving.{has_left, left_unguarded, left_ends}
 use Rattle.sdd.proofs.script.stage.Stage.close.Goals as goal

@@ -1,4 +1,3 @@
-use Rattle.std.proofs.Common.{◌≡◌}
 use Rattle.sdd_base.specs.Owned.{slot_of}
 use Rattle.sdd.specs.Stage.{desk_of}
 use Rattle.sdd.proofs.Acts.{meets-made}

@@ -1,14 +1,10 @@
-use Rattle.std.proofs.Common.{◌≡◌, ℕ, ◌+◌, ◌<◌, List, [], ◌∷◌, ◌++◌, Option, Some, Bool, true, false, All, if◌then◌else◌, length, map, slice_set, refl, sym, ap, ◌∙◌, subst, arith}
+use Rattle.std.proofs.Common.{◌≡◌, ℕ, ◌<◌, List, [], ◌∷◌, ◌++◌, Option, Some, Bool, true, false, All, if◌then◌else◌, length, map, slice_set, sym, ap, ◌∙◌, subst, arith}
 use Rattle.std.proofs.lemmas.List.{map_push, length-set, length-map}
-use Rattle.sdd_core.specs.Epoch.{epoch_of}
 use Rattle.sdd_store.specs.Time.{is_open, CanNest}
-use Rattle.sdd_base.specs.Guard.{place_of}
 use Rattle.sdd_base.specs.World.{World, KeepsSizes, place_at}
 use Rattle.sdd_base.specs.Steps.{opened}
 use Rattle.sdd_base.specs.declared.guard.Guard.{Guard}
 use Rattle.sdd_lines.specs.declared.name.ItemName.{ItemName}
-use Rattle.sdd_world.specs.Place.{index_of}
-use Rattle.sdd.specs.declared.script.item.ItemState.{ItemState}
 use Rattle.sdd.specs.declared.script.val.Val.{Val}
 use Rattle.sdd.specs.Val.{holdings_of}
 use Rattle.sdd.specs.Desk.{all_gone}
@@ -41,9 +37,9 @@ returns-clause-tied c =
     tied_opened s.moment s c.open_at.new.world c.note_opening.new.openings c.push_reserved.new.self c.mark_gone.new.items c.in-Ok.opened.0 c.in_ok-reclaimed.reclaimed c.requires.tied sizes
     (noted c.is_open-is_nested.result s.openings.items c.note_opening.new.openings.items c.args.place s.moment c.note_opening.ensures.openings) c.note_opening.ensures.room
     c.push_reserved.ensures.items c.push_reserved.ensures.capacity gone c.mark_gone.ensures.room where
-  noted : (nested : Bool) (old new : List ℕ) (p moment : ℕ) → new ≡ (if nested then old else slice_set old p moment) → length new ≡ length old
-  noted true old new p moment e = ap (λ (os : List ℕ). length os) e
-  noted false old new p moment e = ap (λ (os : List ℕ). length os) e ∙ length-set old p moment
+      noted : (nested : Bool) (old new : List ℕ) (p moment : ℕ) → new ≡ (if nested then old else slice_set old p moment) → length new ≡ length old
+      noted true old new p moment e = ap (λ (os : List ℕ). length os) e
+      noted false old new p moment e = ap (λ (os : List ℕ). length os) e ∙ length-set old p moment
 
 pub returns-clause-meets : goal.returns-clause-meets
 returns-clause-meets c =

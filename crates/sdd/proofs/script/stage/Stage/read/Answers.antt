@@ -1,6 +1,5 @@
-use Rattle.std.proofs.Common.{◌≡◌, ℕ, List, Option, Some, None, map, slice_index_or, IsSome, refl, sym, ap, ◌∙◌, subst}
+use Rattle.std.proofs.Common.{◌≡◌, ℕ, List, Option, Some, None, slice_index_or, IsSome, refl, sym, ap, ◌∙◌, subst}
 use Rattle.sdd_base.specs.World.{value_at}
-use Rattle.sdd.specs.Stage.{held_item}
 use Rattle.sdd.specs.declared.script.stage.Held.{Held}
 use Rattle.sdd.proofs.Tied.{item_held, owner_held}
 use Rattle.sdd.proofs.script.stage.Stage.read.Goals as goal

@@ -1,11 +1,9 @@
-use Rattle.std.proofs.Common.{◌≡◌, ◌≢◌, ℕ, ◌<◌, arith, List, length, Option, None, Some, map, slice_index_or, refl, sym, ap, ◌∙◌, subst}
+use Rattle.std.proofs.Common.{◌≡◌, ℕ, List, length, Option, None, Some, map, slice_index_or, sym, ap, ◌∙◌, subst}
 use Rattle.std.proofs.lemmas.List.{map-set, length-set}
 use Rattle.sdd_base.specs.World.{World}
 use Rattle.sdd_base.specs.Steps.{retired}
 use Rattle.sdd_base.specs.Owned.{slot_of}
-use Rattle.sdd_base.specs.declared.owned.Owned.{Owned}
 use Rattle.sdd_world.specs.Place.{index_of}
-use Rattle.sdd.specs.declared.script.item.Fate.{Fate}
 use Rattle.sdd.specs.declared.script.item.Fate.TheVariants.{Retired}
 use Rattle.sdd.specs.declared.script.val.Val.{Val}
 use Rattle.sdd.specs.declared.script.stage.Held.{Held}

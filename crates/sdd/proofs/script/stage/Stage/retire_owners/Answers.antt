@@ -1,4 +1,4 @@
-use Rattle.std.proofs.Common.{◌≡◌, ℕ, ◌<◌, length, refl, sym, ap, ◌∙◌, subst, arith}
+use Rattle.std.proofs.Common.{◌≡◌, ℕ, ◌<◌, length, sym, ap, ◌∙◌, subst, arith}
 use Rattle.sdd_base.specs.World.{World}
 use Rattle.sdd_base.specs.Owned.{slot_of}
 use Rattle.sdd_base.specs.Steps.{retired}

@@ -1,4 +1,4 @@
-use Rattle.std.proofs.Common.{◌≡◌, refl}
+use Rattle.std.proofs.Common.{refl}
 use Rattle.sdd.specs.Stage.{desk_of}
 use Rattle.sdd.proofs.script.stage.Stage.step.Goals as goal
 

@@ -1,4 +1,4 @@
-use Rattle.std.proofs.Common.{◌≡◌, ℕ, refl, sym, ap, ◌∙◌, subst}
+use Rattle.std.proofs.Common.{◌≡◌, refl, sym, ap, ◌∙◌, subst}
 use Rattle.sdd_core.specs.declared.refused.Refused.TheVariants.{NoSlot}
 use Rattle.sdd_base.specs.World.{World}
 use Rattle.sdd_base.specs.Seat.{Seat}

@@ -1,4 +1,4 @@
-use Rattle.std.proofs.Common.{◌≡◌, ℕ, Some, refl, sym, ap, ◌∙◌}
+use Rattle.std.proofs.Common.{◌≡◌, ℕ, sym, ap, ◌∙◌}
 use Rattle.sdd_base.specs.World.{value_at}
 use Rattle.sdd.proofs.script.stage.items.number_shown.Goals as goal
 
