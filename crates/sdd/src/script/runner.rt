@@ -29,7 +29,7 @@ pub fn run(alloc: Global, limits: Limits, calls: &[Call]) -> Result<(Vec<Answer>
     let mut answers = match Vec::with_capacity(alloc, calls.len()) {
         Ok(answers) => answers,
         Err(_) => {
-            stage.dismantle();
+            stage.close();
             return Err(Refused::NoMemory);
         }
     };
@@ -37,7 +37,7 @@ pub fn run(alloc: Global, limits: Limits, calls: &[Call]) -> Result<(Vec<Answer>
         match stage.step(call) {
             Ok(answer) => answers.push_reserved(answer),
             Err(refused) => {
-                stage.dismantle();
+                stage.close();
                 return Err(refused);
             }
         }

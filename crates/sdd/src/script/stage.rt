@@ -1,5 +1,5 @@
 //! The world of a script in the middle of a run, with what its names stand for.
-ghost use Rattle.std.specs.Prelude.{◌≡◌, ℕ, ◌+◌, ◌<◌, ◌≤◌, ◌⊎◌, [], IfOk, OnOk, MatchResult, length, vec_capacity};
+ghost use Rattle.std.specs.Prelude.{◌≡◌, ℕ, ◌+◌, ◌<◌, ◌≤◌, ◌⊎◌, [], IfOk, OnErr, OnOk, MatchResult, length, vec_capacity};
 
 mod guards;
 mod items;
@@ -7,11 +7,9 @@ mod leaving;
 
 use crate::script::item::ItemState;
 use crate::script::val::Val;
-use sdd_base::inner::{discard_guard, right_of_owner};
 use sdd_base::{Guard, Limits, Owned};
 use sdd_core::Refused;
 use sdd_lines::{Action, Answer, Call, Names, PlaceName, Reply};
-use sdd_world::inner::dismantle;
 use sdd_world::{Place, World};
 use std::alloc::{AllocError, Global};
 
@@ -84,26 +82,7 @@ impl Stage {
         })
     }
 
-    /// Lets go of all.
-    pub fn dismantle(self) {
-        let Stage {
-            world,
-            alloc: _,
-            moment: _,
-            calls: _,
-            places: _,
-            openings: _,
-            guards,
-            owners,
-            items: _,
-            names: _,
-        } = self;
-        discard_guards(guards);
-        discard_owners(owners);
-        dismantle(world);
-    }
-
-    /// One call; `NoMemory` alone leaves it undone.
+    /// One call. With `NoMemory`, which alone refuses it, nothing has changed.
     pub fn step(&mut self, call: &Call) -> Result<Answer, Refused>
         requires tied { IsTied self.old.moment self.old }
         requires sound { IsSound (desk_of self.old) }
@@ -111,6 +90,7 @@ impl Stage {
         ensures tied { OnOk result (IsTied self.new.moment self.new) }
         ensures moment { OnOk result (self.new.moment ≡ self.old.moment + 1) }
         ensures calls { OnOk result (self.new.calls ≡ self.old.calls) }
+        ensures refused { OnErr result (self.new ≡ self.old) }
         ensures step { MatchResult result (λ answer. Step (desk_of self.old) call.now answer (desk_of self.new)) (λ refused. refused ≡ Refused.NoMemory) }
     {
         let answer = self.answer_to(call)?;
@@ -125,6 +105,7 @@ impl Stage {
         requires more { self.old.moment < self.old.calls }
         ensures tied { OnOk result (IsTied (self.old.moment + 1) self.new) }
         ensures limits { OnOk result (KeepsLimits self.old self.new) }
+        ensures refused { OnErr result (self.new ≡ self.old) }
         ensures meets { MatchResult result
             (λ answer. (answer.ran ≡ []) × Meets (desk_of self.old) call.now answer.reply answer.reclaimed (desk_of self.new))
             (λ refused. refused ≡ Refused.NoMemory) }
@@ -153,6 +134,7 @@ impl Stage {
         requires more { self.old.moment < self.old.calls }
         ensures tied { IsTied (self.old.moment + 1) self.new }
         ensures limits { KeepsLimits self.old self.new }
+        ensures refused { OnErr result (self.new ≡ self.old) }
         ensures meets { MatchResult result
             (λ answer. (answer.ran ≡ []) × Meets (desk_of self.old) Call.Register answer.reply answer.reclaimed (desk_of self.new))
             (λ refused. refused ≡ Refused.NoMemory) }
@@ -176,6 +158,7 @@ impl Stage {
         requires more { self.old.moment < self.old.calls }
         ensures tied { IsTied (self.old.moment + 1) self.new }
         ensures limits { KeepsLimits self.old self.new }
+        ensures refused { OnErr result (self.new ≡ self.old) }
         ensures meets { IfOk result (λ answer. (answer.ran ≡ []) × Meets (desk_of self.old) (Call.At (record { 0 = place }) action.now) answer.reply answer.reclaimed (desk_of self.new)) }
     {
         if place >= self.places.len() as u64 {
@@ -214,24 +197,4 @@ fn empty_desk(
             Err(error)
         }
     }
-}
-
-/// Guards go, whose world goes.
-fn discard_guards(mut guards: Vec<Option<Guard>>) {
-    while let Some(guard) = guards.pop() {
-        if let Some(guard) = guard {
-            discard_guard(guard);
-        }
-    }
-    guards.destroy_empty();
-}
-
-/// Owners go, whose world goes.
-fn discard_owners(mut owners: Vec<Option<Held>>) {
-    while let Some(held) = owners.pop() {
-        if let Some(Held { owner, item: _ }) = held {
-            right_of_owner(owner).discard();
-        }
-    }
-    owners.destroy_empty();
 }

@@ -1,5 +1,5 @@
 //! What participants do with guards.
-ghost use Rattle.std.specs.Prelude.{All, ◌≡◌, ℕ, ◌+◌, ◌<◌, ◌↔◌, [], IfOk, IfSome, IsSome, None, Some, MatchResult, length, map, slice_index_or, slice_set, vec_capacity, if◌then◌else◌};
+ghost use Rattle.std.specs.Prelude.{All, ◌≡◌, ℕ, ◌+◌, ◌<◌, ◌↔◌, [], IfOk, IfSome, IsSome, None, Some, OnErr, MatchResult, length, map, slice_index_or, slice_set, vec_capacity, if◌then◌else◌};
 ghost use Rattle.sdd_core.specs.Epoch.{epoch_of};
 ghost use Rattle.sdd_store.specs.Time.{CanNest};
 ghost use Rattle.sdd_base.specs.Guard.{place_of};
@@ -35,6 +35,7 @@ impl Stage {
         requires more { self.old.moment < self.old.calls }
         ensures tied { IsTied (self.old.moment + 1) self.new }
         ensures limits { KeepsLimits self.old self.new }
+        ensures refused { OnErr result (self.new ≡ self.old) }
         ensures meets { IfOk result (λ answer. (answer.ran ≡ []) × Meets (desk_of self.old) (Call.At (record { 0 = place }) Action.Open) answer.reply answer.reclaimed (desk_of self.new)) }
     {
         let reclaimed = self.names_to_go(place)?;

@@ -1,11 +1,12 @@
-use Rattle.std.proofs.Common.{rules, List, [], ◌∷◌, ◌++◌, length, take, slice_index_or, sym, ap, ◌∙◌, subst, arith}
-use Rattle.std.proofs.lemmas.List.{take_more, take_all, length_push}
+use Rattle.std.proofs.Common.{rules, List, [], ◌∷◌, ◌++◌, length, take, slice_index_or, refl, sym, ap, ◌∙◌, subst, arith}
+use Rattle.std.proofs.lemmas.List.{take_more, take_all, length_push, length-take-le}
 use Rattle.sdd_lines.specs.declared.call.Call.{Call}
 use Rattle.sdd_lines.specs.declared.call.Call.TheVariants.{Register}
 use Rattle.sdd_lines.specs.declared.answer.Answer.{Answer}
 use Rattle.sdd.specs.Desk.{Desk}
 use Rattle.sdd.specs.Script.{Runs}
 use Rattle.sdd.specs.Stage.{desk_of}
+use Rattle.sdd.specs.Leaving.{CanLeave}
 use Rattle.sdd.proofs.Reached.{runs_sound, runs_push}
 use Rattle.sdd.proofs.Leaving.{runs_can_leave}
 use Rattle.sdd.proofs.Due.{names_what_is_due}
@@ -33,6 +34,22 @@ loop-call-preserved c =
       answered = (let a = before.answered in let b = ap (λ (given : List Answer). length given) pushed ∙ length_push c.loop-call.answers.items c.in-Ok-step.answer in omega (arith, a, b));
       room = (let a = before.room in let b = c.push_reserved.ensures.capacity in omega (arith, a, b));
     }
+
+pub close-requires : goal.close-requires
+close-requires c =
+    let start = desk_of c.in_ok-stage.stage in
+    runs_can_leave c.args.limits start [] [] 0 c.in_ok-stage.stage (omega arith) c.in_ok-stage.ensures.start refl c.in_ok-stage.ensures.tied
+
+pub close-requires-in-Err-step : goal.close-requires-in-Err-step
+close-requires-in-Err-step c =
+    let before = c.loop-call.invariant in
+    let calls = take c.loop-call.call-index c.args.calls.now in
+    let more = c.loop-call-test.true in
+    let few : length c.args.calls.now < 2 ^ 128 = search rules in
+    let made : length calls ≡ c.loop-call.call-index = length-take-le c.loop-call.call-index c.args.calls.now (omega (arith, more)) in
+    let fewer : length calls < 2 ^ 128 = omega (arith, few, made, more) in
+    subst CanLeave (sym c.in-Err-step.ensures.refused)
+    (runs_can_leave c.args.limits (desk_of c.in_ok-stage.stage) calls c.loop-call.answers.items c.loop-call.stage.moment c.loop-call.stage fewer c.in_ok-stage.ensures.start before.runs before.tied)
 
 pub of-requires : goal.of-requires
 of-requires c =
