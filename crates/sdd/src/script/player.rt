@@ -1,5 +1,5 @@
 //! Plays of scripts: from the bytes of calls to the bytes of their answers.
-ghost use Rattle.std.specs.Prelude.{◌≡◌, ◌↔◌, List, IfOk};
+ghost use Rattle.std.specs.Prelude.{◌≡◌, ◌↔◌, List, IfOk, IfErr};
 ghost use Rattle.sdd_base.specs.Limits.{AreInRange};
 ghost use Rattle.sdd_lines.specs.Answer.{text_of_all};
 ghost use Rattle.sdd_lines.specs.declared.answer.Answer.{Answer};
@@ -57,7 +57,9 @@ pub fn play<R: Source, W: Sink>(
 
 /// What is to be written for a text, and how its play ends once that is done.
 fn print_of(alloc: Global, limits: Limits, text: &[u8]) -> Result<(Vec<u8>, Ended), Refused>
-    ensures { IfOk result (λ print. Prints limits text.now print.0.items print.1) }
+    requires { AreInRange limits }
+    ensures prints { IfOk result (λ print. Prints limits text.now print.0.items print.1) }
+    ensures err { IfErr result (λ refused. refused ≡ Refused.NoMemory) }
 {
     match parse_all(alloc, text)? {
         Script::Calls(calls) => {
@@ -70,8 +72,10 @@ fn print_of(alloc: Global, limits: Limits, text: &[u8]) -> Result<(Vec<u8>, Ende
 
 /// The lines that answer calls on a new world.
 fn print_of_calls(alloc: Global, limits: Limits, calls: &[Call]) -> Result<Vec<u8>, Refused>
-    ensures { IfOk result (λ printed.
+    requires { AreInRange limits }
+    ensures prints { IfOk result (λ printed.
         (answers : List Answer) × AreAnswers limits calls.now answers × (printed.items ≡ text_of_all answers)) }
+    ensures err { IfErr result (λ refused. refused ≡ Refused.NoMemory) }
 {
     let (answers, scene) = run(alloc, limits, calls)?;
     scene.close();

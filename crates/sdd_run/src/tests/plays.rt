@@ -2,7 +2,7 @@
 
 use super::devices::{Page, Trickle};
 use crate::arguments::USUAL_LIMITS;
-use sdd::{Ended, Limits, Reader, Writer, play};
+use sdd::{Action, Call, Ended, Limits, PlaceName, Reader, Refused, Tally, Writer, play, run};
 use std::alloc::Global;
 
 /// The shortest way of an item: it is made and retired, and goes at the third later opening that finds another epoch.
@@ -42,6 +42,29 @@ fn each_script_is_answered(rt: HostRuntime) {
         assert_eq!(rt; end, ended, "{text:?}");
         assert_eq!(rt; page.written(), written.as_bytes(), "{text:?}");
     }
+}
+
+#[test]
+fn a_scene_shows_its_world_until_it_is_closed(rt: HostRuntime) -> Result<(), Refused> {
+    let calls = [Call::Register, Call::At(PlaceName(0), Action::Owned(7))];
+    let (answers, scene) = run(rt.alloc(), USUAL_LIMITS, &calls)?;
+    let shown = scene.world().tally();
+    let closed = scene.close();
+    let made = Tally {
+        made: 1,
+        reclaimed: 0,
+        in_place: 0,
+    };
+    assert_eq!(rt; answers.len(), 2);
+    assert_eq!(rt; shown, made);
+    assert_eq!(rt;
+        closed,
+        Tally {
+            reclaimed: 1,
+            ..made
+        }
+    );
+    Ok(())
 }
 
 #[test]

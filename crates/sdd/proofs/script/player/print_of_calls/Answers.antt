@@ -4,8 +4,8 @@ use Rattle.sdd_lines.specs.Answer.{text_of_all}
 use Rattle.sdd.proofs.Plays.{are_answers}
 use Rattle.sdd.proofs.script.player.print_of_calls.Goals as goal
 
-pub returns : goal.returns
-returns c =
+pub returns-clause-prints : goal.returns-clause-prints
+returns-clause-prints c =
     let answers = c.in_ok-answers.answers.items in
     let answered = are_answers c.args.limits c.args.calls.now answers c.in_ok-answers.scene c.in_ok-answers.ensures.due in
     IfOk-weaker c.print_all.result _ _ (λ printed e. (answers, answered, e ∙ ap text_of_all c.as_slice.ensures.value)) c.print_all.ensures.text
