@@ -50,10 +50,6 @@ impl Guard {
         self.place
     }
 
-    pub(crate) fn discard(self) {
-        let Guard { place: _ } = self;
-    }
-
     /// Closes the guard. The outermost close at countdown 0, as `accelerate` sets it, first tries to raise the count.
     pub fn close<T: Item<T>, S: Space<T>>(self, s: &mut S)
         requires seated { IsSeated (S.seat s.old) }

@@ -72,8 +72,3 @@ pub fn place_of_guard(guard: &Guard) -> usize
 {
     guard.place()
 }
-
-/// Lets go of a guard whose space is gone.
-pub fn discard_guard(guard: Guard) {
-    guard.discard();
-}

@@ -160,19 +160,6 @@ impl<T> Slots<T> {
         Some(value)
     }
 
-    /// What is kept of the slots' numbers, and the values of all slots, whoever has a right to them.
-    pub fn into_values(self) -> (Rights, Vec<Option<T>>)
-        ensures home { result.0.home ≡ self.home }
-        ensures values { result.1.items ≡ self.values }
-    {
-        let Slots {
-            rights,
-            standings: _,
-            values,
-        } = self;
-        (rights, values)
-    }
-
     /// Lets go of slots that are all free. Their values need not be `Drop`, since there are none.
     pub fn destroy(self)
         requires { All (λ standing. IsNone standing) self.standings }

@@ -40,9 +40,4 @@ impl Right {
     {
         self.number
     }
-
-    /// Lets go of a right whose space is gone.
-    pub fn discard(self) {
-        let Right { number: _, part: _ } = self;
-    }
 }

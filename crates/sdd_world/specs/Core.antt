@@ -42,19 +42,3 @@ IsHeld w k = (p : ℕ) × IsAmong k (waits_with (place_at w p))
 pub record IsWhole {T : Type 0} (w : World T) : Type 0 where
   pub filled : map is_some w.values ≡ map is_some w.standings
   pub held : (k : ℕ) → IsWaiting (standing_at w k) → IsHeld w k
-
--- no world: what a value is given up to once its world is gone
-abbrev pub nowhere : {T : Type 0} → World T
-nowhere =
-    record {
-      home = record { slots = record { name = 0; size = 0 }; cells = record { name = 0; size = 0 } };
-      time = record { count = 0; marked = false; places = []; participants = 0; nesting = 0; room = 0 };
-      standings = [];
-      values = [];
-      cells = [];
-      tally = no_items;
-    }
-
--- nobody's seat, where slots and cells were of these homes: nothing is said of what a call changes
-abbrev pub seat_nowhere : token.Home → token.Home → Seat
-seat_nowhere slots cells = record { place = 0; places = 1; loan = 0; home = record { slots = slots; cells = cells }; nesting = 0; exact = false }

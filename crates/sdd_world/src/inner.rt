@@ -24,8 +24,3 @@ pub fn is_open<T: Item<T>>(world: &World<T>, place: &Place) -> bool
 {
     world.time().is_open(place.index())
 }
-
-/// Lets go of a world with all that is in it, whoever still has a right to it.
-pub fn dismantle<T: Item<T>>(world: World<T>) {
-    world.dismantle();
-}

@@ -6,7 +6,6 @@ ghost use Rattle.sdd_store.specs.Waiting.What.{Item};
 ghost use Rattle.sdd_store.specs.Time as time;
 ghost use Rattle.sdd_store.specs.Table.{entry_at, IsEmptyAt, IsFull};
 ghost use Rattle.sdd_base.specs.Holding.{AreOf, ValuesAreOf};
-ghost use Rattle.sdd_world.specs.Core.{seat_nowhere};
 ghost use Rattle.sdd_base.specs.Seat.{seat_on, IsSeated, IsExact};
 ghost use Rattle.sdd_base.specs.Own.{GrowsOn};
 ghost use Rattle.sdd_base.specs.Owned.{slots_home, cells_home, holding_of, cell_holding};
@@ -18,7 +17,7 @@ use sdd_base::{AtomicOwned, Giver, Item, Owned, inner};
 use sdd_core::Refused;
 use sdd_slots::{Cells, Slots};
 use sdd_store::{Pace, Standing, Tally, Time};
-use sdd_token::{Right, Rights};
+use sdd_token::Right;
 use std::alloc::{AllocError, Global};
 use std::marker::Model;
 
@@ -308,60 +307,4 @@ impl<T: Item<T>> Core<T> {
     {
         self.slots.look(slot)
     }
-
-    /// Lets go of all, whoever still has a right to it.
-    pub fn dismantle(self) {
-        let Core {
-            time: _,
-            slots,
-            cells,
-            tally: _,
-        } = self;
-        let (rights, values) = slots.into_values();
-        discard_all(&rights, &cells, values);
-    }
-}
-
-/// Lets go of what it is given, whose space is gone.
-#[derive(Drop)]
-struct Discard<'w> {
-    slots: &'w Rights,
-    cells: &'w Cells,
-}
-
-impl<T> Giver<T> for Discard<'_> {
-    ghost use Rattle.sdd_store.specs.Time.{nobody};
-    ghost use Rattle.sdd_world.specs.Core.{nowhere, seat_nowhere};
-
-    ghost world = { λ _. nowhere };
-
-    ghost seat = { λ d. seat_nowhere d.slots.now.home d.cells.now.home };
-
-    ghost own = { λ _. nobody };
-
-    fn owned(&mut self, owner: Owned<T>)
-        requires home { slots_home owner ≡ self.old.slots.now.home }
-        ensures seat { seat_nowhere self.new.slots.now.home self.new.cells.now.home ≡ seat_nowhere self.old.slots.now.home self.old.cells.now.home }
-    {
-        inner::right_of_owner(owner).discard();
-    }
-
-    fn atomic_owned(&mut self, cell: AtomicOwned<T>)
-        requires home { cells_home cell ≡ self.old.cells.now.home }
-        ensures seat { seat_nowhere self.new.slots.now.home self.new.cells.now.home ≡ seat_nowhere self.old.slots.now.home self.old.cells.now.home }
-    {
-        inner::right_of_cell(cell).discard();
-    }
-}
-
-/// Values go, with what they hold of these slots and cells.
-fn discard_all<T: Item<T>>(slots: &Rights, cells: &Cells, mut values: Vec<Option<T>>)
-    requires { ValuesAreOf T.holds (record { slots = slots.now.home; cells = cells.now.home }) values.items }
-{
-    while let Some(value) = values.pop() {
-        if let Some(value) = value {
-            value.give_up(&mut Discard { slots, cells });
-        }
-    }
-    values.destroy_empty();
 }

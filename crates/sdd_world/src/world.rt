@@ -131,16 +131,6 @@ impl<T: Item<T>> World<T> {
         time.due(place)
     }
 
-    /// Lets go of all, whoever still has a right to it.
-    pub(crate) fn dismantle(self) {
-        let World {
-            core,
-            spare: _,
-            alloc: _,
-        } = self;
-        core.dismantle();
-    }
-
     pub(crate) fn value<'a>(&'a self, right: &Right) -> &'a T
         requires { home_of right.now ≡ self.now.home.slots }
         ensures { value_at self.now (number_of right.now) ≡ Some result.now }
