@@ -1,7 +1,7 @@
 -- What a call makes of what the calling participant keeps of its own, in every space
 use Rattle.std.specs.Prelude.{ℕ, ◌-◌, ◌==◌, ◌≡◌, Bool, List, [], ◌∷◌, Option, Some, None, nat_lt, if◌then◌else◌}
 use Rattle.sdd_store.specs.Waiting.What.{Item}
-use Rattle.sdd_store.specs.Time.{is_open, nested, rotated, settled, awaiting, counted_down}
+use Rattle.sdd_store.specs.Time.{is_open, nested, rotated, settled, awaiting, due_next, counted_down}
 use Rattle.sdd_store.specs.declared.time.Participant.{Participant}
 
 -- the items in these slots wait from now on, one after another
@@ -37,9 +37,12 @@ abbrev pub spilled : Option ℕ → Participant → Participant
 spilled None p = p
 spilled (Some k) p = awaiting (Item k) p
 
--- an opening made new of old: for some count, and some slots given up
-abbrev pub IsOpened : Participant → Participant → Type 0
-IsOpened old new = (count : ℕ) × (given : List ℕ) × (new ≡ opened_at count given old)
+-- an opening made new of old: it found a count, and where something was due, items in some slots were given up
+pub record IsOpened (old new : Participant) : Type 0 where
+  pub count : ℕ
+  pub given : List ℕ
+  pub own : new ≡ opened_at count given old
+  pub from_due : due_next old ≡ [] → given ≡ []
 
 -- a close of a guard made new of old: with the ended mark as it was found
 abbrev pub IsClosed : Participant → Participant → Type 0

@@ -114,8 +114,10 @@ module _ {T : Type 0} where
       pub slots : List ℕ
       pub own : place_at (changed holds w p) p ≡ changed_at w.time.count slots (place_at w p)
       pub count : (changed holds w p).time.count ≡ w.time.count
+      pub from_due : due_next (place_at w p) ≡ [] → slots ≡ []
 
     pub changes : (w : World T) (p : ℕ) → p < length w.time.places → Changes w p
+    unfolding Gives-all_reclaimed Gives-nothing
     changes w p l =
         let start = steps.rotated w p in
         let in_start : p < length start.time.places = omega (arith, l, length-set w.time.places p (time.rotated w.time.count (place_at w p))) in
@@ -127,6 +129,7 @@ module _ {T : Type 0} where
               there end.time p _ (Gives-range in_start g)
               ∙ ap (λ (x : Participant). time.settled x) (Gives-here in_start g ∙ ap (λ (x : Participant). all_awaiting g.slots x) (there w.time p (time.rotated w.time.count (place_at w p)) l));
           count = ap (λ (t : Time). t.count) g.time;
+          from_due = λ e. ap (λ (xs : List What). (Gives-all_reclaimed start p xs in_start).slots) e;
         }
 
 -- an opening of p, as p has it: the count that it finds, and what is given up to it
@@ -135,6 +138,7 @@ pub record Opens {T : Type 0} (holds : T → List Holding) (w : World T) (p : �
   pub own : place_at (opened holds w p) p ≡ opened_at w.time.count slots (place_at w p)
   pub count : (opened holds w p).time.count ≡ w.time.count
   pub found : ¬ (IsTrue (is_open (place_at w p))) → (place_at (opened holds w p) p).found ≡ w.time.count
+  pub from_due : due_next (place_at w p) ≡ [] → slots ≡ []
 
 module _ {T : Type 0} (holds : T → List Holding) where
   opens-nested : (w : World T) (p : ℕ) → p < length w.time.places → opened holds w p ≡ steps.nested w p → is_open (place_at w p) ≡ true → Opens holds w p
@@ -144,6 +148,7 @@ module _ {T : Type 0} (holds : T → List Holding) where
         own = ap (λ (v : World T). place_at v p) is ∙ rw opened_before (there w.time p _ l);
         count = ap (λ (v : World T). v.time.count) is;
         found = λ closed. absurd (closed opened_before);
+        from_due = λ _. refl;
       }
 
   opens-outermost : (w : World T) (p : ℕ) → p < length w.time.places → is_open (place_at w p) ≡ false → opened holds w p ≡ caught_up holds (steps.nested w p) p → (same_count : Bool) → ((place_at w p).found == w.time.count) ≡ same_count → Opens holds w p
@@ -156,6 +161,7 @@ module _ {T : Type 0} (holds : T → List Holding) where
         own = ap (λ (v : World T). place_at v p) to ∙ here ∙ rw (closed, e) refl;
         count = ap (λ (v : World T). v.time.count) to;
         found = λ _. ap (λ (v : World T). (place_at v p).found) to ∙ ap (λ (x : Participant). x.found) here ∙ grind (arith, nat_tests, e);
+        from_due = λ _. refl;
       }
   opens-outermost w p l closed is false e =
       let here = there w.time p (time.nested (place_at w p)) l in
@@ -169,6 +175,7 @@ module _ {T : Type 0} (holds : T → List Holding) where
         own = own ∙ rw (closed, e) refl;
         count = ap (λ (v : World T). v.time.count) to ∙ c.count;
         found = λ _. ap (λ (x : Participant). x.found) own ∙ all_awaiting-found c.slots _;
+        from_due = λ nothing. c.from_due (ap (λ (x : Participant). due_next x) here ∙ nothing);
       }
 
   pub opens : (w : World T) (p : ℕ) → p < length w.time.places → (b : Bool) → is_open (place_at w p) ≡ b → Opens holds w p

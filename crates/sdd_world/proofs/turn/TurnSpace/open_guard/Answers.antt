@@ -10,7 +10,7 @@ returns-clause-own g c =
     let p : ℕ = c.args.self.now.place in
     let o = opens g.T.Item.holds w p c.requires.seated (is_open (place_at w p)) refl in
     let few = c.can_nest.ensures.0 c.if-not-can_nest.false in
-    (rw c.time.ensures at few, (w.time.count, o.slots, rw c.open.ensures.opened o.own))
+    (rw c.time.ensures at few, record { count = w.time.count; given = o.slots; own = rw c.open.ensures.opened o.own; from_due = o.from_due })
 
 pub returns-clause-known : goal.returns-clause-known
 returns-clause-known g c =
