@@ -1,5 +1,5 @@
 -- What a value holds of a world: its owners and its cells, by number
-use Rattle.std.specs.Prelude.{ℕ, List, [], ◌∷◌, ◌++◌, ◌≡◌, Option, None, Some, slice_index_or}
+use Rattle.std.specs.Prelude.{ℕ, List, [], ◌∷◌, ◌≡◌, Option, None, Some, slice_index_or}
 use Rattle.sdd_token.specs.Units as token
 
 -- where the slots and the cells of a world or domain are numbered: no two have the same home

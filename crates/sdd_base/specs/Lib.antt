@@ -2,6 +2,8 @@ pub mod Holding
 pub mod World
 pub mod Seat
 pub mod Steps
+pub mod Own
+pub mod Known
 pub mod Ptr
 pub mod Guard
 pub mod Owned

@@ -1,5 +1,5 @@
 -- The limits of a world or domain
-use Rattle.std.specs.Prelude.{ℕ, ◌-◌, ◌^◌, ◌≤◌}
+use Rattle.std.specs.Prelude.{◌-◌, ◌^◌, ◌≤◌}
 use Rattle.sdd_base.specs.declared.limits.Limits.{Limits}
 
 -- each limit is in its range

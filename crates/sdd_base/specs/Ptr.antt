@@ -1,5 +1,5 @@
 -- What a pointer names
-use Rattle.std.specs.Prelude.{ℕ, ◌≡◌, Option, None, Some, MatchOption}
+use Rattle.std.specs.Prelude.{ℕ, ◌≡◌, Option, None, Some}
 use Rattle.sdd_core.specs.declared.tag.Tag.{Tag}
 use Rattle.sdd_base.specs.declared.ptr.Ptr.{Ptr}
 
@@ -22,3 +22,8 @@ module _ {T : Type 0} where
   -- it names a slot that shows the value
   abbrev pub NamesShown : (ℕ → T → Type 0) → Ptr T → T → Type 0
   NamesShown shows p value = (k : ℕ) × (slot_named p ≡ Some k) × shows k value
+
+  -- each slot that showed a value shows it still, and each that showed some value does
+  pub record KeepsShown (shown : ℕ → T → Type 0) (filled : ℕ → Type 0) (shown_after : ℕ → T → Type 0) (filled_after : ℕ → Type 0) : Type 0 where
+    pub values : (k : ℕ) (value : T) → shown k value → shown_after k value
+    pub slots : (k : ℕ) → filled k → filled_after k

@@ -1,5 +1,6 @@
 -- Who calls, and on which loan of which world or domain
 use Rattle.std.specs.Prelude.{ℕ, ◌<◌, Bool, true, IsTrue, length}
+use Rattle.sdd_store.specs.declared.time.Participant.{Participant}
 use Rattle.sdd_base.specs.World.{World}
 use Rattle.sdd_base.specs.Holding.{Home}
 
@@ -8,6 +9,7 @@ pub record Seat : Type 0 where
   pub places : ℕ
   pub loan : ℕ
   pub home : Home
+  pub nesting : ℕ
   pub exact : Bool
 
 -- the participant is one of the world's
@@ -18,6 +20,10 @@ IsSeated s = s.place < s.places
 abbrev pub IsExact : Seat → Type 0
 IsExact s = IsTrue s.exact
 
+-- one guard more of the participant is within the limit
+abbrev pub MayNest : Seat → Participant → Type 0
+MayNest s p = p.guards < s.nesting
+
 -- a place of a world, on this loan: nobody else can change the world meanwhile
 abbrev pub seat_on : {T : Type 0} → World T → ℕ → ℕ → Seat
-seat_on w place loan = record { place = place; places = length w.time.places; loan = loan; home = w.home; exact = true }
+seat_on w place loan = record { place = place; places = length w.time.places; loan = loan; home = w.home; nesting = w.time.nesting; exact = true }

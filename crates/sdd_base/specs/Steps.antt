@@ -1,10 +1,10 @@
 -- What each call does to a world
-use Rattle.std.specs.Prelude.{ℕ, ◌+◌, ◌%◌, ◌<◌, ◌≤◌, ◌≡◌, Bool, true, false, List, [], ◌∷◌, Option, Some, None, length, slice_set, if◌then◌else◌}
+use Rattle.std.specs.Prelude.{ℕ, List, [], ◌∷◌, Option, Some, None, slice_set, if◌then◌else◌}
 use Rattle.sdd_core.specs.declared.tag.Tag.TheVariants.{None as no_tag}
 use Rattle.sdd_store.specs.Waiting.{What}
 use Rattle.sdd_store.specs.Waiting.What.{Item, Private, Job}
 use Rattle.sdd_store.specs.Time as time
-use Rattle.sdd_store.specs.Table.{entry_at, with_entry, without_entry, IsEmptyAt, IsFull}
+use Rattle.sdd_store.specs.Table.{entry_at, with_entry, without_entry}
 use Rattle.sdd_store.specs.Tally.{one_made, one_reclaimed}
 use Rattle.sdd_store.specs.declared.standing.Standing.{Standing}
 use Rattle.sdd_store.specs.declared.standing.Standing.TheVariants.{Owned, Raw, Shared, Retired, Private as privately}

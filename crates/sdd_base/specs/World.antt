@@ -1,16 +1,15 @@
 -- A world as clauses see it
-use Rattle.std.specs.Prelude.{ℕ, ◌+◌, ◌≤◌, ◌<◌, ◌≡◌, Bool, true, false, List, [], length, Option, Some, None, sum_by, count_by, slice_index_or, replicate}
+use Rattle.std.specs.Prelude.{ℕ, ◌+◌, ◌≤◌, ◌<◌, ◌≡◌, Bool, true, false, List, [], length, Option, None, sum_by, count_by, slice_index_or, replicate}
 use Rattle.sdd_store.specs.Time.{Time}
 use Rattle.sdd_store.specs.Time as time
 use Rattle.sdd_store.specs.Table.{Entries, entry_at}
 use Rattle.sdd_store.specs.declared.standing.Standing.{Standing}
-use Rattle.sdd_store.specs.declared.standing.Standing.TheVariants.{Owned, Raw, Shared, Retired, Private}
 use Rattle.sdd_store.specs.declared.standing.Cell.{Cell}
 use Rattle.sdd_store.specs.declared.tally.Tally.{Tally}
 use Rattle.sdd_store.specs.Tally.{no_items}
 use Rattle.sdd_store.specs.declared.time.Participant.{Participant}
 use Rattle.sdd_slots.specs.Slots.{is_waiting}
-use Rattle.sdd_base.specs.Holding.{Home, Holding}
+use Rattle.sdd_base.specs.Holding.{Home}
 use Rattle.sdd_base.specs.declared.limits.Limits.{Limits}
 
 pub record World (T : Type 0) : Type 0 where
@@ -63,9 +62,10 @@ pub record IsRoomy {T : Type 0} (w : World T) : Type 0 where
   pub counted : weight w ≤ length w.standings
   pub reserved : w.time.room ≡ length w.standings
 
--- the same home, as many places and slots, and the same room
+-- the same home, as many places and slots, and the same limits of nesting and room
 pub record KeepsSizes {T : Type 0} (old new : World T) : Type 0 where
   pub home : new.home ≡ old.home
   pub places : length new.time.places ≡ length old.time.places
   pub slots : length new.standings ≡ length old.standings
+  pub nesting : new.time.nesting ≡ old.time.nesting
   pub room : new.time.room ≡ old.time.room

@@ -1,6 +1,9 @@
 ghost use Rattle.std.specs.Prelude.{◌≡◌, IfOk, MatchResult};
 ghost use Rattle.sdd_base.specs.World.{World};
 ghost use Rattle.sdd_base.specs.Seat.{IsSeated, IsExact};
+ghost use Rattle.sdd_base.specs.Known.{KnowsOn};
+ghost use Rattle.sdd_base.specs.Own.{IsSpilled};
+ghost use Rattle.sdd_base.specs.Ptr.{KeepsShown};
 ghost use Rattle.sdd_base.specs.Steps.{nulled, cell_closed};
 ghost use Rattle.sdd_base.specs.Owned.{cell_of, cells_home};
 ghost use Rattle.sdd_store.specs.Table.{IsEmptyAt, IsFull};
@@ -45,10 +48,12 @@ impl<T: Item<T>> AtomicOwned<T> {
         requires seated { IsSeated (S.seat s.old) }
         ensures seat { S.seat s.new ≡ S.seat s.old }
         ensures own { S.own s.new ≡ S.own s.old }
+        ensures known { KnowsOn (S.known s.old) (S.known s.new) }
         ensures home { IfOk result (λ cell. cells_home cell ≡ (S.seat s.old).home.cells) }
         ensures exact { IsExact (S.seat s.old) → MatchResult result
             (λ cell. IsEmptyAt (S.world s.old).cells (cell_of cell) × (S.world s.new ≡ nulled (S.world s.old) (cell_of cell)))
             (λ e. IsFull (S.world s.old).cells × (e ≡ Refused.NoCell) × (S.world s.new ≡ S.world s.old)) }
+        ensures keeps { KeepsShown (S.shows s.old) (S.filled s.old) (S.shows s.new) (S.filled s.new) }
     {
         s.make_cell()
     }
@@ -58,7 +63,10 @@ impl<T: Item<T>> AtomicOwned<T> {
         requires seated { IsSeated (S.seat s.old) }
         requires home { cells_home self ≡ (S.seat s.old).home.cells }
         ensures seat { S.seat s.new ≡ S.seat s.old }
+        ensures own { IsSpilled (S.own s.old) (S.own s.new) }
+        ensures known { KnowsOn (S.known s.old) (S.known s.new) }
         ensures exact { IsExact (S.seat s.old) → S.world s.new ≡ cell_closed (S.world s.old) (S.seat s.old).place (cell_of self) }
+        ensures keeps { KeepsShown (S.shows s.old) (S.filled s.old) (S.shows s.new) (S.filled s.new) }
     {
         s.close_cell(self);
     }

@@ -1,10 +1,13 @@
-ghost use Rattle.std.specs.Prelude.{◌≡◌, ◌%◌, MatchResult, IfOk};
+ghost use Rattle.std.specs.Prelude.{◌≡◌, ◌%◌, MatchResult, IfOk, IsTrue};
 ghost use Rattle.sdd_core.specs.Epoch.{epoch_of};
 ghost use Rattle.sdd_base.specs.World.{World, place_at};
-ghost use Rattle.sdd_base.specs.Seat.{IsSeated, IsExact};
+ghost use Rattle.sdd_base.specs.Seat.{IsSeated, IsExact, MayNest};
+ghost use Rattle.sdd_base.specs.Own.{IsOpened, IsClosed};
+ghost use Rattle.sdd_base.specs.Known.{KnowsOn, KnowsOpened, KnowsClosed, IsNear};
+ghost use Rattle.sdd_base.specs.Ptr.{KeepsShown};
 ghost use Rattle.sdd_base.specs.Guard.{place_of};
 ghost use Rattle.sdd_base.specs.Steps.{opened, closed, stirred, accelerated};
-ghost use Rattle.sdd_store.specs.Time.{CanNest, with_garbage, has_garbage};
+ghost use Rattle.sdd_store.specs.Time.{CanNest, is_open, with_garbage, has_garbage};
 ghost use Rattle.sdd_store.specs.Time as time;
 
 use crate::item::Item;
@@ -26,9 +29,16 @@ impl Guard {
         requires seated { IsSeated (S.seat s.old) }
         ensures seat { S.seat s.new ≡ S.seat s.old }
         ensures place { IfOk result (λ guard. place_of guard ≡ (S.seat s.old).place) }
+        ensures own { MatchResult result
+            (λ _. MayNest (S.seat s.old) (S.own s.old) × IsOpened (S.own s.old) (S.own s.new))
+            (λ e. (e ≡ Refused.TooManyGuards) × ¬ (MayNest (S.seat s.old) (S.own s.old)) × (S.own s.new ≡ S.own s.old)) }
+        ensures known { MatchResult result
+            (λ _. KnowsOpened (S.known s.old) (S.own s.old) (S.own s.new) (S.known s.new))
+            (λ _. KnowsOn (S.known s.old) (S.known s.new)) }
         ensures exact { IsExact (S.seat s.old) → MatchResult result
             (λ _. CanNest (S.world s.old).time (S.seat s.old).place × (S.world s.new ≡ opened T.holds (S.world s.old) (S.seat s.old).place))
             (λ e. (e ≡ Refused.TooManyGuards) × ¬ (CanNest (S.world s.old).time (S.seat s.old).place) × (S.world s.new ≡ S.world s.old)) }
+        ensures keeps { IsTrue (is_open (S.own s.old)) → KeepsShown (S.shows s.old) (S.filled s.old) (S.shows s.new) (S.filled s.new) }
     {
         let place = s.open_guard()?;
         Ok(Guard { place })
@@ -49,16 +59,25 @@ impl Guard {
         requires seated { IsSeated (S.seat s.old) }
         requires place { place_of self ≡ (S.seat s.old).place }
         ensures seat { S.seat s.new ≡ S.seat s.old }
+        ensures own { IsClosed (S.own s.old) (S.own s.new) }
+        ensures known { KnowsClosed (S.known s.old) (S.known s.new) (S.own s.new) }
         ensures exact { IsExact (S.seat s.old) → S.world s.new ≡ closed (S.world s.old) (S.seat s.old).place }
+        ensures keeps { IsTrue (is_open (S.own s.new)) → KeepsShown (S.shows s.old) (S.filled s.old) (S.shows s.new) (S.filled s.new) }
     {
         let Guard { place: _ } = self;
         s.close_guard();
     }
 
-    /// The global epoch at this moment, which isn't always the one that the guard published.
-    pub fn epoch<T: Item<T>, S: Space<T>>(&self, s: &S) -> Epoch
-        requires seated { IsSeated (S.seat s.now) }
-        ensures exact { IsExact (S.seat s.now) → result ≡ epoch_of (S.world s.now).time.count }
+    /// The global epoch at this moment, which isn't always the one that the guard published. Under one open guard it is the one answered before, or the next.
+    pub fn epoch<T: Item<T>, S: Space<T>>(&self, s: &mut S) -> Epoch
+        requires seated { IsSeated (S.seat s.old) }
+        ensures seat { S.seat s.new ≡ S.seat s.old }
+        ensures own { S.own s.new ≡ S.own s.old }
+        ensures known { KnowsOn (S.known s.old) (S.known s.new) }
+        ensures told { result ≡ epoch_of (S.known s.new).told }
+        ensures near { IsNear (S.own s.new) (S.known s.new) }
+        ensures exact { IsExact (S.seat s.old) → (result ≡ epoch_of (S.world s.old).time.count) × (S.world s.new ≡ S.world s.old) }
+        ensures keeps { KeepsShown (S.shows s.old) (S.filled s.old) (S.shows s.new) (S.filled s.new) }
     {
         Epoch::of_count(s.count())
     }
@@ -77,7 +96,9 @@ impl Guard {
         requires seated { IsSeated (S.seat s.old) }
         ensures seat { S.seat s.new ≡ S.seat s.old }
         ensures own { S.own s.new ≡ with_garbage (S.own s.old) }
+        ensures known { KnowsOn (S.known s.old) (S.known s.new) }
         ensures exact { IsExact (S.seat s.old) → S.world s.new ≡ stirred (S.world s.old) (S.seat s.old).place }
+        ensures keeps { KeepsShown (S.shows s.old) (S.filled s.old) (S.shows s.new) (S.filled s.new) }
     {
         s.stir();
     }
@@ -87,7 +108,9 @@ impl Guard {
         requires seated { IsSeated (S.seat s.old) }
         ensures seat { S.seat s.new ≡ S.seat s.old }
         ensures own { S.own s.new ≡ time.accelerated (S.own s.old) }
+        ensures known { KnowsOn (S.known s.old) (S.known s.new) }
         ensures exact { IsExact (S.seat s.old) → S.world s.new ≡ accelerated (S.world s.old) (S.seat s.old).place }
+        ensures keeps { KeepsShown (S.shows s.old) (S.filled s.old) (S.shows s.new) (S.filled s.new) }
     {
         s.accelerate();
     }

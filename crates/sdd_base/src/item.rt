@@ -1,7 +1,9 @@
 ghost use Rattle.std.specs.Prelude.{◌≡◌, List, []};
+ghost use Rattle.sdd_store.specs.declared.time.Participant.{Participant};
 ghost use Rattle.sdd_base.specs.Holding.{Holding, AreOf};
 ghost use Rattle.sdd_base.specs.World.{World};
 ghost use Rattle.sdd_base.specs.Seat.{Seat, IsSeated, IsExact};
+ghost use Rattle.sdd_base.specs.Own.{GrowsOn};
 ghost use Rattle.sdd_base.specs.Steps.{given, given_all};
 ghost use Rattle.sdd_base.specs.Owned.{slots_home, cells_home, holding_of, cell_holding};
 
@@ -14,12 +16,15 @@ pub trait Giver<I> {
     ghost world: { Self → World I };
     /// Who reclaims, and where: no call changes it.
     ghost seat: { Self → Seat };
+    /// What the participant that reclaims keeps of its own.
+    ghost own: { Self → Participant };
 
     /// Retires the owner's item.
     fn owned(&mut self, owner: Owned<I>)
         requires seated { IsSeated (seat self.old) }
         requires home { slots_home owner ≡ (seat self.old).home.slots }
         ensures seat { seat self.new ≡ seat self.old }
+        ensures own { GrowsOn (own self.old) (own self.new) }
         ensures exact { IsExact (seat self.old) → world self.new ≡ given (world self.old) (seat self.old).place (holding_of owner) };
 
     /// Frees the cell, and retires what it held.
@@ -27,6 +32,7 @@ pub trait Giver<I> {
         requires seated { IsSeated (seat self.old) }
         requires home { cells_home cell ≡ (seat self.old).home.cells }
         ensures seat { seat self.new ≡ seat self.old }
+        ensures own { GrowsOn (own self.old) (own self.new) }
         ensures exact { IsExact (seat self.old) → world self.new ≡ given (world self.old) (seat self.old).place (cell_holding cell) };
 }
 
@@ -42,6 +48,7 @@ pub trait Item<I>: Sized {
         requires seated { IsSeated (G.seat giver.old) }
         requires home { AreOf (G.seat giver.old).home (holds self) }
         ensures seat { G.seat giver.new ≡ G.seat giver.old }
+        ensures own { GrowsOn (G.own giver.old) (G.own giver.new) }
         ensures exact { IsExact (G.seat giver.old) → G.world giver.new ≡ given_all (G.world giver.old) (G.seat giver.old).place (holds self) };
 }
 

@@ -3,10 +3,11 @@ ghost use Rattle.sdd_token.specs.Right.{number_of, home_of};
 ghost use Rattle.sdd_base.specs.Holding.{AreOf};
 ghost use Rattle.sdd_base.specs.World.{World};
 ghost use Rattle.sdd_base.specs.Seat.{IsSeated, IsExact};
+ghost use Rattle.sdd_base.specs.Known.{KnowsOn};
 ghost use Rattle.sdd_base.specs.Steps.{made, retired};
 ghost use Rattle.sdd_base.specs.Owned.{slot_of, slots_home};
 ghost use Rattle.sdd_core.specs.declared.tag.Tag.TheVariants.{None as no_tag};
-ghost use Rattle.sdd_base.specs.Ptr.{slot_named, tag_of};
+ghost use Rattle.sdd_base.specs.Ptr.{slot_named, tag_of, KeepsShown};
 ghost use Rattle.sdd_store.specs.Table.{IsEmptyAt, IsFull};
 ghost use Rattle.sdd_store.specs.Time as time;
 ghost use Rattle.sdd_store.specs.Waiting.What.{Item};
@@ -87,10 +88,12 @@ impl<T: Item<T>> Owned<T> {
         requires home { AreOf (S.seat s.old).home (T.holds value) }
         ensures seat { S.seat s.new ≡ S.seat s.old }
         ensures own { S.own s.new ≡ S.own s.old }
+        ensures known { KnowsOn (S.known s.old) (S.known s.new) }
         ensures home { IfOk result (λ owner. slots_home owner ≡ (S.seat s.old).home.slots) }
         ensures exact { IsExact (S.seat s.old) → MatchResult result
             (λ owner. IsEmptyAt (S.world s.old).standings (slot_of owner) × (S.world s.new ≡ made (S.world s.old) (slot_of owner) value))
             (λ e. IsFull (S.world s.old).standings × (e ≡ (value, Refused.NoSlot)) × (S.world s.new ≡ S.world s.old)) }
+        ensures keeps { KeepsShown (S.shows s.old) (S.filled s.old) (S.shows s.new) (S.filled s.new) }
     {
         s.make(value)
     }
@@ -107,10 +110,12 @@ impl<T: Item<T>> Owned<T> {
         requires home { (value : T) → F.post f value → AreOf (S.seat s.old).home (T.holds value) }
         ensures seat { S.seat s.new ≡ S.seat s.old }
         ensures own { S.own s.new ≡ S.own s.old }
+        ensures known { KnowsOn (S.known s.old) (S.known s.new) }
         ensures home { IfOk result (λ owner. slots_home owner ≡ (S.seat s.old).home.slots) }
         ensures exact { IsExact (S.seat s.old) → MatchResult result
             (λ owner. IsEmptyAt (S.world s.old).standings (slot_of owner) × ((value : T) × F.post f value × (S.world s.new ≡ made (S.world s.old) (slot_of owner) value)))
             (λ e. IsFull (S.world s.old).standings × (e ≡ (f, Refused.NoSlot)) × (S.world s.new ≡ S.world s.old)) }
+        ensures keeps { KeepsShown (S.shows s.old) (S.filled s.old) (S.shows s.new) (S.filled s.new) }
     {
         s.make_with(f)
     }
@@ -121,7 +126,9 @@ impl<T: Item<T>> Owned<T> {
         requires home { slots_home self ≡ (S.seat s.old).home.slots }
         ensures seat { S.seat s.new ≡ S.seat s.old }
         ensures own { S.own s.new ≡ time.awaiting (Item (slot_of self)) (S.own s.old) }
+        ensures known { KnowsOn (S.known s.old) (S.known s.new) }
         ensures exact { IsExact (S.seat s.old) → S.world s.new ≡ retired (S.world s.old) (S.seat s.old).place (slot_of self) }
+        ensures keeps { KeepsShown (S.shows s.old) (S.filled s.old) (S.shows s.new) (S.filled s.new) }
     {
         s.retire(self);
     }

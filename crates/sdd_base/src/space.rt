@@ -1,12 +1,15 @@
-ghost use Rattle.std.specs.Prelude.{◌≡◌, ℕ, IfOk, MatchResult};
+ghost use Rattle.std.specs.Prelude.{◌≡◌, ℕ, Bool, IfOk, IsTrue, MatchResult};
 ghost use Rattle.sdd_store.specs.Waiting.What.{Item};
 ghost use Rattle.sdd_store.specs.declared.time.Participant.{Participant};
-ghost use Rattle.sdd_store.specs.Time.{CanNest, has_garbage, with_garbage};
+ghost use Rattle.sdd_store.specs.Time.{CanNest, has_garbage, is_open, with_garbage};
 ghost use Rattle.sdd_store.specs.Time as time;
 ghost use Rattle.sdd_store.specs.Table.{IsEmptyAt, IsFull};
 ghost use Rattle.sdd_base.specs.Holding.{AreOf};
 ghost use Rattle.sdd_base.specs.World.{World, place_at};
-ghost use Rattle.sdd_base.specs.Seat.{Seat, IsSeated, IsExact};
+ghost use Rattle.sdd_base.specs.Seat.{Seat, IsSeated, IsExact, MayNest};
+ghost use Rattle.sdd_base.specs.Own.{IsOpened, IsClosed, IsSpilled};
+ghost use Rattle.sdd_base.specs.Known.{Known, KnowsOn, KnowsOpened, KnowsClosed, IsNear};
+ghost use Rattle.sdd_base.specs.Ptr.{KeepsShown};
 ghost use Rattle.sdd_base.specs.Steps.{made, retired, nulled, cell_closed, opened, closed, stirred, accelerated};
 ghost use Rattle.sdd_base.specs.Owned.{slot_of, slots_home, cell_of, cells_home};
 
@@ -20,11 +23,15 @@ use sdd_core::Refused;
 pub trait Space<T: Item<T>>: Look<T> {
     /// Only the caller's own calls change the space, so that what they do is said exactly.
     const ALONE: bool;
+    /// The same truth, for clauses.
+    ghost is_alone: { Bool };
 
     /// Who calls, and on which loan of which world: no call changes it.
     ghost seat: { Self → Seat };
     /// What the participant keeps of its own.
     ghost own: { Self → Participant };
+    /// What it knows of the count of epochs.
+    ghost known: { Self → Known };
     /// What the calls change.
     ghost world: { Self → World T };
 
@@ -33,20 +40,36 @@ pub trait Space<T: Item<T>>: Look<T> {
         requires seated { IsSeated (seat self.old) }
         ensures seat { seat self.new ≡ seat self.old }
         ensures place { IfOk result (λ place. place ≡ (seat self.old).place) }
+        ensures own { MatchResult result
+            (λ _. MayNest (seat self.old) (own self.old) × IsOpened (own self.old) (own self.new))
+            (λ e. (e ≡ Refused.TooManyGuards) × ¬ (MayNest (seat self.old) (own self.old)) × (own self.new ≡ own self.old)) }
+        ensures known { MatchResult result
+            (λ _. KnowsOpened (known self.old) (own self.old) (own self.new) (known self.new))
+            (λ _. KnowsOn (known self.old) (known self.new)) }
         ensures exact { IsExact (seat self.old) → MatchResult result
             (λ _. CanNest (world self.old).time (seat self.old).place × (world self.new ≡ opened T.holds (world self.old) (seat self.old).place))
-            (λ e. (e ≡ Refused.TooManyGuards) × ¬ (CanNest (world self.old).time (seat self.old).place) × (world self.new ≡ world self.old)) };
+            (λ e. (e ≡ Refused.TooManyGuards) × ¬ (CanNest (world self.old).time (seat self.old).place) × (world self.new ≡ world self.old)) }
+        ensures keeps { IsTrue (is_open (own self.old)) → KeepsShown (Self.shows self.old) (Self.filled self.old) (Self.shows self.new) (Self.filled self.new) };
 
     /// Closes a guard; the last one publishes the end, after a scan at countdown 0.
     fn close_guard(&mut self)
         requires seated { IsSeated (seat self.old) }
         ensures seat { seat self.new ≡ seat self.old }
-        ensures exact { IsExact (seat self.old) → world self.new ≡ closed (world self.old) (seat self.old).place };
+        ensures own { IsClosed (own self.old) (own self.new) }
+        ensures known { KnowsClosed (known self.old) (known self.new) (own self.new) }
+        ensures exact { IsExact (seat self.old) → world self.new ≡ closed (world self.old) (seat self.old).place }
+        ensures keeps { IsTrue (is_open (own self.new)) → KeepsShown (Self.shows self.old) (Self.filled self.old) (Self.shows self.new) (Self.filled self.new) };
 
-    /// The count of epochs.
-    fn count(&self) -> u64
-        requires seated { IsSeated (seat self.now) }
-        ensures exact { IsExact (seat self.now) → result ≡ (world self.now).time.count };
+    /// The count of epochs, as the participant is told it now.
+    fn count(&mut self) -> u64
+        requires seated { IsSeated (seat self.old) }
+        ensures seat { seat self.new ≡ seat self.old }
+        ensures own { own self.new ≡ own self.old }
+        ensures known { KnowsOn (known self.old) (known self.new) }
+        ensures told { result ≡ (known self.new).told }
+        ensures near { IsNear (own self.new) (known self.new) }
+        ensures exact { IsExact (seat self.old) → (result ≡ (world self.old).time.count) × (world self.new ≡ world self.old) }
+        ensures keeps { KeepsShown (Self.shows self.old) (Self.filled self.old) (Self.shows self.new) (Self.filled self.new) };
 
     fn has_garbage(&self) -> bool
         requires seated { IsSeated (seat self.now) }
@@ -57,13 +80,17 @@ pub trait Space<T: Item<T>>: Look<T> {
         requires seated { IsSeated (seat self.old) }
         ensures seat { seat self.new ≡ seat self.old }
         ensures own { own self.new ≡ with_garbage (own self.old) }
-        ensures exact { IsExact (seat self.old) → world self.new ≡ stirred (world self.old) (seat self.old).place };
+        ensures known { KnowsOn (known self.old) (known self.new) }
+        ensures exact { IsExact (seat self.old) → world self.new ≡ stirred (world self.old) (seat self.old).place }
+        ensures keeps { KeepsShown (Self.shows self.old) (Self.filled self.old) (Self.shows self.new) (Self.filled self.new) };
 
     fn accelerate(&mut self)
         requires seated { IsSeated (seat self.old) }
         ensures seat { seat self.new ≡ seat self.old }
         ensures own { own self.new ≡ time.accelerated (own self.old) }
-        ensures exact { IsExact (seat self.old) → world self.new ≡ accelerated (world self.old) (seat self.old).place };
+        ensures known { KnowsOn (known self.old) (known self.new) }
+        ensures exact { IsExact (seat self.old) → world self.new ≡ accelerated (world self.old) (seat self.old).place }
+        ensures keeps { KeepsShown (Self.shows self.old) (Self.filled self.old) (Self.shows self.new) (Self.filled self.new) };
 
     /// Puts a value into a free slot.
     fn make(&mut self, value: T) -> Result<Owned<T>, (T, Refused)>
@@ -71,10 +98,12 @@ pub trait Space<T: Item<T>>: Look<T> {
         requires home { AreOf (seat self.old).home (T.holds value) }
         ensures seat { seat self.new ≡ seat self.old }
         ensures own { own self.new ≡ own self.old }
+        ensures known { KnowsOn (known self.old) (known self.new) }
         ensures home { IfOk result (λ owner. slots_home owner ≡ (seat self.old).home.slots) }
         ensures exact { IsExact (seat self.old) → MatchResult result
             (λ owner. IsEmptyAt (world self.old).standings (slot_of owner) × (world self.new ≡ made (world self.old) (slot_of owner) value))
-            (λ e. IsFull (world self.old).standings × (e ≡ (value, Refused.NoSlot)) × (world self.new ≡ world self.old)) };
+            (λ e. IsFull (world self.old).standings × (e ≡ (value, Refused.NoSlot)) × (world self.new ≡ world self.old)) }
+        ensures keeps { KeepsShown (Self.shows self.old) (Self.filled self.old) (Self.shows self.new) (Self.filled self.new) };
 
     /// Makes a value and puts it into a free slot; where none is free it isn't made.
     fn make_with<F: FnOnce() -> T>(&mut self, make: F) -> Result<Owned<T>, (F, Refused)>
@@ -83,10 +112,12 @@ pub trait Space<T: Item<T>>: Look<T> {
         requires home { (value : T) → F.post make value → AreOf (seat self.old).home (T.holds value) }
         ensures seat { seat self.new ≡ seat self.old }
         ensures own { own self.new ≡ own self.old }
+        ensures known { KnowsOn (known self.old) (known self.new) }
         ensures home { IfOk result (λ owner. slots_home owner ≡ (seat self.old).home.slots) }
         ensures exact { IsExact (seat self.old) → MatchResult result
             (λ owner. IsEmptyAt (world self.old).standings (slot_of owner) × ((value : T) × F.post make value × (world self.new ≡ made (world self.old) (slot_of owner) value)))
-            (λ e. IsFull (world self.old).standings × (e ≡ (make, Refused.NoSlot)) × (world self.new ≡ world self.old)) };
+            (λ e. IsFull (world self.old).standings × (e ≡ (make, Refused.NoSlot)) × (world self.new ≡ world self.old)) }
+        ensures keeps { KeepsShown (Self.shows self.old) (Self.filled self.old) (Self.shows self.new) (Self.filled self.new) };
 
     /// The item waits with the participant.
     fn retire(&mut self, owner: Owned<T>)
@@ -94,22 +125,32 @@ pub trait Space<T: Item<T>>: Look<T> {
         requires home { slots_home owner ≡ (seat self.old).home.slots }
         ensures seat { seat self.new ≡ seat self.old }
         ensures own { own self.new ≡ time.awaiting (Item (slot_of owner)) (own self.old) }
-        ensures exact { IsExact (seat self.old) → world self.new ≡ retired (world self.old) (seat self.old).place (slot_of owner) };
+        ensures known { KnowsOn (known self.old) (known self.new) }
+        ensures exact { IsExact (seat self.old) → world self.new ≡ retired (world self.old) (seat self.old).place (slot_of owner) }
+        ensures keeps { KeepsShown (Self.shows self.old) (Self.filled self.old) (Self.shows self.new) (Self.filled self.new) };
 
     /// A free cell holds nothing.
     fn make_cell(&mut self) -> Result<AtomicOwned<T>, Refused>
         requires seated { IsSeated (seat self.old) }
         ensures seat { seat self.new ≡ seat self.old }
         ensures own { own self.new ≡ own self.old }
+        ensures known { KnowsOn (known self.old) (known self.new) }
         ensures home { IfOk result (λ cell. cells_home cell ≡ (seat self.old).home.cells) }
         ensures exact { IsExact (seat self.old) → MatchResult result
             (λ cell. IsEmptyAt (world self.old).cells (cell_of cell) × (world self.new ≡ nulled (world self.old) (cell_of cell)))
-            (λ e. IsFull (world self.old).cells × (e ≡ Refused.NoCell) × (world self.new ≡ world self.old)) };
+            (λ e. IsFull (world self.old).cells × (e ≡ Refused.NoCell) × (world self.new ≡ world self.old)) }
+        ensures keeps { KeepsShown (Self.shows self.old) (Self.filled self.old) (Self.shows self.new) (Self.filled self.new) };
 
     /// The cell is free, and what it held is retired.
     fn close_cell(&mut self, cell: AtomicOwned<T>)
         requires seated { IsSeated (seat self.old) }
         requires home { cells_home cell ≡ (seat self.old).home.cells }
         ensures seat { seat self.new ≡ seat self.old }
-        ensures exact { IsExact (seat self.old) → world self.new ≡ cell_closed (world self.old) (seat self.old).place (cell_of cell) };
+        ensures own { IsSpilled (own self.old) (own self.new) }
+        ensures known { KnowsOn (known self.old) (known self.new) }
+        ensures exact { IsExact (seat self.old) → world self.new ≡ cell_closed (world self.old) (seat self.old).place (cell_of cell) }
+        ensures keeps { KeepsShown (Self.shows self.old) (Self.filled self.old) (Self.shows self.new) (Self.filled self.new) };
+
+    /// Where only the caller's own calls change the space, what they do is said exactly.
+    ghost alone_is_exact: { (s : Self) → IsTrue is_alone → IsExact (seat s) };
 }

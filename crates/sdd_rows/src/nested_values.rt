@@ -14,7 +14,7 @@ fn an_inner_item_goes_three_epochs_after_the_outer_one(rt: HostRuntime) {
     shows(&rt, &mut world, &place, &[(0, 0), (1, 0), (2, 0)]);
     let mut turn = world.at(&place);
     let guard = Guard::new(&mut turn).expect(&rt, "a guard may be opened");
-    assert_eq!(rt; u8::from(guard.epoch(&turn)), 3);
+    assert_eq!(rt; u8::from(guard.epoch(&mut turn)), 3);
     assert!(rt; guard.has_garbage(&turn));
     guard.accelerate(&mut turn);
     guard.close(&mut turn);

@@ -60,7 +60,7 @@ fn an_open_guard_of_another_participant_keeps_an_item(rt: HostRuntime) {
     let second = joined(&rt, &mut world);
     let mut turn = world.at(&first);
     let guard = Guard::new(&mut turn).expect(&rt, "a guard may be opened");
-    assert_eq!(rt; u8::from(guard.epoch(&turn)), 0);
+    assert_eq!(rt; u8::from(guard.epoch(&mut turn)), 0);
     drop(turn);
     let owner = made(&rt, &mut world, &second, 7);
     retire(&mut world, &second, owner);
@@ -79,7 +79,7 @@ fn at_the_last_count_an_item_stays_until_the_world_is_closed(rt: HostRuntime) {
     assert_eq!(rt; accelerated(&rt, &mut world, &place), 62);
     let mut turn = world.at(&place);
     let guard = Guard::new(&mut turn).expect(&rt, "a guard may be opened");
-    assert_eq!(rt; u8::from(guard.epoch(&turn)), 63);
+    assert_eq!(rt; u8::from(guard.epoch(&mut turn)), 63);
     drop(turn);
     let owner = made(&rt, &mut world, &place, 7);
     retire(&mut world, &place, owner);

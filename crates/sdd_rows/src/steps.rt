@@ -55,7 +55,7 @@ pub fn plain<T: Item<T>>(rt: &impl Abort, world: &mut World<T>, place: &Place) -
 {
     let mut turn = world.at(place);
     let guard = Guard::new(&mut turn).expect(rt, "a guard may be opened");
-    let epoch = guard.epoch(&turn);
+    let epoch = guard.epoch(&mut turn);
     guard.close(&mut turn);
     u8::from(epoch)
 }
@@ -67,7 +67,7 @@ pub fn accelerated<T: Item<T>>(rt: &impl Abort, world: &mut World<T>, place: &Pl
 {
     let mut turn = world.at(place);
     let guard = Guard::new(&mut turn).expect(rt, "a guard may be opened");
-    let epoch = guard.epoch(&turn);
+    let epoch = guard.epoch(&mut turn);
     guard.accelerate(&mut turn);
     guard.close(&mut turn);
     u8::from(epoch)

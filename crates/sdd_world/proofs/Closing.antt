@@ -1,5 +1,5 @@
 -- The closing of a world goes on at one participant, and comes to an end
-use Rattle.std.proofs.Common.{◌≡◌, ◌≢◌, ℕ, ◌+◌, ◌-◌, ◌*◌, ◌<◌, ◌≤◌, List, [], ◌∷◌, ◌++◌, length, Bool, cond, count_by, sum_by, refl, sym, ap, ◌∙◌, arith, true, false, not, Some, None, map, take, drop, get_or, nat_lt, zero, suc, add-one, slice_index_or, slice_set, Option}
+use Rattle.std.proofs.Common.{◌≡◌, ℕ, ◌+◌, ◌-◌, ◌*◌, ◌<◌, ◌≤◌, List, [], ◌∷◌, ◌++◌, length, Bool, cond, count_by, sum_by, refl, sym, ap, ◌∙◌, arith, true, false, Some, None, map, take, drop, get_or, zero, suc, add-one, slice_index_or, slice_set, Option}
 use Rattle.std.proofs.lemmas.Grind.{common_steps}
 use Rattle.std.proofs.lemmas.List.{length-set, get_or_past, get_or-set_same, set-set, set-get_or}
 use Rattle.std.proofs.lemmas.Bool.Decides.{nat_tests}
@@ -8,7 +8,7 @@ use Rattle.sdd_store.specs.Waiting.{What, Waiting, fresh, aged, left, older, is_
 use Rattle.sdd_store.specs.Waiting.What.{Item, Private, Job}
 use Rattle.sdd_store.specs.Time.{Time, with_place, nobody, pace_of, due_next, rotated, awaiting}
 use Rattle.sdd_store.specs.Time as time
-use Rattle.sdd_store.specs.Table.{entry_at, with_entry, without_entry}
+use Rattle.sdd_store.specs.Table.{entry_at, without_entry}
 use Rattle.sdd_store.specs.declared.time.Participant.{Participant}
 use Rattle.sdd_store.specs.declared.time.Pace.{Pace}
 use Rattle.sdd_store.specs.declared.standing.Standing.{Standing}
@@ -17,7 +17,7 @@ use Rattle.sdd_base.specs.World.{World, standing_at, place_at}
 use Rattle.sdd_base.specs.Steps.{retired, spilled, cell_closed, held_in, owner_given, given, given_all, freed, taken_out, waiting_value, slot_reclaimed, reclaimed, all_reclaimed, changed}
 use Rattle.sdd_base.specs.Steps as steps
 use Rattle.sdd_base.specs.Holding.{Holding, owned, atomic_owned}
-use Rattle.sdd_world.specs.Closing.{without_waiting, emptied, paced, aged_out, all_aged_out}
+use Rattle.sdd_world.specs.Closing.{without_waiting, paced, aged_out, all_aged_out}
 
 -- how many changes it takes until what waits is gone, and one more
 abbrev to_go : Waiting → ℕ

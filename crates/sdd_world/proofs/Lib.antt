@@ -1,2 +1,6 @@
 pub mod Weights
+pub mod Own
+pub mod Shown
+pub mod Whole
 pub mod Closing
+pub mod Sweeping

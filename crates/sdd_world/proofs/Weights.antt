@@ -1,16 +1,14 @@
 -- No step makes more slots wait than there are
-use Rattle.std.proofs.Common.{◌≡◌, ℕ, ◌+◌, ◌-◌, ◌<◌, ◌≤◌, List, [], ◌∷◌, ◌++◌, length, Bool, cond, count_by, sum_by, refl, sym, ap, ◌∙◌, arith, true, false, Some, None, map, drop, get_or, drop-cons, add-one, nat_lt, slice_index_or, slice_set, Option}
-use Rattle.std.proofs.lemmas.Grind.{common_steps, elements}
+use Rattle.std.proofs.Common.{◌≡◌, ℕ, ◌+◌, ◌<◌, ◌≤◌, List, [], ◌∷◌, length, cond, refl, sym, ap, ◌∙◌, arith, Some, None, map, drop, get_or, drop-cons, add-one, slice_index_or, Option}
+use Rattle.std.proofs.lemmas.Grind.{common_steps}
 use Rattle.std.proofs.lemmas.List.{get_or_past}
 use Rattle.std.proofs.lemmas.List.Sums.{sum_by-set}
-use Rattle.sdd_store.specs.Waiting.{What}
-use Rattle.sdd_store.specs.Waiting.What.{Item, Private, Job}
-use Rattle.sdd_store.specs.Time as time
-use Rattle.sdd_store.specs.Table.{entry_at, with_entry, without_entry}
+use Rattle.sdd_store.specs.Waiting.What.{Item}
+use Rattle.sdd_store.specs.Table.{entry_at, without_entry}
 use Rattle.sdd_store.specs.declared.standing.Standing.{Standing}
 use Rattle.sdd_store.specs.declared.standing.Standing.TheVariants.{Owned, Raw, Shared, Retired, Private as privately}
-use Rattle.sdd_base.specs.World.{World, KeepsSizes, weight, is_loose, waiting_count, standing_at, place_at}
-use Rattle.sdd_base.specs.Steps.{retired, spilled, cell_closed, held_in, owner_given, given, given_all, freed, taken_out, waiting_value, slot_reclaimed, reclaimed, all_reclaimed}
+use Rattle.sdd_base.specs.World.{World, KeepsSizes, weight, is_loose, standing_at}
+use Rattle.sdd_base.specs.Steps.{retired, spilled, cell_closed, held_in, owner_given, given, given_all, freed, taken_out, waiting_value, slot_reclaimed, all_reclaimed}
 use Rattle.sdd_base.specs.Holding.{Holding, owned, atomic_owned}
 
 -- as many places, slots, room, and slots that wait or are loose
@@ -19,18 +17,19 @@ pub record SameSize {T : Type 0} (old new : World T) : Type 0 where
   pub places_same : length new.time.places ≡ length old.time.places
   pub slots_same : length new.standings ≡ length old.standings
   pub home_same : new.home ≡ old.home
+  pub nesting_same : new.time.nesting ≡ old.time.nesting
   pub room_same : new.time.room ≡ old.time.room
 
 -- an item that is out begins to wait
 pub SameSize-retired : {T : Type 0} (w : World T) (p k : ℕ) → p < length w.time.places → standing_at w k ≡ Some Owned → SameSize w (retired w p k)
 SameSize-retired w p k in_range there =
-    record { weight_same = grind (arith, common_steps); places_same = grind (arith, common_steps); slots_same = grind (arith, common_steps); home_same = refl; room_same = refl }
+    record { weight_same = grind (arith, common_steps); places_same = grind (arith, common_steps); slots_same = grind (arith, common_steps); home_same = refl; nesting_same = refl; room_same = refl }
 
 pub SameSize-refl : {T : Type 0} (w : World T) → SameSize w w
-SameSize-refl w = record { weight_same = refl; places_same = refl; slots_same = refl; home_same = refl; room_same = refl }
+SameSize-refl w = record { weight_same = refl; places_same = refl; slots_same = refl; home_same = refl; nesting_same = refl; room_same = refl }
 
 pub SameSize-trans : {T : Type 0} {u v w : World T} → SameSize u v → SameSize v w → SameSize u w
-SameSize-trans a b = record { weight_same = b.weight_same ∙ a.weight_same; places_same = b.places_same ∙ a.places_same; slots_same = b.slots_same ∙ a.slots_same; home_same = b.home_same ∙ a.home_same; room_same = b.room_same ∙ a.room_same }
+SameSize-trans a b = record { weight_same = b.weight_same ∙ a.weight_same; places_same = b.places_same ∙ a.places_same; slots_same = b.slots_same ∙ a.slots_same; home_same = b.home_same ∙ a.home_same; nesting_same = b.nesting_same ∙ a.nesting_same; room_same = b.room_same ∙ a.room_same }
 
 pub SameSize-owner_given : {T : Type 0} (w : World T) (p k : ℕ) → p < length w.time.places → (s : Option Standing) → standing_at w k ≡ s → SameSize w (owner_given w p k s)
 SameSize-owner_given w p k l None is = SameSize-refl w
@@ -45,7 +44,7 @@ SameSize-spilled w p l None = SameSize-refl w
 SameSize-spilled w p l (Some k) = SameSize-owner_given w p k l (standing_at w k) refl
 
 without_cell : {T : Type 0} (w : World T) (c : ℕ) → SameSize w (record w { cells = without_entry w.cells c })
-without_cell w c = record { weight_same = refl; places_same = refl; slots_same = refl; home_same = refl; room_same = refl }
+without_cell w c = record { weight_same = refl; places_same = refl; slots_same = refl; home_same = refl; nesting_same = refl; room_same = refl }
 
 pub SameSize-cell_closed : {T : Type 0} (w : World T) (p c : ℕ) → p < length w.time.places → SameSize w (cell_closed w p c)
 SameSize-cell_closed w p c l = SameSize-trans (without_cell w c) (SameSize-spilled (record w { cells = without_entry w.cells c }) p l (held_in (entry_at w.cells c)))
@@ -66,24 +65,25 @@ pub record FreesOne {T : Type 0} (old new : World T) : Type 0 where
   pub places_same : length new.time.places ≡ length old.time.places
   pub slots_same : length new.standings ≡ length old.standings
   pub home_same : new.home ≡ old.home
+  pub nesting_same : new.time.nesting ≡ old.time.nesting
   pub room_same : new.time.room ≡ old.time.room
 
 pub FreesOne-refl : {T : Type 0} (w : World T) → FreesOne w w
-FreesOne-refl w = record { weight_grows = omega arith; places_same = refl; slots_same = refl; home_same = refl; room_same = refl }
+FreesOne-refl w = record { weight_grows = omega arith; places_same = refl; slots_same = refl; home_same = refl; nesting_same = refl; room_same = refl }
 
 pub freed-FreesOne : {T : Type 0} (w : World T) (k : ℕ) → k < length w.standings → FreesOne w (freed w k)
 freed-FreesOne w k l =
     let m = sum_by-set (λ s. cond (is_loose s) 1 0) w.standings k None None l in
-    record { weight_grows = omega (arith, m); places_same = refl; slots_same = grind (arith, common_steps); home_same = refl; room_same = refl }
+    record { weight_grows = omega (arith, m); places_same = refl; slots_same = grind (arith, common_steps); home_same = refl; nesting_same = refl; room_same = refl }
 
 FreesOne-then : {T : Type 0} {u v w : World T} → FreesOne u v → SameSize v w → FreesOne u w
-FreesOne-then a b = record { weight_grows = omega (arith, a.weight_grows, b.weight_same); places_same = b.places_same ∙ a.places_same; slots_same = b.slots_same ∙ a.slots_same; home_same = b.home_same ∙ a.home_same; room_same = b.room_same ∙ a.room_same }
+FreesOne-then a b = record { weight_grows = omega (arith, a.weight_grows, b.weight_same); places_same = b.places_same ∙ a.places_same; slots_same = b.slots_same ∙ a.slots_same; home_same = b.home_same ∙ a.home_same; nesting_same = b.nesting_same ∙ a.nesting_same; room_same = b.room_same ∙ a.room_same }
 
 pub FreesOne-taken_out : {T : Type 0} (holds : T → List Holding) (w : World T) (p k : ℕ) → p < length w.time.places → k < length w.standings → (value : Option T) → FreesOne w (taken_out holds w p k value)
 FreesOne-taken_out holds w p k l lk None = FreesOne-refl w
 FreesOne-taken_out holds w p k l lk (Some value) = FreesOne-then (freed-FreesOne w k lk) (SameSize-given_all (freed w k) p (holds value) l)
 
-in_range : (xs : List (Option Standing)) (k : ℕ) (s : Standing) → slice_index_or xs k None ≡ Some s → k < length xs
+pub in_range : (xs : List (Option Standing)) (k : ℕ) (s : Standing) → slice_index_or xs k None ≡ Some s → k < length xs
 in_range xs k s is = grind (arith, get_or_past)
 
 FreesOne-standing : {T : Type 0} (holds : T → List Holding) (w : World T) (p k : ℕ) → p < length w.time.places → (s : Option Standing) → standing_at w k ≡ s → FreesOne w (taken_out holds w p k (waiting_value w k s))
@@ -99,7 +99,7 @@ pub all_reclaimed-drop : {T : Type 0} (holds : T → List Holding) (w : World T)
 all_reclaimed-drop holds w p ks i l = ap (λ xs. all_reclaimed holds w p (map Item xs)) (drop-cons ks i 0 l ∙ ap (λ n. get_or ks i 0 ∷ drop n ks) (sym (add-one i)))
 
 pub FreesOne-sizes : {T : Type 0} {old new : World T} → FreesOne old new → KeepsSizes old new
-FreesOne-sizes f = record { home = f.home_same; places = f.places_same; slots = f.slots_same; room = f.room_same }
+FreesOne-sizes f = record { home = f.home_same; places = f.places_same; slots = f.slots_same; nesting = f.nesting_same; room = f.room_same }
 
 pub KeepsSizes-trans : {T : Type 0} {u v w : World T} → KeepsSizes u v → KeepsSizes v w → KeepsSizes u w
-KeepsSizes-trans a b = record { home = b.home ∙ a.home; places = b.places ∙ a.places; slots = b.slots ∙ a.slots; room = b.room ∙ a.room }
+KeepsSizes-trans a b = record { home = b.home ∙ a.home; places = b.places ∙ a.places; slots = b.slots ∙ a.slots; nesting = b.nesting ∙ a.nesting; room = b.room ∙ a.room }

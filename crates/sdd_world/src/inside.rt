@@ -8,6 +8,7 @@ ghost use Rattle.sdd_store.specs.Table.{entry_at, IsEmptyAt, IsFull};
 ghost use Rattle.sdd_base.specs.Holding.{AreOf, ValuesAreOf};
 ghost use Rattle.sdd_world.specs.Core.{seat_nowhere};
 ghost use Rattle.sdd_base.specs.Seat.{seat_on, IsSeated, IsExact};
+ghost use Rattle.sdd_base.specs.Own.{GrowsOn};
 ghost use Rattle.sdd_base.specs.Owned.{slots_home, cells_home, holding_of, cell_holding};
 ghost use Rattle.sdd_base.specs.World.{World, IsBlank, weight, KeepsSizes, place_at, standing_at, value_at, IsPlaceOf};
 ghost use Rattle.sdd_base.specs.Steps.{made, retired, nulled, cell_closed, given, given_all, slot_reclaimed, all_reclaimed, rotated, settled, nested, closed, stirred, accelerated, registered};
@@ -121,10 +122,13 @@ impl<T: Item<T>> Giver<T> for Retirement<'_, T> {
 
     ghost seat = { λ r. seat_on r.core.now r.place r.core.ghost_name };
 
+    ghost own = { λ r. place_at r.core.now r.place };
+
     fn owned(&mut self, owner: Owned<T>)
         requires seated { IsSeated (seat_on self.old.core.now self.old.place self.old.core.ghost_name) }
         requires home { slots_home owner ≡ self.old.core.now.home.slots }
         ensures seat { seat_on self.new.core.now self.new.place self.new.core.ghost_name ≡ seat_on self.old.core.now self.old.place self.old.core.ghost_name }
+        ensures own { GrowsOn (place_at self.old.core.now self.old.place) (place_at self.new.core.now self.new.place) }
         ensures exact { IsExact (seat_on self.old.core.now self.old.place self.old.core.ghost_name) → self.new.core.now ≡ given self.old.core.now self.old.place (holding_of owner) }
     {
         self.core.retire(self.place, inner::right_of_owner(owner));
@@ -134,6 +138,7 @@ impl<T: Item<T>> Giver<T> for Retirement<'_, T> {
         requires seated { IsSeated (seat_on self.old.core.now self.old.place self.old.core.ghost_name) }
         requires home { cells_home cell ≡ self.old.core.now.home.cells }
         ensures seat { seat_on self.new.core.now self.new.place self.new.core.ghost_name ≡ seat_on self.old.core.now self.old.place self.old.core.ghost_name }
+        ensures own { GrowsOn (place_at self.old.core.now self.old.place) (place_at self.new.core.now self.new.place) }
         ensures exact { IsExact (seat_on self.old.core.now self.old.place self.old.core.ghost_name) → self.new.core.now ≡ given self.old.core.now self.old.place (cell_holding cell) }
     {
         self.core.close_cell(self.place, inner::right_of_cell(cell));
@@ -325,11 +330,14 @@ struct Discard<'w> {
 }
 
 impl<T> Giver<T> for Discard<'_> {
+    ghost use Rattle.sdd_store.specs.Time.{nobody};
     ghost use Rattle.sdd_world.specs.Core.{nowhere, seat_nowhere};
 
     ghost world = { λ _. nowhere };
 
     ghost seat = { λ d. seat_nowhere d.slots.now.home d.cells.now.home };
+
+    ghost own = { λ _. nobody };
 
     fn owned(&mut self, owner: Owned<T>)
         requires home { slots_home owner ≡ self.old.slots.now.home }

@@ -6,7 +6,9 @@ ghost use Rattle.sdd_base.specs.Steps.{retired, cell_closed};
 ghost use Rattle.sdd_base.specs.Owned.{slot_of, slots_home, cell_of, cells_home};
 ghost use Rattle.sdd_store.specs.Time.{awaiting};
 ghost use Rattle.sdd_store.specs.Waiting.What.{Item};
-ghost use Rattle.sdd_base.specs.Ptr.{IsNull, NamesFilled, NamesShown};
+ghost use Rattle.sdd_base.specs.Ptr.{IsNull, NamesFilled, NamesShown, KeepsShown};
+ghost use Rattle.sdd_base.specs.Own.{IsSpilled};
+ghost use Rattle.sdd_base.specs.Known.{KnowsOn};
 
 use crate::world::{Place, World};
 use sdd_base::{AtomicOwned, Guard, Item, Look, Owned, Ptr, Space, inner};
@@ -97,14 +99,19 @@ impl<T: Item<T>> Look<T> for Turn<'_, T> {
 }
 
 impl<T: Item<T>> Space<T> for Turn<'_, T> {
+    ghost use Rattle.std.specs.Prelude.{true};
     ghost use Rattle.sdd_base.specs.Seat.{seat_on};
     ghost use Rattle.sdd_base.specs.World.{place_at};
 
     const ALONE: bool = true;
 
+    ghost is_alone = { true };
+
     ghost seat = { λ t. seat_on t.world.now t.place t.world.ghost_name };
 
     ghost own = { λ t. place_at t.world.now t.place };
+
+    ghost known = { λ t. record { told = t.world.now.time.count; since = t.world.now.time.count } };
 
     ghost world = { λ t. t.world.now };
 
@@ -120,7 +127,7 @@ impl<T: Item<T>> Space<T> for Turn<'_, T> {
         self.world.close_guard(self.place);
     }
 
-    fn count(&self) -> u64 {
+    fn count(&mut self) -> u64 {
         self.world.time().count()
     }
 
@@ -158,7 +165,9 @@ impl<T: Item<T>> Space<T> for Turn<'_, T> {
         requires home { slots_home owner ≡ self.old.world.now.home.slots }
         ensures seat { seat_on self.new.world.now self.new.place self.new.world.ghost_name ≡ seat_on self.old.world.now self.old.place self.old.world.ghost_name }
         ensures own { place_at self.new.world.now self.new.place ≡ awaiting (Item (slot_of owner)) (place_at self.old.world.now self.old.place) }
+        ensures known { KnowsOn (record { told = self.old.world.now.time.count; since = self.old.world.now.time.count }) (record { told = self.new.world.now.time.count; since = self.new.world.now.time.count }) }
         ensures exact { IsExact (seat_on self.old.world.now self.old.place self.old.world.ghost_name) → self.new.world.now ≡ retired self.old.world.now self.old.place (slot_of owner) }
+        ensures keeps { KeepsShown (λ k value. value_at self.old.world.now k ≡ Some value) (λ k. IsSome (standing_at self.old.world.now k)) (λ k value. value_at self.new.world.now k ≡ Some value) (λ k. IsSome (standing_at self.new.world.now k)) }
     {
         self.world.retire(self.place, inner::right_of_owner(owner));
     }
@@ -174,9 +183,14 @@ impl<T: Item<T>> Space<T> for Turn<'_, T> {
         requires seated { IsSeated (seat_on self.old.world.now self.old.place self.old.world.ghost_name) }
         requires home { cells_home cell ≡ self.old.world.now.home.cells }
         ensures seat { seat_on self.new.world.now self.new.place self.new.world.ghost_name ≡ seat_on self.old.world.now self.old.place self.old.world.ghost_name }
+        ensures own { IsSpilled (place_at self.old.world.now self.old.place) (place_at self.new.world.now self.new.place) }
+        ensures known { KnowsOn (record { told = self.old.world.now.time.count; since = self.old.world.now.time.count }) (record { told = self.new.world.now.time.count; since = self.new.world.now.time.count }) }
         ensures exact { IsExact (seat_on self.old.world.now self.old.place self.old.world.ghost_name) → self.new.world.now ≡ cell_closed self.old.world.now self.old.place (cell_of cell) }
+        ensures keeps { KeepsShown (λ k value. value_at self.old.world.now k ≡ Some value) (λ k. IsSome (standing_at self.old.world.now k)) (λ k value. value_at self.new.world.now k ≡ Some value) (λ k. IsSome (standing_at self.new.world.now k)) }
     {
         self.world
             .close_cell(self.place, inner::right_of_cell(cell));
     }
+
+    ghost alone_is_exact = { λ _ alone. alone };
 }

@@ -31,12 +31,13 @@ pub struct World<T: Item<T>> {
 impl<T: Item<T>> Model for World<T> {
     ghost use Rattle.std.specs.Prelude.{◌≡◌, ◌≤◌, [], length, vec_capacity};
     ghost use Rattle.sdd_base.specs.World.{World};
+    ghost use Rattle.sdd_world.specs.Core.{IsWhole};
 
     ghost Value = { World T };
 
     ghost view = { λ w. w.core };
 
-    ghost invariant = { λ w. (w.spare.items ≡ []) × (length w.core.standings ≤ vec_capacity w.spare) };
+    ghost invariant = { λ w. (w.spare.items ≡ []) × (length w.core.standings ≤ vec_capacity w.spare) × IsWhole w.core };
 }
 
 /// A participant of a world.
@@ -171,6 +172,7 @@ impl<T: Item<T>> World<T> {
             (λ right. (home_of right ≡ self.old.home.slots) × IsEmptyAt self.old.standings (number_of right) × (self.new ≡ made self.old (number_of right) value))
             (λ back. IsFull self.old.standings × (back ≡ value) × (self.new ≡ self.old)) }
         ensures sizes { KeepsSizes self.old self.new }
+        ensures keeps { (k : ℕ) (v : T) → value_at self.old k ≡ Some v → value_at self.new k ≡ Some v }
     {
         self.core.make(value)
     }

@@ -1,7 +1,7 @@
-ghost use Rattle.std.specs.Prelude.{◌≡◌, ℕ, ◌⊎◌, List, MatchResult};
+ghost use Rattle.std.specs.Prelude.{◌≡◌, ◌↔◌, ℕ, ◌⊎◌, IfErr, IfOk, IsOk, List, MatchResult};
 ghost use Rattle.sdd_store.specs.Time.{place_at, with_place};
 ghost use Rattle.sdd_base.specs.World.{World, KeepsSizes, IsPlaceOf};
-ghost use Rattle.sdd_world.specs.Closing.{without_waiting, IsGuarded, NothingIsOut, aged_out, all_aged_out, Closes};
+ghost use Rattle.sdd_world.specs.Closing.{without_waiting, IsGuarded, NothingIsOut, aged_out, all_aged_out, Closes, AllGo, Sweeps, taken, with_reclaimed};
 
 use super::World;
 use sdd_base::Item;
@@ -16,6 +16,9 @@ impl<T: Item<T>> World<T> {
         ensures closed { MatchResult result
             (λ tally. ¬ (IsGuarded self) × ((end : World T) × Closes T.holds self end × NothingIsOut end × (tally ≡ end.tally)))
             (λ e. ((e.1 ≡ Refused.GuardOpen) × IsGuarded self × (e.0 ≡ self)) ⊎ ((e.1 ≡ Refused.OwnerOut) × ¬ (IsGuarded self) × Closes T.holds self e.0 × ¬ (NothingIsOut e.0))) }
+        ensures exactly { IsOk result ↔ (¬ (IsGuarded self) × AllGo T.holds self) }
+        ensures tally { IfOk result (λ tally. tally ≡ with_reclaimed (taken self) self.tally) }
+        ensures swept { IfErr result (λ e. e.1 ≡ Refused.OwnerOut → Sweeps T.holds self e.0) }
     {
         if self.time().is_any_open() {
             return Err((self, Refused::GuardOpen));

@@ -1,6 +1,6 @@
-use Rattle.std.proofs.Common.{◌≡◌, ℕ, ◌<◌, List, [], ◌∷◌, ◌++◌, ap, ◌∙◌, refl, sym, length, arith, IsTrue}
+use Rattle.std.proofs.Common.{◌≡◌, [], ◌∷◌, ◌++◌, ap, ◌∙◌, refl, sym, IsTrue}
 use Rattle.sdd_base.specs.World.{place_at}
-use Rattle.sdd_world.specs.Closing.{aged_out, all_aged_out}
+use Rattle.sdd_world.specs.Closing.{aged_out}
 use Rattle.sdd_world.proofs.Closing.{MovesWaiting-refl, MovesWaiting-trans, MovesWaiting-aged_out, all_aged_out-append, aged_out-ahead, aged_out-range}
 use Rattle.sdd_world.proofs.world.World.clear_place.Goals as goal
 

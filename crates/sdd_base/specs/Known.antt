@@ -1,0 +1,35 @@
+-- What a participant knows of the count of epochs
+use Rattle.std.specs.Prelude.{ℕ, ◌+◌, ◌≤◌, ◌≡◌, IsTrue}
+use Rattle.sdd_store.specs.Time.{is_open}
+use Rattle.sdd_store.specs.declared.time.Participant.{Participant}
+
+pub record Known : Type 0 where
+  -- the greatest count that it was told
+  pub told : ℕ
+  -- while a guard of it is open, the count of epochs is this one or the next
+  pub since : ℕ
+
+-- it forgets nothing, and what holds while its guard is open goes on to hold
+pub record KnowsOn (old new : Known) : Type 0 where
+  pub told : old.told ≤ new.told
+  pub since : new.since ≡ old.since
+
+-- an outermost opening found this count
+pub record KnowsFound (old : Known) (found : ℕ) (new : Known) : Type 0 where
+  pub known : old.told ≤ found
+  pub told : found ≤ new.told
+  pub since : found ≤ new.since
+
+-- an opening, by which this participant became that one
+pub record KnowsOpened (old : Known) (p q : Participant) (new : Known) : Type 0 where
+  pub inner : IsTrue (is_open p) → KnowsOn old new
+  pub outermost : ¬ (IsTrue (is_open p)) → KnowsFound old q.found new
+
+-- a close, after which the participant is this one
+pub record KnowsClosed (old new : Known) (q : Participant) : Type 0 where
+  pub told : old.told ≤ new.told
+  pub inner : IsTrue (is_open q) → new.since ≡ old.since
+
+-- the count that it was told last is the one at the publish of its open guard, or the next
+abbrev pub IsNear : Participant → Known → Type 0
+IsNear p k = IsTrue (is_open p) → (k.since ≤ k.told) × (k.told ≤ k.since + 1)
