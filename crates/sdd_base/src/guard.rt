@@ -11,7 +11,7 @@ ghost use Rattle.sdd_store.specs.Time.{CanNest, is_open, with_garbage, has_garba
 ghost use Rattle.sdd_store.specs.Time as time;
 
 use crate::item::Item;
-use crate::space::Space;
+use crate::space::Guards;
 use sdd_core::{Epoch, Refused};
 
 /// An open guard: its participant has published a count, and a scan gives up while this count is behind.
@@ -25,7 +25,7 @@ impl Guard {
     /// Opens a guard. An outermost one publishes the count of epochs that it finds; if that is another than the participant found before, what waits with it has seen one change more, and what has seen three is reclaimed.
     ///
     /// `TooManyGuards` where as many are open as may nest.
-    pub fn new<T: Item<T>, S: Space<T>>(s: &mut S) -> Result<Guard, Refused>
+    pub fn new<T: Item<T>, S: Guards<T>>(s: &mut S) -> Result<Guard, Refused>
         requires seated { IsSeated (S.seat s.old) }
         ensures seat { S.seat s.new ≡ S.seat s.old }
         ensures place { IfOk result (λ guard. place_of guard ≡ (S.seat s.old).place) }
@@ -55,7 +55,7 @@ impl Guard {
     }
 
     /// Closes the guard. The outermost close at countdown 0, as `accelerate` sets it, first tries to raise the count.
-    pub fn close<T: Item<T>, S: Space<T>>(self, s: &mut S)
+    pub fn close<T: Item<T>, S: Guards<T>>(self, s: &mut S)
         requires seated { IsSeated (S.seat s.old) }
         requires place { place_of self ≡ (S.seat s.old).place }
         ensures seat { S.seat s.new ≡ S.seat s.old }
@@ -69,7 +69,7 @@ impl Guard {
     }
 
     /// The global epoch at this moment, which isn't always the one that the guard published. Under one open guard it is the one answered before, or the next.
-    pub fn epoch<T: Item<T>, S: Space<T>>(&self, s: &mut S) -> Epoch
+    pub fn epoch<T: Item<T>, S: Guards<T>>(&self, s: &mut S) -> Epoch
         requires seated { IsSeated (S.seat s.old) }
         ensures seat { S.seat s.new ≡ S.seat s.old }
         ensures own { S.own s.new ≡ S.own s.old }
@@ -83,7 +83,7 @@ impl Guard {
     }
 
     /// Something may wait with the participant.
-    pub fn has_garbage<T: Item<T>, S: Space<T>>(&self, s: &S) -> bool
+    pub fn has_garbage<T: Item<T>, S: Guards<T>>(&self, s: &S) -> bool
         requires seated { IsSeated (S.seat s.now) }
         ensures own { result ≡ has_garbage (S.own s.now) }
         ensures exact { IsExact (S.seat s.now) → result ≡ has_garbage (place_at (S.world s.now) (S.seat s.now).place) }
@@ -92,7 +92,7 @@ impl Guard {
     }
 
     /// Has the participant count down to a scan, as a retirement does.
-    pub fn set_has_garbage<T: Item<T>, S: Space<T>>(&self, s: &mut S)
+    pub fn set_has_garbage<T: Item<T>, S: Guards<T>>(&self, s: &mut S)
         requires seated { IsSeated (S.seat s.old) }
         ensures seat { S.seat s.new ≡ S.seat s.old }
         ensures own { S.own s.new ≡ with_garbage (S.own s.old) }
@@ -104,7 +104,7 @@ impl Guard {
     }
 
     /// Has the next outermost close of the participant scan.
-    pub fn accelerate<T: Item<T>, S: Space<T>>(&self, s: &mut S)
+    pub fn accelerate<T: Item<T>, S: Guards<T>>(&self, s: &mut S)
         requires seated { IsSeated (S.seat s.old) }
         ensures seat { S.seat s.new ≡ S.seat s.old }
         ensures own { S.own s.new ≡ time.accelerated (S.own s.old) }
