@@ -1,9 +1,9 @@
 ghost use Rattle.std.specs.Prelude.{◌≡◌, ◌%◌, MatchResult, IfOk, IsTrue};
 ghost use Rattle.sdd_core.specs.Epoch.{epoch_of};
 ghost use Rattle.sdd_base.specs.World.{World, place_at};
-ghost use Rattle.sdd_base.specs.Seat.{IsSeated, IsExact, MayNest};
+ghost use Rattle.sdd_base.specs.Seat.{IsSeated, IsExact, IsLone, MayNest};
 ghost use Rattle.sdd_base.specs.Own.{IsOpened, IsClosed};
-ghost use Rattle.sdd_base.specs.Known.{KnowsOn, KnowsOpened, KnowsClosed, IsNear};
+ghost use Rattle.sdd_base.specs.Known.{KnowsOn, KnowsOpened, KnowsClosed, IsNear, IsRaisedBy};
 ghost use Rattle.sdd_base.specs.Ptr.{KeepsShown};
 ghost use Rattle.sdd_base.specs.Guard.{place_of};
 ghost use Rattle.sdd_base.specs.Steps.{opened, closed, stirred, accelerated};
@@ -35,6 +35,7 @@ impl Guard {
         ensures known { MatchResult result
             (λ _. KnowsOpened (S.known s.old) (S.own s.old) (S.own s.new) (S.known s.new))
             (λ _. KnowsOn (S.known s.old) (S.known s.new)) }
+        ensures lone { IsLone (S.seat s.old) → (S.known s.new).told ≡ (S.known s.old).told }
         ensures exact { IsExact (S.seat s.old) → MatchResult result
             (λ _. CanNest (S.world s.old).time (S.seat s.old).place × (S.world s.new ≡ opened T.holds (S.world s.old) (S.seat s.old).place))
             (λ e. (e ≡ Refused.TooManyGuards) × ¬ (CanNest (S.world s.old).time (S.seat s.old).place) × (S.world s.new ≡ S.world s.old)) }
@@ -61,6 +62,7 @@ impl Guard {
         ensures seat { S.seat s.new ≡ S.seat s.old }
         ensures own { IsClosed (S.own s.old) (S.own s.new) }
         ensures known { KnowsClosed (S.known s.old) (S.known s.new) (S.own s.new) }
+        ensures lone { IsLone (S.seat s.old) → IsRaisedBy (S.own s.old) (S.known s.old).told (S.known s.new).told }
         ensures exact { IsExact (S.seat s.old) → S.world s.new ≡ closed (S.world s.old) (S.seat s.old).place }
         ensures keeps { IsTrue (is_open (S.own s.new)) → KeepsShown (S.shows s.old) (S.filled s.old) (S.shows s.new) (S.filled s.new) }
     {
@@ -76,6 +78,7 @@ impl Guard {
         ensures known { KnowsOn (S.known s.old) (S.known s.new) }
         ensures told { result ≡ epoch_of (S.known s.new).told }
         ensures near { IsNear (S.own s.new) (S.known s.new) }
+        ensures lone { IsLone (S.seat s.old) → (S.known s.new).told ≡ (S.known s.old).told }
         ensures exact { IsExact (S.seat s.old) → (result ≡ epoch_of (S.world s.old).time.count) × (S.world s.new ≡ S.world s.old) }
         ensures keeps { KeepsShown (S.shows s.old) (S.filled s.old) (S.shows s.new) (S.filled s.new) }
     {
@@ -97,6 +100,7 @@ impl Guard {
         ensures seat { S.seat s.new ≡ S.seat s.old }
         ensures own { S.own s.new ≡ with_garbage (S.own s.old) }
         ensures known { KnowsOn (S.known s.old) (S.known s.new) }
+        ensures lone { IsLone (S.seat s.old) → S.known s.new ≡ S.known s.old }
         ensures exact { IsExact (S.seat s.old) → S.world s.new ≡ stirred (S.world s.old) (S.seat s.old).place }
         ensures keeps { KeepsShown (S.shows s.old) (S.filled s.old) (S.shows s.new) (S.filled s.new) }
     {
@@ -109,6 +113,7 @@ impl Guard {
         ensures seat { S.seat s.new ≡ S.seat s.old }
         ensures own { S.own s.new ≡ time.accelerated (S.own s.old) }
         ensures known { KnowsOn (S.known s.old) (S.known s.new) }
+        ensures lone { IsLone (S.seat s.old) → S.known s.new ≡ S.known s.old }
         ensures exact { IsExact (S.seat s.old) → S.world s.new ≡ accelerated (S.world s.old) (S.seat s.old).place }
         ensures keeps { KeepsShown (S.shows s.old) (S.filled s.old) (S.shows s.new) (S.filled s.new) }
     {

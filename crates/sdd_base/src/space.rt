@@ -6,9 +6,9 @@ ghost use Rattle.sdd_store.specs.Time as time;
 ghost use Rattle.sdd_store.specs.Table.{IsEmptyAt, IsFull};
 ghost use Rattle.sdd_base.specs.Holding.{AreOf};
 ghost use Rattle.sdd_base.specs.World.{World, place_at};
-ghost use Rattle.sdd_base.specs.Seat.{Seat, IsSeated, IsExact, MayNest};
+ghost use Rattle.sdd_base.specs.Seat.{Seat, IsSeated, IsExact, IsLone, MayNest};
 ghost use Rattle.sdd_base.specs.Own.{IsOpened, IsClosed, IsSpilled};
-ghost use Rattle.sdd_base.specs.Known.{Known, KnowsOn, KnowsOpened, KnowsClosed, IsNear};
+ghost use Rattle.sdd_base.specs.Known.{Known, KnowsOn, KnowsOpened, KnowsClosed, IsNear, IsRaisedBy};
 ghost use Rattle.sdd_base.specs.Ptr.{KeepsShown};
 ghost use Rattle.sdd_base.specs.Steps.{made, retired, nulled, cell_closed, opened, closed, stirred, accelerated};
 ghost use Rattle.sdd_base.specs.Owned.{slot_of, slots_home, cell_of, cells_home};
@@ -41,6 +41,7 @@ pub trait Guards<T: Item<T>>: Shows<T> {
         ensures known { MatchResult result
             (λ _. KnowsOpened (known self.old) (own self.old) (own self.new) (known self.new))
             (λ _. KnowsOn (known self.old) (known self.new)) }
+        ensures lone { IsLone (seat self.old) → (known self.new).told ≡ (known self.old).told }
         ensures exact { IsExact (seat self.old) → MatchResult result
             (λ _. CanNest (world self.old).time (seat self.old).place × (world self.new ≡ opened T.holds (world self.old) (seat self.old).place))
             (λ e. (e ≡ Refused.TooManyGuards) × ¬ (CanNest (world self.old).time (seat self.old).place) × (world self.new ≡ world self.old)) }
@@ -52,6 +53,7 @@ pub trait Guards<T: Item<T>>: Shows<T> {
         ensures seat { seat self.new ≡ seat self.old }
         ensures own { IsClosed (own self.old) (own self.new) }
         ensures known { KnowsClosed (known self.old) (known self.new) (own self.new) }
+        ensures lone { IsLone (seat self.old) → IsRaisedBy (own self.old) (known self.old).told (known self.new).told }
         ensures exact { IsExact (seat self.old) → world self.new ≡ closed (world self.old) (seat self.old).place }
         ensures keeps { IsTrue (is_open (own self.new)) → KeepsShown (Self.shows self.old) (Self.filled self.old) (Self.shows self.new) (Self.filled self.new) };
 
@@ -63,6 +65,7 @@ pub trait Guards<T: Item<T>>: Shows<T> {
         ensures known { KnowsOn (known self.old) (known self.new) }
         ensures told { result ≡ (known self.new).told }
         ensures near { IsNear (own self.new) (known self.new) }
+        ensures lone { IsLone (seat self.old) → (known self.new).told ≡ (known self.old).told }
         ensures exact { IsExact (seat self.old) → (result ≡ (world self.old).time.count) × (world self.new ≡ world self.old) }
         ensures keeps { KeepsShown (Self.shows self.old) (Self.filled self.old) (Self.shows self.new) (Self.filled self.new) };
 
@@ -76,6 +79,7 @@ pub trait Guards<T: Item<T>>: Shows<T> {
         ensures seat { seat self.new ≡ seat self.old }
         ensures own { own self.new ≡ with_garbage (own self.old) }
         ensures known { KnowsOn (known self.old) (known self.new) }
+        ensures lone { IsLone (seat self.old) → known self.new ≡ known self.old }
         ensures exact { IsExact (seat self.old) → world self.new ≡ stirred (world self.old) (seat self.old).place }
         ensures keeps { KeepsShown (Self.shows self.old) (Self.filled self.old) (Self.shows self.new) (Self.filled self.new) };
 
@@ -84,6 +88,7 @@ pub trait Guards<T: Item<T>>: Shows<T> {
         ensures seat { seat self.new ≡ seat self.old }
         ensures own { own self.new ≡ time.accelerated (own self.old) }
         ensures known { KnowsOn (known self.old) (known self.new) }
+        ensures lone { IsLone (seat self.old) → known self.new ≡ known self.old }
         ensures exact { IsExact (seat self.old) → world self.new ≡ accelerated (world self.old) (seat self.old).place }
         ensures keeps { KeepsShown (Self.shows self.old) (Self.filled self.old) (Self.shows self.new) (Self.filled self.new) };
 }

@@ -1,5 +1,5 @@
 -- A participant of a domain as the generic calls see it
-use Rattle.std.specs.Prelude.{[], false}
+use Rattle.std.specs.Prelude.{◌==◌, [], false}
 use Rattle.sdd_store.specs.Tally.{no_items}
 use Rattle.sdd_base.specs.Holding.{Home}
 use Rattle.sdd_base.specs.Known.{Known}
@@ -12,7 +12,7 @@ abbrev pub nowhere : Home
 nowhere = record { slots = record { name = 0; size = 0 }; cells = record { name = 0; size = 0 } }
 
 abbrev pub seat_of : Member → Seat
-seat_of m = record { place = m.place; places = m.limits.participants; loan = 0; home = nowhere; nesting = m.limits.nesting; exact = false }
+seat_of m = record { place = m.place; places = m.limits.participants; loan = 0; home = nowhere; nesting = m.limits.nesting; exact = false; lone = m.limits.participants == 1 }
 
 abbrev pub known_of : Member → Known
 known_of m = record { told = m.known; since = m.since }
