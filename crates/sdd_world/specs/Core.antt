@@ -57,4 +57,4 @@ nowhere =
 
 -- nobody's seat, where slots and cells were of these homes: nothing is said of what a call changes
 abbrev pub seat_nowhere : token.Home → token.Home → Seat
-seat_nowhere slots cells = record { place = 0; places = 1; loan = 0; home = record { slots = slots; cells = cells }; nesting = 0; exact = false }
+seat_nowhere slots cells = record { place = 0; places = 1; loan = 0; home = record { slots = slots; cells = cells }; nesting = 0; exact = false; lone = false }
