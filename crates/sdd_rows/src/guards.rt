@@ -4,12 +4,14 @@ ghost use Rattle.sdd_base.specs.Seat.{IsSeated};
 ghost use Rattle.sdd_base.specs.World.{IsPlaceOf};
 ghost use Rattle.sdd_world.specs.Place.{index_of};
 ghost use Rattle.sdd_base.specs.Guard.{place_of};
+ghost use Rattle.sdd_domain.specs.Space.{seat_of};
+ghost use Rattle.sdd_rows.specs.Stays.{Stays};
 
 use crate::steps::{closed, joined, new_world};
 use sdd_base::{Guard, Guards, Item, Limits};
 use sdd_core::Refused;
 use sdd_domain::{Domain, Local};
-use sdd_world::World;
+use sdd_world::{Place, World};
 use std::process::Abort;
 
 /// One participant, of whom two guards may be open at once.
@@ -79,6 +81,21 @@ fn refusal<T: Item<T>, S: Guards<T>>(rt: &impl Abort, s: &mut S) -> Option<Refus
     }
 }
 
+fn at_world(rt: &impl Abort, world: &mut World<u64>, place: &Place, under: Under) -> Shown
+    requires place { IsPlaceOf world.old (index_of place.now) }
+    ensures stays { Stays world.old world.new }
+{
+    let mut turn = world.at(place);
+    two_guards(rt, &mut turn, under)
+}
+
+fn at_domain(rt: &impl Abort, local: &mut Local<'_>, under: Under) -> Shown
+    requires { IsSeated (seat_of local.old) }
+    ensures { seat_of local.new ≡ seat_of local.old }
+{
+    two_guards::<u64, Local<'_>>(rt, local, under)
+}
+
 #[test]
 fn the_only_participant_of_a_domain_is_answered_as_a_turn_is(rt: HostRuntime) {
     let mut world: World<u64> = new_world(&rt, LONE, 0);
@@ -91,10 +108,13 @@ fn the_only_participant_of_a_domain_is_answered_as_a_turn_is(rt: HostRuntime) {
             5 => Under::Stir,
             _ => Under::Nothing,
         };
-        let at_world = two_guards::<u64, _>(&rt, &mut world.at(&place), under);
-        let at_domain = two_guards::<u64, _>(&rt, &mut local, under);
-        assert_eq!(rt; at_domain, at_world, "at guard {call}");
-        assert_eq!(rt; at_domain.third, Some(Refused::TooManyGuards));
+        let shown = at_domain(&rt, &mut local, under);
+        assert_eq!(rt;
+            shown,
+            at_world(&rt, &mut world, &place, under),
+            "at guard {call}"
+        );
+        assert_eq!(rt; shown.third, Some(Refused::TooManyGuards));
     }
     match local.end() {
         Ok(_receipt) => {}
