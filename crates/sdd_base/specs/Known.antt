@@ -1,5 +1,5 @@
 -- What a participant knows of the count of epochs
-use Rattle.std.specs.Prelude.{ℕ, ◌+◌, ◌≤◌, ◌≡◌, IsTrue}
+use Rattle.std.specs.Prelude.{ℕ, ◌+◌, ◌^◌, ◌<◌, ◌≤◌, ◌≡◌, ◌≢◌, ◌⊎◌, IsTrue}
 use Rattle.sdd_store.specs.Time.{is_open}
 use Rattle.sdd_store.specs.declared.time.Participant.{Participant}
 
@@ -33,3 +33,9 @@ pub record KnowsClosed (old new : Known) (q : Participant) : Type 0 where
 -- the count that it was told last is the one at the publish of its open guard, or the next
 abbrev pub IsNear : Participant → Known → Type 0
 IsNear p k = IsTrue (is_open p) → (k.since ≤ k.told) × (k.told ≤ k.since + 1)
+
+-- where nobody else raises the count, a close of this participant does, if its last guard was open at countdown 0 and the count isn't the last
+pub record IsRaisedBy (p : Participant) (old new : ℕ) : Type 0 where
+  pub raised : p.guards ≡ 1 → p.countdown ≡ 0 → old + 1 < 2 ^ 64 → new ≡ old + 1
+  pub last : p.guards ≡ 1 → p.countdown ≡ 0 → old + 1 ≡ 2 ^ 64 → new ≡ old
+  pub quiet : (p.guards ≢ 1) ⊎ (p.countdown ≢ 0) → new ≡ old

@@ -1,9 +1,9 @@
 ghost use Rattle.std.specs.Prelude.{◌≡◌, ◌%◌, MatchResult, IfOk, IsTrue};
 ghost use Rattle.sdd_core.specs.Epoch.{epoch_of};
 ghost use Rattle.sdd_base.specs.World.{World, place_at};
-ghost use Rattle.sdd_base.specs.Seat.{IsSeated, IsExact, MayNest};
+ghost use Rattle.sdd_base.specs.Seat.{IsSeated, IsExact, IsLone, MayNest};
 ghost use Rattle.sdd_base.specs.Own.{IsOpened, IsClosed};
-ghost use Rattle.sdd_base.specs.Known.{KnowsOn, KnowsOpened, KnowsClosed, IsNear};
+ghost use Rattle.sdd_base.specs.Known.{KnowsOn, KnowsOpened, KnowsClosed, IsNear, IsRaisedBy};
 ghost use Rattle.sdd_base.specs.Ptr.{KeepsShown};
 ghost use Rattle.sdd_base.specs.Guard.{place_of};
 ghost use Rattle.sdd_base.specs.Steps.{opened, closed, stirred, accelerated};
@@ -11,7 +11,7 @@ ghost use Rattle.sdd_store.specs.Time.{CanNest, is_open, with_garbage, has_garba
 ghost use Rattle.sdd_store.specs.Time as time;
 
 use crate::item::Item;
-use crate::space::Space;
+use crate::space::Guards;
 use sdd_core::{Epoch, Refused};
 
 /// An open guard: its participant has published a count, and a scan gives up while this count is behind.
@@ -25,7 +25,7 @@ impl Guard {
     /// Opens a guard. An outermost one publishes the count of epochs that it finds; if that is another than the participant found before, what waits with it has seen one change more, and what has seen three is reclaimed.
     ///
     /// `TooManyGuards` where as many are open as may nest.
-    pub fn new<T: Item<T>, S: Space<T>>(s: &mut S) -> Result<Guard, Refused>
+    pub fn new<T: Item<T>, S: Guards<T>>(s: &mut S) -> Result<Guard, Refused>
         requires seated { IsSeated (S.seat s.old) }
         ensures seat { S.seat s.new ≡ S.seat s.old }
         ensures place { IfOk result (λ guard. place_of guard ≡ (S.seat s.old).place) }
@@ -35,6 +35,7 @@ impl Guard {
         ensures known { MatchResult result
             (λ _. KnowsOpened (S.known s.old) (S.own s.old) (S.own s.new) (S.known s.new))
             (λ _. KnowsOn (S.known s.old) (S.known s.new)) }
+        ensures lone { IsLone (S.seat s.old) → (S.known s.new).told ≡ (S.known s.old).told }
         ensures exact { IsExact (S.seat s.old) → MatchResult result
             (λ _. CanNest (S.world s.old).time (S.seat s.old).place × (S.world s.new ≡ opened T.holds (S.world s.old) (S.seat s.old).place))
             (λ e. (e ≡ Refused.TooManyGuards) × ¬ (CanNest (S.world s.old).time (S.seat s.old).place) × (S.world s.new ≡ S.world s.old)) }
@@ -51,12 +52,13 @@ impl Guard {
     }
 
     /// Closes the guard. The outermost close at countdown 0, as `accelerate` sets it, first tries to raise the count.
-    pub fn close<T: Item<T>, S: Space<T>>(self, s: &mut S)
+    pub fn close<T: Item<T>, S: Guards<T>>(self, s: &mut S)
         requires seated { IsSeated (S.seat s.old) }
         requires place { place_of self ≡ (S.seat s.old).place }
         ensures seat { S.seat s.new ≡ S.seat s.old }
         ensures own { IsClosed (S.own s.old) (S.own s.new) }
         ensures known { KnowsClosed (S.known s.old) (S.known s.new) (S.own s.new) }
+        ensures lone { IsLone (S.seat s.old) → IsRaisedBy (S.own s.old) (S.known s.old).told (S.known s.new).told }
         ensures exact { IsExact (S.seat s.old) → S.world s.new ≡ closed (S.world s.old) (S.seat s.old).place }
         ensures keeps { IsTrue (is_open (S.own s.new)) → KeepsShown (S.shows s.old) (S.filled s.old) (S.shows s.new) (S.filled s.new) }
     {
@@ -65,13 +67,14 @@ impl Guard {
     }
 
     /// The global epoch at this moment, which isn't always the one that the guard published. Under one open guard it is the one answered before, or the next.
-    pub fn epoch<T: Item<T>, S: Space<T>>(&self, s: &mut S) -> Epoch
+    pub fn epoch<T: Item<T>, S: Guards<T>>(&self, s: &mut S) -> Epoch
         requires seated { IsSeated (S.seat s.old) }
         ensures seat { S.seat s.new ≡ S.seat s.old }
         ensures own { S.own s.new ≡ S.own s.old }
         ensures known { KnowsOn (S.known s.old) (S.known s.new) }
         ensures told { result ≡ epoch_of (S.known s.new).told }
         ensures near { IsNear (S.own s.new) (S.known s.new) }
+        ensures lone { IsLone (S.seat s.old) → (S.known s.new).told ≡ (S.known s.old).told }
         ensures exact { IsExact (S.seat s.old) → (result ≡ epoch_of (S.world s.old).time.count) × (S.world s.new ≡ S.world s.old) }
         ensures keeps { KeepsShown (S.shows s.old) (S.filled s.old) (S.shows s.new) (S.filled s.new) }
     {
@@ -79,7 +82,7 @@ impl Guard {
     }
 
     /// Something may wait with the participant.
-    pub fn has_garbage<T: Item<T>, S: Space<T>>(&self, s: &S) -> bool
+    pub fn has_garbage<T: Item<T>, S: Guards<T>>(&self, s: &S) -> bool
         requires seated { IsSeated (S.seat s.now) }
         ensures own { result ≡ has_garbage (S.own s.now) }
         ensures exact { IsExact (S.seat s.now) → result ≡ has_garbage (place_at (S.world s.now) (S.seat s.now).place) }
@@ -88,11 +91,12 @@ impl Guard {
     }
 
     /// Has the participant count down to a scan, as a retirement does.
-    pub fn set_has_garbage<T: Item<T>, S: Space<T>>(&self, s: &mut S)
+    pub fn set_has_garbage<T: Item<T>, S: Guards<T>>(&self, s: &mut S)
         requires seated { IsSeated (S.seat s.old) }
         ensures seat { S.seat s.new ≡ S.seat s.old }
         ensures own { S.own s.new ≡ with_garbage (S.own s.old) }
         ensures known { KnowsOn (S.known s.old) (S.known s.new) }
+        ensures lone { IsLone (S.seat s.old) → S.known s.new ≡ S.known s.old }
         ensures exact { IsExact (S.seat s.old) → S.world s.new ≡ stirred (S.world s.old) (S.seat s.old).place }
         ensures keeps { KeepsShown (S.shows s.old) (S.filled s.old) (S.shows s.new) (S.filled s.new) }
     {
@@ -100,11 +104,12 @@ impl Guard {
     }
 
     /// Has the next outermost close of the participant scan.
-    pub fn accelerate<T: Item<T>, S: Space<T>>(&self, s: &mut S)
+    pub fn accelerate<T: Item<T>, S: Guards<T>>(&self, s: &mut S)
         requires seated { IsSeated (S.seat s.old) }
         ensures seat { S.seat s.new ≡ S.seat s.old }
         ensures own { S.own s.new ≡ time.accelerated (S.own s.old) }
         ensures known { KnowsOn (S.known s.old) (S.known s.new) }
+        ensures lone { IsLone (S.seat s.old) → S.known s.new ≡ S.known s.old }
         ensures exact { IsExact (S.seat s.old) → S.world s.new ≡ accelerated (S.world s.old) (S.seat s.old).place }
         ensures keeps { KeepsShown (S.shows s.old) (S.filled s.old) (S.shows s.new) (S.filled s.new) }
     {

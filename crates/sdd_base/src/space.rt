@@ -6,26 +6,21 @@ ghost use Rattle.sdd_store.specs.Time as time;
 ghost use Rattle.sdd_store.specs.Table.{IsEmptyAt, IsFull};
 ghost use Rattle.sdd_base.specs.Holding.{AreOf};
 ghost use Rattle.sdd_base.specs.World.{World, place_at};
-ghost use Rattle.sdd_base.specs.Seat.{Seat, IsSeated, IsExact, MayNest};
+ghost use Rattle.sdd_base.specs.Seat.{Seat, IsSeated, IsExact, IsLone, MayNest};
 ghost use Rattle.sdd_base.specs.Own.{IsOpened, IsClosed, IsSpilled};
-ghost use Rattle.sdd_base.specs.Known.{Known, KnowsOn, KnowsOpened, KnowsClosed, IsNear};
+ghost use Rattle.sdd_base.specs.Known.{Known, KnowsOn, KnowsOpened, KnowsClosed, IsNear, IsRaisedBy};
 ghost use Rattle.sdd_base.specs.Ptr.{KeepsShown};
 ghost use Rattle.sdd_base.specs.Steps.{made, retired, nulled, cell_closed, opened, closed, stirred, accelerated};
 ghost use Rattle.sdd_base.specs.Owned.{slot_of, slots_home, cell_of, cells_home};
 
 use crate::atomic_owned::AtomicOwned;
 use crate::item::Item;
-use crate::look::Look;
+use crate::look::{Look, Shows};
 use crate::owned::Owned;
 use sdd_core::Refused;
 
-/// A world or domain as one participant has it.
-pub trait Space<T: Item<T>>: Look<T> {
-    /// Only the caller's own calls change the space, so that what they do is said exactly.
-    const ALONE: bool;
-    /// The same truth, for clauses.
-    ghost is_alone: { Bool };
-
+/// The guards of one participant of a world or domain.
+pub trait Guards<T: Item<T>>: Shows<T> {
     /// Who calls, and on which loan of which world: no call changes it.
     ghost seat: { Self → Seat };
     /// What the participant keeps of its own.
@@ -46,6 +41,7 @@ pub trait Space<T: Item<T>>: Look<T> {
         ensures known { MatchResult result
             (λ _. KnowsOpened (known self.old) (own self.old) (own self.new) (known self.new))
             (λ _. KnowsOn (known self.old) (known self.new)) }
+        ensures lone { IsLone (seat self.old) → (known self.new).told ≡ (known self.old).told }
         ensures exact { IsExact (seat self.old) → MatchResult result
             (λ _. CanNest (world self.old).time (seat self.old).place × (world self.new ≡ opened T.holds (world self.old) (seat self.old).place))
             (λ e. (e ≡ Refused.TooManyGuards) × ¬ (CanNest (world self.old).time (seat self.old).place) × (world self.new ≡ world self.old)) }
@@ -57,6 +53,7 @@ pub trait Space<T: Item<T>>: Look<T> {
         ensures seat { seat self.new ≡ seat self.old }
         ensures own { IsClosed (own self.old) (own self.new) }
         ensures known { KnowsClosed (known self.old) (known self.new) (own self.new) }
+        ensures lone { IsLone (seat self.old) → IsRaisedBy (own self.old) (known self.old).told (known self.new).told }
         ensures exact { IsExact (seat self.old) → world self.new ≡ closed (world self.old) (seat self.old).place }
         ensures keeps { IsTrue (is_open (own self.new)) → KeepsShown (Self.shows self.old) (Self.filled self.old) (Self.shows self.new) (Self.filled self.new) };
 
@@ -68,6 +65,7 @@ pub trait Space<T: Item<T>>: Look<T> {
         ensures known { KnowsOn (known self.old) (known self.new) }
         ensures told { result ≡ (known self.new).told }
         ensures near { IsNear (own self.new) (known self.new) }
+        ensures lone { IsLone (seat self.old) → (known self.new).told ≡ (known self.old).told }
         ensures exact { IsExact (seat self.old) → (result ≡ (world self.old).time.count) × (world self.new ≡ world self.old) }
         ensures keeps { KeepsShown (Self.shows self.old) (Self.filled self.old) (Self.shows self.new) (Self.filled self.new) };
 
@@ -81,6 +79,7 @@ pub trait Space<T: Item<T>>: Look<T> {
         ensures seat { seat self.new ≡ seat self.old }
         ensures own { own self.new ≡ with_garbage (own self.old) }
         ensures known { KnowsOn (known self.old) (known self.new) }
+        ensures lone { IsLone (seat self.old) → known self.new ≡ known self.old }
         ensures exact { IsExact (seat self.old) → world self.new ≡ stirred (world self.old) (seat self.old).place }
         ensures keeps { KeepsShown (Self.shows self.old) (Self.filled self.old) (Self.shows self.new) (Self.filled self.new) };
 
@@ -89,68 +88,77 @@ pub trait Space<T: Item<T>>: Look<T> {
         ensures seat { seat self.new ≡ seat self.old }
         ensures own { own self.new ≡ time.accelerated (own self.old) }
         ensures known { KnowsOn (known self.old) (known self.new) }
+        ensures lone { IsLone (seat self.old) → known self.new ≡ known self.old }
         ensures exact { IsExact (seat self.old) → world self.new ≡ accelerated (world self.old) (seat self.old).place }
         ensures keeps { KeepsShown (Self.shows self.old) (Self.filled self.old) (Self.shows self.new) (Self.filled self.new) };
+}
+
+/// A world or domain as one participant has it.
+pub trait Space<T: Item<T>>: Look<T> + Guards<T> {
+    /// Only the caller's own calls change the space, so that what they do is said exactly.
+    const ALONE: bool;
+    /// The same truth, for clauses.
+    ghost is_alone: { Bool };
 
     /// Puts a value into a free slot.
     fn make(&mut self, value: T) -> Result<Owned<T>, (T, Refused)>
-        requires seated { IsSeated (seat self.old) }
-        requires home { AreOf (seat self.old).home (T.holds value) }
-        ensures seat { seat self.new ≡ seat self.old }
-        ensures own { own self.new ≡ own self.old }
-        ensures known { KnowsOn (known self.old) (known self.new) }
-        ensures home { IfOk result (λ owner. slots_home owner ≡ (seat self.old).home.slots) }
-        ensures exact { IsExact (seat self.old) → MatchResult result
-            (λ owner. IsEmptyAt (world self.old).standings (slot_of owner) × (world self.new ≡ made (world self.old) (slot_of owner) value))
-            (λ e. IsFull (world self.old).standings × (e ≡ (value, Refused.NoSlot)) × (world self.new ≡ world self.old)) }
+        requires seated { IsSeated (Self.seat self.old) }
+        requires home { AreOf (Self.seat self.old).home (T.holds value) }
+        ensures seat { Self.seat self.new ≡ Self.seat self.old }
+        ensures own { Self.own self.new ≡ Self.own self.old }
+        ensures known { KnowsOn (Self.known self.old) (Self.known self.new) }
+        ensures home { IfOk result (λ owner. slots_home owner ≡ (Self.seat self.old).home.slots) }
+        ensures exact { IsExact (Self.seat self.old) → MatchResult result
+            (λ owner. IsEmptyAt (Self.world self.old).standings (slot_of owner) × (Self.world self.new ≡ made (Self.world self.old) (slot_of owner) value))
+            (λ e. IsFull (Self.world self.old).standings × (e ≡ (value, Refused.NoSlot)) × (Self.world self.new ≡ Self.world self.old)) }
         ensures keeps { KeepsShown (Self.shows self.old) (Self.filled self.old) (Self.shows self.new) (Self.filled self.new) };
 
     /// Makes a value and puts it into a free slot; where none is free it isn't made.
     fn make_with<F: FnOnce() -> T>(&mut self, make: F) -> Result<Owned<T>, (F, Refused)>
-        requires seated { IsSeated (seat self.old) }
+        requires seated { IsSeated (Self.seat self.old) }
         requires callable { F.pre make }
-        requires home { (value : T) → F.post make value → AreOf (seat self.old).home (T.holds value) }
-        ensures seat { seat self.new ≡ seat self.old }
-        ensures own { own self.new ≡ own self.old }
-        ensures known { KnowsOn (known self.old) (known self.new) }
-        ensures home { IfOk result (λ owner. slots_home owner ≡ (seat self.old).home.slots) }
-        ensures exact { IsExact (seat self.old) → MatchResult result
-            (λ owner. IsEmptyAt (world self.old).standings (slot_of owner) × ((value : T) × F.post make value × (world self.new ≡ made (world self.old) (slot_of owner) value)))
-            (λ e. IsFull (world self.old).standings × (e ≡ (make, Refused.NoSlot)) × (world self.new ≡ world self.old)) }
+        requires home { (value : T) → F.post make value → AreOf (Self.seat self.old).home (T.holds value) }
+        ensures seat { Self.seat self.new ≡ Self.seat self.old }
+        ensures own { Self.own self.new ≡ Self.own self.old }
+        ensures known { KnowsOn (Self.known self.old) (Self.known self.new) }
+        ensures home { IfOk result (λ owner. slots_home owner ≡ (Self.seat self.old).home.slots) }
+        ensures exact { IsExact (Self.seat self.old) → MatchResult result
+            (λ owner. IsEmptyAt (Self.world self.old).standings (slot_of owner) × ((value : T) × F.post make value × (Self.world self.new ≡ made (Self.world self.old) (slot_of owner) value)))
+            (λ e. IsFull (Self.world self.old).standings × (e ≡ (make, Refused.NoSlot)) × (Self.world self.new ≡ Self.world self.old)) }
         ensures keeps { KeepsShown (Self.shows self.old) (Self.filled self.old) (Self.shows self.new) (Self.filled self.new) };
 
     /// The item waits with the participant.
     fn retire(&mut self, owner: Owned<T>)
-        requires seated { IsSeated (seat self.old) }
-        requires home { slots_home owner ≡ (seat self.old).home.slots }
-        ensures seat { seat self.new ≡ seat self.old }
-        ensures own { own self.new ≡ time.awaiting (Item (slot_of owner)) (own self.old) }
-        ensures known { KnowsOn (known self.old) (known self.new) }
-        ensures exact { IsExact (seat self.old) → world self.new ≡ retired (world self.old) (seat self.old).place (slot_of owner) }
+        requires seated { IsSeated (Self.seat self.old) }
+        requires home { slots_home owner ≡ (Self.seat self.old).home.slots }
+        ensures seat { Self.seat self.new ≡ Self.seat self.old }
+        ensures own { Self.own self.new ≡ time.awaiting (Item (slot_of owner)) (Self.own self.old) }
+        ensures known { KnowsOn (Self.known self.old) (Self.known self.new) }
+        ensures exact { IsExact (Self.seat self.old) → Self.world self.new ≡ retired (Self.world self.old) (Self.seat self.old).place (slot_of owner) }
         ensures keeps { KeepsShown (Self.shows self.old) (Self.filled self.old) (Self.shows self.new) (Self.filled self.new) };
 
     /// A free cell holds nothing.
     fn make_cell(&mut self) -> Result<AtomicOwned<T>, Refused>
-        requires seated { IsSeated (seat self.old) }
-        ensures seat { seat self.new ≡ seat self.old }
-        ensures own { own self.new ≡ own self.old }
-        ensures known { KnowsOn (known self.old) (known self.new) }
-        ensures home { IfOk result (λ cell. cells_home cell ≡ (seat self.old).home.cells) }
-        ensures exact { IsExact (seat self.old) → MatchResult result
-            (λ cell. IsEmptyAt (world self.old).cells (cell_of cell) × (world self.new ≡ nulled (world self.old) (cell_of cell)))
-            (λ e. IsFull (world self.old).cells × (e ≡ Refused.NoCell) × (world self.new ≡ world self.old)) }
+        requires seated { IsSeated (Self.seat self.old) }
+        ensures seat { Self.seat self.new ≡ Self.seat self.old }
+        ensures own { Self.own self.new ≡ Self.own self.old }
+        ensures known { KnowsOn (Self.known self.old) (Self.known self.new) }
+        ensures home { IfOk result (λ cell. cells_home cell ≡ (Self.seat self.old).home.cells) }
+        ensures exact { IsExact (Self.seat self.old) → MatchResult result
+            (λ cell. IsEmptyAt (Self.world self.old).cells (cell_of cell) × (Self.world self.new ≡ nulled (Self.world self.old) (cell_of cell)))
+            (λ e. IsFull (Self.world self.old).cells × (e ≡ Refused.NoCell) × (Self.world self.new ≡ Self.world self.old)) }
         ensures keeps { KeepsShown (Self.shows self.old) (Self.filled self.old) (Self.shows self.new) (Self.filled self.new) };
 
     /// The cell is free, and what it held is retired.
     fn close_cell(&mut self, cell: AtomicOwned<T>)
-        requires seated { IsSeated (seat self.old) }
-        requires home { cells_home cell ≡ (seat self.old).home.cells }
-        ensures seat { seat self.new ≡ seat self.old }
-        ensures own { IsSpilled (own self.old) (own self.new) }
-        ensures known { KnowsOn (known self.old) (known self.new) }
-        ensures exact { IsExact (seat self.old) → world self.new ≡ cell_closed (world self.old) (seat self.old).place (cell_of cell) }
+        requires seated { IsSeated (Self.seat self.old) }
+        requires home { cells_home cell ≡ (Self.seat self.old).home.cells }
+        ensures seat { Self.seat self.new ≡ Self.seat self.old }
+        ensures own { IsSpilled (Self.own self.old) (Self.own self.new) }
+        ensures known { KnowsOn (Self.known self.old) (Self.known self.new) }
+        ensures exact { IsExact (Self.seat self.old) → Self.world self.new ≡ cell_closed (Self.world self.old) (Self.seat self.old).place (cell_of cell) }
         ensures keeps { KeepsShown (Self.shows self.old) (Self.filled self.old) (Self.shows self.new) (Self.filled self.new) };
 
     /// Where only the caller's own calls change the space, what they do is said exactly.
-    ghost alone_is_exact: { (s : Self) → IsTrue is_alone → IsExact (seat s) };
+    ghost alone_is_exact: { (s : Self) → IsTrue is_alone → IsExact (Self.seat s) };
 }

@@ -3,3 +3,4 @@ pub mod Scan
 pub mod Domain
 pub mod Local
 pub mod Receipt
+pub mod Space

@@ -1,9 +1,10 @@
 -- A participant of a domain as its callers see it, and what each call does to it
-use Rattle.std.specs.Prelude.{◌≡◌, ◌≢◌, ◌⊎◌, ℕ, ◌+◌, ◌-◌, ◌^◌, ◌<◌, ◌≤◌, ◌==◌, false, [], if◌then◌else◌}
+use Rattle.std.specs.Prelude.{◌≡◌, ◌≢◌, ◌⊎◌, ℕ, ◌+◌, ◌^◌, ◌<◌, ◌≤◌, false, []}
 use Rattle.atomic_table.specs.Seated.{TableId}
 use Rattle.sdd_base.specs.declared.limits.Limits.{Limits}
 use Rattle.sdd_store.specs.declared.time.Participant.{Participant}
-use Rattle.sdd_store.specs.Time.{newcomer, nested, rotated, settled, counted_down}
+use Rattle.sdd_store.specs.Time.{newcomer, nested}
+use Rattle.sdd_base.specs.Own.{opened_at, closed_with}
 use Rattle.sdd_store.specs.declared.tally.Tally.{Tally}
 use Rattle.sdd_store.specs.Tally.{no_items}
 use Rattle.sdd_rule.specs.declared.EpochView.{EpochView}
@@ -40,13 +41,9 @@ pub record IsNew (domain : TableId) (most : Limits) (m : Member) : Type 0 where
   pub only : IsOnly m → m.known ≡ 0
   pub tally : m.tally ≡ no_items
 
--- the participant finds a count: another than the last one that it found is a change
-abbrev pub caught_up : ℕ → Participant → Participant
-caught_up count p = if p.found == count then p else settled (rotated count p)
-
 -- an outermost opening finds a count, which is at least the greatest that was known; where the participant is the only one it is that one
 pub record IsOpened (count : ℕ) (old new : Member) : Type 0 where
-  pub member : new ≡ record old { own = nested (caught_up count old.own); known = new.since; since = new.since }
+  pub member : new ≡ record old { own = opened_at count [] old.own; known = new.since; since = new.since }
   pub knew : old.known ≤ count
   pub knows : count ≤ new.since
   pub only : IsOnly old → (count ≡ old.known) × (new.since ≡ old.known)
@@ -56,19 +53,13 @@ pub record Opens (old new : Member) : Type 0 where
   pub nested : IsGuarded old → new ≡ record old { own = nested old.own }
   pub outermost : ¬ (IsGuarded old) → (count : ℕ) × IsOpened count old new
 
--- the last guard is closed: at countdown 0 after a scan, which may raise the count; where the participant is the only one the scan does, but at the last count
-pub record IsLeft (old new : Member) : Type 0 where
-  pub member : new ≡ record old { own = record old.own { guards = 0; countdown = counted_down false old.own.countdown }; known = new.known }
-  pub knows : old.known ≤ new.known
-  pub quiet : old.own.countdown ≢ 0 → new.known ≡ old.known
-  pub raised : IsOnly old → old.own.countdown ≡ 0 → old.known + 1 < 2 ^ 64 → new.known ≡ old.known + 1
-  pub last : IsOnly old → old.own.countdown ≡ 0 → old.known + 1 ≡ 2 ^ 64 → new.known ≡ old.known
-
--- a guard is closed; without an open one nothing happens
+-- a guard is closed; without an open one nothing happens. The last close at countdown 0 scans, which may raise the count; where the participant is the only one the scan does, but at the last count
 pub record Closes (old new : Member) : Type 0 where
-  pub none : ¬ (IsGuarded old) → new ≡ old
-  pub inner : 1 < old.own.guards → new ≡ record old { own = record old.own { guards = old.own.guards - 1 } }
-  pub last : old.own.guards ≡ 1 → IsLeft old new
+  pub member : new ≡ record old { own = closed_with false old.own; known = new.known }
+  pub knows : old.known ≤ new.known
+  pub quiet : (old.own.guards ≢ 1) ⊎ (old.own.countdown ≢ 0) → new.known ≡ old.known
+  pub raised : IsOnly old → old.own.guards ≡ 1 → old.own.countdown ≡ 0 → old.known + 1 < 2 ^ 64 → new.known ≡ old.known + 1
+  pub last : IsOnly old → old.own.guards ≡ 1 → old.own.countdown ≡ 0 → old.known + 1 ≡ 2 ^ 64 → new.known ≡ old.known
 
 -- a count that is told is at least the greatest that was known, and known from then on; under a guard it is the one at the guard's publish or the next, and the greatest that was known or the next
 pub record IsTold (count : ℕ) (old new : Member) : Type 0 where

@@ -8,6 +8,7 @@ mod own;
 mod plays;
 pub mod receipt;
 mod scan;
+mod space;
 mod steps;
 #[cfg(test)]
 mod tests;

@@ -3,7 +3,7 @@ ghost use Rattle.sdd_store.specs.Time.{accelerated, has_garbage, with_garbage};
 ghost use Rattle.sdd_rule.specs.Steps.{nobody, registered};
 ghost use Rattle.sdd_domain.specs.Token.{epoch};
 ghost use Rattle.sdd_domain.specs.Domain.{home_of, limits_of};
-ghost use Rattle.sdd_domain.specs.Local.{CanNest, IsGuarded, IsNew, IsOpened, Opens, IsLeft, Closes, IsTold};
+ghost use Rattle.sdd_domain.specs.Local.{CanNest, IsGuarded, IsNew, IsOpened, Opens, Closes, IsTold};
 
 use crate::board::Token;
 use crate::domain::Domain;
@@ -124,7 +124,7 @@ impl<'d> Local<'d> {
     /// Opens one more guard; an outermost one looks at the count.
     ///
     /// `TooManyGuards` where as many are open as may nest.
-    pub fn open_guard(&mut self) -> Result<usize, Refused>
+    pub(crate) fn open_guard(&mut self) -> Result<usize, Refused>
         ensures { MatchResult result
             (λ place. (place ≡ self.old.place) × CanNest self.old × Opens self.old self.new)
             (λ e. (e ≡ Refused.TooManyGuards) × ¬ (CanNest self.old) × (self.new ≡ self.old)) }
@@ -148,12 +148,11 @@ impl<'d> Local<'d> {
         let count = self.count();
         steps::write(self.domain, &mut self.token, self.place, count);
         steps::publish(self.domain, &mut self.token, self.place);
-        own::catch_up(&mut self.own, count);
-        self.own.guards = 1;
+        own::open(&mut self.own, count);
     }
 
     /// Closes a guard; the last one publishes the end, after a scan at countdown 0.
-    pub fn close_guard(&mut self)
+    pub(crate) fn close_guard(&mut self)
         ensures { Closes self.old self.new }
     {
         match self.own.guards {
@@ -166,38 +165,38 @@ impl<'d> Local<'d> {
     /// The last close.
     fn leave(&mut self)
         requires { self.old.own.guards ≡ 1 }
-        ensures { IsLeft self.old self.new }
+        ensures { Closes self.old self.new }
     {
         if self.own.countdown == 0 {
             scan(self.domain, &mut self.token, self.place, self.own.found);
         }
-        own::leave(&mut self.own);
+        own::close(&mut self.own);
         steps::close(self.domain, &mut self.token, self.place);
     }
 
     /// The count of epochs at this moment.
-    pub fn count(&mut self) -> u64
+    pub(crate) fn count(&mut self) -> u64
         ensures { IsTold result self.old self.new }
     {
         steps::read(self.domain, &mut self.token)
     }
 
     /// Something may wait with the participant.
-    pub fn has_garbage(&self) -> bool
+    pub(crate) fn has_garbage(&self) -> bool
         ensures { result ≡ has_garbage self.now.own }
     {
         self.own.countdown != 128
     }
 
     /// Has the participant count down to a scan, as a retirement does.
-    pub fn stir(&mut self)
+    pub(crate) fn stir(&mut self)
         ensures { self.new ≡ record self.old { own = with_garbage self.old.own } }
     {
         own::stir(&mut self.own);
     }
 
     /// Has the last close of the participant scan.
-    pub fn accelerate(&mut self)
+    pub(crate) fn accelerate(&mut self)
         ensures { self.new ≡ record self.old { own = accelerated self.old.own } }
     {
         own::accelerate(&mut self.own);

@@ -1,15 +1,17 @@
 //! What a participant keeps of its own, over the calls of a domain.
 ghost use Rattle.std.specs.Prelude.{◌≡◌, ◌<◌, ◌^◌, false, []};
-ghost use Rattle.sdd_store.specs.Time.{accelerated, counted_down, with_garbage};
-ghost use Rattle.sdd_domain.specs.Local.{caught_up};
+ghost use Rattle.sdd_store.specs.Time.{accelerated, with_garbage};
+ghost use Rattle.sdd_base.specs.Own.{opened_at, closed_with};
 
 use sdd_store::Participant;
 
-/// Finds a count. Nothing waits, so a change leaves nothing to reclaim.
-pub fn catch_up(own: &mut Participant, count: u64)
+/// An outermost opening finds a count. Nothing waits, so a change leaves nothing to reclaim.
+pub fn open(own: &mut Participant, count: u64)
+    requires closed { own.old.guards ≡ 0 }
     requires bare { own.old.bags.waiting ≡ [] }
-    ensures { own.new ≡ caught_up count own.old }
+    ensures { own.new ≡ opened_at count [] own.old }
 {
+    own.guards = 1;
     if own.found != count {
         own.found = count;
         own.countdown = 128;
@@ -32,8 +34,9 @@ pub fn accelerate(own: &mut Participant)
 }
 
 /// The last guard is closed, where no place was marked as ended.
-pub fn leave(own: &mut Participant)
-    ensures { own.new ≡ record own.old { guards = 0; countdown = counted_down false own.old.countdown } }
+pub fn close(own: &mut Participant)
+    requires { own.old.guards ≡ 1 }
+    ensures { own.new ≡ closed_with false own.old }
 {
     own.guards = 0;
     own.countdown = match own.countdown {

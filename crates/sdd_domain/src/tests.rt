@@ -1,10 +1,12 @@
 ghost use Rattle.std.specs.Prelude.{◌≡◌};
+ghost use Rattle.sdd_base.specs.Seat.{IsSeated};
+ghost use Rattle.sdd_base.specs.Guard.{place_of};
+ghost use Rattle.sdd_domain.specs.Space.{seat_of};
 
 use crate::{Domain, Local, Receipt};
-use sdd_base::Limits;
+use sdd_base::{Guard, Limits};
 use sdd_core::Refused;
 use std::process::Abort;
-use std::test::Fail;
 use std::thread::{Threads, join};
 
 const SMALL: Limits = Limits {
@@ -16,38 +18,49 @@ const SMALL: Limits = Limits {
     tries: 1,
 };
 
-/// A guard is opened, shows a count, is accelerated and closed.
-fn accelerated(local: &mut Local<'_>) -> Option<u64>
-    requires { local.old.own.guards ≡ 0 }
-    ensures { local.new.own.guards ≡ 0 }
-{
-    local.open_guard().ok()?;
-    let count = local.count();
-    local.accelerate();
-    local.close_guard();
-    Some(count)
+fn new_domain(rt: &(impl Abort + AllocGlobal), limits: Limits) -> Domain {
+    Domain::new(rt.alloc(), limits).expect(rt, "the limits are in range")
 }
 
-/// Ends a participant that has no guard open.
-fn ended(local: Local<'_>) -> Receipt
-    requires { local.own.guards ≡ 0 }
+fn registered<'d>(rt: &impl Abort, domain: &'d Domain) -> Local<'d>
+    ensures { IsSeated (seat_of result) }
 {
+    Local::register(domain).expect(rt, "a place is free")
+}
+
+fn opened(rt: &impl Abort, local: &mut Local<'_>) -> Guard
+    requires { IsSeated (seat_of local.old) }
+    ensures seat { seat_of local.new ≡ seat_of local.old }
+    ensures place { place_of result ≡ local.old.place }
+{
+    Guard::new::<u64, Local<'_>>(local).expect(rt, "a guard may be opened")
+}
+
+fn close(guard: Guard, local: &mut Local<'_>)
+    requires seat { IsSeated (seat_of local.old) }
+    requires place { place_of guard ≡ local.old.place }
+    ensures { seat_of local.new ≡ seat_of local.old }
+{
+    guard.close::<u64, Local<'_>>(local);
+}
+
+/// Opens, accelerates and closes a guard, and tells which epoch it showed.
+fn accelerated(rt: &impl Abort, local: &mut Local<'_>) -> u8
+    requires { IsSeated (seat_of local.old) }
+    ensures { seat_of local.new ≡ seat_of local.old }
+{
+    let guard = opened(rt, local);
+    let epoch = guard.epoch::<u64, Local<'_>>(local);
+    guard.accelerate::<u64, Local<'_>>(local);
+    close(guard, local);
+    u8::from(epoch)
+}
+
+fn ended(rt: &impl Abort, local: Local<'_>) -> Receipt {
     match local.end() {
         Ok(receipt) => receipt,
-        Err(_local) => unreachable!(),
+        Err(_local) => panic!(rt; "a guard is open"),
     }
-}
-
-/// What a thread does: it registers, runs twenty accelerated guards, and ends.
-fn takes_part(domain: &Domain) -> Option<Receipt> {
-    let mut local = Local::register(domain).ok()?;
-    for _ in 0..20 {
-        if accelerated(&mut local).is_none() {
-            ended(local);
-            return None;
-        }
-    }
-    Some(ended(local))
 }
 
 fn closed(rt: &impl Abort, domain: Domain, receipts: Vec<Receipt>) {
@@ -61,27 +74,32 @@ fn closed(rt: &impl Abort, domain: Domain, receipts: Vec<Receipt>) {
     }
 }
 
+/// What a thread does: it registers, runs twenty accelerated guards, and ends.
+fn takes_part(rt: &impl Abort, domain: &Domain) -> Receipt {
+    let mut local = registered(rt, domain);
+    for _ in 0..20 {
+        accelerated(rt, &mut local);
+    }
+    ended(rt, local)
+}
+
 #[test]
-fn two_threads_and_then_one(rt: HostRuntime) -> Result<(), Fail> {
-    let domain = Domain::new(rt.alloc(), SMALL).expect(&rt, "there is memory");
-    let (first, second) = join(&rt, || takes_part(&domain), || takes_part(&domain));
-    let mut receipts = Vec::with_capacity(rt.alloc(), 3).expect(&rt, "there is memory");
-    receipts
-        .push(first.expect(&rt, "a place was free"))
-        .expect(&rt, "there is room");
-    receipts
-        .push(second.expect(&rt, "a place was free"))
-        .expect(&rt, "there is room");
-    let mut local = Local::register(&domain).expect(&rt, "a place is free");
-    let start = accelerated(&mut local).expect(&rt, "a guard may be opened");
+fn two_threads_and_then_one(rt: HostRuntime) {
+    let domain = new_domain(&rt, SMALL);
+    let (first, second) = join(
+        &rt,
+        || takes_part(&rt, &domain),
+        || takes_part(&rt, &domain),
+    );
+    let mut local = registered(&rt, &domain);
+    let start = accelerated(&rt, &mut local);
     assert!(rt; (1..=40).contains(&start));
     for further in 1..4 {
-        let count = accelerated(&mut local).expect(&rt, "a guard may be opened");
-        assert_eq!(rt; count, start.wrapping_add(further));
+        assert_eq!(rt; accelerated(&rt, &mut local), start.wrapping_add(further));
     }
-    receipts.push(ended(local)).expect(&rt, "there is room");
+    let last = ended(&rt, local);
+    let receipts = vec![in rt.alloc(); first, second, last].expect(&rt, "there is memory");
     closed(&rt, domain, receipts);
-    Ok(())
 }
 
 #[test]
@@ -115,8 +133,10 @@ fn an_ended_place_is_not_free_again(rt: HostRuntime) {
         participants: 1,
         ..SMALL
     };
-    let domain = Domain::new(rt.alloc(), limits).expect(&rt, "there is memory");
-    let receipt = ended(Local::register(&domain).expect(&rt, "a place is free"));
+    let domain = new_domain(&rt, limits);
+    let local = registered(&rt, &domain);
+    assert_eq!(rt; local.tally().made, 0);
+    let receipt = ended(&rt, local);
     assert_eq!(rt; receipt.tally().made, 0);
     match Local::register(&domain) {
         Ok(_local) => panic!(rt; "the place has ended"),
@@ -128,75 +148,54 @@ fn an_ended_place_is_not_free_again(rt: HostRuntime) {
 
 #[test]
 fn a_participant_with_a_guard_open_does_not_end(rt: HostRuntime) {
-    let domain = Domain::new(rt.alloc(), SMALL).expect(&rt, "there is memory");
-    let mut local = Local::register(&domain).expect(&rt, "a place is free");
-    assert_eq!(rt; local.open_guard(), Ok(0));
-    assert_eq!(rt; local.open_guard(), Ok(0));
-    assert_eq!(rt; local.open_guard(), Err(Refused::TooManyGuards));
-    local.close_guard();
+    let domain = new_domain(&rt, SMALL);
+    let mut local = registered(&rt, &domain);
+    let outer = opened(&rt, &mut local);
+    let inner = opened(&rt, &mut local);
+    match Guard::new::<u64, Local<'_>>(&mut local) {
+        Ok(_guard) => panic!(rt; "two guards are open"),
+        Err(refused) => assert_eq!(rt; refused, Refused::TooManyGuards),
+    }
+    close(inner, &mut local);
     let Err(mut local) = local.end() else {
         panic!(rt; "a guard is open")
     };
-    assert_eq!(rt; local.tally().made, 0);
-    assert!(rt; !local.has_garbage());
-    local.stir();
-    assert!(rt; local.has_garbage());
-    local.close_guard();
-    let receipts = vec![in rt.alloc(); ended(local)].expect(&rt, "there is memory");
+    assert!(rt; !outer.has_garbage::<u64, Local<'_>>(&local));
+    outer.set_has_garbage::<u64, Local<'_>>(&mut local);
+    assert!(rt; outer.has_garbage::<u64, Local<'_>>(&local));
+    close(outer, &mut local);
+    let receipts = vec![in rt.alloc(); ended(&rt, local)].expect(&rt, "there is memory");
     closed(&rt, domain, receipts);
 }
 
 #[test]
 fn an_open_guard_holds_the_count(rt: HostRuntime) {
-    let domain = Domain::new(rt.alloc(), SMALL).expect(&rt, "there is memory");
-    let mut still = Local::register(&domain).expect(&rt, "a place is free");
-    let mut busy = Local::register(&domain).expect(&rt, "a place is free");
-    assert!(rt; still.open_guard().is_ok());
+    let domain = new_domain(&rt, SMALL);
+    let mut still = registered(&rt, &domain);
+    let mut busy = registered(&rt, &domain);
+    let guard = opened(&rt, &mut still);
     for shown in [0, 1, 1, 1] {
-        assert_eq!(rt; accelerated(&mut busy), Some(shown));
+        assert_eq!(rt; accelerated(&rt, &mut busy), shown);
     }
-    assert_eq!(rt; still.count(), 1);
-    still.close_guard();
+    assert_eq!(rt; u8::from(guard.epoch::<u64, Local<'_>>(&mut still)), 1);
+    close(guard, &mut still);
     for shown in [1, 2, 3] {
-        assert_eq!(rt; accelerated(&mut busy), Some(shown));
+        assert_eq!(rt; accelerated(&rt, &mut busy), shown);
     }
-    let receipts = vec![in rt.alloc(); ended(still), ended(busy)].expect(&rt, "there is memory");
-    closed(&rt, domain, receipts);
-}
-
-/// Guards that are opened and closed show this count.
-fn shows(rt: &impl Abort, local: &mut Local<'_>, times: u64, count: u64)
-    requires { local.old.own.guards ≡ 0 }
-    ensures { local.new.own.guards ≡ 0 }
-{
-    for _ in 0..times {
-        assert!(rt; local.open_guard().is_ok());
-        assert_eq!(rt; local.count(), count);
-        local.close_guard();
-    }
-}
-
-#[test]
-fn every_128th_close_scans_while_there_is_garbage(rt: HostRuntime) {
-    let domain = Domain::new(rt.alloc(), SMALL).expect(&rt, "there is memory");
-    let mut local = Local::register(&domain).expect(&rt, "a place is free");
-    shows(&rt, &mut local, 200, 0);
-    local.stir();
-    shows(&rt, &mut local, 128, 0);
-    shows(&rt, &mut local, 200, 1);
-    assert!(rt; !local.has_garbage());
-    let receipts = vec![in rt.alloc(); ended(local)].expect(&rt, "there is memory");
+    let receipts = vec![in rt.alloc(); ended(&rt, still), ended(&rt, busy)].expect(
+        &rt,
+        "there is memory",
+    );
     closed(&rt, domain, receipts);
 }
 
 #[test]
 fn only_want_of_memory_refuses(rt: HostRuntime) {
-    let made = Domain::new(rt.alloc(), SMALL);
-    match made {
+    match Domain::new(rt.alloc(), SMALL) {
         Ok(domain) => {
             match Local::register(&domain) {
                 Ok(local) => {
-                    ended(local);
+                    ended(&rt, local);
                 }
                 Err(refused) => assert_eq!(rt; refused, Refused::NoMemory),
             }

@@ -1,5 +1,5 @@
 -- What the steps of a test leave as it is
-use Rattle.std.specs.Prelude.{ℕ, ◌≡◌, length}
+use Rattle.std.specs.Prelude.{◌≡◌, length}
 use Rattle.sdd_base.specs.World.{World}
 
 -- the same home, and as many participants

@@ -1,5 +1,5 @@
 -- What a value holds
-use Rattle.std.specs.Prelude.{ℕ, List, [], ◌∷◌}
+use Rattle.std.specs.Prelude.{List, [], ◌∷◌}
 use Rattle.sdd_base.specs.Owned.{holding_of}
 use Rattle.sdd_base.specs.Holding.{Holding}
 use Rattle.sdd_rows.specs.declared.value.Value.{Value, out-Value}

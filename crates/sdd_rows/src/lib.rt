@@ -2,6 +2,8 @@
 #![tactic(auto)]
 
 #[cfg(test)]
+mod guards;
+#[cfg(test)]
 mod limits_and_memory;
 #[cfg(test)]
 mod nested_values;

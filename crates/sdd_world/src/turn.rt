@@ -11,7 +11,7 @@ ghost use Rattle.sdd_base.specs.Own.{IsSpilled};
 ghost use Rattle.sdd_base.specs.Known.{KnowsOn};
 
 use crate::world::{Place, World};
-use sdd_base::{AtomicOwned, Guard, Item, Look, Owned, Ptr, Space, inner};
+use sdd_base::{AtomicOwned, Guard, Guards, Item, Look, Owned, Ptr, Shows, Space, inner};
 use sdd_core::Refused;
 use sdd_token::Right;
 
@@ -44,7 +44,7 @@ impl<T: Item<T>> World<T> {
     }
 }
 
-impl<T: Item<T>> Look<T> for World<T> {
+impl<T: Item<T>> Shows<T> for World<T> {
     ghost use Rattle.std.specs.Prelude.{◌≡◌, Some, IsSome};
     ghost use Rattle.sdd_base.specs.World.{standing_at, value_at};
 
@@ -53,7 +53,9 @@ impl<T: Item<T>> Look<T> for World<T> {
     ghost shows = { λ w k value. value_at w k ≡ Some value };
 
     ghost filled = { λ w k. IsSome (standing_at w k) };
+}
 
+impl<T: Item<T>> Look<T> for World<T> {
     fn value<'a>(&'a self, right: &'a Right) -> &'a T {
         World::value(self, right)
     }
@@ -71,7 +73,7 @@ impl<T: Item<T>> Look<T> for World<T> {
     }
 }
 
-impl<T: Item<T>> Look<T> for Turn<'_, T> {
+impl<T: Item<T>> Shows<T> for Turn<'_, T> {
     ghost use Rattle.std.specs.Prelude.{◌≡◌, Some, IsSome};
     ghost use Rattle.sdd_base.specs.World.{standing_at, value_at};
 
@@ -80,7 +82,9 @@ impl<T: Item<T>> Look<T> for Turn<'_, T> {
     ghost shows = { λ t k value. value_at t.world.now k ≡ Some value };
 
     ghost filled = { λ t k. IsSome (standing_at t.world.now k) };
+}
 
+impl<T: Item<T>> Look<T> for Turn<'_, T> {
     fn value<'a>(&'a self, right: &'a Right) -> &'a T {
         self.world.value(right)
     }
@@ -98,14 +102,9 @@ impl<T: Item<T>> Look<T> for Turn<'_, T> {
     }
 }
 
-impl<T: Item<T>> Space<T> for Turn<'_, T> {
-    ghost use Rattle.std.specs.Prelude.{true};
+impl<T: Item<T>> Guards<T> for Turn<'_, T> {
     ghost use Rattle.sdd_base.specs.Seat.{seat_on};
     ghost use Rattle.sdd_base.specs.World.{place_at};
-
-    const ALONE: bool = true;
-
-    ghost is_alone = { true };
 
     ghost seat = { λ t. seat_on t.world.now t.place t.world.ghost_name };
 
@@ -142,6 +141,14 @@ impl<T: Item<T>> Space<T> for Turn<'_, T> {
     fn accelerate(&mut self) {
         self.world.accelerate(self.place);
     }
+}
+
+impl<T: Item<T>> Space<T> for Turn<'_, T> {
+    ghost use Rattle.std.specs.Prelude.{true};
+
+    const ALONE: bool = true;
+
+    ghost is_alone = { true };
 
     fn make(&mut self, value: T) -> Result<Owned<T>, (T, Refused)> {
         match self.world.make(value) {

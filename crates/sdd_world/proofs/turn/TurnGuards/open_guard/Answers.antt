@@ -2,7 +2,7 @@ use Rattle.std.proofs.Common.{ℕ, refl, arith}
 use Rattle.sdd_store.specs.Time.{is_open}
 use Rattle.sdd_base.specs.World.{place_at}
 use Rattle.sdd_world.proofs.Own.{opens}
-use Rattle.sdd_world.proofs.turn.TurnSpace.open_guard.Goals as goal
+use Rattle.sdd_world.proofs.turn.TurnGuards.open_guard.Goals as goal
 
 pub returns-clause-own : goal.returns-clause-own
 returns-clause-own g c =

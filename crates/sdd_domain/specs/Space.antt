@@ -1,0 +1,22 @@
+-- A participant of a domain as the generic calls see it
+use Rattle.std.specs.Prelude.{◌==◌, [], false}
+use Rattle.sdd_store.specs.Tally.{no_items}
+use Rattle.sdd_base.specs.Holding.{Home}
+use Rattle.sdd_base.specs.Known.{Known}
+use Rattle.sdd_base.specs.Seat.{Seat}
+use Rattle.sdd_base.specs.World.{World}
+use Rattle.sdd_domain.specs.Local.{Member}
+
+-- where there are no slots and no cells
+abbrev pub nowhere : Home
+nowhere = record { slots = record { name = 0; size = 0 }; cells = record { name = 0; size = 0 } }
+
+abbrev pub seat_of : Member → Seat
+seat_of m = record { place = m.place; places = m.limits.participants; loan = 0; home = nowhere; nesting = m.limits.nesting; exact = false; lone = m.limits.participants == 1 }
+
+abbrev pub known_of : Member → Known
+known_of m = record { told = m.known; since = m.since }
+
+-- nothing is said of the world of a participant that isn't alone
+abbrev pub no_world : {T : Type 0} → World T
+no_world = record { home = nowhere; time = record { count = 0; marked = false; places = []; participants = 0; nesting = 0; room = 0 }; standings = []; values = []; cells = []; tally = no_items }

@@ -1,0 +1,50 @@
+//! A participant as the generic calls of guards have it.
+use crate::local::Local;
+use sdd_base::{Guards, Item, Shows};
+use sdd_core::Refused;
+
+impl<T: Item<T>> Shows<T> for Local<'_> {
+    ghost use Rattle.sdd_domain.specs.Space.{nowhere};
+
+    ghost home = { λ _. nowhere };
+
+    ghost shows = { λ _ _ _. ⊥ };
+
+    ghost filled = { λ _ _. ⊥ };
+}
+
+impl<T: Item<T>> Guards<T> for Local<'_> {
+    ghost use Rattle.sdd_domain.specs.Space.{seat_of, known_of, no_world};
+
+    ghost seat = { λ l. seat_of l };
+
+    ghost own = { λ l. l.own };
+
+    ghost known = { λ l. known_of l };
+
+    ghost world = { λ _. no_world };
+
+    fn open_guard(&mut self) -> Result<usize, Refused> {
+        Local::open_guard(self)
+    }
+
+    fn close_guard(&mut self) {
+        Local::close_guard(self);
+    }
+
+    fn count(&mut self) -> u64 {
+        Local::count(self)
+    }
+
+    fn has_garbage(&self) -> bool {
+        Local::has_garbage(self)
+    }
+
+    fn stir(&mut self) {
+        Local::stir(self);
+    }
+
+    fn accelerate(&mut self) {
+        Local::accelerate(self);
+    }
+}
