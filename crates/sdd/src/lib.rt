@@ -7,8 +7,11 @@ pub use script::{
     Action, Answer, Call, Ended, Fault, GuardName, ItemName, JobName, Names, OwnerName, PlaceName,
     Reader, Reply, Scene, Sink, Source, Writer, play, run,
 };
-pub use sdd_base::{AtomicOwned, Giver, Guard, Item, Limits, Look, Owned, Ptr, Space};
+pub use sdd_base::{
+    AtomicOwned, Giver, Guard, Guards, Item, Limits, Look, Owned, Ptr, Shows, Space,
+};
 pub use sdd_core::machine::{Did, Machine, Step, safety};
 pub use sdd_core::{Epoch, Refused, Tag};
+pub use sdd_domain::{Domain, Local, Receipt};
 pub use sdd_store::Tally;
 pub use sdd_world::{Place, Turn, World};
