@@ -170,7 +170,8 @@ impl<'d> Local<'d> {
         if self.own.countdown == 0 {
             scan(self.domain, &mut self.token, self.place, self.own.found);
         }
-        own::close(&mut self.own);
+        // No place is marked as ended yet.
+        self.own.leave(false);
         steps::close(self.domain, &mut self.token, self.place);
     }
 
@@ -192,13 +193,13 @@ impl<'d> Local<'d> {
     pub(crate) fn stir(&mut self)
         ensures { self.new ≡ record self.old { own = with_garbage self.old.own } }
     {
-        own::stir(&mut self.own);
+        self.own.stir();
     }
 
     /// Has the last close of the participant scan.
     pub(crate) fn accelerate(&mut self)
         ensures { self.new ≡ record self.old { own = accelerated self.old.own } }
     {
-        own::accelerate(&mut self.own);
+        self.own.countdown = 0;
     }
 }

@@ -1,7 +1,6 @@
 //! What a participant keeps of its own, over the calls of a domain.
-ghost use Rattle.std.specs.Prelude.{◌≡◌, ◌<◌, ◌^◌, false, []};
-ghost use Rattle.sdd_store.specs.Time.{accelerated, with_garbage};
-ghost use Rattle.sdd_base.specs.Own.{opened_at, closed_with};
+ghost use Rattle.std.specs.Prelude.{◌≡◌, []};
+ghost use Rattle.sdd_base.specs.Own.{opened_at};
 
 use sdd_store::Participant;
 
@@ -16,32 +15,4 @@ pub fn open(own: &mut Participant, count: u64)
         own.found = count;
         own.countdown = 128;
     }
-}
-
-/// Something may wait.
-pub fn stir(own: &mut Participant)
-    ensures { own.new ≡ with_garbage own.old }
-{
-    if own.countdown == 128 {
-        own.countdown = 127;
-    }
-}
-
-pub fn accelerate(own: &mut Participant)
-    ensures { own.new ≡ accelerated own.old }
-{
-    own.countdown = 0;
-}
-
-/// The last guard is closed, where no place was marked as ended.
-pub fn close(own: &mut Participant)
-    requires { own.old.guards ≡ 1 }
-    ensures { own.new ≡ closed_with false own.old }
-{
-    own.guards = 0;
-    own.countdown = match own.countdown {
-        0 => 127,
-        128 => 128,
-        countdown => countdown - 1,
-    };
 }

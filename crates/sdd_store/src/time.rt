@@ -63,7 +63,8 @@ impl Model for Time {
 }
 
 impl Participant {
-    fn stir(&mut self)
+    /// There is garbage from now on.
+    pub fn stir(&mut self)
         ensures { self.new ≡ with_garbage self.old }
     {
         if self.countdown == 128 {
@@ -91,8 +92,8 @@ impl Participant {
         self.guards == 0 || self.found == count
     }
 
-    /// The last guard is closed.
-    fn leave(&mut self, marked: bool)
+    /// The last guard is closed; the ended mark is as it was found.
+    pub fn leave(&mut self, marked: bool)
         ensures { self.new ≡ record self.old { guards = 0; countdown = counted_down marked self.old.countdown } }
     {
         self.guards = 0;
