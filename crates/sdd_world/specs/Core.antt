@@ -1,5 +1,5 @@
 -- What the parts of a world keep true of each other
-use Rattle.std.specs.Prelude.{ℕ, ◌+◌, ◌≤◌, ◌≡◌, ◌⊎◌, false, List, [], ◌∷◌, length, map, is_some, None, sum_by, count_by}
+use Rattle.std.specs.Prelude.{ℕ, ◌+◌, ◌≤◌, ◌≡◌, ◌⊎◌, List, [], ◌∷◌, length, map, is_some, None, sum_by, count_by}
 use Rattle.sdd_store.specs.Waiting.{What, Waiting}
 use Rattle.sdd_store.specs.Waiting.What.{Item, Private, Job}
 use Rattle.sdd_store.specs.declared.time.Participant.{Participant}
@@ -7,10 +7,7 @@ use Rattle.sdd_store.specs.Time.{Time}
 use Rattle.sdd_store.specs.Table.{entry_at}
 use Rattle.sdd_slots.specs.Slots.{Slots, IsWaiting}
 use Rattle.sdd_slots.specs.Cells.{Cells}
-use Rattle.sdd_token.specs.Units as token
-use Rattle.sdd_base.specs.Seat.{Seat}
 use Rattle.sdd_base.specs.Holding.{Holding, ValuesAreOf}
-use Rattle.sdd_store.specs.Tally.{no_items}
 use Rattle.sdd_base.specs.World.{World, waiting_count, is_loose, place_at, standing_at}
 use Rattle.sdd_base.specs.Steps.{held_in}
 
