@@ -1,5 +1,3 @@
-pub mod Weights
-pub mod Own
 pub mod Shown
 pub mod Whole
 pub mod Closing

@@ -1,0 +1,637 @@
+-- What is always true of a world is true after each step
+use Rattle.std.proofs.Common.{zero-add, subst, ◌≡◌, ◌≢◌, ◌⊎◌, inl, inr, ℕ, ◌+◌, ◌<◌, ◌≤◌, List, [], ◌∷◌, ◌++◌, length, cond, Bool, refl, sym, ap, ◌∙◌, arith, true, false, Some, None, nat_lt, Option, map, zero, suc, slice_index_or, slice_set, IsTrue, sum_by, count_by}
+use Rattle.std.specs.Prelude.{◌==◌, ◌&&◌, ◌-◌, ◌^◌, is_some, if◌then◌else◌, All, min, not}
+use Rattle.std.proofs.Math.ListN.{get_or-map, get_or-append}
+use Rattle.std.proofs.Math.Seq.{map-set_same}
+use Rattle.std.proofs.lemmas.List.{length-set, get_or-set_same, get_or-set_other, get_or_past, map-set, set-set}
+use Rattle.std.proofs.lemmas.List.Sums.{sum_by-set, sum_by-append, sum_by-cons}
+use Rattle.std.proofs.lemmas.List.Elements.{All-push, All-nil, All-weaker, filter_passes}
+use Rattle.std.specs.List.{list_all}
+use Rattle.std.proofs.lemmas.Bool.Decides.{nat_tests}
+use Rattle.sdd_store.specs.Waiting.{What, Waiting, fresh, aged, left, due, older, is_due}
+use Rattle.sdd_store.specs.Waiting.What.{Item, Private, Job}
+use Rattle.sdd_store.specs.Bags.{Bags}
+use Rattle.sdd_store.specs.Time.{Time, with_place, nobody, newcomer, due_next, is_open, passes, last_count, stirred, counted_down, pace_of}
+use Rattle.sdd_store.specs.Time as time
+use Rattle.sdd_store.specs.Table.{entry_at, without_entry}
+use Rattle.sdd_store.specs.Tally.{one_made, one_reclaimed}
+use Rattle.sdd_store.specs.declared.tally.Tally.{Tally}
+use Rattle.sdd_store.specs.declared.time.Participant.{Participant}
+use Rattle.sdd_store.specs.declared.time.Pace.{Pace}
+use Rattle.sdd_store.specs.declared.standing.Standing.{Standing}
+use Rattle.sdd_store.specs.declared.standing.Standing.TheVariants.{Owned, Raw, Shared, Retired, Private as privately}
+use Rattle.sdd_slots.specs.Slots.{is_waiting, IsWaiting}
+use Rattle.sdd_base.specs.World.{World, standing_at, value_at, place_at}
+use Rattle.sdd_base.specs.Steps.{made, retired, spilled, cell_closed, held_in, owner_given, given, given_all, freed, taken_out, waiting_value, slot_reclaimed, reclaimed, all_reclaimed, changed}
+use Rattle.sdd_base.specs.Steps as steps
+use Rattle.sdd_base.specs.Holding.{Holding, owned, atomic_owned}
+use Rattle.sdd_base.specs.Whole.{is_of_slot, times_with, once_if, times_waiting, taken, IsAbreast, IsCounted, IsWhole}
+use Rattle.sdd_base.specs.Own.{all_awaiting}
+use Rattle.sdd_base.proofs.Own.{Gives-range, Gives-given, Gives-reclaimed, Gives-all_reclaimed, changes}
+use Rattle.sdd_base.proofs.Weights.{in_range}
+
+same-or-not-suc : (j k : ℕ) → (j ≡ k) ⊎ (j ≢ k) → (suc j ≡ suc k) ⊎ (suc j ≢ suc k)
+same-or-not-suc j k (inl e) = inl (ap suc e)
+same-or-not-suc j k (inr h) = inr (λ e. h (omega (arith, e)))
+
+pub same-or-not : (j k : ℕ) → (j ≡ k) ⊎ (j ≢ k)
+same-or-not zero zero = inl refl
+same-or-not zero (suc k) = inr (λ e. absurd (omega (arith, e)))
+same-or-not (suc j) zero = inr (λ e. absurd (omega (arith, e)))
+same-or-not (suc j) (suc k) = same-or-not-suc j k (same-or-not j k)
+
+abbrev pub one_where : Bool → ℕ
+one_where b = cond b 1 0
+
+pub count-cons : {X : Type 0} (p : X → Bool) (x : X) (xs : List X) → count_by p (x ∷ xs) ≡ cond (p x) 1 0 + count_by p xs
+count-cons p x xs = sum_by-cons (λ x. cond (p x) 1 0) x xs
+
+-- how often a slot's item is among these
+abbrev pub times_among : ℕ → List What → ℕ
+times_among k xs = count_by (is_of_slot k) xs
+
+abbrev pub times_listed : ℕ → List Waiting → ℕ
+times_listed k ws = count_by (λ (w : Waiting). is_of_slot k w.what) ws
+
+-- so much waits, and these are to be reclaimed yet
+pub record IsWholeBut {T : Type 0} (xs : List What) (w : World T) : Type 0 where
+  pub filled : map is_some w.values ≡ map is_some w.standings
+  pub once : (k : ℕ) → times_waiting w k + times_among k xs ≡ once_if (is_waiting (standing_at w k))
+  pub abreast : (p : ℕ) → IsAbreast w.time.count (place_at w p)
+  pub counted : IsCounted w.tally (taken w)
+
+-- one place changes
+pub times-place : (t : Time) (p k : ℕ) (x : Participant) → p < length t.places →
+    sum_by (times_with k) (with_place t p x).places + times_with k (time.place_at t p) ≡ sum_by (times_with k) t.places + times_with k x
+times-place t p k x l = sum_by-set (times_with k) t.places p x nobody l
+
+pub times-same : (t : Time) (p k : ℕ) (x : Participant) → p < length t.places → x.bags.waiting ≡ (time.place_at t p).bags.waiting →
+    sum_by (times_with k) (with_place t p x).places ≡ sum_by (times_with k) t.places
+times-same t p k x l e =
+    let same : times_with k x ≡ times_with k (time.place_at t p) = ap (λ (ws : List Waiting). count_by (λ (w : Waiting). is_of_slot k w.what) ws) e in
+    omega (arith, times-place t p k x l, same)
+
+abreast-at : (t : Time) (count p q : ℕ) (x : Participant) → p < length t.places → IsAbreast count x → ((r : ℕ) → IsAbreast count (time.place_at t r)) → (q ≡ p) ⊎ (q ≢ p) →
+    IsAbreast count (time.place_at (with_place t p x) q)
+abreast-at t count p q x l a all (inl e) = rw (e, get_or-set_same t.places p x nobody l) a
+abreast-at t count p q x l a all (inr apart) = rw (get_or-set_other t.places p q x nobody apart) (all q)
+
+pub abreast-place : (t : Time) (count p : ℕ) (x : Participant) → p < length t.places → IsAbreast count x → ((r : ℕ) → IsAbreast count (time.place_at t r)) →
+    (q : ℕ) → IsAbreast count (time.place_at (with_place t p x) q)
+abreast-place t count p x l a all q = abreast-at t count p q x l a all (same-or-not q p)
+
+-- an item begins to wait
+stirred-bound : (d : ℕ) → d ≤ 128 → (b : Bool) → (d == 128) ≡ b → stirred d ≤ 127
+stirred-bound d h true e = rw e (omega arith)
+stirred-bound d h false e = let apart : d ≢ 128 = grind (arith, nat_tests, e) in rw e (omega arith)
+
+pub abreast-awaiting : (count k : ℕ) (x : Participant) → IsAbreast count x → IsAbreast count (time.awaiting (Item k) x)
+abreast-awaiting count k x a =
+    let low : stirred x.countdown ≤ 127 = stirred-bound x.countdown a.countdown (x.countdown == 128) refl in
+    record {
+      found = a.found;
+      near = a.near;
+      young = All-push (λ (w : Waiting). w.seen ≤ 2) x.bags.waiting (fresh (Item k)) a.young (omega arith);
+      countdown = omega arith;
+      quiet = λ e. absurd (omega (arith, e, low));
+    }
+
+pub times-awaiting : (j k : ℕ) (x : Participant) → times_with j (time.awaiting (Item k) x) ≡ times_with j x + cond (k == j) 1 0
+times-awaiting j k x =
+    sum_by-append (λ (w : Waiting). cond (is_of_slot j w.what) 1 0) x.bags.waiting (fresh (Item k) ∷ [])
+    ∙ ap (λ n. times_with j x + n) (zero-add (cond (k == j) 1 0))
+
+passes-young : (w : Waiting) → not (is_due w) ≡ true → w.seen ≤ 2
+passes-young w e = grind (arith, nat_tests, e)
+
+left-young : (ws : List Waiting) → All (λ (w : Waiting). w.seen ≤ 2) (left (aged ws))
+left-young ws =
+    All-weaker (λ (w : Waiting). not (is_due w) ≡ true) (λ (w : Waiting). w.seen ≤ 2) passes-young (left (aged ws)) (filter_passes (λ (w : Waiting). not (is_due w)) (aged ws))
+
+-- after a change, what waited is left or due
+times-aged-cons : (k : ℕ) (w : Waiting) (ws : List Waiting) → times_listed k (left (aged ws)) + times_among k (due (aged ws)) ≡ times_listed k ws →
+    (b : Bool) → is_due (older w) ≡ b → times_listed k (left (aged (w ∷ ws))) + times_among k (due (aged (w ∷ ws))) ≡ times_listed k (w ∷ ws)
+times-aged-cons k w ws h true e =
+    let all = count-cons (λ (w : Waiting). is_of_slot k w.what) w ws in
+    let some = count-cons (is_of_slot k) w.what (due (aged ws)) in
+    rw e (omega (arith, h, all, some))
+times-aged-cons k w ws h false e =
+    let all = count-cons (λ (w : Waiting). is_of_slot k w.what) w ws in
+    let some = count-cons (λ (w : Waiting). is_of_slot k w.what) (older w) (left (aged ws)) in
+    rw e (omega (arith, h, all, some))
+
+pub times-aged : (k : ℕ) (ws : List Waiting) → times_listed k (left (aged ws)) + times_among k (due (aged ws)) ≡ times_listed k ws
+times-aged k [] = refl
+times-aged k (w ∷ ws) = times-aged-cons k w ws (times-aged k ws) (is_due (older w)) refl
+
+-- a change, before and after what is due is reclaimed
+abreast-rotated : (count : ℕ) (x : Participant) → x.countdown ≤ 128 → (x.countdown ≡ 128 → x.bags.waiting ≡ []) → IsAbreast count (time.rotated count x)
+abreast-rotated count x low quiet =
+    record {
+      found = omega arith;
+      near = λ _. omega arith;
+      young = left-young x.bags.waiting;
+      countdown = low;
+      quiet = λ e. ap (λ (ws : List Waiting). left (aged ws)) (quiet e);
+    }
+
+settled-bound : (x : Participant) (ws : List Waiting) → x.bags.waiting ≡ ws → (time.settled x).countdown ≤ 128
+settled-bound x [] e = rw e (omega arith)
+settled-bound x (w ∷ ws) e = rw e (omega arith)
+
+settled-quiet : (x : Participant) (ws : List Waiting) → x.bags.waiting ≡ ws → (time.settled x).countdown ≡ 128 → ws ≡ []
+settled-quiet x [] e h = refl
+settled-quiet x (w ∷ ws) e h = absurd (omega (arith, rw e at h))
+
+abreast-settled : (count : ℕ) (x : Participant) → IsAbreast count x → IsAbreast count (time.settled x)
+abreast-settled count x a =
+    record {
+      found = a.found;
+      near = a.near;
+      young = a.young;
+      countdown = settled-bound x x.bags.waiting refl;
+      quiet = settled-quiet x x.bags.waiting refl;
+    }
+
+-- a slot's standing is set
+set-standing : (ss : List (Option Standing)) (k j : ℕ) (s : Option Standing) → k < length ss → (j ≡ k) ⊎ (j ≢ k) →
+    ((j ≡ k) × (slice_index_or (slice_set ss k s) j None ≡ s)) ⊎ ((j ≢ k) × (slice_index_or (slice_set ss k s) j None ≡ slice_index_or ss j None))
+set-standing ss k j s l (inl e) = inl (e, rw e (get_or-set_same ss k s None l))
+set-standing ss k j s l (inr apart) = inr (apart, get_or-set_other ss k j s None apart)
+
+apart-test : (k j : ℕ) → j ≢ k → (k == j) ≡ false
+apart-test k j apart = grind (arith, nat_tests)
+
+same-test : (k j : ℕ) → j ≡ k → (k == j) ≡ true
+same-test k j e = grind (arith, nat_tests)
+
+some-waits : (s : Option Standing) → is_waiting s ≡ true → is_some s ≡ true
+some-waits None e = absurd (cc)
+some-waits (Some s) e = refl
+
+pub waits-inside : (ss : List (Option Standing)) (k : ℕ) → IsWaiting (slice_index_or ss k None) → k < length ss
+waits-inside [] k h = absurd (cc)
+waits-inside (s ∷ ss) zero h = omega arith
+waits-inside (s ∷ ss) (suc k) h = omega (arith, waits-inside ss k h)
+
+one-reclaimed : (t : Tally) (n m : ℕ) → m + 1 ≡ n → IsCounted t n → IsCounted (one_reclaimed t) m
+one-reclaimed t n m e c = λ room. let all = c room in omega (arith, all, e, room)
+
+all_awaiting-guards : (ks : List ℕ) (x : Participant) → (all_awaiting ks x).guards ≡ x.guards
+all_awaiting-guards [] x = refl
+all_awaiting-guards (k ∷ ks) x = all_awaiting-guards ks (time.awaiting (Item k) x)
+
+one-made : (t : Tally) (n m : ℕ) → m ≡ n + 1 → IsCounted t n → IsCounted (one_made t) m
+one-made t n m e c = λ room. let all = c (omega (arith, room)) in omega (arith, all, e, room)
+
+and-right : (a b : Bool) → (a && b) ≡ true → b ≡ true
+and-right true b e = e
+and-right false b e = absurd (cc)
+
+and-left : (a b : Bool) → (a && b) ≡ true → a ≡ true
+and-left true b e = refl
+and-left false b e = absurd (cc)
+
+-- a scan that passes every place passes each
+pub all-pass : (count : ℕ) (ps : List Participant) (p : ℕ) → list_all (passes count) ps ≡ true → passes count (slice_index_or ps p nobody) ≡ true
+all-pass count [] p e = refl
+all-pass count (x ∷ ps) zero e = and-left (passes count x) (list_all (passes count) ps) e
+all-pass count (x ∷ ps) (suc p) e = all-pass count ps p (and-right (passes count x) (list_all (passes count) ps) e)
+
+passed-found : (count : ℕ) (x : Participant) → IsTrue (is_open x) → (b : Bool) → (x.found == count) ≡ b → passes count x ≡ true → count + 1 ≤ x.found + 1
+passed-found count x o true e h = let same : x.found ≡ count = grind (arith, nat_tests, e) in omega (arith, same)
+passed-found count x o false e h = let never : false ≡ true = rw (o, e) at h in absurd (cc)
+
+passed-near : (count : ℕ) (x : Participant) → IsTrue (is_open x) → passes count x ≡ true → count + 1 ≤ x.found + 1
+passed-near count x o e = passed-found count x o (x.found == count) refl e
+
+counted-bound : (marked : Bool) (d : ℕ) → d ≤ 128 → (zero_test : Bool) → (d == 0) ≡ zero_test → (full : Bool) → (d == 128) ≡ full → counted_down marked d ≤ 128
+counted-bound marked d h true e full f = rw e (omega arith)
+counted-bound true d h false e true f = rw (e, f) (omega arith)
+counted-bound false d h false e true f = rw (e, f) (omega arith)
+counted-bound marked d h false e false f = rw (e, f) (omega arith)
+
+counted-quiet : (marked : Bool) (d : ℕ) → d ≤ 128 → (zero_test : Bool) → (d == 0) ≡ zero_test → (full : Bool) → (d == 128) ≡ full → counted_down marked d ≡ 128 → d ≡ 128
+counted-quiet marked d h true e full f is = absurd (omega (arith, rw e at is))
+counted-quiet marked d h false e true f is = grind (arith, nat_tests, f)
+counted-quiet marked d h false e false f is =
+    let apart : d ≢ 0 = grind (arith, nat_tests, e) in
+    let less : d - 1 ≡ 128 = rw (e, f) at is in
+    omega (arith, less)
+
+-- a scan changes no place
+raised-places : (t : Time) (b : Bool) → (if b then record t { count = t.count + 1 } else t).places ≡ t.places
+raised-places t true = refl
+raised-places t false = refl
+
+scanned-if : (t : Time) (b : Bool) → (if b then time.raised (record t { marked = false }) else t).places ≡ t.places
+scanned-if t true = raised-places (record t { marked = false }) (nat_lt t.count last_count && list_all (passes t.count) t.places)
+scanned-if t false = refl
+
+pub scans-places : (t : Time) (p : ℕ) (b : Bool) → (if b then time.scanned t p else t).places ≡ t.places
+scans-places t p true = scanned-if t ((time.place_at t p).found == t.count)
+scans-places t p false = refl
+
+below-or-past-suc : (p n : ℕ) → (p < n) ⊎ (n ≤ p) → (suc p < suc n) ⊎ (suc n ≤ suc p)
+below-or-past-suc p n (inl l) = inl (omega (arith, l))
+below-or-past-suc p n (inr l) = inr (omega (arith, l))
+
+pub below-or-past : (p n : ℕ) → (p < n) ⊎ (n ≤ p)
+below-or-past p zero = inr (omega arith)
+below-or-past zero (suc n) = inl (omega arith)
+below-or-past (suc p) (suc n) = below-or-past-suc p n (below-or-past p n)
+
+-- who stands behind the others: the last of them, or nobody
+append-last : (ps : List Participant) (x : Participant) (p : ℕ) → length ps ≤ p → (slice_index_or (ps ++ x ∷ []) p nobody ≡ x) ⊎ (slice_index_or (ps ++ x ∷ []) p nobody ≡ nobody)
+append-last [] x zero h = inl refl
+append-last [] x (suc p) h = inr refl
+append-last (y ∷ ps) x zero h = absurd (omega (arith, h))
+append-last (y ∷ ps) x (suc p) h = append-last ps x p (omega (arith, h))
+
+nobody-abreast : (count : ℕ) → IsAbreast count nobody
+nobody-abreast count = record { found = omega arith; near = λ o. absurd (cc); young = All-nil (λ (w : Waiting). w.seen ≤ 2); countdown = omega arith; quiet = λ _. refl }
+
+new-abreast : (count room : ℕ) (x : Participant) → (x ≡ newcomer room) ⊎ (x ≡ nobody) → IsAbreast count x
+new-abreast count room x (inl e) =
+    rw e (record { found = omega arith; near = λ o. absurd (cc); young = All-nil (λ (w : Waiting). w.seen ≤ 2); countdown = omega arith; quiet = λ _. refl })
+new-abreast count room x (inr e) = rw e (nobody-abreast count)
+
+module _ {T : Type 0} where
+  pub filled-there : (w : World T) (k : ℕ) → map is_some w.values ≡ map is_some w.standings → is_some (value_at w k) ≡ is_some (standing_at w k)
+  filled-there w k e = sym (get_or-map is_some w.values k None) ∙ ap (λ (bs : List Bool). slice_index_or bs k false) e ∙ get_or-map is_some w.standings k None
+
+  same-filled : (w : World T) (k : ℕ) (s : Option Standing) → map is_some w.values ≡ map is_some w.standings → is_some s ≡ is_some (standing_at w k) →
+      map is_some w.values ≡ map is_some (slice_set w.standings k s)
+  same-filled w k s e f = e ∙ sym (map-set_same is_some w.standings k s None f)
+
+  set-filled : (w : World T) (k : ℕ) (s : Option Standing) (v : Option T) → map is_some w.values ≡ map is_some w.standings → is_some v ≡ is_some s →
+      map is_some (slice_set w.values k v) ≡ map is_some (slice_set w.standings k s)
+  set-filled w k s v e f =
+      map-set is_some w.values k v
+      ∙ ap (λ (bs : List Bool). slice_set bs k (is_some v)) e
+      ∙ ap (λ (b : Bool). slice_set (map is_some w.standings) k b) f
+      ∙ sym (map-set is_some w.standings k s)
+
+  -- how many slots are taken, where one is set
+  pub set-taken : (w : World T) (k : ℕ) (s : Option Standing) → k < length w.standings →
+      count_by is_some (slice_set w.standings k s) + cond (is_some (standing_at w k)) 1 0 ≡ taken w + cond (is_some s) 1 0
+  set-taken w k s l = sum_by-set (λ (s : Option Standing). cond (is_some s) 1 0) w.standings k s None l
+
+  pub whole-but-nothing : (w : World T) → IsWhole w → IsWholeBut [] w
+  whole-but-nothing w i = record { filled = i.filled; once = λ k. omega (arith, i.once k); abreast = i.abreast; counted = i.counted }
+
+  pub whole-of : (w : World T) → IsWholeBut [] w → IsWhole w
+  whole-of w i = record { filled = i.filled; once = λ k. omega (arith, i.once k); abreast = i.abreast; counted = i.counted }
+
+  -- an item that is out begins to wait
+  retired-times : (w : World T) (p k j : ℕ) → p < length w.time.places → times_waiting (retired w p k) j ≡ times_waiting w j + cond (k == j) 1 0
+  retired-times w p k j l =
+      omega (arith, times-place w.time p j (time.awaiting (Item k) (place_at w p)) l, times-awaiting j k (place_at w p))
+
+  retired-once : (w : World T) (p k j : ℕ) (xs : List What) → p < length w.time.places → standing_at w k ≡ Some Owned → IsWholeBut xs w →
+      ((j ≡ k) × (standing_at (retired w p k) j ≡ Some Retired)) ⊎ ((j ≢ k) × (standing_at (retired w p k) j ≡ standing_at w j)) →
+      times_waiting (retired w p k) j + times_among j xs ≡ once_if (is_waiting (standing_at (retired w p k) j))
+  retired-once w p k j xs l there i (inl (e, s)) =
+      let before : times_waiting w j + times_among j xs ≡ 0 = i.once j ∙ rw (e, there) refl in
+      let more : one_where (k == j) ≡ 1 = rw (same-test k j e) refl in
+      rw s (omega (arith, retired-times w p k j l, before, more))
+  retired-once w p k j xs l there i (inr (apart, s)) =
+      let more : one_where (k == j) ≡ 0 = rw (apart-test k j apart) refl in
+      rw s (omega (arith, retired-times w p k j l, i.once j, more))
+
+  Whole-retired : (w : World T) (p k : ℕ) (xs : List What) → p < length w.time.places → standing_at w k ≡ Some Owned → IsWholeBut xs w → IsWholeBut xs (retired w p k)
+  Whole-retired w p k xs l there i =
+      let inside : k < length w.standings = in_range w.standings k Owned there in
+      let same : taken (retired w p k) ≡ taken w = let c = set-taken w k (Some Retired) inside in let o : one_where (is_some (standing_at w k)) ≡ 1 = rw there refl in omega (arith, c, o) in
+      record {
+        filled = same-filled w k (Some Retired) i.filled (sym (ap is_some there));
+        once = λ j. retired-once w p k j xs l there i (set-standing w.standings k j (Some Retired) inside (same-or-not j k));
+        abreast = abreast-place w.time w.time.count p (time.awaiting (Item k) (place_at w p)) l (abreast-awaiting w.time.count k (place_at w p) (i.abreast p)) i.abreast;
+        counted = rw same i.counted;
+      }
+
+  Whole-owner_given : (w : World T) (p k : ℕ) (xs : List What) (s : Option Standing) → p < length w.time.places → standing_at w k ≡ s → IsWholeBut xs w → IsWholeBut xs (owner_given w p k s)
+  Whole-owner_given w p k xs None l is i = i
+  Whole-owner_given w p k xs (Some Owned) l is i = Whole-retired w p k xs l is i
+  Whole-owner_given w p k xs (Some Raw) l is i = i
+  Whole-owner_given w p k xs (Some (Shared n)) l is i = i
+  Whole-owner_given w p k xs (Some Retired) l is i = i
+  Whole-owner_given w p k xs (Some (privately c)) l is i = i
+
+  Whole-spilled : (w : World T) (p : ℕ) (xs : List What) (held : Option ℕ) → p < length w.time.places → IsWholeBut xs w → IsWholeBut xs (spilled w p held)
+  Whole-spilled w p xs None l i = i
+  Whole-spilled w p xs (Some k) l i = Whole-owner_given w p k xs (standing_at w k) l refl i
+
+  Whole-cell_closed-but : (w : World T) (p c : ℕ) (xs : List What) → p < length w.time.places → IsWholeBut xs w → IsWholeBut xs (cell_closed w p c)
+  Whole-cell_closed-but w p c xs l i =
+      Whole-spilled (record w { cells = without_entry w.cells c }) p xs (held_in (entry_at w.cells c)) l
+      (record { filled = i.filled; once = i.once; abreast = i.abreast; counted = i.counted })
+
+  Whole-given : (w : World T) (p : ℕ) (h : Holding) (xs : List What) → p < length w.time.places → IsWholeBut xs w → IsWholeBut xs (given w p h)
+  Whole-given w p (owned k home) xs l i = Whole-owner_given w p k xs (standing_at w k) l refl i
+  Whole-given w p (atomic_owned c home) xs l i = Whole-cell_closed-but w p c xs l i
+
+  Whole-given_all : (w : World T) (p : ℕ) (hs : List Holding) (xs : List What) → p < length w.time.places → IsWholeBut xs w → IsWholeBut xs (given_all w p hs)
+  Whole-given_all w p [] xs l i = i
+  Whole-given_all w p (h ∷ hs) xs l i = Whole-given_all (given w p h) p hs xs (Gives-range l (Gives-given w p h l)) (Whole-given w p h xs l i)
+
+  -- a slot that waited is free
+  freed-once : (w : World T) (k j : ℕ) (x : What) (xs : List What) → ((j : ℕ) → is_of_slot j x ≡ (k == j)) → is_waiting (standing_at w k) ≡ true → IsWholeBut (x ∷ xs) w →
+      ((j ≡ k) × (standing_at (freed w k) j ≡ None)) ⊎ ((j ≢ k) × (standing_at (freed w k) j ≡ standing_at w j)) →
+      times_waiting w j + times_among j xs ≡ once_if (is_waiting (standing_at (freed w k) j))
+  freed-once w k j x xs of waits i (inl (e, s)) =
+      let before : times_waiting w j + times_among j (x ∷ xs) ≡ 1 = i.once j ∙ rw (e, waits) refl in
+      let here : times_among j (x ∷ xs) ≡ 1 + times_among j xs = count-cons (is_of_slot j) x xs ∙ rw (of j, same-test k j e) refl in
+      rw s (omega (arith, before, here))
+  freed-once w k j x xs of waits i (inr (apart, s)) =
+      let here : times_among j (x ∷ xs) ≡ 0 + times_among j xs = count-cons (is_of_slot j) x xs ∙ rw (of j, apart-test k j apart) refl in
+      rw s (omega (arith, i.once j, here))
+
+  Whole-freed : (w : World T) (k : ℕ) (x : What) (xs : List What) → ((j : ℕ) → is_of_slot j x ≡ (k == j)) → is_waiting (standing_at w k) ≡ true → IsWholeBut (x ∷ xs) w → IsWholeBut xs (freed w k)
+  Whole-freed w k x xs of waits i =
+      let inside : k < length w.standings = waits-inside w.standings k waits in
+      let one : one_where (is_some (standing_at w k)) ≡ 1 = rw (some-waits (standing_at w k) waits) refl in
+      let fewer : taken (freed w k) + 1 ≡ taken w = omega (arith, set-taken w k None inside, one) in
+      record {
+        filled = set-filled w k None None i.filled refl;
+        once = λ j. freed-once w k j x xs of waits i (set-standing w.standings k j None inside (same-or-not j k));
+        abreast = i.abreast;
+        counted = one-reclaimed w.tally (taken w) (taken (freed w k)) fewer i.counted;
+      }
+
+  module _ (holds : T → List Holding) where
+    Whole-value : (w : World T) (p k : ℕ) (x : What) (xs : List What) → p < length w.time.places → ((j : ℕ) → is_of_slot j x ≡ (k == j)) → is_waiting (standing_at w k) ≡ true →
+        IsWholeBut (x ∷ xs) w → (v : Option T) → is_some v ≡ true → IsWholeBut xs (taken_out holds w p k v)
+    Whole-value w p k x xs l of waits i None e = absurd (cc)
+    Whole-value w p k x xs l of waits i (Some v) e = Whole-given_all (freed w k) p (holds v) xs l (Whole-freed w k x xs of waits i)
+
+    -- what is to be reclaimed waits
+    among-waits : (w : World T) (k : ℕ) (x : What) (xs : List What) → ((j : ℕ) → is_of_slot j x ≡ (k == j)) → IsWholeBut (x ∷ xs) w → is_waiting (standing_at w k) ≡ false → ⊥
+    among-waits w k x xs of i idle =
+        let before : times_waiting w k + times_among k (x ∷ xs) ≡ 0 = i.once k ∙ rw idle refl in
+        let here : times_among k (x ∷ xs) ≡ 1 + times_among k xs = count-cons (is_of_slot k) x xs ∙ rw (of k, same-test k k refl) refl in
+        absurd (omega (arith, before, here))
+
+    Whole-standing : (w : World T) (p k : ℕ) (x : What) (xs : List What) → p < length w.time.places → ((j : ℕ) → is_of_slot j x ≡ (k == j)) → (s : Option Standing) → standing_at w k ≡ s →
+        IsWholeBut (x ∷ xs) w → IsWholeBut xs (taken_out holds w p k (waiting_value w k s))
+    Whole-standing w p k x xs l of None is i = absurd (among-waits w k x xs of i (ap is_waiting is))
+    Whole-standing w p k x xs l of (Some Owned) is i = absurd (among-waits w k x xs of i (ap is_waiting is))
+    Whole-standing w p k x xs l of (Some Raw) is i = absurd (among-waits w k x xs of i (ap is_waiting is))
+    Whole-standing w p k x xs l of (Some (Shared n)) is i = absurd (among-waits w k x xs of i (ap is_waiting is))
+    Whole-standing w p k x xs l of (Some Retired) is i = Whole-value w p k x xs l of (ap is_waiting is) i (value_at w k) (filled-there w k i.filled ∙ ap is_some is)
+    Whole-standing w p k x xs l of (Some (privately c)) is i = Whole-value w p k x xs l of (ap is_waiting is) i (value_at w k) (filled-there w k i.filled ∙ ap is_some is)
+
+    Whole-reclaimed : (w : World T) (p : ℕ) (x : What) (xs : List What) → p < length w.time.places → IsWholeBut (x ∷ xs) w → IsWholeBut xs (reclaimed holds w p x)
+    Whole-reclaimed w p (Item k) xs l i = Whole-standing w p k (Item k) xs l (λ j. refl) (standing_at w k) refl i
+    Whole-reclaimed w p (Private k c) xs l i = Whole-standing w p k (Private k c) xs l (λ j. refl) (standing_at w k) refl i
+    Whole-reclaimed w p (Job n) xs l i = record { filled = i.filled; once = λ k. omega (arith, i.once k, count-cons (is_of_slot k) (Job n) xs); abreast = i.abreast; counted = i.counted }
+
+    pub Whole-all_reclaimed : (w : World T) (p : ℕ) (xs : List What) → p < length w.time.places → IsWholeBut xs w → IsWholeBut [] (all_reclaimed holds w p xs)
+    Whole-all_reclaimed w p [] l i = i
+    Whole-all_reclaimed w p (x ∷ xs) l i =
+        Whole-all_reclaimed (reclaimed holds w p x) p xs (Gives-range l (Gives-reclaimed holds w p x l)) (Whole-reclaimed w p x xs l i)
+
+  -- only a place changed, and nothing that waits there
+  Whole-place : (w : World T) (p : ℕ) (x : Participant) → p < length w.time.places → x.bags.waiting ≡ (place_at w p).bags.waiting → IsAbreast w.time.count x → IsWhole w →
+      IsWhole (record w { time = with_place w.time p x })
+  Whole-place w p x l e a i =
+      record {
+        filled = i.filled;
+        once = λ k. times-same w.time p k x l e ∙ i.once k;
+        abreast = abreast-place w.time w.time.count p x l a i.abreast;
+        counted = i.counted;
+      }
+
+  -- one more guard or none, and then a rotation
+  Whole-rotated : (w : World T) (p : ℕ) (x : Participant) → p < length w.time.places → x.bags ≡ (place_at w p).bags → x.countdown ≡ (place_at w p).countdown → IsWhole w →
+      IsWholeBut (due_next x) (record w { time = with_place w.time p (time.rotated w.time.count x) })
+  Whole-rotated w p x l bags pace i =
+      let a = i.abreast p in
+      let listed : (k : ℕ) → times_listed k x.bags.waiting ≡ times_with k (place_at w p) = λ k. ap (λ (b : Bags). times_listed k b.waiting) bags in
+      record {
+        filled = i.filled;
+        once = λ k. omega (arith, i.once k, times-place w.time p k (time.rotated w.time.count x) l, times-aged k x.bags.waiting, listed k);
+        abreast =
+            abreast-place w.time w.time.count p (time.rotated w.time.count x) l
+            (abreast-rotated w.time.count x (omega (arith, a.countdown, pace)) (λ e. ap (λ (b : Bags). b.waiting) bags ∙ a.quiet (sym pace ∙ e)))
+            i.abreast;
+        counted = i.counted;
+      }
+
+  Whole-settles : (holds : T → List Holding) (start : World T) (p : ℕ) (xs : List What) → p < length start.time.places → IsWholeBut xs start →
+      IsWhole (steps.settled (all_reclaimed holds start p xs) p)
+  Whole-settles holds start p xs l i =
+      let end = all_reclaimed holds start p xs in
+      let there = whole-of end (Whole-all_reclaimed holds start p xs l i) in
+      Whole-place end p (time.settled (place_at end p)) (Gives-range l (Gives-all_reclaimed holds start p xs l)) refl (abreast-settled end.time.count (place_at end p) (there.abreast p)) there
+
+  pub Whole-changed : (holds : T → List Holding) (w : World T) (p : ℕ) → p < length w.time.places → IsWhole w → IsWhole (changed holds w p)
+  Whole-changed holds w p l i =
+      let in_start : p < length (steps.rotated w p).time.places = omega (arith, l, length-set w.time.places p (time.rotated w.time.count (place_at w p))) in
+      Whole-settles holds (steps.rotated w p) p (due_next (place_at w p)) in_start (Whole-rotated w p (place_at w p) l refl refl i)
+
+  -- an opening
+  nested-rotated : (w : World T) (p : ℕ) → p < length w.time.places →
+      steps.rotated (steps.nested w p) p ≡ record w { time = with_place w.time p (time.rotated w.time.count (time.nested (place_at w p))) }
+  nested-rotated w p l =
+      ap (λ (x : Participant). record w { time = with_place (with_place w.time p (time.nested (place_at w p))) p (time.rotated w.time.count x) }) (get_or-set_same w.time.places p (time.nested (place_at w p)) nobody l)
+      ∙ ap (λ (ps : List Participant). record w { time = record w.time { places = ps } }) (set-set w.time.places p (time.nested (place_at w p)) (time.rotated w.time.count (time.nested (place_at w p))))
+
+  Whole-changes_nested : (holds : T → List Holding) (w : World T) (p : ℕ) → p < length w.time.places → IsWhole w → IsWhole (changed holds (steps.nested w p) p)
+  Whole-changes_nested holds w p l i =
+      let y : Participant = time.nested (place_at w p) in
+      let here : place_at (steps.nested w p) p ≡ y = get_or-set_same w.time.places p y nobody l in
+      let start = steps.rotated (steps.nested w p) p in
+      let in_start : p < length start.time.places =
+      omega (arith, l, length-set w.time.places p y, length-set (steps.nested w p).time.places p (time.rotated w.time.count (place_at (steps.nested w p) p))) in
+      let from : IsWholeBut (due_next y) start = rw (nested-rotated w p l) (Whole-rotated w p y l refl refl i) in
+      Whole-settles holds start p (due_next (place_at (steps.nested w p) p)) in_start (subst (λ (z : Participant). IsWholeBut (due_next z) start) (sym here) from)
+
+  Whole-nested : (w : World T) (p : ℕ) → p < length w.time.places → w.time.count ≤ (place_at w p).found + 1 → IsWhole w → IsWhole (steps.nested w p)
+  Whole-nested w p l near i =
+      let a = i.abreast p in
+      Whole-place w p (time.nested (place_at w p)) l refl (record { found = a.found; near = λ _. near; young = a.young; countdown = a.countdown; quiet = a.quiet }) i
+
+  Whole-caught_up_if : (holds : T → List Holding) (w : World T) (p : ℕ) → p < length w.time.places → IsWhole w → (b : Bool) → ((place_at w p).found == w.time.count) ≡ b →
+      time.finds_another (steps.nested w p).time p ≡ not b → IsWhole (steps.caught_up holds (steps.nested w p) p)
+  Whole-caught_up_if holds w p l i true e test =
+      let same : (place_at w p).found ≡ w.time.count = grind (arith, nat_tests, e) in
+      rw test (Whole-nested w p l (omega (arith, same)) i)
+  Whole-caught_up_if holds w p l i false e test = rw test (Whole-changes_nested holds w p l i)
+
+  Whole-caught_up : (holds : T → List Holding) (w : World T) (p : ℕ) → p < length w.time.places → IsWhole w → (b : Bool) → ((place_at w p).found == w.time.count) ≡ b →
+      IsWhole (steps.caught_up holds (steps.nested w p) p)
+  Whole-caught_up holds w p l i b e =
+      let here : place_at (steps.nested w p) p ≡ time.nested (place_at w p) = get_or-set_same w.time.places p (time.nested (place_at w p)) nobody l in
+      let test : time.finds_another (steps.nested w p).time p ≡ not b = ap (λ (x : Participant). not (x.found == w.time.count)) here ∙ ap not e in
+      Whole-caught_up_if holds w p l i b e test
+
+  Whole-opened_if : (holds : T → List Holding) (w : World T) (p : ℕ) → p < length w.time.places → IsWhole w → (b : Bool) → is_open (place_at w p) ≡ b → IsWhole (steps.opened holds w p)
+  Whole-opened_if holds w p l i true e = rw e (Whole-nested w p l ((i.abreast p).near e) i)
+  Whole-opened_if holds w p l i false e = rw e (Whole-caught_up holds w p l i ((place_at w p).found == w.time.count) refl)
+
+  pub Whole-opened : (holds : T → List Holding) (w : World T) (p : ℕ) → p < length w.time.places → IsWhole w → IsWhole (steps.opened holds w p)
+  Whole-opened holds w p l i = Whole-opened_if holds w p l i (is_open (place_at w p)) refl
+
+  pub Whole-cell_closed : (w : World T) (p c : ℕ) → p < length w.time.places → IsWhole w → IsWhole (cell_closed w p c)
+  Whole-cell_closed w p c l i = whole-of (cell_closed w p c) (Whole-cell_closed-but w p c [] l (whole-but-nothing w i))
+
+  pub Whole-retires : (w : World T) (p k : ℕ) → p < length w.time.places → standing_at w k ≡ Some Owned → IsWhole w → IsWhole (retired w p k)
+  Whole-retires w p k l there i = whole-of (retired w p k) (Whole-retired w p k [] l there (whole-but-nothing w i))
+
+  pub Whole-nulled : (w : World T) (c : ℕ) → IsWhole w → IsWhole (steps.nulled w c)
+  Whole-nulled w c i = record { filled = i.filled; once = i.once; abreast = i.abreast; counted = i.counted }
+
+  pub Whole-stirred : (w : World T) (p : ℕ) → p < length w.time.places → IsWhole w → IsWhole (steps.stirred w p)
+  Whole-stirred w p l i =
+      let a = i.abreast p in
+      let low : stirred (place_at w p).countdown ≤ 127 = stirred-bound (place_at w p).countdown a.countdown ((place_at w p).countdown == 128) refl in
+      Whole-place w p (time.with_garbage (place_at w p)) l refl
+      (record { found = a.found; near = a.near; young = a.young; countdown = omega arith; quiet = λ e. absurd (omega (arith, e, low)) }) i
+
+  pub Whole-accelerated : (w : World T) (p : ℕ) → p < length w.time.places → IsWhole w → IsWhole (steps.accelerated w p)
+  Whole-accelerated w p l i =
+      let a = i.abreast p in
+      Whole-place w p (time.accelerated (place_at w p)) l refl
+      (record { found = a.found; near = a.near; young = a.young; countdown = omega arith; quiet = λ e. absurd (omega (arith, e)) }) i
+
+  -- a change, after which p has its pace again
+  pub Whole-paced : (w : World T) (p : ℕ) (pace : Pace) → p < length w.time.places → IsAbreast w.time.count (time.paced pace (place_at w p)) → IsWhole w →
+      IsWhole (record w { time = time.paced_at w.time p pace })
+  Whole-paced w p pace l a i = Whole-place w p (time.paced pace (place_at w p)) l refl a i
+
+  pub abreast-paced : (holds : T → List Holding) (w : World T) (p : ℕ) → p < length w.time.places → IsWhole w →
+      IsAbreast (changed holds w p).time.count (time.paced (pace_of (place_at w p)) (place_at (changed holds w p) p))
+  abreast-paced holds w p l i =
+      let a = i.abreast p in
+      let c = changes holds w p l in
+      let after = Whole-changed holds w p l i in
+      let guards : (place_at (changed holds w p) p).guards ≡ (place_at w p).guards = ap (λ (x : Participant). x.guards) c.own ∙ all_awaiting-guards c.slots (time.rotated w.time.count (place_at w p)) in
+      record {
+        found = omega (arith, a.found, c.count);
+        near = λ o. omega (arith, a.near (subst (λ (n : ℕ). IsTrue (nat_lt 0 n)) guards o), c.count);
+        young = (after.abreast p).young;
+        countdown = a.countdown;
+        quiet = λ e.
+            let nothing = a.quiet e in
+            ap (λ (x : Participant). x.bags.waiting) c.own
+            ∙ rw (c.from_due (ap (λ (ws : List Waiting). due (aged ws)) nothing)) (ap (λ (ws : List Waiting). left (aged ws)) nothing);
+      }
+
+  -- a value is put into a free slot
+  made-once : (w : World T) (k j : ℕ) (v : T) → standing_at w k ≡ None → IsWhole w →
+      ((j ≡ k) × (standing_at (made w k v) j ≡ Some Owned)) ⊎ ((j ≢ k) × (standing_at (made w k v) j ≡ standing_at w j)) →
+      times_waiting w j ≡ once_if (is_waiting (standing_at (made w k v) j))
+  made-once w k j v free i (inl (e, s)) = rw s (i.once j ∙ rw (e, free) refl)
+  made-once w k j v free i (inr (apart, s)) = rw s (i.once j)
+
+  pub Whole-made : (w : World T) (k : ℕ) (v : T) → k < length w.standings → standing_at w k ≡ None → IsWhole w → IsWhole (made w k v)
+  Whole-made w k v l free i =
+      let none : one_where (is_some (standing_at w k)) ≡ 0 = rw free refl in
+      let one : taken (made w k v) ≡ taken w + 1 = omega (arith, set-taken w k (Some Owned) l, none) in
+      record {
+        filled = set-filled w k (Some Owned) (Some v) i.filled refl;
+        once = λ j. made-once w k j v free i (set-standing w.standings k j (Some Owned) l (same-or-not j k));
+        abreast = i.abreast;
+        counted = one-made w.tally (taken w) (taken (made w k v)) one i.counted;
+      }
+
+  -- a guard is closed
+  Whole-inner : (w : World T) (p : ℕ) → p < length w.time.places → nat_lt 1 (place_at w p).guards ≡ true → IsWhole w →
+      IsWhole (record w { time = with_place w.time p (record (place_at w p) { guards = (place_at w p).guards - 1 }) })
+  Whole-inner w p l e i =
+      let a = i.abreast p in
+      let two : 1 < (place_at w p).guards = grind (arith, nat_tests, e) in
+      let opened : is_open (place_at w p) ≡ true = grind (arith, nat_tests) in
+      Whole-place w p (record (place_at w p) { guards = (place_at w p).guards - 1 }) l refl
+      (record { found = a.found; near = λ _. a.near opened; young = a.young; countdown = a.countdown; quiet = a.quiet }) i
+
+  -- the count goes on by one: who has a guard open has found the one before
+  Whole-raised : (w : World T) → ((p : ℕ) → passes w.time.count (place_at w p) ≡ true) → IsWhole w → IsWhole (record w { time = record w.time { count = w.time.count + 1 } })
+  Whole-raised w all i =
+      record {
+        filled = i.filled;
+        once = i.once;
+        abreast = λ p. let a = i.abreast p in
+        record {
+          found = omega (arith, a.found);
+          near = λ o. passed-near w.time.count (place_at w p) o (all p);
+          young = a.young;
+          countdown = a.countdown;
+          quiet = a.quiet;
+        };
+        counted = i.counted;
+      }
+
+  Whole-raised_if : (w : World T) (b : Bool) → (nat_lt w.time.count last_count && list_all (passes w.time.count) w.time.places) ≡ b → IsWhole w →
+      IsWhole (record w { time = if b then record w.time { count = w.time.count + 1 } else w.time })
+  Whole-raised_if w true e i = Whole-raised w (λ p. all-pass w.time.count w.time.places p (and-right (nat_lt w.time.count last_count) (list_all (passes w.time.count) w.time.places) e)) i
+  Whole-raised_if w false e i = i
+
+  Whole-unmarked : (w : World T) → IsWhole w → IsWhole (record w { time = record w.time { marked = false } })
+  Whole-unmarked w i = record { filled = i.filled; once = i.once; abreast = i.abreast; counted = i.counted }
+
+  Whole-scanned_if : (w : World T) (b : Bool) → IsWhole w → IsWhole (record w { time = if b then time.raised (record w.time { marked = false }) else w.time })
+  Whole-scanned_if w true i =
+      Whole-raised_if (record w { time = record w.time { marked = false } })
+      (nat_lt w.time.count last_count && list_all (passes w.time.count) w.time.places) refl (Whole-unmarked w i)
+  Whole-scanned_if w false i = i
+
+  Whole-scans_if : (w : World T) (p : ℕ) (b : Bool) → IsWhole w → IsWhole (record w { time = if b then time.scanned w.time p else w.time })
+  Whole-scans_if w p true i = Whole-scanned_if w ((place_at w p).found == w.time.count) i
+  Whole-scans_if w p false i = i
+
+  Whole-left : (w : World T) (p : ℕ) (t : Time) (marked : Bool) → t.places ≡ w.time.places → p < length w.time.places → IsWhole (record w { time = t }) →
+      IsWhole (record w { time = with_place t p (record (place_at w p) { guards = 0; countdown = counted_down marked (place_at w p).countdown }) })
+  Whole-left w p t marked e l i =
+      let u : World T = record w { time = t } in
+      let here : place_at u p ≡ place_at w p = ap (λ (ps : List Participant). slice_index_or ps p nobody) e in
+      let a : IsAbreast t.count (place_at w p) = subst (λ (x : Participant). IsAbreast t.count x) here (i.abreast p) in
+      let inside : p < length t.places = omega (arith, l, ap (λ (ps : List Participant). length ps) e) in
+      Whole-place u p (record (place_at w p) { guards = 0; countdown = counted_down marked (place_at w p).countdown }) inside (ap (λ (x : Participant). x.bags.waiting) (sym here))
+      (record {
+        found = a.found;
+        near = λ o. absurd (cc);
+        young = a.young;
+        countdown = counted-bound marked (place_at w p).countdown a.countdown ((place_at w p).countdown == 0) refl ((place_at w p).countdown == 128) refl;
+        quiet = λ e. a.quiet (counted-quiet marked (place_at w p).countdown a.countdown ((place_at w p).countdown == 0) refl ((place_at w p).countdown == 128) refl e);
+      })
+      i
+
+  Whole-last : (w : World T) (p : ℕ) → p < length w.time.places → IsWhole w → (b : Bool) → IsWhole (record w { time = if b then time.left_by w.time p else w.time })
+  Whole-last w p l i true =
+      let scans = (place_at w p).countdown == 0 in
+      Whole-left w p (if scans then time.scanned w.time p else w.time) w.time.marked (scans-places w.time p scans) l (Whole-scans_if w p scans i)
+  Whole-last w p l i false = i
+
+  Whole-closed-if : (w : World T) (p : ℕ) → p < length w.time.places → IsWhole w → (b : Bool) → nat_lt 1 (place_at w p).guards ≡ b → IsWhole (steps.closed w p)
+  Whole-closed-if w p l i true e = rw e (Whole-inner w p l e i)
+  Whole-closed-if w p l i false e = rw e (Whole-last w p l i (is_open (place_at w p)))
+
+  pub Whole-closed : (w : World T) (p : ℕ) → p < length w.time.places → IsWhole w → IsWhole (steps.closed w p)
+  Whole-closed w p l i = Whole-closed-if w p l i (nat_lt 1 (place_at w p).guards) refl
+
+  -- one place more
+  registered-abreast : (w : World T) (p : ℕ) → IsWhole w → (p < length w.time.places) ⊎ (length w.time.places ≤ p) → IsAbreast w.time.count (place_at (steps.registered w) p)
+  registered-abreast w p i (inl l) = rw (get_or-append w.time.places (newcomer w.time.room ∷ []) nobody p l) (i.abreast p)
+  registered-abreast w p i (inr past) = new-abreast w.time.count w.time.room (place_at (steps.registered w) p) (append-last w.time.places (newcomer w.time.room) p past)
+
+  pub Whole-registered : (w : World T) → IsWhole w → IsWhole (steps.registered w)
+  Whole-registered w i =
+      record {
+        filled = i.filled;
+        once = λ k. sum_by-append (times_with k) w.time.places (newcomer w.time.room ∷ []) ∙ omega (arith, i.once k);
+        abreast = λ p. registered-abreast w p i (below-or-past p (length w.time.places));
+        counted = i.counted;
+      }
+
+  -- where a value was, it is
+  made-value : (w : World T) (k : ℕ) (v : T) → IsWhole w → standing_at w k ≡ None → (j : ℕ) (u : T) → value_at w j ≡ Some u → (j ≡ k) ⊎ (j ≢ k) → value_at (made w k v) j ≡ Some u
+  made-value w k v i free j u h (inr apart) = get_or-set_other w.values k j (Some v) None apart ∙ h
+  made-value w k v i free j u h (inl e) =
+      let some : is_some (value_at w j) ≡ true = ap is_some h in
+      let none : is_some (value_at w k) ≡ false = filled-there w k i.filled ∙ ap is_some free in
+      absurd (cc)
+
+  pub made-keeps : (w : World T) (k : ℕ) (v : T) → IsWhole w → standing_at w k ≡ None → (j : ℕ) (u : T) → value_at w j ≡ Some u → value_at (made w k v) j ≡ Some u
+  made-keeps w k v i free j u h = made-value w k v i free j u h (same-or-not j k)
