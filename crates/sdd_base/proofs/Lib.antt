@@ -1,3 +1,4 @@
 pub mod Own
 pub mod Weights
 pub mod Whole
+pub mod Opening

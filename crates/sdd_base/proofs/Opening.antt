@@ -1,0 +1,264 @@
+-- What an opening makes of each slot and each participant
+use Rattle.std.proofs.Common.{◌≡◌, ◌≢◌, ◌⊎◌, inl, inr, ℕ, ◌+◌, ◌<◌, ◌≤◌, List, [], ◌∷◌, ◌++◌, length, cond, Bool, refl, sym, ap, ◌∙◌, arith, true, false, Some, None, nat_lt, Option, map, zero, suc, slice_index_or, slice_set, IsTrue, sum_by, count_by, subst}
+use Rattle.std.specs.Prelude.{◌==◌, is_some, IsSome, if◌then◌else◌, not, Contains}
+use Rattle.std.proofs.lemmas.List.Elements.{Contains-append_left}
+use Rattle.std.proofs.lemmas.List.{length-set, get_or-set_same, get_or-set_other, get_or_past, set-set}
+use Rattle.std.proofs.lemmas.List.Sums.{sum_by-set}
+use Rattle.std.proofs.lemmas.Bool.Decides.{nat_tests}
+use Rattle.sdd_store.specs.Waiting.{What, Waiting, fresh, having_seen, aged, left, older, is_due}
+use Rattle.sdd_store.specs.Waiting.What.{Item, Private, Job}
+use Rattle.sdd_store.specs.Time.{Time, with_place, nobody, due_next, is_open}
+use Rattle.sdd_store.specs.Time as time
+use Rattle.sdd_store.specs.Table.{entry_at, without_entry}
+use Rattle.sdd_store.specs.declared.time.Participant.{Participant}
+use Rattle.sdd_store.specs.declared.standing.Standing.{Standing}
+use Rattle.sdd_store.specs.declared.standing.Standing.TheVariants.{Owned, Raw, Shared, Retired, Private as privately}
+use Rattle.sdd_slots.specs.Slots.{is_waiting}
+use Rattle.sdd_base.specs.World.{World, standing_at, value_at, place_at}
+use Rattle.sdd_base.specs.Steps.{retired, spilled, cell_closed, held_in, owner_given, given, given_all, freed, taken_out, waiting_value, reclaimed, all_reclaimed, changed, opened, reclaims}
+use Rattle.sdd_base.specs.Steps as steps
+use Rattle.sdd_base.specs.Holding.{Holding, owned, atomic_owned}
+use Rattle.sdd_base.specs.Own.{all_awaiting}
+use Rattle.sdd_base.specs.Whole.{is_of_slot}
+use Rattle.sdd_base.proofs.Own.{Gives-range, Gives-all_reclaimed}
+use Rattle.sdd_base.proofs.Whole.{same-or-not, count-cons, times_among}
+
+-- What is kept by the retirement of an item that is out, and by the freeing of a cell, is kept by all giving.
+module _ {T : Type 0} (p : ℕ) (P : World T → Type 0)
+    (retires : (w : World T) (k : ℕ) → standing_at w k ≡ Some Owned → P w → P (retired w p k))
+    (frees_cell : (w : World T) (c : ℕ) → P w → P (record w { cells = without_entry w.cells c })) where
+  keeps-owner_given : (w : World T) (k : ℕ) (s : Option Standing) → standing_at w k ≡ s → P w → P (owner_given w p k s)
+  keeps-owner_given w k None is i = i
+  keeps-owner_given w k (Some Owned) is i = retires w k is i
+  keeps-owner_given w k (Some Raw) is i = i
+  keeps-owner_given w k (Some (Shared n)) is i = i
+  keeps-owner_given w k (Some Retired) is i = i
+  keeps-owner_given w k (Some (privately c)) is i = i
+
+  keeps-spilled : (w : World T) (held : Option ℕ) → P w → P (spilled w p held)
+  keeps-spilled w None i = i
+  keeps-spilled w (Some k) i = keeps-owner_given w k (standing_at w k) refl i
+
+  pub keeps-cell_closed : (w : World T) (c : ℕ) → P w → P (cell_closed w p c)
+  keeps-cell_closed w c i = keeps-spilled (record w { cells = without_entry w.cells c }) (held_in (entry_at w.cells c)) (frees_cell w c i)
+
+  pub keeps-given : (w : World T) (h : Holding) → P w → P (given w p h)
+  keeps-given w (owned k home) i = keeps-owner_given w k (standing_at w k) refl i
+  keeps-given w (atomic_owned c home) i = keeps-cell_closed w c i
+
+  pub keeps-given_all : (w : World T) (hs : List Holding) → P w → P (given_all w p hs)
+  keeps-given_all w [] i = i
+  keeps-given_all w (h ∷ hs) i = keeps-given_all (given w p h) hs (keeps-given w h i)
+
+-- the slot stands so, and has this value
+pub record Stands {T : Type 0} (k : ℕ) (s : Option Standing) (v : Option T) (w : World T) : Type 0 where
+  pub standing : standing_at w k ≡ s
+  pub value : value_at w k ≡ v
+
+none-set : {E : Type 0} (xs : List (Option E)) (k : ℕ) → slice_index_or (slice_set xs k None) k None ≡ None
+none-set [] k = refl
+none-set (x ∷ xs) zero = refl
+none-set (x ∷ xs) (suc k) = none-set xs k
+
+-- among what is reclaimed is the slot's item first, or later
+among-cons : (k : ℕ) (x : What) (xs : List What) → (b : Bool) → is_of_slot k x ≡ b → times_among k (x ∷ xs) ≡ cond b 1 0 + times_among k xs
+among-cons k x xs b e = count-cons (is_of_slot k) x xs ∙ rw e refl
+
+module _ {T : Type 0} where
+  free-stands : (w : World T) (j k : ℕ) (s : Option Standing) (v : Option T) → k ≢ j → Stands k s v w → Stands k s v (freed w j)
+  free-stands w j k s v apart i =
+      record { standing = get_or-set_other w.standings j k None None apart ∙ i.standing; value = get_or-set_other w.values j k None None apart ∙ i.value }
+
+  free-gone : (w : World T) (k : ℕ) → Stands k None None (freed w k)
+  free-gone w k = record { standing = none-set w.standings k; value = none-set w.values k }
+
+  retired-apart : (w : World T) (p j k : ℕ) (s : Option Standing) (v : Option T) → (s ≡ Some Owned → ⊥) → standing_at w j ≡ Some Owned → (k ≡ j) ⊎ (k ≢ j) → Stands k s v w → Stands k s v (retired w p j)
+  retired-apart w p j k s v idle is (inl e) i = absurd (idle (sym i.standing ∙ ap (λ (n : ℕ). standing_at w n) e ∙ is))
+  retired-apart w p j k s v idle is (inr apart) i = record { standing = get_or-set_other w.standings j k (Some Retired) None apart ∙ i.standing; value = i.value }
+
+  -- what is given up is another slot's
+  given-stands : (w : World T) (p k : ℕ) (s : Option Standing) (v : Option T) → (s ≡ Some Owned → ⊥) → (hs : List Holding) → Stands k s v w → Stands k s v (given_all w p hs)
+  given-stands w p k s v idle hs i =
+      keeps-given_all p (Stands k s v) (λ u j is h. retired-apart u p j k s v idle is (same-or-not k j) h) (λ u c h. record { standing = h.standing; value = h.value }) w hs i
+
+  pub closed-stands : (w : World T) (p c k : ℕ) (s : Option Standing) (v : Option T) → (s ≡ Some Owned → ⊥) → Stands k s v w → Stands k s v (cell_closed w p c)
+  closed-stands w p c k s v idle i =
+      keeps-cell_closed p (Stands k s v) (λ u j is h. retired-apart u p j k s v idle is (same-or-not k j) h) (λ u c h. record { standing = h.standing; value = h.value }) w c i
+
+  module _ (holds : T → List Holding) (p k : ℕ) where
+    -- reclaiming another slot's item
+    out-stands : (w : World T) (j : ℕ) (s : Option Standing) (v : Option T) → (s ≡ Some Owned → ⊥) → k ≢ j → (u : Option T) → Stands k s v w → Stands k s v (taken_out holds w p j u)
+    out-stands w j s v idle apart None i = i
+    out-stands w j s v idle apart (Some u) i = given-stands (freed w j) p k s v idle (holds u) (free-stands w j k s v apart i)
+
+    reclaimed-stands : (w : World T) (x : What) (s : Option Standing) (v : Option T) → (s ≡ Some Owned → ⊥) → is_of_slot k x ≡ false → Stands k s v w → Stands k s v (reclaimed holds w p x)
+    reclaimed-stands w (Item j) s v idle other i = out-stands w j s v idle (λ e. absurd (grind (arith, nat_tests, other, e))) (waiting_value w j (standing_at w j)) i
+    reclaimed-stands w (Private j c) s v idle other i = out-stands w j s v idle (λ e. absurd (grind (arith, nat_tests, other, e))) (waiting_value w j (standing_at w j)) i
+    reclaimed-stands w (Job n) s v idle other i = i
+
+    -- nothing comes back into a slot that is free
+    out-gone : (w : World T) (j : ℕ) → (k ≡ j) ⊎ (k ≢ j) → (u : Option T) → Stands k None None w → Stands k None None (taken_out holds w p j u)
+    out-gone w j same None i = i
+    out-gone w j (inl e) (Some u) i = given-stands (freed w j) p k None None (λ o. absurd (cc)) (holds u) (rw e (free-gone w j))
+    out-gone w j (inr apart) (Some u) i = given-stands (freed w j) p k None None (λ o. absurd (cc)) (holds u) (free-stands w j k None None apart i)
+
+    reclaimed-gone : (w : World T) (x : What) → Stands k None None w → Stands k None None (reclaimed holds w p x)
+    reclaimed-gone w (Item j) i = out-gone w j (same-or-not k j) (waiting_value w j (standing_at w j)) i
+    reclaimed-gone w (Private j c) i = out-gone w j (same-or-not k j) (waiting_value w j (standing_at w j)) i
+    reclaimed-gone w (Job n) i = i
+
+    all-gone : (xs : List What) (w : World T) → Stands k None None w → Stands k None None (all_reclaimed holds w p xs)
+    all-gone [] w i = i
+    all-gone (x ∷ xs) w i = all-gone xs (reclaimed holds w p x) (reclaimed-gone w x i)
+
+    -- an item that is not among what is reclaimed stays
+    all-stands-if : (x : What) (xs : List What) (w : World T) (s : Option Standing) (v : Option T) → (s ≡ Some Owned → ⊥) → times_among k (x ∷ xs) ≡ 0 → (b : Bool) → is_of_slot k x ≡ b → Stands k s v w →
+        (times_among k xs ≡ 0) × Stands k s v (reclaimed holds w p x)
+    all-stands-if x xs w s v idle none true e i = absurd (omega (arith, none, among-cons k x xs true e))
+    all-stands-if x xs w s v idle none false e i = (omega (arith, none, among-cons k x xs false e), reclaimed-stands w x s v idle e i)
+
+    pub all-stands : (xs : List What) (w : World T) (s : Option Standing) (v : Option T) → (s ≡ Some Owned → ⊥) → times_among k xs ≡ 0 → Stands k s v w → Stands k s v (all_reclaimed holds w p xs)
+    all-stands [] w s v idle none i = i
+    all-stands (x ∷ xs) w s v idle none i =
+        let rest = all-stands-if x xs w s v idle none (is_of_slot k x) refl i in
+        all-stands xs (reclaimed holds w p x) s v idle rest.0 rest.1
+
+    -- an item that is among it goes
+    there-goes : (w : World T) (j : ℕ) (s : Option Standing) (v : T) → k ≡ j → is_waiting s ≡ true → Stands k s (Some v) w → Stands k None None (taken_out holds w p j (waiting_value w j s))
+    there-goes w j None v e waits i = absurd (cc)
+    there-goes w j (Some Owned) v e waits i = absurd (cc)
+    there-goes w j (Some Raw) v e waits i = absurd (cc)
+    there-goes w j (Some (Shared n)) v e waits i = absurd (cc)
+    there-goes w j (Some Retired) v e waits i =
+        let there : value_at w j ≡ Some v = sym (ap (λ (n : ℕ). value_at w n) e) ∙ i.value in
+        rw there (given-stands (freed w j) p k None None (λ o. absurd (cc)) (holds v) (rw e (free-gone w j)))
+    there-goes w j (Some (privately c)) v e waits i =
+        let there : value_at w j ≡ Some v = sym (ap (λ (n : ℕ). value_at w n) e) ∙ i.value in
+        rw there (given-stands (freed w j) p k None None (λ o. absurd (cc)) (holds v) (rw e (free-gone w j)))
+
+    reclaimed-goes : (w : World T) (x : What) (s : Option Standing) (v : T) → is_of_slot k x ≡ true → is_waiting s ≡ true → Stands k s (Some v) w → Stands k None None (reclaimed holds w p x)
+    reclaimed-goes w (Item j) s v of waits i =
+        let e : k ≡ j = grind (arith, nat_tests, of) in
+        rw (sym (ap (λ (n : ℕ). standing_at w n) e) ∙ i.standing) (there-goes w j s v e waits i)
+    reclaimed-goes w (Private j c) s v of waits i =
+        let e : k ≡ j = grind (arith, nat_tests, of) in
+        rw (sym (ap (λ (n : ℕ). standing_at w n) e) ∙ i.standing) (there-goes w j s v e waits i)
+    reclaimed-goes w (Job n) s v of waits i = absurd (cc)
+
+    waits-apart : (s : Option Standing) → is_waiting s ≡ true → s ≡ Some Owned → ⊥
+    waits-apart s waits e = let never : false ≡ true = rw e at waits in absurd (cc)
+
+    all-goes-if : (x : What) (xs : List What) (w : World T) (s : Option Standing) (v : T) → is_waiting s ≡ true → 1 ≤ times_among k (x ∷ xs) → (b : Bool) → is_of_slot k x ≡ b → Stands k s (Some v) w →
+        Stands k None None (reclaimed holds w p x) ⊎ ((1 ≤ times_among k xs) × Stands k s (Some v) (reclaimed holds w p x))
+    all-goes-if x xs w s v waits some true e i = inl (reclaimed-goes w x s v e waits i)
+    all-goes-if x xs w s v waits some false e i = inr (omega (arith, some, among-cons k x xs false e), reclaimed-stands w x s (Some v) (waits-apart s waits) e i)
+
+    pub all-goes : (xs : List What) (w : World T) (s : Option Standing) (v : T) → is_waiting s ≡ true → Stands k None None w ⊎ ((1 ≤ times_among k xs) × Stands k s (Some v) w) →
+        Stands k None None (all_reclaimed holds w p xs)
+    all-goes [] w s v waits (inl gone) = gone
+    all-goes [] w s v waits (inr on) = absurd (omega (arith, on.0))
+    all-goes (x ∷ xs) w s v waits (inl gone) = all-goes xs (reclaimed holds w p x) s v waits (inl (reclaimed-gone w x gone))
+    all-goes (x ∷ xs) w s v waits (inr on) = all-goes xs (reclaimed holds w p x) s v waits (all-goes-if x xs w s v waits on.0 (is_of_slot k x) refl on.1)
+
+-- how a place stands after others gave to p
+all_awaiting-waiting : (ks : List ℕ) (x : Participant) (y : Waiting) → Contains x.bags.waiting y → Contains (all_awaiting ks x).bags.waiting y
+all_awaiting-waiting [] x y h = h
+all_awaiting-waiting (k ∷ ks) x y h = all_awaiting-waiting ks (time.awaiting (Item k) x) y (Contains-append_left x.bags.waiting (fresh (Item k) ∷ []) y h)
+
+-- a nested opening, or one that finds no other count
+pub record Nests {T : Type 0} (holds : T → List Holding) (w : World T) (p : ℕ) : Type 0 where
+  pub nests : opened holds w p ≡ steps.nested w p
+  pub none : reclaims w p ≡ []
+  pub why : (is_open (place_at w p) ≡ true) ⊎ ((is_open (place_at w p) ≡ false) × ((place_at w p).found ≡ w.time.count))
+
+-- an opening that is a change
+pub record IsChange {T : Type 0} (holds : T → List Holding) (w : World T) (p : ℕ) : Type 0 where
+  pub change : opened holds w p ≡ changed holds (steps.nested w p) p
+  pub due : reclaims w p ≡ due_next (place_at w p)
+  pub closed_before : is_open (place_at w p) ≡ false
+  pub another : (place_at w p).found ≢ w.time.count
+
+module _ {T : Type 0} (holds : T → List Holding) (w : World T) (p : ℕ) where
+  nested-here : p < length w.time.places → place_at (steps.nested w p) p ≡ time.nested (place_at w p)
+  nested-here l = get_or-set_same w.time.places p (time.nested (place_at w p)) nobody l
+
+  nested-test : p < length w.time.places → (b : Bool) → ((place_at w p).found == w.time.count) ≡ b → time.finds_another (steps.nested w p).time p ≡ not b
+  nested-test l b e = ap (λ (x : Participant). not (x.found == w.time.count)) (nested-here l) ∙ ap not e
+
+  how-outermost : p < length w.time.places → is_open (place_at w p) ≡ false → (b : Bool) → ((place_at w p).found == w.time.count) ≡ b → Nests holds w p ⊎ IsChange holds w p
+  how-outermost l shut true e =
+      inl
+      (record {
+        nests = rw (shut, nested-test l true e) refl;
+        none = rw (shut, e) refl;
+        why = inr (shut, grind (arith, nat_tests, e));
+      })
+  how-outermost l shut false e =
+      inr
+      (record {
+        change = rw (shut, nested-test l false e) refl;
+        due = rw (shut, e) refl;
+        closed_before = shut;
+        another = grind (arith, nat_tests, e);
+      })
+
+  how-if : p < length w.time.places → (b : Bool) → is_open (place_at w p) ≡ b → Nests holds w p ⊎ IsChange holds w p
+  how-if l true e = inl (record { nests = rw e refl; none = rw e refl; why = inl e })
+  how-if l false e = how-outermost l e ((place_at w p).found == w.time.count) refl
+
+  pub how : p < length w.time.places → Nests holds w p ⊎ IsChange holds w p
+  how l = how-if l (is_open (place_at w p)) refl
+
+  -- the world in which a change reclaims
+  abbrev before : World T
+  before = steps.rotated (steps.nested w p) p
+
+  in_before : p < length w.time.places → p < length before.time.places
+  in_before l =
+      let y : Participant = time.nested (place_at w p) in
+      omega (arith, l, length-set w.time.places p y, length-set (steps.nested w p).time.places p (time.rotated w.time.count (place_at (steps.nested w p) p)))
+
+  due-here : p < length w.time.places → due_next (place_at (steps.nested w p) p) ≡ due_next (place_at w p)
+  due-here l = ap (λ (x : Participant). due_next x) (nested-here l)
+
+  -- each slot
+  stays-if : p < length w.time.places → (k : ℕ) (s : Option Standing) (v : Option T) → (s ≡ Some Owned → ⊥) → times_among k (reclaims w p) ≡ 0 → Stands k s v w → Nests holds w p ⊎ IsChange holds w p →
+      Stands k s v (opened holds w p)
+  stays-if l k s v idle none i (inl n) = rw n.nests (record { standing = i.standing; value = i.value })
+  stays-if l k s v idle none i (inr c) =
+      let due_none : times_among k (due_next (place_at (steps.nested w p) p)) ≡ 0 = ap (λ (xs : List What). times_among k xs) (due-here l ∙ sym c.due) ∙ none in
+      let end = all-stands holds p k (due_next (place_at (steps.nested w p) p)) before s v idle due_none (record { standing = i.standing; value = i.value }) in
+      rw c.change (record { standing = end.standing; value = end.value })
+
+  pub opened-stays : p < length w.time.places → (k : ℕ) (s : Option Standing) (v : Option T) → (s ≡ Some Owned → ⊥) → times_among k (reclaims w p) ≡ 0 → Stands k s v w → Stands k s v (opened holds w p)
+  opened-stays l k s v idle none i = stays-if l k s v idle none i (how l)
+
+  goes-if : p < length w.time.places → (k : ℕ) (s : Option Standing) (v : T) → is_waiting s ≡ true → 1 ≤ times_among k (reclaims w p) → Stands k s (Some v) w → Nests holds w p ⊎ IsChange holds w p →
+      Stands k None None (opened holds w p)
+  goes-if l k s v waits some i (inl n) = absurd (omega (arith, some, ap (λ (xs : List What). times_among k xs) n.none))
+  goes-if l k s v waits some i (inr c) =
+      let same : times_among k (due_next (place_at (steps.nested w p) p)) ≡ times_among k (reclaims w p) = ap (λ (xs : List What). times_among k xs) (due-here l ∙ sym c.due) in
+      let end = all-goes holds p k (due_next (place_at (steps.nested w p) p)) before s v waits (inr (omega (arith, some, same), record { standing = i.standing; value = i.value })) in
+      rw c.change (record { standing = end.standing; value = end.value })
+
+  pub opened-goes : p < length w.time.places → (k : ℕ) (s : Option Standing) (v : T) → is_waiting s ≡ true → 1 ≤ times_among k (reclaims w p) → Stands k s (Some v) w → Stands k None None (opened holds w p)
+  opened-goes l k s v waits some i = goes-if l k s v waits some i (how l)
+
+  -- each other participant
+  changed-other : p < length w.time.places → (q : ℕ) → q ≢ p → place_at (changed holds (steps.nested w p) p) q ≡ place_at w q
+  changed-other l q apart =
+      let due = due_next (place_at (steps.nested w p) p) in
+      let end = all_reclaimed holds before p due in
+      let g = Gives-all_reclaimed holds before p due (in_before l) in
+      get_or-set_other end.time.places p q (time.settled (place_at end p)) nobody apart
+      ∙ ap (λ (t : Time). time.place_at t q) g.time
+      ∙ get_or-set_other before.time.places p q (all_awaiting g.slots (place_at before p)) nobody apart
+      ∙ get_or-set_other (steps.nested w p).time.places p q (time.rotated w.time.count (place_at (steps.nested w p) p)) nobody apart
+      ∙ get_or-set_other w.time.places p q (time.nested (place_at w p)) nobody apart
+
+  other-if : p < length w.time.places → (q : ℕ) → q ≢ p → Nests holds w p ⊎ IsChange holds w p → place_at (opened holds w p) q ≡ place_at w q
+  other-if l q apart (inl n) = ap (λ (u : World T). place_at u q) n.nests ∙ get_or-set_other w.time.places p q (time.nested (place_at w p)) nobody apart
+  other-if l q apart (inr c) = ap (λ (u : World T). place_at u q) c.change ∙ changed-other l q apart
+
+  pub opened-other : p < length w.time.places → (q : ℕ) → q ≢ p → place_at (opened holds w p) q ≡ place_at w q
+  opened-other l q apart = other-if l q apart (how l)
