@@ -2,3 +2,5 @@ pub mod Own
 pub mod Weights
 pub mod Whole
 pub mod Opening
+pub mod Entries
+pub mod Under

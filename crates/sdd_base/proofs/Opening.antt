@@ -161,7 +161,7 @@ module _ {T : Type 0} where
     all-goes (x ∷ xs) w s v waits (inr on) = all-goes xs (reclaimed holds w p x) s v waits (all-goes-if x xs w s v waits on.0 (is_of_slot k x) refl on.1)
 
 -- how a place stands after others gave to p
-all_awaiting-waiting : (ks : List ℕ) (x : Participant) (y : Waiting) → Contains x.bags.waiting y → Contains (all_awaiting ks x).bags.waiting y
+pub all_awaiting-waiting : (ks : List ℕ) (x : Participant) (y : Waiting) → Contains x.bags.waiting y → Contains (all_awaiting ks x).bags.waiting y
 all_awaiting-waiting [] x y h = h
 all_awaiting-waiting (k ∷ ks) x y h = all_awaiting-waiting ks (time.awaiting (Item k) x) y (Contains-append_left x.bags.waiting (fresh (Item k) ∷ []) y h)
 

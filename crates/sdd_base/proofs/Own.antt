@@ -21,7 +21,7 @@ all_awaiting-append : (ks js : List ℕ) (x : Participant) → all_awaiting (ks 
 all_awaiting-append [] js x = refl
 all_awaiting-append (k ∷ ks) js x = all_awaiting-append ks js (time.awaiting (Item k) x)
 
-all_awaiting-found : (ks : List ℕ) (x : Participant) → (all_awaiting ks x).found ≡ x.found
+pub all_awaiting-found : (ks : List ℕ) (x : Participant) → (all_awaiting ks x).found ≡ x.found
 all_awaiting-found [] x = refl
 all_awaiting-found (k ∷ ks) x = all_awaiting-found ks (time.awaiting (Item k) x)
 

@@ -1,25 +1,33 @@
 -- When an item goes at latest
-use Rattle.std.specs.Prelude.{ℕ, ◌+◌, ◌-◌, ◌*◌, Contains, if◌then◌else◌}
+use Rattle.std.specs.Prelude.{ℕ, ◌+◌, ◌-◌, ◌*◌, ◌^◌, ◌<◌, ◌≤◌, ◌≡◌, ◌≢◌, ◌⊎◌, Any, Contains, IsTrue, List, None, if◌then◌else◌}
 use Rattle.sdd_store.specs.Waiting.{having_seen}
 use Rattle.sdd_store.specs.Waiting.What.{Item}
-use Rattle.sdd_store.specs.Time.{Time, finds_another, is_open, place_at}
+use Rattle.sdd_store.specs.Time.{Time, finds_another, is_open, last_count}
+use Rattle.sdd_store.specs.Time as time
 use Rattle.sdd_store.specs.declared.time.Participant.{Participant}
 use Rattle.sdd_base.specs.Holding.{Holding}
-use Rattle.sdd_base.specs.World.{World}
-use Rattle.sdd_base.specs.World as world
+use Rattle.sdd_base.specs.World.{World, IsPlaceOf, place_at, standing_at, value_at}
 use Rattle.sdd_base.specs.Steps.{opened, accelerated, closed}
-use Rattle.std.specs.Prelude.{List}
+use Rattle.sdd_base.specs.Calls.{Calls}
 
 -- the slot's item waits with p, and has seen so many of p's changes
 abbrev pub Waits : {T : Type 0} → World T → (place slot seen : ℕ) → Type 0
-Waits w p k seen = Contains (world.place_at w p).bags.waiting (having_seen seen (Item k))
+Waits w p k seen = Contains (place_at w p).bags.waiting (having_seen seen (Item k))
 
 -- after how many outermost openings of its holder, at latest, an item is reclaimed that has seen so many changes:
 -- the next one is a change where another count is there to be found; else the holder first counts down to a scan
 abbrev pub left : Time → (holder seen : ℕ) → ℕ
 left t q seen =
     if finds_another t q then 1 + 128 * (2 - seen)
-    else (place_at t q).countdown + (if is_open (place_at t q) then 1 else 2) + 128 * (2 - seen)
+    else (time.place_at t q).countdown + (if is_open (time.place_at t q) then 1 else 2) + 128 * (2 - seen)
+
+-- some guard is open
+abbrev pub IsGuarded : {T : Type 0} → World T → Type 0
+IsGuarded w = Any (λ p. IsTrue (is_open p)) w.time.places
+
+-- a scan of q can't raise the count: it is the last one, or another participant has a guard open
+abbrev pub IsHeldUp : {T : Type 0} → World T → ℕ → Type 0
+IsHeldUp w q = (w.time.count ≡ last_count) ⊎ ((p : ℕ) × (p ≢ q) × IsTrue (is_open (place_at w p)))
 
 -- p opens a guard, accelerates it and closes it
 abbrev pub accelerated_guard : {T : Type 0} → (T → List Holding) → World T → ℕ → World T
@@ -29,3 +37,27 @@ accelerated_guard holds w p = closed (accelerated (opened holds w p) p) p
 abbrev pub four_guards : {T : Type 0} → (T → List Holding) → World T → ℕ → World T
 four_guards holds w p =
     accelerated_guard holds (accelerated_guard holds (accelerated_guard holds (accelerated_guard holds w p) p) p) p
+
+module _ {T : Type 0} (holds : T → List Holding) (w : World T) where
+  -- an outermost opening of the holder reclaims an item for which one opening is left, and else leaves fewer
+  abbrev pub OpeningsLower : Type 0
+  OpeningsLower = (q k seen : ℕ) → Waits w q k seen → ¬ (IsTrue (is_open (place_at w q))) →
+      ((left w.time q seen ≡ 1) × (standing_at (opened holds w q) k ≡ None))
+      ⊎ ((later : ℕ) × Waits (opened holds w q) q k later × (left (opened holds w q).time q later + 1 ≤ left w.time q seen))
+
+  -- no call leaves more, but a close of the holder that is held up
+  abbrev pub NoCallRaises : Type 0
+  NoCallRaises = (new : World T) → Calls holds w new → (q k seen : ℕ) → Waits w q k seen →
+      (standing_at new k ≡ None)
+      ⊎ ((later : ℕ) × Waits new q k later × ((left new.time q later ≤ left w.time q seen) ⊎ ((new ≡ closed w q) × IsHeldUp w q)))
+
+  -- when an item goes at latest
+  pub record GoesAtLatest : Type 0 where
+    pub bounded : (q k seen : ℕ) → Waits w q k seen → left w.time q seen ≤ 385
+    pub lowered : OpeningsLower
+    pub never_raised : NoCallRaises
+
+  -- four accelerated guards of p, one after another, reclaim all that waits with it, where no other guard is open
+  abbrev pub FourGuardsReclaim : Type 0
+  FourGuardsReclaim = (p k seen : ℕ) → IsPlaceOf w p → ¬ (IsGuarded w) → w.time.count + 4 ≤ 2 ^ 64 → Waits w p k seen →
+      (standing_at (four_guards holds w p) k ≡ None) × (value_at (four_guards holds w p) k ≡ None)

@@ -10,5 +10,6 @@ pub mod Owned
 pub mod Limits
 pub mod Whole
 pub mod Out
+pub mod Calls
 pub mod Left
 pub mod Under

@@ -1,11 +1,11 @@
 -- What can't go while a guard is open
 use Rattle.std.specs.Prelude.{ℕ, ◌+◌, ◌-◌, ◌≤◌, ◌≡◌, IsTrue, List, Some, min}
 use Rattle.sdd_store.specs.Time.{is_open}
-use Rattle.sdd_store.specs.Table.{IsEmptyAt}
 use Rattle.sdd_store.specs.declared.standing.Standing.TheVariants.{Owned, Retired}
 use Rattle.sdd_base.specs.Holding.{Holding}
 use Rattle.sdd_base.specs.World.{World, place_at, standing_at, value_at, IsPlaceOf}
-use Rattle.sdd_base.specs.Steps.{made, retired, nulled, cell_closed, opened, closed, stirred, accelerated, registered}
+use Rattle.sdd_base.specs.Steps.{retired}
+use Rattle.sdd_base.specs.Calls.{Calls}
 use Rattle.sdd_base.specs.Left.{Waits}
 
 -- how many changes q can make while the guard stays open that p published: at most one for this count, if q has not found it yet, and one for the next
@@ -22,22 +22,10 @@ pub record IsUnder {T : Type 0} (w : World T) (p k : ℕ) : Type 0 where
   pub safe : seen + more w p holder ≤ 2
 
 module _ {T : Type 0} (holds : T → List Holding) where
-  -- what one call makes of a world
-  pub data Calls : World T → World T → Type 0 where
-    registers : (w : World T) → Calls w (registered w)
-    opens : (w : World T) (p : ℕ) → IsPlaceOf w p → Calls w (opened holds w p)
-    closes : (w : World T) (p : ℕ) → IsPlaceOf w p → Calls w (closed w p)
-    stirs : (w : World T) (p : ℕ) → IsPlaceOf w p → Calls w (stirred w p)
-    accelerates : (w : World T) (p : ℕ) → IsPlaceOf w p → Calls w (accelerated w p)
-    makes : (w : World T) (k : ℕ) (value : T) → IsEmptyAt w.standings k → Calls w (made w k value)
-    retires : (w : World T) (p k : ℕ) → IsPlaceOf w p → standing_at w k ≡ Some Owned → Calls w (retired w p k)
-    nulls : (w : World T) (c : ℕ) → IsEmptyAt w.cells c → Calls w (nulled w c)
-    closes_cell : (w : World T) (p c : ℕ) → IsPlaceOf w p → Calls w (cell_closed w p c)
-
   -- calls, one after another, while a guard of p is open all along
   pub data CallsUnder (p : ℕ) : World T → World T → Type 0 where
     none : (w : World T) → IsTrue (is_open (place_at w p)) → CallsUnder p w w
-    more_calls : (u v w : World T) → CallsUnder p u v → Calls v w → IsTrue (is_open (place_at w p)) → CallsUnder p u w
+    more_calls : (u v w : World T) → CallsUnder p u v → Calls holds v w → IsTrue (is_open (place_at w p)) → CallsUnder p u w
 
   -- the law: an item that is retired while a guard of p is open is in its slot, with its value, as long as that guard is
   abbrev pub KeepsUnderGuards : World T → Type 0
