@@ -1,0 +1,279 @@
+-- Four accelerated guards, one after another, reclaim what waits
+use Rattle.std.proofs.Common.{◌≡◌, ◌≢◌, ◌⊎◌, inl, inr, ℕ, ◌+◌, ◌<◌, ◌≤◌, List, [], ◌∷◌, length, Bool, refl, sym, ap, ◌∙◌, arith, true, false, Some, None, nat_lt, Option, zero, suc, slice_index_or, IsTrue, subst}
+use Rattle.std.specs.Prelude.{◌-◌, ◌^◌, ◌==◌, ◌&&◌, ◌||◌, Any, Contains, is_some, if◌then◌else◌, not}
+use Rattle.std.specs.List.{list_all}
+use Rattle.std.proofs.lemmas.List.{get_or-set_same, get_or-set_other, get_or_past, length-set}
+use Rattle.std.proofs.lemmas.Bool.Decides.{nat_tests}
+use Rattle.sdd_store.specs.Waiting.{Waiting, having_seen}
+use Rattle.sdd_store.specs.Waiting.What.{Item}
+use Rattle.sdd_store.specs.Time.{Time, with_place, nobody, is_open, passes, last_count, due_next}
+use Rattle.sdd_store.specs.Time as time
+use Rattle.sdd_store.specs.declared.time.Participant.{Participant}
+use Rattle.sdd_store.specs.declared.standing.Standing.{Standing}
+use Rattle.sdd_slots.specs.Slots.{is_waiting}
+use Rattle.sdd_base.specs.World.{World, standing_at, value_at, place_at, IsPlaceOf}
+use Rattle.sdd_base.specs.Steps.{opened, closed, accelerated, reclaims}
+use Rattle.sdd_base.specs.Steps as steps
+use Rattle.sdd_base.specs.Holding.{Holding}
+use Rattle.sdd_base.specs.Own.{all_awaiting, opened_at}
+use Rattle.sdd_base.specs.Whole.{times_waiting, IsWhole}
+use Rattle.sdd_base.specs.Left.{Waits, IsGuarded, accelerated_guard, four_guards, FourGuardsReclaim}
+use Rattle.sdd_base.proofs.Own.{opens}
+use Rattle.sdd_base.proofs.Own as own
+use Rattle.sdd_base.proofs.Whole.{same-or-not, below-or-past, filled-there, some-waits, scans-places, all_awaiting-guards, times_among, times-aged, Whole-opened, Whole-closed, Whole-accelerated}
+use Rattle.sdd_base.proofs.Opening.{how, Nests, IsChange, Stands, opened-stays, opened-goes, opened-other}
+use Rattle.sdd_base.proofs.Entries.{waits-standing, waits-young, entry-due, one-place, nests-waits, change-waits}
+use Rattle.sdd_base.proofs.Under.{persists-closed}
+
+-- nobody has a guard open
+abbrev pub AllClosed : {T : Type 0} → World T → Type 0
+AllClosed w = (q : ℕ) → is_open (place_at w q) ≡ false
+
+shut : (b : Bool) → (IsTrue b → ⊥) → b ≡ false
+shut true h = absurd (h refl)
+shut false h = refl
+
+whichever : (ps : List Participant) (k : ℕ) (d e : Participant) → k < length ps → slice_index_or ps k d ≡ slice_index_or ps k e
+whichever [] k d e l = absurd (omega (arith, l))
+whichever (x ∷ ps) zero d e l = refl
+whichever (x ∷ ps) (suc k) d e l = whichever ps k d e (omega (arith, l))
+
+open-inside : (ps : List Participant) (q : ℕ) → (q < length ps) ⊎ (length ps ≤ q) → IsTrue (is_open (slice_index_or ps q nobody)) → Any (λ p. IsTrue (is_open p)) ps
+open-inside ps q (inl l) o = (q, slice_index_or ps q nobody, l, whichever ps q (slice_index_or ps q nobody) nobody l, o)
+open-inside ps q (inr past) o = let never : IsTrue (is_open nobody) = subst (λ (x : Participant). IsTrue (is_open x)) (get_or_past ps q nobody past) o in absurd (cc)
+
+-- no guard is open exactly where each participant has none
+pub all-closed : {T : Type 0} (w : World T) → (IsGuarded w → ⊥) → AllClosed w
+all-closed w h = λ q. shut (is_open (place_at w q)) (λ o. h (open-inside w.time.places q (below-or-past q (length w.time.places)) o))
+
+pub not-guarded : {T : Type 0} (w : World T) → AllClosed w → IsGuarded w → ⊥
+not-guarded w h (k, x, l, here, o) =
+    let there : IsTrue (is_open (place_at w k)) = subst (λ (z : Participant). IsTrue (is_open z)) (sym here ∙ whichever w.time.places k x nobody l) o in
+    let never : false ≡ true = sym (h k) ∙ there in
+    absurd (cc)
+
+all-passing : (count : ℕ) (ps : List Participant) → ((p : ℕ) → passes count (slice_index_or ps p nobody) ≡ true) → list_all (passes count) ps ≡ true
+all-passing count [] h = refl
+all-passing count (x ∷ ps) h = rw (h zero) (all-passing count ps (λ p. h (suc p)))
+
+-- the last guard of p is closed at countdown 0, and its scan raises the count
+closed-raises : (t : Time) (p : ℕ) → nat_lt 1 (time.place_at t p).guards ≡ false → is_open (time.place_at t p) ≡ true → ((time.place_at t p).countdown == 0) ≡ true → ((time.place_at t p).found == t.count) ≡ true →
+    (nat_lt t.count last_count && list_all (passes t.count) t.places) ≡ true →
+    time.closed t p ≡ with_place (record t { marked = false; count = t.count + 1 }) p (record (time.place_at t p) { guards = 0; countdown = 127 })
+closed-raises t p one o c f all = rw (one, o, c, f, all) refl
+
+-- an outermost opening, as p has it
+record IsAlone (count : ℕ) (x : Participant) : Type 0 where
+  guards : x.guards ≡ 1
+  found : x.found ≡ count
+
+alone-opened : (count : ℕ) (slots : List ℕ) (x : Participant) → is_open x ≡ false → (b : Bool) → (x.found == count) ≡ b → IsAlone count (opened_at count slots x)
+alone-opened count slots x o true e =
+    let none : x.guards ≡ 0 = grind (arith, nat_tests, o) in
+    let same : x.found ≡ count = grind (arith, nat_tests, e) in
+    rw (o, e) (record { guards = omega (arith, none); found = same })
+alone-opened count slots x o false e =
+    let none : x.guards ≡ 0 = grind (arith, nat_tests, o) in
+    let y : Participant = time.rotated count (time.nested x) in
+    rw (o, e) (record { guards = all_awaiting-guards slots y ∙ omega (arith, none); found = own.all_awaiting-found slots y })
+
+or-right : (a b : Bool) → b ≡ true → (a || b) ≡ true
+or-right true b e = refl
+or-right false b e = e
+
+and-both : (a b : Bool) → a ≡ true → b ≡ true → (a && b) ≡ true
+and-both a b e f = rw (e, f) refl
+
+module _ {T : Type 0} (holds : T → List Holding) where
+  -- what one accelerated guard makes of a world whose guards are all closed
+  pub record Raises (w : World T) (p : ℕ) : Type 0 where
+    pub count : (accelerated_guard holds w p).time.count ≡ w.time.count + 1
+    pub found : (place_at (accelerated_guard holds w p) p).found ≡ w.time.count
+
+  opened-alone : (w : World T) (p : ℕ) → p < length w.time.places → AllClosed w → IsAlone w.time.count (place_at (opened holds w p) p)
+  opened-alone w p l shut =
+      let o = opens holds w p l (is_open (place_at w p)) refl in
+      let a = alone-opened w.time.count o.slots (place_at w p) (shut p) ((place_at w p).found == w.time.count) refl in
+      record { guards = ap (λ (x : Participant). x.guards) o.own ∙ a.guards; found = ap (λ (x : Participant). x.found) o.own ∙ a.found }
+
+  -- nobody has no guard open
+  opened-range : (w : World T) (p : ℕ) → p < length w.time.places → AllClosed w → (p < length (opened holds w p).time.places) ⊎ (length (opened holds w p).time.places ≤ p) → p < length (opened holds w p).time.places
+  opened-range w p l shut (inl inside) = inside
+  opened-range w p l shut (inr past) =
+      let none : (place_at (opened holds w p) p).guards ≡ 0 = ap (λ (x : Participant). x.guards) (get_or_past (opened holds w p).time.places p nobody past) in
+      absurd (omega (arith, none, (opened-alone w p l shut).guards))
+
+  opened-place : (w : World T) (p : ℕ) → p < length w.time.places → AllClosed w → p < length (opened holds w p).time.places
+  opened-place w p l shut = opened-range w p l shut (below-or-past p (length (opened holds w p).time.places))
+
+  -- after it has been accelerated
+  abbrev ready : World T → ℕ → World T
+  ready w p = accelerated (opened holds w p) p
+
+  ready-here : (w : World T) (p : ℕ) → p < length w.time.places → AllClosed w → place_at (ready w p) p ≡ time.accelerated (place_at (opened holds w p) p)
+  ready-here w p l shut = get_or-set_same (opened holds w p).time.places p (time.accelerated (place_at (opened holds w p) p)) nobody (opened-place w p l shut)
+
+  ready-other : (w : World T) (p q : ℕ) → p < length w.time.places → q ≢ p → place_at (ready w p) q ≡ place_at w q
+  ready-other w p q l apart = get_or-set_other (opened holds w p).time.places p q (time.accelerated (place_at (opened holds w p) p)) nobody apart ∙ opened-other holds w p l q apart
+
+  ready-passes : (w : World T) (p q : ℕ) → p < length w.time.places → AllClosed w → (q ≡ p) ⊎ (q ≢ p) → passes w.time.count (place_at (ready w p) q) ≡ true
+  ready-passes w p q l shut (inl e) =
+      let a = opened-alone w p l shut in
+      let same : ((place_at (ready w p) p).found == w.time.count) ≡ true = rw (ready-here w p l shut, a.found) (grind (arith, nat_tests)) in
+      subst (λ (m : ℕ). passes w.time.count (place_at (ready w p) m) ≡ true) (sym e) (or-right (not (is_open (place_at (ready w p) p))) ((place_at (ready w p) p).found == w.time.count) same)
+  ready-passes w p q l shut (inr apart) = rw (ready-other w p q l apart, shut q) refl
+
+  ready-count : (w : World T) (p : ℕ) → p < length w.time.places → (ready w p).time.count ≡ w.time.count
+  ready-count w p l = (opens holds w p l (is_open (place_at w p)) refl).count
+
+  ready-place : (w : World T) (p : ℕ) → p < length w.time.places → AllClosed w → p < length (ready w p).time.places
+  ready-place w p l shut = omega (arith, opened-place w p l shut, length-set (opened holds w p).time.places p (time.accelerated (place_at (opened holds w p) p)))
+
+  pub raises : (w : World T) (p : ℕ) → p < length w.time.places → AllClosed w → w.time.count < last_count → Raises w p
+  raises w p l shut room =
+      let t = (ready w p).time in
+      let a = opened-alone w p l shut in
+      let here = ready-here w p l shut in
+      let guards : (place_at (ready w p) p).guards ≡ 1 = ap (λ (x : Participant). x.guards) here ∙ a.guards in
+      let found : (place_at (ready w p) p).found ≡ t.count = ap (λ (x : Participant). x.found) here ∙ a.found ∙ sym (ready-count w p l) in
+      let all : list_all (passes t.count) t.places ≡ true =
+      all-passing t.count t.places (λ q. subst (λ (n : ℕ). passes n (place_at (ready w p) q) ≡ true) (sym (ready-count w p l)) (ready-passes w p q l shut (same-or-not q p))) in
+      let low : nat_lt t.count last_count ≡ true = grind (arith, nat_tests, ready-count w p l, room) in
+      let is =
+      closed-raises t p (rw guards refl) (rw guards refl) (rw here refl) (grind (arith, nat_tests, found)) (and-both (nat_lt t.count last_count) (list_all (passes t.count) t.places) low all) in
+      let end : Participant = record (time.place_at t p) { guards = 0; countdown = 127 } in
+      record {
+        count = ap (λ (u : Time). u.count) is ∙ ap (λ (n : ℕ). n + 1) (ready-count w p l);
+        found =
+            ap (λ (u : Time). (time.place_at u p).found) is
+            ∙ ap (λ (x : Participant). x.found) (get_or-set_same t.places p end nobody (ready-place w p l shut))
+            ∙ found ∙ ready-count w p l;
+      }
+
+  -- afterwards no guard is open again
+  closed-shut : (t : Time) (p q : ℕ) → p < length t.places → (time.place_at t p).guards ≡ 1 → (q ≢ p → is_open (time.place_at t q) ≡ false) → (q ≡ p) ⊎ (q ≢ p) →
+      (u : Time) → u.places ≡ t.places → is_open (time.place_at (with_place u p (record (time.place_at t p) { guards = 0; countdown = 127 })) q) ≡ false
+  closed-shut t p q l one others (inl e) u same =
+      let end : Participant = record (time.place_at t p) { guards = 0; countdown = 127 } in
+      let inside : p < length u.places = omega (arith, l, ap (λ (ps : List Participant). length ps) same) in
+      subst (λ (m : ℕ). is_open (time.place_at (with_place u p end) m) ≡ false) (sym e) (ap (λ (x : Participant). is_open x) (get_or-set_same u.places p end nobody inside))
+  closed-shut t p q l one others (inr apart) u same =
+      let end : Participant = record (time.place_at t p) { guards = 0; countdown = 127 } in
+      ap (λ (x : Participant). is_open x) (get_or-set_other u.places p q end nobody apart ∙ ap (λ (ps : List Participant). slice_index_or ps q nobody) same) ∙ others apart
+
+  -- a close at countdown 0 of the last guard, whether its scan raises the count or not
+  closed-is : (t : Time) (p : ℕ) → nat_lt 1 (time.place_at t p).guards ≡ false → is_open (time.place_at t p) ≡ true → ((time.place_at t p).countdown == 0) ≡ true →
+      time.closed t p ≡ with_place (time.scanned t p) p (record (time.place_at t p) { guards = 0; countdown = 127 })
+  closed-is t p one o c = rw (one, o, c) refl
+
+  pub still-closed : (w : World T) (p : ℕ) → p < length w.time.places → AllClosed w → AllClosed (accelerated_guard holds w p)
+  still-closed w p l shut = λ q.
+      let t = (ready w p).time in
+      let here = ready-here w p l shut in
+      let guards : (place_at (ready w p) p).guards ≡ 1 = ap (λ (x : Participant). x.guards) here ∙ (opened-alone w p l shut).guards in
+      let others : q ≢ p → is_open (time.place_at t q) ≡ false = λ apart. ap (λ (x : Participant). is_open x) (ready-other w p q l apart) ∙ shut q in
+      ap (λ (u : Time). is_open (time.place_at u q)) (closed-is t p (rw guards refl) (rw guards refl) (rw here refl))
+      ∙ closed-shut t p q (ready-place w p l shut) guards others (same-or-not q p) (time.scanned t p) (scans-places t p true)
+
+  pub still-place : (w : World T) (p : ℕ) → p < length w.time.places → AllClosed w → p < length (accelerated_guard holds w p).time.places
+  still-place w p l shut =
+      let t = (ready w p).time in
+      let guards : (place_at (ready w p) p).guards ≡ 1 = ap (λ (x : Participant). x.guards) (ready-here w p l shut) ∙ (opened-alone w p l shut).guards in
+      let same = ap (λ (u : Time). length u.places) (closed-is t p (rw guards refl) (rw guards refl) (rw (ready-here w p l shut) refl)) in
+      let end : Participant = record (time.place_at t p) { guards = 0; countdown = 127 } in
+      omega (arith, same, length-set (time.scanned t p).places p end, ap (λ (ps : List Participant). length ps) (scans-places t p true), ready-place w p l shut)
+
+  pub still-whole : (w : World T) (p : ℕ) → p < length w.time.places → AllClosed w → IsWhole w → IsWhole (accelerated_guard holds w p)
+  still-whole w p l shut i =
+      Whole-closed (ready w p) p (ready-place w p l shut) (Whole-accelerated (opened holds w p) p (opened-place w p l shut) (Whole-opened holds w p l i))
+
+  -- the slot is free, or its item waits with p and has seen at least so many changes
+  data HasSeen (w : World T) (p k least : ℕ) : Type 0 where
+    gone : Stands k None None w → HasSeen w p k least
+    waits : (seen : ℕ) → least ≤ seen → Waits w p k seen → HasSeen w p k least
+
+  -- an accelerated guard and its opening leave the same waiting
+  closed-waits : (w : World T) (p k seen : ℕ) → p < length w.time.places → AllClosed w → Waits (opened holds w p) p k seen → Waits (accelerated_guard holds w p) p k seen
+  closed-waits w p k seen l shut h =
+      let y : Waiting = having_seen seen (Item k) in
+      let ready_waits : Contains (place_at (ready w p) p).bags.waiting y = subst (λ (x : Participant). Contains x.bags.waiting y) (sym (ready-here w p l shut)) h in
+      (persists-closed (ready w p).time p p (ready-place w p l shut)).waits y ready_waits
+
+  -- what does not wait is not due
+  never-due : (w : World T) (p k : ℕ) → IsWhole w → is_waiting (standing_at w k) ≡ false → Nests holds w p ⊎ IsChange holds w p → times_among k (reclaims w p) ≡ 0
+  never-due w p k i idle (inl n) = ap (λ xs. times_among k xs) n.none
+  never-due w p k i idle (inr c) =
+      let none : times_waiting w k ≡ 0 = i.once k ∙ rw idle refl in
+      let due : times_among k (due_next (place_at w p)) ≡ 0 = omega (arith, none, one-place k w.time.places p, times-aged k (place_at w p).bags.waiting) in
+      ap (λ xs. times_among k xs) c.due ∙ due
+
+  -- a slot that is free stays so
+  gone-opened : (w : World T) (p k : ℕ) → p < length w.time.places → IsWhole w → Stands k None None w → Stands k None None (opened holds w p)
+  gone-opened w p k l i g = opened-stays holds w p l k None None (λ e. absurd (cc)) (never-due w p k i (ap is_waiting g.standing) (how holds w p l)) g
+
+  -- one accelerated guard: what waits is no younger
+  value-there : (w : World T) (k : ℕ) → IsWhole w → is_waiting (standing_at w k) ≡ true → (v : Option T) → value_at w k ≡ v → is_some v ≡ true
+  value-there w k i standing v e = ap is_some (sym e) ∙ filled-there w k i.filled ∙ some-waits (standing_at w k) standing
+
+  due-goes : (w : World T) (p k : ℕ) → p < length w.time.places → IsWhole w → is_waiting (standing_at w k) ≡ true → 1 ≤ times_among k (reclaims w p) → (v : Option T) → value_at w k ≡ v → is_some v ≡ true → Stands k None None (opened holds w p)
+  due-goes w p k l i standing some None e there = absurd (cc)
+  due-goes w p k l i standing some (Some v) e there = opened-goes holds w p l k (standing_at w k) v standing some (record { standing = refl; value = e })
+
+  nests-why : (w : World T) (p : ℕ) → AllClosed w → (place_at w p).found ≢ w.time.count → (is_open (place_at w p) ≡ true) ⊎ ((is_open (place_at w p) ≡ false) × ((place_at w p).found ≡ w.time.count)) → ⊥
+  nests-why w p shut another (inl o) = let never : false ≡ true = sym (shut p) ∙ o in absurd (cc)
+  nests-why w p shut another (inr h) = another h.1
+
+  change-grows : (w : World T) (p k least seen : ℕ) → p < length w.time.places → AllClosed w → IsWhole w → least ≤ seen → Waits w p k seen → IsChange holds w p → (seen < 2) ⊎ (2 ≤ seen) →
+      HasSeen (accelerated_guard holds w p) p k (least + 1)
+  change-grows w p k least seen l shut i more h c (inl young) = waits (seen + 1) (omega (arith, more)) (closed-waits w p k (seen + 1) l shut (change-waits holds w p k seen l c young h))
+  change-grows w p k least seen l shut i more h c (inr old) =
+      let two : seen ≡ 2 = omega (arith, old, waits-young w p k seen i h) in
+      let ripe = entry-due k (place_at w p).bags.waiting (subst (λ (n : ℕ). Waits w p k n) two h) in
+      let some : 1 ≤ times_among k (reclaims w p) = subst (λ xs. 1 ≤ times_among k xs) (sym c.due) ripe in
+      let standing = waits-standing w p k seen i h in
+      let free = due-goes w p k l i standing some (value_at w k) refl (value-there w k i standing (value_at w k) refl) in
+      gone (record { standing = free.standing; value = free.value })
+
+  fewer : (w : World T) (p k least : ℕ) → HasSeen w p k (least + 1) → HasSeen w p k least
+  fewer w p k least (gone g) = gone g
+  fewer w p k least (waits seen more h) = waits seen (omega (arith, more)) h
+
+  any-grows : (w : World T) (p k least seen : ℕ) → p < length w.time.places → AllClosed w → IsWhole w → least ≤ seen → Waits w p k seen → Nests holds w p ⊎ IsChange holds w p → HasSeen (accelerated_guard holds w p) p k least
+  any-grows w p k least seen l shut i more h (inl n) = waits seen more (closed-waits w p k seen l shut (nests-waits holds w p k seen l n h))
+  any-grows w p k least seen l shut i more h (inr c) = fewer (accelerated_guard holds w p) p k least (change-grows w p k least seen l shut i more h c (below-or-past seen 2))
+
+  -- where p finds another count, its opening is a change
+  must-change : (w : World T) (p : ℕ) → AllClosed w → (place_at w p).found ≢ w.time.count → Nests holds w p ⊎ IsChange holds w p → IsChange holds w p
+  must-change w p shut another (inr c) = c
+  must-change w p shut another (inl n) = absurd (nests-why w p shut another n.why)
+
+  after-one : (w : World T) (p k least : ℕ) → p < length w.time.places → AllClosed w → IsWhole w → HasSeen w p k least → HasSeen (accelerated_guard holds w p) p k least
+  after-one w p k least l shut i (gone g) = let o = gone-opened w p k l i g in gone (record { standing = o.standing; value = o.value })
+  after-one w p k least l shut i (waits seen more h) = any-grows w p k least seen l shut i more h (how holds w p l)
+
+  after-change : (w : World T) (p k least : ℕ) → p < length w.time.places → AllClosed w → IsWhole w → (place_at w p).found ≢ w.time.count → HasSeen w p k least → HasSeen (accelerated_guard holds w p) p k (least + 1)
+  after-change w p k least l shut i another (gone g) = let o = gone-opened w p k l i g in gone (record { standing = o.standing; value = o.value })
+  after-change w p k least l shut i another (waits seen more h) = change-grows w p k least seen l shut i more h (must-change w p shut another (how holds w p l)) (below-or-past seen 2)
+
+  -- what has seen three changes is gone
+  gone-by-then : (w : World T) (p k : ℕ) → IsWhole w → HasSeen w p k 3 → Stands k None None w
+  gone-by-then w p k i (gone g) = g
+  gone-by-then w p k i (waits seen more h) = absurd (omega (arith, more, waits-young w p k seen i h))
+
+  pub four-guards : (w : World T) → IsWhole w → FourGuardsReclaim holds w
+  four-guards w i = λ p k seen l quiet room h.
+      let g : World T → World T = λ u. accelerated_guard holds u p in
+      let shut = all-closed w quiet in
+      let l1 = still-place w p l shut in let s1 = still-closed w p l shut in let i1 = still-whole w p l shut i in
+      let l2 = still-place (g w) p l1 s1 in let s2 = still-closed (g w) p l1 s1 in let i2 = still-whole (g w) p l1 s1 i1 in
+      let l3 = still-place (g (g w)) p l2 s2 in let s3 = still-closed (g (g w)) p l2 s2 in let i3 = still-whole (g (g w)) p l2 s2 i2 in
+      let i4 = still-whole (g (g (g w))) p l3 s3 i3 in
+      let r1 = raises w p l shut (omega (arith, room)) in
+      let r2 = raises (g w) p l1 s1 (omega (arith, room, r1.count)) in
+      let r3 = raises (g (g w)) p l2 s2 (omega (arith, room, r1.count, r2.count)) in
+      let h1 : HasSeen (g w) p k 0 = after-one w p k 0 l shut i (waits seen (omega arith) h) in
+      let h2 : HasSeen (g (g w)) p k 1 = after-change (g w) p k 0 l1 s1 i1 (λ e. absurd (omega (arith, e, r1.found, r1.count))) h1 in
+      let h3 : HasSeen (g (g (g w))) p k 2 = after-change (g (g w)) p k 1 l2 s2 i2 (λ e. absurd (omega (arith, e, r2.found, r2.count))) h2 in
+      let h4 : HasSeen (g (g (g (g w)))) p k 3 = after-change (g (g (g w))) p k 2 l3 s3 i3 (λ e. absurd (omega (arith, e, r3.found, r3.count))) h3 in
+      let end = gone-by-then (g (g (g (g w)))) p k i4 h4 in
+      (end.standing, end.value)
