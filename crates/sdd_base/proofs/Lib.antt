@@ -5,3 +5,4 @@ pub mod Opening
 pub mod Entries
 pub mod Under
 pub mod Four
+pub mod Out

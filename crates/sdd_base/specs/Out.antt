@@ -1,9 +1,12 @@
 -- How much of a world is out of its hands
-use Rattle.std.specs.Prelude.{ℕ, ◌+◌, ◌≡◌, Bool, true, false, List, [], Option, None, Some, is_some, count_by}
+use Rattle.std.specs.Prelude.{ℕ, ◌+◌, ◌≡◌, ◌≤◌, Bool, true, false, List, [], ◌∷◌, Option, None, Some, is_some, count_by, length}
+use Rattle.sdd_store.specs.Table.{IsEmptyAt, entry_at}
 use Rattle.sdd_store.specs.declared.standing.Standing.{Standing}
 use Rattle.sdd_store.specs.declared.standing.Standing.TheVariants.{Owned, Raw, Shared, Retired, Private}
-use Rattle.sdd_base.specs.Holding.{Holding}
-use Rattle.sdd_base.specs.World.{World}
+use Rattle.sdd_store.specs.declared.standing.Cell.{Cell}
+use Rattle.sdd_base.specs.Holding.{Holding, owned, atomic_owned}
+use Rattle.sdd_base.specs.World.{World, IsPlaceOf, standing_at}
+use Rattle.sdd_base.specs.Steps.{made, retired, nulled, cell_closed, opened, given, given_all, held_in}
 
 -- the slot's item has an owner, or is out as raw
 abbrev pub is_out : Option Standing → Bool
@@ -21,3 +24,31 @@ out w = count_by is_out w.standings + count_by is_some w.cells
 -- values of this type hold no owner and no cell
 abbrev pub HoldsNothing : {T : Type 0} → (T → List Holding) → Type 0
 HoldsNothing {T} holds = (value : T) → holds value ≡ []
+
+module _ {T : Type 0} where
+  -- a cell that is taken and holds nothing
+  abbrev pub IsNullCell : World T → ℕ → Type 0
+  IsNullCell w c = (cell : Cell) × (entry_at w.cells c ≡ Some cell) × (cell.held ≡ None)
+
+  -- what a value holds is out
+  abbrev pub IsOut : World T → Holding → Type 0
+  IsOut w (owned k home) = standing_at w k ≡ Some Owned
+  IsOut w (atomic_owned c home) = IsNullCell w c
+
+  -- each is, when p is given it after those before it
+  abbrev pub AreOut : World T → ℕ → List Holding → Type 0
+  AreOut w p [] = Unit {0}
+  AreOut w p (h ∷ hs) = IsOut w h × AreOut (given w p h) p hs
+
+-- what puts something out, and what takes it back
+pub record OutLaws {T : Type 0} (holds : T → List Holding) (w : World T) : Type 0 where
+  pub making : (k : ℕ) (value : T) → IsEmptyAt w.standings k → out (made w k value) ≡ out w + 1
+  pub nulling : (c : ℕ) → IsEmptyAt w.cells c → out (nulled w c) ≡ out w + 1
+  pub retiring : (p k : ℕ) → standing_at w k ≡ Some Owned → out (retired w p k) + 1 ≡ out w
+  pub closing : (p c : ℕ) → IsNullCell w c → out (cell_closed w p c) + 1 ≡ out w
+  -- what a value gives up takes away what it holds
+  pub giving : (p : ℕ) (hs : List Holding) → AreOut w p hs → out (given_all w p hs) + length hs ≡ out w
+  -- no opening puts anything out
+  pub opening : (p : ℕ) → IsPlaceOf w p → out (opened holds w p) ≤ out w
+  -- and it leaves out what was, where values hold nothing
+  pub opening_plain : HoldsNothing holds → (p : ℕ) → IsPlaceOf w p → out (opened holds w p) ≡ out w

@@ -1,0 +1,153 @@
+-- What puts something out, and what takes it back
+use Rattle.std.proofs.Common.{◌≡◌, ◌≢◌, ◌⊎◌, inl, inr, ℕ, ◌+◌, ◌<◌, ◌≤◌, List, [], ◌∷◌, length, cond, Bool, refl, sym, ap, ◌∙◌, arith, true, false, Some, None, Option, zero, suc, slice_index_or, slice_set, count_by, subst}
+use Rattle.std.specs.Prelude.{is_some, if◌then◌else◌}
+use Rattle.std.proofs.lemmas.List.{get_or_past}
+use Rattle.std.proofs.lemmas.List.Sums.{sum_by-set}
+use Rattle.sdd_store.specs.Waiting.{What}
+use Rattle.sdd_store.specs.Waiting.What.{Item, Private, Job}
+use Rattle.sdd_store.specs.Table.{IsEmptyAt, entry_at, without_entry}
+use Rattle.sdd_store.specs.Time.{due_next}
+use Rattle.sdd_store.specs.declared.standing.Standing.{Standing}
+use Rattle.sdd_store.specs.declared.standing.Standing.TheVariants.{Owned, Raw, Shared, Retired, Private as privately}
+use Rattle.sdd_store.specs.declared.standing.Cell.{Cell}
+use Rattle.sdd_base.specs.World.{World, IsPlaceOf, place_at, standing_at, value_at}
+use Rattle.sdd_base.specs.Steps.{made, retired, nulled, cell_closed, given, given_all, held_in, freed, taken_out, waiting_value, reclaimed, all_reclaimed, opened, changed, spilled}
+use Rattle.sdd_base.specs.Steps as steps
+use Rattle.sdd_base.specs.Holding.{Holding, owned, atomic_owned}
+use Rattle.sdd_base.specs.Out.{is_out, out, HoldsNothing, IsNullCell, IsOut, AreOut, OutLaws}
+use Rattle.sdd_core.specs.declared.tag.Tag.TheVariants.{None as no_tag}
+use Rattle.sdd_base.proofs.Whole.{one_where, below-or-past}
+use Rattle.sdd_base.proofs.Weights.{in_range}
+use Rattle.sdd_base.proofs.Opening.{how, Nests, IsChange, keeps-given_all}
+
+cell-inside : (xs : List (Option Cell)) (c : ℕ) (cell : Cell) → slice_index_or xs c None ≡ Some cell → c < length xs
+cell-inside [] c cell e = absurd (cc)
+cell-inside (x ∷ xs) zero cell e = omega arith
+cell-inside (x ∷ xs) (suc c) cell e = omega (arith, cell-inside xs c cell e)
+
+set-past : (xs : List (Option Cell)) (c : ℕ) → length xs ≤ c → slice_set xs c None ≡ xs
+set-past [] c h = refl
+set-past (x ∷ xs) zero h = absurd (omega (arith, h))
+set-past (x ∷ xs) (suc c) h = ap (λ (ys : List (Option Cell)). x ∷ ys) (set-past xs c (omega (arith, h)))
+
+fewer-if : (xs : List (Option Cell)) (c : ℕ) → (c < length xs) ⊎ (length xs ≤ c) → count_by is_some (slice_set xs c None) ≤ count_by is_some xs
+fewer-if xs c (inl l) =
+    let m = sum_by-set (λ (s : Option Cell). cond (is_some s) 1 0) xs c None None l in
+    omega (arith, m)
+fewer-if xs c (inr past) = rw (set-past xs c past) (omega arith)
+
+-- a count goes down where an element is taken out
+fewer-cells : (xs : List (Option Cell)) (c : ℕ) → count_by is_some (slice_set xs c None) ≤ count_by is_some xs
+fewer-cells xs c = fewer-if xs c (below-or-past c (length xs))
+
+module _ {T : Type 0} where
+  set-out : (w : World T) (k : ℕ) (s : Option Standing) → k < length w.standings →
+      count_by is_out (slice_set w.standings k s) + one_where (is_out (standing_at w k)) ≡ count_by is_out w.standings + one_where (is_out s)
+  set-out w k s l = sum_by-set (λ (s : Option Standing). cond (is_out s) 1 0) w.standings k s None l
+
+  set-cell : (w : World T) (c : ℕ) (cell : Option Cell) → c < length w.cells →
+      count_by is_some (slice_set w.cells c cell) + one_where (is_some (entry_at w.cells c)) ≡ count_by is_some w.cells + one_where (is_some cell)
+  set-cell w c cell l = sum_by-set (λ (s : Option Cell). cond (is_some s) 1 0) w.cells c cell None l
+
+  out-retired : (w : World T) (p k : ℕ) → standing_at w k ≡ Some Owned → out (retired w p k) + 1 ≡ out w
+  out-retired w p k there =
+      let was : one_where (is_out (standing_at w k)) ≡ 1 = rw there refl in
+      omega (arith, set-out w k (Some Retired) (in_range w.standings k Owned there), was)
+
+  out-cell_closed : (w : World T) (p c : ℕ) → IsNullCell w c → out (cell_closed w p c) + 1 ≡ out w
+  out-cell_closed w p c (cell, there, null) =
+      let was : one_where (is_some (entry_at w.cells c)) ≡ 1 = rw there refl in
+      let held : held_in (entry_at w.cells c) ≡ None = rw there null in
+      rw held (omega (arith, set-cell w c None (cell-inside w.cells c cell there), was))
+
+  out-given : (w : World T) (p : ℕ) (h : Holding) → IsOut w h → out (given w p h) + 1 ≡ out w
+  out-given w p (owned k home) is = rw is (out-retired w p k is)
+  out-given w p (atomic_owned c home) is = out-cell_closed w p c is
+
+  out-given_all : (w : World T) (p : ℕ) (hs : List Holding) → AreOut w p hs → out (given_all w p hs) + length hs ≡ out w
+  out-given_all w p [] are = omega arith
+  out-given_all w p (h ∷ hs) are = omega (arith, out-given w p h are.0, out-given_all (given w p h) p hs are.1)
+
+  -- no more than so much is out
+  abbrev AtMost : ℕ → World T → Type 0
+  AtMost n w = out w ≤ n
+
+  given-at-most : (n : ℕ) (w : World T) (p : ℕ) (hs : List Holding) → AtMost n w → AtMost n (given_all w p hs)
+  given-at-most n w p hs h =
+      keeps-given_all p (AtMost n) (λ u k is g. omega (arith, g, out-retired u p k is)) (λ u c g. omega (arith, g, fewer-cells u.cells c)) w hs h
+
+  -- a slot that waited was not out
+  out-freed : (w : World T) (k : ℕ) (s : Standing) → standing_at w k ≡ Some s → is_out (Some s) ≡ false → out (freed w k) ≡ out w
+  out-freed w k s there idle =
+      let was : one_where (is_out (standing_at w k)) ≡ 0 = rw (there, idle) refl in
+      omega (arith, set-out w k None (in_range w.standings k s there), was)
+
+  module _ (holds : T → List Holding) (n : ℕ) (p : ℕ) where
+    freed-at-most : (w : World T) (k : ℕ) (s : Standing) (v : Option T) → standing_at w k ≡ Some s → is_out (Some s) ≡ false → AtMost n w → AtMost n (taken_out holds w p k v)
+    freed-at-most w k s None there idle h = h
+    freed-at-most w k s (Some v) there idle h = given-at-most n (freed w k) p (holds v) (omega (arith, h, out-freed w k s there idle))
+
+    slot-at-most : (w : World T) (k : ℕ) (s : Option Standing) → standing_at w k ≡ s → AtMost n w → AtMost n (taken_out holds w p k (waiting_value w k s))
+    slot-at-most w k None is h = h
+    slot-at-most w k (Some Owned) is h = h
+    slot-at-most w k (Some Raw) is h = h
+    slot-at-most w k (Some (Shared m)) is h = h
+    slot-at-most w k (Some Retired) is h = freed-at-most w k Retired (value_at w k) is refl h
+    slot-at-most w k (Some (privately c)) is h = freed-at-most w k (privately c) (value_at w k) is refl h
+
+    reclaimed-at-most : (w : World T) (x : What) → AtMost n w → AtMost n (reclaimed holds w p x)
+    reclaimed-at-most w (Item k) h = slot-at-most w k (standing_at w k) refl h
+    reclaimed-at-most w (Private k c) h = slot-at-most w k (standing_at w k) refl h
+    reclaimed-at-most w (Job j) h = h
+
+    all-at-most : (xs : List What) (w : World T) → AtMost n w → AtMost n (all_reclaimed holds w p xs)
+    all-at-most [] w h = h
+    all-at-most (x ∷ xs) w h = all-at-most xs (reclaimed holds w p x) (reclaimed-at-most w x h)
+
+    opened-at-most : (w : World T) → AtMost n w → Nests holds w p ⊎ IsChange holds w p → AtMost n (opened holds w p)
+    opened-at-most w h (inl c) = rw c.nests h
+    opened-at-most w h (inr c) = rw c.change (all-at-most (due_next (place_at (steps.nested w p) p)) (steps.rotated (steps.nested w p) p) h)
+
+  -- where values hold nothing, just as much
+  module _ (holds : T → List Holding) (plain : HoldsNothing holds) (n : ℕ) (p : ℕ) where
+    freed-same : (w : World T) (k : ℕ) (s : Standing) (v : Option T) → standing_at w k ≡ Some s → is_out (Some s) ≡ false → out w ≡ n → out (taken_out holds w p k v) ≡ n
+    freed-same w k s None there idle h = h
+    freed-same w k s (Some v) there idle h = rw (plain v) (out-freed w k s there idle ∙ h)
+
+    slot-same : (w : World T) (k : ℕ) (s : Option Standing) → standing_at w k ≡ s → out w ≡ n → out (taken_out holds w p k (waiting_value w k s)) ≡ n
+    slot-same w k None is h = h
+    slot-same w k (Some Owned) is h = h
+    slot-same w k (Some Raw) is h = h
+    slot-same w k (Some (Shared m)) is h = h
+    slot-same w k (Some Retired) is h = freed-same w k Retired (value_at w k) is refl h
+    slot-same w k (Some (privately c)) is h = freed-same w k (privately c) (value_at w k) is refl h
+
+    reclaimed-same : (w : World T) (x : What) → out w ≡ n → out (reclaimed holds w p x) ≡ n
+    reclaimed-same w (Item k) h = slot-same w k (standing_at w k) refl h
+    reclaimed-same w (Private k c) h = slot-same w k (standing_at w k) refl h
+    reclaimed-same w (Job j) h = h
+
+    all-same : (xs : List What) (w : World T) → out w ≡ n → out (all_reclaimed holds w p xs) ≡ n
+    all-same [] w h = h
+    all-same (x ∷ xs) w h = all-same xs (reclaimed holds w p x) (reclaimed-same w x h)
+
+    opened-same : (w : World T) → out w ≡ n → Nests holds w p ⊎ IsChange holds w p → out (opened holds w p) ≡ n
+    opened-same w h (inl c) = ap (λ (u : World T). out u) c.nests ∙ h
+    opened-same w h (inr c) = ap (λ (u : World T). out u) c.change ∙ all-same (due_next (place_at (steps.nested w p) p)) (steps.rotated (steps.nested w p) p) h
+
+  nulled-more : (w : World T) (c : ℕ) → IsEmptyAt w.cells c → out (nulled w c) ≡ out w + 1
+  nulled-more w c empty =
+      let was : one_where (is_some (entry_at w.cells c)) ≡ 0 = rw empty.1 refl in
+      omega (arith, sum_by-set (λ (s : Option Cell). cond (is_some s) 1 0) w.cells c (Some (record { held = None; tag = no_tag })) None empty.0, was)
+
+  pub out-laws : (holds : T → List Holding) (w : World T) → OutLaws holds w
+  out-laws holds w =
+      record {
+        making = λ k v empty. let was : one_where (is_out (standing_at w k)) ≡ 0 = rw empty.1 refl in omega (arith, set-out w k (Some Owned) empty.0, was);
+        nulling = λ c empty. nulled-more w c empty;
+        retiring = out-retired w;
+        closing = out-cell_closed w;
+        giving = out-given_all w;
+        opening = λ p l. opened-at-most holds (out w) p w (omega arith) (how holds w p l);
+        opening_plain = λ plain p l. opened-same holds plain (out w) p w refl (how holds w p l);
+      }
