@@ -11,6 +11,7 @@ ghost use Rattle.sdd_base.specs.Own.{GrowsOn};
 ghost use Rattle.sdd_base.specs.Owned.{slots_home, cells_home, holding_of, cell_holding};
 ghost use Rattle.sdd_base.specs.World.{World, IsBlank, weight, KeepsSizes, place_at, standing_at, value_at, IsPlaceOf};
 ghost use Rattle.sdd_base.specs.Steps.{made, retired, nulled, cell_closed, given, given_all, slot_reclaimed, all_reclaimed, rotated, settled, nested, closed, stirred, accelerated, registered};
+ghost use Rattle.sdd_world.specs.Core.{IsWhole};
 ghost use Rattle.sdd_world.specs.Closing.{paced, NothingIsOut};
 
 use sdd_base::{AtomicOwned, Giver, Item, Owned, inner};
@@ -62,6 +63,8 @@ impl<T: Item<T>> Core<T> {
             (λ right. (home_of right ≡ self.old.home.slots) × IsEmptyAt self.old.standings (number_of right) × (self.new ≡ made self.old (number_of right) value))
             (λ back. IsFull self.old.standings × (back ≡ value) × (self.new ≡ self.old)) }
         ensures sizes { KeepsSizes self.old self.new }
+        ensures whole { IsWhole self.old → IsWhole self.new }
+        ensures keeps { IsWhole self.old → (k : ℕ) (v : T) → value_at self.old k ≡ Some v → value_at self.new k ≡ Some v }
     {
         let right = self.slots.make(value)?;
         self.tally.count_made();
@@ -75,6 +78,7 @@ impl<T: Item<T>> Core<T> {
         ensures owned { standing_at self.old (number_of right) ≡ Some Standing.Owned }
         ensures retired { self.new ≡ retired self.old place (number_of right) }
         ensures sizes { KeepsSizes self.old self.new }
+        ensures whole { IsWhole self.old → IsWhole self.new }
     {
         let slot = self.slots.retire(right);
         self.time.wait(place, slot);
@@ -96,6 +100,7 @@ impl<T: Item<T>> Core<T> {
         requires home { home_of right ≡ self.old.home.cells }
         ensures closed { self.new ≡ cell_closed self.old place (number_of right) }
         ensures sizes { KeepsSizes self.old self.new }
+        ensures whole { IsWhole self.old → IsWhole self.new }
     {
         let _ = place;
         let _ = self.cells.close(right);
@@ -300,11 +305,14 @@ impl<T: Item<T>> Core<T> {
         self.slots.value(right)
     }
 
-    /// The value in a slot, if one is there.
-    pub fn look(&self, slot: u32) -> Option<&T>
-        ensures value { option_copied result ≡ value_at self.now slot }
-        ensures taken { IsSome result ↔ IsSome (standing_at self.now slot) }
+    /// The value in a slot that isn't free.
+    pub fn shown(&self, slot: u32) -> &T
+        requires { IsSome (standing_at self.now slot) }
+        ensures { value_at self.now slot ≡ Some result.now }
     {
-        self.slots.look(slot)
+        let Some(value) = self.slots.look(slot) else {
+            unreachable!()
+        };
+        value
     }
 }
