@@ -1,4 +1,4 @@
-ghost use Rattle.std.specs.Prelude.{◌≡◌, ℕ, ◌+◌, ◌<◌, ◌≤◌, List, [], map, length, vec_capacity, Some, None, Option, IsSome, MatchOption, MatchResult, IfOk, IsTrue, option_copied, ◌⊎◌, ◌↔◌};
+ghost use Rattle.std.specs.Prelude.{◌≡◌, ℕ, ◌+◌, ◌<◌, ◌≤◌, Bool, false, if◌then◌else◌, List, [], map, length, vec_capacity, Some, None, Option, IsSome, MatchOption, MatchResult, IfOk, IsTrue, option_copied, ◌⊎◌, ◌↔◌};
 ghost use Rattle.sdd_core.specs.Epoch.{epoch_of};
 ghost use Rattle.sdd_token.specs.Right.{number_of, home_of};
 ghost use Rattle.sdd_store.specs.Waiting.{What};
@@ -175,27 +175,29 @@ impl<T: Item<T>> Core<T> {
         }
     }
 
-    pub fn nest(&mut self, place: usize)
+    /// Opens one more guard of a place, and tells whether that is a change.
+    pub fn open(&mut self, place: usize) -> bool
         requires place { IsPlaceOf self.old place }
         requires few { time.CanNest self.old.time place }
         ensures nested { self.new ≡ nested self.old place }
+        ensures change { result ≡ (if time.is_open (place_at self.old place) then false else time.finds_another self.old.time place) }
         ensures sizes { KeepsSizes self.old self.new }
     {
-        self.time.nest(place);
+        self.time.open(place)
     }
 
-    /// What has seen three changes comes out, in place of an empty bag.
-    pub fn rotate(&mut self, place: usize, bag: Vec<u32>) -> Vec<u32>
+    /// What has seen three changes comes out, into the empty bag that is handed in.
+    pub fn rotate(&mut self, place: usize, bag: &mut Vec<u32>)
         requires place { IsPlaceOf self.old place }
-        requires empty { bag.items ≡ [] }
-        requires reserved { length self.old.standings ≤ vec_capacity bag }
+        requires empty { bag.old.items ≡ [] }
+        requires reserved { length self.old.standings ≤ vec_capacity bag.old }
         ensures rotated { self.new ≡ rotated self.old place }
-        ensures taken { map Item result.items ≡ time.due_next (place_at self.old place) }
-        ensures reserved { length self.old.standings ≤ vec_capacity result }
-        ensures room { weight self.new + length result.items ≤ length self.new.standings }
+        ensures taken { map Item bag.new.items ≡ time.due_next (place_at self.old place) }
+        ensures reserved { length self.old.standings ≤ vec_capacity bag.new }
+        ensures room { weight self.new + length bag.new.items ≤ length self.new.standings }
         ensures sizes { KeepsSizes self.old self.new }
     {
-        self.time.rotate(place, bag)
+        self.time.rotate(place, bag);
     }
 
     pub fn settle(&mut self, place: usize)

@@ -16,7 +16,6 @@ use sdd_core::Refused;
 use sdd_store::{Tally, Time};
 use std::alloc::Global;
 use std::marker::Model;
-use std::mem;
 
 /// All that the participants of one thread share: items, cells, and the epoch.
 ///
@@ -137,9 +136,7 @@ impl<T: Item<T>> World<T> {
         ensures opened { self.new ≡ opened T.holds self.old place }
         ensures sizes { KeepsSizes self.old self.new }
     {
-        let is_nested = self.core.time().is_open(place);
-        self.core.nest(place);
-        if !is_nested && self.core.time().finds_another(place) {
+        if self.core.open(place) {
             self.change(place);
         }
     }
@@ -150,11 +147,9 @@ impl<T: Item<T>> World<T> {
         ensures changed { self.new ≡ changed T.holds self.old place }
         ensures sizes { KeepsSizes self.old self.new }
     {
-        let bag = mem::replace(&mut self.spare, Vec::new(self.alloc));
-        let mut due = self.core.rotate(place, bag);
-        self.core.reclaim_all(place, due.as_slice());
+        self.core.rotate(place, &mut self.spare);
+        self.core.reclaim_all(place, self.spare.as_slice());
         self.core.settle(place);
-        due.clear();
-        self.spare = due;
+        self.spare.clear();
     }
 }
