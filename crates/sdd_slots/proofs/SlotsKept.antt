@@ -10,7 +10,7 @@ use Rattle.sdd_token.specs.declared.right.Kind.TheVariants as kind
 use Rattle.sdd_store.specs.Table.{Entries}
 use Rattle.sdd_store.specs.declared.standing.Standing.{Standing}
 use Rattle.sdd_store.specs.declared.standing.Standing.TheVariants.{Owned, Raw, Shared, Retired, Private}
-use Rattle.sdd_slots.specs.Slots.{AreKept, kept_of}
+use Rattle.sdd_slots.specs.Slots.{AreKept, IsWaiting, kept_of}
 
 -- each of the same, mapped
 pub map-replicate : {X Y : Type 0} (f : X → Y) (n : ℕ) (x : X) → map f (replicate n x) ≡ replicate n (f x)
@@ -34,6 +34,11 @@ owned-only (Some Raw) e = cc
 owned-only (Some (Shared n)) e = cc
 owned-only (Some Retired) e = cc
 owned-only (Some (Private n)) e = cc
+
+-- a slot that waits is not free
+pub some-waiting : (s : Option Standing) → IsWaiting s → IsSome s
+some-waiting None h = cc
+some-waiting (Some s) h = refl
 
 -- what is kept as owned stands as owned
 pub owned-there : {T : Type 0} {home : Home} {kept : List Kept} {standings : Entries Standing} {values : List (Option T)} (k : ℕ) → AreKept home kept standings values → (slice_index_or kept k (whole kind.Free)).kind ≡ kind.Owned → slice_index_or standings k None ≡ Some Owned

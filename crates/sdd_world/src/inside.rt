@@ -1,4 +1,4 @@
-ghost use Rattle.std.specs.Prelude.{◌≡◌, ℕ, ◌+◌, ◌<◌, ◌≤◌, List, [], map, length, vec_capacity, Some, None, Option, IsSome, MatchOption, MatchResult, IfOk, IsTrue, option_copied, ◌⊎◌, ◌↔◌};
+ghost use Rattle.std.specs.Prelude.{◌≡◌, ℕ, ◌+◌, ◌<◌, ◌≤◌, Bool, false, if◌then◌else◌, List, [], map, length, vec_capacity, Some, None, Option, IsSome, MatchOption, MatchResult, IfOk, IsTrue, option_copied, ◌⊎◌, ◌↔◌};
 ghost use Rattle.sdd_core.specs.Epoch.{epoch_of};
 ghost use Rattle.sdd_token.specs.Right.{number_of, home_of};
 ghost use Rattle.sdd_store.specs.Waiting.{What};
@@ -11,6 +11,7 @@ ghost use Rattle.sdd_base.specs.Own.{GrowsOn};
 ghost use Rattle.sdd_base.specs.Owned.{slots_home, cells_home, holding_of, cell_holding};
 ghost use Rattle.sdd_base.specs.World.{World, IsBlank, weight, KeepsSizes, place_at, standing_at, value_at, IsPlaceOf};
 ghost use Rattle.sdd_base.specs.Steps.{made, retired, nulled, cell_closed, given, given_all, slot_reclaimed, all_reclaimed, rotated, settled, nested, closed, stirred, accelerated, registered};
+ghost use Rattle.sdd_world.specs.Core.{IsWhole};
 ghost use Rattle.sdd_world.specs.Closing.{paced, NothingIsOut};
 
 use sdd_base::{AtomicOwned, Giver, Item, Owned, inner};
@@ -62,6 +63,8 @@ impl<T: Item<T>> Core<T> {
             (λ right. (home_of right ≡ self.old.home.slots) × IsEmptyAt self.old.standings (number_of right) × (self.new ≡ made self.old (number_of right) value))
             (λ back. IsFull self.old.standings × (back ≡ value) × (self.new ≡ self.old)) }
         ensures sizes { KeepsSizes self.old self.new }
+        ensures whole { IsWhole self.old → IsWhole self.new }
+        ensures keeps { IsWhole self.old → (k : ℕ) (v : T) → value_at self.old k ≡ Some v → value_at self.new k ≡ Some v }
     {
         let right = self.slots.make(value)?;
         self.tally.count_made();
@@ -75,6 +78,7 @@ impl<T: Item<T>> Core<T> {
         ensures owned { standing_at self.old (number_of right) ≡ Some Standing.Owned }
         ensures retired { self.new ≡ retired self.old place (number_of right) }
         ensures sizes { KeepsSizes self.old self.new }
+        ensures whole { IsWhole self.old → IsWhole self.new }
     {
         let slot = self.slots.retire(right);
         self.time.wait(place, slot);
@@ -96,6 +100,7 @@ impl<T: Item<T>> Core<T> {
         requires home { home_of right ≡ self.old.home.cells }
         ensures closed { self.new ≡ cell_closed self.old place (number_of right) }
         ensures sizes { KeepsSizes self.old self.new }
+        ensures whole { IsWhole self.old → IsWhole self.new }
     {
         let _ = place;
         let _ = self.cells.close(right);
@@ -170,27 +175,29 @@ impl<T: Item<T>> Core<T> {
         }
     }
 
-    pub fn nest(&mut self, place: usize)
+    /// Opens one more guard of a place, and tells whether that is a change.
+    pub fn open(&mut self, place: usize) -> bool
         requires place { IsPlaceOf self.old place }
         requires few { time.CanNest self.old.time place }
         ensures nested { self.new ≡ nested self.old place }
+        ensures change { result ≡ (if time.is_open (place_at self.old place) then false else time.finds_another self.old.time place) }
         ensures sizes { KeepsSizes self.old self.new }
     {
-        self.time.nest(place);
+        self.time.open(place)
     }
 
-    /// What has seen three changes comes out, in place of an empty bag.
-    pub fn rotate(&mut self, place: usize, bag: Vec<u32>) -> Vec<u32>
+    /// What has seen three changes comes out, into the empty bag that is handed in.
+    pub fn rotate(&mut self, place: usize, bag: &mut Vec<u32>)
         requires place { IsPlaceOf self.old place }
-        requires empty { bag.items ≡ [] }
-        requires reserved { length self.old.standings ≤ vec_capacity bag }
+        requires empty { bag.old.items ≡ [] }
+        requires reserved { length self.old.standings ≤ vec_capacity bag.old }
         ensures rotated { self.new ≡ rotated self.old place }
-        ensures taken { map Item result.items ≡ time.due_next (place_at self.old place) }
-        ensures reserved { length self.old.standings ≤ vec_capacity result }
-        ensures room { weight self.new + length result.items ≤ length self.new.standings }
+        ensures taken { map Item bag.new.items ≡ time.due_next (place_at self.old place) }
+        ensures reserved { length self.old.standings ≤ vec_capacity bag.new }
+        ensures room { weight self.new + length bag.new.items ≤ length self.new.standings }
         ensures sizes { KeepsSizes self.old self.new }
     {
-        self.time.rotate(place, bag)
+        self.time.rotate(place, bag);
     }
 
     pub fn settle(&mut self, place: usize)
@@ -300,11 +307,14 @@ impl<T: Item<T>> Core<T> {
         self.slots.value(right)
     }
 
-    /// The value in a slot, if one is there.
-    pub fn look(&self, slot: u32) -> Option<&T>
-        ensures value { option_copied result ≡ value_at self.now slot }
-        ensures taken { IsSome result ↔ IsSome (standing_at self.now slot) }
+    /// The value in a slot that isn't free.
+    pub fn shown(&self, slot: u32) -> &T
+        requires { IsSome (standing_at self.now slot) }
+        ensures { value_at self.now slot ≡ Some result.now }
     {
-        self.slots.look(slot)
+        let Some(value) = self.slots.look(slot) else {
+            unreachable!()
+        };
+        value
     }
 }

@@ -57,11 +57,11 @@ impl<T: Item<T>> Shows<T> for World<T> {
 
 impl<T: Item<T>> Look<T> for World<T> {
     fn value<'a>(&'a self, right: &'a Right) -> &'a T {
-        World::value(self, right)
+        self.core.value(right)
     }
 
     fn guarded<'g>(&'g self, right: &Right, _guard: &'g Guard) -> &'g T {
-        World::value(self, right)
+        self.core.value(right)
     }
 
     fn look<'g>(&'g self, ptr: Ptr<'g, T>) -> Option<&'g T>
@@ -69,7 +69,7 @@ impl<T: Item<T>> Look<T> for World<T> {
         ensures null { MatchOption result (IsNull ptr.entry) (λ value. NamesShown (λ k v. value_at self.now k ≡ Some v) ptr.entry value.now) }
     {
         let slot = inner::slot_of_ptr(&ptr)?;
-        Some(self.shown(slot))
+        Some(self.core.shown(slot))
     }
 }
 
@@ -86,11 +86,13 @@ impl<T: Item<T>> Shows<T> for Turn<'_, T> {
 
 impl<T: Item<T>> Look<T> for Turn<'_, T> {
     fn value<'a>(&'a self, right: &'a Right) -> &'a T {
-        self.world.value(right)
+        let world: &World<T> = self.world;
+        world.core.value(right)
     }
 
     fn guarded<'g>(&'g self, right: &Right, _guard: &'g Guard) -> &'g T {
-        self.world.value(right)
+        let world: &World<T> = self.world;
+        world.core.value(right)
     }
 
     fn look<'g>(&'g self, ptr: Ptr<'g, T>) -> Option<&'g T>
@@ -98,7 +100,8 @@ impl<T: Item<T>> Look<T> for Turn<'_, T> {
         ensures null { MatchOption result (IsNull ptr.entry) (λ value. NamesShown (λ k v. value_at self.now.world.now k ≡ Some v) ptr.entry value.now) }
     {
         let slot = inner::slot_of_ptr(&ptr)?;
-        Some(self.world.shown(slot))
+        let world: &World<T> = self.world;
+        Some(world.core.shown(slot))
     }
 }
 
@@ -123,7 +126,8 @@ impl<T: Item<T>> Guards<T> for Turn<'_, T> {
     }
 
     fn close_guard(&mut self) {
-        self.world.close_guard(self.place);
+        let world = &mut *self.world;
+        world.core.close(self.place);
     }
 
     fn count(&mut self) -> u64 {
@@ -135,11 +139,13 @@ impl<T: Item<T>> Guards<T> for Turn<'_, T> {
     }
 
     fn stir(&mut self) {
-        self.world.stir(self.place);
+        let world = &mut *self.world;
+        world.core.stir(self.place);
     }
 
     fn accelerate(&mut self) {
-        self.world.accelerate(self.place);
+        let world = &mut *self.world;
+        world.core.accelerate(self.place);
     }
 }
 
@@ -151,17 +157,19 @@ impl<T: Item<T>> Space<T> for Turn<'_, T> {
     ghost is_alone = { true };
 
     fn make(&mut self, value: T) -> Result<Owned<T>, (T, Refused)> {
-        match self.world.make(value) {
+        let world = &mut *self.world;
+        match world.core.make(value) {
             Ok(right) => Ok(inner::owner_of(right)),
             Err(value) => Err((value, Refused::NoSlot)),
         }
     }
 
     fn make_with<F: FnOnce() -> T>(&mut self, make: F) -> Result<Owned<T>, (F, Refused)> {
-        if self.world.is_full() {
+        let world = &mut *self.world;
+        if world.core.is_full() {
             return Err((make, Refused::NoSlot));
         }
-        match self.world.make(make()) {
+        match world.core.make(make()) {
             Ok(right) => Ok(inner::owner_of(right)),
             Err(_) => unreachable!(),
         }
@@ -176,11 +184,13 @@ impl<T: Item<T>> Space<T> for Turn<'_, T> {
         ensures exact { IsExact (seat_on self.old.world.now self.old.place self.old.world.ghost_name) → self.new.world.now ≡ retired self.old.world.now self.old.place (slot_of owner) }
         ensures keeps { KeepsShown (λ k value. value_at self.old.world.now k ≡ Some value) (λ k. IsSome (standing_at self.old.world.now k)) (λ k value. value_at self.new.world.now k ≡ Some value) (λ k. IsSome (standing_at self.new.world.now k)) }
     {
-        self.world.retire(self.place, inner::right_of_owner(owner));
+        let world = &mut *self.world;
+        world.core.retire(self.place, inner::right_of_owner(owner));
     }
 
     fn make_cell(&mut self) -> Result<AtomicOwned<T>, Refused> {
-        match self.world.null() {
+        let world = &mut *self.world;
+        match world.core.null() {
             Some(right) => Ok(inner::cell_with(right)),
             None => Err(Refused::NoCell),
         }
@@ -195,8 +205,9 @@ impl<T: Item<T>> Space<T> for Turn<'_, T> {
         ensures exact { IsExact (seat_on self.old.world.now self.old.place self.old.world.ghost_name) → self.new.world.now ≡ cell_closed self.old.world.now self.old.place (cell_of cell) }
         ensures keeps { KeepsShown (λ k value. value_at self.old.world.now k ≡ Some value) (λ k. IsSome (standing_at self.old.world.now k)) (λ k value. value_at self.new.world.now k ≡ Some value) (λ k. IsSome (standing_at self.new.world.now k)) }
     {
-        self.world
-            .close_cell(self.place, inner::right_of_cell(cell));
+        let right = inner::right_of_cell(cell);
+        let world = &mut *self.world;
+        world.core.close_cell(self.place, right);
     }
 
     ghost alone_is_exact = { λ _ alone. alone };

@@ -14,16 +14,14 @@ use crate::inside::Core;
 use sdd_base::{Item, Limits};
 use sdd_core::Refused;
 use sdd_store::{Tally, Time};
-use sdd_token::Right;
 use std::alloc::Global;
 use std::marker::Model;
-use std::mem;
 
 /// All that the participants of one thread share: items, cells, and the epoch.
 ///
 /// A world must be spent by `close`.
 pub struct World<T: Item<T>> {
-    core: Core<T>,
+    pub(crate) core: Core<T>,
     spare: Vec<u32>,
     alloc: Global,
 }
@@ -131,69 +129,6 @@ impl<T: Item<T>> World<T> {
         time.due(place)
     }
 
-    pub(crate) fn value<'a>(&'a self, right: &Right) -> &'a T
-        requires { home_of right.now ≡ self.now.home.slots }
-        ensures { value_at self.now (number_of right.now) ≡ Some result.now }
-    {
-        self.core.value(right)
-    }
-
-    /// The value in a slot that isn't free.
-    pub(crate) fn shown(&self, slot: u32) -> &T
-        requires { IsSome (standing_at self.now slot) }
-        ensures { value_at self.now slot ≡ Some result.now }
-    {
-        let Some(value) = self.core.look(slot) else {
-            unreachable!()
-        };
-        value
-    }
-
-    /// No slot is free.
-    pub(crate) fn is_full(&self) -> bool
-        ensures { IsTrue result ↔ IsFull self.now.standings }
-    {
-        self.core.is_full()
-    }
-
-    pub(crate) fn make(&mut self, value: T) -> Result<Right, T>
-        requires home { AreOf self.old.home (T.holds value) }
-        ensures made { MatchResult result
-            (λ right. (home_of right ≡ self.old.home.slots) × IsEmptyAt self.old.standings (number_of right) × (self.new ≡ made self.old (number_of right) value))
-            (λ back. IsFull self.old.standings × (back ≡ value) × (self.new ≡ self.old)) }
-        ensures sizes { KeepsSizes self.old self.new }
-        ensures keeps { (k : ℕ) (v : T) → value_at self.old k ≡ Some v → value_at self.new k ≡ Some v }
-    {
-        self.core.make(value)
-    }
-
-    pub(crate) fn retire(&mut self, place: usize, right: Right)
-        requires place { IsPlaceOf self.old place }
-        requires home { home_of right ≡ self.old.home.slots }
-        ensures retired { self.new ≡ retired self.old place (number_of right) }
-        ensures sizes { KeepsSizes self.old self.new }
-    {
-        self.core.retire(place, right);
-    }
-
-    pub(crate) fn null(&mut self) -> Option<Right>
-        ensures nulled { MatchOption result
-            (IsFull self.old.cells × (self.new ≡ self.old))
-            (λ right. (home_of right ≡ self.old.home.cells) × IsEmptyAt self.old.cells (number_of right) × (self.new ≡ nulled self.old (number_of right))) }
-        ensures sizes { KeepsSizes self.old self.new }
-    {
-        self.core.null()
-    }
-
-    pub(crate) fn close_cell(&mut self, place: usize, right: Right)
-        requires place { IsPlaceOf self.old place }
-        requires home { home_of right ≡ self.old.home.cells }
-        ensures closed { self.new ≡ cell_closed self.old place (number_of right) }
-        ensures sizes { KeepsSizes self.old self.new }
-    {
-        self.core.close_cell(place, right);
-    }
-
     /// Opens one more guard of a place.
     pub(crate) fn open(&mut self, place: usize)
         requires place { IsPlaceOf self.old place }
@@ -201,9 +136,7 @@ impl<T: Item<T>> World<T> {
         ensures opened { self.new ≡ opened T.holds self.old place }
         ensures sizes { KeepsSizes self.old self.new }
     {
-        let is_nested = self.core.time().is_open(place);
-        self.core.nest(place);
-        if !is_nested && self.core.time().finds_another(place) {
+        if self.core.open(place) {
             self.change(place);
         }
     }
@@ -214,35 +147,9 @@ impl<T: Item<T>> World<T> {
         ensures changed { self.new ≡ changed T.holds self.old place }
         ensures sizes { KeepsSizes self.old self.new }
     {
-        let bag = mem::replace(&mut self.spare, Vec::new(self.alloc));
-        let mut due = self.core.rotate(place, bag);
-        self.core.reclaim_all(place, due.as_slice());
+        self.core.rotate(place, &mut self.spare);
+        self.core.reclaim_all(place, self.spare.as_slice());
         self.core.settle(place);
-        due.clear();
-        self.spare = due;
-    }
-
-    pub(crate) fn close_guard(&mut self, place: usize)
-        requires place { IsPlaceOf self.old place }
-        ensures closed { self.new ≡ closed self.old place }
-        ensures sizes { KeepsSizes self.old self.new }
-    {
-        self.core.close(place);
-    }
-
-    pub(crate) fn stir(&mut self, place: usize)
-        requires place { IsPlaceOf self.old place }
-        ensures stirred { self.new ≡ stirred self.old place }
-        ensures sizes { KeepsSizes self.old self.new }
-    {
-        self.core.stir(place);
-    }
-
-    pub(crate) fn accelerate(&mut self, place: usize)
-        requires place { IsPlaceOf self.old place }
-        ensures accelerated { self.new ≡ accelerated self.old place }
-        ensures sizes { KeepsSizes self.old self.new }
-    {
-        self.core.accelerate(place);
+        self.spare.clear();
     }
 }

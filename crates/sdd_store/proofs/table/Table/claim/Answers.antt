@@ -1,14 +1,9 @@
-use Rattle.std.proofs.Common.{ap, slice_set}
 use Rattle.sdd_store.proofs.Listed.{listed-claimed, listed-last}
+use Rattle.std.proofs.Common.{refl}
 use Rattle.sdd_store.proofs.table.Table.claim.Goals as goal
 
 pub invariant_of-self-2 : goal.invariant_of-self-2
-invariant_of-self-2 g c =
-    listed-claimed _ _ _ _ _ _ _ _ c.self.invariant c.in-Some.ensures.items c.replace.ensures.after c.pop.ensures.capacity
+invariant_of-self-2 g c = listed-claimed _ _ _ _ _ _ _ _ c.self.invariant c.in-Some.ensures.items refl c.pop.ensures.capacity
 
 pub returns : goal.returns
-returns g c =
-    rw (← c.self.view_is)
-    record {
-      claimed = (listed-last _ _ _ _ _ c.self.invariant c.in-Some.ensures.items, ap (λ next. slice_set c.self.inside.entries.items c.in-Some.place next) c.replace.ensures.after);
-    }
+returns g c = rw (← c.self.view_is) record { claimed = (listed-last _ _ _ _ _ c.self.invariant c.in-Some.ensures.items, refl) }

@@ -1,4 +1,4 @@
-use Rattle.std.proofs.Common.{IsSome, arith}
+use Rattle.std.proofs.Common.{IsSome, arith, refl}
 use Rattle.sdd_store.specs.Table.{entry_at}
 use Rattle.sdd_store.proofs.Listed.{listed-released, room-left}
 use Rattle.sdd_store.proofs.table.Table.release.Goals as goal
@@ -11,4 +11,4 @@ push_reserved-requires g c =
 pub invariant_of-self : goal.invariant_of-self
 invariant_of-self g c =
     let some : IsSome (entry_at c.self.inside.entries.items c.args.place) = rw c.self.view_is c.requires in
-    listed-released _ _ _ _ _ _ _ c.self.invariant some c.take.ensures.after c.push_reserved.ensures.items c.push_reserved.ensures.capacity
+    listed-released _ _ _ _ _ _ _ c.self.invariant some refl c.push_reserved.ensures.items c.push_reserved.ensures.capacity

@@ -1,0 +1,11 @@
+use Rattle.sdd_token.specs.Right.{number_of}
+use Rattle.sdd_world.proofs.Whole.{Whole-made, made-keeps}
+use Rattle.sdd_world.proofs.inside.Core.make.Goals as goal
+
+pub returns-clause-whole : goal.returns-clause-whole
+returns-clause-whole g c =
+    rw (← c.self.view_is, c.in_ok-right.ensures.made, c.count_made.ensures) (λ i. Whole-made _ (number_of c.in_ok-right.right) c.args.value i)
+
+pub returns-clause-keeps : goal.returns-clause-keeps
+returns-clause-keeps g c =
+    rw (← c.self.view_is, c.in_ok-right.ensures.made) (λ i. made-keeps _ (number_of c.in_ok-right.right) c.args.value i c.in_ok-right.ensures.free.1)
