@@ -6,6 +6,7 @@ pub mod atomic_owned;
 pub mod guard;
 pub mod inner;
 pub mod item;
+pub mod laws;
 pub mod limits;
 pub mod look;
 pub mod owned;

@@ -33,4 +33,7 @@ pub trait Look<T>: Shows<T> {
     fn look<'g>(&'g self, ptr: Ptr<'g, T>) -> Option<&'g T>
         requires filled { NamesFilled (Self.filled self.now) ptr }
         ensures null { MatchOption result (IsNull ptr.entry) (λ value. NamesShown (Self.shows self.now) ptr.entry value.now) };
+
+    /// A slot shows one value.
+    ghost one_value: { (s : Self) (k : ℕ) (u v : T) → Self.shows s k u → Self.shows s k v → u ≡ v };
 }

@@ -90,6 +90,7 @@ impl<T: Item<T>> Owned<T> {
         ensures own { S.own s.new ≡ S.own s.old }
         ensures known { KnowsOn (S.known s.old) (S.known s.new) }
         ensures home { IfOk result (λ owner. slots_home owner ≡ (S.seat s.old).home.slots) }
+        ensures shown { IfOk result (λ owner. S.shows s.new (slot_of owner) value) }
         ensures exact { IsExact (S.seat s.old) → MatchResult result
             (λ owner. IsEmptyAt (S.world s.old).standings (slot_of owner) × (S.world s.new ≡ made (S.world s.old) (slot_of owner) value))
             (λ e. IsFull (S.world s.old).standings × (e ≡ (value, Refused.NoSlot)) × (S.world s.new ≡ S.world s.old)) }
@@ -112,6 +113,7 @@ impl<T: Item<T>> Owned<T> {
         ensures own { S.own s.new ≡ S.own s.old }
         ensures known { KnowsOn (S.known s.old) (S.known s.new) }
         ensures home { IfOk result (λ owner. slots_home owner ≡ (S.seat s.old).home.slots) }
+        ensures shown { IfOk result (λ owner. (value : T) × F.post f value × S.shows s.new (slot_of owner) value) }
         ensures exact { IsExact (S.seat s.old) → MatchResult result
             (λ owner. IsEmptyAt (S.world s.old).standings (slot_of owner) × ((value : T) × F.post f value × (S.world s.new ≡ made (S.world s.old) (slot_of owner) value)))
             (λ e. IsFull (S.world s.old).standings × (e ≡ (f, Refused.NoSlot)) × (S.world s.new ≡ S.world s.old)) }

@@ -1,11 +1,11 @@
-ghost use Rattle.std.specs.Prelude.{◌≡◌, ℕ, Bool, IfOk, IsTrue, MatchResult};
+ghost use Rattle.std.specs.Prelude.{◌≡◌, ◌↔◌, ℕ, Bool, IfOk, IsSome, IsTrue, MatchResult, Some};
 ghost use Rattle.sdd_store.specs.Waiting.What.{Item};
 ghost use Rattle.sdd_store.specs.declared.time.Participant.{Participant};
 ghost use Rattle.sdd_store.specs.Time.{CanNest, has_garbage, is_open, with_garbage};
 ghost use Rattle.sdd_store.specs.Time as time;
 ghost use Rattle.sdd_store.specs.Table.{IsEmptyAt, IsFull};
 ghost use Rattle.sdd_base.specs.Holding.{AreOf};
-ghost use Rattle.sdd_base.specs.World.{World, place_at};
+ghost use Rattle.sdd_base.specs.World.{World, place_at, standing_at, value_at};
 ghost use Rattle.sdd_base.specs.Seat.{Seat, IsSeated, IsExact, IsLone, MayNest};
 ghost use Rattle.sdd_base.specs.Own.{IsOpened, IsClosed, IsSpilled};
 ghost use Rattle.sdd_base.specs.Known.{Known, KnowsOn, KnowsOpened, KnowsClosed, IsNear, IsRaisedBy};
@@ -91,6 +91,18 @@ pub trait Guards<T: Item<T>>: Shows<T> {
         ensures lone { IsLone (seat self.old) → known self.new ≡ known self.old }
         ensures exact { IsExact (seat self.old) → world self.new ≡ accelerated (world self.old) (seat self.old).place }
         ensures keeps { KeepsShown (Self.shows self.old) (Self.filled self.old) (Self.shows self.new) (Self.filled self.new) };
+
+    /// The space is where the participant sits.
+    ghost home_is_seat: { (s : Self) → Self.home s ≡ (seat s).home };
+
+    /// In an exact space what the participant keeps of its own is what the world keeps of it.
+    ghost own_is_place: { (s : Self) → IsExact (seat s) → own s ≡ place_at (world s) (seat s).place };
+
+    /// In an exact space a slot shows the value that is in it.
+    ghost shows_is_value: { (s : Self) → IsExact (seat s) → (k : ℕ) (value : T) → Self.shows s k value ↔ (value_at (world s) k ≡ Some value) };
+
+    /// In an exact space a slot shows some value exactly where it isn't free.
+    ghost filled_is_taken: { (s : Self) → IsExact (seat s) → (k : ℕ) → Self.filled s k ↔ IsSome (standing_at (world s) k) };
 }
 
 /// A world or domain as one participant has it.
@@ -108,6 +120,7 @@ pub trait Space<T: Item<T>>: Look<T> + Guards<T> {
         ensures own { Self.own self.new ≡ Self.own self.old }
         ensures known { KnowsOn (Self.known self.old) (Self.known self.new) }
         ensures home { IfOk result (λ owner. slots_home owner ≡ (Self.seat self.old).home.slots) }
+        ensures shown { IfOk result (λ owner. Self.shows self.new (slot_of owner) value) }
         ensures exact { IsExact (Self.seat self.old) → MatchResult result
             (λ owner. IsEmptyAt (Self.world self.old).standings (slot_of owner) × (Self.world self.new ≡ made (Self.world self.old) (slot_of owner) value))
             (λ e. IsFull (Self.world self.old).standings × (e ≡ (value, Refused.NoSlot)) × (Self.world self.new ≡ Self.world self.old)) }
@@ -122,6 +135,7 @@ pub trait Space<T: Item<T>>: Look<T> + Guards<T> {
         ensures own { Self.own self.new ≡ Self.own self.old }
         ensures known { KnowsOn (Self.known self.old) (Self.known self.new) }
         ensures home { IfOk result (λ owner. slots_home owner ≡ (Self.seat self.old).home.slots) }
+        ensures shown { IfOk result (λ owner. (value : T) × F.post make value × Self.shows self.new (slot_of owner) value) }
         ensures exact { IsExact (Self.seat self.old) → MatchResult result
             (λ owner. IsEmptyAt (Self.world self.old).standings (slot_of owner) × ((value : T) × F.post make value × (Self.world self.new ≡ made (Self.world self.old) (slot_of owner) value)))
             (λ e. IsFull (Self.world self.old).standings × (e ≡ (make, Refused.NoSlot)) × (Self.world self.new ≡ Self.world self.old)) }

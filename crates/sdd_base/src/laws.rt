@@ -1,0 +1,25 @@
+//! Laws of every space, as functions that callers can cite by calling them.
+ghost use Rattle.std.specs.Prelude.{◌≡◌, ◌⊎◌, IsTrue};
+ghost use Rattle.sdd_core.specs.Epoch.{epoch_after};
+ghost use Rattle.sdd_base.specs.Seat.{IsSeated};
+ghost use Rattle.sdd_base.specs.Known.{KnowsOn};
+ghost use Rattle.sdd_store.specs.Time.{is_open};
+
+use crate::guard::Guard;
+use crate::item::Item;
+use crate::space::Guards;
+use sdd_core::Epoch;
+
+/// The epoch, asked twice under one open guard: the second answer is the first one or its `next`.
+pub fn epoch_moves_by_one<T: Item<T>, S: Guards<T>>(guard: &Guard, s: &mut S) -> (Epoch, Epoch)
+    requires seated { IsSeated (S.seat s.old) }
+    requires guarded { IsTrue (is_open (S.own s.old)) }
+    ensures seat { S.seat s.new ≡ S.seat s.old }
+    ensures own { S.own s.new ≡ S.own s.old }
+    ensures known { KnowsOn (S.known s.old) (S.known s.new) }
+    ensures moved { (result.1 ≡ result.0) ⊎ (result.1 ≡ epoch_after result.0) }
+{
+    let first = guard.epoch::<T, S>(s);
+    let second = guard.epoch::<T, S>(s);
+    (first, second)
+}
