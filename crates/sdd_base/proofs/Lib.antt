@@ -4,3 +4,4 @@ pub mod Whole
 pub mod Opening
 pub mod Entries
 pub mod Under
+pub mod Left

@@ -177,7 +177,7 @@ waits-inside (s ∷ ss) (suc k) h = omega (arith, waits-inside ss k h)
 one-reclaimed : (t : Tally) (n m : ℕ) → m + 1 ≡ n → IsCounted t n → IsCounted (one_reclaimed t) m
 one-reclaimed t n m e c = λ room. let all = c room in omega (arith, all, e, room)
 
-all_awaiting-guards : (ks : List ℕ) (x : Participant) → (all_awaiting ks x).guards ≡ x.guards
+pub all_awaiting-guards : (ks : List ℕ) (x : Participant) → (all_awaiting ks x).guards ≡ x.guards
 all_awaiting-guards [] x = refl
 all_awaiting-guards (k ∷ ks) x = all_awaiting-guards ks (time.awaiting (Item k) x)
 

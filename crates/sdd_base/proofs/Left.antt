@@ -1,0 +1,138 @@
+-- When an item goes at latest
+use Rattle.std.proofs.Common.{◌≡◌, ◌≢◌, ◌⊎◌, inl, inr, ℕ, ◌+◌, ◌<◌, ◌≤◌, List, [], ◌∷◌, length, Bool, refl, sym, ap, ◌∙◌, arith, true, false, Some, None, nat_lt, Option, zero, suc, slice_index_or, slice_set, IsTrue, subst}
+use Rattle.std.specs.Prelude.{◌-◌, ◌*◌, ◌==◌, ◌&&◌, Contains, is_some, if◌then◌else◌, not}
+use Rattle.std.specs.List.{list_all}
+use Rattle.std.proofs.Math.ListN.{get_or-append}
+use Rattle.std.proofs.lemmas.List.{get_or-set_same, get_or-set_other}
+use Rattle.std.proofs.lemmas.List.Elements.{Contains-append_left}
+use Rattle.std.proofs.lemmas.Bool.Decides.{nat_tests}
+use Rattle.sdd_store.specs.Waiting.{Waiting, fresh, having_seen}
+use Rattle.sdd_store.specs.Waiting.What.{Item}
+use Rattle.sdd_store.specs.Time.{Time, with_place, nobody, newcomer, due_next, is_open, passes, last_count, counted_down}
+use Rattle.sdd_store.specs.Time as time
+use Rattle.sdd_store.specs.declared.time.Participant.{Participant}
+use Rattle.sdd_store.specs.declared.standing.Standing.{Standing}
+use Rattle.sdd_slots.specs.Slots.{is_waiting}
+use Rattle.sdd_base.specs.World.{World, standing_at, value_at, place_at}
+use Rattle.sdd_base.specs.Steps.{made, retired, nulled, cell_closed, opened, closed, stirred, accelerated, registered, reclaims}
+use Rattle.sdd_base.specs.Steps as steps
+use Rattle.sdd_base.specs.Holding.{Holding}
+use Rattle.sdd_base.specs.Own.{all_awaiting}
+use Rattle.sdd_base.specs.Whole.{IsWhole}
+use Rattle.sdd_base.specs.Left.{Waits, left, IsHeldUp, OpeningsLower, NoCallRaises, GoesAtLatest}
+use Rattle.sdd_base.specs.Calls.{Calls}
+use Rattle.sdd_base.specs.Calls.Calls.{registers, opens, closes, stirs, accelerates, makes, retires, nulls, closes_cell}
+use Rattle.sdd_base.proofs.Own.{Gives-cell_closed, all_awaiting-found}
+use Rattle.sdd_base.proofs.Own as own
+use Rattle.sdd_base.proofs.Whole.{same-or-not, below-or-past, scans-places, times_among, filled-there, all_awaiting-guards, Whole-opened}
+use Rattle.sdd_base.proofs.Opening.{how, Nests, IsChange, Stands, opened-goes, opened-other, all_awaiting-waiting}
+use Rattle.sdd_base.proofs.Entries.{waits-place, waits-young, waits-standing, entry-due, nests-waits, change-waits, differs, opens-changed}
+
+-- what is left with this participant at this count
+abbrev left_of : (count : ℕ) → Participant → (seen : ℕ) → ℕ
+left_of count x seen = if not (x.found == count) then 1 + 128 * (2 - seen) else x.countdown + (if is_open x then 1 else 2) + 128 * (2 - seen)
+
+matches : (m n : ℕ) → m ≡ n → (m == n) ≡ true
+matches m n e = grind (arith, nat_tests)
+
+left-another : (count seen : ℕ) (x : Participant) → x.found ≢ count → left_of count x seen ≡ 1 + 128 * (2 - seen)
+left-another count seen x apart = rw (differs x.found count apart) refl
+
+left-open : (count seen : ℕ) (x : Participant) → x.found ≡ count → is_open x ≡ true → left_of count x seen ≡ x.countdown + 1 + 128 * (2 - seen)
+left-open count seen x found o = rw (matches x.found count found, o) refl
+
+left-shut : (count seen : ℕ) (x : Participant) → x.found ≡ count → is_open x ≡ false → left_of count x seen ≡ x.countdown + 2 + 128 * (2 - seen)
+left-shut count seen x found o = rw (matches x.found count found, o) refl
+
+left-bounds-if : (count seen : ℕ) (x : Participant) → (x.found ≡ count) ⊎ (x.found ≢ count) → (b : Bool) → is_open x ≡ b →
+    (1 + 128 * (2 - seen) ≤ left_of count x seen) × (left_of count x seen ≤ x.countdown + 2 + 128 * (2 - seen))
+left-bounds-if count seen x (inl found) true o = let all = left-open count seen x found o in (omega (arith, all), omega (arith, all))
+left-bounds-if count seen x (inl found) false o = let all = left-shut count seen x found o in (omega (arith, all), omega (arith, all))
+left-bounds-if count seen x (inr apart) b o = let all = left-another count seen x apart in (omega (arith, all), omega (arith, all))
+
+left-bounds : (count seen : ℕ) (x : Participant) → (1 + 128 * (2 - seen) ≤ left_of count x seen) × (left_of count x seen ≤ x.countdown + 2 + 128 * (2 - seen))
+left-bounds count seen x = left-bounds-if count seen x (same-or-not x.found count) (is_open x) refl
+
+-- the same count is found, and there is no more to count down
+slower-if : (count seen : ℕ) (x y : Participant) → y.found ≡ x.found → is_open y ≡ is_open x → y.countdown ≤ x.countdown →
+    (x.found ≡ count) ⊎ (x.found ≢ count) → (b : Bool) → is_open x ≡ b → left_of count y seen ≤ left_of count x seen
+slower-if count seen x y f g d (inl found) true o = omega (arith, d, left-open count seen x found o, left-open count seen y (f ∙ found) (g ∙ o))
+slower-if count seen x y f g d (inl found) false o = omega (arith, d, left-shut count seen x found o, left-shut count seen y (f ∙ found) (g ∙ o))
+slower-if count seen x y f g d (inr apart) b o = omega (arith, left-another count seen x apart, left-another count seen y (λ e. apart (sym f ∙ e)))
+
+slower : (count seen : ℕ) (x y : Participant) → y.found ≡ x.found → is_open y ≡ is_open x → y.countdown ≤ x.countdown → left_of count y seen ≤ left_of count x seen
+slower count seen x y f g d = slower-if count seen x y f g d (same-or-not x.found count) (is_open x) refl
+
+-- the count may go on by one
+later-if : (count new seen : ℕ) (x : Participant) → x.found ≤ count → (new ≡ count) ⊎ (new ≡ count + 1) → left_of new x seen ≤ left_of count x seen
+later-if count new seen x found (inl e) = subst (λ (n : ℕ). left_of n x seen ≤ left_of count x seen) (sym e) (omega arith)
+later-if count new seen x found (inr e) = omega (arith, (left-bounds count seen x).0, left-another new seen x (λ same. absurd (omega (arith, same, e, found))))
+
+-- a participant goes on: what waits with it waits, and no more is left
+record Lowers (count new : ℕ) (x y : Participant) : Type 0 where
+  waits : (w : Waiting) → Contains x.bags.waiting w → Contains y.bags.waiting w
+  lower : (seen : ℕ) → left_of new y seen ≤ left_of count x seen
+
+Lowers-later : (count new : ℕ) (x y : Participant) → x.found ≤ count → (new ≡ count) ⊎ (new ≡ count + 1) → y ≡ x → Lowers count new x y
+Lowers-later count new x y found c e =
+    subst (λ (z : Participant). Lowers count new x z) (sym e) (record { waits = λ w h. h; lower = λ seen. later-if count new seen x found c })
+
+Lowers-same : (count : ℕ) (x y : Participant) → y ≡ x → Lowers count count x y
+Lowers-same count x y e = subst (λ (z : Participant). Lowers count count x z) (sym e) (record { waits = λ w h. h; lower = λ seen. omega arith })
+
+lowers-at : (t : Time) (p q : ℕ) (x : Participant) → p < length t.places → Lowers t.count t.count (time.place_at t p) x → (q ≡ p) ⊎ (q ≢ p) →
+    Lowers t.count t.count (time.place_at t q) (time.place_at (with_place t p x) q)
+lowers-at t p q x l on (inl e) =
+    subst (λ (n : ℕ). Lowers t.count t.count (time.place_at t n) (time.place_at (with_place t p x) n)) (sym e)
+    (subst (λ (z : Participant). Lowers t.count t.count (time.place_at t p) z) (sym (get_or-set_same t.places p x nobody l)) on)
+lowers-at t p q x l on (inr apart) =
+    Lowers-same t.count (time.place_at t q) (time.place_at (with_place t p x) q) (get_or-set_other t.places p q x nobody apart)
+
+lowers-place : (t : Time) (p q : ℕ) (x : Participant) → p < length t.places → Lowers t.count t.count (time.place_at t p) x →
+    Lowers t.count t.count (time.place_at t q) (time.place_at (with_place t p x) q)
+lowers-place t p q x l on = lowers-at t p q x l on (same-or-not q p)
+
+-- there is no more to count down once there is garbage
+stirred-lower-if : (d : ℕ) (b : Bool) → (d == 128) ≡ b → time.stirred d ≤ d
+stirred-lower-if d true e = let full : d ≡ 128 = grind (arith, nat_tests, e) in rw e (omega (arith, full))
+stirred-lower-if d false e = rw e (omega arith)
+
+stirred-lower : (d : ℕ) → time.stirred d ≤ d
+stirred-lower d = stirred-lower-if d (d == 128) refl
+
+all_awaiting-countdown : (ks : List ℕ) (x : Participant) → (all_awaiting ks x).countdown ≤ x.countdown
+all_awaiting-countdown [] x = omega arith
+all_awaiting-countdown (k ∷ ks) x = omega (arith, all_awaiting-countdown ks (time.awaiting (Item k) x), stirred-lower x.countdown)
+
+Lowers-slower : (count : ℕ) (x y : Participant) → ((w : Waiting) → Contains x.bags.waiting w → Contains y.bags.waiting w) → y.found ≡ x.found → y.guards ≡ x.guards →
+    y.countdown ≤ x.countdown → Lowers count count x y
+Lowers-slower count x y on f g d = record { waits = on; lower = λ seen. slower count seen x y f (ap (λ (n : ℕ). nat_lt 0 n) g) d }
+
+Lowers-given : (count : ℕ) (ks : List ℕ) (x : Participant) → Lowers count count x (all_awaiting ks x)
+Lowers-given count ks x =
+    Lowers-slower count x (all_awaiting ks x) (λ w h. all_awaiting-waiting ks x w h) (all_awaiting-found ks x) (all_awaiting-guards ks x) (all_awaiting-countdown ks x)
+
+-- who stops a scan that fails
+abbrev Stops : ℕ → List Participant → Type 0
+Stops count ps = (p : ℕ) × (passes count (slice_index_or ps p nobody) ≡ false)
+
+and-fails : (a b : Bool) → (a && b) ≡ false → (a ≡ false) ⊎ (b ≡ false)
+and-fails true b e = inr e
+and-fails false b e = inl refl
+
+stops-or : (count : ℕ) (x : Participant) (ps : List Participant) → (passes count x ≡ false) ⊎ (list_all (passes count) ps ≡ false) →
+    (list_all (passes count) ps ≡ false → Stops count ps) → Stops count (x ∷ ps)
+stops-or count x ps (inl e) on = (zero, e)
+stops-or count x ps (inr e) on = let there = on e in (suc there.0, there.1)
+
+stops : (count : ℕ) (ps : List Participant) → list_all (passes count) ps ≡ false → Stops count ps
+stops count [] e = absurd (cc)
+stops count (x ∷ ps) e = stops-or count x ps (and-fails (passes count x) (list_all (passes count) ps) e) (λ h. stops count ps h)
+
+stopped-if : (count : ℕ) (x : Participant) (o b : Bool) → is_open x ≡ o → (x.found == count) ≡ b → passes count x ≡ false → (is_open x ≡ true) × (x.found ≢ count)
+stopped-if count x true false o e h = (o, λ same. absurd (grind (arith, nat_tests, e, same)))
+stopped-if count x true true o e h = let never : true ≡ false = rw (o, e) at h in absurd (cc)
+stopped-if count x false b o e h = let never : true ≡ false = rw o at h in absurd (cc)
+
+stopped : (count : ℕ) (x : Participant) → passes count x ≡ false → (is_open x ≡ true) × (x.found ≢ count)
+stopped count x h = stopped-if count x (is_open x) (x.found == count) refl refl h
