@@ -27,7 +27,7 @@ IsGuarded w = Any (λ p. IsTrue (is_open p)) w.time.places
 
 -- a scan of q can't raise the count: it is the last one, or another participant has a guard open
 abbrev pub IsHeldUp : {T : Type 0} → World T → ℕ → Type 0
-IsHeldUp w q = (w.time.count ≡ last_count) ⊎ ((p : ℕ) × (p ≢ q) × IsTrue (is_open (place_at w p)))
+IsHeldUp w q = (last_count ≤ w.time.count) ⊎ ((p : ℕ) × (p ≢ q) × IsTrue (is_open (place_at w p)))
 
 -- p opens a guard, accelerates it and closes it
 abbrev pub accelerated_guard : {T : Type 0} → (T → List Holding) → World T → ℕ → World T
