@@ -24,7 +24,7 @@ use Rattle.sdd_base.specs.Calls.{Calls}
 use Rattle.sdd_base.specs.Calls.Calls.{registers, opens, closes, stirs, accelerates, makes, retires, nulls, closes_cell}
 use Rattle.sdd_base.proofs.Own.{Gives-cell_closed, all_awaiting-found}
 use Rattle.sdd_base.proofs.Own as own
-use Rattle.sdd_base.proofs.Whole.{same-or-not, below-or-past, scans-places, times_among, filled-there, all_awaiting-guards, Whole-opened}
+use Rattle.sdd_base.proofs.Whole.{same-or-not, below-or-past, scans-places, times_among, filled-there, all_awaiting-guards, some-waits, Whole-opened}
 use Rattle.sdd_base.proofs.Opening.{how, Nests, IsChange, Stands, opened-goes, opened-other, all_awaiting-waiting}
 use Rattle.sdd_base.proofs.Entries.{waits-place, waits-young, waits-standing, entry-due, nests-waits, change-waits, differs, opens-changed}
 
@@ -136,3 +136,132 @@ stopped-if count x false b o e h = let never : true ≡ false = rw o at h in abs
 
 stopped : (count : ℕ) (x : Participant) → passes count x ≡ false → (is_open x ≡ true) × (x.found ≢ count)
 stopped count x h = stopped-if count x (is_open x) (x.found == count) refl refl h
+
+-- a close: the count goes on by one or not
+abbrev GoesOn : (count new : ℕ) → Type 0
+GoesOn count new = (new ≡ count) ⊎ (new ≡ count + 1)
+
+raised-count : (t : Time) (b : Bool) → GoesOn t.count (if b then record t { count = t.count + 1 } else t).count
+raised-count t true = inr refl
+raised-count t false = inl refl
+
+scanned-count : (t : Time) (b : Bool) → GoesOn t.count (if b then time.raised (record t { marked = false }) else t).count
+scanned-count t true = raised-count (record t { marked = false }) (nat_lt t.count last_count && list_all (passes t.count) t.places)
+scanned-count t false = inl refl
+
+scans-count : (t : Time) (p : ℕ) (b : Bool) → GoesOn t.count (if b then time.scanned t p else t).count
+scans-count t p true = scanned-count t ((time.place_at t p).found == t.count)
+scans-count t p false = inl refl
+
+last-count : (t : Time) (p : ℕ) (b : Bool) → GoesOn t.count (if b then time.left_by t p else t).count
+last-count t p true = scans-count t p ((time.place_at t p).countdown == 0)
+last-count t p false = inl refl
+
+closed-count-if : (t : Time) (p : ℕ) (b : Bool) → nat_lt 1 (time.place_at t p).guards ≡ b → GoesOn t.count (time.closed t p).count
+closed-count-if t p true e = rw e (inl refl)
+closed-count-if t p false e = rw e (last-count t p (is_open (time.place_at t p)))
+
+closed-count : (t : Time) (p : ℕ) → GoesOn t.count (time.closed t p).count
+closed-count t p = closed-count-if t p (nat_lt 1 (time.place_at t p).guards) refl
+
+-- each other participant is as before
+last-other : (t : Time) (p q : ℕ) → q ≢ p → (b : Bool) → time.place_at (if b then time.left_by t p else t) q ≡ time.place_at t q
+last-other t p q apart true =
+    let scans = (time.place_at t p).countdown == 0 in
+    let u : Time = if scans then time.scanned t p else t in
+    get_or-set_other u.places p q (record (time.place_at t p) { guards = 0; countdown = counted_down t.marked (time.place_at t p).countdown }) nobody apart
+    ∙ ap (λ (ps : List Participant). slice_index_or ps q nobody) (scans-places t p scans)
+last-other t p q apart false = refl
+
+closed-other-if : (t : Time) (p q : ℕ) → q ≢ p → (b : Bool) → nat_lt 1 (time.place_at t p).guards ≡ b → time.place_at (time.closed t p) q ≡ time.place_at t q
+closed-other-if t p q apart true e = rw e (get_or-set_other t.places p q (record (time.place_at t p) { guards = (time.place_at t p).guards - 1 }) nobody apart)
+closed-other-if t p q apart false e = rw e (last-other t p q apart (is_open (time.place_at t p)))
+
+closed-other : (t : Time) (p q : ℕ) → q ≢ p → time.place_at (time.closed t p) q ≡ time.place_at t q
+closed-other t p q apart = closed-other-if t p q apart (nat_lt 1 (time.place_at t p).guards) refl
+
+-- the last guard is closed, and so much is to be counted down
+abbrev resting : ℕ → Participant → Participant
+resting countdown x = record x { guards = 0; countdown = countdown }
+
+rests-counting : (count seen : ℕ) (x : Participant) → is_open x ≡ true → x.countdown ≢ 0 → (x.found ≡ count) ⊎ (x.found ≢ count) →
+    left_of count (resting (x.countdown - 1) x) seen ≤ left_of count x seen
+rests-counting count seen x o some (inl found) =
+    omega (arith, some, left-open count seen x found o, left-shut count seen (resting (x.countdown - 1) x) found refl)
+rests-counting count seen x o some (inr apart) =
+    omega (arith, left-another count seen x apart, left-another count seen (resting (x.countdown - 1) x) apart)
+
+rests-elsewhere : (count seen countdown : ℕ) (x : Participant) → x.found ≢ count → left_of count (resting countdown x) seen ≤ left_of count x seen
+rests-elsewhere count seen countdown x apart = omega (arith, left-another count seen x apart, left-another count seen (resting countdown x) apart)
+
+rests-raised : (count seen countdown : ℕ) (x : Participant) → x.found ≡ count → left_of (count + 1) (resting countdown x) seen ≤ left_of count x seen
+rests-raised count seen countdown x found =
+    let apart : x.found ≢ count + 1 = λ same. absurd (omega (arith, same, found)) in
+    omega (arith, (left-bounds count seen x).0, left-another (count + 1) seen (resting countdown x) apart)
+
+put-left : (t : Time) (q seen : ℕ) (y : Participant) → q < length t.places → left (with_place t q y) q seen ≡ left_of t.count y seen
+put-left t q seen y l = ap (λ (x : Participant). left_of t.count x seen) (get_or-set_same t.places q y nobody l)
+
+not-below : (m n : ℕ) → nat_lt m n ≡ false → n ≤ m
+not-below m n e = grind (arith, nat_tests)
+
+inner-open : (n : ℕ) → nat_lt 1 n ≡ true → nat_lt 0 (n - 1) ≡ nat_lt 0 n
+inner-open n e = grind (arith, nat_tests)
+
+-- a close of the holder's own
+module _ {T : Type 0} (w : World T) (q seen : ℕ) (l : q < length w.time.places) where
+  held-if : (place_at w q).found ≡ w.time.count → (nat_lt w.time.count last_count ≡ false) ⊎ (list_all (passes w.time.count) w.time.places ≡ false) → IsHeldUp w q
+  held-if found (inl e) = inl (not-below w.time.count last_count e)
+  held-if found (inr e) =
+      let there = stops w.time.count w.time.places e in
+      let who = stopped w.time.count (place_at w there.0) there.1 in
+      inr (there.0, (λ same. who.1 (ap (λ (n : ℕ). (place_at w n).found) same ∙ found)), who.0)
+
+  abbrev Closes : Time → Type 0
+  Closes u = (left u q seen ≤ left w.time q seen) ⊎ IsHeldUp w q
+
+  closes-put : (u v : Time) (y : Participant) → u ≡ with_place v q y → v.places ≡ w.time.places → left_of v.count y seen ≤ left w.time q seen → Closes u
+  closes-put u v y e same h =
+      let inside : q < length v.places = omega (arith, l, ap (λ (ps : List Participant). length ps) same) in
+      let after : left u q seen ≡ left_of v.count y seen = ap (λ (z : Time). left z q seen) e ∙ put-left v q seen y inside in
+      inl (omega (arith, after, h))
+
+  closes-raised : ((place_at w q).countdown == 0) ≡ true → ((place_at w q).found == w.time.count) ≡ true → (place_at w q).found ≡ w.time.count →
+      (b : Bool) → (nat_lt w.time.count last_count && list_all (passes w.time.count) w.time.places) ≡ b → Closes (time.left_by w.time q)
+  closes-raised ended test found true e =
+      let u : Time = record w.time { marked = false; count = w.time.count + 1 } in
+      closes-put (time.left_by w.time q) u (resting 127 (place_at w q)) (rw (ended, test, e) refl) refl
+      (rests-raised w.time.count seen 127 (place_at w q) found)
+  closes-raised ended test found false e =
+      inr (held-if found (and-fails (nat_lt w.time.count last_count) (list_all (passes w.time.count) w.time.places) e))
+
+  closes-ended : ((place_at w q).countdown == 0) ≡ true → (b : Bool) → ((place_at w q).found == w.time.count) ≡ b → Closes (time.left_by w.time q)
+  closes-ended ended true test =
+      closes-raised ended test (grind (arith, nat_tests, test)) (nat_lt w.time.count last_count && list_all (passes w.time.count) w.time.places) refl
+  closes-ended ended false test =
+      closes-put (time.left_by w.time q) w.time (resting 127 (place_at w q)) (rw (ended, test) refl) refl
+      (rests-elsewhere w.time.count seen 127 (place_at w q) (λ same. absurd (grind (arith, nat_tests, test, same))))
+
+  closes-last : (place_at w q).countdown ≤ 127 → is_open (place_at w q) ≡ true → (b : Bool) → ((place_at w q).countdown == 0) ≡ b → Closes (time.left_by w.time q)
+  closes-last low o true ended = closes-ended ended ((place_at w q).found == w.time.count) refl
+  closes-last low o false counting =
+      let d = (place_at w q).countdown in
+      let full : (d == 128) ≡ false = differs d 128 (λ e. absurd (omega (arith, e, low))) in
+      let some : d ≢ 0 = λ e. absurd (grind (arith, nat_tests, counting, e)) in
+      closes-put (time.left_by w.time q) w.time (resting (d - 1) (place_at w q)) (rw (counting, full) refl) refl
+      (rests-counting w.time.count seen (place_at w q) o some (same-or-not (place_at w q).found w.time.count))
+
+  closes-own-if : (place_at w q).countdown ≤ 127 → (a : Bool) → nat_lt 1 (place_at w q).guards ≡ a → (b : Bool) → is_open (place_at w q) ≡ b → Closes (time.closed w.time q)
+  closes-own-if low true e b o =
+      let y : Participant = record (place_at w q) { guards = (place_at w q).guards - 1 } in
+      closes-put (time.closed w.time q) w.time y (rw e refl) refl
+      (slower w.time.count seen (place_at w q) y refl (inner-open (place_at w q).guards e) (omega arith))
+  closes-own-if low false e true o =
+      let last : time.closed w.time q ≡ time.left_by w.time q = rw (e, o) refl in
+      subst (λ (u : Time). Closes u) (sym last) (closes-last low o ((place_at w q).countdown == 0) refl)
+  closes-own-if low false e false o =
+      let nothing : time.closed w.time q ≡ w.time = rw (e, o) refl in
+      subst (λ (u : Time). Closes u) (sym nothing) (inl (omega arith))
+
+  closes-own : (place_at w q).countdown ≤ 127 → Closes (time.closed w.time q)
+  closes-own low = closes-own-if low (nat_lt 1 (place_at w q).guards) refl (is_open (place_at w q)) refl

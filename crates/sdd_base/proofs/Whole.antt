@@ -165,7 +165,7 @@ apart-test k j apart = grind (arith, nat_tests)
 same-test : (k j : ℕ) → j ≡ k → (k == j) ≡ true
 same-test k j e = grind (arith, nat_tests)
 
-some-waits : (s : Option Standing) → is_waiting s ≡ true → is_some s ≡ true
+pub some-waits : (s : Option Standing) → is_waiting s ≡ true → is_some s ≡ true
 some-waits None e = absurd (cc)
 some-waits (Some s) e = refl
 
