@@ -1,21 +1,17 @@
 -- When an item goes at latest
-use Rattle.std.proofs.Common.{◌≡◌, ◌≢◌, ◌⊎◌, inl, inr, ℕ, ◌+◌, ◌<◌, ◌≤◌, List, [], ◌∷◌, length, Bool, refl, sym, ap, ◌∙◌, arith, true, false, Some, None, nat_lt, Option, zero, suc, slice_index_or, slice_set, IsTrue, subst}
+use Rattle.std.proofs.Common.{◌≡◌, ◌≢◌, ◌⊎◌, inl, inr, ℕ, ◌+◌, ◌<◌, ◌≤◌, List, [], ◌∷◌, length, Bool, refl, sym, ap, ◌∙◌, arith, true, false, Some, None, nat_lt, Option, zero, suc, slice_index_or, IsTrue, subst}
 use Rattle.std.specs.Prelude.{◌-◌, ◌*◌, ◌==◌, ◌&&◌, Contains, is_some, if◌then◌else◌, not}
 use Rattle.std.specs.List.{list_all}
 use Rattle.std.proofs.Math.ListN.{get_or-append}
 use Rattle.std.proofs.lemmas.List.{get_or-set_same, get_or-set_other}
-use Rattle.std.proofs.lemmas.List.Elements.{Contains-append_left}
 use Rattle.std.proofs.lemmas.Bool.Decides.{nat_tests}
-use Rattle.sdd_store.specs.Waiting.{Waiting, fresh, having_seen}
+use Rattle.sdd_store.specs.Waiting.{Waiting, having_seen}
 use Rattle.sdd_store.specs.Waiting.What.{Item}
-use Rattle.sdd_store.specs.Time.{Time, with_place, nobody, newcomer, due_next, is_open, passes, last_count, counted_down}
+use Rattle.sdd_store.specs.Time.{Time, with_place, nobody, newcomer, is_open, passes, last_count, counted_down}
 use Rattle.sdd_store.specs.Time as time
 use Rattle.sdd_store.specs.declared.time.Participant.{Participant}
-use Rattle.sdd_store.specs.declared.standing.Standing.{Standing}
-use Rattle.sdd_slots.specs.Slots.{is_waiting}
 use Rattle.sdd_base.specs.World.{World, standing_at, value_at, place_at}
 use Rattle.sdd_base.specs.Steps.{made, retired, nulled, cell_closed, opened, closed, stirred, accelerated, registered, reclaims}
-use Rattle.sdd_base.specs.Steps as steps
 use Rattle.sdd_base.specs.Holding.{Holding}
 use Rattle.sdd_base.specs.Own.{all_awaiting}
 use Rattle.sdd_base.specs.Whole.{IsWhole}
@@ -25,8 +21,9 @@ use Rattle.sdd_base.specs.Calls.Calls.{registers, opens, closes, stirs, accelera
 use Rattle.sdd_base.proofs.Own.{Gives-cell_closed, all_awaiting-found}
 use Rattle.sdd_base.proofs.Own as own
 use Rattle.sdd_base.proofs.Whole.{same-or-not, below-or-past, scans-places, times_among, filled-there, all_awaiting-guards, some-waits, Whole-opened}
-use Rattle.sdd_base.proofs.Opening.{how, Nests, IsChange, Stands, opened-goes, opened-other, all_awaiting-waiting}
+use Rattle.sdd_base.proofs.Opening.{how, Nests, IsChange, opened-goes, opened-other, all_awaiting-waiting}
 use Rattle.sdd_base.proofs.Entries.{waits-place, waits-young, waits-standing, entry-due, nests-waits, change-waits, differs, opens-changed}
+use Rattle.sdd_base.proofs.Under.{persists-closed}
 
 -- what is left with this participant at this count
 abbrev left_of : (count : ℕ) → Participant → (seen : ℕ) → ℕ
@@ -60,7 +57,8 @@ slower-if count seen x y f g d (inl found) true o = omega (arith, d, left-open c
 slower-if count seen x y f g d (inl found) false o = omega (arith, d, left-shut count seen x found o, left-shut count seen y (f ∙ found) (g ∙ o))
 slower-if count seen x y f g d (inr apart) b o = omega (arith, left-another count seen x apart, left-another count seen y (λ e. apart (sym f ∙ e)))
 
-slower : (count seen : ℕ) (x y : Participant) → y.found ≡ x.found → is_open y ≡ is_open x → y.countdown ≤ x.countdown → left_of count y seen ≤ left_of count x seen
+slower : (count seen : ℕ) (x y : Participant) → y.found ≡ x.found → is_open y ≡ is_open x → y.countdown ≤ x.countdown →
+    left_of count y seen ≤ left_of count x seen
 slower count seen x y f g d = slower-if count seen x y f g d (same-or-not x.found count) (is_open x) refl
 
 -- the count may go on by one
@@ -104,13 +102,15 @@ all_awaiting-countdown : (ks : List ℕ) (x : Participant) → (all_awaiting ks 
 all_awaiting-countdown [] x = omega arith
 all_awaiting-countdown (k ∷ ks) x = omega (arith, all_awaiting-countdown ks (time.awaiting (Item k) x), stirred-lower x.countdown)
 
-Lowers-slower : (count : ℕ) (x y : Participant) → ((w : Waiting) → Contains x.bags.waiting w → Contains y.bags.waiting w) → y.found ≡ x.found → y.guards ≡ x.guards →
+Lowers-slower : (count : ℕ) (x y : Participant) → ((w : Waiting) → Contains x.bags.waiting w → Contains y.bags.waiting w) → y.found ≡ x.found →
+    y.guards ≡ x.guards →
     y.countdown ≤ x.countdown → Lowers count count x y
 Lowers-slower count x y on f g d = record { waits = on; lower = λ seen. slower count seen x y f (ap (λ (n : ℕ). nat_lt 0 n) g) d }
 
 Lowers-given : (count : ℕ) (ks : List ℕ) (x : Participant) → Lowers count count x (all_awaiting ks x)
 Lowers-given count ks x =
-    Lowers-slower count x (all_awaiting ks x) (λ w h. all_awaiting-waiting ks x w h) (all_awaiting-found ks x) (all_awaiting-guards ks x) (all_awaiting-countdown ks x)
+    Lowers-slower count x (all_awaiting ks x) (λ w h. all_awaiting-waiting ks x w h)
+    (all_awaiting-found ks x) (all_awaiting-guards ks x) (all_awaiting-countdown ks x)
 
 -- who stops a scan that fails
 abbrev Stops : ℕ → List Participant → Type 0
@@ -129,7 +129,8 @@ stops : (count : ℕ) (ps : List Participant) → list_all (passes count) ps ≡
 stops count [] e = absurd (cc)
 stops count (x ∷ ps) e = stops-or count x ps (and-fails (passes count x) (list_all (passes count) ps) e) (λ h. stops count ps h)
 
-stopped-if : (count : ℕ) (x : Participant) (o b : Bool) → is_open x ≡ o → (x.found == count) ≡ b → passes count x ≡ false → (is_open x ≡ true) × (x.found ≢ count)
+stopped-if : (count : ℕ) (x : Participant) (o b : Bool) → is_open x ≡ o → (x.found == count) ≡ b → passes count x ≡ false →
+    (is_open x ≡ true) × (x.found ≢ count)
 stopped-if count x true false o e h = (o, λ same. absurd (grind (arith, nat_tests, e, same)))
 stopped-if count x true true o e h = let never : true ≡ false = rw (o, e) at h in absurd (cc)
 stopped-if count x false b o e h = let never : true ≡ false = rw o at h in absurd (cc)
@@ -210,7 +211,8 @@ inner-open n e = grind (arith, nat_tests)
 
 -- a close of the holder's own
 module _ {T : Type 0} (w : World T) (q seen : ℕ) (l : q < length w.time.places) where
-  held-if : (place_at w q).found ≡ w.time.count → (nat_lt w.time.count last_count ≡ false) ⊎ (list_all (passes w.time.count) w.time.places ≡ false) → IsHeldUp w q
+  held-if : (place_at w q).found ≡ w.time.count → (nat_lt w.time.count last_count ≡ false) ⊎ (list_all (passes w.time.count) w.time.places ≡ false) →
+      IsHeldUp w q
   held-if found (inl e) = inl (not-below w.time.count last_count e)
   held-if found (inr e) =
       let there = stops w.time.count w.time.places e in
@@ -242,7 +244,8 @@ module _ {T : Type 0} (w : World T) (q seen : ℕ) (l : q < length w.time.places
       closes-put (time.left_by w.time q) w.time (resting 127 (place_at w q)) (rw (ended, test) refl) refl
       (rests-elsewhere w.time.count seen 127 (place_at w q) (λ same. absurd (grind (arith, nat_tests, test, same))))
 
-  closes-last : (place_at w q).countdown ≤ 127 → is_open (place_at w q) ≡ true → (b : Bool) → ((place_at w q).countdown == 0) ≡ b → Closes (time.left_by w.time q)
+  closes-last : (place_at w q).countdown ≤ 127 → is_open (place_at w q) ≡ true → (b : Bool) → ((place_at w q).countdown == 0) ≡ b →
+      Closes (time.left_by w.time q)
   closes-last low o true ended = closes-ended ended ((place_at w q).found == w.time.count) refl
   closes-last low o false counting =
       let d = (place_at w q).countdown in
@@ -251,7 +254,8 @@ module _ {T : Type 0} (w : World T) (q seen : ℕ) (l : q < length w.time.places
       closes-put (time.left_by w.time q) w.time (resting (d - 1) (place_at w q)) (rw (counting, full) refl) refl
       (rests-counting w.time.count seen (place_at w q) o some (same-or-not (place_at w q).found w.time.count))
 
-  closes-own-if : (place_at w q).countdown ≤ 127 → (a : Bool) → nat_lt 1 (place_at w q).guards ≡ a → (b : Bool) → is_open (place_at w q) ≡ b → Closes (time.closed w.time q)
+  closes-own-if : (place_at w q).countdown ≤ 127 → (a : Bool) → nat_lt 1 (place_at w q).guards ≡ a → (b : Bool) → is_open (place_at w q) ≡ b →
+      Closes (time.closed w.time q)
   closes-own-if low true e b o =
       let y : Participant = record (place_at w q) { guards = (place_at w q).guards - 1 } in
       closes-put (time.closed w.time q) w.time y (rw e refl) refl
@@ -265,3 +269,196 @@ module _ {T : Type 0} (w : World T) (q seen : ℕ) (l : q < length w.time.places
 
   closes-own : (place_at w q).countdown ≤ 127 → Closes (time.closed w.time q)
   closes-own low = closes-own-if low (nat_lt 1 (place_at w q).guards) refl (is_open (place_at w q)) refl
+
+-- who has something waiting counts down from 127 at most
+something : (ws : List Waiting) (y : Waiting) → Contains ws y → ws ≡ [] → ⊥
+something ws y h e = let none : Contains [] y = subst (λ (vs : List Waiting). Contains vs y) e h in absurd (omega (arith, none.1))
+
+is-there : {X : Type 0} (v : Option X) → is_some v ≡ true → (x : X) × (v ≡ Some x)
+is-there None e = absurd (cc)
+is-there (Some x) e = (x, refl)
+
+nested-open : (x : Participant) → is_open (time.nested x) ≡ true
+nested-open x = grind (arith, nat_tests)
+
+still-open : (n : ℕ) → nat_lt 0 n ≡ true → nat_lt 0 (n + 1) ≡ nat_lt 0 n
+still-open n e = grind (arith, nat_tests)
+
+module _ {T : Type 0} where
+  waits-low-if : (w : World T) (q k seen : ℕ) → IsWhole w → Waits w q k seen → ((place_at w q).countdown ≡ 128) ⊎ ((place_at w q).countdown ≢ 128) →
+      (place_at w q).countdown ≤ 127
+  waits-low-if w q k seen i h (inl full) = absurd (something (place_at w q).bags.waiting (having_seen seen (Item k)) h ((i.abreast q).quiet full))
+  waits-low-if w q k seen i h (inr apart) = omega (arith, apart, (i.abreast q).countdown)
+
+  waits-low : (w : World T) (q k seen : ℕ) → IsWhole w → Waits w q k seen → (place_at w q).countdown ≤ 127
+  waits-low w q k seen i h = waits-low-if w q k seen i h (same-or-not (place_at w q).countdown 128)
+
+  -- what waits has its value
+  waits-value : (w : World T) (q k seen : ℕ) → IsWhole w → Waits w q k seen → (v : T) × (value_at w k ≡ Some v)
+  waits-value w q k seen i h =
+      is-there (value_at w k) (filled-there w k i.filled ∙ some-waits (standing_at w k) (waits-standing w q k seen i h))
+
+  module _ (holds : T → List Holding) (w : World T) (q k seen : ℕ) (l : q < length w.time.places) (i : IsWhole w) (h : Waits w q k seen) where
+    abbrev end : World T
+    end = opened holds w q
+
+    -- an outermost opening of the holder
+    abbrev Opens : Type 0
+    Opens =
+        ((left w.time q seen ≡ 1) × (standing_at end k ≡ None))
+        ⊎ ((later : ℕ) × Waits end q k later × (left end.time q later + 1 ≤ left w.time q seen))
+
+    opens-nests : (n : Nests holds w q) → is_open (place_at w q) ≡ false → (place_at w q).found ≡ w.time.count → Opens
+    opens-nests n shut found =
+        let x = place_at w q in
+        let after : left end.time q seen ≡ left_of w.time.count (time.nested x) seen =
+        ap (λ (u : World T). left u.time q seen) n.nests ∙ put-left w.time q seen (time.nested x) l in
+        let open_now = left-open w.time.count seen (time.nested x) found (nested-open x) in
+        inr (seen, nests-waits holds w q k seen l n h, omega (arith, after, open_now, left-shut w.time.count seen x found shut))
+
+    changes-open : (c : IsChange holds w q) → is_open (place_at end q) ≡ true
+    changes-open c =
+        let o = own.opens holds w q l (is_open (place_at w q)) refl in
+        let x = place_at w q in
+        let y : Participant = time.rotated w.time.count (time.nested x) in
+        let another = differs x.found w.time.count c.another in
+        let there : place_at end q ≡ time.settled (all_awaiting o.slots y) = o.own ∙ opens-changed w.time.count o.slots x c.closed_before another in
+        ap (λ (z : Participant). is_open z) there ∙ ap (λ (n : ℕ). nat_lt 0 n) (all_awaiting-guards o.slots y) ∙ nested-open x
+
+    opens-young : (c : IsChange holds w q) → seen < 2 → Opens
+    opens-young c young =
+        let o = own.opens holds w q l (is_open (place_at w q)) refl in
+        let found : (place_at end q).found ≡ w.time.count = o.found (λ b. let never : false ≡ true = sym c.closed_before ∙ b in absurd (cc)) in
+        let waits = change-waits holds w q k seen l c young h in
+        let low = waits-low end q k (seen + 1) (Whole-opened holds w q l i) waits in
+        let after = left-open end.time.count (seen + 1) (place_at end q) (found ∙ sym o.count) (changes-open c) in
+        inr (seen + 1, waits, omega (arith, low, after, young, left-another w.time.count seen (place_at w q) c.another))
+
+    opens-ripe : (c : IsChange holds w q) → seen ≡ 2 → Opens
+    opens-ripe c ripe =
+        let ws = (place_at w q).bags.waiting in
+        let due = entry-due k ws (subst (λ (n : ℕ). Contains ws (having_seen n (Item k))) ripe h) in
+        let some : 1 ≤ times_among k (reclaims w q) = subst (λ xs. 1 ≤ times_among k xs) (sym c.due) due in
+        let v = waits-value w q k seen i h in
+        let gone = opened-goes holds w q l k (standing_at w k) v.0 (waits-standing w q k seen i h) some (record { standing = refl; value = v.1 }) in
+        inl (omega (arith, ripe, left-another w.time.count seen (place_at w q) c.another), gone.standing)
+
+    opens-change : (c : IsChange holds w q) → (seen < 2) ⊎ (2 ≤ seen) → Opens
+    opens-change c (inl young) = opens-young c young
+    opens-change c (inr old) = opens-ripe c (omega (arith, old, waits-young w q k seen i h))
+
+    opens-nests-why : (n : Nests holds w q) → is_open (place_at w q) ≡ false →
+        (is_open (place_at w q) ≡ true) ⊎ ((is_open (place_at w q) ≡ false) × ((place_at w q).found ≡ w.time.count)) → Opens
+    opens-nests-why n shut (inl o) = absurd (cc)
+    opens-nests-why n shut (inr why) = opens-nests n shut why.1
+
+    opens-if : is_open (place_at w q) ≡ false → Nests holds w q ⊎ IsChange holds w q → Opens
+    opens-if shut (inl n) = opens-nests-why n shut n.why
+    opens-if shut (inr c) = opens-change c (below-or-past seen 2)
+
+    opens-lower : is_open (place_at w q) ≡ false → Opens
+    opens-lower shut = opens-if shut (how holds w q l)
+
+  module _ (holds : T → List Holding) where
+    not-open : (b : Bool) → ¬ (IsTrue b) → b ≡ false
+    not-open true h = absurd (h refl)
+    not-open false h = refl
+
+    pub openings-lower : (w : World T) → IsWhole w → OpeningsLower holds w
+    openings-lower w i = λ q k seen h shut. opens-lower holds w q k seen (waits-place w q k seen h) i h (not-open (is_open (place_at w q)) shut)
+
+    -- what a call makes of an item that waits
+    abbrev Outcome : (w new : World T) (q k seen : ℕ) → Type 0
+    Outcome w new q k seen =
+        (standing_at new k ≡ None)
+        ⊎ ((later : ℕ) × Waits new q k later × ((left new.time q later ≤ left w.time q seen) ⊎ ((new ≡ closed w q) × IsHeldUp w q)))
+
+    goes-on : (w new : World T) (q k seen : ℕ) → Waits w q k seen → Lowers w.time.count new.time.count (place_at w q) (place_at new q) → Outcome w new q k seen
+    goes-on w new q k seen h on = inr (seen, on.waits (having_seen seen (Item k)) h, inl (on.lower seen))
+
+    goes-on-place : (w : World T) (r q k seen : ℕ) (y : Participant) → r < length w.time.places → Waits w q k seen →
+        Lowers w.time.count w.time.count (place_at w r) y →
+        Outcome w (record w { time = with_place w.time r y }) q k seen
+    goes-on-place w r q k seen y l h on = goes-on w (record w { time = with_place w.time r y }) q k seen h (lowers-place w.time r q y l on)
+
+    opening-outermost : (w : World T) (q k seen : ℕ) (l : q < length w.time.places) (i : IsWhole w) (h : Waits w q k seen) → Opens holds w q k seen l i h →
+        Outcome w (opened holds w q) q k seen
+    opening-outermost w q k seen l i h (inl gone) = inl gone.1
+    opening-outermost w q k seen l i h (inr on) = inr (on.0, on.1, inl (omega (arith, on.2)))
+
+    opening-nested : (w : World T) (q k seen : ℕ) → q < length w.time.places → is_open (place_at w q) ≡ true → Waits w q k seen →
+        Nests holds w q ⊎ IsChange holds w q → Outcome w (opened holds w q) q k seen
+    opening-nested w q k seen l o h (inr c) = let never : false ≡ true = sym c.closed_before ∙ o in absurd (cc)
+    opening-nested w q k seen l o h (inl n) =
+        let x = place_at w q in
+        let lower = slower w.time.count seen x (time.nested x) refl (still-open x.guards o) (omega arith) in
+        let after : left (opened holds w q).time q seen ≡ left_of w.time.count (time.nested x) seen =
+        ap (λ (u : World T). left u.time q seen) n.nests ∙ put-left w.time q seen (time.nested x) l in
+        inr (seen, nests-waits holds w q k seen l n h, inl (omega (arith, after, lower)))
+
+    opening-own : (w : World T) (q k seen : ℕ) → q < length w.time.places → IsWhole w → Waits w q k seen → (b : Bool) → is_open (place_at w q) ≡ b →
+        Outcome w (opened holds w q) q k seen
+    opening-own w q k seen l i h true o = opening-nested w q k seen l o h (how holds w q l)
+    opening-own w q k seen l i h false o = opening-outermost w q k seen l i h (opens-lower holds w q k seen l i h o)
+
+    opening : (w : World T) (r q k seen : ℕ) → r < length w.time.places → IsWhole w → Waits w q k seen → (r ≡ q) ⊎ (r ≢ q) →
+        Outcome w (opened holds w r) q k seen
+    opening w r q k seen l i h (inl e) =
+        subst (λ (n : ℕ). Outcome w (opened holds w n) q k seen) (sym e)
+        (opening-own w q k seen (waits-place w q k seen h) i h (is_open (place_at w q)) refl)
+    opening w r q k seen l i h (inr apart) =
+        let count = (own.opens holds w r l (is_open (place_at w r)) refl).count in
+        goes-on w (opened holds w r) q k seen h
+        (Lowers-later w.time.count (opened holds w r).time.count (place_at w q) (place_at (opened holds w r) q) (i.abreast q).found (inl count)
+        (opened-other holds w r l q (λ same. apart (sym same))))
+
+    closing-own : (w : World T) (q k seen : ℕ) → Waits (closed w q) q k seen → (left (closed w q).time q seen ≤ left w.time q seen) ⊎ IsHeldUp w q →
+        Outcome w (closed w q) q k seen
+    closing-own w q k seen h (inl lower) = inr (seen, h, inl lower)
+    closing-own w q k seen h (inr held) = inr (seen, h, inr (refl, held))
+
+    closing : (w : World T) (r q k seen : ℕ) → r < length w.time.places → IsWhole w → Waits w q k seen → (r ≡ q) ⊎ (r ≢ q) → Outcome w (closed w r) q k seen
+    closing w r q k seen l i h (inl e) =
+        let here = waits-place w q k seen h in
+        let waits = (persists-closed w.time q q here).waits (having_seen seen (Item k)) h in
+        subst (λ (n : ℕ). Outcome w (closed w n) q k seen) (sym e)
+        (closing-own w q k seen waits (closes-own w q seen here (waits-low w q k seen i h)))
+    closing w r q k seen l i h (inr apart) =
+        goes-on w (closed w r) q k seen h
+        (Lowers-later w.time.count (closed w r).time.count (place_at w q) (place_at (closed w r) q) (i.abreast q).found (closed-count w.time r)
+        (closed-other w.time r q (λ same. apart (sym same))))
+
+    one-call : (q k seen : ℕ) {w new : World T} → Calls holds w new → IsWhole w → Waits w q k seen → Outcome w new q k seen
+    one-call q k seen (registers w) i h =
+        goes-on w (registered w) q k seen h
+        (Lowers-same w.time.count (place_at w q) (place_at (registered w) q)
+        (get_or-append w.time.places (newcomer w.time.room ∷ []) nobody q (waits-place w q k seen h)))
+    one-call q k seen (opens w r l) i h = opening w r q k seen l i h (same-or-not r q)
+    one-call q k seen (closes w r l) i h = closing w r q k seen l i h (same-or-not r q)
+    one-call q k seen (stirs w r l) i h =
+        let x = place_at w r in
+        goes-on-place w r q k seen (time.with_garbage x) l h
+        (Lowers-slower w.time.count x (time.with_garbage x) (λ y g. g) refl refl (stirred-lower x.countdown))
+    one-call q k seen (accelerates w r l) i h =
+        let x = place_at w r in
+        goes-on-place w r q k seen (time.accelerated x) l h (Lowers-slower w.time.count x (time.accelerated x) (λ y g. g) refl refl (omega arith))
+    one-call q k seen (makes w j value empty) i h = goes-on w (made w j value) q k seen h (Lowers-same w.time.count (place_at w q) (place_at w q) refl)
+    one-call q k seen (retires w r j l there) i h =
+        goes-on w (retired w r j) q k seen h
+        (lowers-place w.time r q (time.awaiting (Item j) (place_at w r)) l (Lowers-given w.time.count (j ∷ []) (place_at w r)))
+    one-call q k seen (nulls w c empty) i h = goes-on w (nulled w c) q k seen h (Lowers-same w.time.count (place_at w q) (place_at w q) refl)
+    one-call q k seen (closes_cell w r c l) i h =
+        let g = Gives-cell_closed w r c l in
+        let on = lowers-place w.time r q (all_awaiting g.slots (place_at w r)) l (Lowers-given w.time.count g.slots (place_at w r)) in
+        goes-on w (cell_closed w r c) q k seen h
+        (subst (λ (t : Time). Lowers w.time.count t.count (place_at w q) (time.place_at t q)) (sym g.time) on)
+
+    pub no-call-raises : (w : World T) → IsWhole w → NoCallRaises holds w
+    no-call-raises w i = λ new call q k seen h. one-call q k seen call i h
+
+    pub left-bounded : (w : World T) (q k seen : ℕ) → IsWhole w → Waits w q k seen → left w.time q seen ≤ 385
+    left-bounded w q k seen i h = omega (arith, waits-low w q k seen i h, (left-bounds w.time.count seen (place_at w q)).1)
+
+    pub goes-at-latest : (w : World T) → IsWhole w → GoesAtLatest holds w
+    goes-at-latest w i =
+        record { bounded = λ q k seen h. left-bounded w q k seen i h; lowered = openings-lower w i; never_raised = no-call-raises w i }
