@@ -15,12 +15,13 @@ use Rattle.sdd_base.specs.Steps.{made, retired, nulled, cell_closed, opened, clo
 use Rattle.sdd_base.specs.Holding.{Holding}
 use Rattle.sdd_base.specs.Own.{all_awaiting}
 use Rattle.sdd_base.specs.Whole.{IsWhole}
-use Rattle.sdd_base.specs.Left.{Waits, left, IsHeldUp, OpeningsLower, NoCallRaises, GoesAtLatest}
+use Rattle.sdd_base.specs.Left.{Waits, left, IsHeldUp, OpeningsLower, NoCallRaises, GoesAtLatest, Stays, GoesInTime}
+use Rattle.sdd_base.specs.Left.Stays.{starts, one_opening, one_call}
 use Rattle.sdd_base.specs.Calls.{Calls}
 use Rattle.sdd_base.specs.Calls.Calls.{registers, opens, closes, stirs, accelerates, makes, retires, nulls, closes_cell}
 use Rattle.sdd_base.proofs.Own.{Gives-cell_closed, all_awaiting-found}
 use Rattle.sdd_base.proofs.Own as own
-use Rattle.sdd_base.proofs.Whole.{same-or-not, below-or-past, scans-places, times_among, filled-there, all_awaiting-guards, some-waits, Whole-opened}
+use Rattle.sdd_base.proofs.Whole.{same-or-not, below-or-past, scans-places, times_among, filled-there, all_awaiting-guards, some-waits, Whole-opened, Whole-closed, Whole-stirred, Whole-accelerated, Whole-made, Whole-retires, Whole-nulled, Whole-cell_closed, Whole-registered}
 use Rattle.sdd_base.proofs.Opening.{how, Nests, IsChange, opened-goes, opened-other, all_awaiting-waiting}
 use Rattle.sdd_base.proofs.Entries.{waits-place, waits-young, waits-standing, entry-due, nests-waits, change-waits, differs, opens-changed}
 use Rattle.sdd_base.proofs.Under.{persists-closed}
@@ -428,33 +429,33 @@ module _ {T : Type 0} where
         (Lowers-later w.time.count (closed w r).time.count (place_at w q) (place_at (closed w r) q) (i.abreast q).found (closed-count w.time r)
         (closed-other w.time r q (λ same. apart (sym same))))
 
-    one-call : (q k seen : ℕ) {w new : World T} → Calls holds w new → IsWhole w → Waits w q k seen → Outcome w new q k seen
-    one-call q k seen (registers w) i h =
+    each-call : (q k seen : ℕ) {w new : World T} → Calls holds w new → IsWhole w → Waits w q k seen → Outcome w new q k seen
+    each-call q k seen (registers w) i h =
         goes-on w (registered w) q k seen h
         (Lowers-same w.time.count (place_at w q) (place_at (registered w) q)
         (get_or-append w.time.places (newcomer w.time.room ∷ []) nobody q (waits-place w q k seen h)))
-    one-call q k seen (opens w r l) i h = opening w r q k seen l i h (same-or-not r q)
-    one-call q k seen (closes w r l) i h = closing w r q k seen l i h (same-or-not r q)
-    one-call q k seen (stirs w r l) i h =
+    each-call q k seen (opens w r l) i h = opening w r q k seen l i h (same-or-not r q)
+    each-call q k seen (closes w r l) i h = closing w r q k seen l i h (same-or-not r q)
+    each-call q k seen (stirs w r l) i h =
         let x = place_at w r in
         goes-on-place w r q k seen (time.with_garbage x) l h
         (Lowers-slower w.time.count x (time.with_garbage x) (λ y g. g) refl refl (stirred-lower x.countdown))
-    one-call q k seen (accelerates w r l) i h =
+    each-call q k seen (accelerates w r l) i h =
         let x = place_at w r in
         goes-on-place w r q k seen (time.accelerated x) l h (Lowers-slower w.time.count x (time.accelerated x) (λ y g. g) refl refl (omega arith))
-    one-call q k seen (makes w j value empty) i h = goes-on w (made w j value) q k seen h (Lowers-same w.time.count (place_at w q) (place_at w q) refl)
-    one-call q k seen (retires w r j l there) i h =
+    each-call q k seen (makes w j value empty) i h = goes-on w (made w j value) q k seen h (Lowers-same w.time.count (place_at w q) (place_at w q) refl)
+    each-call q k seen (retires w r j l there) i h =
         goes-on w (retired w r j) q k seen h
         (lowers-place w.time r q (time.awaiting (Item j) (place_at w r)) l (Lowers-given w.time.count (j ∷ []) (place_at w r)))
-    one-call q k seen (nulls w c empty) i h = goes-on w (nulled w c) q k seen h (Lowers-same w.time.count (place_at w q) (place_at w q) refl)
-    one-call q k seen (closes_cell w r c l) i h =
+    each-call q k seen (nulls w c empty) i h = goes-on w (nulled w c) q k seen h (Lowers-same w.time.count (place_at w q) (place_at w q) refl)
+    each-call q k seen (closes_cell w r c l) i h =
         let g = Gives-cell_closed w r c l in
         let on = lowers-place w.time r q (all_awaiting g.slots (place_at w r)) l (Lowers-given w.time.count g.slots (place_at w r)) in
         goes-on w (cell_closed w r c) q k seen h
         (subst (λ (t : Time). Lowers w.time.count t.count (place_at w q) (time.place_at t q)) (sym g.time) on)
 
     pub no-call-raises : (w : World T) → IsWhole w → NoCallRaises holds w
-    no-call-raises w i = λ new call q k seen h. one-call q k seen call i h
+    no-call-raises w i = λ new call q k seen h. each-call q k seen call i h
 
     pub left-bounded : (w : World T) (q k seen : ℕ) → IsWhole w → Waits w q k seen → left w.time q seen ≤ 385
     left-bounded w q k seen i h = omega (arith, waits-low w q k seen i h, (left-bounds w.time.count seen (place_at w q)).1)
@@ -462,3 +463,49 @@ module _ {T : Type 0} where
     pub goes-at-latest : (w : World T) → IsWhole w → GoesAtLatest holds w
     goes-at-latest w i =
         record { bounded = λ q k seen h. left-bounded w q k seen i h; lowered = openings-lower w i; never_raised = no-call-raises w i }
+
+    Whole-called : {w new : World T} → Calls holds w new → IsWhole w → IsWhole new
+    Whole-called (registers w) i = Whole-registered w i
+    Whole-called (opens w r l) i = Whole-opened holds w r l i
+    Whole-called (closes w r l) i = Whole-closed w r l i
+    Whole-called (stirs w r l) i = Whole-stirred w r l i
+    Whole-called (accelerates w r l) i = Whole-accelerated w r l i
+    Whole-called (makes w j value empty) i = Whole-made w j value empty.0 empty.1 i
+    Whole-called (retires w r j l there) i = Whole-retires w r j l there i
+    Whole-called (nulls w c empty) i = Whole-nulled w c i
+    Whole-called (closes_cell w r c l) i = Whole-cell_closed w r c l i
+
+    -- the item still waits, and each outermost opening has lowered what is left
+    record Waning (w new : World T) (q k seen openings : ℕ) : Type 0 where
+      whole : IsWhole new
+      later : ℕ
+      waits : Waits new q k later
+      lower : left new.time q later + openings ≤ left w.time q seen
+
+    wanes-opening : (w v : World T) (q k seen n : ℕ) (o : Waning w v q k seen n) (l : q < length v.time.places) → Opens holds v q k o.later l o.whole o.waits →
+        standing_at (opened holds v q) k ≢ None → Waning w (opened holds v q) q k seen (n + 1)
+    wanes-opening w v q k seen n o l (inl gone) there = absurd (there gone.1)
+    wanes-opening w v q k seen n o l (inr on) there =
+        record { whole = Whole-opened holds v q l o.whole; later = on.0; waits = on.1; lower = omega (arith, o.lower, on.2) }
+
+    wanes-call : (w v new : World T) (q k seen n : ℕ) (o : Waning w v q k seen n) → IsWhole new → Outcome v new q k o.later →
+        ¬ ((new ≡ closed v q) × IsHeldUp v q) → standing_at new k ≢ None → Waning w new q k seen n
+    wanes-call w v new q k seen n o i (inl gone) free there = absurd (there gone)
+    wanes-call w v new q k seen n o i (inr (later, waits, inl lower)) free there =
+        record { whole = i; later = later; waits = waits; lower = omega (arith, o.lower, lower) }
+    wanes-call w v new q k seen n o i (inr (later, waits, inr held)) free there = absurd (free held)
+
+    wanes : (q k seen : ℕ) {n : ℕ} {w new : World T} → Stays holds q k n w new → IsWhole w → Waits w q k seen → Waning w new q k seen n
+    wanes q k seen (starts w) i h = record { whole = i; later = seen; waits = h; lower = omega arith }
+    wanes q k seen (one_opening n w v path shut there) i h =
+        let o = wanes q k seen path i h in
+        let l = waits-place v q k o.later o.waits in
+        wanes-opening w v q k seen n o l (opens-lower holds v q k o.later l o.whole o.waits (not-open (is_open (place_at v q)) shut)) there
+    wanes q k seen (one_call n w v new path call free there) i h =
+        let o = wanes q k seen path i h in
+        wanes-call w v new q k seen n o (Whole-called call o.whole) (each-call q k o.later call o.whole o.waits) free there
+
+    pub goes-in-time : (w : World T) → IsWhole w → GoesInTime holds w
+    goes-in-time w i = λ q k seen h n new path.
+        let o = wanes q k seen path i h in
+        omega (arith, o.lower, (left-bounds new.time.count o.later (place_at new q)).0)
