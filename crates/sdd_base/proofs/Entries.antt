@@ -106,7 +106,7 @@ once-waits : (b : Bool) → 1 ≤ once_if b → b ≡ true
 once-waits true h = refl
 once-waits false h = absurd (omega (arith, h))
 
-opens-changed : (count : ℕ) (slots : List ℕ) (x : Participant) → is_open x ≡ false → (x.found == count) ≡ false →
+pub opens-changed : (count : ℕ) (slots : List ℕ) (x : Participant) → is_open x ≡ false → (x.found == count) ≡ false →
     opened_at count slots x ≡ time.settled (all_awaiting slots (time.rotated count (time.nested x)))
 opens-changed count slots x shut another = rw (shut, another) refl
 

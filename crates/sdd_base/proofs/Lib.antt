@@ -6,3 +6,4 @@ pub mod Entries
 pub mod Under
 pub mod Four
 pub mod Out
+pub mod Left

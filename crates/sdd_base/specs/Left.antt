@@ -27,7 +27,7 @@ IsGuarded w = Any (λ p. IsTrue (is_open p)) w.time.places
 
 -- a scan of q can't raise the count: it is the last one, or another participant has a guard open
 abbrev pub IsHeldUp : {T : Type 0} → World T → ℕ → Type 0
-IsHeldUp w q = (w.time.count ≡ last_count) ⊎ ((p : ℕ) × (p ≢ q) × IsTrue (is_open (place_at w p)))
+IsHeldUp w q = (last_count ≤ w.time.count) ⊎ ((p : ℕ) × (p ≢ q) × IsTrue (is_open (place_at w p)))
 
 -- p opens a guard, accelerates it and closes it
 abbrev pub accelerated_guard : {T : Type 0} → (T → List Holding) → World T → ℕ → World T
@@ -61,3 +61,15 @@ module _ {T : Type 0} (holds : T → List Holding) (w : World T) where
   abbrev pub FourGuardsReclaim : Type 0
   FourGuardsReclaim = (p k seen : ℕ) → IsPlaceOf w p → ¬ (IsGuarded w) → w.time.count + 4 ≤ 2 ^ 64 → Waits w p k seen →
       (standing_at (four_guards holds w p) k ≡ None) × (value_at (four_guards holds w p) k ≡ None)
+
+module _ {T : Type 0} (holds : T → List Holding) (q k : ℕ) where
+  -- calls, one after another, in which the slot is never free and no close of q is held up; so many of them are outermost openings of q
+  pub data Stays : (openings : ℕ) → World T → World T → Type 0 where
+    starts : (w : World T) → Stays 0 w w
+    one_opening : (n : ℕ) (v w : World T) → Stays n v w → ¬ (IsTrue (is_open (place_at w q))) → standing_at (opened holds w q) k ≢ None →
+        Stays (n + 1) v (opened holds w q)
+    one_call : (n : ℕ) (u v w : World T) → Stays n u v → Calls holds v w → ¬ ((w ≡ closed v q) × IsHeldUp v q) → standing_at w k ≢ None → Stays n u w
+
+-- the law: as long as an item waits, its holder has made fewer outermost openings than were left, where no close of the holder is held up
+abbrev pub GoesInTime : {T : Type 0} → (T → List Holding) → World T → Type 0
+GoesInTime {T} holds w = (q k seen : ℕ) → Waits w q k seen → (n : ℕ) (new : World T) → Stays holds q k n w new → n < left w.time q seen

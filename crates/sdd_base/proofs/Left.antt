@@ -1,0 +1,511 @@
+-- When an item goes at latest
+use Rattle.std.proofs.Common.{◌≡◌, ◌≢◌, ◌⊎◌, inl, inr, ℕ, ◌+◌, ◌<◌, ◌≤◌, List, [], ◌∷◌, length, Bool, refl, sym, ap, ◌∙◌, arith, true, false, Some, None, nat_lt, Option, zero, suc, slice_index_or, IsTrue, subst}
+use Rattle.std.specs.Prelude.{◌-◌, ◌*◌, ◌==◌, ◌&&◌, Contains, is_some, if◌then◌else◌, not}
+use Rattle.std.specs.List.{list_all}
+use Rattle.std.proofs.Math.ListN.{get_or-append}
+use Rattle.std.proofs.lemmas.List.{get_or-set_same, get_or-set_other}
+use Rattle.std.proofs.lemmas.Bool.Decides.{nat_tests}
+use Rattle.sdd_store.specs.Waiting.{Waiting, having_seen}
+use Rattle.sdd_store.specs.Waiting.What.{Item}
+use Rattle.sdd_store.specs.Time.{Time, with_place, nobody, newcomer, is_open, passes, last_count, counted_down}
+use Rattle.sdd_store.specs.Time as time
+use Rattle.sdd_store.specs.declared.time.Participant.{Participant}
+use Rattle.sdd_base.specs.World.{World, standing_at, value_at, place_at}
+use Rattle.sdd_base.specs.Steps.{made, retired, nulled, cell_closed, opened, closed, stirred, accelerated, registered, reclaims}
+use Rattle.sdd_base.specs.Holding.{Holding}
+use Rattle.sdd_base.specs.Own.{all_awaiting}
+use Rattle.sdd_base.specs.Whole.{IsWhole}
+use Rattle.sdd_base.specs.Left.{Waits, left, IsHeldUp, OpeningsLower, NoCallRaises, GoesAtLatest, Stays, GoesInTime}
+use Rattle.sdd_base.specs.Left.Stays.{starts, one_opening, one_call}
+use Rattle.sdd_base.specs.Calls.{Calls}
+use Rattle.sdd_base.specs.Calls.Calls.{registers, opens, closes, stirs, accelerates, makes, retires, nulls, closes_cell}
+use Rattle.sdd_base.proofs.Own.{Gives-cell_closed, all_awaiting-found}
+use Rattle.sdd_base.proofs.Own as own
+use Rattle.sdd_base.proofs.Whole.{same-or-not, below-or-past, scans-places, times_among, filled-there, all_awaiting-guards, some-waits, Whole-opened, Whole-closed, Whole-stirred, Whole-accelerated, Whole-made, Whole-retires, Whole-nulled, Whole-cell_closed, Whole-registered}
+use Rattle.sdd_base.proofs.Opening.{how, Nests, IsChange, opened-goes, opened-other, all_awaiting-waiting}
+use Rattle.sdd_base.proofs.Entries.{waits-place, waits-young, waits-standing, entry-due, nests-waits, change-waits, differs, opens-changed}
+use Rattle.sdd_base.proofs.Under.{persists-closed}
+
+-- what is left with this participant at this count
+abbrev left_of : (count : ℕ) → Participant → (seen : ℕ) → ℕ
+left_of count x seen = if not (x.found == count) then 1 + 128 * (2 - seen) else x.countdown + (if is_open x then 1 else 2) + 128 * (2 - seen)
+
+matches : (m n : ℕ) → m ≡ n → (m == n) ≡ true
+matches m n e = grind (arith, nat_tests)
+
+left-another : (count seen : ℕ) (x : Participant) → x.found ≢ count → left_of count x seen ≡ 1 + 128 * (2 - seen)
+left-another count seen x apart = rw (differs x.found count apart) refl
+
+left-open : (count seen : ℕ) (x : Participant) → x.found ≡ count → is_open x ≡ true → left_of count x seen ≡ x.countdown + 1 + 128 * (2 - seen)
+left-open count seen x found o = rw (matches x.found count found, o) refl
+
+left-shut : (count seen : ℕ) (x : Participant) → x.found ≡ count → is_open x ≡ false → left_of count x seen ≡ x.countdown + 2 + 128 * (2 - seen)
+left-shut count seen x found o = rw (matches x.found count found, o) refl
+
+left-bounds-if : (count seen : ℕ) (x : Participant) → (x.found ≡ count) ⊎ (x.found ≢ count) → (b : Bool) → is_open x ≡ b →
+    (1 + 128 * (2 - seen) ≤ left_of count x seen) × (left_of count x seen ≤ x.countdown + 2 + 128 * (2 - seen))
+left-bounds-if count seen x (inl found) true o = let all = left-open count seen x found o in (omega (arith, all), omega (arith, all))
+left-bounds-if count seen x (inl found) false o = let all = left-shut count seen x found o in (omega (arith, all), omega (arith, all))
+left-bounds-if count seen x (inr apart) b o = let all = left-another count seen x apart in (omega (arith, all), omega (arith, all))
+
+left-bounds : (count seen : ℕ) (x : Participant) → (1 + 128 * (2 - seen) ≤ left_of count x seen) × (left_of count x seen ≤ x.countdown + 2 + 128 * (2 - seen))
+left-bounds count seen x = left-bounds-if count seen x (same-or-not x.found count) (is_open x) refl
+
+-- the same count is found, and there is no more to count down
+slower-if : (count seen : ℕ) (x y : Participant) → y.found ≡ x.found → is_open y ≡ is_open x → y.countdown ≤ x.countdown →
+    (x.found ≡ count) ⊎ (x.found ≢ count) → (b : Bool) → is_open x ≡ b → left_of count y seen ≤ left_of count x seen
+slower-if count seen x y f g d (inl found) true o = omega (arith, d, left-open count seen x found o, left-open count seen y (f ∙ found) (g ∙ o))
+slower-if count seen x y f g d (inl found) false o = omega (arith, d, left-shut count seen x found o, left-shut count seen y (f ∙ found) (g ∙ o))
+slower-if count seen x y f g d (inr apart) b o = omega (arith, left-another count seen x apart, left-another count seen y (λ e. apart (sym f ∙ e)))
+
+slower : (count seen : ℕ) (x y : Participant) → y.found ≡ x.found → is_open y ≡ is_open x → y.countdown ≤ x.countdown →
+    left_of count y seen ≤ left_of count x seen
+slower count seen x y f g d = slower-if count seen x y f g d (same-or-not x.found count) (is_open x) refl
+
+-- the count may go on by one
+later-if : (count new seen : ℕ) (x : Participant) → x.found ≤ count → (new ≡ count) ⊎ (new ≡ count + 1) → left_of new x seen ≤ left_of count x seen
+later-if count new seen x found (inl e) = subst (λ (n : ℕ). left_of n x seen ≤ left_of count x seen) (sym e) (omega arith)
+later-if count new seen x found (inr e) = omega (arith, (left-bounds count seen x).0, left-another new seen x (λ same. absurd (omega (arith, same, e, found))))
+
+-- a participant goes on: what waits with it waits, and no more is left
+record Lowers (count new : ℕ) (x y : Participant) : Type 0 where
+  waits : (w : Waiting) → Contains x.bags.waiting w → Contains y.bags.waiting w
+  lower : (seen : ℕ) → left_of new y seen ≤ left_of count x seen
+
+Lowers-later : (count new : ℕ) (x y : Participant) → x.found ≤ count → (new ≡ count) ⊎ (new ≡ count + 1) → y ≡ x → Lowers count new x y
+Lowers-later count new x y found c e =
+    subst (λ (z : Participant). Lowers count new x z) (sym e) (record { waits = λ w h. h; lower = λ seen. later-if count new seen x found c })
+
+Lowers-same : (count : ℕ) (x y : Participant) → y ≡ x → Lowers count count x y
+Lowers-same count x y e = subst (λ (z : Participant). Lowers count count x z) (sym e) (record { waits = λ w h. h; lower = λ seen. omega arith })
+
+lowers-at : (t : Time) (p q : ℕ) (x : Participant) → p < length t.places → Lowers t.count t.count (time.place_at t p) x → (q ≡ p) ⊎ (q ≢ p) →
+    Lowers t.count t.count (time.place_at t q) (time.place_at (with_place t p x) q)
+lowers-at t p q x l on (inl e) =
+    subst (λ (n : ℕ). Lowers t.count t.count (time.place_at t n) (time.place_at (with_place t p x) n)) (sym e)
+    (subst (λ (z : Participant). Lowers t.count t.count (time.place_at t p) z) (sym (get_or-set_same t.places p x nobody l)) on)
+lowers-at t p q x l on (inr apart) =
+    Lowers-same t.count (time.place_at t q) (time.place_at (with_place t p x) q) (get_or-set_other t.places p q x nobody apart)
+
+lowers-place : (t : Time) (p q : ℕ) (x : Participant) → p < length t.places → Lowers t.count t.count (time.place_at t p) x →
+    Lowers t.count t.count (time.place_at t q) (time.place_at (with_place t p x) q)
+lowers-place t p q x l on = lowers-at t p q x l on (same-or-not q p)
+
+-- there is no more to count down once there is garbage
+stirred-lower-if : (d : ℕ) (b : Bool) → (d == 128) ≡ b → time.stirred d ≤ d
+stirred-lower-if d true e = let full : d ≡ 128 = grind (arith, nat_tests, e) in rw e (omega (arith, full))
+stirred-lower-if d false e = rw e (omega arith)
+
+stirred-lower : (d : ℕ) → time.stirred d ≤ d
+stirred-lower d = stirred-lower-if d (d == 128) refl
+
+all_awaiting-countdown : (ks : List ℕ) (x : Participant) → (all_awaiting ks x).countdown ≤ x.countdown
+all_awaiting-countdown [] x = omega arith
+all_awaiting-countdown (k ∷ ks) x = omega (arith, all_awaiting-countdown ks (time.awaiting (Item k) x), stirred-lower x.countdown)
+
+Lowers-slower : (count : ℕ) (x y : Participant) → ((w : Waiting) → Contains x.bags.waiting w → Contains y.bags.waiting w) → y.found ≡ x.found →
+    y.guards ≡ x.guards →
+    y.countdown ≤ x.countdown → Lowers count count x y
+Lowers-slower count x y on f g d = record { waits = on; lower = λ seen. slower count seen x y f (ap (λ (n : ℕ). nat_lt 0 n) g) d }
+
+Lowers-given : (count : ℕ) (ks : List ℕ) (x : Participant) → Lowers count count x (all_awaiting ks x)
+Lowers-given count ks x =
+    Lowers-slower count x (all_awaiting ks x) (λ w h. all_awaiting-waiting ks x w h)
+    (all_awaiting-found ks x) (all_awaiting-guards ks x) (all_awaiting-countdown ks x)
+
+-- who stops a scan that fails
+abbrev Stops : ℕ → List Participant → Type 0
+Stops count ps = (p : ℕ) × (passes count (slice_index_or ps p nobody) ≡ false)
+
+and-fails : (a b : Bool) → (a && b) ≡ false → (a ≡ false) ⊎ (b ≡ false)
+and-fails true b e = inr e
+and-fails false b e = inl refl
+
+stops-or : (count : ℕ) (x : Participant) (ps : List Participant) → (passes count x ≡ false) ⊎ (list_all (passes count) ps ≡ false) →
+    (list_all (passes count) ps ≡ false → Stops count ps) → Stops count (x ∷ ps)
+stops-or count x ps (inl e) on = (zero, e)
+stops-or count x ps (inr e) on = let there = on e in (suc there.0, there.1)
+
+stops : (count : ℕ) (ps : List Participant) → list_all (passes count) ps ≡ false → Stops count ps
+stops count [] e = absurd (cc)
+stops count (x ∷ ps) e = stops-or count x ps (and-fails (passes count x) (list_all (passes count) ps) e) (λ h. stops count ps h)
+
+stopped-if : (count : ℕ) (x : Participant) (o b : Bool) → is_open x ≡ o → (x.found == count) ≡ b → passes count x ≡ false →
+    (is_open x ≡ true) × (x.found ≢ count)
+stopped-if count x true false o e h = (o, λ same. absurd (grind (arith, nat_tests, e, same)))
+stopped-if count x true true o e h = let never : true ≡ false = rw (o, e) at h in absurd (cc)
+stopped-if count x false b o e h = let never : true ≡ false = rw o at h in absurd (cc)
+
+stopped : (count : ℕ) (x : Participant) → passes count x ≡ false → (is_open x ≡ true) × (x.found ≢ count)
+stopped count x h = stopped-if count x (is_open x) (x.found == count) refl refl h
+
+-- a close: the count goes on by one or not
+abbrev GoesOn : (count new : ℕ) → Type 0
+GoesOn count new = (new ≡ count) ⊎ (new ≡ count + 1)
+
+raised-count : (t : Time) (b : Bool) → GoesOn t.count (if b then record t { count = t.count + 1 } else t).count
+raised-count t true = inr refl
+raised-count t false = inl refl
+
+scanned-count : (t : Time) (b : Bool) → GoesOn t.count (if b then time.raised (record t { marked = false }) else t).count
+scanned-count t true = raised-count (record t { marked = false }) (nat_lt t.count last_count && list_all (passes t.count) t.places)
+scanned-count t false = inl refl
+
+scans-count : (t : Time) (p : ℕ) (b : Bool) → GoesOn t.count (if b then time.scanned t p else t).count
+scans-count t p true = scanned-count t ((time.place_at t p).found == t.count)
+scans-count t p false = inl refl
+
+last-count : (t : Time) (p : ℕ) (b : Bool) → GoesOn t.count (if b then time.left_by t p else t).count
+last-count t p true = scans-count t p ((time.place_at t p).countdown == 0)
+last-count t p false = inl refl
+
+closed-count-if : (t : Time) (p : ℕ) (b : Bool) → nat_lt 1 (time.place_at t p).guards ≡ b → GoesOn t.count (time.closed t p).count
+closed-count-if t p true e = rw e (inl refl)
+closed-count-if t p false e = rw e (last-count t p (is_open (time.place_at t p)))
+
+closed-count : (t : Time) (p : ℕ) → GoesOn t.count (time.closed t p).count
+closed-count t p = closed-count-if t p (nat_lt 1 (time.place_at t p).guards) refl
+
+-- each other participant is as before
+last-other : (t : Time) (p q : ℕ) → q ≢ p → (b : Bool) → time.place_at (if b then time.left_by t p else t) q ≡ time.place_at t q
+last-other t p q apart true =
+    let scans = (time.place_at t p).countdown == 0 in
+    let u : Time = if scans then time.scanned t p else t in
+    get_or-set_other u.places p q (record (time.place_at t p) { guards = 0; countdown = counted_down t.marked (time.place_at t p).countdown }) nobody apart
+    ∙ ap (λ (ps : List Participant). slice_index_or ps q nobody) (scans-places t p scans)
+last-other t p q apart false = refl
+
+closed-other-if : (t : Time) (p q : ℕ) → q ≢ p → (b : Bool) → nat_lt 1 (time.place_at t p).guards ≡ b → time.place_at (time.closed t p) q ≡ time.place_at t q
+closed-other-if t p q apart true e = rw e (get_or-set_other t.places p q (record (time.place_at t p) { guards = (time.place_at t p).guards - 1 }) nobody apart)
+closed-other-if t p q apart false e = rw e (last-other t p q apart (is_open (time.place_at t p)))
+
+closed-other : (t : Time) (p q : ℕ) → q ≢ p → time.place_at (time.closed t p) q ≡ time.place_at t q
+closed-other t p q apart = closed-other-if t p q apart (nat_lt 1 (time.place_at t p).guards) refl
+
+-- the last guard is closed, and so much is to be counted down
+abbrev resting : ℕ → Participant → Participant
+resting countdown x = record x { guards = 0; countdown = countdown }
+
+rests-counting : (count seen : ℕ) (x : Participant) → is_open x ≡ true → x.countdown ≢ 0 → (x.found ≡ count) ⊎ (x.found ≢ count) →
+    left_of count (resting (x.countdown - 1) x) seen ≤ left_of count x seen
+rests-counting count seen x o some (inl found) =
+    omega (arith, some, left-open count seen x found o, left-shut count seen (resting (x.countdown - 1) x) found refl)
+rests-counting count seen x o some (inr apart) =
+    omega (arith, left-another count seen x apart, left-another count seen (resting (x.countdown - 1) x) apart)
+
+rests-elsewhere : (count seen countdown : ℕ) (x : Participant) → x.found ≢ count → left_of count (resting countdown x) seen ≤ left_of count x seen
+rests-elsewhere count seen countdown x apart = omega (arith, left-another count seen x apart, left-another count seen (resting countdown x) apart)
+
+rests-raised : (count seen countdown : ℕ) (x : Participant) → x.found ≡ count → left_of (count + 1) (resting countdown x) seen ≤ left_of count x seen
+rests-raised count seen countdown x found =
+    let apart : x.found ≢ count + 1 = λ same. absurd (omega (arith, same, found)) in
+    omega (arith, (left-bounds count seen x).0, left-another (count + 1) seen (resting countdown x) apart)
+
+put-left : (t : Time) (q seen : ℕ) (y : Participant) → q < length t.places → left (with_place t q y) q seen ≡ left_of t.count y seen
+put-left t q seen y l = ap (λ (x : Participant). left_of t.count x seen) (get_or-set_same t.places q y nobody l)
+
+not-below : (m n : ℕ) → nat_lt m n ≡ false → n ≤ m
+not-below m n e = grind (arith, nat_tests)
+
+inner-open : (n : ℕ) → nat_lt 1 n ≡ true → nat_lt 0 (n - 1) ≡ nat_lt 0 n
+inner-open n e = grind (arith, nat_tests)
+
+-- a close of the holder's own
+module _ {T : Type 0} (w : World T) (q seen : ℕ) (l : q < length w.time.places) where
+  held-if : (place_at w q).found ≡ w.time.count → (nat_lt w.time.count last_count ≡ false) ⊎ (list_all (passes w.time.count) w.time.places ≡ false) →
+      IsHeldUp w q
+  held-if found (inl e) = inl (not-below w.time.count last_count e)
+  held-if found (inr e) =
+      let there = stops w.time.count w.time.places e in
+      let who = stopped w.time.count (place_at w there.0) there.1 in
+      inr (there.0, (λ same. who.1 (ap (λ (n : ℕ). (place_at w n).found) same ∙ found)), who.0)
+
+  abbrev Closes : Time → Type 0
+  Closes u = (left u q seen ≤ left w.time q seen) ⊎ IsHeldUp w q
+
+  closes-put : (u v : Time) (y : Participant) → u ≡ with_place v q y → v.places ≡ w.time.places → left_of v.count y seen ≤ left w.time q seen → Closes u
+  closes-put u v y e same h =
+      let inside : q < length v.places = omega (arith, l, ap (λ (ps : List Participant). length ps) same) in
+      let after : left u q seen ≡ left_of v.count y seen = ap (λ (z : Time). left z q seen) e ∙ put-left v q seen y inside in
+      inl (omega (arith, after, h))
+
+  closes-raised : ((place_at w q).countdown == 0) ≡ true → ((place_at w q).found == w.time.count) ≡ true → (place_at w q).found ≡ w.time.count →
+      (b : Bool) → (nat_lt w.time.count last_count && list_all (passes w.time.count) w.time.places) ≡ b → Closes (time.left_by w.time q)
+  closes-raised ended test found true e =
+      let u : Time = record w.time { marked = false; count = w.time.count + 1 } in
+      closes-put (time.left_by w.time q) u (resting 127 (place_at w q)) (rw (ended, test, e) refl) refl
+      (rests-raised w.time.count seen 127 (place_at w q) found)
+  closes-raised ended test found false e =
+      inr (held-if found (and-fails (nat_lt w.time.count last_count) (list_all (passes w.time.count) w.time.places) e))
+
+  closes-ended : ((place_at w q).countdown == 0) ≡ true → (b : Bool) → ((place_at w q).found == w.time.count) ≡ b → Closes (time.left_by w.time q)
+  closes-ended ended true test =
+      closes-raised ended test (grind (arith, nat_tests, test)) (nat_lt w.time.count last_count && list_all (passes w.time.count) w.time.places) refl
+  closes-ended ended false test =
+      closes-put (time.left_by w.time q) w.time (resting 127 (place_at w q)) (rw (ended, test) refl) refl
+      (rests-elsewhere w.time.count seen 127 (place_at w q) (λ same. absurd (grind (arith, nat_tests, test, same))))
+
+  closes-last : (place_at w q).countdown ≤ 127 → is_open (place_at w q) ≡ true → (b : Bool) → ((place_at w q).countdown == 0) ≡ b →
+      Closes (time.left_by w.time q)
+  closes-last low o true ended = closes-ended ended ((place_at w q).found == w.time.count) refl
+  closes-last low o false counting =
+      let d = (place_at w q).countdown in
+      let full : (d == 128) ≡ false = differs d 128 (λ e. absurd (omega (arith, e, low))) in
+      let some : d ≢ 0 = λ e. absurd (grind (arith, nat_tests, counting, e)) in
+      closes-put (time.left_by w.time q) w.time (resting (d - 1) (place_at w q)) (rw (counting, full) refl) refl
+      (rests-counting w.time.count seen (place_at w q) o some (same-or-not (place_at w q).found w.time.count))
+
+  closes-own-if : (place_at w q).countdown ≤ 127 → (a : Bool) → nat_lt 1 (place_at w q).guards ≡ a → (b : Bool) → is_open (place_at w q) ≡ b →
+      Closes (time.closed w.time q)
+  closes-own-if low true e b o =
+      let y : Participant = record (place_at w q) { guards = (place_at w q).guards - 1 } in
+      closes-put (time.closed w.time q) w.time y (rw e refl) refl
+      (slower w.time.count seen (place_at w q) y refl (inner-open (place_at w q).guards e) (omega arith))
+  closes-own-if low false e true o =
+      let last : time.closed w.time q ≡ time.left_by w.time q = rw (e, o) refl in
+      subst (λ (u : Time). Closes u) (sym last) (closes-last low o ((place_at w q).countdown == 0) refl)
+  closes-own-if low false e false o =
+      let nothing : time.closed w.time q ≡ w.time = rw (e, o) refl in
+      subst (λ (u : Time). Closes u) (sym nothing) (inl (omega arith))
+
+  closes-own : (place_at w q).countdown ≤ 127 → Closes (time.closed w.time q)
+  closes-own low = closes-own-if low (nat_lt 1 (place_at w q).guards) refl (is_open (place_at w q)) refl
+
+-- who has something waiting counts down from 127 at most
+something : (ws : List Waiting) (y : Waiting) → Contains ws y → ws ≡ [] → ⊥
+something ws y h e = let none : Contains [] y = subst (λ (vs : List Waiting). Contains vs y) e h in absurd (omega (arith, none.1))
+
+is-there : {X : Type 0} (v : Option X) → is_some v ≡ true → (x : X) × (v ≡ Some x)
+is-there None e = absurd (cc)
+is-there (Some x) e = (x, refl)
+
+nested-open : (x : Participant) → is_open (time.nested x) ≡ true
+nested-open x = grind (arith, nat_tests)
+
+still-open : (n : ℕ) → nat_lt 0 n ≡ true → nat_lt 0 (n + 1) ≡ nat_lt 0 n
+still-open n e = grind (arith, nat_tests)
+
+module _ {T : Type 0} where
+  waits-low-if : (w : World T) (q k seen : ℕ) → IsWhole w → Waits w q k seen → ((place_at w q).countdown ≡ 128) ⊎ ((place_at w q).countdown ≢ 128) →
+      (place_at w q).countdown ≤ 127
+  waits-low-if w q k seen i h (inl full) = absurd (something (place_at w q).bags.waiting (having_seen seen (Item k)) h ((i.abreast q).quiet full))
+  waits-low-if w q k seen i h (inr apart) = omega (arith, apart, (i.abreast q).countdown)
+
+  waits-low : (w : World T) (q k seen : ℕ) → IsWhole w → Waits w q k seen → (place_at w q).countdown ≤ 127
+  waits-low w q k seen i h = waits-low-if w q k seen i h (same-or-not (place_at w q).countdown 128)
+
+  -- what waits has its value
+  waits-value : (w : World T) (q k seen : ℕ) → IsWhole w → Waits w q k seen → (v : T) × (value_at w k ≡ Some v)
+  waits-value w q k seen i h =
+      is-there (value_at w k) (filled-there w k i.filled ∙ some-waits (standing_at w k) (waits-standing w q k seen i h))
+
+  module _ (holds : T → List Holding) (w : World T) (q k seen : ℕ) (l : q < length w.time.places) (i : IsWhole w) (h : Waits w q k seen) where
+    abbrev end : World T
+    end = opened holds w q
+
+    -- an outermost opening of the holder
+    abbrev Opens : Type 0
+    Opens =
+        ((left w.time q seen ≡ 1) × (standing_at end k ≡ None))
+        ⊎ ((later : ℕ) × Waits end q k later × (left end.time q later + 1 ≤ left w.time q seen))
+
+    opens-nests : (n : Nests holds w q) → is_open (place_at w q) ≡ false → (place_at w q).found ≡ w.time.count → Opens
+    opens-nests n shut found =
+        let x = place_at w q in
+        let after : left end.time q seen ≡ left_of w.time.count (time.nested x) seen =
+        ap (λ (u : World T). left u.time q seen) n.nests ∙ put-left w.time q seen (time.nested x) l in
+        let open_now = left-open w.time.count seen (time.nested x) found (nested-open x) in
+        inr (seen, nests-waits holds w q k seen l n h, omega (arith, after, open_now, left-shut w.time.count seen x found shut))
+
+    changes-open : (c : IsChange holds w q) → is_open (place_at end q) ≡ true
+    changes-open c =
+        let o = own.opens holds w q l (is_open (place_at w q)) refl in
+        let x = place_at w q in
+        let y : Participant = time.rotated w.time.count (time.nested x) in
+        let another = differs x.found w.time.count c.another in
+        let there : place_at end q ≡ time.settled (all_awaiting o.slots y) = o.own ∙ opens-changed w.time.count o.slots x c.closed_before another in
+        ap (λ (z : Participant). is_open z) there ∙ ap (λ (n : ℕ). nat_lt 0 n) (all_awaiting-guards o.slots y) ∙ nested-open x
+
+    opens-young : (c : IsChange holds w q) → seen < 2 → Opens
+    opens-young c young =
+        let o = own.opens holds w q l (is_open (place_at w q)) refl in
+        let found : (place_at end q).found ≡ w.time.count = o.found (λ b. let never : false ≡ true = sym c.closed_before ∙ b in absurd (cc)) in
+        let waits = change-waits holds w q k seen l c young h in
+        let low = waits-low end q k (seen + 1) (Whole-opened holds w q l i) waits in
+        let after = left-open end.time.count (seen + 1) (place_at end q) (found ∙ sym o.count) (changes-open c) in
+        inr (seen + 1, waits, omega (arith, low, after, young, left-another w.time.count seen (place_at w q) c.another))
+
+    opens-ripe : (c : IsChange holds w q) → seen ≡ 2 → Opens
+    opens-ripe c ripe =
+        let ws = (place_at w q).bags.waiting in
+        let due = entry-due k ws (subst (λ (n : ℕ). Contains ws (having_seen n (Item k))) ripe h) in
+        let some : 1 ≤ times_among k (reclaims w q) = subst (λ xs. 1 ≤ times_among k xs) (sym c.due) due in
+        let v = waits-value w q k seen i h in
+        let gone = opened-goes holds w q l k (standing_at w k) v.0 (waits-standing w q k seen i h) some (record { standing = refl; value = v.1 }) in
+        inl (omega (arith, ripe, left-another w.time.count seen (place_at w q) c.another), gone.standing)
+
+    opens-change : (c : IsChange holds w q) → (seen < 2) ⊎ (2 ≤ seen) → Opens
+    opens-change c (inl young) = opens-young c young
+    opens-change c (inr old) = opens-ripe c (omega (arith, old, waits-young w q k seen i h))
+
+    opens-nests-why : (n : Nests holds w q) → is_open (place_at w q) ≡ false →
+        (is_open (place_at w q) ≡ true) ⊎ ((is_open (place_at w q) ≡ false) × ((place_at w q).found ≡ w.time.count)) → Opens
+    opens-nests-why n shut (inl o) = absurd (cc)
+    opens-nests-why n shut (inr why) = opens-nests n shut why.1
+
+    opens-if : is_open (place_at w q) ≡ false → Nests holds w q ⊎ IsChange holds w q → Opens
+    opens-if shut (inl n) = opens-nests-why n shut n.why
+    opens-if shut (inr c) = opens-change c (below-or-past seen 2)
+
+    opens-lower : is_open (place_at w q) ≡ false → Opens
+    opens-lower shut = opens-if shut (how holds w q l)
+
+  module _ (holds : T → List Holding) where
+    not-open : (b : Bool) → ¬ (IsTrue b) → b ≡ false
+    not-open true h = absurd (h refl)
+    not-open false h = refl
+
+    pub openings-lower : (w : World T) → IsWhole w → OpeningsLower holds w
+    openings-lower w i = λ q k seen h shut. opens-lower holds w q k seen (waits-place w q k seen h) i h (not-open (is_open (place_at w q)) shut)
+
+    -- what a call makes of an item that waits
+    abbrev Outcome : (w new : World T) (q k seen : ℕ) → Type 0
+    Outcome w new q k seen =
+        (standing_at new k ≡ None)
+        ⊎ ((later : ℕ) × Waits new q k later × ((left new.time q later ≤ left w.time q seen) ⊎ ((new ≡ closed w q) × IsHeldUp w q)))
+
+    goes-on : (w new : World T) (q k seen : ℕ) → Waits w q k seen → Lowers w.time.count new.time.count (place_at w q) (place_at new q) → Outcome w new q k seen
+    goes-on w new q k seen h on = inr (seen, on.waits (having_seen seen (Item k)) h, inl (on.lower seen))
+
+    goes-on-place : (w : World T) (r q k seen : ℕ) (y : Participant) → r < length w.time.places → Waits w q k seen →
+        Lowers w.time.count w.time.count (place_at w r) y →
+        Outcome w (record w { time = with_place w.time r y }) q k seen
+    goes-on-place w r q k seen y l h on = goes-on w (record w { time = with_place w.time r y }) q k seen h (lowers-place w.time r q y l on)
+
+    opening-outermost : (w : World T) (q k seen : ℕ) (l : q < length w.time.places) (i : IsWhole w) (h : Waits w q k seen) → Opens holds w q k seen l i h →
+        Outcome w (opened holds w q) q k seen
+    opening-outermost w q k seen l i h (inl gone) = inl gone.1
+    opening-outermost w q k seen l i h (inr on) = inr (on.0, on.1, inl (omega (arith, on.2)))
+
+    opening-nested : (w : World T) (q k seen : ℕ) → q < length w.time.places → is_open (place_at w q) ≡ true → Waits w q k seen →
+        Nests holds w q ⊎ IsChange holds w q → Outcome w (opened holds w q) q k seen
+    opening-nested w q k seen l o h (inr c) = let never : false ≡ true = sym c.closed_before ∙ o in absurd (cc)
+    opening-nested w q k seen l o h (inl n) =
+        let x = place_at w q in
+        let lower = slower w.time.count seen x (time.nested x) refl (still-open x.guards o) (omega arith) in
+        let after : left (opened holds w q).time q seen ≡ left_of w.time.count (time.nested x) seen =
+        ap (λ (u : World T). left u.time q seen) n.nests ∙ put-left w.time q seen (time.nested x) l in
+        inr (seen, nests-waits holds w q k seen l n h, inl (omega (arith, after, lower)))
+
+    opening-own : (w : World T) (q k seen : ℕ) → q < length w.time.places → IsWhole w → Waits w q k seen → (b : Bool) → is_open (place_at w q) ≡ b →
+        Outcome w (opened holds w q) q k seen
+    opening-own w q k seen l i h true o = opening-nested w q k seen l o h (how holds w q l)
+    opening-own w q k seen l i h false o = opening-outermost w q k seen l i h (opens-lower holds w q k seen l i h o)
+
+    opening : (w : World T) (r q k seen : ℕ) → r < length w.time.places → IsWhole w → Waits w q k seen → (r ≡ q) ⊎ (r ≢ q) →
+        Outcome w (opened holds w r) q k seen
+    opening w r q k seen l i h (inl e) =
+        subst (λ (n : ℕ). Outcome w (opened holds w n) q k seen) (sym e)
+        (opening-own w q k seen (waits-place w q k seen h) i h (is_open (place_at w q)) refl)
+    opening w r q k seen l i h (inr apart) =
+        let count = (own.opens holds w r l (is_open (place_at w r)) refl).count in
+        goes-on w (opened holds w r) q k seen h
+        (Lowers-later w.time.count (opened holds w r).time.count (place_at w q) (place_at (opened holds w r) q) (i.abreast q).found (inl count)
+        (opened-other holds w r l q (λ same. apart (sym same))))
+
+    closing-own : (w : World T) (q k seen : ℕ) → Waits (closed w q) q k seen → (left (closed w q).time q seen ≤ left w.time q seen) ⊎ IsHeldUp w q →
+        Outcome w (closed w q) q k seen
+    closing-own w q k seen h (inl lower) = inr (seen, h, inl lower)
+    closing-own w q k seen h (inr held) = inr (seen, h, inr (refl, held))
+
+    closing : (w : World T) (r q k seen : ℕ) → r < length w.time.places → IsWhole w → Waits w q k seen → (r ≡ q) ⊎ (r ≢ q) → Outcome w (closed w r) q k seen
+    closing w r q k seen l i h (inl e) =
+        let here = waits-place w q k seen h in
+        let waits = (persists-closed w.time q q here).waits (having_seen seen (Item k)) h in
+        subst (λ (n : ℕ). Outcome w (closed w n) q k seen) (sym e)
+        (closing-own w q k seen waits (closes-own w q seen here (waits-low w q k seen i h)))
+    closing w r q k seen l i h (inr apart) =
+        goes-on w (closed w r) q k seen h
+        (Lowers-later w.time.count (closed w r).time.count (place_at w q) (place_at (closed w r) q) (i.abreast q).found (closed-count w.time r)
+        (closed-other w.time r q (λ same. apart (sym same))))
+
+    each-call : (q k seen : ℕ) {w new : World T} → Calls holds w new → IsWhole w → Waits w q k seen → Outcome w new q k seen
+    each-call q k seen (registers w) i h =
+        goes-on w (registered w) q k seen h
+        (Lowers-same w.time.count (place_at w q) (place_at (registered w) q)
+        (get_or-append w.time.places (newcomer w.time.room ∷ []) nobody q (waits-place w q k seen h)))
+    each-call q k seen (opens w r l) i h = opening w r q k seen l i h (same-or-not r q)
+    each-call q k seen (closes w r l) i h = closing w r q k seen l i h (same-or-not r q)
+    each-call q k seen (stirs w r l) i h =
+        let x = place_at w r in
+        goes-on-place w r q k seen (time.with_garbage x) l h
+        (Lowers-slower w.time.count x (time.with_garbage x) (λ y g. g) refl refl (stirred-lower x.countdown))
+    each-call q k seen (accelerates w r l) i h =
+        let x = place_at w r in
+        goes-on-place w r q k seen (time.accelerated x) l h (Lowers-slower w.time.count x (time.accelerated x) (λ y g. g) refl refl (omega arith))
+    each-call q k seen (makes w j value empty) i h = goes-on w (made w j value) q k seen h (Lowers-same w.time.count (place_at w q) (place_at w q) refl)
+    each-call q k seen (retires w r j l there) i h =
+        goes-on w (retired w r j) q k seen h
+        (lowers-place w.time r q (time.awaiting (Item j) (place_at w r)) l (Lowers-given w.time.count (j ∷ []) (place_at w r)))
+    each-call q k seen (nulls w c empty) i h = goes-on w (nulled w c) q k seen h (Lowers-same w.time.count (place_at w q) (place_at w q) refl)
+    each-call q k seen (closes_cell w r c l) i h =
+        let g = Gives-cell_closed w r c l in
+        let on = lowers-place w.time r q (all_awaiting g.slots (place_at w r)) l (Lowers-given w.time.count g.slots (place_at w r)) in
+        goes-on w (cell_closed w r c) q k seen h
+        (subst (λ (t : Time). Lowers w.time.count t.count (place_at w q) (time.place_at t q)) (sym g.time) on)
+
+    pub no-call-raises : (w : World T) → IsWhole w → NoCallRaises holds w
+    no-call-raises w i = λ new call q k seen h. each-call q k seen call i h
+
+    pub left-bounded : (w : World T) (q k seen : ℕ) → IsWhole w → Waits w q k seen → left w.time q seen ≤ 385
+    left-bounded w q k seen i h = omega (arith, waits-low w q k seen i h, (left-bounds w.time.count seen (place_at w q)).1)
+
+    pub goes-at-latest : (w : World T) → IsWhole w → GoesAtLatest holds w
+    goes-at-latest w i =
+        record { bounded = λ q k seen h. left-bounded w q k seen i h; lowered = openings-lower w i; never_raised = no-call-raises w i }
+
+    Whole-called : {w new : World T} → Calls holds w new → IsWhole w → IsWhole new
+    Whole-called (registers w) i = Whole-registered w i
+    Whole-called (opens w r l) i = Whole-opened holds w r l i
+    Whole-called (closes w r l) i = Whole-closed w r l i
+    Whole-called (stirs w r l) i = Whole-stirred w r l i
+    Whole-called (accelerates w r l) i = Whole-accelerated w r l i
+    Whole-called (makes w j value empty) i = Whole-made w j value empty.0 empty.1 i
+    Whole-called (retires w r j l there) i = Whole-retires w r j l there i
+    Whole-called (nulls w c empty) i = Whole-nulled w c i
+    Whole-called (closes_cell w r c l) i = Whole-cell_closed w r c l i
+
+    -- the item still waits, and each outermost opening has lowered what is left
+    record Waning (w new : World T) (q k seen openings : ℕ) : Type 0 where
+      whole : IsWhole new
+      later : ℕ
+      waits : Waits new q k later
+      lower : left new.time q later + openings ≤ left w.time q seen
+
+    wanes-opening : (w v : World T) (q k seen n : ℕ) (o : Waning w v q k seen n) (l : q < length v.time.places) → Opens holds v q k o.later l o.whole o.waits →
+        standing_at (opened holds v q) k ≢ None → Waning w (opened holds v q) q k seen (n + 1)
+    wanes-opening w v q k seen n o l (inl gone) there = absurd (there gone.1)
+    wanes-opening w v q k seen n o l (inr on) there =
+        record { whole = Whole-opened holds v q l o.whole; later = on.0; waits = on.1; lower = omega (arith, o.lower, on.2) }
+
+    wanes-call : (w v new : World T) (q k seen n : ℕ) (o : Waning w v q k seen n) → IsWhole new → Outcome v new q k o.later →
+        ¬ ((new ≡ closed v q) × IsHeldUp v q) → standing_at new k ≢ None → Waning w new q k seen n
+    wanes-call w v new q k seen n o i (inl gone) free there = absurd (there gone)
+    wanes-call w v new q k seen n o i (inr (later, waits, inl lower)) free there =
+        record { whole = i; later = later; waits = waits; lower = omega (arith, o.lower, lower) }
+    wanes-call w v new q k seen n o i (inr (later, waits, inr held)) free there = absurd (free held)
+
+    wanes : (q k seen : ℕ) {n : ℕ} {w new : World T} → Stays holds q k n w new → IsWhole w → Waits w q k seen → Waning w new q k seen n
+    wanes q k seen (starts w) i h = record { whole = i; later = seen; waits = h; lower = omega arith }
+    wanes q k seen (one_opening n w v path shut there) i h =
+        let o = wanes q k seen path i h in
+        let l = waits-place v q k o.later o.waits in
+        wanes-opening w v q k seen n o l (opens-lower holds v q k o.later l o.whole o.waits (not-open (is_open (place_at v q)) shut)) there
+    wanes q k seen (one_call n w v new path call free there) i h =
+        let o = wanes q k seen path i h in
+        wanes-call w v new q k seen n o (Whole-called call o.whole) (each-call q k o.later call o.whole o.waits) free there
+
+    pub goes-in-time : (w : World T) → IsWhole w → GoesInTime holds w
+    goes-in-time w i = λ q k seen h n new path.
+        let o = wanes q k seen path i h in
+        omega (arith, o.lower, (left-bounds new.time.count o.later (place_at new q)).0)
