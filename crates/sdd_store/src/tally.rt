@@ -26,16 +26,12 @@ impl Tally {
     pub fn count_made(&mut self)
         ensures { self.new ≡ one_made self.old }
     {
-        if let Some(made) = self.made.checked_add(1) {
-            self.made = made;
-        }
+        self.made = self.made.saturating_add(1);
     }
 
     pub fn count_reclaimed(&mut self)
         ensures { self.new ≡ one_reclaimed self.old }
     {
-        if let Some(reclaimed) = self.reclaimed.checked_add(1) {
-            self.reclaimed = reclaimed;
-        }
+        self.reclaimed = self.reclaimed.saturating_add(1);
     }
 }

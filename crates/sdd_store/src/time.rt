@@ -96,16 +96,13 @@ impl Participant {
     pub fn leave(&mut self, marked: bool)
         ensures { self.new ≡ record self.old { guards = 0; countdown = counted_down marked self.old.countdown } }
     {
-        match self.countdown {
-            0 => self.countdown = 127,
-            128 => {
-                if marked {
-                    self.countdown = 127;
-                }
-            }
-            countdown => self.countdown = countdown - 1,
-        }
         self.guards = 0;
+        self.countdown = match self.countdown {
+            0 => 127,
+            128 if marked => 127,
+            128 => 128,
+            countdown => countdown - 1,
+        };
     }
 }
 
@@ -334,10 +331,10 @@ impl Time {
         ensures { self.new ≡ closed self.old place }
     {
         let participant = &mut self.places[place];
-        match participant.guards {
-            0 => {}
-            1 => self.leave(place),
-            _ => participant.guards -= 1,
+        if participant.guards > 1 {
+            participant.guards -= 1;
+        } else if participant.guards == 1 {
+            self.leave(place);
         }
     }
 
@@ -348,11 +345,13 @@ impl Time {
     {
         let marked = self.marked;
         let participant = &mut self.places[place];
-        if participant.countdown > 0 {
-            participant.leave(marked);
+        if participant.countdown == 128 && !marked {
+            participant.guards = 0;
             return;
         }
-        self.scan(place);
+        if participant.countdown == 0 {
+            self.scan(place);
+        }
         self.places[place].leave(marked);
     }
 }

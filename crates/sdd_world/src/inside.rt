@@ -10,7 +10,7 @@ ghost use Rattle.sdd_base.specs.Seat.{seat_on, IsSeated, IsExact};
 ghost use Rattle.sdd_base.specs.Own.{GrowsOn};
 ghost use Rattle.sdd_base.specs.Owned.{slots_home, cells_home, holding_of, cell_holding};
 ghost use Rattle.sdd_base.specs.World.{World, IsBlank, weight, KeepsSizes, place_at, standing_at, value_at, IsPlaceOf};
-ghost use Rattle.sdd_base.specs.Steps.{made, retired, nulled, cell_closed, given, given_all, slot_reclaimed, all_reclaimed, rotated, settled, nested, closed, stirred, accelerated, registered};
+ghost use Rattle.sdd_base.specs.Steps.{made, retired, nulled, cell_closed, given, given_all, slot_reclaimed, all_reclaimed, rotated, settled, changed, nested, closed, stirred, accelerated, registered};
 ghost use Rattle.sdd_world.specs.Core.{IsWhole};
 ghost use Rattle.sdd_world.specs.Closing.{paced, NothingIsOut};
 
@@ -184,6 +184,21 @@ impl<T: Item<T>> Core<T> {
         ensures sizes { KeepsSizes self.old self.new }
     {
         self.time.open(place)
+    }
+
+    /// A change of a place with which nothing waits.
+    pub fn catch_up(&mut self, place: usize)
+        requires place { IsPlaceOf self.old place }
+        requires clear { (place_at self.old place).bags.waiting ≡ [] }
+        ensures changed { self.new ≡ changed T.holds self.old place }
+        ensures sizes { KeepsSizes self.old self.new }
+    {
+        let found = self.time.count();
+        let pace = Pace {
+            found,
+            countdown: 128,
+        };
+        self.time.set_pace(place, pace);
     }
 
     /// What has seen three changes comes out, into the empty bag that is handed in.

@@ -147,6 +147,18 @@ impl<T: Item<T>> World<T> {
         ensures changed { self.new ≡ changed T.holds self.old place }
         ensures sizes { KeepsSizes self.old self.new }
     {
+        if self.core.time().is_clear(place) {
+            self.core.catch_up(place);
+        } else {
+            self.reclaim_due(place);
+        }
+    }
+
+    fn reclaim_due(&mut self, place: usize)
+        requires place { IsPlaceOf self.old place }
+        ensures changed { self.new ≡ changed T.holds self.old place }
+        ensures sizes { KeepsSizes self.old self.new }
+    {
         self.core.rotate(place, &mut self.spare);
         self.core.reclaim_all(place, self.spare.as_slice());
         self.core.settle(place);

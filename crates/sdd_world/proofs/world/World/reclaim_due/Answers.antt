@@ -1,6 +1,6 @@
 use Rattle.std.proofs.Common.{arith}
 use Rattle.sdd_world.proofs.Whole.{Whole-changed}
-use Rattle.sdd_world.proofs.world.World.change.Goals as goal
+use Rattle.sdd_world.proofs.world.World.reclaim_due.Goals as goal
 
 pub invariant_of-self : goal.invariant_of-self
 invariant_of-self g c =
