@@ -11,13 +11,13 @@ use Rattle.sdd_store.specs.Time as time
 use Rattle.sdd_store.specs.declared.time.Participant.{Participant}
 use Rattle.sdd_store.specs.declared.standing.Standing.{Standing}
 use Rattle.sdd_slots.specs.Slots.{is_waiting}
-use Rattle.sdd_base.specs.World.{World, standing_at, value_at, place_at, IsPlaceOf}
+use Rattle.sdd_base.specs.World.{IsGuarded, World, standing_at, value_at, place_at, IsPlaceOf}
 use Rattle.sdd_base.specs.Steps.{opened, closed, accelerated, reclaims}
 use Rattle.sdd_base.specs.Steps as steps
 use Rattle.sdd_base.specs.Holding.{Holding}
 use Rattle.sdd_base.specs.Own.{all_awaiting, opened_at}
 use Rattle.sdd_base.specs.Whole.{times_waiting, IsWhole}
-use Rattle.sdd_base.specs.Left.{Waits, IsGuarded, accelerated_guard, four_guards, FourGuardsReclaim}
+use Rattle.sdd_base.specs.Left.{Waits, accelerated_guard, four_guards, FourGuardsReclaim}
 use Rattle.sdd_base.proofs.Own.{opens}
 use Rattle.sdd_base.proofs.Own as own
 use Rattle.sdd_base.proofs.Whole.{same-or-not, below-or-past, filled-there, some-waits, scans-places, all_awaiting-guards, times_among, times-aged, Whole-opened, Whole-closed, Whole-accelerated}

@@ -1,12 +1,12 @@
 -- When an item goes at latest
-use Rattle.std.specs.Prelude.{ℕ, ◌+◌, ◌-◌, ◌*◌, ◌^◌, ◌<◌, ◌≤◌, ◌≡◌, ◌≢◌, ◌⊎◌, Any, Contains, IsTrue, List, None, if◌then◌else◌}
+use Rattle.std.specs.Prelude.{ℕ, ◌+◌, ◌-◌, ◌*◌, ◌^◌, ◌<◌, ◌≤◌, ◌≡◌, ◌≢◌, ◌⊎◌, Contains, IsTrue, List, None, if◌then◌else◌}
 use Rattle.sdd_store.specs.Waiting.{having_seen}
 use Rattle.sdd_store.specs.Waiting.What.{Item}
 use Rattle.sdd_store.specs.Time.{Time, finds_another, is_open, last_count}
 use Rattle.sdd_store.specs.Time as time
 use Rattle.sdd_store.specs.declared.time.Participant.{Participant}
 use Rattle.sdd_base.specs.Holding.{Holding}
-use Rattle.sdd_base.specs.World.{World, IsPlaceOf, place_at, standing_at, value_at}
+use Rattle.sdd_base.specs.World.{World, IsGuarded, IsPlaceOf, place_at, standing_at, value_at}
 use Rattle.sdd_base.specs.Steps.{opened, accelerated, closed}
 use Rattle.sdd_base.specs.Calls.{Calls}
 
@@ -20,10 +20,6 @@ abbrev pub left : Time → (holder seen : ℕ) → ℕ
 left t q seen =
     if finds_another t q then 1 + 128 * (2 - seen)
     else (time.place_at t q).countdown + (if is_open (time.place_at t q) then 1 else 2) + 128 * (2 - seen)
-
--- some guard is open
-abbrev pub IsGuarded : {T : Type 0} → World T → Type 0
-IsGuarded w = Any (λ p. IsTrue (is_open p)) w.time.places
 
 -- a scan of q can't raise the count: it is the last one, or another participant has a guard open
 abbrev pub IsHeldUp : {T : Type 0} → World T → ℕ → Type 0

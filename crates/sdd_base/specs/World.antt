@@ -1,5 +1,5 @@
 -- A world as clauses see it
-use Rattle.std.specs.Prelude.{ℕ, ◌+◌, ◌≤◌, ◌<◌, ◌≡◌, Bool, true, false, List, [], length, Option, None, sum_by, count_by, slice_index_or, replicate}
+use Rattle.std.specs.Prelude.{ℕ, Any, IsTrue, ◌+◌, ◌≤◌, ◌<◌, ◌≡◌, Bool, true, false, List, [], length, Option, None, sum_by, count_by, slice_index_or, replicate}
 use Rattle.sdd_store.specs.Time.{Time}
 use Rattle.sdd_store.specs.Time as time
 use Rattle.sdd_store.specs.Table.{Entries, entry_at}
@@ -45,6 +45,10 @@ module _ {T : Type 0} where
   -- the place is one of the world's
   abbrev pub IsPlaceOf : World T → ℕ → Type 0
   IsPlaceOf w p = p < length w.time.places
+
+  -- some guard is open
+  abbrev pub IsGuarded : World T → Type 0
+  IsGuarded w = Any (λ p. IsTrue (time.is_open p)) w.time.places
 
 -- a slot that no participant's bags have
 abbrev pub is_loose : Option Standing → Bool

@@ -1,4 +1,3 @@
 pub mod Shown
-pub mod Whole
 pub mod Closing
 pub mod Sweeping

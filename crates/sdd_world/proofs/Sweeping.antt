@@ -1,8 +1,8 @@
 -- The closing of a world sweeps away exactly what goes
-use Rattle.std.proofs.Common.{◌≡◌, ◌≢◌, ◌⊎◌, inl, inr, ℕ, ◌+◌, ◌<◌, List, [], ◌∷◌, length, cond, count_by, refl, sym, ap, ◌∙◌, arith, Some, None, Option, zero, suc, slice_index_or, slice_set}
+use Rattle.std.proofs.Common.{◌≡◌, ◌≢◌, ◌⊎◌, inl, inr, ℕ, ◌+◌, ◌<◌, List, [], ◌∷◌, length, cond, count_by, sum_by, refl, sym, ap, ◌∙◌, arith, Some, None, Option, zero, suc, slice_index_or, slice_set}
 use Rattle.std.specs.Prelude.{is_some, IsSome, IsNone, All, Contains, map}
 use Rattle.std.proofs.lemmas.List.{length-set, get_or-set_same, get_or-set_other}
-use Rattle.std.proofs.lemmas.List.Sums.{sum_by-set}
+use Rattle.std.proofs.lemmas.List.Sums.{sum_by-set, sum_by-cons}
 use Rattle.sdd_store.specs.Waiting.{What}
 use Rattle.sdd_store.specs.Waiting.What.{Item, Private, Job}
 use Rattle.sdd_store.specs.Time.{Time, due_next, nobody, pace_of}
@@ -19,11 +19,14 @@ use Rattle.sdd_base.specs.World.{World, standing_at, value_at, place_at}
 use Rattle.sdd_base.specs.Steps.{retired, spilled, cell_closed, held_in, owner_given, given, given_all, freed, taken_out, waiting_value, slot_reclaimed, reclaimed, all_reclaimed, changed}
 use Rattle.sdd_base.specs.Steps as steps
 use Rattle.sdd_base.specs.Holding.{Holding, owned, atomic_owned}
-use Rattle.sdd_world.specs.Core.{IsAmong, waits_with, IsWhole}
-use Rattle.sdd_world.specs.Closing.{without_waiting, NothingIsOut, aged_out, all_aged_out, Closes, Names, Goes, GoesCell, AllGo, taken, with_reclaimed, Sweeps}
+use Rattle.sdd_base.specs.Whole.{times_with, taken, IsWhole}
+use Rattle.sdd_world.specs.Closing.{without_waiting, NothingIsOut, aged_out, all_aged_out, Closes, Names, Goes, GoesCell, AllGo, with_reclaimed, Sweeps, Accounts}
 use Rattle.sdd_world.specs.Closing.Goes.{waits, given as by_giving}
-use Rattle.sdd_world.proofs.Weights.{in_range}
-use Rattle.sdd_world.proofs.Whole.{same-or-not}
+use Rattle.sdd_base.proofs.Weights.{in_range}
+use Rattle.sdd_base.specs.Out.{is_out, out, HoldsNothing}
+use Rattle.sdd_base.specs.Whole.{IsCounted}
+use Rattle.sdd_store.specs.declared.tally.Tally.{Tally}
+use Rattle.sdd_base.proofs.Whole.{same-or-not, one_where}
 
 -- one of them
 abbrev Among : Holding → List Holding → Type 0
@@ -480,16 +483,15 @@ module _ {T : Type 0} (holds : T → List Holding) (old : World T) where
       let d = was-done new (atomic_owned c g.home) (e.swept.done g.slot g.value g.there (goes-some g.slot g.goes) before.0 (atomic_owned c g.home) (among-at (holds g.value) (atomic_owned c g.home) g.held.0 g.held.1 g.held.2)) in
       d.0
 
-  nobody-waits : (places : List Participant) (p k : ℕ) → IsAmong k (waits_with (slice_index_or (map without_waiting places) p nobody)) → ⊥
-  nobody-waits [] p k h = h
-  nobody-waits (x ∷ xs) zero k h = h
-  nobody-waits (x ∷ xs) (suc p) k h = nobody-waits xs p k h
+  nobody-waits : (k : ℕ) (places : List Participant) → sum_by (times_with k) (map without_waiting places) ≡ 0
+  nobody-waits k [] = refl
+  nobody-waits k (x ∷ xs) = sum_by-cons (times_with k) (without_waiting x) (map without_waiting xs) ∙ nobody-waits k xs
 
   ended : (new : World T) → Closes holds old new → IsWhole new → Ended new
   ended new c i =
       record {
         swept = rw c.changes.1 (Swept-all_aged_out old c.changes.0 Swept-start);
-        idle = λ k h. let at = i.held k h in nobody-waits old.time.places at.0 k (rw c.time at at.1);
+        idle = λ k h. let none = ap (λ (t : Time). sum_by (times_with k) t.places) c.time ∙ nobody-waits k old.time.places in absurd (omega (arith, none, rw h at (i.once k)));
       }
 
   -- the closing sweeps away exactly what goes
@@ -556,19 +558,85 @@ module _ {T : Type 0} (holds : T → List Holding) (old : World T) where
       let same : n ≡ taken old = omega (arith, e.count.1, none-taken new.standings out.0) in
       e.count.2 ∙ ap (λ (m : ℕ). with_reclaimed m old.tally) same
 
--- the value in a slot holds the cell
-pub record HeldByValue {T : Type 0} (holds : T → List Holding) (w : World T) (c : ℕ) : Type 0 where
-  pub slot : ℕ
-  pub taken : IsSome (standing_at w slot)
-  pub value : T
-  pub there : value_at w slot ≡ Some value
-  pub home : token.Home
-  pub held : Contains (holds value) (atomic_owned c home)
+-- what is out, and whether all that is out goes
+one-test : {E : Type 0} (p : Option E → Bool) (x : Option E) → p x ≡ true → one_where (p x) ≡ 1
+one-test p x h = rw h refl
 
--- where each slot that is taken waits, and each cell that is taken is held by a value in a slot, all that is out goes
-pub all-wait : {T : Type 0} (holds : T → List Holding) (w : World T) → ((k : ℕ) → IsSome (standing_at w k) → IsWaiting (standing_at w k)) → ((c : ℕ) → IsSome (entry_at w.cells c) → HeldByValue holds w c) → AllGo holds w
-all-wait holds w slots cells =
+first-none : {E : Type 0} (p : Option E → Bool) (x : Option E) (xs : List (Option E)) → count_by p (x ∷ xs) ≡ 0 → (b : Bool) → p x ≡ b → b ≡ false
+first-none p x xs e true h = absurd (omega (arith, e, sum_by-cons (λ y. cond (p y) 1 0) x xs, one-test p x h))
+first-none p x xs e false h = refl
+
+none-counted : {E : Type 0} (p : Option E → Bool) → p None ≡ false → (xs : List (Option E)) → count_by p xs ≡ 0 → (k : ℕ) → p (slice_index_or xs k None) ≡ false
+none-counted p none [] e k = none
+none-counted p none (x ∷ xs) e zero = first-none p x xs e (p x) refl
+none-counted p none (x ∷ xs) e (suc k) = none-counted p none xs (omega (arith, e, sum_by-cons (λ y. cond (p y) 1 0) x xs)) k
+
+all-uncounted : {E : Type 0} (p : Option E → Bool) (xs : List (Option E)) → ((k : ℕ) → p (slice_index_or xs k None) ≡ false) → count_by p xs ≡ 0
+all-uncounted p [] h = refl
+all-uncounted p (x ∷ xs) h = sum_by-cons (λ y. cond (p y) 1 0) x xs ∙ rw (h zero) (all-uncounted p xs (λ k. h (suc k)))
+
+standing-waits : (s : Option Standing) → is_out s ≡ false → IsSome s → IsWaiting s
+standing-waits None o some = absurd (cc)
+standing-waits (Some Owned) o some = absurd (cc)
+standing-waits (Some Raw) o some = absurd (cc)
+standing-waits (Some (Shared n)) o some = absurd (cc)
+standing-waits (Some Retired) o some = refl
+standing-waits (Some (privately c)) o some = refl
+
+waits-inside-out : (s : Option Standing) → IsWaiting s → is_out s ≡ false
+waits-inside-out None h = absurd (cc)
+waits-inside-out (Some Owned) h = absurd (cc)
+waits-inside-out (Some Raw) h = absurd (cc)
+waits-inside-out (Some (Shared n)) h = absurd (cc)
+waits-inside-out (Some Retired) h = refl
+waits-inside-out (Some (privately c)) h = refl
+
+module _ {T : Type 0} (holds : T → List Holding) (w : World T) where
+  -- where nothing is out, all goes
+  pub none-out-goes : out w ≡ 0 → AllGo holds w
+  none-out-goes e =
+      record {
+        slots = λ k some. waits k (standing-waits (standing_at w k) (none-counted is_out refl w.standings (omega (arith, e)) k) some);
+        cells = λ c some. let none = none-counted is_some refl w.cells (omega (arith, e)) c in absurd (cc);
+      }
+
+  plain-waits : HoldsNothing holds → (k : ℕ) → Goes holds w k → IsWaiting (standing_at w k)
+  plain-waits plain k (waits _ h) = h
+  plain-waits plain k (by_giving _ j v h g there held names is_owned) = absurd (omega (arith, held.1, ap (λ (hs : List Holding). length hs) (plain v)))
+
+  plain-slot : HoldsNothing holds → AllGo holds w → (k : ℕ) → (s : Option Standing) → standing_at w k ≡ s → is_out s ≡ false
+  plain-slot plain all k None e = refl
+  plain-slot plain all k (Some s) e = rw (← e) (waits-inside-out (standing_at w k) (plain-waits plain k (all.slots k (ap is_some e))))
+
+  plain-cell : HoldsNothing holds → AllGo holds w → (c : ℕ) → (x : Option Cell) → entry_at w.cells c ≡ x → is_some x ≡ false
+  plain-cell plain all c None e = refl
+  plain-cell plain all c (Some x) e =
+      let g = all.cells c (ap is_some e) in
+      absurd (omega (arith, g.held.1, ap (λ (hs : List Holding). length hs) (plain g.value)))
+
+  -- where values hold nothing, all goes exactly if nothing is out
+  pub plain-goes : HoldsNothing holds → AllGo holds w → out w ≡ 0
+  plain-goes plain all =
+      omega (arith,
+      all-uncounted is_out w.standings (λ k. plain-slot plain all k (standing_at w k) refl),
+      all-uncounted is_some w.cells (λ c. plain-cell plain all c (entry_at w.cells c) refl))
+
+-- a tally goes on counting all that was made
+reclaimed-made : (n : ℕ) (t : Tally) → (with_reclaimed n t).made ≡ t.made
+reclaimed-made zero t = refl
+reclaimed-made (suc n) t = reclaimed-made n t
+
+reclaimed-in_place : (n : ℕ) (t : Tally) → (with_reclaimed n t).in_place ≡ t.in_place
+reclaimed-in_place zero t = refl
+reclaimed-in_place (suc n) t = reclaimed-in_place n t
+
+pub tally-accounts : (n : ℕ) (t end : Tally) → end ≡ with_reclaimed n t → IsCounted end 0 → Accounts t end
+tally-accounts n t end e c =
     record {
-      slots = λ k some. waits k (slots k some);
-      cells = λ c some. let at = cells c some in record { slot = at.slot; value = at.value; there = at.there; home = at.home; held = at.held; goes = waits at.slot (slots at.slot at.taken) };
+      made = ap (λ (x : Tally). x.made) e ∙ reclaimed-made n t;
+      in_place = ap (λ (x : Tally). x.in_place) e ∙ reclaimed-in_place n t;
+      reclaimed = c;
     }
+
+pub none-taken-at-end : {T : Type 0} (end : World T) → NothingIsOut end → IsWhole end → IsCounted end.tally 0
+none-taken-at-end end none i = rw (none-taken end.standings none.0) at i.counted

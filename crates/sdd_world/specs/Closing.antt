@@ -12,6 +12,7 @@ use Rattle.sdd_slots.specs.Slots.{IsWaiting}
 use Rattle.sdd_base.specs.Holding.{Holding, owned, atomic_owned}
 use Rattle.sdd_base.specs.World.{World, place_at, standing_at, value_at}
 use Rattle.sdd_base.specs.Steps.{changed, held_in}
+use Rattle.sdd_base.specs.Whole.{taken, IsCounted}
 
 -- nothing waits with the participant
 abbrev pub without_waiting : Participant → Participant
@@ -22,10 +23,6 @@ abbrev pub emptied : Time → Time
 emptied t = record t { places = map without_waiting t.places }
 
 module _ {T : Type 0} where
-  -- some guard is open
-  abbrev pub IsGuarded : World T → Type 0
-  IsGuarded w = Any (λ p. IsTrue (is_open p)) w.time.places
-
   -- every slot and every cell is free
   abbrev pub NothingIsOut : World T → Type 0
   NothingIsOut w = All (λ slot. IsNone slot) w.standings × All (λ cell. IsNone cell) w.cells
@@ -74,10 +71,6 @@ pub record AllGo {T : Type 0} (holds : T → List Holding) (w : World T) : Type 
   pub slots : (k : ℕ) → IsSome (standing_at w k) → Goes holds w k
   pub cells : (c : ℕ) → IsSome (entry_at w.cells c) → GoesCell holds w c
 
--- how many slots are not free
-abbrev pub taken : {T : Type 0} → World T → ℕ
-taken w = count_by is_some w.standings
-
 -- so many items more were reclaimed
 abbrev pub with_reclaimed : ℕ → Tally → Tally
 with_reclaimed zero t = t
@@ -94,3 +87,9 @@ pub record Sweeps {T : Type 0} (holds : T → List Holding) (old new : World T) 
   pub home : new.home ≡ old.home
   pub slots : length new.standings ≡ length old.standings
   pub cells : length new.cells ≡ length old.cells
+
+-- the tally at the end: what was made and dropped in place is as before, and all else that was made was reclaimed, while the numbers have room
+pub record Accounts (old end : Tally) : Type 0 where
+  pub made : end.made ≡ old.made
+  pub in_place : end.in_place ≡ old.in_place
+  pub reclaimed : IsCounted end 0

@@ -1,3 +1,4 @@
 pub mod Core
 pub mod Place
 pub mod Closing
+pub mod Shown

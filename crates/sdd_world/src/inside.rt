@@ -10,8 +10,8 @@ ghost use Rattle.sdd_base.specs.Seat.{seat_on, IsSeated, IsExact};
 ghost use Rattle.sdd_base.specs.Own.{GrowsOn};
 ghost use Rattle.sdd_base.specs.Owned.{slots_home, cells_home, holding_of, cell_holding};
 ghost use Rattle.sdd_base.specs.World.{World, IsBlank, weight, KeepsSizes, place_at, standing_at, value_at, IsPlaceOf};
-ghost use Rattle.sdd_base.specs.Steps.{made, retired, nulled, cell_closed, given, given_all, slot_reclaimed, all_reclaimed, rotated, settled, changed, nested, closed, stirred, accelerated, registered};
-ghost use Rattle.sdd_world.specs.Core.{IsWhole};
+ghost use Rattle.sdd_base.specs.Steps.{made, retired, nulled, cell_closed, given, given_all, slot_reclaimed, all_reclaimed, rotated, settled, opened, changed, nested, closed, stirred, accelerated, registered};
+ghost use Rattle.sdd_base.specs.Whole.{IsWhole};
 ghost use Rattle.sdd_world.specs.Closing.{paced, NothingIsOut};
 
 use sdd_base::{AtomicOwned, Giver, Item, Owned, inner};
@@ -90,6 +90,7 @@ impl<T: Item<T>> Core<T> {
             (IsFull self.old.cells × (self.new ≡ self.old))
             (λ right. (home_of right ≡ self.old.home.cells) × IsEmptyAt self.old.cells (number_of right) × (self.new ≡ nulled self.old (number_of right))) }
         ensures sizes { KeepsSizes self.old self.new }
+        ensures whole { IsWhole self.old → IsWhole self.new }
     {
         self.cells.null()
     }
@@ -164,7 +165,7 @@ impl<T: Item<T>> Core<T> {
         value.give_up(&mut giver);
     }
 
-    pub fn reclaim_all(&mut self, place: usize, due: &[u32])
+    fn reclaim_all(&mut self, place: usize, due: &[u32])
         requires place { IsPlaceOf self.old place }
         requires room { weight self.old + length due.now ≤ length self.old.standings }
         ensures reclaimed { self.new ≡ all_reclaimed T.holds self.old place (map Item due.now) }
@@ -175,19 +176,57 @@ impl<T: Item<T>> Core<T> {
         }
     }
 
-    /// Opens one more guard of a place, and tells whether that is a change.
-    pub fn open(&mut self, place: usize) -> bool
+    /// Opens one more guard of a place. An outermost one that finds another count is a change, for which an empty bag is lent.
+    pub fn open(&mut self, place: usize, spare: &mut Vec<u32>)
         requires place { IsPlaceOf self.old place }
         requires few { time.CanNest self.old.time place }
-        ensures nested { self.new ≡ nested self.old place }
-        ensures change { result ≡ (if time.is_open (place_at self.old place) then false else time.finds_another self.old.time place) }
+        requires empty { spare.old.items ≡ [] }
+        requires reserved { length self.old.standings ≤ vec_capacity spare.old }
+        ensures opened { self.new ≡ opened T.holds self.old place }
         ensures sizes { KeepsSizes self.old self.new }
+        ensures whole { IsWhole self.old → IsWhole self.new }
+        ensures empty { spare.new.items ≡ [] }
+        ensures reserved { length self.new.standings ≤ vec_capacity spare.new }
     {
-        self.time.open(place)
+        if self.time.open(place) {
+            self.change(place, spare);
+        }
+    }
+
+    /// A change of a place: what is due is reclaimed.
+    pub fn change(&mut self, place: usize, spare: &mut Vec<u32>)
+        requires place { IsPlaceOf self.old place }
+        requires empty { spare.old.items ≡ [] }
+        requires reserved { length self.old.standings ≤ vec_capacity spare.old }
+        ensures changed { self.new ≡ changed T.holds self.old place }
+        ensures sizes { KeepsSizes self.old self.new }
+        ensures empty { spare.new.items ≡ [] }
+        ensures reserved { length self.new.standings ≤ vec_capacity spare.new }
+    {
+        if self.time.is_clear(place) {
+            self.catch_up(place);
+        } else {
+            self.reclaim_due(place, spare);
+        }
+    }
+
+    fn reclaim_due(&mut self, place: usize, spare: &mut Vec<u32>)
+        requires place { IsPlaceOf self.old place }
+        requires empty { spare.old.items ≡ [] }
+        requires reserved { length self.old.standings ≤ vec_capacity spare.old }
+        ensures changed { self.new ≡ changed T.holds self.old place }
+        ensures sizes { KeepsSizes self.old self.new }
+        ensures empty { spare.new.items ≡ [] }
+        ensures reserved { length self.new.standings ≤ vec_capacity spare.new }
+    {
+        self.rotate(place, spare);
+        self.reclaim_all(place, spare.as_slice());
+        self.settle(place);
+        spare.clear();
     }
 
     /// A change of a place with which nothing waits.
-    pub fn catch_up(&mut self, place: usize)
+    fn catch_up(&mut self, place: usize)
         requires place { IsPlaceOf self.old place }
         requires clear { (place_at self.old place).bags.waiting ≡ [] }
         ensures changed { self.new ≡ changed T.holds self.old place }
@@ -202,7 +241,7 @@ impl<T: Item<T>> Core<T> {
     }
 
     /// What has seen three changes comes out, into the empty bag that is handed in.
-    pub fn rotate(&mut self, place: usize, bag: &mut Vec<u32>)
+    fn rotate(&mut self, place: usize, bag: &mut Vec<u32>)
         requires place { IsPlaceOf self.old place }
         requires empty { bag.old.items ≡ [] }
         requires reserved { length self.old.standings ≤ vec_capacity bag.old }
@@ -215,7 +254,7 @@ impl<T: Item<T>> Core<T> {
         self.time.rotate(place, bag);
     }
 
-    pub fn settle(&mut self, place: usize)
+    fn settle(&mut self, place: usize)
         requires place { IsPlaceOf self.old place }
         ensures settled { self.new ≡ settled self.old place }
         ensures sizes { KeepsSizes self.old self.new }
@@ -227,6 +266,7 @@ impl<T: Item<T>> Core<T> {
         requires place { IsPlaceOf self.old place }
         ensures stirred { self.new ≡ stirred self.old place }
         ensures sizes { KeepsSizes self.old self.new }
+        ensures whole { IsWhole self.old → IsWhole self.new }
     {
         self.time.stir(place);
     }
@@ -235,6 +275,7 @@ impl<T: Item<T>> Core<T> {
         requires place { IsPlaceOf self.old place }
         ensures accelerated { self.new ≡ accelerated self.old place }
         ensures sizes { KeepsSizes self.old self.new }
+        ensures whole { IsWhole self.old → IsWhole self.new }
     {
         self.time.accelerate(place);
     }
@@ -243,6 +284,7 @@ impl<T: Item<T>> Core<T> {
         requires place { IsPlaceOf self.old place }
         ensures closed { self.new ≡ closed self.old place }
         ensures sizes { KeepsSizes self.old self.new }
+        ensures whole { IsWhole self.old → IsWhole self.new }
     {
         self.time.close(place);
     }
@@ -298,6 +340,7 @@ impl<T: Item<T>> Core<T> {
             (λ p. time.IsNext self.old.time p × (self.new ≡ registered self.old))
             (λ e. ((e ≡ Refused.NoPlace) × time.IsCrowded self.old.time ⊎ (e ≡ Refused.NoMemory) × ¬ (time.IsCrowded self.old.time)) × (self.new ≡ self.old)) }
         ensures slots { (length self.new.standings ≡ length self.old.standings) × (self.new.home ≡ self.old.home) }
+        ensures whole { IsWhole self.old → IsWhole self.new }
     {
         self.time.register(alloc)
     }

@@ -1,6 +1,7 @@
 ghost use Rattle.std.specs.Prelude.{◌≡◌, ℕ, Some, MatchOption, IsSome};
 ghost use Rattle.sdd_base.specs.World.{World, IsPlaceOf, place_at, standing_at, value_at};
 ghost use Rattle.sdd_world.specs.Place.{index_of};
+ghost use Rattle.sdd_world.specs.Shown.{one_value};
 ghost use Rattle.sdd_base.specs.Seat.{seat_on, IsSeated, IsExact};
 ghost use Rattle.sdd_base.specs.Steps.{retired, cell_closed};
 ghost use Rattle.sdd_base.specs.Owned.{slot_of, slots_home, cell_of, cells_home};
@@ -71,6 +72,8 @@ impl<T: Item<T>> Look<T> for World<T> {
         let slot = inner::slot_of_ptr(&ptr)?;
         Some(self.core.shown(slot))
     }
+
+    ghost one_value = { λ w k u v a b. one_value w k u v a b };
 }
 
 impl<T: Item<T>> Shows<T> for Turn<'_, T> {
@@ -103,9 +106,12 @@ impl<T: Item<T>> Look<T> for Turn<'_, T> {
         let world: &World<T> = self.world;
         Some(world.core.shown(slot))
     }
+
+    ghost one_value = { λ t k u v a b. one_value t.world.now k u v a b };
 }
 
 impl<T: Item<T>> Guards<T> for Turn<'_, T> {
+    ghost use Rattle.std.specs.Prelude.{refl};
     ghost use Rattle.sdd_base.specs.Seat.{seat_on};
     ghost use Rattle.sdd_base.specs.World.{place_at};
 
@@ -121,7 +127,8 @@ impl<T: Item<T>> Guards<T> for Turn<'_, T> {
         if !self.world.time().can_nest(self.place) {
             return Err(Refused::TooManyGuards);
         }
-        self.world.open(self.place);
+        let world = &mut *self.world;
+        world.core.open(self.place, &mut world.spare);
         Ok(self.place)
     }
 
@@ -147,6 +154,14 @@ impl<T: Item<T>> Guards<T> for Turn<'_, T> {
         let world = &mut *self.world;
         world.core.accelerate(self.place);
     }
+
+    ghost home_is_seat = { λ _. refl };
+
+    ghost own_is_place = { λ _ _. refl };
+
+    ghost shows_is_value = { λ _ _ _ _. (λ h. h, λ h. h) };
+
+    ghost filled_is_taken = { λ _ _ _. (λ h. h, λ h. h) };
 }
 
 impl<T: Item<T>> Space<T> for Turn<'_, T> {
@@ -155,6 +170,10 @@ impl<T: Item<T>> Space<T> for Turn<'_, T> {
     const ALONE: bool = true;
 
     ghost is_alone = { true };
+
+    fn answers_exactly(&self) -> bool {
+        Self::ALONE
+    }
 
     fn make(&mut self, value: T) -> Result<Owned<T>, (T, Refused)> {
         let world = &mut *self.world;
@@ -212,3 +231,4 @@ impl<T: Item<T>> Space<T> for Turn<'_, T> {
 
     ghost alone_is_exact = { λ _ alone. alone };
 }
+

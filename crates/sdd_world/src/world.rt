@@ -4,11 +4,13 @@ ghost use Rattle.sdd_store.specs.Waiting.What.{Item};
 ghost use Rattle.sdd_store.specs.Time.{CanNest, IsNext, IsCrowded, due_next};
 ghost use Rattle.sdd_store.specs.Table.{IsEmptyAt, IsFull};
 ghost use Rattle.sdd_base.specs.Holding.{AreOf};
-ghost use Rattle.sdd_base.specs.World.{World, KeepsSizes, IsPlaceOf, IsNew, place_at, standing_at, value_at};
+ghost use Rattle.sdd_base.specs.World.{World, IsGuarded, IsPlaceOf, IsNew};
+ghost use Rattle.sdd_base.specs.Out.{out};
 ghost use Rattle.sdd_base.specs.Limits.{AreInRange};
 ghost use Rattle.sdd_base.specs.Steps.{made, retired, nulled, cell_closed, opened, changed, closed, stirred, accelerated, registered, reclaims};
 
 mod closing;
+mod laws;
 
 use crate::inside::Core;
 use sdd_base::{Item, Limits};
@@ -22,14 +24,14 @@ use std::marker::Model;
 /// A world must be spent by `close`.
 pub struct World<T: Item<T>> {
     pub(crate) core: Core<T>,
-    spare: Vec<u32>,
+    pub(crate) spare: Vec<u32>,
     alloc: Global,
 }
 
 impl<T: Item<T>> Model for World<T> {
     ghost use Rattle.std.specs.Prelude.{◌≡◌, ◌≤◌, [], length, vec_capacity};
     ghost use Rattle.sdd_base.specs.World.{World};
-    ghost use Rattle.sdd_world.specs.Core.{IsWhole};
+    ghost use Rattle.sdd_base.specs.Whole.{IsWhole};
 
     ghost Value = { World T };
 
@@ -63,6 +65,7 @@ impl<T: Item<T>> World<T> {
     /// `BadLimits` where a limit is out of its range; `NoMemory` where the memory for all items and cells was refused.
     pub fn new(alloc: Global, limits: Limits) -> Result<World<T>, Refused>
         ensures new { IfOk result (IsNew limits 0) }
+        ensures spent { IfOk result (λ world. ¬ (IsGuarded world) × (out world ≡ 0)) }
         ensures limits { MatchResult result (λ _. AreInRange limits)
             (λ e. ((e ≡ Refused.BadLimits) × ¬ (AreInRange limits)) ⊎ ((e ≡ Refused.NoMemory) × AreInRange limits)) }
     {
@@ -74,6 +77,7 @@ impl<T: Item<T>> World<T> {
     /// Refusals are those of `new`.
     pub fn starting_at(alloc: Global, limits: Limits, count: u64) -> Result<World<T>, Refused>
         ensures new { IfOk result (IsNew limits count) }
+        ensures spent { IfOk result (λ world. ¬ (IsGuarded world) × (out world ≡ 0)) }
         ensures limits { MatchResult result (λ _. AreInRange limits)
             (λ e. ((e ≡ Refused.BadLimits) × ¬ (AreInRange limits)) ⊎ ((e ≡ Refused.NoMemory) × AreInRange limits)) }
     {
@@ -127,41 +131,5 @@ impl<T: Item<T>> World<T> {
             return &[];
         }
         time.due(place)
-    }
-
-    /// Opens one more guard of a place.
-    pub(crate) fn open(&mut self, place: usize)
-        requires place { IsPlaceOf self.old place }
-        requires few { CanNest self.old.time place }
-        ensures opened { self.new ≡ opened T.holds self.old place }
-        ensures sizes { KeepsSizes self.old self.new }
-    {
-        if self.core.open(place) {
-            self.change(place);
-        }
-    }
-
-    /// A change of a place: what is due is reclaimed.
-    fn change(&mut self, place: usize)
-        requires place { IsPlaceOf self.old place }
-        ensures changed { self.new ≡ changed T.holds self.old place }
-        ensures sizes { KeepsSizes self.old self.new }
-    {
-        if self.core.time().is_clear(place) {
-            self.core.catch_up(place);
-        } else {
-            self.reclaim_due(place);
-        }
-    }
-
-    fn reclaim_due(&mut self, place: usize)
-        requires place { IsPlaceOf self.old place }
-        ensures changed { self.new ≡ changed T.holds self.old place }
-        ensures sizes { KeepsSizes self.old self.new }
-    {
-        self.core.rotate(place, &mut self.spare);
-        self.core.reclaim_all(place, self.spare.as_slice());
-        self.core.settle(place);
-        self.spare.clear();
     }
 }

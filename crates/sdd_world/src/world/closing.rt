@@ -1,7 +1,9 @@
 ghost use Rattle.std.specs.Prelude.{◌≡◌, ◌↔◌, ℕ, ◌⊎◌, IfErr, IfOk, IsOk, List, MatchResult};
 ghost use Rattle.sdd_store.specs.Time.{place_at, with_place};
-ghost use Rattle.sdd_base.specs.World.{World, KeepsSizes, IsPlaceOf};
-ghost use Rattle.sdd_world.specs.Closing.{without_waiting, IsGuarded, NothingIsOut, aged_out, all_aged_out, Closes, AllGo, Sweeps, taken, with_reclaimed};
+ghost use Rattle.sdd_base.specs.World.{World, IsGuarded, KeepsSizes, IsPlaceOf};
+ghost use Rattle.sdd_base.specs.Whole.{taken};
+ghost use Rattle.sdd_base.specs.Out.{out, HoldsNothing};
+ghost use Rattle.sdd_world.specs.Closing.{without_waiting, NothingIsOut, aged_out, all_aged_out, Closes, AllGo, Accounts, Sweeps, with_reclaimed};
 
 use super::World;
 use sdd_base::Item;
@@ -17,7 +19,10 @@ impl<T: Item<T>> World<T> {
             (λ tally. ¬ (IsGuarded self) × ((end : World T) × Closes T.holds self end × NothingIsOut end × (tally ≡ end.tally)))
             (λ e. ((e.1 ≡ Refused.GuardOpen) × IsGuarded self × (e.0 ≡ self)) ⊎ ((e.1 ≡ Refused.OwnerOut) × ¬ (IsGuarded self) × Closes T.holds self e.0 × ¬ (NothingIsOut e.0))) }
         ensures exactly { IsOk result ↔ (¬ (IsGuarded self) × AllGo T.holds self) }
+        ensures spent { ¬ (IsGuarded self) → out self ≡ 0 → IsOk result }
+        ensures plainly { HoldsNothing T.holds → (IsOk result ↔ (¬ (IsGuarded self) × (out self ≡ 0))) }
         ensures tally { IfOk result (λ tally. tally ≡ with_reclaimed (taken self) self.tally) }
+        ensures accounts { IfOk result (λ tally. Accounts self.tally tally) }
         ensures swept { IfErr result (λ e. e.1 ≡ Refused.OwnerOut → Sweeps T.holds self e.0) }
     {
         if self.time().is_any_open() {
@@ -63,7 +68,7 @@ impl<T: Item<T>> World<T> {
         ensures sizes { KeepsSizes self.old self.new }
     {
         let pace = self.time().pace(place);
-        self.change(place);
+        self.core.change(place, &mut self.spare);
         self.core.set_pace(place, pace);
     }
 }

@@ -1,5 +1,5 @@
 use Rattle.sdd_token.specs.Right.{number_of}
-use Rattle.sdd_world.proofs.Whole.{Whole-made, made-keeps}
+use Rattle.sdd_base.proofs.Whole.{Whole-made, made-keeps}
 use Rattle.sdd_world.proofs.inside.Core.make.Goals as goal
 
 pub returns-clause-whole : goal.returns-clause-whole

@@ -1,5 +1,5 @@
 use Rattle.std.proofs.Common.{ℕ, ◌+◌, get_or, arith, sym, ◌∙◌, length-drop}
-use Rattle.sdd_world.proofs.Weights.{FreesOne-slot_reclaimed, FreesOne-sizes, KeepsSizes-trans, all_reclaimed-drop}
+use Rattle.sdd_base.proofs.Weights.{FreesOne-slot_reclaimed, FreesOne-sizes, KeepsSizes-trans, all_reclaimed-drop}
 use Rattle.sdd_world.proofs.inside.Core.reclaim_all.Goals as goal
 
 pub loop-slot-preserved : goal.loop-slot-preserved

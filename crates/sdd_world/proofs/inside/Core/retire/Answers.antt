@@ -3,7 +3,7 @@ use Rattle.sdd_store.specs.declared.standing.Standing.TheVariants.{Owned}
 use Rattle.sdd_base.specs.World.{World, standing_at}
 use Rattle.sdd_base.specs.Steps.{retired}
 use Rattle.sdd_world.specs.Core.{IsWhole}
-use Rattle.sdd_world.proofs.Whole.{Whole-retires}
+use Rattle.sdd_base.proofs.Whole.{Whole-retires}
 use Rattle.sdd_world.proofs.inside.Core.retire.Goals as goal
 
 retires : {T : Type 0} {w : World T} (p k : ℕ) → IsWhole w → p < length w.time.places → standing_at w k ≡ Some Owned → IsWhole (retired w p k)

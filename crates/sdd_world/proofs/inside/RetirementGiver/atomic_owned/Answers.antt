@@ -1,6 +1,6 @@
 use Rattle.std.proofs.Common.{ℕ}
 use Rattle.sdd_base.specs.Owned.{cell_of}
-use Rattle.sdd_world.proofs.Own.{gives-grows, Gives-cell_closed}
+use Rattle.sdd_base.proofs.Own.{gives-grows, Gives-cell_closed}
 use Rattle.sdd_world.proofs.inside.RetirementGiver.atomic_owned.Goals as goal
 
 pub returns-clause-own : goal.returns-clause-own

@@ -1,6 +1,6 @@
 use Rattle.std.proofs.Common.{ℕ}
 use Rattle.sdd_base.specs.Owned.{slot_of}
-use Rattle.sdd_world.proofs.Own.{gives-grows, Gives-retired}
+use Rattle.sdd_base.proofs.Own.{gives-grows, Gives-retired}
 use Rattle.sdd_world.proofs.inside.RetirementGiver.owned.Goals as goal
 
 pub returns-clause-own : goal.returns-clause-own

@@ -1,7 +1,7 @@
 use Rattle.std.proofs.Common.{ℕ, refl, arith}
 use Rattle.sdd_store.specs.Time.{is_open}
 use Rattle.sdd_base.specs.World.{place_at}
-use Rattle.sdd_world.proofs.Own.{opens}
+use Rattle.sdd_base.proofs.Own.{opens}
 use Rattle.sdd_world.proofs.turn.TurnGuards.open_guard.Goals as goal
 
 pub returns-clause-own : goal.returns-clause-own

@@ -1,0 +1,45 @@
+//! What is always true of a world, as calls that give it out. They do nothing when the program runs.
+ghost use Rattle.sdd_base.specs.Whole.{IsWhole};
+ghost use Rattle.sdd_base.specs.Out.{OutLaws};
+ghost use Rattle.sdd_base.specs.Left.{FourGuardsReclaim, GoesAtLatest, GoesInTime};
+ghost use Rattle.sdd_base.specs.Under.{KeepsUnderGuards};
+
+use super::World;
+use sdd_base::Item;
+
+impl<T: Item<T>> World<T> {
+    /// What the parts of a world keep true of each other: a value where a slot is taken, each item that waits once, each participant abreast of the count, each item accounted for.
+    pub fn is_whole(&self)
+        ensures { IsWhole self.now }
+    {
+        let _core = &self.core;
+    }
+
+    /// What each call puts out of the world's hands, and what it takes back.
+    pub fn counts_what_is_out(&self)
+        ensures { OutLaws T.holds self.now }
+    {
+    }
+
+    /// After how many openings of its holder an item that waits is reclaimed at latest.
+    pub fn reclaims_in_time(&self)
+        ensures latest { GoesAtLatest T.holds self.now }
+        ensures in_time { GoesInTime T.holds self.now }
+    {
+        self.is_whole();
+    }
+
+    /// Four accelerated guards of a participant, one after another, reclaim all that waits with it, where no other guard is open.
+    pub fn four_guards_reclaim(&self)
+        ensures { FourGuardsReclaim T.holds self.now }
+    {
+        self.is_whole();
+    }
+
+    /// No item is reclaimed while a guard that was open at its retirement is open.
+    pub fn keeps_under_guards(&self)
+        ensures { KeepsUnderGuards T.holds self.now }
+    {
+        self.is_whole();
+    }
+}
