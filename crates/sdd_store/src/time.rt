@@ -96,13 +96,16 @@ impl Participant {
     pub fn leave(&mut self, marked: bool)
         ensures { self.new ≡ record self.old { guards = 0; countdown = counted_down marked self.old.countdown } }
     {
+        match self.countdown {
+            128 => {
+                if marked {
+                    self.countdown = 127;
+                }
+            }
+            0 => self.countdown = 127,
+            countdown => self.countdown = countdown - 1,
+        }
         self.guards = 0;
-        self.countdown = match self.countdown {
-            0 => 127,
-            128 if marked => 127,
-            128 => 128,
-            countdown => countdown - 1,
-        };
     }
 }
 
@@ -343,15 +346,12 @@ impl Time {
         requires open { (place_at self.old place).guards ≡ 1 }
         ensures { self.new ≡ closed self.old place }
     {
-        let marked = self.marked;
-        let participant = &mut self.places[place];
-        if participant.countdown == 128 && !marked {
-            participant.guards = 0;
-            return;
-        }
-        if participant.countdown == 0 {
+        if self.places[place].countdown == 0 {
+            let marked = self.marked;
             self.scan(place);
+            self.places[place].leave(marked);
+        } else {
+            self.places[place].leave(self.marked);
         }
-        self.places[place].leave(marked);
     }
 }

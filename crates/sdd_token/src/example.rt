@@ -99,29 +99,3 @@ pub fn not_whole(one: &mut Part<Standing>, other: &mut Part<Standing>)
 {
     one.apart(other);
 }
-
-#[cfg(test)]
-mod tests {
-    use super::*;
-
-    #[test]
-    fn a_value_is_put_read_and_taken(rt: HostRuntime) {
-        let (_, mut kept, _) = space_of(2);
-        let mut slot = None;
-        let mut owner = put(&mut slot, &mut kept, 7u64);
-        assert_eq!(rt; *get(&slot, &kept, &owner), 7);
-        not_whole(&mut kept, &mut owner);
-        shows_one(&kept, &owner, &7u64, &7u64);
-        assert_eq!(rt; take(&mut slot, &mut kept, owner), 7);
-        assert!(rt; slot.is_none());
-    }
-
-    fn goes_to_threads<T: Send + Sync>(_: &T) {}
-
-    #[test]
-    fn tokens_go_to_other_threads() {
-        let (book, part, _) = space_of(2);
-        goes_to_threads(&book);
-        goes_to_threads(&part);
-    }
-}

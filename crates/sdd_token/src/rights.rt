@@ -134,34 +134,3 @@ impl Rights {
         self.agree(right.number as usize, &right.part);
     }
 }
-
-#[cfg(test)]
-mod tests {
-    use super::*;
-    use std::test::Fail;
-
-    #[test]
-    fn a_right_comes_back(rt: HostRuntime) -> Result<(), Fail> {
-        let mut rights = Rights::new(rt.alloc(), 3, Kind::Free)?;
-        let right = rights.grant(2);
-        rights.agrees(&right);
-        let number = right.number();
-        let redeemed = rights.redeem(right, Kind::Retired);
-        assert_eq!(rt; number, 2);
-        assert_eq!(rt; redeemed, 2);
-        Ok(())
-    }
-
-    #[test]
-    fn units_come_back(rt: HostRuntime) -> Result<(), Fail> {
-        let mut rights = Rights::new(rt.alloc(), 3, Kind::Free)?;
-        rights.set(1, Kind::Shared);
-        let part = rights.split(1, 7);
-        rights.agree(1, &part);
-        rights.join(1, part);
-        rights.set(1, Kind::Free);
-        let right = rights.grant(1);
-        rights.redeem(right, Kind::Free);
-        Ok(())
-    }
-}

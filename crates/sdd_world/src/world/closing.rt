@@ -72,6 +72,3 @@ impl<T: Item<T>> World<T> {
         self.core.set_pace(place, pace);
     }
 }
-
-#[cfg(test)]
-mod tests;
