@@ -7,3 +7,4 @@ pub mod Under
 pub mod Four
 pub mod Out
 pub mod Left
+pub mod Passing

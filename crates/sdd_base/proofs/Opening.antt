@@ -210,10 +210,10 @@ module _ {T : Type 0} (holds : T → List Holding) (w : World T) (p : ℕ) where
   how l = how-if l (is_open (place_at w p)) refl
 
   -- the world in which a change reclaims
-  abbrev before : World T
+  abbrev pub before : World T
   before = steps.rotated (steps.nested w p) p
 
-  in_before : p < length w.time.places → p < length before.time.places
+  pub in_before : p < length w.time.places → p < length before.time.places
   in_before l =
       let y : Participant = time.nested (place_at w p) in
       omega (arith, l, length-set w.time.places p y, length-set (steps.nested w p).time.places p (time.rotated w.time.count (place_at (steps.nested w p) p)))

@@ -437,7 +437,7 @@ module _ {T : Type 0} where
       ap (λ (x : Participant). record w { time = with_place (with_place w.time p (time.nested (place_at w p))) p (time.rotated w.time.count x) }) (get_or-set_same w.time.places p (time.nested (place_at w p)) nobody l)
       ∙ ap (λ (ps : List Participant). record w { time = record w.time { places = ps } }) (set-set w.time.places p (time.nested (place_at w p)) (time.rotated w.time.count (time.nested (place_at w p))))
 
-  Whole-changes_nested : (holds : T → List Holding) (w : World T) (p : ℕ) → p < length w.time.places → IsWhole w → IsWhole (changed holds (steps.nested w p) p)
+  pub Whole-changes_nested : (holds : T → List Holding) (w : World T) (p : ℕ) → p < length w.time.places → IsWhole w → IsWhole (changed holds (steps.nested w p) p)
   Whole-changes_nested holds w p l i =
       let y : Participant = time.nested (place_at w p) in
       let here : place_at (steps.nested w p) p ≡ y = get_or-set_same w.time.places p y nobody l in
@@ -447,7 +447,7 @@ module _ {T : Type 0} where
       let from : IsWholeBut (due_next y) start = rw (nested-rotated w p l) (Whole-rotated w p y l refl refl i) in
       Whole-settles holds start p (due_next (place_at (steps.nested w p) p)) in_start (subst (λ (z : Participant). IsWholeBut (due_next z) start) (sym here) from)
 
-  Whole-nested : (w : World T) (p : ℕ) → p < length w.time.places → w.time.count ≤ (place_at w p).found + 1 → IsWhole w → IsWhole (steps.nested w p)
+  pub Whole-nested : (w : World T) (p : ℕ) → p < length w.time.places → w.time.count ≤ (place_at w p).found + 1 → IsWhole w → IsWhole (steps.nested w p)
   Whole-nested w p l near i =
       let a = i.abreast p in
       Whole-place w p (time.nested (place_at w p)) l refl (record { found = a.found; near = λ _. near; young = a.young; countdown = a.countdown; quiet = a.quiet }) i

@@ -13,3 +13,4 @@ pub mod Out
 pub mod Calls
 pub mod Left
 pub mod Under
+pub mod Passing

@@ -112,10 +112,6 @@ pub trait Space<T: Item<T>>: Look<T> + Guards<T> {
     /// The same truth, for clauses.
     ghost is_alone: { Bool };
 
-    /// `ALONE`, as a value that clauses can speak of.
-    fn answers_exactly(&self) -> bool
-        ensures { result ≡ is_alone };
-
     /// Puts a value into a free slot.
     fn make(&mut self, value: T) -> Result<Owned<T>, (T, Refused)>
         requires seated { IsSeated (Self.seat self.old) }

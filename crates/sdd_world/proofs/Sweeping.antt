@@ -1,5 +1,5 @@
 -- The closing of a world sweeps away exactly what goes
-use Rattle.std.proofs.Common.{◌≡◌, ◌≢◌, ◌⊎◌, inl, inr, ℕ, ◌+◌, ◌<◌, List, [], ◌∷◌, length, cond, count_by, sum_by, refl, sym, ap, ◌∙◌, arith, Some, None, Option, zero, suc, slice_index_or, slice_set}
+use Rattle.std.proofs.Common.{Bool, true, false, ◌≡◌, ◌≢◌, ◌⊎◌, inl, inr, ℕ, ◌+◌, ◌<◌, List, [], ◌∷◌, length, cond, count_by, sum_by, refl, sym, ap, ◌∙◌, arith, Some, None, Option, zero, suc, slice_index_or, slice_set}
 use Rattle.std.specs.Prelude.{is_some, IsSome, IsNone, All, Contains, map}
 use Rattle.std.proofs.lemmas.List.{length-set, get_or-set_same, get_or-set_other}
 use Rattle.std.proofs.lemmas.List.Sums.{sum_by-set, sum_by-cons}
@@ -485,7 +485,7 @@ module _ {T : Type 0} (holds : T → List Holding) (old : World T) where
 
   nobody-waits : (k : ℕ) (places : List Participant) → sum_by (times_with k) (map without_waiting places) ≡ 0
   nobody-waits k [] = refl
-  nobody-waits k (x ∷ xs) = sum_by-cons (times_with k) (without_waiting x) (map without_waiting xs) ∙ nobody-waits k xs
+  nobody-waits k (x ∷ xs) = omega (arith, sum_by-cons (times_with k) (without_waiting x) (map without_waiting xs), nobody-waits k xs)
 
   ended : (new : World T) → Closes holds old new → IsWhole new → Ended new
   ended new c i =

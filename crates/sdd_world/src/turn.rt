@@ -171,10 +171,6 @@ impl<T: Item<T>> Space<T> for Turn<'_, T> {
 
     ghost is_alone = { true };
 
-    fn answers_exactly(&self) -> bool {
-        Self::ALONE
-    }
-
     fn make(&mut self, value: T) -> Result<Owned<T>, (T, Refused)> {
         let world = &mut *self.world;
         match world.core.make(value) {

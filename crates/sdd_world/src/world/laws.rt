@@ -2,6 +2,7 @@
 ghost use Rattle.sdd_base.specs.Whole.{IsWhole};
 ghost use Rattle.sdd_base.specs.Out.{OutLaws};
 ghost use Rattle.sdd_base.specs.Left.{FourGuardsReclaim, GoesAtLatest, GoesInTime};
+ghost use Rattle.sdd_base.specs.Passing.{GuardsPass};
 ghost use Rattle.sdd_base.specs.Under.{KeepsUnderGuards};
 
 use super::World;
@@ -27,6 +28,12 @@ impl<T: Item<T>> World<T> {
         ensures in_time { GoesInTime T.holds self.now }
     {
         self.is_whole();
+    }
+
+    /// An accelerated guard leaves no guard open, and no more out than was.
+    pub fn accelerated_guards_pass(&self)
+        ensures { GuardsPass T.holds self.now }
+    {
     }
 
     /// Four accelerated guards of a participant, one after another, reclaim all that waits with it, where no other guard is open.

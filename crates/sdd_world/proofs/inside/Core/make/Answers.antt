@@ -4,7 +4,8 @@ use Rattle.sdd_world.proofs.inside.Core.make.Goals as goal
 
 pub returns-clause-whole : goal.returns-clause-whole
 returns-clause-whole g c =
-    rw (← c.self.view_is, c.in_ok-right.ensures.made, c.count_made.ensures) (λ i. Whole-made _ (number_of c.in_ok-right.right) c.args.value i)
+    let free = c.in_ok-right.ensures.free in
+    rw (← c.self.view_is, c.in_ok-right.ensures.made, c.count_made.ensures) (λ i. Whole-made _ (number_of c.in_ok-right.right) c.args.value free.0 free.1 i)
 
 pub returns-clause-keeps : goal.returns-clause-keeps
 returns-clause-keeps g c =

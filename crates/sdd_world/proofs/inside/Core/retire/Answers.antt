@@ -2,7 +2,7 @@ use Rattle.std.proofs.Common.{◌≡◌, ℕ, ◌<◌, length, Some}
 use Rattle.sdd_store.specs.declared.standing.Standing.TheVariants.{Owned}
 use Rattle.sdd_base.specs.World.{World, standing_at}
 use Rattle.sdd_base.specs.Steps.{retired}
-use Rattle.sdd_world.specs.Core.{IsWhole}
+use Rattle.sdd_base.specs.Whole.{IsWhole}
 use Rattle.sdd_base.proofs.Whole.{Whole-retires}
 use Rattle.sdd_world.proofs.inside.Core.retire.Goals as goal
 

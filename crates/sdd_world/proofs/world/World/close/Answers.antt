@@ -1,8 +1,9 @@
-use Rattle.std.proofs.Common.{◌≡◌, refl, inr, ap, ◌∙◌, IsTrue}
-use Rattle.sdd_base.specs.World.{World}
-use Rattle.sdd_world.specs.Core.{IsWhole}
-use Rattle.sdd_world.specs.Closing.{IsGuarded, NothingIsOut}
-use Rattle.sdd_world.proofs.Sweeping.{sweeps, nothing-out, all-went, all-counted}
+use Rattle.std.proofs.Common.{◌≡◌, subst, sym, refl, inr, ap, ◌∙◌, IsTrue}
+use Rattle.sdd_base.specs.World.{World, IsGuarded}
+use Rattle.sdd_base.specs.Whole.{IsCounted, IsWhole, taken}
+use Rattle.sdd_store.specs.declared.tally.Tally.{Tally}
+use Rattle.sdd_world.specs.Closing.{NothingIsOut}
+use Rattle.sdd_world.proofs.Sweeping.{sweeps, nothing-out, all-went, all-counted, none-out-goes, plain-goes, none-taken-at-end, tally-accounts}
 use Rattle.sdd_world.proofs.world.World.close.Goals as goal
 
 pub returns-then-not-is_unused : goal.returns-then-not-is_unused
@@ -16,7 +17,10 @@ returns-then-not-is_unused g c =
     record {
       closed = inr (refl, quiet, c.clear.ensures, out);
       exactly = (λ ok. cc, λ h. absurd (out (nothing-out holds old end c.clear.ensures whole h.1)));
+      spent = λ _ e. absurd (out (nothing-out holds old end c.clear.ensures whole (none-out-goes holds old e)));
+      plainly = λ _. (λ ok. cc, λ h. absurd (out (nothing-out holds old end c.clear.ensures whole (none-out-goes holds old h.1))));
       tally = record {};
+      accounts = record {};
       swept = λ _. sweeps holds old end c.clear.ensures whole;
     }
 
@@ -31,9 +35,15 @@ returns g c =
     let quiet : IsGuarded old → ⊥ = λ some. let any : IsTrue c.is_any_open.result = c.is_any_open.ensures.1 (rw c.time.ensures some) in absurd (cc) in
     let none : NothingIsOut end = rw (← c.self.view_is) (c.is_unused.ensures.0 c.if-not-is_unused.false) in
     let told : c.destroy.result ≡ end.tally = c.destroy.ensures ∙ ap (λ (w : World g.row.T.Denot). w.tally) c.self.view_is in
+    let whole : IsWhole end = rw (← c.self.view_is) c.self.invariant.2 in
+    let counted = told ∙ all-counted holds old end c.clear.ensures none in
+    let at_end : IsCounted c.destroy.result 0 = subst (λ (t : Tally). IsCounted t 0) (sym told) (none-taken-at-end end none whole) in
     record {
       closed = (quiet, (end, c.clear.ensures, none, told));
       exactly = (λ _. (quiet, all-went holds old end c.clear.ensures none), λ _. refl);
-      tally = told ∙ all-counted holds old end c.clear.ensures none;
+      spent = λ _ _. refl;
+      plainly = λ plain. (λ _. (quiet, plain-goes holds old plain (all-went holds old end c.clear.ensures none)), λ _. refl);
+      accounts = tally-accounts (taken old) old.tally c.destroy.result counted at_end;
+      tally = counted;
       swept = record {};
     }

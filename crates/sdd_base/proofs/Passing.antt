@@ -1,0 +1,90 @@
+-- What an accelerated guard leaves
+use Rattle.std.proofs.Common.{◌≡◌, ◌⊎◌, inl, inr, ℕ, ◌+◌, ◌<◌, ◌≤◌, List, [], ◌∷◌, length, Bool, true, false, nat_lt, refl, sym, ap, ◌∙◌, arith, Some, None, Option}
+use Rattle.sdd_store.specs.Waiting.{What}
+use Rattle.sdd_store.specs.Waiting.What.{Item, Private, Job}
+use Rattle.std.specs.Prelude.{◌==◌, ◌&&◌, if◌then◌else◌}
+use Rattle.std.specs.List.{list_all}
+use Rattle.sdd_store.specs.Time.{Time, due_next, is_open, passes, last_count}
+use Rattle.sdd_store.specs.Time as time
+use Rattle.sdd_store.specs.declared.standing.Standing.{Standing}
+use Rattle.sdd_store.specs.declared.standing.Standing.TheVariants.{Owned, Raw, Shared, Retired, Private as privately}
+use Rattle.sdd_base.specs.World.{World, IsGuarded, IsPlaceOf, place_at, standing_at, value_at}
+use Rattle.sdd_base.specs.Steps.{freed, taken_out, waiting_value, reclaimed, all_reclaimed, opened, closed, accelerated}
+use Rattle.sdd_base.specs.Steps as steps
+use Rattle.sdd_base.specs.Holding.{Holding}
+use Rattle.sdd_base.specs.Left.{accelerated_guard}
+use Rattle.sdd_base.specs.Passing.{Passes, GuardsPass}
+use Rattle.sdd_base.proofs.Out.{out-laws}
+use Rattle.sdd_base.proofs.Own.{Gives-all_reclaimed}
+use Rattle.sdd_base.proofs.Opening.{how, Nests, IsChange, keeps-given_all, in_before}
+use Rattle.sdd_base.proofs.Four.{all-closed, not-guarded, still-closed, still-place}
+
+-- no close changes how deep guards nest
+raised-nesting : (t : Time) (b : Bool) → (if b then record t { count = t.count + 1 } else t).nesting ≡ t.nesting
+raised-nesting t true = refl
+raised-nesting t false = refl
+
+scanned-nesting : (t : Time) (b : Bool) → (if b then time.raised (record t { marked = false }) else t).nesting ≡ t.nesting
+scanned-nesting t true = raised-nesting (record t { marked = false }) (nat_lt t.count last_count && list_all (passes t.count) t.places)
+scanned-nesting t false = refl
+
+scans-nesting : (t : Time) (p : ℕ) (b : Bool) → (if b then time.scanned t p else t).nesting ≡ t.nesting
+scans-nesting t p true = scanned-nesting t ((time.place_at t p).found == t.count)
+scans-nesting t p false = refl
+
+last-nesting : (t : Time) (p : ℕ) (b : Bool) → (if b then time.left_by t p else t).nesting ≡ t.nesting
+last-nesting t p true = scans-nesting t p ((time.place_at t p).countdown == 0)
+last-nesting t p false = refl
+
+closed-nesting-if : (t : Time) (p : ℕ) (b : Bool) → nat_lt 1 (time.place_at t p).guards ≡ b → (time.closed t p).nesting ≡ t.nesting
+closed-nesting-if t p true e = rw e refl
+closed-nesting-if t p false e = rw e (last-nesting t p (is_open (time.place_at t p)))
+
+closed-nesting : (t : Time) (p : ℕ) → (time.closed t p).nesting ≡ t.nesting
+closed-nesting t p = closed-nesting-if t p (nat_lt 1 (time.place_at t p).guards) refl
+
+module _ {T : Type 0} (holds : T → List Holding) (p made in_place : ℕ) where
+  -- so many items were made, and dropped in place
+  abbrev Made : World T → Type 0
+  Made w = (w.tally.made ≡ made) × (w.tally.in_place ≡ in_place)
+
+  made-out : (w : World T) (k : ℕ) (v : Option T) → Made w → Made (taken_out holds w p k v)
+  made-out w k None h = h
+  made-out w k (Some v) h = keeps-given_all p Made (λ u j is g. g) (λ u c g. g) (freed w k) (holds v) h
+
+  made-reclaimed : (w : World T) (x : What) → Made w → Made (reclaimed holds w p x)
+  made-reclaimed w (Item k) h = made-out w k (waiting_value w k (standing_at w k)) h
+  made-reclaimed w (Private k c) h = made-out w k (waiting_value w k (standing_at w k)) h
+  made-reclaimed w (Job n) h = h
+
+  made-all : (xs : List What) (w : World T) → Made w → Made (all_reclaimed holds w p xs)
+  made-all [] w h = h
+  made-all (x ∷ xs) w h = made-all xs (reclaimed holds w p x) (made-reclaimed w x h)
+
+  made-opened : (w : World T) → Made w → Nests holds w p ⊎ IsChange holds w p → Made (opened holds w p)
+  made-opened w h (inl n) = (ap (λ (u : World T). u.tally.made) n.nests ∙ h.0, ap (λ (u : World T). u.tally.in_place) n.nests ∙ h.1)
+  made-opened w h (inr c) =
+      let end = made-all (due_next (place_at (steps.nested w p) p)) (steps.rotated (steps.nested w p) p) h in
+      (ap (λ (u : World T). u.tally.made) c.change ∙ end.0, ap (λ (u : World T). u.tally.in_place) c.change ∙ end.1)
+
+module _ {T : Type 0} (holds : T → List Holding) where
+  nesting-opened : (w : World T) (p : ℕ) → p < length w.time.places → Nests holds w p ⊎ IsChange holds w p → (opened holds w p).time.nesting ≡ w.time.nesting
+  nesting-opened w p l (inl n) = ap (λ (u : World T). u.time.nesting) n.nests
+  nesting-opened w p l (inr c) =
+      let g = Gives-all_reclaimed holds (steps.rotated (steps.nested w p) p) p (due_next (place_at (steps.nested w p) p)) (in_before holds w p l) in
+      ap (λ (u : World T). u.time.nesting) c.change ∙ ap (λ (t : Time). t.nesting) g.time
+
+  pub guards-pass : (w : World T) → GuardsPass holds w
+  guards-pass w = λ p l quiet.
+      let shut = all-closed w quiet in
+      let laws = out-laws holds w in
+      let m = made-opened holds p w.tally.made w.tally.in_place w (refl, refl) (how holds w p l) in
+      record {
+        quiet = not-guarded (accelerated_guard holds w p) (still-closed holds w p l shut);
+        place = still-place holds w p l shut;
+        nesting = closed-nesting (accelerated (opened holds w p) p).time p ∙ nesting-opened w p l (how holds w p l);
+        made = m.0;
+        in_place = m.1;
+        out = laws.opening p l;
+        out_plain = λ plain. laws.opening_plain plain p l;
+      }

@@ -1,0 +1,6 @@
+//! Programs over a world, in ordinary code, that rest on its contracts and laws alone.
+#![tactic(auto)]
+
+pub mod guards;
+pub mod items;
+pub mod programs;

@@ -1,0 +1,5 @@
+use Rattle.sdd_base.proofs.Four.{four-guards}
+use Rattle.sdd_world.proofs.world.World.four_guards_reclaim.Goals as goal
+
+pub returns : goal.returns
+returns g c = four-guards g.T.Item.holds c.args.self.now c.is_whole.ensures
