@@ -85,6 +85,6 @@ module _ {T : Type 0} (holds : T → List Holding) where
         nesting = closed-nesting (accelerated (opened holds w p) p).time p ∙ nesting-opened w p l (how holds w p l);
         made = m.0;
         in_place = m.1;
-        out = laws.opening p l;
-        out_plain = λ plain. laws.opening_plain plain p l;
+        no_more_out = laws.opening p l;
+        as_much_out = λ plain. laws.opening_plain plain p l;
       }

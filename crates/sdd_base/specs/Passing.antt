@@ -12,8 +12,8 @@ pub record Passes {T : Type 0} (holds : T → List Holding) (w : World T) (p : �
   pub nesting : (accelerated_guard holds w p).time.nesting ≡ w.time.nesting
   pub made : (accelerated_guard holds w p).tally.made ≡ w.tally.made
   pub in_place : (accelerated_guard holds w p).tally.in_place ≡ w.tally.in_place
-  pub out : out (accelerated_guard holds w p) ≤ out w
-  pub out_plain : HoldsNothing holds → out (accelerated_guard holds w p) ≡ out w
+  pub no_more_out : out (accelerated_guard holds w p) ≤ out w
+  pub as_much_out : HoldsNothing holds → out (accelerated_guard holds w p) ≡ out w
 
 -- the law: each accelerated guard of a participant does, where no guard is open
 abbrev pub GuardsPass : {T : Type 0} → (T → List Holding) → World T → Type 0
