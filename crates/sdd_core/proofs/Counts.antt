@@ -7,10 +7,10 @@ use Rattle.sdd_core.specs.declared.machine.steps.Step.TheVariants.{Register, Rea
 use Rattle.sdd_core.specs.declared.machine.places.Phase.{Phase}
 use Rattle.sdd_core.specs.declared.machine.places.Phase.TheVariants.{Free, Closed, Reading, Open, Ended}
 use Rattle.sdd_core.specs.declared.machine.places.Scan.{Scan}
-use Rattle.sdd_core.specs.Table.{Size, State, Place, place_at, free_place, is_free, is_closed, is_reading, is_open, is_ended, read_of, possible, registered, reading, closed, ended, retiring, published, left, freed, taking, raises, skip, looked, scan_looked, scan_advanced, holds, adopts, looks, advances}
+use Rattle.sdd_core.specs.Table.{Size, State, Place, place_at, free_place, is_free, is_closed, is_reading, is_open, is_ended, read_of, possible, registered, reading, closed, ended, retiring, left, taking, raises, skip, looked, scan_looked, scan_advanced, holds, adopts, looks, advances}
 use Rattle.sdd_core.proofs.Histories.{IsHistory}
 use Rattle.sdd_core.specs.History.{state, count_at, last_read, last_published}
-use Rattle.sdd_core.proofs.Places.{at_place, in_range, closed_is, reading_is, open_is, effect, place_after}
+use Rattle.sdd_core.proofs.Places.{at_place, in_range, closed_is, reading_is, open_is, effect, place_after, freed_fields, published_fields}
 
 -- the count at q's last publish
 abbrev pub since : Size → ℕ → List Step → ℕ
@@ -133,7 +133,7 @@ places_step size h (Read p) g can q =
     (λ _. g.places q)
 places_step size h (Publish p) g can q =
     let s = state size h in let x = place_at s q in let c = count_at size h in
-    at_place p q (λ t. PhaseOk c (cond t c (since size q h)) (last_read size q h) (cond t (published x) x).phase (cond t (published x) x).found)
+    at_place p q (λ t. PhaseOk c (cond t c (since size q h)) (last_read size q h) (cond t (published_fields x) x).phase (cond t (published_fields x) x).found)
     (λ e. let r = reading_is _ can in
     let ok : (r.0 ≡ last_read size q h) × (x.found ≤ r.0) × (r.0 ≤ c) = at_q (λ (ph : Phase). PhaseOk c (since size q h) (last_read size q h) ph x.found) (place_at s) p q (Reading r.0) e r.1 (g.places q) in
     let is : read_of x.phase ≡ r.0 = ap read_of (subst (λ (j : ℕ). (place_at s j).phase ≡ Reading r.0) e r.1) in
@@ -147,7 +147,7 @@ places_step size h (Lock p) g can q = g.places q
 places_step size h (Adopt p) g can q =
     let s = state size h in let x = place_at s q in let l = left s.places in
     let ok = freed_ok (count_at size h) (since size q h) (last_read size q h) x.phase x.found (g.places q) in
-    at_place p q (λ t. PhaseOk (count_at size h) (since size q h) (last_read size q h) (cond t (taking l (freed x)) (freed x)).phase (cond t (taking l (freed x)) (freed x)).found)
+    at_place p q (λ t. PhaseOk (count_at size h) (since size q h) (last_read size q h) (cond t (taking l (freed_fields x)) (freed_fields x)).phase (cond t (taking l (freed_fields x)) (freed_fields x)).found)
     (λ _. ok) (λ _. ok)
 places_step size h (Look p) g can q = g.places q
 places_step size h (Advance p) g can q =
@@ -180,7 +180,7 @@ found_step size h (Read p) g can q =
     at_place p q (λ t. (cond t (reading s.count x) x).found ≡ last_published size q h) (λ _. g.found q) (λ _. g.found q)
 found_step size h (Publish p) g can q =
     let s = state size h in let x = place_at s q in let c = count_at size h in
-    at_place p q (λ t. (cond t (published x) x).found ≡ cond t (last_read size q h) (last_published size q h))
+    at_place p q (λ t. (cond t (published_fields x) x).found ≡ cond t (last_read size q h) (last_published size q h))
     (λ e. let r = reading_is _ can in
     let ok : (r.0 ≡ last_read size q h) × (x.found ≤ r.0) × (r.0 ≤ c) = at_q (λ (ph : Phase). PhaseOk c (since size q h) (last_read size q h) ph x.found) (place_at s) p q (Reading r.0) e r.1 (g.places q) in
     ap read_of (subst (λ (j : ℕ). (place_at s j).phase ≡ Reading r.0) e r.1) ∙ ok.0)
@@ -191,7 +191,7 @@ found_step size h (Retire p i) g can q =
 found_step size h (Lock p) g can q = g.found q
 found_step size h (Adopt p) g can q =
     let s = state size h in let x = place_at s q in let l = left s.places in
-    at_place p q (λ t. (cond t (taking l (freed x)) (freed x)).found ≡ last_published size q h) (λ _. g.found q) (λ _. g.found q)
+    at_place p q (λ t. (cond t (taking l (freed_fields x)) (freed_fields x)).found ≡ last_published size q h) (λ _. g.found q) (λ _. g.found q)
 found_step size h (Look p) g can q = g.found q
 found_step size h (Advance p) g can q = g.found q
 found_step size h (Unlock p) g can q = g.found q
@@ -267,7 +267,7 @@ scan_step size h (Read p) g can =
     (λ x _. not_holder b (place_at s) p is_closed can refl x) (λ x i o. cc) (λ q _. refl)
 scan_step size h (Publish p) g can =
     let s = state size h in let b : ℕ → ℕ = λ q. since size q h in let c = count_at size h in
-    scan_other_ok b (λ q. cond (eqb p q) c (b q)) (place_at s) s.scan p published g.scanned
+    scan_other_ok b (λ q. cond (eqb p q) c (b q)) (place_at s) s.scan p published_fields g.scanned
     (λ x _. not_holder b (place_at s) p is_reading can refl x)
     (λ x i o. at_place p p (λ t. (place_at s x.holder).found ≤ cond t c (b p))
     (λ _. let ok : ((place_at s x.holder).found ≤ b x.holder) × (b x.holder ≤ c) × (c ≤ b x.holder + 1) = subst (λ (ph : Phase). PhaseOk c (b x.holder) (last_read size x.holder h) ph (place_at s x.holder).found) i.opened (g.places x.holder) in omega arith)
@@ -287,8 +287,8 @@ scan_step size h (Lock p) g can =
 scan_step size h (Adopt p) g can =
     let s = state size h in let b : ℕ → ℕ = λ q. since size q h in let l = left s.places in
     scan_kept b (place_at s) (λ q. effect s (Adopt p) q (place_at s q)) s.scan g.scanned
-    (λ q o. let x = place_at s q in at_place p q (λ t. ((cond t (taking l (freed x)) (freed x)).phase ≡ Open) × ((cond t (taking l (freed x)) (freed x)).found ≡ x.found)) (λ _. (open_freed _ o, refl)) (λ _. (open_freed _ o, refl)))
-    (λ q. let x = place_at s q in at_place p q (λ t. (cond t (taking l (freed x)) (freed x)).phase ≡ Open → x.phase ≡ Open) (λ _ o. freed_open _ o) (λ _ o. freed_open _ o))
+    (λ q o. let x = place_at s q in at_place p q (λ t. ((cond t (taking l (freed_fields x)) (freed_fields x)).phase ≡ Open) × ((cond t (taking l (freed_fields x)) (freed_fields x)).found ≡ x.found)) (λ _. (open_freed _ o, refl)) (λ _. (open_freed _ o, refl)))
+    (λ q. let x = place_at s q in at_place p q (λ t. (cond t (taking l (freed_fields x)) (freed_fields x)).phase ≡ Open → x.phase ≡ Open) (λ _ o. freed_open _ o) (λ _ o. freed_open _ o))
 scan_step size h (Look p) g can =
     let s = state size h in let b : ℕ → ℕ = λ q. since size q h in
     look_ok b s s.scan (length s.places) p

@@ -5,10 +5,10 @@ use Rattle.sdd_core.specs.declared.machine.steps.Step.{Step}
 use Rattle.sdd_core.specs.declared.machine.steps.Step.TheVariants.{Register, Read, Publish, Retire, Lock, Adopt, Look, Advance, Unlock, Close, End}
 use Rattle.sdd_core.specs.declared.machine.places.Phase.{Phase}
 use Rattle.sdd_core.specs.declared.machine.places.Phase.TheVariants.{Free, Closed, Reading, Open, Ended}
-use Rattle.sdd_core.specs.Table.{Size, Place, Items, place_at, free_place, is_ended, possible, registered, reading, closed, ended, retiring, published, left, freed, taking}
+use Rattle.sdd_core.specs.Table.{Size, Place, Items, place_at, free_place, is_ended, possible, registered, reading, closed, ended, retiring, left, taking}
 use Rattle.sdd_core.proofs.Histories.{IsHistory}
 use Rattle.sdd_core.specs.History.{state, count_at, last_read, last_published}
-use Rattle.sdd_core.proofs.Places.{at_place, free_is, reading_is, effect}
+use Rattle.sdd_core.proofs.Places.{at_place, free_is, reading_is, effect, freed_fields, published_fields}
 use Rattle.std.proofs.lemmas.Bool.{or_from, or_left, or_right, eq-eqb, ne_eqb}
 use Rattle.std.specs.Ordering.{nat_cmp}
 use Rattle.std.specs.Cmp.{nat_cmp_total}
@@ -75,14 +75,14 @@ unmoved p q (Left h j) ne k = refl
 unmoved p q Gone ne k = refl
 
 publish_bags : (c r : ℕ) (at : ℕ → Place) (p q i : ℕ) (f : Fate) → FateOk c r at f → is_ended (at p).phase ≡ false → BagsOk f q i (at q) →
-    BagsOk (cond (finds_another (at p)) (changed p f) f) q i (cond (eqb p q) (published (at q)) (at q))
+    BagsOk (cond (finds_another (at p)) (changed p f) f) q i (cond (eqb p q) (published_fields (at q)) (at q))
 publish_bags c r at p q i f fated e ok =
     let b = finds_another (at p) in
-    at_place p q (λ t. BagsOk (cond b (changed p f) f) q i (cond t (published (at q)) (at q)))
+    at_place p q (λ t. BagsOk (cond b (changed p f) f) q i (cond t (published_fields (at q)) (at q)))
     (λ is.
     let s = shift c r at p f fated e in
-    let here : (j : ℕ) → BagsOk f j i (at j) → p ≡ j → BagsOk (cond b (changed p f) f) j i (published (at j)) =
-    λ j o same. subst (λ (k : ℕ). BagsOk f k i (at k) → BagsOk (cond b (changed p f) f) k i (published (at k))) same
+    let here : (j : ℕ) → BagsOk f j i (at j) → p ≡ j → BagsOk (cond b (changed p f) f) j i (published_fields (at j)) =
+    λ j o same. subst (λ (k : ℕ). BagsOk f k i (at k) → BagsOk (cond b (changed p f) f) k i (published_fields (at k))) same
     (λ old. elim (finds_another (at p)) as (λ t. In i (is_with (cond t (changed p f) f) p 0) (is_with (cond t (changed p f) f) p 1) (is_with (cond t (changed p f) f) p 2) (cond t set.empty (at p).current) (cond t (at p).current (at p).prev) (cond t (at p).prev (at p).next)) [
       | true ↦ (set.contains-empty nat_cmp i ∙ sym s.0, old.0 ∙ sym s.1, old.1 ∙ sym s.2)
       | false ↦ old
@@ -133,7 +133,7 @@ pub or_nothing : (a b : Bool) → b ≡ false → (a || b) ≡ a
 or_nothing true b e = refl
 or_nothing false b e = e
 
-freed_none : (i : ℕ) (x : Place) → (is_ended x.phase ≡ false → InNone i x) → InNone i (freed x)
+freed_none : (i : ℕ) (x : Place) → (is_ended x.phase ≡ false → InNone i x) → InNone i (freed_fields x)
 freed_none i x none =
     elim (is_ended x.phase) as (λ t. is_ended x.phase ≡ t → In i false false false (cond t set.empty x.current) (cond t set.empty x.prev) (cond t set.empty x.next)) [
       | true ↦ λ _. (set.contains-empty nat_cmp i, set.contains-empty nat_cmp i, set.contains-empty nat_cmp i)
@@ -163,21 +163,21 @@ live_not_ended Ended e = sym e
 
 adopt_bags : (c r : ℕ) (xs : List Place) (p q i : ℕ) (f : Fate) → (get_or xs p free_place).phase ≡ Open → FateOk c r (λ j. get_or xs j free_place) f →
     ((j : ℕ) → BagsOk f j i (get_or xs j free_place)) →
-    BagsOk (taken_over p f) q i (cond (eqb p q) (taking (left xs) (freed (get_or xs q free_place))) (freed (get_or xs q free_place)))
-adopt_bags c r xs p q i Kept op fated ok = taking_none i p q (left xs) (freed (get_or xs q free_place)) (left_none xs i (λ j _. ok j)) (freed_none i (get_or xs q free_place) (λ _. ok q))
+    BagsOk (taken_over p f) q i (cond (eqb p q) (taking (left xs) (freed_fields (get_or xs q free_place))) (freed_fields (get_or xs q free_place)))
+adopt_bags c r xs p q i Kept op fated ok = taking_none i p q (left xs) (freed_fields (get_or xs q free_place)) (left_none xs i (λ j _. ok j)) (freed_none i (get_or xs q free_place) (λ _. ok q))
 adopt_bags c r xs p q i (Waits h k) op fated ok =
     let x = get_or xs q free_place in
     let not_ended : is_ended (get_or xs h free_place).phase ≡ false = live_not_ended _ fated.alive in
     let others : (j : ℕ) → is_ended (get_or xs j free_place).phase ≡ true → j ≡ h → ⊥ = λ j e. ended_apart xs h j false not_ended e in
     let none : set.contains (left xs) i ≡ false =
     left_none xs i (λ j e. let o = ok j in let ne = others j e in (o.0 ∙ not_so j h (eqb k 0) ne, o.1 ∙ not_so j h (eqb k 1) ne, o.2 ∙ not_so j h (eqb k 2) ne)) in
-    let here : BagsOk (Waits h k) q i (freed x) =
+    let here : BagsOk (Waits h k) q i (freed_fields x) =
     elim (is_ended x.phase) as (λ t. is_ended x.phase ≡ t → In i (is_with (Waits h k) q 0) (is_with (Waits h k) q 1) (is_with (Waits h k) q 2) (cond t set.empty x.current) (cond t set.empty x.prev) (cond t set.empty x.next)) [
       | true ↦ λ e. let ne = others q e in
           (set.contains-empty nat_cmp i ∙ sym (not_so q h (eqb k 0) ne), set.contains-empty nat_cmp i ∙ sym (not_so q h (eqb k 1) ne), set.contains-empty nat_cmp i ∙ sym (not_so q h (eqb k 2) ne))
       | false ↦ λ _. ok q
     ] refl in
-    at_place p q (λ t. BagsOk (Waits h k) q i (cond t (taking (left xs) (freed x)) (freed x)))
+    at_place p q (λ t. BagsOk (Waits h k) q i (cond t (taking (left xs) (freed_fields x)) (freed_fields x)))
     (λ _. (contains-both _ (left xs) i ∙ or_nothing _ _ none ∙ here.0, here.1, here.2)) (λ _. here)
 adopt_bags c r xs p q i (Left h k) op fated ok =
     let x = get_or xs q free_place in
@@ -186,12 +186,12 @@ adopt_bags c r xs p q i (Left h k) op fated ok =
     let some : set.contains (left xs) i ≡ true =
     left_some xs i h is_over (in_some i k (get_or xs h free_place).current (get_or xs h free_place).prev (get_or xs h free_place).next fated.0
     (self.0 ∙ yes h h (eqb k 0) refl, self.1 ∙ yes h h (eqb k 1) refl, self.2 ∙ yes h h (eqb k 2) refl)) in
-    let here : InNone i (freed x) =
+    let here : InNone i (freed_fields x) =
     freed_none i x (λ e. let o = ok q in let ne = ended_apart xs h q true is_over e in (o.0 ∙ not_so q h (eqb k 0) ne, o.1 ∙ not_so q h (eqb k 1) ne, o.2 ∙ not_so q h (eqb k 2) ne)) in
-    at_place p q (λ t. BagsOk (Waits p 0) q i (cond t (taking (left xs) (freed x)) (freed x)))
+    at_place p q (λ t. BagsOk (Waits p 0) q i (cond t (taking (left xs) (freed_fields x)) (freed_fields x)))
     (λ is. (contains-both _ (left xs) i ∙ or_right _ _ some ∙ sym (yes q p true (sym is)), here.1 ∙ sym (yes q p false (sym is)), here.2 ∙ sym (yes q p false (sym is))))
     (λ ne. let far : q ≡ p → ⊥ = λ e. ne (sym e) in (here.0 ∙ sym (not_so q p true far), here.1 ∙ sym (not_so q p false far), here.2 ∙ sym (not_so q p false far)))
-adopt_bags c r xs p q i Gone op fated ok = taking_none i p q (left xs) (freed (get_or xs q free_place)) (left_none xs i (λ j _. ok j)) (freed_none i (get_or xs q free_place) (λ _. ok q))
+adopt_bags c r xs p q i Gone op fated ok = taking_none i p q (left xs) (freed_fields (get_or xs q free_place)) (left_none xs i (λ j _. ok j)) (freed_none i (get_or xs q free_place) (λ _. ok q))
 
 kept_from_flag : (f : Fate) → was_retired f ≡ false → f ≡ Kept
 kept_from_flag Kept e = refl
@@ -219,7 +219,7 @@ bags_step size h (Register p) i g can o q =
 bags_step size h (Read p) i g can o q = let x = place_at (state size h) q in bags_with p q i (fate size i h) x (reading (count_at size h) x) (o.bags q) (o.bags q)
 bags_step size h (Publish p) i g can o q =
     let s = state size h in let f = fate size i h in
-    subst (λ (b : Bool). BagsOk (cond b (changed p f) f) q i (cond (eqb p q) (published (place_at s q)) (place_at s q))) (sym (change_is size h p g can))
+    subst (λ (b : Bool). BagsOk (cond b (changed p f) f) q i (cond (eqb p q) (published_fields (place_at s q)) (place_at s q))) (sym (change_is size h p g can))
     (publish_bags (count_at size h) (retired_at size i h) (place_at s) p q i f o.fated (ap is_ended (reading_is _ can).1) (o.bags q))
 bags_step size h (Retire p j) i g can o q =
     let s = state size h in

@@ -157,7 +157,7 @@ places_freed (x ∷ xs) (t ∷ ts) =
     let rest = places_freed xs ts in
     let first : place_of (freed_post x) (cond (is_ended x.phase) no_items t) ≡ freed (place_of x t) =
     elim (is_ended x.phase) as (λ e. place_of (record { phase = cond e Free x.phase; found = x.found }) (cond e no_items t)
-    ≡ record { phase = cond e Free x.phase; found = x.found; current = cond e set.empty t.current; prev = cond e set.empty t.prev; next = cond e set.empty t.next }) [ true ↦ refl | false ↦ refl ] in
+    ≡ cond e (record free_place { found = x.found }) (place_of x t)) [ true ↦ refl | false ↦ refl ] in
     cc
 
 left_seen : (xs : List Post) (ts : List Trio) → left (places_of xs ts) ≡ left_in xs ts
@@ -173,8 +173,9 @@ post_freed (x ∷ xs) (suc p) = post_freed xs p
 taken_here : (y : Post) (t : Trio) (l : Items) → is_ended y.phase ≡ false →
     place_of (freed_post y) (record { current = set.union t.current l; prev = t.prev; next = t.next }) ≡ taking l (freed (place_of y t))
 taken_here y t l e =
-    let P : Bool → Type 0 = λ b. place_of (record { phase = cond b Free y.phase; found = y.found }) (record { current = set.union t.current l; prev = t.prev; next = t.next })
-    ≡ taking l (record { phase = cond b Free y.phase; found = y.found; current = cond b set.empty t.current; prev = cond b set.empty t.prev; next = cond b set.empty t.next }) in
+    let taken : Trio = record { current = set.union t.current l; prev = t.prev; next = t.next } in
+    let P : Bool → Type 0 = λ b. place_of (record { phase = cond b Free y.phase; found = y.found }) taken
+    ≡ taking l (cond b (record free_place { found = y.found }) (place_of y t)) in
     subst P (sym e) refl
 
 pub with_adopted : (v : State) (c : ℕ) (xs : List Post) (ts : List Trio) (rs : List Bool) (x : Option Scan) (p : ℕ) → seen c xs ts rs x ≡ v → length ts ≡ length xs → is_open (place_at v p).phase ≡ true →
@@ -197,8 +198,8 @@ with_adopted v c xs ts rs x p e same op =
 
 as_published : (x : Place) (c : ℕ) → c ≡ read_of x.phase → finds_another x ≡ true → rotated (posted Open c x) ≡ published x
 as_published x c e moves =
-    let P : Bool → Type 0 = λ b. rotated (posted Open c x) ≡ record { phase = Open; found = c; current = cond b set.empty x.current; prev = cond b x.current x.prev; next = cond b x.prev x.next } in
-    subst P (sym moves) refl ∙ ap (λ (k : ℕ). record (published x) { found = k }) e
+    let P : Bool → Type 0 = λ b. rotated (posted Open c x) ≡ posted Open c (cond b (rotated x) x) in
+    subst P (sym moves) refl ∙ ap (λ (k : ℕ). posted Open k (cond (finds_another x) (rotated x) x)) e
 
 pub with_published : (v : State) (p c f : ℕ) → is_reading (place_at v p).phase ≡ true → c ≡ read_of (place_at v p).phase → f ≡ (place_at v p).found → (c ≡ f → ⊥) →
     with_place (with_place v p (posted Open c)) p rotated ≡ with_place v p published

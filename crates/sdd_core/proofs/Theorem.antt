@@ -16,17 +16,18 @@ use Rattle.sdd_core.specs.History.{is_change, fate, changed, taken_over, Fate, K
 use Rattle.sdd_core.specs.History as history
 use Rattle.sdd_core.proofs.Guards.{count_step}
 use Rattle.sdd_core.proofs.Counts.{since, PhaseOk, good}
-use Rattle.sdd_core.proofs.Fates.{WaitOk, FateOk, In, is_with, BagsOk, was_retired, retired_at, change_is}
+use Rattle.sdd_core.proofs.Fates.{WaitOk, FateOk, In, is_with, BagsOk, was_retired, retired_at, read_is, change_is}
 use Rattle.std.specs.Prelude.{◌↔◌}
-use Rattle.sdd_core.specs.Table.{taken_out}
-use Rattle.sdd_core.specs.History.{Reclaims, IsDue, WasDue, Safe, Exact, IsWith, IsReclaimed, IsHolder, IsOpenGuard}
+use Rattle.sdd_core.specs.Table.{taken_out, did, did_possible}
+use Rattle.sdd_core.specs.declared.machine.steps.Did.{Did}
+use Rattle.sdd_core.specs.declared.machine.steps.Did.TheVariants.{NotPossible, Opened}
+use Rattle.sdd_core.specs.History.{Reclaims, IsDue, WasDue, Safe, Tells, Exact, IsWith, IsReclaimed, IsHolder, IsOpenGuard}
 use Rattle.std.proofs.Common.{◌%◌, take}
 use Rattle.std.proofs.lemmas.List.{take_more}
 use Rattle.sdd_core.specs.Table.{happens}
 use Rattle.sdd_core.specs.History.{goes_on, history as history_of}
 use Rattle.sdd_core.specs.Epoch.{epoch_after, same_generation}
 use Rattle.sdd_core.specs.Laws.{WaitsWithOneHolder, IsRaisedAtMostOnce, KeepsGenerations, AtEachMoment}
-use Rattle.sdd_core.specs.Sizes.{size_for}
 use Rattle.sdd_core.proofs.Guards.{count_grows, earlier, raised_once}
 use Rattle.sdd_core.proofs.InBags.{item}
 
@@ -50,8 +51,8 @@ due_of_taken : (b : Bool) (i : ℕ) (xs : Items) → set.contains (cond b xs set
 due_of_taken true i xs e = (refl, e)
 due_of_taken false i xs e = absurd (nothing i e)
 
-told_exactly : (size : Size) (i p : ℕ) (h : List Step) → IsHistory size (Publish p ∷ h) → (set.contains (taken_out (place_at (state size h) p)) i ≡ true) ↔ IsDue size i (Publish p ∷ h)
-told_exactly size i p h is =
+taken_exactly : (size : Size) (i p : ℕ) (h : List Step) → IsHistory size (Publish p ∷ h) → (set.contains (taken_out (place_at (state size h) p)) i ≡ true) ↔ IsDue size i (Publish p ∷ h)
+taken_exactly size i p h is =
     let s = state size h in let x = place_at s p in
     let g = good size h is.1 in let o = item size h is.1 i in
     let same = change_is size h p g is.0 in (
@@ -61,6 +62,20 @@ told_exactly size i p h is =
           ap (λ (b : Bool). set.contains (cond b x.next set.empty) i) (sym same ∙ d.0)
           ∙ ((o.bags p).2 ∙ (ap (λ (k : Fate). is_with k p 2) f ∙ (ap (λ (t : Bool). t && true) (eq-eqb p p refl)))),
     )
+
+tells : (size : Size) (p : ℕ) (h : List Step) → IsHistory size (Publish p ∷ h) → Tells size p h
+tells size p h is =
+    let s = state size h in
+    let x = place_at s p in
+    let g = good size h is.1 in
+    let number = set.len (taken_out x) in
+    record {
+      due = taken_out x;
+      each = λ i. taken_exactly size i p h is;
+      answer = ap (λ (b : Bool). cond b (did_possible s (Publish p)) NotPossible) is.0
+          ∙ (ap (λ (k : ℕ). Opened k (finds_another x) number) (read_is size h p g is.0)
+          ∙ ap (λ (b : Bool). Opened (last_read size p h) b number) (sym (change_is size h p g is.0)));
+    }
 
 -- after its due publish an item is gone
 gone_when_due : (size : Size) (i : ℕ) (h : List Step) → IsDue size i h → fate size i h ≡ Gone
@@ -251,9 +266,7 @@ exactly size i (step ∷ h) is = (
 pub exact : (size : Size) (h : List Step) → IsHistory size h → Exact size h
 exact size h is = record {
   due = λ i. exactly size i h is;
-  told = λ p i before eq.
-      let t = told_exactly size i p before (subst (λ (k : List Step). IsHistory size k) eq is) in
-      (λ e. subst (λ (k : List Step). IsDue size i k) (sym eq) (t.0 e), λ d. t.1 (subst (λ (k : List Step). IsDue size i k) eq d));
+  told = λ p before eq. tells size p before (subst (λ (k : List Step). IsHistory size k) eq is);
   once = λ i newest recent before eq first second.
       let all : IsHistory size (newest ∷ (recent ++ before)) = subst (λ (k : List Step). IsHistory size k) eq is in
       let d : IsDue size i before = (exactly size i before (earlier size recent before all.1)).0 first in
@@ -262,8 +275,9 @@ exact size h is = record {
 }
 
 -- while a guard is open the count is raised at most once
-pub raised_at_most_once : (size : Size) (h : List Step) → IsHistory size h → IsRaisedAtMostOnce size h
-raised_at_most_once size h is guard published o =
+at_most_next : (size : Size) (h : List Step) → IsHistory size h → (guard : ℕ) (published : List Step) → IsOpenGuard guard published h →
+    count_at size h ≤ count_at size published + 1
+at_most_next size h is guard published o =
     let whole : h ≡ o.inside ++ Publish guard ∷ o.before = o.follows ∙ ap (λ (k : List Step). o.inside ++ k) o.publish in
     let once : count_at size (o.inside ++ Publish guard ∷ o.before) ≤ count_at size o.before + 1 =
     raised_once size guard o.inside o.before (subst (λ (k : List Step). IsHistory size k) whole is) o.unclosed in
@@ -274,13 +288,20 @@ raised_at_most_once size h is guard published o =
 under : (size : Size) (h : List Step) (guard : ℕ) (published : List Step) → IsOpenGuard guard published h → count_at size published ≤ count_at size h
 under size h guard published o = subst (λ (k : List Step). count_at size published ≤ count_at size k) (sym o.follows) (count_grows size o.inside published)
 
+between : (a b : ℕ) → a ≤ b → b ≤ a + 1 → (b ≡ a) ⊎ (b ≡ a + 1)
+between a b low high = ⊎_elim (λ e. inl e) (λ ne. inr (omega arith)) (cases_eq b a)
+
+pub raised_at_most_once : (size : Size) (h : List Step) → IsHistory size h → IsRaisedAtMostOnce size h
+raised_at_most_once size h is guard published o =
+    between (count_at size published) (count_at size h) (under size h guard published o) (at_most_next size h is guard published o)
+
 pub safe : (size : Size) (h : List Step) → IsHistory size h → Safe size h
 safe size h is i p [] retirement eq taken guard published then_open now_open = subst (λ (k : List Step). IsDue size i k) eq ((exactly size i h is).0 taken)
 safe size h is i p (newest ∷ recent) retirement eq taken guard published then_open now_open =
     let h₀ = recent ++ Retire p i ∷ retirement in
     let all : IsHistory size (newest ∷ h₀) = subst (λ (k : List Step). IsHistory size k) eq is in
     let d : IsDue size i (newest ∷ h₀) = subst (λ (k : List Step). IsDue size i k) eq ((exactly size i h is).0 taken) in
-    let high : count_at size h ≤ count_at size published + 1 = raised_at_most_once size h is guard published now_open in
+    let high : count_at size h ≤ count_at size published + 1 = at_most_next size h is guard published now_open in
     let last : count_at size h₀ ≤ count_at size h = subst (λ (k : List Step). count_at size h₀ ≤ count_at size k) (sym eq) (count_step size h₀ newest) in
     let low : count_at size published ≤ count_at size retirement = under size retirement guard published then_open in
     let start : count_at size retirement ≤ retired_at size i h₀ = retired_after size i p recent retirement in
@@ -326,7 +347,12 @@ waits_with_one size h is = record {
       );
   some = λ i retired not_reclaimed.
       has_holder (fate size i h) (sym (item size h is i).flag ∙ retired) (λ gone. not_reclaimed ((reclaimed_is size i h is).1 gone));
-  one = λ i p q a b. one_holder (fate size i h) p q a b;
+  one = λ i p q a b.
+      let s = state size h in
+      let f = fate size i h in
+      let o = item size h is i in
+      let holds : (r : ℕ) → IsWith s r i → IsHolder r f = λ r w. let bag = in_bag f r i (place_at s r) (o.bags r) w in held f r bag.0 bag.1 in
+      one_holder f p q (holds p a) (holds q b);
 }
 
 one_later : (a : ℕ) → (a + 1) % 64 ≡ epoch_after (a % 64)
@@ -346,12 +372,13 @@ near a b low high =
     (cases_eq b a)
 
 pub generations : (size : Size) (h : List Step) → IsHistory size h → KeepsGenerations size h
-generations size h is own p i published seen later retirement own_seen is_seen own_then at_r other guard begun guard_then guard_now =
-    let is_r : IsHistory size retirement = (earlier size later (Retire p i ∷ retirement) (subst (λ (k : List Step). IsHistory size k) at_r is)).1 in
-    let high : count_at size h ≤ count_at size begun + 1 = raised_at_most_once size h is guard begun guard_now in
+generations size h is seen retirement own is_seen at_r other guard begun guard_then guard_now =
+    let all : IsHistory size (at_r.later ++ Retire at_r.place at_r.item ∷ retirement) = subst (λ (k : List Step). IsHistory size k) at_r.follows is in
+    let is_r : IsHistory size retirement = (earlier size at_r.later (Retire at_r.place at_r.item ∷ retirement) all).1 in
+    let high : count_at size h ≤ count_at size begun + 1 = at_most_next size h is guard begun guard_now in
     let from : count_at size begun ≤ count_at size retirement = under size retirement guard begun guard_then in
-    let r : count_at size retirement ≤ count_at size published + 1 = raised_at_most_once size retirement is_r own published own_then in
-    let low : count_at size published ≤ count_at size seen = under size seen own published own_seen in
+    let r : count_at size retirement ≤ count_at size own.published + 1 = at_most_next size retirement is_r own.guard own.published own.open_at_other in
+    let low : count_at size own.published ≤ count_at size seen = under size seen own.guard own.published own.open_at_one in
     let on : count_at size seen ≤ count_at size h = subst (λ (k : List Step). count_at size seen ≤ count_at size k) (sym is_seen.1) (count_grows size is_seen.0 seen) in
     true≢false (sym (near (count_at size seen) (count_at size h) on (omega arith)) ∙ other)
 
@@ -382,4 +409,4 @@ taken_more size steps i d x s l e is =
 
 -- what every history keeps holds after each beginning of a list
 pub at_each : (Fact : Size → List Step → Type 0) → ((size : Size) (h : List Step) → IsHistory size h → Fact size h) → (steps : List Step) → AtEachMoment steps Fact
-at_each Fact all steps front rest e = all (size_for steps) (history_of (size_for steps) front) (goes_on_is (size_for steps) [] front tt)
+at_each Fact all steps size front rest e = all size (history_of size front) (goes_on_is size [] front tt)

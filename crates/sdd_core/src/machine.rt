@@ -65,7 +65,7 @@ impl Model for Machine {
 }
 
 impl Machine {
-    ghost use Rattle.sdd_core.specs.Table.{State, new_state, place_at, with_place, phased, posted, rotated, are_limits, size_of, possible, after, did, did_possible, happens, holds, adopts, looks, advances, passes};
+    ghost use Rattle.sdd_core.specs.Table.{State, new_state, place_at, with_place, phased, posted, rotated, greatest_size, are_limits, size_of, possible, after, did, did_possible, happens, holds, adopts, looks, advances, passes};
     ghost use Rattle.sdd_core.specs.Views.{IsHeld};
     ghost use Rattle.std.specs.FinSet as set;
 
@@ -78,6 +78,7 @@ impl Machine {
         // Both ways: limits out of range are refused as such, and other ones only for want of memory.
         ensures bad_limits { (result ≡ Err Refused.BadLimits) ↔ (are_limits (size_of places items) ≡ false) }
         ensures no_memory { IsTrue (are_limits (size_of places items)) → IsOkUnless result Refused.NoMemory }
+        ensures greatest { size_of MAX_PLACES MAX_ITEMS ≡ greatest_size }
     {
         if places < 1 || MAX_PLACES < places || items < 1 || MAX_ITEMS < items {
             return Err(Refused::BadLimits);
