@@ -41,7 +41,8 @@ pub record GoodOf (c : ℕ) (b r l : ℕ → ℕ) (at : ℕ → Place) (scan : O
   pub scanned : ScanOk b at scan
 
 abbrev pub Good : Size → List Step → Type 0
-Good size h = GoodOf (count_at size h) (λ q. since size q h) (λ q. last_read size q h) (λ q. last_published size q h) (λ q. place_at (state size h) q) (state size h).scan
+Good size h =
+    GoodOf (count_at size h) (λ q. since size q h) (λ q. last_read size q h) (λ q. last_published size q h) (λ q. place_at (state size h) q) (state size h).scan
 
 -- one place changed, that isn't the holder's
 scan_other : (b b' : ℕ → ℕ) (at : ℕ → Place) (x : Scan) (p : ℕ) (f : Place → Place) → IsScan b at x → (p ≡ x.holder → ⊥) →
@@ -135,7 +136,8 @@ places_step size h (Publish p) g can q =
     let s = state size h in let x = place_at s q in let c = count_at size h in
     at_place p q (λ t. PhaseOk c (cond t c (since size q h)) (last_read size q h) (cond t (published_fields x) x).phase (cond t (published_fields x) x).found)
     (λ e. let r = reading_is _ can in
-    let ok : (r.0 ≡ last_read size q h) × (x.found ≤ r.0) × (r.0 ≤ c) = at_q (λ (ph : Phase). PhaseOk c (since size q h) (last_read size q h) ph x.found) (place_at s) p q (Reading r.0) e r.1 (g.places q) in
+    let ok : (r.0 ≡ last_read size q h) × (x.found ≤ r.0) × (r.0 ≤ c) =
+    at_q (λ (ph : Phase). PhaseOk c (since size q h) (last_read size q h) ph x.found) (place_at s) p q (Reading r.0) e r.1 (g.places q) in
     let is : read_of x.phase ≡ r.0 = ap read_of (subst (λ (j : ℕ). (place_at s j).phase ≡ Reading r.0) e r.1) in
     (omega arith, omega arith, omega arith))
     (λ _. g.places q)
@@ -182,7 +184,8 @@ found_step size h (Publish p) g can q =
     let s = state size h in let x = place_at s q in let c = count_at size h in
     at_place p q (λ t. (cond t (published_fields x) x).found ≡ cond t (last_read size q h) (last_published size q h))
     (λ e. let r = reading_is _ can in
-    let ok : (r.0 ≡ last_read size q h) × (x.found ≤ r.0) × (r.0 ≤ c) = at_q (λ (ph : Phase). PhaseOk c (since size q h) (last_read size q h) ph x.found) (place_at s) p q (Reading r.0) e r.1 (g.places q) in
+    let ok : (r.0 ≡ last_read size q h) × (x.found ≤ r.0) × (r.0 ≤ c) =
+    at_q (λ (ph : Phase). PhaseOk c (since size q h) (last_read size q h) ph x.found) (place_at s) p q (Reading r.0) e r.1 (g.places q) in
     ap read_of (subst (λ (j : ℕ). (place_at s j).phase ≡ Reading r.0) e r.1) ∙ ok.0)
     (λ _. g.found q)
 found_step size h (Retire p i) g can q =
@@ -203,7 +206,8 @@ found_step size h (End p) g can q =
     at_place p q (λ t. (cond t (ended x) x).found ≡ last_published size q h) (λ _. g.found q) (λ _. g.found q)
 
 -- the holder is open, so it is no place in another phase
-pub not_holder : (b : ℕ → ℕ) (at : ℕ → Place) (p : ℕ) (test : Phase → Bool) → test (at p).phase ≡ true → test Open ≡ false → (x : Scan) → IsScan b at x → p ≡ x.holder → ⊥
+pub not_holder : (b : ℕ → ℕ) (at : ℕ → Place) (p : ℕ) (test : Phase → Bool) → test (at p).phase ≡ true → test Open ≡ false → (x : Scan) →
+    IsScan b at x → p ≡ x.holder → ⊥
 not_holder b at p test is not_open x i e =
     true≢false (sym is ∙ (ap (λ (k : ℕ). test (at k).phase) e ∙ (ap test i.opened ∙ not_open)))
 
@@ -234,7 +238,8 @@ below_skip p a q lt ne =
 none_before : (p q : ℕ) → q < skip p 0 → (q ≡ p → ⊥) → ⊥
 none_before p q lt ne = at_place 0 p (λ t. q < cond t (0 + 1) 0 → ⊥) (λ e l. ne (omega arith)) (λ _ l. omega arith) lt
 
-looks_ok : (b : ℕ → ℕ) (s : State) (x : Scan) → ((q : ℕ) → (place_at s q).phase ≡ Open → (place_at s q).found ≤ b q) → IsScan b (place_at s) x → x.failed ≡ false → IsScan b (place_at s) (looked s x)
+looks_ok : (b : ℕ → ℕ) (s : State) (x : Scan) → ((q : ℕ) → (place_at s q).phase ≡ Open → (place_at s q).found ≤ b q) → IsScan b (place_at s) x →
+    x.failed ≡ false → IsScan b (place_at s) (looked s x)
 looks_ok b s x ok i unfailed = record {
   opened = i.opened;
   passed = λ pass q lt other op.
@@ -247,7 +252,8 @@ looks_ok b s x ok i unfailed = record {
       (below_skip x.holder x.cursor q lt other);
 }
 
-look_ok : (b : ℕ → ℕ) (s : State) (o : Option Scan) (n p : ℕ) → ((q : ℕ) → (place_at s q).phase ≡ Open → (place_at s q).found ≤ b q) → ScanOk b (place_at s) o → looks n p o ≡ true → ScanOk b (place_at s) (scan_looked s o)
+look_ok : (b : ℕ → ℕ) (s : State) (o : Option Scan) (n p : ℕ) → ((q : ℕ) → (place_at s q).phase ≡ Open → (place_at s q).found ≤ b q) →
+    ScanOk b (place_at s) o → looks n p o ≡ true → ScanOk b (place_at s) (scan_looked s o)
 look_ok b s None n p ok i can = tt
 look_ok b s (Some x) n p ok i can = looks_ok b s x ok i (not-true _ (and_parts _ _ (and_parts (x.holder == p && not x.failed) (ltb x.cursor n) can).0).1)
 
@@ -305,7 +311,8 @@ scan_step size h (End p) g can =
     scan_other_ok b b (place_at s) s.scan p ended g.scanned
     (λ x _. not_holder b (place_at s) p is_closed can refl x) (λ x i o. cc) (λ q _. refl)
 
-adopt_in_range : (size : Size) (h : List Step) (step : Step) → Good size h → possible (state size h) step ≡ true → (p : ℕ) → step ≡ Adopt p → p < length (state size h).places
+adopt_in_range : (size : Size) (h : List Step) (step : Step) → Good size h → possible (state size h) step ≡ true → (p : ℕ) → step ≡ Adopt p →
+    p < length (state size h).places
 adopt_in_range size h step g can p is =
     let s = state size h in
     let may : possible s (Adopt p) ≡ true = subst (λ (x : Step). possible s x ≡ true) is can in

@@ -79,7 +79,8 @@ Item size h i = ItemOf (count_at size h) (retired_at size i h) (λ q. place_at (
 pub contains-put : (s : Items) (j i : ℕ) → set.contains (set.insert s j) i ≡ (eqb i j || set.contains s i)
 contains-put s j i = set.contains-insert nat_cmp_total s j i ∙ ap (λ (b : Bool). b || set.contains s i) (unsigned_tied i j)
 
-left_with : (at : ℕ → Place) (p : ℕ) (g : Place → Place) (q : ℕ) → is_ended (at p).phase ≡ false → (at q).phase ≡ Ended → (cond (eqb p q) (g (at q)) (at q)).phase ≡ Ended
+left_with : (at : ℕ → Place) (p : ℕ) (g : Place → Place) (q : ℕ) → is_ended (at p).phase ≡ false → (at q).phase ≡ Ended →
+    (cond (eqb p q) (g (at q)) (at q)).phase ≡ Ended
 left_with at p g q e is =
     at_place p q (λ t. (cond t (g (at q)) (at q)).phase ≡ Ended)
     (λ same. absurd (true≢false (sym (ap is_ended is) ∙ (sym (ap (λ (j : ℕ). is_ended (at j).phase) same) ∙ e))))
@@ -100,7 +101,8 @@ fate_with c r at p g Gone ok e w = tt
 -- the same fate under another count
 fate_later : (c d r : ℕ) (at : ℕ → Place) (f : Fate) → c ≤ d → FateOk c r at f → FateOk d r at f
 fate_later c d r at Kept le ok = tt
-fate_later c d r at (Waits q k) le ok = record { young = ok.young; before = (let b : r ≤ c = ok.before in omega arith); alive = ok.alive; aged = ok.aged; unread = ok.unread }
+fate_later c d r at (Waits q k) le ok =
+    record { young = ok.young; before = (let b : r ≤ c = ok.before in omega arith); alive = ok.alive; aged = ok.aged; unread = ok.unread }
 fate_later c d r at (Left q k) le ok = (ok.0, (let b : r ≤ c = ok.1 in omega arith), ok.2)
 fate_later c d r at Gone le ok = tt
 
@@ -213,7 +215,8 @@ fate_step size h (Publish p) i g can o =
     let s = state size h in let c = count_at size h in let r = retired_at size i h in let f = fate size i h in
     let x = place_at s p in
     let d = reading_is _ can in
-    let ok : (d.0 ≡ last_read size p h) × (x.found ≤ d.0) × (d.0 ≤ c) = subst (λ (ph : Phase). PhaseOk c (since size p h) (last_read size p h) ph x.found) d.1 (g.places p) in
+    let ok : (d.0 ≡ last_read size p h) × (x.found ≤ d.0) × (d.0 ≤ c) =
+    subst (λ (ph : Phase). PhaseOk c (since size p h) (last_read size p h) ph x.found) d.1 (g.places p) in
     subst (λ (b : Bool). FateOk c r (λ q. cond (eqb p q) (published_fields (place_at s q)) (place_at s q)) (cond b (changed p f) f)) (sym (change_is size h p g can))
     (publish_fate c r (place_at s) p d.0 f d.1 ok.1 o.fated)
 fate_step size h (Retire p j) i g can o =

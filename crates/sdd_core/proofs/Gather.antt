@@ -29,7 +29,8 @@ pub record Gathers (p : ℕ) (xs : List Post) (b c : Bagged) (q : ℕ) : Type 0 
   pub others : (j : ℕ) → (j ≡ p → ⊥) → get_or c.trios j no_items ≡ cond (ltb j q && is_ended (get_or xs j free_post).phase) no_items (get_or b.trios j no_items)
   pub prev : (get_or c.trios p no_items).prev ≡ (get_or b.trios p no_items).prev
   pub next : (get_or c.trios p no_items).next ≡ (get_or b.trios p no_items).next
-  pub current : (i : ℕ) → set.contains (get_or c.trios p no_items).current i ≡ (set.contains (get_or b.trios p no_items).current i || set.contains (left_in (take q xs) b.trios) i)
+  pub current : (i : ℕ) →
+      set.contains (get_or c.trios p no_items).current i ≡ (set.contains (get_or b.trios p no_items).current i || set.contains (left_in (take q xs) b.trios) i)
 
 or_assoc : (x y z : Bool) → (x || (y || z)) ≡ ((x || y) || z)
 or_assoc true y z = refl
@@ -70,14 +71,16 @@ gathers_none p xs b = record {
 }
 
 -- whether j is below q + 1 and ended, where q is not ended
-below_more_no : (xs : List Post) (j q : ℕ) → is_ended (get_or xs q free_post).phase ≡ false → (ltb j (q + 1) && is_ended (get_or xs j free_post).phase) ≡ (ltb j q && is_ended (get_or xs j free_post).phase)
+below_more_no : (xs : List Post) (j q : ℕ) → is_ended (get_or xs q free_post).phase ≡ false →
+    (ltb j (q + 1) && is_ended (get_or xs j free_post).phase) ≡ (ltb j q && is_ended (get_or xs j free_post).phase)
 below_more_no xs j q e =
     ⊎_elim
     (λ same. let k : is_ended (get_or xs j free_post).phase ≡ false = subst (λ (r : ℕ). is_ended (get_or xs r free_post).phase ≡ false) (sym same) e in and_right _ _ k ∙ sym (and_right _ _ k))
     (λ ne. ap (λ (t : Bool). t && is_ended (get_or xs j free_post).phase) (⊎_elim (λ l. lt-ltb j (q + 1) (omega arith) ∙ sym (lt-ltb j q l)) (λ g. le-ltb j (q + 1) (omega arith) ∙ sym (le-ltb j q g)) (cases_lt j q)))
     (cases_eq j q)
 
-pub gathers_skip : (p : ℕ) (xs : List Post) (b c : Bagged) (q : ℕ) → Gathers p xs b c q → q < length xs → length b.trios ≡ length xs → is_ended (get_or xs q free_post).phase ≡ false → Gathers p xs b c (q + 1)
+pub gathers_skip : (p : ℕ) (xs : List Post) (b c : Bagged) (q : ℕ) → Gathers p xs b c q → q < length xs → length b.trios ≡ length xs →
+    is_ended (get_or xs q free_post).phase ≡ false → Gathers p xs b c (q + 1)
 gathers_skip p xs b c q g l same e = record {
   items = g.items;
   size = g.size;
@@ -88,7 +91,8 @@ gathers_skip p xs b c q g l same e = record {
       (sym (left_in-more xs b.trios q i l same ∙ (ap (λ (t : Bool). set.contains (left_in (take q xs) b.trios) i || (t && set.contains (all_of (get_or b.trios q no_items)) i)) e ∙ or_nothing _ _ refl)));
 }
 
-pub gathers_join : (p : ℕ) (xs : List Post) (b c : Bagged) (q : ℕ) → Gathers p xs b c q → q < length xs → p < length xs → length b.trios ≡ length xs → is_ended (get_or xs q free_post).phase ≡ true → (p ≡ q → ⊥) →
+pub gathers_join : (p : ℕ) (xs : List Post) (b c : Bagged) (q : ℕ) → Gathers p xs b c q → q < length xs → p < length xs →
+    length b.trios ≡ length xs → is_ended (get_or xs q free_post).phase ≡ true → (p ≡ q → ⊥) →
     Gathers p xs b (record c { trios = joined p q c.trios }) (q + 1)
 gathers_join p xs b c q g l lp same e ne =
     let t = get_or c.trios p no_items in
@@ -97,7 +101,8 @@ gathers_join p xs b c q g l lp same e ne =
     let inside : p < length (set c.trios q no_items) = (let a = length-set c.trios q no_items in let d = g.size in omega arith) in
     let within : q < length c.trios = (let d = g.size in omega arith) in
     let own : get_or (joined p q c.trios) p no_items ≡ v = get_or-set_same (set c.trios q no_items) p v no_items inside in
-    let was : u ≡ get_or b.trios q no_items = g.others q (λ s. ne (sym s)) ∙ ap (λ (k : Bool). cond (k && is_ended (get_or xs q free_post).phase) no_items (get_or b.trios q no_items)) (le-ltb q q (omega arith)) in
+    let was : u ≡ get_or b.trios q no_items =
+    g.others q (λ s. ne (sym s)) ∙ ap (λ (k : Bool). cond (k && is_ended (get_or xs q free_post).phase) no_items (get_or b.trios q no_items)) (le-ltb q q (omega arith)) in
     record {
       items = g.items;
       size = length-set (set c.trios q no_items) p v ∙ (length-set c.trios q no_items ∙ g.size);
@@ -129,14 +134,16 @@ length-emptied [] (t ∷ ts) e = absurd (omega arith)
 length-emptied (x ∷ xs) [] e = refl
 length-emptied (x ∷ xs) (t ∷ ts) e = ap suc (length-emptied xs ts (omega arith))
 
-at-emptied : (xs : List Post) (ts : List Trio) (j : ℕ) → length ts ≡ length xs → get_or (emptied xs ts) j no_items ≡ cond (is_ended (get_or xs j free_post).phase) no_items (get_or ts j no_items)
+at-emptied : (xs : List Post) (ts : List Trio) (j : ℕ) → length ts ≡ length xs →
+    get_or (emptied xs ts) j no_items ≡ cond (is_ended (get_or xs j free_post).phase) no_items (get_or ts j no_items)
 at-emptied [] [] j e = refl
 at-emptied [] (t ∷ ts) j e = absurd (omega arith)
 at-emptied (x ∷ xs) [] j e = absurd (omega arith)
 at-emptied (x ∷ xs) (t ∷ ts) zero e = refl
 at-emptied (x ∷ xs) (t ∷ ts) (suc j) e = at-emptied xs ts j (omega arith)
 
-pub gathers_all : (p : ℕ) (xs : List Post) (b c : Bagged) (q : ℕ) → Gathers p xs b c q → q ≡ length xs → p < length xs → length b.trios ≡ length xs → c ≡ record b { trios = gathered p xs b.trios }
+pub gathers_all : (p : ℕ) (xs : List Post) (b c : Bagged) (q : ℕ) → Gathers p xs b c q → q ≡ length xs → p < length xs →
+    length b.trios ≡ length xs → c ≡ record b { trios = gathered p xs b.trios }
 gathers_all p xs b c q g is l same =
     let t = get_or b.trios p no_items in
     let v : Trio = record { current = set.union t.current (left_in xs b.trios); prev = t.prev; next = t.next } in
@@ -160,7 +167,8 @@ left_has : (xs : List Post) (ts : List Trio) (i : ℕ) → set.contains (left_in
 left_has [] ts i e = absurd (false≢true (sym (set.contains-empty nat_cmp i) ∙ e))
 left_has (x ∷ xs) [] i e = absurd (false≢true (sym (set.contains-empty nat_cmp i) ∙ e))
 left_has (x ∷ xs) (t ∷ ts) i e =
-    let rest : set.contains (left_in xs ts) i ≡ true → (q : ℕ) × (has (get_or (t ∷ ts) q no_items) i ≡ true) = λ a. let r = left_has xs ts i a in (suc r.0, r.1) in
+    let rest : set.contains (left_in xs ts) i ≡ true → (q : ℕ) × (has (get_or (t ∷ ts) q no_items) i ≡ true) =
+    λ a. let r = left_has xs ts i a in (suc r.0, r.1) in
     elim (is_ended x.phase) as (λ b. set.contains (cond b (set.union (all_of t) (left_in xs ts)) (left_in xs ts)) i ≡ true → (q : ℕ) × (has (get_or (t ∷ ts) q no_items) i ≡ true)) [
       | true ↦ λ a. ⊎_elim
           (λ own. (
@@ -182,14 +190,16 @@ none_has i e =
     (or_cases (set.contains (set.empty {R = nat_cmp}) i || set.contains (set.empty {R = nat_cmp}) i) (set.contains (set.empty {R = nat_cmp}) i) e)
 
 -- what is in a bag after an adopt was in one before
-gathered_has : (p : ℕ) (xs : List Post) (ts : List Trio) (q i : ℕ) → length ts ≡ length xs → p < length xs → has (get_or (gathered p xs ts) q no_items) i ≡ true → (j : ℕ) × (has (get_or ts j no_items) i ≡ true)
+gathered_has : (p : ℕ) (xs : List Post) (ts : List Trio) (q i : ℕ) → length ts ≡ length xs → p < length xs →
+    has (get_or (gathered p xs ts) q no_items) i ≡ true → (j : ℕ) × (has (get_or ts j no_items) i ≡ true)
 gathered_has p xs ts q i same l e =
     let t = get_or ts p no_items in
     let v : Trio = record { current = set.union t.current (left_in xs ts); prev = t.prev; next = t.next } in
     let size : length (emptied xs ts) ≡ length ts = length-emptied xs ts same in
     at_place p q (λ _. has (get_or (gathered p xs ts) q no_items) i ≡ true → (j : ℕ) × (has (get_or ts j no_items) i ≡ true))
     (λ s h.
-    let k : has v i ≡ true = subst (λ (r : Trio). has r i ≡ true) (subst (λ (r : ℕ). get_or (gathered p xs ts) r no_items ≡ v) s (get_or-set_same (emptied xs ts) p v no_items (omega arith))) h in
+    let k : has v i ≡ true =
+    subst (λ (r : Trio). has r i ≡ true) (subst (λ (r : ℕ). get_or (gathered p xs ts) r no_items ≡ v) s (get_or-set_same (emptied xs ts) p v no_items (omega arith))) h in
     ⊎_elim
     (λ a. ⊎_elim
     (λ b. ⊎_elim (λ c. (p, or_left (set.contains t.current i || set.contains t.prev i) _ (or_left (set.contains t.current i) (set.contains t.prev i) c))) (λ c. left_has xs ts i c) (or_cases (set.contains t.current i) (set.contains (left_in xs ts) i) (sym (contains-both t.current (left_in xs ts) i) ∙ b)))
@@ -207,12 +217,14 @@ gathered_has p xs ts q i same l e =
     e
 
 -- after an adopt a free place has empty bags
-gathered_free : (p : ℕ) (xs : List Post) (b : Bagged) (rs : List Bool) (o : Option Scan) → Fits xs b rs o → p < length xs → is_open (get_or xs p free_post).phase ≡ true →
+gathered_free : (p : ℕ) (xs : List Post) (b : Bagged) (rs : List Bool) (o : Option Scan) → Fits xs b rs o → p < length xs →
+    is_open (get_or xs p free_post).phase ≡ true →
     (q : ℕ) → is_free (get_or (map freed_post xs) q free_post).phase ≡ true → get_or (gathered p xs b.trios) q no_items ≡ no_items
 gathered_free p xs b rs o f l opened q is =
     let t = get_or b.trios p no_items in
     let v : Trio = record { current = set.union t.current (left_in xs b.trios); prev = t.prev; next = t.next } in
-    let free : is_free (cond (is_ended (get_or xs q free_post).phase) Free (get_or xs q free_post).phase) ≡ true = sym (ap (λ (y : Post). is_free y.phase) (post_freed xs q)) ∙ is in
+    let free : is_free (cond (is_ended (get_or xs q free_post).phase) Free (get_or xs q free_post).phase) ≡ true =
+    sym (ap (λ (y : Post). is_free y.phase) (post_freed xs q)) ∙ is in
     let other : q ≡ p → ⊥ = λ e.
     true≢false (sym (subst (λ (j : ℕ). is_free (cond (is_ended (get_or xs j free_post).phase) Free (get_or xs j free_post).phase) ≡ true) e free) ∙ ap (λ (k : Phase). is_free (cond (is_ended k) Free k)) (open_is _ opened)) in
     get_or-set_other (emptied xs b.trios) p q v no_items other
@@ -222,7 +234,8 @@ gathered_free p xs b rs o f l opened q is =
       | false ↦ λ k. f.free q k
     ] free)
 
-pub fits_gathered : (p : ℕ) (xs : List Post) (b : Bagged) (rs : List Bool) (o : Option Scan) → Fits xs b rs o → p < length xs → is_open (get_or xs p free_post).phase ≡ true → Fits (map freed_post xs) (record b { trios = gathered p xs b.trios }) rs o
+pub fits_gathered : (p : ℕ) (xs : List Post) (b : Bagged) (rs : List Bool) (o : Option Scan) → Fits xs b rs o → p < length xs →
+    is_open (get_or xs p free_post).phase ≡ true → Fits (map freed_post xs) (record b { trios = gathered p xs b.trios }) rs o
 fits_gathered p xs b rs o f l opened =
     let t = get_or b.trios p no_items in
     record {
@@ -243,12 +256,14 @@ get_or-no_items zero q = refl
 get_or-no_items (suc n) zero = refl
 get_or-no_items (suc n) (suc q) = get_or-no_items n q
 
-pub new_seen : (n m : ℕ) (xs : List Post) (rs : List Bool) (b : Bagged) → xs ≡ replicate n free_post → rs ≡ replicate m false → b ≡ record { items = m; trios = replicate n no_items } → seen 0 xs b.trios rs None ≡ new_state (record { places = n; items = m })
+pub new_seen : (n m : ℕ) (xs : List Post) (rs : List Bool) (b : Bagged) → xs ≡ replicate n free_post → rs ≡ replicate m false →
+    b ≡ record { items = m; trios = replicate n no_items } → seen 0 xs b.trios rs None ≡ new_state (record { places = n; items = m })
 new_seen n m xs rs b e f g =
     ap (λ (ys : List Post). seen 0 ys b.trios rs None) e ∙ (ap (λ (c : Bagged). seen 0 (replicate n free_post) c.trios rs None) g
     ∙ (ap (λ (ps : List Place). record { count = 0; places = ps; retired = rs; scan = None }) (new_places n) ∙ ap (λ (ss : List Bool). record (new_state (record { places = n; items = m })) { retired = ss }) f))
 
-pub fits_new : (n m : ℕ) (xs : List Post) (rs : List Bool) (b : Bagged) → xs ≡ replicate n free_post → rs ≡ replicate m false → b ≡ record { items = m; trios = replicate n no_items } → n ≤ 1024 → Fits xs b rs None
+pub fits_new : (n m : ℕ) (xs : List Post) (rs : List Bool) (b : Bagged) → xs ≡ replicate n free_post → rs ≡ replicate m false →
+    b ≡ record { items = m; trios = replicate n no_items } → n ≤ 1024 → Fits xs b rs None
 fits_new n m xs rs b e f g few =
     let size : length xs ≡ n = ap (λ (ys : List Post). length ys) e ∙ length-replicate n free_post in
     record {

@@ -21,7 +21,8 @@ count_step size h (Retire p i) = omega arith
 count_step size h (Lock p) = omega arith
 count_step size h (Adopt p) = omega arith
 count_step size h (Look p) = omega arith
-count_step size h (Advance p) = elim (raises (state size h) p) as (λ t. count_at size h ≤ cond t (count_at size h + 1) (count_at size h)) [ true ↦ omega arith | false ↦ omega arith ]
+count_step size h (Advance p) =
+    elim (raises (state size h) p) as (λ t. count_at size h ≤ cond t (count_at size h + 1) (count_at size h)) [ true ↦ omega arith | false ↦ omega arith ]
 count_step size h (Unlock p) = omega arith
 count_step size h (Close p) = omega arith
 count_step size h (End p) = omega arith

@@ -30,7 +30,8 @@ not_so : (p q : ℕ) (b : Bool) → (p ≡ q → ⊥) → (eqb p q && b) ≡ fal
 not_so p q b ne = ap (λ (t : Bool). t && b) (ne_eqb p q ne)
 
 -- a retirement of j
-retire_bags : (p q i j : ℕ) (f : Fate) (x : Place) → (j ≡ i → f ≡ Kept) → BagsOk f q i x → BagsOk (cond (eqb j i) (Waits p 0) f) q i (cond (eqb p q) (retiring j x) x)
+retire_bags : (p q i j : ℕ) (f : Fate) (x : Place) → (j ≡ i → f ≡ Kept) → BagsOk f q i x →
+    BagsOk (cond (eqb j i) (Waits p 0) f) q i (cond (eqb p q) (retiring j x) x)
 retire_bags p q i j f x new ok =
     at_place j i (λ t. BagsOk (cond t (Waits p 0) f) q i (cond (eqb p q) (retiring j x) x))
     (λ e. let was : BagsOk Kept q i x = subst (λ (g : Fate). BagsOk g q i x) (new e) ok in
@@ -106,7 +107,8 @@ contains-both a b i = set.contains-union nat_cmp_total a b i
 abbrev InNone : ℕ → Place → Type 0
 InNone i x = In i false false false x.current x.prev x.next
 
-left_none : (xs : List Place) (i : ℕ) → ((q : ℕ) → is_ended (get_or xs q free_place).phase ≡ true → InNone i (get_or xs q free_place)) → set.contains (left xs) i ≡ false
+left_none : (xs : List Place) (i : ℕ) → ((q : ℕ) → is_ended (get_or xs q free_place).phase ≡ true → InNone i (get_or xs q free_place)) →
+    set.contains (left xs) i ≡ false
 left_none [] i h = set.contains-empty nat_cmp i
 left_none (x ∷ xs) i h =
     let rest = left_none xs i (λ q. h (suc q)) in
@@ -164,7 +166,8 @@ live_not_ended Ended e = sym e
 adopt_bags : (c r : ℕ) (xs : List Place) (p q i : ℕ) (f : Fate) → (get_or xs p free_place).phase ≡ Open → FateOk c r (λ j. get_or xs j free_place) f →
     ((j : ℕ) → BagsOk f j i (get_or xs j free_place)) →
     BagsOk (taken_over p f) q i (cond (eqb p q) (taking (left xs) (freed_fields (get_or xs q free_place))) (freed_fields (get_or xs q free_place)))
-adopt_bags c r xs p q i Kept op fated ok = taking_none i p q (left xs) (freed_fields (get_or xs q free_place)) (left_none xs i (λ j _. ok j)) (freed_none i (get_or xs q free_place) (λ _. ok q))
+adopt_bags c r xs p q i Kept op fated ok =
+    taking_none i p q (left xs) (freed_fields (get_or xs q free_place)) (left_none xs i (λ j _. ok j)) (freed_none i (get_or xs q free_place) (λ _. ok q))
 adopt_bags c r xs p q i (Waits h k) op fated ok =
     let x = get_or xs q free_place in
     let not_ended : is_ended (get_or xs h free_place).phase ≡ false = live_not_ended _ fated.alive in
@@ -191,7 +194,8 @@ adopt_bags c r xs p q i (Left h k) op fated ok =
     at_place p q (λ t. BagsOk (Waits p 0) q i (cond t (taking (left xs) (freed_fields x)) (freed_fields x)))
     (λ is. (contains-both _ (left xs) i ∙ or_right _ _ some ∙ sym (yes q p true (sym is)), here.1 ∙ sym (yes q p false (sym is)), here.2 ∙ sym (yes q p false (sym is))))
     (λ ne. let far : q ≡ p → ⊥ = λ e. ne (sym e) in (here.0 ∙ sym (not_so q p true far), here.1 ∙ sym (not_so q p false far), here.2 ∙ sym (not_so q p false far)))
-adopt_bags c r xs p q i Gone op fated ok = taking_none i p q (left xs) (freed_fields (get_or xs q free_place)) (left_none xs i (λ j _. ok j)) (freed_none i (get_or xs q free_place) (λ _. ok q))
+adopt_bags c r xs p q i Gone op fated ok =
+    taking_none i p q (left xs) (freed_fields (get_or xs q free_place)) (left_none xs i (λ j _. ok j)) (freed_none i (get_or xs q free_place) (λ _. ok q))
 
 kept_from_flag : (f : Fate) → was_retired f ≡ false → f ≡ Kept
 kept_from_flag Kept e = refl
@@ -203,7 +207,8 @@ kept_from_flag Gone e = absurd (true≢false e)
 free_none : (c r : ℕ) (at : ℕ → Place) (f : Fate) (q : ℕ) → FateOk c r at f → (at q).phase ≡ Free → (k : ℕ) → is_with f q k ≡ false
 free_none c r at Kept q ok free k = refl
 free_none c r at (Waits h j) q ok free k = not_so q h (eqb j k) (λ e. true≢false (sym ok.alive ∙ (ap live (subst (λ (m : ℕ). (at m).phase ≡ Free) e free))))
-free_none c r at (Left h j) q ok free k = not_so q h (eqb j k) (λ e. true≢false (sym (ap is_ended ok.2) ∙ ap is_ended (subst (λ (m : ℕ). (at m).phase ≡ Free) e free)))
+free_none c r at (Left h j) q ok free k =
+    not_so q h (eqb j k) (λ e. true≢false (sym (ap is_ended ok.2) ∙ ap is_ended (subst (λ (m : ℕ). (at m).phase ≡ Free) e free)))
 free_none c r at Gone q ok free k = refl
 
 bags_step : (size : Size) (h : List Step) (step : Step) (i : ℕ) → Good size h → possible (state size h) step ≡ true → Item size h i →
@@ -216,7 +221,8 @@ bags_step size h (Register p) i g can o q =
     let nothing = set.contains-empty nat_cmp i in
     (nothing ∙ sym (none 0), nothing ∙ sym (none 1), nothing ∙ sym (none 2)))
     (λ _. o.bags q)
-bags_step size h (Read p) i g can o q = let x = place_at (state size h) q in bags_with p q i (fate size i h) x (reading (count_at size h) x) (o.bags q) (o.bags q)
+bags_step size h (Read p) i g can o q =
+    let x = place_at (state size h) q in bags_with p q i (fate size i h) x (reading (count_at size h) x) (o.bags q) (o.bags q)
 bags_step size h (Publish p) i g can o q =
     let s = state size h in let f = fate size i h in
     subst (λ (b : Bool). BagsOk (cond b (changed p f) f) q i (cond (eqb p q) (published_fields (place_at s q)) (place_at s q))) (sym (change_is size h p g can))

@@ -14,7 +14,8 @@ use Rattle.sdd_core.specs.Chains.{walk, items_of, occ, IsChain, no_chain, all_it
 use Rattle.sdd_core.proofs.Walks.{occ-append, at_head, occurs_at, length-walk, len-from_list}
 
 -- links that agree where a walk goes give the same walk
-walk-agree : (links links' : List ℕ) (n x : ℕ) → ((i : ℕ) → 0 < occ i (walk links n x) → get_or links' i 0 ≡ get_or links i 0) → walk links' n x ≡ walk links n x
+walk-agree : (links links' : List ℕ) (n x : ℕ) → ((i : ℕ) → 0 < occ i (walk links n x) → get_or links' i 0 ≡ get_or links i 0) →
+    walk links' n x ≡ walk links n x
 walk-agree links links' zero x agree = refl
 walk-agree links links' (suc n) x agree =
     let y = get_or links x 0 in
@@ -63,7 +64,8 @@ pub no_chain_is : (links : List ℕ) → IsChain links no_chain
 no_chain_is links = record { last = λ some. absurd (omega arith); inside = λ i o. absurd (omega arith) }
 
 -- chains that are all so, with one of them replaced
-pub each-set : (P : Chain → Type 0) (cs : List Chain) (k : ℕ) (c : Chain) → k < length cs → ((j : ℕ) → P (get_or cs j no_chain)) → P c → (j : ℕ) → P (get_or (list_set cs k c) j no_chain)
+pub each-set : (P : Chain → Type 0) (cs : List Chain) (k : ℕ) (c : Chain) → k < length cs → ((j : ℕ) → P (get_or cs j no_chain)) → P c → (j : ℕ) →
+    P (get_or (list_set cs k c) j no_chain)
 each-set P cs k c l all here j =
     ⊎_elim
     (λ e. subst (λ (m : ℕ). P (get_or (list_set cs k c) m no_chain)) (sym e) (subst P (sym (get_or-set_same cs k c no_chain l)) here))
@@ -90,7 +92,8 @@ emptied links cs k are l = record {
   once = λ i. let a = occ-set links cs k no_chain i l in let d = are.once i in omega (arith, a, d);
 }
 
-pub bags-set : (links : List ℕ) (cs : List Chain) (k : ℕ) (c : Chain) → map (bag_of links) (list_set cs k c) ≡ list_set (map (bag_of links) cs) k (bag_of links c)
+pub bags-set : (links : List ℕ) (cs : List Chain) (k : ℕ) (c : Chain) →
+    map (bag_of links) (list_set cs k c) ≡ list_set (map (bag_of links) cs) k (bag_of links c)
 bags-set links cs k c = map-set (bag_of links) cs k c
 
 pub bag-at : (links : List ℕ) (cs : List Chain) (k : ℕ) → get_or (map (bag_of links) cs) k set.empty ≡ bag_of links (get_or cs k no_chain)
@@ -109,7 +112,8 @@ absent_of (x ∷ xs) i e =
     let none = ap one_if (ne_eqb i x apart) in
     omega (arith, none, rest)
 
-pub nowhere : (links : List ℕ) (cs : List Chain) (i : ℕ) → ((k : ℕ) → set.contains (get_or (map (bag_of links) cs) k set.empty) i ≡ false) → occ i (all_items links cs) ≡ 0
+pub nowhere : (links : List ℕ) (cs : List Chain) (i : ℕ) → ((k : ℕ) → set.contains (get_or (map (bag_of links) cs) k set.empty) i ≡ false) →
+    occ i (all_items links cs) ≡ 0
 nowhere links [] i none = refl
 nowhere links (c ∷ cs) i none =
     let here = absent_of (items_of links c) i (sym (set.contains-from_list_nat (items_of links c) i) ∙ none 0) in
@@ -118,7 +122,8 @@ nowhere links (c ∷ cs) i none =
     omega (arith, a, here, rest)
 
 -- an item put into a bag
-pub put_chains : (links links' : List ℕ) (cs : List Chain) (k item : ℕ) (c : Chain) → AreChains links cs → k < length cs → length links' ≡ length links → occ item (all_items links cs) ≡ 0 →
+pub put_chains : (links links' : List ℕ) (cs : List Chain) (k item : ℕ) (c : Chain) → AreChains links cs → k < length cs →
+    length links' ≡ length links → occ item (all_items links cs) ≡ 0 →
     items_of links' c ≡ item ∷ items_of links (get_or cs k no_chain) → IsChain links' c → ((i : ℕ) → (i ≡ item → ⊥) → get_or links' i 0 ≡ get_or links i 0) → AreChains links' (list_set cs k c)
 put_chains links links' cs k item c are l size none items is others =
     subst (λ (ds : List Chain). AreChains links' ds) (set-set cs k no_chain c)
@@ -170,10 +175,12 @@ occ-others links cs to from i lt lf ne =
     let ds = list_set cs from no_chain in
     let a = occ-set links cs from no_chain i lf in
     let b = occ-set links ds to no_chain i (let z = length-set cs from no_chain in omega (arith, z, lt)) in
-    let e : occ i (items_of links (get_or ds to no_chain)) ≡ occ i (items_of links (get_or cs to no_chain)) = ap (λ (c : Chain). occ i (items_of links c)) (get_or-set_other cs from to no_chain no_chain ne) in
+    let e : occ i (items_of links (get_or ds to no_chain)) ≡ occ i (items_of links (get_or cs to no_chain)) =
+    ap (λ (c : Chain). occ i (items_of links c)) (get_or-set_other cs from to no_chain no_chain ne) in
     omega (arith, a, b, e)
 
-agree_others : (links links' : List ℕ) (cs : List Chain) (to from : ℕ) (c : Chain) → Joins links links' cs to from c → Agree links links' (all_items links (list_set (list_set cs from no_chain) to no_chain))
+agree_others : (links links' : List ℕ) (cs : List Chain) (to from : ℕ) (c : Chain) → Joins links links' cs to from c →
+    Agree links links' (all_items links (list_set (list_set cs from no_chain) to no_chain))
 agree_others links links' cs to from c j i o =
     j.others i (let a = occ-others links cs to from i j.to_is j.from_is j.apart in let d = j.are.once i in omega (arith, a, d, o))
 
@@ -185,7 +192,8 @@ both_once links cs to from i are lt lf ne =
     let b = occ-append i (items_of links (get_or cs to no_chain)) (items_of links (get_or cs from no_chain)) in
     omega (arith, a, b, d)
 
-pub join_chains : (links links' : List ℕ) (cs : List Chain) (to from : ℕ) (c : Chain) → Joins links links' cs to from c → AreChains links' (list_set (list_set cs from no_chain) to c)
+pub join_chains : (links links' : List ℕ) (cs : List Chain) (to from : ℕ) (c : Chain) → Joins links links' cs to from c →
+    AreChains links' (list_set (list_set cs from no_chain) to c)
 join_chains links links' cs to from c j =
     let ds = list_set cs from no_chain in
     let ld : to < length ds = (let z = length-set cs from no_chain in let l = j.to_is in omega (arith, z, l)) in
@@ -220,7 +228,8 @@ last_occurs : (links : List ℕ) (c : Chain) → IsChain links c → 0 < c.len �
 last_occurs links c is some = occurs_at (items_of links c) (c.len - 1) c.last (let z = length-walk links c.len c.first in omega (arith, z)) (is.last some)
 
 -- what the join of two of the chains gives
-pub joins_of : (links links' lent : List ℕ) (cs : List Chain) (to from : ℕ) (first second c : Chain) → AreChains links cs → to < length cs → from < length cs → (to ≡ from → ⊥) →
+pub joins_of : (links links' lent : List ℕ) (cs : List Chain) (to from : ℕ) (first second c : Chain) → AreChains links cs → to < length cs →
+    from < length cs → (to ≡ from → ⊥) →
     lent ≡ links → first ≡ get_or cs to no_chain → second ≡ get_or cs from no_chain → length links' ≡ length links →
     items_of links' c ≡ items_of lent first ++ items_of lent second → IsChain links' c →
     ((i : ℕ) → (0 < first.len → i ≡ first.last → ⊥) → get_or links' i 0 ≡ get_or lent i 0) → Joins links links' cs to from c
@@ -236,17 +245,20 @@ joins_of links links' lent cs to from first second c are lt lf ne same one two s
   others = λ i none.
       others i (λ some e.
       let chain : IsChain links first = subst (IsChain links) (sym one) (are.chain to) in
-      let last : 0 < occ first.last (items_of links (get_or cs to no_chain)) = subst (λ (a : Chain). 0 < occ first.last (items_of links a)) one (last_occurs links first chain some) in
+      let last : 0 < occ first.last (items_of links (get_or cs to no_chain)) =
+      subst (λ (a : Chain). 0 < occ first.last (items_of links a)) one (last_occurs links first chain some) in
       let there : 0 < occ i (items_of links (get_or cs to no_chain)) = subst (λ (j : ℕ). 0 < occ j (items_of links (get_or cs to no_chain))) (sym e) last in
       absurd (omega (arith, none, there)))
       ∙ ap (λ (ls : List ℕ). get_or ls i 0) same;
 }
 
 -- an item and a chain that it isn't in
-pub put_once : (links lent : List ℕ) (cs : List Chain) (k item i : ℕ) (first second : Chain) → AreChains links cs → occ item (all_items links cs) ≡ 0 → lent ≡ links →
+pub put_once : (links lent : List ℕ) (cs : List Chain) (k item i : ℕ) (first second : Chain) → AreChains links cs →
+    occ item (all_items links cs) ≡ 0 → lent ≡ links →
     first ≡ record { first = item; last = item; len = 1 } → second ≡ get_or cs k no_chain → occ i (items_of lent first ++ items_of lent second) ≤ 1
 put_once links lent cs k item i first second are none same one two =
-    let all : items_of lent first ++ items_of lent second ≡ item ∷ items_of links (get_or cs k no_chain) = put_items links lent cs k item first second same one two in
+    let all : items_of lent first ++ items_of lent second ≡ item ∷ items_of links (get_or cs k no_chain) =
+    put_items links lent cs k item first second same one two in
     let b = ap (λ (ys : List ℕ). occ i ys) all in let d = are.once i in let l = occ-at links cs k i in
     ⊎_elim
     (λ e. let z : occ i (all_items links cs) ≡ 0 = ap (λ (j : ℕ). occ j (all_items links cs)) e ∙ none in let h = at_head i item (items_of links (get_or cs k no_chain)) (sym e) in omega (arith, b, z, h, l))
@@ -259,7 +271,8 @@ put_once links lent cs k item i first second are none same one two =
         ap (λ (a : Chain). items_of lent a ++ items_of lent second) one ∙ (ap (λ (ls : List ℕ). item ∷ items_of ls second) same ∙ ap (λ (b : Chain). item ∷ items_of links b) two)
 
 -- how many items are in one of the bags
-pub len-bag : (links : List ℕ) (cs : List Chain) (k : ℕ) → AreChains links cs → (get_or cs k no_chain).len ≡ set.len (get_or (map (bag_of links) cs) k set.empty)
+pub len-bag : (links : List ℕ) (cs : List Chain) (k : ℕ) → AreChains links cs →
+    (get_or cs k no_chain).len ≡ set.len (get_or (map (bag_of links) cs) k set.empty)
 len-bag links cs k are =
     let c = get_or cs k no_chain in
     sym (length-walk links c.len c.first) ∙ (sym (len-from_list (items_of links c) (λ i. let a = occ-at links cs k i in let d = are.once i in omega (arith, a, d))) ∙ ap (λ (b : Items). set.len b) (sym (bag-at links cs k)))

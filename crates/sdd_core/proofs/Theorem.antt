@@ -51,7 +51,8 @@ due_of_taken : (b : Bool) (i : ℕ) (xs : Items) → set.contains (cond b xs set
 due_of_taken true i xs e = (refl, e)
 due_of_taken false i xs e = absurd (nothing i e)
 
-taken_exactly : (size : Size) (i p : ℕ) (h : List Step) → IsHistory size (Publish p ∷ h) → (set.contains (taken_out (place_at (state size h) p)) i ≡ true) ↔ IsDue size i (Publish p ∷ h)
+taken_exactly : (size : Size) (i p : ℕ) (h : List Step) → IsHistory size (Publish p ∷ h) →
+    (set.contains (taken_out (place_at (state size h) p)) i ≡ true) ↔ IsDue size i (Publish p ∷ h)
 taken_exactly size i p h is =
     let s = state size h in let x = place_at s p in
     let g = good size h is.1 in let o = item size h is.1 i in
@@ -97,7 +98,8 @@ gone_when_due size i (End p ∷ h) d = absurd d
 gone_step : (size : Size) (i : ℕ) (h : List Step) (step : Step) → IsHistory size (step ∷ h) → fate size i h ≡ Gone → fate size i (step ∷ h) ≡ Gone
 gone_step size i h (Register p) is e = e
 gone_step size i h (Read p) is e = e
-gone_step size i h (Publish p) is e = ap (λ (f : Fate). cond (is_change size p h) (changed p f) f) e ∙ elim (is_change size p h) as (λ t. cond t Gone Gone ≡ Gone) [ true ↦ refl | false ↦ refl ]
+gone_step size i h (Publish p) is e =
+    ap (λ (f : Fate). cond (is_change size p h) (changed p f) f) e ∙ elim (is_change size p h) as (λ t. cond t Gone Gone ≡ Gone) [ true ↦ refl | false ↦ refl ]
 gone_step size i h (Retire p j) is e =
     let s = state size h in let o = item size h is.1 i in
     at_place j i (λ t. cond t (Waits p 0) (fate size i h) ≡ Gone)
@@ -135,7 +137,8 @@ late size i (Publish p) h is d =
     let g = good size h is.1 in let o = item size h is.1 i in
     let w : WaitOk c r 2 x.phase x.found = subst (λ (f : Fate). FateOk c r (place_at s) f) d.1 o.fated in
     let k = reading_is _ is.0 in
-    let ok : (k.0 ≡ last_read size p h) × (x.found ≤ k.0) × (k.0 ≤ c) = subst (λ (ph : Phase). PhaseOk c (since size p h) (last_read size p h) ph x.found) k.1 (g.places p) in
+    let ok : (k.0 ≡ last_read size p h) × (x.found ≤ k.0) × (k.0 ≤ c) =
+    subst (λ (ph : Phase). PhaseOk c (since size p h) (last_read size p h) ph x.found) k.1 (g.places p) in
     let other : read_of x.phase ≡ x.found → ⊥ = eqb-false (read_of x.phase) x.found (not-true _ (sym (change_is size h p g is.0) ∙ d.0)) in
     let ne : k.0 ≢ x.found = λ e. other (ap read_of k.1 ∙ e) in
     let old : r + 2 ≤ x.found + 1 = w.aged (omega arith) in
@@ -169,7 +172,8 @@ retired_after size i p (Unlock q ∷ recent) h = retired_after size i p recent h
 retired_after size i p (Close q ∷ recent) h = retired_after size i p recent h
 retired_after size i p (End q ∷ recent) h = retired_after size i p recent h
 
-in_bag : (f : Fate) (p i : ℕ) (x : Place) → BagsOk f p i x → (set.contains x.current i || set.contains x.prev i || set.contains x.next i) ≡ true → (k : ℕ) × (is_with f p k ≡ true)
+in_bag : (f : Fate) (p i : ℕ) (x : Place) → BagsOk f p i x → (set.contains x.current i || set.contains x.prev i || set.contains x.next i) ≡ true →
+    (k : ℕ) × (is_with f p k ≡ true)
 in_bag f p i x ok e =
     ⊎_elim (λ first. ⊎_elim (λ a. (0, sym ok.0 ∙ a)) (λ b. (1, sym ok.1 ∙ b)) (or_cases (set.contains x.current i) (set.contains x.prev i) first))
     (λ c. (2, sym ok.2 ∙ c)) (or_cases (set.contains x.current i || set.contains x.prev i) (set.contains x.next i) e)
@@ -181,7 +185,8 @@ is_in_bag (suc (suc zero)) i a b c l ok = or_right _ _ ok.2
 is_in_bag (suc (suc (suc k))) i a b c l ok = absurd (omega arith)
 
 -- an item that nobody has, and was retired, is gone
-gone_from_nowhere : (c r : ℕ) (s : State) (f : Fate) (i : ℕ) → FateOk c r (place_at s) f → ((q : ℕ) → BagsOk f q i (place_at s q)) → was_retired f ≡ true → ((p : ℕ) → IsWith s p i → ⊥) → f ≡ Gone
+gone_from_nowhere : (c r : ℕ) (s : State) (f : Fate) (i : ℕ) → FateOk c r (place_at s) f → ((q : ℕ) → BagsOk f q i (place_at s q)) →
+    was_retired f ≡ true → ((p : ℕ) → IsWith s p i → ⊥) → f ≡ Gone
 gone_from_nowhere c r s Kept i ok bags e none = absurd (false≢true e)
 gone_from_nowhere c r s (Waits h k) i ok bags e none =
     let b = bags h in let y : (w : Bool) → (eqb h h && w) ≡ w = λ w. ap (λ (t : Bool). t && w) (eq-eqb h h refl) in
@@ -225,7 +230,8 @@ became_gone size i (Publish p) h e =
       | true ↦ λ b x. ⊎_elim (λ g. inl g) (λ w. inr (b, w)) (from_changed p (fate size i h) x)
       | false ↦ λ b x. inl x
     ] refl e
-became_gone size i (Retire p j) h e = inl (elim (eqb j i) as (λ t. cond t (Waits p 0) (fate size i h) ≡ Gone → fate size i h ≡ Gone) [ true ↦ λ x. absurd (cc) | false ↦ λ x. x ] e)
+became_gone size i (Retire p j) h e =
+    inl (elim (eqb j i) as (λ t. cond t (Waits p 0) (fate size i h) ≡ Gone → fate size i h ≡ Gone) [ true ↦ λ x. absurd (cc) | false ↦ λ x. x ] e)
 became_gone size i (Lock p) h e = inl e
 became_gone size i (Adopt p) h e = inl (from_taken p (fate size i h) e)
 became_gone size i (Look p) h e = inl e
@@ -379,7 +385,8 @@ generations size h is seen retirement own is_seen at_r other guard begun guard_t
     let from : count_at size begun ≤ count_at size retirement = under size retirement guard begun guard_then in
     let r : count_at size retirement ≤ count_at size own.published + 1 = at_most_next size retirement is_r own.guard own.published own.open_at_other in
     let low : count_at size own.published ≤ count_at size seen = under size seen own.guard own.published own.open_at_one in
-    let on : count_at size seen ≤ count_at size h = subst (λ (k : List Step). count_at size seen ≤ count_at size k) (sym is_seen.1) (count_grows size is_seen.0 seen) in
+    let on : count_at size seen ≤ count_at size h =
+    subst (λ (k : List Step). count_at size seen ≤ count_at size k) (sym is_seen.1) (count_grows size is_seen.0 seen) in
     true≢false (sym (near (count_at size seen) (count_at size h) on (omega arith)) ∙ other)
 
 -- the history of a list is one
@@ -400,7 +407,8 @@ happens-state size h x =
     elim (possible (state size h) x) as (λ t. cond t (after (state size h) x) (state size h) ≡ state size (cond t (x ∷ h) h)) [ true ↦ refl | false ↦ refl ]
 
 -- the loop's step
-pub taken_more : (size : Size) (steps : List Step) (i : ℕ) (d x : Step) (s : State) → i < length steps → s ≡ state size (history_of size (take i steps)) → x ≡ get_or steps i d →
+pub taken_more : (size : Size) (steps : List Step) (i : ℕ) (d x : Step) (s : State) → i < length steps →
+    s ≡ state size (history_of size (take i steps)) → x ≡ get_or steps i d →
     happens s x ≡ state size (history_of size (take (i + 1) steps))
 taken_more size steps i d x s l e is =
     let h = history_of size (take i steps) in
@@ -408,5 +416,6 @@ taken_more size steps i d x s l e is =
     ∙ ap (state size) (ap (λ (y : Step). goes_on size h (y ∷ [])) is ∙ (sym (goes_on-append size [] (take i steps) (get_or steps i d ∷ [])) ∙ ap (λ (k : List Step). goes_on size [] k) (sym (take_more steps i d l)))))
 
 -- what every history keeps holds after each beginning of a list
-pub at_each : (Fact : Size → List Step → Type 0) → ((size : Size) (h : List Step) → IsHistory size h → Fact size h) → (steps : List Step) → AtEachMoment steps Fact
+pub at_each : (Fact : Size → List Step → Type 0) → ((size : Size) (h : List Step) → IsHistory size h → Fact size h) → (steps : List Step) →
+    AtEachMoment steps Fact
 at_each Fact all steps size front rest e = all size (history_of size front) (goes_on_is size [] front tt)

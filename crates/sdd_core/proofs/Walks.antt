@@ -111,7 +111,8 @@ pigeons n xs once inside = let a = below_all n xs inside in let b = below-le n x
 pub occ-occ : (xs ys : List ℕ) (i : ℕ) → occ i (xs ++ ys) ≤ 1 → (occ i xs ≤ 1) × (occ i ys ≤ 1) × (0 < occ i xs → occ i ys ≡ 0)
 occ-occ xs ys i h = let a = occ-append i xs ys in (omega (arith, a, h), omega (arith, a, h), λ o. omega (arith, a, h, o))
 
-pub lengths_fit : (links : List ℕ) (c d : Chain) → IsChain links c → IsChain links d → ((i : ℕ) → occ i (items_of links c ++ items_of links d) ≤ 1) → c.len + d.len ≤ length links
+pub lengths_fit : (links : List ℕ) (c d : Chain) → IsChain links c → IsChain links d →
+    ((i : ℕ) → occ i (items_of links c ++ items_of links d) ≤ 1) → c.len + d.len ≤ length links
 lengths_fit links c d one two once =
     let xs = items_of links c in let ys = items_of links d in
     let all = pigeons (length links) (xs ++ ys) once (λ i o.

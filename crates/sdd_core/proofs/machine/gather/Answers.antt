@@ -16,7 +16,8 @@ loop-number-init c = gathers_none c.args.place c.args.posts.now c.args.bags.now
 pub loop-number-preserved : goal.loop-number-preserved
 loop-number-preserved c =
     let xs = c.args.posts.now in let q = c.loop-number.number in
-    let at : is_ended (get_or xs q free_post).phase ≡ c.is_ended.result = ap (λ (x : Post). is_ended x.phase) (get_or_default xs q free_post _ c.loop-number-test.true) ∙ sym c.is_ended.ensures in
+    let at : is_ended (get_or xs q free_post).phase ≡ c.is_ended.result =
+    ap (λ (x : Post). is_ended x.phase) (get_or_default xs q free_post _ c.loop-number-test.true) ∙ sym c.is_ended.ensures in
     let not_p : is_ended (get_or xs c.args.place free_post).phase ≡ false = ap is_ended (open_is _ c.requires.open) in
     elim c.if-is_ended.branch [
       | then-is_ended w ↦
@@ -30,11 +31,13 @@ loop-number-preserved c =
     ]
 
 pub returns : goal.returns
-returns c = gathers_all c.args.place c.args.posts.now c.args.bags.now c.loop-number.bags c.loop-number.number c.loop-number.invariant (omega arith) c.requires.place c.requires.same
+returns c =
+    gathers_all c.args.place c.args.posts.now c.args.bags.now c.loop-number.bags c.loop-number.number c.loop-number.invariant (omega arith) c.requires.place c.requires.same
 
 pub join-requires-clause-other : goal.join-requires-clause-other
 join-requires-clause-other c =
     let xs = c.args.posts.now in let q = c.loop-number.number in
-    let at : is_ended (get_or xs q free_post).phase ≡ c.is_ended.result = ap (λ (x : Post). is_ended x.phase) (get_or_default xs q free_post _ c.loop-number-test.true) ∙ sym c.is_ended.ensures in
+    let at : is_ended (get_or xs q free_post).phase ≡ c.is_ended.result =
+    ap (λ (x : Post). is_ended x.phase) (get_or_default xs q free_post _ c.loop-number-test.true) ∙ sym c.is_ended.ensures in
     let not_p : is_ended (get_or xs c.args.place free_post).phase ≡ false = ap is_ended (open_is _ c.requires.open) in
     λ s. true≢false (sym (at ∙ c.if-is_ended.true) ∙ (ap (λ (k : ℕ). is_ended (get_or xs k free_post).phase) (sym s) ∙ not_p))

@@ -12,7 +12,8 @@ use Rattle.sdd_core.proofs.machine.Machine.rotate.Goals as goal
 
 pub rotate-requires : goal.rotate-requires
 rotate-requires c =
-    let h : c.args.place < length c.self.inside.posts.items = within_seen c.args.self.now c.self.inside.count c.self.inside.posts.items c.self.inside.bags.trios c.self.inside.retired.items c.self.inside.scan c.self.view_is c.self.invariant.same c.args.place c.requires in
+    let h : c.args.place < length c.self.inside.posts.items =
+    within_seen c.args.self.now c.self.inside.count c.self.inside.posts.items c.self.inside.bags.trios c.self.inside.retired.items c.self.inside.scan c.self.view_is c.self.invariant.same c.args.place c.requires in
     omega (arith, c.self.invariant.same)
 
 pub returns-clause-taken : goal.returns-clause-taken
@@ -27,6 +28,7 @@ returns-clause-moved c =
 
 pub invariant_of-self : goal.invariant_of-self
 invariant_of-self c =
-    let l : c.args.place < length c.self.inside.bags.trios = within_bags c.args.self.now c.self.inside.count c.self.inside.posts.items c.self.inside.bags.trios c.self.inside.retired.items c.self.inside.scan c.self.view_is c.self.invariant.same c.args.place c.requires in
+    let l : c.args.place < length c.self.inside.bags.trios =
+    within_bags c.args.self.now c.self.inside.count c.self.inside.posts.items c.self.inside.bags.trios c.self.inside.retired.items c.self.inside.scan c.self.view_is c.self.invariant.same c.args.place c.requires in
     subst (λ (b : Bagged). Fits c.self.inside.posts.items b c.self.inside.retired.items c.self.inside.scan) (sym c.rotate.ensures.moved)
     (fits_rotated c.self.inside.posts.items c.self.inside.bags c.self.inside.retired.items c.self.inside.scan c.args.place c.self.invariant l)

@@ -34,6 +34,7 @@ returns-clause-chain c =
           let wide = length-set links a.last b.first in
           let o' : 0 < occ i (items_of links a ++ items_of links b) = subst (λ (ys : List ℕ). 0 < occ i ys) w o in
           let sum = occ-append i (items_of links a) (items_of links b) in
-          let lt : i < length links = ⊎_elim (λ none. c.requires.two.inside i (omega (arith, sum, o', none))) (λ far. c.requires.one.inside i (let z : 0 < occ i (items_of links a) = omega arith in z)) (cases_eq (occ i (items_of links a)) 0) in
+          let lt : i < length links =
+          ⊎_elim (λ none. c.requires.two.inside i (omega (arith, sum, o', none))) (λ far. c.requires.one.inside i (let z : 0 < occ i (items_of links a) = omega arith in z)) (cases_eq (occ i (items_of links a)) 0) in
           omega (arith, lt, wide);
     }

@@ -10,8 +10,10 @@ use Rattle.sdd_core.proofs.machine.chains.Chains.join.Goals as goal
 pub joined-requires-clause-once : goal.joined-requires-clause-once
 joined-requires-clause-once c =
     let ls = c.self.inside.links.items in let cs = c.self.inside.chains.items in let v = c.self.view_is in
-    let lt : c.args.to < length cs = (let a : c.args.to < length (map (bag_of ls) cs) = subst (λ (b : Linked). c.args.to < length b.bags) (sym v) c.requires.to in let z = length-map cs (bag_of ls) in omega (arith, a, z)) in
-    let lf : c.args.from < length cs = (let a : c.args.from < length (map (bag_of ls) cs) = subst (λ (b : Linked). c.args.from < length b.bags) (sym v) c.requires.from in let z = length-map cs (bag_of ls) in omega (arith, a, z)) in
+    let lt : c.args.to < length cs =
+    (let a : c.args.to < length (map (bag_of ls) cs) = subst (λ (b : Linked). c.args.to < length b.bags) (sym v) c.requires.to in let z = length-map cs (bag_of ls) in omega (arith, a, z)) in
+    let lf : c.args.from < length cs =
+    (let a : c.args.from < length (map (bag_of ls) cs) = subst (λ (b : Linked). c.args.from < length b.bags) (sym v) c.requires.from in let z = length-map cs (bag_of ls) in omega (arith, a, z)) in
     let first = get_or_read cs c.args.to c.index-first.result.now lt c.index-first.ensures no_chain in
     let second = get_or_read cs c.args.from c.index-second.result.now lf c.index-second.ensures no_chain in
     let lent = c.as_mut_slice.result.now in let a = c.index-first.result.now in let b = c.index-second.result.now in
@@ -23,8 +25,10 @@ joined-requires-clause-once c =
 pub invariant_of-self : goal.invariant_of-self
 invariant_of-self c =
     let ls = c.self.inside.links.items in let cs = c.self.inside.chains.items in let v = c.self.view_is in
-    let lt : c.args.to < length cs = (let a : c.args.to < length (map (bag_of ls) cs) = subst (λ (b : Linked). c.args.to < length b.bags) (sym v) c.requires.to in let z = length-map cs (bag_of ls) in omega (arith, a, z)) in
-    let lf : c.args.from < length cs = (let a : c.args.from < length (map (bag_of ls) cs) = subst (λ (b : Linked). c.args.from < length b.bags) (sym v) c.requires.from in let z = length-map cs (bag_of ls) in omega (arith, a, z)) in
+    let lt : c.args.to < length cs =
+    (let a : c.args.to < length (map (bag_of ls) cs) = subst (λ (b : Linked). c.args.to < length b.bags) (sym v) c.requires.to in let z = length-map cs (bag_of ls) in omega (arith, a, z)) in
+    let lf : c.args.from < length cs =
+    (let a : c.args.from < length (map (bag_of ls) cs) = subst (λ (b : Linked). c.args.from < length b.bags) (sym v) c.requires.from in let z = length-map cs (bag_of ls) in omega (arith, a, z)) in
     let first = get_or_read cs c.args.to c.index-first.result.now lt c.index-first.ensures no_chain in
     let second = get_or_read cs c.args.from c.index-second.result.now lf c.index-second.ensures no_chain in
     let size : length c.joined.new.links ≡ length ls = (let a = c.joined.auto.links in let b = ap length c.as_mut_slice.ensures.value in omega (arith, a, b)) in
@@ -37,8 +41,10 @@ invariant_of-self c =
 pub returns : goal.returns
 returns c =
     let ls = c.self.inside.links.items in let cs = c.self.inside.chains.items in let v = c.self.view_is in
-    let lt : c.args.to < length cs = (let a : c.args.to < length (map (bag_of ls) cs) = subst (λ (b : Linked). c.args.to < length b.bags) (sym v) c.requires.to in let z = length-map cs (bag_of ls) in omega (arith, a, z)) in
-    let lf : c.args.from < length cs = (let a : c.args.from < length (map (bag_of ls) cs) = subst (λ (b : Linked). c.args.from < length b.bags) (sym v) c.requires.from in let z = length-map cs (bag_of ls) in omega (arith, a, z)) in
+    let lt : c.args.to < length cs =
+    (let a : c.args.to < length (map (bag_of ls) cs) = subst (λ (b : Linked). c.args.to < length b.bags) (sym v) c.requires.to in let z = length-map cs (bag_of ls) in omega (arith, a, z)) in
+    let lf : c.args.from < length cs =
+    (let a : c.args.from < length (map (bag_of ls) cs) = subst (λ (b : Linked). c.args.from < length b.bags) (sym v) c.requires.from in let z = length-map cs (bag_of ls) in omega (arith, a, z)) in
     let first = get_or_read cs c.args.to c.index-first.result.now lt c.index-first.ensures no_chain in
     let second = get_or_read cs c.args.from c.index-second.result.now lf c.index-second.ensures no_chain in
     let size : length c.joined.new.links ≡ length ls = (let a = c.joined.auto.links in let b = ap length c.as_mut_slice.ensures.value in omega (arith, a, b)) in

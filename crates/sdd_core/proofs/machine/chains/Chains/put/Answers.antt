@@ -10,7 +10,8 @@ use Rattle.sdd_core.proofs.machine.chains.Chains.put.Goals as goal
 pub joined-requires-clause-once : goal.joined-requires-clause-once
 joined-requires-clause-once c =
     let ls = c.self.inside.links.items in let cs = c.self.inside.chains.items in let v = c.self.view_is in
-    let l : c.args.bag < length cs = (let a : c.args.bag < length (map (bag_of ls) cs) = subst (λ (b : Linked). c.args.bag < length b.bags) (sym v) c.requires.bag in let z = length-map cs (bag_of ls) in omega (arith, a, z)) in
+    let l : c.args.bag < length cs =
+    (let a : c.args.bag < length (map (bag_of ls) cs) = subst (λ (b : Linked). c.args.bag < length b.bags) (sym v) c.requires.bag in let z = length-map cs (bag_of ls) in omega (arith, a, z)) in
     let k = c.args.bag in let item = c.args.item in
     let second = get_or_read cs k c.index-chain.result.now l c.index-chain.ensures no_chain in
     let none : occ item (all_items ls cs) ≡ 0 = nowhere ls cs item (λ j. ap (λ (b : Linked). set.contains (bag_at b.bags j) item) v ∙ c.requires.nowhere j) in
@@ -19,7 +20,8 @@ joined-requires-clause-once c =
 pub invariant_of-self : goal.invariant_of-self
 invariant_of-self c =
     let ls = c.self.inside.links.items in let cs = c.self.inside.chains.items in let v = c.self.view_is in
-    let l : c.args.bag < length cs = (let a : c.args.bag < length (map (bag_of ls) cs) = subst (λ (b : Linked). c.args.bag < length b.bags) (sym v) c.requires.bag in let z = length-map cs (bag_of ls) in omega (arith, a, z)) in
+    let l : c.args.bag < length cs =
+    (let a : c.args.bag < length (map (bag_of ls) cs) = subst (λ (b : Linked). c.args.bag < length b.bags) (sym v) c.requires.bag in let z = length-map cs (bag_of ls) in omega (arith, a, z)) in
     let k = c.args.bag in let item = c.args.item in
     let second = get_or_read cs k c.index-chain.result.now l c.index-chain.ensures no_chain in
     let none : occ item (all_items ls cs) ≡ 0 = nowhere ls cs item (λ j. ap (λ (b : Linked). set.contains (bag_at b.bags j) item) v ∙ c.requires.nowhere j) in
@@ -36,7 +38,8 @@ invariant_of-self c =
 pub returns : goal.returns
 returns c =
     let ls = c.self.inside.links.items in let cs = c.self.inside.chains.items in let v = c.self.view_is in
-    let l : c.args.bag < length cs = (let a : c.args.bag < length (map (bag_of ls) cs) = subst (λ (b : Linked). c.args.bag < length b.bags) (sym v) c.requires.bag in let z = length-map cs (bag_of ls) in omega (arith, a, z)) in
+    let l : c.args.bag < length cs =
+    (let a : c.args.bag < length (map (bag_of ls) cs) = subst (λ (b : Linked). c.args.bag < length b.bags) (sym v) c.requires.bag in let z = length-map cs (bag_of ls) in omega (arith, a, z)) in
     let k = c.args.bag in let item = c.args.item in
     let second = get_or_read cs k c.index-chain.result.now l c.index-chain.ensures no_chain in
     let none : occ item (all_items ls cs) ≡ 0 = nowhere ls cs item (λ j. ap (λ (b : Linked). set.contains (bag_at b.bags j) item) v ∙ c.requires.nowhere j) in
