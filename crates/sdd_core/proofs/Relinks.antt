@@ -1,7 +1,7 @@
 -- Chains through links that others share
 use Rattle.std.proofs.Common.{◌≡◌, ℕ, ◌+◌, ◌-◌, ◌<◌, ◌≤◌, ◌^◌, Bool, false, cond, ◌||◌, nat_eq, List, [], ◌∷◌, ◌++◌, length, map, get_or, set as list_set, zero, suc, refl, sym, ap, subst, ◌∙◌, ⊎_elim, arith, replicate, get_or-set_same, get_or-set_other}
 use Rattle.std.proofs.lemmas.Bool.{ne_eqb, cases_eq, or_parts, true≢false, eq-eqb}
-use Rattle.std.proofs.lemmas.List.{length-set, set-set, map-set}
+use Rattle.std.proofs.lemmas.List.{length-set, length-map, set-set, map-set}
 use Rattle.std.proofs.Math.ListN.{get_or-map}
 use Rattle.std.proofs.lemmas.List.Folds.{list_any-append}
 use Rattle.std.specs.Ordering.{nat_cmp}
@@ -10,7 +10,7 @@ use Rattle.std.specs.FinSet as set
 use Rattle.std.specs.List.{list_any}
 use Rattle.sdd_core.specs.declared.machine.chains.Chain.{Chain}
 use Rattle.sdd_core.specs.Table.{Items}
-use Rattle.sdd_core.specs.Chains.{walk, items_of, occ, IsChain, no_chain, all_items, bag_of, AreChains}
+use Rattle.sdd_core.specs.Chains.{Linked, walk, items_of, occ, IsChain, no_chain, all_items, bag_of, AreChains}
 use Rattle.sdd_core.proofs.Walks.{occ-append, at_head, occurs_at, length-walk, len-from_list}
 
 -- links that agree where a walk goes give the same walk
@@ -95,6 +95,16 @@ emptied links cs k are l = record {
 pub bags-set : (links : List ℕ) (cs : List Chain) (k : ℕ) (c : Chain) →
     map (bag_of links) (list_set cs k c) ≡ list_set (map (bag_of links) cs) k (bag_of links c)
 bags-set links cs k c = map-set (bag_of links) cs k c
+
+abbrev pub linked_of : List ℕ → List Chain → Linked
+linked_of links cs = record { items = length links; bags = map (bag_of links) cs }
+
+-- the number of a bag is that of a chain
+pub within_chains : (links : List ℕ) (cs : List Chain) (b : Linked) (k : ℕ) → linked_of links cs ≡ b → k < length b.bags → k < length cs
+within_chains links cs b k v l =
+    let a : k < length (map (bag_of links) cs) = subst (λ (d : Linked). k < length d.bags) (sym v) l in
+    let z = length-map cs (bag_of links) in
+    omega (arith, a, z)
 
 pub bag-at : (links : List ℕ) (cs : List Chain) (k : ℕ) → get_or (map (bag_of links) cs) k set.empty ≡ bag_of links (get_or cs k no_chain)
 bag-at links cs k = get_or-map (bag_of links) cs k no_chain

@@ -8,8 +8,9 @@ use Rattle.sdd_core.proofs.machine.Machine.publish.Goals as goal
 
 pub returns-then-changed-clause-new : goal.returns-then-changed-clause-new
 returns-then-changed-clause-new c =
-    c.rotate-reclaimed.ensures.moved ∙ (ap (λ (s : State). with_place s c.args.place rotated) c.set_post.ensures
-    ∙ with_published c.args.self.now c.args.place c.read-count.result c.found.result c.requires (c.read-count.ensures ∙ ap read_of c.phase.ensures) c.found.ensures c.if-changed.true)
+    let place = c.args.place in
+    c.rotate-reclaimed.ensures.moved ∙ (ap (λ (s : State). with_place s place rotated) c.set_post.ensures
+    ∙ with_published c.args.self.now place c.read-count.result c.found.result c.requires (c.read-count.ensures ∙ ap read_of c.phase.ensures) c.found.ensures c.if-changed.true)
 
 pub returns-else-changed-clause-did : goal.returns-else-changed-clause-did
 returns-else-changed-clause-did c =
