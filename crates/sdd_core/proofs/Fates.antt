@@ -119,7 +119,14 @@ publish_fate c r at p d f is le ok =
     let at' : ℕ → Place = λ q. cond (eqb p q) (published_fields (at q)) (at q) in
     let read : read_of (at p).phase ≡ d = ap read_of is in
     let stays : (at p).found ≡ d → (k : ℕ) → WaitOk c r k (at p).phase (at p).found → WaitOk c r k Open (read_of (at p).phase) =
-    λ same k w. record { young = w.young; before = w.before; alive = refl; aged = (λ more. let a : r + k ≤ (at p).found + 1 = w.aged more in omega arith); unread = tt } in
+    λ same k w. record {
+      young = w.young;
+      before = w.before;
+      alive = refl;
+      aged =
+          (λ more. let a : r + k ≤ (at p).found + 1 = w.aged more in omega arith);
+      unread = tt;
+    } in
     let goes : ((at p).found ≡ d → ⊥) → (k : ℕ) → (k ≡ 2 → ⊥) → WaitOk c r k (at p).phase (at p).found → WaitOk c r (k + 1) Open (read_of (at p).phase) =
     λ other k few w.
     let young : k < 3 = w.young in
@@ -136,7 +143,8 @@ publish_fate c r at p d f is le ok =
           fate_with c r at p published_fields f ok (ap is_ended is) (stays same)
     ] refl
   where
-    changes : (c r : ℕ) (at : ℕ → Place) (p : ℕ) → ((k : ℕ) → (k ≡ 2 → ⊥) → WaitOk c r k (at p).phase (at p).found → WaitOk c r (k + 1) Open (read_of (at p).phase)) →
+    changes : (c r : ℕ) (at : ℕ → Place) (p : ℕ) →
+        ((k : ℕ) → (k ≡ 2 → ⊥) → WaitOk c r k (at p).phase (at p).found → WaitOk c r (k + 1) Open (read_of (at p).phase)) →
         (f : Fate) → is_ended (at p).phase ≡ false → FateOk c r at f → FateOk c r (λ q. cond (eqb p q) (published_fields (at q)) (at q)) (changed p f)
     changes c r at p goes Kept e ok = tt
     changes c r at p goes (Waits q k) e ok =
@@ -174,12 +182,21 @@ adopt_fate : (c r : ℕ) (at : ℕ → Place) (p : ℕ) (l : Items) (f : Fate) �
     FateOk c r (λ q. cond (eqb p q) (taking l (freed_fields (at q))) (freed_fields (at q))) (taken_over p f)
 adopt_fate c r at p l Kept op ok = tt
 adopt_fate c r at p l (Waits q k) op ok =
-    at_place p q (λ t. WaitOk c r k (cond t (taking l (freed_fields (at q))) (freed_fields (at q))).phase (cond t (taking l (freed_fields (at q))) (freed_fields (at q))).found)
+    at_place p q (λ t. WaitOk c r k (cond t (taking l (freed_fields (at q))) (freed_fields (at q))).phase
+    (cond t (taking l (freed_fields (at q))) (freed_fields (at q))).found)
     (λ _. freed_live c r k _ _ ok) (λ _. freed_live c r k _ _ ok)
 adopt_fate c r at p l (Left q k) op ok =
     let is : (cond (eqb p p) (taking l (freed_fields (at p))) (freed_fields (at p))).phase ≡ Open =
-    ap (λ (x : Place). x.phase) (cond_same p p (taking l (freed_fields (at p))) (freed_fields (at p)) refl) ∙ subst (λ (ph : Phase). cond (is_ended ph) Free ph ≡ Open) (sym op) refl in
-    record { young = omega arith; before = ok.1; alive = ap live is; aged = (λ n. absurd (omega arith)); unread = subst (λ (ph : Phase). ReadOk r ph) (sym is) tt }
+    ap (λ (x : Place). x.phase) (cond_same p p (taking l (freed_fields (at p))) (freed_fields (at p)) refl)
+    ∙ subst (λ (ph : Phase). cond (is_ended ph) Free ph ≡ Open) (sym op) refl in
+    record {
+      young = omega arith;
+      before = ok.1;
+      alive = ap live is;
+      aged =
+          (λ n. absurd (omega arith));
+      unread = subst (λ (ph : Phase). ReadOk r ph) (sym is) tt;
+    }
 adopt_fate c r at p l Gone op ok = tt
 
 -- what a place has read is what it read last
@@ -217,7 +234,8 @@ fate_step size h (Publish p) i g can o =
     let d = reading_is _ can in
     let ok : (d.0 ≡ last_read size p h) × (x.found ≤ d.0) × (d.0 ≤ c) =
     subst (λ (ph : Phase). PhaseOk c (since size p h) (last_read size p h) ph x.found) d.1 (g.places p) in
-    subst (λ (b : Bool). FateOk c r (λ q. cond (eqb p q) (published_fields (place_at s q)) (place_at s q)) (cond b (changed p f) f)) (sym (change_is size h p g can))
+    subst (λ (b : Bool). FateOk c r (λ q. cond (eqb p q) (published_fields (place_at s q)) (place_at s q)) (cond b (changed p f) f))
+    (sym (change_is size h p g can))
     (publish_fate c r (place_at s) p d.0 f d.1 ok.1 o.fated)
 fate_step size h (Retire p j) i g can o =
     let s = state size h in let c = count_at size h in let r = retired_at size i h in let f = fate size i h in
@@ -225,7 +243,14 @@ fate_step size h (Retire p j) i g can o =
     let may = or_cases (is_closed (place_at s p).phase) (is_open (place_at s p).phase) (and_parts _ _ (and_parts _ _ can).0).0 in
     let fresh : (ph : Phase) → (place_at s p).phase ≡ ph → live ph ≡ true → ReadOk c ph → FateOk c c at' (Waits p 0) =
     λ ph is alive unread. subst (λ (x : Place). WaitOk c c 0 x.phase x.found) (sym (cond_same p p (retiring j (place_at s p)) (place_at s p) refl))
-    (record { young = omega arith; before = omega arith; alive = ap live is ∙ alive; aged = (λ n. absurd (omega arith)); unread = subst (λ (k : Phase). ReadOk c k) (sym is) unread }) in
+    (record {
+      young = omega arith;
+      before = omega arith;
+      alive = ap live is ∙ alive;
+      aged =
+          (λ n. absurd (omega arith));
+      unread = subst (λ (k : Phase). ReadOk c k) (sym is) unread;
+    }) in
     at_place j i (λ t. FateOk c (cond t c r) at' (cond t (Waits p 0) f))
     (λ _. ⊎_elim (λ e. fresh Closed (closed_is _ e) refl tt) (λ e. fresh Open (open_is _ e) refl tt) may)
     (λ _. fate_with c r (place_at s) p (retiring j) f o.fated (⊎_elim (λ e. ap is_ended (closed_is _ e)) (λ e. ap is_ended (open_is _ e)) may) (λ k w. w))

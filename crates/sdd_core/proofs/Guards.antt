@@ -53,7 +53,8 @@ apart : (s : State) (p q : ℕ) (test : Phase → Bool) → test (place_at s p).
 apart s p q test is shut op e = true≢false (sym is ∙ (ap (λ (k : ℕ). test (place_at s k).phase) e ∙ (ap test op ∙ shut)))
 
 open_stays : (size : Size) (h : List Step) (step : Step) (q : ℕ) → possible (state size h) step ≡ true → closes q (step ∷ []) ≡ false →
-    (place_at (state size h) q).phase ≡ Open → ((effect (state size h) step q (place_at (state size h) q)).phase ≡ Open) × (since size q (step ∷ h) ≡ since size q h)
+    (place_at (state size h) q).phase ≡ Open →
+    ((effect (state size h) step q (place_at (state size h) q)).phase ≡ Open) × (since size q (step ∷ h) ≡ since size q h)
 open_stays size h (Register p) q can cl op =
     let s = state size h in let x = place_at s q in
     (at_place p q (λ t. (cond t (registered x) x).phase ≡ Open) (λ e. absurd (apart s p q is_free (and_parts _ _ can).1 refl op e)) (λ _. op), refl)
@@ -88,7 +89,8 @@ pub still_open : (size : Size) (q : ℕ) (inside before : List Step) → IsHisto
     ((place_at (state size (inside ++ Publish q ∷ before)) q).phase ≡ Open) × (since size q (inside ++ Publish q ∷ before) ≡ count_at size before)
 still_open size q [] before i cl =
     let s = state size before in let x = place_at s q in (
-      ap (λ (y : Place). y.phase) (place_step size before (Publish q) (good size before i.1) i.0 q) ∙ at_place q q (λ t. (cond t (published_fields x) x).phase ≡ Open) (λ _. refl) (λ ne. absurd (ne refl)),
+      ap (λ (y : Place). y.phase) (place_step size before (Publish q) (good size before i.1) i.0 q)
+          ∙ at_place q q (λ t. (cond t (published_fields x) x).phase ≡ Open) (λ _. refl) (λ ne. absurd (ne refl)),
       at_place q q (λ t. cond t (count_at size before) (since size q before) ≡ count_at size before) (λ _. refl) (λ ne. absurd (ne refl)),
     )
 still_open size q (step ∷ inside) before i cl =

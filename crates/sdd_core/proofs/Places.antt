@@ -51,7 +51,8 @@ pub place-with : (xs : List Place) (p q : ℕ) (f : Place → Place) → p < len
     get_or (set xs p (f (get_or xs p free_place))) q free_place ≡ cond (eqb p q) (f (get_or xs q free_place)) (get_or xs q free_place)
 place-with xs p q f l =
     at_place p q (λ t. get_or (set xs p (f (get_or xs p free_place))) q free_place ≡ cond t (f (get_or xs q free_place)) (get_or xs q free_place))
-    (λ e. subst (λ (r : ℕ). get_or (set xs p (f (get_or xs p free_place))) r free_place ≡ f (get_or xs r free_place)) e (get_or-set_same xs p (f (get_or xs p free_place)) free_place l))
+    (λ e. subst (λ (r : ℕ). get_or (set xs p (f (get_or xs p free_place))) r free_place ≡ f (get_or xs r free_place)) e
+    (get_or-set_same xs p (f (get_or xs p free_place)) free_place l))
     (λ ne. get_or-set_other xs p q (f (get_or xs p free_place)) free_place (λ e. ne (sym e)))
 
 pub place-freed : (xs : List Place) (q : ℕ) → get_or (map freed xs) q free_place ≡ freed (get_or xs q free_place)

@@ -29,14 +29,18 @@ Agree links links' items = (i : ℕ) → 0 < occ i items → get_or links' i 0 �
 all_items-agree : (links links' : List ℕ) (cs : List Chain) → Agree links links' (all_items links cs) → all_items links' cs ≡ all_items links cs
 all_items-agree links links' [] agree = refl
 all_items-agree links links' (c ∷ cs) agree =
-    ap (λ (ys : List ℕ). ys ++ all_items links' cs) (walk-agree links links' c.len c.first (λ i o. agree i (let a = occ-append i (items_of links c) (all_items links cs) in omega (arith, a, o))))
-    ∙ ap (λ (ys : List ℕ). items_of links c ++ ys) (all_items-agree links links' cs (λ i o. agree i (let a = occ-append i (items_of links c) (all_items links cs) in omega (arith, a, o))))
+    ap (λ (ys : List ℕ). ys ++ all_items links' cs)
+    (walk-agree links links' c.len c.first (λ i o. agree i (let a = occ-append i (items_of links c) (all_items links cs) in omega (arith, a, o))))
+    ∙ ap (λ (ys : List ℕ). items_of links c ++ ys)
+    (all_items-agree links links' cs (λ i o. agree i (let a = occ-append i (items_of links c) (all_items links cs) in omega (arith, a, o))))
 
 bags-agree : (links links' : List ℕ) (cs : List Chain) → Agree links links' (all_items links cs) → map (bag_of links') cs ≡ map (bag_of links) cs
 bags-agree links links' [] agree = refl
 bags-agree links links' (c ∷ cs) agree =
-    ap (λ (ys : List ℕ). set.from_list ys ∷ map (bag_of links') cs) (walk-agree links links' c.len c.first (λ i o. agree i (let a = occ-append i (items_of links c) (all_items links cs) in omega (arith, a, o))))
-    ∙ ap (λ (ys : List Items). bag_of links c ∷ ys) (bags-agree links links' cs (λ i o. agree i (let a = occ-append i (items_of links c) (all_items links cs) in omega (arith, a, o))))
+    ap (λ (ys : List ℕ). set.from_list ys ∷ map (bag_of links') cs)
+    (walk-agree links links' c.len c.first (λ i o. agree i (let a = occ-append i (items_of links c) (all_items links cs) in omega (arith, a, o))))
+    ∙ ap (λ (ys : List Items). bag_of links c ∷ ys)
+    (bags-agree links links' cs (λ i o. agree i (let a = occ-append i (items_of links c) (all_items links cs) in omega (arith, a, o))))
 
 -- one of the chains
 pub occ-at : (links : List ℕ) (cs : List Chain) (k i : ℕ) → occ i (items_of links (get_or cs k no_chain)) ≤ occ i (all_items links cs)
@@ -52,7 +56,8 @@ occ-set links (d ∷ cs) zero c i l =
     let a = occ-append i (items_of links c) (all_items links cs) in let b = occ-append i (items_of links d) (all_items links cs) in omega (arith, a, b)
 occ-set links (d ∷ cs) (suc k) c i l =
     let rest = occ-set links cs k c i (omega arith) in
-    let a = occ-append i (items_of links d) (all_items links (list_set cs k c)) in let b = occ-append i (items_of links d) (all_items links cs) in omega (arith, a, b, rest)
+    let a = occ-append i (items_of links d) (all_items links (list_set cs k c)) in let b =
+    occ-append i (items_of links d) (all_items links cs) in omega (arith, a, b, rest)
 
 IsChain-agree : (links links' : List ℕ) (c : Chain) → length links' ≡ length links → items_of links' c ≡ items_of links c → IsChain links c → IsChain links' c
 IsChain-agree links links' c size same is = record {
@@ -74,14 +79,17 @@ each-set P cs k c l all here j =
 
 -- A chain is put where there was an empty one, and no link of the others was written.
 relinked : (links links' : List ℕ) (cs : List Chain) (k : ℕ) (c : Chain) → AreChains links cs → k < length cs → length links' ≡ length links →
-    Agree links links' (all_items links cs) → IsChain links' c → ((i : ℕ) → occ i (all_items links cs) + occ i (items_of links' c) ≤ 1) → AreChains links' (list_set cs k c)
+    Agree links links' (all_items links cs) → IsChain links' c →
+    ((i : ℕ) → occ i (all_items links cs) + occ i (items_of links' c) ≤ 1) → AreChains links' (list_set cs k c)
 relinked links links' cs k c are l size agree is once = record {
   small = (let s = are.small in omega (arith, s, size));
   chain = each-set (IsChain links') cs k c l
       (λ j. IsChain-agree links links' (get_or cs j no_chain) size
-      (walk-agree links links' (get_or cs j no_chain).len (get_or cs j no_chain).first (λ i o. agree i (let a = occ-at links cs j i in omega (arith, a, o)))) (are.chain j))
+      (walk-agree links links' (get_or cs j no_chain).len (get_or cs j no_chain).first
+      (λ i o. agree i (let a = occ-at links cs j i in omega (arith, a, o)))) (are.chain j))
       is;
-  once = λ i. let a = occ-set links' cs k c i l in let b = ap (λ (ys : List ℕ). occ i ys) (all_items-agree links links' cs agree) in let d = once i in omega (arith, a, b, d);
+  once = λ i. let a = occ-set links' cs k c i l in let b =
+      ap (λ (ys : List ℕ). occ i ys) (all_items-agree links links' cs agree) in let d = once i in omega (arith, a, b, d);
 }
 
 -- without one of them they are still chains
@@ -134,14 +142,17 @@ nowhere links (c ∷ cs) i none =
 -- an item put into a bag
 pub put_chains : (links links' : List ℕ) (cs : List Chain) (k item : ℕ) (c : Chain) → AreChains links cs → k < length cs →
     length links' ≡ length links → occ item (all_items links cs) ≡ 0 →
-    items_of links' c ≡ item ∷ items_of links (get_or cs k no_chain) → IsChain links' c → ((i : ℕ) → (i ≡ item → ⊥) → get_or links' i 0 ≡ get_or links i 0) → AreChains links' (list_set cs k c)
+    items_of links' c ≡ item ∷ items_of links (get_or cs k no_chain) → IsChain links' c →
+    ((i : ℕ) → (i ≡ item → ⊥) → get_or links' i 0 ≡ get_or links i 0) → AreChains links' (list_set cs k c)
 put_chains links links' cs k item c are l size none items is others =
     subst (λ (ds : List Chain). AreChains links' ds) (set-set cs k no_chain c)
     (relinked links links' (list_set cs k no_chain) k c (emptied links cs k are l) (let a = length-set cs k no_chain in omega (arith, a, l)) size
-    (λ i o. others i (λ e. absurd (let a = occ-set links cs k no_chain i l in let z : occ i (all_items links cs) ≡ 0 = ap (λ (j : ℕ). occ j (all_items links cs)) e ∙ none in omega (arith, a, o, z)))) is
+    (λ i o. others i (λ e. absurd (let a = occ-set links cs k no_chain i l in let z : occ i (all_items links cs) ≡ 0 =
+    ap (λ (j : ℕ). occ j (all_items links cs)) e ∙ none in omega (arith, a, o, z)))) is
     (λ i. let a = occ-set links cs k no_chain i l in let b = ap (λ (ys : List ℕ). occ i ys) items in let d = are.once i in
     ⊎_elim
-    (λ e. let z : occ i (all_items links cs) ≡ 0 = ap (λ (j : ℕ). occ j (all_items links cs)) e ∙ none in let h = at_head i item (items_of links (get_or cs k no_chain)) (sym e) in omega (arith, a, b, z, h))
+    (λ e. let z : occ i (all_items links cs) ≡ 0 = ap (λ (j : ℕ). occ j (all_items links cs)) e ∙ none in
+    let h = at_head i item (items_of links (get_or cs k no_chain)) (sym e) in omega (arith, a, b, z, h))
     (λ ne. let h = ap one_if (ne_eqb i item ne) in omega (arith, a, b, d, h))
     (cases_eq i item)))
 
@@ -153,7 +164,8 @@ put_bags links links' cs k item c l none items others =
     ap (λ (es : List Chain). map (bag_of links') es) (sym (set-set cs k no_chain c))
     ∙ (bags-set links' ds k c
     ∙ (ap (λ (bs : List Items). list_set bs k (bag_of links' c))
-    (bags-agree links links' ds (λ i o. others i (λ e. absurd (let a = occ-set links cs k no_chain i l in let z : occ i (all_items links cs) ≡ 0 = ap (λ (j : ℕ). occ j (all_items links cs)) e ∙ none in omega (arith, a, o, z)))))
+    (bags-agree links links' ds (λ i o. others i (λ e. absurd (let a = occ-set links cs k no_chain i l in
+    let z : occ i (all_items links cs) ≡ 0 = ap (λ (j : ℕ). occ j (all_items links cs)) e ∙ none in omega (arith, a, o, z)))))
     ∙ (ap (λ (bs : List Items). list_set bs k (bag_of links' c)) (bags-set links cs k no_chain)
     ∙ (set-set (map (bag_of links) cs) k (bag_of links no_chain) (bag_of links' c)
     ∙ ap (λ (b : Items). list_set (map (bag_of links) cs) k b)
@@ -180,7 +192,8 @@ pub record Joins (links links' : List ℕ) (cs : List Chain) (to from : ℕ) (c 
 
 -- how often an item occurs in the others
 occ-others : (links : List ℕ) (cs : List Chain) (to from i : ℕ) → to < length cs → from < length cs → (to ≡ from → ⊥) →
-    occ i (all_items links (list_set (list_set cs from no_chain) to no_chain)) + occ i (items_of links (get_or cs to no_chain)) + occ i (items_of links (get_or cs from no_chain)) ≡ occ i (all_items links cs)
+    occ i (all_items links (list_set (list_set cs from no_chain) to no_chain)) + occ i
+    (items_of links (get_or cs to no_chain)) + occ i (items_of links (get_or cs from no_chain)) ≡ occ i (all_items links cs)
 occ-others links cs to from i lt lf ne =
     let ds = list_set cs from no_chain in
     let a = occ-set links cs from no_chain i lf in
@@ -208,7 +221,8 @@ join_chains links links' cs to from c j =
     let ds = list_set cs from no_chain in
     let ld : to < length ds = (let z = length-set cs from no_chain in let l = j.to_is in omega (arith, z, l)) in
     subst (λ (es : List Chain). AreChains links' es) (set-set ds to no_chain c)
-    (relinked links links' (list_set ds to no_chain) to c (emptied links ds to (emptied links cs from j.are j.from_is) ld) (let z = length-set ds to no_chain in omega (arith, z, ld)) j.size
+    (relinked links links' (list_set ds to no_chain) to c (emptied links ds to (emptied links cs from j.are j.from_is) ld) (let z =
+    length-set ds to no_chain in omega (arith, z, ld)) j.size
     (agree_others links links' cs to from c j) j.is
     (λ i. let a = occ-others links cs to from i j.to_is j.from_is j.apart in let d = j.are.once i in
     let b = ap (λ (ys : List ℕ). occ i ys) j.items in
@@ -217,7 +231,8 @@ join_chains links links' cs to from c j =
 
 pub join_bags : (links links' : List ℕ) (cs : List Chain) (to from : ℕ) (c : Chain) → Joins links links' cs to from c →
     map (bag_of links') (list_set (list_set cs from no_chain) to c)
-    ≡ list_set (list_set (map (bag_of links) cs) from set.empty) to (set.union (get_or (map (bag_of links) cs) to set.empty) (get_or (map (bag_of links) cs) from set.empty))
+    ≡ list_set (list_set (map (bag_of links) cs) from set.empty) to
+    (set.union (get_or (map (bag_of links) cs) to set.empty) (get_or (map (bag_of links) cs) from set.empty))
 join_bags links links' cs to from c j =
     let ds = list_set cs from no_chain in
     let bs = map (bag_of links) cs in
@@ -229,7 +244,8 @@ join_bags links links' cs to from c j =
     ap (λ (es : List Chain). map (bag_of links') es) (sym (set-set ds to no_chain c))
     ∙ (bags-set links' (list_set ds to no_chain) to c
     ∙ (ap (λ (xs : List Items). list_set xs to (bag_of links' c))
-    (bags-agree links links' (list_set ds to no_chain) (agree_others links links' cs to from c j) ∙ (bags-set links ds to no_chain ∙ ap (λ (xs : List Items). list_set xs to (bag_of links no_chain)) (bags-set links cs from no_chain)))
+    (bags-agree links links' (list_set ds to no_chain) (agree_others links links' cs to from c j)
+    ∙ (bags-set links ds to no_chain ∙ ap (λ (xs : List Items). list_set xs to (bag_of links no_chain)) (bags-set links cs from no_chain)))
     ∙ (set-set (list_set bs from set.empty) to (bag_of links no_chain) (bag_of links' c)
     ∙ ap (λ (b : Items). list_set (list_set bs from set.empty) to b) union)))
 
@@ -250,7 +266,8 @@ joins_of links links' lent cs to from first second c are lt lf ne same one two s
   apart = ne;
   size = size;
   items = items ∙ (ap (λ (ls : List ℕ). items_of ls first ++ items_of ls second) same
-      ∙ (ap (λ (a : Chain). items_of links a ++ items_of links second) one ∙ ap (λ (b : Chain). items_of links (get_or cs to no_chain) ++ items_of links b) two));
+      ∙ (ap (λ (a : Chain). items_of links a ++ items_of links second) one
+      ∙ ap (λ (b : Chain). items_of links (get_or cs to no_chain) ++ items_of links b) two));
   is = is;
   others = λ i none.
       others i (λ some e.
@@ -271,21 +288,26 @@ put_once links lent cs k item i first second are none same one two =
     put_items links lent cs k item first second same one two in
     let b = ap (λ (ys : List ℕ). occ i ys) all in let d = are.once i in let l = occ-at links cs k i in
     ⊎_elim
-    (λ e. let z : occ i (all_items links cs) ≡ 0 = ap (λ (j : ℕ). occ j (all_items links cs)) e ∙ none in let h = at_head i item (items_of links (get_or cs k no_chain)) (sym e) in omega (arith, b, z, h, l))
+    (λ e. let z : occ i (all_items links cs) ≡ 0 = ap (λ (j : ℕ). occ j (all_items links cs)) e ∙ none in
+    let h = at_head i item (items_of links (get_or cs k no_chain)) (sym e) in omega (arith, b, z, h, l))
     (λ ne. let h = ap one_if (ne_eqb i item ne) in omega (arith, b, d, h, l))
     (cases_eq i item)
   where
     put_items : (links lent : List ℕ) (cs : List Chain) (k item : ℕ) (first second : Chain) → lent ≡ links →
-        first ≡ record { first = item; last = item; len = 1 } → second ≡ get_or cs k no_chain → items_of lent first ++ items_of lent second ≡ item ∷ items_of links (get_or cs k no_chain)
+        first ≡ record { first = item; last = item; len = 1 } → second ≡ get_or cs k no_chain →
+        items_of lent first ++ items_of lent second ≡ item ∷ items_of links (get_or cs k no_chain)
     put_items links lent cs k item first second same one two =
-        ap (λ (a : Chain). items_of lent a ++ items_of lent second) one ∙ (ap (λ (ls : List ℕ). item ∷ items_of ls second) same ∙ ap (λ (b : Chain). item ∷ items_of links b) two)
+        ap (λ (a : Chain). items_of lent a ++ items_of lent second) one
+        ∙ (ap (λ (ls : List ℕ). item ∷ items_of ls second) same ∙ ap (λ (b : Chain). item ∷ items_of links b) two)
 
 -- how many items are in one of the bags
 pub len-bag : (links : List ℕ) (cs : List Chain) (k : ℕ) → AreChains links cs →
     (get_or cs k no_chain).len ≡ set.len (get_or (map (bag_of links) cs) k set.empty)
 len-bag links cs k are =
     let c = get_or cs k no_chain in
-    sym (length-walk links c.len c.first) ∙ (sym (len-from_list (items_of links c) (λ i. let a = occ-at links cs k i in let d = are.once i in omega (arith, a, d))) ∙ ap (λ (b : Items). set.len b) (sym (bag-at links cs k)))
+    sym (length-walk links c.len c.first)
+    ∙ (sym (len-from_list (items_of links c) (λ i. let a = occ-at links cs k i in let d = are.once i in omega (arith, a, d)))
+    ∙ ap (λ (b : Items). set.len b) (sym (bag-at links cs k)))
 
 -- new chains are empty
 new_items : (n : ℕ) (links : List ℕ) → all_items links (replicate n no_chain) ≡ []

@@ -100,35 +100,42 @@ within_bags v c xs ts rs x e same p h = let l : p < length xs = within_seen v c 
 has_rotated : (t : Trio) (i : ℕ) → has (bags.rotated t) i ≡ true → has t i ≡ true
 has_rotated t i h =
     ⊎_elim
-    (λ a. ⊎_elim (λ none. absurd (false≢true (sym (set.contains-empty nat_cmp i) ∙ none))) (λ b. or_left (set.contains t.current i || set.contains t.prev i) _ (or_left (set.contains t.current i) (set.contains t.prev i) b)) (or_cases (set.contains (set.empty {R = nat_cmp}) i) (set.contains t.current i) a))
+    (λ a. ⊎_elim (λ none. absurd (false≢true (sym (set.contains-empty nat_cmp i) ∙ none)))
+    (λ b. or_left (set.contains t.current i || set.contains t.prev i) _ (or_left (set.contains t.current i) (set.contains t.prev i) b))
+    (or_cases (set.contains (set.empty {R = nat_cmp}) i) (set.contains t.current i) a))
     (λ b. or_left (set.contains t.current i || set.contains t.prev i) (set.contains t.next i) (or_right (set.contains t.current i) (set.contains t.prev i) b))
     (or_cases (set.contains (set.empty {R = nat_cmp}) i || set.contains t.current i) (set.contains t.prev i) h)
 
 fits_set : (xs : List Post) (b : Bagged) (rs : List Bool) (o : Option Scan) (p : ℕ) (u : Trio) → Fits xs b rs o → p < length b.trios →
-    (is_free (get_or xs p free_post).phase ≡ true → u ≡ no_items) → ((i : ℕ) → has u i ≡ true → get_or rs i false ≡ true) → Fits xs (record b { trios = set b.trios p u }) rs o
+    (is_free (get_or xs p free_post).phase ≡ true → u ≡ no_items) →
+    ((i : ℕ) → has u i ≡ true → get_or rs i false ≡ true) → Fits xs (record b { trios = set b.trios p u }) rs o
 fits_set xs b rs o p u f l g h = record {
   held = f.held;
   free = λ q. at_place p q (λ t. is_free (get_or xs q free_post).phase ≡ true → get_or (set b.trios p u) q no_items ≡ no_items)
-      (λ e is. subst (λ (j : ℕ). is_free (get_or xs j free_post).phase ≡ true → get_or (set b.trios p u) j no_items ≡ no_items) e (λ w. get_or-set_same b.trios p u no_items l ∙ g w) is)
+      (λ e is. subst (λ (j : ℕ). is_free (get_or xs j free_post).phase ≡ true → get_or (set b.trios p u) j no_items ≡ no_items) e
+      (λ w. get_or-set_same b.trios p u no_items l ∙ g w) is)
       (λ ne is. get_or-set_other b.trios p q u no_items (λ e. ne (sym e)) ∙ f.free q is);
   few = f.few;
   room = f.room;
   same = length-set b.trios p u ∙ f.same;
   waits = λ q i. at_place p q (λ t. has (get_or (set b.trios p u) q no_items) i ≡ true → get_or rs i false ≡ true)
-      (λ e g. h i (subst (λ (k : Trio). has k i ≡ true) (subst (λ (j : ℕ). get_or (set b.trios p u) j no_items ≡ u) e (get_or-set_same b.trios p u no_items l)) g))
+      (λ e g. h i (subst (λ (k : Trio). has k i ≡ true)
+      (subst (λ (j : ℕ). get_or (set b.trios p u) j no_items ≡ u) e (get_or-set_same b.trios p u no_items l)) g))
       (λ ne g. f.waits q i (subst (λ (k : Trio). has k i ≡ true) (get_or-set_other b.trios p q u no_items (λ e. ne (sym e))) g));
 }
 
 pub fits_rotated : (xs : List Post) (b : Bagged) (rs : List Bool) (o : Option Scan) (p : ℕ) → Fits xs b rs o → p < length b.trios →
     Fits xs (record b { trios = set b.trios p (bags.rotated (get_or b.trios p no_items)) }) rs o
 fits_rotated xs b rs o p f l =
-    fits_set xs b rs o p (bags.rotated (get_or b.trios p no_items)) f l (λ is. ap bags.rotated (f.free p is)) (λ i h. f.waits p i (has_rotated (get_or b.trios p no_items) i h))
+    fits_set xs b rs o p (bags.rotated (get_or b.trios p no_items)) f l
+    (λ is. ap bags.rotated (f.free p is)) (λ i h. f.waits p i (has_rotated (get_or b.trios p no_items) i h))
 
 has_put : (t : Trio) (i j : ℕ) → has (put i t) j ≡ true → (i ≡ j) ⊎ (has t j ≡ true)
 has_put t i j h =
     ⊎_elim
     (λ a. ⊎_elim
-    (λ c. ⊎_elim (λ e. inl (sym (eqb-true j i e))) (λ b. inr (or_left _ _ (or_left _ _ b))) (or_cases (eqb j i) (set.contains t.current j) (sym (contains-put t.current i j) ∙ c)))
+    (λ c. ⊎_elim (λ e. inl (sym (eqb-true j i e))) (λ b. inr (or_left _ _ (or_left _ _ b)))
+    (or_cases (eqb j i) (set.contains t.current j) (sym (contains-put t.current i j) ∙ c)))
     (λ b. inr (or_left _ _ (or_right _ _ b)))
     (or_cases (set.contains (set.insert t.current i) j) (set.contains t.prev j) a))
     (λ b. inr (or_right _ _ b))
@@ -141,10 +148,19 @@ retired_more rs i j l h =
     (λ ne. get_or-set_other rs i j true false (λ e. ne (sym e)) ∙ ⊎_elim (λ e. absurd (ne e)) (λ g. g) h)
 
 pub fits_put : (xs : List Post) (b : Bagged) (rs : List Bool) (o : Option Scan) (p i : ℕ) → Fits xs b rs o → p < length b.trios →
-    is_free (get_or xs p free_post).phase ≡ false → i < length rs → Fits xs (record b { trios = set b.trios p (put i (get_or b.trios p no_items)) }) (set rs i true) o
+    is_free (get_or xs p free_post).phase ≡ false → i < length rs →
+    Fits xs (record b { trios = set b.trios p (put i (get_or b.trios p no_items)) }) (set rs i true) o
 fits_put xs b rs o p i f l busy m =
     let g : Fits xs b (set rs i true) o =
-    record { held = f.held; free = f.free; few = f.few; same = f.same; room = f.room ∙ sym (length-set rs i true); waits = λ q j h. retired_more rs i j m (inr (f.waits q j h)) } in
+    record {
+      held = f.held;
+      free = f.free;
+      few = f.few;
+      same = f.same;
+      room =
+          f.room ∙ sym (length-set rs i true);
+      waits = λ q j h. retired_more rs i j m (inr (f.waits q j h));
+    } in
     fits_set xs b (set rs i true) o p (put i (get_or b.trios p no_items)) g l (λ is. absurd (true≢false (sym is ∙ busy)))
     (λ j h. retired_more rs i j m (⊎_elim (λ e. inl e) (λ o. inr (f.waits p j o)) (has_put (get_or b.trios p no_items) i j h)))
 
@@ -159,7 +175,8 @@ with_put v c xs ts rs x p i e same =
 pub with_place_twice : (v : State) (p : ℕ) (f g : Place → Place) → p < length v.places → with_place (with_place v p f) p g ≡ with_place v p (λ x. g (f x))
 with_place_twice v p f g l =
     ap (λ (ps : List Place). record { count = v.count; places = ps; retired = v.retired; scan = v.scan })
-    (ap (λ (y : Place). set (set v.places p (f (place_at v p))) p (g y)) (get_or-set_same v.places p (f (place_at v p)) free_place l) ∙ set-set v.places p (f (place_at v p)) (g (f (place_at v p))))
+    (ap (λ (y : Place). set (set v.places p (f (place_at v p))) p (g y)) (get_or-set_same v.places p (f (place_at v p)) free_place l)
+    ∙ set-set v.places p (f (place_at v p)) (g (f (place_at v p))))
 
 -- adopting
 places_freed : (xs : List Post) (ts : List Trio) → places_of (map freed_post xs) (emptied xs ts) ≡ map freed (places_of xs ts)
@@ -260,7 +277,8 @@ held_written : (xs : List Post) (o : Option Scan) (p : ℕ) (y : Post) → IsHel
 held_written xs None p y h other = tt
 held_written xs (Some x) p y h other =
     ap (λ (z : Post). is_open z.phase)
-    (get_or-set_other xs p x.holder y free_post (λ e. true≢false (sym h ∙ subst (λ (k : ℕ). is_open (get_or xs k free_post).phase ≡ false) (sym e) (other (eq-eqb x.holder p e)))))
+    (get_or-set_other xs p x.holder y free_post
+    (λ e. true≢false (sym h ∙ subst (λ (k : ℕ). is_open (get_or xs k free_post).phase ≡ false) (sym e) (other (eq-eqb x.holder p e)))))
     ∙ h
 
 pub fits_written : (v : State) (c : ℕ) (xs : List Post) (b : Bagged) (rs : List Bool) (o : Option Scan) (p : ℕ) (y : Post) →
@@ -268,7 +286,8 @@ pub fits_written : (v : State) (c : ℕ) (xs : List Post) (b : Bagged) (rs : Lis
     (holds p v.scan ≡ true → is_open (place_at v p).phase ≡ false) → p < length xs → is_free y.phase ≡ false → Fits (set xs p y) b rs o
 fits_written v c xs b rs o p y e f other l busy = record {
   free = λ q. at_place p q (λ t. is_free (get_or (set xs p y) q free_post).phase ≡ true → trio_at b.trios q ≡ no_items)
-      (λ s is. absurd (true≢false (sym (subst (λ (j : ℕ). is_free (get_or (set xs p y) j free_post).phase ≡ true) (sym s) is) ∙ (ap (λ (z : Post). is_free z.phase) (get_or-set_same xs p y free_post l) ∙ busy))))
+      (λ s is. absurd (true≢false (sym (subst (λ (j : ℕ). is_free (get_or (set xs p y) j free_post).phase ≡ true) (sym s) is)
+      ∙ (ap (λ (z : Post). is_free z.phase) (get_or-set_same xs p y free_post l) ∙ busy))))
       (λ ne is. f.free q (sym (ap (λ (z : Post). is_free z.phase) (get_or-set_other xs p q y free_post (λ s. ne (sym s)))) ∙ is));
   held = held_written xs o p y f.held
       (λ h. sym (ap (λ (z : Place). is_open z.phase) (at_seen v c xs b.trios rs o e f.same p)) ∙ other (sym (ap (λ (s : State). holds p s.scan) e) ∙ h));

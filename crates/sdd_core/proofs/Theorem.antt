@@ -57,8 +57,11 @@ taken_exactly size i p h is =
     let s = state size h in let x = place_at s p in
     let g = good size h is.1 in let o = item size h is.1 i in
     let same = change_is size h p g is.0 in (
-      λ e. let parts = due_of_taken (finds_another x) i x.next e in
-          (same ∙ parts.0, in_next (count_at size h) (retired_at size i h) (place_at s) p (fate size i h) o.fated (ap is_ended (reading_is _ is.0).1) (sym (o.bags p).2 ∙ parts.1)),
+      λ e. let parts = due_of_taken (finds_another x) i x.next e in (
+        same ∙ parts.0,
+        in_next (count_at size h) (retired_at size i h) (place_at s) p
+            (fate size i h) o.fated (ap is_ended (reading_is _ is.0).1) (sym (o.bags p).2 ∙ parts.1),
+      ),
       λ d. let f : fate size i h ≡ Waits p 2 = d.1 in
           ap (λ (b : Bool). set.contains (cond b x.next set.empty) i) (sym same ∙ d.0)
           ∙ ((o.bags p).2 ∙ (ap (λ (k : Fate). is_with k p 2) f ∙ (ap (λ (t : Bool). t && true) (eq-eqb p p refl)))),
@@ -103,7 +106,8 @@ gone_step size i h (Publish p) is e =
 gone_step size i h (Retire p j) is e =
     let s = state size h in let o = item size h is.1 i in
     at_place j i (λ t. cond t (Waits p 0) (fate size i h) ≡ Gone)
-    (λ same. absurd (true≢false (sym (o.flag ∙ ap was_retired e) ∙ subst (λ (k : ℕ). get_or s.retired k false ≡ false) same (not-true _ (and_parts _ _ is.0).1))))
+    (λ same. absurd (true≢false (sym (o.flag ∙ ap was_retired e)
+    ∙ subst (λ (k : ℕ). get_or s.retired k false ≡ false) same (not-true _ (and_parts _ _ is.0).1))))
     (λ _. e)
 gone_step size i h (Lock p) is e = e
 gone_step size i h (Adopt p) is e = ap (taken_over p) e
@@ -190,10 +194,12 @@ gone_from_nowhere : (c r : ℕ) (s : State) (f : Fate) (i : ℕ) → FateOk c r 
 gone_from_nowhere c r s Kept i ok bags e none = absurd (false≢true e)
 gone_from_nowhere c r s (Waits h k) i ok bags e none =
     let b = bags h in let y : (w : Bool) → (eqb h h && w) ≡ w = λ w. ap (λ (t : Bool). t && w) (eq-eqb h h refl) in
-    absurd (none h (is_in_bag k i (place_at s h).current (place_at s h).prev (place_at s h).next ok.young (b.0 ∙ y (eqb k 0), b.1 ∙ y (eqb k 1), b.2 ∙ y (eqb k 2))))
+    absurd (none h (is_in_bag k i (place_at s h).current (place_at s h).prev
+    (place_at s h).next ok.young (b.0 ∙ y (eqb k 0), b.1 ∙ y (eqb k 1), b.2 ∙ y (eqb k 2))))
 gone_from_nowhere c r s (Left h k) i ok bags e none =
     let b = bags h in let y : (w : Bool) → (eqb h h && w) ≡ w = λ w. ap (λ (t : Bool). t && w) (eq-eqb h h refl) in
-    absurd (none h (is_in_bag k i (place_at s h).current (place_at s h).prev (place_at s h).next ok.0 (b.0 ∙ y (eqb k 0), b.1 ∙ y (eqb k 1), b.2 ∙ y (eqb k 2))))
+    absurd (none h (is_in_bag k i (place_at s h).current (place_at s h).prev
+    (place_at s h).next ok.0 (b.0 ∙ y (eqb k 0), b.1 ∙ y (eqb k 1), b.2 ∙ y (eqb k 2))))
 gone_from_nowhere c r s Gone i ok bags e none = refl
 
 was_due_later : (size : Size) (i : ℕ) (step : Step) (h : List Step) → WasDue size i h → WasDue size i (step ∷ h)
@@ -226,7 +232,8 @@ became_gone : (size : Size) (i : ℕ) (step : Step) (h : List Step) → fate siz
 became_gone size i (Register p) h e = inl e
 became_gone size i (Read p) h e = inl e
 became_gone size i (Publish p) h e =
-    elim (is_change size p h) as (λ t. is_change size p h ≡ t → cond t (changed p (fate size i h)) (fate size i h) ≡ Gone → (fate size i h ≡ Gone) ⊎ IsDue size i (Publish p ∷ h)) [
+    elim (is_change size p h) as (λ t. is_change size p h ≡ t →
+    cond t (changed p (fate size i h)) (fate size i h) ≡ Gone → (fate size i h ≡ Gone) ⊎ IsDue size i (Publish p ∷ h)) [
       | true ↦ λ b x. ⊎_elim (λ g. inl g) (λ w. inr (b, w)) (from_changed p (fate size i h) x)
       | false ↦ λ b x. inl x
     ] refl e
@@ -259,7 +266,8 @@ pub reclaimed_then : (size : Size) (i : ℕ) (h : List Step) → IsHistory size 
 reclaimed_then size i h is = (
   λ r. was_due size i h ((reclaimed_is size i h is).0 r),
   λ (before, (later, eq), d). (reclaimed_is size i h is).1
-      (ap (λ (k : List Step). fate size i k) eq ∙ gone_stays size i later before (subst (λ (k : List Step). IsHistory size k) eq is) (gone_when_due size i before d)),
+      (ap (λ (k : List Step). fate size i k) eq
+      ∙ gone_stays size i later before (subst (λ (k : List Step). IsHistory size k) eq is) (gone_when_due size i before d)),
 )
 
 exactly : (size : Size) (i : ℕ) (h : List Step) → IsHistory size h → Reclaims size i h ↔ IsDue size i h
@@ -371,9 +379,12 @@ two_later a = omega arith
 near : (a b : ℕ) → a ≤ b → b ≤ a + 2 → same_generation (a % 64) (b % 64) ≡ true
 near a b low high =
     let x = a % 64 in let y = b % 64 in
-    ⊎_elim (λ e. or_left (y == x || y == epoch_after x) (y == epoch_after (epoch_after x)) (or_left (y == x) (y == epoch_after x) (eq-eqb y x (ap (λ (k : ℕ). k % 64) e))))
-    (λ d. ⊎_elim (λ e. or_left (y == x || y == epoch_after x) (y == epoch_after (epoch_after x)) (or_right (y == x) (y == epoch_after x) (eq-eqb y (epoch_after x) (ap (λ (k : ℕ). k % 64) e ∙ one_later a))))
-    (λ f. or_right (y == x || y == epoch_after x) (y == epoch_after (epoch_after x)) (eq-eqb y (epoch_after (epoch_after x)) (ap (λ (k : ℕ). k % 64) (let e : b ≡ a + 2 = omega arith in e) ∙ two_later a)))
+    ⊎_elim (λ e. or_left (y == x || y == epoch_after x) (y == epoch_after (epoch_after x))
+    (or_left (y == x) (y == epoch_after x) (eq-eqb y x (ap (λ (k : ℕ). k % 64) e))))
+    (λ d. ⊎_elim (λ e. or_left (y == x || y == epoch_after x) (y == epoch_after (epoch_after x))
+    (or_right (y == x) (y == epoch_after x) (eq-eqb y (epoch_after x) (ap (λ (k : ℕ). k % 64) e ∙ one_later a))))
+    (λ f. or_right (y == x || y == epoch_after x) (y == epoch_after (epoch_after x))
+    (eq-eqb y (epoch_after (epoch_after x)) (ap (λ (k : ℕ). k % 64) (let e : b ≡ a + 2 = omega arith in e) ∙ two_later a)))
     (cases_eq b (a + 1)))
     (cases_eq b a)
 
@@ -413,7 +424,8 @@ pub taken_more : (size : Size) (steps : List Step) (i : ℕ) (d x : Step) (s : S
 taken_more size steps i d x s l e is =
     let h = history_of size (take i steps) in
     ap (λ (v : State). happens v x) e ∙ (happens-state size h x
-    ∙ ap (state size) (ap (λ (y : Step). goes_on size h (y ∷ [])) is ∙ (sym (goes_on-append size [] (take i steps) (get_or steps i d ∷ [])) ∙ ap (λ (k : List Step). goes_on size [] k) (sym (take_more steps i d l)))))
+    ∙ ap (state size) (ap (λ (y : Step). goes_on size h (y ∷ [])) is
+    ∙ (sym (goes_on-append size [] (take i steps) (get_or steps i d ∷ [])) ∙ ap (λ (k : List Step). goes_on size [] k) (sym (take_more steps i d l)))))
 
 -- what every history keeps holds after each beginning of a list
 pub at_each : (Fact : Size → List Step → Type 0) → ((size : Size) (h : List Step) → IsHistory size h → Fact size h) → (steps : List Step) →

@@ -23,7 +23,8 @@ pub returns-clause-taken : goal.returns-clause-taken
 returns-clause-taken c =
     let count = c.self.inside.count in let all_posts = c.self.inside.posts.items in let all_bags = c.self.inside.bags.trios in
     let all_retired = c.self.inside.retired.items in let scan = c.self.inside.scan in
-    c.rotate.ensures.taken ∙ ap (λ (x : Place). set.len x.next) (sym (at_seen c.args.self.now count all_posts all_bags all_retired scan c.self.view_is c.self.invariant.same c.args.place))
+    c.rotate.ensures.taken ∙ ap (λ (x : Place). set.len x.next)
+    (sym (at_seen c.args.self.now count all_posts all_bags all_retired scan c.self.view_is c.self.invariant.same c.args.place))
 
 pub returns-clause-moved : goal.returns-clause-moved
 returns-clause-moved c =

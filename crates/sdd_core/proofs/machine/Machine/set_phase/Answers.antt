@@ -24,7 +24,8 @@ returns c =
     within_seen now count all_posts all_bags all_retired scan view same_length place c.requires.place in
     let is : c.index_mut.result.now ≡ get_or all_posts place free_post =
     get_or_read all_posts place c.index_mut.result.now h c.index_mut.ensures.value free_post in
-    with_post now count all_posts all_bags all_retired scan place (record { phase = c.args.phase; found = c.index_mut.result.now.found }) (phased c.args.phase) view same_length
+    with_post now count all_posts all_bags all_retired scan place
+    (record { phase = c.args.phase; found = c.index_mut.result.now.found }) (phased c.args.phase) view same_length
     (ap (λ (x : Post). place_of (record { phase = c.args.phase; found = x.found }) (get_or all_bags place no_items)) (sym is))
 
 pub invariant_of-self : goal.invariant_of-self
@@ -34,4 +35,5 @@ invariant_of-self c =
     let place = c.args.place in
     let h : place < length all_posts =
     within_seen now count all_posts all_bags all_retired scan view c.self.invariant.same place c.requires.place in
-    fits_written now count all_posts c.self.inside.bags all_retired scan place (record { phase = c.args.phase; found = c.index_mut.result.now.found }) view c.self.invariant c.requires.other h c.requires.busy
+    fits_written now count all_posts c.self.inside.bags all_retired scan place
+    (record { phase = c.args.phase; found = c.index_mut.result.now.found }) view c.self.invariant c.requires.other h c.requires.busy

@@ -15,7 +15,8 @@ pub returns : goal.returns
 returns c =
     let count = c.self.inside.count in let all_posts = c.self.inside.posts.items in let all_bags = c.self.inside.bags.trios in
     let all_retired = c.self.inside.retired.items in let scan = c.self.inside.scan in
-    with_post c.args.self.now count all_posts all_bags all_retired scan c.args.place (record { phase = c.args.phase; found = c.args.found }) (posted c.args.phase c.args.found) c.self.view_is c.self.invariant.same refl
+    with_post c.args.self.now count all_posts all_bags all_retired scan c.args.place
+    (record { phase = c.args.phase; found = c.args.found }) (posted c.args.phase c.args.found) c.self.view_is c.self.invariant.same refl
 
 pub invariant_of-self : goal.invariant_of-self
 invariant_of-self c =
@@ -24,4 +25,5 @@ invariant_of-self c =
     let place = c.args.place in
     let h : place < length all_posts =
     within_seen now count all_posts all_bags all_retired scan view c.self.invariant.same place c.requires.place in
-    fits_written now count all_posts c.self.inside.bags all_retired scan place (record { phase = c.args.phase; found = c.args.found }) view c.self.invariant c.requires.other h c.requires.busy
+    fits_written now count all_posts c.self.inside.bags all_retired scan place
+    (record { phase = c.args.phase; found = c.args.found }) view c.self.invariant c.requires.other h c.requires.busy
