@@ -21,7 +21,7 @@ use Rattle.std.specs.Prelude.{◌↔◌}
 use Rattle.sdd_core.specs.Table.{taken_out, did, did_possible}
 use Rattle.sdd_core.specs.declared.machine.steps.Did.{Did}
 use Rattle.sdd_core.specs.declared.machine.steps.Did.TheVariants.{NotPossible, Opened}
-use Rattle.sdd_core.specs.History.{Reclaims, IsDue, WasDue, Safe, Tells, Exact, IsWith, IsReclaimed, IsHolder, IsOpenGuard}
+use Rattle.sdd_core.specs.History.{Reclaims, IsDue, WasDue, Safe, Tells, Exact, IsWith, IsReclaimed, IsHolder, IsOpenGuard, NoGuardLasts}
 use Rattle.std.proofs.Common.{◌%◌, take}
 use Rattle.std.proofs.lemmas.List.{take_more}
 use Rattle.sdd_core.specs.Table.{happens}
@@ -309,9 +309,11 @@ pub raised_at_most_once : (size : Size) (h : List Step) → IsHistory size h →
 raised_at_most_once size h is guard published o =
     between (count_at size published) (count_at size h) (under size h guard published o) (at_most_next size h is guard published o)
 
-pub safe : (size : Size) (h : List Step) → IsHistory size h → Safe size h
-safe size h is i p [] retirement eq taken guard published then_open now_open = subst (λ (k : List Step). IsDue size i k) eq ((exactly size i h is).0 taken)
-safe size h is i p (newest ∷ recent) retirement eq taken guard published then_open now_open =
+safe_by : (size : Size) (h : List Step) → IsHistory size h → (i p : ℕ) (later retirement : List Step) → h ≡ later ++ Retire p i ∷ retirement →
+    Reclaims size i h → NoGuardLasts retirement h
+safe_by size h is i p [] retirement eq taken guard published then_open now_open =
+    subst (λ (k : List Step). IsDue size i k) eq ((exactly size i h is).0 taken)
+safe_by size h is i p (newest ∷ recent) retirement eq taken guard published then_open now_open =
     let h₀ = recent ++ Retire p i ∷ retirement in
     let all : IsHistory size (newest ∷ h₀) = subst (λ (k : List Step). IsHistory size k) eq is in
     let d : IsDue size i (newest ∷ h₀) = subst (λ (k : List Step). IsDue size i k) eq ((exactly size i h is).0 taken) in
@@ -321,6 +323,10 @@ safe size h is i p (newest ∷ recent) retirement eq taken guard published then_
     let start : count_at size retirement ≤ retired_at size i h₀ = retired_after size i p recent retirement in
     let end : retired_at size i h₀ + 2 ≤ count_at size h₀ = late size i newest h₀ all d in
     absurd (omega arith)
+
+pub safe : (size : Size) (h : List Step) → IsHistory size h → Safe size h
+safe size h is i retirement r taken guard published then_open now_open =
+    safe_by size h is i r.place r.later retirement r.follows taken guard published then_open now_open
 
 held : (f : Fate) (p k : ℕ) → is_with f p k ≡ true → IsHolder p f
 held Kept p k e = absurd (false≢true e)
@@ -389,9 +395,10 @@ near a b low high =
     (cases_eq b a)
 
 pub generations : (size : Size) (h : List Step) → IsHistory size h → KeepsGenerations size h
-generations size h is seen retirement own is_seen at_r other guard begun guard_then guard_now =
-    let all : IsHistory size (at_r.later ++ Retire at_r.place at_r.item ∷ retirement) = subst (λ (k : List Step). IsHistory size k) at_r.follows is in
-    let is_r : IsHistory size retirement = (earlier size at_r.later (Retire at_r.place at_r.item ∷ retirement) all).1 in
+generations size h is i seen retirement own is_seen at_r other guard begun guard_then guard_now =
+    let from_retirement = Retire at_r.place i ∷ retirement in
+    let all : IsHistory size (at_r.later ++ from_retirement) = subst (λ (k : List Step). IsHistory size k) at_r.follows is in
+    let is_r : IsHistory size retirement = (earlier size at_r.later from_retirement all).1 in
     let high : count_at size h ≤ count_at size begun + 1 = at_most_next size h is guard begun guard_now in
     let from : count_at size begun ≤ count_at size retirement = under size retirement guard begun guard_then in
     let r : count_at size retirement ≤ count_at size own.published + 1 = at_most_next size retirement is_r own.guard own.published own.open_at_other in

@@ -147,9 +147,15 @@ Reclaims size item (step ∷ past) = IsReclaimed (state size (step ∷ past)) it
 
 -- SAFE AND EXACT
 
+-- the item was retired by the step that follows the one moment, and the other goes on from there
+pub record IsRetirement (item : ℕ) (retirement moment : List Step) : Type 0 where
+  pub place : ℕ
+  pub later : List Step
+  pub follows : moment ≡ later ++ Retire place item ∷ retirement
+
 -- at the reclaim of an item no guard that was open at its retirement is open
 abbrev pub Safe : Size → List Step → Type 0
-Safe size moment = (item place : ℕ) (later retirement : List Step) → moment ≡ later ++ Retire place item ∷ retirement →
+Safe size moment = (item : ℕ) (retirement : List Step) → IsRetirement item retirement moment →
     Reclaims size item moment → NoGuardLasts retirement moment
 
 -- A publish tells the count that its place read last, whether that makes it a change, and how many items are due at

@@ -1,11 +1,10 @@
 -- What every history of a machine keeps
-use Rattle.std.specs.Prelude.{◌≡◌, ℕ, ◌+◌, ◌⊎◌, IsTrue, List, ◌∷◌, ◌++◌, false, ◌↔◌, slice_index_or}
+use Rattle.std.specs.Prelude.{◌≡◌, ℕ, ◌+◌, ◌⊎◌, IsTrue, List, ◌++◌, false, ◌↔◌, slice_index_or}
 use Rattle.sdd_core.specs.declared.machine.steps.Step.{Step}
-use Rattle.sdd_core.specs.declared.machine.steps.Step.TheVariants.{Retire}
 use Rattle.sdd_core.specs.Epoch.{same_generation}
 use Rattle.sdd_core.specs.Table.{Size, State}
 use Rattle.sdd_core.specs.Sizes.{size_for}
-use Rattle.sdd_core.specs.History.{state, history, count_at, epoch_at, fate, IsEarlier, IsOpenGuard, NoGuardLasts, IsWith, IsHolder, IsReclaimed, WasDue}
+use Rattle.sdd_core.specs.History.{state, history, count_at, epoch_at, fate, IsEarlier, IsOpenGuard, NoGuardLasts, IsRetirement, IsWith, IsHolder, IsReclaimed, WasDue}
 
 -- the items reclaimed by this moment are exactly those whose due publish lies in the history
 abbrev pub ReclaimsWhatWasDue : Size → List Step → Type 0
@@ -23,13 +22,6 @@ abbrev pub IsRaisedAtMostOnce : Size → List Step → Type 0
 IsRaisedAtMostOnce size moment = (guard : ℕ) (published : List Step) → IsOpenGuard guard published moment →
     (count_at size moment ≡ count_at size published) ⊎ (count_at size moment ≡ count_at size published + 1)
 
--- the step that the one moment is just before, and the other after, retired an item
-pub record IsRetired (retirement moment : List Step) : Type 0 where
-  pub place : ℕ
-  pub item : ℕ
-  pub later : List Step
-  pub follows : moment ≡ later ++ Retire place item ∷ retirement
-
 -- one guard is open at both moments
 pub record AreUnderOneGuard (one other : List Step) : Type 0 where
   pub guard : ℕ
@@ -40,8 +32,8 @@ pub record AreUnderOneGuard (one other : List Step) : Type 0 where
 -- The epoch was seen under the guard under which an item was retired. Where the epoch is of another generation now,
 -- after both, no guard that was open at the retirement is open.
 abbrev pub KeepsGenerations : Size → List Step → Type 0
-KeepsGenerations size now = (seen retirement : List Step) → AreUnderOneGuard seen retirement →
-    IsEarlier seen now → IsRetired retirement now →
+KeepsGenerations size now = (item : ℕ) (seen retirement : List Step) → AreUnderOneGuard seen retirement →
+    IsEarlier seen now → IsRetirement item retirement now →
     same_generation (epoch_at size seen) (epoch_at size now) ≡ false → NoGuardLasts retirement now
 
 -- the state after a list of steps, in a machine as large as they need
