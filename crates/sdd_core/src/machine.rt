@@ -394,8 +394,9 @@ pub(crate) fn items_for(steps: &[Step]) -> u32
     greatest.min(MAX_ITEMS - 1) + 1
 }
 
-/// Takes the steps in order, in a machine with as many places and items as they name, and says what holds after each
-/// of them: the history is safe and exact.
+/// Takes the steps in order, in a machine with as many places and items as they name.
+///
+/// The history is safe and exact after each of them, in this machine and in one of any other size.
 ///
 /// Refused with `NoMemory` where memory was refused.
 pub fn safety(alloc: Global, steps: &[Step]) -> Result<Machine, Refused>
@@ -404,7 +405,8 @@ pub fn safety(alloc: Global, steps: &[Step]) -> Result<Machine, Refused>
 
     // No retired item is reclaimed while a guard published at its retirement is open.
     ensures safe { AtEachMoment steps.now Safe }
-    // None is reclaimed twice, and each at its holder's third change.
+    // None is reclaimed twice, and each at its holder's third change. A publish tells whether it is a change, and how
+    // many items it reclaims.
     ensures exact { AtEachMoment steps.now Exact }
     ensures reclaimed { AtEachMoment steps.now ReclaimsWhatWasDue }
     ensures one_holder { AtEachMoment steps.now WaitsWithOneHolder }
