@@ -56,8 +56,8 @@ occ-set links (d ∷ cs) zero c i l =
     let a = occ-append i (items_of links c) (all_items links cs) in let b = occ-append i (items_of links d) (all_items links cs) in omega (arith, a, b)
 occ-set links (d ∷ cs) (suc k) c i l =
     let rest = occ-set links cs k c i (omega arith) in
-    let a = occ-append i (items_of links d) (all_items links (list_set cs k c)) in let b =
-    occ-append i (items_of links d) (all_items links cs) in omega (arith, a, b, rest)
+    let a = occ-append i (items_of links d) (all_items links (list_set cs k c)) in
+    let b = occ-append i (items_of links d) (all_items links cs) in omega (arith, a, b, rest)
 
 IsChain-agree : (links links' : List ℕ) (c : Chain) → length links' ≡ length links → items_of links' c ≡ items_of links c → IsChain links c → IsChain links' c
 IsChain-agree links links' c size same is = record {
@@ -88,8 +88,9 @@ relinked links links' cs k c are l size agree is once = record {
       (walk-agree links links' (get_or cs j no_chain).len (get_or cs j no_chain).first
       (λ i o. agree i (let a = occ-at links cs j i in omega (arith, a, o)))) (are.chain j))
       is;
-  once = λ i. let a = occ-set links' cs k c i l in let b =
-      ap (λ (ys : List ℕ). occ i ys) (all_items-agree links links' cs agree) in let d = once i in omega (arith, a, b, d);
+  once = λ i. let a = occ-set links' cs k c i l in
+      let b = ap (λ (ys : List ℕ). occ i ys) (all_items-agree links links' cs agree) in
+      let d = once i in omega (arith, a, b, d);
 }
 
 -- without one of them they are still chains
@@ -147,8 +148,8 @@ pub put_chains : (links links' : List ℕ) (cs : List Chain) (k item : ℕ) (c :
 put_chains links links' cs k item c are l size none items is others =
     subst (λ (ds : List Chain). AreChains links' ds) (set-set cs k no_chain c)
     (relinked links links' (list_set cs k no_chain) k c (emptied links cs k are l) (let a = length-set cs k no_chain in omega (arith, a, l)) size
-    (λ i o. others i (λ e. absurd (let a = occ-set links cs k no_chain i l in let z : occ i (all_items links cs) ≡ 0 =
-    ap (λ (j : ℕ). occ j (all_items links cs)) e ∙ none in omega (arith, a, o, z)))) is
+    (λ i o. others i (λ e. absurd (let a = occ-set links cs k no_chain i l in
+    let z : occ i (all_items links cs) ≡ 0 = ap (λ (j : ℕ). occ j (all_items links cs)) e ∙ none in omega (arith, a, o, z)))) is
     (λ i. let a = occ-set links cs k no_chain i l in let b = ap (λ (ys : List ℕ). occ i ys) items in let d = are.once i in
     ⊎_elim
     (λ e. let z : occ i (all_items links cs) ≡ 0 = ap (λ (j : ℕ). occ j (all_items links cs)) e ∙ none in

@@ -18,8 +18,7 @@ use Rattle.sdd_core.proofs.Guards.{count_step}
 use Rattle.sdd_core.proofs.Counts.{since, PhaseOk, good}
 use Rattle.sdd_core.proofs.Fates.{WaitOk, FateOk, In, is_with, BagsOk, was_retired, retired_at, read_is, change_is}
 use Rattle.std.specs.Prelude.{◌↔◌}
-use Rattle.sdd_core.specs.Table.{taken_out, did, did_possible}
-use Rattle.sdd_core.specs.declared.machine.steps.Did.{Did}
+use Rattle.sdd_core.specs.Table.{taken_out, did_possible}
 use Rattle.sdd_core.specs.declared.machine.steps.Did.TheVariants.{NotPossible, Opened}
 use Rattle.sdd_core.specs.History.{Reclaims, IsDue, WasDue, Safe, Tells, Exact, IsWith, IsReclaimed, IsHolder, IsOpenGuard, NoGuardLasts}
 use Rattle.std.proofs.Common.{◌%◌, take}

@@ -189,8 +189,8 @@ taken_at (a ∷ b ∷ c ∷ bs) (suc p) zero lp lr ne =
     inside (a ∷ b ∷ c ∷ bs) (suc p) l = let rest = inside bs p (omega arith) in omega arith
 
     three : (bs : List Items) (p : ℕ) (a b c : Items) → p < length (trios_of bs) →
-        (let one = list_set bs (at p) (set.union (bag_at bs (at p)) a) in let two =
-        list_set one (at p) (set.union (bag_at one (at p)) b) in list_set two (at p) (set.union (bag_at two (at p)) c))
+        (let one = list_set bs (at p) (set.union (bag_at bs (at p)) a) in
+        let two = list_set one (at p) (set.union (bag_at one (at p)) b) in list_set two (at p) (set.union (bag_at two (at p)) c))
         ≡ list_set bs (at p) (set.union (set.union (set.union (bag_at bs (at p)) a) b) c)
     three bs p a b c l =
         let k = at p in let x = set.union (bag_at bs k) a in let one = list_set bs k x in
@@ -208,8 +208,10 @@ pub taken_trios_in : (bs : List Items) (p r to first second third : ℕ) → to 
     trios_of (taken_in to first second third bs) ≡ joined p r (trios_of bs)
 taken_trios_in bs p r to first second third d e f g lp lr ne =
     let j = at_is p in let k = at_is r in
-    let d' : to ≡ at p =
-    omega arith in let e' : first ≡ at r = omega arith in let f' : second ≡ suc (at r) = omega arith in let g' : third ≡ suc (suc (at r)) = omega arith in
+    let d' : to ≡ at p = omega arith in
+    let e' : first ≡ at r = omega arith in
+    let f' : second ≡ suc (at r) = omega arith in
+    let g' : third ≡ suc (suc (at r)) = omega arith in
     ap (λ (m : ℕ). trios_of (taken_in m first second third bs)) d'
     ∙ (ap (λ (m : ℕ). trios_of (taken_in (at p) m second third bs)) e' ∙ (ap (λ (m : ℕ). trios_of (taken_in (at p) (at r) m third bs)) f'
     ∙ (ap (λ (m : ℕ). trios_of (taken_in (at p) (at r) (suc (at r)) m bs)) g' ∙ taken_at bs p r lp lr ne)))

@@ -1,9 +1,9 @@
-use Rattle.std.proofs.Common.{◌<◌, List, length, map, sym, ap, subst, ◌∙◌, arith, slice_set}
-use Rattle.std.proofs.lemmas.List.{get_or_read, length-map}
+use Rattle.std.proofs.Common.{List, length, ap, ◌∙◌, slice_set}
+use Rattle.std.proofs.lemmas.List.{get_or_read}
 use Rattle.std.specs.FinSet as set
 use Rattle.sdd_core.specs.declared.machine.chains.Chain.{Chain}
 use Rattle.sdd_core.specs.Table.{Items}
-use Rattle.sdd_core.specs.Chains.{Linked, no_chain, bag_of, bag_at}
+use Rattle.sdd_core.specs.Chains.{Linked, no_chain, bag_at}
 use Rattle.sdd_core.proofs.Relinks.{within_chains, emptied, bags-set, len-bag}
 use Rattle.sdd_core.proofs.machine.chains.Chains.clear.Goals as goal
 

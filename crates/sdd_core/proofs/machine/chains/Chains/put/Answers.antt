@@ -1,5 +1,5 @@
-use Rattle.std.proofs.Common.{◌≡◌, ℕ, ◌<◌, ◌++◌, ◌∷◌, List, length, map, sym, ap, subst, ◌∙◌, get_or, arith, slice_set}
-use Rattle.std.proofs.lemmas.List.{get_or_read, length-map, with_items_is}
+use Rattle.std.proofs.Common.{◌≡◌, ℕ, ◌++◌, ◌∷◌, List, length, map, sym, ap, subst, ◌∙◌, get_or, arith, slice_set}
+use Rattle.std.proofs.lemmas.List.{get_or_read, with_items_is}
 use Rattle.std.specs.FinSet as set
 use Rattle.sdd_core.specs.declared.machine.chains.Chain.{Chain}
 use Rattle.sdd_core.specs.Table.{Items}
