@@ -12,6 +12,7 @@ ghost use Rattle.sdd_store.specs.Time as time;
 
 use crate::item::Item;
 use crate::space::Guards;
+use sdd_core::inner::epoch_of_count;
 use sdd_core::{Epoch, Refused};
 
 /// An open guard: its participant has published a count, and a scan gives up while this count is behind.
@@ -78,7 +79,7 @@ impl Guard {
         ensures exact { IsExact (S.seat s.old) → (result ≡ epoch_of (S.world s.old).time.count) × (S.world s.new ≡ S.world s.old) }
         ensures keeps { KeepsShown (S.shows s.old) (S.filled s.old) (S.shows s.new) (S.filled s.new) }
     {
-        Epoch::of_count(s.count())
+        epoch_of_count(s.count())
     }
 
     /// Something may wait with the participant.

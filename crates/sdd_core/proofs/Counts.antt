@@ -7,10 +7,10 @@ use Rattle.sdd_core.specs.declared.machine.steps.Step.TheVariants.{Register, Rea
 use Rattle.sdd_core.specs.declared.machine.places.Phase.{Phase}
 use Rattle.sdd_core.specs.declared.machine.places.Phase.TheVariants.{Free, Closed, Reading, Open, Ended}
 use Rattle.sdd_core.specs.declared.machine.places.Scan.{Scan}
-use Rattle.sdd_core.specs.Table.{Size, State, Place, place_at, free_place, is_free, is_closed, is_reading, is_open, is_ended, read_of, possible, registered, reading, closed, ended, retiring, published, left, freed, taking, raises, skip, looked, scan_looked, scan_advanced, holds, adopts, looks, advances}
+use Rattle.sdd_core.specs.Table.{Size, State, Place, place_at, free_place, is_free, is_closed, is_reading, is_open, is_ended, read_of, possible, registered, reading, closed, ended, retiring, left, taking, raises, skip, looked, scan_looked, scan_advanced, holds, adopts, looks, advances}
 use Rattle.sdd_core.proofs.Histories.{IsHistory}
 use Rattle.sdd_core.specs.History.{state, count_at, last_read, last_published}
-use Rattle.sdd_core.proofs.Places.{at_place, in_range, closed_is, reading_is, open_is, effect, place_after}
+use Rattle.sdd_core.proofs.Places.{at_place, in_range, closed_is, reading_is, open_is, effect, place_after, freed_fields, published_fields}
 
 -- the count at q's last publish
 abbrev pub since : Size → ℕ → List Step → ℕ
@@ -41,7 +41,8 @@ pub record GoodOf (c : ℕ) (b r l : ℕ → ℕ) (at : ℕ → Place) (scan : O
   pub scanned : ScanOk b at scan
 
 abbrev pub Good : Size → List Step → Type 0
-Good size h = GoodOf (count_at size h) (λ q. since size q h) (λ q. last_read size q h) (λ q. last_published size q h) (λ q. place_at (state size h) q) (state size h).scan
+Good size h =
+    GoodOf (count_at size h) (λ q. since size q h) (λ q. last_read size q h) (λ q. last_published size q h) (λ q. place_at (state size h) q) (state size h).scan
 
 -- one place changed, that isn't the holder's
 scan_other : (b b' : ℕ → ℕ) (at : ℕ → Place) (x : Scan) (p : ℕ) (f : Place → Place) → IsScan b at x → (p ≡ x.holder → ⊥) →
@@ -95,7 +96,8 @@ advance_le c b r at n p (Some x) ok within i h q op =
     let is_p : x.holder ≡ p = eqb-true x.holder p (and_parts (x.holder == p) (not x.advanced) more.0).0 in
     subst (λ (k : ℕ). (at k).found ≤ b q) is_p
     (⊎_elim
-    (λ e. subst (λ (k : ℕ). (at k).found ≤ b q) e (let found : PhaseOk c (b q) (r q) Open (at q).found = subst (λ (ph : Phase). PhaseOk c (b q) (r q) ph (at q).found) op (ok q) in found.0))
+    (λ e. subst (λ (k : ℕ). (at k).found ≤ b q) e (let found : PhaseOk c (b q) (r q) Open (at q).found =
+    subst (λ (ph : Phase). PhaseOk c (b q) (r q) ph (at q).found) op (ok q) in found.0))
     (λ ne. let lt : q < n = within q op in let le : n ≤ x.cursor = leb-true n x.cursor parts.1 in i.passed (not-true _ more.1) q (omega arith) ne op)
     (cases_eq q x.holder))
 
@@ -129,13 +131,15 @@ places_step size h (Register p) g can q =
 places_step size h (Read p) g can q =
     let s = state size h in let x = place_at s q in let c = count_at size h in
     at_place p q (λ t. PhaseOk c (since size q h) (cond t c (last_read size q h)) (cond t (reading c x) x).phase (cond t (reading c x) x).found)
-    (λ e. let le : x.found ≤ c = at_q (λ (ph : Phase). PhaseOk c (since size q h) (last_read size q h) ph x.found) (place_at s) p q Closed e (closed_is _ can) (g.places q) in (refl, le, omega arith))
+    (λ e. let le : x.found ≤ c = at_q (λ (ph : Phase). PhaseOk c (since size q h) (last_read size q h) ph x.found)
+    (place_at s) p q Closed e (closed_is _ can) (g.places q) in (refl, le, omega arith))
     (λ _. g.places q)
 places_step size h (Publish p) g can q =
     let s = state size h in let x = place_at s q in let c = count_at size h in
-    at_place p q (λ t. PhaseOk c (cond t c (since size q h)) (last_read size q h) (cond t (published x) x).phase (cond t (published x) x).found)
+    at_place p q (λ t. PhaseOk c (cond t c (since size q h)) (last_read size q h) (cond t (published_fields x) x).phase (cond t (published_fields x) x).found)
     (λ e. let r = reading_is _ can in
-    let ok : (r.0 ≡ last_read size q h) × (x.found ≤ r.0) × (r.0 ≤ c) = at_q (λ (ph : Phase). PhaseOk c (since size q h) (last_read size q h) ph x.found) (place_at s) p q (Reading r.0) e r.1 (g.places q) in
+    let ok : (r.0 ≡ last_read size q h) × (x.found ≤ r.0) × (r.0 ≤ c) =
+    at_q (λ (ph : Phase). PhaseOk c (since size q h) (last_read size q h) ph x.found) (place_at s) p q (Reading r.0) e r.1 (g.places q) in
     let is : read_of x.phase ≡ r.0 = ap read_of (subst (λ (j : ℕ). (place_at s j).phase ≡ Reading r.0) e r.1) in
     (omega arith, omega arith, omega arith))
     (λ _. g.places q)
@@ -147,23 +151,28 @@ places_step size h (Lock p) g can q = g.places q
 places_step size h (Adopt p) g can q =
     let s = state size h in let x = place_at s q in let l = left s.places in
     let ok = freed_ok (count_at size h) (since size q h) (last_read size q h) x.phase x.found (g.places q) in
-    at_place p q (λ t. PhaseOk (count_at size h) (since size q h) (last_read size q h) (cond t (taking l (freed x)) (freed x)).phase (cond t (taking l (freed x)) (freed x)).found)
+    at_place p q (λ t. PhaseOk (count_at size h) (since size q h) (last_read size q h)
+    (cond t (taking l (freed_fields x)) (freed_fields x)).phase (cond t (taking l (freed_fields x)) (freed_fields x)).found)
     (λ _. ok) (λ _. ok)
 places_step size h (Look p) g can q = g.places q
 places_step size h (Advance p) g can q =
     let s = state size h in let x = place_at s q in let c = count_at size h in
     let le : (place_at s q).phase ≡ Open → (place_at s p).found ≤ since size q h =
-    advance_le c (λ j. since size j h) (λ j. last_read size j h) (place_at s) (length s.places) p s.scan g.places (λ j o. in_range s.places j (ap is_free o)) g.scanned can q in
+    advance_le c (λ j. since size j h) (λ j. last_read size j h) (place_at s)
+    (length s.places) p s.scan g.places (λ j o. in_range s.places j (ap is_free o)) g.scanned can q in
     elim (raises s p) as (λ t. raises s p ≡ t → PhaseOk (cond t (c + 1) c) (since size q h) (last_read size q h) x.phase x.found) [
       | true ↦ λ e. raised_ok c (since size q h) (last_read size q h) x.phase x.found (g.places q)
-          (λ o. let eq : c ≡ (place_at s p).found = eqb-true c (place_at s p).found (and_parts _ _ e).0 in let under : (place_at s p).found ≤ since size q h = le o in omega arith)
+          (λ o. let eq : c ≡ (place_at s p).found = eqb-true c (place_at s p).found (and_parts _ _ e).0 in
+          let under : (place_at s p).found ≤ since size q h = le o in omega arith)
       | false ↦ λ e. g.places q
     ] refl
 places_step size h (Unlock p) g can q = g.places q
 places_step size h (Close p) g can q =
     let s = state size h in let x = place_at s q in let c = count_at size h in
     at_place p q (λ t. PhaseOk c (since size q h) (last_read size q h) (cond t (closed x) x).phase (cond t (closed x) x).found)
-    (λ e. let ok : (x.found ≤ since size q h) × (since size q h ≤ c) × (c ≤ since size q h + 1) = at_q (λ (ph : Phase). PhaseOk c (since size q h) (last_read size q h) ph x.found) (place_at s) p q Open e (open_is _ (and_parts _ _ can).0) (g.places q) in omega arith)
+    (λ e. let ok : (x.found ≤ since size q h) × (since size q h ≤ c) × (c ≤ since size q h + 1) =
+    at_q (λ (ph : Phase). PhaseOk c (since size q h) (last_read size q h) ph x.found)
+    (place_at s) p q Open e (open_is _ (and_parts _ _ can).0) (g.places q) in omega arith)
     (λ _. g.places q)
 places_step size h (End p) g can q =
     let x = place_at (state size h) q in
@@ -180,9 +189,10 @@ found_step size h (Read p) g can q =
     at_place p q (λ t. (cond t (reading s.count x) x).found ≡ last_published size q h) (λ _. g.found q) (λ _. g.found q)
 found_step size h (Publish p) g can q =
     let s = state size h in let x = place_at s q in let c = count_at size h in
-    at_place p q (λ t. (cond t (published x) x).found ≡ cond t (last_read size q h) (last_published size q h))
+    at_place p q (λ t. (cond t (published_fields x) x).found ≡ cond t (last_read size q h) (last_published size q h))
     (λ e. let r = reading_is _ can in
-    let ok : (r.0 ≡ last_read size q h) × (x.found ≤ r.0) × (r.0 ≤ c) = at_q (λ (ph : Phase). PhaseOk c (since size q h) (last_read size q h) ph x.found) (place_at s) p q (Reading r.0) e r.1 (g.places q) in
+    let ok : (r.0 ≡ last_read size q h) × (x.found ≤ r.0) × (r.0 ≤ c) =
+    at_q (λ (ph : Phase). PhaseOk c (since size q h) (last_read size q h) ph x.found) (place_at s) p q (Reading r.0) e r.1 (g.places q) in
     ap read_of (subst (λ (j : ℕ). (place_at s j).phase ≡ Reading r.0) e r.1) ∙ ok.0)
     (λ _. g.found q)
 found_step size h (Retire p i) g can q =
@@ -191,7 +201,7 @@ found_step size h (Retire p i) g can q =
 found_step size h (Lock p) g can q = g.found q
 found_step size h (Adopt p) g can q =
     let s = state size h in let x = place_at s q in let l = left s.places in
-    at_place p q (λ t. (cond t (taking l (freed x)) (freed x)).found ≡ last_published size q h) (λ _. g.found q) (λ _. g.found q)
+    at_place p q (λ t. (cond t (taking l (freed_fields x)) (freed_fields x)).found ≡ last_published size q h) (λ _. g.found q) (λ _. g.found q)
 found_step size h (Look p) g can q = g.found q
 found_step size h (Advance p) g can q = g.found q
 found_step size h (Unlock p) g can q = g.found q
@@ -203,7 +213,8 @@ found_step size h (End p) g can q =
     at_place p q (λ t. (cond t (ended x) x).found ≡ last_published size q h) (λ _. g.found q) (λ _. g.found q)
 
 -- the holder is open, so it is no place in another phase
-pub not_holder : (b : ℕ → ℕ) (at : ℕ → Place) (p : ℕ) (test : Phase → Bool) → test (at p).phase ≡ true → test Open ≡ false → (x : Scan) → IsScan b at x → p ≡ x.holder → ⊥
+pub not_holder : (b : ℕ → ℕ) (at : ℕ → Place) (p : ℕ) (test : Phase → Bool) → test (at p).phase ≡ true → test Open ≡ false → (x : Scan) →
+    IsScan b at x → p ≡ x.holder → ⊥
 not_holder b at p test is not_open x i e =
     true≢false (sym is ∙ (ap (λ (k : ℕ). test (at k).phase) e ∙ (ap test i.opened ∙ not_open)))
 
@@ -234,7 +245,8 @@ below_skip p a q lt ne =
 none_before : (p q : ℕ) → q < skip p 0 → (q ≡ p → ⊥) → ⊥
 none_before p q lt ne = at_place 0 p (λ t. q < cond t (0 + 1) 0 → ⊥) (λ e l. ne (omega arith)) (λ _ l. omega arith) lt
 
-looks_ok : (b : ℕ → ℕ) (s : State) (x : Scan) → ((q : ℕ) → (place_at s q).phase ≡ Open → (place_at s q).found ≤ b q) → IsScan b (place_at s) x → x.failed ≡ false → IsScan b (place_at s) (looked s x)
+looks_ok : (b : ℕ → ℕ) (s : State) (x : Scan) → ((q : ℕ) → (place_at s q).phase ≡ Open → (place_at s q).found ≤ b q) → IsScan b (place_at s) x →
+    x.failed ≡ false → IsScan b (place_at s) (looked s x)
 looks_ok b s x ok i unfailed = record {
   opened = i.opened;
   passed = λ pass q lt other op.
@@ -247,7 +259,8 @@ looks_ok b s x ok i unfailed = record {
       (below_skip x.holder x.cursor q lt other);
 }
 
-look_ok : (b : ℕ → ℕ) (s : State) (o : Option Scan) (n p : ℕ) → ((q : ℕ) → (place_at s q).phase ≡ Open → (place_at s q).found ≤ b q) → ScanOk b (place_at s) o → looks n p o ≡ true → ScanOk b (place_at s) (scan_looked s o)
+look_ok : (b : ℕ → ℕ) (s : State) (o : Option Scan) (n p : ℕ) → ((q : ℕ) → (place_at s q).phase ≡ Open → (place_at s q).found ≤ b q) →
+    ScanOk b (place_at s) o → looks n p o ≡ true → ScanOk b (place_at s) (scan_looked s o)
 look_ok b s None n p ok i can = tt
 look_ok b s (Some x) n p ok i can = looks_ok b s x ok i (not-true _ (and_parts _ _ (and_parts (x.holder == p && not x.failed) (ltb x.cursor n) can).0).1)
 
@@ -267,16 +280,18 @@ scan_step size h (Read p) g can =
     (λ x _. not_holder b (place_at s) p is_closed can refl x) (λ x i o. cc) (λ q _. refl)
 scan_step size h (Publish p) g can =
     let s = state size h in let b : ℕ → ℕ = λ q. since size q h in let c = count_at size h in
-    scan_other_ok b (λ q. cond (eqb p q) c (b q)) (place_at s) s.scan p published g.scanned
+    scan_other_ok b (λ q. cond (eqb p q) c (b q)) (place_at s) s.scan p published_fields g.scanned
     (λ x _. not_holder b (place_at s) p is_reading can refl x)
     (λ x i o. at_place p p (λ t. (place_at s x.holder).found ≤ cond t c (b p))
-    (λ _. let ok : ((place_at s x.holder).found ≤ b x.holder) × (b x.holder ≤ c) × (c ≤ b x.holder + 1) = subst (λ (ph : Phase). PhaseOk c (b x.holder) (last_read size x.holder h) ph (place_at s x.holder).found) i.opened (g.places x.holder) in omega arith)
+    (λ _. let ok : ((place_at s x.holder).found ≤ b x.holder) × (b x.holder ≤ c) × (c ≤ b x.holder + 1) =
+    subst (λ (ph : Phase). PhaseOk c (b x.holder) (last_read size x.holder h) ph (place_at s x.holder).found) i.opened (g.places x.holder) in omega arith)
     (λ ne. absurd (ne refl)))
     (λ q ne. at_place p q (λ t. cond t c (b q) ≡ b q) (λ e. absurd (ne e)) (λ _. refl))
 scan_step size h (Retire p i) g can =
     let s = state size h in let b : ℕ → ℕ = λ q. since size q h in
     scan_kept b (place_at s) (λ q. effect s (Retire p i) q (place_at s q)) s.scan g.scanned
-    (λ q o. at_place p q (λ t. ((cond t (retiring i (place_at s q)) (place_at s q)).phase ≡ Open) × ((cond t (retiring i (place_at s q)) (place_at s q)).found ≡ (place_at s q).found)) (λ _. (o, refl)) (λ _. (o, refl)))
+    (λ q o. at_place p q (λ t. ((cond t (retiring i (place_at s q)) (place_at s q)).phase ≡ Open) ×
+    ((cond t (retiring i (place_at s q)) (place_at s q)).found ≡ (place_at s q).found)) (λ _. (o, refl)) (λ _. (o, refl)))
     (λ q. at_place p q (λ t. (cond t (retiring i (place_at s q)) (place_at s q)).phase ≡ Open → (place_at s q).phase ≡ Open) (λ _ o. o) (λ _ o. o))
 scan_step size h (Lock p) g can =
     let s = state size h in
@@ -287,12 +302,16 @@ scan_step size h (Lock p) g can =
 scan_step size h (Adopt p) g can =
     let s = state size h in let b : ℕ → ℕ = λ q. since size q h in let l = left s.places in
     scan_kept b (place_at s) (λ q. effect s (Adopt p) q (place_at s q)) s.scan g.scanned
-    (λ q o. let x = place_at s q in at_place p q (λ t. ((cond t (taking l (freed x)) (freed x)).phase ≡ Open) × ((cond t (taking l (freed x)) (freed x)).found ≡ x.found)) (λ _. (open_freed _ o, refl)) (λ _. (open_freed _ o, refl)))
-    (λ q. let x = place_at s q in at_place p q (λ t. (cond t (taking l (freed x)) (freed x)).phase ≡ Open → x.phase ≡ Open) (λ _ o. freed_open _ o) (λ _ o. freed_open _ o))
+    (λ q o. let x = place_at s q in
+    at_place p q (λ t. ((cond t (taking l (freed_fields x)) (freed_fields x)).phase ≡ Open) ×
+    ((cond t (taking l (freed_fields x)) (freed_fields x)).found ≡ x.found)) (λ _. (open_freed _ o, refl)) (λ _. (open_freed _ o, refl)))
+    (λ q. let x = place_at s q in at_place p q (λ t. (cond t (taking l (freed_fields x)) (freed_fields x)).phase ≡ Open → x.phase ≡ Open)
+    (λ _ o. freed_open _ o) (λ _ o. freed_open _ o))
 scan_step size h (Look p) g can =
     let s = state size h in let b : ℕ → ℕ = λ q. since size q h in
     look_ok b s s.scan (length s.places) p
-    (λ q o. let ok : ((place_at s q).found ≤ b q) × (b q ≤ s.count) × (s.count ≤ b q + 1) = subst (λ (ph : Phase). PhaseOk s.count (b q) (last_read size q h) ph (place_at s q).found) o (g.places q) in ok.0)
+    (λ q o. let ok : ((place_at s q).found ≤ b q) × (b q ≤ s.count) × (s.count ≤ b q + 1) =
+    subst (λ (ph : Phase). PhaseOk s.count (b q) (last_read size q h) ph (place_at s q).found) o (g.places q) in ok.0)
     g.scanned can
 scan_step size h (Advance p) g can = advance_ok (λ q. since size q h) (place_at (state size h)) (state size h).scan g.scanned
 scan_step size h (Unlock p) g can = tt
@@ -305,7 +324,8 @@ scan_step size h (End p) g can =
     scan_other_ok b b (place_at s) s.scan p ended g.scanned
     (λ x _. not_holder b (place_at s) p is_closed can refl x) (λ x i o. cc) (λ q _. refl)
 
-adopt_in_range : (size : Size) (h : List Step) (step : Step) → Good size h → possible (state size h) step ≡ true → (p : ℕ) → step ≡ Adopt p → p < length (state size h).places
+adopt_in_range : (size : Size) (h : List Step) (step : Step) → Good size h → possible (state size h) step ≡ true → (p : ℕ) → step ≡ Adopt p →
+    p < length (state size h).places
 adopt_in_range size h step g can p is =
     let s = state size h in
     let may : possible s (Adopt p) ≡ true = subst (λ (x : Step). possible s x ≡ true) is can in
@@ -319,7 +339,8 @@ good_step : (size : Size) (h : List Step) (step : Step) → Good size h → poss
 good_step size h step g can =
     let at : ℕ → Place = λ q. effect (state size h) step q (place_at (state size h) q) in
     let same : at ≡ (λ q. place_at (state size (step ∷ h)) q) = λ i q. sym (place_step size h step g can q) i in
-    subst (λ (f : ℕ → Place). GoodOf (count_at size (step ∷ h)) (λ q. since size q (step ∷ h)) (λ q. last_read size q (step ∷ h)) (λ q. last_published size q (step ∷ h)) f (state size (step ∷ h)).scan) same
+    subst (λ (f : ℕ → Place). GoodOf (count_at size (step ∷ h)) (λ q. since size q (step ∷ h))
+    (λ q. last_read size q (step ∷ h)) (λ q. last_published size q (step ∷ h)) f (state size (step ∷ h)).scan) same
     (record { places = places_step size h step g can; found = found_step size h step g can; scanned = scan_step size h step g can })
 
 pub get_or-free : (k q : ℕ) → get_or (replicate k free_place) q free_place ≡ free_place

@@ -5,10 +5,10 @@ use Rattle.sdd_core.specs.declared.machine.steps.Step.{Step}
 use Rattle.sdd_core.specs.declared.machine.steps.Step.TheVariants.{Register, Read, Publish, Retire, Lock, Adopt, Look, Advance, Unlock, Close, End}
 use Rattle.sdd_core.specs.declared.machine.places.Phase.{Phase}
 use Rattle.sdd_core.specs.declared.machine.places.Phase.TheVariants.{Free, Open}
-use Rattle.sdd_core.specs.Table.{Size, State, Place, place_at, is_free, is_closed, is_reading, is_ended, possible, registered, reading, closed, ended, retiring, published, left, freed, taking, raises}
+use Rattle.sdd_core.specs.Table.{Size, State, Place, place_at, is_free, is_closed, is_reading, is_ended, possible, registered, reading, closed, ended, retiring, left, taking, raises}
 use Rattle.sdd_core.proofs.Histories.{IsHistory}
 use Rattle.sdd_core.specs.History.{state, count_at, last_read}
-use Rattle.sdd_core.proofs.Places.{at_place, effect}
+use Rattle.sdd_core.proofs.Places.{at_place, effect, freed_fields, published_fields}
 use Rattle.std.proofs.lemmas.Bool.{or_parts, or_from}
 use Rattle.sdd_core.specs.History.{closes}
 use Rattle.sdd_core.proofs.Counts.{since, PhaseOk, good, place_step}
@@ -21,7 +21,8 @@ count_step size h (Retire p i) = omega arith
 count_step size h (Lock p) = omega arith
 count_step size h (Adopt p) = omega arith
 count_step size h (Look p) = omega arith
-count_step size h (Advance p) = elim (raises (state size h) p) as (λ t. count_at size h ≤ cond t (count_at size h + 1) (count_at size h)) [ true ↦ omega arith | false ↦ omega arith ]
+count_step size h (Advance p) =
+    elim (raises (state size h) p) as (λ t. count_at size h ≤ cond t (count_at size h + 1) (count_at size h)) [ true ↦ omega arith | false ↦ omega arith ]
 count_step size h (Unlock p) = omega arith
 count_step size h (Close p) = omega arith
 count_step size h (End p) = omega arith
@@ -52,7 +53,8 @@ apart : (s : State) (p q : ℕ) (test : Phase → Bool) → test (place_at s p).
 apart s p q test is shut op e = true≢false (sym is ∙ (ap (λ (k : ℕ). test (place_at s k).phase) e ∙ (ap test op ∙ shut)))
 
 open_stays : (size : Size) (h : List Step) (step : Step) (q : ℕ) → possible (state size h) step ≡ true → closes q (step ∷ []) ≡ false →
-    (place_at (state size h) q).phase ≡ Open → ((effect (state size h) step q (place_at (state size h) q)).phase ≡ Open) × (since size q (step ∷ h) ≡ since size q h)
+    (place_at (state size h) q).phase ≡ Open →
+    ((effect (state size h) step q (place_at (state size h) q)).phase ≡ Open) × (since size q (step ∷ h) ≡ since size q h)
 open_stays size h (Register p) q can cl op =
     let s = state size h in let x = place_at s q in
     (at_place p q (λ t. (cond t (registered x) x).phase ≡ Open) (λ e. absurd (apart s p q is_free (and_parts _ _ can).1 refl op e)) (λ _. op), refl)
@@ -61,7 +63,7 @@ open_stays size h (Read p) q can cl op =
     (at_place p q (λ t. (cond t (reading s.count x) x).phase ≡ Open) (λ e. absurd (apart s p q is_closed can refl op e)) (λ _. op), refl)
 open_stays size h (Publish p) q can cl op =
     let s = state size h in let x = place_at s q in (
-      at_place p q (λ t. (cond t (published x) x).phase ≡ Open) (λ _. refl) (λ _. op),
+      at_place p q (λ t. (cond t (published_fields x) x).phase ≡ Open) (λ _. refl) (λ _. op),
       at_place p q (λ t. cond t (count_at size h) (since size q h) ≡ since size q h) (λ e. absurd (apart s p q is_reading can refl op e)) (λ _. refl),
     )
 open_stays size h (Retire p i) q can cl op =
@@ -71,7 +73,7 @@ open_stays size h (Lock p) q can cl op = (op, refl)
 open_stays size h (Adopt p) q can cl op =
     let s = state size h in let x = place_at s q in let l = left s.places in
     let k : cond (is_ended x.phase) Free x.phase ≡ Open = subst (λ (ph : Phase). cond (is_ended ph) Free ph ≡ Open) (sym op) refl in
-    (at_place p q (λ t. (cond t (taking l (freed x)) (freed x)).phase ≡ Open) (λ _. k) (λ _. k), refl)
+    (at_place p q (λ t. (cond t (taking l (freed_fields x)) (freed_fields x)).phase ≡ Open) (λ _. k) (λ _. k), refl)
 open_stays size h (Look p) q can cl op = (op, refl)
 open_stays size h (Advance p) q can cl op = (op, refl)
 open_stays size h (Unlock p) q can cl op = (op, refl)
@@ -87,7 +89,8 @@ pub still_open : (size : Size) (q : ℕ) (inside before : List Step) → IsHisto
     ((place_at (state size (inside ++ Publish q ∷ before)) q).phase ≡ Open) × (since size q (inside ++ Publish q ∷ before) ≡ count_at size before)
 still_open size q [] before i cl =
     let s = state size before in let x = place_at s q in (
-      ap (λ (y : Place). y.phase) (place_step size before (Publish q) (good size before i.1) i.0 q) ∙ at_place q q (λ t. (cond t (published x) x).phase ≡ Open) (λ _. refl) (λ ne. absurd (ne refl)),
+      ap (λ (y : Place). y.phase) (place_step size before (Publish q) (good size before i.1) i.0 q)
+          ∙ at_place q q (λ t. (cond t (published_fields x) x).phase ≡ Open) (λ _. refl) (λ ne. absurd (ne refl)),
       at_place q q (λ t. cond t (count_at size before) (since size q before) ≡ count_at size before) (λ _. refl) (λ ne. absurd (ne refl)),
     )
 still_open size q (step ∷ inside) before i cl =

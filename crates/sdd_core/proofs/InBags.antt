@@ -5,10 +5,10 @@ use Rattle.sdd_core.specs.declared.machine.steps.Step.{Step}
 use Rattle.sdd_core.specs.declared.machine.steps.Step.TheVariants.{Register, Read, Publish, Retire, Lock, Adopt, Look, Advance, Unlock, Close, End}
 use Rattle.sdd_core.specs.declared.machine.places.Phase.{Phase}
 use Rattle.sdd_core.specs.declared.machine.places.Phase.TheVariants.{Free, Closed, Reading, Open, Ended}
-use Rattle.sdd_core.specs.Table.{Size, Place, Items, place_at, free_place, is_ended, possible, registered, reading, closed, ended, retiring, published, left, freed, taking}
+use Rattle.sdd_core.specs.Table.{Size, Place, Items, place_at, free_place, is_ended, possible, registered, reading, closed, ended, retiring, left, taking}
 use Rattle.sdd_core.proofs.Histories.{IsHistory}
 use Rattle.sdd_core.specs.History.{state, count_at, last_read, last_published}
-use Rattle.sdd_core.proofs.Places.{at_place, free_is, reading_is, effect}
+use Rattle.sdd_core.proofs.Places.{at_place, free_is, reading_is, effect, freed_fields, published_fields}
 use Rattle.std.proofs.lemmas.Bool.{or_from, or_left, or_right, eq-eqb, ne_eqb}
 use Rattle.std.specs.Ordering.{nat_cmp}
 use Rattle.std.specs.Cmp.{nat_cmp_total}
@@ -30,13 +30,21 @@ not_so : (p q : ℕ) (b : Bool) → (p ≡ q → ⊥) → (eqb p q && b) ≡ fal
 not_so p q b ne = ap (λ (t : Bool). t && b) (ne_eqb p q ne)
 
 -- a retirement of j
-retire_bags : (p q i j : ℕ) (f : Fate) (x : Place) → (j ≡ i → f ≡ Kept) → BagsOk f q i x → BagsOk (cond (eqb j i) (Waits p 0) f) q i (cond (eqb p q) (retiring j x) x)
+retire_bags : (p q i j : ℕ) (f : Fate) (x : Place) → (j ≡ i → f ≡ Kept) → BagsOk f q i x →
+    BagsOk (cond (eqb j i) (Waits p 0) f) q i (cond (eqb p q) (retiring j x) x)
 retire_bags p q i j f x new ok =
     at_place j i (λ t. BagsOk (cond t (Waits p 0) f) q i (cond (eqb p q) (retiring j x) x))
     (λ e. let was : BagsOk Kept q i x = subst (λ (g : Fate). BagsOk g q i x) (new e) ok in
-    at_place p q (λ t. In i (eqb q p && true) (eqb q p && false) (eqb q p && false) (cond t (retiring j x) x).current (cond t (retiring j x) x).prev (cond t (retiring j x) x).next)
-    (λ is. (contains-put x.current j i ∙ ap (λ (b : Bool). b || set.contains x.current i) (eq-eqb i j (sym e)) ∙ sym (yes q p true (sym is)), was.1 ∙ sym (yes q p false (sym is)), was.2 ∙ sym (yes q p false (sym is))))
-    (λ ne. let far : q ≡ p → ⊥ = λ b. ne (sym b) in (was.0 ∙ sym (not_so q p true far), was.1 ∙ sym (not_so q p false far), was.2 ∙ sym (not_so q p false far))))
+    at_place p q (λ t. In i (eqb q p && true) (eqb q p && false) (eqb q p && false)
+    (cond t (retiring j x) x).current (cond t (retiring j x) x).prev (cond t (retiring j x) x).next)
+    (λ is. (
+      contains-put x.current j i ∙ ap (λ (b : Bool). b || set.contains x.current i) (eq-eqb i j (sym e))
+          ∙ sym (yes q p true (sym is)),
+      was.1 ∙ sym (yes q p false (sym is)),
+      was.2 ∙ sym (yes q p false (sym is)),
+    ))
+    (λ ne. let far : q ≡ p → ⊥ = λ b. ne (sym b) in
+    (was.0 ∙ sym (not_so q p true far), was.1 ∙ sym (not_so q p false far), was.2 ∙ sym (not_so q p false far))))
     (λ ne. at_place p q (λ t. BagsOk f q i (cond t (retiring j x) x))
     (λ _. (contains-put x.current j i ∙ ap (λ (b : Bool). b || set.contains x.current i) (ne_eqb i j (λ e. ne (sym e))) ∙ ok.0, ok.1, ok.2))
     (λ _. ok))
@@ -75,15 +83,16 @@ unmoved p q (Left h j) ne k = refl
 unmoved p q Gone ne k = refl
 
 publish_bags : (c r : ℕ) (at : ℕ → Place) (p q i : ℕ) (f : Fate) → FateOk c r at f → is_ended (at p).phase ≡ false → BagsOk f q i (at q) →
-    BagsOk (cond (finds_another (at p)) (changed p f) f) q i (cond (eqb p q) (published (at q)) (at q))
+    BagsOk (cond (finds_another (at p)) (changed p f) f) q i (cond (eqb p q) (published_fields (at q)) (at q))
 publish_bags c r at p q i f fated e ok =
     let b = finds_another (at p) in
-    at_place p q (λ t. BagsOk (cond b (changed p f) f) q i (cond t (published (at q)) (at q)))
+    at_place p q (λ t. BagsOk (cond b (changed p f) f) q i (cond t (published_fields (at q)) (at q)))
     (λ is.
     let s = shift c r at p f fated e in
-    let here : (j : ℕ) → BagsOk f j i (at j) → p ≡ j → BagsOk (cond b (changed p f) f) j i (published (at j)) =
-    λ j o same. subst (λ (k : ℕ). BagsOk f k i (at k) → BagsOk (cond b (changed p f) f) k i (published (at k))) same
-    (λ old. elim (finds_another (at p)) as (λ t. In i (is_with (cond t (changed p f) f) p 0) (is_with (cond t (changed p f) f) p 1) (is_with (cond t (changed p f) f) p 2) (cond t set.empty (at p).current) (cond t (at p).current (at p).prev) (cond t (at p).prev (at p).next)) [
+    let here : (j : ℕ) → BagsOk f j i (at j) → p ≡ j → BagsOk (cond b (changed p f) f) j i (published_fields (at j)) =
+    λ j o same. subst (λ (k : ℕ). BagsOk f k i (at k) → BagsOk (cond b (changed p f) f) k i (published_fields (at k))) same
+    (λ old. elim (finds_another (at p)) as (λ t. In i (is_with (cond t (changed p f) f) p 0) (is_with (cond t (changed p f) f) p 1)
+    (is_with (cond t (changed p f) f) p 2) (cond t set.empty (at p).current) (cond t (at p).current (at p).prev) (cond t (at p).prev (at p).next)) [
       | true ↦ (set.contains-empty nat_cmp i ∙ sym s.0, old.0 ∙ sym s.1, old.1 ∙ sym s.2)
       | false ↦ old
     ]) o in
@@ -106,22 +115,27 @@ contains-both a b i = set.contains-union nat_cmp_total a b i
 abbrev InNone : ℕ → Place → Type 0
 InNone i x = In i false false false x.current x.prev x.next
 
-left_none : (xs : List Place) (i : ℕ) → ((q : ℕ) → is_ended (get_or xs q free_place).phase ≡ true → InNone i (get_or xs q free_place)) → set.contains (left xs) i ≡ false
+left_none : (xs : List Place) (i : ℕ) → ((q : ℕ) → is_ended (get_or xs q free_place).phase ≡ true → InNone i (get_or xs q free_place)) →
+    set.contains (left xs) i ≡ false
 left_none [] i h = set.contains-empty nat_cmp i
 left_none (x ∷ xs) i h =
     let rest = left_none xs i (λ q. h (suc q)) in
-    elim (is_ended x.phase) as (λ t. is_ended x.phase ≡ t → set.contains (cond t (set.union (set.union x.current (set.union x.prev x.next)) (left xs)) (left xs)) i ≡ false) [
+    elim (is_ended x.phase) as (λ t. is_ended x.phase ≡ t →
+    set.contains (cond t (set.union (set.union x.current (set.union x.prev x.next)) (left xs)) (left xs)) i ≡ false) [
       | true ↦ λ e. let here = h zero e in
-          contains-both _ (left xs) i ∙ or_from _ _ (contains-both x.current _ i ∙ or_from _ _ here.0 (contains-both x.prev x.next i ∙ or_from _ _ here.1 here.2)) rest
+          contains-both _ (left xs) i ∙ or_from _ _
+          (contains-both x.current _ i ∙ or_from _ _ here.0 (contains-both x.prev x.next i ∙ or_from _ _ here.1 here.2)) rest
       | false ↦ λ e. rest
     ] refl
 
 left_some : (xs : List Place) (i q : ℕ) → is_ended (get_or xs q free_place).phase ≡ true →
-    (set.contains (get_or xs q free_place).current i || (set.contains (get_or xs q free_place).prev i || set.contains (get_or xs q free_place).next i)) ≡ true → set.contains (left xs) i ≡ true
+    (set.contains (get_or xs q free_place).current i || (set.contains (get_or xs q free_place).prev i || set.contains (get_or xs q free_place).next i))
+    ≡ true → set.contains (left xs) i ≡ true
 left_some [] i q e h = absurd (false≢true e)
 left_some (x ∷ xs) i zero e h =
     ap (λ (t : Bool). set.contains (cond t (set.union (set.union x.current (set.union x.prev x.next)) (left xs)) (left xs)) i) e
-    ∙ contains-both _ (left xs) i ∙ or_left _ _ (contains-both x.current _ i ∙ ap (λ (t : Bool). set.contains x.current i || t) (contains-both x.prev x.next i) ∙ h)
+    ∙ contains-both _ (left xs) i ∙ or_left _ _
+    (contains-both x.current _ i ∙ ap (λ (t : Bool). set.contains x.current i || t) (contains-both x.prev x.next i) ∙ h)
 left_some (x ∷ xs) i (suc q) e h =
     let rest = left_some xs i q e h in
     elim (is_ended x.phase) as (λ t. set.contains (cond t (set.union (set.union x.current (set.union x.prev x.next)) (left xs)) (left xs)) i ≡ true) [
@@ -133,9 +147,10 @@ pub or_nothing : (a b : Bool) → b ≡ false → (a || b) ≡ a
 or_nothing true b e = refl
 or_nothing false b e = e
 
-freed_none : (i : ℕ) (x : Place) → (is_ended x.phase ≡ false → InNone i x) → InNone i (freed x)
+freed_none : (i : ℕ) (x : Place) → (is_ended x.phase ≡ false → InNone i x) → InNone i (freed_fields x)
 freed_none i x none =
-    elim (is_ended x.phase) as (λ t. is_ended x.phase ≡ t → In i false false false (cond t set.empty x.current) (cond t set.empty x.prev) (cond t set.empty x.next)) [
+    elim (is_ended x.phase) as (λ t. is_ended x.phase ≡ t →
+    In i false false false (cond t set.empty x.current) (cond t set.empty x.prev) (cond t set.empty x.next)) [
       | true ↦ λ _. (set.contains-empty nat_cmp i, set.contains-empty nat_cmp i, set.contains-empty nat_cmp i)
       | false ↦ none
     ] refl
@@ -163,21 +178,28 @@ live_not_ended Ended e = sym e
 
 adopt_bags : (c r : ℕ) (xs : List Place) (p q i : ℕ) (f : Fate) → (get_or xs p free_place).phase ≡ Open → FateOk c r (λ j. get_or xs j free_place) f →
     ((j : ℕ) → BagsOk f j i (get_or xs j free_place)) →
-    BagsOk (taken_over p f) q i (cond (eqb p q) (taking (left xs) (freed (get_or xs q free_place))) (freed (get_or xs q free_place)))
-adopt_bags c r xs p q i Kept op fated ok = taking_none i p q (left xs) (freed (get_or xs q free_place)) (left_none xs i (λ j _. ok j)) (freed_none i (get_or xs q free_place) (λ _. ok q))
+    BagsOk (taken_over p f) q i (cond (eqb p q) (taking (left xs) (freed_fields (get_or xs q free_place))) (freed_fields (get_or xs q free_place)))
+adopt_bags c r xs p q i Kept op fated ok =
+    taking_none i p q (left xs) (freed_fields (get_or xs q free_place)) (left_none xs i (λ j _. ok j)) (freed_none i (get_or xs q free_place) (λ _. ok q))
 adopt_bags c r xs p q i (Waits h k) op fated ok =
     let x = get_or xs q free_place in
     let not_ended : is_ended (get_or xs h free_place).phase ≡ false = live_not_ended _ fated.alive in
     let others : (j : ℕ) → is_ended (get_or xs j free_place).phase ≡ true → j ≡ h → ⊥ = λ j e. ended_apart xs h j false not_ended e in
     let none : set.contains (left xs) i ≡ false =
-    left_none xs i (λ j e. let o = ok j in let ne = others j e in (o.0 ∙ not_so j h (eqb k 0) ne, o.1 ∙ not_so j h (eqb k 1) ne, o.2 ∙ not_so j h (eqb k 2) ne)) in
-    let here : BagsOk (Waits h k) q i (freed x) =
-    elim (is_ended x.phase) as (λ t. is_ended x.phase ≡ t → In i (is_with (Waits h k) q 0) (is_with (Waits h k) q 1) (is_with (Waits h k) q 2) (cond t set.empty x.current) (cond t set.empty x.prev) (cond t set.empty x.next)) [
-      | true ↦ λ e. let ne = others q e in
-          (set.contains-empty nat_cmp i ∙ sym (not_so q h (eqb k 0) ne), set.contains-empty nat_cmp i ∙ sym (not_so q h (eqb k 1) ne), set.contains-empty nat_cmp i ∙ sym (not_so q h (eqb k 2) ne))
+    left_none xs i (λ j e. let o = ok j in let ne = others j e in
+    (o.0 ∙ not_so j h (eqb k 0) ne, o.1 ∙ not_so j h (eqb k 1) ne, o.2 ∙ not_so j h (eqb k 2) ne)) in
+    let here : BagsOk (Waits h k) q i (freed_fields x) =
+    elim (is_ended x.phase) as (λ t. is_ended x.phase ≡ t → In i (is_with (Waits h k) q 0) (is_with (Waits h k) q 1)
+    (is_with (Waits h k) q 2) (cond t set.empty x.current) (cond t set.empty x.prev) (cond t set.empty x.next)) [
+      | true ↦ λ e. let ne = others q e in (
+        set.contains-empty nat_cmp i ∙ sym (not_so q h (eqb k 0) ne),
+        set.contains-empty nat_cmp i
+            ∙ sym (not_so q h (eqb k 1) ne),
+        set.contains-empty nat_cmp i ∙ sym (not_so q h (eqb k 2) ne),
+      )
       | false ↦ λ _. ok q
     ] refl in
-    at_place p q (λ t. BagsOk (Waits h k) q i (cond t (taking (left xs) (freed x)) (freed x)))
+    at_place p q (λ t. BagsOk (Waits h k) q i (cond t (taking (left xs) (freed_fields x)) (freed_fields x)))
     (λ _. (contains-both _ (left xs) i ∙ or_nothing _ _ none ∙ here.0, here.1, here.2)) (λ _. here)
 adopt_bags c r xs p q i (Left h k) op fated ok =
     let x = get_or xs q free_place in
@@ -186,12 +208,19 @@ adopt_bags c r xs p q i (Left h k) op fated ok =
     let some : set.contains (left xs) i ≡ true =
     left_some xs i h is_over (in_some i k (get_or xs h free_place).current (get_or xs h free_place).prev (get_or xs h free_place).next fated.0
     (self.0 ∙ yes h h (eqb k 0) refl, self.1 ∙ yes h h (eqb k 1) refl, self.2 ∙ yes h h (eqb k 2) refl)) in
-    let here : InNone i (freed x) =
-    freed_none i x (λ e. let o = ok q in let ne = ended_apart xs h q true is_over e in (o.0 ∙ not_so q h (eqb k 0) ne, o.1 ∙ not_so q h (eqb k 1) ne, o.2 ∙ not_so q h (eqb k 2) ne)) in
-    at_place p q (λ t. BagsOk (Waits p 0) q i (cond t (taking (left xs) (freed x)) (freed x)))
-    (λ is. (contains-both _ (left xs) i ∙ or_right _ _ some ∙ sym (yes q p true (sym is)), here.1 ∙ sym (yes q p false (sym is)), here.2 ∙ sym (yes q p false (sym is))))
-    (λ ne. let far : q ≡ p → ⊥ = λ e. ne (sym e) in (here.0 ∙ sym (not_so q p true far), here.1 ∙ sym (not_so q p false far), here.2 ∙ sym (not_so q p false far)))
-adopt_bags c r xs p q i Gone op fated ok = taking_none i p q (left xs) (freed (get_or xs q free_place)) (left_none xs i (λ j _. ok j)) (freed_none i (get_or xs q free_place) (λ _. ok q))
+    let here : InNone i (freed_fields x) =
+    freed_none i x (λ e. let o = ok q in let ne = ended_apart xs h q true is_over e in
+    (o.0 ∙ not_so q h (eqb k 0) ne, o.1 ∙ not_so q h (eqb k 1) ne, o.2 ∙ not_so q h (eqb k 2) ne)) in
+    at_place p q (λ t. BagsOk (Waits p 0) q i (cond t (taking (left xs) (freed_fields x)) (freed_fields x)))
+    (λ is. (
+      contains-both _ (left xs) i ∙ or_right _ _ some ∙ sym (yes q p true (sym is)),
+      here.1 ∙ sym (yes q p false (sym is)),
+      here.2 ∙ sym (yes q p false (sym is)),
+    ))
+    (λ ne. let far : q ≡ p → ⊥ = λ e. ne (sym e) in
+    (here.0 ∙ sym (not_so q p true far), here.1 ∙ sym (not_so q p false far), here.2 ∙ sym (not_so q p false far)))
+adopt_bags c r xs p q i Gone op fated ok =
+    taking_none i p q (left xs) (freed_fields (get_or xs q free_place)) (left_none xs i (λ j _. ok j)) (freed_none i (get_or xs q free_place) (λ _. ok q))
 
 kept_from_flag : (f : Fate) → was_retired f ≡ false → f ≡ Kept
 kept_from_flag Kept e = refl
@@ -203,7 +232,8 @@ kept_from_flag Gone e = absurd (true≢false e)
 free_none : (c r : ℕ) (at : ℕ → Place) (f : Fate) (q : ℕ) → FateOk c r at f → (at q).phase ≡ Free → (k : ℕ) → is_with f q k ≡ false
 free_none c r at Kept q ok free k = refl
 free_none c r at (Waits h j) q ok free k = not_so q h (eqb j k) (λ e. true≢false (sym ok.alive ∙ (ap live (subst (λ (m : ℕ). (at m).phase ≡ Free) e free))))
-free_none c r at (Left h j) q ok free k = not_so q h (eqb j k) (λ e. true≢false (sym (ap is_ended ok.2) ∙ ap is_ended (subst (λ (m : ℕ). (at m).phase ≡ Free) e free)))
+free_none c r at (Left h j) q ok free k =
+    not_so q h (eqb j k) (λ e. true≢false (sym (ap is_ended ok.2) ∙ ap is_ended (subst (λ (m : ℕ). (at m).phase ≡ Free) e free)))
 free_none c r at Gone q ok free k = refl
 
 bags_step : (size : Size) (h : List Step) (step : Step) (i : ℕ) → Good size h → possible (state size h) step ≡ true → Item size h i →
@@ -212,14 +242,16 @@ bags_step size h (Register p) i g can o q =
     let s = state size h in let x = place_at s q in let f = fate size i h in
     at_place p q (λ t. BagsOk f q i (cond t (registered x) x))
     (λ e.
-    let none = free_none (count_at size h) (retired_at size i h) (place_at s) f q o.fated (subst (λ (j : ℕ). (place_at s j).phase ≡ Free) e (free_is _ (and_parts _ _ can).1)) in
+    let none = free_none (count_at size h) (retired_at size i h) (place_at s) f q o.fated
+    (subst (λ (j : ℕ). (place_at s j).phase ≡ Free) e (free_is _ (and_parts _ _ can).1)) in
     let nothing = set.contains-empty nat_cmp i in
     (nothing ∙ sym (none 0), nothing ∙ sym (none 1), nothing ∙ sym (none 2)))
     (λ _. o.bags q)
-bags_step size h (Read p) i g can o q = let x = place_at (state size h) q in bags_with p q i (fate size i h) x (reading (count_at size h) x) (o.bags q) (o.bags q)
+bags_step size h (Read p) i g can o q =
+    let x = place_at (state size h) q in bags_with p q i (fate size i h) x (reading (count_at size h) x) (o.bags q) (o.bags q)
 bags_step size h (Publish p) i g can o q =
     let s = state size h in let f = fate size i h in
-    subst (λ (b : Bool). BagsOk (cond b (changed p f) f) q i (cond (eqb p q) (published (place_at s q)) (place_at s q))) (sym (change_is size h p g can))
+    subst (λ (b : Bool). BagsOk (cond b (changed p f) f) q i (cond (eqb p q) (published_fields (place_at s q)) (place_at s q))) (sym (change_is size h p g can))
     (publish_bags (count_at size h) (retired_at size i h) (place_at s) p q i f o.fated (ap is_ended (reading_is _ can).1) (o.bags q))
 bags_step size h (Retire p j) i g can o q =
     let s = state size h in
@@ -286,7 +318,8 @@ item_step : (size : Size) (h : List Step) (step : Step) (i : ℕ) → Good size 
 item_step size h step i g can o =
     let at : ℕ → Place = λ q. effect (state size h) step q (place_at (state size h) q) in
     let same : at ≡ (λ q. place_at (state size (step ∷ h)) q) = λ j q. sym (place_step size h step g can q) j in
-    subst (λ (f : ℕ → Place). ItemOf (count_at size (step ∷ h)) (retired_at size i (step ∷ h)) f (state size (step ∷ h)).retired (fate size i (step ∷ h)) i) same
+    subst (λ (f : ℕ → Place). ItemOf (count_at size (step ∷ h)) (retired_at size i (step ∷ h)) f
+    (state size (step ∷ h)).retired (fate size i (step ∷ h)) i) same
     (record { fated = fate_step size h step i g can o; bags = bags_step size h step i g can o; flag = flag_step size h step i can o })
 
 get_or-unretired : (k i : ℕ) → get_or (replicate k false) i false ≡ false

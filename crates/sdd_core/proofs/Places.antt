@@ -6,7 +6,8 @@ use Rattle.sdd_core.specs.declared.machine.steps.Step.{Step}
 use Rattle.sdd_core.specs.declared.machine.steps.Step.TheVariants.{Register, Read, Publish, Retire, Lock, Adopt, Look, Advance, Unlock, Close, End}
 use Rattle.sdd_core.specs.declared.machine.places.Phase.{Phase}
 use Rattle.sdd_core.specs.declared.machine.places.Phase.TheVariants.{Free, Closed, Reading, Open, Ended}
-use Rattle.sdd_core.specs.Table.{State, Place, place_at, free_place, is_free, is_closed, is_reading, is_open, possible, after, registered, reading, closed, ended, retiring, published, left, freed, taking}
+use Rattle.sdd_core.specs.Table.{State, Place, place_at, free_place, is_free, is_closed, is_reading, is_open, is_ended, possible, after, registered, reading, closed, ended, retiring, published, left, freed, taking, finds_another, read_of, posted, rotated}
+use Rattle.std.specs.FinSet as set
 
 -- by cases on whether p is q
 pub at_place : (p q : ℕ) (P : Bool → Type 0) → (p ≡ q → P true) → ((p ≡ q → ⊥) → P false) → P (eqb p q)
@@ -50,7 +51,8 @@ pub place-with : (xs : List Place) (p q : ℕ) (f : Place → Place) → p < len
     get_or (set xs p (f (get_or xs p free_place))) q free_place ≡ cond (eqb p q) (f (get_or xs q free_place)) (get_or xs q free_place)
 place-with xs p q f l =
     at_place p q (λ t. get_or (set xs p (f (get_or xs p free_place))) q free_place ≡ cond t (f (get_or xs q free_place)) (get_or xs q free_place))
-    (λ e. subst (λ (r : ℕ). get_or (set xs p (f (get_or xs p free_place))) r free_place ≡ f (get_or xs r free_place)) e (get_or-set_same xs p (f (get_or xs p free_place)) free_place l))
+    (λ e. subst (λ (r : ℕ). get_or (set xs p (f (get_or xs p free_place))) r free_place ≡ f (get_or xs r free_place)) e
+    (get_or-set_same xs p (f (get_or xs p free_place)) free_place l))
     (λ ne. get_or-set_other xs p q (f (get_or xs p free_place)) free_place (λ e. ne (sym e)))
 
 pub place-freed : (xs : List Place) (q : ℕ) → get_or (map freed xs) q free_place ≡ freed (get_or xs q free_place)
@@ -58,13 +60,47 @@ place-freed [] q = refl
 place-freed (x ∷ xs) zero = refl
 place-freed (x ∷ xs) (suc q) = place-freed xs q
 
+-- what a publish makes of a place, field by field
+abbrev pub published_if : Bool → Place → Place
+published_if moves x = record {
+  phase = Open;
+  found = read_of x.phase;
+  current = cond moves set.empty x.current;
+  prev = cond moves x.current x.prev;
+  next = cond moves x.prev x.next;
+}
+
+abbrev pub published_fields : Place → Place
+published_fields x = published_if (finds_another x) x
+
+published_is : (x : Place) → published x ≡ published_fields x
+published_is x =
+    elim (finds_another x) as (λ t. posted Open (read_of x.phase) (cond t (rotated x) x) ≡ published_if t x) [ true ↦ refl | false ↦ refl ]
+
+-- and what an adopt makes of one
+abbrev pub freed_if : Bool → Place → Place
+freed_if free x = record {
+  phase = cond free Free x.phase;
+  found = x.found;
+  current = cond free set.empty x.current;
+  prev = cond free set.empty x.prev;
+  next = cond free set.empty x.next;
+}
+
+abbrev pub freed_fields : Place → Place
+freed_fields x = freed_if (is_ended x.phase) x
+
+freed_is : (x : Place) → freed x ≡ freed_fields x
+freed_is x =
+    elim (is_ended x.phase) as (λ t. cond t (record free_place { found = x.found }) x ≡ freed_if t x) [ true ↦ refl | false ↦ refl ]
+
 -- what a step does to place q, where x stands
 abbrev pub effect : State → Step → ℕ → Place → Place
 effect s (Register p) q x = cond (eqb p q) (registered x) x
 effect s (Read p) q x = cond (eqb p q) (reading s.count x) x
-effect s (Publish p) q x = cond (eqb p q) (published x) x
+effect s (Publish p) q x = cond (eqb p q) (published_fields x) x
 effect s (Retire p i) q x = cond (eqb p q) (retiring i x) x
-effect s (Adopt p) q x = cond (eqb p q) (taking (left s.places) (freed x)) (freed x)
+effect s (Adopt p) q x = cond (eqb p q) (taking (left s.places) (freed_fields x)) (freed_fields x)
 effect s (Close p) q x = cond (eqb p q) (closed x) x
 effect s (End p) q x = cond (eqb p q) (ended x) x
 effect s _ q x = x
@@ -86,12 +122,15 @@ pub place_after : (s : State) (step : Step) (q : ℕ) → possible s step ≡ tr
     place_at (after s step) q ≡ effect s step q (place_at s q)
 place_after s (Register p) q h a = place-with s.places p q registered (ltb-true p (length s.places) (and_parts _ _ h).0)
 place_after s (Read p) q h a = place-with s.places p q (reading s.count) (in_range s.places p (closed_not_free _ h))
-place_after s (Publish p) q h a = place-with s.places p q published (in_range s.places p (let r = reading_is _ h in ap is_free r.1))
+place_after s (Publish p) q h a =
+    let x = place_at s q in
+    place-with s.places p q published (in_range s.places p (let r = reading_is _ h in ap is_free r.1))
+    ∙ ap (λ (y : Place). cond (eqb p q) y x) (published_is x)
 place_after s (Retire p i) q h a = place-with s.places p q (retiring i) (in_range s.places p (retire_not_free _ (and_parts _ _ (and_parts _ _ h).0).0))
 place_after s (Lock p) q h a = refl
 place_after s (Adopt p) q h a =
     place-with (map freed s.places) p q (taking (left s.places)) (subst (λ (n : ℕ). p < n) (sym (length-map s.places freed)) (a p refl))
-    ∙ ap (λ (x : Place). cond (eqb p q) (taking (left s.places) x) x) (place-freed s.places q)
+    ∙ ap (λ (x : Place). cond (eqb p q) (taking (left s.places) x) x) (place-freed s.places q ∙ freed_is (place_at s q))
 place_after s (Look p) q h a = refl
 place_after s (Advance p) q h a = refl
 place_after s (Unlock p) q h a = refl

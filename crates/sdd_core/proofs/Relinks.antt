@@ -1,7 +1,7 @@
 -- Chains through links that others share
 use Rattle.std.proofs.Common.{◌≡◌, ℕ, ◌+◌, ◌-◌, ◌<◌, ◌≤◌, ◌^◌, Bool, false, cond, ◌||◌, nat_eq, List, [], ◌∷◌, ◌++◌, length, map, get_or, set as list_set, zero, suc, refl, sym, ap, subst, ◌∙◌, ⊎_elim, arith, replicate, get_or-set_same, get_or-set_other}
 use Rattle.std.proofs.lemmas.Bool.{ne_eqb, cases_eq, or_parts, true≢false, eq-eqb}
-use Rattle.std.proofs.lemmas.List.{length-set, set-set, map-set}
+use Rattle.std.proofs.lemmas.List.{length-set, length-map, set-set, map-set}
 use Rattle.std.proofs.Math.ListN.{get_or-map}
 use Rattle.std.proofs.lemmas.List.Folds.{list_any-append}
 use Rattle.std.specs.Ordering.{nat_cmp}
@@ -10,11 +10,12 @@ use Rattle.std.specs.FinSet as set
 use Rattle.std.specs.List.{list_any}
 use Rattle.sdd_core.specs.declared.machine.chains.Chain.{Chain}
 use Rattle.sdd_core.specs.Table.{Items}
-use Rattle.sdd_core.specs.Chains.{walk, items_of, occ, IsChain, no_chain, all_items, bag_of, AreChains}
+use Rattle.sdd_core.specs.Chains.{Linked, walk, items_of, occ, IsChain, no_chain, all_items, bag_of, AreChains}
 use Rattle.sdd_core.proofs.Walks.{occ-append, at_head, occurs_at, length-walk, len-from_list}
 
 -- links that agree where a walk goes give the same walk
-walk-agree : (links links' : List ℕ) (n x : ℕ) → ((i : ℕ) → 0 < occ i (walk links n x) → get_or links' i 0 ≡ get_or links i 0) → walk links' n x ≡ walk links n x
+walk-agree : (links links' : List ℕ) (n x : ℕ) → ((i : ℕ) → 0 < occ i (walk links n x) → get_or links' i 0 ≡ get_or links i 0) →
+    walk links' n x ≡ walk links n x
 walk-agree links links' zero x agree = refl
 walk-agree links links' (suc n) x agree =
     let y = get_or links x 0 in
@@ -28,14 +29,18 @@ Agree links links' items = (i : ℕ) → 0 < occ i items → get_or links' i 0 �
 all_items-agree : (links links' : List ℕ) (cs : List Chain) → Agree links links' (all_items links cs) → all_items links' cs ≡ all_items links cs
 all_items-agree links links' [] agree = refl
 all_items-agree links links' (c ∷ cs) agree =
-    ap (λ (ys : List ℕ). ys ++ all_items links' cs) (walk-agree links links' c.len c.first (λ i o. agree i (let a = occ-append i (items_of links c) (all_items links cs) in omega (arith, a, o))))
-    ∙ ap (λ (ys : List ℕ). items_of links c ++ ys) (all_items-agree links links' cs (λ i o. agree i (let a = occ-append i (items_of links c) (all_items links cs) in omega (arith, a, o))))
+    ap (λ (ys : List ℕ). ys ++ all_items links' cs)
+    (walk-agree links links' c.len c.first (λ i o. agree i (let a = occ-append i (items_of links c) (all_items links cs) in omega (arith, a, o))))
+    ∙ ap (λ (ys : List ℕ). items_of links c ++ ys)
+    (all_items-agree links links' cs (λ i o. agree i (let a = occ-append i (items_of links c) (all_items links cs) in omega (arith, a, o))))
 
 bags-agree : (links links' : List ℕ) (cs : List Chain) → Agree links links' (all_items links cs) → map (bag_of links') cs ≡ map (bag_of links) cs
 bags-agree links links' [] agree = refl
 bags-agree links links' (c ∷ cs) agree =
-    ap (λ (ys : List ℕ). set.from_list ys ∷ map (bag_of links') cs) (walk-agree links links' c.len c.first (λ i o. agree i (let a = occ-append i (items_of links c) (all_items links cs) in omega (arith, a, o))))
-    ∙ ap (λ (ys : List Items). bag_of links c ∷ ys) (bags-agree links links' cs (λ i o. agree i (let a = occ-append i (items_of links c) (all_items links cs) in omega (arith, a, o))))
+    ap (λ (ys : List ℕ). set.from_list ys ∷ map (bag_of links') cs)
+    (walk-agree links links' c.len c.first (λ i o. agree i (let a = occ-append i (items_of links c) (all_items links cs) in omega (arith, a, o))))
+    ∙ ap (λ (ys : List Items). bag_of links c ∷ ys)
+    (bags-agree links links' cs (λ i o. agree i (let a = occ-append i (items_of links c) (all_items links cs) in omega (arith, a, o))))
 
 -- one of the chains
 pub occ-at : (links : List ℕ) (cs : List Chain) (k i : ℕ) → occ i (items_of links (get_or cs k no_chain)) ≤ occ i (all_items links cs)
@@ -51,7 +56,8 @@ occ-set links (d ∷ cs) zero c i l =
     let a = occ-append i (items_of links c) (all_items links cs) in let b = occ-append i (items_of links d) (all_items links cs) in omega (arith, a, b)
 occ-set links (d ∷ cs) (suc k) c i l =
     let rest = occ-set links cs k c i (omega arith) in
-    let a = occ-append i (items_of links d) (all_items links (list_set cs k c)) in let b = occ-append i (items_of links d) (all_items links cs) in omega (arith, a, b, rest)
+    let a = occ-append i (items_of links d) (all_items links (list_set cs k c)) in
+    let b = occ-append i (items_of links d) (all_items links cs) in omega (arith, a, b, rest)
 
 IsChain-agree : (links links' : List ℕ) (c : Chain) → length links' ≡ length links → items_of links' c ≡ items_of links c → IsChain links c → IsChain links' c
 IsChain-agree links links' c size same is = record {
@@ -63,7 +69,8 @@ pub no_chain_is : (links : List ℕ) → IsChain links no_chain
 no_chain_is links = record { last = λ some. absurd (omega arith); inside = λ i o. absurd (omega arith) }
 
 -- chains that are all so, with one of them replaced
-pub each-set : (P : Chain → Type 0) (cs : List Chain) (k : ℕ) (c : Chain) → k < length cs → ((j : ℕ) → P (get_or cs j no_chain)) → P c → (j : ℕ) → P (get_or (list_set cs k c) j no_chain)
+pub each-set : (P : Chain → Type 0) (cs : List Chain) (k : ℕ) (c : Chain) → k < length cs → ((j : ℕ) → P (get_or cs j no_chain)) → P c → (j : ℕ) →
+    P (get_or (list_set cs k c) j no_chain)
 each-set P cs k c l all here j =
     ⊎_elim
     (λ e. subst (λ (m : ℕ). P (get_or (list_set cs k c) m no_chain)) (sym e) (subst P (sym (get_or-set_same cs k c no_chain l)) here))
@@ -72,14 +79,18 @@ each-set P cs k c l all here j =
 
 -- A chain is put where there was an empty one, and no link of the others was written.
 relinked : (links links' : List ℕ) (cs : List Chain) (k : ℕ) (c : Chain) → AreChains links cs → k < length cs → length links' ≡ length links →
-    Agree links links' (all_items links cs) → IsChain links' c → ((i : ℕ) → occ i (all_items links cs) + occ i (items_of links' c) ≤ 1) → AreChains links' (list_set cs k c)
+    Agree links links' (all_items links cs) → IsChain links' c →
+    ((i : ℕ) → occ i (all_items links cs) + occ i (items_of links' c) ≤ 1) → AreChains links' (list_set cs k c)
 relinked links links' cs k c are l size agree is once = record {
   small = (let s = are.small in omega (arith, s, size));
   chain = each-set (IsChain links') cs k c l
       (λ j. IsChain-agree links links' (get_or cs j no_chain) size
-      (walk-agree links links' (get_or cs j no_chain).len (get_or cs j no_chain).first (λ i o. agree i (let a = occ-at links cs j i in omega (arith, a, o)))) (are.chain j))
+      (walk-agree links links' (get_or cs j no_chain).len (get_or cs j no_chain).first
+      (λ i o. agree i (let a = occ-at links cs j i in omega (arith, a, o)))) (are.chain j))
       is;
-  once = λ i. let a = occ-set links' cs k c i l in let b = ap (λ (ys : List ℕ). occ i ys) (all_items-agree links links' cs agree) in let d = once i in omega (arith, a, b, d);
+  once = λ i. let a = occ-set links' cs k c i l in
+      let b = ap (λ (ys : List ℕ). occ i ys) (all_items-agree links links' cs agree) in
+      let d = once i in omega (arith, a, b, d);
 }
 
 -- without one of them they are still chains
@@ -90,8 +101,19 @@ emptied links cs k are l = record {
   once = λ i. let a = occ-set links cs k no_chain i l in let d = are.once i in omega (arith, a, d);
 }
 
-pub bags-set : (links : List ℕ) (cs : List Chain) (k : ℕ) (c : Chain) → map (bag_of links) (list_set cs k c) ≡ list_set (map (bag_of links) cs) k (bag_of links c)
+pub bags-set : (links : List ℕ) (cs : List Chain) (k : ℕ) (c : Chain) →
+    map (bag_of links) (list_set cs k c) ≡ list_set (map (bag_of links) cs) k (bag_of links c)
 bags-set links cs k c = map-set (bag_of links) cs k c
+
+abbrev pub linked_of : List ℕ → List Chain → Linked
+linked_of links cs = record { items = length links; bags = map (bag_of links) cs }
+
+-- the number of a bag is that of a chain
+pub within_chains : (links : List ℕ) (cs : List Chain) (b : Linked) (k : ℕ) → linked_of links cs ≡ b → k < length b.bags → k < length cs
+within_chains links cs b k v l =
+    let a : k < length (map (bag_of links) cs) = subst (λ (d : Linked). k < length d.bags) (sym v) l in
+    let z = length-map cs (bag_of links) in
+    omega (arith, a, z)
 
 pub bag-at : (links : List ℕ) (cs : List Chain) (k : ℕ) → get_or (map (bag_of links) cs) k set.empty ≡ bag_of links (get_or cs k no_chain)
 bag-at links cs k = get_or-map (bag_of links) cs k no_chain
@@ -109,7 +131,8 @@ absent_of (x ∷ xs) i e =
     let none = ap one_if (ne_eqb i x apart) in
     omega (arith, none, rest)
 
-pub nowhere : (links : List ℕ) (cs : List Chain) (i : ℕ) → ((k : ℕ) → set.contains (get_or (map (bag_of links) cs) k set.empty) i ≡ false) → occ i (all_items links cs) ≡ 0
+pub nowhere : (links : List ℕ) (cs : List Chain) (i : ℕ) → ((k : ℕ) → set.contains (get_or (map (bag_of links) cs) k set.empty) i ≡ false) →
+    occ i (all_items links cs) ≡ 0
 nowhere links [] i none = refl
 nowhere links (c ∷ cs) i none =
     let here = absent_of (items_of links c) i (sym (set.contains-from_list_nat (items_of links c) i) ∙ none 0) in
@@ -118,15 +141,19 @@ nowhere links (c ∷ cs) i none =
     omega (arith, a, here, rest)
 
 -- an item put into a bag
-pub put_chains : (links links' : List ℕ) (cs : List Chain) (k item : ℕ) (c : Chain) → AreChains links cs → k < length cs → length links' ≡ length links → occ item (all_items links cs) ≡ 0 →
-    items_of links' c ≡ item ∷ items_of links (get_or cs k no_chain) → IsChain links' c → ((i : ℕ) → (i ≡ item → ⊥) → get_or links' i 0 ≡ get_or links i 0) → AreChains links' (list_set cs k c)
+pub put_chains : (links links' : List ℕ) (cs : List Chain) (k item : ℕ) (c : Chain) → AreChains links cs → k < length cs →
+    length links' ≡ length links → occ item (all_items links cs) ≡ 0 →
+    items_of links' c ≡ item ∷ items_of links (get_or cs k no_chain) → IsChain links' c →
+    ((i : ℕ) → (i ≡ item → ⊥) → get_or links' i 0 ≡ get_or links i 0) → AreChains links' (list_set cs k c)
 put_chains links links' cs k item c are l size none items is others =
     subst (λ (ds : List Chain). AreChains links' ds) (set-set cs k no_chain c)
     (relinked links links' (list_set cs k no_chain) k c (emptied links cs k are l) (let a = length-set cs k no_chain in omega (arith, a, l)) size
-    (λ i o. others i (λ e. absurd (let a = occ-set links cs k no_chain i l in let z : occ i (all_items links cs) ≡ 0 = ap (λ (j : ℕ). occ j (all_items links cs)) e ∙ none in omega (arith, a, o, z)))) is
+    (λ i o. others i (λ e. absurd (let a = occ-set links cs k no_chain i l in
+    let z : occ i (all_items links cs) ≡ 0 = ap (λ (j : ℕ). occ j (all_items links cs)) e ∙ none in omega (arith, a, o, z)))) is
     (λ i. let a = occ-set links cs k no_chain i l in let b = ap (λ (ys : List ℕ). occ i ys) items in let d = are.once i in
     ⊎_elim
-    (λ e. let z : occ i (all_items links cs) ≡ 0 = ap (λ (j : ℕ). occ j (all_items links cs)) e ∙ none in let h = at_head i item (items_of links (get_or cs k no_chain)) (sym e) in omega (arith, a, b, z, h))
+    (λ e. let z : occ i (all_items links cs) ≡ 0 = ap (λ (j : ℕ). occ j (all_items links cs)) e ∙ none in
+    let h = at_head i item (items_of links (get_or cs k no_chain)) (sym e) in omega (arith, a, b, z, h))
     (λ ne. let h = ap one_if (ne_eqb i item ne) in omega (arith, a, b, d, h))
     (cases_eq i item)))
 
@@ -138,7 +165,8 @@ put_bags links links' cs k item c l none items others =
     ap (λ (es : List Chain). map (bag_of links') es) (sym (set-set cs k no_chain c))
     ∙ (bags-set links' ds k c
     ∙ (ap (λ (bs : List Items). list_set bs k (bag_of links' c))
-    (bags-agree links links' ds (λ i o. others i (λ e. absurd (let a = occ-set links cs k no_chain i l in let z : occ i (all_items links cs) ≡ 0 = ap (λ (j : ℕ). occ j (all_items links cs)) e ∙ none in omega (arith, a, o, z)))))
+    (bags-agree links links' ds (λ i o. others i (λ e. absurd (let a = occ-set links cs k no_chain i l in
+    let z : occ i (all_items links cs) ≡ 0 = ap (λ (j : ℕ). occ j (all_items links cs)) e ∙ none in omega (arith, a, o, z)))))
     ∙ (ap (λ (bs : List Items). list_set bs k (bag_of links' c)) (bags-set links cs k no_chain)
     ∙ (set-set (map (bag_of links) cs) k (bag_of links no_chain) (bag_of links' c)
     ∙ ap (λ (b : Items). list_set (map (bag_of links) cs) k b)
@@ -165,15 +193,18 @@ pub record Joins (links links' : List ℕ) (cs : List Chain) (to from : ℕ) (c 
 
 -- how often an item occurs in the others
 occ-others : (links : List ℕ) (cs : List Chain) (to from i : ℕ) → to < length cs → from < length cs → (to ≡ from → ⊥) →
-    occ i (all_items links (list_set (list_set cs from no_chain) to no_chain)) + occ i (items_of links (get_or cs to no_chain)) + occ i (items_of links (get_or cs from no_chain)) ≡ occ i (all_items links cs)
+    occ i (all_items links (list_set (list_set cs from no_chain) to no_chain)) + occ i
+    (items_of links (get_or cs to no_chain)) + occ i (items_of links (get_or cs from no_chain)) ≡ occ i (all_items links cs)
 occ-others links cs to from i lt lf ne =
     let ds = list_set cs from no_chain in
     let a = occ-set links cs from no_chain i lf in
     let b = occ-set links ds to no_chain i (let z = length-set cs from no_chain in omega (arith, z, lt)) in
-    let e : occ i (items_of links (get_or ds to no_chain)) ≡ occ i (items_of links (get_or cs to no_chain)) = ap (λ (c : Chain). occ i (items_of links c)) (get_or-set_other cs from to no_chain no_chain ne) in
+    let e : occ i (items_of links (get_or ds to no_chain)) ≡ occ i (items_of links (get_or cs to no_chain)) =
+    ap (λ (c : Chain). occ i (items_of links c)) (get_or-set_other cs from to no_chain no_chain ne) in
     omega (arith, a, b, e)
 
-agree_others : (links links' : List ℕ) (cs : List Chain) (to from : ℕ) (c : Chain) → Joins links links' cs to from c → Agree links links' (all_items links (list_set (list_set cs from no_chain) to no_chain))
+agree_others : (links links' : List ℕ) (cs : List Chain) (to from : ℕ) (c : Chain) → Joins links links' cs to from c →
+    Agree links links' (all_items links (list_set (list_set cs from no_chain) to no_chain))
 agree_others links links' cs to from c j i o =
     j.others i (let a = occ-others links cs to from i j.to_is j.from_is j.apart in let d = j.are.once i in omega (arith, a, d, o))
 
@@ -185,12 +216,14 @@ both_once links cs to from i are lt lf ne =
     let b = occ-append i (items_of links (get_or cs to no_chain)) (items_of links (get_or cs from no_chain)) in
     omega (arith, a, b, d)
 
-pub join_chains : (links links' : List ℕ) (cs : List Chain) (to from : ℕ) (c : Chain) → Joins links links' cs to from c → AreChains links' (list_set (list_set cs from no_chain) to c)
+pub join_chains : (links links' : List ℕ) (cs : List Chain) (to from : ℕ) (c : Chain) → Joins links links' cs to from c →
+    AreChains links' (list_set (list_set cs from no_chain) to c)
 join_chains links links' cs to from c j =
     let ds = list_set cs from no_chain in
     let ld : to < length ds = (let z = length-set cs from no_chain in let l = j.to_is in omega (arith, z, l)) in
     subst (λ (es : List Chain). AreChains links' es) (set-set ds to no_chain c)
-    (relinked links links' (list_set ds to no_chain) to c (emptied links ds to (emptied links cs from j.are j.from_is) ld) (let z = length-set ds to no_chain in omega (arith, z, ld)) j.size
+    (relinked links links' (list_set ds to no_chain) to c (emptied links ds to (emptied links cs from j.are j.from_is) ld) (let z =
+    length-set ds to no_chain in omega (arith, z, ld)) j.size
     (agree_others links links' cs to from c j) j.is
     (λ i. let a = occ-others links cs to from i j.to_is j.from_is j.apart in let d = j.are.once i in
     let b = ap (λ (ys : List ℕ). occ i ys) j.items in
@@ -199,7 +232,8 @@ join_chains links links' cs to from c j =
 
 pub join_bags : (links links' : List ℕ) (cs : List Chain) (to from : ℕ) (c : Chain) → Joins links links' cs to from c →
     map (bag_of links') (list_set (list_set cs from no_chain) to c)
-    ≡ list_set (list_set (map (bag_of links) cs) from set.empty) to (set.union (get_or (map (bag_of links) cs) to set.empty) (get_or (map (bag_of links) cs) from set.empty))
+    ≡ list_set (list_set (map (bag_of links) cs) from set.empty) to
+    (set.union (get_or (map (bag_of links) cs) to set.empty) (get_or (map (bag_of links) cs) from set.empty))
 join_bags links links' cs to from c j =
     let ds = list_set cs from no_chain in
     let bs = map (bag_of links) cs in
@@ -211,7 +245,8 @@ join_bags links links' cs to from c j =
     ap (λ (es : List Chain). map (bag_of links') es) (sym (set-set ds to no_chain c))
     ∙ (bags-set links' (list_set ds to no_chain) to c
     ∙ (ap (λ (xs : List Items). list_set xs to (bag_of links' c))
-    (bags-agree links links' (list_set ds to no_chain) (agree_others links links' cs to from c j) ∙ (bags-set links ds to no_chain ∙ ap (λ (xs : List Items). list_set xs to (bag_of links no_chain)) (bags-set links cs from no_chain)))
+    (bags-agree links links' (list_set ds to no_chain) (agree_others links links' cs to from c j)
+    ∙ (bags-set links ds to no_chain ∙ ap (λ (xs : List Items). list_set xs to (bag_of links no_chain)) (bags-set links cs from no_chain)))
     ∙ (set-set (list_set bs from set.empty) to (bag_of links no_chain) (bag_of links' c)
     ∙ ap (λ (b : Items). list_set (list_set bs from set.empty) to b) union)))
 
@@ -220,7 +255,8 @@ last_occurs : (links : List ℕ) (c : Chain) → IsChain links c → 0 < c.len �
 last_occurs links c is some = occurs_at (items_of links c) (c.len - 1) c.last (let z = length-walk links c.len c.first in omega (arith, z)) (is.last some)
 
 -- what the join of two of the chains gives
-pub joins_of : (links links' lent : List ℕ) (cs : List Chain) (to from : ℕ) (first second c : Chain) → AreChains links cs → to < length cs → from < length cs → (to ≡ from → ⊥) →
+pub joins_of : (links links' lent : List ℕ) (cs : List Chain) (to from : ℕ) (first second c : Chain) → AreChains links cs → to < length cs →
+    from < length cs → (to ≡ from → ⊥) →
     lent ≡ links → first ≡ get_or cs to no_chain → second ≡ get_or cs from no_chain → length links' ≡ length links →
     items_of links' c ≡ items_of lent first ++ items_of lent second → IsChain links' c →
     ((i : ℕ) → (0 < first.len → i ≡ first.last → ⊥) → get_or links' i 0 ≡ get_or lent i 0) → Joins links links' cs to from c
@@ -231,38 +267,48 @@ joins_of links links' lent cs to from first second c are lt lf ne same one two s
   apart = ne;
   size = size;
   items = items ∙ (ap (λ (ls : List ℕ). items_of ls first ++ items_of ls second) same
-      ∙ (ap (λ (a : Chain). items_of links a ++ items_of links second) one ∙ ap (λ (b : Chain). items_of links (get_or cs to no_chain) ++ items_of links b) two));
+      ∙ (ap (λ (a : Chain). items_of links a ++ items_of links second) one
+      ∙ ap (λ (b : Chain). items_of links (get_or cs to no_chain) ++ items_of links b) two));
   is = is;
   others = λ i none.
       others i (λ some e.
       let chain : IsChain links first = subst (IsChain links) (sym one) (are.chain to) in
-      let last : 0 < occ first.last (items_of links (get_or cs to no_chain)) = subst (λ (a : Chain). 0 < occ first.last (items_of links a)) one (last_occurs links first chain some) in
+      let last : 0 < occ first.last (items_of links (get_or cs to no_chain)) =
+      subst (λ (a : Chain). 0 < occ first.last (items_of links a)) one (last_occurs links first chain some) in
       let there : 0 < occ i (items_of links (get_or cs to no_chain)) = subst (λ (j : ℕ). 0 < occ j (items_of links (get_or cs to no_chain))) (sym e) last in
       absurd (omega (arith, none, there)))
       ∙ ap (λ (ls : List ℕ). get_or ls i 0) same;
 }
 
 -- an item and a chain that it isn't in
-pub put_once : (links lent : List ℕ) (cs : List Chain) (k item i : ℕ) (first second : Chain) → AreChains links cs → occ item (all_items links cs) ≡ 0 → lent ≡ links →
+pub put_once : (links lent : List ℕ) (cs : List Chain) (k item i : ℕ) (first second : Chain) → AreChains links cs →
+    occ item (all_items links cs) ≡ 0 → lent ≡ links →
     first ≡ record { first = item; last = item; len = 1 } → second ≡ get_or cs k no_chain → occ i (items_of lent first ++ items_of lent second) ≤ 1
 put_once links lent cs k item i first second are none same one two =
-    let all : items_of lent first ++ items_of lent second ≡ item ∷ items_of links (get_or cs k no_chain) = put_items links lent cs k item first second same one two in
+    let all : items_of lent first ++ items_of lent second ≡ item ∷ items_of links (get_or cs k no_chain) =
+    put_items links lent cs k item first second same one two in
     let b = ap (λ (ys : List ℕ). occ i ys) all in let d = are.once i in let l = occ-at links cs k i in
     ⊎_elim
-    (λ e. let z : occ i (all_items links cs) ≡ 0 = ap (λ (j : ℕ). occ j (all_items links cs)) e ∙ none in let h = at_head i item (items_of links (get_or cs k no_chain)) (sym e) in omega (arith, b, z, h, l))
+    (λ e. let z : occ i (all_items links cs) ≡ 0 = ap (λ (j : ℕ). occ j (all_items links cs)) e ∙ none in
+    let h = at_head i item (items_of links (get_or cs k no_chain)) (sym e) in omega (arith, b, z, h, l))
     (λ ne. let h = ap one_if (ne_eqb i item ne) in omega (arith, b, d, h, l))
     (cases_eq i item)
   where
     put_items : (links lent : List ℕ) (cs : List Chain) (k item : ℕ) (first second : Chain) → lent ≡ links →
-        first ≡ record { first = item; last = item; len = 1 } → second ≡ get_or cs k no_chain → items_of lent first ++ items_of lent second ≡ item ∷ items_of links (get_or cs k no_chain)
+        first ≡ record { first = item; last = item; len = 1 } → second ≡ get_or cs k no_chain →
+        items_of lent first ++ items_of lent second ≡ item ∷ items_of links (get_or cs k no_chain)
     put_items links lent cs k item first second same one two =
-        ap (λ (a : Chain). items_of lent a ++ items_of lent second) one ∙ (ap (λ (ls : List ℕ). item ∷ items_of ls second) same ∙ ap (λ (b : Chain). item ∷ items_of links b) two)
+        ap (λ (a : Chain). items_of lent a ++ items_of lent second) one
+        ∙ (ap (λ (ls : List ℕ). item ∷ items_of ls second) same ∙ ap (λ (b : Chain). item ∷ items_of links b) two)
 
 -- how many items are in one of the bags
-pub len-bag : (links : List ℕ) (cs : List Chain) (k : ℕ) → AreChains links cs → (get_or cs k no_chain).len ≡ set.len (get_or (map (bag_of links) cs) k set.empty)
+pub len-bag : (links : List ℕ) (cs : List Chain) (k : ℕ) → AreChains links cs →
+    (get_or cs k no_chain).len ≡ set.len (get_or (map (bag_of links) cs) k set.empty)
 len-bag links cs k are =
     let c = get_or cs k no_chain in
-    sym (length-walk links c.len c.first) ∙ (sym (len-from_list (items_of links c) (λ i. let a = occ-at links cs k i in let d = are.once i in omega (arith, a, d))) ∙ ap (λ (b : Items). set.len b) (sym (bag-at links cs k)))
+    sym (length-walk links c.len c.first)
+    ∙ (sym (len-from_list (items_of links c) (λ i. let a = occ-at links cs k i in let d = are.once i in omega (arith, a, d)))
+    ∙ ap (λ (b : Items). set.len b) (sym (bag-at links cs k)))
 
 -- new chains are empty
 new_items : (n : ℕ) (links : List ℕ) → all_items links (replicate n no_chain) ≡ []

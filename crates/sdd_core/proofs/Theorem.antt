@@ -16,17 +16,17 @@ use Rattle.sdd_core.specs.History.{is_change, fate, changed, taken_over, Fate, K
 use Rattle.sdd_core.specs.History as history
 use Rattle.sdd_core.proofs.Guards.{count_step}
 use Rattle.sdd_core.proofs.Counts.{since, PhaseOk, good}
-use Rattle.sdd_core.proofs.Fates.{WaitOk, FateOk, In, is_with, BagsOk, was_retired, retired_at, change_is}
+use Rattle.sdd_core.proofs.Fates.{WaitOk, FateOk, In, is_with, BagsOk, was_retired, retired_at, read_is, change_is}
 use Rattle.std.specs.Prelude.{◌↔◌}
-use Rattle.sdd_core.specs.Table.{taken_out}
-use Rattle.sdd_core.specs.History.{Reclaims, IsDue, WasDue, Safe, Exact, IsWith, IsReclaimed, IsHolder, IsOpenGuard}
+use Rattle.sdd_core.specs.Table.{taken_out, did_possible}
+use Rattle.sdd_core.specs.declared.machine.steps.Did.TheVariants.{NotPossible, Opened}
+use Rattle.sdd_core.specs.History.{Reclaims, IsDue, WasDue, Safe, Tells, Exact, IsWith, IsReclaimed, IsHolder, IsOpenGuard, NoGuardLasts}
 use Rattle.std.proofs.Common.{◌%◌, take}
 use Rattle.std.proofs.lemmas.List.{take_more}
 use Rattle.sdd_core.specs.Table.{happens}
 use Rattle.sdd_core.specs.History.{goes_on, history as history_of}
 use Rattle.sdd_core.specs.Epoch.{epoch_after, same_generation}
 use Rattle.sdd_core.specs.Laws.{WaitsWithOneHolder, IsRaisedAtMostOnce, KeepsGenerations, AtEachMoment}
-use Rattle.sdd_core.specs.Sizes.{size_for}
 use Rattle.sdd_core.proofs.Guards.{count_grows, earlier, raised_once}
 use Rattle.sdd_core.proofs.InBags.{item}
 
@@ -50,17 +50,35 @@ due_of_taken : (b : Bool) (i : ℕ) (xs : Items) → set.contains (cond b xs set
 due_of_taken true i xs e = (refl, e)
 due_of_taken false i xs e = absurd (nothing i e)
 
-told_exactly : (size : Size) (i p : ℕ) (h : List Step) → IsHistory size (Publish p ∷ h) → (set.contains (taken_out (place_at (state size h) p)) i ≡ true) ↔ IsDue size i (Publish p ∷ h)
-told_exactly size i p h is =
+taken_exactly : (size : Size) (i p : ℕ) (h : List Step) → IsHistory size (Publish p ∷ h) →
+    (set.contains (taken_out (place_at (state size h) p)) i ≡ true) ↔ IsDue size i (Publish p ∷ h)
+taken_exactly size i p h is =
     let s = state size h in let x = place_at s p in
     let g = good size h is.1 in let o = item size h is.1 i in
     let same = change_is size h p g is.0 in (
-      λ e. let parts = due_of_taken (finds_another x) i x.next e in
-          (same ∙ parts.0, in_next (count_at size h) (retired_at size i h) (place_at s) p (fate size i h) o.fated (ap is_ended (reading_is _ is.0).1) (sym (o.bags p).2 ∙ parts.1)),
+      λ e. let parts = due_of_taken (finds_another x) i x.next e in (
+        same ∙ parts.0,
+        in_next (count_at size h) (retired_at size i h) (place_at s) p
+            (fate size i h) o.fated (ap is_ended (reading_is _ is.0).1) (sym (o.bags p).2 ∙ parts.1),
+      ),
       λ d. let f : fate size i h ≡ Waits p 2 = d.1 in
           ap (λ (b : Bool). set.contains (cond b x.next set.empty) i) (sym same ∙ d.0)
           ∙ ((o.bags p).2 ∙ (ap (λ (k : Fate). is_with k p 2) f ∙ (ap (λ (t : Bool). t && true) (eq-eqb p p refl)))),
     )
+
+tells : (size : Size) (p : ℕ) (h : List Step) → IsHistory size (Publish p ∷ h) → Tells size p h
+tells size p h is =
+    let s = state size h in
+    let x = place_at s p in
+    let g = good size h is.1 in
+    let number = set.len (taken_out x) in
+    record {
+      due = taken_out x;
+      each = λ i. taken_exactly size i p h is;
+      answer = ap (λ (b : Bool). cond b (did_possible s (Publish p)) NotPossible) is.0
+          ∙ (ap (λ (k : ℕ). Opened k (finds_another x) number) (read_is size h p g is.0)
+          ∙ ap (λ (b : Bool). Opened (last_read size p h) b number) (sym (change_is size h p g is.0)));
+    }
 
 -- after its due publish an item is gone
 gone_when_due : (size : Size) (i : ℕ) (h : List Step) → IsDue size i h → fate size i h ≡ Gone
@@ -82,11 +100,13 @@ gone_when_due size i (End p ∷ h) d = absurd d
 gone_step : (size : Size) (i : ℕ) (h : List Step) (step : Step) → IsHistory size (step ∷ h) → fate size i h ≡ Gone → fate size i (step ∷ h) ≡ Gone
 gone_step size i h (Register p) is e = e
 gone_step size i h (Read p) is e = e
-gone_step size i h (Publish p) is e = ap (λ (f : Fate). cond (is_change size p h) (changed p f) f) e ∙ elim (is_change size p h) as (λ t. cond t Gone Gone ≡ Gone) [ true ↦ refl | false ↦ refl ]
+gone_step size i h (Publish p) is e =
+    ap (λ (f : Fate). cond (is_change size p h) (changed p f) f) e ∙ elim (is_change size p h) as (λ t. cond t Gone Gone ≡ Gone) [ true ↦ refl | false ↦ refl ]
 gone_step size i h (Retire p j) is e =
     let s = state size h in let o = item size h is.1 i in
     at_place j i (λ t. cond t (Waits p 0) (fate size i h) ≡ Gone)
-    (λ same. absurd (true≢false (sym (o.flag ∙ ap was_retired e) ∙ subst (λ (k : ℕ). get_or s.retired k false ≡ false) same (not-true _ (and_parts _ _ is.0).1))))
+    (λ same. absurd (true≢false (sym (o.flag ∙ ap was_retired e)
+    ∙ subst (λ (k : ℕ). get_or s.retired k false ≡ false) same (not-true _ (and_parts _ _ is.0).1))))
     (λ _. e)
 gone_step size i h (Lock p) is e = e
 gone_step size i h (Adopt p) is e = ap (taken_over p) e
@@ -120,7 +140,8 @@ late size i (Publish p) h is d =
     let g = good size h is.1 in let o = item size h is.1 i in
     let w : WaitOk c r 2 x.phase x.found = subst (λ (f : Fate). FateOk c r (place_at s) f) d.1 o.fated in
     let k = reading_is _ is.0 in
-    let ok : (k.0 ≡ last_read size p h) × (x.found ≤ k.0) × (k.0 ≤ c) = subst (λ (ph : Phase). PhaseOk c (since size p h) (last_read size p h) ph x.found) k.1 (g.places p) in
+    let ok : (k.0 ≡ last_read size p h) × (x.found ≤ k.0) × (k.0 ≤ c) =
+    subst (λ (ph : Phase). PhaseOk c (since size p h) (last_read size p h) ph x.found) k.1 (g.places p) in
     let other : read_of x.phase ≡ x.found → ⊥ = eqb-false (read_of x.phase) x.found (not-true _ (sym (change_is size h p g is.0) ∙ d.0)) in
     let ne : k.0 ≢ x.found = λ e. other (ap read_of k.1 ∙ e) in
     let old : r + 2 ≤ x.found + 1 = w.aged (omega arith) in
@@ -154,7 +175,8 @@ retired_after size i p (Unlock q ∷ recent) h = retired_after size i p recent h
 retired_after size i p (Close q ∷ recent) h = retired_after size i p recent h
 retired_after size i p (End q ∷ recent) h = retired_after size i p recent h
 
-in_bag : (f : Fate) (p i : ℕ) (x : Place) → BagsOk f p i x → (set.contains x.current i || set.contains x.prev i || set.contains x.next i) ≡ true → (k : ℕ) × (is_with f p k ≡ true)
+in_bag : (f : Fate) (p i : ℕ) (x : Place) → BagsOk f p i x → (set.contains x.current i || set.contains x.prev i || set.contains x.next i) ≡ true →
+    (k : ℕ) × (is_with f p k ≡ true)
 in_bag f p i x ok e =
     ⊎_elim (λ first. ⊎_elim (λ a. (0, sym ok.0 ∙ a)) (λ b. (1, sym ok.1 ∙ b)) (or_cases (set.contains x.current i) (set.contains x.prev i) first))
     (λ c. (2, sym ok.2 ∙ c)) (or_cases (set.contains x.current i || set.contains x.prev i) (set.contains x.next i) e)
@@ -166,14 +188,17 @@ is_in_bag (suc (suc zero)) i a b c l ok = or_right _ _ ok.2
 is_in_bag (suc (suc (suc k))) i a b c l ok = absurd (omega arith)
 
 -- an item that nobody has, and was retired, is gone
-gone_from_nowhere : (c r : ℕ) (s : State) (f : Fate) (i : ℕ) → FateOk c r (place_at s) f → ((q : ℕ) → BagsOk f q i (place_at s q)) → was_retired f ≡ true → ((p : ℕ) → IsWith s p i → ⊥) → f ≡ Gone
+gone_from_nowhere : (c r : ℕ) (s : State) (f : Fate) (i : ℕ) → FateOk c r (place_at s) f → ((q : ℕ) → BagsOk f q i (place_at s q)) →
+    was_retired f ≡ true → ((p : ℕ) → IsWith s p i → ⊥) → f ≡ Gone
 gone_from_nowhere c r s Kept i ok bags e none = absurd (false≢true e)
 gone_from_nowhere c r s (Waits h k) i ok bags e none =
     let b = bags h in let y : (w : Bool) → (eqb h h && w) ≡ w = λ w. ap (λ (t : Bool). t && w) (eq-eqb h h refl) in
-    absurd (none h (is_in_bag k i (place_at s h).current (place_at s h).prev (place_at s h).next ok.young (b.0 ∙ y (eqb k 0), b.1 ∙ y (eqb k 1), b.2 ∙ y (eqb k 2))))
+    absurd (none h (is_in_bag k i (place_at s h).current (place_at s h).prev
+    (place_at s h).next ok.young (b.0 ∙ y (eqb k 0), b.1 ∙ y (eqb k 1), b.2 ∙ y (eqb k 2))))
 gone_from_nowhere c r s (Left h k) i ok bags e none =
     let b = bags h in let y : (w : Bool) → (eqb h h && w) ≡ w = λ w. ap (λ (t : Bool). t && w) (eq-eqb h h refl) in
-    absurd (none h (is_in_bag k i (place_at s h).current (place_at s h).prev (place_at s h).next ok.0 (b.0 ∙ y (eqb k 0), b.1 ∙ y (eqb k 1), b.2 ∙ y (eqb k 2))))
+    absurd (none h (is_in_bag k i (place_at s h).current (place_at s h).prev
+    (place_at s h).next ok.0 (b.0 ∙ y (eqb k 0), b.1 ∙ y (eqb k 1), b.2 ∙ y (eqb k 2))))
 gone_from_nowhere c r s Gone i ok bags e none = refl
 
 was_due_later : (size : Size) (i : ℕ) (step : Step) (h : List Step) → WasDue size i h → WasDue size i (step ∷ h)
@@ -206,11 +231,13 @@ became_gone : (size : Size) (i : ℕ) (step : Step) (h : List Step) → fate siz
 became_gone size i (Register p) h e = inl e
 became_gone size i (Read p) h e = inl e
 became_gone size i (Publish p) h e =
-    elim (is_change size p h) as (λ t. is_change size p h ≡ t → cond t (changed p (fate size i h)) (fate size i h) ≡ Gone → (fate size i h ≡ Gone) ⊎ IsDue size i (Publish p ∷ h)) [
+    elim (is_change size p h) as (λ t. is_change size p h ≡ t →
+    cond t (changed p (fate size i h)) (fate size i h) ≡ Gone → (fate size i h ≡ Gone) ⊎ IsDue size i (Publish p ∷ h)) [
       | true ↦ λ b x. ⊎_elim (λ g. inl g) (λ w. inr (b, w)) (from_changed p (fate size i h) x)
       | false ↦ λ b x. inl x
     ] refl e
-became_gone size i (Retire p j) h e = inl (elim (eqb j i) as (λ t. cond t (Waits p 0) (fate size i h) ≡ Gone → fate size i h ≡ Gone) [ true ↦ λ x. absurd (cc) | false ↦ λ x. x ] e)
+became_gone size i (Retire p j) h e =
+    inl (elim (eqb j i) as (λ t. cond t (Waits p 0) (fate size i h) ≡ Gone → fate size i h ≡ Gone) [ true ↦ λ x. absurd (cc) | false ↦ λ x. x ] e)
 became_gone size i (Lock p) h e = inl e
 became_gone size i (Adopt p) h e = inl (from_taken p (fate size i h) e)
 became_gone size i (Look p) h e = inl e
@@ -238,7 +265,8 @@ pub reclaimed_then : (size : Size) (i : ℕ) (h : List Step) → IsHistory size 
 reclaimed_then size i h is = (
   λ r. was_due size i h ((reclaimed_is size i h is).0 r),
   λ (before, (later, eq), d). (reclaimed_is size i h is).1
-      (ap (λ (k : List Step). fate size i k) eq ∙ gone_stays size i later before (subst (λ (k : List Step). IsHistory size k) eq is) (gone_when_due size i before d)),
+      (ap (λ (k : List Step). fate size i k) eq
+      ∙ gone_stays size i later before (subst (λ (k : List Step). IsHistory size k) eq is) (gone_when_due size i before d)),
 )
 
 exactly : (size : Size) (i : ℕ) (h : List Step) → IsHistory size h → Reclaims size i h ↔ IsDue size i h
@@ -251,9 +279,7 @@ exactly size i (step ∷ h) is = (
 pub exact : (size : Size) (h : List Step) → IsHistory size h → Exact size h
 exact size h is = record {
   due = λ i. exactly size i h is;
-  told = λ p i before eq.
-      let t = told_exactly size i p before (subst (λ (k : List Step). IsHistory size k) eq is) in
-      (λ e. subst (λ (k : List Step). IsDue size i k) (sym eq) (t.0 e), λ d. t.1 (subst (λ (k : List Step). IsDue size i k) eq d));
+  told = λ p before eq. tells size p before (subst (λ (k : List Step). IsHistory size k) eq is);
   once = λ i newest recent before eq first second.
       let all : IsHistory size (newest ∷ (recent ++ before)) = subst (λ (k : List Step). IsHistory size k) eq is in
       let d : IsDue size i before = (exactly size i before (earlier size recent before all.1)).0 first in
@@ -262,8 +288,9 @@ exact size h is = record {
 }
 
 -- while a guard is open the count is raised at most once
-pub raised_at_most_once : (size : Size) (h : List Step) → IsHistory size h → IsRaisedAtMostOnce size h
-raised_at_most_once size h is guard published o =
+at_most_next : (size : Size) (h : List Step) → IsHistory size h → (guard : ℕ) (published : List Step) → IsOpenGuard guard published h →
+    count_at size h ≤ count_at size published + 1
+at_most_next size h is guard published o =
     let whole : h ≡ o.inside ++ Publish guard ∷ o.before = o.follows ∙ ap (λ (k : List Step). o.inside ++ k) o.publish in
     let once : count_at size (o.inside ++ Publish guard ∷ o.before) ≤ count_at size o.before + 1 =
     raised_once size guard o.inside o.before (subst (λ (k : List Step). IsHistory size k) whole is) o.unclosed in
@@ -274,18 +301,31 @@ raised_at_most_once size h is guard published o =
 under : (size : Size) (h : List Step) (guard : ℕ) (published : List Step) → IsOpenGuard guard published h → count_at size published ≤ count_at size h
 under size h guard published o = subst (λ (k : List Step). count_at size published ≤ count_at size k) (sym o.follows) (count_grows size o.inside published)
 
-pub safe : (size : Size) (h : List Step) → IsHistory size h → Safe size h
-safe size h is i p [] retirement eq taken guard published then_open now_open = subst (λ (k : List Step). IsDue size i k) eq ((exactly size i h is).0 taken)
-safe size h is i p (newest ∷ recent) retirement eq taken guard published then_open now_open =
+between : (a b : ℕ) → a ≤ b → b ≤ a + 1 → (b ≡ a) ⊎ (b ≡ a + 1)
+between a b low high = ⊎_elim (λ e. inl e) (λ ne. inr (omega arith)) (cases_eq b a)
+
+pub raised_at_most_once : (size : Size) (h : List Step) → IsHistory size h → IsRaisedAtMostOnce size h
+raised_at_most_once size h is guard published o =
+    between (count_at size published) (count_at size h) (under size h guard published o) (at_most_next size h is guard published o)
+
+safe_by : (size : Size) (h : List Step) → IsHistory size h → (i p : ℕ) (later retirement : List Step) → h ≡ later ++ Retire p i ∷ retirement →
+    Reclaims size i h → NoGuardLasts retirement h
+safe_by size h is i p [] retirement eq taken guard published then_open now_open =
+    subst (λ (k : List Step). IsDue size i k) eq ((exactly size i h is).0 taken)
+safe_by size h is i p (newest ∷ recent) retirement eq taken guard published then_open now_open =
     let h₀ = recent ++ Retire p i ∷ retirement in
     let all : IsHistory size (newest ∷ h₀) = subst (λ (k : List Step). IsHistory size k) eq is in
     let d : IsDue size i (newest ∷ h₀) = subst (λ (k : List Step). IsDue size i k) eq ((exactly size i h is).0 taken) in
-    let high : count_at size h ≤ count_at size published + 1 = raised_at_most_once size h is guard published now_open in
+    let high : count_at size h ≤ count_at size published + 1 = at_most_next size h is guard published now_open in
     let last : count_at size h₀ ≤ count_at size h = subst (λ (k : List Step). count_at size h₀ ≤ count_at size k) (sym eq) (count_step size h₀ newest) in
     let low : count_at size published ≤ count_at size retirement = under size retirement guard published then_open in
     let start : count_at size retirement ≤ retired_at size i h₀ = retired_after size i p recent retirement in
     let end : retired_at size i h₀ + 2 ≤ count_at size h₀ = late size i newest h₀ all d in
     absurd (omega arith)
+
+pub safe : (size : Size) (h : List Step) → IsHistory size h → Safe size h
+safe size h is i retirement r taken guard published then_open now_open =
+    safe_by size h is i r.place r.later retirement r.follows taken guard published then_open now_open
 
 held : (f : Fate) (p k : ℕ) → is_with f p k ≡ true → IsHolder p f
 held Kept p k e = absurd (false≢true e)
@@ -326,7 +366,12 @@ waits_with_one size h is = record {
       );
   some = λ i retired not_reclaimed.
       has_holder (fate size i h) (sym (item size h is i).flag ∙ retired) (λ gone. not_reclaimed ((reclaimed_is size i h is).1 gone));
-  one = λ i p q a b. one_holder (fate size i h) p q a b;
+  one = λ i p q a b.
+      let s = state size h in
+      let f = fate size i h in
+      let o = item size h is i in
+      let holds : (r : ℕ) → IsWith s r i → IsHolder r f = λ r w. let bag = in_bag f r i (place_at s r) (o.bags r) w in held f r bag.0 bag.1 in
+      one_holder f p q (holds p a) (holds q b);
 }
 
 one_later : (a : ℕ) → (a + 1) % 64 ≡ epoch_after (a % 64)
@@ -339,20 +384,26 @@ two_later a = omega arith
 near : (a b : ℕ) → a ≤ b → b ≤ a + 2 → same_generation (a % 64) (b % 64) ≡ true
 near a b low high =
     let x = a % 64 in let y = b % 64 in
-    ⊎_elim (λ e. or_left (y == x || y == epoch_after x) (y == epoch_after (epoch_after x)) (or_left (y == x) (y == epoch_after x) (eq-eqb y x (ap (λ (k : ℕ). k % 64) e))))
-    (λ d. ⊎_elim (λ e. or_left (y == x || y == epoch_after x) (y == epoch_after (epoch_after x)) (or_right (y == x) (y == epoch_after x) (eq-eqb y (epoch_after x) (ap (λ (k : ℕ). k % 64) e ∙ one_later a))))
-    (λ f. or_right (y == x || y == epoch_after x) (y == epoch_after (epoch_after x)) (eq-eqb y (epoch_after (epoch_after x)) (ap (λ (k : ℕ). k % 64) (let e : b ≡ a + 2 = omega arith in e) ∙ two_later a)))
+    ⊎_elim (λ e. or_left (y == x || y == epoch_after x) (y == epoch_after (epoch_after x))
+    (or_left (y == x) (y == epoch_after x) (eq-eqb y x (ap (λ (k : ℕ). k % 64) e))))
+    (λ d. ⊎_elim (λ e. or_left (y == x || y == epoch_after x) (y == epoch_after (epoch_after x))
+    (or_right (y == x) (y == epoch_after x) (eq-eqb y (epoch_after x) (ap (λ (k : ℕ). k % 64) e ∙ one_later a))))
+    (λ f. or_right (y == x || y == epoch_after x) (y == epoch_after (epoch_after x))
+    (eq-eqb y (epoch_after (epoch_after x)) (ap (λ (k : ℕ). k % 64) (let e : b ≡ a + 2 = omega arith in e) ∙ two_later a)))
     (cases_eq b (a + 1)))
     (cases_eq b a)
 
 pub generations : (size : Size) (h : List Step) → IsHistory size h → KeepsGenerations size h
-generations size h is own p i published seen later retirement own_seen is_seen own_then at_r other guard begun guard_then guard_now =
-    let is_r : IsHistory size retirement = (earlier size later (Retire p i ∷ retirement) (subst (λ (k : List Step). IsHistory size k) at_r is)).1 in
-    let high : count_at size h ≤ count_at size begun + 1 = raised_at_most_once size h is guard begun guard_now in
+generations size h is i seen retirement own is_seen at_r other guard begun guard_then guard_now =
+    let from_retirement = Retire at_r.place i ∷ retirement in
+    let all : IsHistory size (at_r.later ++ from_retirement) = subst (λ (k : List Step). IsHistory size k) at_r.follows is in
+    let is_r : IsHistory size retirement = (earlier size at_r.later from_retirement all).1 in
+    let high : count_at size h ≤ count_at size begun + 1 = at_most_next size h is guard begun guard_now in
     let from : count_at size begun ≤ count_at size retirement = under size retirement guard begun guard_then in
-    let r : count_at size retirement ≤ count_at size published + 1 = raised_at_most_once size retirement is_r own published own_then in
-    let low : count_at size published ≤ count_at size seen = under size seen own published own_seen in
-    let on : count_at size seen ≤ count_at size h = subst (λ (k : List Step). count_at size seen ≤ count_at size k) (sym is_seen.1) (count_grows size is_seen.0 seen) in
+    let r : count_at size retirement ≤ count_at size own.published + 1 = at_most_next size retirement is_r own.guard own.published own.open_at_other in
+    let low : count_at size own.published ≤ count_at size seen = under size seen own.guard own.published own.open_at_one in
+    let on : count_at size seen ≤ count_at size h =
+    subst (λ (k : List Step). count_at size seen ≤ count_at size k) (sym is_seen.1) (count_grows size is_seen.0 seen) in
     true≢false (sym (near (count_at size seen) (count_at size h) on (omega arith)) ∙ other)
 
 -- the history of a list is one
@@ -373,13 +424,16 @@ happens-state size h x =
     elim (possible (state size h) x) as (λ t. cond t (after (state size h) x) (state size h) ≡ state size (cond t (x ∷ h) h)) [ true ↦ refl | false ↦ refl ]
 
 -- the loop's step
-pub taken_more : (size : Size) (steps : List Step) (i : ℕ) (d x : Step) (s : State) → i < length steps → s ≡ state size (history_of size (take i steps)) → x ≡ get_or steps i d →
+pub taken_more : (size : Size) (steps : List Step) (i : ℕ) (d x : Step) (s : State) → i < length steps →
+    s ≡ state size (history_of size (take i steps)) → x ≡ get_or steps i d →
     happens s x ≡ state size (history_of size (take (i + 1) steps))
 taken_more size steps i d x s l e is =
     let h = history_of size (take i steps) in
     ap (λ (v : State). happens v x) e ∙ (happens-state size h x
-    ∙ ap (state size) (ap (λ (y : Step). goes_on size h (y ∷ [])) is ∙ (sym (goes_on-append size [] (take i steps) (get_or steps i d ∷ [])) ∙ ap (λ (k : List Step). goes_on size [] k) (sym (take_more steps i d l)))))
+    ∙ ap (state size) (ap (λ (y : Step). goes_on size h (y ∷ [])) is
+    ∙ (sym (goes_on-append size [] (take i steps) (get_or steps i d ∷ [])) ∙ ap (λ (k : List Step). goes_on size [] k) (sym (take_more steps i d l)))))
 
 -- what every history keeps holds after each beginning of a list
-pub at_each : (Fact : Size → List Step → Type 0) → ((size : Size) (h : List Step) → IsHistory size h → Fact size h) → (steps : List Step) → AtEachMoment steps Fact
-at_each Fact all steps front rest e = all (size_for steps) (history_of (size_for steps) front) (goes_on_is (size_for steps) [] front tt)
+pub at_each : (Fact : Size → List Step → Type 0) → ((size : Size) (h : List Step) → IsHistory size h → Fact size h) → (steps : List Step) →
+    AtEachMoment steps Fact
+at_each Fact all steps size front rest e = all size (history_of size front) (goes_on_is size [] front tt)

@@ -71,27 +71,33 @@ next-at (a ∷ b ∷ c ∷ bs) zero l = refl
 next-at (a ∷ b ∷ c ∷ bs) (suc p) l = next-at bs p (omega arith)
 
 -- the current bag of a place replaced
-current-set : (bs : List Items) (p : ℕ) (x : Items) → p < length (trios_of bs) → trios_of (list_set bs (at p) x) ≡ list_set (trios_of bs) p (record (trio_at (trios_of bs) p) { current = x })
+current-set : (bs : List Items) (p : ℕ) (x : Items) → p < length (trios_of bs) →
+    trios_of (list_set bs (at p) x) ≡ list_set (trios_of bs) p (record (trio_at (trios_of bs) p) { current = x })
 current-set [] p x l = absurd (omega arith)
 current-set (a ∷ []) p x l = absurd (omega arith)
 current-set (a ∷ b ∷ []) p x l = absurd (omega arith)
 current-set (a ∷ b ∷ c ∷ bs) zero x l = refl
 current-set (a ∷ b ∷ c ∷ bs) (suc p) x l = ap (λ (ts : List Trio). record { current = a; prev = b; next = c } ∷ ts) (current-set bs p x (omega arith))
 
-pub put_trios : (bs : List Items) (p k i : ℕ) → k ≡ 3 * p → p < length (trios_of bs) → trios_of (list_set bs k (set.insert (bag_at bs k) i)) ≡ list_set (trios_of bs) p (put i (trio_at (trios_of bs) p))
+pub put_trios : (bs : List Items) (p k i : ℕ) → k ≡ 3 * p → p < length (trios_of bs) →
+    trios_of (list_set bs k (set.insert (bag_at bs k) i)) ≡ list_set (trios_of bs) p (put i (trio_at (trios_of bs) p))
 put_trios bs p k i e l =
     ap (λ (j : ℕ). trios_of (list_set bs j (set.insert (bag_at bs j) i))) (e ∙ sym (at_is p))
-    ∙ (current-set bs p (set.insert (bag_at bs (at p)) i) l ∙ ap (λ (x : Items). list_set (trios_of bs) p (record (trio_at (trios_of bs) p) { current = set.insert x i })) (current-at bs p l))
+    ∙ (current-set bs p (set.insert (bag_at bs (at p)) i) l
+    ∙ ap (λ (x : Items). list_set (trios_of bs) p (record (trio_at (trios_of bs) p) { current = set.insert x i })) (current-at bs p l))
 
 -- ROTATION
 
 union-empty : (x : Items) → set.union set.empty x ≡ x
-union-empty x = set.same_set nat_cmp_total set.nat_cmp-IsAntisymmetric _ _ (λ i. set.contains-union nat_cmp_total set.empty x i ∙ ap (λ (b : Bool). b || set.contains x i) (set.contains-empty nat_cmp i))
+union-empty x =
+    set.same_set nat_cmp_total set.nat_cmp-IsAntisymmetric _ _
+    (λ i. set.contains-union nat_cmp_total set.empty x i ∙ ap (λ (b : Bool). b || set.contains x i) (set.contains-empty nat_cmp i))
 
 abbrev pub turned : ℕ → ℕ → ℕ → List Items → List Items
 turned first second third bs = moved second first (moved third second (list_set bs third set.empty))
 
-turned_at : (bs : List Items) (p : ℕ) → p < length (trios_of bs) → trios_of (turned (at p) (suc (at p)) (suc (suc (at p))) bs) ≡ list_set (trios_of bs) p (rotated (trio_at (trios_of bs) p))
+turned_at : (bs : List Items) (p : ℕ) → p < length (trios_of bs) →
+    trios_of (turned (at p) (suc (at p)) (suc (suc (at p))) bs) ≡ list_set (trios_of bs) p (rotated (trio_at (trios_of bs) p))
 turned_at [] p l = absurd (omega arith)
 turned_at (a ∷ []) p l = absurd (omega arith)
 turned_at (a ∷ b ∷ []) p l = absurd (omega arith)
@@ -105,9 +111,11 @@ pub turned_trios : (bs : List Items) (p first second third : ℕ) → first ≡ 
 turned_trios bs p first second third e f g l =
     let k = at_is p in
     let e' : first ≡ at p = omega arith in let f' : second ≡ suc (at p) = omega arith in let g' : third ≡ suc (suc (at p)) = omega arith in
-    ap (λ (j : ℕ). trios_of (turned j second third bs)) e' ∙ (ap (λ (j : ℕ). trios_of (turned (at p) j third bs)) f' ∙ (ap (λ (j : ℕ). trios_of (turned (at p) (suc (at p)) j bs)) g' ∙ turned_at bs p l))
+    ap (λ (j : ℕ). trios_of (turned j second third bs)) e'
+    ∙ (ap (λ (j : ℕ). trios_of (turned (at p) j third bs)) f' ∙ (ap (λ (j : ℕ). trios_of (turned (at p) (suc (at p)) j bs)) g' ∙ turned_at bs p l))
 
-pub taken_trios : (bs : List Items) (p third : ℕ) → third ≡ 3 * p + 2 → p < length (trios_of bs) → set.len (bag_at bs third) ≡ set.len (trio_at (trios_of bs) p).next
+pub taken_trios : (bs : List Items) (p third : ℕ) → third ≡ 3 * p + 2 → p < length (trios_of bs) →
+    set.len (bag_at bs third) ≡ set.len (trio_at (trios_of bs) p).next
 taken_trios bs p third g l =
     let k = at_is p in
     let g' : third ≡ suc (suc (at p)) = omega arith in
@@ -121,9 +129,11 @@ taken_in to first second third bs = moved to third (moved to second (moved to fi
 union-three : (a x y z : Items) → set.union (set.union (set.union a x) y) z ≡ set.union a (set.union x (set.union y z))
 union-three a x y z =
     set.same_set nat_cmp_total set.nat_cmp-IsAntisymmetric _ _
-    (λ i. both (set.union (set.union a x) y) z i ∙ (ap (λ (b : Bool). b || set.contains z i) (both (set.union a x) y i ∙ ap (λ (b : Bool). b || set.contains y i) (both a x i))
+    (λ i. both (set.union (set.union a x) y) z i
+    ∙ (ap (λ (b : Bool). b || set.contains z i) (both (set.union a x) y i ∙ ap (λ (b : Bool). b || set.contains y i) (both a x i))
     ∙ (or_assoc3 (set.contains a i) (set.contains x i) (set.contains y i) (set.contains z i)
-    ∙ sym (both a (set.union x (set.union y z)) i ∙ ap (λ (b : Bool). set.contains a i || b) (both x (set.union y z) i ∙ ap (λ (b : Bool). set.contains x i || b) (both y z i))))))
+    ∙ sym (both a (set.union x (set.union y z)) i
+    ∙ ap (λ (b : Bool). set.contains a i || b) (both x (set.union y z) i ∙ ap (λ (b : Bool). set.contains x i || b) (both y z i))))))
   where
     both : (s t : Items) (i : ℕ) → set.contains (set.union s t) i ≡ (set.contains s i || set.contains t i)
     both s t i = set.contains-union nat_cmp_total s t i
@@ -146,7 +156,8 @@ emptied_trios (a ∷ b ∷ c ∷ bs) (suc r) l = ap (λ (ts : List Trio). record
 
 -- what is taken from them on the way
 taken_away : (bs : List Items) (r : ℕ) (a : Items) → r < length (trios_of bs) →
-    set.union (set.union (set.union a (bag_at bs (at r))) (bag_at (list_set bs (at r) set.empty) (suc (at r)))) (bag_at (list_set (list_set bs (at r) set.empty) (suc (at r)) set.empty) (suc (suc (at r))))
+    set.union (set.union (set.union a (bag_at bs (at r))) (bag_at (list_set bs (at r) set.empty) (suc (at r))))
+    (bag_at (list_set (list_set bs (at r) set.empty) (suc (at r)) set.empty) (suc (suc (at r))))
     ≡ set.union a (all_of (trio_at (trios_of bs) r))
 taken_away [] r a l = absurd (omega arith)
 taken_away (x ∷ []) r a l = absurd (omega arith)
@@ -154,7 +165,8 @@ taken_away (x ∷ y ∷ []) r a l = absurd (omega arith)
 taken_away (x ∷ y ∷ z ∷ bs) zero a l = union-three a x y z
 taken_away (x ∷ y ∷ z ∷ bs) (suc r) a l = taken_away bs r a (omega arith)
 
-taken_at : (bs : List Items) (p r : ℕ) → p < length (trios_of bs) → r < length (trios_of bs) → (p ≡ r → ⊥) → trios_of (taken_in (at p) (at r) (suc (at r)) (suc (suc (at r))) bs) ≡ joined p r (trios_of bs)
+taken_at : (bs : List Items) (p r : ℕ) → p < length (trios_of bs) → r < length (trios_of bs) → (p ≡ r → ⊥) →
+    trios_of (taken_in (at p) (at r) (suc (at r)) (suc (suc (at r))) bs) ≡ joined p r (trios_of bs)
 taken_at [] p r lp lr ne = absurd (omega arith)
 taken_at (a ∷ []) p r lp lr ne = absurd (omega arith)
 taken_at (a ∷ b ∷ []) p r lp lr ne = absurd (omega arith)
@@ -177,7 +189,8 @@ taken_at (a ∷ b ∷ c ∷ bs) (suc p) zero lp lr ne =
     inside (a ∷ b ∷ c ∷ bs) (suc p) l = let rest = inside bs p (omega arith) in omega arith
 
     three : (bs : List Items) (p : ℕ) (a b c : Items) → p < length (trios_of bs) →
-        (let one = list_set bs (at p) (set.union (bag_at bs (at p)) a) in let two = list_set one (at p) (set.union (bag_at one (at p)) b) in list_set two (at p) (set.union (bag_at two (at p)) c))
+        (let one = list_set bs (at p) (set.union (bag_at bs (at p)) a) in
+        let two = list_set one (at p) (set.union (bag_at one (at p)) b) in list_set two (at p) (set.union (bag_at two (at p)) c))
         ≡ list_set bs (at p) (set.union (set.union (set.union (bag_at bs (at p)) a) b) c)
     three bs p a b c l =
         let k = at p in let x = set.union (bag_at bs k) a in let one = list_set bs k x in
@@ -190,12 +203,17 @@ taken_at (a ∷ b ∷ c ∷ bs) (suc p) zero lp lr ne =
 taken_at (a ∷ b ∷ c ∷ bs) (suc p) (suc r) lp lr ne =
     ap (λ (ts : List Trio). record { current = a; prev = b; next = c } ∷ ts) (taken_at bs p r (omega arith) (omega arith) (λ e. ne (ap suc e)))
 
-pub taken_trios_in : (bs : List Items) (p r to first second third : ℕ) → to ≡ 3 * p → first ≡ 3 * r → second ≡ 3 * r + 1 → third ≡ 3 * r + 2 → p < length (trios_of bs) → r < length (trios_of bs) → (p ≡ r → ⊥) →
+pub taken_trios_in : (bs : List Items) (p r to first second third : ℕ) → to ≡ 3 * p → first ≡ 3 * r → second ≡ 3 * r + 1 → third ≡ 3 * r + 2 →
+    p < length (trios_of bs) → r < length (trios_of bs) → (p ≡ r → ⊥) →
     trios_of (taken_in to first second third bs) ≡ joined p r (trios_of bs)
 taken_trios_in bs p r to first second third d e f g lp lr ne =
     let j = at_is p in let k = at_is r in
-    let d' : to ≡ at p = omega arith in let e' : first ≡ at r = omega arith in let f' : second ≡ suc (at r) = omega arith in let g' : third ≡ suc (suc (at r)) = omega arith in
-    ap (λ (m : ℕ). trios_of (taken_in m first second third bs)) d' ∙ (ap (λ (m : ℕ). trios_of (taken_in (at p) m second third bs)) e' ∙ (ap (λ (m : ℕ). trios_of (taken_in (at p) (at r) m third bs)) f'
+    let d' : to ≡ at p = omega arith in
+    let e' : first ≡ at r = omega arith in
+    let f' : second ≡ suc (at r) = omega arith in
+    let g' : third ≡ suc (suc (at r)) = omega arith in
+    ap (λ (m : ℕ). trios_of (taken_in m first second third bs)) d'
+    ∙ (ap (λ (m : ℕ). trios_of (taken_in (at p) m second third bs)) e' ∙ (ap (λ (m : ℕ). trios_of (taken_in (at p) (at r) m third bs)) f'
     ∙ (ap (λ (m : ℕ). trios_of (taken_in (at p) (at r) (suc (at r)) m bs)) g' ∙ taken_at bs p r lp lr ne)))
 
 -- new bags are empty

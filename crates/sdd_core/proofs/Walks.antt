@@ -79,7 +79,8 @@ below-cons zero x xs = sym (ap (λ (b : Bool). cond b 1 0 + 0) (le-ltb x 0 (omeg
 below-cons (suc n) x xs =
     let rest = below-cons n x xs in
     ⊎_elim
-    (λ e. let a = at_head n x xs e in let b = ap one_if (le-ltb x n (omega arith)) in let c = ap one_if (lt-ltb x (suc n) (omega arith)) in omega (arith, rest, a, b, c))
+    (λ e. let a = at_head n x xs e in let b = ap one_if (le-ltb x n (omega arith)) in
+    let c = ap one_if (lt-ltb x (suc n) (omega arith)) in omega (arith, rest, a, b, c))
     (λ ne. let a = ap one_if (ne_eqb n x (λ e. ne (sym e))) in
     ⊎_elim
     (λ l. let b = ap one_if (lt-ltb x n l) in let c = ap one_if (lt-ltb x (suc n) (omega arith)) in omega (arith, rest, a, b, c))
@@ -111,11 +112,13 @@ pigeons n xs once inside = let a = below_all n xs inside in let b = below-le n x
 pub occ-occ : (xs ys : List ℕ) (i : ℕ) → occ i (xs ++ ys) ≤ 1 → (occ i xs ≤ 1) × (occ i ys ≤ 1) × (0 < occ i xs → occ i ys ≡ 0)
 occ-occ xs ys i h = let a = occ-append i xs ys in (omega (arith, a, h), omega (arith, a, h), λ o. omega (arith, a, h, o))
 
-pub lengths_fit : (links : List ℕ) (c d : Chain) → IsChain links c → IsChain links d → ((i : ℕ) → occ i (items_of links c ++ items_of links d) ≤ 1) → c.len + d.len ≤ length links
+pub lengths_fit : (links : List ℕ) (c d : Chain) → IsChain links c → IsChain links d →
+    ((i : ℕ) → occ i (items_of links c ++ items_of links d) ≤ 1) → c.len + d.len ≤ length links
 lengths_fit links c d one two once =
     let xs = items_of links c in let ys = items_of links d in
     let all = pigeons (length links) (xs ++ ys) once (λ i o.
-    ⊎_elim (λ none. two.inside i (let a = occ-append i xs ys in omega (arith, a, o, none))) (λ some. one.inside i (let z : 0 < occ i xs = omega arith in z)) (cases_eq (occ i xs) 0)) in
+    ⊎_elim (λ none. two.inside i (let a = occ-append i xs ys in omega (arith, a, o, none)))
+    (λ some. one.inside i (let z : 0 < occ i xs = omega arith in z)) (cases_eq (occ i xs) 0)) in
     let a = length-walk links c.len c.first in let b = length-walk links d.len d.first in let e = length-append xs ys in
     omega (arith, all, a, b, e)
 
@@ -124,7 +127,8 @@ pub joined_walk : (links : List ℕ) (c d : Chain) → 0 < c.len → IsChain lin
     walk (set links c.last d.first) (c.len + d.len) c.first ≡ items_of links c ++ items_of links d
 joined_walk links c d some one once = joins links c.last c.first c.len d some (one.last some) (λ i. once i) one.inside
   where
-    joins : (links : List ℕ) (l x n : ℕ) (d : Chain) → 0 < n → get_or (walk links n x) (n - 1) 0 ≡ l → ((i : ℕ) → occ i (walk links n x ++ items_of links d) ≤ 1) → ((i : ℕ) → 0 < occ i (walk links n x) → i < length links) →
+    joins : (links : List ℕ) (l x n : ℕ) (d : Chain) → 0 < n → get_or (walk links n x) (n - 1) 0 ≡ l →
+        ((i : ℕ) → occ i (walk links n x ++ items_of links d) ≤ 1) → ((i : ℕ) → 0 < occ i (walk links n x) → i < length links) →
         walk (set links l d.first) (n + d.len) x ≡ walk links n x ++ items_of links d
     joins links l x zero d some e once inside = absurd (omega arith)
     joins links l x (suc n) d some e once inside =

@@ -47,7 +47,9 @@ pub record Linked : Type 0 where
   pub bags : List Items
 
 abbrev pub linked_code : Coded Linked
-linked_code = code_by (ℕ × List Items) (coded× coded_ℕ (coded_list items_code)) (λ b. (b.items, b.bags)) (λ p. record { items = p.0; bags = p.1 }) (λ _. refl)
+linked_code =
+    code_by (ℕ × List Items) (coded× coded_ℕ (coded_list items_code))
+    (λ b. (b.items, b.bags)) (λ p. record { items = p.0; bags = p.1 }) (λ _. refl)
 
 abbrev pub bag_at : List Items → ℕ → Items
 bag_at bags bag = slice_index_or bags bag set.empty

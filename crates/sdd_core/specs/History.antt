@@ -5,7 +5,8 @@ use Rattle.std.specs.FinSet as set
 use Rattle.sdd_core.specs.declared.machine.steps.Step.{Step}
 use Rattle.sdd_core.specs.declared.machine.steps.Step.TheVariants.{Register, Read, Publish, Retire, Adopt, Close, End}
 use Rattle.sdd_core.specs.Epoch.{epoch_of}
-use Rattle.sdd_core.specs.Table.{Size, State, new_state, possible, after, place_at, taken_out}
+use Rattle.sdd_core.specs.declared.machine.steps.Did.TheVariants.{Opened}
+use Rattle.sdd_core.specs.Table.{Size, State, Items, new_state, possible, after, did, place_at}
 
 -- A moment is the list of the steps taken by then, the newest first.
 
@@ -50,6 +51,10 @@ pub record IsOpenGuard (place : ℕ) (published moment : List Step) : Type 0 whe
   pub publish : published ≡ Publish place ∷ before
   pub follows : moment ≡ inside ++ published
   pub unclosed : closes place inside ≡ false
+
+-- no guard that was open at the one moment is open at the other
+abbrev pub NoGuardLasts : List Step → List Step → Type 0
+NoGuardLasts from to = (guard : ℕ) (published : List Step) → IsOpenGuard guard published from → IsOpenGuard guard published to → ⊥
 
 -- CHANGES
 
@@ -126,7 +131,9 @@ WasDue size item moment = (earlier : List Step) × IsEarlier earlier moment × I
 
 -- the item is in a bag of the place
 abbrev pub IsWith : State → ℕ → ℕ → Type 0
-IsWith s place item = IsTrue (set.contains (place_at s place).current item || set.contains (place_at s place).prev item || set.contains (place_at s place).next item)
+IsWith s place item =
+    let x = place_at s place in
+    IsTrue (set.contains x.current item || set.contains x.prev item || set.contains x.next item)
 
 -- it was retired, and is in no bag
 pub record IsReclaimed (s : State) (item : ℕ) : Type 0 where
@@ -140,15 +147,28 @@ Reclaims size item (step ∷ past) = IsReclaimed (state size (step ∷ past)) it
 
 -- SAFE AND EXACT
 
+-- the item was retired by the step that follows the one moment, and the other goes on from there
+pub record IsRetirement (item : ℕ) (retirement moment : List Step) : Type 0 where
+  pub place : ℕ
+  pub later : List Step
+  pub follows : moment ≡ later ++ Retire place item ∷ retirement
+
 -- at the reclaim of an item no guard that was open at its retirement is open
 abbrev pub Safe : Size → List Step → Type 0
-Safe size moment = (item place : ℕ) (later retirement : List Step) → moment ≡ later ++ Retire place item ∷ retirement →
-    Reclaims size item moment →
-    (guard : ℕ) (published : List Step) → IsOpenGuard guard published retirement → IsOpenGuard guard published moment → ⊥
+Safe size moment = (item : ℕ) (retirement : List Step) → IsRetirement item retirement moment →
+    Reclaims size item moment → NoGuardLasts retirement moment
 
--- the newest step reclaims exactly what is due at it, the number that a publish tells is of what is due, and what
--- was reclaimed is not reclaimed again
+-- A publish tells the count that its place read last, whether that makes it a change, and how many items are due at
+-- it.
+pub record Tells (size : Size) (place : ℕ) (past : List Step) : Type 0 where
+  pub due : Items
+  pub each : (item : ℕ) → IsTrue (set.contains due item) ↔ IsDue size item (Publish place ∷ past)
+  pub answer : did (state size past) (Publish place) ≡ Opened (last_read size place past) (is_change size place past) (set.len due)
+
+-- the newest step reclaims exactly what is due at it, a publish tells so, and what was reclaimed is not reclaimed
+-- again
 pub record Exact (size : Size) (moment : List Step) : Type 0 where
   pub due : (item : ℕ) → Reclaims size item moment ↔ IsDue size item moment
-  pub told : (place item : ℕ) (past : List Step) → moment ≡ Publish place ∷ past → IsTrue (set.contains (taken_out (place_at (state size past) place)) item) ↔ IsDue size item moment
-  pub once : (item : ℕ) (newest : Step) (later earlier : List Step) → moment ≡ newest ∷ (later ++ earlier) → Reclaims size item earlier → Reclaims size item moment → ⊥
+  pub told : (place : ℕ) (past : List Step) → moment ≡ Publish place ∷ past → Tells size place past
+  pub once : (item : ℕ) (newest : Step) (later earlier : List Step) → moment ≡ newest ∷ (later ++ earlier) →
+      Reclaims size item earlier → Reclaims size item moment → ⊥

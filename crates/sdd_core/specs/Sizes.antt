@@ -1,8 +1,8 @@
 -- How large a machine a list of steps needs
-use Rattle.std.specs.Prelude.{ℕ, ◌+◌, ◌^◌, max, min, map, List, [], ◌∷◌}
+use Rattle.std.specs.Prelude.{ℕ, ◌+◌, max, min, map, List, [], ◌∷◌}
 use Rattle.sdd_core.specs.declared.machine.steps.Step.{Step}
 use Rattle.sdd_core.specs.declared.machine.steps.Step.TheVariants.{Register, Read, Publish, Retire, Lock, Adopt, Look, Advance, Unlock, Close, End}
-use Rattle.sdd_core.specs.Table.{Size}
+use Rattle.sdd_core.specs.Table.{Size, greatest_size}
 
 abbrev pub place_named : Step → ℕ
 place_named (Register place) = place
@@ -30,6 +30,6 @@ greatest (number ∷ numbers) = max number (greatest numbers)
 -- the greatest numbers named plus one, and no more than a machine may have
 abbrev pub size_for : List Step → Size
 size_for steps = record {
-  places = min (greatest (map place_named steps) + 1) 1024;
-  items = min (greatest (map item_named steps) + 1) (2 ^ 24);
+  places = min (greatest (map place_named steps) + 1) greatest_size.places;
+  items = min (greatest (map item_named steps) + 1) greatest_size.items;
 }

@@ -37,9 +37,14 @@ pub record Size : Type 0 where
 abbrev pub size_of : ℕ → ℕ → Size
 size_of places items = record { places = places; items = items }
 
+-- the greatest size that a machine may have
+abbrev pub greatest_size : Size
+greatest_size = size_of 1024 (2 ^ 24)
+
 -- the sizes that a machine may have
 abbrev pub are_limits : Size → Bool
-are_limits size = nat_le 1 size.places && nat_le size.places 1024 && nat_le 1 size.items && nat_le size.items (2 ^ 24)
+are_limits size =
+    nat_le 1 size.places && nat_le size.places greatest_size.places && nat_le 1 size.items && nat_le size.items greatest_size.items
 
 -- also what stands at a number that is no place's
 abbrev pub free_place : Place
@@ -105,7 +110,9 @@ abbrev pub possible : State → Step → Bool
 possible state (Register place) = nat_lt place (length state.places) && is_free (place_at state place).phase
 possible state (Read place) = is_closed (place_at state place).phase
 possible state (Publish place) = is_reading (place_at state place).phase
-possible state (Retire place item) = (is_closed (place_at state place).phase || is_open (place_at state place).phase) && nat_lt item (length state.retired) && not (slice_index_or state.retired item false)
+possible state (Retire place item) =
+    let phase = (place_at state place).phase in
+    (is_closed phase || is_open phase) && nat_lt item (length state.retired) && not (slice_index_or state.retired item false)
 possible state (Lock place) = is_open (place_at state place).phase && is_idle state.scan
 possible state (Adopt place) = adopts place state.scan
 possible state (Look place) = looks (length state.places) place state.scan
@@ -149,15 +156,7 @@ rotated x = record x { current = set.empty; prev = x.current; next = x.prev }
 
 -- At a change the bags move on by one, and what was in next is taken out.
 abbrev pub published : Place → Place
-published x =
-    let moves = finds_another x in
-    record {
-      phase = Open;
-      found = read_of x.phase;
-      current = if moves then set.empty else x.current;
-      prev = if moves then x.current else x.prev;
-      next = if moves then x.prev else x.next;
-    }
+published x = posted Open (read_of x.phase) (if finds_another x then rotated x else x)
 
 -- everything left by ended places
 abbrev pub left : List Place → Items
@@ -166,15 +165,7 @@ left (x ∷ xs) = if is_ended x.phase then set.union (set.union x.current (set.u
 
 -- an ended place is free, and its bags are empty
 abbrev pub freed : Place → Place
-freed x =
-    let free = is_ended x.phase in
-    record {
-      phase = if free then Free else x.phase;
-      found = x.found;
-      current = if free then set.empty else x.current;
-      prev = if free then set.empty else x.prev;
-      next = if free then set.empty else x.next;
-    }
+freed x = if is_ended x.phase then record free_place { found = x.found } else x
 
 abbrev pub taking : Items → Place → Place
 taking items x = record x { current = set.union x.current items }
@@ -224,7 +215,7 @@ abbrev pub taken_out : Place → Items
 taken_out x = if finds_another x then x.next else set.empty
 
 abbrev pub did_possible : State → Step → Did
-did_possible state (Publish place) = Opened (read_of (place_at state place).phase) (finds_another (place_at state place)) (set.len (taken_out (place_at state place)))
+did_possible state (Publish place) = let x = place_at state place in Opened (read_of x.phase) (finds_another x) (set.len (taken_out x))
 did_possible state (Look place) = Looked (look_passes state state.scan)
 did_possible state (Advance place) = Advanced (raises state place)
 did_possible state _ = Done

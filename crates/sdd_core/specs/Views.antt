@@ -55,4 +55,6 @@ emptied (post ∷ posts) [] = []
 emptied (post ∷ posts) (trio ∷ trios) = (if is_ended post.phase then no_items else trio) ∷ emptied posts trios
 
 abbrev pub gathered : ℕ → List Post → List Trio → List Trio
-gathered place posts trios = slice_set (emptied posts trios) place (record (trio_at trios place) { current = set.union (trio_at trios place).current (left_in posts trios) })
+gathered place posts trios =
+    let trio = trio_at trios place in
+    slice_set (emptied posts trios) place (record trio { current = set.union trio.current (left_in posts trios) })

@@ -26,7 +26,7 @@ impl Epoch {
     const NUMBER: u8 = 64;
 
     /// The epoch that shows a count.
-    pub fn of_count(count: u64) -> Epoch
+    pub(crate) const fn of_count(count: u64) -> Epoch
         ensures { result ≡ epoch_of count }
     {
         Epoch {
@@ -35,7 +35,7 @@ impl Epoch {
     }
 
     /// The epoch after this one; after the last comes the first again.
-    pub fn next(self) -> Epoch
+    pub const fn next(self) -> Epoch
         ensures value { result ≡ epoch_after self }
         ensures undone { epoch_before result ≡ self }
         ensures round { epoch_later 64 self ≡ self }
@@ -46,7 +46,7 @@ impl Epoch {
     }
 
     /// The epoch before this one; before the first comes the last.
-    pub fn prev(self) -> Epoch
+    pub const fn prev(self) -> Epoch
         ensures value { result ≡ epoch_before self }
         ensures undone { epoch_after result ≡ self }
     {
@@ -56,7 +56,7 @@ impl Epoch {
     }
 
     /// The first epoch of the next generation: the one three after this.
-    pub fn next_generation(self) -> Epoch
+    pub const fn next_generation(self) -> Epoch
         ensures { result ≡ epoch_after (epoch_after (epoch_after self)) }
     {
         self.next().next().next()
@@ -66,10 +66,11 @@ impl Epoch {
     ///
     /// Where it is not, and the other was seen later, an item retired under a guard that saw this epoch is out of the
     /// reach of every guard that was open then.
-    pub fn in_same_generation(self, other: Epoch) -> bool
+    pub const fn in_same_generation(self, other: Epoch) -> bool
         ensures { result ≡ same_generation self other }
     {
-        other == self || other == self.next() || other == self.next().next()
+        let number = other.value;
+        number == self.value || number == self.next().value || number == self.next().next().value
     }
 }
 

@@ -65,7 +65,7 @@ impl Model for Machine {
 }
 
 impl Machine {
-    ghost use Rattle.sdd_core.specs.Table.{State, new_state, place_at, with_place, phased, posted, rotated, are_limits, size_of, possible, after, did, did_possible, happens, holds, adopts, looks, advances, passes};
+    ghost use Rattle.sdd_core.specs.Table.{State, new_state, place_at, with_place, phased, posted, rotated, greatest_size, are_limits, size_of, possible, after, did, did_possible, happens, holds, adopts, looks, advances, passes};
     ghost use Rattle.sdd_core.specs.Views.{IsHeld};
     ghost use Rattle.std.specs.FinSet as set;
 
@@ -78,6 +78,7 @@ impl Machine {
         // Both ways: limits out of range are refused as such, and other ones only for want of memory.
         ensures bad_limits { (result ≡ Err Refused.BadLimits) ↔ (are_limits (size_of places items) ≡ false) }
         ensures no_memory { IsTrue (are_limits (size_of places items)) → IsOkUnless result Refused.NoMemory }
+        ensures greatest { size_of MAX_PLACES MAX_ITEMS ≡ greatest_size }
     {
         if places < 1 || MAX_PLACES < places || items < 1 || MAX_ITEMS < items {
             return Err(Refused::BadLimits);
@@ -393,8 +394,9 @@ pub(crate) fn items_for(steps: &[Step]) -> u32
     greatest.min(MAX_ITEMS - 1) + 1
 }
 
-/// Takes the steps in order, in a machine with as many places and items as they name, and says what holds after each
-/// of them: the history is safe and exact.
+/// Takes the steps in order, in a machine with as many places and items as they name.
+///
+/// The history is safe and exact after each of them, in this machine and in one of any other size.
 ///
 /// Refused with `NoMemory` where memory was refused.
 pub fn safety(alloc: Global, steps: &[Step]) -> Result<Machine, Refused>
@@ -403,7 +405,8 @@ pub fn safety(alloc: Global, steps: &[Step]) -> Result<Machine, Refused>
 
     // No retired item is reclaimed while a guard published at its retirement is open.
     ensures safe { AtEachMoment steps.now Safe }
-    // None is reclaimed twice, and each at its holder's third change.
+    // None is reclaimed twice, and each at its holder's third change. A publish tells whether it is a change, and how
+    // many items it reclaims.
     ensures exact { AtEachMoment steps.now Exact }
     ensures reclaimed { AtEachMoment steps.now ReclaimsWhatWasDue }
     ensures one_holder { AtEachMoment steps.now WaitsWithOneHolder }

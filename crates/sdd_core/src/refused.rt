@@ -1,6 +1,3 @@
-ghost use Rattle.std.specs.Prelude.{◌≡◌};
-ghost use Rattle.sdd_core.specs.Refused.{number_of};
-
 use std::alloc::{AllocError, AllocFailed};
 use thiserror::Error;
 
@@ -31,28 +28,6 @@ pub enum Refused {
     TooManyOwners,
     #[error("a limit is out of range")]
     BadLimits,
-}
-
-impl Refused {
-    /// Its number, 1 to 12: where several hold, mostly the lowest is answered.
-    pub fn number(self) -> u8
-        ensures { result ≡ number_of self }
-    {
-        match self {
-            Refused::NoSlot => 1,
-            Refused::NoCell => 2,
-            Refused::NoJob => 3,
-            Refused::NoPlace => 4,
-            Refused::NoMemory => 5,
-            Refused::TooManyGuards => 6,
-            Refused::GuardOpen => 7,
-            Refused::NotAlone => 8,
-            Refused::OwnerOut => 9,
-            Refused::Contended => 10,
-            Refused::TooManyOwners => 11,
-            Refused::BadLimits => 12,
-        }
-    }
 }
 
 impl From<AllocError> for Refused {

@@ -4,6 +4,7 @@ ghost use Rattle.std.specs.Prelude.{◌≡◌, ℕ, List, [], ◌∷◌, ◌++�
 ghost use Rattle.sdd_lines.specs.Answer.{refusal, ending, text_of, text_of_all, text_of_fault};
 
 use crate::name::{GuardName, ItemName, JobName, Names, OwnerName, PlaceName};
+use sdd_core::inner::number_of_refusal;
 use sdd_core::{Epoch, Refused};
 use sdd_store::Tally;
 use std::alloc::{AllocError, Global};
@@ -49,7 +50,7 @@ impl fmt::Display for Reply {
             Reply::Item(owner, item) => write!(f, "{owner} {item}"),
             Reply::Value(value) => write!(f, "{value}"),
             Reply::Refused(refused) => {
-                write!(f, "refused {} {}", refused.number(), name_of(refused))
+                write!(f, "refused {} {}", number_of_refusal(refused), name_of(refused))
             }
             Reply::Invalid => write!(f, "invalid"),
         }

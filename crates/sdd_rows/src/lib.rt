@@ -2,6 +2,8 @@
 #![tactic(auto)]
 
 #[cfg(test)]
+mod greatest_sizes;
+#[cfg(test)]
 mod guards;
 #[cfg(test)]
 mod limits_and_memory;

@@ -1,6 +1,7 @@
 ghost use Rattle.std.specs.Prelude.{◌≡◌, ◌<◌, ◌≤◌, ◌↔◌, IsTrue, Ok, Err};
 
 use super::*;
+use crate::inner::epoch_of_count;
 
 // What a caller's proof gets of the contracts: they compose to the laws.
 
@@ -38,17 +39,17 @@ fn is_same(epoch: Epoch, other: Epoch) -> bool
 fn numbers_turn_round_at_64(rt: HostRuntime) {
     assert_eq!(rt; u8::from(Epoch::default().prev()), 63);
     assert_eq!(rt; Epoch::try_from(64), Err(Epoch::default()));
-    assert_eq!(rt; Epoch::try_from(255), Err(Epoch::of_count(63)));
-    assert_eq!(rt; u8::from(Epoch::of_count(62).next_generation()), 1);
-    assert_eq!(rt; u8::from(Epoch::of_count(u64::MAX)), 63);
+    assert_eq!(rt; Epoch::try_from(255), Err(epoch_of_count(63)));
+    assert_eq!(rt; u8::from(epoch_of_count(62).next_generation()), 1);
+    assert_eq!(rt; u8::from(epoch_of_count(u64::MAX)), 63);
 }
 
 #[test]
 fn a_generation_is_three_epochs(rt: HostRuntime) {
-    let last = Epoch::of_count(63);
+    let last = epoch_of_count(63);
     for (number, wanted) in [(63, true), (0, true), (1, true), (2, false), (62, false)] {
         assert_eq!(rt;
-            last.in_same_generation(Epoch::of_count(number)),
+            last.in_same_generation(epoch_of_count(number)),
             wanted,
             "epoch {number}"
         );
@@ -58,11 +59,11 @@ fn a_generation_is_three_epochs(rt: HostRuntime) {
 #[test]
 fn laws_of_epochs_hold_for_each(rt: HostRuntime) {
     for count in 0..64 {
-        let epoch = Epoch::of_count(count);
+        let epoch = epoch_of_count(count);
         assert_eq!(rt; there_and_back(epoch), epoch);
         assert_eq!(rt; back_and_there(epoch), epoch);
         assert_eq!(rt; by_number(epoch), Ok(epoch));
         assert_eq!(rt; is_before(epoch, epoch.next()), count < 63);
-        assert!(rt; is_same(epoch, Epoch::of_count(count + 64)));
+        assert!(rt; is_same(epoch, epoch_of_count(count + 64)));
     }
 }

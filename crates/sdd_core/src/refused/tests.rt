@@ -1,4 +1,5 @@
 use super::*;
+use crate::inner::number_of_refusal;
 use std::test::Fail;
 
 #[test]
@@ -58,7 +59,7 @@ fn refusals_have_their_numbers_and_texts(rt: HostRuntime) -> Result<(), Fail> {
         ),
     ];
     for (number, refused, name, text) in rows {
-        assert_eq!(rt; refused.number(), number);
+        assert_eq!(rt; number_of_refusal(refused), number);
         let shown = format!(in rt.alloc(); "{refused:?}")?;
         assert_eq!(rt; shown.as_str(), name);
         let told = format!(in rt.alloc(); "{refused}")?;

@@ -4,6 +4,7 @@ use crate::{
     Answer, GuardName, ItemName, JobName, Names, OwnerName, PlaceName, Reply, print_all,
     print_fault,
 };
+use sdd_core::inner::epoch_of_count;
 use sdd_core::{Epoch, Refused};
 use sdd_store::Tally;
 use std::alloc::{AllocError, Global};
@@ -33,7 +34,7 @@ fn answer(
 #[test]
 fn replies_have_texts(rt: HostRuntime) -> Result<(), Fail> {
     let alloc = rt.alloc();
-    let epoch = Epoch::of_count(67);
+    let epoch = epoch_of_count(67);
     let tally = Tally {
         made: 1,
         reclaimed: 1,
@@ -87,7 +88,7 @@ fn replies_have_texts(rt: HostRuntime) -> Result<(), Fail> {
 #[test]
 fn endings_follow_replies(rt: HostRuntime) -> Result<(), Fail> {
     let alloc = rt.alloc();
-    let guard = Reply::Guard(GuardName(0), Epoch::of_count(3));
+    let guard = Reply::Guard(GuardName(0), epoch_of_count(3));
     let answers = [
         answer(alloc, Reply::Place(PlaceName(0)), &[], &[])?,
         answer(alloc, guard, &[2, 10], &[])?,

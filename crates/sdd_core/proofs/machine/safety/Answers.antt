@@ -43,4 +43,5 @@ returns-clause-generations c = at_each KeepsGenerations generations c.args.steps
 
 pub loop-step-preserved : goal.loop-step-preserved
 loop-step-preserved c =
-    c.step.ensures.new ∙ taken_more (size_for c.args.steps.now) c.args.steps.now c.loop-step.step-index _ _ c.loop-step.machine c.loop-step-test.true c.loop-step.invariant refl
+    c.step.ensures.new ∙ taken_more
+    (size_for c.args.steps.now) c.args.steps.now c.loop-step.step-index _ _ c.loop-step.machine c.loop-step-test.true c.loop-step.invariant refl

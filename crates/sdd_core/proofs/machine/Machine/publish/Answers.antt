@@ -8,8 +8,10 @@ use Rattle.sdd_core.proofs.machine.Machine.publish.Goals as goal
 
 pub returns-then-changed-clause-new : goal.returns-then-changed-clause-new
 returns-then-changed-clause-new c =
-    c.rotate-reclaimed.ensures.moved ∙ (ap (λ (s : State). with_place s c.args.place rotated) c.set_post.ensures
-    ∙ with_published c.args.self.now c.args.place c.read-count.result c.found.result c.requires (c.read-count.ensures ∙ ap read_of c.phase.ensures) c.found.ensures c.if-changed.true)
+    let place = c.args.place in
+    c.rotate-reclaimed.ensures.moved ∙ (ap (λ (s : State). with_place s place rotated) c.set_post.ensures
+    ∙ with_published c.args.self.now place c.read-count.result c.found.result c.requires
+    (c.read-count.ensures ∙ ap read_of c.phase.ensures) c.found.ensures c.if-changed.true)
 
 pub returns-else-changed-clause-did : goal.returns-else-changed-clause-did
 returns-else-changed-clause-did c =
@@ -17,4 +19,5 @@ returns-else-changed-clause-did c =
     let read : c.read-count.result ≡ read_of x.phase = c.read-count.ensures ∙ ap read_of c.phase.ensures in
     ap (λ (k : ℕ). Opened k (not (eqb k c.found.result)) 0) read
     ∙ (ap (λ (k : ℕ). Opened (read_of x.phase) (not (eqb (read_of x.phase) k)) 0) c.found.ensures
-    ∙ ap (λ (k : ℕ). Opened (read_of x.phase) (not (eqb (read_of x.phase) x.found)) k) (none_taken x c.read-count.result c.found.result read c.found.ensures c.if-changed.false))
+    ∙ ap (λ (k : ℕ). Opened (read_of x.phase) (not (eqb (read_of x.phase) x.found)) k)
+    (none_taken x c.read-count.result c.found.result read c.found.ensures c.if-changed.false))

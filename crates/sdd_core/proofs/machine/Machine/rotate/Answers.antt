@@ -12,21 +12,33 @@ use Rattle.sdd_core.proofs.machine.Machine.rotate.Goals as goal
 
 pub rotate-requires : goal.rotate-requires
 rotate-requires c =
-    let h : c.args.place < length c.self.inside.posts.items = within_seen c.args.self.now c.self.inside.count c.self.inside.posts.items c.self.inside.bags.trios c.self.inside.retired.items c.self.inside.scan c.self.view_is c.self.invariant.same c.args.place c.requires in
-    omega (arith, c.self.invariant.same)
+    let count = c.self.inside.count in let all_posts = c.self.inside.posts.items in let all_bags = c.self.inside.bags.trios in
+    let all_retired = c.self.inside.retired.items in let scan = c.self.inside.scan in let same_length = c.self.invariant.same in
+    let place = c.args.place in
+    let h : place < length all_posts =
+    within_seen c.args.self.now count all_posts all_bags all_retired scan c.self.view_is same_length place c.requires in
+    omega (arith, same_length)
 
 pub returns-clause-taken : goal.returns-clause-taken
 returns-clause-taken c =
-    c.rotate.ensures.taken ∙ ap (λ (x : Place). set.len x.next) (sym (at_seen c.args.self.now c.self.inside.count c.self.inside.posts.items c.self.inside.bags.trios c.self.inside.retired.items c.self.inside.scan c.self.view_is c.self.invariant.same c.args.place))
+    let count = c.self.inside.count in let all_posts = c.self.inside.posts.items in let all_bags = c.self.inside.bags.trios in
+    let all_retired = c.self.inside.retired.items in let scan = c.self.inside.scan in
+    c.rotate.ensures.taken ∙ ap (λ (x : Place). set.len x.next)
+    (sym (at_seen c.args.self.now count all_posts all_bags all_retired scan c.self.view_is c.self.invariant.same c.args.place))
 
 pub returns-clause-moved : goal.returns-clause-moved
 returns-clause-moved c =
-    let t = get_or c.self.inside.bags.trios c.args.place no_items in
-    ap (λ (ts : List Trio). seen c.self.inside.count c.self.inside.posts.items ts c.self.inside.retired.items c.self.inside.scan) (ap (λ (b : Bagged). b.trios) c.rotate.ensures.moved)
-    ∙ with_trio c.args.self.now c.self.inside.count c.self.inside.posts.items c.self.inside.bags.trios c.self.inside.retired.items c.self.inside.scan c.args.place (bags.rotated t) rotated c.self.view_is c.self.invariant.same refl
+    let count = c.self.inside.count in let all_posts = c.self.inside.posts.items in let all_bags = c.self.inside.bags.trios in
+    let all_retired = c.self.inside.retired.items in let scan = c.self.inside.scan in let place = c.args.place in
+    let t = get_or all_bags place no_items in
+    ap (λ (ts : List Trio). seen count all_posts ts all_retired scan) (ap (λ (b : Bagged). b.trios) c.rotate.ensures.moved)
+    ∙ with_trio c.args.self.now count all_posts all_bags all_retired scan place (bags.rotated t) rotated c.self.view_is c.self.invariant.same refl
 
 pub invariant_of-self : goal.invariant_of-self
 invariant_of-self c =
-    let l : c.args.place < length c.self.inside.bags.trios = within_bags c.args.self.now c.self.inside.count c.self.inside.posts.items c.self.inside.bags.trios c.self.inside.retired.items c.self.inside.scan c.self.view_is c.self.invariant.same c.args.place c.requires in
-    subst (λ (b : Bagged). Fits c.self.inside.posts.items b c.self.inside.retired.items c.self.inside.scan) (sym c.rotate.ensures.moved)
-    (fits_rotated c.self.inside.posts.items c.self.inside.bags c.self.inside.retired.items c.self.inside.scan c.args.place c.self.invariant l)
+    let count = c.self.inside.count in let all_posts = c.self.inside.posts.items in let all_bags = c.self.inside.bags.trios in
+    let all_retired = c.self.inside.retired.items in let scan = c.self.inside.scan in let place = c.args.place in
+    let l : place < length all_bags =
+    within_bags c.args.self.now count all_posts all_bags all_retired scan c.self.view_is c.self.invariant.same place c.requires in
+    subst (λ (b : Bagged). Fits all_posts b all_retired scan) (sym c.rotate.ensures.moved)
+    (fits_rotated all_posts c.self.inside.bags all_retired scan place c.self.invariant l)

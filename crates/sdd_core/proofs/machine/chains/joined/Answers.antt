@@ -9,7 +9,8 @@ pub bounds-links-first : goal.bounds-links-first
 bounds-links-first c =
     let links = c.args.links.now in let a = c.args.first in
     let some : 0 < a.len = omega arith in
-    c.requires.one.inside a.last (occurs_at (items_of links a) (a.len - 1) a.last (let z = length-walk links a.len a.first in omega (arith, z)) (c.requires.one.last some))
+    c.requires.one.inside a.last (occurs_at (items_of links a) (a.len - 1) a.last (let z =
+    length-walk links a.len a.first in omega (arith, z)) (c.requires.one.last some))
 
 pub overflow_add-result : goal.overflow_add-result
 overflow_add-result c =
@@ -29,11 +30,14 @@ returns-clause-chain c =
     let size = length-walk links a.len a.first in
     record {
       last = λ _. ap (λ (ys : List ℕ). get_or ys (a.len + b.len - 1) 0) w
-          ∙ (ap (λ (k : ℕ). get_or (items_of links a ++ items_of links b) (k + b.len - 1) 0) (sym size) ∙ joined_last links (items_of links a) b more c.requires.two);
+          ∙ (ap (λ (k : ℕ). get_or (items_of links a ++ items_of links b) (k + b.len - 1) 0) (sym size)
+          ∙ joined_last links (items_of links a) b more c.requires.two);
       inside = λ i o.
           let wide = length-set links a.last b.first in
           let o' : 0 < occ i (items_of links a ++ items_of links b) = subst (λ (ys : List ℕ). 0 < occ i ys) w o in
           let sum = occ-append i (items_of links a) (items_of links b) in
-          let lt : i < length links = ⊎_elim (λ none. c.requires.two.inside i (omega (arith, sum, o', none))) (λ far. c.requires.one.inside i (let z : 0 < occ i (items_of links a) = omega arith in z)) (cases_eq (occ i (items_of links a)) 0) in
+          let lt : i < length links =
+          ⊎_elim (λ none. c.requires.two.inside i (omega (arith, sum, o', none)))
+          (λ far. c.requires.one.inside i (let z : 0 < occ i (items_of links a) = omega arith in z)) (cases_eq (occ i (items_of links a)) 0) in
           omega (arith, lt, wide);
     }

@@ -32,5 +32,6 @@ returns c =
     third ∙ (ap (λ (s : Linked). record { items = s.items; bags = moved k (3 * r + 2) s.bags }) second
     ∙ ap (λ (s : Linked). record { items = s.items; bags = moved k (3 * r + 2) (moved k (3 * r + 1) s.bags) }) first) in
     ap (λ (s : Linked). record { items = s.items; trios = trios_of s.bags }) all
-    ∙ (ap (λ (ts : List Trio). record { items = b.items; trios = ts }) (taken_trios_in b.bags p r k (3 * r + 0) (3 * r + 1) (3 * r + 2) (omega arith) (omega arith) refl refl lp lr c.requires.other)
+    ∙ (ap (λ (ts : List Trio). record { items = b.items; trios = ts })
+    (taken_trios_in b.bags p r k (3 * r + 0) (3 * r + 1) (3 * r + 2) (omega arith) (omega arith) refl refl lp lr c.requires.other)
     ∙ ap (λ (s : Bagged). record { items = s.items; trios = joined p r s.trios }) v)

@@ -23,7 +23,8 @@ pub returns-clause-taken : goal.returns-clause-taken
 returns-clause-taken c =
     let b = c.self.inside.chains in let v = c.self.view_is in
     let l : c.args.place < length (trios_of b.bags) = subst (λ (s : Bagged). c.args.place < length s.trios) (sym v) c.requires in
-    c.clear-taken.ensures.taken ∙ (taken_trios b.bags c.args.place (3 * c.args.place + 2) refl l ∙ ap (λ (s : Bagged). set.len (trio_at s.trios c.args.place).next) v)
+    c.clear-taken.ensures.taken ∙ (taken_trios b.bags c.args.place (3 * c.args.place + 2) refl l
+    ∙ ap (λ (s : Bagged). set.len (trio_at s.trios c.args.place).next) v)
 
 pub returns-clause-moved : goal.returns-clause-moved
 returns-clause-moved c =

@@ -1,22 +1,22 @@
-use Rattle.std.proofs.Common.{◌<◌, List, length, map, sym, ap, subst, ◌∙◌, arith, slice_set}
-use Rattle.std.proofs.lemmas.List.{get_or_read, length-map}
+use Rattle.std.proofs.Common.{List, length, ap, ◌∙◌, slice_set}
+use Rattle.std.proofs.lemmas.List.{get_or_read}
 use Rattle.std.specs.FinSet as set
 use Rattle.sdd_core.specs.declared.machine.chains.Chain.{Chain}
 use Rattle.sdd_core.specs.Table.{Items}
-use Rattle.sdd_core.specs.Chains.{Linked, no_chain, bag_of, bag_at}
-use Rattle.sdd_core.proofs.Relinks.{emptied, bags-set, len-bag}
+use Rattle.sdd_core.specs.Chains.{Linked, no_chain, bag_at}
+use Rattle.sdd_core.proofs.Relinks.{within_chains, emptied, bags-set, len-bag}
 use Rattle.sdd_core.proofs.machine.chains.Chains.clear.Goals as goal
 
 pub invariant_of-self : goal.invariant_of-self
 invariant_of-self c =
     let ls = c.self.inside.links.items in let cs = c.self.inside.chains.items in let v = c.self.view_is in
-    let l : c.args.bag < length cs = (let a : c.args.bag < length (map (bag_of ls) cs) = subst (λ (b : Linked). c.args.bag < length b.bags) (sym v) c.requires in let z = length-map cs (bag_of ls) in omega (arith, a, z)) in
+    let l = within_chains ls cs c.args.self.now c.args.bag v c.requires in
     emptied ls cs c.args.bag c.self.invariant l
 
 pub returns-clause-taken : goal.returns-clause-taken
 returns-clause-taken c =
     let ls = c.self.inside.links.items in let cs = c.self.inside.chains.items in let v = c.self.view_is in
-    let l : c.args.bag < length cs = (let a : c.args.bag < length (map (bag_of ls) cs) = subst (λ (b : Linked). c.args.bag < length b.bags) (sym v) c.requires in let z = length-map cs (bag_of ls) in omega (arith, a, z)) in
+    let l = within_chains ls cs c.args.self.now c.args.bag v c.requires in
     ap (λ (a : Chain). a.len) (get_or_read cs c.args.bag c.index.result.now l c.index.ensures no_chain)
     ∙ (len-bag ls cs c.args.bag c.self.invariant ∙ ap (λ (b : Linked). set.len (bag_at b.bags c.args.bag)) v)
 

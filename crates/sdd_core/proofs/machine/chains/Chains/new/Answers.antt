@@ -11,7 +11,8 @@ pub invariant_of-result : goal.invariant_of-result
 invariant_of-result c =
     let links = c.in_ok-vec.ensures.items_if_clones_equal (λ y e. e) in
     let chains = c.in_ok-vec-2.ensures.items_if_clones_equal (λ y e. e) in
-    let small : length c.in_ok-vec.field-0.items < 2 ^ 32 = (let a = ap length links in let b = length-replicate {A = ℕ} c.args.items 0 in omega (arith, a, b)) in
+    let small : length c.in_ok-vec.field-0.items < 2 ^ 32 =
+    (let a = ap length links in let b = length-replicate {A = ℕ} c.args.items 0 in omega (arith, a, b)) in
     subst (λ (cs : List Chain). AreChains c.in_ok-vec.field-0.items cs) (sym chains) (new_chains c.args.bags c.in_ok-vec.field-0.items small)
 
 pub returns : goal.returns
