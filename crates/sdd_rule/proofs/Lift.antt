@@ -1,5 +1,5 @@
 -- A step of one part is a step of the table, if the other parts follow.
-use Rattle.std.proofs.Common.{◌≡◌, ◌⊎◌, ℕ, ◌<◌, ◌≤◌, ◌^◌, List, [], ◌∷◌, map, length, get_or, set, sym, refl, ap, ◌∙◌, subst, arith, length-set}
+use Rattle.std.proofs.Common.{◌≡◌, ℕ, ◌<◌, ◌≤◌, ◌^◌, List, [], ◌∷◌, map, length, get_or, set, sym, refl, ap, ◌∙◌, subst, arith, length-set}
 use mathlib.Core.Option.{some}
 use mathlib.Core.List.{map-append}
 use lib.ListN.{get_elem?}
@@ -9,12 +9,11 @@ use Rattle.atomic_table.proofs.Lists.{at_map}
 use Rattle.sdd_rule.specs.declared.EpochView.{EpochView}
 use Rattle.sdd_rule.specs.declared.View.{View}
 use Rattle.sdd_rule.specs.declared.Sizes.{Sizes}
-use Rattle.sdd_rule.specs.Words.{mark_word, after_places}
+use Rattle.sdd_rule.specs.Words.{after_places}
 use Rattle.sdd_rule.specs.Epoch.{EpochPart}
 use Rattle.sdd_rule.specs.Steps.{Rises, Keeps}
 use Rattle.sdd_rule.specs.Parts.{epoch_of, with_epoch, idle, PlacesPart, SlotsPart, CellsPart, Kept}
-use Rattle.sdd_rule.proofs.Frame.{same_part}
-use Rattle.sdd_rule.proofs.Epoch.{seated, blind}
+use Rattle.sdd_rule.proofs.Epoch.{seated}
 
 module _ {S : Type 0} (sizes : Sizes) where
   -- the parts that aren't the epoch's
@@ -67,24 +66,6 @@ module _ {S : Type 0} (sizes : Sizes) where
           let x : ℕ = f (get_or s.words i 0) in
               record { places = places_spared s id i x me.0 (with_epoch me.0 w) k at low up refl; slots = slots_spared s id i x me.0 (with_epoch me.0 w) k at low up refl; cells = cells_spared s id i x me.0 (with_epoch me.0 w) k at low up refl },
         ))
-
-    -- a step of another part, on a word that isn't the epoch's; it may use all that the epoch's part says
-    pub lift_beside : (told : ℕ → Me S View → Type 0) → (i ≡ mark_word) ⊎ (after_places sizes.participants ≤ i)
-        → ((s : State S View) → Kept sizes s → length s.homes ≡ slots → get_elem? s.views id ≡ some me.0 → get_or s.words i 0 < 2 ^ 64
-        → (w : View) × (a : Act S) × (epoch_of w ≡ epoch_of me.0) × Valid s.homes me.1 a × Beside (stepped s i (f (get_or s.words i 0)) id me.1 w a) × told (get_or s.words i 0) (w, carried_after me.1 a))
-        → Allows (Kept sizes) slots id me i f told
-    lift_beside told which step s k full at small = let e = step s k full at small in let w : View = e.0 in let b = e.4 in let x : ℕ = f (get_or s.words i 0) in (
-      w,
-      e.1,
-      e.3,
-      record {
-        epoch = subst (λ (l : List EpochView). EpochPart sizes.participants (set s.words i x) l) (sym (same_part epoch_of s.views id me.0 w at e.2)) (blind sizes.participants s.words (map epoch_of s.views) i x which k.epoch);
-        places = b.places;
-        slots = b.slots;
-        cells = b.cells;
-      },
-      e.5,
-    )
 
   -- a new token, which knows nothing
   pub enters : (slots i : ℕ) (told : ℕ → View → Type 0) → ((r : ℕ) → told r (idle sizes.participants)) → Enters (Kept {S = S} sizes) slots i told
