@@ -462,17 +462,3 @@ module _ (n : ℕ) where
     unused = t.unused;
     held = λ z. let h = t.held z in (h.0, h.1, at_longer vs (nobody a ∷ []) h.0 h.1 h.2, h.3);
   }
-
-  -- the start: each word is 0
-  pub starts : (ws : List ℕ) → after_places n ≤ length ws → ((i : ℕ) → get_or ws i 0 ≡ 0) → EpochPart n ws (nobody n ∷ [])
-  starts ws wide blank = record {
-    wide = wide;
-    each = λ j v e. subst (λ (u : EpochView). Fits n ws u) (one j v e).1 (fresh n (λ _. refl) ws);
-    two = λ j k v w apart e e'. absurd (apart ((one j v e).0 ∙ sym (one k w e').0));
-    unused = λ _ _. blank;
-    held = λ z. absurd (z (blank 1));
-  }
-    where
-      one : (j : ℕ) (v : EpochView) → get_elem? (nobody n ∷ []) j ≡ some v → (j ≡ 0) × (nobody n ≡ v)
-      one zero v e = (refl, some-injective _ _ e)
-      one (suc j) v e = absurd (some-ne-none v (sym e))
