@@ -30,8 +30,8 @@ module _ {S : Type 0} (sizes : Sizes) (slots : ℕ) where
         → May i (λ x. either (eqb x 0) 1 x) (Told (Registers i) me)
     may_register i p is inside none_yet = subst (λ (i : ℕ). May i (λ x. either (eqb x 0) 1 x) (Told (Registers i) me)) (sym is)
         (lift sizes slots id me (state_word p) (λ x. either (eqb x 0) 1 x) (Registers (state_word p) v) (omega arith)
-            (subst (λ (u : EpochView). Keeps sizes.participants id u (state_word p) (λ x. either (eqb x 0) 1 x) (Registers (state_word p) u)) (sym none_yet)
-                (registers sizes.participants id p inside)))
+        (subst (λ (u : EpochView). Keeps sizes.participants id u (state_word p) (λ x. either (eqb x 0) 1 x) (Registers (state_word p) u)) (sym none_yet)
+        (registers sizes.participants id p inside)))
 
     pub may_read : May 0 (λ x. x) (Told Reads me)
     may_read = lift sizes slots id me 0 (λ x. x) (Reads v) (omega arith) (reads sizes.participants id v)

@@ -33,13 +33,13 @@ impl<'d> Model for Local<'d> {
     ghost Value = { Member };
 
     ghost view = { λ l. record {
-        home = l.token.table_id;
-        limits = l.domain.now.limits;
-        place = l.place;
-        own = l.own;
-        known = l.token.me.0.epoch.known;
-        since = l.token.me.0.epoch.since;
-        tally = l.tally
+      home = l.token.table_id;
+      limits = l.domain.now.limits;
+      place = l.place;
+      own = l.own;
+      known = l.token.me.0.epoch.known;
+      since = l.token.me.0.epoch.since;
+      tally = l.tally;
     } };
 
     ghost invariant = { λ l. IsPosed l.domain.now.board l.place l.own l.token };
@@ -134,6 +134,7 @@ impl<'d> Local<'d> {
     /// Opens one more guard; an outermost one looks at the count.
     ///
     /// `TooManyGuards` where as many are open as may nest.
+    #[inline]
     pub(crate) fn open_guard(&mut self) -> Result<usize, Refused>
         ensures { MatchResult result
             (λ place. (place ≡ self.old.place) × CanNest self.old × Opens self.old self.new)
@@ -150,48 +151,59 @@ impl<'d> Local<'d> {
     }
 
     /// The outermost opening: reads the count, writes it where it isn't there already, and then publishes it.
+    #[inline]
     fn enter(&mut self)
         requires { ¬ (IsGuarded self.old) }
         ensures { (count : ℕ) × IsOpened count self.old self.new }
     {
         let board = &self.domain.board;
+        let place = self.place;
         let count = steps::read(board, &mut self.token);
         if count != self.own.found {
-            steps::write(board, &mut self.token, self.place, count);
+            steps::write(board, &mut self.token, place, count);
             // Nothing waits, so that the change leaves nothing to reclaim.
             self.own.found = count;
             self.own.countdown = 128;
         }
-        steps::publish(board, &mut self.token, self.place);
+        steps::publish(board, &mut self.token, place);
         self.own.guards = 1;
     }
 
     /// Closes a guard; the last one publishes the end, after a scan at countdown 0.
+    #[inline]
     pub(crate) fn close_guard(&mut self)
         ensures { Closes self.old self.new }
     {
-        match self.own.guards {
-            0 => {}
-            1 => self.leave(),
-            _ => self.own.guards -= 1,
+        if self.own.guards > 1 {
+            self.own.guards -= 1;
+        } else if self.own.guards == 1 {
+            self.leave();
         }
     }
 
     /// The last close.
+    #[inline]
     fn leave(&mut self)
         requires { self.old.own.guards ≡ 1 }
         ensures { Closes self.old self.new }
     {
         let board = &self.domain.board;
-        if self.own.countdown == 0 {
-            scan(board, &mut self.token, self.place, self.own.found);
+        let place = self.place;
+        self.own.guards = 0;
+        match self.own.countdown {
+            0 => {
+                scan(board, &mut self.token, place, self.own.found);
+                self.own.countdown = 127;
+            }
+            // No place is marked as ended yet.
+            128 => {}
+            countdown => self.own.countdown = countdown - 1,
         }
-        // No place is marked as ended yet.
-        self.own.leave(false);
-        steps::close(board, &mut self.token, self.place);
+        steps::close(board, &mut self.token, place);
     }
 
     /// The count of epochs at this moment.
+    #[inline]
     pub(crate) fn count(&mut self) -> u64
         ensures { IsTold result self.old self.new }
     {
@@ -199,6 +211,7 @@ impl<'d> Local<'d> {
     }
 
     /// Something may wait with the participant.
+    #[inline]
     pub(crate) fn has_garbage(&self) -> bool
         ensures { result ≡ has_garbage self.now.own }
     {
@@ -206,6 +219,7 @@ impl<'d> Local<'d> {
     }
 
     /// Has the participant count down to a scan, as a retirement does.
+    #[inline]
     pub(crate) fn stir(&mut self)
         ensures { self.new ≡ record self.old { own = with_garbage self.old.own } }
     {
@@ -213,6 +227,7 @@ impl<'d> Local<'d> {
     }
 
     /// Has the last close of the participant scan.
+    #[inline]
     pub(crate) fn accelerate(&mut self)
         ensures { self.new ≡ record self.old { own = accelerated self.old.own } }
     {

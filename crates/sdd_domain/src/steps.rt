@@ -44,10 +44,14 @@ pub fn register(board: &Board, token: &mut Token, place: usize) -> u64
     requires idle { epoch token.old ≡ nobody (places_of board.now) }
     ensures { Stepped (Registers (words.state_word place)) token.old result token.new }
 {
-    board.table.shared.compare_exchange::<Register>(token, state_word(place), FREE, CLOSED)
+    board
+        .table
+        .shared
+        .compare_exchange::<Register>(token, state_word(place), FREE, CLOSED)
 }
 
 /// Reads the global count.
+#[inline]
 pub fn read(board: &Board, token: &mut Token) -> u64
     requires home { token.old.table_id ≡ id_of board.now }
     ensures { Stepped Reads token.old result token.new }
@@ -56,16 +60,21 @@ pub fn read(board: &Board, token: &mut Token) -> u64
 }
 
 /// Writes the own count word, while no guard is open.
+#[inline]
 pub fn write(board: &Board, token: &mut Token, place: usize, count: u64)
     requires home { token.old.table_id ≡ id_of board.now }
     requires own { (place ≡ (epoch token.old).place) × (place < places_of board.now) }
     requires closed { IsClosed (epoch token.old) }
     ensures { Stepped Counts token.old count token.new }
 {
-    board.table.shared.store::<Write>(token, count_word(place), count);
+    board
+        .table
+        .shared
+        .store::<Write>(token, count_word(place), count);
 }
 
 /// Publishes the count that stands in the own count word.
+#[inline]
 pub fn publish(board: &Board, token: &mut Token, place: usize)
     requires home { token.old.table_id ≡ id_of board.now }
     requires own { (place ≡ (epoch token.old).place) × (place < places_of board.now) }
@@ -73,17 +82,24 @@ pub fn publish(board: &Board, token: &mut Token, place: usize)
     requires count { (epoch token.old).count ≡ (epoch token.old).known }
     ensures { Stepped Publishes token.old 2 token.new }
 {
-    board.table.shared.store::<Publish>(token, state_word(place), OPEN);
+    board
+        .table
+        .shared
+        .store::<Publish>(token, state_word(place), OPEN);
 }
 
 /// Publishes that no guard is open.
+#[inline]
 pub fn close(board: &Board, token: &mut Token, place: usize)
     requires home { token.old.table_id ≡ id_of board.now }
     requires own { (place ≡ (epoch token.old).place) × (place < places_of board.now) }
     requires open { IsOpen (epoch token.old) × ¬ (Scans (epoch token.old)) }
     ensures { Stepped Closes token.old 1 token.new }
 {
-    board.table.shared.store::<Close>(token, state_word(place), CLOSED);
+    board
+        .table
+        .shared
+        .store::<Close>(token, state_word(place), CLOSED);
 }
 
 /// Ends the own place.
@@ -93,7 +109,10 @@ pub fn end(board: &Board, token: &mut Token, place: usize)
     requires closed { IsClosed (epoch token.old) }
     ensures { Stepped Ends token.old 3 token.new }
 {
-    board.table.shared.store::<End>(token, state_word(place), ENDED);
+    board
+        .table
+        .shared
+        .store::<End>(token, state_word(place), ENDED);
 }
 
 /// Tries to take the lock of a scan. Someone else had it where this isn't 0.
@@ -102,7 +121,10 @@ pub fn lock(board: &Board, token: &mut Token) -> u64
     requires open { IsOpen (epoch token.old) × ¬ (Scans (epoch token.old)) }
     ensures { Stepped Locks token.old result token.new }
 {
-    board.table.shared.compare_exchange::<Lock>(token, LOCK, 0, 1)
+    board
+        .table
+        .shared
+        .compare_exchange::<Lock>(token, LOCK, 0, 1)
 }
 
 /// Looks at the state of the next place.
@@ -111,7 +133,10 @@ pub fn look_at_state(board: &Board, token: &mut Token, place: usize) -> u64
     requires next { (place < places_of board.now) × IsNext (epoch token.old) place }
     ensures { Stepped (LooksAtState (words.state_word place)) token.old result token.new }
 {
-    board.table.shared.load::<LookAtState>(token, state_word(place))
+    board
+        .table
+        .shared
+        .load::<LookAtState>(token, state_word(place))
 }
 
 /// Looks at the count of the next place.
@@ -120,7 +145,10 @@ pub fn look_at_count(board: &Board, token: &mut Token, place: usize) -> u64
     requires next { (place < places_of board.now) × IsNext (epoch token.old) place }
     ensures { Stepped (LooksAtCount (words.count_word place)) token.old result token.new }
 {
-    board.table.shared.load::<LookAtCount>(token, count_word(place))
+    board
+        .table
+        .shared
+        .load::<LookAtCount>(token, count_word(place))
 }
 
 /// Raises the global count, if it is the own one still, once all other places were looked at and passed.
@@ -130,7 +158,10 @@ pub fn advance(board: &Board, token: &mut Token, count: u64) -> u64
     requires passed { IsNext (epoch token.old) (places_of board.now) }
     ensures { Stepped Advances token.old result token.new }
 {
-    board.table.shared.compare_exchange::<Advance>(token, GLOBAL, count, count + 1)
+    board
+        .table
+        .shared
+        .compare_exchange::<Advance>(token, GLOBAL, count, count + 1)
 }
 
 /// Frees the lock.

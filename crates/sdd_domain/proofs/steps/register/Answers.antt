@@ -10,4 +10,4 @@ compare_exchange-requires c = let sized = c.args.board.now.sized in let r = c.re
 pub returns : goal.returns
 returns c = let e = c.compare_exchange.ensures in
     subst (λ (i : ℕ). Stepped (Registers i) c.args.token.now c.compare_exchange.result c.compare_exchange.new.seat) c.state_word.ensures
-        (told (Registers c.state_word.result) c.args.token.now _ c.compare_exchange.result e.0 e.1 e.2)
+    (told (Registers c.state_word.result) c.args.token.now _ c.compare_exchange.result e.0 e.1 e.2)
