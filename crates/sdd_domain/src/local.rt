@@ -22,11 +22,14 @@ pub struct Local<'d> {
     domain: &'d Domain,
     token: Token,
     place: usize,
+    /// How many of its guards may be open at once, as the domain's limits say.
+    nesting: u32,
     own: Participant,
     tally: Tally,
 }
 
 impl<'d> Model for Local<'d> {
+    ghost use Rattle.std.specs.Prelude.{◌≡◌};
     ghost use Rattle.sdd_domain.specs.Local.{Member};
     ghost use Rattle.sdd_domain.specs.Posed.{IsPosed};
 
@@ -42,7 +45,7 @@ impl<'d> Model for Local<'d> {
       tally = l.tally;
     } };
 
-    ghost invariant = { λ l. IsPosed l.domain.now.board l.place l.own l.token };
+    ghost invariant = { λ l. IsPosed l.domain.now.board l.place l.own l.token × (l.nesting ≡ l.domain.now.limits.nesting) };
 }
 
 /// Takes a free place.
@@ -91,6 +94,7 @@ impl<'d> Local<'d> {
             domain,
             token,
             place,
+            nesting: domain.limits.nesting as u32,
             own: Participant {
                 phase: Phase::Live,
                 found: 0,
@@ -117,6 +121,7 @@ impl<'d> Local<'d> {
             domain,
             mut token,
             place,
+            nesting: _,
             own: _,
             tally,
         } = self;
@@ -142,7 +147,7 @@ impl<'d> Local<'d> {
     {
         if self.own.guards == 0 {
             self.enter();
-        } else if u64::from(self.own.guards) < self.domain.limits.nesting {
+        } else if self.own.guards < self.nesting {
             self.own.guards += 1;
         } else {
             return Err(Refused::TooManyGuards);
