@@ -7,7 +7,7 @@ use Rattle.atomic_table.specs.declared.shared.Seat.{Seat}
 use Rattle.sdd_rule.specs.declared.EpochView.{EpochView}
 use Rattle.sdd_rule.specs.declared.View.{View}
 use Rattle.sdd_rule.specs.declared.Sizes.{Sizes}
-use Rattle.sdd_rule.specs.Words.{global_word, lock_word, state_word, count_word}
+use Rattle.sdd_rule.specs.Words.{state_word, count_word}
 use Rattle.sdd_rule.specs.Epoch.{IsClosed, IsOpen, Scans}
 use Rattle.sdd_rule.specs.Steps.{Keeps, nobody, IsNext, Registers, Reads, Counts, Publishes, Closes, Ends, Locks, LooksAtState, LooksAtCount, Advances, Unlocks}
 use Rattle.sdd_rule.specs.Parts.{idle, Kept}
@@ -37,16 +37,21 @@ module _ {S : Type 0} (sizes : Sizes) (slots : ℕ) where
     may_read = lift sizes slots id me 0 (λ x. x) (Reads v) (omega arith) (reads sizes.participants id v)
 
     pub may_write : (i c : ℕ) → IsClosed v → i ≡ count_word v.place → v.place < sizes.participants → May i (λ _. c) (λ _. Told Counts me c)
-    may_write i c shut is inside = subst (λ (i : ℕ). May i (λ _. c) (λ _. Told Counts me c)) (sym is) (lift sizes slots id me (count_word v.place) (λ _. c) (λ _. Counts v c) (omega arith) (counts sizes.participants id v c shut))
+    may_write i c shut is inside = subst (λ (i : ℕ). May i (λ _. c) (λ _. Told Counts me c)) (sym is)
+        (lift sizes slots id me (count_word v.place) (λ _. c) (λ _. Counts v c) (omega arith) (counts sizes.participants id v c shut))
 
-    pub may_publish : (i : ℕ) → IsClosed v → v.count ≡ v.known → i ≡ state_word v.place → v.place < sizes.participants → May i (λ _. 2) (λ _. Told Publishes me 2)
-    may_publish i shut low is inside = subst (λ (i : ℕ). May i (λ _. 2) (λ _. Told Publishes me 2)) (sym is) (lift sizes slots id me (state_word v.place) (λ _. 2) (λ _. Publishes v 2) (omega arith) (publishes sizes.participants id v shut low))
+    pub may_publish : (i : ℕ) → IsClosed v → v.count ≡ v.known → i ≡ state_word v.place → v.place < sizes.participants
+        → May i (λ _. 2) (λ _. Told Publishes me 2)
+    may_publish i shut low is inside = subst (λ (i : ℕ). May i (λ _. 2) (λ _. Told Publishes me 2)) (sym is)
+        (lift sizes slots id me (state_word v.place) (λ _. 2) (λ _. Publishes v 2) (omega arith) (publishes sizes.participants id v shut low))
 
     pub may_close : (i : ℕ) → IsOpen v → ¬ (Scans v) → i ≡ state_word v.place → v.place < sizes.participants → May i (λ _. 1) (λ _. Told Closes me 1)
-    may_close i is_open free is inside = subst (λ (i : ℕ). May i (λ _. 1) (λ _. Told Closes me 1)) (sym is) (lift sizes slots id me (state_word v.place) (λ _. 1) (λ _. Closes v 1) (omega arith) (closes sizes.participants id v is_open free))
+    may_close i is_open free is inside = subst (λ (i : ℕ). May i (λ _. 1) (λ _. Told Closes me 1)) (sym is)
+        (lift sizes slots id me (state_word v.place) (λ _. 1) (λ _. Closes v 1) (omega arith) (closes sizes.participants id v is_open free))
 
     pub may_end : (i : ℕ) → IsClosed v → i ≡ state_word v.place → v.place < sizes.participants → May i (λ _. 3) (λ _. Told Ends me 3)
-    may_end i shut is inside = subst (λ (i : ℕ). May i (λ _. 3) (λ _. Told Ends me 3)) (sym is) (lift sizes slots id me (state_word v.place) (λ _. 3) (λ _. Ends v 3) (omega arith) (ends sizes.participants id v shut))
+    may_end i shut is inside = subst (λ (i : ℕ). May i (λ _. 3) (λ _. Told Ends me 3)) (sym is)
+        (lift sizes slots id me (state_word v.place) (λ _. 3) (λ _. Ends v 3) (omega arith) (ends sizes.participants id v shut))
 
     pub may_lock : IsOpen v → ¬ (Scans v) → May 1 (λ x. either (eqb x 0) 1 x) (Told Locks me)
     may_lock is_open free = lift sizes slots id me 1 (λ x. either (eqb x 0) 1 x) (Locks v) (omega arith) (locks sizes.participants id v is_open free)
@@ -67,7 +72,8 @@ module _ {S : Type 0} (sizes : Sizes) (slots : ℕ) where
     may_unlock mine = lift sizes slots id me 1 (λ _. 0) (λ _. Unlocks v 0) (omega arith) (unlocks sizes.participants id v mine)
 
 -- the token after a step, from what the step tells of it
-pub told : {S : Type 0} (R : EpochView → ℕ → EpochView → Type 0) (s t : Seat S View) (r : ℕ) → t.table_id ≡ s.table_id → t.id ≡ s.id → Told R s.me r t.me → Stepped R s r t
+pub told : {S : Type 0} (R : EpochView → ℕ → EpochView → Type 0) (s t : Seat S View) (r : ℕ) → t.table_id ≡ s.table_id → t.id ≡ s.id
+    → Told R s.me r t.me → Stepped R s r t
 told {S} R s t r a b e = (
   (a, b, ap (λ (m : Me S View). m.1) e.1, ap (λ (m : Me S View). m.0.places) e.1, ap (λ (m : Me S View). m.0.slots) e.1, ap (λ (m : Me S View). m.0.cells) e.1),
   subst (λ (m : Me S View). R s.me.0.epoch r m.0.epoch) (sym e.1) e.2,

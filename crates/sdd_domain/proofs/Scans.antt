@@ -54,7 +54,8 @@ failed v a b d u k reads locks looks unlocks many =
     subst (Scanned v) (sym e) (stays v k reads.1 (λ one _. many one))
 
 -- all passed
-pub passed : (v a b d f u : EpochView) (k : ℕ) → Reads v v.count a → Locks a 0 b → d ≡ looked_to b k → Raises d f → Unlocks f 0 u → v.count < 2 ^ 64 → Scanned v u
+pub passed : (v a b d f u : EpochView) (k : ℕ) → Reads v v.count a → Locks a 0 b → d ≡ looked_to b k → Raises d f → Unlocks f 0 u
+    → v.count < 2 ^ 64 → Scanned v u
 passed v a b d f u k reads locks looks raises unlocks fits =
     let e : d ≡ held v k = looked v a b d k reads locks looks in
     let raised : Raises (held v k) f = subst (λ (t : EpochView). Raises t f) e raises in

@@ -22,7 +22,9 @@ pub struct Domain {
 }
 
 fn add(sum: Tally, tally: Tally) -> Tally
-    ensures { result ≡ record { made = capped (sum.made + tally.made); reclaimed = capped (sum.reclaimed + tally.reclaimed); in_place = capped (sum.in_place + tally.in_place) } }
+    ensures made { result.made ≡ capped (sum.made + tally.made) }
+    ensures reclaimed { result.reclaimed ≡ capped (sum.reclaimed + tally.reclaimed) }
+    ensures in_place { result.in_place ≡ capped (sum.in_place + tally.in_place) }
 {
     Tally {
         made: sum.made.saturating_add(tally.made),

@@ -1,5 +1,5 @@
 -- Each step of the epoch's part keeps it.
-use Rattle.std.proofs.Common.{◌≡◌, ◌≢◌, ◌⊎◌, ℕ, zero, suc, ◌+◌, ◌*◌, ◌<◌, ◌≤◌, eqb, List, [], ◌∷◌, ◌++◌, length, get_or, set, sym, refl, ap, ◌∙◌, subst, ⊎_elim, inl, inr, arith, length-set, get_or-set_other, get_or-set_same}
+use Rattle.std.proofs.Common.{◌≡◌, ◌≢◌, ◌⊎◌, ℕ, zero, suc, ◌+◌, ◌<◌, ◌≤◌, eqb, List, [], ◌∷◌, ◌++◌, length, get_or, set, sym, refl, ap, ◌∙◌, subst, ⊎_elim, inl, inr, arith, length-set, get_or-set_other, get_or-set_same}
 use mathlib.Core.Option.{some, some-ne-none, some-injective}
 use mathlib.Core.Logic.{dite}
 use native.Mathlib.Decide.{ℕ_discrete}
@@ -8,7 +8,7 @@ use lib.Seq.{set-get_or}
 use prog.Atomic.{either}
 use Rattle.atomic_table.proofs.Lists.{set_here, set_else, exchanged, at_longer}
 use Rattle.sdd_rule.specs.declared.EpochView.{EpochView}
-use Rattle.sdd_rule.specs.Words.{state_word, count_word, after_places}
+use Rattle.sdd_rule.specs.Words.{state_word, count_word}
 use Rattle.sdd_rule.specs.Epoch.{HasPlace, IsClosed, IsOpen, Scans, IsLone, Fits, Apart, EpochPart}
 use Rattle.sdd_rule.specs.Steps.{Rises, Keeps, nobody, registered, knowing, counted, published, closed, ended, scanning, passed_by, unlocked, IsNext, Registers, Reads, Counts, Publishes, Closes, Ends, Locks, LooksAtState, LooksAtCount, Advances, Unlocks}
 use Rattle.sdd_rule.proofs.Frame.{each_set, two_set, each_snoc, two_snoc}
@@ -19,15 +19,18 @@ at_length (x ∷ xs) zero a e = omega arith
 at_length (x ∷ xs) (suc i) a e = let h = at_length xs i a e in omega arith
 
 -- a place that was passed, after one more look
-passes : (v u : EpochView) (q : ℕ) → IsNext v q → (Scans v → IsOpen u → u.place < v.looked → v.count ≤ u.since) → Scans v → IsOpen u → u.place < q + 1 → v.place ≢ u.place
+passes : (v u : EpochView) (q : ℕ) → IsNext v q → (Scans v → IsOpen u → u.place < v.looked → v.count ≤ u.since) → Scans v → IsOpen u
+    → u.place < q + 1 → v.place ≢ u.place
     → (u.place ≡ q → v.count ≤ u.since) → v.count ≤ u.since
 passes v u q next old s z l other here = dite (ℕ_discrete u.place q) here
-    (λ no. old s z (⊎_elim (λ (e : q ≡ v.looked). omega arith) (λ (e : (v.looked ≡ v.place) × (q ≡ v.place + 1)). let e0 = e.0 in let e1 = e.1 in omega arith) next.1))
+    (λ no. old s z (⊎_elim (λ (e : q ≡ v.looked). omega arith)
+    (λ (e : (v.looked ≡ v.place) × (q ≡ v.place + 1)). let e0 = e.0 in let e1 = e.1 in omega arith) next.1))
 
 module _ (n : ℕ) where
   -- a participant, where no word changes that speaks of it
   spared : (ws ws' : List ℕ) (u : EpochView) → get_or ws' 0 0 ≡ get_or ws 0 0 → (Scans u → get_or ws' 1 0 ≡ get_or ws 1 0)
-      → (HasPlace u → (get_or ws' (state_word u.place) 0 ≡ get_or ws (state_word u.place) 0) × (get_or ws' (count_word u.place) 0 ≡ get_or ws (count_word u.place) 0)) → Fits n ws u → Fits n ws' u
+      → (HasPlace u → (get_or ws' (state_word u.place) 0 ≡ get_or ws (state_word u.place) 0)
+      × (get_or ws' (count_word u.place) 0 ≡ get_or ws (count_word u.place) 0)) → Fits n ws u → Fits n ws' u
   spared ws ws' u zero_same one_same own_same f = record {
     all = f.all;
     inside = f.inside;
@@ -47,9 +50,14 @@ module _ (n : ℕ) where
       (λ z. (get_or-set_other ws 1 (state_word u.place) x 0 (λ e. omega arith), get_or-set_other ws 1 (count_word u.place) x 0 (λ e. omega arith))) f
 
   -- a participant whose words a step does not name
-  untouched : (ws : List ℕ) (i x : ℕ) (u : EpochView) → 1 < i → (HasPlace u → (i ≢ state_word u.place) × (i ≢ count_word u.place)) → Fits n ws u → Fits n (set ws i x) u
-  untouched ws i x u high apart f = spared ws (set ws i x) u (get_or-set_other ws i 0 x 0 (λ e. omega arith)) (λ _. get_or-set_other ws i 1 x 0 (λ e. omega arith))
-      (λ z. (get_or-set_other ws i (state_word u.place) x 0 (λ e. (apart z).0 (sym e)), get_or-set_other ws i (count_word u.place) x 0 (λ e. (apart z).1 (sym e)))) f
+  untouched : (ws : List ℕ) (i x : ℕ) (u : EpochView) → 1 < i → (HasPlace u → (i ≢ state_word u.place) × (i ≢ count_word u.place)) → Fits n ws u
+      → Fits n (set ws i x) u
+  untouched ws i x u high apart f = spared ws (set ws i x) u (get_or-set_other ws i 0 x 0 (λ e. omega arith))
+      (λ _. get_or-set_other ws i 1 x 0 (λ e. omega arith))
+      (λ z. (
+        get_or-set_other ws i (state_word u.place) x 0 (λ e. (apart z).0 (sym e)),
+        get_or-set_other ws i (count_word u.place) x 0 (λ e. (apart z).1 (sym e)),
+      )) f
 
   -- a step of the seat id, from v to w, with x in the word i
   moved : (ws : List ℕ) (vs : List EpochView) (id i x : ℕ) (v w : EpochView) → EpochPart n ws vs → get_elem? vs id ≡ some v → Fits n (set ws i x) w
@@ -59,14 +67,17 @@ module _ (n : ℕ) where
       → EpochPart n (set ws i x) (set vs id w)
   moved ws vs id i x v w t at mine others unused held = record {
     wide = let wide = t.wide in omega (arith, length-set ws i x);
-    each = each_set (Fits n ws) (Fits n (set ws i x)) vs id w mine (λ j u apart e. (others j u apart e (t.each j u e) (t.two id j v u (λ z. apart (sym z)) at e) (t.two j id u v apart e at)).0);
-    two = two_set Apart vs id w t.two (λ j u apart e. let o = others j u apart e (t.each j u e) (t.two id j v u (λ z. apart (sym z)) at e) (t.two j id u v apart e at) in (o.1, o.2));
+    each = each_set (Fits n ws) (Fits n (set ws i x)) vs id w mine
+        (λ j u apart e. (others j u apart e (t.each j u e) (t.two id j v u (λ z. apart (sym z)) at e) (t.two j id u v apart e at)).0);
+    two = two_set Apart vs id w t.two
+        (λ j u apart e. let o = others j u apart e (t.each j u e) (t.two id j v u (λ z. apart (sym z)) at e) (t.two j id u v apart e at) in (o.1, o.2));
     unused = unused;
     held = held;
   }
 
   -- the only place is taken by v, and its state word is as it was
-  used : (ws ws' : List ℕ) (v : EpochView) → Fits n ws v → HasPlace v → get_or ws' (state_word 0) 0 ≡ get_or ws (state_word 0) 0 → n ≡ 1 → ¬ (get_or ws' (state_word 0) 0 ≡ 0)
+  used : (ws ws' : List ℕ) (v : EpochView) → Fits n ws v → HasPlace v → get_or ws' (state_word 0) 0 ≡ get_or ws (state_word 0) 0 → n ≡ 1
+      → ¬ (get_or ws' (state_word 0) 0 ≡ 0)
   used ws ws' v f live same one none = let i = f.inside live in let p : v.place ≡ 0 = omega arith in
       let s : get_or ws (state_word 0) 0 ≡ v.state = ap (λ (k : ℕ). get_or ws (state_word k) 0) (sym p) ∙ f.state live in omega arith
 
@@ -74,7 +85,13 @@ module _ (n : ℕ) where
       → get_or ws 1 0 ≢ 0 → (j : ℕ) × (u : EpochView) × (get_elem? (set vs id w) j ≡ some u) × Scans u
   held_set ws vs id v w t at goes locked = let h = t.held locked in
       dite (ℕ_discrete h.0 id)
-      (λ e. (id, w, set_here vs id w (at_length vs id v at), goes (let same : h.1 ≡ v = some-injective _ _ (sym h.2 ∙ (ap (get_elem? vs) e ∙ at)) in subst (λ (u : EpochView). Scans u) same h.3)))
+      (λ e. (
+        id,
+        w,
+        set_here vs id w (at_length vs id v at),
+        goes (let same : h.1 ≡ v = some-injective _ _ (sym h.2 ∙ (ap (get_elem? vs) e ∙ at)) in
+            subst (λ (u : EpochView). Scans u) same h.3),
+      ))
       (λ other. (h.0, h.1, set_else vs id h.0 w other ∙ h.2, h.3))
 
   -- the same at a load
@@ -90,14 +107,16 @@ module _ (n : ℕ) where
   }
 
   -- the same view, at a load or a lost exchange
-  unmoved : (ws : List ℕ) (vs : List EpochView) (id i : ℕ) (v : EpochView) → EpochPart n ws vs → get_elem? vs id ≡ some v → EpochPart n (set ws i (get_or ws i 0)) (set vs id v)
+  unmoved : (ws : List ℕ) (vs : List EpochView) (id i : ℕ) (v : EpochView) → EpochPart n ws vs → get_elem? vs id ≡ some v
+      → EpochPart n (set ws i (get_or ws i 0)) (set vs id v)
   unmoved ws vs id i v t at = still ws vs id i v v t at (t.each id v at) (λ u fu a b. (a, b)) (λ z. z)
 
   level : (v : EpochView) → Rises v v
   level v = record { known = omega arith; found = omega arith }
 
   -- a step on a word of the seat's own place
-  own : (ws : List ℕ) (vs : List EpochView) (id i x : ℕ) (v w : EpochView) → EpochPart n ws vs → get_elem? vs id ≡ some v → HasPlace v → ((i ≡ state_word v.place) × (0 < x)) ⊎ (i ≡ count_word v.place) → Fits n (set ws i x) w
+  own : (ws : List ℕ) (vs : List EpochView) (id i x : ℕ) (v w : EpochView) → EpochPart n ws vs → get_elem? vs id ≡ some v → HasPlace v
+      → ((i ≡ state_word v.place) × (0 < x)) ⊎ (i ≡ count_word v.place) → Fits n (set ws i x) w
       → ((u : EpochView) → Fits n ws u → Apart v u → Apart u v → Apart w u × Apart u w)
       → (Scans v → Scans w) → EpochPart n (set ws i x) (set vs id w)
   own ws vs id i x v w t at live which mine others goes =
@@ -105,12 +124,17 @@ module _ (n : ℕ) where
       let f = t.each id v at in let inside = f.inside live in let wide = t.wide in
       moved ws vs id i x v w t at mine
       (λ j u apart e f a b. let o = others u f a b in (
-        untouched ws i x u high (λ z. let p = a.places live z in ⊎_elim (λ (e : (i ≡ state_word v.place) × (0 < x)). let e0 = e.0 in ((λ c. p (omega arith)), λ c. omega arith)) (λ (e : i ≡ count_word v.place). ((λ c. omega arith), λ c. p (omega arith))) which) f,
+        untouched ws i x u high
+            (λ z. let p = a.places live z in ⊎_elim
+            (λ (e : (i ≡ state_word v.place) × (0 < x)). let e0 = e.0 in ((λ c. p (omega arith)), λ c. omega arith))
+            (λ (e : i ≡ count_word v.place). ((λ c. omega arith), λ c. p (omega arith)))
+            which) f,
         o.0,
         o.1,
       ))
       (λ one none. ⊎_elim
-      (λ (e : (i ≡ state_word v.place) × (0 < x)). let e0 = e.0 in let e1 = e.1 in let is : i ≡ state_word 0 = omega arith in let now : get_or (set ws i x) i 0 ≡ x = get_or-set_same ws i x 0 (omega arith) in
+      (λ (e : (i ≡ state_word v.place) × (0 < x)). let e0 = e.0 in let e1 = e.1 in let is : i ≡ state_word 0 = omega arith in
+      let now : get_or (set ws i x) i 0 ≡ x = get_or-set_same ws i x 0 (omega arith) in
       let now' : get_or (set ws i x) (state_word 0) 0 ≡ x = ap (λ (k : ℕ). get_or (set ws i x) k 0) (sym is) ∙ now in absurd (omega arith))
       (λ (e : i ≡ count_word v.place). absurd (used ws (set ws i x) v f live (get_or-set_other ws i (state_word 0) x 0 (λ c. omega arith)) one none))
       which)
@@ -118,30 +142,32 @@ module _ (n : ℕ) where
 
   -- read the global count
   pub reads : (id : ℕ) (v : EpochView) → Keeps n id v 0 (λ x. x) (Reads v)
-  reads id v ws vs t at small = let c : ℕ = get_or ws 0 0 in let w : EpochView = knowing v c in let f = t.each id v at in let k = f.known in let l = f.found in (
-    w,
-    still ws vs id 0 v w t at
-        record {
-          all = f.all;
-          inside = f.inside;
-          states = f.states;
-          state = f.state;
-          count = f.count;
-          known = omega arith;
-          found = omega arith;
-          published = λ z. let p = f.published z in record { count = p.count; since = let s = p.since in omega arith; once = p.once };
-          locked = f.locked;
-          lone = λ _ _. refl;
-        }
-        (λ u fu a b. (record { places = a.places; locks = a.locks; passed = a.passed }, record { places = b.places; locks = b.locks; passed = b.passed }))
-        (λ z. z),
-    record { known = k; found = omega arith },
-    (refl, k, (λ z. let p = f.published z in ((let s = p.since in omega arith), p.once)), λ alone. f.lone (sym (f.all (λ z. omega arith)) ∙ alone)),
-  )
+  reads id v ws vs t at small = let c : ℕ = get_or ws 0 0 in let w : EpochView = knowing v c in let f = t.each id v at in let k = f.known in
+      let l = f.found in (
+        w,
+        still ws vs id 0 v w t at
+            record {
+              all = f.all;
+              inside = f.inside;
+              states = f.states;
+              state = f.state;
+              count = f.count;
+              known = omega arith;
+              found = omega arith;
+              published = λ z. let p = f.published z in record { count = p.count; since = let s = p.since in omega arith; once = p.once };
+              locked = f.locked;
+              lone = λ _ _. refl;
+            }
+            (λ u fu a b. (record { places = a.places; locks = a.locks; passed = a.passed }, record { places = b.places; locks = b.locks; passed = b.passed }))
+            (λ z. z),
+        record { known = k; found = omega arith },
+        (refl, k, (λ z. let p = f.published z in ((let s = p.since in omega arith), p.once)), λ alone. f.lone (sym (f.all (λ z. omega arith)) ∙ alone)),
+      )
 
   -- write the own count word
   pub counts : (id : ℕ) (v : EpochView) (c : ℕ) → IsClosed v → Keeps n id v (count_word v.place) (λ _. c) (λ _. Counts v c)
-  counts id v c shut ws vs t at small = let i : ℕ = count_word v.place in let w : EpochView = counted v c in let f = t.each id v at in let wide = t.wide in let inside = f.inside (omega arith) in
+  counts id v c shut ws vs t at small = let i : ℕ = count_word v.place in let w : EpochView = counted v c in let f = t.each id v at in
+      let wide = t.wide in let inside = f.inside (omega arith) in
       let zero_same = get_or-set_other ws i 0 c 0 (λ e. omega arith) in (
         w,
         own ws vs id i c v w t at (omega arith) (inr refl)
@@ -157,7 +183,10 @@ module _ (n : ℕ) where
               locked = λ z. let o = (f.locked z).1 in absurd (omega arith);
               lone = λ a z. zero_same ∙ f.lone a z;
             }
-            (λ u fu a b. (record { places = a.places; locks = a.locks; passed = λ z. let o = (f.locked z).1 in absurd (omega arith) }, record { places = b.places; locks = b.locks; passed = b.passed }))
+            (λ u fu a b. (
+              record { places = a.places; locks = a.locks; passed = λ z. let o = (f.locked z).1 in absurd (omega arith) },
+              record { places = b.places; locks = b.locks; passed = b.passed },
+            ))
             (λ z. z),
         record { known = omega arith; found = omega arith },
         refl,
@@ -165,7 +194,8 @@ module _ (n : ℕ) where
 
   -- open
   pub publishes : (id : ℕ) (v : EpochView) → IsClosed v → v.count ≡ v.known → Keeps n id v (state_word v.place) (λ _. 2) (λ _. Publishes v 2)
-  publishes id v shut low ws vs t at small = let i : ℕ = state_word v.place in let g : ℕ = get_or ws 0 0 in let w : EpochView = published v g in let f = t.each id v at in let wide = t.wide in let inside = f.inside (omega arith) in let k = f.known in let l = f.found in
+  publishes id v shut low ws vs t at small = let i : ℕ = state_word v.place in let g : ℕ = get_or ws 0 0 in let w : EpochView = published v g in
+      let f = t.each id v at in let wide = t.wide in let inside = f.inside (omega arith) in let k = f.known in let l = f.found in
       let zero_same = get_or-set_other ws i 0 2 0 (λ e. omega arith) in (
         w,
         own ws vs id i 2 v w t at (omega arith) (inl (refl, omega arith))
@@ -183,7 +213,11 @@ module _ (n : ℕ) where
             }
             (λ u fu a b. (
               record { places = λ _ z. a.places (omega arith) z; locks = a.locks; passed = λ z. let o = (f.locked z).1 in absurd (omega arith) },
-              record { places = λ z _. b.places z (omega arith); locks = b.locks; passed = λ z _ _. let l = (fu.locked z).1 in let o = fu.published l in let o0 = o.count in let o1 = o.since in let k' = fu.known in omega arith },
+              record {
+                places = λ z _. b.places z (omega arith);
+                locks = b.locks;
+                passed = λ z _ _. let l = (fu.locked z).1 in let o = fu.published l in let o0 = o.count in let o1 = o.since in let k' = fu.known in omega arith;
+              },
             ))
             (λ z. z),
         record { known = k; found = omega arith },
@@ -192,7 +226,8 @@ module _ (n : ℕ) where
 
   -- close
   pub closes : (id : ℕ) (v : EpochView) → IsOpen v → ¬ (Scans v) → Keeps n id v (state_word v.place) (λ _. 1) (λ _. Closes v 1)
-  closes id v is_open free ws vs t at small = let i : ℕ = state_word v.place in let w : EpochView = closed v in let f = t.each id v at in let wide = t.wide in let inside = f.inside (omega arith) in
+  closes id v is_open free ws vs t at small = let i : ℕ = state_word v.place in let w : EpochView = closed v in let f = t.each id v at in
+      let wide = t.wide in let inside = f.inside (omega arith) in
       let zero_same = get_or-set_other ws i 0 1 0 (λ e. omega arith) in (
         w,
         own ws vs id i 1 v w t at (omega arith) (inl (refl, omega arith))
@@ -219,7 +254,8 @@ module _ (n : ℕ) where
 
   -- end
   pub ends : (id : ℕ) (v : EpochView) → IsClosed v → Keeps n id v (state_word v.place) (λ _. 3) (λ _. Ends v 3)
-  ends id v shut ws vs t at small = let i : ℕ = state_word v.place in let w : EpochView = ended v in let f = t.each id v at in let wide = t.wide in let inside = f.inside (omega arith) in
+  ends id v shut ws vs t at small = let i : ℕ = state_word v.place in let w : EpochView = ended v in let f = t.each id v at in let wide = t.wide in
+      let inside = f.inside (omega arith) in
       let zero_same = get_or-set_other ws i 0 3 0 (λ e. omega arith) in (
         w,
         own ws vs id i 3 v w t at (omega arith) (inl (refl, omega arith))
@@ -247,7 +283,8 @@ module _ (n : ℕ) where
   -- take the lock
   pub locks : (id : ℕ) (v : EpochView) → IsOpen v → ¬ (Scans v) → Keeps n id v 1 (λ x. either (eqb x 0) 1 x) (Locks v)
   locks id v is_open free ws vs t at small = let x : ℕ = get_or ws 1 0 in let f = t.each id v at in let wide = t.wide in let inside = f.inside (omega arith) in
-      let never : IsLone v → x ≡ 0 = λ a'. let a : n ≡ 1 = sym (f.all (λ z. omega arith)) ∙ a' in dite (ℕ_discrete x 0) (λ e. e) (λ e. let h = t.held e in let g = t.each h.0 h.1 h.2 in let l = (g.locked h.3).1 in let in' = g.inside (omega arith) in
+      let never : IsLone v → x ≡ 0 = λ a'. let a : n ≡ 1 = sym (f.all (λ z. omega arith)) ∙ a' in
+      dite (ℕ_discrete x 0) (λ e. e) (λ e. let h = t.held e in let g = t.each h.0 h.1 h.2 in let l = (g.locked h.3).1 in let in' = g.inside (omega arith) in
       absurd (dite (ℕ_discrete h.0 id)
       (λ same. free (subst (λ (u : EpochView). Scans u) (some-injective _ _ (sym h.2 ∙ (ap (get_elem? vs) same ∙ at))) h.3))
       (λ other. (t.two h.0 id h.1 v other h.2 at).places (omega arith) (omega arith) (omega arith)))) in
@@ -281,31 +318,33 @@ module _ (n : ℕ) where
 
   -- free it
   pub unlocks : (id : ℕ) (v : EpochView) → Scans v → Keeps n id v 1 (λ _. 0) (λ _. Unlocks v 0)
-  unlocks id v mine ws vs t at small = let f = t.each id v at in let wide = t.wide in let w : EpochView = unlocked v in let zero_same = get_or-set_other ws 1 0 0 0 (λ e. omega arith) in (
-    w,
-    moved ws vs id 1 0 v w t at
-        record {
-          all = f.all;
-          inside = f.inside;
-          states = f.states;
-          state = λ z. get_or-set_other ws 1 (state_word v.place) 0 0 (λ e. omega arith) ∙ f.state z;
-          count = λ z. get_or-set_other ws 1 (count_word v.place) 0 0 (λ e. omega arith) ∙ f.count z;
-          known = let k = f.known in omega arith;
-          found = f.found;
-          published = λ z. let p = f.published z in record { count = p.count; since = p.since; once = let o = p.once in omega arith };
-          locked = λ z. absurd (omega arith);
-          lone = λ a z. zero_same ∙ f.lone a z;
-        }
-        (λ j u apart e fu a b. (
-          relock ws 0 u (λ z. a.locks mine z) fu,
-          record { places = a.places; locks = λ z. absurd (omega arith); passed = λ z. absurd (omega arith) },
-          record { places = b.places; locks = λ _ z. omega arith; passed = b.passed },
-        ))
-        (λ one none. let l = (f.locked mine).1 in absurd (used ws (set ws 1 0) v f (omega arith) (get_or-set_other ws 1 (state_word 0) 0 0 (λ c. omega arith)) one none))
-        (λ no. absurd (no (get_or-set_same ws 1 0 0 (omega arith)))),
-    record { known = omega arith; found = omega arith },
-    refl,
-  )
+  unlocks id v mine ws vs t at small = let f = t.each id v at in let wide = t.wide in let w : EpochView = unlocked v in
+      let zero_same = get_or-set_other ws 1 0 0 0 (λ e. omega arith) in (
+        w,
+        moved ws vs id 1 0 v w t at
+            record {
+              all = f.all;
+              inside = f.inside;
+              states = f.states;
+              state = λ z. get_or-set_other ws 1 (state_word v.place) 0 0 (λ e. omega arith) ∙ f.state z;
+              count = λ z. get_or-set_other ws 1 (count_word v.place) 0 0 (λ e. omega arith) ∙ f.count z;
+              known = let k = f.known in omega arith;
+              found = f.found;
+              published = λ z. let p = f.published z in record { count = p.count; since = p.since; once = let o = p.once in omega arith };
+              locked = λ z. absurd (omega arith);
+              lone = λ a z. zero_same ∙ f.lone a z;
+            }
+            (λ j u apart e fu a b. (
+              relock ws 0 u (λ z. a.locks mine z) fu,
+              record { places = a.places; locks = λ z. absurd (omega arith); passed = λ z. absurd (omega arith) },
+              record { places = b.places; locks = λ _ z. omega arith; passed = b.passed },
+            ))
+            (λ one none. let l = (f.locked mine).1 in
+            absurd (used ws (set ws 1 0) v f (omega arith) (get_or-set_other ws 1 (state_word 0) 0 0 (λ c. omega arith)) one none))
+            (λ no. absurd (no (get_or-set_same ws 1 0 0 (omega arith)))),
+        record { known = omega arith; found = omega arith },
+        refl,
+      )
 
   -- a look that passes the place q
   passing : (ws : List ℕ) (vs : List EpochView) (id i : ℕ) (v : EpochView) (q : ℕ) → IsNext v q → EpochPart n ws vs → get_elem? vs id ≡ some v
@@ -341,7 +380,8 @@ module _ (n : ℕ) where
       (λ e. (v, unmoved ws vs id (state_word q) v t at, level v, λ q' is. ((λ no. absurd (no e)), (λ _. refl))))
       (λ no. (
         passed_by v q,
-        passing ws vs id (state_word q) v q next t at (λ u fu z same. absurd (no (ap (λ (k : ℕ). get_or ws (state_word k) 0) (sym same) ∙ (fu.state (omega arith) ∙ z)))),
+        passing ws vs id (state_word q) v q next t at
+            (λ u fu z same. absurd (no (ap (λ (k : ℕ). get_or ws (state_word k) 0) (sym same) ∙ (fu.state (omega arith) ∙ z)))),
         record { known = omega arith; found = omega arith },
         λ q' is. ((λ _. ap (λ (k : ℕ). passed_by v k) (let g : q ≡ q' = omega arith in g)), (λ e. absurd (no e))),
       ))
@@ -353,7 +393,8 @@ module _ (n : ℕ) where
       (λ e. (
         passed_by v q,
         passing ws vs id (count_word q) v q next t at
-            (λ u fu z same. let o = (fu.published z).count in let c = fu.count (omega arith) in let c' : u.count ≡ v.count = sym c ∙ (ap (λ (k : ℕ). get_or ws (count_word k) 0) same ∙ e) in omega arith),
+            (λ u fu z same. let o = (fu.published z).count in let c = fu.count (omega arith) in
+            let c' : u.count ≡ v.count = sym c ∙ (ap (λ (k : ℕ). get_or ws (count_word k) 0) same ∙ e) in omega arith),
         record { known = omega arith; found = omega arith },
         λ q' is. ((λ _. ap (λ (k : ℕ). passed_by v k) (let g : q ≡ q' = omega arith in g)), (λ no. absurd (no e))),
       ))
@@ -361,11 +402,13 @@ module _ (n : ℕ) where
 
   -- raise the count
   pub advances : (id : ℕ) (v : EpochView) → IsNext v n → Keeps n id v 0 (λ x. either (eqb x v.count) (v.count + 1) x) (Advances v)
-  advances id v next ws vs t at small = let x : ℕ = get_or ws 0 0 in let y : ℕ = v.count + 1 in let f = t.each id v at in let wide = t.wide in let l = f.locked next.0 in let inside = f.inside (omega arith) in let o = f.published l.1 in
+  advances id v next ws vs t at small = let x : ℕ = get_or ws 0 0 in let y : ℕ = v.count + 1 in let f = t.each id v at in let wide = t.wide in
+      let l = f.locked next.0 in let inside = f.inside (omega arith) in let o = f.published l.1 in
       let o0 = o.count in let o1 = o.since in let o2 = o.once in
       let alone : IsLone v → x ≡ v.known = λ alone. f.lone (sym (f.all (λ z. omega arith)) ∙ alone) (omega arith) in
       exchanged x v.count y (λ y. (w : EpochView) × EpochPart n (set ws 0 y) (set vs id w) × Rises v w × Advances v x w)
-      (λ hit. let w : EpochView = knowing v y in let now = get_or-set_same ws 0 y 0 (omega arith) in let one_same = get_or-set_other ws 0 1 y 0 (λ e. omega arith) in let b = f.known in let a = f.found in (
+      (λ hit. let w : EpochView = knowing v y in let now = get_or-set_same ws 0 y 0 (omega arith) in
+      let one_same = get_or-set_other ws 0 1 y 0 (λ e. omega arith) in let b = f.known in let a = f.found in (
         w,
         moved ws vs id 0 y v w t at
             record {
@@ -390,14 +433,16 @@ module _ (n : ℕ) where
                 known = let k = fu.known in omega arith;
                 found = fu.found;
                 published = λ z. let p = fu.published z in let i = fu.inside (omega arith) in let other = a.places (omega arith) (omega arith) in
-                    let low : v.count ≤ u.since = passes v u n next a.passed next.0 z (omega arith) other (λ same. absurd (omega arith)) in record { count = p.count; since = p.since; once = omega arith };
+                    let low : v.count ≤ u.since = passes v u n next a.passed next.0 z (omega arith) other (λ same. absurd (omega arith)) in
+                    record { count = p.count; since = p.since; once = omega arith };
                 locked = λ z. let p = fu.locked z in (one_same ∙ p.0, p.1);
                 lone = λ alone z. let i = fu.inside z in absurd (a.places (omega arith) z (omega arith));
               },
               record { places = a.places; locks = a.locks; passed = a.passed },
               record { places = b.places; locks = b.locks; passed = b.passed },
             ))
-            (λ one none. let is_open = l.1 in absurd (used ws (set ws 0 y) v f (omega arith) (get_or-set_other ws 0 (state_word 0) y 0 (λ c. omega arith)) one none))
+            (λ one none. let is_open = l.1 in
+            absurd (used ws (set ws 0 y) v f (omega arith) (get_or-set_other ws 0 (state_word 0) y 0 (λ c. omega arith)) one none))
             (λ locked. held_set ws vs id v w t at (λ z. z) (λ e. locked (one_same ∙ e))),
         record { known = omega arith; found = omega arith },
         ((λ _. refl), (λ no. absurd (no hit)), alone),
@@ -408,8 +453,10 @@ module _ (n : ℕ) where
   pub registers : (id p : ℕ) → p < n → Keeps n id (nobody n) (state_word p) (λ x. either (eqb x 0) 1 x) (Registers (state_word p) (nobody n))
   registers id p inside ws vs t at small = let i : ℕ = state_word p in let x : ℕ = get_or ws i 0 in let v : EpochView = nobody n in let wide = t.wide in
       exchanged x 0 1 (λ y. (w : EpochView) × EpochPart n (set ws i y) (set vs id w) × Rises (nobody n) w × Registers (state_word p) (nobody n) x w)
-      (λ hit. let c : ℕ = get_or ws (count_word p) 0 in let g : ℕ = get_or ws 0 0 in let w : EpochView = registered n p c g in let zero_same = get_or-set_other ws i 0 1 0 (λ e. omega arith) in
-      let other_place : (u : EpochView) → Fits n ws u → HasPlace u → u.place ≢ p = λ u fu z e. let s = fu.state z in let s' = ap (λ (k : ℕ). get_or ws (state_word k) 0) e in omega arith in (
+      (λ hit. let c : ℕ = get_or ws (count_word p) 0 in let g : ℕ = get_or ws 0 0 in let w : EpochView = registered n p c g in
+      let zero_same = get_or-set_other ws i 0 1 0 (λ e. omega arith) in
+      let other_place : (u : EpochView) → Fits n ws u → HasPlace u → u.place ≢ p = λ u fu z e. let s = fu.state z in
+      let s' = ap (λ (k : ℕ). get_or ws (state_word k) 0) e in omega arith in (
         w,
         moved ws vs id i 1 v w t at
             record {
@@ -429,10 +476,16 @@ module _ (n : ℕ) where
               record { places = λ _ z e. other_place u fu z (sym e); locks = λ z. absurd (omega arith); passed = λ z. absurd (omega arith) },
               record { places = λ z _. other_place u fu z; locks = λ _ z. omega arith; passed = λ _ z. absurd (omega arith) },
             ))
-            (λ one none. let is : i ≡ state_word 0 = omega arith in let now = get_or-set_same ws i 1 0 (omega arith) in let now' : get_or (set ws i 1) (state_word 0) 0 ≡ 1 = ap (λ (k : ℕ). get_or (set ws i 1) k 0) (sym is) ∙ now in absurd (omega arith))
+            (λ one none. let is : i ≡ state_word 0 = omega arith in let now = get_or-set_same ws i 1 0 (omega arith) in
+            let now' : get_or (set ws i 1) (state_word 0) 0 ≡ 1 = ap (λ (k : ℕ). get_or (set ws i 1) k 0) (sym is) ∙ now in absurd (omega arith))
             (λ locked. held_set ws vs id v w t at (λ z. absurd (omega arith)) (λ e. locked (get_or-set_other ws i 1 1 0 (λ e. omega arith) ∙ e))),
         record { known = omega arith; found = omega arith },
-        λ p' is. ((λ _. (c, g, ap (λ (k : ℕ). registered n k c g) (let e : p ≡ p' = omega arith in e), λ one. let e : state_word 0 ≡ i = omega arith in let z = t.unused one (ap (λ (k : ℕ). get_or ws k 0) e ∙ hit) in (z (count_word p), z 0))), (λ no. absurd (no hit))),
+        λ p' is.
+            let same : p ≡ p' = omega arith in
+            let blank = λ (one : n ≡ 1). let e : state_word 0 ≡ i = omega arith in t.unused one (ap (λ (k : ℕ). get_or ws k 0) e ∙ hit) in (
+              (λ _. (c, g, ap (λ (k : ℕ). registered n k c g) same, λ one. (blank one (count_word p), blank one 0))),
+              (λ no. absurd (no hit)),
+            ),
       ))
       (λ miss. (v, unmoved ws vs id i v t at, level v, λ p' is. ((λ e. absurd (miss e)), (λ _. refl))))
 
@@ -451,7 +504,10 @@ module _ (n : ℕ) where
   }
 
   with_nobody : (a : ℕ) (u : EpochView) → Apart (nobody a) u × Apart u (nobody a)
-  with_nobody a u = (record { places = λ z. absurd (omega arith); locks = λ z. absurd (omega arith); passed = λ z. absurd (omega arith) }, record { places = λ _ z. absurd (omega arith); locks = λ _ z. omega arith; passed = λ _ z. absurd (omega arith) })
+  with_nobody a u = (
+    record { places = λ z. absurd (omega arith); locks = λ z. absurd (omega arith); passed = λ z. absurd (omega arith) },
+    record { places = λ _ z. absurd (omega arith); locks = λ _ z. omega arith; passed = λ _ z. absurd (omega arith) },
+  )
 
   -- a new token, which may be one without a size
   pub seated : (a : ℕ) → (a ≢ 0 → a ≡ n) → (ws : List ℕ) (vs : List EpochView) → EpochPart n ws vs → EpochPart n ws (vs ++ nobody a ∷ [])
