@@ -7,7 +7,7 @@ use Rattle.atomic_table.specs.declared.shared.Seat.{Seat}
 use Rattle.sdd_rule.specs.declared.EpochView.{EpochView}
 use Rattle.sdd_rule.specs.declared.View.{View}
 use Rattle.sdd_rule.specs.declared.Sizes.{Sizes}
-use Rattle.sdd_rule.specs.Words.{state_word, count_word}
+use Rattle.sdd_rule.specs.Words.{global_word, lock_word, state_word, count_word}
 use Rattle.sdd_rule.specs.Epoch.{IsClosed, IsOpen, Scans}
 use Rattle.sdd_rule.specs.Steps.{Keeps, nobody, IsNext, Registers, Reads, Counts, Publishes, Closes, Ends, Locks, LooksAtState, LooksAtCount, Advances, Unlocks}
 use Rattle.sdd_rule.specs.Parts.{idle, Kept}
@@ -33,8 +33,8 @@ module _ {S : Type 0} (sizes : Sizes) (slots : ℕ) where
         (subst (λ (u : EpochView). Keeps sizes.participants id u (state_word p) (λ x. either (eqb x 0) 1 x) (Registers (state_word p) u)) (sym none_yet)
         (registers sizes.participants id p inside)))
 
-    pub may_read : May 0 (λ x. x) (Told Reads me)
-    may_read = lift sizes slots id me 0 (λ x. x) (Reads v) (omega arith) (reads sizes.participants id v)
+    pub may_read : May global_word (λ x. x) (Told Reads me)
+    may_read = lift sizes slots id me global_word (λ x. x) (Reads v) (omega arith) (reads sizes.participants id v)
 
     pub may_write : (i c : ℕ) → IsClosed v → i ≡ count_word v.place → v.place < sizes.participants → May i (λ _. c) (λ _. Told Counts me c)
     may_write i c shut is inside = subst (λ (i : ℕ). May i (λ _. c) (λ _. Told Counts me c)) (sym is)
@@ -53,8 +53,8 @@ module _ {S : Type 0} (sizes : Sizes) (slots : ℕ) where
     may_end i shut is inside = subst (λ (i : ℕ). May i (λ _. 3) (λ _. Told Ends me 3)) (sym is)
         (lift sizes slots id me (state_word v.place) (λ _. 3) (λ _. Ends v 3) (omega arith) (ends sizes.participants id v shut))
 
-    pub may_lock : IsOpen v → ¬ (Scans v) → May 1 (λ x. either (eqb x 0) 1 x) (Told Locks me)
-    may_lock is_open free = lift sizes slots id me 1 (λ x. either (eqb x 0) 1 x) (Locks v) (omega arith) (locks sizes.participants id v is_open free)
+    pub may_lock : IsOpen v → ¬ (Scans v) → May lock_word (λ x. either (eqb x 0) 1 x) (Told Locks me)
+    may_lock is_open free = lift sizes slots id me lock_word (λ x. either (eqb x 0) 1 x) (Locks v) (omega arith) (locks sizes.participants id v is_open free)
 
     pub may_look_at_state : (i q : ℕ) → i ≡ state_word q → q < sizes.participants → IsNext v q → May i (λ x. x) (Told (LooksAtState i) me)
     may_look_at_state i q is inside next = subst (λ (i : ℕ). May i (λ x. x) (Told (LooksAtState i) me)) (sym is)
@@ -64,12 +64,12 @@ module _ {S : Type 0} (sizes : Sizes) (slots : ℕ) where
     may_look_at_count i q is inside next = subst (λ (i : ℕ). May i (λ x. x) (Told (LooksAtCount i) me)) (sym is)
         (lift sizes slots id me (count_word q) (λ x. x) (LooksAtCount (count_word q) v) (omega arith) (looks_at_count sizes.participants id v q next))
 
-    pub may_advance : (c d : ℕ) → c ≡ v.count → d ≡ v.count + 1 → IsNext v sizes.participants → May 0 (λ x. either (eqb x c) d x) (Told Advances me)
-    may_advance c d is is' next = subst (λ (z : ℕ × ℕ). May 0 (λ x. either (eqb x z.0) z.1 x) (Told Advances me)) (λ i. (sym is i, sym is' i))
-        (lift sizes slots id me 0 (λ x. either (eqb x v.count) (v.count + 1) x) (Advances v) (omega arith) (advances sizes.participants id v next))
+    pub may_advance : (c d : ℕ) → c ≡ v.count → d ≡ v.count + 1 → IsNext v sizes.participants → May global_word (λ x. either (eqb x c) d x) (Told Advances me)
+    may_advance c d is is' next = subst (λ (z : ℕ × ℕ). May global_word (λ x. either (eqb x z.0) z.1 x) (Told Advances me)) (λ i. (sym is i, sym is' i))
+        (lift sizes slots id me global_word (λ x. either (eqb x v.count) (v.count + 1) x) (Advances v) (omega arith) (advances sizes.participants id v next))
 
-    pub may_unlock : Scans v → May 1 (λ _. 0) (λ _. Told Unlocks me 0)
-    may_unlock mine = lift sizes slots id me 1 (λ _. 0) (λ _. Unlocks v 0) (omega arith) (unlocks sizes.participants id v mine)
+    pub may_unlock : Scans v → May lock_word (λ _. 0) (λ _. Told Unlocks me 0)
+    may_unlock mine = lift sizes slots id me lock_word (λ _. 0) (λ _. Unlocks v 0) (omega arith) (unlocks sizes.participants id v mine)
 
 -- the token after a step, from what the step tells of it
 pub told : {S : Type 0} (R : EpochView → ℕ → EpochView → Type 0) (s t : Seat S View) (r : ℕ) → t.table_id ≡ s.table_id → t.id ≡ s.id

@@ -8,7 +8,7 @@ use lib.Seq.{set-get_or}
 use prog.Atomic.{either}
 use Rattle.atomic_table.proofs.Lists.{set_here, set_else, exchanged, at_longer}
 use Rattle.sdd_rule.specs.declared.EpochView.{EpochView}
-use Rattle.sdd_rule.specs.Words.{state_word, count_word}
+use Rattle.sdd_rule.specs.Words.{global_word, lock_word, state_word, count_word}
 use Rattle.sdd_rule.specs.Epoch.{HasPlace, IsClosed, IsOpen, Scans, IsLone, Fits, Apart, EpochPart}
 use Rattle.sdd_rule.specs.Steps.{Rises, Keeps, nobody, registered, knowing, counted, published, closed, ended, scanning, passed_by, unlocked, IsNext, Registers, Reads, Counts, Publishes, Closes, Ends, Locks, LooksAtState, LooksAtCount, Advances, Unlocks}
 use Rattle.sdd_rule.proofs.Frame.{each_set, two_set, each_snoc, two_snoc}
@@ -28,7 +28,7 @@ passes v u q next old s z l other here = dite (ℕ_discrete u.place q) here
 
 module _ (n : ℕ) where
   -- a participant, where no word changes that speaks of it
-  spared : (ws ws' : List ℕ) (u : EpochView) → get_or ws' 0 0 ≡ get_or ws 0 0 → (Scans u → get_or ws' 1 0 ≡ get_or ws 1 0)
+  spared : (ws ws' : List ℕ) (u : EpochView) → get_or ws' global_word 0 ≡ get_or ws global_word 0 → (Scans u → get_or ws' lock_word 0 ≡ get_or ws lock_word 0)
       → (HasPlace u → (get_or ws' (state_word u.place) 0 ≡ get_or ws (state_word u.place) 0)
       × (get_or ws' (count_word u.place) 0 ≡ get_or ws (count_word u.place) 0)) → Fits n ws u → Fits n ws' u
   spared ws ws' u zero_same one_same own_same f = record {
@@ -45,15 +45,18 @@ module _ (n : ℕ) where
   }
 
   -- another participant, where the lock changes
-  relock : (ws : List ℕ) (x : ℕ) (u : EpochView) → ¬ (Scans u) → Fits n ws u → Fits n (set ws 1 x) u
-  relock ws x u none f = spared ws (set ws 1 x) u (get_or-set_other ws 1 0 x 0 (λ e. omega arith)) (λ z. absurd (none z))
-      (λ z. (get_or-set_other ws 1 (state_word u.place) x 0 (λ e. omega arith), get_or-set_other ws 1 (count_word u.place) x 0 (λ e. omega arith))) f
+  relock : (ws : List ℕ) (x : ℕ) (u : EpochView) → ¬ (Scans u) → Fits n ws u → Fits n (set ws lock_word x) u
+  relock ws x u none f = spared ws (set ws lock_word x) u (get_or-set_other ws lock_word global_word x 0 (λ e. omega arith)) (λ z. absurd (none z))
+      (λ z. (
+        get_or-set_other ws lock_word (state_word u.place) x 0 (λ e. omega arith),
+        get_or-set_other ws lock_word (count_word u.place) x 0 (λ e. omega arith),
+      )) f
 
   -- a participant whose words a step does not name
   untouched : (ws : List ℕ) (i x : ℕ) (u : EpochView) → 1 < i → (HasPlace u → (i ≢ state_word u.place) × (i ≢ count_word u.place)) → Fits n ws u
       → Fits n (set ws i x) u
-  untouched ws i x u high apart f = spared ws (set ws i x) u (get_or-set_other ws i 0 x 0 (λ e. omega arith))
-      (λ _. get_or-set_other ws i 1 x 0 (λ e. omega arith))
+  untouched ws i x u high apart f = spared ws (set ws i x) u (get_or-set_other ws i global_word x 0 (λ e. omega arith))
+      (λ _. get_or-set_other ws i lock_word x 0 (λ e. omega arith))
       (λ z. (
         get_or-set_other ws i (state_word u.place) x 0 (λ e. (apart z).0 (sym e)),
         get_or-set_other ws i (count_word u.place) x 0 (λ e. (apart z).1 (sym e)),
@@ -63,7 +66,7 @@ module _ (n : ℕ) where
   moved : (ws : List ℕ) (vs : List EpochView) (id i x : ℕ) (v w : EpochView) → EpochPart n ws vs → get_elem? vs id ≡ some v → Fits n (set ws i x) w
       → ((j : ℕ) (u : EpochView) → j ≢ id → get_elem? vs j ≡ some u → Fits n ws u → Apart v u → Apart u v → Fits n (set ws i x) u × Apart w u × Apart u w)
       → (n ≡ 1 → get_or (set ws i x) (state_word 0) 0 ≡ 0 → (k : ℕ) → get_or (set ws i x) k 0 ≡ 0)
-      → (get_or (set ws i x) 1 0 ≢ 0 → (j : ℕ) × (u : EpochView) × (get_elem? (set vs id w) j ≡ some u) × Scans u)
+      → (get_or (set ws i x) lock_word 0 ≢ 0 → (j : ℕ) × (u : EpochView) × (get_elem? (set vs id w) j ≡ some u) × Scans u)
       → EpochPart n (set ws i x) (set vs id w)
   moved ws vs id i x v w t at mine others unused held = record {
     wide = let wide = t.wide in omega (arith, length-set ws i x);
@@ -82,7 +85,7 @@ module _ (n : ℕ) where
       let s : get_or ws (state_word 0) 0 ≡ v.state = ap (λ (k : ℕ). get_or ws (state_word k) 0) (sym p) ∙ f.state live in omega arith
 
   held_set : (ws : List ℕ) (vs : List EpochView) (id : ℕ) (v w : EpochView) → EpochPart n ws vs → get_elem? vs id ≡ some v → (Scans v → Scans w)
-      → get_or ws 1 0 ≢ 0 → (j : ℕ) × (u : EpochView) × (get_elem? (set vs id w) j ≡ some u) × Scans u
+      → get_or ws lock_word 0 ≢ 0 → (j : ℕ) × (u : EpochView) × (get_elem? (set vs id w) j ≡ some u) × Scans u
   held_set ws vs id v w t at goes locked = let h = t.held locked in
       dite (ℕ_discrete h.0 id)
       (λ e. (
@@ -138,14 +141,14 @@ module _ (n : ℕ) where
       let now' : get_or (set ws i x) (state_word 0) 0 ≡ x = ap (λ (k : ℕ). get_or (set ws i x) k 0) (sym is) ∙ now in absurd (omega arith))
       (λ (e : i ≡ count_word v.place). absurd (used ws (set ws i x) v f live (get_or-set_other ws i (state_word 0) x 0 (λ c. omega arith)) one none))
       which)
-      (λ locked. held_set ws vs id v w t at goes (λ e. locked (get_or-set_other ws i 1 x 0 (λ e. omega arith) ∙ e)))
+      (λ locked. held_set ws vs id v w t at goes (λ e. locked (get_or-set_other ws i lock_word x 0 (λ e. omega arith) ∙ e)))
 
   -- read the global count
-  pub reads : (id : ℕ) (v : EpochView) → Keeps n id v 0 (λ x. x) (Reads v)
-  reads id v ws vs t at small = let c : ℕ = get_or ws 0 0 in let w : EpochView = knowing v c in let f = t.each id v at in let k = f.known in
+  pub reads : (id : ℕ) (v : EpochView) → Keeps n id v global_word (λ x. x) (Reads v)
+  reads id v ws vs t at small = let c : ℕ = get_or ws global_word 0 in let w : EpochView = knowing v c in let f = t.each id v at in let k = f.known in
       let l = f.found in (
         w,
-        still ws vs id 0 v w t at
+        still ws vs id global_word v w t at
             record {
               all = f.all;
               inside = f.inside;
@@ -168,7 +171,7 @@ module _ (n : ℕ) where
   pub counts : (id : ℕ) (v : EpochView) (c : ℕ) → IsClosed v → Keeps n id v (count_word v.place) (λ _. c) (λ _. Counts v c)
   counts id v c shut ws vs t at small = let i : ℕ = count_word v.place in let w : EpochView = counted v c in let f = t.each id v at in
       let wide = t.wide in let inside = f.inside (omega arith) in
-      let zero_same = get_or-set_other ws i 0 c 0 (λ e. omega arith) in (
+      let zero_same = get_or-set_other ws i global_word c 0 (λ e. omega arith) in (
         w,
         own ws vs id i c v w t at (omega arith) (inr refl)
             record {
@@ -194,9 +197,9 @@ module _ (n : ℕ) where
 
   -- open
   pub publishes : (id : ℕ) (v : EpochView) → IsClosed v → v.count ≡ v.known → Keeps n id v (state_word v.place) (λ _. 2) (λ _. Publishes v 2)
-  publishes id v shut low ws vs t at small = let i : ℕ = state_word v.place in let g : ℕ = get_or ws 0 0 in let w : EpochView = published v g in
+  publishes id v shut low ws vs t at small = let i : ℕ = state_word v.place in let g : ℕ = get_or ws global_word 0 in let w : EpochView = published v g in
       let f = t.each id v at in let wide = t.wide in let inside = f.inside (omega arith) in let k = f.known in let l = f.found in
-      let zero_same = get_or-set_other ws i 0 2 0 (λ e. omega arith) in (
+      let zero_same = get_or-set_other ws i global_word 2 0 (λ e. omega arith) in (
         w,
         own ws vs id i 2 v w t at (omega arith) (inl (refl, omega arith))
             record {
@@ -228,7 +231,7 @@ module _ (n : ℕ) where
   pub closes : (id : ℕ) (v : EpochView) → IsOpen v → ¬ (Scans v) → Keeps n id v (state_word v.place) (λ _. 1) (λ _. Closes v 1)
   closes id v is_open free ws vs t at small = let i : ℕ = state_word v.place in let w : EpochView = closed v in let f = t.each id v at in
       let wide = t.wide in let inside = f.inside (omega arith) in
-      let zero_same = get_or-set_other ws i 0 1 0 (λ e. omega arith) in (
+      let zero_same = get_or-set_other ws i global_word 1 0 (λ e. omega arith) in (
         w,
         own ws vs id i 1 v w t at (omega arith) (inl (refl, omega arith))
             record {
@@ -256,7 +259,7 @@ module _ (n : ℕ) where
   pub ends : (id : ℕ) (v : EpochView) → IsClosed v → Keeps n id v (state_word v.place) (λ _. 3) (λ _. Ends v 3)
   ends id v shut ws vs t at small = let i : ℕ = state_word v.place in let w : EpochView = ended v in let f = t.each id v at in let wide = t.wide in
       let inside = f.inside (omega arith) in
-      let zero_same = get_or-set_other ws i 0 3 0 (λ e. omega arith) in (
+      let zero_same = get_or-set_other ws i global_word 3 0 (λ e. omega arith) in (
         w,
         own ws vs id i 3 v w t at (omega arith) (inl (refl, omega arith))
             record {
@@ -281,27 +284,28 @@ module _ (n : ℕ) where
       )
 
   -- take the lock
-  pub locks : (id : ℕ) (v : EpochView) → IsOpen v → ¬ (Scans v) → Keeps n id v 1 (λ x. either (eqb x 0) 1 x) (Locks v)
-  locks id v is_open free ws vs t at small = let x : ℕ = get_or ws 1 0 in let f = t.each id v at in let wide = t.wide in let inside = f.inside (omega arith) in
+  pub locks : (id : ℕ) (v : EpochView) → IsOpen v → ¬ (Scans v) → Keeps n id v lock_word (λ x. either (eqb x 0) 1 x) (Locks v)
+  locks id v is_open free ws vs t at small = let x : ℕ = get_or ws lock_word 0 in let f = t.each id v at in let wide = t.wide in
+      let inside = f.inside (omega arith) in
       let never : IsLone v → x ≡ 0 = λ a'. let a : n ≡ 1 = sym (f.all (λ z. omega arith)) ∙ a' in
       dite (ℕ_discrete x 0) (λ e. e) (λ e. let h = t.held e in let g = t.each h.0 h.1 h.2 in let l = (g.locked h.3).1 in let in' = g.inside (omega arith) in
       absurd (dite (ℕ_discrete h.0 id)
       (λ same. free (subst (λ (u : EpochView). Scans u) (some-injective _ _ (sym h.2 ∙ (ap (get_elem? vs) same ∙ at))) h.3))
       (λ other. (t.two h.0 id h.1 v other h.2 at).places (omega arith) (omega arith) (omega arith)))) in
-      exchanged x 0 1 (λ y. (w : EpochView) × EpochPart n (set ws 1 y) (set vs id w) × Rises v w × Locks v x w)
-      (λ hit. let w : EpochView = scanning v in let zero_same = get_or-set_other ws 1 0 1 0 (λ e. omega arith) in (
+      exchanged x 0 1 (λ y. (w : EpochView) × EpochPart n (set ws lock_word y) (set vs id w) × Rises v w × Locks v x w)
+      (λ hit. let w : EpochView = scanning v in let zero_same = get_or-set_other ws lock_word global_word 1 0 (λ e. omega arith) in (
         w,
-        moved ws vs id 1 1 v w t at
+        moved ws vs id lock_word 1 v w t at
             record {
               all = f.all;
               inside = f.inside;
               states = f.states;
-              state = λ z. get_or-set_other ws 1 (state_word v.place) 1 0 (λ e. omega arith) ∙ f.state z;
-              count = λ z. get_or-set_other ws 1 (count_word v.place) 1 0 (λ e. omega arith) ∙ f.count z;
+              state = λ z. get_or-set_other ws lock_word (state_word v.place) 1 0 (λ e. omega arith) ∙ f.state z;
+              count = λ z. get_or-set_other ws lock_word (count_word v.place) 1 0 (λ e. omega arith) ∙ f.count z;
               known = let k = f.known in omega arith;
               found = f.found;
               published = λ z. let p = f.published z in record { count = p.count; since = p.since; once = let o = p.once in omega arith };
-              locked = λ _. (get_or-set_same ws 1 1 0 (omega arith), is_open);
+              locked = λ _. (get_or-set_same ws lock_word 1 0 (omega arith), is_open);
               lone = λ a z. zero_same ∙ f.lone a z;
             }
             (λ j u apart e fu a b. (
@@ -309,25 +313,25 @@ module _ (n : ℕ) where
               record { places = a.places; locks = λ _ z. let l = (fu.locked z).0 in omega arith; passed = λ _ _ z. absurd (omega arith) },
               record { places = b.places; locks = λ z _. let l = (fu.locked z).0 in omega arith; passed = b.passed },
             ))
-            (λ one none. absurd (used ws (set ws 1 1) v f (omega arith) (get_or-set_other ws 1 (state_word 0) 1 0 (λ c. omega arith)) one none))
+            (λ one none. absurd (used ws (set ws lock_word 1) v f (omega arith) (get_or-set_other ws lock_word (state_word 0) 1 0 (λ c. omega arith)) one none))
             (λ _. (id, w, set_here vs id w (at_length vs id v at), refl)),
         record { known = omega arith; found = omega arith },
         ((λ _. refl), (λ no. absurd (no hit)), never),
       ))
-      (λ miss. (v, unmoved ws vs id 1 v t at, level v, ((λ e. absurd (miss e)), (λ _. refl), never)))
+      (λ miss. (v, unmoved ws vs id lock_word v t at, level v, ((λ e. absurd (miss e)), (λ _. refl), never)))
 
   -- free it
-  pub unlocks : (id : ℕ) (v : EpochView) → Scans v → Keeps n id v 1 (λ _. 0) (λ _. Unlocks v 0)
+  pub unlocks : (id : ℕ) (v : EpochView) → Scans v → Keeps n id v lock_word (λ _. 0) (λ _. Unlocks v 0)
   unlocks id v mine ws vs t at small = let f = t.each id v at in let wide = t.wide in let w : EpochView = unlocked v in
-      let zero_same = get_or-set_other ws 1 0 0 0 (λ e. omega arith) in (
+      let zero_same = get_or-set_other ws lock_word global_word 0 0 (λ e. omega arith) in (
         w,
-        moved ws vs id 1 0 v w t at
+        moved ws vs id lock_word 0 v w t at
             record {
               all = f.all;
               inside = f.inside;
               states = f.states;
-              state = λ z. get_or-set_other ws 1 (state_word v.place) 0 0 (λ e. omega arith) ∙ f.state z;
-              count = λ z. get_or-set_other ws 1 (count_word v.place) 0 0 (λ e. omega arith) ∙ f.count z;
+              state = λ z. get_or-set_other ws lock_word (state_word v.place) 0 0 (λ e. omega arith) ∙ f.state z;
+              count = λ z. get_or-set_other ws lock_word (count_word v.place) 0 0 (λ e. omega arith) ∙ f.count z;
               known = let k = f.known in omega arith;
               found = f.found;
               published = λ z. let p = f.published z in record { count = p.count; since = p.since; once = let o = p.once in omega arith };
@@ -340,8 +344,8 @@ module _ (n : ℕ) where
               record { places = b.places; locks = λ _ z. omega arith; passed = b.passed },
             ))
             (λ one none. let l = (f.locked mine).1 in
-            absurd (used ws (set ws 1 0) v f (omega arith) (get_or-set_other ws 1 (state_word 0) 0 0 (λ c. omega arith)) one none))
-            (λ no. absurd (no (get_or-set_same ws 1 0 0 (omega arith)))),
+            absurd (used ws (set ws lock_word 0) v f (omega arith) (get_or-set_other ws lock_word (state_word 0) 0 0 (λ c. omega arith)) one none))
+            (λ no. absurd (no (get_or-set_same ws lock_word 0 0 (omega arith)))),
         record { known = omega arith; found = omega arith },
         refl,
       )
@@ -401,22 +405,22 @@ module _ (n : ℕ) where
       (λ no. (v, unmoved ws vs id (count_word q) v t at, level v, λ q' is. ((λ e. absurd (no e)), (λ _. refl))))
 
   -- raise the count
-  pub advances : (id : ℕ) (v : EpochView) → IsNext v n → Keeps n id v 0 (λ x. either (eqb x v.count) (v.count + 1) x) (Advances v)
-  advances id v next ws vs t at small = let x : ℕ = get_or ws 0 0 in let y : ℕ = v.count + 1 in let f = t.each id v at in let wide = t.wide in
+  pub advances : (id : ℕ) (v : EpochView) → IsNext v n → Keeps n id v global_word (λ x. either (eqb x v.count) (v.count + 1) x) (Advances v)
+  advances id v next ws vs t at small = let x : ℕ = get_or ws global_word 0 in let y : ℕ = v.count + 1 in let f = t.each id v at in let wide = t.wide in
       let l = f.locked next.0 in let inside = f.inside (omega arith) in let o = f.published l.1 in
       let o0 = o.count in let o1 = o.since in let o2 = o.once in
       let alone : IsLone v → x ≡ v.known = λ alone. f.lone (sym (f.all (λ z. omega arith)) ∙ alone) (omega arith) in
-      exchanged x v.count y (λ y. (w : EpochView) × EpochPart n (set ws 0 y) (set vs id w) × Rises v w × Advances v x w)
-      (λ hit. let w : EpochView = knowing v y in let now = get_or-set_same ws 0 y 0 (omega arith) in
-      let one_same = get_or-set_other ws 0 1 y 0 (λ e. omega arith) in let b = f.known in let a = f.found in (
+      exchanged x v.count y (λ y. (w : EpochView) × EpochPart n (set ws global_word y) (set vs id w) × Rises v w × Advances v x w)
+      (λ hit. let w : EpochView = knowing v y in let now = get_or-set_same ws global_word y 0 (omega arith) in
+      let one_same = get_or-set_other ws global_word lock_word y 0 (λ e. omega arith) in let b = f.known in let a = f.found in (
         w,
-        moved ws vs id 0 y v w t at
+        moved ws vs id global_word y v w t at
             record {
               all = f.all;
               inside = f.inside;
               states = f.states;
-              state = λ z. get_or-set_other ws 0 (state_word v.place) y 0 (λ e. omega arith) ∙ f.state z;
-              count = λ z. get_or-set_other ws 0 (count_word v.place) y 0 (λ e. omega arith) ∙ f.count z;
+              state = λ z. get_or-set_other ws global_word (state_word v.place) y 0 (λ e. omega arith) ∙ f.state z;
+              count = λ z. get_or-set_other ws global_word (count_word v.place) y 0 (λ e. omega arith) ∙ f.count z;
               known = omega arith;
               found = omega arith;
               published = λ z. record { count = o0; since = omega arith; once = omega arith };
@@ -428,8 +432,8 @@ module _ (n : ℕ) where
                 all = fu.all;
                 inside = fu.inside;
                 states = fu.states;
-                state = λ z. get_or-set_other ws 0 (state_word u.place) y 0 (λ e. omega arith) ∙ fu.state z;
-                count = λ z. get_or-set_other ws 0 (count_word u.place) y 0 (λ e. omega arith) ∙ fu.count z;
+                state = λ z. get_or-set_other ws global_word (state_word u.place) y 0 (λ e. omega arith) ∙ fu.state z;
+                count = λ z. get_or-set_other ws global_word (count_word u.place) y 0 (λ e. omega arith) ∙ fu.count z;
                 known = let k = fu.known in omega arith;
                 found = fu.found;
                 published = λ z. let p = fu.published z in let i = fu.inside (omega arith) in let other = a.places (omega arith) (omega arith) in
@@ -442,19 +446,19 @@ module _ (n : ℕ) where
               record { places = b.places; locks = b.locks; passed = b.passed },
             ))
             (λ one none. let is_open = l.1 in
-            absurd (used ws (set ws 0 y) v f (omega arith) (get_or-set_other ws 0 (state_word 0) y 0 (λ c. omega arith)) one none))
+            absurd (used ws (set ws global_word y) v f (omega arith) (get_or-set_other ws global_word (state_word 0) y 0 (λ c. omega arith)) one none))
             (λ locked. held_set ws vs id v w t at (λ z. z) (λ e. locked (one_same ∙ e))),
         record { known = omega arith; found = omega arith },
         ((λ _. refl), (λ no. absurd (no hit)), alone),
       ))
-      (λ miss. (v, unmoved ws vs id 0 v t at, level v, ((λ e. absurd (miss e)), (λ _. refl), alone)))
+      (λ miss. (v, unmoved ws vs id global_word v t at, level v, ((λ e. absurd (miss e)), (λ _. refl), alone)))
 
   -- take a place
   pub registers : (id p : ℕ) → p < n → Keeps n id (nobody n) (state_word p) (λ x. either (eqb x 0) 1 x) (Registers (state_word p) (nobody n))
   registers id p inside ws vs t at small = let i : ℕ = state_word p in let x : ℕ = get_or ws i 0 in let v : EpochView = nobody n in let wide = t.wide in
       exchanged x 0 1 (λ y. (w : EpochView) × EpochPart n (set ws i y) (set vs id w) × Rises (nobody n) w × Registers (state_word p) (nobody n) x w)
-      (λ hit. let c : ℕ = get_or ws (count_word p) 0 in let g : ℕ = get_or ws 0 0 in let w : EpochView = registered n p c g in
-      let zero_same = get_or-set_other ws i 0 1 0 (λ e. omega arith) in
+      (λ hit. let c : ℕ = get_or ws (count_word p) 0 in let g : ℕ = get_or ws global_word 0 in let w : EpochView = registered n p c g in
+      let zero_same = get_or-set_other ws i global_word 1 0 (λ e. omega arith) in
       let other_place : (u : EpochView) → Fits n ws u → HasPlace u → u.place ≢ p = λ u fu z e. let s = fu.state z in
       let s' = ap (λ (k : ℕ). get_or ws (state_word k) 0) e in omega arith in (
         w,
@@ -478,7 +482,7 @@ module _ (n : ℕ) where
             ))
             (λ one none. let is : i ≡ state_word 0 = omega arith in let now = get_or-set_same ws i 1 0 (omega arith) in
             let now' : get_or (set ws i 1) (state_word 0) 0 ≡ 1 = ap (λ (k : ℕ). get_or (set ws i 1) k 0) (sym is) ∙ now in absurd (omega arith))
-            (λ locked. held_set ws vs id v w t at (λ z. absurd (omega arith)) (λ e. locked (get_or-set_other ws i 1 1 0 (λ e. omega arith) ∙ e))),
+            (λ locked. held_set ws vs id v w t at (λ z. absurd (omega arith)) (λ e. locked (get_or-set_other ws i lock_word 1 0 (λ e. omega arith) ∙ e))),
         record { known = omega arith; found = omega arith },
         λ p' is.
             let same : p ≡ p' = omega arith in
