@@ -194,15 +194,11 @@ impl<'d> Local<'d> {
     {
         let board = &self.domain.board;
         let place = self.place;
-        self.own.guards = 0;
-        match self.own.countdown {
-            0 => {
-                scan(board, &mut self.token, place, self.own.found);
-                self.own.countdown = 127;
-            }
-            // No place is marked as ended yet.
-            128 => {}
-            countdown => self.own.countdown = countdown - 1,
+        let scans = self.own.countdown == 0;
+        // No place is marked as ended yet.
+        self.own.leave(false);
+        if scans {
+            scan(board, &mut self.token, place, self.own.found);
         }
         steps::close(board, &mut self.token, place);
     }

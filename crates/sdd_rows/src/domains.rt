@@ -35,6 +35,17 @@ fn registered<'d>(rt: &impl Abort, domain: &'d Domain) -> Local<'d>
     Local::register(domain).expect(rt, "a place is free")
 }
 
+/// Where memory is wanting the place stays free, so that a second try takes it.
+fn registered_at_last<'d>(rt: &impl Abort, domain: &'d Domain) -> Local<'d> {
+    match Local::register(domain) {
+        Ok(local) => local,
+        Err(refused) => {
+            assert_eq!(rt; refused, Refused::NoMemory);
+            registered(rt, domain)
+        }
+    }
+}
+
 fn opened(rt: &impl Abort, local: &mut Local<'_>) -> Guard
     requires { IsSeated (seat_of local.old) }
     ensures seat { seat_of local.new ≡ seat_of local.old }
@@ -225,13 +236,7 @@ fn a_guard_shows_the_next_epoch_where_another_participant_raised_the_count(rt: H
 fn only_want_of_memory_refuses(rt: HostRuntime) {
     match Domain::new(rt.alloc(), ONE) {
         Ok(domain) => {
-            let local = match Local::register(&domain) {
-                Ok(local) => local,
-                Err(refused) => {
-                    assert_eq!(rt; refused, Refused::NoMemory);
-                    registered(&rt, &domain)
-                }
-            };
+            let local = registered_at_last(&rt, &domain);
             assert_eq!(rt; refusal(&rt, &domain), Refused::NoPlace);
             ended(&rt, local);
             closed(&rt, domain, Vec::new(rt.alloc()));
