@@ -3,7 +3,7 @@ ghost use Rattle.std.specs.Prelude.{◌≡◌, ◌≤◌, ◌^◌, IfOk};
 ghost use Rattle.sdd_rule.specs.Words.{all_words};
 
 use crate::words::word_count;
-use atomic_table::{Seat, Shared, Table, TableRule};
+use atomic_table::{Seat, Table, TableRule};
 use sdd_rule::{Sizes, View};
 use std::alloc::{AllocError, Global};
 

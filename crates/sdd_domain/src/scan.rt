@@ -1,5 +1,5 @@
 //! A scan of all places.
-ghost use Rattle.std.specs.Prelude.{◌≡◌, ℕ, ◌+◌, ◌^◌, ◌<◌, true, false};
+ghost use Rattle.std.specs.Prelude.{◌≡◌, ℕ, ◌<◌, true, false};
 ghost use Rattle.sdd_rule.specs.Epoch.{IsOpen, Scans};
 ghost use Rattle.sdd_rule.specs.Steps.{IsNext, passed_by};
 ghost use Rattle.sdd_domain.specs.Board.{id_of, places_of};

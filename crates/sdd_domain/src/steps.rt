@@ -1,5 +1,5 @@
 //! The atomic steps of the epoch, one function each. Nothing else changes a word of a domain.
-ghost use Rattle.std.specs.Prelude.{◌≡◌, ◌≢◌, ℕ, ◌+◌, ◌^◌, ◌<◌, []};
+ghost use Rattle.std.specs.Prelude.{◌≡◌, ◌+◌, ◌^◌, ◌<◌, []};
 ghost use Rattle.sdd_rule.specs.Words as words;
 ghost use Rattle.sdd_rule.specs.Epoch.{IsClosed, IsOpen, Scans};
 ghost use Rattle.sdd_rule.specs.Steps.{nobody, IsNext, Registers, Reads, Counts, Publishes, Closes, Ends, Locks, LooksAtState, LooksAtCount, Advances, Unlocks};
