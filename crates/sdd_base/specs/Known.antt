@@ -25,9 +25,10 @@ pub record KnowsOpened (old : Known) (p q : Participant) (new : Known) : Type 0 
   pub inner : IsTrue (is_open p) → KnowsOn old new
   pub outermost : ¬ (IsTrue (is_open p)) → KnowsFound old q.found new
 
--- a close, after which the participant is this one
+-- a close, after which the participant is this one; it is told of no count past the one next to since
 pub record KnowsClosed (old new : Known) (q : Participant) : Type 0 where
   pub told : old.told ≤ new.told
+  pub near : old.told ≤ old.since + 1 → new.told ≤ old.since + 1
   pub inner : IsTrue (is_open q) → new.since ≡ old.since
 
 -- the count that it was told last is the one at the publish of its open guard, or the next

@@ -26,6 +26,7 @@ impl Guard {
     /// Opens a guard. An outermost one publishes the count of epochs that it finds; if that is another than the participant found before, what waits with it has seen one change more, and what has seen three is reclaimed.
     ///
     /// `TooManyGuards` where as many are open as may nest.
+    #[inline]
     pub fn new<T: Item<T>, S: Guards<T>>(s: &mut S) -> Result<Guard, Refused>
         requires seated { IsSeated (S.seat s.old) }
         ensures seat { S.seat s.new ≡ S.seat s.old }
@@ -53,6 +54,7 @@ impl Guard {
     }
 
     /// Closes the guard. The outermost close at countdown 0, as `accelerate` sets it, first tries to raise the count.
+    #[inline]
     pub fn close<T: Item<T>, S: Guards<T>>(self, s: &mut S)
         requires seated { IsSeated (S.seat s.old) }
         requires place { place_of self ≡ (S.seat s.old).place }
@@ -68,6 +70,7 @@ impl Guard {
     }
 
     /// The global epoch at this moment, which isn't always the one that the guard published. Under one open guard it is the one answered before, or the next.
+    #[inline]
     pub fn epoch<T: Item<T>, S: Guards<T>>(&self, s: &mut S) -> Epoch
         requires seated { IsSeated (S.seat s.old) }
         ensures seat { S.seat s.new ≡ S.seat s.old }
@@ -83,6 +86,7 @@ impl Guard {
     }
 
     /// Something may wait with the participant.
+    #[inline]
     pub fn has_garbage<T: Item<T>, S: Guards<T>>(&self, s: &S) -> bool
         requires seated { IsSeated (S.seat s.now) }
         ensures own { result ≡ has_garbage (S.own s.now) }
@@ -92,6 +96,7 @@ impl Guard {
     }
 
     /// Has the participant count down to a scan, as a retirement does.
+    #[inline]
     pub fn set_has_garbage<T: Item<T>, S: Guards<T>>(&self, s: &mut S)
         requires seated { IsSeated (S.seat s.old) }
         ensures seat { S.seat s.new ≡ S.seat s.old }
@@ -105,6 +110,7 @@ impl Guard {
     }
 
     /// Has the next outermost close of the participant scan.
+    #[inline]
     pub fn accelerate<T: Item<T>, S: Guards<T>>(&self, s: &mut S)
         requires seated { IsSeated (S.seat s.old) }
         ensures seat { S.seat s.new ≡ S.seat s.old }

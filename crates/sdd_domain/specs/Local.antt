@@ -7,10 +7,9 @@ use Rattle.sdd_store.specs.Time.{newcomer, nested}
 use Rattle.sdd_base.specs.Own.{opened_at, closed_with}
 use Rattle.sdd_store.specs.declared.tally.Tally.{Tally}
 use Rattle.sdd_store.specs.Tally.{no_items}
-use Rattle.sdd_rule.specs.declared.EpochView.{EpochView}
-use Rattle.sdd_rule.specs.Epoch.{IsClosed, IsOpen, Scans, IsLone}
 
--- the domain, its limits, the place, what the participant keeps of its own, the greatest count that it knows, the global count at its last publish, and what it made and reclaimed
+-- the domain, its limits, the place, what the participant keeps of its own, the greatest count that it knows,
+-- the global count at its last publish (0 before the first), and what it made and reclaimed
 pub record Member : Type 0 where
   pub home : TableId
   pub limits : Limits
@@ -20,9 +19,9 @@ pub record Member : Type 0 where
   pub since : ℕ
   pub tally : Tally
 
--- there is no other participant
-abbrev pub IsOnly : Member → Type 0
-IsOnly m = m.limits.participants ≡ 1
+-- no other participant may be
+abbrev pub IsLone : Member → Type 0
+IsLone m = m.limits.participants ≡ 1
 
 -- a guard is open
 abbrev pub IsGuarded : Member → Type 0
@@ -32,51 +31,43 @@ IsGuarded m = 0 < m.own.guards
 abbrev pub CanNest : Member → Type 0
 CanNest m = m.own.guards < m.limits.nesting
 
--- it has just registered with this domain; where there may be no other, the count is 0 then
+-- it has just registered with this domain; where it is lone, the count is 0 then
 pub record IsNew (domain : TableId) (most : Limits) (m : Member) : Type 0 where
   pub home : m.home ≡ domain
   pub limits : m.limits ≡ most
   pub place : m.place < most.participants
   pub own : m.own ≡ newcomer most.slots
-  pub only : IsOnly m → m.known ≡ 0
+  pub since : m.since ≡ 0
+  pub lone : IsLone m → m.known ≡ 0
   pub tally : m.tally ≡ no_items
 
--- an outermost opening finds a count, which is at least the greatest that was known; where the participant is the only one it is that one
+-- an outermost opening finds a count, which is at least the greatest that was known; where the participant is lone it is that one
 pub record IsOpened (count : ℕ) (old new : Member) : Type 0 where
   pub member : new ≡ record old { own = opened_at count [] old.own; known = new.since; since = new.since }
   pub knew : old.known ≤ count
   pub knows : count ≤ new.since
-  pub only : IsOnly old → (count ≡ old.known) × (new.since ≡ old.known)
+  pub lone : IsLone old → (count ≡ old.known) × (new.since ≡ old.known)
 
 -- one guard more is open; only an outermost opening looks at the count
 pub record Opens (old new : Member) : Type 0 where
   pub nested : IsGuarded old → new ≡ record old { own = nested old.own }
   pub outermost : ¬ (IsGuarded old) → (count : ℕ) × IsOpened count old new
 
--- a guard is closed; without an open one nothing happens. The last close at countdown 0 scans, which may raise the count; where the participant is the only one the scan does, but at the last count
+-- a guard is closed; without an open one nothing happens. The last close at countdown 0 scans, which may raise the count, to one more
+-- than it was at the publish at most; where the participant is lone the scan does, but at the last count
 pub record Closes (old new : Member) : Type 0 where
   pub member : new ≡ record old { own = closed_with false old.own; known = new.known }
   pub knows : old.known ≤ new.known
+  pub near : IsGuarded old → new.known ≤ old.since + 1
   pub quiet : (old.own.guards ≢ 1) ⊎ (old.own.countdown ≢ 0) → new.known ≡ old.known
-  pub raised : IsOnly old → old.own.guards ≡ 1 → old.own.countdown ≡ 0 → old.known + 1 < 2 ^ 64 → new.known ≡ old.known + 1
-  pub last : IsOnly old → old.own.guards ≡ 1 → old.own.countdown ≡ 0 → old.known + 1 ≡ 2 ^ 64 → new.known ≡ old.known
+  pub raised : IsLone old → old.own.guards ≡ 1 → old.own.countdown ≡ 0 → old.known + 1 < 2 ^ 64 → new.known ≡ old.known + 1
+  pub last : IsLone old → old.own.guards ≡ 1 → old.own.countdown ≡ 0 → old.known + 1 ≡ 2 ^ 64 → new.known ≡ old.known
 
--- a count that is told is at least the greatest that was known, and known from then on; under a guard it is the one at the guard's publish or the next, and the greatest that was known or the next
+-- a count that is told is at least the greatest that was known, and known from then on;
+-- under a guard it is the one at the guard's publish or the next, and the greatest that was known or the next
 pub record IsTold (count : ℕ) (old new : Member) : Type 0 where
   pub member : new ≡ record old { known = count }
   pub knew : old.known ≤ count
   pub guarded : IsGuarded old → (old.since ≤ count) × (count ≤ old.since + 1)
   pub near : IsGuarded old → (count ≡ old.known) ⊎ (count ≡ old.known + 1)
-  pub only : IsOnly old → count ≡ old.known
-
--- what holds between two calls, of what the token knows
-pub record IsPosed (n p : ℕ) (own : Participant) (v : EpochView) : Type 0 where
-  pub all : v.all ≡ n
-  pub place : v.place ≡ p
-  pub inside : p < n
-  pub closed : own.guards ≡ 0 → IsClosed v
-  pub opened : 0 < own.guards → IsOpen v × (v.count ≡ own.found)
-  pub lone : 0 < own.guards → IsLone v → v.known ≡ v.count
-  pub low : 0 < own.guards → v.since ≤ v.known
-  pub free : ¬ (Scans v)
-  pub bare : own.bags.waiting ≡ []
+  pub lone : IsLone old → count ≡ old.known

@@ -1,12 +1,18 @@
 -- What an ended participant made and reclaimed
-use Rattle.std.specs.Prelude.{ℕ, ◌-◌, ◌^◌, min, List, map, sum}
+use Rattle.std.specs.Prelude.{◌≡◌, ℕ, ◌-◌, ◌^◌, min, List, [], ◌∷◌, map, sum}
 use Rattle.atomic_table.specs.Seated.{TableId}
+use Rattle.sdd_rule.specs.declared.View.{View}
+use Rattle.sdd_rule.specs.Epoch.{HasEnded}
 use Rattle.sdd_store.specs.declared.tally.Tally.{Tally}
 
 -- of which domain it is, and the tally
 pub record Receipt : Type 0 where
   pub home : TableId
   pub tally : Tally
+
+-- what its token knows: it had a place, which has ended
+abbrev pub HasLeft : List View → Type 0
+HasLeft views = (v : View) × (views ≡ v ∷ []) × HasEnded v.epoch
 
 -- a number no longer grows at 2^128 - 1
 abbrev pub capped : ℕ → ℕ

@@ -12,11 +12,26 @@ abbrev pub nowhere : Home
 nowhere = record { slots = record { name = 0; size = 0 }; cells = record { name = 0; size = 0 } }
 
 abbrev pub seat_of : Member → Seat
-seat_of m = record { place = m.place; places = m.limits.participants; loan = 0; home = nowhere; nesting = m.limits.nesting; exact = false; lone = m.limits.participants == 1 }
+seat_of m = record {
+  place = m.place;
+  places = m.limits.participants;
+  loan = 0;
+  home = nowhere;
+  nesting = m.limits.nesting;
+  exact = false;
+  lone = m.limits.participants == 1;
+}
 
 abbrev pub known_of : Member → Known
 known_of m = record { told = m.known; since = m.since }
 
--- nothing is said of the world of a participant that isn't alone
+-- nothing is said of the world of a participant that isn't lone
 abbrev pub no_world : {T : Type 0} → World T
-no_world = record { home = nowhere; time = record { count = 0; marked = false; places = []; participants = 0; nesting = 0; room = 0 }; standings = []; values = []; cells = []; tally = no_items }
+no_world = record {
+  home = nowhere;
+  time = record { count = 0; marked = false; places = []; participants = 0; nesting = 0; room = 0 };
+  standings = [];
+  values = [];
+  cells = [];
+  tally = no_items;
+}

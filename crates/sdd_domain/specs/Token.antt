@@ -21,7 +21,8 @@ module _ {S : Type 0} where
 
   -- the token is as it was, but for what it knows of the epoch
   abbrev pub IsSameBut : Seat S View → Seat S View → Type 0
-  IsSameBut s s' = (s'.table_id ≡ s.table_id) × (s'.id ≡ s.id) × (s'.me.1 ≡ s.me.1) × (s'.me.0.places ≡ s.me.0.places) × (s'.me.0.slots ≡ s.me.0.slots) × (s'.me.0.cells ≡ s.me.0.cells)
+  IsSameBut s s' = (s'.table_id ≡ s.table_id) × (s'.id ≡ s.id) × (s'.me.1 ≡ s.me.1)
+      × (s'.me.0.places ≡ s.me.0.places) × (s'.me.0.slots ≡ s.me.0.slots) × (s'.me.0.cells ≡ s.me.0.cells)
 
   abbrev pub Stepped : (EpochView → ℕ → EpochView → Type 0) → Seat S View → ℕ → Seat S View → Type 0
   Stepped R s r s' = IsSameBut s s' × R (epoch s) r (epoch s')

@@ -1,11 +1,10 @@
-ghost use Rattle.std.specs.Prelude.{◌≡◌, ◌+◌, ◌≤◌, ◌⊎◌, ◌^◌, Ok, IfOk, IfErr, MatchResult};
-ghost use Rattle.sdd_rule.specs.Words.{all_words};
+ghost use Rattle.std.specs.Prelude.{◌≡◌, ◌+◌, ◌⊎◌, Ok, IfOk, MatchResult};
 ghost use Rattle.sdd_base.specs.Limits.{AreInRange};
+ghost use Rattle.sdd_domain.specs.Board.{places_of};
 ghost use Rattle.sdd_domain.specs.Receipt.{capped, sum_of};
 
 use crate::board::Board;
 use crate::receipt::Receipt;
-use atomic_table::Table;
 use sdd_base::Limits;
 use sdd_core::Refused;
 use sdd_rule::Sizes;
@@ -17,27 +16,15 @@ use std::alloc::Global;
 /// Each has a [`Local`](crate::Local) of its own. A domain must be spent by `close`.
 pub struct Domain {
     pub(crate) board: Board,
-    pub(crate) participants: usize,
     pub(crate) limits: Limits,
     pub(crate) alloc: Global,
-    ghost sized: { (board.shared.key.participants ≡ participants) × (participants ≤ 1024) × (board.shared.table_id.words ≡ all_words board.shared.key) },
-    ghost limited: { AreInRange limits × (participants ≡ limits.participants) },
-}
-
-/// Words for a domain of these sizes.
-fn lay(alloc: Global, sizes: &Sizes) -> Result<Board, Refused>
-    requires { (sizes.now.participants ≤ 1024) × (sizes.now.slots ≤ 2 ^ 24) × (sizes.now.jobs ≤ 65536) × (sizes.now.cells ≤ 2 ^ 24) }
-    ensures sizes { IfOk result (λ board. (board.shared.key ≡ sizes.now) × (board.shared.table_id.words ≡ all_words sizes.now)) }
-    ensures refused { IfErr result (λ e. e ≡ Refused.NoMemory) }
-{
-    let count = 2 * sizes.participants + 3 + sizes.slots + sizes.jobs + sizes.cells;
-    let words = vec![in alloc; 0u64; count as usize]?;
-    let (board, _) = Table::of_words(alloc, words.as_slice(), sizes)?;
-    Ok(board)
+    ghost limited: { AreInRange limits × (places_of board ≡ limits.participants) },
 }
 
 fn add(sum: Tally, tally: Tally) -> Tally
-    ensures { result ≡ record { made = capped (sum.made + tally.made); reclaimed = capped (sum.reclaimed + tally.reclaimed); in_place = capped (sum.in_place + tally.in_place) } }
+    ensures made { result.made ≡ capped (sum.made + tally.made) }
+    ensures reclaimed { result.reclaimed ≡ capped (sum.reclaimed + tally.reclaimed) }
+    ensures in_place { result.in_place ≡ capped (sum.in_place + tally.in_place) }
 {
     Tally {
         made: sum.made.saturating_add(tally.made),
@@ -66,10 +53,9 @@ impl Domain {
             jobs: limits.jobs,
             cells: limits.cells,
         };
-        let board = lay(alloc, &sizes)?;
+        let board = Board::new(alloc, &sizes)?;
         Ok(Domain {
             board,
-            participants: limits.participants as usize,
             limits,
             alloc,
         })
@@ -84,7 +70,6 @@ impl Domain {
     {
         let Domain {
             board: _,
-            participants: _,
             limits: _,
             alloc: _,
         } = self;

@@ -4,14 +4,12 @@
 mod board;
 pub mod domain;
 pub mod local;
-mod own;
 mod plays;
 pub mod receipt;
 mod scan;
 mod space;
 mod steps;
-#[cfg(test)]
-mod tests;
+mod words;
 
 pub use domain::Domain;
 pub use local::Local;

@@ -1,15 +1,16 @@
 ghost use Rattle.std.specs.Prelude.{◌≡◌, ◌⊎◌, ◌<◌, ℕ, IfSome, IfOk, IfErr, MatchResult};
 ghost use Rattle.sdd_store.specs.Time.{accelerated, has_garbage, with_garbage};
-ghost use Rattle.sdd_rule.specs.Steps.{nobody, registered};
-ghost use Rattle.sdd_domain.specs.Token.{epoch};
+ghost use Rattle.sdd_rule.specs.Steps.{nobody, Takes};
+ghost use Rattle.sdd_domain.specs.Board.{id_of, places_of};
+ghost use Rattle.sdd_domain.specs.Token.{epoch, IsSameBut};
 ghost use Rattle.sdd_domain.specs.Domain.{home_of, limits_of};
 ghost use Rattle.sdd_domain.specs.Local.{CanNest, IsGuarded, IsNew, IsOpened, Opens, Closes, IsTold};
 
-use crate::board::Token;
+use crate::board::{Board, Token};
 use crate::domain::Domain;
 use crate::receipt::Receipt;
 use crate::scan::scan;
-use crate::{own, steps};
+use crate::steps;
 use sdd_core::Refused;
 use sdd_store::{Bags, Participant, Phase, Tally};
 use std::marker::Model;
@@ -21,30 +22,41 @@ pub struct Local<'d> {
     domain: &'d Domain,
     token: Token,
     place: usize,
+    /// How many of its guards may be open at once, as the domain's limits say.
+    nesting: u32,
     own: Participant,
     tally: Tally,
 }
 
 impl<'d> Model for Local<'d> {
     ghost use Rattle.std.specs.Prelude.{◌≡◌};
-    ghost use Rattle.sdd_domain.specs.Local.{Member, IsPosed};
+    ghost use Rattle.sdd_domain.specs.Local.{Member};
+    ghost use Rattle.sdd_domain.specs.Posed.{IsPosed};
 
     ghost Value = { Member };
 
-    ghost view = { λ l. record { home = l.token.table_id; limits = l.domain.now.limits; place = l.place; own = l.own; known = l.token.me.0.epoch.known; since = l.token.me.0.epoch.since; tally = l.tally } };
+    ghost view = { λ l. record {
+      home = l.token.table_id;
+      limits = l.domain.now.limits;
+      place = l.place;
+      own = l.own;
+      known = l.token.me.0.epoch.known;
+      since = l.token.me.0.epoch.since;
+      tally = l.tally;
+    } };
 
-    ghost invariant = { λ l. (l.token.table_id ≡ l.domain.now.board.shared.table_id) × IsPosed l.domain.now.participants l.place l.own l.token.me.0.epoch };
+    ghost invariant = { λ l. IsPosed l.domain.now.board l.place l.own l.token × (l.nesting ≡ l.domain.now.limits.nesting) };
 }
 
 /// Takes a free place.
-fn take_place(domain: &Domain, token: &mut Token) -> Option<usize>
-    requires home { token.old.table_id ≡ domain.now.board.shared.table_id }
-    requires idle { epoch token.old ≡ nobody domain.now.participants }
-    ensures home { token.new.table_id ≡ token.old.table_id }
-    ensures taken { IfSome result (λ place. (place < domain.now.participants) × ((count : ℕ) × (global : ℕ) × (epoch token.new ≡ registered domain.now.participants place count global) × (domain.now.participants ≡ 1 → global ≡ 0))) }
+fn take_place(board: &Board, token: &mut Token) -> Option<usize>
+    requires home { token.old.table_id ≡ id_of board.now }
+    requires idle { epoch token.old ≡ nobody (places_of board.now) }
+    ensures same { IsSameBut token.old token.new }
+    ensures taken { IfSome result (λ place. (place < places_of board.now) × Takes (nobody (places_of board.now)) place (epoch token.new)) }
 {
-    for place in 0..domain.participants {
-        if steps::register(domain, token, place) == steps::FREE {
+    for place in 0..board.places() {
+        if steps::register(board, token, place) == steps::FREE {
             return Some(place);
         }
     }
@@ -52,10 +64,10 @@ fn take_place(domain: &Domain, token: &mut Token) -> Option<usize>
 }
 
 /// What a registering without memory is refused with: where no place is free either, that goes before.
-fn want_of_memory(domain: &Domain) -> Refused
+fn want_of_memory(board: &Board) -> Refused
     ensures { (result ≡ Refused.NoPlace) ⊎ (result ≡ Refused.NoMemory) }
 {
-    if (0..domain.participants).any(|place| steps::is_free(domain, place)) {
+    if (0..board.places()).any(|place| steps::is_free(board, place)) {
         Refused::NoMemory
     } else {
         Refused::NoPlace
@@ -71,16 +83,18 @@ impl<'d> Local<'d> {
         ensures refused { IfErr result (λ e. (e ≡ Refused.NoPlace) ⊎ (e ≡ Refused.NoMemory)) }
     {
         let Ok(bags) = Bags::with_room(domain.alloc, domain.limits.slots as usize) else {
-            return Err(want_of_memory(domain));
+            return Err(want_of_memory(&domain.board));
         };
-        let mut token = steps::sit(domain);
-        let Some(place) = take_place(domain, &mut token) else {
+        let mut token = steps::sit(&domain.board);
+        let Some(place) = take_place(&domain.board, &mut token) else {
             return Err(Refused::NoPlace);
         };
+        steps::write(&domain.board, &mut token, place, 0);
         Ok(Local {
             domain,
             token,
             place,
+            nesting: domain.limits.nesting as u32,
             own: Participant {
                 phase: Phase::Live,
                 found: 0,
@@ -107,10 +121,11 @@ impl<'d> Local<'d> {
             domain,
             mut token,
             place,
+            nesting: _,
             own: _,
             tally,
         } = self;
-        steps::end(domain, &mut token, place);
+        steps::end(&domain.board, &mut token, place);
         Ok(Receipt::new(token, tally))
     }
 
@@ -124,65 +139,80 @@ impl<'d> Local<'d> {
     /// Opens one more guard; an outermost one looks at the count.
     ///
     /// `TooManyGuards` where as many are open as may nest.
+    #[inline]
     pub(crate) fn open_guard(&mut self) -> Result<usize, Refused>
         ensures { MatchResult result
             (λ place. (place ≡ self.old.place) × CanNest self.old × Opens self.old self.new)
             (λ e. (e ≡ Refused.TooManyGuards) × ¬ (CanNest self.old) × (self.new ≡ self.old)) }
     {
-        if u64::from(self.own.guards) >= self.domain.limits.nesting {
-            return Err(Refused::TooManyGuards);
-        }
         if self.own.guards == 0 {
             self.enter();
-        } else {
+        } else if self.own.guards < self.nesting {
             self.own.guards += 1;
+        } else {
+            return Err(Refused::TooManyGuards);
         }
         Ok(self.place)
     }
 
-    /// The outermost opening: reads the count, and then publishes it.
+    /// The outermost opening: reads the count, writes it where it isn't there already, and then publishes it.
+    #[inline]
     fn enter(&mut self)
         requires { ¬ (IsGuarded self.old) }
         ensures { (count : ℕ) × IsOpened count self.old self.new }
     {
-        let count = self.count();
-        steps::write(self.domain, &mut self.token, self.place, count);
-        steps::publish(self.domain, &mut self.token, self.place);
-        own::open(&mut self.own, count);
+        let board = &self.domain.board;
+        let place = self.place;
+        let count = steps::read(board, &mut self.token);
+        if count != self.own.found {
+            steps::write(board, &mut self.token, place, count);
+            // Nothing waits, so that the change leaves nothing to reclaim.
+            self.own.found = count;
+            self.own.countdown = 128;
+        }
+        steps::publish(board, &mut self.token, place);
+        self.own.guards = 1;
     }
 
     /// Closes a guard; the last one publishes the end, after a scan at countdown 0.
+    #[inline]
     pub(crate) fn close_guard(&mut self)
         ensures { Closes self.old self.new }
     {
-        match self.own.guards {
-            0 => {}
-            1 => self.leave(),
-            _ => self.own.guards -= 1,
+        if self.own.guards > 1 {
+            self.own.guards -= 1;
+        } else if self.own.guards == 1 {
+            self.leave();
         }
     }
 
     /// The last close.
+    #[inline]
     fn leave(&mut self)
         requires { self.old.own.guards ≡ 1 }
         ensures { Closes self.old self.new }
     {
-        if self.own.countdown == 0 {
-            scan(self.domain, &mut self.token, self.place, self.own.found);
-        }
+        let board = &self.domain.board;
+        let place = self.place;
+        let scans = self.own.countdown == 0;
         // No place is marked as ended yet.
         self.own.leave(false);
-        steps::close(self.domain, &mut self.token, self.place);
+        if scans {
+            scan(board, &mut self.token, place, self.own.found);
+        }
+        steps::close(board, &mut self.token, place);
     }
 
     /// The count of epochs at this moment.
+    #[inline]
     pub(crate) fn count(&mut self) -> u64
         ensures { IsTold result self.old self.new }
     {
-        steps::read(self.domain, &mut self.token)
+        steps::read(&self.domain.board, &mut self.token)
     }
 
     /// Something may wait with the participant.
+    #[inline]
     pub(crate) fn has_garbage(&self) -> bool
         ensures { result ≡ has_garbage self.now.own }
     {
@@ -190,6 +220,7 @@ impl<'d> Local<'d> {
     }
 
     /// Has the participant count down to a scan, as a retirement does.
+    #[inline]
     pub(crate) fn stir(&mut self)
         ensures { self.new ≡ record self.old { own = with_garbage self.old.own } }
     {
@@ -197,6 +228,7 @@ impl<'d> Local<'d> {
     }
 
     /// Has the last close of the participant scan.
+    #[inline]
     pub(crate) fn accelerate(&mut self)
         ensures { self.new ≡ record self.old { own = accelerated self.old.own } }
     {

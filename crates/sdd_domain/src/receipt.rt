@@ -1,30 +1,40 @@
-ghost use Rattle.std.specs.Prelude.{◌≡◌};
-ghost use Rattle.sdd_domain.specs.Receipt.{Receipt};
+ghost use Rattle.std.specs.Prelude.{◌≡◌, []};
+ghost use Rattle.sdd_rule.specs.Epoch.{HasEnded};
+ghost use Rattle.sdd_domain.specs.Token.{epoch};
 
 use crate::board::Token;
+use atomic_table::Badge;
+use sdd_rule::View;
 use sdd_store::Tally;
 use std::marker::Model;
 
 /// What a participant that has ended made and reclaimed, for the close of its domain.
 #[derive(Drop)]
 pub struct Receipt {
-    token: Token,
+    token: Badge<View>,
     tally: Tally,
 }
 
 impl Model for Receipt {
-    ghost use Rattle.sdd_domain.specs.Receipt.{Receipt};
+    ghost use Rattle.sdd_domain.specs.Receipt.{Receipt, HasLeft};
 
     ghost Value = { Receipt };
 
     ghost view = { λ r. record { home = r.token.table_id; tally = r.tally } };
+
+    ghost invariant = { λ r. HasLeft r.token.views };
 }
 
 impl Receipt {
     pub(crate) fn new(token: Token, tally: Tally) -> Receipt
+        requires bare { token.me.1 ≡ [] }
+        requires ended { HasEnded (epoch token) }
         ensures { result ≡ record { home = token.table_id; tally = tally } }
     {
-        Receipt { token, tally }
+        Receipt {
+            token: token.into_badge(),
+            tally,
+        }
     }
 
     /// How many items its participant made, reclaimed and dropped in place.

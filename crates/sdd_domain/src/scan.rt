@@ -1,66 +1,79 @@
 //! A scan of all places.
-ghost use Rattle.std.specs.Prelude.{◌≡◌, ℕ, ◌+◌, ◌^◌, ◌<◌, true, false};
+ghost use Rattle.std.specs.Prelude.{◌≡◌, ℕ, ◌<◌, true, false};
 ghost use Rattle.sdd_rule.specs.Epoch.{IsOpen, Scans};
 ghost use Rattle.sdd_rule.specs.Steps.{IsNext, passed_by};
+ghost use Rattle.sdd_domain.specs.Board.{id_of, places_of};
 ghost use Rattle.sdd_domain.specs.Token.{epoch, IsSameBut};
-ghost use Rattle.sdd_domain.specs.Scan.{looked_to, Scanned};
+ghost use Rattle.sdd_domain.specs.Scan.{looked_to, Raises, Scanned};
 
-use crate::board::Token;
-use crate::domain::Domain;
+use crate::board::{Board, Token};
 use crate::steps;
 
 /// The next place has no guard open, or has published this count.
-fn passes(domain: &Domain, token: &mut Token, place: usize, count: u64) -> bool
-    requires home { token.old.table_id ≡ domain.now.board.shared.table_id }
-    requires next { (place < domain.now.participants) × IsNext (epoch token.old) place }
+fn passes(board: &Board, token: &mut Token, place: usize, count: u64) -> bool
+    requires home { token.old.table_id ≡ id_of board.now }
+    requires next { (place < places_of board.now) × IsNext (epoch token.old) place }
     requires count { count ≡ (epoch token.old).count }
     ensures same { IsSameBut token.old token.new }
     ensures passed { result ≡ true → epoch token.new ≡ passed_by (epoch token.old) place }
     ensures failed { result ≡ false → epoch token.new ≡ epoch token.old }
 {
-    if steps::look_at_state(domain, token, place) != steps::OPEN {
+    if steps::look_at_state(board, token, place) != steps::OPEN {
         return true;
     }
-    steps::look_at_count(domain, token, place) == count
+    steps::look_at_count(board, token, place) == count
 }
 
 /// Every place but the own one passes.
-fn all_pass(domain: &Domain, token: &mut Token, place: usize, count: u64) -> bool
-    requires home { token.old.table_id ≡ domain.now.board.shared.table_id }
-    requires own { (place ≡ (epoch token.old).place) × (place < domain.now.participants) }
+fn all_pass(board: &Board, token: &mut Token, place: usize, count: u64) -> bool
+    requires home { token.old.table_id ≡ id_of board.now }
+    requires own { (place ≡ (epoch token.old).place) × (place < places_of board.now) }
     requires scans { Scans (epoch token.old) × ((epoch token.old).looked ≡ 0) }
     requires count { count ≡ (epoch token.old).count }
     ensures same { IsSameBut token.old token.new }
-    ensures lone { domain.now.participants ≡ 1 → result ≡ true }
+    ensures lone { places_of board.now ≡ 1 → result ≡ true }
     ensures looked { (k : ℕ) × (epoch token.new ≡ looked_to (epoch token.old) k) }
-    ensures passed { result ≡ true → IsNext (epoch token.new) domain.now.participants }
+    ensures passed { result ≡ true → IsNext (epoch token.new) (places_of board.now) }
 {
-    for other in 0..domain.participants {
-        if other != place && !passes(domain, token, other, count) {
+    for other in 0..board.places() {
+        if other != place && !passes(board, token, other, count) {
             return false;
         }
     }
     true
 }
 
-/// Raises the count by one, if it is the own one, nobody else scans, and every other place passes.
-pub fn scan(domain: &Domain, token: &mut Token, place: usize, count: u64)
-    requires home { token.old.table_id ≡ domain.now.board.shared.table_id }
-    requires own { (place ≡ (epoch token.old).place) × (place < domain.now.participants) }
-    requires sized { (epoch token.old).all ≡ domain.now.participants }
+/// Raises the count by one, if it is the own one still. The last count stays.
+fn raise(board: &Board, token: &mut Token, count: u64)
+    requires home { token.old.table_id ≡ id_of board.now }
+    requires count { count ≡ (epoch token.old).count }
+    requires passed { IsNext (epoch token.old) (places_of board.now) }
+    ensures same { IsSameBut token.old token.new }
+    ensures raised { Raises (epoch token.old) (epoch token.new) }
+{
+    if count < u64::MAX {
+        steps::advance(board, token, count);
+    }
+}
+
+/// Raises the count by one, if it is the own one, nobody else scans, and every other place passes. The last count stays.
+pub fn scan(board: &Board, token: &mut Token, place: usize, count: u64)
+    requires home { token.old.table_id ≡ id_of board.now }
+    requires own { (place ≡ (epoch token.old).place) × (place < places_of board.now) }
+    requires sized { (epoch token.old).all ≡ places_of board.now }
     requires open { IsOpen (epoch token.old) × ¬ (Scans (epoch token.old)) }
     requires count { count ≡ (epoch token.old).count }
     ensures same { IsSameBut token.old token.new }
     ensures scanned { Scanned (epoch token.old) (epoch token.new) }
 {
-    if count == u64::MAX || steps::read(domain, token) != count {
+    if steps::read(board, token) != count {
         return;
     }
-    if steps::lock(domain, token) != 0 {
+    if steps::lock(board, token) != 0 {
         return;
     }
-    if all_pass(domain, token, place, count) {
-        steps::advance(domain, token, count);
+    if all_pass(board, token, place, count) {
+        raise(board, token, count);
     }
-    steps::unlock(domain, token);
+    steps::unlock(board, token);
 }

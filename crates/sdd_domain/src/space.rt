@@ -24,26 +24,32 @@ impl<T: Item<T>> Guards<T> for Local<'_> {
 
     ghost world = { λ _. no_world };
 
+    #[inline]
     fn open_guard(&mut self) -> Result<usize, Refused> {
         Local::open_guard(self)
     }
 
+    #[inline]
     fn close_guard(&mut self) {
         Local::close_guard(self);
     }
 
+    #[inline]
     fn count(&mut self) -> u64 {
         Local::count(self)
     }
 
+    #[inline]
     fn has_garbage(&self) -> bool {
         Local::has_garbage(self)
     }
 
+    #[inline]
     fn stir(&mut self) {
         Local::stir(self);
     }
 
+    #[inline]
     fn accelerate(&mut self) {
         Local::accelerate(self);
     }

@@ -1,6 +1,8 @@
-//! Worked examples of a world, as tests: which epoch each guard shows, and at which of them an item is reclaimed.
+//! Worked examples as tests: which epoch each guard of a world or a domain shows, and at which of them an item is reclaimed.
 #![tactic(auto)]
 
+#[cfg(test)]
+mod domains;
 #[cfg(test)]
 mod greatest_sizes;
 #[cfg(test)]

@@ -1,5 +1,5 @@
 -- Each step of the epoch's part keeps it.
-use Rattle.std.proofs.Common.{◌≡◌, ◌≢◌, ◌⊎◌, ℕ, zero, suc, ◌+◌, ◌*◌, ◌<◌, ◌≤◌, eqb, List, [], ◌∷◌, ◌++◌, length, get_or, set, sym, refl, ap, ◌∙◌, subst, ⊎_elim, inl, inr, arith, length-set, get_or-set_other, get_or-set_same}
+use Rattle.std.proofs.Common.{◌≡◌, ◌≢◌, ◌⊎◌, ℕ, zero, suc, ◌+◌, ◌<◌, ◌≤◌, eqb, List, [], ◌∷◌, ◌++◌, length, get_or, set, sym, refl, ap, ◌∙◌, subst, ⊎_elim, inl, inr, arith, length-set, get_or-set_other, get_or-set_same}
 use mathlib.Core.Option.{some, some-ne-none, some-injective}
 use mathlib.Core.Logic.{dite}
 use native.Mathlib.Decide.{ℕ_discrete}
@@ -8,6 +8,7 @@ use lib.Seq.{set-get_or}
 use prog.Atomic.{either}
 use Rattle.atomic_table.proofs.Lists.{set_here, set_else, exchanged, at_longer}
 use Rattle.sdd_rule.specs.declared.EpochView.{EpochView}
+use Rattle.sdd_rule.specs.Words.{global_word, lock_word, state_word, count_word}
 use Rattle.sdd_rule.specs.Epoch.{HasPlace, IsClosed, IsOpen, Scans, IsLone, Fits, Apart, EpochPart}
 use Rattle.sdd_rule.specs.Steps.{Rises, Keeps, nobody, registered, knowing, counted, published, closed, ended, scanning, passed_by, unlocked, IsNext, Registers, Reads, Counts, Publishes, Closes, Ends, Locks, LooksAtState, LooksAtCount, Advances, Unlocks}
 use Rattle.sdd_rule.proofs.Frame.{each_set, two_set, each_snoc, two_snoc}
@@ -18,15 +19,18 @@ at_length (x ∷ xs) zero a e = omega arith
 at_length (x ∷ xs) (suc i) a e = let h = at_length xs i a e in omega arith
 
 -- a place that was passed, after one more look
-passes : (v u : EpochView) (q : ℕ) → IsNext v q → (Scans v → IsOpen u → u.place < v.looked → v.count ≤ u.since) → Scans v → IsOpen u → u.place < q + 1 → v.place ≢ u.place
+passes : (v u : EpochView) (q : ℕ) → IsNext v q → (Scans v → IsOpen u → u.place < v.looked → v.count ≤ u.since) → Scans v → IsOpen u
+    → u.place < q + 1 → v.place ≢ u.place
     → (u.place ≡ q → v.count ≤ u.since) → v.count ≤ u.since
 passes v u q next old s z l other here = dite (ℕ_discrete u.place q) here
-    (λ no. old s z (⊎_elim (λ (e : q ≡ v.looked). omega arith) (λ (e : (v.looked ≡ v.place) × (q ≡ v.place + 1)). let e0 = e.0 in let e1 = e.1 in omega arith) next.1))
+    (λ no. old s z (⊎_elim (λ (e : q ≡ v.looked). omega arith)
+    (λ (e : (v.looked ≡ v.place) × (q ≡ v.place + 1)). let e0 = e.0 in let e1 = e.1 in omega arith) next.1))
 
 module _ (n : ℕ) where
   -- a participant, where no word changes that speaks of it
-  spared : (ws ws' : List ℕ) (u : EpochView) → get_or ws' 0 0 ≡ get_or ws 0 0 → (Scans u → get_or ws' 1 0 ≡ get_or ws 1 0)
-      → (HasPlace u → (get_or ws' (2 * u.place + 3) 0 ≡ get_or ws (2 * u.place + 3) 0) × (get_or ws' (2 * u.place + 4) 0 ≡ get_or ws (2 * u.place + 4) 0)) → Fits n ws u → Fits n ws' u
+  spared : (ws ws' : List ℕ) (u : EpochView) → get_or ws' global_word 0 ≡ get_or ws global_word 0 → (Scans u → get_or ws' lock_word 0 ≡ get_or ws lock_word 0)
+      → (HasPlace u → (get_or ws' (state_word u.place) 0 ≡ get_or ws (state_word u.place) 0)
+      × (get_or ws' (count_word u.place) 0 ≡ get_or ws (count_word u.place) 0)) → Fits n ws u → Fits n ws' u
   spared ws ws' u zero_same one_same own_same f = record {
     all = f.all;
     inside = f.inside;
@@ -41,39 +45,56 @@ module _ (n : ℕ) where
   }
 
   -- another participant, where the lock changes
-  relock : (ws : List ℕ) (x : ℕ) (u : EpochView) → ¬ (Scans u) → Fits n ws u → Fits n (set ws 1 x) u
-  relock ws x u none f = spared ws (set ws 1 x) u (get_or-set_other ws 1 0 x 0 (λ e. omega arith)) (λ z. absurd (none z))
-      (λ z. (get_or-set_other ws 1 (2 * u.place + 3) x 0 (λ e. omega arith), get_or-set_other ws 1 (2 * u.place + 4) x 0 (λ e. omega arith))) f
+  relock : (ws : List ℕ) (x : ℕ) (u : EpochView) → ¬ (Scans u) → Fits n ws u → Fits n (set ws lock_word x) u
+  relock ws x u none f = spared ws (set ws lock_word x) u (get_or-set_other ws lock_word global_word x 0 (λ e. omega arith)) (λ z. absurd (none z))
+      (λ z. (
+        get_or-set_other ws lock_word (state_word u.place) x 0 (λ e. omega arith),
+        get_or-set_other ws lock_word (count_word u.place) x 0 (λ e. omega arith),
+      )) f
 
   -- a participant whose words a step does not name
-  untouched : (ws : List ℕ) (i x : ℕ) (u : EpochView) → 1 < i → (HasPlace u → (i ≢ 2 * u.place + 3) × (i ≢ 2 * u.place + 4)) → Fits n ws u → Fits n (set ws i x) u
-  untouched ws i x u high apart f = spared ws (set ws i x) u (get_or-set_other ws i 0 x 0 (λ e. omega arith)) (λ _. get_or-set_other ws i 1 x 0 (λ e. omega arith))
-      (λ z. (get_or-set_other ws i (2 * u.place + 3) x 0 (λ e. (apart z).0 (sym e)), get_or-set_other ws i (2 * u.place + 4) x 0 (λ e. (apart z).1 (sym e)))) f
+  untouched : (ws : List ℕ) (i x : ℕ) (u : EpochView) → 1 < i → (HasPlace u → (i ≢ state_word u.place) × (i ≢ count_word u.place)) → Fits n ws u
+      → Fits n (set ws i x) u
+  untouched ws i x u high apart f = spared ws (set ws i x) u (get_or-set_other ws i global_word x 0 (λ e. omega arith))
+      (λ _. get_or-set_other ws i lock_word x 0 (λ e. omega arith))
+      (λ z. (
+        get_or-set_other ws i (state_word u.place) x 0 (λ e. (apart z).0 (sym e)),
+        get_or-set_other ws i (count_word u.place) x 0 (λ e. (apart z).1 (sym e)),
+      )) f
 
   -- a step of the seat id, from v to w, with x in the word i
   moved : (ws : List ℕ) (vs : List EpochView) (id i x : ℕ) (v w : EpochView) → EpochPart n ws vs → get_elem? vs id ≡ some v → Fits n (set ws i x) w
       → ((j : ℕ) (u : EpochView) → j ≢ id → get_elem? vs j ≡ some u → Fits n ws u → Apart v u → Apart u v → Fits n (set ws i x) u × Apart w u × Apart u w)
-      → (n ≡ 1 → get_or (set ws i x) 3 0 ≡ 0 → get_or (set ws i x) 0 0 ≡ 0)
-      → (get_or (set ws i x) 1 0 ≢ 0 → (j : ℕ) × (u : EpochView) × (get_elem? (set vs id w) j ≡ some u) × Scans u)
+      → (n ≡ 1 → get_or (set ws i x) (state_word 0) 0 ≡ 0 → (k : ℕ) → get_or (set ws i x) k 0 ≡ 0)
+      → (get_or (set ws i x) lock_word 0 ≢ 0 → (j : ℕ) × (u : EpochView) × (get_elem? (set vs id w) j ≡ some u) × Scans u)
       → EpochPart n (set ws i x) (set vs id w)
   moved ws vs id i x v w t at mine others unused held = record {
     wide = let wide = t.wide in omega (arith, length-set ws i x);
-    each = each_set (Fits n ws) (Fits n (set ws i x)) vs id w mine (λ j u apart e. (others j u apart e (t.each j u e) (t.two id j v u (λ z. apart (sym z)) at e) (t.two j id u v apart e at)).0);
-    two = two_set Apart vs id w t.two (λ j u apart e. let o = others j u apart e (t.each j u e) (t.two id j v u (λ z. apart (sym z)) at e) (t.two j id u v apart e at) in (o.1, o.2));
+    each = each_set (Fits n ws) (Fits n (set ws i x)) vs id w mine
+        (λ j u apart e. (others j u apart e (t.each j u e) (t.two id j v u (λ z. apart (sym z)) at e) (t.two j id u v apart e at)).0);
+    two = two_set Apart vs id w t.two
+        (λ j u apart e. let o = others j u apart e (t.each j u e) (t.two id j v u (λ z. apart (sym z)) at e) (t.two j id u v apart e at) in (o.1, o.2));
     unused = unused;
     held = held;
   }
 
   -- the only place is taken by v, and its state word is as it was
-  used : (ws ws' : List ℕ) (v : EpochView) → Fits n ws v → HasPlace v → get_or ws' 3 0 ≡ get_or ws 3 0 → n ≡ 1 → ¬ (get_or ws' 3 0 ≡ 0)
+  used : (ws ws' : List ℕ) (v : EpochView) → Fits n ws v → HasPlace v → get_or ws' (state_word 0) 0 ≡ get_or ws (state_word 0) 0 → n ≡ 1
+      → ¬ (get_or ws' (state_word 0) 0 ≡ 0)
   used ws ws' v f live same one none = let i = f.inside live in let p : v.place ≡ 0 = omega arith in
-      let s : get_or ws 3 0 ≡ v.state = ap (λ (k : ℕ). get_or ws (2 * k + 3) 0) (sym p) ∙ f.state live in omega arith
+      let s : get_or ws (state_word 0) 0 ≡ v.state = ap (λ (k : ℕ). get_or ws (state_word k) 0) (sym p) ∙ f.state live in omega arith
 
   held_set : (ws : List ℕ) (vs : List EpochView) (id : ℕ) (v w : EpochView) → EpochPart n ws vs → get_elem? vs id ≡ some v → (Scans v → Scans w)
-      → get_or ws 1 0 ≢ 0 → (j : ℕ) × (u : EpochView) × (get_elem? (set vs id w) j ≡ some u) × Scans u
+      → get_or ws lock_word 0 ≢ 0 → (j : ℕ) × (u : EpochView) × (get_elem? (set vs id w) j ≡ some u) × Scans u
   held_set ws vs id v w t at goes locked = let h = t.held locked in
       dite (ℕ_discrete h.0 id)
-      (λ e. (id, w, set_here vs id w (at_length vs id v at), goes (let same : h.1 ≡ v = some-injective _ _ (sym h.2 ∙ (ap (get_elem? vs) e ∙ at)) in subst (λ (u : EpochView). Scans u) same h.3)))
+      (λ e. (
+        id,
+        w,
+        set_here vs id w (at_length vs id v at),
+        goes (let same : h.1 ≡ v = some-injective _ _ (sym h.2 ∙ (ap (get_elem? vs) e ∙ at)) in
+            subst (λ (u : EpochView). Scans u) same h.3),
+      ))
       (λ other. (h.0, h.1, set_else vs id h.0 w other ∙ h.2, h.3))
 
   -- the same at a load
@@ -89,66 +110,75 @@ module _ (n : ℕ) where
   }
 
   -- the same view, at a load or a lost exchange
-  unmoved : (ws : List ℕ) (vs : List EpochView) (id i : ℕ) (v : EpochView) → EpochPart n ws vs → get_elem? vs id ≡ some v → EpochPart n (set ws i (get_or ws i 0)) (set vs id v)
+  unmoved : (ws : List ℕ) (vs : List EpochView) (id i : ℕ) (v : EpochView) → EpochPart n ws vs → get_elem? vs id ≡ some v
+      → EpochPart n (set ws i (get_or ws i 0)) (set vs id v)
   unmoved ws vs id i v t at = still ws vs id i v v t at (t.each id v at) (λ u fu a b. (a, b)) (λ z. z)
 
   level : (v : EpochView) → Rises v v
   level v = record { known = omega arith; found = omega arith }
 
   -- a step on a word of the seat's own place
-  own : (ws : List ℕ) (vs : List EpochView) (id i x : ℕ) (v w : EpochView) → EpochPart n ws vs → get_elem? vs id ≡ some v → HasPlace v → ((i ≡ 2 * v.place + 3) × (0 < x)) ⊎ (i ≡ 2 * v.place + 4) → Fits n (set ws i x) w
+  own : (ws : List ℕ) (vs : List EpochView) (id i x : ℕ) (v w : EpochView) → EpochPart n ws vs → get_elem? vs id ≡ some v → HasPlace v
+      → ((i ≡ state_word v.place) × (0 < x)) ⊎ (i ≡ count_word v.place) → Fits n (set ws i x) w
       → ((u : EpochView) → Fits n ws u → Apart v u → Apart u v → Apart w u × Apart u w)
       → (Scans v → Scans w) → EpochPart n (set ws i x) (set vs id w)
   own ws vs id i x v w t at live which mine others goes =
-      let high : 1 < i = ⊎_elim (λ (e : (i ≡ 2 * v.place + 3) × (0 < x)). let e0 = e.0 in omega arith) (λ (e : i ≡ 2 * v.place + 4). omega arith) which in
+      let high : 1 < i = ⊎_elim (λ (e : (i ≡ state_word v.place) × (0 < x)). let e0 = e.0 in omega arith) (λ (e : i ≡ count_word v.place). omega arith) which in
       let f = t.each id v at in let inside = f.inside live in let wide = t.wide in
       moved ws vs id i x v w t at mine
       (λ j u apart e f a b. let o = others u f a b in (
-        untouched ws i x u high (λ z. let p = a.places live z in ⊎_elim (λ (e : (i ≡ 2 * v.place + 3) × (0 < x)). let e0 = e.0 in ((λ c. p (omega arith)), λ c. omega arith)) (λ (e : i ≡ 2 * v.place + 4). ((λ c. omega arith), λ c. p (omega arith))) which) f,
+        untouched ws i x u high
+            (λ z. let p = a.places live z in ⊎_elim
+            (λ (e : (i ≡ state_word v.place) × (0 < x)). let e0 = e.0 in ((λ c. p (omega arith)), λ c. omega arith))
+            (λ (e : i ≡ count_word v.place). ((λ c. omega arith), λ c. p (omega arith)))
+            which) f,
         o.0,
         o.1,
       ))
       (λ one none. ⊎_elim
-      (λ (e : (i ≡ 2 * v.place + 3) × (0 < x)). let e0 = e.0 in let e1 = e.1 in let is : i ≡ 3 = omega arith in let now : get_or (set ws i x) i 0 ≡ x = get_or-set_same ws i x 0 (omega arith) in
-      let now' : get_or (set ws i x) 3 0 ≡ x = ap (λ (k : ℕ). get_or (set ws i x) k 0) (sym is) ∙ now in absurd (omega arith))
-      (λ (e : i ≡ 2 * v.place + 4). absurd (used ws (set ws i x) v f live (get_or-set_other ws i 3 x 0 (λ c. omega arith)) one none))
+      (λ (e : (i ≡ state_word v.place) × (0 < x)). let e0 = e.0 in let e1 = e.1 in let is : i ≡ state_word 0 = omega arith in
+      let now : get_or (set ws i x) i 0 ≡ x = get_or-set_same ws i x 0 (omega arith) in
+      let now' : get_or (set ws i x) (state_word 0) 0 ≡ x = ap (λ (k : ℕ). get_or (set ws i x) k 0) (sym is) ∙ now in absurd (omega arith))
+      (λ (e : i ≡ count_word v.place). absurd (used ws (set ws i x) v f live (get_or-set_other ws i (state_word 0) x 0 (λ c. omega arith)) one none))
       which)
-      (λ locked. held_set ws vs id v w t at goes (λ e. locked (get_or-set_other ws i 1 x 0 (λ e. omega arith) ∙ e)))
+      (λ locked. held_set ws vs id v w t at goes (λ e. locked (get_or-set_other ws i lock_word x 0 (λ e. omega arith) ∙ e)))
 
   -- read the global count
-  pub reads : (id : ℕ) (v : EpochView) → Keeps n id v 0 (λ x. x) (Reads v)
-  reads id v ws vs t at small = let c : ℕ = get_or ws 0 0 in let w : EpochView = knowing v c in let f = t.each id v at in let k = f.known in let l = f.found in (
-    w,
-    still ws vs id 0 v w t at
-        record {
-          all = f.all;
-          inside = f.inside;
-          states = f.states;
-          state = f.state;
-          count = f.count;
-          known = omega arith;
-          found = omega arith;
-          published = λ z. let p = f.published z in record { count = p.count; since = let s = p.since in omega arith; once = p.once };
-          locked = f.locked;
-          lone = λ _ _. refl;
-        }
-        (λ u fu a b. (record { places = a.places; locks = a.locks; passed = a.passed }, record { places = b.places; locks = b.locks; passed = b.passed }))
-        (λ z. z),
-    record { known = k; found = omega arith },
-    (refl, k, (λ z. let p = f.published z in ((let s = p.since in omega arith), p.once)), λ alone. f.lone (sym (f.all (λ z. omega arith)) ∙ alone)),
-  )
+  pub reads : (id : ℕ) (v : EpochView) → Keeps n id v global_word (λ x. x) (Reads v)
+  reads id v ws vs t at small = let c : ℕ = get_or ws global_word 0 in let w : EpochView = knowing v c in let f = t.each id v at in let k = f.known in
+      let l = f.found in (
+        w,
+        still ws vs id global_word v w t at
+            record {
+              all = f.all;
+              inside = f.inside;
+              states = f.states;
+              state = f.state;
+              count = f.count;
+              known = omega arith;
+              found = omega arith;
+              published = λ z. let p = f.published z in record { count = p.count; since = let s = p.since in omega arith; once = p.once };
+              locked = f.locked;
+              lone = λ _ _. refl;
+            }
+            (λ u fu a b. (record { places = a.places; locks = a.locks; passed = a.passed }, record { places = b.places; locks = b.locks; passed = b.passed }))
+            (λ z. z),
+        record { known = k; found = omega arith },
+        (refl, k, (λ z. let p = f.published z in ((let s = p.since in omega arith), p.once)), λ alone. f.lone (sym (f.all (λ z. omega arith)) ∙ alone)),
+      )
 
   -- write the own count word
-  pub counts : (id : ℕ) (v : EpochView) (c : ℕ) → IsClosed v → Keeps n id v (2 * v.place + 4) (λ _. c) (λ _. Counts v c)
-  counts id v c shut ws vs t at small = let i : ℕ = 2 * v.place + 4 in let w : EpochView = counted v c in let f = t.each id v at in let wide = t.wide in let inside = f.inside (omega arith) in
-      let zero_same = get_or-set_other ws i 0 c 0 (λ e. omega arith) in (
+  pub counts : (id : ℕ) (v : EpochView) (c : ℕ) → IsClosed v → Keeps n id v (count_word v.place) (λ _. c) (λ _. Counts v c)
+  counts id v c shut ws vs t at small = let i : ℕ = count_word v.place in let w : EpochView = counted v c in let f = t.each id v at in
+      let wide = t.wide in let inside = f.inside (omega arith) in
+      let zero_same = get_or-set_other ws i global_word c 0 (λ e. omega arith) in (
         w,
         own ws vs id i c v w t at (omega arith) (inr refl)
             record {
               all = f.all;
               inside = f.inside;
               states = f.states;
-              state = λ z. get_or-set_other ws i (2 * v.place + 3) c 0 (λ e. omega arith) ∙ f.state z;
+              state = λ z. get_or-set_other ws i (state_word v.place) c 0 (λ e. omega arith) ∙ f.state z;
               count = λ _. get_or-set_same ws i c 0 (omega arith);
               known = let k = f.known in omega arith;
               found = f.found;
@@ -156,16 +186,20 @@ module _ (n : ℕ) where
               locked = λ z. let o = (f.locked z).1 in absurd (omega arith);
               lone = λ a z. zero_same ∙ f.lone a z;
             }
-            (λ u fu a b. (record { places = a.places; locks = a.locks; passed = λ z. let o = (f.locked z).1 in absurd (omega arith) }, record { places = b.places; locks = b.locks; passed = b.passed }))
+            (λ u fu a b. (
+              record { places = a.places; locks = a.locks; passed = λ z. let o = (f.locked z).1 in absurd (omega arith) },
+              record { places = b.places; locks = b.locks; passed = b.passed },
+            ))
             (λ z. z),
         record { known = omega arith; found = omega arith },
         refl,
       )
 
   -- open
-  pub publishes : (id : ℕ) (v : EpochView) → IsClosed v → v.count ≡ v.known → Keeps n id v (2 * v.place + 3) (λ _. 2) (λ _. Publishes v 2)
-  publishes id v shut low ws vs t at small = let i : ℕ = 2 * v.place + 3 in let g : ℕ = get_or ws 0 0 in let w : EpochView = published v g in let f = t.each id v at in let wide = t.wide in let inside = f.inside (omega arith) in let k = f.known in let l = f.found in
-      let zero_same = get_or-set_other ws i 0 2 0 (λ e. omega arith) in (
+  pub publishes : (id : ℕ) (v : EpochView) → IsClosed v → v.count ≡ v.known → Keeps n id v (state_word v.place) (λ _. 2) (λ _. Publishes v 2)
+  publishes id v shut low ws vs t at small = let i : ℕ = state_word v.place in let g : ℕ = get_or ws global_word 0 in let w : EpochView = published v g in
+      let f = t.each id v at in let wide = t.wide in let inside = f.inside (omega arith) in let k = f.known in let l = f.found in
+      let zero_same = get_or-set_other ws i global_word 2 0 (λ e. omega arith) in (
         w,
         own ws vs id i 2 v w t at (omega arith) (inl (refl, omega arith))
             record {
@@ -173,7 +207,7 @@ module _ (n : ℕ) where
               inside = λ _. inside;
               states = omega arith;
               state = λ _. get_or-set_same ws i 2 0 (omega arith);
-              count = λ z. get_or-set_other ws i (2 * v.place + 4) 2 0 (λ e. omega arith) ∙ f.count (omega arith);
+              count = λ z. get_or-set_other ws i (count_word v.place) 2 0 (λ e. omega arith) ∙ f.count (omega arith);
               known = omega arith;
               found = omega arith;
               published = λ _. record { count = omega arith; since = omega arith; once = omega arith };
@@ -182,7 +216,11 @@ module _ (n : ℕ) where
             }
             (λ u fu a b. (
               record { places = λ _ z. a.places (omega arith) z; locks = a.locks; passed = λ z. let o = (f.locked z).1 in absurd (omega arith) },
-              record { places = λ z _. b.places z (omega arith); locks = b.locks; passed = λ z _ _. let l = (fu.locked z).1 in let o = fu.published l in let o0 = o.count in let o1 = o.since in let k' = fu.known in omega arith },
+              record {
+                places = λ z _. b.places z (omega arith);
+                locks = b.locks;
+                passed = λ z _ _. let l = (fu.locked z).1 in let o = fu.published l in let o0 = o.count in let o1 = o.since in let k' = fu.known in omega arith;
+              },
             ))
             (λ z. z),
         record { known = k; found = omega arith },
@@ -190,9 +228,10 @@ module _ (n : ℕ) where
       )
 
   -- close
-  pub closes : (id : ℕ) (v : EpochView) → IsOpen v → ¬ (Scans v) → Keeps n id v (2 * v.place + 3) (λ _. 1) (λ _. Closes v 1)
-  closes id v is_open free ws vs t at small = let i : ℕ = 2 * v.place + 3 in let w : EpochView = closed v in let f = t.each id v at in let wide = t.wide in let inside = f.inside (omega arith) in
-      let zero_same = get_or-set_other ws i 0 1 0 (λ e. omega arith) in (
+  pub closes : (id : ℕ) (v : EpochView) → IsOpen v → ¬ (Scans v) → Keeps n id v (state_word v.place) (λ _. 1) (λ _. Closes v 1)
+  closes id v is_open free ws vs t at small = let i : ℕ = state_word v.place in let w : EpochView = closed v in let f = t.each id v at in
+      let wide = t.wide in let inside = f.inside (omega arith) in
+      let zero_same = get_or-set_other ws i global_word 1 0 (λ e. omega arith) in (
         w,
         own ws vs id i 1 v w t at (omega arith) (inl (refl, omega arith))
             record {
@@ -200,7 +239,7 @@ module _ (n : ℕ) where
               inside = λ _. inside;
               states = omega arith;
               state = λ _. get_or-set_same ws i 1 0 (omega arith);
-              count = λ z. get_or-set_other ws i (2 * v.place + 4) 1 0 (λ e. omega arith) ∙ f.count (omega arith);
+              count = λ z. get_or-set_other ws i (count_word v.place) 1 0 (λ e. omega arith) ∙ f.count (omega arith);
               known = let k = f.known in omega arith;
               found = f.found;
               published = λ z. absurd (omega arith);
@@ -217,9 +256,10 @@ module _ (n : ℕ) where
       )
 
   -- end
-  pub ends : (id : ℕ) (v : EpochView) → IsClosed v → Keeps n id v (2 * v.place + 3) (λ _. 3) (λ _. Ends v 3)
-  ends id v shut ws vs t at small = let i : ℕ = 2 * v.place + 3 in let w : EpochView = ended v in let f = t.each id v at in let wide = t.wide in let inside = f.inside (omega arith) in
-      let zero_same = get_or-set_other ws i 0 3 0 (λ e. omega arith) in (
+  pub ends : (id : ℕ) (v : EpochView) → IsClosed v → Keeps n id v (state_word v.place) (λ _. 3) (λ _. Ends v 3)
+  ends id v shut ws vs t at small = let i : ℕ = state_word v.place in let w : EpochView = ended v in let f = t.each id v at in let wide = t.wide in
+      let inside = f.inside (omega arith) in
+      let zero_same = get_or-set_other ws i global_word 3 0 (λ e. omega arith) in (
         w,
         own ws vs id i 3 v w t at (omega arith) (inl (refl, omega arith))
             record {
@@ -244,26 +284,28 @@ module _ (n : ℕ) where
       )
 
   -- take the lock
-  pub locks : (id : ℕ) (v : EpochView) → IsOpen v → ¬ (Scans v) → Keeps n id v 1 (λ x. either (eqb x 0) 1 x) (Locks v)
-  locks id v is_open free ws vs t at small = let x : ℕ = get_or ws 1 0 in let f = t.each id v at in let wide = t.wide in let inside = f.inside (omega arith) in
-      let never : IsLone v → x ≡ 0 = λ a'. let a : n ≡ 1 = sym (f.all (λ z. omega arith)) ∙ a' in dite (ℕ_discrete x 0) (λ e. e) (λ e. let h = t.held e in let g = t.each h.0 h.1 h.2 in let l = (g.locked h.3).1 in let in' = g.inside (omega arith) in
+  pub locks : (id : ℕ) (v : EpochView) → IsOpen v → ¬ (Scans v) → Keeps n id v lock_word (λ x. either (eqb x 0) 1 x) (Locks v)
+  locks id v is_open free ws vs t at small = let x : ℕ = get_or ws lock_word 0 in let f = t.each id v at in let wide = t.wide in
+      let inside = f.inside (omega arith) in
+      let never : IsLone v → x ≡ 0 = λ a'. let a : n ≡ 1 = sym (f.all (λ z. omega arith)) ∙ a' in
+      dite (ℕ_discrete x 0) (λ e. e) (λ e. let h = t.held e in let g = t.each h.0 h.1 h.2 in let l = (g.locked h.3).1 in let in' = g.inside (omega arith) in
       absurd (dite (ℕ_discrete h.0 id)
       (λ same. free (subst (λ (u : EpochView). Scans u) (some-injective _ _ (sym h.2 ∙ (ap (get_elem? vs) same ∙ at))) h.3))
       (λ other. (t.two h.0 id h.1 v other h.2 at).places (omega arith) (omega arith) (omega arith)))) in
-      exchanged x 0 1 (λ y. (w : EpochView) × EpochPart n (set ws 1 y) (set vs id w) × Rises v w × Locks v x w)
-      (λ hit. let w : EpochView = scanning v in let zero_same = get_or-set_other ws 1 0 1 0 (λ e. omega arith) in (
+      exchanged x 0 1 (λ y. (w : EpochView) × EpochPart n (set ws lock_word y) (set vs id w) × Rises v w × Locks v x w)
+      (λ hit. let w : EpochView = scanning v in let zero_same = get_or-set_other ws lock_word global_word 1 0 (λ e. omega arith) in (
         w,
-        moved ws vs id 1 1 v w t at
+        moved ws vs id lock_word 1 v w t at
             record {
               all = f.all;
               inside = f.inside;
               states = f.states;
-              state = λ z. get_or-set_other ws 1 (2 * v.place + 3) 1 0 (λ e. omega arith) ∙ f.state z;
-              count = λ z. get_or-set_other ws 1 (2 * v.place + 4) 1 0 (λ e. omega arith) ∙ f.count z;
+              state = λ z. get_or-set_other ws lock_word (state_word v.place) 1 0 (λ e. omega arith) ∙ f.state z;
+              count = λ z. get_or-set_other ws lock_word (count_word v.place) 1 0 (λ e. omega arith) ∙ f.count z;
               known = let k = f.known in omega arith;
               found = f.found;
               published = λ z. let p = f.published z in record { count = p.count; since = p.since; once = let o = p.once in omega arith };
-              locked = λ _. (get_or-set_same ws 1 1 0 (omega arith), is_open);
+              locked = λ _. (get_or-set_same ws lock_word 1 0 (omega arith), is_open);
               lone = λ a z. zero_same ∙ f.lone a z;
             }
             (λ j u apart e fu a b. (
@@ -271,40 +313,42 @@ module _ (n : ℕ) where
               record { places = a.places; locks = λ _ z. let l = (fu.locked z).0 in omega arith; passed = λ _ _ z. absurd (omega arith) },
               record { places = b.places; locks = λ z _. let l = (fu.locked z).0 in omega arith; passed = b.passed },
             ))
-            (λ one none. absurd (used ws (set ws 1 1) v f (omega arith) (get_or-set_other ws 1 3 1 0 (λ c. omega arith)) one none))
+            (λ one none. absurd (used ws (set ws lock_word 1) v f (omega arith) (get_or-set_other ws lock_word (state_word 0) 1 0 (λ c. omega arith)) one none))
             (λ _. (id, w, set_here vs id w (at_length vs id v at), refl)),
         record { known = omega arith; found = omega arith },
         ((λ _. refl), (λ no. absurd (no hit)), never),
       ))
-      (λ miss. (v, unmoved ws vs id 1 v t at, level v, ((λ e. absurd (miss e)), (λ _. refl), never)))
+      (λ miss. (v, unmoved ws vs id lock_word v t at, level v, ((λ e. absurd (miss e)), (λ _. refl), never)))
 
   -- free it
-  pub unlocks : (id : ℕ) (v : EpochView) → Scans v → Keeps n id v 1 (λ _. 0) (λ _. Unlocks v 0)
-  unlocks id v mine ws vs t at small = let f = t.each id v at in let wide = t.wide in let w : EpochView = unlocked v in let zero_same = get_or-set_other ws 1 0 0 0 (λ e. omega arith) in (
-    w,
-    moved ws vs id 1 0 v w t at
-        record {
-          all = f.all;
-          inside = f.inside;
-          states = f.states;
-          state = λ z. get_or-set_other ws 1 (2 * v.place + 3) 0 0 (λ e. omega arith) ∙ f.state z;
-          count = λ z. get_or-set_other ws 1 (2 * v.place + 4) 0 0 (λ e. omega arith) ∙ f.count z;
-          known = let k = f.known in omega arith;
-          found = f.found;
-          published = λ z. let p = f.published z in record { count = p.count; since = p.since; once = let o = p.once in omega arith };
-          locked = λ z. absurd (omega arith);
-          lone = λ a z. zero_same ∙ f.lone a z;
-        }
-        (λ j u apart e fu a b. (
-          relock ws 0 u (λ z. a.locks mine z) fu,
-          record { places = a.places; locks = λ z. absurd (omega arith); passed = λ z. absurd (omega arith) },
-          record { places = b.places; locks = λ _ z. omega arith; passed = b.passed },
-        ))
-        (λ one none. let l = (f.locked mine).1 in absurd (used ws (set ws 1 0) v f (omega arith) (get_or-set_other ws 1 3 0 0 (λ c. omega arith)) one none))
-        (λ no. absurd (no (get_or-set_same ws 1 0 0 (omega arith)))),
-    record { known = omega arith; found = omega arith },
-    refl,
-  )
+  pub unlocks : (id : ℕ) (v : EpochView) → Scans v → Keeps n id v lock_word (λ _. 0) (λ _. Unlocks v 0)
+  unlocks id v mine ws vs t at small = let f = t.each id v at in let wide = t.wide in let w : EpochView = unlocked v in
+      let zero_same = get_or-set_other ws lock_word global_word 0 0 (λ e. omega arith) in (
+        w,
+        moved ws vs id lock_word 0 v w t at
+            record {
+              all = f.all;
+              inside = f.inside;
+              states = f.states;
+              state = λ z. get_or-set_other ws lock_word (state_word v.place) 0 0 (λ e. omega arith) ∙ f.state z;
+              count = λ z. get_or-set_other ws lock_word (count_word v.place) 0 0 (λ e. omega arith) ∙ f.count z;
+              known = let k = f.known in omega arith;
+              found = f.found;
+              published = λ z. let p = f.published z in record { count = p.count; since = p.since; once = let o = p.once in omega arith };
+              locked = λ z. absurd (omega arith);
+              lone = λ a z. zero_same ∙ f.lone a z;
+            }
+            (λ j u apart e fu a b. (
+              relock ws 0 u (λ z. a.locks mine z) fu,
+              record { places = a.places; locks = λ z. absurd (omega arith); passed = λ z. absurd (omega arith) },
+              record { places = b.places; locks = λ _ z. omega arith; passed = b.passed },
+            ))
+            (λ one none. let l = (f.locked mine).1 in
+            absurd (used ws (set ws lock_word 0) v f (omega arith) (get_or-set_other ws lock_word (state_word 0) 0 0 (λ c. omega arith)) one none))
+            (λ no. absurd (no (get_or-set_same ws lock_word 0 0 (omega arith)))),
+        record { known = omega arith; found = omega arith },
+        refl,
+      )
 
   -- a look that passes the place q
   passing : (ws : List ℕ) (vs : List EpochView) (id i : ℕ) (v : EpochView) (q : ℕ) → IsNext v q → EpochPart n ws vs → get_elem? vs id ≡ some v
@@ -334,45 +378,49 @@ module _ (n : ℕ) where
       (λ z. z)
 
   -- look at a place's state
-  pub looks_at_state : (id : ℕ) (v : EpochView) (q : ℕ) → IsNext v q → Keeps n id v (2 * q + 3) (λ x. x) (LooksAtState (2 * q + 3) v)
-  looks_at_state id v q next ws vs t at small = let x : ℕ = get_or ws (2 * q + 3) 0 in
+  pub looks_at_state : (id : ℕ) (v : EpochView) (q : ℕ) → IsNext v q → Keeps n id v (state_word q) (λ x. x) (LooksAtState (state_word q) v)
+  looks_at_state id v q next ws vs t at small = let x : ℕ = get_or ws (state_word q) 0 in
       dite (ℕ_discrete x 2)
-      (λ e. (v, unmoved ws vs id (2 * q + 3) v t at, level v, λ q' is. ((λ no. absurd (no e)), (λ _. refl))))
+      (λ e. (v, unmoved ws vs id (state_word q) v t at, level v, λ q' is. ((λ no. absurd (no e)), (λ _. refl))))
       (λ no. (
         passed_by v q,
-        passing ws vs id (2 * q + 3) v q next t at (λ u fu z same. absurd (no (ap (λ (k : ℕ). get_or ws (2 * k + 3) 0) (sym same) ∙ (fu.state (omega arith) ∙ z)))),
+        passing ws vs id (state_word q) v q next t at
+            (λ u fu z same. absurd (no (ap (λ (k : ℕ). get_or ws (state_word k) 0) (sym same) ∙ (fu.state (omega arith) ∙ z)))),
         record { known = omega arith; found = omega arith },
         λ q' is. ((λ _. ap (λ (k : ℕ). passed_by v k) (let g : q ≡ q' = omega arith in g)), (λ e. absurd (no e))),
       ))
 
   -- look at its count
-  pub looks_at_count : (id : ℕ) (v : EpochView) (q : ℕ) → IsNext v q → Keeps n id v (2 * q + 4) (λ x. x) (LooksAtCount (2 * q + 4) v)
-  looks_at_count id v q next ws vs t at small = let x : ℕ = get_or ws (2 * q + 4) 0 in
+  pub looks_at_count : (id : ℕ) (v : EpochView) (q : ℕ) → IsNext v q → Keeps n id v (count_word q) (λ x. x) (LooksAtCount (count_word q) v)
+  looks_at_count id v q next ws vs t at small = let x : ℕ = get_or ws (count_word q) 0 in
       dite (ℕ_discrete x v.count)
       (λ e. (
         passed_by v q,
-        passing ws vs id (2 * q + 4) v q next t at
-            (λ u fu z same. let o = (fu.published z).count in let c = fu.count (omega arith) in let c' : u.count ≡ v.count = sym c ∙ (ap (λ (k : ℕ). get_or ws (2 * k + 4) 0) same ∙ e) in omega arith),
+        passing ws vs id (count_word q) v q next t at
+            (λ u fu z same. let o = (fu.published z).count in let c = fu.count (omega arith) in
+            let c' : u.count ≡ v.count = sym c ∙ (ap (λ (k : ℕ). get_or ws (count_word k) 0) same ∙ e) in omega arith),
         record { known = omega arith; found = omega arith },
         λ q' is. ((λ _. ap (λ (k : ℕ). passed_by v k) (let g : q ≡ q' = omega arith in g)), (λ no. absurd (no e))),
       ))
-      (λ no. (v, unmoved ws vs id (2 * q + 4) v t at, level v, λ q' is. ((λ e. absurd (no e)), (λ _. refl))))
+      (λ no. (v, unmoved ws vs id (count_word q) v t at, level v, λ q' is. ((λ e. absurd (no e)), (λ _. refl))))
 
   -- raise the count
-  pub advances : (id : ℕ) (v : EpochView) → IsNext v n → Keeps n id v 0 (λ x. either (eqb x v.count) (v.count + 1) x) (Advances v)
-  advances id v next ws vs t at small = let x : ℕ = get_or ws 0 0 in let y : ℕ = v.count + 1 in let f = t.each id v at in let wide = t.wide in let l = f.locked next.0 in let inside = f.inside (omega arith) in let o = f.published l.1 in
+  pub advances : (id : ℕ) (v : EpochView) → IsNext v n → Keeps n id v global_word (λ x. either (eqb x v.count) (v.count + 1) x) (Advances v)
+  advances id v next ws vs t at small = let x : ℕ = get_or ws global_word 0 in let y : ℕ = v.count + 1 in let f = t.each id v at in let wide = t.wide in
+      let l = f.locked next.0 in let inside = f.inside (omega arith) in let o = f.published l.1 in
       let o0 = o.count in let o1 = o.since in let o2 = o.once in
       let alone : IsLone v → x ≡ v.known = λ alone. f.lone (sym (f.all (λ z. omega arith)) ∙ alone) (omega arith) in
-      exchanged x v.count y (λ y. (w : EpochView) × EpochPart n (set ws 0 y) (set vs id w) × Rises v w × Advances v x w)
-      (λ hit. let w : EpochView = knowing v y in let now = get_or-set_same ws 0 y 0 (omega arith) in let one_same = get_or-set_other ws 0 1 y 0 (λ e. omega arith) in let b = f.known in let a = f.found in (
+      exchanged x v.count y (λ y. (w : EpochView) × EpochPart n (set ws global_word y) (set vs id w) × Rises v w × Advances v x w)
+      (λ hit. let w : EpochView = knowing v y in let now = get_or-set_same ws global_word y 0 (omega arith) in
+      let one_same = get_or-set_other ws global_word lock_word y 0 (λ e. omega arith) in let b = f.known in let a = f.found in (
         w,
-        moved ws vs id 0 y v w t at
+        moved ws vs id global_word y v w t at
             record {
               all = f.all;
               inside = f.inside;
               states = f.states;
-              state = λ z. get_or-set_other ws 0 (2 * v.place + 3) y 0 (λ e. omega arith) ∙ f.state z;
-              count = λ z. get_or-set_other ws 0 (2 * v.place + 4) y 0 (λ e. omega arith) ∙ f.count z;
+              state = λ z. get_or-set_other ws global_word (state_word v.place) y 0 (λ e. omega arith) ∙ f.state z;
+              count = λ z. get_or-set_other ws global_word (count_word v.place) y 0 (λ e. omega arith) ∙ f.count z;
               known = omega arith;
               found = omega arith;
               published = λ z. record { count = o0; since = omega arith; once = omega arith };
@@ -384,31 +432,35 @@ module _ (n : ℕ) where
                 all = fu.all;
                 inside = fu.inside;
                 states = fu.states;
-                state = λ z. get_or-set_other ws 0 (2 * u.place + 3) y 0 (λ e. omega arith) ∙ fu.state z;
-                count = λ z. get_or-set_other ws 0 (2 * u.place + 4) y 0 (λ e. omega arith) ∙ fu.count z;
+                state = λ z. get_or-set_other ws global_word (state_word u.place) y 0 (λ e. omega arith) ∙ fu.state z;
+                count = λ z. get_or-set_other ws global_word (count_word u.place) y 0 (λ e. omega arith) ∙ fu.count z;
                 known = let k = fu.known in omega arith;
                 found = fu.found;
                 published = λ z. let p = fu.published z in let i = fu.inside (omega arith) in let other = a.places (omega arith) (omega arith) in
-                    let low : v.count ≤ u.since = passes v u n next a.passed next.0 z (omega arith) other (λ same. absurd (omega arith)) in record { count = p.count; since = p.since; once = omega arith };
+                    let low : v.count ≤ u.since = passes v u n next a.passed next.0 z (omega arith) other (λ same. absurd (omega arith)) in
+                    record { count = p.count; since = p.since; once = omega arith };
                 locked = λ z. let p = fu.locked z in (one_same ∙ p.0, p.1);
                 lone = λ alone z. let i = fu.inside z in absurd (a.places (omega arith) z (omega arith));
               },
               record { places = a.places; locks = a.locks; passed = a.passed },
               record { places = b.places; locks = b.locks; passed = b.passed },
             ))
-            (λ one none. let is_open = l.1 in absurd (used ws (set ws 0 y) v f (omega arith) (get_or-set_other ws 0 3 y 0 (λ c. omega arith)) one none))
+            (λ one none. let is_open = l.1 in
+            absurd (used ws (set ws global_word y) v f (omega arith) (get_or-set_other ws global_word (state_word 0) y 0 (λ c. omega arith)) one none))
             (λ locked. held_set ws vs id v w t at (λ z. z) (λ e. locked (one_same ∙ e))),
         record { known = omega arith; found = omega arith },
         ((λ _. refl), (λ no. absurd (no hit)), alone),
       ))
-      (λ miss. (v, unmoved ws vs id 0 v t at, level v, ((λ e. absurd (miss e)), (λ _. refl), alone)))
+      (λ miss. (v, unmoved ws vs id global_word v t at, level v, ((λ e. absurd (miss e)), (λ _. refl), alone)))
 
   -- take a place
-  pub registers : (id p : ℕ) → p < n → Keeps n id (nobody n) (2 * p + 3) (λ x. either (eqb x 0) 1 x) (Registers (2 * p + 3) (nobody n))
-  registers id p inside ws vs t at small = let i : ℕ = 2 * p + 3 in let x : ℕ = get_or ws i 0 in let v : EpochView = nobody n in let wide = t.wide in
-      exchanged x 0 1 (λ y. (w : EpochView) × EpochPart n (set ws i y) (set vs id w) × Rises (nobody n) w × Registers (2 * p + 3) (nobody n) x w)
-      (λ hit. let c : ℕ = get_or ws (2 * p + 4) 0 in let g : ℕ = get_or ws 0 0 in let w : EpochView = registered n p c g in let zero_same = get_or-set_other ws i 0 1 0 (λ e. omega arith) in
-      let other_place : (u : EpochView) → Fits n ws u → HasPlace u → u.place ≢ p = λ u fu z e. let s = fu.state z in let s' = ap (λ (k : ℕ). get_or ws (2 * k + 3) 0) e in omega arith in (
+  pub registers : (id p : ℕ) → p < n → Keeps n id (nobody n) (state_word p) (λ x. either (eqb x 0) 1 x) (Registers (state_word p) (nobody n))
+  registers id p inside ws vs t at small = let i : ℕ = state_word p in let x : ℕ = get_or ws i 0 in let v : EpochView = nobody n in let wide = t.wide in
+      exchanged x 0 1 (λ y. (w : EpochView) × EpochPart n (set ws i y) (set vs id w) × Rises (nobody n) w × Registers (state_word p) (nobody n) x w)
+      (λ hit. let c : ℕ = get_or ws (count_word p) 0 in let g : ℕ = get_or ws global_word 0 in let w : EpochView = registered n p c g in
+      let zero_same = get_or-set_other ws i global_word 1 0 (λ e. omega arith) in
+      let other_place : (u : EpochView) → Fits n ws u → HasPlace u → u.place ≢ p = λ u fu z e. let s = fu.state z in
+      let s' = ap (λ (k : ℕ). get_or ws (state_word k) 0) e in omega arith in (
         w,
         moved ws vs id i 1 v w t at
             record {
@@ -416,7 +468,7 @@ module _ (n : ℕ) where
               inside = λ _. inside;
               states = omega arith;
               state = λ _. get_or-set_same ws i 1 0 (omega arith);
-              count = λ _. get_or-set_other ws i (2 * p + 4) 1 0 (λ e. omega arith);
+              count = λ _. get_or-set_other ws i (count_word p) 1 0 (λ e. omega arith);
               known = omega arith;
               found = omega arith;
               published = λ z. absurd (omega arith);
@@ -428,10 +480,16 @@ module _ (n : ℕ) where
               record { places = λ _ z e. other_place u fu z (sym e); locks = λ z. absurd (omega arith); passed = λ z. absurd (omega arith) },
               record { places = λ z _. other_place u fu z; locks = λ _ z. omega arith; passed = λ _ z. absurd (omega arith) },
             ))
-            (λ one none. let is : i ≡ 3 = omega arith in let now = get_or-set_same ws i 1 0 (omega arith) in let now' : get_or (set ws i 1) 3 0 ≡ 1 = ap (λ (k : ℕ). get_or (set ws i 1) k 0) (sym is) ∙ now in absurd (omega arith))
-            (λ locked. held_set ws vs id v w t at (λ z. absurd (omega arith)) (λ e. locked (get_or-set_other ws i 1 1 0 (λ e. omega arith) ∙ e))),
+            (λ one none. let is : i ≡ state_word 0 = omega arith in let now = get_or-set_same ws i 1 0 (omega arith) in
+            let now' : get_or (set ws i 1) (state_word 0) 0 ≡ 1 = ap (λ (k : ℕ). get_or (set ws i 1) k 0) (sym is) ∙ now in absurd (omega arith))
+            (λ locked. held_set ws vs id v w t at (λ z. absurd (omega arith)) (λ e. locked (get_or-set_other ws i lock_word 1 0 (λ e. omega arith) ∙ e))),
         record { known = omega arith; found = omega arith },
-        λ p' is. ((λ _. (c, g, ap (λ (k : ℕ). registered n k c g) (let e : p ≡ p' = omega arith in e), λ one. let e : 3 ≡ i = omega arith in t.unused one (ap (λ (k : ℕ). get_or ws k 0) e ∙ hit))), (λ no. absurd (no hit))),
+        λ p' is.
+            let same : p ≡ p' = omega arith in
+            let blank = λ (one : n ≡ 1). let e : state_word 0 ≡ i = omega arith in t.unused one (ap (λ (k : ℕ). get_or ws k 0) e ∙ hit) in (
+              (λ _. (c, g, ap (λ (k : ℕ). registered n k c g) same, λ one. (blank one (count_word p), blank one 0))),
+              (λ no. absurd (no hit)),
+            ),
       ))
       (λ miss. (v, unmoved ws vs id i v t at, level v, λ p' is. ((λ e. absurd (miss e)), (λ _. refl))))
 
@@ -450,7 +508,10 @@ module _ (n : ℕ) where
   }
 
   with_nobody : (a : ℕ) (u : EpochView) → Apart (nobody a) u × Apart u (nobody a)
-  with_nobody a u = (record { places = λ z. absurd (omega arith); locks = λ z. absurd (omega arith); passed = λ z. absurd (omega arith) }, record { places = λ _ z. absurd (omega arith); locks = λ _ z. omega arith; passed = λ _ z. absurd (omega arith) })
+  with_nobody a u = (
+    record { places = λ z. absurd (omega arith); locks = λ z. absurd (omega arith); passed = λ z. absurd (omega arith) },
+    record { places = λ _ z. absurd (omega arith); locks = λ _ z. omega arith; passed = λ _ z. absurd (omega arith) },
+  )
 
   -- a new token, which may be one without a size
   pub seated : (a : ℕ) → (a ≢ 0 → a ≡ n) → (ws : List ℕ) (vs : List EpochView) → EpochPart n ws vs → EpochPart n ws (vs ++ nobody a ∷ [])
@@ -460,33 +521,4 @@ module _ (n : ℕ) where
     two = two_snoc Apart vs (nobody a) t.two (with_nobody a);
     unused = t.unused;
     held = λ z. let h = t.held z in (h.0, h.1, at_longer vs (nobody a ∷ []) h.0 h.1 h.2, h.3);
-  }
-
-  -- the start
-  pub starts : (ws : List ℕ) → 2 * n + 3 ≤ length ws → get_or ws 0 0 ≡ 0 → get_or ws 1 0 ≡ 0 → EpochPart n ws (nobody n ∷ [])
-  starts ws wide zero_first free = record {
-    wide = wide;
-    each = λ j v e. subst (λ (u : EpochView). Fits n ws u) (one j v e).1 (fresh n (λ _. refl) ws);
-    two = λ j k v w apart e e'. absurd (apart ((one j v e).0 ∙ sym (one k w e').0));
-    unused = λ _ _. zero_first;
-    held = λ z. absurd (z free);
-  }
-    where
-      one : (j : ℕ) (v : EpochView) → get_elem? (nobody n ∷ []) j ≡ some v → (j ≡ 0) × (nobody n ≡ v)
-      one zero v e = (refl, some-injective _ _ e)
-      one (suc j) v e = absurd (some-ne-none v (sym e))
-
-  -- where one has found a count two above the other's publish, the other is not open
-  pub settled : (ws : List ℕ) (vs : List EpochView) (h p b : ℕ) (v w : EpochView) → EpochPart n ws vs → get_elem? vs h ≡ some v → get_elem? vs p ≡ some w → b + 2 ≤ v.found → w.since ≤ b → ¬ (IsOpen w)
-  settled ws vs h p b v w t at at' late low is_open = let f = t.each h v at in let f0 = f.known in let f1 = f.found in let g = (t.each p w at').published is_open in let g0 = g.once in omega arith
-
-  -- the part is blind to a word that is no part of it
-  pub blind : (ws : List ℕ) (vs : List EpochView) (i x : ℕ) → (i ≡ 2) ⊎ (2 * n + 3 ≤ i) → EpochPart n ws vs → EpochPart n (set ws i x) vs
-  blind ws vs i x which t = let high : 1 < i = ⊎_elim (λ (e : i ≡ 2). omega arith) (λ (e : 2 * n + 3 ≤ i). omega arith) which in record {
-    wide = let w = t.wide in omega (arith, length-set ws i x);
-    each = λ j v e. let f = t.each j v e in untouched ws i x v high
-        (λ z. let l = f.inside z in ⊎_elim (λ (e : i ≡ 2). ((λ c. omega arith), λ c. omega arith)) (λ (e : 2 * n + 3 ≤ i). ((λ c. omega arith), λ c. omega arith)) which) f;
-    two = t.two;
-    unused = λ one z. get_or-set_other ws i 0 x 0 (λ e. omega arith) ∙ t.unused one (sym (get_or-set_other ws i 3 x 0 (λ e. ⊎_elim (λ (e' : i ≡ 2). omega arith) (λ (e' : 2 * n + 3 ≤ i). omega arith) which)) ∙ z);
-    held = λ e. t.held (λ z. e (get_or-set_other ws i 1 x 0 (λ e. omega arith) ∙ z));
   }

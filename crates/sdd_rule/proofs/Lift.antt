@@ -1,5 +1,5 @@
 -- A step of one part is a step of the table, if the other parts follow.
-use Rattle.std.proofs.Common.{◌≡◌, ◌⊎◌, ℕ, ◌<◌, ◌≤◌, ◌^◌, List, [], ◌∷◌, map, length, get_or, set, sym, refl, ap, ◌∙◌, subst, arith, length-set}
+use Rattle.std.proofs.Common.{◌≡◌, ℕ, ◌<◌, List, [], ◌∷◌, map, length, get_or, set, sym, refl, ap, ◌∙◌, subst, arith, length-set}
 use mathlib.Core.Option.{some}
 use mathlib.Core.List.{map-append}
 use lib.ListN.{get_elem?}
@@ -9,12 +9,11 @@ use Rattle.atomic_table.proofs.Lists.{at_map}
 use Rattle.sdd_rule.specs.declared.EpochView.{EpochView}
 use Rattle.sdd_rule.specs.declared.View.{View}
 use Rattle.sdd_rule.specs.declared.Sizes.{Sizes}
-use Rattle.sdd_rule.specs.Words.{mark_word, after_places}
+use Rattle.sdd_rule.specs.Words.{after_places}
 use Rattle.sdd_rule.specs.Epoch.{EpochPart}
 use Rattle.sdd_rule.specs.Steps.{Rises, Keeps}
 use Rattle.sdd_rule.specs.Parts.{epoch_of, with_epoch, idle, PlacesPart, SlotsPart, CellsPart, Kept}
-use Rattle.sdd_rule.proofs.Frame.{same_part}
-use Rattle.sdd_rule.proofs.Epoch.{seated, blind}
+use Rattle.sdd_rule.proofs.Epoch.{seated}
 
 module _ {S : Type 0} (sizes : Sizes) where
   -- the parts that aren't the epoch's
@@ -24,7 +23,8 @@ module _ {S : Type 0} (sizes : Sizes) where
     pub cells : CellsPart sizes s
 
   -- each of them over a step of the epoch's part, which names none of its words and leaves what is known of it
-  module _ (s : State S View) (id i x : ℕ) (v w : View) (k : Kept sizes s) (at : get_elem? s.views id ≡ some v) (low : i < after_places sizes.participants) (up : Rises (epoch_of v) (epoch_of w)) where
+  module _ (s : State S View) (id i x : ℕ) (v w : View) (k : Kept sizes s) (at : get_elem? s.views id ≡ some v)
+      (low : i < after_places sizes.participants) (up : Rises (epoch_of v) (epoch_of w)) where
     abbrev moved : State S View
     moved = record { words = set s.words i x; homes = s.homes; views = set s.views id w }
 
@@ -41,16 +41,19 @@ module _ {S : Type 0} (sizes : Sizes) where
     -- a step of the epoch's part, with which the participant may change what it knows of the others, and take or give slots
     pub lift_epoch : (then : ℕ → EpochView → Type 0) (next : EpochView → View) (act : EpochView → Act S)
         → ((w : EpochView) → epoch_of (next w) ≡ w) → Keeps sizes.participants id (epoch_of me.0) i f then
-        → ((s : State S View) (w : EpochView) → Kept sizes s → length s.homes ≡ slots → get_elem? s.views id ≡ some me.0 → Rises (epoch_of me.0) w → then (get_or s.words i 0) w
+        → ((s : State S View) (w : EpochView) → Kept sizes s → length s.homes ≡ slots → get_elem? s.views id ≡ some me.0
+        → Rises (epoch_of me.0) w → then (get_or s.words i 0) w
         → Valid s.homes me.1 (act w) × Beside (stepped s i (f (get_or s.words i 0)) id me.1 (next w) (act w)))
         → Allows (Kept sizes) slots id me i f (λ r m'. (w : EpochView) × (m' ≡ (next w, carried_after me.1 (act w))) × then r w)
     lift_epoch then next act sees step follow s k full at small =
-        let e = step s.words (map epoch_of s.views) k.epoch (at_map epoch_of s.views id me.0 at) small in let w : EpochView = e.0 in let b = follow s w k full at e.2 e.3 in let x : ℕ = f (get_or s.words i 0) in (
+        let e = step s.words (map epoch_of s.views) k.epoch (at_map epoch_of s.views id me.0 at) small in let w : EpochView = e.0 in
+        let b = follow s w k full at e.2 e.3 in let x : ℕ = f (get_or s.words i 0) in (
           next w,
           act w,
           b.0,
           record {
-            epoch = subst (λ (l : List EpochView). EpochPart sizes.participants (set s.words i x) l) (sym (map-set epoch_of s.views id (next w) ∙ ap (λ (u : EpochView). set (map epoch_of s.views) id u) (sees w))) e.1;
+            epoch = subst (λ (l : List EpochView). EpochPart sizes.participants (set s.words i x) l)
+                (sym (map-set epoch_of s.views id (next w) ∙ ap (λ (u : EpochView). set (map epoch_of s.views) id u) (sees w))) e.1;
             places = b.1.places;
             slots = b.1.slots;
             cells = b.1.cells;
@@ -65,33 +68,20 @@ module _ {S : Type 0} (sizes : Sizes) where
         (λ s w k _ at up _. (
           tt,
           let x : ℕ = f (get_or s.words i 0) in
-              record { places = places_spared s id i x me.0 (with_epoch me.0 w) k at low up refl; slots = slots_spared s id i x me.0 (with_epoch me.0 w) k at low up refl; cells = cells_spared s id i x me.0 (with_epoch me.0 w) k at low up refl },
+              record {
+                places = places_spared s id i x me.0 (with_epoch me.0 w) k at low up refl;
+                slots = slots_spared s id i x me.0 (with_epoch me.0 w) k at low up refl;
+                cells = cells_spared s id i x me.0 (with_epoch me.0 w) k at low up refl;
+              },
         ))
-
-    -- a step of another part, on a word that isn't the epoch's; it may use all that the epoch's part says
-    pub lift_beside : (told : ℕ → Me S View → Type 0) → (i ≡ mark_word) ⊎ (after_places sizes.participants ≤ i)
-        → ((s : State S View) → Kept sizes s → length s.homes ≡ slots → get_elem? s.views id ≡ some me.0 → get_or s.words i 0 < 2 ^ 64
-        → (w : View) × (a : Act S) × (epoch_of w ≡ epoch_of me.0) × Valid s.homes me.1 a × Beside (stepped s i (f (get_or s.words i 0)) id me.1 w a) × told (get_or s.words i 0) (w, carried_after me.1 a))
-        → Allows (Kept sizes) slots id me i f told
-    lift_beside told which step s k full at small = let e = step s k full at small in let w : View = e.0 in let b = e.4 in let x : ℕ = f (get_or s.words i 0) in (
-      w,
-      e.1,
-      e.3,
-      record {
-        epoch = subst (λ (l : List EpochView). EpochPart sizes.participants (set s.words i x) l) (sym (same_part epoch_of s.views id me.0 w at e.2)) (blind sizes.participants s.words (map epoch_of s.views) i x which k.epoch);
-        places = b.places;
-        slots = b.slots;
-        cells = b.cells;
-      },
-      e.5,
-    )
 
   -- a new token, which knows nothing
   pub enters : (slots i : ℕ) (told : ℕ → View → Type 0) → ((r : ℕ) → told r (idle sizes.participants)) → Enters (Kept {S = S} sizes) slots i told
   enters slots i told tells s k _ small = let n : ℕ = sizes.participants in (
     idle n,
     record {
-      epoch = subst (λ (l : List EpochView). EpochPart n s.words l) (sym (map-append epoch_of s.views (idle n ∷ []))) (seated n n (λ _. refl) s.words (map epoch_of s.views) k.epoch);
+      epoch = subst (λ (l : List EpochView). EpochPart n s.words l) (sym (map-append epoch_of s.views (idle n ∷ [])))
+          (seated n n (λ _. refl) s.words (map epoch_of s.views) k.epoch);
       places = record { wide = k.places.wide };
       slots = record { wide = k.slots.wide };
       cells = record { wide = k.cells.wide };

@@ -17,7 +17,11 @@ IsOpen v = v.state ≡ 2
 abbrev pub Scans : EpochView → Type 0
 Scans v = v.scans ≡ 1
 
--- its participant is the only one that there may be
+-- it had a place, which has ended
+abbrev pub HasEnded : EpochView → Type 0
+HasEnded v = (v.ended ≡ 1) × (v.state ≡ 0)
+
+-- its participant is lone: no other may be
 abbrev pub IsLone : EpochView → Type 0
 IsLone v = v.all ≡ 1
 
@@ -40,16 +44,17 @@ pub record Fits (n : ℕ) (ws : List ℕ) (v : EpochView) : Type 0 where
   pub locked : Scans v → (slice_index ws lock_word ≡ 1) × IsOpen v
   pub lone : n ≡ 1 → HasPlace v → slice_index ws global_word ≡ v.known
 
--- what is true of two participants: they have different places, one scans at most, and who was passed by a scan published at its count at least
+-- what is true of two participants: they have different places, one scans at most,
+-- and who was passed by a scan published at its count at least
 pub record Apart (v w : EpochView) : Type 0 where
   pub places : HasPlace v → HasPlace w → v.place ≢ w.place
   pub locks : Scans v → ¬ (Scans w)
   pub passed : Scans v → IsOpen w → w.place < v.looked → v.count ≤ w.since
 
--- n places, the words, and what all participants know; where there is one place, the count is 0 until it is taken
+-- n places, the words, and what all participants know; where there is one place, each word is 0 until it is taken
 pub record EpochPart (n : ℕ) (ws : List ℕ) (vs : List EpochView) : Type 0 where
   pub wide : after_places n ≤ length ws
   pub each : (j : ℕ) (v : EpochView) → get_elem? vs j ≡ some v → Fits n ws v
   pub two : (j k : ℕ) (v w : EpochView) → j ≢ k → get_elem? vs j ≡ some v → get_elem? vs k ≡ some w → Apart v w
-  pub unused : n ≡ 1 → slice_index ws (state_word 0) ≡ 0 → slice_index ws global_word ≡ 0
+  pub unused : n ≡ 1 → slice_index ws (state_word 0) ≡ 0 → (i : ℕ) → slice_index ws i ≡ 0
   pub held : slice_index ws lock_word ≢ 0 → (j : ℕ) × (v : EpochView) × (get_elem? vs j ≡ some v) × Scans v

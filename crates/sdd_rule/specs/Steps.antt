@@ -11,16 +11,17 @@ pub record Rises (v w : EpochView) : Type 0 where
   pub known : v.known ≤ w.known
   pub found : v.found ≤ w.found
 
--- the seat id, which knows v, takes a step on the word i: whatever the words and the others are, it knows something after it by which the part is kept
+-- the seat id, which knows v, takes a step on the word i:
+-- whatever the words and the others are, it knows something after it by which the part is kept
 abbrev pub Keeps : ℕ → ℕ → EpochView → ℕ → (ℕ → ℕ) → (ℕ → EpochView → Type 0) → Type 0
 Keeps n id v i f then = (ws : List ℕ) (vs : List EpochView) → EpochPart n ws vs → get_elem? vs id ≡ some v → slice_index ws i < 2 ^ 64
     → (w : EpochView) × EpochPart n (slice_set ws i (f (slice_index ws i))) (slice_set vs id w) × Rises v w × then (slice_index ws i) w
 
 abbrev pub nobody : ℕ → EpochView
-nobody n = record { all = n; place = 0; state = 0; count = 0; since = 0; known = 0; found = 0; scans = 0; looked = 0 }
+nobody n = record { all = n; place = 0; state = 0; count = 0; since = 0; known = 0; found = 0; scans = 0; looked = 0; ended = 0 }
 
 abbrev pub registered : ℕ → ℕ → ℕ → ℕ → EpochView
-registered n p c g = record { all = n; place = p; state = 1; count = c; since = 0; known = g; found = 0; scans = 0; looked = 0 }
+registered n p c g = record { all = n; place = p; state = 1; count = c; since = 0; known = g; found = 0; scans = 0; looked = 0; ended = 0 }
 
 abbrev pub knowing : EpochView → ℕ → EpochView
 knowing v c = record v { known = c }
@@ -35,7 +36,7 @@ abbrev pub closed : EpochView → EpochView
 closed v = record v { state = 1 }
 
 abbrev pub ended : EpochView → EpochView
-ended v = record v { state = 0 }
+ended v = record v { state = 0; ended = 1 }
 
 abbrev pub scanning : EpochView → EpochView
 scanning v = record v { scans = 1; looked = 0 }
@@ -51,8 +52,12 @@ abbrev pub IsNext : EpochView → ℕ → Type 0
 IsNext v q = Scans v × ((q ≡ v.looked) ⊎ ((v.looked ≡ v.place) × (q ≡ v.place + 1)))
 
 -- each of these: what was known before, the number found (at a store the number stored), and what is known after
+-- a place that was free is taken; a lone participant finds that its count word and the global count are 0
+abbrev pub Takes : EpochView → ℕ → EpochView → Type 0
+Takes v p w = (c : ℕ) × (g : ℕ) × (w ≡ registered v.all p c g) × (IsLone v → (c ≡ 0) × (g ≡ 0))
+
 abbrev pub Registers : ℕ → EpochView → ℕ → EpochView → Type 0
-Registers i v x w = (p : ℕ) → i ≡ state_word p → (x ≡ 0 → (c : ℕ) × (g : ℕ) × (w ≡ registered v.all p c g) × (IsLone v → g ≡ 0)) × (x ≢ 0 → w ≡ v)
+Registers i v x w = (p : ℕ) → i ≡ state_word p → (x ≡ 0 → Takes v p w) × (x ≢ 0 → w ≡ v)
 
 -- the count read is at least what was known; under an open guard it is the one at the publish, or one more
 abbrev pub Reads : EpochView → ℕ → EpochView → Type 0

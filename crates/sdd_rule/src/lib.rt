@@ -22,6 +22,8 @@ pub struct EpochView {
     pub scans: u64,
     /// In its scan each other place below this one was looked at and passed.
     pub looked: u64,
+    /// 1 once it has ended: its place is its own no more.
+    pub ended: u64,
 }
 
 /// What a participant knows of ended places: nothing yet.

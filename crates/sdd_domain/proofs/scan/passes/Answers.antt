@@ -13,7 +13,8 @@ look_at_count-requires-clause-next c = let same = (c.look_at_state.ensures.1 c.a
 
 pub returns-clause-passed : goal.returns-clause-passed
 returns-clause-passed c e = let same = (c.look_at_state.ensures.1 c.args.place refl).1 c.if-look_at_state-ne-OPEN.false in
-    (c.look_at_count.ensures.1 c.args.place refl).0 (eqb-true _ _ e ∙ (c.requires.count ∙ sym (ap (λ (v : EpochView). v.count) same))) ∙ ap (λ (v : EpochView). passed_by v c.args.place) same
+    let own = c.requires.count ∙ sym (ap (λ (v : EpochView). v.count) same) in
+    (c.look_at_count.ensures.1 c.args.place refl).0 (eqb-true _ _ e ∙ own) ∙ ap (λ (v : EpochView). passed_by v c.args.place) same
 
 pub returns-clause-failed : goal.returns-clause-failed
 returns-clause-failed c e = let same = (c.look_at_state.ensures.1 c.args.place refl).1 c.if-look_at_state-ne-OPEN.false in

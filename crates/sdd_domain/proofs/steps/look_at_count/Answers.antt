@@ -1,10 +1,14 @@
-use Rattle.std.proofs.Common.{◌+◌, ◌*◌, arith}
+use Rattle.std.proofs.Common.{ℕ, arith, subst}
 use Rattle.sdd_rule.specs.Steps.{LooksAtCount}
+use Rattle.sdd_domain.specs.Token.{Stepped}
 use Rattle.sdd_domain.proofs.Allowed.{told, may_look_at_count}
 use Rattle.sdd_domain.proofs.steps.look_at_count.Goals as goal
 
 pub load-requires : goal.load-requires
-load-requires c = let sized = c.args.domain.now.sized in let r = c.requires in (r.home, omega arith, may_look_at_count _ _ _ _ _ (omega arith) r.next.1)
+load-requires c = let sized = c.args.board.now.sized in let r = c.requires in
+    (r.home, omega arith, may_look_at_count _ _ _ _ _ _ c.count_word.ensures (omega arith) r.next.1)
 
 pub returns : goal.returns
-returns c = let e = c.load.ensures in told (LooksAtCount (2 * c.args.place + 4)) c.args.token.now _ c.load.result e.0 e.1 e.2
+returns c = let e = c.load.ensures in
+    subst (λ (i : ℕ). Stepped (LooksAtCount i) c.args.token.now c.load.result c.load.new.seat) c.count_word.ensures
+    (told (LooksAtCount c.count_word.result) c.args.token.now _ c.load.result e.0 e.1 e.2)

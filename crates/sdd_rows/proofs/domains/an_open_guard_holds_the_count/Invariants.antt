@@ -1,6 +1,6 @@
 use Rattle.sdd_base.specs.Seat.{IsSeated}
 use Rattle.sdd_domain.specs.Space.{seat_of}
-use Rattle.sdd_domain.proofs.tests.an_open_guard_holds_the_count.Given as goal
+use Rattle.sdd_rows.proofs.domains.an_open_guard_holds_the_count.Given as goal
 
 abbrev pub invariant-loop-shown : goal.invariant-loop-shown
 invariant-loop-shown g l = IsSeated (seat_of l.busy)

@@ -1,11 +1,12 @@
+//! Domains: participants in several threads, the places that they take, and what their guards show.
 ghost use Rattle.std.specs.Prelude.{◌≡◌};
 ghost use Rattle.sdd_base.specs.Seat.{IsSeated};
 ghost use Rattle.sdd_base.specs.Guard.{place_of};
 ghost use Rattle.sdd_domain.specs.Space.{seat_of};
 
-use crate::{Domain, Local, Receipt};
 use sdd_base::{Guard, Limits};
 use sdd_core::Refused;
+use sdd_domain::{Domain, Local, Receipt};
 use std::process::Abort;
 use std::thread::{Threads, join};
 
@@ -18,6 +19,12 @@ const SMALL: Limits = Limits {
     tries: 1,
 };
 
+/// The same for one participant.
+const ONE: Limits = Limits {
+    participants: 1,
+    ..SMALL
+};
+
 fn new_domain(rt: &(impl Abort + AllocGlobal), limits: Limits) -> Domain {
     Domain::new(rt.alloc(), limits).expect(rt, "the limits are in range")
 }
@@ -26,6 +33,17 @@ fn registered<'d>(rt: &impl Abort, domain: &'d Domain) -> Local<'d>
     ensures { IsSeated (seat_of result) }
 {
     Local::register(domain).expect(rt, "a place is free")
+}
+
+/// Where memory is wanting the place stays free, so that a second try takes it.
+fn registered_at_last<'d>(rt: &impl Abort, domain: &'d Domain) -> Local<'d> {
+    match Local::register(domain) {
+        Ok(local) => local,
+        Err(refused) => {
+            assert_eq!(rt; refused, Refused::NoMemory);
+            registered(rt, domain)
+        }
+    }
 }
 
 fn opened(rt: &impl Abort, local: &mut Local<'_>) -> Guard
@@ -44,16 +62,32 @@ fn close(guard: Guard, local: &mut Local<'_>)
     guard.close::<u64, Local<'_>>(local);
 }
 
+/// The epoch that a guard shows now.
+fn shown(guard: &Guard, local: &mut Local<'_>) -> u8
+    requires { IsSeated (seat_of local.old) }
+    ensures { seat_of local.new ≡ seat_of local.old }
+{
+    u8::from(guard.epoch::<u64, Local<'_>>(local))
+}
+
 /// Opens, accelerates and closes a guard, and tells which epoch it showed.
 fn accelerated(rt: &impl Abort, local: &mut Local<'_>) -> u8
     requires { IsSeated (seat_of local.old) }
     ensures { seat_of local.new ≡ seat_of local.old }
 {
     let guard = opened(rt, local);
-    let epoch = guard.epoch::<u64, Local<'_>>(local);
+    let epoch = shown(&guard, local);
     guard.accelerate::<u64, Local<'_>>(local);
     close(guard, local);
-    u8::from(epoch)
+    epoch
+}
+
+/// What one more participant is refused with.
+fn refusal(rt: &impl Abort, domain: &Domain) -> Refused {
+    match Local::register(domain) {
+        Ok(_local) => panic!(rt; "a place is free"),
+        Err(refused) => refused,
+    }
 }
 
 fn ended(rt: &impl Abort, local: Local<'_>) -> Receipt {
@@ -129,19 +163,12 @@ fn limits_out_of_range_are_refused(rt: HostRuntime) {
 
 #[test]
 fn an_ended_place_is_not_free_again(rt: HostRuntime) {
-    let limits = Limits {
-        participants: 1,
-        ..SMALL
-    };
-    let domain = new_domain(&rt, limits);
+    let domain = new_domain(&rt, ONE);
     let local = registered(&rt, &domain);
     assert_eq!(rt; local.tally().made, 0);
     let receipt = ended(&rt, local);
     assert_eq!(rt; receipt.tally().made, 0);
-    match Local::register(&domain) {
-        Ok(_local) => panic!(rt; "the place has ended"),
-        Err(refused) => assert_eq!(rt; refused, Refused::NoPlace),
-    }
+    assert_eq!(rt; refusal(&rt, &domain), Refused::NoPlace);
     let receipts = vec![in rt.alloc(); receipt].expect(&rt, "there is memory");
     closed(&rt, domain, receipts);
 }
@@ -177,7 +204,7 @@ fn an_open_guard_holds_the_count(rt: HostRuntime) {
     for shown in [0, 1, 1, 1] {
         assert_eq!(rt; accelerated(&rt, &mut busy), shown);
     }
-    assert_eq!(rt; u8::from(guard.epoch::<u64, Local<'_>>(&mut still)), 1);
+    assert_eq!(rt; shown(&guard, &mut still), 1);
     close(guard, &mut still);
     for shown in [1, 2, 3] {
         assert_eq!(rt; accelerated(&rt, &mut busy), shown);
@@ -190,15 +217,28 @@ fn an_open_guard_holds_the_count(rt: HostRuntime) {
 }
 
 #[test]
+fn a_guard_shows_the_next_epoch_where_another_participant_raised_the_count(rt: HostRuntime) {
+    let domain = new_domain(&rt, SMALL);
+    let mut still = registered(&rt, &domain);
+    let mut busy = registered(&rt, &domain);
+    let guard = opened(&rt, &mut still);
+    assert_eq!(rt; shown(&guard, &mut still), 0);
+    assert_eq!(rt; accelerated(&rt, &mut busy), 0);
+    assert_eq!(rt; shown(&guard, &mut still), 1);
+    close(guard, &mut still);
+    ended(&rt, still);
+    ended(&rt, busy);
+    closed(&rt, domain, Vec::new(rt.alloc()));
+}
+
+/// With ample memory all are there. Under `rt try --test --fail-alloc N` one of them is refused, and takes no place.
+#[test]
 fn only_want_of_memory_refuses(rt: HostRuntime) {
-    match Domain::new(rt.alloc(), SMALL) {
+    match Domain::new(rt.alloc(), ONE) {
         Ok(domain) => {
-            match Local::register(&domain) {
-                Ok(local) => {
-                    ended(&rt, local);
-                }
-                Err(refused) => assert_eq!(rt; refused, Refused::NoMemory),
-            }
+            let local = registered_at_last(&rt, &domain);
+            assert_eq!(rt; refusal(&rt, &domain), Refused::NoPlace);
+            ended(&rt, local);
             closed(&rt, domain, Vec::new(rt.alloc()));
         }
         Err(refused) => assert_eq!(rt; refused, Refused::NoMemory),

@@ -1,0 +1,32 @@
+-- What holds of a participant between two calls
+use Rattle.std.specs.Prelude.{◌≡◌, ℕ, ◌+◌, ◌<◌, ◌≤◌, []}
+use Rattle.atomic_table.specs.declared.shared.Seat.{Seat}
+use Rattle.sdd_store.specs.declared.time.Participant.{Participant}
+use Rattle.sdd_rule.specs.declared.EpochView.{EpochView}
+use Rattle.sdd_rule.specs.declared.View.{View}
+use Rattle.sdd_rule.specs.Epoch.{IsClosed, IsOpen, Scans, IsLone}
+use Rattle.sdd_domain.specs.declared.board.Board.{Board}
+use Rattle.sdd_domain.specs.Board.{id_of, places_of}
+use Rattle.sdd_domain.specs.Token.{epoch}
+
+-- it has published its count; what it knows is the count at that publish or the next
+pub record IsNear (v : EpochView) : Type 0 where
+  pub count : v.count ≤ v.since
+  pub since : v.since ≤ v.known
+  pub known : v.known ≤ v.since + 1
+
+-- the board, the place, what it keeps of its own, and its token
+module _ {S : Type 0} (b : Board) (p : ℕ) (own : Participant) (token : Seat S View) where
+  pub record IsPosed : Type 0 where
+    pub home : token.table_id ≡ id_of b
+    pub none_out : token.me.1 ≡ []
+    pub all : (epoch token).all ≡ places_of b
+    pub place : (epoch token).place ≡ p
+    pub inside : p < places_of b
+    pub count : (epoch token).count ≡ own.found
+    pub closed : own.guards ≡ 0 → IsClosed (epoch token)
+    pub opened : 0 < own.guards → IsOpen (epoch token)
+    pub near : 0 < own.guards → IsNear (epoch token)
+    pub lone : 0 < own.guards → IsLone (epoch token) → (epoch token).known ≡ (epoch token).count
+    pub free : ¬ (Scans (epoch token))
+    pub bare : own.bags.waiting ≡ []
