@@ -1,14 +1,27 @@
-//! Worked examples of a world, as tests: which epoch each guard shows, and at which of them an item is reclaimed.
+//! Worked examples, as tests: which epoch each guard shows, at which of them an item is reclaimed, what the lines of
+//! scripts are and print, and the greatest sizes.
 #![tactic(auto)]
 
+#[cfg(test)]
+mod answers;
+#[cfg(test)]
+mod devices;
+#[cfg(test)]
+mod first_example;
+#[cfg(test)]
+mod greatest_sizes;
 #[cfg(test)]
 mod guards;
 #[cfg(test)]
 mod limits_and_memory;
 #[cfg(test)]
+mod lines;
+#[cfg(test)]
 mod nested_values;
 #[cfg(test)]
 mod openings;
+#[cfg(test)]
+mod shown;
 #[cfg(test)]
 mod slots_and_owners;
 #[cfg(test)]

@@ -1,6 +1,6 @@
 //! The texts of answers.
 
-use crate::{
+use sdd_lines::{
     Answer, GuardName, ItemName, JobName, Names, OwnerName, PlaceName, Reply, print_all,
     print_fault,
 };
