@@ -34,7 +34,8 @@ meets-made old new world p n k given place makes named desk =
     )
 
 -- an owner retires its item
-pub meets-retired : (old : Desk) (world : World Val) (p o i k : ℕ) (owners : List (Option ℕ)) (items : List ItemState) → IsPlace old p → IsOwnerOf old i o → k ≡ (item_at old i).slot →
+pub meets-retired : (old : Desk) (world : World Val) (p o i k : ℕ) (owners : List (Option ℕ)) (items : List ItemState) →
+    IsPlace old p → IsOwnerOf old i o → k ≡ (item_at old i).slot →
     world ≡ retired old.world p k → owners ≡ slice_set old.owners o None → items ≡ with_fate old.items i (Retired old.moment) →
     Meets old (At (record { 0 = p }) (call.Retire (record { 0 = o }))) reply.Done [] (record old { world = world; owners = owners; items = items })
 meets-retired old world p o i k owners items place owner slot retires spent become =
@@ -42,10 +43,19 @@ meets-retired old world p o i k owners items place owner slot retires spent beco
     rw (retires ∙ ap (λ (j : ℕ). retired old.world p j) slot) (rw spent (rw become ((place, there), ((i, owner, refl), refl))))
 
 -- p opens a guard
-pub meets-opened : (old : Desk) (world : World Val) (p : ℕ) (epoch : Epoch) (names : List ItemName) (openings : List ℕ) (guards : List (Option ℕ)) (items : List ItemState) →
+pub meets-opened : (old : Desk) (world : World Val) (p : ℕ) (epoch : Epoch) (names : List ItemName) (openings : List ℕ)
+    (guards : List (Option ℕ)) (items : List ItemState) →
     IsPlace old p → CanNest old.world.time p → world ≡ opened holdings_of old.world p → epoch ≡ epoch_of world.time.count → AreReclaimed old p names →
-    openings ≡ (if is_open (place_at old.world p) then old.openings else slice_set old.openings p old.moment) → guards ≡ old.guards ++ Some p ∷ [] → items ≡ all_gone old.items names →
-    Meets old (At (record { 0 = p }) call.Open) (reply.Guard (record { 0 = length old.guards }) epoch) names (record old { world = world; openings = openings; guards = guards; items = items })
+    openings ≡ (if is_open (place_at old.world p) then old.openings else slice_set old.openings p old.moment) →
+      guards ≡ old.guards ++ Some p ∷ [] → items ≡ all_gone old.items names →
+    Meets old (At (record { 0 = p }) call.Open) (reply.Guard (record { 0 = length old.guards }) epoch) names
+        (record old { world = world; openings = openings; guards = guards; items = items })
 meets-opened old world p epoch names openings guards items place nests opens now are began named gone =
     let P = λ (w : World Val) (os : List ℕ) (gs : List (Option ℕ)) (xs : List ItemState). record old { world = w; openings = os; guards = gs; items = xs } in
-    (place, (nests, refl, now, are, ap (λ (w : World Val). P w openings guards items) opens ∙ ap (λ (os : List ℕ). P (opened holdings_of old.world p) os guards items) began ∙ ap (λ (gs : List (Option ℕ)). P (opened holdings_of old.world p) (if is_open (place_at old.world p) then old.openings else slice_set old.openings p old.moment) gs items) named ∙ ap (λ (xs : List ItemState). P (opened holdings_of old.world p) (if is_open (place_at old.world p) then old.openings else slice_set old.openings p old.moment) (old.guards ++ Some p ∷ []) xs) gone))
+    (place, (nests, refl, now, are, ap (λ (w : World Val). P w openings guards items) opens
+          ∙ ap (λ (os : List ℕ). P (opened holdings_of old.world p) os guards items) began
+          ∙ ap (λ (gs : List (Option ℕ)). P (opened holdings_of old.world p)
+            (if is_open (place_at old.world p) then old.openings else slice_set old.openings p old.moment) gs items) named
+          ∙ ap (λ (xs : List ItemState). P (opened holdings_of old.world p)
+            (if is_open (place_at old.world p) then old.openings else slice_set old.openings p old.moment)
+            (old.guards ++ Some p ∷ []) xs) gone))

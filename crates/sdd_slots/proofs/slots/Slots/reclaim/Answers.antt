@@ -9,9 +9,11 @@ unreachable-requires g c =
     let some : IsSome (slice_index_or c.self.inside.standings c.args.slot None) = ap is_some c.release.ensures.was in
     let inside : c.args.slot < length c.self.inside.standings = inside-some _ _ some in
     let there : c.args.slot < c.self.inside.rights.home.size = omega (arith, sized, inside) in
-    let filled : is_some c.index_mut.result.now ≡ true = filled-here c.args.slot c.index_mut.result.now c.self.invariant there c.index_mut.ensures.value ∙ some in
+    let filled : is_some c.index_mut.result.now ≡ true =
+      filled-here c.args.slot c.index_mut.result.now c.self.invariant there c.index_mut.ensures.value ∙ some in
     let none : is_some c.index_mut.result.now ≡ false = ap is_some (sym c.take.ensures.value ∙ c.in_default.is) in
     cc
 
 pub invariant_of-self : goal.invariant_of-self
-invariant_of-self g c = rw (c.set.ensures.home, c.set.ensures.kept, c.release.ensures.left, c.take.ensures.after) (keeps c.args.slot None None refl c.self.invariant)
+invariant_of-self g c = rw (c.set.ensures.home, c.set.ensures.kept, c.release.ensures.left, c.take.ensures.after)
+    (keeps c.args.slot None None refl c.self.invariant)
