@@ -55,6 +55,10 @@ none-set xs k o e =
       | inr past ↦ ap (λ ys. slice_index_or ys k None) (set_past xs k None past) ∙ get_or_past xs k None past
     ])
 
+-- a write seen through a function
+pub map_set : {A B : Type 0} (f : A → B) (l : List A) (i : ℕ) (a : A) → map f (set l i a) ≡ set (map f l) i (f a)
+map_set f l i a = map-set f l i a
+
 -- the name of an owner stands for its item
 pub item_held : (owners : List (Option Held)) (o : ℕ) (held : Held) → Some held ≡ slice_index_or owners o None →
     slice_index_or (map held_item owners) o None ≡ Some held.item
