@@ -224,8 +224,12 @@ Accounts-retired d p o i place owner sound a =
       opened = λ q. at-each (λ (x : Participant). x.guards) d.world.time.places p y nobody refl q ∙ a.opened q;
       taken = λ s t.
           elim (cases_eq s k) [
-            | inl e ↦ inr (p, 0, subst (λ (n : ℕ). Among (waiting (with_retired d p o i) p) (having_seen 0 (Item n))) (sym e)
-                  (waits-now d p o i place owner sound))
+            | inl e ↦ inr (
+              p,
+              0,
+              subst (λ (n : ℕ). Among (waiting (with_retired d p o i) p) (having_seen 0 (Item n))) (sym e)
+                  (waits-now d p o i place owner sound),
+            )
             | inr ne ↦
                 elim (a.taken s (subst (λ (x : Option Standing). IsSome x) (at-other d.world.standings k s (Some Retired) None ne) t)) [
                   | inl was ↦
@@ -256,7 +260,7 @@ Accounts-start l d s = record {
       ap (λ (ps : List Participant). (slice_index_or ps q nobody).guards) (ap (λ (t : Time). t.places) s.world.time)
       ∙ ap (λ (gs : List (Option ℕ)). count_by (is_of q) gs) (sym s.guards);
   taken = λ k t. absurd (not-free (standing_at d.world k) t
-        (ap (λ (ss : Entries Standing). slice_index_or ss k None) s.world.standings ∙ none-at Standing l.slots k));
+      (ap (λ (ss : Entries Standing). slice_index_or ss k None) s.world.standings ∙ none-at Standing l.slots k));
   placed = λ o i h. (let z : None ≡ Some i = ap (λ (os : List (Option ℕ)). slice_index_or os o None) (sym s.owners) ∙ h in absurd (cc));
 }
 
@@ -279,7 +283,7 @@ accounts-stepped : (old mid : Desk) (call : Call) (answer : Answer) → Sound ol
     old.world.tally.made + 1 < 2 ^ 128 → Step old call answer mid → Accounts mid × (mid.world.tally.made ≤ old.world.tally.made + 1)
 accounts-stepped old mid call answer s a more step =
     let g = accounts-goes old step.after answer.reclaimed (event_of call answer.reply) s a more
-      (happens old call answer.reply answer.reclaimed step.after step.meets) in
+    (happens old call answer.reply answer.reclaimed step.after step.meets) in
     rw step.moment (Accounts-later step.after g.0, g.1)
 
 accounts-from : (past lines : List Line) (old new : Desk) → Sound old → Knows past old → Accounts old →

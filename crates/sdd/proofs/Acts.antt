@@ -55,6 +55,6 @@ pub meets-opened : (old : Desk) (world : World Val) (p : ℕ) (epoch : Epoch) (n
     openings ≡ (if is_open (place_at old.world p) then old.openings else slice_set old.openings p old.moment) →
     guards ≡ old.guards ++ Some p ∷ [] → items ≡ all_gone old.items names →
     Meets old (At (record { 0 = p }) call.Open) (reply.Guard (record { 0 = length old.guards }) epoch) names
-        (record old { world = world; openings = openings; guards = guards; items = items })
+    (record old { world = world; openings = openings; guards = guards; items = items })
 meets-opened old world p epoch names openings guards items place nests opens now are began named gone =
     (place, (nests, refl, now, are, equal-desks old opens began named gone))

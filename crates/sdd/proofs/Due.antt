@@ -34,9 +34,9 @@ no-places l d s = ap (λ (t : Time). t.places) s.world.time
 pub Sound-start : (l : Limits) (d : Desk) → IsStart l d → Sound d
 Sound-start l d s =
     let none = λ (q : ℕ) (x : Waiting) (h : Among (waiting d q) x). subst
-      (λ (ps : List Participant). Among (slice_index_or ps q nobody).bags.waiting x) (no-places l d s) h in
+    (λ (ps : List Participant). Among (slice_index_or ps q nobody).bags.waiting x) (no-places l d s) h in
     let unowned = λ (o i : ℕ) (h : IsOwnerOf d i o). let z : slice_index_or {A = Option ℕ} [] o None ≡ Some i =
-      subst (λ (os : List (Option ℕ)). slice_index_or os o None ≡ Some i) s.owners h in z in
+    subst (λ (os : List (Option ℕ)). slice_index_or os o None ≡ Some i) s.owners h in z in
     record {
       retired = λ q x h. absurd (none q x h);
       once = λ q r k a b h1 h2. absurd (none q _ h1);
@@ -84,8 +84,16 @@ goes line past names old new (Closed p) is count s k h =
     let c = Closes-closed old.world.time p h.0 in
     rw h.2.2
     record {
-      sound = Sound-still old _ s (record { found = c.found; waiting = c.waiting; standings = refl; cells = refl; owners = refl;
-              items = refl; values = refl; tally = refl });
+      sound = Sound-still old _ s (record {
+        found = c.found;
+        waiting = c.waiting;
+        standings = refl;
+        cells = refl;
+        owners = refl;
+        items = refl;
+        values = refl;
+        tally = refl;
+      });
       knows = Knows-closed line past old p _ is h.0 k;
       due = none-due line past names (Closed p) is h.1 (λ i z. z);
     }
@@ -116,7 +124,7 @@ pub stepped : (line : Line) (past : List Line) (old mid : Desk) → line.count �
     Step old line.call line.answer mid → Follows line past line.answer.reclaimed mid
 stepped line past old mid count s k step =
     let g = goes line past line.answer.reclaimed old step.after (event line) refl count s k
-      (happens old line.call line.answer.reply line.answer.reclaimed step.after step.meets) in
+    (happens old line.call line.answer.reply line.answer.reclaimed step.after step.meets) in
     rw step.moment
     record { sound = Sound-later step.after g.sound; knows = Knows-later (line ∷ past) step.after g.knows; due = g.due }
 

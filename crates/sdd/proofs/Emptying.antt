@@ -133,7 +133,7 @@ Empties-caught_up w p lt d =
 
 Empties-by : (w : World Val) (p : ℕ) → p < length w.time.places → IsTidy w → (is_open finds : Bool) →
     Empties w (if is_open then nested w p else (if finds then changed holdings_of (nested w p) p else nested w p))
-      (if not is_open && finds then time.due_next (place_at w p) else [])
+    (if not is_open && finds then time.due_next (place_at w p) else [])
 Empties-by w p lt d true finds = Empties-nested w p d
 Empties-by w p lt d false true = Empties-caught_up w p lt d
 Empties-by w p lt d false false = Empties-nested w p d

@@ -76,13 +76,21 @@ Drains-aged made w p d =
                   elim (cases_eq q p) [
                     | inl here ↦
                         elim (left-or-due (place_at w p).bags.waiting k s
-                            (subst (λ (r : ℕ). Among (place_at w r).bags.waiting (having_seen k (Item s))) here was.1.2)) [
-                          | inl on ↦ (p, on.0, subst (λ (ws : List Waiting). Among ws (having_seen on.0 (Item s)))
-                                (sym (waiting-aged w p p d.tidy.unlinked ∙ waiting-here w p)) on.1)
+                        (subst (λ (r : ℕ). Among (place_at w r).bags.waiting (having_seen k (Item s))) here was.1.2)) [
+                          | inl on ↦ (
+                            p,
+                            on.0,
+                            subst (λ (ws : List Waiting). Among ws (having_seen on.0 (Item s)))
+                                (sym (waiting-aged w p p d.tidy.unlinked ∙ waiting-here w p)) on.1,
+                          )
                           | inr is_due ↦ absurd (not-free (standing_at then s) t (e.gone s is_due was.0))
                         ]
-                    | inr ne ↦ (q, k, subst (λ (ws : List Waiting). Among ws (having_seen k (Item s)))
-                          (sym (waiting-aged w p q d.tidy.unlinked ∙ waiting-else w p q ne)) was.1.2)
+                    | inr ne ↦ (
+                      q,
+                      k,
+                      subst (λ (ws : List Waiting). Among ws (having_seen k (Item s)))
+                          (sym (waiting-aged w p q d.tidy.unlinked ∙ waiting-else w p q ne)) was.1.2,
+                    )
                   ],
                 )
           ];

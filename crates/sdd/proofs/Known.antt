@@ -150,7 +150,7 @@ Knows-made line past d o i c k v is next_owner next_item known =
                 ties-idle d new j (fate j past)
                 (λ w. subst (λ (f : DeskFate). Waits f) (ap (λ (x : ItemState). x.fate) (get_or_past d.items j nothing (omega arith))) w)
                 (λ w. subst (λ (f : DeskFate). Waits f)
-                    (ap (λ (n : ℕ). (item_at new n).fate) e ∙ ap (λ (x : ItemState). x.fate) (at-end d.items item nothing)) w)
+                (ap (λ (n : ℕ). (item_at new n).fate) e ∙ ap (λ (x : ItemState). x.fate) (at-end d.items item nothing)) w)
                 (known.fates j)
             | inr ne ↦
                 ties-grows d new j (fate j past)

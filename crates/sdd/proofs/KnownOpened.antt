@@ -67,8 +67,11 @@ module _ (d : Desk) (p : ℕ) (names : List ItemName) (change : Bool) (s : Sound
   due-named : (i : ℕ) → Waits (item_at d i).fate → is_due i → Among names (name i)
   due-named i w h =
       contains-among names (name i)
-      ((are.exactly (name i)).1 (w, among-contains (reclaims d.world p) (Item (slot_of d i))
-            (subst (λ (xs : List What). Among xs (Item (slot_of d i))) (sym due_is) h)))
+      ((are.exactly (name i)).1 (
+        w,
+        among-contains (reclaims d.world p) (Item (slot_of d i))
+            (subst (λ (xs : List What). Among xs (Item (slot_of d i))) (sym due_is) h),
+      ))
 
   -- an item that did not wait does not
   idle : (i : ℕ) → (Waits (item_at d i).fate → ⊥) → Waits (item_at after i).fate → ⊥
@@ -141,7 +144,7 @@ ties-opened d p names true s o due_is are i (Held q k) t =
     elim (cases_eq q p) [
       | inl e ↦
           let here : Among (waiting d p) (having_seen k (Item (slot_of d i))) =
-            subst (λ (j : ℕ). Among (waiting d j) (having_seen k (Item (slot_of d i)))) e t.2 in
+          subst (λ (j : ℕ). Among (waiting d j) (having_seen k (Item (slot_of d i)))) e t.2 in
           elim (cases_eq k 2) [
             | inl e2 ↦
                 subst (λ (f : Fate). Ties (with_guard d p names) i f) (sym (changed-gone p q k e e2))
@@ -220,7 +223,7 @@ module _ (line : Line) (past : List Line) (d : Desk) (p : ℕ) (is : event line 
                   ∙ ap (λ (r : ℕ). (place_at new.world r).guards) e
               | inr ne ↦
                   pick-other p q (open_guards q past + 1) (open_guards q past) ne ∙ known.guards q
-                      ∙ ap (λ (x : Participant). x.guards) (sym (o.others q (λ e. ne (sym e))))
+                  ∙ ap (λ (x : Participant). x.guards) (sym (o.others q (λ e. ne (sym e))))
             ];
         found = λ q.
             elim (cases_eq p q) [
@@ -251,6 +254,6 @@ module _ (line : Line) (past : List Line) (d : Desk) (p : ℕ) (is : event line 
         (λ h.
             let held : Ties d i.0 (Held p 2) = subst (λ (f : Fate). Ties d i.0 f) h.1 (known.fates i.0) in
             let due : Among (if change then time.due_next (place_at d.world p) else []) (Item (slot_of d i.0)) =
-              held-due d p i.0 change (sym change-is ∙ h.0) held in
+            held-due d p i.0 change (sym change-is ∙ h.0) held in
             among-contains names i (due-named d p names change s o (reclaims-due d.world p) are i.0 held.1 due)),
       )

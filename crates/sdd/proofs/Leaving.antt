@@ -142,7 +142,7 @@ module _ (s : Stage) (owners : Vec (Option Held)) (held : Option Held) (leaves :
     owners = owners-left;
     out = passes_spent s.world (guards_held s.guards.items) owners.items
         (subst (λ (h : Option Held). OnlyOut s.world (guards_held s.guards.items) (slots_held (owners.items ++ h ∷ []))) none
-          out-before);
+        out-before);
   }
 
   module _ (one : Held) (some : held ≡ Some one) where
@@ -195,4 +195,4 @@ numbered s p place leaves lt is = ap index_of is ∙ leaves.places p place (let 
 pub has_left : (s : Stage) → CanLeave s → s.guards.items ≡ [] → s.owners.items ≡ [] → OnlyOut s.world [] []
 has_left s leaves guards owners =
     subst (λ (gs : List (Option Guard)). OnlyOut s.world (guards_held gs) []) guards
-        (subst (λ (os : List (Option Held)). OnlyOut s.world (guards_held s.guards.items) (slots_held os)) owners leaves.out)
+    (subst (λ (os : List (Option Held)). OnlyOut s.world (guards_held s.guards.items) (slots_held os)) owners leaves.out)

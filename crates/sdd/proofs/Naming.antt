@@ -43,7 +43,7 @@ distinct-map f xs one h =
     let apart : a ≢ b = eqb-false a b (apart_from_distinct eqb xs i j 0 h lt j_in) in
     let images : f a ≢ f b = λ e. apart (one a b (i, i_in, get_or_default xs i a 0 i_in) (j, j_in, get_or_default xs j b 0 j_in) e) in
     ap (λ n. eqb n (slice_index_or (map f xs) j d)) (get_or-map f xs i 0 d i_in)
-      ∙ ap (λ n. eqb (f a) n) (get_or-map f xs j 0 d j_in) ∙ ne_eqb (f a) (f b) images)
+    ∙ ap (λ n. eqb (f a) n) (get_or-map f xs j 0 d j_in) ∙ ne_eqb (f a) (f b) images)
 
 -- two numbers are the same either way round
 eqb-turned : (x y : ℕ) → eqb x y ≡ eqb y x
@@ -114,10 +114,10 @@ module _ (d : Desk) (p : ℕ) (slots names : List ℕ) (s : IsSound d) (are : ma
   are-reclaimed found sorted is moved up =
       let f = λ (i : ItemName). i.0 in
       let distinct : IsDistinct eqb (map f found) =
-        subst (λ ns. IsDistinct eqb ns) (sym (ap (map f) is ∙ numbers))
-        (distinct-map (λ k. slice_index names k) slots one-name (s.once p slots are)) in
+      subst (λ ns. IsDistinct eqb ns) (sym (ap (map f) is ∙ numbers))
+      (distinct-map (λ k. slice_index names k) slots one-name (s.once p slots are)) in
       let apart : IsDistinct eqb (map f sorted) =
-        IsDistinct-IsPermutation eqb eqb-turned (map f found) (map f sorted) (IsPermutation-map f found sorted moved) distinct in
+      IsDistinct-IsPermutation eqb eqb-turned (map f found) (map f sorted) (IsPermutation-map f found sorted moved) distinct in
       record {
         ascending = IsStrictlyIncreasing-from_distinct (map f sorted) (rising f sorted up) apart;
         exactly = λ i. (
@@ -137,7 +137,7 @@ module _ (d : Desk) (p : ℕ) (slots names : List ℕ) (s : IsSound d) (are : ma
               let name : slice_index names k.0 ≡ i.0 = ap (λ j. slice_index names j) slot ∙ named i.0 (there (item_at d i.0).fate r.0) in
               let e : name_at names k.0 ≡ i = ap (λ n. record i { 0 = n }) name in
               let found_there = subst (λ xs. Among xs i) (sym is)
-                (subst (λ x. Among (map (name_at names) slots) x) e (map-among (name_at names) slots k.0 k.1)) in
+              (subst (λ x. Among (map (name_at names) slots) x) e (map-among (name_at names) slots k.0 k.1)) in
               Contains-permutation found sorted i moved (among-contains found i found_there)),
         );
       }

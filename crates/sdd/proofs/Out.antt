@@ -103,8 +103,15 @@ OnlyOut-closed w guards fewer slots p place counts out =
       taken = λ s t.
           elim (out.taken s t) [
             | inl was ↦ inl was
-            | inr was ↦ inr (was.0, (was.1.0, was.1.1, subst (λ (ws : List Waiting). Contains ws (having_seen was.1.1 (Item s)))
-                    (sym (c.waiting was.1.0)) was.1.2))
+            | inr was ↦ inr (
+              was.0,
+              (
+                was.1.0,
+                was.1.1,
+                subst (λ (ws : List Waiting). Contains ws (having_seen was.1.1 (Item s)))
+                    (sym (c.waiting was.1.0)) was.1.2,
+              ),
+            )
           ];
       placed = λ o s h. (let was = out.placed o s h in let same = c.places in omega arith);
     }
@@ -112,7 +119,7 @@ OnlyOut-closed w guards fewer slots p place counts out =
 -- an owner is retired by p, and the others are as before
 module _ (w : World Val) (guards slots fewer : List (Option ℕ)) (p o k : ℕ) (place : p < length w.time.places) (owner : slice_index_or slots o None ≡ Some k)
     (others : (r : ℕ) → r ≢ o → slice_index_or fewer r None ≡ slice_index_or slots r None)
-      (spent : slice_index_or fewer o None ≡ None) (out : OnlyOut w guards slots) where
+    (spent : slice_index_or fewer o None ≡ None) (out : OnlyOut w guards slots) where
   abbrev waiter : Participant
   waiter = time.awaiting (Item k) (place_at w p)
 
@@ -132,12 +139,19 @@ module _ (w : World Val) (guards slots fewer : List (Option ℕ)) (p o k : ℕ) 
         | inl e ↦
             let there = contains-among (place_at w h.0).bags.waiting (having_seen h.1 (Item s)) h.2 in
             let pushed = among-push (place_at w p).bags.waiting (fresh (Item k)) (having_seen h.1 (Item s))
-              (subst (λ (q : ℕ). Among (place_at w q).bags.waiting (having_seen h.1 (Item s))) e there) in
-            (p, h.1, subst (λ (x : Participant). Contains x.bags.waiting (having_seen h.1 (Item s)))
-                (sym (at-same w.time.places p waiter nobody place))
-                (among-contains ((place_at w p).bags.waiting ++ fresh (Item k) ∷ []) (having_seen h.1 (Item s)) pushed))
-        | inr ne ↦ (h.0, h.1, subst (λ (x : Participant). Contains x.bags.waiting (having_seen h.1 (Item s)))
-              (sym (at-other w.time.places p h.0 waiter nobody ne)) h.2)
+            (subst (λ (q : ℕ). Among (place_at w q).bags.waiting (having_seen h.1 (Item s))) e there) in (
+              p,
+              h.1,
+              subst (λ (x : Participant). Contains x.bags.waiting (having_seen h.1 (Item s)))
+                  (sym (at-same w.time.places p waiter nobody place))
+                  (among-contains ((place_at w p).bags.waiting ++ fresh (Item k) ∷ []) (having_seen h.1 (Item s)) pushed),
+            )
+        | inr ne ↦ (
+          h.0,
+          h.1,
+          subst (λ (x : Participant). Contains x.bags.waiting (having_seen h.1 (Item s)))
+              (sym (at-other w.time.places p h.0 waiter nobody ne)) h.2,
+        )
       ]
 
   waits-there : WaitsIn (retired w p k) k
@@ -161,7 +175,7 @@ module _ (w : World Val) (guards slots fewer : List (Option ℕ)) (p o k : ℕ) 
             elim (out.taken s (subst (λ (x : Option Standing). IsSome x) same t)) [
               | inl was ↦
                   let other : was.0 ≢ o = λ e. (let z : Some s ≡ Some k = sym was.1 ∙ ap (λ (j : ℕ). slice_index_or slots j None) e
-                      ∙ owner in let it : s ≡ k = cc in ne it) in
+                  ∙ owner in let it : s ≡ k = cc in ne it) in
                   inl (was.0, others was.0 other ∙ was.1)
               | inr was ↦ inr (same ∙ was.0, waits-too s was.1)
             ]

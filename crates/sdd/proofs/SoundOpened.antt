@@ -139,8 +139,8 @@ Sound-opened d p names place are s =
             waits = elim (stays-or-goes d.items names (record { 0 = r.item })) [
               | inl stays ↦ subst (λ (f : Fate). Waits f) (sym stays.same) r.waits
               | inr goes ↦ absurd (goes_on
-                    (subst (λ (s : ℕ). Names (if change then time.due_next (place_at d.world p) else []) s) r.named
-                      (reclaimed-named d p names r.item are goes.named)))
+                  (subst (λ (s : ℕ). Names (if change then time.due_next (place_at d.world p) else []) s) r.named
+                  (reclaimed-named d p names r.item are goes.named)))
             ];
             named = all_gone-slot d.items names r.item ∙ r.named;
           };

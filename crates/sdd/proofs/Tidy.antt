@@ -176,7 +176,7 @@ Tidy-start l d s =
       filled = ap (λ (vs : List (Option Val)). map is_some vs) s.world.values ∙ none-taken Val l.slots
           ∙ sym (none-taken Standing l.slots) ∙ ap (λ (ss : Entries Standing). map is_some ss) (sym s.world.standings);
       linked = λ c t. absurd (not-free (entry_at d.world.cells c) t
-            (ap (λ (cs : Entries Cell). slice_index_or cs c None) s.world.cells ∙ none-at Cell l.cells c));
+          (ap (λ (cs : Entries Cell). slice_index_or cs c None) s.world.cells ∙ none-at Cell l.cells c));
       unlinked = λ c. ap held_in (ap (λ (cs : Entries Cell). slice_index_or cs c None) s.world.cells ∙ none-at Cell l.cells c);
       counted = omega (arith, made, reclaimed, count);
       fits = omega (arith, made);

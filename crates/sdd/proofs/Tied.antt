@@ -111,7 +111,7 @@ tied_spent made s w owners items o i fate t there spent owner_room become item_r
     (subst (λ (xs : List ItemState). AreOwners s.world.home.slots xs owners.items) (sym become)
     (λ k. owns-still s.world.home.slots s.items.items i fate (slice_index_or owners.items k None)
     (subst (λ (os : List (Option Held)). OwnsItem s.world.home.slots s.items.items (slice_index_or os k None)) (sym spent)
-        (owns-spent s.world.home.slots s.items.items s.owners.items o t.owners k)))) in
+    (owns-spent s.world.home.slots s.items.items s.owners.items o t.owners k)))) in
     let owner_count : length owners.items ≡ length s.owners.items = ap (λ (os : List (Option Held)). length os) spent ∙ length-set s.owners.items o None in
     let item_count : length items.items ≡ length s.items.items = ap (λ (xs : List ItemState). length xs) become ∙ with_fate-length s.items.items i fate in
     record {
@@ -167,7 +167,7 @@ tied_opened made s w openings guards items guard names t sizes opening_count ope
     (subst (λ (xs : List ItemState). AreOwners s.world.home.slots xs s.owners.items) (sym gone)
     (λ k. owns-gone s.world.home.slots s.items.items names (slice_index_or s.owners.items k None) (t.owners k))) in
     let guard_count : length guards.items ≡ length s.guards.items + 1 =
-      ap (λ (gs : List (Option Guard)). length gs) pushed ∙ length_push s.guards.items (Some guard) in
+    ap (λ (gs : List (Option Guard)). length gs) pushed ∙ length_push s.guards.items (Some guard) in
     let item_count : length items.items ≡ length s.items.items = ap (λ (xs : List ItemState). length xs) gone ∙ all_gone-length s.items.items names in
     record {
       places = t.places;

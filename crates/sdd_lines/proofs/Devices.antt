@@ -15,7 +15,10 @@ beginning_from_front a b c front rest bytes e p q =
 -- a write moves the bytes that it took from what is left to what is written
 pub written_more : (a b c : Option (List ℕ)) (front rest bytes : List ℕ) (n : ℕ) → bytes ≡ front ++ rest → Appends a b front →
     Appends b c (take n rest) → (more : List ℕ) × (bytes ≡ more ++ take (length rest - n) (drop n rest)) × Appends a c more
-written_more a b c front rest bytes n e p q =
-    (front ++ take n rest, e ∙ ap (λ l. front ++ l)
-        (sym (take-append-drop n rest) ∙ ap (λ l. take n rest ++ l) (sym (take_rest rest n)))
-        ∙ sym (append_assoc front (take n rest) _), Appends-trans a b c front (take n rest) p q)
+written_more a b c front rest bytes n e p q = (
+  front ++ take n rest,
+  e ∙ ap (λ l. front ++ l)
+      (sym (take-append-drop n rest) ∙ ap (λ l. take n rest ++ l) (sym (take_rest rest n)))
+      ∙ sym (append_assoc front (take n rest) _),
+  Appends-trans a b c front (take n rest) p q,
+)

@@ -75,7 +75,7 @@ taken : {A : Type 0} (f : A → Action) (Q : A → Type 0) (shown : A → List �
     → verb ≡ word → IfSome o (λ x. Q x × (shown x ≡ text)) → IfSome (option_map f o) (IsActionText (verb ++ 32 ∷ text))
 taken f Q shown o word verb text numbers spelled e h =
     IfSome-map f o _ (IfSome_then o h
-      (λ x k. (numbers x k.0, spelled x ∙ ap (λ t. word ++ 32 ∷ t) k.1 ∙ ap (λ w. w ++ 32 ∷ text) (sym e))))
+    (λ x k. (numbers x k.0, spelled x ∙ ap (λ t. word ++ 32 ∷ t) k.1 ∙ ap (λ w. w ++ 32 ∷ text) (sym e))))
 
 taking_at_is : (verb text : List ℕ) → IfSome (taking_at verb text) (IsActionText (verb ++ 32 ∷ text))
 unfolding taking_at
@@ -87,7 +87,7 @@ taking_at_is verb text =
     tested verb (codes "garbage") _ _ P (λ e. taken (λ g. Garbage g) (λ g. IsNumber g.0) guard (guard_at text) _ verb text (λ g h. h) (λ g. refl) e of_guard) (
     tested verb (codes "set") _ _ P (λ e. taken (λ g. Set g) (λ g. IsNumber g.0) guard (guard_at text) _ verb text (λ g h. h) (λ g. refl) e of_guard) (
     tested verb (codes "accelerate") _ _ P
-      (λ e. taken (λ g. Accelerate g) (λ g. IsNumber g.0) guard (guard_at text) _ verb text (λ g h. h) (λ g. refl) e of_guard) (
+    (λ e. taken (λ g. Accelerate g) (λ g. IsNumber g.0) guard (guard_at text) _ verb text (λ g h. h) (λ g. refl) e of_guard) (
     tested verb (codes "owned") _ _ P (λ e. taken (λ n. Owned n) IsNumber decimal (number_at text) _ verb text (λ n h. h) (λ n. refl) e (number_at_is text)) (
     tested verb (codes "read") _ _ P (λ e. taken (λ o. Read o) (λ o. IsNumber o.0) owner (owner_at text) _ verb text (λ o h. h) (λ o. refl) e of_owner) (
     tested verb (codes "look") _ _ P (λ e. IfSome_then (look_at text) (look_at_is text) (λ a h. (h.0, h.1 ∙ ap (λ w. w ++ 32 ∷ text) (sym e)))) (
@@ -101,7 +101,7 @@ action_at_is text =
     tested text (codes "open") _ _ (λ o. IfSome o (IsActionText text)) (λ e. (tt, sym e)) (
     IfSome-bind (split_word text) _ _ _ (split_word_is text) (λ words e.
     IfSome_then (taking_at words.0 words.1) {P = IsActionText (words.0 ++ 32 ∷ words.1)} {Q = IsActionText text}
-        (taking_at_is words.0 words.1) (λ a h. (h.0, h.1 ∙ sym e))))
+    (taking_at_is words.0 words.1) (λ a h. (h.0, h.1 ∙ sym e))))
 
 -- the place of a call, a space, and the text of the action
 pub line_of-At : (p : PlaceName) (action : Action) → line_of (At p action) ≡ place p ++ 32 ∷ joined (words_of_action action)
@@ -202,9 +202,10 @@ IsPlain most bs = IsAscii bs × (length bs ≤ most)
 
 numbered_plain : (front : List ℕ) (n most : ℕ) → list_all (λ b. ltb b 128) front ≡ true → length front + 20 ≤ most → IsNumber n →
     IsPlain most (front ++ decimal n)
-numbered_plain front n most h l small =
-    (IsAscii-append front (decimal n) (ascii_text front h) (IsAscii-decimal n small),
-        omega (arith, length-append front (decimal n), length-decimal-le 20 n (lit< tt) (omega arith) small))
+numbered_plain front n most h l small = (
+  IsAscii-append front (decimal n) (ascii_text front h) (IsAscii-decimal n small),
+  omega (arith, length-append front (decimal n), length-decimal-le 20 n (lit< tt) (omega arith) small),
+)
 
 appended_plain : (xs ys : List ℕ) (j k most : ℕ) → j + k ≤ most → IsPlain j xs → IsPlain k ys → IsPlain most (xs ++ ys)
 appended_plain xs ys j k most l p q = (IsAscii-append xs ys p.0 q.0, omega (arith, length-append xs ys, p.1, q.1))
@@ -230,8 +231,8 @@ line_plain (At p action) h =
     let rest = joined (words_of_action action) in
     let plain = action_plain action h.1 in
     subst (IsPlain 200) (sym (line_of-At p action))
-      (appended_plain (place p) (32 ∷ rest) 90 101 200 (omega arith) (numbered_plain (codes "p") p.0 90 refl (omega arith) h.0)
-        (IsAscii-cons 32 rest (lit< tt) plain.0, omega (arith, plain.1)))
+    (appended_plain (place p) (32 ∷ rest) 90 101 200 (omega arith) (numbered_plain (codes "p") p.0 90 refl (omega arith) h.0)
+    (IsAscii-cons 32 rest (lit< tt) plain.0, omega (arith, plain.1)))
 
 pub ascii_from_call : (line : List ℕ) → IsCallText line → IsAscii line
 ascii_from_call line w = subst IsAscii w.1.1 (line_plain w.0 w.1.0).0

@@ -36,11 +36,11 @@ pub lines_at : (text : List ℕ) (k : ℕ) → k < length text → get_or text k
     lines text ≡ take k text ∷ lines (drop (k + 1) text)
 lines_at text k l e h =
     let front : HasNoFeed (take k text) =
-      HasNoFeed-from_bytes (take k text)
-      (λ i j. let below : i < k = omega (arith, length-take-le k text (omega arith)) in λ f. h i below
-        (sym (get_or-take k text i 0 below) ∙ f)) in
+    HasNoFeed-from_bytes (take k text)
+    (λ i j. let below : i < k = omega (arith, length-take-le k text (omega arith)) in λ f. h i below
+    (sym (get_or-take k text i 0 below) ∙ f)) in
     let split : text ≡ take k text ++ 10 ∷ drop (k + 1) text =
-      sym (take-append-drop k text) ∙ ap (λ t. take k text ++ t) (drop_more text k 0 l ∙ ap (λ b. b ∷ drop (k + 1) text) e) in
+    sym (take-append-drop k text) ∙ ap (λ t. take k text ++ t) (drop_more text k 0 l ∙ ap (λ b. b ∷ drop (k + 1) text) e) in
     ap lines split ∙ lines-feed (take k text) (drop (k + 1) text) front
 
 -- each line that was read as a call is one
@@ -57,10 +57,12 @@ next_line (call ∷ calls) line more = next_line calls line more
 -- line k + 1 is a call, where it was read as one
 read_line : (text : List ℕ) (calls : List Call) (more : List (List ℕ)) (k : ℕ) → AllByRecursion HasNumbers calls →
     length calls ≤ MOST_CALLS → map line_of calls ++ more ≡ lines text → k < length calls → IsCallAt text (k + 1)
-read_line text calls more k numbers few same l =
-    (omega arith, subst (λ ls. IsCallText (get_or ls (k + 1 - 1) [])) same
-        (subst (λ j. IsCallText (get_or (map line_of calls ++ more) j [])) (let e : k ≡ k + 1 - 1 = omega arith in e)
-          (read_lines calls more k numbers l)))
+read_line text calls more k numbers few same l = (
+  omega arith,
+  subst (λ ls. IsCallText (get_or ls (k + 1 - 1) [])) same
+      (subst (λ j. IsCallText (get_or (map line_of calls ++ more) j [])) (let e : k ≡ k + 1 - 1 = omega arith in e)
+      (read_lines calls more k numbers l)),
+)
 
 -- the line behind those read as calls is the first fault, if it is no call
 pub first_fault : (text : List ℕ) (calls : List Call) (line : List ℕ) (more : List (List ℕ)) (n : ℕ) → n ≡ length calls →
@@ -69,13 +71,13 @@ pub first_fault : (text : List ℕ) (calls : List Call) (line : List ℕ) (more 
 first_fault text calls line more n e numbers few same no_call =
     let at : get_or (lines text) (n + 1 - 1) [] ≡ line =
     sym (ap (λ ls. get_or ls (n + 1 - 1) []) same) ∙ ap (λ j. get_or (map line_of calls ++ line ∷ more) j [])
-        (let f : n + 1 - 1 ≡ length calls = omega arith in f) ∙ next_line calls line more in
+    (let f : n + 1 - 1 ≡ length calls = omega arith in f) ∙ next_line calls line more in
     record {
       counted = omega arith;
       there = omega (arith, ap length same, length-append (map line_of calls) (line ∷ more), length-map calls line_of);
       fault = λ w. no_call (omega (arith, w.0), subst IsCallText at w.1);
       first = λ k low high. (let f : k - 1 + 1 ≡ k = omega arith in subst (IsCallAt text) f
-            (read_line text calls (line ∷ more) (k - 1) numbers few same (omega arith)));
+          (read_line text calls (line ∷ more) (k - 1) numbers few same (omega arith)));
     }
 
 pub numbers_more : (calls : List Call) (call : Call) → AllByRecursion HasNumbers calls → HasNumbers call → AllByRecursion HasNumbers (calls ++ call ∷ [])

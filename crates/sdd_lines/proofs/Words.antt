@@ -100,8 +100,8 @@ IsForm-from_test word h =
 test-from_IsForm : (word : List ℕ) → IsForm word → is_decimal word ≡ true
 test-from_IsForm word h =
     and_from (all_ascii_digits word) _ h.digits
-      (and_from (leb 1 (length word)) _ (le-leb 1 (length word) h.nonempty)
-        (implies (eqb (get_or word 0 0) 48) (eqb (length word) 1) (λ e. rw (h.short (eqb-true _ 48 e)) refl)))
+    (and_from (leb 1 (length word)) _ (le-leb 1 (length word) h.nonempty)
+    (implies (eqb (get_or word 0 0) 48) (eqb (length word) 1) (λ e. rw (h.short (eqb-true _ 48 e)) refl)))
 
 pub number_at_is : (word : List ℕ) → IfSome (number_at word) (λ n. (n < 2 ^ 64) × (decimal n ≡ word))
 unfolding number_at
@@ -115,8 +115,11 @@ IsForm-decimal : (n : ℕ) → n < 2 ^ 64 → IsForm (decimal n)
 IsForm-decimal n small = record {
   digits = digits_decimal own n small;
   nonempty = decimal_nonempty n small;
-  short = λ e. elim (cases_eq n 0) [ inl z ↦ rw z (ap length (decimal_digit 0 (omega arith))) | inr z ↦
-        absurd (omega (arith, first_decimal n (omega arith) small)) ];
+  short = λ e. elim (cases_eq n 0) [
+    | inl z ↦ rw z (ap length (decimal_digit 0 (omega arith)))
+    | inr z ↦
+        absurd (omega (arith, first_decimal n (omega arith) small))
+  ];
 }
 
 pub number_at-decimal : (n : ℕ) → n < 2 ^ 64 → number_at (decimal n) ≡ Some n
@@ -124,7 +127,7 @@ unfolding number_at
 number_at-decimal n small =
     let value = digits_value-decimal own n small in
     cond-true _ _ _ (and_from (is_decimal (decimal n)) _ (test-from_IsForm _ (IsForm-decimal n small))
-        (lt-ltb (digits_value 10 (decimal n)) (2 ^ 64) (rw value small))) ∙ ap Some value
+    (lt-ltb (digits_value 10 (decimal n)) (2 ^ 64) (rw value small))) ∙ ap Some value
 
 -- where a word gives no number it is none
 pub number_at-none : (word : List ℕ) → number_at word ≡ None → ¬ ((n : ℕ) × IsWordOf n word)
@@ -146,9 +149,9 @@ pub number_from_parse : {E : Type 0} (word : List ℕ) (r : Result ℕ E) →
 unfolding number_at
 number_from_parse word (Ok x) h short =
     ap Some h.1 ∙ sym (cond-true _ _ _
-          (and_from (is_decimal word) _
-            (test-from_IsForm word (record { digits = h.0.0; nonempty = h.0.1; short = λ e. omega (arith, short e) }))
-            (lt-ltb _ _ h.0.2)))
+    (and_from (is_decimal word) _
+    (test-from_IsForm word (record { digits = h.0.0; nonempty = h.0.1; short = λ e. omega (arith, short e) }))
+    (lt-ltb _ _ h.0.2)))
 number_from_parse word (Err e) h short = sym (unguarded _ _ (λ t.
     let parts = and_parts (is_decimal word) _ t in
     let form = IsForm-from_test word parts.0 in

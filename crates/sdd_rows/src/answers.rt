@@ -1,10 +1,10 @@
 //! The texts of answers.
 
+use sdd_core::{Epoch, Refused};
 use sdd_lines::{
     Answer, GuardName, ItemName, JobName, Names, OwnerName, PlaceName, Reply, print_all,
     print_fault,
 };
-use sdd_core::{Epoch, Refused};
 use sdd_store::Tally;
 use std::alloc::{AllocError, Global};
 use std::test::Fail;

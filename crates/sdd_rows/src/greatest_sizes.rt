@@ -1,5 +1,4 @@
 //! Ample memory at the greatest sizes. A body that refuses with `NoMemory` beyond some size meets every contract.
-ghost use Rattle.std.specs.Prelude.{◌≡◌};
 
 use crate::steps::{AMPLE, closed, joined};
 use sdd::{
@@ -85,7 +84,11 @@ fn a_play_has_the_most_lines(rt: HostRuntime) -> Result<(), Fail> {
 #[test]
 fn a_script_has_a_most_of_calls(rt: HostRuntime) -> Result<(), Fail> {
     let alloc = rt.alloc();
-    let most = lines(alloc, 65_536, "p0 look i18446744073709551615 g18446744073709551615\n")?;
+    let most = lines(
+        alloc,
+        65_536,
+        "p0 look i18446744073709551615 g18446744073709551615\n",
+    )?;
     match parse_all(alloc, most.as_bytes())? {
         Script::Calls(calls) => assert_eq!(rt; calls.len(), 65_536),
         Script::Fault(line) => panic!(rt; "line {line}"),

@@ -49,7 +49,7 @@ pub filled-here : {T : Type 0} {home : Home} {kept : List Kept} {standings : Ent
     is_some v ≡ is_some (slice_index_or standings k None)
 filled-here {T} {home} {kept} {standings} {values} k v a h e =
     let sized : length values ≡ home.size =
-      sym (length-map values is_some) ∙ ap (λ (bs : List Bool). length bs) a.filled ∙ length-map standings is_some ∙ a.sized in
+    sym (length-map values is_some) ∙ ap (λ (bs : List Bool). length bs) a.filled ∙ length-map standings is_some ∙ a.sized in
     let inside : k < length values = omega (arith, sized, h) in
     ap is_some (get_or_read values k v inside e None) ∙ filled-there k a
 

@@ -6,8 +6,7 @@ use sdd::{Action, Call, Ended, Limits, PlaceName, Reader, Refused, Tally, Writer
 use std::alloc::Global;
 
 /// The shortest way of an item: it is made and retired, and goes at the third later opening that finds another epoch.
-const SHORTEST_WAY: &str =
-    "register\np0 owned 7\np0 retire o0\n\
+const SHORTEST_WAY: &str = "register\np0 owned 7\np0 retire o0\n\
     p0 open\np0 accelerate g0\np0 close g0\np0 open\np0 accelerate g1\np0 close g1\n\
     p0 open\np0 accelerate g2\np0 close g2\np0 open\np0 garbage g3\ntally\n";
 

@@ -189,7 +189,7 @@ fn open_at(world: &mut World<Val>, place: &Place) -> Result<(Guard, Epoch), Refu
     ensures place { IfOk result (λ opened. place_of opened.0 ≡ index_of place.now) }
     ensures opened { MatchResult result
         (λ given. CanNest world.old.time (index_of place.now)
-            × (world.new ≡ opened holdings_of world.old (index_of place.now)) × (given.1 ≡ epoch_of world.new.time.count))
+        × (world.new ≡ opened holdings_of world.old (index_of place.now)) × (given.1 ≡ epoch_of world.new.time.count))
         (λ refused. (refused ≡ Refused.TooManyGuards) × ¬ (CanNest world.old.time (index_of place.now)) × (world.new ≡ world.old)) }
 {
     let mut turn = world.at(place);

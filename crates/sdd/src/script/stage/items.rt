@@ -120,7 +120,7 @@ impl Stage {
         ensures { MatchOption result
             (¬ (IsThereSince moment (slice_index_or self.now.items.items name.0 nothing).fate))
             (λ slot. let item = slice_index_or self.now.items.items name.0 nothing in
-                IsThereSince moment item.fate × (slot ≡ item.slot)) }
+            IsThereSince moment item.fate × (slot ≡ item.slot)) }
     {
         let state = self.items.get(usize::try_from(name.0).ok()?)?;
         match state.fate {

@@ -10,7 +10,7 @@ unreachable-requires g c =
     let inside : c.args.slot < length c.self.inside.standings = inside-some _ _ some in
     let there : c.args.slot < c.self.inside.rights.home.size = omega (arith, sized, inside) in
     let filled : is_some c.index_mut.result.now ≡ true =
-      filled-here c.args.slot c.index_mut.result.now c.self.invariant there c.index_mut.ensures.value ∙ some in
+    filled-here c.args.slot c.index_mut.result.now c.self.invariant there c.index_mut.ensures.value ∙ some in
     let none : is_some c.index_mut.result.now ≡ false = ap is_some (sym c.take.ensures.value ∙ c.in_default.is) in
     cc
 

@@ -10,7 +10,7 @@ use Rattle.sdd.proofs.script.stage.Stage.close_guards.Goals as goal
 pub index-requires : goal.index-requires
 index-requires c =
     let lt = guard-place c.loop-guard.self c.pop.new.self c.in-Some.guard c.loop-guard.invariant.leaves c.in-Some.ensures.items
-      c.in-Some-guard.guard c.in-Some-guard.is in
+    c.in-Some-guard.guard c.in-Some-guard.is in
     let taken = c.loop-guard.invariant.leaves.taken in
     let e = c.place_of_guard.ensures in
     omega (arith, lt, taken, e)
@@ -28,8 +28,8 @@ pub close_at-requires-clause-place : goal.close_at-requires-clause-place
 close_at-requires-clause-place c =
     let s = c.loop-guard.self in
     subst (λ (p : ℕ). p < length s.world.time.places) (sym (index c))
-        (guard-place s c.pop.new.self c.in-Some.guard c.loop-guard.invariant.leaves c.in-Some.ensures.items c.in-Some-guard.guard
-          c.in-Some-guard.is)
+    (guard-place s c.pop.new.self c.in-Some.guard c.loop-guard.invariant.leaves c.in-Some.ensures.items c.in-Some-guard.guard
+    c.in-Some-guard.is)
 
 pub close_at-requires-clause-guard : goal.close_at-requires-clause-guard
 close_at-requires-clause-guard c = sym (index c)

@@ -24,4 +24,4 @@ pub returns-clause-items : goal.returns-clause-items
 returns-clause-items c =
     let done = c.loop-name-test.false in
     ap (λ (ns : List ItemName). all_gone c.loop-name.items.items ns)
-        (sym (drop_all c.loop-name.name-index c.args.names.now (omega (arith, done)))) ∙ c.loop-name.invariant.gone
+    (sym (drop_all c.loop-name.name-index c.args.names.now (omega (arith, done)))) ∙ c.loop-name.invariant.gone
