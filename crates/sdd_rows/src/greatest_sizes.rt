@@ -3,7 +3,7 @@
 use crate::steps::{AMPLE, closed, joined};
 use sdd::{
     Action, Answer, Call, Ended, ItemName, Limits, Names, OwnerName, PlaceName, Reader, Refused,
-    Reply, Tally, World, Writer, play, run,
+    Reply, World, Writer, play, run,
 };
 use sdd_lines::{Script, parse_all, print_all, read_to_end};
 use std::alloc::{AllocError, Global};
