@@ -86,7 +86,9 @@ stands-waiting d sound q k s h =
     ap (λ (j : ℕ). standing_at d.world j) slot ∙ r.stands
 
 -- a slot that is taken after an opening goes on waiting, if it waited
-waits-here_on : (old new : World Val) (p : ℕ) (change : Bool) → Opens old new p change → Empties old new (if change then time.due_next (place_at old p) else []) → (k s : ℕ) → standing_at old s ≡ Some Retired → IsSome (standing_at new s) →
+waits-here_on : (old new : World Val) (p : ℕ) (change : Bool) → Opens old new p change →
+    Empties old new (if change then time.due_next (place_at old p) else []) → (k s : ℕ) → standing_at old s ≡ Some Retired →
+    IsSome (standing_at new s) →
     Among (place_at old p).bags.waiting (having_seen k (Item s)) → (j : ℕ) × Among (place_at new p).bags.waiting (having_seen j (Item s))
 waits-here_on old new p false o e k s stood t h = (k, subst (λ (ws : List Waiting). Among ws (having_seen k (Item s))) (sym o.waiting) h)
 waits-here_on old new p true o e k s stood t h =
@@ -95,7 +97,9 @@ waits-here_on old new p true o e k s stood t h =
       | inr is_due ↦ absurd (not-free (standing_at new s) t (e.gone s is_due stood))
     ]
 
-waits-on : (old new : World Val) (p : ℕ) (change : Bool) → Opens old new p change → Empties old new (if change then time.due_next (place_at old p) else []) → (q k s : ℕ) → standing_at old s ≡ Some Retired → IsSome (standing_at new s) →
+waits-on : (old new : World Val) (p : ℕ) (change : Bool) → Opens old new p change →
+    Empties old new (if change then time.due_next (place_at old p) else []) → (q k s : ℕ) → standing_at old s ≡ Some Retired →
+    IsSome (standing_at new s) →
     Among (place_at old q).bags.waiting (having_seen k (Item s)) → (j : ℕ) × Among (place_at new q).bags.waiting (having_seen j (Item s))
 waits-on old new p change o e q k s stood t h =
     elim (cases_eq q p) [
@@ -115,7 +119,8 @@ one_of q p e = ap (λ (b : Bool). cond b 1 0) (eq-eqb p q (sym e))
 pub none_of : (q p : ℕ) → q ≢ p → one_if q (Some p) ≡ 0
 none_of q p ne = ap (λ (b : Bool). cond b 1 0) (ne_eqb p q (λ e. ne (sym e)))
 
-opened-push : (guards : List (Option ℕ)) (p q n m : ℕ) → n ≡ count_by (is_of q) guards → (q ≡ p → m ≡ n + 1) → (q ≢ p → m ≡ n) → m ≡ count_by (is_of q) (guards ++ Some p ∷ [])
+opened-push : (guards : List (Option ℕ)) (p q n m : ℕ) → n ≡ count_by (is_of q) guards → (q ≡ p → m ≡ n + 1) → (q ≢ p → m ≡ n) →
+    m ≡ count_by (is_of q) (guards ++ Some p ∷ [])
 opened-push guards p q n m was here others =
     let push = sum_by_push (one_if q) guards (Some p) in
     elim (cases_eq q p) [
@@ -123,7 +128,8 @@ opened-push guards p q n m was here others =
       | inr ne ↦ let none = none_of q p ne in let now = others ne in omega (arith, push, none, now, was)
     ]
 
-pub opened-set : (guards : List (Option ℕ)) (g p q n m : ℕ) → slice_index_or guards g None ≡ Some p → n ≡ count_by (is_of q) guards → (q ≡ p → m ≡ n - 1) → (q ≢ p → m ≡ n) → m ≡ count_by (is_of q) (slice_set guards g None)
+pub opened-set : (guards : List (Option ℕ)) (g p q n m : ℕ) → slice_index_or guards g None ≡ Some p →
+    n ≡ count_by (is_of q) guards → (q ≡ p → m ≡ n - 1) → (q ≢ p → m ≡ n) → m ≡ count_by (is_of q) (slice_set guards g None)
 opened-set guards g p q n m has was here others =
     let step = sum_by-set (one_if q) guards g None None (some-inside guards g p has) in
     let it : one_if q (slice_index_or guards g None) ≡ one_if q (Some p) = ap (one_if q) has in
@@ -160,7 +166,8 @@ Accounts-opened d p names place sound a =
       placed = λ r i h. (let was = a.placed r i h in let same = o.places in omega arith);
     }
 
-Accounts-closed : (d : Desk) (p g : ℕ) → IsPlace d p → IsGuardOf d p g → Accounts d → Accounts (record d { world = closed d.world p; guards = slice_set d.guards g None })
+Accounts-closed : (d : Desk) (p g : ℕ) → IsPlace d p → IsGuardOf d p g → Accounts d →
+    Accounts (record d { world = closed d.world p; guards = slice_set d.guards g None })
 Accounts-closed d p g place guard a =
     let c = Closes-closed d.world.time p place in
     record {
@@ -179,7 +186,8 @@ Accounts-closed d p g place guard a =
       placed = λ r i h. (let was = a.placed r i h in let same = c.places in omega arith);
     }
 
-Accounts-made : (d : Desk) (c k : ℕ) (v : Val) → IsEmptyAt d.world.cells c → IsEmptyAt d.world.standings k → link_of v ≡ c → 0 < length d.world.time.places → d.world.tally.made + 1 < 2 ^ 128 → Sound d → Accounts d → Accounts (with_item d c k v)
+Accounts-made : (d : Desk) (c k : ℕ) (v : Val) → IsEmptyAt d.world.cells c → IsEmptyAt d.world.standings k → link_of v ≡ c →
+    0 < length d.world.time.places → d.world.tally.made + 1 < 2 ^ 128 → Sound d → Accounts d → Accounts (with_item d c k v)
 Accounts-made d c k v cell slot link some more sound a = record {
   tidy = Tidy-made d.world c k v a.tidy slot link cell more;
   opened = a.opened;
@@ -216,7 +224,12 @@ Accounts-retired d p o i place owner sound a =
       opened = λ q. at-each (λ (x : Participant). x.guards) d.world.time.places p y nobody refl q ∙ a.opened q;
       taken = λ s t.
           elim (cases_eq s k) [
-            | inl e ↦ inr (p, 0, subst (λ (n : ℕ). Among (waiting (with_retired d p o i) p) (having_seen 0 (Item n))) (sym e) (waits-now d p o i place owner sound))
+            | inl e ↦ inr (
+              p,
+              0,
+              subst (λ (n : ℕ). Among (waiting (with_retired d p o i) p) (having_seen 0 (Item n))) (sym e)
+                  (waits-now d p o i place owner sound),
+            )
             | inr ne ↦
                 elim (a.taken s (subst (λ (x : Option Standing). IsSome x) (at-other d.world.standings k s (Some Retired) None ne) t)) [
                   | inl was ↦
@@ -246,12 +259,14 @@ Accounts-start l d s = record {
   opened = λ q.
       ap (λ (ps : List Participant). (slice_index_or ps q nobody).guards) (ap (λ (t : Time). t.places) s.world.time)
       ∙ ap (λ (gs : List (Option ℕ)). count_by (is_of q) gs) (sym s.guards);
-  taken = λ k t. absurd (not-free (standing_at d.world k) t (ap (λ (ss : Entries Standing). slice_index_or ss k None) s.world.standings ∙ none-at Standing l.slots k));
+  taken = λ k t. absurd (not-free (standing_at d.world k) t
+      (ap (λ (ss : Entries Standing). slice_index_or ss k None) s.world.standings ∙ none-at Standing l.slots k));
   placed = λ o i h. (let z : None ≡ Some i = ap (λ (os : List (Option ℕ)). slice_index_or os o None) (sym s.owners) ∙ h in absurd (cc));
 }
 
 -- whatever happens in a line
-accounts-goes : (old new : Desk) (names : List ItemName) (e : Event) → Sound old → Accounts old → old.world.tally.made + 1 < 2 ^ 128 → Happens old e names new → Accounts new × (new.world.tally.made ≤ old.world.tally.made + 1)
+accounts-goes : (old new : Desk) (names : List ItemName) (e : Event) → Sound old → Accounts old →
+    old.world.tally.made + 1 < 2 ^ 128 → Happens old e names new → Accounts new × (new.world.tally.made ≤ old.world.tally.made + 1)
 accounts-goes old new names (Opened p) s a more h =
     let same = (Empties-opened old.world p h.0 a.tidy).made in
     rw h.2 (Accounts-opened old p names h.0 s a, omega (arith, same))
@@ -264,19 +279,23 @@ accounts-goes old new names (WasRetired p o) s a more h =
     rw t.2 (Accounts-retired old p o t.0 h.0 t.1 s a, omega arith)
 accounts-goes old new names Other s a more h = (Accounts-quiet old new h.1 a, (let same = ap (λ (t : Tally). t.made) h.1.still.tally in omega (arith, same)))
 
-accounts-stepped : (old mid : Desk) (call : Call) (answer : Answer) → Sound old → Accounts old → old.world.tally.made + 1 < 2 ^ 128 → Step old call answer mid → Accounts mid × (mid.world.tally.made ≤ old.world.tally.made + 1)
+accounts-stepped : (old mid : Desk) (call : Call) (answer : Answer) → Sound old → Accounts old →
+    old.world.tally.made + 1 < 2 ^ 128 → Step old call answer mid → Accounts mid × (mid.world.tally.made ≤ old.world.tally.made + 1)
 accounts-stepped old mid call answer s a more step =
-    let g = accounts-goes old step.after answer.reclaimed (event_of call answer.reply) s a more (happens old call answer.reply answer.reclaimed step.after step.meets) in
+    let g = accounts-goes old step.after answer.reclaimed (event_of call answer.reply) s a more
+    (happens old call answer.reply answer.reclaimed step.after step.meets) in
     rw step.moment (Accounts-later step.after g.0, g.1)
 
-accounts-from : (past lines : List Line) (old new : Desk) → Sound old → Knows past old → Accounts old → old.world.tally.made + length lines < 2 ^ 128 → Trace old lines new → Accounts new
+accounts-from : (past lines : List Line) (old new : Desk) → Sound old → Knows past old → Accounts old →
+    old.world.tally.made + length lines < 2 ^ 128 → Trace old lines new → Accounts new
 accounts-from past [] old new s k a few t = rw t a
 accounts-from past (line ∷ lines) old new s k a few t =
     let g = stepped line past old t.1.0 t.0 s k t.1.1 in
     let b = accounts-stepped old t.1.0 line.call line.answer s a (omega arith) t.1.1 in
     accounts-from (line ∷ past) lines t.1.0 new g.sound g.knows b.0 (let made = b.1 in omega arith) t.1.2
 
-pub runs_accounts : (l : Limits) (start : Desk) (calls : List Call) (answers : List Answer) (d : Desk) → length calls < 2 ^ 128 → IsStart l start → Runs start calls answers d → Accounts d
+pub runs_accounts : (l : Limits) (start : Desk) (calls : List Call) (answers : List Answer) (d : Desk) → length calls < 2 ^ 128 →
+    IsStart l start → Runs start calls answers d → Accounts d
 runs_accounts l start calls answers d few s r =
     let t = runs_trace start calls answers d r in
     let made = ap (λ (x : Tally). x.made) s.world.tally in

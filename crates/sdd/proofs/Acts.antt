@@ -34,18 +34,27 @@ meets-made old new world p n k given place makes named desk =
     )
 
 -- an owner retires its item
-pub meets-retired : (old : Desk) (world : World Val) (p o i k : ℕ) (owners : List (Option ℕ)) (items : List ItemState) → IsPlace old p → IsOwnerOf old i o → k ≡ (item_at old i).slot →
+pub meets-retired : (old : Desk) (world : World Val) (p o i k : ℕ) (owners : List (Option ℕ)) (items : List ItemState) →
+    IsPlace old p → IsOwnerOf old i o → k ≡ (item_at old i).slot →
     world ≡ retired old.world p k → owners ≡ slice_set old.owners o None → items ≡ with_fate old.items i (Retired old.moment) →
     Meets old (At (record { 0 = p }) (call.Retire (record { 0 = o }))) reply.Done [] (record old { world = world; owners = owners; items = items })
 meets-retired old world p o i k owners items place owner slot retires spent become =
     let there : IsSome (slice_index_or old.owners o None) = subst (λ (held : Option ℕ). IsSome held) (sym owner) refl in
     rw (retires ∙ ap (λ (j : ℕ). retired old.world p j) slot) (rw spent (rw become ((place, there), ((i, owner, refl), refl))))
 
+-- a desk of equal parts
+equal-desks : (d : Desk) {w w2 : World Val} {os os2 : List ℕ} {gs gs2 : List (Option ℕ)} {xs xs2 : List ItemState} →
+    w ≡ w2 → os ≡ os2 → gs ≡ gs2 → xs ≡ xs2 →
+    record d { world = w; openings = os; guards = gs; items = xs } ≡ record d { world = w2; openings = os2; guards = gs2; items = xs2 }
+equal-desks d e f g h = cc
+
 -- p opens a guard
-pub meets-opened : (old : Desk) (world : World Val) (p : ℕ) (epoch : Epoch) (names : List ItemName) (openings : List ℕ) (guards : List (Option ℕ)) (items : List ItemState) →
+pub meets-opened : (old : Desk) (world : World Val) (p : ℕ) (epoch : Epoch) (names : List ItemName) (openings : List ℕ)
+    (guards : List (Option ℕ)) (items : List ItemState) →
     IsPlace old p → CanNest old.world.time p → world ≡ opened holdings_of old.world p → epoch ≡ epoch_of world.time.count → AreReclaimed old p names →
-    openings ≡ (if is_open (place_at old.world p) then old.openings else slice_set old.openings p old.moment) → guards ≡ old.guards ++ Some p ∷ [] → items ≡ all_gone old.items names →
-    Meets old (At (record { 0 = p }) call.Open) (reply.Guard (record { 0 = length old.guards }) epoch) names (record old { world = world; openings = openings; guards = guards; items = items })
+    openings ≡ (if is_open (place_at old.world p) then old.openings else slice_set old.openings p old.moment) →
+    guards ≡ old.guards ++ Some p ∷ [] → items ≡ all_gone old.items names →
+    Meets old (At (record { 0 = p }) call.Open) (reply.Guard (record { 0 = length old.guards }) epoch) names
+    (record old { world = world; openings = openings; guards = guards; items = items })
 meets-opened old world p epoch names openings guards items place nests opens now are began named gone =
-    let P = λ (w : World Val) (os : List ℕ) (gs : List (Option ℕ)) (xs : List ItemState). record old { world = w; openings = os; guards = gs; items = xs } in
-    (place, (nests, refl, now, are, ap (λ (w : World Val). P w openings guards items) opens ∙ ap (λ (os : List ℕ). P (opened holdings_of old.world p) os guards items) began ∙ ap (λ (gs : List (Option ℕ)). P (opened holdings_of old.world p) (if is_open (place_at old.world p) then old.openings else slice_set old.openings p old.moment) gs items) named ∙ ap (λ (xs : List ItemState). P (opened holdings_of old.world p) (if is_open (place_at old.world p) then old.openings else slice_set old.openings p old.moment) (old.guards ++ Some p ∷ []) xs) gone))
+    (place, (nests, refl, now, are, equal-desks old opens began named gone))

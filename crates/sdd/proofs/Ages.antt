@@ -115,7 +115,8 @@ apart-due (w ∷ ws) apart =
     ]
 
 -- what waits goes on waiting at a change, or is due
-pub left-or-due : (ws : List Waiting) (k s : ℕ) → Among ws (having_seen k (Item s)) → ((j : ℕ) × Among (left (aged ws)) (having_seen j (Item s))) ⊎ Among (due (aged ws)) (Item s)
+pub left-or-due : (ws : List Waiting) (k s : ℕ) → Among ws (having_seen k (Item s)) →
+    ((j : ℕ) × Among (left (aged ws)) (having_seen j (Item s))) ⊎ Among (due (aged ws)) (Item s)
 left-or-due ws k s h =
     elim (cases_lt k 2) [
       | inl young ↦ inl (k + 1, among-left ws (Item s) k young h)

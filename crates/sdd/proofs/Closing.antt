@@ -16,7 +16,8 @@ raised-places : (t : Time) → (time.raised t).places ≡ t.places
 raised-places t = if-places (nat_lt t.count time.last_count && list_all (time.passes t.count) t.places) (record t { count = t.count + 1 }) t t.places refl refl
 
 scanned-places : (t : Time) (p : ℕ) → (time.scanned t p).places ≡ t.places
-scanned-places t p = if-places ((time.place_at t p).found == t.count) (time.raised (record t { marked = false })) t t.places (raised-places (record t { marked = false })) refl
+scanned-places t p = if-places ((time.place_at t p).found == t.count) (time.raised (record t { marked = false })) t t.places
+    (raised-places (record t { marked = false })) refl
 
 -- p has one guard fewer, and each place has found what it had, and has waiting what it had
 pub record Closes (old new : List Participant) (p : ℕ) : Type 0 where
@@ -40,14 +41,17 @@ closes-set old ps p guards countdown lt e g =
     } in
     subst (λ qs. Closes old (slice_set qs p x) p) (sym e) kept
 
-closes-by : (t : Time) (p : ℕ) → p < length t.places → (more some : Bool) → nat_lt 1 (time.place_at t p).guards ≡ more → nat_lt 0 (time.place_at t p).guards ≡ some →
-    Closes t.places (if more then time.with_place t p (record (time.place_at t p) { guards = (time.place_at t p).guards - 1 }) else (if some then time.left_by t p else t)).places p
+closes-by : (t : Time) (p : ℕ) → p < length t.places → (more some : Bool) → nat_lt 1 (time.place_at t p).guards ≡ more →
+    nat_lt 0 (time.place_at t p).guards ≡ some →
+    Closes t.places (if more then time.with_place t p (record (time.place_at t p) { guards = (time.place_at t p).guards - 1 })
+    else (if some then time.left_by t p else t)).places p
 closes-by t p lt true some is_more is_open = closes-set t.places t.places p ((time.place_at t p).guards - 1) (time.place_at t p).countdown lt refl refl
 closes-by t p lt false true is_more is_open =
     let few = ltb-false 1 (time.place_at t p).guards is_more in
     let none : 0 ≡ (time.place_at t p).guards - 1 = omega arith in
     let scanned = if-places ((time.place_at t p).countdown == 0) (time.scanned t p) t t.places (scanned-places t p) refl in
-    closes-set t.places (if (time.place_at t p).countdown == 0 then time.scanned t p else t).places p 0 (time.counted_down t.marked (time.place_at t p).countdown) lt scanned none
+    closes-set t.places (if (time.place_at t p).countdown == 0 then time.scanned t p else t).places p 0
+    (time.counted_down t.marked (time.place_at t p).countdown) lt scanned none
 closes-by t p lt false false is_more is_open = record {
   here = (let z = ltb-false 0 (time.place_at t p).guards is_open in omega arith);
   others = λ q ne. refl;

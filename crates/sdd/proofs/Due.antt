@@ -33,8 +33,10 @@ no-places l d s = ap (λ (t : Time). t.places) s.world.time
 -- a desk before its first line
 pub Sound-start : (l : Limits) (d : Desk) → IsStart l d → Sound d
 Sound-start l d s =
-    let none = λ (q : ℕ) (x : Waiting) (h : Among (waiting d q) x). subst (λ (ps : List Participant). Among (slice_index_or ps q nobody).bags.waiting x) (no-places l d s) h in
-    let unowned = λ (o i : ℕ) (h : IsOwnerOf d i o). let z : slice_index_or {A = Option ℕ} [] o None ≡ Some i = subst (λ (os : List (Option ℕ)). slice_index_or os o None ≡ Some i) s.owners h in z in
+    let none = λ (q : ℕ) (x : Waiting) (h : Among (waiting d q) x). subst
+    (λ (ps : List Participant). Among (slice_index_or ps q nobody).bags.waiting x) (no-places l d s) h in
+    let unowned = λ (o i : ℕ) (h : IsOwnerOf d i o). let z : slice_index_or {A = Option ℕ} [] o None ≡ Some i =
+    subst (λ (os : List (Option ℕ)). slice_index_or os o None ≡ Some i) s.owners h in z in
     record {
       retired = λ q x h. absurd (none q x h);
       once = λ q r k a b h1 h2. absurd (none q _ h1);
@@ -61,14 +63,16 @@ pub record Follows (line : Line) (past : List Line) (names : List ItemName) (new
   pub due : (i : ItemName) → Contains names i ↔ IsDue i.0 line past
 
 -- where nothing is reclaimed, nothing is due
-none-due : (line : Line) (past : List Line) (names : List ItemName) (e : Event) → event line ≡ e → names ≡ [] → ((i : ItemName) → IsDueAt i.0 e line past → ⊥) → (i : ItemName) → Contains names i ↔ IsDue i.0 line past
+none-due : (line : Line) (past : List Line) (names : List ItemName) (e : Event) → event line ≡ e → names ≡ [] →
+    ((i : ItemName) → IsDueAt i.0 e line past → ⊥) → (i : ItemName) → Contains names i ↔ IsDue i.0 line past
 none-due line past names e is none never i = (
   (λ c. let lt : c.0 < length names = c.1 in let z : length names ≡ 0 = ap (λ (xs : List ItemName). length xs) none in absurd (omega arith)),
   (λ h. absurd (never i (subst (λ (x : Event). IsDueAt i.0 x line past) is h))),
 )
 
 -- whatever happens in a line
-goes : (line : Line) (past : List Line) (names : List ItemName) (old new : Desk) (e : Event) → event line ≡ e → line.count ≡ old.world.time.count → Sound old → Knows past old → Happens old e names new → Follows line past names new
+goes : (line : Line) (past : List Line) (names : List ItemName) (old new : Desk) (e : Event) → event line ≡ e →
+    line.count ≡ old.world.time.count → Sound old → Knows past old → Happens old e names new → Follows line past names new
 goes line past names old new (Opened p) is count s k h =
     rw h.2
     record {
@@ -80,7 +84,16 @@ goes line past names old new (Closed p) is count s k h =
     let c = Closes-closed old.world.time p h.0 in
     rw h.2.2
     record {
-      sound = Sound-still old _ s (record { found = c.found; waiting = c.waiting; standings = refl; cells = refl; owners = refl; items = refl; values = refl; tally = refl });
+      sound = Sound-still old _ s (record {
+        found = c.found;
+        waiting = c.waiting;
+        standings = refl;
+        cells = refl;
+        owners = refl;
+        items = refl;
+        values = refl;
+        tally = refl;
+      });
       knows = Knows-closed line past old p _ is h.0 k;
       due = none-due line past names (Closed p) is h.1 (λ i z. z);
     }
@@ -107,9 +120,11 @@ goes line past names old new Other is count s k h = record {
 }
 
 -- a step of the trace
-pub stepped : (line : Line) (past : List Line) (old mid : Desk) → line.count ≡ old.world.time.count → Sound old → Knows past old → Step old line.call line.answer mid → Follows line past line.answer.reclaimed mid
+pub stepped : (line : Line) (past : List Line) (old mid : Desk) → line.count ≡ old.world.time.count → Sound old → Knows past old →
+    Step old line.call line.answer mid → Follows line past line.answer.reclaimed mid
 stepped line past old mid count s k step =
-    let g = goes line past line.answer.reclaimed old step.after (event line) refl count s k (happens old line.call line.answer.reply line.answer.reclaimed step.after step.meets) in
+    let g = goes line past line.answer.reclaimed old step.after (event line) refl count s k
+    (happens old line.call line.answer.reply line.answer.reclaimed step.after step.meets) in
     rw step.moment
     record { sound = Sound-later step.after g.sound; knows = Knows-later (line ∷ past) step.after g.knows; due = g.due }
 
@@ -124,7 +139,8 @@ pub all_due : (l : Limits) (start : Desk) (lines : List Line) (new : Desk) → I
 all_due l start lines new s t = all_due-from [] lines start new (Sound-start l start s) (Knows-start l start s) t
 
 -- the lines of a trace are calls that run
-pub trace_runs : (start : Desk) (lines : List Line) (new : Desk) → Trace start lines new → Runs start (map (λ (line : Line). line.call) lines) (map (λ (line : Line). line.answer) lines) new
+pub trace_runs : (start : Desk) (lines : List Line) (new : Desk) → Trace start lines new →
+    Runs start (map (λ (line : Line). line.call) lines) (map (λ (line : Line). line.answer) lines) new
 trace_runs start [] new t = t
 trace_runs start (line ∷ lines) new t = (t.1.0, t.1.1, trace_runs t.1.0 lines new t.1.2)
 
@@ -140,7 +156,8 @@ runs_trace start (call ∷ calls) (answer ∷ answers) new r =
     (line ∷ rest.0, ap (λ (cs : List Call). call ∷ cs) rest.1, ap (λ (given : List Answer). answer ∷ given) rest.2, (refl, (r.0, r.1, rest.3)))
 
 -- what the answers of a script name as reclaimed is what is due
-pub names_what_is_due : (l : Limits) (start : Desk) (calls : List Call) (answers : List Answer) (new : Desk) → IsStart l start → Runs start calls answers new → NamesWhatIsDue start calls answers new
+pub names_what_is_due : (l : Limits) (start : Desk) (calls : List Call) (answers : List Answer) (new : Desk) → IsStart l start →
+    Runs start calls answers new → NamesWhatIsDue start calls answers new
 names_what_is_due l start calls answers new s r =
     let t = runs_trace start calls answers new r in
     (t.0, t.1, t.2, t.3, all_due l start t.0 new s t.3)

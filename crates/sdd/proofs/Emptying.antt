@@ -36,7 +36,8 @@ Empties-none w x never d = record {
 }
 
 -- the slot is that of what is reclaimed
-Empties-gone : (w : World Val) (k : ℕ) (x : What) (v : Val) → ((s : ℕ) → x ≡ Item s → s ≡ k) → IsTidy w → value_at w k ≡ Some v → Empties w (record (freed w k) { cells = without_entry w.cells (link_of v) }) (x ∷ [])
+Empties-gone : (w : World Val) (k : ℕ) (x : What) (v : Val) → ((s : ℕ) → x ≡ Item s → s ≡ k) → IsTidy w → value_at w k ≡ Some v →
+    Empties w (record (freed w k) { cells = without_entry w.cells (link_of v) }) (x ∷ [])
 Empties-gone w k x v only d has = record {
   kept = λ s.
       elim (cases_eq s k) [
@@ -52,13 +53,15 @@ Empties-gone w k x v only d has = record {
   tidy = Tidy-gone w k v d has;
 }
 
-Empties-taken : (w : World Val) (p k : ℕ) (x : What) (v : Val) → ((s : ℕ) → x ≡ Item s → s ≡ k) → IsTidy w → value_at w k ≡ Some v → Empties w (taken_out holdings_of w p k (Some v)) (x ∷ [])
+Empties-taken : (w : World Val) (p k : ℕ) (x : What) (v : Val) → ((s : ℕ) → x ≡ Item s → s ≡ k) → IsTidy w → value_at w k ≡ Some v →
+    Empties w (taken_out holdings_of w p k (Some v)) (x ∷ [])
 Empties-taken w p k x v only d has =
     rw (spills-nothing (record (freed w k) { cells = without_entry w.cells (link_of v) }) p (held_in (entry_at w.cells (link_of v))) (d.unlinked (link_of v)))
     (Empties-gone w k x v only d has)
 
 -- a slot that waits has a value
-Empties-value : (w : World Val) (p k : ℕ) (x : What) (v : Option Val) → ((s : ℕ) → x ≡ Item s → s ≡ k) → IsTidy w → value_at w k ≡ v → IsSome (standing_at w k) → Empties w (taken_out holdings_of w p k v) (x ∷ [])
+Empties-value : (w : World Val) (p k : ℕ) (x : What) (v : Option Val) → ((s : ℕ) → x ≡ Item s → s ≡ k) → IsTidy w →
+    value_at w k ≡ v → IsSome (standing_at w k) → Empties w (taken_out holdings_of w p k v) (x ∷ [])
 Empties-value w p k x None only d has taken = absurd (false≢true (ap is_some (sym has) ∙ filled-at w d k ∙ taken))
 Empties-value w p k x (Some v) only d has taken = Empties-taken w p k x v only d has
 
@@ -66,7 +69,8 @@ Empties-value w p k x (Some v) only d has taken = Empties-taken w p k x v only d
 Empties-other : (w : World Val) (k : ℕ) (x : What) → ((s : ℕ) → x ≡ Item s → s ≡ k) → (standing_at w k ≡ Some Retired → ⊥) → IsTidy w → Empties w w (x ∷ [])
 Empties-other w k x only never d = Empties-none w x (λ s e r. never (ap (λ (j : ℕ). standing_at w j) (sym (only s e)) ∙ r)) d
 
-Empties-standing : (w : World Val) (p k : ℕ) (x : What) → ((s : ℕ) → x ≡ Item s → s ≡ k) → IsTidy w → (s : Option Standing) → standing_at w k ≡ s → Empties w (taken_out holdings_of w p k (waiting_value w k s)) (x ∷ [])
+Empties-standing : (w : World Val) (p k : ℕ) (x : What) → ((s : ℕ) → x ≡ Item s → s ≡ k) → IsTidy w → (s : Option Standing) →
+    standing_at w k ≡ s → Empties w (taken_out holdings_of w p k (waiting_value w k s)) (x ∷ [])
 Empties-standing w p k x only d None is = Empties-other w k x only (λ r. let z : Some Retired ≡ None = sym r ∙ is in cc) d
 Empties-standing w p k x only d (Some Owned) is = Empties-other w k x only (λ r. let z : Some Retired ≡ Some Owned = sym r ∙ is in cc) d
 Empties-standing w p k x only d (Some Raw) is = Empties-other w k x only (λ r. let z : Some Retired ≡ Some Raw = sym r ∙ is in cc) d
@@ -119,7 +123,8 @@ Empties-changed w p d =
 Empties-nested : (w : World Val) (p : ℕ) → IsTidy w → Empties w (nested w p) []
 Empties-nested w p d = record { kept = λ s. inl refl; gone = λ s h r. absurd h; made = refl; tidy = Tidy-time w (time.nested_at w.time p) d }
 
-Empties-caught_up : (w : World Val) (p : ℕ) → p < length w.time.places → IsTidy w → Empties w (changed holdings_of (nested w p) p) (time.due_next (place_at w p))
+Empties-caught_up : (w : World Val) (p : ℕ) → p < length w.time.places → IsTidy w → Empties w (changed holdings_of (nested w p) p)
+    (time.due_next (place_at w p))
 Empties-caught_up w p lt d =
     let e = Empties-changed (nested w p) p (Tidy-time w (time.nested_at w.time p) d) in
     let same : time.due_next (place_at (nested w p) p) ≡ time.due_next (place_at w p) =
@@ -127,13 +132,15 @@ Empties-caught_up w p lt d =
     record { kept = e.kept; gone = λ s h r. e.gone s (subst (λ (xs : List What). Among xs (Item s)) (sym same) h) r; made = e.made; tidy = e.tidy }
 
 Empties-by : (w : World Val) (p : ℕ) → p < length w.time.places → IsTidy w → (is_open finds : Bool) →
-    Empties w (if is_open then nested w p else (if finds then changed holdings_of (nested w p) p else nested w p)) (if not is_open && finds then time.due_next (place_at w p) else [])
+    Empties w (if is_open then nested w p else (if finds then changed holdings_of (nested w p) p else nested w p))
+    (if not is_open && finds then time.due_next (place_at w p) else [])
 Empties-by w p lt d true finds = Empties-nested w p d
 Empties-by w p lt d false true = Empties-caught_up w p lt d
 Empties-by w p lt d false false = Empties-nested w p d
 
 -- and an opening of p
-pub Empties-opened : (w : World Val) (p : ℕ) → p < length w.time.places → IsTidy w → Empties w (opened holdings_of w p) (if changes w.time p then time.due_next (place_at w p) else [])
+pub Empties-opened : (w : World Val) (p : ℕ) → p < length w.time.places → IsTidy w →
+    Empties w (opened holdings_of w p) (if changes w.time p then time.due_next (place_at w p) else [])
 Empties-opened w p lt d =
     let same : time.finds_another (nested w p).time p ≡ time.finds_another w.time p =
     ap (λ (x : Participant). not (x.found == w.time.count)) (at-same w.time.places p (time.nested (place_at w p)) nobody lt) in

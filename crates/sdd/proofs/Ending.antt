@@ -30,7 +30,8 @@ use Rattle.sdd.proofs.Accounts.{one_if}
 -- what is taken waits
 pub record Drains (made : ℕ) (w : World Val) : Type 0 where
   pub tidy : IsTidy w
-  pub waits : (s : ℕ) → IsSome (standing_at w s) → (standing_at w s ≡ Some Retired) × ((q : ℕ) × (k : ℕ) × Among (place_at w q).bags.waiting (having_seen k (Item s)))
+  pub waits : (s : ℕ) → IsSome (standing_at w s) → (standing_at w s ≡ Some Retired)
+      × ((q : ℕ) × (k : ℕ) × Among (place_at w q).bags.waiting (having_seen k (Item s)))
   pub same : w.tally.made ≡ made
 
 -- what waits with p has seen a change more
@@ -74,11 +75,22 @@ Drains-aged made w p d =
                   same ∙ was.0,
                   elim (cases_eq q p) [
                     | inl here ↦
-                        elim (left-or-due (place_at w p).bags.waiting k s (subst (λ (r : ℕ). Among (place_at w r).bags.waiting (having_seen k (Item s))) here was.1.2)) [
-                          | inl on ↦ (p, on.0, subst (λ (ws : List Waiting). Among ws (having_seen on.0 (Item s))) (sym (waiting-aged w p p d.tidy.unlinked ∙ waiting-here w p)) on.1)
+                        elim (left-or-due (place_at w p).bags.waiting k s
+                        (subst (λ (r : ℕ). Among (place_at w r).bags.waiting (having_seen k (Item s))) here was.1.2)) [
+                          | inl on ↦ (
+                            p,
+                            on.0,
+                            subst (λ (ws : List Waiting). Among ws (having_seen on.0 (Item s)))
+                                (sym (waiting-aged w p p d.tidy.unlinked ∙ waiting-here w p)) on.1,
+                          )
                           | inr is_due ↦ absurd (not-free (standing_at then s) t (e.gone s is_due was.0))
                         ]
-                    | inr ne ↦ (q, k, subst (λ (ws : List Waiting). Among ws (having_seen k (Item s))) (sym (waiting-aged w p q d.tidy.unlinked ∙ waiting-else w p q ne)) was.1.2)
+                    | inr ne ↦ (
+                      q,
+                      k,
+                      subst (λ (ws : List Waiting). Among ws (having_seen k (Item s)))
+                          (sym (waiting-aged w p q d.tidy.unlinked ∙ waiting-else w p q ne)) was.1.2,
+                    )
                   ],
                 )
           ];
@@ -137,7 +149,8 @@ ended made w end d c =
     }
 
 -- once every owner is spent, all that is taken waits
-pub Drains-out : (w : World Val) (guards slots : List (Option ℕ)) → ((o s : ℕ) → slice_index_or slots o None ≡ Some s → ⊥) → OnlyOut w guards slots → Drains w.tally.made w
+pub Drains-out : (w : World Val) (guards slots : List (Option ℕ)) → ((o s : ℕ) → slice_index_or slots o None ≡ Some s → ⊥) →
+    OnlyOut w guards slots → Drains w.tally.made w
 Drains-out w guards slots spent out = record {
   tidy = out.tidy;
   waits = λ s t.
@@ -149,7 +162,8 @@ Drains-out w guards slots spent out = record {
 }
 
 -- a world of which no owner is out ends with nothing out, and all reclaimed
-pub OnlyOut-ends : (w end : World Val) (guards slots : List (Option ℕ)) → ((o s : ℕ) → slice_index_or slots o None ≡ Some s → ⊥) → OnlyOut w guards slots → Closes holdings_of w end → IsEnded w.tally.made end
+pub OnlyOut-ends : (w end : World Val) (guards slots : List (Option ℕ)) → ((o s : ℕ) → slice_index_or slots o None ≡ Some s → ⊥) →
+    OnlyOut w guards slots → Closes holdings_of w end → IsEnded w.tally.made end
 OnlyOut-ends w end guards slots spent out c = ended w.tally.made w end (Drains-out w guards slots spent out) c
 
 none-counted : (guards : List (Option ℕ)) (q : ℕ) → ((g p : ℕ) → slice_index_or guards g None ≡ Some p → ⊥) → count_by (is_of q) guards ≡ 0
@@ -161,7 +175,8 @@ none-counted (None ∷ guards) q closed =
     omega (arith, rest, sum)
 
 -- where every guard is closed, none is open
-pub OnlyOut-unguarded : (w : World Val) (guards slots : List (Option ℕ)) → ((g p : ℕ) → slice_index_or guards g None ≡ Some p → ⊥) → OnlyOut w guards slots → IsGuarded w → ⊥
+pub OnlyOut-unguarded : (w : World Val) (guards slots : List (Option ℕ)) → ((g p : ℕ) → slice_index_or guards g None ≡ Some p → ⊥) →
+    OnlyOut w guards slots → IsGuarded w → ⊥
 OnlyOut-unguarded w guards slots closed out any =
     let none = out.opened any.0 ∙ none-counted guards any.0 closed in
     let same : place_at w any.0 ≡ any.1 = get_or_default w.time.places any.0 nobody any.1 any.2 ∙ any.3 in

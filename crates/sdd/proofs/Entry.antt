@@ -13,7 +13,8 @@ module _ {X : Type 0} where
   at-other xs k j x d ne = get_or-set_other xs k j x d ne
 
   -- what the new entry has as the old one, each number has as before
-  pub at-each : {Y : Type 0} (f : X → Y) (xs : List X) (k : ℕ) (x d : X) → f x ≡ f (slice_index_or xs k d) → (j : ℕ) → f (slice_index_or (slice_set xs k x) j d) ≡ f (slice_index_or xs j d)
+  pub at-each : {Y : Type 0} (f : X → Y) (xs : List X) (k : ℕ) (x d : X) → f x ≡ f (slice_index_or xs k d) → (j : ℕ) →
+      f (slice_index_or (slice_set xs k x) j d) ≡ f (slice_index_or xs j d)
   at-each f xs k x d e j =
       elim (cases_eq j k) [
         | inl same ↦
@@ -37,7 +38,8 @@ module _ {X : Type 0} where
   at-end xs x d = get_or_push xs x d (length xs) refl
 
   -- a push of what is as the default, as far as f sees
-  pub at-each_pushed : {Y : Type 0} (f : X → Y) (xs : List X) (x d : X) → f x ≡ f d → (j : ℕ) → f (slice_index_or (xs ++ x ∷ []) j d) ≡ f (slice_index_or xs j d)
+  pub at-each_pushed : {Y : Type 0} (f : X → Y) (xs : List X) (x d : X) → f x ≡ f d → (j : ℕ) →
+      f (slice_index_or (xs ++ x ∷ []) j d) ≡ f (slice_index_or xs j d)
   at-each_pushed f xs x d e j =
       elim (cases_eq j (length xs)) [
         | inl same ↦ rw same (ap f (at-end xs x d) ∙ e ∙ ap f (sym (get_or_past xs (length xs) d (omega arith))))

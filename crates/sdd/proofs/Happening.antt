@@ -74,7 +74,13 @@ Quiet-registered d openings =
     }
 
 -- only the countdown of a place changes
-Quiet-countdown : (d : Desk) (p n : ℕ) → Quiet d (record d { world = record d.world { time = time.with_place d.world.time p (record (place_at d.world p) { countdown = n }) } })
+Quiet-countdown : (d : Desk) (p n : ℕ) →
+    Quiet d (record d {
+      world = record d.world {
+        time = time.with_place d.world.time p
+            (record (place_at d.world p) { countdown = n });
+      };
+    })
 Quiet-countdown d p n =
     let ps = d.world.time.places in
     let x : Participant = record (place_at d.world p) { countdown = n } in
@@ -97,8 +103,13 @@ Quiet-countdown d p n =
 -- what a line does to the desk, by what happens in it
 abbrev pub Happens : Desk → Event → List ItemName → Desk → Type 0
 Happens old (Opened p) names new = IsPlace old p × AreReclaimed old p names × (new ≡ with_guard old p names)
-Happens old (Closed p) names new = IsPlace old p × (names ≡ []) × ((g : ℕ) × IsGuardOf old p g × (new ≡ record old { world = closed old.world p; guards = slice_set old.guards g None }))
-Happens old (Made o i) names new = (o ≡ length old.owners) × (i ≡ length old.items) × (names ≡ []) × ((c : ℕ) × (k : ℕ) × (v : Val) × IsEmptyAt old.world.cells c × IsEmptyAt old.world.standings k × (link_of v ≡ c) × (new ≡ with_item old c k v)) × (0 < length old.world.time.places)
+Happens old (Closed p) names new =
+    IsPlace old p × (names ≡ [])
+    × ((g : ℕ) × IsGuardOf old p g × (new ≡ record old { world = closed old.world p; guards = slice_set old.guards g None }))
+Happens old (Made o i) names new =
+    (o ≡ length old.owners) × (i ≡ length old.items) × (names ≡ [])
+    × ((c : ℕ) × (k : ℕ) × (v : Val) × IsEmptyAt old.world.cells c × IsEmptyAt old.world.standings k × (link_of v ≡ c)
+    × (new ≡ with_item old c k v)) × (0 < length old.world.time.places)
 Happens old (Retired p o) names new = IsPlace old p × (names ≡ []) × ((i : ℕ) × IsOwnerOf old i o × (new ≡ with_retired old p o i))
 Happens old Other names new = (names ≡ []) × Quiet old new
 

@@ -11,7 +11,8 @@ use Rattle.sdd.proofs.Among.{Among}
 use Rattle.sdd.proofs.Entry.{at-same, at-other, at-each}
 
 -- an item's slot is the same, whatever becomes of items
-pub with_fate-slot : (items : List ItemState) (i : ℕ) (fate : Fate) (j : ℕ) → (slice_index_or (with_fate items i fate) j nothing).slot ≡ (slice_index_or items j nothing).slot
+pub with_fate-slot : (items : List ItemState) (i : ℕ) (fate : Fate) (j : ℕ) →
+    (slice_index_or (with_fate items i fate) j nothing).slot ≡ (slice_index_or items j nothing).slot
 with_fate-slot items i fate j = at-each (λ (x : ItemState). x.slot) items i (record (slice_index_or items i nothing) { fate = fate }) nothing refl j
 
 pub with_fate-length : (items : List ItemState) (i : ℕ) (fate : Fate) → length (with_fate items i fate) ≡ length items
@@ -20,7 +21,8 @@ with_fate-length items i fate = length-set items i (record (slice_index_or items
 pub with_fate-here : (items : List ItemState) (i : ℕ) (fate : Fate) → i < length items → (slice_index_or (with_fate items i fate) i nothing).fate ≡ fate
 with_fate-here items i fate lt = ap (λ (x : ItemState). x.fate) (at-same items i (record (slice_index_or items i nothing) { fate = fate }) nothing lt)
 
-pub with_fate-other : (items : List ItemState) (i : ℕ) (fate : Fate) (j : ℕ) → j ≢ i → (slice_index_or (with_fate items i fate) j nothing).fate ≡ (slice_index_or items j nothing).fate
+pub with_fate-other : (items : List ItemState) (i : ℕ) (fate : Fate) (j : ℕ) → j ≢ i →
+    (slice_index_or (with_fate items i fate) j nothing).fate ≡ (slice_index_or items j nothing).fate
 with_fate-other items i fate j ne = ap (λ (x : ItemState). x.fate) (at-other items i j (record (slice_index_or items i nothing) { fate = fate }) nothing ne)
 
 with_fate-gone : (items : List ItemState) (i : ℕ) → (slice_index_or (with_fate items i Gone) i nothing).fate ≡ Gone
@@ -32,7 +34,8 @@ with_fate-gone items i =
           ∙ ap (λ (x : ItemState). x.fate) (get_or_past items i nothing past)
     ]
 
-pub all_gone-slot : (items : List ItemState) (names : List ItemName) (j : ℕ) → (slice_index_or (all_gone items names) j nothing).slot ≡ (slice_index_or items j nothing).slot
+pub all_gone-slot : (items : List ItemState) (names : List ItemName) (j : ℕ) →
+    (slice_index_or (all_gone items names) j nothing).slot ≡ (slice_index_or items j nothing).slot
 all_gone-slot items [] j = refl
 all_gone-slot items (i ∷ names) j = all_gone-slot (with_fate items i.0 Gone) names j ∙ with_fate-slot items i.0 Gone j
 
@@ -68,5 +71,8 @@ stays-or-goes items (i ∷ names) j =
     ]
 
 -- the rest is spent by the next name, and then the others
-pub all_gone-drop : (items : List ItemState) (names : List ItemName) (i : ℕ) (d : ItemName) → i < length names → all_gone items (drop i names) ≡ all_gone (with_fate items (slice_index_or names i d).0 Gone) (drop (i + 1) names)
-all_gone-drop items names i d lt = ap (λ (ns : List ItemName). all_gone items ns) (drop-cons names i d lt ∙ ap (λ (n : ℕ). slice_index_or names i d ∷ drop n names) (sym (add-one i)))
+pub all_gone-drop : (items : List ItemState) (names : List ItemName) (i : ℕ) (d : ItemName) → i < length names →
+    all_gone items (drop i names) ≡ all_gone (with_fate items (slice_index_or names i d).0 Gone) (drop (i + 1) names)
+all_gone-drop items names i d lt =
+    ap (λ (ns : List ItemName). all_gone items ns)
+    (drop-cons names i d lt ∙ ap (λ (n : ℕ). slice_index_or names i d ∷ drop n names) (sym (add-one i)))

@@ -46,7 +46,8 @@ pub Knows-later : (past : List Line) (d : Desk) → Knows past d → Knows past 
 Knows-later past d k = record { guards = k.guards; found = k.found; owners = k.owners; fates = λ i. ties-later d i (fate i past) (k.fates i) }
 
 -- an item that is as it was, where more waits
-pub ties-grows : (d e : Desk) (i : ℕ) (f : Fate) → (item_at e i).fate ≡ (item_at d i).fate → slot_of e i ≡ slot_of d i → ((q : ℕ) (x : Waiting) → Among (waiting d q) x → Among (waiting e q) x) → Ties d i f → Ties e i f
+pub ties-grows : (d e : Desk) (i : ℕ) (f : Fate) → (item_at e i).fate ≡ (item_at d i).fate → slot_of e i ≡ slot_of d i →
+    ((q : ℕ) (x : Waiting) → Among (waiting d q) x → Among (waiting e q) x) → Ties d i f → Ties e i f
 ties-grows d e i Kept same slot grows t = λ w. t (subst (λ (f : DeskFate). Waits f) same w)
 ties-grows d e i (Held q k) same slot grows t = (
   t.0,
@@ -101,7 +102,8 @@ Knows-other line past old new is z k = record {
 }
 
 -- a line in which a guard of p is closed
-pub Knows-closed : (line : Line) (past : List Line) (d : Desk) (p : ℕ) (guards : List (Option ℕ)) → event line ≡ Closed p → IsPlace d p → Knows past d → Knows (line ∷ past) (record d { world = closed d.world p; guards = guards })
+pub Knows-closed : (line : Line) (past : List Line) (d : Desk) (p : ℕ) (guards : List (Option ℕ)) → event line ≡ Closed p →
+    IsPlace d p → Knows past d → Knows (line ∷ past) (record d { world = closed d.world p; guards = guards })
 Knows-closed line past d p guards is place k =
     let c = Closes-closed d.world.time p place in
     record {
@@ -125,7 +127,8 @@ Knows-closed line past d p guards is place k =
     }
 
 -- a line in which an item is made
-pub Knows-made : (line : Line) (past : List Line) (d : Desk) (o i c k : ℕ) (v : Val) → event line ≡ Made o i → o ≡ length d.owners → i ≡ length d.items → Knows past d → Knows (line ∷ past) (with_item d c k v)
+pub Knows-made : (line : Line) (past : List Line) (d : Desk) (o i c k : ℕ) (v : Val) → event line ≡ Made o i → o ≡ length d.owners →
+    i ≡ length d.items → Knows past d → Knows (line ∷ past) (with_item d c k v)
 Knows-made line past d o i c k v is next_owner next_item known =
     let new = with_item d c k v in
     let item : ItemState = record { slot = k; fate = desk.Out } in
@@ -146,7 +149,8 @@ Knows-made line past d o i c k v is next_owner next_item known =
             | inl e ↦
                 ties-idle d new j (fate j past)
                 (λ w. subst (λ (f : DeskFate). Waits f) (ap (λ (x : ItemState). x.fate) (get_or_past d.items j nothing (omega arith))) w)
-                (λ w. subst (λ (f : DeskFate). Waits f) (ap (λ (n : ℕ). (item_at new n).fate) e ∙ ap (λ (x : ItemState). x.fate) (at-end d.items item nothing)) w)
+                (λ w. subst (λ (f : DeskFate). Waits f)
+                (ap (λ (n : ℕ). (item_at new n).fate) e ∙ ap (λ (x : ItemState). x.fate) (at-end d.items item nothing)) w)
                 (known.fates j)
             | inr ne ↦
                 ties-grows d new j (fate j past)
@@ -158,12 +162,14 @@ Knows-made line past d o i c k v is next_owner next_item known =
     }
 
 -- a line in which an owner is retired
-pub Knows-retired : (line : Line) (past : List Line) (d : Desk) (p o i : ℕ) → event line ≡ Retired p o → IsPlace d p → IsOwnerOf d i o → Sound d → Knows past d → Knows (line ∷ past) (with_retired d p o i)
+pub Knows-retired : (line : Line) (past : List Line) (d : Desk) (p o i : ℕ) → event line ≡ Retired p o → IsPlace d p →
+    IsOwnerOf d i o → Sound d → Knows past d → Knows (line ∷ past) (with_retired d p o i)
 Knows-retired line past d p o i is place owner s known =
     let new = with_retired d p o i in
     let y = time.awaiting (Item (slot_of d i)) (place_at d.world p) in
     record {
-      guards = λ q. guards-next line past (Retired p o) is q ∙ known.guards q ∙ sym (at-each (λ (x : Participant). x.guards) d.world.time.places p y nobody refl q);
+      guards = λ q. guards-next line past (Retired p o) is q ∙ known.guards q
+          ∙ sym (at-each (λ (x : Participant). x.guards) d.world.time.places p y nobody refl q);
       found = λ q. found-next line past (Retired p o) is q ∙ known.found q ∙ sym (at-each (λ (x : Participant). x.found) d.world.time.places p y nobody refl q);
       owners = λ r j h. owner-next line past (Retired p o) is r ∙ known.owners r j ((owner-else d p o i place owner s r j h).1);
       fates = λ j.
@@ -176,7 +182,8 @@ Knows-retired line past d p o i is place owner s known =
                 (subst (λ (n : ℕ). Ties new n (Held p 0)) e (
                   omega arith,
                   subst (λ (f : DeskFate). Waits f) (sym (with_fate-here d.items i (desk.Retired d.moment) ((s.owned o i owner).0))) tt,
-                  subst (λ (n : ℕ). Among (waiting new p) (having_seen 0 (Item n))) (sym (with_fate-slot d.items i (desk.Retired d.moment) i)) (waits-now d p o i place owner s),
+                  subst (λ (n : ℕ). Among (waiting new p) (having_seen 0 (Item n)))
+                      (sym (with_fate-slot d.items i (desk.Retired d.moment) i)) (waits-now d p o i place owner s),
                 ))
             | inr ne ↦
                 let same : fate j (line ∷ past) ≡ fate j past = now ∙ ap (λ (b : Bool). retired_if b p (fate j past)) (ne_eqb i j ne) in

@@ -67,7 +67,11 @@ module _ (d : Desk) (p : ℕ) (names : List ItemName) (change : Bool) (s : Sound
   due-named : (i : ℕ) → Waits (item_at d i).fate → is_due i → Among names (name i)
   due-named i w h =
       contains-among names (name i)
-      ((are.exactly (name i)).1 (w, among-contains (reclaims d.world p) (Item (slot_of d i)) (subst (λ (xs : List What). Among xs (Item (slot_of d i))) (sym due_is) h)))
+      ((are.exactly (name i)).1 (
+        w,
+        among-contains (reclaims d.world p) (Item (slot_of d i))
+            (subst (λ (xs : List What). Among xs (Item (slot_of d i))) (sym due_is) h),
+      ))
 
   -- an item that did not wait does not
   idle : (i : ℕ) → (Waits (item_at d i).fate → ⊥) → Waits (item_at after i).fate → ⊥
@@ -93,9 +97,6 @@ module _ (d : Desk) (p : ℕ) (names : List ItemName) (change : Bool) (s : Sound
         | inr goes ↦ subst (λ (f : DeskFate). Waits f) goes.gone w
       ]
 
-  slot-after : (i : ℕ) → slot_of after i ≡ slot_of d i
-  slot-after i = all_gone-slot d.items names i
-
 -- a change of p reclaims what it held for two changes, makes older what it held for fewer, and leaves what another holds
 changed-gone : (p q k : ℕ) → q ≡ p → k ≡ 2 → changed p (Held q k) ≡ Gone
 changed-gone p q k e e2 =
@@ -109,7 +110,8 @@ changed-not : (p q k : ℕ) → q ≢ p → changed p (Held q k) ≡ Held q k
 changed-not p q k ne = pick-other q p (if k == 2 then Gone else Held q (k + 1)) (Held q k) ne
 
 -- what is due has been with p for two changes
-due-only : (d : Desk) (p i q k : ℕ) → Sound d → k < 3 → Among (waiting d q) (having_seen k (Item (slot_of d i))) → Among (time.due_next (place_at d.world p)) (Item (slot_of d i)) → (q ≡ p) × (k ≡ 2)
+due-only : (d : Desk) (p i q k : ℕ) → Sound d → k < 3 → Among (waiting d q) (having_seen k (Item (slot_of d i))) →
+    Among (time.due_next (place_at d.world p)) (Item (slot_of d i)) → (q ≡ p) × (k ≡ 2)
 due-only d p i q k s lt h due =
     let r = due-among (waiting d p) (Item (slot_of d i)) due in
     let same = s.once q p (slot_of d i) k r.0 h r.2 in
@@ -141,7 +143,8 @@ ties-opened d p names true s o due_is are i (Held q k) t =
     let slot = all_gone-slot d.items names i in
     elim (cases_eq q p) [
       | inl e ↦
-          let here : Among (waiting d p) (having_seen k (Item (slot_of d i))) = subst (λ (j : ℕ). Among (waiting d j) (having_seen k (Item (slot_of d i)))) e t.2 in
+          let here : Among (waiting d p) (having_seen k (Item (slot_of d i))) =
+          subst (λ (j : ℕ). Among (waiting d j) (having_seen k (Item (slot_of d i)))) e t.2 in
           elim (cases_eq k 2) [
             | inl e2 ↦
                 subst (λ (f : Fate). Ties (with_guard d p names) i f) (sym (changed-gone p q k e e2))
@@ -168,18 +171,22 @@ ties-opened d p names true s o due_is are i (Held q k) t =
     ]
 
 -- what is due was held by p for two changes
-due-held : (d : Desk) (p : ℕ) → Sound d → (i : ℕ) (change : Bool) (f : Fate) → Waits (item_at d i).fate → Among (if change then time.due_next (place_at d.world p) else []) (Item (slot_of d i)) → Ties d i f → (change ≡ true) × (f ≡ Held p 2)
+due-held : (d : Desk) (p : ℕ) → Sound d → (i : ℕ) (change : Bool) (f : Fate) → Waits (item_at d i).fate →
+    Among (if change then time.due_next (place_at d.world p) else []) (Item (slot_of d i)) → Ties d i f → (change ≡ true)
+    × (f ≡ Held p 2)
 due-held d p s i false f w due t = absurd due
 due-held d p s i true Kept w due t = absurd (t w)
 due-held d p s i true Gone w due t = absurd (t w)
 due-held d p s i true (Held q k) w due t = let only = due-only d p i q k s t.0 t.2 due in (refl, ap₂ Held only.0 only.1)
 
 -- what p held for two changes is due
-held-due : (d : Desk) (p i : ℕ) (change : Bool) → change ≡ true → Ties d i (Held p 2) → Among (if change then time.due_next (place_at d.world p) else []) (Item (slot_of d i))
+held-due : (d : Desk) (p i : ℕ) (change : Bool) → change ≡ true → Ties d i (Held p 2) →
+    Among (if change then time.due_next (place_at d.world p) else []) (Item (slot_of d i))
 held-due d p i false e t = absurd (false≢true e)
 held-due d p i true e t = among-due (waiting d p) (Item (slot_of d i)) 2 (omega arith) t.2
 
-module _ (line : Line) (past : List Line) (d : Desk) (p : ℕ) (is : event line ≡ Opened p) (count_is : line.count ≡ d.world.time.count) (known : Knows past d) where
+module _ (line : Line) (past : List Line) (d : Desk) (p : ℕ) (is : event line ≡ Opened p)
+    (count_is : line.count ≡ d.world.time.count) (known : Knows past d) where
   outermost-is : is_outermost p line past ≡ not (nat_lt 0 (place_at d.world p).guards)
   outermost-is =
       outermost-next line past (Opened p) is p
@@ -215,7 +222,8 @@ module _ (line : Line) (past : List Line) (d : Desk) (p : ℕ) (is : event line 
                   ∙ ap (λ (n : ℕ). n + 1) (ap (λ (r : ℕ). open_guards r past) (sym e) ∙ known.guards p) ∙ sym o.guards
                   ∙ ap (λ (r : ℕ). (place_at new.world r).guards) e
               | inr ne ↦
-                  pick-other p q (open_guards q past + 1) (open_guards q past) ne ∙ known.guards q ∙ ap (λ (x : Participant). x.guards) (sym (o.others q (λ e. ne (sym e))))
+                  pick-other p q (open_guards q past + 1) (open_guards q past) ne ∙ known.guards q
+                  ∙ ap (λ (x : Participant). x.guards) (sym (o.others q (λ e. ne (sym e))))
             ];
         found = λ q.
             elim (cases_eq p q) [
@@ -245,6 +253,7 @@ module _ (line : Line) (past : List Line) (d : Desk) (p : ℕ) (is : event line 
             (change-is ∙ r.0, r.1)),
         (λ h.
             let held : Ties d i.0 (Held p 2) = subst (λ (f : Fate). Ties d i.0 f) h.1 (known.fates i.0) in
-            let due : Among (if change then time.due_next (place_at d.world p) else []) (Item (slot_of d i.0)) = held-due d p i.0 change (sym change-is ∙ h.0) held in
+            let due : Among (if change then time.due_next (place_at d.world p) else []) (Item (slot_of d i.0)) =
+            held-due d p i.0 change (sym change-is ∙ h.0) held in
             among-contains names i (due-named d p names change s o (reclaims-due d.world p) are i.0 held.1 due)),
       )

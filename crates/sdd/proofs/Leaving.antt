@@ -39,7 +39,8 @@ held_slot = option_map (λ (held : Held). slot_of held.owner)
 abbrev slot_in : List ItemState → ℕ → ℕ
 slot_in items i = (slice_index_or items i nothing).slot
 
-owned-slot : (home : token.Home) (items : List ItemState) (held : Option Held) → OwnsItem home items held → held_slot held ≡ option_map (slot_in items) (held_item held)
+owned-slot : (home : token.Home) (items : List ItemState) (held : Option Held) → OwnsItem home items held →
+    held_slot held ≡ option_map (slot_in items) (held_item held)
 owned-slot home items None owns = refl
 owned-slot home items (Some held) owns = ap (λ (k : ℕ). Some k) owns.slot_is
 
@@ -53,13 +54,15 @@ held-slots home items owners are o =
     ∙ sym (get_or-map (option_map (slot_in items)) (map held_item owners) o None)
 
 -- only what a stage has in hand is out of its world
-pub stage_only_out : (made : ℕ) (s : Stage) → IsTied made s → OnlyOut s.world (desk_of s).guards (slots_out (desk_of s)) → OnlyOut s.world (guards_held s.guards.items) (slots_held s.owners.items)
+pub stage_only_out : (made : ℕ) (s : Stage) → IsTied made s → OnlyOut s.world (desk_of s).guards (slots_out (desk_of s)) →
+    OnlyOut s.world (guards_held s.guards.items) (slots_held s.owners.items)
 stage_only_out made s tied out =
     OnlyOut-same s.world (guards_held s.guards.items) (slots_out (desk_of s)) (slots_held s.owners.items)
     (held-slots s.world.home.slots s.items.items s.owners.items tied.owners) out
 
 -- so it is after any run
-pub runs_stage_only_out : (l : Limits) (start : Desk) (calls : List Call) (answers : List Answer) (made : ℕ) (s : Stage) → length calls < 2 ^ 128 → IsStart l start → Runs start calls answers (desk_of s) → IsTied made s →
+pub runs_stage_only_out : (l : Limits) (start : Desk) (calls : List Call) (answers : List Answer) (made : ℕ) (s : Stage) →
+    length calls < 2 ^ 128 → IsStart l start → Runs start calls answers (desk_of s) → IsTied made s →
     OnlyOut s.world (guards_held s.guards.items) (slots_held s.owners.items)
 runs_stage_only_out l start calls answers made s few is runs tied = stage_only_out made s tied (runs_only_out l start calls answers (desk_of s) few is runs)
 
@@ -68,8 +71,11 @@ module _ (w : World Val) (guards : List (Option ℕ)) (rest : List (Option Held)
   slots-pushed held = map-append held_slot rest (held ∷ [])
 
   -- the last owner in hand is retired by p
-  pub retires_last : (p : ℕ) (held : Held) → p < length w.time.places → OnlyOut w guards (slots_held (rest ++ Some held ∷ [])) → OnlyOut (retired w p (slot_of held.owner)) guards (slots_held rest)
-  retires_last p held place out = OnlyOut-retired_last w guards (slots_held rest) p (slot_of held.owner) place (subst (OnlyOut w guards) (slots-pushed (Some held)) out)
+  pub retires_last : (p : ℕ) (held : Held) → p < length w.time.places → OnlyOut w guards (slots_held (rest ++ Some held ∷ [])) →
+      OnlyOut (retired w p (slot_of held.owner)) guards (slots_held rest)
+  retires_last p held place out =
+      OnlyOut-retired_last w guards (slots_held rest) p (slot_of held.owner) place
+      (subst (OnlyOut w guards) (slots-pushed (Some held)) out)
 
   -- some place is there to retire it
   pub has_place : (held : Held) → OnlyOut w guards (slots_held (rest ++ Some held ∷ [])) → 0 < length w.time.places
@@ -94,10 +100,6 @@ module _ (w : World Val) (rest : List (Option Guard)) (slots : List (Option ℕ)
       (subst (λ gs. OnlyOut w gs slots) (guards-pushed (Some guard)) out)
       (at-end (guards_held rest) (Some (place_of guard)) None)
 
-  -- the last guard was closed
-  pub passes_closed : OnlyOut w (guards_held (rest ++ None ∷ [])) slots → OnlyOut w (guards_held rest) slots
-  passes_closed out = OnlyOut-shut_last w (guards_held rest) slots (subst (λ gs. OnlyOut w gs slots) (guards-pushed None) out)
-
 -- a script that left holds no guard, and its world ends with nothing out
 pub left_unguarded : (w : World Val) (slots : List (Option ℕ)) → OnlyOut w [] slots → IsGuarded w → ⊥
 left_unguarded w slots out = OnlyOut-unguarded w [] slots (λ g p e. let z : None ≡ Some p = e in absurd (cc)) out
@@ -106,7 +108,8 @@ pub left_ends : (w end : World Val) (guards : List (Option ℕ)) → OnlyOut w g
 left_ends w end guards out c = OnlyOut-ends w end guards [] (λ o s e. let z : None ≡ Some s = e in absurd (cc)) out c
 
 -- a script that ran can leave
-pub runs_can_leave : (l : Limits) (start : Desk) (calls : List Call) (answers : List Answer) (made : ℕ) (s : Stage) → length calls < 2 ^ 128 → IsStart l start → Runs start calls answers (desk_of s) → IsTied made s → CanLeave s
+pub runs_can_leave : (l : Limits) (start : Desk) (calls : List Call) (answers : List Answer) (made : ℕ) (s : Stage) →
+    length calls < 2 ^ 128 → IsStart l start → Runs start calls answers (desk_of s) → IsTied made s → CanLeave s
 runs_can_leave l start calls answers made s few is runs tied = record {
   places = tied.places;
   taken = tied.taken;
@@ -115,20 +118,18 @@ runs_can_leave l start calls answers made s few is runs tied = record {
 }
 
 -- the owners before the last one are owners
-owners-front : (home : token.Home) (items : List ItemState) (rest : List (Option Held)) (held : Option Held) → AreOwners home items (rest ++ held ∷ []) → AreOwners home items rest
+owners-front : (home : token.Home) (items : List ItemState) (rest : List (Option Held)) (held : Option Held) →
+    AreOwners home items (rest ++ held ∷ []) → AreOwners home items rest
 owners-front home items rest held are o =
     elim (cases_lt o (length rest)) [
       | inl lt ↦ subst (λ (x : Option Held). OwnsItem home items x) (get_or_append_left rest (held ∷ []) None o lt) (are o)
       | inr past ↦ subst (λ (x : Option Held). OwnsItem home items x) (sym (get_or_past rest o None past)) tt
     ]
 
--- the last one is the owner of its item
-owner-last : (home : token.Home) (items : List ItemState) (rest : List (Option Held)) (held : Held) → AreOwners home items (rest ++ Some held ∷ []) → IsOwnerOfItem home items held
-owner-last home items rest held are = subst (λ (x : Option Held). OwnsItem home items x) (at-end rest (Some held) None) (are (length rest))
-
 module _ (s : Stage) (owners : Vec (Option Held)) (held : Option Held) (leaves : CanLeave s) (popped : s.owners.items ≡ owners.items ++ held ∷ []) where
   owners-left : AreOwners s.world.home.slots s.items.items owners.items
-  owners-left = owners-front s.world.home.slots s.items.items owners.items held (subst (λ (os : List (Option Held)). AreOwners s.world.home.slots s.items.items os) popped leaves.owners)
+  owners-left = owners-front s.world.home.slots s.items.items owners.items held
+      (subst (λ (os : List (Option Held)). AreOwners s.world.home.slots s.items.items os) popped leaves.owners)
 
   out-before : OnlyOut s.world (guards_held s.guards.items) (slots_held (owners.items ++ held ∷ []))
   out-before = subst (λ (os : List (Option Held)). OnlyOut s.world (guards_held s.guards.items) (slots_held os)) popped leaves.out
@@ -139,7 +140,9 @@ module _ (s : Stage) (owners : Vec (Option Held)) (held : Option Held) (leaves :
     places = leaves.places;
     taken = leaves.taken;
     owners = owners-left;
-    out = passes_spent s.world (guards_held s.guards.items) owners.items (subst (λ (h : Option Held). OnlyOut s.world (guards_held s.guards.items) (slots_held (owners.items ++ h ∷ []))) none out-before);
+    out = passes_spent s.world (guards_held s.guards.items) owners.items
+        (subst (λ (h : Option Held). OnlyOut s.world (guards_held s.guards.items) (slots_held (owners.items ++ h ∷ []))) none
+        out-before);
   }
 
   module _ (one : Held) (some : held ≡ Some one) where
@@ -150,14 +153,9 @@ module _ (s : Stage) (owners : Vec (Option Held)) (held : Option Held) (leaves :
     pub some-place : 0 < length s.world.time.places
     some-place = has_place s.world (guards_held s.guards.items) owners.items one out-held
 
-    -- it is one of the world's
-    pub at-home : slots_home one.owner ≡ s.world.home.slots
-    at-home =
-        (owner-last s.world.home.slots s.items.items owners.items one
-        (subst (λ (h : Option Held). AreOwners s.world.home.slots s.items.items (owners.items ++ h ∷ [])) some (subst (λ (os : List (Option Held)). AreOwners s.world.home.slots s.items.items os) popped leaves.owners))).home_is
-
     -- place p retires it
-    pub leaves-retired : (w : World Val) (p : ℕ) → p < length s.world.time.places → w ≡ retired s.world p (slot_of one.owner) → CanLeave (record s { world = w; owners = owners })
+    pub leaves-retired : (w : World Val) (p : ℕ) → p < length s.world.time.places → w ≡ retired s.world p (slot_of one.owner) →
+        CanLeave (record s { world = w; owners = owners })
     leaves-retired w p lt retires =
         subst (λ (v : World Val). CanLeave (record s { world = v; owners = owners })) (sym retires) (record {
           places = leaves.places;
@@ -169,15 +167,6 @@ module _ (s : Stage) (owners : Vec (Option Held)) (held : Option Held) (leaves :
 module _ (s : Stage) (guards : Vec (Option Guard)) (guard : Option Guard) (leaves : CanLeave s) (popped : s.guards.items ≡ guards.items ++ guard ∷ []) where
   guards-before : OnlyOut s.world (guards_held (guards.items ++ guard ∷ [])) (slots_held s.owners.items)
   guards-before = subst (λ (gs : List (Option Guard)). OnlyOut s.world (guards_held gs) (slots_held s.owners.items)) popped leaves.out
-
-  -- the last guard was closed before
-  pub leaves-shut : guard ≡ None → CanLeave (record s { guards = guards })
-  leaves-shut none = record {
-    places = leaves.places;
-    taken = leaves.taken;
-    owners = leaves.owners;
-    out = passes_closed s.world guards.items (slots_held s.owners.items) (subst (λ (g : Option Guard). OnlyOut s.world (guards_held (guards.items ++ g ∷ [])) (slots_held s.owners.items)) none guards-before);
-  }
 
   module _ (one : Guard) (some : guard ≡ Some one) where
     guards-held : OnlyOut s.world (guards_held (guards.items ++ Some one ∷ [])) (slots_held s.owners.items)
@@ -198,10 +187,12 @@ module _ (s : Stage) (guards : Vec (Option Guard)) (guard : Option Guard) (leave
         })
 
 -- what is in hand under a place's name has its number
-pub numbered : (s : Stage) (p : ℕ) (place : Place) → CanLeave s → p < length s.world.time.places → place ≡ slice_index_or s.places.items p place → index_of place ≡ p
+pub numbered : (s : Stage) (p : ℕ) (place : Place) → CanLeave s → p < length s.world.time.places →
+    place ≡ slice_index_or s.places.items p place → index_of place ≡ p
 numbered s p place leaves lt is = ap index_of is ∙ leaves.places p place (let a = leaves.taken in omega (arith, a, lt))
 
 -- nothing is in hand any more
 pub has_left : (s : Stage) → CanLeave s → s.guards.items ≡ [] → s.owners.items ≡ [] → OnlyOut s.world [] []
 has_left s leaves guards owners =
-    subst (λ (gs : List (Option Guard)). OnlyOut s.world (guards_held gs) []) guards (subst (λ (os : List (Option Held)). OnlyOut s.world (guards_held s.guards.items) (slots_held os)) owners leaves.out)
+    subst (λ (gs : List (Option Guard)). OnlyOut s.world (guards_held gs) []) guards
+    (subst (λ (os : List (Option Held)). OnlyOut s.world (guards_held s.guards.items) (slots_held os)) owners leaves.out)

@@ -42,7 +42,8 @@ distinct-map f xs one h =
     let b = slice_index_or xs j 0 in
     let apart : a ≢ b = eqb-false a b (apart_from_distinct eqb xs i j 0 h lt j_in) in
     let images : f a ≢ f b = λ e. apart (one a b (i, i_in, get_or_default xs i a 0 i_in) (j, j_in, get_or_default xs j b 0 j_in) e) in
-    ap (λ n. eqb n (slice_index_or (map f xs) j d)) (get_or-map f xs i 0 d i_in) ∙ ap (λ n. eqb (f a) n) (get_or-map f xs j 0 d j_in) ∙ ne_eqb (f a) (f b) images)
+    ap (λ n. eqb n (slice_index_or (map f xs) j d)) (get_or-map f xs i 0 d i_in)
+    ∙ ap (λ n. eqb (f a) n) (get_or-map f xs j 0 d j_in) ∙ ne_eqb (f a) (f b) images)
 
 -- two numbers are the same either way round
 eqb-turned : (x y : ℕ) → eqb x y ≡ eqb y x
@@ -90,7 +91,8 @@ module _ (d : Desk) (p : ℕ) (slots names : List ℕ) (s : IsSound d) (are : ma
       inside d.world.standings k (subst (λ j. IsSome (standing_at d.world j)) n.2 (s.taken n.0 (there (item_at d n.0).fate n.1)))
 
   pub slots-inside : All (λ k. k < length d.world.standings) slots
-  slots-inside i e lt = slot-inside (slice_index_or slots i e) (contains-among slots (slice_index_or slots i e) (i, lt, get_or_default slots i (slice_index_or slots i e) e lt))
+  slots-inside i e lt = slot-inside (slice_index_or slots i e)
+      (contains-among slots (slice_index_or slots i e) (i, lt, get_or_default slots i (slice_index_or slots i e) e lt))
 
   -- two slots have two names
   one-name : (a b : ℕ) → Contains slots a → Contains slots b → slice_index names a ≡ slice_index names b → a ≡ b
@@ -107,11 +109,15 @@ module _ (d : Desk) (p : ℕ) (slots names : List ℕ) (s : IsSound d) (are : ma
     fused (k ∷ ks) = ap (λ ns. slice_index names k ∷ ns) (fused ks)
 
   -- the names of the slots, once they are sorted
-  pub are-reclaimed : (found sorted : List ItemName) → found ≡ map (name_at names) slots → IsPermutation found sorted → IsNonDecreasingBy (λ (i : ItemName). i.0) sorted → AreReclaimed d p sorted
+  pub are-reclaimed : (found sorted : List ItemName) → found ≡ map (name_at names) slots → IsPermutation found sorted →
+      IsNonDecreasingBy (λ (i : ItemName). i.0) sorted → AreReclaimed d p sorted
   are-reclaimed found sorted is moved up =
       let f = λ (i : ItemName). i.0 in
-      let distinct : IsDistinct eqb (map f found) = subst (λ ns. IsDistinct eqb ns) (sym (ap (map f) is ∙ numbers)) (distinct-map (λ k. slice_index names k) slots one-name (s.once p slots are)) in
-      let apart : IsDistinct eqb (map f sorted) = IsDistinct-IsPermutation eqb eqb-turned (map f found) (map f sorted) (IsPermutation-map f found sorted moved) distinct in
+      let distinct : IsDistinct eqb (map f found) =
+      subst (λ ns. IsDistinct eqb ns) (sym (ap (map f) is ∙ numbers))
+      (distinct-map (λ k. slice_index names k) slots one-name (s.once p slots are)) in
+      let apart : IsDistinct eqb (map f sorted) =
+      IsDistinct-IsPermutation eqb eqb-turned (map f found) (map f sorted) (IsPermutation-map f found sorted moved) distinct in
       record {
         ascending = IsStrictlyIncreasing-from_distinct (map f sorted) (rising f sorted up) apart;
         exactly = λ i. (
@@ -130,7 +136,8 @@ module _ (d : Desk) (p : ℕ) (slots names : List ℕ) (s : IsSound d) (are : ma
               let slot : k.0 ≡ (item_at d i.0).slot = let e : Item k.0 ≡ Item (item_at d i.0).slot = k.2 in cc in
               let name : slice_index names k.0 ≡ i.0 = ap (λ j. slice_index names j) slot ∙ named i.0 (there (item_at d i.0).fate r.0) in
               let e : name_at names k.0 ≡ i = ap (λ n. record i { 0 = n }) name in
-              let found_there = subst (λ xs. Among xs i) (sym is) (subst (λ x. Among (map (name_at names) slots) x) e (map-among (name_at names) slots k.0 k.1)) in
+              let found_there = subst (λ xs. Among xs i) (sym is)
+              (subst (λ x. Among (map (name_at names) slots) x) e (map-among (name_at names) slots k.0 k.1)) in
               Contains-permutation found sorted i moved (among-contains found i found_there)),
         );
       }

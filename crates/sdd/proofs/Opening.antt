@@ -45,9 +45,11 @@ Opens-nested w p lt empty =
 -- the places, once p has nested and rotated
 abbrev turned : List Participant → ℕ → ℕ → List Participant
 turned ps p count =
-    slice_set (slice_set ps p (time.nested (slice_index_or ps p nobody))) p (time.rotated count (slice_index_or (slice_set ps p (time.nested (slice_index_or ps p nobody))) p nobody))
+    slice_set (slice_set ps p (time.nested (slice_index_or ps p nobody))) p
+    (time.rotated count (slice_index_or (slice_set ps p (time.nested (slice_index_or ps p nobody))) p nobody))
 
-turned-here : (ps : List Participant) (p count : ℕ) → p < length ps → slice_index_or (turned ps p count) p nobody ≡ time.rotated count (time.nested (slice_index_or ps p nobody))
+turned-here : (ps : List Participant) (p count : ℕ) → p < length ps →
+    slice_index_or (turned ps p count) p nobody ≡ time.rotated count (time.nested (slice_index_or ps p nobody))
 turned-here ps p count lt =
     let x = time.nested (slice_index_or ps p nobody) in
     at-same (slice_set ps p x) p (time.rotated count (slice_index_or (slice_set ps p x) p nobody)) nobody (rw (length-set ps p x) lt)
@@ -65,11 +67,13 @@ turned-length ps p count =
     length-set (slice_set ps p x) p (time.rotated count (slice_index_or (slice_set ps p x) p nobody)) ∙ length-set ps p x
 
 -- once what was due is reclaimed
-Opens-settled : (w mid : World Val) (p : ℕ) → p < length w.time.places → Frees (rotated (nested w p) p) mid (time.due_next (place_at w p)) → Opens w (settled mid p) p true
+Opens-settled : (w mid : World Val) (p : ℕ) → p < length w.time.places →
+    Frees (rotated (nested w p) p) mid (time.due_next (place_at w p)) → Opens w (settled mid p) p true
 Opens-settled w mid p lt f =
     let places : mid.time.places ≡ turned w.time.places p w.time.count = ap (λ (t : Time). t.places) f.time_same in
     let inside : p < length mid.time.places = rw (places, turned-length w.time.places p w.time.count) lt in
-    let was : place_at mid p ≡ time.rotated w.time.count (time.nested (place_at w p)) = ap (λ (ps : List Participant). slice_index_or ps p nobody) places ∙ turned-here w.time.places p w.time.count lt in
+    let was : place_at mid p ≡ time.rotated w.time.count (time.nested (place_at w p)) =
+    ap (λ (ps : List Participant). slice_index_or ps p nobody) places ∙ turned-here w.time.places p w.time.count lt in
     let here : place_at (settled mid p) p ≡ time.settled (time.rotated w.time.count (time.nested (place_at w p))) =
     at-same mid.time.places p (time.settled (place_at mid p)) nobody inside ∙ ap time.settled was in
     record {
@@ -93,7 +97,9 @@ Opens-changed : (w : World Val) (p : ℕ) → p < length w.time.places → HoldN
 Opens-changed w p lt empty =
     let same : time.due_next (place_at (nested w p) p) ≡ time.due_next (place_at w p) =
     ap time.due_next (at-same w.time.places p (time.nested (place_at w p)) nobody lt) in
-    let frees : Frees (rotated (nested w p) p) (all_reclaimed holdings_of (rotated (nested w p) p) p (time.due_next (place_at (nested w p) p))) (time.due_next (place_at w p)) =
+    let frees : Frees (rotated (nested w p) p)
+    (all_reclaimed holdings_of (rotated (nested w p) p) p (time.due_next (place_at (nested w p) p)))
+    (time.due_next (place_at w p)) =
     subst (λ xs. Frees (rotated (nested w p) p) (all_reclaimed holdings_of (rotated (nested w p) p) p (time.due_next (place_at (nested w p) p))) xs) same
     (Frees-all (rotated (nested w p) p) p (time.due_next (place_at (nested w p) p)) empty) in
     Opens-settled w (all_reclaimed holdings_of (rotated (nested w p) p) p (time.due_next (place_at (nested w p) p))) p lt frees

@@ -33,7 +33,8 @@ use Rattle.sdd.proofs.Reached.{runs_reached}
 pub slot-owner : (d : Desk) (o i : ℕ) → IsOwnerOf d i o → slice_index_or (slots_out d) o None ≡ Some (slot_of d i)
 slot-owner d o i h = get_or-map (option_map (slot_of d)) d.owners o None ∙ ap (option_map (slot_of d)) h
 
-owner-by : (d : Desk) (o s : ℕ) (x : Option ℕ) → slice_index_or d.owners o None ≡ x → option_map (slot_of d) x ≡ Some s → (i : ℕ) × IsOwnerOf d i o × (slot_of d i ≡ s)
+owner-by : (d : Desk) (o s : ℕ) (x : Option ℕ) → slice_index_or d.owners o None ≡ x → option_map (slot_of d) x ≡ Some s → (i : ℕ)
+    × IsOwnerOf d i o × (slot_of d i ≡ s)
 owner-by d o s None is e = absurd (cc)
 owner-by d o s (Some i) is e = (i, is, cc)
 
@@ -58,11 +59,13 @@ OnlyOut-desk d sound a = record {
   placed = λ o s h. let r = owner-slot d o s h in a.placed o r.0 r.1;
 }
 
-pub runs_only_out : (l : Limits) (start : Desk) (calls : List Call) (answers : List Answer) (d : Desk) → length calls < 2 ^ 128 → IsStart l start → Runs start calls answers d → OnlyOut d.world d.guards (slots_out d)
+pub runs_only_out : (l : Limits) (start : Desk) (calls : List Call) (answers : List Answer) (d : Desk) → length calls < 2 ^ 128 →
+    IsStart l start → Runs start calls answers d → OnlyOut d.world d.guards (slots_out d)
 runs_only_out l start calls answers d few s r = OnlyOut-desk d (runs_reached l start calls answers d s r).sound (runs_accounts l start calls answers d few s r)
 
 -- a guard that is out is that of a place
-pub OnlyOut-place : (w : World Val) (guards slots : List (Option ℕ)) (g p : ℕ) → OnlyOut w guards slots → slice_index_or guards g None ≡ Some p → p < length w.time.places
+pub OnlyOut-place : (w : World Val) (guards slots : List (Option ℕ)) (g p : ℕ) → OnlyOut w guards slots →
+    slice_index_or guards g None ≡ Some p → p < length w.time.places
 OnlyOut-place w guards slots g p out has =
     elim (cases_lt p (length w.time.places)) [
       | inl lt ↦ lt
@@ -76,7 +79,9 @@ OnlyOut-place w guards slots g p out has =
     ]
 
 -- where there is one guard fewer
-pub OnlyOut-closed : (w : World Val) (guards fewer slots : List (Option ℕ)) (p : ℕ) → p < length w.time.places → ((q : ℕ) → count_by (is_of q) guards ≡ count_by (is_of q) fewer + one_if q (Some p)) → OnlyOut w guards slots → OnlyOut (closed w p) fewer slots
+pub OnlyOut-closed : (w : World Val) (guards fewer slots : List (Option ℕ)) (p : ℕ) → p < length w.time.places →
+    ((q : ℕ) → count_by (is_of q) guards ≡ count_by (is_of q) fewer + one_if q (Some p)) → OnlyOut w guards slots →
+    OnlyOut (closed w p) fewer slots
 OnlyOut-closed w guards fewer slots p place counts out =
     let c = Closes-closed w.time p place in
     record {
@@ -98,24 +103,23 @@ OnlyOut-closed w guards fewer slots p place counts out =
       taken = λ s t.
           elim (out.taken s t) [
             | inl was ↦ inl was
-            | inr was ↦ inr (was.0, (was.1.0, was.1.1, subst (λ (ws : List Waiting). Contains ws (having_seen was.1.1 (Item s))) (sym (c.waiting was.1.0)) was.1.2))
+            | inr was ↦ inr (
+              was.0,
+              (
+                was.1.0,
+                was.1.1,
+                subst (λ (ws : List Waiting). Contains ws (having_seen was.1.1 (Item s)))
+                    (sym (c.waiting was.1.0)) was.1.2,
+              ),
+            )
           ];
       placed = λ o s h. (let was = out.placed o s h in let same = c.places in omega arith);
     }
 
--- a guard is closed, and its name is spent
-pub OnlyOut-closed_at : (w : World Val) (guards slots : List (Option ℕ)) (g p : ℕ) → slice_index_or guards g None ≡ Some p → OnlyOut w guards slots → OnlyOut (closed w p) (slice_set guards g None) slots
-OnlyOut-closed_at w guards slots g p has out =
-    OnlyOut-closed w guards (slice_set guards g None) slots p (OnlyOut-place w guards slots g p out has)
-    (λ q.
-    let step = sum_by-set (one_if q) guards g None None (some-inside guards g p has) in
-    let it : one_if q (slice_index_or guards g None) ≡ one_if q (Some p) = ap (one_if q) has in
-    omega (arith, step, it))
-    out
-
 -- an owner is retired by p, and the others are as before
 module _ (w : World Val) (guards slots fewer : List (Option ℕ)) (p o k : ℕ) (place : p < length w.time.places) (owner : slice_index_or slots o None ≡ Some k)
-    (others : (r : ℕ) → r ≢ o → slice_index_or fewer r None ≡ slice_index_or slots r None) (spent : slice_index_or fewer o None ≡ None) (out : OnlyOut w guards slots) where
+    (others : (r : ℕ) → r ≢ o → slice_index_or fewer r None ≡ slice_index_or slots r None)
+    (spent : slice_index_or fewer o None ≡ None) (out : OnlyOut w guards slots) where
   abbrev waiter : Participant
   waiter = time.awaiting (Item k) (place_at w p)
 
@@ -134,9 +138,20 @@ module _ (w : World Val) (guards slots fewer : List (Option ℕ)) (p o k : ℕ) 
       elim (cases_eq h.0 p) [
         | inl e ↦
             let there = contains-among (place_at w h.0).bags.waiting (having_seen h.1 (Item s)) h.2 in
-            let pushed = among-push (place_at w p).bags.waiting (fresh (Item k)) (having_seen h.1 (Item s)) (subst (λ (q : ℕ). Among (place_at w q).bags.waiting (having_seen h.1 (Item s))) e there) in
-            (p, h.1, subst (λ (x : Participant). Contains x.bags.waiting (having_seen h.1 (Item s))) (sym (at-same w.time.places p waiter nobody place)) (among-contains ((place_at w p).bags.waiting ++ fresh (Item k) ∷ []) (having_seen h.1 (Item s)) pushed))
-        | inr ne ↦ (h.0, h.1, subst (λ (x : Participant). Contains x.bags.waiting (having_seen h.1 (Item s))) (sym (at-other w.time.places p h.0 waiter nobody ne)) h.2)
+            let pushed = among-push (place_at w p).bags.waiting (fresh (Item k)) (having_seen h.1 (Item s))
+            (subst (λ (q : ℕ). Among (place_at w q).bags.waiting (having_seen h.1 (Item s))) e there) in (
+              p,
+              h.1,
+              subst (λ (x : Participant). Contains x.bags.waiting (having_seen h.1 (Item s)))
+                  (sym (at-same w.time.places p waiter nobody place))
+                  (among-contains ((place_at w p).bags.waiting ++ fresh (Item k) ∷ []) (having_seen h.1 (Item s)) pushed),
+            )
+        | inr ne ↦ (
+          h.0,
+          h.1,
+          subst (λ (x : Participant). Contains x.bags.waiting (having_seen h.1 (Item s)))
+              (sym (at-other w.time.places p h.0 waiter nobody ne)) h.2,
+        )
       ]
 
   waits-there : WaitsIn (retired w p k) k
@@ -147,7 +162,8 @@ module _ (w : World Val) (guards slots fewer : List (Option ℕ)) (p o k : ℕ) 
         (among-contains ((place_at w p).bags.waiting ++ fresh (Item k) ∷ []) (fresh (Item k)) (among-last (place_at w p).bags.waiting (fresh (Item k)))),
   )
 
-  taken-then : (s : ℕ) → IsSome (standing_at (retired w p k) s) → ((r : ℕ) × (slice_index_or fewer r None ≡ Some s)) ⊎ ((standing_at (retired w p k) s ≡ Some Retired) × WaitsIn (retired w p k) s)
+  taken-then : (s : ℕ) → IsSome (standing_at (retired w p k) s) → ((r : ℕ) × (slice_index_or fewer r None ≡ Some s))
+      ⊎ ((standing_at (retired w p k) s ≡ Some Retired) × WaitsIn (retired w p k) s)
   taken-then s t =
       elim (cases_eq s k) [
         | inl e ↦ inr (
@@ -158,7 +174,8 @@ module _ (w : World Val) (guards slots fewer : List (Option ℕ)) (p o k : ℕ) 
             let same = at-other w.standings k s (Some Retired) None ne in
             elim (out.taken s (subst (λ (x : Option Standing). IsSome x) same t)) [
               | inl was ↦
-                  let other : was.0 ≢ o = λ e. (let z : Some s ≡ Some k = sym was.1 ∙ ap (λ (j : ℕ). slice_index_or slots j None) e ∙ owner in let it : s ≡ k = cc in ne it) in
+                  let other : was.0 ≢ o = λ e. (let z : Some s ≡ Some k = sym was.1 ∙ ap (λ (j : ℕ). slice_index_or slots j None) e
+                  ∙ owner in let it : s ≡ k = cc in ne it) in
                   inl (was.0, others was.0 other ∙ was.1)
               | inr was ↦ inr (same ∙ was.0, waits-too s was.1)
             ]
@@ -177,7 +194,8 @@ module _ (w : World Val) (guards slots fewer : List (Option ℕ)) (p o k : ℕ) 
   }
 
 -- where the lists of names are read alike
-pub OnlyOut-same : (w : World Val) (guards slots alike : List (Option ℕ)) → ((r : ℕ) → slice_index_or alike r None ≡ slice_index_or slots r None) → OnlyOut w guards slots → OnlyOut w guards alike
+pub OnlyOut-same : (w : World Val) (guards slots alike : List (Option ℕ)) →
+    ((r : ℕ) → slice_index_or alike r None ≡ slice_index_or slots r None) → OnlyOut w guards slots → OnlyOut w guards alike
 OnlyOut-same w guards slots alike same out = record {
   tidy = out.tidy;
   opened = out.opened;
@@ -188,7 +206,9 @@ OnlyOut-same w guards slots alike same out = record {
 }
 
 -- the last owner of the list is retired by p
-pub OnlyOut-retired_last : (w : World Val) (guards slots : List (Option ℕ)) (p k : ℕ) → p < length w.time.places → OnlyOut w guards (slots ++ Some k ∷ []) → OnlyOut (retired w p k) guards slots
+pub OnlyOut-retired_last :
+    (w : World Val) (guards slots : List (Option ℕ)) (p k : ℕ) → p < length w.time.places →
+    OnlyOut w guards (slots ++ Some k ∷ []) → OnlyOut (retired w p k) guards slots
 OnlyOut-retired_last w guards slots p k place out =
     OnlyOut-retired w guards (slots ++ Some k ∷ []) slots p (length slots) k place (at-end slots (Some k) None)
     (λ r ne. sym (at-pushed slots (Some k) None r ne))
@@ -197,7 +217,8 @@ OnlyOut-retired_last w guards slots p k place out =
 
 -- the last owner of the list was spent
 pub OnlyOut-spent_last : (w : World Val) (guards slots : List (Option ℕ)) → OnlyOut w guards (slots ++ None ∷ []) → OnlyOut w guards slots
-OnlyOut-spent_last w guards slots out = OnlyOut-same w guards (slots ++ None ∷ []) slots (λ r. sym (at-each_pushed (λ (x : Option ℕ). x) slots None None refl r)) out
+OnlyOut-spent_last w guards slots out =
+    OnlyOut-same w guards (slots ++ None ∷ []) slots (λ r. sym (at-each_pushed (λ (x : Option ℕ). x) slots None None refl r)) out
 
 -- the last guard of the list is closed
 pub OnlyOut-closed_last : (w : World Val) (guards slots : List (Option ℕ)) (p : ℕ) → OnlyOut w (guards ++ Some p ∷ []) slots → OnlyOut (closed w p) guards slots

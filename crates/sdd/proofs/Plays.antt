@@ -12,7 +12,8 @@ use Rattle.sdd.specs.Due.{Line, Trace, NamesWhatIsDue}
 use Rattle.sdd.specs.Play.{AreAnswers, ReadsAll}
 
 -- the calls and answers of a trace are a run
-runs_traced : (start new : Desk) (lines : List Line) → Trace start lines new → Runs start (map (λ (line : Line). line.call) lines) (map (λ (line : Line). line.answer) lines) new
+runs_traced : (start new : Desk) (lines : List Line) → Trace start lines new → Runs start (map (λ (line : Line). line.call) lines)
+    (map (λ (line : Line). line.answer) lines) new
 runs_traced start new [] h = h
 runs_traced start new (line ∷ lines) h = (h.1.0, h.1.1, runs_traced h.1.0 new lines h.1.2)
 
@@ -21,7 +22,8 @@ runs_due : (start new : Desk) (calls : List Call) (answers : List Answer) → Na
 runs_due start new calls answers h =
     subst (λ cs. Runs start cs answers new) h.1 (subst (λ xs. Runs start (map (λ (line : Line). line.call) h.0) xs new) h.2 (runs_traced start new h.0 h.3))
 
-pub are_answers : (limits : Limits) (calls : List Call) (answers : List Answer) (scene : Desk) → (start : Desk) × IsStart limits start × NamesWhatIsDue start calls answers scene → AreAnswers limits calls answers
+pub are_answers : (limits : Limits) (calls : List Call) (answers : List Answer) (scene : Desk) → (start : Desk)
+    × IsStart limits start × NamesWhatIsDue start calls answers scene → AreAnswers limits calls answers
 are_answers limits calls answers scene h = record {
   start = h.0;
   scene = scene;

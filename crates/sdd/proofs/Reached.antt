@@ -56,13 +56,15 @@ taken-waiting d i (Held q k) s t w =
     let slot : slot_of d i ≡ r.slot = cc in
     taken-as d (slot_of d i) _ (ap (λ (n : ℕ). standing_at d.world n) slot ∙ r.stands)
 
-taken-there : (d : Desk) (i : ℕ) (past : List Line) (f : DeskFate) → Sound d → Knows past d → (item_at d i).fate ≡ f → IsThere f → IsSome (standing_at d.world (slot_of d i))
+taken-there : (d : Desk) (i : ℕ) (past : List Line) (f : DeskFate) → Sound d → Knows past d → (item_at d i).fate ≡ f → IsThere f →
+    IsSome (standing_at d.world (slot_of d i))
 taken-there d i past desk.Out s k e there = let owner = s.kept i e in taken-as d (slot_of d i) _ ((s.owned owner.0 i owner.1).1)
 taken-there d i past (desk.Retired at) s k e there = taken-waiting d i (fate i past) s (k.fates i) (subst (λ (f : DeskFate). Waits f) (sym e) tt)
 taken-there d i past desk.Gone s k e there = absurd there
 
 -- a slot that is due is that of an item that waits
-due-item : (d : Desk) (p s : ℕ) (change : Bool) → Sound d → Among (if change then time.due_next (place_at d.world p) else []) (Item s) → (i : ℕ) × Waits (item_at d i).fate × (slot_of d i ≡ s)
+due-item : (d : Desk) (p s : ℕ) (change : Bool) → Sound d → Among (if change then time.due_next (place_at d.world p) else [])
+    (Item s) → (i : ℕ) × Waits (item_at d i).fate × (slot_of d i ≡ s)
 due-item d p s false sound h = absurd h
 due-item d p s true sound h =
     let due = due-among (waiting d p) (Item s) h in
@@ -89,7 +91,8 @@ pub reached_sound : (d : Desk) → Reached d → IsSound d
 reached_sound d r = record {
   taken = λ i there. taken-there d i r.past (item_at d i).fate r.sound r.knows refl there;
   out = r.sound.out;
-  named = λ p s h. due-item d p s (changes d.world.time p) r.sound (subst (λ (xs : List What). Among xs (Item s)) (reclaims-due d.world p) (contains-among (reclaims d.world p) (Item s) h));
+  named = λ p s h. due-item d p s (changes d.world.time p) r.sound
+      (subst (λ (xs : List What). Among xs (Item s)) (reclaims-due d.world p) (contains-among (reclaims d.world p) (Item s) h));
   once = λ p slots e. distinct-slots slots (subst AreApart (sym (reclaims-due d.world p) ∙ sym e) (due-apart d p (changes d.world.time p) r.sound));
 }
 

@@ -41,7 +41,8 @@ pub without-cell : (cells : Entries Cell) (c : ℕ) → HoldNothing cells → Ho
 without-cell cells c empty j = at-each held_in cells c None None (sym (empty c)) j ∙ empty j
 
 -- a slot that is free, with its value's cell
-Frees-freed : (w : World Val) (k c : ℕ) (x : What) → Takes x k → HoldNothing w.cells → standing_at w k ≢ Some Owned → Frees w (record (freed w k) { cells = without_entry w.cells c }) (x ∷ [])
+Frees-freed : (w : World Val) (k c : ℕ) (x : What) → Takes x k → HoldNothing w.cells → standing_at w k ≢ Some Owned →
+    Frees w (record (freed w k) { cells = without_entry w.cells c }) (x ∷ [])
 Frees-freed w k c x takes empty waits = record {
   time_same = refl;
   empty = without-cell w.cells c empty;
@@ -53,13 +54,15 @@ Frees-freed w k c x takes empty waits = record {
 pub spills-nothing : (w : World Val) (p : ℕ) (held : Option ℕ) → held ≡ None → spilled w p held ≡ w
 spills-nothing w p held e = rw e
 
-Frees-taken : (w : World Val) (p k : ℕ) (x : What) → Takes x k → HoldNothing w.cells → standing_at w k ≢ Some Owned → (v : Option Val) → Frees w (taken_out holdings_of w p k v) (x ∷ [])
+Frees-taken : (w : World Val) (p k : ℕ) (x : What) → Takes x k → HoldNothing w.cells → standing_at w k ≢ Some Owned →
+    (v : Option Val) → Frees w (taken_out holdings_of w p k v) (x ∷ [])
 Frees-taken w p k x takes empty waits None = Frees-none w (x ∷ []) empty
 Frees-taken w p k x takes empty waits (Some v) =
     rw (spills-nothing (record (freed w k) { cells = without_entry w.cells (link_of v) }) p (held_in (entry_at w.cells (link_of v))) (empty (link_of v)))
     (Frees-freed w k (link_of v) x takes empty waits)
 
-Frees-standing : (w : World Val) (p k : ℕ) (x : What) → Takes x k → HoldNothing w.cells → (s : Option Standing) → standing_at w k ≡ s → Frees w (taken_out holdings_of w p k (waiting_value w k s)) (x ∷ [])
+Frees-standing : (w : World Val) (p k : ℕ) (x : What) → Takes x k → HoldNothing w.cells → (s : Option Standing) →
+    standing_at w k ≡ s → Frees w (taken_out holdings_of w p k (waiting_value w k s)) (x ∷ [])
 Frees-standing w p k x takes empty None is = Frees-none w (x ∷ []) empty
 Frees-standing w p k x takes empty (Some Owned) is = Frees-none w (x ∷ []) empty
 Frees-standing w p k x takes empty (Some Raw) is = Frees-none w (x ∷ []) empty

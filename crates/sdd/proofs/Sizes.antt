@@ -36,7 +36,8 @@ module _ {T : Type 0} (holds : T → List Holding) where
       let last = all_reclaimed holds (rotated w p) p xs in
       KeepsSizes-trans turned (KeepsSizes-trans taken (keeps-place last p (time.settled (place_at last p))))
 
-  keeps-by : (w : World T) (p : ℕ) → p < length w.time.places → (is_open finds : Bool) → KeepsSizes w (if is_open then nested w p else (if finds then changed holds (nested w p) p else nested w p))
+  keeps-by : (w : World T) (p : ℕ) → p < length w.time.places → (is_open finds : Bool) →
+      KeepsSizes w (if is_open then nested w p else (if finds then changed holds (nested w p) p else nested w p))
   keeps-by w p lt true finds = keeps-place w p (time.nested (place_at w p))
   keeps-by w p lt false true =
       let more = keeps-place w p (time.nested (place_at w p)) in

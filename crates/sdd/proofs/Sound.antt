@@ -120,7 +120,8 @@ waits-inside items i w =
     ]
 
 -- the owners after a push
-pub pushed-owner : (xs : List (Option ℕ)) (n o i : ℕ) → slice_index_or (xs ++ Some n ∷ []) o None ≡ Some i → ((o ≡ length xs) × (i ≡ n)) ⊎ (slice_index_or xs o None ≡ Some i)
+pub pushed-owner : (xs : List (Option ℕ)) (n o i : ℕ) → slice_index_or (xs ++ Some n ∷ []) o None ≡ Some i →
+    ((o ≡ length xs) × (i ≡ n)) ⊎ (slice_index_or xs o None ≡ Some i)
 pushed-owner xs n o i h =
     elim (cases_eq o (length xs)) [
       | inl e ↦
@@ -192,7 +193,8 @@ module _ (d : Desk) (c k : ℕ) (v : Val) (free : IsEmptyAt d.world.standings k)
                 | inl new2 ↦ absurd (other-slot o i j old new2.1 e)
                 | inr old2 ↦
                     s.apart o r i j old old2
-                    (ap (λ (x : ItemState). x.slot) (sym (item-made i ((s.owned o i old).0))) ∙ e ∙ ap (λ (x : ItemState). x.slot) (item-made j ((s.owned r j old2).0)))
+                    (ap (λ (x : ItemState). x.slot) (sym (item-made i ((s.owned o i old).0))) ∙ e ∙ ap (λ (x : ItemState). x.slot)
+                    (item-made j ((s.owned r j old2).0)))
               ]
         ];
     kept = λ i out.
@@ -233,7 +235,8 @@ module _ (d : Desk) (p o i : ℕ) (place : IsPlace d p) (owner : IsOwnerOf d i o
         | inl e ↦
             let here : waiting (with_retired d p o i) q ≡ waiting d p ++ fresh (Item (slot_of d i)) ∷ [] =
             ap (λ (j : ℕ). waiting (with_retired d p o i) j) e ∙ ap (λ (z : Participant). z.bags.waiting) (at-same d.world.time.places p y nobody place) in
-            subst (λ (ws : List Waiting). Among ws x) (sym here) (among-push (waiting d p) (fresh (Item (slot_of d i))) x (subst (λ (j : ℕ). Among (waiting d j) x) e h))
+            subst (λ (ws : List Waiting). Among ws x) (sym here)
+            (among-push (waiting d p) (fresh (Item (slot_of d i))) x (subst (λ (j : ℕ). Among (waiting d j) x) e h))
         | inr ne ↦ subst (λ (z : Participant). Among z.bags.waiting x) (sym (at-other d.world.time.places p q y nobody ne)) h
       ]
 
@@ -241,7 +244,8 @@ module _ (d : Desk) (p o i : ℕ) (place : IsPlace d p) (owner : IsOwnerOf d i o
   pub waits-now : Among (waiting (with_retired d p o i) p) (fresh (Item (slot_of d i)))
   waits-now =
       let y = time.awaiting (Item (slot_of d i)) (place_at d.world p) in
-      subst (λ (z : Participant). Among z.bags.waiting (fresh (Item (slot_of d i)))) (sym (at-same d.world.time.places p y nobody place)) (among-last (waiting d p) (fresh (Item (slot_of d i))))
+      subst (λ (z : Participant). Among z.bags.waiting (fresh (Item (slot_of d i))))
+      (sym (at-same d.world.time.places p y nobody place)) (among-last (waiting d p) (fresh (Item (slot_of d i))))
 
   stands-retired : standing_at (with_retired d p o i).world (slot_of d i) ≡ Some Retired
   stands-retired = at-same d.world.standings (slot_of d i) (Some Retired) None (some-inside d.world.standings (slot_of d i) Owned ((s.owned o i owner).1))
@@ -280,7 +284,9 @@ module _ (d : Desk) (p o i : ℕ) (place : IsPlace d p) (owner : IsOwnerOf d i o
   owner-else r j h =
       elim (cases_eq r o) [
         | inl e ↦
-            let none : slice_index_or (slice_set d.owners o None) r None ≡ None = ap (λ (n : ℕ). slice_index_or (slice_set d.owners o None) n None) e ∙ at-same d.owners o None None (some-inside d.owners o i owner) in
+            let none : slice_index_or (slice_set d.owners o None) r None ≡ None =
+            ap (λ (n : ℕ). slice_index_or (slice_set d.owners o None) n None) e ∙ at-same d.owners o None None
+            (some-inside d.owners o i owner) in
             let z : Some j ≡ None = sym h ∙ none in absurd (cc)
         | inr ne ↦ (ne, sym (at-other d.owners o r None None ne) ∙ h)
       ]
@@ -316,11 +322,15 @@ module _ (d : Desk) (p o i : ℕ) (place : IsPlace d p) (owner : IsOwnerOf d i o
           | inl was1 ↦
               elim (waits-retired r (having_seen b (Item k)) h2) [
                 | inl was2 ↦ s.once q r k a b was1 was2
-                | inr new2 ↦ absurd (waited-not q a k was1 (let e : fresh (Item (slot_of d i)) ≡ having_seen b (Item k) = new2.1 in let w : Item (slot_of d i) ≡ Item k = ap (λ (y : Waiting). y.what) e in cc))
+                | inr new2 ↦ absurd (waited-not q a k was1
+                    (let e : fresh (Item (slot_of d i)) ≡ having_seen b (Item k) = new2.1 in let w : Item
+                    (slot_of d i) ≡ Item k = ap (λ (y : Waiting). y.what) e in cc))
               ]
           | inr new1 ↦
               elim (waits-retired r (having_seen b (Item k)) h2) [
-                | inl was2 ↦ absurd (waited-not r b k was2 (let e : fresh (Item (slot_of d i)) ≡ having_seen a (Item k) = new1.1 in let w : Item (slot_of d i) ≡ Item k = ap (λ (y : Waiting). y.what) e in cc))
+                | inl was2 ↦ absurd (waited-not r b k was2
+                    (let e : fresh (Item (slot_of d i)) ≡ having_seen a (Item k) = new1.1 in let w : Item
+                    (slot_of d i) ≡ Item k = ap (λ (y : Waiting). y.what) e in cc))
                 | inr new2 ↦ (new1.0 ∙ sym new2.0, ap (λ (y : Waiting). y.seen) (sym new1.1) ∙ ap (λ (y : Waiting). y.seen) new2.1)
               ]
         ];

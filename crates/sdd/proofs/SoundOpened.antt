@@ -33,7 +33,8 @@ record Was (old : World Val) (p : ℕ) (change : Bool) (q : ℕ) (x : Waiting) :
   grown : x.seen ≡ seen + steps change (q == p)
   young : change ≡ true → q ≡ p → seen < 2
 
-was-same : (old : World Val) (p : ℕ) (change : Bool) (q : ℕ) (x : Waiting) → steps change (q == p) ≡ 0 → ((change ≡ true) → q ≡ p → ⊥) → Among (place_at old q).bags.waiting x → Was old p change q x
+was-same : (old : World Val) (p : ℕ) (change : Bool) (q : ℕ) (x : Waiting) → steps change (q == p) ≡ 0 →
+    ((change ≡ true) → q ≡ p → ⊥) → Among (place_at old q).bags.waiting x → Was old p change q x
 was-same old p change q x none never h = record {
   seen = x.seen;
   among = h;
@@ -45,7 +46,8 @@ steps-other : (change : Bool) → steps change false ≡ 0
 steps-other true = refl
 steps-other false = refl
 
-was : (old new : World Val) (p : ℕ) (change : Bool) → Opens old new p change → (q : ℕ) (x : Waiting) → Among (place_at new q).bags.waiting x → Was old p change q x
+was : (old new : World Val) (p : ℕ) (change : Bool) → Opens old new p change → (q : ℕ) (x : Waiting) →
+    Among (place_at new q).bags.waiting x → Was old p change q x
 was old new p false o q x h =
     was-same old p false q x refl (λ e1 e2. false≢true e1)
     (elim (cases_eq q p) [
@@ -89,7 +91,8 @@ takes-item (Private j c) s k t e = absurd (cc)
 takes-item (Job j) s k t e = absurd t
 
 -- a slot that goes on waiting isn't due
-unnamed : (d : Desk) (p : ℕ) (change : Bool) → Sound d → (q s a : ℕ) → Among (waiting d q) (having_seen a (Item s)) → (change ≡ true → q ≡ p → a < 2) → Names (if change then time.due_next (place_at d.world p) else []) s → ⊥
+unnamed : (d : Desk) (p : ℕ) (change : Bool) → Sound d → (q s a : ℕ) → Among (waiting d q) (having_seen a (Item s)) →
+    (change ≡ true → q ≡ p → a < 2) → Names (if change then time.due_next (place_at d.world p) else []) s → ⊥
 unnamed d p false sound q s a h young names = names
 unnamed d p true sound q s a h young names =
     let r = names-among (time.due_next (place_at d.world p)) s names in
@@ -114,7 +117,8 @@ reclaimed-named d p names i are h =
     (subst (λ (xs : List What). Among xs (Item (slot_of d i))) (reclaims-due d.world p) due)
 
 -- what waits with p then was there before
-distinct-opened : (old new : World Val) (p : ℕ) (change : Bool) → Opens old new p change → AreApart (whats (place_at old p).bags.waiting) → AreApart (whats (place_at new p).bags.waiting)
+distinct-opened : (old new : World Val) (p : ℕ) (change : Bool) → Opens old new p change →
+    AreApart (whats (place_at old p).bags.waiting) → AreApart (whats (place_at new p).bags.waiting)
 distinct-opened old new p true o apart = subst (λ (ws : List Waiting). AreApart (whats ws)) (sym o.waiting) (apart-left (place_at old p).bags.waiting apart)
 distinct-opened old new p false o apart = subst (λ (ws : List Waiting). AreApart (whats ws)) (sym o.waiting) apart
 
@@ -134,7 +138,9 @@ Sound-opened d p names place are s =
             item = r.item;
             waits = elim (stays-or-goes d.items names (record { 0 = r.item })) [
               | inl stays ↦ subst (λ (f : Fate). Waits f) (sym stays.same) r.waits
-              | inr goes ↦ absurd (goes_on (subst (λ (s : ℕ). Names (if change then time.due_next (place_at d.world p) else []) s) r.named (reclaimed-named d p names r.item are goes.named)))
+              | inr goes ↦ absurd (goes_on
+                  (subst (λ (s : ℕ). Names (if change then time.due_next (place_at d.world p) else []) s) r.named
+                  (reclaimed-named d p names r.item are goes.named)))
             ];
             named = all_gone-slot d.items names r.item ∙ r.named;
           };

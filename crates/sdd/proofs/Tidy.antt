@@ -100,7 +100,8 @@ module _ (w : World Val) (c k : ℕ) (v : Val) (d : IsTidy w) (slot : IsEmptyAt 
       (filled-at w d k)
 
   room : k < length w.values
-  room = let a = length-map w.values is_some in let b = length-map w.standings is_some in let e = ap (λ (bs : List Bool). length bs) d.filled in let lt = slot.0 in omega arith
+  room = let a = length-map w.values is_some in let b = length-map w.standings is_some in let e =
+      ap (λ (bs : List Bool). length bs) d.filled in let lt = slot.0 in omega arith
 
   linked-made : (j : ℕ) → IsSome (entry_at with_it.cells j) → (s : ℕ) × (x : Val) × (value_at with_it s ≡ Some x) × (link_of x ≡ j)
   linked-made j t =
@@ -147,7 +148,8 @@ Tidy-retired w p k d taken = record {
 }
 
 -- where the world is as it was but for time
-pub Tidy-same : (old new : World Val) → new.standings ≡ old.standings → new.values ≡ old.values → new.cells ≡ old.cells → new.tally ≡ old.tally → IsTidy old → IsTidy new
+pub Tidy-same : (old new : World Val) → new.standings ≡ old.standings → new.values ≡ old.values → new.cells ≡ old.cells →
+    new.tally ≡ old.tally → IsTidy old → IsTidy new
 Tidy-same old new standings values cells tally d = record {
   filled = ap (λ (vs : List (Option Val)). map is_some vs) values ∙ d.filled ∙ ap (λ (ss : Entries Standing). map is_some ss) (sym standings);
   linked = λ c t.
@@ -171,8 +173,10 @@ Tidy-start l d s =
     let reclaimed = ap (λ (t : Tally). t.reclaimed) s.world.tally in
     let count = ap (λ (ss : Entries Standing). count_by is_some ss) s.world.standings ∙ none-counted Standing l.slots in
     record {
-      filled = ap (λ (vs : List (Option Val)). map is_some vs) s.world.values ∙ none-taken Val l.slots ∙ sym (none-taken Standing l.slots) ∙ ap (λ (ss : Entries Standing). map is_some ss) (sym s.world.standings);
-      linked = λ c t. absurd (not-free (entry_at d.world.cells c) t (ap (λ (cs : Entries Cell). slice_index_or cs c None) s.world.cells ∙ none-at Cell l.cells c));
+      filled = ap (λ (vs : List (Option Val)). map is_some vs) s.world.values ∙ none-taken Val l.slots
+          ∙ sym (none-taken Standing l.slots) ∙ ap (λ (ss : Entries Standing). map is_some ss) (sym s.world.standings);
+      linked = λ c t. absurd (not-free (entry_at d.world.cells c) t
+          (ap (λ (cs : Entries Cell). slice_index_or cs c None) s.world.cells ∙ none-at Cell l.cells c));
       unlinked = λ c. ap held_in (ap (λ (cs : Entries Cell). slice_index_or cs c None) s.world.cells ∙ none-at Cell l.cells c);
       counted = omega (arith, made, reclaimed, count);
       fits = omega (arith, made);

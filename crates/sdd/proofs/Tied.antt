@@ -60,15 +60,18 @@ pub map_set : {A B : Type 0} (f : A → B) (l : List A) (i : ℕ) (a : A) → ma
 map_set f l i a = map-set f l i a
 
 -- the name of an owner stands for its item
-pub item_held : (owners : List (Option Held)) (o : ℕ) (held : Held) → Some held ≡ slice_index_or owners o None → slice_index_or (map held_item owners) o None ≡ Some held.item
+pub item_held : (owners : List (Option Held)) (o : ℕ) (held : Held) → Some held ≡ slice_index_or owners o None →
+    slice_index_or (map held_item owners) o None ≡ Some held.item
 item_held owners o held e = get_or-map held_item owners o None ∙ sym (ap held_item e)
 
 -- what is in hand under an owner's name
-pub owner_held : (home : token.Home) (items : List ItemState) (owners : List (Option Held)) (o : ℕ) (held : Held) → AreOwners home items owners → Some held ≡ slice_index_or owners o None → IsOwnerOfItem home items held
+pub owner_held : (home : token.Home) (items : List ItemState) (owners : List (Option Held)) (o : ℕ) (held : Held) →
+    AreOwners home items owners → Some held ≡ slice_index_or owners o None → IsOwnerOfItem home items held
 owner_held home items owners o held are e = let P : Option Held → Type 0 = OwnsItem home items in subst P (sym e) (are o)
 
 -- an item's slot stays its owner's, whatever becomes of items
-owns-still : (home : token.Home) (items : List ItemState) (i : ℕ) (fate : Fate) (held : Option Held) → OwnsItem home items held → OwnsItem home (with_fate items i fate) held
+owns-still : (home : token.Home) (items : List ItemState) (i : ℕ) (fate : Fate) (held : Option Held) → OwnsItem home items held →
+    OwnsItem home (with_fate items i fate) held
 owns-still home items i fate None owns = owns
 owns-still home items i fate (Some held) owns = record {
   named = subst (λ (n : ℕ). held.item < n) (sym (with_fate-length items i fate)) owns.named;
@@ -77,7 +80,8 @@ owns-still home items i fate (Some held) owns = record {
 }
 
 -- a spent name is that of no owner
-owns-spent : (home : token.Home) (items : List ItemState) (owners : List (Option Held)) (k : ℕ) → AreOwners home items owners → AreOwners home items (slice_set owners k None)
+owns-spent : (home : token.Home) (items : List ItemState) (owners : List (Option Held)) (k : ℕ) → AreOwners home items owners →
+    AreOwners home items (slice_set owners k None)
 owns-spent home items owners k are o =
     elim (cases_eq o k) [
       | inl e ↦ subst (λ (held : Option Held). OwnsItem home items held) (sym (none-set owners k o e)) tt
@@ -85,10 +89,12 @@ owns-spent home items owners k are o =
     ]
 
 -- an item that is there goes on having its name at its slot
-named-still : (items : List ItemState) (names : List ℕ) (i : ℕ) (fate : Fate) → IsThere (slice_index_or items i nothing).fate → AreNamed items names → AreNamed (with_fate items i fate) names
+named-still : (items : List ItemState) (names : List ℕ) (i : ℕ) (fate : Fate) → IsThere (slice_index_or items i nothing).fate →
+    AreNamed items names → AreNamed (with_fate items i fate) names
 named-still items names i fate there are j h =
     elim (cases_eq j i) [
-      | inl e ↦ ap (λ (k : ℕ). slice_index names k) (with_fate-slot items i fate j) ∙ are j (subst (λ (n : ℕ). IsThere (slice_index_or items n nothing).fate) (sym e) there)
+      | inl e ↦ ap (λ (k : ℕ). slice_index names k) (with_fate-slot items i fate j)
+          ∙ are j (subst (λ (n : ℕ). IsThere (slice_index_or items n nothing).fate) (sym e) there)
       | inr ne ↦ ap (λ (k : ℕ). slice_index names k) (with_fate-slot items i fate j) ∙ are j (subst IsThere (with_fate-other items i fate j ne) h)
     ]
 
@@ -104,7 +110,8 @@ tied_spent made s w owners items o i fate t there spent owner_room become item_r
     subst (λ (h : token.Home). AreOwners h items.items owners.items) (ap (λ (h : Home). h.slots) (sym home))
     (subst (λ (xs : List ItemState). AreOwners s.world.home.slots xs owners.items) (sym become)
     (λ k. owns-still s.world.home.slots s.items.items i fate (slice_index_or owners.items k None)
-    (subst (λ (os : List (Option Held)). OwnsItem s.world.home.slots s.items.items (slice_index_or os k None)) (sym spent) (owns-spent s.world.home.slots s.items.items s.owners.items o t.owners k)))) in
+    (subst (λ (os : List (Option Held)). OwnsItem s.world.home.slots s.items.items (slice_index_or os k None)) (sym spent)
+    (owns-spent s.world.home.slots s.items.items s.owners.items o t.owners k)))) in
     let owner_count : length owners.items ≡ length s.owners.items = ap (λ (os : List (Option Held)). length os) spent ∙ length-set s.owners.items o None in
     let item_count : length items.items ≡ length s.items.items = ap (λ (xs : List ItemState). length xs) become ∙ with_fate-length s.items.items i fate in
     record {
@@ -128,7 +135,8 @@ tied_spent made s w owners items o i fate t there spent owner_room become item_r
     }
 
 -- an owner's item keeps its slot, however many names are spent
-owns-gone : (home : token.Home) (items : List ItemState) (names : List ItemName) (held : Option Held) → OwnsItem home items held → OwnsItem home (all_gone items names) held
+owns-gone : (home : token.Home) (items : List ItemState) (names : List ItemName) (held : Option Held) → OwnsItem home items held →
+    OwnsItem home (all_gone items names) held
 owns-gone home items names None owns = owns
 owns-gone home items names (Some held) owns = record {
   named = subst (λ (n : ℕ). held.item < n) (sym (all_gone-length items names)) owns.named;
@@ -146,7 +154,8 @@ named-gone items spent names are j h =
     ])
 
 -- a guard is open
-pub tied_opened : (made : ℕ) (s : Stage) (w : World Val) (openings : Vec ℕ) (guards : Vec (Option Guard)) (items : Vec ItemState) (guard : Guard) (names : List ItemName) → IsTied made s →
+pub tied_opened : (made : ℕ) (s : Stage) (w : World Val) (openings : Vec ℕ) (guards : Vec (Option Guard)) (items : Vec ItemState)
+    (guard : Guard) (names : List ItemName) → IsTied made s →
     KeepsSizes s.world w → length openings.items ≡ length s.openings.items → vec_capacity openings ≡ vec_capacity s.openings →
     guards.items ≡ s.guards.items ++ Some guard ∷ [] → vec_capacity guards ≡ vec_capacity s.guards →
     items.items ≡ all_gone s.items.items names → vec_capacity items ≡ vec_capacity s.items →
@@ -157,7 +166,8 @@ tied_opened made s w openings guards items guard names t sizes opening_count ope
     subst (λ (h : token.Home). AreOwners h items.items s.owners.items) (ap (λ (h : Home). h.slots) (sym sizes.home))
     (subst (λ (xs : List ItemState). AreOwners s.world.home.slots xs s.owners.items) (sym gone)
     (λ k. owns-gone s.world.home.slots s.items.items names (slice_index_or s.owners.items k None) (t.owners k))) in
-    let guard_count : length guards.items ≡ length s.guards.items + 1 = ap (λ (gs : List (Option Guard)). length gs) pushed ∙ length_push s.guards.items (Some guard) in
+    let guard_count : length guards.items ≡ length s.guards.items + 1 =
+    ap (λ (gs : List (Option Guard)). length gs) pushed ∙ length_push s.guards.items (Some guard) in
     let item_count : length items.items ≡ length s.items.items = ap (λ (xs : List ItemState). length xs) gone ∙ all_gone-length s.items.items names in
     record {
       places = t.places;
@@ -180,5 +190,6 @@ tied_opened made s w openings guards items guard names t sizes opening_count ope
     }
 
 -- what is in hand under a place's name has its number
-pub place_index : (made : ℕ) (s : Stage) (p : ℕ) (place : Place) → IsTied made s → p < length s.world.time.places → place ≡ slice_index_or s.places.items p place → index_of place ≡ p
+pub place_index : (made : ℕ) (s : Stage) (p : ℕ) (place : Place) → IsTied made s → p < length s.world.time.places →
+    place ≡ slice_index_or s.places.items p place → index_of place ≡ p
 place_index made s p place t lt is = ap index_of is ∙ t.places p place (let a = t.taken in omega (arith, a, lt))

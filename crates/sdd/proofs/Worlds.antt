@@ -32,7 +32,8 @@ empty-not_full : {E : Type 0} (xs : List (Option E)) (k : ℕ) → IsEmptyAt xs 
 empty-not_full {E} xs k empty full = let P : Option E → Type 0 = λ e. IsSome e in false≢true (subst P empty.1 (full k None empty.0))
 
 -- a cell and then a slot are taken
-pub makes-item : (old taken new : World Val) (c k number : ℕ) (v : Val) → IsEmptyAt old.cells c → taken ≡ nulled old c → IsEmptyAt taken.standings k → new ≡ made taken k v →
+pub makes-item : (old taken new : World Val) (c k number : ℕ) (v : Val) → IsEmptyAt old.cells c → taken ≡ nulled old c →
+    IsEmptyAt taken.standings k → new ≡ made taken k v →
     body_of v ≡ number → link_of v ≡ c → link_home v ≡ old.home.cells → Makes old number k new
 makes-item old taken new c k number v cell nulls slot makes body link home = (
   c,
@@ -46,7 +47,8 @@ makes-item old taken new c k number v cell nulls slot makes body link home = (
 )
 
 -- an entry that found no slot gives its cell back
-pub refuses-slot : (old taken back new : World Val) (p c k : ℕ) → IsEmptyAt old.cells c → taken ≡ nulled old c → back ≡ taken → k ≡ c → IsFull taken.standings → new ≡ cell_closed back p k →
+pub refuses-slot : (old taken back new : World Val) (p c k : ℕ) → IsEmptyAt old.cells c → taken ≡ nulled old c → back ≡ taken →
+    k ≡ c → IsFull taken.standings → new ≡ cell_closed back p k →
     RefusesItem old NoSlot × (new ≡ old)
 refuses-slot old taken back new p c k empty nulls same cell full closes = (
   (

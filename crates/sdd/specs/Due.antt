@@ -129,9 +129,16 @@ AllDue past (line ∷ lines) = ((i : ItemName) → Contains line.answer.reclaime
 -- the lines are those of a script, one after another, with the counts at which they were called
 abbrev pub Trace : Desk → List Line → Desk → Type 0
 Trace old [] new = new ≡ old
-Trace old (line ∷ lines) new = (line.count ≡ old.world.time.count) × ((mid : Desk) × Step old line.call line.answer mid × Trace mid lines new)
+Trace old (line ∷ lines) new =
+    (line.count ≡ old.world.time.count) × ((mid : Desk) × Step old line.call line.answer mid × Trace mid lines new)
+
+abbrev pub calls_of : List Line → List Call
+calls_of lines = map (λ (line : Line). line.call) lines
+
+abbrev pub answers_of : List Line → List Answer
+answers_of lines = map (λ (line : Line). line.answer) lines
 
 -- what the answers to these calls name as reclaimed is what is due, line by line
 abbrev pub NamesWhatIsDue : Desk → List Call → List Answer → Desk → Type 0
 NamesWhatIsDue start calls answers new =
-    (lines : List Line) × (map (λ (line : Line). line.call) lines ≡ calls) × (map (λ (line : Line). line.answer) lines ≡ answers) × Trace start lines new × AllDue [] lines
+    (lines : List Line) × (calls_of lines ≡ calls) × (answers_of lines ≡ answers) × Trace start lines new × AllDue [] lines

@@ -11,7 +11,8 @@ use Rattle.sdd.specs.Val.{body_of, link_of, link_home}
 -- an entry with this number is in slot k, which was free, and its link is a cell that was free, whichever
 abbrev pub Makes : World Val → ℕ → ℕ → World Val → Type 0
 Makes old number k new =
-    (c : ℕ) × (v : Val) × IsEmptyAt old.cells c × IsEmptyAt old.standings k × (body_of v ≡ number) × (link_of v ≡ c) × (link_home v ≡ old.home.cells) × (new ≡ made (nulled old c) k v)
+    (c : ℕ) × (v : Val) × IsEmptyAt old.cells c × IsEmptyAt old.standings k × (body_of v ≡ number) × (link_of v ≡ c)
+    × (link_home v ≡ old.home.cells) × (new ≡ made (nulled old c) k v)
 
 -- no cell is free, or else no slot
 abbrev pub RefusesItem : World Val → Refused → Type 0

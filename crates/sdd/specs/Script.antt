@@ -84,8 +84,9 @@ Does old p (call.Set g) reply.Done names new = (names ≡ []) × (new ≡ record
 Does old p (call.Accelerate g) reply.Done names new = (names ≡ []) × (new ≡ record old { world = accelerated old.world p })
 -- a free cell and a free slot are taken, whichever
 Does old p (call.Owned n) (reply.Item o i) names new =
-    (o.0 ≡ length old.owners) × (i.0 ≡ length old.items) × (names ≡ []) × ((c : ℕ) × (k : ℕ) × (v : Val) ×
-    IsEmptyAt old.world.cells c × IsEmptyAt old.world.standings k × (body_of v ≡ n) × (link_of v ≡ c) × (link_home v ≡ old.world.home.cells) × (new ≡ with_item old c k v))
+    (o.0 ≡ length old.owners) × (i.0 ≡ length old.items) × (names ≡ [])
+    × ((c : ℕ) × (k : ℕ) × (v : Val) × IsEmptyAt old.world.cells c × IsEmptyAt old.world.standings k
+    × (body_of v ≡ n) × (link_of v ≡ c) × (link_home v ≡ old.world.home.cells) × (new ≡ with_item old c k v))
 Does old p (call.Owned n) (reply.Refused NoCell) names new = IsFull old.world.cells × (names ≡ []) × (new ≡ old)
 Does old p (call.Owned n) (reply.Refused NoSlot) names new = ¬ (IsFull old.world.cells) × IsFull old.world.standings × (names ≡ []) × (new ≡ old)
 Does old p (call.Read o) (reply.Value n) names new = ((i : ℕ) × IsOwnerOf old i o.0 × ShowsNumber old i n) × (names ≡ []) × (new ≡ old)

@@ -1,6 +1,9 @@
 -- What a pointer names
-use Rattle.std.specs.Prelude.{ℕ, ◌≡◌, Option, None, Some}
+use Rattle.std.specs.Prelude.{ℕ, ◌≡◌, ◌==◌, Bool, Option, None, Some}
+use Rattle.std.specs.Option.{option_eq}
+use Rattle.std.specs.Ordering.{on, eq_of_both}
 use Rattle.sdd_core.specs.declared.tag.Tag.{Tag}
+use Rattle.sdd_core.specs.Tag.{number_of}
 use Rattle.sdd_base.specs.declared.ptr.Ptr.{Ptr}
 
 module _ {T : Type 0} where
@@ -14,6 +17,10 @@ module _ {T : Type 0} where
   -- a pointer is null whatever its tag
   abbrev pub IsNull : Ptr T → Type 0
   IsNull p = slot_named p ≡ None
+
+  -- they name one slot, or none, and have one tag
+  abbrev pub are_equal : Ptr T → Ptr T → Bool
+  are_equal = eq_of_both (on slot_named (option_eq ◌==◌)) (on (λ p. number_of (tag_of p)) ◌==◌)
 
   -- it is null, or the slot that it names passes
   abbrev pub NamesFilled : (ℕ → Type 0) → Ptr T → Type 0

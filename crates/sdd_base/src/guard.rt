@@ -18,6 +18,7 @@ use sdd_core::{Epoch, Refused};
 /// An open guard: its participant has published a count, and a scan gives up while this count is behind.
 ///
 /// It must be spent by `close`. Guards of one participant nest.
+#[derive(Debug)]
 pub struct Guard {
     place: usize,
 }

@@ -11,7 +11,7 @@ use std::marker::PhantomData;
 /// A pointer to an item, or null, with a tag. It is good while its guard is open.
 ///
 /// Two pointers are equal exactly if they name the same slot, or none, and have the same tag.
-#[derive_where(PartialEq, Eq)]
+#[derive_where(Debug)]
 pub struct Ptr<'g, T> {
     slot: Option<u32>,
     tag: Tag,
@@ -34,6 +34,27 @@ impl<'g, T> Clone for Ptr<'g, T> {
 }
 
 impl<'g, T> Copy for Ptr<'g, T> {}
+
+impl<T> PartialEq for Ptr<'_, T> {
+    ghost use Rattle.std.proofs.Common.{rules};
+    ghost use Rattle.std.specs.Cmp.Rules.{comparing};
+    ghost use Rattle.sdd_base.specs.Ptr.{are_equal};
+
+    ghost eq = { are_equal };
+
+    ghost laws = { Prim.search (comparing, rules) };
+
+    fn eq(&self, other: &Self) -> bool {
+        self.slot == other.slot && self.tag == other.tag
+    }
+}
+
+impl<T> Eq for Ptr<'_, T> {
+    ghost use Rattle.std.proofs.Common.{rules};
+    ghost use Rattle.std.specs.Cmp.Rules.{comparing};
+
+    ghost laws = { Prim.search (comparing, rules) };
+}
 
 impl<'g, T> Ptr<'g, T> {
     /// The null pointer, without a tag.

@@ -105,9 +105,6 @@ effect s (Close p) q x = cond (eqb p q) (closed x) x
 effect s (End p) q x = cond (eqb p q) (ended x) x
 effect s _ q x = x
 
-not_free : (h : Phase) (k : Phase) → h ≡ k → is_free k ≡ false → is_free h ≡ false
-not_free h k e f = ap is_free e ∙ f
-
 pub open_not_free : (h : Phase) → is_open h ≡ true → is_free h ≡ false
 open_not_free h e = ap is_free (open_is h e)
 

@@ -22,9 +22,6 @@ at_is (suc p) = let rest = at_is p in omega arith
 abbrev pub moved : ℕ → ℕ → List Items → List Items
 moved to from bs = list_set (list_set bs from set.empty) to (set.union (bag_at bs to) (bag_at bs from))
 
-pub length-moved : (to from : ℕ) (bs : List Items) → length (moved to from bs) ≡ length bs
-length-moved to from bs = length-set (list_set bs from set.empty) to (set.union (bag_at bs to) (bag_at bs from)) ∙ length-set bs from set.empty
-
 length-trios_of-set : (bs : List Items) (k : ℕ) (x : Items) → length (trios_of (list_set bs k x)) ≡ length (trios_of bs)
 length-trios_of-set [] k x = refl
 length-trios_of-set (a ∷ []) zero x = refl

@@ -32,7 +32,8 @@ IfSome-map : {A B : Type 0} (f : A → B) (o : Option A) (P : B → Type 0) → 
 IfSome-map f None P h = tt
 IfSome-map f (Some x) P h = h
 
-IfSome-bind : {A B : Type 0} (o : Option A) (f : A → Option B) (Q : A → Type 0) (P : B → Type 0) → IfSome o Q → ((x : A) → Q x → IfSome (f x) P) → IfSome (o >>= f) P
+IfSome-bind : {A B : Type 0} (o : Option A) (f : A → Option B) (Q : A → Type 0) (P : B → Type 0) → IfSome o Q →
+    ((x : A) → Q x → IfSome (f x) P) → IfSome (o >>= f) P
 IfSome-bind None f Q P h g = tt
 IfSome-bind (Some x) f Q P h g = g x h
 
@@ -72,7 +73,9 @@ tested verb word x y P f h = cond_both (bytes_eq verb word) x y P (λ e. f ((byt
 taken : {A : Type 0} (f : A → Action) (Q : A → Type 0) (shown : A → List ℕ) (o : Option A) (word verb text : List ℕ)
     → ((x : A) → Q x → ActionHasNumbers (f x)) → ((x : A) → joined (words_of_action (f x)) ≡ word ++ 32 ∷ shown x)
     → verb ≡ word → IfSome o (λ x. Q x × (shown x ≡ text)) → IfSome (option_map f o) (IsActionText (verb ++ 32 ∷ text))
-taken f Q shown o word verb text numbers spelled e h = IfSome-map f o _ (IfSome_then o h (λ x k. (numbers x k.0, spelled x ∙ ap (λ t. word ++ 32 ∷ t) k.1 ∙ ap (λ w. w ++ 32 ∷ text) (sym e))))
+taken f Q shown o word verb text numbers spelled e h =
+    IfSome-map f o _ (IfSome_then o h
+    (λ x k. (numbers x k.0, spelled x ∙ ap (λ t. word ++ 32 ∷ t) k.1 ∙ ap (λ w. w ++ 32 ∷ text) (sym e))))
 
 taking_at_is : (verb text : List ℕ) → IfSome (taking_at verb text) (IsActionText (verb ++ 32 ∷ text))
 unfolding taking_at
@@ -83,7 +86,8 @@ taking_at_is verb text =
     tested verb (codes "epoch") _ _ P (λ e. taken (λ g. Epoch g) (λ g. IsNumber g.0) guard (guard_at text) _ verb text (λ g h. h) (λ g. refl) e of_guard) (
     tested verb (codes "garbage") _ _ P (λ e. taken (λ g. Garbage g) (λ g. IsNumber g.0) guard (guard_at text) _ verb text (λ g h. h) (λ g. refl) e of_guard) (
     tested verb (codes "set") _ _ P (λ e. taken (λ g. Set g) (λ g. IsNumber g.0) guard (guard_at text) _ verb text (λ g h. h) (λ g. refl) e of_guard) (
-    tested verb (codes "accelerate") _ _ P (λ e. taken (λ g. Accelerate g) (λ g. IsNumber g.0) guard (guard_at text) _ verb text (λ g h. h) (λ g. refl) e of_guard) (
+    tested verb (codes "accelerate") _ _ P
+    (λ e. taken (λ g. Accelerate g) (λ g. IsNumber g.0) guard (guard_at text) _ verb text (λ g h. h) (λ g. refl) e of_guard) (
     tested verb (codes "owned") _ _ P (λ e. taken (λ n. Owned n) IsNumber decimal (number_at text) _ verb text (λ n h. h) (λ n. refl) e (number_at_is text)) (
     tested verb (codes "read") _ _ P (λ e. taken (λ o. Read o) (λ o. IsNumber o.0) owner (owner_at text) _ verb text (λ o h. h) (λ o. refl) e of_owner) (
     tested verb (codes "look") _ _ P (λ e. IfSome_then (look_at text) (look_at_is text) (λ a h. (h.0, h.1 ∙ ap (λ w. w ++ 32 ∷ text) (sym e)))) (
@@ -96,7 +100,8 @@ unfolding action_at
 action_at_is text =
     tested text (codes "open") _ _ (λ o. IfSome o (IsActionText text)) (λ e. (tt, sym e)) (
     IfSome-bind (split_word text) _ _ _ (split_word_is text) (λ words e.
-    IfSome_then (taking_at words.0 words.1) {P = IsActionText (words.0 ++ 32 ∷ words.1)} {Q = IsActionText text} (taking_at_is words.0 words.1) (λ a h. (h.0, h.1 ∙ sym e))))
+    IfSome_then (taking_at words.0 words.1) {P = IsActionText (words.0 ++ 32 ∷ words.1)} {Q = IsActionText text}
+    (taking_at_is words.0 words.1) (λ a h. (h.0, h.1 ∙ sym e))))
 
 -- the place of a call, a space, and the text of the action
 pub line_of-At : (p : PlaceName) (action : Action) → line_of (At p action) ≡ place p ++ 32 ∷ joined (words_of_action action)
@@ -157,7 +162,8 @@ action_at-words (Look i g) h = look_at-words i g h.0 h.1
 action_at-words (Retire o) h = ap (option_map (λ o. Retire o)) (owner_at-owner o h)
 action_at-words (Close g) h = ap (option_map (λ g. Close g)) (guard_at-guard g h)
 
-place_call_at-words : (p : PlaceName) (action : Action) → IsNumber p.0 → ActionHasNumbers action → place_call_at (place p ++ 32 ∷ joined (words_of_action action)) ≡ Some (At p action)
+place_call_at-words : (p : PlaceName) (action : Action) → IsNumber p.0 → ActionHasNumbers action →
+    place_call_at (place p ++ 32 ∷ joined (words_of_action action)) ≡ Some (At p action)
 unfolding place_call_at
 place_call_at-words p action h k =
     let rest = joined (words_of_action action) in
@@ -172,7 +178,8 @@ call_at-line_of (At p action) h = ap call_at (line_of-At p action) ∙ place_cal
 
 -- ---- both
 
-answer_is : (line : List ℕ) (o : Option Call) → o ≡ call_at line → IfSome o (λ call. IsTextOf call line) → MatchOption o (¬ IsCallText line) (λ call. IsTextOf call line)
+answer_is : (line : List ℕ) (o : Option Call) → o ≡ call_at line → IfSome o (λ call. IsTextOf call line) →
+    MatchOption o (¬ IsCallText line) (λ call. IsTextOf call line)
 answer_is line None e h = λ w. (let again = call_at-line_of w.0 w.1.0 in let same = ap call_at w.1.1 in absurd (cc))
 answer_is line (Some call) e h = h
 
@@ -193,9 +200,12 @@ ascii_text (b ∷ bs) h = let parts = and_parts (ltb b 128) _ h in IsAscii-cons 
 abbrev IsPlain : ℕ → List ℕ → Type 0
 IsPlain most bs = IsAscii bs × (length bs ≤ most)
 
-numbered_plain : (front : List ℕ) (n most : ℕ) → list_all (λ b. ltb b 128) front ≡ true → length front + 20 ≤ most → IsNumber n → IsPlain most (front ++ decimal n)
-numbered_plain front n most h l small =
-    (IsAscii-append front (decimal n) (ascii_text front h) (IsAscii-decimal n small), omega (arith, length-append front (decimal n), length-decimal-le 20 n (lit< tt) (omega arith) small))
+numbered_plain : (front : List ℕ) (n most : ℕ) → list_all (λ b. ltb b 128) front ≡ true → length front + 20 ≤ most → IsNumber n →
+    IsPlain most (front ++ decimal n)
+numbered_plain front n most h l small = (
+  IsAscii-append front (decimal n) (ascii_text front h) (IsAscii-decimal n small),
+  omega (arith, length-append front (decimal n), length-decimal-le 20 n (lit< tt) (omega arith) small),
+)
 
 appended_plain : (xs ys : List ℕ) (j k most : ℕ) → j + k ≤ most → IsPlain j xs → IsPlain k ys → IsPlain most (xs ++ ys)
 appended_plain xs ys j k most l p q = (IsAscii-append xs ys p.0 q.0, omega (arith, length-append xs ys, p.1, q.1))
@@ -208,7 +218,9 @@ action_plain (Set g) h = numbered_plain (codes "set g") g.0 100 refl (omega arit
 action_plain (Accelerate g) h = numbered_plain (codes "accelerate g") g.0 100 refl (omega arith) h
 action_plain (Owned n) h = numbered_plain (codes "owned ") n 100 refl (omega arith) h
 action_plain (Read o) h = numbered_plain (codes "read o") o.0 100 refl (omega arith) h
-action_plain (Look i g) h = appended_plain (codes "look i" ++ decimal i.0) (codes " g" ++ decimal g.0) 50 50 100 (omega arith) (numbered_plain (codes "look i") i.0 50 refl (omega arith) h.0) (numbered_plain (codes " g") g.0 50 refl (omega arith) h.1)
+action_plain (Look i g) h =
+    appended_plain (codes "look i" ++ decimal i.0) (codes " g" ++ decimal g.0) 50 50 100 (omega arith)
+    (numbered_plain (codes "look i") i.0 50 refl (omega arith) h.0) (numbered_plain (codes " g") g.0 50 refl (omega arith) h.1)
 action_plain (Retire o) h = numbered_plain (codes "retire o") o.0 100 refl (omega arith) h
 action_plain (Close g) h = numbered_plain (codes "close g") g.0 100 refl (omega arith) h
 
@@ -218,7 +230,9 @@ line_plain Tally h = (ascii_text (codes "tally") refl, omega arith)
 line_plain (At p action) h =
     let rest = joined (words_of_action action) in
     let plain = action_plain action h.1 in
-    subst (IsPlain 200) (sym (line_of-At p action)) (appended_plain (place p) (32 ∷ rest) 90 101 200 (omega arith) (numbered_plain (codes "p") p.0 90 refl (omega arith) h.0) (IsAscii-cons 32 rest (lit< tt) plain.0, omega (arith, plain.1)))
+    subst (IsPlain 200) (sym (line_of-At p action))
+    (appended_plain (place p) (32 ∷ rest) 90 101 200 (omega arith) (numbered_plain (codes "p") p.0 90 refl (omega arith) h.0)
+    (IsAscii-cons 32 rest (lit< tt) plain.0, omega (arith, plain.1)))
 
 pub ascii_from_call : (line : List ℕ) → IsCallText line → IsAscii line
 ascii_from_call line w = subst IsAscii w.1.1 (line_plain w.0 w.1.0).0
@@ -229,10 +243,12 @@ short_from_call line (Some call) h = subst (λ l. length l ≤ 200) h.1 (line_pl
 
 -- ---- bytes as text
 
-pub not_utf8 : {E : Type 0} (line : List ℕ) (r : Result (Bor (List ℕ)) E) (P : Bor (List ℕ) → Type 0) (Q : E → Type 0) → None ≡ result_ok r → MatchResult r P (λ e. ¬ (IsUtf8 line) × Q e) → ¬ (IsCallText line)
+pub not_utf8 : {E : Type 0} (line : List ℕ) (r : Result (Bor (List ℕ)) E) (P : Bor (List ℕ) → Type 0) (Q : E → Type 0) →
+    None ≡ result_ok r → MatchResult r P (λ e. ¬ (IsUtf8 line) × Q e) → ¬ (IsCallText line)
 not_utf8 line (Ok s) P Q e h = absurd (cc)
 not_utf8 line (Err x) P Q e h = λ w. h.0 (IsUtf8-from_ascii line (ascii_from_call line w))
 
-pub utf8_text : {E : Type 0} (line : List ℕ) (r : Result (Bor (List ℕ)) E) (s : Bor (List ℕ)) (P : Type 0) (Q : E → Type 0) → Some s ≡ result_ok r → MatchResult r (λ t. (t.now ≡ line) × P) Q → s.now ≡ line
+pub utf8_text : {E : Type 0} (line : List ℕ) (r : Result (Bor (List ℕ)) E) (s : Bor (List ℕ)) (P : Type 0) (Q : E → Type 0) →
+    Some s ≡ result_ok r → MatchResult r (λ t. (t.now ≡ line) × P) Q → s.now ≡ line
 utf8_text line (Ok t) s P Q e h = let same : s ≡ t = cc in ap (λ x. x.now) same ∙ h.0
 utf8_text line (Err x) s P Q e h = absurd (cc)

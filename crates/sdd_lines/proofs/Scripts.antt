@@ -32,14 +32,20 @@ lines_none [] l h = absurd (omega arith)
 lines_none (b ∷ bs) l h = lines-last b bs (HasNoFeed-from_bytes (b ∷ bs) h)
 
 -- a text is its first line, and the lines behind its line feed
-pub lines_at : (text : List ℕ) (k : ℕ) → k < length text → get_or text k 0 ≡ 10 → ((i : ℕ) → i < k → get_or text i 0 ≢ 10) → lines text ≡ take k text ∷ lines (drop (k + 1) text)
+pub lines_at : (text : List ℕ) (k : ℕ) → k < length text → get_or text k 0 ≡ 10 → ((i : ℕ) → i < k → get_or text i 0 ≢ 10) →
+    lines text ≡ take k text ∷ lines (drop (k + 1) text)
 lines_at text k l e h =
-    let front : HasNoFeed (take k text) = HasNoFeed-from_bytes (take k text) (λ i j. let below : i < k = omega (arith, length-take-le k text (omega arith)) in λ f. h i below (sym (get_or-take k text i 0 below) ∙ f)) in
-    let split : text ≡ take k text ++ 10 ∷ drop (k + 1) text = sym (take-append-drop k text) ∙ ap (λ t. take k text ++ t) (drop_more text k 0 l ∙ ap (λ b. b ∷ drop (k + 1) text) e) in
+    let front : HasNoFeed (take k text) =
+    HasNoFeed-from_bytes (take k text)
+    (λ i j. let below : i < k = omega (arith, length-take-le k text (omega arith)) in λ f. h i below
+    (sym (get_or-take k text i 0 below) ∙ f)) in
+    let split : text ≡ take k text ++ 10 ∷ drop (k + 1) text =
+    sym (take-append-drop k text) ∙ ap (λ t. take k text ++ t) (drop_more text k 0 l ∙ ap (λ b. b ∷ drop (k + 1) text) e) in
     ap lines split ∙ lines-feed (take k text) (drop (k + 1) text) front
 
 -- each line that was read as a call is one
-read_lines : (calls : List Call) (more : List (List ℕ)) (k : ℕ) → AllByRecursion HasNumbers calls → k < length calls → IsCallText (get_or (map line_of calls ++ more) k [])
+read_lines : (calls : List Call) (more : List (List ℕ)) (k : ℕ) → AllByRecursion HasNumbers calls → k < length calls →
+    IsCallText (get_or (map line_of calls ++ more) k [])
 read_lines [] more k h l = absurd (omega arith)
 read_lines (call ∷ calls) more zero h l = (call, (h.0, refl))
 read_lines (call ∷ calls) more (suc k) h l = read_lines calls more k h.1 (omega arith)
@@ -49,26 +55,30 @@ next_line [] line more = refl
 next_line (call ∷ calls) line more = next_line calls line more
 
 -- line k + 1 is a call, where it was read as one
-read_line : (text : List ℕ) (calls : List Call) (more : List (List ℕ)) (k : ℕ) → AllByRecursion HasNumbers calls → length calls ≤ MOST_CALLS → map line_of calls ++ more ≡ lines text → k < length calls → IsCallAt text (k + 1)
-read_line text calls more k numbers few same l =
-    (omega arith, subst (λ ls. IsCallText (get_or ls (k + 1 - 1) [])) same (subst (λ j. IsCallText (get_or (map line_of calls ++ more) j [])) (let e : k ≡ k + 1 - 1 = omega arith in e) (read_lines calls more k numbers l)))
+read_line : (text : List ℕ) (calls : List Call) (more : List (List ℕ)) (k : ℕ) → AllByRecursion HasNumbers calls →
+    length calls ≤ MOST_CALLS → map line_of calls ++ more ≡ lines text → k < length calls → IsCallAt text (k + 1)
+read_line text calls more k numbers few same l = (
+  omega arith,
+  subst (λ ls. IsCallText (get_or ls (k + 1 - 1) [])) same
+      (subst (λ j. IsCallText (get_or (map line_of calls ++ more) j [])) (let e : k ≡ k + 1 - 1 = omega arith in e)
+      (read_lines calls more k numbers l)),
+)
 
 -- the line behind those read as calls is the first fault, if it is no call
-pub first_fault : (text : List ℕ) (calls : List Call) (line : List ℕ) (more : List (List ℕ)) (n : ℕ) → n ≡ length calls → AllByRecursion HasNumbers calls → length calls ≤ MOST_CALLS → map line_of calls ++ line ∷ more ≡ lines text → ¬ ((n < MOST_CALLS) × IsCallText line) → IsFirstFault text (n + 1)
+pub first_fault : (text : List ℕ) (calls : List Call) (line : List ℕ) (more : List (List ℕ)) (n : ℕ) → n ≡ length calls →
+    AllByRecursion HasNumbers calls → length calls ≤ MOST_CALLS → map line_of calls ++ line ∷ more ≡ lines text →
+    ¬ ((n < MOST_CALLS) × IsCallText line) → IsFirstFault text (n + 1)
 first_fault text calls line more n e numbers few same no_call =
     let at : get_or (lines text) (n + 1 - 1) [] ≡ line =
-    sym (ap (λ ls. get_or ls (n + 1 - 1) []) same) ∙ ap (λ j. get_or (map line_of calls ++ line ∷ more) j []) (let f : n + 1 - 1 ≡ length calls = omega arith in f) ∙ next_line calls line more in
+    sym (ap (λ ls. get_or ls (n + 1 - 1) []) same) ∙ ap (λ j. get_or (map line_of calls ++ line ∷ more) j [])
+    (let f : n + 1 - 1 ≡ length calls = omega arith in f) ∙ next_line calls line more in
     record {
       counted = omega arith;
       there = omega (arith, ap length same, length-append (map line_of calls) (line ∷ more), length-map calls line_of);
       fault = λ w. no_call (omega (arith, w.0), subst IsCallText at w.1);
-      first = λ k low high. (let f : k - 1 + 1 ≡ k = omega arith in subst (IsCallAt text) f (read_line text calls (line ∷ more) (k - 1) numbers few same (omega arith)));
+      first = λ k low high. (let f : k - 1 + 1 ≡ k = omega arith in subst (IsCallAt text) f
+          (read_line text calls (line ∷ more) (k - 1) numbers few same (omega arith)));
     }
-
--- one more call
-pub read_more : (calls : List Call) (call : Call) (line : List ℕ) (more all : List (List ℕ)) → map line_of calls ++ line ∷ more ≡ all → IsTextOf call line → map line_of (calls ++ call ∷ []) ++ more ≡ all
-read_more calls call line more all same h =
-    ap (λ ls. ls ++ more) (map-append line_of calls (call ∷ [])) ∙ append_assoc (map line_of calls) (line_of call ∷ []) more ∙ ap (λ l. map line_of calls ++ l ∷ more) h.1 ∙ same
 
 pub numbers_more : (calls : List Call) (call : Call) → AllByRecursion HasNumbers calls → HasNumbers call → AllByRecursion HasNumbers (calls ++ call ∷ [])
 numbers_more [] call h k = (k, tt)

@@ -51,7 +51,8 @@ split_word-at (b ∷ xs) ys h = cond-false _ _ _ h.0 ∙ ap (option_map (λ part
 abbrev AreParts : List ℕ → List ℕ × List ℕ → Type 0
 AreParts text parts = text ≡ parts.0 ++ 32 ∷ parts.1
 
-AreParts-more : (b : ℕ) (bs : List ℕ) (o : Option (List ℕ × List ℕ)) → IfSome o (AreParts bs) → IfSome (option_map (λ parts. (b ∷ parts.0, parts.1)) o) (AreParts (b ∷ bs))
+AreParts-more : (b : ℕ) (bs : List ℕ) (o : Option (List ℕ × List ℕ)) → IfSome o (AreParts bs) →
+    IfSome (option_map (λ parts. (b ∷ parts.0, parts.1)) o) (AreParts (b ∷ bs))
 AreParts-more b bs None h = tt
 AreParts-more b bs (Some parts) h = ap (λ l. b ∷ l) h
 
@@ -62,7 +63,10 @@ split_word_is (b ∷ bs) =
     (λ e. ap (λ c. c ∷ bs) (eqb-true b 32 e)) (λ e. AreParts-more b bs (split_word bs) (split_word_is bs))
 
 -- `split_once` at a space splits so
-pub split_once_is : (bs : List ℕ) (r : Option (Bor (List ℕ) × Bor (List ℕ))) → MatchOption r ((i : ℕ) → i < length bs → get_or bs i 0 ≢ 32) (λ x. (bs ≡ x.0.now ++ (32 ∷ x.1.now)) × ((i : ℕ) → i < length x.0.now → get_or x.0.now i 0 ≢ 32)) → option_map (λ parts. (parts.0.now, parts.1.now)) r ≡ split_word bs
+pub split_once_is : (bs : List ℕ) (r : Option (Bor (List ℕ) × Bor (List ℕ))) →
+    MatchOption r ((i : ℕ) → i < length bs → get_or bs i 0 ≢ 32)
+    (λ x. (bs ≡ x.0.now ++ (32 ∷ x.1.now)) × ((i : ℕ) → i < length x.0.now → get_or x.0.now i 0 ≢ 32)) →
+    option_map (λ parts. (parts.0.now, parts.1.now)) r ≡ split_word bs
 split_once_is bs None h = sym (split_word-none bs (HasNoSpace-from_bytes bs h))
 split_once_is bs (Some x) h = sym (ap split_word h.0 ∙ split_word-at x.0.now x.1.now (HasNoSpace-from_bytes _ h.1))
 
@@ -95,7 +99,9 @@ IsForm-from_test word h =
 
 test-from_IsForm : (word : List ℕ) → IsForm word → is_decimal word ≡ true
 test-from_IsForm word h =
-    and_from (all_ascii_digits word) _ h.digits (and_from (leb 1 (length word)) _ (le-leb 1 (length word) h.nonempty) (implies (eqb (get_or word 0 0) 48) (eqb (length word) 1) (λ e. rw (h.short (eqb-true _ 48 e)) refl)))
+    and_from (all_ascii_digits word) _ h.digits
+    (and_from (leb 1 (length word)) _ (le-leb 1 (length word) h.nonempty)
+    (implies (eqb (get_or word 0 0) 48) (eqb (length word) 1) (λ e. rw (h.short (eqb-true _ 48 e)) refl)))
 
 pub number_at_is : (word : List ℕ) → IfSome (number_at word) (λ n. (n < 2 ^ 64) × (decimal n ≡ word))
 unfolding number_at
@@ -109,14 +115,19 @@ IsForm-decimal : (n : ℕ) → n < 2 ^ 64 → IsForm (decimal n)
 IsForm-decimal n small = record {
   digits = digits_decimal own n small;
   nonempty = decimal_nonempty n small;
-  short = λ e. elim (cases_eq n 0) [ inl z ↦ rw z (ap length (decimal_digit 0 (omega arith))) | inr z ↦ absurd (omega (arith, first_decimal n (omega arith) small)) ];
+  short = λ e. elim (cases_eq n 0) [
+    | inl z ↦ rw z (ap length (decimal_digit 0 (omega arith)))
+    | inr z ↦
+        absurd (omega (arith, first_decimal n (omega arith) small))
+  ];
 }
 
 pub number_at-decimal : (n : ℕ) → n < 2 ^ 64 → number_at (decimal n) ≡ Some n
 unfolding number_at
 number_at-decimal n small =
     let value = digits_value-decimal own n small in
-    cond-true _ _ _ (and_from (is_decimal (decimal n)) _ (test-from_IsForm _ (IsForm-decimal n small)) (lt-ltb (digits_value 10 (decimal n)) (2 ^ 64) (rw value small))) ∙ ap Some value
+    cond-true _ _ _ (and_from (is_decimal (decimal n)) _ (test-from_IsForm _ (IsForm-decimal n small))
+    (lt-ltb (digits_value 10 (decimal n)) (2 ^ 64) (rw value small))) ∙ ap Some value
 
 -- where a word gives no number it is none
 pub number_at-none : (word : List ℕ) → number_at word ≡ None → ¬ ((n : ℕ) × IsWordOf n word)
@@ -132,10 +143,15 @@ unfolding number_at
 number_at-no_form word h = unguarded _ _ (λ e. h (IsForm-from_test word (and_parts (is_decimal word) _ e).0))
 
 -- what `parse` gives for a word with no sign is its number, unless a zero leads
-pub number_from_parse : {E : Type 0} (word : List ℕ) (r : Result ℕ E) → OkIff r ((all_ascii_digits word ≡ true) × (0 < length word) × (digits_value 10 word < 2 ^ 64)) (digits_value 10 word) → (get_or word 0 0 ≡ 48 → length word ≤ 1) → result_ok r ≡ number_at word
+pub number_from_parse : {E : Type 0} (word : List ℕ) (r : Result ℕ E) →
+    OkIff r ((all_ascii_digits word ≡ true) × (0 < length word) × (digits_value 10 word < 2 ^ 64)) (digits_value 10 word) →
+    (get_or word 0 0 ≡ 48 → length word ≤ 1) → result_ok r ≡ number_at word
 unfolding number_at
 number_from_parse word (Ok x) h short =
-    ap Some h.1 ∙ sym (cond-true _ _ _ (and_from (is_decimal word) _ (test-from_IsForm word (record { digits = h.0.0; nonempty = h.0.1; short = λ e. omega (arith, short e) })) (lt-ltb _ _ h.0.2)))
+    ap Some h.1 ∙ sym (cond-true _ _ _
+    (and_from (is_decimal word) _
+    (test-from_IsForm word (record { digits = h.0.0; nonempty = h.0.1; short = λ e. omega (arith, short e) }))
+    (lt-ltb _ _ h.0.2)))
 number_from_parse word (Err e) h short = sym (unguarded _ _ (λ t.
     let parts = and_parts (is_decimal word) _ t in
     let form = IsForm-from_test word parts.0 in
@@ -159,4 +175,6 @@ numbered_at_is letter (b ∷ bs) =
     (λ e. IfSome_then (number_at bs) (number_at_is bs) (λ n h. (h.0, cc (eqb-true b letter e, h.1)))) (λ e. tt)
 
 pub HasNoSpace-decimal : (n : ℕ) → n < 2 ^ 64 → HasNoSpace (decimal n)
-HasNoSpace-decimal n small = HasNoSpace-from_bytes (decimal n) (λ i l. not_in_digits own (decimal n) 32 (digits_decimal own n small) (λ r. omega (arith, r.0, r.1)) i l)
+HasNoSpace-decimal n small =
+    HasNoSpace-from_bytes (decimal n)
+    (λ i l. not_in_digits own (decimal n) 32 (digits_decimal own n small) (λ r. omega (arith, r.0, r.1)) i l)

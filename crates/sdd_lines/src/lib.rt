@@ -17,6 +17,3 @@ pub use device::{Fault, ReadEnd, Reader, Sink, Source, Writer, read_to_end, writ
 pub use ended::Ended;
 pub use name::{GuardName, ItemName, JobName, Names, OwnerName, PlaceName};
 pub use script::{MOST_CALLS, Script, parse_all};
-
-#[cfg(test)]
-mod tests;

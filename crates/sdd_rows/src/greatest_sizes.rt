@@ -1,63 +1,178 @@
-//! Machines of the greatest size and lists of many steps, with ample memory: a body that refuses memory beyond some size meets every contract.
-use sdd_core::machine::{Did, MAX_ITEMS, MAX_PLACES, Machine, Step, safety};
+//! Ample memory at the greatest sizes. A body that refuses with `NoMemory` beyond some size meets every contract.
+
+use crate::steps::{AMPLE, closed, joined};
+use sdd::{
+    Action, Answer, Call, Ended, ItemName, Limits, Names, OwnerName, PlaceName, Reader, Refused,
+    Reply, World, Writer, play, run,
+};
+use sdd_lines::{Script, parse_all, print_all, read_to_end};
 use std::alloc::{AllocError, Global};
 use std::test::Fail;
 
-/// The greatest place, and the greatest item.
-const PLACE: u32 = 1023;
+/// Each limit at the end of its range, but for slots and cells: an eighth of the most, as more take a minute.
+const GREATEST: Limits = Limits {
+    participants: 1024,
+    slots: 2_097_152,
+    cells: 2_097_152,
+    jobs: 65_536,
+    nesting: 4_294_967_295,
+    tries: 65_535,
+};
 
-const ITEM: u32 = 16_777_215;
-
-/// A guard of the place that looks at all others and raises the count.
-fn push_raise(steps: &mut Vec<Step>) -> Result<(), AllocError> {
-    steps.push(Step::Read(PLACE))?;
-    steps.push(Step::Publish(PLACE))?;
-    steps.push(Step::Lock(PLACE))?;
-    for _ in 0..PLACE {
-        steps.push(Step::Look(PLACE))?;
+/// A text of so many lines: one that registers, and then the same again and again.
+fn lines(alloc: Global, count: u64, line: &str) -> Result<String, AllocError> {
+    let mut text = String::new(alloc);
+    text.push_str("register\n")?;
+    for _ in 1..count {
+        text.push_str(line)?;
     }
-    steps.push(Step::Advance(PLACE))?;
-    steps.push(Step::Unlock(PLACE))?;
-    steps.push(Step::Close(PLACE))?;
-    Ok(())
+    Ok(text)
 }
 
-/// The item is retired and the count raised three times, the last time behind the second change.
-fn up_to_the_third_change(alloc: Global) -> Result<Vec<Step>, AllocError> {
-    let mut steps = Vec::new(alloc);
-    steps.push(Step::Register(PLACE))?;
-    steps.push(Step::Retire(PLACE, ITEM))?;
-    for _ in 0..3 {
-        push_raise(&mut steps)?;
+/// One that registers, and then 65,535 that make an item each.
+fn most_calls(alloc: Global) -> Result<Vec<Call>, AllocError> {
+    let mut calls = Vec::new(alloc);
+    calls.push(Call::Register)?;
+    for number in 1..65_536 {
+        calls.push(Call::At(PlaceName(0), Action::Owned(number)))?;
     }
-    steps.push(Step::Read(PLACE))?;
-    Ok(steps)
+    Ok(calls)
+}
+
+/// What the call of this number answers in a run of `most_calls`.
+fn reply_to(number: u64) -> Reply {
+    match number.checked_sub(1) {
+        None => Reply::Place(PlaceName(0)),
+        Some(made) => Reply::Item(OwnerName(made), ItemName(made)),
+    }
 }
 
 #[test]
-fn a_machine_of_the_greatest_size_is_made(rt: HostRuntime) -> Result<(), Fail> {
-    assert_eq!(rt; (MAX_PLACES, MAX_ITEMS), (1024, 16_777_216));
-    let mut machine = Machine::new(rt.alloc(), 1024, 16_777_216)?;
-    assert_eq!(rt; machine.step(Step::Register(PLACE + 1)), Did::NotPossible);
-    assert_eq!(rt; machine.step(Step::Register(PLACE)), Did::Done);
-    assert_eq!(rt;
-        machine.step(Step::Retire(PLACE, ITEM + 1)),
-        Did::NotPossible
-    );
-    assert_eq!(rt; machine.step(Step::Retire(PLACE, ITEM)), Did::Done);
+fn a_run_has_the_greatest_limits_and_the_most_calls(rt: HostRuntime) -> Result<(), Fail> {
+    let calls = most_calls(rt.alloc())?;
+    let (answers, scene) = run(rt.alloc(), GREATEST, calls.as_slice())?;
+    let tally = scene.close();
+    assert_eq!(rt; tally.reclaimed, 65_535);
+    assert_eq!(rt; answers.len(), 65_536);
+    let mut number = 0u64;
+    for answer in &answers {
+        assert_eq!(rt; answer.reply, reply_to(number));
+        number = number.wrapping_add(1);
+    }
     Ok(())
 }
 
 #[test]
-fn thousands_of_steps_are_taken(rt: HostRuntime) -> Result<(), Fail> {
-    let steps = up_to_the_third_change(rt.alloc())?;
-    assert_eq!(rt; steps.len(), 3_090);
-    let mut machine = safety(rt.alloc(), &steps)?;
-    let third = Did::Opened {
-        count: 3,
-        changed: true,
-        reclaimed: 1,
+fn a_play_has_the_most_lines(rt: HostRuntime) -> Result<(), Fail> {
+    let alloc = rt.alloc();
+    let text = lines(alloc, 65_536, "tally\n")?;
+    let mut answers = String::new(alloc);
+    answers.push_str("p0\n")?;
+    for _ in 1..65_536 {
+        answers.push_str("made 0 reclaimed 0 in place 0\n")?;
+    }
+    let mut written = Vec::new(alloc);
+    let mut reader = Reader::new(text.as_bytes());
+    let mut writer = Writer::new(&mut written);
+    let ended = play(alloc, AMPLE, &mut reader, &mut writer);
+    assert_eq!(rt; ended, Ended::Played);
+    assert_eq!(rt; written.len(), 1_966_053);
+    assert!(rt; written.as_slice() == answers.as_bytes());
+    Ok(())
+}
+
+#[test]
+fn a_script_has_a_most_of_calls(rt: HostRuntime) -> Result<(), Fail> {
+    let alloc = rt.alloc();
+    let most = lines(
+        alloc,
+        65_536,
+        "p0 look i18446744073709551615 g18446744073709551615\n",
+    )?;
+    match parse_all(alloc, most.as_bytes())? {
+        Script::Calls(calls) => assert_eq!(rt; calls.len(), 65_536),
+        Script::Fault(line) => panic!(rt; "line {line}"),
+    }
+    Ok(())
+}
+
+#[test]
+fn the_bytes_of_the_longest_script_are_read(rt: HostRuntime) -> Result<(), Fail> {
+    let alloc = rt.alloc();
+    let text = vec![in alloc; b'a'; 13_107_200]?;
+    let mut source = Reader::new(text.as_slice());
+    let read = read_to_end(alloc, &mut source)?;
+    assert!(rt; read.as_slice() == text.as_slice());
+    assert!(rt; read_to_end(alloc, &mut source)?.is_empty());
+    assert_eq!(rt; source.failures(), 0);
+    Ok(())
+}
+
+/// So many names, from the first.
+fn names(alloc: Global, count: u64) -> Result<Names<ItemName>, AllocError> {
+    let mut names = Names::new(alloc);
+    for number in 0..count {
+        names.push(ItemName(number))?;
+    }
+    Ok(names)
+}
+
+/// An answer that names so many items.
+fn done(alloc: Global, reclaimed: u64) -> Result<Answer, AllocError> {
+    Ok(Answer {
+        reply: Reply::Done,
+        reclaimed: names(alloc, reclaimed)?,
+        ran: Names::new(alloc),
+    })
+}
+
+#[test]
+fn the_most_answers_are_printed(rt: HostRuntime) -> Result<(), Fail> {
+    let alloc = rt.alloc();
+    let mut answers = Vec::new(alloc);
+    for _ in 0..65_536 {
+        answers.push(done(alloc, 0)?)?;
+    }
+    let text = vec![in alloc; *b"ok\n"; 65_536]?;
+    let printed = print_all(alloc, answers.as_slice())?;
+    assert!(rt; printed.as_slice() == text.as_slice().as_flattened());
+    Ok(())
+}
+
+/// `i0` to `i65535` have 316,570 digits, and each has a space and a letter before it.
+#[test]
+fn an_answer_names_the_most_items(rt: HostRuntime) -> Result<(), Fail> {
+    let alloc = rt.alloc();
+    let printed = print_all(alloc, &[done(alloc, 65_536)?])?;
+    assert!(rt; printed.starts_with(b"ok reclaimed i0 i1 i2 "));
+    assert!(rt; printed.ends_with(b" i65534 i65535\n"));
+    assert_eq!(rt; printed.len(), 447_655);
+    Ok(())
+}
+
+#[test]
+fn a_world_has_the_greatest_limits(rt: HostRuntime) -> Result<(), Refused> {
+    let mut world: World<u64> = World::new(rt.alloc(), GREATEST)?;
+    let place = joined(&rt, &mut world);
+    assert_eq!(rt; place.index(), 0);
+    closed(&rt, world);
+    Ok(())
+}
+
+/// With 65,536 slots, since each participant has room for as many items as there are slots.
+#[test]
+fn a_world_has_the_most_participants(rt: HostRuntime) -> Result<(), Refused> {
+    let limits = Limits {
+        slots: 65_536,
+        cells: 1,
+        ..GREATEST
     };
-    assert_eq!(rt; machine.step(Step::Publish(PLACE)), third);
+    let mut world: World<u64> = World::new(rt.alloc(), limits)?;
+    for index in 0usize..1024 {
+        let place = joined(&rt, &mut world);
+        assert_eq!(rt; place.index(), index);
+    }
+    assert_eq!(rt; world.register().err(), Some(Refused::NoPlace));
+    closed(&rt, world);
     Ok(())
 }

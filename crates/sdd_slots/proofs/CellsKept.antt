@@ -11,7 +11,8 @@ use Rattle.sdd_slots.proofs.SlotsKept.{map-replicate}
 use Rattle.sdd_slots.specs.Cells.{AreKept, kept_of_cell}
 
 -- a cell changes
-pub cells-keep : {home : Home} {kept : List Kept} {cells : Entries Cell} (k : ℕ) (c : Option Cell) → AreKept home kept cells → AreKept home (slice_set kept k (kept_of_cell c)) (slice_set cells k c)
+pub cells-keep : {home : Home} {kept : List Kept} {cells : Entries Cell} (k : ℕ) (c : Option Cell) → AreKept home kept cells →
+    AreKept home (slice_set kept k (kept_of_cell c)) (slice_set cells k c)
 cells-keep {home} {kept} {cells} k c a = record {
   sized = length-set cells k c ∙ a.sized;
   told = ap (λ (ks : List Kept). slice_set ks k (kept_of_cell c)) a.told ∙ sym (map-set kept_of_cell cells k c);

@@ -18,11 +18,13 @@ map-replicate {X} {Y} f zero x = refl
 map-replicate {X} {Y} f (suc n) x = ap (λ (ys : List Y). f x ∷ ys) (map-replicate f n x)
 
 -- what is kept of a number is what its standing says
-pub kept-there : {T : Type 0} {home : Home} {kept : List Kept} {standings : Entries Standing} {values : List (Option T)} (k : ℕ) → AreKept home kept standings values → slice_index_or kept k (whole kind.Free) ≡ kept_of (slice_index_or standings k None)
+pub kept-there : {T : Type 0} {home : Home} {kept : List Kept} {standings : Entries Standing} {values : List (Option T)} (k : ℕ) →
+    AreKept home kept standings values → slice_index_or kept k (whole kind.Free) ≡ kept_of (slice_index_or standings k None)
 kept-there {T} {home} {kept} {standings} k a = ap (λ (ks : List Kept). slice_index_or ks k (whole kind.Free)) a.told ∙ get_or-map kept_of standings k None
 
 -- a value is there where a standing is
-pub filled-there : {T : Type 0} {home : Home} {kept : List Kept} {standings : Entries Standing} {values : List (Option T)} (k : ℕ) → AreKept home kept standings values → is_some (slice_index_or values k None) ≡ is_some (slice_index_or standings k None)
+pub filled-there : {T : Type 0} {home : Home} {kept : List Kept} {standings : Entries Standing} {values : List (Option T)} (k : ℕ) →
+    AreKept home kept standings values → is_some (slice_index_or values k None) ≡ is_some (slice_index_or standings k None)
 filled-there {T} {home} {kept} {standings} {values} k a =
     sym (get_or-map is_some values k None) ∙ ap (λ (bs : List Bool). slice_index_or bs k false) a.filled ∙ get_or-map is_some standings k None
 
@@ -41,13 +43,18 @@ some-waiting None h = cc
 some-waiting (Some s) h = refl
 
 -- what is kept as owned stands as owned
-pub owned-there : {T : Type 0} {home : Home} {kept : List Kept} {standings : Entries Standing} {values : List (Option T)} (k : ℕ) → AreKept home kept standings values → (slice_index_or kept k (whole kind.Free)).kind ≡ kind.Owned → slice_index_or standings k None ≡ Some Owned
+pub owned-there : {T : Type 0} {home : Home} {kept : List Kept} {standings : Entries Standing} {values : List (Option T)} (k : ℕ) →
+    AreKept home kept standings values → (slice_index_or kept k (whole kind.Free)).kind ≡ kind.Owned →
+    slice_index_or standings k None ≡ Some Owned
 owned-there k a e = owned-only _ (ap (λ (x : Kept). x.kind) (sym (kept-there k a)) ∙ e)
 
 -- what is in the place of a slot is a value where a standing is
-pub filled-here : {T : Type 0} {home : Home} {kept : List Kept} {standings : Entries Standing} {values : List (Option T)} (k : ℕ) (v : Option T) → AreKept home kept standings values → k < home.size → v ≡ slice_index_or values k v → is_some v ≡ is_some (slice_index_or standings k None)
+pub filled-here : {T : Type 0} {home : Home} {kept : List Kept} {standings : Entries Standing} {values : List (Option T)} (k : ℕ)
+    (v : Option T) → AreKept home kept standings values → k < home.size → v ≡ slice_index_or values k v →
+    is_some v ≡ is_some (slice_index_or standings k None)
 filled-here {T} {home} {kept} {standings} {values} k v a h e =
-    let sized : length values ≡ home.size = sym (length-map values is_some) ∙ ap (λ (bs : List Bool). length bs) a.filled ∙ length-map standings is_some ∙ a.sized in
+    let sized : length values ≡ home.size =
+    sym (length-map values is_some) ∙ ap (λ (bs : List Bool). length bs) a.filled ∙ length-map standings is_some ∙ a.sized in
     let inside : k < length values = omega (arith, sized, h) in
     ap is_some (get_or_read values k v inside e None) ∙ filled-there k a
 
@@ -71,15 +78,20 @@ inside-some (e ∷ es) zero h = omega arith
 inside-some (e ∷ es) (suc k) h = omega (arith, inside-some es k h)
 
 -- a slot and its value change together
-pub keeps : {T : Type 0} {home : Home} {kept : List Kept} {standings : Entries Standing} {values : List (Option T)} (k : ℕ) (s : Option Standing) (v : Option T) → is_some v ≡ is_some s → AreKept home kept standings values → AreKept home (slice_set kept k (kept_of s)) (slice_set standings k s) (slice_set values k v)
+pub keeps : {T : Type 0} {home : Home} {kept : List Kept} {standings : Entries Standing} {values : List (Option T)} (k : ℕ)
+    (s : Option Standing) (v : Option T) → is_some v ≡ is_some s → AreKept home kept standings values →
+    AreKept home (slice_set kept k (kept_of s)) (slice_set standings k s) (slice_set values k v)
 keeps {T} {home} {kept} {standings} {values} k s v e a = record {
   sized = length-set standings k s ∙ a.sized;
   told = ap (λ (ks : List Kept). slice_set ks k (kept_of s)) a.told ∙ sym (map-set kept_of standings k s);
-  filled = map-set is_some values k v ∙ ap (λ (bs : List Bool). slice_set bs k (is_some v)) a.filled ∙ ap (λ (b : Bool). slice_set (map is_some standings) k b) e ∙ sym (map-set is_some standings k s);
+  filled = map-set is_some values k v ∙ ap (λ (bs : List Bool). slice_set bs k (is_some v)) a.filled
+      ∙ ap (λ (b : Bool). slice_set (map is_some standings) k b) e ∙ sym (map-set is_some standings k s);
 }
 
 -- a slot that is not free stands otherwise, with its value
-pub keeps-value : {T : Type 0} {home : Home} {kept : List Kept} {standings : Entries Standing} {values : List (Option T)} (k : ℕ) (s : Option Standing) → is_some s ≡ is_some (slice_index_or standings k None) → AreKept home kept standings values → AreKept home (slice_set kept k (kept_of s)) (slice_set standings k s) values
+pub keeps-value : {T : Type 0} {home : Home} {kept : List Kept} {standings : Entries Standing} {values : List (Option T)} (k : ℕ)
+    (s : Option Standing) → is_some s ≡ is_some (slice_index_or standings k None) → AreKept home kept standings values →
+    AreKept home (slice_set kept k (kept_of s)) (slice_set standings k s) values
 keeps-value {T} {home} {kept} {standings} {values} k s e a = record {
   sized = length-set standings k s ∙ a.sized;
   told = ap (λ (ks : List Kept). slice_set ks k (kept_of s)) a.told ∙ sym (map-set kept_of standings k s);
@@ -92,7 +104,8 @@ no-value (Some x) None e h = cc
 no-value (Some x) (Some s) e h = cc
 
 -- where every slot is free there is no value
-pub no-values : {T : Type 0} (values : List (Option T)) (standings : Entries Standing) → map is_some values ≡ map is_some standings → All (λ s. IsNone s) standings → All (λ v. IsNone v) values
+pub no-values : {T : Type 0} (values : List (Option T)) (standings : Entries Standing) →
+    map is_some values ≡ map is_some standings → All (λ s. IsNone s) standings → All (λ v. IsNone v) values
 no-values [] standings e h k d lt = absurd (omega arith)
 no-values (v ∷ vs) [] e h k d lt = cc
 no-values (v ∷ vs) (s ∷ ss) e h zero d lt = no-value v s (cc) (h zero s (omega arith))

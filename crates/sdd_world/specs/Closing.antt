@@ -55,7 +55,8 @@ Names w (atomic_owned c home) k = held_in (entry_at w.cells c) ≡ Some k
 -- the item in the slot goes with what waits: it waits itself, or the value of an item that goes gives up its owner
 pub data Goes {T : Type 0} (holds : T → List Holding) (w : World T) : ℕ → Type 0 where
   waits : (k : ℕ) → IsWaiting (standing_at w k) → Goes holds w k
-  given : (k j : ℕ) (value : T) (h : Holding) → Goes holds w j → value_at w j ≡ Some value → Contains (holds value) h → Names w h k → standing_at w k ≡ Some Owned → Goes holds w k
+  given : (k j : ℕ) (value : T) (h : Holding) → Goes holds w j → value_at w j ≡ Some value → Contains (holds value) h →
+      Names w h k → standing_at w k ≡ Some Owned → Goes holds w k
 
 -- so does the cell: the value of an item that goes holds it
 pub record GoesCell {T : Type 0} (holds : T → List Holding) (w : World T) (c : ℕ) : Type 0 where

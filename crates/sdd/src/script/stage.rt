@@ -159,7 +159,8 @@ impl Stage {
         ensures tied { IsTied (self.old.moment + 1) self.new }
         ensures limits { KeepsLimits self.old self.new }
         ensures refused { OnErr result (self.new ≡ self.old) }
-        ensures meets { IfOk result (λ answer. (answer.ran ≡ []) × Meets (desk_of self.old) (Call.At (record { 0 = place }) action.now) answer.reply answer.reclaimed (desk_of self.new)) }
+        ensures meets { IfOk result (λ answer. (answer.ran ≡ [])
+            × Meets (desk_of self.old) (Call.At (record { 0 = place }) action.now) answer.reply answer.reclaimed (desk_of self.new)) }
     {
         if place >= self.places.len() as u64 {
             return Ok(self.answer(Reply::Invalid));

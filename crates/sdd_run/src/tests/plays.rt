@@ -6,8 +6,9 @@ use sdd::{Action, Call, Ended, Limits, PlaceName, Reader, Refused, Tally, Writer
 use std::alloc::Global;
 
 /// The shortest way of an item: it is made and retired, and goes at the third later opening that finds another epoch.
-const SHORTEST_WAY: &str =
-    "register\np0 owned 7\np0 retire o0\np0 open\np0 accelerate g0\np0 close g0\np0 open\np0 accelerate g1\np0 close g1\np0 open\np0 accelerate g2\np0 close g2\np0 open\np0 garbage g3\ntally\n";
+const SHORTEST_WAY: &str = "register\np0 owned 7\np0 retire o0\n\
+    p0 open\np0 accelerate g0\np0 close g0\np0 open\np0 accelerate g1\np0 close g1\n\
+    p0 open\np0 accelerate g2\np0 close g2\np0 open\np0 garbage g3\ntally\n";
 
 const ITS_ANSWERS: &str =
     "p0\no0 i0\nok\ng0 epoch 0\nok\nok\ng1 epoch 1\nok\nok\ng2 epoch 2\nok\nok\ng3 epoch 3 reclaimed i0\nfalse\nmade 1 reclaimed 1 in place 0\n";

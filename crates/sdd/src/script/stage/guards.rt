@@ -36,7 +36,8 @@ impl Stage {
         ensures tied { IsTied (self.old.moment + 1) self.new }
         ensures limits { KeepsLimits self.old self.new }
         ensures refused { OnErr result (self.new ≡ self.old) }
-        ensures meets { IfOk result (λ answer. (answer.ran ≡ []) × Meets (desk_of self.old) (Call.At (record { 0 = place }) Action.Open) answer.reply answer.reclaimed (desk_of self.new)) }
+        ensures meets { IfOk result (λ answer. (answer.ran ≡ [])
+            × Meets (desk_of self.old) (Call.At (record { 0 = place }) Action.Open) answer.reply answer.reclaimed (desk_of self.new)) }
     {
         let reclaimed = self.names_to_go(place)?;
         let is_nested = is_open(&self.world, &self.places[place]);
@@ -187,7 +188,8 @@ fn open_at(world: &mut World<Val>, place: &Place) -> Result<(Guard, Epoch), Refu
     requires place { IsPlaceOf world.old (index_of place.now) }
     ensures place { IfOk result (λ opened. place_of opened.0 ≡ index_of place.now) }
     ensures opened { MatchResult result
-        (λ given. CanNest world.old.time (index_of place.now) × (world.new ≡ opened holdings_of world.old (index_of place.now)) × (given.1 ≡ epoch_of world.new.time.count))
+        (λ given. CanNest world.old.time (index_of place.now)
+        × (world.new ≡ opened holdings_of world.old (index_of place.now)) × (given.1 ≡ epoch_of world.new.time.count))
         (λ refused. (refused ≡ Refused.TooManyGuards) × ¬ (CanNest world.old.time (index_of place.now)) × (world.new ≡ world.old)) }
 {
     let mut turn = world.at(place);

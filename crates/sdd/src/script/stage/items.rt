@@ -46,7 +46,8 @@ impl Stage {
         requires more { self.old.moment < self.old.calls }
         requires home { slots_home owner ≡ self.old.world.home.slots }
         requires inside { slot_of owner < length self.old.world.standings }
-        requires fresh { (i : ℕ) → IsThere (slice_index_or self.old.items.items i nothing).fate → (slice_index_or self.old.items.items i nothing).slot ≢ slot_of owner }
+        requires fresh { (i : ℕ) → IsThere (slice_index_or self.old.items.items i nothing).fate →
+            (slice_index_or self.old.items.items i nothing).slot ≢ slot_of owner }
         ensures tied { IsTied (self.old.moment + 1) self.new }
         ensures limits { KeepsLimits self.old self.new }
         ensures named { result ≡ Reply.Item (record { 0 = length (desk_of self.old).owners }) (record { 0 = length (desk_of self.old).items }) }
@@ -118,7 +119,8 @@ impl Stage {
     fn slot_since(&self, name: ItemName, moment: u64) -> Option<u32>
         ensures { MatchOption result
             (¬ (IsThereSince moment (slice_index_or self.now.items.items name.0 nothing).fate))
-            (λ slot. IsThereSince moment (slice_index_or self.now.items.items name.0 nothing).fate × (slot ≡ (slice_index_or self.now.items.items name.0 nothing).slot)) }
+            (λ slot. let item = slice_index_or self.now.items.items name.0 nothing in
+            IsThereSince moment item.fate × (slot ≡ item.slot)) }
     {
         let state = self.items.get(usize::try_from(name.0).ok()?)?;
         match state.fate {

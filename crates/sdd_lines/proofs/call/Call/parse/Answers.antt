@@ -5,7 +5,8 @@ use Rattle.sdd_lines.proofs.Lines.{call_at_answers, short_from_call, not_utf8, u
 use Rattle.sdd_lines.proofs.call.Call.parse.Goals as goal
 
 pub returns-in_err-ok-clause-call : goal.returns-in_err-ok-clause-call
-returns-in_err-ok-clause-call c = rw c.from_residual.ensures (not_utf8 c.args.line.now c.from_utf8.result _ _ c.in_err-ok.ensures.value c.from_utf8.ensures.cases)
+returns-in_err-ok-clause-call c =
+    rw c.from_residual.ensures (not_utf8 c.args.line.now c.from_utf8.result _ _ c.in_err-ok.ensures.value c.from_utf8.ensures.cases)
 
 -- what was read of the text is so of the line
 answer : goal.returns-clause-call

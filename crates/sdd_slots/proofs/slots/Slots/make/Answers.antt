@@ -12,4 +12,5 @@ put-requires g c =
     none-of _ (filled-here c.in-Ok.slot c.index_mut.result.now c.self.invariant inside c.index_mut.ensures.value ∙ ap is_some empty.1)
 
 pub invariant_of-self-2 : goal.invariant_of-self-2
-invariant_of-self-2 g c = rw (c.grant.ensures.home, c.grant.ensures.kept, c.in-Ok.ensures.claimed.1, c.put.ensures) (keeps c.in-Ok.slot (Some Owned) (Some c.args.value) refl c.self.invariant)
+invariant_of-self-2 g c = rw (c.grant.ensures.home, c.grant.ensures.kept, c.in-Ok.ensures.claimed.1, c.put.ensures)
+    (keeps c.in-Ok.slot (Some Owned) (Some c.args.value) refl c.self.invariant)

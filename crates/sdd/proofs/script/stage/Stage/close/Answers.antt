@@ -7,7 +7,8 @@ use Rattle.sdd.proofs.script.stage.Stage.close.Goals as goal
 pub unreachable-requires : goal.unreachable-requires
 unreachable-requires c =
     let w = c.close_guards.new.self.world in
-    let out = has_left c.close_guards.new.self c.close_guards.ensures.leaves c.close_guards.ensures.closed (ap (λ os. os.items) c.close_guards.ensures.owners ∙ c.retire_owners.ensures.spent) in
+    let out = has_left c.close_guards.new.self c.close_guards.ensures.leaves c.close_guards.ensures.closed
+    (ap (λ os. os.items) c.close_guards.ensures.owners ∙ c.retire_owners.ensures.spent) in
     elim c.in-Err.ensures.closed [
       | inl guarded ↦ left_unguarded w [] out guarded.1
       | inr held ↦ held.3 (left_ends w c.in-Err.field-0.0 [] out held.2).free
@@ -17,7 +18,8 @@ unreachable-requires c =
 ended : (c : goal.In-Ok) → IsEnded c.args.self.world.tally.made (c.in-Ok.ensures.closed.1.0)
 ended c =
     let s = c.close_guards.new.self in
-    let out = has_left s c.close_guards.ensures.leaves c.close_guards.ensures.closed (ap (λ os. os.items) c.close_guards.ensures.owners ∙ c.retire_owners.ensures.spent) in
+    let out = has_left s c.close_guards.ensures.leaves c.close_guards.ensures.closed
+    (ap (λ os. os.items) c.close_guards.ensures.owners ∙ c.retire_owners.ensures.spent) in
     let made = ap (λ (t : Tally). t.made) (c.close_guards.ensures.tally ∙ c.retire_owners.ensures.tally) in
     subst (λ (n : ℕ). IsEnded n c.in-Ok.ensures.closed.1.0) made (left_ends s.world c.in-Ok.ensures.closed.1.0 [] out c.in-Ok.ensures.closed.1.1)
 

@@ -13,8 +13,12 @@ returns-in-Some-open_guard-clause-does c =
     let tied = c.requires.tied in
     let inside = c.requires.place in
     let opening : c.index.result.now ≡ slice_index_or c.args.self.now.openings.items c.args.place 0 =
-    get_or_read_under c.args.self.now.openings.items c.args.place (length c.args.self.now.openings.items) c.index.result.now 0 c.index.ensures (let a = tied.taken in let b = tied.opened in omega (arith, a, b)) refl in
+    get_or_read_under c.args.self.now.openings.items c.args.place
+    (length c.args.self.now.openings.items) c.index.result.now 0 c.index.ensures
+    (let a = tied.taken in let b = tied.opened in omega (arith, a, b)) refl in
     let since = subst (λ (moment : ℕ). IsThereSince moment item.fate) opening c.in-Some.ensures.0 in
-    let guard = subst (λ (guards : List (Option Guard)). slice_index_or (map guard_place guards) c.args.name.0 None ≡ Some c.args.place) c.as_slice.ensures.value (c.in-Some-open_guard.ensures.open.0 refl) in
+    let guard = subst (λ (guards : List (Option Guard)). slice_index_or
+    (map guard_place guards) c.args.name.0 None ≡ Some c.args.place) c.as_slice.ensures.value
+    (c.in-Some-open_guard.ensures.open.0 refl) in
     let shown = c.number_shown.ensures in
     ((inside, guard, since), ((shown.0, ap (λ (k : ℕ). value_at c.args.self.now.world k) (sym c.in-Some.ensures.1) ∙ shown.1, shown.2), refl, refl))

@@ -25,7 +25,9 @@ returns-clause-tied c =
     let places = ap (λ (w : World Val). length w.time.places) retires ∙ length-set s.world.time.places _ _ in
     let standings = ap (λ (w : World Val). length w.standings) retires ∙ length-set s.world.standings _ _ in
     let home = ap (λ (w : World Val). w.home) retires in
-    tied_later s.moment _ (tied_spent s.moment s c.retire_item.new.world c.take_held.new.owners c.set_fate.new.items c.args.name.0 held.item (Retired s.moment) tied there c.take_held.ensures.spent c.take_held.ensures.room c.set_fate.ensures.items c.set_fate.ensures.room home places standings)
+    tied_later s.moment _ (tied_spent s.moment s c.retire_item.new.world c.take_held.new.owners c.set_fate.new.items c.args.name.0
+    held.item (Retired s.moment) tied there c.take_held.ensures.spent c.take_held.ensures.room c.set_fate.ensures.items
+    c.set_fate.ensures.room home places standings)
 
 pub returns-clause-does : goal.returns-clause-does
 returns-clause-does c =
@@ -34,7 +36,11 @@ returns-clause-does c =
     let is : Some held ≡ slice_index_or s.owners.items c.args.name.0 None = c.in-Some.ensures.held in
     let owner = item_held s.owners.items c.args.name.0 held is in
     let owns = owner_held s.world.home.slots s.items.items s.owners.items c.args.name.0 held c.requires.tied.owners is in
-    let index : index_of c.index.result.now ≡ c.args.place = place_index s.moment s c.args.place c.index.result.now c.requires.tied c.requires.place c.index.ensures in
+    let index : index_of c.index.result.now ≡ c.args.place =
+    place_index s.moment s c.args.place c.index.result.now c.requires.tied c.requires.place c.index.ensures in
     let retires : c.retire_item.new.world ≡ retired s.world c.args.place (slot_of held.owner) =
     c.retire_item.ensures ∙ ap (λ (p : ℕ). retired s.world p (slot_of held.owner)) index in
-    meets-retired (desk_of s) c.retire_item.new.world c.args.place c.args.name.0 held.item (slot_of held.owner) (map held_item c.take_held.new.owners.items) c.set_fate.new.items.items c.requires.place owner owns.slot_is retires (ap (λ (os : List (Option Held)). map held_item os) c.take_held.ensures.spent ∙ map-set held_item s.owners.items c.args.name.0 None) c.set_fate.ensures.items
+    meets-retired (desk_of s) c.retire_item.new.world c.args.place c.args.name.0 held.item (slot_of held.owner)
+    (map held_item c.take_held.new.owners.items) c.set_fate.new.items.items c.requires.place owner owns.slot_is retires
+    (ap (λ (os : List (Option Held)). map held_item os) c.take_held.ensures.spent
+    ∙ map-set held_item s.owners.items c.args.name.0 None) c.set_fate.ensures.items

@@ -19,12 +19,16 @@ index : (c : goal.After-index) → index_of c.index.result.now ≡ 0
 index c =
     let s = c.loop-held.self in
     let leaves = c.loop-held.invariant.leaves in
-    numbered s 0 c.index.result.now leaves (some-place s c.pop.new.self c.in-Some.held leaves c.in-Some.ensures.items c.in-Some-held.field-0 c.in-Some-held.is) c.index.ensures
+    numbered s 0 c.index.result.now leaves
+    (some-place s c.pop.new.self c.in-Some.held leaves c.in-Some.ensures.items c.in-Some-held.field-0 c.in-Some-held.is)
+    c.index.ensures
 
 pub retire_item-requires-clause-place : goal.retire_item-requires-clause-place
 retire_item-requires-clause-place c =
     let s = c.loop-held.self in
-    subst (λ (p : ℕ). p < length s.world.time.places) (sym (index c)) (some-place s c.pop.new.self c.in-Some.held c.loop-held.invariant.leaves c.in-Some.ensures.items c.in-Some-held.field-0 c.in-Some-held.is)
+    subst (λ (p : ℕ). p < length s.world.time.places) (sym (index c))
+    (some-place s c.pop.new.self c.in-Some.held c.loop-held.invariant.leaves c.in-Some.ensures.items c.in-Some-held.field-0
+    c.in-Some-held.is)
 
 pub loop-held-preserved-in-Some-held : goal.loop-held-preserved-in-Some-held
 loop-held-preserved-in-Some-held c =
@@ -32,7 +36,9 @@ loop-held-preserved-in-Some-held c =
     let held = c.in-Some-held.field-0 in
     let leaves = c.loop-held.invariant.leaves in
     let lt = some-place s c.pop.new.self c.in-Some.held leaves c.in-Some.ensures.items held c.in-Some-held.is in
-    let retires : c.retire_item.new.world ≡ retired s.world 0 (slot_of held.owner) = c.retire_item.ensures ∙ ap (λ (p : ℕ). retired s.world p (slot_of held.owner)) (numbered s 0 c.index.result.now leaves lt c.index.ensures) in
+    let retires : c.retire_item.new.world ≡ retired s.world 0 (slot_of held.owner) =
+    c.retire_item.ensures ∙ ap (λ (p : ℕ). retired s.world p (slot_of held.owner))
+    (numbered s 0 c.index.result.now leaves lt c.index.ensures) in
     record {
       leaves = leaves-retired s c.pop.new.self c.in-Some.held leaves c.in-Some.ensures.items held c.in-Some-held.is c.retire_item.new.world 0 lt retires;
       tally = ap (λ (w : World Val). w.tally) retires ∙ c.loop-held.invariant.tally;

@@ -14,7 +14,8 @@ loop-name-preserved c =
     let items = c.loop-name.items.items in
     let become = c.set_fate.ensures.items in
     record {
-      gone = ap (λ (xs : List ItemState). all_gone xs (drop (i + 1) names)) become ∙ sym (all_gone-drop items names i (record { 0 = 0 }) c.loop-name-test.true) ∙ c.loop-name.invariant.gone;
+      gone = ap (λ (xs : List ItemState). all_gone xs (drop (i + 1) names)) become
+          ∙ sym (all_gone-drop items names i (record { 0 = 0 }) c.loop-name-test.true) ∙ c.loop-name.invariant.gone;
       long = ap (λ (xs : List ItemState). length xs) become ∙ with_fate-length items _ Gone ∙ c.loop-name.invariant.long;
       room = c.set_fate.ensures.room ∙ c.loop-name.invariant.room;
     }
@@ -22,4 +23,5 @@ loop-name-preserved c =
 pub returns-clause-items : goal.returns-clause-items
 returns-clause-items c =
     let done = c.loop-name-test.false in
-    ap (λ (ns : List ItemName). all_gone c.loop-name.items.items ns) (sym (drop_all c.loop-name.name-index c.args.names.now (omega (arith, done)))) ∙ c.loop-name.invariant.gone
+    ap (λ (ns : List ItemName). all_gone c.loop-name.items.items ns)
+    (sym (drop_all c.loop-name.name-index c.args.names.now (omega (arith, done)))) ∙ c.loop-name.invariant.gone

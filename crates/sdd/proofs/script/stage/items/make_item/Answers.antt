@@ -15,7 +15,9 @@ returns-in-Ok-clause-made c =
     let slot = c.in-Ok.ensures.exact refl in
     let start : c.at-turn.result.world.now ≡ c.args.world.now = c.at-turn.ensures.world in
     let made : Makes c.at-turn.result.world.now c.args.number (slot_of c.in-Ok.owner) c.new-2.new.s.world.now =
-    makes-item c.at-turn.result.world.now c.null.new.s.world.now c.new-2.new.s.world.now (cell_of c.in_ok-link.link) (slot_of c.in-Ok.owner) c.args.number c.new.result cell.0 cell.1 slot.0 slot.1 c.new.ensures.body c.new.ensures.link (c.new.ensures.home ∙ c.in_ok-link.ensures.home) in
+    makes-item c.at-turn.result.world.now c.null.new.s.world.now c.new-2.new.s.world.now (cell_of c.in_ok-link.link)
+    (slot_of c.in-Ok.owner) c.args.number c.new.result cell.0 cell.1 slot.0 slot.1 c.new.ensures.body c.new.ensures.link
+    (c.new.ensures.home ∙ c.in_ok-link.ensures.home) in
     let all = subst (λ (w : World Val). Makes w c.args.number (slot_of c.in-Ok.owner) c.new-2.new.s.world.now) start made in
     let loan = ap (λ (s : Seat). s.loan) (c.new-2.ensures.seat ∙ c.null.ensures.seat) ∙ c.at-turn.ensures.loan in
     let end = c.world-in-Ok-1.given.1 (sym loan) ∙ c.drop-turn-in-Ok.ensures in
@@ -29,7 +31,8 @@ returns-clause-made c =
     let link = c.into_link.ensures.link ∙ ap (λ (v : Val). link_of v) (ap (λ x. x.0) full.1) ∙ c.new.ensures.link in
     let start : c.at-turn.result.world.now ≡ c.args.world.now = c.at-turn.ensures.world in
     let refused : c.in-Err.refused ≡ NoSlot = ap (λ x. x.1) full.1 in
-    let both = refuses-slot c.at-turn.result.world.now c.null.new.s.world.now c.new-2.new.s.world.now c.close.new.s.world.now c.new-2.new.s.place (cell_of c.in_ok-link.link) (cell_of c.into_link.result) cell.0 cell.1 full.2 link full.0 closed in
+    let both = refuses-slot c.at-turn.result.world.now c.null.new.s.world.now c.new-2.new.s.world.now c.close.new.s.world.now
+    c.new-2.new.s.place (cell_of c.in_ok-link.link) (cell_of c.into_link.result) cell.0 cell.1 full.2 link full.0 closed in
     let all = subst (λ (w : World Val). RefusesItem w NoSlot × (c.close.new.s.world.now ≡ w)) start both in
     let loan = ap (λ (s : Seat). s.loan) (c.close.ensures.seat ∙ c.new-2.ensures.seat ∙ c.null.ensures.seat) ∙ c.at-turn.ensures.loan in
     let end = c.world-2-1.given.1 (sym loan) ∙ c.drop-turn-2.ensures in

@@ -1,11 +1,11 @@
 //! The texts of answers.
 
-use crate::{
+use sdd_core::Refused;
+use sdd_core::inner::epoch_of_count;
+use sdd_lines::{
     Answer, GuardName, ItemName, JobName, Names, OwnerName, PlaceName, Reply, print_all,
     print_fault,
 };
-use sdd_core::inner::epoch_of_count;
-use sdd_core::{Epoch, Refused};
 use sdd_store::Tally;
 use std::alloc::{AllocError, Global};
 use std::test::Fail;

@@ -1,7 +1,7 @@
 //! Lines that are calls, and lines that are none.
 
-use crate::{Action, Call, GuardName, ItemName, OwnerName, PlaceName, Script, parse_all};
-use std::alloc::{AllocError, Global};
+use sdd_lines::{Action, Call, GuardName, ItemName, OwnerName, PlaceName, Script, parse_all};
+use std::alloc::Global;
 use std::test::Fail;
 
 #[test]
@@ -100,14 +100,6 @@ fn read(alloc: Global, text: &[u8]) -> Result<Outcome, Fail> {
     })
 }
 
-fn registers(alloc: Global, lines: usize) -> Result<String, AllocError> {
-    let mut text = String::new(alloc);
-    for _ in 0..lines {
-        text.push_str("register\n")?;
-    }
-    Ok(text)
-}
-
 #[test]
 fn texts_are_scripts(rt: HostRuntime) -> Result<(), Fail> {
     let alloc = rt.alloc();
@@ -124,15 +116,5 @@ fn texts_are_scripts(rt: HostRuntime) -> Result<(), Fail> {
     ] {
         assert_eq!(rt; read(alloc, text.as_bytes())?, want, "{text:?}");
     }
-    Ok(())
-}
-
-#[test]
-fn a_script_has_a_most_of_calls(rt: HostRuntime) -> Result<(), Fail> {
-    let alloc = rt.alloc();
-    let most = registers(alloc, 65536)?;
-    assert_eq!(rt; read(alloc, most.as_bytes())?, Outcome::Calls(65536));
-    let more = registers(alloc, 65537)?;
-    assert_eq!(rt; read(alloc, more.as_bytes())?, Outcome::Fault(65537));
     Ok(())
 }
