@@ -35,9 +35,9 @@ fn main(rt: HostRuntime) -> io::Result<ExitCode> {
         return Ok(ExitCode::from(2));
     };
     match done(&rt, operation, turns) {
-        Ok(tally) => {
+        Ok((tally, sum)) => {
             println!(rt;
-                "{turns} turns, {} made, {} reclaimed",
+                "{turns} turns, {} made, {} reclaimed, sum {sum}",
                 tally.made, tally.reclaimed
             )?;
             Ok(ExitCode::from(0))
@@ -59,11 +59,15 @@ fn asked(words: &[String]) -> Option<(Operation, u64)> {
     Some((operation, turns))
 }
 
-fn done<R: Wait + AllocGlobal>(rt: &R, operation: Operation, turns: u64) -> Result<Tally, Refused> {
+fn done<R: Wait + AllocGlobal>(
+    rt: &R,
+    operation: Operation,
+    turns: u64,
+) -> Result<(Tally, u64), Refused> {
     match operation {
         Operation::World(guarding) => world::run(rt, LIMITS, Work::Guards(guarding), turns),
         Operation::Item => world::run(rt, LIMITS, Work::Items, turns),
         Operation::Read => world::run(rt, LIMITS, Work::Reads, turns),
-        Operation::Local(guarding) => local::run(rt, LIMITS, guarding, turns),
+        Operation::Local(guarding) => Ok((local::run(rt, LIMITS, guarding, turns)?, 0)),
     }
 }

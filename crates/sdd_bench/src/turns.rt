@@ -78,7 +78,7 @@ pub fn items<S: Space<u64>>(space: &mut S, turns: u64) -> Result<(), Refused>
 
 /// The sum of what two owners found in turn.
 ///
-/// It is the turn's number that decides which one looks, so that no look can be left out.
+/// What was found so far decides which one looks, so that no look can be left out.
 pub fn reads<L: Look<u64>>(space: &L, one: &Owned<u64>, other: &Owned<u64>, turns: u64) -> u64
     requires one { slots_home one.now ≡ (L.home space.now).slots }
     requires other { slots_home other.now ≡ (L.home space.now).slots }

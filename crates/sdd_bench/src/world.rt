@@ -19,34 +19,35 @@ pub enum Work {
     Reads,
 }
 
-/// Does the work that often, and answers the tally with which the world is closed.
+/// Does the work that often, and answers the tally with which the world is closed, and the sum of what owners found.
 pub fn run<R: Wait + AllocGlobal>(
     rt: &R,
     limits: Limits,
     work: Work,
     turns: u64,
-) -> Result<Tally, Refused> {
+) -> Result<(Tally, u64), Refused> {
     let mut world = World::new(rt.alloc(), limits)?;
     let done = in_world(&mut world, work, turns);
     let tally = closed(rt, world);
-    done?;
-    Ok(tally)
+    let sum = done?;
+    Ok((tally, sum))
 }
 
-fn in_world(world: &mut World<u64>, work: Work, turns: u64) -> Result<(), Refused> {
+fn in_world(world: &mut World<u64>, work: Work, turns: u64) -> Result<u64, Refused> {
     let place = world.register()?;
     let mut turn = world.at(&place);
     match work {
-        Work::Guards(guarding) => turns::guards(&mut turn, guarding, turns),
-        Work::Items => turns::items(&mut turn, turns),
+        Work::Guards(guarding) => turns::guards(&mut turn, guarding, turns)?,
+        Work::Items => turns::items(&mut turn, turns)?,
         Work::Reads => {
             drop(turn);
-            reads(world, &place, turns)
+            return reads(world, &place, turns);
         }
     }
+    Ok(0)
 }
 
-fn reads(world: &mut World<u64>, place: &Place, turns: u64) -> Result<(), Refused>
+fn reads(world: &mut World<u64>, place: &Place, turns: u64) -> Result<u64, Refused>
     requires { IsPlaceOf world.old (index_of place.now) }
 {
     let mut turn = world.at(place);
@@ -59,11 +60,7 @@ fn reads(world: &mut World<u64>, place: &Place, turns: u64) -> Result<(), Refuse
             let sum = turns::reads(&turn, &one, &other, turns);
             one.retire(&mut turn);
             other.retire(&mut turn);
-            if sum == 0 {
-                Err(Refused::NoSlot)
-            } else {
-                Ok(())
-            }
+            Ok(sum)
         }
         Err((_value, refused)) => {
             one.retire(&mut turn);
