@@ -1,0 +1,73 @@
+//! The program `sdd-bench`: does an operation so often, for whoever counts its instructions.
+#![tactic(auto)]
+
+mod local;
+mod operation;
+mod turns;
+mod world;
+
+use operation::{Operation, named};
+use sdd_base::Limits;
+use sdd_core::Refused;
+use sdd_store::Tally;
+use std::process::ExitCode;
+use std::rt::Env;
+use std::sync::Wait;
+use std::{env, io};
+use world::Work;
+
+const USAGE: &str = "usage: sdd-bench OPERATION TURNS";
+
+/// A thousand items wait at most: three times 128, and a few more.
+const LIMITS: Limits = Limits {
+    participants: 1,
+    slots: 1024,
+    cells: 1,
+    jobs: 0,
+    nesting: 2,
+    tries: 1,
+};
+
+fn main(rt: HostRuntime) -> io::Result<ExitCode> {
+    let words = env::args(&rt)?.skip(1).collect::<Vec<String>>(rt.alloc())?;
+    let Some((operation, turns)) = asked(words.as_slice()) else {
+        println!(rt; "{USAGE}")?;
+        return Ok(ExitCode::from(2));
+    };
+    match done(&rt, operation, turns) {
+        Ok((tally, sum)) => {
+            println!(rt;
+                "{turns} turns, {} made, {} reclaimed, sum {sum}",
+                tally.made, tally.reclaimed
+            )?;
+            Ok(ExitCode::from(0))
+        }
+        Err(refused) => {
+            println!(rt; "refused: {refused}")?;
+            Ok(ExitCode::from(1))
+        }
+    }
+}
+
+/// The operation, and how often.
+fn asked(words: &[String]) -> Option<(Operation, u64)> {
+    let [word, turns] = words else {
+        return None;
+    };
+    let operation = named(word.as_str())?;
+    let turns = turns.as_str().parse::<u64>().ok()?;
+    Some((operation, turns))
+}
+
+fn done<R: Wait + AllocGlobal>(
+    rt: &R,
+    operation: Operation,
+    turns: u64,
+) -> Result<(Tally, u64), Refused> {
+    match operation {
+        Operation::World(guarding) => world::run(rt, LIMITS, Work::Guards(guarding), turns),
+        Operation::Item => world::run(rt, LIMITS, Work::Items, turns),
+        Operation::Read => world::run(rt, LIMITS, Work::Reads, turns),
+        Operation::Local(guarding) => Ok((local::run(rt, LIMITS, guarding, turns)?, 0)),
+    }
+}

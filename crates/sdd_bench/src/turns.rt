@@ -1,0 +1,96 @@
+//! The loops whose instructions are counted, written once for every space.
+ghost use Rattle.std.specs.Prelude.{◌≡◌};
+ghost use Rattle.sdd_base.specs.Seat.{IsSeated};
+ghost use Rattle.sdd_base.specs.Owned.{slots_home};
+
+use crate::operation::Guarding;
+use sdd_base::{Guard, Guards, Look, Owned, Space};
+use sdd_core::Refused;
+
+/// Does something with guards that often.
+#[inline(always)]
+pub fn guards<S: Guards<u64>>(space: &mut S, guarding: Guarding, turns: u64) -> Result<(), Refused>
+    requires { IsSeated (S.seat space.old) }
+    ensures { S.seat space.new ≡ S.seat space.old }
+{
+    match guarding {
+        Guarding::Outermost => plain(space, turns),
+        Guarding::Nested => nested(space, turns),
+        Guarding::Accelerated => accelerated(space, turns),
+    }
+}
+
+#[inline(always)]
+fn plain<S: Guards<u64>>(space: &mut S, turns: u64) -> Result<(), Refused>
+    requires { IsSeated (S.seat space.old) }
+    ensures { S.seat space.new ≡ S.seat space.old }
+{
+    for _turn in 0..turns {
+        let guard = Guard::new(space)?;
+        guard.close(space);
+    }
+    Ok(())
+}
+
+#[inline(always)]
+fn nested<S: Guards<u64>>(space: &mut S, turns: u64) -> Result<(), Refused>
+    requires { IsSeated (S.seat space.old) }
+    ensures { S.seat space.new ≡ S.seat space.old }
+{
+    let outer = Guard::new(space)?;
+    let done = plain(space, turns);
+    outer.close(space);
+    done
+}
+
+#[inline(always)]
+fn accelerated<S: Guards<u64>>(space: &mut S, turns: u64) -> Result<(), Refused>
+    requires { IsSeated (S.seat space.old) }
+    ensures { S.seat space.new ≡ S.seat space.old }
+{
+    for _turn in 0..turns {
+        let guard = Guard::new(space)?;
+        guard.accelerate(space);
+        guard.close(space);
+    }
+    Ok(())
+}
+
+/// Makes and retires an item under a guard that often.
+#[inline(always)]
+pub fn items<S: Space<u64>>(space: &mut S, turns: u64) -> Result<(), Refused>
+    requires { IsSeated (S.seat space.old) }
+    ensures { S.seat space.new ≡ S.seat space.old }
+{
+    for turn in 0..turns {
+        let guard = Guard::new(space)?;
+        match Owned::new(turn, space) {
+            Ok(owner) => owner.retire(space),
+            Err((_value, refused)) => {
+                guard.close(space);
+                return Err(refused);
+            }
+        }
+        guard.close(space);
+    }
+    Ok(())
+}
+
+/// The sum of what two owners found in turn.
+///
+/// What was found so far decides which one looks, so that no look can be left out.
+pub fn reads<L: Look<u64>>(space: &L, one: &Owned<u64>, other: &Owned<u64>, turns: u64) -> u64
+    requires one { slots_home one.now ≡ (L.home space.now).slots }
+    requires other { slots_home other.now ≡ (L.home space.now).slots }
+{
+    let mut sum = 0u64;
+    for _turn in 0..turns {
+        let value = if sum % 2 == 0 {
+            *one.get(space)
+        } else {
+            *other.get(space)
+        };
+        sum = sum.wrapping_add(value);
+    }
+    sum
+}
