@@ -15,7 +15,8 @@ use Rattle.sdd_store.specs.declared.standing.Standing.{Standing}
 use Rattle.sdd_store.specs.declared.standing.Standing.TheVariants.{Retired}
 use Rattle.sdd_base.specs.World.{World, place_at, standing_at}
 use Rattle.sdd_base.specs.Steps.{rotated, all_reclaimed, changed}
-use Rattle.sdd_world.specs.Closing.{without_waiting, IsGuarded, NothingIsOut, aged_out, all_aged_out, Closes}
+use Rattle.sdd_world.specs.Closing.{without_waiting, NothingIsOut, aged_out, all_aged_out, Closes}
+use Rattle.sdd_base.specs.World.{IsGuarded}
 use Rattle.sdd.specs.declared.script.val.Val.{Val}
 use Rattle.sdd.specs.Val.{holdings_of}
 use Rattle.sdd.specs.Out.{IsTidy, is_of, OnlyOut}

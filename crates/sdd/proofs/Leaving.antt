@@ -11,7 +11,8 @@ use Rattle.sdd_base.specs.World.{World}
 use Rattle.sdd_base.specs.Steps.{retired, closed}
 use Rattle.sdd_base.specs.declared.guard.Guard.{Guard}
 use Rattle.sdd_base.specs.declared.limits.Limits.{Limits}
-use Rattle.sdd_world.specs.Closing.{IsGuarded, Closes}
+use Rattle.sdd_world.specs.Closing.{Closes}
+use Rattle.sdd_base.specs.World.{IsGuarded}
 use Rattle.sdd_lines.specs.declared.call.Call.{Call}
 use Rattle.sdd_lines.specs.declared.answer.Answer.{Answer}
 use Rattle.sdd.specs.declared.script.item.ItemState.{ItemState}

@@ -1,9 +1,11 @@
 -- A participant of a domain as the generic calls see it
 use Rattle.std.specs.Prelude.{◌==◌, [], false}
+use Rattle.std.proofs.Common.{sym}
+use Rattle.std.proofs.lemmas.Bool.{true≢false}
 use Rattle.sdd_store.specs.Tally.{no_items}
 use Rattle.sdd_base.specs.Holding.{Home}
 use Rattle.sdd_base.specs.Known.{Known}
-use Rattle.sdd_base.specs.Seat.{Seat}
+use Rattle.sdd_base.specs.Seat.{Seat, IsExact}
 use Rattle.sdd_base.specs.World.{World}
 use Rattle.sdd_domain.specs.Local.{Member}
 
@@ -35,3 +37,7 @@ no_world = record {
   cells = [];
   tally = no_items;
 }
+
+-- no participant of a domain is an exact space
+pub never_exact : (m : Member) → IsExact (seat_of m) → ⊥
+never_exact m e = true≢false (sym e)

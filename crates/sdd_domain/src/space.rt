@@ -14,7 +14,8 @@ impl<T: Item<T>> Shows<T> for Local<'_> {
 }
 
 impl<T: Item<T>> Guards<T> for Local<'_> {
-    ghost use Rattle.sdd_domain.specs.Space.{seat_of, known_of, no_world};
+    ghost use Rattle.std.specs.Prelude.{refl};
+    ghost use Rattle.sdd_domain.specs.Space.{seat_of, known_of, no_world, never_exact};
 
     ghost seat = { λ l. seat_of l };
 
@@ -53,4 +54,12 @@ impl<T: Item<T>> Guards<T> for Local<'_> {
     fn accelerate(&mut self) {
         Local::accelerate(self);
     }
+
+    ghost home_is_seat = { λ _. refl };
+
+    ghost own_is_place = { λ l exact. absurd (never_exact l exact) };
+
+    ghost shows_is_value = { λ l exact _ _. absurd (never_exact l exact) };
+
+    ghost filled_is_taken = { λ l exact _. absurd (never_exact l exact) };
 }

@@ -1,5 +1,5 @@
 -- The closing of a world sweeps away exactly what goes
-use Rattle.std.proofs.Common.{Bool, true, false, ◌≡◌, ◌≢◌, ◌⊎◌, inl, inr, ℕ, ◌+◌, ◌<◌, List, [], ◌∷◌, length, cond, count_by, sum_by, refl, sym, ap, ◌∙◌, arith, Some, None, Option, zero, suc, slice_index_or, slice_set}
+use Rattle.std.proofs.Common.{subst, Bool, true, false, ◌≡◌, ◌≢◌, ◌⊎◌, inl, inr, ℕ, ◌+◌, ◌<◌, List, [], ◌∷◌, length, cond, count_by, sum_by, refl, sym, ap, ◌∙◌, arith, Some, None, Option, zero, suc, slice_index_or, slice_set}
 use Rattle.std.specs.Prelude.{is_some, IsSome, IsNone, All, Contains, map}
 use Rattle.std.proofs.lemmas.List.{length-set, get_or-set_same, get_or-set_other}
 use Rattle.std.proofs.lemmas.List.Sums.{sum_by-set, sum_by-cons}
@@ -573,7 +573,9 @@ none-counted p none (x ∷ xs) e (suc k) = none-counted p none xs (omega (arith,
 
 all-uncounted : {E : Type 0} (p : Option E → Bool) (xs : List (Option E)) → ((k : ℕ) → p (slice_index_or xs k None) ≡ false) → count_by p xs ≡ 0
 all-uncounted p [] h = refl
-all-uncounted p (x ∷ xs) h = sum_by-cons (λ y. cond (p y) 1 0) x xs ∙ rw (h zero) (all-uncounted p xs (λ k. h (suc k)))
+all-uncounted p (x ∷ xs) h =
+    let here : one_where (p x) ≡ 0 = rw (h zero) refl in
+    omega (arith, sum_by-cons (λ y. cond (p y) 1 0) x xs, here, all-uncounted p xs (λ k. h (suc k)))
 
 standing-waits : (s : Option Standing) → is_out s ≡ false → IsSome s → IsWaiting s
 standing-waits None o some = absurd (cc)
@@ -606,7 +608,7 @@ module _ {T : Type 0} (holds : T → List Holding) (w : World T) where
 
   plain-slot : HoldsNothing holds → AllGo holds w → (k : ℕ) → (s : Option Standing) → standing_at w k ≡ s → is_out s ≡ false
   plain-slot plain all k None e = refl
-  plain-slot plain all k (Some s) e = rw (← e) (waits-inside-out (standing_at w k) (plain-waits plain k (all.slots k (ap is_some e))))
+  plain-slot plain all k (Some s) e = subst (λ (x : Option Standing). is_out x ≡ false) e (waits-inside-out (standing_at w k) (plain-waits plain k (all.slots k (ap is_some e))))
 
   plain-cell : HoldsNothing holds → AllGo holds w → (c : ℕ) → (x : Option Cell) → entry_at w.cells c ≡ x → is_some x ≡ false
   plain-cell plain all c None e = refl

@@ -1,10 +1,23 @@
-use Rattle.std.proofs.Common.{◌≡◌, subst, sym, refl, inr, ap, ◌∙◌, IsTrue}
+use Rattle.std.proofs.Common.{◌≡◌, subst, sym, refl, inl, inr, ap, ◌∙◌, IsTrue}
 use Rattle.sdd_base.specs.World.{World, IsGuarded}
 use Rattle.sdd_base.specs.Whole.{IsCounted, IsWhole, taken}
 use Rattle.sdd_store.specs.declared.tally.Tally.{Tally}
 use Rattle.sdd_world.specs.Closing.{NothingIsOut}
 use Rattle.sdd_world.proofs.Sweeping.{sweeps, nothing-out, all-went, all-counted, none-out-goes, plain-goes, none-taken-at-end, tally-accounts}
 use Rattle.sdd_world.proofs.world.World.close.Goals as goal
+
+pub returns-then-is_any_open : goal.returns-then-is_any_open
+returns-then-is_any_open g c =
+    let guarded : IsGuarded c.args.self = rw c.time.ensures at (c.is_any_open.ensures.0 c.if-is_any_open.true) in
+    record {
+      closed = inl (refl, guarded, refl);
+      exactly = (λ ok. cc, λ h. absurd (h.0 guarded));
+      spent = λ quiet _. absurd (quiet guarded);
+      plainly = λ _. (λ ok. cc, λ h. absurd (h.0 guarded));
+      tally = record {};
+      accounts = record {};
+      swept = λ e. cc;
+    }
 
 pub returns-then-not-is_unused : goal.returns-then-not-is_unused
 returns-then-not-is_unused g c =
