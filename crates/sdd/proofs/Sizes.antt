@@ -8,7 +8,7 @@ use Rattle.sdd_store.specs.declared.time.Participant.{Participant}
 use Rattle.sdd_base.specs.Holding.{Holding}
 use Rattle.sdd_base.specs.World.{World, KeepsSizes, place_at}
 use Rattle.sdd_base.specs.Steps.{nested, rotated, reclaimed, all_reclaimed, changed, opened}
-use Rattle.sdd_world.proofs.Weights.{FreesOne-slot_reclaimed, FreesOne-sizes, KeepsSizes-trans}
+use Rattle.sdd_base.proofs.Weights.{FreesOne-slot_reclaimed, FreesOne-sizes, KeepsSizes-trans}
 
 module _ {T : Type 0} (holds : T → List Holding) where
   keeps-same : (w : World T) → KeepsSizes w w

@@ -1,6 +1,7 @@
 //! Guards in a world.
 ghost use Rattle.std.specs.Prelude.{◌≡◌, ℕ, ◌+◌, ◌^◌, ◌<◌, ◌≤◌, None};
 ghost use Rattle.sdd_base.specs.World.{World, IsGuarded, IsPlaceOf, standing_at, value_at};
+ghost use Rattle.sdd_base.specs.Out.{out};
 ghost use Rattle.sdd_base.specs.Left.{Waits, accelerated_guard, four_guards};
 ghost use Rattle.sdd_base.specs.Passing.{Passes};
 ghost use Rattle.sdd_world.specs.Place.{index_of};

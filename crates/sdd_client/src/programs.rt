@@ -1,14 +1,17 @@
 //! Whole programs: from a new world to its end.
-ghost use Rattle.std.specs.Prelude.{◌≡◌, ◌-◌, ◌+◌, ◌^◌, ◌<◌, ◌≤◌, IsOkUnless, MatchResult};
+ghost use Rattle.std.specs.Prelude.{◌≡◌, ℕ, ◌<◌, MatchResult, length};
+ghost use Rattle.sdd_store.specs.Table.{IsEmptyAt};
+ghost use Rattle.sdd_base.specs.Whole.{taken};
+ghost use Rattle.sdd_base.specs.Steps.{made, retired};
 ghost use Rattle.sdd_base.specs.World.{World, IsGuarded, IsPlaceOf};
-ghost use Rattle.sdd_base.specs.Out.{out, HoldsNothing};
+ghost use Rattle.sdd_base.specs.Out.{out};
 ghost use Rattle.sdd_world.specs.Closing.{Accounts};
 ghost use Rattle.sdd_world.specs.Place.{index_of};
 ghost use Rattle.sdd_store.specs.Tally.{no_items};
 
 use crate::guards::four_guards;
 use crate::items::made_and_read;
-use sdd_base::{Item, Limits, Owned};
+use sdd_base::{Item, Limits};
 use sdd_core::Refused;
 use sdd_store::Tally;
 use sdd_world::{Place, World};
@@ -42,4 +45,41 @@ pub fn closed_at_once(alloc: Global) -> Result<Tally, Refused>
 {
     let world: World<u64> = World::new(alloc, SMALL)?;
     Ok(ended(world))
+}
+
+/// One item on its whole way: made, read, retired, and reclaimed by four accelerated guards, in a world that is closed.
+pub fn one_item(alloc: Global) -> Result<Tally, Refused>
+    ensures { MatchResult result
+        (λ tally. tally ≡ record { made = 1; reclaimed = 1; in_place = 0 })
+        (λ e. e ≡ Refused.NoMemory) }
+{
+    let mut world: World<u64> = World::new(alloc, SMALL)?;
+    match world.register() {
+        Ok(place) => {
+            pass_an_item(&mut world, &place);
+            four_guards(&mut world, &place);
+            Ok(ended(world))
+        }
+        Err(refused) => {
+            ended(world);
+            Err(refused)
+        }
+    }
+}
+
+/// Makes an item in a world with a free slot, reads it and retires it.
+fn pass_an_item(world: &mut World<u64>, place: &Place)
+    requires place { IsPlaceOf world.old (index_of place.now) }
+    requires quiet { ¬ (IsGuarded world.old) }
+    requires room { taken world.old < length world.old.standings }
+    ensures made { (k : ℕ) × IsEmptyAt world.old.standings k × (world.new ≡ retired (made world.old k 7) (index_of place.now) k) }
+    ensures quiet { ¬ (IsGuarded world.new) }
+    ensures out { out world.new ≡ out world.old }
+{
+    world.counts_what_is_out();
+    let mut turn = world.at(place);
+    let Ok(read) = made_and_read(7, &mut turn) else {
+        unreachable!()
+    };
+    prove!(read == 7);
 }
