@@ -13,7 +13,8 @@ use Rattle.sdd_base.specs.Steps.{made, retired, registered, freed, taken_out, wa
 use Rattle.sdd_base.specs.Steps as steps
 use Rattle.sdd_base.specs.Holding.{Holding}
 use Rattle.sdd_base.specs.Left.{accelerated_guard}
-use Rattle.sdd_base.specs.Passing.{Passes, ItemPasses, ItemsPass, GuardsPass}
+use Rattle.sdd_store.specs.Table.{IsEmptyAt}
+use Rattle.sdd_base.specs.Passing.{Passes, HavePassed, ItemsPass, GuardsPass}
 use Rattle.sdd_base.proofs.Out.{out-laws}
 use Rattle.sdd_base.proofs.Own.{Gives-all_reclaimed}
 use Rattle.sdd_base.proofs.Opening.{how, Nests, IsChange, keeps-given_all, in_before}
@@ -121,8 +122,8 @@ module _ {T : Type 0} where
       let there : IsTrue (is_open (place_at (registered w) q)) = subst (λ (z : Participant). IsTrue (is_open z)) (sym here ∙ whichever (registered w).time.places q x nobody inside) o in
       open-inside w.time.places q (below-or-past q (length w.time.places)) (open-before w q x (below-or-past q (length w.time.places)) there)
 
-  pub items-pass : (w : World T) → ItemsPass w
-  items-pass w = λ p k value l free.
+  item-passes : (w : World T) (p k : ℕ) (value : T) → p < length w.time.places → IsEmptyAt w.standings k → w.tally.made + 1 < 2 ^ 128 → HavePassed 1 w (retired (made w k value) p k)
+  item-passes w p k value l free room =
       let u = made w k value in
       let laws = out-laws (λ (v : T). []) in
       let owned : standing_at u k ≡ Some Owned = get_or-set_same w.standings k (Some Owned) None free.0 in
@@ -130,10 +131,30 @@ module _ {T : Type 0} where
       let none : one_where (is_some (standing_at w k)) ≡ 0 = rw free.1 refl in
       let one : one_where (is_some (standing_at u k)) ≡ 1 = rw owned refl in
       record {
-        quiet = λ h. retired-guards u p k l h;
+        quiet = λ q h. q (retired-guards u p k l h);
         as_much_out = omega (arith, (laws w).making k value free, (laws u).retiring p k owned);
-        one_more_taken = omega (arith, set-taken w k (Some Owned) free.0, set-taken u k (Some Retired) inside, none, one);
-        as_many_slots = length-set u.standings k (Some Retired) ∙ length-set w.standings k (Some Owned);
-        as_many_places = length-set w.time.places p (time.awaiting (Item k) (place_at w p));
-        one_more_made = λ room. omega (arith, room);
+        taken = omega (arith, set-taken w k (Some Owned) free.0, set-taken u k (Some Retired) inside, none, one);
+        slots = length-set u.standings k (Some Retired) ∙ length-set w.standings k (Some Owned);
+        places = length-set w.time.places p (time.awaiting (Item k) (place_at w p));
+        nesting = refl;
+        count = refl;
+        made = omega (arith, room);
+        in_place = refl;
       }
+
+pub items-pass : (T : Type 0) → ItemsPass T
+items-pass T =
+    record {
+      one = item-passes;
+      more = λ u v w m n a b. record {
+        quiet = λ q. b.quiet (a.quiet q);
+        as_much_out = b.as_much_out ∙ a.as_much_out;
+        taken = omega (arith, a.taken, b.taken);
+        slots = b.slots ∙ a.slots;
+        places = b.places ∙ a.places;
+        nesting = b.nesting ∙ a.nesting;
+        count = b.count ∙ a.count;
+        made = omega (arith, a.made, b.made);
+        in_place = b.in_place ∙ a.in_place;
+      };
+    }

@@ -18,18 +18,22 @@ pub record Passes {T : Type 0} (holds : T → List Holding) (w : World T) (p : �
   pub no_more_out : out (accelerated_guard holds w p) ≤ out w
   pub as_much_out : HoldsNothing holds → out (accelerated_guard holds w p) ≡ out w
 
--- what an item leaves that is made and retired at once
-pub record ItemPasses {T : Type 0} (w : World T) (p k : ℕ) (value : T) : Type 0 where
-  pub quiet : IsGuarded (retired (made w k value) p k) → IsGuarded w
-  pub as_much_out : out (retired (made w k value) p k) ≡ out w
-  pub one_more_taken : taken (retired (made w k value) p k) ≡ taken w + 1
-  pub as_many_slots : length (retired (made w k value) p k).standings ≡ length w.standings
-  pub as_many_places : length (retired (made w k value) p k).time.places ≡ length w.time.places
-  pub one_more_made : w.tally.made + 1 < 2 ^ 128 → (retired (made w k value) p k).tally.made ≡ w.tally.made + 1
+-- so many items were made and retired at once, and wait now; no guard was opened, and as much is out
+pub record HavePassed {T : Type 0} (items : ℕ) (old new : World T) : Type 0 where
+  pub quiet : ¬ (IsGuarded old) → ¬ (IsGuarded new)
+  pub as_much_out : out new ≡ out old
+  pub taken : taken new ≡ taken old + items
+  pub slots : length new.standings ≡ length old.standings
+  pub places : length new.time.places ≡ length old.time.places
+  pub nesting : new.time.nesting ≡ old.time.nesting
+  pub count : new.time.count ≡ old.time.count
+  pub made : new.tally.made ≡ old.tally.made + items
+  pub in_place : new.tally.in_place ≡ old.tally.in_place
 
--- the law: each item does
-abbrev pub ItemsPass : {T : Type 0} → World T → Type 0
-ItemsPass {T} w = (p k : ℕ) (value : T) → IsPlaceOf w p → IsEmptyAt w.standings k → ItemPasses w p k value
+-- the law: an item that is made and retired at once passes, while the tally has room, and items pass one after another
+pub record ItemsPass (T : Type 0) : Type 0 where
+  pub one : (w : World T) (p k : ℕ) (value : T) → IsPlaceOf w p → IsEmptyAt w.standings k → w.tally.made + 1 < 2 ^ 128 → HavePassed 1 w (retired (made w k value) p k)
+  pub more : (u v w : World T) (m n : ℕ) → HavePassed m u v → HavePassed n v w → HavePassed (m + n) u w
 
 -- the law: each accelerated guard of a participant does, where no guard is open
 abbrev pub GuardsPass : {T : Type 0} → (T → List Holding) → World T → Type 0

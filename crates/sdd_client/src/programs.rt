@@ -9,7 +9,7 @@ ghost use Rattle.sdd_base.specs.Out.{out, HoldsNothing};
 ghost use Rattle.sdd_base.specs.Steps.{made, retired};
 ghost use Rattle.sdd_world.specs.Closing.{Accounts};
 ghost use Rattle.sdd_world.specs.Place.{index_of};
-ghost use Rattle.sdd_client.specs.Passed.{HavePassed};
+ghost use Rattle.sdd_base.specs.Passing.{HavePassed};
 
 use crate::guards::four_guards;
 use crate::items::made_and_read;
@@ -58,7 +58,6 @@ pub fn one_item(alloc: Global) -> Result<Tally, Refused>
     let mut world: World<u64> = World::new(alloc, SMALL)?;
     match world.register() {
         Ok(place) => {
-            world.items_pass();
             pass_a_number(&mut world, &place);
             four_guards(&mut world, &place);
             Ok(ended(world))
@@ -70,8 +69,18 @@ pub fn one_item(alloc: Global) -> Result<Tally, Refused>
     }
 }
 
-/// Makes a number in a world with a free slot, reads it and retires it.
+/// Makes a number, reads it and retires it.
 fn pass_a_number(world: &mut World<u64>, place: &Place)
+    requires place { IsPlaceOf world.old (index_of place.now) }
+    requires room { taken world.old < length world.old.standings }
+    requires few { world.old.tally.made + 1 < 2 ^ 128 }
+    ensures { HavePassed 1 world.old world.new }
+{
+    world.items_pass();
+    make_read_and_retire(world, place);
+}
+
+fn make_read_and_retire(world: &mut World<u64>, place: &Place)
     requires place { IsPlaceOf world.old (index_of place.now) }
     requires room { taken world.old < length world.old.standings }
     ensures { (k : ℕ) × IsEmptyAt world.old.standings k × (world.new ≡ retired (made world.old k 7) (index_of place.now) k) }
@@ -130,7 +139,7 @@ fn pass_values<T: Item<T>>(world: &mut World<T>, place: &Place, mut values: Vec<
     values.destroy_empty();
 }
 
-/// Makes an item in a world with a free slot, and retires it.
+/// Makes an item of a value and retires it.
 fn pass_a_value<T: Item<T>>(world: &mut World<T>, place: &Place, value: T)
     requires place { IsPlaceOf world.old (index_of place.now) }
     requires room { taken world.old < length world.old.standings }
@@ -138,8 +147,17 @@ fn pass_a_value<T: Item<T>>(world: &mut World<T>, place: &Place, value: T)
     requires plain { HoldsNothing T.holds }
     ensures { HavePassed 1 world.old world.new }
 {
-    world.counts_what_is_out();
     world.items_pass();
+    make_and_retire(world, place, value);
+}
+
+fn make_and_retire<T: Item<T>>(world: &mut World<T>, place: &Place, value: T)
+    requires place { IsPlaceOf world.old (index_of place.now) }
+    requires room { taken world.old < length world.old.standings }
+    requires plain { HoldsNothing T.holds }
+    ensures { (k : ℕ) × IsEmptyAt world.old.standings k × (world.new ≡ retired (made world.old k value) (index_of place.now) k) }
+{
+    world.counts_what_is_out();
     let mut turn = world.at(place);
     match Owned::new(value, &mut turn) {
         Ok(owner) => owner.retire(&mut turn),

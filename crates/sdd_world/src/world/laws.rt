@@ -39,7 +39,7 @@ impl<T: Item<T>> World<T> {
 
     /// An item that is made and retired at once opens no guard, and leaves as much out as was.
     pub fn items_pass(&self)
-        ensures { (w : World T) → ItemsPass w }
+        ensures { ItemsPass T }
     {
     }
 

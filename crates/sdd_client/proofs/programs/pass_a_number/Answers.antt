@@ -1,5 +1,4 @@
-use Rattle.std.proofs.Common.{refl}
 use Rattle.sdd_client.proofs.programs.pass_a_number.Goals as goal
 
-pub unreachable-requires : goal.unreachable-requires
-unreachable-requires c = (c.counts_what_is_out.ensures c.args.world.now).room c.requires.room (rw c.at-turn.ensures.world at (c.in-Err.ensures.exact refl).0)
+pub returns : goal.returns
+returns c = let item = c.make_read_and_retire.ensures in rw item.2 (c.items_pass.ensures.one _ _ item.0 7 c.requires.place item.1 c.requires.few)
