@@ -20,8 +20,15 @@ use Rattle.sdd_base.proofs.Whole.{all_awaiting-guards, below-or-past}
 use Rattle.sdd_base.proofs.Out.{out-laws}
 use Rattle.sdd_bench.specs.Leaves.{Leaves}
 
+pub as-many : {old new : Participant} → new ≡ old → new.guards ≡ old.guards
+as-many e = ap (λ (p : Participant). p.guards) e
+
+pub as-much : {old new : World ℕ} → new ≡ old → out new ≡ out old
+as-much e = ap (λ (w : World ℕ). out w) e
+
 -- an opening leaves one guard more open
-opened-guards : (count : ℕ) (given : List ℕ) (p : Participant) (a b : Bool) → is_open p ≡ a → (p.found == count) ≡ b → (opened_at count given p).guards ≡ p.guards + 1
+opened-guards : (count : ℕ) (given : List ℕ) (p : Participant) (a b : Bool) → is_open p ≡ a → (p.found == count) ≡ b →
+    (opened_at count given p).guards ≡ p.guards + 1
 opened-guards count given p true b e f = rw e refl
 opened-guards count given p false true e f = rw (e, f) refl
 opened-guards count given p false false e f = rw (e, f) (all_awaiting-guards given (rotated count (nested p)))
@@ -58,7 +65,8 @@ module _ {T : Type 0} (holds : T → List Holding) (plain : HoldsNothing holds) 
   past-caught w p none false e = ap (λ (u : World T). out u) (caught w p false e)
 
   past-out : (w : World T) (p : ℕ) → is_open (place_at w p) ≡ false → place_at (steps.nested w p) p ≡ nobody → out (opened holds w p) ≡ out w
-  past-out w p none after = ap (λ (u : World T). out u) (outermost w p none) ∙ past-caught (steps.nested w p) p after (finds_another (steps.nested w p).time p) refl
+  past-out w p none after =
+      ap (λ (u : World T). out u) (outermost w p none) ∙ past-caught (steps.nested w p) p after (finds_another (steps.nested w p).time p) refl
 
   -- an opening leaves out what was, also at a number that is no place
   opened-out : (w : World T) (p : ℕ) → (p < length w.time.places) ⊎ (length w.time.places ≤ p) → out (opened holds w p) ≡ out w
@@ -78,7 +86,8 @@ module _ {T : Type 0} (holds : T → List Holding) (plain : HoldsNothing holds) 
       omega (arith, m, r)
 
   -- two items that are made, and then retired
-  two-out : (w : World T) (p q k j : ℕ) (a b : T) → IsEmptyAt w.standings k → IsEmptyAt (made w k a).standings j → out (retired (retired (made (made w k a) j b) p k) q j) ≡ out w
+  two-out : (w : World T) (p q k j : ℕ) (a b : T) → IsEmptyAt w.standings k → IsEmptyAt (made w k a).standings j →
+      out (retired (retired (made (made w k a) j b) p k) q j) ≡ out w
   two-out w p q k j a b first second =
       let one : World T = made w k a in let two : World T = made one j b in
       let there = made-there w k a first in
@@ -111,9 +120,9 @@ under-guard s0 s1 s2 s3 o0 o1 o2 o3 w0 w1 w2 w3 first opening is_opened l last c
       seat = last ∙ l.seat ∙ first;
       guards = closes-one o2 o3 o0.guards (l.guards ∙ opens-one o0 o1 opening) closing;
       kept = λ exact.
-          ap (λ (w : World ℕ). out w) (is_closed (exact-on s0 s2 (l.seat ∙ first) exact))
+          as-much (is_closed (exact-on s0 s2 (l.seat ∙ first) exact))
           ∙ l.kept (exact-on s0 s1 first exact)
-          ∙ ap (λ (w : World ℕ). out w) (is_opened exact)
+          ∙ as-much (is_opened exact)
           ∙ opened-out nothing (λ n. refl) w0 s0.place (below-or-past s0.place (length w0.time.places));
     }
 
@@ -124,9 +133,9 @@ pub item-leaves : (s0 s1 s2 : Seat) (o0 o1 o2 : Participant) (w0 w1 w2 : World �
 item-leaves s0 s1 s2 o0 o1 o2 w0 w1 w2 k value first own is_made last own_after is_retired =
     record {
       seat = last ∙ first;
-      guards = ap (λ (p : Participant). p.guards) own_after ∙ ap (λ (p : Participant). p.guards) own;
+      guards = as-many own_after ∙ as-many own;
       kept = λ exact.
-          ap (λ (w : World ℕ). out w) (is_retired (exact-on s0 s1 first exact))
+          as-much (is_retired (exact-on s0 s1 first exact))
           ∙ ap (λ (w : World ℕ). out (retired w s1.place k)) ((is_made exact).1)
           ∙ item-out nothing (λ n. refl) w0 s1.place k value ((is_made exact).0);
     }
@@ -140,12 +149,12 @@ pub two-leave : (s0 s1 s2 s3 s4 : Seat) (o0 o1 o2 o3 o4 : Participant) (w0 w1 w2
 two-leave s0 s1 s2 s3 s4 o0 o1 o2 o3 o4 w0 w1 w2 w3 w4 k j a b e1 p1 m1 e2 p2 m2 e3 p3 m3 e4 p4 m4 =
     record {
       seat = e4 ∙ e3 ∙ e2 ∙ e1;
-      guards = ap (λ (p : Participant). p.guards) p4 ∙ ap (λ (p : Participant). p.guards) p3 ∙ ap (λ (p : Participant). p.guards) p2 ∙ ap (λ (p : Participant). p.guards) p1;
+      guards = as-many p4 ∙ as-many p3 ∙ as-many p2 ∙ as-many p1;
       kept = λ exact.
           let one = m1 exact in
           let two = m2 (exact-on s0 s1 e1 exact) in
           let empty : IsEmptyAt (made w0 k a).standings j = subst (λ (w : World ℕ). IsEmptyAt w.standings j) one.1 two.0 in
-          ap (λ (w : World ℕ). out w) (m4 (exact-on s0 s3 (e3 ∙ e2 ∙ e1) exact))
+          as-much (m4 (exact-on s0 s3 (e3 ∙ e2 ∙ e1) exact))
           ∙ ap (λ (w : World ℕ). out (retired w s3.place j)) (m3 (exact-on s0 s2 (e2 ∙ e1) exact))
           ∙ ap (λ (w : World ℕ). out (retired (retired w s2.place k) s3.place j)) two.1
           ∙ ap (λ (w : World ℕ). out (retired (retired (made w j b) s2.place k) s3.place j)) one.1

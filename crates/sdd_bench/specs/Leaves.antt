@@ -6,7 +6,7 @@ use Rattle.sdd_base.specs.Seat.{Seat, IsExact}
 use Rattle.sdd_base.specs.World.{World}
 
 -- the caller sits where it sat, as many guards of it are open as before, and as much is out, where the space says so exactly
-pub record Leaves {T : Type 0} (old_seat : Seat) (old_own : Participant) (old : World T) (new_seat : Seat) (new_own : Participant) (new : World T) : Type 0 where
-  pub seat : new_seat ≡ old_seat
-  pub guards : new_own.guards ≡ old_own.guards
-  pub kept : IsExact old_seat → out new ≡ out old
+pub record Leaves {T : Type 0} (s : Seat) (p : Participant) (old : World T) (r : Seat) (q : Participant) (new : World T) : Type 0 where
+  pub seat : r ≡ s
+  pub guards : q.guards ≡ p.guards
+  pub kept : IsExact s → out new ≡ out old

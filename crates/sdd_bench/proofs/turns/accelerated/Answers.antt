@@ -1,8 +1,4 @@
-use Rattle.std.proofs.Common.{ap, ℕ}
-use Rattle.sdd_store.specs.declared.time.Participant.{Participant}
-use Rattle.sdd_base.specs.World.{World}
-use Rattle.sdd_base.specs.Out.{out}
-use Rattle.sdd_bench.proofs.Leaving.{in-turn, under-guard}
+use Rattle.sdd_bench.proofs.Leaving.{as-many, as-much, in-turn, under-guard}
 use Rattle.sdd_bench.proofs.turns.accelerated.Goals as goal
 
 pub loop-turn-preserved : goal.loop-turn-preserved
@@ -14,7 +10,7 @@ loop-turn-preserved g c =
     opening.seat opening.own.1 (λ exact. (opening.exact exact).1)
     (record {
       seat = faster.seat;
-      guards = ap (λ (p : Participant). p.guards) faster.own;
-      kept = λ exact. ap (λ (w : World ℕ). out w) (faster.exact exact);
+      guards = as-many faster.own;
+      kept = λ exact. as-much (faster.exact exact);
     })
     closing.seat closing.own closing.exact)

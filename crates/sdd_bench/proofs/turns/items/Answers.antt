@@ -1,9 +1,5 @@
-use Rattle.std.proofs.Common.{ap, ℕ}
-use Rattle.sdd_store.specs.declared.time.Participant.{Participant}
 use Rattle.sdd_base.specs.Owned.{slot_of}
-use Rattle.sdd_base.specs.World.{World}
-use Rattle.sdd_base.specs.Out.{out}
-use Rattle.sdd_bench.proofs.Leaving.{in-turn, under-guard, item-leaves}
+use Rattle.sdd_bench.proofs.Leaving.{as-many, as-much, in-turn, under-guard, item-leaves}
 use Rattle.sdd_bench.proofs.turns.items.Goals as goal
 
 pub returns-in-Err : goal.returns-in-Err
@@ -15,8 +11,8 @@ returns-in-Err g c =
     opening.seat opening.own.1 (λ exact. (opening.exact exact).1)
     (record {
       seat = none.seat;
-      guards = ap (λ (p : Participant). p.guards) none.own;
-      kept = λ exact. ap (λ (w : World ℕ). out w) ((none.exact exact).2);
+      guards = as-many none.own;
+      kept = λ exact. as-much ((none.exact exact).2);
     })
     closing.seat closing.own closing.exact)
 

@@ -3,4 +3,5 @@ use Rattle.sdd_bench.proofs.turns.items.Given as goal
 
 abbrev pub invariant-loop-turn : goal.invariant-loop-turn
 invariant-loop-turn g l =
-    Leaves (g.S.Guards.seat l.fn.space) (g.S.Guards.own l.fn.space) (g.S.Guards.world l.fn.space) (g.S.Guards.seat l.space) (g.S.Guards.own l.space) (g.S.Guards.world l.space)
+    let seat = g.S.Guards.seat in let own = g.S.Guards.own in let world = g.S.Guards.world in
+    Leaves (seat l.fn.space) (own l.fn.space) (world l.fn.space) (seat l.space) (own l.space) (world l.space)
