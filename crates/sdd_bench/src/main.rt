@@ -10,9 +10,9 @@ use operation::{Operation, named};
 use sdd_base::Limits;
 use sdd_core::Refused;
 use sdd_store::Tally;
+use std::alloc::Global;
 use std::process::ExitCode;
 use std::rt::Env;
-use std::sync::Wait;
 use std::{env, io};
 use world::Work;
 
@@ -34,7 +34,7 @@ fn main(rt: HostRuntime) -> io::Result<ExitCode> {
         println!(rt; "{USAGE}")?;
         return Ok(ExitCode::from(2));
     };
-    match done(&rt, operation, turns) {
+    match done(rt.alloc(), operation, turns) {
         Ok((tally, sum)) => {
             println!(rt;
                 "{turns} turns, {} made, {} reclaimed, sum {sum}",
@@ -59,15 +59,11 @@ fn asked(words: &[String]) -> Option<(Operation, u64)> {
     Some((operation, turns))
 }
 
-fn done<R: Wait + AllocGlobal>(
-    rt: &R,
-    operation: Operation,
-    turns: u64,
-) -> Result<(Tally, u64), Refused> {
+fn done(alloc: Global, operation: Operation, turns: u64) -> Result<(Tally, u64), Refused> {
     match operation {
-        Operation::World(guarding) => world::run(rt, LIMITS, Work::Guards(guarding), turns),
-        Operation::Item => world::run(rt, LIMITS, Work::Items, turns),
-        Operation::Read => world::run(rt, LIMITS, Work::Reads, turns),
-        Operation::Local(guarding) => Ok((local::run(rt, LIMITS, guarding, turns)?, 0)),
+        Operation::World(guarding) => world::run(alloc, LIMITS, Work::Guards(guarding), turns),
+        Operation::Item => world::run(alloc, LIMITS, Work::Items, turns),
+        Operation::Read => world::run(alloc, LIMITS, Work::Reads, turns),
+        Operation::Local(guarding) => Ok((local::run(alloc, LIMITS, guarding, turns)?, 0)),
     }
 }

@@ -2,6 +2,7 @@
 ghost use Rattle.std.specs.Prelude.{◌≡◌};
 ghost use Rattle.sdd_base.specs.Seat.{IsSeated};
 ghost use Rattle.sdd_base.specs.Owned.{slots_home};
+ghost use Rattle.sdd_bench.specs.Leaves.{Leaves};
 
 use crate::operation::Guarding;
 use sdd_base::{Guard, Guards, Look, Owned, Space};
@@ -11,7 +12,7 @@ use sdd_core::Refused;
 #[inline(always)]
 pub fn guards<S: Guards<u64>>(space: &mut S, guarding: Guarding, turns: u64) -> Result<(), Refused>
     requires { IsSeated (S.seat space.old) }
-    ensures { S.seat space.new ≡ S.seat space.old }
+    ensures { Leaves (S.seat space.old) (S.own space.old) (S.world space.old) (S.seat space.new) (S.own space.new) (S.world space.new) }
 {
     match guarding {
         Guarding::Outermost => plain(space, turns),
@@ -23,7 +24,7 @@ pub fn guards<S: Guards<u64>>(space: &mut S, guarding: Guarding, turns: u64) -> 
 #[inline(always)]
 fn plain<S: Guards<u64>>(space: &mut S, turns: u64) -> Result<(), Refused>
     requires { IsSeated (S.seat space.old) }
-    ensures { S.seat space.new ≡ S.seat space.old }
+    ensures { Leaves (S.seat space.old) (S.own space.old) (S.world space.old) (S.seat space.new) (S.own space.new) (S.world space.new) }
 {
     for _turn in 0..turns {
         let guard = Guard::new(space)?;
@@ -35,7 +36,7 @@ fn plain<S: Guards<u64>>(space: &mut S, turns: u64) -> Result<(), Refused>
 #[inline(always)]
 fn nested<S: Guards<u64>>(space: &mut S, turns: u64) -> Result<(), Refused>
     requires { IsSeated (S.seat space.old) }
-    ensures { S.seat space.new ≡ S.seat space.old }
+    ensures { Leaves (S.seat space.old) (S.own space.old) (S.world space.old) (S.seat space.new) (S.own space.new) (S.world space.new) }
 {
     let outer = Guard::new(space)?;
     let done = plain(space, turns);
@@ -46,7 +47,7 @@ fn nested<S: Guards<u64>>(space: &mut S, turns: u64) -> Result<(), Refused>
 #[inline(always)]
 fn accelerated<S: Guards<u64>>(space: &mut S, turns: u64) -> Result<(), Refused>
     requires { IsSeated (S.seat space.old) }
-    ensures { S.seat space.new ≡ S.seat space.old }
+    ensures { Leaves (S.seat space.old) (S.own space.old) (S.world space.old) (S.seat space.new) (S.own space.new) (S.world space.new) }
 {
     for _turn in 0..turns {
         let guard = Guard::new(space)?;
@@ -60,7 +61,7 @@ fn accelerated<S: Guards<u64>>(space: &mut S, turns: u64) -> Result<(), Refused>
 #[inline(always)]
 pub fn items<S: Space<u64>>(space: &mut S, turns: u64) -> Result<(), Refused>
     requires { IsSeated (S.seat space.old) }
-    ensures { S.seat space.new ≡ S.seat space.old }
+    ensures { Leaves (S.seat space.old) (S.own space.old) (S.world space.old) (S.seat space.new) (S.own space.new) (S.world space.new) }
 {
     for turn in 0..turns {
         let guard = Guard::new(space)?;
@@ -76,10 +77,35 @@ pub fn items<S: Space<u64>>(space: &mut S, turns: u64) -> Result<(), Refused>
     Ok(())
 }
 
+/// Makes two items, has their owners look that often, and retires both.
+#[inline(always)]
+pub fn looks<S: Space<u64>>(space: &mut S, turns: u64) -> Result<u64, Refused>
+    requires { IsSeated (S.seat space.old) }
+    ensures { Leaves (S.seat space.old) (S.own space.old) (S.world space.old) (S.seat space.new) (S.own space.new) (S.world space.new) }
+{
+    let one = match Owned::new(1, space) {
+        Ok(one) => one,
+        Err((_value, refused)) => return Err(refused),
+    };
+    match Owned::new(3, space) {
+        Ok(other) => {
+            let sum = reads(space, &one, &other, turns);
+            one.retire(space);
+            other.retire(space);
+            Ok(sum)
+        }
+        Err((_value, refused)) => {
+            one.retire(space);
+            Err(refused)
+        }
+    }
+}
+
 /// The sum of what two owners found in turn.
 ///
 /// What was found so far decides which one looks, so that no look can be left out.
-pub fn reads<L: Look<u64>>(space: &L, one: &Owned<u64>, other: &Owned<u64>, turns: u64) -> u64
+#[inline(always)]
+fn reads<L: Look<u64>>(space: &L, one: &Owned<u64>, other: &Owned<u64>, turns: u64) -> u64
     requires one { slots_home one.now ≡ (L.home space.now).slots }
     requires other { slots_home other.now ≡ (L.home space.now).slots }
 {

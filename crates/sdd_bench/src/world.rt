@@ -1,15 +1,17 @@
 //! The operations in a world of one participant.
-ghost use Rattle.std.specs.Prelude.{◌≡◌};
-ghost use Rattle.sdd_base.specs.World.{IsPlaceOf};
-ghost use Rattle.sdd_world.specs.Place.{index_of};
+ghost use Rattle.std.specs.Prelude.{◌≡◌, []};
+ghost use Rattle.sdd_base.specs.Out.{out};
+ghost use Rattle.sdd_base.specs.Seat.{IsSeated};
+ghost use Rattle.sdd_base.specs.World.{IsGuarded};
+ghost use Rattle.sdd_bench.specs.Leaves.{Leaves};
 
 use crate::operation::Guarding;
 use crate::turns;
-use sdd_base::{Limits, Owned};
+use sdd_base::{Limits, Space};
 use sdd_core::Refused;
 use sdd_store::Tally;
-use sdd_world::{Place, World};
-use std::sync::Wait;
+use sdd_world::World;
+use std::alloc::Global;
 
 /// What is done in the world.
 #[derive(Clone, Copy)]
@@ -20,62 +22,34 @@ pub enum Work {
 }
 
 /// Does the work that often, and answers the tally with which the world is closed, and the sum of what owners found.
-pub fn run<R: Wait + AllocGlobal>(
-    rt: &R,
-    limits: Limits,
-    work: Work,
-    turns: u64,
-) -> Result<(Tally, u64), Refused> {
-    let mut world = World::new(rt.alloc(), limits)?;
+pub fn run(alloc: Global, limits: Limits, work: Work, turns: u64) -> Result<(Tally, u64), Refused> {
+    let mut world = World::new(alloc, limits)?;
     let done = in_world(&mut world, work, turns);
-    let tally = closed(rt, world);
-    let sum = done?;
-    Ok((tally, sum))
+    match world.close() {
+        Ok(tally) => Ok((tally, done?)),
+        Err(_) => unreachable!(),
+    }
 }
 
-fn in_world(world: &mut World<u64>, work: Work, turns: u64) -> Result<u64, Refused> {
+fn in_world(world: &mut World<u64>, work: Work, turns: u64) -> Result<u64, Refused>
+    requires { world.old.time.places ≡ [] }
+    ensures quiet { ¬ (IsGuarded world.new) }
+    ensures out { out world.new ≡ out world.old }
+{
     let place = world.register()?;
     let mut turn = world.at(&place);
+    worked(&mut turn, work, turns)
+}
+
+#[inline(always)]
+fn worked<S: Space<u64>>(space: &mut S, work: Work, turns: u64) -> Result<u64, Refused>
+    requires { IsSeated (S.seat space.old) }
+    ensures { Leaves (S.seat space.old) (S.own space.old) (S.world space.old) (S.seat space.new) (S.own space.new) (S.world space.new) }
+{
     match work {
-        Work::Guards(guarding) => turns::guards(&mut turn, guarding, turns)?,
-        Work::Items => turns::items(&mut turn, turns)?,
-        Work::Reads => {
-            drop(turn);
-            return reads(world, &place, turns);
-        }
+        Work::Guards(guarding) => turns::guards(space, guarding, turns)?,
+        Work::Items => turns::items(space, turns)?,
+        Work::Reads => return turns::looks(space, turns),
     }
     Ok(0)
-}
-
-fn reads(world: &mut World<u64>, place: &Place, turns: u64) -> Result<u64, Refused>
-    requires { IsPlaceOf world.old (index_of place.now) }
-{
-    let mut turn = world.at(place);
-    let one = match Owned::new(1, &mut turn) {
-        Ok(one) => one,
-        Err((_value, refused)) => return Err(refused),
-    };
-    match Owned::new(3, &mut turn) {
-        Ok(other) => {
-            let sum = turns::reads(&turn, &one, &other, turns);
-            one.retire(&mut turn);
-            other.retire(&mut turn);
-            Ok(sum)
-        }
-        Err((_value, refused)) => {
-            one.retire(&mut turn);
-            Err(refused)
-        }
-    }
-}
-
-/// Every guard is closed and every owner spent, so that the first close is never refused.
-fn closed(rt: &impl Wait, mut world: World<u64>) -> Tally {
-    for _ in rt.forever() {
-        match world.close() {
-            Ok(tally) => return tally,
-            Err((back, _refused)) => world = back,
-        }
-    }
-    unreachable!()
 }

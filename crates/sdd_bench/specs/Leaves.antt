@@ -1,0 +1,12 @@
+-- What work leaves of guards and owners
+use Rattle.std.specs.Prelude.{◌≡◌}
+use Rattle.sdd_store.specs.declared.time.Participant.{Participant}
+use Rattle.sdd_base.specs.Out.{out}
+use Rattle.sdd_base.specs.Seat.{Seat, IsExact}
+use Rattle.sdd_base.specs.World.{World}
+
+-- the caller sits where it sat, as many guards of it are open as before, and as much is out, where the space says so exactly
+pub record Leaves {T : Type 0} (s : Seat) (p : Participant) (old : World T) (r : Seat) (q : Participant) (new : World T) : Type 0 where
+  pub seat : r ≡ s
+  pub guards : q.guards ≡ p.guards
+  pub kept : IsExact s → out new ≡ out old
