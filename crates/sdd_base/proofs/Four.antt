@@ -33,12 +33,12 @@ shut : (b : Bool) → (IsTrue b → ⊥) → b ≡ false
 shut true h = absurd (h refl)
 shut false h = refl
 
-whichever : (ps : List Participant) (k : ℕ) (d e : Participant) → k < length ps → slice_index_or ps k d ≡ slice_index_or ps k e
+pub whichever : (ps : List Participant) (k : ℕ) (d e : Participant) → k < length ps → slice_index_or ps k d ≡ slice_index_or ps k e
 whichever [] k d e l = absurd (omega (arith, l))
 whichever (x ∷ ps) zero d e l = refl
 whichever (x ∷ ps) (suc k) d e l = whichever ps k d e (omega (arith, l))
 
-open-inside : (ps : List Participant) (q : ℕ) → (q < length ps) ⊎ (length ps ≤ q) → IsTrue (is_open (slice_index_or ps q nobody)) → Any (λ p. IsTrue (is_open p)) ps
+pub open-inside : (ps : List Participant) (q : ℕ) → (q < length ps) ⊎ (length ps ≤ q) → IsTrue (is_open (slice_index_or ps q nobody)) → Any (λ p. IsTrue (is_open p)) ps
 open-inside ps q (inl l) o = (q, slice_index_or ps q nobody, l, whichever ps q (slice_index_or ps q nobody) nobody l, o)
 open-inside ps q (inr past) o = let never : IsTrue (is_open nobody) = subst (λ (x : Participant). IsTrue (is_open x)) (get_or_past ps q nobody past) o in absurd (cc)
 

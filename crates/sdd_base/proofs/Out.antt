@@ -1,8 +1,9 @@
 -- What puts something out, and what takes it back
 use Rattle.std.proofs.Common.{◌≡◌, ◌≢◌, ◌⊎◌, inl, inr, ℕ, ◌+◌, ◌<◌, ◌≤◌, List, [], ◌∷◌, length, cond, Bool, refl, sym, ap, ◌∙◌, arith, true, false, Some, None, Option, zero, suc, slice_index_or, slice_set, count_by, subst}
-use Rattle.std.specs.Prelude.{is_some, if◌then◌else◌}
+use Rattle.std.specs.Prelude.{is_some, IsSome, All, if◌then◌else◌}
+use Rattle.std.proofs.lemmas.List.Elements.{All-head, All-tail}
 use Rattle.std.proofs.lemmas.List.{get_or_past}
-use Rattle.std.proofs.lemmas.List.Sums.{sum_by-set}
+use Rattle.std.proofs.lemmas.List.Sums.{sum_by-set, sum_by-cons}
 use Rattle.sdd_store.specs.Waiting.{What}
 use Rattle.sdd_store.specs.Waiting.What.{Item, Private, Job}
 use Rattle.sdd_store.specs.Table.{IsEmptyAt, entry_at, without_entry}
@@ -39,6 +40,12 @@ fewer-if xs c (inr past) = rw (set-past xs c past) (omega arith)
 -- a count goes down where an element is taken out
 fewer-cells : (xs : List (Option Cell)) (c : ℕ) → count_by is_some (slice_set xs c None) ≤ count_by is_some xs
 fewer-cells xs c = fewer-if xs c (below-or-past c (length xs))
+
+full-taken : (xs : List (Option Standing)) → All (λ x. IsSome x) xs → count_by is_some xs ≡ length xs
+full-taken [] h = refl
+full-taken (x ∷ xs) h =
+    let here : one_where (is_some x) ≡ 1 = rw (All-head (λ x. IsSome x) x xs h) refl in
+    omega (arith, sum_by-cons (λ (y : Option Standing). cond (is_some y) 1 0) x xs, here, full-taken xs (All-tail (λ x. IsSome x) x xs h))
 
 module _ {T : Type 0} where
   set-out : (w : World T) (k : ℕ) (s : Option Standing) → k < length w.standings →
@@ -150,4 +157,5 @@ module _ {T : Type 0} where
         giving = out-given_all w;
         opening = λ p l. opened-at-most holds (out w) p w (omega arith) (how holds w p l);
         opening_plain = λ plain p l. opened-same holds plain (out w) p w refl (how holds w p l);
+        room = λ few full. absurd (omega (arith, few, full-taken w.standings full));
       }

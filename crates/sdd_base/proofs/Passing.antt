@@ -1,23 +1,26 @@
 -- What an accelerated guard leaves
-use Rattle.std.proofs.Common.{◌≡◌, ◌⊎◌, inl, inr, ℕ, ◌+◌, ◌<◌, ◌≤◌, List, [], ◌∷◌, length, Bool, true, false, nat_lt, refl, sym, ap, ◌∙◌, arith, Some, None, Option}
+use Rattle.std.proofs.Common.{◌≡◌, ◌≢◌, IsTrue, subst, ◌⊎◌, inl, inr, ℕ, ◌+◌, ◌<◌, ◌≤◌, List, [], ◌∷◌, length, Bool, true, false, nat_lt, refl, sym, ap, ◌∙◌, arith, Some, None, Option}
 use Rattle.sdd_store.specs.Waiting.{What}
 use Rattle.sdd_store.specs.Waiting.What.{Item, Private, Job}
 use Rattle.std.specs.Prelude.{◌==◌, ◌&&◌, if◌then◌else◌}
 use Rattle.std.specs.List.{list_all}
-use Rattle.sdd_store.specs.Time.{Time, due_next, is_open, passes, last_count}
+use Rattle.sdd_store.specs.Time.{Time, due_next, nobody, is_open, passes, last_count}
 use Rattle.sdd_store.specs.Time as time
 use Rattle.sdd_store.specs.declared.standing.Standing.{Standing}
 use Rattle.sdd_store.specs.declared.standing.Standing.TheVariants.{Owned, Raw, Shared, Retired, Private as privately}
 use Rattle.sdd_base.specs.World.{World, IsGuarded, IsPlaceOf, place_at, standing_at, value_at}
-use Rattle.sdd_base.specs.Steps.{freed, taken_out, waiting_value, reclaimed, all_reclaimed, opened, closed, accelerated}
+use Rattle.sdd_base.specs.Steps.{retired, freed, taken_out, waiting_value, reclaimed, all_reclaimed, opened, closed, accelerated}
 use Rattle.sdd_base.specs.Steps as steps
 use Rattle.sdd_base.specs.Holding.{Holding}
 use Rattle.sdd_base.specs.Left.{accelerated_guard}
-use Rattle.sdd_base.specs.Passing.{Passes, GuardsPass}
+use Rattle.sdd_base.specs.Passing.{Passes, LeavesGuards, GuardsPass}
 use Rattle.sdd_base.proofs.Out.{out-laws}
 use Rattle.sdd_base.proofs.Own.{Gives-all_reclaimed}
 use Rattle.sdd_base.proofs.Opening.{how, Nests, IsChange, keeps-given_all, in_before}
-use Rattle.sdd_base.proofs.Four.{all-closed, not-guarded, still-closed, still-place}
+use Rattle.sdd_base.proofs.Four.{whichever, open-inside, all-closed, not-guarded, still-closed, still-place}
+use Rattle.sdd_base.proofs.Whole.{same-or-not, below-or-past}
+use Rattle.std.proofs.lemmas.List.{get_or-set_same, get_or-set_other}
+use Rattle.sdd_store.specs.declared.time.Participant.{Participant}
 
 -- no close changes how deep guards nest
 raised-nesting : (t : Time) (b : Bool) → (if b then record t { count = t.count + 1 } else t).nesting ≡ t.nesting
@@ -83,8 +86,26 @@ module _ {T : Type 0} (holds : T → List Holding) where
         quiet = not-guarded (accelerated_guard holds w p) (still-closed holds w p l shut);
         place = still-place holds w p l shut;
         nesting = closed-nesting (accelerated (opened holds w p) p).time p ∙ nesting-opened w p l (how holds w p l);
-        made = m.0;
-        in_place = m.1;
+        as_many_made = m.0;
+        as_many_in_place = m.1;
         no_more_out = laws.opening p l;
         as_much_out = λ plain. laws.opening_plain plain p l;
       }
+
+module _ {T : Type 0} where
+  still-open : (w : World T) (p k q : ℕ) → p < length w.time.places → IsTrue (is_open (place_at (retired w p k) q)) → (q ≡ p) ⊎ (q ≢ p) → IsTrue (is_open (place_at w q))
+  still-open w p k q l o (inl e) =
+      let x : Participant = time.awaiting (Item k) (place_at w p) in
+      let here : place_at (retired w p k) p ≡ x = get_or-set_same w.time.places p x nobody l in
+      subst (λ (m : ℕ). IsTrue (is_open (place_at w m))) (sym e)
+      (subst (λ (z : Participant). IsTrue (is_open z)) here (subst (λ (m : ℕ). IsTrue (is_open (place_at (retired w p k) m))) e o))
+  still-open w p k q l o (inr apart) =
+      subst (λ (z : Participant). IsTrue (is_open z)) (get_or-set_other w.time.places p q (time.awaiting (Item k) (place_at w p)) nobody apart) o
+
+  retired-guards : (w : World T) (p k : ℕ) → p < length w.time.places → IsGuarded (retired w p k) → IsGuarded w
+  retired-guards w p k l (q, x, inside, here, o) =
+      let there : IsTrue (is_open (place_at (retired w p k) q)) = subst (λ (z : Participant). IsTrue (is_open z)) (sym here ∙ whichever (retired w p k).time.places q x nobody inside) o in
+      open-inside w.time.places q (below-or-past q (length w.time.places)) (still-open w p k q l there (same-or-not q p))
+
+  pub leaves-guards : (w : World T) → LeavesGuards w
+  leaves-guards w = record { making = λ k v h. h; retiring = λ p k l h. retired-guards w p k l h }

@@ -1,6 +1,7 @@
 -- How much of a world is out of its hands
-use Rattle.std.specs.Prelude.{ℕ, ◌+◌, ◌≡◌, ◌≤◌, Bool, true, false, List, [], ◌∷◌, Option, None, Some, is_some, count_by, length}
-use Rattle.sdd_store.specs.Table.{IsEmptyAt, entry_at}
+use Rattle.std.specs.Prelude.{ℕ, ◌+◌, ◌<◌, ◌≡◌, ◌≤◌, Bool, true, false, List, [], ◌∷◌, Option, None, Some, is_some, count_by, length}
+use Rattle.sdd_store.specs.Table.{IsEmptyAt, IsFull, entry_at}
+use Rattle.sdd_base.specs.Whole.{taken}
 use Rattle.sdd_store.specs.declared.standing.Standing.{Standing}
 use Rattle.sdd_store.specs.declared.standing.Standing.TheVariants.{Owned, Raw, Shared, Retired, Private}
 use Rattle.sdd_store.specs.declared.standing.Cell.{Cell}
@@ -52,3 +53,5 @@ pub record OutLaws {T : Type 0} (holds : T → List Holding) (w : World T) : Typ
   pub opening : (p : ℕ) → IsPlaceOf w p → out (opened holds w p) ≤ out w
   -- and it leaves out what was, where values hold nothing
   pub opening_plain : HoldsNothing holds → (p : ℕ) → IsPlaceOf w p → out (opened holds w p) ≡ out w
+  -- where fewer slots are taken than there are, one is free
+  pub room : taken w < length w.standings → ¬ (IsFull w.standings)

@@ -2,6 +2,7 @@
 use Rattle.std.specs.Prelude.{ℕ, ◌≡◌, ◌≤◌, List}
 use Rattle.sdd_base.specs.Holding.{Holding}
 use Rattle.sdd_base.specs.World.{World, IsGuarded, IsPlaceOf}
+use Rattle.sdd_base.specs.Steps.{made, retired}
 use Rattle.sdd_base.specs.Out.{out, HoldsNothing}
 use Rattle.sdd_base.specs.Left.{accelerated_guard}
 
@@ -10,10 +11,15 @@ pub record Passes {T : Type 0} (holds : T → List Holding) (w : World T) (p : �
   pub quiet : ¬ (IsGuarded (accelerated_guard holds w p))
   pub place : IsPlaceOf (accelerated_guard holds w p) p
   pub nesting : (accelerated_guard holds w p).time.nesting ≡ w.time.nesting
-  pub made : (accelerated_guard holds w p).tally.made ≡ w.tally.made
-  pub in_place : (accelerated_guard holds w p).tally.in_place ≡ w.tally.in_place
+  pub as_many_made : (accelerated_guard holds w p).tally.made ≡ w.tally.made
+  pub as_many_in_place : (accelerated_guard holds w p).tally.in_place ≡ w.tally.in_place
   pub no_more_out : out (accelerated_guard holds w p) ≤ out w
   pub as_much_out : HoldsNothing holds → out (accelerated_guard holds w p) ≡ out w
+
+-- what calls on items leave alone
+pub record LeavesGuards {T : Type 0} (w : World T) : Type 0 where
+  pub making : (k : ℕ) (value : T) → IsGuarded (made w k value) → IsGuarded w
+  pub retiring : (p k : ℕ) → IsPlaceOf w p → IsGuarded (retired w p k) → IsGuarded w
 
 -- the law: each accelerated guard of a participant does, where no guard is open
 abbrev pub GuardsPass : {T : Type 0} → (T → List Holding) → World T → Type 0

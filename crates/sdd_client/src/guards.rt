@@ -17,7 +17,7 @@ pub fn accelerated_guard<T: Item<T>>(world: &mut World<T>, place: &Place)
     ensures passed { world.new ≡ accelerated_guard T.holds world.old (index_of place.now) }
     ensures passes { Passes T.holds world.old (index_of place.now) }
 {
-    world.accelerated_guards_pass();
+    world.leaves_guards_closed();
     let mut turn = world.at(place);
     let Ok(guard) = Guard::new(&mut turn) else {
         unreachable!()

@@ -77,6 +77,7 @@ fn pass_an_item(world: &mut World<u64>, place: &Place)
     ensures out { out world.new ≡ out world.old }
 {
     world.counts_what_is_out();
+    world.leaves_guards_closed();
     let mut turn = world.at(place);
     let Ok(read) = made_and_read(7, &mut turn) else {
         unreachable!()

@@ -2,7 +2,8 @@
 ghost use Rattle.sdd_base.specs.Whole.{IsWhole};
 ghost use Rattle.sdd_base.specs.Out.{OutLaws};
 ghost use Rattle.sdd_base.specs.Left.{FourGuardsReclaim, GoesAtLatest, GoesInTime};
-ghost use Rattle.sdd_base.specs.Passing.{GuardsPass};
+ghost use Rattle.sdd_base.specs.World.{World};
+ghost use Rattle.sdd_base.specs.Passing.{GuardsPass, LeavesGuards};
 ghost use Rattle.sdd_base.specs.Under.{KeepsUnderGuards};
 
 use super::World;
@@ -18,7 +19,7 @@ impl<T: Item<T>> World<T> {
 
     /// What each call puts out of the world's hands, and what it takes back.
     pub fn counts_what_is_out(&self)
-        ensures { OutLaws T.holds self.now }
+        ensures { (w : World T) → OutLaws T.holds w }
     {
     }
 
@@ -30,9 +31,10 @@ impl<T: Item<T>> World<T> {
         self.is_whole();
     }
 
-    /// An accelerated guard leaves no guard open, and no more out than was.
-    pub fn accelerated_guards_pass(&self)
-        ensures { GuardsPass T.holds self.now }
+    /// An accelerated guard leaves no guard open, and no more out than was; a call on items opens no guard.
+    pub fn leaves_guards_closed(&self)
+        ensures passing { (w : World T) → GuardsPass T.holds w }
+        ensures items { (w : World T) → LeavesGuards w }
     {
     }
 

@@ -22,9 +22,13 @@ four {T} holds p w a b c d ea eb ec ed = let g = λ (u : World T). accelerated_g
 
 pub returns-clause-passed : goal.returns-clause-passed
 returns-clause-passed g c =
-    four g.T.Item.holds _ _ _ _ _ _ c.accelerated_guard.ensures.passed c.accelerated_guard-2.ensures.passed c.accelerated_guard-3.ensures.passed c.accelerated_guard-4.ensures.passed
+    four g.T.Item.holds (index_of c.args.place.now) c.args.world.now c.accelerated_guard.new.world c.accelerated_guard-2.new.world c.accelerated_guard-3.new.world c.accelerated_guard-4.new.world
+    c.accelerated_guard.ensures.passed c.accelerated_guard-2.ensures.passed c.accelerated_guard-3.ensures.passed c.accelerated_guard-4.ensures.passed
 
 pub returns-clause-reclaimed : goal.returns-clause-reclaimed
 returns-clause-reclaimed g c =
-    rw (four g.T.Item.holds _ _ _ _ _ _ c.accelerated_guard.ensures.passed c.accelerated_guard-2.ensures.passed c.accelerated_guard-3.ensures.passed c.accelerated_guard-4.ensures.passed)
-    (λ k seen h. (c.four_guards_reclaim.ensures (index_of c.args.place.now) k seen c.requires.place c.requires.quiet c.requires.early h).0)
+    let p = index_of c.args.place.now in
+    let passed =
+    four g.T.Item.holds p c.args.world.now c.accelerated_guard.new.world c.accelerated_guard-2.new.world c.accelerated_guard-3.new.world c.accelerated_guard-4.new.world
+    c.accelerated_guard.ensures.passed c.accelerated_guard-2.ensures.passed c.accelerated_guard-3.ensures.passed c.accelerated_guard-4.ensures.passed in
+    rw passed (λ k seen h. (c.four_guards_reclaim.ensures p k seen c.requires.place c.requires.quiet c.requires.early h).0)

@@ -2,4 +2,4 @@ use Rattle.sdd_base.proofs.Out.{out-laws}
 use Rattle.sdd_world.proofs.world.World.counts_what_is_out.Goals as goal
 
 pub returns : goal.returns
-returns g c = out-laws g.T.Item.holds c.args.self.now
+returns g c = out-laws g.T.Item.holds
