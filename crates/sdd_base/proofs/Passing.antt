@@ -1,15 +1,15 @@
 -- What an accelerated guard leaves
-use Rattle.std.proofs.Common.{◌≡◌, ◌≢◌, IsTrue, subst, ◌⊎◌, inl, inr, ℕ, ◌+◌, ◌<◌, ◌≤◌, List, [], ◌∷◌, length, Bool, true, false, nat_lt, refl, sym, ap, ◌∙◌, arith, Some, None, Option}
+use Rattle.std.proofs.Common.{◌≡◌, ◌≢◌, ◌++◌, IsTrue, subst, ◌⊎◌, inl, inr, ℕ, ◌+◌, ◌<◌, ◌≤◌, List, [], ◌∷◌, length, Bool, true, false, nat_lt, refl, sym, ap, ◌∙◌, arith, Some, None, Option}
 use Rattle.sdd_store.specs.Waiting.{What}
 use Rattle.sdd_store.specs.Waiting.What.{Item, Private, Job}
 use Rattle.std.specs.Prelude.{◌==◌, ◌&&◌, if◌then◌else◌}
 use Rattle.std.specs.List.{list_all}
-use Rattle.sdd_store.specs.Time.{Time, due_next, nobody, is_open, passes, last_count}
+use Rattle.sdd_store.specs.Time.{Time, due_next, newcomer, nobody, is_open, passes, last_count}
 use Rattle.sdd_store.specs.Time as time
 use Rattle.sdd_store.specs.declared.standing.Standing.{Standing}
 use Rattle.sdd_store.specs.declared.standing.Standing.TheVariants.{Owned, Raw, Shared, Retired, Private as privately}
 use Rattle.sdd_base.specs.World.{World, IsGuarded, IsPlaceOf, place_at, standing_at, value_at}
-use Rattle.sdd_base.specs.Steps.{retired, freed, taken_out, waiting_value, reclaimed, all_reclaimed, opened, closed, accelerated}
+use Rattle.sdd_base.specs.Steps.{retired, registered, freed, taken_out, waiting_value, reclaimed, all_reclaimed, opened, closed, accelerated}
 use Rattle.sdd_base.specs.Steps as steps
 use Rattle.sdd_base.specs.Holding.{Holding}
 use Rattle.sdd_base.specs.Left.{accelerated_guard}
@@ -18,7 +18,8 @@ use Rattle.sdd_base.proofs.Out.{out-laws}
 use Rattle.sdd_base.proofs.Own.{Gives-all_reclaimed}
 use Rattle.sdd_base.proofs.Opening.{how, Nests, IsChange, keeps-given_all, in_before}
 use Rattle.sdd_base.proofs.Four.{whichever, open-inside, all-closed, not-guarded, still-closed, still-place}
-use Rattle.sdd_base.proofs.Whole.{same-or-not, below-or-past}
+use Rattle.std.proofs.Math.ListN.{get_or-append}
+use Rattle.sdd_base.proofs.Whole.{same-or-not, below-or-past, append-last}
 use Rattle.std.proofs.lemmas.List.{get_or-set_same, get_or-set_other}
 use Rattle.sdd_store.specs.declared.time.Participant.{Participant}
 
@@ -92,6 +93,10 @@ module _ {T : Type 0} (holds : T → List Holding) where
         as_much_out = λ plain. laws.opening_plain plain p l;
       }
 
+open-last : (x : Participant) (room : ℕ) → (x ≡ newcomer room) ⊎ (x ≡ nobody) → IsTrue (is_open x) → (b : Bool) → IsTrue b
+open-last x room (inl e) o b = let never : false ≡ true = rw e at o in absurd (cc)
+open-last x room (inr e) o b = let never : false ≡ true = rw e at o in absurd (cc)
+
 module _ {T : Type 0} where
   still-open : (w : World T) (p k q : ℕ) → p < length w.time.places → IsTrue (is_open (place_at (retired w p k) q)) → (q ≡ p) ⊎ (q ≢ p) → IsTrue (is_open (place_at w q))
   still-open w p k q l o (inl e) =
@@ -107,5 +112,14 @@ module _ {T : Type 0} where
       let there : IsTrue (is_open (place_at (retired w p k) q)) = subst (λ (z : Participant). IsTrue (is_open z)) (sym here ∙ whichever (retired w p k).time.places q x nobody inside) o in
       open-inside w.time.places q (below-or-past q (length w.time.places)) (still-open w p k q l there (same-or-not q p))
 
+  open-before : (w : World T) (q : ℕ) (x : Participant) → (q < length w.time.places) ⊎ (length w.time.places ≤ q) → IsTrue (is_open (place_at (registered w) q)) → IsTrue (is_open (place_at w q))
+  open-before w q x (inl l) o = subst (λ (z : Participant). IsTrue (is_open z)) (get_or-append w.time.places (newcomer w.time.room ∷ []) nobody q l) o
+  open-before w q x (inr past) o = open-last (place_at (registered w) q) w.time.room (append-last w.time.places (newcomer w.time.room) q past) o (is_open (place_at w q))
+
+  registered-guards : (w : World T) → IsGuarded (registered w) → IsGuarded w
+  registered-guards w (q, x, inside, here, o) =
+      let there : IsTrue (is_open (place_at (registered w) q)) = subst (λ (z : Participant). IsTrue (is_open z)) (sym here ∙ whichever (registered w).time.places q x nobody inside) o in
+      open-inside w.time.places q (below-or-past q (length w.time.places)) (open-before w q x (below-or-past q (length w.time.places)) there)
+
   pub leaves-guards : (w : World T) → LeavesGuards w
-  leaves-guards w = record { making = λ k v h. h; retiring = λ p k l h. retired-guards w p k l h }
+  leaves-guards w = record { making = λ k v h. h; retiring = λ p k l h. retired-guards w p k l h; registering = λ h. registered-guards w h }

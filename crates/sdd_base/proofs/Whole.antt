@@ -242,7 +242,7 @@ below-or-past zero (suc n) = inl (omega arith)
 below-or-past (suc p) (suc n) = below-or-past-suc p n (below-or-past p n)
 
 -- who stands behind the others: the last of them, or nobody
-append-last : (ps : List Participant) (x : Participant) (p : ℕ) → length ps ≤ p → (slice_index_or (ps ++ x ∷ []) p nobody ≡ x) ⊎ (slice_index_or (ps ++ x ∷ []) p nobody ≡ nobody)
+pub append-last : (ps : List Participant) (x : Participant) (p : ℕ) → length ps ≤ p → (slice_index_or (ps ++ x ∷ []) p nobody ≡ x) ⊎ (slice_index_or (ps ++ x ∷ []) p nobody ≡ nobody)
 append-last [] x zero h = inl refl
 append-last [] x (suc p) h = inr refl
 append-last (y ∷ ps) x zero h = absurd (omega (arith, h))

@@ -2,7 +2,7 @@
 use Rattle.std.specs.Prelude.{ℕ, ◌≡◌, ◌≤◌, List}
 use Rattle.sdd_base.specs.Holding.{Holding}
 use Rattle.sdd_base.specs.World.{World, IsGuarded, IsPlaceOf}
-use Rattle.sdd_base.specs.Steps.{made, retired}
+use Rattle.sdd_base.specs.Steps.{made, retired, registered}
 use Rattle.sdd_base.specs.Out.{out, HoldsNothing}
 use Rattle.sdd_base.specs.Left.{accelerated_guard}
 
@@ -16,10 +16,11 @@ pub record Passes {T : Type 0} (holds : T → List Holding) (w : World T) (p : �
   pub no_more_out : out (accelerated_guard holds w p) ≤ out w
   pub as_much_out : HoldsNothing holds → out (accelerated_guard holds w p) ≡ out w
 
--- what calls on items leave alone
+-- calls on items, and registering, open no guard
 pub record LeavesGuards {T : Type 0} (w : World T) : Type 0 where
   pub making : (k : ℕ) (value : T) → IsGuarded (made w k value) → IsGuarded w
   pub retiring : (p k : ℕ) → IsPlaceOf w p → IsGuarded (retired w p k) → IsGuarded w
+  pub registering : IsGuarded (registered w) → IsGuarded w
 
 -- the law: each accelerated guard of a participant does, where no guard is open
 abbrev pub GuardsPass : {T : Type 0} → (T → List Holding) → World T → Type 0

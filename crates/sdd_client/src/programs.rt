@@ -56,6 +56,8 @@ pub fn one_item(alloc: Global) -> Result<Tally, Refused>
     let mut world: World<u64> = World::new(alloc, SMALL)?;
     match world.register() {
         Ok(place) => {
+            world.counts_what_is_out();
+            world.leaves_guards_closed();
             pass_an_item(&mut world, &place);
             four_guards(&mut world, &place);
             Ok(ended(world))
@@ -70,17 +72,13 @@ pub fn one_item(alloc: Global) -> Result<Tally, Refused>
 /// Makes an item in a world with a free slot, reads it and retires it.
 fn pass_an_item(world: &mut World<u64>, place: &Place)
     requires place { IsPlaceOf world.old (index_of place.now) }
-    requires quiet { ¬ (IsGuarded world.old) }
     requires room { taken world.old < length world.old.standings }
-    ensures made { (k : ℕ) × IsEmptyAt world.old.standings k × (world.new ≡ retired (made world.old k 7) (index_of place.now) k) }
-    ensures quiet { ¬ (IsGuarded world.new) }
-    ensures out { out world.new ≡ out world.old }
+    ensures { (k : ℕ) × IsEmptyAt world.old.standings k × (world.new ≡ retired (made world.old k 7) (index_of place.now) k) }
 {
     world.counts_what_is_out();
-    world.leaves_guards_closed();
     let mut turn = world.at(place);
-    let Ok(read) = made_and_read(7, &mut turn) else {
-        unreachable!()
-    };
-    prove!(read == 7);
+    match made_and_read(7, &mut turn) {
+        Ok(read) => prove!(read == 7),
+        Err(_) => unreachable!(),
+    }
 }

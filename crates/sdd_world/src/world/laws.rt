@@ -33,7 +33,7 @@ impl<T: Item<T>> World<T> {
 
     /// An accelerated guard leaves no guard open, and no more out than was; a call on items opens no guard.
     pub fn leaves_guards_closed(&self)
-        ensures passing { (w : World T) → GuardsPass T.holds w }
+        ensures passing { GuardsPass T.holds self.now }
         ensures items { (w : World T) → LeavesGuards w }
     {
     }
