@@ -2,25 +2,25 @@
 use Rattle.std.proofs.Common.{◌≡◌, ◌≢◌, ◌++◌, IsTrue, subst, ◌⊎◌, inl, inr, ℕ, ◌+◌, ◌<◌, ◌≤◌, List, [], ◌∷◌, length, Bool, true, false, nat_lt, refl, sym, ap, ◌∙◌, arith, Some, None, Option}
 use Rattle.sdd_store.specs.Waiting.{What}
 use Rattle.sdd_store.specs.Waiting.What.{Item, Private, Job}
-use Rattle.std.specs.Prelude.{◌==◌, ◌&&◌, if◌then◌else◌}
+use Rattle.std.specs.Prelude.{◌==◌, ◌&&◌, ◌^◌, is_some, if◌then◌else◌}
 use Rattle.std.specs.List.{list_all}
 use Rattle.sdd_store.specs.Time.{Time, due_next, newcomer, nobody, is_open, passes, last_count}
 use Rattle.sdd_store.specs.Time as time
 use Rattle.sdd_store.specs.declared.standing.Standing.{Standing}
 use Rattle.sdd_store.specs.declared.standing.Standing.TheVariants.{Owned, Raw, Shared, Retired, Private as privately}
 use Rattle.sdd_base.specs.World.{World, IsGuarded, IsPlaceOf, place_at, standing_at, value_at}
-use Rattle.sdd_base.specs.Steps.{retired, registered, freed, taken_out, waiting_value, reclaimed, all_reclaimed, opened, closed, accelerated}
+use Rattle.sdd_base.specs.Steps.{made, retired, registered, freed, taken_out, waiting_value, reclaimed, all_reclaimed, opened, closed, accelerated}
 use Rattle.sdd_base.specs.Steps as steps
 use Rattle.sdd_base.specs.Holding.{Holding}
 use Rattle.sdd_base.specs.Left.{accelerated_guard}
-use Rattle.sdd_base.specs.Passing.{Passes, LeavesGuards, GuardsPass}
+use Rattle.sdd_base.specs.Passing.{Passes, ItemPasses, ItemsPass, GuardsPass}
 use Rattle.sdd_base.proofs.Out.{out-laws}
 use Rattle.sdd_base.proofs.Own.{Gives-all_reclaimed}
 use Rattle.sdd_base.proofs.Opening.{how, Nests, IsChange, keeps-given_all, in_before}
 use Rattle.sdd_base.proofs.Four.{whichever, open-inside, all-closed, not-guarded, still-closed, still-place}
 use Rattle.std.proofs.Math.ListN.{get_or-append}
-use Rattle.sdd_base.proofs.Whole.{same-or-not, below-or-past, append-last}
-use Rattle.std.proofs.lemmas.List.{get_or-set_same, get_or-set_other}
+use Rattle.sdd_base.proofs.Whole.{one_where, set-taken, same-or-not, below-or-past, append-last}
+use Rattle.std.proofs.lemmas.List.{length-set, get_or-set_same, get_or-set_other}
 use Rattle.sdd_store.specs.declared.time.Participant.{Participant}
 
 -- no close changes how deep guards nest
@@ -116,10 +116,24 @@ module _ {T : Type 0} where
   open-before w q x (inl l) o = subst (λ (z : Participant). IsTrue (is_open z)) (get_or-append w.time.places (newcomer w.time.room ∷ []) nobody q l) o
   open-before w q x (inr past) o = open-last (place_at (registered w) q) w.time.room (append-last w.time.places (newcomer w.time.room) q past) o (is_open (place_at w q))
 
-  registered-guards : (w : World T) → IsGuarded (registered w) → IsGuarded w
+  pub registered-guards : (w : World T) → IsGuarded (registered w) → IsGuarded w
   registered-guards w (q, x, inside, here, o) =
       let there : IsTrue (is_open (place_at (registered w) q)) = subst (λ (z : Participant). IsTrue (is_open z)) (sym here ∙ whichever (registered w).time.places q x nobody inside) o in
       open-inside w.time.places q (below-or-past q (length w.time.places)) (open-before w q x (below-or-past q (length w.time.places)) there)
 
-  pub leaves-guards : (w : World T) → LeavesGuards w
-  leaves-guards w = record { making = λ k v h. h; retiring = λ p k l h. retired-guards w p k l h; registering = λ h. registered-guards w h }
+  pub items-pass : (w : World T) → ItemsPass w
+  items-pass w = λ p k value l free.
+      let u = made w k value in
+      let laws = out-laws (λ (v : T). []) in
+      let owned : standing_at u k ≡ Some Owned = get_or-set_same w.standings k (Some Owned) None free.0 in
+      let inside : k < length u.standings = omega (arith, length-set w.standings k (Some Owned), free.0) in
+      let none : one_where (is_some (standing_at w k)) ≡ 0 = rw free.1 refl in
+      let one : one_where (is_some (standing_at u k)) ≡ 1 = rw owned refl in
+      record {
+        quiet = λ h. retired-guards u p k l h;
+        as_much_out = omega (arith, (laws w).making k value free, (laws u).retiring p k owned);
+        one_more_taken = omega (arith, set-taken w k (Some Owned) free.0, set-taken u k (Some Retired) inside, none, one);
+        as_many_slots = length-set u.standings k (Some Retired) ∙ length-set w.standings k (Some Owned);
+        as_many_places = length-set w.time.places p (time.awaiting (Item k) (place_at w p));
+        one_more_made = λ room. omega (arith, room);
+      }

@@ -1,7 +1,7 @@
 ghost use Rattle.std.specs.Prelude.{◌≡◌, IfOk, MatchResult, Some, None, slice_index_or};
 ghost use Rattle.sdd_token.specs.Right.{number_of, home_of};
 ghost use Rattle.sdd_base.specs.Holding.{AreOf};
-ghost use Rattle.sdd_base.specs.World.{World};
+ghost use Rattle.sdd_base.specs.World.{World, standing_at};
 ghost use Rattle.sdd_base.specs.Seat.{IsSeated, IsExact};
 ghost use Rattle.sdd_base.specs.Known.{KnowsOn};
 ghost use Rattle.sdd_base.specs.Steps.{made, retired};
@@ -18,6 +18,7 @@ use crate::look::Look;
 use crate::ptr::Ptr;
 use crate::space::Space;
 use sdd_core::Refused;
+use sdd_store::Standing;
 use sdd_token::Right;
 use std::marker::PhantomData;
 
@@ -128,6 +129,7 @@ impl<T: Item<T>> Owned<T> {
         requires home { slots_home self ≡ (S.seat s.old).home.slots }
         ensures seat { S.seat s.new ≡ S.seat s.old }
         ensures own { S.own s.new ≡ time.awaiting (Item (slot_of self)) (S.own s.old) }
+        ensures owned { IsExact (S.seat s.old) → standing_at (S.world s.old) (slot_of self) ≡ Some Standing.Owned }
         ensures known { KnowsOn (S.known s.old) (S.known s.new) }
         ensures exact { IsExact (S.seat s.old) → S.world s.new ≡ retired (S.world s.old) (S.seat s.old).place (slot_of self) }
         ensures keeps { KeepsShown (S.shows s.old) (S.filled s.old) (S.shows s.new) (S.filled s.new) }

@@ -18,6 +18,7 @@ use crate::item::Item;
 use crate::look::{Look, Shows};
 use crate::owned::Owned;
 use sdd_core::Refused;
+use sdd_store::Standing;
 
 /// The guards of one participant of a world or domain.
 pub trait Guards<T: Item<T>>: Shows<T> {
@@ -147,6 +148,7 @@ pub trait Space<T: Item<T>>: Look<T> + Guards<T> {
         requires home { slots_home owner ≡ (Self.seat self.old).home.slots }
         ensures seat { Self.seat self.new ≡ Self.seat self.old }
         ensures own { Self.own self.new ≡ time.awaiting (Item (slot_of owner)) (Self.own self.old) }
+        ensures owned { IsExact (Self.seat self.old) → standing_at (Self.world self.old) (slot_of owner) ≡ Some Standing.Owned }
         ensures known { KnowsOn (Self.known self.old) (Self.known self.new) }
         ensures exact { IsExact (Self.seat self.old) → Self.world self.new ≡ retired (Self.world self.old) (Self.seat self.old).place (slot_of owner) }
         ensures keeps { KeepsShown (Self.shows self.old) (Self.filled self.old) (Self.shows self.new) (Self.filled self.new) };

@@ -1,12 +1,19 @@
-//! Guards in a world.
-ghost use Rattle.std.specs.Prelude.{◌≡◌, ℕ, ◌+◌, ◌^◌, ◌<◌, ◌≤◌, None};
-ghost use Rattle.sdd_base.specs.World.{World, IsGuarded, IsPlaceOf, standing_at, value_at};
+//! Guards in a world, and what can be known under them.
+ghost use Rattle.std.specs.Prelude.{◌≡◌, IsTrue, Some, ℕ, ◌+◌, ◌^◌, ◌<◌, ◌≤◌, None};
+ghost use Rattle.sdd_base.specs.World.{World, IsGuarded, IsPlaceOf, place_at, standing_at, value_at};
 ghost use Rattle.sdd_base.specs.Out.{out};
 ghost use Rattle.sdd_base.specs.Left.{Waits, accelerated_guard, four_guards};
 ghost use Rattle.sdd_base.specs.Passing.{Passes};
+ghost use Rattle.sdd_base.specs.Left.{left};
+ghost use Rattle.sdd_base.specs.Under.{CallsUnder};
+ghost use Rattle.sdd_base.specs.Owned.{slot_of, slots_home};
+ghost use Rattle.sdd_base.specs.Seat.{IsSeated};
+ghost use Rattle.sdd_store.specs.Time.{is_open};
 ghost use Rattle.sdd_world.specs.Place.{index_of};
 
-use sdd_base::{Guard, Item};
+use sdd_base::laws::epoch_moves_by_one;
+use sdd_base::{Guard, Guards, Item, Owned};
+use sdd_store::Standing;
 use sdd_world::{Place, World};
 
 /// Opens a guard, accelerates it and closes it.
@@ -17,7 +24,7 @@ pub fn accelerated_guard<T: Item<T>>(world: &mut World<T>, place: &Place)
     ensures passed { world.new ≡ accelerated_guard T.holds world.old (index_of place.now) }
     ensures passes { Passes T.holds world.old (index_of place.now) }
 {
-    world.leaves_guards_closed();
+    world.accelerated_guards_pass();
     let mut turn = world.at(place);
     let Ok(guard) = Guard::new(&mut turn) else {
         unreachable!()
@@ -44,4 +51,38 @@ pub fn four_guards<T: Item<T>>(world: &mut World<T>, place: &Place)
     accelerated_guard(world, place);
     accelerated_guard(world, place);
     accelerated_guard(world, place);
+}
+
+/// The epoch, looked at twice under one guard, has moved on by one at most.
+pub fn has_hardly_moved<T: Item<T>, S: Guards<T>>(guard: &Guard, s: &mut S) -> bool
+    requires seated { IsSeated (S.seat s.old) }
+    requires guarded { IsTrue (is_open (S.own s.old)) }
+    ensures { IsTrue result }
+{
+    let (first, second) = epoch_moves_by_one::<T, S>(guard, s);
+    second == first || second == first.next()
+}
+
+/// What waits in a world is reclaimed within 385 openings of the participant with which it waits.
+pub fn waits_a_bounded_time<T: Item<T>>(world: &World<T>)
+    ensures { (q k seen : ℕ) → Waits world.now q k seen → left world.now.time q seen ≤ 385 }
+{
+    world.reclaims_in_time();
+}
+
+/// Retires an item while a reader's guard is open: it is in its slot, with its value, as long as that guard is open, whatever is called.
+pub fn retired_under_a_guard<T: Item<T>>(
+    world: &mut World<T>,
+    reader: &Place,
+    writer: &Place,
+    owner: Owned<T>,
+)
+    requires writer { IsPlaceOf world.old (index_of writer.now) }
+    requires guarded { IsTrue (is_open (place_at world.old (index_of reader.now))) }
+    requires home { slots_home owner ≡ world.old.home.slots }
+    ensures { (new : World T) → CallsUnder T.holds (index_of reader.now) world.new new →
+        (standing_at new (slot_of owner) ≡ Some Standing.Retired) × (value_at new (slot_of owner) ≡ value_at world.old (slot_of owner)) }
+{
+    world.keeps_under_guards();
+    owner.retire(&mut world.at(writer));
 }

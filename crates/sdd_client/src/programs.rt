@@ -1,17 +1,19 @@
 //! Whole programs: from a new world to its end.
-ghost use Rattle.std.specs.Prelude.{◌≡◌, ℕ, ◌<◌, MatchResult, length};
+ghost use Rattle.std.specs.Prelude.{◌≡◌, ℕ, ◌+◌, ◌^◌, ◌<◌, ◌≤◌, MatchResult, length};
 ghost use Rattle.sdd_store.specs.Table.{IsEmptyAt};
-ghost use Rattle.sdd_base.specs.Whole.{taken};
-ghost use Rattle.sdd_base.specs.Steps.{made, retired};
+ghost use Rattle.sdd_store.specs.Tally.{no_items};
+ghost use Rattle.sdd_base.specs.Limits.{AreInRange};
 ghost use Rattle.sdd_base.specs.World.{World, IsGuarded, IsPlaceOf};
-ghost use Rattle.sdd_base.specs.Out.{out};
+ghost use Rattle.sdd_base.specs.Whole.{taken};
+ghost use Rattle.sdd_base.specs.Out.{out, HoldsNothing};
+ghost use Rattle.sdd_base.specs.Steps.{made, retired};
 ghost use Rattle.sdd_world.specs.Closing.{Accounts};
 ghost use Rattle.sdd_world.specs.Place.{index_of};
-ghost use Rattle.sdd_store.specs.Tally.{no_items};
+ghost use Rattle.sdd_client.specs.Passed.{HavePassed};
 
 use crate::guards::four_guards;
 use crate::items::made_and_read;
-use sdd_base::{Item, Limits};
+use sdd_base::{Item, Limits, Owned};
 use sdd_core::Refused;
 use sdd_store::Tally;
 use sdd_world::{Place, World};
@@ -27,7 +29,7 @@ pub const SMALL: Limits = Limits {
     tries: 1,
 };
 
-/// Ends a world that has given everything back.
+/// Ends a world that has everything back.
 pub fn ended<T: Item<T>>(world: World<T>) -> Tally
     requires quiet { ¬ (IsGuarded world) }
     requires spent { out world ≡ 0 }
@@ -56,9 +58,8 @@ pub fn one_item(alloc: Global) -> Result<Tally, Refused>
     let mut world: World<u64> = World::new(alloc, SMALL)?;
     match world.register() {
         Ok(place) => {
-            world.counts_what_is_out();
-            world.leaves_guards_closed();
-            pass_an_item(&mut world, &place);
+            world.items_pass();
+            pass_a_number(&mut world, &place);
             four_guards(&mut world, &place);
             Ok(ended(world))
         }
@@ -69,8 +70,8 @@ pub fn one_item(alloc: Global) -> Result<Tally, Refused>
     }
 }
 
-/// Makes an item in a world with a free slot, reads it and retires it.
-fn pass_an_item(world: &mut World<u64>, place: &Place)
+/// Makes a number in a world with a free slot, reads it and retires it.
+fn pass_a_number(world: &mut World<u64>, place: &Place)
     requires place { IsPlaceOf world.old (index_of place.now) }
     requires room { taken world.old < length world.old.standings }
     ensures { (k : ℕ) × IsEmptyAt world.old.standings k × (world.new ≡ retired (made world.old k 7) (index_of place.now) k) }
@@ -79,6 +80,69 @@ fn pass_an_item(world: &mut World<u64>, place: &Place)
     let mut turn = world.at(place);
     match made_and_read(7, &mut turn) {
         Ok(read) => prove!(read == 7),
+        Err(_) => unreachable!(),
+    }
+}
+
+/// The same for any number of values, up to the slots, that hold nothing.
+///
+/// `NoMemory` where the memory for the world was refused; the values come back.
+pub fn many_items<T: Item<T>>(
+    alloc: Global,
+    limits: Limits,
+    values: Vec<T>,
+) -> Result<Tally, (Vec<T>, Refused)>
+    requires limits { AreInRange limits }
+    requires few { length values.items ≤ limits.slots }
+    requires plain { HoldsNothing T.holds }
+    ensures { MatchResult result
+        (λ tally. tally ≡ record { made = length values.items; reclaimed = length values.items; in_place = 0 })
+        (λ e. (e.0 ≡ values) × (e.1 ≡ Refused.NoMemory)) }
+{
+    let mut world = match World::new(alloc, limits) {
+        Ok(world) => world,
+        Err(refused) => return Err((values, refused)),
+    };
+    match world.register() {
+        Ok(place) => {
+            pass_values(&mut world, &place, values);
+            four_guards(&mut world, &place);
+            Ok(ended(world))
+        }
+        Err(refused) => {
+            ended(world);
+            Err((values, refused))
+        }
+    }
+}
+
+/// Makes and retires an item of each value.
+fn pass_values<T: Item<T>>(world: &mut World<T>, place: &Place, mut values: Vec<T>)
+    requires place { IsPlaceOf world.old (index_of place.now) }
+    requires room { taken world.old + length values.items ≤ length world.old.standings }
+    requires few { world.old.tally.made + length values.items + 1 < 2 ^ 128 }
+    requires plain { HoldsNothing T.holds }
+    ensures { HavePassed (length values.items) world.old world.new }
+{
+    while let Some(value) = values.pop() {
+        pass_a_value(world, place, value);
+    }
+    values.destroy_empty();
+}
+
+/// Makes an item in a world with a free slot, and retires it.
+fn pass_a_value<T: Item<T>>(world: &mut World<T>, place: &Place, value: T)
+    requires place { IsPlaceOf world.old (index_of place.now) }
+    requires room { taken world.old < length world.old.standings }
+    requires few { world.old.tally.made + 1 < 2 ^ 128 }
+    requires plain { HoldsNothing T.holds }
+    ensures { HavePassed 1 world.old world.new }
+{
+    world.counts_what_is_out();
+    world.items_pass();
+    let mut turn = world.at(place);
+    match Owned::new(value, &mut turn) {
+        Ok(owner) => owner.retire(&mut turn),
         Err(_) => unreachable!(),
     }
 }

@@ -14,6 +14,7 @@ ghost use Rattle.sdd_base.specs.Known.{KnowsOn};
 use crate::world::{Place, World};
 use sdd_base::{AtomicOwned, Guard, Guards, Item, Look, Owned, Ptr, Shows, Space, inner};
 use sdd_core::Refused;
+use sdd_store::Standing;
 use sdd_token::Right;
 
 /// One participant's turn at a world: the space in which it makes its calls.
@@ -195,6 +196,7 @@ impl<T: Item<T>> Space<T> for Turn<'_, T> {
         requires home { slots_home owner ≡ self.old.world.now.home.slots }
         ensures seat { seat_on self.new.world.now self.new.place self.new.world.ghost_name ≡ seat_on self.old.world.now self.old.place self.old.world.ghost_name }
         ensures own { place_at self.new.world.now self.new.place ≡ awaiting (Item (slot_of owner)) (place_at self.old.world.now self.old.place) }
+        ensures owned { IsExact (seat_on self.old.world.now self.old.place self.old.world.ghost_name) → standing_at self.old.world.now (slot_of owner) ≡ Some Standing.Owned }
         ensures known { KnowsOn (record { told = self.old.world.now.time.count; since = self.old.world.now.time.count }) (record { told = self.new.world.now.time.count; since = self.new.world.now.time.count }) }
         ensures exact { IsExact (seat_on self.old.world.now self.old.place self.old.world.ghost_name) → self.new.world.now ≡ retired self.old.world.now self.old.place (slot_of owner) }
         ensures keeps { KeepsShown (λ k value. value_at self.old.world.now k ≡ Some value) (λ k. IsSome (standing_at self.old.world.now k)) (λ k value. value_at self.new.world.now k ≡ Some value) (λ k. IsSome (standing_at self.new.world.now k)) }

@@ -103,6 +103,7 @@ impl<T: Item<T>> World<T> {
         ensures registered { MatchResult result
             (λ place. IsNext self.old.time (index_of place) × (self.new ≡ registered self.old))
             (λ e. ((e ≡ Refused.NoPlace) × IsCrowded self.old.time ⊎ (e ≡ Refused.NoMemory) × ¬ (IsCrowded self.old.time)) × (self.new ≡ self.old)) }
+        ensures quiet { ¬ (IsGuarded self.old) → ¬ (IsGuarded self.new) }
     {
         let index = self.core.register(self.alloc)?;
         Ok(Place { index })
