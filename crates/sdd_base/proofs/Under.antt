@@ -161,10 +161,12 @@ module _ {T : Type 0} where
         let young : u.seen < 2 = holder-young w p k u i (subst (λ (m : ℕ). IsChange holds w m) e c) in
         let none = not-due w k r u.holder u.seen i u.waits (inl e) (λ _. young) (sym c.due) in
         let s = opened-stays holds w r l k (Some Retired) (value_at w k) no-owner none (record { standing = u.standing; value = refl }) in
-        let o = still-open w p r l u.guarded (same-or-not p r) (inr c) in
-        (subst (λ (m : ℕ). IsUnder (opened holds w m) p k) (sym e)
-        (holder-changes w p k u i (subst (λ (m : ℕ). IsChange holds w m) e c) (subst (λ (m : ℕ). m < length w.time.places) e l) (λ same. apart (same ∙ sym e))
-        (subst (λ (m : ℕ). standing_at (opened holds w m) k ≡ Some Retired) e s.standing) (subst (λ (m : ℕ). IsTrue (is_open (place_at (opened holds w m) p))) e o)), s.value)
+        let o = still-open w p r l u.guarded (same-or-not p r) (inr c) in (
+          subst (λ (m : ℕ). IsUnder (opened holds w m) p k) (sym e)
+              (holder-changes w p k u i (subst (λ (m : ℕ). IsChange holds w m) e c) (subst (λ (m : ℕ). m < length w.time.places) e l) (λ same. apart (same ∙ sym e))
+              (subst (λ (m : ℕ). standing_at (opened holds w m) k ≡ Some Retired) e s.standing) (subst (λ (m : ℕ). IsTrue (is_open (place_at (opened holds w m) p))) e o)),
+          s.value,
+        )
 
     under-opens : (w : World T) (p k r : ℕ) → r < length w.time.places → IsWhole w → (u : IsUnder w p k) → Nests holds w r ⊎ IsChange holds w r → KeptUnder w (opened holds w r) p k
     under-opens w p k r l i u (inl n) = under-nests w p k r l u n
@@ -191,37 +193,41 @@ module _ {T : Type 0} where
     open-place w p o (inr past) = let never : IsTrue (is_open nobody) = subst (λ (x : Participant). IsTrue (is_open x)) (get_or_past w.time.places p nobody past) o in absurd (cc)
 
     one-call : (p k : ℕ) {v w : World T} → Calls holds v w → IsWhole v → IsUnder v p k → IsTrue (is_open (place_at w p)) → IsWhole w × KeptUnder v w p k
-    one-call p k (registers v) i u o =
-        (Whole-registered v i,
-        kept v (registered v) p k u o (record { standing = u.standing; value = refl })
-        (persists-registered-if v p (below-or-past p (length v.time.places)) (open-place v p u.guarded (below-or-past p (length v.time.places))))
-        (persists-registered-if v u.holder (below-or-past u.holder (length v.time.places)) (waits-place v u.holder k u.seen u.waits)))
+    one-call p k (registers v) i u o = (
+      Whole-registered v i,
+      kept v (registered v) p k u o (record { standing = u.standing; value = refl })
+          (persists-registered-if v p (below-or-past p (length v.time.places)) (open-place v p u.guarded (below-or-past p (length v.time.places))))
+          (persists-registered-if v u.holder (below-or-past u.holder (length v.time.places)) (waits-place v u.holder k u.seen u.waits)),
+    )
     one-call p k (opens v r l) i u o = (Whole-opened holds v r l i, under-opens v p k r l i u (how holds v r l))
     one-call p k (closes v r l) i u o =
         (Whole-closed v r l i, kept v (closed v r) p k u o (record { standing = u.standing; value = refl }) (persists-closed v.time r p l) (persists-closed v.time r u.holder l))
     one-call p k (stirs v r l) i u o = (Whole-stirred v r l i, under-place v p k r (time.with_garbage (place_at v r)) l u (record { found = refl; waits = λ w h. h }) o)
     one-call p k (accelerates v r l) i u o = (Whole-accelerated v r l i, under-place v p k r (time.accelerated (place_at v r)) l u (record { found = refl; waits = λ w h. h }) o)
     one-call p k (makes v j value empty) i u o =
-        let apart : k ≢ j = λ e. let never : Some Retired ≡ None = sym u.standing ∙ ap (λ (n : ℕ). standing_at v n) e ∙ empty.1 in absurd (cc) in
-        (Whole-made v j value empty.0 empty.1 i,
-        kept v (made v j value) p k u o
-        (record { standing = get_or-set_other v.standings j k (Some Owned) None apart ∙ u.standing; value = get_or-set_other v.values j k (Some value) None apart })
-        (record { found = refl; waits = λ w h. h }) (record { found = refl; waits = λ w h. h }))
+        let apart : k ≢ j = λ e. let never : Some Retired ≡ None = sym u.standing ∙ ap (λ (n : ℕ). standing_at v n) e ∙ empty.1 in absurd (cc) in (
+          Whole-made v j value empty.0 empty.1 i,
+          kept v (made v j value) p k u o
+              (record { standing = get_or-set_other v.standings j k (Some Owned) None apart ∙ u.standing; value = get_or-set_other v.values j k (Some value) None apart })
+              (record { found = refl; waits = λ w h. h }) (record { found = refl; waits = λ w h. h }),
+        )
     one-call p k (retires v r j l there) i u o =
         let apart : k ≢ j = λ e. absurd (no-owner (sym u.standing ∙ ap (λ (n : ℕ). standing_at v n) e ∙ there)) in
-        let on = persists-given (j ∷ []) (place_at v r) in
-        (Whole-retires v r j l there i,
-        kept v (retired v r j) p k u o (record { standing = get_or-set_other v.standings j k (Some Retired) None apart ∙ u.standing; value = refl })
-        (persists-place v.time r p (time.awaiting (Item j) (place_at v r)) l on) (persists-place v.time r u.holder (time.awaiting (Item j) (place_at v r)) l on))
+        let on = persists-given (j ∷ []) (place_at v r) in (
+          Whole-retires v r j l there i,
+          kept v (retired v r j) p k u o (record { standing = get_or-set_other v.standings j k (Some Retired) None apart ∙ u.standing; value = refl })
+              (persists-place v.time r p (time.awaiting (Item j) (place_at v r)) l on) (persists-place v.time r u.holder (time.awaiting (Item j) (place_at v r)) l on),
+        )
     one-call p k (nulls v c empty) i u o =
         (Whole-nulled v c i, kept v (nulled v c) p k u o (record { standing = u.standing; value = refl }) (record { found = refl; waits = λ w h. h }) (record { found = refl; waits = λ w h. h }))
     one-call p k (closes_cell v r c l) i u o =
         let g = Gives-cell_closed v r c l in
         let on = persists-given g.slots (place_at v r) in
         let at : (q : ℕ) → Persists (place_at v q) (place_at (cell_closed v r c) q) =
-        λ q. subst (λ (t : Time). Persists (place_at v q) (time.place_at t q)) (sym g.time) (persists-place v.time r q (all_awaiting g.slots (place_at v r)) l on) in
-        (Whole-cell_closed v r c l i,
-        kept v (cell_closed v r c) p k u o (closed-stands v r c k (Some Retired) (value_at v k) no-owner (record { standing = u.standing; value = refl })) (at p) (at u.holder))
+        λ q. subst (λ (t : Time). Persists (place_at v q) (time.place_at t q)) (sym g.time) (persists-place v.time r q (all_awaiting g.slots (place_at v r)) l on) in (
+          Whole-cell_closed v r c l i,
+          kept v (cell_closed v r c) p k u o (closed-stands v r c k (Some Retired) (value_at v k) no-owner (record { standing = u.standing; value = refl })) (at p) (at u.holder),
+        )
 
     all-calls : (p k : ℕ) {v w : World T} → CallsUnder holds p v w → IsWhole v → IsUnder v p k → IsWhole w × KeptUnder v w p k
     all-calls p k (none v o) i u = (i, (u, refl))

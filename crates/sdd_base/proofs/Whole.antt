@@ -553,13 +553,13 @@ module _ {T : Type 0} where
         filled = i.filled;
         once = i.once;
         abreast = λ p. let a = i.abreast p in
-        record {
-          found = omega (arith, a.found);
-          near = λ o. passed-near w.time.count (place_at w p) o (all p);
-          young = a.young;
-          countdown = a.countdown;
-          quiet = a.quiet;
-        };
+            record {
+              found = omega (arith, a.found);
+              near = λ o. passed-near w.time.count (place_at w p) o (all p);
+              young = a.young;
+              countdown = a.countdown;
+              quiet = a.quiet;
+            };
         counted = i.counted;
       }
 

@@ -133,6 +133,7 @@ fn pass_values<T: Item<T>>(world: &mut World<T>, place: &Place, mut values: Vec<
     requires plain { HoldsNothing T.holds }
     ensures { HavePassed (length values.items) world.old world.new }
 {
+    world.items_pass();
     while let Some(value) = values.pop() {
         pass_a_value(world, place, value);
     }

@@ -50,7 +50,12 @@ impl fmt::Display for Reply {
             Reply::Item(owner, item) => write!(f, "{owner} {item}"),
             Reply::Value(value) => write!(f, "{value}"),
             Reply::Refused(refused) => {
-                write!(f, "refused {} {}", number_of_refusal(refused), name_of(refused))
+                write!(
+                    f,
+                    "refused {} {}",
+                    number_of_refusal(refused),
+                    name_of(refused)
+                )
             }
             Reply::Invalid => write!(f, "invalid"),
         }

@@ -1,12 +1,27 @@
 //! Slots that run out, and what an owner shows.
 use crate::steps::{AMPLE, closed, joined, made, new_world, refused, retire, shows};
-use sdd_base::{AtomicOwned, Guard, Limits, Owned};
+use sdd_base::{AtomicOwned, Guard, Limits, Owned, Space};
 use sdd_core::Refused;
 use sdd_world::World;
 
 #[test]
 fn an_owner_takes_four_bytes(rt: HostRuntime) {
     assert_eq!(rt; size_of::<Owned<u64>>(), 4);
+}
+
+/// Only the caller's own calls change the space.
+fn is_alone<S: Space<u64>>(_space: &S) -> bool {
+    S::ALONE
+}
+
+#[test]
+fn a_turn_is_alone_with_its_world(rt: HostRuntime) {
+    let mut world: World<u64> = new_world(&rt, AMPLE, 0);
+    let place = joined(&rt, &mut world);
+    let turn = world.at(&place);
+    assert!(rt; is_alone(&turn));
+    drop(turn);
+    closed(&rt, world);
 }
 
 #[test]

@@ -619,9 +619,11 @@ module _ {T : Type 0} (holds : T → List Holding) (w : World T) where
   -- where values hold nothing, all goes exactly if nothing is out
   pub plain-goes : HoldsNothing holds → AllGo holds w → out w ≡ 0
   plain-goes plain all =
-      omega (arith,
-      all-uncounted is_out w.standings (λ k. plain-slot plain all k (standing_at w k) refl),
-      all-uncounted is_some w.cells (λ c. plain-cell plain all c (entry_at w.cells c) refl))
+      omega (
+        arith,
+        all-uncounted is_out w.standings (λ k. plain-slot plain all k (standing_at w k) refl),
+        all-uncounted is_some w.cells (λ c. plain-cell plain all c (entry_at w.cells c) refl),
+      )
 
 -- a tally goes on counting all that was made
 reclaimed-made : (n : ℕ) (t : Tally) → (with_reclaimed n t).made ≡ t.made

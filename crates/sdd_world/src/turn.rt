@@ -229,4 +229,3 @@ impl<T: Item<T>> Space<T> for Turn<'_, T> {
 
     ghost alone_is_exact = { λ _ alone. alone };
 }
-

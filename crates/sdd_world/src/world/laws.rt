@@ -20,8 +20,7 @@ impl<T: Item<T>> World<T> {
     /// What each call puts out of the world's hands, and what it takes back.
     pub fn counts_what_is_out(&self)
         ensures { (w : World T) → OutLaws T.holds w }
-    {
-    }
+    {}
 
     /// After how many openings of its holder an item that waits is reclaimed at latest.
     pub fn reclaims_in_time(&self)
@@ -34,14 +33,12 @@ impl<T: Item<T>> World<T> {
     /// An accelerated guard leaves no guard open, and no more out than was.
     pub fn accelerated_guards_pass(&self)
         ensures { GuardsPass T.holds self.now }
-    {
-    }
+    {}
 
     /// An item that is made and retired at once opens no guard, and leaves as much out as was.
     pub fn items_pass(&self)
         ensures { ItemsPass T }
-    {
-    }
+    {}
 
     /// Four accelerated guards of a participant, one after another, reclaim all that waits with it, where no other guard is open.
     pub fn four_guards_reclaim(&self)

@@ -16,5 +16,5 @@ invariant_of-self g c =
       c.change.ensures.empty,
       omega (arith, c.change.ensures.reserved, c.set_pace.ensures.sizes.slots),
       rw (c.set_pace.ensures.paced, c.pace-pace.ensures, c.time.ensures, ← c.self.view_is, c.change.ensures.changed)
-      (Whole-paced (changed holds w p) p (pace_of (place_at w p)) inside (abreast-paced holds w p l whole) (Whole-changed holds w p l whole)),
+          (Whole-paced (changed holds w p) p (pace_of (place_at w p)) inside (abreast-paced holds w p l whole) (Whole-changed holds w p l whole)),
     )
