@@ -37,7 +37,8 @@ entry-first k seen w ws (inl e) =
     omega (arith, all)
 entry-first k seen w ws (inr h) = omega (arith, h, count-cons (λ (w : Waiting). is_of_slot k w.what) w ws)
 
-entry-or : (k seen : ℕ) (w : Waiting) (ws : List Waiting) → (w ≡ having_seen seen (Item k)) ⊎ Contains ws (having_seen seen (Item k)) → (Contains ws (having_seen seen (Item k)) → 1 ≤ times_listed k ws) →
+entry-or : (k seen : ℕ) (w : Waiting) (ws : List Waiting) → (w ≡ having_seen seen (Item k)) ⊎ Contains ws (having_seen seen (Item k)) →
+    (Contains ws (having_seen seen (Item k)) → 1 ≤ times_listed k ws) →
     1 ≤ times_listed k (w ∷ ws)
 entry-or k seen w ws (inl e) on = entry-first k seen w ws (inl e)
 entry-or k seen w ws (inr h) on = entry-first k seen w ws (inr (on h))
@@ -51,21 +52,25 @@ left-cons : (w : Waiting) (ws : List Waiting) (y : Waiting) (b : Bool) → is_du
 left-cons w ws y true e h = rw e h
 left-cons w ws y false e h = rw e (listed-later (older w) (left (aged ws)) y h)
 
-left-here : (k seen : ℕ) (w : Waiting) (ws : List Waiting) → seen < 2 → w ≡ having_seen seen (Item k) → Contains (left (aged (w ∷ ws))) (having_seen (seen + 1) (Item k))
+left-here : (k seen : ℕ) (w : Waiting) (ws : List Waiting) → seen < 2 → w ≡ having_seen seen (Item k) →
+    Contains (left (aged (w ∷ ws))) (having_seen (seen + 1) (Item k))
 left-here k seen w ws young e =
     let fits : is_due (older w) ≡ false = rw e (grind (arith, nat_tests)) in
     rw fits (zero, omega arith, ap (λ (x : Waiting). older x) e)
 
 left-or : (k seen : ℕ) (w : Waiting) (ws : List Waiting) → seen < 2 → (w ≡ having_seen seen (Item k)) ⊎ Contains ws (having_seen seen (Item k)) →
-    (Contains ws (having_seen seen (Item k)) → Contains (left (aged ws)) (having_seen (seen + 1) (Item k))) → Contains (left (aged (w ∷ ws))) (having_seen (seen + 1) (Item k))
+    (Contains ws (having_seen seen (Item k)) → Contains (left (aged ws)) (having_seen (seen + 1) (Item k))) →
+    Contains (left (aged (w ∷ ws))) (having_seen (seen + 1) (Item k))
 left-or k seen w ws young (inl e) on = left-here k seen w ws young e
 left-or k seen w ws young (inr h) on = left-cons w ws (having_seen (seen + 1) (Item k)) (is_due (older w)) refl (on h)
 
-pub entry-older : (k seen : ℕ) (ws : List Waiting) → seen < 2 → Contains ws (having_seen seen (Item k)) → Contains (left (aged ws)) (having_seen (seen + 1) (Item k))
+pub entry-older : (k seen : ℕ) (ws : List Waiting) → seen < 2 → Contains ws (having_seen seen (Item k)) →
+    Contains (left (aged ws)) (having_seen (seen + 1) (Item k))
 entry-older k seen [] young h = absurd (omega (arith, h.1))
 entry-older k seen (w ∷ ws) young h = left-or k seen w ws young (listed-cases w ws (having_seen seen (Item k)) h) (λ g. entry-older k seen ws young g)
 
-due-cons : (k : ℕ) (w : Waiting) (ws : List Waiting) (b : Bool) → is_due (older w) ≡ b → 1 ≤ times_among k (due (aged ws)) → 1 ≤ times_among k (due (aged (w ∷ ws)))
+due-cons : (k : ℕ) (w : Waiting) (ws : List Waiting) (b : Bool) → is_due (older w) ≡ b → 1 ≤ times_among k (due (aged ws)) →
+    1 ≤ times_among k (due (aged (w ∷ ws)))
 due-cons k w ws true e h = let all = count-cons (is_of_slot k) w.what (due (aged ws)) in rw e (omega (arith, h, all))
 due-cons k w ws false e h = rw e h
 
@@ -76,7 +81,8 @@ due-here k w ws e =
     let all : times_among k (w.what ∷ due (aged ws)) ≡ 1 + times_among k (due (aged ws)) = count-cons (is_of_slot k) w.what (due (aged ws)) ∙ rw one refl in
     rw ripe (omega (arith, all))
 
-due-or : (k : ℕ) (w : Waiting) (ws : List Waiting) → (w ≡ having_seen 2 (Item k)) ⊎ Contains ws (having_seen 2 (Item k)) → (Contains ws (having_seen 2 (Item k)) → 1 ≤ times_among k (due (aged ws))) →
+due-or : (k : ℕ) (w : Waiting) (ws : List Waiting) → (w ≡ having_seen 2 (Item k)) ⊎ Contains ws (having_seen 2 (Item k)) →
+    (Contains ws (having_seen 2 (Item k)) → 1 ≤ times_among k (due (aged ws))) →
     1 ≤ times_among k (due (aged (w ∷ ws)))
 due-or k w ws (inl e) on = due-here k w ws e
 due-or k w ws (inr h) on = due-cons k w ws (is_due (older w)) refl (on h)
@@ -91,7 +97,8 @@ one-place k (x ∷ ps) zero = omega (arith, sum_by-cons (times_with k) x ps)
 one-place k (x ∷ ps) (suc p) = omega (arith, sum_by-cons (times_with k) x ps, one-place k ps p)
 
 -- an entry of one participant, and one of another
-two-places : (k : ℕ) (ps : List Participant) (p q : ℕ) → p ≢ q → q < length ps → times_with k (slice_index_or ps p nobody) + times_with k (slice_index_or ps q nobody) ≤ sum_by (times_with k) ps
+two-places : (k : ℕ) (ps : List Participant) (p q : ℕ) → p ≢ q → q < length ps →
+    times_with k (slice_index_or ps p nobody) + times_with k (slice_index_or ps q nobody) ≤ sum_by (times_with k) ps
 two-places k ps p q apart l =
     let without = slice_set ps q nobody in
     let other : slice_index_or without p nobody ≡ slice_index_or ps p nobody = get_or-set_other ps q p nobody nobody apart in
@@ -152,7 +159,8 @@ module _ {T : Type 0} (holds : T → List Holding) (w : World T) (p k seen : ℕ
   -- the caller's own entries, after its opening
   pub nests-waits : p < length w.time.places → Nests holds w p → Waits w p k seen → Waits (opened holds w p) p k seen
   nests-waits l n h =
-      let here : place_at (opened holds w p) p ≡ time.nested (place_at w p) = ap (λ (u : World T). place_at u p) n.nests ∙ get_or-set_same w.time.places p (time.nested (place_at w p)) nobody l in
+      let here : place_at (opened holds w p) p ≡ time.nested (place_at w p) =
+      ap (λ (u : World T). place_at u p) n.nests ∙ get_or-set_same w.time.places p (time.nested (place_at w p)) nobody l in
       subst (λ (x : Participant). Contains x.bags.waiting (having_seen seen (Item k))) (sym here) h
 
   pub change-waits : p < length w.time.places → IsChange holds w p → seen < 2 → Waits w p k seen → Waits (opened holds w p) p k (seen + 1)
@@ -160,6 +168,7 @@ module _ {T : Type 0} (holds : T → List Holding) (w : World T) (p k seen : ℕ
       let o = opens holds w p l (is_open (place_at w p)) refl in
       let y : Waiting = having_seen (seen + 1) (Item k) in
       let test : ((place_at w p).found == w.time.count) ≡ false = differs (place_at w p).found w.time.count c.another in
-      let own : place_at (opened holds w p) p ≡ time.settled (all_awaiting o.slots (time.rotated w.time.count (time.nested (place_at w p)))) = o.own ∙ opens-changed w.time.count o.slots (place_at w p) c.closed_before test in
+      let own : place_at (opened holds w p) p ≡ time.settled (all_awaiting o.slots (time.rotated w.time.count (time.nested (place_at w p)))) =
+      o.own ∙ opens-changed w.time.count o.slots (place_at w p) c.closed_before test in
       subst (λ (x : Participant). Contains x.bags.waiting y) (sym own)
       (all_awaiting-waiting o.slots (time.rotated w.time.count (time.nested (place_at w p))) y (entry-older k seen (place_at w p).bags.waiting young h))

@@ -38,9 +38,11 @@ whichever [] k d e l = absurd (omega (arith, l))
 whichever (x ∷ ps) zero d e l = refl
 whichever (x ∷ ps) (suc k) d e l = whichever ps k d e (omega (arith, l))
 
-pub open-inside : (ps : List Participant) (q : ℕ) → (q < length ps) ⊎ (length ps ≤ q) → IsTrue (is_open (slice_index_or ps q nobody)) → Any (λ p. IsTrue (is_open p)) ps
+pub open-inside : (ps : List Participant) (q : ℕ) → (q < length ps) ⊎ (length ps ≤ q) → IsTrue (is_open (slice_index_or ps q nobody)) →
+    Any (λ p. IsTrue (is_open p)) ps
 open-inside ps q (inl l) o = (q, slice_index_or ps q nobody, l, whichever ps q (slice_index_or ps q nobody) nobody l, o)
-open-inside ps q (inr past) o = let never : IsTrue (is_open nobody) = subst (λ (x : Participant). IsTrue (is_open x)) (get_or_past ps q nobody past) o in absurd (cc)
+open-inside ps q (inr past) o =
+    let never : IsTrue (is_open nobody) = subst (λ (x : Participant). IsTrue (is_open x)) (get_or_past ps q nobody past) o in absurd (cc)
 
 -- no guard is open exactly where each participant has none
 pub all-closed : {T : Type 0} (w : World T) → (IsGuarded w → ⊥) → AllClosed w
@@ -57,7 +59,8 @@ all-passing count [] h = refl
 all-passing count (x ∷ ps) h = rw (h zero) (all-passing count ps (λ p. h (suc p)))
 
 -- the last guard of p is closed at countdown 0, and its scan raises the count
-closed-raises : (t : Time) (p : ℕ) → nat_lt 1 (time.place_at t p).guards ≡ false → is_open (time.place_at t p) ≡ true → ((time.place_at t p).countdown == 0) ≡ true → ((time.place_at t p).found == t.count) ≡ true →
+closed-raises : (t : Time) (p : ℕ) → nat_lt 1 (time.place_at t p).guards ≡ false → is_open (time.place_at t p) ≡ true →
+    ((time.place_at t p).countdown == 0) ≡ true → ((time.place_at t p).found == t.count) ≡ true →
     (nat_lt t.count last_count && list_all (passes t.count) t.places) ≡ true →
     time.closed t p ≡ with_place (record t { marked = false; count = t.count + 1 }) p (record (time.place_at t p) { guards = 0; countdown = 127 })
 closed-raises t p one o c f all = rw (one, o, c, f, all) refl
@@ -67,7 +70,8 @@ record IsAlone (count : ℕ) (x : Participant) : Type 0 where
   guards : x.guards ≡ 1
   found : x.found ≡ count
 
-alone-opened : (count : ℕ) (slots : List ℕ) (x : Participant) → is_open x ≡ false → (b : Bool) → (x.found == count) ≡ b → IsAlone count (opened_at count slots x)
+alone-opened : (count : ℕ) (slots : List ℕ) (x : Participant) → is_open x ≡ false → (b : Bool) → (x.found == count) ≡ b →
+    IsAlone count (opened_at count slots x)
 alone-opened count slots x o true e =
     let none : x.guards ≡ 0 = grind (arith, nat_tests, o) in
     let same : x.found ≡ count = grind (arith, nat_tests, e) in
@@ -97,7 +101,8 @@ module _ {T : Type 0} (holds : T → List Holding) where
       record { guards = ap (λ (x : Participant). x.guards) o.own ∙ a.guards; found = ap (λ (x : Participant). x.found) o.own ∙ a.found }
 
   -- nobody has no guard open
-  opened-range : (w : World T) (p : ℕ) → p < length w.time.places → AllClosed w → (p < length (opened holds w p).time.places) ⊎ (length (opened holds w p).time.places ≤ p) → p < length (opened holds w p).time.places
+  opened-range : (w : World T) (p : ℕ) → p < length w.time.places → AllClosed w →
+      (p < length (opened holds w p).time.places) ⊎ (length (opened holds w p).time.places ≤ p) → p < length (opened holds w p).time.places
   opened-range w p l shut (inl inside) = inside
   opened-range w p l shut (inr past) =
       let none : (place_at (opened holds w p) p).guards ≡ 0 = ap (λ (x : Participant). x.guards) (get_or_past (opened holds w p).time.places p nobody past) in
@@ -114,20 +119,23 @@ module _ {T : Type 0} (holds : T → List Holding) where
   ready-here w p l shut = get_or-set_same (opened holds w p).time.places p (time.accelerated (place_at (opened holds w p) p)) nobody (opened-place w p l shut)
 
   ready-other : (w : World T) (p q : ℕ) → p < length w.time.places → q ≢ p → place_at (ready w p) q ≡ place_at w q
-  ready-other w p q l apart = get_or-set_other (opened holds w p).time.places p q (time.accelerated (place_at (opened holds w p) p)) nobody apart ∙ opened-other holds w p l q apart
+  ready-other w p q l apart =
+      get_or-set_other (opened holds w p).time.places p q (time.accelerated (place_at (opened holds w p) p)) nobody apart ∙ opened-other holds w p l q apart
 
   ready-passes : (w : World T) (p q : ℕ) → p < length w.time.places → AllClosed w → (q ≡ p) ⊎ (q ≢ p) → passes w.time.count (place_at (ready w p) q) ≡ true
   ready-passes w p q l shut (inl e) =
       let a = opened-alone w p l shut in
       let same : ((place_at (ready w p) p).found == w.time.count) ≡ true = rw (ready-here w p l shut, a.found) (grind (arith, nat_tests)) in
-      subst (λ (m : ℕ). passes w.time.count (place_at (ready w p) m) ≡ true) (sym e) (or-right (not (is_open (place_at (ready w p) p))) ((place_at (ready w p) p).found == w.time.count) same)
+      subst (λ (m : ℕ). passes w.time.count (place_at (ready w p) m) ≡ true) (sym e)
+      (or-right (not (is_open (place_at (ready w p) p))) ((place_at (ready w p) p).found == w.time.count) same)
   ready-passes w p q l shut (inr apart) = rw (ready-other w p q l apart, shut q) refl
 
   ready-count : (w : World T) (p : ℕ) → p < length w.time.places → (ready w p).time.count ≡ w.time.count
   ready-count w p l = (opens holds w p l (is_open (place_at w p)) refl).count
 
   ready-place : (w : World T) (p : ℕ) → p < length w.time.places → AllClosed w → p < length (ready w p).time.places
-  ready-place w p l shut = omega (arith, opened-place w p l shut, length-set (opened holds w p).time.places p (time.accelerated (place_at (opened holds w p) p)))
+  ready-place w p l shut =
+      omega (arith, opened-place w p l shut, length-set (opened holds w p).time.places p (time.accelerated (place_at (opened holds w p) p)))
 
   pub raises : (w : World T) (p : ℕ) → p < length w.time.places → AllClosed w → w.time.count < last_count → Raises w p
   raises w p l shut room =
@@ -137,10 +145,12 @@ module _ {T : Type 0} (holds : T → List Holding) where
       let guards : (place_at (ready w p) p).guards ≡ 1 = ap (λ (x : Participant). x.guards) here ∙ a.guards in
       let found : (place_at (ready w p) p).found ≡ t.count = ap (λ (x : Participant). x.found) here ∙ a.found ∙ sym (ready-count w p l) in
       let all : list_all (passes t.count) t.places ≡ true =
-      all-passing t.count t.places (λ q. subst (λ (n : ℕ). passes n (place_at (ready w p) q) ≡ true) (sym (ready-count w p l)) (ready-passes w p q l shut (same-or-not q p))) in
+      all-passing t.count t.places (λ q. subst (λ (n : ℕ). passes n (place_at (ready w p) q) ≡ true) (sym (ready-count w p l))
+      (ready-passes w p q l shut (same-or-not q p))) in
       let low : nat_lt t.count last_count ≡ true = grind (arith, nat_tests, ready-count w p l, room) in
       let is =
-      closed-raises t p (rw guards refl) (rw guards refl) (rw here refl) (grind (arith, nat_tests, found)) (and-both (nat_lt t.count last_count) (list_all (passes t.count) t.places) low all) in
+      closed-raises t p (rw guards refl) (rw guards refl) (rw here refl) (grind (arith, nat_tests, found))
+      (and-both (nat_lt t.count last_count) (list_all (passes t.count) t.places) low all) in
       let end : Participant = record (time.place_at t p) { guards = 0; countdown = 127 } in
       record {
         count = ap (λ (u : Time). u.count) is ∙ ap (λ (n : ℕ). n + 1) (ready-count w p l);
@@ -151,18 +161,22 @@ module _ {T : Type 0} (holds : T → List Holding) where
       }
 
   -- afterwards no guard is open again
-  closed-shut : (t : Time) (p q : ℕ) → p < length t.places → (time.place_at t p).guards ≡ 1 → (q ≢ p → is_open (time.place_at t q) ≡ false) → (q ≡ p) ⊎ (q ≢ p) →
+  closed-shut : (t : Time) (p q : ℕ) → p < length t.places → (time.place_at t p).guards ≡ 1 → (q ≢ p → is_open (time.place_at t q) ≡ false) →
+      (q ≡ p) ⊎ (q ≢ p) →
       (u : Time) → u.places ≡ t.places → is_open (time.place_at (with_place u p (record (time.place_at t p) { guards = 0; countdown = 127 })) q) ≡ false
   closed-shut t p q l one others (inl e) u same =
       let end : Participant = record (time.place_at t p) { guards = 0; countdown = 127 } in
       let inside : p < length u.places = omega (arith, l, ap (λ (ps : List Participant). length ps) same) in
-      subst (λ (m : ℕ). is_open (time.place_at (with_place u p end) m) ≡ false) (sym e) (ap (λ (x : Participant). is_open x) (get_or-set_same u.places p end nobody inside))
+      subst (λ (m : ℕ). is_open (time.place_at (with_place u p end) m) ≡ false) (sym e)
+      (ap (λ (x : Participant). is_open x) (get_or-set_same u.places p end nobody inside))
   closed-shut t p q l one others (inr apart) u same =
       let end : Participant = record (time.place_at t p) { guards = 0; countdown = 127 } in
-      ap (λ (x : Participant). is_open x) (get_or-set_other u.places p q end nobody apart ∙ ap (λ (ps : List Participant). slice_index_or ps q nobody) same) ∙ others apart
+      ap (λ (x : Participant). is_open x) (get_or-set_other u.places p q end nobody apart ∙ ap (λ (ps : List Participant). slice_index_or ps q nobody) same)
+      ∙ others apart
 
   -- a close at countdown 0 of the last guard, whether its scan raises the count or not
-  closed-is : (t : Time) (p : ℕ) → nat_lt 1 (time.place_at t p).guards ≡ false → is_open (time.place_at t p) ≡ true → ((time.place_at t p).countdown == 0) ≡ true →
+  closed-is : (t : Time) (p : ℕ) → nat_lt 1 (time.place_at t p).guards ≡ false → is_open (time.place_at t p) ≡ true →
+      ((time.place_at t p).countdown == 0) ≡ true →
       time.closed t p ≡ with_place (time.scanned t p) p (record (time.place_at t p) { guards = 0; countdown = 127 })
   closed-is t p one o c = rw (one, o, c) refl
 
@@ -193,14 +207,17 @@ module _ {T : Type 0} (holds : T → List Holding) where
     waits : (seen : ℕ) → least ≤ seen → Waits w p k seen → HasSeen w p k least
 
   -- an accelerated guard and its opening leave the same waiting
-  closed-waits : (w : World T) (p k seen : ℕ) → p < length w.time.places → AllClosed w → Waits (opened holds w p) p k seen → Waits (accelerated_guard holds w p) p k seen
+  closed-waits : (w : World T) (p k seen : ℕ) → p < length w.time.places → AllClosed w → Waits (opened holds w p) p k seen →
+      Waits (accelerated_guard holds w p) p k seen
   closed-waits w p k seen l shut h =
       let y : Waiting = having_seen seen (Item k) in
-      let ready_waits : Contains (place_at (ready w p) p).bags.waiting y = subst (λ (x : Participant). Contains x.bags.waiting y) (sym (ready-here w p l shut)) h in
+      let ready_waits : Contains (place_at (ready w p) p).bags.waiting y =
+      subst (λ (x : Participant). Contains x.bags.waiting y) (sym (ready-here w p l shut)) h in
       (persists-closed (ready w p).time p p (ready-place w p l shut)).waits y ready_waits
 
   -- what does not wait is not due
-  never-due : (w : World T) (p k : ℕ) → IsWhole w → is_waiting (standing_at w k) ≡ false → Nests holds w p ⊎ IsChange holds w p → times_among k (reclaims w p) ≡ 0
+  never-due : (w : World T) (p k : ℕ) → IsWhole w → is_waiting (standing_at w k) ≡ false → Nests holds w p ⊎ IsChange holds w p →
+      times_among k (reclaims w p) ≡ 0
   never-due w p k i idle (inl n) = ap (λ xs. times_among k xs) n.none
   never-due w p k i idle (inr c) =
       let none : times_waiting w k ≡ 0 = i.once k ∙ rw idle refl in
@@ -215,17 +232,21 @@ module _ {T : Type 0} (holds : T → List Holding) where
   value-there : (w : World T) (k : ℕ) → IsWhole w → is_waiting (standing_at w k) ≡ true → (v : Option T) → value_at w k ≡ v → is_some v ≡ true
   value-there w k i standing v e = ap is_some (sym e) ∙ filled-there w k i.filled ∙ some-waits (standing_at w k) standing
 
-  due-goes : (w : World T) (p k : ℕ) → p < length w.time.places → IsWhole w → is_waiting (standing_at w k) ≡ true → 1 ≤ times_among k (reclaims w p) → (v : Option T) → value_at w k ≡ v → is_some v ≡ true → Stands k None None (opened holds w p)
+  due-goes : (w : World T) (p k : ℕ) → p < length w.time.places → IsWhole w → is_waiting (standing_at w k) ≡ true → 1 ≤ times_among k (reclaims w p) →
+      (v : Option T) → value_at w k ≡ v → is_some v ≡ true → Stands k None None (opened holds w p)
   due-goes w p k l i standing some None e there = absurd (cc)
   due-goes w p k l i standing some (Some v) e there = opened-goes holds w p l k (standing_at w k) v standing some (record { standing = refl; value = e })
 
-  nests-why : (w : World T) (p : ℕ) → AllClosed w → (place_at w p).found ≢ w.time.count → (is_open (place_at w p) ≡ true) ⊎ ((is_open (place_at w p) ≡ false) × ((place_at w p).found ≡ w.time.count)) → ⊥
+  nests-why : (w : World T) (p : ℕ) → AllClosed w → (place_at w p).found ≢ w.time.count →
+      (is_open (place_at w p) ≡ true) ⊎ ((is_open (place_at w p) ≡ false) × ((place_at w p).found ≡ w.time.count)) → ⊥
   nests-why w p shut another (inl o) = let never : false ≡ true = sym (shut p) ∙ o in absurd (cc)
   nests-why w p shut another (inr h) = another h.1
 
-  change-grows : (w : World T) (p k least seen : ℕ) → p < length w.time.places → AllClosed w → IsWhole w → least ≤ seen → Waits w p k seen → IsChange holds w p → (seen < 2) ⊎ (2 ≤ seen) →
+  change-grows : (w : World T) (p k least seen : ℕ) → p < length w.time.places → AllClosed w → IsWhole w → least ≤ seen → Waits w p k seen →
+      IsChange holds w p → (seen < 2) ⊎ (2 ≤ seen) →
       HasSeen (accelerated_guard holds w p) p k (least + 1)
-  change-grows w p k least seen l shut i more h c (inl young) = waits (seen + 1) (omega (arith, more)) (closed-waits w p k (seen + 1) l shut (change-waits holds w p k seen l c young h))
+  change-grows w p k least seen l shut i more h c (inl young) =
+      waits (seen + 1) (omega (arith, more)) (closed-waits w p k (seen + 1) l shut (change-waits holds w p k seen l c young h))
   change-grows w p k least seen l shut i more h c (inr old) =
       let two : seen ≡ 2 = omega (arith, old, waits-young w p k seen i h) in
       let ripe = entry-due k (place_at w p).bags.waiting (subst (λ (n : ℕ). Waits w p k n) two h) in
@@ -238,22 +259,27 @@ module _ {T : Type 0} (holds : T → List Holding) where
   fewer w p k least (gone g) = gone g
   fewer w p k least (waits seen more h) = waits seen (omega (arith, more)) h
 
-  any-grows : (w : World T) (p k least seen : ℕ) → p < length w.time.places → AllClosed w → IsWhole w → least ≤ seen → Waits w p k seen → Nests holds w p ⊎ IsChange holds w p → HasSeen (accelerated_guard holds w p) p k least
+  any-grows : (w : World T) (p k least seen : ℕ) → p < length w.time.places → AllClosed w → IsWhole w → least ≤ seen → Waits w p k seen →
+      Nests holds w p ⊎ IsChange holds w p → HasSeen (accelerated_guard holds w p) p k least
   any-grows w p k least seen l shut i more h (inl n) = waits seen more (closed-waits w p k seen l shut (nests-waits holds w p k seen l n h))
-  any-grows w p k least seen l shut i more h (inr c) = fewer (accelerated_guard holds w p) p k least (change-grows w p k least seen l shut i more h c (below-or-past seen 2))
+  any-grows w p k least seen l shut i more h (inr c) =
+      fewer (accelerated_guard holds w p) p k least (change-grows w p k least seen l shut i more h c (below-or-past seen 2))
 
   -- where p finds another count, its opening is a change
   must-change : (w : World T) (p : ℕ) → AllClosed w → (place_at w p).found ≢ w.time.count → Nests holds w p ⊎ IsChange holds w p → IsChange holds w p
   must-change w p shut another (inr c) = c
   must-change w p shut another (inl n) = absurd (nests-why w p shut another n.why)
 
-  after-one : (w : World T) (p k least : ℕ) → p < length w.time.places → AllClosed w → IsWhole w → HasSeen w p k least → HasSeen (accelerated_guard holds w p) p k least
+  after-one : (w : World T) (p k least : ℕ) → p < length w.time.places → AllClosed w → IsWhole w → HasSeen w p k least →
+      HasSeen (accelerated_guard holds w p) p k least
   after-one w p k least l shut i (gone g) = let o = gone-opened w p k l i g in gone (record { standing = o.standing; value = o.value })
   after-one w p k least l shut i (waits seen more h) = any-grows w p k least seen l shut i more h (how holds w p l)
 
-  after-change : (w : World T) (p k least : ℕ) → p < length w.time.places → AllClosed w → IsWhole w → (place_at w p).found ≢ w.time.count → HasSeen w p k least → HasSeen (accelerated_guard holds w p) p k (least + 1)
+  after-change : (w : World T) (p k least : ℕ) → p < length w.time.places → AllClosed w → IsWhole w → (place_at w p).found ≢ w.time.count →
+      HasSeen w p k least → HasSeen (accelerated_guard holds w p) p k (least + 1)
   after-change w p k least l shut i another (gone g) = let o = gone-opened w p k l i g in gone (record { standing = o.standing; value = o.value })
-  after-change w p k least l shut i another (waits seen more h) = change-grows w p k least seen l shut i more h (must-change w p shut another (how holds w p l)) (below-or-past seen 2)
+  after-change w p k least l shut i another (waits seen more h) =
+      change-grows w p k least seen l shut i more h (must-change w p shut another (how holds w p l)) (below-or-past seen 2)
 
   -- what has seen three changes is gone
   gone-by-then : (w : World T) (p k : ℕ) → IsWhole w → HasSeen w p k 3 → Stands k None None w

@@ -72,28 +72,37 @@ module _ {T : Type 0} where
   free-gone : (w : World T) (k : ℕ) → Stands k None None (freed w k)
   free-gone w k = record { standing = none-set w.standings k; value = none-set w.values k }
 
-  retired-apart : (w : World T) (p j k : ℕ) (s : Option Standing) (v : Option T) → (s ≡ Some Owned → ⊥) → standing_at w j ≡ Some Owned → (k ≡ j) ⊎ (k ≢ j) → Stands k s v w → Stands k s v (retired w p j)
+  retired-apart : (w : World T) (p j k : ℕ) (s : Option Standing) (v : Option T) → (s ≡ Some Owned → ⊥) → standing_at w j ≡ Some Owned → (k ≡ j) ⊎ (k ≢ j) →
+      Stands k s v w → Stands k s v (retired w p j)
   retired-apart w p j k s v idle is (inl e) i = absurd (idle (sym i.standing ∙ ap (λ (n : ℕ). standing_at w n) e ∙ is))
-  retired-apart w p j k s v idle is (inr apart) i = record { standing = get_or-set_other w.standings j k (Some Retired) None apart ∙ i.standing; value = i.value }
+  retired-apart w p j k s v idle is (inr apart) i =
+      record { standing = get_or-set_other w.standings j k (Some Retired) None apart ∙ i.standing; value = i.value }
 
   -- what is given up is another slot's
-  given-stands : (w : World T) (p k : ℕ) (s : Option Standing) (v : Option T) → (s ≡ Some Owned → ⊥) → (hs : List Holding) → Stands k s v w → Stands k s v (given_all w p hs)
+  given-stands : (w : World T) (p k : ℕ) (s : Option Standing) (v : Option T) → (s ≡ Some Owned → ⊥) → (hs : List Holding) → Stands k s v w →
+      Stands k s v (given_all w p hs)
   given-stands w p k s v idle hs i =
-      keeps-given_all p (Stands k s v) (λ u j is h. retired-apart u p j k s v idle is (same-or-not k j) h) (λ u c h. record { standing = h.standing; value = h.value }) w hs i
+      keeps-given_all p (Stands k s v) (λ u j is h. retired-apart u p j k s v idle is (same-or-not k j) h)
+      (λ u c h. record { standing = h.standing; value = h.value }) w hs i
 
   pub closed-stands : (w : World T) (p c k : ℕ) (s : Option Standing) (v : Option T) → (s ≡ Some Owned → ⊥) → Stands k s v w → Stands k s v (cell_closed w p c)
   closed-stands w p c k s v idle i =
-      keeps-cell_closed p (Stands k s v) (λ u j is h. retired-apart u p j k s v idle is (same-or-not k j) h) (λ u c h. record { standing = h.standing; value = h.value }) w c i
+      keeps-cell_closed p (Stands k s v) (λ u j is h. retired-apart u p j k s v idle is (same-or-not k j) h)
+      (λ u c h. record { standing = h.standing; value = h.value }) w c i
 
   module _ (holds : T → List Holding) (p k : ℕ) where
     -- reclaiming another slot's item
-    out-stands : (w : World T) (j : ℕ) (s : Option Standing) (v : Option T) → (s ≡ Some Owned → ⊥) → k ≢ j → (u : Option T) → Stands k s v w → Stands k s v (taken_out holds w p j u)
+    out-stands : (w : World T) (j : ℕ) (s : Option Standing) (v : Option T) → (s ≡ Some Owned → ⊥) → k ≢ j → (u : Option T) → Stands k s v w →
+        Stands k s v (taken_out holds w p j u)
     out-stands w j s v idle apart None i = i
     out-stands w j s v idle apart (Some u) i = given-stands (freed w j) p k s v idle (holds u) (free-stands w j k s v apart i)
 
-    reclaimed-stands : (w : World T) (x : What) (s : Option Standing) (v : Option T) → (s ≡ Some Owned → ⊥) → is_of_slot k x ≡ false → Stands k s v w → Stands k s v (reclaimed holds w p x)
-    reclaimed-stands w (Item j) s v idle other i = out-stands w j s v idle (λ e. absurd (grind (arith, nat_tests, other, e))) (waiting_value w j (standing_at w j)) i
-    reclaimed-stands w (Private j c) s v idle other i = out-stands w j s v idle (λ e. absurd (grind (arith, nat_tests, other, e))) (waiting_value w j (standing_at w j)) i
+    reclaimed-stands : (w : World T) (x : What) (s : Option Standing) (v : Option T) → (s ≡ Some Owned → ⊥) → is_of_slot k x ≡ false → Stands k s v w →
+        Stands k s v (reclaimed holds w p x)
+    reclaimed-stands w (Item j) s v idle other i =
+        out-stands w j s v idle (λ e. absurd (grind (arith, nat_tests, other, e))) (waiting_value w j (standing_at w j)) i
+    reclaimed-stands w (Private j c) s v idle other i =
+        out-stands w j s v idle (λ e. absurd (grind (arith, nat_tests, other, e))) (waiting_value w j (standing_at w j)) i
     reclaimed-stands w (Job n) s v idle other i = i
 
     -- nothing comes back into a slot that is free
@@ -112,19 +121,22 @@ module _ {T : Type 0} where
     all-gone (x ∷ xs) w i = all-gone xs (reclaimed holds w p x) (reclaimed-gone w x i)
 
     -- an item that is not among what is reclaimed stays
-    all-stands-if : (x : What) (xs : List What) (w : World T) (s : Option Standing) (v : Option T) → (s ≡ Some Owned → ⊥) → times_among k (x ∷ xs) ≡ 0 → (b : Bool) → is_of_slot k x ≡ b → Stands k s v w →
+    all-stands-if : (x : What) (xs : List What) (w : World T) (s : Option Standing) (v : Option T) → (s ≡ Some Owned → ⊥) → times_among k (x ∷ xs) ≡ 0 →
+        (b : Bool) → is_of_slot k x ≡ b → Stands k s v w →
         (times_among k xs ≡ 0) × Stands k s v (reclaimed holds w p x)
     all-stands-if x xs w s v idle none true e i = absurd (omega (arith, none, among-cons k x xs true e))
     all-stands-if x xs w s v idle none false e i = (omega (arith, none, among-cons k x xs false e), reclaimed-stands w x s v idle e i)
 
-    pub all-stands : (xs : List What) (w : World T) (s : Option Standing) (v : Option T) → (s ≡ Some Owned → ⊥) → times_among k xs ≡ 0 → Stands k s v w → Stands k s v (all_reclaimed holds w p xs)
+    pub all-stands : (xs : List What) (w : World T) (s : Option Standing) (v : Option T) → (s ≡ Some Owned → ⊥) → times_among k xs ≡ 0 → Stands k s v w →
+        Stands k s v (all_reclaimed holds w p xs)
     all-stands [] w s v idle none i = i
     all-stands (x ∷ xs) w s v idle none i =
         let rest = all-stands-if x xs w s v idle none (is_of_slot k x) refl i in
         all-stands xs (reclaimed holds w p x) s v idle rest.0 rest.1
 
     -- an item that is among it goes
-    there-goes : (w : World T) (j : ℕ) (s : Option Standing) (v : T) → k ≡ j → is_waiting s ≡ true → Stands k s (Some v) w → Stands k None None (taken_out holds w p j (waiting_value w j s))
+    there-goes : (w : World T) (j : ℕ) (s : Option Standing) (v : T) → k ≡ j → is_waiting s ≡ true → Stands k s (Some v) w →
+        Stands k None None (taken_out holds w p j (waiting_value w j s))
     there-goes w j None v e waits i = absurd (cc)
     there-goes w j (Some Owned) v e waits i = absurd (cc)
     there-goes w j (Some Raw) v e waits i = absurd (cc)
@@ -136,7 +148,8 @@ module _ {T : Type 0} where
         let there : value_at w j ≡ Some v = sym (ap (λ (n : ℕ). value_at w n) e) ∙ i.value in
         rw there (given-stands (freed w j) p k None None (λ o. absurd (cc)) (holds v) (rw e (free-gone w j)))
 
-    reclaimed-goes : (w : World T) (x : What) (s : Option Standing) (v : T) → is_of_slot k x ≡ true → is_waiting s ≡ true → Stands k s (Some v) w → Stands k None None (reclaimed holds w p x)
+    reclaimed-goes : (w : World T) (x : What) (s : Option Standing) (v : T) → is_of_slot k x ≡ true → is_waiting s ≡ true → Stands k s (Some v) w →
+        Stands k None None (reclaimed holds w p x)
     reclaimed-goes w (Item j) s v of waits i =
         let e : k ≡ j = grind (arith, nat_tests, of) in
         rw (sym (ap (λ (n : ℕ). standing_at w n) e) ∙ i.standing) (there-goes w j s v e waits i)
@@ -148,12 +161,15 @@ module _ {T : Type 0} where
     waits-apart : (s : Option Standing) → is_waiting s ≡ true → s ≡ Some Owned → ⊥
     waits-apart s waits e = let never : false ≡ true = rw e at waits in absurd (cc)
 
-    all-goes-if : (x : What) (xs : List What) (w : World T) (s : Option Standing) (v : T) → is_waiting s ≡ true → 1 ≤ times_among k (x ∷ xs) → (b : Bool) → is_of_slot k x ≡ b → Stands k s (Some v) w →
+    all-goes-if : (x : What) (xs : List What) (w : World T) (s : Option Standing) (v : T) → is_waiting s ≡ true → 1 ≤ times_among k (x ∷ xs) → (b : Bool) →
+        is_of_slot k x ≡ b → Stands k s (Some v) w →
         Stands k None None (reclaimed holds w p x) ⊎ ((1 ≤ times_among k xs) × Stands k s (Some v) (reclaimed holds w p x))
     all-goes-if x xs w s v waits some true e i = inl (reclaimed-goes w x s v e waits i)
-    all-goes-if x xs w s v waits some false e i = inr (omega (arith, some, among-cons k x xs false e), reclaimed-stands w x s (Some v) (waits-apart s waits) e i)
+    all-goes-if x xs w s v waits some false e i =
+        inr (omega (arith, some, among-cons k x xs false e), reclaimed-stands w x s (Some v) (waits-apart s waits) e i)
 
-    pub all-goes : (xs : List What) (w : World T) (s : Option Standing) (v : T) → is_waiting s ≡ true → Stands k None None w ⊎ ((1 ≤ times_among k xs) × Stands k s (Some v) w) →
+    pub all-goes : (xs : List What) (w : World T) (s : Option Standing) (v : T) → is_waiting s ≡ true →
+        Stands k None None w ⊎ ((1 ≤ times_among k xs) × Stands k s (Some v) w) →
         Stands k None None (all_reclaimed holds w p xs)
     all-goes [] w s v waits (inl gone) = gone
     all-goes [] w s v waits (inr on) = absurd (omega (arith, on.0))
@@ -185,7 +201,8 @@ module _ {T : Type 0} (holds : T → List Holding) (w : World T) (p : ℕ) where
   nested-test : p < length w.time.places → (b : Bool) → ((place_at w p).found == w.time.count) ≡ b → time.finds_another (steps.nested w p).time p ≡ not b
   nested-test l b e = ap (λ (x : Participant). not (x.found == w.time.count)) (nested-here l) ∙ ap not e
 
-  how-outermost : p < length w.time.places → is_open (place_at w p) ≡ false → (b : Bool) → ((place_at w p).found == w.time.count) ≡ b → Nests holds w p ⊎ IsChange holds w p
+  how-outermost : p < length w.time.places → is_open (place_at w p) ≡ false → (b : Bool) → ((place_at w p).found == w.time.count) ≡ b →
+      Nests holds w p ⊎ IsChange holds w p
   how-outermost l shut true e =
       inl
       (record {
@@ -222,7 +239,8 @@ module _ {T : Type 0} (holds : T → List Holding) (w : World T) (p : ℕ) where
   due-here l = ap (λ (x : Participant). due_next x) (nested-here l)
 
   -- each slot
-  stays-if : p < length w.time.places → (k : ℕ) (s : Option Standing) (v : Option T) → (s ≡ Some Owned → ⊥) → times_among k (reclaims w p) ≡ 0 → Stands k s v w → Nests holds w p ⊎ IsChange holds w p →
+  stays-if : p < length w.time.places → (k : ℕ) (s : Option Standing) (v : Option T) → (s ≡ Some Owned → ⊥) → times_among k (reclaims w p) ≡ 0 →
+      Stands k s v w → Nests holds w p ⊎ IsChange holds w p →
       Stands k s v (opened holds w p)
   stays-if l k s v idle none i (inl n) = rw n.nests (record { standing = i.standing; value = i.value })
   stays-if l k s v idle none i (inr c) =
@@ -230,18 +248,24 @@ module _ {T : Type 0} (holds : T → List Holding) (w : World T) (p : ℕ) where
       let end = all-stands holds p k (due_next (place_at (steps.nested w p) p)) before s v idle due_none (record { standing = i.standing; value = i.value }) in
       rw c.change (record { standing = end.standing; value = end.value })
 
-  pub opened-stays : p < length w.time.places → (k : ℕ) (s : Option Standing) (v : Option T) → (s ≡ Some Owned → ⊥) → times_among k (reclaims w p) ≡ 0 → Stands k s v w → Stands k s v (opened holds w p)
+  pub opened-stays : p < length w.time.places → (k : ℕ) (s : Option Standing) (v : Option T) → (s ≡ Some Owned → ⊥) → times_among k (reclaims w p) ≡ 0 →
+      Stands k s v w → Stands k s v (opened holds w p)
   opened-stays l k s v idle none i = stays-if l k s v idle none i (how l)
 
-  goes-if : p < length w.time.places → (k : ℕ) (s : Option Standing) (v : T) → is_waiting s ≡ true → 1 ≤ times_among k (reclaims w p) → Stands k s (Some v) w → Nests holds w p ⊎ IsChange holds w p →
+  goes-if : p < length w.time.places → (k : ℕ) (s : Option Standing) (v : T) → is_waiting s ≡ true → 1 ≤ times_among k (reclaims w p) →
+      Stands k s (Some v) w → Nests holds w p ⊎ IsChange holds w p →
       Stands k None None (opened holds w p)
   goes-if l k s v waits some i (inl n) = absurd (omega (arith, some, ap (λ (xs : List What). times_among k xs) n.none))
   goes-if l k s v waits some i (inr c) =
-      let same : times_among k (due_next (place_at (steps.nested w p) p)) ≡ times_among k (reclaims w p) = ap (λ (xs : List What). times_among k xs) (due-here l ∙ sym c.due) in
-      let end = all-goes holds p k (due_next (place_at (steps.nested w p) p)) before s v waits (inr (omega (arith, some, same), record { standing = i.standing; value = i.value })) in
+      let same : times_among k (due_next (place_at (steps.nested w p) p)) ≡ times_among k (reclaims w p) =
+      ap (λ (xs : List What). times_among k xs) (due-here l ∙ sym c.due) in
+      let end =
+      all-goes holds p k (due_next (place_at (steps.nested w p) p)) before s v waits
+      (inr (omega (arith, some, same), record { standing = i.standing; value = i.value })) in
       rw c.change (record { standing = end.standing; value = end.value })
 
-  pub opened-goes : p < length w.time.places → (k : ℕ) (s : Option Standing) (v : T) → is_waiting s ≡ true → 1 ≤ times_among k (reclaims w p) → Stands k s (Some v) w → Stands k None None (opened holds w p)
+  pub opened-goes : p < length w.time.places → (k : ℕ) (s : Option Standing) (v : T) → is_waiting s ≡ true → 1 ≤ times_among k (reclaims w p) →
+      Stands k s (Some v) w → Stands k None None (opened holds w p)
   opened-goes l k s v waits some i = goes-if l k s v waits some i (how l)
 
   -- each other participant

@@ -90,7 +90,8 @@ module _ {T : Type 0} where
       omega (arith, set-out w k None (in_range w.standings k s there), was)
 
   module _ (holds : T → List Holding) (n : ℕ) (p : ℕ) where
-    freed-at-most : (w : World T) (k : ℕ) (s : Standing) (v : Option T) → standing_at w k ≡ Some s → is_out (Some s) ≡ false → AtMost n w → AtMost n (taken_out holds w p k v)
+    freed-at-most : (w : World T) (k : ℕ) (s : Standing) (v : Option T) → standing_at w k ≡ Some s → is_out (Some s) ≡ false → AtMost n w →
+        AtMost n (taken_out holds w p k v)
     freed-at-most w k s None there idle h = h
     freed-at-most w k s (Some v) there idle h = given-at-most n (freed w k) p (holds v) (omega (arith, h, out-freed w k s there idle))
 
@@ -117,7 +118,8 @@ module _ {T : Type 0} where
 
   -- where values hold nothing, just as much
   module _ (holds : T → List Holding) (plain : HoldsNothing holds) (n : ℕ) (p : ℕ) where
-    freed-same : (w : World T) (k : ℕ) (s : Standing) (v : Option T) → standing_at w k ≡ Some s → is_out (Some s) ≡ false → out w ≡ n → out (taken_out holds w p k v) ≡ n
+    freed-same : (w : World T) (k : ℕ) (s : Standing) (v : Option T) → standing_at w k ≡ Some s → is_out (Some s) ≡ false → out w ≡ n →
+        out (taken_out holds w p k v) ≡ n
     freed-same w k s None there idle h = h
     freed-same w k s (Some v) there idle h = rw (plain v) (out-freed w k s there idle ∙ h)
 

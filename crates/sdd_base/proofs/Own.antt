@@ -127,7 +127,8 @@ module _ {T : Type 0} where
           slots = g.slots;
           own =
               there end.time p _ (Gives-range in_start g)
-              ∙ ap (λ (x : Participant). time.settled x) (Gives-here in_start g ∙ ap (λ (x : Participant). all_awaiting g.slots x) (there w.time p (time.rotated w.time.count (place_at w p)) l));
+              ∙ ap (λ (x : Participant). time.settled x) (Gives-here in_start g ∙ ap (λ (x : Participant). all_awaiting g.slots x)
+              (there w.time p (time.rotated w.time.count (place_at w p)) l));
           count = ap (λ (t : Time). t.count) g.time;
           from_due = λ e. ap (λ (xs : List What). (Gives-all_reclaimed start p xs in_start).slots) e;
         }
@@ -151,7 +152,8 @@ module _ {T : Type 0} (holds : T → List Holding) where
         from_due = λ _. refl;
       }
 
-  opens-outermost : (w : World T) (p : ℕ) → p < length w.time.places → is_open (place_at w p) ≡ false → opened holds w p ≡ caught_up holds (steps.nested w p) p → (same_count : Bool) → ((place_at w p).found == w.time.count) ≡ same_count → Opens holds w p
+  opens-outermost : (w : World T) (p : ℕ) → p < length w.time.places → is_open (place_at w p) ≡ false →
+      opened holds w p ≡ caught_up holds (steps.nested w p) p → (same_count : Bool) → ((place_at w p).found == w.time.count) ≡ same_count → Opens holds w p
   opens-outermost w p l closed is true e =
       let here = there w.time p (time.nested (place_at w p)) l in
       let test : time.finds_another (steps.nested w p).time p ≡ false = ap (λ (x : Participant). not (x.found == w.time.count)) here ∙ ap not e in

@@ -99,7 +99,8 @@ open-last x room (inl e) o b = let never : false ≡ true = rw e at o in absurd 
 open-last x room (inr e) o b = let never : false ≡ true = rw e at o in absurd (cc)
 
 module _ {T : Type 0} where
-  still-open : (w : World T) (p k q : ℕ) → p < length w.time.places → IsTrue (is_open (place_at (retired w p k) q)) → (q ≡ p) ⊎ (q ≢ p) → IsTrue (is_open (place_at w q))
+  still-open : (w : World T) (p k q : ℕ) → p < length w.time.places → IsTrue (is_open (place_at (retired w p k) q)) → (q ≡ p) ⊎ (q ≢ p) →
+      IsTrue (is_open (place_at w q))
   still-open w p k q l o (inl e) =
       let x : Participant = time.awaiting (Item k) (place_at w p) in
       let here : place_at (retired w p k) p ≡ x = get_or-set_same w.time.places p x nobody l in
@@ -110,19 +111,24 @@ module _ {T : Type 0} where
 
   retired-guards : (w : World T) (p k : ℕ) → p < length w.time.places → IsGuarded (retired w p k) → IsGuarded w
   retired-guards w p k l (q, x, inside, here, o) =
-      let there : IsTrue (is_open (place_at (retired w p k) q)) = subst (λ (z : Participant). IsTrue (is_open z)) (sym here ∙ whichever (retired w p k).time.places q x nobody inside) o in
+      let there : IsTrue (is_open (place_at (retired w p k) q)) =
+      subst (λ (z : Participant). IsTrue (is_open z)) (sym here ∙ whichever (retired w p k).time.places q x nobody inside) o in
       open-inside w.time.places q (below-or-past q (length w.time.places)) (still-open w p k q l there (same-or-not q p))
 
-  open-before : (w : World T) (q : ℕ) (x : Participant) → (q < length w.time.places) ⊎ (length w.time.places ≤ q) → IsTrue (is_open (place_at (registered w) q)) → IsTrue (is_open (place_at w q))
+  open-before : (w : World T) (q : ℕ) (x : Participant) → (q < length w.time.places) ⊎ (length w.time.places ≤ q) →
+      IsTrue (is_open (place_at (registered w) q)) → IsTrue (is_open (place_at w q))
   open-before w q x (inl l) o = subst (λ (z : Participant). IsTrue (is_open z)) (get_or-append w.time.places (newcomer w.time.room ∷ []) nobody q l) o
-  open-before w q x (inr past) o = open-last (place_at (registered w) q) w.time.room (append-last w.time.places (newcomer w.time.room) q past) o (is_open (place_at w q))
+  open-before w q x (inr past) o =
+      open-last (place_at (registered w) q) w.time.room (append-last w.time.places (newcomer w.time.room) q past) o (is_open (place_at w q))
 
   pub registered-guards : (w : World T) → IsGuarded (registered w) → IsGuarded w
   registered-guards w (q, x, inside, here, o) =
-      let there : IsTrue (is_open (place_at (registered w) q)) = subst (λ (z : Participant). IsTrue (is_open z)) (sym here ∙ whichever (registered w).time.places q x nobody inside) o in
+      let there : IsTrue (is_open (place_at (registered w) q)) =
+      subst (λ (z : Participant). IsTrue (is_open z)) (sym here ∙ whichever (registered w).time.places q x nobody inside) o in
       open-inside w.time.places q (below-or-past q (length w.time.places)) (open-before w q x (below-or-past q (length w.time.places)) there)
 
-  item-passes : (w : World T) (p k : ℕ) (value : T) → p < length w.time.places → IsEmptyAt w.standings k → w.tally.made + 1 < 2 ^ 128 → HavePassed 1 w (retired (made w k value) p k)
+  item-passes : (w : World T) (p k : ℕ) (value : T) → p < length w.time.places → IsEmptyAt w.standings k → w.tally.made + 1 < 2 ^ 128 →
+      HavePassed 1 w (retired (made w k value) p k)
   item-passes w p k value l free room =
       let u = made w k value in
       let laws = out-laws (λ (v : T). []) in

@@ -20,7 +20,7 @@ use Rattle.sdd_base.specs.Holding.{Holding}
 use Rattle.sdd_base.specs.Own.{all_awaiting}
 use Rattle.sdd_base.specs.Whole.{IsWhole}
 use Rattle.sdd_base.specs.Left.{Waits}
-use Rattle.sdd_base.specs.Under.{more, IsUnder, CallsUnder, KeepsUnderGuards}
+use Rattle.sdd_base.specs.Under.{more, IsUnder, CallsUnder, KeepsUnderGuards, KeepsFreshUnderGuards}
 use Rattle.sdd_base.specs.Calls.{Calls}
 use Rattle.sdd_base.specs.Calls.Calls.{registers, opens, closes, stirs, accelerates, makes, retires, nulls, closes_cell}
 use Rattle.sdd_base.specs.Under.CallsUnder.{none, more_calls}
@@ -40,13 +40,15 @@ Persists-same : (x y : Participant) → y ≡ x → Persists x y
 Persists-same x y e = record { found = ap (λ (z : Participant). z.found) e; waits = λ w h. subst (λ (z : Participant). Contains z.bags.waiting w) (sym e) h }
 
 -- one place changes, and goes on as it was
-persists-at : (t : Time) (p q : ℕ) (x : Participant) → p < length t.places → Persists (time.place_at t p) x → (q ≡ p) ⊎ (q ≢ p) → Persists (time.place_at t q) (time.place_at (with_place t p x) q)
+persists-at : (t : Time) (p q : ℕ) (x : Participant) → p < length t.places → Persists (time.place_at t p) x → (q ≡ p) ⊎ (q ≢ p) →
+    Persists (time.place_at t q) (time.place_at (with_place t p x) q)
 persists-at t p q x l on (inl e) =
     subst (λ (n : ℕ). Persists (time.place_at t n) (time.place_at (with_place t p x) n)) (sym e)
     (subst (λ (z : Participant). Persists (time.place_at t p) z) (sym (get_or-set_same t.places p x nobody l)) on)
 persists-at t p q x l on (inr apart) = Persists-same (time.place_at t q) (time.place_at (with_place t p x) q) (get_or-set_other t.places p q x nobody apart)
 
-pub persists-place : (t : Time) (p q : ℕ) (x : Participant) → p < length t.places → Persists (time.place_at t p) x → Persists (time.place_at t q) (time.place_at (with_place t p x) q)
+pub persists-place : (t : Time) (p q : ℕ) (x : Participant) → p < length t.places → Persists (time.place_at t p) x →
+    Persists (time.place_at t q) (time.place_at (with_place t p x) q)
 persists-place t p q x l on = persists-at t p q x l on (same-or-not q p)
 
 -- a close changes nobody's found count and bags
@@ -63,7 +65,8 @@ persists-last t p q l true =
     persists-left t (if scans then time.scanned t p else t) p q 0 (time.counted_down t.marked (time.place_at t p).countdown) (scans-places t p scans) l
 persists-last t p q l false = record { found = refl; waits = λ w h. h }
 
-persists-closed-if : (t : Time) (p q : ℕ) → p < length t.places → (b : Bool) → nat_lt 1 (time.place_at t p).guards ≡ b → Persists (time.place_at t q) (time.place_at (time.closed t p) q)
+persists-closed-if : (t : Time) (p q : ℕ) → p < length t.places → (b : Bool) → nat_lt 1 (time.place_at t p).guards ≡ b →
+    Persists (time.place_at t q) (time.place_at (time.closed t p) q)
 persists-closed-if t p q l true e =
     rw e (persists-place t p q (record (time.place_at t p) { guards = (time.place_at t p).guards - 1 }) l (record { found = refl; waits = λ w h. h }))
 persists-closed-if t p q l false e = rw e (persists-last t p q l (is_open (time.place_at t p)))
@@ -76,9 +79,11 @@ no-owner e = cc
 
 module _ {T : Type 0} where
   -- the item goes on waiting with its holder, and no change is made
-  moves : (v w : World T) (p k : ℕ) → (u : IsUnder v p k) → IsTrue (is_open (place_at w p)) → standing_at w k ≡ Some Retired → Persists (place_at v p) (place_at w p) → Persists (place_at v u.holder) (place_at w u.holder) → IsUnder w p k
+  moves : (v w : World T) (p k : ℕ) → (u : IsUnder v p k) → IsTrue (is_open (place_at w p)) → standing_at w k ≡ Some Retired →
+      Persists (place_at v p) (place_at w p) → Persists (place_at v u.holder) (place_at w u.holder) → IsUnder w p k
   moves v w p k u o s on_p on_q =
-      let same : more w p u.holder ≡ more v p u.holder = ap (λ (n : ℕ). min 2 (n + 1 - (place_at w u.holder).found)) on_p.found ∙ ap (λ (n : ℕ). min 2 ((place_at v p).found + 1 - n)) on_q.found in
+      let same : more w p u.holder ≡ more v p u.holder =
+      ap (λ (n : ℕ). min 2 (n + 1 - (place_at w u.holder).found)) on_p.found ∙ ap (λ (n : ℕ). min 2 ((place_at v p).found + 1 - n)) on_q.found in
       record {
         guarded = o;
         standing = s;
@@ -97,18 +102,23 @@ module _ {T : Type 0} where
     open-nested : (x : Participant) → IsTrue (is_open (time.nested x))
     open-nested x = grind (arith, nat_tests)
 
-    still-open : (w : World T) (p r : ℕ) → r < length w.time.places → IsTrue (is_open (place_at w p)) → (p ≡ r) ⊎ (p ≢ r) → Nests holds w r ⊎ IsChange holds w r → IsTrue (is_open (place_at (opened holds w r) p))
+    still-open : (w : World T) (p r : ℕ) → r < length w.time.places → IsTrue (is_open (place_at w p)) → (p ≡ r) ⊎ (p ≢ r) →
+        Nests holds w r ⊎ IsChange holds w r → IsTrue (is_open (place_at (opened holds w r) p))
     still-open w p r l o (inr apart) how = subst (λ (x : Participant). IsTrue (is_open x)) (sym (opened-other holds w r l p apart)) o
     still-open w p r l o (inl e) (inl n) =
-        let here : place_at (opened holds w r) r ≡ time.nested (place_at w r) = ap (λ (u : World T). place_at u r) n.nests ∙ get_or-set_same w.time.places r (time.nested (place_at w r)) nobody l in
-        subst (λ (m : ℕ). IsTrue (is_open (place_at (opened holds w r) m))) (sym e) (subst (λ (x : Participant). IsTrue (is_open x)) (sym here) (open-nested (place_at w r)))
+        let here : place_at (opened holds w r) r ≡ time.nested (place_at w r) =
+        ap (λ (u : World T). place_at u r) n.nests ∙ get_or-set_same w.time.places r (time.nested (place_at w r)) nobody l in
+        subst (λ (m : ℕ). IsTrue (is_open (place_at (opened holds w r) m))) (sym e)
+        (subst (λ (x : Participant). IsTrue (is_open x)) (sym here) (open-nested (place_at w r)))
     still-open w p r l o (inl e) (inr c) = let shut : false ≡ true = sym c.closed_before ∙ subst (λ (m : ℕ). IsTrue (is_open (place_at w m))) e o in absurd (cc)
 
     -- what r reclaims is not the item
-    not-due : (w : World T) (k r holder seen : ℕ) → IsWhole w → Waits w holder k seen → (r ≡ holder) ⊎ (r ≢ holder) → (r ≡ holder → seen < 2) → due_next (place_at w r) ≡ reclaims w r → times_among k (reclaims w r) ≡ 0
+    not-due : (w : World T) (k r holder seen : ℕ) → IsWhole w → Waits w holder k seen → (r ≡ holder) ⊎ (r ≢ holder) → (r ≡ holder → seen < 2) →
+        due_next (place_at w r) ≡ reclaims w r → times_among k (reclaims w r) ≡ 0
     not-due w k r holder seen i waits (inr apart) young due = subst (λ xs. times_among k xs ≡ 0) due (other-due w holder k seen i waits r apart)
     not-due w k r holder seen i waits (inl e) young due =
-        subst (λ xs. times_among k xs ≡ 0) due (subst (λ (m : ℕ). times_among k (due_next (place_at w m)) ≡ 0) (sym e) (young-due w holder k seen i waits (young e)))
+        subst (λ xs. times_among k xs ≡ 0) due (subst (λ (m : ℕ). times_among k (due_next (place_at w m)) ≡ 0) (sym e)
+        (young-due w holder k seen i waits (young e)))
 
     holder-young : (w : World T) (p k : ℕ) → (u : IsUnder w p k) → IsWhole w → IsChange holds w u.holder → u.seen < 2
     holder-young w p k u i c =
@@ -116,7 +126,8 @@ module _ {T : Type 0} where
         omega (arith, u.safe, near, (i.abreast p).found, (i.abreast u.holder).found, c.another)
 
     -- the holder makes a change: that was one of those that it could make
-    holder-changes : (w : World T) (p k : ℕ) → (u : IsUnder w p k) → IsWhole w → (c : IsChange holds w u.holder) → u.holder < length w.time.places → p ≢ u.holder →
+    holder-changes : (w : World T) (p k : ℕ) → (u : IsUnder w p k) → IsWhole w → (c : IsChange holds w u.holder) → u.holder < length w.time.places →
+        p ≢ u.holder →
         standing_at (opened holds w u.holder) k ≡ Some Retired → IsTrue (is_open (place_at (opened holds w u.holder) p)) → IsUnder (opened holds w u.holder) p k
     holder-changes w p k u i c l apart s o =
         let q = u.holder in
@@ -125,7 +136,8 @@ module _ {T : Type 0} where
         let b = i.abreast q in
         let near = a.near u.guarded in
         let young : u.seen < 2 = holder-young w p k u i c in
-        let found : (place_at new q).found ≡ w.time.count = (own.opens holds w q l (is_open (place_at w q)) refl).found (λ o. let never : false ≡ true = sym c.closed_before ∙ o in absurd (cc)) in
+        let found : (place_at new q).found ≡ w.time.count =
+        (own.opens holds w q l (is_open (place_at w q)) refl).found (λ o. let never : false ≡ true = sym c.closed_before ∙ o in absurd (cc)) in
         let before : (place_at new p).found ≡ (place_at w p).found = ap (λ (x : Participant). x.found) (opened-other holds w q l p apart) in
         record {
           guarded = o;
@@ -150,7 +162,8 @@ module _ {T : Type 0} where
         let s = opened-stays holds w r l k (Some Retired) (value_at w k) no-owner none (record { standing = u.standing; value = refl }) in
         kept w (opened holds w r) p k u (still-open w p r l u.guarded (same-or-not p r) (inl n)) s (nests-persists w r p l n) (nests-persists w r u.holder l n)
 
-    under-changes : (w : World T) (p k r : ℕ) → r < length w.time.places → IsWhole w → (u : IsUnder w p k) → (c : IsChange holds w r) → p ≢ r → (r ≡ u.holder) ⊎ (r ≢ u.holder) → KeptUnder w (opened holds w r) p k
+    under-changes : (w : World T) (p k r : ℕ) → r < length w.time.places → IsWhole w → (u : IsUnder w p k) → (c : IsChange holds w r) → p ≢ r →
+        (r ≡ u.holder) ⊎ (r ≢ u.holder) → KeptUnder w (opened holds w r) p k
     under-changes w p k r l i u c apart (inr other) =
         let none = not-due w k r u.holder u.seen i u.waits (inr other) (λ e. absurd (other e)) (sym c.due) in
         let s = opened-stays holds w r l k (Some Retired) (value_at w k) no-owner none (record { standing = u.standing; value = refl }) in
@@ -163,34 +176,43 @@ module _ {T : Type 0} where
         let s = opened-stays holds w r l k (Some Retired) (value_at w k) no-owner none (record { standing = u.standing; value = refl }) in
         let o = still-open w p r l u.guarded (same-or-not p r) (inr c) in (
           subst (λ (m : ℕ). IsUnder (opened holds w m) p k) (sym e)
-              (holder-changes w p k u i (subst (λ (m : ℕ). IsChange holds w m) e c) (subst (λ (m : ℕ). m < length w.time.places) e l) (λ same. apart (same ∙ sym e))
-              (subst (λ (m : ℕ). standing_at (opened holds w m) k ≡ Some Retired) e s.standing) (subst (λ (m : ℕ). IsTrue (is_open (place_at (opened holds w m) p))) e o)),
+              (holder-changes w p k u i (subst (λ (m : ℕ). IsChange holds w m) e c) (subst (λ (m : ℕ). m < length w.time.places) e l)
+              (λ same. apart (same ∙ sym e))
+              (subst (λ (m : ℕ). standing_at (opened holds w m) k ≡ Some Retired) e s.standing)
+              (subst (λ (m : ℕ). IsTrue (is_open (place_at (opened holds w m) p))) e o)),
           s.value,
         )
 
-    under-opens : (w : World T) (p k r : ℕ) → r < length w.time.places → IsWhole w → (u : IsUnder w p k) → Nests holds w r ⊎ IsChange holds w r → KeptUnder w (opened holds w r) p k
+    under-opens : (w : World T) (p k r : ℕ) → r < length w.time.places → IsWhole w → (u : IsUnder w p k) → Nests holds w r ⊎ IsChange holds w r →
+        KeptUnder w (opened holds w r) p k
     under-opens w p k r l i u (inl n) = under-nests w p k r l u n
     under-opens w p k r l i u (inr c) =
-        let apart : p ≢ r = λ e. let never : false ≡ true = sym c.closed_before ∙ subst (λ (m : ℕ). IsTrue (is_open (place_at w m))) e u.guarded in absurd (cc) in
+        let apart : p ≢ r =
+        λ e. let never : false ≡ true = sym c.closed_before ∙ subst (λ (m : ℕ). IsTrue (is_open (place_at w m))) e u.guarded in absurd (cc) in
         under-changes w p k r l i u c apart (same-or-not r u.holder)
 
     -- what a call does to one place only
-    under-place : (w : World T) (p k r : ℕ) (x : Participant) → r < length w.time.places → (u : IsUnder w p k) → Persists (place_at w r) x → IsTrue (is_open (place_at (record w { time = with_place w.time r x }) p)) →
+    under-place : (w : World T) (p k r : ℕ) (x : Participant) → r < length w.time.places → (u : IsUnder w p k) → Persists (place_at w r) x →
+        IsTrue (is_open (place_at (record w { time = with_place w.time r x }) p)) →
         KeptUnder w (record w { time = with_place w.time r x }) p k
     under-place w p k r x l u on o =
-        kept w (record w { time = with_place w.time r x }) p k u o (record { standing = u.standing; value = refl }) (persists-place w.time r p x l on) (persists-place w.time r u.holder x l on)
+        kept w (record w { time = with_place w.time r x }) p k u o (record { standing = u.standing; value = refl }) (persists-place w.time r p x l on)
+        (persists-place w.time r u.holder x l on)
 
     persists-given : (ks : List ℕ) (x : Participant) → Persists x (all_awaiting ks x)
     persists-given ks x = record { found = own.all_awaiting-found ks x; waits = λ w h. all_awaiting-waiting ks x w h }
 
-    persists-registered-if : (w : World T) (q : ℕ) → (q < length w.time.places) ⊎ (length w.time.places ≤ q) → q < length w.time.places → Persists (place_at w q) (place_at (registered w) q)
-    persists-registered-if w q (inl l) here = Persists-same (place_at w q) (place_at (registered w) q) (get_or-append w.time.places (newcomer w.time.room ∷ []) nobody q l)
+    persists-registered-if : (w : World T) (q : ℕ) → (q < length w.time.places) ⊎ (length w.time.places ≤ q) → q < length w.time.places →
+        Persists (place_at w q) (place_at (registered w) q)
+    persists-registered-if w q (inl l) here =
+        Persists-same (place_at w q) (place_at (registered w) q) (get_or-append w.time.places (newcomer w.time.room ∷ []) nobody q l)
     persists-registered-if w q (inr past) here = absurd (omega (arith, past, here))
 
     -- who has a guard open is a participant
     open-place : (w : World T) (p : ℕ) → IsTrue (is_open (place_at w p)) → (p < length w.time.places) ⊎ (length w.time.places ≤ p) → p < length w.time.places
     open-place w p o (inl l) = l
-    open-place w p o (inr past) = let never : IsTrue (is_open nobody) = subst (λ (x : Participant). IsTrue (is_open x)) (get_or_past w.time.places p nobody past) o in absurd (cc)
+    open-place w p o (inr past) =
+        let never : IsTrue (is_open nobody) = subst (λ (x : Participant). IsTrue (is_open x)) (get_or_past w.time.places p nobody past) o in absurd (cc)
 
     one-call : (p k : ℕ) {v w : World T} → Calls holds v w → IsWhole v → IsUnder v p k → IsTrue (is_open (place_at w p)) → IsWhole w × KeptUnder v w p k
     one-call p k (registers v) i u o = (
@@ -200,15 +222,24 @@ module _ {T : Type 0} where
           (persists-registered-if v u.holder (below-or-past u.holder (length v.time.places)) (waits-place v u.holder k u.seen u.waits)),
     )
     one-call p k (opens v r l) i u o = (Whole-opened holds v r l i, under-opens v p k r l i u (how holds v r l))
-    one-call p k (closes v r l) i u o =
-        (Whole-closed v r l i, kept v (closed v r) p k u o (record { standing = u.standing; value = refl }) (persists-closed v.time r p l) (persists-closed v.time r u.holder l))
-    one-call p k (stirs v r l) i u o = (Whole-stirred v r l i, under-place v p k r (time.with_garbage (place_at v r)) l u (record { found = refl; waits = λ w h. h }) o)
-    one-call p k (accelerates v r l) i u o = (Whole-accelerated v r l i, under-place v p k r (time.accelerated (place_at v r)) l u (record { found = refl; waits = λ w h. h }) o)
+    one-call p k (closes v r l) i u o = (
+      Whole-closed v r l i,
+      kept v (closed v r) p k u o (record { standing = u.standing; value = refl }) (persists-closed v.time r p l)
+          (persists-closed v.time r u.holder l),
+    )
+    one-call p k (stirs v r l) i u o =
+        (Whole-stirred v r l i, under-place v p k r (time.with_garbage (place_at v r)) l u (record { found = refl; waits = λ w h. h }) o)
+    one-call p k (accelerates v r l) i u o =
+        (Whole-accelerated v r l i, under-place v p k r (time.accelerated (place_at v r)) l u (record { found = refl; waits = λ w h. h }) o)
     one-call p k (makes v j value empty) i u o =
         let apart : k ≢ j = λ e. let never : Some Retired ≡ None = sym u.standing ∙ ap (λ (n : ℕ). standing_at v n) e ∙ empty.1 in absurd (cc) in (
           Whole-made v j value empty.0 empty.1 i,
           kept v (made v j value) p k u o
-              (record { standing = get_or-set_other v.standings j k (Some Owned) None apart ∙ u.standing; value = get_or-set_other v.values j k (Some value) None apart })
+              (record {
+                standing = get_or-set_other v.standings j k (Some Owned) None apart
+                    ∙ u.standing;
+                value = get_or-set_other v.values j k (Some value) None apart;
+              })
               (record { found = refl; waits = λ w h. h }) (record { found = refl; waits = λ w h. h }),
         )
     one-call p k (retires v r j l there) i u o =
@@ -216,17 +247,23 @@ module _ {T : Type 0} where
         let on = persists-given (j ∷ []) (place_at v r) in (
           Whole-retires v r j l there i,
           kept v (retired v r j) p k u o (record { standing = get_or-set_other v.standings j k (Some Retired) None apart ∙ u.standing; value = refl })
-              (persists-place v.time r p (time.awaiting (Item j) (place_at v r)) l on) (persists-place v.time r u.holder (time.awaiting (Item j) (place_at v r)) l on),
+              (persists-place v.time r p (time.awaiting (Item j) (place_at v r)) l on)
+              (persists-place v.time r u.holder (time.awaiting (Item j) (place_at v r)) l on),
         )
-    one-call p k (nulls v c empty) i u o =
-        (Whole-nulled v c i, kept v (nulled v c) p k u o (record { standing = u.standing; value = refl }) (record { found = refl; waits = λ w h. h }) (record { found = refl; waits = λ w h. h }))
+    one-call p k (nulls v c empty) i u o = (
+      Whole-nulled v c i,
+      kept v (nulled v c) p k u o (record { standing = u.standing; value = refl }) (record { found = refl; waits = λ w h. h })
+          (record { found = refl; waits = λ w h. h }),
+    )
     one-call p k (closes_cell v r c l) i u o =
         let g = Gives-cell_closed v r c l in
         let on = persists-given g.slots (place_at v r) in
         let at : (q : ℕ) → Persists (place_at v q) (place_at (cell_closed v r c) q) =
-        λ q. subst (λ (t : Time). Persists (place_at v q) (time.place_at t q)) (sym g.time) (persists-place v.time r q (all_awaiting g.slots (place_at v r)) l on) in (
+        λ q. subst (λ (t : Time). Persists (place_at v q) (time.place_at t q)) (sym g.time)
+        (persists-place v.time r q (all_awaiting g.slots (place_at v r)) l on) in (
           Whole-cell_closed v r c l i,
-          kept v (cell_closed v r c) p k u o (closed-stands v r c k (Some Retired) (value_at v k) no-owner (record { standing = u.standing; value = refl })) (at p) (at u.holder),
+          kept v (cell_closed v r c) p k u o (closed-stands v r c k (Some Retired) (value_at v k) no-owner (record { standing = u.standing; value = refl }))
+              (at p) (at u.holder),
         )
 
     all-calls : (p k : ℕ) {v w : World T} → CallsUnder holds p v w → IsWhole v → IsUnder v p k → IsWhole w × KeptUnder v w p k
@@ -236,15 +273,19 @@ module _ {T : Type 0} where
         let end = one-call p k call there.0 there.1.0 o in
         (end.0, (end.1.0, end.1.1 ∙ there.1.1))
 
-    awaiting-open : (w : World T) (p q k : ℕ) → q < length w.time.places → IsTrue (is_open (place_at w p)) → (p ≡ q) ⊎ (p ≢ q) → IsTrue (is_open (place_at (retired w q k) p))
+    awaiting-open : (w : World T) (p q k : ℕ) → q < length w.time.places → IsTrue (is_open (place_at w p)) → (p ≡ q) ⊎ (p ≢ q) →
+        IsTrue (is_open (place_at (retired w q k) p))
     awaiting-open w p q k l o (inl e) =
         let x : Participant = time.awaiting (Item k) (place_at w q) in
         let here : place_at (retired w q k) q ≡ x = get_or-set_same w.time.places q x nobody l in
-        subst (λ (m : ℕ). IsTrue (is_open (place_at (retired w q k) m))) (sym e) (subst (λ (z : Participant). IsTrue (is_open z)) (sym here) (subst (λ (m : ℕ). IsTrue (is_open (place_at w m))) e o))
-    awaiting-open w p q k l o (inr apart) = subst (λ (z : Participant). IsTrue (is_open z)) (sym (get_or-set_other w.time.places q p (time.awaiting (Item k) (place_at w q)) nobody apart)) o
+        subst (λ (m : ℕ). IsTrue (is_open (place_at (retired w q k) m))) (sym e)
+        (subst (λ (z : Participant). IsTrue (is_open z)) (sym here) (subst (λ (m : ℕ). IsTrue (is_open (place_at w m))) e o))
+    awaiting-open w p q k l o (inr apart) =
+        subst (λ (z : Participant). IsTrue (is_open z)) (sym (get_or-set_other w.time.places q p (time.awaiting (Item k) (place_at w q)) nobody apart)) o
 
     -- an item that is retired while a guard is open is under it
-    pub under-retired : (w : World T) (p q k : ℕ) → IsTrue (is_open (place_at w p)) → q < length w.time.places → standing_at w k ≡ Some Owned → IsUnder (retired w q k) p k
+    pub under-retired : (w : World T) (p q k : ℕ) → IsTrue (is_open (place_at w p)) → q < length w.time.places → standing_at w k ≡ Some Owned →
+        IsUnder (retired w q k) p k
     under-retired w p q k o l there =
         let x : Participant = time.awaiting (Item k) (place_at w q) in
         let here : place_at (retired w q k) q ≡ x = get_or-set_same w.time.places q x nobody l in
@@ -253,11 +294,19 @@ module _ {T : Type 0} where
           standing = get_or-set_same w.standings k (Some Retired) None (in_range w.standings k Owned there);
           holder = q;
           seen = 0;
-          waits = subst (λ (z : Participant). Contains z.bags.waiting (having_seen 0 (Item k))) (sym here) (Contains-push (place_at w q).bags.waiting (fresh (Item k)));
+          waits =
+              subst (λ (z : Participant). Contains z.bags.waiting (having_seen 0 (Item k))) (sym here)
+              (Contains-push (place_at w q).bags.waiting (fresh (Item k)));
           safe = omega arith;
         }
 
     pub keeps-under-guards : (w : World T) → IsWhole w → KeepsUnderGuards holds w
     keeps-under-guards w i = λ p q k o l there new path.
         let end = all-calls p k path (Whole-retires w q k l there i) (under-retired w p q k o l there) in
+        (end.1.0.standing, end.1.1)
+
+    pub keeps-fresh-under-guards : (w : World T) → IsWhole w → KeepsFreshUnderGuards holds w
+    keeps-fresh-under-guards w i = λ p q k o waits there new path.
+        let under : IsUnder w p k = record { guarded = o; standing = there; holder = q; seen = 0; waits = waits; safe = omega arith } in
+        let end = all-calls p k path i under in
         (end.1.0.standing, end.1.1)

@@ -23,15 +23,33 @@ pub record SameSize {T : Type 0} (old new : World T) : Type 0 where
 -- an item that is out begins to wait
 pub SameSize-retired : {T : Type 0} (w : World T) (p k : ℕ) → p < length w.time.places → standing_at w k ≡ Some Owned → SameSize w (retired w p k)
 SameSize-retired w p k in_range there =
-    record { weight_same = grind (arith, common_steps); places_same = grind (arith, common_steps); slots_same = grind (arith, common_steps); home_same = refl; nesting_same = refl; room_same = refl }
+    record {
+      weight_same = grind (arith, common_steps);
+      places_same = grind (arith, common_steps);
+      slots_same = grind
+          (arith, common_steps);
+      home_same = refl;
+      nesting_same = refl;
+      room_same = refl;
+    }
 
 pub SameSize-refl : {T : Type 0} (w : World T) → SameSize w w
 SameSize-refl w = record { weight_same = refl; places_same = refl; slots_same = refl; home_same = refl; nesting_same = refl; room_same = refl }
 
 pub SameSize-trans : {T : Type 0} {u v w : World T} → SameSize u v → SameSize v w → SameSize u w
-SameSize-trans a b = record { weight_same = b.weight_same ∙ a.weight_same; places_same = b.places_same ∙ a.places_same; slots_same = b.slots_same ∙ a.slots_same; home_same = b.home_same ∙ a.home_same; nesting_same = b.nesting_same ∙ a.nesting_same; room_same = b.room_same ∙ a.room_same }
+SameSize-trans a b =
+    record {
+      weight_same = b.weight_same ∙ a.weight_same;
+      places_same = b.places_same ∙ a.places_same;
+      slots_same = b.slots_same
+          ∙ a.slots_same;
+      home_same = b.home_same ∙ a.home_same;
+      nesting_same = b.nesting_same ∙ a.nesting_same;
+      room_same = b.room_same ∙ a.room_same;
+    }
 
-pub SameSize-owner_given : {T : Type 0} (w : World T) (p k : ℕ) → p < length w.time.places → (s : Option Standing) → standing_at w k ≡ s → SameSize w (owner_given w p k s)
+pub SameSize-owner_given : {T : Type 0} (w : World T) (p k : ℕ) → p < length w.time.places → (s : Option Standing) → standing_at w k ≡ s →
+    SameSize w (owner_given w p k s)
 SameSize-owner_given w p k l None is = SameSize-refl w
 SameSize-owner_given w p k l (Some Owned) is = SameSize-retired w p k l is
 SameSize-owner_given w p k l (Some Raw) is = SameSize-refl w
@@ -47,7 +65,8 @@ without_cell : {T : Type 0} (w : World T) (c : ℕ) → SameSize w (record w { c
 without_cell w c = record { weight_same = refl; places_same = refl; slots_same = refl; home_same = refl; nesting_same = refl; room_same = refl }
 
 pub SameSize-cell_closed : {T : Type 0} (w : World T) (p c : ℕ) → p < length w.time.places → SameSize w (cell_closed w p c)
-SameSize-cell_closed w p c l = SameSize-trans (without_cell w c) (SameSize-spilled (record w { cells = without_entry w.cells c }) p l (held_in (entry_at w.cells c)))
+SameSize-cell_closed w p c l =
+    SameSize-trans (without_cell w c) (SameSize-spilled (record w { cells = without_entry w.cells c }) p l (held_in (entry_at w.cells c)))
 
 pub SameSize-given : {T : Type 0} (w : World T) (p : ℕ) (h : Holding) → p < length w.time.places → SameSize w (given w p h)
 SameSize-given w p (owned k home) l = SameSize-owner_given w p k l (standing_at w k) refl
@@ -74,32 +93,54 @@ FreesOne-refl w = record { weight_grows = omega arith; places_same = refl; slots
 pub freed-FreesOne : {T : Type 0} (w : World T) (k : ℕ) → k < length w.standings → FreesOne w (freed w k)
 freed-FreesOne w k l =
     let m = sum_by-set (λ s. cond (is_loose s) 1 0) w.standings k None None l in
-    record { weight_grows = omega (arith, m); places_same = refl; slots_same = grind (arith, common_steps); home_same = refl; nesting_same = refl; room_same = refl }
+    record {
+      weight_grows = omega (arith, m);
+      places_same = refl;
+      slots_same = grind
+          (arith, common_steps);
+      home_same = refl;
+      nesting_same = refl;
+      room_same = refl;
+    }
 
 FreesOne-then : {T : Type 0} {u v w : World T} → FreesOne u v → SameSize v w → FreesOne u w
-FreesOne-then a b = record { weight_grows = omega (arith, a.weight_grows, b.weight_same); places_same = b.places_same ∙ a.places_same; slots_same = b.slots_same ∙ a.slots_same; home_same = b.home_same ∙ a.home_same; nesting_same = b.nesting_same ∙ a.nesting_same; room_same = b.room_same ∙ a.room_same }
+FreesOne-then a b =
+    record {
+      weight_grows = omega (arith, a.weight_grows, b.weight_same);
+      places_same = b.places_same ∙ a.places_same;
+      slots_same = b.slots_same
+          ∙ a.slots_same;
+      home_same = b.home_same ∙ a.home_same;
+      nesting_same = b.nesting_same ∙ a.nesting_same;
+      room_same = b.room_same ∙ a.room_same;
+    }
 
-pub FreesOne-taken_out : {T : Type 0} (holds : T → List Holding) (w : World T) (p k : ℕ) → p < length w.time.places → k < length w.standings → (value : Option T) → FreesOne w (taken_out holds w p k value)
+pub FreesOne-taken_out : {T : Type 0} (holds : T → List Holding) (w : World T) (p k : ℕ) → p < length w.time.places → k < length w.standings →
+    (value : Option T) → FreesOne w (taken_out holds w p k value)
 FreesOne-taken_out holds w p k l lk None = FreesOne-refl w
 FreesOne-taken_out holds w p k l lk (Some value) = FreesOne-then (freed-FreesOne w k lk) (SameSize-given_all (freed w k) p (holds value) l)
 
 pub in_range : (xs : List (Option Standing)) (k : ℕ) (s : Standing) → slice_index_or xs k None ≡ Some s → k < length xs
 in_range xs k s is = grind (arith, get_or_past)
 
-FreesOne-standing : {T : Type 0} (holds : T → List Holding) (w : World T) (p k : ℕ) → p < length w.time.places → (s : Option Standing) → standing_at w k ≡ s → FreesOne w (taken_out holds w p k (waiting_value w k s))
+FreesOne-standing : {T : Type 0} (holds : T → List Holding) (w : World T) (p k : ℕ) → p < length w.time.places → (s : Option Standing) →
+    standing_at w k ≡ s → FreesOne w (taken_out holds w p k (waiting_value w k s))
 FreesOne-standing holds w p k l None is = FreesOne-refl w
 FreesOne-standing holds w p k l (Some s) is = FreesOne-taken_out holds w p k l (in_range w.standings k s is) (waiting_value w k (Some s))
 
-pub FreesOne-slot_reclaimed : {T : Type 0} (holds : T → List Holding) (w : World T) (p k : ℕ) → p < length w.time.places → FreesOne w (slot_reclaimed holds w p k)
+pub FreesOne-slot_reclaimed : {T : Type 0} (holds : T → List Holding) (w : World T) (p k : ℕ) → p < length w.time.places →
+    FreesOne w (slot_reclaimed holds w p k)
 FreesOne-slot_reclaimed holds w p k l = FreesOne-standing holds w p k l (standing_at w k) refl
 
 -- to reclaim the rest is to reclaim the next one, and then the rest
 pub all_reclaimed-drop : {T : Type 0} (holds : T → List Holding) (w : World T) (p : ℕ) (ks : List ℕ) (i : ℕ) → i < length ks →
     all_reclaimed holds w p (map Item (drop i ks)) ≡ all_reclaimed holds (slot_reclaimed holds w p (get_or ks i 0)) p (map Item (drop (i + 1) ks))
-all_reclaimed-drop holds w p ks i l = ap (λ xs. all_reclaimed holds w p (map Item xs)) (drop-cons ks i 0 l ∙ ap (λ n. get_or ks i 0 ∷ drop n ks) (sym (add-one i)))
+all_reclaimed-drop holds w p ks i l =
+    ap (λ xs. all_reclaimed holds w p (map Item xs)) (drop-cons ks i 0 l ∙ ap (λ n. get_or ks i 0 ∷ drop n ks) (sym (add-one i)))
 
 pub FreesOne-sizes : {T : Type 0} {old new : World T} → FreesOne old new → KeepsSizes old new
 FreesOne-sizes f = record { home = f.home_same; places = f.places_same; slots = f.slots_same; nesting = f.nesting_same; room = f.room_same }
 
 pub KeepsSizes-trans : {T : Type 0} {u v w : World T} → KeepsSizes u v → KeepsSizes v w → KeepsSizes u w
-KeepsSizes-trans a b = record { home = b.home ∙ a.home; places = b.places ∙ a.places; slots = b.slots ∙ a.slots; nesting = b.nesting ∙ a.nesting; room = b.room ∙ a.room }
+KeepsSizes-trans a b =
+    record { home = b.home ∙ a.home; places = b.places ∙ a.places; slots = b.slots ∙ a.slots; nesting = b.nesting ∙ a.nesting; room = b.room ∙ a.room }

@@ -71,7 +71,8 @@ times-same t p k x l e =
     let same : times_with k x ≡ times_with k (time.place_at t p) = ap (λ (ws : List Waiting). count_by (λ (w : Waiting). is_of_slot k w.what) ws) e in
     omega (arith, times-place t p k x l, same)
 
-abreast-at : (t : Time) (count p q : ℕ) (x : Participant) → p < length t.places → IsAbreast count x → ((r : ℕ) → IsAbreast count (time.place_at t r)) → (q ≡ p) ⊎ (q ≢ p) →
+abreast-at : (t : Time) (count p q : ℕ) (x : Participant) → p < length t.places → IsAbreast count x → ((r : ℕ) → IsAbreast count (time.place_at t r)) →
+    (q ≡ p) ⊎ (q ≢ p) →
     IsAbreast count (time.place_at (with_place t p x) q)
 abreast-at t count p q x l a all (inl e) = rw (e, get_or-set_same t.places p x nobody l) a
 abreast-at t count p q x l a all (inr apart) = rw (get_or-set_other t.places p q x nobody apart) (all q)
@@ -106,7 +107,8 @@ passes-young w e = grind (arith, nat_tests, e)
 
 left-young : (ws : List Waiting) → All (λ (w : Waiting). w.seen ≤ 2) (left (aged ws))
 left-young ws =
-    All-weaker (λ (w : Waiting). not (is_due w) ≡ true) (λ (w : Waiting). w.seen ≤ 2) passes-young (left (aged ws)) (filter_passes (λ (w : Waiting). not (is_due w)) (aged ws))
+    All-weaker (λ (w : Waiting). not (is_due w) ≡ true) (λ (w : Waiting). w.seen ≤ 2) passes-young (left (aged ws))
+    (filter_passes (λ (w : Waiting). not (is_due w)) (aged ws))
 
 -- after a change, what waited is left or due
 times-aged-cons : (k : ℕ) (w : Waiting) (ws : List Waiting) → times_listed k (left (aged ws)) + times_among k (due (aged ws)) ≡ times_listed k ws →
@@ -211,7 +213,8 @@ counted-bound true d h false e true f = rw (e, f) (omega arith)
 counted-bound false d h false e true f = rw (e, f) (omega arith)
 counted-bound marked d h false e false f = rw (e, f) (omega arith)
 
-counted-quiet : (marked : Bool) (d : ℕ) → d ≤ 128 → (zero_test : Bool) → (d == 0) ≡ zero_test → (full : Bool) → (d == 128) ≡ full → counted_down marked d ≡ 128 → d ≡ 128
+counted-quiet : (marked : Bool) (d : ℕ) → d ≤ 128 → (zero_test : Bool) → (d == 0) ≡ zero_test → (full : Bool) → (d == 128) ≡ full →
+    counted_down marked d ≡ 128 → d ≡ 128
 counted-quiet marked d h true e full f is = absurd (omega (arith, rw e at is))
 counted-quiet marked d h false e true f is = grind (arith, nat_tests, f)
 counted-quiet marked d h false e false f is =
@@ -242,14 +245,16 @@ below-or-past zero (suc n) = inl (omega arith)
 below-or-past (suc p) (suc n) = below-or-past-suc p n (below-or-past p n)
 
 -- who stands behind the others: the last of them, or nobody
-pub append-last : (ps : List Participant) (x : Participant) (p : ℕ) → length ps ≤ p → (slice_index_or (ps ++ x ∷ []) p nobody ≡ x) ⊎ (slice_index_or (ps ++ x ∷ []) p nobody ≡ nobody)
+pub append-last : (ps : List Participant) (x : Participant) (p : ℕ) → length ps ≤ p →
+    (slice_index_or (ps ++ x ∷ []) p nobody ≡ x) ⊎ (slice_index_or (ps ++ x ∷ []) p nobody ≡ nobody)
 append-last [] x zero h = inl refl
 append-last [] x (suc p) h = inr refl
 append-last (y ∷ ps) x zero h = absurd (omega (arith, h))
 append-last (y ∷ ps) x (suc p) h = append-last ps x p (omega (arith, h))
 
 nobody-abreast : (count : ℕ) → IsAbreast count nobody
-nobody-abreast count = record { found = omega arith; near = λ o. absurd (cc); young = All-nil (λ (w : Waiting). w.seen ≤ 2); countdown = omega arith; quiet = λ _. refl }
+nobody-abreast count =
+    record { found = omega arith; near = λ o. absurd (cc); young = All-nil (λ (w : Waiting). w.seen ≤ 2); countdown = omega arith; quiet = λ _. refl }
 
 new-abreast : (count room : ℕ) (x : Participant) → (x ≡ newcomer room) ⊎ (x ≡ nobody) → IsAbreast count x
 new-abreast count room x (inl e) =
@@ -299,18 +304,23 @@ module _ {T : Type 0} where
       let more : one_where (k == j) ≡ 0 = rw (apart-test k j apart) refl in
       rw s (omega (arith, retired-times w p k j l, i.once j, more))
 
-  Whole-retired : (w : World T) (p k : ℕ) (xs : List What) → p < length w.time.places → standing_at w k ≡ Some Owned → IsWholeBut xs w → IsWholeBut xs (retired w p k)
+  Whole-retired : (w : World T) (p k : ℕ) (xs : List What) → p < length w.time.places → standing_at w k ≡ Some Owned → IsWholeBut xs w →
+      IsWholeBut xs (retired w p k)
   Whole-retired w p k xs l there i =
       let inside : k < length w.standings = in_range w.standings k Owned there in
-      let same : taken (retired w p k) ≡ taken w = let c = set-taken w k (Some Retired) inside in let o : one_where (is_some (standing_at w k)) ≡ 1 = rw there refl in omega (arith, c, o) in
+      let same : taken (retired w p k) ≡ taken w =
+      let c = set-taken w k (Some Retired) inside in let o : one_where (is_some (standing_at w k)) ≡ 1 = rw there refl in omega (arith, c, o) in
       record {
         filled = same-filled w k (Some Retired) i.filled (sym (ap is_some there));
         once = λ j. retired-once w p k j xs l there i (set-standing w.standings k j (Some Retired) inside (same-or-not j k));
-        abreast = abreast-place w.time w.time.count p (time.awaiting (Item k) (place_at w p)) l (abreast-awaiting w.time.count k (place_at w p) (i.abreast p)) i.abreast;
+        abreast =
+            abreast-place w.time w.time.count p (time.awaiting (Item k) (place_at w p)) l
+            (abreast-awaiting w.time.count k (place_at w p) (i.abreast p)) i.abreast;
         counted = rw same i.counted;
       }
 
-  Whole-owner_given : (w : World T) (p k : ℕ) (xs : List What) (s : Option Standing) → p < length w.time.places → standing_at w k ≡ s → IsWholeBut xs w → IsWholeBut xs (owner_given w p k s)
+  Whole-owner_given : (w : World T) (p k : ℕ) (xs : List What) (s : Option Standing) → p < length w.time.places → standing_at w k ≡ s → IsWholeBut xs w →
+      IsWholeBut xs (owner_given w p k s)
   Whole-owner_given w p k xs None l is i = i
   Whole-owner_given w p k xs (Some Owned) l is i = Whole-retired w p k xs l is i
   Whole-owner_given w p k xs (Some Raw) l is i = i
@@ -336,7 +346,8 @@ module _ {T : Type 0} where
   Whole-given_all w p (h ∷ hs) xs l i = Whole-given_all (given w p h) p hs xs (Gives-range l (Gives-given w p h l)) (Whole-given w p h xs l i)
 
   -- a slot that waited is free
-  freed-once : (w : World T) (k j : ℕ) (x : What) (xs : List What) → ((j : ℕ) → is_of_slot j x ≡ (k == j)) → is_waiting (standing_at w k) ≡ true → IsWholeBut (x ∷ xs) w →
+  freed-once : (w : World T) (k j : ℕ) (x : What) (xs : List What) → ((j : ℕ) → is_of_slot j x ≡ (k == j)) → is_waiting (standing_at w k) ≡ true →
+      IsWholeBut (x ∷ xs) w →
       ((j ≡ k) × (standing_at (freed w k) j ≡ None)) ⊎ ((j ≢ k) × (standing_at (freed w k) j ≡ standing_at w j)) →
       times_waiting w j + times_among j xs ≡ once_if (is_waiting (standing_at (freed w k) j))
   freed-once w k j x xs of waits i (inl (e, s)) =
@@ -347,7 +358,8 @@ module _ {T : Type 0} where
       let here : times_among j (x ∷ xs) ≡ 0 + times_among j xs = count-cons (is_of_slot j) x xs ∙ rw (of j, apart-test k j apart) refl in
       rw s (omega (arith, i.once j, here))
 
-  Whole-freed : (w : World T) (k : ℕ) (x : What) (xs : List What) → ((j : ℕ) → is_of_slot j x ≡ (k == j)) → is_waiting (standing_at w k) ≡ true → IsWholeBut (x ∷ xs) w → IsWholeBut xs (freed w k)
+  Whole-freed : (w : World T) (k : ℕ) (x : What) (xs : List What) → ((j : ℕ) → is_of_slot j x ≡ (k == j)) → is_waiting (standing_at w k) ≡ true →
+      IsWholeBut (x ∷ xs) w → IsWholeBut xs (freed w k)
   Whole-freed w k x xs of waits i =
       let inside : k < length w.standings = waits-inside w.standings k waits in
       let one : one_where (is_some (standing_at w k)) ≡ 1 = rw (some-waits (standing_at w k) waits) refl in
@@ -360,31 +372,38 @@ module _ {T : Type 0} where
       }
 
   module _ (holds : T → List Holding) where
-    Whole-value : (w : World T) (p k : ℕ) (x : What) (xs : List What) → p < length w.time.places → ((j : ℕ) → is_of_slot j x ≡ (k == j)) → is_waiting (standing_at w k) ≡ true →
+    Whole-value : (w : World T) (p k : ℕ) (x : What) (xs : List What) → p < length w.time.places → ((j : ℕ) → is_of_slot j x ≡ (k == j)) →
+        is_waiting (standing_at w k) ≡ true →
         IsWholeBut (x ∷ xs) w → (v : Option T) → is_some v ≡ true → IsWholeBut xs (taken_out holds w p k v)
     Whole-value w p k x xs l of waits i None e = absurd (cc)
     Whole-value w p k x xs l of waits i (Some v) e = Whole-given_all (freed w k) p (holds v) xs l (Whole-freed w k x xs of waits i)
 
     -- what is to be reclaimed waits
-    among-waits : (w : World T) (k : ℕ) (x : What) (xs : List What) → ((j : ℕ) → is_of_slot j x ≡ (k == j)) → IsWholeBut (x ∷ xs) w → is_waiting (standing_at w k) ≡ false → ⊥
+    among-waits : (w : World T) (k : ℕ) (x : What) (xs : List What) → ((j : ℕ) → is_of_slot j x ≡ (k == j)) → IsWholeBut (x ∷ xs) w →
+        is_waiting (standing_at w k) ≡ false → ⊥
     among-waits w k x xs of i idle =
         let before : times_waiting w k + times_among k (x ∷ xs) ≡ 0 = i.once k ∙ rw idle refl in
         let here : times_among k (x ∷ xs) ≡ 1 + times_among k xs = count-cons (is_of_slot k) x xs ∙ rw (of k, same-test k k refl) refl in
         absurd (omega (arith, before, here))
 
-    Whole-standing : (w : World T) (p k : ℕ) (x : What) (xs : List What) → p < length w.time.places → ((j : ℕ) → is_of_slot j x ≡ (k == j)) → (s : Option Standing) → standing_at w k ≡ s →
+    Whole-standing : (w : World T) (p k : ℕ) (x : What) (xs : List What) → p < length w.time.places → ((j : ℕ) → is_of_slot j x ≡ (k == j)) →
+        (s : Option Standing) → standing_at w k ≡ s →
         IsWholeBut (x ∷ xs) w → IsWholeBut xs (taken_out holds w p k (waiting_value w k s))
     Whole-standing w p k x xs l of None is i = absurd (among-waits w k x xs of i (ap is_waiting is))
     Whole-standing w p k x xs l of (Some Owned) is i = absurd (among-waits w k x xs of i (ap is_waiting is))
     Whole-standing w p k x xs l of (Some Raw) is i = absurd (among-waits w k x xs of i (ap is_waiting is))
     Whole-standing w p k x xs l of (Some (Shared n)) is i = absurd (among-waits w k x xs of i (ap is_waiting is))
-    Whole-standing w p k x xs l of (Some Retired) is i = Whole-value w p k x xs l of (ap is_waiting is) i (value_at w k) (filled-there w k i.filled ∙ ap is_some is)
-    Whole-standing w p k x xs l of (Some (privately c)) is i = Whole-value w p k x xs l of (ap is_waiting is) i (value_at w k) (filled-there w k i.filled ∙ ap is_some is)
+    Whole-standing w p k x xs l of (Some Retired) is i =
+        Whole-value w p k x xs l of (ap is_waiting is) i (value_at w k) (filled-there w k i.filled ∙ ap is_some is)
+    Whole-standing w p k x xs l of (Some (privately c)) is i =
+        Whole-value w p k x xs l of (ap is_waiting is) i (value_at w k) (filled-there w k i.filled ∙ ap is_some is)
 
-    Whole-reclaimed : (w : World T) (p : ℕ) (x : What) (xs : List What) → p < length w.time.places → IsWholeBut (x ∷ xs) w → IsWholeBut xs (reclaimed holds w p x)
+    Whole-reclaimed : (w : World T) (p : ℕ) (x : What) (xs : List What) → p < length w.time.places → IsWholeBut (x ∷ xs) w →
+        IsWholeBut xs (reclaimed holds w p x)
     Whole-reclaimed w p (Item k) xs l i = Whole-standing w p k (Item k) xs l (λ j. refl) (standing_at w k) refl i
     Whole-reclaimed w p (Private k c) xs l i = Whole-standing w p k (Private k c) xs l (λ j. refl) (standing_at w k) refl i
-    Whole-reclaimed w p (Job n) xs l i = record { filled = i.filled; once = λ k. omega (arith, i.once k, count-cons (is_of_slot k) (Job n) xs); abreast = i.abreast; counted = i.counted }
+    Whole-reclaimed w p (Job n) xs l i =
+        record { filled = i.filled; once = λ k. omega (arith, i.once k, count-cons (is_of_slot k) (Job n) xs); abreast = i.abreast; counted = i.counted }
 
     pub Whole-all_reclaimed : (w : World T) (p : ℕ) (xs : List What) → p < length w.time.places → IsWholeBut xs w → IsWholeBut [] (all_reclaimed holds w p xs)
     Whole-all_reclaimed w p [] l i = i
@@ -392,7 +411,8 @@ module _ {T : Type 0} where
         Whole-all_reclaimed (reclaimed holds w p x) p xs (Gives-range l (Gives-reclaimed holds w p x l)) (Whole-reclaimed w p x xs l i)
 
   -- only a place changed, and nothing that waits there
-  Whole-place : (w : World T) (p : ℕ) (x : Participant) → p < length w.time.places → x.bags.waiting ≡ (place_at w p).bags.waiting → IsAbreast w.time.count x → IsWhole w →
+  Whole-place : (w : World T) (p : ℕ) (x : Participant) → p < length w.time.places → x.bags.waiting ≡ (place_at w p).bags.waiting →
+      IsAbreast w.time.count x → IsWhole w →
       IsWhole (record w { time = with_place w.time p x })
   Whole-place w p x l e a i =
       record {
@@ -403,7 +423,8 @@ module _ {T : Type 0} where
       }
 
   -- one more guard or none, and then a rotation
-  Whole-rotated : (w : World T) (p : ℕ) (x : Participant) → p < length w.time.places → x.bags ≡ (place_at w p).bags → x.countdown ≡ (place_at w p).countdown → IsWhole w →
+  Whole-rotated : (w : World T) (p : ℕ) (x : Participant) → p < length w.time.places → x.bags ≡ (place_at w p).bags →
+      x.countdown ≡ (place_at w p).countdown → IsWhole w →
       IsWholeBut (due_next x) (record w { time = with_place w.time p (time.rotated w.time.count x) })
   Whole-rotated w p x l bags pace i =
       let a = i.abreast p in
@@ -423,7 +444,8 @@ module _ {T : Type 0} where
   Whole-settles holds start p xs l i =
       let end = all_reclaimed holds start p xs in
       let there = whole-of end (Whole-all_reclaimed holds start p xs l i) in
-      Whole-place end p (time.settled (place_at end p)) (Gives-range l (Gives-all_reclaimed holds start p xs l)) refl (abreast-settled end.time.count (place_at end p) (there.abreast p)) there
+      Whole-place end p (time.settled (place_at end p)) (Gives-range l (Gives-all_reclaimed holds start p xs l)) refl
+      (abreast-settled end.time.count (place_at end p) (there.abreast p)) there
 
   pub Whole-changed : (holds : T → List Holding) (w : World T) (p : ℕ) → p < length w.time.places → IsWhole w → IsWhole (changed holds w p)
   Whole-changed holds w p l i =
@@ -434,10 +456,13 @@ module _ {T : Type 0} where
   nested-rotated : (w : World T) (p : ℕ) → p < length w.time.places →
       steps.rotated (steps.nested w p) p ≡ record w { time = with_place w.time p (time.rotated w.time.count (time.nested (place_at w p))) }
   nested-rotated w p l =
-      ap (λ (x : Participant). record w { time = with_place (with_place w.time p (time.nested (place_at w p))) p (time.rotated w.time.count x) }) (get_or-set_same w.time.places p (time.nested (place_at w p)) nobody l)
-      ∙ ap (λ (ps : List Participant). record w { time = record w.time { places = ps } }) (set-set w.time.places p (time.nested (place_at w p)) (time.rotated w.time.count (time.nested (place_at w p))))
+      ap (λ (x : Participant). record w { time = with_place (with_place w.time p (time.nested (place_at w p))) p (time.rotated w.time.count x) })
+      (get_or-set_same w.time.places p (time.nested (place_at w p)) nobody l)
+      ∙ ap (λ (ps : List Participant). record w { time = record w.time { places = ps } })
+      (set-set w.time.places p (time.nested (place_at w p)) (time.rotated w.time.count (time.nested (place_at w p))))
 
-  pub Whole-changes_nested : (holds : T → List Holding) (w : World T) (p : ℕ) → p < length w.time.places → IsWhole w → IsWhole (changed holds (steps.nested w p) p)
+  pub Whole-changes_nested : (holds : T → List Holding) (w : World T) (p : ℕ) → p < length w.time.places → IsWhole w →
+      IsWhole (changed holds (steps.nested w p) p)
   Whole-changes_nested holds w p l i =
       let y : Participant = time.nested (place_at w p) in
       let here : place_at (steps.nested w p) p ≡ y = get_or-set_same w.time.places p y nobody l in
@@ -445,28 +470,33 @@ module _ {T : Type 0} where
       let in_start : p < length start.time.places =
       omega (arith, l, length-set w.time.places p y, length-set (steps.nested w p).time.places p (time.rotated w.time.count (place_at (steps.nested w p) p))) in
       let from : IsWholeBut (due_next y) start = rw (nested-rotated w p l) (Whole-rotated w p y l refl refl i) in
-      Whole-settles holds start p (due_next (place_at (steps.nested w p) p)) in_start (subst (λ (z : Participant). IsWholeBut (due_next z) start) (sym here) from)
+      Whole-settles holds start p (due_next (place_at (steps.nested w p) p)) in_start
+      (subst (λ (z : Participant). IsWholeBut (due_next z) start) (sym here) from)
 
   pub Whole-nested : (w : World T) (p : ℕ) → p < length w.time.places → w.time.count ≤ (place_at w p).found + 1 → IsWhole w → IsWhole (steps.nested w p)
   Whole-nested w p l near i =
       let a = i.abreast p in
-      Whole-place w p (time.nested (place_at w p)) l refl (record { found = a.found; near = λ _. near; young = a.young; countdown = a.countdown; quiet = a.quiet }) i
+      Whole-place w p (time.nested (place_at w p)) l refl
+      (record { found = a.found; near = λ _. near; young = a.young; countdown = a.countdown; quiet = a.quiet }) i
 
-  Whole-caught_up_if : (holds : T → List Holding) (w : World T) (p : ℕ) → p < length w.time.places → IsWhole w → (b : Bool) → ((place_at w p).found == w.time.count) ≡ b →
+  Whole-caught_up_if : (holds : T → List Holding) (w : World T) (p : ℕ) → p < length w.time.places → IsWhole w → (b : Bool) →
+      ((place_at w p).found == w.time.count) ≡ b →
       time.finds_another (steps.nested w p).time p ≡ not b → IsWhole (steps.caught_up holds (steps.nested w p) p)
   Whole-caught_up_if holds w p l i true e test =
       let same : (place_at w p).found ≡ w.time.count = grind (arith, nat_tests, e) in
       rw test (Whole-nested w p l (omega (arith, same)) i)
   Whole-caught_up_if holds w p l i false e test = rw test (Whole-changes_nested holds w p l i)
 
-  Whole-caught_up : (holds : T → List Holding) (w : World T) (p : ℕ) → p < length w.time.places → IsWhole w → (b : Bool) → ((place_at w p).found == w.time.count) ≡ b →
+  Whole-caught_up : (holds : T → List Holding) (w : World T) (p : ℕ) → p < length w.time.places → IsWhole w → (b : Bool) →
+      ((place_at w p).found == w.time.count) ≡ b →
       IsWhole (steps.caught_up holds (steps.nested w p) p)
   Whole-caught_up holds w p l i b e =
       let here : place_at (steps.nested w p) p ≡ time.nested (place_at w p) = get_or-set_same w.time.places p (time.nested (place_at w p)) nobody l in
       let test : time.finds_another (steps.nested w p).time p ≡ not b = ap (λ (x : Participant). not (x.found == w.time.count)) here ∙ ap not e in
       Whole-caught_up_if holds w p l i b e test
 
-  Whole-opened_if : (holds : T → List Holding) (w : World T) (p : ℕ) → p < length w.time.places → IsWhole w → (b : Bool) → is_open (place_at w p) ≡ b → IsWhole (steps.opened holds w p)
+  Whole-opened_if : (holds : T → List Holding) (w : World T) (p : ℕ) → p < length w.time.places → IsWhole w → (b : Bool) → is_open (place_at w p) ≡ b →
+      IsWhole (steps.opened holds w p)
   Whole-opened_if holds w p l i true e = rw e (Whole-nested w p l ((i.abreast p).near e) i)
   Whole-opened_if holds w p l i false e = rw e (Whole-caught_up holds w p l i ((place_at w p).found == w.time.count) refl)
 
@@ -506,7 +536,8 @@ module _ {T : Type 0} where
       let a = i.abreast p in
       let c = changes holds w p l in
       let after = Whole-changed holds w p l i in
-      let guards : (place_at (changed holds w p) p).guards ≡ (place_at w p).guards = ap (λ (x : Participant). x.guards) c.own ∙ all_awaiting-guards c.slots (time.rotated w.time.count (place_at w p)) in
+      let guards : (place_at (changed holds w p) p).guards ≡ (place_at w p).guards =
+      ap (λ (x : Participant). x.guards) c.own ∙ all_awaiting-guards c.slots (time.rotated w.time.count (place_at w p)) in
       record {
         found = omega (arith, a.found, c.count);
         near = λ o. omega (arith, a.near (subst (λ (n : ℕ). IsTrue (nat_lt 0 n)) guards o), c.count);
@@ -547,7 +578,8 @@ module _ {T : Type 0} where
       (record { found = a.found; near = λ _. a.near opened; young = a.young; countdown = a.countdown; quiet = a.quiet }) i
 
   -- the count goes on by one: who has a guard open has found the one before
-  Whole-raised : (w : World T) → ((p : ℕ) → passes w.time.count (place_at w p) ≡ true) → IsWhole w → IsWhole (record w { time = record w.time { count = w.time.count + 1 } })
+  Whole-raised : (w : World T) → ((p : ℕ) → passes w.time.count (place_at w p) ≡ true) → IsWhole w →
+      IsWhole (record w { time = record w.time { count = w.time.count + 1 } })
   Whole-raised w all i =
       record {
         filled = i.filled;
@@ -565,7 +597,9 @@ module _ {T : Type 0} where
 
   Whole-raised_if : (w : World T) (b : Bool) → (nat_lt w.time.count last_count && list_all (passes w.time.count) w.time.places) ≡ b → IsWhole w →
       IsWhole (record w { time = if b then record w.time { count = w.time.count + 1 } else w.time })
-  Whole-raised_if w true e i = Whole-raised w (λ p. all-pass w.time.count w.time.places p (and-right (nat_lt w.time.count last_count) (list_all (passes w.time.count) w.time.places) e)) i
+  Whole-raised_if w true e i =
+      Whole-raised w (λ p. all-pass w.time.count w.time.places p
+      (and-right (nat_lt w.time.count last_count) (list_all (passes w.time.count) w.time.places) e)) i
   Whole-raised_if w false e i = i
 
   Whole-unmarked : (w : World T) → IsWhole w → IsWhole (record w { time = record w.time { marked = false } })
@@ -588,17 +622,21 @@ module _ {T : Type 0} where
       let here : place_at u p ≡ place_at w p = ap (λ (ps : List Participant). slice_index_or ps p nobody) e in
       let a : IsAbreast t.count (place_at w p) = subst (λ (x : Participant). IsAbreast t.count x) here (i.abreast p) in
       let inside : p < length t.places = omega (arith, l, ap (λ (ps : List Participant). length ps) e) in
-      Whole-place u p (record (place_at w p) { guards = 0; countdown = counted_down marked (place_at w p).countdown }) inside (ap (λ (x : Participant). x.bags.waiting) (sym here))
+      Whole-place u p (record (place_at w p) { guards = 0; countdown = counted_down marked (place_at w p).countdown }) inside
+      (ap (λ (x : Participant). x.bags.waiting) (sym here))
       (record {
         found = a.found;
         near = λ o. absurd (cc);
         young = a.young;
         countdown = counted-bound marked (place_at w p).countdown a.countdown ((place_at w p).countdown == 0) refl ((place_at w p).countdown == 128) refl;
-        quiet = λ e. a.quiet (counted-quiet marked (place_at w p).countdown a.countdown ((place_at w p).countdown == 0) refl ((place_at w p).countdown == 128) refl e);
+        quiet =
+            λ e. a.quiet (counted-quiet marked (place_at w p).countdown a.countdown ((place_at w p).countdown == 0) refl
+            ((place_at w p).countdown == 128) refl e);
       })
       i
 
-  Whole-last : (w : World T) (p : ℕ) → p < length w.time.places → IsWhole w → (b : Bool) → IsWhole (record w { time = if b then time.left_by w.time p else w.time })
+  Whole-last : (w : World T) (p : ℕ) → p < length w.time.places → IsWhole w → (b : Bool) →
+      IsWhole (record w { time = if b then time.left_by w.time p else w.time })
   Whole-last w p l i true =
       let scans = (place_at w p).countdown == 0 in
       Whole-left w p (if scans then time.scanned w.time p else w.time) w.time.marked (scans-places w.time p scans) l (Whole-scans_if w p scans i)
@@ -612,9 +650,11 @@ module _ {T : Type 0} where
   Whole-closed w p l i = Whole-closed-if w p l i (nat_lt 1 (place_at w p).guards) refl
 
   -- one place more
-  registered-abreast : (w : World T) (p : ℕ) → IsWhole w → (p < length w.time.places) ⊎ (length w.time.places ≤ p) → IsAbreast w.time.count (place_at (steps.registered w) p)
+  registered-abreast : (w : World T) (p : ℕ) → IsWhole w → (p < length w.time.places) ⊎ (length w.time.places ≤ p) →
+      IsAbreast w.time.count (place_at (steps.registered w) p)
   registered-abreast w p i (inl l) = rw (get_or-append w.time.places (newcomer w.time.room ∷ []) nobody p l) (i.abreast p)
-  registered-abreast w p i (inr past) = new-abreast w.time.count w.time.room (place_at (steps.registered w) p) (append-last w.time.places (newcomer w.time.room) p past)
+  registered-abreast w p i (inr past) =
+      new-abreast w.time.count w.time.room (place_at (steps.registered w) p) (append-last w.time.places (newcomer w.time.room) p past)
 
   pub Whole-registered : (w : World T) → IsWhole w → IsWhole (steps.registered w)
   Whole-registered w i =
@@ -626,12 +666,14 @@ module _ {T : Type 0} where
       }
 
   -- where a value was, it is
-  made-value : (w : World T) (k : ℕ) (v : T) → IsWhole w → standing_at w k ≡ None → (j : ℕ) (u : T) → value_at w j ≡ Some u → (j ≡ k) ⊎ (j ≢ k) → value_at (made w k v) j ≡ Some u
+  made-value : (w : World T) (k : ℕ) (v : T) → IsWhole w → standing_at w k ≡ None → (j : ℕ) (u : T) → value_at w j ≡ Some u → (j ≡ k) ⊎ (j ≢ k) →
+      value_at (made w k v) j ≡ Some u
   made-value w k v i free j u h (inr apart) = get_or-set_other w.values k j (Some v) None apart ∙ h
   made-value w k v i free j u h (inl e) =
       let some : is_some (value_at w j) ≡ true = ap is_some h in
       let none : is_some (value_at w k) ≡ false = filled-there w k i.filled ∙ ap is_some free in
       absurd (cc)
 
-  pub made-keeps : (w : World T) (k : ℕ) (v : T) → IsWhole w → standing_at w k ≡ None → (j : ℕ) (u : T) → value_at w j ≡ Some u → value_at (made w k v) j ≡ Some u
+  pub made-keeps : (w : World T) (k : ℕ) (v : T) → IsWhole w → standing_at w k ≡ None → (j : ℕ) (u : T) → value_at w j ≡ Some u →
+      value_at (made w k v) j ≡ Some u
   made-keeps w k v i free j u h = made-value w k v i free j u h (same-or-not j k)

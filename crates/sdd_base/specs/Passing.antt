@@ -32,7 +32,8 @@ pub record HavePassed {T : Type 0} (items : ℕ) (old new : World T) : Type 0 wh
 
 -- the law: an item that is made and retired at once passes, while the tally has room, and items pass one after another
 pub record ItemsPass (T : Type 0) : Type 0 where
-  pub one : (w : World T) (p k : ℕ) (value : T) → IsPlaceOf w p → IsEmptyAt w.standings k → w.tally.made + 1 < 2 ^ 128 → HavePassed 1 w (retired (made w k value) p k)
+  pub one : (w : World T) (p k : ℕ) (value : T) → IsPlaceOf w p → IsEmptyAt w.standings k → w.tally.made + 1 < 2 ^ 128 →
+      HavePassed 1 w (retired (made w k value) p k)
   pub more : (u v w : World T) (m n : ℕ) → HavePassed m u v → HavePassed n v w → HavePassed (m + n) u w
 
 -- the law: each accelerated guard of a participant does, where no guard is open

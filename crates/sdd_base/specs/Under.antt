@@ -31,3 +31,8 @@ module _ {T : Type 0} (holds : T → List Holding) where
   abbrev pub KeepsUnderGuards : World T → Type 0
   KeepsUnderGuards w = (p q k : ℕ) → IsTrue (is_open (place_at w p)) → IsPlaceOf w q → standing_at w k ≡ Some Owned →
       (new : World T) → CallsUnder p (retired w q k) new → (standing_at new k ≡ Some Retired) × (value_at new k ≡ value_at w k)
+
+  -- the same of every item that has seen no change of its holder yet, as each one when it begins to wait: retired by its owner, or given up by a value
+  abbrev pub KeepsFreshUnderGuards : World T → Type 0
+  KeepsFreshUnderGuards w = (p q k : ℕ) → IsTrue (is_open (place_at w p)) → Waits w q k 0 → standing_at w k ≡ Some Retired →
+      (new : World T) → CallsUnder p w new → (standing_at new k ≡ Some Retired) × (value_at new k ≡ value_at w k)

@@ -40,7 +40,8 @@ module _ {T : Type 0} where
 
   -- a world without participants and items, at this count and with these limits
   abbrev pub IsNew : Limits → ℕ → World T → Type 0
-  IsNew l count w = IsBlank (record { count = count; marked = false; places = []; participants = l.participants; nesting = l.nesting; room = l.slots }) l.slots l.cells w
+  IsNew l count w =
+      IsBlank (record { count = count; marked = false; places = []; participants = l.participants; nesting = l.nesting; room = l.slots }) l.slots l.cells w
 
   -- the place is one of the world's
   abbrev pub IsPlaceOf : World T → ℕ → Type 0

@@ -24,7 +24,8 @@ pub length-left-due : (next prev current : List ℕ) → length (waiting_of prev
 length-left-due next prev current = grind (arith, common_steps)
 
 -- nothing waits, where no bag has an item
-pub none-waiting : (next prev current : List ℕ) (waiting : List Waiting) → waiting_of next prev current ≡ waiting → 0 < length prev + length current → waiting ≢ []
+pub none-waiting : (next prev current : List ℕ) (waiting : List Waiting) → waiting_of next prev current ≡ waiting → 0 < length prev + length current →
+    waiting ≢ []
 none-waiting next prev current waiting e some none =
     let count : length (waiting_of next prev current) ≡ length next + (length prev + length current) = grind (arith, common_steps) in
     let zero_long : length waiting ≡ 0 = ap length none in

@@ -60,7 +60,8 @@ module _ {E : Type 0} where
       omega (arith, here, rest, sum_by-cons one_if_none x xs)
 
   -- every place is empty, if as many are listed as there are
-  pub empty-by-lengths : (t : Entries E) (empty : List ℕ) (room m n : ℕ) → IsListed t empty room → m ≡ length empty → n ≡ length t → IsTrue (m == n) ↔ All (λ e. IsNone e) t
+  pub empty-by-lengths : (t : Entries E) (empty : List ℕ) (room m n : ℕ) → IsListed t empty room → m ≡ length empty → n ≡ length t →
+      IsTrue (m == n) ↔ All (λ e. IsNone e) t
   empty-by-lengths t empty room m n h m_is n_is =
       (λ same. empty-from-count t (omega (arith, h.all, eqb-true m n same)), λ all. eq-eqb m n (omega (arith, h.all, count-from-empty t all)))
 
@@ -101,7 +102,8 @@ module _ {E : Type 0} where
       rw last at (listed.each (length rest) (omega arith))
 
   -- the last one listed gets an entry
-  pub listed-claimed : (t : Entries E) (k : ℕ) (e : E) (next : Option E) (empty rest : List ℕ) (room later : ℕ) → IsListed t empty room → empty ≡ rest ++ k ∷ [] → next ≡ Some e → later ≡ room → IsListed (slice_set t k next) rest later
+  pub listed-claimed : (t : Entries E) (k : ℕ) (e : E) (next : Option E) (empty rest : List ℕ) (room later : ℕ) → IsListed t empty room →
+      empty ≡ rest ++ k ∷ [] → next ≡ Some e → later ≡ room → IsListed (slice_set t k next) rest later
   listed-claimed t k e next empty rest room later was split next_is later_is =
       let h : IsListed t (rest ++ k ∷ []) room = rw split at was in
       let longer : length (rest ++ k ∷ []) ≡ length rest + 1 = length-append rest (k ∷ []) in
@@ -120,13 +122,15 @@ module _ {E : Type 0} where
       }
 
   -- a place with an entry isn't listed
-  pub unlisted : (t : Entries E) (k : ℕ) (empty : List ℕ) (room : ℕ) (i : ℕ) → IsListed t empty room → IsSome (entry_at t k) → i < length empty → slice_index empty i ≢ k
+  pub unlisted : (t : Entries E) (k : ℕ) (empty : List ℕ) (room : ℕ) (i : ℕ) → IsListed t empty room → IsSome (entry_at t k) → i < length empty →
+      slice_index empty i ≢ k
   unlisted t k empty room i h some lt e =
       let none : entry_at t k ≡ None = rw e at ((h.each i lt).1) in
       let clash : false ≡ true = sym (ap is_some none) ∙ some in cc
 
   -- a place that is left is listed last
-  pub listed-released : (t : Entries E) (k : ℕ) (next : Option E) (empty more : List ℕ) (room later : ℕ) → IsListed t empty room → IsSome (entry_at t k) → next ≡ None → more ≡ empty ++ k ∷ [] → later ≡ room → IsListed (slice_set t k next) more later
+  pub listed-released : (t : Entries E) (k : ℕ) (next : Option E) (empty more : List ℕ) (room later : ℕ) → IsListed t empty room → IsSome (entry_at t k) →
+      next ≡ None → more ≡ empty ++ k ∷ [] → later ≡ room → IsListed (slice_set t k next) more later
   listed-released t k next empty more room later h some next_is more_is later_is =
       let longer : length (empty ++ k ∷ []) ≡ length empty + 1 = length-append empty (k ∷ []) in
       let last : slice_index (empty ++ k ∷ []) (length empty) ≡ k = get_or_push empty k 0 (length empty) refl in
@@ -135,7 +139,11 @@ module _ {E : Type 0} where
       rw (next_is, more_is, later_is)
       record {
         each = each_below (λ i. IsEmptyAt (without_entry t k) (slice_index (empty ++ k ∷ []) i)) (length empty)
-            (λ i lt. rw (same i lt) (rw (length-set t k None) ((h.each i lt).0), get_or-set_other t k (slice_index empty i) None None (unlisted t k empty room i h some lt) ∙ (h.each i lt).1))
+            (λ i lt. rw (same i lt) (
+              rw (length-set t k None) ((h.each i lt).0),
+              get_or-set_other t k (slice_index empty i) None None
+                  (unlisted t k empty room i h some lt) ∙ (h.each i lt).1,
+            ))
             (rw last (rw (length-set t k None) there, get_or-set_same t k None None there))
             (length (empty ++ k ∷ [])) longer;
         once = λ i j i_lt_j lt.

@@ -37,7 +37,8 @@ ahead waiting w = sum_by to_go waiting + 4 * count_by is_owned w.standings
 
 -- the place has this pace, and this waits with it
 abbrev pub moved : Time → ℕ → ℕ → ℕ → List Waiting → Time
-moved t p found countdown waiting = with_place t p (record (time.place_at t p) { found = found; countdown = countdown; bags = record (time.place_at t p).bags { waiting = waiting } })
+moved t p found countdown waiting =
+    with_place t p (record (time.place_at t p) { found = found; countdown = countdown; bags = record (time.place_at t p).bags { waiting = waiting } })
 
 -- only the pace of p changes, and what waits with p; and no more is ahead
 pub record Moves {T : Type 0} (p : ℕ) (old new : World T) : Type 0 where
@@ -50,10 +51,13 @@ pub record Moves {T : Type 0} (p : ℕ) (old new : World T) : Type 0 where
 moved-same : (t : Time) (p : ℕ) → t ≡ moved t p (time.place_at t p).found (time.place_at t p).countdown (time.place_at t p).bags.waiting
 moved-same t p = sym (ap (λ (ps : List Participant). record t { places = ps }) (set-get_or t.places p nobody))
 
-moved-place : (t : Time) (p found countdown : ℕ) (ws : List Waiting) → p < length t.places → time.place_at (moved t p found countdown ws) p ≡ record (time.place_at t p) { found = found; countdown = countdown; bags = record (time.place_at t p).bags { waiting = ws } }
+moved-place : (t : Time) (p found countdown : ℕ) (ws : List Waiting) → p < length t.places →
+    time.place_at (moved t p found countdown ws) p ≡ record
+    (time.place_at t p) { found = found; countdown = countdown; bags = record (time.place_at t p).bags { waiting = ws } }
 moved-place t p found countdown ws l = get_or-set_same t.places p _ nobody l
 
-moved-moved : (t : Time) (p found countdown : ℕ) (ws : List Waiting) (found2 countdown2 : ℕ) (ws2 : List Waiting) → p < length t.places → moved (moved t p found countdown ws) p found2 countdown2 ws2 ≡ moved t p found2 countdown2 ws2
+moved-moved : (t : Time) (p found countdown : ℕ) (ws : List Waiting) (found2 countdown2 : ℕ) (ws2 : List Waiting) → p < length t.places →
+    moved (moved t p found countdown ws) p found2 countdown2 ws2 ≡ moved t p found2 countdown2 ws2
 moved-moved t p found countdown ws found2 countdown2 ws2 l =
     let here = moved-place t p found countdown ws l in
     rw here (ap (λ (ps : List Participant). record t { places = ps }) (set-set t.places p _ _))
@@ -65,7 +69,8 @@ in_range xs k s is = grind (arith, get_or_past)
 to_go-older : (x : Waiting) → is_due (older x) ≡ false → to_go (older x) + 1 ≤ to_go x
 to_go-older x young = grind (arith, nat_tests)
 
-fewer-cons : (x : Waiting) (ws : List Waiting) (b : Bool) → is_due (older x) ≡ b → sum_by to_go (left (aged ws)) + length ws ≤ sum_by to_go ws → sum_by to_go (left (aged (x ∷ ws))) + length (x ∷ ws) ≤ sum_by to_go (x ∷ ws)
+fewer-cons : (x : Waiting) (ws : List Waiting) (b : Bool) → is_due (older x) ≡ b → sum_by to_go (left (aged ws)) + length ws ≤ sum_by to_go ws →
+    sum_by to_go (left (aged (x ∷ ws))) + length (x ∷ ws) ≤ sum_by to_go (x ∷ ws)
 fewer-cons x ws true e h = rw e (omega (arith, h, sum_by-cons to_go x ws))
 fewer-cons x ws false e h = rw e (omega (arith, h, to_go-older x e, sum_by-cons to_go x ws, sum_by-cons to_go (older x) (left (aged ws))))
 
@@ -74,7 +79,8 @@ fewer : (ws : List Waiting) → sum_by to_go (left (aged ws)) + length ws ≤ su
 fewer [] = omega arith
 fewer (x ∷ ws) = fewer-cons x ws (is_due (older x)) refl (fewer ws)
 
-paced-moved : (t : Time) (p found countdown : ℕ) (ws : List Waiting) (pace : Pace) → p < length t.places → time.paced_at (moved t p found countdown ws) p pace ≡ moved t p pace.found pace.countdown ws
+paced-moved : (t : Time) (p found countdown : ℕ) (ws : List Waiting) (pace : Pace) → p < length t.places →
+    time.paced_at (moved t p found countdown ws) p pace ≡ moved t p pace.found pace.countdown ws
 paced-moved t p found countdown ws pace l =
     let here = moved-place t p found countdown ws l in
     rw here (ap (λ (ps : List Participant). record t { places = ps }) (set-set t.places p _ _))
@@ -94,7 +100,14 @@ module _ {T : Type 0} where
   pub Moves-trans : {p : ℕ} {u v w : World T} → p < length u.time.places → Moves p u v → Moves p v w → Moves p u w
   Moves-trans {p} {u} {v} {w} l a b =
       let through = ap (λ (ws : List Waiting). ahead ws v) (Moves-waiting a l) in
-      record { found = b.found; countdown = b.countdown; waiting = b.waiting; time = b.time ∙ ap (λ t. moved t p b.found b.countdown b.waiting) a.time ∙ moved-moved u.time p a.found a.countdown a.waiting b.found b.countdown b.waiting l; no_more = omega (arith, a.no_more, b.no_more, through) }
+      record {
+        found = b.found;
+        countdown = b.countdown;
+        waiting = b.waiting;
+        time = b.time ∙ ap (λ t. moved t p b.found b.countdown b.waiting) a.time
+            ∙ moved-moved u.time p a.found a.countdown a.waiting b.found b.countdown b.waiting l;
+        no_more = omega (arith, a.no_more, b.no_more, through);
+      }
 
   Moves-range : {p : ℕ} {u v : World T} → p < length u.time.places → Moves p u v → p < length v.time.places
   Moves-range {p} l a = let e = ap (λ (t : Time). length t.places) a.time in grind (arith, common_steps, e)
@@ -124,7 +137,8 @@ module _ {T : Type 0} where
 
   Moves-given : (w : World T) (p : ℕ) (h : Holding) → p < length w.time.places → Moves p w (given w p h)
   Moves-given w p (owned k home) l = Moves-owner_given w p k (standing_at w k) refl
-  Moves-given w p (atomic_owned c home) l = Moves-trans l (Moves-without_cell w p c) (Moves-spilled (record w { cells = without_entry w.cells c }) p (held_in (entry_at w.cells c)))
+  Moves-given w p (atomic_owned c home) l =
+      Moves-trans l (Moves-without_cell w p c) (Moves-spilled (record w { cells = without_entry w.cells c }) p (held_in (entry_at w.cells c)))
 
   Moves-given_all : (w : World T) (p : ℕ) (hs : List Holding) → p < length w.time.places → Moves p w (given_all w p hs)
   Moves-given_all w p [] l = Moves-refl p w
@@ -142,7 +156,8 @@ module _ {T : Type 0} where
     Moves-taken_out w p k l lk None = Moves-refl p w
     Moves-taken_out w p k l lk (Some value) = Moves-trans l (Moves-freed w p k lk) (Moves-given_all (freed w k) p (holds value) l)
 
-    Moves-standing : (w : World T) (p k : ℕ) → p < length w.time.places → (s : Option Standing) → standing_at w k ≡ s → Moves p w (taken_out holds w p k (waiting_value w k s))
+    Moves-standing : (w : World T) (p k : ℕ) → p < length w.time.places → (s : Option Standing) → standing_at w k ≡ s →
+        Moves p w (taken_out holds w p k (waiting_value w k s))
     Moves-standing w p k l None is = Moves-refl p w
     Moves-standing w p k l (Some s) is = Moves-taken_out w p k l (in_range w.standings k s is) (waiting_value w k (Some s))
 
@@ -174,12 +189,14 @@ module _ {T : Type 0} where
     Moves-changed w p l = Moves-trans l (Moves-rotated w p) (Moves-after w p l)
 
     -- a change brings the end of the closing nearer
-    changed-ahead : (w : World T) (p : ℕ) → p < length w.time.places → ahead (place_at (changed holds w p) p).bags.waiting (changed holds w p) + length (place_at w p).bags.waiting ≤ ahead (place_at w p).bags.waiting w
+    changed-ahead : (w : World T) (p : ℕ) → p < length w.time.places →
+        ahead (place_at (changed holds w p) p).bags.waiting (changed holds w p) + length (place_at w p).bags.waiting ≤ ahead (place_at w p).bags.waiting w
     changed-ahead w p l =
         let here = Moves-range l (Moves-rotated w p) in
         let rest = Moves-after w p l in
         let at_end = ap (λ (ws : List Waiting). ahead ws (changed holds w p)) (Moves-waiting rest here) in
-        let rotated_place = ap (λ (x : Participant). sum_by to_go x.bags.waiting) (get_or-set_same w.time.places p (time.rotated w.time.count (place_at w p)) nobody l) in
+        let rotated_place =
+        ap (λ (x : Participant). sum_by to_go x.bags.waiting) (get_or-set_same w.time.places p (time.rotated w.time.count (place_at w p)) nobody l) in
         omega (arith, at_end, rest.no_more, rotated_place, fewer (place_at w p).bags.waiting)
 
     -- such a change adds nothing to what waits but what it keeps at its place
@@ -197,34 +214,57 @@ module _ {T : Type 0} where
   MovesWaiting-refl p w = record { waiting = (place_at w p).bags.waiting; time = moved-same w.time p }
 
   pub MovesWaiting-here : {p : ℕ} {u v : World T} → (m : MovesWaiting p u v) → p < length u.time.places → (place_at v p).bags.waiting ≡ m.waiting
-  MovesWaiting-here {p} {u} m l = rw m.time (ap (λ (x : Participant). x.bags.waiting) (moved-place u.time p (place_at u p).found (place_at u p).countdown m.waiting l))
+  MovesWaiting-here {p} {u} m l =
+      rw m.time (ap (λ (x : Participant). x.bags.waiting) (moved-place u.time p (place_at u p).found (place_at u p).countdown m.waiting l))
 
   pub MovesWaiting-trans : {p : ℕ} {u v w : World T} → p < length u.time.places → MovesWaiting p u v → MovesWaiting p v w → MovesWaiting p u w
   MovesWaiting-trans {p} {u} {v} {w} l a b =
-      let at_v : place_at v p ≡ record (place_at u p) { bags = record (place_at u p).bags { waiting = a.waiting } } = ap (λ (t : Time). time.place_at t p) a.time ∙ moved-place u.time p (place_at u p).found (place_at u p).countdown a.waiting l in
-      record { waiting = b.waiting; time = b.time ∙ ap (λ (x : Participant). moved v.time p x.found x.countdown b.waiting) at_v ∙ ap (λ t. moved t p (place_at u p).found (place_at u p).countdown b.waiting) a.time ∙ moved-moved u.time p (place_at u p).found (place_at u p).countdown a.waiting (place_at u p).found (place_at u p).countdown b.waiting l }
+      let at_v : place_at v p ≡ record (place_at u p) { bags = record (place_at u p).bags { waiting = a.waiting } } =
+      ap (λ (t : Time). time.place_at t p) a.time ∙ moved-place u.time p (place_at u p).found (place_at u p).countdown a.waiting l in
+      record {
+        waiting = b.waiting;
+        time = b.time ∙ ap (λ (x : Participant). moved v.time p x.found x.countdown b.waiting) at_v
+            ∙ ap (λ t. moved t p (place_at u p).found (place_at u p).countdown b.waiting) a.time
+            ∙ moved-moved u.time p (place_at u p).found (place_at u p).countdown a.waiting (place_at u p).found (place_at u p).countdown b.waiting l;
+      }
 
   pub MovesWaiting-aged_out : (holds : T → List Holding) (w : World T) (p : ℕ) → p < length w.time.places → MovesWaiting p w (aged_out holds w p)
   MovesWaiting-aged_out holds w p l =
       let m = Moves-changed holds w p l in
       let there = Moves-waiting m l in
-      record { waiting = (place_at (changed holds w p) p).bags.waiting; time = rw there (ap (λ t. time.paced_at t p (pace_of (place_at w p))) m.time ∙ paced-moved w.time p m.found m.countdown m.waiting (pace_of (place_at w p)) l) }
+      record {
+        waiting = (place_at (changed holds w p) p).bags.waiting;
+        time = rw there
+            (ap (λ t. time.paced_at t p (pace_of (place_at w p))) m.time ∙ paced-moved w.time p m.found m.countdown m.waiting (pace_of (place_at w p)) l);
+      }
 
   MovesWaiting-range : {p : ℕ} {u v : World T} → p < length u.time.places → MovesWaiting p u v → p < length v.time.places
-  MovesWaiting-range {p} {u} l m = omega (arith, ap (λ (t : Time). length t.places) m.time, length-set u.time.places p (record (place_at u p) { bags = record (place_at u p).bags { waiting = m.waiting } }))
+  MovesWaiting-range {p} {u} l m =
+      omega (
+        arith,
+        ap (λ (t : Time). length t.places) m.time,
+        length-set u.time.places p
+            (record (place_at u p) { bags = record (place_at u p).bags { waiting = m.waiting } }),
+      )
 
   pub aged_out-range : (holds : T → List Holding) (w : World T) (p : ℕ) → p < length w.time.places → p < length (aged_out holds w p).time.places
   aged_out-range holds w p l = MovesWaiting-range l (MovesWaiting-aged_out holds w p l)
 
   -- where nothing waits with p any more
-  pub MovesWaiting-done : {p : ℕ} {u v : World T} → p < length u.time.places → MovesWaiting p u v → (place_at v p).bags.waiting ≡ [] → v.time ≡ with_place u.time p (without_waiting (place_at u p))
-  MovesWaiting-done {p} {u} {v} l m done = m.time ∙ ap (λ (ws : List Waiting). moved u.time p (place_at u p).found (place_at u p).countdown ws) (sym (MovesWaiting-here m l) ∙ done)
+  pub MovesWaiting-done : {p : ℕ} {u v : World T} → p < length u.time.places → MovesWaiting p u v → (place_at v p).bags.waiting ≡ [] →
+      v.time ≡ with_place u.time p (without_waiting (place_at u p))
+  MovesWaiting-done {p} {u} {v} l m done =
+      m.time ∙ ap (λ (ws : List Waiting). moved u.time p (place_at u p).found (place_at u p).countdown ws) (sym (MovesWaiting-here m l) ∙ done)
 
-  paced-ahead : (w : World T) (p : ℕ) (pace : Pace) → p < length w.time.places → ahead (place_at (paced w p pace) p).bags.waiting (paced w p pace) ≡ ahead (place_at w p).bags.waiting w
-  paced-ahead w p pace l = ap (λ (x : Participant). sum_by to_go x.bags.waiting + 4 * count_by is_owned w.standings) (get_or-set_same w.time.places p (time.paced pace (place_at w p)) nobody l)
+  paced-ahead : (w : World T) (p : ℕ) (pace : Pace) → p < length w.time.places →
+      ahead (place_at (paced w p pace) p).bags.waiting (paced w p pace) ≡ ahead (place_at w p).bags.waiting w
+  paced-ahead w p pace l =
+      ap (λ (x : Participant). sum_by to_go x.bags.waiting + 4 * count_by is_owned w.standings)
+      (get_or-set_same w.time.places p (time.paced pace (place_at w p)) nobody l)
 
   -- where something waits, such a change brings the end nearer
-  pub aged_out-ahead : (holds : T → List Holding) (w : World T) (p : ℕ) → p < length w.time.places → ((place_at w p).bags.waiting ≡ [] → ⊥) → ahead (place_at (aged_out holds w p) p).bags.waiting (aged_out holds w p) < ahead (place_at w p).bags.waiting w
+  pub aged_out-ahead : (holds : T → List Holding) (w : World T) (p : ℕ) → p < length w.time.places → ((place_at w p).bags.waiting ≡ [] → ⊥) →
+      ahead (place_at (aged_out holds w p) p).bags.waiting (aged_out holds w p) < ahead (place_at w p).bags.waiting w
   aged_out-ahead holds w p l h =
       let same = paced-ahead (changed holds w p) p (pace_of (place_at w p)) (Moves-range l (Moves-changed holds w p l)) in
       omega (arith, same, changed-ahead holds w p l, some-waits (place_at w p).bags.waiting h)
@@ -233,10 +273,13 @@ module _ {T : Type 0} where
 abbrev pub emptied_to : Time → ℕ → Time
 emptied_to t i = record t { places = map without_waiting (take i t.places) ++ drop i t.places }
 
-emptied_next : (xs : List Participant) (i : ℕ) → i < length xs → slice_set (map without_waiting (take i xs) ++ drop i xs) i (without_waiting (get_or (map without_waiting (take i xs) ++ drop i xs) i nobody)) ≡ map without_waiting (take (suc i) xs) ++ drop (suc i) xs
+emptied_next : (xs : List Participant) (i : ℕ) → i < length xs →
+    slice_set (map without_waiting (take i xs) ++ drop i xs) i
+    (without_waiting (get_or (map without_waiting (take i xs) ++ drop i xs) i nobody)) ≡ map without_waiting (take (suc i) xs) ++ drop (suc i) xs
 emptied_next [] i l = absurd (omega arith)
 emptied_next (x ∷ xs) zero l = refl
 emptied_next (x ∷ xs) (suc i) l = ap (λ (r : List Participant). without_waiting x ∷ r) (emptied_next xs i (omega arith))
 
-pub emptied_to-more : (t : Time) (i : ℕ) → i < length t.places → with_place (emptied_to t i) i (without_waiting (time.place_at (emptied_to t i) i)) ≡ emptied_to t (i + 1)
+pub emptied_to-more : (t : Time) (i : ℕ) → i < length t.places →
+    with_place (emptied_to t i) i (without_waiting (time.place_at (emptied_to t i) i)) ≡ emptied_to t (i + 1)
 emptied_to-more t i l = rw add-one (ap (λ (ps : List Participant). record t { places = ps }) (emptied_next t.places i l))

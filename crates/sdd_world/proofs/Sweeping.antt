@@ -140,7 +140,8 @@ module _ {T : Type 0} (holds : T → List Holding) (old : World T) where
   record Swept (pending : List Holding) (w : World T) : Type 0 where
     slot : (k : ℕ) → SlotState w k
     cell : (c : ℕ) → CellState w c
-    done : (j : ℕ) (v : T) → value_at old j ≡ Some v → IsSome (standing_at old j) → standing_at w j ≡ None → (h : Holding) → Among h (holds v) → Done w h ⊎ Among h pending
+    done : (j : ℕ) (v : T) → value_at old j ≡ Some v → IsSome (standing_at old j) → standing_at w j ≡ None → (h : Holding) → Among h (holds v) →
+        Done w h ⊎ Among h pending
     source : (h : Holding) → Among h pending → Source h
     count : (n : ℕ) × (taken old ≡ taken w + n) × (w.tally ≡ with_reclaimed n old.tally)
     slots : length w.standings ≡ length old.standings
@@ -199,7 +200,8 @@ module _ {T : Type 0} (holds : T → List Holding) (old : World T) where
   retired-none w p k j l none (inl e) = let here = get_or-set_same w.standings k (Some Retired) None l in absurd (cc)
   retired-none w p k j l none (inr apart) = sym (get_or-set_other w.standings k j (Some Retired) None apart) ∙ none
 
-  Swept-retired : (pending : List Holding) (w : World T) (p k : ℕ) → standing_at w k ≡ Some Owned → Goes holds old k → Swept pending w → Swept pending (retired w p k)
+  Swept-retired : (pending : List Holding) (w : World T) (p k : ℕ) → standing_at w k ≡ Some Owned → Goes holds old k → Swept pending w →
+      Swept pending (retired w p k)
   Swept-retired pending w p k there g i =
       let l = in_range w.standings k Owned there in
       let f = Fades-retired w p k l in
@@ -225,7 +227,8 @@ module _ {T : Type 0} (holds : T → List Holding) (old : World T) where
   takes-nothing : (pending : List Holding) (w : World T) (k : ℕ) → NotOwned w k → Swept pending w → Takes pending w k w
   takes-nothing pending w k h i = record { swept = i; fades = Fades-refl w; not_owned = h; cells = refl }
 
-  takes-owner : (pending : List Holding) (w : World T) (p k : ℕ) (s : Option Standing) → standing_at w k ≡ s → (standing_at w k ≡ Some Owned → Goes holds old k) → Swept pending w → Takes pending w k (owner_given w p k s)
+  takes-owner : (pending : List Holding) (w : World T) (p k : ℕ) (s : Option Standing) → standing_at w k ≡ s →
+      (standing_at w k ≡ Some Owned → Goes holds old k) → Swept pending w → Takes pending w k (owner_given w p k s)
   takes-owner pending w p k None is g i = takes-nothing pending w k (λ e. cc) i
   takes-owner pending w p k (Some Owned) is g i =
       let l = in_range w.standings k Owned is in
@@ -247,18 +250,22 @@ module _ {T : Type 0} (holds : T → List Holding) (old : World T) where
     not_owned : (m : ℕ) → held ≡ Some m → NotOwned new m
     cells : new.cells ≡ w.cells
 
-  spills : (pending : List Holding) (w : World T) (p : ℕ) (held : Option ℕ) → ((k : ℕ) → held ≡ Some k → standing_at w k ≡ Some Owned → Goes holds old k) → Swept pending w → Spills pending w held (spilled w p held)
+  spills : (pending : List Holding) (w : World T) (p : ℕ) (held : Option ℕ) → ((k : ℕ) → held ≡ Some k → standing_at w k ≡ Some Owned → Goes holds old k) →
+      Swept pending w → Spills pending w held (spilled w p held)
   spills pending w p None g i = record { swept = i; fades = Fades-refl w; not_owned = λ m e. cc; cells = refl }
   spills pending w p (Some k) g i =
       let t = takes-owner pending w p k (standing_at w k) refl (g k refl) i in
       record { swept = t.swept; fades = t.fades; not_owned = λ m e owned. t.not_owned (rw (some-same m k e) at owned); cells = t.cells }
 
   -- a cell is closed, once what it held is owned no more
-  cell-closed : (w : World T) (c d : ℕ) → GoesCell holds old c → ((m : ℕ) → held_in (entry_at old.cells c) ≡ Some m → NotOwned w m) → CellState w d → (d ≡ c) ⊎ (d ≢ c) → CellState (record w { cells = without_entry w.cells c }) d
+  cell-closed : (w : World T) (c d : ℕ) → GoesCell holds old c → ((m : ℕ) → held_in (entry_at old.cells c) ≡ Some m → NotOwned w m) → CellState w d →
+      (d ≡ c) ⊎ (d ≢ c) → CellState (record w { cells = without_entry w.cells c }) d
   cell-closed w c d g h s (inl e) = rw e (closed g (none-here w.cells c) h)
-  cell-closed w c d g h s (inr apart) = cell-moves w (record w { cells = without_entry w.cells c }) d (get_or-set_other w.cells c d None None apart) (λ k h. h) s
+  cell-closed w c d g h s (inr apart) =
+      cell-moves w (record w { cells = without_entry w.cells c }) d (get_or-set_other w.cells c d None None apart) (λ k h. h) s
 
-  Swept-without_cell : (pending : List Holding) (w : World T) (c : ℕ) → GoesCell holds old c → ((m : ℕ) → held_in (entry_at old.cells c) ≡ Some m → NotOwned w m) → Swept pending w → Swept pending (record w { cells = without_entry w.cells c })
+  Swept-without_cell : (pending : List Holding) (w : World T) (c : ℕ) → GoesCell holds old c →
+      ((m : ℕ) → held_in (entry_at old.cells c) ≡ Some m → NotOwned w m) → Swept pending w → Swept pending (record w { cells = without_entry w.cells c })
   Swept-without_cell pending w c g held i =
       let u : World T = record w { cells = without_entry w.cells c } in
       let f : Fades w u = record { owned = λ k h. h; cells = λ d e. none-set w.cells c d e } in
@@ -288,11 +295,13 @@ module _ {T : Type 0} (holds : T → List Holding) (old : World T) where
     swept : Swept pending new
     done : Done new h
 
-  gives-cell-held : (w v : World T) (c : ℕ) → CellState w c → Fades w v → ((m : ℕ) → held_in (entry_at w.cells c) ≡ Some m → NotOwned v m) → (m : ℕ) → held_in (entry_at old.cells c) ≡ Some m → NotOwned v m
+  gives-cell-held : (w v : World T) (c : ℕ) → CellState w c → Fades w v → ((m : ℕ) → held_in (entry_at w.cells c) ≡ Some m → NotOwned v m) → (m : ℕ) →
+      held_in (entry_at old.cells c) ≡ Some m → NotOwned v m
   gives-cell-held w v c (keeps e) f h m held = h m (ap held_in e ∙ held)
   gives-cell-held w v c (closed g e n) f h m held = f.owned m (n m held)
 
-  cell_closed-owner : (w : World T) (p c k : ℕ) (s : Option Standing) → owner_given (record w { cells = without_entry w.cells c }) p k s ≡ record (owner_given w p k s) { cells = without_entry w.cells c }
+  cell_closed-owner : (w : World T) (p c k : ℕ) (s : Option Standing) →
+      owner_given (record w { cells = without_entry w.cells c }) p k s ≡ record (owner_given w p k s) { cells = without_entry w.cells c }
   cell_closed-owner w p c k None = refl
   cell_closed-owner w p c k (Some Owned) = refl
   cell_closed-owner w p c k (Some Raw) = refl
@@ -300,22 +309,28 @@ module _ {T : Type 0} (holds : T → List Holding) (old : World T) where
   cell_closed-owner w p c k (Some Retired) = refl
   cell_closed-owner w p c k (Some (privately d)) = refl
 
-  cell_closed-is : (w : World T) (p c : ℕ) (held : Option ℕ) → spilled (record w { cells = without_entry w.cells c }) p held ≡ record (spilled w p held) { cells = without_entry w.cells c }
+  cell_closed-is : (w : World T) (p c : ℕ) (held : Option ℕ) →
+      spilled (record w { cells = without_entry w.cells c }) p held ≡ record (spilled w p held) { cells = without_entry w.cells c }
   cell_closed-is w p c None = refl
   cell_closed-is w p c (Some k) = cell_closed-owner w p c k (standing_at w k)
 
-  gives-cell : (pending : List Holding) (w : World T) (p c : ℕ) (home : token.Home) → GoesCell holds old c → ((k : ℕ) → held_in (entry_at old.cells c) ≡ Some k → standing_at old k ≡ Some Owned → Goes holds old k) → Swept pending w → Gives pending w (atomic_owned c home) (cell_closed w p c)
+  gives-cell : (pending : List Holding) (w : World T) (p c : ℕ) (home : token.Home) → GoesCell holds old c →
+      ((k : ℕ) → held_in (entry_at old.cells c) ≡ Some k → standing_at old k ≡ Some Owned → Goes holds old k) → Swept pending w →
+      Gives pending w (atomic_owned c home) (cell_closed w p c)
   gives-cell pending w p c home g goes i =
       let held = held_in (entry_at w.cells c) in
       let t = spills pending w p held (λ k e owned. goes k (held-now w c k (i.cell c) e) (owned-before w k (i.slot k) owned)) i in
       let v = spilled w p held in
       let free = gives-cell-held w v c (i.cell c) t.fades t.not_owned in
-      let to : cell_closed w p c ≡ record v { cells = without_entry v.cells c } = cell_closed-is w p c held ∙ ap (λ (cs : Entries Cell). record v { cells = without_entry cs c }) (sym t.cells) in
+      let to : cell_closed w p c ≡ record v { cells = without_entry v.cells c } =
+      cell_closed-is w p c held ∙ ap (λ (cs : Entries Cell). record v { cells = without_entry cs c }) (sym t.cells) in
       rw to (record { swept = Swept-without_cell pending v c g free t.swept; done = (none-here v.cells c, free) })
 
   gives-from : (pending : List Holding) (w : World T) (p : ℕ) (h : Holding) → Source h → Swept pending w → Gives pending w h (given w p h)
   gives-from pending w p (owned k home) s i =
-      let t = takes-owner pending w p k (standing_at w k) refl (λ is_owned. by_giving k s.slot s.value (owned k home) s.goes s.there s.held refl (owned-before w k (i.slot k) is_owned)) i in
+      let t =
+      takes-owner pending w p k (standing_at w k) refl (λ is_owned. by_giving k s.slot s.value (owned k home) s.goes s.there s.held refl
+      (owned-before w k (i.slot k) is_owned)) i in
       record { swept = t.swept; done = t.not_owned }
   gives-from pending w p (atomic_owned c home) s i =
       gives-cell pending w p c home
@@ -361,7 +376,8 @@ module _ {T : Type 0} (holds : T → List Holding) (old : World T) where
   -- a slot that waited is free
   freed-slot : (w : World T) (k j : ℕ) → Goes holds old k → SlotState w j → (j ≡ k) ⊎ (j ≢ k) → SlotState (freed w k) j
   freed-slot w k j g s (inl e) = rw e (gone g (none-here w.standings k) (none-here w.values k))
-  freed-slot w k j g s (inr apart) = slot-moves w (freed w k) j (get_or-set_other w.standings k j None None apart) (get_or-set_other w.values k j None None apart) s
+  freed-slot w k j g s (inr apart) =
+      slot-moves w (freed w k) j (get_or-set_other w.standings k j None None apart) (get_or-set_other w.values k j None None apart) s
 
   freed-standing : (w : World T) (k j : ℕ) → NotOwned w j → (j ≡ k) ⊎ (j ≢ k) → NotOwned (freed w k) j
   freed-standing w k j h (inl e) = λ is_owned. let here = none-here w.standings k in absurd (cc)
@@ -371,9 +387,12 @@ module _ {T : Type 0} (holds : T → List Holding) (old : World T) where
   from-none w k value f h (inl d) = inl (done-moves w (freed w k) f h d)
   from-none w k value f h (inr m) = absurd m
 
-  freed-done : (w : World T) (k : ℕ) (value : T) → Fades w (freed w k) → value_at old k ≡ Some value → Swept [] w → (j : ℕ) (v : T) → value_at old j ≡ Some v → IsSome (standing_at old j) → standing_at (freed w k) j ≡ None → (h : Holding) → Among h (holds v) → (j ≡ k) ⊎ (j ≢ k) → Done (freed w k) h ⊎ Among h (holds value)
+  freed-done : (w : World T) (k : ℕ) (value : T) → Fades w (freed w k) → value_at old k ≡ Some value → Swept [] w → (j : ℕ) (v : T) →
+      value_at old j ≡ Some v → IsSome (standing_at old j) → standing_at (freed w k) j ≡ None → (h : Holding) → Among h (holds v) → (j ≡ k) ⊎ (j ≢ k) →
+      Done (freed w k) h ⊎ Among h (holds value)
   freed-done w k value f was i j v there some none h m (inl e) = let same : v ≡ value = cc in inr (rw same at m)
-  freed-done w k value f was i j v there some none h m (inr apart) = from-none w k value f h (i.done j v there some (sym (get_or-set_other w.standings k j None None apart) ∙ none) h m)
+  freed-done w k value f was i j v there some none h m (inr apart) =
+      from-none w k value f h (i.done j v there some (sym (get_or-set_other w.standings k j None None apart) ∙ none) h m)
 
   Swept-freed : (w : World T) (k : ℕ) (value : T) → IsWaiting (standing_at w k) → value_at w k ≡ Some value → Swept [] w → Swept (holds value) (freed w k)
   Swept-freed w k value waiting there i =
@@ -444,7 +463,8 @@ module _ {T : Type 0} (holds : T → List Holding) (old : World T) where
     swept : Swept [] new
     idle : (k : ℕ) → IsWaiting (standing_at new k) → ⊥
 
-  slot-gone : (new : World T) → Ended new → (k : ℕ) → Goes holds old k → SlotState new k → (standing_at old k ≡ standing_at new k → ⊥) → (standing_at new k ≡ None) × (value_at new k ≡ None)
+  slot-gone : (new : World T) → Ended new → (k : ℕ) → Goes holds old k → SlotState new k → (standing_at old k ≡ standing_at new k → ⊥) →
+      (standing_at new k ≡ None) × (value_at new k ≡ None)
   slot-gone new e k g (stays a b) changed = absurd (changed (sym a))
   slot-gone new e k g (retires g2 a b) changed = absurd (e.idle k (ap is_waiting a))
   slot-gone new e k g (gone g2 a b) changed = (a, b)
@@ -480,7 +500,9 @@ module _ {T : Type 0} (holds : T → List Holding) (old : World T) where
   cell-gone : (new : World T) → Ended new → (c : ℕ) → GoesCell holds old c → entry_at new.cells c ≡ None
   cell-gone new e c g =
       let before = all-gone new e g.slot g.goes in
-      let d = was-done new (atomic_owned c g.home) (e.swept.done g.slot g.value g.there (goes-some g.slot g.goes) before.0 (atomic_owned c g.home) (among-at (holds g.value) (atomic_owned c g.home) g.held.0 g.held.1 g.held.2)) in
+      let d =
+      was-done new (atomic_owned c g.home) (e.swept.done g.slot g.value g.there (goes-some g.slot g.goes) before.0 (atomic_owned c g.home)
+      (among-at (holds g.value) (atomic_owned c g.home) g.held.0 g.held.1 g.held.2)) in
       d.0
 
   nobody-waits : (k : ℕ) (places : List Participant) → sum_by (times_with k) (map without_waiting places) ≡ 0
@@ -491,7 +513,9 @@ module _ {T : Type 0} (holds : T → List Holding) (old : World T) where
   ended new c i =
       record {
         swept = rw c.changes.1 (Swept-all_aged_out old c.changes.0 Swept-start);
-        idle = λ k h. let none = ap (λ (t : Time). sum_by (times_with k) t.places) c.time ∙ nobody-waits k old.time.places in absurd (omega (arith, none, rw h at (i.once k)));
+        idle =
+            λ k h. let none = ap (λ (t : Time). sum_by (times_with k) t.places) c.time
+            ∙ nobody-waits k old.time.places in absurd (omega (arith, none, rw h at (i.once k)));
       }
 
   -- the closing sweeps away exactly what goes
@@ -511,13 +535,15 @@ module _ {T : Type 0} (holds : T → List Holding) (old : World T) where
       }
 
   -- a standing that is none at the end
-  free-at-end : (new : World T) → Ended new → AllGo holds old → (k : ℕ) → SlotState new k → (s : Option Standing) → standing_at old k ≡ s → standing_at new k ≡ None
+  free-at-end : (new : World T) → Ended new → AllGo holds old → (k : ℕ) → SlotState new k → (s : Option Standing) → standing_at old k ≡ s →
+      standing_at new k ≡ None
   free-at-end new e all k (stays a b) None is = a ∙ is
   free-at-end new e all k (stays a b) (Some s) is = (all-gone new e k (all.slots k (ap is_some is))).0
   free-at-end new e all k (retires g a b) s is = absurd (e.idle k (ap is_waiting a))
   free-at-end new e all k (gone g a b) s is = a
 
-  cell-free-at-end : (new : World T) → Ended new → AllGo holds old → (c : ℕ) → CellState new c → (x : Option Cell) → entry_at old.cells c ≡ x → entry_at new.cells c ≡ None
+  cell-free-at-end : (new : World T) → Ended new → AllGo holds old → (c : ℕ) → CellState new c → (x : Option Cell) → entry_at old.cells c ≡ x →
+      entry_at new.cells c ≡ None
   cell-free-at-end new e all c (keeps a) None is = a ∙ is
   cell-free-at-end new e all c (keeps a) (Some x) is = cell-gone new e c (all.cells c (ap is_some is))
   cell-free-at-end new e all c (closed g a h) x is = a
@@ -608,7 +634,8 @@ module _ {T : Type 0} (holds : T → List Holding) (w : World T) where
 
   plain-slot : HoldsNothing holds → AllGo holds w → (k : ℕ) → (s : Option Standing) → standing_at w k ≡ s → is_out s ≡ false
   plain-slot plain all k None e = refl
-  plain-slot plain all k (Some s) e = subst (λ (x : Option Standing). is_out x ≡ false) e (waits-inside-out (standing_at w k) (plain-waits plain k (all.slots k (ap is_some e))))
+  plain-slot plain all k (Some s) e =
+      subst (λ (x : Option Standing). is_out x ≡ false) e (waits-inside-out (standing_at w k) (plain-waits plain k (all.slots k (ap is_some e))))
 
   plain-cell : HoldsNothing holds → AllGo holds w → (c : ℕ) → (x : Option Cell) → entry_at w.cells c ≡ x → is_some x ≡ false
   plain-cell plain all c None e = refl

@@ -4,7 +4,7 @@ ghost use Rattle.sdd_base.specs.Out.{OutLaws};
 ghost use Rattle.sdd_base.specs.Left.{FourGuardsReclaim, GoesAtLatest, GoesInTime};
 ghost use Rattle.sdd_base.specs.World.{World};
 ghost use Rattle.sdd_base.specs.Passing.{GuardsPass, ItemsPass};
-ghost use Rattle.sdd_base.specs.Under.{KeepsUnderGuards};
+ghost use Rattle.sdd_base.specs.Under.{KeepsFreshUnderGuards, KeepsUnderGuards};
 
 use super::World;
 use sdd_base::Item;
@@ -49,7 +49,8 @@ impl<T: Item<T>> World<T> {
 
     /// No item is reclaimed while a guard that was open at its retirement is open.
     pub fn keeps_under_guards(&self)
-        ensures { KeepsUnderGuards T.holds self.now }
+        ensures retired { KeepsUnderGuards T.holds self.now }
+        ensures fresh { KeepsFreshUnderGuards T.holds self.now }
     {
         self.is_whole();
     }

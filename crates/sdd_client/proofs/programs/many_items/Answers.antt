@@ -4,7 +4,9 @@ use Rattle.sdd_store.specs.declared.tally.Tally.{Tally}
 use Rattle.sdd_client.proofs.programs.many_items.Goals as goal
 
 tally_is : (t : Tally) (n : ℕ) → t.made ≡ n → t.reclaimed ≡ n → t.in_place ≡ 0 → t ≡ record { made = n; reclaimed = n; in_place = 0 }
-tally_is t n a b c = ap (λ (m : ℕ). record t { made = m }) a ∙ ap (λ (m : ℕ). record t { made = n; reclaimed = m }) b ∙ ap (λ (m : ℕ). record t { made = n; reclaimed = n; in_place = m }) c
+tally_is t n a b c =
+    ap (λ (m : ℕ). record t { made = m }) a ∙ ap (λ (m : ℕ). record t { made = n; reclaimed = m }) b
+    ∙ ap (λ (m : ℕ). record t { made = n; reclaimed = n; in_place = m }) c
 
 pub returns-in-Ok-register : goal.returns-in-Ok-register
 returns-in-Ok-register g c =

@@ -8,4 +8,8 @@ use Rattle.sdd_store.proofs.bags.Bags.is_empty.Goals.{then-is_empty, else-is_emp
 pub returns-else-is_empty-2 : goal.returns-else-is_empty-2
 returns-else-is_empty-2 c =
     let listed = ap (λ (b : Bags). b.waiting) c.self.view_is in
-    elim c.if-is_empty.branch [ then-is_empty w ↦ grind (arith, common_steps, none-waiting _ _ _ _ listed) | else-is_empty w ↦ grind (arith, common_steps, none-waiting _ _ _ _ listed) ]
+    elim c.if-is_empty.branch [
+      | then-is_empty w ↦ grind (arith, common_steps, none-waiting _ _ _ _ listed)
+      | else-is_empty w ↦ grind
+          (arith, common_steps, none-waiting _ _ _ _ listed)
+    ]

@@ -5,7 +5,8 @@ use Rattle.sdd_store.proofs.bags.Bags.rotate.Goals as goal
 pub returns-clause-kept : goal.returns-clause-kept
 returns-clause-kept c =
     rw (← c.self.view_is, c.swap-3.ensures.y_after, c.swap-2.ensures.y_after, c.swap-2.ensures.x_after, c.swap.ensures.y_after, c.swap.ensures.x_after, c.requires.empty)
-    (ap (λ w. record { waiting = w; room = c.self.inside.room }) (sym (left-aged c.self.inside.next.items c.self.inside.previous.items c.self.inside.current.items)))
+    (ap (λ w. record { waiting = w; room = c.self.inside.room })
+    (sym (left-aged c.self.inside.next.items c.self.inside.previous.items c.self.inside.current.items)))
 
 pub returns-clause-taken : goal.returns-clause-taken
 returns-clause-taken c =

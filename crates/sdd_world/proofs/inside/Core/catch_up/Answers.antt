@@ -23,7 +23,8 @@ turned count x e =
     let with_waiting = λ (ws : List Waiting). record x { found = count; countdown = 128; bags = record x.bags { waiting = ws } } in
     ap settled e ∙ ap with_waiting (sym e)
 
-turned_at : (t : Time) (p : ℕ) → p < length t.places → (time.place_at t p).bags.waiting ≡ [] → time.settled_at (time.rotated_at t p) p ≡ time.paced_at t p (idle t.count)
+turned_at : (t : Time) (p : ℕ) → p < length t.places → (time.place_at t p).bags.waiting ≡ [] →
+    time.settled_at (time.rotated_at t p) p ≡ time.paced_at t p (idle t.count)
 turned_at t p l e =
     let x = time.place_at t p in
     let here = get_or-set_same t.places p (time.rotated t.count x) nobody l in
@@ -32,14 +33,17 @@ turned_at t p l e =
     ∙ ap (λ (ps : List Participant). record t { places = ps }) (set-set t.places p _ _)
     ∙ ap (λ (y : Participant). with_place t p y) (turned t.count x e)
 
-caught : {T : Type 0} (holds : T → List Holding) (w : World T) (p : ℕ) → p < length w.time.places → (place_at w p).bags.waiting ≡ [] → paced w p (idle w.time.count) ≡ changed holds w p
+caught : {T : Type 0} (holds : T → List Holding) (w : World T) (p : ℕ) → p < length w.time.places → (place_at w p).bags.waiting ≡ [] →
+    paced w p (idle w.time.count) ≡ changed holds w p
 caught {T} holds w p l e =
     let none : due_next (place_at w p) ≡ [] = ap (λ (ws : List Waiting). due (aged ws)) e in
     let nothing = ap (λ (xs : List What). steps.settled (all_reclaimed holds (steps.rotated w p) p xs) p) none in
     sym (nothing ∙ ap (λ (t : Time). record w { time = t }) (turned_at w.time p l e))
 
-caught_as : {T : Type 0} {v w : World T} → v ≡ w → (holds : T → List Holding) (p : ℕ) → p < length w.time.places → (place_at w p).bags.waiting ≡ [] → paced v p (idle v.time.count) ≡ changed holds w p
+caught_as : {T : Type 0} {v w : World T} → v ≡ w → (holds : T → List Holding) (p : ℕ) → p < length w.time.places → (place_at w p).bags.waiting ≡ [] →
+    paced v p (idle v.time.count) ≡ changed holds w p
 caught_as {T} {v} {w} same holds p l e = rw same (caught holds w p l e)
 
 pub returns-clause-changed : goal.returns-clause-changed
-returns-clause-changed g c = rw (c.set_pace.ensures, c.count-found.ensures) (caught_as c.self.view_is g.T.Item.holds c.args.place c.requires.place c.requires.clear)
+returns-clause-changed g c =
+    rw (c.set_pace.ensures, c.count-found.ensures) (caught_as c.self.view_is g.T.Item.holds c.args.place c.requires.place c.requires.clear)

@@ -9,7 +9,8 @@ use Rattle.sdd_base.proofs.Whole.{Whole-registered}
 use Rattle.sdd_world.proofs.inside.Core.register.Goals as goal
 
 -- one place more, or as before
-registers : {T : Type 0} (w : World T) (t : Time) (answer : Result ℕ Refused) → MatchResult answer (λ p. IsNext w.time p × (t ≡ time.registered w.time)) (λ _. t ≡ w.time) →
+registers : {T : Type 0} (w : World T) (t : Time) (answer : Result ℕ Refused) →
+    MatchResult answer (λ p. IsNext w.time p × (t ≡ time.registered w.time)) (λ _. t ≡ w.time) →
     IsWhole w → IsWhole (record w { time = t })
 registers w t (Ok p) h i = rw h.1 (Whole-registered w i)
 registers w t (Err e) h i = rw h i

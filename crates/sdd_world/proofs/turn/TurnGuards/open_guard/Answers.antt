@@ -19,5 +19,11 @@ returns-clause-known g c =
     let o = opens g.T.Item.holds w p c.requires.seated (is_open (place_at w p)) refl in
     rw (c.open.ensures.opened, c.world.view_is) (record {
       inner = λ _. record { told = omega (arith, o.count); since = o.count };
-      outermost = λ closed. let found = o.found closed in record { known = omega (arith, found); told = omega (arith, found, o.count); since = omega (arith, found, o.count) };
+      outermost =
+          λ closed. let found = o.found closed in record {
+            known = omega (arith, found);
+            told = omega (arith, found, o.count);
+            since = omega
+                (arith, found, o.count);
+          };
     })

@@ -12,7 +12,11 @@ loop-place-preserved g c =
     let place = c.loop-place.place in
     let within : place < length c.args.self.now.time.places = omega (arith, was.end, c.loop-place-test.true) in
     record {
-      changes = (was.changes.0 ++ step.changes.0, step.changes.1 ∙ ap (λ w. all_aged_out holds w step.changes.0) was.changes.1 ∙ sym (all_aged_out-append holds c.args.self.now was.changes.0 step.changes.0));
+      changes = (
+        was.changes.0 ++ step.changes.0,
+        step.changes.1 ∙ ap (λ w. all_aged_out holds w step.changes.0) was.changes.1
+            ∙ sym (all_aged_out-append holds c.args.self.now was.changes.0 step.changes.0),
+      );
       time = step.time ∙ ap (λ t. with_place t place (without_waiting (place_at t place))) was.time ∙ emptied_to-more c.args.self.now.time place within;
       home = step.home ∙ was.home;
       end = was.end;

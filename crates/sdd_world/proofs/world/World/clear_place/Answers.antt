@@ -9,7 +9,8 @@ loop-self-init g c = record { changes = ([], refl); place = c.requires; only = M
 
 pub loop-self-smaller : goal.loop-self-smaller
 loop-self-smaller g c =
-    let waits : (place_at c.loop-self.self c.args.place).bags.waiting ≡ [] → ⊥ = λ e. let clear : IsTrue c.is_clear.result = c.is_clear.ensures.1 (rw c.time.ensures e) in cc in
+    let waits : (place_at c.loop-self.self c.args.place).bags.waiting ≡ [] → ⊥ =
+    λ e. let clear : IsTrue c.is_clear.result = c.is_clear.ensures.1 (rw c.time.ensures e) in cc in
     rw c.age_out.ensures.aged (aged_out-ahead g.T.Item.holds c.loop-self.self c.args.place c.loop-self.invariant.place waits)
 
 pub loop-self-preserved : goal.loop-self-preserved
@@ -18,7 +19,11 @@ loop-self-preserved g c =
     let was = c.loop-self.invariant in
     let home = rw c.age_out.ensures.aged at c.age_out.ensures.sizes.home in
     rw c.age_out.ensures.aged (record {
-      changes = (was.changes.0 ++ c.args.place ∷ [], ap (λ w. aged_out holds w c.args.place) was.changes.1 ∙ sym (all_aged_out-append holds c.args.self.now was.changes.0 (c.args.place ∷ [])));
+      changes = (
+        was.changes.0 ++ c.args.place ∷ [],
+        ap (λ w. aged_out holds w c.args.place) was.changes.1
+            ∙ sym (all_aged_out-append holds c.args.self.now was.changes.0 (c.args.place ∷ [])),
+      );
       place = aged_out-range holds c.loop-self.self c.args.place was.place;
       only = MovesWaiting-trans c.requires was.only (MovesWaiting-aged_out holds c.loop-self.self c.args.place was.place);
       home = home ∙ was.home;

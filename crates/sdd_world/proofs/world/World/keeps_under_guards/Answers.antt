@@ -1,5 +1,8 @@
-use Rattle.sdd_base.proofs.Under.{keeps-under-guards}
+use Rattle.sdd_base.proofs.Under.{keeps-under-guards, keeps-fresh-under-guards}
 use Rattle.sdd_world.proofs.world.World.keeps_under_guards.Goals as goal
 
 pub returns : goal.returns
-returns g c = keeps-under-guards g.T.Item.holds c.args.self.now c.is_whole.ensures
+returns g c =
+    let now = c.args.self.now in
+    let whole = c.is_whole.ensures in
+    record { retired = keeps-under-guards g.T.Item.holds now whole; fresh = keeps-fresh-under-guards g.T.Item.holds now whole }
