@@ -23,6 +23,7 @@ use Rattle.std.proofs.Math.ListN.{get_or-append}
 use Rattle.sdd_base.proofs.Whole.{one_where, set-taken, same-or-not, below-or-past, append-last}
 use Rattle.std.proofs.lemmas.List.{length-set, get_or-set_same, get_or-set_other}
 use Rattle.sdd_store.specs.declared.time.Participant.{Participant}
+use Rattle.sdd_store.specs.declared.tally.Tally.{Tally}
 
 -- no close changes how deep guards nest
 raised-nesting : (t : Time) (b : Bool) → (if b then record t { count = t.count + 1 } else t).nesting ≡ t.nesting
@@ -164,3 +165,11 @@ items-pass T =
         in_place = b.in_place ∙ a.in_place;
       };
     }
+
+-- a tally is its three numbers
+pub tally_is : (t : Tally) (made reclaimed in_place : ℕ) → t.made ≡ made → t.reclaimed ≡ reclaimed → t.in_place ≡ in_place →
+    t ≡ record { made = made; reclaimed = reclaimed; in_place = in_place }
+tally_is t m r i a b c =
+    ap (λ (n : ℕ). record t { made = n }) a
+    ∙ ap (λ (n : ℕ). record t { made = m; reclaimed = n }) b
+    ∙ ap (λ (n : ℕ). record t { made = m; reclaimed = r; in_place = n }) c

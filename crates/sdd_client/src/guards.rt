@@ -4,6 +4,7 @@ ghost use Rattle.sdd_base.specs.World.{World, IsGuarded, IsPlaceOf, place_at, st
 ghost use Rattle.sdd_base.specs.Out.{out};
 ghost use Rattle.sdd_base.specs.Left.{Waits, accelerated_guard, four_guards};
 ghost use Rattle.sdd_base.specs.Passing.{Passes};
+ghost use Rattle.sdd_base.specs.Whole.{IsCounted, taken};
 ghost use Rattle.sdd_base.specs.Left.{left};
 ghost use Rattle.sdd_base.specs.Under.{CallsUnder};
 ghost use Rattle.sdd_base.specs.Owned.{slot_of, slots_home};
@@ -68,6 +69,13 @@ pub fn waits_a_bounded_time<T: Item<T>>(world: &World<T>)
     ensures { (q k seen : ℕ) → Waits world.now q k seen → left world.now.time q seen ≤ 385 }
 {
     world.reclaims_in_time();
+}
+
+/// Each item that was made is in its slot, was reclaimed, or was dropped in place.
+pub fn accounts_for_each_item<T: Item<T>>(world: &World<T>)
+    ensures { IsCounted world.now.tally (taken world.now) }
+{
+    world.is_whole();
 }
 
 /// Retires an item while a reader's guard is open: it is in its slot, with its value, as long as that guard is open, whatever is called.

@@ -1,10 +1,13 @@
 //! Items in any space.
-ghost use Rattle.std.specs.Prelude.{◌≡◌, ℕ, IfErr, IfOk, MatchResult};
+ghost use Rattle.std.specs.Prelude.{◌≡◌, ℕ, IfOk, MatchResult, Some};
 ghost use Rattle.sdd_store.specs.Table.{IsEmptyAt, IsFull};
 ghost use Rattle.sdd_base.specs.Seat.{IsSeated, IsExact};
 ghost use Rattle.sdd_base.specs.Steps.{made, retired};
+ghost use Rattle.sdd_base.specs.World.{place_at, value_at};
+ghost use Rattle.sdd_base.specs.Owned.{slot_of, slots_home};
+ghost use Rattle.sdd_store.specs.Time.{has_garbage};
 
-use sdd_base::{Owned, Space};
+use sdd_base::{Guard, Owned, Space};
 use sdd_core::Refused;
 
 /// Makes an item, reads it and retires it; answers what was read, which is what was put in.
@@ -20,4 +23,23 @@ pub fn made_and_read<S: Space<u64>>(value: u64, s: &mut S) -> Result<u64, (u64, 
     let read = *owner.get(s);
     owner.retire(s);
     Ok(read)
+}
+
+/// The value of an owner's item, in an exact space: the one in its slot.
+pub fn value_in_its_slot<S: Space<u64>>(owner: &Owned<u64>, s: &S) -> u64
+    requires home { slots_home owner.now ≡ (S.seat s.now).home.slots }
+    requires exact { IsExact (S.seat s.now) }
+    ensures { value_at (S.world s.now) (slot_of owner.now) ≡ Some result }
+{
+    *owner.get(s)
+}
+
+/// Whether something may wait with the participant of an exact space, as the world has it.
+pub fn may_wait<S: Space<u64>>(guard: &Guard, s: &S) -> bool
+    requires seated { IsSeated (S.seat s.now) }
+    requires exact { IsExact (S.seat s.now) }
+    ensures own { result ≡ has_garbage (S.own s.now) }
+    ensures place { S.own s.now ≡ place_at (S.world s.now) (S.seat s.now).place }
+{
+    guard.has_garbage(s)
 }

@@ -1,12 +1,7 @@
 use Rattle.std.proofs.Common.{◌≡◌, ◌∙◌, ℕ, ap, arith, length}
 use Rattle.sdd_store.specs.Tally.{no_items}
-use Rattle.sdd_store.specs.declared.tally.Tally.{Tally}
+use Rattle.sdd_base.proofs.Passing.{tally_is}
 use Rattle.sdd_client.proofs.programs.many_items.Goals as goal
-
-tally_is : (t : Tally) (n : ℕ) → t.made ≡ n → t.reclaimed ≡ n → t.in_place ≡ 0 → t ≡ record { made = n; reclaimed = n; in_place = 0 }
-tally_is t n a b c =
-    ap (λ (m : ℕ). record t { made = m }) a ∙ ap (λ (m : ℕ). record t { made = n; reclaimed = m }) b
-    ∙ ap (λ (m : ℕ). record t { made = n; reclaimed = n; in_place = m }) c
 
 pub returns-in-Ok-register : goal.returns-in-Ok-register
 returns-in-Ok-register g c =
@@ -17,4 +12,4 @@ returns-in-Ok-register g c =
     let in_place : c.ended.result.in_place ≡ 0 = omega (arith, end.in_place, c.four_guards.ensures.in_place, passed.in_place, ap (λ t. t.in_place) none) in
     let room = end.reclaimed (omega (arith, made, c.requires.few, c.requires.limits.slots)) in
     let reclaimed : c.ended.result.reclaimed ≡ length c.args.values.items = omega (arith, room, made, in_place) in
-    tally_is c.ended.result (length c.args.values.items) made reclaimed in_place
+    tally_is c.ended.result (length c.args.values.items) (length c.args.values.items) 0 made reclaimed in_place
