@@ -1,12 +1,10 @@
 pub mod Val
+pub mod Made
+pub mod Ledger
+pub mod Due
 pub mod Desk
 pub mod Script
-pub mod Start
-pub mod Due
-pub mod Opened
+pub mod ByName
 pub mod Sound
-pub mod Out
-pub mod Made
-pub mod Leaving
 pub mod Stage
 pub mod Play

@@ -9,10 +9,15 @@ use Rattle.sdd.specs.declared.script.val.Val.{Val}
 use Rattle.sdd.specs.Val.{body_of, link_of, link_home}
 
 -- an entry with this number is in slot k, which was free, and its link is a cell that was free, whichever
-abbrev pub Makes : World Val → ℕ → ℕ → World Val → Type 0
-Makes old number k new =
-    (c : ℕ) × (v : Val) × IsEmptyAt old.cells c × IsEmptyAt old.standings k × (body_of v ≡ number) × (link_of v ≡ c)
-    × (link_home v ≡ old.home.cells) × (new ≡ made (nulled old c) k v)
+pub record Makes (old : World Val) (number k : ℕ) (new : World Val) : Type 0 where
+  pub cell : ℕ
+  pub value : Val
+  pub free_cell : IsEmptyAt old.cells cell
+  pub free_slot : IsEmptyAt old.standings k
+  pub body : body_of value ≡ number
+  pub link : link_of value ≡ cell
+  pub home : link_home value ≡ old.home.cells
+  pub made : new ≡ made (nulled old cell) k value
 
 -- no cell is free, or else no slot
 abbrev pub RefusesItem : World Val → Refused → Type 0

@@ -10,17 +10,11 @@ use Rattle.sdd_lines.specs.declared.answer.Answer.{Answer}
 use Rattle.sdd_lines.specs.declared.ended.Ended.{Ended}
 use Rattle.sdd_lines.specs.declared.ended.Ended.TheVariants.{Played, NotACall, LimitsOutOfRange, CannotRead, CannotWrite, NoMemory}
 use Rattle.sdd.specs.Desk.{Desk}
-use Rattle.sdd.specs.Script.{Runs}
-use Rattle.sdd.specs.Start.{IsStart}
-use Rattle.sdd.specs.Due.{NamesWhatIsDue}
+use Rattle.sdd.specs.Script.{IsRun}
 
--- calls on a new world within these limits are answered so, and name as reclaimed what is due
-pub record AreAnswers (limits : Limits) (calls : List Call) (answers : List Answer) : Type 0 where
-  pub start : Desk
-  pub scene : Desk
-  pub begins : IsStart limits start
-  pub runs : Runs start calls answers scene
-  pub due : NamesWhatIsDue start calls answers scene
+-- calls on a new world within these limits are answered so
+abbrev pub AreAnswers : Limits → List Call → List Answer → Type 0
+AreAnswers limits calls answers = (scene : Desk) × IsRun limits calls answers scene
 
 -- the lines of a text are calls, and these are the lines of their answers
 pub record PrintsAnswers (limits : Limits) (text printed : List ℕ) : Type 0 where

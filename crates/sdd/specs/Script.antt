@@ -1,12 +1,13 @@
 -- The meaning of a script: what its calls answer, and what they leave
-use Rattle.std.specs.Prelude.{ℕ, ◌+◌, ◌≡◌, List, [], ◌∷◌, ◌++◌, None, Some, length, slice_index_or, slice_set, Contains, map, IsSome, if◌then◌else◌, ◌↔◌}
-use Rattle.std.specs.List.Sorted.{IsStrictlyIncreasing}
+use Rattle.std.specs.Prelude.{ℕ, ◌<◌, ◌≡◌, List, [], ◌∷◌, ◌++◌, None, Some, IsSome, Contains, length, slice_index_or, slice_set, ◌↔◌}
 use Rattle.sdd_core.specs.Epoch.{epoch_of}
 use Rattle.sdd_core.specs.declared.refused.Refused.TheVariants.{NoSlot, NoCell, NoPlace, TooManyGuards}
-use Rattle.sdd_store.specs.Time.{IsCrowded, IsNext, CanNest, is_open, has_garbage}
+use Rattle.sdd_store.specs.Waiting.What.{Item}
+use Rattle.sdd_store.specs.Time.{IsCrowded, CanNest, has_garbage}
 use Rattle.sdd_store.specs.Table.{IsEmptyAt, IsFull}
-use Rattle.sdd_base.specs.World.{place_at, value_at}
-use Rattle.sdd_base.specs.Steps.{registered, nulled, made, retired, opened, closed, stirred, accelerated}
+use Rattle.sdd_base.specs.declared.limits.Limits.{Limits}
+use Rattle.sdd_base.specs.World.{World, place_at, value_at}
+use Rattle.sdd_base.specs.Steps.{registered, nulled, made, retired, opened, closed, stirred, accelerated, reclaims}
 use Rattle.sdd_lines.specs.declared.name.ItemName.{ItemName}
 use Rattle.sdd_lines.specs.declared.call.Call.{Call}
 use Rattle.sdd_lines.specs.declared.call.Call.TheVariants.{Register, Tally, At}
@@ -15,111 +16,113 @@ use Rattle.sdd_lines.specs.declared.call.Action.TheVariants as call
 use Rattle.sdd_lines.specs.declared.answer.Answer.{Answer}
 use Rattle.sdd_lines.specs.declared.answer.Reply.{Reply}
 use Rattle.sdd_lines.specs.declared.answer.Reply.TheVariants as reply
-use Rattle.sdd.specs.declared.script.item.Fate.TheVariants.{Out, Retired}
+use Rattle.sdd.specs.declared.script.fate.Fate.{Fate}
+use Rattle.sdd.specs.declared.script.fate.Fate.TheVariants.{Out, Retired, Gone}
 use Rattle.sdd.specs.declared.script.val.Val.{Val}
 use Rattle.sdd.specs.Val.{holdings_of, body_of, link_of, link_home}
-use Rattle.sdd.specs.Desk.{Desk, item_at, IsPlace, IsGuardOf, IsOwnerOf, CanPointTo, IsReclaimedAt, with_fate, all_gone}
+use Rattle.sdd.specs.Ledger.{Ledger, IsPlace, IsGuardOf, IsOwnerOf, CanPointTo, place_of, fate_at, first, after, later}
+use Rattle.sdd.specs.Due.{NamesWhatIsDue, AllDue}
+use Rattle.sdd.specs.Desk.{Desk, IsStart, slot_at}
 
--- what an action of p names is there, and of the right kind
-abbrev pub IsValid : Desk → ℕ → Action → Type 0
-IsValid d p call.Open = IsPlace d p
-IsValid d p (call.Epoch g) = IsPlace d p × IsGuardOf d p g.0
-IsValid d p (call.Garbage g) = IsPlace d p × IsGuardOf d p g.0
-IsValid d p (call.Set g) = IsPlace d p × IsGuardOf d p g.0
-IsValid d p (call.Accelerate g) = IsPlace d p × IsGuardOf d p g.0
-IsValid d p (call.Owned n) = IsPlace d p
-IsValid d p (call.Read o) = IsPlace d p × IsSome (slice_index_or d.owners o.0 None)
-IsValid d p (call.Look i g) = IsPlace d p × IsGuardOf d p g.0 × CanPointTo d p i.0
-IsValid d p (call.Retire o) = IsPlace d p × IsSome (slice_index_or d.owners o.0 None)
-IsValid d p (call.Close g) = IsPlace d p × IsGuardOf d p g.0
-
--- the names of the items that an opening of p reclaims, in ascending order
-pub record AreReclaimed (d : Desk) (p : ℕ) (names : List ItemName) : Type 0 where
-  pub ascending : IsStrictlyIncreasing (map (λ (i : ItemName). i.0) names)
-  pub exactly : (i : ItemName) → Contains names i ↔ IsReclaimedAt d p i.0
+-- what an action of participant n names is there, and of the right kind
+abbrev pub IsValid : Ledger → ℕ → Action → Type 0
+IsValid l n call.Open = IsPlace l n
+IsValid l n (call.Epoch g) = IsPlace l n × IsGuardOf l n g.0
+IsValid l n (call.Garbage g) = IsPlace l n × IsGuardOf l n g.0
+IsValid l n (call.Set g) = IsPlace l n × IsGuardOf l n g.0
+IsValid l n (call.Accelerate g) = IsPlace l n × IsGuardOf l n g.0
+IsValid l n (call.Owned number) = IsPlace l n
+IsValid l n (call.Read o) = IsPlace l n × IsSome (slice_index_or l.owners o.0 None)
+IsValid l n (call.Look i g) = IsPlace l n × IsGuardOf l n g.0 × CanPointTo l n i.0
+IsValid l n (call.Retire o) = IsPlace l n × IsSome (slice_index_or l.owners o.0 None)
+IsValid l n (call.Close g) = IsPlace l n × IsGuardOf l n g.0
 
 -- the value of the item's slot is this number
 abbrev pub ShowsNumber : Desk → ℕ → ℕ → Type 0
-ShowsNumber d i n = (v : Val) × (value_at d.world (item_at d i).slot ≡ Some v) × (body_of v ≡ n)
+ShowsNumber d i number = (v : Val) × (value_at d.world (slot_at d i) ≡ Some v) × (body_of v ≡ number)
 
--- p opens a guard, and these items are reclaimed
-abbrev pub with_guard : Desk → ℕ → List ItemName → Desk
-with_guard d p names =
-    record d {
-      world = opened holdings_of d.world p;
-      openings = if is_open (place_at d.world p) then d.openings else slice_set d.openings p d.moment;
-      guards = d.guards ++ Some p ∷ [];
-      items = all_gone d.items names;
-    }
+-- the desk has this world now, and the same slots under the same names
+abbrev pub HasWorld : Desk → World Val → Desk → Type 0
+HasWorld old world new = (new.world ≡ world) × (new.slots ≡ old.slots) × (new.names ≡ old.names)
 
--- an item in slot k and its owner get their names
-abbrev pub with_new_item : Desk → ℕ → Desk
-with_new_item d k =
-    record d {
-      owners = d.owners ++ Some (length d.items) ∷ [];
-      items = d.items ++ record { slot = k; fate = Out } ∷ [];
-    }
+-- a new item in slot k
+abbrev pub HasItem : Desk → ℕ → World Val → Desk → Type 0
+HasItem old k world new =
+    (new.world ≡ world) × (new.slots ≡ old.slots ++ k ∷ []) × (new.names ≡ slice_set old.names k (length old.ledger.items))
 
--- a new item in slot k, whose value is v and holds the cell c
-abbrev pub with_item : Desk → ℕ → ℕ → Val → Desk
-with_item d c k v = with_new_item (record d { world = made (nulled d.world c) k v }) k
-
--- item i is retired by p, and its owner o is spent
-abbrev pub with_retired : Desk → ℕ → ℕ → ℕ → Desk
-with_retired d p o i =
-    record d {
-      world = retired d.world p (item_at d i).slot;
-      owners = slice_set d.owners o None;
-      items = with_fate d.items i (Retired d.moment);
-    }
-
--- an action of p may be replied to so, with these items reclaimed, and leave the desk new
-abbrev pub Does : Desk → ℕ → Action → Reply → List ItemName → Desk → Type 0
-Does old p call.Open (reply.Guard g epoch) names new =
-    CanNest old.world.time p × (g.0 ≡ length old.guards) × (epoch ≡ epoch_of new.world.time.count) × AreReclaimed old p names × (new ≡ with_guard old p names)
-Does old p call.Open (reply.Refused TooManyGuards) names new = ¬ (CanNest old.world.time p) × (names ≡ []) × (new ≡ old)
-Does old p (call.Epoch g) (reply.Epoch epoch) names new = (epoch ≡ epoch_of old.world.time.count) × (names ≡ []) × (new ≡ old)
-Does old p (call.Garbage g) (reply.Truth b) names new = (b ≡ has_garbage (place_at old.world p)) × (names ≡ []) × (new ≡ old)
-Does old p (call.Set g) reply.Done names new = (names ≡ []) × (new ≡ record old { world = stirred old.world p })
-Does old p (call.Accelerate g) reply.Done names new = (names ≡ []) × (new ≡ record old { world = accelerated old.world p })
+-- an action of p may be replied to so, and leave the desk new
+abbrev pub Does : Desk → ℕ → Action → Reply → Desk → Type 0
+Does old p call.Open (reply.Guard g epoch) new =
+    CanNest old.world.time p × (g.0 ≡ length old.ledger.guards) × (epoch ≡ epoch_of new.world.time.count) × HasWorld old (opened holdings_of old.world p) new
+Does old p call.Open (reply.Refused TooManyGuards) new = ¬ (CanNest old.world.time p) × (new ≡ old)
+Does old p (call.Epoch g) (reply.Epoch epoch) new = (epoch ≡ epoch_of old.world.time.count) × (new ≡ old)
+Does old p (call.Garbage g) (reply.Truth b) new = (b ≡ has_garbage (place_at old.world p)) × (new ≡ old)
+Does old p (call.Set g) reply.Done new = HasWorld old (stirred old.world p) new
+Does old p (call.Accelerate g) reply.Done new = HasWorld old (accelerated old.world p) new
 -- a free cell and a free slot are taken, whichever
-Does old p (call.Owned n) (reply.Item o i) names new =
-    (o.0 ≡ length old.owners) × (i.0 ≡ length old.items) × (names ≡ [])
+Does old p (call.Owned number) (reply.Item o i) new =
+    (o.0 ≡ length old.ledger.owners) × (i.0 ≡ length old.ledger.items)
     × ((c : ℕ) × (k : ℕ) × (v : Val) × IsEmptyAt old.world.cells c × IsEmptyAt old.world.standings k
-    × (body_of v ≡ n) × (link_of v ≡ c) × (link_home v ≡ old.world.home.cells) × (new ≡ with_item old c k v))
-Does old p (call.Owned n) (reply.Refused NoCell) names new = IsFull old.world.cells × (names ≡ []) × (new ≡ old)
-Does old p (call.Owned n) (reply.Refused NoSlot) names new = ¬ (IsFull old.world.cells) × IsFull old.world.standings × (names ≡ []) × (new ≡ old)
-Does old p (call.Read o) (reply.Value n) names new = ((i : ℕ) × IsOwnerOf old i o.0 × ShowsNumber old i n) × (names ≡ []) × (new ≡ old)
-Does old p (call.Look i g) (reply.Value n) names new = ShowsNumber old i.0 n × (names ≡ []) × (new ≡ old)
-Does old p (call.Retire o) reply.Done names new = ((i : ℕ) × IsOwnerOf old i o.0 × (new ≡ with_retired old p o.0 i)) × (names ≡ [])
-Does old p (call.Close g) reply.Done names new = (names ≡ []) × (new ≡ record old { world = closed old.world p; guards = slice_set old.guards g.0 None })
+    × (body_of v ≡ number) × (link_of v ≡ c) × (link_home v ≡ old.world.home.cells) × HasItem old k (made (nulled old.world c) k v) new)
+Does old p (call.Owned number) (reply.Refused NoCell) new = IsFull old.world.cells × (new ≡ old)
+Does old p (call.Owned number) (reply.Refused NoSlot) new = ¬ (IsFull old.world.cells) × IsFull old.world.standings × (new ≡ old)
+Does old p (call.Read o) (reply.Value number) new = ((i : ℕ) × IsOwnerOf old.ledger i o.0 × ShowsNumber old i number) × (new ≡ old)
+Does old p (call.Look i g) (reply.Value number) new = ShowsNumber old i.0 number × (new ≡ old)
+Does old p (call.Retire o) reply.Done new =
+    (i : ℕ) × IsOwnerOf old.ledger i o.0 × HasWorld old (retired old.world p (slot_at old i)) new
+Does old p (call.Close g) reply.Done new = HasWorld old (closed old.world p) new
 -- no other reply is given
-Does old p action other names new = ⊥
+Does old p action other new = ⊥
 
--- one moment later
-abbrev pub later : Desk → Desk
-later d = record d { moment = d.moment + 1 }
+-- a call may be answered so, and leave the desk new
+abbrev pub Meets : Desk → Call → Reply → Desk → Type 0
+Meets old Register (reply.Place name) new =
+    (name.0 ≡ length old.ledger.places) × (length old.world.time.places < old.world.time.participants) × HasWorld old (registered old.world) new
+Meets old Register (reply.Refused NoPlace) new = IsCrowded old.world.time × (new ≡ old)
+Meets old Tally (reply.Tally t) new = (t ≡ old.world.tally) × (new ≡ old)
+Meets old (At n action) reply.Invalid new = ¬ (IsValid old.ledger n.0 action) × (new ≡ old)
+Meets old (At n action) other new = IsValid old.ledger n.0 action × Does old (place_of old.ledger n.0) action other new
+Meets old call other new = ⊥
 
--- a call may be answered so, and leave the desk new but for the moment
-abbrev pub Meets : Desk → Call → Reply → List ItemName → Desk → Type 0
-Meets old Register (reply.Place p) names new =
-    IsNext old.world.time p.0 × (names ≡ []) × (new ≡ record old { world = registered old.world; openings = old.openings ++ 0 ∷ [] })
-Meets old Register (reply.Refused NoPlace) names new = IsCrowded old.world.time × (names ≡ []) × (new ≡ old)
-Meets old Tally (reply.Tally t) names new = (t ≡ old.world.tally) × (names ≡ []) × (new ≡ old)
-Meets old (At p action) reply.Invalid names new = ¬ (IsValid old p.0 action) × (names ≡ []) × (new ≡ old)
-Meets old (At p action) other names new = IsValid old p.0 action × Does old p.0 action other names new
-Meets old call other names new = ⊥
+-- a call is answered so: the desk new has what the call leaves of the world, and the ledger goes on
+abbrev pub Acts : Desk → Call → Reply → Desk → Type 0
+Acts old call reply new = Meets old call reply new × (new.ledger ≡ after old.ledger call reply)
+
+-- the item waits to be reclaimed
+abbrev pub IsWaiting : Fate → Type 0
+IsWaiting Out = ⊥
+IsWaiting (Retired at) = Unit {0}
+IsWaiting Gone = ⊥
+
+-- an item is named as reclaimed exactly if the world reclaims what waits in its slot
+abbrev pub NamesWhatGoes : Desk → Call → Reply → List ItemName → Type 0
+NamesWhatGoes d (At n call.Open) (reply.Guard g epoch) names =
+    (i : ItemName) → Contains names i
+    ↔ (IsWaiting (fate_at d.ledger i.0) × Contains (reclaims d.world (place_of d.ledger n.0)) (Item (slot_at d i.0)))
+NamesWhatGoes d call other names = names ≡ []
+
+-- a call is answered so, and leaves the desk new
+pub record Answers (old : Desk) (call : Call) (answer : Answer) (new : Desk) : Type 0 where
+  pub acts : Acts old call answer.reply new
+  pub goes : NamesWhatGoes old call answer.reply answer.reclaimed
+  pub due : NamesWhatIsDue old.ledger call answer.reply answer.reclaimed
+  pub no_job : answer.ran ≡ []
 
 -- one line: the call, its answer, and the desk left behind
-pub record Step (old : Desk) (call : Call) (answer : Answer) (new : Desk) : Type 0 where
-  pub after : Desk
-  pub meets : Meets old call answer.reply answer.reclaimed after
-  pub no_job : answer.ran ≡ []
-  pub moment : new ≡ later after
+abbrev pub Step : Desk → Call → Answer → Desk → Type 0
+Step old call answer new = (after : Desk) × Answers old call answer after × (new ≡ record after { ledger = later after.ledger })
 
--- a whole script, one line after another
+-- one line after another
 abbrev pub Runs : Desk → List Call → List Answer → Desk → Type 0
 Runs old [] [] new = new ≡ old
 Runs old (call ∷ calls) (answer ∷ answers) new = (mid : Desk) × Step old call answer mid × Runs mid calls answers new
 Runs old [] (answer ∷ answers) new = ⊥
 Runs old (call ∷ calls) [] new = ⊥
+
+-- a whole script, on a new world within these limits: each line is answered as is meant and leaves what is meant, and what the answers
+-- name as reclaimed is what is due, counted over calls and answers alone
+pub record IsRun (limits : Limits) (calls : List Call) (answers : List Answer) (scene : Desk) : Type 0 where
+  pub start : Desk
+  pub begins : IsStart limits start
+  pub runs : Runs start calls answers scene
+  pub due : AllDue (first limits) calls answers

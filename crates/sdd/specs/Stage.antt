@@ -1,81 +1,82 @@
--- A script in the middle of a run, as its desk, and how the two are tied
-use Rattle.std.specs.Prelude.{ℕ, ◌<◌, ◌≤◌, ◌≡◌, List, Option, Some, None, map, length, slice_index_or, slice_index, vec_len, vec_capacity}
+-- What a script has in hand, as its desk, and how the two are tied
+use Rattle.std.specs.Prelude.{ℕ, ◌≤◌, ◌≡◌, List, Option, Some, None, IsSome, map, slice_index, slice_index_or, slice_set}
+use Rattle.std.specs.Option.{option_map}
 use Rattle.sdd_token.specs.Units as token
+use Rattle.sdd_store.specs.Waiting.{What}
+use Rattle.sdd_store.specs.Waiting.What.{Item}
+use Rattle.sdd_base.specs.Guard.{place_of}
 use Rattle.sdd_base.specs.Owned.{slot_of, slots_home}
 use Rattle.sdd_world.specs.Place.{index_of}
-use Rattle.sdd_world.specs.declared.world.Place.{Place}
 use Rattle.sdd_lines.specs.declared.name.ItemName.{ItemName}
-use Rattle.sdd.specs.Desk.{Desk, nothing}
-use Rattle.sdd.specs.Opened.{guard_place}
-use Rattle.sdd.specs.Sound.{IsThere}
-use Rattle.sdd.specs.declared.script.item.ItemState.{ItemState}
+use Rattle.sdd.specs.Ledger.{Opening, IsOf, place_in}
+use Rattle.sdd.specs.ByName.{time_by}
+use Rattle.sdd.specs.Desk.{Desk}
+use Rattle.sdd.specs.Sound.{IsSound}
+use Rattle.sdd.specs.declared.script.stage.Attending.{Attending}
+use Rattle.sdd.specs.declared.script.stage.Guarding.{Guarding}
 use Rattle.sdd.specs.declared.script.stage.Held.{Held}
-use Rattle.sdd.specs.declared.script.stage.Stage.{Stage}
+use Rattle.sdd.specs.declared.script.stage.Hand.{Hand}
 
-abbrev pub held_item : Option Held → Option ℕ
-held_item None = None
-held_item (Some held) = Some held.item
+abbrev pub attending : Option Attending → Option Opening
+attending None = None
+attending (Some x) = Some (record { place = index_of x.place; since = x.since })
 
-abbrev pub desk_of : Stage → Desk
+abbrev pub guarding : Option Guarding → Option Opening
+guarding None = None
+guarding (Some x) = Some (record { place = place_of x.guard; since = x.since })
+
+abbrev pub item_held : Option Held → Option ℕ
+item_held None = None
+item_held (Some held) = Some held.item
+
+abbrev pub desk_of : Hand → Desk
 desk_of s =
     record {
       world = s.world;
-      moment = s.moment;
-      openings = s.openings.items;
-      guards = map guard_place s.guards.items;
-      owners = map held_item s.owners.items;
-      items = s.items.items;
+      ledger = record {
+        moment = s.moment;
+        time = time_by (slice_index s.names.items) s.world.time;
+        places = map attending s.places.entries.items;
+        guards = map guarding s.guards.entries.items;
+        owners = map item_held s.owners.entries.items;
+        items = s.fates.items;
+      };
+      slots = s.slots.items;
+      names = s.names.items;
     }
 
--- the places are numbered from 0 on
-abbrev pub AreNumbered : List Place → Type 0
-AreNumbered places = (k : ℕ) (d : Place) → k < length places → index_of (slice_index_or places k d) ≡ k
+-- the participant n is there, and g is the name of one of its open guards
+abbrev pub HasOpen : List (Option Opening) → List (Option Opening) → (n g : ℕ) → Type 0
+HasOpen places guards n g = IsSome (slice_index_or places n None) × IsOf (place_in (slice_index_or places n None)) (slice_index_or guards g None)
+
+-- the outermost opening of participant n was in the line before this one
+abbrev pub opened_since : List (Option Opening) → (n line : ℕ) → List (Option Opening)
+opened_since places n line = slice_set places n (option_map (λ (x : Opening). record x { since = line }) (slice_index_or places n None))
+
+-- the item of this name
+abbrev pub what_named : ItemName → What
+what_named i = Item i.0
+
+-- the name of the item that a slot had last
+abbrev pub item_named : List ℕ → ℕ → ItemName
+item_named names slot = record { 0 = slice_index names slot }
 
 -- an owner is that of its item's slot
-pub record IsOwnerOfItem (home : token.Home) (items : List ItemState) (held : Held) : Type 0 where
-  pub named : held.item < length items
+pub record IsOwnerIn (home : token.Home) (slots : List ℕ) (held : Held) : Type 0 where
   pub home_is : slots_home held.owner ≡ home
-  pub slot_is : slot_of held.owner ≡ (slice_index_or items held.item nothing).slot
+  pub slot_is : slot_of held.owner ≡ slice_index_or slots held.item 0
 
-abbrev pub OwnsItem : token.Home → List ItemState → Option Held → Type 0
-OwnsItem home items None = Unit {0}
-OwnsItem home items (Some held) = IsOwnerOfItem home items held
+abbrev pub OwnsItem : token.Home → List ℕ → Option Held → Type 0
+OwnsItem home slots None = Unit {0}
+OwnsItem home slots (Some held) = IsOwnerIn home slots held
 
-abbrev pub AreOwners : token.Home → List ItemState → List (Option Held) → Type 0
-AreOwners home items owners = (o : ℕ) → OwnsItem home items (slice_index_or owners o None)
+-- a guard is that of the participant under whose name it was opened
+abbrev pub GuardsIn : List (Option Attending) → Option Guarding → Type 0
+GuardsIn places None = Unit {0}
+GuardsIn places (Some held) = (x : Opening) × (attending (slice_index_or places held.participant None) ≡ Some x) × (x.place ≡ place_of held.guard)
 
--- the name at a slot
-abbrev pub name_at : List ℕ → ℕ → ItemName
-name_at names slot = record { 0 = slice_index names slot }
-
--- each item that is there has its name at its slot
-abbrev pub AreNamed : List ItemState → List ℕ → Type 0
-AreNamed items names =
-    (i : ℕ) → IsThere (slice_index_or items i nothing).fate → slice_index names (slice_index_or items i nothing).slot ≡ i
-
--- that many calls were made, and there is room for the names of those to come
-pub record HasRoom (made : ℕ) (s : Stage) : Type 0 where
-  pub places : vec_len s.places ≤ made
-  pub guards : vec_len s.guards ≤ made
-  pub owners : vec_len s.owners ≤ made
-  pub items : vec_len s.items ≤ made
-  pub place_room : s.calls ≤ vec_capacity s.places
-  pub opening_room : s.calls ≤ vec_capacity s.openings
-  pub guard_room : s.calls ≤ vec_capacity s.guards
-  pub owner_room : s.calls ≤ vec_capacity s.owners
-  pub item_room : s.calls ≤ vec_capacity s.items
-
--- the moment and the room are as before
-pub record KeepsLimits (old new : Stage) : Type 0 where
-  pub moment : new.moment ≡ old.moment
-  pub calls : new.calls ≡ old.calls
-
--- what a stage has in hand after that many calls is what its desk says
-pub record IsTied (made : ℕ) (s : Stage) : Type 0 where
-  pub places : AreNumbered s.places.items
-  pub taken : vec_len s.places ≡ length s.world.time.places
-  pub opened : vec_len s.openings ≡ vec_len s.places
-  pub owners : AreOwners s.world.home.slots s.items.items s.owners.items
-  pub names : AreNamed s.items.items s.names.items
-  pub slots : vec_len s.names ≡ length s.world.standings
-  pub room : HasRoom made s
+-- what is in hand is what the desk says
+pub record IsTied (s : Hand) : Type 0 where
+  pub sound : IsSound (desk_of s)
+  pub owners : (o : ℕ) → OwnsItem s.world.home.slots s.slots.items (slice_index_or s.owners.entries.items o None)
+  pub guards : (g : ℕ) → GuardsIn s.places.entries.items (slice_index_or s.guards.entries.items g None)

@@ -1,6 +1,7 @@
 //! Scripts: calls on a world, and what they answer.
 
-pub mod item;
+pub mod fate;
+pub mod named;
 pub mod player;
 pub mod runner;
 pub mod scene;

@@ -1,10 +1,7 @@
 //! Runs of scripts.
 ghost use Rattle.std.specs.Prelude.{◌≡◌, ◌⊎◌, IfOk, MatchResult};
 ghost use Rattle.sdd_base.specs.Limits.{AreInRange};
-ghost use Rattle.sdd.specs.Desk.{Desk};
-ghost use Rattle.sdd.specs.Script.{Runs};
-ghost use Rattle.sdd.specs.Start.{IsStart};
-ghost use Rattle.sdd.specs.Due.{NamesWhatIsDue};
+ghost use Rattle.sdd.specs.Script.{IsRun};
 
 use crate::script::scene::Scene;
 use crate::script::stage::Stage;
@@ -18,14 +15,11 @@ use std::alloc::Global;
 /// `BadLimits` where a limit is out of its range. `NoMemory` where memory was refused, for the world, for the answers
 /// or for a call: then nothing is left of the run.
 pub fn run(alloc: Global, limits: Limits, calls: &[Call]) -> Result<(Vec<Answer>, Scene), Refused>
-    ensures runs { IfOk result (λ done. (start : Desk) × IsStart limits start × Runs start calls.now done.0.items done.1) }
-
-    // An answer names as reclaimed exactly the items that are due at its call, counted over the calls.
-    ensures due { IfOk result (λ done. (start : Desk) × IsStart limits start × NamesWhatIsDue start calls.now done.0.items done.1) }
+    ensures run { IfOk result (λ done. IsRun limits calls.now done.0.items done.1) }
     ensures limits { MatchResult result (λ _. AreInRange limits)
         (λ refused. ((refused ≡ Refused.BadLimits) × ¬ (AreInRange limits)) ⊎ ((refused ≡ Refused.NoMemory) × AreInRange limits)) }
 {
-    let mut stage = Stage::new(alloc, limits, calls.len())?;
+    let mut stage = Stage::new(alloc, limits)?;
     let mut answers = match Vec::with_capacity(alloc, calls.len()) {
         Ok(answers) => answers,
         Err(_) => {

@@ -16,23 +16,15 @@ pub struct Scene {
 
 impl Model for Scene {
     ghost use Rattle.sdd.specs.Desk.{Desk};
-    ghost use Rattle.sdd.specs.Stage.{desk_of};
-    ghost use Rattle.sdd.specs.Leaving.{CanLeave};
 
     ghost Value = { Desk };
 
-    ghost view = { λ scene. desk_of scene.stage };
-
-    ghost invariant = { λ scene. CanLeave scene.stage };
+    ghost view = { λ scene. scene.stage };
 }
 
 impl Scene {
-    ghost use Rattle.sdd.specs.Stage.{desk_of};
-    ghost use Rattle.sdd.specs.Leaving.{CanLeave};
-
     pub(crate) fn of(stage: Stage) -> Scene
-        requires { CanLeave stage }
-        ensures { result ≡ desk_of stage }
+        ensures { result ≡ stage }
     {
         Scene { stage }
     }
@@ -41,7 +33,7 @@ impl Scene {
     pub fn world(&self) -> &World<Val>
         ensures { result.now ≡ self.now.world }
     {
-        &self.stage.world
+        self.stage.world()
     }
 
     /// Ends the scene: every owner is spent and every guard closed, and all that waits is reclaimed. Answers how many items were made and reclaimed.

@@ -1,120 +1,137 @@
 //! The world of a script in the middle of a run, with what its names stand for.
-ghost use Rattle.std.specs.Prelude.{◌≡◌, ℕ, ◌+◌, ◌<◌, ◌≤◌, ◌⊎◌, [], IfOk, OnErr, OnOk, MatchResult, length, vec_capacity};
+ghost use Rattle.std.specs.Prelude.{◌≡◌, ℕ, ◌+◌, ◌^◌, ◌<◌, ◌≢◌, ◌⊎◌, [], IfOk, MatchResult};
 
 mod guards;
 mod items;
 mod leaving;
 
-use crate::script::item::ItemState;
+use crate::script::fate::Fate;
+use crate::script::named::Named;
 use crate::script::val::Val;
 use sdd_base::{Guard, Limits, Owned};
 use sdd_core::Refused;
 use sdd_lines::{Action, Answer, Call, Names, PlaceName, Reply};
 use sdd_world::{Place, World};
 use std::alloc::{AllocError, Global};
+use std::marker::Model;
 
-/// An owner of a script, and the name of its item.
+/// A participant of a script.
+#[derive(Drop)]
+pub struct Attending {
+    pub place: Place,
+    /// The first line after its last outermost opening.
+    pub since: u64,
+}
+
+/// A guard of a script.
+pub struct Guarding {
+    pub guard: Guard,
+    /// The name of the participant whose it is.
+    pub participant: u64,
+    /// The first line after its opening.
+    pub since: u64,
+}
+
+/// An owner of a script.
 pub struct Held {
     pub owner: Owned<Val>,
+    /// The name of its item.
     pub item: u64,
 }
 
-/// A world, what a script holds of it, and room for the names of the calls to come.
-pub struct Stage {
+/// A world, and what a script holds of it.
+pub struct Hand {
     pub world: World<Val>,
     pub alloc: Global,
-    /// How many calls were made so far.
+    /// How many lines there were.
     pub moment: u64,
-    /// How many there may be.
-    pub calls: usize,
-    pub places: Vec<Place>,
-    /// Of each place, the moment of its last outermost opening.
-    pub openings: Vec<u64>,
-    pub guards: Vec<Option<Guard>>,
-    pub owners: Vec<Option<Held>>,
-    pub items: Vec<ItemState>,
-    /// Of each slot, the name of the item that it had last.
+    pub places: Named<Attending>,
+    pub guards: Named<Guarding>,
+    pub owners: Named<Held>,
+    /// Of each item its slot.
+    pub slots: Vec<u32>,
+    /// What became of each item.
+    pub fates: Vec<Fate>,
+    /// Of each slot the name of the item that it had last.
     pub names: Vec<u64>,
+}
+
+/// A script in the middle of a run.
+pub struct Stage {
+    hand: Hand,
+}
+
+impl Model for Stage {
+    ghost use Rattle.sdd.specs.Desk.{Desk};
+    ghost use Rattle.sdd.specs.Stage.{desk_of, IsTied};
+
+    ghost Value = { Desk };
+
+    ghost view = { λ stage. desk_of stage.hand };
+
+    ghost invariant = { λ stage. IsTied stage.hand };
 }
 
 impl Stage {
     ghost use Rattle.sdd_base.specs.Limits.{AreInRange};
-    ghost use Rattle.sdd.specs.Start.{IsStart};
-    ghost use Rattle.sdd.specs.Script.{Meets, Step};
-    ghost use Rattle.sdd.specs.Stage.{desk_of, IsTied, KeepsLimits};
-    ghost use Rattle.sdd.specs.Sound.{IsSound};
+    ghost use Rattle.sdd.specs.Desk.{IsStart};
+    ghost use Rattle.sdd.specs.Script.{Acts, Answers, Step};
 
-    /// A new world, and room for the names of that many calls.
-    pub fn new(alloc: Global, limits: Limits, calls: usize) -> Result<Stage, Refused>
-        ensures start { IfOk result (λ stage. IsStart limits (desk_of stage)) }
-        ensures tied { IfOk result (IsTied 0) }
-        ensures calls { IfOk result (λ stage. stage.calls ≡ calls) }
+    /// A new world, of which nothing has a name.
+    pub fn new(alloc: Global, limits: Limits) -> Result<Stage, Refused>
+        ensures start { IfOk result (IsStart limits) }
         ensures limits { MatchResult result (λ _. AreInRange limits)
             (λ refused. ((refused ≡ Refused.BadLimits) × ¬ (AreInRange limits)) ⊎ ((refused ≡ Refused.NoMemory) × AreInRange limits)) }
     {
         if !limits.are_in_range() {
             return Err(Refused::BadLimits);
         }
-        let places = Vec::with_capacity(alloc, calls)?;
-        let openings = Vec::with_capacity(alloc, calls)?;
-        let items = Vec::with_capacity(alloc, calls)?;
         let names = vec![in alloc; 0; limits.slots as usize]?;
-        let (guards, owners) = empty_desk(alloc, calls)?;
-        let world = match World::new(alloc, limits) {
-            Ok(world) => world,
-            Err(refused) => {
-                guards.destroy_empty();
-                owners.destroy_empty();
-                return Err(refused);
-            }
-        };
-        Ok(Stage {
+        let world = World::new(alloc, limits)?;
+        Ok(Stage { hand: Hand {
             world,
             alloc,
             moment: 0,
-            calls,
-            places,
-            openings,
-            guards,
-            owners,
-            items,
+            places: Named::new(alloc),
+            guards: Named::new(alloc),
+            owners: Named::new(alloc),
+            slots: Vec::new(alloc),
+            fates: Vec::new(alloc),
             names,
-        })
+        } })
     }
 
-    /// One call. With `NoMemory`, which alone refuses it, nothing has changed.
+    /// The world.
+    pub fn world(&self) -> &World<Val>
+        ensures { result.now ≡ self.now.world }
+    {
+        &self.hand.world
+    }
+
+    /// One line. With `NoMemory`, which alone refuses it, nothing has changed.
     pub fn step(&mut self, call: &Call) -> Result<Answer, Refused>
-        requires tied { IsTied self.old.moment self.old }
-        requires sound { IsSound (desk_of self.old) }
-        requires more { self.old.moment < self.old.calls }
-        ensures tied { OnOk result (IsTied self.new.moment self.new) }
-        ensures moment { OnOk result (self.new.moment ≡ self.old.moment + 1) }
-        ensures calls { OnOk result (self.new.calls ≡ self.old.calls) }
-        ensures refused { OnErr result (self.new ≡ self.old) }
-        ensures step { MatchResult result (λ answer. Step (desk_of self.old) call.now answer (desk_of self.new)) (λ refused. refused ≡ Refused.NoMemory) }
+        requires more { self.old.ledger.moment + 1 < 2 ^ 64 }
+        ensures step { MatchResult result (λ answer. Step self.old call.now answer self.new)
+            (λ refused. (refused ≡ Refused.NoMemory) × (self.new ≡ self.old)) }
     {
         let answer = self.answer_to(call)?;
-        self.moment += 1;
+        self.hand.moment += 1;
         Ok(answer)
     }
 
-    /// What a call answers, at the same moment.
+    /// What a call answers.
     fn answer_to(&mut self, call: &Call) -> Result<Answer, Refused>
-        requires tied { IsTied self.old.moment self.old }
-        requires sound { IsSound (desk_of self.old) }
-        requires more { self.old.moment < self.old.calls }
-        ensures tied { OnOk result (IsTied (self.old.moment + 1) self.new) }
-        ensures limits { OnOk result (KeepsLimits self.old self.new) }
-        ensures refused { OnErr result (self.new ≡ self.old) }
-        ensures meets { MatchResult result
-            (λ answer. (answer.ran ≡ []) × Meets (desk_of self.old) call.now answer.reply answer.reclaimed (desk_of self.new))
-            (λ refused. refused ≡ Refused.NoMemory) }
+        requires more { self.old.ledger.moment + 1 < 2 ^ 64 }
+        ensures answers { MatchResult result (λ answer. Answers self.old call.now answer self.new)
+            (λ refused. (refused ≡ Refused.NoMemory) × (self.new ≡ self.old)) }
     {
-        match call {
-            Call::Register => self.register(),
-            Call::Tally => Ok(self.answer(Reply::Tally(self.world.tally()))),
-            Call::At(place, action) => Ok(self.act(place.0, action)?),
-        }
+        let reply = match call {
+            Call::At(name, Action::Open) => return Ok(self.open(*name)?),
+            Call::At(name, action) => self.act(*name, action)?,
+            Call::Register => self.register()?,
+            Call::Tally => Reply::Tally(self.hand.world.tally()),
+        };
+        Ok(self.answer(reply))
     }
 
     /// An answer without endings.
@@ -123,79 +140,49 @@ impl Stage {
     {
         Answer {
             reply,
-            reclaimed: Names::new(self.alloc),
-            ran: Names::new(self.alloc),
+            reclaimed: Names::new(self.hand.alloc),
+            ran: Names::new(self.hand.alloc),
         }
     }
 
-    fn register(&mut self) -> Result<Answer, Refused>
-        requires tied { IsTied self.old.moment self.old }
-        requires sound { IsSound (desk_of self.old) }
-        requires more { self.old.moment < self.old.calls }
-        ensures tied { IsTied (self.old.moment + 1) self.new }
-        ensures limits { KeepsLimits self.old self.new }
-        ensures refused { OnErr result (self.new ≡ self.old) }
-        ensures meets { MatchResult result
-            (λ answer. (answer.ran ≡ []) × Meets (desk_of self.old) Call.Register answer.reply answer.reclaimed (desk_of self.new))
-            (λ refused. refused ≡ Refused.NoMemory) }
+    fn register(&mut self) -> Result<Reply, Refused>
+        ensures acts { MatchResult result (λ reply. Acts self.old Call.Register reply self.new)
+            (λ refused. (refused ≡ Refused.NoMemory) × (self.new ≡ self.old)) }
     {
-        match self.world.register() {
+        self.hand.places.make_room()?;
+        match self.hand.world.register() {
             Ok(place) => {
-                let name = PlaceName(self.places.len() as u64);
-                self.places.push_reserved(place);
-                self.openings.push_reserved(0);
-                Ok(self.answer(Reply::Place(name)))
+                let name = self.hand.places.give(Attending { place, since: 0 });
+                Ok(Reply::Place(PlaceName(name)))
             }
             Err(Refused::NoMemory) => Err(Refused::NoMemory),
-            Err(refused) => Ok(self.answer(Reply::Refused(refused))),
+            Err(refused) => Ok(Reply::Refused(refused)),
         }
     }
 
-    /// What a participant does.
-    fn act(&mut self, place: u64, action: &Action) -> Result<Answer, AllocError>
-        requires tied { IsTied self.old.moment self.old }
-        requires sound { IsSound (desk_of self.old) }
-        requires more { self.old.moment < self.old.calls }
-        ensures tied { IsTied (self.old.moment + 1) self.new }
-        ensures limits { KeepsLimits self.old self.new }
-        ensures refused { OnErr result (self.new ≡ self.old) }
-        ensures meets { IfOk result (λ answer. (answer.ran ≡ [])
-            × Meets (desk_of self.old) (Call.At (record { 0 = place }) action.now) answer.reply answer.reclaimed (desk_of self.new)) }
+    /// What a participant does beside opening a guard.
+    fn act(&mut self, name: PlaceName, action: &Action) -> Result<Reply, AllocError>
+        requires other { action.now ≢ Action.Open }
+        ensures acts { MatchResult result (λ reply. Acts self.old (Call.At name action.now) reply self.new) (λ _. self.new ≡ self.old) }
     {
-        if place >= self.places.len() as u64 {
-            return Ok(self.answer(Reply::Invalid));
-        }
-        let place = place as usize;
-        let reply = match *action {
-            Action::Open => return self.open(place),
-            Action::Epoch(guard) => self.epoch(place, guard),
-            Action::Garbage(guard) => self.garbage(place, guard),
-            Action::Set(guard) => self.set(place, guard),
-            Action::Accelerate(guard) => self.accelerate(place, guard),
-            Action::Owned(number) => self.make(place, number),
-            Action::Read(owner) => self.read(place, owner),
-            Action::Look(item, guard) => self.look(place, item, guard),
-            Action::Retire(owner) => self.retire(place, owner),
-            Action::Close(guard) => self.close_guard(place, guard),
-        };
-        Ok(self.answer(reply))
+        Ok(match *action {
+            Action::Open => Reply::Invalid,
+            Action::Epoch(guard) => self.epoch(name, guard),
+            Action::Garbage(guard) => self.garbage(name, guard),
+            Action::Set(guard) => self.set(name, guard),
+            Action::Accelerate(guard) => self.accelerate(name, guard),
+            Action::Owned(number) => return self.make(name, number),
+            Action::Read(owner) => self.read(name, owner),
+            Action::Look(item, guard) => self.look(name, item, guard),
+            Action::Retire(owner) => self.retire(name, owner),
+            Action::Close(guard) => self.close_guard(name, guard),
+        })
     }
 }
 
-/// Room for that many guards and owners.
-fn empty_desk(
-    alloc: Global,
-    calls: usize,
-) -> Result<(Vec<Option<Guard>>, Vec<Option<Held>>), AllocError>
-    ensures guards { IfOk result (λ desk. (desk.0.items ≡ []) × (calls ≤ vec_capacity desk.0)) }
-    ensures owners { IfOk result (λ desk. (desk.1.items ≡ []) × (calls ≤ vec_capacity desk.1)) }
+#[tactic(auto, using(crate::proofs::Probe::probe_it))]
+pub fn probe(x: u64) -> u64
+    ensures { result ≡ x }
 {
-    let guards = Vec::with_capacity(alloc, calls)?;
-    match Vec::with_capacity(alloc, calls) {
-        Ok(owners) => Ok((guards, owners)),
-        Err(error) => {
-            guards.destroy_empty();
-            Err(error)
-        }
-    }
+    x
 }

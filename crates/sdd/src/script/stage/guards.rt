@@ -1,171 +1,146 @@
 //! What participants do with guards.
-ghost use Rattle.std.specs.Prelude.{All, ◌≡◌, ℕ, ◌+◌, ◌<◌, ◌↔◌, [], IfOk, IfSome, IsSome, None, Some, OnErr, MatchResult, length, map, slice_index_or, slice_set, vec_capacity, if◌then◌else◌};
+ghost use Rattle.std.specs.Prelude.{All, ◌≡◌, ℕ, ◌+◌, ◌^◌, ◌<◌, [], IfOk, IfSome, None, Some, MatchOption, MatchResult, length, map, slice_index_or};
 ghost use Rattle.sdd_core.specs.Epoch.{epoch_of};
 ghost use Rattle.sdd_store.specs.Time.{CanNest};
 ghost use Rattle.sdd_base.specs.Guard.{place_of};
 ghost use Rattle.sdd_base.specs.World.{IsPlaceOf};
-ghost use Rattle.sdd_base.specs.Steps.{opened};
+ghost use Rattle.sdd_base.specs.Steps.{opened, closed};
 ghost use Rattle.sdd_world.specs.Place.{index_of};
 ghost use Rattle.sdd.specs.Val.{holdings_of};
-ghost use Rattle.sdd.specs.Desk.{all_gone};
-ghost use Rattle.sdd.specs.Opened.{guard_place};
-ghost use Rattle.sdd.specs.Stage.{name_at};
+ghost use Rattle.sdd.specs.Ledger.{all_gone};
+ghost use Rattle.sdd.specs.Stage.{attending, guarding, item_named, what_named, opened_since, HasOpen};
 
-use super::Stage;
-use super::items::set_fate;
-use crate::script::item::{Fate, ItemState};
+use super::{Attending, Guarding, Stage};
+use crate::script::fate::Fate;
+use crate::script::named::Named;
 use crate::script::val::Val;
 use sdd_base::Guard;
 use sdd_base::inner::place_of_guard;
 use sdd_core::{Epoch, Refused};
-use sdd_lines::{Action, Answer, Call, GuardName, ItemName, Names, Reply};
+use sdd_lines::{Action, Answer, Call, GuardName, ItemName, Names, PlaceName, Reply};
 use sdd_world::inner::{is_open, reclaims_next};
 use sdd_world::{Place, World};
 use std::alloc::{AllocError, Global};
 
 impl Stage {
-    ghost use Rattle.sdd.specs.Script.{Meets, AreReclaimed};
-    ghost use Rattle.sdd.specs.Stage.{desk_of, IsTied, KeepsLimits};
-    ghost use Rattle.sdd.specs.Sound.{IsSound};
+    ghost use Rattle.sdd.specs.Script.{Acts, Answers};
 
-    pub fn open(&mut self, place: usize) -> Result<Answer, AllocError>
-        requires tied { IsTied self.old.moment self.old }
-        requires sound { IsSound (desk_of self.old) }
-        requires place { place < length self.old.world.time.places }
-        requires more { self.old.moment < self.old.calls }
-        ensures tied { IsTied (self.old.moment + 1) self.new }
-        ensures limits { KeepsLimits self.old self.new }
-        ensures refused { OnErr result (self.new ≡ self.old) }
-        ensures meets { IfOk result (λ answer. (answer.ran ≡ [])
-            × Meets (desk_of self.old) (Call.At (record { 0 = place }) Action.Open) answer.reply answer.reclaimed (desk_of self.new)) }
+    pub fn open(&mut self, name: PlaceName) -> Result<Answer, AllocError>
+        requires more { self.old.ledger.moment + 1 < 2 ^ 64 }
+        ensures answers { MatchResult result (λ answer. Answers self.old (Call.At name Action.Open) answer self.new) (λ _. self.new ≡ self.old) }
     {
-        let reclaimed = self.names_to_go(place)?;
-        let is_nested = is_open(&self.world, &self.places[place]);
-        let (guard, epoch) = match open_at(&mut self.world, &self.places[place]) {
+        let Some(attending) = self.hand.places.get(name.0) else {
+            return Ok(self.answer(Reply::Invalid));
+        };
+        self.hand.guards.make_room()?;
+        let slots = reclaims_next(&self.hand.world, &attending.place);
+        let mut due = names_of(self.hand.alloc, slots, self.hand.names.as_slice())?;
+        let is_nested = is_open(&self.hand.world, &attending.place);
+        self.hand.world.is_whole();
+        let (guard, epoch) = match open_at(&mut self.hand.world, &attending.place) {
             Ok(opened) => opened,
             Err(refused) => return Ok(self.answer(Reply::Refused(refused))),
         };
-        note_opening(&mut self.openings, place, self.moment, is_nested);
-        mark_gone(&mut self.items, reclaimed.as_slice());
-        let name = GuardName(self.guards.len() as u64);
-        self.guards.push_reserved(Some(guard));
+        let since = self.hand.moment + 1;
+        mark_gone(&mut self.hand.fates, due.as_slice());
+        if !is_nested {
+            note_opening(&mut self.hand.places, name.0, since);
+        }
+        let participant = name.0;
+        let name = self.hand.guards.give(Guarding {
+            guard,
+            participant,
+            since,
+        });
+        due.sort_unstable();
         Ok(Answer {
-            reply: Reply::Guard(name, epoch),
-            reclaimed,
-            ran: Names::new(self.alloc),
+            reply: Reply::Guard(GuardName(name), epoch),
+            reclaimed: Names::of(due),
+            ran: Names::new(self.hand.alloc),
         })
     }
 
-    /// The names of the items that the next opening of a participant reclaims, in ascending order.
-    fn names_to_go(&self, place: usize) -> Result<Names<ItemName>, AllocError>
-        requires tied { IsTied self.now.moment self.now }
-        requires sound { IsSound (desk_of self.now) }
-        requires place { place < length self.now.world.time.places }
-        ensures { IfOk result (AreReclaimed (desk_of self.now) place) }
+    pub fn epoch(&mut self, name: PlaceName, guard: GuardName) -> Reply
+        ensures acts { Acts self.old (Call.At name (Action.Epoch guard)) result self.new }
     {
-        let slots = reclaims_next(&self.world, &self.places[place]);
-        let mut names = names_of(self.alloc, slots, self.names.as_slice())?;
-        names.sort_unstable();
-        Ok(Names::of(names))
-    }
-
-    pub fn epoch(&mut self, place: usize, name: GuardName) -> Reply
-        requires tied { IsTied self.old.moment self.old }
-        requires sound { IsSound (desk_of self.old) }
-        requires place { place < length self.old.world.time.places }
-        requires more { self.old.moment < self.old.calls }
-        ensures tied { IsTied (self.old.moment + 1) self.new }
-        ensures limits { KeepsLimits self.old self.new }
-        ensures does { Meets (desk_of self.old) (Call.At (record { 0 = place }) (Action.Epoch name)) result [] (desk_of self.new) }
-    {
-        let Some(guard) = open_guard(self.guards.as_slice(), place, name) else {
+        let Some((attending, guard)) = under(&self.hand.places, &self.hand.guards, name, guard) else {
             return Reply::Invalid;
         };
-        let mut turn = self.world.at(&self.places[place]);
+        let mut turn = self.hand.world.at(&attending.place);
         Reply::Epoch(guard.epoch(&mut turn))
     }
 
-    pub fn garbage(&mut self, place: usize, name: GuardName) -> Reply
-        requires tied { IsTied self.old.moment self.old }
-        requires sound { IsSound (desk_of self.old) }
-        requires place { place < length self.old.world.time.places }
-        requires more { self.old.moment < self.old.calls }
-        ensures tied { IsTied (self.old.moment + 1) self.new }
-        ensures limits { KeepsLimits self.old self.new }
-        ensures does { Meets (desk_of self.old) (Call.At (record { 0 = place }) (Action.Garbage name)) result [] (desk_of self.new) }
+    pub fn garbage(&mut self, name: PlaceName, guard: GuardName) -> Reply
+        ensures acts { Acts self.old (Call.At name (Action.Garbage guard)) result self.new }
     {
-        let Some(guard) = open_guard(self.guards.as_slice(), place, name) else {
+        let Some((attending, guard)) = under(&self.hand.places, &self.hand.guards, name, guard) else {
             return Reply::Invalid;
         };
-        let turn = self.world.at(&self.places[place]);
+        let turn = self.hand.world.at(&attending.place);
         Reply::Truth(guard.has_garbage(&turn))
     }
 
-    pub fn set(&mut self, place: usize, name: GuardName) -> Reply
-        requires tied { IsTied self.old.moment self.old }
-        requires sound { IsSound (desk_of self.old) }
-        requires place { place < length self.old.world.time.places }
-        requires more { self.old.moment < self.old.calls }
-        ensures tied { IsTied (self.old.moment + 1) self.new }
-        ensures limits { KeepsLimits self.old self.new }
-        ensures does { Meets (desk_of self.old) (Call.At (record { 0 = place }) (Action.Set name)) result [] (desk_of self.new) }
+    pub fn set(&mut self, name: PlaceName, guard: GuardName) -> Reply
+        ensures acts { Acts self.old (Call.At name (Action.Set guard)) result self.new }
     {
-        let Some(guard) = open_guard(self.guards.as_slice(), place, name) else {
+        let Some((attending, guard)) = under(&self.hand.places, &self.hand.guards, name, guard) else {
             return Reply::Invalid;
         };
-        let mut turn = self.world.at(&self.places[place]);
+        let mut turn = self.hand.world.at(&attending.place);
         guard.set_has_garbage(&mut turn);
         Reply::Done
     }
 
-    pub fn accelerate(&mut self, place: usize, name: GuardName) -> Reply
-        requires tied { IsTied self.old.moment self.old }
-        requires sound { IsSound (desk_of self.old) }
-        requires place { place < length self.old.world.time.places }
-        requires more { self.old.moment < self.old.calls }
-        ensures tied { IsTied (self.old.moment + 1) self.new }
-        ensures limits { KeepsLimits self.old self.new }
-        ensures does { Meets (desk_of self.old) (Call.At (record { 0 = place }) (Action.Accelerate name)) result [] (desk_of self.new) }
+    pub fn accelerate(&mut self, name: PlaceName, guard: GuardName) -> Reply
+        ensures acts { Acts self.old (Call.At name (Action.Accelerate guard)) result self.new }
     {
-        let Some(guard) = open_guard(self.guards.as_slice(), place, name) else {
+        let Some((attending, guard)) = under(&self.hand.places, &self.hand.guards, name, guard) else {
             return Reply::Invalid;
         };
-        let mut turn = self.world.at(&self.places[place]);
+        let mut turn = self.hand.world.at(&attending.place);
         guard.accelerate(&mut turn);
         Reply::Done
     }
 
-    #[tactic(auto, using(crate::proofs::Tied::map_set))]
-    pub fn close_guard(&mut self, place: usize, name: GuardName) -> Reply
-        requires tied { IsTied self.old.moment self.old }
-        requires sound { IsSound (desk_of self.old) }
-        requires place { place < length self.old.world.time.places }
-        requires more { self.old.moment < self.old.calls }
-        ensures tied { IsTied (self.old.moment + 1) self.new }
-        ensures limits { KeepsLimits self.old self.new }
-        ensures does { Meets (desk_of self.old) (Call.At (record { 0 = place }) (Action.Close name)) result [] (desk_of self.new) }
+    pub fn close_guard(&mut self, name: PlaceName, guard: GuardName) -> Reply
+        ensures acts { Acts self.old (Call.At name (Action.Close guard)) result self.new }
     {
-        if open_guard(self.guards.as_slice(), place, name).is_none() {
+        if under(&self.hand.places, &self.hand.guards, name, guard).is_none() {
             return Reply::Invalid;
         }
-        let Some(guard) = self.guards[name.0 as usize].take() else {
+        let Some(attending) = self.hand.places.get(name.0) else {
             return Reply::Invalid;
         };
-        let mut turn = self.world.at(&self.places[place]);
-        guard.close(&mut turn);
+        let Some(Guarding {
+            guard,
+            participant: _,
+            since: _,
+        }) = self.hand.guards.take(guard.0)
+        else {
+            return Reply::Invalid;
+        };
+        close_at(&mut self.hand.world, &attending.place, guard);
         Reply::Done
     }
 }
 
-/// The guard of this name, if it is open and the participant's.
-pub fn open_guard(guards: &[Option<Guard>], place: usize, name: GuardName) -> Option<&Guard>
-    ensures open { IsSome result ↔ (slice_index_or (map guard_place guards.now) name.0 None ≡ Some place) }
-    ensures place { IfSome result (λ guard. place_of guard.now ≡ place) }
+/// The participant of this name, and its guard of this name, if both are there.
+pub fn under<'s>(
+    places: &'s Named<Attending>,
+    guards: &'s Named<Guarding>,
+    name: PlaceName,
+    guard: GuardName,
+) -> Option<(&'s Attending, &'s Guard)>
+    ensures open { MatchOption result
+        (¬ (HasOpen (map attending places.now.entries.items) (map guarding guards.now.entries.items) name.0 guard.0))
+        (λ _. HasOpen (map attending places.now.entries.items) (map guarding guards.now.entries.items) name.0 guard.0) }
+    ensures found { IfSome result (λ found. (attending (Some found.0.now) ≡ slice_index_or (map attending places.now.entries.items) name.0 None)
+        × (place_of found.1.now ≡ index_of found.0.now.place)) }
 {
-    let index = usize::try_from(name.0).ok()?;
-    let guard = guards.get(index)?.as_ref()?;
-    if place_of_guard(guard) == place {
-        Some(guard)
+    let attending = places.get(name.0)?;
+    let held = guards.get(guard.0)?;
+    if place_of_guard(&held.guard) == attending.place.index() {
+        Some((attending, &held.guard))
     } else {
         None
     }
@@ -174,7 +149,7 @@ pub fn open_guard(guards: &[Option<Guard>], place: usize, name: GuardName) -> Op
 /// The names of the items that these slots had last.
 fn names_of(alloc: Global, slots: &[u32], names: &[u64]) -> Result<Vec<ItemName>, AllocError>
     requires inside { All (λ slot. slot < length names.now) slots.now }
-    ensures { IfOk result (λ found. found.items ≡ map (name_at names.now) slots.now) }
+    ensures { IfOk result (λ found. found.items ≡ map (item_named names.now) slots.now) }
 {
     let mut found = Vec::with_capacity(alloc, slots.len())?;
     for slot in slots {
@@ -198,24 +173,34 @@ fn open_at(world: &mut World<Val>, place: &Place) -> Result<(Guard, Epoch), Refu
     Ok((guard, epoch))
 }
 
+/// The guard, which is the participant's, is closed.
+pub fn close_at(world: &mut World<Val>, place: &Place, guard: Guard)
+    requires place { IsPlaceOf world.old (index_of place.now) }
+    requires guard { place_of guard ≡ index_of place.now }
+    ensures { world.new ≡ closed world.old (index_of place.now) }
+{
+    let mut turn = world.at(place);
+    guard.close(&mut turn);
+}
+
 /// The names of these items are spent.
-fn mark_gone(items: &mut Vec<ItemState>, names: &[ItemName])
-    requires inside { All (λ name. name.0 < length items.old.items) names.now }
-    ensures items { items.new.items ≡ all_gone items.old.items names.now }
-    ensures room { vec_capacity items.new ≡ vec_capacity items.old }
+fn mark_gone(fates: &mut Vec<Fate>, names: &[ItemName])
+    requires inside { All (λ name. name.0 < length fates.old.items) names.now }
+    ensures { fates.new.items ≡ all_gone fates.old.items (map what_named names.now) }
 {
     for name in names {
-        set_fate(items, name.0, Fate::Gone);
+        fates[name.0 as usize] = Fate::Gone;
     }
 }
 
-/// An opening that isn't nested is the place's last outermost one.
-fn note_opening(openings: &mut Vec<u64>, place: usize, moment: u64, is_nested: bool)
-    requires inside { place < length openings.old.items }
-    ensures openings { openings.new.items ≡ (if is_nested then openings.old.items else slice_set openings.old.items place moment) }
-    ensures room { vec_capacity openings.new ≡ vec_capacity openings.old }
+/// The participant's outermost opening was in the line before this one.
+fn note_opening(places: &mut Named<Attending>, name: u64, since: u64)
+    ensures { map attending places.new.entries.items ≡ opened_since (map attending places.old.entries.items) name since }
 {
-    if !is_nested {
-        openings[place] = moment;
+    let Ok(index) = usize::try_from(name) else {
+        return;
+    };
+    if let Some(Some(attending)) = places.entries.get_mut(index) {
+        attending.since = since;
     }
 }

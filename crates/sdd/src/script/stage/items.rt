@@ -1,133 +1,104 @@
 //! What participants do with items and their owners.
-ghost use Rattle.std.specs.Prelude.{◌≡◌, ◌≢◌, ℕ, ◌+◌, ◌<◌, [], IfOk, IsSome, None, Some, MatchOption, MatchResult, length, slice_index_or, slice_set, option_copied, vec_capacity};
+ghost use Rattle.std.specs.Prelude.{◌≡◌, ◌≢◌, ℕ, IfOk, IsSome, None, Some, MatchOption, MatchResult, length, slice_index_or};
 ghost use Rattle.sdd_base.specs.Steps.{retired};
-ghost use Rattle.sdd.specs.Desk.{with_fate};
 ghost use Rattle.sdd_base.specs.World.{IsPlaceOf, standing_at, value_at};
 ghost use Rattle.sdd_base.specs.Owned.{slot_of, slots_home};
-ghost use Rattle.sdd.specs.declared.script.val.Val.{Val};
+ghost use Rattle.sdd_store.specs.declared.standing.Standing.TheVariants as standing;
 ghost use Rattle.sdd_world.specs.Place.{index_of};
+ghost use Rattle.sdd.specs.declared.script.val.Val.{Val};
 ghost use Rattle.sdd.specs.Val.{body_of};
+ghost use Rattle.sdd.specs.Ledger.{IsThereSince};
 ghost use Rattle.sdd.specs.Made.{Makes, RefusesItem};
 
-use super::guards::open_guard;
+use super::guards::under;
 use super::{Held, Stage};
-use crate::script::item::{Fate, ItemState};
+use crate::script::fate::Fate;
 use crate::script::val::Val;
 use sdd_base::inner::{ptr_to, slot_of_owner};
 use sdd_base::{AtomicOwned, Guard, Owned, Ptr};
 use sdd_core::Refused;
-use sdd_lines::{Action, Call, GuardName, ItemName, OwnerName, Reply};
+use sdd_lines::{Action, Call, GuardName, ItemName, OwnerName, PlaceName, Reply};
 use sdd_world::{Place, World};
+use std::alloc::AllocError;
 
 impl Stage {
-    ghost use Rattle.sdd.specs.Desk.{IsThereSince, nothing};
-    ghost use Rattle.sdd.specs.Script.{Meets, with_new_item};
-    ghost use Rattle.sdd.specs.Stage.{desk_of, IsTied, KeepsLimits};
-    ghost use Rattle.sdd.specs.Sound.{IsSound, IsThere};
+    ghost use Rattle.sdd.specs.Script.{Acts};
 
-    pub fn make(&mut self, place: usize, number: u64) -> Reply
-        requires tied { IsTied self.old.moment self.old }
-        requires sound { IsSound (desk_of self.old) }
-        requires place { place < length self.old.world.time.places }
-        requires more { self.old.moment < self.old.calls }
-        ensures tied { IsTied (self.old.moment + 1) self.new }
-        ensures limits { KeepsLimits self.old self.new }
-        ensures does { Meets (desk_of self.old) (Call.At (record { 0 = place }) (Action.Owned number)) result [] (desk_of self.new) }
+    pub fn make(&mut self, name: PlaceName, number: u64) -> Result<Reply, AllocError>
+        ensures acts { MatchResult result (λ reply. Acts self.old (Call.At name (Action.Owned number)) reply self.new) (λ _. self.new ≡ self.old) }
     {
-        match make_item(&mut self.world, &self.places[place], number) {
-            Ok(owner) => self.name_item(owner),
-            Err(refused) => Reply::Refused(refused),
-        }
-    }
-
-    /// An owner and its item get their names.
-    fn name_item(&mut self, owner: Owned<Val>) -> Reply
-        requires tied { IsTied self.old.moment self.old }
-        requires more { self.old.moment < self.old.calls }
-        requires home { slots_home owner ≡ self.old.world.home.slots }
-        requires inside { slot_of owner < length self.old.world.standings }
-        requires fresh { (i : ℕ) → IsThere (slice_index_or self.old.items.items i nothing).fate →
-            (slice_index_or self.old.items.items i nothing).slot ≢ slot_of owner }
-        ensures tied { IsTied (self.old.moment + 1) self.new }
-        ensures limits { KeepsLimits self.old self.new }
-        ensures named { result ≡ Reply.Item (record { 0 = length (desk_of self.old).owners }) (record { 0 = length (desk_of self.old).items }) }
-        ensures desk { desk_of self.new ≡ with_new_item (desk_of self.old) (slot_of owner) }
-    {
+        let Some(attending) = self.hand.places.get(name.0) else {
+            return Ok(Reply::Invalid);
+        };
+        self.hand.owners.make_room()?;
+        self.hand.slots.reserve(1)?;
+        self.hand.fates.reserve(1)?;
+        self.hand.world.is_whole();
+        let owner = match make_item(&mut self.hand.world, &attending.place, number) {
+            Ok(owner) => owner,
+            Err(refused) => return Ok(Reply::Refused(refused)),
+        };
         let slot = slot_of_owner(&owner);
-        let item = self.items.len() as u64;
-        let name = OwnerName(self.owners.len() as u64);
-        self.names[slot as usize] = item;
-        self.items.push_reserved(ItemState {
-            slot,
-            fate: Fate::Out,
-        });
-        self.owners.push_reserved(Some(Held { owner, item }));
-        Reply::Item(name, ItemName(item))
+        let item = self.hand.fates.len() as u64;
+        self.hand.names[slot as usize] = item;
+        self.hand.slots.push_reserved(slot);
+        self.hand.fates.push_reserved(Fate::Out);
+        let name = self.hand.owners.give(Held { owner, item });
+        Ok(Reply::Item(OwnerName(name), ItemName(item)))
     }
 
-    pub fn read(&mut self, place: usize, name: OwnerName) -> Reply
-        requires tied { IsTied self.old.moment self.old }
-        requires sound { IsSound (desk_of self.old) }
-        requires place { place < length self.old.world.time.places }
-        requires more { self.old.moment < self.old.calls }
-        ensures tied { IsTied (self.old.moment + 1) self.new }
-        ensures limits { KeepsLimits self.old self.new }
-        ensures does { Meets (desk_of self.old) (Call.At (record { 0 = place }) (Action.Read name)) result [] (desk_of self.new) }
+    pub fn read(&mut self, name: PlaceName, owner: OwnerName) -> Reply
+        ensures acts { Acts self.old (Call.At name (Action.Read owner)) result self.new }
     {
-        let Some(held) = held_by(self.owners.as_slice(), name) else {
+        if self.hand.places.get(name.0).is_none() {
+            return Reply::Invalid;
+        }
+        let Some(held) = self.hand.owners.get(owner.0) else {
             return Reply::Invalid;
         };
-        Reply::Value(held.owner.get(&self.world).body())
+        Reply::Value(held.owner.get(&self.hand.world).body())
     }
 
-    pub fn retire(&mut self, place: usize, name: OwnerName) -> Reply
-        requires tied { IsTied self.old.moment self.old }
-        requires sound { IsSound (desk_of self.old) }
-        requires place { place < length self.old.world.time.places }
-        requires more { self.old.moment < self.old.calls }
-        ensures tied { IsTied (self.old.moment + 1) self.new }
-        ensures limits { KeepsLimits self.old self.new }
-        ensures does { Meets (desk_of self.old) (Call.At (record { 0 = place }) (Action.Retire name)) result [] (desk_of self.new) }
+    pub fn retire(&mut self, name: PlaceName, owner: OwnerName) -> Reply
+        ensures acts { Acts self.old (Call.At name (Action.Retire owner)) result self.new }
     {
-        let Some(Held { owner, item }) = take_held(&mut self.owners, name) else {
+        let Some(attending) = self.hand.places.get(name.0) else {
             return Reply::Invalid;
         };
-        retire_item(&mut self.world, &self.places[place], owner);
-        set_fate(&mut self.items, item, Fate::Retired(self.moment));
+        let Some(Held { owner, item }) = self.hand.owners.take(owner.0) else {
+            return Reply::Invalid;
+        };
+        self.hand.world.keeps_under_guards();
+        retire_item(&mut self.hand.world, &attending.place, owner);
+        self.hand.fates[item as usize] = Fate::Retired(self.hand.moment);
         Reply::Done
     }
 
-    pub fn look(&mut self, place: usize, item: ItemName, name: GuardName) -> Reply
-        requires tied { IsTied self.old.moment self.old }
-        requires sound { IsSound (desk_of self.old) }
-        requires place { place < length self.old.world.time.places }
-        requires more { self.old.moment < self.old.calls }
-        ensures tied { IsTied (self.old.moment + 1) self.new }
-        ensures limits { KeepsLimits self.old self.new }
-        ensures does { Meets (desk_of self.old) (Call.At (record { 0 = place }) (Action.Look item name)) result [] (desk_of self.new) }
+    pub fn look(&mut self, name: PlaceName, item: ItemName, guard: GuardName) -> Reply
+        ensures acts { Acts self.old (Call.At name (Action.Look item guard)) result self.new }
     {
-        let Some(slot) = self.slot_since(item, self.openings[place]) else {
+        let Some((attending, guard)) = under(&self.hand.places, &self.hand.guards, name, guard) else {
             return Reply::Invalid;
         };
-        match open_guard(self.guards.as_slice(), place, name) {
-            Some(guard) => Reply::Value(number_shown(&self.world, guard, slot)),
+        match slot_since(self.hand.fates.as_slice(), self.hand.slots.as_slice(), item, attending.since) {
+            Some(slot) => Reply::Value(number_shown(&self.hand.world, guard, slot)),
             None => Reply::Invalid,
         }
     }
+}
 
-    /// The slot of an item that was not retired before this moment.
-    fn slot_since(&self, name: ItemName, moment: u64) -> Option<u32>
-        ensures { MatchOption result
-            (¬ (IsThereSince moment (slice_index_or self.now.items.items name.0 nothing).fate))
-            (λ slot. let item = slice_index_or self.now.items.items name.0 nothing in
-            IsThereSince moment item.fate × (slot ≡ item.slot)) }
-    {
-        let state = self.items.get(usize::try_from(name.0).ok()?)?;
-        match state.fate {
-            Fate::Out => Some(state.slot),
-            Fate::Retired(at) if moment <= at => Some(state.slot),
-            Fate::Retired(_) | Fate::Gone => None,
-        }
+/// The slot of an item that was not retired before this line.
+fn slot_since(fates: &[Fate], slots: &[u32], name: ItemName, line: u64) -> Option<u32>
+    requires { length slots.now ≡ length fates.now }
+    ensures { MatchOption result
+        (¬ (IsThereSince line (slice_index_or fates.now name.0 Fate.Gone)))
+        (λ slot. IsThereSince line (slice_index_or fates.now name.0 Fate.Gone) × (slot ≡ slice_index_or slots.now name.0 0)) }
+{
+    let index = usize::try_from(name.0).ok()?;
+    match *fates.get(index)? {
+        Fate::Out => Some(slots[index]),
+        Fate::Retired(at) if line <= at => Some(slots[index]),
+        Fate::Retired(_) | Fate::Gone => None,
     }
 }
 
@@ -163,39 +134,13 @@ fn number_shown(world: &World<Val>, guard: &Guard, slot: u32) -> u64
     value.body()
 }
 
-/// The owner of this name, if it isn't spent.
-fn held_by(owners: &[Option<Held>], name: OwnerName) -> Option<&Held>
-    ensures { option_copied result ≡ slice_index_or owners.now name.0 None }
-{
-    let index = usize::try_from(name.0).ok()?;
-    owners.get(index)?.as_ref()
-}
-
-/// The owner of this name, if it isn't spent. Now it is.
-fn take_held(owners: &mut Vec<Option<Held>>, name: OwnerName) -> Option<Held>
-    ensures held { result ≡ slice_index_or owners.old.items name.0 None }
-    ensures spent { owners.new.items ≡ slice_set owners.old.items name.0 None }
-    ensures room { vec_capacity owners.new ≡ vec_capacity owners.old }
-{
-    let index = usize::try_from(name.0).ok()?;
-    owners.get_mut(index)?.take()
-}
-
 /// The owner retires its item, which waits with the participant.
 pub fn retire_item(world: &mut World<Val>, place: &Place, owner: Owned<Val>)
     requires place { IsPlaceOf world.old (index_of place.now) }
     requires home { slots_home owner ≡ world.old.home.slots }
-    ensures { world.new ≡ retired world.old (index_of place.now) (slot_of owner) }
+    ensures retired { world.new ≡ retired world.old (index_of place.now) (slot_of owner) }
+    ensures owned { standing_at world.old (slot_of owner) ≡ Some standing.Owned }
 {
     let mut turn = world.at(place);
     owner.retire(&mut turn);
-}
-
-/// What has become of an item.
-pub fn set_fate(items: &mut Vec<ItemState>, item: u64, fate: Fate)
-    requires inside { item < length items.old.items }
-    ensures items { items.new.items ≡ with_fate items.old.items item fate }
-    ensures room { vec_capacity items.new ≡ vec_capacity items.old }
-{
-    items[item as usize].fate = fate;
 }

@@ -1,0 +1,144 @@
+-- What the calls and answers of a script tell, line by line
+use Rattle.std.specs.Prelude.{false, ℕ, ◌+◌, ◌<◌, ◌≤◌, ◌≡◌, List, [], ◌∷◌, ◌++◌, Option, None, Some, IsSome, Contains, length, map, slice_index_or, slice_set, if◌then◌else◌}
+use Rattle.sdd_store.specs.Waiting.{What, Waiting, having_seen}
+use Rattle.sdd_store.specs.Waiting.What.{Item, Private, Job}
+use Rattle.sdd_store.specs.Time as time
+use Rattle.sdd_store.specs.Time.{Time, place_at, is_open}
+use Rattle.sdd_store.specs.declared.time.Participant.{Participant}
+use Rattle.sdd_base.specs.declared.limits.Limits.{Limits}
+use Rattle.sdd_lines.specs.declared.call.Call.{Call}
+use Rattle.sdd_lines.specs.declared.call.Call.TheVariants.{Register, Tally, At}
+use Rattle.sdd_lines.specs.declared.call.Action.TheVariants as call
+use Rattle.sdd_lines.specs.declared.answer.Reply.{Reply}
+use Rattle.sdd_lines.specs.declared.answer.Reply.TheVariants as reply
+use Rattle.sdd.specs.declared.script.fate.Fate.{Fate}
+use Rattle.sdd.specs.declared.script.fate.Fate.TheVariants.{Out, Retired, Gone}
+
+-- a place that is open, or was: since which line
+pub record Opening : Type 0 where
+  pub place : ℕ
+  pub since : ℕ
+
+pub record Ledger : Type 0 where
+  -- how many lines there were
+  pub moment : ℕ
+  -- the epoch and its participants; what waits with each are items, by name
+  pub time : Time
+  -- of each participant its place, and the first line after its last outermost opening
+  pub places : List (Option Opening)
+  -- of each guard its place, and the first line after its opening, until it is closed
+  pub guards : List (Option Opening)
+  -- of each owner its item, until it is spent
+  pub owners : List (Option ℕ)
+  -- what became of each item
+  pub items : List Fate
+
+-- before the first line
+abbrev pub first : Limits → Ledger
+first l =
+    record {
+      moment = 0;
+      time = record { count = 0; marked = false; places = []; participants = l.participants; nesting = l.nesting; room = l.slots };
+      places = [];
+      guards = [];
+      owners = [];
+      items = [];
+    }
+
+abbrev pub place_in : Option Opening → ℕ
+place_in None = 0
+place_in (Some x) = x.place
+
+-- the place of a participant that is there
+abbrev pub place_of : Ledger → ℕ → ℕ
+place_of l n = place_in (slice_index_or l.places n None)
+
+-- what became of the item; a name that was never given is spent
+abbrev pub fate_at : Ledger → ℕ → Fate
+fate_at l i = slice_index_or l.items i Gone
+
+abbrev pub IsPlace : Ledger → ℕ → Type 0
+IsPlace l n = IsSome (slice_index_or l.places n None)
+
+-- the guard is open, and it is one of p's
+abbrev pub IsOf : ℕ → Option Opening → Type 0
+IsOf p None = ⊥
+IsOf p (Some x) = x.place ≡ p
+
+-- the name is that of an open guard of this participant
+abbrev pub IsGuardOf : Ledger → ℕ → ℕ → Type 0
+IsGuardOf l n g = IsOf (place_of l n) (slice_index_or l.guards g None)
+
+-- the name is that of an owner of this item
+abbrev pub IsOwnerOf : Ledger → ℕ → ℕ → Type 0
+IsOwnerOf l i o = slice_index_or l.owners o None ≡ Some i
+
+-- an item is there, and was retired in this line at the earliest
+abbrev pub IsThereSince : ℕ → Fate → Type 0
+IsThereSince line Out = Unit {0}
+IsThereSince line (Retired at) = line ≤ at
+IsThereSince line Gone = ⊥
+
+abbrev pub since_in : Option Opening → ℕ
+since_in None = 0
+since_in (Some x) = x.since
+
+-- the participant can point to the item: it was not retired before its outermost opening
+abbrev pub CanPointTo : Ledger → ℕ → ℕ → Type 0
+CanPointTo l n i = IsThereSince (since_in (slice_index_or l.places n None)) (fate_at l i)
+
+-- an outermost opening is a change where it finds another count
+abbrev pub caught_up : Time → ℕ → Time
+caught_up t p = if time.finds_another t p then time.settled_at (time.rotated_at t p) p else t
+
+abbrev pub opened : Time → ℕ → Time
+opened t p = if is_open (place_at t p) then time.nested_at t p else caught_up (time.nested_at t p) p
+
+-- what an opening of p makes due: at an outermost one that finds another count, what then has seen three changes of p
+abbrev pub due_at : Time → ℕ → List What
+due_at t p = if is_open (place_at t p) then [] else (if time.finds_another t p then time.due_next (place_at t p) else [])
+
+-- the names of these items are spent
+abbrev pub all_gone : List Fate → List What → List Fate
+all_gone items [] = items
+all_gone items (Item i ∷ xs) = all_gone (slice_set items i Gone) xs
+all_gone items (Private i c ∷ xs) = all_gone (slice_set items i Gone) xs
+all_gone items (Job j ∷ xs) = all_gone items xs
+
+-- participant n, at p, opens a guard
+abbrev pub with_guard : Ledger → ℕ → ℕ → Ledger
+with_guard l n p =
+    let now : Opening = record { place = p; since = l.moment + 1 } in
+    record l {
+      time = opened l.time p;
+      places = if is_open (place_at l.time p) then l.places else slice_set l.places n (Some now);
+      guards = l.guards ++ Some now ∷ [];
+      items = all_gone l.items (due_at l.time p);
+    }
+
+-- the owner o of this item retires it, and it waits with p
+abbrev pub with_retired : Ledger → (p o : ℕ) → Option ℕ → Ledger
+with_retired l p o None = l
+with_retired l p o (Some i) =
+    record l {
+      time = time.awaiting_at l.time p (Item i);
+      owners = slice_set l.owners o None;
+      items = slice_set l.items i (Retired l.moment);
+    }
+
+-- a call was answered so
+abbrev pub after : Ledger → Call → Reply → Ledger
+after l Register (reply.Place name) =
+    record l { time = time.registered l.time; places = l.places ++ Some (record { place = length l.time.places; since = 0 }) ∷ [] }
+after l (At n call.Open) (reply.Guard g epoch) = with_guard l n.0 (place_of l n.0)
+after l (At n (call.Set g)) reply.Done = record l { time = time.stirred_at l.time (place_of l n.0) }
+after l (At n (call.Accelerate g)) reply.Done = record l { time = time.accelerated_at l.time (place_of l n.0) }
+after l (At n (call.Owned number)) (reply.Item o i) = record l { owners = l.owners ++ Some (length l.items) ∷ []; items = l.items ++ Out ∷ [] }
+after l (At n (call.Retire o)) reply.Done = with_retired l (place_of l n.0) o.0 (slice_index_or l.owners o.0 None)
+after l (At n (call.Close g)) reply.Done = record l { time = time.closed l.time (place_of l n.0); guards = slice_set l.guards g.0 None }
+-- any other answer changes nothing
+after l call other = l
+
+-- one line later
+abbrev pub later : Ledger → Ledger
+later l = record l { moment = l.moment + 1 }

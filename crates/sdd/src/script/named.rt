@@ -1,0 +1,64 @@
+//! Names of one letter.
+ghost use Rattle.std.specs.Prelude.{◌≡◌, ◌<◌, ◌++◌, ◌∷◌, [], Some, None, OnOk, length, option_copied, slice_index_or, slice_set, vec_capacity};
+
+use std::alloc::{AllocError, Global};
+
+/// What the names of one letter stand for: each is given once, in order from 0 on, and spent at most once.
+#[derive(Drop)]
+pub struct Named<T> {
+    pub entries: Vec<Option<T>>,
+}
+
+impl<T> Named<T> {
+    pub fn new(alloc: Global) -> Named<T>
+        ensures { result.entries.items ≡ [] }
+    {
+        Named {
+            entries: Vec::new(alloc),
+        }
+    }
+
+    /// Room for one name more.
+    pub fn make_room(&mut self) -> Result<(), AllocError>
+        ensures kept { self.new.entries.items ≡ self.old.entries.items }
+        ensures room { OnOk result (length self.new.entries.items < vec_capacity self.new.entries) }
+    {
+        self.entries.reserve(1)
+    }
+
+    /// Gives the next name.
+    pub fn give(&mut self, value: T) -> u64
+        requires { length self.old.entries.items < vec_capacity self.old.entries }
+        ensures name { result ≡ length self.old.entries.items }
+        ensures given { self.new.entries.items ≡ self.old.entries.items ++ Some value ∷ [] }
+    {
+        let name = self.entries.len() as u64;
+        self.entries.push_reserved(Some(value));
+        name
+    }
+
+    /// What a name stands for, unless it was never given or is spent.
+    pub fn get(&self, name: u64) -> Option<&T>
+        ensures { option_copied result ≡ slice_index_or self.now.entries.items name None }
+    {
+        let index = usize::try_from(name).ok()?;
+        self.entries.get(index)?.as_ref()
+    }
+
+    /// Spends a name.
+    pub fn take(&mut self, name: u64) -> Option<T>
+        ensures taken { result ≡ slice_index_or self.old.entries.items name None }
+        ensures spent { self.new.entries.items ≡ slice_set self.old.entries.items name None }
+    {
+        let index = usize::try_from(name).ok()?;
+        self.entries.get_mut(index)?.take()
+    }
+
+    /// Lets the names go, of which none is left.
+    pub fn destroy_empty(self)
+        requires { self.entries.items ≡ [] }
+    {
+        let Named { entries } = self;
+        entries.destroy_empty();
+    }
+}
