@@ -47,7 +47,7 @@ there-inside items i h =
       | inr past ↦ absurd (subst IsThere (get_or_past items i Gone past) h)
     ]
 
-fate-inside : (items : List Fate) (i : ℕ) → slice_index_or items i Gone ≡ Out → i < length items
+pub fate-inside : (items : List Fate) (i : ℕ) → slice_index_or items i Gone ≡ Out → i < length items
 fate-inside items i e = there-inside items i (subst IsThere (sym e) tt)
 
 stands-there : (f : Fate) (o : Option Standing) → IsThere f → StandsAs f o → IsSome o

@@ -6,4 +6,6 @@ pub mod Attending
 pub mod Kept
 pub mod Opening
 pub mod Going
+pub mod Worlds
+pub mod Acts
 pub mod Probe

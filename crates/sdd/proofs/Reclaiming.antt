@@ -29,6 +29,7 @@ pub record Leaves (t : Time) (xs : List What) (old new : World Val) : Type 0 whe
   pub linked : IsLinked new
   pub stays : (s : ℕ) → times_among s xs ≡ 0 → standing_at new s ≡ standing_at old s
   pub slots : length new.standings ≡ length old.standings
+  pub home : new.home ≡ old.home
 
 nothing : (t : Time) (xs : List What) (w : World Val) → IsLinked w → Leaves t xs w (record w { time = t })
 nothing t xs w l = record {
@@ -38,6 +39,7 @@ nothing t xs w l = record {
   linked = record { linked = l.linked; unlinked = l.unlinked };
   stays = λ s none. refl;
   slots = refl;
+  home = refl;
 }
 
 -- a slot is free, with its value's cell
@@ -78,6 +80,7 @@ leaves-value w p k x of l (Some v) e =
       linked = linked-freed w k v e l;
       stays = λ s none. at-other w.standings k s None None (apart-first k s x [] of none);
       slots = length-set w.standings k None;
+      home = refl;
     })
 
 leaves-standing : (w : World Val) (p k : ℕ) (x : What) → is_of_slot k x ≡ true → IsLinked w → (s : Option Standing) →
@@ -110,6 +113,7 @@ leaves-all w p (x ∷ xs) l =
           rest.stays s (omega (arith, none, count-cons (is_of_slot s) x xs))
           ∙ one.stays s (omega (arith, none, count-cons (is_of_slot s) x xs, count-cons (is_of_slot s) x []));
       slots = rest.slots ∙ one.slots;
+      home = rest.home ∙ one.home;
     }
 
 either : (b : Bool) (t u : Time) (xs ys : List What) (old v w : World Val) → Leaves t xs old v → Leaves u ys old w →
@@ -130,6 +134,7 @@ leaves-opened w p l =
       linked = record { linked = all.linked.linked; unlinked = all.linked.unlinked };
       stays = all.stays;
       slots = all.slots;
+      home = all.home;
     } in
     let still = nothing nested.time [] w l in
     let caught : Leaves (caught_up nested.time p) (if finds_another w.time p then due_next (place_at w.time p) else []) w (steps.caught_up holdings_of nested p) =

@@ -71,12 +71,12 @@ OwnsItem home slots None = Unit {0}
 OwnsItem home slots (Some held) = IsOwnerIn home slots held
 
 -- a guard is that of the participant under whose name it was opened
-abbrev pub GuardsIn : List (Option Attending) → Option Guarding → Type 0
+abbrev pub GuardsIn : List (Option Opening) → Option Guarding → Type 0
 GuardsIn places None = Unit {0}
-GuardsIn places (Some held) = (x : Opening) × (attending (slice_index_or places held.participant None) ≡ Some x) × (x.place ≡ place_of held.guard)
+GuardsIn places (Some held) = option_map (λ (x : Opening). x.place) (slice_index_or places held.participant None) ≡ Some (place_of held.guard)
 
 -- what is in hand is what the desk says
 pub record IsTied (s : Hand) : Type 0 where
   pub sound : IsSound (desk_of s)
   pub owners : (o : ℕ) → OwnsItem s.world.home.slots s.slots.items (slice_index_or s.owners.entries.items o None)
-  pub guards : (g : ℕ) → GuardsIn s.places.entries.items (slice_index_or s.guards.entries.items g None)
+  pub guards : (g : ℕ) → GuardsIn (map attending s.places.entries.items) (slice_index_or s.guards.entries.items g None)

@@ -4,7 +4,7 @@ ghost use Rattle.sdd_core.specs.Epoch.{epoch_of};
 ghost use Rattle.sdd_store.specs.Time.{CanNest};
 ghost use Rattle.sdd_base.specs.Guard.{place_of};
 ghost use Rattle.sdd_base.specs.World.{IsPlaceOf};
-ghost use Rattle.sdd_base.specs.Steps.{opened, closed};
+ghost use Rattle.sdd_base.specs.Steps.{opened, closed, stirred, accelerated};
 ghost use Rattle.sdd_world.specs.Place.{index_of};
 ghost use Rattle.sdd.specs.Val.{holdings_of};
 ghost use Rattle.sdd.specs.Ledger.{all_gone};
@@ -86,8 +86,7 @@ impl Stage {
         let Some((attending, guard)) = under(&self.hand.places, &self.hand.guards, name, guard) else {
             return Reply::Invalid;
         };
-        let mut turn = self.hand.world.at(&attending.place);
-        guard.set_has_garbage(&mut turn);
+        stir_at(&mut self.hand.world, &attending.place, guard);
         Reply::Done
     }
 
@@ -97,8 +96,7 @@ impl Stage {
         let Some((attending, guard)) = under(&self.hand.places, &self.hand.guards, name, guard) else {
             return Reply::Invalid;
         };
-        let mut turn = self.hand.world.at(&attending.place);
-        guard.accelerate(&mut turn);
+        accelerate_at(&mut self.hand.world, &attending.place, guard);
         Reply::Done
     }
 
@@ -171,6 +169,24 @@ fn open_at(world: &mut World<Val>, place: &Place) -> Result<(Guard, Epoch), Refu
     let guard = Guard::new(&mut turn)?;
     let epoch = guard.epoch(&mut turn);
     Ok((guard, epoch))
+}
+
+/// The participant has garbage from now on.
+fn stir_at(world: &mut World<Val>, place: &Place, guard: &Guard)
+    requires { IsPlaceOf world.old (index_of place.now) }
+    ensures { world.new ≡ stirred world.old (index_of place.now) }
+{
+    let mut turn = world.at(place);
+    guard.set_has_garbage(&mut turn);
+}
+
+/// The participant's next outermost close scans.
+fn accelerate_at(world: &mut World<Val>, place: &Place, guard: &Guard)
+    requires { IsPlaceOf world.old (index_of place.now) }
+    ensures { world.new ≡ accelerated world.old (index_of place.now) }
+{
+    let mut turn = world.at(place);
+    guard.accelerate(&mut turn);
 }
 
 /// The guard, which is the participant's, is closed.
