@@ -1,5 +1,7 @@
 -- What each action leaves in hand, and that it is what the call means
 use Rattle.std.proofs.Common.{◌≡◌, ◌≢◌, ◌⊎◌, ℕ, ◌+◌, ◌^◌, ◌<◌, ◌≤◌, Bool, true, false, List, [], ◌∷◌, ◌++◌, Option, Some, None, IsSome, is_some, if◌then◌else◌, length, map, slice_index, slice_index_or, slice_set, inl, inr, refl, sym, ap, ◌∙◌, subst, arith}
+use Rattle.std.specs.Prelude.{Contains, ◌↔◌}
+use Rattle.std.specs.List.Sorted.{IsPermutation, IsNonDecreasingBy}
 use Rattle.std.proofs.Math.ListN.{get_or-map}
 use Rattle.std.proofs.lemmas.Bool.{cases_eq}
 use Rattle.std.proofs.lemmas.List.{map-set, map_push, length-map, length-set, get_or_past}
@@ -14,8 +16,9 @@ use Rattle.sdd_base.specs.Guard.{place_of as guards_place}
 use Rattle.sdd_base.specs.Owned.{slot_of, slots_home}
 use Rattle.sdd_store.specs.Waiting.What.{Item}
 use Rattle.sdd_base.specs.Holding.{Home}
-use Rattle.sdd_base.specs.World.{World, IsPlaceOf, standing_at}
-use Rattle.sdd_base.specs.Steps.{registered, made, nulled, retired, opened, closed, stirred, accelerated}
+use Rattle.sdd_base.specs.declared.limits.Limits.{Limits}
+use Rattle.sdd_base.specs.World.{World, IsNew, IsPlaceOf, standing_at}
+use Rattle.sdd_base.specs.Steps.{reclaims, registered, made, nulled, retired, opened, closed, stirred, accelerated}
 use Rattle.sdd_base.specs.Whole.{IsWhole, times_waiting, once_if}
 use Rattle.sdd_base.specs.Under.{KeepsUnderGuards}
 use Rattle.sdd_base.specs.Calls.Calls.{stirs, accelerates}
@@ -23,6 +26,10 @@ use Rattle.sdd_world.specs.Place.{index_of}
 use Rattle.sdd_lines.specs.declared.name.PlaceName.{PlaceName}
 use Rattle.sdd_lines.specs.declared.name.GuardName.{GuardName}
 use Rattle.sdd_lines.specs.declared.name.OwnerName.{OwnerName}
+use Rattle.sdd_lines.specs.declared.name.ItemName.{ItemName}
+use Rattle.sdd_core.specs.declared.epoch.Epoch.{Epoch}
+use Rattle.sdd_lines.specs.declared.call.Call.{Call}
+use Rattle.sdd_lines.specs.declared.answer.Reply.{Reply}
 use Rattle.sdd_lines.specs.declared.call.Call.TheVariants.{Register, At}
 use Rattle.sdd_lines.specs.declared.call.Action.TheVariants as call
 use Rattle.sdd_lines.specs.declared.answer.Reply.TheVariants as reply
@@ -36,18 +43,20 @@ use Rattle.sdd.specs.declared.script.stage.Held.{Held}
 use Rattle.sdd.specs.declared.script.stage.Hand.{Hand}
 use Rattle.sdd.specs.Val.{holdings_of}
 use Rattle.sdd.specs.Ledger as ledger
-use Rattle.sdd.specs.Ledger.{Opening, place_in, with_guard, with_retired, all_gone, due_at}
+use Rattle.sdd.specs.Ledger.{Opening, fate_at, place_in, with_guard, with_retired, all_gone, due_at}
 use Rattle.sdd.specs.Made.{Makes}
 use Rattle.sdd.specs.Desk.{Desk, slot_at}
-use Rattle.sdd.specs.Script.{Acts, IsValid}
+use Rattle.sdd.specs.Due.{IsDue}
+use Rattle.sdd.specs.Script.{Acts, Answers, IsWaiting, NamesWhatGoes}
 use Rattle.sdd.specs.ByName.{time_by}
 use Rattle.sdd.specs.Sound.{IsSound, IsThere}
-use Rattle.sdd.specs.Stage.{attending, guarding, item_held, desk_of, opened_since, OwnsItem, IsOwnerIn, GuardsIn, IsTied, HasOpen}
+use Rattle.sdd.specs.Stage.{attending, guarding, item_held, item_named, what_named, desk_of, opened_since, OwnsItem, IsOwnerIn, GuardsIn, IsTied, HasOpen}
 use Rattle.sdd.proofs.ByName.{by-stirred, by-accelerated, by-closed, by-registered, by-awaiting, by-opened, by-place}
 use Rattle.sdd.proofs.Entry.{at-other, at-pushed, at-end, at-default, as-each, inside, is-there}
 use Rattle.sdd.proofs.Reclaiming.{leaves-opened}
-use Rattle.sdd.proofs.Opening.{sound-opened}
-use Rattle.sdd.proofs.Going.{sound-written, sound-registered, sound-closed, sound-retired, sound-made, renamed, fate-inside}
+use Rattle.sdd.proofs.Naming.{due-found, names-due}
+use Rattle.sdd.proofs.Opening.{sound-opened, unguarded}
+use Rattle.sdd.proofs.Going.{sound-written, sound-registered, sound-closed, sound-retired, sound-made, sound-start, renamed, fate-inside}
 
 -- what is left in hand is sound, and is this desk
 pub record Goes (new : Hand) (e : Desk) : Type 0 where
@@ -215,7 +224,7 @@ module _ (h : Hand) (t : IsTied h) where
 
   -- ---- an item is made
   pub goes-made : (w : World Val) (owners : Vec (Option Held)) (slots : Vec ℕ) (fates : Vec Fate) (named : Vec ℕ) (number k : ℕ) (held : Held) →
-      (m : Makes h.world number k w) → IsWhole h.world → IsSome (slice_index_or d.ledger.places 0 None) → length h.fates.items + 1 < 2 ^ 128 →
+      (m : Makes h.world number k w) → IsWhole h.world → ((n : ℕ) × IsSome (slice_index_or d.ledger.places n None)) → length h.fates.items + 1 < 2 ^ 128 →
       slot_of held.owner ≡ k → slots_home held.owner ≡ h.world.home.slots → held.item ≡ length h.fates.items →
       owners.items ≡ h.owners.entries.items ++ Some held ∷ [] → slots.items ≡ h.slots.items ++ k ∷ [] → fates.items ≡ h.fates.items ++ Out ∷ [] →
       named.items ≡ slice_set h.names.items k (length h.fates.items) →
@@ -321,3 +330,153 @@ module _ (h : Hand) (t : IsTied h) where
           };
           desk = same;
         }
+
+-- ---- what is left is what the call means
+
+module _ (h : Hand) (t : IsTied h) (name : PlaceName) where
+  abbrev pub desk : Desk
+  desk = desk_of h
+
+  pub acts-registered : (places : Vec (Option Attending)) (a : Attending) (w : World Val) →
+      places.items ≡ h.places.entries.items ++ Some a ∷ [] → index_of a.place ≡ length h.world.time.places → a.since ≡ 0 → w ≡ registered h.world →
+      name.0 ≡ length h.places.entries.items → length h.world.time.places < h.world.time.participants →
+      Acts desk Register (reply.Place name) (desk_of (record h { world = w; places = record { entries = places } }))
+  acts-registered places a w pushed index since world named room =
+      subst (Acts desk Register (reply.Place name)) (sym (goes-registered h t places a w name pushed index since world).desk)
+      ((named ∙ sym (length-map h.places.entries.items attending), room, (refl, refl, refl)), refl)
+
+  module _ (a : Attending) (there : attending (Some a) ≡ slice_index_or desk.ledger.places name.0 None) where
+    is : ledger.place_of desk.ledger name.0 ≡ index_of a.place
+    is = place-is h t name.0 a there
+
+    pub is-place : ledger.IsPlace desk.ledger name.0
+    is-place = subst (λ x. IsSome x) there refl
+
+    pub acts-stirred : (g : GuardName) (w : World Val) → HasOpen desk.ledger.places desk.ledger.guards name.0 g.0 → w ≡ stirred h.world (index_of a.place) →
+        Acts desk (At name (call.Set g)) reply.Done (desk_of (record h { world = w }))
+    acts-stirred g w valid world =
+        subst (Acts desk (At name (call.Set g)) reply.Done) (sym (goes-stirred h t name.0 a there w world).desk)
+        ((valid, (ap (stirred h.world) (sym is), refl, refl)), ap (λ q. record desk.ledger { time = time.stirred_at desk.ledger.time q }) (sym is))
+
+    pub acts-accelerated : (g : GuardName) (w : World Val) → HasOpen desk.ledger.places desk.ledger.guards name.0 g.0 →
+        w ≡ accelerated h.world (index_of a.place) → Acts desk (At name (call.Accelerate g)) reply.Done (desk_of (record h { world = w }))
+    acts-accelerated g w valid world =
+        subst (Acts desk (At name (call.Accelerate g)) reply.Done) (sym (goes-accelerated h t name.0 a there w world).desk)
+        ((valid, (ap (accelerated h.world) (sym is), refl, refl)), ap (λ q. record desk.ledger { time = time.accelerated_at desk.ledger.time q }) (sym is))
+
+    -- the guard of that name is the participant's
+    pub guard-is : (g : ℕ) (held : Guarding) → HasOpen desk.ledger.places desk.ledger.guards name.0 g → slice_index_or h.guards.entries.items g None ≡ Some held →
+        guards_place held.guard ≡ index_of a.place
+    guard-is g held valid here =
+        let entry = get_or-map guarding h.guards.entries.items g None ∙ ap guarding here in
+        subst (λ o. ledger.IsOf (place_in (slice_index_or desk.ledger.places name.0 None)) o) entry valid.1 ∙ is
+
+    pub acts-closed : (g : GuardName) (w : World Val) (guards : Vec (Option Guarding)) (held : Guarding) →
+        HasOpen desk.ledger.places desk.ledger.guards name.0 g.0 → slice_index_or h.guards.entries.items g.0 None ≡ Some held →
+        guards.items ≡ slice_set h.guards.entries.items g.0 None → w ≡ closed h.world (index_of a.place) →
+        Acts desk (At name (call.Close g)) reply.Done (desk_of (record h { world = w; guards = record { entries = guards } }))
+    acts-closed g w guards held valid here taken world =
+        subst (Acts desk (At name (call.Close g)) reply.Done)
+        (sym (goes-closed h t w guards g.0 (index_of a.place) held here (guard-is g.0 held valid here) taken world).desk)
+        ((valid, (ap (closed h.world) (sym is), refl, refl)),
+        ap (λ q. record desk.ledger { time = time.closed desk.ledger.time q; guards = slice_set desk.ledger.guards g.0 None }) (sym is))
+
+    pub acts-retired : (o : OwnerName) (w : World Val) (owners : Vec (Option Held)) (fates : Vec Fate) (held : Held) →
+        slice_index_or h.owners.entries.items o.0 None ≡ Some held → KeepsUnderGuards holdings_of h.world →
+        owners.items ≡ slice_set h.owners.entries.items o.0 None → fates.items ≡ slice_set h.fates.items held.item (Retired h.moment) →
+        w ≡ retired h.world (index_of a.place) (slot_of held.owner) →
+        Acts desk (At name (call.Retire o)) reply.Done (desk_of (record h { world = w; owners = record { entries = owners }; fates = fates }))
+    acts-retired o w owners fates held here keeps taken become world =
+        let entry : slice_index_or desk.ledger.owners o.0 None ≡ Some held.item = get_or-map item_held h.owners.entries.items o.0 None ∙ ap item_held here in
+        subst (Acts desk (At name (call.Retire o)) reply.Done)
+        (sym (goes-retired h t w owners fates (index_of a.place) o.0 held here (in-range h t name.0 a there) keeps taken become world).desk)
+        (((is-place, is-there desk.ledger.owners o.0 held.item entry), (held.item, entry, (ap (λ q. retired h.world q (slot_at desk held.item)) (sym is), refl, refl))),
+        cc (is, entry))
+
+    pub acts-made : (w : World Val) (owners : Vec (Option Held)) (slots : Vec ℕ) (fates : Vec Fate) (named : Vec ℕ) (number k : ℕ) (held : Held)
+        (o : OwnerName) (i : ItemName) (m : Makes h.world number k w) → IsWhole h.world → length h.fates.items + 1 < 2 ^ 128 →
+        slot_of held.owner ≡ k → slots_home held.owner ≡ h.world.home.slots → held.item ≡ length h.fates.items →
+        owners.items ≡ h.owners.entries.items ++ Some held ∷ [] → slots.items ≡ h.slots.items ++ k ∷ [] → fates.items ≡ h.fates.items ++ Out ∷ [] →
+        named.items ≡ slice_set h.names.items k (length h.fates.items) → o.0 ≡ length h.owners.entries.items → i.0 ≡ length h.fates.items →
+        IsTied (record h { world = w; owners = record { entries = owners }; slots = slots; fates = fates; names = named })
+        × Acts desk (At name (call.Owned number)) (reply.Item o i)
+        (desk_of (record h { world = w; owners = record { entries = owners }; slots = slots; fates = fates; names = named }))
+    acts-made w owners slots fates named number k held o i m whole few slot home item pushed more_slots more_fates written owner_name item_name =
+        let goes = goes-made h t w owners slots fates named number k held m whole some few slot home item pushed more_slots more_fates written in
+        (goes.tied, subst (Acts desk (At name (call.Owned number)) (reply.Item o i)) (sym goes.desk)
+        ((is-place, (owner_name ∙ sym (length-map h.owners.entries.items item_held), item_name,
+        (m.cell, k, m.value, m.free_cell, m.free_slot, m.body, m.link, m.home, (refl, refl, refl)))), refl)) where
+      some : (n : ℕ) × IsSome (slice_index_or desk.ledger.places n None)
+      some = (name.0, is-place)
+
+    -- an opening, which found these slots, and these names
+    module _ (w : World Val) (places : Vec (Option Attending)) (guards : Vec (Option Guarding)) (fates : Vec Fate) (held : Guarding)
+        (slots : List ℕ) (found sorted : List ItemName) (whole : IsWhole h.world) (are : map Item slots ≡ reclaims h.world (index_of a.place))
+        (names_are : found ≡ map (item_named h.names.items) slots)
+        (entries : map attending places.items ≡ noted h t name.0 a there (is_open (time.place_at desk.ledger.time (index_of a.place))))
+        (pushed : guards.items ≡ h.guards.entries.items ++ Some held ∷ []) (place : guards_place held.guard ≡ index_of a.place)
+        (since : held.since ≡ h.moment + 1) (participant : held.participant ≡ name.0)
+        (gone : fates.items ≡ all_gone h.fates.items (map what_named found)) (world : w ≡ opened holdings_of h.world (index_of a.place)) where
+      abbrev pub after-opening : Hand
+      after-opening = record h { world = w; places = record { entries = places }; guards = record { entries = guards }; fates = fates }
+
+      due-is : due_at desk.ledger.time (index_of a.place) ≡ map what_named found
+      due-is = due-found desk (index_of a.place) t.sound.stocked whole slots are found names_are
+
+      pub opens-to : Goes after-opening (record desk { world = opened holdings_of h.world (index_of a.place); ledger = with_guard desk.ledger name.0 (index_of a.place) })
+      opens-to =
+          goes-opened h t name.0 a there w places guards fates held whole entries pushed place since participant
+          (gone ∙ ap (all_gone h.fates.items) (sym due-is)) world
+
+      pub answers-opened : (g : GuardName) (epoch : Epoch) → IsPermutation found sorted → IsNonDecreasingBy (λ (i : ItemName). i.0) sorted →
+          CanNest h.world.time (index_of a.place) → g.0 ≡ length h.guards.entries.items → epoch ≡ epoch_of w.time.count →
+          Answers desk (At name call.Open) (record { reply = reply.Guard g epoch; reclaimed = sorted; ran = [] }) (desk_of after-opening)
+      answers-opened g epoch moved up nests given_name now =
+          let all = names-due desk (index_of a.place) t.sound.stocked whole slots are found names_are sorted moved up in
+          record {
+            acts = subst (Acts desk (At name call.Open) (reply.Guard g epoch)) (sym opens-to.desk)
+                ((is-place, (subst (CanNest h.world.time) (sym is) nests, given_name ∙ sym (length-map h.guards.entries.items guarding),
+                now ∙ ap (λ (v : World Val). epoch_of v.time.count) world, (ap (opened holdings_of h.world) (sym is), refl, refl))),
+                ap (with_guard desk.ledger name.0) (sym is));
+            goes = λ i. subst (λ q. Contains sorted i ↔ (IsWaiting (fate_at desk.ledger i.0) × Contains (reclaims h.world q) (Item (slot_at desk i.0)))) (sym is)
+                (all.2 i);
+            due = record {
+              ascending = all.0;
+              exactly = λ i. subst (λ q. Contains sorted i ↔ Contains (due_at desk.ledger.time q) (Item i.0)) (sym is) (all.1 i);
+              unguarded = λ i c g y e.
+                  (let went = (all.2 i).0 c in
+                  unguarded desk name.0 (record { place = index_of a.place; since = a.since }) refl t.sound whole (sym there) i.0 went.0 went.1 g y e);
+            };
+            no_job = refl;
+          }
+
+-- where nothing is reclaimed, nothing is due
+pub plain : (d : Desk) (call : Call) (given : Reply) (new : Desk) → ((i : ℕ) → IsDue d.ledger call given i → ⊥) →
+    NamesWhatGoes d call given [] → Acts d call given new → Answers d call (record { reply = given; reclaimed = []; ran = [] }) new
+plain d call given new none goes acts = record {
+  acts = acts;
+  goes = goes;
+  due = record {
+    ascending = λ k lt. absurd (omega (arith, lt));
+    exactly = λ i. ((λ c. absurd (omega (arith, c.1))), (λ h. absurd (none i.0 h)));
+    unguarded = λ i c. absurd (omega (arith, c.1));
+  };
+  no_job = refl;
+}
+
+-- nothing is in hand at the start
+pub tied-start : (h : Hand) (l : Limits) → IsNew l 0 h.world → h.moment ≡ 0 → h.places.entries.items ≡ [] → h.guards.entries.items ≡ [] →
+    h.owners.entries.items ≡ [] → h.slots.items ≡ [] → h.fates.items ≡ [] → length h.names.items ≡ l.slots → IsTied h
+tied-start h l new start places guards owners slots fates long =
+    let u = time_by (slice_index h.names.items) h.world.time in
+    let same : desk_of h ≡ record {
+      world = h.world;
+      ledger = record { moment = 0; time = u; places = []; guards = []; owners = []; items = [] };
+      slots = [];
+      names = h.names.items;
+    } = cc (start, ap (map attending) places, ap (map guarding) guards, ap (map item_held) owners, slots, fates) in
+    record {
+      sound = subst IsSound (sym same) (sound-start l h.world u h.names.items new long);
+      owners = λ o. subst (λ os. OwnsItem h.world.home.slots h.slots.items (slice_index_or os o None)) (sym owners) tt;
+      guards = λ g. subst (λ gs. GuardsIn (map attending h.places.entries.items) (slice_index_or gs g None)) (sym guards) tt;
+    }

@@ -97,7 +97,7 @@ length-closed t p = by (nat_lt 1 (place_at t p).guards) (is_open (place_at t p))
 module _ (w : World Val) (l : Ledger) (a : IsAttended w l) where
   -- no guard is opened or closed
   pub attended-same : (v : World Val) (t : Time) (owners : List (Option ℕ)) (items : List Fate) → length v.time.places ≡ length w.time.places →
-      ((q : ℕ) → (place_at v.time q).guards ≡ (place_at w.time q).guards) → (0 < length items → IsSome (slice_index_or l.places 0 None)) →
+      ((q : ℕ) → (place_at v.time q).guards ≡ (place_at w.time q).guards) → (0 < length items → (n : ℕ) × IsSome (slice_index_or l.places n None)) →
       IsAttended v (record l { time = t; owners = owners; items = items })
   attended-same v t owners items long same placed = record {
     inside = λ n x e. omega (arith, a.inside n x e, long);
@@ -165,8 +165,8 @@ module _ (w : World Val) (l : Ledger) (a : IsAttended w l) where
             ];
         placed = λ some.
             let there = a.placed some in
-            let lt = inside l.places 0 there in
-            subst (λ x. IsSome x) (sym (at-pushed l.places (Some new) None 0 (λ z. omega (arith, z, lt)))) there;
+            let lt = inside l.places there.0 there.1 in
+            (there.0, subst (λ x. IsSome x) (sym (at-pushed l.places (Some new) None there.0 (λ z. omega (arith, z, lt)))) there.1);
       }
 
   -- participant n closes its guard g
@@ -255,9 +255,10 @@ module _ (w : World Val) (l : Ledger) (a : IsAttended w l) where
       own true = (n, x, there, refl, a.early n x there)
       own false = (n, new, at-same l.places n (Some new) None (inside l.places n (ap is_some there)), refl, omega arith)
 
-    placed : (b : Bool) → 0 < length items → IsSome (slice_index_or (places b) 0 None)
+    placed : (b : Bool) → 0 < length items → (m : ℕ) × IsSome (slice_index_or (places b) m None)
     placed true some = a.placed (omega (arith, some, long))
-    placed false some = as-each is_some l.places n (Some new) None (sym (ap is_some there)) 0 ∙ a.placed (omega (arith, some, long))
+    placed false some =
+        let was = a.placed (omega (arith, some, long)) in (was.0, as-each is_some l.places n (Some new) None (sym (ap is_some there)) was.0 ∙ was.1)
 
     -- participant n opens a guard at its place
     pub attended-opened : IsAttended v (record l { time = t; places = places (is_open (place_at w.time x.place)); guards = guards; items = items })

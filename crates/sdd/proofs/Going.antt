@@ -243,7 +243,7 @@ module _ (d : Desk) (s : IsSound d) where
 
   -- ---- an item is made
   module _ (c k : ℕ) (v : Val) (whole : IsWhole d.world) (cell : IsEmptyAt d.world.cells c) (slot : IsEmptyAt d.world.standings k) (link : link_of v ≡ c)
-      (placed : IsSome (slice_index_or d.ledger.places 0 None)) where
+      (placed : (n : ℕ) × IsSome (slice_index_or d.ledger.places n None)) where
     abbrev pub with_item : Desk
     with_item = record d {
       world = steps.made (steps.nulled d.world c) k v;

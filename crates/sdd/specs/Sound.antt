@@ -65,7 +65,7 @@ pub record IsAttended (w : World Val) (l : Ledger) : Type 0 where
   -- in a line so far
   pub early : (n : ℕ) (x : Opening) → slice_index_or l.places n None ≡ Some x → x.since ≤ l.moment + 1
   -- an item was made by some participant
-  pub placed : 0 < length l.items → IsSome (slice_index_or l.places 0 None)
+  pub placed : 0 < length l.items → (n : ℕ) × IsSome (slice_index_or l.places n None)
 
 -- the slot's item waits, as long as a guard of p is open
 abbrev pub Keeps : World Val → (p k : ℕ) → Type 0

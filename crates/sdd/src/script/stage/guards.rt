@@ -129,7 +129,7 @@ pub fn under<'s>(
     name: PlaceName,
     guard: GuardName,
 ) -> Option<(&'s Attending, &'s Guard)>
-    ensures open { MatchOption result
+    ensures valid { MatchOption result
         (¬ (HasOpen (map attending places.now.entries.items) (map guarding guards.now.entries.items) name.0 guard.0))
         (λ _. HasOpen (map attending places.now.entries.items) (map guarding guards.now.entries.items) name.0 guard.0) }
     ensures found { IfSome result (λ found. (attending (Some found.0.now) ≡ slice_index_or (map attending places.now.entries.items) name.0 None)

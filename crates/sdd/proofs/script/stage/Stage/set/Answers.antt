@@ -1,0 +1,14 @@
+use Rattle.std.proofs.Common.{◌≡◌, ℕ, refl, sym, ap, ◌∙◌, subst}
+use Rattle.sdd_lines.specs.declared.call.Call.TheVariants.{At}
+use Rattle.sdd_lines.specs.declared.call.Action.TheVariants as call
+use Rattle.sdd_lines.specs.declared.answer.Reply.TheVariants as reply
+use Rattle.sdd.specs.Stage.{desk_of}
+use Rattle.sdd.proofs.Acts.{acts-stirred, goes-stirred}
+use Rattle.sdd.proofs.script.stage.Stage.set.Goals as goal
+
+pub invariant_of-self : goal.invariant_of-self
+invariant_of-self c =
+    (goes-stirred c.self.inside.hand c.self.invariant c.args.name.0 c.in-Some.attending.now c.in-Some.ensures.found.0 c.stir_at.new.world c.stir_at.ensures).tied
+
+pub returns : goal.returns
+returns c = ?
