@@ -464,6 +464,16 @@ plain d call given new none goes acts = record {
   no_job = refl;
 }
 
+-- what a name stands for, as the desk has it
+pub got : (places : Named Attending) (n : ℕ) (a : Attending) → Some a ≡ slice_index_or places.entries.items n None →
+    attending (Some a) ≡ slice_index_or (map attending places.entries.items) n None
+got places n a e = ap attending e ∙ sym (get_or-map attending places.entries.items n None)
+
+-- an owner's item was given its name
+pub owner-inside : (h : Hand) → IsTied h → (o : ℕ) (held : Held) → slice_index_or h.owners.entries.items o None ≡ Some held → held.item < length h.fates.items
+owner-inside h t o held e =
+    fate-inside h.fates.items held.item (t.sound.owned.out o held.item (get_or-map item_held h.owners.entries.items o None ∙ ap item_held e))
+
 -- nothing is in hand at the start
 pub tied-start : (h : Hand) (l : Limits) → IsNew l 0 h.world → h.moment ≡ 0 → h.places.entries.items ≡ [] → h.guards.entries.items ≡ [] →
     h.owners.entries.items ≡ [] → h.slots.items ≡ [] → h.fates.items ≡ [] → length h.names.items ≡ l.slots → IsTied h

@@ -103,10 +103,7 @@ impl Stage {
     pub fn close_guard(&mut self, name: PlaceName, guard: GuardName) -> Reply
         ensures acts { Acts self.old (Call.At name (Action.Close guard)) result self.new }
     {
-        if under(&self.hand.places, &self.hand.guards, name, guard).is_none() {
-            return Reply::Invalid;
-        }
-        let Some(attending) = self.hand.places.get(name.0) else {
+        let Some((attending, _)) = under(&self.hand.places, &self.hand.guards, name, guard) else {
             return Reply::Invalid;
         };
         let Some(Guarding {
@@ -123,12 +120,12 @@ impl Stage {
 }
 
 /// The participant of this name, and its guard of this name, if both are there.
-pub fn under<'s>(
-    places: &'s Named<Attending>,
-    guards: &'s Named<Guarding>,
+pub fn under<'p, 'g>(
+    places: &'p Named<Attending>,
+    guards: &'g Named<Guarding>,
     name: PlaceName,
     guard: GuardName,
-) -> Option<(&'s Attending, &'s Guard)>
+) -> Option<(&'p Attending, &'g Guard)>
     ensures valid { MatchOption result
         (¬ (HasOpen (map attending places.now.entries.items) (map guarding guards.now.entries.items) name.0 guard.0))
         (λ _. HasOpen (map attending places.now.entries.items) (map guarding guards.now.entries.items) name.0 guard.0) }

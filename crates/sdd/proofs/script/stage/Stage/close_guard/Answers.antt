@@ -1,24 +1,35 @@
-use Rattle.std.proofs.Common.{rules, All, ◌≡◌, ℕ, ◌+◌, ◌^◌, ◌<◌, [], IfOk, IfSome, None, Some, MatchOption, MatchResult, length, map, slice_index_or, ◌-◌, ◌*◌, ◌≤◌, ◌/◌, ◌%◌, Bool, true, false, nat_eq, nat_lt, List, ◌∷◌, ◌++◌, slice_set, bit_and, bit_or, Fits, w8, w32, w64, Bor, MutBor}
-use Rattle.sdd_core.specs.Epoch.{epoch_of}
-use Rattle.sdd_store.specs.Time.{CanNest}
-use Rattle.sdd_base.specs.Guard.{place_of}
-use Rattle.sdd_base.specs.World.{IsPlaceOf}
-use Rattle.sdd_base.specs.Steps.{opened, closed, stirred, accelerated}
-use Rattle.sdd_world.specs.Place.{index_of}
-use Rattle.sdd.specs.Val.{holdings_of}
-use Rattle.sdd.specs.Ledger.{all_gone}
-use Rattle.sdd.specs.Stage.{attending, guarding, item_named, what_named, opened_since, HasOpen}
+use Rattle.std.proofs.Common.{◌≡◌, Some, None, sym, subst}
+use Rattle.sdd_lines.specs.declared.call.Call.TheVariants.{Register, At}
+use Rattle.sdd_lines.specs.declared.call.Action.TheVariants as call
+use Rattle.sdd_lines.specs.declared.answer.Reply.TheVariants as reply
+use Rattle.sdd.specs.Desk.{Desk}
 use Rattle.sdd.specs.Script.{Acts, Answers}
+use Rattle.sdd.specs.Stage.{desk_of, attending}
+use Rattle.sdd_world.specs.Place.{index_of}
+use Rattle.sdd.proofs.Acts.{in-range, guard-is, goes-closed, acts-closed}
 use Rattle.sdd.proofs.script.stage.Stage.close_guard.Goals as goal
 
--- src/script/stage/guards.rt:120:9
 pub close_at-requires-clause-place : goal.close_at-requires-clause-place
-close_at-requires-clause-place c = ?
+close_at-requires-clause-place c =
+    in-range c.self.inside.hand c.self.invariant c.args.name.0 c.in-Some.attending.now
+    c.in-Some.ensures.found.0
 
--- src/script/stage/guards.rt:103:5
 pub invariant_of-self-2 : goal.invariant_of-self-2
-invariant_of-self-2 c = ?
+invariant_of-self-2 c =
+    (goes-closed c.self.inside.hand c.self.invariant c.close_at.new.world c.take.new.self.entries c.args.guard.0 (index_of c.in-Some.attending.now.place)
+    c.in-Some-take.field-0 (sym c.in-Some-take.ensures.taken)
+    (guard-is c.self.inside.hand c.self.invariant c.args.name c.in-Some.attending.now
+    c.in-Some.ensures.found.0 c.args.guard.0 c.in-Some-take.field-0
+    c.in-Some.ensures.valid (sym c.in-Some-take.ensures.taken)) c.in-Some-take.ensures.spent c.close_at.ensures).tied
 
--- src/script/stage/guards.rt:103:5
 pub returns : goal.returns
-returns c = ?
+returns c = record {
+  acts = subst (λ (d : Desk). Acts d (At c.args.name (call.Close c.args.guard)) reply.Done (desk_of (record c.self.inside.hand {
+        world = c.close_at.new.world;
+        guards = c.take.new.self;
+      }))) c.self.view_is
+      (acts-closed c.self.inside.hand c.self.invariant c.args.name c.in-Some.attending.now
+      c.in-Some.ensures.found.0 c.args.guard c.close_at.new.world c.take.new.self.entries
+      c.in-Some-take.field-0
+      c.in-Some.ensures.valid (sym c.in-Some-take.ensures.taken) c.in-Some-take.ensures.spent c.close_at.ensures);
+}

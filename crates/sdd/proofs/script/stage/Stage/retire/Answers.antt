@@ -1,28 +1,42 @@
-use Rattle.std.proofs.Common.{rules, ◌≡◌, ◌≢◌, ℕ, IfOk, IsSome, None, Some, MatchOption, MatchResult, length, slice_index_or, ◌+◌, ◌-◌, ◌*◌, ◌<◌, ◌≤◌, ◌/◌, ◌%◌, Bool, true, false, nat_eq, nat_lt, List, [], ◌∷◌, ◌++◌, slice_set, bit_and, bit_or, Fits, w8, w32, w64, Bor, MutBor}
-use Rattle.sdd_base.specs.Steps.{retired}
-use Rattle.sdd_base.specs.World.{IsPlaceOf, standing_at, value_at}
-use Rattle.sdd_base.specs.Owned.{slot_of, slots_home}
-use Rattle.sdd_store.specs.declared.standing.Standing.TheVariants as standing
+use Rattle.std.proofs.Common.{◌≡◌, Option, Some, None, slice_index_or, map, refl, sym, subst, arith}
+use Rattle.std.specs.Vec.{with_item}
 use Rattle.sdd_world.specs.Place.{index_of}
-use Rattle.sdd.specs.declared.script.val.Val.{Val}
-use Rattle.sdd.specs.Val.{body_of}
-use Rattle.sdd.specs.Ledger.{IsThereSince}
-use Rattle.sdd.specs.Made.{Makes, RefusesItem}
-use Rattle.sdd.specs.Script.{Acts}
+use Rattle.sdd.specs.declared.script.fate.Fate.TheVariants.{Retired}
+use Rattle.sdd_lines.specs.declared.call.Call.TheVariants.{Register, At}
+use Rattle.sdd_lines.specs.declared.call.Action.TheVariants as call
+use Rattle.sdd_lines.specs.declared.answer.Reply.TheVariants as reply
+use Rattle.sdd.specs.Desk.{Desk}
+use Rattle.sdd.specs.Script.{Acts, Answers}
+use Rattle.sdd.specs.Stage.{desk_of, attending}
+use Rattle.sdd.proofs.Acts.{in-range, got, owner-inside, goes-retired, acts-retired}
 use Rattle.sdd.proofs.script.stage.Stage.retire.Goals as goal
 
--- src/script/stage/items.rt:72:9
 pub retire_item-requires-clause-place : goal.retire_item-requires-clause-place
-retire_item-requires-clause-place c = ?
+retire_item-requires-clause-place c = in-range c.self.inside.hand c.self.invariant c.args.name.0 c.in-Some.attending.now
+    (got c.self.inside.hand.places c.args.name.0 c.in-Some.attending.now c.in-Some.ensures)
 
--- src/script/stage/items.rt:73:9
 pub index_mut-requires : goal.index_mut-requires
-index_mut-requires c = ?
+index_mut-requires c = omega (arith, owner-inside c.self.inside.hand c.self.invariant c.args.owner.0 c.in-Some-take.field-0 (sym c.in-Some-take.ensures.taken))
 
--- src/script/stage/items.rt:62:5
 pub invariant_of-self-2 : goal.invariant_of-self-2
-invariant_of-self-2 c = ?
+invariant_of-self-2 c =
+    (goes-retired c.self.inside.hand c.self.invariant c.retire_item.new.world c.take.new.self.entries
+    (with_item c.self.inside.hand.fates c.in-Some-take.field-0.item (Retired c.self.inside.hand.moment)) (index_of c.in-Some.attending.now.place) c.args.owner.0
+    c.in-Some-take.field-0 (sym c.in-Some-take.ensures.taken)
+    (in-range c.self.inside.hand c.self.invariant c.args.name.0 c.in-Some.attending.now
+    (got c.self.inside.hand.places c.args.name.0 c.in-Some.attending.now c.in-Some.ensures))
+    c.keeps_under_guards.ensures.retired c.in-Some-take.ensures.spent refl c.retire_item.ensures.retired).tied
 
--- src/script/stage/items.rt:62:5
 pub returns : goal.returns
-returns c = ?
+returns c = record {
+  acts = subst (λ (d : Desk). Acts d (At c.args.name (call.Retire c.args.owner)) reply.Done (desk_of (record c.self.inside.hand {
+        world = c.retire_item.new.world;
+        owners = c.take.new.self;
+        fates = with_item c.self.inside.hand.fates c.in-Some-take.field-0.item (Retired c.self.inside.hand.moment);
+      }))) c.self.view_is
+      (acts-retired c.self.inside.hand c.self.invariant c.args.name c.in-Some.attending.now
+      (got c.self.inside.hand.places c.args.name.0 c.in-Some.attending.now c.in-Some.ensures) c.args.owner c.retire_item.new.world c.take.new.self.entries
+      (with_item c.self.inside.hand.fates c.in-Some-take.field-0.item (Retired c.self.inside.hand.moment))
+      c.in-Some-take.field-0 (sym c.in-Some-take.ensures.taken) c.keeps_under_guards.ensures.retired c.in-Some-take.ensures.spent refl
+      c.retire_item.ensures.retired);
+}
