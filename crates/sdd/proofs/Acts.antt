@@ -4,7 +4,7 @@ use Rattle.std.specs.Prelude.{Contains, ◌↔◌}
 use Rattle.std.specs.List.Sorted.{IsPermutation, IsNonDecreasingBy}
 use Rattle.std.proofs.Math.ListN.{get_or-map}
 use Rattle.std.proofs.lemmas.Bool.{cases_eq}
-use Rattle.std.proofs.lemmas.List.{map-set, map_push, length-map, length-set, get_or_past}
+use Rattle.std.proofs.lemmas.List.{map-set, map_push, length-map, length-set, get_or_past, get_or_default}
 use Rattle.std.specs.Option.{option_map}
 use Rattle.std.specs.Global.{Vec}
 use Rattle.sdd_core.specs.Epoch.{epoch_of}
@@ -468,6 +468,28 @@ plain d call given new none goes acts = record {
 pub got : (places : Named Attending) (n : ℕ) (a : Attending) → Some a ≡ slice_index_or places.entries.items n None →
     attending (Some a) ≡ slice_index_or (map attending places.entries.items) n None
 got places n a e = ap attending e ∙ sym (get_or-map attending places.entries.items n None)
+
+-- the outermost opening of a participant that is there is noted
+pub renoted : (places : List (Option Attending)) (n since : ℕ) (a : Attending) (x : Option Attending) → n < length places → x ≡ Some a →
+    x ≡ slice_index_or places n x → map attending (slice_set places n (Some (record a { since = since }))) ≡ opened_since (map attending places) n since
+renoted places n since a x lt is there =
+    let entry : slice_index_or (map attending places) n None ≡ attending (Some a) =
+    get_or-map attending places n None ∙ ap attending (get_or_default places n None x lt ∙ sym there ∙ is) in
+    map-set attending places n (Some (record a { since = since }))
+    ∙ ap (λ o. slice_set (map attending places) n (option_map (λ (y : Opening). record y { since = since }) o)) (sym entry)
+
+-- whether it is an outermost opening or not, the ledger notes it so
+pub noted-is : (h : Hand) (t : IsTied h) (n since : ℕ) (a : Attending) (there : attending (Some a) ≡ slice_index_or (desk_of h).ledger.places n None)
+    (nested : Bool) (new : List (Option Opening)) → nested ≡ is_open (time.place_at h.world.time (index_of a.place)) → since ≡ h.moment + 1 →
+    new ≡ (if nested then (desk_of h).ledger.places else opened_since (desk_of h).ledger.places n since) →
+    new ≡ noted h t n a there (is_open (time.place_at (desk_of h).ledger.time (index_of a.place)))
+noted-is h t n since a there nested new is line e =
+    let same : is_open (time.place_at (desk_of h).ledger.time (index_of a.place)) ≡ nested =
+    ap is_open (by-place (slice_index h.names.items) h.world.time (index_of a.place)) ∙ sym is in
+    let entry : option_map (λ (x : Opening). record x { since = since }) (slice_index_or (desk_of h).ledger.places n None)
+    ≡ Some (record { place = index_of a.place; since = h.moment + 1 }) =
+    ap (option_map (λ (x : Opening). record x { since = since })) (sym there) ∙ ap (λ k. Some (record { place = index_of a.place; since = k })) line in
+    e ∙ ap (λ o. if nested then (desk_of h).ledger.places else slice_set (desk_of h).ledger.places n o) entry ∙ ap (noted h t n a there) (sym same)
 
 -- an owner's item was given its name
 pub owner-inside : (h : Hand) → IsTied h → (o : ℕ) (held : Held) → slice_index_or h.owners.entries.items o None ≡ Some held → held.item < length h.fates.items

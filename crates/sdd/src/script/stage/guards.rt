@@ -1,5 +1,5 @@
 //! What participants do with guards.
-ghost use Rattle.std.specs.Prelude.{All, ◌≡◌, ℕ, ◌+◌, ◌^◌, ◌<◌, [], IfOk, IfSome, None, Some, MatchOption, MatchResult, length, map, slice_index_or};
+ghost use Rattle.std.specs.Prelude.{All, ◌≡◌, ℕ, ◌+◌, ◌^◌, ◌<◌, [], IfOk, IfSome, None, Some, MatchOption, MatchResult, length, map, slice_index_or, if◌then◌else◌};
 ghost use Rattle.sdd_core.specs.Epoch.{epoch_of};
 ghost use Rattle.sdd_store.specs.Time.{CanNest};
 ghost use Rattle.sdd_base.specs.Guard.{place_of};
@@ -33,19 +33,17 @@ impl Stage {
             return Ok(self.answer(Reply::Invalid));
         };
         self.hand.guards.make_room()?;
+        self.hand.world.is_whole();
         let slots = reclaims_next(&self.hand.world, &attending.place);
         let mut due = names_of(self.hand.alloc, slots, self.hand.names.as_slice())?;
         let is_nested = is_open(&self.hand.world, &attending.place);
-        self.hand.world.is_whole();
         let (guard, epoch) = match open_at(&mut self.hand.world, &attending.place) {
             Ok(opened) => opened,
             Err(refused) => return Ok(self.answer(Reply::Refused(refused))),
         };
         let since = self.hand.moment + 1;
         mark_gone(&mut self.hand.fates, due.as_slice());
-        if !is_nested {
-            note_opening(&mut self.hand.places, name.0, since);
-        }
+        note_opening(&mut self.hand.places, name.0, since, is_nested);
         let participant = name.0;
         let name = self.hand.guards.give(Guarding {
             guard,
@@ -206,14 +204,16 @@ fn mark_gone(fates: &mut Vec<Fate>, names: &[ItemName])
     }
 }
 
-/// The participant's outermost opening was in the line before this one.
-fn note_opening(places: &mut Named<Attending>, name: u64, since: u64)
-    ensures { map attending places.new.entries.items ≡ opened_since (map attending places.old.entries.items) name since }
+/// An opening that isn't nested is the participant's last outermost one, in the line before this one.
+fn note_opening(places: &mut Named<Attending>, name: u64, since: u64, is_nested: bool)
+    requires { name < length places.old.entries.items }
+    ensures { map attending places.new.entries.items
+        ≡ (if is_nested then map attending places.old.entries.items else opened_since (map attending places.old.entries.items) name since) }
 {
-    let Ok(index) = usize::try_from(name) else {
+    if is_nested {
         return;
-    };
-    if let Some(Some(attending)) = places.entries.get_mut(index) {
+    }
+    if let Some(attending) = &mut places.entries[name as usize] {
         attending.since = since;
     }
 }
