@@ -17,7 +17,7 @@ use Rattle.sdd_base.specs.Owned.{slot_of, slots_home}
 use Rattle.sdd_store.specs.Waiting.What.{Item}
 use Rattle.sdd_base.specs.Holding.{Home}
 use Rattle.sdd_base.specs.declared.limits.Limits.{Limits}
-use Rattle.sdd_base.specs.World.{World, IsNew, IsPlaceOf, standing_at}
+use Rattle.sdd_base.specs.World.{World, IsNew, IsPlaceOf, standing_at, value_at}
 use Rattle.sdd_base.specs.Steps.{reclaims, registered, made, nulled, retired, opened, closed, stirred, accelerated}
 use Rattle.sdd_base.specs.Whole.{IsWhole, times_waiting, once_if}
 use Rattle.sdd_base.specs.Under.{KeepsUnderGuards}
@@ -35,16 +35,17 @@ use Rattle.sdd_lines.specs.declared.call.Action.TheVariants as call
 use Rattle.sdd_lines.specs.declared.answer.Reply.TheVariants as reply
 use Rattle.sdd.specs.declared.script.val.Val.{Val}
 use Rattle.sdd.specs.declared.script.fate.Fate.{Fate}
-use Rattle.sdd.specs.declared.script.fate.Fate.TheVariants.{Out, Retired}
+use Rattle.sdd.specs.declared.script.fate.Fate.TheVariants.{Out, Retired, Gone}
 use Rattle.sdd.specs.declared.script.named.Named.{Named}
 use Rattle.sdd.specs.declared.script.stage.Attending.{Attending}
 use Rattle.sdd.specs.declared.script.stage.Guarding.{Guarding}
 use Rattle.sdd.specs.declared.script.stage.Held.{Held}
 use Rattle.sdd.specs.declared.script.stage.Hand.{Hand}
-use Rattle.sdd.specs.Val.{holdings_of}
+use Rattle.sdd_core.specs.declared.refused.Refused.{Refused}
+use Rattle.sdd.specs.Val.{holdings_of, body_of}
 use Rattle.sdd.specs.Ledger as ledger
-use Rattle.sdd.specs.Ledger.{Opening, fate_at, place_in, with_guard, with_retired, all_gone, due_at}
-use Rattle.sdd.specs.Made.{Makes}
+use Rattle.sdd.specs.Ledger.{Opening, IsThereSince, fate_at, place_in, since_in, with_guard, with_retired, all_gone, due_at}
+use Rattle.sdd.specs.Made.{Makes, RefusesItem}
 use Rattle.sdd.specs.Desk.{Desk, slot_at}
 use Rattle.sdd.specs.Due.{IsDue}
 use Rattle.sdd.specs.Script.{Acts, Answers, IsWaiting, NamesWhatGoes}
@@ -56,7 +57,7 @@ use Rattle.sdd.proofs.Entry.{at-other, at-pushed, at-end, at-default, as-each, i
 use Rattle.sdd.proofs.Reclaiming.{leaves-opened}
 use Rattle.sdd.proofs.Naming.{due-found, names-due}
 use Rattle.sdd.proofs.Opening.{sound-opened, unguarded}
-use Rattle.sdd.proofs.Going.{sound-written, sound-registered, sound-closed, sound-retired, sound-made, sound-start, renamed, fate-inside}
+use Rattle.sdd.proofs.Going.{sound-written, sound-registered, sound-closed, sound-retired, sound-made, sound-start, renamed, fate-inside, stands-there}
 
 -- what is left in hand is sound, and is this desk
 pub record Goes (new : Hand) (e : Desk) : Type 0 where
@@ -405,9 +406,48 @@ module _ (h : Hand) (t : IsTied h) (name : PlaceName) where
         let goes = goes-made h t w owners slots fates named number k held m whole some few slot home item pushed more_slots more_fates written in
         (goes.tied, subst (Acts desk (At name (call.Owned number)) (reply.Item o i)) (sym goes.desk)
         ((is-place, (owner_name ∙ sym (length-map h.owners.entries.items item_held), item_name,
-        (m.cell, k, m.value, m.free_cell, m.free_slot, m.body, m.link, m.home, (refl, refl, refl)))), refl)) where
+        (k, w, m, (sym m.made, refl, refl)))), refl)) where
       some : (n : ℕ) × IsSome (slice_index_or desk.ledger.places n None)
       some = (name.0, is-place)
+
+    pub acts-refused : (w : World Val) (owners : Vec (Option Held)) (slots : Vec ℕ) (fates : Vec Fate) (number : ℕ) (refused : Refused) →
+        RefusesItem h.world refused → w ≡ h.world → owners.items ≡ h.owners.entries.items → slots.items ≡ h.slots.items → fates.items ≡ h.fates.items →
+        Acts desk (At name (call.Owned number)) (reply.Refused refused)
+        (desk_of (record h { world = w; owners = record { entries = owners }; slots = slots; fates = fates }))
+    acts-refused w owners slots fates number refused why world same_owners same_slots same_fates =
+        let kept : desk_of (record h { owners = record { entries = owners }; slots = slots; fates = fates }) ≡ desk =
+        ap (λ (os : List (Option ℕ)). record desk { ledger = record desk.ledger { owners = os; items = fates.items }; slots = slots.items })
+        (ap (map item_held) same_owners)
+        ∙ ap (λ (fs : List Fate). record desk { ledger = record desk.ledger { items = fs }; slots = slots.items }) same_fates
+        ∙ ap (λ (ks : List ℕ). record desk { slots = ks }) same_slots in
+        let same : desk_of (record h { world = w; owners = record { entries = owners }; slots = slots; fates = fates }) ≡ desk =
+        ap (λ (v : World Val). desk_of (record h { world = v; owners = record { entries = owners }; slots = slots; fates = fates })) world ∙ kept in
+        subst (Acts desk (At name (call.Owned number)) (reply.Refused refused)) (sym same) ((is-place, (why, refl)), refl)
+
+    pub acts-read : (o : OwnerName) (held : Held) (v : Val) (number : ℕ) → Some held ≡ slice_index_or h.owners.entries.items o.0 None →
+        value_at h.world (slot_of held.owner) ≡ Some v → number ≡ body_of v → Acts desk (At name (call.Read o)) (reply.Value number) desk
+    acts-read o held v number here shown is =
+        let entry : slice_index_or desk.ledger.owners o.0 None ≡ Some held.item =
+        get_or-map item_held h.owners.entries.items o.0 None ∙ sym (ap item_held here) in
+        let owns : IsOwnerIn h.world.home.slots h.slots.items held = subst (OwnsItem h.world.home.slots h.slots.items) (sym here) (t.owners o.0) in
+        (((is-place, is-there desk.ledger.owners o.0 held.item entry),
+        ((held.item, entry, (v, ap (value_at h.world) (sym owns.slot_is) ∙ shown, sym is)), refl)), refl)
+
+    -- an item that the participant can point to stands in its slot
+    pub can-point : (i : ℕ) → IsThereSince a.since (fate_at desk.ledger i) → IsSome (standing_at h.world (slot_at desk i))
+    can-point i since = stands-there (fate_at desk.ledger i) (standing_at h.world (slot_at desk i)) (since-there (fate_at desk.ledger i) since)
+        (t.sound.stocked.stands i) where
+      since-there : (f : Fate) → IsThereSince a.since f → IsThere f
+      since-there Out s = tt
+      since-there (Retired at) s = tt
+      since-there Gone s = s
+
+    pub acts-looked : (i : ItemName) (g : GuardName) (k : ℕ) (v : Val) (number : ℕ) → HasOpen desk.ledger.places desk.ledger.guards name.0 g.0 →
+        IsThereSince a.since (fate_at desk.ledger i.0) → k ≡ slot_at desk i.0 → value_at h.world k ≡ Some v → body_of v ≡ number →
+        Acts desk (At name (call.Look i g)) (reply.Value number) desk
+    acts-looked i g k v number valid since slot shown is =
+        let can = subst (λ o. IsThereSince (since_in o) (fate_at desk.ledger i.0)) there since in
+        (((valid.0, valid.1, can), ((v, ap (value_at h.world) (sym slot) ∙ shown, is), refl)), refl)
 
     -- an opening, which found these slots, and these names
     module _ (w : World Val) (places : Vec (Option Attending)) (guards : Vec (Option Guarding)) (fates : Vec Fate) (held : Guarding)

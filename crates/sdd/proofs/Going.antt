@@ -50,7 +50,7 @@ there-inside items i h =
 pub fate-inside : (items : List Fate) (i : ℕ) → slice_index_or items i Gone ≡ Out → i < length items
 fate-inside items i e = there-inside items i (subst IsThere (sym e) tt)
 
-stands-there : (f : Fate) (o : Option Standing) → IsThere f → StandsAs f o → IsSome o
+pub stands-there : (f : Fate) (o : Option Standing) → IsThere f → StandsAs f o → IsSome o
 stands-there Out o h e = ap is_some e
 stands-there (Retired at) o h e = ap is_some e
 stands-there Gone o h e = absurd h

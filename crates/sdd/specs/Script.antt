@@ -1,13 +1,12 @@
 -- The meaning of a script: what its calls answer, and what they leave
 use Rattle.std.specs.Prelude.{ℕ, ◌<◌, ◌≡◌, List, [], ◌∷◌, ◌++◌, None, Some, IsSome, Contains, length, slice_index_or, slice_set, ◌↔◌}
 use Rattle.sdd_core.specs.Epoch.{epoch_of}
-use Rattle.sdd_core.specs.declared.refused.Refused.TheVariants.{NoSlot, NoCell, NoPlace, TooManyGuards}
+use Rattle.sdd_core.specs.declared.refused.Refused.TheVariants.{NoPlace, TooManyGuards}
 use Rattle.sdd_store.specs.Waiting.What.{Item}
 use Rattle.sdd_store.specs.Time.{IsCrowded, CanNest, has_garbage}
-use Rattle.sdd_store.specs.Table.{IsEmptyAt, IsFull}
 use Rattle.sdd_base.specs.declared.limits.Limits.{Limits}
 use Rattle.sdd_base.specs.World.{World, place_at, value_at}
-use Rattle.sdd_base.specs.Steps.{registered, nulled, made, retired, opened, closed, stirred, accelerated, reclaims}
+use Rattle.sdd_base.specs.Steps.{registered, retired, opened, closed, stirred, accelerated, reclaims}
 use Rattle.sdd_lines.specs.declared.name.ItemName.{ItemName}
 use Rattle.sdd_lines.specs.declared.call.Call.{Call}
 use Rattle.sdd_lines.specs.declared.call.Call.TheVariants.{Register, Tally, At}
@@ -19,7 +18,8 @@ use Rattle.sdd_lines.specs.declared.answer.Reply.TheVariants as reply
 use Rattle.sdd.specs.declared.script.fate.Fate.{Fate}
 use Rattle.sdd.specs.declared.script.fate.Fate.TheVariants.{Out, Retired, Gone}
 use Rattle.sdd.specs.declared.script.val.Val.{Val}
-use Rattle.sdd.specs.Val.{holdings_of, body_of, link_of, link_home}
+use Rattle.sdd.specs.Val.{holdings_of, body_of}
+use Rattle.sdd.specs.Made.{Makes, RefusesItem}
 use Rattle.sdd.specs.Ledger.{Ledger, IsPlace, IsGuardOf, IsOwnerOf, CanPointTo, place_of, fate_at, first, after, later}
 use Rattle.sdd.specs.Due.{NamesWhatIsDue, AllDue}
 use Rattle.sdd.specs.Desk.{Desk, IsStart, slot_at}
@@ -62,10 +62,8 @@ Does old p (call.Accelerate g) reply.Done new = HasWorld old (accelerated old.wo
 -- a free cell and a free slot are taken, whichever
 Does old p (call.Owned number) (reply.Item o i) new =
     (o.0 ≡ length old.ledger.owners) × (i.0 ≡ length old.ledger.items)
-    × ((c : ℕ) × (k : ℕ) × (v : Val) × IsEmptyAt old.world.cells c × IsEmptyAt old.world.standings k
-    × (body_of v ≡ number) × (link_of v ≡ c) × (link_home v ≡ old.world.home.cells) × HasItem old k (made (nulled old.world c) k v) new)
-Does old p (call.Owned number) (reply.Refused NoCell) new = IsFull old.world.cells × (new ≡ old)
-Does old p (call.Owned number) (reply.Refused NoSlot) new = ¬ (IsFull old.world.cells) × IsFull old.world.standings × (new ≡ old)
+    × ((k : ℕ) × (world : World Val) × Makes old.world number k world × HasItem old k world new)
+Does old p (call.Owned number) (reply.Refused refused) new = RefusesItem old.world refused × (new ≡ old)
 Does old p (call.Read o) (reply.Value number) new = ((i : ℕ) × IsOwnerOf old.ledger i o.0 × ShowsNumber old i number) × (new ≡ old)
 Does old p (call.Look i g) (reply.Value number) new = ShowsNumber old i.0 number × (new ≡ old)
 Does old p (call.Retire o) reply.Done new =

@@ -50,9 +50,9 @@ impl Stage {
     pub fn read(&mut self, name: PlaceName, owner: OwnerName) -> Reply
         ensures acts { Acts self.old (Call.At name (Action.Read owner)) result self.new }
     {
-        if self.hand.places.get(name.0).is_none() {
+        let Some(_) = self.hand.places.get(name.0) else {
             return Reply::Invalid;
-        }
+        };
         let Some(held) = self.hand.owners.get(owner.0) else {
             return Reply::Invalid;
         };
@@ -80,10 +80,11 @@ impl Stage {
         let Some((attending, guard)) = under(&self.hand.places, &self.hand.guards, name, guard) else {
             return Reply::Invalid;
         };
-        match slot_since(self.hand.fates.as_slice(), self.hand.slots.as_slice(), item, attending.since) {
-            Some(slot) => Reply::Value(number_shown(&self.hand.world, guard, slot)),
-            None => Reply::Invalid,
-        }
+        let fates = self.hand.fates.as_slice();
+        let Some(slot) = slot_since(fates, self.hand.slots.as_slice(), item, attending.since) else {
+            return Reply::Invalid;
+        };
+        Reply::Value(number_shown(&self.hand.world, guard, slot))
     }
 }
 

@@ -1,16 +1,16 @@
-use Rattle.std.proofs.Common.{rules, ◌≡◌, ◌≢◌, ℕ, IfOk, IsSome, None, Some, MatchOption, MatchResult, length, slice_index_or, ◌+◌, ◌-◌, ◌*◌, ◌<◌, ◌≤◌, ◌/◌, ◌%◌, Bool, true, false, nat_eq, nat_lt, List, [], ◌∷◌, ◌++◌, slice_set, bit_and, bit_or, Fits, w8, w32, w64, Bor, MutBor}
-use Rattle.sdd_base.specs.Steps.{retired}
-use Rattle.sdd_base.specs.World.{IsPlaceOf, standing_at, value_at}
-use Rattle.sdd_base.specs.Owned.{slot_of, slots_home}
-use Rattle.sdd_store.specs.declared.standing.Standing.TheVariants as standing
-use Rattle.sdd_world.specs.Place.{index_of}
-use Rattle.sdd.specs.declared.script.val.Val.{Val}
-use Rattle.sdd.specs.Val.{body_of}
-use Rattle.sdd.specs.Ledger.{IsThereSince}
-use Rattle.sdd.specs.Made.{Makes, RefusesItem}
+use Rattle.std.proofs.Common.{subst}
+use Rattle.sdd_lines.specs.declared.call.Call.TheVariants.{At}
+use Rattle.sdd_lines.specs.declared.call.Action.TheVariants as call
+use Rattle.sdd_lines.specs.declared.answer.Reply.TheVariants as reply
+use Rattle.sdd.specs.Desk.{Desk}
 use Rattle.sdd.specs.Script.{Acts}
+use Rattle.sdd.proofs.Acts.{got, acts-read}
 use Rattle.sdd.proofs.script.stage.Stage.read.Goals as goal
 
--- src/script/stage/items.rt:50:5
 pub returns : goal.returns
-returns c = ?
+returns c = record {
+  acts = subst (λ (d : Desk). Acts d (At c.args.name (call.Read c.args.owner)) (reply.Value c.body.result) d) c.self.view_is
+      (acts-read c.self.inside.hand c.self.invariant c.args.name c.in-Some.field-0.now
+      (got c.self.inside.hand.places c.args.name.0 c.in-Some.field-0.now c.in-Some.ensures) c.args.owner c.in-Some-get.held.now c.get-3.result.now c.body.result
+      c.in-Some-get.ensures c.get-3.ensures.shown c.body.ensures);
+}
