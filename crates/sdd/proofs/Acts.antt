@@ -53,7 +53,7 @@ use Rattle.sdd.specs.ByName.{time_by}
 use Rattle.sdd.specs.Sound.{IsSound, IsThere}
 use Rattle.sdd.specs.Stage.{attending, guarding, item_held, item_named, what_named, desk_of, opened_since, OwnsItem, IsOwnerIn, GuardsIn, IsTied, HasOpen}
 use Rattle.sdd.proofs.ByName.{by-stirred, by-accelerated, by-closed, by-registered, by-awaiting, by-opened, by-place}
-use Rattle.sdd.proofs.Entry.{at-other, at-pushed, at-end, at-default, as-each, inside, is-there}
+use Rattle.sdd.proofs.Entry.{at-other, at-pushed, at-end, at-default, as-each, inside, is-there, not-free}
 use Rattle.sdd.proofs.Reclaiming.{leaves-opened}
 use Rattle.sdd.proofs.Naming.{due-found, names-due}
 use Rattle.sdd.proofs.Opening.{sound-opened, unguarded}
@@ -490,20 +490,6 @@ module _ (h : Hand) (t : IsTied h) (name : PlaceName) where
             no_job = refl;
           }
 
--- where nothing is reclaimed, nothing is due
-pub plain : (d : Desk) (call : Call) (given : Reply) (new : Desk) → ((i : ℕ) → IsDue d.ledger call given i → ⊥) →
-    NamesWhatGoes d call given [] → Acts d call given new → Answers d call (record { reply = given; reclaimed = []; ran = [] }) new
-plain d call given new none goes acts = record {
-  acts = acts;
-  goes = goes;
-  due = record {
-    ascending = λ k lt. absurd (omega (arith, lt));
-    exactly = λ i. ((λ c. absurd (omega (arith, c.1))), (λ h. absurd (none i.0 h)));
-    unguarded = λ i c. absurd (omega (arith, c.1));
-  };
-  no_job = refl;
-}
-
 -- what a name stands for, as the desk has it
 pub got : (places : Named Attending) (n : ℕ) (a : Attending) → Some a ≡ slice_index_or places.entries.items n None →
     attending (Some a) ≡ slice_index_or (map attending places.entries.items) n None
@@ -530,6 +516,16 @@ noted-is h t n since a there nested new is line e =
     ≡ Some (record { place = index_of a.place; since = h.moment + 1 }) =
     ap (option_map (λ (x : Opening). record x { since = since })) (sym there) ∙ ap (λ k. Some (record { place = index_of a.place; since = k })) line in
     e ∙ ap (λ o. if nested then (desk_of h).ledger.places else slice_set (desk_of h).ledger.places n o) entry ∙ ap (noted h t n a there) (sym same)
+
+-- where nobody is there, no owner was made
+pub no-owner : (d : Desk) → IsSound d → ((n : ℕ) → slice_index_or d.ledger.places n None ≡ None) → (o : ℕ) → slice_index_or d.ledger.owners o None ≡ None
+no-owner d s nobody o = by (slice_index_or d.ledger.owners o None) refl where
+  by : (x : Option ℕ) → slice_index_or d.ledger.owners o None ≡ x → x ≡ None
+  by None e = refl
+  by (Some i) e =
+      let lt = fate-inside d.ledger.items i (s.owned.out o i e) in
+      let who = s.attended.placed (omega (arith, lt)) in
+      absurd (not-free (slice_index_or d.ledger.places who.0 None) who.1 (nobody who.0))
 
 -- an owner's item was given its name
 pub owner-inside : (h : Hand) → IsTied h → (o : ℕ) (held : Held) → slice_index_or h.owners.entries.items o None ≡ Some held → held.item < length h.fates.items

@@ -1,5 +1,5 @@
 -- What a list has at each number, after one entry of it is replaced or pushed
-use Rattle.std.proofs.Common.{◌≡◌, ◌≢◌, ℕ, zero, suc, ◌+◌, ◌<◌, Bool, Option, None, Some, IsSome, is_some, List, ◌∷◌, [], ◌++◌, length, slice_index_or, slice_set, inl, inr, refl, sym, ap, ◌∙◌, subst, arith}
+use Rattle.std.proofs.Common.{◌≡◌, ◌≢◌, ℕ, zero, suc, ◌+◌, ◌<◌, ◌≤◌, Bool, Option, None, Some, IsSome, is_some, List, ◌∷◌, [], ◌++◌, length, slice_index_or, slice_set, inl, inr, refl, sym, ap, ◌∙◌, subst, arith}
 use Rattle.std.proofs.lemmas.Bool.{cases_lt, cases_eq, cases_order, false≢true}
 use Rattle.std.proofs.lemmas.List.{get_or-set_same, get_or-set_other, set_past, get_or_append_left, get_or_push, get_or_past, length_push}
 
@@ -57,3 +57,32 @@ is-there xs k x e = ap is_some e
 -- an entry that is there isn't missing
 pub not-free : {E : Type 0} (x : Option E) → IsSome x → x ≡ None → ⊥
 not-free x t e = false≢true (ap is_some (sym e) ∙ t)
+
+-- where all is spent, what is left after a pop is, and what was popped
+pub none-left : {E : Type 0} (xs : List (Option E)) (y : Option E) → ((k : ℕ) → slice_index_or (xs ++ y ∷ []) k None ≡ None) → (k : ℕ) → slice_index_or xs k None ≡ None
+none-left xs y none k =
+    elim (cases_eq k (length xs)) [
+      | inl e ↦ get_or_past xs k None (omega (arith, e))
+      | inr ne ↦ sym (at-pushed xs y None k ne) ∙ none k
+    ]
+
+pub none-popped : {E : Type 0} (xs : List (Option E)) (y : Option E) → ((k : ℕ) → slice_index_or (xs ++ y ∷ []) k None ≡ None) → y ≡ None
+none-popped xs y none = sym (at-end xs y None) ∙ none (length xs)
+
+-- one more is spent
+pub spent-more : {E : Type 0} (xs ys : List (Option E)) (k : ℕ) → ys ≡ slice_set xs k None → ((j : ℕ) → j < k → slice_index_or xs j None ≡ None) →
+    (j : ℕ) → j < k + 1 → slice_index_or ys j None ≡ None
+spent-more xs ys k e before j lt =
+    rw e (elim (cases_eq j k) [
+      | inl same ↦ rw same (at-default xs k None)
+      | inr ne ↦ at-other xs k j None None ne ∙ before j (omega (arith, lt, ne))
+    ])
+
+-- all is spent, up to the end
+pub spent-all : {E : Type 0} (xs : List (Option E)) (n : ℕ) → length xs ≤ n → ((j : ℕ) → j < n → slice_index_or xs j None ≡ None) → (j : ℕ) →
+    slice_index_or xs j None ≡ None
+spent-all xs n long before j =
+    elim (cases_lt j n) [
+      | inl lt ↦ before j lt
+      | inr past ↦ get_or_past xs j None (omega (arith, past, long))
+    ]

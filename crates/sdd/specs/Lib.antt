@@ -6,5 +6,6 @@ pub mod Desk
 pub mod Script
 pub mod ByName
 pub mod Sound
+pub mod Leaving
 pub mod Stage
 pub mod Play

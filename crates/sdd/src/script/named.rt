@@ -1,5 +1,5 @@
 //! Names of one letter.
-ghost use Rattle.std.specs.Prelude.{◌≡◌, ◌<◌, ◌++◌, ◌∷◌, [], Some, None, OnOk, length, option_copied, slice_index_or, slice_set, vec_capacity};
+ghost use Rattle.std.specs.Prelude.{◌≡◌, ℕ, ◌<◌, ◌++◌, ◌∷◌, [], Some, None, OnOk, length, option_copied, slice_index_or, slice_set, vec_capacity};
 
 use std::alloc::{AllocError, Global};
 
@@ -54,11 +54,16 @@ impl<T> Named<T> {
         self.entries.get_mut(index)?.take()
     }
 
-    /// Lets the names go, of which none is left.
-    pub fn destroy_empty(self)
-        requires { self.entries.items ≡ [] }
+    /// Lets the names go, which are all spent.
+    pub fn destroy_spent(self)
+        requires { (k : ℕ) → slice_index_or self.entries.items k None ≡ None }
     {
-        let Named { entries } = self;
+        let Named { mut entries } = self;
+        while let Some(entry) = entries.pop() {
+            if let Some(_) = entry {
+                unreachable!()
+            }
+        }
         entries.destroy_empty();
     }
 }

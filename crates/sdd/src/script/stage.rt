@@ -1,5 +1,5 @@
 //! The world of a script in the middle of a run, with what its names stand for.
-ghost use Rattle.std.specs.Prelude.{◌≡◌, ℕ, ◌+◌, ◌^◌, ◌<◌, ◌≢◌, ◌⊎◌, [], IfOk, MatchResult};
+ghost use Rattle.std.specs.Prelude.{◌≡◌, ℕ, ◌+◌, ◌^◌, ◌<◌, ◌⊎◌, [], IfOk, MatchResult};
 
 mod guards;
 mod items;
@@ -126,10 +126,9 @@ impl Stage {
             (λ refused. (refused ≡ Refused.NoMemory) × (self.new ≡ self.old)) }
     {
         let reply = match call {
-            Call::At(name, Action::Open) => return Ok(self.open(*name)?),
-            Call::At(name, action) => self.act(*name, action)?,
             Call::Register => self.register()?,
             Call::Tally => Reply::Tally(self.hand.world.tally()),
+            Call::At(name, action) => return Ok(self.act(*name, action)?),
         };
         Ok(self.answer(reply))
     }
@@ -160,23 +159,24 @@ impl Stage {
         }
     }
 
-    /// What a participant does beside opening a guard.
-    fn act(&mut self, name: PlaceName, action: &Action) -> Result<Reply, AllocError>
-        requires other { action.now ≢ Action.Open }
-        ensures acts { MatchResult result (λ reply. Acts self.old (Call.At name action.now) reply self.new) (λ _. self.new ≡ self.old) }
+    /// What a participant does.
+    fn act(&mut self, name: PlaceName, action: &Action) -> Result<Answer, AllocError>
+        requires more { self.old.ledger.moment + 1 < 2 ^ 64 }
+        ensures answers { MatchResult result (λ answer. Answers self.old (Call.At name action.now) answer self.new) (λ _. self.new ≡ self.old) }
     {
-        Ok(match *action {
-            Action::Open => Reply::Invalid,
+        let reply = match *action {
+            Action::Open => return self.open(name),
             Action::Epoch(guard) => self.epoch(name, guard),
             Action::Garbage(guard) => self.garbage(name, guard),
             Action::Set(guard) => self.set(name, guard),
             Action::Accelerate(guard) => self.accelerate(name, guard),
-            Action::Owned(number) => return self.make(name, number),
+            Action::Owned(number) => self.make(name, number)?,
             Action::Read(owner) => self.read(name, owner),
             Action::Look(item, guard) => self.look(name, item, guard),
             Action::Retire(owner) => self.retire(name, owner),
             Action::Close(guard) => self.close_guard(name, guard),
-        })
+        };
+        Ok(self.answer(reply))
     }
 }
 

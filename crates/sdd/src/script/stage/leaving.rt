@@ -1,21 +1,22 @@
 //! The end of a script's world.
-ghost use Rattle.std.specs.Prelude.{◌≡◌, []};
+ghost use Rattle.std.specs.Prelude.{◌≡◌, ℕ, IsSome, MatchOption, None, Some, slice_index_or};
+ghost use Rattle.sdd.specs.Leaving.{SpendsOwner, SpendsGuard};
 
-use super::guards::close_at;
-use super::items::retire_item;
-use super::{Guarding, Hand, Held, Stage};
-use crate::script::fate::Fate;
+use super::{Hand, Stage};
+use sdd_lines::{GuardName, OwnerName, PlaceName};
 use sdd_store::Tally;
 
 impl Stage {
+    ghost use Rattle.sdd.specs.Ledger.{IsPlace};
+
     /// Every owner is spent and every guard closed, and then the world ends: all that waits is reclaimed.
     pub fn close(mut self) -> Tally
         ensures made { result.made ≡ self.world.tally.made }
         ensures reclaimed { result.reclaimed ≡ self.world.tally.made }
         ensures in_place { result.in_place ≡ 0 }
     {
-        self.retire_owners();
-        self.close_guards();
+        self.spend_owners();
+        self.spend_guards();
         let Stage { hand } = self;
         let Hand {
             world,
@@ -28,8 +29,8 @@ impl Stage {
             fates: _,
             names: _,
         } = hand;
-        guards.destroy_empty();
-        owners.destroy_empty();
+        guards.destroy_spent();
+        owners.destroy_spent();
         match world.close() {
             Ok(tally) => tally,
             Err(_) => unreachable!(),
@@ -37,40 +38,52 @@ impl Stage {
     }
 
     /// Each owner that isn't spent retires its item.
-    fn retire_owners(&mut self)
-        ensures spent { self.new.ledger.owners ≡ [] }
+    fn spend_owners(&mut self)
+        ensures spent { (o : ℕ) → slice_index_or self.new.ledger.owners o None ≡ None }
         ensures tally { self.new.world.tally ≡ self.old.world.tally }
     {
-        while let Some(held) = self.hand.owners.entries.pop() {
-            if let Some(Held { owner, item }) = held {
-                let Some(attending) = self.hand.places.get(0) else {
-                    unreachable!()
-                };
-                self.hand.world.keeps_under_guards();
-                retire_item(&mut self.hand.world, &attending.place, owner);
-                self.hand.fates[item as usize] = Fate::Retired(self.hand.moment);
-            }
+        for owner in 0..self.hand.owners.entries.len() {
+            self.spend_owner(owner as u64);
         }
     }
 
     /// Each guard that is open is closed.
-    fn close_guards(&mut self)
-        ensures closed { self.new.ledger.guards ≡ [] }
+    fn spend_guards(&mut self)
+        ensures spent { (g : ℕ) → slice_index_or self.new.ledger.guards g None ≡ None }
         ensures owners { self.new.ledger.owners ≡ self.old.ledger.owners }
         ensures tally { self.new.world.tally ≡ self.old.world.tally }
     {
-        while let Some(held) = self.hand.guards.entries.pop() {
-            if let Some(Guarding {
-                guard,
-                participant,
-                since: _,
-            }) = held
-            {
-                let Some(attending) = self.hand.places.get(participant) else {
-                    unreachable!()
-                };
-                close_at(&mut self.hand.world, &attending.place, guard);
+        for guard in 0..self.hand.guards.entries.len() {
+            self.spend_guard(guard as u64);
+        }
+    }
+
+    fn spend_owner(&mut self, owner: u64)
+        ensures { SpendsOwner owner self.old self.new }
+    {
+        if let Some(name) = self.anyone() {
+            self.retire(PlaceName(name), OwnerName(owner));
+        }
+    }
+
+    fn spend_guard(&mut self, guard: u64)
+        ensures { SpendsGuard guard self.old self.new }
+    {
+        if let Some(held) = self.hand.guards.get(guard) {
+            let name = held.participant;
+            self.close_guard(PlaceName(name), GuardName(guard));
+        }
+    }
+
+    /// The name of a participant, if there is one: else no owner was made.
+    fn anyone(&self) -> Option<u64>
+        ensures { MatchOption result ((o : ℕ) → slice_index_or self.now.ledger.owners o None ≡ None) (IsPlace self.now.ledger) }
+    {
+        for name in 0..self.hand.places.entries.len() as u64 {
+            if let Some(_) = self.hand.places.get(name) {
+                return Some(name);
             }
         }
+        None
     }
 }
