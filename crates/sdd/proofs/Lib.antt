@@ -8,4 +8,6 @@ pub mod Opening
 pub mod Going
 pub mod Worlds
 pub mod Acts
+pub mod Ending
+pub mod Runs
 pub mod Probe

@@ -126,18 +126,42 @@ with_retired l p o (Some i) =
       items = slice_set l.items i (Retired l.moment);
     }
 
+-- what happened in a line
+pub data Event : Type 0 where
+  registers : Event
+  opens : (participant : ℕ) → Event
+  sets : (participant : ℕ) → Event
+  accelerates : (participant : ℕ) → Event
+  makes : Event
+  retires : (participant owner : ℕ) → Event
+  closes : (participant guard : ℕ) → Event
+  nothing : Event
+
+abbrev pub event_of : Call → Reply → Event
+event_of Register (reply.Place name) = registers
+event_of (At n call.Open) (reply.Guard g epoch) = opens n.0
+event_of (At n (call.Set g)) reply.Done = sets n.0
+event_of (At n (call.Accelerate g)) reply.Done = accelerates n.0
+event_of (At n (call.Owned number)) (reply.Item o i) = makes
+event_of (At n (call.Retire o)) reply.Done = retires n.0 o.0
+event_of (At n (call.Close g)) reply.Done = closes n.0 g.0
+-- by any other answer nothing happened
+event_of call other = nothing
+
+abbrev pub with_event : Ledger → Event → Ledger
+with_event l registers =
+    record l { time = time.registered l.time; places = l.places ++ Some (record { place = length l.time.places; since = 0 }) ∷ [] }
+with_event l (opens n) = with_guard l n (place_of l n)
+with_event l (sets n) = record l { time = time.stirred_at l.time (place_of l n) }
+with_event l (accelerates n) = record l { time = time.accelerated_at l.time (place_of l n) }
+with_event l makes = record l { owners = l.owners ++ Some (length l.items) ∷ []; items = l.items ++ Out ∷ [] }
+with_event l (retires n o) = with_retired l (place_of l n) o (slice_index_or l.owners o None)
+with_event l (closes n g) = record l { time = time.closed l.time (place_of l n); guards = slice_set l.guards g None }
+with_event l nothing = l
+
 -- a call was answered so
 abbrev pub after : Ledger → Call → Reply → Ledger
-after l Register (reply.Place name) =
-    record l { time = time.registered l.time; places = l.places ++ Some (record { place = length l.time.places; since = 0 }) ∷ [] }
-after l (At n call.Open) (reply.Guard g epoch) = with_guard l n.0 (place_of l n.0)
-after l (At n (call.Set g)) reply.Done = record l { time = time.stirred_at l.time (place_of l n.0) }
-after l (At n (call.Accelerate g)) reply.Done = record l { time = time.accelerated_at l.time (place_of l n.0) }
-after l (At n (call.Owned number)) (reply.Item o i) = record l { owners = l.owners ++ Some (length l.items) ∷ []; items = l.items ++ Out ∷ [] }
-after l (At n (call.Retire o)) reply.Done = with_retired l (place_of l n.0) o.0 (slice_index_or l.owners o.0 None)
-after l (At n (call.Close g)) reply.Done = record l { time = time.closed l.time (place_of l n.0); guards = slice_set l.guards g.0 None }
--- any other answer changes nothing
-after l call other = l
+after l call given = with_event l (event_of call given)
 
 -- one line later
 abbrev pub later : Ledger → Ledger

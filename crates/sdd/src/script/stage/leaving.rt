@@ -31,6 +31,7 @@ impl Stage {
         } = hand;
         guards.destroy_spent();
         owners.destroy_spent();
+        world.is_whole();
         match world.close() {
             Ok(tally) => tally,
             Err(_) => unreachable!(),
