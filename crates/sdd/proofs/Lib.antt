@@ -10,4 +10,4 @@ pub mod Worlds
 pub mod Acts
 pub mod Ending
 pub mod Runs
-pub mod Probe
+pub mod Plays

@@ -179,10 +179,3 @@ impl Stage {
         Ok(self.answer(reply))
     }
 }
-
-#[tactic(auto, using(crate::proofs::Probe::probe_it))]
-pub fn probe(x: u64) -> u64
-    ensures { result ≡ x }
-{
-    x
-}
