@@ -55,10 +55,10 @@ pub record Stands {T : Type 0} (k : ℕ) (s : Option Standing) (v : Option T) (w
   pub standing : standing_at w k ≡ s
   pub value : value_at w k ≡ v
 
-none-set : {E : Type 0} (xs : List (Option E)) (k : ℕ) → slice_index_or (slice_set xs k None) k None ≡ None
-none-set [] k = refl
-none-set (x ∷ xs) zero = refl
-none-set (x ∷ xs) (suc k) = none-set xs k
+pub none-here : {E : Type 0} (xs : List (Option E)) (k : ℕ) → slice_index_or (slice_set xs k None) k None ≡ None
+none-here [] k = refl
+none-here (x ∷ xs) zero = refl
+none-here (x ∷ xs) (suc k) = none-here xs k
 
 -- among what is reclaimed is the slot's item first, or later
 among-cons : (k : ℕ) (x : What) (xs : List What) → (b : Bool) → is_of_slot k x ≡ b → times_among k (x ∷ xs) ≡ cond b 1 0 + times_among k xs
@@ -70,7 +70,7 @@ module _ {T : Type 0} where
       record { standing = get_or-set_other w.standings j k None None apart ∙ i.standing; value = get_or-set_other w.values j k None None apart ∙ i.value }
 
   free-gone : (w : World T) (k : ℕ) → Stands k None None (freed w k)
-  free-gone w k = record { standing = none-set w.standings k; value = none-set w.values k }
+  free-gone w k = record { standing = none-here w.standings k; value = none-here w.values k }
 
   retired-apart : (w : World T) (p j k : ℕ) (s : Option Standing) (v : Option T) → (s ≡ Some Owned → ⊥) → standing_at w j ≡ Some Owned → (k ≡ j) ⊎ (k ≢ j) →
       Stands k s v w → Stands k s v (retired w p j)

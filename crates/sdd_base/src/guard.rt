@@ -24,7 +24,8 @@ pub struct Guard {
 }
 
 impl Guard {
-    /// Opens a guard. An outermost one publishes the count of epochs that it finds; if that is another than the participant found before, what waits with it has seen one change more, and what has seen three is reclaimed.
+    /// Opens a guard. An outermost one publishes the count of epochs that it finds; if that is another than the participant found before, what
+    /// waits with it has seen one change more, and what has seen three is reclaimed.
     ///
     /// `TooManyGuards` where as many are open as may nest.
     #[inline]

@@ -116,7 +116,8 @@ impl<T: Item<T>> Owned<T> {
         ensures home { IfOk result (λ owner. slots_home owner ≡ (S.seat s.old).home.slots) }
         ensures shown { IfOk result (λ owner. (value : T) × F.post f value × S.shows s.new (slot_of owner) value) }
         ensures exact { IsExact (S.seat s.old) → MatchResult result
-            (λ owner. IsEmptyAt (S.world s.old).standings (slot_of owner) × ((value : T) × F.post f value × (S.world s.new ≡ made (S.world s.old) (slot_of owner) value)))
+            (λ owner. IsEmptyAt (S.world s.old).standings (slot_of owner) ×
+            ((value : T) × F.post f value × (S.world s.new ≡ made (S.world s.old) (slot_of owner) value)))
             (λ e. IsFull (S.world s.old).standings × (e ≡ (f, Refused.NoSlot)) × (S.world s.new ≡ S.world s.old)) }
         ensures keeps { KeepsShown (S.shows s.old) (S.filled s.old) (S.shows s.new) (S.filled s.new) }
     {

@@ -46,7 +46,8 @@ pub trait Guards<T: Item<T>>: Shows<T> {
         ensures exact { IsExact (seat self.old) → MatchResult result
             (λ _. CanNest (world self.old).time (seat self.old).place × (world self.new ≡ opened T.holds (world self.old) (seat self.old).place))
             (λ e. (e ≡ Refused.TooManyGuards) × ¬ (CanNest (world self.old).time (seat self.old).place) × (world self.new ≡ world self.old)) }
-        ensures keeps { IsTrue (is_open (own self.old)) → KeepsShown (Self.shows self.old) (Self.filled self.old) (Self.shows self.new) (Self.filled self.new) };
+        ensures keeps { IsTrue (is_open (own self.old)) →
+            KeepsShown (Self.shows self.old) (Self.filled self.old) (Self.shows self.new) (Self.filled self.new) };
 
     /// Closes a guard; the last one publishes the end, after a scan at countdown 0.
     fn close_guard(&mut self)
@@ -56,7 +57,8 @@ pub trait Guards<T: Item<T>>: Shows<T> {
         ensures known { KnowsClosed (known self.old) (known self.new) (own self.new) }
         ensures lone { IsLone (seat self.old) → IsRaisedBy (own self.old) (known self.old).told (known self.new).told }
         ensures exact { IsExact (seat self.old) → world self.new ≡ closed (world self.old) (seat self.old).place }
-        ensures keeps { IsTrue (is_open (own self.new)) → KeepsShown (Self.shows self.old) (Self.filled self.old) (Self.shows self.new) (Self.filled self.new) };
+        ensures keeps { IsTrue (is_open (own self.new)) →
+            KeepsShown (Self.shows self.old) (Self.filled self.old) (Self.shows self.new) (Self.filled self.new) };
 
     /// The count of epochs, as the participant is told it now.
     fn count(&mut self) -> u64
@@ -138,7 +140,8 @@ pub trait Space<T: Item<T>>: Look<T> + Guards<T> {
         ensures home { IfOk result (λ owner. slots_home owner ≡ (Self.seat self.old).home.slots) }
         ensures shown { IfOk result (λ owner. (value : T) × F.post make value × Self.shows self.new (slot_of owner) value) }
         ensures exact { IsExact (Self.seat self.old) → MatchResult result
-            (λ owner. IsEmptyAt (Self.world self.old).standings (slot_of owner) × ((value : T) × F.post make value × (Self.world self.new ≡ made (Self.world self.old) (slot_of owner) value)))
+            (λ owner. IsEmptyAt (Self.world self.old).standings (slot_of owner) ×
+            ((value : T) × F.post make value × (Self.world self.new ≡ made (Self.world self.old) (slot_of owner) value)))
             (λ e. IsFull (Self.world self.old).standings × (e ≡ (make, Refused.NoSlot)) × (Self.world self.new ≡ Self.world self.old)) }
         ensures keeps { KeepsShown (Self.shows self.old) (Self.filled self.old) (Self.shows self.new) (Self.filled self.new) };
 

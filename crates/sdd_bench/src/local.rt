@@ -1,5 +1,6 @@
 //! The operations by the only participant of a domain.
-ghost use Rattle.std.specs.Prelude.{◌≡◌};
+ghost use Rattle.std.specs.Prelude.{◌≡◌, Err};
+ghost use Rattle.sdd_base.specs.Limits.{AreInRange};
 
 use crate::operation::Guarding;
 use crate::turns;
@@ -10,12 +11,11 @@ use sdd_store::Tally;
 use std::alloc::Global;
 
 /// Does something with guards that often, and answers the participant's tally.
-pub fn run(
-    alloc: Global,
-    limits: Limits,
-    guarding: Guarding,
-    turns: u64,
-) -> Result<Tally, Refused> {
+///
+/// No clause says that tally, or when a guard is refused: the loops are written for every space, and a space does not tell a participant's own tally.
+pub fn run(alloc: Global, limits: Limits, guarding: Guarding, turns: u64) -> Result<Tally, Refused>
+    ensures limits { ¬ (AreInRange limits) → result ≡ Err Refused.BadLimits }
+{
     let domain = Domain::new(alloc, limits)?;
     let tally = in_domain(&domain, guarding, turns);
     match domain.close(Vec::new(alloc)) {

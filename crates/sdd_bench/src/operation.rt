@@ -1,4 +1,6 @@
 //! What the program may be asked to do.
+ghost use Rattle.std.specs.Prelude.{◌≡◌, MatchOption};
+ghost use Rattle.sdd_bench.specs.Names.{name_of};
 
 /// What is done with guards in each turn.
 #[derive(Clone, Copy, Debug, PartialEq, Eq)]
@@ -25,7 +27,9 @@ pub enum Operation {
 }
 
 /// The operation of that name.
-pub fn named(word: &str) -> Option<Operation> {
+pub fn named(word: &str) -> Option<Operation>
+    ensures { MatchOption result ((operation : Operation) → ¬ (word.now ≡ name_of operation)) (λ operation. word.now ≡ name_of operation) }
+{
     match word {
         "world-outermost" => Some(Operation::World(Guarding::Outermost)),
         "world-nested" => Some(Operation::World(Guarding::Nested)),

@@ -1,7 +1,9 @@
 //! The operations in a world of one participant.
-ghost use Rattle.std.specs.Prelude.{◌≡◌, []};
+ghost use Rattle.std.specs.Prelude.{◌≡◌, [], Err, IfOk};
+ghost use Rattle.sdd_base.specs.Limits.{AreInRange};
 ghost use Rattle.sdd_base.specs.Out.{out};
 ghost use Rattle.sdd_base.specs.Seat.{IsSeated};
+ghost use Rattle.sdd_base.specs.Whole.{IsCounted};
 ghost use Rattle.sdd_base.specs.World.{IsGuarded};
 ghost use Rattle.sdd_bench.specs.Leaves.{Leaves};
 
@@ -22,7 +24,12 @@ pub enum Work {
 }
 
 /// Does the work that often, and answers the tally with which the world is closed, and the sum of what owners found.
-pub fn run(alloc: Global, limits: Limits, work: Work, turns: u64) -> Result<(Tally, u64), Refused> {
+///
+/// No clause says how many items those are, or when a guard is refused: the loops, written for every space, tell of guards and of what is out alone.
+pub fn run(alloc: Global, limits: Limits, work: Work, turns: u64) -> Result<(Tally, u64), Refused>
+    ensures limits { ¬ (AreInRange limits) → result ≡ Err Refused.BadLimits }
+    ensures tally { IfOk result (λ done. IsCounted done.0 0) }
+{
     let mut world = World::new(alloc, limits)?;
     let done = in_world(&mut world, work, turns);
     match world.close() {

@@ -57,7 +57,14 @@ impl Model for Time {
 
     ghost Value = { Time };
 
-    ghost view = { λ t. record { count = t.count; marked = t.marked; places = t.places.items; participants = t.participants; nesting = t.nesting; room = t.room } };
+    ghost view = { λ t. record {
+      count = t.count;
+      marked = t.marked;
+      places = t.places.items;
+      participants = t.participants;
+      nesting = t.nesting;
+      room = t.room;
+    } };
 
     ghost invariant = { λ t. IsTimely t.places.items t.participants t.room (vec_capacity t.places) };
 }

@@ -15,11 +15,14 @@ counts-pos q (suc k) c = omega arith
 -- all units are the whole
 pub counts-whole : (q : Share) → Counts 63 q (2 ^ 63) → q ≡ full_share
 counts-whole q c = let a = counts_some 63 1 (omega arith) (omega arith) in let b = counts_some 63 (2 ^ 63 - 1) (omega arith) (omega arith) in
-    mem_unique (Share.op a.0 b.0) (Counts-op 63 a.0 b.0 q 1 (2 ^ 63 - 1) (2 ^ 63) a.1 b.1 c refl) (Counts-op 63 a.0 b.0 full_share 1 (2 ^ 63 - 1) (2 ^ 63) a.1 b.1 (Counts-all 63) refl)
+    let sum = λ (s : Share) (n : Counts 63 s (2 ^ 63)). Counts-op 63 a.0 b.0 s 1 (2 ^ 63 - 1) (2 ^ 63) a.1 b.1 n refl in
+    mem_unique (Share.op a.0 b.0) (sum q c) (sum full_share (Counts-all 63))
 
 -- a sum with a share that is two is a sum with the one and then the other
 regrouped : (q a b r s t : Share) → r ∈ Share.op a b → s ∈ Share.op q r → t ∈ Share.op q a → s ∈ Share.op t b
-regrouped q a b r s t cut sum first = let m = (mem-bind_iff (Share.op q a) (λ x. Share.op x b)).0 (subst (λ (P : Part {0, 0} Share). s ∈ P) (sym (Share.Share-pcs.op_assoc q a b)) ((mem-bind_iff (Share.op a b) (λ x. Share.op q x)).1 (r, cut, sum))) in
+regrouped q a b r s t cut sum first = let whole = (mem-bind_iff (Share.op a b) (λ x. Share.op q x)).1 (r, cut, sum) in
+    let moved = subst (λ (P : Part {0, 0} Share). s ∈ P) (sym (Share.Share-pcs.op_assoc q a b)) whole in
+    let m = (mem-bind_iff (Share.op q a) (λ x. Share.op x b)).0 moved in
     subst (λ (x : Share). s ∈ Share.op x b) (mem_unique (Share.op q a) m.1 first) m.2
 
 -- nothing is beside the whole
@@ -27,8 +30,10 @@ alone : (q r s : Share) → q ≡ full_share → s ∈ Share.op q r → ⊥
 alone q r s e sum = not-OpDef-full_share r (subst (λ (x : Share). s ∈ Share.op x r) e sum).0
 
 over : (q r s : Share) (m n : ℕ) → Counts 63 q m → Counts 63 r n → n ≤ 2 ^ 63 → m < 2 ^ 63 → 2 ^ 63 < m + n → s ∈ Share.op q r → ⊥
-over q r s m n c d fits less much sum = let a = counts_some 63 (2 ^ 63 - m) (omega arith) (omega arith) in let b = counts_some 63 (m + n - 2 ^ 63) (omega arith) (omega arith) in
-    let cut = Counts-op 63 a.0 b.0 r (2 ^ 63 - m) (m + n - 2 ^ 63) n a.1 b.1 d (omega arith) in let first = Counts-op 63 q a.0 full_share m (2 ^ 63 - m) (2 ^ 63) c a.1 (Counts-all 63) (omega arith) in
+over q r s m n c d fits less much sum = let a = counts_some 63 (2 ^ 63 - m) (omega arith) (omega arith) in
+    let b = counts_some 63 (m + n - 2 ^ 63) (omega arith) (omega arith) in
+    let cut = Counts-op 63 a.0 b.0 r (2 ^ 63 - m) (m + n - 2 ^ 63) n a.1 b.1 d (omega arith) in
+    let first = Counts-op 63 q a.0 full_share m (2 ^ 63 - m) (2 ^ 63) c a.1 (Counts-all 63) (omega arith) in
     alone full_share b.0 s refl (regrouped q a.0 b.0 r s full_share cut sum first)
 
 -- two shares that have a sum have no more units than there are

@@ -21,10 +21,12 @@ module _ (U : RattleType) where
   pin_told vs is = is.1.0 ∙ ap (λ (ws : List Val). vstruct (of_list (ws ++ [])) ∷ []) is.1.1.0.1.0
 
   pub pin_made : {M : Type 1} {𝓤 : Ura M} (𝓛 : Logic 𝓤) → ent 𝓤 (emp 𝓤) (sem 𝓛 (Pin.own_val (tt, tt) (token_val ∷ [])))
-  pin_made 𝓛 = makes_shadow 𝓛 (Pin.own_val (tt, tt) (token_val ∷ [])) (λ vss. (tt, ((λ uss. (tt, tt)), tt))) ((vstruct vnil ∷ [], tt), (refl, ((tt, (refl, tt)), tt)))
+  pin_made 𝓛 = makes_shadow 𝓛 (Pin.own_val (tt, tt) (token_val ∷ [])) (λ vss. (tt, ((λ uss. (tt, tt)), tt)))
+      ((vstruct vnil ∷ [], tt), (refl, ((tt, (refl, tt)), tt)))
 
   abbrev pub Cover : RattleType
   Cover = Struct (shape (book.the_type U))
 
   pub cover_made : {M : Type 1} {𝓤 : Ura M} (𝓛 : Logic 𝓤) → ent 𝓤 (emp 𝓤) (sem 𝓛 (Cover.own_val (tt, tt) (token_val ∷ [])))
-  cover_made 𝓛 = makes_shadow 𝓛 (Cover.own_val (tt, tt) (token_val ∷ [])) (λ vss. (tt, ((λ uss. (tt, tt)), tt))) ((vstruct vnil ∷ [], tt), (refl, ((tt, (refl, tt)), tt)))
+  cover_made 𝓛 = makes_shadow 𝓛 (Cover.own_val (tt, tt) (token_val ∷ [])) (λ vss. (tt, ((λ uss. (tt, tt)), tt)))
+      ((vstruct vnil ∷ [], tt), (refl, ((tt, (refl, tt)), tt)))

@@ -8,9 +8,11 @@ use Rattle.sdd_token.specs.declared.right.Kind.TheVariants.{Free}
 use Rattle.sdd_token.specs.Rights.{Kept, whole, kept_of}
 
 -- what is kept of a number is what its part says
-pub kept-there : (parts : List (Part Kind)) (k : ℕ) (p : Part Kind) → k < length parts → p ≡ slice_index_or parts k p → slice_index_or (map kept_of parts) k (whole Free) ≡ kept_of p
+pub kept-there : (parts : List (Part Kind)) (k : ℕ) (p : Part Kind) → k < length parts → p ≡ slice_index_or parts k p →
+    slice_index_or (map kept_of parts) k (whole Free) ≡ kept_of p
 kept-there parts k p h e = get_or-map kept_of parts k p (whole Free) h ∙ ap kept_of (sym e)
 
 -- where q comes in the place of p, what is kept changes there
-pub kept-changed : (parts : List (Part Kind)) (k : ℕ) (p q : Part Kind) (x : Kept) → k < length parts → p ≡ slice_index_or parts k p → (slice_index_or (map kept_of parts) k (whole Free) ≡ kept_of p → kept_of q ≡ x) → map kept_of (slice_set parts k q) ≡ slice_set (map kept_of parts) k x
+pub kept-changed : (parts : List (Part Kind)) (k : ℕ) (p q : Part Kind) (x : Kept) → k < length parts → p ≡ slice_index_or parts k p →
+    (slice_index_or (map kept_of parts) k (whole Free) ≡ kept_of p → kept_of q ≡ x) → map kept_of (slice_set parts k q) ≡ slice_set (map kept_of parts) k x
 kept-changed parts k p q x h e f = map-set kept_of parts k q ∙ ap (λ (y : Kept). slice_set (map kept_of parts) k y) (f (kept-there parts k p h e))

@@ -63,7 +63,8 @@ impl Rights {
         requires part_home { part.home ≡ self.old.home }
         requires part_number { part.number ≡ number }
         ensures home { self.new.home ≡ self.old.home }
-        ensures kept { self.new.kept ≡ slice_set self.old.kept number (record (kept_at self.old number) { units = (kept_at self.old number).units + part.units }) }
+        ensures kept { self.new.kept ≡ slice_set self.old.kept number
+            (record (kept_at self.old number) { units = (kept_at self.old number).units + part.units }) }
         ensures some { (0 < (kept_at self.old number).units) × (0 < part.units) }
         ensures fits { (kept_at self.old number).units + part.units ≤ WHOLE }
         ensures kind { part.kind ≡ (kept_at self.old number).kind }

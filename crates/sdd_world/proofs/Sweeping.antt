@@ -26,7 +26,8 @@ use Rattle.sdd_base.proofs.Weights.{in_range}
 use Rattle.sdd_base.specs.Out.{is_out, out, HoldsNothing}
 use Rattle.sdd_base.specs.Whole.{IsCounted}
 use Rattle.sdd_store.specs.declared.tally.Tally.{Tally}
-use Rattle.sdd_base.proofs.Whole.{same-or-not, one_where}
+use Rattle.sdd_base.proofs.Whole.{same-or-not, one_where, waits-inside}
+use Rattle.sdd_base.proofs.Opening.{none-here}
 
 -- one of them
 abbrev Among : Holding → List Holding → Type 0
@@ -53,17 +54,6 @@ none-set (x ∷ xs) zero zero e = refl
 none-set (x ∷ xs) zero (suc j) e = e
 none-set (x ∷ xs) (suc k) zero e = e
 none-set (x ∷ xs) (suc k) (suc j) e = none-set xs k j e
-
-none-here : {E : Type 0} (xs : List (Option E)) (k : ℕ) → slice_index_or (slice_set xs k None) k None ≡ None
-none-here [] k = refl
-none-here (x ∷ xs) zero = refl
-none-here (x ∷ xs) (suc k) = none-here xs k
-
--- a slot that waits is one
-waits-inside : (xs : List (Option Standing)) (k : ℕ) → IsWaiting (slice_index_or xs k None) → k < length xs
-waits-inside [] k h = absurd (cc)
-waits-inside (x ∷ xs) zero h = omega arith
-waits-inside (x ∷ xs) (suc k) h = omega (arith, waits-inside xs k h)
 
 abbrev one_if : Option Standing → ℕ
 one_if s = cond (is_some s) 1 0

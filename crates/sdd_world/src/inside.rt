@@ -60,7 +60,8 @@ impl<T: Item<T>> Core<T> {
     pub fn make(&mut self, value: T) -> Result<Right, T>
         requires home { AreOf self.old.home (T.holds value) }
         ensures made { MatchResult result
-            (λ right. (home_of right ≡ self.old.home.slots) × IsEmptyAt self.old.standings (number_of right) × (self.new ≡ made self.old (number_of right) value))
+            (λ right. (home_of right ≡ self.old.home.slots) ×
+            IsEmptyAt self.old.standings (number_of right) × (self.new ≡ made self.old (number_of right) value))
             (λ back. IsFull self.old.standings × (back ≡ value) × (self.new ≡ self.old)) }
         ensures sizes { KeepsSizes self.old self.new }
         ensures whole { IsWhole self.old → IsWhole self.new }
@@ -134,7 +135,8 @@ impl<T: Item<T>> Giver<T> for Retirement<'_, T> {
         requires home { slots_home owner ≡ self.old.core.now.home.slots }
         ensures seat { seat_on self.new.core.now self.new.place self.new.core.ghost_name ≡ seat_on self.old.core.now self.old.place self.old.core.ghost_name }
         ensures own { GrowsOn (place_at self.old.core.now self.old.place) (place_at self.new.core.now self.new.place) }
-        ensures exact { IsExact (seat_on self.old.core.now self.old.place self.old.core.ghost_name) → self.new.core.now ≡ given self.old.core.now self.old.place (holding_of owner) }
+        ensures exact { IsExact (seat_on self.old.core.now self.old.place self.old.core.ghost_name) →
+            self.new.core.now ≡ given self.old.core.now self.old.place (holding_of owner) }
     {
         self.core.retire(self.place, inner::right_of_owner(owner));
     }
@@ -144,7 +146,8 @@ impl<T: Item<T>> Giver<T> for Retirement<'_, T> {
         requires home { cells_home cell ≡ self.old.core.now.home.cells }
         ensures seat { seat_on self.new.core.now self.new.place self.new.core.ghost_name ≡ seat_on self.old.core.now self.old.place self.old.core.ghost_name }
         ensures own { GrowsOn (place_at self.old.core.now self.old.place) (place_at self.new.core.now self.new.place) }
-        ensures exact { IsExact (seat_on self.old.core.now self.old.place self.old.core.ghost_name) → self.new.core.now ≡ given self.old.core.now self.old.place (cell_holding cell) }
+        ensures exact { IsExact (seat_on self.old.core.now self.old.place self.old.core.ghost_name) →
+            self.new.core.now ≡ given self.old.core.now self.old.place (cell_holding cell) }
     {
         self.core.close_cell(self.place, inner::right_of_cell(cell));
     }

@@ -194,12 +194,18 @@ impl<T: Item<T>> Space<T> for Turn<'_, T> {
     fn retire(&mut self, owner: Owned<T>)
         requires seated { IsSeated (seat_on self.old.world.now self.old.place self.old.world.ghost_name) }
         requires home { slots_home owner ≡ self.old.world.now.home.slots }
-        ensures seat { seat_on self.new.world.now self.new.place self.new.world.ghost_name ≡ seat_on self.old.world.now self.old.place self.old.world.ghost_name }
+        ensures seat { seat_on self.new.world.now self.new.place self.new.world.ghost_name ≡
+            seat_on self.old.world.now self.old.place self.old.world.ghost_name }
         ensures own { place_at self.new.world.now self.new.place ≡ awaiting (Item (slot_of owner)) (place_at self.old.world.now self.old.place) }
-        ensures owned { IsExact (seat_on self.old.world.now self.old.place self.old.world.ghost_name) → standing_at self.old.world.now (slot_of owner) ≡ Some Standing.Owned }
-        ensures known { KnowsOn (record { told = self.old.world.now.time.count; since = self.old.world.now.time.count }) (record { told = self.new.world.now.time.count; since = self.new.world.now.time.count }) }
-        ensures exact { IsExact (seat_on self.old.world.now self.old.place self.old.world.ghost_name) → self.new.world.now ≡ retired self.old.world.now self.old.place (slot_of owner) }
-        ensures keeps { KeepsShown (λ k value. value_at self.old.world.now k ≡ Some value) (λ k. IsSome (standing_at self.old.world.now k)) (λ k value. value_at self.new.world.now k ≡ Some value) (λ k. IsSome (standing_at self.new.world.now k)) }
+        ensures owned { IsExact (seat_on self.old.world.now self.old.place self.old.world.ghost_name) →
+            standing_at self.old.world.now (slot_of owner) ≡ Some Standing.Owned }
+        ensures known { KnowsOn (record { told = self.old.world.now.time.count; since = self.old.world.now.time.count })
+            (record { told = self.new.world.now.time.count; since = self.new.world.now.time.count }) }
+        ensures exact { IsExact (seat_on self.old.world.now self.old.place self.old.world.ghost_name) →
+            self.new.world.now ≡ retired self.old.world.now self.old.place (slot_of owner) }
+        ensures keeps { KeepsShown
+            (λ k value. value_at self.old.world.now k ≡ Some value) (λ k. IsSome (standing_at self.old.world.now k))
+            (λ k value. value_at self.new.world.now k ≡ Some value) (λ k. IsSome (standing_at self.new.world.now k)) }
     {
         let world = &mut *self.world;
         world.core.retire(self.place, inner::right_of_owner(owner));
@@ -216,11 +222,16 @@ impl<T: Item<T>> Space<T> for Turn<'_, T> {
     fn close_cell(&mut self, cell: AtomicOwned<T>)
         requires seated { IsSeated (seat_on self.old.world.now self.old.place self.old.world.ghost_name) }
         requires home { cells_home cell ≡ self.old.world.now.home.cells }
-        ensures seat { seat_on self.new.world.now self.new.place self.new.world.ghost_name ≡ seat_on self.old.world.now self.old.place self.old.world.ghost_name }
+        ensures seat { seat_on self.new.world.now self.new.place self.new.world.ghost_name ≡
+            seat_on self.old.world.now self.old.place self.old.world.ghost_name }
         ensures own { IsSpilled (place_at self.old.world.now self.old.place) (place_at self.new.world.now self.new.place) }
-        ensures known { KnowsOn (record { told = self.old.world.now.time.count; since = self.old.world.now.time.count }) (record { told = self.new.world.now.time.count; since = self.new.world.now.time.count }) }
-        ensures exact { IsExact (seat_on self.old.world.now self.old.place self.old.world.ghost_name) → self.new.world.now ≡ cell_closed self.old.world.now self.old.place (cell_of cell) }
-        ensures keeps { KeepsShown (λ k value. value_at self.old.world.now k ≡ Some value) (λ k. IsSome (standing_at self.old.world.now k)) (λ k value. value_at self.new.world.now k ≡ Some value) (λ k. IsSome (standing_at self.new.world.now k)) }
+        ensures known { KnowsOn (record { told = self.old.world.now.time.count; since = self.old.world.now.time.count })
+            (record { told = self.new.world.now.time.count; since = self.new.world.now.time.count }) }
+        ensures exact { IsExact (seat_on self.old.world.now self.old.place self.old.world.ghost_name) →
+            self.new.world.now ≡ cell_closed self.old.world.now self.old.place (cell_of cell) }
+        ensures keeps { KeepsShown
+            (λ k value. value_at self.old.world.now k ≡ Some value) (λ k. IsSome (standing_at self.old.world.now k))
+            (λ k value. value_at self.new.world.now k ≡ Some value) (λ k. IsSome (standing_at self.new.world.now k)) }
     {
         let right = inner::right_of_cell(cell);
         let world = &mut *self.world;

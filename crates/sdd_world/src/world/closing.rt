@@ -13,11 +13,13 @@ use sdd_store::Tally;
 impl<T: Item<T>> World<T> {
     /// Ends the world: reclaims what waits, with what it gives up in turn, and answers the tally. Participants need not have ended.
     ///
-    /// `GuardOpen` where a guard of some participant is open: nothing has changed. `OwnerOut` where an owner or a cell is still out: what waited has been reclaimed. With either the world comes back.
+    /// `GuardOpen` where a guard of some participant is open: nothing has changed. `OwnerOut` where an owner or a cell is still out: what waited
+    /// has been reclaimed. With either the world comes back.
     pub fn close(mut self) -> Result<Tally, (World<T>, Refused)>
         ensures closed { MatchResult result
             (λ tally. ¬ (IsGuarded self) × ((end : World T) × Closes T.holds self end × NothingIsOut end × (tally ≡ end.tally)))
-            (λ e. ((e.1 ≡ Refused.GuardOpen) × IsGuarded self × (e.0 ≡ self)) ⊎ ((e.1 ≡ Refused.OwnerOut) × ¬ (IsGuarded self) × Closes T.holds self e.0 × ¬ (NothingIsOut e.0))) }
+            (λ e. ((e.1 ≡ Refused.GuardOpen) × IsGuarded self × (e.0 ≡ self)) ⊎
+            ((e.1 ≡ Refused.OwnerOut) × ¬ (IsGuarded self) × Closes T.holds self e.0 × ¬ (NothingIsOut e.0))) }
         ensures exactly { IsOk result ↔ (¬ (IsGuarded self) × AllGo T.holds self) }
         ensures spent { ¬ (IsGuarded self) → out self ≡ 0 → IsOk result }
         ensures plainly { HoldsNothing T.holds → (IsOk result ↔ (¬ (IsGuarded self) × (out self ≡ 0))) }

@@ -10,7 +10,8 @@ use super::World;
 use sdd_base::Item;
 
 impl<T: Item<T>> World<T> {
-    /// What the parts of a world keep true of each other: a value where a slot is taken, each item that waits once, each participant abreast of the count, each item accounted for.
+    /// What the parts of a world keep true of each other: a value where a slot is taken, each item that waits once, each participant abreast of the
+    /// count, each item accounted for.
     pub fn is_whole(&self)
         ensures { IsWhole self.now }
     {

@@ -4,7 +4,15 @@ use Rattle.sdd_store.proofs.bags.Bags.rotate.Goals as goal
 
 pub returns-clause-kept : goal.returns-clause-kept
 returns-clause-kept c =
-    rw (← c.self.view_is, c.swap-3.ensures.y_after, c.swap-2.ensures.y_after, c.swap-2.ensures.x_after, c.swap.ensures.y_after, c.swap.ensures.x_after, c.requires.empty)
+    rw (
+      ← c.self.view_is,
+      c.swap-3.ensures.y_after,
+      c.swap-2.ensures.y_after,
+      c.swap-2.ensures.x_after,
+      c.swap.ensures.y_after,
+      c.swap.ensures.x_after,
+      c.requires.empty,
+    )
     (ap (λ w. record { waiting = w; room = c.self.inside.room })
     (sym (left-aged c.self.inside.next.items c.self.inside.previous.items c.self.inside.current.items)))
 
@@ -14,5 +22,14 @@ returns-clause-taken c =
 
 pub returns-clause-count : goal.returns-clause-count
 returns-clause-count c =
-    rw (← c.self.view_is, c.swap-3.ensures.y_after, c.swap-3.ensures.x_after, c.swap-2.ensures.y_after, c.swap-2.ensures.x_after, c.swap.ensures.y_after, c.swap.ensures.x_after, c.requires.empty)
+    rw (
+      ← c.self.view_is,
+      c.swap-3.ensures.y_after,
+      c.swap-3.ensures.x_after,
+      c.swap-2.ensures.y_after,
+      c.swap-2.ensures.x_after,
+      c.swap.ensures.y_after,
+      c.swap.ensures.x_after,
+      c.requires.empty,
+    )
     (length-left-due c.self.inside.next.items c.self.inside.previous.items c.self.inside.current.items)

@@ -7,4 +7,7 @@ use Rattle.atomic_table.specs.Seated.{halved}
 use Rattle.sdd_token.specs.contracts.part.Book.{the_row}
 
 pub send : (K : RattleType) → IsSend (the_row K)
-send K = record { owned = λ d vs. ((λ vss. (tt, ((λ uss. (tt, tt)), tt))), entries_keyless halved d.home.name d.next (λ _. (full_share, gnil))); leaving = λ k f vs. tt }
+send K = record {
+  owned = λ d vs. ((λ vss. (tt, ((λ uss. (tt, tt)), tt))), entries_keyless halved d.home.name d.next (λ _. (full_share, gnil)));
+  leaving = λ k f vs. tt;
+}

@@ -5,4 +5,7 @@ use Rattle.atomic_table.specs.Seated.{halved}
 use Rattle.sdd_token.specs.contracts.part.Part.{the_row}
 
 pub send : (K : RattleType) → IsSend (the_row K)
-send K = record { owned = λ d vs. ((λ vss. (tt, ((λ uss. (tt, tt)), tt))), ((λ q c. entry_keyless halved d.home.name d.number _), (λ q c. tt))); leaving = λ k f vs. tt }
+send K = record {
+  owned = λ d vs. ((λ vss. (tt, ((λ uss. (tt, tt)), tt))), ((λ q c. entry_keyless halved d.home.name d.number _), (λ q c. tt)));
+  leaving = λ k f vs. tt;
+}

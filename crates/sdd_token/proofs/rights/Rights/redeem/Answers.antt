@@ -14,4 +14,5 @@ returns-clause-kept c =
     let first : c.apart.new.self.units ≡ c.index_mut-rest.result.now.units = ap (λ (p : Part Kind). p.units) c.apart.ensures.kept.0 in
     let second : c.apart.new.other.units ≡ c.args.right.part.units = ap (λ (p : Part Kind). p.units) c.apart.ensures.kept.1 in
     let units : c.join.new.self.units ≡ 2 ^ 63 = omega (arith, joined, first, second, c.apart.ensures.some, c.apart.ensures.fits, c.args.right.sole.1) in
-    rw (← c.self.view_is) (kept-changed _ _ _ _ _ inside c.index_mut-rest.ensures.value (λ e. rw (c.set.ensures) (ap (λ (n : ℕ). record { kind = c.args.kind; units = n }) units)))
+    rw (← c.self.view_is) (kept-changed _ _ _ _ _ inside c.index_mut-rest.ensures.value (λ e.
+    rw (c.set.ensures) (ap (λ (n : ℕ). record { kind = c.args.kind; units = n }) units)))
