@@ -1,32 +1,80 @@
--- What is read of a line is spelled so, and what is spelled so is read
-use Rattle.std.proofs.Common.{◌≡◌, ℕ, ◌+◌, ◌≤◌, true, cond, ltb, List, [], ◌∷◌, ◌++◌, length, length-append, Option, Some, None, IfSome, OnSome, MatchOption, MatchResult, Result, Ok, Err, refl, sym, ap, ◌∙◌, subst, lit<, arith}
+-- What is read of a line is its call, and each call is read of its line
+use Rattle.std.proofs.Common.{◌≡◌, ℕ, ◌+◌, ◌*◌, ◌≤◌, Bool, true, false, ◌&&◌, cond, not, eqb, ltb, leb, List, [], ◌∷◌, ◌++◌, length, length-append, map, Option, Some, None, IfSome, OnSome, MatchOption, MatchResult, Result, Ok, Err, refl, sym, ap, ◌∙◌, subst, lit<, arith}
 use Rattle.std.specs.Prelude.{codes}
 use Rattle.std.specs.Borrow.{Bor}
 use Rattle.std.specs.Result.{result_ok}
-use Rattle.std.specs.List.{list_all}
-use Rattle.std.specs.Option.{option_map}
+use Rattle.std.specs.List.{list_all, AllByRecursion}
+use Rattle.std.specs.Option.{option_map, option_or}
 use Rattle.std.specs.Fmt.{decimal}
-use Rattle.std.specs.Str.{IsAscii, IsUtf8, bytes_eq}
-use Rattle.std.proofs.lemmas.Bool.{and_parts, ltb-true, cond_both}
+use Rattle.std.specs.Str.{IsAscii, IsUtf8, all_ascii_digits, bytes_eq}
 use Rattle.std.proofs.lemmas.Option.{IfSome_then}
-use Rattle.std.proofs.lemmas.Fmt.{IsAscii-decimal, length-decimal-le}
+use Rattle.std.proofs.lemmas.Bool.Decides.{nat_tests}
+use Rattle.std.proofs.lemmas.Bool.{and_parts, and_from, ltb-true, leb-true, not-true, cond_both}
+use Rattle.std.proofs.lemmas.Fmt.{digits_decimal, length-decimal-le}
+use Rattle.std.proofs.lemmas.List.{length-map}
+use Rattle.std.proofs.lemmas.List.Elements.{All-nil, All-cons}
+use Rattle.std.proofs.lemmas.List.Folds.{list_all-append}
+use Rattle.std.proofs.lemmas.List.Splits.{join_with_byte-slice_split}
 use Rattle.std.proofs.lemmas.Slice.Eq.{bytes_eq-Decides}
 use Rattle.std.proofs.lemmas.Str.{IsAscii-append, IsUtf8-from_ascii}
 use Rattle.std.proofs.lemmas.Str.Ascii.{IsAscii-nil, IsAscii-cons}
-use Rattle.sdd_lines.proofs.Words.{HasNoSpace-decimal, split_word-at, split_word_is, number_at_is, number_at-decimal, numbered_at_is}
+use Rattle.sdd_lines.proofs.Words.{own, HasNoSpace, words-joined, some_word, number_at_is, number_at-decimal, numbered_at_is, numbered_at-decimal}
 use Rattle.sdd_lines.specs.Name.{place, guard, owner, item}
-use Rattle.sdd_lines.specs.Call.{joined, words_of_action, line_of, IsNumber, ActionHasNumbers, HasNumbers, IsTextOf, IsCallText}
-use Rattle.sdd_lines.specs.Reading.{◌>>=◌, split_word, number_at, place_at, guard_at, owner_at, item_at, look_at, taking_at, action_at, place_call_at, call_at}
+use Rattle.sdd_lines.specs.Call.{joined, word_of, spoken, words_of, line_of, IsNumber, HasNumber, HasNumbers, IsTextOf, IsCallText}
+use Rattle.sdd_lines.specs.Reading.{◌>>=◌, words, numbered_at, place_at, argument_at, arguments_at, with_two, with_arguments, called, call_at}
 use Rattle.sdd_lines.specs.declared.name.PlaceName.{PlaceName}
-use Rattle.sdd_lines.specs.declared.name.GuardName.{GuardName}
-use Rattle.sdd_lines.specs.declared.name.OwnerName.{OwnerName}
-use Rattle.sdd_lines.specs.declared.name.ItemName.{ItemName}
 use Rattle.sdd_lines.specs.declared.call.Action.{Action}
 use Rattle.sdd_lines.specs.declared.call.Action.TheVariants.{Open, Epoch, Garbage, Set, Accelerate, Owned, Read, Look, Retire, Close}
+use Rattle.sdd_lines.specs.declared.call.Argument.{Argument}
+use Rattle.sdd_lines.specs.declared.call.Argument.TheVariants.{Number, Guard, Owner, Item}
 use Rattle.sdd_lines.specs.declared.call.Call.{Call}
 use Rattle.sdd_lines.specs.declared.call.Call.TheVariants.{Register, Tally, At}
 
--- ---- options
+-- ---- verbs
+
+-- a byte of a word: ASCII, and no space
+abbrev is_plain : ℕ → Bool
+is_plain b = not (eqb b 32) && ltb b 128
+
+-- a short word, with few arguments
+abbrev is_short : List ℕ × List Argument → Bool
+is_short said = list_all is_plain said.0 && (leb (length said.0) 21 && leb (length said.1) 6)
+
+-- each action is found by its verb and arguments
+verb : (action : Action) → (called (spoken action).0 (with_arguments (spoken action).1) ≡ Some action) × (is_short (spoken action) ≡ true)
+verb Open = (refl, refl)
+verb (Epoch g) = (refl, refl)
+verb (Garbage g) = (refl, refl)
+verb (Set g) = (refl, refl)
+verb (Accelerate g) = (refl, refl)
+verb (Owned n) = (refl, refl)
+verb (Read o) = (refl, refl)
+verb (Look i g) = (refl, refl)
+verb (Retire o) = (refl, refl)
+verb (Close g) = (refl, refl)
+
+-- the actions with some arguments have these
+have_two : (first second : Argument) → AllByRecursion (λ action. (spoken action).1 ≡ first ∷ second ∷ []) (with_two first second)
+have_two (Item i) (Guard g) = (refl, tt)
+have_two first second = tt
+
+have_arguments : (arguments : List Argument) → AllByRecursion (λ action. (spoken action).1 ≡ arguments) (with_arguments arguments)
+have_arguments [] = (refl, tt)
+have_arguments (Number n ∷ []) = (refl, tt)
+have_arguments (Guard g ∷ []) = (refl, (refl, (refl, (refl, (refl, tt)))))
+have_arguments (Owner o ∷ []) = (refl, (refl, tt))
+have_arguments (Item i ∷ []) = tt
+have_arguments (first ∷ second ∷ []) = have_two first second
+have_arguments (first ∷ second ∷ third ∷ more) = tt
+
+called_is : (verb : List ℕ) (arguments : List Argument) (actions : List Action) → AllByRecursion (λ action. (spoken action).1 ≡ arguments) actions →
+    IfSome (called verb actions) (λ action. ((spoken action).0 ≡ verb) × ((spoken action).1 ≡ arguments))
+called_is verb arguments [] h = tt
+called_is verb arguments (action ∷ actions) h =
+    cond_both (bytes_eq verb (spoken action).0) _ _ (λ o. IfSome o (λ action. ((spoken action).0 ≡ verb) × ((spoken action).1 ≡ arguments)))
+    (λ e. (sym ((bytes_eq-Decides verb _).0 e), h.0)) (λ _. called_is verb arguments actions h.1)
+
+-- ---- what is read of words is spelled by them
 
 IfSome-map : {A B : Type 0} (f : A → B) (o : Option A) (P : B → Type 0) → IfSome o (λ x. P (f x)) → IfSome (option_map f o) P
 IfSome-map f None P h = tt
@@ -37,218 +85,161 @@ IfSome-bind : {A B : Type 0} (o : Option A) (f : A → Option B) (Q : A → Type
 IfSome-bind None f Q P h g = tt
 IfSome-bind (Some x) f Q P h g = g x h
 
-bind_some : {A B : Type 0} (o : Option A) (f : A → Option B) (x : A) → o ≡ Some x → (o >>= f) ≡ f x
-bind_some o f x e = ap (λ p. p >>= f) e
+IfSome-or : {A : Type 0} (o p : Option A) (P : A → Type 0) → IfSome o P → IfSome p P → IfSome (option_or o p) P
+IfSome-or None p P h k = k
+IfSome-or (Some x) p P h k = h
 
--- ---- what is read is spelled so
+argument_at_is : (word : List ℕ) → IfSome (argument_at word) (λ a. HasNumber a × (word_of a ≡ word))
+argument_at_is word =
+    let P : Argument → Type 0 = λ a. HasNumber a × (word_of a ≡ word) in
+    IfSome-or _ _ P (IfSome-map _ _ P (numbered_at_is 103 word)) (IfSome-or _ _ P (IfSome-map _ _ P (numbered_at_is 111 word))
+    (IfSome-or _ _ P (IfSome-map _ _ P (numbered_at_is 105 word)) (IfSome-map _ _ P (number_at_is word))))
 
-place_at_is : (word : List ℕ) → IfSome (place_at word) (λ p. IsNumber p.0 × (place p ≡ word))
-place_at_is word = IfSome-map _ _ (λ p. IsNumber p.0 × (place p ≡ word)) (numbered_at_is 112 word)
+arguments_at_are : (ws : List (List ℕ)) → IfSome (arguments_at ws) (λ arguments. AllByRecursion HasNumber arguments × (map word_of arguments ≡ ws))
+arguments_at_are [] = (tt, refl)
+arguments_at_are (w ∷ ws) = IfSome-bind (argument_at w) _ _ _ (argument_at_is w) (λ a h.
+    let Q : List Argument → Type 0 = λ arguments. AllByRecursion HasNumber arguments × (map word_of arguments ≡ w ∷ ws) in
+    IfSome-map (λ more. a ∷ more) (arguments_at ws) Q (IfSome_then (arguments_at ws) {Q = λ more. Q (a ∷ more)} (arguments_at_are ws) (λ more k. ((h.0, k.0), cc))))
 
-guard_at_is : (word : List ℕ) → IfSome (guard_at word) (λ g. IsNumber g.0 × (guard g ≡ word))
-guard_at_is word = IfSome-map _ _ (λ g. IsNumber g.0 × (guard g ≡ word)) (numbered_at_is 103 word)
+tested : {A : Type 0} (word text : List ℕ) (x y : Option A) (P : A → Type 0) → (text ≡ word → IfSome x P) → IfSome y P → IfSome (cond (bytes_eq word text) x y) P
+tested word text x y P f h = cond_both (bytes_eq word text) x y (λ o. IfSome o P) (λ e. f (sym ((bytes_eq-Decides word text).0 e))) (λ _. h)
 
-owner_at_is : (word : List ℕ) → IfSome (owner_at word) (λ o. IsNumber o.0 × (owner o ≡ word))
-owner_at_is word = IfSome-map _ _ (λ o. IsNumber o.0 × (owner o ≡ word)) (numbered_at_is 111 word)
+call_at_is : (ws : List (List ℕ)) → IfSome (call_at ws) (λ call. HasNumbers call × (words_of call ≡ ws))
+call_at_is [] = tt
+call_at_is (w ∷ []) =
+    let P : Call → Type 0 = λ call. HasNumbers call × (words_of call ≡ w ∷ []) in
+    tested w (codes "register") _ _ P (λ e. (tt, ap (λ v. v ∷ []) e)) (tested w (codes "tally") _ _ P (λ e. (tt, ap (λ v. v ∷ []) e)) tt)
+call_at_is (w ∷ v ∷ ws) =
+    let P : Call → Type 0 = λ call. HasNumbers call × (words_of call ≡ w ∷ v ∷ ws) in
+    IfSome-bind (place_at w) _ _ P (IfSome-map _ _ (λ p. IsNumber p.0 × (place p ≡ w)) (numbered_at_is 112 w)) (λ p h.
+    IfSome-map (λ action. At p action) _ P (IfSome-bind (arguments_at ws) _ _ (λ action. P (At p action)) (arguments_at_are ws) (λ arguments k.
+    IfSome_then (called v (with_arguments arguments)) {Q = λ action. P (At p action)} (called_is v arguments _ (have_arguments arguments))
+    (λ action l. ((h.0, subst (AllByRecursion HasNumber) (sym l.1) k.0), cc)))))
 
-item_at_is : (word : List ℕ) → IfSome (item_at word) (λ i. IsNumber i.0 × (item i ≡ word))
-item_at_is word = IfSome-map _ _ (λ i. IsNumber i.0 × (item i ≡ word)) (numbered_at_is 105 word)
+-- ---- what is spelled by words is read of them
 
--- a text is that of this action
-abbrev IsActionText : List ℕ → Action → Type 0
-IsActionText text action = ActionHasNumbers action × (joined (words_of_action action) ≡ text)
+argument_at-word_of : (argument : Argument) → HasNumber argument → argument_at (word_of argument) ≡ Some argument
+argument_at-word_of (Number n) h =
+    rw (
+      numbered_at-decimal 103 n h (λ r. omega (arith, r.1)),
+      numbered_at-decimal 111 n h (λ r. omega (arith, r.1)),
+      numbered_at-decimal 105 n h (λ r. omega (arith, r.1)),
+      number_at-decimal n h,
+    ) refl
+argument_at-word_of (Guard g) h = rw (number_at-decimal g.0 h) refl
+argument_at-word_of (Owner o) h = rw (number_at-decimal o.0 h) refl
+argument_at-word_of (Item i) h = rw (number_at-decimal i.0 h) refl
 
-look_at_is : (text : List ℕ) → IfSome (look_at text) (IsActionText (codes "look " ++ text))
-unfolding look_at
-look_at_is text = IfSome-bind (split_word text) _ _ _ (split_word_is text) (λ words e.
-    IfSome-bind (item_at words.0) _ _ _ (item_at_is words.0) (λ i h.
-    IfSome-bind (guard_at words.1) _ _ _ (guard_at_is words.1) (λ g k.
-    ((h.0, k.0), ap (λ t. codes "look " ++ t) (ap (λ t. t ++ 32 ∷ guard g) h.1 ∙ ap (λ t. words.0 ++ 32 ∷ t) k.1 ∙ sym e)))))
+arguments_at-words : (arguments : List Argument) → AllByRecursion HasNumber arguments → arguments_at (map word_of arguments) ≡ Some arguments
+arguments_at-words [] h = refl
+arguments_at-words (a ∷ arguments) h = rw (argument_at-word_of a h.0, arguments_at-words arguments h.1) refl
 
--- a test of a word
-tested : {A : Type 0} (verb word : List ℕ) (x y : A) (P : A → Type 0) → (verb ≡ word → P x) → P y → P (cond (bytes_eq verb word) x y)
-tested verb word x y P f h = cond_both (bytes_eq verb word) x y P (λ e. f ((bytes_eq-Decides verb word).0 e)) (λ _. h)
+call_at-words_of : (call : Call) → HasNumbers call → call_at (words_of call) ≡ Some call
+call_at-words_of Register h = refl
+call_at-words_of Tally h = refl
+call_at-words_of (At p action) h = rw (number_at-decimal p.0 h.0, arguments_at-words (spoken action).1 h.1, (verb action).0) refl
 
--- an action with one argument
-taken : {A : Type 0} (f : A → Action) (Q : A → Type 0) (shown : A → List ℕ) (o : Option A) (word verb text : List ℕ)
-    → ((x : A) → Q x → ActionHasNumbers (f x)) → ((x : A) → joined (words_of_action (f x)) ≡ word ++ 32 ∷ shown x)
-    → verb ≡ word → IfSome o (λ x. Q x × (shown x ≡ text)) → IfSome (option_map f o) (IsActionText (verb ++ 32 ∷ text))
-taken f Q shown o word verb text numbers spelled e h =
-    IfSome-map f o _ (IfSome_then o h
-    (λ x k. (numbers x k.0, spelled x ∙ ap (λ t. word ++ 32 ∷ t) k.1 ∙ ap (λ w. w ++ 32 ∷ text) (sym e))))
+-- ---- words as a line
 
-taking_at_is : (verb text : List ℕ) → IfSome (taking_at verb text) (IsActionText (verb ++ 32 ∷ text))
-unfolding taking_at
-taking_at_is verb text =
-    let P : Option Action → Type 0 = λ o. IfSome o (IsActionText (verb ++ 32 ∷ text)) in
-    let of_guard = guard_at_is text in
-    let of_owner = owner_at_is text in
-    tested verb (codes "epoch") _ _ P (λ e. taken (λ g. Epoch g) (λ g. IsNumber g.0) guard (guard_at text) _ verb text (λ g h. h) (λ g. refl) e of_guard) (
-    tested verb (codes "garbage") _ _ P (λ e. taken (λ g. Garbage g) (λ g. IsNumber g.0) guard (guard_at text) _ verb text (λ g h. h) (λ g. refl) e of_guard) (
-    tested verb (codes "set") _ _ P (λ e. taken (λ g. Set g) (λ g. IsNumber g.0) guard (guard_at text) _ verb text (λ g h. h) (λ g. refl) e of_guard) (
-    tested verb (codes "accelerate") _ _ P
-    (λ e. taken (λ g. Accelerate g) (λ g. IsNumber g.0) guard (guard_at text) _ verb text (λ g h. h) (λ g. refl) e of_guard) (
-    tested verb (codes "owned") _ _ P (λ e. taken (λ n. Owned n) IsNumber decimal (number_at text) _ verb text (λ n h. h) (λ n. refl) e (number_at_is text)) (
-    tested verb (codes "read") _ _ P (λ e. taken (λ o. Read o) (λ o. IsNumber o.0) owner (owner_at text) _ verb text (λ o h. h) (λ o. refl) e of_owner) (
-    tested verb (codes "look") _ _ P (λ e. IfSome_then (look_at text) (look_at_is text) (λ a h. (h.0, h.1 ∙ ap (λ w. w ++ 32 ∷ text) (sym e)))) (
-    tested verb (codes "retire") _ _ P (λ e. taken (λ o. Retire o) (λ o. IsNumber o.0) owner (owner_at text) _ verb text (λ o h. h) (λ o. refl) e of_owner) (
-    tested verb (codes "close") _ _ P (λ e. taken (λ g. Close g) (λ g. IsNumber g.0) guard (guard_at text) _ verb text (λ g h. h) (λ g. refl) e of_guard)
-    tt))))))))
+digits_plain : (ds : List ℕ) → all_ascii_digits ds ≡ true → list_all is_plain ds ≡ true
+digits_plain [] h = refl
+digits_plain (d ∷ ds) h = grind (arith, nat_tests, digits_plain ds)
 
-action_at_is : (text : List ℕ) → IfSome (action_at text) (IsActionText text)
-unfolding action_at
-action_at_is text =
-    tested text (codes "open") _ _ (λ o. IfSome o (IsActionText text)) (λ e. (tt, sym e)) (
-    IfSome-bind (split_word text) _ _ _ (split_word_is text) (λ words e.
-    IfSome_then (taking_at words.0 words.1) {P = IsActionText (words.0 ++ 32 ∷ words.1)} {Q = IsActionText text}
-    (taking_at_is words.0 words.1) (λ a h. (h.0, h.1 ∙ sym e))))
+plain_parts : (bs : List ℕ) → list_all is_plain bs ≡ true → HasNoSpace bs × IsAscii bs
+plain_parts [] h = (All-nil _, IsAscii-nil)
+plain_parts (b ∷ bs) h =
+    let parts = and_parts (is_plain b) _ h in
+    let byte = and_parts (not (eqb b 32)) _ parts.0 in
+    let more = plain_parts bs parts.1 in
+    (All-cons (λ b. eqb b 32 ≡ false) b bs (not-true _ byte.0) more.0, IsAscii-cons b bs (ltb-true b 128 byte.1) more.1)
 
--- the place of a call, a space, and the text of the action
-pub line_of-At : (p : PlaceName) (action : Action) → line_of (At p action) ≡ place p ++ 32 ∷ joined (words_of_action action)
-line_of-At p Open = refl
-line_of-At p (Epoch g) = refl
-line_of-At p (Garbage g) = refl
-line_of-At p (Set g) = refl
-line_of-At p (Accelerate g) = refl
-line_of-At p (Owned n) = refl
-line_of-At p (Read o) = refl
-line_of-At p (Look i g) = refl
-line_of-At p (Retire o) = refl
-line_of-At p (Close g) = refl
+abbrev IsWord : List ℕ → Type 0
+IsWord word = (list_all is_plain word ≡ true) × (length word ≤ 21)
 
-place_call_at_is : (text : List ℕ) → IfSome (place_call_at text) (λ call. IsTextOf call text)
-unfolding place_call_at
-place_call_at_is text = IfSome-bind (split_word text) _ _ _ (split_word_is text) (λ words e.
-    IfSome-bind (place_at words.0) _ _ _ (place_at_is words.0) (λ p h.
-    IfSome-bind (action_at words.1) _ _ _ (action_at_is words.1) (λ action k.
-    ((h.0, k.0), line_of-At p action ∙ ap (λ t. t ++ 32 ∷ joined (words_of_action action)) h.1 ∙ ap (λ t. words.0 ++ 32 ∷ t) k.1 ∙ sym e))))
-
-call_at_is : (text : List ℕ) → IfSome (call_at text) (λ call. IsTextOf call text)
-unfolding call_at
-call_at_is text =
-    tested text (codes "register") _ _ (λ o. IfSome o (λ call. IsTextOf call text)) (λ e. (tt, sym e)) (
-    tested text (codes "tally") _ _ (λ o. IfSome o (λ call. IsTextOf call text)) (λ e. (tt, sym e)) (place_call_at_is text))
-
--- ---- what is spelled so is read
-
-place_at-place : (p : PlaceName) → IsNumber p.0 → place_at (place p) ≡ Some p
-place_at-place p h = ap (option_map (λ n. record { 0 = n })) (number_at-decimal p.0 h)
-
-guard_at-guard : (g : GuardName) → IsNumber g.0 → guard_at (guard g) ≡ Some g
-guard_at-guard g h = ap (option_map (λ n. record { 0 = n })) (number_at-decimal g.0 h)
-
-owner_at-owner : (o : OwnerName) → IsNumber o.0 → owner_at (owner o) ≡ Some o
-owner_at-owner o h = ap (option_map (λ n. record { 0 = n })) (number_at-decimal o.0 h)
-
-item_at-item : (i : ItemName) → IsNumber i.0 → item_at (item i) ≡ Some i
-item_at-item i h = ap (option_map (λ n. record { 0 = n })) (number_at-decimal i.0 h)
-
-look_at-words : (i : ItemName) (g : GuardName) → IsNumber i.0 → IsNumber g.0 → look_at (item i ++ 32 ∷ guard g) ≡ Some (Look i g)
-unfolding look_at
-look_at-words i g h k =
-    bind_some (split_word (item i ++ 32 ∷ guard g)) _ (item i, guard g) (split_word-at (item i) (guard g) (refl, HasNoSpace-decimal i.0 h))
-    ∙ bind_some (item_at (item i)) _ i (item_at-item i h) ∙ bind_some (guard_at (guard g)) _ g (guard_at-guard g k)
-
-action_at-words : (action : Action) → ActionHasNumbers action → action_at (joined (words_of_action action)) ≡ Some action
-unfolding action_at taking_at
-action_at-words Open h = refl
-action_at-words (Epoch g) h = ap (option_map (λ g. Epoch g)) (guard_at-guard g h)
-action_at-words (Garbage g) h = ap (option_map (λ g. Garbage g)) (guard_at-guard g h)
-action_at-words (Set g) h = ap (option_map (λ g. Set g)) (guard_at-guard g h)
-action_at-words (Accelerate g) h = ap (option_map (λ g. Accelerate g)) (guard_at-guard g h)
-action_at-words (Owned n) h = ap (option_map (λ n. Owned n)) (number_at-decimal n h)
-action_at-words (Read o) h = ap (option_map (λ o. Read o)) (owner_at-owner o h)
-action_at-words (Look i g) h = look_at-words i g h.0 h.1
-action_at-words (Retire o) h = ap (option_map (λ o. Retire o)) (owner_at-owner o h)
-action_at-words (Close g) h = ap (option_map (λ g. Close g)) (guard_at-guard g h)
-
-place_call_at-words : (p : PlaceName) (action : Action) → IsNumber p.0 → ActionHasNumbers action →
-    place_call_at (place p ++ 32 ∷ joined (words_of_action action)) ≡ Some (At p action)
-unfolding place_call_at
-place_call_at-words p action h k =
-    let rest = joined (words_of_action action) in
-    bind_some (split_word (place p ++ 32 ∷ rest)) _ (place p, rest) (split_word-at (place p) rest (refl, HasNoSpace-decimal p.0 h))
-    ∙ bind_some (place_at (place p)) _ p (place_at-place p h) ∙ bind_some (action_at rest) _ action (action_at-words action k)
-
-pub call_at-line_of : (call : Call) → HasNumbers call → call_at (line_of call) ≡ Some call
-unfolding call_at
-call_at-line_of Register h = refl
-call_at-line_of Tally h = refl
-call_at-line_of (At p action) h = ap call_at (line_of-At p action) ∙ place_call_at-words p action h.0 h.1
-
--- ---- both
-
-answer_is : (line : List ℕ) (o : Option Call) → o ≡ call_at line → IfSome o (λ call. IsTextOf call line) →
-    MatchOption o (¬ IsCallText line) (λ call. IsTextOf call line)
-answer_is line None e h = λ w. (let again = call_at-line_of w.0 w.1.0 in let same = ap call_at w.1.1 in absurd (cc))
-answer_is line (Some call) e h = h
-
-pub call_at_answers : (line : List ℕ) → MatchOption (call_at line) (¬ IsCallText line) (λ call. IsTextOf call line)
-call_at_answers line = answer_is line (call_at line) refl (call_at_is line)
-
--- no two calls have one text
-pub line_of_injective : (a b : Call) → HasNumbers a → HasNumbers b → line_of a ≡ line_of b → a ≡ b
-line_of_injective a b h k e = let first = call_at-line_of a h in let second = call_at-line_of b k in let same = ap call_at e in cc
-
--- ---- each line is short, and ASCII
-
-ascii_text : (bs : List ℕ) → list_all (λ b. ltb b 128) bs ≡ true → IsAscii bs
-ascii_text [] h = IsAscii-nil
-ascii_text (b ∷ bs) h = let parts = and_parts (ltb b 128) _ h in IsAscii-cons b bs (ltb-true b 128 parts.0) (ascii_text bs parts.1)
-
--- ASCII, and at most so long
-abbrev IsPlain : ℕ → List ℕ → Type 0
-IsPlain most bs = IsAscii bs × (length bs ≤ most)
-
-numbered_plain : (front : List ℕ) (n most : ℕ) → list_all (λ b. ltb b 128) front ≡ true → length front + 20 ≤ most → IsNumber n →
-    IsPlain most (front ++ decimal n)
-numbered_plain front n most h l small = (
-  IsAscii-append front (decimal n) (ascii_text front h) (IsAscii-decimal n small),
+numbered_word : (front : List ℕ) (n : ℕ) → list_all is_plain front ≡ true → length front ≤ 1 → IsNumber n → IsWord (front ++ decimal n)
+numbered_word front n h l small = (
+  list_all-append is_plain front (decimal n) ∙ and_from _ _ h (digits_plain (decimal n) (digits_decimal own n small)),
   omega (arith, length-append front (decimal n), length-decimal-le 20 n (lit< tt) (omega arith) small),
 )
 
-appended_plain : (xs ys : List ℕ) (j k most : ℕ) → j + k ≤ most → IsPlain j xs → IsPlain k ys → IsPlain most (xs ++ ys)
-appended_plain xs ys j k most l p q = (IsAscii-append xs ys p.0 q.0, omega (arith, length-append xs ys, p.1, q.1))
+argument_words : (arguments : List Argument) → AllByRecursion HasNumber arguments → AllByRecursion IsWord (map word_of arguments)
+argument_words [] h = tt
+argument_words (Number n ∷ more) h = (numbered_word [] n refl (omega arith) h.0, argument_words more h.1)
+argument_words (Guard g ∷ more) h = (numbered_word (codes "g") g.0 refl (omega arith) h.0, argument_words more h.1)
+argument_words (Owner o ∷ more) h = (numbered_word (codes "o") o.0 refl (omega arith) h.0, argument_words more h.1)
+argument_words (Item i ∷ more) h = (numbered_word (codes "i") i.0 refl (omega arith) h.0, argument_words more h.1)
 
-action_plain : (action : Action) → ActionHasNumbers action → IsPlain 100 (joined (words_of_action action))
-action_plain Open h = (ascii_text (codes "open") refl, omega arith)
-action_plain (Epoch g) h = numbered_plain (codes "epoch g") g.0 100 refl (omega arith) h
-action_plain (Garbage g) h = numbered_plain (codes "garbage g") g.0 100 refl (omega arith) h
-action_plain (Set g) h = numbered_plain (codes "set g") g.0 100 refl (omega arith) h
-action_plain (Accelerate g) h = numbered_plain (codes "accelerate g") g.0 100 refl (omega arith) h
-action_plain (Owned n) h = numbered_plain (codes "owned ") n 100 refl (omega arith) h
-action_plain (Read o) h = numbered_plain (codes "read o") o.0 100 refl (omega arith) h
-action_plain (Look i g) h =
-    appended_plain (codes "look i" ++ decimal i.0) (codes " g" ++ decimal g.0) 50 50 100 (omega arith)
-    (numbered_plain (codes "look i") i.0 50 refl (omega arith) h.0) (numbered_plain (codes " g") g.0 50 refl (omega arith) h.1)
-action_plain (Retire o) h = numbered_plain (codes "retire o") o.0 100 refl (omega arith) h
-action_plain (Close g) h = numbered_plain (codes "close g") g.0 100 refl (omega arith) h
+-- words that are joined are no other words, ASCII, and short
+word_line : (w : List ℕ) (ws : List (List ℕ)) → AllByRecursion IsWord (w ∷ ws) →
+    AllByRecursion HasNoSpace (w ∷ ws) × IsAscii (joined (w ∷ ws)) × (length (joined (w ∷ ws)) ≤ 22 * length (w ∷ ws))
+word_line w [] h = let plain = plain_parts w h.0.0 in ((plain.0, tt), plain.1, omega (arith, h.0.1))
+word_line w (v ∷ ws) h =
+    let plain = plain_parts w h.0.0 in
+    let rest = word_line v ws h.1 in (
+      (plain.0, rest.0),
+      IsAscii-append w _ plain.1 (IsAscii-cons 32 _ (lit< tt) rest.1),
+      omega (arith, length-append w (32 ∷ joined (v ∷ ws)), h.0.1, rest.2),
+    )
 
-line_plain : (call : Call) → HasNumbers call → IsPlain 200 (line_of call)
-line_plain Register h = (ascii_text (codes "register") refl, omega arith)
-line_plain Tally h = (ascii_text (codes "tally") refl, omega arith)
-line_plain (At p action) h =
-    let rest = joined (words_of_action action) in
-    let plain = action_plain action h.1 in
-    subst (IsPlain 200) (sym (line_of-At p action))
-    (appended_plain (place p) (32 ∷ rest) 90 101 200 (omega arith) (numbered_plain (codes "p") p.0 90 refl (omega arith) h.0)
-    (IsAscii-cons 32 rest (lit< tt) plain.0, omega (arith, plain.1)))
+few_words : (w : List ℕ) (ws : List (List ℕ)) → AllByRecursion IsWord (w ∷ ws) → length (w ∷ ws) ≤ 8 →
+    (words (joined (w ∷ ws)) ≡ w ∷ ws) × IsAscii (joined (w ∷ ws)) × (length (joined (w ∷ ws)) ≤ 200)
+few_words w ws h few = let plain = word_line w ws h in (words-joined w ws plain.0, plain.1, omega (arith, plain.2, few))
 
-pub ascii_from_call : (line : List ℕ) → IsCallText line → IsAscii line
-ascii_from_call line w = subst IsAscii w.1.1 (line_plain w.0 w.1.0).0
+-- the line of a call has its words and no others, is ASCII, and is short
+call_line : (call : Call) → HasNumbers call → (words (line_of call) ≡ words_of call) × IsAscii (line_of call) × (length (line_of call) ≤ 200)
+call_line Register h = few_words (codes "register") [] ((refl, omega arith), tt) (omega arith)
+call_line Tally h = few_words (codes "tally") [] ((refl, omega arith), tt) (omega arith)
+call_line (At p action) h =
+    let plain = and_parts (list_all is_plain (spoken action).0) _ (verb action).1 in
+    let sizes = and_parts (leb (length (spoken action).0) 21) _ plain.1 in
+    few_words (place p) ((spoken action).0 ∷ map word_of (spoken action).1)
+    (numbered_word (codes "p") p.0 refl (omega arith) h.0, ((plain.0, leb-true _ _ sizes.0), argument_words (spoken action).1 h.1))
+    (omega (arith, leb-true _ _ sizes.1, length-map (spoken action).1 word_of))
+
+-- ---- both
+
+call_at-line_of : (call : Call) → HasNumbers call → call_at (words (line_of call)) ≡ Some call
+call_at-line_of call h = ap call_at (call_line call h).0 ∙ call_at-words_of call h
+
+-- no two calls have one text
+pub line_of_injective : (a b : Call) → HasNumbers a → HasNumbers b → line_of a ≡ line_of b → a ≡ b
+line_of_injective a b h k e = let first = call_at-line_of a h in let second = call_at-line_of b k in let same = ap (λ l. call_at (words l)) e in cc
+
+answer_is : (line : List ℕ) (o : Option Call) → o ≡ call_at (words line) → IfSome o (λ call. HasNumbers call × (words_of call ≡ words line)) →
+    MatchOption o (¬ IsCallText line) (λ call. IsTextOf call line)
+answer_is line None e h = λ w. (let again = call_at-line_of w.0 w.1.0 in let same = ap (λ l. call_at (words l)) w.1.1 in absurd (cc))
+answer_is line (Some call) e h = (h.0, ap joined h.1 ∙ join_with_byte-slice_split 32 line)
+
+pub call_at_answers : (line : List ℕ) → MatchOption (call_at (words line)) (¬ IsCallText line) (λ call. IsTextOf call line)
+call_at_answers line = answer_is line (call_at (words line)) refl (call_at_is (words line))
 
 pub short_from_call : (line : List ℕ) (o : Option Call) → MatchOption o (¬ IsCallText line) (λ call. IsTextOf call line) → OnSome o (length line ≤ 200)
 short_from_call line None h = tt
-short_from_call line (Some call) h = subst (λ l. length l ≤ 200) h.1 (line_plain call h.0).1
+short_from_call line (Some call) h = subst (λ l. length l ≤ 200) h.1 (call_line call h.0).2
 
 -- ---- bytes as text
 
 pub not_utf8 : {E : Type 0} (line : List ℕ) (r : Result (Bor (List ℕ)) E) (P : Bor (List ℕ) → Type 0) (Q : E → Type 0) →
     None ≡ result_ok r → MatchResult r P (λ e. ¬ (IsUtf8 line) × Q e) → ¬ (IsCallText line)
 not_utf8 line (Ok s) P Q e h = absurd (cc)
-not_utf8 line (Err x) P Q e h = λ w. h.0 (IsUtf8-from_ascii line (ascii_from_call line w))
+not_utf8 line (Err x) P Q e h = λ w. h.0 (IsUtf8-from_ascii line (subst IsAscii w.1.1 (call_line w.0 w.1.0).1))
 
 pub utf8_text : {E : Type 0} (line : List ℕ) (r : Result (Bor (List ℕ)) E) (s : Bor (List ℕ)) (P : Type 0) (Q : E → Type 0) →
     Some s ≡ result_ok r → MatchResult r (λ t. (t.now ≡ line) × P) Q → s.now ≡ line
 utf8_text line (Ok t) s P Q e h = let same : s ≡ t = cc in ap (λ x. x.now) same ∙ h.0
 utf8_text line (Err x) s P Q e h = absurd (cc)
+
+-- ---- what reading gives up at
+
+pub no_place : (first rest : List ℕ) → None ≡ numbered_at 112 first → None ≡ call_at (first ∷ words rest)
+no_place first rest e = let w = some_word rest in rw (w.2, ← e) refl
+
+third_word : (verb : List ℕ) (first second : Argument) (third : Option Argument) (more : Option (List Argument)) →
+    None ≡ (option_map (λ ws. first ∷ ws) (option_map (λ ws. second ∷ ws) (third >>= λ a. option_map (λ ws. a ∷ ws) more)) >>= λ ws. called verb (with_arguments ws))
+third_word verb first second None more = refl
+third_word verb first second (Some third) None = refl
+third_word verb first second (Some third) (Some more) = refl
+
+pub too_many : (verb text : List ℕ) (first second : Argument) →
+    None ≡ (option_map (λ ws. first ∷ ws) (option_map (λ ws. second ∷ ws) (arguments_at (words text))) >>= λ ws. called verb (with_arguments ws))
+too_many verb text first second = let w = some_word text in rw w.2 (third_word verb first second (argument_at w.0) (arguments_at w.1))

@@ -28,6 +28,15 @@ pub enum Action {
     Close(GuardName),
 }
 
+/// An argument of a verb, which is a word of a line.
+#[derive(Clone, Copy)]
+pub(crate) enum Argument {
+    Number(u64),
+    Guard(GuardName),
+    Owner(OwnerName),
+    Item(ItemName),
+}
+
 impl Call {
     ghost use Rattle.std.specs.Prelude.{◌≤◌, MatchOption, OnSome, length};
     ghost use Rattle.sdd_lines.specs.Call.{IsTextOf, IsCallText};
