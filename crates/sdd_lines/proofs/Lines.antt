@@ -1,8 +1,6 @@
 -- What is read of a line is its call, and each call is read of its line
-use Rattle.std.proofs.Common.{◌≡◌, ℕ, ◌+◌, ◌*◌, ◌≤◌, Bool, true, false, ◌&&◌, cond, not, eqb, ltb, leb, List, [], ◌∷◌, ◌++◌, length, length-append, map, Option, Some, None, IfSome, OnSome, MatchOption, MatchResult, Result, Ok, Err, refl, sym, ap, ◌∙◌, subst, lit<, arith}
+use Rattle.std.proofs.Common.{◌≡◌, ℕ, ◌+◌, ◌*◌, ◌≤◌, Bool, true, false, ◌&&◌, cond, not, eqb, ltb, leb, List, [], ◌∷◌, ◌++◌, length, length-append, map, Option, Some, None, IfSome, OnSome, MatchOption, refl, sym, ap, ◌∙◌, subst, lit<, arith}
 use Rattle.std.specs.Prelude.{codes}
-use Rattle.std.specs.Borrow.{Bor}
-use Rattle.std.specs.Result.{result_ok}
 use Rattle.std.specs.List.{list_all, AllByRecursion}
 use Rattle.std.specs.Option.{option_map, option_or}
 use Rattle.std.specs.Fmt.{decimal}
@@ -217,17 +215,8 @@ pub short_from_call : (line : List ℕ) (o : Option Call) → MatchOption o (¬ 
 short_from_call line None h = tt
 short_from_call line (Some call) h = subst (λ l. length l ≤ 200) h.1 (call_line call h.0).2
 
--- ---- bytes as text
-
-pub not_utf8 : {E : Type 0} (line : List ℕ) (r : Result (Bor (List ℕ)) E) (P : Bor (List ℕ) → Type 0) (Q : E → Type 0) →
-    None ≡ result_ok r → MatchResult r P (λ e. ¬ (IsUtf8 line) × Q e) → ¬ (IsCallText line)
-not_utf8 line (Ok s) P Q e h = absurd (cc)
-not_utf8 line (Err x) P Q e h = λ w. h.0 (IsUtf8-from_ascii line (subst IsAscii w.1.1 (call_line w.0 w.1.0).1))
-
-pub utf8_text : {E : Type 0} (line : List ℕ) (r : Result (Bor (List ℕ)) E) (s : Bor (List ℕ)) (P : Type 0) (Q : E → Type 0) →
-    Some s ≡ result_ok r → MatchResult r (λ t. (t.now ≡ line) × P) Q → s.now ≡ line
-utf8_text line (Ok t) s P Q e h = let same : s ≡ t = cc in ap (λ x. x.now) same ∙ h.0
-utf8_text line (Err x) s P Q e h = absurd (cc)
+pub not_utf8 : (line : List ℕ) → ¬ IsUtf8 line → ¬ IsCallText line
+not_utf8 line h w = h (IsUtf8-from_ascii line (subst IsAscii w.1.1 (call_line w.0 w.1.0).1))
 
 -- ---- what reading gives up at
 

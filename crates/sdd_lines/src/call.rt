@@ -48,6 +48,9 @@ impl Call {
         // So a longer line is no call.
         ensures short { OnSome result (length line.now ≤ 200) }
     {
-        reading::call(str::from_utf8(line).ok()?)
+        match str::from_utf8(line) {
+            Ok(text) => reading::call(text),
+            Err(_) => None,
+        }
     }
 }
