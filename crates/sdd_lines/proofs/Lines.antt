@@ -1,8 +1,8 @@
 -- What is read of a line is its call, and each call is read of its line
-use Rattle.std.proofs.Common.{◌≡◌, ℕ, ◌+◌, ◌*◌, ◌≤◌, Bool, true, false, ◌&&◌, cond, not, eqb, ltb, leb, List, [], ◌∷◌, ◌++◌, length, length-append, map, Option, Some, None, IfSome, OnSome, MatchOption, refl, sym, ap, ◌∙◌, subst, lit<, arith}
+use Rattle.std.proofs.Common.{◌≡◌, ℕ, ◌+◌, ◌*◌, ◌<◌, ◌≤◌, Bool, true, false, ◌&&◌, cond, not, eqb, ltb, leb, List, [], ◌∷◌, ◌++◌, length, length-append, map, Option, Some, None, IfSome, OnSome, MatchOption, refl, sym, ap, ◌∙◌, subst, lit<, arith}
 use Rattle.std.specs.Prelude.{codes}
 use Rattle.std.specs.List.{list_all, AllByRecursion}
-use Rattle.std.specs.Option.{option_map, option_or}
+use Rattle.std.specs.Option.{option_or}
 use Rattle.std.specs.Fmt.{decimal}
 use Rattle.std.specs.Str.{IsAscii, IsUtf8, all_ascii_digits, bytes_eq}
 use Rattle.std.proofs.lemmas.Option.{IfSome_then}
@@ -12,15 +12,14 @@ use Rattle.std.proofs.lemmas.Fmt.{digits_decimal, length-decimal-le}
 use Rattle.std.proofs.lemmas.List.{length-map}
 use Rattle.std.proofs.lemmas.List.Elements.{All-nil, All-cons}
 use Rattle.std.proofs.lemmas.List.Folds.{list_all-append}
-use Rattle.std.proofs.lemmas.List.Splits.{join_with_byte-slice_split}
+use Rattle.std.proofs.lemmas.List.Splits.{join_with_byte-slice_split, slice_split_none, slice_split_at}
 use Rattle.std.proofs.lemmas.Slice.Eq.{bytes_eq-Decides}
 use Rattle.std.proofs.lemmas.Str.{IsAscii-append, IsUtf8-from_ascii}
 use Rattle.std.proofs.lemmas.Str.Ascii.{IsAscii-nil, IsAscii-cons}
-use Rattle.sdd_lines.proofs.Words.{own, HasNoSpace, words-joined, some_word, number_at_is, number_at-decimal, numbered_at_is, numbered_at-decimal}
+use Rattle.sdd_lines.proofs.Words.{own, HasNoSpace, number_at_is, number_at-decimal, numbered_at_is, numbered_at-decimal}
 use Rattle.sdd_lines.specs.Name.{place, guard, owner, item}
 use Rattle.sdd_lines.specs.Call.{joined, word_of, spoken, words_of, line_of, IsNumber, HasNumber, HasNumbers, IsTextOf, IsCallText}
-use Rattle.sdd_lines.specs.Reading.{◌>>=◌, words, numbered_at, place_at, argument_at, arguments_at, with_two, with_arguments, called, call_at}
-use Rattle.sdd_lines.specs.declared.name.PlaceName.{PlaceName}
+use Rattle.sdd_lines.specs.Reading.{◌>>=◌, words, number_at, numbered_at, argument_at, arguments_at, with_two, with_arguments, called, action_at, place_call_at, call_at}
 use Rattle.sdd_lines.specs.declared.call.Action.{Action}
 use Rattle.sdd_lines.specs.declared.call.Action.TheVariants.{Open, Epoch, Garbage, Set, Accelerate, Owned, Read, Look, Retire, Close}
 use Rattle.sdd_lines.specs.declared.call.Argument.{Argument}
@@ -74,45 +73,53 @@ called_is verb arguments (action ∷ actions) h =
 
 -- ---- what is read of words is spelled by them
 
-IfSome-map : {A B : Type 0} (f : A → B) (o : Option A) (P : B → Type 0) → IfSome o (λ x. P (f x)) → IfSome (option_map f o) P
-IfSome-map f None P h = tt
-IfSome-map f (Some x) P h = h
-
 IfSome-bind : {A B : Type 0} (o : Option A) (f : A → Option B) (Q : A → Type 0) (P : B → Type 0) → IfSome o Q →
     ((x : A) → Q x → IfSome (f x) P) → IfSome (o >>= f) P
 IfSome-bind None f Q P h g = tt
 IfSome-bind (Some x) f Q P h g = g x h
 
-IfSome-or : {A : Type 0} (o p : Option A) (P : A → Type 0) → IfSome o P → IfSome p P → IfSome (option_or o p) P
-IfSome-or None p P h k = k
-IfSome-or (Some x) p P h k = h
+named : (o : Option ℕ) (of : ℕ → Argument) (other : Option Argument) (Q : ℕ → Type 0) (P : Argument → Type 0) → IfSome o Q →
+    ((n : ℕ) → Q n → P (of n)) → IfSome other P → IfSome (option_or (o >>= λ n. Some (of n)) other) P
+named None of other Q P h f k = k
+named (Some n) of other Q P h f k = f n h
 
 argument_at_is : (word : List ℕ) → IfSome (argument_at word) (λ a. HasNumber a × (word_of a ≡ word))
 argument_at_is word =
     let P : Argument → Type 0 = λ a. HasNumber a × (word_of a ≡ word) in
-    IfSome-or _ _ P (IfSome-map _ _ P (numbered_at_is 103 word)) (IfSome-or _ _ P (IfSome-map _ _ P (numbered_at_is 111 word))
-    (IfSome-or _ _ P (IfSome-map _ _ P (numbered_at_is 105 word)) (IfSome-map _ _ P (number_at_is word))))
+    named (numbered_at 103 word) (λ n. Guard (record { 0 = n })) _ _ P (numbered_at_is 103 word) (λ _ h. h)
+    (named (numbered_at 111 word) (λ n. Owner (record { 0 = n })) _ _ P (numbered_at_is 111 word) (λ _ h. h)
+    (named (numbered_at 105 word) (λ n. Item (record { 0 = n })) _ _ P (numbered_at_is 105 word) (λ _ h. h)
+    (IfSome-bind (number_at word) (λ n. Some (Number n)) _ P (number_at_is word) (λ _ h. h))))
 
 arguments_at_are : (ws : List (List ℕ)) → IfSome (arguments_at ws) (λ arguments. AllByRecursion HasNumber arguments × (map word_of arguments ≡ ws))
 arguments_at_are [] = (tt, refl)
-arguments_at_are (w ∷ ws) = IfSome-bind (argument_at w) _ _ _ (argument_at_is w) (λ a h.
-    let Q : List Argument → Type 0 = λ arguments. AllByRecursion HasNumber arguments × (map word_of arguments ≡ w ∷ ws) in
-    IfSome-map (λ more. a ∷ more) (arguments_at ws) Q (IfSome_then (arguments_at ws) {Q = λ more. Q (a ∷ more)} (arguments_at_are ws) (λ more k. ((h.0, k.0), cc))))
+arguments_at_are (w ∷ ws) =
+    let P : List Argument → Type 0 = λ arguments. AllByRecursion HasNumber arguments × (map word_of arguments ≡ w ∷ ws) in
+    IfSome-bind (argument_at w) _ _ P (argument_at_is w) (λ a h. IfSome-bind (arguments_at ws) _ _ P (arguments_at_are ws) (λ more k. ((h.0, k.0), cc)))
 
 tested : {A : Type 0} (word text : List ℕ) (x y : Option A) (P : A → Type 0) → (text ≡ word → IfSome x P) → IfSome y P → IfSome (cond (bytes_eq word text) x y) P
 tested word text x y P f h = cond_both (bytes_eq word text) x y (λ o. IfSome o P) (λ e. f (sym ((bytes_eq-Decides word text).0 e))) (λ _. h)
 
-call_at_is : (ws : List (List ℕ)) → IfSome (call_at ws) (λ call. HasNumbers call × (words_of call ≡ ws))
-call_at_is [] = tt
-call_at_is (w ∷ []) =
-    let P : Call → Type 0 = λ call. HasNumbers call × (words_of call ≡ w ∷ []) in
-    tested w (codes "register") _ _ P (λ e. (tt, ap (λ v. v ∷ []) e)) (tested w (codes "tally") _ _ P (λ e. (tt, ap (λ v. v ∷ []) e)) tt)
-call_at_is (w ∷ v ∷ ws) =
-    let P : Call → Type 0 = λ call. HasNumbers call × (words_of call ≡ w ∷ v ∷ ws) in
-    IfSome-bind (place_at w) _ _ P (IfSome-map _ _ (λ p. IsNumber p.0 × (place p ≡ w)) (numbered_at_is 112 w)) (λ p h.
-    IfSome-map (λ action. At p action) _ P (IfSome-bind (arguments_at ws) _ _ (λ action. P (At p action)) (arguments_at_are ws) (λ arguments k.
-    IfSome_then (called v (with_arguments arguments)) {Q = λ action. P (At p action)} (called_is v arguments _ (have_arguments arguments))
-    (λ action l. ((h.0, subst (AllByRecursion HasNumber) (sym l.1) k.0), cc)))))
+action_at_is : (ws : List (List ℕ)) →
+    IfSome (action_at ws) (λ action. AllByRecursion HasNumber (spoken action).1 × ((spoken action).0 ∷ map word_of (spoken action).1 ≡ ws))
+action_at_is [] = tt
+action_at_is (w ∷ ws) =
+    let P : Action → Type 0 = λ action. AllByRecursion HasNumber (spoken action).1 × ((spoken action).0 ∷ map word_of (spoken action).1 ≡ w ∷ ws) in
+    IfSome-bind (arguments_at ws) _ _ P (arguments_at_are ws) (λ arguments k.
+    IfSome_then (called w (with_arguments arguments)) {Q = P} (called_is w arguments _ (have_arguments arguments))
+    (λ action l. (subst (AllByRecursion HasNumber) (sym l.1) k.0, cc)))
+
+place_call_at_is : (ws : List (List ℕ)) → IfSome (place_call_at ws) (λ call. HasNumbers call × (words_of call ≡ ws))
+place_call_at_is [] = tt
+place_call_at_is (w ∷ ws) =
+    let P : Call → Type 0 = λ call. HasNumbers call × (words_of call ≡ w ∷ ws) in
+    IfSome-bind (numbered_at 112 w) _ _ P (numbered_at_is 112 w) (λ n h. IfSome-bind (action_at ws) _ _ P (action_at_is ws) (λ action k. ((h.0, k.0), cc)))
+
+call_at_is : (text : List ℕ) → IfSome (call_at text) (λ call. IsTextOf call text)
+call_at_is text =
+    let P : Call → Type 0 = λ call. IsTextOf call text in
+    tested text (codes "register") _ _ P (λ e. (tt, e)) (tested text (codes "tally") _ _ P (λ e. (tt, e))
+    (IfSome_then (place_call_at (words text)) {Q = P} (place_call_at_is (words text)) (λ call h. (h.0, ap joined h.1 ∙ join_with_byte-slice_split 32 text))))
 
 -- ---- what is spelled by words is read of them
 
@@ -131,11 +138,6 @@ argument_at-word_of (Item i) h = rw (number_at-decimal i.0 h) refl
 arguments_at-words : (arguments : List Argument) → AllByRecursion HasNumber arguments → arguments_at (map word_of arguments) ≡ Some arguments
 arguments_at-words [] h = refl
 arguments_at-words (a ∷ arguments) h = rw (argument_at-word_of a h.0, arguments_at-words arguments h.1) refl
-
-call_at-words_of : (call : Call) → HasNumbers call → call_at (words_of call) ≡ Some call
-call_at-words_of Register h = refl
-call_at-words_of Tally h = refl
-call_at-words_of (At p action) h = rw (number_at-decimal p.0 h.0, arguments_at-words (spoken action).1 h.1, (verb action).0) refl
 
 -- ---- words as a line
 
@@ -169,66 +171,66 @@ argument_words (Item i ∷ more) h = (numbered_word (codes "i") i.0 refl (omega 
 
 -- words that are joined are no other words, ASCII, and short
 word_line : (w : List ℕ) (ws : List (List ℕ)) → AllByRecursion IsWord (w ∷ ws) →
-    AllByRecursion HasNoSpace (w ∷ ws) × IsAscii (joined (w ∷ ws)) × (length (joined (w ∷ ws)) ≤ 22 * length (w ∷ ws))
-word_line w [] h = let plain = plain_parts w h.0.0 in ((plain.0, tt), plain.1, omega (arith, h.0.1))
+    (words (joined (w ∷ ws)) ≡ w ∷ ws) × IsAscii (joined (w ∷ ws)) × (length (joined (w ∷ ws)) ≤ 22 * length (w ∷ ws))
+word_line w [] h = let plain = plain_parts w h.0.0 in (slice_split_none _ w plain.0, plain.1, omega (arith, h.0.1))
 word_line w (v ∷ ws) h =
     let plain = plain_parts w h.0.0 in
     let rest = word_line v ws h.1 in (
-      (plain.0, rest.0),
+      slice_split_at _ w 32 _ plain.0 refl ∙ ap (λ vs. w ∷ vs) rest.0,
       IsAscii-append w _ plain.1 (IsAscii-cons 32 _ (lit< tt) rest.1),
       omega (arith, length-append w (32 ∷ joined (v ∷ ws)), h.0.1, rest.2),
     )
 
-few_words : (w : List ℕ) (ws : List (List ℕ)) → AllByRecursion IsWord (w ∷ ws) → length (w ∷ ws) ≤ 8 →
-    (words (joined (w ∷ ws)) ≡ w ∷ ws) × IsAscii (joined (w ∷ ws)) × (length (joined (w ∷ ws)) ≤ 200)
-few_words w ws h few = let plain = word_line w ws h in (words-joined w ws plain.0, plain.1, omega (arith, plain.2, few))
-
--- the line of a call has its words and no others, is ASCII, and is short
-call_line : (call : Call) → HasNumbers call → (words (line_of call) ≡ words_of call) × IsAscii (line_of call) × (length (line_of call) ≤ 200)
-call_line Register h = few_words (codes "register") [] ((refl, omega arith), tt) (omega arith)
-call_line Tally h = few_words (codes "tally") [] ((refl, omega arith), tt) (omega arith)
+-- the line of a call has its words and no others, is ASCII, and has at most eight words
+call_line : (call : Call) → HasNumbers call →
+    (words (line_of call) ≡ words_of call) × IsAscii (line_of call) × (length (line_of call) ≤ 22 * length (words_of call)) × (length (words_of call) ≤ 8)
+call_line Register h = let line = word_line (codes "register") [] ((refl, omega arith), tt) in (line.0, line.1, line.2, omega arith)
+call_line Tally h = let line = word_line (codes "tally") [] ((refl, omega arith), tt) in (line.0, line.1, line.2, omega arith)
 call_line (At p action) h =
     let plain = and_parts (list_all is_plain (spoken action).0) _ (verb action).1 in
     let sizes = and_parts (leb (length (spoken action).0) 21) _ plain.1 in
-    few_words (place p) ((spoken action).0 ∷ map word_of (spoken action).1)
-    (numbered_word (codes "p") p.0 refl (omega arith) h.0, ((plain.0, leb-true _ _ sizes.0), argument_words (spoken action).1 h.1))
-    (omega (arith, leb-true _ _ sizes.1, length-map (spoken action).1 word_of))
+    let line = word_line (place p) ((spoken action).0 ∷ map word_of (spoken action).1)
+    (numbered_word (codes "p") p.0 refl (omega arith) h.0, ((plain.0, leb-true _ _ sizes.0), argument_words (spoken action).1 h.1)) in
+    (line.0, line.1, line.2, omega (arith, leb-true _ _ sizes.1, length-map (spoken action).1 word_of))
 
 -- ---- both
 
-call_at-line_of : (call : Call) → HasNumbers call → call_at (words (line_of call)) ≡ Some call
-call_at-line_of call h = ap call_at (call_line call h).0 ∙ call_at-words_of call h
+call_at-line_of : (call : Call) → HasNumbers call → call_at (line_of call) ≡ Some call
+call_at-line_of Register h = refl
+call_at-line_of Tally h = refl
+call_at-line_of (At p action) h =
+    ap place_call_at (call_line (At p action) h).0
+    ∙ rw (number_at-decimal p.0 h.0, arguments_at-words (spoken action).1 h.1, (verb action).0) refl
 
 -- no two calls have one text
 pub line_of_injective : (a b : Call) → HasNumbers a → HasNumbers b → line_of a ≡ line_of b → a ≡ b
-line_of_injective a b h k e = let first = call_at-line_of a h in let second = call_at-line_of b k in let same = ap (λ l. call_at (words l)) e in cc
+line_of_injective a b h k e = cc (call_at-line_of a h, call_at-line_of b k, ap call_at e)
 
-answer_is : (line : List ℕ) (o : Option Call) → o ≡ call_at (words line) → IfSome o (λ call. HasNumbers call × (words_of call ≡ words line)) →
+answer_is : (line : List ℕ) (o : Option Call) → o ≡ call_at line → IfSome o (λ call. IsTextOf call line) →
     MatchOption o (¬ IsCallText line) (λ call. IsTextOf call line)
-answer_is line None e h = λ w. (let again = call_at-line_of w.0 w.1.0 in let same = ap (λ l. call_at (words l)) w.1.1 in absurd (cc))
-answer_is line (Some call) e h = (h.0, ap joined h.1 ∙ join_with_byte-slice_split 32 line)
+answer_is line None e h = λ w. absurd (cc (call_at-line_of w.0 w.1.0, ap call_at w.1.1))
+answer_is line (Some call) e h = h
 
-pub call_at_answers : (line : List ℕ) → MatchOption (call_at (words line)) (¬ IsCallText line) (λ call. IsTextOf call line)
-call_at_answers line = answer_is line (call_at (words line)) refl (call_at_is (words line))
+pub call_at_answers : (line : List ℕ) → MatchOption (call_at line) (¬ IsCallText line) (λ call. IsTextOf call line)
+call_at_answers line = answer_is line (call_at line) refl (call_at_is line)
 
 pub short_from_call : (line : List ℕ) (o : Option Call) → MatchOption o (¬ IsCallText line) (λ call. IsTextOf call line) → OnSome o (length line ≤ 200)
 short_from_call line None h = tt
-short_from_call line (Some call) h = subst (λ l. length l ≤ 200) h.1 (call_line call h.0).2
+short_from_call line (Some call) h = let short = call_line call h.0 in omega (arith, short.2, short.3, ap length h.1)
 
 pub not_utf8 : (line : List ℕ) → ¬ IsUtf8 line → ¬ IsCallText line
 not_utf8 line h w = h (IsUtf8-from_ascii line (subst IsAscii w.1.1 (call_line w.0 w.1.0).1))
 
--- ---- what reading gives up at
+-- ---- three arguments are too many
 
-pub no_place : (first rest : List ℕ) → None ≡ numbered_at 112 first → None ≡ call_at (first ∷ words rest)
-no_place first rest e = let w = some_word rest in rw (w.2, ← e) refl
-
-third_word : (verb : List ℕ) (first second : Argument) (third : Option Argument) (more : Option (List Argument)) →
-    None ≡ (option_map (λ ws. first ∷ ws) (option_map (λ ws. second ∷ ws) (third >>= λ a. option_map (λ ws. a ∷ ws) more)) >>= λ ws. called verb (with_arguments ws))
-third_word verb first second None more = refl
+third_word : (verb : List ℕ) (first second : Argument) (third : Option Argument) (rest : Option (List Argument)) →
+    None ≡ (((third >>= λ a. rest >>= λ more. Some (a ∷ more)) >>= λ more. Some (second ∷ more)) >>= λ more. Some (first ∷ more)) >>= λ more.
+    called verb (with_arguments more)
+third_word verb first second None rest = refl
 third_word verb first second (Some third) None = refl
 third_word verb first second (Some third) (Some more) = refl
 
-pub too_many : (verb text : List ℕ) (first second : Argument) →
-    None ≡ (option_map (λ ws. first ∷ ws) (option_map (λ ws. second ∷ ws) (arguments_at (words text))) >>= λ ws. called verb (with_arguments ws))
-too_many verb text first second = let w = some_word text in rw w.2 (third_word verb first second (argument_at w.0) (arguments_at w.1))
+pub too_many : (verb : List ℕ) (ws : List (List ℕ)) (first second : Argument) → 0 < length ws →
+    None ≡ ((arguments_at ws >>= λ more. Some (second ∷ more)) >>= λ more. Some (first ∷ more)) >>= λ more. called verb (with_arguments more)
+too_many verb [] first second h = absurd (omega arith)
+too_many verb (w ∷ ws) first second h = third_word verb first second (argument_at w) (arguments_at ws)

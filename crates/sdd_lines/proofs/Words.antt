@@ -2,7 +2,7 @@
 use Rattle.std.proofs.Common.{◌≡◌, ℕ, ◌^◌, ◌<◌, ◌≤◌, ◌≢◌, true, false, ◌&&◌, cond, eqb, List, [], ◌∷◌, ◌++◌, length, get_or, Option, Some, None, IfSome, MatchOption, Result, Ok, Err, refl, sym, ap, subst, ◌∙◌, inl, inr, arith}
 use Rattle.std.specs.Result.{result_ok}
 use Rattle.std.specs.Borrow.{Bor}
-use Rattle.std.specs.List.{All, AllByRecursion, onto_first}
+use Rattle.std.specs.List.{All}
 use Rattle.std.specs.Fmt.{decimal}
 use Rattle.std.specs.Str.{all_ascii_digits, bytes_eq}
 use Rattle.std.specs.Str.Parse.{digits_value, ParsesUnsigned}
@@ -13,8 +13,8 @@ use Rattle.std.proofs.lemmas.List.Splits.{slice_split_none, slice_split_at}
 use Rattle.std.proofs.lemmas.Slice.Eq.{bytes_eq-Decides}
 use Rattle.std.proofs.lemmas.Str.Parse.{IsNumeralModel, numerals_by_value, tells_all_ascii_digits, not_in_digits, parse_plain}
 use Rattle.std.proofs.lemmas.Fmt.{decimal_digit, decimal_nonempty, first_decimal, digits_decimal, digits_value-decimal, decimal-digits_value, parse-decimal}
-use Rattle.sdd_lines.specs.Call.{joined, IsNumber, IsWordOf}
-use Rattle.sdd_lines.specs.Reading.{words, words_left, number_at, numbered_at}
+use Rattle.sdd_lines.specs.Call.{IsNumber, IsWordOf}
+use Rattle.sdd_lines.specs.Reading.{words, number_at, numbered_at}
 
 -- std's test of digits and its value of them
 pub own : IsNumeralModel (λ ds. all_ascii_digits ds ≡ true) (digits_value 10)
@@ -28,11 +28,6 @@ HasNoSpace word = All (λ b. eqb b 32 ≡ false) word
 HasNoSpace-from_bytes : (bs : List ℕ) → ((i : ℕ) → i < length bs → get_or bs i 0 ≢ 32) → HasNoSpace bs
 HasNoSpace-from_bytes bs h = All-from_get_or (λ b. eqb b 32 ≡ false) bs 0 (λ i l. ne_eqb _ 32 (h i l))
 
--- the words of a text of these words are they
-pub words-joined : (word : List ℕ) (more : List (List ℕ)) → AllByRecursion HasNoSpace (word ∷ more) → words (joined (word ∷ more)) ≡ word ∷ more
-words-joined word [] h = slice_split_none _ word h.0
-words-joined word (next ∷ more) h = slice_split_at _ word 32 _ h.0 refl ∙ ap (λ ws. word ∷ ws) (words-joined next more h.1)
-
 -- `split_once` at a space takes off the first word
 pub first_word : (bs : List ℕ) (r : Option (Bor (List ℕ) × Bor (List ℕ))) →
     MatchOption r ((i : ℕ) → i < length bs → get_or bs i 0 ≢ 32)
@@ -40,14 +35,6 @@ pub first_word : (bs : List ℕ) (r : Option (Bor (List ℕ) × Bor (List ℕ)))
     MatchOption r (words bs ≡ bs ∷ []) (λ x. words bs ≡ x.0.now ∷ words x.1.now)
 first_word bs None h = slice_split_none _ bs (HasNoSpace-from_bytes bs h)
 first_word bs (Some x) h = ap words h.0 ∙ slice_split_at _ x.0.now 32 x.1.now (HasNoSpace-from_bytes _ h.1) refl
-
--- a text has a word, which may be empty
-pub some_word : (bs : List ℕ) → (word : List ℕ) × (more : List (List ℕ)) × (words bs ≡ word ∷ more)
-some_word [] = ([], [], refl)
-some_word (b ∷ bs) =
-    let rest = some_word bs in
-    cond_both (eqb b 32) _ _ (λ ws. (word : List ℕ) × (more : List (List ℕ)) × (ws ≡ word ∷ more))
-    (λ _. ([], words bs, refl)) (λ _. (b ∷ rest.0, rest.1, ap (onto_first b) rest.2))
 
 -- ---- numbers
 

@@ -2,12 +2,11 @@
 use Rattle.std.specs.Prelude.{ℕ, ◌^◌, ◌&&◌, List, [], ◌∷◌, Option, Some, None, codes, if◌then◌else◌, ◌==◌, nat_lt}
 use Rattle.std.specs.Borrow.{Bor}
 use Rattle.std.specs.List.{slice_split}
-use Rattle.std.specs.Option.{option_map, option_and_then, option_or}
+use Rattle.std.specs.Option.{option_and_then, option_or}
 use Rattle.std.specs.Fmt.{decimal}
 use Rattle.std.specs.Str.{bytes_eq}
 use Rattle.std.specs.Str.Parse.{digits_value}
 use Rattle.sdd_lines.specs.Call.{spoken}
-use Rattle.sdd_lines.specs.declared.name.PlaceName.{PlaceName}
 use Rattle.sdd_lines.specs.declared.name.GuardName.{GuardName}
 use Rattle.sdd_lines.specs.declared.name.OwnerName.{OwnerName}
 use Rattle.sdd_lines.specs.declared.name.ItemName.{ItemName}
@@ -40,18 +39,17 @@ abbrev pub numbered_at : ℕ → List ℕ → Option ℕ
 numbered_at letter [] = None
 numbered_at letter (byte ∷ bytes) = if byte == letter then number_at bytes else None
 
-abbrev pub place_at : List ℕ → Option PlaceName
-place_at word = option_map (λ n. record { 0 = n }) (numbered_at 112 word)
-
 abbrev pub argument_at : List ℕ → Option Argument
-argument_at word = option_or (option_map (λ n. Guard (record { 0 = n })) (numbered_at 103 word))
-    (option_or (option_map (λ n. Owner (record { 0 = n })) (numbered_at 111 word))
-    (option_or (option_map (λ n. Item (record { 0 = n })) (numbered_at 105 word))
-    (option_map (λ n. Number n) (number_at word))))
+argument_at word = option_or (numbered_at 103 word >>= λ n. Some (Guard (record { 0 = n })))
+    (option_or (numbered_at 111 word >>= λ n. Some (Owner (record { 0 = n })))
+    (option_or (numbered_at 105 word >>= λ n. Some (Item (record { 0 = n }))) (number_at word >>= λ n. Some (Number n))))
 
 abbrev pub arguments_at : List (List ℕ) → Option (List Argument)
 arguments_at [] = Some []
-arguments_at (word ∷ words) = argument_at word >>= λ argument. option_map (λ arguments. argument ∷ arguments) (arguments_at words)
+arguments_at (word ∷ words) = do
+  argument ← argument_at word
+  arguments ← arguments_at words
+  Some (argument ∷ arguments)
 
 -- the actions with one argument, with two, and with any
 abbrev pub with_one : Argument → List Action
@@ -79,7 +77,12 @@ abbrev pub action_at : List (List ℕ) → Option Action
 action_at [] = None
 action_at (verb ∷ words) = arguments_at words >>= λ arguments. called verb (with_arguments arguments)
 
-abbrev pub call_at : List (List ℕ) → Option Call
-call_at [] = None
-call_at (word ∷ []) = if bytes_eq word (codes "register") then Some Register else (if bytes_eq word (codes "tally") then Some Tally else None)
-call_at (first ∷ second ∷ more) = place_at first >>= λ p. option_map (λ action. At p action) (action_at (second ∷ more))
+abbrev pub place_call_at : List (List ℕ) → Option Call
+place_call_at [] = None
+place_call_at (word ∷ words) = do
+  n ← numbered_at 112 word
+  action ← action_at words
+  Some (At (record { 0 = n }) action)
+
+abbrev pub call_at : List ℕ → Option Call
+call_at text = if bytes_eq text (codes "register") then Some Register else (if bytes_eq text (codes "tally") then Some Tally else place_call_at (words text))

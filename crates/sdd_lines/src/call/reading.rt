@@ -1,7 +1,7 @@
 //! Reading a line, word by word.
 
-ghost use Rattle.std.specs.Prelude.{◌≡◌, ◌∷◌, ◌<◌, ◌↔◌, [], None, IsTrue, MatchOption, length, slice_index};
-ghost use Rattle.std.specs.Option.{option_map};
+ghost use Rattle.std.specs.Prelude.{◌≡◌, ◌∷◌, ◌<◌, ◌↔◌, [], None, Some, IsTrue, MatchOption, length, slice_index};
+ghost use Rattle.std.specs.Option.{option_and_then};
 ghost use Rattle.sdd_lines.specs.Reading.{words, words_left, number_at, numbered_at, argument_at, arguments_at, with_one, with_two, with_arguments, called, action_at, call_at};
 
 use super::{Action, Argument, Call};
@@ -63,7 +63,7 @@ fn argument(word: &str) -> Option<Argument>
 fn split_argument(text: &str) -> Option<(Argument, Option<&str>)>
     ensures { MatchOption result (arguments_at (words text.now) ≡ None)
         (λ parts. arguments_at (words text.now)
-        ≡ option_map (λ more. parts.0 ∷ more) (arguments_at (words_left parts.1))) }
+        ≡ option_and_then (λ more. Some (parts.0 ∷ more)) (arguments_at (words_left parts.1))) }
 {
     let (word, rest) = split_word(text);
     Some((argument(word)?, rest))
@@ -134,15 +134,14 @@ fn action(text: &str) -> Option<Action>
 }
 
 pub(super) fn call(text: &str) -> Option<Call>
-    ensures { result ≡ call_at (words text.now) }
+    ensures { result ≡ call_at text.now }
 {
-    let (first, rest) = split_word(text);
-    match rest {
-        None => match first {
-            "register" => Some(Call::Register),
-            "tally" => Some(Call::Tally),
-            _ => None,
-        },
-        Some(rest) => Some(Call::At(PlaceName(numbered('p', first)?), action(rest)?)),
+    match text {
+        "register" => Some(Call::Register),
+        "tally" => Some(Call::Tally),
+        _ => {
+            let (first, rest) = split_word(text);
+            Some(Call::At(PlaceName(numbered('p', first)?), action(rest?)?))
+        }
     }
 }
