@@ -218,8 +218,8 @@ pub short_from_call : (line : List ℕ) (o : Option Call) → MatchOption o (¬ 
 short_from_call line None h = tt
 short_from_call line (Some call) h = let short = call_line call h.0 in omega (arith, short.2, short.3, ap length h.1)
 
-pub not_utf8 : (line : List ℕ) → ¬ IsUtf8 line → ¬ IsCallText line
-not_utf8 line h w = h (IsUtf8-from_ascii line (subst IsAscii w.1.1 (call_line w.0 w.1.0).1))
+pub utf8_from_call : (line : List ℕ) → IsCallText line → IsUtf8 line
+utf8_from_call line w = IsUtf8-from_ascii line (subst IsAscii w.1.1 (call_line w.0 w.1.0).1)
 
 -- ---- three arguments are too many
 

@@ -42,6 +42,7 @@ impl Call {
     ghost use Rattle.sdd_lines.specs.Call.{IsTextOf, IsCallText};
 
     /// The call whose text a line is, without a line feed, or `None` where it is that of no call.
+    #[tactic(auto, using(crate::proofs::Lines::call_at_answers, crate::proofs::Lines::short_from_call, crate::proofs::Lines::utf8_from_call))]
     pub fn parse(line: &[u8]) -> Option<Call>
         ensures call { MatchOption result (¬ IsCallText line.now) (λ call. IsTextOf call line.now) }
 

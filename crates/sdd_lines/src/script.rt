@@ -58,6 +58,7 @@ fn call_after(before: usize, line: &[u8]) -> Option<Call>
 }
 
 /// The line that a text begins with, without its line feed, and what follows it.
+#[tactic(auto, using(crate::proofs::Scripts::lines_at, crate::proofs::Scripts::lines_none, std::proofs::lemmas::List::take_rest))]
 fn first_line(text: &[u8]) -> (&[u8], &[u8])
     requires { 0 < length text.now }
     ensures lines { lines text.now ≡ result.0.now ∷ lines result.1.now }
