@@ -1,5 +1,5 @@
 -- What is read of a line is its call, and each call is read of its line
-use Rattle.std.proofs.Common.{◌≡◌, ℕ, ◌+◌, ◌*◌, ◌<◌, ◌≤◌, Bool, true, false, ◌&&◌, cond, not, eqb, ltb, leb, List, [], ◌∷◌, ◌++◌, length, length-append, map, Option, Some, None, IfSome, OnSome, MatchOption, refl, sym, ap, ◌∙◌, subst, lit<, arith}
+use Rattle.std.proofs.Common.{◌≡◌, ℕ, ◌*◌, ◌<◌, ◌≤◌, Bool, true, false, ◌&&◌, cond, not, eqb, ltb, leb, List, [], ◌∷◌, ◌++◌, length, length-append, map, Option, Some, None, IfSome, OnSome, MatchOption, refl, sym, ap, ◌∙◌, subst, lit<, arith}
 use Rattle.std.specs.Prelude.{codes}
 use Rattle.std.specs.List.{list_all, AllByRecursion}
 use Rattle.std.specs.Option.{option_or}
@@ -12,12 +12,12 @@ use Rattle.std.proofs.lemmas.Fmt.{digits_decimal, length-decimal-le}
 use Rattle.std.proofs.lemmas.List.{length-map}
 use Rattle.std.proofs.lemmas.List.Elements.{All-nil, All-cons}
 use Rattle.std.proofs.lemmas.List.Folds.{list_all-append}
-use Rattle.std.proofs.lemmas.List.Splits.{join_with_byte-slice_split, slice_split_none, slice_split_at}
+use Rattle.std.proofs.lemmas.List.Splits.{join_with_byte-slice_split, slice_split_none, slice_split_at, length-slice_split}
 use Rattle.std.proofs.lemmas.Slice.Eq.{bytes_eq-Decides}
 use Rattle.std.proofs.lemmas.Str.{IsAscii-append, IsUtf8-from_ascii}
 use Rattle.std.proofs.lemmas.Str.Ascii.{IsAscii-nil, IsAscii-cons}
 use Rattle.sdd_lines.proofs.Words.{own, HasNoSpace, number_at_is, number_at-decimal, numbered_at_is, numbered_at-decimal}
-use Rattle.sdd_lines.specs.Name.{place, guard, owner, item}
+use Rattle.sdd_lines.specs.Name.{place}
 use Rattle.sdd_lines.specs.Call.{joined, word_of, spoken, words_of, line_of, IsNumber, HasNumber, HasNumbers, IsTextOf, IsCallText}
 use Rattle.sdd_lines.specs.Reading.{◌>>=◌, words, number_at, numbered_at, argument_at, arguments_at, with_two, with_arguments, called, action_at, place_call_at, call_at}
 use Rattle.sdd_lines.specs.declared.call.Action.{Action}
@@ -230,7 +230,11 @@ third_word verb first second None rest = refl
 third_word verb first second (Some third) None = refl
 third_word verb first second (Some third) (Some more) = refl
 
-pub too_many : (verb : List ℕ) (ws : List (List ℕ)) (first second : Argument) → 0 < length ws →
+some_words : (verb : List ℕ) (ws : List (List ℕ)) (first second : Argument) → 0 < length ws →
     None ≡ ((arguments_at ws >>= λ more. Some (second ∷ more)) >>= λ more. Some (first ∷ more)) >>= λ more. called verb (with_arguments more)
-too_many verb [] first second h = absurd (omega arith)
-too_many verb (w ∷ ws) first second h = third_word verb first second (argument_at w) (arguments_at ws)
+some_words verb [] first second h = absurd (omega arith)
+some_words verb (w ∷ ws) first second h = third_word verb first second (argument_at w) (arguments_at ws)
+
+pub too_many : (verb text : List ℕ) (first second : Argument) →
+    None ≡ ((arguments_at (words text) >>= λ more. Some (second ∷ more)) >>= λ more. Some (first ∷ more)) >>= λ more. called verb (with_arguments more)
+too_many verb text first second = some_words verb (words text) first second (omega (arith, length-slice_split (λ b. eqb b 32) text))

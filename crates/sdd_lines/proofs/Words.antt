@@ -1,5 +1,5 @@
 -- The words of a text, and the numbers that they are
-use Rattle.std.proofs.Common.{◌≡◌, ℕ, ◌^◌, ◌<◌, ◌≤◌, ◌≢◌, true, false, ◌&&◌, cond, eqb, List, [], ◌∷◌, ◌++◌, length, get_or, Option, Some, None, IfSome, MatchOption, Result, Ok, Err, refl, sym, ap, subst, ◌∙◌, inl, inr, arith}
+use Rattle.std.proofs.Common.{◌≡◌, ℕ, ◌^◌, ◌<◌, ◌≤◌, ◌≢◌, true, false, ◌&&◌, eqb, List, [], ◌∷◌, length, get_or, Option, Some, None, IfSome, MatchOption, Result, Ok, Err, refl, sym, ap, subst, ◌∙◌, inl, inr, lit<, arith}
 use Rattle.std.specs.Result.{result_ok}
 use Rattle.std.specs.Borrow.{Bor}
 use Rattle.std.specs.List.{All}
@@ -10,6 +10,8 @@ use Rattle.std.proofs.lemmas.Bool.{eqb-true, ne_eqb, ltb-true, lt-ltb, and_parts
 use Rattle.std.proofs.lemmas.Option.{IfSome_then}
 use Rattle.std.proofs.lemmas.List.Elements.{All-from_get_or}
 use Rattle.std.proofs.lemmas.List.Splits.{slice_split_none, slice_split_at}
+use Rattle.std.proofs.lemmas.Str.Pattern.{IsSplitOnceResult, split_parts, strip_prefix_char}
+use Rattle.std.specs.Str.Pattern.{FindsCharPrefix}
 use Rattle.std.proofs.lemmas.Slice.Eq.{bytes_eq-Decides}
 use Rattle.std.proofs.lemmas.Str.Parse.{IsNumeralModel, numerals_by_value, tells_all_ascii_digits, not_in_digits, parse_plain}
 use Rattle.std.proofs.lemmas.Fmt.{decimal_digit, decimal_nonempty, first_decimal, digits_decimal, digits_value-decimal, decimal-digits_value, parse-decimal}
@@ -29,12 +31,12 @@ HasNoSpace-from_bytes : (bs : List ℕ) → ((i : ℕ) → i < length bs → get
 HasNoSpace-from_bytes bs h = All-from_get_or (λ b. eqb b 32 ≡ false) bs 0 (λ i l. ne_eqb _ 32 (h i l))
 
 -- `split_once` at a space takes off the first word
-pub first_word : (bs : List ℕ) (r : Option (Bor (List ℕ) × Bor (List ℕ))) →
-    MatchOption r ((i : ℕ) → i < length bs → get_or bs i 0 ≢ 32)
-    (λ x. (bs ≡ x.0.now ++ (32 ∷ x.1.now)) × ((i : ℕ) → i < length x.0.now → get_or x.0.now i 0 ≢ 32)) →
+pub first_word : (bs : List ℕ) (r : Option (Bor (List ℕ) × Bor (List ℕ))) → IsSplitOnceResult 32 bs r →
     MatchOption r (words bs ≡ bs ∷ []) (λ x. words bs ≡ x.0.now ∷ words x.1.now)
-first_word bs None h = slice_split_none _ bs (HasNoSpace-from_bytes bs h)
-first_word bs (Some x) h = ap words h.0 ∙ slice_split_at _ x.0.now 32 x.1.now (HasNoSpace-from_bytes _ h.1) refl
+first_word bs None h = slice_split_none _ bs (HasNoSpace-from_bytes bs (split_parts 32 bs None h (lit< tt)))
+first_word bs (Some x) h =
+    let parts = split_parts 32 bs (Some x) h (lit< tt) in
+    ap words parts.0 ∙ slice_split_at _ x.0.now 32 x.1.now (HasNoSpace-from_bytes _ parts.1) refl
 
 -- ---- numbers
 
@@ -87,12 +89,15 @@ words_number word (Some n) e = subst (λ o. IfSome o (λ m. IsWordOf m word)) (s
 
 -- ---- a letter and a number
 
-pub numbered_at-none : (letter : ℕ) (word : List ℕ) → ((rest : List ℕ) → word ≢ letter ∷ rest) → numbered_at letter word ≡ None
-numbered_at-none letter [] h = refl
-numbered_at-none letter (b ∷ bs) h = cond-false (eqb b letter) _ _ (ne_eqb b letter (λ e. h bs (ap (λ c. c ∷ bs) e)))
+pub no_such_letter : (letter : ℕ) (word : List ℕ) → ((rest : List ℕ) → word ≢ letter ∷ rest) → numbered_at letter word ≡ None
+no_such_letter letter [] h = refl
+no_such_letter letter (b ∷ bs) h = cond-false (eqb b letter) _ _ (ne_eqb b letter (λ e. h bs (ap (λ c. c ∷ bs) e)))
+
+pub no_prefix : (letter : ℕ) (word : List ℕ) → FindsCharPrefix letter word None → letter < 128 → numbered_at letter word ≡ None
+no_prefix letter word h small = no_such_letter letter word (strip_prefix_char letter word None h small)
 
 pub numbered_at-decimal : (letter n : ℕ) → IsNumber n → ¬ ((48 ≤ letter) × (letter ≤ 57)) → numbered_at letter (decimal n) ≡ None
-numbered_at-decimal letter n small h = numbered_at-none letter (decimal n) (λ rest e. first_digit n letter small h (ap (λ w. get_or w 0 0) e))
+numbered_at-decimal letter n small h = no_such_letter letter (decimal n) (λ rest e. first_digit n letter small h (ap (λ w. get_or w 0 0) e))
 
 pub numbered_at_is : (letter : ℕ) (word : List ℕ) → IfSome (numbered_at letter word) (λ n. IsNumber n × (letter ∷ decimal n ≡ word))
 numbered_at_is letter [] = tt

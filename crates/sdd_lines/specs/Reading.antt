@@ -7,9 +7,6 @@ use Rattle.std.specs.Fmt.{decimal}
 use Rattle.std.specs.Str.{bytes_eq}
 use Rattle.std.specs.Str.Parse.{digits_value}
 use Rattle.sdd_lines.specs.Call.{spoken}
-use Rattle.sdd_lines.specs.declared.name.GuardName.{GuardName}
-use Rattle.sdd_lines.specs.declared.name.OwnerName.{OwnerName}
-use Rattle.sdd_lines.specs.declared.name.ItemName.{ItemName}
 use Rattle.sdd_lines.specs.declared.call.Action.{Action}
 use Rattle.sdd_lines.specs.declared.call.Action.TheVariants.{Open, Epoch, Garbage, Set, Accelerate, Owned, Read, Look, Retire, Close}
 use Rattle.sdd_lines.specs.declared.call.Argument.{Argument}
