@@ -1,5 +1,5 @@
 -- What is read of a line is its call, and each call is read of its line
-use Rattle.std.proofs.Common.{◌≡◌, ℕ, ◌*◌, ◌<◌, ◌≤◌, Bool, true, false, ◌&&◌, cond, not, eqb, ltb, leb, List, [], ◌∷◌, ◌++◌, length, length-append, map, Option, Some, None, IfSome, OnSome, MatchOption, refl, sym, ap, ◌∙◌, subst, lit<, arith}
+use Rattle.std.proofs.Common.{◌≡◌, ℕ, ◌*◌, ◌<◌, ◌≤◌, Bool, true, false, ◌&&◌, cond, not, eqb, ltb, leb, List, [], ◌∷◌, ◌++◌, length, length-append, map, Option, Some, None, IfSome, OnSome, MatchOption, refl, sym, ap, ◌∙◌, subst, lit<, arith, rules}
 use Rattle.std.specs.Prelude.{codes}
 use Rattle.std.specs.List.{list_all, AllByRecursion}
 use Rattle.std.specs.Option.{option_or}
@@ -52,15 +52,15 @@ verb (Close g) = (refl, refl)
 
 -- the actions with some arguments have these
 have_two : (first second : Argument) → AllByRecursion (λ action. (spoken action).1 ≡ first ∷ second ∷ []) (with_two first second)
-have_two (Item i) (Guard g) = (refl, tt)
+have_two (Item i) (Guard g) = search rules
 have_two first second = tt
 
 have_arguments : (arguments : List Argument) → AllByRecursion (λ action. (spoken action).1 ≡ arguments) (with_arguments arguments)
-have_arguments [] = (refl, tt)
-have_arguments (Number n ∷ []) = (refl, tt)
-have_arguments (Guard g ∷ []) = (refl, (refl, (refl, (refl, (refl, tt)))))
-have_arguments (Owner o ∷ []) = (refl, (refl, tt))
-have_arguments (Item i ∷ []) = tt
+have_arguments [] = search rules
+have_arguments (Number n ∷ []) = search rules
+have_arguments (Guard g ∷ []) = search rules
+have_arguments (Owner o ∷ []) = search rules
+have_arguments (Item i ∷ []) = search rules
 have_arguments (first ∷ second ∷ []) = have_two first second
 have_arguments (first ∷ second ∷ third ∷ more) = tt
 

@@ -17,12 +17,6 @@ fn split_word(text: &str) -> (&str, Option<&str>)
     }
 }
 
-fn has_leading_zero(word: &str) -> bool
-    ensures { IsTrue result ↔ ((1 < length word.now) × (slice_index word.now 0 ≡ 48)) }
-{
-    word.len() > 1 && word.starts_with('0')
-}
-
 /// The number that a word is in its one form: without a sign and without a leading zero.
 #[tactic(auto, using(crate::proofs::Words::signed_is_none, crate::proofs::Words::zero_led_is_none, crate::proofs::Words::parsed, std::proofs::lemmas::Str::Pattern::starts_char))]
 pub(crate) fn number(word: &str) -> Option<u64>
@@ -31,7 +25,7 @@ pub(crate) fn number(word: &str) -> Option<u64>
     if word.starts_with('+') {
         return None;
     }
-    if has_leading_zero(word) {
+    if word.len() > 1 && word.starts_with('0') {
         return None;
     }
     word.parse().ok()
@@ -83,36 +77,24 @@ fn bare(verb: &str) -> Option<Action>
 fn of_one(verb: &str, argument: Argument) -> Option<Action>
     ensures { result ≡ called verb.now (with_one argument) }
 {
-    match argument {
-        Argument::Number(number) => match verb {
-            "owned" => Some(Action::Owned(number)),
-            _ => None,
-        },
-        Argument::Guard(guard) => match verb {
-            "epoch" => Some(Action::Epoch(guard)),
-            "garbage" => Some(Action::Garbage(guard)),
-            "set" => Some(Action::Set(guard)),
-            "accelerate" => Some(Action::Accelerate(guard)),
-            "close" => Some(Action::Close(guard)),
-            _ => None,
-        },
-        Argument::Owner(owner) => match verb {
-            "read" => Some(Action::Read(owner)),
-            "retire" => Some(Action::Retire(owner)),
-            _ => None,
-        },
-        Argument::Item(_) => None,
+    match (argument, verb) {
+        (Argument::Number(number), "owned") => Some(Action::Owned(number)),
+        (Argument::Guard(guard), "epoch") => Some(Action::Epoch(guard)),
+        (Argument::Guard(guard), "garbage") => Some(Action::Garbage(guard)),
+        (Argument::Guard(guard), "set") => Some(Action::Set(guard)),
+        (Argument::Guard(guard), "accelerate") => Some(Action::Accelerate(guard)),
+        (Argument::Guard(guard), "close") => Some(Action::Close(guard)),
+        (Argument::Owner(owner), "read") => Some(Action::Read(owner)),
+        (Argument::Owner(owner), "retire") => Some(Action::Retire(owner)),
+        _ => None,
     }
 }
 
 fn of_two(verb: &str, first: Argument, second: Argument) -> Option<Action>
     ensures { result ≡ called verb.now (with_two first second) }
 {
-    match (first, second) {
-        (Argument::Item(item), Argument::Guard(guard)) => match verb {
-            "look" => Some(Action::Look(item, guard)),
-            _ => None,
-        },
+    match (first, second, verb) {
+        (Argument::Item(item), Argument::Guard(guard), "look") => Some(Action::Look(item, guard)),
         _ => None,
     }
 }
