@@ -65,36 +65,23 @@ fn split_argument(text: &str) -> Option<(Argument, Option<&str>)>
     Some((argument(word)?, rest))
 }
 
-fn bare(verb: &str) -> Option<Action>
-    ensures { result ≡ called verb.now (with_arguments []) }
+/// The verbs, each with its arguments.
+fn spoken(verb: &str, arguments: &[Argument]) -> Option<Action>
+    ensures { result ≡ called verb.now (with_arguments arguments.now) }
 {
-    match verb {
-        "open" => Some(Action::Open),
-        _ => None,
-    }
-}
-
-fn of_one(verb: &str, argument: Argument) -> Option<Action>
-    ensures { result ≡ called verb.now (with_one argument) }
-{
-    match (argument, verb) {
-        (Argument::Number(number), "owned") => Some(Action::Owned(number)),
-        (Argument::Guard(guard), "epoch") => Some(Action::Epoch(guard)),
-        (Argument::Guard(guard), "garbage") => Some(Action::Garbage(guard)),
-        (Argument::Guard(guard), "set") => Some(Action::Set(guard)),
-        (Argument::Guard(guard), "accelerate") => Some(Action::Accelerate(guard)),
-        (Argument::Guard(guard), "close") => Some(Action::Close(guard)),
-        (Argument::Owner(owner), "read") => Some(Action::Read(owner)),
-        (Argument::Owner(owner), "retire") => Some(Action::Retire(owner)),
-        _ => None,
-    }
-}
-
-fn of_two(verb: &str, first: Argument, second: Argument) -> Option<Action>
-    ensures { result ≡ called verb.now (with_two first second) }
-{
-    match (first, second, verb) {
-        (Argument::Item(item), Argument::Guard(guard), "look") => Some(Action::Look(item, guard)),
+    match (arguments, verb) {
+        ([], "open") => Some(Action::Open),
+        ([Argument::Number(number)], "owned") => Some(Action::Owned(*number)),
+        ([Argument::Guard(guard)], "epoch") => Some(Action::Epoch(*guard)),
+        ([Argument::Guard(guard)], "garbage") => Some(Action::Garbage(*guard)),
+        ([Argument::Guard(guard)], "set") => Some(Action::Set(*guard)),
+        ([Argument::Guard(guard)], "accelerate") => Some(Action::Accelerate(*guard)),
+        ([Argument::Guard(guard)], "close") => Some(Action::Close(*guard)),
+        ([Argument::Owner(owner)], "read") => Some(Action::Read(*owner)),
+        ([Argument::Owner(owner)], "retire") => Some(Action::Retire(*owner)),
+        ([Argument::Item(item), Argument::Guard(guard)], "look") => Some(Action::Look(
+            *item, *guard,
+        )),
         _ => None,
     }
 }
@@ -104,15 +91,15 @@ fn action(text: &str) -> Option<Action>
 {
     let (verb, rest) = split_word(text);
     let Some(rest) = rest else {
-        return bare(verb);
+        return spoken(verb, &[]);
     };
     let (first, rest) = split_argument(rest)?;
     let Some(rest) = rest else {
-        return of_one(verb, first);
+        return spoken(verb, &[first]);
     };
     let (second, rest) = split_argument(rest)?;
     match rest {
-        None => of_two(verb, first, second),
+        None => spoken(verb, &[first, second]),
         Some(_) => None,
     }
 }
