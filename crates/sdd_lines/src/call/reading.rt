@@ -18,7 +18,7 @@ fn split_word(text: &str) -> (&str, Option<&str>)
 }
 
 /// The number that a word is in its one form: without a sign and without a leading zero.
-#[tactic(auto, using(crate::proofs::Words::signed_is_none, crate::proofs::Words::zero_led_is_none, crate::proofs::Words::parsed, std::proofs::lemmas::Str::Pattern::starts_char))]
+#[tactic(auto, using(crate::proofs::Lines::signed_is_none, crate::proofs::Lines::zero_led_is_none, crate::proofs::Lines::parsed, std::proofs::lemmas::Str::Pattern::starts_char))]
 pub(crate) fn number(word: &str) -> Option<u64>
     ensures { result ≡ number_at word.now }
 {
@@ -32,7 +32,7 @@ pub(crate) fn number(word: &str) -> Option<u64>
 }
 
 /// The number of a name with this letter.
-#[tactic(auto, using(crate::proofs::Words::no_prefix))]
+#[tactic(auto, using(crate::proofs::Lines::no_prefix))]
 fn numbered(letter: char, word: &str) -> Option<u64>
     requires { letter < 128 }
     ensures { result ≡ numbered_at letter word.now }

@@ -1,5 +1,5 @@
 use Rattle.std.proofs.Common.{Some, None}
-use Rattle.sdd_lines.proofs.Words.{first_word}
+use Rattle.sdd_lines.proofs.Lines.{first_word}
 use Rattle.sdd_lines.proofs.call.reading.split_word.Goals as goal
 
 pub returns-in-Some : goal.returns-in-Some
