@@ -92,10 +92,14 @@ pub parsed : {E : Type 0} (word : List ℕ) (r : Result ℕ E) → ParsesUnsigne
     ¬ ((1 < length word) × (get_or word 0 0 ≡ 48)) → result_ok r ≡ number_at word
 parsed {E} word (Ok x) h plain short =
     let read = parse_plain own {E = E} 64 word (Ok x) h plain in
-    let one : get_or word 0 0 ≡ 48 → length word ≡ 1 = λ e. elim (cases_eq (length word) 1) [ inl l ↦ l | inr l ↦ absurd (short (omega (arith, read.0.1), e)) ] in
+    let one : get_or word 0 0 ≡ 48 → length word ≡ 1 =
+    λ e. elim (cases_eq (length word) 1) [ inl l ↦ l | inr l ↦ absurd (short (omega (arith, read.0.1), e)) ] in
     let same : decimal x ≡ word = ap decimal read.1 ∙ decimal-digits_value own word read.0.0 read.0.1 one read.0.2 in
     sym (ap number_at (sym same) ∙ number_at-decimal x (subst IsNumber (sym read.1) read.0.2))
 parsed {E} word (Err e) h plain short = number_at-none word (λ n k. let read = parse-decimal {E = E} 64 n word (Err e) k.0 k.0 (sym k.1) h in cc)
+
+-- a sign, a leading zero, and what is parsed
+pub ruleset one_form = (signed_is_none, zero_led_is_none, parsed)
 
 pub words_number : (word : List ℕ) (r : Option ℕ) → r ≡ number_at word → MatchOption r (¬ ((n : ℕ) × IsWordOf n word)) (λ n. IsWordOf n word)
 words_number word None e = λ h. (let some : number_at word ≡ Some h.0 = ap number_at (sym h.1.1) ∙ number_at-decimal h.0 h.1.0 in cc)
@@ -189,7 +193,8 @@ arguments_at_are (w ∷ ws) =
     let P : List Argument → Type 0 = λ arguments. AllByRecursion HasNumber arguments × (map word_of arguments ≡ w ∷ ws) in
     IfSome-bind (argument_at w) _ _ P (argument_at_is w) (λ a h. IfSome-bind (arguments_at ws) _ _ P (arguments_at_are ws) (λ more k. ((h.0, k.0), cc)))
 
-tested : {A : Type 0} (word text : List ℕ) (x y : Option A) (P : A → Type 0) → (text ≡ word → IfSome x P) → IfSome y P → IfSome (cond (bytes_eq word text) x y) P
+tested : {A : Type 0} (word text : List ℕ) (x y : Option A) (P : A → Type 0) → (text ≡ word → IfSome x P) → IfSome y P →
+    IfSome (cond (bytes_eq word text) x y) P
 tested word text x y P f h = cond_both (bytes_eq word text) x y (λ o. IfSome o P) (λ e. f (sym ((bytes_eq-Decides word text).0 e))) (λ _. h)
 
 action_at_is : (ws : List (List ℕ)) →

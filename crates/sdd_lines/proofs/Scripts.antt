@@ -80,4 +80,7 @@ same_calls (c ∷ a) (d ∷ b) h k e =
 pub no_fault : (text : List ℕ) (calls : List Call) (n : ℕ) → AreCalls text calls → IsFirstFault text n → ⊥
 no_fault text calls n h f =
     let inside : n - 1 < length (map line_of calls) = omega (arith, f.counted, f.there, ap length h.texts) in
-    f.fault (omega (arith, h.few, length-map calls line_of), subst (λ ls. IsCallText (get_or ls (n - 1) [])) (sym h.texts) (call_lines calls h.numbers (n - 1) [] inside))
+    f.fault (
+      omega (arith, h.few, length-map calls line_of),
+      subst (λ ls. IsCallText (get_or ls (n - 1) [])) (sym h.texts) (call_lines calls h.numbers (n - 1) [] inside),
+    )

@@ -18,7 +18,7 @@ fn split_word(text: &str) -> (&str, Option<&str>)
 }
 
 /// The number that a word is in its one form: without a sign and without a leading zero.
-#[tactic(auto, using(crate::proofs::Lines::signed_is_none, crate::proofs::Lines::zero_led_is_none, crate::proofs::Lines::parsed, std::proofs::lemmas::Str::Pattern::starts_char))]
+#[tactic(auto, using(crate::proofs::Lines::one_form, std::proofs::lemmas::Str::Pattern::starts_char))]
 pub(crate) fn number(word: &str) -> Option<u64>
     ensures { result ≡ number_at word.now }
 {
