@@ -1,9 +1,9 @@
 -- Bytes that were written or read a part at a time
 use Rattle.std.proofs.Common.{◌≡◌, ℕ, ◌-◌, List, ◌++◌, length, take, drop, Option, refl, sym, ap, ◌∙◌, subst}
-use Rattle.std.specs.Io.KnownBytes.{Keeps, Appends}
-use Rattle.std.proofs.KnownBytes.{Appends-kept, Appends-trans}
+use Rattle.std.specs.Io.KnownBytes.{Keeps, Appends, Consumes}
+use Rattle.std.proofs.KnownBytes.{Appends-kept, Appends-trans, Consumes-trans}
 use Rattle.std.proofs.lemmas.List.{take_at, take_rest, take-append-drop, append_assoc}
-use Rattle.sdd_lines.specs.Device.{AppendsBeginning}
+use Rattle.sdd_lines.specs.Device.{AppendsBeginning, ConsumesSome}
 
 -- what was written before a failed write is a beginning
 pub beginning_from_front :
@@ -22,3 +22,6 @@ written_more a b c front rest bytes n e p q = (
       ∙ sym (append_assoc front (take n rest) _),
   Appends-trans a b c front (take n rest) p q,
 )
+
+pub consumed : (a b c : Option (List ℕ)) (xs ys : List ℕ) → Consumes a b xs → Consumes b c ys → ConsumesSome a c
+consumed a b c xs ys p q = (xs ++ ys, Consumes-trans a b c xs ys p q)

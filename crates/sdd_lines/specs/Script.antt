@@ -3,7 +3,6 @@ use Rattle.std.specs.Prelude.{◌≡◌, ℕ, ◌-◌, ◌<◌, ◌≤◌, List,
 use Rattle.std.specs.List.{onto_first, AllByRecursion}
 use Rattle.sdd_lines.specs.Call.{line_of, HasNumbers, IsCallText}
 use Rattle.sdd_lines.specs.declared.call.Call.{Call}
-use Rattle.sdd_lines.specs.declared.script.TheConstants.{MOST_CALLS}
 use Rattle.sdd_lines.specs.declared.script.Script.{Script}
 use Rattle.sdd_lines.specs.declared.script.Script.TheVariants.{Calls, Fault}
 
@@ -12,15 +11,19 @@ abbrev pub lines : List ℕ → List (List ℕ)
 lines [] = []
 lines (byte ∷ bytes) = if byte == 10 then [] ∷ lines bytes else onto_first byte (lines bytes)
 
+-- at most so many lines are calls, and the next is not
+abbrev pub most_calls : ℕ
+most_calls = 65536
+
 -- the lines are calls, and these are they
 pub record AreCalls (text : List ℕ) (calls : List Call) : Type 0 where
   pub texts : lines text ≡ map line_of calls
   pub numbers : AllByRecursion HasNumbers calls
-  pub few : length calls ≤ MOST_CALLS
+  pub few : length calls ≤ most_calls
 
 -- line n, counted from 1, is a call
 abbrev pub IsCallAt : List ℕ → ℕ → Type 0
-IsCallAt text n = (n ≤ MOST_CALLS) × IsCallText (slice_index_or (lines text) (n - 1) [])
+IsCallAt text n = (n ≤ most_calls) × IsCallText (slice_index_or (lines text) (n - 1) [])
 
 -- line n, counted from 1, is the first that is no call
 pub record IsFirstFault (text : List ℕ) (n : ℕ) : Type 0 where

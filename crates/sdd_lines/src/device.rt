@@ -83,6 +83,7 @@ const CHUNK: usize = 4096;
 /// All bytes that a source has left.
 ///
 /// Ends with `Fault` where a read failed, and with `NoMemory` where memory was wanted.
+#[tactic(auto, using(crate::proofs::Devices::consumed))]
 pub fn read_to_end<S: Source>(alloc: Global, source: &mut S) -> Result<Vec<u8>, ReadEnd>
     ensures bytes { IfOk result
         (λ bytes. IfSome (S.remaining source.old) (λ all. bytes.items ≡ all)) }

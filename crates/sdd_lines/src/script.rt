@@ -3,7 +3,7 @@
 ghost use Rattle.std.specs.Prelude.{◌≡◌, ◌≢◌, ℕ, List, ◌<◌, ◌∷◌, length, slice_index, MatchOption, IfOk, IfErr};
 ghost use Rattle.sdd_lines.specs.Call.{IsTextOf, IsCallText};
 ghost use Rattle.sdd_lines.specs.declared.call.Call.{Call};
-ghost use Rattle.sdd_lines.specs.Script.{lines, AreCalls, IsCalls, IsScript};
+ghost use Rattle.sdd_lines.specs.Script.{most_calls, lines, AreCalls, IsCalls, IsScript};
 
 use crate::call::Call;
 use sdd_core::Refused;
@@ -47,8 +47,8 @@ pub fn parse_all(alloc: Global, text: &[u8]) -> Result<Script, Refused>
 
 /// The call that a line is, with so many calls before it.
 fn call_after(before: usize, line: &[u8]) -> Option<Call>
-    ensures { MatchOption result (¬ ((before < MOST_CALLS) × IsCallText line.now))
-        (λ call. (before < MOST_CALLS) × IsTextOf call line.now) }
+    ensures { MatchOption result (¬ ((before < most_calls) × IsCallText line.now))
+        (λ call. (before < most_calls) × IsTextOf call line.now) }
 {
     if before < MOST_CALLS {
         Call::parse(line)
@@ -58,6 +58,7 @@ fn call_after(before: usize, line: &[u8]) -> Option<Call>
 }
 
 /// The line that a text begins with, without its line feed, and what follows it.
+#[tactic(auto, using(crate::proofs::Scripts::lines_at, crate::proofs::Scripts::lines_none, std::proofs::lemmas::List::take_rest))]
 fn first_line(text: &[u8]) -> (&[u8], &[u8])
     requires { 0 < length text.now }
     ensures lines { lines text.now ≡ result.0.now ∷ lines result.1.now }

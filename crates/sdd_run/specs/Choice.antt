@@ -2,8 +2,6 @@
 use Rattle.std.specs.Prelude.{◌≡◌, ℕ, List, [], ◌∷◌}
 use Rattle.sdd_base.specs.declared.limits.Limits.{Limits}
 use Rattle.sdd_lines.specs.Call.{IsWordOf}
-use Rattle.sdd_lines.specs.declared.ended.Ended.{Ended}
-use Rattle.sdd_lines.specs.declared.ended.Ended.TheVariants.{Played, NotACall, LimitsOutOfRange, CannotRead, CannotWrite, NoMemory}
 use Rattle.sdd_run.specs.declared.arguments.Choice.{Choice}
 use Rattle.sdd_run.specs.declared.arguments.Choice.TheVariants.{Script, Usage}
 
@@ -28,12 +26,3 @@ Chooses [] (Script limits) = limits ≡ usual_limits
 Chooses [] Usage = ⊥
 Chooses (word ∷ words) (Script limits) = AreLimits limits (word ∷ words)
 Chooses (word ∷ words) Usage = ¬ ((limits : Limits) × AreLimits limits (word ∷ words))
-
--- the status that a play's end gives the program
-abbrev pub status_of : Ended → ℕ
-status_of Played = 0
-status_of (NotACall n) = 2
-status_of LimitsOutOfRange = 2
-status_of CannotRead = 1
-status_of CannotWrite = 1
-status_of NoMemory = 1

@@ -1,65 +1,53 @@
 //! The program `sdd-run`: plays the script of standard input, and prints a line for each call.
+//!
+//! Here the host's arguments, input and printing meet the program's decisions, which stand under clauses: `program`
+//! says what the arguments ask for, `sdd::play` what a play reads and writes, and `outcome` what is printed besides, on
+//! which stream, and the status. No clause says what the host gives or prints.
 #![tactic(auto)]
 
 mod arguments;
+mod outcome;
 mod program;
 #[cfg(test)]
 mod tests;
 
 use arguments::Choice;
-use program::{choice, status};
-use sdd::{Ended, Limits, Reader, Writer, play};
+use outcome::{Outcome, after_printing, failure, line, status, without_arguments};
+use program::asked;
+use sdd::{Reader, Writer, play};
 use std::process::ExitCode;
 use std::rt::Env;
 use std::{env, io};
 
-const USAGE: &str = "usage: sdd-run [participants slots cells jobs nesting tries]";
-
 fn main(rt: HostRuntime) -> ExitCode {
-    let ended = match chosen(&rt) {
-        Ok(Choice::Script(limits)) => script(&rt, limits),
-        Ok(Choice::Usage) => match rt.println(USAGE) {
-            Ok(()) => return ExitCode::from(2),
-            Err(_) => Ended::CannotWrite,
-        },
-        Err(ended) => ended,
+    let outcome = match choice(&rt) {
+        Ok(Choice::Script(limits)) => {
+            let mut reader = Reader::new(rt.reader());
+            let mut writer = Writer::new(io::writer(&rt));
+            Outcome::Play(play(rt.alloc(), limits, &mut reader, &mut writer))
+        }
+        Ok(Choice::Usage) => Outcome::Usage,
+        Err(kind) => without_arguments(kind),
     };
-    tell_failure(&rt, &ended);
-    ExitCode::from(status(&ended))
-}
-
-/// What the arguments ask for. One that is no text is no number, so they ask for nothing that the program does.
-fn chosen(rt: &(impl Env + AllocGlobal)) -> Result<Choice, Ended> {
-    let words = match env::args(rt) {
-        Ok(words) => words,
-        Err(error) if error.kind() == io::ErrorKind::InvalidData => return Ok(Choice::Usage),
-        Err(_) => return Err(Ended::NoMemory),
+    let outcome = match line(outcome) {
+        Some(line) => after_printing(outcome, rt.println(line).is_ok()),
+        None => outcome,
     };
-    match words.skip(1).collect::<Vec<String>>(rt.alloc()) {
-        Ok(words) => Ok(choice(words.as_slice())),
-        Err(_) => Err(Ended::NoMemory),
+    if let Some(failure) = failure(outcome) {
+        // Nothing is left to be done where that fails too.
+        let _ = rt.eprintln(failure);
     }
+    ExitCode::from(status(outcome))
 }
 
-/// Plays the script of standard input. Limits out of range are told here, as `play` then writes nothing.
-fn script(rt: &(impl Input + Print + AllocGlobal), limits: Limits) -> Ended {
-    let mut reader = Reader::new(rt.reader());
-    let mut writer = Writer::new(io::writer(rt));
-    let ended = play(rt.alloc(), limits, &mut reader, &mut writer);
-    if ended == Ended::LimitsOutOfRange && rt.println("limits out of range").is_err() {
-        return Ended::CannotWrite;
-    }
-    ended
-}
-
-/// Tells on standard error what failed, if anything did.
-fn tell_failure(rt: &impl Eprint, ended: &Ended) {
-    let failure = match ended {
-        Ended::CannotRead => "cannot read",
-        Ended::CannotWrite => "cannot write",
-        Ended::NoMemory => "no memory",
-        Ended::Played | Ended::NotACall(_) | Ended::LimitsOutOfRange => return,
+/// What the host's arguments ask for.
+fn choice(rt: &(impl Env + AllocGlobal)) -> Result<Choice, io::ErrorKind> {
+    let arguments = match env::args(rt) {
+        Ok(arguments) => arguments.collect::<Vec<String>>(rt.alloc()),
+        Err(error) => return Err(error.kind()),
     };
-    // Nothing is left to be done where that fails too.
-    let _ = rt.eprintln(failure);
+    match arguments {
+        Ok(arguments) => Ok(asked(arguments.as_slice())),
+        Err(_) => Err(io::ErrorKind::OutOfMemory),
+    }
 }

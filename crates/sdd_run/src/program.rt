@@ -1,11 +1,21 @@
-//! The program's choices: what its arguments ask for, and the status that it ends with.
-ghost use Rattle.std.specs.Prelude.{◌≡◌, map, MatchOption, string_bytes};
+//! What the program's arguments ask for.
+ghost use Rattle.std.specs.Prelude.{drop, map, MatchOption, string_bytes};
 ghost use Rattle.sdd_base.specs.declared.limits.Limits.{Limits};
-ghost use Rattle.sdd_run.specs.Choice.{AreLimits, Chooses, status_of};
+ghost use Rattle.sdd_run.specs.Choice.{AreLimits, Chooses};
 
 use crate::arguments::{Choice, USUAL_LIMITS};
-use sdd::{Ended, Limits};
+use sdd::Limits;
 use sdd_lines::inner::number;
+
+/// What the arguments ask for, the first of which is the program's name.
+pub fn asked(arguments: &[String]) -> Choice
+    ensures { Chooses (map string_bytes (drop 1 arguments.now)) result }
+{
+    match arguments {
+        [_name, words @ ..] => choice(words),
+        [] => choice(&[]),
+    }
+}
 
 /// What the words behind the program's name ask for: no word for the usual limits, or six numbers in the order of
 /// `Limits`, written as in a script.
@@ -36,16 +46,4 @@ fn limits(words: &[String]) -> Option<Limits>
         nesting: number(nesting.as_str())?,
         tries: number(tries.as_str())?,
     })
-}
-
-/// The program's status after a play: 0 where all was played, 2 where what it was given is wrong, 1 where reading,
-/// writing or memory failed.
-pub fn status(ended: &Ended) -> u8
-    ensures { result ≡ status_of ended.now }
-{
-    match ended {
-        Ended::Played => 0,
-        Ended::NotACall(_) | Ended::LimitsOutOfRange => 2,
-        Ended::CannotRead | Ended::CannotWrite | Ended::NoMemory => 1,
-    }
 }

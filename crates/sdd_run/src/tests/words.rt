@@ -1,7 +1,8 @@
 //! What the arguments choose, and the status of each end.
 
 use crate::arguments::{Choice, USUAL_LIMITS};
-use crate::program::{choice, status};
+use crate::outcome::{Outcome, status};
+use crate::program::choice;
 use sdd::{Ended, Limits};
 use std::alloc::{AllocError, Global};
 use std::test::Fail;
@@ -66,6 +67,6 @@ fn each_end_has_its_status(rt: HostRuntime) {
         (Ended::CannotWrite, 1),
         (Ended::NoMemory, 1),
     ] {
-        assert_eq!(rt; status(&ended), code, "{ended:?}");
+        assert_eq!(rt; status(Outcome::Play(ended)), code, "{ended:?}");
     }
 }

@@ -1,8 +1,7 @@
 use Rattle.std.proofs.Common.{◌≡◌, ◌≤◌, ◌++◌, length, map}
 use Rattle.std.specs.List.{AllByRecursion}
 use Rattle.sdd_lines.specs.Call.{line_of, HasNumbers}
-use Rattle.sdd_lines.specs.Script.{lines}
-use Rattle.sdd_lines.specs.declared.script.TheConstants.{MOST_CALLS}
+use Rattle.sdd_lines.specs.Script.{most_calls, lines}
 use Rattle.sdd_lines.proofs.script.parse_all.Given as goal
 
 -- the calls so far, and the lines that are left, are the lines of the text
@@ -10,7 +9,7 @@ abbrev pub invariant-loop-rest : goal.invariant-loop-rest
 invariant-loop-rest l = record {
   lines : map line_of l.calls.items ++ lines l.rest ≡ lines l.text;
   numbers : AllByRecursion HasNumbers l.calls.items;
-  few : length l.calls.items ≤ MOST_CALLS;
+  few : length l.calls.items ≤ most_calls;
 }
 
 abbrev pub decreases-loop-rest : goal.decreases-loop-rest
