@@ -1,10 +1,10 @@
 -- What each action leaves in hand, and that it is what the call means
-use Rattle.std.proofs.Common.{◌≡◌, ◌≢◌, ◌⊎◌, ℕ, ◌+◌, ◌^◌, ◌<◌, ◌≤◌, Bool, true, false, List, [], ◌∷◌, ◌++◌, Option, Some, None, IsSome, is_some, if◌then◌else◌, length, map, slice_index, slice_index_or, slice_set, inl, inr, refl, sym, ap, ◌∙◌, subst, arith}
+use Rattle.std.proofs.Common.{◌≡◌, ℕ, ◌+◌, ◌^◌, ◌<◌, Bool, true, false, List, [], ◌∷◌, ◌++◌, Option, Some, None, IsSome, if◌then◌else◌, length, map, slice_index, slice_index_or, slice_set, inl, inr, refl, sym, ap, ◌∙◌, subst, arith}
 use Rattle.std.specs.Prelude.{Contains, ◌↔◌}
 use Rattle.std.specs.List.Sorted.{IsPermutation, IsNonDecreasingBy}
 use Rattle.std.proofs.Math.ListN.{get_or-map}
 use Rattle.std.proofs.lemmas.Bool.{cases_eq}
-use Rattle.std.proofs.lemmas.List.{map-set, map_push, length-map, length-set, get_or_past, get_or_default}
+use Rattle.std.proofs.lemmas.List.{map-set, map_push, length-map, get_or_past, get_or_default}
 use Rattle.std.specs.Option.{option_map}
 use Rattle.std.specs.Global.{Vec}
 use Rattle.sdd_core.specs.Epoch.{epoch_of}
@@ -28,8 +28,6 @@ use Rattle.sdd_lines.specs.declared.name.GuardName.{GuardName}
 use Rattle.sdd_lines.specs.declared.name.OwnerName.{OwnerName}
 use Rattle.sdd_lines.specs.declared.name.ItemName.{ItemName}
 use Rattle.sdd_core.specs.declared.epoch.Epoch.{Epoch}
-use Rattle.sdd_lines.specs.declared.call.Call.{Call}
-use Rattle.sdd_lines.specs.declared.answer.Reply.{Reply}
 use Rattle.sdd_lines.specs.declared.call.Call.TheVariants.{Register, At}
 use Rattle.sdd_lines.specs.declared.call.Action.TheVariants as call
 use Rattle.sdd_lines.specs.declared.answer.Reply.TheVariants as reply
@@ -47,13 +45,12 @@ use Rattle.sdd.specs.Ledger as ledger
 use Rattle.sdd.specs.Ledger.{Opening, IsThereSince, fate_at, place_in, since_in, with_guard, with_retired, all_gone, due_at}
 use Rattle.sdd.specs.Made.{Makes, RefusesItem}
 use Rattle.sdd.specs.Desk.{Desk, slot_at}
-use Rattle.sdd.specs.Due.{IsDue}
-use Rattle.sdd.specs.Script.{Acts, Answers, IsWaiting, NamesWhatGoes}
+use Rattle.sdd.specs.Script.{Acts, Answers, IsWaiting}
 use Rattle.sdd.specs.ByName.{time_by}
 use Rattle.sdd.specs.Sound.{IsSound, IsThere}
 use Rattle.sdd.specs.Stage.{attending, guarding, item_held, item_named, what_named, desk_of, opened_since, OwnsItem, IsOwnerIn, GuardsIn, IsTied, HasOpen}
 use Rattle.sdd.proofs.ByName.{by-stirred, by-accelerated, by-closed, by-registered, by-awaiting, by-opened, by-place}
-use Rattle.sdd.proofs.Entry.{at-other, at-pushed, at-end, at-default, as-each, inside, is-there, not-free}
+use Rattle.sdd.proofs.Entry.{at-other, at-pushed, at-end, at-default, as-each, is-there, not-free}
 use Rattle.sdd.proofs.Reclaiming.{leaves-opened}
 use Rattle.sdd.proofs.Naming.{due-found, names-due}
 use Rattle.sdd.proofs.Opening.{sound-opened, unguarded}
@@ -123,14 +120,14 @@ module _ (h : Hand) (t : IsTied h) where
         };
         desk = same ∙ cc (many);
       } where
-    still : (o : Option Guarding) → GuardsIn d.ledger.places o →
-        GuardsIn (d.ledger.places ++ Some (record { place = length h.world.time.places; since = 0 }) ∷ []) o
-    still None e = tt
-    still (Some held) e =
-        ap (option_map (λ (x : Opening). x.place))
-        (at-pushed d.ledger.places (Some (record { place = length h.world.time.places; since = 0 })) None held.participant
-        (λ z. not-there (slice_index_or d.ledger.places held.participant None) (guards_place held.guard) e
-        (get_or_past d.ledger.places held.participant None (omega (arith, z))))) ∙ e
+        still : (o : Option Guarding) → GuardsIn d.ledger.places o →
+            GuardsIn (d.ledger.places ++ Some (record { place = length h.world.time.places; since = 0 }) ∷ []) o
+        still None e = tt
+        still (Some held) e =
+            ap (option_map (λ (x : Opening). x.place))
+            (at-pushed d.ledger.places (Some (record { place = length h.world.time.places; since = 0 })) None held.participant
+            (λ z. not-there (slice_index_or d.ledger.places held.participant None) (guards_place held.guard) e
+            (get_or_past d.ledger.places held.participant None (omega (arith, z))))) ∙ e
 
   module _ (n : ℕ) (a : Attending) (there : attending (Some a) ≡ slice_index_or d.ledger.places n None) where
     abbrev pub p : ℕ
@@ -268,17 +265,17 @@ module _ (h : Hand) (t : IsTied h) where
         };
         desk = same;
       } where
-    owned-still : w.home.slots ≡ h.world.home.slots → slots.items ≡ h.slots.items ++ k ∷ [] → length h.slots.items ≡ length h.fates.items →
-        (j : ℕ) → (x : Option Held) → slice_index_or h.owners.entries.items j None ≡ x → OwnsItem h.world.home.slots h.slots.items x →
-        OwnsItem w.home.slots slots.items x
-    owned-still home more long j None e owns = tt
-    owned-still home more long j (Some x) e owns =
-        let entry : slice_index_or d.ledger.owners j None ≡ Some x.item = get_or-map item_held h.owners.entries.items j None ∙ ap item_held e in
-        let lt = fate-inside h.fates.items x.item (t.sound.owned.out j x.item entry) in
-        record {
-          home_is = owns.home_is ∙ sym home;
-          slot_is = owns.slot_is ∙ sym (ap (λ xs. slice_index_or xs x.item 0) more ∙ at-pushed h.slots.items k 0 x.item (λ z. omega (arith, z, lt, long)));
-        }
+        owned-still : w.home.slots ≡ h.world.home.slots → slots.items ≡ h.slots.items ++ k ∷ [] → length h.slots.items ≡ length h.fates.items →
+            (j : ℕ) → (x : Option Held) → slice_index_or h.owners.entries.items j None ≡ x → OwnsItem h.world.home.slots h.slots.items x →
+            OwnsItem w.home.slots slots.items x
+        owned-still home more long j None e owns = tt
+        owned-still home more long j (Some x) e owns =
+            let entry : slice_index_or d.ledger.owners j None ≡ Some x.item = get_or-map item_held h.owners.entries.items j None ∙ ap item_held e in
+            let lt = fate-inside h.fates.items x.item (t.sound.owned.out j x.item entry) in
+            record {
+              home_is = owns.home_is ∙ sym home;
+              slot_is = owns.slot_is ∙ sym (ap (λ xs. slice_index_or xs x.item 0) more ∙ at-pushed h.slots.items k 0 x.item (λ z. omega (arith, z, lt, long)));
+            }
 
   -- ---- a guard is opened
   module _ (n : ℕ) (a : Attending) (there : attending (Some a) ≡ slice_index_or d.ledger.places n None) where
@@ -378,9 +375,10 @@ module _ (h : Hand) (t : IsTied h) (name : PlaceName) where
         Acts desk (At name (call.Close g)) reply.Done (desk_of (record h { world = w; guards = record { entries = guards } }))
     acts-closed g w guards held valid here taken world =
         subst (Acts desk (At name (call.Close g)) reply.Done)
-        (sym (goes-closed h t w guards g.0 (index_of a.place) held here (guard-is g.0 held valid here) taken world).desk)
-        ((valid, (ap (closed h.world) (sym is), refl, refl)),
-        ap (λ q. record desk.ledger { time = time.closed desk.ledger.time q; guards = slice_set desk.ledger.guards g.0 None }) (sym is))
+        (sym (goes-closed h t w guards g.0 (index_of a.place) held here (guard-is g.0 held valid here) taken world).desk) (
+          (valid, (ap (closed h.world) (sym is), refl, refl)),
+          ap (λ q. record desk.ledger { time = time.closed desk.ledger.time q; guards = slice_set desk.ledger.guards g.0 None }) (sym is),
+        )
 
     pub acts-retired : (o : OwnerName) (w : World Val) (owners : Vec (Option Held)) (fates : Vec Fate) (held : Held) →
         slice_index_or h.owners.entries.items o.0 None ≡ Some held → KeepsUnderGuards holdings_of h.world →
@@ -390,9 +388,10 @@ module _ (h : Hand) (t : IsTied h) (name : PlaceName) where
     acts-retired o w owners fates held here keeps taken become world =
         let entry : slice_index_or desk.ledger.owners o.0 None ≡ Some held.item = get_or-map item_held h.owners.entries.items o.0 None ∙ ap item_held here in
         subst (Acts desk (At name (call.Retire o)) reply.Done)
-        (sym (goes-retired h t w owners fates (index_of a.place) o.0 held here (in-range h t name.0 a there) keeps taken become world).desk)
-        (((is-place, is-there desk.ledger.owners o.0 held.item entry), (held.item, entry, (ap (λ q. retired h.world q (slot_at desk held.item)) (sym is), refl, refl))),
-        cc (is, entry))
+        (sym (goes-retired h t w owners fates (index_of a.place) o.0 held here (in-range h t name.0 a there) keeps taken become world).desk) (
+          ((is-place, is-there desk.ledger.owners o.0 held.item entry), (held.item, entry, (ap (λ q. retired h.world q (slot_at desk held.item)) (sym is), refl, refl))),
+          cc (is, entry),
+        )
 
     pub acts-made : (w : World Val) (owners : Vec (Option Held)) (slots : Vec ℕ) (fates : Vec Fate) (named : Vec ℕ) (number k : ℕ) (held : Held)
         (o : OwnerName) (i : ItemName) (m : Makes h.world number k w) → IsWhole h.world → length h.fates.items + 1 < 2 ^ 128 →
@@ -403,12 +402,22 @@ module _ (h : Hand) (t : IsTied h) (name : PlaceName) where
         × Acts desk (At name (call.Owned number)) (reply.Item o i)
         (desk_of (record h { world = w; owners = record { entries = owners }; slots = slots; fates = fates; names = named }))
     acts-made w owners slots fates named number k held o i m whole few slot home item pushed more_slots more_fates written owner_name item_name =
-        let goes = goes-made h t w owners slots fates named number k held m whole some few slot home item pushed more_slots more_fates written in
-        (goes.tied, subst (Acts desk (At name (call.Owned number)) (reply.Item o i)) (sym goes.desk)
-        ((is-place, (owner_name ∙ sym (length-map h.owners.entries.items item_held), item_name,
-        (k, w, m, (sym m.made, refl, refl)))), refl)) where
-      some : (n : ℕ) × IsSome (slice_index_or desk.ledger.places n None)
-      some = (name.0, is-place)
+        let goes = goes-made h t w owners slots fates named number k held m whole some few slot home item pushed more_slots more_fates written in (
+          goes.tied,
+          subst (Acts desk (At name (call.Owned number)) (reply.Item o i)) (sym goes.desk) (
+            (
+              is-place,
+              (
+                owner_name ∙ sym (length-map h.owners.entries.items item_held),
+                item_name,
+                (k, w, m, (sym m.made, refl, refl)),
+              ),
+            ),
+            refl,
+          ),
+        ) where
+          some : (n : ℕ) × IsSome (slice_index_or desk.ledger.places n None)
+          some = (name.0, is-place)
 
     pub acts-refused : (w : World Val) (owners : Vec (Option Held)) (slots : Vec ℕ) (fates : Vec Fate) (number : ℕ) (refused : Refused) →
         RefusesItem h.world refused → w ≡ h.world → owners.items ≡ h.owners.entries.items → slots.items ≡ h.slots.items → fates.items ≡ h.fates.items →
@@ -429,18 +438,22 @@ module _ (h : Hand) (t : IsTied h) (name : PlaceName) where
     acts-read o held v number here shown is =
         let entry : slice_index_or desk.ledger.owners o.0 None ≡ Some held.item =
         get_or-map item_held h.owners.entries.items o.0 None ∙ sym (ap item_held here) in
-        let owns : IsOwnerIn h.world.home.slots h.slots.items held = subst (OwnsItem h.world.home.slots h.slots.items) (sym here) (t.owners o.0) in
-        (((is-place, is-there desk.ledger.owners o.0 held.item entry),
-        ((held.item, entry, (v, ap (value_at h.world) (sym owns.slot_is) ∙ shown, sym is)), refl)), refl)
+        let owns : IsOwnerIn h.world.home.slots h.slots.items held = subst (OwnsItem h.world.home.slots h.slots.items) (sym here) (t.owners o.0) in (
+          (
+            (is-place, is-there desk.ledger.owners o.0 held.item entry),
+            ((held.item, entry, (v, ap (value_at h.world) (sym owns.slot_is) ∙ shown, sym is)), refl),
+          ),
+          refl,
+        )
 
     -- an item that the participant can point to stands in its slot
     pub can-point : (i : ℕ) → IsThereSince a.since (fate_at desk.ledger i) → IsSome (standing_at h.world (slot_at desk i))
     can-point i since = stands-there (fate_at desk.ledger i) (standing_at h.world (slot_at desk i)) (since-there (fate_at desk.ledger i) since)
         (t.sound.stocked.stands i) where
-      since-there : (f : Fate) → IsThereSince a.since f → IsThere f
-      since-there Out s = tt
-      since-there (Retired at) s = tt
-      since-there Gone s = s
+          since-there : (f : Fate) → IsThereSince a.since f → IsThere f
+          since-there Out s = tt
+          since-there (Retired at) s = tt
+          since-there Gone s = s
 
     pub acts-looked : (i : ItemName) (g : GuardName) (k : ℕ) (v : Val) (number : ℕ) → HasOpen desk.ledger.places desk.ledger.guards name.0 g.0 →
         IsThereSince a.since (fate_at desk.ledger i.0) → k ≡ slot_at desk i.0 → value_at h.world k ≡ Some v → body_of v ≡ number →
@@ -474,10 +487,18 @@ module _ (h : Hand) (t : IsTied h) (name : PlaceName) where
       answers-opened g epoch moved up nests given_name now =
           let all = names-due desk (index_of a.place) t.sound.stocked whole slots are found names_are sorted moved up in
           record {
-            acts = subst (Acts desk (At name call.Open) (reply.Guard g epoch)) (sym opens-to.desk)
-                ((is-place, (subst (CanNest h.world.time) (sym is) nests, given_name ∙ sym (length-map h.guards.entries.items guarding),
-                now ∙ ap (λ (v : World Val). epoch_of v.time.count) world, (ap (opened holdings_of h.world) (sym is), refl, refl))),
-                ap (with_guard desk.ledger name.0) (sym is));
+            acts = subst (Acts desk (At name call.Open) (reply.Guard g epoch)) (sym opens-to.desk) (
+              (
+                is-place,
+                (
+                  subst (CanNest h.world.time) (sym is) nests,
+                  given_name ∙ sym (length-map h.guards.entries.items guarding),
+                  now ∙ ap (λ (v : World Val). epoch_of v.time.count) world,
+                  (ap (opened holdings_of h.world) (sym is), refl, refl),
+                ),
+              ),
+              ap (with_guard desk.ledger name.0) (sym is),
+            );
             goes = λ i. subst (λ q. Contains sorted i ↔ (IsWaiting (fate_at desk.ledger i.0) × Contains (reclaims h.world q) (Item (slot_at desk i.0)))) (sym is)
                 (all.2 i);
             due = record {

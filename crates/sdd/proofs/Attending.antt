@@ -1,6 +1,6 @@
 -- Who is there, and which guards are open, after each call
-use Rattle.std.proofs.Common.{◌≡◌, ◌≢◌, ◌⊎◌, ℕ, ◌+◌, ◌-◌, ◌<◌, ◌≤◌, ◌==◌, Bool, true, false, if◌then◌else◌, cond, nat_lt, List, [], ◌∷◌, ◌++◌, Option, Some, None, IsSome, is_some, length, map, count_by, slice_index_or, slice_set, inl, inr, refl, sym, ap, ◌∙◌, subst, ltb-false, lt-ltb, le-ltb, arith}
-use Rattle.std.proofs.lemmas.Bool.{cases_eq, cases_lt}
+use Rattle.std.proofs.Common.{◌≡◌, ◌≢◌, ◌⊎◌, ℕ, ◌+◌, ◌-◌, ◌<◌, ◌≤◌, ◌==◌, Bool, true, false, if◌then◌else◌, nat_lt, List, [], ◌∷◌, ◌++◌, Option, Some, None, IsSome, is_some, length, count_by, slice_index_or, slice_set, inl, inr, refl, sym, ap, ◌∙◌, subst, ltb-false, lt-ltb, arith}
+use Rattle.std.proofs.lemmas.Bool.{cases_eq}
 use Rattle.std.proofs.lemmas.List.{length-set, length_push, get_or_past}
 use Rattle.std.proofs.lemmas.List.Sums.{sum_by-set, sum_by_push}
 use Rattle.sdd_store.specs.Time as time
@@ -160,7 +160,7 @@ module _ (w : World Val) (l : Ledger) (a : IsAttended w l) where
         early = λ n x e.
             elim (cases_eq n (length l.places)) [
               | inl is ↦ (let z : Some new ≡ Some x = sym (ap (λ k. slice_index_or (l.places ++ Some new ∷ []) k None) is ∙ at-end l.places (Some new) None) ∙ e in
-              let same : new ≡ x = cc in omega (arith, ap (λ (y : Opening). y.since) same))
+                  let same : new ≡ x = cc in omega (arith, ap (λ (y : Opening). y.since) same))
               | inr ne ↦ a.early n x (old n x e ne)
             ];
         placed = λ some.
@@ -192,7 +192,7 @@ module _ (w : World Val) (l : Ledger) (a : IsAttended w l) where
       }
 
   module _ (v : World Val) (t : Time) (n : ℕ) (x : Opening) (items : List Fate) (there : slice_index_or l.places n None ≡ Some x)
-    (world : v.time ≡ opened w.time x.place) (long : length items ≡ length l.items) where
+      (world : v.time ≡ opened w.time x.place) (long : length items ≡ length l.items) where
     abbrev pub new : Opening
     new = record { place = x.place; since = l.moment + 1 }
 
@@ -237,23 +237,23 @@ module _ (w : World Val) (l : Ledger) (a : IsAttended w l) where
               subst (λ u. (m : ℕ) × (z : Opening) × (slice_index_or (places b) m None ≡ Some z) × (z.place ≡ u.place) × (z.since ≤ u.since)) same (own b)
           | inr ne ↦ let f = sym (at-pushed l.guards (Some new) None g ne) ∙ e in older b is (a.since g y f) (open-guard g y f)
         ] where
-      older : (b : Bool) → is_open (place_at w.time x.place) ≡ b →
-          (m : ℕ) × (z : Opening) × (slice_index_or l.places m None ≡ Some z) × (z.place ≡ y.place) × (z.since ≤ y.since) → 0 < (place_at w.time y.place).guards →
-          (m : ℕ) × (z : Opening) × (slice_index_or (places b) m None ≡ Some z) × (z.place ≡ y.place) × (z.since ≤ y.since)
-      older true is h some = h
-      older false is h some = (h.0, h.1, at-other l.places n h.0 (Some new) None apart ∙ h.2, h.3, h.4) where
-        apart : h.0 ≢ n
-        apart e =
-            let z : Some h.1 ≡ Some x = sym h.2 ∙ ap (λ k. slice_index_or l.places k None) e ∙ there in
-            let same : h.1 ≡ x = cc in
-            let place : x.place ≡ y.place = ap (λ (u : Opening). u.place) (sym same) ∙ h.3 in
-            let none = ltb-false 0 (place_at w.time x.place).guards is in
-            let some_here : 0 < (place_at w.time x.place).guards = subst (λ k. 0 < (place_at w.time k).guards) (sym place) some in
-            absurd (omega (arith, none, some_here))
+          older : (b : Bool) → is_open (place_at w.time x.place) ≡ b →
+              (m : ℕ) × (z : Opening) × (slice_index_or l.places m None ≡ Some z) × (z.place ≡ y.place) × (z.since ≤ y.since) → 0 < (place_at w.time y.place).guards →
+              (m : ℕ) × (z : Opening) × (slice_index_or (places b) m None ≡ Some z) × (z.place ≡ y.place) × (z.since ≤ y.since)
+          older true is h some = h
+          older false is h some = (h.0, h.1, at-other l.places n h.0 (Some new) None apart ∙ h.2, h.3, h.4) where
+            apart : h.0 ≢ n
+            apart e =
+                let z : Some h.1 ≡ Some x = sym h.2 ∙ ap (λ k. slice_index_or l.places k None) e ∙ there in
+                let same : h.1 ≡ x = cc in
+                let place : x.place ≡ y.place = ap (λ (u : Opening). u.place) (sym same) ∙ h.3 in
+                let none = ltb-false 0 (place_at w.time x.place).guards is in
+                let some_here : 0 < (place_at w.time x.place).guards = subst (λ k. 0 < (place_at w.time k).guards) (sym place) some in
+                absurd (omega (arith, none, some_here))
 
-      own : (b : Bool) → (m : ℕ) × (z : Opening) × (slice_index_or (places b) m None ≡ Some z) × (z.place ≡ x.place) × (z.since ≤ l.moment + 1)
-      own true = (n, x, there, refl, a.early n x there)
-      own false = (n, new, at-same l.places n (Some new) None (inside l.places n (ap is_some there)), refl, omega arith)
+          own : (b : Bool) → (m : ℕ) × (z : Opening) × (slice_index_or (places b) m None ≡ Some z) × (z.place ≡ x.place) × (z.since ≤ l.moment + 1)
+          own true = (n, x, there, refl, a.early n x there)
+          own false = (n, new, at-same l.places n (Some new) None (inside l.places n (ap is_some there)), refl, omega arith)
 
     placed : (b : Bool) → 0 < length items → (m : ℕ) × IsSome (slice_index_or (places b) m None)
     placed true some = a.placed (omega (arith, some, long))

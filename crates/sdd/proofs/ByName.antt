@@ -1,10 +1,10 @@
 -- Time goes on the same way under the names of items as under their slots
-use Rattle.std.proofs.Common.{◌≡◌, ◌≢◌, ℕ, zero, suc, ◌+◌, ◌-◌, ◌<◌, ◌&&◌, ◌==◌, Bool, true, false, if◌then◌else◌, cond, nat_lt, not, List, [], ◌∷◌, ◌++◌, map, length, count_by, slice_index_or, slice_set, refl, sym, ap, ◌∙◌, arith}
+use Rattle.std.proofs.Common.{◌≡◌, ℕ, ◌+◌, ◌-◌, ◌&&◌, ◌==◌, Bool, true, false, if◌then◌else◌, cond, nat_lt, not, List, [], ◌∷◌, map, refl, sym, ap, ◌∙◌}
 use Rattle.std.specs.List.{list_all, filter}
 use Rattle.std.proofs.Math.ListN.{get_or-map}
 use Rattle.std.proofs.lemmas.List.{map-set, map_push}
-use Rattle.sdd_store.specs.Waiting.{What, Waiting, having_seen, older, aged, is_due, due, left}
-use Rattle.sdd_store.specs.Waiting.What.{Item, Private, Job}
+use Rattle.sdd_store.specs.Waiting.{Waiting, having_seen, older, aged, is_due, due, left}
+use Rattle.sdd_store.specs.Waiting.What.{Item}
 use Rattle.sdd_store.specs.Time as time
 use Rattle.sdd_store.specs.Time.{Time, nobody, newcomer, place_at, with_place, is_open, passes, last_count, counted_down, due_next}
 use Rattle.sdd_store.specs.declared.time.Participant.{Participant}
@@ -85,9 +85,9 @@ module _ (name : ℕ → ℕ) where
   by-settled : (t : Time) (p : ℕ) → time_by name (time.settled_at t p) ≡ time.settled_at (time_by name t) p
   by-settled t p =
       by-changed time.settled time.settled (λ x. ap (λ n. record (participant_by name x) { countdown = n }) (sym (as-many x.bags.waiting))) t p where
-    as-many : (ws : List Waiting) → ◌≡◌ {A = ℕ} (elim (map (waiting_by name) ws) [ [] ↦ 128 | x ∷ xs ↦ 127 ]) (elim ws [ [] ↦ 128 | x ∷ xs ↦ 127 ])
-    as-many [] = refl
-    as-many (w ∷ ws) = refl
+        as-many : (ws : List Waiting) → ◌≡◌ {A = ℕ} (elim (map (waiting_by name) ws) [ [] ↦ 128 | x ∷ xs ↦ 127 ]) (elim ws [ [] ↦ 128 | x ∷ xs ↦ 127 ])
+        as-many [] = refl
+        as-many (w ∷ ws) = refl
 
   by-caught_up : (t : Time) (p : ℕ) → time_by name (caught_up t p) ≡ caught_up (time_by name t) p
   by-caught_up t p =
@@ -106,8 +106,10 @@ module _ (name : ℕ → ℕ) where
   by-due_at t p =
       rw (by-place t p)
       (ap (λ xs. if is_open (place_at t p) then [] else (if time.finds_another t p then xs else [])) (due-by (place_at t p).bags.waiting)
-      ∙ cc (chosen (map (what_by name)) (is_open (place_at t p)) [] (if time.finds_another t p then due_next (place_at t p) else []),
-      chosen (map (what_by name)) (time.finds_another t p) (due_next (place_at t p)) []))
+      ∙ cc (
+        chosen (map (what_by name)) (is_open (place_at t p)) [] (if time.finds_another t p then due_next (place_at t p) else []),
+        chosen (map (what_by name)) (time.finds_another t p) (due_next (place_at t p)) [],
+      ))
 
   pub by-registered : (t : Time) → time_by name (time.registered t) ≡ time.registered (time_by name t)
   by-registered t = ap (λ ps. record t { places = ps }) (map_push (participant_by name) t.places (newcomer t.room))
@@ -138,5 +140,9 @@ module _ (name : ℕ → ℕ) where
   by-closed t p =
       let x = place_at t p in
       chosen (time_by name) (nat_lt 1 x.guards) (with_place t p (record x { guards = x.guards - 1 })) (if is_open x then time.left_by t p else t)
-      ∙ cc (by-changed (λ y. record y { guards = y.guards - 1 }) (λ y. record y { guards = y.guards - 1 }) (λ y. refl) t p,
-      chosen (time_by name) (is_open x) (time.left_by t p) t, by-left_by t p, by-place t p)
+      ∙ cc (
+        by-changed (λ y. record y { guards = y.guards - 1 }) (λ y. record y { guards = y.guards - 1 }) (λ y. refl) t p,
+        chosen (time_by name) (is_open x) (time.left_by t p) t,
+        by-left_by t p,
+        by-place t p,
+      )

@@ -1,23 +1,20 @@
 -- A script that let go of all it held ends its world, and all that was made was reclaimed
-use Rattle.std.proofs.Common.{◌≡◌, ◌≢◌, ℕ, zero, suc, ◌+◌, ◌^◌, ◌<◌, Bool, false, true, List, [], ◌∷◌, Option, Some, None, Result, Ok, Err, IsSome, is_some, length, count_by, slice_index_or, inl, inr, refl, sym, ap, ◌∙◌, subst, ltb-true, arith}
+use Rattle.std.proofs.Common.{◌≡◌, ℕ, suc, ◌<◌, true, List, [], ◌∷◌, Option, Some, None, Result, Ok, Err, IsSome, is_some, count_by, slice_index_or, refl, sym, ap, ◌∙◌, subst, ltb-true, arith}
 use Rattle.std.specs.Prelude.{IsOk}
 use Rattle.std.proofs.lemmas.List.{get_or_default}
-use Rattle.sdd_store.specs.Time.{is_open, nobody}
-use Rattle.sdd_store.specs.declared.standing.Standing.{Standing}
-use Rattle.sdd_store.specs.declared.standing.Standing.TheVariants as standing
+use Rattle.sdd_store.specs.Time.{nobody}
 use Rattle.sdd_slots.specs.Slots.{is_waiting}
-use Rattle.sdd_base.specs.Holding.{Holding, atomic_owned}
-use Rattle.sdd_base.specs.World.{World, IsGuarded, place_at, standing_at}
+use Rattle.sdd_base.specs.Holding.{atomic_owned}
+use Rattle.sdd_base.specs.World.{IsGuarded, place_at, standing_at}
 use Rattle.sdd_base.specs.Whole.{IsWhole}
 use Rattle.sdd_base.proofs.Whole.{filled-there, one_where, count-cons}
-use Rattle.sdd_world.specs.Closing.{AllGo, Goes, GoesCell}
+use Rattle.sdd_world.specs.Closing.{AllGo}
 use Rattle.sdd_world.specs.Closing.Goes.{waits}
-use Rattle.sdd.specs.declared.script.val.Val.{Val}
 use Rattle.sdd.specs.declared.script.fate.Fate.{Fate}
 use Rattle.sdd.specs.declared.script.fate.Fate.TheVariants.{Out, Retired, Gone}
 use Rattle.sdd.specs.Val.{holdings_of, link_home}
 use Rattle.sdd.specs.Ledger.{Opening, fate_at}
-use Rattle.sdd.specs.Desk.{Desk, slot_at, name_at}
+use Rattle.sdd.specs.Desk.{Desk, name_at}
 use Rattle.sdd.specs.Sound.{IsSound, IsThere, StandsAs, is_of}
 
 none-open : (guards : List (Option Opening)) (q : ℕ) → ((g : ℕ) → slice_index_or guards g None ≡ None) → count_by (is_of q) guards ≡ 0
@@ -43,12 +40,12 @@ module _ (d : Desk) (s : IsSound d) where
         let item = s.stocked.taken k t in
         by (fate_at d.ledger (name_at d k)) refl item.0
         (subst (λ j. StandsAs (fate_at d.ledger (name_at d k)) (standing_at d.world j)) item.1 (s.stocked.stands (name_at d k))) where
-      by : (f : Fate) → fate_at d.ledger (name_at d k) ≡ f → IsThere f → StandsAs f (standing_at d.world k) → is_waiting (standing_at d.world k) ≡ true
-      by Out is h e =
-          let owner = s.owned.owner (name_at d k) is in
-          absurd (let z : None ≡ Some (name_at d k) = sym (spent owner.0) ∙ owner.1 in cc)
-      by (Retired at) is h e = rw e refl
-      by Gone is h e = absurd h
+          by : (f : Fate) → fate_at d.ledger (name_at d k) ≡ f → IsThere f → StandsAs f (standing_at d.world k) → is_waiting (standing_at d.world k) ≡ true
+          by Out is h e =
+              let owner = s.owned.owner (name_at d k) is in
+              absurd (let z : None ≡ Some (name_at d k) = sym (spent owner.0) ∙ owner.1 in cc)
+          by (Retired at) is h e = rw e refl
+          by Gone is h e = absurd h
 
     -- all that is out goes with what waits
     pub all-go : AllGo holdings_of d.world

@@ -1,5 +1,5 @@
 -- What is always true of a desk is true at its start, and after each call but an opening
-use Rattle.std.proofs.Common.{◌≡◌, ◌≢◌, ◌⊎◌, ℕ, zero, suc, ◌+◌, ◌^◌, ◌<◌, ◌≤◌, ◌==◌, nat_lt, lt-ltb, ltb-true, Bool, true, false, List, [], ◌∷◌, ◌++◌, Option, Some, None, IsSome, is_some, length, map, count_by, sum_by, slice_index, slice_index_or, slice_set, inl, inr, refl, sym, ap, ◌∙◌, subst, arith}
+use Rattle.std.proofs.Common.{◌≡◌, ◌≢◌, ◌⊎◌, ℕ, zero, suc, ◌+◌, ◌^◌, ◌<◌, ◌≤◌, ◌==◌, nat_lt, lt-ltb, ltb-true, true, false, List, [], ◌∷◌, ◌++◌, Option, Some, None, IsSome, is_some, length, map, count_by, sum_by, slice_index_or, slice_set, inl, inr, refl, sym, ap, ◌∙◌, subst, arith}
 use Rattle.std.specs.Prelude.{IsTrue}
 use Rattle.std.proofs.lemmas.Bool.{cases_eq, cases_lt}
 use Rattle.std.proofs.lemmas.List.Sums.{sum_by-cons}
@@ -29,10 +29,10 @@ use Rattle.sdd.specs.declared.script.val.Val.{Val}
 use Rattle.sdd.specs.declared.script.fate.Fate.{Fate}
 use Rattle.sdd.specs.declared.script.fate.Fate.TheVariants.{Out, Retired, Gone}
 use Rattle.sdd.specs.Val.{holdings_of, link_of}
-use Rattle.sdd.specs.Ledger.{Ledger, Opening, fate_at, place_of, with_retired, later, first}
+use Rattle.sdd.specs.Ledger.{Opening, fate_at, with_retired}
 use Rattle.sdd.specs.ByName.{what_by, waiting_by, participant_by, time_by}
 use Rattle.sdd.specs.Desk.{Desk, slot_at, name_at}
-use Rattle.sdd.specs.Sound.{IsSound, IsThere, StandsAs, IsAttended, IsLinked, IsKept, IsOwned, Keeps}
+use Rattle.sdd.specs.Sound.{IsSound, IsThere, StandsAs, IsAttended, Keeps}
 use Rattle.sdd.proofs.Entry.{at-same, at-other, at-pushed, at-end, at-default, as-each, inside, is-there, not-free}
 use Rattle.sdd.proofs.Naming.{one-if}
 use Rattle.sdd.proofs.Attending.{attended-same, attended-registered, attended-closed, guards-closed, open-guard}
@@ -132,32 +132,14 @@ module _ (d : Desk) (s : IsSound d) where
       let some : 0 < (place_at d.world.time p).guards = subst (λ q. 0 < (place_at d.world.time q).guards) is (open-guard d.world d.ledger s.attended g y e) in
       sound-timed (time.closed d.world.time p) u d.ledger.places (slice_set d.ledger.guards g None) (closes d.world p lt)
       (attended-closed d.world d.ledger s.attended u g p y e is)
-      (λ n x f early o. (f, lt-ltb 0 (place_at d.world.time x.place).guards (omega (arith, guards-closed d.world.time p x.place lt some,
-      ltb-true 0 (place_at (time.closed d.world.time p) x.place).guards o))))
-
-  -- one line later
-  pub sound-later : IsSound (record d { ledger = later d.ledger })
-  sound-later = record {
-    stocked = record { stands = s.stocked.stands; named = s.stocked.named; taken = s.stocked.taken; slots = s.stocked.slots; names = s.stocked.names };
-    owned = record {
-      out = s.owned.out;
-      apart = s.owned.apart;
-      owner = s.owned.owner;
-      dated = λ i at e. omega (arith, s.owned.dated i at e);
-    };
-    linked = s.linked;
-    attended = record {
-      inside = s.attended.inside;
-      apart = s.attended.apart;
-      opened = s.attended.opened;
-      since = s.attended.since;
-      early = λ n x e. omega (arith, s.attended.early n x e);
-      placed = s.attended.placed;
-    };
-    kept = s.kept;
-    made = s.made;
-    in_place = s.in_place;
-  }
+      (λ n x f early o. (
+        f,
+        lt-ltb 0 (place_at d.world.time x.place).guards (omega (
+          arith,
+          guards-closed d.world.time p x.place lt some,
+          ltb-true 0 (place_at (time.closed d.world.time p) x.place).guards o,
+        )),
+      ))
 
   -- ---- an item is retired
   pub sound-retired : (p o i : ℕ) → p < length d.world.time.places → slice_index_or d.ledger.owners o None ≡ Some i →
@@ -193,8 +175,7 @@ module _ (d : Desk) (s : IsSound d) where
                 | inr ne ↦ s.stocked.named j (subst IsThere (others j ne) h)
               ];
           taken = λ q t.
-              (let was = s.stocked.taken q (subst (λ b. b ≡ true) (as-each is_some d.world.standings k (Some standing.Retired) None (sym (ap is_some owns)) q) t) in
-              (
+              (let was = s.stocked.taken q (subst (λ b. b ≡ true) (as-each is_some d.world.standings k (Some standing.Retired) None (sym (ap is_some owns)) q) t) in (
                 elim (cases_eq (name_at d q) i) [
                   | inl e ↦ subst IsThere (sym (ap (fate_at l) e ∙ own)) tt
                   | inr ne ↦ subst IsThere (sym (others (name_at d q) ne)) was.0
@@ -312,8 +293,7 @@ module _ (d : Desk) (s : IsSound d) where
               | inr ne ↦
                   let was = s.stocked.taken q (subst (λ x. IsSome x) (at-other d.world.standings k q (Some standing.Owned) None ne) t) in
                   let name : name_at with_item q ≡ name_at d q = at-other d.names k q (length d.ledger.items) 0 ne in
-                  let old : name_at d q ≢ length d.ledger.items = λ e. omega (arith, e, there-inside d.ledger.items (name_at d q) was.0) in
-                  (
+                  let old : name_at d q ≢ length d.ledger.items = λ e. omega (arith, e, there-inside d.ledger.items (name_at d q) was.0) in (
                     subst IsThere (sym (ap (fate_at with_item.ledger) name ∙ fate-old (name_at d q) old)) was.0,
                     ap (slot_at with_item) name ∙ slot-old (name_at d q) old ∙ was.1,
                   )
@@ -445,13 +425,13 @@ waiting-same f g k same (w ∷ ws) none =
     let head = count-cons (λ (x : Waiting). is_of_slot k x.what) w ws in
     let here : waiting_by g w ≡ waiting_by f w = ap (having_seen w.seen) (what-same w.what (omega (arith, head, none))) in
     cc (here, waiting-same f g k same ws (omega (arith, head, none))) where
-  apart : (j : ℕ) → one_where (j == k) ≡ 0 → g j ≡ f j
-  apart j none = same j (λ e. absurd (omega (arith, none, one-if j k e)))
+      apart : (j : ℕ) → one_where (j == k) ≡ 0 → g j ≡ f j
+      apart j none = same j (λ e. absurd (omega (arith, none, one-if j k e)))
 
-  what-same : (x : What) → one_where (is_of_slot k x) ≡ 0 → what_by g x ≡ what_by f x
-  what-same (Item j) none = ap Item (apart j none)
-  what-same (Private j c) none = ap (λ i. Private i c) (apart j none)
-  what-same (Job j) none = refl
+      what-same : (x : What) → one_where (is_of_slot k x) ≡ 0 → what_by g x ≡ what_by f x
+      what-same (Item j) none = ap Item (apart j none)
+      what-same (Private j c) none = ap (λ i. Private i c) (apart j none)
+      what-same (Job j) none = refl
 
 pub renamed : (f g : ℕ → ℕ) (k : ℕ) → ((j : ℕ) → j ≢ k → g j ≡ f j) → (t : Time) → sum_by (times_with k) t.places ≡ 0 → time_by g t ≡ time_by f t
 renamed f g k same t none = ap (λ ps. record t { places = ps }) (all t.places none) where

@@ -1,5 +1,5 @@
 -- What was retired under a guard waits as long as it is open
-use Rattle.std.proofs.Common.{◌≡◌, ◌≢◌, ◌⊎◌, ℕ, ◌+◌, ◌<◌, ◌≤◌, true, false, List, Option, Some, None, IsSome, is_some, slice_index_or, inl, inr, refl, sym, ap, ◌∙◌, subst, cond, lt-ltb, arith}
+use Rattle.std.proofs.Common.{◌≡◌, ℕ, ◌≤◌, Some, None, slice_index_or, sym, subst, arith}
 use Rattle.std.specs.Prelude.{IsTrue}
 use Rattle.sdd_store.specs.Time.{is_open}
 use Rattle.sdd_base.specs.World.{World, place_at}

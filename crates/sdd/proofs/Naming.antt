@@ -1,5 +1,5 @@
 -- What an opening reclaims, by the names of its items
-use Rattle.std.proofs.Common.{◌≡◌, ◌≢◌, ◌⊎◌, ℕ, zero, suc, ◌+◌, ◌<◌, ◌≤◌, ◌==◌, Bool, true, false, if◌then◌else◌, cond, List, [], ◌∷◌, Option, Some, None, IsSome, is_some, length, map, sum_by, count_by, slice_index, slice_index_or, slice_set, inl, inr, refl, sym, ap, ◌∙◌, subst, eq-eqb, ne_eqb, eqb-true, arith}
+use Rattle.std.proofs.Common.{◌≡◌, ◌≢◌, ◌⊎◌, ℕ, zero, suc, ◌<◌, ◌≤◌, ◌==◌, Bool, true, false, if◌then◌else◌, List, [], ◌∷◌, Option, length, map, slice_index, slice_index_or, slice_set, inl, inr, refl, sym, ap, ◌∙◌, subst, eq-eqb, ne_eqb, arith}
 use Rattle.std.specs.Prelude.{All, Contains, eqb, ◌↔◌}
 use Rattle.std.specs.List.{IsDistinct, AllByRecursion}
 use Rattle.std.specs.List.Sorted.{IsPermutation, IsNonDecreasing, IsNonDecreasingBy, IsStrictlyIncreasing}
@@ -13,7 +13,6 @@ use Rattle.sdd_store.specs.Waiting.What.{Item, Private, Job}
 use Rattle.sdd_store.specs.Time.{is_open, finds_another, due_next}
 use Rattle.sdd_store.specs.declared.time.Participant.{Participant}
 use Rattle.sdd_store.specs.declared.standing.Standing.{Standing}
-use Rattle.sdd_store.specs.declared.standing.Standing.TheVariants as standing
 use Rattle.sdd_slots.specs.Slots.{is_waiting}
 use Rattle.sdd_base.specs.World.{World, place_at, standing_at}
 use Rattle.sdd_base.specs.Steps.{reclaims}
@@ -24,7 +23,7 @@ use Rattle.sdd_lines.specs.declared.name.ItemName.{ItemName}
 use Rattle.sdd.specs.declared.script.val.Val.{Val}
 use Rattle.sdd.specs.declared.script.fate.Fate.{Fate}
 use Rattle.sdd.specs.declared.script.fate.Fate.TheVariants.{Out, Retired, Gone}
-use Rattle.sdd.specs.Ledger.{Ledger, all_gone, due_at, fate_at}
+use Rattle.sdd.specs.Ledger.{all_gone, due_at, fate_at}
 use Rattle.sdd.specs.ByName.{what_by, time_by}
 use Rattle.sdd.specs.Desk.{Desk, slot_at, name_at}
 use Rattle.sdd.specs.Script.{IsWaiting}
@@ -62,14 +61,14 @@ distinct-counted : (ns : List ℕ) → ((i : ℕ) → times_among i (map Item ns
 unfolding IsDistinct
 distinct-counted [] h = tt
 distinct-counted (n ∷ ns) h = IsDistinct-cons eqb n ns
-  (apart ns (omega (arith, h n, count-cons (is_of_slot n) (Item n) (map Item ns), one-if n n refl)))
-  (distinct-counted ns (λ i. omega (arith, h i, count-cons (is_of_slot i) (Item n) (map Item ns)))) where
-  apart : (ms : List ℕ) → times_among n (map Item ms) ≡ 0 → AllByRecursion (λ m. eqb n m ≡ false) ms
-  apart [] z = tt
-  apart (m ∷ ms) z = (
-    ne_eqb n m (λ e. absurd (omega (arith, z, count-cons (is_of_slot n) (Item m) (map Item ms), one-if m n (sym e)))),
-    apart ms (omega (arith, z, count-cons (is_of_slot n) (Item m) (map Item ms))),
-  )
+    (apart ns (omega (arith, h n, count-cons (is_of_slot n) (Item n) (map Item ns), one-if n n refl)))
+    (distinct-counted ns (λ i. omega (arith, h i, count-cons (is_of_slot i) (Item n) (map Item ns)))) where
+      apart : (ms : List ℕ) → times_among n (map Item ms) ≡ 0 → AllByRecursion (λ m. eqb n m ≡ false) ms
+      apart [] z = tt
+      apart (m ∷ ms) z = (
+        ne_eqb n m (λ e. absurd (omega (arith, z, count-cons (is_of_slot n) (Item m) (map Item ms), one-if m n (sym e)))),
+        apart ms (omega (arith, z, count-cons (is_of_slot n) (Item m) (map Item ms))),
+      )
 
 contains-map : {X Y : Type 0} (f : X → Y) (xs : List X) (x : X) → Contains xs x → Contains (map f xs) (f x)
 contains-map f xs x (k, lt, e) = (k, omega (arith, lt, length-map xs f), get_or-map f xs k x ∙ ap f e)
@@ -132,23 +131,23 @@ by-name-le slot name i (x ∷ xs) known =
     let rest = by-name-le slot name i xs (λ s h. known s (omega (arith, h, count-cons (is_of_slot s) x xs))) in
     let first = head x (λ s is. known s (let one : one_where (is_of_slot s x) ≡ 1 = rw is refl in omega (arith, one, count-cons (is_of_slot s) x xs))) in
     omega (arith, rest, first, count-cons (is_of_slot i) (what_by name x) (map (what_by name) xs), count-cons (is_of_slot (slot i)) x xs) where
-  same : (s : ℕ) → slot (name s) ≡ s → one_where (name s == i) ≤ one_where (s == slot i)
-  same s e = counts-le (name s) i s (slot i) (λ h. sym e ∙ ap slot h)
+      same : (s : ℕ) → slot (name s) ≡ s → one_where (name s == i) ≤ one_where (s == slot i)
+      same s e = counts-le (name s) i s (slot i) (λ h. sym e ∙ ap slot h)
 
-  head : (x : What) → ((s : ℕ) → is_of_slot s x ≡ true → slot (name s) ≡ s) → one_where (is_of_slot i (what_by name x)) ≤ one_where (is_of_slot (slot i) x)
-  head (Item s) known = same s (known s (eq-eqb s s refl))
-  head (Private s c) known = same s (known s (eq-eqb s s refl))
-  head (Job j) known = omega arith
+      head : (x : What) → ((s : ℕ) → is_of_slot s x ≡ true → slot (name s) ≡ s) → one_where (is_of_slot i (what_by name x)) ≤ one_where (is_of_slot (slot i) x)
+      head (Item s) known = same s (known s (eq-eqb s s refl))
+      head (Private s c) known = same s (known s (eq-eqb s s refl))
+      head (Job j) known = omega arith
 
 -- and at least as often
 pub le-by-name : (name : ℕ → ℕ) (s : ℕ) (xs : List What) → times_among s xs ≤ times_among (name s) (map (what_by name) xs)
 le-by-name name s [] = omega arith
 le-by-name name s (x ∷ xs) =
     omega (arith, le-by-name name s xs, head x, count-cons (is_of_slot (name s)) (what_by name x) (map (what_by name) xs), count-cons (is_of_slot s) x xs) where
-  head : (x : What) → one_where (is_of_slot s x) ≤ one_where (is_of_slot (name s) (what_by name x))
-  head (Item j) = counts-le j s (name j) (name s) (λ e. ap name e)
-  head (Private j c) = counts-le j s (name j) (name s) (λ e. ap name e)
-  head (Job j) = omega arith
+      head : (x : What) → one_where (is_of_slot s x) ≤ one_where (is_of_slot (name s) (what_by name x))
+      head (Item j) = counts-le j s (name j) (name s) (λ e. ap name e)
+      head (Private j c) = counts-le j s (name j) (name s) (λ e. ap name e)
+      head (Job j) = omega arith
 
 -- ---- items that are gone
 
@@ -241,8 +240,7 @@ module _ (d : Desk) (p : ℕ) (stocked : IsStocked d) (whole : IsWhole d.world) 
           let s = map-contains (item_named d.names) slots i c in
           let some = counted s.0 s.1 in
           let name : name_at d s.0 ≡ i.0 = ap (λ (j : ItemName). j.0) s.2 in
-          let slot : s.0 ≡ slot_at d i.0 = sym (known s.0 some) ∙ ap (slot_at d) name in
-          (
+          let slot : s.0 ≡ slot_at d i.0 = sym (known s.0 some) ∙ ap (slot_at d) name in (
             subst (λ j. IsWaiting (fate_at d.ledger j)) name (item-waits s.0 some),
             subst (λ xs. Contains xs (Item (slot_at d i.0))) are (subst (λ k. Contains (map Item slots) (Item k)) slot (contains-map Item slots s.0 s.1)),
           )),

@@ -1,15 +1,14 @@
 -- What is always true of a desk is true after an opening
-use Rattle.std.proofs.Common.{◌≡◌, ◌≢◌, ◌⊎◌, ℕ, ◌+◌, ◌<◌, ◌≤◌, Bool, true, false, if◌then◌else◌, List, [], ◌∷◌, ◌++◌, Option, Some, None, IsSome, is_some, length, map, slice_index, slice_index_or, slice_set, inl, inr, refl, sym, ap, ◌∙◌, subst, lt-ltb, ltb-false, ltb-true, arith}
+use Rattle.std.proofs.Common.{◌≡◌, ℕ, ◌+◌, ◌<◌, ◌≤◌, Bool, true, false, if◌then◌else◌, List, Option, Some, None, IsSome, is_some, map, slice_index_or, slice_set, inl, inr, refl, sym, ap, ◌∙◌, subst, lt-ltb, ltb-true, arith}
 use Rattle.std.specs.Prelude.{Contains, IsTrue}
 use Rattle.std.proofs.lemmas.Bool.{cases_eq, cases_lt}
 use Rattle.sdd_store.specs.Waiting.{What}
 use Rattle.sdd_store.specs.Waiting.What.{Item}
 use Rattle.sdd_store.specs.Time.{Time, place_at, is_open}
-use Rattle.sdd_store.specs.declared.time.Participant.{Participant}
 use Rattle.sdd_store.specs.declared.standing.Standing.{Standing}
 use Rattle.sdd_store.specs.declared.standing.Standing.TheVariants as standing
 use Rattle.sdd_slots.specs.Slots.{is_waiting}
-use Rattle.sdd_base.specs.World.{World, standing_at, value_at}
+use Rattle.sdd_base.specs.World.{standing_at, value_at}
 use Rattle.sdd_base.specs.Steps as steps
 use Rattle.sdd_base.specs.Steps.{reclaims}
 use Rattle.sdd_base.specs.Whole.{IsWhole}
@@ -21,7 +20,7 @@ use Rattle.sdd.specs.declared.script.val.Val.{Val}
 use Rattle.sdd.specs.declared.script.fate.Fate.{Fate}
 use Rattle.sdd.specs.declared.script.fate.Fate.TheVariants.{Out, Retired, Gone}
 use Rattle.sdd.specs.Val.{holdings_of}
-use Rattle.sdd.specs.Ledger.{Ledger, Opening, all_gone, due_at, fate_at, opened, with_guard}
+use Rattle.sdd.specs.Ledger.{Opening, due_at, fate_at, opened, with_guard}
 use Rattle.sdd.specs.Due.{WasRetiredBefore}
 use Rattle.sdd.specs.Script.{IsWaiting}
 use Rattle.sdd.specs.ByName.{what_by, time_by}
@@ -145,8 +144,7 @@ module _ (d : Desk) (n : ℕ) (x : Opening) (told : d.ledger.time ≡ time_by (n
       elim z.3 [
         | inr now ↦ absurd (omega (arith, now.2, early))
         | inl same ↦
-            let old : slice_index_or d.ledger.places m None ≡ Some y = z.1 ∙ ap Some same in
-            (
+            let old : slice_index_or d.ledger.places m None ≡ Some y = z.1 ∙ ap Some same in (
               old,
               elim (cases_eq y.place x.place) [
                 | inr ne ↦
@@ -155,20 +153,20 @@ module _ (d : Desk) (n : ℕ) (x : Opening) (told : d.ledger.time ≡ time_by (n
                     let time : (place_at new.world.time y.place).guards ≡ (place_at (opened d.world.time x.place) y.place).guards =
                     ap (λ (t : Time). (place_at t y.place).guards) (leaves-opened d.world x.place s.linked).time in
                     lt-ltb 0 (place_at d.world.time y.place).guards
-                        (omega (arith, now, none, time, ltb-true 0 (place_at new.world.time y.place).guards o))
+                    (omega (arith, now, none, time, ltb-true 0 (place_at new.world.time y.place).guards o))
                 | inl here ↦ at-own b is m y e early here (s.attended.apart m n y x old there here)
               ],
             )
       ] where
-    at-own : (b : Bool) → is_open (place_at d.world.time x.place) ≡ b → (m : ℕ) (y : Opening) → slice_index_or (places b) m None ≡ Some y →
-        y.since ≤ d.ledger.moment → y.place ≡ x.place → m ≡ n → IsTrue (is_open (place_at d.world.time y.place))
-    at-own true is m y e early here own = ap (λ q. is_open (place_at d.world.time q)) here ∙ is
-    at-own false is m y e early here own =
-        let lt = inside d.ledger.places n (ap is_some there) in
-        let now : Opening = record { place = x.place; since = d.ledger.moment + 1 } in
-        let z : Some now ≡ Some y = sym (rw own (at-same d.ledger.places n (Some now) None lt)) ∙ e in
-        let same : now ≡ y = cc in
-        absurd (omega (arith, early, ap (λ (u : Opening). u.since) same))
+        at-own : (b : Bool) → is_open (place_at d.world.time x.place) ≡ b → (m : ℕ) (y : Opening) → slice_index_or (places b) m None ≡ Some y →
+            y.since ≤ d.ledger.moment → y.place ≡ x.place → m ≡ n → IsTrue (is_open (place_at d.world.time y.place))
+        at-own true is m y e early here own = ap (λ q. is_open (place_at d.world.time q)) here ∙ is
+        at-own false is m y e early here own =
+            let lt = inside d.ledger.places n (ap is_some there) in
+            let now : Opening = record { place = x.place; since = d.ledger.moment + 1 } in
+            let z : Some now ≡ Some y = sym (rw own (at-same d.ledger.places n (Some now) None lt)) ∙ e in
+            let same : now ≡ y = cc in
+            absurd (omega (arith, early, ap (λ (u : Opening). u.since) same))
 
   pub sound-opened : IsSound new
   sound-opened =

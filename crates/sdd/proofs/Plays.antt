@@ -1,5 +1,5 @@
 -- What a play read, from what its parts did
-use Rattle.std.proofs.Common.{◌≡◌, ℕ, List, [], ◌++◌, Option, None, Some, IfSome, sym, ap, ◌∙◌, append-nil}
+use Rattle.std.proofs.Common.{◌≡◌, ℕ, List, ◌++◌, Option, None, Some, IfSome, sym, ap, ◌∙◌, append-nil}
 use Rattle.std.specs.Io.KnownBytes.{IsAtEnd}
 use Rattle.sdd_lines.specs.Device.{ConsumesSome}
 use Rattle.sdd.specs.Play.{ReadsAll}

@@ -1,5 +1,5 @@
 -- A run, line by line
-use Rattle.std.proofs.Common.{◌≡◌, ◌+◌, ℕ, Option, Some, None, slice_index_or, List, [], ◌∷◌, ◌++◌, refl, sym, ap, ◌∙◌, subst}
+use Rattle.std.proofs.Common.{◌≡◌, ℕ, Option, Some, None, slice_index_or, List, [], ◌∷◌, ◌++◌, refl, ap, ◌∙◌, subst}
 use Rattle.sdd_lines.specs.declared.call.Call.{Call}
 use Rattle.sdd_lines.specs.declared.answer.Answer.{Answer}
 use Rattle.sdd.specs.Ledger.{Ledger, Event, place_of, with_event, with_retired, after, later}

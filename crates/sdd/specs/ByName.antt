@@ -1,5 +1,5 @@
 -- The epoch and its participants, as a world has them, with the names of items in place of their slots
-use Rattle.std.specs.Prelude.{ℕ, List, map}
+use Rattle.std.specs.Prelude.{ℕ, map}
 use Rattle.sdd_store.specs.Waiting.{What, Waiting, having_seen}
 use Rattle.sdd_store.specs.Waiting.What.{Item, Private, Job}
 use Rattle.sdd_store.specs.Time.{Time}

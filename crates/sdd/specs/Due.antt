@@ -1,5 +1,5 @@
 -- What a script's answers name as reclaimed, counted over its calls and answers alone
-use Rattle.std.specs.Prelude.{ℕ, ◌<◌, ◌≡◌, List, [], ◌∷◌, Option, None, Some, Contains, map, slice_index_or, ◌↔◌}
+use Rattle.std.specs.Prelude.{ℕ, ◌<◌, ◌≡◌, List, [], ◌∷◌, None, Some, Contains, map, slice_index_or, ◌↔◌}
 use Rattle.std.specs.List.Sorted.{IsStrictlyIncreasing}
 use Rattle.sdd_store.specs.Waiting.What.{Item}
 use Rattle.sdd_lines.specs.declared.name.ItemName.{ItemName}

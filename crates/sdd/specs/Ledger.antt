@@ -1,13 +1,12 @@
 -- What the calls and answers of a script tell, line by line
-use Rattle.std.specs.Prelude.{false, ℕ, ◌+◌, ◌<◌, ◌≤◌, ◌≡◌, List, [], ◌∷◌, ◌++◌, Option, None, Some, IsSome, Contains, length, map, slice_index_or, slice_set, if◌then◌else◌}
-use Rattle.sdd_store.specs.Waiting.{What, Waiting, having_seen}
+use Rattle.std.specs.Prelude.{false, ℕ, ◌+◌, ◌≤◌, ◌≡◌, List, [], ◌∷◌, ◌++◌, Option, None, Some, IsSome, length, slice_index_or, slice_set, if◌then◌else◌}
+use Rattle.sdd_store.specs.Waiting.{What}
 use Rattle.sdd_store.specs.Waiting.What.{Item, Private, Job}
 use Rattle.sdd_store.specs.Time as time
 use Rattle.sdd_store.specs.Time.{Time, place_at, is_open}
-use Rattle.sdd_store.specs.declared.time.Participant.{Participant}
 use Rattle.sdd_base.specs.declared.limits.Limits.{Limits}
 use Rattle.sdd_lines.specs.declared.call.Call.{Call}
-use Rattle.sdd_lines.specs.declared.call.Call.TheVariants.{Register, Tally, At}
+use Rattle.sdd_lines.specs.declared.call.Call.TheVariants.{Register, At}
 use Rattle.sdd_lines.specs.declared.call.Action.TheVariants as call
 use Rattle.sdd_lines.specs.declared.answer.Reply.{Reply}
 use Rattle.sdd_lines.specs.declared.answer.Reply.TheVariants as reply

@@ -1,5 +1,5 @@
 -- What is always true of a desk
-use Rattle.std.specs.Prelude.{ℕ, ◌+◌, ◌<◌, ◌≤◌, ◌≡◌, ◌==◌, Bool, false, IsTrue, IsSome, List, Option, None, Some, count_by, length, slice_index_or}
+use Rattle.std.specs.Prelude.{ℕ, ◌+◌, ◌<◌, ◌≤◌, ◌≡◌, ◌==◌, Bool, false, IsTrue, IsSome, Option, None, Some, count_by, length, slice_index_or}
 use Rattle.sdd_store.specs.Time.{is_open}
 use Rattle.sdd_store.specs.Table.{entry_at}
 use Rattle.sdd_store.specs.declared.standing.Standing.{Standing}

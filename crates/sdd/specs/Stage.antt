@@ -1,5 +1,5 @@
 -- What a script has in hand, as its desk, and how the two are tied
-use Rattle.std.specs.Prelude.{ℕ, ◌≤◌, ◌≡◌, List, Option, Some, None, IsSome, map, slice_index, slice_index_or, slice_set}
+use Rattle.std.specs.Prelude.{ℕ, ◌≡◌, List, Option, Some, None, IsSome, map, slice_index, slice_index_or, slice_set}
 use Rattle.std.specs.Option.{option_map}
 use Rattle.sdd_token.specs.Units as token
 use Rattle.sdd_store.specs.Waiting.{What}

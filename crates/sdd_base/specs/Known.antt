@@ -19,6 +19,8 @@ pub record KnowsFound (old : Known) (found : ℕ) (new : Known) : Type 0 where
   pub known : old.told ≤ found
   pub told : found ≤ new.told
   pub since : found ≤ new.since
+  -- what it was told last is the count at its publish, or the next
+  pub near : new.told ≤ new.since + 1
 
 -- an opening, by which this participant became that one
 pub record KnowsOpened (old : Known) (p q : Participant) (new : Known) : Type 0 where

@@ -88,17 +88,19 @@ impl Stage {
         }
         let names = vec![in alloc; 0; limits.slots as usize]?;
         let world = World::new(alloc, limits)?;
-        Ok(Stage { hand: Hand {
-            world,
-            alloc,
-            moment: 0,
-            places: Named::new(alloc),
-            guards: Named::new(alloc),
-            owners: Named::new(alloc),
-            slots: Vec::new(alloc),
-            fates: Vec::new(alloc),
-            names,
-        } })
+        Ok(Stage {
+            hand: Hand {
+                world,
+                alloc,
+                moment: 0,
+                places: Named::new(alloc),
+                guards: Named::new(alloc),
+                owners: Named::new(alloc),
+                slots: Vec::new(alloc),
+                fates: Vec::new(alloc),
+                names,
+            },
+        })
     }
 
     /// The world.

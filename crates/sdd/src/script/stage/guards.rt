@@ -61,7 +61,8 @@ impl Stage {
     pub fn epoch(&mut self, name: PlaceName, guard: GuardName) -> Reply
         ensures acts { Acts self.old (Call.At name (Action.Epoch guard)) result self.new }
     {
-        let Some((attending, guard)) = under(&self.hand.places, &self.hand.guards, name, guard) else {
+        let Some((attending, guard)) = under(&self.hand.places, &self.hand.guards, name, guard)
+        else {
             return Reply::Invalid;
         };
         let mut turn = self.hand.world.at(&attending.place);
@@ -71,7 +72,8 @@ impl Stage {
     pub fn garbage(&mut self, name: PlaceName, guard: GuardName) -> Reply
         ensures acts { Acts self.old (Call.At name (Action.Garbage guard)) result self.new }
     {
-        let Some((attending, guard)) = under(&self.hand.places, &self.hand.guards, name, guard) else {
+        let Some((attending, guard)) = under(&self.hand.places, &self.hand.guards, name, guard)
+        else {
             return Reply::Invalid;
         };
         let turn = self.hand.world.at(&attending.place);
@@ -81,7 +83,8 @@ impl Stage {
     pub fn set(&mut self, name: PlaceName, guard: GuardName) -> Reply
         ensures acts { Acts self.old (Call.At name (Action.Set guard)) result self.new }
     {
-        let Some((attending, guard)) = under(&self.hand.places, &self.hand.guards, name, guard) else {
+        let Some((attending, guard)) = under(&self.hand.places, &self.hand.guards, name, guard)
+        else {
             return Reply::Invalid;
         };
         stir_at(&mut self.hand.world, &attending.place, guard);
@@ -91,7 +94,8 @@ impl Stage {
     pub fn accelerate(&mut self, name: PlaceName, guard: GuardName) -> Reply
         ensures acts { Acts self.old (Call.At name (Action.Accelerate guard)) result self.new }
     {
-        let Some((attending, guard)) = under(&self.hand.places, &self.hand.guards, name, guard) else {
+        let Some((attending, guard)) = under(&self.hand.places, &self.hand.guards, name, guard)
+        else {
             return Reply::Invalid;
         };
         accelerate_at(&mut self.hand.world, &attending.place, guard);
@@ -104,11 +108,13 @@ impl Stage {
         let Some((attending, _)) = under(&self.hand.places, &self.hand.guards, name, guard) else {
             return Reply::Invalid;
         };
-        let Some(Guarding {
-            guard,
-            participant: _,
-            since: _,
-        }) = self.hand.guards.take(guard.0)
+        let Some(
+            Guarding {
+                guard,
+                participant: _,
+                since: _,
+            },
+        ) = self.hand.guards.take(guard.0)
         else {
             return Reply::Invalid;
         };

@@ -77,7 +77,8 @@ impl Stage {
     pub fn look(&mut self, name: PlaceName, item: ItemName, guard: GuardName) -> Reply
         ensures acts { Acts self.old (Call.At name (Action.Look item guard)) result self.new }
     {
-        let Some((attending, guard)) = under(&self.hand.places, &self.hand.guards, name, guard) else {
+        let Some((attending, guard)) = under(&self.hand.places, &self.hand.guards, name, guard)
+        else {
             return Reply::Invalid;
         };
         let fates = self.hand.fates.as_slice();

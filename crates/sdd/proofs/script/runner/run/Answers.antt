@@ -1,4 +1,4 @@
-use Rattle.std.proofs.Common.{rules, ◌≡◌, ◌+◌, ◌^◌, ◌<◌, List, [], ◌∷◌, ◌++◌, length, take, slice_index_or, sym, ap, ◌∙◌, subst, arith}
+use Rattle.std.proofs.Common.{List, [], ◌∷◌, ◌++◌, length, take, slice_index_or, sym, ap, ◌∙◌, subst, arith}
 use Rattle.std.proofs.lemmas.List.{take_more, take_all, length_push}
 use Rattle.sdd_lines.specs.declared.call.Call.{Call}
 use Rattle.sdd_lines.specs.declared.call.Call.TheVariants.{Register}
@@ -22,8 +22,13 @@ loop-call-preserved c =
     record {
       runs = subst (λ (cs : List Call). Runs start cs c.push_reserved.new.self.items c.step.new.self) (sym (take_more calls i Register c.loop-call-test.true))
           (subst (λ (given : List Answer). Runs start (take i calls ++ call ∷ []) given c.step.new.self) (sym pushed) more);
-      moment = omega (arith, ap (λ (d : Desk). d.ledger.moment) step.2, ap (λ (l : Ledger). l.moment) step.1.acts.1,
-          moment-after c.loop-call.stage.ledger (event_of call c.in-Ok-step.answer.reply), before.moment);
+      moment = omega (
+        arith,
+        ap (λ (d : Desk). d.ledger.moment) step.2,
+        ap (λ (l : Ledger). l.moment) step.1.acts.1,
+        moment-after c.loop-call.stage.ledger (event_of call c.in-Ok-step.answer.reply),
+        before.moment,
+      );
       answered = (let a = before.answered in let b = ap (λ (given : List Answer). length given) pushed
           ∙ length_push c.loop-call.answers.items c.in-Ok-step.answer in omega (arith, a, b));
       room = (let a = before.room in let b = c.push_reserved.ensures.capacity in omega (arith, a, b));

@@ -25,5 +25,6 @@ returns-clause-known g c =
             told = omega (arith, found, o.count);
             since = omega
                 (arith, found, o.count);
+            near = omega arith;
           };
     })

@@ -1,4 +1,4 @@
-use Rattle.std.proofs.Common.{◌≡◌, ℕ, Option, Some, None, [], ◌∷◌, ◌++◌, slice_index_or, ap, sym, ◌∙◌}
+use Rattle.std.proofs.Common.{◌≡◌, Some, None, slice_index_or, ap, sym, ◌∙◌}
 use Rattle.sdd.proofs.Entry.{none-left, none-popped}
 use Rattle.sdd.proofs.script.named.Named.destroy_spent.Goals as goal
 

@@ -1,9 +1,9 @@
 use Rattle.std.proofs.Common.{subst}
-use Rattle.sdd_lines.specs.declared.call.Call.TheVariants.{Register, At}
+use Rattle.sdd_lines.specs.declared.call.Call.TheVariants.{At}
 use Rattle.sdd_lines.specs.declared.call.Action.TheVariants as call
 use Rattle.sdd_lines.specs.declared.answer.Reply.TheVariants as reply
 use Rattle.sdd.specs.Desk.{Desk}
-use Rattle.sdd.specs.Script.{Acts, Answers}
+use Rattle.sdd.specs.Script.{Acts}
 use Rattle.sdd.specs.Stage.{desk_of}
 use Rattle.sdd.proofs.Acts.{goes-accelerated, acts-accelerated}
 use Rattle.sdd.proofs.script.stage.Stage.accelerate.Goals as goal

@@ -1,4 +1,4 @@
-use Rattle.std.proofs.Common.{◌≡◌, ℕ, Option, None, inl, inr, map, slice_index_or, ap, sym, ◌∙◌, arith}
+use Rattle.std.proofs.Common.{None, inl, inr, slice_index_or, ap, sym, ◌∙◌, arith}
 use Rattle.std.proofs.lemmas.Bool.{cases_eq}
 use Rattle.std.proofs.Math.ListN.{get_or-map}
 use Rattle.sdd.specs.Desk.{Desk}

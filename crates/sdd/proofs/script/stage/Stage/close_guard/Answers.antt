@@ -1,10 +1,10 @@
-use Rattle.std.proofs.Common.{◌≡◌, Some, None, sym, subst}
-use Rattle.sdd_lines.specs.declared.call.Call.TheVariants.{Register, At}
+use Rattle.std.proofs.Common.{sym, subst}
+use Rattle.sdd_lines.specs.declared.call.Call.TheVariants.{At}
 use Rattle.sdd_lines.specs.declared.call.Action.TheVariants as call
 use Rattle.sdd_lines.specs.declared.answer.Reply.TheVariants as reply
 use Rattle.sdd.specs.Desk.{Desk}
-use Rattle.sdd.specs.Script.{Acts, Answers}
-use Rattle.sdd.specs.Stage.{desk_of, attending}
+use Rattle.sdd.specs.Script.{Acts}
+use Rattle.sdd.specs.Stage.{desk_of}
 use Rattle.sdd_world.specs.Place.{index_of}
 use Rattle.sdd.proofs.Acts.{in-range, guard-is, goes-closed, acts-closed}
 use Rattle.sdd.proofs.script.stage.Stage.close_guard.Goals as goal
@@ -25,9 +25,9 @@ invariant_of-self-2 c =
 pub returns : goal.returns
 returns c = record {
   acts = subst (λ (d : Desk). Acts d (At c.args.name (call.Close c.args.guard)) reply.Done (desk_of (record c.self.inside.hand {
-        world = c.close_at.new.world;
-        guards = c.take.new.self;
-      }))) c.self.view_is
+    world = c.close_at.new.world;
+    guards = c.take.new.self;
+  }))) c.self.view_is
       (acts-closed c.self.inside.hand c.self.invariant c.args.name c.in-Some.attending.now
       c.in-Some.ensures.found.0 c.args.guard c.close_at.new.world c.take.new.self.entries
       c.in-Some-take.field-0

@@ -1,4 +1,4 @@
-use Rattle.std.proofs.Common.{◌≡◌, slice_index_or, ap, ◌∙◌, subst}
+use Rattle.std.proofs.Common.{slice_index_or, ap, ◌∙◌, subst}
 use Rattle.sdd_lines.specs.declared.call.Call.TheVariants.{At}
 use Rattle.sdd_lines.specs.declared.call.Action.TheVariants as call
 use Rattle.sdd_lines.specs.declared.answer.Reply.TheVariants as reply

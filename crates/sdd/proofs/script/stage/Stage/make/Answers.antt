@@ -1,4 +1,4 @@
-use Rattle.std.proofs.Common.{rules, ◌≡◌, ◌+◌, ◌<◌, ◌^◌, List, Some, [], ◌∷◌, ◌++◌, length, slice_set, sym, ap, ◌∙◌, subst, arith}
+use Rattle.std.proofs.Common.{rules, ◌≡◌, ◌+◌, ◌<◌, ◌^◌, Some, [], ◌∷◌, ◌++◌, length, slice_set, sym, ap, ◌∙◌, subst, arith}
 use Rattle.std.specs.Vec.{with_item}
 use Rattle.sdd_lines.specs.declared.call.Call.TheVariants.{At}
 use Rattle.sdd_lines.specs.declared.call.Action.TheVariants as call
@@ -20,11 +20,11 @@ make_item-requires c = record {
 pub returns-in-Err : goal.returns-in-Err
 returns-in-Err c = record {
   acts = subst (λ (d : Desk). Acts d (At c.args.name (call.Owned c.args.number)) (reply.Refused c.in-Err.refused) (desk_of (record c.self.inside.hand {
-        world = c.make_item.new.world;
-        owners = c.make_room.new.self;
-        slots = c.reserve.new.self;
-        fates = c.reserve-2.new.self;
-      }))) c.self.view_is
+    world = c.make_item.new.world;
+    owners = c.make_room.new.self;
+    slots = c.reserve.new.self;
+    fates = c.reserve-2.new.self;
+  }))) c.self.view_is
       (acts-refused c.self.inside.hand c.self.invariant c.args.name c.in-Some.attending.now
       (got c.self.inside.hand.places c.args.name.0 c.in-Some.attending.now c.in-Some.ensures) c.make_item.new.world c.make_room.new.self.entries
       c.reserve.new.self c.reserve-2.new.self c.args.number c.in-Err.refused c.in-Err.ensures.made.0 c.in-Err.ensures.made.1 c.make_room.ensures.kept
@@ -63,14 +63,14 @@ returns c = record {
         names = with_item c.self.inside.hand.names c.slot_of_owner-slot.result c.len-item.result;
       }))) c.self.view_is
       (acts-made c.self.inside.hand c.self.invariant c.args.name c.in-Some.attending.now
-    (got c.self.inside.hand.places c.args.name.0 c.in-Some.attending.now c.in-Some.ensures) c.make_item.new.world c.give-name.new.self.entries
-    c.push_reserved.new.self c.push_reserved-2.new.self (with_item c.self.inside.hand.names c.slot_of_owner-slot.result c.len-item.result) c.args.number
-    c.slot_of_owner-slot.result (record { owner = c.in-Ok.owner; item = c.len-item.result }) (record { 0 = c.give-name.result })
-    (record { 0 = c.len-item.result }) (makes c) c.is_whole.ensures (omega (arith, (fates c).0))
-    (sym c.slot_of_owner-slot.ensures) c.in-Ok.ensures.home (fates c).1
-    (c.give-name.ensures.given ∙ ap (λ xs. xs ++ Some (record { owner = c.in-Ok.owner; item = c.len-item.result }) ∷ []) c.make_room.ensures.kept)
-    (c.push_reserved.ensures.items ∙ ap (λ xs. xs ++ c.slot_of_owner-slot.result ∷ []) c.reserve.ensures.items)
-    (c.push_reserved-2.ensures.items ∙ ap (λ xs. xs ++ Out ∷ []) c.reserve-2.ensures.items)
-    (ap (slice_set c.self.inside.hand.names.items c.slot_of_owner-slot.result) (fates c).1)
-    (c.give-name.ensures.name ∙ ap length c.make_room.ensures.kept) (fates c).1).1;
+      (got c.self.inside.hand.places c.args.name.0 c.in-Some.attending.now c.in-Some.ensures) c.make_item.new.world c.give-name.new.self.entries
+      c.push_reserved.new.self c.push_reserved-2.new.self (with_item c.self.inside.hand.names c.slot_of_owner-slot.result c.len-item.result) c.args.number
+      c.slot_of_owner-slot.result (record { owner = c.in-Ok.owner; item = c.len-item.result }) (record { 0 = c.give-name.result })
+      (record { 0 = c.len-item.result }) (makes c) c.is_whole.ensures (omega (arith, (fates c).0))
+      (sym c.slot_of_owner-slot.ensures) c.in-Ok.ensures.home (fates c).1
+      (c.give-name.ensures.given ∙ ap (λ xs. xs ++ Some (record { owner = c.in-Ok.owner; item = c.len-item.result }) ∷ []) c.make_room.ensures.kept)
+      (c.push_reserved.ensures.items ∙ ap (λ xs. xs ++ c.slot_of_owner-slot.result ∷ []) c.reserve.ensures.items)
+      (c.push_reserved-2.ensures.items ∙ ap (λ xs. xs ++ Out ∷ []) c.reserve-2.ensures.items)
+      (ap (slice_set c.self.inside.hand.names.items c.slot_of_owner-slot.result) (fates c).1)
+      (c.give-name.ensures.name ∙ ap length c.make_room.ensures.kept) (fates c).1).1;
 }

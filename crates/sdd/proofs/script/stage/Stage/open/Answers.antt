@@ -1,5 +1,4 @@
-use Rattle.std.proofs.Common.{◌≡◌, ◌+◌, ◌<◌, List, Option, Some, None, [], ◌∷◌, ◌++◌, All, length, map, slice_index, slice_index_or, refl, sym, ap, ◌∙◌, subst, is_some, arith}
-use Rattle.std.proofs.lemmas.List.{length-map}
+use Rattle.std.proofs.Common.{◌≡◌, ◌+◌, ◌<◌, List, Some, [], ◌∷◌, ◌++◌, All, length, map, refl, sym, ap, ◌∙◌, subst}
 use Rattle.std.proofs.lemmas.List.Sorted.{IsNonDecreasingBy-from_sort}
 use Rattle.sdd_lines.specs.declared.call.Call.TheVariants.{At}
 use Rattle.sdd_lines.specs.declared.call.Action.TheVariants as call
@@ -12,7 +11,6 @@ use Rattle.sdd.specs.Ledger.{all_gone}
 use Rattle.sdd.specs.Script.{Answers}
 use Rattle.sdd.specs.Stage.{desk_of, attending, item_named, what_named}
 use Rattle.sdd.specs.declared.script.stage.Guarding.{Guarding}
-use Rattle.sdd.proofs.Entry.{inside}
 use Rattle.sdd.proofs.Naming.{slots-inside, found-inside}
 use Rattle.sdd.proofs.Acts.{in-range, got, noted, noted-is, after-opening, opens-to, answers-opened}
 use Rattle.sdd.proofs.script.stage.Stage.open.Goals as goal
@@ -84,25 +82,25 @@ returns c = record {
   answers = subst (λ (d : Desk). Answers d (At c.args.name call.Open)
       (record { reply = reply.Guard (record { 0 = c.give-name.result }) c.in-Ok.opened.1; reclaimed = c.of.result; ran = c.new.result })
       (desk_of (after-opening c.self.inside.hand c.self.invariant c.args.name c.in-Some.attending.now
-    (got c.self.inside.hand.places c.args.name.0 c.in-Some.attending.now c.in-Some.ensures) c.open_at.new.world c.note_opening.new.places.entries
-    c.give-name.new.self.entries c.mark_gone.new.fates (held c) c.reclaims_next-slots.result.now c.in_ok-due.due.items c.sort_unstable.new.self.items
-    c.is_whole.ensures c.reclaims_next-slots.ensures (named c) (entries c) (pushed c) c.in-Ok.ensures.place refl refl (gone c) c.in-Ok.ensures.opened.1))) c.self.view_is
+      (got c.self.inside.hand.places c.args.name.0 c.in-Some.attending.now c.in-Some.ensures) c.open_at.new.world c.note_opening.new.places.entries
+      c.give-name.new.self.entries c.mark_gone.new.fates (held c) c.reclaims_next-slots.result.now c.in_ok-due.due.items c.sort_unstable.new.self.items
+      c.is_whole.ensures c.reclaims_next-slots.ensures (named c) (entries c) (pushed c) c.in-Ok.ensures.place refl refl (gone c) c.in-Ok.ensures.opened.1))) c.self.view_is
       (subst (λ names. Answers (desk_of c.self.inside.hand) (At c.args.name call.Open)
       (record { reply = reply.Guard (record { 0 = c.give-name.result }) c.in-Ok.opened.1; reclaimed = names; ran = c.new.result }) (desk_of (after-opening c.self.inside.hand c.self.invariant c.args.name c.in-Some.attending.now
-    (got c.self.inside.hand.places c.args.name.0 c.in-Some.attending.now c.in-Some.ensures) c.open_at.new.world c.note_opening.new.places.entries
-    c.give-name.new.self.entries c.mark_gone.new.fates (held c) c.reclaims_next-slots.result.now c.in_ok-due.due.items c.sort_unstable.new.self.items
-    c.is_whole.ensures c.reclaims_next-slots.ensures (named c) (entries c) (pushed c) c.in-Ok.ensures.place refl refl (gone c) c.in-Ok.ensures.opened.1)))
+      (got c.self.inside.hand.places c.args.name.0 c.in-Some.attending.now c.in-Some.ensures) c.open_at.new.world c.note_opening.new.places.entries
+      c.give-name.new.self.entries c.mark_gone.new.fates (held c) c.reclaims_next-slots.result.now c.in_ok-due.due.items c.sort_unstable.new.self.items
+      c.is_whole.ensures c.reclaims_next-slots.ensures (named c) (entries c) (pushed c) c.in-Ok.ensures.place refl refl (gone c) c.in-Ok.ensures.opened.1)))
       (sym c.of.ensures)
       (subst (λ ran. Answers (desk_of c.self.inside.hand) (At c.args.name call.Open)
       (record { reply = reply.Guard (record { 0 = c.give-name.result }) c.in-Ok.opened.1; reclaimed = c.sort_unstable.new.self.items; ran = ran })
       (desk_of (after-opening c.self.inside.hand c.self.invariant c.args.name c.in-Some.attending.now
-    (got c.self.inside.hand.places c.args.name.0 c.in-Some.attending.now c.in-Some.ensures) c.open_at.new.world c.note_opening.new.places.entries
-    c.give-name.new.self.entries c.mark_gone.new.fates (held c) c.reclaims_next-slots.result.now c.in_ok-due.due.items c.sort_unstable.new.self.items
-    c.is_whole.ensures c.reclaims_next-slots.ensures (named c) (entries c) (pushed c) c.in-Ok.ensures.place refl refl (gone c) c.in-Ok.ensures.opened.1))) (sym c.new.ensures)
+      (got c.self.inside.hand.places c.args.name.0 c.in-Some.attending.now c.in-Some.ensures) c.open_at.new.world c.note_opening.new.places.entries
+      c.give-name.new.self.entries c.mark_gone.new.fates (held c) c.reclaims_next-slots.result.now c.in_ok-due.due.items c.sort_unstable.new.self.items
+      c.is_whole.ensures c.reclaims_next-slots.ensures (named c) (entries c) (pushed c) c.in-Ok.ensures.place refl refl (gone c) c.in-Ok.ensures.opened.1))) (sym c.new.ensures)
       (answers-opened c.self.inside.hand c.self.invariant c.args.name c.in-Some.attending.now
-    (got c.self.inside.hand.places c.args.name.0 c.in-Some.attending.now c.in-Some.ensures) c.open_at.new.world c.note_opening.new.places.entries
-    c.give-name.new.self.entries c.mark_gone.new.fates (held c) c.reclaims_next-slots.result.now c.in_ok-due.due.items c.sort_unstable.new.self.items
-    c.is_whole.ensures c.reclaims_next-slots.ensures (named c) (entries c) (pushed c) c.in-Ok.ensures.place refl refl (gone c) c.in-Ok.ensures.opened.1 (record { 0 = c.give-name.result }) c.in-Ok.opened.1 c.sort_unstable.ensures.permutation
+      (got c.self.inside.hand.places c.args.name.0 c.in-Some.attending.now c.in-Some.ensures) c.open_at.new.world c.note_opening.new.places.entries
+      c.give-name.new.self.entries c.mark_gone.new.fates (held c) c.reclaims_next-slots.result.now c.in_ok-due.due.items c.sort_unstable.new.self.items
+      c.is_whole.ensures c.reclaims_next-slots.ensures (named c) (entries c) (pushed c) c.in-Ok.ensures.place refl refl (gone c) c.in-Ok.ensures.opened.1 (record { 0 = c.give-name.result }) c.in-Ok.opened.1 c.sort_unstable.ensures.permutation
       (IsNonDecreasingBy-from_sort (λ (i : ItemName). i.0) c.sort_unstable.new.self.items c.sort_unstable.ensures.sorted)
       c.in-Ok.ensures.opened.0 (c.give-name.ensures.name ∙ ap length c.make_room.ensures.kept) c.in-Ok.ensures.opened.2)));
 }

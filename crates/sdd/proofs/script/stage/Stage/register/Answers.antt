@@ -1,11 +1,5 @@
-use Rattle.std.proofs.Common.{◌≡◌, Some, [], ◌∷◌, ◌++◌, refl, ap, ◌∙◌, subst}
-use Rattle.sdd_lines.specs.declared.call.Call.TheVariants.{Register, At}
-use Rattle.sdd_lines.specs.declared.call.Action.TheVariants as call
-use Rattle.sdd_lines.specs.declared.answer.Reply.TheVariants as reply
-use Rattle.sdd.specs.Desk.{Desk}
-use Rattle.sdd.specs.Script.{Acts, Answers}
-use Rattle.sdd.specs.Stage.{desk_of, attending}
-use Rattle.sdd.proofs.Acts.{goes-registered, acts-registered}
+use Rattle.std.proofs.Common.{Some, [], ◌∷◌, ◌++◌, refl, ap, ◌∙◌}
+use Rattle.sdd.proofs.Acts.{goes-registered}
 use Rattle.sdd.proofs.script.stage.Stage.register.Goals as goal
 
 pub invariant_of-self-in-Ok : goal.invariant_of-self-in-Ok

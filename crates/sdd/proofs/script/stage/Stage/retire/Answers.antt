@@ -1,13 +1,13 @@
-use Rattle.std.proofs.Common.{◌≡◌, Option, Some, None, slice_index_or, map, refl, sym, subst, arith}
+use Rattle.std.proofs.Common.{refl, sym, subst, arith}
 use Rattle.std.specs.Vec.{with_item}
 use Rattle.sdd_world.specs.Place.{index_of}
 use Rattle.sdd.specs.declared.script.fate.Fate.TheVariants.{Retired}
-use Rattle.sdd_lines.specs.declared.call.Call.TheVariants.{Register, At}
+use Rattle.sdd_lines.specs.declared.call.Call.TheVariants.{At}
 use Rattle.sdd_lines.specs.declared.call.Action.TheVariants as call
 use Rattle.sdd_lines.specs.declared.answer.Reply.TheVariants as reply
 use Rattle.sdd.specs.Desk.{Desk}
-use Rattle.sdd.specs.Script.{Acts, Answers}
-use Rattle.sdd.specs.Stage.{desk_of, attending}
+use Rattle.sdd.specs.Script.{Acts}
+use Rattle.sdd.specs.Stage.{desk_of}
 use Rattle.sdd.proofs.Acts.{in-range, got, owner-inside, goes-retired, acts-retired}
 use Rattle.sdd.proofs.script.stage.Stage.retire.Goals as goal
 
@@ -30,10 +30,10 @@ invariant_of-self-2 c =
 pub returns : goal.returns
 returns c = record {
   acts = subst (λ (d : Desk). Acts d (At c.args.name (call.Retire c.args.owner)) reply.Done (desk_of (record c.self.inside.hand {
-        world = c.retire_item.new.world;
-        owners = c.take.new.self;
-        fates = with_item c.self.inside.hand.fates c.in-Some-take.field-0.item (Retired c.self.inside.hand.moment);
-      }))) c.self.view_is
+    world = c.retire_item.new.world;
+    owners = c.take.new.self;
+    fates = with_item c.self.inside.hand.fates c.in-Some-take.field-0.item (Retired c.self.inside.hand.moment);
+  }))) c.self.view_is
       (acts-retired c.self.inside.hand c.self.invariant c.args.name c.in-Some.attending.now
       (got c.self.inside.hand.places c.args.name.0 c.in-Some.attending.now c.in-Some.ensures) c.args.owner c.retire_item.new.world c.take.new.self.entries
       (with_item c.self.inside.hand.fates c.in-Some-take.field-0.item (Retired c.self.inside.hand.moment))

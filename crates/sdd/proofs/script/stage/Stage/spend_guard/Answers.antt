@@ -1,8 +1,7 @@
-use Rattle.std.proofs.Common.{◌≡◌, ℕ, Option, None, List, map, slice_index_or, slice_set, refl, ap, sym, ◌∙◌, subst}
+use Rattle.std.proofs.Common.{◌≡◌, None, slice_index_or, slice_set, refl, ap, sym, ◌∙◌, subst}
 use Rattle.std.proofs.Math.ListN.{get_or-map}
 use Rattle.std.proofs.lemmas.List.{set-get_or}
 use Rattle.sdd.specs.Desk.{Desk}
-use Rattle.sdd.specs.Ledger.{Opening}
 use Rattle.sdd.specs.Leaving.{SpendsGuard}
 use Rattle.sdd.specs.Stage.{guarding, desk_of}
 use Rattle.sdd.proofs.script.stage.Stage.spend_guard.Goals as goal

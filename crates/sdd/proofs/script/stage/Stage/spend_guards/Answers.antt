@@ -1,4 +1,4 @@
-use Rattle.std.proofs.Common.{◌≡◌, ℕ, None, length, refl, sym, ap, ◌∙◌, arith}
+use Rattle.std.proofs.Common.{None, length, refl, ap, ◌∙◌, arith}
 use Rattle.std.proofs.lemmas.List.{length-set, length-map}
 use Rattle.sdd.specs.Desk.{Desk}
 use Rattle.sdd.specs.Stage.{guarding}
@@ -25,5 +25,11 @@ pub returns-clause-spent : goal.returns-clause-spent
 returns-clause-spent c =
     let long = ap (λ (d : Desk). length d.ledger.guards) c.self.view_is in
     spent-all c.loop-guard.self.ledger.guards c.loop-guard.guard
-    (omega (arith, long, length-map c.self.inside.hand.guards.entries.items guarding, c.loop-guard.invariant.long, c.loop-guard-test.false,
-    c.len-guard-end.ensures)) c.loop-guard.invariant.spent
+    (omega (
+      arith,
+      long,
+      length-map c.self.inside.hand.guards.entries.items guarding,
+      c.loop-guard.invariant.long,
+      c.loop-guard-test.false,
+      c.len-guard-end.ensures,
+    )) c.loop-guard.invariant.spent

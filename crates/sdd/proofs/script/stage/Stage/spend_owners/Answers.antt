@@ -1,4 +1,4 @@
-use Rattle.std.proofs.Common.{◌≡◌, ℕ, None, length, refl, sym, ap, ◌∙◌, arith}
+use Rattle.std.proofs.Common.{None, length, refl, ap, ◌∙◌, arith}
 use Rattle.std.proofs.lemmas.List.{length-set, length-map}
 use Rattle.sdd.specs.Desk.{Desk}
 use Rattle.sdd.specs.Stage.{item_held}
@@ -23,5 +23,11 @@ pub returns-clause-spent : goal.returns-clause-spent
 returns-clause-spent c =
     let long = ap (λ (d : Desk). length d.ledger.owners) c.self.view_is in
     spent-all c.loop-owner.self.ledger.owners c.loop-owner.owner
-    (omega (arith, long, length-map c.self.inside.hand.owners.entries.items item_held, c.loop-owner.invariant.long, c.loop-owner-test.false,
-    c.len-owner-end.ensures)) c.loop-owner.invariant.spent
+    (omega (
+      arith,
+      long,
+      length-map c.self.inside.hand.owners.entries.items item_held,
+      c.loop-owner.invariant.long,
+      c.loop-owner-test.false,
+      c.len-owner-end.ensures,
+    )) c.loop-owner.invariant.spent

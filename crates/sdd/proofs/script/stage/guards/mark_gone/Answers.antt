@@ -1,4 +1,4 @@
-use Rattle.std.proofs.Common.{◌≡◌, ◌+◌, List, ◌∷◌, length, drop, map, slice_index_or, sym, ap, ◌∙◌, add-one, drop-cons, arith}
+use Rattle.std.proofs.Common.{◌∷◌, drop, map, slice_index_or, sym, ap, ◌∙◌, add-one, drop-cons, arith}
 use Rattle.std.proofs.lemmas.List.{drop_all, length-set}
 use Rattle.sdd_lines.specs.declared.name.ItemName.{ItemName}
 use Rattle.sdd.specs.declared.script.fate.Fate.TheVariants.{Gone}

@@ -1,4 +1,4 @@
-use Rattle.std.proofs.Common.{◌≡◌, map, if◌then◌else◌, ap, ◌∙◌, sym}
+use Rattle.std.proofs.Common.{map, if◌then◌else◌, ap, ◌∙◌, sym}
 use Rattle.sdd.specs.Stage.{attending, opened_since}
 use Rattle.sdd.proofs.Acts.{renoted}
 use Rattle.sdd.proofs.script.stage.guards.note_opening.Goals as goal
