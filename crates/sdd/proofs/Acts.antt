@@ -164,7 +164,8 @@ module _ (h : Hand) (t : IsTied h) where
         Goes (record h { world = w }) (record d { world = accelerated h.world p; ledger = record d.ledger { time = time.accelerated_at d.ledger.time p } })
     goes-accelerated w world =
         goes-timed w (accelerated h.world p) (time.accelerated_at d.ledger.time p) world refl (by-accelerated names h.world.time p)
-        (sound-written d t.sound p (time.accelerated (time.place_at h.world.time p)) (time.accelerated_at d.ledger.time p) refl (accelerates h.world p in-range))
+        (sound-written d t.sound p (time.accelerated (time.place_at h.world.time p)) (time.accelerated_at d.ledger.time p) refl
+        (accelerates h.world p in-range))
 
   -- ---- a guard is closed
   pub goes-closed : (w : World Val) (guards : Vec (Option Guarding)) (g q : ℕ) (held : Guarding) → slice_index_or h.guards.entries.items g None ≡ Some held →
@@ -260,7 +261,8 @@ module _ (h : Hand) (t : IsTied h) where
                 slot_is = slot ∙ sym (ap (λ xs. slice_index_or xs held.item 0) more_slots
                     ∙ ap (λ i. slice_index_or (h.slots.items ++ k ∷ []) i 0) (item ∙ sym long) ∙ at-end h.slots.items k 0);
               })
-              (λ j. owned-still (ap (λ (x : World Val). x.home.slots) m.made) more_slots long j (slice_index_or h.owners.entries.items j None) refl (t.owners j)) o);
+              (λ j. owned-still (ap (λ (x : World Val). x.home.slots) m.made) more_slots long j (slice_index_or h.owners.entries.items j None) refl
+              (t.owners j)) o);
           guards = t.guards;
         };
         desk = same;
@@ -363,7 +365,8 @@ module _ (h : Hand) (t : IsTied h) (name : PlaceName) where
         ((valid, (ap (accelerated h.world) (sym is), refl, refl)), ap (λ q. record desk.ledger { time = time.accelerated_at desk.ledger.time q }) (sym is))
 
     -- the guard of that name is the participant's
-    pub guard-is : (g : ℕ) (held : Guarding) → HasOpen desk.ledger.places desk.ledger.guards name.0 g → slice_index_or h.guards.entries.items g None ≡ Some held →
+    pub guard-is : (g : ℕ) (held : Guarding) → HasOpen desk.ledger.places desk.ledger.guards name.0 g →
+        slice_index_or h.guards.entries.items g None ≡ Some held →
         guards_place held.guard ≡ index_of a.place
     guard-is g held valid here =
         let entry = get_or-map guarding h.guards.entries.items g None ∙ ap guarding here in
@@ -389,7 +392,14 @@ module _ (h : Hand) (t : IsTied h) (name : PlaceName) where
         let entry : slice_index_or desk.ledger.owners o.0 None ≡ Some held.item = get_or-map item_held h.owners.entries.items o.0 None ∙ ap item_held here in
         subst (Acts desk (At name (call.Retire o)) reply.Done)
         (sym (goes-retired h t w owners fates (index_of a.place) o.0 held here (in-range h t name.0 a there) keeps taken become world).desk) (
-          ((is-place, is-there desk.ledger.owners o.0 held.item entry), (held.item, entry, (ap (λ q. retired h.world q (slot_at desk held.item)) (sym is), refl, refl))),
+          (
+            (is-place, is-there desk.ledger.owners o.0 held.item entry),
+            (
+              held.item,
+              entry,
+              (ap (λ q. retired h.world q (slot_at desk held.item)) (sym is), refl, refl),
+            ),
+          ),
           cc (is, entry),
         )
 
@@ -476,7 +486,8 @@ module _ (h : Hand) (t : IsTied h) (name : PlaceName) where
       due-is : due_at desk.ledger.time (index_of a.place) ≡ map what_named found
       due-is = due-found desk (index_of a.place) t.sound.stocked whole slots are found names_are
 
-      pub opens-to : Goes after-opening (record desk { world = opened holdings_of h.world (index_of a.place); ledger = with_guard desk.ledger name.0 (index_of a.place) })
+      pub opens-to : Goes after-opening
+          (record desk { world = opened holdings_of h.world (index_of a.place); ledger = with_guard desk.ledger name.0 (index_of a.place) })
       opens-to =
           goes-opened h t name.0 a there w places guards fates held whole entries pushed place since participant
           (gone ∙ ap (all_gone h.fates.items) (sym due-is)) world
@@ -499,7 +510,8 @@ module _ (h : Hand) (t : IsTied h) (name : PlaceName) where
               ),
               ap (with_guard desk.ledger name.0) (sym is),
             );
-            goes = λ i. subst (λ q. Contains sorted i ↔ (IsWaiting (fate_at desk.ledger i.0) × Contains (reclaims h.world q) (Item (slot_at desk i.0)))) (sym is)
+            goes = λ i. subst (λ q. Contains sorted i ↔ (IsWaiting (fate_at desk.ledger i.0) ×
+                Contains (reclaims h.world q) (Item (slot_at desk i.0)))) (sym is)
                 (all.2 i);
             due = record {
               ascending = all.0;

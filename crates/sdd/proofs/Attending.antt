@@ -85,7 +85,8 @@ length-opened t p = by (is_open (place_at t p)) where
 
 pub length-closed : (t : Time) (p : ℕ) → length (time.closed t p).places ≡ length t.places
 length-closed t p = by (nat_lt 1 (place_at t p).guards) (is_open (place_at t p)) where
-  by : (a b : Bool) → length (if a then with_place t p (record (place_at t p) { guards = (place_at t p).guards - 1 }) else (if b then time.left_by t p else t)).places
+  by : (a b : Bool) → length (if a then with_place t p (record (place_at t p) { guards = (place_at t p).guards - 1 }) else
+      (if b then time.left_by t p else t)).places
       ≡ length t.places
   by true b = length-set t.places p (record (place_at t p) { guards = (place_at t p).guards - 1 })
   by false true =
@@ -159,7 +160,8 @@ module _ (w : World Val) (l : Ledger) (a : IsAttended w l) where
             (was.0, was.1, at-pushed l.places (Some new) None was.0 (λ z. omega (arith, z, lt)) ∙ was.2, was.3, was.4);
         early = λ n x e.
             elim (cases_eq n (length l.places)) [
-              | inl is ↦ (let z : Some new ≡ Some x = sym (ap (λ k. slice_index_or (l.places ++ Some new ∷ []) k None) is ∙ at-end l.places (Some new) None) ∙ e in
+              | inl is ↦ (let z : Some new ≡ Some x = sym (ap (λ k. slice_index_or (l.places ++ Some new ∷ []) k None) is
+                  ∙ at-end l.places (Some new) None) ∙ e in
                   let same : new ≡ x = cc in omega (arith, ap (λ (y : Opening). y.since) same))
               | inr ne ↦ a.early n x (old n x e ne)
             ];
@@ -180,7 +182,8 @@ module _ (w : World Val) (l : Ledger) (a : IsAttended w l) where
         apart = a.apart;
         opened = λ q.
             (let without = sum_by-set (λ x. one_where (is_of q x)) l.guards g None None (inside l.guards g (ap is_some e)) in
-            let one : one_where (is_of q (slice_index_or l.guards g None)) ≡ one_where (p == q) = ap (λ x. one_where (is_of q x)) e ∙ ap (λ k. one_where (k == q)) is in
+            let one : one_where (is_of q (slice_index_or l.guards g None)) ≡ one_where (p == q) = ap (λ x. one_where (is_of q x)) e
+            ∙ ap (λ k. one_where (k == q)) is in
             omega (arith, guards-closed w.time p q lt some, without, one, a.opened q));
         since = λ h z f.
             elim (cases_eq h g) [
@@ -222,8 +225,13 @@ module _ (w : World Val) (l : Ledger) (a : IsAttended w l) where
           | inl is ↦
               let lt = inside l.places n (ap is_some there) in
               let z : Some new ≡ Some y = sym (rw is (at-same l.places n (Some new) None lt)) ∙ e in
-              let same : new ≡ y = cc in
-              (x, ap (λ k. slice_index_or l.places k None) is ∙ there, ap (λ (u : Opening). u.place) same, inr (is, refl, ap (λ (u : Opening). u.since) (sym same)))
+              let same : new ≡ y = cc in (
+                x,
+                ap (λ k. slice_index_or l.places k None) is ∙ there,
+                ap (λ (u : Opening). u.place) same,
+                inr
+                    (is, refl, ap (λ (u : Opening). u.since) (sym same)),
+              )
         ]
 
     -- a guard's participant has not been without one since
@@ -238,7 +246,8 @@ module _ (w : World Val) (l : Ledger) (a : IsAttended w l) where
           | inr ne ↦ let f = sym (at-pushed l.guards (Some new) None g ne) ∙ e in older b is (a.since g y f) (open-guard g y f)
         ] where
           older : (b : Bool) → is_open (place_at w.time x.place) ≡ b →
-              (m : ℕ) × (z : Opening) × (slice_index_or l.places m None ≡ Some z) × (z.place ≡ y.place) × (z.since ≤ y.since) → 0 < (place_at w.time y.place).guards →
+              (m : ℕ) × (z : Opening) × (slice_index_or l.places m None ≡ Some z) × (z.place ≡ y.place) × (z.since ≤ y.since) →
+              0 < (place_at w.time y.place).guards →
               (m : ℕ) × (z : Opening) × (slice_index_or (places b) m None ≡ Some z) × (z.place ≡ y.place) × (z.since ≤ y.since)
           older true is h some = h
           older false is h some = (h.0, h.1, at-other l.places n h.0 (Some new) None apart ∙ h.2, h.3, h.4) where

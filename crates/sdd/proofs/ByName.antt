@@ -72,7 +72,8 @@ module _ (name : ℕ → ℕ) where
   pub by-awaiting : (t : Time) (p k : ℕ) → time_by name (time.awaiting_at t p (Item k)) ≡ time.awaiting_at (time_by name t) p (Item (name k))
   by-awaiting t p k =
       by-changed (time.awaiting (Item k)) (time.awaiting (Item (name k)))
-      (λ x. ap (λ ws. record (time.with_garbage x) { bags = record x.bags { waiting = ws } }) (map_push (waiting_by name) x.bags.waiting (having_seen 0 (Item k)))) t p
+      (λ x. ap (λ ws. record (time.with_garbage x) { bags = record x.bags { waiting = ws } })
+      (map_push (waiting_by name) x.bags.waiting (having_seen 0 (Item k)))) t p
 
   by-nested : (t : Time) (p : ℕ) → time_by name (time.nested_at t p) ≡ time.nested_at (time_by name t) p
   by-nested t p = by-changed time.nested time.nested (λ x. refl) t p

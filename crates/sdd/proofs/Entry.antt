@@ -59,7 +59,8 @@ pub not-free : {E : Type 0} (x : Option E) → IsSome x → x ≡ None → ⊥
 not-free x t e = false≢true (ap is_some (sym e) ∙ t)
 
 -- where all is spent, what is left after a pop is, and what was popped
-pub none-left : {E : Type 0} (xs : List (Option E)) (y : Option E) → ((k : ℕ) → slice_index_or (xs ++ y ∷ []) k None ≡ None) → (k : ℕ) → slice_index_or xs k None ≡ None
+pub none-left : {E : Type 0} (xs : List (Option E)) (y : Option E) → ((k : ℕ) → slice_index_or (xs ++ y ∷ []) k None ≡ None) → (k : ℕ) →
+    slice_index_or xs k None ≡ None
 none-left xs y none k =
     elim (cases_eq k (length xs)) [
       | inl e ↦ get_or_past xs k None (omega (arith, e))

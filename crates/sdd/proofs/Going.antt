@@ -175,7 +175,8 @@ module _ (d : Desk) (s : IsSound d) where
                 | inr ne ↦ s.stocked.named j (subst IsThere (others j ne) h)
               ];
           taken = λ q t.
-              (let was = s.stocked.taken q (subst (λ b. b ≡ true) (as-each is_some d.world.standings k (Some standing.Retired) None (sym (ap is_some owns)) q) t) in (
+              (let was = s.stocked.taken q
+              (subst (λ b. b ≡ true) (as-each is_some d.world.standings k (Some standing.Retired) None (sym (ap is_some owns)) q) t) in (
                 elim (cases_eq (name_at d q) i) [
                   | inl e ↦ subst IsThere (sym (ap (fate_at l) e ∙ own)) tt
                   | inr ne ↦ subst IsThere (sym (others (name_at d q) ne)) was.0
@@ -234,7 +235,8 @@ module _ (d : Desk) (s : IsSound d) where
     }
 
     slot-free : (j : ℕ) → IsThere (fate_at d.ledger j) → slot_at d j ≢ k
-    slot-free j h e = not-free (standing_at d.world (slot_at d j)) (stands-there (fate_at d.ledger j) (standing_at d.world (slot_at d j)) h (s.stocked.stands j))
+    slot-free j h e = not-free (standing_at d.world (slot_at d j)) (stands-there (fate_at d.ledger j) (standing_at d.world (slot_at d j)) h
+        (s.stocked.stands j))
         (ap (standing_at d.world) e ∙ slot.1)
 
     -- of what was named before all is as it was

@@ -164,7 +164,11 @@ written j x is xs items new i (inr (none, same)) =
     elim (cases_eq j i) [
       | inl e ↦
           let head : one_where (is_of_slot i x) ≡ 1 = ap (λ t. one_where t) (is i) ∙ one-if j i e in
-          inl (omega (arith, head, count-cons (is_of_slot i) x xs), same ∙ ap (λ k. slice_index_or (slice_set items j Gone) k Gone) (sym e) ∙ at-default items j Gone)
+          inl (
+            omega (arith, head, count-cons (is_of_slot i) x xs),
+            same ∙ ap (λ k. slice_index_or (slice_set items j Gone) k Gone) (sym e)
+                ∙ at-default items j Gone,
+          )
       | inr ne ↦
           let head : one_where (is_of_slot i x) ≡ 0 = ap (λ t. one_where t) (is i) ∙ none-if j i ne in
           inr (omega (arith, head, none, count-cons (is_of_slot i) x xs), same ∙ at-other items j i Gone Gone (λ e. ne (sym e)))
@@ -173,7 +177,8 @@ written j x is xs items new i (inr (none, same)) =
 pub gone-or-not : (xs : List What) (items : List Fate) (i : ℕ) → GoneOrNot xs items (all_gone items xs) i
 gone-or-not [] items i = inr (refl, refl)
 gone-or-not (Item j ∷ xs) items i = written j (Item j) (λ k. refl) xs items (all_gone (slice_set items j Gone) xs) i (gone-or-not xs (slice_set items j Gone) i)
-gone-or-not (Private j c ∷ xs) items i = written j (Private j c) (λ k. refl) xs items (all_gone (slice_set items j Gone) xs) i (gone-or-not xs (slice_set items j Gone) i)
+gone-or-not (Private j c ∷ xs) items i = written j (Private j c) (λ k. refl) xs items (all_gone (slice_set items j Gone) xs) i
+    (gone-or-not xs (slice_set items j Gone) i)
 gone-or-not (Job j ∷ xs) items i =
     elim (gone-or-not xs items i) [
       | inl r ↦ inl (omega (arith, r.0, count-cons (is_of_slot i) (Job j) xs), r.1)

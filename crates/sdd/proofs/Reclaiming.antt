@@ -127,7 +127,8 @@ leaves-opened w p l =
     let nested = steps.nested w p in
     let start = steps.rotated nested p in
     let all = leaves-all start p (due_next (place_at nested.time p)) (record { linked = l.linked; unlinked = l.unlinked }) in
-    let changed : Leaves (time.settled_at (time.rotated_at nested.time p) p) (due_next (place_at nested.time p)) w (steps.changed holdings_of nested p) = record {
+    let changed : Leaves (time.settled_at (time.rotated_at nested.time p) p) (due_next (place_at nested.time p)) w
+    (steps.changed holdings_of nested p) = record {
       time = ap (λ t. time.settled_at t p) all.time;
       made = all.made;
       in_place = all.in_place;
@@ -137,7 +138,8 @@ leaves-opened w p l =
       home = all.home;
     } in
     let still = nothing nested.time [] w l in
-    let caught : Leaves (caught_up nested.time p) (if finds_another w.time p then due_next (place_at w.time p) else []) w (steps.caught_up holdings_of nested p) =
+    let caught : Leaves (caught_up nested.time p) (if finds_another w.time p then due_next (place_at w.time p) else []) w
+    (steps.caught_up holdings_of nested p) =
     subst (λ xs. Leaves (caught_up nested.time p) xs w (steps.caught_up holdings_of nested p)) (same-due w p)
     (either (finds_another nested.time p) (time.settled_at (time.rotated_at nested.time p) p) nested.time (due_next (place_at nested.time p)) [] w
     (steps.changed holdings_of nested p) nested changed still) in

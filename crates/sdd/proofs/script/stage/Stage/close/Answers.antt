@@ -23,8 +23,12 @@ pub unreachable-requires : goal.unreachable-requires
 unreachable-requires c =
     let d = desk_of c.self.inside.hand in
     let sound = c.self.invariant.sound in
-    let guards : (g : ℕ) → slice_index_or d.ledger.guards g None ≡ None = λ g. ap (λ (e : Desk). slice_index_or e.ledger.guards g None) c.self.view_is ∙ c.spend_guards.ensures.spent g in
-    let owners : (o : ℕ) → slice_index_or d.ledger.owners o None ≡ None = λ o. ap (λ (e : Desk). slice_index_or e.ledger.owners o None) c.self.view_is ∙ ap (λ os. slice_index_or os o None) c.spend_guards.ensures.owners
+    let guards : (g : ℕ) →
+    slice_index_or d.ledger.guards g None ≡ None = λ g. ap (λ (e : Desk). slice_index_or e.ledger.guards g None) c.self.view_is
+    ∙ c.spend_guards.ensures.spent g in
+    let owners : (o : ℕ) →
+    slice_index_or d.ledger.owners o None ≡ None = λ o. ap (λ (e : Desk). slice_index_or e.ledger.owners o None) c.self.view_is
+    ∙ ap (λ os. slice_index_or os o None) c.spend_guards.ensures.owners
     ∙ c.spend_owners.ensures.spent o in
     let ok : IsOk c.close.result = c.close.ensures.exactly.1 (unguarded d sound guards, all-go d sound c.is_whole.ensures owners) in
     not-refused c.close.result c.in-Err.field-0 c.in-Err.is ok

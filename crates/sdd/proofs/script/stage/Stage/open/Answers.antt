@@ -84,9 +84,11 @@ returns c = record {
       (desk_of (after-opening c.self.inside.hand c.self.invariant c.args.name c.in-Some.attending.now
       (got c.self.inside.hand.places c.args.name.0 c.in-Some.attending.now c.in-Some.ensures) c.open_at.new.world c.note_opening.new.places.entries
       c.give-name.new.self.entries c.mark_gone.new.fates (held c) c.reclaims_next-slots.result.now c.in_ok-due.due.items c.sort_unstable.new.self.items
-      c.is_whole.ensures c.reclaims_next-slots.ensures (named c) (entries c) (pushed c) c.in-Ok.ensures.place refl refl (gone c) c.in-Ok.ensures.opened.1))) c.self.view_is
+      c.is_whole.ensures c.reclaims_next-slots.ensures (named c) (entries c) (pushed c) c.in-Ok.ensures.place refl refl
+      (gone c) c.in-Ok.ensures.opened.1))) c.self.view_is
       (subst (λ names. Answers (desk_of c.self.inside.hand) (At c.args.name call.Open)
-      (record { reply = reply.Guard (record { 0 = c.give-name.result }) c.in-Ok.opened.1; reclaimed = names; ran = c.new.result }) (desk_of (after-opening c.self.inside.hand c.self.invariant c.args.name c.in-Some.attending.now
+      (record { reply = reply.Guard (record { 0 = c.give-name.result }) c.in-Ok.opened.1; reclaimed = names; ran = c.new.result })
+      (desk_of (after-opening c.self.inside.hand c.self.invariant c.args.name c.in-Some.attending.now
       (got c.self.inside.hand.places c.args.name.0 c.in-Some.attending.now c.in-Some.ensures) c.open_at.new.world c.note_opening.new.places.entries
       c.give-name.new.self.entries c.mark_gone.new.fates (held c) c.reclaims_next-slots.result.now c.in_ok-due.due.items c.sort_unstable.new.self.items
       c.is_whole.ensures c.reclaims_next-slots.ensures (named c) (entries c) (pushed c) c.in-Ok.ensures.place refl refl (gone c) c.in-Ok.ensures.opened.1)))
@@ -96,11 +98,13 @@ returns c = record {
       (desk_of (after-opening c.self.inside.hand c.self.invariant c.args.name c.in-Some.attending.now
       (got c.self.inside.hand.places c.args.name.0 c.in-Some.attending.now c.in-Some.ensures) c.open_at.new.world c.note_opening.new.places.entries
       c.give-name.new.self.entries c.mark_gone.new.fates (held c) c.reclaims_next-slots.result.now c.in_ok-due.due.items c.sort_unstable.new.self.items
-      c.is_whole.ensures c.reclaims_next-slots.ensures (named c) (entries c) (pushed c) c.in-Ok.ensures.place refl refl (gone c) c.in-Ok.ensures.opened.1))) (sym c.new.ensures)
+      c.is_whole.ensures c.reclaims_next-slots.ensures (named c) (entries c) (pushed c) c.in-Ok.ensures.place refl refl
+      (gone c) c.in-Ok.ensures.opened.1))) (sym c.new.ensures)
       (answers-opened c.self.inside.hand c.self.invariant c.args.name c.in-Some.attending.now
       (got c.self.inside.hand.places c.args.name.0 c.in-Some.attending.now c.in-Some.ensures) c.open_at.new.world c.note_opening.new.places.entries
       c.give-name.new.self.entries c.mark_gone.new.fates (held c) c.reclaims_next-slots.result.now c.in_ok-due.due.items c.sort_unstable.new.self.items
-      c.is_whole.ensures c.reclaims_next-slots.ensures (named c) (entries c) (pushed c) c.in-Ok.ensures.place refl refl (gone c) c.in-Ok.ensures.opened.1 (record { 0 = c.give-name.result }) c.in-Ok.opened.1 c.sort_unstable.ensures.permutation
+      c.is_whole.ensures c.reclaims_next-slots.ensures (named c) (entries c) (pushed c) c.in-Ok.ensures.place refl refl
+      (gone c) c.in-Ok.ensures.opened.1 (record { 0 = c.give-name.result }) c.in-Ok.opened.1 c.sort_unstable.ensures.permutation
       (IsNonDecreasingBy-from_sort (λ (i : ItemName). i.0) c.sort_unstable.new.self.items c.sort_unstable.ensures.sorted)
       c.in-Ok.ensures.opened.0 (c.give-name.ensures.name ∙ ap length c.make_room.ensures.kept) c.in-Ok.ensures.opened.2)));
 }

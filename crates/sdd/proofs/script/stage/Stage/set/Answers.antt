@@ -10,7 +10,8 @@ use Rattle.sdd.proofs.script.stage.Stage.set.Goals as goal
 
 pub invariant_of-self : goal.invariant_of-self
 invariant_of-self c =
-    (goes-stirred c.self.inside.hand c.self.invariant c.args.name.0 c.in-Some.attending.now c.in-Some.ensures.found.0 c.stir_at.new.world c.stir_at.ensures).tied
+    (goes-stirred c.self.inside.hand c.self.invariant c.args.name.0 c.in-Some.attending.now c.in-Some.ensures.found.0
+    c.stir_at.new.world c.stir_at.ensures).tied
 
 pub returns : goal.returns
 returns c = record {

@@ -15,7 +15,8 @@ loop-guard-init c = record {
 
 pub loop-guard-preserved : goal.loop-guard-preserved
 loop-guard-preserved c = record {
-  spent = spent-more c.loop-guard.self.ledger.guards c.spend_guard.new.self.ledger.guards c.loop-guard.guard c.spend_guard.ensures.guards c.loop-guard.invariant.spent;
+  spent = spent-more c.loop-guard.self.ledger.guards c.spend_guard.new.self.ledger.guards c.loop-guard.guard c.spend_guard.ensures.guards
+      c.loop-guard.invariant.spent;
   long = ap length c.spend_guard.ensures.guards ∙ length-set c.loop-guard.self.ledger.guards c.loop-guard.guard None ∙ c.loop-guard.invariant.long;
   owners = c.spend_guard.ensures.owners ∙ c.loop-guard.invariant.owners;
   tally = c.spend_guard.ensures.tally ∙ c.loop-guard.invariant.tally;

@@ -14,7 +14,8 @@ loop-owner-init c = record {
 
 pub loop-owner-preserved : goal.loop-owner-preserved
 loop-owner-preserved c = record {
-  spent = spent-more c.loop-owner.self.ledger.owners c.spend_owner.new.self.ledger.owners c.loop-owner.owner c.spend_owner.ensures.owners c.loop-owner.invariant.spent;
+  spent = spent-more c.loop-owner.self.ledger.owners c.spend_owner.new.self.ledger.owners c.loop-owner.owner c.spend_owner.ensures.owners
+      c.loop-owner.invariant.spent;
   long = ap length c.spend_owner.ensures.owners ∙ length-set c.loop-owner.self.ledger.owners c.loop-owner.owner None ∙ c.loop-owner.invariant.long;
   tally = c.spend_owner.ensures.tally ∙ c.loop-owner.invariant.tally;
 }
