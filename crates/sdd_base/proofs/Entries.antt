@@ -1,25 +1,25 @@
 -- What waits with a participant, and how an opening makes it older
-use Rattle.std.proofs.Common.{◌≡◌, ◌≢◌, ◌⊎◌, inl, inr, ℕ, ◌+◌, ◌<◌, ◌≤◌, List, [], ◌∷◌, ◌++◌, length, cond, Bool, refl, sym, ap, ◌∙◌, arith, true, false, Some, None, nat_lt, Option, zero, suc, slice_index_or, slice_set, sum_by, count_by, subst}
-use Rattle.std.specs.Prelude.{◌==◌, Contains, not, is_some}
-use Rattle.std.proofs.lemmas.List.{length-set, get_or-set_same, get_or-set_other, get_or_past}
+use Rattle.std.proofs.Common.{◌≡◌, ◌≢◌, ◌⊎◌, inl, inr, ℕ, ◌+◌, ◌<◌, ◌≤◌, List, [], ◌∷◌, length, Bool, refl, sym, ap, ◌∙◌, arith, true, false, zero, suc, slice_index_or, slice_set, sum_by, subst}
+use Rattle.std.specs.Prelude.{◌==◌, Contains}
+use Rattle.std.proofs.lemmas.List.{get_or-set_same, get_or-set_other, get_or_past}
 use Rattle.std.proofs.lemmas.List.Sums.{sum_by-set, sum_by-cons}
-use Rattle.std.proofs.lemmas.List.Elements.{Contains-append_left, Contains-push, All-contains}
+use Rattle.std.proofs.lemmas.List.Elements.{All-contains}
 use Rattle.std.proofs.lemmas.Bool.Decides.{nat_tests}
-use Rattle.sdd_store.specs.Waiting.{What, Waiting, fresh, having_seen, aged, left, due, older, is_due}
+use Rattle.sdd_store.specs.Waiting.{Waiting, having_seen, aged, left, due, older, is_due}
 use Rattle.sdd_store.specs.Waiting.What.{Item}
 use Rattle.sdd_store.specs.Time.{Time, with_place, nobody, due_next, is_open}
 use Rattle.sdd_store.specs.Time as time
 use Rattle.sdd_store.specs.declared.time.Participant.{Participant}
 use Rattle.sdd_slots.specs.Slots.{is_waiting}
-use Rattle.sdd_base.specs.World.{World, standing_at, value_at, place_at}
-use Rattle.sdd_base.specs.Steps.{opened, reclaims}
+use Rattle.sdd_base.specs.World.{World, standing_at, place_at}
+use Rattle.sdd_base.specs.Steps.{opened}
 use Rattle.sdd_base.specs.Holding.{Holding}
 use Rattle.sdd_base.specs.Own.{all_awaiting, opened_at}
-use Rattle.sdd_base.specs.Whole.{is_of_slot, times_with, once_if, times_waiting, IsWhole}
+use Rattle.sdd_base.specs.Whole.{is_of_slot, times_with, once_if, IsWhole}
 use Rattle.sdd_base.specs.Left.{Waits}
 use Rattle.sdd_base.proofs.Own.{opens}
 use Rattle.sdd_base.proofs.Whole.{below-or-past, count-cons, times_among, times_listed, times-aged}
-use Rattle.sdd_base.proofs.Opening.{how, Nests, IsChange, all_awaiting-waiting}
+use Rattle.sdd_base.proofs.Opening.{Nests, IsChange, all_awaiting-waiting}
 
 -- in a list with one element in front
 listed-later : {X : Type 0} (x : X) (xs : List X) (y : X) → Contains xs y → Contains (x ∷ xs) y

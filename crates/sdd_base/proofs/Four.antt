@@ -1,29 +1,34 @@
 -- Four accelerated guards, one after another, reclaim what waits
-use Rattle.std.proofs.Common.{◌≡◌, ◌≢◌, ◌⊎◌, inl, inr, ℕ, ◌+◌, ◌<◌, ◌≤◌, List, [], ◌∷◌, length, Bool, refl, sym, ap, ◌∙◌, arith, true, false, Some, None, nat_lt, Option, zero, suc, slice_index_or, IsTrue, subst}
-use Rattle.std.specs.Prelude.{◌-◌, ◌^◌, ◌==◌, ◌&&◌, ◌||◌, Any, Contains, is_some, if◌then◌else◌, not}
+use Rattle.std.proofs.Common.{◌≡◌, ◌≢◌, ◌⊎◌, inl, inr, ℕ, ◌+◌, ◌<◌, ◌≤◌, List, [], ◌∷◌, length, Bool, refl, sym, ap, ◌∙◌, arith, true, false, Some, None, nat_lt, Option, zero, suc, slice_index_or, IsTrue, map, subst}
+use Rattle.std.specs.Prelude.{◌==◌, ◌&&◌, ◌||◌, Any, Contains, is_some, not}
 use Rattle.std.specs.List.{list_all}
 use Rattle.std.proofs.lemmas.List.{get_or-set_same, get_or-set_other, get_or_past, length-set}
 use Rattle.std.proofs.lemmas.Bool.Decides.{nat_tests}
 use Rattle.sdd_store.specs.Waiting.{Waiting, having_seen}
 use Rattle.sdd_store.specs.Waiting.What.{Item}
-use Rattle.sdd_store.specs.Time.{Time, with_place, nobody, is_open, passes, last_count, due_next}
+use Rattle.sdd_store.specs.Time.{Time, with_place, nobody, is_open, passes, last_count, due_next, rested, IsLive}
 use Rattle.sdd_store.specs.Time as time
 use Rattle.sdd_store.specs.declared.time.Participant.{Participant}
-use Rattle.sdd_store.specs.declared.standing.Standing.{Standing}
 use Rattle.sdd_slots.specs.Slots.{is_waiting}
 use Rattle.sdd_base.specs.World.{IsGuarded, World, standing_at, value_at, place_at, IsPlaceOf}
 use Rattle.sdd_base.specs.Steps.{opened, closed, accelerated, reclaims}
 use Rattle.sdd_base.specs.Steps as steps
 use Rattle.sdd_base.specs.Holding.{Holding}
-use Rattle.sdd_base.specs.Own.{all_awaiting, opened_at}
+use Rattle.sdd_base.specs.Own.{opened_at}
 use Rattle.sdd_base.specs.Whole.{times_waiting, IsWhole}
-use Rattle.sdd_base.specs.Left.{Waits, accelerated_guard, four_guards, FourGuardsReclaim}
-use Rattle.sdd_base.proofs.Own.{opens}
+use Rattle.sdd_base.specs.Left.{Waits, accelerated_guard, FourGuardsReclaim}
+use Rattle.sdd_base.proofs.Own.{opens, Gives-all_reclaimed}
 use Rattle.sdd_base.proofs.Own as own
-use Rattle.sdd_base.proofs.Whole.{same-or-not, below-or-past, filled-there, some-waits, scans-places, all_awaiting-guards, times_among, times-aged, Whole-opened, Whole-closed, Whole-accelerated}
-use Rattle.sdd_base.proofs.Opening.{how, Nests, IsChange, Stands, opened-stays, opened-goes, opened-other}
+use Rattle.sdd_base.proofs.Whole.{below-or-past, filled-there, some-waits, all_awaiting-guards, times_among, times-aged}
+use Rattle.sdd_base.proofs.Housed.{Whole-opened, Whole-closed, Whole-accelerated, live-is}
+use Rattle.sdd_store.proofs.Adopting.{adopts, keeps-closed, scans-if, scans-there, same-or-not}
+use Rattle.sdd_base.proofs.Closes.{how-closed}
+use Rattle.sdd_store.specs.Phases.{is_live, is_ended}
+use Rattle.sdd_store.specs.Table.{Entries}
+use Rattle.sdd_store.specs.declared.phases.Phase.{Phase}
+use Rattle.sdd_base.proofs.Opening.{how, Nests, IsChange, Stands, opened-stays, opened-goes, opened-other, in_before}
 use Rattle.sdd_base.proofs.Entries.{waits-standing, waits-young, entry-due, one-place, nests-waits, change-waits}
-use Rattle.sdd_base.proofs.Under.{persists-closed}
+use Rattle.sdd_base.proofs.Under.{closed-persists}
 
 -- nobody has a guard open
 abbrev pub AllClosed : {T : Type 0} → World T → Type 0
@@ -61,9 +66,16 @@ all-passing count (x ∷ ps) h = rw (h zero) (all-passing count ps (λ p. h (suc
 -- the last guard of p is closed at countdown 0, and its scan raises the count
 closed-raises : (t : Time) (p : ℕ) → nat_lt 1 (time.place_at t p).guards ≡ false → is_open (time.place_at t p) ≡ true →
     ((time.place_at t p).countdown == 0) ≡ true → ((time.place_at t p).found == t.count) ≡ true →
-    (nat_lt t.count last_count && list_all (passes t.count) t.places) ≡ true →
-    time.closed t p ≡ with_place (record t { marked = false; count = t.count + 1 }) p (record (time.place_at t p) { guards = 0; countdown = 127 })
-closed-raises t p one o c f all = rw (one, o, c, f, all) refl
+    (u : Time) → u ≡ time.adopted t p → (nat_lt u.count last_count && list_all (passes u.count) u.places) ≡ true →
+    time.closed t p ≡ with_place (record u { marked = false; count = u.count + 1 }) p (rested t.marked (time.place_at u p))
+closed-raises t p one o c f u u_is all = rw (one, o, c, f, ← u_is, all) refl
+
+passes-same : (count : ℕ) (x y : Participant) → y.found ≡ x.found → y.guards ≡ x.guards → passes count y ≡ passes count x
+passes-same count x y f g = rw (f, g) refl
+
+-- the phases are as before, and so the place is live
+live-of : (t u : Time) (p : ℕ) → u.phases ≡ t.phases → p < length u.places → IsLive t p → IsLive u p
+live-of t u p e there l = (there, subst (λ (xs : Entries Phase). IsTrue (slice_index_or (map is_live xs) p false)) (sym e) l.1)
 
 -- an outermost opening, as p has it
 record IsAlone (count : ℕ) (x : Participant) : Type 0 where
@@ -137,69 +149,84 @@ module _ {T : Type 0} (holds : T → List Holding) where
   ready-place w p l shut =
       omega (arith, opened-place w p l shut, length-set (opened holds w p).time.places p (time.accelerated (place_at (opened holds w p) p)))
 
-  pub raises : (w : World T) (p : ℕ) → p < length w.time.places → AllClosed w → w.time.count < last_count → Raises w p
-  raises w p l shut room =
-      let t = (ready w p).time in
-      let a = opened-alone w p l shut in
-      let here = ready-here w p l shut in
-      let guards : (place_at (ready w p) p).guards ≡ 1 = ap (λ (x : Participant). x.guards) here ∙ a.guards in
-      let found : (place_at (ready w p) p).found ≡ t.count = ap (λ (x : Participant). x.found) here ∙ a.found ∙ sym (ready-count w p l) in
-      let all : list_all (passes t.count) t.places ≡ true =
-      all-passing t.count t.places (λ q. subst (λ (n : ℕ). passes n (place_at (ready w p) q) ≡ true) (sym (ready-count w p l))
-      (ready-passes w p q l shut (same-or-not q p))) in
-      let low : nat_lt t.count last_count ≡ true = grind (arith, nat_tests, ready-count w p l, room) in
-      let is =
-      closed-raises t p (rw guards refl) (rw guards refl) (rw here refl) (grind (arith, nat_tests, found))
-      (and-both (nat_lt t.count last_count) (list_all (passes t.count) t.places) low all) in
-      let end : Participant = record (time.place_at t p) { guards = 0; countdown = 127 } in
-      record {
-        count = ap (λ (u : Time). u.count) is ∙ ap (λ (n : ℕ). n + 1) (ready-count w p l);
-        found =
-            ap (λ (u : Time). (time.place_at u p).found) is
-            ∙ ap (λ (x : Participant). x.found) (get_or-set_same t.places p end nobody (ready-place w p l shut))
-            ∙ found ∙ ready-count w p l;
-      }
+  phases-opened : (w : World T) (p : ℕ) → p < length w.time.places → Nests holds w p ⊎ IsChange holds w p →
+      (opened holds w p).time.phases ≡ w.time.phases
+  phases-opened w p l (inl n) = ap (λ (u : World T). u.time.phases) n.nests
+  phases-opened w p l (inr c) =
+      let g = Gives-all_reclaimed holds (steps.rotated (steps.nested w p) p) p (due_next (place_at (steps.nested w p) p)) (in_before holds w p l) in
+      ap (λ (u : World T). u.time.phases) c.change ∙ ap (λ (t : Time). t.phases) g.time
 
-  -- afterwards no guard is open again
-  closed-shut : (t : Time) (p q : ℕ) → p < length t.places → (time.place_at t p).guards ≡ 1 → (q ≢ p → is_open (time.place_at t q) ≡ false) →
-      (q ≡ p) ⊎ (q ≢ p) →
-      (u : Time) → u.places ≡ t.places → is_open (time.place_at (with_place u p (record (time.place_at t p) { guards = 0; countdown = 127 })) q) ≡ false
-  closed-shut t p q l one others (inl e) u same =
-      let end : Participant = record (time.place_at t p) { guards = 0; countdown = 127 } in
-      let inside : p < length u.places = omega (arith, l, ap (λ (ps : List Participant). length ps) same) in
-      subst (λ (m : ℕ). is_open (time.place_at (with_place u p end) m) ≡ false) (sym e)
-      (ap (λ (x : Participant). is_open x) (get_or-set_same u.places p end nobody inside))
-  closed-shut t p q l one others (inr apart) u same =
-      let end : Participant = record (time.place_at t p) { guards = 0; countdown = 127 } in
-      ap (λ (x : Participant). is_open x) (get_or-set_other u.places p q end nobody apart ∙ ap (λ (ps : List Participant). slice_index_or ps q nobody) same)
-      ∙ others apart
+  opened-live : (w : World T) (p : ℕ) → IsPlaceOf w p → AllClosed w → IsPlaceOf (opened holds w p) p
+  opened-live w p l shut = live-of w.time (opened holds w p).time p (phases-opened w p l.0 (how holds w p l.0)) (opened-place w p l.0 shut) l
+
+  pub ready-live : (w : World T) (p : ℕ) → IsPlaceOf w p → AllClosed w → IsPlaceOf (ready w p) p
+  ready-live w p l shut = live-of w.time (ready w p).time p (phases-opened w p l.0 (how holds w p l.0)) (ready-place w p l.0 shut) l
+
+  pub raises : (w : World T) (p : ℕ) → IsPlaceOf w p → AllClosed w → w.time.count < last_count → Raises w p
+  raises w p live shut room =
+      let l = live.0 in
+      let t = (ready w p).time in
+      let u = time.adopted t p in
+      let a = adopts t p (ready-live w p live shut) in
+      let alone = opened-alone w p l shut in
+      let here = ready-here w p l shut in
+      let guards : (place_at (ready w p) p).guards ≡ 1 = ap (λ (x : Participant). x.guards) here ∙ alone.guards in
+      let found : (place_at (ready w p) p).found ≡ t.count = ap (λ (x : Participant). x.found) here ∙ alone.found ∙ sym (ready-count w p l) in
+      let count : u.count ≡ w.time.count = ap (λ (v : Time). v.count) a.only ∙ ready-count w p l in
+      let all : list_all (passes u.count) u.places ≡ true =
+      all-passing u.count u.places (λ q. subst (λ (n : ℕ). passes n (time.place_at u q) ≡ true) (sym count)
+      (passes-same w.time.count (time.place_at t q) (time.place_at u q) (a.stays q).found (a.stays q).guards ∙ ready-passes w p q l shut (same-or-not q p))) in
+      let low : nat_lt u.count last_count ≡ true = grind (arith, nat_tests, count, room) in
+      let is =
+      closed-raises t p (rw guards refl) (rw guards refl) (rw here refl) (grind (arith, nat_tests, found)) u refl
+      (and-both (nat_lt u.count last_count) (list_all (passes u.count) u.places) low all) in
+      let end : Participant = rested t.marked (time.place_at u p) in
+      record {
+        count = ap (λ (v : Time). v.count) is ∙ ap (λ (n : ℕ). n + 1) count;
+        found =
+            ap (λ (v : Time). (time.place_at v p).found) is
+            ∙ ap (λ (x : Participant). x.found) (get_or-set_same u.places p end nobody (omega (arith, a.places, ready-place w p l shut)))
+            ∙ (a.stays p).found ∙ found ∙ ready-count w p l;
+      }
 
   -- a close at countdown 0 of the last guard, whether its scan raises the count or not
   closed-is : (t : Time) (p : ℕ) → nat_lt 1 (time.place_at t p).guards ≡ false → is_open (time.place_at t p) ≡ true →
       ((time.place_at t p).countdown == 0) ≡ true →
-      time.closed t p ≡ with_place (time.scanned t p) p (record (time.place_at t p) { guards = 0; countdown = 127 })
+      time.closed t p ≡ with_place (time.scanned t p) p (rested t.marked (time.place_at (time.scanned t p) p))
   closed-is t p one o c = rw (one, o, c) refl
 
-  pub still-closed : (w : World T) (p : ℕ) → p < length w.time.places → AllClosed w → AllClosed (accelerated_guard holds w p)
-  still-closed w p l shut = λ q.
+  -- afterwards no guard is open again
+  shut-if : (w : World T) (p q : ℕ) → IsPlaceOf w p → AllClosed w → (q ≡ p) ⊎ (q ≢ p) → is_open (place_at (accelerated_guard holds w p) q) ≡ false
+  shut-if w p q live shut (inl e) =
       let t = (ready w p).time in
-      let here = ready-here w p l shut in
-      let guards : (place_at (ready w p) p).guards ≡ 1 = ap (λ (x : Participant). x.guards) here ∙ (opened-alone w p l shut).guards in
-      let others : q ≢ p → is_open (time.place_at t q) ≡ false = λ apart. ap (λ (x : Participant). is_open x) (ready-other w p q l apart) ∙ shut q in
-      ap (λ (u : Time). is_open (time.place_at u q)) (closed-is t p (rw guards refl) (rw guards refl) (rw here refl))
-      ∙ closed-shut t p q (ready-place w p l shut) guards others (same-or-not q p) (time.scanned t p) (scans-places t p true)
+      let here = ready-here w p live.0 shut in
+      let guards : (place_at (ready w p) p).guards ≡ 1 = ap (λ (x : Participant). x.guards) here ∙ (opened-alone w p live.0 shut).guards in
+      let s = time.scanned t p in
+      let inside = scans-there (ready-place w p live.0 shut) (scans-if t p (ready-live w p live shut) true) in
+      subst (λ (m : ℕ). is_open (place_at (accelerated_guard holds w p) m) ≡ false) (sym e)
+      (ap (λ (u : Time). is_open (time.place_at u p)) (closed-is t p (rw guards refl) (rw guards refl) (rw here refl))
+      ∙ ap (λ (x : Participant). is_open x) (get_or-set_same s.places p (rested t.marked (time.place_at s p)) nobody inside))
+  shut-if w p q live shut (inr apart) =
+      ap (λ (n : ℕ). nat_lt 0 n) ((how-closed (ready w p).time p (ready-live w p live shut)).guards q apart)
+      ∙ ap (λ (x : Participant). is_open x) (ready-other w p q live.0 apart) ∙ shut q
 
-  pub still-place : (w : World T) (p : ℕ) → p < length w.time.places → AllClosed w → p < length (accelerated_guard holds w p).time.places
-  still-place w p l shut =
-      let t = (ready w p).time in
-      let guards : (place_at (ready w p) p).guards ≡ 1 = ap (λ (x : Participant). x.guards) (ready-here w p l shut) ∙ (opened-alone w p l shut).guards in
-      let same = ap (λ (u : Time). length u.places) (closed-is t p (rw guards refl) (rw guards refl) (rw (ready-here w p l shut) refl)) in
-      let end : Participant = record (time.place_at t p) { guards = 0; countdown = 127 } in
-      omega (arith, same, length-set (time.scanned t p).places p end, ap (λ (ps : List Participant). length ps) (scans-places t p true), ready-place w p l shut)
+  pub still-closed : (w : World T) (p : ℕ) → IsPlaceOf w p → AllClosed w → AllClosed (accelerated_guard holds w p)
+  still-closed w p live shut = λ q. shut-if w p q live shut (same-or-not q p)
 
-  pub still-whole : (w : World T) (p : ℕ) → p < length w.time.places → AllClosed w → IsWhole w → IsWhole (accelerated_guard holds w p)
+  pub still-lives : (w : World T) (p : ℕ) → IsPlaceOf w p → AllClosed w → time.lives (accelerated_guard holds w p).time ≡ time.lives w.time
+  still-lives w p live shut =
+      (keeps-closed (ready w p).time p (ready-live w p live shut)).lives
+      ∙ ap (λ (xs : Entries Phase). map is_live xs) (phases-opened w p live.0 (how holds w p live.0))
+
+  pub still-place : (w : World T) (p : ℕ) → IsPlaceOf w p → AllClosed w → IsPlaceOf (accelerated_guard holds w p) p
+  still-place w p live shut = (
+    omega (arith, (keeps-closed (ready w p).time p (ready-live w p live shut)).places, ready-place w p live.0 shut),
+    subst (λ (bs : List Bool). IsTrue (slice_index_or bs p false)) (sym (still-lives w p live shut)) live.1,
+  )
+
+  pub still-whole : (w : World T) (p : ℕ) → IsPlaceOf w p → AllClosed w → IsWhole w → IsWhole (accelerated_guard holds w p)
   still-whole w p l shut i =
-      Whole-closed (ready w p) p (ready-place w p l shut) (Whole-accelerated (opened holds w p) p (opened-place w p l shut) (Whole-opened holds w p l i))
+      Whole-closed (ready w p) p (ready-live w p l shut) (Whole-accelerated (opened holds w p) p (opened-live w p l shut) (Whole-opened holds w p l i))
 
   -- the slot is free, or its item waits with p and has seen at least so many changes
   data HasSeen (w : World T) (p k least : ℕ) : Type 0 where
@@ -207,13 +234,14 @@ module _ {T : Type 0} (holds : T → List Holding) where
     waits : (seen : ℕ) → least ≤ seen → Waits w p k seen → HasSeen w p k least
 
   -- an accelerated guard and its opening leave the same waiting
-  closed-waits : (w : World T) (p k seen : ℕ) → p < length w.time.places → AllClosed w → Waits (opened holds w p) p k seen →
+  closed-waits : (w : World T) (p k seen : ℕ) → IsPlaceOf w p → AllClosed w → Waits (opened holds w p) p k seen →
       Waits (accelerated_guard holds w p) p k seen
   closed-waits w p k seen l shut h =
       let y : Waiting = having_seen seen (Item k) in
       let ready_waits : Contains (place_at (ready w p) p).bags.waiting y =
-      subst (λ (x : Participant). Contains x.bags.waiting y) (sym (ready-here w p l shut)) h in
-      (persists-closed (ready w p).time p p (ready-place w p l shut)).waits y ready_waits
+      subst (λ (x : Participant). Contains x.bags.waiting y) (sym (ready-here w p l.0 shut)) h in
+      let live = ready-live w p l shut in
+      (closed-persists (ready w p).time p p live (ap is_ended (live-is (ready w p).time p live))).waits y ready_waits
 
   -- what does not wait is not due
   never-due : (w : World T) (p k : ℕ) → IsWhole w → is_waiting (standing_at w k) ≡ false → Nests holds w p ⊎ IsChange holds w p →
@@ -242,26 +270,26 @@ module _ {T : Type 0} (holds : T → List Holding) where
   nests-why w p shut another (inl o) = let never : false ≡ true = sym (shut p) ∙ o in absurd (cc)
   nests-why w p shut another (inr h) = another h.1
 
-  change-grows : (w : World T) (p k least seen : ℕ) → p < length w.time.places → AllClosed w → IsWhole w → least ≤ seen → Waits w p k seen →
+  change-grows : (w : World T) (p k least seen : ℕ) → IsPlaceOf w p → AllClosed w → IsWhole w → least ≤ seen → Waits w p k seen →
       IsChange holds w p → (seen < 2) ⊎ (2 ≤ seen) →
       HasSeen (accelerated_guard holds w p) p k (least + 1)
   change-grows w p k least seen l shut i more h c (inl young) =
-      waits (seen + 1) (omega (arith, more)) (closed-waits w p k (seen + 1) l shut (change-waits holds w p k seen l c young h))
+      waits (seen + 1) (omega (arith, more)) (closed-waits w p k (seen + 1) l shut (change-waits holds w p k seen l.0 c young h))
   change-grows w p k least seen l shut i more h c (inr old) =
       let two : seen ≡ 2 = omega (arith, old, waits-young w p k seen i h) in
       let ripe = entry-due k (place_at w p).bags.waiting (subst (λ (n : ℕ). Waits w p k n) two h) in
       let some : 1 ≤ times_among k (reclaims w p) = subst (λ xs. 1 ≤ times_among k xs) (sym c.due) ripe in
       let standing = waits-standing w p k seen i h in
-      let free = due-goes w p k l i standing some (value_at w k) refl (value-there w k i standing (value_at w k) refl) in
+      let free = due-goes w p k l.0 i standing some (value_at w k) refl (value-there w k i standing (value_at w k) refl) in
       gone (record { standing = free.standing; value = free.value })
 
   fewer : (w : World T) (p k least : ℕ) → HasSeen w p k (least + 1) → HasSeen w p k least
   fewer w p k least (gone g) = gone g
   fewer w p k least (waits seen more h) = waits seen (omega (arith, more)) h
 
-  any-grows : (w : World T) (p k least seen : ℕ) → p < length w.time.places → AllClosed w → IsWhole w → least ≤ seen → Waits w p k seen →
+  any-grows : (w : World T) (p k least seen : ℕ) → IsPlaceOf w p → AllClosed w → IsWhole w → least ≤ seen → Waits w p k seen →
       Nests holds w p ⊎ IsChange holds w p → HasSeen (accelerated_guard holds w p) p k least
-  any-grows w p k least seen l shut i more h (inl n) = waits seen more (closed-waits w p k seen l shut (nests-waits holds w p k seen l n h))
+  any-grows w p k least seen l shut i more h (inl n) = waits seen more (closed-waits w p k seen l shut (nests-waits holds w p k seen l.0 n h))
   any-grows w p k least seen l shut i more h (inr c) =
       fewer (accelerated_guard holds w p) p k least (change-grows w p k least seen l shut i more h c (below-or-past seen 2))
 
@@ -270,16 +298,16 @@ module _ {T : Type 0} (holds : T → List Holding) where
   must-change w p shut another (inr c) = c
   must-change w p shut another (inl n) = absurd (nests-why w p shut another n.why)
 
-  after-one : (w : World T) (p k least : ℕ) → p < length w.time.places → AllClosed w → IsWhole w → HasSeen w p k least →
+  after-one : (w : World T) (p k least : ℕ) → IsPlaceOf w p → AllClosed w → IsWhole w → HasSeen w p k least →
       HasSeen (accelerated_guard holds w p) p k least
-  after-one w p k least l shut i (gone g) = let o = gone-opened w p k l i g in gone (record { standing = o.standing; value = o.value })
-  after-one w p k least l shut i (waits seen more h) = any-grows w p k least seen l shut i more h (how holds w p l)
+  after-one w p k least l shut i (gone g) = let o = gone-opened w p k l.0 i g in gone (record { standing = o.standing; value = o.value })
+  after-one w p k least l shut i (waits seen more h) = any-grows w p k least seen l shut i more h (how holds w p l.0)
 
-  after-change : (w : World T) (p k least : ℕ) → p < length w.time.places → AllClosed w → IsWhole w → (place_at w p).found ≢ w.time.count →
+  after-change : (w : World T) (p k least : ℕ) → IsPlaceOf w p → AllClosed w → IsWhole w → (place_at w p).found ≢ w.time.count →
       HasSeen w p k least → HasSeen (accelerated_guard holds w p) p k (least + 1)
-  after-change w p k least l shut i another (gone g) = let o = gone-opened w p k l i g in gone (record { standing = o.standing; value = o.value })
+  after-change w p k least l shut i another (gone g) = let o = gone-opened w p k l.0 i g in gone (record { standing = o.standing; value = o.value })
   after-change w p k least l shut i another (waits seen more h) =
-      change-grows w p k least seen l shut i more h (must-change w p shut another (how holds w p l)) (below-or-past seen 2)
+      change-grows w p k least seen l shut i more h (must-change w p shut another (how holds w p l.0)) (below-or-past seen 2)
 
   -- what has seen three changes is gone
   gone-by-then : (w : World T) (p k : ℕ) → IsWhole w → HasSeen w p k 3 → Stands k None None w

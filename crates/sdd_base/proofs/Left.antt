@@ -2,29 +2,32 @@
 use Rattle.std.proofs.Common.{◌≡◌, ◌≢◌, ◌⊎◌, inl, inr, ℕ, ◌+◌, ◌<◌, ◌≤◌, List, [], ◌∷◌, length, Bool, refl, sym, ap, ◌∙◌, arith, true, false, Some, None, nat_lt, Option, zero, suc, slice_index_or, IsTrue, subst}
 use Rattle.std.specs.Prelude.{◌-◌, ◌*◌, ◌==◌, ◌&&◌, Contains, is_some, if◌then◌else◌, not}
 use Rattle.std.specs.List.{list_all}
-use Rattle.std.proofs.Math.ListN.{get_or-append}
 use Rattle.std.proofs.lemmas.List.{get_or-set_same, get_or-set_other}
 use Rattle.std.proofs.lemmas.Bool.Decides.{nat_tests}
 use Rattle.sdd_store.specs.Waiting.{Waiting, having_seen}
 use Rattle.sdd_store.specs.Waiting.What.{Item}
-use Rattle.sdd_store.specs.Time.{Time, with_place, nobody, newcomer, is_open, passes, last_count, counted_down}
+use Rattle.sdd_store.specs.Time.{Time, with_place, nobody, is_open, passes, last_count, counted_down, phase_at, rested}
 use Rattle.sdd_store.specs.Time as time
 use Rattle.sdd_store.specs.declared.time.Participant.{Participant}
-use Rattle.sdd_base.specs.World.{World, standing_at, value_at, place_at}
-use Rattle.sdd_base.specs.Steps.{made, retired, nulled, cell_closed, opened, closed, stirred, accelerated, registered, reclaims}
+use Rattle.sdd_base.specs.World.{World, standing_at, value_at, place_at, IsPlaceOf}
+use Rattle.sdd_base.specs.Steps.{made, retired, nulled, cell_closed, opened, closed, registered, ended, reclaims}
 use Rattle.sdd_base.specs.Holding.{Holding}
 use Rattle.sdd_base.specs.Own.{all_awaiting}
 use Rattle.sdd_base.specs.Whole.{IsWhole}
 use Rattle.sdd_base.specs.Left.{Waits, left, IsHeldUp, OpeningsLower, NoCallRaises, GoesAtLatest, Stays, GoesInTime}
 use Rattle.sdd_base.specs.Left.Stays.{starts, one_opening, one_call}
 use Rattle.sdd_base.specs.Calls.{Calls}
-use Rattle.sdd_base.specs.Calls.Calls.{registers, opens, closes, stirs, accelerates, makes, retires, nulls, closes_cell}
+use Rattle.sdd_base.specs.Calls.Calls.{registers, ends, opens, closes, stirs, accelerates, makes, retires, nulls, closes_cell}
 use Rattle.sdd_base.proofs.Own.{Gives-cell_closed, all_awaiting-found}
 use Rattle.sdd_base.proofs.Own as own
-use Rattle.sdd_base.proofs.Whole.{same-or-not, below-or-past, scans-places, times_among, filled-there, all_awaiting-guards, some-waits, Whole-opened, Whole-closed, Whole-stirred, Whole-accelerated, Whole-made, Whole-retires, Whole-nulled, Whole-cell_closed, Whole-registered}
+use Rattle.sdd_base.proofs.Whole.{HasItems, Items-opened, below-or-past, times_among, filled-there, all_awaiting-guards, some-waits}
+use Rattle.sdd_base.proofs.Housed.{Whole-opened, Whole-closed, Whole-stirred, Whole-accelerated, Whole-made, Whole-retires, Whole-nulled, Whole-cell_closed, Whole-registered, Whole-ended, items, live-is, live-taken, registered-keeps}
+use Rattle.sdd_base.proofs.Closes.{how-closed}
+use Rattle.sdd_store.proofs.Adopting.{Adopts, adopts, same-or-not}
+use Rattle.sdd_store.specs.Phases.{is_ended}
 use Rattle.sdd_base.proofs.Opening.{how, Nests, IsChange, opened-goes, opened-other, all_awaiting-waiting}
 use Rattle.sdd_base.proofs.Entries.{waits-place, waits-young, waits-standing, entry-due, nests-waits, change-waits, differs, opens-changed}
-use Rattle.sdd_base.proofs.Under.{persists-closed}
+use Rattle.sdd_base.proofs.Under.{closed-persists}
 
 -- what is left with this participant at this count
 abbrev left_of : (count : ℕ) → Participant → (seen : ℕ) → ℕ
@@ -71,6 +74,11 @@ later-if count new seen x found (inr e) = omega (arith, (left-bounds count seen 
 record Lowers (count new : ℕ) (x y : Participant) : Type 0 where
   waits : (w : Waiting) → Contains x.bags.waiting w → Contains y.bags.waiting w
   lower : (seen : ℕ) → left_of new y seen ≤ left_of count x seen
+
+-- what is left looks at the count found, the guards and the countdown
+left-same : (count seen : ℕ) (x y : Participant) → y.found ≡ x.found → y.guards ≡ x.guards → y.countdown ≡ x.countdown →
+    left_of count y seen ≡ left_of count x seen
+left-same count seen x y f g d = rw (f, g, d) refl
 
 Lowers-later : (count new : ℕ) (x y : Participant) → x.found ≤ count → (new ≡ count) ⊎ (new ≡ count + 1) → y ≡ x → Lowers count new x y
 Lowers-later count new x y found c e =
@@ -139,49 +147,6 @@ stopped-if count x false b o e h = let never : true ≡ false = rw o at h in abs
 stopped : (count : ℕ) (x : Participant) → passes count x ≡ false → (is_open x ≡ true) × (x.found ≢ count)
 stopped count x h = stopped-if count x (is_open x) (x.found == count) refl refl h
 
--- a close: the count goes on by one or not
-abbrev GoesOn : (count new : ℕ) → Type 0
-GoesOn count new = (new ≡ count) ⊎ (new ≡ count + 1)
-
-raised-count : (t : Time) (b : Bool) → GoesOn t.count (if b then record t { count = t.count + 1 } else t).count
-raised-count t true = inr refl
-raised-count t false = inl refl
-
-scanned-count : (t : Time) (b : Bool) → GoesOn t.count (if b then time.raised (record t { marked = false }) else t).count
-scanned-count t true = raised-count (record t { marked = false }) (nat_lt t.count last_count && list_all (passes t.count) t.places)
-scanned-count t false = inl refl
-
-scans-count : (t : Time) (p : ℕ) (b : Bool) → GoesOn t.count (if b then time.scanned t p else t).count
-scans-count t p true = scanned-count t ((time.place_at t p).found == t.count)
-scans-count t p false = inl refl
-
-last-count : (t : Time) (p : ℕ) (b : Bool) → GoesOn t.count (if b then time.left_by t p else t).count
-last-count t p true = scans-count t p ((time.place_at t p).countdown == 0)
-last-count t p false = inl refl
-
-closed-count-if : (t : Time) (p : ℕ) (b : Bool) → nat_lt 1 (time.place_at t p).guards ≡ b → GoesOn t.count (time.closed t p).count
-closed-count-if t p true e = rw e (inl refl)
-closed-count-if t p false e = rw e (last-count t p (is_open (time.place_at t p)))
-
-closed-count : (t : Time) (p : ℕ) → GoesOn t.count (time.closed t p).count
-closed-count t p = closed-count-if t p (nat_lt 1 (time.place_at t p).guards) refl
-
--- each other participant is as before
-last-other : (t : Time) (p q : ℕ) → q ≢ p → (b : Bool) → time.place_at (if b then time.left_by t p else t) q ≡ time.place_at t q
-last-other t p q apart true =
-    let scans = (time.place_at t p).countdown == 0 in
-    let u : Time = if scans then time.scanned t p else t in
-    get_or-set_other u.places p q (record (time.place_at t p) { guards = 0; countdown = counted_down t.marked (time.place_at t p).countdown }) nobody apart
-    ∙ ap (λ (ps : List Participant). slice_index_or ps q nobody) (scans-places t p scans)
-last-other t p q apart false = refl
-
-closed-other-if : (t : Time) (p q : ℕ) → q ≢ p → (b : Bool) → nat_lt 1 (time.place_at t p).guards ≡ b → time.place_at (time.closed t p) q ≡ time.place_at t q
-closed-other-if t p q apart true e = rw e (get_or-set_other t.places p q (record (time.place_at t p) { guards = (time.place_at t p).guards - 1 }) nobody apart)
-closed-other-if t p q apart false e = rw e (last-other t p q apart (is_open (time.place_at t p)))
-
-closed-other : (t : Time) (p q : ℕ) → q ≢ p → time.place_at (time.closed t p) q ≡ time.place_at t q
-closed-other t p q apart = closed-other-if t p q apart (nat_lt 1 (time.place_at t p).guards) refl
-
 -- the last guard is closed, and so much is to be counted down
 abbrev resting : ℕ → Participant → Participant
 resting countdown x = record x { guards = 0; countdown = countdown }
@@ -211,38 +176,49 @@ inner-open : (n : ℕ) → nat_lt 1 n ≡ true → nat_lt 0 (n - 1) ≡ nat_lt 0
 inner-open n e = grind (arith, nat_tests)
 
 -- a close of the holder's own
-module _ {T : Type 0} (w : World T) (q seen : ℕ) (l : q < length w.time.places) where
-  held-if : (place_at w q).found ≡ w.time.count → (nat_lt w.time.count last_count ≡ false) ⊎ (list_all (passes w.time.count) w.time.places ≡ false) →
-      IsHeldUp w q
-  held-if found (inl e) = inl (not-below w.time.count last_count e)
-  held-if found (inr e) =
-      let there = stops w.time.count w.time.places e in
-      let who = stopped w.time.count (place_at w there.0) there.1 in
-      inr (there.0, (λ same. who.1 (ap (λ (n : ℕ). (place_at w n).found) same ∙ found)), who.0)
+module _ {T : Type 0} (w : World T) (q seen : ℕ) (live : IsPlaceOf w q) (l : q < length w.time.places) where
+  held-if : (u : Time) → Adopts q w.time u → (time.place_at u q).found ≡ u.count →
+      (nat_lt u.count last_count ≡ false) ⊎ (list_all (passes u.count) u.places ≡ false) → IsHeldUp w q
+  held-if u a found (inl e) = inl (omega (arith, not-below u.count last_count e, ap (λ (t : Time). t.count) a.only))
+  held-if u a found (inr e) =
+      let there = stops u.count u.places e in
+      let r : ℕ = there.0 in
+      let who = stopped u.count (time.place_at u r) there.1 in
+      let opened : is_open (place_at w r) ≡ true = ap (λ (n : ℕ). nat_lt 0 n) (sym (a.stays r).guards) ∙ who.0 in
+      inr (r, (λ same. who.1 (ap (λ (n : ℕ). (time.place_at u n).found) same ∙ found)), opened)
 
   abbrev Closes : Time → Type 0
   Closes u = (left u q seen ≤ left w.time q seen) ⊎ IsHeldUp w q
 
-  closes-put : (u v : Time) (y : Participant) → u ≡ with_place v q y → v.places ≡ w.time.places → left_of v.count y seen ≤ left w.time q seen → Closes u
-  closes-put u v y e same h =
-      let inside : q < length v.places = omega (arith, l, ap (λ (ps : List Participant). length ps) same) in
+  closes-put : (u v : Time) (y : Participant) → u ≡ with_place v q y → q < length v.places → left_of v.count y seen ≤ left w.time q seen → Closes u
+  closes-put u v y e inside h =
       let after : left u q seen ≡ left_of v.count y seen = ap (λ (z : Time). left z q seen) e ∙ put-left v q seen y inside in
       inl (omega (arith, after, h))
 
   closes-raised : ((place_at w q).countdown == 0) ≡ true → ((place_at w q).found == w.time.count) ≡ true → (place_at w q).found ≡ w.time.count →
-      (b : Bool) → (nat_lt w.time.count last_count && list_all (passes w.time.count) w.time.places) ≡ b → Closes (time.left_by w.time q)
-  closes-raised ended test found true e =
-      let u : Time = record w.time { marked = false; count = w.time.count + 1 } in
-      closes-put (time.left_by w.time q) u (resting 127 (place_at w q)) (rw (ended, test, e) refl) refl
-      (rests-raised w.time.count seen 127 (place_at w q) found)
-  closes-raised ended test found false e =
-      inr (held-if found (and-fails (nat_lt w.time.count last_count) (list_all (passes w.time.count) w.time.places) e))
+      (u : Time) → u ≡ time.adopted w.time q → Adopts q w.time u → (b : Bool) → (nat_lt u.count last_count && list_all (passes u.count) u.places) ≡ b →
+      Closes (time.left_by w.time q)
+  closes-raised ended test found u u_is a true e =
+      let x = time.place_at u q in
+      let v : Time = record u { marked = false; count = u.count + 1 } in
+      let s = a.stays q in
+      let count = ap (λ (t : Time). t.count) a.only in
+      let here : x.found ≡ u.count = s.found ∙ found ∙ sym count in
+      let rest = rests-raised u.count seen (counted_down w.time.marked x.countdown) x here in
+      let was : left_of u.count x seen ≡ left w.time q seen =
+      left-same u.count seen (place_at w q) x s.found s.guards s.countdown ∙ ap (λ (n : ℕ). left_of n (place_at w q) seen) count in
+      closes-put (time.left_by w.time q) v (rested w.time.marked x) (rw (ended, test, ← u_is, e) refl) (omega (arith, l, a.places)) (omega (arith, rest, was))
+  closes-raised ended test found u u_is a false e =
+      let here : (time.place_at u q).found ≡ u.count = (a.stays q).found ∙ found ∙ sym (ap (λ (t : Time). t.count) a.only) in
+      inr (held-if u a here (and-fails (nat_lt u.count last_count) (list_all (passes u.count) u.places) e))
 
   closes-ended : ((place_at w q).countdown == 0) ≡ true → (b : Bool) → ((place_at w q).found == w.time.count) ≡ b → Closes (time.left_by w.time q)
   closes-ended ended true test =
-      closes-raised ended test (grind (arith, nat_tests, test)) (nat_lt w.time.count last_count && list_all (passes w.time.count) w.time.places) refl
+      let u = time.adopted w.time q in
+      closes-raised ended test (grind (arith, nat_tests, test)) u refl (adopts w.time q live) (nat_lt u.count last_count && list_all (passes u.count) u.places)
+      refl
   closes-ended ended false test =
-      closes-put (time.left_by w.time q) w.time (resting 127 (place_at w q)) (rw (ended, test) refl) refl
+      closes-put (time.left_by w.time q) w.time (resting 127 (place_at w q)) (rw (ended, test, ended) refl) l
       (rests-elsewhere w.time.count seen 127 (place_at w q) (λ same. absurd (grind (arith, nat_tests, test, same))))
 
   closes-last : (place_at w q).countdown ≤ 127 → is_open (place_at w q) ≡ true → (b : Bool) → ((place_at w q).countdown == 0) ≡ b →
@@ -252,14 +228,14 @@ module _ {T : Type 0} (w : World T) (q seen : ℕ) (l : q < length w.time.places
       let d = (place_at w q).countdown in
       let full : (d == 128) ≡ false = differs d 128 (λ e. absurd (omega (arith, e, low))) in
       let some : d ≢ 0 = λ e. absurd (grind (arith, nat_tests, counting, e)) in
-      closes-put (time.left_by w.time q) w.time (resting (d - 1) (place_at w q)) (rw (counting, full) refl) refl
+      closes-put (time.left_by w.time q) w.time (resting (d - 1) (place_at w q)) (rw (counting, counting, full) refl) l
       (rests-counting w.time.count seen (place_at w q) o some (same-or-not (place_at w q).found w.time.count))
 
   closes-own-if : (place_at w q).countdown ≤ 127 → (a : Bool) → nat_lt 1 (place_at w q).guards ≡ a → (b : Bool) → is_open (place_at w q) ≡ b →
       Closes (time.closed w.time q)
   closes-own-if low true e b o =
       let y : Participant = record (place_at w q) { guards = (place_at w q).guards - 1 } in
-      closes-put (time.closed w.time q) w.time y (rw e refl) refl
+      closes-put (time.closed w.time q) w.time y (rw e refl) l
       (slower w.time.count seen (place_at w q) y refl (inner-open (place_at w q).guards e) (omega arith))
   closes-own-if low false e true o =
       let last : time.closed w.time q ≡ time.left_by w.time q = rw (e, o) refl in
@@ -286,12 +262,12 @@ still-open : (n : ℕ) → nat_lt 0 n ≡ true → nat_lt 0 (n + 1) ≡ nat_lt 0
 still-open n e = grind (arith, nat_tests)
 
 module _ {T : Type 0} where
-  waits-low-if : (w : World T) (q k seen : ℕ) → IsWhole w → Waits w q k seen → ((place_at w q).countdown ≡ 128) ⊎ ((place_at w q).countdown ≢ 128) →
+  waits-low-if : (w : World T) (q k seen : ℕ) → HasItems w → Waits w q k seen → ((place_at w q).countdown ≡ 128) ⊎ ((place_at w q).countdown ≢ 128) →
       (place_at w q).countdown ≤ 127
   waits-low-if w q k seen i h (inl full) = absurd (something (place_at w q).bags.waiting (having_seen seen (Item k)) h ((i.abreast q).quiet full))
   waits-low-if w q k seen i h (inr apart) = omega (arith, apart, (i.abreast q).countdown)
 
-  waits-low : (w : World T) (q k seen : ℕ) → IsWhole w → Waits w q k seen → (place_at w q).countdown ≤ 127
+  waits-low : (w : World T) (q k seen : ℕ) → HasItems w → Waits w q k seen → (place_at w q).countdown ≤ 127
   waits-low w q k seen i h = waits-low-if w q k seen i h (same-or-not (place_at w q).countdown 128)
 
   -- what waits has its value
@@ -331,7 +307,7 @@ module _ {T : Type 0} where
         let o = own.opens holds w q l (is_open (place_at w q)) refl in
         let found : (place_at end q).found ≡ w.time.count = o.found (λ b. let never : false ≡ true = sym c.closed_before ∙ b in absurd (cc)) in
         let waits = change-waits holds w q k seen l c young h in
-        let low = waits-low end q k (seen + 1) (Whole-opened holds w q l i) waits in
+        let low = waits-low end q k (seen + 1) (Items-opened holds w q l (items i)) waits in
         let after = left-open end.time.count (seen + 1) (place_at end q) (found ∙ sym o.count) (changes-open c) in
         inr (seen + 1, waits, omega (arith, low, after, young, left-another w.time.count seen (place_at w q) c.another))
 
@@ -382,10 +358,10 @@ module _ {T : Type 0} where
         Outcome w (record w { time = with_place w.time r y }) q k seen
     goes-on-place w r q k seen y l h on = goes-on w (record w { time = with_place w.time r y }) q k seen h (lowers-place w.time r q y l on)
 
-    opening-outermost : (w : World T) (q k seen : ℕ) (l : q < length w.time.places) (i : IsWhole w) (h : Waits w q k seen) → Opens holds w q k seen l i h →
+    opening-outermost : (w : World T) (q k seen : ℕ) (live : IsPlaceOf w q) (i : IsWhole w) (h : Waits w q k seen) → Opens holds w q k seen live.0 i h →
         Outcome w (opened holds w q) q k seen
-    opening-outermost w q k seen l i h (inl gone) = inl gone.1
-    opening-outermost w q k seen l i h (inr on) = inr (on.0, on.1, inl (omega (arith, on.2)))
+    opening-outermost w q k seen live i h (inl gone) = inl gone.1
+    opening-outermost w q k seen live i h (inr on) = inr (on.0, on.1, inl (omega (arith, on.2)))
 
     opening-nested : (w : World T) (q k seen : ℕ) → q < length w.time.places → is_open (place_at w q) ≡ true → Waits w q k seen →
         Nests holds w q ⊎ IsChange holds w q → Outcome w (opened holds w q) q k seen
@@ -397,17 +373,16 @@ module _ {T : Type 0} where
         ap (λ (u : World T). left u.time q seen) n.nests ∙ put-left w.time q seen (time.nested x) l in
         inr (seen, nests-waits holds w q k seen l n h, inl (omega (arith, after, lower)))
 
-    opening-own : (w : World T) (q k seen : ℕ) → q < length w.time.places → IsWhole w → Waits w q k seen → (b : Bool) → is_open (place_at w q) ≡ b →
+    opening-own : (w : World T) (q k seen : ℕ) → IsPlaceOf w q → IsWhole w → Waits w q k seen → (b : Bool) → is_open (place_at w q) ≡ b →
         Outcome w (opened holds w q) q k seen
-    opening-own w q k seen l i h true o = opening-nested w q k seen l o h (how holds w q l)
-    opening-own w q k seen l i h false o = opening-outermost w q k seen l i h (opens-lower holds w q k seen l i h o)
+    opening-own w q k seen live i h true o = opening-nested w q k seen live.0 o h (how holds w q live.0)
+    opening-own w q k seen live i h false o = opening-outermost w q k seen live i h (opens-lower holds w q k seen live.0 i h o)
 
-    opening : (w : World T) (r q k seen : ℕ) → r < length w.time.places → IsWhole w → Waits w q k seen → (r ≡ q) ⊎ (r ≢ q) →
+    opening : (w : World T) (r q k seen : ℕ) → r < length w.time.places → IsWhole w → IsPlaceOf w q → Waits w q k seen → (r ≡ q) ⊎ (r ≢ q) →
         Outcome w (opened holds w r) q k seen
-    opening w r q k seen l i h (inl e) =
-        subst (λ (n : ℕ). Outcome w (opened holds w n) q k seen) (sym e)
-        (opening-own w q k seen (waits-place w q k seen h) i h (is_open (place_at w q)) refl)
-    opening w r q k seen l i h (inr apart) =
+    opening w r q k seen l i live h (inl e) =
+        subst (λ (n : ℕ). Outcome w (opened holds w n) q k seen) (sym e) (opening-own w q k seen live i h (is_open (place_at w q)) refl)
+    opening w r q k seen l i live h (inr apart) =
         let count = (own.opens holds w r l (is_open (place_at w r)) refl).count in
         goes-on w (opened holds w r) q k seen h
         (Lowers-later w.time.count (opened holds w r).time.count (place_at w q) (place_at (opened holds w r) q) (i.abreast q).found (inl count)
@@ -418,60 +393,83 @@ module _ {T : Type 0} where
     closing-own w q k seen h (inl lower) = inr (seen, h, inl lower)
     closing-own w q k seen h (inr held) = inr (seen, h, inr (refl, held))
 
-    closing : (w : World T) (r q k seen : ℕ) → r < length w.time.places → IsWhole w → Waits w q k seen → (r ≡ q) ⊎ (r ≢ q) → Outcome w (closed w r) q k seen
-    closing w r q k seen l i h (inl e) =
-        let here = waits-place w q k seen h in
-        let waits = (persists-closed w.time q q here).waits (having_seen seen (Item k)) h in
-        subst (λ (n : ℕ). Outcome w (closed w n) q k seen) (sym e)
-        (closing-own w q k seen waits (closes-own w q seen here (waits-low w q k seen i h)))
-    closing w r q k seen l i h (inr apart) =
-        goes-on w (closed w r) q k seen h
-        (Lowers-later w.time.count (closed w r).time.count (place_at w q) (place_at (closed w r) q) (i.abreast q).found (closed-count w.time r)
-        (closed-other w.time r q (λ same. apart (sym same))))
+    not-ended : (w : World T) (q : ℕ) → IsPlaceOf w q → is_ended (phase_at w.time q) ≡ false
+    not-ended w q live = ap is_ended (live-is w.time q live)
 
-    each-call : (q k seen : ℕ) {w new : World T} → Calls holds w new → IsWhole w → Waits w q k seen → Outcome w new q k seen
-    each-call q k seen (registers w) i h =
-        goes-on w (registered w) q k seen h
-        (Lowers-same w.time.count (place_at w q) (place_at (registered w) q)
-        (get_or-append w.time.places (newcomer w.time.room ∷ []) nobody q (waits-place w q k seen h)))
-    each-call q k seen (opens w r l) i h = opening w r q k seen l i h (same-or-not r q)
-    each-call q k seen (closes w r l) i h = closing w r q k seen l i h (same-or-not r q)
-    each-call q k seen (stirs w r l) i h =
+    -- another's close: what waits with q goes on to wait with it
+    closing-other : (w : World T) (r q : ℕ) → IsPlaceOf w r → IsPlaceOf w q → IsWhole w → q ≢ r →
+        Lowers w.time.count (closed w r).time.count (place_at w q) (place_at (closed w r) q)
+    closing-other w r q l live i apart =
+        let x = place_at w q in
+        let y = place_at (closed w r) q in
+        let c = how-closed w.time r l in
+        record {
+          waits = (closed-persists w.time r q l (not-ended w q live)).waits;
+          lower = λ seen. omega (
+            arith,
+            left-same (closed w r).time.count seen x y (c.found q) (c.guards q apart) (c.countdown q apart),
+            later-if w.time.count (closed w r).time.count seen x (i.abreast q).found c.goes_on,
+          );
+        }
+
+    closing : (w : World T) (r q k seen : ℕ) → IsPlaceOf w r → IsWhole w → IsPlaceOf w q → Waits w q k seen → (r ≡ q) ⊎ (r ≢ q) →
+        Outcome w (closed w r) q k seen
+    closing w r q k seen l i live h (inl e) =
+        let waits = (closed-persists w.time q q live (not-ended w q live)).waits (having_seen seen (Item k)) h in
+        subst (λ (n : ℕ). Outcome w (closed w n) q k seen) (sym e)
+        (closing-own w q k seen waits (closes-own w q seen live live.0 (waits-low w q k seen (items i) h)))
+    closing w r q k seen l i live h (inr apart) = goes-on w (closed w r) q k seen h (closing-other w r q l live i (λ same. apart (sym same)))
+
+    registered-count : (t : Time) (p : ℕ) (b : Bool) → nat_lt p (length t.places) ≡ b → (time.registered t p).count ≡ t.count
+    registered-count t p true e = rw e refl
+    registered-count t p false e = rw e refl
+
+    each-call : (q k seen : ℕ) {w new : World T} → Calls holds w new → IsWhole w → IsPlaceOf w q → Waits w q k seen → Outcome w new q k seen
+    each-call q k seen (registers w r vacant) i live h =
+        goes-on w (registered w r) q k seen h
+        (Lowers-later w.time.count (registered w r).time.count (place_at w q) (place_at (registered w r) q) (i.abreast q).found
+        (inl (registered-count w.time r (nat_lt r (length w.time.places)) refl))
+        (registered-keeps w.time r q (live-taken w.time q live) vacant))
+    each-call q k seen (ends w r l shut) i live h = goes-on w (ended w r) q k seen h (Lowers-same w.time.count (place_at w q) (place_at w q) refl)
+    each-call q k seen (opens w r l) i live h = opening w r q k seen l.0 i live h (same-or-not r q)
+    each-call q k seen (closes w r l) i live h = closing w r q k seen l i live h (same-or-not r q)
+    each-call q k seen (stirs w r l) i live h =
         let x = place_at w r in
-        goes-on-place w r q k seen (time.with_garbage x) l h
+        goes-on-place w r q k seen (time.with_garbage x) l.0 h
         (Lowers-slower w.time.count x (time.with_garbage x) (λ y g. g) refl refl (stirred-lower x.countdown))
-    each-call q k seen (accelerates w r l) i h =
+    each-call q k seen (accelerates w r l) i live h =
         let x = place_at w r in
-        goes-on-place w r q k seen (time.accelerated x) l h (Lowers-slower w.time.count x (time.accelerated x) (λ y g. g) refl refl (omega arith))
-    each-call q k seen (makes w j value empty) i h = goes-on w (made w j value) q k seen h (Lowers-same w.time.count (place_at w q) (place_at w q) refl)
-    each-call q k seen (retires w r j l there) i h =
+        goes-on-place w r q k seen (time.accelerated x) l.0 h (Lowers-slower w.time.count x (time.accelerated x) (λ y g. g) refl refl (omega arith))
+    each-call q k seen (makes w j value empty) i live h = goes-on w (made w j value) q k seen h (Lowers-same w.time.count (place_at w q) (place_at w q) refl)
+    each-call q k seen (retires w r j l there) i live h =
         goes-on w (retired w r j) q k seen h
-        (lowers-place w.time r q (time.awaiting (Item j) (place_at w r)) l (Lowers-given w.time.count (j ∷ []) (place_at w r)))
-    each-call q k seen (nulls w c empty) i h = goes-on w (nulled w c) q k seen h (Lowers-same w.time.count (place_at w q) (place_at w q) refl)
-    each-call q k seen (closes_cell w r c l) i h =
-        let g = Gives-cell_closed w r c l in
-        let on = lowers-place w.time r q (all_awaiting g.slots (place_at w r)) l (Lowers-given w.time.count g.slots (place_at w r)) in
+        (lowers-place w.time r q (time.awaiting (Item j) (place_at w r)) l.0 (Lowers-given w.time.count (j ∷ []) (place_at w r)))
+    each-call q k seen (nulls w c empty) i live h = goes-on w (nulled w c) q k seen h (Lowers-same w.time.count (place_at w q) (place_at w q) refl)
+    each-call q k seen (closes_cell w r c l) i live h =
+        let g = Gives-cell_closed w r c l.0 in
+        let on = lowers-place w.time r q (all_awaiting g.slots (place_at w r)) l.0 (Lowers-given w.time.count g.slots (place_at w r)) in
         goes-on w (cell_closed w r c) q k seen h
         (subst (λ (t : Time). Lowers w.time.count t.count (place_at w q) (time.place_at t q)) (sym g.time) on)
 
     pub no-call-raises : (w : World T) → IsWhole w → NoCallRaises holds w
-    no-call-raises w i = λ new call q k seen h. each-call q k seen call i h
+    no-call-raises w i = λ new call q k seen live h. each-call q k seen call i live h
 
     pub left-bounded : (w : World T) (q k seen : ℕ) → IsWhole w → Waits w q k seen → left w.time q seen ≤ 385
-    left-bounded w q k seen i h = omega (arith, waits-low w q k seen i h, (left-bounds w.time.count seen (place_at w q)).1)
+    left-bounded w q k seen i h = omega (arith, waits-low w q k seen (items i) h, (left-bounds w.time.count seen (place_at w q)).1)
 
     pub goes-at-latest : (w : World T) → IsWhole w → GoesAtLatest holds w
     goes-at-latest w i =
         record { bounded = λ q k seen h. left-bounded w q k seen i h; lowered = openings-lower w i; never_raised = no-call-raises w i }
 
     Whole-called : {w new : World T} → Calls holds w new → IsWhole w → IsWhole new
-    Whole-called (registers w) i = Whole-registered w i
+    Whole-called (registers w r vacant) i = Whole-registered w r vacant i
+    Whole-called (ends w r l shut) i = Whole-ended w r l shut i
     Whole-called (opens w r l) i = Whole-opened holds w r l i
     Whole-called (closes w r l) i = Whole-closed w r l i
     Whole-called (stirs w r l) i = Whole-stirred w r l i
     Whole-called (accelerates w r l) i = Whole-accelerated w r l i
     Whole-called (makes w j value empty) i = Whole-made w j value empty.0 empty.1 i
-    Whole-called (retires w r j l there) i = Whole-retires w r j l there i
+    Whole-called (retires w r j l there) i = Whole-retires w r j (live-taken w.time r l) there i
     Whole-called (nulls w c empty) i = Whole-nulled w c i
     Whole-called (closes_cell w r c l) i = Whole-cell_closed w r c l i
 
@@ -482,11 +480,11 @@ module _ {T : Type 0} where
       waits : Waits new q k later
       lower : left new.time q later + openings ≤ left w.time q seen
 
-    wanes-opening : (w v : World T) (q k seen n : ℕ) (o : Waning w v q k seen n) (l : q < length v.time.places) → Opens holds v q k o.later l o.whole o.waits →
+    wanes-opening : (w v : World T) (q k seen n : ℕ) (o : Waning w v q k seen n) (live : IsPlaceOf v q) → Opens holds v q k o.later live.0 o.whole o.waits →
         standing_at (opened holds v q) k ≢ None → Waning w (opened holds v q) q k seen (n + 1)
-    wanes-opening w v q k seen n o l (inl gone) there = absurd (there gone.1)
-    wanes-opening w v q k seen n o l (inr on) there =
-        record { whole = Whole-opened holds v q l o.whole; later = on.0; waits = on.1; lower = omega (arith, o.lower, on.2) }
+    wanes-opening w v q k seen n o live (inl gone) there = absurd (there gone.1)
+    wanes-opening w v q k seen n o live (inr on) there =
+        record { whole = Whole-opened holds v q live o.whole; later = on.0; waits = on.1; lower = omega (arith, o.lower, on.2) }
 
     wanes-call : (w v new : World T) (q k seen n : ℕ) (o : Waning w v q k seen n) → IsWhole new → Outcome v new q k o.later →
         ¬ ((new ≡ closed v q) × IsHeldUp v q) → standing_at new k ≢ None → Waning w new q k seen n
@@ -497,13 +495,12 @@ module _ {T : Type 0} where
 
     wanes : (q k seen : ℕ) {n : ℕ} {w new : World T} → Stays holds q k n w new → IsWhole w → Waits w q k seen → Waning w new q k seen n
     wanes q k seen (starts w) i h = record { whole = i; later = seen; waits = h; lower = omega arith }
-    wanes q k seen (one_opening n w v path shut there) i h =
+    wanes q k seen (one_opening n w v path live shut there) i h =
         let o = wanes q k seen path i h in
-        let l = waits-place v q k o.later o.waits in
-        wanes-opening w v q k seen n o l (opens-lower holds v q k o.later l o.whole o.waits (not-open (is_open (place_at v q)) shut)) there
-    wanes q k seen (one_call n w v new path call free there) i h =
+        wanes-opening w v q k seen n o live (opens-lower holds v q k o.later live.0 o.whole o.waits (not-open (is_open (place_at v q)) shut)) there
+    wanes q k seen (one_call n w v new path live call free there) i h =
         let o = wanes q k seen path i h in
-        wanes-call w v new q k seen n o (Whole-called call o.whole) (each-call q k o.later call o.whole o.waits) free there
+        wanes-call w v new q k seen n o (Whole-called call o.whole) (each-call q k o.later call o.whole live o.waits) free there
 
     pub goes-in-time : (w : World T) → IsWhole w → GoesInTime holds w
     goes-in-time w i = λ q k seen h n new path.

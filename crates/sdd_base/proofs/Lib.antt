@@ -2,9 +2,13 @@ pub mod Own
 pub mod Weights
 pub mod Whole
 pub mod Opening
+pub mod Housed
+pub mod Closes
+pub mod Adopted
 pub mod Entries
 pub mod Under
 pub mod Four
 pub mod Out
 pub mod Left
 pub mod Passing
+pub mod Nesting

@@ -1,11 +1,10 @@
 -- What an opening makes of each slot and each participant
-use Rattle.std.proofs.Common.{◌≡◌, ◌≢◌, ◌⊎◌, inl, inr, ℕ, ◌+◌, ◌<◌, ◌≤◌, List, [], ◌∷◌, ◌++◌, length, cond, Bool, refl, sym, ap, ◌∙◌, arith, true, false, Some, None, nat_lt, Option, map, zero, suc, slice_index_or, slice_set, IsTrue, sum_by, count_by, subst}
-use Rattle.std.specs.Prelude.{◌==◌, is_some, IsSome, if◌then◌else◌, not, Contains}
+use Rattle.std.proofs.Common.{◌≡◌, ◌≢◌, ◌⊎◌, inl, inr, ℕ, ◌+◌, ◌<◌, ◌≤◌, List, [], ◌∷◌, length, cond, Bool, refl, sym, ap, ◌∙◌, arith, true, false, Some, None, Option, zero, suc, slice_index_or, slice_set}
+use Rattle.std.specs.Prelude.{◌==◌, not, Contains}
 use Rattle.std.proofs.lemmas.List.Elements.{Contains-append_left}
-use Rattle.std.proofs.lemmas.List.{length-set, get_or-set_same, get_or-set_other, get_or_past, set-set}
-use Rattle.std.proofs.lemmas.List.Sums.{sum_by-set}
+use Rattle.std.proofs.lemmas.List.{length-set, get_or-set_same, get_or-set_other}
 use Rattle.std.proofs.lemmas.Bool.Decides.{nat_tests}
-use Rattle.sdd_store.specs.Waiting.{What, Waiting, fresh, having_seen, aged, left, older, is_due}
+use Rattle.sdd_store.specs.Waiting.{What, Waiting, fresh}
 use Rattle.sdd_store.specs.Waiting.What.{Item, Private, Job}
 use Rattle.sdd_store.specs.Time.{Time, with_place, nobody, due_next, is_open}
 use Rattle.sdd_store.specs.Time as time
@@ -20,8 +19,9 @@ use Rattle.sdd_base.specs.Steps as steps
 use Rattle.sdd_base.specs.Holding.{Holding, owned, atomic_owned}
 use Rattle.sdd_base.specs.Own.{all_awaiting}
 use Rattle.sdd_base.specs.Whole.{is_of_slot}
-use Rattle.sdd_base.proofs.Own.{Gives-range, Gives-all_reclaimed}
-use Rattle.sdd_base.proofs.Whole.{same-or-not, count-cons, times_among}
+use Rattle.sdd_base.proofs.Own.{Gives-all_reclaimed}
+use Rattle.sdd_base.proofs.Whole.{count-cons, times_among}
+use Rattle.sdd_store.proofs.Adopting.{same-or-not}
 
 -- What is kept by the retirement of an item that is out, and by the freeing of a cell, is kept by all giving.
 module _ {T : Type 0} (p : ℕ) (P : World T → Type 0)

@@ -1,17 +1,16 @@
 -- What puts something out, and what takes it back
-use Rattle.std.proofs.Common.{◌≡◌, ◌≢◌, ◌⊎◌, inl, inr, ℕ, ◌+◌, ◌<◌, ◌≤◌, List, [], ◌∷◌, length, cond, Bool, refl, sym, ap, ◌∙◌, arith, true, false, Some, None, Option, zero, suc, slice_index_or, slice_set, count_by, subst}
-use Rattle.std.specs.Prelude.{is_some, IsSome, All, if◌then◌else◌}
+use Rattle.std.proofs.Common.{◌≡◌, ◌⊎◌, inl, inr, ℕ, ◌+◌, ◌<◌, ◌≤◌, List, [], ◌∷◌, length, cond, refl, ap, ◌∙◌, arith, false, Some, None, Option, zero, suc, slice_index_or, slice_set, count_by}
+use Rattle.std.specs.Prelude.{is_some, IsSome, All}
 use Rattle.std.proofs.lemmas.List.Elements.{All-head, All-tail}
-use Rattle.std.proofs.lemmas.List.{get_or_past}
 use Rattle.std.proofs.lemmas.List.Sums.{sum_by-set, sum_by-cons}
 use Rattle.sdd_store.specs.Waiting.{What}
 use Rattle.sdd_store.specs.Waiting.What.{Item, Private, Job}
-use Rattle.sdd_store.specs.Table.{IsEmptyAt, entry_at, without_entry}
+use Rattle.sdd_store.specs.Table.{IsEmptyAt, entry_at}
 use Rattle.sdd_store.specs.Time.{due_next}
 use Rattle.sdd_store.specs.declared.standing.Standing.{Standing}
 use Rattle.sdd_store.specs.declared.standing.Standing.TheVariants.{Owned, Raw, Shared, Retired, Private as privately}
 use Rattle.sdd_store.specs.declared.standing.Cell.{Cell}
-use Rattle.sdd_base.specs.World.{World, IsPlaceOf, place_at, standing_at, value_at}
+use Rattle.sdd_base.specs.World.{World, place_at, standing_at, value_at}
 use Rattle.sdd_base.specs.Steps.{made, retired, nulled, cell_closed, given, given_all, held_in, freed, taken_out, waiting_value, reclaimed, all_reclaimed, opened, changed, spilled}
 use Rattle.sdd_base.specs.Steps as steps
 use Rattle.sdd_base.specs.Holding.{Holding, owned, atomic_owned}
@@ -157,6 +156,7 @@ module _ {T : Type 0} where
         retiring = out-retired w;
         closing = out-cell_closed w;
         giving = out-given_all w;
+        ending = λ p. refl;
         opening = λ p l. opened-at-most holds (out w) p w (omega arith) (how holds w p l);
         opening_plain = λ plain p l. opened-same holds plain (out w) p w refl (how holds w p l);
         room = λ few full. absurd (omega (arith, few, full-taken w.standings full));

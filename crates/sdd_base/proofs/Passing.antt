@@ -1,53 +1,30 @@
 -- What an accelerated guard leaves
-use Rattle.std.proofs.Common.{◌≡◌, ◌≢◌, ◌++◌, IsTrue, subst, ◌⊎◌, inl, inr, ℕ, ◌+◌, ◌<◌, ◌≤◌, List, [], ◌∷◌, length, Bool, true, false, nat_lt, refl, sym, ap, ◌∙◌, arith, Some, None, Option}
+use Rattle.std.proofs.Common.{◌≡◌, ◌≢◌, ◌++◌, IsTrue, subst, slice_index_or, ◌⊎◌, inl, inr, ℕ, ◌+◌, ◌<◌, ◌≤◌, List, [], ◌∷◌, length, Bool, true, false, nat_lt, refl, sym, ap, ◌∙◌, arith, Some, None, Option}
 use Rattle.sdd_store.specs.Waiting.{What}
 use Rattle.sdd_store.specs.Waiting.What.{Item, Private, Job}
-use Rattle.std.specs.Prelude.{◌==◌, ◌&&◌, ◌^◌, is_some, if◌then◌else◌}
-use Rattle.std.specs.List.{list_all}
-use Rattle.sdd_store.specs.Time.{Time, due_next, newcomer, nobody, is_open, passes, last_count}
+use Rattle.std.specs.Prelude.{◌^◌, is_some}
+use Rattle.sdd_store.specs.Time.{Time, due_next, newcomer, nobody, is_open, with_place}
 use Rattle.sdd_store.specs.Time as time
-use Rattle.sdd_store.specs.declared.standing.Standing.{Standing}
-use Rattle.sdd_store.specs.declared.standing.Standing.TheVariants.{Owned, Raw, Shared, Retired, Private as privately}
-use Rattle.sdd_base.specs.World.{World, IsGuarded, IsPlaceOf, place_at, standing_at, value_at}
+use Rattle.sdd_store.specs.declared.standing.Standing.TheVariants.{Owned, Retired}
+use Rattle.sdd_base.specs.World.{World, IsGuarded, IsPlaceOf, place_at, standing_at}
 use Rattle.sdd_base.specs.Steps.{made, retired, registered, freed, taken_out, waiting_value, reclaimed, all_reclaimed, opened, closed, accelerated}
 use Rattle.sdd_base.specs.Steps as steps
 use Rattle.sdd_base.specs.Holding.{Holding}
 use Rattle.sdd_base.specs.Left.{accelerated_guard}
 use Rattle.sdd_store.specs.Table.{IsEmptyAt}
-use Rattle.sdd_base.specs.Passing.{Passes, HavePassed, ItemsPass, GuardsPass}
+use Rattle.sdd_base.specs.Passing.{HavePassed, ItemsPass, GuardsPass}
 use Rattle.sdd_base.proofs.Out.{out-laws}
 use Rattle.sdd_base.proofs.Own.{Gives-all_reclaimed}
 use Rattle.sdd_base.proofs.Opening.{how, Nests, IsChange, keeps-given_all, in_before}
-use Rattle.sdd_base.proofs.Four.{whichever, open-inside, all-closed, not-guarded, still-closed, still-place}
+use Rattle.sdd_base.proofs.Four.{whichever, open-inside, all-closed, not-guarded, still-closed, still-lives, still-place, ready-live}
+use Rattle.std.proofs.lemmas.Bool.Decides.{nat_tests}
+use Rattle.sdd_base.proofs.Housed.{each-place}
 use Rattle.std.proofs.Math.ListN.{get_or-append}
-use Rattle.sdd_base.proofs.Whole.{one_where, set-taken, same-or-not, below-or-past, append-last}
+use Rattle.sdd_base.proofs.Whole.{one_where, set-taken, below-or-past, append-last}
+use Rattle.sdd_store.proofs.Adopting.{keeps-closed, same-or-not}
 use Rattle.std.proofs.lemmas.List.{length-set, get_or-set_same, get_or-set_other}
 use Rattle.sdd_store.specs.declared.time.Participant.{Participant}
 use Rattle.sdd_store.specs.declared.tally.Tally.{Tally}
-
--- no close changes how deep guards nest
-raised-nesting : (t : Time) (b : Bool) → (if b then record t { count = t.count + 1 } else t).nesting ≡ t.nesting
-raised-nesting t true = refl
-raised-nesting t false = refl
-
-scanned-nesting : (t : Time) (b : Bool) → (if b then time.raised (record t { marked = false }) else t).nesting ≡ t.nesting
-scanned-nesting t true = raised-nesting (record t { marked = false }) (nat_lt t.count last_count && list_all (passes t.count) t.places)
-scanned-nesting t false = refl
-
-scans-nesting : (t : Time) (p : ℕ) (b : Bool) → (if b then time.scanned t p else t).nesting ≡ t.nesting
-scans-nesting t p true = scanned-nesting t ((time.place_at t p).found == t.count)
-scans-nesting t p false = refl
-
-last-nesting : (t : Time) (p : ℕ) (b : Bool) → (if b then time.left_by t p else t).nesting ≡ t.nesting
-last-nesting t p true = scans-nesting t p ((time.place_at t p).countdown == 0)
-last-nesting t p false = refl
-
-closed-nesting-if : (t : Time) (p : ℕ) (b : Bool) → nat_lt 1 (time.place_at t p).guards ≡ b → (time.closed t p).nesting ≡ t.nesting
-closed-nesting-if t p true e = rw e refl
-closed-nesting-if t p false e = rw e (last-nesting t p (is_open (time.place_at t p)))
-
-closed-nesting : (t : Time) (p : ℕ) → (time.closed t p).nesting ≡ t.nesting
-closed-nesting t p = closed-nesting-if t p (nat_lt 1 (time.place_at t p).guards) refl
 
 module _ {T : Type 0} (holds : T → List Holding) (p made in_place : ℕ) where
   -- so many items were made, and dropped in place
@@ -84,20 +61,38 @@ module _ {T : Type 0} (holds : T → List Holding) where
   guards-pass w = λ p l quiet.
       let shut = all-closed w quiet in
       let laws = out-laws holds w in
-      let m = made-opened holds p w.tally.made w.tally.in_place w (refl, refl) (how holds w p l) in
+      let m = made-opened holds p w.tally.made w.tally.in_place w (refl, refl) (how holds w p l.0) in
+      let ready = (accelerated (opened holds w p) p).time in
       record {
         quiet = not-guarded (accelerated_guard holds w p) (still-closed holds w p l shut);
         place = still-place holds w p l shut;
-        nesting = closed-nesting (accelerated (opened holds w p) p).time p ∙ nesting-opened w p l (how holds w p l);
+        live = still-lives holds w p l shut;
+        nesting = (keeps-closed ready p (ready-live holds w p l shut)).nesting ∙ nesting-opened w p l.0 (how holds w p l.0);
         as_many_made = m.0;
         as_many_in_place = m.1;
-        no_more_out = laws.opening p l;
-        as_much_out = λ plain. laws.opening_plain plain p l;
+        no_more_out = laws.opening p l.0;
+        as_much_out = λ plain. laws.opening_plain plain p l.0;
       }
 
 open-last : (x : Participant) (room : ℕ) → (x ≡ newcomer room) ⊎ (x ≡ nobody) → IsTrue (is_open x) → (b : Bool) → IsTrue b
 open-last x room (inl e) o b = let never : false ≡ true = rw e at o in absurd (cc)
 open-last x room (inr e) o b = let never : false ≡ true = rw e at o in absurd (cc)
+
+-- a newcomer has no guard open
+open-before : (t : Time) (p q : ℕ) → (b : Bool) → nat_lt p (length t.places) ≡ b → (q < length t.places) ⊎ (length t.places ≤ q) →
+    IsTrue (is_open (time.place_at (time.registered t p) q)) → IsTrue (is_open (time.place_at t q))
+open-before t p q true e where_q o =
+    let l : p < length t.places = grind (arith, nat_tests, e) in
+    let new : Time = with_place t p (newcomer t.room) in
+    let there : IsTrue (is_open (time.place_at new q)) = rw e at o in
+    each-place t p (newcomer t.room) (λ r y. IsTrue (is_open y) → IsTrue (is_open (time.place_at t r))) l (λ h. absurd (cc)) (λ r h. h) q there
+open-before t p q false e (inl l) o =
+    let there : IsTrue (is_open (slice_index_or (t.places ++ newcomer t.room ∷ []) q nobody)) = rw e at o in
+    subst (λ (z : Participant). IsTrue (is_open z)) (get_or-append t.places (newcomer t.room ∷ []) nobody q l) there
+open-before t p q false e (inr past) o =
+    let there : IsTrue (is_open (slice_index_or (t.places ++ newcomer t.room ∷ []) q nobody)) = rw e at o in
+    open-last (slice_index_or (t.places ++ newcomer t.room ∷ []) q nobody) t.room (append-last t.places (newcomer t.room) q past) there
+    (is_open (time.place_at t q))
 
 module _ {T : Type 0} where
   still-open : (w : World T) (p k q : ℕ) → p < length w.time.places → IsTrue (is_open (place_at (retired w p k) q)) → (q ≡ p) ⊎ (q ≢ p) →
@@ -116,19 +111,14 @@ module _ {T : Type 0} where
       subst (λ (z : Participant). IsTrue (is_open z)) (sym here ∙ whichever (retired w p k).time.places q x nobody inside) o in
       open-inside w.time.places q (below-or-past q (length w.time.places)) (still-open w p k q l there (same-or-not q p))
 
-  open-before : (w : World T) (q : ℕ) (x : Participant) → (q < length w.time.places) ⊎ (length w.time.places ≤ q) →
-      IsTrue (is_open (place_at (registered w) q)) → IsTrue (is_open (place_at w q))
-  open-before w q x (inl l) o = subst (λ (z : Participant). IsTrue (is_open z)) (get_or-append w.time.places (newcomer w.time.room ∷ []) nobody q l) o
-  open-before w q x (inr past) o =
-      open-last (place_at (registered w) q) w.time.room (append-last w.time.places (newcomer w.time.room) q past) o (is_open (place_at w q))
+  pub registered-guards : (w : World T) (p : ℕ) → IsGuarded (registered w p) → IsGuarded w
+  registered-guards w p (q, x, inside, here, o) =
+      let there : IsTrue (is_open (place_at (registered w p) q)) =
+      subst (λ (z : Participant). IsTrue (is_open z)) (sym here ∙ whichever (registered w p).time.places q x nobody inside) o in
+      let past = below-or-past q (length w.time.places) in
+      open-inside w.time.places q past (open-before w.time p q (nat_lt p (length w.time.places)) refl past there)
 
-  pub registered-guards : (w : World T) → IsGuarded (registered w) → IsGuarded w
-  registered-guards w (q, x, inside, here, o) =
-      let there : IsTrue (is_open (place_at (registered w) q)) =
-      subst (λ (z : Participant). IsTrue (is_open z)) (sym here ∙ whichever (registered w).time.places q x nobody inside) o in
-      open-inside w.time.places q (below-or-past q (length w.time.places)) (open-before w q x (below-or-past q (length w.time.places)) there)
-
-  item-passes : (w : World T) (p k : ℕ) (value : T) → p < length w.time.places → IsEmptyAt w.standings k → w.tally.made + 1 < 2 ^ 128 →
+  item-passes : (w : World T) (p k : ℕ) (value : T) → IsPlaceOf w p → IsEmptyAt w.standings k → w.tally.made + 1 < 2 ^ 128 →
       HavePassed 1 w (retired (made w k value) p k)
   item-passes w p k value l free room =
       let u = made w k value in
@@ -138,11 +128,12 @@ module _ {T : Type 0} where
       let none : one_where (is_some (standing_at w k)) ≡ 0 = rw free.1 refl in
       let one : one_where (is_some (standing_at u k)) ≡ 1 = rw owned refl in
       record {
-        quiet = λ q h. q (retired-guards u p k l h);
+        quiet = λ q h. q (retired-guards u p k l.0 h);
         as_much_out = omega (arith, (laws w).making k value free, (laws u).retiring p k owned);
         taken = omega (arith, set-taken w k (Some Owned) free.0, set-taken u k (Some Retired) inside, none, one);
         slots = length-set u.standings k (Some Retired) ∙ length-set w.standings k (Some Owned);
         places = length-set w.time.places p (time.awaiting (Item k) (place_at w p));
+        live = refl;
         nesting = refl;
         count = refl;
         made = omega (arith, room);
@@ -159,6 +150,7 @@ items-pass T =
         taken = omega (arith, a.taken, b.taken);
         slots = b.slots ∙ a.slots;
         places = b.places ∙ a.places;
+        live = b.live ∙ a.live;
         nesting = b.nesting ∙ a.nesting;
         count = b.count ∙ a.count;
         made = omega (arith, a.made, b.made);

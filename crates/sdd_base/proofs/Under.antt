@@ -1,35 +1,35 @@
 -- What is retired while a guard is open stays while it is
-use Rattle.std.proofs.Common.{◌≡◌, ◌≢◌, ◌⊎◌, inl, inr, ℕ, ◌+◌, ◌<◌, ◌≤◌, List, [], ◌∷◌, ◌++◌, length, Bool, refl, sym, ap, ◌∙◌, arith, true, false, Some, None, nat_lt, Option, slice_index_or, IsTrue, subst}
-use Rattle.std.specs.Prelude.{◌-◌, ◌==◌, Contains, min, if◌then◌else◌}
-use Rattle.std.proofs.Math.ListN.{get_or-append}
-use Rattle.std.proofs.lemmas.List.{get_or-set_same, get_or-set_other, get_or_past, length-set}
-use Rattle.std.proofs.lemmas.List.Elements.{Contains-append_left, Contains-push}
+use Rattle.std.proofs.Common.{◌≡◌, ◌≢◌, ◌⊎◌, inl, inr, ℕ, ◌+◌, ◌<◌, List, [], ◌∷◌, length, Bool, refl, sym, ap, ◌∙◌, arith, true, false, Some, None, IsTrue, subst}
+use Rattle.std.specs.Prelude.{◌-◌, Contains, min}
+use Rattle.std.proofs.lemmas.List.{get_or-set_same, get_or-set_other}
+use Rattle.std.proofs.lemmas.List.Elements.{Contains-push}
 use Rattle.std.proofs.lemmas.Bool.Decides.{nat_tests}
 use Rattle.sdd_store.specs.Waiting.{Waiting, fresh, having_seen}
 use Rattle.sdd_store.specs.Waiting.What.{Item}
-use Rattle.sdd_store.specs.Time.{Time, with_place, nobody, newcomer, due_next, is_open}
+use Rattle.sdd_store.specs.Time.{Time, with_place, nobody, due_next, is_open, phase_at, IsLive}
+use Rattle.sdd_store.specs.Phases.{is_ended}
 use Rattle.sdd_store.specs.Time as time
-use Rattle.sdd_store.specs.Table.{IsEmptyAt}
 use Rattle.sdd_store.specs.declared.time.Participant.{Participant}
-use Rattle.sdd_store.specs.declared.standing.Standing.{Standing}
 use Rattle.sdd_store.specs.declared.standing.Standing.TheVariants.{Owned, Retired}
 use Rattle.sdd_base.specs.World.{World, standing_at, value_at, place_at, IsPlaceOf}
-use Rattle.sdd_base.specs.Steps.{made, retired, nulled, cell_closed, opened, closed, stirred, accelerated, registered, reclaims}
-use Rattle.sdd_base.specs.Steps as steps
+use Rattle.sdd_base.specs.Steps.{made, retired, nulled, cell_closed, opened, closed, registered, ended, reclaims}
 use Rattle.sdd_base.specs.Holding.{Holding}
 use Rattle.sdd_base.specs.Own.{all_awaiting}
 use Rattle.sdd_base.specs.Whole.{IsWhole}
 use Rattle.sdd_base.specs.Left.{Waits}
 use Rattle.sdd_base.specs.Under.{more, IsUnder, CallsUnder, KeepsUnderGuards, KeepsFreshUnderGuards}
 use Rattle.sdd_base.specs.Calls.{Calls}
-use Rattle.sdd_base.specs.Calls.Calls.{registers, opens, closes, stirs, accelerates, makes, retires, nulls, closes_cell}
+use Rattle.sdd_base.specs.Calls.Calls.{registers, ends, opens, closes, stirs, accelerates, makes, retires, nulls, closes_cell}
 use Rattle.sdd_base.specs.Under.CallsUnder.{none, more_calls}
 use Rattle.sdd_base.proofs.Own.{Gives-cell_closed}
 use Rattle.sdd_base.proofs.Own as own
 use Rattle.sdd_base.proofs.Weights.{in_range}
-use Rattle.sdd_base.proofs.Whole.{same-or-not, scans-places, times_among, below-or-past, Whole-opened, Whole-closed, Whole-stirred, Whole-accelerated, Whole-made, Whole-retires, Whole-nulled, Whole-cell_closed, Whole-registered}
+use Rattle.sdd_base.proofs.Whole.{times_among}
+use Rattle.sdd_base.proofs.Housed.{Whole-opened, Whole-closed, Whole-stirred, Whole-accelerated, Whole-made, Whole-retires, Whole-nulled, Whole-cell_closed, Whole-registered, Whole-ended, IsTaken, live-taken, registered-keeps, waits-taken, guard-taken}
+use Rattle.sdd_base.proofs.Closes.{how-closed}
+use Rattle.sdd_store.proofs.Adopting.{same-or-not}
 use Rattle.sdd_base.proofs.Opening.{how, Nests, IsChange, Stands, opened-stays, opened-other, closed-stands, all_awaiting-waiting}
-use Rattle.sdd_base.proofs.Entries.{waits-place, waits-young, other-due, young-due, nests-waits, change-waits}
+use Rattle.sdd_base.proofs.Entries.{other-due, young-due, change-waits}
 
 -- the same participant, as far as its changes go
 pub record Persists (x y : Participant) : Type 0 where
@@ -51,28 +51,15 @@ pub persists-place : (t : Time) (p q : ℕ) (x : Participant) → p < length t.p
     Persists (time.place_at t q) (time.place_at (with_place t p x) q)
 persists-place t p q x l on = persists-at t p q x l on (same-or-not q p)
 
--- a close changes nobody's found count and bags
-persists-left : (t u : Time) (p q : ℕ) (guards countdown : ℕ) → u.places ≡ t.places → p < length t.places →
-    Persists (time.place_at t q) (time.place_at (with_place u p (record (time.place_at t p) { guards = guards; countdown = countdown })) q)
-persists-left t u p q guards countdown e l =
-    let x : Participant = record (time.place_at t p) { guards = guards; countdown = countdown } in
-    let on = persists-place t p q x l (record { found = refl; waits = λ w h. h }) in
-    subst (λ (ps : List Participant). Persists (time.place_at t q) (time.place_at (with_place (record u { places = ps }) p x) q)) (sym e) on
+waits-still : {A B : Type 0} {b : Bool} → A ⊎ ((b ≡ true) × B) → b ≡ false → A
+waits-still (inl h) on = h
+waits-still (inr h) on = absurd (let never : true ≡ false = sym h.0 ∙ on in cc)
 
-persists-last : (t : Time) (p q : ℕ) → p < length t.places → (b : Bool) → Persists (time.place_at t q) (time.place_at (if b then time.left_by t p else t) q)
-persists-last t p q l true =
-    let scans = (time.place_at t p).countdown == 0 in
-    persists-left t (if scans then time.scanned t p else t) p q 0 (time.counted_down t.marked (time.place_at t p).countdown) (scans-places t p scans) l
-persists-last t p q l false = record { found = refl; waits = λ w h. h }
-
-persists-closed-if : (t : Time) (p q : ℕ) → p < length t.places → (b : Bool) → nat_lt 1 (time.place_at t p).guards ≡ b →
-    Persists (time.place_at t q) (time.place_at (time.closed t p) q)
-persists-closed-if t p q l true e =
-    rw e (persists-place t p q (record (time.place_at t p) { guards = (time.place_at t p).guards - 1 }) l (record { found = refl; waits = λ w h. h }))
-persists-closed-if t p q l false e = rw e (persists-last t p q l (is_open (time.place_at t p)))
-
-pub persists-closed : (t : Time) (p q : ℕ) → p < length t.places → Persists (time.place_at t q) (time.place_at (time.closed t p) q)
-persists-closed t p q l = persists-closed-if t p q l (nat_lt 1 (time.place_at t p).guards) refl
+-- a close changes nobody's found count, and only takes away what an ended participant left
+pub closed-persists : (t : Time) (p q : ℕ) → IsLive t p → is_ended (phase_at t q) ≡ false → Persists (time.place_at t q) (time.place_at (time.closed t p) q)
+closed-persists t p q l on =
+    let c = how-closed t p l in
+    record { found = c.found q; waits = λ w h. waits-still (c.waits q w h) on }
 
 no-owner : Some Retired ≡ Some Owned → ⊥
 no-owner e = cc
@@ -202,35 +189,38 @@ module _ {T : Type 0} where
     persists-given : (ks : List ℕ) (x : Participant) → Persists x (all_awaiting ks x)
     persists-given ks x = record { found = own.all_awaiting-found ks x; waits = λ w h. all_awaiting-waiting ks x w h }
 
-    persists-registered-if : (w : World T) (q : ℕ) → (q < length w.time.places) ⊎ (length w.time.places ≤ q) → q < length w.time.places →
-        Persists (place_at w q) (place_at (registered w) q)
-    persists-registered-if w q (inl l) here =
-        Persists-same (place_at w q) (place_at (registered w) q) (get_or-append w.time.places (newcomer w.time.room ∷ []) nobody q l)
-    persists-registered-if w q (inr past) here = absurd (omega (arith, past, here))
-
-    -- who has a guard open is a participant
-    open-place : (w : World T) (p : ℕ) → IsTrue (is_open (place_at w p)) → (p < length w.time.places) ⊎ (length w.time.places ≤ p) → p < length w.time.places
-    open-place w p o (inl l) = l
-    open-place w p o (inr past) =
-        let never : IsTrue (is_open nobody) = subst (λ (x : Participant). IsTrue (is_open x)) (get_or_past w.time.places p nobody past) o in absurd (cc)
+    -- a close: the item goes on to wait with its holder, or waits anew with who adopted it
+    under-closes : (v : World T) (p k r : ℕ) → IsPlaceOf v r → IsTrue (is_open (place_at (closed v r) p)) → (u : IsUnder v p k) →
+        Waits (closed v r) u.holder k u.seen ⊎ ((is_ended (phase_at v.time u.holder) ≡ true) × Waits (closed v r) r k 0) → KeptUnder v (closed v r) p k
+    under-closes v p k r l o u (inl h) =
+        let c = how-closed v.time r l in
+        let same : more (closed v r) p u.holder ≡ more v p u.holder =
+        ap (λ (n : ℕ). min 2 (n + 1 - (place_at (closed v r) u.holder).found)) (c.found p)
+        ∙ ap (λ (n : ℕ). min 2 ((place_at v p).found + 1 - n)) (c.found u.holder) in
+        (record { guarded = o; standing = u.standing; holder = u.holder; seen = u.seen; waits = h; safe = omega (arith, u.safe, same) }, refl)
+    under-closes v p k r l o u (inr h) =
+        (record { guarded = o; standing = u.standing; holder = r; seen = 0; waits = h.1; safe = omega arith }, refl)
 
     one-call : (p k : ℕ) {v w : World T} → Calls holds v w → IsWhole v → IsUnder v p k → IsTrue (is_open (place_at w p)) → IsWhole w × KeptUnder v w p k
-    one-call p k (registers v) i u o = (
-      Whole-registered v i,
-      kept v (registered v) p k u o (record { standing = u.standing; value = refl })
-          (persists-registered-if v p (below-or-past p (length v.time.places)) (open-place v p u.guarded (below-or-past p (length v.time.places))))
-          (persists-registered-if v u.holder (below-or-past u.holder (length v.time.places)) (waits-place v u.holder k u.seen u.waits)),
+    one-call p k (registers v r vacant) i u o =
+        let same : (q : ℕ) → IsTaken v.time q → Persists (place_at v q) (place_at (registered v r) q) =
+        λ q taken. Persists-same (place_at v q) (place_at (registered v r) q) (registered-keeps v.time r q taken vacant) in (
+          Whole-registered v r vacant i,
+          kept v (registered v r) p k u o (record { standing = u.standing; value = refl }) (same p (guard-taken v p i u.guarded))
+              (same u.holder (waits-taken v u.holder k u.seen i u.waits)),
+        )
+    one-call p k (ends v r l shut) i u o = (
+      Whole-ended v r l shut i,
+      kept v (ended v r) p k u o (record { standing = u.standing; value = refl }) (record { found = refl; waits = λ w h. h })
+          (record { found = refl; waits = λ w h. h }),
     )
-    one-call p k (opens v r l) i u o = (Whole-opened holds v r l i, under-opens v p k r l i u (how holds v r l))
-    one-call p k (closes v r l) i u o = (
-      Whole-closed v r l i,
-      kept v (closed v r) p k u o (record { standing = u.standing; value = refl }) (persists-closed v.time r p l)
-          (persists-closed v.time r u.holder l),
-    )
+    one-call p k (opens v r l) i u o = (Whole-opened holds v r l i, under-opens v p k r l.0 i u (how holds v r l.0))
+    one-call p k (closes v r l) i u o =
+        (Whole-closed v r l i, under-closes v p k r l o u ((how-closed v.time r l).waits u.holder (having_seen u.seen (Item k)) u.waits))
     one-call p k (stirs v r l) i u o =
-        (Whole-stirred v r l i, under-place v p k r (time.with_garbage (place_at v r)) l u (record { found = refl; waits = λ w h. h }) o)
+        (Whole-stirred v r l i, under-place v p k r (time.with_garbage (place_at v r)) l.0 u (record { found = refl; waits = λ w h. h }) o)
     one-call p k (accelerates v r l) i u o =
-        (Whole-accelerated v r l i, under-place v p k r (time.accelerated (place_at v r)) l u (record { found = refl; waits = λ w h. h }) o)
+        (Whole-accelerated v r l i, under-place v p k r (time.accelerated (place_at v r)) l.0 u (record { found = refl; waits = λ w h. h }) o)
     one-call p k (makes v j value empty) i u o =
         let apart : k ≢ j = λ e. let never : Some Retired ≡ None = sym u.standing ∙ ap (λ (n : ℕ). standing_at v n) e ∙ empty.1 in absurd (cc) in (
           Whole-made v j value empty.0 empty.1 i,
@@ -245,10 +235,10 @@ module _ {T : Type 0} where
     one-call p k (retires v r j l there) i u o =
         let apart : k ≢ j = λ e. absurd (no-owner (sym u.standing ∙ ap (λ (n : ℕ). standing_at v n) e ∙ there)) in
         let on = persists-given (j ∷ []) (place_at v r) in (
-          Whole-retires v r j l there i,
+          Whole-retires v r j (live-taken v.time r l) there i,
           kept v (retired v r j) p k u o (record { standing = get_or-set_other v.standings j k (Some Retired) None apart ∙ u.standing; value = refl })
-              (persists-place v.time r p (time.awaiting (Item j) (place_at v r)) l on)
-              (persists-place v.time r u.holder (time.awaiting (Item j) (place_at v r)) l on),
+              (persists-place v.time r p (time.awaiting (Item j) (place_at v r)) l.0 on)
+              (persists-place v.time r u.holder (time.awaiting (Item j) (place_at v r)) l.0 on),
         )
     one-call p k (nulls v c empty) i u o = (
       Whole-nulled v c i,
@@ -256,11 +246,11 @@ module _ {T : Type 0} where
           (record { found = refl; waits = λ w h. h }),
     )
     one-call p k (closes_cell v r c l) i u o =
-        let g = Gives-cell_closed v r c l in
+        let g = Gives-cell_closed v r c l.0 in
         let on = persists-given g.slots (place_at v r) in
         let at : (q : ℕ) → Persists (place_at v q) (place_at (cell_closed v r c) q) =
         λ q. subst (λ (t : Time). Persists (place_at v q) (time.place_at t q)) (sym g.time)
-        (persists-place v.time r q (all_awaiting g.slots (place_at v r)) l on) in (
+        (persists-place v.time r q (all_awaiting g.slots (place_at v r)) l.0 on) in (
           Whole-cell_closed v r c l i,
           kept v (cell_closed v r c) p k u o (closed-stands v r c k (Some Retired) (value_at v k) no-owner (record { standing = u.standing; value = refl }))
               (at p) (at u.holder),
@@ -302,7 +292,7 @@ module _ {T : Type 0} where
 
     pub keeps-under-guards : (w : World T) → IsWhole w → KeepsUnderGuards holds w
     keeps-under-guards w i = λ p q k o l there new path.
-        let end = all-calls p k path (Whole-retires w q k l there i) (under-retired w p q k o l there) in
+        let end = all-calls p k path (Whole-retires w q k (live-taken w.time q l) there i) (under-retired w p q k o l.0 there) in
         (end.1.0.standing, end.1.1)
 
     pub keeps-fresh-under-guards : (w : World T) → IsWhole w → KeepsFreshUnderGuards holds w

@@ -4,7 +4,9 @@ use Rattle.std.proofs.lemmas.Grind.{common_steps}
 use Rattle.std.proofs.lemmas.List.{get_or_past}
 use Rattle.std.proofs.lemmas.List.Sums.{sum_by-set}
 use Rattle.sdd_store.specs.Waiting.What.{Item}
-use Rattle.sdd_store.specs.Table.{entry_at, without_entry}
+use Rattle.sdd_store.specs.Table.{Entries, entry_at, without_entry}
+use Rattle.sdd_store.specs.Phases.{is_live}
+use Rattle.sdd_store.specs.declared.phases.Phase.{Phase}
 use Rattle.sdd_store.specs.declared.standing.Standing.{Standing}
 use Rattle.sdd_store.specs.declared.standing.Standing.TheVariants.{Owned, Raw, Shared, Retired, Private as privately}
 use Rattle.sdd_base.specs.World.{World, KeepsSizes, weight, is_loose, standing_at}
@@ -15,6 +17,7 @@ use Rattle.sdd_base.specs.Holding.{Holding, owned, atomic_owned}
 pub record SameSize {T : Type 0} (old new : World T) : Type 0 where
   pub weight_same : weight new ≡ weight old
   pub places_same : length new.time.places ≡ length old.time.places
+  pub phases_same : new.time.phases ≡ old.time.phases
   pub slots_same : length new.standings ≡ length old.standings
   pub home_same : new.home ≡ old.home
   pub nesting_same : new.time.nesting ≡ old.time.nesting
@@ -26,6 +29,7 @@ SameSize-retired w p k in_range there =
     record {
       weight_same = grind (arith, common_steps);
       places_same = grind (arith, common_steps);
+      phases_same = refl;
       slots_same = grind
           (arith, common_steps);
       home_same = refl;
@@ -34,13 +38,15 @@ SameSize-retired w p k in_range there =
     }
 
 pub SameSize-refl : {T : Type 0} (w : World T) → SameSize w w
-SameSize-refl w = record { weight_same = refl; places_same = refl; slots_same = refl; home_same = refl; nesting_same = refl; room_same = refl }
+SameSize-refl w =
+    record { weight_same = refl; places_same = refl; phases_same = refl; slots_same = refl; home_same = refl; nesting_same = refl; room_same = refl }
 
 pub SameSize-trans : {T : Type 0} {u v w : World T} → SameSize u v → SameSize v w → SameSize u w
 SameSize-trans a b =
     record {
       weight_same = b.weight_same ∙ a.weight_same;
       places_same = b.places_same ∙ a.places_same;
+      phases_same = b.phases_same ∙ a.phases_same;
       slots_same = b.slots_same
           ∙ a.slots_same;
       home_same = b.home_same ∙ a.home_same;
@@ -62,7 +68,8 @@ SameSize-spilled w p l None = SameSize-refl w
 SameSize-spilled w p l (Some k) = SameSize-owner_given w p k l (standing_at w k) refl
 
 without_cell : {T : Type 0} (w : World T) (c : ℕ) → SameSize w (record w { cells = without_entry w.cells c })
-without_cell w c = record { weight_same = refl; places_same = refl; slots_same = refl; home_same = refl; nesting_same = refl; room_same = refl }
+without_cell w c =
+    record { weight_same = refl; places_same = refl; phases_same = refl; slots_same = refl; home_same = refl; nesting_same = refl; room_same = refl }
 
 pub SameSize-cell_closed : {T : Type 0} (w : World T) (p c : ℕ) → p < length w.time.places → SameSize w (cell_closed w p c)
 SameSize-cell_closed w p c l =
@@ -82,13 +89,15 @@ SameSize-given_all w p (h ∷ hs) l =
 pub record FreesOne {T : Type 0} (old new : World T) : Type 0 where
   pub weight_grows : weight new ≤ weight old + 1
   pub places_same : length new.time.places ≡ length old.time.places
+  pub phases_same : new.time.phases ≡ old.time.phases
   pub slots_same : length new.standings ≡ length old.standings
   pub home_same : new.home ≡ old.home
   pub nesting_same : new.time.nesting ≡ old.time.nesting
   pub room_same : new.time.room ≡ old.time.room
 
 pub FreesOne-refl : {T : Type 0} (w : World T) → FreesOne w w
-FreesOne-refl w = record { weight_grows = omega arith; places_same = refl; slots_same = refl; home_same = refl; nesting_same = refl; room_same = refl }
+FreesOne-refl w =
+    record { weight_grows = omega arith; places_same = refl; phases_same = refl; slots_same = refl; home_same = refl; nesting_same = refl; room_same = refl }
 
 pub freed-FreesOne : {T : Type 0} (w : World T) (k : ℕ) → k < length w.standings → FreesOne w (freed w k)
 freed-FreesOne w k l =
@@ -96,6 +105,7 @@ freed-FreesOne w k l =
     record {
       weight_grows = omega (arith, m);
       places_same = refl;
+      phases_same = refl;
       slots_same = grind
           (arith, common_steps);
       home_same = refl;
@@ -108,6 +118,7 @@ FreesOne-then a b =
     record {
       weight_grows = omega (arith, a.weight_grows, b.weight_same);
       places_same = b.places_same ∙ a.places_same;
+      phases_same = b.phases_same ∙ a.phases_same;
       slots_same = b.slots_same
           ∙ a.slots_same;
       home_same = b.home_same ∙ a.home_same;
@@ -139,8 +150,23 @@ all_reclaimed-drop holds w p ks i l =
     ap (λ xs. all_reclaimed holds w p (map Item xs)) (drop-cons ks i 0 l ∙ ap (λ n. get_or ks i 0 ∷ drop n ks) (sym (add-one i)))
 
 pub FreesOne-sizes : {T : Type 0} {old new : World T} → FreesOne old new → KeepsSizes old new
-FreesOne-sizes f = record { home = f.home_same; places = f.places_same; slots = f.slots_same; nesting = f.nesting_same; room = f.room_same }
+FreesOne-sizes f =
+    record {
+      home = f.home_same;
+      places = f.places_same;
+      live = ap (λ (xs : Entries Phase). map is_live xs) f.phases_same;
+      slots = f.slots_same;
+      nesting = f.nesting_same;
+      room = f.room_same;
+    }
 
 pub KeepsSizes-trans : {T : Type 0} {u v w : World T} → KeepsSizes u v → KeepsSizes v w → KeepsSizes u w
 KeepsSizes-trans a b =
-    record { home = b.home ∙ a.home; places = b.places ∙ a.places; slots = b.slots ∙ a.slots; nesting = b.nesting ∙ a.nesting; room = b.room ∙ a.room }
+    record {
+      home = b.home ∙ a.home;
+      places = b.places ∙ a.places;
+      live = b.live ∙ a.live;
+      slots = b.slots ∙ a.slots;
+      nesting = b.nesting ∙ a.nesting;
+      room = b.room ∙ a.room;
+    }

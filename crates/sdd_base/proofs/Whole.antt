@@ -1,17 +1,18 @@
 -- What is always true of a world is true after each step
 use Rattle.std.proofs.Common.{zero-add, subst, ◌≡◌, ◌≢◌, ◌⊎◌, inl, inr, ℕ, ◌+◌, ◌<◌, ◌≤◌, List, [], ◌∷◌, ◌++◌, length, cond, Bool, refl, sym, ap, ◌∙◌, arith, true, false, Some, None, nat_lt, Option, map, zero, suc, slice_index_or, slice_set, IsTrue, sum_by, count_by}
-use Rattle.std.specs.Prelude.{◌==◌, ◌&&◌, ◌-◌, ◌^◌, is_some, if◌then◌else◌, All, min, not}
+use Rattle.std.specs.Prelude.{◌==◌, ◌&&◌, ◌-◌, is_some, if◌then◌else◌, All, not}
 use Rattle.std.proofs.Math.ListN.{get_or-map, get_or-append}
 use Rattle.std.proofs.Math.Seq.{map-set_same}
-use Rattle.std.proofs.lemmas.List.{length-set, get_or-set_same, get_or-set_other, get_or_past, map-set, set-set}
+use Rattle.std.proofs.lemmas.List.{length-set, get_or-set_same, get_or-set_other, map-set, set-set}
 use Rattle.std.proofs.lemmas.List.Sums.{sum_by-set, sum_by-append, sum_by-cons}
 use Rattle.std.proofs.lemmas.List.Elements.{All-push, All-nil, All-weaker, filter_passes}
 use Rattle.std.specs.List.{list_all}
 use Rattle.std.proofs.lemmas.Bool.Decides.{nat_tests}
-use Rattle.sdd_store.specs.Waiting.{What, Waiting, fresh, aged, left, due, older, is_due}
+use Rattle.sdd_store.proofs.Adopting.{IsAdditive, Adopts, Stays, adopts, scans-if, scans-there, same-or-not}
+use Rattle.sdd_store.specs.Waiting.{What, Waiting, anew, fresh, aged, left, due, older, is_due}
 use Rattle.sdd_store.specs.Waiting.What.{Item, Private, Job}
 use Rattle.sdd_store.specs.Bags.{Bags}
-use Rattle.sdd_store.specs.Time.{Time, with_place, nobody, newcomer, due_next, is_open, passes, last_count, stirred, counted_down, pace_of}
+use Rattle.sdd_store.specs.Time.{Time, with_place, nobody, newcomer, due_next, is_open, passes, last_count, stirred, counted_down, pace_of, rested, IsLive}
 use Rattle.sdd_store.specs.Time as time
 use Rattle.sdd_store.specs.Table.{entry_at, without_entry}
 use Rattle.sdd_store.specs.Tally.{one_made, one_reclaimed}
@@ -25,20 +26,10 @@ use Rattle.sdd_base.specs.World.{World, standing_at, value_at, place_at}
 use Rattle.sdd_base.specs.Steps.{made, retired, spilled, cell_closed, held_in, owner_given, given, given_all, freed, taken_out, waiting_value, slot_reclaimed, reclaimed, all_reclaimed, changed}
 use Rattle.sdd_base.specs.Steps as steps
 use Rattle.sdd_base.specs.Holding.{Holding, owned, atomic_owned}
-use Rattle.sdd_base.specs.Whole.{is_of_slot, times_with, once_if, times_waiting, taken, IsAbreast, IsCounted, IsWhole}
+use Rattle.sdd_base.specs.Whole.{is_of_slot, times_with, once_if, times_waiting, taken, IsAbreast, IsCounted}
 use Rattle.sdd_base.specs.Own.{all_awaiting}
 use Rattle.sdd_base.proofs.Own.{Gives-range, Gives-given, Gives-reclaimed, Gives-all_reclaimed, changes}
 use Rattle.sdd_base.proofs.Weights.{in_range}
-
-same-or-not-suc : (j k : ℕ) → (j ≡ k) ⊎ (j ≢ k) → (suc j ≡ suc k) ⊎ (suc j ≢ suc k)
-same-or-not-suc j k (inl e) = inl (ap suc e)
-same-or-not-suc j k (inr h) = inr (λ e. h (omega (arith, e)))
-
-pub same-or-not : (j k : ℕ) → (j ≡ k) ⊎ (j ≢ k)
-same-or-not zero zero = inl refl
-same-or-not zero (suc k) = inr (λ e. absurd (omega (arith, e)))
-same-or-not (suc j) zero = inr (λ e. absurd (omega (arith, e)))
-same-or-not (suc j) (suc k) = same-or-not-suc j k (same-or-not j k)
 
 abbrev pub one_where : Bool → ℕ
 one_where b = cond b 1 0
@@ -52,6 +43,13 @@ times_among k xs = count_by (is_of_slot k) xs
 
 abbrev pub times_listed : ℕ → List Waiting → ℕ
 times_listed k ws = count_by (λ (w : Waiting). is_of_slot k w.what) ws
+
+-- what is always true of a world, but for the phases of its places
+pub record HasItems {T : Type 0} (w : World T) : Type 0 where
+  pub filled : map is_some w.values ≡ map is_some w.standings
+  pub once : (k : ℕ) → times_waiting w k ≡ once_if (is_waiting (standing_at w k))
+  pub abreast : (p : ℕ) → IsAbreast w.time.count (place_at w p)
+  pub counted : IsCounted w.tally (taken w)
 
 -- so much waits, and these are to be reclaimed yet
 pub record IsWholeBut {T : Type 0} (xs : List What) (w : World T) : Type 0 where
@@ -222,18 +220,49 @@ counted-quiet marked d h false e false f is =
     let less : d - 1 ≡ 128 = rw (e, f) at is in
     omega (arith, less)
 
--- a scan changes no place
-raised-places : (t : Time) (b : Bool) → (if b then record t { count = t.count + 1 } else t).places ≡ t.places
-raised-places t true = refl
-raised-places t false = refl
+-- an adoption moves each item that waits, and loses none
+anew-times : (k : ℕ) (ws : List Waiting) → times_listed k (map anew ws) ≡ times_listed k ws
+anew-times k [] = refl
+anew-times k (w ∷ ws) =
+    let one = count-cons (λ (w : Waiting). is_of_slot k w.what) w ws in
+    let other = count-cons (λ (w : Waiting). is_of_slot k w.what) (anew w) (map anew ws) in
+    omega (arith, one, other, anew-times k ws)
 
-scanned-if : (t : Time) (b : Bool) → (if b then time.raised (record t { marked = false }) else t).places ≡ t.places
-scanned-if t true = raised-places (record t { marked = false }) (nat_lt t.count last_count && list_all (passes t.count) t.places)
-scanned-if t false = refl
+times-additive : (k : ℕ) → IsAdditive (times_listed k)
+times-additive k =
+    record {
+      none = refl;
+      both = λ xs ys. sum_by-append (λ (w : Waiting). cond (is_of_slot k w.what) 1 0) xs (map anew ys)
+          ∙ ap (λ n. times_listed k xs + n) (anew-times k ys);
+    }
 
-pub scans-places : (t : Time) (p : ℕ) (b : Bool) → (if b then time.scanned t p else t).places ≡ t.places
-scans-places t p true = scanned-if t ((time.place_at t p).found == t.count)
-scans-places t p false = refl
+-- who counts down at 0 adopts, and everyone keeps up with the count
+quiet-other : (x y : Participant) → Stays x y → (x.countdown ≡ 128 → x.bags.waiting ≡ []) →
+    (y.bags.waiting ≡ x.bags.waiting) ⊎ (y.bags.waiting ≡ []) → y.countdown ≡ 128 → y.bags.waiting ≡ []
+quiet-other x y s quiet (inl e) h = e ∙ quiet (sym s.countdown ∙ h)
+quiet-other x y s quiet (inr e) h = e
+
+quiet-each : (t u : Time) (p : ℕ) → Adopts p t u → (time.place_at t p).countdown ≡ 0 →
+    ((r : ℕ) → (time.place_at t r).countdown ≡ 128 → (time.place_at t r).bags.waiting ≡ []) → (r : ℕ) → (r ≡ p) ⊎ (r ≢ p) →
+    (time.place_at u r).countdown ≡ 128 → (time.place_at u r).bags.waiting ≡ []
+quiet-each t u p a none quiet r (inl e) h =
+    let same = (a.stays p).countdown in
+    let here : (time.place_at u p).countdown ≡ 128 = subst (λ (n : ℕ). (time.place_at u n).countdown ≡ 128) e h in
+    absurd (omega (arith, same, here, none))
+quiet-each t u p a none quiet r (inr apart) h = quiet-other (time.place_at t r) (time.place_at u r) (a.stays r) (quiet r) (a.others r apart) h
+
+abreast-adopted : (t u : Time) (p count : ℕ) → Adopts p t u → (time.place_at t p).countdown ≡ 0 → ((r : ℕ) → IsAbreast count (time.place_at t r)) →
+    (r : ℕ) → IsAbreast count (time.place_at u r)
+abreast-adopted t u p count a none all r =
+    let s = a.stays r in
+    let i = all r in
+    record {
+      found = omega (arith, i.found, s.found);
+      near = λ o. omega (arith, i.near (subst (λ (n : ℕ). IsTrue (nat_lt 0 n)) s.guards o), s.found);
+      young = a.young (λ q. (all q).young) r;
+      countdown = omega (arith, i.countdown, s.countdown);
+      quiet = quiet-each t u p a none (λ q. (all q).quiet) r (same-or-not r p);
+    }
 
 below-or-past-suc : (p n : ℕ) → (p < n) ⊎ (n ≤ p) → (suc p < suc n) ⊎ (suc n ≤ suc p)
 below-or-past-suc p n (inl l) = inl (omega (arith, l))
@@ -282,10 +311,10 @@ module _ {T : Type 0} where
       count_by is_some (slice_set w.standings k s) + cond (is_some (standing_at w k)) 1 0 ≡ taken w + cond (is_some s) 1 0
   set-taken w k s l = sum_by-set (λ (s : Option Standing). cond (is_some s) 1 0) w.standings k s None l
 
-  pub whole-but-nothing : (w : World T) → IsWhole w → IsWholeBut [] w
+  pub whole-but-nothing : (w : World T) → HasItems w → IsWholeBut [] w
   whole-but-nothing w i = record { filled = i.filled; once = λ k. omega (arith, i.once k); abreast = i.abreast; counted = i.counted }
 
-  pub whole-of : (w : World T) → IsWholeBut [] w → IsWhole w
+  pub whole-of : (w : World T) → IsWholeBut [] w → HasItems w
   whole-of w i = record { filled = i.filled; once = λ k. omega (arith, i.once k); abreast = i.abreast; counted = i.counted }
 
   -- an item that is out begins to wait
@@ -412,8 +441,8 @@ module _ {T : Type 0} where
 
   -- only a place changed, and nothing that waits there
   Whole-place : (w : World T) (p : ℕ) (x : Participant) → p < length w.time.places → x.bags.waiting ≡ (place_at w p).bags.waiting →
-      IsAbreast w.time.count x → IsWhole w →
-      IsWhole (record w { time = with_place w.time p x })
+      IsAbreast w.time.count x → HasItems w →
+      HasItems (record w { time = with_place w.time p x })
   Whole-place w p x l e a i =
       record {
         filled = i.filled;
@@ -424,7 +453,7 @@ module _ {T : Type 0} where
 
   -- one more guard or none, and then a rotation
   Whole-rotated : (w : World T) (p : ℕ) (x : Participant) → p < length w.time.places → x.bags ≡ (place_at w p).bags →
-      x.countdown ≡ (place_at w p).countdown → IsWhole w →
+      x.countdown ≡ (place_at w p).countdown → HasItems w →
       IsWholeBut (due_next x) (record w { time = with_place w.time p (time.rotated w.time.count x) })
   Whole-rotated w p x l bags pace i =
       let a = i.abreast p in
@@ -440,15 +469,15 @@ module _ {T : Type 0} where
       }
 
   Whole-settles : (holds : T → List Holding) (start : World T) (p : ℕ) (xs : List What) → p < length start.time.places → IsWholeBut xs start →
-      IsWhole (steps.settled (all_reclaimed holds start p xs) p)
+      HasItems (steps.settled (all_reclaimed holds start p xs) p)
   Whole-settles holds start p xs l i =
       let end = all_reclaimed holds start p xs in
       let there = whole-of end (Whole-all_reclaimed holds start p xs l i) in
       Whole-place end p (time.settled (place_at end p)) (Gives-range l (Gives-all_reclaimed holds start p xs l)) refl
       (abreast-settled end.time.count (place_at end p) (there.abreast p)) there
 
-  pub Whole-changed : (holds : T → List Holding) (w : World T) (p : ℕ) → p < length w.time.places → IsWhole w → IsWhole (changed holds w p)
-  Whole-changed holds w p l i =
+  pub Items-changed : (holds : T → List Holding) (w : World T) (p : ℕ) → p < length w.time.places → HasItems w → HasItems (changed holds w p)
+  Items-changed holds w p l i =
       let in_start : p < length (steps.rotated w p).time.places = omega (arith, l, length-set w.time.places p (time.rotated w.time.count (place_at w p))) in
       Whole-settles holds (steps.rotated w p) p (due_next (place_at w p)) in_start (Whole-rotated w p (place_at w p) l refl refl i)
 
@@ -461,9 +490,9 @@ module _ {T : Type 0} where
       ∙ ap (λ (ps : List Participant). record w { time = record w.time { places = ps } })
       (set-set w.time.places p (time.nested (place_at w p)) (time.rotated w.time.count (time.nested (place_at w p))))
 
-  pub Whole-changes_nested : (holds : T → List Holding) (w : World T) (p : ℕ) → p < length w.time.places → IsWhole w →
-      IsWhole (changed holds (steps.nested w p) p)
-  Whole-changes_nested holds w p l i =
+  pub Items-changes_nested : (holds : T → List Holding) (w : World T) (p : ℕ) → p < length w.time.places → HasItems w →
+      HasItems (changed holds (steps.nested w p) p)
+  Items-changes_nested holds w p l i =
       let y : Participant = time.nested (place_at w p) in
       let here : place_at (steps.nested w p) p ≡ y = get_or-set_same w.time.places p y nobody l in
       let start = steps.rotated (steps.nested w p) p in
@@ -473,69 +502,69 @@ module _ {T : Type 0} where
       Whole-settles holds start p (due_next (place_at (steps.nested w p) p)) in_start
       (subst (λ (z : Participant). IsWholeBut (due_next z) start) (sym here) from)
 
-  pub Whole-nested : (w : World T) (p : ℕ) → p < length w.time.places → w.time.count ≤ (place_at w p).found + 1 → IsWhole w → IsWhole (steps.nested w p)
-  Whole-nested w p l near i =
+  pub Items-nested : (w : World T) (p : ℕ) → p < length w.time.places → w.time.count ≤ (place_at w p).found + 1 → HasItems w → HasItems (steps.nested w p)
+  Items-nested w p l near i =
       let a = i.abreast p in
       Whole-place w p (time.nested (place_at w p)) l refl
       (record { found = a.found; near = λ _. near; young = a.young; countdown = a.countdown; quiet = a.quiet }) i
 
-  Whole-caught_up_if : (holds : T → List Holding) (w : World T) (p : ℕ) → p < length w.time.places → IsWhole w → (b : Bool) →
+  Whole-caught_up_if : (holds : T → List Holding) (w : World T) (p : ℕ) → p < length w.time.places → HasItems w → (b : Bool) →
       ((place_at w p).found == w.time.count) ≡ b →
-      time.finds_another (steps.nested w p).time p ≡ not b → IsWhole (steps.caught_up holds (steps.nested w p) p)
+      time.finds_another (steps.nested w p).time p ≡ not b → HasItems (steps.caught_up holds (steps.nested w p) p)
   Whole-caught_up_if holds w p l i true e test =
       let same : (place_at w p).found ≡ w.time.count = grind (arith, nat_tests, e) in
-      rw test (Whole-nested w p l (omega (arith, same)) i)
-  Whole-caught_up_if holds w p l i false e test = rw test (Whole-changes_nested holds w p l i)
+      rw test (Items-nested w p l (omega (arith, same)) i)
+  Whole-caught_up_if holds w p l i false e test = rw test (Items-changes_nested holds w p l i)
 
-  Whole-caught_up : (holds : T → List Holding) (w : World T) (p : ℕ) → p < length w.time.places → IsWhole w → (b : Bool) →
+  Whole-caught_up : (holds : T → List Holding) (w : World T) (p : ℕ) → p < length w.time.places → HasItems w → (b : Bool) →
       ((place_at w p).found == w.time.count) ≡ b →
-      IsWhole (steps.caught_up holds (steps.nested w p) p)
+      HasItems (steps.caught_up holds (steps.nested w p) p)
   Whole-caught_up holds w p l i b e =
       let here : place_at (steps.nested w p) p ≡ time.nested (place_at w p) = get_or-set_same w.time.places p (time.nested (place_at w p)) nobody l in
       let test : time.finds_another (steps.nested w p).time p ≡ not b = ap (λ (x : Participant). not (x.found == w.time.count)) here ∙ ap not e in
       Whole-caught_up_if holds w p l i b e test
 
-  Whole-opened_if : (holds : T → List Holding) (w : World T) (p : ℕ) → p < length w.time.places → IsWhole w → (b : Bool) → is_open (place_at w p) ≡ b →
-      IsWhole (steps.opened holds w p)
-  Whole-opened_if holds w p l i true e = rw e (Whole-nested w p l ((i.abreast p).near e) i)
+  Whole-opened_if : (holds : T → List Holding) (w : World T) (p : ℕ) → p < length w.time.places → HasItems w → (b : Bool) → is_open (place_at w p) ≡ b →
+      HasItems (steps.opened holds w p)
+  Whole-opened_if holds w p l i true e = rw e (Items-nested w p l ((i.abreast p).near e) i)
   Whole-opened_if holds w p l i false e = rw e (Whole-caught_up holds w p l i ((place_at w p).found == w.time.count) refl)
 
-  pub Whole-opened : (holds : T → List Holding) (w : World T) (p : ℕ) → p < length w.time.places → IsWhole w → IsWhole (steps.opened holds w p)
-  Whole-opened holds w p l i = Whole-opened_if holds w p l i (is_open (place_at w p)) refl
+  pub Items-opened : (holds : T → List Holding) (w : World T) (p : ℕ) → p < length w.time.places → HasItems w → HasItems (steps.opened holds w p)
+  Items-opened holds w p l i = Whole-opened_if holds w p l i (is_open (place_at w p)) refl
 
-  pub Whole-cell_closed : (w : World T) (p c : ℕ) → p < length w.time.places → IsWhole w → IsWhole (cell_closed w p c)
-  Whole-cell_closed w p c l i = whole-of (cell_closed w p c) (Whole-cell_closed-but w p c [] l (whole-but-nothing w i))
+  pub Items-cell_closed : (w : World T) (p c : ℕ) → p < length w.time.places → HasItems w → HasItems (cell_closed w p c)
+  Items-cell_closed w p c l i = whole-of (cell_closed w p c) (Whole-cell_closed-but w p c [] l (whole-but-nothing w i))
 
-  pub Whole-retires : (w : World T) (p k : ℕ) → p < length w.time.places → standing_at w k ≡ Some Owned → IsWhole w → IsWhole (retired w p k)
-  Whole-retires w p k l there i = whole-of (retired w p k) (Whole-retired w p k [] l there (whole-but-nothing w i))
+  pub Items-retires : (w : World T) (p k : ℕ) → p < length w.time.places → standing_at w k ≡ Some Owned → HasItems w → HasItems (retired w p k)
+  Items-retires w p k l there i = whole-of (retired w p k) (Whole-retired w p k [] l there (whole-but-nothing w i))
 
-  pub Whole-nulled : (w : World T) (c : ℕ) → IsWhole w → IsWhole (steps.nulled w c)
-  Whole-nulled w c i = record { filled = i.filled; once = i.once; abreast = i.abreast; counted = i.counted }
+  pub Items-nulled : (w : World T) (c : ℕ) → HasItems w → HasItems (steps.nulled w c)
+  Items-nulled w c i = record { filled = i.filled; once = i.once; abreast = i.abreast; counted = i.counted }
 
-  pub Whole-stirred : (w : World T) (p : ℕ) → p < length w.time.places → IsWhole w → IsWhole (steps.stirred w p)
-  Whole-stirred w p l i =
+  pub Items-stirred : (w : World T) (p : ℕ) → p < length w.time.places → HasItems w → HasItems (steps.stirred w p)
+  Items-stirred w p l i =
       let a = i.abreast p in
       let low : stirred (place_at w p).countdown ≤ 127 = stirred-bound (place_at w p).countdown a.countdown ((place_at w p).countdown == 128) refl in
       Whole-place w p (time.with_garbage (place_at w p)) l refl
       (record { found = a.found; near = a.near; young = a.young; countdown = omega arith; quiet = λ e. absurd (omega (arith, e, low)) }) i
 
-  pub Whole-accelerated : (w : World T) (p : ℕ) → p < length w.time.places → IsWhole w → IsWhole (steps.accelerated w p)
-  Whole-accelerated w p l i =
+  pub Items-accelerated : (w : World T) (p : ℕ) → p < length w.time.places → HasItems w → HasItems (steps.accelerated w p)
+  Items-accelerated w p l i =
       let a = i.abreast p in
       Whole-place w p (time.accelerated (place_at w p)) l refl
       (record { found = a.found; near = a.near; young = a.young; countdown = omega arith; quiet = λ e. absurd (omega (arith, e)) }) i
 
   -- a change, after which p has its pace again
-  pub Whole-paced : (w : World T) (p : ℕ) (pace : Pace) → p < length w.time.places → IsAbreast w.time.count (time.paced pace (place_at w p)) → IsWhole w →
-      IsWhole (record w { time = time.paced_at w.time p pace })
-  Whole-paced w p pace l a i = Whole-place w p (time.paced pace (place_at w p)) l refl a i
+  pub Items-paced : (w : World T) (p : ℕ) (pace : Pace) → p < length w.time.places → IsAbreast w.time.count (time.paced pace (place_at w p)) → HasItems w →
+      HasItems (record w { time = time.paced_at w.time p pace })
+  Items-paced w p pace l a i = Whole-place w p (time.paced pace (place_at w p)) l refl a i
 
-  pub abreast-paced : (holds : T → List Holding) (w : World T) (p : ℕ) → p < length w.time.places → IsWhole w →
+  pub abreast-paced : (holds : T → List Holding) (w : World T) (p : ℕ) → p < length w.time.places → HasItems w →
       IsAbreast (changed holds w p).time.count (time.paced (pace_of (place_at w p)) (place_at (changed holds w p) p))
   abreast-paced holds w p l i =
       let a = i.abreast p in
       let c = changes holds w p l in
-      let after = Whole-changed holds w p l i in
+      let after = Items-changed holds w p l i in
       let guards : (place_at (changed holds w p) p).guards ≡ (place_at w p).guards =
       ap (λ (x : Participant). x.guards) c.own ∙ all_awaiting-guards c.slots (time.rotated w.time.count (place_at w p)) in
       record {
@@ -550,14 +579,14 @@ module _ {T : Type 0} where
       }
 
   -- a value is put into a free slot
-  made-once : (w : World T) (k j : ℕ) (v : T) → standing_at w k ≡ None → IsWhole w →
+  made-once : (w : World T) (k j : ℕ) (v : T) → standing_at w k ≡ None → HasItems w →
       ((j ≡ k) × (standing_at (made w k v) j ≡ Some Owned)) ⊎ ((j ≢ k) × (standing_at (made w k v) j ≡ standing_at w j)) →
       times_waiting w j ≡ once_if (is_waiting (standing_at (made w k v) j))
   made-once w k j v free i (inl (e, s)) = rw s (i.once j ∙ rw (e, free) refl)
   made-once w k j v free i (inr (apart, s)) = rw s (i.once j)
 
-  pub Whole-made : (w : World T) (k : ℕ) (v : T) → k < length w.standings → standing_at w k ≡ None → IsWhole w → IsWhole (made w k v)
-  Whole-made w k v l free i =
+  pub Items-made : (w : World T) (k : ℕ) (v : T) → k < length w.standings → standing_at w k ≡ None → HasItems w → HasItems (made w k v)
+  Items-made w k v l free i =
       let none : one_where (is_some (standing_at w k)) ≡ 0 = rw free refl in
       let one : taken (made w k v) ≡ taken w + 1 = omega (arith, set-taken w k (Some Owned) l, none) in
       record {
@@ -568,8 +597,8 @@ module _ {T : Type 0} where
       }
 
   -- a guard is closed
-  Whole-inner : (w : World T) (p : ℕ) → p < length w.time.places → nat_lt 1 (place_at w p).guards ≡ true → IsWhole w →
-      IsWhole (record w { time = with_place w.time p (record (place_at w p) { guards = (place_at w p).guards - 1 }) })
+  Whole-inner : (w : World T) (p : ℕ) → p < length w.time.places → nat_lt 1 (place_at w p).guards ≡ true → HasItems w →
+      HasItems (record w { time = with_place w.time p (record (place_at w p) { guards = (place_at w p).guards - 1 }) })
   Whole-inner w p l e i =
       let a = i.abreast p in
       let two : 1 < (place_at w p).guards = grind (arith, nat_tests, e) in
@@ -578,8 +607,8 @@ module _ {T : Type 0} where
       (record { found = a.found; near = λ _. a.near opened; young = a.young; countdown = a.countdown; quiet = a.quiet }) i
 
   -- the count goes on by one: who has a guard open has found the one before
-  Whole-raised : (w : World T) → ((p : ℕ) → passes w.time.count (place_at w p) ≡ true) → IsWhole w →
-      IsWhole (record w { time = record w.time { count = w.time.count + 1 } })
+  Whole-raised : (w : World T) → ((p : ℕ) → passes w.time.count (place_at w p) ≡ true) → HasItems w →
+      HasItems (record w { time = record w.time { count = w.time.count + 1 } })
   Whole-raised w all i =
       record {
         filled = i.filled;
@@ -595,78 +624,100 @@ module _ {T : Type 0} where
         counted = i.counted;
       }
 
-  Whole-raised_if : (w : World T) (b : Bool) → (nat_lt w.time.count last_count && list_all (passes w.time.count) w.time.places) ≡ b → IsWhole w →
-      IsWhole (record w { time = if b then record w.time { count = w.time.count + 1 } else w.time })
+  Whole-raised_if : (w : World T) (b : Bool) → (nat_lt w.time.count last_count && list_all (passes w.time.count) w.time.places) ≡ b → HasItems w →
+      HasItems (record w { time = if b then record w.time { count = w.time.count + 1 } else w.time })
   Whole-raised_if w true e i =
       Whole-raised w (λ p. all-pass w.time.count w.time.places p
       (and-right (nat_lt w.time.count last_count) (list_all (passes w.time.count) w.time.places) e)) i
   Whole-raised_if w false e i = i
 
-  Whole-unmarked : (w : World T) → IsWhole w → IsWhole (record w { time = record w.time { marked = false } })
+  Whole-unmarked : (w : World T) → HasItems w → HasItems (record w { time = record w.time { marked = false } })
   Whole-unmarked w i = record { filled = i.filled; once = i.once; abreast = i.abreast; counted = i.counted }
 
-  Whole-scanned_if : (w : World T) (b : Bool) → IsWhole w → IsWhole (record w { time = if b then time.raised (record w.time { marked = false }) else w.time })
-  Whole-scanned_if w true i =
-      Whole-raised_if (record w { time = record w.time { marked = false } })
-      (nat_lt w.time.count last_count && list_all (passes w.time.count) w.time.places) refl (Whole-unmarked w i)
-  Whole-scanned_if w false i = i
+  Whole-adopted : (w : World T) (p : ℕ) → IsLive w.time p → (place_at w p).countdown ≡ 0 → HasItems w → HasItems (record w { time = time.adopted w.time p })
+  Whole-adopted w p l none i =
+      let u = time.adopted w.time p in
+      let a = adopts w.time p l in
+      let count : w.time.count ≡ u.count = sym (ap (λ (t : Time). t.count) a.only) in
+      record {
+        filled = i.filled;
+        once = λ k. a.totals (times_listed k) (times-additive k) ∙ i.once k;
+        abreast = λ r. subst (λ (n : ℕ). IsAbreast n (time.place_at u r)) count (abreast-adopted w.time u p w.time.count a none i.abreast r);
+        counted = i.counted;
+      }
 
-  Whole-scans_if : (w : World T) (p : ℕ) (b : Bool) → IsWhole w → IsWhole (record w { time = if b then time.scanned w.time p else w.time })
-  Whole-scans_if w p true i = Whole-scanned_if w ((place_at w p).found == w.time.count) i
-  Whole-scans_if w p false i = i
+  Whole-scanned_if : (w : World T) (p : ℕ) → IsLive w.time p → (place_at w p).countdown ≡ 0 → (b : Bool) → HasItems w →
+      HasItems (record w { time = if b then time.raised (record (time.adopted w.time p) { marked = false }) else w.time })
+  Whole-scanned_if w p l none true i =
+      let u = time.adopted w.time p in
+      Whole-raised_if (record w { time = record u { marked = false } }) (nat_lt u.count last_count && list_all (passes u.count) u.places) refl
+      (Whole-unmarked (record w { time = u }) (Whole-adopted w p l none i))
+  Whole-scanned_if w p l none false i = i
 
-  Whole-left : (w : World T) (p : ℕ) (t : Time) (marked : Bool) → t.places ≡ w.time.places → p < length w.time.places → IsWhole (record w { time = t }) →
-      IsWhole (record w { time = with_place t p (record (place_at w p) { guards = 0; countdown = counted_down marked (place_at w p).countdown }) })
-  Whole-left w p t marked e l i =
-      let u : World T = record w { time = t } in
-      let here : place_at u p ≡ place_at w p = ap (λ (ps : List Participant). slice_index_or ps p nobody) e in
-      let a : IsAbreast t.count (place_at w p) = subst (λ (x : Participant). IsAbreast t.count x) here (i.abreast p) in
-      let inside : p < length t.places = omega (arith, l, ap (λ (ps : List Participant). length ps) e) in
-      Whole-place u p (record (place_at w p) { guards = 0; countdown = counted_down marked (place_at w p).countdown }) inside
-      (ap (λ (x : Participant). x.bags.waiting) (sym here))
+  Whole-scans_if : (w : World T) (p : ℕ) → IsLive w.time p → (b : Bool) → ((place_at w p).countdown == 0) ≡ b → HasItems w →
+      HasItems (record w { time = if b then time.scanned w.time p else w.time })
+  Whole-scans_if w p l true e i = Whole-scanned_if w p l (grind (arith, nat_tests, e)) ((place_at w p).found == w.time.count) i
+  Whole-scans_if w p l false e i = i
+
+  Whole-left : (w : World T) (p : ℕ) (marked : Bool) → p < length w.time.places → HasItems w →
+      HasItems (record w { time = with_place w.time p (rested marked (place_at w p)) })
+  Whole-left w p marked l i =
+      let a = i.abreast p in
+      let d = (place_at w p).countdown in
+      Whole-place w p (rested marked (place_at w p)) l refl
       (record {
         found = a.found;
         near = λ o. absurd (cc);
         young = a.young;
-        countdown = counted-bound marked (place_at w p).countdown a.countdown ((place_at w p).countdown == 0) refl ((place_at w p).countdown == 128) refl;
-        quiet =
-            λ e. a.quiet (counted-quiet marked (place_at w p).countdown a.countdown ((place_at w p).countdown == 0) refl
-            ((place_at w p).countdown == 128) refl e);
+        countdown = counted-bound marked d a.countdown (d == 0) refl (d == 128) refl;
+        quiet = λ e. a.quiet (counted-quiet marked d a.countdown (d == 0) refl (d == 128) refl e);
       })
       i
 
-  Whole-last : (w : World T) (p : ℕ) → p < length w.time.places → IsWhole w → (b : Bool) →
-      IsWhole (record w { time = if b then time.left_by w.time p else w.time })
+  Whole-last : (w : World T) (p : ℕ) → IsLive w.time p → HasItems w → (b : Bool) →
+      HasItems (record w { time = if b then time.left_by w.time p else w.time })
   Whole-last w p l i true =
       let scans = (place_at w p).countdown == 0 in
-      Whole-left w p (if scans then time.scanned w.time p else w.time) w.time.marked (scans-places w.time p scans) l (Whole-scans_if w p scans i)
+      let u : World T = record w { time = if scans then time.scanned w.time p else w.time } in
+      Whole-left u p w.time.marked (scans-there l.0 (scans-if w.time p l scans)) (Whole-scans_if w p l scans refl i)
   Whole-last w p l i false = i
 
-  Whole-closed-if : (w : World T) (p : ℕ) → p < length w.time.places → IsWhole w → (b : Bool) → nat_lt 1 (place_at w p).guards ≡ b → IsWhole (steps.closed w p)
-  Whole-closed-if w p l i true e = rw e (Whole-inner w p l e i)
+  Whole-closed-if : (w : World T) (p : ℕ) → IsLive w.time p → HasItems w → (b : Bool) → nat_lt 1 (place_at w p).guards ≡ b → HasItems (steps.closed w p)
+  Whole-closed-if w p l i true e = rw e (Whole-inner w p l.0 e i)
   Whole-closed-if w p l i false e = rw e (Whole-last w p l i (is_open (place_at w p)))
 
-  pub Whole-closed : (w : World T) (p : ℕ) → p < length w.time.places → IsWhole w → IsWhole (steps.closed w p)
-  Whole-closed w p l i = Whole-closed-if w p l i (nat_lt 1 (place_at w p).guards) refl
+  pub Items-closed : (w : World T) (p : ℕ) → IsLive w.time p → HasItems w → HasItems (steps.closed w p)
+  Items-closed w p l i = Whole-closed-if w p l i (nat_lt 1 (place_at w p).guards) refl
 
-  -- one place more
-  registered-abreast : (w : World T) (p : ℕ) → IsWhole w → (p < length w.time.places) ⊎ (length w.time.places ≤ p) →
-      IsAbreast w.time.count (place_at (steps.registered w) p)
+  -- a newcomer takes a place, or one place more
+  registered-abreast : (w : World T) (p : ℕ) → HasItems w → (p < length w.time.places) ⊎ (length w.time.places ≤ p) →
+      IsAbreast w.time.count (slice_index_or (w.time.places ++ newcomer w.time.room ∷ []) p nobody)
   registered-abreast w p i (inl l) = rw (get_or-append w.time.places (newcomer w.time.room ∷ []) nobody p l) (i.abreast p)
   registered-abreast w p i (inr past) =
-      new-abreast w.time.count w.time.room (place_at (steps.registered w) p) (append-last w.time.places (newcomer w.time.room) p past)
+      new-abreast w.time.count w.time.room (slice_index_or (w.time.places ++ newcomer w.time.room ∷ []) p nobody)
+      (append-last w.time.places (newcomer w.time.room) p past)
 
-  pub Whole-registered : (w : World T) → IsWhole w → IsWhole (steps.registered w)
-  Whole-registered w i =
-      record {
+  Whole-registered-if : (w : World T) (p : ℕ) → (p < length w.time.places → (place_at w p).bags.waiting ≡ []) → HasItems w → (b : Bool) →
+      nat_lt p (length w.time.places) ≡ b → HasItems (steps.registered w p)
+  Whole-registered-if w p bare i true e =
+      let l : p < length w.time.places = grind (arith, nat_tests, e) in
+      let x = newcomer w.time.room in
+      let new = Whole-place w p x l (sym (bare l)) (new-abreast w.time.count w.time.room x (inl refl)) i in
+      rw e (record { filled = new.filled; once = new.once; abreast = new.abreast; counted = new.counted })
+  Whole-registered-if w p bare i false e =
+      rw e
+      (record {
         filled = i.filled;
         once = λ k. sum_by-append (times_with k) w.time.places (newcomer w.time.room ∷ []) ∙ omega (arith, i.once k);
-        abreast = λ p. registered-abreast w p i (below-or-past p (length w.time.places));
+        abreast = λ q. registered-abreast w q i (below-or-past q (length w.time.places));
         counted = i.counted;
-      }
+      })
+
+  pub Items-registered : (w : World T) (p : ℕ) → (p < length w.time.places → (place_at w p).bags.waiting ≡ []) → HasItems w → HasItems (steps.registered w p)
+  Items-registered w p bare i = Whole-registered-if w p bare i (nat_lt p (length w.time.places)) refl
 
   -- where a value was, it is
-  made-value : (w : World T) (k : ℕ) (v : T) → IsWhole w → standing_at w k ≡ None → (j : ℕ) (u : T) → value_at w j ≡ Some u → (j ≡ k) ⊎ (j ≢ k) →
+  made-value : (w : World T) (k : ℕ) (v : T) → HasItems w → standing_at w k ≡ None → (j : ℕ) (u : T) → value_at w j ≡ Some u → (j ≡ k) ⊎ (j ≢ k) →
       value_at (made w k v) j ≡ Some u
   made-value w k v i free j u h (inr apart) = get_or-set_other w.values k j (Some v) None apart ∙ h
   made-value w k v i free j u h (inl e) =
@@ -674,6 +725,6 @@ module _ {T : Type 0} where
       let none : is_some (value_at w k) ≡ false = filled-there w k i.filled ∙ ap is_some free in
       absurd (cc)
 
-  pub made-keeps : (w : World T) (k : ℕ) (v : T) → IsWhole w → standing_at w k ≡ None → (j : ℕ) (u : T) → value_at w j ≡ Some u →
+  pub made-keeps : (w : World T) (k : ℕ) (v : T) → HasItems w → standing_at w k ≡ None → (j : ℕ) (u : T) → value_at w j ≡ Some u →
       value_at (made w k v) j ≡ Some u
   made-keeps w k v i free j u h = made-value w k v i free j u h (same-or-not j k)

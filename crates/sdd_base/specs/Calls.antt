@@ -1,14 +1,16 @@
 -- What a call makes of a world
-use Rattle.std.specs.Prelude.{ℕ, ◌≡◌, List, Some}
+use Rattle.std.specs.Prelude.{ℕ, ◌≡◌, IsTrue, List, Some}
+use Rattle.sdd_store.specs.Time.{IsVacant, is_open}
 use Rattle.sdd_store.specs.Table.{IsEmptyAt}
 use Rattle.sdd_store.specs.declared.standing.Standing.TheVariants.{Owned}
 use Rattle.sdd_base.specs.Holding.{Holding}
-use Rattle.sdd_base.specs.World.{World, standing_at, IsPlaceOf}
-use Rattle.sdd_base.specs.Steps.{made, retired, nulled, cell_closed, opened, closed, stirred, accelerated, registered}
+use Rattle.sdd_base.specs.World.{World, place_at, standing_at, IsPlaceOf}
+use Rattle.sdd_base.specs.Steps.{made, retired, nulled, cell_closed, opened, closed, stirred, accelerated, registered, ended}
 
 module _ {T : Type 0} (holds : T → List Holding) where
   pub data Calls : World T → World T → Type 0 where
-    registers : (w : World T) → Calls w (registered w)
+    registers : (w : World T) (p : ℕ) → IsVacant w.time p → Calls w (registered w p)
+    ends : (w : World T) (p : ℕ) → IsPlaceOf w p → ¬ (IsTrue (is_open (place_at w p))) → Calls w (ended w p)
     opens : (w : World T) (p : ℕ) → IsPlaceOf w p → Calls w (opened holds w p)
     closes : (w : World T) (p : ℕ) → IsPlaceOf w p → Calls w (closed w p)
     stirs : (w : World T) (p : ℕ) → IsPlaceOf w p → Calls w (stirred w p)

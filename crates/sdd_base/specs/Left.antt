@@ -4,7 +4,6 @@ use Rattle.sdd_store.specs.Waiting.{having_seen}
 use Rattle.sdd_store.specs.Waiting.What.{Item}
 use Rattle.sdd_store.specs.Time.{Time, finds_another, is_open, last_count}
 use Rattle.sdd_store.specs.Time as time
-use Rattle.sdd_store.specs.declared.time.Participant.{Participant}
 use Rattle.sdd_base.specs.Holding.{Holding}
 use Rattle.sdd_base.specs.World.{World, IsGuarded, IsPlaceOf, place_at, standing_at, value_at}
 use Rattle.sdd_base.specs.Steps.{opened, accelerated, closed}
@@ -41,9 +40,9 @@ module _ {T : Type 0} (holds : T → List Holding) (w : World T) where
       ((left w.time q seen ≡ 1) × (standing_at (opened holds w q) k ≡ None))
       ⊎ ((later : ℕ) × Waits (opened holds w q) q k later × (left (opened holds w q).time q later + 1 ≤ left w.time q seen))
 
-  -- no call leaves more, but a close of the holder that is held up
+  -- before the holder ends no call leaves more, but a close of the holder that is held up
   abbrev pub NoCallRaises : Type 0
-  NoCallRaises = (new : World T) → Calls holds w new → (q k seen : ℕ) → Waits w q k seen →
+  NoCallRaises = (new : World T) → Calls holds w new → (q k seen : ℕ) → IsPlaceOf w q → Waits w q k seen →
       (standing_at new k ≡ None)
       ⊎ ((later : ℕ) × Waits new q k later × ((left new.time q later ≤ left w.time q seen) ⊎ ((new ≡ closed w q) × IsHeldUp w q)))
 
@@ -59,13 +58,16 @@ module _ {T : Type 0} (holds : T → List Holding) (w : World T) where
       (standing_at (four_guards holds w p) k ≡ None) × (value_at (four_guards holds w p) k ≡ None)
 
 module _ {T : Type 0} (holds : T → List Holding) (q k : ℕ) where
-  -- calls, one after another, in which the slot is never free and no close of q is held up; so many of them are outermost openings of q
+  -- calls, one after another, before which q is a participant, in which the slot is never free and no close of q is held up;
+  -- so many of them are outermost openings of q
   pub data Stays : (openings : ℕ) → World T → World T → Type 0 where
     starts : (w : World T) → Stays 0 w w
-    one_opening : (n : ℕ) (v w : World T) → Stays n v w → ¬ (IsTrue (is_open (place_at w q))) → standing_at (opened holds w q) k ≢ None →
+    one_opening : (n : ℕ) (v w : World T) → Stays n v w → IsPlaceOf w q → ¬ (IsTrue (is_open (place_at w q))) → standing_at (opened holds w q) k ≢ None →
         Stays (n + 1) v (opened holds w q)
-    one_call : (n : ℕ) (u v w : World T) → Stays n u v → Calls holds v w → ¬ ((w ≡ closed v q) × IsHeldUp v q) → standing_at w k ≢ None → Stays n u w
+    one_call : (n : ℕ) (u v w : World T) → Stays n u v → IsPlaceOf v q → Calls holds v w → ¬ ((w ≡ closed v q) × IsHeldUp v q) → standing_at w k ≢ None →
+        Stays n u w
 
--- the law: as long as an item waits, its holder has made fewer outermost openings than were left, where no close of the holder is held up
+-- the law: as long as an item waits and its holder has not ended, the holder has made fewer outermost openings than were left,
+-- where no close of the holder is held up
 abbrev pub GoesInTime : {T : Type 0} → (T → List Holding) → World T → Type 0
 GoesInTime {T} holds w = (q k seen : ℕ) → Waits w q k seen → (n : ℕ) (new : World T) → Stays holds q k n w new → n < left w.time q seen

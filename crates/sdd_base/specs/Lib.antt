@@ -12,5 +12,6 @@ pub mod Whole
 pub mod Out
 pub mod Calls
 pub mod Left
+pub mod Adopting
 pub mod Under
 pub mod Passing

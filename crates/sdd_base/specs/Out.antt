@@ -6,8 +6,8 @@ use Rattle.sdd_store.specs.declared.standing.Standing.{Standing}
 use Rattle.sdd_store.specs.declared.standing.Standing.TheVariants.{Owned, Raw, Shared, Retired, Private}
 use Rattle.sdd_store.specs.declared.standing.Cell.{Cell}
 use Rattle.sdd_base.specs.Holding.{Holding, owned, atomic_owned}
-use Rattle.sdd_base.specs.World.{World, IsPlaceOf, standing_at}
-use Rattle.sdd_base.specs.Steps.{made, retired, nulled, cell_closed, opened, given, given_all, held_in}
+use Rattle.sdd_base.specs.World.{World, HasPlace, standing_at}
+use Rattle.sdd_base.specs.Steps.{made, retired, nulled, cell_closed, opened, given, given_all, ended}
 
 -- the slot's item has an owner, or is out as raw
 abbrev pub is_out : Option Standing → Bool
@@ -49,9 +49,10 @@ pub record OutLaws {T : Type 0} (holds : T → List Holding) (w : World T) : Typ
   pub closing : (p c : ℕ) → IsNullCell w c → out (cell_closed w p c) + 1 ≡ out w
   -- what a value gives up takes away what it holds
   pub giving : (p : ℕ) (hs : List Holding) → AreOut w p hs → out (given_all w p hs) + length hs ≡ out w
+  pub ending : (p : ℕ) → out (ended w p) ≡ out w
   -- no opening puts anything out
-  pub opening : (p : ℕ) → IsPlaceOf w p → out (opened holds w p) ≤ out w
+  pub opening : (p : ℕ) → HasPlace w p → out (opened holds w p) ≤ out w
   -- and it leaves out what was, where values hold nothing
-  pub opening_plain : HoldsNothing holds → (p : ℕ) → IsPlaceOf w p → out (opened holds w p) ≡ out w
+  pub opening_plain : HoldsNothing holds → (p : ℕ) → HasPlace w p → out (opened holds w p) ≡ out w
   -- where fewer slots are taken than there are, one is free
   pub room : taken w < length w.standings → ¬ (IsFull w.standings)

@@ -1,7 +1,8 @@
 -- What a call makes of what the calling participant keeps of its own, in every space
-use Rattle.std.specs.Prelude.{ℕ, ◌-◌, ◌==◌, ◌≡◌, Bool, List, [], ◌∷◌, Option, Some, None, nat_lt, if◌then◌else◌}
+use Rattle.std.specs.Prelude.{ℕ, ◌-◌, ◌==◌, ◌≡◌, Bool, List, [], ◌∷◌, Option, Some, None, ◌≢◌, nat_lt, if◌then◌else◌}
+use Rattle.sdd_store.specs.Waiting.{Waiting}
 use Rattle.sdd_store.specs.Waiting.What.{Item}
-use Rattle.sdd_store.specs.Time.{is_open, nested, rotated, settled, awaiting, due_next, counted_down}
+use Rattle.sdd_store.specs.Time.{is_open, nested, rotated, settled, awaiting, adopting, due_next, counted_down}
 use Rattle.sdd_store.specs.declared.time.Participant.{Participant}
 
 -- the items in these slots wait from now on, one after another
@@ -44,9 +45,12 @@ pub record IsOpened (old new : Participant) : Type 0 where
   pub own : new ≡ opened_at count given old
   pub from_due : due_next old ≡ [] → given ≡ []
 
--- a close of a guard made new of old: with the ended mark as it was found
-abbrev pub IsClosed : Participant → Participant → Type 0
-IsClosed old new = (marked : Bool) × (new ≡ closed_with marked old)
+-- a close of a guard made new of old, with the ended mark as it was found; only a scan may have adopted what others left
+pub record IsClosed (old new : Participant) : Type 0 where
+  pub marked : Bool
+  pub left : List Waiting
+  pub own : new ≡ closed_with marked (adopting left old)
+  pub scans : left ≢ [] → (old.guards ≡ 1) × (old.countdown ≡ 0)
 
 -- a close of a cell made new of old: as before, or one item more waits
 abbrev pub IsSpilled : Participant → Participant → Type 0

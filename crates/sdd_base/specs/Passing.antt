@@ -5,6 +5,7 @@ use Rattle.sdd_base.specs.World.{World, IsGuarded, IsPlaceOf}
 use Rattle.sdd_base.specs.Steps.{made, retired}
 use Rattle.sdd_base.specs.Whole.{taken}
 use Rattle.sdd_store.specs.Table.{IsEmptyAt}
+use Rattle.sdd_store.specs.Time.{lives}
 use Rattle.sdd_base.specs.Out.{out, HoldsNothing}
 use Rattle.sdd_base.specs.Left.{accelerated_guard}
 
@@ -12,6 +13,7 @@ use Rattle.sdd_base.specs.Left.{accelerated_guard}
 pub record Passes {T : Type 0} (holds : T → List Holding) (w : World T) (p : ℕ) : Type 0 where
   pub quiet : ¬ (IsGuarded (accelerated_guard holds w p))
   pub place : IsPlaceOf (accelerated_guard holds w p) p
+  pub live : lives (accelerated_guard holds w p).time ≡ lives w.time
   pub nesting : (accelerated_guard holds w p).time.nesting ≡ w.time.nesting
   pub as_many_made : (accelerated_guard holds w p).tally.made ≡ w.tally.made
   pub as_many_in_place : (accelerated_guard holds w p).tally.in_place ≡ w.tally.in_place
@@ -25,6 +27,7 @@ pub record HavePassed {T : Type 0} (items : ℕ) (old new : World T) : Type 0 wh
   pub taken : taken new ≡ taken old + items
   pub slots : length new.standings ≡ length old.standings
   pub places : length new.time.places ≡ length old.time.places
+  pub live : lives new.time ≡ lives old.time
   pub nesting : new.time.nesting ≡ old.time.nesting
   pub count : new.time.count ≡ old.time.count
   pub made : new.tally.made ≡ old.tally.made + items

@@ -1,5 +1,6 @@
 -- Who calls, and on which loan of which world or domain
-use Rattle.std.specs.Prelude.{ℕ, ◌<◌, Bool, true, false, IsTrue, length}
+use Rattle.std.specs.Prelude.{ℕ, ◌<◌, Bool, true, false, IsTrue, List, length, slice_index_or}
+use Rattle.sdd_store.specs.Time.{lives}
 use Rattle.sdd_store.specs.declared.time.Participant.{Participant}
 use Rattle.sdd_base.specs.World.{World}
 use Rattle.sdd_base.specs.Holding.{Home}
@@ -7,15 +8,18 @@ use Rattle.sdd_base.specs.Holding.{Home}
 pub record Seat : Type 0 where
   pub place : ℕ
   pub places : ℕ
+  -- which places are a participant's, and whether this one is
+  pub lives : List Bool
+  pub live : Bool
   pub loan : ℕ
   pub home : Home
   pub nesting : ℕ
   pub exact : Bool
   pub lone : Bool
 
--- the participant is one of the world's
+-- the participant is one of the world's, and has not ended
 abbrev pub IsSeated : Seat → Type 0
-IsSeated s = s.place < s.places
+IsSeated s = (s.place < s.places) × IsTrue s.live
 
 -- the calls change the world by exactly what is said
 abbrev pub IsExact : Seat → Type 0
@@ -31,4 +35,18 @@ MayNest s p = p.guards < s.nesting
 
 -- a place of a world, on this loan: nobody else can change the world meanwhile
 abbrev pub seat_on : {T : Type 0} → World T → ℕ → ℕ → Seat
-seat_on w place loan = record { place = place; places = length w.time.places; loan = loan; home = w.home; nesting = w.time.nesting; exact = true; lone = false }
+seat_on w place loan = record {
+  place = place;
+  places = length w.time.places;
+  lives = lives w.time;
+  live = slice_index_or (lives w.time) place false;
+  loan = loan;
+  home = w.home;
+  nesting = w.time.nesting;
+  exact = true;
+  lone = false;
+}
+
+-- the same for what is given up to a place, where it may be of a participant that has ended
+abbrev pub seat_for : {T : Type 0} → World T → ℕ → ℕ → Seat
+seat_for w place loan = record (seat_on w place loan) { live = true }

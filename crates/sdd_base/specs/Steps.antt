@@ -123,8 +123,13 @@ module _ {T : Type 0} where
   abbrev pub closed : World T → ℕ → World T
   closed w p = record w { time = time.closed w.time p }
 
-  abbrev pub registered : World T → World T
-  registered w = record w { time = time.registered w.time }
+  -- a vacant place is a newcomer's
+  abbrev pub registered : World T → ℕ → World T
+  registered w p = record w { time = time.registered w.time p }
+
+  -- the participant has ended, and what waits with it is left at its place
+  abbrev pub ended : World T → ℕ → World T
+  ended w p = record w { time = time.ended w.time p }
 
   -- what an opening of p takes out to reclaim
   abbrev pub reclaims : World T → ℕ → List What

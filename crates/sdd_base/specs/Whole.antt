@@ -1,8 +1,10 @@
 -- What is always true of a world
-use Rattle.std.specs.Prelude.{ℕ, ◌+◌, ◌-◌, ◌^◌, ◌<◌, ◌≤◌, ◌≡◌, ◌==◌, Bool, true, false, IsTrue, List, [], map, is_some, All, sum_by, count_by}
+use Rattle.std.specs.Prelude.{ℕ, ◌+◌, ◌^◌, ◌<◌, ◌≤◌, ◌≡◌, ◌==◌, Bool, true, false, IsTrue, [], length, map, None, Some, is_some, All, sum_by, count_by}
 use Rattle.sdd_store.specs.Waiting.{What, Waiting}
 use Rattle.sdd_store.specs.Waiting.What.{Item, Private, Job}
-use Rattle.sdd_store.specs.Time.{is_open}
+use Rattle.sdd_store.specs.Time.{Time, is_open}
+use Rattle.sdd_store.specs.Time as time
+use Rattle.sdd_store.specs.declared.phases.Phase.TheVariants.{Live}
 use Rattle.sdd_store.specs.declared.tally.Tally.{Tally}
 use Rattle.sdd_store.specs.declared.time.Participant.{Participant}
 use Rattle.sdd_slots.specs.Slots.{is_waiting}
@@ -48,10 +50,17 @@ pub record IsAbreast (count : ℕ) (p : Participant) : Type 0 where
 abbrev pub IsCounted : Tally → ℕ → Type 0
 IsCounted t there = t.made + 1 < 2 ^ 128 → t.made ≡ t.reclaimed + t.in_place + there
 
+-- each place has its phase: only a live one has a guard open, and nothing waits at a free one
+pub record AreHoused (t : Time) : Type 0 where
+  pub lengths : length t.phases ≡ length t.places
+  pub shut : (p : ℕ) → IsTrue (is_open (time.place_at t p)) → time.phase_at t p ≡ Some Live
+  pub bare : (p : ℕ) → time.phase_at t p ≡ None → (time.place_at t p).bags.waiting ≡ []
+
 pub record IsWhole {T : Type 0} (w : World T) : Type 0 where
   -- a value is exactly where a slot is not free
   pub filled : map is_some w.values ≡ map is_some w.standings
   -- the item of a slot that waits stands once among all that waits, and no other does
   pub once : (k : ℕ) → times_waiting w k ≡ once_if (is_waiting (standing_at w k))
   pub abreast : (p : ℕ) → IsAbreast w.time.count (place_at w p)
+  pub housed : AreHoused w.time
   pub counted : IsCounted w.tally (taken w)

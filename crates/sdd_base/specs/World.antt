@@ -1,6 +1,6 @@
 -- A world as clauses see it
 use Rattle.std.specs.Prelude.{ℕ, Any, IsTrue, ◌+◌, ◌≤◌, ◌<◌, ◌≡◌, Bool, true, false, List, [], length, Option, None, sum_by, count_by, slice_index_or, replicate}
-use Rattle.sdd_store.specs.Time.{Time}
+use Rattle.sdd_store.specs.Time.{Time, lives, waiting_count}
 use Rattle.sdd_store.specs.Time as time
 use Rattle.sdd_store.specs.Table.{Entries, entry_at}
 use Rattle.sdd_store.specs.declared.standing.Standing.{Standing}
@@ -41,11 +41,16 @@ module _ {T : Type 0} where
   -- a world without participants and items, at this count and with these limits
   abbrev pub IsNew : Limits → ℕ → World T → Type 0
   IsNew l count w =
-      IsBlank (record { count = count; marked = false; places = []; participants = l.participants; nesting = l.nesting; room = l.slots }) l.slots l.cells w
+      IsBlank (record { count = count; marked = false; places = []; phases = []; participants = l.participants; nesting = l.nesting; room = l.slots })
+      l.slots l.cells w
 
-  -- the place is one of the world's
+  -- the world has this place
+  abbrev pub HasPlace : World T → ℕ → Type 0
+  HasPlace w p = p < length w.time.places
+
+  -- it is a live place of the world: a participant's, who has not ended
   abbrev pub IsPlaceOf : World T → ℕ → Type 0
-  IsPlaceOf w p = p < length w.time.places
+  IsPlaceOf w p = time.IsLive w.time p
 
   -- some guard is open
   abbrev pub IsGuarded : World T → Type 0
@@ -54,9 +59,6 @@ module _ {T : Type 0} where
 -- a slot that no participant's bags have
 abbrev pub is_loose : Option Standing → Bool
 is_loose s = elim (is_waiting s) [ true ↦ false | false ↦ true ]
-
-abbrev pub waiting_count : Participant → ℕ
-waiting_count p = length p.bags.waiting
 
 -- how many slots wait with some participant, and how many are loose
 abbrev pub weight : {T : Type 0} → World T → ℕ
@@ -67,10 +69,11 @@ pub record IsRoomy {T : Type 0} (w : World T) : Type 0 where
   pub counted : weight w ≤ length w.standings
   pub reserved : w.time.room ≡ length w.standings
 
--- the same home, as many places and slots, and the same limits of nesting and room
+-- the same home, as many places and slots, the same participants, and the same limits of nesting and room
 pub record KeepsSizes {T : Type 0} (old new : World T) : Type 0 where
   pub home : new.home ≡ old.home
   pub places : length new.time.places ≡ length old.time.places
+  pub live : lives new.time ≡ lives old.time
   pub slots : length new.standings ≡ length old.standings
   pub nesting : new.time.nesting ≡ old.time.nesting
   pub room : new.time.room ≡ old.time.room

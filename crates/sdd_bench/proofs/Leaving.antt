@@ -6,7 +6,7 @@ use Rattle.std.proofs.lemmas.Bool.Decides.{nat_tests}
 use Rattle.sdd_store.specs.Waiting.{What}
 use Rattle.sdd_store.specs.Waiting.What.{Item}
 use Rattle.sdd_store.specs.Table.{IsEmptyAt}
-use Rattle.sdd_store.specs.Time.{is_open, nested, rotated, nobody, finds_another, due_next, awaiting}
+use Rattle.sdd_store.specs.Time.{adopting, is_open, nested, rotated, nobody, finds_another, due_next, awaiting}
 use Rattle.sdd_store.specs.declared.time.Participant.{Participant}
 use Rattle.sdd_store.specs.declared.standing.Standing.TheVariants.{Owned, Retired}
 use Rattle.sdd_base.specs.Holding.{Holding}
@@ -45,7 +45,8 @@ closed-guards marked p n g false e =
     rw (e, there) (omega (arith, g, last))
 
 closes-one : (old new : Participant) (n : ℕ) → old.guards ≡ n + 1 → IsClosed old new → new.guards ≡ n
-closes-one old new n g c = ap (λ (p : Participant). p.guards) c.1 ∙ closed-guards c.0 old n g (nat_lt 1 old.guards) refl
+closes-one old new n g c =
+    ap (λ (p : Participant). p.guards) c.own ∙ closed-guards c.marked (adopting c.left old) n g (nat_lt 1 old.guards) refl
 
 exact-on : (s r : Seat) → r ≡ s → IsExact s → IsExact r
 exact-on s r e exact = subst (λ (x : Seat). IsExact x) (sym e) exact

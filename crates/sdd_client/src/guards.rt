@@ -6,6 +6,7 @@ ghost use Rattle.sdd_base.specs.Left.{Waits, accelerated_guard, four_guards};
 ghost use Rattle.sdd_base.specs.Passing.{Passes};
 ghost use Rattle.sdd_base.specs.Whole.{IsCounted, taken};
 ghost use Rattle.sdd_base.specs.Left.{left};
+ghost use Rattle.sdd_base.specs.Adopting.{AdoptsWhatIsLeft};
 ghost use Rattle.sdd_base.specs.Under.{CallsUnder};
 ghost use Rattle.sdd_base.specs.Owned.{slot_of, slots_home};
 ghost use Rattle.sdd_base.specs.Seat.{IsSeated};
@@ -69,6 +70,13 @@ pub fn waits_a_bounded_time<T: Item<T>>(world: &World<T>)
     ensures { (q k seen : ℕ) → Waits world.now q k seen → left world.now.time q seen ≤ 385 }
 {
     world.reclaims_in_time();
+}
+
+/// What a participant that has ended left waits with whoever scans next, for three changes, and its place is free.
+pub fn takes_over_what_was_left<T: Item<T>>(world: &World<T>)
+    ensures { AdoptsWhatIsLeft world.now }
+{
+    world.adopts_what_is_left();
 }
 
 /// Each item that was made is in its slot, was reclaimed, or was dropped in place.

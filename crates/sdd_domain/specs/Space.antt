@@ -1,5 +1,5 @@
 -- A participant of a domain as the generic calls see it
-use Rattle.std.specs.Prelude.{◌==◌, [], false}
+use Rattle.std.specs.Prelude.{◌==◌, [], true, false}
 use Rattle.std.proofs.Common.{sym}
 use Rattle.std.proofs.lemmas.Bool.{true≢false}
 use Rattle.sdd_store.specs.Tally.{no_items}
@@ -17,6 +17,8 @@ abbrev pub seat_of : Member → Seat
 seat_of m = record {
   place = m.place;
   places = m.limits.participants;
+  lives = [];
+  live = true;
   loan = 0;
   home = nowhere;
   nesting = m.limits.nesting;
@@ -31,7 +33,7 @@ known_of m = record { told = m.known; since = m.since }
 abbrev pub no_world : {T : Type 0} → World T
 no_world = record {
   home = nowhere;
-  time = record { count = 0; marked = false; places = []; participants = 0; nesting = 0; room = 0 };
+  time = record { count = 0; marked = false; places = []; phases = []; participants = 0; nesting = 0; room = 0 };
   standings = [];
   values = [];
   cells = [];

@@ -12,7 +12,7 @@ use crate::receipt::Receipt;
 use crate::scan::scan;
 use crate::steps;
 use sdd_core::Refused;
-use sdd_store::{Bags, Participant, Phase, Tally};
+use sdd_store::{Bags, Participant, Tally};
 use std::marker::Model;
 
 /// A participant of a domain.
@@ -96,7 +96,6 @@ impl<'d> Local<'d> {
             place,
             nesting: domain.limits.nesting as u32,
             own: Participant {
-                phase: Phase::Live,
                 found: 0,
                 countdown: 128,
                 guards: 0,

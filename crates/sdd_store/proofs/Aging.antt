@@ -1,7 +1,8 @@
 -- What a rotation takes out and leaves
-use Rattle.std.proofs.Common.{◌≡◌, ◌≢◌, ℕ, ◌+◌, ◌<◌, length, arith, List, [], ◌∷◌, map, refl, ap}
+use Rattle.std.proofs.Common.{◌≡◌, ◌≢◌, ℕ, ◌+◌, ◌<◌, length, arith, List, [], ◌∷◌, ◌++◌, map, refl, ap}
 use Rattle.std.proofs.lemmas.Grind.{common_steps}
-use Rattle.sdd_store.specs.Waiting.{Waiting, aged, due, left, having_seen}
+use Rattle.std.proofs.lemmas.List.{append_assoc, map-append}
+use Rattle.sdd_store.specs.Waiting.{Waiting, anew, aged, due, left, having_seen}
 use Rattle.sdd_store.specs.Waiting.What.{Item}
 use Rattle.sdd_store.specs.Bags.{waiting_of}
 
@@ -30,3 +31,14 @@ none-waiting next prev current waiting e some none =
     let count : length (waiting_of next prev current) ≡ length next + (length prev + length current) = grind (arith, common_steps) in
     let zero_long : length waiting ≡ 0 = ap length none in
     omega (arith, count, ap length e)
+
+anew-all : (seen : ℕ) (slots : List ℕ) → map anew (map (λ (slot : ℕ). having_seen seen (Item slot)) slots) ≡ map (λ (slot : ℕ). having_seen 0 (Item slot)) slots
+anew-all seen [] = refl
+anew-all seen (x ∷ slots) = ap (λ rest. having_seen 0 (Item x) ∷ rest) (anew-all seen slots)
+
+-- what is put into the current bag, waits anew behind all the rest
+pub adopted-waiting : (next prev current left_next left_prev left_current : List ℕ) →
+    waiting_of next prev (((current ++ left_next) ++ left_prev) ++ left_current) ≡
+    waiting_of next prev current ++ map anew (waiting_of left_next left_prev left_current)
+adopted-waiting next prev current left_next left_prev left_current =
+    simp (map-append, anew-all 2 left_next, anew-all 1 left_prev, anew-all 0 left_current, append_assoc)

@@ -1,2 +1,4 @@
 pub mod Aging
 pub mod Listed
+pub mod Adopting
+pub mod Renaming

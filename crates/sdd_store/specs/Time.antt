@@ -1,16 +1,21 @@
 -- The epoch of a world, and its participants
-use Rattle.std.specs.Prelude.{ℕ, ◌+◌, ◌-◌, ◌^◌, ◌==◌, ◌&&◌, ◌||◌, ◌≡◌, ◌<◌, ◌≤◌, All, Bool, false, List, [], ◌∷◌, ◌++◌, Option, Some, None, length, slice_index_or, slice_set, if◌then◌else◌, nat_lt, not}
+use Rattle.std.specs.Prelude.{ℕ, zero, suc, ◌+◌, ◌-◌, ◌^◌, ◌==◌, ◌&&◌, ◌||◌, ◌≡◌, ◌<◌, ◌≤◌, ◌⊎◌, All, Bool, true, false, IsTrue, List, [], ◌∷◌, ◌++◌, Option, Some, None, length, map, slice_index_or, slice_set, sum_by, if◌then◌else◌, nat_lt, not}
 use Rattle.std.specs.List.{list_all}
-use Rattle.sdd_store.specs.Waiting.{What, fresh, aged, due, left}
-use Rattle.sdd_store.specs.declared.time.Phase.TheVariants.{Free, Live}
+use Rattle.sdd_store.specs.Waiting.{What, Waiting, fresh, anew, aged, due, left}
+use Rattle.sdd_store.specs.Table.{Entries, entry_at, with_entry, without_entry, IsEmptyAt, IsFull}
+use Rattle.sdd_store.specs.Phases.{Phases, is_live, is_ended}
+use Rattle.sdd_store.specs.declared.phases.Phase.{Phase}
+use Rattle.sdd_store.specs.declared.phases.Phase.TheVariants.{Live, Ended}
 use Rattle.sdd_store.specs.declared.time.Participant.{Participant}
 use Rattle.sdd_store.specs.declared.time.Pace.{Pace}
 
--- the count of epochs, the ended mark, the places taken so far, how many there may be, how deep guards nest, and how much may wait with one place
+-- the count of epochs, the ended mark, the places there are so far, what each of them is, how many there may be,
+-- how deep guards nest, and how much may wait with one
 pub record Time : Type 0 where
   pub count : ℕ
   pub marked : Bool
   pub places : List Participant
+  pub phases : Entries Phase
   pub participants : ℕ
   pub nesting : ℕ
   pub room : ℕ
@@ -21,11 +26,11 @@ last_count = 2 ^ 64 - 1
 
 -- what stands at a number that is no place
 abbrev pub nobody : Participant
-nobody = record { phase = Free; found = 0; countdown = 128; guards = 0; bags = record { waiting = []; room = 0 } }
+nobody = record { found = 0; countdown = 128; guards = 0; bags = record { waiting = []; room = 0 } }
 
 -- a participant that has just registered
 abbrev pub newcomer : ℕ → Participant
-newcomer room = record { phase = Live; found = 0; countdown = 128; guards = 0; bags = record { waiting = []; room = room } }
+newcomer room = record { found = 0; countdown = 128; guards = 0; bags = record { waiting = []; room = room } }
 
 abbrev pub place_at : Time → ℕ → Participant
 place_at t p = slice_index_or t.places p nobody
@@ -40,16 +45,39 @@ is_open p = nat_lt 0 p.guards
 abbrev pub published : Participant → Option ℕ
 published p = if is_open p then Some p.found else None
 
--- all participant places are taken
+-- a place is free, or a participant's, or has ended: then what it left waits there until it is adopted
+abbrev pub phase_at : Time → ℕ → Option Phase
+phase_at t p = entry_at t.phases p
+
+-- which places are a participant's
+abbrev pub lives : Time → List Bool
+lives t = map is_live t.phases
+
+-- no place has ended, but may be free or live
+abbrev pub NobodyEnded : Entries Phase → Type 0
+NobodyEnded phases = (q : ℕ) → is_ended (entry_at phases q) ≡ false
+
+-- the place is there, and a participant's
+abbrev pub IsLive : Time → ℕ → Type 0
+IsLive t p = (p < length t.places) × IsTrue (slice_index_or (lives t) p false)
+
+-- all participant places are taken: none is free, and no more may be made
 abbrev pub IsCrowded : Time → Type 0
-IsCrowded t = t.participants ≤ length t.places
+IsCrowded t = IsFull t.phases × (t.participants ≤ length t.places)
 
--- this place is the next to be taken
-abbrev pub IsNext : Time → ℕ → Type 0
-IsNext t p = (p ≡ length t.places) × (p < t.participants)
+-- the place can be taken: it is free, or it is the next one, and may be made
+abbrev pub IsVacant : Time → ℕ → Type 0
+IsVacant t p = IsEmptyAt t.phases p ⊎ ((p ≡ length t.places) × (p < t.participants))
 
-abbrev pub registered : Time → Time
-registered t = record t { places = t.places ++ newcomer t.room ∷ [] }
+-- the place is a newcomer's
+abbrev pub registered : Time → ℕ → Time
+registered t p =
+    if nat_lt p (length t.places) then record t { places = slice_set t.places p (newcomer t.room); phases = with_entry t.phases p Live }
+    else record t { places = t.places ++ newcomer t.room ∷ []; phases = t.phases ++ Some Live ∷ [] }
+
+-- the participant has ended: what waits with it is left there, and the mark is set
+abbrev pub ended : Time → ℕ → Time
+ended t p = record t { phases = with_entry t.phases p Ended; marked = true }
 
 -- one guard more is within the limit
 abbrev pub CanNest : Time → ℕ → Type 0
@@ -121,6 +149,42 @@ paced_at t p pace = with_place t p (paced pace (place_at t p))
 abbrev pub finds_another : Time → ℕ → Bool
 finds_another t p = not ((place_at t p).found == t.count)
 
+-- an outermost opening is a change where it finds another count
+abbrev pub caught_up : Time → ℕ → Time
+caught_up t p = if finds_another t p then settled_at (rotated_at t p) p else t
+
+abbrev pub opened : Time → ℕ → Time
+opened t p = if is_open (place_at t p) then nested_at t p else caught_up (nested_at t p) p
+
+-- what an opening of p makes due: at an outermost one that finds another count, what then has seen three changes of p
+abbrev pub due_at : Time → ℕ → List What
+due_at t p = if is_open (place_at t p) then [] else (if finds_another t p then due_next (place_at t p) else [])
+
+-- all this waits here from now on, as if it were retired now
+abbrev pub adopting : List Waiting → Participant → Participant
+adopting ws p = record p { bags = record p.bags { waiting = p.bags.waiting ++ map anew ws } }
+
+-- nothing waits here any more
+abbrev pub without_waiting : Participant → Participant
+without_waiting p = record p { bags = record p.bags { waiting = [] } }
+
+-- p adopts what waits with q, and q is free
+abbrev pub adopted_from : Time → (p q : ℕ) → Time
+adopted_from t p q =
+    record (with_place (with_place t p (adopting (place_at t q).bags.waiting (place_at t p))) q (without_waiting (place_at t q)))
+    { phases = without_entry t.phases q }
+
+-- p adopts what each place below n left that has ended, one place after another
+abbrev pub adopted_below : Time → (p n : ℕ) → Time
+adopted_below t p zero = t
+adopted_below t p (suc n) =
+    let before : Time = adopted_below t p n in
+    if is_ended (phase_at before n) then adopted_from before p n else before
+
+-- p adopts all that was left so far
+abbrev pub adopted : Time → ℕ → Time
+adopted t p = adopted_below t p (length t.places)
+
 -- a scan at this count passes the place
 abbrev pub passes : ℕ → Participant → Bool
 passes count p = not (is_open p) || p.found == count
@@ -129,20 +193,24 @@ passes count p = not (is_open p) || p.found == count
 abbrev pub raised : Time → Time
 raised t = if nat_lt t.count last_count && list_all (passes t.count) t.places then record t { count = t.count + 1 } else t
 
--- the scan of p does nothing if its found count isn't the count
+-- the scan of p does nothing if its found count isn't the count; else it clears the mark and adopts before it looks at the others
 abbrev pub scanned : Time → ℕ → Time
-scanned t p = if (place_at t p).found == t.count then raised (record t { marked = false }) else t
+scanned t p = if (place_at t p).found == t.count then raised (record (adopted t p) { marked = false }) else t
 
 -- the countdown after an outermost close
 abbrev pub counted_down : Bool → ℕ → ℕ
 counted_down marked countdown =
     if countdown == 0 then 127 else (if countdown == 128 then (if marked then 127 else 128) else countdown - 1)
 
+-- the last guard is closed, with the ended mark as it was found
+abbrev pub rested : Bool → Participant → Participant
+rested marked p = record p { guards = 0; countdown = counted_down marked p.countdown }
+
 -- the last guard of p is closed: at countdown 0 after a scan
 abbrev pub left_by : Time → ℕ → Time
 left_by t p =
     let scanned_first : Time = if (place_at t p).countdown == 0 then scanned t p else t in
-    with_place scanned_first p (record (place_at t p) { guards = 0; countdown = counted_down t.marked (place_at t p).countdown })
+    with_place scanned_first p (rested t.marked (place_at scanned_first p))
 
 -- a guard of p is closed; without an open one nothing happens
 abbrev pub closed : Time → ℕ → Time
@@ -150,13 +218,21 @@ closed t p =
     if nat_lt 1 (place_at t p).guards then with_place t p (record (place_at t p) { guards = (place_at t p).guards - 1 })
     else (if is_open (place_at t p) then left_by t p else t)
 
--- each place has its room, and there are no more than may be
-pub record IsTimely (places : List Participant) (participants room capacity : ℕ) : Type 0 where
-  pub reserved : All (λ (p : Participant). p.bags.room ≡ room) places
-  pub within : length places ≤ participants
-  pub kept : participants ≤ capacity
+-- how much waits with a participant
+abbrev pub waiting_count : Participant → ℕ
+waiting_count p = length p.bags.waiting
 
--- as many places, and the same limits
+-- each place has its room and its phase, there is memory for as many as there may be, and where one has ended the mark is set
+pub record IsTimely (places : List Participant) (phases : Phases) (marked : Bool) (room capacity : ℕ) : Type 0 where
+  pub reserved : All (λ (p : Participant). p.bags.room ≡ room) places
+  pub phased : length phases.entries ≡ length places
+  pub kept : phases.room ≤ capacity
+  pub told : marked ≡ false → NobodyEnded phases.entries
+
+-- as many places, the same participants and limits, and as much waits as before
 pub record KeepsPlaces (old new : Time) : Type 0 where
   pub places : length new.places ≡ length old.places
+  pub lives : lives new ≡ lives old
+  pub nesting : new.nesting ≡ old.nesting
   pub room : new.room ≡ old.room
+  pub waiting : sum_by waiting_count new.places ≡ sum_by waiting_count old.places

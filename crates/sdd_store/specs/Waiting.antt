@@ -19,6 +19,10 @@ having_seen seen what = record { what = what; seen = seen }
 abbrev pub fresh : What → Waiting
 fresh = having_seen 0
 
+-- it begins to wait once more
+abbrev pub anew : Waiting → Waiting
+anew w = fresh w.what
+
 -- one more change was seen
 abbrev pub older : Waiting → Waiting
 older w = having_seen (w.seen + 1) w.what

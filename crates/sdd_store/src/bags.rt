@@ -1,5 +1,5 @@
 ghost use Rattle.std.specs.Prelude.{◌≡◌, ℕ, ◌+◌, ◌<◌, ◌≤◌, List, [], ◌∷◌, ◌++◌, length, IfOk, vec_capacity, map, IsTrue, ◌↔◌};
-ghost use Rattle.sdd_store.specs.Waiting.{What, aged, due, left, fresh};
+ghost use Rattle.sdd_store.specs.Waiting.{What, anew, aged, due, left, fresh};
 ghost use Rattle.sdd_store.specs.Waiting.What.{Item};
 ghost use Rattle.sdd_store.specs.Bags.{Bags};
 
@@ -91,4 +91,37 @@ impl Bags {
         std::mem::swap(bag, &mut self.previous);
         std::mem::swap(bag, &mut self.next);
     }
+
+    /// Nothing waits any more.
+    pub fn clear(&mut self)
+        ensures { self.new ≡ record self.old { waiting = [] } }
+    {
+        self.current.clear();
+        self.previous.clear();
+        self.next.clear();
+    }
+
+    /// What waits in other bags waits in the current one of these from now on, the oldest first, and nothing waits there any more.
+    pub fn adopt(&mut self, left: &mut Bags)
+        requires { length self.old.waiting + length left.old.waiting ≤ self.old.room }
+        ensures adopted { self.new ≡ record self.old { waiting = self.old.waiting ++ map anew left.old.waiting } }
+        ensures left { left.new ≡ record left.old { waiting = [] } }
+    {
+        pour(&mut left.next, &mut self.current);
+        pour(&mut left.previous, &mut self.current);
+        pour(&mut left.current, &mut self.current);
+    }
+}
+
+/// Moves each slot of a bag to another one.
+fn pour(from: &mut Vec<u32>, to: &mut Vec<u32>)
+    requires { length to.old.items + length from.old.items ≤ vec_capacity to.old }
+    ensures poured { to.new.items ≡ to.old.items ++ from.old.items }
+    ensures emptied { from.new.items ≡ [] }
+    ensures reserved { (vec_capacity to.new ≡ vec_capacity to.old) × (vec_capacity from.new ≡ vec_capacity from.old) }
+{
+    for slot in from.as_slice() {
+        to.push_reserved(*slot);
+    }
+    from.clear();
 }

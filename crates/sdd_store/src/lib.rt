@@ -2,13 +2,15 @@
 #![tactic(auto)]
 
 pub mod bags;
+pub mod phases;
 pub mod standing;
 pub mod table;
 pub mod tally;
 pub mod time;
 
 pub use bags::Bags;
+pub use phases::{Phase, Phases};
 pub use standing::{Cell, Standing};
 pub use table::Table;
 pub use tally::Tally;
-pub use time::{Pace, Participant, Phase, Time};
+pub use time::{Pace, Participant, Time};

@@ -1,29 +1,19 @@
-ghost use Rattle.std.specs.Prelude.{◌≡◌, ℕ, ◌+◌, ◌<◌, ◌≤◌, ◌==◌, List, [], ◌∷◌, ◌↔◌, map, length, IsTrue, IfOk, MatchResult, vec_capacity, Bool, false, if◌then◌else◌, Any, IsOk, Err, ◌⊎◌};
+ghost use Rattle.std.specs.Prelude.{IsSome, ◌≡◌, ◌≢◌, ℕ, ◌+◌, ◌<◌, ◌≤◌, ◌==◌, sum_by, List, [], ◌∷◌, ◌↔◌, map, length, IsTrue, IfOk, MatchOption, MatchResult, vec_capacity, Bool, false, if◌then◌else◌, Any, IsOk, Err, ◌⊎◌};
 ghost use Rattle.std.specs.List.{list_all};
 ghost use Rattle.sdd_store.specs.Waiting.{What, due, aged};
 ghost use Rattle.sdd_store.specs.Waiting.What.{Item};
-ghost use Rattle.sdd_store.specs.Time.{Time, place_at, IsCrowded, IsNext, CanNest, registered, with_garbage, has_garbage, accelerated, awaiting, nested, rotated, settled, pace_of, passes, raised, scanned, closed, stirred_at, accelerated_at, awaiting_at, nested_at, rotated_at, settled_at, paced_at, finds_another, is_open, due_next, counted_down};
+ghost use Rattle.sdd_store.specs.Phases.{is_ended};
+ghost use Rattle.sdd_store.specs.Time.{Time, IsLive, KeepsPlaces, adopted, adopted_from, ended, newcomer, phase_at, rested, waiting_count, with_place, place_at, IsCrowded, IsVacant, CanNest, registered, with_garbage, has_garbage, accelerated, awaiting, nested, rotated, settled, pace_of, passes, raised, scanned, closed, stirred_at, accelerated_at, awaiting_at, nested_at, rotated_at, settled_at, paced_at, finds_another, is_open, due_next};
 
 use crate::bags::Bags;
+use crate::phases::{Phase, Phases};
 use sdd_core::Refused;
 use std::alloc::{AllocError, Global};
 use std::marker::Model;
 
-/// What a place is.
-#[derive(Clone, Copy, Debug, PartialEq, Eq)]
-pub enum Phase {
-    /// Nobody's.
-    Free,
-    /// A participant's.
-    Live,
-    /// Ended, until another participant has adopted what it left.
-    Ended,
-}
-
 /// What a participant keeps.
 #[derive(Drop)]
 pub struct Participant {
-    pub phase: Phase,
     /// The last count that it found, which it has published while a guard is open.
     pub found: u64,
     /// 0 to 128: a close at 0 scans, and at 128 there is no garbage.
@@ -46,9 +36,10 @@ pub struct Time {
     count: u64,
     marked: bool,
     places: Vec<Participant>,
-    participants: usize,
+    phases: Phases,
     nesting: u32,
     room: usize,
+    alloc: Global,
 }
 
 impl Model for Time {
@@ -61,12 +52,13 @@ impl Model for Time {
       count = t.count;
       marked = t.marked;
       places = t.places.items;
-      participants = t.participants;
+      phases = t.phases.entries;
+      participants = t.phases.room;
       nesting = t.nesting;
       room = t.room;
     } };
 
-    ghost invariant = { λ t. IsTimely t.places.items t.participants t.room (vec_capacity t.places) };
+    ghost invariant = { λ t. IsTimely t.places.items t.phases t.marked t.room (vec_capacity t.places) };
 }
 
 impl Participant {
@@ -77,6 +69,16 @@ impl Participant {
         if self.countdown == 128 {
             self.countdown = 127;
         }
+    }
+
+    /// The participant is a newcomer, with the bags that are there.
+    fn begin(&mut self)
+        ensures { self.new ≡ newcomer self.old.bags.room }
+    {
+        self.found = 0;
+        self.countdown = 128;
+        self.guards = 0;
+        self.bags.clear();
     }
 
     fn wait(&mut self, slot: u32)
@@ -101,7 +103,7 @@ impl Participant {
 
     /// The last guard is closed; the ended mark is as it was found.
     pub fn leave(&mut self, marked: bool)
-        ensures { self.new ≡ record self.old { guards = 0; countdown = counted_down marked self.old.countdown } }
+        ensures { self.new ≡ rested marked self.old }
     {
         match self.countdown {
             128 => {
@@ -125,38 +127,85 @@ impl Time {
         nesting: u32,
         room: usize,
     ) -> Result<Time, AllocError>
-        ensures { IfOk result (λ t. t ≡ record { count = count; marked = false; places = []; participants = participants; nesting = nesting; room = room }) }
+        ensures { IfOk result (λ t. t ≡
+            record { count = count; marked = false; places = []; phases = []; participants = participants; nesting = nesting; room = room }) }
     {
         let places = Vec::with_capacity(alloc, participants)?;
+        let phases = Phases::new(alloc, participants)?;
         Ok(Time {
             count,
             marked: false,
             places,
-            participants,
+            phases,
             nesting,
             room,
+            alloc,
         })
     }
 
-    /// The next place becomes a participant's. Its bags take memory.
-    pub fn register(&mut self, alloc: Global) -> Result<usize, Refused>
-        ensures registered { MatchResult result (λ p. IsNext self.old p × (self.new ≡ registered self.old)) (λ _. self.new ≡ self.old) }
+    /// Some place that isn't taken becomes a participant's. Where it was none before, its bags take memory.
+    pub fn register(&mut self) -> Result<usize, Refused>
+        ensures registered { MatchResult result (λ p. IsVacant self.old p × (self.new ≡ registered self.old p)) (λ _. self.new ≡ self.old) }
         ensures crowded { (result ≡ Err Refused.NoPlace) ↔ IsCrowded self.old }
         ensures no_memory { (result ≡ Err Refused.NoMemory) ⊎ (result ≡ Err Refused.NoPlace) ⊎ IsOk result }
     {
-        if self.places.len() >= self.participants {
+        if let Some(place) = self.phases.claim() {
+            self.places[place].begin();
+            return Ok(place);
+        }
+        if self.places.len() >= self.phases.room() {
             return Err(Refused::NoPlace);
         }
-        let bags = Bags::with_room(alloc, self.room)?;
+        let bags = Bags::with_room(self.alloc, self.room)?;
+        Ok(self.add(bags))
+    }
+
+    /// One place more is a participant's.
+    fn add(&mut self, bags: Bags) -> usize
+        requires few { length self.old.places < self.old.participants }
+        requires empty { bags ≡ record { waiting = []; room = self.old.room } }
+        ensures { (result ≡ length self.old.places) × (self.new ≡ registered self.old result) }
+    {
         let place = self.places.len();
         self.places.push_reserved(Participant {
-            phase: Phase::Live,
             found: 0,
             countdown: 128,
             guards: 0,
             bags,
         });
-        Ok(place)
+        self.phases.add();
+        place
+    }
+
+    /// The participant has ended: what waits with it is left at its place.
+    pub fn end(&mut self, place: usize)
+        requires { IsLive self.old place }
+        ensures { self.new ≡ ended self.old place }
+    {
+        self.phases.set(place, Phase::Ended);
+        self.marked = true;
+    }
+
+    /// The place has ended, and what it left was not adopted yet.
+    pub fn is_ended(&self, place: usize) -> bool
+        requires { place < length self.now.places }
+        ensures { result ≡ is_ended (phase_at self.now place) }
+    {
+        self.phases.is_ended(place)
+    }
+
+    /// Some place that isn't free.
+    pub fn some_taken(&self) -> Option<usize>
+        ensures { MatchOption result
+            ((p : ℕ) → phase_at self.now p ≡ None)
+            (λ place. (place < length self.now.places) × IsSome (phase_at self.now place)) }
+    {
+        for place in 0..self.places.len() {
+            if self.phases.is_taken(place) {
+                return Some(place);
+            }
+        }
+        None
     }
 
     pub fn count(&self) -> u64
@@ -165,7 +214,7 @@ impl Time {
         self.count
     }
 
-    /// How many places were taken so far.
+    /// How many places there are so far.
     pub fn len(&self) -> usize
         ensures { result ≡ length self.now.places }
     {
@@ -325,40 +374,85 @@ impl Time {
         }
     }
 
+    /// What the place of another left waits with this one, and that place is free.
+    #[cold]
+    #[inline(never)]
+    fn adopt_from(&mut self, place: usize, from: usize)
+        requires places { (place < length self.old.places) × (from < length self.old.places) × (place ≢ from) }
+        requires ended { IsTrue (is_ended (phase_at self.old from)) }
+        requires room { waiting_count (place_at self.old place) + waiting_count (place_at self.old from) ≤ self.old.room }
+        ensures { self.new ≡ adopted_from self.old place from }
+    {
+        let mut left = std::mem::replace(&mut self.places[from].bags, Bags::empty(self.alloc));
+        self.places[place].bags.adopt(&mut left);
+        self.places[from].bags = left;
+        self.phases.free(from);
+    }
+
+    /// All that was left so far waits with the place, and who left it has a free place.
+    fn adopt(&mut self, place: usize)
+        requires live { IsLive self.old place }
+        requires room { sum_by waiting_count self.old.places ≤ self.old.room }
+        ensures { self.new ≡ adopted self.old place }
+    {
+        for from in 0..self.places.len() {
+            if self.is_ended(from) {
+                self.adopt_from(place, from);
+            }
+        }
+    }
+
+    /// A scan of a place. Where the mark is not set, nobody has ended since all that was left was adopted.
+    // A function of its own, so that the close of a guard stays short enough to be inlined.
+    #[inline(never)]
     fn scan(&mut self, place: usize)
-        requires { place < length self.old.places }
+        requires live { IsLive self.old place }
+        requires room { sum_by waiting_count self.old.places ≤ self.old.room }
         ensures { self.new ≡ scanned self.old place }
     {
         if self.places[place].found == self.count {
-            self.marked = false;
+            if self.marked {
+                self.adopt(place);
+                self.marked = false;
+            }
             self.raise();
         }
     }
 
     /// A guard of a place is closed; the last one at countdown 0 after a scan.
     pub fn close(&mut self, place: usize)
-        requires { place < length self.old.places }
-        ensures { self.new ≡ closed self.old place }
+        requires live { IsLive self.old place }
+        requires room { sum_by waiting_count self.old.places ≤ self.old.room }
+        ensures closed { self.new ≡ closed self.old place }
+        ensures kept { KeepsPlaces self.old self.new }
     {
-        let participant = &mut self.places[place];
-        if participant.guards > 1 {
-            participant.guards -= 1;
-        } else if participant.guards == 1 {
-            self.leave(place);
+        match self.places[place].guards {
+            0 => {}
+            1 => self.leave(place),
+            _ => self.places[place].guards -= 1,
         }
     }
 
     fn leave(&mut self, place: usize)
-        requires place { place < length self.old.places }
+        requires live { IsLive self.old place }
+        requires room { sum_by waiting_count self.old.places ≤ self.old.room }
         requires open { (place_at self.old place).guards ≡ 1 }
         ensures { self.new ≡ closed self.old place }
     {
+        let marked = self.marked;
         if self.places[place].countdown == 0 {
-            let marked = self.marked;
             self.scan(place);
-            self.places[place].leave(marked);
+            self.rest(place, marked);
         } else {
-            self.places[place].leave(self.marked);
+            self.rest(place, marked);
         }
+    }
+
+    /// The last guard of a place is closed; the ended mark is as it was found.
+    fn rest(&mut self, place: usize, marked: bool)
+        requires { place < length self.old.places }
+        ensures { self.new ≡ with_place self.old place (rested marked (place_at self.old place)) }
+    {
+        self.places[place].leave(marked);
     }
 }

@@ -6,7 +6,7 @@ use Rattle.std.proofs.lemmas.Bool.Decides.{nat_tests}
 use Rattle.std.proofs.lemmas.List.Sums.{sum_by-set, sum_by_push, sum_by-cons}
 use Rattle.sdd_store.specs.Waiting.{What, Waiting, fresh, aged, left, older, is_due}
 use Rattle.sdd_store.specs.Waiting.What.{Item, Private, Job}
-use Rattle.sdd_store.specs.Time.{Time, with_place, nobody, pace_of, due_next, rotated, awaiting}
+use Rattle.sdd_store.specs.Time.{without_waiting, Time, with_place, nobody, pace_of, due_next, rotated, awaiting}
 use Rattle.sdd_store.specs.Time as time
 use Rattle.sdd_store.specs.Table.{entry_at, without_entry}
 use Rattle.sdd_store.specs.declared.time.Participant.{Participant}
@@ -17,7 +17,7 @@ use Rattle.sdd_base.specs.World.{World, standing_at, place_at}
 use Rattle.sdd_base.specs.Steps.{retired, spilled, cell_closed, held_in, owner_given, given, given_all, freed, taken_out, waiting_value, slot_reclaimed, reclaimed, all_reclaimed, changed}
 use Rattle.sdd_base.specs.Steps as steps
 use Rattle.sdd_base.specs.Holding.{Holding, owned, atomic_owned}
-use Rattle.sdd_world.specs.Closing.{without_waiting, paced, aged_out, all_aged_out}
+use Rattle.sdd_world.specs.Closing.{paced, aged_out, all_aged_out}
 
 -- how many changes it takes until what waits is gone, and one more
 abbrev to_go : Waiting → ℕ

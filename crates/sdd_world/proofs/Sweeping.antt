@@ -5,7 +5,7 @@ use Rattle.std.proofs.lemmas.List.{length-set, get_or-set_same, get_or-set_other
 use Rattle.std.proofs.lemmas.List.Sums.{sum_by-set, sum_by-cons}
 use Rattle.sdd_store.specs.Waiting.{What}
 use Rattle.sdd_store.specs.Waiting.What.{Item, Private, Job}
-use Rattle.sdd_store.specs.Time.{Time, due_next, nobody, pace_of}
+use Rattle.sdd_store.specs.Time.{without_waiting, Time, due_next, nobody, pace_of}
 use Rattle.sdd_store.specs.Time as time
 use Rattle.sdd_token.specs.Units as token
 use Rattle.sdd_store.specs.Table.{Entries, entry_at, without_entry}
@@ -20,14 +20,15 @@ use Rattle.sdd_base.specs.Steps.{retired, spilled, cell_closed, held_in, owner_g
 use Rattle.sdd_base.specs.Steps as steps
 use Rattle.sdd_base.specs.Holding.{Holding, owned, atomic_owned}
 use Rattle.sdd_base.specs.Whole.{times_with, taken, IsWhole}
-use Rattle.sdd_world.specs.Closing.{without_waiting, NothingIsOut, aged_out, all_aged_out, Closes, Names, Goes, GoesCell, AllGo, with_reclaimed, Sweeps, Accounts}
+use Rattle.sdd_world.specs.Closing.{NothingIsOut, aged_out, all_aged_out, Closes, Names, Goes, GoesCell, AllGo, with_reclaimed, Sweeps, Accounts}
 use Rattle.sdd_world.specs.Closing.Goes.{waits, given as by_giving}
 use Rattle.sdd_base.proofs.Weights.{in_range}
 use Rattle.sdd_base.specs.Out.{is_out, out, HoldsNothing}
 use Rattle.sdd_base.specs.Whole.{IsCounted}
 use Rattle.sdd_store.specs.declared.tally.Tally.{Tally}
-use Rattle.sdd_base.proofs.Whole.{same-or-not, one_where, waits-inside}
+use Rattle.sdd_base.proofs.Whole.{one_where, waits-inside}
 use Rattle.sdd_base.proofs.Opening.{none-here}
+use Rattle.sdd_store.proofs.Adopting.{same-or-not}
 
 -- one of them
 abbrev Among : Holding → List Holding → Type 0

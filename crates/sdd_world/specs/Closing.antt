@@ -1,8 +1,7 @@
 -- What the closing of a world does
-use Rattle.std.specs.Prelude.{ℕ, zero, suc, ◌+◌, ◌≡◌, All, Any, Contains, IsNone, IsSome, IsTrue, List, [], ◌∷◌, length, map, is_some, count_by, None, Some}
-use Rattle.sdd_store.specs.declared.time.Participant.{Participant}
+use Rattle.std.specs.Prelude.{ℕ, zero, suc, ◌+◌, ◌≡◌, All, Contains, IsNone, IsSome, List, [], ◌∷◌, length, map, None, Some}
 use Rattle.sdd_store.specs.declared.time.Pace.{Pace}
-use Rattle.sdd_store.specs.Time.{Time, is_open, pace_of, paced_at}
+use Rattle.sdd_store.specs.Time.{Time, pace_of, paced_at, without_waiting}
 use Rattle.sdd_token.specs.Units as token
 use Rattle.sdd_store.specs.Table.{entry_at}
 use Rattle.sdd_store.specs.Tally.{one_reclaimed}
@@ -14,11 +13,7 @@ use Rattle.sdd_base.specs.World.{World, place_at, standing_at, value_at}
 use Rattle.sdd_base.specs.Steps.{changed, held_in}
 use Rattle.sdd_base.specs.Whole.{taken, IsCounted}
 
--- nothing waits with the participant
-abbrev pub without_waiting : Participant → Participant
-without_waiting p = record p { bags = record p.bags { waiting = [] } }
-
--- nothing waits with anyone
+-- nothing waits with anyone, nor at the place of anyone who has ended
 abbrev pub emptied : Time → Time
 emptied t = record t { places = map without_waiting t.places }
 

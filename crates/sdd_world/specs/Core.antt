@@ -1,11 +1,11 @@
 -- What the parts of a world keep true of each other
 use Rattle.std.specs.Prelude.{ℕ, ◌+◌, ◌≤◌, ◌≡◌, List, length, None, sum_by, count_by}
-use Rattle.sdd_store.specs.Time.{Time}
+use Rattle.sdd_store.specs.Time.{Time, waiting_count}
 use Rattle.sdd_store.specs.Table.{entry_at}
 use Rattle.sdd_slots.specs.Slots.{Slots}
 use Rattle.sdd_slots.specs.Cells.{Cells}
 use Rattle.sdd_base.specs.Holding.{Holding, ValuesAreOf}
-use Rattle.sdd_base.specs.World.{waiting_count, is_loose}
+use Rattle.sdd_base.specs.World.{is_loose}
 use Rattle.sdd_base.specs.Steps.{held_in}
 
 pub record IsSound {T : Type 0} (holds : T → List Holding) (t : Time) (s : Slots T) (c : Cells) : Type 0 where

@@ -6,11 +6,11 @@ ghost use Rattle.sdd_store.specs.Waiting.What.{Item};
 ghost use Rattle.sdd_store.specs.Time as time;
 ghost use Rattle.sdd_store.specs.Table.{entry_at, IsEmptyAt, IsFull};
 ghost use Rattle.sdd_base.specs.Holding.{AreOf, ValuesAreOf};
-ghost use Rattle.sdd_base.specs.Seat.{seat_on, IsSeated, IsExact};
+ghost use Rattle.sdd_base.specs.Seat.{seat_for, IsSeated, IsExact};
 ghost use Rattle.sdd_base.specs.Own.{GrowsOn};
 ghost use Rattle.sdd_base.specs.Owned.{slots_home, cells_home, holding_of, cell_holding};
-ghost use Rattle.sdd_base.specs.World.{World, IsBlank, weight, KeepsSizes, place_at, standing_at, value_at, IsPlaceOf};
-ghost use Rattle.sdd_base.specs.Steps.{made, retired, nulled, cell_closed, given, given_all, slot_reclaimed, all_reclaimed, rotated, settled, opened, changed, nested, closed, stirred, accelerated, registered};
+ghost use Rattle.sdd_base.specs.World.{World, IsBlank, weight, KeepsSizes, place_at, standing_at, value_at, HasPlace, IsPlaceOf};
+ghost use Rattle.sdd_base.specs.Steps.{made, retired, nulled, cell_closed, given, given_all, slot_reclaimed, all_reclaimed, rotated, settled, opened, changed, nested, closed, stirred, accelerated, registered, ended};
 ghost use Rattle.sdd_base.specs.Whole.{IsWhole};
 ghost use Rattle.sdd_world.specs.Closing.{paced, NothingIsOut};
 
@@ -74,15 +74,30 @@ impl<T: Item<T>> Core<T> {
 
     /// The item waits with a place.
     pub fn retire(&mut self, place: usize, right: Right)
-        requires place { IsPlaceOf self.old place }
+        requires place { HasPlace self.old place }
         requires home { home_of right ≡ self.old.home.slots }
         ensures owned { standing_at self.old (number_of right) ≡ Some Standing.Owned }
         ensures retired { self.new ≡ retired self.old place (number_of right) }
         ensures sizes { KeepsSizes self.old self.new }
-        ensures whole { IsWhole self.old → IsWhole self.new }
+        ensures whole { IsPlaceOf self.old place → IsWhole self.old → IsWhole self.new }
     {
         let slot = self.slots.retire(right);
         self.time.wait(place, slot);
+    }
+
+    /// The item waits at some place that isn't free.
+    pub fn leave(&mut self, right: Right)
+        requires some { (p : ℕ) × IsSome (time.phase_at self.old.time p) }
+        requires home { home_of right ≡ self.old.home.slots }
+        ensures owned { standing_at self.old (number_of right) ≡ Some Standing.Owned }
+        ensures left { (p : ℕ) × IsSome (time.phase_at self.old.time p) × (self.new ≡ retired self.old p (number_of right)) }
+        ensures sizes { KeepsSizes self.old self.new }
+        ensures whole { IsWhole self.old → IsWhole self.new }
+    {
+        let Some(place) = self.time.some_taken() else {
+            unreachable!()
+        };
+        self.retire(place, right);
     }
 
     /// A free cell holds nothing.
@@ -98,11 +113,11 @@ impl<T: Item<T>> Core<T> {
 
     /// The cell is free again. No cell can hold an item yet, so there is nothing to retire.
     pub fn close_cell(&mut self, place: usize, right: Right)
-        requires place { IsPlaceOf self.old place }
+        requires place { HasPlace self.old place }
         requires home { home_of right ≡ self.old.home.cells }
         ensures closed { self.new ≡ cell_closed self.old place (number_of right) }
         ensures sizes { KeepsSizes self.old self.new }
-        ensures whole { IsWhole self.old → IsWhole self.new }
+        ensures whole { IsPlaceOf self.old place → IsWhole self.old → IsWhole self.new }
     {
         let _ = place;
         let _ = self.cells.close(right);
@@ -126,27 +141,27 @@ impl<T: Item<T>> Drop for Retirement<'_, T> {
 impl<T: Item<T>> Giver<T> for Retirement<'_, T> {
     ghost world = { λ r. r.core.now };
 
-    ghost seat = { λ r. seat_on r.core.now r.place r.core.ghost_name };
+    ghost seat = { λ r. seat_for r.core.now r.place r.core.ghost_name };
 
     ghost own = { λ r. place_at r.core.now r.place };
 
     fn owned(&mut self, owner: Owned<T>)
-        requires seated { IsSeated (seat_on self.old.core.now self.old.place self.old.core.ghost_name) }
+        requires seated { IsSeated (seat_for self.old.core.now self.old.place self.old.core.ghost_name) }
         requires home { slots_home owner ≡ self.old.core.now.home.slots }
-        ensures seat { seat_on self.new.core.now self.new.place self.new.core.ghost_name ≡ seat_on self.old.core.now self.old.place self.old.core.ghost_name }
+        ensures seat { seat_for self.new.core.now self.new.place self.new.core.ghost_name ≡ seat_for self.old.core.now self.old.place self.old.core.ghost_name }
         ensures own { GrowsOn (place_at self.old.core.now self.old.place) (place_at self.new.core.now self.new.place) }
-        ensures exact { IsExact (seat_on self.old.core.now self.old.place self.old.core.ghost_name) →
+        ensures exact { IsExact (seat_for self.old.core.now self.old.place self.old.core.ghost_name) →
             self.new.core.now ≡ given self.old.core.now self.old.place (holding_of owner) }
     {
         self.core.retire(self.place, inner::right_of_owner(owner));
     }
 
     fn atomic_owned(&mut self, cell: AtomicOwned<T>)
-        requires seated { IsSeated (seat_on self.old.core.now self.old.place self.old.core.ghost_name) }
+        requires seated { IsSeated (seat_for self.old.core.now self.old.place self.old.core.ghost_name) }
         requires home { cells_home cell ≡ self.old.core.now.home.cells }
-        ensures seat { seat_on self.new.core.now self.new.place self.new.core.ghost_name ≡ seat_on self.old.core.now self.old.place self.old.core.ghost_name }
+        ensures seat { seat_for self.new.core.now self.new.place self.new.core.ghost_name ≡ seat_for self.old.core.now self.old.place self.old.core.ghost_name }
         ensures own { GrowsOn (place_at self.old.core.now self.old.place) (place_at self.new.core.now self.new.place) }
-        ensures exact { IsExact (seat_on self.old.core.now self.old.place self.old.core.ghost_name) →
+        ensures exact { IsExact (seat_for self.old.core.now self.old.place self.old.core.ghost_name) →
             self.new.core.now ≡ given self.old.core.now self.old.place (cell_holding cell) }
     {
         self.core.close_cell(self.place, inner::right_of_cell(cell));
@@ -156,7 +171,7 @@ impl<T: Item<T>> Giver<T> for Retirement<'_, T> {
 impl<T: Item<T>> Core<T> {
     /// An item that waited is reclaimed, and its value gives up to the place what it holds.
     fn reclaim(&mut self, place: usize, slot: u32)
-        requires place { IsPlaceOf self.old place }
+        requires place { HasPlace self.old place }
         requires room { weight self.old < length self.old.standings }
         ensures { self.new ≡ slot_reclaimed T.holds self.old place slot }
     {
@@ -169,7 +184,7 @@ impl<T: Item<T>> Core<T> {
     }
 
     fn reclaim_all(&mut self, place: usize, due: &[u32])
-        requires place { IsPlaceOf self.old place }
+        requires place { HasPlace self.old place }
         requires room { weight self.old + length due.now ≤ length self.old.standings }
         ensures reclaimed { self.new ≡ all_reclaimed T.holds self.old place (map Item due.now) }
         ensures sizes { KeepsSizes self.old self.new }
@@ -198,7 +213,7 @@ impl<T: Item<T>> Core<T> {
 
     /// A change of a place: what is due is reclaimed.
     pub fn change(&mut self, place: usize, spare: &mut Vec<u32>)
-        requires place { IsPlaceOf self.old place }
+        requires place { HasPlace self.old place }
         requires empty { spare.old.items ≡ [] }
         requires reserved { length self.old.standings ≤ vec_capacity spare.old }
         ensures changed { self.new ≡ changed T.holds self.old place }
@@ -214,7 +229,7 @@ impl<T: Item<T>> Core<T> {
     }
 
     fn reclaim_due(&mut self, place: usize, spare: &mut Vec<u32>)
-        requires place { IsPlaceOf self.old place }
+        requires place { HasPlace self.old place }
         requires empty { spare.old.items ≡ [] }
         requires reserved { length self.old.standings ≤ vec_capacity spare.old }
         ensures changed { self.new ≡ changed T.holds self.old place }
@@ -230,7 +245,7 @@ impl<T: Item<T>> Core<T> {
 
     /// A change of a place with which nothing waits.
     fn catch_up(&mut self, place: usize)
-        requires place { IsPlaceOf self.old place }
+        requires place { HasPlace self.old place }
         requires clear { (place_at self.old place).bags.waiting ≡ [] }
         ensures changed { self.new ≡ changed T.holds self.old place }
         ensures sizes { KeepsSizes self.old self.new }
@@ -245,7 +260,7 @@ impl<T: Item<T>> Core<T> {
 
     /// What has seen three changes comes out, into the empty bag that is handed in.
     fn rotate(&mut self, place: usize, bag: &mut Vec<u32>)
-        requires place { IsPlaceOf self.old place }
+        requires place { HasPlace self.old place }
         requires empty { bag.old.items ≡ [] }
         requires reserved { length self.old.standings ≤ vec_capacity bag.old }
         ensures rotated { self.new ≡ rotated self.old place }
@@ -258,7 +273,7 @@ impl<T: Item<T>> Core<T> {
     }
 
     fn settle(&mut self, place: usize)
-        requires place { IsPlaceOf self.old place }
+        requires place { HasPlace self.old place }
         ensures settled { self.new ≡ settled self.old place }
         ensures sizes { KeepsSizes self.old self.new }
     {
@@ -293,7 +308,7 @@ impl<T: Item<T>> Core<T> {
     }
 
     pub fn set_pace(&mut self, place: usize, pace: Pace)
-        requires place { IsPlaceOf self.old place }
+        requires place { HasPlace self.old place }
         ensures paced { self.new ≡ paced self.old place pace }
         ensures sizes { KeepsSizes self.old self.new }
     {
@@ -338,14 +353,24 @@ impl<T: Item<T>> Core<T> {
         })
     }
 
-    pub fn register(&mut self, alloc: Global) -> Result<usize, Refused>
+    pub fn register(&mut self) -> Result<usize, Refused>
         ensures registered { MatchResult result
-            (λ p. time.IsNext self.old.time p × (self.new ≡ registered self.old))
+            (λ p. time.IsVacant self.old.time p × (self.new ≡ registered self.old p))
             (λ e. ((e ≡ Refused.NoPlace) × time.IsCrowded self.old.time ⊎ (e ≡ Refused.NoMemory) × ¬ (time.IsCrowded self.old.time)) × (self.new ≡ self.old)) }
         ensures slots { (length self.new.standings ≡ length self.old.standings) × (self.new.home ≡ self.old.home) }
         ensures whole { IsWhole self.old → IsWhole self.new }
     {
-        self.time.register(alloc)
+        self.time.register()
+    }
+
+    /// What waits with a participant is left at its place, until another one adopts it.
+    pub fn end(&mut self, place: usize)
+        requires place { IsPlaceOf self.old place }
+        ensures ended { self.new ≡ ended self.old place }
+        ensures slots { (length self.new.standings ≡ length self.old.standings) × (self.new.home ≡ self.old.home) }
+        ensures whole { ¬ (IsTrue (time.is_open (place_at self.old place))) → IsWhole self.old → IsWhole self.new }
+    {
+        self.time.end(place);
     }
 
     pub fn time(&self) -> &Time

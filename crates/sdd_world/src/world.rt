@@ -1,19 +1,21 @@
-ghost use Rattle.std.specs.Prelude.{◌≡◌, ℕ, ◌+◌, ◌<◌, ◌≤◌, ◌⊎◌, [], map, length, Some, None, Option, IfOk, MatchOption, MatchResult, IsSome, IsTrue, ◌↔◌};
+ghost use Rattle.std.specs.Prelude.{◌≡◌, ◌≢◌, ℕ, ◌+◌, ◌<◌, ◌≤◌, ◌⊎◌, [], false, map, length, Some, None, Option, IfOk, IfSome, MatchOption, MatchResult, IsSome, IsTrue, ◌↔◌};
 ghost use Rattle.sdd_token.specs.Right.{number_of, home_of};
 ghost use Rattle.sdd_store.specs.Waiting.What.{Item};
-ghost use Rattle.sdd_store.specs.Time.{CanNest, IsNext, IsCrowded, due_next};
+ghost use Rattle.sdd_store.specs.Time.{CanNest, phase_at, IsVacant, IsCrowded, is_open, due_next};
 ghost use Rattle.sdd_store.specs.Table.{IsEmptyAt, IsFull};
 ghost use Rattle.sdd_base.specs.Holding.{AreOf};
-ghost use Rattle.sdd_base.specs.World.{World, IsGuarded, IsPlaceOf, IsNew};
+ghost use Rattle.sdd_store.specs.declared.standing.Standing.TheVariants as standing;
+ghost use Rattle.sdd_base.specs.World.{World, IsGuarded, IsPlaceOf, IsNew, place_at, standing_at};
+ghost use Rattle.sdd_base.specs.Owned.{slot_of, slots_home};
 ghost use Rattle.sdd_base.specs.Out.{out};
 ghost use Rattle.sdd_base.specs.Limits.{AreInRange};
-ghost use Rattle.sdd_base.specs.Steps.{made, retired, nulled, cell_closed, opened, changed, closed, stirred, accelerated, registered, reclaims};
+ghost use Rattle.sdd_base.specs.Steps.{made, retired, nulled, cell_closed, opened, changed, closed, stirred, accelerated, registered, ended, reclaims};
 
 mod closing;
 mod laws;
 
 use crate::inside::Core;
-use sdd_base::{Item, Limits};
+use sdd_base::{Item, Limits, Owned, inner};
 use sdd_core::Refused;
 use sdd_store::{Tally, Time};
 use std::alloc::Global;
@@ -49,7 +51,7 @@ pub struct Place {
 impl Place {
     ghost use Rattle.sdd_world.specs.Place.{index_of};
 
-    /// Its number: participants are numbered in the order of their registering.
+    /// Its number. The place of a participant that has ended is given out again once it was adopted.
     pub fn index(&self) -> usize
         ensures { result ≡ index_of self.now }
     {
@@ -96,17 +98,37 @@ impl<T: Item<T>> World<T> {
         Ok(World { core, spare, alloc })
     }
 
-    /// Registers a participant.
+    /// Registers a participant, at some place that isn't taken: a free one, or one more.
     ///
     /// `NoPlace` where all places are taken; `NoMemory` where the memory for what may wait with it was refused.
     pub fn register(&mut self) -> Result<Place, Refused>
         ensures registered { MatchResult result
-            (λ place. IsNext self.old.time (index_of place) × (self.new ≡ registered self.old))
+            (λ place. IsVacant self.old.time (index_of place) × (self.new ≡ registered self.old (index_of place)))
             (λ e. ((e ≡ Refused.NoPlace) × IsCrowded self.old.time ⊎ (e ≡ Refused.NoMemory) × ¬ (IsCrowded self.old.time)) × (self.new ≡ self.old)) }
+        ensures place { IfOk result (λ place. IsPlaceOf self.new (index_of place)) }
+        ensures others { IfOk result (λ place. (p : ℕ) → IsPlaceOf self.old p → (p ≢ index_of place) × IsPlaceOf self.new p) }
         ensures quiet { ¬ (IsGuarded self.old) → ¬ (IsGuarded self.new) }
     {
-        let index = self.core.register(self.alloc)?;
+        let index = self.core.register()?;
         Ok(Place { index })
+    }
+
+    /// Ends a participant: what waits with it is left until another participant adopts it, as if it were retired then. Until then its place is taken.
+    ///
+    /// `GuardOpen` where a guard of it is open: the place comes back, and nothing has changed.
+    pub fn end(&mut self, place: Place) -> Result<(), (Place, Refused)>
+        requires { IsPlaceOf self.old (index_of place) }
+        ensures ended { MatchResult result
+            (λ _. ¬ (IsTrue (is_open (place_at self.old (index_of place)))) × (self.new ≡ ended self.old (index_of place)))
+            (λ e. IsTrue (is_open (place_at self.old (index_of place))) × (e ≡ (place, Refused.GuardOpen)) × (self.new ≡ self.old)) }
+        ensures others { (p : ℕ) → p ≢ index_of place → IsPlaceOf self.old p → IsPlaceOf self.new p }
+        ensures quiet { ¬ (IsGuarded self.old) → ¬ (IsGuarded self.new) }
+    {
+        if self.time().is_open(place.index) {
+            return Err((place, Refused::GuardOpen));
+        }
+        self.core.end(place.index);
+        Ok(())
     }
 
     /// How many items were made, reclaimed and dropped in place so far.
@@ -114,6 +136,16 @@ impl<T: Item<T>> World<T> {
         ensures { result ≡ self.now.tally }
     {
         self.core.tally()
+    }
+
+    /// The owner's item waits at some place that isn't free: with a participant, or where one left it that has ended.
+    pub(crate) fn leave(&mut self, owner: Owned<T>)
+        requires some { (p : ℕ) × IsSome (phase_at self.old.time p) }
+        requires home { slots_home owner ≡ self.old.home.slots }
+        ensures owned { standing_at self.old (slot_of owner) ≡ Some standing.Owned }
+        ensures left { (p : ℕ) × IsSome (phase_at self.old.time p) × (self.new ≡ retired self.old p (slot_of owner)) }
+    {
+        self.core.leave(inner::right_of_owner(owner));
     }
 
     pub(crate) fn time(&self) -> &Time

@@ -1,9 +1,9 @@
-ghost use Rattle.std.specs.Prelude.{◌≡◌, ◌↔◌, ℕ, ◌⊎◌, IfErr, IfOk, IsOk, List, MatchResult};
-ghost use Rattle.sdd_store.specs.Time.{place_at, with_place};
-ghost use Rattle.sdd_base.specs.World.{World, IsGuarded, KeepsSizes, IsPlaceOf};
+ghost use Rattle.std.specs.Prelude.{◌≡◌, ◌≢◌, [], ◌↔◌, ℕ, ◌⊎◌, IfErr, IfOk, IsOk, List, MatchResult};
+ghost use Rattle.sdd_store.specs.Time.{without_waiting, place_at, with_place};
+ghost use Rattle.sdd_base.specs.World.{World, IsGuarded, KeepsSizes, HasPlace};
 ghost use Rattle.sdd_base.specs.Whole.{taken};
 ghost use Rattle.sdd_base.specs.Out.{out, HoldsNothing};
-ghost use Rattle.sdd_world.specs.Closing.{without_waiting, NothingIsOut, aged_out, all_aged_out, Closes, AllGo, Accounts, Sweeps, with_reclaimed};
+ghost use Rattle.sdd_world.specs.Closing.{NothingIsOut, aged_out, all_aged_out, Closes, AllGo, Accounts, Sweeps, with_reclaimed};
 
 use super::World;
 use sdd_base::Item;
@@ -12,6 +12,7 @@ use sdd_store::Tally;
 
 impl<T: Item<T>> World<T> {
     /// Ends the world: reclaims what waits, with what it gives up in turn, and answers the tally. Participants need not have ended.
+    /// What ended ones left is reclaimed too.
     ///
     /// `GuardOpen` where a guard of some participant is open: nothing has changed. `OwnerOut` where an owner or a cell is still out: what waited
     /// has been reclaimed. With either the world comes back.
@@ -53,7 +54,7 @@ impl<T: Item<T>> World<T> {
 
     /// Reclaims what waits with a place.
     fn clear_place(&mut self, place: usize)
-        requires { IsPlaceOf self.old place }
+        requires { HasPlace self.old place }
         ensures changes { (places : List ℕ) × (self.new ≡ all_aged_out T.holds self.old places) }
         ensures time { self.new.time ≡ with_place self.old.time place (without_waiting (place_at self.old.time place)) }
         ensures home { self.new.home ≡ self.old.home }
@@ -65,7 +66,8 @@ impl<T: Item<T>> World<T> {
 
     /// A change of a place, which keeps its pace.
     fn age_out(&mut self, place: usize)
-        requires { IsPlaceOf self.old place }
+        requires place { HasPlace self.old place }
+        requires waits { (place_at self.old.time place).bags.waiting ≢ [] }
         ensures aged { self.new ≡ aged_out T.holds self.old place }
         ensures sizes { KeepsSizes self.old self.new }
     {

@@ -4,6 +4,7 @@ ghost use Rattle.sdd_base.specs.Out.{OutLaws};
 ghost use Rattle.sdd_base.specs.Left.{FourGuardsReclaim, GoesAtLatest, GoesInTime};
 ghost use Rattle.sdd_base.specs.World.{World};
 ghost use Rattle.sdd_base.specs.Passing.{GuardsPass, ItemsPass};
+ghost use Rattle.sdd_base.specs.Adopting.{AdoptsWhatIsLeft};
 ghost use Rattle.sdd_base.specs.Under.{KeepsFreshUnderGuards, KeepsUnderGuards};
 
 use super::World;
@@ -44,6 +45,13 @@ impl<T: Item<T>> World<T> {
     /// Four accelerated guards of a participant, one after another, reclaim all that waits with it, where no other guard is open.
     pub fn four_guards_reclaim(&self)
         ensures { FourGuardsReclaim T.holds self.now }
+    {
+        self.is_whole();
+    }
+
+    /// A close that scans takes over what ended participants left: it waits with who scans, with no change seen, and their places are free.
+    pub fn adopts_what_is_left(&self)
+        ensures { AdoptsWhatIsLeft self.now }
     {
         self.is_whole();
     }

@@ -1,5 +1,3 @@
-use Rattle.std.proofs.Common.{◌≡◌}
-use Rattle.sdd_base.specs.Left.{four_guards}
 use Rattle.sdd_world.specs.Place.{index_of}
 use Rattle.sdd_client.proofs.guards.four_guards.Goals as goal
 

@@ -1,4 +1,4 @@
-use Rattle.std.proofs.Common.{◌≡◌, ◌∙◌, ℕ, ap, arith, length}
+use Rattle.std.proofs.Common.{◌≡◌, ◌∙◌, ap, arith, length}
 use Rattle.sdd_store.specs.Tally.{no_items}
 use Rattle.sdd_base.proofs.Passing.{tally_is}
 use Rattle.sdd_client.proofs.programs.many_items.Goals as goal

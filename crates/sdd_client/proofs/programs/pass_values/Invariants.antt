@@ -1,4 +1,4 @@
-use Rattle.std.proofs.Common.{◌+◌, ◌-◌, ◌≡◌, length, ℕ}
+use Rattle.std.proofs.Common.{◌+◌, ◌≡◌, length, ℕ}
 use Rattle.sdd_base.specs.Passing.{HavePassed}
 use Rattle.sdd_client.proofs.programs.pass_values.Given as goal
 

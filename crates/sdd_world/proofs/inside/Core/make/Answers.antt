@@ -1,5 +1,6 @@
 use Rattle.sdd_token.specs.Right.{number_of}
-use Rattle.sdd_base.proofs.Whole.{Whole-made, made-keeps}
+use Rattle.sdd_base.proofs.Housed.{Whole-made, items}
+use Rattle.sdd_base.proofs.Whole.{made-keeps}
 use Rattle.sdd_world.proofs.inside.Core.make.Goals as goal
 
 pub returns-clause-whole : goal.returns-clause-whole
@@ -9,4 +10,4 @@ returns-clause-whole g c =
 
 pub returns-clause-keeps : goal.returns-clause-keeps
 returns-clause-keeps g c =
-    rw (← c.self.view_is, c.in_ok-right.ensures.made) (λ i. made-keeps _ (number_of c.in_ok-right.right) c.args.value i c.in_ok-right.ensures.free.1)
+    rw (← c.self.view_is, c.in_ok-right.ensures.made) (λ i. made-keeps _ (number_of c.in_ok-right.right) c.args.value (items i) c.in_ok-right.ensures.free.1)

@@ -1,4 +1,4 @@
-use Rattle.sdd_base.proofs.Whole.{Whole-changes_nested}
+use Rattle.sdd_base.proofs.Housed.{Whole-changes_nested}
 use Rattle.sdd_world.proofs.inside.Core.open.Goals as goal
 
 pub returns-then-open-clause-whole : goal.returns-then-open-clause-whole

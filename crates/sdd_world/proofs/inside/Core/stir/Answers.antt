@@ -1,4 +1,4 @@
-use Rattle.sdd_base.proofs.Whole.{Whole-stirred}
+use Rattle.sdd_base.proofs.Housed.{Whole-stirred}
 use Rattle.sdd_world.proofs.inside.Core.stir.Goals as goal
 
 pub returns-clause-whole : goal.returns-clause-whole

@@ -8,4 +8,4 @@ returns-clause-own g c =
     let w = c.args.self.now.core.now in
     let p : ℕ = c.args.self.now.place in
     let slot : ℕ = slot_of c.args.owner in
-    rw (c.retire.ensures.retired, c.right_of_owner.ensures.slot) (gives-grows c.requires.seated (Gives-retired w p slot))
+    rw (c.retire.ensures.retired, c.right_of_owner.ensures.slot) (gives-grows c.requires.seated.0 (Gives-retired w p slot))

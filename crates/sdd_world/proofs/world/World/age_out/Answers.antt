@@ -1,8 +1,9 @@
-use Rattle.std.proofs.Common.{◌<◌, length, arith}
+use Rattle.std.proofs.Common.{◌<◌, ◌≢◌, [], length, arith}
 use Rattle.sdd_store.specs.Time.{pace_of}
 use Rattle.sdd_base.specs.World.{place_at}
 use Rattle.sdd_base.specs.Steps.{changed}
-use Rattle.sdd_base.proofs.Whole.{Whole-changed, Whole-paced, abreast-paced}
+use Rattle.sdd_base.proofs.Housed.{Whole-changed, Whole-paced, IsTaken, items, taken-changed}
+use Rattle.sdd_base.proofs.Whole.{abreast-paced}
 use Rattle.sdd_world.proofs.world.World.age_out.Goals as goal
 
 pub invariant_of-self : goal.invariant_of-self
@@ -10,11 +11,13 @@ invariant_of-self g c =
     let holds = g.T.Item.holds in
     let w = c.self.inside.core in
     let p = c.args.place in
-    let l : p < length w.time.places = rw c.self.view_is c.requires in
+    let l : p < length w.time.places = rw (← c.self.view_is) at c.requires.place in
+    let waits : (place_at w p).bags.waiting ≢ [] = rw (← c.self.view_is) at c.requires.waits in
     let whole = c.self.invariant.2 in
-    let inside : p < length (changed holds w p).time.places = omega (arith, l, rw c.change.ensures.changed at c.change.ensures.sizes.places) in (
+    let taken : IsTaken w.time p = record { there = l; taken = λ none. waits (whole.housed.bare p none) } in
+    let still = taken-changed holds w p taken in (
       c.change.ensures.empty,
       omega (arith, c.change.ensures.reserved, c.set_pace.ensures.sizes.slots),
       rw (c.set_pace.ensures.paced, c.pace-pace.ensures, c.time.ensures, ← c.self.view_is, c.change.ensures.changed)
-          (Whole-paced (changed holds w p) p (pace_of (place_at w p)) inside (abreast-paced holds w p l whole) (Whole-changed holds w p l whole)),
+          (Whole-paced (changed holds w p) p (pace_of (place_at w p)) still (abreast-paced holds w p l (items whole)) (Whole-changed holds w p taken whole)),
     )

@@ -1,6 +1,6 @@
 use Rattle.std.proofs.Common.{◌<◌, ◌++◌, ap, ◌∙◌, sym, length, arith}
-use Rattle.sdd_store.specs.Time.{place_at, with_place}
-use Rattle.sdd_world.specs.Closing.{without_waiting, all_aged_out}
+use Rattle.sdd_store.specs.Time.{without_waiting, place_at, with_place}
+use Rattle.sdd_world.specs.Closing.{all_aged_out}
 use Rattle.sdd_world.proofs.Closing.{all_aged_out-append, emptied_to-more}
 use Rattle.sdd_world.proofs.world.World.clear.Goals as goal
 

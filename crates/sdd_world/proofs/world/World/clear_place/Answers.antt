@@ -7,6 +7,12 @@ use Rattle.sdd_world.proofs.world.World.clear_place.Goals as goal
 pub loop-self-init : goal.loop-self-init
 loop-self-init g c = record { changes = ([], refl); place = c.requires; only = MovesWaiting-refl _ _; home = refl }
 
+pub age_out-requires : goal.age_out-requires
+age_out-requires g c =
+    let waits : (place_at c.loop-self.self c.args.place).bags.waiting ≡ [] → ⊥ =
+    λ e. let clear : IsTrue c.is_clear.result = c.is_clear.ensures.1 (rw c.time.ensures e) in cc in
+    record { place = c.loop-self.invariant.place; waits = waits }
+
 pub loop-self-smaller : goal.loop-self-smaller
 loop-self-smaller g c =
     let waits : (place_at c.loop-self.self c.args.place).bags.waiting ≡ [] → ⊥ =
