@@ -2,13 +2,13 @@
 use Rattle.std.specs.Prelude.{◌≡◌, ℕ, ◌^◌, ◌<◌, List, [], ◌∷◌, codes, map}
 use Rattle.std.specs.List.{join_with_byte, AllByRecursion}
 use Rattle.std.specs.Fmt.{decimal}
-use Rattle.sdd_lines.specs.Name.{place, guard, owner, item}
-use Rattle.sdd_lines.specs.declared.call.Action.{Action}
-use Rattle.sdd_lines.specs.declared.call.Action.TheVariants.{Open, Epoch, Garbage, Set, Accelerate, Owned, Read, Look, Retire, Close}
-use Rattle.sdd_lines.specs.declared.call.Argument.{Argument}
-use Rattle.sdd_lines.specs.declared.call.Argument.TheVariants.{Number, Guard, Owner, Item}
-use Rattle.sdd_lines.specs.declared.call.Call.{Call}
-use Rattle.sdd_lines.specs.declared.call.Call.TheVariants.{Register, Tally, At}
+pub use Rattle.sdd_lines.specs.Name.{place, guard, owner, item}
+pub use Rattle.sdd_lines.specs.declared.call.Action.{Action}
+pub use Rattle.sdd_lines.specs.declared.call.Action.TheVariants.{Open, Epoch, Garbage, Set, Accelerate, Owned, Read, Look, Retire, Close, End}
+pub use Rattle.sdd_lines.specs.declared.call.Argument.{Argument}
+pub use Rattle.sdd_lines.specs.declared.call.Argument.TheVariants.{Number, Guard, Owner, Item}
+pub use Rattle.sdd_lines.specs.declared.call.Call.{Call}
+pub use Rattle.sdd_lines.specs.declared.call.Call.TheVariants.{Register, Tally, At}
 
 -- words as a text
 abbrev pub joined : List (List ℕ) → List ℕ
@@ -33,6 +33,7 @@ spoken (Read o) = (codes "read", Owner o ∷ [])
 spoken (Look i g) = (codes "look", Item i ∷ Guard g ∷ [])
 spoken (Retire o) = (codes "retire", Owner o ∷ [])
 spoken (Close g) = (codes "close", Guard g ∷ [])
+spoken End = (codes "end", [])
 
 -- a place, a verb and its arguments
 abbrev pub words_of : Call → List (List ℕ)

@@ -1,18 +1,11 @@
 -- Reading a line, word by word. Only private functions cite this: what a line is, `Call` says by the calls' own texts.
-use Rattle.std.specs.Prelude.{ℕ, ◌^◌, ◌&&◌, List, [], ◌∷◌, Option, Some, None, codes, if◌then◌else◌, ◌==◌, nat_lt}
-use Rattle.std.specs.Borrow.{Bor}
+use Rattle.std.specs.Prelude.{◌≡◌, ℕ, ◌^◌, ◌&&◌, List, [], ◌∷◌, Option, Some, None, IfSome, codes, if◌then◌else◌, ◌==◌, nat_lt}
 use Rattle.std.specs.List.{slice_split}
-use Rattle.std.specs.Option.{option_and_then, option_or}
+use Rattle.std.specs.Option.{option_and_then}
 use Rattle.std.specs.Fmt.{decimal}
 use Rattle.std.specs.Str.{bytes_eq}
 use Rattle.std.specs.Str.Parse.{digits_value}
-use Rattle.sdd_lines.specs.Call.{spoken}
-use Rattle.sdd_lines.specs.declared.call.Action.{Action}
-use Rattle.sdd_lines.specs.declared.call.Action.TheVariants.{Open, Epoch, Garbage, Set, Accelerate, Owned, Read, Look, Retire, Close}
-use Rattle.sdd_lines.specs.declared.call.Argument.{Argument}
-use Rattle.sdd_lines.specs.declared.call.Argument.TheVariants.{Number, Guard, Owner, Item}
-use Rattle.sdd_lines.specs.declared.call.Call.{Call}
-use Rattle.sdd_lines.specs.declared.call.Call.TheVariants.{Register, Tally, At}
+use Rattle.sdd_lines.specs.Call.{spoken, IsWordOf, Call, Register, Tally, At, Action, Open, Epoch, Garbage, Set, Accelerate, Owned, Read, Look, Retire, Close, End, Argument, Number, Guard, Owner, Item}
 
 infixl 10 ◌>>=◌
 abbrev pub ◌>>=◌ : {A B : Type 0} → Option A → (A → Option B) → Option B
@@ -22,10 +15,10 @@ o >>= f = option_and_then f o
 abbrev pub words : List ℕ → List (List ℕ)
 words text = slice_split (λ byte. byte == 32) text
 
--- the words of a text that may be there
-abbrev pub words_left : Option (Bor (List ℕ)) → List (List ℕ)
-words_left None = []
-words_left (Some text) = words text.now
+-- the one number that a word is, if it is any
+pub record IsNumberOf (word : List ℕ) (number : Option ℕ) : Type 0 where
+  pub sound : IfSome number (λ n. IsWordOf n word)
+  pub whole : (n : ℕ) → IsWordOf n word → number ≡ Some n
 
 -- a number of 64 bits, in its one form
 unfoldable pub number_at : List ℕ → Option ℕ
@@ -36,43 +29,35 @@ abbrev pub numbered_at : ℕ → List ℕ → Option ℕ
 numbered_at letter [] = None
 numbered_at letter (byte ∷ bytes) = if byte == letter then number_at bytes else None
 
+-- a number by itself, or behind a letter that says what it names
 abbrev pub argument_at : List ℕ → Option Argument
-argument_at word = option_or (numbered_at 103 word >>= λ n. Some (Guard (record { 0 = n })))
-    (option_or (numbered_at 111 word >>= λ n. Some (Owner (record { 0 = n })))
-    (option_or (numbered_at 105 word >>= λ n. Some (Item (record { 0 = n }))) (number_at word >>= λ n. Some (Number n))))
+argument_at [] = None
+argument_at (byte ∷ bytes) =
+    if byte == 103 then (number_at bytes >>= λ n. Some (Guard (record { 0 = n })))
+    else (if byte == 111 then (number_at bytes >>= λ n. Some (Owner (record { 0 = n })))
+    else (if byte == 105 then (number_at bytes >>= λ n. Some (Item (record { 0 = n }))) else (number_at (byte ∷ bytes) >>= λ n. Some (Number n))))
 
-abbrev pub arguments_at : List (List ℕ) → Option (List Argument)
-arguments_at [] = Some []
-arguments_at (word ∷ words) = do
-  argument ← argument_at word
-  arguments ← arguments_at words
-  Some (argument ∷ arguments)
-
--- the actions with one argument, with two, and with any
-abbrev pub with_one : Argument → List Action
-with_one (Number n) = Owned n ∷ []
-with_one (Guard g) = Epoch g ∷ Garbage g ∷ Set g ∷ Accelerate g ∷ Close g ∷ []
-with_one (Owner o) = Read o ∷ Retire o ∷ []
-with_one (Item i) = []
-
-abbrev pub with_two : Argument → Argument → List Action
-with_two (Item i) (Guard g) = Look i g ∷ []
-with_two first second = []
-
+-- the actions with these arguments
 abbrev pub with_arguments : List Argument → List Action
-with_arguments [] = Open ∷ []
-with_arguments (argument ∷ []) = with_one argument
-with_arguments (first ∷ second ∷ []) = with_two first second
-with_arguments (first ∷ second ∷ third ∷ more) = []
+with_arguments [] = Open ∷ End ∷ []
+with_arguments (Number n ∷ []) = Owned n ∷ []
+with_arguments (Guard g ∷ []) = Epoch g ∷ Garbage g ∷ Set g ∷ Accelerate g ∷ Close g ∷ []
+with_arguments (Owner o ∷ []) = Read o ∷ Retire o ∷ []
+with_arguments (Item i ∷ Guard g ∷ []) = Look i g ∷ []
+with_arguments arguments = []
 
 -- the first of the actions with this verb
 abbrev pub called : List ℕ → List Action → Option Action
 called verb [] = None
 called verb (action ∷ actions) = if bytes_eq verb (spoken action).0 then Some action else called verb actions
 
+-- a verb, and at most two arguments
 abbrev pub action_at : List (List ℕ) → Option Action
 action_at [] = None
-action_at (verb ∷ words) = arguments_at words >>= λ arguments. called verb (with_arguments arguments)
+action_at (verb ∷ []) = called verb (with_arguments [])
+action_at (verb ∷ first ∷ []) = argument_at first >>= λ a. called verb (with_arguments (a ∷ []))
+action_at (verb ∷ first ∷ second ∷ []) = argument_at first >>= λ a. argument_at second >>= λ b. called verb (with_arguments (a ∷ b ∷ []))
+action_at (verb ∷ first ∷ second ∷ third ∷ more) = None
 
 abbrev pub place_call_at : List (List ℕ) → Option Call
 place_call_at [] = None

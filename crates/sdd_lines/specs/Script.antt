@@ -1,5 +1,5 @@
 -- The lines of a script, and the calls that they are
-use Rattle.std.specs.Prelude.{◌≡◌, ℕ, ◌-◌, ◌<◌, ◌≤◌, List, [], ◌∷◌, length, map, if◌then◌else◌, ◌==◌, slice_index_or}
+use Rattle.std.specs.Prelude.{◌≡◌, ℕ, ◌+◌, ◌<◌, ◌≤◌, List, [], ◌∷◌, ◌++◌, length, map, if◌then◌else◌, ◌==◌}
 use Rattle.std.specs.List.{onto_first, AllByRecursion}
 use Rattle.sdd_lines.specs.Call.{line_of, HasNumbers, IsCallText}
 use Rattle.sdd_lines.specs.declared.call.Call.{Call}
@@ -21,16 +21,16 @@ pub record AreCalls (text : List ℕ) (calls : List Call) : Type 0 where
   pub numbers : AllByRecursion HasNumbers calls
   pub few : length calls ≤ most_calls
 
--- line n, counted from 1, is a call
-abbrev pub IsCallAt : List ℕ → ℕ → Type 0
-IsCallAt text n = (n ≤ most_calls) × IsCallText (slice_index_or (lines text) (n - 1) [])
-
--- line n, counted from 1, is the first that is no call
+-- line n, counted from 1, is the first that is no call: the lines before it are calls, and it is the text of none, or they are as many as may be
 pub record IsFirstFault (text : List ℕ) (n : ℕ) : Type 0 where
-  pub counted : 0 < n
-  pub there : n ≤ length (lines text)
-  pub fault : ¬ IsCallAt text n
-  pub first : (k : ℕ) → 0 < k → k < n → IsCallAt text k
+  pub before : List Call
+  pub line : List ℕ
+  pub after : List (List ℕ)
+  pub texts : lines text ≡ map line_of before ++ line ∷ after
+  pub numbers : AllByRecursion HasNumbers before
+  pub few : length before ≤ most_calls
+  pub counted : n ≡ length before + 1
+  pub fault : ¬ ((length before < most_calls) × IsCallText line)
 
 -- a text is this script
 abbrev pub IsScript : List ℕ → Script → Type 0

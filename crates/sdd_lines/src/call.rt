@@ -26,6 +26,7 @@ pub enum Action {
     Look(ItemName, GuardName),
     Retire(OwnerName),
     Close(GuardName),
+    End,
 }
 
 /// An argument of a verb, which is a word of a line.

@@ -83,7 +83,7 @@ const CHUNK: usize = 4096;
 /// All bytes that a source has left.
 ///
 /// Ends with `Fault` where a read failed, and with `NoMemory` where memory was wanted.
-#[tactic(auto, using(crate::proofs::Devices::consumed))]
+#[tactic(auto, using(crate::proofs::Devices::parts))]
 pub fn read_to_end<S: Source>(alloc: Global, source: &mut S) -> Result<Vec<u8>, ReadEnd>
     ensures bytes { IfOk result
         (λ bytes. IfSome (S.remaining source.old) (λ all. bytes.items ≡ all)) }
@@ -104,16 +104,16 @@ pub fn read_to_end<S: Source>(alloc: Global, source: &mut S) -> Result<Vec<u8>, 
 }
 
 /// Writes all of the bytes, or a beginning of them where a write failed.
+#[tactic(auto, using(crate::proofs::Devices::parts))]
 pub fn write_all<S: Sink>(sink: &mut S, bytes: &[u8]) -> Result<(), Fault>
     ensures ok { OnOk result (Appends (S.contents sink.old) (S.contents sink.new) bytes.now) }
     ensures fault { OnErr result
         (AppendsBeginning (S.contents sink.old) (S.contents sink.new) bytes.now) }
     ensures counted { CountsFailure (S.failures sink.old) (S.failures sink.new) result }
 {
-    let mut rest = bytes;
-    while !rest.is_empty() {
-        let count = sink.write(rest)?;
-        rest = &rest[count..];
+    let mut written = 0;
+    while written < bytes.len() {
+        written += sink.write(&bytes[written..])?;
     }
     Ok(())
 }

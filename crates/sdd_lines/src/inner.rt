@@ -6,7 +6,6 @@ ghost use Rattle.sdd_lines.specs.Call.{IsWordOf};
 use crate::call::reading;
 
 /// The number of 64 bits that a word is in its one form, or `None` where it is none.
-#[tactic(auto, using(crate::proofs::Lines::words_number))]
 pub fn number(word: &str) -> Option<u64>
     ensures { MatchOption result (¬ ((n : ℕ) × IsWordOf n word.now)) (λ n. IsWordOf n word.now) }
 {

@@ -7,6 +7,7 @@ pub mod answer;
 pub mod call;
 pub mod device;
 pub mod ended;
+mod first;
 pub mod inner;
 pub mod name;
 pub mod script;

@@ -1,11 +1,12 @@
 //! A whole script: its lines as calls, or the first that is no call.
 
-ghost use Rattle.std.specs.Prelude.{◌≡◌, ◌≢◌, ℕ, List, ◌<◌, ◌∷◌, length, slice_index, MatchOption, IfOk, IfErr};
+ghost use Rattle.std.specs.Prelude.{◌≡◌, List, ◌<◌, ◌∷◌, length, MatchOption, IfOk, IfErr};
 ghost use Rattle.sdd_lines.specs.Call.{IsTextOf, IsCallText};
 ghost use Rattle.sdd_lines.specs.declared.call.Call.{Call};
 ghost use Rattle.sdd_lines.specs.Script.{most_calls, lines, AreCalls, IsCalls, IsScript};
 
 use crate::call::Call;
+use crate::first::first_at;
 use sdd_core::Refused;
 use std::alloc::Global;
 
@@ -24,6 +25,7 @@ pub enum Script {
 /// Reads a text, line by line, as a script. The last line may lack its line feed; a text without a byte has no line.
 ///
 /// Refused with `NoMemory` alone.
+#[tactic(auto, using(crate::proofs::Scripts::one_script))]
 pub fn parse_all(alloc: Global, text: &[u8]) -> Result<Script, Refused>
     ensures script { IfOk result (λ script. IsScript text.now script) }
 
@@ -64,17 +66,8 @@ fn first_line(text: &[u8]) -> (&[u8], &[u8])
     ensures lines { lines text.now ≡ result.0.now ∷ lines result.1.now }
     ensures shorter { length result.1.now < length text.now }
 {
-    match line_feed_at(text) {
+    match first_at(text, b'\n') {
         Some(end) => (&text[..end], &text[end + 1..]),
         None => (text, &[]),
     }
-}
-
-/// Where the first line feed stands.
-fn line_feed_at(text: &[u8]) -> Option<usize>
-    ensures { MatchOption result ((i : ℕ) → i < length text.now → slice_index text.now i ≢ 10)
-        (λ k. (k < length text.now) × (slice_index text.now k ≡ 10)
-        × ((i : ℕ) → i < k → slice_index text.now i ≢ 10)) }
-{
-    text.iter().position(|byte| *byte == b'\n')
 }

@@ -1,76 +1,67 @@
 //! Reading a line, word by word.
 
-ghost use Rattle.std.specs.Prelude.{◌≡◌, ◌∷◌, ◌<◌, ◌↔◌, [], None, Some, IsTrue, MatchOption, length, slice_index};
-ghost use Rattle.std.specs.Option.{option_and_then};
-ghost use Rattle.sdd_lines.specs.Reading.{words, words_left, number_at, numbered_at, argument_at, arguments_at, with_one, with_two, with_arguments, called, action_at, call_at};
+ghost use Rattle.std.specs.Prelude.{◌≡◌, [], ◌∷◌, ◌<◌, Some, IfSome, MatchOption, map};
+ghost use Rattle.std.specs.List.{AllByRecursion};
+ghost use Rattle.std.specs.Fmt.{decimal};
+ghost use Rattle.sdd_lines.specs.Call.{IsNumber, HasNumber, word_of, spoken, HasNumbers, words_of};
+ghost use Rattle.sdd_lines.specs.Reading.{words, IsNumberOf, numbered_at, argument_at, with_arguments, called, action_at, call_at};
 
 use super::{Action, Argument, Call};
+use crate::first::first_at;
 use crate::name::{GuardName, ItemName, OwnerName, PlaceName};
 
-/// The first word, and what follows the space behind it.
-fn split_word(text: &str) -> (&str, Option<&str>)
-    ensures { words text.now ≡ result.0.now ∷ words_left result.1 }
+/// The first word, and what follows the space behind it, if there is one.
+#[tactic(auto, using(crate::proofs::Lines::by_space))]
+fn split_word(text: &str) -> Option<(&str, &str)>
+    ensures { MatchOption result (words text.now ≡ text.now ∷ []) (λ parts. words text.now ≡ parts.0.now ∷ words parts.1.now) }
 {
-    match text.split_once(' ') {
-        Some((word, rest)) => (word, Some(rest)),
-        None => (text, None),
-    }
+    let space = first_at(text.as_bytes(), b' ')?;
+    Some((&text[..space], &text[space + 1..]))
 }
 
 /// The number that a word is in its one form: without a sign and without a leading zero.
-#[tactic(auto, using(crate::proofs::Lines::one_form, std::proofs::lemmas::Str::Pattern::starts_char))]
+#[tactic(auto, using(crate::proofs::Lines::one_form))]
 pub(crate) fn number(word: &str) -> Option<u64>
-    ensures { result ≡ number_at word.now }
+    ensures { IsNumberOf word.now result }
 {
-    if word.starts_with('+') {
-        return None;
+    match word.as_bytes() {
+        [b'+', ..] | [b'0', _, ..] => None,
+        _ => word.parse().ok(),
     }
-    if word.len() > 1 && word.starts_with('0') {
-        return None;
-    }
-    word.parse().ok()
 }
 
 /// The number of a name with this letter.
-#[tactic(auto, using(crate::proofs::Lines::no_prefix))]
+#[tactic(auto, using(crate::proofs::Lines::lettered))]
 fn numbered(letter: char, word: &str) -> Option<u64>
     requires { letter < 128 }
-    ensures { result ≡ numbered_at letter word.now }
+    ensures is { result ≡ numbered_at letter word.now }
+    ensures sound { IfSome result (λ n. IsNumber n × (letter ∷ decimal n ≡ word.now)) }
 {
     number(word.strip_prefix(letter)?)
 }
 
+#[tactic(auto, using(crate::proofs::Lines::one_argument))]
 fn argument(word: &str) -> Option<Argument>
-    ensures { result ≡ argument_at word.now }
+    ensures is { result ≡ argument_at word.now }
+    ensures sound { IfSome result (λ argument. HasNumber argument × (word_of argument ≡ word.now)) }
+    ensures one { IfSome result (λ _. words word.now ≡ word.now ∷ []) }
 {
-    if let Some(number) = numbered('g', word) {
-        return Some(Argument::Guard(GuardName(number)));
+    match word.as_bytes() {
+        [b'g', ..] => Some(Argument::Guard(GuardName(numbered('g', word)?))),
+        [b'o', ..] => Some(Argument::Owner(OwnerName(numbered('o', word)?))),
+        [b'i', ..] => Some(Argument::Item(ItemName(numbered('i', word)?))),
+        _ => Some(Argument::Number(number(word)?)),
     }
-    if let Some(number) = numbered('o', word) {
-        return Some(Argument::Owner(OwnerName(number)));
-    }
-    if let Some(number) = numbered('i', word) {
-        return Some(Argument::Item(ItemName(number)));
-    }
-    number(word).map(Argument::Number)
-}
-
-/// The first argument, and what follows the space behind it.
-fn split_argument(text: &str) -> Option<(Argument, Option<&str>)>
-    ensures { MatchOption result (arguments_at (words text.now) ≡ None)
-        (λ parts. arguments_at (words text.now)
-        ≡ option_and_then (λ more. Some (parts.0 ∷ more)) (arguments_at (words_left parts.1))) }
-{
-    let (word, rest) = split_word(text);
-    Some((argument(word)?, rest))
 }
 
 /// The verbs, each with its arguments.
 fn spoken(verb: &str, arguments: &[Argument]) -> Option<Action>
-    ensures { result ≡ called verb.now (with_arguments arguments.now) }
+    ensures is { result ≡ called verb.now (with_arguments arguments.now) }
+    ensures sound { IfSome result (λ action. spoken action ≡ (verb.now, arguments.now)) }
 {
     match (arguments, verb) {
         ([], "open") => Some(Action::Open),
+        ([], "end") => Some(Action::End),
         ([Argument::Number(number)], "owned") => Some(Action::Owned(*number)),
         ([Argument::Guard(guard)], "epoch") => Some(Action::Epoch(*guard)),
         ([Argument::Guard(guard)], "garbage") => Some(Action::Garbage(*guard)),
@@ -86,33 +77,33 @@ fn spoken(verb: &str, arguments: &[Argument]) -> Option<Action>
     }
 }
 
+#[tactic(auto, using(crate::proofs::Lines::bad_second))]
 fn action(text: &str) -> Option<Action>
-    ensures { result ≡ action_at (words text.now) }
+    ensures is { result ≡ action_at (words text.now) }
+    ensures sound { IfSome result (λ action. AllByRecursion HasNumber (spoken action).1
+        × ((spoken action).0 ∷ map word_of (spoken action).1 ≡ words text.now)) }
 {
-    let (verb, rest) = split_word(text);
-    let Some(rest) = rest else {
-        return spoken(verb, &[]);
+    let Some((verb, rest)) = split_word(text) else {
+        return spoken(text, &[]);
     };
-    let (first, rest) = split_argument(rest)?;
-    let Some(rest) = rest else {
-        return spoken(verb, &[first]);
-    };
-    let (second, rest) = split_argument(rest)?;
-    match rest {
-        None => spoken(verb, &[first, second]),
-        Some(_) => None,
+    // An argument is one word, so the last one is found without a search for a space.
+    if let Some(argument) = argument(rest) {
+        return spoken(verb, &[argument]);
     }
+    let (first, second) = split_word(rest)?;
+    spoken(verb, &[argument(first)?, argument(second)?])
 }
 
 pub(super) fn call(text: &str) -> Option<Call>
-    ensures { result ≡ call_at text.now }
+    ensures is { result ≡ call_at text.now }
+    ensures sound { IfSome result (λ call. HasNumbers call × (words_of call ≡ words text.now)) }
 {
     match text {
         "register" => Some(Call::Register),
         "tally" => Some(Call::Tally),
         _ => {
-            let (first, rest) = split_word(text);
-            Some(Call::At(PlaceName(numbered('p', first)?), action(rest?)?))
+            let (first, rest) = split_word(text)?;
+            Some(Call::At(PlaceName(numbered('p', first)?), action(rest)?))
         }
     }
 }

@@ -1,6 +1,5 @@
-use Rattle.std.proofs.Common.{◌≡◌, ◌-◌, ◌^◌, length, vec_len}
+use Rattle.std.proofs.Common.{◌≡◌, ◌-◌, ◌^◌, vec_len}
 use Rattle.std.specs.Io.KnownBytes.{Consumes}
-use Rattle.sdd_lines.specs.declared.device.TheConstants.{CHUNK}
 use Rattle.sdd_lines.proofs.device.read_to_end.Given as goal
 
 -- the bytes so far are what was read
@@ -8,7 +7,6 @@ abbrev pub invariant-loop-bytes : goal.invariant-loop-bytes
 invariant-loop-bytes g l = record {
   read : Consumes (g.S.Source.remaining l.fn.source) (g.S.Source.remaining l.source) l.bytes.items;
   failures : g.S.Source.failures l.source ≡ g.S.Source.failures l.fn.source;
-  room : length l.buffer ≡ CHUNK;
 }
 
 -- each round reads a byte, and fewer than 2 ^ 63 bytes are in memory

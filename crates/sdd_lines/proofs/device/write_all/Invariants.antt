@@ -1,13 +1,13 @@
-use Rattle.std.proofs.Common.{◌≡◌, ℕ, List, ◌++◌, length}
+use Rattle.std.proofs.Common.{◌≡◌, ◌-◌, ◌≤◌, length, take}
 use Rattle.std.specs.Io.KnownBytes.{Appends}
 use Rattle.sdd_lines.proofs.device.write_all.Given as goal
 
--- what was written so far and what is left are the bytes
-abbrev pub invariant-loop-rest : goal.invariant-loop-rest
-invariant-loop-rest g l = record {
-  written : (front : List ℕ) × (l.bytes ≡ front ++ l.rest) × Appends (g.S.Sink.contents l.fn.sink) (g.S.Sink.contents l.sink) front;
+abbrev pub invariant-loop-written : goal.invariant-loop-written
+invariant-loop-written g l = record {
+  bytes : Appends (g.S.Sink.contents l.fn.sink) (g.S.Sink.contents l.sink) (take l.written l.bytes);
   failures : g.S.Sink.failures l.sink ≡ g.S.Sink.failures l.fn.sink;
+  within : l.written ≤ length l.bytes;
 }
 
-abbrev pub decreases-loop-rest : goal.decreases-loop-rest
-decreases-loop-rest g l = length l.rest
+abbrev pub decreases-loop-written : goal.decreases-loop-written
+decreases-loop-written g l = length l.bytes - l.written
