@@ -1,65 +1,68 @@
--- What each action leaves in hand, and that it is what the call means
-use Rattle.std.proofs.Common.{◌≡◌, ℕ, ◌+◌, ◌^◌, ◌<◌, Bool, true, false, List, [], ◌∷◌, ◌++◌, Option, Some, None, IsSome, if◌then◌else◌, length, map, slice_index, slice_index_or, slice_set, inl, inr, refl, sym, ap, ◌∙◌, subst, arith}
-use Rattle.std.specs.Prelude.{Contains, ◌↔◌}
+-- What each action leaves in hand: it is sound, and it is what the call means
+use Rattle.sdd.proofs.Words.{◌≡◌, ◌≢◌, ◌⊎◌, ℕ, IsTrue, lt-ltb, ◌+◌, ◌^◌, ◌<◌, Bool, true, false, List, [], ◌∷◌, ◌++◌, Option, Some, None, IsSome, is_some, if◌then◌else◌, length, map, slice_index, slice_index_or, slice_set, inl, inr, refl, sym, ap, ◌∙◌, subst, arith, get_or-map, length-map, Item, is_waiting, World, value_at, reclaims, IsWhole, ItemName, At, Val, Fate, Out, Retired, Hand, holdings_of, body_of, Opening, all_gone, due_at, fate_at, time_by, Desk, slot_at, Acts, Answers, attending, guarding, item_held, desk_of, IsTied, IsSound, IsThere, cases_eq, map-set, map_push, get_or_past, get_or_default, is_open, IsPlaceOf, once_if, index_of, Register, Attending, with_guard, with_retired, item_named, what_named}
+use Rattle.sdd_store.specs.Time as time
 use Rattle.std.specs.List.Sorted.{IsPermutation, IsNonDecreasingBy}
-use Rattle.std.proofs.Math.ListN.{get_or-map}
-use Rattle.std.proofs.lemmas.Bool.{cases_eq}
-use Rattle.std.proofs.lemmas.List.{map-set, map_push, length-map, get_or_past, get_or_default}
 use Rattle.std.specs.Option.{option_map}
 use Rattle.std.specs.Global.{Vec}
 use Rattle.sdd_core.specs.Epoch.{epoch_of}
-use Rattle.sdd_token.specs.Units as token
-use Rattle.sdd_store.specs.Time as time
-use Rattle.sdd_store.specs.Time.{Time, is_open, CanNest}
-use Rattle.sdd_slots.specs.Slots.{is_waiting}
+use Rattle.sdd_core.specs.declared.epoch.Epoch.{Epoch}
+use Rattle.sdd_core.specs.declared.refused.Refused.{Refused}
+use Rattle.sdd_store.specs.Time.{IsVacant, CanNest, phase_at}
+use Rattle.sdd_base.proofs.Housed.{live-is}
 use Rattle.sdd_base.specs.Guard.{place_of as guards_place}
 use Rattle.sdd_base.specs.Owned.{slot_of, slots_home}
-use Rattle.sdd_store.specs.Waiting.What.{Item}
-use Rattle.sdd_base.specs.Holding.{Home}
 use Rattle.sdd_base.specs.declared.limits.Limits.{Limits}
-use Rattle.sdd_base.specs.World.{World, IsNew, IsPlaceOf, standing_at, value_at}
-use Rattle.sdd_base.specs.Steps.{reclaims, registered, made, nulled, retired, opened, closed, stirred, accelerated}
-use Rattle.sdd_base.specs.Whole.{IsWhole, times_waiting, once_if}
+use Rattle.sdd_base.specs.World.{IsNew}
+use Rattle.sdd_base.specs.Steps.{registered, ended, made, nulled, retired, opened, closed, stirred, accelerated}
+use Rattle.sdd_base.specs.Whole.{times_waiting}
 use Rattle.sdd_base.specs.Under.{KeepsUnderGuards}
 use Rattle.sdd_base.specs.Calls.Calls.{stirs, accelerates}
-use Rattle.sdd_world.specs.Place.{index_of}
+use Rattle.sdd_world.specs.declared.world.Place.{Place}
 use Rattle.sdd_lines.specs.declared.name.PlaceName.{PlaceName}
 use Rattle.sdd_lines.specs.declared.name.GuardName.{GuardName}
 use Rattle.sdd_lines.specs.declared.name.OwnerName.{OwnerName}
-use Rattle.sdd_lines.specs.declared.name.ItemName.{ItemName}
-use Rattle.sdd_core.specs.declared.epoch.Epoch.{Epoch}
-use Rattle.sdd_lines.specs.declared.call.Call.TheVariants.{Register, At}
+use Rattle.sdd_lines.specs.declared.call.Call.{Call}
 use Rattle.sdd_lines.specs.declared.call.Action.TheVariants as call
+use Rattle.sdd_lines.specs.declared.answer.Reply.{Reply}
 use Rattle.sdd_lines.specs.declared.answer.Reply.TheVariants as reply
-use Rattle.sdd.specs.declared.script.val.Val.{Val}
-use Rattle.sdd.specs.declared.script.fate.Fate.{Fate}
-use Rattle.sdd.specs.declared.script.fate.Fate.TheVariants.{Out, Retired, Gone}
 use Rattle.sdd.specs.declared.script.named.Named.{Named}
-use Rattle.sdd.specs.declared.script.stage.Attending.{Attending}
 use Rattle.sdd.specs.declared.script.stage.Guarding.{Guarding}
 use Rattle.sdd.specs.declared.script.stage.Held.{Held}
-use Rattle.sdd.specs.declared.script.stage.Hand.{Hand}
-use Rattle.sdd_core.specs.declared.refused.Refused.{Refused}
-use Rattle.sdd.specs.Val.{holdings_of, body_of}
 use Rattle.sdd.specs.Ledger as ledger
-use Rattle.sdd.specs.Ledger.{Opening, IsThereSince, fate_at, place_in, since_in, with_guard, with_retired, all_gone, due_at}
+use Rattle.sdd.specs.Ledger.{IsThereSince, place_of, place_in, since_in, with_newcomer, without_participant}
 use Rattle.sdd.specs.Made.{Makes, RefusesItem}
-use Rattle.sdd.specs.Desk.{Desk, slot_at}
-use Rattle.sdd.specs.Script.{Acts, Answers, IsWaiting}
-use Rattle.sdd.specs.ByName.{time_by}
-use Rattle.sdd.specs.Sound.{IsSound, IsThere}
-use Rattle.sdd.specs.Stage.{attending, guarding, item_held, item_named, what_named, desk_of, opened_since, OwnsItem, IsOwnerIn, GuardsIn, IsTied, HasOpen}
-use Rattle.sdd.proofs.ByName.{by-stirred, by-accelerated, by-closed, by-registered, by-awaiting, by-opened, by-place}
-use Rattle.sdd.proofs.Entry.{at-other, at-pushed, at-end, at-default, as-each, is-there, not-free}
+use Rattle.sdd.specs.Stage.{opened_since, OwnsItem, IsOwnerIn, GuardsIn, HasOpen}
+use Rattle.sdd_store.proofs.Renaming.{by-stirred, by-accelerated, by-closed, by-registered, by-awaiting, by-opened, by-place}
+use Rattle.sdd.proofs.Attending.{place, open-guard}
+use Rattle.sdd.proofs.Entry.{at-other, at-pushed, at-end, at-default, as-each, is-there}
 use Rattle.sdd.proofs.Reclaiming.{leaves-opened}
 use Rattle.sdd.proofs.Naming.{due-found, names-due}
 use Rattle.sdd.proofs.Opening.{sound-opened, unguarded}
-use Rattle.sdd.proofs.Going.{sound-written, sound-registered, sound-closed, sound-retired, sound-made, sound-start, renamed, fate-inside, stands-there}
+use Rattle.sdd.proofs.Going.{sound-written, sound-registered, sound-ended, sound-closed, sound-retired, sound-made, sound-start, renamed, fate-inside}
 
 -- what is left in hand is sound, and is this desk
 pub record Goes (new : Hand) (e : Desk) : Type 0 where
   pub tied : IsTied new
   pub desk : desk_of new ≡ e
+
+-- what is left in hand is sound, and is what the call means
+abbrev pub Does : Desk → Call → Reply → Hand → Type 0
+Does old call reply new = IsTied new × Acts old call reply (desk_of new)
+
+does : {new : Hand} {e : Desk} (old : Desk) (call : Call) (reply : Reply) → Goes new e → Acts old call reply e → Does old call reply new
+does old call reply goes acts = (goes.tied, subst (Acts old call reply) (sym goes.desk) acts)
+
+goes : {new : Hand} {e : Desk} → desk_of new ≡ e → IsSound e →
+    ((o : ℕ) → OwnsItem new.world.home.slots new.slots.items (slice_index_or new.owners.entries.items o None)) →
+    ((g : ℕ) → GuardsIn e.ledger.places (slice_index_or new.guards.entries.items g None)) → Goes new e
+goes {new} same sound owners guards = record {
+  tied = record {
+    sound = subst IsSound (sym same) sound;
+    owners = owners;
+    guards = λ g. subst (λ (d : Desk). GuardsIn d.ledger.places (slice_index_or new.guards.entries.items g None)) (sym same) (guards g);
+  };
+  desk = same;
+}
 
 -- of what is spent nothing is in hand
 spent : {X : Type 0} (P : Option X → Type 0) → P None → (xs : List (Option X)) (k : ℕ) → ((j : ℕ) → P (slice_index_or xs j None)) → (j : ℕ) →
@@ -79,8 +82,12 @@ given P xs x here all j =
       | inr ne ↦ subst P (sym (at-pushed xs (Some x) None j ne)) (all j)
     ]
 
-not-there : (o : Option Opening) (k : ℕ) → option_map (λ (x : Opening). x.place) o ≡ Some k → o ≡ None → ⊥
-not-there o k e none = (let z : None ≡ Some k = sym (ap (option_map (λ (x : Opening). x.place)) none) ∙ e in cc)
+-- a guard is its participant's, where that is at the same place
+guards-on : (ps qs : List (Option Opening)) →
+    ((n k : ℕ) → option_map place (slice_index_or ps n None) ≡ Some k → option_map place (slice_index_or qs n None) ≡ Some k) →
+    (o : Option Guarding) → GuardsIn ps o → GuardsIn qs o
+guards-on ps qs on None e = tt
+guards-on ps qs on (Some held) e = on held.participant (guards_place held.guard) e
 
 module _ (h : Hand) (t : IsTied h) where
   abbrev pub d : Desk
@@ -89,141 +96,60 @@ module _ (h : Hand) (t : IsTied h) where
   abbrev pub names : ℕ → ℕ
   names = slice_index h.names.items
 
-  -- what becomes of the handles
-  owners-in : (home : token.Home) (slots : List ℕ) → home ≡ h.world.home.slots → slots ≡ h.slots.items → (o : ℕ) →
-      OwnsItem home slots (slice_index_or h.owners.entries.items o None)
-  owners-in home slots e f o = rw (e, f) (t.owners o)
-
   -- ---- a participant registers
-  pub goes-registered : (places : Vec (Option Attending)) (a : Attending) (w : World Val) (name : PlaceName) →
-      places.items ≡ h.places.entries.items ++ Some a ∷ [] → index_of a.place ≡ length h.world.time.places → a.since ≡ 0 → w ≡ registered h.world →
-      Goes (record h { world = w; places = record { entries = places } })
-      (record d { world = registered h.world; ledger = ledger.after d.ledger Register (reply.Place name) })
-  goes-registered places a w name pushed index since world =
-      let new : Opening = record { place = length h.world.time.places; since = 0 } in
-      let many : length d.ledger.time.places ≡ length h.world.time.places = length-map h.world.time.places _ in
-      let entry : attending (Some a) ≡ Some new = cc (index, since) in
-      let more : map attending places.items ≡ d.ledger.places ++ Some new ∷ [] =
-      ap (map attending) pushed ∙ map_push attending h.places.entries.items (Some a) ∙ ap (λ x. d.ledger.places ++ x ∷ []) entry in
-      let u = time.registered d.ledger.time in
-      let sound : IsSound (record d { world = registered h.world; ledger = record d.ledger { time = u; places = d.ledger.places ++ Some new ∷ [] } }) =
-      sound-registered d t.sound u in
-      let same : desk_of (record h { world = w; places = record { entries = places } })
-      ≡ record d { world = registered h.world; ledger = record d.ledger { time = u; places = d.ledger.places ++ Some new ∷ [] } } =
-      cc (world, more, by-registered names h.world.time) in
-      record {
-        tied = record {
-          sound = subst IsSound (sym same) sound;
-          owners = owners-in w.home.slots h.slots.items (ap (λ (v : World Val). v.home.slots) world) refl;
-          guards = λ g. subst (λ ps. GuardsIn ps (slice_index_or h.guards.entries.items g None)) (sym more)
-              (still (slice_index_or h.guards.entries.items g None) (t.guards g));
-        };
-        desk = same ∙ cc (many);
-      } where
-        still : (o : Option Guarding) → GuardsIn d.ledger.places o →
-            GuardsIn (d.ledger.places ++ Some (record { place = length h.world.time.places; since = 0 }) ∷ []) o
-        still None e = tt
-        still (Some held) e =
-            ap (option_map (λ (x : Opening). x.place))
-            (at-pushed d.ledger.places (Some (record { place = length h.world.time.places; since = 0 })) None held.participant
-            (λ z. not-there (slice_index_or d.ledger.places held.participant None) (guards_place held.guard) e
-            (get_or_past d.ledger.places held.participant None (omega (arith, z))))) ∙ e
+  module _ (places : Vec (Option Attending)) (new : Place) (w : World Val)
+      (pushed : places.items ≡ h.places.entries.items ++ Some (record { place = new; since = 0 }) ∷ [])
+      (vacant : IsVacant h.world.time (index_of new)) (world : w ≡ registered h.world (index_of new)) (live : IsPlaceOf w (index_of new))
+      (others : (q : ℕ) → IsPlaceOf h.world q → (q ≢ index_of new) × IsPlaceOf w q) where
+    pub goes-registered : Goes (record h { world = w; places = record { entries = places } })
+        (record d { world = registered h.world (index_of new); ledger = with_newcomer d.ledger (index_of new) })
+    goes-registered =
+        let x : Opening = record { place = index_of new; since = 0 } in
+        let more : map attending places.items ≡ d.ledger.places ++ Some x ∷ [] =
+        ap (map attending) pushed ∙ map_push attending h.places.entries.items (Some (record { place = new; since = 0 })) in
+        goes (cc (world, more, by-registered names h.world.time x.place))
+        (sound-registered d t.sound x.place (time.registered d.ledger.time x.place) vacant (rw world at live) (rw world at others))
+        (λ o. rw world (t.owners o))
+        (λ g. guards-on d.ledger.places (d.ledger.places ++ Some x ∷ [])
+        (λ n k e. ap (option_map place) (at-pushed d.ledger.places (Some x) None n
+        (λ z. (let past : None ≡ Some k = sym (ap (option_map place) (get_or_past d.ledger.places n None (omega (arith, z)))) ∙ e in cc))) ∙ e)
+        (slice_index_or h.guards.entries.items g None) (t.guards g))
 
-  module _ (n : ℕ) (a : Attending) (there : attending (Some a) ≡ slice_index_or d.ledger.places n None) where
-    abbrev pub p : ℕ
-    p = index_of a.place
-
-    pub place-is : ledger.place_of d.ledger n ≡ p
-    place-is = ap place_in (sym there)
-
-    pub in-range : IsPlaceOf h.world p
-    in-range = t.sound.attended.inside n (record { place = p; since = a.since }) (sym there)
-
-    -- ---- time alone goes on
-    goes-timed : (w v : World Val) (u : Time) → w ≡ v → v.home ≡ h.world.home → time_by names v.time ≡ u →
-        IsSound (record d { world = v; ledger = record d.ledger { time = u } }) →
-        Goes (record h { world = w }) (record d { world = v; ledger = record d.ledger { time = u } })
-    goes-timed w v u world home told sound =
-        let same : desk_of (record h { world = w }) ≡ record d { world = v; ledger = record d.ledger { time = u } } = cc (world, told) in
-        record {
-          tied = record {
-            sound = subst IsSound (sym same) sound;
-            owners = owners-in w.home.slots h.slots.items (ap (λ (x : World Val). x.home.slots) world ∙ ap (λ (x : Home). x.slots) home) refl;
-            guards = t.guards;
-          };
-          desk = same;
-        }
-
-    pub goes-stirred : (w : World Val) → w ≡ stirred h.world p →
-        Goes (record h { world = w }) (record d { world = stirred h.world p; ledger = record d.ledger { time = time.stirred_at d.ledger.time p } })
-    goes-stirred w world =
-        goes-timed w (stirred h.world p) (time.stirred_at d.ledger.time p) world refl (by-stirred names h.world.time p)
-        (sound-written d t.sound p (time.with_garbage (time.place_at h.world.time p)) (time.stirred_at d.ledger.time p) refl (stirs h.world p in-range))
-
-    pub goes-accelerated : (w : World Val) → w ≡ accelerated h.world p →
-        Goes (record h { world = w }) (record d { world = accelerated h.world p; ledger = record d.ledger { time = time.accelerated_at d.ledger.time p } })
-    goes-accelerated w world =
-        goes-timed w (accelerated h.world p) (time.accelerated_at d.ledger.time p) world refl (by-accelerated names h.world.time p)
-        (sound-written d t.sound p (time.accelerated (time.place_at h.world.time p)) (time.accelerated_at d.ledger.time p) refl
-        (accelerates h.world p in-range))
-
-  -- ---- a guard is closed
-  pub goes-closed : (w : World Val) (guards : Vec (Option Guarding)) (g q : ℕ) (held : Guarding) → slice_index_or h.guards.entries.items g None ≡ Some held →
-      guards_place held.guard ≡ q → guards.items ≡ slice_set h.guards.entries.items g None → w ≡ closed h.world q →
-      Goes (record h { world = w; guards = record { entries = guards } })
-      (record d { world = closed h.world q; ledger = record d.ledger { time = time.closed d.ledger.time q; guards = slice_set d.ledger.guards g None } })
-  goes-closed w guards g q held there is taken world =
-      let gone : map guarding guards.items ≡ slice_set d.ledger.guards g None =
-      ap (map guarding) taken ∙ map-set guarding h.guards.entries.items g None in
-      let y : Opening = record { place = guards_place held.guard; since = held.since } in
-      let entry : slice_index_or d.ledger.guards g None ≡ Some y = get_or-map guarding h.guards.entries.items g None ∙ ap guarding there in
-      let same : desk_of (record h { world = w; guards = record { entries = guards } })
-      ≡ record d { world = closed h.world q; ledger = record d.ledger { time = time.closed d.ledger.time q; guards = slice_set d.ledger.guards g None } } =
-      cc (world, gone, by-closed names h.world.time q) in
-      record {
-        tied = record {
-          sound = subst IsSound (sym same) (sound-closed d t.sound (time.closed d.ledger.time q) g q y entry is);
-          owners = owners-in w.home.slots h.slots.items (ap (λ (x : World Val). x.home.slots) world) refl;
-          guards = λ k. subst (λ gs. GuardsIn d.ledger.places (slice_index_or gs k None)) (sym taken)
-              (spent (GuardsIn d.ledger.places) tt h.guards.entries.items g t.guards k);
-        };
-        desk = same;
-      }
+    pub acts-registered : (name : PlaceName) → name.0 ≡ length h.places.entries.items →
+        Does d Register (reply.Place name) (record h { world = w; places = record { entries = places } })
+    acts-registered name named =
+        let k = index_of new in
+        let many : name.0 ≡ length d.ledger.places = named ∙ sym (length-map h.places.entries.items attending) in
+        let said : place_of (with_newcomer d.ledger k) name.0 ≡ k =
+        ap (place_of (with_newcomer d.ledger k)) many ∙ ap place_in (at-end d.ledger.places (Some (record { place = k; since = 0 })) None) in
+        does d Register (reply.Place name) goes-registered ((many, rw said vacant, rw said (refl, refl, refl)), (k, vacant-named vacant, refl)) where
+          vacant-named : IsVacant h.world.time (index_of new) → IsVacant d.ledger.time (index_of new)
+          vacant-named (inl empty) = inl empty
+          vacant-named (inr next) = inr (next.0 ∙ sym (length-map h.world.time.places _), next.1)
 
   -- ---- an item is retired
   pub goes-retired : (w : World Val) (owners : Vec (Option Held)) (fates : Vec Fate) (q o : ℕ) (held : Held) →
-      slice_index_or h.owners.entries.items o None ≡ Some held → q < length h.world.time.places → KeepsUnderGuards holdings_of h.world →
+      slice_index_or h.owners.entries.items o None ≡ Some held →
+      (IsPlaceOf h.world q × KeepsUnderGuards holdings_of h.world) ⊎ ((q : ℕ) → IsTrue (is_open (time.place_at h.world.time q)) → ⊥) →
       owners.items ≡ slice_set h.owners.entries.items o None → fates.items ≡ slice_set h.fates.items held.item (Retired h.moment) →
       w ≡ retired h.world q (slot_of held.owner) →
       Goes (record h { world = w; owners = record { entries = owners }; fates = fates })
       (record d { world = retired h.world q (slot_at d held.item); ledger = with_retired d.ledger q o (Some held.item) })
-  goes-retired w owners fates q o held there lt keeps taken become world =
+  goes-retired w owners fates q o held there who taken become world =
       let gone : map item_held owners.items ≡ slice_set d.ledger.owners o None =
       ap (map item_held) taken ∙ map-set item_held h.owners.entries.items o None in
       let entry : slice_index_or d.ledger.owners o None ≡ Some held.item = get_or-map item_held h.owners.entries.items o None ∙ ap item_held there in
       let owns : IsOwnerIn h.world.home.slots h.slots.items held = subst (OwnsItem h.world.home.slots h.slots.items) there (t.owners o) in
       let slot : w ≡ retired h.world q (slot_at d held.item) = world ∙ ap (retired h.world q) owns.slot_is in
-      let out = t.sound.owned.out o held.item entry in
-      let named : names (slot_at d held.item) ≡ held.item = t.sound.stocked.named held.item (subst IsThere (sym out) tt) in
+      let named = t.sound.stocked.named held.item (subst IsThere (sym (t.sound.owned.out o held.item entry)) tt) in
       let told : time_by names (time.awaiting_at h.world.time q (Item (slot_at d held.item))) ≡ time.awaiting_at d.ledger.time q (Item held.item) =
       by-awaiting names h.world.time q (slot_at d held.item) ∙ ap (λ i. time.awaiting_at d.ledger.time q (Item i)) named in
-      let same : desk_of (record h { world = w; owners = record { entries = owners }; fates = fates })
-      ≡ record d { world = retired h.world q (slot_at d held.item); ledger = with_retired d.ledger q o (Some held.item) } =
-      cc (slot, gone, become, told) in
-      record {
-        tied = record {
-          sound = subst IsSound (sym same) (sound-retired d t.sound q o held.item lt entry keeps);
-          owners = λ k. subst (λ os. OwnsItem w.home.slots h.slots.items (slice_index_or os k None)) (sym taken)
-              (spent (OwnsItem w.home.slots h.slots.items) tt h.owners.entries.items o
-              (owners-in w.home.slots h.slots.items (ap (λ (x : World Val). x.home.slots) world) refl) k);
-          guards = t.guards;
-        };
-        desk = same;
-      }
+      goes (cc (slot, gone, become, told)) (sound-retired d t.sound q o held.item entry who)
+      (λ k. rw (world, taken) (spent (OwnsItem h.world.home.slots h.slots.items) tt h.owners.entries.items o t.owners k)) t.guards
 
   -- ---- an item is made
   pub goes-made : (w : World Val) (owners : Vec (Option Held)) (slots : Vec ℕ) (fates : Vec Fate) (named : Vec ℕ) (number k : ℕ) (held : Held) →
-      (m : Makes h.world number k w) → IsWhole h.world → ((n : ℕ) × IsSome (slice_index_or d.ledger.places n None)) → length h.fates.items + 1 < 2 ^ 128 →
+      (m : Makes h.world number k w) → IsWhole h.world → ((p : ℕ) × IsSome (phase_at h.world.time p)) → length h.fates.items + 1 < 2 ^ 128 →
       slot_of held.owner ≡ k → slots_home held.owner ≡ h.world.home.slots → held.item ≡ length h.fates.items →
       owners.items ≡ h.owners.entries.items ++ Some held ∷ [] → slots.items ≡ h.slots.items ++ k ∷ [] → fates.items ≡ h.fates.items ++ Out ∷ [] →
       named.items ≡ slice_set h.names.items k (length h.fates.items) →
@@ -241,95 +167,127 @@ module _ (h : Hand) (t : IsTied h) where
       let told : time_by (slice_index (slice_set h.names.items k (length h.fates.items))) h.world.time ≡ d.ledger.time =
       renamed names (slice_index (slice_set h.names.items k (length h.fates.items))) k (λ j ne. at-other h.names.items k j (length h.fates.items) 0 ne)
       h.world.time unwaited in
-      let e : Desk = record d {
-        world = made (nulled h.world m.cell) k m.value;
-        ledger = record d.ledger { owners = d.ledger.owners ++ Some (length d.ledger.items) ∷ []; items = d.ledger.items ++ Out ∷ [] };
-        slots = d.slots ++ k ∷ [];
-        names = slice_set d.names k (length d.ledger.items);
-      } in
-      let same : desk_of (record h { world = w; owners = record { entries = owners }; slots = slots; fates = fates; names = named }) ≡ e =
-      cc (m.made, more, more_slots, more_fates, written, told) in
       let long : length h.slots.items ≡ length h.fates.items = t.sound.stocked.slots in
-      record {
-        tied = record {
-          sound = subst IsSound (sym same) (sound-made d t.sound m.cell k m.value whole m.free_cell m.free_slot m.link placed few);
-          owners = λ o.
-              subst (λ os. OwnsItem w.home.slots slots.items (slice_index_or os o None)) (sym pushed)
-              (given (OwnsItem w.home.slots slots.items) h.owners.entries.items held
-              (record {
-                home_is = home ∙ sym (ap (λ (x : World Val). x.home.slots) m.made);
-                slot_is = slot ∙ sym (ap (λ xs. slice_index_or xs held.item 0) more_slots
-                    ∙ ap (λ i. slice_index_or (h.slots.items ++ k ∷ []) i 0) (item ∙ sym long) ∙ at-end h.slots.items k 0);
-              })
-              (λ j. owned-still (ap (λ (x : World Val). x.home.slots) m.made) more_slots long j (slice_index_or h.owners.entries.items j None) refl
-              (t.owners j)) o);
-          guards = t.guards;
-        };
-        desk = same;
-      } where
-        owned-still : w.home.slots ≡ h.world.home.slots → slots.items ≡ h.slots.items ++ k ∷ [] → length h.slots.items ≡ length h.fates.items →
-            (j : ℕ) → (x : Option Held) → slice_index_or h.owners.entries.items j None ≡ x → OwnsItem h.world.home.slots h.slots.items x →
-            OwnsItem w.home.slots slots.items x
-        owned-still home more long j None e owns = tt
-        owned-still home more long j (Some x) e owns =
-            let entry : slice_index_or d.ledger.owners j None ≡ Some x.item = get_or-map item_held h.owners.entries.items j None ∙ ap item_held e in
-            let lt = fate-inside h.fates.items x.item (t.sound.owned.out j x.item entry) in
-            record {
-              home_is = owns.home_is ∙ sym home;
-              slot_is = owns.slot_is ∙ sym (ap (λ xs. slice_index_or xs x.item 0) more ∙ at-pushed h.slots.items k 0 x.item (λ z. omega (arith, z, lt, long)));
-            }
+      goes (cc (m.made, more, more_slots, more_fates, written, told))
+      (sound-made d t.sound m.cell k m.value whole m.free_cell m.free_slot m.link placed few)
+      (λ o. rw (m.made, pushed, more_slots) (given (OwnsItem h.world.home.slots (h.slots.items ++ k ∷ [])) h.owners.entries.items held
+      (record { home_is = home; slot_is = slot ∙ sym (ap (λ i. slice_index_or (h.slots.items ++ k ∷ []) i 0) (item ∙ sym long) ∙ at-end h.slots.items k 0) })
+      (λ j. still long j (slice_index_or h.owners.entries.items j None) refl (t.owners j)) o)) t.guards where
+        still : length h.slots.items ≡ length h.fates.items → (j : ℕ) → (x : Option Held) → slice_index_or h.owners.entries.items j None ≡ x →
+            OwnsItem h.world.home.slots h.slots.items x → OwnsItem h.world.home.slots (h.slots.items ++ k ∷ []) x
+        still long j None e owns = tt
+        still long j (Some x) e owns =
+            let lt = fate-inside h.fates.items x.item (t.sound.owned.out j x.item (get_or-map item_held h.owners.entries.items j None ∙ ap item_held e)) in
+            record { home_is = owns.home_is; slot_is = owns.slot_is ∙ sym (at-pushed h.slots.items k 0 x.item (λ z. omega (arith, z, lt, long))) }
 
-  -- ---- a guard is opened
+  -- ---- what a participant does
   module _ (n : ℕ) (a : Attending) (there : attending (Some a) ≡ slice_index_or d.ledger.places n None) where
-    abbrev pub q : ℕ
-    q = index_of a.place
+    abbrev pub p : ℕ
+    p = index_of a.place
 
+    pub is : place_of d.ledger n ≡ p
+    is = ap place_in (sym there)
+
+    pub is-place : ledger.IsPlace d.ledger n
+    is-place = subst (λ x. IsSome x) there refl
+
+    pub in_range : IsPlaceOf h.world p
+    in_range = t.sound.attended.inside n (record { place = p; since = a.since }) (sym there)
+
+    -- the guard of that name is the participant's
+    pub guard-is : (g : ℕ) (held : Guarding) → HasOpen d.ledger.places d.ledger.guards n g → slice_index_or h.guards.entries.items g None ≡ Some held →
+        guards_place held.guard ≡ p
+    guard-is g held valid here =
+        subst (ledger.IsOf (place_of d.ledger n)) (get_or-map guarding h.guards.entries.items g None ∙ ap guarding here) valid.1 ∙ is
+
+    pub goes-stirred : (w : World Val) → w ≡ stirred h.world p → Goes (record h { world = w })
+        (record d { world = stirred h.world (place_of d.ledger n); ledger = record d.ledger { time = time.stirred_at d.ledger.time (place_of d.ledger n) } })
+    goes-stirred w world =
+        rw is (goes (cc (world, by-stirred names h.world.time p))
+        (sound-written d t.sound p (time.with_garbage (time.place_at h.world.time p)) (time.stirred_at d.ledger.time p) refl (stirs h.world p in_range))
+        (λ o. rw world (t.owners o)) t.guards)
+
+    pub goes-accelerated : (w : World Val) → w ≡ accelerated h.world p → Goes (record h { world = w })
+        (record d {
+          world = accelerated h.world (place_of d.ledger n);
+          ledger = record d.ledger { time = time.accelerated_at d.ledger.time (place_of d.ledger n) };
+        })
+    goes-accelerated w world =
+        rw is (goes (cc (world, by-accelerated names h.world.time p))
+        (sound-written d t.sound p (time.accelerated (time.place_at h.world.time p)) (time.accelerated_at d.ledger.time p) refl
+        (accelerates h.world p in_range))
+        (λ o. rw world (t.owners o)) t.guards)
+
+    pub goes-ended : (w : World Val) (places : Vec (Option Attending)) → places.items ≡ slice_set h.places.entries.items n None →
+        (IsTrue (is_open (time.place_at h.world.time p)) → ⊥) → w ≡ ended h.world p → Goes (record h { world = w; places = record { entries = places } })
+        (record d { world = ended h.world (place_of d.ledger n); ledger = without_participant d.ledger n (place_of d.ledger n) })
+    goes-ended w places taken shut world =
+        let gone : map attending places.items ≡ slice_set d.ledger.places n None = ap (map attending) taken ∙ map-set attending h.places.entries.items n None in
+        rw is (goes (cc (world, gone))
+        (sound-ended d t.sound n (record { place = p; since = a.since }) (time.ended d.ledger.time p) (sym there) shut) (λ o. rw world (t.owners o))
+        (λ g. still g (slice_index_or h.guards.entries.items g None) refl (t.guards g))) where
+          -- no guard was its
+          still : (g : ℕ) (o : Option Guarding) → slice_index_or h.guards.entries.items g None ≡ o → GuardsIn d.ledger.places o →
+              GuardsIn (slice_set d.ledger.places n None) o
+          still g None e own = tt
+          still g (Some held) e own = ap (option_map place) (at-other d.ledger.places n held.participant None None apart) ∙ own where
+            apart : held.participant ≢ n
+            apart same =
+                let z : Some p ≡ Some (guards_place held.guard) =
+                ap (option_map place) there ∙ sym (ap (λ m. option_map place (slice_index_or d.ledger.places m None)) same) ∙ own in
+                let one : p ≡ guards_place held.guard = cc in
+                shut (lt-ltb 0 (time.place_at h.world.time p).guards (rw one (open-guard h.world d.ledger t.sound.attended g
+                (record { place = guards_place held.guard; since = held.since }) (get_or-map guarding h.guards.entries.items g None ∙ ap guarding e))))
+
+    pub goes-closed : (w : World Val) (guards : Vec (Option Guarding)) (g : ℕ) (held : Guarding) → HasOpen d.ledger.places d.ledger.guards n g →
+        slice_index_or h.guards.entries.items g None ≡ Some held → guards.items ≡ slice_set h.guards.entries.items g None → w ≡ closed h.world p →
+        Goes (record h { world = w; guards = record { entries = guards } }) (record d {
+          world = closed h.world (place_of d.ledger n);
+          ledger = record d.ledger { time = time.closed d.ledger.time (place_of d.ledger n); guards = slice_set d.ledger.guards g None };
+        })
+    goes-closed w guards g held valid here taken world =
+        let gone : map guarding guards.items ≡ slice_set d.ledger.guards g None = ap (map guarding) taken ∙ map-set guarding h.guards.entries.items g None in
+        let same : desk_of (record h { world = w; guards = record { entries = guards } }) ≡ record d {
+          world = closed h.world p;
+          ledger = record d.ledger { time = time.closed d.ledger.time p; guards = slice_set d.ledger.guards g None };
+        } = cc (world, gone, by-closed names h.world.time p) in
+        rw is (goes same
+        (sound-closed d t.sound (time.closed d.ledger.time p) g p (record { place = guards_place held.guard; since = held.since })
+        (get_or-map guarding h.guards.entries.items g None ∙ ap guarding here) (guard-is g held valid here)) (λ o. rw world (t.owners o))
+        (λ k. rw taken (spent (GuardsIn d.ledger.places) tt h.guards.entries.items g t.guards k)))
+
+    -- a guard is opened, and whether the opening is an outermost one is noted
     abbrev now : Opening
-    now = record { place = q; since = h.moment + 1 }
+    now = record { place = p; since = h.moment + 1 }
 
     abbrev pub noted : Bool → List (Option Opening)
     noted b = if b then d.ledger.places else slice_set d.ledger.places n (Some now)
 
-    place-kept : (b : Bool) (m : ℕ) → option_map (λ (x : Opening). x.place) (slice_index_or (noted b) m None)
-        ≡ option_map (λ (x : Opening). x.place) (slice_index_or d.ledger.places m None)
+    place-kept : (b : Bool) (m : ℕ) → option_map place (slice_index_or (noted b) m None) ≡ option_map place (slice_index_or d.ledger.places m None)
     place-kept true m = refl
-    place-kept false m = as-each (option_map (λ (x : Opening). x.place)) d.ledger.places n (Some now) None (ap (option_map (λ (x : Opening). x.place)) there) m
-
-    guards-still : (b : Bool) (o : Option Guarding) → GuardsIn d.ledger.places o → GuardsIn (noted b) o
-    guards-still b None e = tt
-    guards-still b (Some held) e = place-kept b held.participant ∙ e
+    place-kept false m = as-each (option_map place) d.ledger.places n (Some now) None (ap (option_map place) there) m
 
     pub goes-opened : (w : World Val) (places : Vec (Option Attending)) (guards : Vec (Option Guarding)) (fates : Vec Fate) (held : Guarding) →
-        IsWhole h.world → map attending places.items ≡ noted (is_open (time.place_at d.ledger.time q)) →
-        guards.items ≡ h.guards.entries.items ++ Some held ∷ [] → guards_place held.guard ≡ q → held.since ≡ h.moment + 1 → held.participant ≡ n →
-        fates.items ≡ all_gone h.fates.items (due_at d.ledger.time q) → w ≡ opened holdings_of h.world q →
+        IsWhole h.world → map attending places.items ≡ noted (is_open (time.place_at d.ledger.time p)) →
+        guards.items ≡ h.guards.entries.items ++ Some held ∷ [] → guards_place held.guard ≡ p → held.since ≡ h.moment + 1 → held.participant ≡ n →
+        fates.items ≡ all_gone h.fates.items (due_at d.ledger.time p) → w ≡ opened holdings_of h.world p →
         Goes (record h { world = w; places = record { entries = places }; guards = record { entries = guards }; fates = fates })
-        (record d { world = opened holdings_of h.world q; ledger = with_guard d.ledger n q })
-    goes-opened w places guards fates held whole entries pushed place since participant gone world =
-        let leaves = leaves-opened h.world q t.sound.linked in
-        let told : time_by names (opened holdings_of h.world q).time ≡ ledger.opened d.ledger.time q =
-        ap (time_by names) leaves.time ∙ by-opened names h.world.time q in
-        let entry : guarding (Some held) ≡ Some now = cc (place, since) in
+        (record d { world = opened holdings_of h.world p; ledger = with_guard d.ledger n p })
+    goes-opened w places guards fates held whole entries pushed own since participant gone world =
+        let leaves = leaves-opened h.world p t.sound.linked in
+        let told : time_by names (opened holdings_of h.world p).time ≡ time.opened d.ledger.time p =
+        ap (time_by names) leaves.time ∙ by-opened names h.world.time p in
+        let entry : guarding (Some held) ≡ Some now = cc (own, since) in
         let more : map guarding guards.items ≡ d.ledger.guards ++ Some now ∷ [] =
         ap (map guarding) pushed ∙ map_push guarding h.guards.entries.items (Some held) ∙ ap (λ x. d.ledger.guards ++ x ∷ []) entry in
-        let same : desk_of (record h { world = w; places = record { entries = places }; guards = record { entries = guards }; fates = fates })
-        ≡ record d { world = opened holdings_of h.world q; ledger = with_guard d.ledger n q } =
-        cc (world, entries, more, gone, told) in
-        let b = is_open (time.place_at d.ledger.time q) in
-        record {
-          tied = record {
-            sound = subst IsSound (sym same) (sound-opened d n (record { place = q; since = a.since }) refl t.sound whole (sym there));
-            owners = owners-in w.home.slots h.slots.items (ap (λ (x : World Val). x.home.slots) world ∙ ap (λ (x : Home). x.slots) leaves.home) refl;
-            guards = λ k.
-                subst (λ ps. GuardsIn ps (slice_index_or guards.items k None)) (sym entries)
-                (subst (λ gs. GuardsIn (noted b) (slice_index_or gs k None)) (sym pushed)
-                (given (GuardsIn (noted b)) h.guards.entries.items held
-                (place-kept b held.participant ∙ ap (λ m. option_map (λ (x : Opening). x.place) (slice_index_or d.ledger.places m None)) participant
-                ∙ sym (ap (option_map (λ (x : Opening). x.place)) there) ∙ ap Some (sym place))
-                (λ j. guards-still b (slice_index_or h.guards.entries.items j None) (t.guards j)) k));
-          };
-          desk = same;
-        }
+        let b = is_open (time.place_at d.ledger.time p) in
+        goes (cc (world, entries, more, gone, told))
+        (sound-opened d n (record { place = p; since = a.since }) refl t.sound whole (sym there))
+        (λ o. rw (world, leaves.home) (t.owners o))
+        (λ k. rw pushed (given (GuardsIn (noted b)) h.guards.entries.items held
+        (place-kept b held.participant ∙ ap (λ m. option_map place (slice_index_or d.ledger.places m None)) participant
+        ∙ sym (ap (option_map place) there) ∙ ap Some (sym own))
+        (λ j. guards-on d.ledger.places (noted b) (λ m k e. place-kept b m ∙ e) (slice_index_or h.guards.entries.items j None) (t.guards j)) k))
 
 -- ---- what is left is what the call means
 
@@ -337,147 +295,94 @@ module _ (h : Hand) (t : IsTied h) (name : PlaceName) where
   abbrev pub desk : Desk
   desk = desk_of h
 
-  pub acts-registered : (places : Vec (Option Attending)) (a : Attending) (w : World Val) →
-      places.items ≡ h.places.entries.items ++ Some a ∷ [] → index_of a.place ≡ length h.world.time.places → a.since ≡ 0 → w ≡ registered h.world →
-      name.0 ≡ length h.places.entries.items → length h.world.time.places < h.world.time.participants →
-      Acts desk Register (reply.Place name) (desk_of (record h { world = w; places = record { entries = places } }))
-  acts-registered places a w pushed index since world named room =
-      subst (Acts desk Register (reply.Place name)) (sym (goes-registered h t places a w name pushed index since world).desk)
-      ((named ∙ sym (length-map h.places.entries.items attending), room, (refl, refl, refl)), refl)
-
   module _ (a : Attending) (there : attending (Some a) ≡ slice_index_or desk.ledger.places name.0 None) where
-    is : ledger.place_of desk.ledger name.0 ≡ index_of a.place
-    is = place-is h t name.0 a there
+    here : place_of desk.ledger name.0 ≡ index_of a.place
+    here = is h t name.0 a there
 
-    pub is-place : ledger.IsPlace desk.ledger name.0
-    is-place = subst (λ x. IsSome x) there refl
+    there-is : ledger.IsPlace desk.ledger name.0
+    there-is = is-place h t name.0 a there
 
     pub acts-stirred : (g : GuardName) (w : World Val) → HasOpen desk.ledger.places desk.ledger.guards name.0 g.0 → w ≡ stirred h.world (index_of a.place) →
-        Acts desk (At name (call.Set g)) reply.Done (desk_of (record h { world = w }))
-    acts-stirred g w valid world =
-        subst (Acts desk (At name (call.Set g)) reply.Done) (sym (goes-stirred h t name.0 a there w world).desk)
-        ((valid, (ap (stirred h.world) (sym is), refl, refl)), ap (λ q. record desk.ledger { time = time.stirred_at desk.ledger.time q }) (sym is))
+        Does desk (At name (call.Set g)) reply.Done (record h { world = w })
+    acts-stirred g w valid world = does desk (At name (call.Set g)) reply.Done (goes-stirred h t name.0 a there w world) ((valid, (refl, refl, refl)), refl)
 
     pub acts-accelerated : (g : GuardName) (w : World Val) → HasOpen desk.ledger.places desk.ledger.guards name.0 g.0 →
-        w ≡ accelerated h.world (index_of a.place) → Acts desk (At name (call.Accelerate g)) reply.Done (desk_of (record h { world = w }))
+        w ≡ accelerated h.world (index_of a.place) → Does desk (At name (call.Accelerate g)) reply.Done (record h { world = w })
     acts-accelerated g w valid world =
-        subst (Acts desk (At name (call.Accelerate g)) reply.Done) (sym (goes-accelerated h t name.0 a there w world).desk)
-        ((valid, (ap (accelerated h.world) (sym is), refl, refl)), ap (λ q. record desk.ledger { time = time.accelerated_at desk.ledger.time q }) (sym is))
+        does desk (At name (call.Accelerate g)) reply.Done (goes-accelerated h t name.0 a there w world) ((valid, (refl, refl, refl)), refl)
 
-    -- the guard of that name is the participant's
-    pub guard-is : (g : ℕ) (held : Guarding) → HasOpen desk.ledger.places desk.ledger.guards name.0 g →
-        slice_index_or h.guards.entries.items g None ≡ Some held →
-        guards_place held.guard ≡ index_of a.place
-    guard-is g held valid here =
-        let entry = get_or-map guarding h.guards.entries.items g None ∙ ap guarding here in
-        subst (λ o. ledger.IsOf (place_in (slice_index_or desk.ledger.places name.0 None)) o) entry valid.1 ∙ is
+    pub acts-ended : (w : World Val) (places : Vec (Option Attending)) → places.items ≡ slice_set h.places.entries.items name.0 None →
+        (IsTrue (is_open (time.place_at h.world.time (index_of a.place))) → ⊥) → w ≡ ended h.world (index_of a.place) →
+        Does desk (At name call.End) reply.Done (record h { world = w; places = record { entries = places } })
+    acts-ended w places taken shut world =
+        does desk (At name call.End) reply.Done (goes-ended h t name.0 a there w places taken shut world) ((there-is, (rw here shut, (refl, refl, refl))), refl)
 
     pub acts-closed : (g : GuardName) (w : World Val) (guards : Vec (Option Guarding)) (held : Guarding) →
         HasOpen desk.ledger.places desk.ledger.guards name.0 g.0 → slice_index_or h.guards.entries.items g.0 None ≡ Some held →
         guards.items ≡ slice_set h.guards.entries.items g.0 None → w ≡ closed h.world (index_of a.place) →
-        Acts desk (At name (call.Close g)) reply.Done (desk_of (record h { world = w; guards = record { entries = guards } }))
-    acts-closed g w guards held valid here taken world =
-        subst (Acts desk (At name (call.Close g)) reply.Done)
-        (sym (goes-closed h t w guards g.0 (index_of a.place) held here (guard-is g.0 held valid here) taken world).desk) (
-          (valid, (ap (closed h.world) (sym is), refl, refl)),
-          ap (λ q. record desk.ledger { time = time.closed desk.ledger.time q; guards = slice_set desk.ledger.guards g.0 None }) (sym is),
-        )
+        Does desk (At name (call.Close g)) reply.Done (record h { world = w; guards = record { entries = guards } })
+    acts-closed g w guards held valid mine taken world =
+        does desk (At name (call.Close g)) reply.Done (goes-closed h t name.0 a there w guards g.0 held valid mine taken world)
+        ((valid, (refl, refl, refl)), refl)
 
     pub acts-retired : (o : OwnerName) (w : World Val) (owners : Vec (Option Held)) (fates : Vec Fate) (held : Held) →
         slice_index_or h.owners.entries.items o.0 None ≡ Some held → KeepsUnderGuards holdings_of h.world →
         owners.items ≡ slice_set h.owners.entries.items o.0 None → fates.items ≡ slice_set h.fates.items held.item (Retired h.moment) →
         w ≡ retired h.world (index_of a.place) (slot_of held.owner) →
-        Acts desk (At name (call.Retire o)) reply.Done (desk_of (record h { world = w; owners = record { entries = owners }; fates = fates }))
-    acts-retired o w owners fates held here keeps taken become world =
-        let entry : slice_index_or desk.ledger.owners o.0 None ≡ Some held.item = get_or-map item_held h.owners.entries.items o.0 None ∙ ap item_held here in
-        subst (Acts desk (At name (call.Retire o)) reply.Done)
-        (sym (goes-retired h t w owners fates (index_of a.place) o.0 held here (in-range h t name.0 a there) keeps taken become world).desk) (
-          (
-            (is-place, is-there desk.ledger.owners o.0 held.item entry),
-            (
-              held.item,
-              entry,
-              (ap (λ q. retired h.world q (slot_at desk held.item)) (sym is), refl, refl),
-            ),
-          ),
-          cc (is, entry),
-        )
+        Does desk (At name (call.Retire o)) reply.Done (record h { world = w; owners = record { entries = owners }; fates = fates })
+    acts-retired o w owners fates held mine keeps taken become world =
+        let entry : slice_index_or desk.ledger.owners o.0 None ≡ Some held.item = get_or-map item_held h.owners.entries.items o.0 None ∙ ap item_held mine in
+        let goes = goes-retired h t w owners fates (index_of a.place) o.0 held mine (inl (in_range h t name.0 a there, keeps)) taken become world in
+        does desk (At name (call.Retire o)) reply.Done goes
+        (((there-is, is-there desk.ledger.owners o.0 held.item entry), (held.item, entry, rw here (refl, refl, refl))), rw (here, entry) refl)
 
     pub acts-made : (w : World Val) (owners : Vec (Option Held)) (slots : Vec ℕ) (fates : Vec Fate) (named : Vec ℕ) (number k : ℕ) (held : Held)
         (o : OwnerName) (i : ItemName) (m : Makes h.world number k w) → IsWhole h.world → length h.fates.items + 1 < 2 ^ 128 →
         slot_of held.owner ≡ k → slots_home held.owner ≡ h.world.home.slots → held.item ≡ length h.fates.items →
         owners.items ≡ h.owners.entries.items ++ Some held ∷ [] → slots.items ≡ h.slots.items ++ k ∷ [] → fates.items ≡ h.fates.items ++ Out ∷ [] →
         named.items ≡ slice_set h.names.items k (length h.fates.items) → o.0 ≡ length h.owners.entries.items → i.0 ≡ length h.fates.items →
-        IsTied (record h { world = w; owners = record { entries = owners }; slots = slots; fates = fates; names = named })
-        × Acts desk (At name (call.Owned number)) (reply.Item o i)
-        (desk_of (record h { world = w; owners = record { entries = owners }; slots = slots; fates = fates; names = named }))
+        Does desk (At name (call.Owned number)) (reply.Item o i)
+        (record h { world = w; owners = record { entries = owners }; slots = slots; fates = fates; names = named })
     acts-made w owners slots fates named number k held o i m whole few slot home item pushed more_slots more_fates written owner_name item_name =
-        let goes = goes-made h t w owners slots fates named number k held m whole some few slot home item pushed more_slots more_fates written in (
-          goes.tied,
-          subst (Acts desk (At name (call.Owned number)) (reply.Item o i)) (sym goes.desk) (
-            (
-              is-place,
-              (
-                owner_name ∙ sym (length-map h.owners.entries.items item_held),
-                item_name,
-                (k, w, m, (sym m.made, refl, refl)),
-              ),
-            ),
-            refl,
-          ),
-        ) where
-          some : (n : ℕ) × IsSome (slice_index_or desk.ledger.places n None)
-          some = (name.0, is-place)
+        does desk (At name (call.Owned number)) (reply.Item o i)
+        (goes-made h t w owners slots fates named number k held m whole
+        (index_of a.place, ap is_some (live-is h.world.time (index_of a.place) (in_range h t name.0 a there)))
+        few slot home item pushed more_slots more_fates written)
+        ((there-is, (owner_name ∙ sym (length-map h.owners.entries.items item_held), item_name, (k, w, m, (sym m.made, refl, refl)))), refl)
 
     pub acts-refused : (w : World Val) (owners : Vec (Option Held)) (slots : Vec ℕ) (fates : Vec Fate) (number : ℕ) (refused : Refused) →
         RefusesItem h.world refused → w ≡ h.world → owners.items ≡ h.owners.entries.items → slots.items ≡ h.slots.items → fates.items ≡ h.fates.items →
         Acts desk (At name (call.Owned number)) (reply.Refused refused)
         (desk_of (record h { world = w; owners = record { entries = owners }; slots = slots; fates = fates }))
     acts-refused w owners slots fates number refused why world same_owners same_slots same_fates =
-        let kept : desk_of (record h { owners = record { entries = owners }; slots = slots; fates = fates }) ≡ desk =
-        ap (λ (os : List (Option ℕ)). record desk { ledger = record desk.ledger { owners = os; items = fates.items }; slots = slots.items })
-        (ap (map item_held) same_owners)
-        ∙ ap (λ (fs : List Fate). record desk { ledger = record desk.ledger { items = fs }; slots = slots.items }) same_fates
-        ∙ ap (λ (ks : List ℕ). record desk { slots = ks }) same_slots in
-        let same : desk_of (record h { world = w; owners = record { entries = owners }; slots = slots; fates = fates }) ≡ desk =
-        ap (λ (v : World Val). desk_of (record h { world = v; owners = record { entries = owners }; slots = slots; fates = fates })) world ∙ kept in
-        subst (Acts desk (At name (call.Owned number)) (reply.Refused refused)) (sym same) ((is-place, (why, refl)), refl)
+        rw (world, same_owners, same_slots, same_fates) ((there-is, (why, refl)), refl)
 
     pub acts-read : (o : OwnerName) (held : Held) (v : Val) (number : ℕ) → Some held ≡ slice_index_or h.owners.entries.items o.0 None →
         value_at h.world (slot_of held.owner) ≡ Some v → number ≡ body_of v → Acts desk (At name (call.Read o)) (reply.Value number) desk
-    acts-read o held v number here shown is =
+    acts-read o held v number mine shown number_is =
         let entry : slice_index_or desk.ledger.owners o.0 None ≡ Some held.item =
-        get_or-map item_held h.owners.entries.items o.0 None ∙ sym (ap item_held here) in
-        let owns : IsOwnerIn h.world.home.slots h.slots.items held = subst (OwnsItem h.world.home.slots h.slots.items) (sym here) (t.owners o.0) in (
+        get_or-map item_held h.owners.entries.items o.0 None ∙ sym (ap item_held mine) in
+        let owns : IsOwnerIn h.world.home.slots h.slots.items held = subst (OwnsItem h.world.home.slots h.slots.items) (sym mine) (t.owners o.0) in (
           (
-            (is-place, is-there desk.ledger.owners o.0 held.item entry),
-            ((held.item, entry, (v, ap (value_at h.world) (sym owns.slot_is) ∙ shown, sym is)), refl),
+            (there-is, is-there desk.ledger.owners o.0 held.item entry),
+            ((held.item, entry, (v, ap (value_at h.world) (sym owns.slot_is) ∙ shown, sym number_is)), refl),
           ),
           refl,
         )
 
-    -- an item that the participant can point to stands in its slot
-    pub can-point : (i : ℕ) → IsThereSince a.since (fate_at desk.ledger i) → IsSome (standing_at h.world (slot_at desk i))
-    can-point i since = stands-there (fate_at desk.ledger i) (standing_at h.world (slot_at desk i)) (since-there (fate_at desk.ledger i) since)
-        (t.sound.stocked.stands i) where
-          since-there : (f : Fate) → IsThereSince a.since f → IsThere f
-          since-there Out s = tt
-          since-there (Retired at) s = tt
-          since-there Gone s = s
-
     pub acts-looked : (i : ItemName) (g : GuardName) (k : ℕ) (v : Val) (number : ℕ) → HasOpen desk.ledger.places desk.ledger.guards name.0 g.0 →
         IsThereSince a.since (fate_at desk.ledger i.0) → k ≡ slot_at desk i.0 → value_at h.world k ≡ Some v → body_of v ≡ number →
         Acts desk (At name (call.Look i g)) (reply.Value number) desk
-    acts-looked i g k v number valid since slot shown is =
+    acts-looked i g k v number valid since slot shown number_is =
         let can = subst (λ o. IsThereSince (since_in o) (fate_at desk.ledger i.0)) there since in
-        (((valid.0, valid.1, can), ((v, ap (value_at h.world) (sym slot) ∙ shown, is), refl)), refl)
+        (((valid.0, valid.1, can), ((v, ap (value_at h.world) (sym slot) ∙ shown, number_is), refl)), refl)
 
     -- an opening, which found these slots, and these names
     module _ (w : World Val) (places : Vec (Option Attending)) (guards : Vec (Option Guarding)) (fates : Vec Fate) (held : Guarding)
         (slots : List ℕ) (found sorted : List ItemName) (whole : IsWhole h.world) (are : map Item slots ≡ reclaims h.world (index_of a.place))
         (names_are : found ≡ map (item_named h.names.items) slots)
         (entries : map attending places.items ≡ noted h t name.0 a there (is_open (time.place_at desk.ledger.time (index_of a.place))))
-        (pushed : guards.items ≡ h.guards.entries.items ++ Some held ∷ []) (place : guards_place held.guard ≡ index_of a.place)
+        (pushed : guards.items ≡ h.guards.entries.items ++ Some held ∷ []) (own : guards_place held.guard ≡ index_of a.place)
         (since : held.since ≡ h.moment + 1) (participant : held.participant ≡ name.0)
         (gone : fates.items ≡ all_gone h.fates.items (map what_named found)) (world : w ≡ opened holdings_of h.world (index_of a.place)) where
       abbrev pub after-opening : Hand
@@ -489,33 +394,31 @@ module _ (h : Hand) (t : IsTied h) (name : PlaceName) where
       pub opens-to : Goes after-opening
           (record desk { world = opened holdings_of h.world (index_of a.place); ledger = with_guard desk.ledger name.0 (index_of a.place) })
       opens-to =
-          goes-opened h t name.0 a there w places guards fates held whole entries pushed place since participant
+          goes-opened h t name.0 a there w places guards fates held whole entries pushed own since participant
           (gone ∙ ap (all_gone h.fates.items) (sym due-is)) world
 
       pub answers-opened : (g : GuardName) (epoch : Epoch) → IsPermutation found sorted → IsNonDecreasingBy (λ (i : ItemName). i.0) sorted →
           CanNest h.world.time (index_of a.place) → g.0 ≡ length h.guards.entries.items → epoch ≡ epoch_of w.time.count →
           Answers desk (At name call.Open) (record { reply = reply.Guard g epoch; reclaimed = sorted; ran = [] }) (desk_of after-opening)
-      answers-opened g epoch moved up nests given_name now =
+      answers-opened g epoch moved up nests given_name now_is =
           let all = names-due desk (index_of a.place) t.sound.stocked whole slots are found names_are sorted moved up in
           record {
-            acts = subst (Acts desk (At name call.Open) (reply.Guard g epoch)) (sym opens-to.desk) (
+            acts = (does desk (At name call.Open) (reply.Guard g epoch) opens-to (
               (
-                is-place,
-                (
-                  subst (CanNest h.world.time) (sym is) nests,
+                there-is,
+                rw here (
+                  nests,
                   given_name ∙ sym (length-map h.guards.entries.items guarding),
-                  now ∙ ap (λ (v : World Val). epoch_of v.time.count) world,
-                  (ap (opened holdings_of h.world) (sym is), refl, refl),
+                  now_is ∙ ap (λ (v : World Val). epoch_of v.time.count) world,
+                  (refl, refl, refl),
                 ),
               ),
-              ap (with_guard desk.ledger name.0) (sym is),
-            );
-            goes = λ i. subst (λ q. Contains sorted i ↔ (IsWaiting (fate_at desk.ledger i.0) ×
-                Contains (reclaims h.world q) (Item (slot_at desk i.0)))) (sym is)
-                (all.2 i);
+              rw here refl,
+            )).1;
+            goes = λ i. rw here (all.2 i);
             due = record {
               ascending = all.0;
-              exactly = λ i. subst (λ q. Contains sorted i ↔ Contains (due_at desk.ledger.time q) (Item i.0)) (sym is) (all.1 i);
+              exactly = λ i. rw here (all.1 i);
               unguarded = λ i c g y e.
                   (let went = (all.2 i).0 c in
                   unguarded desk name.0 (record { place = index_of a.place; since = a.since }) refl t.sound whole (sym there) i.0 went.0 went.1 g y e);
@@ -549,16 +452,6 @@ noted-is h t n since a there nested new is line e =
     ≡ Some (record { place = index_of a.place; since = h.moment + 1 }) =
     ap (option_map (λ (x : Opening). record x { since = since })) (sym there) ∙ ap (λ k. Some (record { place = index_of a.place; since = k })) line in
     e ∙ ap (λ o. if nested then (desk_of h).ledger.places else slice_set (desk_of h).ledger.places n o) entry ∙ ap (noted h t n a there) (sym same)
-
--- where nobody is there, no owner was made
-pub no-owner : (d : Desk) → IsSound d → ((n : ℕ) → slice_index_or d.ledger.places n None ≡ None) → (o : ℕ) → slice_index_or d.ledger.owners o None ≡ None
-no-owner d s nobody o = by (slice_index_or d.ledger.owners o None) refl where
-  by : (x : Option ℕ) → slice_index_or d.ledger.owners o None ≡ x → x ≡ None
-  by None e = refl
-  by (Some i) e =
-      let lt = fate-inside d.ledger.items i (s.owned.out o i e) in
-      let who = s.attended.placed (omega (arith, lt)) in
-      absurd (not-free (slice_index_or d.ledger.places who.0 None) who.1 (nobody who.0))
 
 -- an owner's item was given its name
 pub owner-inside : (h : Hand) → IsTied h → (o : ℕ) (held : Held) → slice_index_or h.owners.entries.items o None ≡ Some held → held.item < length h.fates.items

@@ -1,107 +1,63 @@
 -- Who is there, and which guards are open, after each call
-use Rattle.std.proofs.Common.{◌≡◌, ◌≢◌, ◌⊎◌, ℕ, ◌+◌, ◌-◌, ◌<◌, ◌≤◌, ◌==◌, Bool, true, false, if◌then◌else◌, nat_lt, List, [], ◌∷◌, ◌++◌, Option, Some, None, IsSome, is_some, length, count_by, slice_index_or, slice_set, inl, inr, refl, sym, ap, ◌∙◌, subst, ltb-false, lt-ltb, arith}
-use Rattle.std.proofs.lemmas.Bool.{cases_eq}
-use Rattle.std.proofs.lemmas.List.{length-set, length_push, get_or_past}
+use Rattle.std.proofs.Common.{ltb-false}
 use Rattle.std.proofs.lemmas.List.Sums.{sum_by-set, sum_by_push}
 use Rattle.sdd_store.specs.Time as time
-use Rattle.sdd_store.specs.Time.{Time, nobody, newcomer, place_at, with_place, is_open}
-use Rattle.sdd_store.specs.declared.time.Participant.{Participant}
-use Rattle.sdd_base.specs.World.{World}
-use Rattle.sdd_base.proofs.Whole.{scans-places, one_where}
-use Rattle.sdd.specs.declared.script.val.Val.{Val}
-use Rattle.sdd.specs.declared.script.fate.Fate.{Fate}
-use Rattle.sdd.specs.Ledger.{Ledger, Opening, opened, caught_up}
-use Rattle.sdd.specs.Sound.{IsAttended, is_of}
-use Rattle.sdd.proofs.Entry.{at-same, at-other, as-each, at-pushed, at-end, at-default, inside}
-use Rattle.sdd.proofs.Naming.{one-if, none-if}
+use Rattle.sdd_store.specs.Time.{IsLive, phase_at, place_at}
+use Rattle.sdd_store.specs.declared.phases.Phase.TheVariants.{Ended}
+use Rattle.sdd_store.proofs.Adopting.{keeps-closed}
+use Rattle.sdd_base.proofs.Housed.{live-is, ended-lives}
+use Rattle.sdd_base.proofs.Nesting.{one-if, none-if, how-opened, guards-opened, guards-closed, guards-registered, still-live}
+use Rattle.sdd.proofs.Words.{◌≡◌, ◌≢◌, ◌⊎◌, ℕ, suc, ◌+◌, ◌<◌, ◌≤◌, ◌==◌, Bool, true, false, if◌then◌else◌, List, [], ◌∷◌, ◌++◌, Option, Some, None, IsSome, IsTrue, is_some, length, count_by, slice_index_or, slice_set, inl, inr, refl, sym, ap, ◌∙◌, subst, lt-ltb, arith, cases_eq, length-set, Time, is_open, opened, World, IsPlaceOf, one_where, count-cons, Val, Fate, Ledger, Opening, IsAttended, is_of}
+use Rattle.sdd.proofs.Entry.{at-same, at-other, at-pushed, at-end, at-default, inside}
 
--- the guard that is written at a place
-guards-set : (ps : List Participant) (p q : ℕ) (x : Participant) → p < length ps →
-    ((p ≡ q) × ((slice_index_or (slice_set ps p x) q nobody).guards ≡ x.guards) × ((slice_index_or ps p nobody).guards ≡ (slice_index_or ps q nobody).guards))
-    ⊎ ((p ≢ q) × ((slice_index_or (slice_set ps p x) q nobody).guards ≡ (slice_index_or ps q nobody).guards))
-guards-set ps p q x lt =
-    elim (cases_eq p q) [
-      | inl e ↦ inl (e, rw (sym e) (ap (λ (y : Participant). y.guards) (at-same ps p x nobody lt)), rw e refl)
-      | inr ne ↦ inr (ne, ap (λ (y : Participant). y.guards) (at-other ps p q x nobody (λ e. ne (sym e))))
+-- ---- what stands in a list of names
+
+-- what stands after one more name was given
+pub pushed-entry : {X : Type 0} (xs : List (Option X)) (x y : X) (k : ℕ) → slice_index_or (xs ++ Some x ∷ []) k None ≡ Some y →
+    ((k ≡ length xs) × (x ≡ y)) ⊎ (slice_index_or xs k None ≡ Some y)
+pushed-entry xs x y k e =
+    elim (cases_eq k (length xs)) [
+      | inr ne ↦ inr (sym (at-pushed xs (Some x) None k ne) ∙ e)
+      | inl is ↦
+          let z : Some x ≡ Some y = sym (ap (λ j. slice_index_or (xs ++ Some x ∷ []) j None) is ∙ at-end xs (Some x) None) ∙ e in
+          let same : x ≡ y = cc in inl (is, same)
     ]
 
--- one more guard of p
-guards-nested : (t : Time) (p q : ℕ) → p < length t.places → (place_at (time.nested_at t p) q).guards ≡ (place_at t q).guards + one_where (p == q)
-guards-nested t p q lt =
-    elim (guards-set t.places p q (time.nested (place_at t p)) lt) [
-      | inl h ↦ omega (arith, h.1, h.2, one-if p q h.0)
-      | inr h ↦ omega (arith, h.1, none-if p q h.0)
+-- what stands after one was spent
+pub left-entry : {X : Type 0} (xs : List (Option X)) (k j : ℕ) (y : X) → slice_index_or (slice_set xs k None) j None ≡ Some y →
+    (j ≢ k) × (slice_index_or xs j None ≡ Some y)
+left-entry xs k j y e =
+    elim (cases_eq j k) [
+      | inl is ↦ absurd (let z : None ≡ Some y = sym (rw is (at-default xs k None)) ∙ e in cc)
+      | inr ne ↦ (ne, sym (at-other xs k j None None ne) ∙ e)
     ]
 
-caught-places : (t : Time) (p q : ℕ) (b : Bool) → (place_at (if b then time.settled_at (time.rotated_at t p) p else t) q).guards ≡ (place_at t q).guards
-caught-places t p q true =
-    as-each (λ (x : Participant). x.guards) (time.rotated_at t p).places p (time.settled (place_at (time.rotated_at t p) p)) nobody refl q
-    ∙ as-each (λ (x : Participant). x.guards) t.places p (time.rotated t.count (place_at t p)) nobody refl q
-caught-places t p q false = refl
+-- what stands at one number
+one-entry : {X : Type 0} (xs : List (Option X)) (k j : ℕ) (x y : X) → k ≡ j → slice_index_or xs k None ≡ Some x → slice_index_or xs j None ≡ Some y → x ≡ y
+one-entry xs k j x y is e f = (let z : Some x ≡ Some y = sym e ∙ ap (λ i. slice_index_or xs i None) is ∙ f in cc)
 
-pub guards-opened : (t : Time) (p q : ℕ) → p < length t.places → (place_at (opened t p) q).guards ≡ (place_at t q).guards + one_where (p == q)
-guards-opened t p q lt = by (is_open (place_at t p)) where
-  by : (b : Bool) → (place_at (if b then time.nested_at t p else caught_up (time.nested_at t p) p) q).guards ≡ (place_at t q).guards + one_where (p == q)
-  by true = guards-nested t p q lt
-  by false = caught-places (time.nested_at t p) p q (time.finds_another (time.nested_at t p) p) ∙ guards-nested t p q lt
+abbrev pub place : Opening → ℕ
+place x = x.place
 
--- one guard of p fewer
-pub guards-closed : (t : Time) (p q : ℕ) → p < length t.places → 0 < (place_at t p).guards →
-    (place_at (time.closed t p) q).guards + one_where (p == q) ≡ (place_at t q).guards
-guards-closed t p q lt some = by (nat_lt 1 (place_at t p).guards) refl where
-  set-to : (ps : List Participant) (x : Participant) → ps ≡ t.places → x.guards + 1 ≡ (place_at t p).guards →
-      (slice_index_or (slice_set ps p x) q nobody).guards + one_where (p == q) ≡ (place_at t q).guards
-  set-to ps x e one =
-      rw e (elim (guards-set t.places p q x lt) [
-        | inl h ↦ omega (arith, h.1, h.2, one, one-if p q h.0)
-        | inr h ↦ omega (arith, h.1, none-if p q h.0)
-      ])
+-- a place that no guard is open at
+pub none-of : (guards : List (Option Opening)) (q : ℕ) → ((g : ℕ) (y : Opening) → slice_index_or guards g None ≡ Some y → y.place ≢ q) →
+    count_by (is_of q) guards ≡ 0
+none-of [] q apart = refl
+none-of (y ∷ guards) q apart =
+    omega (arith, here y (apart 0), none-of guards q (λ g. apart (suc g)), count-cons (is_of q) y guards) where
+      here : (y : Option Opening) → ((x : Opening) → y ≡ Some x → x.place ≢ q) → one_where (is_of q y) ≡ 0
+      here None h = refl
+      here (Some x) h = none-if x.place q (h x refl)
 
-  by : (b : Bool) → nat_lt 1 (place_at t p).guards ≡ b →
-      (place_at (if b then with_place t p (record (place_at t p) { guards = (place_at t p).guards - 1 })
-      else (if is_open (place_at t p) then time.left_by t p else t)) q).guards + one_where (p == q) ≡ (place_at t q).guards
-  by true e = set-to t.places (record (place_at t p) { guards = (place_at t p).guards - 1 }) refl (omega (arith, some))
-  by false e =
-      rw (lt-ltb 0 (place_at t p).guards some)
-      (set-to (if (place_at t p).countdown == 0 then time.scanned t p else t).places
-      (record (place_at t p) { guards = 0; countdown = time.counted_down t.marked (place_at t p).countdown })
-      (scans-places t p ((place_at t p).countdown == 0)) (let few = ltb-false 1 (place_at t p).guards e in omega (arith, few, some)))
-
--- as many places, whatever is written
-pub length-opened : (t : Time) (p : ℕ) → length (opened t p).places ≡ length t.places
-length-opened t p = by (is_open (place_at t p)) where
-  nested : length (time.nested_at t p).places ≡ length t.places
-  nested = length-set t.places p (time.nested (place_at t p))
-
-  more : (b : Bool) → length (if b then time.settled_at (time.rotated_at (time.nested_at t p) p) p else time.nested_at t p).places ≡ length t.places
-  more true =
-      length-set (time.rotated_at (time.nested_at t p) p).places p (time.settled (place_at (time.rotated_at (time.nested_at t p) p) p))
-      ∙ length-set (time.nested_at t p).places p (time.rotated (time.nested_at t p).count (place_at (time.nested_at t p) p)) ∙ nested
-  more false = nested
-
-  by : (b : Bool) → length (if b then time.nested_at t p else caught_up (time.nested_at t p) p).places ≡ length t.places
-  by true = nested
-  by false = more (time.finds_another (time.nested_at t p) p)
-
-pub length-closed : (t : Time) (p : ℕ) → length (time.closed t p).places ≡ length t.places
-length-closed t p = by (nat_lt 1 (place_at t p).guards) (is_open (place_at t p)) where
-  by : (a b : Bool) → length (if a then with_place t p (record (place_at t p) { guards = (place_at t p).guards - 1 }) else
-      (if b then time.left_by t p else t)).places
-      ≡ length t.places
-  by true b = length-set t.places p (record (place_at t p) { guards = (place_at t p).guards - 1 })
-  by false true =
-      let first = if (place_at t p).countdown == 0 then time.scanned t p else t in
-      length-set first.places p (record (place_at t p) { guards = 0; countdown = time.counted_down t.marked (place_at t p).countdown })
-      ∙ ap (λ (ps : List Participant). length ps) (scans-places t p ((place_at t p).countdown == 0))
-  by false false = refl
+-- ---- after each call
 
 module _ (w : World Val) (l : Ledger) (a : IsAttended w l) where
-  -- no guard is opened or closed
-  pub attended-same : (v : World Val) (t : Time) (owners : List (Option ℕ)) (items : List Fate) → length v.time.places ≡ length w.time.places →
-      ((q : ℕ) → (place_at v.time q).guards ≡ (place_at w.time q).guards) → (0 < length items → (n : ℕ) × IsSome (slice_index_or l.places n None)) →
+  -- no guard is opened or closed, and nobody comes or goes
+  pub attended-same : (v : World Val) (t : Time) (owners : List (Option ℕ)) (items : List Fate) → ((q : ℕ) → IsPlaceOf w q → IsPlaceOf v q) →
+      ((q : ℕ) → (place_at v.time q).guards ≡ (place_at w.time q).guards) → (0 < length items → (p : ℕ) × IsSome (phase_at v.time p)) →
       IsAttended v (record l { time = t; owners = owners; items = items })
-  attended-same v t owners items long same placed = record {
-    inside = λ n x e. omega (arith, a.inside n x e, long);
+  attended-same v t owners items live same placed = record {
+    inside = λ n x e. live x.place (a.inside n x e);
     apart = a.apart;
     opened = λ q. same q ∙ a.opened q;
     since = a.since;
@@ -116,86 +72,91 @@ module _ (w : World Val) (l : Ledger) (a : IsAttended w l) where
       let one : one_where (is_of y.place (slice_index_or l.guards g None)) ≡ 1 = ap (λ x. one_where (is_of y.place x)) e ∙ one-if y.place y.place refl in
       omega (arith, without, one, a.opened y.place)
 
-  -- a participant registers
-  pub attended-registered : (t : Time) → IsAttended (record w { time = time.registered w.time })
-      (record l { time = t; places = l.places ++ Some (record { place = length w.time.places; since = 0 }) ∷ [] })
-  attended-registered t =
-      let new : Opening = record { place = length w.time.places; since = 0 } in
-      let long = length_push w.time.places (newcomer w.time.room) in
-      let old = λ (n : ℕ) (x : Opening) (e : slice_index_or (l.places ++ Some new ∷ []) n None ≡ Some x) (ne : n ≢ length l.places).
-      sym (at-pushed l.places (Some new) None n ne) ∙ e in
-      let last = λ (n : ℕ) (x : Opening) (e : slice_index_or (l.places ++ Some new ∷ []) n None ≡ Some x) (is : n ≡ length l.places).
-      (let z : Some new ≡ Some x = sym (ap (λ k. slice_index_or (l.places ++ Some new ∷ []) k None) is ∙ at-end l.places (Some new) None) ∙ e in
-      let same : new ≡ x = cc in ap (λ (y : Opening). y.place) (sym same)) in
+  -- a participant registers at a place that nobody has
+  module _ (p : ℕ) (live : IsLive (time.registered w.time p) p)
+      (others : (q : ℕ) → IsPlaceOf w q → (q ≢ p) × IsLive (time.registered w.time p) q) where
+    pub shut : (place_at w.time p).guards ≡ 0
+    shut = a.opened p ∙ none-of l.guards p (λ g y e same. let who = a.since g y e in (others who.1.place (a.inside who.0 who.1 who.2)).0 (who.3 ∙ same))
+
+    pub attended-registered : (t : Time) → IsAttended (record w { time = time.registered w.time p })
+        (record l { time = t; places = l.places ++ Some (record { place = p; since = 0 }) ∷ [] })
+    attended-registered t =
+        let new : Opening = record { place = p; since = 0 } in
+        let entry = λ (n : ℕ) (x : Opening). pushed-entry l.places new x n in
+        record {
+          inside = λ n x e.
+              elim (entry n x e) [
+                | inl h ↦ subst (λ (y : Opening). IsLive (time.registered w.time p) y.place) h.1 live
+                | inr was ↦ (others x.place (a.inside n x was)).1
+              ];
+          apart = λ n m x y e f same.
+              elim (entry n x e) [
+                | inl h ↦
+                    elim (entry m y f) [
+                      | inl k ↦ h.0 ∙ sym k.0
+                      | inr k ↦ absurd ((others y.place (a.inside m y k)).0 (sym same ∙ sym (ap (λ (z : Opening). z.place) h.1)))
+                    ]
+                | inr h ↦
+                    elim (entry m y f) [
+                      | inl k ↦ absurd ((others x.place (a.inside n x h)).0 (same ∙ sym (ap (λ (z : Opening). z.place) k.1)))
+                      | inr k ↦ a.apart n m x y h k same
+                    ]
+              ];
+          opened = λ q. guards-registered w.time p q shut ∙ a.opened q;
+          since = λ g y e.
+              (let was = a.since g y e in
+              let lt = inside l.places was.0 (ap is_some was.2) in
+              (was.0, was.1, at-pushed l.places (Some new) None was.0 (λ z. omega (arith, z, lt)) ∙ was.2, was.3, was.4));
+          early = λ n x e.
+              elim (entry n x e) [
+                | inl h ↦ omega (arith, ap (λ (z : Opening). z.since) h.1)
+                | inr was ↦ a.early n x was
+              ];
+          placed = λ some. (p, ap is_some (live-is (time.registered w.time p) p live));
+        }
+
+  -- participant n, which has no guard open, ends
+  pub attended-ended : (t : Time) (n : ℕ) (x : Opening) → slice_index_or l.places n None ≡ Some x → (IsTrue (is_open (place_at w.time x.place)) → ⊥) →
+      IsAttended (record w { time = time.ended w.time x.place }) (record l { time = t; places = slice_set l.places n None })
+  attended-ended t n x there shut =
+      let live = a.inside n x there in
+      let was = λ (m : ℕ) (y : Opening). left-entry l.places n m y in
       record {
-        inside = λ n x e.
-            elim (cases_eq n (length l.places)) [
-              | inl is ↦ omega (arith, last n x e is, long)
-              | inr ne ↦ omega (arith, a.inside n x (old n x e ne), long)
-            ];
-        apart = λ n m x y e f same.
-            elim (cases_eq n (length l.places)) [
-              | inl n_is ↦
-                  elim (cases_eq m (length l.places)) [
-                    | inl m_is ↦ n_is ∙ sym m_is
-                    | inr m_ne ↦ absurd (omega (arith, a.inside m y (old m y f m_ne), last n x e n_is, same))
-                  ]
-              | inr n_ne ↦
-                  elim (cases_eq m (length l.places)) [
-                    | inl m_is ↦ absurd (omega (arith, a.inside n x (old n x e n_ne), last m y f m_is, same))
-                    | inr m_ne ↦ a.apart n m x y (old n x e n_ne) (old m y f m_ne) same
-                  ]
-            ];
-        opened = λ q.
-            elim (cases_eq q (length w.time.places)) [
-              | inl is ↦
-                  ap (λ (x : Participant). x.guards) (ap (λ k. slice_index_or (w.time.places ++ newcomer w.time.room ∷ []) k nobody) is
-                  ∙ at-end w.time.places (newcomer w.time.room) nobody)
-                  ∙ sym (ap (λ (x : Participant). x.guards) (get_or_past w.time.places q nobody (omega (arith, is)))) ∙ a.opened q
-              | inr ne ↦ ap (λ (x : Participant). x.guards) (at-pushed w.time.places (newcomer w.time.room) nobody q ne) ∙ a.opened q
-            ];
-        since = λ g y e.
-            let was = a.since g y e in
-            let lt = inside l.places was.0 (ap is_some was.2) in
-            (was.0, was.1, at-pushed l.places (Some new) None was.0 (λ z. omega (arith, z, lt)) ∙ was.2, was.3, was.4);
-        early = λ n x e.
-            elim (cases_eq n (length l.places)) [
-              | inl is ↦ (let z : Some new ≡ Some x = sym (ap (λ k. slice_index_or (l.places ++ Some new ∷ []) k None) is
-                  ∙ at-end l.places (Some new) None) ∙ e in
-                  let same : new ≡ x = cc in omega (arith, ap (λ (y : Opening). y.since) same))
-              | inr ne ↦ a.early n x (old n x e ne)
-            ];
-        placed = λ some.
-            let there = a.placed some in
-            let lt = inside l.places there.0 there.1 in
-            (there.0, subst (λ x. IsSome x) (sym (at-pushed l.places (Some new) None there.0 (λ z. omega (arith, z, lt)))) there.1);
+        inside = λ m y e. let old = was m y e in ended-lives w.time x.place y.place (λ same. old.0 (a.apart m n y x old.1 there same)) (a.inside m y old.1);
+        apart = λ m k y z e f same. a.apart m k y z (was m y e).1 (was k z f).1 same;
+        opened = a.opened;
+        -- a guard is another's
+        since = λ g y e. (let h = a.since g y e in
+            let apart = λ (is : h.0 ≡ n). shut (lt-ltb 0 (place_at w.time x.place).guards
+            (rw (sym (ap place (one-entry l.places h.0 n h.1 x is h.2 there)) ∙ h.3) (open-guard g y e))) in
+            (h.0, h.1, at-other l.places n h.0 None None apart ∙ h.2, h.3, h.4));
+        early = λ m y e. a.early m y (was m y e).1;
+        placed = λ some. (
+          x.place,
+          ap is_some (at-same w.time.phases x.place (Some Ended) None (inside w.time.phases x.place (ap is_some (live-is w.time x.place live)))),
+        );
       }
 
-  -- participant n closes its guard g
-  pub attended-closed : (t : Time) (g p : ℕ) (y : Opening) → slice_index_or l.guards g None ≡ Some y → y.place ≡ p →
+  -- a guard of p is closed
+  pub attended-closed : (t : Time) (g p : ℕ) (y : Opening) → slice_index_or l.guards g None ≡ Some y → y.place ≡ p → IsPlaceOf w p →
       IsAttended (record w { time = time.closed w.time p }) (record l { time = t; guards = slice_set l.guards g None })
-  attended-closed t g p y e is =
-      let lt : p < length w.time.places = (let n = a.since g y e in omega (arith, a.inside n.0 n.1 n.2, n.3, is)) in
+  attended-closed t g p y e is live =
       let some : 0 < (place_at w.time p).guards = subst (λ q. 0 < (place_at w.time q).guards) is (open-guard g y e) in
       record {
-        inside = λ n x f. omega (arith, a.inside n x f, length-closed w.time p);
+        inside = λ n x f. still-live w.time (time.closed w.time p) x.place (keeps-closed w.time p live) (a.inside n x f);
         apart = a.apart;
         opened = λ q.
             (let without = sum_by-set (λ x. one_where (is_of q x)) l.guards g None None (inside l.guards g (ap is_some e)) in
             let one : one_where (is_of q (slice_index_or l.guards g None)) ≡ one_where (p == q) = ap (λ x. one_where (is_of q x)) e
             ∙ ap (λ k. one_where (k == q)) is in
-            omega (arith, guards-closed w.time p q lt some, without, one, a.opened q));
-        since = λ h z f.
-            elim (cases_eq h g) [
-              | inl same ↦ absurd (let none : None ≡ Some z = sym (rw same (at-default l.guards g None)) ∙ f in cc)
-              | inr ne ↦ a.since h z (sym (at-other l.guards g h None None ne) ∙ f)
-            ];
+            omega (arith, guards-closed w.time p q live some, without, one, a.opened q));
+        since = λ h z f. a.since h z (left-entry l.guards g h z f).1;
         early = a.early;
-        placed = a.placed;
+        placed = λ some. (p, ap is_some (live-is (time.closed w.time p) p (still-live w.time (time.closed w.time p) p (keeps-closed w.time p live) live)));
       }
 
   module _ (v : World Val) (t : Time) (n : ℕ) (x : Opening) (items : List Fate) (there : slice_index_or l.places n None ≡ Some x)
-      (world : v.time ≡ opened w.time x.place) (long : length items ≡ length l.items) where
+      (world : v.time ≡ opened w.time x.place) where
     abbrev pub new : Opening
     new = record { place = x.place; since = l.moment + 1 }
 
@@ -205,15 +166,24 @@ module _ (w : World Val) (l : Ledger) (a : IsAttended w l) where
     abbrev pub places : Bool → List (Option Opening)
     places nested = if nested then l.places else slice_set l.places n (Some new)
 
-    many : length v.time.places ≡ length w.time.places
-    many = ap (λ (u : Time). length u.places) world ∙ length-opened w.time x.place
+    live : IsPlaceOf w x.place
+    live = a.inside n x there
+
+    lives-still : (q : ℕ) → IsPlaceOf w q → IsPlaceOf v q
+    lives-still q here =
+        let o = how-opened w.time x.place live.0 in
+        subst (λ (u : Time). IsLive u q) (sym (world ∙ o.is)) (omega (arith, here.0, length-set w.time.places x.place o.own), here.1)
 
     opens : (q : ℕ) → (place_at v.time q).guards ≡ count_by (is_of q) guards
     opens q =
-        let one = guards-opened w.time x.place q (a.inside n x there) in
+        let one = guards-opened w.time x.place q live in
         let same : (place_at v.time q).guards ≡ (place_at (opened w.time x.place) q).guards = ap (λ (u : Time). (place_at u q).guards) world in
         let pushed = sum_by_push (λ y. one_where (is_of q y)) l.guards (Some new) in
         omega (arith, one, same, pushed, a.opened q)
+
+    own-entry : (b : Bool) → slice_index_or (places b) n None ≡ Some (if b then x else new)
+    own-entry true = there
+    own-entry false = at-same l.places n (Some new) None (inside l.places n (ap is_some there))
 
     -- each entry is as it was, or it is the participant's own
     pub back : (b : Bool) (m : ℕ) (y : Opening) → slice_index_or (places b) m None ≡ Some y →
@@ -223,8 +193,7 @@ module _ (w : World Val) (l : Ledger) (a : IsAttended w l) where
         elim (cases_eq m n) [
           | inr ne ↦ (y, sym (at-other l.places n m (Some new) None ne) ∙ e, refl, inl refl)
           | inl is ↦
-              let lt = inside l.places n (ap is_some there) in
-              let z : Some new ≡ Some y = sym (rw is (at-same l.places n (Some new) None lt)) ∙ e in
+              let z : Some new ≡ Some y = sym (rw is (own-entry false)) ∙ e in
               let same : new ≡ y = cc in (
                 x,
                 ap (λ k. slice_index_or l.places k None) is ∙ there,
@@ -238,12 +207,10 @@ module _ (w : World Val) (l : Ledger) (a : IsAttended w l) where
     sinces : (b : Bool) → is_open (place_at w.time x.place) ≡ b → (g : ℕ) (y : Opening) → slice_index_or guards g None ≡ Some y →
         (m : ℕ) × (z : Opening) × (slice_index_or (places b) m None ≡ Some z) × (z.place ≡ y.place) × (z.since ≤ y.since)
     sinces b is g y e =
-        elim (cases_eq g (length l.guards)) [
+        elim (pushed-entry l.guards new y g e) [
           | inl last ↦
-              let z : Some new ≡ Some y = sym (ap (λ k. slice_index_or guards k None) last ∙ at-end l.guards (Some new) None) ∙ e in
-              let same : new ≡ y = cc in
-              subst (λ u. (m : ℕ) × (z : Opening) × (slice_index_or (places b) m None ≡ Some z) × (z.place ≡ u.place) × (z.since ≤ u.since)) same (own b)
-          | inr ne ↦ let f = sym (at-pushed l.guards (Some new) None g ne) ∙ e in older b is (a.since g y f) (open-guard g y f)
+              subst (λ u. (m : ℕ) × (z : Opening) × (slice_index_or (places b) m None ≡ Some z) × (z.place ≡ u.place) × (z.since ≤ u.since)) last.1 (own b)
+          | inr f ↦ older b is (a.since g y f) (open-guard g y f)
         ] where
           older : (b : Bool) → is_open (place_at w.time x.place) ≡ b →
               (m : ℕ) × (z : Opening) × (slice_index_or l.places m None ≡ Some z) × (z.place ≡ y.place) × (z.since ≤ y.since) →
@@ -253,28 +220,20 @@ module _ (w : World Val) (l : Ledger) (a : IsAttended w l) where
           older false is h some = (h.0, h.1, at-other l.places n h.0 (Some new) None apart ∙ h.2, h.3, h.4) where
             apart : h.0 ≢ n
             apart e =
-                let z : Some h.1 ≡ Some x = sym h.2 ∙ ap (λ k. slice_index_or l.places k None) e ∙ there in
-                let same : h.1 ≡ x = cc in
-                let place : x.place ≡ y.place = ap (λ (u : Opening). u.place) (sym same) ∙ h.3 in
                 let none = ltb-false 0 (place_at w.time x.place).guards is in
-                let some_here : 0 < (place_at w.time x.place).guards = subst (λ k. 0 < (place_at w.time k).guards) (sym place) some in
-                absurd (omega (arith, none, some_here))
+                let here : 0 < (place_at w.time x.place).guards = rw (sym (ap place (one-entry l.places h.0 n h.1 x e h.2 there)) ∙ h.3) some in
+                absurd (omega (arith, none, here))
 
           own : (b : Bool) → (m : ℕ) × (z : Opening) × (slice_index_or (places b) m None ≡ Some z) × (z.place ≡ x.place) × (z.since ≤ l.moment + 1)
           own true = (n, x, there, refl, a.early n x there)
-          own false = (n, new, at-same l.places n (Some new) None (inside l.places n (ap is_some there)), refl, omega arith)
-
-    placed : (b : Bool) → 0 < length items → (m : ℕ) × IsSome (slice_index_or (places b) m None)
-    placed true some = a.placed (omega (arith, some, long))
-    placed false some =
-        let was = a.placed (omega (arith, some, long)) in (was.0, as-each is_some l.places n (Some new) None (sym (ap is_some there)) was.0 ∙ was.1)
+          own false = (n, new, own-entry false, refl, omega arith)
 
     -- participant n opens a guard at its place
     pub attended-opened : IsAttended v (record l { time = t; places = places (is_open (place_at w.time x.place)); guards = guards; items = items })
     attended-opened =
         let b = is_open (place_at w.time x.place) in
         record {
-          inside = λ m y e. (let z = back b m y e in omega (arith, a.inside m z.0 z.1, z.2, many));
+          inside = λ m y e. (let z = back b m y e in subst (λ k. IsPlaceOf v k) z.2 (lives-still z.0.place (a.inside m z.0 z.1)));
           apart = λ m k y z e f same. (let u = back b m y e in let r = back b k z f in a.apart m k u.0 r.0 u.1 r.1 (u.2 ∙ same ∙ sym r.2));
           opened = opens;
           since = sinces b refl;
@@ -282,5 +241,5 @@ module _ (w : World Val) (l : Ledger) (a : IsAttended w l) where
             | inl same ↦ omega (arith, a.early m z.0 z.1, ap (λ (u : Opening). u.since) same)
             | inr now ↦ omega (arith, now.2)
           ]);
-          placed = placed b;
+          placed = λ some. (x.place, ap is_some (live-is v.time x.place (lives-still x.place live)));
         }

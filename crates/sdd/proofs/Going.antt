@@ -1,41 +1,26 @@
 -- What is always true of a desk is true at its start, and after each call but an opening
-use Rattle.std.proofs.Common.{◌≡◌, ◌≢◌, ◌⊎◌, ℕ, zero, suc, ◌+◌, ◌^◌, ◌<◌, ◌≤◌, ◌==◌, nat_lt, lt-ltb, ltb-true, true, false, List, [], ◌∷◌, ◌++◌, Option, Some, None, IsSome, is_some, length, map, count_by, sum_by, slice_index_or, slice_set, inl, inr, refl, sym, ap, ◌∙◌, subst, arith}
-use Rattle.std.specs.Prelude.{IsTrue}
-use Rattle.std.proofs.lemmas.Bool.{cases_eq, cases_lt}
+use Rattle.sdd.proofs.Words.{◌≡◌, ◌≢◌, ◌⊎◌, ℕ, zero, suc, ◌+◌, ◌^◌, ◌<◌, ◌≤◌, ◌==◌, nat_lt, lt-ltb, ltb-true, true, false, List, [], ◌∷◌, ◌++◌, Option, Some, None, IsSome, is_some, length, map, count_by, slice_index_or, slice_set, inl, inr, refl, sym, ap, ◌∙◌, subst, arith, IsTrue, cases_eq, cases_lt, length-set, length_push, length-map, get_or_past, What, Item, Private, Job, Time, nobody, is_open, Participant, Standing, World, IsPlaceOf, standing_at, value_at, held_in, is_of_slot, IsWhole, Calls, filled-there, one_where, count-cons, Val, Fate, Out, Retired, Gone, holdings_of, link_of, Opening, fate_at, with_retired, what_by, time_by, Desk, slot_at, name_at, IsSound, IsThere, StandsAs, IsAttended, Keeps}
+use Rattle.std.proofs.Common.{sum_by}
 use Rattle.std.proofs.lemmas.List.Sums.{sum_by-cons}
-use Rattle.std.proofs.lemmas.List.{length-set, length_push, length-map, get_or_past}
 use Rattle.std.proofs.Math.ListN.{replicate, length-replicate}
-use Rattle.sdd_store.specs.Waiting.{What, Waiting, having_seen}
-use Rattle.sdd_store.specs.Waiting.What.{Item, Private, Job}
+use Rattle.sdd_store.specs.Waiting.{Waiting, having_seen}
 use Rattle.sdd_store.specs.Time as time
-use Rattle.sdd_store.specs.Time.{Time, nobody, newcomer, place_at, is_open}
+use Rattle.sdd_store.specs.Time.{IsLive, IsVacant, phase_at, place_at}
 use Rattle.sdd_store.specs.Table.{IsEmptyAt}
-use Rattle.sdd_store.specs.declared.time.Participant.{Participant}
-use Rattle.sdd_store.specs.declared.standing.Standing.{Standing}
 use Rattle.sdd_store.specs.declared.standing.Standing.TheVariants as standing
 use Rattle.sdd_core.specs.declared.tag.Tag.TheVariants.{None as no_tag}
 use Rattle.sdd_store.specs.declared.standing.Cell.{Cell}
 use Rattle.sdd_store.specs.declared.tally.Tally.{Tally}
-use Rattle.sdd_base.specs.World.{World, IsNew, standing_at, value_at}
+use Rattle.sdd_base.specs.World.{IsNew}
 use Rattle.sdd_base.specs.Steps as steps
-use Rattle.sdd_base.specs.Steps.{held_in}
-use Rattle.sdd_base.specs.Whole.{is_of_slot, times_with, IsWhole}
-use Rattle.sdd_base.specs.Calls.{Calls}
-use Rattle.sdd_base.specs.Calls.Calls.{registers, closes, makes, nulls, retires}
+use Rattle.sdd_base.specs.Whole.{times_with}
+use Rattle.sdd_base.specs.Calls.Calls.{registers, ends, closes, makes, nulls, retires}
 use Rattle.sdd_base.specs.Under.{KeepsUnderGuards}
-use Rattle.sdd_base.proofs.Whole.{filled-there, one_where, count-cons}
 use Rattle.sdd_base.specs.declared.limits.Limits.{Limits}
-use Rattle.sdd.specs.declared.script.val.Val.{Val}
-use Rattle.sdd.specs.declared.script.fate.Fate.{Fate}
-use Rattle.sdd.specs.declared.script.fate.Fate.TheVariants.{Out, Retired, Gone}
-use Rattle.sdd.specs.Val.{holdings_of, link_of}
-use Rattle.sdd.specs.Ledger.{Opening, fate_at, with_retired}
-use Rattle.sdd.specs.ByName.{what_by, waiting_by, participant_by, time_by}
-use Rattle.sdd.specs.Desk.{Desk, slot_at, name_at}
-use Rattle.sdd.specs.Sound.{IsSound, IsThere, StandsAs, IsAttended, Keeps}
+use Rattle.sdd_store.specs.Renaming.{waiting_by, participant_by}
 use Rattle.sdd.proofs.Entry.{at-same, at-other, at-pushed, at-end, at-default, as-each, inside, is-there, not-free}
-use Rattle.sdd.proofs.Naming.{one-if}
-use Rattle.sdd.proofs.Attending.{attended-same, attended-registered, attended-closed, guards-closed, open-guard}
+use Rattle.sdd_base.proofs.Nesting.{one-if, guards-registered, guards-closed}
+use Rattle.sdd.proofs.Attending.{pushed-entry, left-entry, attended-same, attended-registered, attended-ended, attended-closed, shut, open-guard}
 use Rattle.sdd.proofs.Kept.{kept-on, keeps-on}
 use Rattle.sdd.proofs.Opening.{stands-still}
 
@@ -59,14 +44,6 @@ is-none : {X : Type 0} (o : Option X) → is_some o ≡ false → o ≡ None
 is-none None e = refl
 is-none (Some x) e = absurd (cc)
 
--- an owner that is left was one before another was spent
-was-owner : (owners : List (Option ℕ)) (o r j : ℕ) → slice_index_or (slice_set owners o None) r None ≡ Some j → slice_index_or owners r None ≡ Some j
-was-owner owners o r j e =
-    elim (cases_eq r o) [
-      | inl is ↦ absurd (let z : None ≡ Some j = sym (rw is (at-default owners o None)) ∙ e in cc)
-      | inr ne ↦ sym (at-other owners o r None None ne) ∙ e
-    ]
-
 module _ (d : Desk) (s : IsSound d) where
   -- ---- time alone goes on
   pub sound-timed : (t u : Time) (places guards : List (Option Opening)) → Calls holdings_of d.world (record d.world { time = t }) →
@@ -86,6 +63,9 @@ module _ (d : Desk) (s : IsSound d) where
         in_place = s.in_place;
       }
 
+  still-there : (p : ℕ) (y : Participant) (q : ℕ) → IsPlaceOf d.world q → IsLive (time.with_place d.world.time p y) q
+  still-there p y q live = (omega (arith, live.0, length-set d.world.time.places p y), live.1)
+
   -- the place of p is written, and as many guards are open there
   pub sound-written : (p : ℕ) (y : Participant) (u : Time) → y.guards ≡ (place_at d.world.time p).guards →
       Calls holdings_of d.world (record d.world { time = time.with_place d.world.time p y }) →
@@ -94,58 +74,60 @@ module _ (d : Desk) (s : IsSound d) where
       let many = as-each (λ (z : Participant). z.guards) d.world.time.places p y nobody as_many in
       sound-timed (time.with_place d.world.time p y) u d.ledger.places d.ledger.guards call
       (attended-same d.world d.ledger s.attended (record d.world { time = time.with_place d.world.time p y }) u d.ledger.owners d.ledger.items
-      (length-set d.world.time.places p y) many s.attended.placed)
+      (still-there p y) many s.attended.placed)
       (λ n x e early o. (e, subst (λ g. IsTrue (nat_lt 0 g)) (many x.place) o))
 
-  pub sound-registered : (u : Time) → IsSound (record d {
-    world = steps.registered d.world;
-    ledger = record d.ledger { time = u; places = d.ledger.places ++ Some (record { place = length d.world.time.places; since = 0 }) ∷ [] };
-  })
-  sound-registered u =
-      let new : Opening = record { place = length d.world.time.places; since = 0 } in
-      let t = time.registered d.world.time in
-      sound-timed t u (d.ledger.places ++ Some new ∷ []) d.ledger.guards (registers d.world) (attended-registered d.world d.ledger s.attended u)
+  -- a participant registers at a place that nobody has
+  pub sound-registered : (p : ℕ) (u : Time) → IsVacant d.world.time p → IsLive (time.registered d.world.time p) p →
+      ((q : ℕ) → IsPlaceOf d.world q → (q ≢ p) × IsLive (time.registered d.world.time p) q) → IsSound (record d {
+        world = steps.registered d.world p;
+        ledger = record d.ledger { time = u; places = d.ledger.places ++ Some (record { place = p; since = 0 }) ∷ [] };
+      })
+  sound-registered p u vacant live others =
+      let new : Opening = record { place = p; since = 0 } in
+      let none = shut d.world d.ledger s.attended p live others in
+      let many = λ (q : ℕ). guards-registered d.world.time p q none in
+      sound-timed (time.registered d.world.time p) u (d.ledger.places ++ Some new ∷ []) d.ledger.guards (registers d.world p vacant)
+      (attended-registered d.world d.ledger s.attended p live others u)
       (λ n x e early o.
-      elim (cases_eq x.place (length d.world.time.places)) [
-        | inl is ↦
-            let shut : is_open (place_at t x.place) ≡ false = ap (λ (z : Participant). is_open z)
-            (ap (λ k. slice_index_or t.places k nobody) is ∙ at-end d.world.time.places (newcomer d.world.time.room) nobody) in
-            absurd (let z : true ≡ false = sym o ∙ shut in cc)
-        | inr ne ↦ (
-          elim (cases_eq n (length d.ledger.places)) [
-            | inr old ↦ sym (at-pushed d.ledger.places (Some new) None n old) ∙ e
-            | inl last ↦
-                let z : Some new ≡ Some x = sym (ap (λ k. slice_index_or (d.ledger.places ++ Some new ∷ []) k None) last
-                ∙ at-end d.ledger.places (Some new) None) ∙ e in
-                let same : new ≡ x = cc in
-                absurd (ne (ap (λ (z : Opening). z.place) (sym same)))
-          ],
-          subst (λ (z : Participant). IsTrue (is_open z)) (at-pushed d.world.time.places (newcomer d.world.time.room) nobody x.place ne) o,
-        )
+      elim (pushed-entry d.ledger.places new x n e) [
+        | inr was ↦ (was, subst (λ g. IsTrue (nat_lt 0 g)) (many x.place) o)
+        | inl h ↦
+            let shut = many x.place ∙ ap (λ (y : Opening). (place_at d.world.time y.place).guards) (sym h.1) ∙ none in
+            absurd (let z : true ≡ false = sym o ∙ ap (nat_lt 0) shut in cc)
       ])
+
+  -- participant n, which has no guard open, ends
+  pub sound-ended : (n : ℕ) (x : Opening) (u : Time) → slice_index_or d.ledger.places n None ≡ Some x →
+      (IsTrue (is_open (place_at d.world.time x.place)) → ⊥) →
+      IsSound (record d { world = steps.ended d.world x.place; ledger = record d.ledger { time = u; places = slice_set d.ledger.places n None } })
+  sound-ended n x u there closed =
+      sound-timed (time.ended d.world.time x.place) u (slice_set d.ledger.places n None) d.ledger.guards
+      (ends d.world x.place (s.attended.inside n x there) closed) (attended-ended d.world d.ledger s.attended u n x there closed)
+      (λ m y e early o. ((left-entry d.ledger.places n m y e).1, o))
 
   pub sound-closed : (u : Time) (g p : ℕ) (y : Opening) → slice_index_or d.ledger.guards g None ≡ Some y → y.place ≡ p →
       IsSound (record d { world = steps.closed d.world p; ledger = record d.ledger { time = u; guards = slice_set d.ledger.guards g None } })
   sound-closed u g p y e is =
       let who = s.attended.since g y e in
-      let lt : p < length d.world.time.places = omega (arith, s.attended.inside who.0 who.1 who.2, who.3, is) in
+      let live : IsPlaceOf d.world p = subst (IsPlaceOf d.world) (who.3 ∙ is) (s.attended.inside who.0 who.1 who.2) in
       let some : 0 < (place_at d.world.time p).guards = subst (λ q. 0 < (place_at d.world.time q).guards) is (open-guard d.world d.ledger s.attended g y e) in
-      sound-timed (time.closed d.world.time p) u d.ledger.places (slice_set d.ledger.guards g None) (closes d.world p lt)
-      (attended-closed d.world d.ledger s.attended u g p y e is)
+      sound-timed (time.closed d.world.time p) u d.ledger.places (slice_set d.ledger.guards g None) (closes d.world p live)
+      (attended-closed d.world d.ledger s.attended u g p y e is live)
       (λ n x f early o. (
         f,
         lt-ltb 0 (place_at d.world.time x.place).guards (omega (
           arith,
-          guards-closed d.world.time p x.place lt some,
+          guards-closed d.world.time p x.place live some,
           ltb-true 0 (place_at (time.closed d.world.time p) x.place).guards o,
         )),
       ))
 
-  -- ---- an item is retired
-  pub sound-retired : (p o i : ℕ) → p < length d.world.time.places → slice_index_or d.ledger.owners o None ≡ Some i →
-      KeepsUnderGuards holdings_of d.world →
+  -- ---- an item is retired, by a participant, or where no guard is open
+  pub sound-retired : (p o i : ℕ) → slice_index_or d.ledger.owners o None ≡ Some i →
+      (IsPlaceOf d.world p × KeepsUnderGuards holdings_of d.world) ⊎ ((q : ℕ) → IsTrue (is_open (place_at d.world.time q)) → ⊥) →
       IsSound (record d { world = steps.retired d.world p (slot_at d i); ledger = with_retired d.ledger p o (Some i) })
-  sound-retired p o i lt owner keeps =
+  sound-retired p o i owner who =
       let k = slot_at d i in
       let l = with_retired d.ledger p o (Some i) in
       let new = record d { world = steps.retired d.world p k; ledger = l } in
@@ -188,10 +170,10 @@ module _ (d : Desk) (s : IsSound d) where
         };
         owned = record {
           out = λ r j h.
-              (let was = was-owner d.ledger.owners o r j h in
+              (let was = (left-entry d.ledger.owners o r j h).1 in
               others j (λ e. (let same = s.owned.apart r o i (was ∙ ap Some e) owner in
               let z : None ≡ Some j = sym (rw same (at-default d.ledger.owners o None)) ∙ h in absurd (cc))) ∙ s.owned.out r j was);
-          apart = λ r q j h f. s.owned.apart r q j (was-owner d.ledger.owners o r j h) (was-owner d.ledger.owners o q j f);
+          apart = λ r q j h f. s.owned.apart r q j (left-entry d.ledger.owners o r j h).1 (left-entry d.ledger.owners o q j f).1;
           owner = λ j e.
               elim (cases_eq j i) [
                 | inl same ↦ absurd (let z : Retired d.ledger.moment ≡ Out = sym (ap (fate_at l) same ∙ own) ∙ e in cc)
@@ -210,14 +192,18 @@ module _ (d : Desk) (s : IsSound d) where
               ];
         };
         linked = record { linked = s.linked.linked; unlinked = s.linked.unlinked };
-        attended = attended-same d.world d.ledger s.attended new.world l.time l.owners l.items (length-set d.world.time.places p y) many
+        attended = attended-same d.world d.ledger s.attended new.world l.time l.owners l.items (still-there p y) many
             (λ some. s.attended.placed (omega (arith, some, length-set d.ledger.items i (Retired d.ledger.moment))));
         kept = λ n j at x there e since o_new.
             (let before : IsTrue (is_open (place_at d.world.time x.place)) = subst (λ g. IsTrue (nat_lt 0 g)) (many x.place) o_new in
-            elim (cases_eq j i) [
-              | inl same ↦ rw same (λ end path. (keeps x.place p k before lt owns end path).0)
-              | inr ne ↦ keeps-on x.place (slot_at d j) d.world new.world before (retires d.world p k lt owns)
-                  (s.kept n j at x there (sym (others j ne) ∙ e) since before)
+            elim who [
+              | inr shut ↦ absurd (shut x.place before)
+              | inl actor ↦
+                  elim (cases_eq j i) [
+                    | inl same ↦ rw same (λ end path. (actor.1 x.place p k before actor.0 owns end path).0)
+                    | inr ne ↦ keeps-on x.place (slot_at d j) d.world new.world before (retires d.world p k actor.0 owns)
+                        (s.kept n j at x there (sym (others j ne) ∙ e) since before)
+                  ]
             ]);
         made = s.made ∙ sym (length-set d.ledger.items i (Retired d.ledger.moment));
         in_place = s.in_place;
@@ -225,7 +211,7 @@ module _ (d : Desk) (s : IsSound d) where
 
   -- ---- an item is made
   module _ (c k : ℕ) (v : Val) (whole : IsWhole d.world) (cell : IsEmptyAt d.world.cells c) (slot : IsEmptyAt d.world.standings k) (link : link_of v ≡ c)
-      (placed : (n : ℕ) × IsSome (slice_index_or d.ledger.places n None)) where
+      (placed : (p : ℕ) × IsSome (phase_at d.world.time p)) where
     abbrev pub with_item : Desk
     with_item = record d {
       world = steps.made (steps.nulled d.world c) k v;
@@ -256,15 +242,8 @@ module _ (d : Desk) (s : IsSound d) where
     name-new = at-same d.names k (length d.ledger.items) 0 (omega (arith, slot.0, s.stocked.names))
 
     owner-old : (o j : ℕ) → slice_index_or with_item.ledger.owners o None ≡ Some j →
-        ((o ≡ length d.ledger.owners) × (j ≡ length d.ledger.items)) ⊎ (slice_index_or d.ledger.owners o None ≡ Some j)
-    owner-old o j e =
-        elim (cases_eq o (length d.ledger.owners)) [
-          | inr ne ↦ inr (sym (at-pushed d.ledger.owners (Some (length d.ledger.items)) None o ne) ∙ e)
-          | inl is ↦
-              let z : Some (length d.ledger.items) ≡ Some j =
-              sym (ap (λ r. slice_index_or with_item.ledger.owners r None) is ∙ at-end d.ledger.owners (Some (length d.ledger.items)) None) ∙ e in
-              inl (is, (let one : length d.ledger.items ≡ j = cc in sym one))
-        ]
+        ((o ≡ length d.ledger.owners) × (length d.ledger.items ≡ j)) ⊎ (slice_index_or d.ledger.owners o None ≡ Some j)
+    owner-old o j e = pushed-entry d.ledger.owners (length d.ledger.items) j o e
 
     -- no owner had the name
     unowned : (o : ℕ) → slice_index_or d.ledger.owners o None ≡ Some (length d.ledger.items) → ⊥
@@ -306,7 +285,7 @@ module _ (d : Desk) (s : IsSound d) where
       owned = record {
         out = λ o j h.
             elim (owner-old o j h) [
-              | inl new ↦ ap (fate_at with_item.ledger) new.1 ∙ fate-new
+              | inl new ↦ ap (fate_at with_item.ledger) (sym new.1) ∙ fate-new
               | inr old ↦ fate-old j (λ e. unowned o (old ∙ ap Some e)) ∙ s.owned.out o j old
             ];
         apart = λ o r j h f.
@@ -314,11 +293,11 @@ module _ (d : Desk) (s : IsSound d) where
               | inl new ↦
                   elim (owner-old r j f) [
                     | inl also ↦ new.0 ∙ sym also.0
-                    | inr old ↦ absurd (unowned r (old ∙ ap Some new.1))
+                    | inr old ↦ absurd (unowned r (old ∙ ap Some (sym new.1)))
                   ]
               | inr old ↦
                   elim (owner-old r j f) [
-                    | inl new ↦ absurd (unowned o (old ∙ ap Some new.1))
+                    | inl new ↦ absurd (unowned o (old ∙ ap Some (sym new.1)))
                     | inr too ↦ s.owned.apart o r j old too
                   ]
             ];
@@ -347,8 +326,8 @@ module _ (d : Desk) (s : IsSound d) where
             ];
         unlinked = λ q. as-each held_in d.world.cells c new_cell None (sym (s.linked.unlinked c)) q ∙ s.linked.unlinked q;
       };
-      attended = attended-same d.world d.ledger s.attended with_item.world d.ledger.time with_item.ledger.owners with_item.ledger.items refl (λ q. refl)
-          (λ some. placed);
+      attended = attended-same d.world d.ledger s.attended with_item.world d.ledger.time with_item.ledger.owners with_item.ledger.items (λ q live. live)
+          (λ q. refl) (λ some. placed);
       kept = λ n j at x there e since o.
           elim (cases_eq j (length d.ledger.items)) [
             | inl is ↦ absurd (let z : Out ≡ Retired at = sym (ap (fate_at with_item.ledger) is ∙ fate-new) ∙ e in cc)

@@ -1,21 +1,10 @@
 -- What was retired under a guard waits as long as it is open
-use Rattle.std.proofs.Common.{◌≡◌, ℕ, ◌≤◌, Some, None, slice_index_or, sym, subst, arith}
-use Rattle.std.specs.Prelude.{IsTrue}
-use Rattle.sdd_store.specs.Time.{is_open}
-use Rattle.sdd_base.specs.World.{World, place_at}
-use Rattle.sdd_base.specs.Calls.{Calls}
 use Rattle.sdd_base.specs.Under.{CallsUnder}
-use Rattle.sdd_base.specs.Under.CallsUnder.{none, more_calls}
-use Rattle.sdd.specs.declared.script.val.Val.{Val}
-use Rattle.sdd.specs.declared.script.fate.Fate.TheVariants.{Retired}
-use Rattle.sdd.specs.Val.{holdings_of}
-use Rattle.sdd.specs.Ledger.{Opening, fate_at}
-use Rattle.sdd.specs.Desk.{Desk, slot_at}
-use Rattle.sdd.specs.Sound.{IsKept, Keeps, IsOwned}
+use Rattle.sdd.proofs.Words.{◌≡◌, ℕ, ◌≤◌, Some, None, slice_index_or, sym, subst, arith, IsTrue, is_open, Calls, more_calls, no_call, World, place_at, Val, Retired, holdings_of, Opening, fate_at, Desk, slot_at, IsOwned, IsKept, Keeps}
 
 -- one call before the others
 first : (p : ℕ) {u v w : World Val} → IsTrue (is_open (place_at u p)) → Calls holdings_of u v → CallsUnder holdings_of p v w → CallsUnder holdings_of p u w
-first p {u} {v} o call (none w there) = more_calls u u v (none u o) call there
+first p {u} {v} o call (no_call w there) = more_calls u u v (no_call u o) call there
 first p {u} {v} o call (more_calls a b c path last there) = more_calls u b c (first p o call path) last there
 
 pub keeps-on : (p k : ℕ) (u v : World Val) → IsTrue (is_open (place_at u p)) → Calls holdings_of u v → Keeps u p k → Keeps v p k

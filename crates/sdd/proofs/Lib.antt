@@ -1,13 +1,13 @@
+pub mod Words
 pub mod Entry
-pub mod ByName
 pub mod Reclaiming
 pub mod Naming
 pub mod Attending
 pub mod Kept
 pub mod Opening
 pub mod Going
-pub mod Worlds
 pub mod Acts
+pub mod Taken
 pub mod Ending
 pub mod Runs
 pub mod Plays

@@ -11,7 +11,8 @@ use Rattle.sdd_lines.specs.declared.answer.Reply.{Reply}
 use Rattle.sdd_lines.specs.declared.answer.Reply.TheVariants as reply
 use Rattle.sdd.specs.declared.script.fate.Fate.{Fate}
 use Rattle.sdd.specs.declared.script.fate.Fate.TheVariants.{Out, Retired, Gone}
-use Rattle.sdd.specs.Ledger.{Ledger, Opening, place_of, fate_at, due_at, after, later}
+use Rattle.sdd.specs.Ledger.{Ledger, Opening, place_of, fate_at, GoesOn, later}
+use Rattle.sdd_store.specs.Time.{due_at}
 
 -- the item is due in this line: it is the holder's third later outermost opening that finds another count
 abbrev pub IsDue : Ledger → Call → Reply → ℕ → Type 0
@@ -35,6 +36,6 @@ pub record NamesWhatIsDue (l : Ledger) (call : Call) (reply : Reply) (names : Li
 abbrev pub AllDue : Ledger → List Call → List Answer → Type 0
 AllDue l [] [] = Unit {0}
 AllDue l (call ∷ calls) (answer ∷ answers) =
-    NamesWhatIsDue l call answer.reply answer.reclaimed × AllDue (later (after l call answer.reply)) calls answers
+    NamesWhatIsDue l call answer.reply answer.reclaimed × ((new : Ledger) × GoesOn l call answer.reply new × AllDue (later new) calls answers)
 AllDue l [] (answer ∷ answers) = ⊥
 AllDue l (call ∷ calls) [] = ⊥

@@ -11,5 +11,4 @@ pub record SpendsOwner (o : ℕ) (old new : Desk) : Type 0 where
 -- the guard is spent: it is closed
 pub record SpendsGuard (g : ℕ) (old new : Desk) : Type 0 where
   pub guards : new.ledger.guards ≡ slice_set old.ledger.guards g None
-  pub owners : new.ledger.owners ≡ old.ledger.owners
   pub tally : new.world.tally ≡ old.world.tally

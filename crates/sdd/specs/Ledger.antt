@@ -3,7 +3,7 @@ use Rattle.std.specs.Prelude.{false, ℕ, ◌+◌, ◌≤◌, ◌≡◌, List, [
 use Rattle.sdd_store.specs.Waiting.{What}
 use Rattle.sdd_store.specs.Waiting.What.{Item, Private, Job}
 use Rattle.sdd_store.specs.Time as time
-use Rattle.sdd_store.specs.Time.{Time, place_at, is_open}
+use Rattle.sdd_store.specs.Time.{Time, IsVacant, place_at, is_open}
 use Rattle.sdd_base.specs.declared.limits.Limits.{Limits}
 use Rattle.sdd_lines.specs.declared.call.Call.{Call}
 use Rattle.sdd_lines.specs.declared.call.Call.TheVariants.{Register, At}
@@ -23,7 +23,7 @@ pub record Ledger : Type 0 where
   pub moment : ℕ
   -- the epoch and its participants; what waits with each are items, by name
   pub time : Time
-  -- of each participant its place, and the first line after its last outermost opening
+  -- of each participant its place, and the first line after its last outermost opening, until it ends
   pub places : List (Option Opening)
   -- of each guard its place, and the first line after its opening, until it is closed
   pub guards : List (Option Opening)
@@ -37,7 +37,7 @@ abbrev pub first : Limits → Ledger
 first l =
     record {
       moment = 0;
-      time = record { count = 0; marked = false; places = []; participants = l.participants; nesting = l.nesting; room = l.slots };
+      time = record { count = 0; marked = false; places = []; phases = []; participants = l.participants; nesting = l.nesting; room = l.slots };
       places = [];
       guards = [];
       owners = [];
@@ -86,17 +86,6 @@ since_in (Some x) = x.since
 abbrev pub CanPointTo : Ledger → ℕ → ℕ → Type 0
 CanPointTo l n i = IsThereSince (since_in (slice_index_or l.places n None)) (fate_at l i)
 
--- an outermost opening is a change where it finds another count
-abbrev pub caught_up : Time → ℕ → Time
-caught_up t p = if time.finds_another t p then time.settled_at (time.rotated_at t p) p else t
-
-abbrev pub opened : Time → ℕ → Time
-opened t p = if is_open (place_at t p) then time.nested_at t p else caught_up (time.nested_at t p) p
-
--- what an opening of p makes due: at an outermost one that finds another count, what then has seen three changes of p
-abbrev pub due_at : Time → ℕ → List What
-due_at t p = if is_open (place_at t p) then [] else (if time.finds_another t p then time.due_next (place_at t p) else [])
-
 -- the names of these items are spent
 abbrev pub all_gone : List Fate → List What → List Fate
 all_gone items [] = items
@@ -109,10 +98,10 @@ abbrev pub with_guard : Ledger → ℕ → ℕ → Ledger
 with_guard l n p =
     let now : Opening = record { place = p; since = l.moment + 1 } in
     record l {
-      time = opened l.time p;
+      time = time.opened l.time p;
       places = if is_open (place_at l.time p) then l.places else slice_set l.places n (Some now);
       guards = l.guards ++ Some now ∷ [];
-      items = all_gone l.items (due_at l.time p);
+      items = all_gone l.items (time.due_at l.time p);
     }
 
 -- the owner o of this item retires it, and it waits with p
@@ -125,9 +114,18 @@ with_retired l p o (Some i) =
       items = slice_set l.items i (Retired l.moment);
     }
 
+-- a newcomer is at place p
+abbrev pub with_newcomer : Ledger → ℕ → Ledger
+with_newcomer l p = record l { time = time.registered l.time p; places = l.places ++ Some (record { place = p; since = 0 }) ∷ [] }
+
+-- participant n, at p, ends
+abbrev pub without_participant : Ledger → ℕ → ℕ → Ledger
+without_participant l n p = record l { time = time.ended l.time p; places = slice_set l.places n None }
+
 -- what happened in a line
 pub data Event : Type 0 where
   registers : Event
+  ends : (participant : ℕ) → Event
   opens : (participant : ℕ) → Event
   sets : (participant : ℕ) → Event
   accelerates : (participant : ℕ) → Event
@@ -138,6 +136,7 @@ pub data Event : Type 0 where
 
 abbrev pub event_of : Call → Reply → Event
 event_of Register (reply.Place name) = registers
+event_of (At n call.End) reply.Done = ends n.0
 event_of (At n call.Open) (reply.Guard g epoch) = opens n.0
 event_of (At n (call.Set g)) reply.Done = sets n.0
 event_of (At n (call.Accelerate g)) reply.Done = accelerates n.0
@@ -147,20 +146,21 @@ event_of (At n (call.Close g)) reply.Done = closes n.0 g.0
 -- by any other answer nothing happened
 event_of call other = nothing
 
-abbrev pub with_event : Ledger → Event → Ledger
-with_event l registers =
-    record l { time = time.registered l.time; places = l.places ++ Some (record { place = length l.time.places; since = 0 }) ∷ [] }
-with_event l (opens n) = with_guard l n (place_of l n)
-with_event l (sets n) = record l { time = time.stirred_at l.time (place_of l n) }
-with_event l (accelerates n) = record l { time = time.accelerated_at l.time (place_of l n) }
-with_event l makes = record l { owners = l.owners ++ Some (length l.items) ∷ []; items = l.items ++ Out ∷ [] }
-with_event l (retires n o) = with_retired l (place_of l n) o (slice_index_or l.owners o None)
-with_event l (closes n g) = record l { time = time.closed l.time (place_of l n); guards = slice_set l.guards g None }
-with_event l nothing = l
+-- an event leads from one ledger to the next; a newcomer takes a vacant place, whichever
+abbrev pub Leads : Ledger → Event → Ledger → Type 0
+Leads l registers new = (p : ℕ) × IsVacant l.time p × (new ≡ with_newcomer l p)
+Leads l (ends n) new = new ≡ without_participant l n (place_of l n)
+Leads l (opens n) new = new ≡ with_guard l n (place_of l n)
+Leads l (sets n) new = new ≡ record l { time = time.stirred_at l.time (place_of l n) }
+Leads l (accelerates n) new = new ≡ record l { time = time.accelerated_at l.time (place_of l n) }
+Leads l makes new = new ≡ record l { owners = l.owners ++ Some (length l.items) ∷ []; items = l.items ++ Out ∷ [] }
+Leads l (retires n o) new = new ≡ with_retired l (place_of l n) o (slice_index_or l.owners o None)
+Leads l (closes n g) new = new ≡ record l { time = time.closed l.time (place_of l n); guards = slice_set l.guards g None }
+Leads l nothing new = new ≡ l
 
--- a call was answered so
-abbrev pub after : Ledger → Call → Reply → Ledger
-after l call given = with_event l (event_of call given)
+-- a call was answered so, and the ledger goes on to new
+abbrev pub GoesOn : Ledger → Call → Reply → Ledger → Type 0
+GoesOn l call given new = Leads l (event_of call given) new
 
 -- one line later
 abbrev pub later : Ledger → Ledger

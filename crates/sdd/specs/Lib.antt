@@ -4,7 +4,6 @@ pub mod Ledger
 pub mod Due
 pub mod Desk
 pub mod Script
-pub mod ByName
 pub mod Sound
 pub mod Leaving
 pub mod Stage

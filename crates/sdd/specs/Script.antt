@@ -1,12 +1,12 @@
 -- The meaning of a script: what its calls answer, and what they leave
-use Rattle.std.specs.Prelude.{ℕ, ◌<◌, ◌≡◌, List, [], ◌∷◌, ◌++◌, None, Some, IsSome, Contains, length, slice_index_or, slice_set, ◌↔◌}
+use Rattle.std.specs.Prelude.{ℕ, IsTrue, ◌≡◌, List, [], ◌∷◌, ◌++◌, None, Some, IsSome, Contains, length, slice_index_or, slice_set, ◌↔◌}
 use Rattle.sdd_core.specs.Epoch.{epoch_of}
-use Rattle.sdd_core.specs.declared.refused.Refused.TheVariants.{NoPlace, TooManyGuards}
+use Rattle.sdd_core.specs.declared.refused.Refused.TheVariants.{NoPlace, TooManyGuards, GuardOpen}
 use Rattle.sdd_store.specs.Waiting.What.{Item}
-use Rattle.sdd_store.specs.Time.{IsCrowded, CanNest, has_garbage}
+use Rattle.sdd_store.specs.Time.{IsCrowded, IsVacant, CanNest, has_garbage, is_open}
 use Rattle.sdd_base.specs.declared.limits.Limits.{Limits}
 use Rattle.sdd_base.specs.World.{World, place_at, value_at}
-use Rattle.sdd_base.specs.Steps.{registered, retired, opened, closed, stirred, accelerated, reclaims}
+use Rattle.sdd_base.specs.Steps.{registered, ended, retired, opened, closed, stirred, accelerated, reclaims}
 use Rattle.sdd_lines.specs.declared.name.ItemName.{ItemName}
 use Rattle.sdd_lines.specs.declared.call.Call.{Call}
 use Rattle.sdd_lines.specs.declared.call.Call.TheVariants.{Register, Tally, At}
@@ -20,13 +20,14 @@ use Rattle.sdd.specs.declared.script.fate.Fate.TheVariants.{Out, Retired, Gone}
 use Rattle.sdd.specs.declared.script.val.Val.{Val}
 use Rattle.sdd.specs.Val.{holdings_of, body_of}
 use Rattle.sdd.specs.Made.{Makes, RefusesItem}
-use Rattle.sdd.specs.Ledger.{Ledger, IsPlace, IsGuardOf, IsOwnerOf, CanPointTo, place_of, fate_at, first, after, later}
+use Rattle.sdd.specs.Ledger.{Ledger, IsPlace, IsGuardOf, IsOwnerOf, CanPointTo, place_of, fate_at, first, GoesOn, later}
 use Rattle.sdd.specs.Due.{NamesWhatIsDue, AllDue}
 use Rattle.sdd.specs.Desk.{Desk, IsStart, slot_at}
 
 -- what an action of participant n names is there, and of the right kind
 abbrev pub IsValid : Ledger → ℕ → Action → Type 0
 IsValid l n call.Open = IsPlace l n
+IsValid l n call.End = IsPlace l n
 IsValid l n (call.Epoch g) = IsPlace l n × IsGuardOf l n g.0
 IsValid l n (call.Garbage g) = IsPlace l n × IsGuardOf l n g.0
 IsValid l n (call.Set g) = IsPlace l n × IsGuardOf l n g.0
@@ -69,13 +70,17 @@ Does old p (call.Look i g) (reply.Value number) new = ShowsNumber old i.0 number
 Does old p (call.Retire o) reply.Done new =
     (i : ℕ) × IsOwnerOf old.ledger i o.0 × HasWorld old (retired old.world p (slot_at old i)) new
 Does old p (call.Close g) reply.Done new = HasWorld old (closed old.world p) new
+Does old p call.End reply.Done new = ¬ (IsTrue (is_open (place_at old.world p))) × HasWorld old (ended old.world p) new
+Does old p call.End (reply.Refused GuardOpen) new = IsTrue (is_open (place_at old.world p)) × (new ≡ old)
 -- no other reply is given
 Does old p action other new = ⊥
 
 -- a call may be answered so, and leave the desk new
 abbrev pub Meets : Desk → Call → Reply → Desk → Type 0
+-- the newcomer's place is vacant, and it is the one that the ledger says
 Meets old Register (reply.Place name) new =
-    (name.0 ≡ length old.ledger.places) × (length old.world.time.places < old.world.time.participants) × HasWorld old (registered old.world) new
+    (name.0 ≡ length old.ledger.places) × IsVacant old.world.time (place_of new.ledger name.0)
+    × HasWorld old (registered old.world (place_of new.ledger name.0)) new
 Meets old Register (reply.Refused NoPlace) new = IsCrowded old.world.time × (new ≡ old)
 Meets old Tally (reply.Tally t) new = (t ≡ old.world.tally) × (new ≡ old)
 Meets old (At n action) reply.Invalid new = ¬ (IsValid old.ledger n.0 action) × (new ≡ old)
@@ -84,7 +89,7 @@ Meets old call other new = ⊥
 
 -- a call is answered so: the desk new has what the call leaves of the world, and the ledger goes on
 abbrev pub Acts : Desk → Call → Reply → Desk → Type 0
-Acts old call reply new = Meets old call reply new × (new.ledger ≡ after old.ledger call reply)
+Acts old call reply new = Meets old call reply new × GoesOn old.ledger call reply new.ledger
 
 -- the item waits to be reclaimed
 abbrev pub IsWaiting : Fate → Type 0

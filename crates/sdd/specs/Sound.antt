@@ -1,6 +1,6 @@
 -- What is always true of a desk
 use Rattle.std.specs.Prelude.{ℕ, ◌+◌, ◌<◌, ◌≤◌, ◌≡◌, ◌==◌, Bool, false, IsTrue, IsSome, Option, None, Some, count_by, length, slice_index_or}
-use Rattle.sdd_store.specs.Time.{is_open}
+use Rattle.sdd_store.specs.Time.{is_open, phase_at}
 use Rattle.sdd_store.specs.Table.{entry_at}
 use Rattle.sdd_store.specs.declared.standing.Standing.{Standing}
 use Rattle.sdd_store.specs.declared.standing.Standing.TheVariants as standing
@@ -64,8 +64,8 @@ pub record IsAttended (w : World Val) (l : Ledger) : Type 0 where
       (n : ℕ) × (x : Opening) × (slice_index_or l.places n None ≡ Some x) × (x.place ≡ y.place) × (x.since ≤ y.since)
   -- in a line so far
   pub early : (n : ℕ) (x : Opening) → slice_index_or l.places n None ≡ Some x → x.since ≤ l.moment + 1
-  -- an item was made by some participant
-  pub placed : 0 < length l.items → (n : ℕ) × IsSome (slice_index_or l.places n None)
+  -- an item was made by some participant, and its place, or another, is not free
+  pub placed : 0 < length l.items → (p : ℕ) × IsSome (phase_at w.time p)
 
 -- the slot's item waits, as long as a guard of p is open
 abbrev pub Keeps : World Val → (p k : ℕ) → Type 0

@@ -9,7 +9,7 @@ use Rattle.sdd_base.specs.Owned.{slot_of, slots_home}
 use Rattle.sdd_world.specs.Place.{index_of}
 use Rattle.sdd_lines.specs.declared.name.ItemName.{ItemName}
 use Rattle.sdd.specs.Ledger.{Opening, IsOf, place_in}
-use Rattle.sdd.specs.ByName.{time_by}
+use Rattle.sdd_store.specs.Renaming.{time_by}
 use Rattle.sdd.specs.Desk.{Desk}
 use Rattle.sdd.specs.Sound.{IsSound}
 use Rattle.sdd.specs.declared.script.stage.Attending.{Attending}

@@ -36,7 +36,7 @@ impl Scene {
         self.stage.world()
     }
 
-    /// Ends the scene: every owner is spent and every guard closed, and all that waits is reclaimed. Answers how many items were made and reclaimed.
+    /// Ends the scene: every guard is closed and every owner spent, and all that waits is reclaimed. Answers how many items were made and reclaimed.
     ///
     /// It takes no memory and is never refused.
     pub fn close(self) -> Tally

@@ -4,15 +4,16 @@ ghost use Rattle.std.specs.Prelude.{◌≡◌, ℕ, ◌+◌, ◌^◌, ◌<◌, �
 mod guards;
 mod items;
 mod leaving;
+mod participants;
 
 use crate::script::fate::Fate;
 use crate::script::named::Named;
 use crate::script::val::Val;
 use sdd_base::{Guard, Limits, Owned};
 use sdd_core::Refused;
-use sdd_lines::{Action, Answer, Call, Names, PlaceName, Reply};
+use sdd_lines::{Action, Answer, Call, Names, Reply};
 use sdd_world::{Place, World};
-use std::alloc::{AllocError, Global};
+use std::alloc::Global;
 use std::marker::Model;
 
 /// A participant of a script.
@@ -127,10 +128,20 @@ impl Stage {
         ensures answers { MatchResult result (λ answer. Answers self.old call.now answer self.new)
             (λ refused. (refused ≡ Refused.NoMemory) × (self.new ≡ self.old)) }
     {
-        let reply = match call {
+        let reply = match *call {
             Call::Register => self.register()?,
             Call::Tally => Reply::Tally(self.hand.world.tally()),
-            Call::At(name, action) => return Ok(self.act(*name, action)?),
+            Call::At(name, Action::Open) => return Ok(self.open(name)?),
+            Call::At(name, Action::End) => self.end(name),
+            Call::At(name, Action::Epoch(guard)) => self.epoch(name, guard),
+            Call::At(name, Action::Garbage(guard)) => self.garbage(name, guard),
+            Call::At(name, Action::Set(guard)) => self.set(name, guard),
+            Call::At(name, Action::Accelerate(guard)) => self.accelerate(name, guard),
+            Call::At(name, Action::Owned(number)) => self.make(name, number)?,
+            Call::At(name, Action::Read(owner)) => self.read(name, owner),
+            Call::At(name, Action::Look(item, guard)) => self.look(name, item, guard),
+            Call::At(name, Action::Retire(owner)) => self.retire(name, owner),
+            Call::At(name, Action::Close(guard)) => self.close_guard(name, guard),
         };
         Ok(self.answer(reply))
     }
@@ -144,40 +155,5 @@ impl Stage {
             reclaimed: Names::new(self.hand.alloc),
             ran: Names::new(self.hand.alloc),
         }
-    }
-
-    fn register(&mut self) -> Result<Reply, Refused>
-        ensures acts { MatchResult result (λ reply. Acts self.old Call.Register reply self.new)
-            (λ refused. (refused ≡ Refused.NoMemory) × (self.new ≡ self.old)) }
-    {
-        self.hand.places.make_room()?;
-        match self.hand.world.register() {
-            Ok(place) => {
-                let name = self.hand.places.give(Attending { place, since: 0 });
-                Ok(Reply::Place(PlaceName(name)))
-            }
-            Err(Refused::NoMemory) => Err(Refused::NoMemory),
-            Err(refused) => Ok(Reply::Refused(refused)),
-        }
-    }
-
-    /// What a participant does.
-    fn act(&mut self, name: PlaceName, action: &Action) -> Result<Answer, AllocError>
-        requires more { self.old.ledger.moment + 1 < 2 ^ 64 }
-        ensures answers { MatchResult result (λ answer. Answers self.old (Call.At name action.now) answer self.new) (λ _. self.new ≡ self.old) }
-    {
-        let reply = match *action {
-            Action::Open => return self.open(name),
-            Action::Epoch(guard) => self.epoch(name, guard),
-            Action::Garbage(guard) => self.garbage(name, guard),
-            Action::Set(guard) => self.set(name, guard),
-            Action::Accelerate(guard) => self.accelerate(name, guard),
-            Action::Owned(number) => self.make(name, number)?,
-            Action::Read(owner) => self.read(name, owner),
-            Action::Look(item, guard) => self.look(name, item, guard),
-            Action::Retire(owner) => self.retire(name, owner),
-            Action::Close(guard) => self.close_guard(name, guard),
-        };
-        Ok(self.answer(reply))
     }
 }

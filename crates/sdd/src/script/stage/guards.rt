@@ -1,4 +1,6 @@
 //! What participants do with guards.
+#![tactic(auto, using(crate::proofs::Taken::in_hand))]
+
 ghost use Rattle.std.specs.Prelude.{All, ◌≡◌, ℕ, ◌+◌, ◌^◌, ◌<◌, [], IfOk, IfSome, None, Some, MatchOption, MatchResult, length, map, slice_index_or, if◌then◌else◌};
 ghost use Rattle.sdd_core.specs.Epoch.{epoch_of};
 ghost use Rattle.sdd_store.specs.Time.{CanNest};

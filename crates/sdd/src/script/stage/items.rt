@@ -1,4 +1,6 @@
 //! What participants do with items and their owners.
+#![tactic(auto, using(crate::proofs::Taken::in_hand))]
+
 ghost use Rattle.std.specs.Prelude.{◌≡◌, ◌≢◌, ℕ, IfOk, IsSome, None, Some, MatchOption, MatchResult, length, slice_index_or};
 ghost use Rattle.sdd_base.specs.Steps.{retired};
 ghost use Rattle.sdd_base.specs.World.{IsPlaceOf, standing_at, value_at};

@@ -1,22 +1,22 @@
 //! The end of a script's world.
-ghost use Rattle.std.specs.Prelude.{◌≡◌, ℕ, IsSome, MatchOption, None, Some, slice_index_or};
+ghost use Rattle.std.specs.Prelude.{◌≡◌, ℕ, None, slice_index_or};
 ghost use Rattle.sdd.specs.Leaving.{SpendsOwner, SpendsGuard};
 
-use super::{Hand, Stage};
-use sdd_lines::{GuardName, OwnerName, PlaceName};
+use super::{Hand, Held, Stage};
+use crate::script::fate::Fate;
+use sdd_lines::{GuardName, PlaceName};
 use sdd_store::Tally;
+use sdd_world::inner::leave;
 
 impl Stage {
-    ghost use Rattle.sdd.specs.Ledger.{IsPlace};
-
-    /// Every owner is spent and every guard closed, and then the world ends: all that waits is reclaimed.
+    /// Every guard is closed and every owner spent, and then the world ends: all that waits is reclaimed.
     pub fn close(mut self) -> Tally
         ensures made { result.made ≡ self.world.tally.made }
         ensures reclaimed { result.reclaimed ≡ self.world.tally.made }
         ensures in_place { result.in_place ≡ 0 }
     {
-        self.spend_owners();
         self.spend_guards();
+        self.spend_owners();
         let Stage { hand } = self;
         let Hand {
             world,
@@ -38,20 +38,9 @@ impl Stage {
         }
     }
 
-    /// Each owner that isn't spent retires its item.
-    fn spend_owners(&mut self)
-        ensures spent { (o : ℕ) → slice_index_or self.new.ledger.owners o None ≡ None }
-        ensures tally { self.new.world.tally ≡ self.old.world.tally }
-    {
-        for owner in 0..self.hand.owners.entries.len() {
-            self.spend_owner(owner as u64);
-        }
-    }
-
     /// Each guard that is open is closed.
     fn spend_guards(&mut self)
         ensures spent { (g : ℕ) → slice_index_or self.new.ledger.guards g None ≡ None }
-        ensures owners { self.new.ledger.owners ≡ self.old.ledger.owners }
         ensures tally { self.new.world.tally ≡ self.old.world.tally }
     {
         for guard in 0..self.hand.guards.entries.len() {
@@ -59,11 +48,26 @@ impl Stage {
         }
     }
 
+    /// Each owner that isn't spent is, where no guard is open: its item waits with whoever is there, or with one that has ended.
+    fn spend_owners(&mut self)
+        requires shut { (g : ℕ) → slice_index_or self.old.ledger.guards g None ≡ None }
+        ensures spent { (o : ℕ) → slice_index_or self.new.ledger.owners o None ≡ None }
+        ensures guards { self.new.ledger.guards ≡ self.old.ledger.guards }
+        ensures tally { self.new.world.tally ≡ self.old.world.tally }
+    {
+        for owner in 0..self.hand.owners.entries.len() {
+            self.spend_owner(owner as u64);
+        }
+    }
+
+    #[tactic(auto, using(crate::proofs::Taken::in_hand))]
     fn spend_owner(&mut self, owner: u64)
+        requires shut { (g : ℕ) → slice_index_or self.old.ledger.guards g None ≡ None }
         ensures { SpendsOwner owner self.old self.new }
     {
-        if let Some(name) = self.anyone() {
-            self.retire(PlaceName(name), OwnerName(owner));
+        if let Some(Held { owner, item }) = self.hand.owners.take(owner) {
+            leave(&mut self.hand.world, owner);
+            self.hand.fates[item as usize] = Fate::Retired(self.hand.moment);
         }
     }
 
@@ -74,17 +78,5 @@ impl Stage {
             let name = held.participant;
             self.close_guard(PlaceName(name), GuardName(guard));
         }
-    }
-
-    /// The name of a participant, if there is one: else no owner was made.
-    fn anyone(&self) -> Option<u64>
-        ensures { MatchOption result ((o : ℕ) → slice_index_or self.now.ledger.owners o None ≡ None) (IsPlace self.now.ledger) }
-    {
-        for name in 0..self.hand.places.entries.len() as u64 {
-            if let Some(_) = self.hand.places.get(name) {
-                return Some(name);
-            }
-        }
-        None
     }
 }

@@ -1,4 +1,4 @@
-use Rattle.std.proofs.Common.{refl, arith}
+use Rattle.sdd.proofs.Words.{refl, arith}
 use Rattle.sdd.proofs.Acts.{tied-start}
 use Rattle.sdd.proofs.script.stage.Stage.new.Goals as goal
 

@@ -1,10 +1,15 @@
-use Rattle.std.proofs.Common.{Some, [], ◌∷◌, ◌++◌, refl, ap, ◌∙◌}
-use Rattle.sdd.proofs.Acts.{goes-registered}
+use Rattle.sdd.proofs.Words.{length, ap, ◌∙◌}
+use Rattle.sdd.proofs.Acts.{goes-registered, acts-registered}
 use Rattle.sdd.proofs.script.stage.Stage.register.Goals as goal
 
 pub invariant_of-self-in-Ok : goal.invariant_of-self-in-Ok
 invariant_of-self-in-Ok c =
-    (goes-registered c.self.inside.hand c.self.invariant c.give-name.new.self.entries (record { place = c.in-Ok.place; since = 0 }) c.register.new.self
-    (record { 0 = c.give-name.result }) (c.give-name.ensures.given
-    ∙ ap (λ xs. xs ++ Some (record { place = c.in-Ok.place; since = 0 }) ∷ []) c.make_room.ensures.kept)
-    c.in-Ok.ensures.registered.0.0 refl c.in-Ok.ensures.registered.1).tied
+    (goes-registered _ c.self.invariant _ _ _ (rw c.make_room.ensures.kept at c.give-name.ensures.given) c.in-Ok.ensures.registered.0
+    c.in-Ok.ensures.registered.1 c.in-Ok.ensures.place c.in-Ok.ensures.others).tied
+
+pub returns-in-Ok : goal.returns-in-Ok
+returns-in-Ok c = record {
+  acts = rw (← c.self.view_is) (acts-registered _ c.self.invariant c.give-name.new.self.entries _ _ (rw c.make_room.ensures.kept at c.give-name.ensures.given)
+      c.in-Ok.ensures.registered.0 c.in-Ok.ensures.registered.1 c.in-Ok.ensures.place c.in-Ok.ensures.others _
+      (c.give-name.ensures.name ∙ ap length c.make_room.ensures.kept)).1;
+}

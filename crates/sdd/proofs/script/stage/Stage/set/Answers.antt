@@ -1,22 +1,10 @@
-use Rattle.std.proofs.Common.{subst}
-use Rattle.sdd_lines.specs.declared.call.Call.TheVariants.{At}
-use Rattle.sdd_lines.specs.declared.call.Action.TheVariants as call
-use Rattle.sdd_lines.specs.declared.answer.Reply.TheVariants as reply
-use Rattle.sdd.specs.Desk.{Desk}
-use Rattle.sdd.specs.Script.{Acts}
-use Rattle.sdd.specs.Stage.{desk_of}
-use Rattle.sdd.proofs.Acts.{goes-stirred, acts-stirred}
+use Rattle.sdd.proofs.Acts.{acts-stirred}
 use Rattle.sdd.proofs.script.stage.Stage.set.Goals as goal
 
 pub invariant_of-self : goal.invariant_of-self
-invariant_of-self c =
-    (goes-stirred c.self.inside.hand c.self.invariant c.args.name.0 c.in-Some.attending.now c.in-Some.ensures.found.0
-    c.stir_at.new.world c.stir_at.ensures).tied
+invariant_of-self c = (acts-stirred _ c.self.invariant _ _ c.in-Some.ensures.found.0 c.args.guard _ c.in-Some.ensures.valid c.stir_at.ensures).0
 
 pub returns : goal.returns
 returns c = record {
-  acts = subst (λ (d : Desk). Acts d (At c.args.name (call.Set c.args.guard)) reply.Done (desk_of (record c.self.inside.hand { world = c.stir_at.new.world })))
-      c.self.view_is
-      (acts-stirred c.self.inside.hand c.self.invariant c.args.name c.in-Some.attending.now c.in-Some.ensures.found.0 c.args.guard c.stir_at.new.world
-      c.in-Some.ensures.valid c.stir_at.ensures);
+  acts = rw (← c.self.view_is) (acts-stirred _ c.self.invariant _ _ c.in-Some.ensures.found.0 _ _ c.in-Some.ensures.valid c.stir_at.ensures).1;
 }

@@ -1,10 +1,9 @@
-use Rattle.std.proofs.Common.{◌≡◌, ◌<◌, ℕ, None, length, slice_index_or}
+use Rattle.sdd.proofs.Words.{◌≡◌, length}
+use Rattle.sdd.proofs.Entry.{IsSpentTo}
 use Rattle.sdd.proofs.script.stage.Stage.spend_guards.Given as goal
 
 abbrev pub invariant-loop-guard : goal.invariant-loop-guard
 invariant-loop-guard l = record {
-  spent : (k : ℕ) → k < l.guard → slice_index_or l.self.ledger.guards k None ≡ None;
-  long : length l.self.ledger.guards ≡ length l.initial.self.ledger.guards;
-  owners : l.self.ledger.owners ≡ l.initial.self.ledger.owners;
+  spent : IsSpentTo l.guard (length l.initial.self.ledger.guards) l.self.ledger.guards;
   tally : l.self.world.tally ≡ l.initial.self.world.tally;
 }

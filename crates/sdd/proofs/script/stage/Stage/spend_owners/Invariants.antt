@@ -1,9 +1,10 @@
-use Rattle.std.proofs.Common.{◌≡◌, ◌<◌, ℕ, None, length, slice_index_or}
+use Rattle.sdd.proofs.Words.{◌≡◌, length}
+use Rattle.sdd.proofs.Entry.{IsSpentTo}
 use Rattle.sdd.proofs.script.stage.Stage.spend_owners.Given as goal
 
 abbrev pub invariant-loop-owner : goal.invariant-loop-owner
 invariant-loop-owner l = record {
-  spent : (k : ℕ) → k < l.owner → slice_index_or l.self.ledger.owners k None ≡ None;
-  long : length l.self.ledger.owners ≡ length l.initial.self.ledger.owners;
+  spent : IsSpentTo l.owner (length l.initial.self.ledger.owners) l.self.ledger.owners;
+  guards : l.self.ledger.guards ≡ l.initial.self.ledger.guards;
   tally : l.self.world.tally ≡ l.initial.self.world.tally;
 }

@@ -1,6 +1,5 @@
-use Rattle.std.proofs.Common.{◌≡◌, length, drop, map}
-use Rattle.sdd.specs.Ledger.{all_gone}
-use Rattle.sdd.specs.Stage.{what_named}
+use Rattle.std.proofs.Common.{drop}
+use Rattle.sdd.proofs.Words.{◌≡◌, map, length, all_gone, what_named}
 use Rattle.sdd.proofs.script.stage.guards.mark_gone.Given as goal
 
 -- to spend the names that are left is to spend all

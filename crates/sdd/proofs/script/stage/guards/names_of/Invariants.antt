@@ -1,5 +1,4 @@
-use Rattle.std.proofs.Common.{◌≡◌, ◌≤◌, length, map, take, vec_capacity}
-use Rattle.sdd.specs.Stage.{item_named}
+use Rattle.sdd.proofs.Words.{◌≡◌, ◌≤◌, map, length, take, vec_capacity, item_named}
 use Rattle.sdd.proofs.script.stage.guards.names_of.Given as goal
 
 abbrev pub invariant-loop-slot : goal.invariant-loop-slot
