@@ -1,0 +1,9 @@
+pub mod Fields
+pub mod Shares
+pub mod Rounds
+pub mod Spots
+pub mod Sent
+pub mod Keeping
+pub mod Stakes
+pub mod Rooms
+pub mod Halls

@@ -1,0 +1,7 @@
+pub mod Tenure
+pub mod Block
+pub mod Lending
+pub mod Places
+pub mod Tenures
+pub mod Room
+pub mod Hall

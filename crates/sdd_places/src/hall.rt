@@ -1,0 +1,84 @@
+//! A small space: places, readers with a guard each, and the law that whatever is lent is lent to a guard that is open.
+//!
+//! It shows how a space keeps that law in its invariant, and what the law gives: a look asks only for a guard of the space, and a value can be taken
+//! when nobody has a guard.
+ghost use Rattle.std.specs.Prelude.{◌≡◌, ◌-◌, ◌<◌, ℕ, IsSome, None, Some, length, slice_set};
+ghost use Rattle.sdd_places.specs.Block.{stake_at};
+ghost use Rattle.sdd_places.specs.Hall.{value_in, kept_in};
+
+use crate::places::Places;
+use crate::tenures::{Stage, Tenure, Tenures};
+use sdd_token::WHOLE;
+use std::marker::Model;
+
+/// Places, and readers that look at them.
+pub struct Hall<T> {
+    places: Places<T>,
+    tenures: Tenures,
+}
+
+impl<T> Model for Hall<T> {
+    ghost use Rattle.sdd_places.specs.Hall.{Hall, IsSound};
+
+    ghost Value = { Hall T };
+
+    ghost view = { λ h. record { places = h.places; tenures = h.tenures } };
+
+    ghost invariant = { λ h. IsSound h.places h.tenures };
+}
+
+impl<T> Hall<T> {
+    /// A guard of a reader that has none.
+    pub fn open(&mut self, reader: usize) -> Tenure
+        requires inside { reader < self.old.tenures.home.size }
+        requires closed { (kept_in self.old reader).kind ≡ Stage.Closed }
+        ensures home { result.home ≡ self.old.tenures.home }
+        ensures number { result.number ≡ reader }
+        ensures places { self.new.places ≡ self.old.places }
+        ensures space { self.new.tenures.home ≡ self.old.tenures.home }
+    {
+        self.tenures.begin(reader);
+        self.tenures.split(reader)
+    }
+
+    /// The value in a place, for as long as the guard is borrowed.
+    pub fn look<'g>(&mut self, at: usize, reader: usize, guard: &'g Tenure) -> &'g T
+        requires inside { (at < length self.old.places.values) × (reader < self.old.tenures.home.size) }
+        requires home { guard.now.home ≡ self.old.tenures.home }
+        requires number { guard.now.number ≡ reader }
+        requires open { guard.now.kind ≡ Stage.Open }
+        requires filled { IsSome (value_in self.old at) }
+        ensures value { value_in self.old at ≡ Some result.now }
+        ensures values { self.new.places.values ≡ self.old.places.values }
+        ensures space { self.new.tenures ≡ self.old.tenures }
+    {
+        self.tenures.agree(reader, guard);
+        self.places.look(at, reader, guard)
+    }
+
+    /// The reader's guard closes: nothing is lent to it any more.
+    pub fn close(&mut self, reader: usize, guard: Tenure)
+        requires inside { reader < self.old.tenures.home.size }
+        requires home { guard.home ≡ self.old.tenures.home }
+        requires number { guard.number ≡ reader }
+        requires only { (kept_in self.old reader).units ≡ WHOLE - 1 }
+        ensures values { self.new.places.values ≡ self.old.places.values }
+        ensures home { (at : ℕ) → stake_at self.new.places.stakes at reader ≡ None }
+    {
+        self.tenures.join(reader, guard);
+        let ended = self.tenures.end(reader);
+        self.places.settle(reader, &ended);
+    }
+
+    /// Takes the value out of a place, while nobody has a guard.
+    pub fn take(&mut self, at: usize) -> T
+        requires inside { at < length self.old.places.values }
+        requires filled { IsSome (value_in self.old at) }
+        requires closed { (reader : ℕ) → (kept_in self.old reader).kind ≡ Stage.Closed }
+        ensures value { value_in self.old at ≡ Some result }
+        ensures taken { self.new.places.values ≡ slice_set self.old.places.values at None }
+        ensures space { self.new.tenures ≡ self.old.tenures }
+    {
+        self.places.take(at)
+    }
+}

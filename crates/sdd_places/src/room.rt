@@ -1,0 +1,89 @@
+//! Room for values side by side, from an allocator, and the right to free it.
+ghost use Rattle.core.specs.Prelude.{◌≡◌, length, IfOk};
+ghost use Rattle.core.specs.Mem.Slots.{slots_ptr, slots_len};
+ghost use Rattle.core.specs.Mem.Slots.Ownership.{leased};
+ghost use Rattle.std_alloc.specs.Vec.Ownership.{FitsInBlock};
+ghost use Rattle.sdd_places.specs.Room.{room_owns};
+
+use crate::strip::Strip;
+use core::slots::Slots;
+use std::alloc::{AllocError, Allocator};
+use std::marker::{Model, PhantomData};
+use std::mem::{align_of, size_of};
+
+/// Room in which nothing is written yet.
+pub(crate) struct Room<T, A: Allocator> {
+    ptr: *mut T,
+    len: usize,
+    by: PhantomData<A>,
+    pub(crate) ghost alloc: { A },
+}
+
+impl<T, A: Allocator> Model for Room<T, A> {
+    ghost also_owns = { λ r. room_owns (A.dealloc_token r.alloc) T.row r.ptr r.len };
+}
+
+/// The right to free a block.
+pub(crate) struct Hold<T, A: Allocator> {
+    pub(crate) ptr: *mut T,
+    pub(crate) len: usize,
+    by: PhantomData<A>,
+    pub(crate) ghost alloc: { A },
+}
+
+impl<T, A: Allocator> Model for Hold<T, A> {
+    ghost also_owns = { λ h. leased (A.dealloc_token h.alloc) T.row h.ptr h.len };
+}
+
+impl<T, A: Allocator> Room<T, A> {
+    pub(crate) fn new(alloc: &A, len: usize) -> Result<Room<T, A>, AllocError>
+        requires { FitsInBlock T.row len }
+        ensures { IfOk result (λ r. (r.len ≡ len) × (r.alloc ≡ alloc.now)) }
+    {
+        match alloc.allocate(len * size_of::<T>(), align_of::<T>()) {
+            Ok(block) => {
+                let ptr = block as *mut T;
+                let by = PhantomData;
+                Ok(Room { ptr, len, by })
+            }
+            Err(refused) => Err(refused),
+        }
+    }
+
+    /// Empty places, as many as there is room for. `like` is any value of the type, and isn't used.
+    pub(crate) fn open(self, like: &T) -> (Slots<T>, Hold<T, A>)
+        requires { FitsInBlock T.row self.len }
+        ensures { (slots_len result.0 ≡ self.len) × (result.1.ptr ≡ slots_ptr result.0) × (result.1.len ≡ self.len) × (result.1.alloc ≡ self.alloc) }
+    {
+        let _ = like;
+        let Room { ptr, len, by } = self;
+        let slots = unsafe { Slots::from_raw_parts(ptr, len) };
+        (slots, Hold { ptr, len, by })
+    }
+}
+
+impl<T, A: Allocator> Hold<T, A> {
+    /// Gives the block back. Values that lie there are forgotten.
+    pub(crate) fn release(self, alloc: &A, strip: Strip<T>)
+        requires { (self.ptr ≡ strip.ptr) × (self.len ≡ length strip.items) × (self.alloc ≡ alloc.now) }
+    {
+        let Strip { ptr: _ } = strip;
+        let Hold { ptr, len, by: _ } = self;
+        unsafe {
+            alloc.deallocate(ptr as *mut u8, len * size_of::<T>(), align_of::<T>());
+        }
+    }
+
+    /// The block stays taken for good.
+    pub(crate) fn leak(self) {
+        let Hold {
+            ptr: _,
+            len: _,
+            by: _,
+        } = self;
+    }
+}
+
+unsafe impl<T, A: Allocator + Send> Send for Hold<T, A> {}
+
+unsafe impl<T, A: Allocator + Send> Sync for Hold<T, A> {}

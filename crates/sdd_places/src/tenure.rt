@@ -1,0 +1,40 @@
+//! The end of a tenure.
+ghost use Rattle.std.specs.Prelude.{◌≡◌, ℕ};
+ghost use Rattle.sdd_places.specs.Tenure.{ended_owns, ended_shares};
+
+use sdd_token::{Part, WHOLE};
+use std::marker::{Model, PhantomData};
+
+const _: () = prove!(size_of::<Ended>() == 0);
+
+/// What shows that a round has ended: nothing that is lent to it is used any more.
+pub struct Ended {
+    of: PhantomData<u64>,
+    pub ghost name: { ℕ },
+}
+
+impl Model for Ended {
+    ghost also_owns = { λ e. ended_owns e.name };
+
+    ghost also_shares = { λ e _ κ. ended_shares e.name κ };
+}
+
+/// The round of a part that has all units ends, and the next begins. Since all units are here, nobody else has a part of the tenure.
+pub fn end_round<K>(tenure: &mut Part<K>) -> Ended
+    requires { tenure.old.units ≡ WHOLE }
+    ensures ended { result.name ≡ tenure.old.round }
+    ensures next { tenure.new ≡ record tenure.old { round = tenure.new.round } }
+{
+    let _ = tenure;
+    Ended { of: PhantomData }
+}
+
+impl Drop for Ended {
+    fn drop(self) {
+        let Ended { of: _ } = self;
+    }
+}
+
+unsafe impl Send for Ended {}
+
+unsafe impl Sync for Ended {}

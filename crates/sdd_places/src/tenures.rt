@@ -1,0 +1,120 @@
+//! The tenures of the readers of one space, each a number of a book, whose round is the tenure's lifetime.
+ghost use Rattle.std.specs.Prelude.{◌≡◌, ◌+◌, ◌-◌, ◌<◌, ◌≤◌, ℕ, IfOk, length, slice_set};
+ghost use Rattle.sdd_places.specs.Tenures.{kept_at, whole};
+
+use crate::tenure::{Ended, end_round};
+use sdd_token::{Book, Part, WHOLE};
+use std::alloc::{AllocError, Global};
+use std::marker::Model;
+
+/// Whether a reader has a guard.
+#[derive(Clone, Copy, Debug, PartialEq, Eq)]
+pub enum Stage {
+    Closed,
+    Open,
+}
+
+/// A part of a reader's tenure, as an open guard has one. While it is borrowed, the tenure lasts.
+pub type Tenure = Part<Stage>;
+
+/// What a space keeps of the tenures of its readers. Each open guard has a part, of one unit.
+///
+/// The parts have no bytes; still `new` asks the allocator once, for none.
+#[derive(Drop)]
+pub struct Tenures {
+    book: Book<Stage>,
+    parts: Vec<Tenure>,
+}
+
+impl Model for Tenures {
+    ghost use Rattle.std.specs.Prelude.{map};
+    ghost use Rattle.sdd_places.specs.Tenures.{Tenures, ArePartsOf, kept_of};
+
+    ghost Value = { Tenures };
+
+    ghost view = { λ t. record { home = t.book.home; kept = map kept_of t.parts.items } };
+
+    ghost invariant = { λ t. ArePartsOf t.book.home t.parts.items };
+}
+
+impl Tenures {
+    /// A home of their own for that many readers, none of which has a guard.
+    pub fn new(alloc: Global, size: usize) -> Result<Tenures, AllocError>
+        ensures size { IfOk result (λ tenures. tenures.home.size ≡ size) }
+        ensures count { IfOk result (λ tenures. length tenures.kept ≡ size) }
+        ensures closed { IfOk result (λ tenures. (k : ℕ) → k < size → ((kept_at tenures k).kind ≡ Stage.Closed) × ((kept_at tenures k).units ≡ WHOLE)) }
+    {
+        let mut book = Book::new(size);
+        let mut parts = Vec::with_capacity(alloc, size)?;
+        for _number in 0..size {
+            parts.push_reserved(book.issue(&Stage::Closed));
+        }
+        Ok(Tenures { book, parts })
+    }
+
+    /// The reader has a guard now, its first.
+    pub fn begin(&mut self, reader: usize)
+        requires inside { reader < self.old.home.size }
+        requires whole { (kept_at self.old reader).units ≡ WHOLE }
+        ensures home { self.new.home ≡ self.old.home }
+        ensures kept { self.new.kept ≡ slice_set self.old.kept reader (whole Stage.Open (kept_at self.old reader).round) }
+    {
+        self.parts[reader].set(&Stage::Open, &());
+    }
+
+    /// A guard's part of the reader's tenure.
+    pub fn split(&mut self, reader: usize) -> Tenure
+        requires inside { reader < self.old.home.size }
+        requires more { 1 < (kept_at self.old reader).units }
+        ensures home { self.new.home ≡ self.old.home }
+        ensures kept { self.new.kept ≡ slice_set self.old.kept reader (record (kept_at self.old reader) { units = (kept_at self.old reader).units - 1 }) }
+        ensures part_home { result.home ≡ self.old.home }
+        ensures part_number { result.number ≡ reader }
+        ensures part_round { result.round ≡ (kept_at self.old reader).round }
+        ensures part_units { result.units ≡ 1 }
+    {
+        self.parts[reader].split(1)
+    }
+
+    /// A guard gives its part back.
+    pub fn join(&mut self, reader: usize, mut part: Tenure)
+        requires inside { reader < self.old.home.size }
+        requires part_home { part.home ≡ self.old.home }
+        requires part_number { part.number ≡ reader }
+        ensures home { self.new.home ≡ self.old.home }
+        ensures kept { self.new.kept ≡ slice_set self.old.kept reader
+            (record (kept_at self.old reader) { units = (kept_at self.old reader).units + part.units }) }
+        ensures some { (0 < (kept_at self.old reader).units) × (0 < part.units) }
+        ensures fits { (kept_at self.old reader).units + part.units ≤ WHOLE }
+        ensures kind { part.kind ≡ (kept_at self.old reader).kind }
+        ensures round { part.round ≡ (kept_at self.old reader).round }
+    {
+        let kept = &mut self.parts[reader];
+        kept.apart(&mut part);
+        kept.join(part);
+    }
+
+    /// Who has a part of a reader's tenure knows which it is, and whether the reader has a guard.
+    pub fn agree(&self, reader: usize, part: &Tenure)
+        requires inside { reader < self.now.home.size }
+        requires part_home { part.now.home ≡ self.now.home }
+        requires part_number { part.now.number ≡ reader }
+        ensures kind { (kept_at self.now reader).kind ≡ part.now.kind }
+        ensures round { (kept_at self.now reader).round ≡ part.now.round }
+    {
+        self.parts[reader].agree(part);
+    }
+
+    /// The reader has no guard any more: its tenure ends, since all parts are here, and the next one has another name.
+    pub fn end(&mut self, reader: usize) -> Ended
+        requires inside { reader < self.old.home.size }
+        requires whole { (kept_at self.old reader).units ≡ WHOLE }
+        ensures ended { result.name ≡ (kept_at self.old reader).round }
+        ensures home { self.new.home ≡ self.old.home }
+        ensures kept { (next : ℕ) × (self.new.kept ≡ slice_set self.old.kept reader (whole Stage.Closed next)) }
+    {
+        let kept = &mut self.parts[reader];
+        kept.set(&Stage::Closed, &());
+        end_round(kept)
+    }
+}
