@@ -50,11 +50,7 @@ fn two_guards<T: Item<T>, S: Guards<T>>(rt: &impl Abort, s: &mut S, under: Under
     let outer = Guard::new(s).expect(rt, "no guard is open");
     let epoch = u8::from(outer.epoch(s));
     let had_garbage = outer.has_garbage(s);
-    match under {
-        Under::Nothing => {}
-        Under::Stir => outer.set_has_garbage(s),
-        Under::Accelerate => outer.accelerate(s),
-    }
+    act(&outer, s, under);
     let has_garbage = outer.has_garbage(s);
     let inner = Guard::new(s).expect(rt, "two guards may be open");
     let inner_epoch = u8::from(inner.epoch(s));
@@ -67,6 +63,18 @@ fn two_guards<T: Item<T>, S: Guards<T>>(rt: &impl Abort, s: &mut S, under: Under
         has_garbage,
         inner_epoch,
         third,
+    }
+}
+
+/// Does this under the guard.
+fn act<T: Item<T>, S: Guards<T>>(guard: &Guard, s: &mut S, under: Under)
+    requires { IsSeated (S.seat s.old) }
+    ensures { S.seat s.new ≡ S.seat s.old }
+{
+    match under {
+        Under::Nothing => {}
+        Under::Stir => guard.set_has_garbage(s),
+        Under::Accelerate => guard.accelerate(s),
     }
 }
 

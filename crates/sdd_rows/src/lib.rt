@@ -9,6 +9,10 @@ mod devices;
 #[cfg(test)]
 mod domains;
 #[cfg(test)]
+mod ended_in_scripts;
+#[cfg(test)]
+mod ending;
+#[cfg(test)]
 mod first_example;
 #[cfg(test)]
 mod greatest_sizes;

@@ -14,6 +14,7 @@ fn lines_are_calls(rt: HostRuntime) {
         ("register", Call::Register),
         ("tally", Call::Tally),
         ("p7 open", Call::At(PlaceName(7), Action::Open)),
+        ("p0 end", Call::At(place, Action::End)),
         ("p0 epoch g1", Call::At(place, Action::Epoch(guard))),
         ("p0 garbage g1", Call::At(place, Action::Garbage(guard))),
         ("p0 set g1", Call::At(place, Action::Set(guard))),
@@ -75,7 +76,9 @@ fn malformed_lines_are_no_calls(rt: HostRuntime) {
         "p0 close p0",
         "p0 retire i0",
         "p0 defer g0",
-        "p0 end",
+        "end",
+        "p0 end g0",
+        "p0 end ",
     ] {
         assert_eq!(rt; Call::parse(line.as_bytes()), None, "{line:?}");
     }

@@ -1,5 +1,5 @@
 //! Steps that the tests share.
-ghost use Rattle.std.specs.Prelude.{◌≡◌, ◌<◌, length};
+ghost use Rattle.std.specs.Prelude.{◌≡◌, ◌≢◌, ℕ};
 ghost use Rattle.sdd_base.specs.Holding.{AreOf};
 ghost use Rattle.sdd_base.specs.Owned.{slots_home};
 ghost use Rattle.sdd_base.specs.World.{IsPlaceOf};
@@ -35,7 +35,7 @@ pub fn new_world<R: Abort + AllocGlobal, T: Item<T>>(
 pub fn joined<T: Item<T>>(rt: &impl Abort, world: &mut World<T>) -> Place
     ensures place { IsPlaceOf world.new (index_of result) }
     ensures home { world.new.home ≡ world.old.home }
-    ensures places { length world.old.time.places < length world.new.time.places }
+    ensures others { (p : ℕ) → IsPlaceOf world.old p → (p ≢ index_of result) × IsPlaceOf world.new p }
 {
     world.register().expect(rt, "a place is free")
 }
