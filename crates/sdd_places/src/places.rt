@@ -92,6 +92,18 @@ impl<T> Places<T> {
         }
     }
 
+    /// The value in a place that has one.
+    pub fn value(&self, at: usize) -> &T
+        requires inside { at < length self.now.values }
+        requires filled { IsSome (value_at self.now at) }
+        ensures { value_at self.now at ≡ Some result.now }
+    {
+        let Some(value) = self.block.get(at) else {
+            unreachable!()
+        };
+        value
+    }
+
     /// Puts a value into an empty place.
     pub fn put(&mut self, at: usize, value: T)
         requires inside { at < length self.old.values }

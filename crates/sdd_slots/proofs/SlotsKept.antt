@@ -1,9 +1,10 @@
 -- What is kept of one slot, where it changes
 use Rattle.std.proofs.Common.{◌≡◌, ℕ, List, length, slice_index_or, slice_set, sym, ◌∙◌, ap, refl, Option, None, Some, Bool, false, [], ◌∷◌, arith, zero}
-use Rattle.std.specs.Prelude.{map, is_some, IsSome, IsNone, All, ◌<◌, suc}
+use Rattle.std.specs.Prelude.{map, is_some, IsSome, IsNone, All, option_copied, ◌<◌, suc}
 use Rattle.std.proofs.Math.ListN.{get_or-map, length-set, replicate}
 use Rattle.std.proofs.Math.Seq.{map-set_same}
 use Rattle.std.proofs.lemmas.List.{map-set, get_or_read, length-map, length-replicate}
+use denote.Bor.{Bor}
 use Rattle.sdd_token.specs.Units.{Home}
 use Rattle.sdd_token.specs.Rights.{Kept, whole}
 use Rattle.sdd_token.specs.declared.right.Kind.TheVariants as kind
@@ -63,6 +64,22 @@ pub none-of : {T : Type 0} (v : Option T) → is_some v ≡ false → v ≡ None
 none-of None e = refl
 none-of (Some x) e = cc
 
+-- what is none has no value
+is-none : {X : Type 0} (x : Option X) → IsNone x → is_some x ≡ false
+is-none None h = refl
+is-none (Some x) h = cc
+
+-- where every slot is free there is nothing at any
+pub none-at : {X : Type 0} (xs : List (Option X)) → All (λ x. IsNone x) xs → (k : ℕ) → is_some (slice_index_or xs k None) ≡ false
+none-at [] h k = refl
+none-at (x ∷ xs) h zero = is-none x (h zero x (omega arith))
+none-at (x ∷ xs) h (suc k) = none-at xs (λ j o l. h (suc j) o (omega arith)) k
+
+-- what is behind a `&` is there where the `&` is
+pub copied-some : {X : Type 0} (o : Option (Bor X)) → is_some (option_copied o) ≡ is_some o
+copied-some None = refl
+copied-some (Some x) = refl
+
 -- slots that are all free
 pub all-free : {T : Type 0} (home : Home) (n : ℕ) → home.size ≡ n → AreKept {T = T} home (replicate n (whole kind.Free)) (replicate n None) (replicate n None)
 all-free {T} home n e = record {
@@ -97,16 +114,3 @@ keeps-value {T} {home} {kept} {standings} {values} k s e a = record {
   told = ap (λ (ks : List Kept). slice_set ks k (kept_of s)) a.told ∙ sym (map-set kept_of standings k s);
   filled = a.filled ∙ sym (map-set_same is_some standings k s None e);
 }
-
-no-value : {T : Type 0} (v : Option T) (s : Option Standing) → is_some v ≡ is_some s → IsNone s → IsNone v
-no-value None s e h = refl
-no-value (Some x) None e h = cc
-no-value (Some x) (Some s) e h = cc
-
--- where every slot is free there is no value
-pub no-values : {T : Type 0} (values : List (Option T)) (standings : Entries Standing) →
-    map is_some values ≡ map is_some standings → All (λ s. IsNone s) standings → All (λ v. IsNone v) values
-no-values [] standings e h k d lt = absurd (omega arith)
-no-values (v ∷ vs) [] e h k d lt = cc
-no-values (v ∷ vs) (s ∷ ss) e h zero d lt = no-value v s (cc) (h zero s (omega arith))
-no-values (v ∷ vs) (s ∷ ss) e h (suc k) d lt = no-values vs ss (cc) (λ j o l. h (suc j) o (omega arith)) k d (omega arith)

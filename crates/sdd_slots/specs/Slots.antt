@@ -12,6 +12,8 @@ pub record Slots (T : Type 0) : Type 0 where
   pub home : Home
   pub standings : Entries Standing
   pub values : List (Option T)
+  pub stakes : List (List (Option ℕ))
+  pub readers : ℕ
 
 module _ {T : Type 0} where
   abbrev pub standing_at : Slots T → ℕ → Option Standing

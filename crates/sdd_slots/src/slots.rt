@@ -1,8 +1,10 @@
-ghost use Rattle.std.specs.Prelude.{◌≡◌, ◌<◌, ◌≤◌, ◌↔◌, All, IfErr, IfNone, IfOk, IfSome, IsNone, IsSome, IsTrue, MatchResult, None, OnErr, OnSome, Some, length, option_copied, replicate};
+ghost use Rattle.sdd_places.specs.Block.{IsHome, IsFreeFor, stake_at, lent, settled, unlent};
+ghost use Rattle.std.specs.Prelude.{ℕ, ◌≡◌, ◌<◌, ◌≤◌, ◌↔◌, All, IfErr, IfNone, IfOk, IfSome, IsNone, IsSome, IsTrue, MatchResult, None, OnErr, OnSome, Some, length, option_copied, replicate};
 ghost use Rattle.sdd_token.specs.Right.{number_of, home_of};
 ghost use Rattle.sdd_store.specs.Table.{IsEmptyAt, IsFull};
 ghost use Rattle.sdd_slots.specs.Slots.{standing_at, value_at, with_made, with_retired, without_slot, IsWaiting};
 
+use sdd_places::{Ended, Places, Tenure};
 use sdd_store::{Standing, Table};
 use sdd_token::{Kind, Right, Rights};
 use std::alloc::{AllocError, Global};
@@ -11,11 +13,10 @@ use std::marker::Model;
 /// Slots for values, each free or with a value and a standing.
 ///
 /// Memory is taken when the slots are made, and never again. No call's cost depends on how many slots there are.
-#[derive(Drop)]
 pub struct Slots<T> {
     rights: Rights,
     standings: Table<Standing>,
-    values: Vec<Option<T>>,
+    places: Places<T>,
 }
 
 impl<T> Model for Slots<T> {
@@ -23,49 +24,32 @@ impl<T> Model for Slots<T> {
 
     ghost Value = { Slots T };
 
-    ghost view = { λ s. record { home = s.rights.home; standings = s.standings; values = s.values.items } };
+    ghost view = { λ s. record {
+      home = s.rights.home;
+      standings = s.standings;
+      values = s.places.values;
+      stakes = s.places.stakes;
+      readers = s.places.readers;
+    } };
 
-    ghost invariant = { λ s. AreKept s.rights.home s.rights.kept s.standings s.values.items };
-}
-
-/// Places for values, all empty.
-fn empty_places<T>(alloc: Global, size: u32) -> Result<Vec<Option<T>>, AllocError>
-    ensures { IfOk result (λ places. places.items ≡ replicate size None) }
-{
-    let mut places = Vec::with_capacity(alloc, size as usize)?;
-    for _place in 0..size {
-        places.push_reserved(None);
-    }
-    Ok(places)
-}
-
-/// Lets go of places for values that are all empty.
-fn destroy_places<T>(mut places: Vec<Option<T>>)
-    requires { All (λ place. IsNone place) places.items }
-{
-    while let Some(place) = places.pop() {
-        match place {
-            None => {}
-            Some(_) => unreachable!(),
-        }
-    }
-    places.destroy_empty();
+    ghost invariant = { λ s. AreKept s.rights.home s.rights.kept s.standings s.places.values };
 }
 
 impl<T> Slots<T> {
     /// That many slots, all free, in a home of their own.
-    pub fn new(alloc: Global, size: u32) -> Result<Slots<T>, AllocError>
+    pub fn new(alloc: Global, size: u32, readers: u32) -> Result<Slots<T>, AllocError>
         ensures size { IfOk result (λ slots. slots.home.size ≡ size) }
         ensures standings { IfOk result (λ slots. slots.standings ≡ replicate size None) }
         ensures values { IfOk result (λ slots. slots.values ≡ replicate size None) }
+        ensures stakes { IfOk result (λ slots. (slots.stakes ≡ unlent size readers) × (slots.readers ≡ readers)) }
     {
         let rights = Rights::new(alloc, size as usize, Kind::Free)?;
         let standings = Table::new(alloc, size)?;
-        let values = empty_places(alloc, size)?;
+        let places = Places::new(alloc, size as usize, readers)?;
         Ok(Slots {
             rights,
             standings,
-            values,
+            places,
         })
     }
 
@@ -75,7 +59,7 @@ impl<T> Slots<T> {
         ensures standings { result ≡ length self.now.standings }
         ensures values { result ≡ length self.now.values }
     {
-        self.values.len()
+        self.places.len()
     }
 
     /// Every slot is free.
@@ -105,7 +89,7 @@ impl<T> Slots<T> {
         let Ok(slot) = self.standings.claim(Standing::Owned) else {
             return Err(value);
         };
-        put(&mut self.values[slot as usize], value);
+        self.places.put(slot as usize, value);
         Ok(self.rights.grant(slot))
     }
 
@@ -116,10 +100,7 @@ impl<T> Slots<T> {
         ensures owned { standing_at self.now (number_of right.now) ≡ Some Standing.Owned }
     {
         self.rights.agrees(right);
-        let Some(value) = &self.values[right.number() as usize] else {
-            unreachable!()
-        };
-        value
+        self.places.value(right.number() as usize)
     }
 
     /// The value in a slot, if one is there: unless the slot is free, or is none of these.
@@ -127,7 +108,7 @@ impl<T> Slots<T> {
         ensures value { option_copied result ≡ value_at self.now slot }
         ensures taken { IsSome result ↔ IsSome (standing_at self.now slot) }
     {
-        self.values.get(slot as usize)?.as_ref()
+        self.places.get(slot as usize)
     }
 
     /// The value of an owner waits to be reclaimed, in the slot that comes back.
@@ -144,6 +125,7 @@ impl<T> Slots<T> {
 
     /// Takes the value of a slot that waits, which is free then; of any other slot nothing.
     pub fn reclaim(&mut self, slot: u32) -> Option<T>
+        requires home { IsWaiting (standing_at self.old slot) → IsHome self.old.stakes slot }
         ensures waited { IsSome result ↔ IsWaiting (standing_at self.old slot) }
         ensures was { IfSome result (λ value. value_at self.old slot ≡ Some value) }
         ensures freed { OnSome result (self.new ≡ without_slot self.old slot) }
@@ -154,10 +136,26 @@ impl<T> Slots<T> {
         }
         self.standings.release(slot);
         self.rights.set(slot as usize, Kind::Free);
-        let Some(value) = self.values[slot as usize].take() else {
-            unreachable!()
-        };
-        Some(value)
+        Some(self.places.take(slot as usize))
+    }
+
+    /// The value in a slot that isn't free, for a reader, for as long as its tenure is borrowed.
+    pub fn lend<'g>(&mut self, slot: u32, reader: usize, tenure: &'g Tenure) -> &'g T
+        requires taken { IsSome (standing_at self.old slot) }
+        requires reader { reader < self.old.readers }
+        requires free { IsFreeFor tenure.now.round (stake_at self.old.stakes slot reader) }
+        ensures value { value_at self.old slot ≡ Some result.now }
+        ensures lent { self.new ≡ record self.old { stakes = lent slot reader tenure.now.round self.old.stakes } }
+    {
+        self.places.look(slot as usize, reader, tenure)
+    }
+
+    /// What a reader was lent in a tenure that has ended is home again.
+    pub fn settle(&mut self, reader: usize, ended: &Ended)
+        requires { (at : ℕ) → IsFreeFor ended.now.name (stake_at self.old.stakes at reader) }
+        ensures { self.new ≡ record self.old { stakes = settled reader self.old.stakes } }
+    {
+        self.places.settle(reader, ended);
     }
 
     /// Lets go of slots that are all free. Their values need not be `Drop`, since there are none.
@@ -167,9 +165,9 @@ impl<T> Slots<T> {
         let Slots {
             rights: _,
             standings: _,
-            values,
+            places,
         } = self;
-        destroy_places(values);
+        places.destroy();
     }
 
     fn is_waiting(&self, slot: u32) -> bool
@@ -179,16 +177,5 @@ impl<T> Slots<T> {
             self.standings.get(slot),
             Some(Standing::Retired | Standing::Private(_))
         )
-    }
-}
-
-/// Puts a value into an empty place.
-fn put<T>(place: &mut Option<T>, value: T)
-    requires { place.old ≡ None }
-    ensures { place.new ≡ Some value }
-{
-    match place.replace(value) {
-        None => {}
-        Some(_) => unreachable!(),
     }
 }

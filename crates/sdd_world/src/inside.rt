@@ -338,13 +338,19 @@ impl<T: Item<T>> Core<T> {
     }
 
     /// A core without items, with time as it is.
-    pub fn new(alloc: Global, time: Time, slots: u32, cells: u32) -> Result<Core<T>, AllocError>
+    pub fn new(
+        alloc: Global,
+        time: Time,
+        participants: u32,
+        slots: u32,
+        cells: u32,
+    ) -> Result<Core<T>, AllocError>
         requires idle { time.places ≡ [] }
         requires room { time.room ≡ slots }
         ensures { IfOk result (IsBlank time slots cells) }
     {
         let cells = Cells::new(alloc, cells)?;
-        let slots = Slots::new(alloc, slots)?;
+        let slots = Slots::new(alloc, slots, participants)?;
         Ok(Core {
             time,
             slots,

@@ -94,7 +94,13 @@ impl<T: Item<T>> World<T> {
             limits.slots as usize,
         )?;
         let spare = Vec::with_capacity(alloc, limits.slots as usize)?;
-        let core = Core::new(alloc, time, limits.slots as u32, limits.cells as u32)?;
+        let core = Core::new(
+            alloc,
+            time,
+            limits.participants as u32,
+            limits.slots as u32,
+            limits.cells as u32,
+        )?;
         Ok(World { core, spare, alloc })
     }
 

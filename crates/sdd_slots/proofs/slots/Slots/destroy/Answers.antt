@@ -1,5 +1,6 @@
-use Rattle.sdd_slots.proofs.SlotsKept.{no-values}
+use Rattle.std.proofs.Common.{◌∙◌}
+use Rattle.sdd_slots.proofs.SlotsKept.{filled-there, none-of, none-at}
 use Rattle.sdd_slots.proofs.slots.Slots.destroy.Goals as goal
 
-pub destroy_places-requires : goal.destroy_places-requires
-destroy_places-requires g c = no-values c.self.inside.values.items c.self.inside.standings c.self.invariant.filled (rw (← c.self.view_is) at c.requires)
+pub destroy-requires : goal.destroy-requires
+destroy-requires g c at = none-of _ (filled-there at c.self.invariant ∙ none-at c.self.inside.standings (rw (← c.self.view_is) at c.requires) at)

@@ -2,6 +2,7 @@ use Rattle.std.proofs.Common.{◌≡◌, ap, arith, sum_by}
 use Rattle.std.proofs.lemmas.Grind.{common_steps}
 use Rattle.std.proofs.lemmas.List.Sums.{count_by-le-length}
 use Rattle.sdd_store.specs.Time.{waiting_count}
+use Rattle.sdd_places.proofs.Stakes.{home-unlent}
 use Rattle.sdd_base.specs.World.{is_loose}
 use Rattle.sdd_world.proofs.inside.Core.new.Goals as goal
 
@@ -13,4 +14,5 @@ invariant_of-result g c =
       reserved = grind (arith, common_steps);
       empty = grind (arith, common_steps);
       homes = grind (arith, common_steps);
+      unlent = λ k. rw (c.in_ok-slots.ensures.stakes.0) (home-unlent c.args.slots c.args.participants k);
     }

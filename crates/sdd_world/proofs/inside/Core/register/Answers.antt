@@ -24,7 +24,13 @@ sound : {T : Type 0} (holds : T → List Holding) (t u : Time) (s : Slots T) (c 
     MatchResult answer (λ p. IsVacant t p × (u ≡ time.registered t p)) (λ _. u ≡ t) → IsSound holds t s c → IsSound holds u s c
 sound holds t u s c (Ok p) h i =
     let a = registered-adds t p in
-    rw h.1 (record { counted = omega (arith, i.counted, a.waiting); reserved = a.room ∙ i.reserved; empty = i.empty; homes = i.homes })
+    rw h.1 (record {
+      counted = omega (arith, i.counted, a.waiting);
+      reserved = a.room ∙ i.reserved;
+      empty = i.empty;
+      homes = i.homes;
+      unlent = i.unlent;
+    })
 sound holds t u s c (Err e) h i = rw h i
 
 pub invariant_of-self : goal.invariant_of-self
