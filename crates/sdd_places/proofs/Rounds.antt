@@ -1,11 +1,11 @@
 -- A value's rounds: its stakes are lent and come back, its round begins and ends. Assumes `Logic`.
-use Rattle.std.proofs.Common.{◌≡◌, inl, inr, ℕ, zero, suc, ◌+◌, ◌-◌, ◌^◌, ◌<◌, ◌≤◌, List, [], ◌∷◌, length, sym, refl, subst, arith}
+use Rattle.std.proofs.Common.{◌≡◌, ◌⊎◌, inl, inr, ℕ, zero, suc, ◌+◌, ◌-◌, ◌^◌, ◌<◌, ◌≤◌, List, [], ◌∷◌, length, sym, refl, subst, arith}
 use Rattle.std.specs.Prelude.{Option, None, Some, slice_index_or, slice_set}
 use lib.ListN.{length-set}
 use seplogic.Ra.Ura.{Ura}
 use base.Fraction.{full_share}
 use base.FractionLaws.{Counts, Counts-all}
-use base.Logic.{SProp, ent, sep, ex, id⊢}
+use base.Logic.{SProp, ent, sep, ex, guard, guard_i, never, never_e, id⊢, via}
 use base.Fml.{Incl, Incl-trans, Lft, Share, Fml, ftrue, fex, fdead, flft, flent, fshr_bor}
 use types.Logic.{Logic, sem}
 use types.Kit.{‵, ◌⊛◌, some as exists, later, ◌$◌, ◌∵◌, !, qed, by, move, keep, drop, use1, use2, use3, split, split3, join, fsplit, fjoin, fpick, fpack, pick, show, frame, rewrite, updating, await, now, done}
@@ -22,6 +22,7 @@ use Rattle.atomic_table.specs.Seated.{fact}
 use Rattle.sdd_token.specs.Units.{tokens}
 use Rattle.sdd_token.proofs.Steps.{tokens_in, tokens_cut, tokens_glue}
 use Rattle.sdd_token.proofs.Counting.{counts-whole}
+use Rattle.std.proofs.lemmas.Bool.{cases_eq as same-place}
 use Rattle.sdd_places.specs.Block.{AreHome, IsFreeFor, lasts_in, stake, stakes_of, rest, shared, held, spot}
 
 pub home_set : (stakes : List (Option ℕ)) (r : ℕ) → AreHome stakes → AreHome (slice_set stakes r None)
@@ -116,6 +117,21 @@ module _ {M : Type 1} {𝓤 : Ura M} (𝓛 : Logic 𝓤) where
   pub tokens_whole : (a : ℕ) → ⟦ tokens a (2 ^ 63) ⟧ ⊢ ⟦ flft (a ∷ []) full_share ⟧
   tokens_whole a = qed 𝓛 (‵ (tokens a (2 ^ 63)) ∷ []) ∵ fpick ! (λ e. fpick ! (λ c.
       by ! (subst (λ (x : Share). ⟦ flft (a ∷ []) e ⟧ ⊢ ⟦ flft (a ∷ []) x ⟧) (counts-whole e c) (id⊢ 𝓤 ⟦ flft (a ∷ []) e ⟧))))
+
+  -- a round that lasts is another than one that has ended
+  pub other_round : (a n : ℕ) → ⟦ flft (n ∷ []) full_share ⟧ ∗ ⟦ fdead (a ∷ []) ⟧
+      ⊢ guard 𝓤 (n ≡ a → ⊥) (⟦ flft (n ∷ []) full_share ⟧ ∗ ⟦ fdead (a ∷ []) ⟧)
+  other_round a n = by_name (same-place n a)
+    where
+      Both : ℕ → Pr
+      Both m = ⟦ flft (m ∷ []) full_share ⟧ ∗ ⟦ fdead (a ∷ []) ⟧
+
+      Other : Pr
+      Other = guard 𝓤 (n ≡ a → ⊥) (Both n)
+
+      by_name : (n ≡ a) ⊎ (n ≡ a → ⊥) → Both n ⊢ Other
+      by_name (inl e) = subst (λ (m : ℕ). Both m ⊢ Other) (sym e) (via 𝓤 (never 𝓤) (𝓛.lfts.lft-dead (a ∷ []) full_share) (never_e 𝓤 Other))
+      by_name (inr other) = guard_i 𝓤 (n ≡ a → ⊥) (Both n) other
 
   pub all_tokens : (a : ℕ) (stakes : List (Option ℕ)) → AreHome stakes → length stakes < 2 ^ 63
       → ⟦ tokens a (rest stakes) ⟧ ∗ ⟦ stakes_of a stakes ⟧ ⊢ ⟦ flft (a ∷ []) full_share ⟧

@@ -2,6 +2,8 @@
 use Rattle.std.proofs.Common.{◌≡◌, ◌⊎◌, inl, inr, ℕ, zero, suc, ◌<◌, List, [], ◌∷◌, length, refl, sym, ap, ◌∙◌, subst, arith}
 use Rattle.std.specs.Prelude.{Option, None, Some, replicate, slice_index_or, slice_set}
 use lib.ListN.{length-set, length-replicate}
+pub use Rattle.std.proofs.lemmas.List.{get_or-set_same as set-there, get_or-set_other as set-elsewhere}
+pub use Rattle.std.proofs.lemmas.Bool.{cases_eq as same-place}
 use Rattle.sdd_places.specs.Block.{stake_at, IsHome, IsFreeFor, AllLent, lent, settled, unlent}
 use Rattle.sdd_places.specs.Places.{AreStakes}
 
@@ -13,18 +15,6 @@ some-is-none : {X : Type 0} (x : X) → Some x ≡ None → ⊥
 some-is-none {X} x e = subst (λ (o : Option X). IsFilled o) e tt
 
 -- ---- one list
-pub set-there : {X : Type 0} (xs : List X) (i : ℕ) (y d : X) → i < length xs → slice_index_or (slice_set xs i y) i d ≡ y
-set-there [] i y d near = absurd (omega arith)
-set-there (x ∷ xs) zero y d near = refl
-set-there (x ∷ xs) (suc i) y d near = set-there xs i y d (omega arith)
-
-pub set-elsewhere : {X : Type 0} (xs : List X) (i k : ℕ) (y d : X) → (k ≡ i → ⊥) → slice_index_or (slice_set xs i y) k d ≡ slice_index_or xs k d
-set-elsewhere [] i k y d other = refl
-set-elsewhere (x ∷ xs) zero zero y d other = absurd (other refl)
-set-elsewhere (x ∷ xs) zero (suc k) y d other = refl
-set-elsewhere (x ∷ xs) (suc i) zero y d other = refl
-set-elsewhere (x ∷ xs) (suc i) (suc k) y d other = set-elsewhere xs i k y d (λ e. other (ap suc e))
-
 home-there : (row : List (Option ℕ)) (r : ℕ) → slice_index_or (slice_set row r None) r None ≡ None
 home-there [] r = refl
 home-there (s ∷ row) zero = refl
@@ -44,16 +34,6 @@ row-settled : (r k : ℕ) (ss : List (List (Option ℕ))) → slice_index_or (se
 row-settled r k [] = refl
 row-settled r zero (s ∷ ss) = refl
 row-settled r (suc k) (s ∷ ss) = row-settled r k ss
-
-pub same-place : (i j : ℕ) → (i ≡ j) ⊎ (i ≡ j → ⊥)
-same-place zero zero = inl refl
-same-place zero (suc j) = inr (λ e. absurd (omega (arith, e)))
-same-place (suc i) zero = inr (λ e. absurd (omega (arith, e)))
-same-place (suc i) (suc j) = by_pred (same-place i j)
-  where
-    by_pred : (i ≡ j) ⊎ (i ≡ j → ⊥) → (suc i ≡ suc j) ⊎ (suc i ≡ suc j → ⊥)
-    by_pred (inl e) = inl (ap suc e)
-    by_pred (inr n) = inr (λ e. n (omega (arith, e)))
 
 -- ---- stakes
 pub home-unlent : (n m at : ℕ) → IsHome (unlent n m) at

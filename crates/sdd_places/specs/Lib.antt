@@ -5,3 +5,4 @@ pub mod Places
 pub mod Tenures
 pub mod Room
 pub mod Hall
+pub mod Sight

@@ -44,11 +44,6 @@ impl<T> Block<T> {
         Strip { ptr }
     }
 
-    /// The values stay where they are for good, and are forgotten.
-    pub(crate) fn leak(self) {
-        let Block { ptr: _ } = self;
-    }
-
     /// A value, for as long as the block isn't changed.
     pub fn get(&self, at: usize) -> &T
         requires { at < length self.now.values }

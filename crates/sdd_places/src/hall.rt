@@ -2,8 +2,9 @@
 //!
 //! It shows how a space keeps that law in its invariant, and what the law gives: a look asks only for a guard of the space, and a value can be taken
 //! when nobody has a guard.
-ghost use Rattle.std.specs.Prelude.{◌≡◌, ◌-◌, ◌<◌, ℕ, IsSome, None, Some, length, slice_set};
-ghost use Rattle.sdd_places.specs.Block.{stake_at};
+ghost use Rattle.std.specs.Prelude.{◌≡◌, ◌≢◌, ◌-◌, ◌<◌, ℕ, IsSome, None, Some, length, slice_set};
+ghost use Rattle.sdd_places.specs.Block.{IsHome, stake_at};
+ghost use Rattle.sdd_places.specs.Tenures.{kept_at};
 ghost use Rattle.sdd_places.specs.Hall.{value_in, kept_in};
 
 use crate::places::Places;
@@ -28,12 +29,27 @@ impl<T> Model for Hall<T> {
 }
 
 impl<T> Hall<T> {
+    /// A space of these places and readers. Nothing is lent, and nobody has a part of a tenure.
+    pub fn new(places: Places<T>, tenures: Tenures) -> Hall<T>
+        requires readers { places.readers ≡ tenures.home.size }
+        requires count { length tenures.kept ≡ tenures.home.size }
+        requires home { (at : ℕ) → IsHome places.stakes at }
+        requires whole { (reader : ℕ) → reader < tenures.home.size → (kept_at tenures reader).units ≡ WHOLE }
+        ensures places { result.places ≡ places }
+        ensures tenures { result.tenures ≡ tenures }
+    {
+        Hall { places, tenures }
+    }
+
     /// A guard of a reader that has none.
     pub fn open(&mut self, reader: usize) -> Tenure
         requires inside { reader < self.old.tenures.home.size }
         requires closed { (kept_in self.old reader).kind ≡ Stage.Closed }
         ensures home { result.home ≡ self.old.tenures.home }
         ensures number { result.number ≡ reader }
+        ensures open { result.kind ≡ Stage.Open }
+        ensures kept { kept_in self.new reader ≡ record (kept_in self.old reader) { kind = Stage.Open; units = WHOLE - 1 } }
+        ensures others { (other : ℕ) → other ≢ reader → kept_in self.new other ≡ kept_in self.old other }
         ensures places { self.new.places ≡ self.old.places }
         ensures space { self.new.tenures.home ≡ self.old.tenures.home }
     {
@@ -64,6 +80,9 @@ impl<T> Hall<T> {
         requires only { (kept_in self.old reader).units ≡ WHOLE - 1 }
         ensures values { self.new.places.values ≡ self.old.places.values }
         ensures home { (at : ℕ) → stake_at self.new.places.stakes at reader ≡ None }
+        ensures closed { (kept_in self.new reader).kind ≡ Stage.Closed }
+        ensures others { (other : ℕ) → other ≢ reader → kept_in self.new other ≡ kept_in self.old other }
+        ensures space { self.new.tenures.home ≡ self.old.tenures.home }
     {
         self.tenures.join(reader, guard);
         let ended = self.tenures.end(reader);
@@ -81,4 +100,18 @@ impl<T> Hall<T> {
     {
         self.places.take(at)
     }
+}
+
+/// A reader looks at a value and closes its guard. Then nobody has a guard, and the value is taken.
+pub fn takes_after_a_look<T>(hall: &mut Hall<T>, reader: usize, at: usize) -> T
+    requires inside { (at < length hall.old.places.values) × (reader < hall.old.tenures.home.size) }
+    requires filled { IsSome (value_in hall.old at) }
+    requires closed { (other : ℕ) → (kept_in hall.old other).kind ≡ Stage.Closed }
+    ensures value { value_in hall.old at ≡ Some result }
+    ensures taken { hall.new.places.values ≡ slice_set hall.old.places.values at None }
+{
+    let guard = hall.open(reader);
+    let _ = hall.look(at, reader, &guard);
+    hall.close(reader, guard);
+    hall.take(at)
 }

@@ -10,8 +10,10 @@
 //!
 //! Stakes and tenures exist for proofs alone: they take no bytes, and beside the look itself no instruction runs for them.
 //!
-//! Below stands a block of values of any kind, which is proved by hand, as is the memory that it lies in. The modules [`example`] and [`hall`] show
-//! the use.
+//! - A [`Sight`] shows a value or nothing. A reference to one is a single word that can be copied, for a pointer that may be null.
+//!
+//! Below stands a block of values of any kind, which is proved by hand, as is the memory that it lies in. The modules [`example`], [`hall`] and
+//! [`seen`] show the use.
 #![tactic(auto)]
 
 mod block;
@@ -19,10 +21,13 @@ pub mod example;
 pub mod hall;
 mod places;
 mod room;
+pub mod seen;
+mod sight;
 mod strip;
 mod tenure;
 mod tenures;
 
 pub use places::Places;
+pub use sight::Sight;
 pub use tenure::{Ended, end_round};
 pub use tenures::{Stage, Tenure, Tenures};

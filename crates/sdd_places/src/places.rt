@@ -180,17 +180,4 @@ impl<T> Places<T> {
         } = self;
         hold.release(&alloc, block.into_strip());
     }
-
-    /// Lets go of the places, whatever is lent of them. The memory stays taken for good, and the values are forgotten.
-    pub fn leak(self) {
-        let Places {
-            block,
-            size: _,
-            readers: _,
-            hold,
-            alloc: _,
-        } = self;
-        block.leak();
-        hold.leak();
-    }
 }

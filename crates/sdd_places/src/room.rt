@@ -73,15 +73,6 @@ impl<T, A: Allocator> Hold<T, A> {
             alloc.deallocate(ptr as *mut u8, len * size_of::<T>(), align_of::<T>());
         }
     }
-
-    /// The block stays taken for good.
-    pub(crate) fn leak(self) {
-        let Hold {
-            ptr: _,
-            len: _,
-            by: _,
-        } = self;
-    }
 }
 
 unsafe impl<T, A: Allocator + Send> Send for Hold<T, A> {}

@@ -1,5 +1,5 @@
 //! The end of a tenure.
-ghost use Rattle.std.specs.Prelude.{◌≡◌, ℕ};
+ghost use Rattle.std.specs.Prelude.{◌≡◌, ◌≢◌, ℕ};
 ghost use Rattle.sdd_places.specs.Tenure.{ended_owns, ended_shares};
 
 use sdd_token::{Part, WHOLE};
@@ -24,6 +24,7 @@ pub fn end_round<K>(tenure: &mut Part<K>) -> Ended
     requires { tenure.old.units ≡ WHOLE }
     ensures ended { result.name ≡ tenure.old.round }
     ensures next { tenure.new ≡ record tenure.old { round = tenure.new.round } }
+    ensures another { tenure.new.round ≢ tenure.old.round }
 {
     let _ = tenure;
     Ended { of: PhantomData }

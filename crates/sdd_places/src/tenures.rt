@@ -1,5 +1,5 @@
 //! The tenures of the readers of one space, each a number of a book, whose round is the tenure's lifetime.
-ghost use Rattle.std.specs.Prelude.{◌≡◌, ◌+◌, ◌-◌, ◌<◌, ◌≤◌, ℕ, IfOk, length, slice_set};
+ghost use Rattle.std.specs.Prelude.{◌≡◌, ◌≢◌, ◌+◌, ◌-◌, ◌<◌, ◌≤◌, ℕ, IfOk, length, slice_set};
 ghost use Rattle.sdd_places.specs.Tenures.{kept_at, whole};
 
 use crate::tenure::{Ended, end_round};
@@ -71,6 +71,7 @@ impl Tenures {
         ensures part_home { result.home ≡ self.old.home }
         ensures part_number { result.number ≡ reader }
         ensures part_round { result.round ≡ (kept_at self.old reader).round }
+        ensures part_kind { result.kind ≡ (kept_at self.old reader).kind }
         ensures part_units { result.units ≡ 1 }
     {
         self.parts[reader].split(1)
@@ -112,6 +113,7 @@ impl Tenures {
         ensures ended { result.name ≡ (kept_at self.old reader).round }
         ensures home { self.new.home ≡ self.old.home }
         ensures kept { (next : ℕ) × (self.new.kept ≡ slice_set self.old.kept reader (whole Stage.Closed next)) }
+        ensures another { (kept_at self.new reader).round ≢ (kept_at self.old reader).round }
     {
         let kept = &mut self.parts[reader];
         kept.set(&Stage::Closed, &());

@@ -75,11 +75,6 @@ none-at [] h k = refl
 none-at (x ∷ xs) h zero = is-none x (h zero x (omega arith))
 none-at (x ∷ xs) h (suc k) = none-at xs (λ j o l. h (suc j) o (omega arith)) k
 
--- what is behind a `&` is there where the `&` is
-pub copied-some : {X : Type 0} (o : Option (Bor X)) → is_some (option_copied o) ≡ is_some o
-copied-some None = refl
-copied-some (Some x) = refl
-
 -- slots that are all free
 pub all-free : {T : Type 0} (home : Home) (n : ℕ) → home.size ≡ n → AreKept {T = T} home (replicate n (whole kind.Free)) (replicate n None) (replicate n None)
 all-free {T} home n e = record {

@@ -1,5 +1,5 @@
 ghost use Rattle.sdd_places.specs.Block.{IsHome, IsFreeFor, stake_at, lent, settled, unlent};
-ghost use Rattle.std.specs.Prelude.{ℕ, ◌≡◌, ◌<◌, ◌≤◌, ◌↔◌, All, IfErr, IfNone, IfOk, IfSome, IsNone, IsSome, IsTrue, MatchResult, None, OnErr, OnSome, Some, length, option_copied, replicate};
+ghost use Rattle.std.specs.Prelude.{ℕ, ◌≡◌, ◌<◌, ◌≤◌, ◌↔◌, All, IfErr, IfNone, IfOk, IfSome, IsNone, IsSome, IsTrue, MatchResult, None, OnErr, OnSome, Some, length, replicate};
 ghost use Rattle.sdd_token.specs.Right.{number_of, home_of};
 ghost use Rattle.sdd_store.specs.Table.{IsEmptyAt, IsFull};
 ghost use Rattle.sdd_slots.specs.Slots.{standing_at, value_at, with_made, with_retired, without_slot, IsWaiting};
@@ -93,22 +93,22 @@ impl<T> Slots<T> {
         Ok(self.rights.grant(slot))
     }
 
+    /// The slot of an owner, in which its value is.
+    pub fn slot_of(&self, right: &Right) -> u32
+        requires { home_of right.now ≡ self.now.home }
+        ensures slot { result ≡ number_of right.now }
+        ensures owned { standing_at self.now result ≡ Some Standing.Owned }
+    {
+        self.rights.agrees(right);
+        right.number()
+    }
+
     /// The value of an owner.
     pub fn value<'a>(&'a self, right: &Right) -> &'a T
         requires { home_of right.now ≡ self.now.home }
         ensures value { value_at self.now (number_of right.now) ≡ Some result.now }
-        ensures owned { standing_at self.now (number_of right.now) ≡ Some Standing.Owned }
     {
-        self.rights.agrees(right);
-        self.places.value(right.number() as usize)
-    }
-
-    /// The value in a slot, if one is there: unless the slot is free, or is none of these.
-    pub fn look(&self, slot: u32) -> Option<&T>
-        ensures value { option_copied result ≡ value_at self.now slot }
-        ensures taken { IsSome result ↔ IsSome (standing_at self.now slot) }
-    {
-        self.places.get(slot as usize)
+        self.places.value(self.slot_of(right) as usize)
     }
 
     /// The value of an owner waits to be reclaimed, in the slot that comes back.

@@ -5,6 +5,7 @@ use Rattle.std.specs.List.{list_all}
 use Rattle.std.proofs.lemmas.List.{append-nil, append_assoc}
 use Rattle.std.proofs.Math.Nat.{eq-or-lt_of_le}
 use Rattle.std.proofs.Math.Seq.{map-set_same}
+pub use Rattle.std.proofs.lemmas.Bool.{cases_eq as same-or-not}
 use Rattle.std.proofs.lemmas.List.{length-set, length-map, length-append, get_or-set_same, get_or-set_other, map-append, set_comm, set-set}
 use Rattle.std.proofs.lemmas.List.Sums.{sum_by-set}
 use Rattle.std.proofs.lemmas.List.Elements.{All-append, All-map, All-nil, Contains-append_left, Contains-append_right}
@@ -16,16 +17,6 @@ use Rattle.sdd_store.specs.Bags.{Bags}
 use Rattle.sdd_store.specs.declared.phases.Phase.{Phase}
 use Rattle.sdd_store.specs.declared.phases.Phase.TheVariants.{Live, Ended}
 use Rattle.sdd_store.specs.declared.time.Participant.{Participant}
-
-same-or-not-suc : (j k : ℕ) → (j ≡ k) ⊎ (j ≢ k) → (suc j ≡ suc k) ⊎ (suc j ≢ suc k)
-same-or-not-suc j k (inl e) = inl (ap suc e)
-same-or-not-suc j k (inr h) = inr (λ e. h (omega (arith, e)))
-
-pub same-or-not : (j k : ℕ) → (j ≡ k) ⊎ (j ≢ k)
-same-or-not zero zero = inl refl
-same-or-not zero (suc k) = inr (λ e. absurd (omega (arith, e)))
-same-or-not (suc j) zero = inr (λ e. absurd (omega (arith, e)))
-same-or-not (suc j) (suc k) = same-or-not-suc j k (same-or-not j k)
 
 -- which phase it is
 live-is : (x : Option Phase) → is_live x ≡ true → x ≡ Some Live
@@ -56,7 +47,7 @@ live-apart t p q l h e =
     let other : phase_at t p ≡ Some Ended = ap (λ (n : ℕ). phase_at t n) e ∙ ended-is (phase_at t q) h in
     absurd (cc)
 
-none-there : (xs : Entries Phase) (k : ℕ) → slice_index_or (slice_set xs k None) k None ≡ None
+pub none-there : {E : Type 0} (xs : List (Option E)) (k : ℕ) → slice_index_or (slice_set xs k None) k None ≡ None
 none-there [] k = refl
 none-there (x ∷ xs) zero = refl
 none-there (x ∷ xs) (suc k) = none-there xs k
@@ -395,13 +386,14 @@ keeps-put : (t : Time) (p : ℕ) (x : Participant) → p < length t.places → x
 keeps-put t p x l e =
     let one = sum_by-set waiting_count t.places p x nobody l in
     let same : waiting_count x ≡ waiting_count (place_at t p) = ap (λ (b : Bags). length b.waiting) e in
-    record { places = length-set t.places p x; lives = refl; nesting = refl; room = refl; waiting = omega (arith, one, same) }
+    record { places = length-set t.places p x; lives = refl; participants = refl; nesting = refl; room = refl; waiting = omega (arith, one, same) }
 
 keeps-then : {t u v : Time} → KeepsPlaces t u → KeepsPlaces u v → KeepsPlaces t v
 keeps-then a b =
     record {
       places = b.places ∙ a.places;
       lives = b.lives ∙ a.lives;
+      participants = b.participants ∙ a.participants;
       nesting = b.nesting ∙ a.nesting;
       room = b.room ∙ a.room;
       waiting = b.waiting ∙ a.waiting;
@@ -414,6 +406,7 @@ keeps-scans s =
     record {
       places = ap (λ (ps : List Participant). length ps) places ∙ a.places;
       lives = ap (λ (v : Time). lives v) s.is ∙ a.living;
+      participants = ap (λ (v : Time). v.participants) s.is ∙ ap (λ (v : Time). v.participants) a.only;
       nesting = ap (λ (v : Time). v.nesting) s.is ∙ ap (λ (v : Time). v.nesting) a.only;
       room = ap (λ (v : Time). v.room) s.is ∙ ap (λ (v : Time). v.room) a.only;
       waiting = ap (λ (ps : List Participant). sum_by waiting_count ps) places ∙ a.totals (λ (ws : List Waiting). length ws) waiting-total;
@@ -427,7 +420,7 @@ keeps-last t p l true =
     let scans = (place_at t p).countdown == 0 in
     let u : Time = if scans then scanned t p else t in
     keeps-left t u p (rested t.marked (place_at u p)) l (scans-if t p l scans) refl
-keeps-last t p l false = record { places = refl; lives = refl; nesting = refl; room = refl; waiting = refl }
+keeps-last t p l false = record { places = refl; lives = refl; participants = refl; nesting = refl; room = refl; waiting = refl }
 
 keeps-closed-if : (t : Time) (p : ℕ) → IsLive t p → (b : Bool) → nat_lt 1 (place_at t p).guards ≡ b → KeepsPlaces t (closed t p)
 keeps-closed-if t p l true e = rw e (keeps-put t p (record (place_at t p) { guards = (place_at t p).guards - 1 }) l.0 refl)

@@ -233,6 +233,7 @@ pub record IsTimely (places : List Participant) (phases : Phases) (marked : Bool
 pub record KeepsPlaces (old new : Time) : Type 0 where
   pub places : length new.places ≡ length old.places
   pub lives : lives new ≡ lives old
+  pub participants : new.participants ≡ old.participants
   pub nesting : new.nesting ≡ old.nesting
   pub room : new.room ≡ old.room
   pub waiting : sum_by waiting_count new.places ≡ sum_by waiting_count old.places

@@ -187,7 +187,7 @@ impl Time {
     }
 
     /// The place has ended, and what it left was not adopted yet.
-    pub fn is_ended(&self, place: usize) -> bool
+    fn is_ended(&self, place: usize) -> bool
         requires { place < length self.now.places }
         ensures { result ≡ is_ended (phase_at self.now place) }
     {

@@ -1,13 +1,15 @@
 -- A round ends by all its tokens, and another begins.
-use Rattle.sdd_token.proofs.Names.{◌≡◌, [], ◌∷◌, refl, List, ℕ, ◌^◌, sym, a_type, named, Val, vptr, inst_fn, SProp, emp, ‵, raw, ◌⊛◌, later, await, ◌$◌, ◌∵◌, !, qed, by, keep, split, fjoin, use0, use1, move, fsplit, fsplit3, fjoin3, join, feq_i, rewrite, no_more, and_then, returns, enter, alloc_all, pass_all, free_all, look_at, get, sets, agg, tables, RattleType, owns, types_at, plain, nothing, opens, closes, heard, param, layouts, Stays, stay_ref, walk_of, Goes-ref, fact, fact_i, ftrue, Fml, fsep, flft, Lft, mut_vals, mut_Tells, proved, leaves, token_val, Gv, full_share}
+use Rattle.sdd_token.proofs.Names.{◌≡◌, [], ◌∷◌, refl, List, ℕ, ◌^◌, sym, a_type, named, Val, vptr, inst_fn, SProp, emp, ‵, raw, ◌⊛◌, later, await, ◌$◌, ◌∵◌, !, qed, by, keep, split, fjoin, use0, use1, use2, move, fsplit, fsplit3, fjoin3, join, feq_i, rewrite, no_more, and_then, returns, enter, alloc_all, pass_all, free_all, look_at, get, sets, agg, tables, RattleType, owns, types_at, plain, nothing, opens, closes, heard, param, layouts, Stays, stay_ref, walk_of, Goes-ref, fact, fact_i, ftrue, Fml, fsep, flft, Lft, mut_vals, mut_Tells, proved, leaves, token_val, Gv, full_share}
 use base.FractionLaws.{Counts-all}
+use base.Fml.{fdead}
+use types.Kit.{given, learn}
 use types.Tokens.{lft_new, lft_end}
 use Rattle.sdd_token.specs.Units.{units, told, tokens}
 use Rattle.sdd_token.proofs.Steps.{sets_all, tokens_in}
 use Rattle.sdd_token.specs.contracts.part.Part as part
 use Rattle.sdd_places.specs.contracts.tenure.Ended as over
 use Rattle.sdd_places.proofs.Fields.{Sign, sign_made}
-use Rattle.sdd_places.proofs.Rounds.{tokens_whole}
+use Rattle.sdd_places.proofs.Rounds.{tokens_whole, other_round}
 use Rattle.sdd_places.specs.contracts.tenure.end_round.{ended, clauses}
 use Rattle.sdd_places.specs.contracts.tenure.end_round.Key.{name as #self}
 use Rattle.sdd_places.proofs.tenure.end_round.Statement.{statement}
@@ -30,6 +32,7 @@ end_round_spec 𝓤 𝓛 𝓜 𝓡 wired X L =
     opens ! tt Row b o (λ vs. move ! (1 ∷ []) $ fsplit ! $ move ! (1 ∷ []) $ fsplit ! $
     rewrite ! 0 (λ (m : ℕ). ‵ (units γ i g m)) asked refl $ move ! (1 ∷ []) $ rewrite ! 0 (λ (m : ℕ). ‵ (tokens d.round m)) asked refl $
     use1 𝓛 (‵ (flft (d.round ∷ []) full_share)) (tokens_whole 𝓛 d.round) $ lft_end ! tt $ lft_new ! tt (λ n.
+    use2 𝓛 (given (n ≡ d.round → ⊥) (‵ (flft (n ∷ []) full_share) ⊛ ‵ (fdead (d.round ∷ [])))) (other_round 𝓛 d.round n) $ learn ! (λ another. split ! $
     let h : Gv = told R.coded n d.kind d.shown in let d' : Row.Denot = record d { round = n } in let r : Er.Denot = record { of = record {}; name = d.round } in
     use1 𝓛 (‵ (tokens n (2 ^ 63))) (tokens_in 𝓛 n (2 ^ 63) full_share (Counts-all 63)) $ rewrite ! 0 (λ (m : ℕ). ‵ (tokens n m)) (sym asked) refl $
     -- [the new tokens; the end; the units; the field; the cell; ..]
@@ -40,6 +43,7 @@ end_round_spec 𝓤 𝓛 𝓜 𝓡 wired X L =
     feq_i ! (List Val) (vptr b o ∷ []) (vptr b o ∷ []) refl $ fjoin3 ! $ nothing ! $ move ! (1 ∷ 0 ∷ []) $ fjoin ! $
     -- [the part; its token; the end; the others]
     move ! (1 ∷ 3 ∷ []) $ join ! $ move ! (2 ∷ []) $ use0 𝓛 (‵ (Sign.own_val (tt, tt) (token_val ∷ []))) (sign_made 𝓛) $ fjoin ! $
-    use0 𝓛 (raw (fact 𝓤 (d' ≡ d'))) (fact_i 𝓤 (d' ≡ d') (emp 𝓤) refl) $ use0 𝓛 (raw (fact 𝓤 (r.name ≡ d.round))) (fact_i 𝓤 (r.name ≡ d.round) (emp 𝓤) refl) $
-    join ! $
-    returns ! (look_at ! 0 refl) $ free_all ! refl $ keep ! (2 ∷ 3 ∷ 1 ∷ 0 ∷ []) $ by ! (leaves 𝓛 En hs c y token_val r (d', tt) (tt, tt)))))))
+    use0 𝓛 (raw (fact 𝓤 (n ≡ d.round → ⊥))) (fact_i 𝓤 (n ≡ d.round → ⊥) (emp 𝓤) another) $
+    use0 𝓛 (raw (fact 𝓤 (d' ≡ d'))) (fact_i 𝓤 (d' ≡ d') (emp 𝓤) refl) $ join ! $
+    use0 𝓛 (raw (fact 𝓤 (r.name ≡ d.round))) (fact_i 𝓤 (r.name ≡ d.round) (emp 𝓤) refl) $ join ! $
+    returns ! (look_at ! 0 refl) $ free_all ! refl $ keep ! (2 ∷ 3 ∷ 1 ∷ 0 ∷ []) $ by ! (leaves 𝓛 En hs c y token_val r (d', tt) (tt, tt))))))))

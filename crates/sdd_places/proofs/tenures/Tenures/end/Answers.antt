@@ -2,7 +2,9 @@ use Rattle.std.proofs.Common.{◌≡◌, ◌<◌, List, length, slice_index_or, 
 use Rattle.std.specs.Prelude.{map}
 use Rattle.sdd_places.specs.declared.tenures.Stage.TheVariants.{Closed}
 use Rattle.sdd_places.specs.Tenures.{Kept, whole, kept_of}
-use Rattle.sdd_places.proofs.Keeping.{kept-changed}
+use Rattle.sdd_token.specs.declared.part.Part.{Part}
+use Rattle.sdd_places.specs.declared.tenures.Stage.{Stage}
+use Rattle.sdd_places.proofs.Keeping.{kept-changed, another-round}
 use Rattle.sdd_places.proofs.tenures.Tenures.end.Goals as goal
 
 pub returns-clause-kept : goal.returns-clause-kept
@@ -19,3 +21,11 @@ returns-clause-kept c =
           ∙ (λ i. record { kind = (set i).kind; round = c.end_round.new.tenure.round; units = (set i).units })
           ∙ (λ i. record { kind = Closed; round = c.end_round.new.tenure.round; units = all i }))),
     )
+
+pub returns-clause-another : goal.returns-clause-another
+returns-clause-another c =
+    let size = c.self.invariant.size in
+    let sizes : c.self.inside.book.home.size ≡ c.args.self.now.home.size = (λ i. (c.self.view_is i).home.size) in
+    let inside : c.args.reader < length c.self.inside.parts.items = omega (arith, size, sizes, c.requires.inside) in
+    rw (← c.self.view_is) (another-round _ _ _ _ inside c.index_mut-kept.ensures.value (λ same.
+    c.end_round.ensures.another (same ∙ sym (ap (λ (p : Part Stage). p.round) c.set.ensures))))

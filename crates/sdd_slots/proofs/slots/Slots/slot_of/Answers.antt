@@ -1,0 +1,5 @@
+use Rattle.sdd_slots.proofs.SlotsKept.{owned-there}
+use Rattle.sdd_slots.proofs.slots.Slots.slot_of.Goals as goal
+
+pub returns-clause-owned : goal.returns-clause-owned
+returns-clause-owned g c = rw (← c.self.view_is) (owned-there c.number.result c.self.invariant (rw c.number.ensures c.agrees.ensures.kind))
