@@ -260,7 +260,7 @@ registered-at : (t : Time) (p q : ℕ) → q < length t.places → q ≢ p → (
 registered-at t p q l apart true e = rw e (get_or-set_other t.places p q (newcomer t.room) nobody apart)
 registered-at t p q l apart false e = rw e (get_or-append t.places (newcomer t.room ∷ []) nobody q l)
 
-vacant-apart : (t : Time) (p q : ℕ) → IsTaken t q → IsVacant t p → q ≢ p
+pub vacant-apart : (t : Time) (p q : ℕ) → IsTaken t q → IsVacant t p → q ≢ p
 vacant-apart t p q l (inl empty) e = l.taken (ap (λ (n : ℕ). phase_at t n) e ∙ empty.1)
 vacant-apart t p q l (inr next) e = absurd (omega (arith, l.there, next.0, e))
 
@@ -364,14 +364,16 @@ ended-lives t p q apart l =
 -- no more waits, and the limits are as before
 pub record AddsNothing (old new : Time) : Type 0 where
   pub waiting : sum_by waiting_count new.places ≤ sum_by waiting_count old.places
+  pub participants : new.participants ≡ old.participants
   pub room : new.room ≡ old.room
 
 registered-nothing : (t : Time) (p : ℕ) → (b : Bool) → nat_lt p (length t.places) ≡ b → AddsNothing t (time.registered t p)
 registered-nothing t p true e =
     let l : p < length t.places = grind (arith, nat_tests, e) in
     let one = sum_by-set waiting_count t.places p (newcomer t.room) nobody l in
-    rw e (record { waiting = omega (arith, one); room = refl })
-registered-nothing t p false e = rw e (record { waiting = omega (arith, sum_by-append waiting_count t.places (newcomer t.room ∷ [])); room = refl })
+    rw e (record { waiting = omega (arith, one); participants = refl; room = refl })
+registered-nothing t p false e =
+    rw e (record { waiting = omega (arith, sum_by-append waiting_count t.places (newcomer t.room ∷ [])); participants = refl; room = refl })
 
 pub registered-adds : (t : Time) (p : ℕ) → AddsNothing t (time.registered t p)
 registered-adds t p = registered-nothing t p (nat_lt p (length t.places)) refl

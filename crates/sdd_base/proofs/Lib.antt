@@ -7,6 +7,7 @@ pub mod Closes
 pub mod Adopted
 pub mod Entries
 pub mod Under
+pub mod Safe
 pub mod Four
 pub mod Out
 pub mod Left

@@ -1,5 +1,5 @@
 -- What an opening makes of each slot and each participant
-use Rattle.std.proofs.Common.{◌≡◌, ◌≢◌, ◌⊎◌, inl, inr, ℕ, ◌+◌, ◌<◌, ◌≤◌, List, [], ◌∷◌, length, cond, Bool, refl, sym, ap, ◌∙◌, arith, true, false, Some, None, Option, zero, suc, slice_index_or, slice_set}
+use Rattle.std.proofs.Common.{◌≡◌, ◌≢◌, ◌⊎◌, inl, inr, ℕ, ◌+◌, ◌<◌, ◌≤◌, List, [], ◌∷◌, length, cond, Bool, refl, sym, ap, ◌∙◌, arith, true, false, Some, None, Option}
 use Rattle.std.specs.Prelude.{◌==◌, not, Contains}
 use Rattle.std.proofs.lemmas.List.Elements.{Contains-append_left}
 use Rattle.std.proofs.lemmas.List.{length-set, get_or-set_same, get_or-set_other}
@@ -22,6 +22,7 @@ use Rattle.sdd_base.specs.Whole.{is_of_slot}
 use Rattle.sdd_base.proofs.Own.{Gives-all_reclaimed}
 use Rattle.sdd_base.proofs.Whole.{count-cons, times_among}
 use Rattle.sdd_store.proofs.Adopting.{same-or-not}
+pub use Rattle.sdd_store.proofs.Adopting.{none-there as none-here}
 
 -- What is kept by the retirement of an item that is out, and by the freeing of a cell, is kept by all giving.
 module _ {T : Type 0} (p : ℕ) (P : World T → Type 0)
@@ -54,11 +55,6 @@ module _ {T : Type 0} (p : ℕ) (P : World T → Type 0)
 pub record Stands {T : Type 0} (k : ℕ) (s : Option Standing) (v : Option T) (w : World T) : Type 0 where
   pub standing : standing_at w k ≡ s
   pub value : value_at w k ≡ v
-
-pub none-here : {E : Type 0} (xs : List (Option E)) (k : ℕ) → slice_index_or (slice_set xs k None) k None ≡ None
-none-here [] k = refl
-none-here (x ∷ xs) zero = refl
-none-here (x ∷ xs) (suc k) = none-here xs k
 
 -- among what is reclaimed is the slot's item first, or later
 among-cons : (k : ℕ) (x : What) (xs : List What) → (b : Bool) → is_of_slot k x ≡ b → times_among k (x ∷ xs) ≡ cond b 1 0 + times_among k xs
@@ -235,7 +231,7 @@ module _ {T : Type 0} (holds : T → List Holding) (w : World T) (p : ℕ) where
       let y : Participant = time.nested (place_at w p) in
       omega (arith, l, length-set w.time.places p y, length-set (steps.nested w p).time.places p (time.rotated w.time.count (place_at (steps.nested w p) p)))
 
-  due-here : p < length w.time.places → due_next (place_at (steps.nested w p) p) ≡ due_next (place_at w p)
+  pub due-here : p < length w.time.places → due_next (place_at (steps.nested w p) p) ≡ due_next (place_at w p)
   due-here l = ap (λ (x : Participant). due_next x) (nested-here l)
 
   -- each slot

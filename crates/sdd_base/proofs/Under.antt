@@ -201,7 +201,27 @@ module _ {T : Type 0} where
     under-closes v p k r l o u (inr h) =
         (record { guarded = o; standing = u.standing; holder = r; seen = 0; waits = h.1; safe = omega arith }, refl)
 
-    one-call : (p k : ℕ) {v w : World T} → Calls holds v w → IsWhole v → IsUnder v p k → IsTrue (is_open (place_at w p)) → IsWhole w × KeptUnder v w p k
+    -- the retirement of another item, to a place that is there
+    pub under-retires : (v : World T) (p k r j : ℕ) → r < length v.time.places → standing_at v j ≡ Some Owned → (u : IsUnder v p k) →
+        IsTrue (is_open (place_at (retired v r j) p)) → KeptUnder v (retired v r j) p k
+    under-retires v p k r j l there u o =
+        let apart : k ≢ j = λ e. absurd (no-owner (sym u.standing ∙ ap (λ (n : ℕ). standing_at v n) e ∙ there)) in
+        let on = persists-given (j ∷ []) (place_at v r) in
+        kept v (retired v r j) p k u o (record { standing = get_or-set_other v.standings j k (Some Retired) None apart ∙ u.standing; value = refl })
+        (persists-place v.time r p (time.awaiting (Item j) (place_at v r)) l on)
+        (persists-place v.time r u.holder (time.awaiting (Item j) (place_at v r)) l on)
+
+    -- what is under a guard is among nobody's due
+    pub under-not-due : (w : World T) (p k r : ℕ) → r < length w.time.places → IsWhole w → (u : IsUnder w p k) → times_among k (reclaims w r) ≡ 0
+    under-not-due w p k r l i u = elim (how holds w r l) [
+      | inl n ↦ ap (λ xs. times_among k xs) n.none
+      | inr c ↦ elim (same-or-not r u.holder) [
+        | inl e ↦ not-due w k r u.holder u.seen i u.waits (inl e) (λ _. holder-young w p k u i (subst (λ (m : ℕ). IsChange holds w m) e c)) (sym c.due)
+        | inr apart ↦ not-due w k r u.holder u.seen i u.waits (inr apart) (λ e. absurd (apart e)) (sym c.due)
+      ]
+    ]
+
+    pub one-call : (p k : ℕ) {v w : World T} → Calls holds v w → IsWhole v → IsUnder v p k → IsTrue (is_open (place_at w p)) → IsWhole w × KeptUnder v w p k
     one-call p k (registers v r vacant) i u o =
         let same : (q : ℕ) → IsTaken v.time q → Persists (place_at v q) (place_at (registered v r) q) =
         λ q taken. Persists-same (place_at v q) (place_at (registered v r) q) (registered-keeps v.time r q taken vacant) in (
@@ -232,14 +252,7 @@ module _ {T : Type 0} where
               })
               (record { found = refl; waits = λ w h. h }) (record { found = refl; waits = λ w h. h }),
         )
-    one-call p k (retires v r j l there) i u o =
-        let apart : k ≢ j = λ e. absurd (no-owner (sym u.standing ∙ ap (λ (n : ℕ). standing_at v n) e ∙ there)) in
-        let on = persists-given (j ∷ []) (place_at v r) in (
-          Whole-retires v r j (live-taken v.time r l) there i,
-          kept v (retired v r j) p k u o (record { standing = get_or-set_other v.standings j k (Some Retired) None apart ∙ u.standing; value = refl })
-              (persists-place v.time r p (time.awaiting (Item j) (place_at v r)) l.0 on)
-              (persists-place v.time r u.holder (time.awaiting (Item j) (place_at v r)) l.0 on),
-        )
+    one-call p k (retires v r j l there) i u o = (Whole-retires v r j (live-taken v.time r l) there i, under-retires v p k r j l.0 there u o)
     one-call p k (nulls v c empty) i u o = (
       Whole-nulled v c i,
       kept v (nulled v c) p k u o (record { standing = u.standing; value = refl }) (record { found = refl; waits = λ w h. h })
@@ -293,10 +306,10 @@ module _ {T : Type 0} where
     pub keeps-under-guards : (w : World T) → IsWhole w → KeepsUnderGuards holds w
     keeps-under-guards w i = λ p q k o l there new path.
         let end = all-calls p k path (Whole-retires w q k (live-taken w.time q l) there i) (under-retired w p q k o l.0 there) in
-        (end.1.0.standing, end.1.1)
+        (end.1.0, end.1.1)
 
     pub keeps-fresh-under-guards : (w : World T) → IsWhole w → KeepsFreshUnderGuards holds w
     keeps-fresh-under-guards w i = λ p q k o waits there new path.
         let under : IsUnder w p k = record { guarded = o; standing = there; holder = q; seen = 0; waits = waits; safe = omega arith } in
         let end = all-calls p k path i under in
-        (end.1.0.standing, end.1.1)
+        (end.1.0, end.1.1)

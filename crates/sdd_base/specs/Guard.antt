@@ -1,6 +1,13 @@
 -- Whose guard it is
 use Rattle.std.specs.Prelude.{ℕ}
+use Rattle.sdd_token.specs.Units as token
 use Rattle.sdd_base.specs.declared.guard.Guard.{Guard}
 
-abbrev pub place_of : Guard → ℕ
-place_of g = g.place
+-- a reader of values: its number, and where that is numbered. Each participant is another reader
+pub record Reader : Type 0 where
+  pub home : token.Home
+  pub number : ℕ
+
+-- the reader whose guard it is
+abbrev pub reader_of : Guard → Reader
+reader_of g = record { home = g.part.home; number = g.part.number }

@@ -2,10 +2,11 @@
 use Rattle.std.specs.Prelude.{ℕ, List, [], ◌∷◌, ◌≡◌, Option, None, Some, slice_index_or}
 use Rattle.sdd_token.specs.Units as token
 
--- where the slots and the cells of a world or domain are numbered: no two have the same home
+-- where the slots, the cells and the readers of a world or domain are numbered: no two have the same home
 pub record Home : Type 0 where
   pub slots : token.Home
   pub cells : token.Home
+  pub readers : token.Home
 
 -- one owner or cell: its number, and where that is numbered
 pub data Holding : Type 0 where

@@ -8,6 +8,7 @@ pub mod Ptr
 pub mod Guard
 pub mod Owned
 pub mod Limits
+pub mod Lending
 pub mod Whole
 pub mod Out
 pub mod Calls

@@ -4,6 +4,7 @@ use Rattle.sdd_store.specs.Time.{lives}
 use Rattle.sdd_store.specs.declared.time.Participant.{Participant}
 use Rattle.sdd_base.specs.World.{World}
 use Rattle.sdd_base.specs.Holding.{Home}
+use Rattle.sdd_base.specs.Guard.{Reader}
 
 pub record Seat : Type 0 where
   pub place : ℕ
@@ -13,6 +14,8 @@ pub record Seat : Type 0 where
   pub live : Bool
   pub loan : ℕ
   pub home : Home
+  -- whose guards are the participant's
+  pub reader : Reader
   pub nesting : ℕ
   pub exact : Bool
   pub lone : Bool
@@ -33,6 +36,10 @@ IsLone s = IsTrue s.lone
 abbrev pub MayNest : Seat → Participant → Type 0
 MayNest s p = p.guards < s.nesting
 
+-- whose guards are those of a place of a world
+abbrev pub reader_at : {T : Type 0} → World T → ℕ → Reader
+reader_at w place = record { home = w.home.readers; number = place }
+
 -- a place of a world, on this loan: nobody else can change the world meanwhile
 abbrev pub seat_on : {T : Type 0} → World T → ℕ → ℕ → Seat
 seat_on w place loan = record {
@@ -42,6 +49,7 @@ seat_on w place loan = record {
   live = slice_index_or (lives w.time) place false;
   loan = loan;
   home = w.home;
+  reader = reader_at w place;
   nesting = w.time.nesting;
   exact = true;
   lone = false;

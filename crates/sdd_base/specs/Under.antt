@@ -1,5 +1,5 @@
 -- What can't go while a guard is open
-use Rattle.std.specs.Prelude.{ℕ, ◌+◌, ◌-◌, ◌≤◌, ◌≡◌, IsTrue, List, Some, min}
+use Rattle.std.specs.Prelude.{ℕ, ◌+◌, ◌-◌, ◌≤◌, ◌≡◌, ◌⊎◌, IsTrue, List, Some, min}
 use Rattle.sdd_store.specs.Time.{is_open}
 use Rattle.sdd_store.specs.declared.standing.Standing.TheVariants.{Owned, Retired}
 use Rattle.sdd_base.specs.Holding.{Holding}
@@ -7,6 +7,7 @@ use Rattle.sdd_base.specs.World.{World, place_at, standing_at, value_at, IsPlace
 use Rattle.sdd_base.specs.Steps.{retired}
 use Rattle.sdd_base.specs.Calls.{Calls}
 use Rattle.sdd_base.specs.Left.{Waits}
+use Rattle.sdd_base.specs.Out.{is_out}
 
 -- how many changes q can make while the guard stays open that p published: at most one for this count, if q has not found it yet, and one for the next
 abbrev pub more : {T : Type 0} → World T → (p q : ℕ) → ℕ
@@ -21,18 +22,27 @@ pub record IsUnder {T : Type 0} (w : World T) (p k : ℕ) : Type 0 where
   pub waits : Waits w holder k seen
   pub safe : seen + more w p holder ≤ 2
 
+-- while p's guard is open the slot's item can't go: it is out, or waits and can't see a third change
+abbrev pub Stays : {T : Type 0} → World T → (p k : ℕ) → Type 0
+Stays w p k = IsTrue (is_out (standing_at w k)) ⊎ IsUnder w p k
+
+-- and p's guard is open
+pub record IsSafe {T : Type 0} (w : World T) (p k : ℕ) : Type 0 where
+  pub guarded : IsTrue (is_open (place_at w p))
+  pub stays : Stays w p k
+
 module _ {T : Type 0} (holds : T → List Holding) where
   -- calls, one after another, while a guard of p is open all along
   pub data CallsUnder (p : ℕ) : World T → World T → Type 0 where
     none : (w : World T) → IsTrue (is_open (place_at w p)) → CallsUnder p w w
     more_calls : (u v w : World T) → CallsUnder p u v → Calls holds v w → IsTrue (is_open (place_at w p)) → CallsUnder p u w
 
-  -- the law: an item that is retired while a guard of p is open is in its slot, with its value, as long as that guard is
+  -- the law: an item that is retired while a guard of p is open waits in its slot, with its value, as long as that guard is, and can't go
   abbrev pub KeepsUnderGuards : World T → Type 0
   KeepsUnderGuards w = (p q k : ℕ) → IsTrue (is_open (place_at w p)) → IsPlaceOf w q → standing_at w k ≡ Some Owned →
-      (new : World T) → CallsUnder p (retired w q k) new → (standing_at new k ≡ Some Retired) × (value_at new k ≡ value_at w k)
+      (new : World T) → CallsUnder p (retired w q k) new → IsUnder new p k × (value_at new k ≡ value_at w k)
 
   -- the same of every item that has seen no change of its holder yet, as each one when it begins to wait: retired by its owner, or given up by a value
   abbrev pub KeepsFreshUnderGuards : World T → Type 0
   KeepsFreshUnderGuards w = (p q k : ℕ) → IsTrue (is_open (place_at w p)) → Waits w q k 0 → standing_at w k ≡ Some Retired →
-      (new : World T) → CallsUnder p w new → (standing_at new k ≡ Some Retired) × (value_at new k ≡ value_at w k)
+      (new : World T) → CallsUnder p w new → IsUnder new p k × (value_at new k ≡ value_at w k)

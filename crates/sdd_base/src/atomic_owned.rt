@@ -53,7 +53,7 @@ impl<T: Item<T>> AtomicOwned<T> {
         ensures exact { IsExact (S.seat s.old) → MatchResult result
             (λ cell. IsEmptyAt (S.world s.old).cells (cell_of cell) × (S.world s.new ≡ nulled (S.world s.old) (cell_of cell)))
             (λ e. IsFull (S.world s.old).cells × (e ≡ Refused.NoCell) × (S.world s.new ≡ S.world s.old)) }
-        ensures keeps { KeepsShown (S.shows s.old) (S.filled s.old) (S.shows s.new) (S.filled s.new) }
+        ensures keeps { KeepsShown (S.shows s.old) (S.shows s.new) }
     {
         s.make_cell()
     }
@@ -66,7 +66,7 @@ impl<T: Item<T>> AtomicOwned<T> {
         ensures own { IsSpilled (S.own s.old) (S.own s.new) }
         ensures known { KnowsOn (S.known s.old) (S.known s.new) }
         ensures exact { IsExact (S.seat s.old) → S.world s.new ≡ cell_closed (S.world s.old) (S.seat s.old).place (cell_of self) }
-        ensures keeps { KeepsShown (S.shows s.old) (S.filled s.old) (S.shows s.new) (S.filled s.new) }
+        ensures keeps { KeepsShown (S.shows s.old) (S.shows s.new) }
     {
         s.close_cell(self);
     }

@@ -1,29 +1,38 @@
-ghost use Rattle.std.specs.Prelude.{◌≡◌, ◌%◌, MatchResult, IfOk, IsTrue};
-ghost use Rattle.sdd_core.specs.Epoch.{epoch_of};
-ghost use Rattle.sdd_base.specs.World.{World, place_at};
-ghost use Rattle.sdd_base.specs.Seat.{IsSeated, IsExact, IsLone, MayNest};
-ghost use Rattle.sdd_base.specs.Own.{IsOpened, IsClosed};
-ghost use Rattle.sdd_base.specs.Known.{KnowsOn, KnowsOpened, KnowsClosed, IsNear, IsRaisedBy};
-ghost use Rattle.sdd_base.specs.Ptr.{KeepsShown};
-ghost use Rattle.sdd_base.specs.Guard.{place_of};
-ghost use Rattle.sdd_base.specs.Steps.{opened, closed, stirred, accelerated};
-ghost use Rattle.sdd_store.specs.Time.{CanNest, is_open, with_garbage, has_garbage};
-ghost use Rattle.sdd_store.specs.Time as time;
+ghost use Rattle.std.specs.Prelude.{◌≡◌};
+ghost use Rattle.sdd_places.specs.declared.tenures.Stage.{Stage};
 
 use crate::item::Item;
 use crate::space::Guards;
 use sdd_core::inner::epoch_of_count;
 use sdd_core::{Epoch, Refused};
+use sdd_places::{Stage, Tenure};
 
 /// An open guard: its participant has published a count, and a scan gives up while this count is behind.
 ///
-/// It must be spent by `close`. Guards of one participant nest.
-#[derive(Debug)]
+/// It must be spent by `close`. Guards of one participant nest, and share what their pointers show. A guard has no bytes.
+#[derive_where(Debug)]
 pub struct Guard {
-    place: usize,
+    #[derive_where(skip)]
+    part: Tenure,
+    pub ghost open: { part.kind ≡ Stage.Open },
+    pub ghost single: { part.units ≡ 1 },
 }
 
+const _: () = prove!(size_of::<Guard>() == 0);
+
 impl Guard {
+    ghost use Rattle.std.specs.Prelude.{◌≡◌, ◌%◌, MatchResult, IfOk, IsTrue};
+    ghost use Rattle.sdd_core.specs.Epoch.{epoch_of};
+    ghost use Rattle.sdd_base.specs.World.{World, place_at};
+    ghost use Rattle.sdd_base.specs.Seat.{IsSeated, IsExact, IsLone, MayNest};
+    ghost use Rattle.sdd_base.specs.Own.{IsOpened, IsClosed};
+    ghost use Rattle.sdd_base.specs.Known.{KnowsOn, KnowsOpened, KnowsClosed, IsNear, IsRaisedBy};
+    ghost use Rattle.sdd_base.specs.Ptr.{KeepsShown};
+    ghost use Rattle.sdd_base.specs.Guard.{reader_of};
+    ghost use Rattle.sdd_base.specs.Steps.{opened, closed, stirred, accelerated};
+    ghost use Rattle.sdd_store.specs.Time.{CanNest, is_open, with_garbage, has_garbage};
+    ghost use Rattle.sdd_store.specs.Time as time;
+
     /// Opens a guard. An outermost one publishes the count of epochs that it finds; if that is another than the participant found before, what
     /// waits with it has seen one change more, and what has seen three is reclaimed.
     ///
@@ -32,7 +41,7 @@ impl Guard {
     pub fn new<T: Item<T>, S: Guards<T>>(s: &mut S) -> Result<Guard, Refused>
         requires seated { IsSeated (S.seat s.old) }
         ensures seat { S.seat s.new ≡ S.seat s.old }
-        ensures place { IfOk result (λ guard. place_of guard ≡ (S.seat s.old).place) }
+        ensures reader { IfOk result (λ guard. reader_of guard ≡ (S.seat s.old).reader) }
         ensures own { MatchResult result
             (λ _. MayNest (S.seat s.old) (S.own s.old) × IsOpened (S.own s.old) (S.own s.new))
             (λ e. (e ≡ Refused.TooManyGuards) × ¬ (MayNest (S.seat s.old) (S.own s.old)) × (S.own s.new ≡ S.own s.old)) }
@@ -43,32 +52,45 @@ impl Guard {
         ensures exact { IsExact (S.seat s.old) → MatchResult result
             (λ _. CanNest (S.world s.old).time (S.seat s.old).place × (S.world s.new ≡ opened T.holds (S.world s.old) (S.seat s.old).place))
             (λ e. (e ≡ Refused.TooManyGuards) × ¬ (CanNest (S.world s.old).time (S.seat s.old).place) × (S.world s.new ≡ S.world s.old)) }
-        ensures keeps { IsTrue (is_open (S.own s.old)) → KeepsShown (S.shows s.old) (S.filled s.old) (S.shows s.new) (S.filled s.new) }
+        ensures keeps { IsTrue (is_open (S.own s.old)) → KeepsShown (S.shows s.old) (S.shows s.new) }
     {
-        let place = s.open_guard()?;
-        Ok(Guard { place })
+        s.open_guard()
     }
 
-    pub(crate) fn place(&self) -> usize
-        ensures { result ≡ place_of self.now }
+    pub(crate) fn of_part(part: Tenure) -> Guard
+        requires open { part.kind ≡ Stage.Open }
+        requires single { part.units ≡ 1 }
+        ensures { result.part ≡ part }
     {
-        self.place
+        Guard { part }
+    }
+
+    pub(crate) fn into_part(self) -> Tenure
+        ensures { result ≡ self.part }
+    {
+        let Guard { part } = self;
+        part
+    }
+
+    pub(crate) fn part(&self) -> &Tenure
+        ensures { result.now ≡ self.now.part }
+    {
+        &self.part
     }
 
     /// Closes the guard. The outermost close at countdown 0, as `accelerate` sets it, first tries to raise the count.
     #[inline]
     pub fn close<T: Item<T>, S: Guards<T>>(self, s: &mut S)
         requires seated { IsSeated (S.seat s.old) }
-        requires place { place_of self ≡ (S.seat s.old).place }
+        requires reader { reader_of self ≡ (S.seat s.old).reader }
         ensures seat { S.seat s.new ≡ S.seat s.old }
         ensures own { IsClosed (S.own s.old) (S.own s.new) }
         ensures known { KnowsClosed (S.known s.old) (S.known s.new) (S.own s.new) }
         ensures lone { IsLone (S.seat s.old) → IsRaisedBy (S.own s.old) (S.known s.old).told (S.known s.new).told }
         ensures exact { IsExact (S.seat s.old) → S.world s.new ≡ closed (S.world s.old) (S.seat s.old).place }
-        ensures keeps { IsTrue (is_open (S.own s.new)) → KeepsShown (S.shows s.old) (S.filled s.old) (S.shows s.new) (S.filled s.new) }
+        ensures keeps { IsTrue (is_open (S.own s.new)) → KeepsShown (S.shows s.old) (S.shows s.new) }
     {
-        let Guard { place: _ } = self;
-        s.close_guard();
+        s.close_guard(self);
     }
 
     /// The global epoch at this moment, which isn't always the one that the guard published. Under one open guard it is the one answered before, or the next.
@@ -82,7 +104,7 @@ impl Guard {
         ensures near { IsNear (S.own s.new) (S.known s.new) }
         ensures lone { IsLone (S.seat s.old) → (S.known s.new).told ≡ (S.known s.old).told }
         ensures exact { IsExact (S.seat s.old) → (result ≡ epoch_of (S.world s.old).time.count) × (S.world s.new ≡ S.world s.old) }
-        ensures keeps { KeepsShown (S.shows s.old) (S.filled s.old) (S.shows s.new) (S.filled s.new) }
+        ensures keeps { KeepsShown (S.shows s.old) (S.shows s.new) }
     {
         epoch_of_count(s.count())
     }
@@ -106,7 +128,7 @@ impl Guard {
         ensures known { KnowsOn (S.known s.old) (S.known s.new) }
         ensures lone { IsLone (S.seat s.old) → S.known s.new ≡ S.known s.old }
         ensures exact { IsExact (S.seat s.old) → S.world s.new ≡ stirred (S.world s.old) (S.seat s.old).place }
-        ensures keeps { KeepsShown (S.shows s.old) (S.filled s.old) (S.shows s.new) (S.filled s.new) }
+        ensures keeps { KeepsShown (S.shows s.old) (S.shows s.new) }
     {
         s.stir();
     }
@@ -120,7 +142,7 @@ impl Guard {
         ensures known { KnowsOn (S.known s.old) (S.known s.new) }
         ensures lone { IsLone (S.seat s.old) → S.known s.new ≡ S.known s.old }
         ensures exact { IsExact (S.seat s.old) → S.world s.new ≡ accelerated (S.world s.old) (S.seat s.old).place }
-        ensures keeps { KeepsShown (S.shows s.old) (S.filled s.old) (S.shows s.new) (S.filled s.new) }
+        ensures keeps { KeepsShown (S.shows s.old) (S.shows s.new) }
     {
         s.accelerate();
     }

@@ -2,6 +2,7 @@ ghost use Rattle.std.specs.Prelude.{◌≡◌, List, []};
 ghost use Rattle.sdd_store.specs.declared.time.Participant.{Participant};
 ghost use Rattle.sdd_base.specs.Holding.{Holding, AreOf};
 ghost use Rattle.sdd_base.specs.World.{World};
+ghost use Rattle.sdd_base.specs.Lending.{Lending};
 ghost use Rattle.sdd_base.specs.Seat.{Seat, IsSeated, IsExact};
 ghost use Rattle.sdd_base.specs.Own.{GrowsOn};
 ghost use Rattle.sdd_base.specs.Steps.{given, given_all};
@@ -18,6 +19,8 @@ pub trait Giver<I> {
     ghost seat: { Self → Seat };
     /// What the participant that reclaims keeps of its own.
     ghost own: { Self → Participant };
+    /// What is lent of the values: no call changes it.
+    ghost lending: { Self → Lending };
 
     /// Retires the owner's item.
     fn owned(&mut self, owner: Owned<I>)
@@ -25,6 +28,7 @@ pub trait Giver<I> {
         requires home { slots_home owner ≡ (seat self.old).home.slots }
         ensures seat { seat self.new ≡ seat self.old }
         ensures own { GrowsOn (own self.old) (own self.new) }
+        ensures lending { lending self.new ≡ lending self.old }
         ensures exact { IsExact (seat self.old) → world self.new ≡ given (world self.old) (seat self.old).place (holding_of owner) };
 
     /// Frees the cell, and retires what it held.
@@ -33,6 +37,7 @@ pub trait Giver<I> {
         requires home { cells_home cell ≡ (seat self.old).home.cells }
         ensures seat { seat self.new ≡ seat self.old }
         ensures own { GrowsOn (own self.old) (own self.new) }
+        ensures lending { lending self.new ≡ lending self.old }
         ensures exact { IsExact (seat self.old) → world self.new ≡ given (world self.old) (seat self.old).place (cell_holding cell) };
 }
 
@@ -49,6 +54,7 @@ pub trait Item<I>: Sized {
         requires home { AreOf (G.seat giver.old).home (holds self) }
         ensures seat { G.seat giver.new ≡ G.seat giver.old }
         ensures own { GrowsOn (G.own giver.old) (G.own giver.new) }
+        ensures lending { G.lending giver.new ≡ G.lending giver.old }
         ensures exact { IsExact (G.seat giver.old) → G.world giver.new ≡ given_all (G.world giver.old) (G.seat giver.old).place (holds self) };
 }
 

@@ -1,4 +1,4 @@
-ghost use Rattle.std.specs.Prelude.{◌≡◌, IfOk, MatchResult, Some, None, slice_index_or};
+ghost use Rattle.std.specs.Prelude.{◌≡◌, IfOk, IfSome, IsSome, MatchResult, Some, None, slice_index_or};
 ghost use Rattle.sdd_token.specs.Right.{number_of, home_of};
 ghost use Rattle.sdd_base.specs.Holding.{AreOf};
 ghost use Rattle.sdd_base.specs.World.{World, standing_at};
@@ -7,7 +7,8 @@ ghost use Rattle.sdd_base.specs.Known.{KnowsOn};
 ghost use Rattle.sdd_base.specs.Steps.{made, retired};
 ghost use Rattle.sdd_base.specs.Owned.{slot_of, slots_home};
 ghost use Rattle.sdd_core.specs.declared.tag.Tag.TheVariants.{None as no_tag};
-ghost use Rattle.sdd_base.specs.Ptr.{slot_named, tag_of, KeepsShown};
+ghost use Rattle.sdd_base.specs.Ptr.{slot_named, shown_by, tag_of, KeepsShown};
+ghost use Rattle.sdd_base.specs.Guard.{reader_of};
 ghost use Rattle.sdd_store.specs.Table.{IsEmptyAt, IsFull};
 ghost use Rattle.sdd_store.specs.Time as time;
 ghost use Rattle.sdd_store.specs.Waiting.What.{Item};
@@ -62,25 +63,44 @@ impl<T> Owned<T> {
     {
         at.value(&self.right)
     }
-
-    /// The item's value, good while the guard is open, also after the item was retired.
-    pub fn get_guarded_ref<'g, L: Look<T>>(&self, guard: &'g Guard, at: &'g L) -> &'g T
-        requires home { slots_home self.now ≡ (L.home at.now).slots }
-        ensures shown { L.shows at.now (slot_of self.now) result.now }
-    {
-        at.guarded(&self.right, guard)
-    }
-
-    /// A pointer to the item, good while the guard is open, also after the item was retired.
-    pub fn get_guarded_ptr<'g>(&self, guard: &'g Guard) -> Ptr<'g, T>
-        ensures slot { slot_named result ≡ Some (slot_of self.now) }
-        ensures tag { tag_of result ≡ no_tag }
-    {
-        Ptr::to(self.right.number(), guard)
-    }
 }
 
 impl<T: Item<T>> Owned<T> {
+    /// The item's value, for as long as the guard is borrowed, also after the item was retired. The guard is one of the participant that calls.
+    pub fn get_guarded_ref<'g, S: Space<T>>(&self, guard: &'g Guard, s: &mut S) -> &'g T
+        requires seated { IsSeated (S.seat s.old) }
+        requires home { slots_home self.now ≡ (S.seat s.old).home.slots }
+        requires reader { reader_of guard.now ≡ (S.seat s.old).reader }
+        ensures seat { S.seat s.new ≡ S.seat s.old }
+        ensures own { S.own s.new ≡ S.own s.old }
+        ensures known { KnowsOn (S.known s.old) (S.known s.new) }
+        ensures shown { S.shows s.new (slot_of self.now) result.now }
+        ensures exact { IsExact (S.seat s.old) → S.world s.new ≡ S.world s.old }
+        ensures keeps { KeepsShown (S.shows s.old) (S.shows s.new) }
+    {
+        s.guarded(&self.right, guard)
+    }
+
+    /// A pointer to the item, which shows its value for as long as the guard is borrowed, also after the item was retired. The guard is one of the
+    /// participant that calls.
+    pub fn get_guarded_ptr<'g, S: Space<T>>(&self, guard: &'g Guard, s: &mut S) -> Ptr<'g, T>
+        requires seated { IsSeated (S.seat s.old) }
+        requires home { slots_home self.now ≡ (S.seat s.old).home.slots }
+        requires reader { reader_of guard.now ≡ (S.seat s.old).reader }
+        ensures seat { S.seat s.new ≡ S.seat s.old }
+        ensures own { S.own s.new ≡ S.own s.old }
+        ensures known { KnowsOn (S.known s.old) (S.known s.new) }
+        ensures slot { slot_named result ≡ Some (slot_of self.now) }
+        ensures tag { tag_of result ≡ no_tag }
+        ensures shown { IfSome (shown_by result) (S.shows s.new (slot_of self.now)) }
+        ensures full { IsSome (shown_by result) }
+        ensures exact { IsExact (S.seat s.old) → S.world s.new ≡ S.world s.old }
+        ensures keeps { KeepsShown (S.shows s.old) (S.shows s.new) }
+    {
+        let value = s.guarded(&self.right, guard);
+        Ptr::to(self.right.number(), value)
+    }
+
     /// Puts a value into a free slot.
     ///
     /// `NoSlot` where none is free; the value comes back.
@@ -95,7 +115,7 @@ impl<T: Item<T>> Owned<T> {
         ensures exact { IsExact (S.seat s.old) → MatchResult result
             (λ owner. IsEmptyAt (S.world s.old).standings (slot_of owner) × (S.world s.new ≡ made (S.world s.old) (slot_of owner) value))
             (λ e. IsFull (S.world s.old).standings × (e ≡ (value, Refused.NoSlot)) × (S.world s.new ≡ S.world s.old)) }
-        ensures keeps { KeepsShown (S.shows s.old) (S.filled s.old) (S.shows s.new) (S.filled s.new) }
+        ensures keeps { KeepsShown (S.shows s.old) (S.shows s.new) }
     {
         s.make(value)
     }
@@ -119,7 +139,7 @@ impl<T: Item<T>> Owned<T> {
             (λ owner. IsEmptyAt (S.world s.old).standings (slot_of owner) ×
             ((value : T) × F.post f value × (S.world s.new ≡ made (S.world s.old) (slot_of owner) value)))
             (λ e. IsFull (S.world s.old).standings × (e ≡ (f, Refused.NoSlot)) × (S.world s.new ≡ S.world s.old)) }
-        ensures keeps { KeepsShown (S.shows s.old) (S.filled s.old) (S.shows s.new) (S.filled s.new) }
+        ensures keeps { KeepsShown (S.shows s.old) (S.shows s.new) }
     {
         s.make_with(f)
     }
@@ -133,7 +153,7 @@ impl<T: Item<T>> Owned<T> {
         ensures owned { IsExact (S.seat s.old) → standing_at (S.world s.old) (slot_of self) ≡ Some Standing.Owned }
         ensures known { KnowsOn (S.known s.old) (S.known s.new) }
         ensures exact { IsExact (S.seat s.old) → S.world s.new ≡ retired (S.world s.old) (S.seat s.old).place (slot_of self) }
-        ensures keeps { KeepsShown (S.shows s.old) (S.filled s.old) (S.shows s.new) (S.filled s.new) }
+        ensures keeps { KeepsShown (S.shows s.old) (S.shows s.new) }
     {
         s.retire(self);
     }

@@ -1,24 +1,35 @@
-ghost use Rattle.std.specs.Prelude.{◌≡◌, ◌↔◌, Option, None, Some, IsTrue, MatchOption};
-ghost use Rattle.sdd_core.specs.declared.tag.Tag.TheVariants.{None as no_tag};
-ghost use Rattle.sdd_base.specs.Ptr.{slot_named, tag_of, IsNull, NamesFilled, NamesShown};
+ghost use Rattle.std.specs.Prelude.{◌≡◌, ◌↔◌, IsSome, IsTrue};
 
-use crate::guard::Guard;
 use crate::look::Look;
 use sdd_core::Tag;
+use sdd_places::Sight;
 use std::alloc::AllocError;
-use std::marker::PhantomData;
+use std::fmt::{self, Debug, Formatter};
 
-/// A pointer to an item, or null, with a tag. It is good while its guard is open.
+/// A pointer to an item, or null, with a tag. It shows one value for as long as its guard is borrowed, whatever becomes of the item.
 ///
 /// Two pointers are equal exactly if they name the same slot, or none, and have the same tag.
-#[derive_where(Debug)]
 pub struct Ptr<'g, T> {
-    slot: Option<u32>,
+    /// Of the value that it was made with; of nothing where it is null.
+    sight: &'g Sight<T>,
+    /// 0 where it is null, so that equal pointers have equal fields.
+    slot: u32,
     tag: Tag,
-    #[derive_where(skip)]
-    guard: Option<&'g Guard>,
-    #[derive_where(skip)]
-    of: PhantomData<T>,
+    /// It isn't null.
+    named: bool,
+    pub ghost full: { IsTrue named ↔ IsSome sight.now },
+    pub ghost zero: { ¬ (IsTrue named) → slot ≡ 0 },
+}
+
+const _: () = prove!(size_of::<Ptr<'_, u64>>() == 16);
+
+impl<T> Debug for Ptr<'_, T> {
+    fn fmt<W: fmt::Write>(&self, f: &mut Formatter<W>) -> fmt::Result {
+        f.debug_struct("Ptr")
+            .field("slot", &self.slot())
+            .field("tag", &self.tag)
+            .finish_non_exhaustive()
+    }
 }
 
 impl<'g, T> Clone for Ptr<'g, T> {
@@ -45,7 +56,7 @@ impl<T> PartialEq for Ptr<'_, T> {
     ghost laws = { Prim.search (comparing, rules) };
 
     fn eq(&self, other: &Self) -> bool {
-        self.slot == other.slot && self.tag == other.tag
+        self.named == other.named && self.slot == other.slot && self.tag == other.tag
     }
 }
 
@@ -57,42 +68,59 @@ impl<T> Eq for Ptr<'_, T> {
 }
 
 impl<'g, T> Ptr<'g, T> {
+    ghost use Rattle.std.specs.Prelude.{◌≡◌, ◌↔◌, Option, None, Some, IsSome, IsTrue, option_copied};
+    ghost use Rattle.sdd_core.specs.declared.tag.Tag.TheVariants.{None as no_tag};
+    ghost use Rattle.sdd_base.specs.Ptr.{slot_named, shown_by, tag_of, IsNull};
+
     /// The null pointer, without a tag.
     pub fn null() -> Ptr<'g, T>
         ensures null { IsNull result }
         ensures tag { tag_of result ≡ no_tag }
     {
+        let sight = Sight::none();
         Ptr {
-            slot: None,
+            sight,
+            slot: 0,
             tag: Tag::None,
-            guard: None,
-            of: PhantomData,
+            named: false,
         }
     }
 
-    pub(crate) fn to(slot: u32, guard: &'g Guard) -> Ptr<'g, T>
+    pub(crate) fn to(slot: u32, value: &'g T) -> Ptr<'g, T>
         ensures slot { slot_named result ≡ Some slot }
+        ensures shown { shown_by result ≡ Some value.now }
         ensures tag { tag_of result ≡ no_tag }
     {
+        let sight = Sight::of(value);
         Ptr {
-            slot: Some(slot),
+            sight,
+            slot,
             tag: Tag::None,
-            guard: Some(guard),
-            of: PhantomData,
+            named: true,
+        }
+    }
+
+    pub(crate) fn value(self) -> Option<&'g T>
+        ensures { option_copied result ≡ shown_by self.entry }
+    {
+        if self.named {
+            Some(self.sight.get())
+        } else {
+            None
         }
     }
 
     pub(crate) fn slot(&self) -> Option<u32>
         ensures { result ≡ slot_named self.now }
     {
-        self.slot
+        if self.named { Some(self.slot) } else { None }
     }
 
     /// Null, whatever the tag is.
     pub fn is_null(&self) -> bool
         ensures { IsTrue result ↔ IsNull self.now }
     {
-        self.slot.is_none()
+        !self.named
     }
 
     /// The tag.
@@ -107,6 +135,7 @@ impl<'g, T> Ptr<'g, T> {
         ensures old { result ≡ tag_of self.old }
         ensures tag { tag_of self.new ≡ tag }
         ensures slot { slot_named self.new ≡ slot_named self.old }
+        ensures shown { shown_by self.new ≡ shown_by self.old }
     {
         let old = self.tag;
         self.tag = tag;
@@ -118,6 +147,7 @@ impl<'g, T> Ptr<'g, T> {
         ensures old { result ≡ tag_of self.old }
         ensures tag { tag_of self.new ≡ no_tag }
         ensures slot { slot_named self.new ≡ slot_named self.old }
+        ensures shown { shown_by self.new ≡ shown_by self.old }
     {
         self.set_tag(Tag::None)
     }
@@ -126,6 +156,7 @@ impl<'g, T> Ptr<'g, T> {
     pub fn with_tag(self, tag: Tag) -> Ptr<'g, T>
         ensures tag { tag_of result ≡ tag }
         ensures slot { slot_named result ≡ slot_named self.entry }
+        ensures shown { shown_by result ≡ shown_by self.entry }
     {
         let mut ptr = self;
         ptr.tag = tag;
@@ -136,14 +167,17 @@ impl<'g, T> Ptr<'g, T> {
     pub fn without_tag(self) -> Ptr<'g, T>
         ensures tag { tag_of result ≡ no_tag }
         ensures slot { slot_named result ≡ slot_named self.entry }
+        ensures shown { shown_by result ≡ shown_by self.entry }
     {
         self.with_tag(Tag::None)
     }
 
-    /// The item's value; None for null.
-    pub fn as_ref<L: Look<T>>(&self, at: &'g L) -> Option<&'g T>
-        requires filled { NamesFilled (L.filled at.now) self.now }
-        ensures { MatchOption result (IsNull self.now) (λ value. NamesShown (L.shows at.now) self.now value.now) }
+    /// The value of the item, which is the one that the pointer was made with, whatever was called since; None for null.
+    ///
+    /// Nothing is read of the space.
+    pub fn as_ref<L: Look<T>>(&self, at: &L) -> Option<&'g T>
+        ensures shown { option_copied result ≡ shown_by self.now }
+        ensures null { IsSome result ↔ ¬ (IsNull self.now) }
     {
         at.look(*self)
     }

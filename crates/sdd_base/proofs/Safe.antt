@@ -1,0 +1,202 @@
+-- What is safe from a guard stays so while the guard is open
+use Rattle.std.proofs.Common.{◌≡◌, ◌≢◌, ◌⊎◌, inl, inr, ℕ, ◌+◌, ◌<◌, List, [], ◌∷◌, length, Bool, refl, sym, ap, ◌∙◌, arith, true, false, Some, None, Option, IsTrue, subst, zero, suc}
+use Rattle.std.specs.Prelude.{Contains, ◌≤◌}
+use Rattle.std.proofs.lemmas.List.{get_or-set_same, get_or-set_other, length-set}
+use Rattle.std.proofs.lemmas.List.Elements.{Contains-push, Contains-append_left}
+use Rattle.std.proofs.lemmas.Bool.Decides.{nat_tests}
+use Rattle.sdd_store.specs.Waiting.{What, fresh, having_seen}
+use Rattle.sdd_store.specs.Waiting.What.{Item, Private, Job}
+use Rattle.sdd_store.specs.Time.{nobody, due_next, is_open}
+use Rattle.sdd_store.specs.Time as time
+use Rattle.sdd_store.specs.declared.time.Participant.{Participant}
+use Rattle.sdd_store.specs.declared.standing.Standing.{Standing}
+use Rattle.sdd_store.specs.declared.standing.Standing.TheVariants.{Owned, Raw, Shared, Retired, Private as privately}
+use Rattle.sdd_slots.specs.Slots.{is_waiting}
+use Rattle.sdd_base.specs.World.{World, standing_at, place_at}
+use Rattle.sdd_base.specs.Steps.{made, retired, cell_closed, freed, taken_out, waiting_value, reclaimed, all_reclaimed, changed, opened, reclaims}
+use Rattle.sdd_base.specs.Steps as steps
+use Rattle.sdd_base.specs.Holding.{Holding}
+use Rattle.sdd_base.specs.Whole.{IsWhole, is_of_slot}
+use Rattle.sdd_base.specs.Left.{Waits}
+use Rattle.sdd_base.specs.Out.{is_out}
+use Rattle.sdd_base.specs.Under.{IsUnder, IsSafe}
+use Rattle.sdd_base.specs.Calls.{Calls}
+use Rattle.sdd_base.specs.Calls.Calls.{registers, ends, opens, closes, stirs, accelerates, makes, retires, nulls, closes_cell}
+use Rattle.sdd_base.proofs.Whole.{count-cons, times_among, times-aged}
+use Rattle.sdd_base.proofs.Weights.{in_range}
+use Rattle.sdd_base.proofs.Entries.{one-place}
+use Rattle.sdd_base.proofs.Opening.{keeps-given_all, keeps-cell_closed, how, Nests, IsChange, before, in_before, due-here}
+use Rattle.sdd_base.proofs.Under.{one-call, under-not-due, under-retires}
+use Rattle.sdd_store.proofs.Adopting.{same-or-not}
+
+out-waits-not : (s : Option Standing) → is_out s ≡ true → is_waiting s ≡ false
+out-waits-not None h = refl
+out-waits-not (Some Owned) h = refl
+out-waits-not (Some Raw) h = refl
+out-waits-not (Some (Shared n)) h = refl
+out-waits-not (Some Retired) h = absurd (cc)
+out-waits-not (Some (privately c)) h = absurd (cc)
+
+module _ {T : Type 0} (q k : ℕ) where
+  -- the slot's item is out, or was given up to q, and has seen no change since
+  abbrev IsOutOrFresh : World T → Type 0
+  IsOutOrFresh w = (q < length w.time.places) × ((is_out (standing_at w k) ≡ true) ⊎ ((standing_at w k ≡ Some Retired) × Waits w q k 0))
+
+  waiting-here : (w : World T) (j : ℕ) → q < length w.time.places → place_at (retired w q j) q ≡ time.awaiting (Item j) (place_at w q)
+  waiting-here w j l = get_or-set_same w.time.places q (time.awaiting (Item j) (place_at w q)) nobody l
+
+  still-there : (w : World T) (j : ℕ) → q < length w.time.places → q < length (retired w q j).time.places
+  still-there w j l = omega (arith, l, length-set w.time.places q (time.awaiting (Item j) (place_at w q)))
+
+  retires-out : (w : World T) (j : ℕ) → standing_at w j ≡ Some Owned → q < length w.time.places → is_out (standing_at w k) ≡ true → (k ≡ j) ⊎ (k ≢ j) →
+      IsOutOrFresh (retired w q j)
+  retires-out w j owned l out (inl e) = rw e (
+    still-there w j l,
+    inr (
+      get_or-set_same w.standings j (Some Retired) None (in_range w.standings j Owned owned),
+      subst (λ (x : Participant). Contains x.bags.waiting (having_seen 0 (Item j))) (sym (waiting-here w j l))
+          (Contains-push (place_at w q).bags.waiting (fresh (Item j))),
+    ),
+  )
+  retires-out w j owned l out (inr apart) =
+      (still-there w j l, inl (ap (λ (s : Option Standing). is_out s) (get_or-set_other w.standings j k (Some Retired) None apart) ∙ out))
+
+  retires-keeps : (w : World T) (j : ℕ) → standing_at w j ≡ Some Owned → IsOutOrFresh w → IsOutOrFresh (retired w q j)
+  retires-keeps w j owned (l, inl out) = retires-out w j owned l out (same-or-not k j)
+  retires-keeps w j owned (l, inr h) =
+      let apart : k ≢ j = λ e. let never : Some Retired ≡ Some Owned = sym h.0 ∙ ap (λ (n : ℕ). standing_at w n) e ∙ owned in cc in (
+        still-there w j l,
+        inr (
+          get_or-set_other w.standings j k (Some Retired) None apart ∙ h.0,
+          subst (λ (x : Participant). Contains x.bags.waiting (having_seen 0 (Item k))) (sym (waiting-here w j l))
+              (Contains-append_left (place_at w q).bags.waiting (fresh (Item j) ∷ []) (having_seen 0 (Item k)) h.1),
+        ),
+      )
+
+  closes_cell-keeps : (w : World T) (c : ℕ) → IsOutOrFresh w → IsOutOrFresh (cell_closed w q c)
+  closes_cell-keeps w c h = keeps-cell_closed q IsOutOrFresh (λ u j owned i. retires-keeps u j owned i) (λ u d i. i) w c h
+
+  freed-keeps : (w : World T) (j : ℕ) → k ≢ j → IsOutOrFresh w → IsOutOrFresh (freed w j)
+  freed-keeps w j apart (l, inl out) = (l, inl (ap (λ (s : Option Standing). is_out s) (get_or-set_other w.standings j k None None apart) ∙ out))
+  freed-keeps w j apart (l, inr h) = (l, inr (get_or-set_other w.standings j k None None apart ∙ h.0, h.1))
+
+  module _ (holds : T → List Holding) where
+    taken-keeps : (w : World T) (j : ℕ) → k ≢ j → (v : Option T) → IsOutOrFresh w → IsOutOrFresh (taken_out holds w q j v)
+    taken-keeps w j apart None h = h
+    taken-keeps w j apart (Some v) h =
+        keeps-given_all q IsOutOrFresh (λ u i owned h. retires-keeps u i owned h) (λ u d h. h) (freed w j) (holds v) (freed-keeps w j apart h)
+
+    reclaims-keeps : (w : World T) (x : What) → is_of_slot k x ≡ false → IsOutOrFresh w → IsOutOrFresh (reclaimed holds w q x)
+    reclaims-keeps w (Item j) other h = taken-keeps w j (λ e. absurd (grind (arith, nat_tests, other, e))) (waiting_value w j (standing_at w j)) h
+    reclaims-keeps w (Private j c) other h = taken-keeps w j (λ e. absurd (grind (arith, nat_tests, other, e))) (waiting_value w j (standing_at w j)) h
+    reclaims-keeps w (Job n) other h = h
+
+    reclaims-if : (x : What) (xs : List What) (w : World T) → times_among k (x ∷ xs) ≡ 0 → (b : Bool) → is_of_slot k x ≡ b → IsOutOrFresh w →
+        (times_among k xs ≡ 0) × IsOutOrFresh (reclaimed holds w q x)
+    reclaims-if x xs w none true e h =
+        let all : times_among k (x ∷ xs) ≡ 1 + times_among k xs = count-cons (is_of_slot k) x xs ∙ rw e refl in absurd (omega (arith, none, all))
+    reclaims-if x xs w none false e h =
+        let all : times_among k (x ∷ xs) ≡ 0 + times_among k xs = count-cons (is_of_slot k) x xs ∙ rw e refl in
+        (omega (arith, none, all), reclaims-keeps w x e h)
+
+    all-keeps : (xs : List What) (w : World T) → times_among k xs ≡ 0 → IsOutOrFresh w → IsOutOrFresh (all_reclaimed holds w q xs)
+    all-keeps [] w none h = h
+    all-keeps (x ∷ xs) w none h =
+        let rest = reclaims-if x xs w none (is_of_slot k x) refl h in all-keeps xs (reclaimed holds w q x) rest.0 rest.1
+
+    -- what is out is among nobody's due
+    pub none-due : (w : World T) → IsWhole w → is_out (standing_at w k) ≡ true → times_among k (due_next (place_at w q)) ≡ 0
+    none-due w i out =
+        let waits : is_waiting (standing_at w k) ≡ false = out-waits-not (standing_at w k) out in
+        let once = rw waits at (i.once k) in
+        omega (arith, once, one-place k w.time.places q, times-aged k (place_at w q).bags.waiting)
+
+    settles-keeps : (w : World T) → IsOutOrFresh w → IsOutOrFresh (steps.settled w q)
+    settles-keeps w (l, s) =
+        let x : Participant = time.settled (place_at w q) in
+        let here : place_at (steps.settled w q) q ≡ x = get_or-set_same w.time.places q x nobody l in (
+          omega (arith, l, length-set w.time.places q x),
+          elim s [
+            | inl out ↦ inl out
+            | inr h ↦ inr (h.0, subst (λ (y : Participant). Contains y.bags.waiting (having_seen 0 (Item k))) (sym here) h.1)
+          ],
+        )
+
+    opens-if : (w : World T) → q < length w.time.places → IsWhole w → is_out (standing_at w k) ≡ true → Nests holds w q ⊎ IsChange holds w q →
+        IsOutOrFresh (opened holds w q)
+    opens-if w l i out (inl n) = rw n.nests (omega (arith, l, length-set w.time.places q (time.nested (place_at w q))), inl out)
+    opens-if w l i out (inr c) =
+        let due = due_next (place_at (steps.nested w q) q) in
+        let none : times_among k due ≡ 0 = ap (λ (xs : List What). times_among k xs) (due-here holds w q l) ∙ none-due w i out in
+        rw c.change (settles-keeps (all_reclaimed holds (before holds w q) q due) (all-keeps due (before holds w q) none (in_before holds w q l, inl out)))
+
+    pub opens-keeps : (w : World T) → q < length w.time.places → IsWhole w → is_out (standing_at w k) ≡ true → IsOutOrFresh (opened holds w q)
+    opens-keeps w l i out = opens-if w l i out (how holds w q l)
+
+module _ {T : Type 0} (p k : ℕ) where
+  safe-or : {q : ℕ} (w : World T) → IsTrue (is_open (place_at w p)) → IsOutOrFresh q k w → IsSafe w p k
+  safe-or w o (l, inl out) = record { guarded = o; stays = inl out }
+  safe-or {q} w o (l, inr h) = record {
+    guarded = o;
+    stays = inr (record { guarded = o; standing = h.0; holder = q; seen = 0; waits = h.1; safe = omega arith });
+  }
+
+  safe-out : {w : World T} → IsTrue (is_open (place_at w p)) → is_out (standing_at w k) ≡ true → IsSafe w p k
+  safe-out o out = record { guarded = o; stays = inl out }
+
+  module _ (holds : T → List Holding) where
+    -- what is out stays out, or waits with whom it was given up to
+    out-call : {v w : World T} → Calls holds v w → IsWhole v → is_out (standing_at v k) ≡ true → IsTrue (is_open (place_at w p)) → IsSafe w p k
+    out-call (registers v r vacant) i out o = safe-out o out
+    out-call (ends v r l shut) i out o = safe-out o out
+    out-call (opens v r l) i out o = safe-or (opened holds v r) o (opens-keeps r k holds v l.0 i out)
+    out-call (closes v r l) i out o = safe-out o out
+    out-call (stirs v r l) i out o = safe-out o out
+    out-call (accelerates v r l) i out o = safe-out o out
+    out-call (makes v j value empty) i out o =
+        let apart : k ≢ j = λ e. let never : is_out None ≡ true = ap (λ (s : Option Standing). is_out s) (sym empty.1 ∙ ap (λ (n : ℕ). standing_at v n) (sym e))
+        ∙ out in cc in
+        safe-out o (ap (λ (s : Option Standing). is_out s) (get_or-set_other v.standings j k (Some Owned) None apart) ∙ out)
+    out-call (retires v r j l there) i out o = safe-or (retired v r j) o (retires-keeps r k v j there (l.0, inl out))
+    out-call (nulls v c empty) i out o = safe-out o out
+    out-call (closes_cell v r c l) i out o = safe-or (cell_closed v r c) o (closes_cell-keeps r k v c (l.0, inl out))
+
+    -- each call keeps safe what was, where the guard is open afterwards
+    pub safe-call : {v w : World T} → Calls holds v w → IsWhole v → IsSafe v p k → IsTrue (is_open (place_at w p)) → IsSafe w p k
+    safe-call call i safe o = elim safe.stays [
+      | inl out ↦ out-call call i out o
+      | inr under ↦ record { guarded = o; stays = inr (one-call holds p k call i under o).1.0 }
+    ]
+
+    pub safe-retires : (v : World T) (r j : ℕ) → r < length v.time.places → standing_at v j ≡ Some Owned → IsSafe v p k →
+        IsTrue (is_open (place_at (retired v r j) p)) → IsSafe (retired v r j) p k
+    safe-retires v r j l there safe o = elim safe.stays [
+      | inl out ↦ safe-or (retired v r j) o (retires-keeps r k v j there (l, inl out))
+      | inr under ↦ record { guarded = o; stays = inr (under-retires holds v p k r j l there under o).0 }
+    ]
+
+    -- what is out is among nothing that an opening reclaims
+    out-not-due : (w : World T) (r : ℕ) → r < length w.time.places → IsWhole w → is_out (standing_at w k) ≡ true → times_among k (reclaims w r) ≡ 0
+    out-not-due w r l i out = elim (how holds w r l) [
+      | inl n ↦ ap (λ (xs : List What). times_among k xs) n.none
+      | inr c ↦ ap (λ (xs : List What). times_among k xs) c.due ∙ none-due r k holds w i out
+    ]
+
+    among-one : (x : What) (xs : List What) → (b : Bool) → is_of_slot k x ≡ b → (x ≡ Item k) ⊎ (1 ≤ times_among k xs) → 1 ≤ times_among k (x ∷ xs)
+    among-one x xs true e h = let all : times_among k (x ∷ xs) ≡ 1 + times_among k xs = count-cons (is_of_slot k) x xs ∙ rw e refl in omega (arith, all)
+    among-one x xs false e (inl is) =
+        let own : is_of_slot k x ≡ true = rw is (grind (arith, nat_tests)) in let never : true ≡ false = sym own ∙ e in absurd (cc)
+    among-one x xs false e (inr h) =
+        let all : times_among k (x ∷ xs) ≡ 0 + times_among k xs = count-cons (is_of_slot k) x xs ∙ rw e refl in omega (arith, all, h)
+
+    among-counts : (xs : List What) → Contains xs (Item k) → 1 ≤ times_among k xs
+    among-counts [] h = absurd (omega (arith, h.1))
+    among-counts (x ∷ xs) (zero, l, e) = among-one x xs (is_of_slot k x) refl (inl e)
+    among-counts (x ∷ xs) (suc n, l, e) = among-one x xs (is_of_slot k x) refl (inr (among-counts xs (n, omega (arith, l), e)))
+
+    -- what is safe from a guard is not among what an opening reclaims
+    pub safe-not-due : (w : World T) (r : ℕ) → r < length w.time.places → IsWhole w → IsSafe w p k → Contains (reclaims w r) (Item k) → ⊥
+    safe-not-due w r l i safe h = by safe.stays where
+      by : (is_out (standing_at w k) ≡ true) ⊎ IsUnder w p k → ⊥
+      by (inl out) = omega (arith, among-counts (reclaims w r) h, out-not-due w r l i out)
+      by (inr under) = omega (arith, among-counts (reclaims w r) h, under-not-due holds w p k r l i under)
