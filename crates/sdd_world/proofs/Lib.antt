@@ -1,3 +1,4 @@
 pub mod Shown
+pub mod Lending
 pub mod Closing
 pub mod Sweeping

@@ -1,6 +1,5 @@
 -- Which slots show what, after a call
-use Rattle.std.proofs.Common.{◌≡◌, ℕ, List, [], ◌∷◌, refl, Some, None, Option, zero, suc, slice_index_or, slice_set}
-use Rattle.std.specs.Prelude.{IsSome}
+use Rattle.std.proofs.Common.{◌≡◌, ℕ, refl, Some, None, Option}
 use Rattle.std.proofs.lemmas.List.{get_or-set_same}
 use Rattle.sdd_store.specs.Time.{nobody}
 use Rattle.sdd_store.specs.Time as time
@@ -14,43 +13,31 @@ use Rattle.sdd_base.specs.Own.{IsSpilled}
 use Rattle.sdd_base.specs.Steps.{spilled, cell_closed, held_in, owner_given}
 use Rattle.std.specs.Prelude.{◌<◌, length}
 
--- an entry is put somewhere: where one was, one is
-pub filled-set : {E : Type 0} (xs : List (Option E)) (k j : ℕ) (e : E) → IsSome (slice_index_or xs j None) →
-    IsSome (slice_index_or (slice_set xs k (Some e)) j None)
-filled-set [] k j e h = h
-filled-set (x ∷ xs) zero zero e h = refl
-filled-set (x ∷ xs) zero (suc j) e h = h
-filled-set (x ∷ xs) (suc k) zero e h = h
-filled-set (x ∷ xs) (suc k) (suc j) e h = filled-set xs k j e h
-
 module _ {T : Type 0} where
   -- what a turn shows before and after
   abbrev pub Shows : World T → World T → Type 0
-  Shows old new =
-      KeepsShown {T = T} (λ k value. value_at old k ≡ Some value) (λ k. IsSome (standing_at old k)) (λ k value. value_at new k ≡ Some value)
-      (λ k. IsSome (standing_at new k))
+  Shows old new = KeepsShown {T = T} (λ k value. value_at old k ≡ Some value) (λ k value. value_at new k ≡ Some value)
 
-  shows-same : (u v : World T) → v.values ≡ u.values → v.standings ≡ u.standings → Shows u v
-  shows-same u v e f = record { values = λ k value is. rw e is; slots = λ k is. rw f is }
+  shows-same : (u v : World T) → v.values ≡ u.values → Shows u v
+  shows-same u v e = λ k value is. rw e is
 
   shows-owner_given : (w : World T) (p k : ℕ) (s : Option Standing) → Shows w (owner_given w p k s)
-  shows-owner_given w p k None = shows-same w w refl refl
-  shows-owner_given w p k (Some Owned) = record { values = λ j value is. is; slots = λ j is. filled-set w.standings k j Retired is }
-  shows-owner_given w p k (Some Raw) = shows-same w w refl refl
-  shows-owner_given w p k (Some (Shared n)) = shows-same w w refl refl
-  shows-owner_given w p k (Some Retired) = shows-same w w refl refl
-  shows-owner_given w p k (Some (privately c)) = shows-same w w refl refl
+  shows-owner_given w p k None = shows-same w w refl
+  shows-owner_given w p k (Some Owned) = λ j value is. is
+  shows-owner_given w p k (Some Raw) = shows-same w w refl
+  shows-owner_given w p k (Some (Shared n)) = shows-same w w refl
+  shows-owner_given w p k (Some Retired) = shows-same w w refl
+  shows-owner_given w p k (Some (privately c)) = shows-same w w refl
 
   shows-spilled : (u w : World T) (p : ℕ) (held : Option ℕ) → Shows u w → Shows u (spilled w p held)
   shows-spilled u w p None s = s
   shows-spilled u w p (Some k) s =
-      let t = shows-owner_given w p k (standing_at w k) in
-      record { values = λ j value is. t.values j value (s.values j value is); slots = λ j is. t.slots j (s.slots j is) }
+      let t = shows-owner_given w p k (standing_at w k) in λ j value is. t j value (s j value is)
 
   pub shows-cell_closed : (w : World T) (p c : ℕ) → Shows w (cell_closed w p c)
   shows-cell_closed w p c =
       shows-spilled w (record w { cells = without_entry w.cells c }) p (held_in (entry_at w.cells c))
-      (shows-same w (record w { cells = without_entry w.cells c }) refl refl)
+      (shows-same w (record w { cells = without_entry w.cells c }) refl)
 
   spills-owner_given : (w : World T) (p k : ℕ) → p < length w.time.places → (s : Option Standing) → IsSpilled (place_at w p) (place_at (owner_given w p k s) p)
   spills-owner_given w p k l None = (None, refl)

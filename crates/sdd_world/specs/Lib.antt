@@ -1,4 +1,5 @@
 pub mod Core
+pub mod Lending
 pub mod Place
 pub mod Closing
 pub mod Shown

@@ -1,4 +1,4 @@
-ghost use Rattle.std.specs.Prelude.{◌≡◌, ℕ, ◌+◌, ◌<◌, ◌≤◌, Bool, false, if◌then◌else◌, List, [], map, length, vec_capacity, Some, None, Option, IsSome, MatchOption, MatchResult, IfOk, IsTrue, option_copied, ◌⊎◌, ◌↔◌};
+ghost use Rattle.std.specs.Prelude.{◌≡◌, ℕ, ◌+◌, ◌^◌, ◌<◌, ◌≤◌, Bool, true, false, if◌then◌else◌, Contains, List, [], map, length, vec_capacity, Some, None, Option, IsSome, MatchOption, MatchResult, IfOk, IsTrue, option_copied, ◌⊎◌, ◌↔◌};
 ghost use Rattle.sdd_core.specs.Epoch.{epoch_of};
 ghost use Rattle.sdd_token.specs.Right.{number_of, home_of};
 ghost use Rattle.sdd_store.specs.Waiting.{What};
@@ -10,12 +10,17 @@ ghost use Rattle.sdd_base.specs.Seat.{seat_for, IsSeated, IsExact};
 ghost use Rattle.sdd_base.specs.Own.{GrowsOn};
 ghost use Rattle.sdd_base.specs.Owned.{slots_home, cells_home, holding_of, cell_holding};
 ghost use Rattle.sdd_base.specs.World.{World, IsBlank, weight, KeepsSizes, place_at, standing_at, value_at, HasPlace, IsPlaceOf};
-ghost use Rattle.sdd_base.specs.Steps.{made, retired, nulled, cell_closed, given, given_all, slot_reclaimed, all_reclaimed, rotated, settled, opened, changed, nested, closed, stirred, accelerated, registered, ended};
+ghost use Rattle.sdd_base.specs.Steps.{made, retired, nulled, cell_closed, given, given_all, slot_reclaimed, all_reclaimed, rotated, settled, opened, reclaims, changed, nested, closed, stirred, accelerated, registered, ended};
 ghost use Rattle.sdd_base.specs.Whole.{IsWhole};
+ghost use Rattle.sdd_base.specs.Under.{Stays};
+ghost use Rattle.sdd_places.specs.Block.{IsHome, IsFreeFor, stake_at};
+ghost use Rattle.sdd_places.specs.Tenures.{kept_at};
 ghost use Rattle.sdd_world.specs.Closing.{paced, NothingIsOut};
+ghost use Rattle.sdd_world.specs.Lending.{AreLent, IsPartAt, shared, given_up};
 
 use sdd_base::{AtomicOwned, Giver, Item, Owned, inner};
 use sdd_core::Refused;
+use sdd_places::{Stage, Tenure, Tenures};
 use sdd_slots::{Cells, Slots};
 use sdd_store::{Pace, Standing, Tally, Time};
 use sdd_token::Right;
@@ -27,45 +32,49 @@ pub struct Core<T: Item<T>> {
     time: Time,
     slots: Slots<T>,
     cells: Cells,
+    tenures: Tenures,
     tally: Tally,
 }
 
 impl<T: Item<T>> Model for Core<T> {
-    ghost use Rattle.sdd_base.specs.World.{World, IsRoomy};
-    ghost use Rattle.sdd_world.specs.Core.{IsSound};
+    ghost use Rattle.sdd_world.specs.Core.{Core, IsSound};
 
-    ghost Value = { World T };
+    ghost Value = { Core T };
 
     ghost view = { λ c. record {
-      home = record { slots = c.slots.home; cells = c.cells.home };
-      time = c.time;
-      standings = c.slots.standings;
-      values = c.slots.values;
-      cells = c.cells.cells;
-      tally = c.tally;
+      world = record {
+        home = record { slots = c.slots.home; cells = c.cells.home; readers = c.tenures.home };
+        time = c.time;
+        standings = c.slots.standings;
+        values = c.slots.values;
+        cells = c.cells.cells;
+        tally = c.tally;
+      };
+      lending = record { stakes = c.slots.stakes; tenures = c.tenures };
     } };
 
-    ghost invariant = { λ c. IsSound T.holds c.time c.slots c.cells };
+    ghost invariant = { λ c. IsSound T.holds c.time c.slots c.cells c.tenures };
 }
 
 impl<T: Item<T>> Core<T> {
     /// No slot is free.
     pub fn is_full(&self) -> bool
-        ensures { IsTrue result ↔ IsFull self.now.standings }
+        ensures { IsTrue result ↔ IsFull self.now.world.standings }
     {
         self.slots.is_full()
     }
 
     /// Puts a value into a free slot.
     pub fn make(&mut self, value: T) -> Result<Right, T>
-        requires home { AreOf self.old.home (T.holds value) }
+        requires home { AreOf self.old.world.home (T.holds value) }
         ensures made { MatchResult result
-            (λ right. (home_of right ≡ self.old.home.slots) ×
-            IsEmptyAt self.old.standings (number_of right) × (self.new ≡ made self.old (number_of right) value))
-            (λ back. IsFull self.old.standings × (back ≡ value) × (self.new ≡ self.old)) }
-        ensures sizes { KeepsSizes self.old self.new }
-        ensures whole { IsWhole self.old → IsWhole self.new }
-        ensures keeps { IsWhole self.old → (k : ℕ) (v : T) → value_at self.old k ≡ Some v → value_at self.new k ≡ Some v }
+            (λ right. (home_of right ≡ self.old.world.home.slots) × IsEmptyAt self.old.world.standings (number_of right) ×
+            (self.new ≡ record self.old { world = made self.old.world (number_of right) value }))
+            (λ back. IsFull self.old.world.standings × (back ≡ value) × (self.new ≡ self.old)) }
+        ensures sizes { KeepsSizes self.old.world self.new.world }
+        ensures whole { IsWhole self.old.world → IsWhole self.new.world }
+        ensures lent { IsWhole self.old.world → AreLent self.old → AreLent self.new }
+        ensures keeps { IsWhole self.old.world → (k : ℕ) (v : T) → value_at self.old.world k ≡ Some v → value_at self.new.world k ≡ Some v }
     {
         let right = self.slots.make(value)?;
         self.tally.count_made();
@@ -74,12 +83,13 @@ impl<T: Item<T>> Core<T> {
 
     /// The item waits with a place.
     pub fn retire(&mut self, place: usize, right: Right)
-        requires place { HasPlace self.old place }
-        requires home { home_of right ≡ self.old.home.slots }
-        ensures owned { standing_at self.old (number_of right) ≡ Some Standing.Owned }
-        ensures retired { self.new ≡ retired self.old place (number_of right) }
-        ensures sizes { KeepsSizes self.old self.new }
-        ensures whole { IsPlaceOf self.old place → IsWhole self.old → IsWhole self.new }
+        requires place { HasPlace self.old.world place }
+        requires home { home_of right ≡ self.old.world.home.slots }
+        ensures owned { standing_at self.old.world (number_of right) ≡ Some Standing.Owned }
+        ensures retired { self.new ≡ record self.old { world = retired self.old.world place (number_of right) } }
+        ensures sizes { KeepsSizes self.old.world self.new.world }
+        ensures whole { IsPlaceOf self.old.world place → IsWhole self.old.world → IsWhole self.new.world }
+        ensures lent { AreLent self.old → AreLent self.new }
     {
         let slot = self.slots.retire(right);
         self.time.wait(place, slot);
@@ -87,12 +97,14 @@ impl<T: Item<T>> Core<T> {
 
     /// The item waits at some place that isn't free.
     pub fn leave(&mut self, right: Right)
-        requires some { (p : ℕ) × IsSome (time.phase_at self.old.time p) }
-        requires home { home_of right ≡ self.old.home.slots }
-        ensures owned { standing_at self.old (number_of right) ≡ Some Standing.Owned }
-        ensures left { (p : ℕ) × IsSome (time.phase_at self.old.time p) × (self.new ≡ retired self.old p (number_of right)) }
-        ensures sizes { KeepsSizes self.old self.new }
-        ensures whole { IsWhole self.old → IsWhole self.new }
+        requires some { (p : ℕ) × IsSome (time.phase_at self.old.world.time p) }
+        requires home { home_of right ≡ self.old.world.home.slots }
+        ensures owned { standing_at self.old.world (number_of right) ≡ Some Standing.Owned }
+        ensures left { (p : ℕ) × IsSome (time.phase_at self.old.world.time p)
+            × (self.new ≡ record self.old { world = retired self.old.world p (number_of right) }) }
+        ensures sizes { KeepsSizes self.old.world self.new.world }
+        ensures whole { IsWhole self.old.world → IsWhole self.new.world }
+        ensures lent { AreLent self.old → AreLent self.new }
     {
         let Some(place) = self.time.some_taken() else {
             unreachable!()
@@ -103,21 +115,24 @@ impl<T: Item<T>> Core<T> {
     /// A free cell holds nothing.
     pub fn null(&mut self) -> Option<Right>
         ensures nulled { MatchOption result
-            (IsFull self.old.cells × (self.new ≡ self.old))
-            (λ right. (home_of right ≡ self.old.home.cells) × IsEmptyAt self.old.cells (number_of right) × (self.new ≡ nulled self.old (number_of right))) }
-        ensures sizes { KeepsSizes self.old self.new }
-        ensures whole { IsWhole self.old → IsWhole self.new }
+            (IsFull self.old.world.cells × (self.new ≡ self.old))
+            (λ right. (home_of right ≡ self.old.world.home.cells) × IsEmptyAt self.old.world.cells (number_of right)
+            × (self.new ≡ record self.old { world = nulled self.old.world (number_of right) })) }
+        ensures sizes { KeepsSizes self.old.world self.new.world }
+        ensures whole { IsWhole self.old.world → IsWhole self.new.world }
+        ensures lent { IsWhole self.old.world → AreLent self.old → AreLent self.new }
     {
         self.cells.null()
     }
 
     /// The cell is free again. No cell can hold an item yet, so there is nothing to retire.
     pub fn close_cell(&mut self, place: usize, right: Right)
-        requires place { HasPlace self.old place }
-        requires home { home_of right ≡ self.old.home.cells }
-        ensures closed { self.new ≡ cell_closed self.old place (number_of right) }
-        ensures sizes { KeepsSizes self.old self.new }
-        ensures whole { IsPlaceOf self.old place → IsWhole self.old → IsWhole self.new }
+        requires place { HasPlace self.old.world place }
+        requires home { home_of right ≡ self.old.world.home.cells }
+        ensures closed { self.new ≡ record self.old { world = cell_closed self.old.world place (number_of right) } }
+        ensures sizes { KeepsSizes self.old.world self.new.world }
+        ensures whole { IsPlaceOf self.old.world place → IsWhole self.old.world → IsWhole self.new.world }
+        ensures lent { IsPlaceOf self.old.world place → IsWhole self.old.world → AreLent self.old → AreLent self.new }
     {
         let _ = place;
         let _ = self.cells.close(right);
@@ -139,30 +154,36 @@ impl<T: Item<T>> Drop for Retirement<'_, T> {
 }
 
 impl<T: Item<T>> Giver<T> for Retirement<'_, T> {
-    ghost world = { λ r. r.core.now };
+    ghost world = { λ r. r.core.now.world };
 
-    ghost seat = { λ r. seat_for r.core.now r.place r.core.ghost_name };
+    ghost seat = { λ r. seat_for r.core.now.world r.place r.core.ghost_name };
 
-    ghost own = { λ r. place_at r.core.now r.place };
+    ghost own = { λ r. place_at r.core.now.world r.place };
+
+    ghost lending = { λ r. r.core.now.lending };
 
     fn owned(&mut self, owner: Owned<T>)
-        requires seated { IsSeated (seat_for self.old.core.now self.old.place self.old.core.ghost_name) }
-        requires home { slots_home owner ≡ self.old.core.now.home.slots }
-        ensures seat { seat_for self.new.core.now self.new.place self.new.core.ghost_name ≡ seat_for self.old.core.now self.old.place self.old.core.ghost_name }
-        ensures own { GrowsOn (place_at self.old.core.now self.old.place) (place_at self.new.core.now self.new.place) }
-        ensures exact { IsExact (seat_for self.old.core.now self.old.place self.old.core.ghost_name) →
-            self.new.core.now ≡ given self.old.core.now self.old.place (holding_of owner) }
+        requires seated { IsSeated (seat_for self.old.core.now.world self.old.place self.old.core.ghost_name) }
+        requires home { slots_home owner ≡ self.old.core.now.world.home.slots }
+        ensures seat { seat_for self.new.core.now.world self.new.place self.new.core.ghost_name ≡
+            seat_for self.old.core.now.world self.old.place self.old.core.ghost_name }
+        ensures own { GrowsOn (place_at self.old.core.now.world self.old.place) (place_at self.new.core.now.world self.new.place) }
+        ensures lending { self.new.core.now.lending ≡ self.old.core.now.lending }
+        ensures exact { IsExact (seat_for self.old.core.now.world self.old.place self.old.core.ghost_name) →
+            self.new.core.now.world ≡ given self.old.core.now.world self.old.place (holding_of owner) }
     {
         self.core.retire(self.place, inner::right_of_owner(owner));
     }
 
     fn atomic_owned(&mut self, cell: AtomicOwned<T>)
-        requires seated { IsSeated (seat_for self.old.core.now self.old.place self.old.core.ghost_name) }
-        requires home { cells_home cell ≡ self.old.core.now.home.cells }
-        ensures seat { seat_for self.new.core.now self.new.place self.new.core.ghost_name ≡ seat_for self.old.core.now self.old.place self.old.core.ghost_name }
-        ensures own { GrowsOn (place_at self.old.core.now self.old.place) (place_at self.new.core.now self.new.place) }
-        ensures exact { IsExact (seat_for self.old.core.now self.old.place self.old.core.ghost_name) →
-            self.new.core.now ≡ given self.old.core.now self.old.place (cell_holding cell) }
+        requires seated { IsSeated (seat_for self.old.core.now.world self.old.place self.old.core.ghost_name) }
+        requires home { cells_home cell ≡ self.old.core.now.world.home.cells }
+        ensures seat { seat_for self.new.core.now.world self.new.place self.new.core.ghost_name ≡
+            seat_for self.old.core.now.world self.old.place self.old.core.ghost_name }
+        ensures own { GrowsOn (place_at self.old.core.now.world self.old.place) (place_at self.new.core.now.world self.new.place) }
+        ensures lending { self.new.core.now.lending ≡ self.old.core.now.lending }
+        ensures exact { IsExact (seat_for self.old.core.now.world self.old.place self.old.core.ghost_name) →
+            self.new.core.now.world ≡ given self.old.core.now.world self.old.place (cell_holding cell) }
     {
         self.core.close_cell(self.place, inner::right_of_cell(cell));
     }
@@ -171,9 +192,10 @@ impl<T: Item<T>> Giver<T> for Retirement<'_, T> {
 impl<T: Item<T>> Core<T> {
     /// An item that waited is reclaimed, and its value gives up to the place what it holds.
     fn reclaim(&mut self, place: usize, slot: u32)
-        requires place { HasPlace self.old place }
-        requires room { weight self.old < length self.old.standings }
-        ensures { self.new ≡ slot_reclaimed T.holds self.old place slot }
+        requires place { HasPlace self.old.world place }
+        requires room { weight self.old.world < length self.old.world.standings }
+        requires home { IsHome self.old.lending.stakes slot }
+        ensures { self.new ≡ record self.old { world = slot_reclaimed T.holds self.old.world place slot } }
     {
         let Some(value) = self.slots.reclaim(slot) else {
             return;
@@ -184,42 +206,82 @@ impl<T: Item<T>> Core<T> {
     }
 
     fn reclaim_all(&mut self, place: usize, due: &[u32])
-        requires place { HasPlace self.old place }
-        requires room { weight self.old + length due.now ≤ length self.old.standings }
-        ensures reclaimed { self.new ≡ all_reclaimed T.holds self.old place (map Item due.now) }
-        ensures sizes { KeepsSizes self.old self.new }
+        requires place { HasPlace self.old.world place }
+        requires room { weight self.old.world + length due.now ≤ length self.old.world.standings }
+        requires home { (k : ℕ) → Contains due.now k → IsHome self.old.lending.stakes k }
+        ensures reclaimed { self.new ≡ record self.old { world = all_reclaimed T.holds self.old.world place (map Item due.now) } }
+        ensures sizes { KeepsSizes self.old.world self.new.world }
     {
         for slot in due {
             self.reclaim(place, *slot);
         }
     }
 
-    /// Opens one more guard of a place. An outermost one that finds another count is a change, for which an empty bag is lent.
-    pub fn open(&mut self, place: usize, spare: &mut Vec<u32>)
-        requires place { IsPlaceOf self.old place }
-        requires few { time.CanNest self.old.time place }
+    /// Opens one more guard of a place, and answers its part of the place's tenure. For a change an empty bag is lent.
+    pub fn open(&mut self, place: usize, spare: &mut Vec<u32>) -> Tenure
+        requires place { IsPlaceOf self.old.world place }
+        requires few { time.CanNest self.old.world.time place }
+        requires whole { IsWhole self.old.world }
+        requires lent { AreLent self.old }
         requires empty { spare.old.items ≡ [] }
-        requires reserved { length self.old.standings ≤ vec_capacity spare.old }
-        ensures opened { self.new ≡ opened T.holds self.old place }
-        ensures sizes { KeepsSizes self.old self.new }
-        ensures whole { IsWhole self.old → IsWhole self.new }
+        requires reserved { length self.old.world.standings ≤ vec_capacity spare.old }
+        ensures opened { self.new.world ≡ opened T.holds self.old.world place }
+        ensures sizes { KeepsSizes self.old.world self.new.world }
+        ensures whole { IsWhole self.new.world }
+        ensures lent { AreLent self.new }
+        ensures part { IsPartAt self.old.world.home.readers place result }
         ensures empty { spare.new.items ≡ [] }
-        ensures reserved { length self.new.standings ≤ vec_capacity spare.new }
+        ensures reserved { length self.new.world.standings ≤ vec_capacity spare.new }
+    {
+        let is_nested = self.time.is_open(place);
+        self.enter(place, spare);
+        self.share(place, is_nested)
+    }
+
+    /// One more guard of a place is open. An outermost one that finds another count is a change.
+    fn enter(&mut self, place: usize, spare: &mut Vec<u32>)
+        requires place { IsPlaceOf self.old.world place }
+        requires few { time.CanNest self.old.world.time place }
+        requires home { (k : ℕ) → Contains (reclaims self.old.world place) (Item k) → IsHome self.old.lending.stakes k }
+        requires empty { spare.old.items ≡ [] }
+        requires reserved { length self.old.world.standings ≤ vec_capacity spare.old }
+        ensures opened { self.new ≡ record self.old { world = opened T.holds self.old.world place } }
+        ensures sizes { KeepsSizes self.old.world self.new.world }
+        ensures whole { IsWhole self.old.world → IsWhole self.new.world }
+        ensures empty { spare.new.items ≡ [] }
+        ensures reserved { length self.new.world.standings ≤ vec_capacity spare.new }
     {
         if self.time.open(place) {
             self.change(place, spare);
         }
     }
 
+    /// A part of the place's tenure, which its first guard begins.
+    fn share(&mut self, place: usize, is_nested: bool) -> Tenure
+        requires inside { place < self.old.world.home.readers.size }
+        requires more { 1 < (kept_at self.old.lending.tenures place).units }
+        requires first { is_nested ≡ false → (kept_at self.old.lending.tenures place).units ≡ 2 ^ 63 }
+        requires open { is_nested ≡ true → (kept_at self.old.lending.tenures place).kind ≡ Stage.Open }
+        ensures shared { self.new ≡ record self.old { lending = shared self.old.lending place } }
+        ensures part { IsPartAt self.old.world.home.readers place result }
+    {
+        if is_nested {
+            return self.tenures.split(place);
+        }
+        self.tenures.begin(place);
+        self.tenures.split(place)
+    }
+
     /// A change of a place: what is due is reclaimed.
     pub fn change(&mut self, place: usize, spare: &mut Vec<u32>)
-        requires place { HasPlace self.old place }
+        requires place { HasPlace self.old.world place }
         requires empty { spare.old.items ≡ [] }
-        requires reserved { length self.old.standings ≤ vec_capacity spare.old }
-        ensures changed { self.new ≡ changed T.holds self.old place }
-        ensures sizes { KeepsSizes self.old self.new }
+        requires reserved { length self.old.world.standings ≤ vec_capacity spare.old }
+        requires home { (k : ℕ) → Contains (time.due_next (place_at self.old.world place)) (Item k) → IsHome self.old.lending.stakes k }
+        ensures changed { self.new ≡ record self.old { world = changed T.holds self.old.world place } }
+        ensures sizes { KeepsSizes self.old.world self.new.world }
         ensures empty { spare.new.items ≡ [] }
-        ensures reserved { length self.new.standings ≤ vec_capacity spare.new }
+        ensures reserved { length self.new.world.standings ≤ vec_capacity spare.new }
     {
         if self.time.is_clear(place) {
             self.catch_up(place);
@@ -229,13 +291,14 @@ impl<T: Item<T>> Core<T> {
     }
 
     fn reclaim_due(&mut self, place: usize, spare: &mut Vec<u32>)
-        requires place { HasPlace self.old place }
+        requires place { HasPlace self.old.world place }
         requires empty { spare.old.items ≡ [] }
-        requires reserved { length self.old.standings ≤ vec_capacity spare.old }
-        ensures changed { self.new ≡ changed T.holds self.old place }
-        ensures sizes { KeepsSizes self.old self.new }
+        requires reserved { length self.old.world.standings ≤ vec_capacity spare.old }
+        requires home { (k : ℕ) → Contains (time.due_next (place_at self.old.world place)) (Item k) → IsHome self.old.lending.stakes k }
+        ensures changed { self.new ≡ record self.old { world = changed T.holds self.old.world place } }
+        ensures sizes { KeepsSizes self.old.world self.new.world }
         ensures empty { spare.new.items ≡ [] }
-        ensures reserved { length self.new.standings ≤ vec_capacity spare.new }
+        ensures reserved { length self.new.world.standings ≤ vec_capacity spare.new }
     {
         self.rotate(place, spare);
         self.reclaim_all(place, spare.as_slice());
@@ -245,10 +308,10 @@ impl<T: Item<T>> Core<T> {
 
     /// A change of a place with which nothing waits.
     fn catch_up(&mut self, place: usize)
-        requires place { HasPlace self.old place }
-        requires clear { (place_at self.old place).bags.waiting ≡ [] }
-        ensures changed { self.new ≡ changed T.holds self.old place }
-        ensures sizes { KeepsSizes self.old self.new }
+        requires place { HasPlace self.old.world place }
+        requires clear { (place_at self.old.world place).bags.waiting ≡ [] }
+        ensures changed { self.new ≡ record self.old { world = changed T.holds self.old.world place } }
+        ensures sizes { KeepsSizes self.old.world self.new.world }
     {
         let found = self.time.count();
         let pace = Pace {
@@ -260,77 +323,128 @@ impl<T: Item<T>> Core<T> {
 
     /// What has seen three changes comes out, into the empty bag that is handed in.
     fn rotate(&mut self, place: usize, bag: &mut Vec<u32>)
-        requires place { HasPlace self.old place }
+        requires place { HasPlace self.old.world place }
         requires empty { bag.old.items ≡ [] }
-        requires reserved { length self.old.standings ≤ vec_capacity bag.old }
-        ensures rotated { self.new ≡ rotated self.old place }
-        ensures taken { map Item bag.new.items ≡ time.due_next (place_at self.old place) }
-        ensures reserved { length self.old.standings ≤ vec_capacity bag.new }
-        ensures room { weight self.new + length bag.new.items ≤ length self.new.standings }
-        ensures sizes { KeepsSizes self.old self.new }
+        requires reserved { length self.old.world.standings ≤ vec_capacity bag.old }
+        ensures rotated { self.new ≡ record self.old { world = rotated self.old.world place } }
+        ensures taken { map Item bag.new.items ≡ time.due_next (place_at self.old.world place) }
+        ensures reserved { length self.old.world.standings ≤ vec_capacity bag.new }
+        ensures room { weight self.new.world + length bag.new.items ≤ length self.new.world.standings }
+        ensures sizes { KeepsSizes self.old.world self.new.world }
     {
         self.time.rotate(place, bag);
     }
 
     fn settle(&mut self, place: usize)
-        requires place { HasPlace self.old place }
-        ensures settled { self.new ≡ settled self.old place }
-        ensures sizes { KeepsSizes self.old self.new }
+        requires place { HasPlace self.old.world place }
+        ensures settled { self.new ≡ record self.old { world = settled self.old.world place } }
+        ensures sizes { KeepsSizes self.old.world self.new.world }
     {
         self.time.settle(place);
     }
 
     pub fn stir(&mut self, place: usize)
-        requires place { IsPlaceOf self.old place }
-        ensures stirred { self.new ≡ stirred self.old place }
-        ensures sizes { KeepsSizes self.old self.new }
-        ensures whole { IsWhole self.old → IsWhole self.new }
+        requires place { IsPlaceOf self.old.world place }
+        ensures stirred { self.new ≡ record self.old { world = stirred self.old.world place } }
+        ensures sizes { KeepsSizes self.old.world self.new.world }
+        ensures whole { IsWhole self.old.world → IsWhole self.new.world }
+        ensures lent { IsWhole self.old.world → AreLent self.old → AreLent self.new }
     {
         self.time.stir(place);
     }
 
     pub fn accelerate(&mut self, place: usize)
-        requires place { IsPlaceOf self.old place }
-        ensures accelerated { self.new ≡ accelerated self.old place }
-        ensures sizes { KeepsSizes self.old self.new }
-        ensures whole { IsWhole self.old → IsWhole self.new }
+        requires place { IsPlaceOf self.old.world place }
+        ensures accelerated { self.new ≡ record self.old { world = accelerated self.old.world place } }
+        ensures sizes { KeepsSizes self.old.world self.new.world }
+        ensures whole { IsWhole self.old.world → IsWhole self.new.world }
+        ensures lent { IsWhole self.old.world → AreLent self.old → AreLent self.new }
     {
         self.time.accelerate(place);
     }
 
-    pub fn close(&mut self, place: usize)
-        requires place { IsPlaceOf self.old place }
-        ensures closed { self.new ≡ closed self.old place }
-        ensures sizes { KeepsSizes self.old self.new }
-        ensures whole { IsWhole self.old → IsWhole self.new }
+    /// Closes a guard of a place, which gives back its part of the tenure.
+    pub fn close(&mut self, place: usize, part: Tenure)
+        requires place { IsPlaceOf self.old.world place }
+        requires whole { IsWhole self.old.world }
+        requires lent { AreLent self.old }
+        requires part { IsPartAt self.old.world.home.readers place part }
+        ensures closed { self.new.world ≡ closed self.old.world place }
+        ensures sizes { KeepsSizes self.old.world self.new.world }
+        ensures whole { IsWhole self.new.world }
+        ensures lent { AreLent self.new }
     {
+        self.tenures.join(place, part);
         self.time.close(place);
+        if !self.time.is_open(place) {
+            self.settle_loans(place);
+        }
+    }
+
+    /// The place's tenure ends, and with it all that was lent to the place.
+    fn settle_loans(&mut self, place: usize)
+        requires inside { place < self.old.world.home.readers.size }
+        requires all { (kept_at self.old.lending.tenures place).units ≡ 2 ^ 63 }
+        requires lent { (k : ℕ) → IsFreeFor (kept_at self.old.lending.tenures place).round (stake_at self.old.lending.stakes k place) }
+        ensures { (next : ℕ) × (self.new ≡ record self.old { lending = given_up self.old.lending place next }) }
+    {
+        let ended = self.tenures.end(place);
+        self.slots.settle(place, &ended);
+    }
+
+    /// The value of an owner's item, for as long as a part of the place's tenure is borrowed.
+    pub fn lend<'g>(&mut self, place: usize, right: &Right, part: &'g Tenure) -> &'g T
+        requires place { HasPlace self.old.world place }
+        requires home { home_of right.now ≡ self.old.world.home.slots }
+        requires lent { AreLent self.old }
+        requires part { IsPartAt self.old.world.home.readers place part.now }
+        ensures value { value_at self.new.world (number_of right.now) ≡ Some result.now }
+        ensures world { self.new.world ≡ self.old.world }
+        ensures lent { AreLent self.new }
+    {
+        let slot = self.slots.slot_of(right);
+        self.lend_from(place, slot, part)
+    }
+
+    /// The value in a slot whose item stays there while a guard of the place is open.
+    pub fn lend_from<'g>(&mut self, place: usize, slot: u32, part: &'g Tenure) -> &'g T
+        requires place { HasPlace self.old.world place }
+        requires stays { Stays self.old.world place slot }
+        requires lent { AreLent self.old }
+        requires part { IsPartAt self.old.world.home.readers place part.now }
+        ensures value { value_at self.new.world slot ≡ Some result.now }
+        ensures world { self.new.world ≡ self.old.world }
+        ensures lent { AreLent self.new }
+    {
+        self.tenures.agree(place, part);
+        self.slots.lend(slot, place, part)
     }
 
     pub fn set_pace(&mut self, place: usize, pace: Pace)
-        requires place { HasPlace self.old place }
-        ensures paced { self.new ≡ paced self.old place pace }
-        ensures sizes { KeepsSizes self.old self.new }
+        requires place { HasPlace self.old.world place }
+        ensures paced { self.new ≡ record self.old { world = paced self.old.world place pace } }
+        ensures sizes { KeepsSizes self.old.world self.new.world }
     {
         self.time.set_pace(place, pace);
     }
 
     /// Every slot and every cell is free.
     pub fn is_unused(&self) -> bool
-        ensures { IsTrue result ↔ NothingIsOut self.now }
+        ensures { IsTrue result ↔ NothingIsOut self.now.world }
     {
         self.slots.is_unused() && self.cells.is_unused()
     }
 
     /// Lets go of a core whose slots and cells are all free.
     pub fn destroy(self) -> Tally
-        requires { NothingIsOut self }
-        ensures { result ≡ self.tally }
+        requires { NothingIsOut self.world }
+        ensures { result ≡ self.world.tally }
     {
         let Core {
             time: _,
             slots,
             cells: _,
+            tenures: _,
             tally,
         } = self;
         slots.destroy();
@@ -347,66 +461,63 @@ impl<T: Item<T>> Core<T> {
     ) -> Result<Core<T>, AllocError>
         requires idle { time.places ≡ [] }
         requires room { time.room ≡ slots }
-        ensures { IfOk result (IsBlank time slots cells) }
+        requires participants { time.participants ≡ participants }
+        requires nesting { time.nesting < 2 ^ 32 }
+        ensures blank { IfOk result (λ core. IsBlank time slots cells core.world) }
+        ensures lent { IfOk result AreLent }
     {
         let cells = Cells::new(alloc, cells)?;
+        let tenures = Tenures::new(alloc, participants as usize)?;
         let slots = Slots::new(alloc, slots, participants)?;
         Ok(Core {
             time,
             slots,
             cells,
+            tenures,
             tally: Tally::new(),
         })
     }
 
     pub fn register(&mut self) -> Result<usize, Refused>
         ensures registered { MatchResult result
-            (λ p. time.IsVacant self.old.time p × (self.new ≡ registered self.old p))
-            (λ e. ((e ≡ Refused.NoPlace) × time.IsCrowded self.old.time ⊎ (e ≡ Refused.NoMemory) × ¬ (time.IsCrowded self.old.time)) × (self.new ≡ self.old)) }
-        ensures slots { (length self.new.standings ≡ length self.old.standings) × (self.new.home ≡ self.old.home) }
-        ensures whole { IsWhole self.old → IsWhole self.new }
+            (λ p. time.IsVacant self.old.world.time p × (self.new ≡ record self.old { world = registered self.old.world p }))
+            (λ e. ((e ≡ Refused.NoPlace) × time.IsCrowded self.old.world.time ⊎ (e ≡ Refused.NoMemory) × ¬ (time.IsCrowded self.old.world.time))
+            × (self.new ≡ self.old)) }
+        ensures slots { (length self.new.world.standings ≡ length self.old.world.standings) × (self.new.world.home ≡ self.old.world.home) }
+        ensures whole { IsWhole self.old.world → IsWhole self.new.world }
+        ensures lent { IsWhole self.old.world → AreLent self.old → AreLent self.new }
     {
         self.time.register()
     }
 
     /// What waits with a participant is left at its place, until another one adopts it.
     pub fn end(&mut self, place: usize)
-        requires place { IsPlaceOf self.old place }
-        ensures ended { self.new ≡ ended self.old place }
-        ensures slots { (length self.new.standings ≡ length self.old.standings) × (self.new.home ≡ self.old.home) }
-        ensures whole { ¬ (IsTrue (time.is_open (place_at self.old place))) → IsWhole self.old → IsWhole self.new }
+        requires place { IsPlaceOf self.old.world place }
+        ensures ended { self.new ≡ record self.old { world = ended self.old.world place } }
+        ensures slots { (length self.new.world.standings ≡ length self.old.world.standings) × (self.new.world.home ≡ self.old.world.home) }
+        ensures whole { ¬ (IsTrue (time.is_open (place_at self.old.world place))) → IsWhole self.old.world → IsWhole self.new.world }
+        ensures lent { ¬ (IsTrue (time.is_open (place_at self.old.world place))) → IsWhole self.old.world → AreLent self.old → AreLent self.new }
     {
         self.time.end(place);
     }
 
     pub fn time(&self) -> &Time
-        ensures { result.now ≡ self.now.time }
+        ensures { result.now ≡ self.now.world.time }
     {
         &self.time
     }
 
     pub fn tally(&self) -> Tally
-        ensures { result ≡ self.now.tally }
+        ensures { result ≡ self.now.world.tally }
     {
         self.tally
     }
 
     /// The value of an owner's item.
     pub fn value<'a>(&'a self, right: &Right) -> &'a T
-        requires { home_of right.now ≡ self.now.home.slots }
-        ensures { value_at self.now (number_of right.now) ≡ Some result.now }
+        requires { home_of right.now ≡ self.now.world.home.slots }
+        ensures { value_at self.now.world (number_of right.now) ≡ Some result.now }
     {
         self.slots.value(right)
-    }
-
-    /// The value in a slot that isn't free.
-    pub fn shown(&self, slot: u32) -> &T
-        requires { IsSome (standing_at self.now slot) }
-        ensures { value_at self.now slot ≡ Some result.now }
-    {
-        let Some(value) = self.slots.look(slot) else {
-            unreachable!()
-        };
-        value
     }
 }

@@ -1,4 +1,4 @@
-ghost use Rattle.std.specs.Prelude.{◌≡◌, ℕ, Some, MatchOption, IsSome};
+ghost use Rattle.std.specs.Prelude.{◌≡◌, ℕ, Some, option_copied};
 ghost use Rattle.sdd_base.specs.World.{World, IsPlaceOf, place_at, standing_at, value_at};
 ghost use Rattle.sdd_world.specs.Place.{index_of};
 ghost use Rattle.sdd_world.specs.Shown.{one_value};
@@ -7,7 +7,7 @@ ghost use Rattle.sdd_base.specs.Steps.{retired, cell_closed};
 ghost use Rattle.sdd_base.specs.Owned.{slot_of, slots_home, cell_of, cells_home};
 ghost use Rattle.sdd_store.specs.Time.{awaiting};
 ghost use Rattle.sdd_store.specs.Waiting.What.{Item};
-ghost use Rattle.sdd_base.specs.Ptr.{IsNull, NamesFilled, NamesShown, KeepsShown};
+ghost use Rattle.sdd_base.specs.Ptr.{KeepsShown, shown_by};
 ghost use Rattle.sdd_base.specs.Own.{IsSpilled};
 ghost use Rattle.sdd_base.specs.Known.{KnowsOn};
 
@@ -47,14 +47,12 @@ impl<T: Item<T>> World<T> {
 }
 
 impl<T: Item<T>> Shows<T> for World<T> {
-    ghost use Rattle.std.specs.Prelude.{◌≡◌, Some, IsSome};
-    ghost use Rattle.sdd_base.specs.World.{standing_at, value_at};
+    ghost use Rattle.std.specs.Prelude.{◌≡◌, Some};
+    ghost use Rattle.sdd_base.specs.World.{value_at};
 
     ghost home = { λ w. w.home };
 
     ghost shows = { λ w k value. value_at w k ≡ Some value };
-
-    ghost filled = { λ w k. IsSome (standing_at w k) };
 }
 
 impl<T: Item<T>> Look<T> for World<T> {
@@ -62,30 +60,22 @@ impl<T: Item<T>> Look<T> for World<T> {
         self.core.value(right)
     }
 
-    fn guarded<'g>(&'g self, right: &Right, _guard: &'g Guard) -> &'g T {
-        self.core.value(right)
-    }
-
-    fn look<'g>(&'g self, ptr: Ptr<'g, T>) -> Option<&'g T>
-        requires filled { NamesFilled (λ k. IsSome (standing_at self.now k)) ptr }
-        ensures null { MatchOption result (IsNull ptr.entry) (λ value. NamesShown (λ k v. value_at self.now k ≡ Some v) ptr.entry value.now) }
+    fn look<'g>(&self, ptr: Ptr<'g, T>) -> Option<&'g T>
+        ensures { option_copied result ≡ shown_by ptr.entry }
     {
-        let slot = inner::slot_of_ptr(&ptr)?;
-        Some(self.core.shown(slot))
+        inner::value_of_ptr(ptr)
     }
 
     ghost one_value = { λ w k u v a b. one_value w k u v a b };
 }
 
 impl<T: Item<T>> Shows<T> for Turn<'_, T> {
-    ghost use Rattle.std.specs.Prelude.{◌≡◌, Some, IsSome};
-    ghost use Rattle.sdd_base.specs.World.{standing_at, value_at};
+    ghost use Rattle.std.specs.Prelude.{◌≡◌, Some};
+    ghost use Rattle.sdd_base.specs.World.{value_at};
 
     ghost home = { λ t. t.world.now.home };
 
     ghost shows = { λ t k value. value_at t.world.now k ≡ Some value };
-
-    ghost filled = { λ t k. IsSome (standing_at t.world.now k) };
 }
 
 impl<T: Item<T>> Look<T> for Turn<'_, T> {
@@ -94,18 +84,10 @@ impl<T: Item<T>> Look<T> for Turn<'_, T> {
         world.core.value(right)
     }
 
-    fn guarded<'g>(&'g self, right: &Right, _guard: &'g Guard) -> &'g T {
-        let world: &World<T> = self.world;
-        world.core.value(right)
-    }
-
-    fn look<'g>(&'g self, ptr: Ptr<'g, T>) -> Option<&'g T>
-        requires filled { NamesFilled (λ k. IsSome (standing_at self.now.world.now k)) ptr }
-        ensures null { MatchOption result (IsNull ptr.entry) (λ value. NamesShown (λ k v. value_at self.now.world.now k ≡ Some v) ptr.entry value.now) }
+    fn look<'g>(&self, ptr: Ptr<'g, T>) -> Option<&'g T>
+        ensures { option_copied result ≡ shown_by ptr.entry }
     {
-        let slot = inner::slot_of_ptr(&ptr)?;
-        let world: &World<T> = self.world;
-        Some(world.core.shown(slot))
+        inner::value_of_ptr(ptr)
     }
 
     ghost one_value = { λ t k u v a b. one_value t.world.now k u v a b };
@@ -124,18 +106,18 @@ impl<T: Item<T>> Guards<T> for Turn<'_, T> {
 
     ghost world = { λ t. t.world.now };
 
-    fn open_guard(&mut self) -> Result<usize, Refused> {
+    fn open_guard(&mut self) -> Result<Guard, Refused> {
         if !self.world.time().can_nest(self.place) {
             return Err(Refused::TooManyGuards);
         }
         let world = &mut *self.world;
-        world.core.open(self.place, &mut world.spare);
-        Ok(self.place)
+        let part = world.core.open(self.place, &mut world.spare);
+        Ok(inner::guard_with(part))
     }
 
-    fn close_guard(&mut self) {
+    fn close_guard(&mut self, guard: Guard) {
         let world = &mut *self.world;
-        world.core.close(self.place);
+        world.core.close(self.place, inner::part_of_guard(guard));
     }
 
     fn count(&mut self) -> u64 {
@@ -161,8 +143,6 @@ impl<T: Item<T>> Guards<T> for Turn<'_, T> {
     ghost own_is_place = { λ _ _. refl };
 
     ghost shows_is_value = { λ _ _ _ _. (λ h. h, λ h. h) };
-
-    ghost filled_is_taken = { λ _ _ _. (λ h. h, λ h. h) };
 }
 
 impl<T: Item<T>> Space<T> for Turn<'_, T> {
@@ -191,6 +171,11 @@ impl<T: Item<T>> Space<T> for Turn<'_, T> {
         }
     }
 
+    fn guarded<'g>(&mut self, right: &Right, guard: &'g Guard) -> &'g T {
+        let world = &mut *self.world;
+        world.core.lend(self.place, right, inner::tenure_of(guard))
+    }
+
     fn retire(&mut self, owner: Owned<T>)
         requires seated { IsSeated (seat_on self.old.world.now self.old.place self.old.world.ghost_name) }
         requires home { slots_home owner ≡ self.old.world.now.home.slots }
@@ -204,8 +189,7 @@ impl<T: Item<T>> Space<T> for Turn<'_, T> {
         ensures exact { IsExact (seat_on self.old.world.now self.old.place self.old.world.ghost_name) →
             self.new.world.now ≡ retired self.old.world.now self.old.place (slot_of owner) }
         ensures keeps { KeepsShown
-            (λ k value. value_at self.old.world.now k ≡ Some value) (λ k. IsSome (standing_at self.old.world.now k))
-            (λ k value. value_at self.new.world.now k ≡ Some value) (λ k. IsSome (standing_at self.new.world.now k)) }
+            (λ k value. value_at self.old.world.now k ≡ Some value) (λ k value. value_at self.new.world.now k ≡ Some value) }
     {
         let world = &mut *self.world;
         world.core.retire(self.place, inner::right_of_owner(owner));
@@ -230,8 +214,7 @@ impl<T: Item<T>> Space<T> for Turn<'_, T> {
         ensures exact { IsExact (seat_on self.old.world.now self.old.place self.old.world.ghost_name) →
             self.new.world.now ≡ cell_closed self.old.world.now self.old.place (cell_of cell) }
         ensures keeps { KeepsShown
-            (λ k value. value_at self.old.world.now k ≡ Some value) (λ k. IsSome (standing_at self.old.world.now k))
-            (λ k value. value_at self.new.world.now k ≡ Some value) (λ k. IsSome (standing_at self.new.world.now k)) }
+            (λ k value. value_at self.old.world.now k ≡ Some value) (λ k value. value_at self.new.world.now k ≡ Some value) }
     {
         let right = inner::right_of_cell(cell);
         let world = &mut *self.world;

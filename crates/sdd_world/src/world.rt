@@ -5,7 +5,10 @@ ghost use Rattle.sdd_store.specs.Time.{CanNest, phase_at, IsVacant, IsCrowded, i
 ghost use Rattle.sdd_store.specs.Table.{IsEmptyAt, IsFull};
 ghost use Rattle.sdd_base.specs.Holding.{AreOf};
 ghost use Rattle.sdd_store.specs.declared.standing.Standing.TheVariants as standing;
-ghost use Rattle.sdd_base.specs.World.{World, IsGuarded, IsPlaceOf, IsNew, place_at, standing_at};
+ghost use Rattle.sdd_base.specs.World.{World, IsGuarded, IsPlaceOf, IsNew, place_at, standing_at, value_at};
+ghost use Rattle.sdd_base.specs.Guard.{reader_of};
+ghost use Rattle.sdd_base.specs.Seat.{reader_at};
+ghost use Rattle.sdd_base.specs.Under.{Stays};
 ghost use Rattle.sdd_base.specs.Owned.{slot_of, slots_home};
 ghost use Rattle.sdd_base.specs.Out.{out};
 ghost use Rattle.sdd_base.specs.Limits.{AreInRange};
@@ -15,7 +18,7 @@ mod closing;
 mod laws;
 
 use crate::inside::Core;
-use sdd_base::{Item, Limits, Owned, inner};
+use sdd_base::{Guard, Item, Limits, Owned, inner};
 use sdd_core::Refused;
 use sdd_store::{Tally, Time};
 use std::alloc::Global;
@@ -34,12 +37,13 @@ impl<T: Item<T>> Model for World<T> {
     ghost use Rattle.std.specs.Prelude.{◌≡◌, ◌≤◌, [], length, vec_capacity};
     ghost use Rattle.sdd_base.specs.World.{World};
     ghost use Rattle.sdd_base.specs.Whole.{IsWhole};
+    ghost use Rattle.sdd_world.specs.Lending.{AreLent};
 
     ghost Value = { World T };
 
-    ghost view = { λ w. w.core };
+    ghost view = { λ w. w.core.world };
 
-    ghost invariant = { λ w. (w.spare.items ≡ []) × (length w.core.standings ≤ vec_capacity w.spare) × IsWhole w.core };
+    ghost invariant = { λ w. (w.spare.items ≡ []) × (length w.core.world.standings ≤ vec_capacity w.spare) × IsWhole w.core.world × AreLent w.core };
 }
 
 /// A participant of a world.
@@ -152,6 +156,18 @@ impl<T: Item<T>> World<T> {
         ensures left { (p : ℕ) × IsSome (phase_at self.old.time p) × (self.new ≡ retired self.old p (slot_of owner)) }
     {
         self.core.leave(inner::right_of_owner(owner));
+    }
+
+    /// The value in a slot whose item stays there while a guard of the place is open, for as long as this guard is borrowed.
+    pub(crate) fn lend<'g>(&mut self, place: &Place, slot: u32, guard: &'g Guard) -> &'g T
+        requires place { IsPlaceOf self.old (index_of place.now) }
+        requires reader { reader_of guard.now ≡ reader_at self.old (index_of place.now) }
+        requires stays { Stays self.old (index_of place.now) slot }
+        ensures value { value_at self.old slot ≡ Some result.now }
+        ensures world { self.new ≡ self.old }
+    {
+        self.core
+            .lend_from(place.index, slot, inner::tenure_of(guard))
     }
 
     pub(crate) fn time(&self) -> &Time

@@ -43,8 +43,9 @@ impl<T: Item<T>> World<T> {
         Ok(core.destroy())
     }
 
-    /// Reclaims what waits.
+    /// Reclaims what waits. No guard is open, so nothing is lent.
     fn clear(&mut self)
+        requires quiet { ¬ (IsGuarded self.old) }
         ensures { Closes T.holds self.old self.new }
     {
         for place in 0..self.time().len() {
@@ -52,9 +53,10 @@ impl<T: Item<T>> World<T> {
         }
     }
 
-    /// Reclaims what waits with a place.
+    /// Reclaims what waits with a place. No guard is open.
     fn clear_place(&mut self, place: usize)
-        requires { HasPlace self.old place }
+        requires place { HasPlace self.old place }
+        requires quiet { ¬ (IsGuarded self.old) }
         ensures changes { (places : List ℕ) × (self.new ≡ all_aged_out T.holds self.old places) }
         ensures time { self.new.time ≡ with_place self.old.time place (without_waiting (place_at self.old.time place)) }
         ensures home { self.new.home ≡ self.old.home }
@@ -64,9 +66,10 @@ impl<T: Item<T>> World<T> {
         }
     }
 
-    /// A change of a place, which keeps its pace.
+    /// A change of a place, which keeps its pace. No guard is open.
     fn age_out(&mut self, place: usize)
         requires place { HasPlace self.old place }
+        requires quiet { ¬ (IsGuarded self.old) }
         requires waits { (place_at self.old.time place).bags.waiting ≢ [] }
         ensures aged { self.new ≡ aged_out T.holds self.old place }
         ensures sizes { KeepsSizes self.old self.new }

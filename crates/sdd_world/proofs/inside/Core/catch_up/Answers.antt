@@ -10,6 +10,7 @@ use Rattle.sdd_base.specs.World.{World, place_at}
 use Rattle.sdd_base.specs.Steps.{all_reclaimed, changed}
 use Rattle.sdd_base.specs.Steps as steps
 use Rattle.sdd_world.specs.Closing.{paced}
+use Rattle.sdd_world.specs.Core.{Core}
 use Rattle.sdd_world.proofs.inside.Core.catch_up.Goals as goal
 
 -- the pace of a participant that has found a count, and with which nothing waits
@@ -40,9 +41,10 @@ caught {T} holds w p l e =
     let nothing = ap (λ (xs : List What). steps.settled (all_reclaimed holds (steps.rotated w p) p xs) p) none in
     sym (nothing ∙ ap (λ (t : Time). record w { time = t }) (turned_at w.time p l e))
 
-caught_as : {T : Type 0} {v w : World T} → v ≡ w → (holds : T → List Holding) (p : ℕ) → p < length w.time.places → (place_at w p).bags.waiting ≡ [] →
-    paced v p (idle v.time.count) ≡ changed holds w p
-caught_as {T} {v} {w} same holds p l e = rw same (caught holds w p l e)
+caught_as : {T : Type 0} {v w : Core T} → v ≡ w → (holds : T → List Holding) (p : ℕ) → p < length w.world.time.places →
+    (place_at w.world p).bags.waiting ≡ [] →
+    record v { world = paced v.world p (idle v.world.time.count) } ≡ record w { world = changed holds w.world p }
+caught_as {T} {v} {w} same holds p l e = rw same (ap (λ (u : World T). record w { world = u }) (caught holds w.world p l e))
 
 pub returns-clause-changed : goal.returns-clause-changed
 returns-clause-changed g c =

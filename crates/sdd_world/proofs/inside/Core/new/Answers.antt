@@ -1,9 +1,9 @@
-use Rattle.std.proofs.Common.{◌≡◌, ap, arith, sum_by}
+use Rattle.std.proofs.Common.{◌≡◌, ap, sym, ◌∙◌, arith, sum_by}
 use Rattle.std.proofs.lemmas.Grind.{common_steps}
 use Rattle.std.proofs.lemmas.List.Sums.{count_by-le-length}
 use Rattle.sdd_store.specs.Time.{waiting_count}
-use Rattle.sdd_places.proofs.Stakes.{home-unlent}
 use Rattle.sdd_base.specs.World.{is_loose}
+use Rattle.sdd_world.proofs.Lending.{lent-blank}
 use Rattle.sdd_world.proofs.inside.Core.new.Goals as goal
 
 pub invariant_of-result : goal.invariant_of-result
@@ -14,5 +14,12 @@ invariant_of-result g c =
       reserved = grind (arith, common_steps);
       empty = grind (arith, common_steps);
       homes = grind (arith, common_steps);
-      unlent = λ k. rw (c.in_ok-slots.ensures.stakes.0) (home-unlent c.args.slots c.args.participants k);
+      participants = grind (arith, common_steps);
+      tenures = grind (arith, common_steps);
+      readers = grind (arith, common_steps);
     }
+
+pub returns-clause-lent : goal.returns-clause-lent
+returns-clause-lent g c =
+    lent-blank _ _ c.args.slots c.args.participants c.requires.idle c.requires.nesting c.in_ok-slots.ensures.stakes.0 c.in_ok-tenures.ensures.size
+    (c.in_ok-tenures.ensures.count ∙ sym c.in_ok-tenures.ensures.size) c.in_ok-tenures.ensures.closed

@@ -1,7 +1,15 @@
-use Rattle.sdd_base.proofs.Housed.{Whole-changes_nested}
+use Rattle.std.proofs.Common.{sym}
+use Rattle.sdd_world.proofs.Lending.{due-home, lent-opened, part-left, reader-there}
 use Rattle.sdd_world.proofs.inside.Core.open.Goals as goal
 
-pub returns-then-open-clause-whole : goal.returns-then-open-clause-whole
-returns-then-open-clause-whole g c =
-    rw (c.change.ensures.changed, c.open.ensures.opened, ← c.self.view_is)
-    (λ i. Whole-changes_nested g.T.Item.holds _ c.args.place (rw (← c.self.view_is) at c.requires.place) i)
+pub enter-requires-clause-home : goal.enter-requires-clause-home
+enter-requires-clause-home g c = due-home g.T.Item.holds _ _ c.args.place c.requires.place.0 c.requires.whole c.requires.lent
+
+pub returns-clause-lent : goal.returns-clause-lent
+returns-clause-lent g c =
+    let lent = rw (← c.self.view_is) at c.requires.lent in
+    let live = rw (← c.self.view_is) at c.requires.place in
+    rw (c.share.ensures.shared, c.enter.ensures.opened, ← c.self.view_is)
+    (lent-opened g.T.Item.holds _ _ c.args.place live (reader-there _ _ lent (sym c.self.invariant.tenures) c.args.place live.0)
+    (part-left _ _ lent c.args.place (rw (← c.self.view_is) at c.requires.few)) (rw (← c.self.view_is) at c.requires.whole)
+    (rw (c.enter.ensures.opened, ← c.self.view_is) at c.enter.ensures.sizes) lent)

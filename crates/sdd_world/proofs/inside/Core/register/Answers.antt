@@ -3,10 +3,14 @@ use Rattle.std.specs.Prelude.{MatchResult, Result}
 use Rattle.sdd_core.specs.declared.refused.Refused.{Refused}
 use Rattle.sdd_store.specs.Time.{Time, IsVacant}
 use Rattle.sdd_store.specs.Time as time
+use Rattle.sdd_places.specs.Tenures.{Tenures}
 use Rattle.sdd_slots.specs.Slots.{Slots}
 use Rattle.sdd_slots.specs.Cells.{Cells}
 use Rattle.sdd_base.specs.Holding.{Holding}
+use Rattle.sdd_base.specs.Lending.{Lending}
 use Rattle.sdd_world.specs.Core.{IsSound}
+use Rattle.sdd_world.specs.Lending.{AreLentOf}
+use Rattle.sdd_world.proofs.Lending.{lent-registered}
 use Rattle.sdd_base.specs.World.{World}
 use Rattle.sdd_base.specs.Whole.{IsWhole}
 use Rattle.sdd_base.proofs.Housed.{Whole-registered, registered-adds}
@@ -19,24 +23,38 @@ registers : {T : Type 0} (w : World T) (t : Time) (answer : Result ℕ Refused) 
 registers w t (Ok p) h i = rw h.1 (Whole-registered w p h.0 i)
 registers w t (Err e) h i = rw h i
 
+-- what is lent stays so
+lends : {T : Type 0} (holds : T → List Holding) (w : World T) (t : Time) (l : Lending) (answer : Result ℕ Refused) →
+    MatchResult answer (λ p. IsVacant w.time p × (t ≡ time.registered w.time p)) (λ _. t ≡ w.time) → w.time.participants ≡ w.home.readers.size →
+    IsWhole w → AreLentOf w l → AreLentOf (record w { time = t }) l
+lends holds w t l (Ok p) h n i k = rw h.1 (lent-registered holds w l p h.0 n i k)
+lends holds w t l (Err e) h n i k = rw h k
+
 -- there is room for what waits, as before
-sound : {T : Type 0} (holds : T → List Holding) (t u : Time) (s : Slots T) (c : Cells) (answer : Result ℕ Refused) →
-    MatchResult answer (λ p. IsVacant t p × (u ≡ time.registered t p)) (λ _. u ≡ t) → IsSound holds t s c → IsSound holds u s c
-sound holds t u s c (Ok p) h i =
+sound : {T : Type 0} (holds : T → List Holding) (t u : Time) (s : Slots T) (c : Cells) (r : Tenures) (answer : Result ℕ Refused) →
+    MatchResult answer (λ p. IsVacant t p × (u ≡ time.registered t p)) (λ _. u ≡ t) → IsSound holds t s c r → IsSound holds u s c r
+sound holds t u s c r (Ok p) h i =
     let a = registered-adds t p in
     rw h.1 (record {
       counted = omega (arith, i.counted, a.waiting);
       reserved = a.room ∙ i.reserved;
       empty = i.empty;
       homes = i.homes;
-      unlent = i.unlent;
+      participants = a.participants ∙ i.participants;
+      tenures = i.tenures;
+      readers = i.readers;
     })
-sound holds t u s c (Err e) h i = rw h i
+sound holds t u s c r (Err e) h i = rw h i
 
 pub invariant_of-self : goal.invariant_of-self
 invariant_of-self g c =
-    sound g.T.Item.holds c.self.inside.time c.register.new.self c.self.inside.slots c.self.inside.cells c.register.result c.register.ensures.registered
+    sound g.T.Item.holds c.self.inside.time c.register.new.self c.self.inside.slots c.self.inside.cells c.self.inside.tenures c.register.result
+    c.register.ensures.registered
     c.self.invariant
 
 pub returns-clause-whole : goal.returns-clause-whole
 returns-clause-whole g c = rw (← c.self.view_is) (λ i. registers _ c.register.new.self c.register.result c.register.ensures.registered i)
+
+pub returns-clause-lent : goal.returns-clause-lent
+returns-clause-lent g c = rw (← c.self.view_is) (λ i k.
+    lends g.T.Item.holds _ c.register.new.self _ c.register.result c.register.ensures.registered c.self.invariant.participants i k)

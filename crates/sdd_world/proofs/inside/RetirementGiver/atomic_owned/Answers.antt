@@ -5,7 +5,7 @@ use Rattle.sdd_world.proofs.inside.RetirementGiver.atomic_owned.Goals as goal
 
 pub returns-clause-own : goal.returns-clause-own
 returns-clause-own g c =
-    let w = c.args.self.now.core.now in
+    let w = c.args.self.now.core.now.world in
     let p : ℕ = c.args.self.now.place in
     let cell : ℕ = cell_of c.args.cell in
     rw (c.close_cell.ensures.closed, c.right_of_cell.ensures.cell) (gives-grows c.requires.seated.0 (Gives-cell_closed w p cell c.requires.seated.0))

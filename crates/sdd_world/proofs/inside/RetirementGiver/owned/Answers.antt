@@ -5,7 +5,7 @@ use Rattle.sdd_world.proofs.inside.RetirementGiver.owned.Goals as goal
 
 pub returns-clause-own : goal.returns-clause-own
 returns-clause-own g c =
-    let w = c.args.self.now.core.now in
+    let w = c.args.self.now.core.now.world in
     let p : ℕ = c.args.self.now.place in
     let slot : ℕ = slot_of c.args.owner in
     rw (c.retire.ensures.retired, c.right_of_owner.ensures.slot) (gives-grows c.requires.seated.0 (Gives-retired w p slot))

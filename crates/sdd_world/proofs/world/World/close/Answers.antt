@@ -19,6 +19,11 @@ returns-then-is_any_open g c =
       swept = λ e. cc;
     }
 
+pub clear-requires : goal.clear-requires
+clear-requires g c = record {
+  quiet = λ some. let any : IsTrue c.is_any_open.result = c.is_any_open.ensures.1 (rw c.time.ensures some) in absurd (cc);
+}
+
 pub returns-then-not-is_unused : goal.returns-then-not-is_unused
 returns-then-not-is_unused g c =
     let holds = g.T.Item.holds in
