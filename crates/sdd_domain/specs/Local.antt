@@ -4,16 +4,18 @@ use Rattle.atomic_table.specs.Seated.{TableId}
 use Rattle.sdd_base.specs.declared.limits.Limits.{Limits}
 use Rattle.sdd_store.specs.declared.time.Participant.{Participant}
 use Rattle.sdd_store.specs.Time.{newcomer, nested}
+use Rattle.sdd_base.specs.Guard.{Reader}
 use Rattle.sdd_base.specs.Own.{opened_at, closed_with}
 use Rattle.sdd_store.specs.declared.tally.Tally.{Tally}
 use Rattle.sdd_store.specs.Tally.{no_items}
 
--- the domain, its limits, the place, what the participant keeps of its own, the greatest count that it knows,
+-- the domain, its limits, the place, whose guards are the participant's, what it keeps of its own, the greatest count that it knows,
 -- the global count at its last publish (0 before the first), and what it made and reclaimed
 pub record Member : Type 0 where
   pub home : TableId
   pub limits : Limits
   pub place : ℕ
+  pub reader : Reader
   pub own : Participant
   pub known : ℕ
   pub since : ℕ
@@ -31,11 +33,12 @@ IsGuarded m = 0 < m.own.guards
 abbrev pub CanNest : Member → Type 0
 CanNest m = m.own.guards < m.limits.nesting
 
--- it has just registered with this domain; where it is lone, the count is 0 then
+-- it has just registered with this domain, as the only reader of a home of its own; where it is lone, the count is 0 then
 pub record IsNew (domain : TableId) (most : Limits) (m : Member) : Type 0 where
   pub home : m.home ≡ domain
   pub limits : m.limits ≡ most
   pub place : m.place < most.participants
+  pub reader : (m.reader.home.size ≡ 1) × (m.reader.number ≡ 0)
   pub own : m.own ≡ newcomer most.slots
   pub since : m.since ≡ 0
   pub lone : IsLone m → m.known ≡ 0

@@ -1,7 +1,11 @@
 -- What holds of a participant between two calls
-use Rattle.std.specs.Prelude.{◌≡◌, ℕ, ◌+◌, ◌<◌, ◌≤◌, []}
+use Rattle.std.specs.Prelude.{◌≡◌, ℕ, ◌+◌, ◌^◌, ◌<◌, ◌≤◌, [], if◌then◌else◌}
 use Rattle.atomic_table.specs.declared.shared.Seat.{Seat}
 use Rattle.sdd_store.specs.declared.time.Participant.{Participant}
+use Rattle.sdd_store.specs.Time.{is_open}
+use Rattle.sdd_token.specs.declared.part.Part.{Part}
+use Rattle.sdd_places.specs.declared.tenures.Stage.{Stage}
+use Rattle.sdd_places.specs.declared.tenures.Stage.TheVariants.{Closed, Open}
 use Rattle.sdd_rule.specs.declared.EpochView.{EpochView}
 use Rattle.sdd_rule.specs.declared.View.{View}
 use Rattle.sdd_rule.specs.Epoch.{IsClosed, IsOpen, Scans, IsLone}
@@ -30,3 +34,8 @@ module _ {S : Type 0} (b : Board) (p : ℕ) (own : Participant) (token : Seat S 
     pub lone : 0 < own.guards → IsLone (epoch token) → (epoch token).known ≡ (epoch token).count
     pub free : ¬ (Scans (epoch token))
     pub bare : own.bags.waiting ≡ []
+
+-- the part of a tenure that the participant keeps: each of its open guards has one unit more, and the tenure is open exactly while one is
+pub record IsTenureOf (own : Participant) (part : Part Stage) : Type 0 where
+  pub units : part.units + own.guards ≡ 2 ^ 63
+  pub kind : part.kind ≡ (if is_open own then Open else Closed)

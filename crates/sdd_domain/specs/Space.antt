@@ -9,9 +9,9 @@ use Rattle.sdd_base.specs.Seat.{Seat, IsExact}
 use Rattle.sdd_base.specs.World.{World}
 use Rattle.sdd_domain.specs.Local.{Member}
 
--- where there are no slots and no cells
+-- where there are no slots and no cells; each reader is numbered in a home of its own
 abbrev pub nowhere : Home
-nowhere = record { slots = record { name = 0; size = 0 }; cells = record { name = 0; size = 0 } }
+nowhere = record { slots = record { name = 0; size = 0 }; cells = record { name = 0; size = 0 }; readers = record { name = 0; size = 0 } }
 
 abbrev pub seat_of : Member → Seat
 seat_of m = record {
@@ -21,6 +21,7 @@ seat_of m = record {
   live = true;
   loan = 0;
   home = nowhere;
+  reader = m.reader;
   nesting = m.limits.nesting;
   exact = false;
   lone = m.limits.participants == 1;

@@ -5,14 +5,20 @@ ghost use Rattle.sdd_domain.specs.Board.{id_of, places_of};
 ghost use Rattle.sdd_domain.specs.Token.{epoch, IsSameBut};
 ghost use Rattle.sdd_domain.specs.Domain.{home_of, limits_of};
 ghost use Rattle.sdd_domain.specs.Local.{CanNest, IsGuarded, IsNew, IsOpened, Opens, Closes, IsTold};
+ghost use Rattle.sdd_base.specs.Guard.{reader_of};
+ghost use Rattle.sdd_places.specs.declared.tenures.Stage.TheVariants.{Closed as is_closed};
 
 use crate::board::{Board, Token};
 use crate::domain::Domain;
 use crate::receipt::Receipt;
 use crate::scan::scan;
 use crate::steps;
+use sdd_base::Guard;
+use sdd_base::inner::{guard_with, part_of_guard};
 use sdd_core::Refused;
+use sdd_places::{Stage, Tenure, end_round};
 use sdd_store::{Bags, Participant, Tally};
+use sdd_token::{Book, WHOLE};
 use std::marker::Model;
 
 /// A participant of a domain.
@@ -25,13 +31,15 @@ pub struct Local<'d> {
     /// How many of its guards may be open at once, as the domain's limits say.
     nesting: u32,
     own: Participant,
+    /// What its open guards don't have of its tenure: each of them has one unit.
+    tenure: Tenure,
     tally: Tally,
 }
 
 impl<'d> Model for Local<'d> {
     ghost use Rattle.std.specs.Prelude.{◌≡◌};
     ghost use Rattle.sdd_domain.specs.Local.{Member};
-    ghost use Rattle.sdd_domain.specs.Posed.{IsPosed};
+    ghost use Rattle.sdd_domain.specs.Posed.{IsPosed, IsTenureOf};
 
     ghost Value = { Member };
 
@@ -39,13 +47,14 @@ impl<'d> Model for Local<'d> {
       home = l.token.table_id;
       limits = l.domain.now.limits;
       place = l.place;
+      reader = record { home = l.tenure.home; number = l.tenure.number };
       own = l.own;
       known = l.token.me.0.epoch.known;
       since = l.token.me.0.epoch.since;
       tally = l.tally;
     } };
 
-    ghost invariant = { λ l. IsPosed l.domain.now.board l.place l.own l.token × (l.nesting ≡ l.domain.now.limits.nesting) };
+    ghost invariant = { λ l. IsPosed l.domain.now.board l.place l.own l.token × (l.nesting ≡ l.domain.now.limits.nesting) × IsTenureOf l.own l.tenure };
 }
 
 /// Takes a free place.
@@ -72,6 +81,16 @@ fn want_of_memory(board: &Board) -> Refused
     } else {
         Refused::NoPlace
     }
+}
+
+/// The tenure of a new participant, whole and with no guard open: the only one of its home.
+fn own_tenure() -> Tenure
+    ensures reader { (result.home.size ≡ 1) × (result.number ≡ 0) }
+    ensures closed { result.kind ≡ is_closed }
+    ensures whole { result.units ≡ WHOLE }
+{
+    let mut book = Book::new(1);
+    book.issue(&Stage::Closed)
 }
 
 impl<'d> Local<'d> {
@@ -101,6 +120,7 @@ impl<'d> Local<'d> {
                 guards: 0,
                 bags,
             },
+            tenure: own_tenure(),
             tally: Tally::new(),
         })
     }
@@ -122,6 +142,7 @@ impl<'d> Local<'d> {
             place,
             nesting: _,
             own: _,
+            tenure: _,
             tally,
         } = self;
         steps::end(&domain.board, &mut token, place);
@@ -139,26 +160,27 @@ impl<'d> Local<'d> {
     ///
     /// `TooManyGuards` where as many are open as may nest.
     #[inline]
-    pub(crate) fn open_guard(&mut self) -> Result<usize, Refused>
+    pub(crate) fn open_guard(&mut self) -> Result<Guard, Refused>
         ensures { MatchResult result
-            (λ place. (place ≡ self.old.place) × CanNest self.old × Opens self.old self.new)
+            (λ guard. (reader_of guard ≡ self.old.reader) × CanNest self.old × Opens self.old self.new)
             (λ e. (e ≡ Refused.TooManyGuards) × ¬ (CanNest self.old) × (self.new ≡ self.old)) }
     {
         if self.own.guards == 0 {
-            self.enter();
+            Ok(self.enter())
         } else if self.own.guards < self.nesting {
             self.own.guards += 1;
+            Ok(guard_with(self.tenure.split(1)))
         } else {
-            return Err(Refused::TooManyGuards);
+            Err(Refused::TooManyGuards)
         }
-        Ok(self.place)
     }
 
     /// The outermost opening: reads the count, writes it where it isn't there already, and then publishes it.
     #[inline]
-    fn enter(&mut self)
+    fn enter(&mut self) -> Guard
         requires { ¬ (IsGuarded self.old) }
-        ensures { (count : ℕ) × IsOpened count self.old self.new }
+        ensures reader { reader_of result ≡ self.old.reader }
+        ensures opened { (count : ℕ) × IsOpened count self.old self.new }
     {
         let board = &self.domain.board;
         let place = self.place;
@@ -171,24 +193,32 @@ impl<'d> Local<'d> {
         }
         steps::publish(board, &mut self.token, place);
         self.own.guards = 1;
+        self.tenure.set(&Stage::Open, &());
+        guard_with(self.tenure.split(1))
     }
 
-    /// Closes a guard; the last one publishes the end, after a scan at countdown 0.
+    /// Closes a guard; the last one publishes the end, after a scan at countdown 0. Since the guard is here, one is open.
     #[inline]
-    pub(crate) fn close_guard(&mut self)
+    pub(crate) fn close_guard(&mut self, guard: Guard)
+        requires { reader_of guard ≡ self.old.reader }
         ensures { Closes self.old self.new }
     {
+        let mut part = part_of_guard(guard);
+        self.tenure.apart(&mut part);
         if self.own.guards > 1 {
             self.own.guards -= 1;
-        } else if self.own.guards == 1 {
-            self.leave();
+            self.tenure.join(part);
+        } else {
+            self.leave(part);
         }
     }
 
-    /// The last close.
+    /// The last close, which gives back the one part of the tenure that was out: the tenure ends.
     #[inline]
-    fn leave(&mut self)
-        requires { self.old.own.guards ≡ 1 }
+    fn leave(&mut self, part: Tenure)
+        requires last { self.old.own.guards ≡ 1 }
+        requires reader { (part.home ≡ self.old.reader.home) × (part.number ≡ self.old.reader.number) }
+        requires single { part.units ≡ 1 }
         ensures { Closes self.old self.new }
     {
         let board = &self.domain.board;
@@ -200,6 +230,10 @@ impl<'d> Local<'d> {
             scan(board, &mut self.token, place, self.own.found);
         }
         steps::close(board, &mut self.token, place);
+        self.tenure.join(part);
+        self.tenure.set(&Stage::Closed, &());
+        // Nothing was lent to the tenure, so that nothing has to know that it has ended.
+        end_round(&mut self.tenure);
     }
 
     /// The count of epochs at this moment.

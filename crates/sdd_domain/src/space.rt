@@ -1,6 +1,6 @@
 //! A participant as the generic calls of guards have it.
 use crate::local::Local;
-use sdd_base::{Guards, Item, Shows};
+use sdd_base::{Guard, Guards, Item, Shows};
 use sdd_core::Refused;
 
 impl<T: Item<T>> Shows<T> for Local<'_> {
@@ -9,8 +9,6 @@ impl<T: Item<T>> Shows<T> for Local<'_> {
     ghost home = { λ _. nowhere };
 
     ghost shows = { λ _ _ _. ⊥ };
-
-    ghost filled = { λ _ _. ⊥ };
 }
 
 impl<T: Item<T>> Guards<T> for Local<'_> {
@@ -26,13 +24,13 @@ impl<T: Item<T>> Guards<T> for Local<'_> {
     ghost world = { λ _. no_world };
 
     #[inline]
-    fn open_guard(&mut self) -> Result<usize, Refused> {
+    fn open_guard(&mut self) -> Result<Guard, Refused> {
         Local::open_guard(self)
     }
 
     #[inline]
-    fn close_guard(&mut self) {
-        Local::close_guard(self);
+    fn close_guard(&mut self, guard: Guard) {
+        Local::close_guard(self, guard);
     }
 
     #[inline]
@@ -60,6 +58,4 @@ impl<T: Item<T>> Guards<T> for Local<'_> {
     ghost own_is_place = { λ l exact. absurd (never_exact l exact) };
 
     ghost shows_is_value = { λ l exact _ _. absurd (never_exact l exact) };
-
-    ghost filled_is_taken = { λ l exact _. absurd (never_exact l exact) };
 }
