@@ -9,13 +9,17 @@ use Rattle.sdd_core.specs.declared.epoch.Epoch.{Epoch}
 use Rattle.sdd_core.specs.declared.refused.Refused.{Refused}
 use Rattle.sdd_store.specs.Time.{IsVacant, CanNest, phase_at}
 use Rattle.sdd_base.proofs.Housed.{live-is}
-use Rattle.sdd_base.specs.Guard.{place_of as guards_place}
 use Rattle.sdd_base.specs.Owned.{slot_of, slots_home}
 use Rattle.sdd_base.specs.declared.limits.Limits.{Limits}
 use Rattle.sdd_base.specs.World.{IsNew}
 use Rattle.sdd_base.specs.Steps.{registered, ended, made, nulled, retired, opened, closed, stirred, accelerated}
 use Rattle.sdd_base.specs.Whole.{times_waiting}
-use Rattle.sdd_base.specs.Under.{KeepsUnderGuards}
+use Rattle.sdd_token.specs.Units as token
+use Rattle.sdd_base.specs.Guard.{reader_of}
+use Rattle.sdd_base.specs.Seat.{reader_at}
+use Rattle.sdd_base.specs.Out.{is_out}
+use Rattle.sdd_base.specs.Under.{KeepsUnderGuards, Stays}
+use Rattle.sdd.proofs.Words.{StandsAs, Gone, no_call, standing_at}
 use Rattle.sdd_base.specs.Calls.Calls.{stirs, accelerates}
 use Rattle.sdd_world.specs.declared.world.Place.{Place}
 use Rattle.sdd_lines.specs.declared.name.PlaceName.{PlaceName}
@@ -54,12 +58,12 @@ does old call reply goes acts = (goes.tied, subst (Acts old call reply) (sym goe
 
 goes : {new : Hand} {e : Desk} → desk_of new ≡ e → IsSound e →
     ((o : ℕ) → OwnsItem new.world.home.slots new.slots.items (slice_index_or new.owners.entries.items o None)) →
-    ((g : ℕ) → GuardsIn e.ledger.places (slice_index_or new.guards.entries.items g None)) → Goes new e
+    ((g : ℕ) → GuardsIn e.world.home.readers e.ledger.places (slice_index_or new.guards.entries.items g None)) → Goes new e
 goes {new} same sound owners guards = record {
   tied = record {
     sound = subst IsSound (sym same) sound;
     owners = owners;
-    guards = λ g. subst (λ (d : Desk). GuardsIn d.ledger.places (slice_index_or new.guards.entries.items g None)) (sym same) (guards g);
+    guards = λ g. subst (λ (d : Desk). GuardsIn d.world.home.readers d.ledger.places (slice_index_or new.guards.entries.items g None)) (sym same) (guards g);
   };
   desk = same;
 }
@@ -83,11 +87,11 @@ given P xs x here all j =
     ]
 
 -- a guard is its participant's, where that is at the same place
-guards-on : (ps qs : List (Option Opening)) →
+guards-on : (home : token.Home) (ps qs : List (Option Opening)) →
     ((n k : ℕ) → option_map place (slice_index_or ps n None) ≡ Some k → option_map place (slice_index_or qs n None) ≡ Some k) →
-    (o : Option Guarding) → GuardsIn ps o → GuardsIn qs o
-guards-on ps qs on None e = tt
-guards-on ps qs on (Some held) e = on held.participant (guards_place held.guard) e
+    (o : Option Guarding) → GuardsIn home ps o → GuardsIn home qs o
+guards-on home ps qs on None e = tt
+guards-on home ps qs on (Some held) e = record { own = on held.participant held.place e.own; reader = e.reader }
 
 module _ (h : Hand) (t : IsTied h) where
   abbrev pub d : Desk
@@ -110,7 +114,7 @@ module _ (h : Hand) (t : IsTied h) where
         goes (cc (world, more, by-registered names h.world.time x.place))
         (sound-registered d t.sound x.place (time.registered d.ledger.time x.place) vacant (rw world at live) (rw world at others))
         (λ o. rw world (t.owners o))
-        (λ g. guards-on d.ledger.places (d.ledger.places ++ Some x ∷ [])
+        (λ g. guards-on h.world.home.readers d.ledger.places (d.ledger.places ++ Some x ∷ [])
         (λ n k e. ap (option_map place) (at-pushed d.ledger.places (Some x) None n
         (λ z. (let past : None ≡ Some k = sym (ap (option_map place) (get_or_past d.ledger.places n None (omega (arith, z)))) ∙ e in cc))) ∙ e)
         (slice_index_or h.guards.entries.items g None) (t.guards g))
@@ -196,9 +200,33 @@ module _ (h : Hand) (t : IsTied h) where
 
     -- the guard of that name is the participant's
     pub guard-is : (g : ℕ) (held : Guarding) → HasOpen d.ledger.places d.ledger.guards n g → slice_index_or h.guards.entries.items g None ≡ Some held →
-        guards_place held.guard ≡ p
+        held.place ≡ p
     guard-is g held valid here =
         subst (ledger.IsOf (place_of d.ledger n)) (get_or-map guarding h.guards.entries.items g None ∙ ap guarding here) valid.1 ∙ is
+
+    -- and it is a guard of its place
+    pub reader-is : (g : ℕ) (held : Guarding) → slice_index_or h.guards.entries.items g None ≡ Some held → held.place ≡ p →
+        reader_of held.guard ≡ reader_at h.world p
+    reader-is g held here own = (subst (GuardsIn h.world.home.readers d.ledger.places) here (t.guards g)).reader ∙ ap (reader_at h.world) own
+
+    -- a guard of p is open
+    open-here : (g : ℕ) (held : Guarding) → slice_index_or h.guards.entries.items g None ≡ Some held → held.place ≡ p →
+        IsTrue (is_open (time.place_at h.world.time p))
+    open-here g held here own =
+        lt-ltb 0 (time.place_at h.world.time p).guards (rw (sym own) (open-guard h.world d.ledger t.sound.attended g
+        (record { place = held.place; since = held.since }) (get_or-map guarding h.guards.entries.items g None ∙ ap guarding here)))
+
+    -- an item that was not retired before p's outermost opening can't go while the guard is open
+    pub stays-here : (g i k : ℕ) (held : Guarding) → slice_index_or h.guards.entries.items g None ≡ Some held → held.place ≡ p →
+        IsThereSince a.since (fate_at d.ledger i) → k ≡ slot_at d i → Stays h.world p k
+    stays-here g i k held here own since slot = rw slot (by (fate_at d.ledger i) refl since) where
+      o : IsTrue (is_open (time.place_at h.world.time p))
+      o = open-here g held here own
+
+      by : (f : Fate) → fate_at d.ledger i ≡ f → IsThereSince a.since f → Stays h.world p (slot_at d i)
+      by Out e s = let stands = subst (λ f. StandsAs f (standing_at h.world (slot_at d i))) e (t.sound.stocked.stands i) in inl (ap is_out stands)
+      by (Retired at) e s = inr (t.sound.kept n i at (record { place = p; since = a.since }) (sym there) e s o h.world (no_call h.world o))
+      by Gone e s = absurd s
 
     pub goes-stirred : (w : World Val) → w ≡ stirred h.world p → Goes (record h { world = w })
         (record d { world = stirred h.world (place_of d.ledger n); ledger = record d.ledger { time = time.stirred_at d.ledger.time (place_of d.ledger n) } })
@@ -227,17 +255,20 @@ module _ (h : Hand) (t : IsTied h) where
         (sound-ended d t.sound n (record { place = p; since = a.since }) (time.ended d.ledger.time p) (sym there) shut) (λ o. rw world (t.owners o))
         (λ g. still g (slice_index_or h.guards.entries.items g None) refl (t.guards g))) where
           -- no guard was its
-          still : (g : ℕ) (o : Option Guarding) → slice_index_or h.guards.entries.items g None ≡ o → GuardsIn d.ledger.places o →
-              GuardsIn (slice_set d.ledger.places n None) o
+          still : (g : ℕ) (o : Option Guarding) → slice_index_or h.guards.entries.items g None ≡ o →
+              GuardsIn h.world.home.readers d.ledger.places o → GuardsIn h.world.home.readers (slice_set d.ledger.places n None) o
           still g None e own = tt
-          still g (Some held) e own = ap (option_map place) (at-other d.ledger.places n held.participant None None apart) ∙ own where
+          still g (Some held) e own = record {
+            own = ap (option_map place) (at-other d.ledger.places n held.participant None None apart) ∙ own.own;
+            reader = own.reader;
+          } where
             apart : held.participant ≢ n
             apart same =
-                let z : Some p ≡ Some (guards_place held.guard) =
-                ap (option_map place) there ∙ sym (ap (λ m. option_map place (slice_index_or d.ledger.places m None)) same) ∙ own in
-                let one : p ≡ guards_place held.guard = cc in
+                let z : Some p ≡ Some (held.place) =
+                ap (option_map place) there ∙ sym (ap (λ m. option_map place (slice_index_or d.ledger.places m None)) same) ∙ own.own in
+                let one : p ≡ held.place = cc in
                 shut (lt-ltb 0 (time.place_at h.world.time p).guards (rw one (open-guard h.world d.ledger t.sound.attended g
-                (record { place = guards_place held.guard; since = held.since }) (get_or-map guarding h.guards.entries.items g None ∙ ap guarding e))))
+                (record { place = held.place; since = held.since }) (get_or-map guarding h.guards.entries.items g None ∙ ap guarding e))))
 
     pub goes-closed : (w : World Val) (guards : Vec (Option Guarding)) (g : ℕ) (held : Guarding) → HasOpen d.ledger.places d.ledger.guards n g →
         slice_index_or h.guards.entries.items g None ≡ Some held → guards.items ≡ slice_set h.guards.entries.items g None → w ≡ closed h.world p →
@@ -252,9 +283,9 @@ module _ (h : Hand) (t : IsTied h) where
           ledger = record d.ledger { time = time.closed d.ledger.time p; guards = slice_set d.ledger.guards g None };
         } = cc (world, gone, by-closed names h.world.time p) in
         rw is (goes same
-        (sound-closed d t.sound (time.closed d.ledger.time p) g p (record { place = guards_place held.guard; since = held.since })
+        (sound-closed d t.sound (time.closed d.ledger.time p) g p (record { place = held.place; since = held.since })
         (get_or-map guarding h.guards.entries.items g None ∙ ap guarding here) (guard-is g held valid here)) (λ o. rw world (t.owners o))
-        (λ k. rw taken (spent (GuardsIn d.ledger.places) tt h.guards.entries.items g t.guards k)))
+        (λ k. rw taken (spent (GuardsIn h.world.home.readers d.ledger.places) tt h.guards.entries.items g t.guards k)))
 
     -- a guard is opened, and whether the opening is an outermost one is noted
     abbrev now : Opening
@@ -269,11 +300,12 @@ module _ (h : Hand) (t : IsTied h) where
 
     pub goes-opened : (w : World Val) (places : Vec (Option Attending)) (guards : Vec (Option Guarding)) (fates : Vec Fate) (held : Guarding) →
         IsWhole h.world → map attending places.items ≡ noted (is_open (time.place_at d.ledger.time p)) →
-        guards.items ≡ h.guards.entries.items ++ Some held ∷ [] → guards_place held.guard ≡ p → held.since ≡ h.moment + 1 → held.participant ≡ n →
+        guards.items ≡ h.guards.entries.items ++ Some held ∷ [] → held.place ≡ p → reader_of held.guard ≡ reader_at h.world p →
+        held.since ≡ h.moment + 1 → held.participant ≡ n →
         fates.items ≡ all_gone h.fates.items (due_at d.ledger.time p) → w ≡ opened holdings_of h.world p →
         Goes (record h { world = w; places = record { entries = places }; guards = record { entries = guards }; fates = fates })
         (record d { world = opened holdings_of h.world p; ledger = with_guard d.ledger n p })
-    goes-opened w places guards fates held whole entries pushed own since participant gone world =
+    goes-opened w places guards fates held whole entries pushed own reader since participant gone world =
         let leaves = leaves-opened h.world p t.sound.linked in
         let told : time_by names (opened holdings_of h.world p).time ≡ time.opened d.ledger.time p =
         ap (time_by names) leaves.time ∙ by-opened names h.world.time p in
@@ -284,10 +316,14 @@ module _ (h : Hand) (t : IsTied h) where
         goes (cc (world, entries, more, gone, told))
         (sound-opened d n (record { place = p; since = a.since }) refl t.sound whole (sym there))
         (λ o. rw (world, leaves.home) (t.owners o))
-        (λ k. rw pushed (given (GuardsIn (noted b)) h.guards.entries.items held
-        (place-kept b held.participant ∙ ap (λ m. option_map place (slice_index_or d.ledger.places m None)) participant
-        ∙ sym (ap (option_map place) there) ∙ ap Some (sym own))
-        (λ j. guards-on d.ledger.places (noted b) (λ m k e. place-kept b m ∙ e) (slice_index_or h.guards.entries.items j None) (t.guards j)) k))
+        (λ k. rw (pushed, leaves.home) (given (GuardsIn h.world.home.readers (noted b)) h.guards.entries.items held
+        (record {
+          own = place-kept b held.participant ∙ ap (λ m. option_map place (slice_index_or d.ledger.places m None)) participant
+              ∙ sym (ap (option_map place) there) ∙ ap Some (sym own);
+          reader = reader ∙ ap (reader_at h.world) (sym own);
+        })
+        (λ j. guards-on h.world.home.readers d.ledger.places (noted b) (λ m k e. place-kept b m ∙ e) (slice_index_or h.guards.entries.items j None)
+        (t.guards j)) k))
 
 -- ---- what is left is what the call means
 
@@ -382,8 +418,8 @@ module _ (h : Hand) (t : IsTied h) (name : PlaceName) where
         (slots : List ℕ) (found sorted : List ItemName) (whole : IsWhole h.world) (are : map Item slots ≡ reclaims h.world (index_of a.place))
         (names_are : found ≡ map (item_named h.names.items) slots)
         (entries : map attending places.items ≡ noted h t name.0 a there (is_open (time.place_at desk.ledger.time (index_of a.place))))
-        (pushed : guards.items ≡ h.guards.entries.items ++ Some held ∷ []) (own : guards_place held.guard ≡ index_of a.place)
-        (since : held.since ≡ h.moment + 1) (participant : held.participant ≡ name.0)
+        (pushed : guards.items ≡ h.guards.entries.items ++ Some held ∷ []) (own : held.place ≡ index_of a.place)
+        (reader : reader_of held.guard ≡ reader_at h.world (index_of a.place)) (since : held.since ≡ h.moment + 1) (participant : held.participant ≡ name.0)
         (gone : fates.items ≡ all_gone h.fates.items (map what_named found)) (world : w ≡ opened holdings_of h.world (index_of a.place)) where
       abbrev pub after-opening : Hand
       after-opening = record h { world = w; places = record { entries = places }; guards = record { entries = guards }; fates = fates }
@@ -394,7 +430,7 @@ module _ (h : Hand) (t : IsTied h) (name : PlaceName) where
       pub opens-to : Goes after-opening
           (record desk { world = opened holdings_of h.world (index_of a.place); ledger = with_guard desk.ledger name.0 (index_of a.place) })
       opens-to =
-          goes-opened h t name.0 a there w places guards fates held whole entries pushed own since participant
+          goes-opened h t name.0 a there w places guards fates held whole entries pushed own reader since participant
           (gone ∙ ap (all_gone h.fates.items) (sym due-is)) world
 
       pub answers-opened : (g : GuardName) (epoch : Epoch) → IsPermutation found sorted → IsNonDecreasingBy (λ (i : ItemName). i.0) sorted →
@@ -472,5 +508,5 @@ tied-start h l new start places guards owners slots fates long =
     record {
       sound = subst IsSound (sym same) (sound-start l h.world u h.names.items new long);
       owners = λ o. subst (λ os. OwnsItem h.world.home.slots h.slots.items (slice_index_or os o None)) (sym owners) tt;
-      guards = λ g. subst (λ gs. GuardsIn (map attending h.places.entries.items) (slice_index_or gs g None)) (sym guards) tt;
+      guards = λ g. subst (λ gs. GuardsIn h.world.home.readers (map attending h.places.entries.items) (slice_index_or gs g None)) (sym guards) tt;
     }

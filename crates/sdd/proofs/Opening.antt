@@ -149,8 +149,8 @@ module _ (d : Desk) (n : ℕ) (x : Opening) (told : d.ledger.time ≡ time_by (n
               let some = rw (← who.3) at (open-guard d.world d.ledger s.attended g y e) in
               let o = lt-ltb 0 (place_at d.world.time who.1.place).guards some in
               let still = lt-ltb 0 (place_at new.world.time who.1.place).guards (omega (arith, guards who.1.place, some)) in
-              let stands = s.kept who.0 i at who.1 who.2 is (omega (arith, who.4, later)) o new.world
-              (more_calls d.world d.world new.world (no_call d.world o) (opens d.world x.place (s.attended.inside n x there)) still) in
+              let stands = (s.kept who.0 i at who.1 who.2 is (omega (arith, who.4, later)) o new.world
+              (more_calls d.world d.world new.world (no_call d.world o) (opens d.world x.place (s.attended.inside n x there)) still)).standing in
               let free = gone (slot_at d i) (there-counts (slot_at d i) (reclaims d.world x.place) _ c (eq-eqb (slot_at d i) (slot_at d i) refl)) in
               absurd (let never = sym free ∙ stands in cc)
         ]

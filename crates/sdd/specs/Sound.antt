@@ -6,7 +6,7 @@ use Rattle.sdd_store.specs.declared.standing.Standing.{Standing}
 use Rattle.sdd_store.specs.declared.standing.Standing.TheVariants as standing
 use Rattle.sdd_base.specs.World.{World, IsPlaceOf, place_at, standing_at, value_at}
 use Rattle.sdd_base.specs.Steps.{held_in}
-use Rattle.sdd_base.specs.Under.{CallsUnder}
+use Rattle.sdd_base.specs.Under.{CallsUnder, IsUnder}
 use Rattle.sdd.specs.declared.script.fate.Fate.{Fate}
 use Rattle.sdd.specs.declared.script.fate.Fate.TheVariants.{Out, Retired, Gone}
 use Rattle.sdd.specs.declared.script.val.Val.{Val}
@@ -67,9 +67,9 @@ pub record IsAttended (w : World Val) (l : Ledger) : Type 0 where
   -- an item was made by some participant, and its place, or another, is not free
   pub placed : 0 < length l.items → (p : ℕ) × IsSome (phase_at w.time p)
 
--- the slot's item waits, as long as a guard of p is open
+-- the slot's item waits, and can't go, as long as a guard of p is open
 abbrev pub Keeps : World Val → (p k : ℕ) → Type 0
-Keeps w p k = (new : World Val) → CallsUnder holdings_of p w new → standing_at new k ≡ Some standing.Retired
+Keeps w p k = (new : World Val) → CallsUnder holdings_of p w new → IsUnder new p k
 
 -- so does an item that was retired since a participant's outermost opening
 abbrev pub IsKept : Desk → Type 0

@@ -4,7 +4,7 @@ use Rattle.std.specs.Option.{option_map}
 use Rattle.sdd_token.specs.Units as token
 use Rattle.sdd_store.specs.Waiting.{What}
 use Rattle.sdd_store.specs.Waiting.What.{Item}
-use Rattle.sdd_base.specs.Guard.{place_of}
+use Rattle.sdd_base.specs.Guard.{reader_of}
 use Rattle.sdd_base.specs.Owned.{slot_of, slots_home}
 use Rattle.sdd_world.specs.Place.{index_of}
 use Rattle.sdd_lines.specs.declared.name.ItemName.{ItemName}
@@ -23,7 +23,7 @@ attending (Some x) = Some (record { place = index_of x.place; since = x.since })
 
 abbrev pub guarding : Option Guarding → Option Opening
 guarding None = None
-guarding (Some x) = Some (record { place = place_of x.guard; since = x.since })
+guarding (Some x) = Some (record { place = x.place; since = x.since })
 
 abbrev pub item_held : Option Held → Option ℕ
 item_held None = None
@@ -71,12 +71,16 @@ OwnsItem home slots None = Unit {0}
 OwnsItem home slots (Some held) = IsOwnerIn home slots held
 
 -- a guard is that of the participant under whose name it was opened
-abbrev pub GuardsIn : List (Option Opening) → Option Guarding → Type 0
-GuardsIn places None = Unit {0}
-GuardsIn places (Some held) = option_map (λ (x : Opening). x.place) (slice_index_or places held.participant None) ≡ Some (place_of held.guard)
+pub record IsGuardIn (home : token.Home) (places : List (Option Opening)) (held : Guarding) : Type 0 where
+  pub own : option_map (λ (x : Opening). x.place) (slice_index_or places held.participant None) ≡ Some held.place
+  pub reader : reader_of held.guard ≡ record { home = home; number = held.place }
+
+abbrev pub GuardsIn : token.Home → List (Option Opening) → Option Guarding → Type 0
+GuardsIn home places None = Unit {0}
+GuardsIn home places (Some held) = IsGuardIn home places held
 
 -- what is in hand is what the desk says
 pub record IsTied (s : Hand) : Type 0 where
   pub sound : IsSound (desk_of s)
   pub owners : (o : ℕ) → OwnsItem s.world.home.slots s.slots.items (slice_index_or s.owners.entries.items o None)
-  pub guards : (g : ℕ) → GuardsIn (map attending s.places.entries.items) (slice_index_or s.guards.entries.items g None)
+  pub guards : (g : ℕ) → GuardsIn s.world.home.readers (map attending s.places.entries.items) (slice_index_or s.guards.entries.items g None)

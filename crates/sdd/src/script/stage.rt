@@ -27,6 +27,8 @@ pub struct Attending {
 /// A guard of a script.
 pub struct Guarding {
     pub guard: Guard,
+    /// The place of the participant whose it is.
+    pub place: usize,
     /// The name of the participant whose it is.
     pub participant: u64,
     /// The first line after its opening.

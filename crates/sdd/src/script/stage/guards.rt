@@ -4,7 +4,8 @@
 ghost use Rattle.std.specs.Prelude.{All, ◌≡◌, ℕ, ◌+◌, ◌^◌, ◌<◌, [], IfOk, IfSome, None, Some, MatchOption, MatchResult, length, map, slice_index_or, if◌then◌else◌};
 ghost use Rattle.sdd_core.specs.Epoch.{epoch_of};
 ghost use Rattle.sdd_store.specs.Time.{CanNest};
-ghost use Rattle.sdd_base.specs.Guard.{place_of};
+ghost use Rattle.sdd_base.specs.Guard.{reader_of};
+ghost use Rattle.sdd_base.specs.Seat.{reader_at};
 ghost use Rattle.sdd_base.specs.World.{IsPlaceOf};
 ghost use Rattle.sdd_base.specs.Steps.{opened, closed, stirred, accelerated};
 ghost use Rattle.sdd_world.specs.Place.{index_of};
@@ -17,7 +18,6 @@ use crate::script::fate::Fate;
 use crate::script::named::Named;
 use crate::script::val::Val;
 use sdd_base::Guard;
-use sdd_base::inner::place_of_guard;
 use sdd_core::{Epoch, Refused};
 use sdd_lines::{Action, Answer, Call, GuardName, ItemName, Names, PlaceName, Reply};
 use sdd_world::inner::{is_open, reclaims_next};
@@ -43,12 +43,14 @@ impl Stage {
             Ok(opened) => opened,
             Err(refused) => return Ok(self.answer(Reply::Refused(refused))),
         };
+        let place = attending.place.index();
         let since = self.hand.moment + 1;
         mark_gone(&mut self.hand.fates, due.as_slice());
         note_opening(&mut self.hand.places, name.0, since, is_nested);
         let participant = name.0;
         let name = self.hand.guards.give(Guarding {
             guard,
+            place,
             participant,
             since,
         });
@@ -63,44 +65,44 @@ impl Stage {
     pub fn epoch(&mut self, name: PlaceName, guard: GuardName) -> Reply
         ensures acts { Acts self.old (Call.At name (Action.Epoch guard)) result self.new }
     {
-        let Some((attending, guard)) = under(&self.hand.places, &self.hand.guards, name, guard)
+        let Some((attending, held)) = under(&self.hand.places, &self.hand.guards, name, guard)
         else {
             return Reply::Invalid;
         };
         let mut turn = self.hand.world.at(&attending.place);
-        Reply::Epoch(guard.epoch(&mut turn))
+        Reply::Epoch(held.guard.epoch(&mut turn))
     }
 
     pub fn garbage(&mut self, name: PlaceName, guard: GuardName) -> Reply
         ensures acts { Acts self.old (Call.At name (Action.Garbage guard)) result self.new }
     {
-        let Some((attending, guard)) = under(&self.hand.places, &self.hand.guards, name, guard)
+        let Some((attending, held)) = under(&self.hand.places, &self.hand.guards, name, guard)
         else {
             return Reply::Invalid;
         };
         let turn = self.hand.world.at(&attending.place);
-        Reply::Truth(guard.has_garbage(&turn))
+        Reply::Truth(held.guard.has_garbage(&turn))
     }
 
     pub fn set(&mut self, name: PlaceName, guard: GuardName) -> Reply
         ensures acts { Acts self.old (Call.At name (Action.Set guard)) result self.new }
     {
-        let Some((attending, guard)) = under(&self.hand.places, &self.hand.guards, name, guard)
+        let Some((attending, held)) = under(&self.hand.places, &self.hand.guards, name, guard)
         else {
             return Reply::Invalid;
         };
-        stir_at(&mut self.hand.world, &attending.place, guard);
+        stir_at(&mut self.hand.world, &attending.place, &held.guard);
         Reply::Done
     }
 
     pub fn accelerate(&mut self, name: PlaceName, guard: GuardName) -> Reply
         ensures acts { Acts self.old (Call.At name (Action.Accelerate guard)) result self.new }
     {
-        let Some((attending, guard)) = under(&self.hand.places, &self.hand.guards, name, guard)
+        let Some((attending, held)) = under(&self.hand.places, &self.hand.guards, name, guard)
         else {
             return Reply::Invalid;
         };
-        accelerate_at(&mut self.hand.world, &attending.place, guard);
+        accelerate_at(&mut self.hand.world, &attending.place, &held.guard);
         Reply::Done
     }
 
@@ -113,6 +115,7 @@ impl Stage {
         let Some(
             Guarding {
                 guard,
+                place: _,
                 participant: _,
                 since: _,
             },
@@ -131,17 +134,17 @@ pub fn under<'p, 'g>(
     guards: &'g Named<Guarding>,
     name: PlaceName,
     guard: GuardName,
-) -> Option<(&'p Attending, &'g Guard)>
+) -> Option<(&'p Attending, &'g Guarding)>
     ensures valid { MatchOption result
         (¬ (HasOpen (map attending places.now.entries.items) (map guarding guards.now.entries.items) name.0 guard.0))
         (λ _. HasOpen (map attending places.now.entries.items) (map guarding guards.now.entries.items) name.0 guard.0) }
     ensures found { IfSome result (λ found. (attending (Some found.0.now) ≡ slice_index_or (map attending places.now.entries.items) name.0 None)
-        × (place_of found.1.now ≡ index_of found.0.now.place)) }
+        × (slice_index_or guards.now.entries.items guard.0 None ≡ Some found.1.now) × (found.1.now.place ≡ index_of found.0.now.place)) }
 {
     let attending = places.get(name.0)?;
     let held = guards.get(guard.0)?;
-    if place_of_guard(&held.guard) == attending.place.index() {
-        Some((attending, &held.guard))
+    if held.place == attending.place.index() {
+        Some((attending, held))
     } else {
         None
     }
@@ -162,7 +165,7 @@ fn names_of(alloc: Global, slots: &[u32], names: &[u64]) -> Result<Vec<ItemName>
 /// A new guard of the participant, and the epoch then.
 fn open_at(world: &mut World<Val>, place: &Place) -> Result<(Guard, Epoch), Refused>
     requires place { IsPlaceOf world.old (index_of place.now) }
-    ensures place { IfOk result (λ opened. place_of opened.0 ≡ index_of place.now) }
+    ensures reader { IfOk result (λ opened. reader_of opened.0 ≡ reader_at world.old (index_of place.now)) }
     ensures opened { MatchResult result
         (λ given. CanNest world.old.time (index_of place.now)
         × (world.new ≡ opened holdings_of world.old (index_of place.now)) × (given.1 ≡ epoch_of world.new.time.count))
@@ -195,7 +198,7 @@ fn accelerate_at(world: &mut World<Val>, place: &Place, guard: &Guard)
 /// The guard, which is the participant's, is closed.
 pub fn close_at(world: &mut World<Val>, place: &Place, guard: Guard)
     requires place { IsPlaceOf world.old (index_of place.now) }
-    requires guard { place_of guard ≡ index_of place.now }
+    requires reader { reader_of guard ≡ reader_at world.old (index_of place.now) }
     ensures { world.new ≡ closed world.old (index_of place.now) }
 {
     let mut turn = world.at(place);

@@ -5,6 +5,9 @@ ghost use Rattle.std.specs.Prelude.{◌≡◌, ◌≢◌, ℕ, IfOk, IsSome, Non
 ghost use Rattle.sdd_base.specs.Steps.{retired};
 ghost use Rattle.sdd_base.specs.World.{IsPlaceOf, standing_at, value_at};
 ghost use Rattle.sdd_base.specs.Owned.{slot_of, slots_home};
+ghost use Rattle.sdd_base.specs.Guard.{reader_of};
+ghost use Rattle.sdd_base.specs.Seat.{reader_at};
+ghost use Rattle.sdd_base.specs.Under.{Stays};
 ghost use Rattle.sdd_store.specs.declared.standing.Standing.TheVariants as standing;
 ghost use Rattle.sdd_world.specs.Place.{index_of};
 ghost use Rattle.sdd.specs.declared.script.val.Val.{Val};
@@ -16,10 +19,11 @@ use super::guards::under;
 use super::{Held, Stage};
 use crate::script::fate::Fate;
 use crate::script::val::Val;
-use sdd_base::inner::{ptr_to, slot_of_owner};
-use sdd_base::{AtomicOwned, Guard, Owned, Ptr};
+use sdd_base::inner::slot_of_owner;
+use sdd_base::{AtomicOwned, Guard, Owned};
 use sdd_core::Refused;
 use sdd_lines::{Action, Call, GuardName, ItemName, OwnerName, PlaceName, Reply};
+use sdd_world::inner::ptr_at;
 use sdd_world::{Place, World};
 use std::alloc::AllocError;
 
@@ -79,7 +83,7 @@ impl Stage {
     pub fn look(&mut self, name: PlaceName, item: ItemName, guard: GuardName) -> Reply
         ensures acts { Acts self.old (Call.At name (Action.Look item guard)) result self.new }
     {
-        let Some((attending, guard)) = under(&self.hand.places, &self.hand.guards, name, guard)
+        let Some((attending, held)) = under(&self.hand.places, &self.hand.guards, name, guard)
         else {
             return Reply::Invalid;
         };
@@ -87,7 +91,7 @@ impl Stage {
         let Some(slot) = slot_since(fates, self.hand.slots.as_slice(), item, attending.since) else {
             return Reply::Invalid;
         };
-        Reply::Value(number_shown(&self.hand.world, guard, slot))
+        Reply::Value(number_shown(&mut self.hand.world, &attending.place, &held.guard, slot))
     }
 }
 
@@ -126,12 +130,15 @@ fn make_item(world: &mut World<Val>, place: &Place, number: u64) -> Result<Owned
     }
 }
 
-/// The number in a slot, as a pointer to its item shows it under a guard.
-fn number_shown(world: &World<Val>, guard: &Guard, slot: u32) -> u64
-    requires { IsSome (standing_at world.now slot) }
-    ensures { (v : Val) × (value_at world.now slot ≡ Some v) × (body_of v ≡ result) }
+/// The number in a slot, as a pointer to its item shows it under a guard of the participant.
+fn number_shown(world: &mut World<Val>, place: &Place, guard: &Guard, slot: u32) -> u64
+    requires place { IsPlaceOf world.old (index_of place.now) }
+    requires reader { reader_of guard.now ≡ reader_at world.old (index_of place.now) }
+    requires stays { Stays world.old (index_of place.now) slot }
+    ensures shown { (v : Val) × (value_at world.old slot ≡ Some v) × (body_of v ≡ result) }
+    ensures world { world.new ≡ world.old }
 {
-    let ptr: Ptr<'_, Val> = ptr_to(slot, guard);
+    let ptr = ptr_at(world, place, slot, guard);
     let Some(value) = ptr.as_ref(world) else {
         unreachable!()
     };

@@ -25,7 +25,7 @@ invariant_of-self-2 c =
     let given = rw c.make_room.ensures.kept at c.give-name.ensures.given in
     let gone = rw c.as_slice-2.ensures.value at c.mark_gone.ensures in
     tied (opens-to _ c.self.invariant c.args.name _ there _ _ _ _ _ _ _ c.sort_unstable.new.self.items c.is_whole.ensures c.reclaims_next-slots.ensures
-    named noted given c.in-Ok.ensures.place refl refl gone c.in-Ok.ensures.opened.1)
+    named noted given c.index-place.ensures c.in-Ok.ensures.reader refl refl gone c.in-Ok.ensures.opened.1)
 
 pub returns : goal.returns
 returns c =
@@ -37,7 +37,7 @@ returns c =
     let up = IsNonDecreasingBy-from_sort (λ (i : ItemName). i.0) c.sort_unstable.new.self.items c.sort_unstable.ensures.sorted in
     record {
       answers = rw (← c.self.view_is, c.of.ensures, c.new.ensures) (answers-opened _ c.self.invariant c.args.name _ there _ c.note_opening.new.places.entries
-          c.give-name.new.self.entries c.mark_gone.new.fates _ _ _ _ c.is_whole.ensures c.reclaims_next-slots.ensures named noted given c.in-Ok.ensures.place
-          refl refl gone c.in-Ok.ensures.opened.1 _ _ c.sort_unstable.ensures.permutation up c.in-Ok.ensures.opened.0
+          c.give-name.new.self.entries c.mark_gone.new.fates _ _ _ _ c.is_whole.ensures c.reclaims_next-slots.ensures named noted given c.index-place.ensures
+          c.in-Ok.ensures.reader refl refl gone c.in-Ok.ensures.opened.1 _ _ c.sort_unstable.ensures.permutation up c.in-Ok.ensures.opened.0
           (c.give-name.ensures.name ∙ ap length c.make_room.ensures.kept) c.in-Ok.ensures.opened.2);
     }
