@@ -3,4 +3,5 @@
 
 pub mod guards;
 pub mod items;
+pub mod looks;
 pub mod programs;

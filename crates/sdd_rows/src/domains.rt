@@ -1,7 +1,7 @@
 //! Domains: participants in several threads, the places that they take, and what their guards show.
 ghost use Rattle.std.specs.Prelude.{◌≡◌};
 ghost use Rattle.sdd_base.specs.Seat.{IsSeated};
-ghost use Rattle.sdd_base.specs.Guard.{place_of};
+ghost use Rattle.sdd_base.specs.Guard.{reader_of};
 ghost use Rattle.sdd_domain.specs.Space.{seat_of};
 
 use sdd_base::{Guard, Limits};
@@ -49,14 +49,14 @@ fn registered_at_last<'d>(rt: &impl Abort, domain: &'d Domain) -> Local<'d> {
 fn opened(rt: &impl Abort, local: &mut Local<'_>) -> Guard
     requires { IsSeated (seat_of local.old) }
     ensures seat { seat_of local.new ≡ seat_of local.old }
-    ensures place { place_of result ≡ local.old.place }
+    ensures reader { reader_of result ≡ local.old.reader }
 {
     Guard::new::<u64, Local<'_>>(local).expect(rt, "a guard may be opened")
 }
 
 fn close(guard: Guard, local: &mut Local<'_>)
     requires seat { IsSeated (seat_of local.old) }
-    requires place { place_of guard ≡ local.old.place }
+    requires reader { reader_of guard ≡ local.old.reader }
     ensures { seat_of local.new ≡ seat_of local.old }
 {
     guard.close::<u64, Local<'_>>(local);

@@ -13,7 +13,7 @@ fn a_guard_keeps_what_its_owner_gave_up(rt: HostRuntime) {
         Ok(owned) => owned,
         Err((_value, refused)) => panic!(rt; "{refused:?}"),
     };
-    let mut ptr = owned.get_guarded_ptr(&guard);
+    let mut ptr = owned.get_guarded_ptr(&guard, &mut turn);
     assert_eq!(rt; ptr.as_ref(&turn).copied(), Some(19));
     assert_eq!(rt; ptr.set_tag(Tag::First), Tag::None);
     owned.retire(&mut turn);

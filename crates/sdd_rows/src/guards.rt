@@ -3,7 +3,7 @@ ghost use Rattle.std.specs.Prelude.{◌≡◌};
 ghost use Rattle.sdd_base.specs.Seat.{IsSeated};
 ghost use Rattle.sdd_base.specs.World.{IsPlaceOf};
 ghost use Rattle.sdd_world.specs.Place.{index_of};
-ghost use Rattle.sdd_base.specs.Guard.{place_of};
+ghost use Rattle.sdd_base.specs.Guard.{reader_of};
 ghost use Rattle.sdd_domain.specs.Space.{seat_of};
 ghost use Rattle.sdd_rows.specs.Stays.{Stays};
 

@@ -23,6 +23,8 @@ mod limits_and_memory;
 #[cfg(test)]
 mod lines;
 #[cfg(test)]
+mod looks;
+#[cfg(test)]
 mod machine_sizes;
 #[cfg(test)]
 mod nested_values;

@@ -17,7 +17,7 @@ fn guards_and_pointers_have_texts(rt: HostRuntime) -> Result<(), Fail> {
     guard.close(&mut turn);
     drop(turn);
     closed(&rt, world);
-    assert_eq!(rt; shown?.as_str(), "Guard { place: 1 }");
+    assert_eq!(rt; shown?.as_str(), "Guard { .. }");
     let null: Ptr<'_, u64> = Ptr::null().with_tag(Tag::Both);
     let shown = format!(in alloc; "{null:?}")?;
     assert_eq!(rt; shown.as_str(), "Ptr { slot: None, tag: Both, .. }");
@@ -32,9 +32,9 @@ fn pointers_are_equal_by_slot_and_tag(rt: HostRuntime) {
     let second = made(&rt, &mut world, &place, 7);
     let mut turn = world.at(&place);
     let guard = Guard::new(&mut turn).expect(&rt, "a guard may be opened");
-    let one = first.get_guarded_ptr(&guard);
-    let other = second.get_guarded_ptr(&guard);
-    assert!(rt; one == first.get_guarded_ptr(&guard));
+    let one = first.get_guarded_ptr(&guard, &mut turn);
+    let other = second.get_guarded_ptr(&guard, &mut turn);
+    assert!(rt; one == first.get_guarded_ptr(&guard, &mut turn));
     assert!(rt; one != other);
     assert!(rt; one != one.with_tag(Tag::First));
     assert!(rt; one.with_tag(Tag::First) == one.with_tag(Tag::First));

@@ -124,8 +124,8 @@ fn a_guarded_pointer_shows_a_retired_item(rt: HostRuntime) {
         Ok(owner) => owner,
         Err((_, refused)) => panic!(rt; "{refused:?}"),
     };
-    assert_eq!(rt; *owner.get_guarded_ref(&guard, &turn), 7);
-    let ptr = owner.get_guarded_ptr(&guard);
+    assert_eq!(rt; *owner.get_guarded_ref(&guard, &mut turn), 7);
+    let ptr = owner.get_guarded_ptr(&guard, &mut turn);
     owner.retire(&mut turn);
     assert_eq!(rt; ptr.as_ref(&turn).copied(), Some(7));
     guard.close(&mut turn);

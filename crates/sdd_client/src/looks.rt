@@ -1,0 +1,119 @@
+//! Looks through a pointer while others go on.
+ghost use Rattle.std.specs.Prelude.{◌≡◌, ◌≢◌, [], IfOk, Some};
+ghost use Rattle.sdd_base.specs.Guard.{reader_of};
+ghost use Rattle.sdd_base.specs.Owned.{slot_of, slots_home};
+ghost use Rattle.sdd_base.specs.Seat.{IsSeated};
+ghost use Rattle.sdd_base.specs.Steps.{opened};
+ghost use Rattle.sdd_base.specs.World.{World, IsPlaceOf, value_at};
+ghost use Rattle.sdd_world.specs.Place.{index_of};
+
+use sdd_base::{Guard, Guards, Item, Owned, Space};
+use sdd_core::Refused;
+use sdd_world::{Place, World};
+
+/// What was found of one item.
+pub struct Looks {
+    /// By its owner, once the reader's guard was open.
+    pub owned: u64,
+    /// Through the reader's pointer, before the item was retired.
+    pub first: Option<u64>,
+    /// Through the same pointer, after another participant had retired the item and gone on.
+    pub second: Option<u64>,
+    /// Whether that participant could open its guards.
+    pub gone_on: Result<(), Refused>,
+}
+
+/// A reader looks at an item; a writer retires it and opens, accelerates and closes guards; the reader looks again through the same pointer.
+///
+/// `TooManyGuards` where the reader can open no guard: the owner comes back.
+pub fn reader_and_writer(
+    world: &mut World<u64>,
+    reader: &Place,
+    writer: &Place,
+    owner: Owned<u64>,
+) -> Result<Looks, (Owned<u64>, Refused)>
+    requires reader { IsPlaceOf world.old (index_of reader.now) }
+    requires writer { IsPlaceOf world.old (index_of writer.now) }
+    requires different { index_of reader.now ≢ index_of writer.now }
+    requires home { slots_home owner ≡ world.old.home.slots }
+    ensures owned { IfOk result (λ looks. value_at (opened (λ _. []) world.old (index_of reader.now)) (slot_of owner) ≡ Some looks.owned) }
+    ensures first { IfOk result (λ looks. looks.first ≡ Some looks.owned) }
+    ensures same { IfOk result (λ looks. looks.second ≡ looks.first) }
+{
+    let mut turn = world.at(reader);
+    let guard = match Guard::new(&mut turn) {
+        Ok(guard) => guard,
+        Err(refused) => return Err((owner, refused)),
+    };
+    let owned = *owner.get(&turn);
+    let ptr = owner.get_guarded_ptr(&guard, &mut turn);
+    let first = ptr.as_ref(&turn).copied();
+    drop(turn);
+    let gone_on = retires_and_goes_on(&mut world.at(writer), owner);
+    let second = ptr.as_ref(&*world).copied();
+    guard.close(&mut world.at(reader));
+    Ok(Looks {
+        owned,
+        first,
+        second,
+        gone_on,
+    })
+}
+
+/// Retires an item and goes on: the count of epochs is raised where it can be, and what is due is reclaimed.
+///
+/// `TooManyGuards` where the participant can open no guard; the item is retired all the same.
+fn retires_and_goes_on<S: Space<u64>>(s: &mut S, owner: Owned<u64>) -> Result<(), Refused>
+    requires seated { IsSeated (S.seat s.old) }
+    requires home { slots_home owner ≡ (S.seat s.old).home.slots }
+    ensures seat { S.seat s.new ≡ S.seat s.old }
+{
+    owner.retire(s);
+    goes_on(s)?;
+    goes_on(s)?;
+    goes_on(s)?;
+    goes_on(s)
+}
+
+/// Opens a guard, accelerates it and closes it.
+fn goes_on<T: Item<T>, S: Guards<T>>(s: &mut S) -> Result<(), Refused>
+    requires seated { IsSeated (S.seat s.old) }
+    ensures seat { S.seat s.new ≡ S.seat s.old }
+{
+    let guard = Guard::new(s)?;
+    guard.accelerate(s);
+    guard.close(s);
+    Ok(())
+}
+
+/// Looks under two guards of one participant, of which the outer is closed first: answers what the inner one's pointer shows before that and after.
+///
+/// `TooManyGuards` where not both can be opened.
+pub fn nested_guards_outer_first<S: Space<u64>>(
+    one: &Owned<u64>,
+    other: &Owned<u64>,
+    s: &mut S,
+) -> Result<(Option<u64>, Option<u64>), Refused>
+    requires seated { IsSeated (S.seat s.old) }
+    requires one { slots_home one.now ≡ (S.seat s.old).home.slots }
+    requires other { slots_home other.now ≡ (S.seat s.old).home.slots }
+    ensures seat { S.seat s.new ≡ S.seat s.old }
+    ensures same { IfOk result (λ looks. looks.0 ≡ looks.1) }
+{
+    let outer = Guard::new(s)?;
+    let inner = match Guard::new(s) {
+        Ok(inner) => inner,
+        Err(refused) => {
+            outer.close(s);
+            return Err(refused);
+        }
+    };
+    let under_outer = one.get_guarded_ptr(&outer, s);
+    let under_inner = other.get_guarded_ptr(&inner, s);
+    prove!(!under_outer.is_null());
+    let before = under_inner.as_ref(s).copied();
+    outer.close(s);
+    let after = under_inner.as_ref(s).copied();
+    inner.close(s);
+    Ok((before, after))
+}
