@@ -1,17 +1,19 @@
 -- What is kept of one slot, where it changes
 use Rattle.std.proofs.Common.{◌≡◌, ℕ, List, length, slice_index_or, slice_set, sym, ◌∙◌, ap, refl, Option, None, Some, Bool, false, [], ◌∷◌, arith, zero}
-use Rattle.std.specs.Prelude.{map, is_some, IsSome, IsNone, All, option_copied, ◌<◌, suc}
+use Rattle.std.specs.Prelude.{map, is_some, IsSome, IsNone, All, option_copied, unwrap_or, ◌+◌, ◌-◌, ◌<◌, ◌≤◌, ◌^◌, suc}
 use Rattle.std.proofs.Math.ListN.{get_or-map, length-set, replicate}
 use Rattle.std.proofs.Math.Seq.{map-set_same}
 use Rattle.std.proofs.lemmas.List.{map-set, get_or_read, length-map, length-replicate}
 use denote.Bor.{Bor}
 use Rattle.sdd_token.specs.Units.{Home}
-use Rattle.sdd_token.specs.Rights.{Kept, whole}
+use Rattle.sdd_token.specs.Kind.{IsOwner, right_units}
+use Rattle.sdd_token.specs.Rights.{Kept, whole, granted}
+use Rattle.sdd_token.specs.declared.right.Kind.{Kind}
 use Rattle.sdd_token.specs.declared.right.Kind.TheVariants as kind
 use Rattle.sdd_store.specs.Table.{Entries}
 use Rattle.sdd_store.specs.declared.standing.Standing.{Standing}
 use Rattle.sdd_store.specs.declared.standing.Standing.TheVariants.{Owned, Raw, Shared, Retired, Private}
-use Rattle.sdd_slots.specs.Slots.{AreKept, IsWaiting, kept_of}
+use Rattle.sdd_slots.specs.Slots.{AreKept, IsWaiting, IsBounded, IsSharedBy, IsOwnedBy, kept_of, first_standing, owners_of}
 
 -- each of the same, mapped
 pub map-replicate : {X Y : Type 0} (f : X → Y) (n : ℕ) (x : X) → map f (replicate n x) ≡ replicate n (f x)
@@ -30,7 +32,7 @@ filled-there {T} {home} {kept} {standings} {values} k a =
     sym (get_or-map is_some values k None) ∙ ap (λ (bs : List Bool). slice_index_or bs k false) a.filled ∙ get_or-map is_some standings k None
 
 -- only an owned slot is kept as owned
-pub owned-only : (s : Option Standing) → (kept_of s).kind ≡ kind.Owned → s ≡ Some Owned
+owned-only : (s : Option Standing) → (kept_of s).kind ≡ kind.Owned → s ≡ Some Owned
 owned-only None e = cc
 owned-only (Some Owned) e = refl
 owned-only (Some Raw) e = cc
@@ -38,16 +40,139 @@ owned-only (Some (Shared n)) e = cc
 owned-only (Some Retired) e = cc
 owned-only (Some (Private n)) e = cc
 
+-- and only a shared one as shared
+shared-only : (s : Option Standing) → IsBounded s → (kept_of s).kind ≡ kind.Shared → (n : ℕ) × IsSharedBy n s
+shared-only None h e = cc
+shared-only (Some Owned) h e = cc
+shared-only (Some Raw) h e = cc
+shared-only (Some (Shared n)) h e = (n, h n refl)
+shared-only (Some Retired) h e = cc
+shared-only (Some (Private n)) h e = cc
+
+-- only where a slot is not free is anything but free kept of it
+taken-only : (s : Option Standing) → IsOwner (kept_of s).kind → IsSome s
+taken-only None h = cc
+taken-only (Some s) h = refl
+
+-- what is kept of a new right is what is kept of a slot that stands as new
+pub first-kept : (k : Kind) → IsOwner k → kept_of (Some (first_standing k)) ≡ granted k
+first-kept kind.Free h = cc
+first-kept kind.Owned h = refl
+first-kept kind.Raw h = cc
+first-kept kind.Shared h = refl
+first-kept kind.Retired h = cc
+
+-- how many owners, where it is shared
+shared-count : Option Standing → ℕ
+shared-count None = 0
+shared-count (Some Owned) = 0
+shared-count (Some Raw) = 0
+shared-count (Some (Shared n)) = n
+shared-count (Some Retired) = 0
+shared-count (Some (Private n)) = 0
+
+-- so many owners are in bounds
+pub shared-bounded : (n : ℕ) → 1 ≤ n → n ≤ 2 ^ 62 → IsBounded (Some (Shared n))
+unfolding shared-count
+shared-bounded n some most m e =
+    let same : n ≡ m = ap shared-count e in record { shared = e; some = omega (arith, same, some); most = omega (arith, same, most) }
+
+pub first-bounded : (k : Kind) → IsBounded (Some (first_standing k))
+first-bounded kind.Free = λ m e. absurd (cc)
+first-bounded kind.Owned = λ m e. absurd (cc)
+first-bounded kind.Raw = λ m e. absurd (cc)
+first-bounded kind.Shared = shared-bounded 1 (omega arith) (omega arith)
+first-bounded kind.Retired = λ m e. absurd (cc)
+
+-- one slot stands otherwise
+bounded-set : (ss : List (Option Standing)) (k : ℕ) (s : Option Standing) → IsBounded s → ((j : ℕ) → IsBounded (slice_index_or ss j None)) → (j : ℕ) →
+    IsBounded (slice_index_or (slice_set ss k s) j None)
+bounded-set [] k s b all j = all j
+bounded-set (x ∷ ss) zero s b all zero = b
+bounded-set (x ∷ ss) zero s b all (suc j) = all (suc j)
+bounded-set (x ∷ ss) (suc k) s b all zero = all zero
+bounded-set (x ∷ ss) (suc k) s b all (suc j) = bounded-set ss k s b (λ i. all (suc i)) j
+
+-- where no slot is taken, no item is shared
+none-shared : (n k : ℕ) → IsBounded (slice_index_or (replicate n None) k None)
+none-shared zero k = λ m e. absurd (cc)
+none-shared (suc n) zero = λ m e. absurd (cc)
+none-shared (suc n) (suc k) = none-shared n k
+
+-- how many owners there are, where one is sole
+abbrev pub owners-or-one : Option Standing → ℕ
+owners-or-one s = unwrap_or (owners_of s) 1
+
+pub more-owners : (s : Option Standing) → 1 < owners-or-one s → s ≡ Some (Shared (owners-or-one s))
+more-owners None h = absurd (omega (arith, h))
+more-owners (Some Owned) h = absurd (omega (arith, h))
+more-owners (Some Raw) h = absurd (omega (arith, h))
+more-owners (Some (Shared n)) h = refl
+more-owners (Some Retired) h = absurd (omega (arith, h))
+more-owners (Some (Private n)) h = absurd (omega (arith, h))
+
+-- the owner of an item that others own too is one of several
+units-of-one : (of : Kind) → kind.Shared ≡ of → right_units of ≡ 1
+units-of-one of e = ap right_units (sym e)
+
+-- equal fields make equal records
+abbrev kept-as : Kind → ℕ → Kept
+kept-as k n = record { kind = k; units = n }
+
+record-kept : {a b : Kind} {m n : ℕ} → a ≡ b → m ≡ n → kept-as a m ≡ kept-as b n
+record-kept e f = λ i. kept-as (e i) (f i)
+
+-- one owner of several goes: its unit is kept
+pub fewer-kept : (s : Option Standing) (of : Kind) (n : ℕ) → s ≡ Some (Shared n) → 1 < n → n ≤ 2 ^ 62 → (kept_of s).kind ≡ of →
+    kept_of (Some (Shared (n - 1))) ≡ record (kept_of s) { units = (kept_of s).units + right_units of }
+fewer-kept s of n is more most e =
+    let kept : kept_of s ≡ record { kind = kind.Shared; units = 2 ^ 63 - n } = ap kept_of is in
+    let one : right_units of ≡ 1 = units-of-one of (sym (ap (λ (x : Kept). x.kind) kept) ∙ e) in
+    let units : (kept_of s).units ≡ 2 ^ 63 - n = ap (λ (x : Kept). x.units) kept in
+    let sum : 2 ^ 63 - (n - 1) ≡ (kept_of s).units + right_units of = omega (arith, one, units, more, most) in
+    record-kept (sym (ap (λ (x : Kept). x.kind) kept)) sum
+
+-- the last owner goes: all units are kept
+last-of-several : (s : Option Standing) (n : ℕ) → IsSharedBy n s → owners-or-one s ≤ 1 → (kept_of s).units + 1 ≡ 2 ^ 63
+last-of-several s n i few =
+    let same : owners-or-one s ≡ n = ap owners-or-one i.shared in
+    let units : (kept_of s).units ≡ 2 ^ 63 - n = ap (λ (x : Option Standing). (kept_of x).units) i.shared in
+    omega (arith, same, units, i.some, few)
+
+pub last-units : (of : Kind) (s : Option Standing) → IsOwner of → IsOwnedBy of s → owners-or-one s ≤ 1 → (kept_of s).units + right_units of ≡ 2 ^ 63
+last-units kind.Free s h o few = absurd (cc)
+last-units kind.Owned s h o few = ap (λ (x : Option Standing). (kept_of x).units + (2 ^ 63 - 1)) (o.alone refl)
+last-units kind.Raw s h o few = absurd (cc)
+last-units kind.Shared s h o few = last-of-several s (o.together refl).0 (o.together refl).1 few
+last-units kind.Retired s h o few = absurd (cc)
+
+-- one owner more: its unit is out
+pub more-kept : (s : Option Standing) (n : ℕ) → s ≡ Some (Shared n) → n < 2 ^ 62 →
+    kept_of (Some (Shared (n + 1))) ≡ record (kept_of s) { units = (kept_of s).units - 1 }
+more-kept s n is fewer =
+    let kept : kept_of s ≡ record { kind = kind.Shared; units = 2 ^ 63 - n } = ap kept_of is in
+    let units : (kept_of s).units ≡ 2 ^ 63 - n = ap (λ (x : Kept). x.units) kept in
+    let sum : 2 ^ 63 - (n + 1) ≡ (kept_of s).units - 1 = omega (arith, units, fewer) in
+    record-kept (sym (ap (λ (x : Kept). x.kind) kept)) sum
+
 -- a slot that waits is not free
 pub some-waiting : (s : Option Standing) → IsWaiting s → IsSome s
 some-waiting None h = cc
 some-waiting (Some s) h = refl
 
--- what is kept as owned stands as owned
-pub owned-there : {T : Type 0} {home : Home} {kept : List Kept} {standings : Entries Standing} {values : List (Option T)} (k : ℕ) →
-    AreKept home kept standings values → (slice_index_or kept k (whole kind.Free)).kind ≡ kind.Owned →
-    slice_index_or standings k None ≡ Some Owned
-owned-there k a e = owned-only _ (ap (λ (x : Kept). x.kind) (sym (kept-there k a)) ∙ e)
+-- who agrees with what is kept finds the slot so
+pub owned-there : {T : Type 0} {home : Home} {kept : List Kept} {standings : Entries Standing} {values : List (Option T)} (k : ℕ) (of : Kind) →
+    AreKept home kept standings values → (slice_index_or kept k (whole kind.Free)).kind ≡ of →
+    IsOwnedBy of (slice_index_or standings k None)
+owned-there {T} {home} {kept} {standings} k of a e =
+    let same : (kept_of (slice_index_or standings k None)).kind ≡ of = ap (λ (x : Kept). x.kind) (sym (kept-there k a)) ∙ e in
+    record { alone = λ o. owned-only _ (same ∙ o); together = λ o. shared-only _ (a.bounded k) (same ∙ o) }
+
+pub taken-there : {T : Type 0} {home : Home} {kept : List Kept} {standings : Entries Standing} {values : List (Option T)} (k : ℕ) (of : Kind) →
+    AreKept home kept standings values → (slice_index_or kept k (whole kind.Free)).kind ≡ of → IsOwner of → IsSome (slice_index_or standings k None)
+taken-there {T} {home} {kept} {standings} k of a e h =
+    let same : (kept_of (slice_index_or standings k None)).kind ≡ of = ap (λ (x : Kept). x.kind) (sym (kept-there k a)) ∙ e in
+    taken-only _ (rw same h)
 
 -- what is in the place of a slot is a value where a standing is
 pub filled-here : {T : Type 0} {home : Home} {kept : List Kept} {standings : Entries Standing} {values : List (Option T)} (k : ℕ)
@@ -81,6 +206,7 @@ all-free {T} home n e = record {
   sized = length-replicate n (let none : Option Standing = None in none) ∙ sym e;
   told = sym (map-replicate kept_of n None);
   filled = map-replicate is_some n None ∙ sym (map-replicate is_some n None);
+  bounded = none-shared n;
 }
 
 -- an entry is within its table
@@ -91,21 +217,29 @@ inside-some (e ∷ es) (suc k) h = omega (arith, inside-some es k h)
 
 -- a slot and its value change together
 pub keeps : {T : Type 0} {home : Home} {kept : List Kept} {standings : Entries Standing} {values : List (Option T)} (k : ℕ)
-    (s : Option Standing) (v : Option T) → is_some v ≡ is_some s → AreKept home kept standings values →
+    (s : Option Standing) (v : Option T) → is_some v ≡ is_some s → IsBounded s → AreKept home kept standings values →
     AreKept home (slice_set kept k (kept_of s)) (slice_set standings k s) (slice_set values k v)
-keeps {T} {home} {kept} {standings} {values} k s v e a = record {
+keeps {T} {home} {kept} {standings} {values} k s v e b a = record {
   sized = length-set standings k s ∙ a.sized;
   told = ap (λ (ks : List Kept). slice_set ks k (kept_of s)) a.told ∙ sym (map-set kept_of standings k s);
   filled = map-set is_some values k v ∙ ap (λ (bs : List Bool). slice_set bs k (is_some v)) a.filled
-      ∙ ap (λ (b : Bool). slice_set (map is_some standings) k b) e ∙ sym (map-set is_some standings k s);
+      ∙ ap (λ (t : Bool). slice_set (map is_some standings) k t) e ∙ sym (map-set is_some standings k s);
+  bounded = bounded-set standings k s b a.bounded;
 }
 
 -- a slot that is not free stands otherwise, with its value
 pub keeps-value : {T : Type 0} {home : Home} {kept : List Kept} {standings : Entries Standing} {values : List (Option T)} (k : ℕ)
-    (s : Option Standing) → is_some s ≡ is_some (slice_index_or standings k None) → AreKept home kept standings values →
+    (s : Option Standing) → is_some s ≡ is_some (slice_index_or standings k None) → IsBounded s → AreKept home kept standings values →
     AreKept home (slice_set kept k (kept_of s)) (slice_set standings k s) values
-keeps-value {T} {home} {kept} {standings} {values} k s e a = record {
+keeps-value {T} {home} {kept} {standings} {values} k s e b a = record {
   sized = length-set standings k s ∙ a.sized;
   told = ap (λ (ks : List Kept). slice_set ks k (kept_of s)) a.told ∙ sym (map-set kept_of standings k s);
   filled = a.filled ∙ sym (map-set_same is_some standings k s None e);
+  bounded = bounded-set standings k s b a.bounded;
 }
+
+-- the same, where what is kept of it is told otherwise
+pub keeps-so : {T : Type 0} {home : Home} {kept : List Kept} {standings : Entries Standing} {values : List (Option T)} (k : ℕ)
+    (s : Option Standing) (x : Kept) → kept_of s ≡ x → is_some s ≡ is_some (slice_index_or standings k None) → IsBounded s → AreKept home kept standings values →
+    AreKept home (slice_set kept k x) (slice_set standings k s) values
+keeps-so k s x e f b a = rw (← e) (keeps-value k s f b a)

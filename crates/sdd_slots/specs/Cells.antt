@@ -1,35 +1,53 @@
 -- The cells of a world
-use Rattle.std.specs.Prelude.{ℕ, ◌≡◌, List, length, map, Option, None, Some}
+use Rattle.std.specs.Prelude.{ℕ, ◌≡◌, IfSome, List, length, Option, None, Some, option_map, slice_index_or}
+use Rattle.sdd_core.specs.declared.tag.Tag.{Tag}
 use Rattle.sdd_core.specs.declared.tag.Tag.TheVariants as tag
 use Rattle.sdd_token.specs.Units.{Home}
-use Rattle.sdd_token.specs.Rights.{Kept, whole, owned}
+use Rattle.sdd_token.specs.Right.{number_of, home_of, kind_of}
+use Rattle.sdd_token.specs.declared.right.Right.{Right}
+use Rattle.sdd_token.specs.Rights.{Kept, whole, granted}
+use Rattle.sdd_token.specs.declared.right.Kind.{Kind}
 use Rattle.sdd_token.specs.declared.right.Kind.TheVariants as kind
-use Rattle.sdd_store.specs.Table.{Entries, with_entry, without_entry}
+use Rattle.sdd_store.specs.Table.{Entries, entry_at, with_entry, without_entry}
 use Rattle.sdd_store.specs.declared.standing.Cell.{Cell}
 
--- the home whose numbers the cells are, and what each one that is taken holds
+-- the home whose numbers the cells are, what each one that is taken holds, and where the slots are numbered
 pub record Cells : Type 0 where
   pub home : Home
   pub cells : Entries Cell
+  pub slots : Home
 
--- a cell that holds nothing
-abbrev pub null_cell : Cell
-null_cell = record { held = None; tag = tag.None }
+-- the slot whose owner has the right
+abbrev pub slot_held : Option Right → Option ℕ
+slot_held right = option_map number_of right
 
--- the cell is taken, and holds nothing
-abbrev pub with_null : Cells → ℕ → Cells
-with_null cells k = record cells { cells = with_entry cells.cells k null_cell }
+-- a cell with this owner, and this tag
+abbrev pub cell_with : Option Right → Tag → Cell
+cell_with right t = record { held = slot_held right; tag = t }
+
+-- a cell holds this
+abbrev pub with_cell : Cells → ℕ → Cell → Cells
+with_cell cells k cell = record cells { cells = with_entry cells.cells k cell }
 
 -- the cell is free
 abbrev pub without_cell : Cells → ℕ → Cells
 without_cell cells k = record cells { cells = without_entry cells.cells k }
 
--- what the cells keep of a number: a single unit, where its cell is taken
-abbrev pub kept_of_cell : Option Cell → Kept
-kept_of_cell None = whole kind.Free
-kept_of_cell (Some cell) = owned
+-- if there is one, it is the right of an owner of this kind to one of the slots
+abbrev pub MayHold : Home → Kind → Option Right → Type 0
+MayHold slots k right = IfSome right (λ r. (home_of r ≡ slots) × (kind_of r ≡ k))
 
--- each number of the home is kept as its cell stands
-pub record AreKept (home : Home) (kept : List Kept) (cells : Entries Cell) : Type 0 where
+-- what is kept of a cell's number, and the right that the cell keeps, fit what the cell holds: all in it is of the cell's kind
+abbrev pub Fits : Home → Kept → Option Cell → Option Right → Type 0
+Fits slots kept None right = (kept ≡ whole kind.Free) × (right ≡ None)
+Fits slots kept (Some cell) right = (kept ≡ granted kept.kind) × (slot_held right ≡ cell.held) × MayHold slots kept.kind right
+
+abbrev pub right_at : List (Option Right) → ℕ → Option Right
+right_at rights k = slice_index_or rights k None
+
+-- each number of the home is kept as its cell stands, with the right to what it holds
+pub record AreKept (home slots : Home) (kept : List Kept) (cells : Entries Cell) (rights : List (Option Right)) : Type 0 where
   pub sized : length cells ≡ home.size
-  pub told : kept ≡ map kept_of_cell cells
+  pub kept_rowed : length kept ≡ home.size
+  pub rowed : length rights ≡ home.size
+  pub each : (k : ℕ) → Fits slots (slice_index_or kept k (whole kind.Free)) (entry_at cells k) (right_at rights k)

@@ -1,7 +1,8 @@
 -- The slots of a world: how each stands, and its value
-use Rattle.std.specs.Prelude.{ℕ, ◌-◌, ◌^◌, ◌≡◌, Bool, true, false, IsTrue, List, length, map, is_some, Option, None, Some, slice_index_or, slice_set}
+use Rattle.std.specs.Prelude.{ℕ, ◌+◌, ◌-◌, ◌^◌, ◌<◌, ◌≤◌, ◌≡◌, Bool, true, false, IsTrue, List, length, map, is_some, nat_lt, Option, None, Some, slice_index_or, slice_set, if◌then◌else◌}
 use Rattle.sdd_token.specs.Units.{Home}
-use Rattle.sdd_token.specs.Rights.{Kept, whole, owned}
+use Rattle.sdd_token.specs.Rights.{Kept, whole, granted}
+use Rattle.sdd_token.specs.declared.right.Kind.{Kind}
 use Rattle.sdd_token.specs.declared.right.Kind.TheVariants as kind
 use Rattle.sdd_store.specs.Table.{Entries, entry_at, with_entry, without_entry}
 use Rattle.sdd_store.specs.declared.standing.Standing.{Standing}
@@ -15,6 +16,52 @@ pub record Slots (T : Type 0) : Type 0 where
   pub stakes : List (List (Option ℕ))
   pub readers : ℕ
 
+-- how the item of a new right of this kind stands
+abbrev pub first_standing : Kind → Standing
+first_standing kind.Free = Owned
+first_standing kind.Owned = Owned
+first_standing kind.Raw = Owned
+first_standing kind.Shared = Shared 1
+first_standing kind.Retired = Owned
+
+-- how many owners share it, if it is shared
+abbrev pub owners_of : Option Standing → Option ℕ
+owners_of None = None
+owners_of (Some Owned) = None
+owners_of (Some Raw) = None
+owners_of (Some (Shared owners)) = Some owners
+owners_of (Some Retired) = None
+owners_of (Some (Private collector)) = None
+
+-- other owners are there
+abbrev pub has_others : Option Standing → Bool
+has_others None = false
+has_others (Some Owned) = false
+has_others (Some Raw) = false
+has_others (Some (Shared owners)) = nat_lt 1 owners
+has_others (Some Retired) = false
+has_others (Some (Private collector)) = false
+
+-- one owner fewer: after the last one the item waits
+abbrev pub let_go : Option Standing → Standing
+let_go None = Retired
+let_go (Some Owned) = Retired
+let_go (Some Raw) = Retired
+let_go (Some (Shared owners)) = if nat_lt 1 owners then Shared (owners - 1) else Retired
+let_go (Some Retired) = Retired
+let_go (Some (Private collector)) = Retired
+
+-- so many owners share it, as many as there may be at most
+pub record IsSharedBy (owners : ℕ) (standing : Option Standing) : Type 0 where
+  pub shared : standing ≡ Some (Shared owners)
+  pub some : 1 ≤ owners
+  pub most : owners ≤ 2 ^ 62
+
+-- an owner with a right of this kind finds the slot so
+pub record IsOwnedBy (k : Kind) (standing : Option Standing) : Type 0 where
+  pub alone : k ≡ kind.Owned → standing ≡ Some Owned
+  pub together : k ≡ kind.Shared → (owners : ℕ) × IsSharedBy owners standing
+
 module _ {T : Type 0} where
   abbrev pub standing_at : Slots T → ℕ → Option Standing
   standing_at slots k = entry_at slots.standings k
@@ -22,13 +69,14 @@ module _ {T : Type 0} where
   abbrev pub value_at : Slots T → ℕ → Option T
   value_at slots k = slice_index_or slots.values k None
 
-  -- the slot has a new value, which is owned
-  abbrev pub with_made : Slots T → ℕ → T → Slots T
-  with_made slots k value = record slots { standings = with_entry slots.standings k Owned; values = slice_set slots.values k (Some value) }
+  -- the slot has a new value, which stands so
+  abbrev pub with_made : Slots T → ℕ → T → Standing → Slots T
+  with_made slots k value standing =
+      record slots { standings = with_entry slots.standings k standing; values = slice_set slots.values k (Some value) }
 
-  -- the value of the slot waits to be reclaimed
-  abbrev pub with_retired : Slots T → ℕ → Slots T
-  with_retired slots k = record slots { standings = with_entry slots.standings k Retired }
+  -- the value of the slot stands so
+  abbrev pub with_standing : Slots T → ℕ → Standing → Slots T
+  with_standing slots k standing = record slots { standings = with_entry slots.standings k standing }
 
   -- the slot is free, and its value is gone
   abbrev pub without_slot : Slots T → ℕ → Slots T
@@ -49,14 +97,19 @@ IsWaiting standing = IsTrue (is_waiting standing)
 -- what the slots keep of a number that stands so: of an owned one a single unit, of a shared one what its owners leave, else all
 abbrev pub kept_of : Option Standing → Kept
 kept_of None = whole kind.Free
-kept_of (Some Owned) = owned
+kept_of (Some Owned) = granted kind.Owned
 kept_of (Some Raw) = whole kind.Raw
 kept_of (Some (Shared owners)) = record { kind = kind.Shared; units = 2 ^ 63 - owners }
 kept_of (Some Retired) = whole kind.Retired
 kept_of (Some (Private collector)) = whole kind.Retired
+
+-- an item is shared by one owner at least, and by 2^62 at most
+abbrev pub IsBounded : Option Standing → Type 0
+IsBounded standing = (owners : ℕ) → standing ≡ Some (Shared owners) → IsSharedBy owners standing
 
 -- each number of the home is kept as it stands, and a value is exactly where a slot is not free
 pub record AreKept {T : Type 0} (home : Home) (kept : List Kept) (standings : Entries Standing) (values : List (Option T)) : Type 0 where
   pub sized : length standings ≡ home.size
   pub told : kept ≡ map kept_of standings
   pub filled : map is_some values ≡ map is_some standings
+  pub bounded : (k : ℕ) → IsBounded (entry_at standings k)

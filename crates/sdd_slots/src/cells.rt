@@ -1,42 +1,61 @@
-ghost use Rattle.std.specs.Prelude.{◌≡◌, ◌<◌, ◌↔◌, All, IfNone, IfOk, IfSome, IsNone, IsTrue, None, Some, replicate};
-ghost use Rattle.sdd_token.specs.Right.{number_of, home_of};
+ghost use Rattle.std.specs.Prelude.{◌≡◌, ◌<◌, ◌↔◌, All, IfErr, IfOk, IfSome, IsNone, IsSome, IsTrue, MatchResult, None, OnErr, Some, option_copied, replicate};
+ghost use Rattle.sdd_token.specs.Kind.{IsOwner};
+ghost use Rattle.sdd_token.specs.Right.{number_of, home_of, kind_of, badge_home};
+ghost use Rattle.sdd_slots.specs.Cells.{slot_held};
 ghost use Rattle.sdd_store.specs.Table.{IsEmptyAt, IsFull, entry_at};
-ghost use Rattle.sdd_slots.specs.Cells.{with_null, without_cell};
 
 use sdd_core::Tag;
 use sdd_store::{Cell, Table};
-use sdd_token::{Kind, Right, Rights};
+use sdd_token::{Badge, Kind, Right, Rights};
 use std::alloc::{AllocError, Global};
 use std::marker::Model;
+use std::mem::replace;
 
-/// Cells, each free or taken.
+/// Cells, each free or taken. One that is taken holds an owner of a slot, or nothing, and a tag.
 ///
-/// Memory is taken when the cells are made, and never again. No call's cost depends on how many cells there are.
-#[derive(Drop)]
+/// A cell holds owners of its own kind alone: of an owned item, or of a shared one. Memory is taken when the cells are made, and never again. No call's
+/// cost depends on how many cells there are.
 pub struct Cells {
     rights: Rights,
     cells: Table<Cell>,
+    /// The right of the owner that a cell holds.
+    held: Vec<Option<Right>>,
+    /// Whose slots the owners are of.
+    slots: Badge,
 }
 
 impl Model for Cells {
+    ghost use Rattle.sdd_token.specs.Right.{badge_home};
     ghost use Rattle.sdd_slots.specs.Cells.{Cells, AreKept};
 
     ghost Value = { Cells };
 
-    ghost view = { λ c. record { home = c.rights.home; cells = c.cells } };
+    ghost view = { λ c. record { home = c.rights.home; cells = c.cells; slots = badge_home c.slots } };
 
-    ghost invariant = { λ c. AreKept c.rights.home c.rights.kept c.cells };
+    ghost invariant = { λ c. AreKept c.rights.home (badge_home c.slots) c.rights.kept c.cells c.held.items };
 }
 
 impl Cells {
-    /// That many cells, all free, in a home of their own.
-    pub fn new(alloc: Global, size: u32) -> Result<Cells, AllocError>
+    ghost use Rattle.sdd_slots.specs.Cells.{cell_with, slot_held, with_cell, without_cell, MayHold};
+
+    /// That many cells, all free, in a home of their own, for owners of these slots.
+    pub fn new(alloc: Global, size: u32, slots: Badge) -> Result<Cells, AllocError>
         ensures size { IfOk result (λ cells. cells.home.size ≡ size) }
         ensures cells { IfOk result (λ cells. cells.cells ≡ replicate size None) }
+        ensures slots { IfOk result (λ cells. cells.slots ≡ badge_home slots) }
     {
         let rights = Rights::new(alloc, size as usize, Kind::Free)?;
         let cells = Table::new(alloc, size)?;
-        Ok(Cells { rights, cells })
+        let mut held = Vec::with_capacity(alloc, size as usize)?;
+        for _cell in 0..size {
+            held.push_reserved(None);
+        }
+        Ok(Cells {
+            rights,
+            cells,
+            held,
+            slots,
+        })
     }
 
     /// Every cell is free.
@@ -46,35 +65,138 @@ impl Cells {
         self.cells.is_empty()
     }
 
-    /// Takes some free cell, which holds nothing; where none is free there is no right.
-    pub fn null(&mut self) -> Option<Right>
-        ensures home { IfSome result (λ right. home_of right ≡ self.old.home) }
-        ensures free { IfSome result (λ right. IsEmptyAt self.old.cells (number_of right)) }
-        ensures taken { IfSome result (λ right. self.new ≡ with_null self.old (number_of right)) }
-        ensures full { IfNone result (IsFull self.old.cells) }
-        ensures unchanged { IfNone result (self.new ≡ self.old) }
+    /// No cell is free.
+    pub fn is_full(&self) -> bool
+        ensures { IsTrue result ↔ IsFull self.now.cells }
     {
-        let null = Cell {
-            held: None,
-            tag: Tag::None,
-        };
-        let Ok(cell) = self.cells.claim(null) else {
-            return None;
-        };
-        Some(self.rights.grant(cell))
+        self.cells.is_full()
     }
 
-    /// Gives a cell up, and tells what it held.
-    pub fn close(&mut self, right: Right) -> Cell
+    /// Takes some free cell for owners of this kind, which holds this one, if there is one, with this tag; where no cell is free it
+    /// comes back.
+    pub fn claim(
+        &mut self,
+        held: Option<Right>,
+        tag: Tag,
+        kind: Kind,
+    ) -> Result<Right, Option<Right>>
+        requires kind { IsOwner kind }
+        requires owner { MayHold self.old.slots kind held }
+        ensures home { IfOk result (λ right. home_of right ≡ self.old.home) }
+        ensures kind { IfOk result (λ right. kind_of right ≡ kind) }
+        ensures free { IfOk result (λ right. IsEmptyAt self.old.cells (number_of right)) }
+        ensures claimed { MatchResult result
+            (λ right. self.new ≡ with_cell self.old (number_of right) (cell_with held tag))
+            (λ _. self.new ≡ self.old) }
+        ensures full { OnErr result (IsFull self.old.cells) }
+        ensures back { IfErr result (λ back. back ≡ held) }
+    {
+        let entry = Cell {
+            held: slot_of(&held),
+            tag,
+        };
+        let Ok(cell) = self.cells.claim(entry) else {
+            return Err(held);
+        };
+        match replace(&mut self.held[cell as usize], held) {
+            None => Ok(self.rights.grant(cell, kind)),
+            Some(_) => unreachable!(),
+        }
+    }
+
+    /// What a cell holds.
+    pub fn get(&self, right: &Right) -> Cell
+        requires { home_of right.now ≡ self.now.home }
+        ensures { entry_at self.now.cells (number_of right.now) ≡ Some result }
+    {
+        self.rights.agrees(right);
+        self.cells.at(right.number())
+    }
+
+    /// The right of the owner that a cell holds.
+    pub fn owner(&self, right: &Right) -> Option<&Right>
+        requires { home_of right.now ≡ self.now.home }
+        ensures taken { IsSome (entry_at self.now.cells (number_of right.now)) }
+        ensures held { IfSome (entry_at self.now.cells (number_of right.now)) (λ cell. cell.held ≡ slot_held (option_copied result)) }
+        ensures owner { MayHold self.now.slots (kind_of right.now) (option_copied result) }
+    {
+        self.rights.agrees(right);
+        self.held[right.number() as usize].as_ref()
+    }
+
+    /// The cell holds this from now on; the owner that it held comes back.
+    pub fn swap(&mut self, right: &Right, new: Option<Right>, tag: Tag) -> Option<Right>
+        requires home { home_of right.now ≡ self.old.home }
+        requires owner { MayHold self.old.slots (kind_of right.now) new }
+        ensures taken { IsSome (entry_at self.old.cells (number_of right.now)) }
+        ensures held { IfSome (entry_at self.old.cells (number_of right.now)) (λ cell. cell.held ≡ slot_held result) }
+        ensures owner { MayHold self.old.slots (kind_of right.now) result }
+        ensures swapped { self.new ≡ with_cell self.old (number_of right.now) (cell_with new tag) }
+    {
+        self.rights.agrees(right);
+        let cell = right.number();
+        let held = slot_of(&new);
+        self.cells.replace(cell, Cell { held, tag });
+        replace(&mut self.held[cell as usize], new)
+    }
+
+    /// The cell has this tag from now on.
+    pub fn set_tag(&mut self, right: &Right, tag: Tag)
+        requires { home_of right.now ≡ self.old.home }
+        ensures taken { IsSome (entry_at self.old.cells (number_of right.now)) }
+        ensures tagged { IfSome (entry_at self.old.cells (number_of right.now))
+            (λ cell. self.new ≡ with_cell self.old (number_of right.now) (record cell { tag = tag })) }
+    {
+        let old = self.get(right);
+        self.cells.replace(
+            right.number(),
+            Cell {
+                held: old.held,
+                tag,
+            },
+        );
+    }
+
+    /// Gives a cell up. The owner that it held comes back.
+    pub fn close(&mut self, right: Right) -> Option<Right>
         requires { home_of right ≡ self.old.home }
-        ensures held { entry_at self.old.cells (number_of right) ≡ Some result }
+        ensures taken { IsSome (entry_at self.old.cells (number_of right)) }
+        ensures held { IfSome (entry_at self.old.cells (number_of right)) (λ cell. cell.held ≡ slot_held result) }
+        ensures owner { MayHold self.old.slots (kind_of right) result }
         ensures closed { self.new ≡ without_cell self.old (number_of right) }
     {
-        let cell = self.rights.redeem(right, Kind::Free);
-        let Some(held) = self.cells.get(cell) else {
-            unreachable!()
-        };
+        let cell = self.rights.redeem(right);
+        self.rights.set(cell as usize, Kind::Free);
         self.cells.release(cell);
-        held
+        self.held[cell as usize].take()
+    }
+
+    /// Lets go of cells that are all free.
+    pub fn destroy(self)
+        requires { All (λ cell. IsNone cell) self.cells }
+    {
+        let Cells {
+            rights: _,
+            cells: _,
+            mut held,
+            slots: _,
+        } = self;
+        while let Some(right) = held.pop() {
+            match right {
+                None => {}
+                Some(_) => unreachable!(),
+            }
+        }
+        held.destroy_empty();
+    }
+}
+
+/// The slot of an owner, if there is one.
+fn slot_of(owner: &Option<Right>) -> Option<u32>
+    ensures { result ≡ slot_held owner.now }
+{
+    match owner {
+        Some(right) => Some(right.number()),
+        None => None,
     }
 }

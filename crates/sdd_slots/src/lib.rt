@@ -1,8 +1,8 @@
 //! The slots and the cells of a world, and the rights to them.
 //!
-//! - A slot has a value while an item is there, and [`Slots`] knows how the item stands. Its owner has the slot's [`Right`](sdd_token::Right), and
-//!   nothing else.
-//! - A cell holds an item by its slot, with a tag. Whoever may use the cell has its `Right`.
+//! - A slot has a value while an item is there, and [`Slots`] knows how the item stands. Its owner has a [`Right`](sdd_token::Right) to the slot, and
+//!   nothing else; several owners have one each.
+//! - A cell holds an owner by its right, with a tag. Whoever may use the cell has a `Right` to it.
 //!
 //! A right says that its number is taken. So a look at a slot by its right finds the value, with no refusal.
 #![tactic(auto)]
@@ -11,4 +11,4 @@ mod cells;
 mod slots;
 
 pub use cells::Cells;
-pub use slots::Slots;
+pub use slots::{MOST_OWNERS, Slots};

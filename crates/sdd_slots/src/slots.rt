@@ -1,14 +1,18 @@
 ghost use Rattle.sdd_places.specs.Block.{IsHome, IsFreeFor, stake_at, lent, settled, unlent};
-ghost use Rattle.std.specs.Prelude.{ℕ, ◌≡◌, ◌<◌, ◌≤◌, ◌↔◌, All, IfErr, IfNone, IfOk, IfSome, IsNone, IsSome, IsTrue, MatchResult, None, OnErr, OnSome, Some, length, replicate};
-ghost use Rattle.sdd_token.specs.Right.{number_of, home_of};
+ghost use Rattle.std.specs.Prelude.{ℕ, ◌≡◌, ◌+◌, ◌^◌, ◌<◌, ◌≤◌, ◌↔◌, All, IfErr, IfNone, IfOk, IfSome, IsNone, IsSome, IsTrue, MatchResult, None, OnErr, OnSome, Some, length, replicate};
+ghost use Rattle.sdd_token.specs.Kind.{IsOwner};
+ghost use Rattle.sdd_token.specs.Right.{number_of, home_of, kind_of, badge_home};
 ghost use Rattle.sdd_store.specs.Table.{IsEmptyAt, IsFull};
-ghost use Rattle.sdd_slots.specs.Slots.{standing_at, value_at, with_made, with_retired, without_slot, IsWaiting};
+ghost use Rattle.sdd_slots.specs.Slots.{standing_at, value_at, with_made, with_standing, without_slot, first_standing, let_go, has_others, owners_of, IsOwnedBy, IsSharedBy, IsWaiting};
 
 use sdd_places::{Ended, Places, Tenure};
 use sdd_store::{Standing, Table};
-use sdd_token::{Kind, Right, Rights};
+use sdd_token::{Badge, Kind, Right, Rights};
 use std::alloc::{AllocError, Global};
 use std::marker::Model;
+
+/// How many owners may share an item.
+pub const MOST_OWNERS: u64 = 1 << 62;
 
 /// Slots for values, each free or with a value and a standing.
 ///
@@ -53,6 +57,14 @@ impl<T> Slots<T> {
         })
     }
 
+    /// A badge of the home of these slots.
+    pub fn badge(&mut self) -> Badge
+        ensures home { badge_home result ≡ self.old.home }
+        ensures same { self.new ≡ self.old }
+    {
+        self.rights.badge()
+    }
+
     /// How many slots there are.
     pub fn len(&self) -> usize
         ensures home { result ≡ self.now.home.size }
@@ -76,28 +88,31 @@ impl<T> Slots<T> {
         self.standings.is_full()
     }
 
-    /// Puts a value into some free slot, whose owner has the right; where none is free the value comes back.
-    pub fn make(&mut self, value: T) -> Result<Right, T>
+    /// Puts a value into some free slot, whose owner has a right of this kind; where none is free the value comes back.
+    pub fn make(&mut self, value: T, kind: Kind) -> Result<Right, T>
+        requires owner { IsOwner kind }
         ensures home { IfOk result (λ right. home_of right ≡ self.old.home) }
+        ensures kind { IfOk result (λ right. kind_of right ≡ kind) }
         ensures free { IfOk result (λ right. IsEmptyAt self.old.standings (number_of right)) }
         ensures made { MatchResult result
-            (λ right. self.new ≡ with_made self.old (number_of right) value)
+            (λ right. self.new ≡ with_made self.old (number_of right) value (first_standing kind))
             (λ _. self.new ≡ self.old) }
         ensures full { OnErr result (IsFull self.old.standings) }
         ensures back { IfErr result (λ back. back ≡ value) }
     {
-        let Ok(slot) = self.standings.claim(Standing::Owned) else {
+        let Ok(slot) = self.standings.claim(first_standing(kind)) else {
             return Err(value);
         };
         self.places.put(slot as usize, value);
-        Ok(self.rights.grant(slot))
+        Ok(self.rights.grant(slot, kind))
     }
 
     /// The slot of an owner, in which its value is.
     pub fn slot_of(&self, right: &Right) -> u32
         requires { home_of right.now ≡ self.now.home }
         ensures slot { result ≡ number_of right.now }
-        ensures owned { standing_at self.now result ≡ Some Standing.Owned }
+        ensures owned { IsOwnedBy (kind_of right.now) (standing_at self.now result) }
+        ensures taken { IsSome (standing_at self.now result) }
     {
         self.rights.agrees(right);
         right.number()
@@ -111,16 +126,47 @@ impl<T> Slots<T> {
         self.places.value(self.slot_of(right) as usize)
     }
 
-    /// The value of an owner waits to be reclaimed, in the slot that comes back.
-    pub fn retire(&mut self, right: Right) -> u32
-        requires { home_of right ≡ self.old.home }
-        ensures slot { result ≡ number_of right }
-        ensures owned { standing_at self.old result ≡ Some Standing.Owned }
-        ensures retired { self.new ≡ with_retired self.old result }
+    /// How many owners share the item in a slot; of one that is not shared nothing.
+    pub fn owners(&self, slot: u32) -> Option<u64>
+        ensures owners { result ≡ owners_of (standing_at self.now slot) }
+        ensures shared { IfSome result (λ owners. IsSharedBy owners (standing_at self.now slot)) }
     {
-        let slot = self.rights.redeem(right, Kind::Retired);
+        match self.standings.get(slot) {
+            Some(Standing::Shared(owners)) => Some(owners),
+            _ => None,
+        }
+    }
+
+    /// One owner more of an item that is shared, where fewer share it than may.
+    pub fn add_owner(&mut self, slot: u32, owners: u64) -> Right
+        requires shared { IsSharedBy owners (standing_at self.old slot) }
+        requires fewer { owners < 2 ^ 62 }
+        ensures home { home_of result ≡ self.old.home }
+        ensures slot { number_of result ≡ slot }
+        ensures kind { kind_of result ≡ Kind.Shared }
+        ensures added { self.new ≡ with_standing self.old slot (Standing.Shared (owners + 1)) }
+    {
+        self.standings.replace(slot, Standing::Shared(owners + 1));
+        self.rights.grant_another(slot)
+    }
+
+    /// Lets an owner go, and tells whether it was the last: then the item waits to be reclaimed.
+    pub fn let_go(&mut self, right: Right) -> bool
+        requires { home_of right ≡ self.old.home }
+        ensures owned { IsOwnedBy (kind_of right) (standing_at self.old (number_of right)) }
+        ensures last { IsTrue result ↔ ¬ (IsTrue (has_others (standing_at self.old (number_of right)))) }
+        ensures gone { self.new ≡ with_standing self.old (number_of right) (let_go (standing_at self.old (number_of right))) }
+    {
+        let slot = self.slot_of(&right);
+        let owners = self.owners(slot).unwrap_or(1);
+        self.rights.redeem(right);
+        if owners > 1 {
+            self.standings.replace(slot, Standing::Shared(owners - 1));
+            return false;
+        }
         self.standings.replace(slot, Standing::Retired);
-        slot
+        self.rights.set(slot as usize, Kind::Retired);
+        true
     }
 
     /// Takes the value of a slot that waits, which is free then; of any other slot nothing.
@@ -177,5 +223,15 @@ impl<T> Slots<T> {
             self.standings.get(slot),
             Some(Standing::Retired | Standing::Private(_))
         )
+    }
+}
+
+/// How the item of a new owner stands.
+fn first_standing(kind: Kind) -> Standing
+    ensures { result ≡ first_standing kind }
+{
+    match kind {
+        Kind::Shared => Standing::Shared(1),
+        Kind::Free | Kind::Owned | Kind::Raw | Kind::Retired => Standing::Owned,
     }
 }

@@ -82,6 +82,17 @@ impl<E: Copy> Table<E> {
         *self.entries.get(place as usize)?
     }
 
+    /// The entry in a place that is not empty.
+    pub fn at(&self, place: u32) -> E
+        requires { IsSome (entry_at self.now place) }
+        ensures { entry_at self.now place ≡ Some result }
+    {
+        let Some(entry) = self.entries[place as usize] else {
+            unreachable!()
+        };
+        entry
+    }
+
     /// Every place is empty.
     pub fn is_empty(&self) -> bool
         ensures { IsTrue result ↔ All (λ e. IsNone e) self.now }

@@ -1,9 +1,10 @@
 -- What a space keeps of the numbers of one home
-use Rattle.std.specs.Prelude.{ℕ, ◌^◌, ◌≡◌, ◌<◌, List, length, slice_index_or}
+use Rattle.std.specs.Prelude.{ℕ, ◌-◌, ◌^◌, ◌≡◌, ◌<◌, List, length, slice_index_or}
 use Rattle.sdd_token.specs.Units.{Home}
 use Rattle.sdd_token.specs.declared.part.Part.{Part}
 use Rattle.sdd_token.specs.declared.right.Kind.{Kind}
-use Rattle.sdd_token.specs.declared.right.Kind.TheVariants.{Free, Owned}
+use Rattle.sdd_token.specs.declared.right.Kind.TheVariants.{Free}
+use Rattle.sdd_token.specs.Kind.{right_units}
 
 -- the kind of a number, and how many of its units are kept
 pub record Kept : Type 0 where
@@ -14,9 +15,9 @@ pub record Kept : Type 0 where
 abbrev pub whole : Kind → Kept
 whole kind = record { kind = kind; units = 2 ^ 63 }
 
--- what is kept of a number that someone has a right to
-abbrev pub owned : Kept
-owned = record { kind = Owned; units = 1 }
+-- what is kept of a number of this kind to which one right was granted
+abbrev pub granted : Kind → Kept
+granted kind = record { kind = kind; units = 2 ^ 63 - right_units kind }
 
 -- a home, and what is kept of each of its numbers
 pub record Rights : Type 0 where

@@ -1,7 +1,8 @@
-ghost use Rattle.std.specs.Prelude.{◌≡◌, ◌-◌, ◌^◌, ◌<◌};
+ghost use Rattle.std.specs.Prelude.{◌≡◌, ◌<◌};
 ghost use Rattle.sdd_token.specs.declared.right.Kind.{Kind};
+ghost use Rattle.sdd_token.specs.Kind.{right_units, IsOwner};
 
-use crate::part::Part;
+use crate::part::{Part, WHOLE};
 
 /// How a number of slots or cells stands, as all its units agree.
 #[derive(Clone, Copy, Debug, PartialEq, Eq)]
@@ -18,7 +19,19 @@ pub enum Kind {
     Retired,
 }
 
-/// The right to a number, which nobody else has: all its units but the one that its space keeps.
+impl Kind {
+    /// How many units an owner has.
+    pub(crate) fn units(self) -> u64
+        ensures { result ≡ right_units self }
+    {
+        match self {
+            Kind::Owned => WHOLE - 1,
+            Kind::Free | Kind::Raw | Kind::Shared | Kind::Retired => 1,
+        }
+    }
+}
+
+/// The right of an owner to a number: all its units but the one that its space keeps, where nobody else may be an owner, and a single one else.
 ///
 /// It can be neither copied nor let go, only redeemed where it was granted.
 pub struct Right {
@@ -26,7 +39,8 @@ pub struct Right {
     pub(crate) part: Part<Kind>,
     pub ghost named: { part.number ≡ number },
     pub ghost inside: { number < part.home.size },
-    pub ghost sole: { (part.kind ≡ Kind.Owned) × (part.units ≡ 2 ^ 63 - 1) },
+    pub ghost owner: { IsOwner part.kind },
+    pub ghost due: { part.units ≡ right_units part.kind },
 }
 
 const _: () = prove!(size_of::<Right>() == 4);
@@ -41,3 +55,79 @@ impl Right {
         self.number
     }
 }
+
+/// The right of the one owner of a number.
+pub struct Sole {
+    right: Right,
+    pub ghost kind: { right.part.kind ≡ Kind.Owned },
+}
+
+const _: () = prove!(size_of::<Sole>() == 4);
+
+impl Sole {
+    ghost use Rattle.sdd_token.specs.Right.{kind_of};
+
+    pub fn of(right: Right) -> Sole
+        requires { kind_of right ≡ Kind.Owned }
+        ensures { result.right ≡ right }
+    {
+        Sole { right }
+    }
+
+    pub fn into_right(self) -> Right
+        ensures right { result ≡ self.right }
+        ensures kind { kind_of result ≡ Kind.Owned }
+    {
+        let Sole { right } = self;
+        right
+    }
+
+    pub fn right(&self) -> &Right
+        ensures right { result.now ≡ self.now.right }
+        ensures kind { kind_of result.now ≡ Kind.Owned }
+    {
+        &self.right
+    }
+}
+
+/// The right of one owner of a number that others may own too.
+pub struct Share {
+    right: Right,
+    pub ghost kind: { right.part.kind ≡ Kind.Shared },
+}
+
+const _: () = prove!(size_of::<Share>() == 4);
+
+impl Share {
+    ghost use Rattle.sdd_token.specs.Right.{kind_of};
+
+    pub fn of(right: Right) -> Share
+        requires { kind_of right ≡ Kind.Shared }
+        ensures { result.right ≡ right }
+    {
+        Share { right }
+    }
+
+    pub fn into_right(self) -> Right
+        ensures right { result ≡ self.right }
+        ensures kind { kind_of result ≡ Kind.Shared }
+    {
+        let Share { right } = self;
+        right
+    }
+
+    pub fn right(&self) -> &Right
+        ensures right { result.now ≡ self.now.right }
+        ensures kind { kind_of result.now ≡ Kind.Shared }
+    {
+        &self.right
+    }
+}
+
+/// Whose numbers are meant: it names a home, and is a right to none of its numbers.
+#[derive(Drop)]
+pub struct Badge {
+    pub(crate) part: Part<Kind>,
+}
+
+const _: () = prove!(size_of::<Badge>() == 0);

@@ -1,10 +1,11 @@
 //! The units that a space keeps of the numbers of one book.
 ghost use Rattle.std.specs.Prelude.{◌≡◌, ◌+◌, ◌-◌, ◌<◌, ◌≤◌, IfOk, replicate, slice_set};
-ghost use Rattle.sdd_token.specs.Right.{number_of, home_of};
-ghost use Rattle.sdd_token.specs.Rights.{kept_at, whole, owned};
+ghost use Rattle.sdd_token.specs.Kind.{right_units, IsOwner};
+ghost use Rattle.sdd_token.specs.Right.{number_of, home_of, kind_of, badge_home};
+ghost use Rattle.sdd_token.specs.Rights.{kept_at, whole, granted};
 
 use crate::part::{Book, Part, WHOLE};
-use crate::right::{Kind, Right};
+use crate::right::{Badge, Kind, Right};
 use std::alloc::{AllocError, Global};
 use std::marker::Model;
 
@@ -40,6 +41,16 @@ impl Rights {
             parts.push_reserved(book.issue(&kind));
         }
         Ok(Rights { book, parts })
+    }
+
+    /// A badge of this home.
+    pub fn badge(&mut self) -> Badge
+        ensures home { badge_home result ≡ self.old.home }
+        ensures same { self.new ≡ self.old }
+    {
+        Badge {
+            part: self.book.issue(&Kind::Free),
+        }
     }
 
     /// Gives some units of a number away. At least one stays.
@@ -94,43 +105,62 @@ impl Rights {
         self.parts[number].agree(part);
     }
 
-    /// Grants the right to a number that is kept whole.
-    pub fn grant(&mut self, number: u32) -> Right
+    /// Grants the first right to a number that is kept whole: of all units but one, or, for a number that others may own too, of a single one.
+    pub fn grant(&mut self, number: u32, kind: Kind) -> Right
         requires inside { number < self.old.home.size }
         requires whole { (kept_at self.old number).units ≡ WHOLE }
+        requires owner { IsOwner kind }
         ensures right_home { home_of result ≡ self.old.home }
         ensures right_number { number_of result ≡ number }
+        ensures right_kind { kind_of result ≡ kind }
         ensures home { self.new.home ≡ self.old.home }
-        ensures kept { self.new.kept ≡ slice_set self.old.kept number owned }
+        ensures kept { self.new.kept ≡ slice_set self.old.kept number (granted kind) }
     {
         let kept = &mut self.parts[number as usize];
-        kept.set(&Kind::Owned, &());
-        let part = kept.split(WHOLE - 1);
+        kept.set(&kind, &());
+        let part = kept.split(kind.units());
         Right { number, part }
     }
 
-    /// Takes a right back, and sets the kind of its number, which is kept whole again.
-    pub fn redeem(&mut self, right: Right, kind: Kind) -> u32
+    /// Grants one right more to a number that several may own. At least one unit stays.
+    pub fn grant_another(&mut self, number: u32) -> Right
+        requires inside { number < self.old.home.size }
+        requires kind { (kept_at self.old number).kind ≡ Kind.Shared }
+        requires more { 1 < (kept_at self.old number).units }
+        ensures right_home { home_of result ≡ self.old.home }
+        ensures right_number { number_of result ≡ number }
+        ensures right_kind { kind_of result ≡ Kind.Shared }
+        ensures home { self.new.home ≡ self.old.home }
+        ensures kept { self.new.kept ≡ slice_set self.old.kept number (record (kept_at self.old number) { units = (kept_at self.old number).units - 1 }) }
+    {
+        let part = self.parts[number as usize].split(1);
+        Right { number, part }
+    }
+
+    /// Takes a right back. What is kept of its number had agreed with it on the kind.
+    pub fn redeem(&mut self, right: Right) -> u32
         requires { home_of right ≡ self.old.home }
         ensures number { result ≡ number_of right }
         ensures inside { result < self.old.home.size }
-        ensures was { kept_at self.old result ≡ owned }
+        ensures kind { (kept_at self.old result).kind ≡ kind_of right }
+        ensures some { 0 < (kept_at self.old result).units }
+        ensures fits { (kept_at self.old result).units + right_units (kind_of right) ≤ WHOLE }
         ensures home { self.new.home ≡ self.old.home }
-        ensures kept { self.new.kept ≡ slice_set self.old.kept result (whole kind) }
+        ensures kept { self.new.kept ≡ slice_set self.old.kept result
+            (record (kept_at self.old result) { units = (kept_at self.old result).units + right_units (kind_of right) }) }
     {
         let Right { number, mut part } = right;
-        let rest = &mut self.parts[number as usize];
-        rest.apart(&mut part);
-        rest.join(part);
-        rest.set(&kind, &());
+        let kept = &mut self.parts[number as usize];
+        kept.apart(&mut part);
+        kept.join(part);
         number
     }
 
-    /// Who has the right to a number finds it owned.
+    /// Who has a right to a number agrees on its kind.
     pub fn agrees(&self, right: &Right)
         requires { home_of right.now ≡ self.now.home }
         ensures inside { number_of right.now < self.now.home.size }
-        ensures kind { (kept_at self.now (number_of right.now)).kind ≡ Kind.Owned }
+        ensures kind { (kept_at self.now (number_of right.now)).kind ≡ kind_of right.now }
     {
         self.agree(right.number as usize, &right.part);
     }

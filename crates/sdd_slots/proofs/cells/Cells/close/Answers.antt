@@ -1,6 +1,12 @@
-use Rattle.std.proofs.Common.{None}
-use Rattle.sdd_slots.proofs.CellsKept.{cells-keep}
+use Rattle.std.proofs.Common.{arith}
+use Rattle.std.proofs.lemmas.List.{get_or-set_same}
+use Rattle.sdd_token.specs.Rights.{whole}
+use Rattle.sdd_token.specs.declared.right.Kind.TheVariants.{Free}
+use Rattle.sdd_slots.proofs.CellsKept.{whole-again, units-fit}
 use Rattle.sdd_slots.proofs.cells.Cells.close.Goals as goal
 
-pub invariant_of-self : goal.invariant_of-self
-invariant_of-self c = rw (c.redeem-cell.ensures.home, c.redeem-cell.ensures.kept, c.release.ensures) (cells-keep c.redeem-cell.result None c.self.invariant)
+pub set-requires-clause-whole : goal.set-requires-clause-whole
+set-requires-clause-whole c =
+    rw (c.redeem-cell.ensures.kept)
+    rw (get_or-set_same c.self.inside.rights.kept c.redeem-cell.result _ (whole Free) (omega (arith, c.self.invariant.kept_rowed, c.redeem-cell.ensures.inside)))
+    (whole-again c.redeem-cell.result _ c.self.invariant c.redeem-cell.ensures.kind c.args.right.owner (units-fit _))

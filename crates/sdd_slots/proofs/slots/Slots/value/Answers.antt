@@ -1,8 +1,6 @@
-use Rattle.std.proofs.Common.{ap, ◌∙◌}
-use Rattle.std.specs.Prelude.{is_some}
+use Rattle.std.proofs.Common.{◌∙◌}
 use Rattle.sdd_slots.proofs.SlotsKept.{filled-there}
 use Rattle.sdd_slots.proofs.slots.Slots.value.Goals as goal
 
 pub value-requires-clause-filled : goal.value-requires-clause-filled
-value-requires-clause-filled g c =
-    filled-there c.slot_of.result c.self.invariant ∙ ap is_some (rw (← c.self.view_is) at c.slot_of.ensures.owned)
+value-requires-clause-filled g c = filled-there c.slot_of.result c.self.invariant ∙ (rw (← c.self.view_is) at c.slot_of.ensures.taken)
