@@ -254,7 +254,7 @@ module _ {T : Type 0} (holds : T → List Holding) where
 
   -- a slot that is free stays so
   gone-opened : (w : World T) (p k : ℕ) → p < length w.time.places → IsWhole w → Stands k None None w → Stands k None None (opened holds w p)
-  gone-opened w p k l i g = opened-stays holds w p l k None None (λ e. absurd (cc)) (never-due w p k i (ap is_waiting g.standing) (how holds w p l)) g
+  gone-opened w p k l i g = opened-stays holds w p l k None None refl (never-due w p k i (ap is_waiting g.standing) (how holds w p l)) g
 
   -- one accelerated guard: what waits is no younger
   value-there : (w : World T) (k : ℕ) → IsWhole w → is_waiting (standing_at w k) ≡ true → (v : Option T) → value_at w k ≡ v → is_some v ≡ true

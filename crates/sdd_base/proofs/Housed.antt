@@ -10,20 +10,25 @@ use Rattle.sdd_store.specs.Waiting.What.{Item}
 use Rattle.sdd_store.specs.Time.{Time, with_place, nobody, newcomer, due_next, is_open, phase_at, rested, waiting_count, IsLive, IsVacant}
 use Rattle.sdd_store.specs.Time as time
 use Rattle.sdd_store.specs.Phases.{is_live}
-use Rattle.sdd_store.specs.Table.{Entries}
+use Rattle.sdd_store.specs.Table.{Entries, IsEmptyAt}
 use Rattle.sdd_store.specs.declared.phases.Phase.{Phase}
 use Rattle.sdd_store.specs.declared.phases.Phase.TheVariants.{Live, Ended}
 use Rattle.sdd_store.specs.declared.time.Participant.{Participant}
 use Rattle.sdd_store.specs.declared.time.Pace.{Pace}
-use Rattle.sdd_store.specs.declared.standing.Standing.TheVariants.{Owned}
+use Rattle.sdd_store.specs.declared.standing.Standing.{Standing}
+use Rattle.sdd_store.specs.declared.standing.Standing.TheVariants.{Shared}
+use Rattle.sdd_store.specs.declared.standing.Cell.{Cell}
+use Rattle.sdd_slots.specs.Slots.{is_waiting}
 use Rattle.sdd_store.proofs.Adopting.{Scans, scans-if, scans-there, live-entry, same-or-not}
 use Rattle.sdd_base.specs.World.{World, standing_at, place_at}
-use Rattle.sdd_base.specs.Steps.{made, retired, cell_closed, all_reclaimed, changed}
+use Rattle.sdd_base.specs.Steps.{made_as, with_standing, owner_given, retired, cell_closed, all_reclaimed, changed}
 use Rattle.sdd_base.specs.Steps as steps
 use Rattle.sdd_base.specs.Holding.{Holding}
 use Rattle.sdd_base.specs.Whole.{IsAbreast, AreHoused, IsWhole}
 use Rattle.sdd_base.specs.Own.{all_awaiting}
-use Rattle.sdd_base.proofs.Own.{Gives, Gives-all_reclaimed, Gives-cell_closed}
+use Rattle.sdd_base.specs.Out.{is_out}
+use Rattle.sdd_base.specs.Calls.{IsFirst}
+use Rattle.sdd_base.proofs.Own.{Gives, Gives-all_reclaimed, Gives-owner_given, Gives-cell_closed}
 use Rattle.sdd_base.proofs.Whole.{HasItems, below-or-past, append-last, all_awaiting-guards}
 use Rattle.sdd_base.proofs.Whole as whole
 use Rattle.sdd_base.specs.Left.{Waits}
@@ -70,6 +75,11 @@ housed-keeps t p x l e h = housed-put t p x l (λ o. h.shut p (subst (λ (n : �
 
 taken-put : (t : Time) (p : ℕ) (x : Participant) → IsTaken t p → IsTaken (with_place t p x) p
 taken-put t p x l = record { there = omega (arith, l.there, length-set t.places p x); taken = l.taken }
+
+-- a new item waits not
+first-idle : (s : Standing) → IsFirst s → is_waiting (Some s) ≡ false
+first-idle s (inl e) = rw e refl
+first-idle s (inr e) = rw e refl
 
 module _ {T : Type 0} where
   pub items : {w : World T} → IsWhole w → HasItems w
@@ -135,9 +145,17 @@ module _ {T : Type 0} where
   Whole-cell_closed w p c l i =
       with-places (whole.Items-cell_closed w p c l.0 (items i)) (housed-gives p (live-taken w.time p l) i.housed (Gives-cell_closed w p c l.0)).1
 
-  pub Whole-retires : (w : World T) (p k : ℕ) → IsTaken w.time p → standing_at w k ≡ Some Owned → IsWhole w → IsWhole (retired w p k)
-  Whole-retires w p k l there i =
-      with-places (whole.Items-retires w p k l.there there (items i)) (housed-keeps w.time p (time.awaiting (Item k) (place_at w p)) l refl i.housed)
+  pub Whole-retires : (w : World T) (p k : ℕ) → IsTaken w.time p → is_out (standing_at w k) ≡ true → IsWhole w → IsWhole (retired w p k)
+  Whole-retires w p k l out i =
+      with-places (whole.Items-retires w p k l.there out (items i)) (housed-keeps w.time p (time.awaiting (Item k) (place_at w p)) l refl i.housed)
+
+  -- an item that is shared has one owner more or fewer
+  pub Whole-shared : (w : World T) (k n m : ℕ) → standing_at w k ≡ Some (Shared n) → IsWhole w → IsWhole (with_standing w k (Shared m))
+  Whole-shared w k n m is i = with-places (whole.Items-shared w k n m is (items i)) i.housed
+
+  pub Whole-owner_given : (w : World T) (p k : ℕ) → IsTaken w.time p → (s : Option Standing) → standing_at w k ≡ s → IsWhole w → IsWhole (owner_given w p k s)
+  Whole-owner_given w p k l s is i =
+      with-places (whole.Items-owner_given w p k l.there s is (items i)) (housed-gives p l i.housed (Gives-owner_given w p k s is)).1
 
   pub Whole-stirred : (w : World T) (p : ℕ) → IsLive w.time p → IsWhole w → IsWhole (steps.stirred w p)
   Whole-stirred w p l i = with-places (whole.Items-stirred w p l.0 (items i)) (housed-live w.time p (time.with_garbage (place_at w p)) l i.housed)
@@ -145,11 +163,11 @@ module _ {T : Type 0} where
   pub Whole-accelerated : (w : World T) (p : ℕ) → IsLive w.time p → IsWhole w → IsWhole (steps.accelerated w p)
   Whole-accelerated w p l i = with-places (whole.Items-accelerated w p l.0 (items i)) (housed-live w.time p (time.accelerated (place_at w p)) l i.housed)
 
-  pub Whole-nulled : (w : World T) (c : ℕ) → IsWhole w → IsWhole (steps.nulled w c)
-  Whole-nulled w c i = with-places (whole.Items-nulled w c (items i)) i.housed
+  pub Whole-cells : (w : World T) (cells : Entries Cell) → IsWhole w → IsWhole (record w { cells = cells })
+  Whole-cells w cells i = with-places (whole.Items-cells w cells (items i)) i.housed
 
-  pub Whole-made : (w : World T) (k : ℕ) (v : T) → k < length w.standings → standing_at w k ≡ None → IsWhole w → IsWhole (made w k v)
-  Whole-made w k v l free i = with-places (whole.Items-made w k v l free (items i)) i.housed
+  pub Whole-made_as : (w : World T) (k : ℕ) (v : T) (s : Standing) → IsFirst s → IsEmptyAt w.standings k → IsWhole w → IsWhole (made_as w k v s)
+  Whole-made_as w k v s first empty i = with-places (whole.Items-made_as w k v s (first-idle s first) empty.0 empty.1 (items i)) i.housed
 
 pub nothing-waits : (ws : List Waiting) (y : Waiting) → Contains ws y → ws ≡ [] → ⊥
 nothing-waits ws y h e = let none : Contains [] y = subst (λ (vs : List Waiting). Contains vs y) e h in absurd (omega (arith, none.1))

@@ -9,19 +9,21 @@ use Rattle.sdd_store.specs.Waiting.What.{Item}
 use Rattle.sdd_store.specs.Time.{Time, with_place, nobody, is_open, passes, last_count, counted_down, phase_at, rested}
 use Rattle.sdd_store.specs.Time as time
 use Rattle.sdd_store.specs.declared.time.Participant.{Participant}
+use Rattle.sdd_store.specs.declared.standing.Standing.TheVariants.{Shared}
 use Rattle.sdd_base.specs.World.{World, standing_at, value_at, place_at, IsPlaceOf}
-use Rattle.sdd_base.specs.Steps.{made, retired, nulled, cell_closed, opened, closed, registered, ended, reclaims}
+use Rattle.sdd_base.specs.Steps.{made_as, with_standing, retired, owner_given, cell_closed, opened, closed, registered, ended, reclaims}
 use Rattle.sdd_base.specs.Holding.{Holding}
 use Rattle.sdd_base.specs.Own.{all_awaiting}
 use Rattle.sdd_base.specs.Whole.{IsWhole}
+use Rattle.sdd_base.specs.Out.{is_out}
 use Rattle.sdd_base.specs.Left.{Waits, left, IsHeldUp, OpeningsLower, NoCallRaises, GoesAtLatest, Stays, GoesInTime}
 use Rattle.sdd_base.specs.Left.Stays.{starts, one_opening, one_call}
 use Rattle.sdd_base.specs.Calls.{Calls}
-use Rattle.sdd_base.specs.Calls.Calls.{registers, ends, opens, closes, stirs, accelerates, makes, retires, nulls, closes_cell}
-use Rattle.sdd_base.proofs.Own.{Gives-cell_closed, all_awaiting-found}
+use Rattle.sdd_base.specs.Calls.Calls.{registers, ends, opens, closes, stirs, accelerates, makes, shares, retires, releases, changes_cells, closes_cell}
+use Rattle.sdd_base.proofs.Own.{Gives, Gives-owner_given, Gives-cell_closed, all_awaiting-found}
 use Rattle.sdd_base.proofs.Own as own
 use Rattle.sdd_base.proofs.Whole.{HasItems, Items-opened, below-or-past, times_among, filled-there, all_awaiting-guards, some-waits}
-use Rattle.sdd_base.proofs.Housed.{Whole-opened, Whole-closed, Whole-stirred, Whole-accelerated, Whole-made, Whole-retires, Whole-nulled, Whole-cell_closed, Whole-registered, Whole-ended, items, live-is, live-taken, registered-keeps}
+use Rattle.sdd_base.proofs.Housed.{Whole-opened, Whole-closed, Whole-stirred, Whole-accelerated, Whole-made_as, Whole-shared, Whole-retires, Whole-owner_given, Whole-cells, Whole-cell_closed, Whole-registered, Whole-ended, items, live-is, live-taken, registered-keeps}
 use Rattle.sdd_base.proofs.Closes.{how-closed}
 use Rattle.sdd_store.proofs.Adopting.{Adopts, adopts, same-or-not}
 use Rattle.sdd_store.specs.Phases.{is_ended}
@@ -424,6 +426,20 @@ module _ {T : Type 0} where
     registered-count t p true e = rw e refl
     registered-count t p false e = rw e refl
 
+    -- what leaves time as it is
+    goes-still : (w new : World T) (q k seen : ℕ) → Waits w q k seen → new.time ≡ w.time → Outcome w new q k seen
+    goes-still w new q k seen h e =
+        goes-on w new q k seen h
+        (subst (λ (t : Time). Lowers w.time.count t.count (place_at w q) (time.place_at t q)) (sym e)
+        (Lowers-same w.time.count (place_at w q) (place_at w q) refl))
+
+    -- items are given up to a place
+    goes-gives : (w new : World T) (r q k seen : ℕ) → r < length w.time.places → Waits w q k seen → Gives r w new → Outcome w new q k seen
+    goes-gives w new r q k seen l h g =
+        let on = lowers-place w.time r q (all_awaiting g.slots (place_at w r)) l (Lowers-given w.time.count g.slots (place_at w r)) in
+        goes-on w new q k seen h
+        (subst (λ (t : Time). Lowers w.time.count t.count (place_at w q) (time.place_at t q)) (sym g.time) on)
+
     each-call : (q k seen : ℕ) {w new : World T} → Calls holds w new → IsWhole w → IsPlaceOf w q → Waits w q k seen → Outcome w new q k seen
     each-call q k seen (registers w r vacant) i live h =
         goes-on w (registered w r) q k seen h
@@ -440,16 +456,15 @@ module _ {T : Type 0} where
     each-call q k seen (accelerates w r l) i live h =
         let x = place_at w r in
         goes-on-place w r q k seen (time.accelerated x) l.0 h (Lowers-slower w.time.count x (time.accelerated x) (λ y g. g) refl refl (omega arith))
-    each-call q k seen (makes w j value empty) i live h = goes-on w (made w j value) q k seen h (Lowers-same w.time.count (place_at w q) (place_at w q) refl)
+    each-call q k seen (makes w j value s first empty) i live h = goes-still w (made_as w j value s) q k seen h refl
+    each-call q k seen (shares w j n is) i live h = goes-still w (with_standing w j (Shared (n + 1))) q k seen h refl
     each-call q k seen (retires w r j l there) i live h =
         goes-on w (retired w r j) q k seen h
         (lowers-place w.time r q (time.awaiting (Item j) (place_at w r)) l.0 (Lowers-given w.time.count (j ∷ []) (place_at w r)))
-    each-call q k seen (nulls w c empty) i live h = goes-on w (nulled w c) q k seen h (Lowers-same w.time.count (place_at w q) (place_at w q) refl)
-    each-call q k seen (closes_cell w r c l) i live h =
-        let g = Gives-cell_closed w r c l.0 in
-        let on = lowers-place w.time r q (all_awaiting g.slots (place_at w r)) l.0 (Lowers-given w.time.count g.slots (place_at w r)) in
-        goes-on w (cell_closed w r c) q k seen h
-        (subst (λ (t : Time). Lowers w.time.count t.count (place_at w q) (time.place_at t q)) (sym g.time) on)
+    each-call q k seen (releases w r j n l is) i live h =
+        goes-gives w (owner_given w r j (Some (Shared n))) r q k seen l.0 h (Gives-owner_given w r j (Some (Shared n)) is)
+    each-call q k seen (changes_cells w cells same) i live h = goes-still w (record w { cells = cells }) q k seen h refl
+    each-call q k seen (closes_cell w r c l) i live h = goes-gives w (cell_closed w r c) r q k seen l.0 h (Gives-cell_closed w r c l.0)
 
     pub no-call-raises : (w : World T) → IsWhole w → NoCallRaises holds w
     no-call-raises w i = λ new call q k seen live h. each-call q k seen call i live h
@@ -468,9 +483,11 @@ module _ {T : Type 0} where
     Whole-called (closes w r l) i = Whole-closed w r l i
     Whole-called (stirs w r l) i = Whole-stirred w r l i
     Whole-called (accelerates w r l) i = Whole-accelerated w r l i
-    Whole-called (makes w j value empty) i = Whole-made w j value empty.0 empty.1 i
-    Whole-called (retires w r j l there) i = Whole-retires w r j (live-taken w.time r l) there i
-    Whole-called (nulls w c empty) i = Whole-nulled w c i
+    Whole-called (makes w j value s first empty) i = Whole-made_as w j value s first empty i
+    Whole-called (shares w j n is) i = Whole-shared w j n (n + 1) is i
+    Whole-called (retires w r j l there) i = Whole-retires w r j (live-taken w.time r l) (ap is_out there) i
+    Whole-called (releases w r j n l is) i = Whole-owner_given w r j (live-taken w.time r l) (Some (Shared n)) is i
+    Whole-called (changes_cells w cells same) i = Whole-cells w cells i
     Whole-called (closes_cell w r c l) i = Whole-cell_closed w r c l i
 
     -- the item still waits, and each outermost opening has lowered what is left

@@ -1,3 +1,4 @@
+pub mod Standings
 pub mod Own
 pub mod Weights
 pub mod Whole
@@ -13,3 +14,5 @@ pub mod Out
 pub mod Left
 pub mod Passing
 pub mod Nesting
+pub mod Letting
+pub mod Sharing

@@ -1,6 +1,6 @@
 -- What an opening makes of each slot and each participant
 use Rattle.std.proofs.Common.{◌≡◌, ◌≢◌, ◌⊎◌, inl, inr, ℕ, ◌+◌, ◌<◌, ◌≤◌, List, [], ◌∷◌, length, cond, Bool, refl, sym, ap, ◌∙◌, arith, true, false, Some, None, Option}
-use Rattle.std.specs.Prelude.{◌==◌, not, Contains}
+use Rattle.std.specs.Prelude.{◌-◌, ◌==◌, not, Contains}
 use Rattle.std.proofs.lemmas.List.Elements.{Contains-append_left}
 use Rattle.std.proofs.lemmas.List.{length-set, get_or-set_same, get_or-set_other}
 use Rattle.std.proofs.lemmas.Bool.Decides.{nat_tests}
@@ -14,27 +14,25 @@ use Rattle.sdd_store.specs.declared.standing.Standing.{Standing}
 use Rattle.sdd_store.specs.declared.standing.Standing.TheVariants.{Owned, Raw, Shared, Retired, Private as privately}
 use Rattle.sdd_slots.specs.Slots.{is_waiting}
 use Rattle.sdd_base.specs.World.{World, standing_at, value_at, place_at}
-use Rattle.sdd_base.specs.Steps.{retired, spilled, cell_closed, held_in, owner_given, given, given_all, freed, taken_out, waiting_value, reclaimed, all_reclaimed, changed, opened, reclaims}
+use Rattle.sdd_base.specs.Steps.{with_standing, retired, spilled, cell_closed, held_in, owner_given, given, given_all, freed, taken_out, waiting_value, reclaimed, all_reclaimed, changed, opened, reclaims}
 use Rattle.sdd_base.specs.Steps as steps
-use Rattle.sdd_base.specs.Holding.{Holding, owned, atomic_owned}
+use Rattle.sdd_base.specs.Holding.{Holding, owned, shared, atomic_owned, atomic_shared}
 use Rattle.sdd_base.specs.Own.{all_awaiting}
 use Rattle.sdd_base.specs.Whole.{is_of_slot}
+use Rattle.sdd_base.specs.Out.{is_out}
+use Rattle.sdd_base.proofs.Standings.{waits-out-not, out-apart, owner-given}
 use Rattle.sdd_base.proofs.Own.{Gives-all_reclaimed}
 use Rattle.sdd_base.proofs.Whole.{count-cons, times_among}
 use Rattle.sdd_store.proofs.Adopting.{same-or-not}
 pub use Rattle.sdd_store.proofs.Adopting.{none-there as none-here}
 
--- What is kept by the retirement of an item that is out, and by the freeing of a cell, is kept by all giving.
+-- What is kept by the retirement of an item that is out, by the freeing of a cell, and by an owner fewer of several, is kept by all giving.
 module _ {T : Type 0} (p : ℕ) (P : World T → Type 0)
-    (retires : (w : World T) (k : ℕ) → standing_at w k ≡ Some Owned → P w → P (retired w p k))
-    (frees_cell : (w : World T) (c : ℕ) → P w → P (record w { cells = without_entry w.cells c })) where
-  keeps-owner_given : (w : World T) (k : ℕ) (s : Option Standing) → standing_at w k ≡ s → P w → P (owner_given w p k s)
-  keeps-owner_given w k None is i = i
-  keeps-owner_given w k (Some Owned) is i = retires w k is i
-  keeps-owner_given w k (Some Raw) is i = i
-  keeps-owner_given w k (Some (Shared n)) is i = i
-  keeps-owner_given w k (Some Retired) is i = i
-  keeps-owner_given w k (Some (privately c)) is i = i
+    (retires : (w : World T) (k : ℕ) → is_out (standing_at w k) ≡ true → P w → P (retired w p k))
+    (frees_cell : (w : World T) (c : ℕ) → P w → P (record w { cells = without_entry w.cells c }))
+    (shares : (w : World T) (k n m : ℕ) → standing_at w k ≡ Some (Shared n) → P w → P (with_standing w k (Shared m))) where
+  pub keeps-owner_given : (w : World T) (k : ℕ) (s : Option Standing) → standing_at w k ≡ s → P w → P (owner_given w p k s)
+  keeps-owner_given w k s is i = owner-given P w p k s is i (λ out. retires w k out i) (λ n several more. shares w k n (n - 1) several i)
 
   keeps-spilled : (w : World T) (held : Option ℕ) → P w → P (spilled w p held)
   keeps-spilled w None i = i
@@ -45,7 +43,9 @@ module _ {T : Type 0} (p : ℕ) (P : World T → Type 0)
 
   pub keeps-given : (w : World T) (h : Holding) → P w → P (given w p h)
   keeps-given w (owned k home) i = keeps-owner_given w k (standing_at w k) refl i
+  keeps-given w (shared k home) i = keeps-owner_given w k (standing_at w k) refl i
   keeps-given w (atomic_owned c home) i = keeps-cell_closed w c i
+  keeps-given w (atomic_shared c home) i = keeps-cell_closed w c i
 
   pub keeps-given_all : (w : World T) (hs : List Holding) → P w → P (given_all w p hs)
   keeps-given_all w [] i = i
@@ -68,32 +68,46 @@ module _ {T : Type 0} where
   free-gone : (w : World T) (k : ℕ) → Stands k None None (freed w k)
   free-gone w k = record { standing = none-here w.standings k; value = none-here w.values k }
 
-  retired-apart : (w : World T) (p j k : ℕ) (s : Option Standing) (v : Option T) → (s ≡ Some Owned → ⊥) → standing_at w j ≡ Some Owned → (k ≡ j) ⊎ (k ≢ j) →
-      Stands k s v w → Stands k s v (retired w p j)
-  retired-apart w p j k s v idle is (inl e) i = absurd (idle (sym i.standing ∙ ap (λ (n : ℕ). standing_at w n) e ∙ is))
-  retired-apart w p j k s v idle is (inr apart) i =
+  retired-apart : (w : World T) (p j k : ℕ) (s : Option Standing) (v : Option T) → k ≢ j → Stands k s v w → Stands k s v (retired w p j)
+  retired-apart w p j k s v apart i =
       record { standing = get_or-set_other w.standings j k (Some Retired) None apart ∙ i.standing; value = i.value }
 
-  -- what is given up is another slot's
-  given-stands : (w : World T) (p k : ℕ) (s : Option Standing) (v : Option T) → (s ≡ Some Owned → ⊥) → (hs : List Holding) → Stands k s v w →
-      Stands k s v (given_all w p hs)
-  given-stands w p k s v idle hs i =
-      keeps-given_all p (Stands k s v) (λ u j is h. retired-apart u p j k s v idle is (same-or-not k j) h)
-      (λ u c h. record { standing = h.standing; value = h.value }) w hs i
+  pub shared-apart : (w : World T) (j m k : ℕ) (s : Option Standing) (v : Option T) → k ≢ j → Stands k s v w → Stands k s v (with_standing w j (Shared m))
+  shared-apart w j m k s v apart i =
+      record { standing = get_or-set_other w.standings j k (Some (Shared m)) None apart ∙ i.standing; value = i.value }
 
-  pub closed-stands : (w : World T) (p c k : ℕ) (s : Option Standing) (v : Option T) → (s ≡ Some Owned → ⊥) → Stands k s v w → Stands k s v (cell_closed w p c)
-  closed-stands w p c k s v idle i =
-      keeps-cell_closed p (Stands k s v) (λ u j is h. retired-apart u p j k s v idle is (same-or-not k j) h)
-      (λ u c h. record { standing = h.standing; value = h.value }) w c i
+  -- what stands so, and is not out, is another slot's than what is
+  stands-apart : (w : World T) (j k : ℕ) (s : Option Standing) (v : Option T) → is_out s ≡ false → is_out (standing_at w j) ≡ true → Stands k s v w → k ≢ j
+  stands-apart w j k s v idle out i = out-apart w.standings j k out (ap is_out i.standing ∙ idle)
+
+  -- what is given up is another slot's
+  module _ (p k : ℕ) (s : Option Standing) (v : Option T) (idle : is_out s ≡ false) where
+    retires-stands : (u : World T) (j : ℕ) → is_out (standing_at u j) ≡ true → Stands k s v u → Stands k s v (retired u p j)
+    retires-stands u j out i = retired-apart u p j k s v (stands-apart u j k s v idle out i) i
+
+    frees-stands : (u : World T) (c : ℕ) → Stands k s v u → Stands k s v (record u { cells = without_entry u.cells c })
+    frees-stands u c i = record { standing = i.standing; value = i.value }
+
+    shares-stands : (u : World T) (j n m : ℕ) → standing_at u j ≡ Some (Shared n) → Stands k s v u → Stands k s v (with_standing u j (Shared m))
+    shares-stands u j n m is i = shared-apart u j m k s v (stands-apart u j k s v idle (ap is_out is) i) i
+
+    given-stands : (w : World T) (hs : List Holding) → Stands k s v w → Stands k s v (given_all w p hs)
+    given-stands w hs i = keeps-given_all p (Stands k s v) retires-stands frees-stands shares-stands w hs i
+
+    pub owner_given-stands : (w : World T) (j : ℕ) (t : Option Standing) → standing_at w j ≡ t → Stands k s v w → Stands k s v (owner_given w p j t)
+    owner_given-stands w j t is i = keeps-owner_given p (Stands k s v) retires-stands frees-stands shares-stands w j t is i
+
+    pub closed-stands : (w : World T) (c : ℕ) → Stands k s v w → Stands k s v (cell_closed w p c)
+    closed-stands w c i = keeps-cell_closed p (Stands k s v) retires-stands frees-stands shares-stands w c i
 
   module _ (holds : T → List Holding) (p k : ℕ) where
     -- reclaiming another slot's item
-    out-stands : (w : World T) (j : ℕ) (s : Option Standing) (v : Option T) → (s ≡ Some Owned → ⊥) → k ≢ j → (u : Option T) → Stands k s v w →
+    out-stands : (w : World T) (j : ℕ) (s : Option Standing) (v : Option T) → is_out s ≡ false → k ≢ j → (u : Option T) → Stands k s v w →
         Stands k s v (taken_out holds w p j u)
     out-stands w j s v idle apart None i = i
-    out-stands w j s v idle apart (Some u) i = given-stands (freed w j) p k s v idle (holds u) (free-stands w j k s v apart i)
+    out-stands w j s v idle apart (Some u) i = given-stands p k s v idle (freed w j) (holds u) (free-stands w j k s v apart i)
 
-    reclaimed-stands : (w : World T) (x : What) (s : Option Standing) (v : Option T) → (s ≡ Some Owned → ⊥) → is_of_slot k x ≡ false → Stands k s v w →
+    reclaimed-stands : (w : World T) (x : What) (s : Option Standing) (v : Option T) → is_out s ≡ false → is_of_slot k x ≡ false → Stands k s v w →
         Stands k s v (reclaimed holds w p x)
     reclaimed-stands w (Item j) s v idle other i =
         out-stands w j s v idle (λ e. absurd (grind (arith, nat_tests, other, e))) (waiting_value w j (standing_at w j)) i
@@ -104,8 +118,8 @@ module _ {T : Type 0} where
     -- nothing comes back into a slot that is free
     out-gone : (w : World T) (j : ℕ) → (k ≡ j) ⊎ (k ≢ j) → (u : Option T) → Stands k None None w → Stands k None None (taken_out holds w p j u)
     out-gone w j same None i = i
-    out-gone w j (inl e) (Some u) i = given-stands (freed w j) p k None None (λ o. absurd (cc)) (holds u) (rw e (free-gone w j))
-    out-gone w j (inr apart) (Some u) i = given-stands (freed w j) p k None None (λ o. absurd (cc)) (holds u) (free-stands w j k None None apart i)
+    out-gone w j (inl e) (Some u) i = given-stands p k None None refl (freed w j) (holds u) (rw e (free-gone w j))
+    out-gone w j (inr apart) (Some u) i = given-stands p k None None refl (freed w j) (holds u) (free-stands w j k None None apart i)
 
     reclaimed-gone : (w : World T) (x : What) → Stands k None None w → Stands k None None (reclaimed holds w p x)
     reclaimed-gone w (Item j) i = out-gone w j (same-or-not k j) (waiting_value w j (standing_at w j)) i
@@ -117,13 +131,13 @@ module _ {T : Type 0} where
     all-gone (x ∷ xs) w i = all-gone xs (reclaimed holds w p x) (reclaimed-gone w x i)
 
     -- an item that is not among what is reclaimed stays
-    all-stands-if : (x : What) (xs : List What) (w : World T) (s : Option Standing) (v : Option T) → (s ≡ Some Owned → ⊥) → times_among k (x ∷ xs) ≡ 0 →
+    all-stands-if : (x : What) (xs : List What) (w : World T) (s : Option Standing) (v : Option T) → is_out s ≡ false → times_among k (x ∷ xs) ≡ 0 →
         (b : Bool) → is_of_slot k x ≡ b → Stands k s v w →
         (times_among k xs ≡ 0) × Stands k s v (reclaimed holds w p x)
     all-stands-if x xs w s v idle none true e i = absurd (omega (arith, none, among-cons k x xs true e))
     all-stands-if x xs w s v idle none false e i = (omega (arith, none, among-cons k x xs false e), reclaimed-stands w x s v idle e i)
 
-    pub all-stands : (xs : List What) (w : World T) (s : Option Standing) (v : Option T) → (s ≡ Some Owned → ⊥) → times_among k xs ≡ 0 → Stands k s v w →
+    pub all-stands : (xs : List What) (w : World T) (s : Option Standing) (v : Option T) → is_out s ≡ false → times_among k xs ≡ 0 → Stands k s v w →
         Stands k s v (all_reclaimed holds w p xs)
     all-stands [] w s v idle none i = i
     all-stands (x ∷ xs) w s v idle none i =
@@ -139,10 +153,10 @@ module _ {T : Type 0} where
     there-goes w j (Some (Shared n)) v e waits i = absurd (cc)
     there-goes w j (Some Retired) v e waits i =
         let there : value_at w j ≡ Some v = sym (ap (λ (n : ℕ). value_at w n) e) ∙ i.value in
-        rw there (given-stands (freed w j) p k None None (λ o. absurd (cc)) (holds v) (rw e (free-gone w j)))
+        rw there (given-stands p k None None refl (freed w j) (holds v) (rw e (free-gone w j)))
     there-goes w j (Some (privately c)) v e waits i =
         let there : value_at w j ≡ Some v = sym (ap (λ (n : ℕ). value_at w n) e) ∙ i.value in
-        rw there (given-stands (freed w j) p k None None (λ o. absurd (cc)) (holds v) (rw e (free-gone w j)))
+        rw there (given-stands p k None None refl (freed w j) (holds v) (rw e (free-gone w j)))
 
     reclaimed-goes : (w : World T) (x : What) (s : Option Standing) (v : T) → is_of_slot k x ≡ true → is_waiting s ≡ true → Stands k s (Some v) w →
         Stands k None None (reclaimed holds w p x)
@@ -154,15 +168,12 @@ module _ {T : Type 0} where
         rw (sym (ap (λ (n : ℕ). standing_at w n) e) ∙ i.standing) (there-goes w j s v e waits i)
     reclaimed-goes w (Job n) s v of waits i = absurd (cc)
 
-    waits-apart : (s : Option Standing) → is_waiting s ≡ true → s ≡ Some Owned → ⊥
-    waits-apart s waits e = let never : false ≡ true = rw e at waits in absurd (cc)
-
     all-goes-if : (x : What) (xs : List What) (w : World T) (s : Option Standing) (v : T) → is_waiting s ≡ true → 1 ≤ times_among k (x ∷ xs) → (b : Bool) →
         is_of_slot k x ≡ b → Stands k s (Some v) w →
         Stands k None None (reclaimed holds w p x) ⊎ ((1 ≤ times_among k xs) × Stands k s (Some v) (reclaimed holds w p x))
     all-goes-if x xs w s v waits some true e i = inl (reclaimed-goes w x s v e waits i)
     all-goes-if x xs w s v waits some false e i =
-        inr (omega (arith, some, among-cons k x xs false e), reclaimed-stands w x s (Some v) (waits-apart s waits) e i)
+        inr (omega (arith, some, among-cons k x xs false e), reclaimed-stands w x s (Some v) (waits-out-not s waits) e i)
 
     pub all-goes : (xs : List What) (w : World T) (s : Option Standing) (v : T) → is_waiting s ≡ true →
         Stands k None None w ⊎ ((1 ≤ times_among k xs) × Stands k s (Some v) w) →
@@ -235,7 +246,7 @@ module _ {T : Type 0} (holds : T → List Holding) (w : World T) (p : ℕ) where
   due-here l = ap (λ (x : Participant). due_next x) (nested-here l)
 
   -- each slot
-  stays-if : p < length w.time.places → (k : ℕ) (s : Option Standing) (v : Option T) → (s ≡ Some Owned → ⊥) → times_among k (reclaims w p) ≡ 0 →
+  stays-if : p < length w.time.places → (k : ℕ) (s : Option Standing) (v : Option T) → is_out s ≡ false → times_among k (reclaims w p) ≡ 0 →
       Stands k s v w → Nests holds w p ⊎ IsChange holds w p →
       Stands k s v (opened holds w p)
   stays-if l k s v idle none i (inl n) = rw n.nests (record { standing = i.standing; value = i.value })
@@ -244,7 +255,7 @@ module _ {T : Type 0} (holds : T → List Holding) (w : World T) (p : ℕ) where
       let end = all-stands holds p k (due_next (place_at (steps.nested w p) p)) before s v idle due_none (record { standing = i.standing; value = i.value }) in
       rw c.change (record { standing = end.standing; value = end.value })
 
-  pub opened-stays : p < length w.time.places → (k : ℕ) (s : Option Standing) (v : Option T) → (s ≡ Some Owned → ⊥) → times_among k (reclaims w p) ≡ 0 →
+  pub opened-stays : p < length w.time.places → (k : ℕ) (s : Option Standing) (v : Option T) → is_out s ≡ false → times_among k (reclaims w p) ≡ 0 →
       Stands k s v w → Stands k s v (opened holds w p)
   opened-stays l k s v idle none i = stays-if l k s v idle none i (how l)
 

@@ -1,5 +1,5 @@
 -- What puts something out, and what takes it back
-use Rattle.std.proofs.Common.{◌≡◌, ◌⊎◌, inl, inr, ℕ, ◌+◌, ◌<◌, ◌≤◌, List, [], ◌∷◌, length, cond, refl, ap, ◌∙◌, arith, false, Some, None, Option, zero, suc, slice_index_or, slice_set, count_by}
+use Rattle.std.proofs.Common.{◌≡◌, ◌⊎◌, inl, inr, ℕ, ◌+◌, ◌<◌, ◌≤◌, List, [], ◌∷◌, length, cond, refl, ap, ◌∙◌, arith, true, false, Some, None, Option, zero, suc, slice_index_or, slice_set, count_by}
 use Rattle.std.specs.Prelude.{is_some, IsSome, All}
 use Rattle.std.proofs.lemmas.List.Elements.{All-head, All-tail}
 use Rattle.std.proofs.lemmas.List.Sums.{sum_by-set, sum_by-cons}
@@ -11,19 +11,20 @@ use Rattle.sdd_store.specs.declared.standing.Standing.{Standing}
 use Rattle.sdd_store.specs.declared.standing.Standing.TheVariants.{Owned, Raw, Shared, Retired, Private as privately}
 use Rattle.sdd_store.specs.declared.standing.Cell.{Cell}
 use Rattle.sdd_base.specs.World.{World, place_at, standing_at, value_at}
-use Rattle.sdd_base.specs.Steps.{made, retired, nulled, cell_closed, given, given_all, held_in, freed, taken_out, waiting_value, reclaimed, all_reclaimed, opened, changed, spilled}
+use Rattle.sdd_base.specs.Steps.{made_as, with_standing, retired, nulled, with_cell, without_cell, cell_closed, given, given_all, held_in, freed, taken_out, waiting_value, reclaimed, all_reclaimed, opened, changed, spilled}
 use Rattle.sdd_base.specs.Steps as steps
-use Rattle.sdd_base.specs.Holding.{Holding, owned, atomic_owned}
+use Rattle.sdd_base.specs.Holding.{Holding, owned, shared, atomic_owned, atomic_shared}
 use Rattle.sdd_base.specs.Out.{is_out, out, HoldsNothing, IsNullCell, IsOut, AreOut, OutLaws}
 use Rattle.sdd_core.specs.declared.tag.Tag.TheVariants.{None as no_tag}
 use Rattle.sdd_base.proofs.Whole.{one_where, below-or-past}
+use Rattle.sdd_base.proofs.Standings.{out-inside}
 use Rattle.sdd_base.proofs.Weights.{in_range}
 use Rattle.sdd_base.proofs.Opening.{how, Nests, IsChange, keeps-given_all}
 
-cell-inside : (xs : List (Option Cell)) (c : ℕ) (cell : Cell) → slice_index_or xs c None ≡ Some cell → c < length xs
-cell-inside [] c cell e = absurd (cc)
-cell-inside (x ∷ xs) zero cell e = omega arith
-cell-inside (x ∷ xs) (suc c) cell e = omega (arith, cell-inside xs c cell e)
+cell-inside : (xs : List (Option Cell)) (c : ℕ) → is_some (slice_index_or xs c None) ≡ true → c < length xs
+cell-inside [] c e = absurd (cc)
+cell-inside (x ∷ xs) zero e = omega arith
+cell-inside (x ∷ xs) (suc c) e = omega (arith, cell-inside xs c e)
 
 set-past : (xs : List (Option Cell)) (c : ℕ) → length xs ≤ c → slice_set xs c None ≡ xs
 set-past [] c h = refl
@@ -55,20 +56,42 @@ module _ {T : Type 0} where
       count_by is_some (slice_set w.cells c cell) + one_where (is_some (entry_at w.cells c)) ≡ count_by is_some w.cells + one_where (is_some cell)
   set-cell w c cell l = sum_by-set (λ (s : Option Cell). cond (is_some s) 1 0) w.cells c cell None l
 
-  out-retired : (w : World T) (p k : ℕ) → standing_at w k ≡ Some Owned → out (retired w p k) + 1 ≡ out w
-  out-retired w p k there =
-      let was : one_where (is_out (standing_at w k)) ≡ 1 = rw there refl in
-      omega (arith, set-out w k (Some Retired) (in_range w.standings k Owned there), was)
+  out-retired : (w : World T) (p k : ℕ) → is_out (standing_at w k) ≡ true → out (retired w p k) + 1 ≡ out w
+  out-retired w p k is =
+      let was : one_where (is_out (standing_at w k)) ≡ 1 = rw is refl in
+      omega (arith, set-out w k (Some Retired) (out-inside w.standings k is), was)
+
+  out-shared : (w : World T) (k n m : ℕ) → standing_at w k ≡ Some (Shared n) → out (with_standing w k (Shared m)) ≡ out w
+  out-shared w k n m is =
+      let was : one_where (is_out (standing_at w k)) ≡ 1 = rw is refl in
+      omega (arith, set-out w k (Some (Shared m)) (in_range w.standings k (Shared n) is), was)
+
+  out-made_as : (w : World T) (k : ℕ) (v : T) (s : Standing) → is_out (Some s) ≡ true → IsEmptyAt w.standings k → out (made_as w k v s) ≡ out w + 1
+  out-made_as w k v s is empty =
+      let was : one_where (is_out (standing_at w k)) ≡ 0 = rw empty.1 refl in
+      let now : one_where (is_out (Some s)) ≡ 1 = rw is refl in
+      omega (arith, set-out w k (Some s) empty.0, was, now)
+
+  out-filled : (w : World T) (c : ℕ) (cell : Cell) → IsSome (entry_at w.cells c) → out (with_cell w c cell) ≡ out w
+  out-filled w c cell there =
+      let was : one_where (is_some (entry_at w.cells c)) ≡ 1 = rw there refl in
+      omega (arith, set-cell w c (Some cell) (cell-inside w.cells c there), was)
+
+  out-cell_freed : (w : World T) (c : ℕ) → IsSome (entry_at w.cells c) → out (without_cell w c) + 1 ≡ out w
+  out-cell_freed w c there =
+      let was : one_where (is_some (entry_at w.cells c)) ≡ 1 = rw there refl in
+      omega (arith, set-cell w c None (cell-inside w.cells c there), was)
 
   out-cell_closed : (w : World T) (p c : ℕ) → IsNullCell w c → out (cell_closed w p c) + 1 ≡ out w
   out-cell_closed w p c (cell, there, null) =
-      let was : one_where (is_some (entry_at w.cells c)) ≡ 1 = rw there refl in
       let held : held_in (entry_at w.cells c) ≡ None = rw there null in
-      rw held (omega (arith, set-cell w c None (cell-inside w.cells c cell there), was))
+      rw held (out-cell_freed w c (ap is_some there))
 
   out-given : (w : World T) (p : ℕ) (h : Holding) → IsOut w h → out (given w p h) + 1 ≡ out w
-  out-given w p (owned k home) is = rw is (out-retired w p k is)
+  out-given w p (owned k home) is = rw is (out-retired w p k (ap is_out is))
+  out-given w p (shared k home) is = rw is (out-retired w p k (ap is_out is))
   out-given w p (atomic_owned c home) is = out-cell_closed w p c is
+  out-given w p (atomic_shared c home) is = out-cell_closed w p c is
 
   out-given_all : (w : World T) (p : ℕ) (hs : List Holding) → AreOut w p hs → out (given_all w p hs) + length hs ≡ out w
   out-given_all w p [] are = omega arith
@@ -80,7 +103,8 @@ module _ {T : Type 0} where
 
   given-at-most : (n : ℕ) (w : World T) (p : ℕ) (hs : List Holding) → AtMost n w → AtMost n (given_all w p hs)
   given-at-most n w p hs h =
-      keeps-given_all p (AtMost n) (λ u k is g. omega (arith, g, out-retired u p k is)) (λ u c g. omega (arith, g, fewer-cells u.cells c)) w hs h
+      keeps-given_all p (AtMost n) (λ u k is g. omega (arith, g, out-retired u p k is)) (λ u c g. omega (arith, g, fewer-cells u.cells c))
+      (λ u k n m is g. omega (arith, g, out-shared u k n m is)) w hs h
 
   -- a slot that waited was not out
   out-freed : (w : World T) (k : ℕ) (s : Standing) → standing_at w k ≡ Some s → is_out (Some s) ≡ false → out (freed w k) ≡ out w
@@ -146,14 +170,18 @@ module _ {T : Type 0} where
   nulled-more : (w : World T) (c : ℕ) → IsEmptyAt w.cells c → out (nulled w c) ≡ out w + 1
   nulled-more w c empty =
       let was : one_where (is_some (entry_at w.cells c)) ≡ 0 = rw empty.1 refl in
-      omega (arith, sum_by-set (λ (s : Option Cell). cond (is_some s) 1 0) w.cells c (Some (record { held = None; tag = no_tag })) None empty.0, was)
+      omega (arith, set-cell w c (Some (record { held = None; tag = no_tag })) empty.0, was)
 
   pub out-laws : (holds : T → List Holding) (w : World T) → OutLaws holds w
   out-laws holds w =
       record {
-        making = λ k v empty. let was : one_where (is_out (standing_at w k)) ≡ 0 = rw empty.1 refl in omega (arith, set-out w k (Some Owned) empty.0, was);
-        nulling = λ c empty. nulled-more w c empty;
+        making = λ k v empty. out-made_as w k v Owned refl empty;
+        making_shared = λ k v empty. out-made_as w k v (Shared 1) refl empty;
+        sharing = out-shared w;
         retiring = out-retired w;
+        nulling = nulled-more w;
+        filling = out-filled w;
+        freeing = out-cell_freed w;
         closing = out-cell_closed w;
         giving = out-given_all w;
         ending = λ p. refl;

@@ -10,12 +10,12 @@ use Rattle.sdd_store.specs.Time as time
 use Rattle.sdd_store.specs.Table.{entry_at, without_entry}
 use Rattle.sdd_store.specs.declared.time.Participant.{Participant}
 use Rattle.sdd_store.specs.declared.standing.Standing.{Standing}
-use Rattle.sdd_store.specs.declared.standing.Standing.TheVariants.{Owned, Raw, Shared, Retired, Private as privately}
 use Rattle.sdd_base.specs.World.{World, standing_at, place_at}
 use Rattle.sdd_base.specs.Own.{all_awaiting, GrowsOn, changed_at, opened_at}
 use Rattle.sdd_base.specs.Steps.{retired, spilled, cell_closed, held_in, owner_given, given, given_all, freed, taken_out, waiting_value, slot_reclaimed, reclaimed, all_reclaimed, changed, opened, caught_up}
 use Rattle.sdd_base.specs.Steps as steps
-use Rattle.sdd_base.specs.Holding.{Holding, owned, atomic_owned}
+use Rattle.sdd_base.specs.Holding.{Holding, owned, shared, atomic_owned, atomic_shared}
+use Rattle.sdd_base.proofs.Standings.{owner-given}
 
 all_awaiting-append : (ks js : List ℕ) (x : Participant) → all_awaiting (ks ++ js) x ≡ all_awaiting js (all_awaiting ks x)
 all_awaiting-append [] js x = refl
@@ -68,24 +68,22 @@ module _ {T : Type 0} where
   pub Gives-retired : (w : World T) (p k : ℕ) → Gives p w (retired w p k)
   Gives-retired w p k = record { slots = k ∷ []; time = refl }
 
-  Gives-owner_given : (w : World T) (p k : ℕ) (s : Option Standing) → Gives p w (owner_given w p k s)
-  Gives-owner_given w p k None = Gives-nothing refl
-  Gives-owner_given w p k (Some Owned) = Gives-retired w p k
-  Gives-owner_given w p k (Some Raw) = Gives-nothing refl
-  Gives-owner_given w p k (Some (Shared n)) = Gives-nothing refl
-  Gives-owner_given w p k (Some Retired) = Gives-nothing refl
-  Gives-owner_given w p k (Some (privately c)) = Gives-nothing refl
+  pub Gives-owner_given : (w : World T) (p k : ℕ) (s : Option Standing) → standing_at w k ≡ s → Gives p w (owner_given w p k s)
+  Gives-owner_given w p k s is =
+      owner-given (λ (u : World T). Gives p w u) w p k s is (Gives-nothing refl) (λ out. Gives-retired w p k) (λ n several more. Gives-nothing refl)
 
   Gives-spilled : (w : World T) (p : ℕ) (held : Option ℕ) → Gives p w (spilled w p held)
   Gives-spilled w p None = Gives-nothing refl
-  Gives-spilled w p (Some k) = Gives-owner_given w p k (standing_at w k)
+  Gives-spilled w p (Some k) = Gives-owner_given w p k (standing_at w k) refl
 
   pub Gives-cell_closed : (w : World T) (p c : ℕ) → p < length w.time.places → Gives p w (cell_closed w p c)
   Gives-cell_closed w p c l = Gives-trans l (Gives-nothing refl) (Gives-spilled (record w { cells = without_entry w.cells c }) p (held_in (entry_at w.cells c)))
 
   pub Gives-given : (w : World T) (p : ℕ) (h : Holding) → p < length w.time.places → Gives p w (given w p h)
-  Gives-given w p (owned k home) l = Gives-owner_given w p k (standing_at w k)
+  Gives-given w p (owned k home) l = Gives-owner_given w p k (standing_at w k) refl
+  Gives-given w p (shared k home) l = Gives-owner_given w p k (standing_at w k) refl
   Gives-given w p (atomic_owned c home) l = Gives-cell_closed w p c l
+  Gives-given w p (atomic_shared c home) l = Gives-cell_closed w p c l
 
   Gives-given_all : (w : World T) (p : ℕ) (hs : List Holding) → p < length w.time.places → Gives p w (given_all w p hs)
   Gives-given_all w p [] l = Gives-nothing refl

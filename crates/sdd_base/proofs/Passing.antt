@@ -13,6 +13,7 @@ use Rattle.sdd_base.specs.Holding.{Holding}
 use Rattle.sdd_base.specs.Left.{accelerated_guard}
 use Rattle.sdd_store.specs.Table.{IsEmptyAt}
 use Rattle.sdd_base.specs.Passing.{HavePassed, ItemsPass, GuardsPass}
+use Rattle.sdd_base.specs.Out.{is_out}
 use Rattle.sdd_base.proofs.Out.{out-laws}
 use Rattle.sdd_base.proofs.Own.{Gives-all_reclaimed}
 use Rattle.sdd_base.proofs.Opening.{how, Nests, IsChange, keeps-given_all, in_before}
@@ -33,7 +34,7 @@ module _ {T : Type 0} (holds : T → List Holding) (p made in_place : ℕ) where
 
   made-out : (w : World T) (k : ℕ) (v : Option T) → Made w → Made (taken_out holds w p k v)
   made-out w k None h = h
-  made-out w k (Some v) h = keeps-given_all p Made (λ u j is g. g) (λ u c g. g) (freed w k) (holds v) h
+  made-out w k (Some v) h = keeps-given_all p Made (λ u j is g. g) (λ u c g. g) (λ u j n m is g. g) (freed w k) (holds v) h
 
   made-reclaimed : (w : World T) (x : What) → Made w → Made (reclaimed holds w p x)
   made-reclaimed w (Item k) h = made-out w k (waiting_value w k (standing_at w k)) h
@@ -129,7 +130,7 @@ module _ {T : Type 0} where
       let one : one_where (is_some (standing_at u k)) ≡ 1 = rw owned refl in
       record {
         quiet = λ q h. q (retired-guards u p k l.0 h);
-        as_much_out = omega (arith, (laws w).making k value free, (laws u).retiring p k owned);
+        as_much_out = omega (arith, (laws w).making k value free, (laws u).retiring p k (ap is_out owned));
         taken = omega (arith, set-taken w k (Some Owned) free.0, set-taken u k (Some Retired) inside, none, one);
         slots = length-set u.standings k (Some Retired) ∙ length-set w.standings k (Some Owned);
         places = length-set w.time.places p (time.awaiting (Item k) (place_at w p));

@@ -10,10 +10,10 @@ use Rattle.sdd_store.specs.Time.{nobody, due_next, is_open}
 use Rattle.sdd_store.specs.Time as time
 use Rattle.sdd_store.specs.declared.time.Participant.{Participant}
 use Rattle.sdd_store.specs.declared.standing.Standing.{Standing}
-use Rattle.sdd_store.specs.declared.standing.Standing.TheVariants.{Owned, Raw, Shared, Retired, Private as privately}
+use Rattle.sdd_store.specs.declared.standing.Standing.TheVariants.{Shared, Retired}
 use Rattle.sdd_slots.specs.Slots.{is_waiting}
 use Rattle.sdd_base.specs.World.{World, standing_at, place_at}
-use Rattle.sdd_base.specs.Steps.{made, retired, cell_closed, freed, taken_out, waiting_value, reclaimed, all_reclaimed, changed, opened, reclaims}
+use Rattle.sdd_base.specs.Steps.{with_standing, retired, owner_given, cell_closed, freed, taken_out, waiting_value, reclaimed, all_reclaimed, changed, opened, reclaims}
 use Rattle.sdd_base.specs.Steps as steps
 use Rattle.sdd_base.specs.Holding.{Holding}
 use Rattle.sdd_base.specs.Whole.{IsWhole, is_of_slot}
@@ -21,21 +21,14 @@ use Rattle.sdd_base.specs.Left.{Waits}
 use Rattle.sdd_base.specs.Out.{is_out}
 use Rattle.sdd_base.specs.Under.{IsUnder, IsSafe}
 use Rattle.sdd_base.specs.Calls.{Calls}
-use Rattle.sdd_base.specs.Calls.Calls.{registers, ends, opens, closes, stirs, accelerates, makes, retires, nulls, closes_cell}
+use Rattle.sdd_base.specs.Calls.Calls.{registers, ends, opens, closes, stirs, accelerates, makes, shares, retires, releases, changes_cells, closes_cell}
 use Rattle.sdd_base.proofs.Whole.{count-cons, times_among, times-aged}
+use Rattle.sdd_base.proofs.Standings.{out-waits-not, out-inside, out-apart}
 use Rattle.sdd_base.proofs.Weights.{in_range}
 use Rattle.sdd_base.proofs.Entries.{one-place}
-use Rattle.sdd_base.proofs.Opening.{keeps-given_all, keeps-cell_closed, how, Nests, IsChange, before, in_before, due-here}
-use Rattle.sdd_base.proofs.Under.{one-call, under-not-due, under-retires}
+use Rattle.sdd_base.proofs.Opening.{keeps-owner_given, keeps-given_all, keeps-cell_closed, how, Nests, IsChange, before, in_before, due-here}
+use Rattle.sdd_base.proofs.Under.{one-call, under-not-due, under-retires, under-owner_given}
 use Rattle.sdd_store.proofs.Adopting.{same-or-not}
-
-out-waits-not : (s : Option Standing) → is_out s ≡ true → is_waiting s ≡ false
-out-waits-not None h = refl
-out-waits-not (Some Owned) h = refl
-out-waits-not (Some Raw) h = refl
-out-waits-not (Some (Shared n)) h = refl
-out-waits-not (Some Retired) h = absurd (cc)
-out-waits-not (Some (privately c)) h = absurd (cc)
 
 module _ {T : Type 0} (q k : ℕ) where
   -- the slot's item is out, or was given up to q, and has seen no change since
@@ -48,23 +41,23 @@ module _ {T : Type 0} (q k : ℕ) where
   still-there : (w : World T) (j : ℕ) → q < length w.time.places → q < length (retired w q j).time.places
   still-there w j l = omega (arith, l, length-set w.time.places q (time.awaiting (Item j) (place_at w q)))
 
-  retires-out : (w : World T) (j : ℕ) → standing_at w j ≡ Some Owned → q < length w.time.places → is_out (standing_at w k) ≡ true → (k ≡ j) ⊎ (k ≢ j) →
-      IsOutOrFresh (retired w q j)
-  retires-out w j owned l out (inl e) = rw e (
+  retires-out : (w : World T) (j : ℕ) → is_out (standing_at w j) ≡ true → q < length w.time.places → is_out (standing_at w k) ≡ true →
+      (k ≡ j) ⊎ (k ≢ j) → IsOutOrFresh (retired w q j)
+  retires-out w j was l out (inl e) = rw e (
     still-there w j l,
     inr (
-      get_or-set_same w.standings j (Some Retired) None (in_range w.standings j Owned owned),
+      get_or-set_same w.standings j (Some Retired) None (out-inside w.standings j was),
       subst (λ (x : Participant). Contains x.bags.waiting (having_seen 0 (Item j))) (sym (waiting-here w j l))
           (Contains-push (place_at w q).bags.waiting (fresh (Item j))),
     ),
   )
-  retires-out w j owned l out (inr apart) =
+  retires-out w j was l out (inr apart) =
       (still-there w j l, inl (ap (λ (s : Option Standing). is_out s) (get_or-set_other w.standings j k (Some Retired) None apart) ∙ out))
 
-  retires-keeps : (w : World T) (j : ℕ) → standing_at w j ≡ Some Owned → IsOutOrFresh w → IsOutOrFresh (retired w q j)
-  retires-keeps w j owned (l, inl out) = retires-out w j owned l out (same-or-not k j)
-  retires-keeps w j owned (l, inr h) =
-      let apart : k ≢ j = λ e. let never : Some Retired ≡ Some Owned = sym h.0 ∙ ap (λ (n : ℕ). standing_at w n) e ∙ owned in cc in (
+  retires-keeps : (w : World T) (j : ℕ) → is_out (standing_at w j) ≡ true → IsOutOrFresh w → IsOutOrFresh (retired w q j)
+  retires-keeps w j was (l, inl out) = retires-out w j was l out (same-or-not k j)
+  retires-keeps w j was (l, inr h) =
+      let apart : k ≢ j = out-apart w.standings j k was (ap is_out h.0) in (
         still-there w j l,
         inr (
           get_or-set_other w.standings j k (Some Retired) None apart ∙ h.0,
@@ -73,8 +66,23 @@ module _ {T : Type 0} (q k : ℕ) where
         ),
       )
 
+  -- an item that is shared stays out, with one owner more or fewer
+  shares-out : (w : World T) (j n m : ℕ) → standing_at w j ≡ Some (Shared n) → is_out (standing_at w k) ≡ true → (k ≡ j) ⊎ (k ≢ j) →
+      is_out (standing_at (with_standing w j (Shared m)) k) ≡ true
+  shares-out w j n m is out (inl e) = rw e (ap is_out (get_or-set_same w.standings j (Some (Shared m)) None (in_range w.standings j (Shared n) is)))
+  shares-out w j n m is out (inr apart) = ap is_out (get_or-set_other w.standings j k (Some (Shared m)) None apart) ∙ out
+
+  shares-keeps : (w : World T) (j n m : ℕ) → standing_at w j ≡ Some (Shared n) → IsOutOrFresh w → IsOutOrFresh (with_standing w j (Shared m))
+  shares-keeps w j n m is (l, inl out) = (l, inl (shares-out w j n m is out (same-or-not k j)))
+  shares-keeps w j n m is (l, inr h) =
+      let apart : k ≢ j = out-apart w.standings j k (ap is_out is) (ap is_out h.0) in
+      (l, inr (get_or-set_other w.standings j k (Some (Shared m)) None apart ∙ h.0, h.1))
+
+  gives-keeps : (w : World T) (j : ℕ) (s : Option Standing) → standing_at w j ≡ s → IsOutOrFresh w → IsOutOrFresh (owner_given w q j s)
+  gives-keeps w j s is h = keeps-owner_given q IsOutOrFresh retires-keeps (λ u d i. i) shares-keeps w j s is h
+
   closes_cell-keeps : (w : World T) (c : ℕ) → IsOutOrFresh w → IsOutOrFresh (cell_closed w q c)
-  closes_cell-keeps w c h = keeps-cell_closed q IsOutOrFresh (λ u j owned i. retires-keeps u j owned i) (λ u d i. i) w c h
+  closes_cell-keeps w c h = keeps-cell_closed q IsOutOrFresh retires-keeps (λ u d i. i) shares-keeps w c h
 
   freed-keeps : (w : World T) (j : ℕ) → k ≢ j → IsOutOrFresh w → IsOutOrFresh (freed w j)
   freed-keeps w j apart (l, inl out) = (l, inl (ap (λ (s : Option Standing). is_out s) (get_or-set_other w.standings j k None None apart) ∙ out))
@@ -84,7 +92,7 @@ module _ {T : Type 0} (q k : ℕ) where
     taken-keeps : (w : World T) (j : ℕ) → k ≢ j → (v : Option T) → IsOutOrFresh w → IsOutOrFresh (taken_out holds w q j v)
     taken-keeps w j apart None h = h
     taken-keeps w j apart (Some v) h =
-        keeps-given_all q IsOutOrFresh (λ u i owned h. retires-keeps u i owned h) (λ u d h. h) (freed w j) (holds v) (freed-keeps w j apart h)
+        keeps-given_all q IsOutOrFresh retires-keeps (λ u d h. h) shares-keeps (freed w j) (holds v) (freed-keeps w j apart h)
 
     reclaims-keeps : (w : World T) (x : What) → is_of_slot k x ≡ false → IsOutOrFresh w → IsOutOrFresh (reclaimed holds w q x)
     reclaims-keeps w (Item j) other h = taken-keeps w j (λ e. absurd (grind (arith, nat_tests, other, e))) (waiting_value w j (standing_at w j)) h
@@ -153,12 +161,14 @@ module _ {T : Type 0} (p k : ℕ) where
     out-call (closes v r l) i out o = safe-out o out
     out-call (stirs v r l) i out o = safe-out o out
     out-call (accelerates v r l) i out o = safe-out o out
-    out-call (makes v j value empty) i out o =
-        let apart : k ≢ j = λ e. let never : is_out None ≡ true = ap (λ (s : Option Standing). is_out s) (sym empty.1 ∙ ap (λ (n : ℕ). standing_at v n) (sym e))
-        ∙ out in cc in
-        safe-out o (ap (λ (s : Option Standing). is_out s) (get_or-set_other v.standings j k (Some Owned) None apart) ∙ out)
-    out-call (retires v r j l there) i out o = safe-or (retired v r j) o (retires-keeps r k v j there (l.0, inl out))
-    out-call (nulls v c empty) i out o = safe-out o out
+    out-call (makes v j value s first empty) i out o =
+        let apart : k ≢ j = λ e. out-apart v.standings k j out (ap is_out empty.1) (sym e) in
+        safe-out o (ap is_out (get_or-set_other v.standings j k (Some s) None apart) ∙ out)
+    out-call (shares v j n is) i out o = safe-out o (shares-out 0 k v j n (n + 1) is out (same-or-not k j))
+    out-call (retires v r j l there) i out o = safe-or (retired v r j) o (retires-keeps r k v j (ap is_out there) (l.0, inl out))
+    out-call (releases v r j n l is) i out o =
+        safe-or (owner_given v r j (Some (Shared n))) o (gives-keeps r k v j (Some (Shared n)) is (l.0, inl out))
+    out-call (changes_cells v cells same) i out o = safe-out o out
     out-call (closes_cell v r c l) i out o = safe-or (cell_closed v r c) o (closes_cell-keeps r k v c (l.0, inl out))
 
     -- each call keeps safe what was, where the guard is open afterwards
@@ -168,11 +178,18 @@ module _ {T : Type 0} (p k : ℕ) where
       | inr under ↦ record { guarded = o; stays = inr (one-call holds p k call i under o).1.0 }
     ]
 
-    pub safe-retires : (v : World T) (r j : ℕ) → r < length v.time.places → standing_at v j ≡ Some Owned → IsSafe v p k →
+    pub safe-retires : (v : World T) (r j : ℕ) → r < length v.time.places → is_out (standing_at v j) ≡ true → IsSafe v p k →
         IsTrue (is_open (place_at (retired v r j) p)) → IsSafe (retired v r j) p k
-    safe-retires v r j l there safe o = elim safe.stays [
-      | inl out ↦ safe-or (retired v r j) o (retires-keeps r k v j there (l, inl out))
-      | inr under ↦ record { guarded = o; stays = inr (under-retires holds v p k r j l there under o).0 }
+    safe-retires v r j l was safe o = elim safe.stays [
+      | inl out ↦ safe-or (retired v r j) o (retires-keeps r k v j was (l, inl out))
+      | inr under ↦ record { guarded = o; stays = inr (under-retires holds v p k r j l was under o).0 }
+    ]
+
+    pub safe-owner_given : (v : World T) (r j : ℕ) → r < length v.time.places → (s : Option Standing) → standing_at v j ≡ s → IsSafe v p k →
+        IsTrue (is_open (place_at (owner_given v r j s) p)) → IsSafe (owner_given v r j s) p k
+    safe-owner_given v r j l s is safe o = elim safe.stays [
+      | inl out ↦ safe-or (owner_given v r j s) o (gives-keeps r k v j s is (l, inl out))
+      | inr under ↦ record { guarded = o; stays = inr (under-owner_given holds v p k r j l s is under o).0 }
     ]
 
     -- what is out is among nothing that an opening reclaims

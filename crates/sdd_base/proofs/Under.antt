@@ -1,5 +1,5 @@
 -- What is retired while a guard is open stays while it is
-use Rattle.std.proofs.Common.{◌≡◌, ◌≢◌, ◌⊎◌, inl, inr, ℕ, ◌+◌, ◌<◌, List, [], ◌∷◌, length, Bool, refl, sym, ap, ◌∙◌, arith, true, false, Some, None, IsTrue, subst}
+use Rattle.std.proofs.Common.{◌≡◌, ◌≢◌, ◌⊎◌, inl, inr, ℕ, ◌+◌, ◌<◌, List, [], ◌∷◌, length, Bool, refl, sym, ap, ◌∙◌, arith, true, false, Some, None, Option, IsTrue, subst}
 use Rattle.std.specs.Prelude.{◌-◌, Contains, min}
 use Rattle.std.proofs.lemmas.List.{get_or-set_same, get_or-set_other}
 use Rattle.std.proofs.lemmas.List.Elements.{Contains-push}
@@ -10,25 +10,27 @@ use Rattle.sdd_store.specs.Time.{Time, with_place, nobody, due_next, is_open, ph
 use Rattle.sdd_store.specs.Phases.{is_ended}
 use Rattle.sdd_store.specs.Time as time
 use Rattle.sdd_store.specs.declared.time.Participant.{Participant}
-use Rattle.sdd_store.specs.declared.standing.Standing.TheVariants.{Owned, Retired}
+use Rattle.sdd_store.specs.declared.standing.Standing.{Standing}
+use Rattle.sdd_store.specs.declared.standing.Standing.TheVariants.{Shared, Retired}
 use Rattle.sdd_base.specs.World.{World, standing_at, value_at, place_at, IsPlaceOf}
-use Rattle.sdd_base.specs.Steps.{made, retired, nulled, cell_closed, opened, closed, registered, ended, reclaims}
+use Rattle.sdd_base.specs.Steps.{made_as, with_standing, retired, owner_given, cell_closed, opened, closed, registered, ended, reclaims}
 use Rattle.sdd_base.specs.Holding.{Holding}
 use Rattle.sdd_base.specs.Own.{all_awaiting}
 use Rattle.sdd_base.specs.Whole.{IsWhole}
 use Rattle.sdd_base.specs.Left.{Waits}
+use Rattle.sdd_base.specs.Out.{is_out}
 use Rattle.sdd_base.specs.Under.{more, IsUnder, CallsUnder, KeepsUnderGuards, KeepsFreshUnderGuards}
 use Rattle.sdd_base.specs.Calls.{Calls}
-use Rattle.sdd_base.specs.Calls.Calls.{registers, ends, opens, closes, stirs, accelerates, makes, retires, nulls, closes_cell}
+use Rattle.sdd_base.specs.Calls.Calls.{registers, ends, opens, closes, stirs, accelerates, makes, shares, retires, releases, changes_cells, closes_cell}
 use Rattle.sdd_base.specs.Under.CallsUnder.{none, more_calls}
-use Rattle.sdd_base.proofs.Own.{Gives-cell_closed}
+use Rattle.sdd_base.proofs.Own.{Gives, Gives-owner_given, Gives-cell_closed}
 use Rattle.sdd_base.proofs.Own as own
-use Rattle.sdd_base.proofs.Weights.{in_range}
+use Rattle.sdd_base.proofs.Standings.{out-inside, out-apart}
 use Rattle.sdd_base.proofs.Whole.{times_among}
-use Rattle.sdd_base.proofs.Housed.{Whole-opened, Whole-closed, Whole-stirred, Whole-accelerated, Whole-made, Whole-retires, Whole-nulled, Whole-cell_closed, Whole-registered, Whole-ended, IsTaken, live-taken, registered-keeps, waits-taken, guard-taken}
+use Rattle.sdd_base.proofs.Housed.{Whole-opened, Whole-closed, Whole-stirred, Whole-accelerated, Whole-made_as, Whole-shared, Whole-retires, Whole-owner_given, Whole-cells, Whole-cell_closed, Whole-registered, Whole-ended, IsTaken, live-taken, registered-keeps, waits-taken, guard-taken}
 use Rattle.sdd_base.proofs.Closes.{how-closed}
 use Rattle.sdd_store.proofs.Adopting.{same-or-not}
-use Rattle.sdd_base.proofs.Opening.{how, Nests, IsChange, Stands, opened-stays, opened-other, closed-stands, all_awaiting-waiting}
+use Rattle.sdd_base.proofs.Opening.{how, Nests, IsChange, Stands, opened-stays, opened-other, shared-apart, owner_given-stands, closed-stands, all_awaiting-waiting}
 use Rattle.sdd_base.proofs.Entries.{other-due, young-due, change-waits}
 
 -- the same participant, as far as its changes go
@@ -60,9 +62,6 @@ pub closed-persists : (t : Time) (p q : ℕ) → IsLive t p → is_ended (phase_
 closed-persists t p q l on =
     let c = how-closed t p l in
     record { found = c.found q; waits = λ w h. waits-still (c.waits q w h) on }
-
-no-owner : Some Retired ≡ Some Owned → ⊥
-no-owner e = cc
 
 module _ {T : Type 0} where
   -- the item goes on waiting with its holder, and no change is made
@@ -146,21 +145,21 @@ module _ {T : Type 0} where
     under-nests : (w : World T) (p k r : ℕ) → r < length w.time.places → (u : IsUnder w p k) → (n : Nests holds w r) → KeptUnder w (opened holds w r) p k
     under-nests w p k r l u n =
         let none : times_among k (reclaims w r) ≡ 0 = ap (λ xs. times_among k xs) n.none in
-        let s = opened-stays holds w r l k (Some Retired) (value_at w k) no-owner none (record { standing = u.standing; value = refl }) in
+        let s = opened-stays holds w r l k (Some Retired) (value_at w k) refl none (record { standing = u.standing; value = refl }) in
         kept w (opened holds w r) p k u (still-open w p r l u.guarded (same-or-not p r) (inl n)) s (nests-persists w r p l n) (nests-persists w r u.holder l n)
 
     under-changes : (w : World T) (p k r : ℕ) → r < length w.time.places → IsWhole w → (u : IsUnder w p k) → (c : IsChange holds w r) → p ≢ r →
         (r ≡ u.holder) ⊎ (r ≢ u.holder) → KeptUnder w (opened holds w r) p k
     under-changes w p k r l i u c apart (inr other) =
         let none = not-due w k r u.holder u.seen i u.waits (inr other) (λ e. absurd (other e)) (sym c.due) in
-        let s = opened-stays holds w r l k (Some Retired) (value_at w k) no-owner none (record { standing = u.standing; value = refl }) in
+        let s = opened-stays holds w r l k (Some Retired) (value_at w k) refl none (record { standing = u.standing; value = refl }) in
         let on_p = Persists-same (place_at w p) (place_at (opened holds w r) p) (opened-other holds w r l p apart) in
         let on_q = Persists-same (place_at w u.holder) (place_at (opened holds w r) u.holder) (opened-other holds w r l u.holder (λ e. other (sym e))) in
         kept w (opened holds w r) p k u (still-open w p r l u.guarded (same-or-not p r) (inr c)) s on_p on_q
     under-changes w p k r l i u c apart (inl e) =
         let young : u.seen < 2 = holder-young w p k u i (subst (λ (m : ℕ). IsChange holds w m) e c) in
         let none = not-due w k r u.holder u.seen i u.waits (inl e) (λ _. young) (sym c.due) in
-        let s = opened-stays holds w r l k (Some Retired) (value_at w k) no-owner none (record { standing = u.standing; value = refl }) in
+        let s = opened-stays holds w r l k (Some Retired) (value_at w k) refl none (record { standing = u.standing; value = refl }) in
         let o = still-open w p r l u.guarded (same-or-not p r) (inr c) in (
           subst (λ (m : ℕ). IsUnder (opened holds w m) p k) (sym e)
               (holder-changes w p k u i (subst (λ (m : ℕ). IsChange holds w m) e c) (subst (λ (m : ℕ). m < length w.time.places) e l)
@@ -202,14 +201,39 @@ module _ {T : Type 0} where
         (record { guarded = o; standing = u.standing; holder = r; seen = 0; waits = h.1; safe = omega arith }, refl)
 
     -- the retirement of another item, to a place that is there
-    pub under-retires : (v : World T) (p k r j : ℕ) → r < length v.time.places → standing_at v j ≡ Some Owned → (u : IsUnder v p k) →
+    pub under-retires : (v : World T) (p k r j : ℕ) → r < length v.time.places → is_out (standing_at v j) ≡ true → (u : IsUnder v p k) →
         IsTrue (is_open (place_at (retired v r j) p)) → KeptUnder v (retired v r j) p k
-    under-retires v p k r j l there u o =
-        let apart : k ≢ j = λ e. absurd (no-owner (sym u.standing ∙ ap (λ (n : ℕ). standing_at v n) e ∙ there)) in
+    under-retires v p k r j l out u o =
+        let apart : k ≢ j = out-apart v.standings j k out (ap is_out u.standing) in
         let on = persists-given (j ∷ []) (place_at v r) in
         kept v (retired v r j) p k u o (record { standing = get_or-set_other v.standings j k (Some Retired) None apart ∙ u.standing; value = refl })
         (persists-place v.time r p (time.awaiting (Item j) (place_at v r)) l on)
         (persists-place v.time r u.holder (time.awaiting (Item j) (place_at v r)) l on)
+
+    -- other items are given up to a place
+    under-gives : (v w : World T) (p k r : ℕ) → r < length v.time.places → Gives r v w → (u : IsUnder v p k) → Stands k (Some Retired) (value_at v k) w →
+        IsTrue (is_open (place_at w p)) → KeptUnder v w p k
+    under-gives v w p k r l g u s o =
+        let on = persists-given g.slots (place_at v r) in
+        let at : (q : ℕ) → Persists (place_at v q) (place_at w q) =
+        λ q. subst (λ (t : Time). Persists (place_at v q) (time.place_at t q)) (sym g.time)
+        (persists-place v.time r q (all_awaiting g.slots (place_at v r)) l on) in
+        kept v w p k u o s (at p) (at u.holder)
+
+    -- an owner of another item is given up
+    pub under-owner_given : (v : World T) (p k r j : ℕ) → r < length v.time.places → (s : Option Standing) → standing_at v j ≡ s → (u : IsUnder v p k) →
+        IsTrue (is_open (place_at (owner_given v r j s) p)) → KeptUnder v (owner_given v r j s) p k
+    under-owner_given v p k r j l s is u o =
+        under-gives v (owner_given v r j s) p k r l (Gives-owner_given v r j s is) u
+        (owner_given-stands r k (Some Retired) (value_at v k) refl v j s is (record { standing = u.standing; value = refl })) o
+
+    -- what changes no place
+    under-still : (v w : World T) (p k : ℕ) → (u : IsUnder v p k) → w.time ≡ v.time → Stands k (Some Retired) (value_at v k) w →
+        IsTrue (is_open (place_at w p)) → KeptUnder v w p k
+    under-still v w p k u e s o =
+        let at : (q : ℕ) → Persists (place_at v q) (place_at w q) =
+        λ q. Persists-same (place_at v q) (place_at w q) (ap (λ (t : Time). time.place_at t q) e) in
+        kept v w p k u o s (at p) (at u.holder)
 
     -- what is under a guard is among nobody's due
     pub under-not-due : (w : World T) (p k r : ℕ) → r < length w.time.places → IsWhole w → (u : IsUnder w p k) → times_among k (reclaims w r) ≡ 0
@@ -241,33 +265,32 @@ module _ {T : Type 0} where
         (Whole-stirred v r l i, under-place v p k r (time.with_garbage (place_at v r)) l.0 u (record { found = refl; waits = λ w h. h }) o)
     one-call p k (accelerates v r l) i u o =
         (Whole-accelerated v r l i, under-place v p k r (time.accelerated (place_at v r)) l.0 u (record { found = refl; waits = λ w h. h }) o)
-    one-call p k (makes v j value empty) i u o =
+    one-call p k (makes v j value s first empty) i u o =
         let apart : k ≢ j = λ e. let never : Some Retired ≡ None = sym u.standing ∙ ap (λ (n : ℕ). standing_at v n) e ∙ empty.1 in absurd (cc) in (
-          Whole-made v j value empty.0 empty.1 i,
-          kept v (made v j value) p k u o
+          Whole-made_as v j value s first empty i,
+          under-still v (made_as v j value s) p k u refl
               (record {
-                standing = get_or-set_other v.standings j k (Some Owned) None apart
-                    ∙ u.standing;
+                standing = get_or-set_other v.standings j k (Some s) None apart ∙ u.standing;
                 value = get_or-set_other v.values j k (Some value) None apart;
-              })
-              (record { found = refl; waits = λ w h. h }) (record { found = refl; waits = λ w h. h }),
+              }) o,
         )
-    one-call p k (retires v r j l there) i u o = (Whole-retires v r j (live-taken v.time r l) there i, under-retires v p k r j l.0 there u o)
-    one-call p k (nulls v c empty) i u o = (
-      Whole-nulled v c i,
-      kept v (nulled v c) p k u o (record { standing = u.standing; value = refl }) (record { found = refl; waits = λ w h. h })
-          (record { found = refl; waits = λ w h. h }),
+    one-call p k (shares v j n is) i u o =
+        let apart : k ≢ j = out-apart v.standings j k (ap is_out is) (ap is_out u.standing) in (
+          Whole-shared v j n (n + 1) is i,
+          under-still v (with_standing v j (Shared (n + 1))) p k u refl
+              (shared-apart v j (n + 1) k (Some Retired) (value_at v k) apart (record { standing = u.standing; value = refl })) o,
+        )
+    one-call p k (retires v r j l there) i u o =
+        (Whole-retires v r j (live-taken v.time r l) (ap is_out there) i, under-retires v p k r j l.0 (ap is_out there) u o)
+    one-call p k (releases v r j n l is) i u o =
+        (Whole-owner_given v r j (live-taken v.time r l) (Some (Shared n)) is i, under-owner_given v p k r j l.0 (Some (Shared n)) is u o)
+    one-call p k (changes_cells v cells same) i u o =
+        (Whole-cells v cells i, under-still v (record v { cells = cells }) p k u refl (record { standing = u.standing; value = refl }) o)
+    one-call p k (closes_cell v r c l) i u o = (
+      Whole-cell_closed v r c l i,
+      under-gives v (cell_closed v r c) p k r l.0 (Gives-cell_closed v r c l.0) u
+          (closed-stands r k (Some Retired) (value_at v k) refl v c (record { standing = u.standing; value = refl })) o,
     )
-    one-call p k (closes_cell v r c l) i u o =
-        let g = Gives-cell_closed v r c l.0 in
-        let on = persists-given g.slots (place_at v r) in
-        let at : (q : ℕ) → Persists (place_at v q) (place_at (cell_closed v r c) q) =
-        λ q. subst (λ (t : Time). Persists (place_at v q) (time.place_at t q)) (sym g.time)
-        (persists-place v.time r q (all_awaiting g.slots (place_at v r)) l.0 on) in (
-          Whole-cell_closed v r c l i,
-          kept v (cell_closed v r c) p k u o (closed-stands v r c k (Some Retired) (value_at v k) no-owner (record { standing = u.standing; value = refl }))
-              (at p) (at u.holder),
-        )
 
     all-calls : (p k : ℕ) {v w : World T} → CallsUnder holds p v w → IsWhole v → IsUnder v p k → IsWhole w × KeptUnder v w p k
     all-calls p k (none v o) i u = (i, (u, refl))
@@ -287,14 +310,14 @@ module _ {T : Type 0} where
         subst (λ (z : Participant). IsTrue (is_open z)) (sym (get_or-set_other w.time.places q p (time.awaiting (Item k) (place_at w q)) nobody apart)) o
 
     -- an item that is retired while a guard is open is under it
-    pub under-retired : (w : World T) (p q k : ℕ) → IsTrue (is_open (place_at w p)) → q < length w.time.places → standing_at w k ≡ Some Owned →
+    pub under-retired : (w : World T) (p q k : ℕ) → IsTrue (is_open (place_at w p)) → q < length w.time.places → is_out (standing_at w k) ≡ true →
         IsUnder (retired w q k) p k
-    under-retired w p q k o l there =
+    under-retired w p q k o l out =
         let x : Participant = time.awaiting (Item k) (place_at w q) in
         let here : place_at (retired w q k) q ≡ x = get_or-set_same w.time.places q x nobody l in
         record {
           guarded = awaiting-open w p q k l o (same-or-not p q);
-          standing = get_or-set_same w.standings k (Some Retired) None (in_range w.standings k Owned there);
+          standing = get_or-set_same w.standings k (Some Retired) None (out-inside w.standings k out);
           holder = q;
           seen = 0;
           waits =
@@ -304,8 +327,8 @@ module _ {T : Type 0} where
         }
 
     pub keeps-under-guards : (w : World T) → IsWhole w → KeepsUnderGuards holds w
-    keeps-under-guards w i = λ p q k o l there new path.
-        let end = all-calls p k path (Whole-retires w q k (live-taken w.time q l) there i) (under-retired w p q k o l.0 there) in
+    keeps-under-guards w i = λ p q k o l out new path.
+        let end = all-calls p k path (Whole-retires w q k (live-taken w.time q l) out i) (under-retired w p q k o l.0 out) in
         (end.1.0, end.1.1)
 
     pub keeps-fresh-under-guards : (w : World T) → IsWhole w → KeepsFreshUnderGuards holds w

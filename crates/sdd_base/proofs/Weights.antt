@@ -1,17 +1,26 @@
 -- No step makes more slots wait than there are
-use Rattle.std.proofs.Common.{◌≡◌, ℕ, ◌+◌, ◌<◌, ◌≤◌, List, [], ◌∷◌, length, cond, refl, sym, ap, ◌∙◌, arith, Some, None, map, drop, get_or, drop-cons, add-one, slice_index_or, Option}
+use Rattle.std.proofs.Common.{◌≡◌, inl, inr, ℕ, ◌+◌, ◌<◌, ◌≤◌, List, [], ◌∷◌, length, cond, true, refl, sym, ap, ◌∙◌, arith, Some, None, map, drop, get_or, drop-cons, add-one, slice_index_or, sum_by, count_by, Option}
+use Rattle.std.specs.Prelude.{◌-◌}
 use Rattle.std.proofs.lemmas.Grind.{common_steps}
-use Rattle.std.proofs.lemmas.List.{get_or_past}
+use Rattle.std.proofs.lemmas.List.{get_or_past, length-set, length-append}
 use Rattle.std.proofs.lemmas.List.Sums.{sum_by-set}
+use Rattle.sdd_store.specs.Waiting.{fresh}
 use Rattle.sdd_store.specs.Waiting.What.{Item}
-use Rattle.sdd_store.specs.Table.{Entries, entry_at, without_entry}
+use Rattle.sdd_store.specs.Table.{Entries, IsEmptyAt, entry_at, with_entry, without_entry}
+use Rattle.sdd_store.specs.Time.{waiting_count, nobody}
+use Rattle.sdd_store.specs.Time as time
 use Rattle.sdd_store.specs.Phases.{is_live}
 use Rattle.sdd_store.specs.declared.phases.Phase.{Phase}
+use Rattle.sdd_store.specs.declared.time.Participant.{Participant}
 use Rattle.sdd_store.specs.declared.standing.Standing.{Standing}
-use Rattle.sdd_store.specs.declared.standing.Standing.TheVariants.{Owned, Raw, Shared, Retired, Private as privately}
-use Rattle.sdd_base.specs.World.{World, KeepsSizes, weight, is_loose, standing_at}
-use Rattle.sdd_base.specs.Steps.{retired, spilled, cell_closed, held_in, owner_given, given, given_all, freed, taken_out, waiting_value, slot_reclaimed, all_reclaimed}
-use Rattle.sdd_base.specs.Holding.{Holding, owned, atomic_owned}
+use Rattle.sdd_store.specs.declared.standing.Standing.TheVariants.{Shared, Retired}
+use Rattle.sdd_store.specs.declared.standing.Cell.{Cell}
+use Rattle.sdd_base.specs.World.{World, KeepsSizes, weight, is_loose, standing_at, place_at}
+use Rattle.sdd_base.specs.Steps.{made_as, with_standing, retired, spilled, cell_closed, held_in, owner_given, given, given_all, freed, taken_out, waiting_value, slot_reclaimed, all_reclaimed}
+use Rattle.sdd_base.specs.Holding.{Holding, owned, shared, atomic_owned, atomic_shared}
+use Rattle.sdd_base.specs.Out.{is_out}
+use Rattle.sdd_base.specs.Calls.{IsFirst}
+use Rattle.sdd_base.proofs.Standings.{out-waits-not, out-inside, owner-given}
 
 -- as many places, slots, room, and slots that wait or are loose
 pub record SameSize {T : Type 0} (old new : World T) : Type 0 where
@@ -23,19 +32,78 @@ pub record SameSize {T : Type 0} (old new : World T) : Type 0 where
   pub nesting_same : new.time.nesting ≡ old.time.nesting
   pub room_same : new.time.room ≡ old.time.room
 
+pub in_range : (xs : List (Option Standing)) (k : ℕ) (s : Standing) → slice_index_or xs k None ≡ Some s → k < length xs
+in_range xs k s is = grind (arith, get_or_past)
+
+out-loose : (s : Option Standing) → is_out s ≡ true → is_loose s ≡ true
+out-loose s out = rw (out-waits-not s out, is_loose) refl
+
+-- how much a slot weighs that is loose or not
+abbrev loose_weight : Option Standing → ℕ
+loose_weight s = cond (is_loose s) 1 0
+
+-- one slot stands otherwise: whether its item is loose is as before
+stands-weight : {T : Type 0} (w : World T) (k : ℕ) (s : Standing) → k < length w.standings → is_loose (Some s) ≡ is_loose (standing_at w k) →
+    count_by is_loose (with_entry w.standings k s) ≡ count_by is_loose w.standings
+stands-weight w k s l e =
+    let all = sum_by-set loose_weight w.standings k (Some s) None l in
+    let same : loose_weight (Some s) ≡ loose_weight (standing_at w k) = rw e refl in
+    omega (arith, all, same)
+
 -- an item that is out begins to wait
-pub SameSize-retired : {T : Type 0} (w : World T) (p k : ℕ) → p < length w.time.places → standing_at w k ≡ Some Owned → SameSize w (retired w p k)
-SameSize-retired w p k in_range there =
+pub SameSize-retired : {T : Type 0} (w : World T) (p k : ℕ) → p < length w.time.places → is_out (standing_at w k) ≡ true → SameSize w (retired w p k)
+SameSize-retired w p k l out =
+    let x : Participant = time.awaiting (Item k) (place_at w p) in
+    let places = sum_by-set waiting_count w.time.places p x nobody l in
+    let more : waiting_count x ≡ waiting_count (place_at w p) + 1 = length-append (place_at w p).bags.waiting (fresh (Item k) ∷ []) in
+    let slots = sum_by-set loose_weight w.standings k (Some Retired) None (out-inside w.standings k out) in
+    let was : loose_weight (standing_at w k) ≡ 1 = rw (out-loose (standing_at w k) out) refl in
     record {
-      weight_same = grind (arith, common_steps);
-      places_same = grind (arith, common_steps);
+      weight_same = omega (arith, places, more, slots, was);
+      places_same = length-set w.time.places p x;
       phases_same = refl;
-      slots_same = grind
-          (arith, common_steps);
+      slots_same = length-set w.standings k (Some Retired);
       home_same = refl;
       nesting_same = refl;
       room_same = refl;
     }
+
+-- an item that is shared has one owner more or fewer
+pub SameSize-shared : {T : Type 0} (w : World T) (k n m : ℕ) → standing_at w k ≡ Some (Shared n) → SameSize w (with_standing w k (Shared m))
+SameSize-shared w k n m is =
+    record {
+      weight_same = ap (λ (n : ℕ). sum_by waiting_count w.time.places + n)
+          (stands-weight w k (Shared m) (in_range w.standings k (Shared n) is) (sym (ap is_loose is)));
+      places_same = refl;
+      phases_same = refl;
+      slots_same = length-set w.standings k (Some (Shared m));
+      home_same = refl;
+      nesting_same = refl;
+      room_same = refl;
+    }
+
+-- a new item is loose, as a free slot is
+first-loose : (s : Standing) → IsFirst s → is_loose (Some s) ≡ true
+first-loose s (inl e) = rw e refl
+first-loose s (inr e) = rw e refl
+
+pub SameSize-made_as : {T : Type 0} (w : World T) (k : ℕ) (v : T) (s : Standing) → IsFirst s → IsEmptyAt w.standings k → SameSize w (made_as w k v s)
+SameSize-made_as w k v s first empty =
+    record {
+      weight_same = ap (λ (n : ℕ). sum_by waiting_count w.time.places + n)
+          (stands-weight w k s empty.0 (first-loose s first ∙ sym (ap is_loose empty.1)));
+      places_same = refl;
+      phases_same = refl;
+      slots_same = length-set w.standings k (Some s);
+      home_same = refl;
+      nesting_same = refl;
+      room_same = refl;
+    }
+
+-- the cells weigh nothing
+pub SameSize-cells : {T : Type 0} (w : World T) (cells : Entries Cell) → SameSize w (record w { cells = cells })
+SameSize-cells w cells =
+    record { weight_same = refl; places_same = refl; phases_same = refl; slots_same = refl; home_same = refl; nesting_same = refl; room_same = refl }
 
 pub SameSize-refl : {T : Type 0} (w : World T) → SameSize w w
 SameSize-refl w =
@@ -56,28 +124,24 @@ SameSize-trans a b =
 
 pub SameSize-owner_given : {T : Type 0} (w : World T) (p k : ℕ) → p < length w.time.places → (s : Option Standing) → standing_at w k ≡ s →
     SameSize w (owner_given w p k s)
-SameSize-owner_given w p k l None is = SameSize-refl w
-SameSize-owner_given w p k l (Some Owned) is = SameSize-retired w p k l is
-SameSize-owner_given w p k l (Some Raw) is = SameSize-refl w
-SameSize-owner_given w p k l (Some (Shared n)) is = SameSize-refl w
-SameSize-owner_given w p k l (Some Retired) is = SameSize-refl w
-SameSize-owner_given w p k l (Some (privately c)) is = SameSize-refl w
+SameSize-owner_given {T} w p k l s is =
+    owner-given (λ (u : World T). SameSize w u) w p k s is (SameSize-refl w) (λ out. SameSize-retired w p k l out)
+    (λ n several more. SameSize-shared w k n (n - 1) several)
 
 SameSize-spilled : {T : Type 0} (w : World T) (p : ℕ) → p < length w.time.places → (held : Option ℕ) → SameSize w (spilled w p held)
 SameSize-spilled w p l None = SameSize-refl w
 SameSize-spilled w p l (Some k) = SameSize-owner_given w p k l (standing_at w k) refl
 
-without_cell : {T : Type 0} (w : World T) (c : ℕ) → SameSize w (record w { cells = without_entry w.cells c })
-without_cell w c =
-    record { weight_same = refl; places_same = refl; phases_same = refl; slots_same = refl; home_same = refl; nesting_same = refl; room_same = refl }
-
 pub SameSize-cell_closed : {T : Type 0} (w : World T) (p c : ℕ) → p < length w.time.places → SameSize w (cell_closed w p c)
 SameSize-cell_closed w p c l =
-    SameSize-trans (without_cell w c) (SameSize-spilled (record w { cells = without_entry w.cells c }) p l (held_in (entry_at w.cells c)))
+    SameSize-trans (SameSize-cells w (without_entry w.cells c))
+    (SameSize-spilled (record w { cells = without_entry w.cells c }) p l (held_in (entry_at w.cells c)))
 
 pub SameSize-given : {T : Type 0} (w : World T) (p : ℕ) (h : Holding) → p < length w.time.places → SameSize w (given w p h)
 SameSize-given w p (owned k home) l = SameSize-owner_given w p k l (standing_at w k) refl
+SameSize-given w p (shared k home) l = SameSize-owner_given w p k l (standing_at w k) refl
 SameSize-given w p (atomic_owned c home) l = SameSize-cell_closed w p c l
+SameSize-given w p (atomic_shared c home) l = SameSize-cell_closed w p c l
 
 pub SameSize-given_all : {T : Type 0} (w : World T) (p : ℕ) (hs : List Holding) → p < length w.time.places → SameSize w (given_all w p hs)
 SameSize-given_all w p [] l = SameSize-refl w
@@ -131,9 +195,6 @@ pub FreesOne-taken_out : {T : Type 0} (holds : T → List Holding) (w : World T)
 FreesOne-taken_out holds w p k l lk None = FreesOne-refl w
 FreesOne-taken_out holds w p k l lk (Some value) = FreesOne-then (freed-FreesOne w k lk) (SameSize-given_all (freed w k) p (holds value) l)
 
-pub in_range : (xs : List (Option Standing)) (k : ℕ) (s : Standing) → slice_index_or xs k None ≡ Some s → k < length xs
-in_range xs k s is = grind (arith, get_or_past)
-
 FreesOne-standing : {T : Type 0} (holds : T → List Holding) (w : World T) (p k : ℕ) → p < length w.time.places → (s : Option Standing) →
     standing_at w k ≡ s → FreesOne w (taken_out holds w p k (waiting_value w k s))
 FreesOne-standing holds w p k l None is = FreesOne-refl w
@@ -148,6 +209,17 @@ pub all_reclaimed-drop : {T : Type 0} (holds : T → List Holding) (w : World T)
     all_reclaimed holds w p (map Item (drop i ks)) ≡ all_reclaimed holds (slot_reclaimed holds w p (get_or ks i 0)) p (map Item (drop (i + 1) ks))
 all_reclaimed-drop holds w p ks i l =
     ap (λ xs. all_reclaimed holds w p (map Item xs)) (drop-cons ks i 0 l ∙ ap (λ n. get_or ks i 0 ∷ drop n ks) (sym (add-one i)))
+
+pub SameSize-sizes : {T : Type 0} {old new : World T} → SameSize old new → KeepsSizes old new
+SameSize-sizes f =
+    record {
+      home = f.home_same;
+      places = f.places_same;
+      live = ap (λ (xs : Entries Phase). map is_live xs) f.phases_same;
+      slots = f.slots_same;
+      nesting = f.nesting_same;
+      room = f.room_same;
+    }
 
 pub FreesOne-sizes : {T : Type 0} {old new : World T} → FreesOne old new → KeepsSizes old new
 FreesOne-sizes f =

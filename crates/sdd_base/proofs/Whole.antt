@@ -14,21 +14,24 @@ use Rattle.sdd_store.specs.Waiting.What.{Item, Private, Job}
 use Rattle.sdd_store.specs.Bags.{Bags}
 use Rattle.sdd_store.specs.Time.{Time, with_place, nobody, newcomer, due_next, is_open, passes, last_count, stirred, counted_down, pace_of, rested, IsLive}
 use Rattle.sdd_store.specs.Time as time
-use Rattle.sdd_store.specs.Table.{entry_at, without_entry}
+use Rattle.sdd_store.specs.Table.{Entries, entry_at, without_entry}
 use Rattle.sdd_store.specs.Tally.{one_made, one_reclaimed}
 use Rattle.sdd_store.specs.declared.tally.Tally.{Tally}
 use Rattle.sdd_store.specs.declared.time.Participant.{Participant}
 use Rattle.sdd_store.specs.declared.time.Pace.{Pace}
 use Rattle.sdd_store.specs.declared.standing.Standing.{Standing}
 use Rattle.sdd_store.specs.declared.standing.Standing.TheVariants.{Owned, Raw, Shared, Retired, Private as privately}
+use Rattle.sdd_store.specs.declared.standing.Cell.{Cell}
 use Rattle.sdd_slots.specs.Slots.{is_waiting, IsWaiting}
 use Rattle.sdd_base.specs.World.{World, standing_at, value_at, place_at}
-use Rattle.sdd_base.specs.Steps.{made, retired, spilled, cell_closed, held_in, owner_given, given, given_all, freed, taken_out, waiting_value, slot_reclaimed, reclaimed, all_reclaimed, changed}
+use Rattle.sdd_base.specs.Steps.{made_as, with_standing, retired, spilled, cell_closed, held_in, owner_given, given, given_all, freed, taken_out, waiting_value, slot_reclaimed, reclaimed, all_reclaimed, changed}
 use Rattle.sdd_base.specs.Steps as steps
-use Rattle.sdd_base.specs.Holding.{Holding, owned, atomic_owned}
+use Rattle.sdd_base.specs.Holding.{Holding, owned, shared, atomic_owned, atomic_shared}
+use Rattle.sdd_base.specs.Out.{is_out}
 use Rattle.sdd_base.specs.Whole.{is_of_slot, times_with, once_if, times_waiting, taken, IsAbreast, IsCounted}
 use Rattle.sdd_base.specs.Own.{all_awaiting}
 use Rattle.sdd_base.proofs.Own.{Gives-range, Gives-given, Gives-reclaimed, Gives-all_reclaimed, changes}
+use Rattle.sdd_base.proofs.Standings.{out-some, out-waits-not, out-inside, owner-given}
 use Rattle.sdd_base.proofs.Weights.{in_range}
 
 abbrev pub one_where : Bool → ℕ
@@ -322,40 +325,60 @@ module _ {T : Type 0} where
   retired-times w p k j l =
       omega (arith, times-place w.time p j (time.awaiting (Item k) (place_at w p)) l, times-awaiting j k (place_at w p))
 
-  retired-once : (w : World T) (p k j : ℕ) (xs : List What) → p < length w.time.places → standing_at w k ≡ Some Owned → IsWholeBut xs w →
+  retired-once : (w : World T) (p k j : ℕ) (xs : List What) → p < length w.time.places → is_waiting (standing_at w k) ≡ false → IsWholeBut xs w →
       ((j ≡ k) × (standing_at (retired w p k) j ≡ Some Retired)) ⊎ ((j ≢ k) × (standing_at (retired w p k) j ≡ standing_at w j)) →
       times_waiting (retired w p k) j + times_among j xs ≡ once_if (is_waiting (standing_at (retired w p k) j))
-  retired-once w p k j xs l there i (inl (e, s)) =
-      let before : times_waiting w j + times_among j xs ≡ 0 = i.once j ∙ rw (e, there) refl in
+  retired-once w p k j xs l idle i (inl (e, s)) =
+      let before : times_waiting w j + times_among j xs ≡ 0 = i.once j ∙ rw (e, idle) refl in
       let more : one_where (k == j) ≡ 1 = rw (same-test k j e) refl in
       rw s (omega (arith, retired-times w p k j l, before, more))
-  retired-once w p k j xs l there i (inr (apart, s)) =
+  retired-once w p k j xs l idle i (inr (apart, s)) =
       let more : one_where (k == j) ≡ 0 = rw (apart-test k j apart) refl in
       rw s (omega (arith, retired-times w p k j l, i.once j, more))
 
-  Whole-retired : (w : World T) (p k : ℕ) (xs : List What) → p < length w.time.places → standing_at w k ≡ Some Owned → IsWholeBut xs w →
+  Whole-retired : (w : World T) (p k : ℕ) (xs : List What) → p < length w.time.places → is_out (standing_at w k) ≡ true → IsWholeBut xs w →
       IsWholeBut xs (retired w p k)
-  Whole-retired w p k xs l there i =
-      let inside : k < length w.standings = in_range w.standings k Owned there in
+  Whole-retired w p k xs l out i =
+      let inside : k < length w.standings = out-inside w.standings k out in
+      let some = out-some (standing_at w k) out in
       let same : taken (retired w p k) ≡ taken w =
-      let c = set-taken w k (Some Retired) inside in let o : one_where (is_some (standing_at w k)) ≡ 1 = rw there refl in omega (arith, c, o) in
+      let c = set-taken w k (Some Retired) inside in let o : one_where (is_some (standing_at w k)) ≡ 1 = rw some refl in omega (arith, c, o) in
       record {
-        filled = same-filled w k (Some Retired) i.filled (sym (ap is_some there));
-        once = λ j. retired-once w p k j xs l there i (set-standing w.standings k j (Some Retired) inside (same-or-not j k));
+        filled = same-filled w k (Some Retired) i.filled (sym some);
+        once = λ j. retired-once w p k j xs l (out-waits-not (standing_at w k) out) i
+            (set-standing w.standings k j (Some Retired) inside (same-or-not j k));
         abreast =
             abreast-place w.time w.time.count p (time.awaiting (Item k) (place_at w p)) l
             (abreast-awaiting w.time.count k (place_at w p) (i.abreast p)) i.abreast;
         counted = rw same i.counted;
       }
 
+  -- an item that is shared has one owner more or fewer
+  shared-once : (w : World T) (k n m j : ℕ) (xs : List What) → standing_at w k ≡ Some (Shared n) → IsWholeBut xs w →
+      ((j ≡ k) × (standing_at (with_standing w k (Shared m)) j ≡ Some (Shared m)))
+      ⊎ ((j ≢ k) × (standing_at (with_standing w k (Shared m)) j ≡ standing_at w j)) →
+      times_waiting w j + times_among j xs ≡ once_if (is_waiting (standing_at (with_standing w k (Shared m)) j))
+  shared-once w k n m j xs is i (inl (e, s)) = rw s (i.once j ∙ rw (e, is) refl)
+  shared-once w k n m j xs is i (inr (apart, s)) = rw s (i.once j)
+
+  Whole-shared-but : (w : World T) (k n m : ℕ) (xs : List What) → standing_at w k ≡ Some (Shared n) → IsWholeBut xs w →
+      IsWholeBut xs (with_standing w k (Shared m))
+  Whole-shared-but w k n m xs is i =
+      let inside : k < length w.standings = in_range w.standings k (Shared n) is in
+      let same : taken (with_standing w k (Shared m)) ≡ taken w =
+      let c = set-taken w k (Some (Shared m)) inside in let o : one_where (is_some (standing_at w k)) ≡ 1 = rw is refl in omega (arith, c, o) in
+      record {
+        filled = same-filled w k (Some (Shared m)) i.filled (sym (ap is_some is));
+        once = λ j. shared-once w k n m j xs is i (set-standing w.standings k j (Some (Shared m)) inside (same-or-not j k));
+        abreast = i.abreast;
+        counted = rw same i.counted;
+      }
+
   Whole-owner_given : (w : World T) (p k : ℕ) (xs : List What) (s : Option Standing) → p < length w.time.places → standing_at w k ≡ s → IsWholeBut xs w →
       IsWholeBut xs (owner_given w p k s)
-  Whole-owner_given w p k xs None l is i = i
-  Whole-owner_given w p k xs (Some Owned) l is i = Whole-retired w p k xs l is i
-  Whole-owner_given w p k xs (Some Raw) l is i = i
-  Whole-owner_given w p k xs (Some (Shared n)) l is i = i
-  Whole-owner_given w p k xs (Some Retired) l is i = i
-  Whole-owner_given w p k xs (Some (privately c)) l is i = i
+  Whole-owner_given w p k xs s l is i =
+      owner-given (λ (u : World T). IsWholeBut xs u) w p k s is i (λ out. Whole-retired w p k xs l out i)
+      (λ n several more. Whole-shared-but w k n (n - 1) xs several i)
 
   Whole-spilled : (w : World T) (p : ℕ) (xs : List What) (held : Option ℕ) → p < length w.time.places → IsWholeBut xs w → IsWholeBut xs (spilled w p held)
   Whole-spilled w p xs None l i = i
@@ -368,7 +391,9 @@ module _ {T : Type 0} where
 
   Whole-given : (w : World T) (p : ℕ) (h : Holding) (xs : List What) → p < length w.time.places → IsWholeBut xs w → IsWholeBut xs (given w p h)
   Whole-given w p (owned k home) xs l i = Whole-owner_given w p k xs (standing_at w k) l refl i
+  Whole-given w p (shared k home) xs l i = Whole-owner_given w p k xs (standing_at w k) l refl i
   Whole-given w p (atomic_owned c home) xs l i = Whole-cell_closed-but w p c xs l i
+  Whole-given w p (atomic_shared c home) xs l i = Whole-cell_closed-but w p c xs l i
 
   Whole-given_all : (w : World T) (p : ℕ) (hs : List Holding) (xs : List What) → p < length w.time.places → IsWholeBut xs w → IsWholeBut xs (given_all w p hs)
   Whole-given_all w p [] xs l i = i
@@ -535,11 +560,18 @@ module _ {T : Type 0} where
   pub Items-cell_closed : (w : World T) (p c : ℕ) → p < length w.time.places → HasItems w → HasItems (cell_closed w p c)
   Items-cell_closed w p c l i = whole-of (cell_closed w p c) (Whole-cell_closed-but w p c [] l (whole-but-nothing w i))
 
-  pub Items-retires : (w : World T) (p k : ℕ) → p < length w.time.places → standing_at w k ≡ Some Owned → HasItems w → HasItems (retired w p k)
-  Items-retires w p k l there i = whole-of (retired w p k) (Whole-retired w p k [] l there (whole-but-nothing w i))
+  pub Items-retires : (w : World T) (p k : ℕ) → p < length w.time.places → is_out (standing_at w k) ≡ true → HasItems w → HasItems (retired w p k)
+  Items-retires w p k l out i = whole-of (retired w p k) (Whole-retired w p k [] l out (whole-but-nothing w i))
 
-  pub Items-nulled : (w : World T) (c : ℕ) → HasItems w → HasItems (steps.nulled w c)
-  Items-nulled w c i = record { filled = i.filled; once = i.once; abreast = i.abreast; counted = i.counted }
+  pub Items-shared : (w : World T) (k n m : ℕ) → standing_at w k ≡ Some (Shared n) → HasItems w → HasItems (with_standing w k (Shared m))
+  Items-shared w k n m is i = whole-of (with_standing w k (Shared m)) (Whole-shared-but w k n m [] is (whole-but-nothing w i))
+
+  pub Items-owner_given : (w : World T) (p k : ℕ) → p < length w.time.places → (s : Option Standing) → standing_at w k ≡ s → HasItems w →
+      HasItems (owner_given w p k s)
+  Items-owner_given w p k l s is i = whole-of (owner_given w p k s) (Whole-owner_given w p k [] s l is (whole-but-nothing w i))
+
+  pub Items-cells : (w : World T) (cells : Entries Cell) → HasItems w → HasItems (record w { cells = cells })
+  Items-cells w cells i = record { filled = i.filled; once = i.once; abreast = i.abreast; counted = i.counted }
 
   pub Items-stirred : (w : World T) (p : ℕ) → p < length w.time.places → HasItems w → HasItems (steps.stirred w p)
   Items-stirred w p l i =
@@ -579,21 +611,22 @@ module _ {T : Type 0} where
       }
 
   -- a value is put into a free slot
-  made-once : (w : World T) (k j : ℕ) (v : T) → standing_at w k ≡ None → HasItems w →
-      ((j ≡ k) × (standing_at (made w k v) j ≡ Some Owned)) ⊎ ((j ≢ k) × (standing_at (made w k v) j ≡ standing_at w j)) →
-      times_waiting w j ≡ once_if (is_waiting (standing_at (made w k v) j))
-  made-once w k j v free i (inl (e, s)) = rw s (i.once j ∙ rw (e, free) refl)
-  made-once w k j v free i (inr (apart, s)) = rw s (i.once j)
+  made-once : (w : World T) (k j : ℕ) (v : T) (s : Standing) → is_waiting (Some s) ≡ false → standing_at w k ≡ None → HasItems w →
+      ((j ≡ k) × (standing_at (made_as w k v s) j ≡ Some s)) ⊎ ((j ≢ k) × (standing_at (made_as w k v s) j ≡ standing_at w j)) →
+      times_waiting w j ≡ once_if (is_waiting (standing_at (made_as w k v s) j))
+  made-once w k j v s idle free i (inl (e, is)) = rw (is, idle) (i.once j ∙ rw (e, free) refl)
+  made-once w k j v s idle free i (inr (apart, is)) = rw is (i.once j)
 
-  pub Items-made : (w : World T) (k : ℕ) (v : T) → k < length w.standings → standing_at w k ≡ None → HasItems w → HasItems (made w k v)
-  Items-made w k v l free i =
+  pub Items-made_as : (w : World T) (k : ℕ) (v : T) (s : Standing) → is_waiting (Some s) ≡ false → k < length w.standings → standing_at w k ≡ None →
+      HasItems w → HasItems (made_as w k v s)
+  Items-made_as w k v s idle l free i =
       let none : one_where (is_some (standing_at w k)) ≡ 0 = rw free refl in
-      let one : taken (made w k v) ≡ taken w + 1 = omega (arith, set-taken w k (Some Owned) l, none) in
+      let one : taken (made_as w k v s) ≡ taken w + 1 = omega (arith, set-taken w k (Some s) l, none) in
       record {
-        filled = set-filled w k (Some Owned) (Some v) i.filled refl;
-        once = λ j. made-once w k j v free i (set-standing w.standings k j (Some Owned) l (same-or-not j k));
+        filled = set-filled w k (Some s) (Some v) i.filled refl;
+        once = λ j. made-once w k j v s idle free i (set-standing w.standings k j (Some s) l (same-or-not j k));
         abreast = i.abreast;
-        counted = one-made w.tally (taken w) (taken (made w k v)) one i.counted;
+        counted = one-made w.tally (taken w) (taken (made_as w k v s)) one i.counted;
       }
 
   -- a guard is closed
@@ -717,14 +750,14 @@ module _ {T : Type 0} where
   Items-registered w p bare i = Whole-registered-if w p bare i (nat_lt p (length w.time.places)) refl
 
   -- where a value was, it is
-  made-value : (w : World T) (k : ℕ) (v : T) → HasItems w → standing_at w k ≡ None → (j : ℕ) (u : T) → value_at w j ≡ Some u → (j ≡ k) ⊎ (j ≢ k) →
-      value_at (made w k v) j ≡ Some u
-  made-value w k v i free j u h (inr apart) = get_or-set_other w.values k j (Some v) None apart ∙ h
-  made-value w k v i free j u h (inl e) =
+  made-value : (w : World T) (k : ℕ) (v : T) (s : Standing) → HasItems w → standing_at w k ≡ None → (j : ℕ) (u : T) → value_at w j ≡ Some u →
+      (j ≡ k) ⊎ (j ≢ k) → value_at (made_as w k v s) j ≡ Some u
+  made-value w k v s i free j u h (inr apart) = get_or-set_other w.values k j (Some v) None apart ∙ h
+  made-value w k v s i free j u h (inl e) =
       let some : is_some (value_at w j) ≡ true = ap is_some h in
       let none : is_some (value_at w k) ≡ false = filled-there w k i.filled ∙ ap is_some free in
       absurd (cc)
 
-  pub made-keeps : (w : World T) (k : ℕ) (v : T) → HasItems w → standing_at w k ≡ None → (j : ℕ) (u : T) → value_at w j ≡ Some u →
-      value_at (made w k v) j ≡ Some u
-  made-keeps w k v i free j u h = made-value w k v i free j u h (same-or-not j k)
+  pub made-keeps : (w : World T) (k : ℕ) (v : T) (s : Standing) → HasItems w → standing_at w k ≡ None → (j : ℕ) (u : T) → value_at w j ≡ Some u →
+      value_at (made_as w k v s) j ≡ Some u
+  made-keeps w k v s i free j u h = made-value w k v s i free j u h (same-or-not j k)

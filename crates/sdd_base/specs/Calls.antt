@@ -1,11 +1,17 @@
 -- What a call makes of a world
-use Rattle.std.specs.Prelude.{ℕ, ◌≡◌, IsTrue, List, Some}
+use Rattle.std.specs.Prelude.{ℕ, ◌+◌, ◌≡◌, ◌⊎◌, IsTrue, List, length, Some}
 use Rattle.sdd_store.specs.Time.{IsVacant, is_open}
-use Rattle.sdd_store.specs.Table.{IsEmptyAt}
-use Rattle.sdd_store.specs.declared.standing.Standing.TheVariants.{Owned}
+use Rattle.sdd_store.specs.Table.{Entries, IsEmptyAt}
+use Rattle.sdd_store.specs.declared.standing.Standing.{Standing}
+use Rattle.sdd_store.specs.declared.standing.Standing.TheVariants.{Owned, Shared}
+use Rattle.sdd_store.specs.declared.standing.Cell.{Cell}
 use Rattle.sdd_base.specs.Holding.{Holding}
 use Rattle.sdd_base.specs.World.{World, place_at, standing_at, IsPlaceOf}
-use Rattle.sdd_base.specs.Steps.{made, retired, nulled, cell_closed, opened, closed, stirred, accelerated, registered, ended}
+use Rattle.sdd_base.specs.Steps.{made_as, with_standing, retired, owner_given, cell_closed, opened, closed, stirred, accelerated, registered, ended}
+
+-- a new item stands so: out with its one owner, who may share it or not
+abbrev pub IsFirst : Standing → Type 0
+IsFirst s = (s ≡ Owned) ⊎ (s ≡ Shared 1)
 
 module _ {T : Type 0} (holds : T → List Holding) where
   pub data Calls : World T → World T → Type 0 where
@@ -15,7 +21,10 @@ module _ {T : Type 0} (holds : T → List Holding) where
     closes : (w : World T) (p : ℕ) → IsPlaceOf w p → Calls w (closed w p)
     stirs : (w : World T) (p : ℕ) → IsPlaceOf w p → Calls w (stirred w p)
     accelerates : (w : World T) (p : ℕ) → IsPlaceOf w p → Calls w (accelerated w p)
-    makes : (w : World T) (k : ℕ) (value : T) → IsEmptyAt w.standings k → Calls w (made w k value)
+    makes : (w : World T) (k : ℕ) (value : T) (s : Standing) → IsFirst s → IsEmptyAt w.standings k → Calls w (made_as w k value s)
+    shares : (w : World T) (k n : ℕ) → standing_at w k ≡ Some (Shared n) → Calls w (with_standing w k (Shared (n + 1)))
     retires : (w : World T) (p k : ℕ) → IsPlaceOf w p → standing_at w k ≡ Some Owned → Calls w (retired w p k)
-    nulls : (w : World T) (c : ℕ) → IsEmptyAt w.cells c → Calls w (nulled w c)
+    releases : (w : World T) (p k n : ℕ) → IsPlaceOf w p → standing_at w k ≡ Some (Shared n) → Calls w (owner_given w p k (Some (Shared n)))
+    -- what cells hold changes, and nothing else
+    changes_cells : (w : World T) (cells : Entries Cell) → length cells ≡ length w.cells → Calls w (record w { cells = cells })
     closes_cell : (w : World T) (p c : ℕ) → IsPlaceOf w p → Calls w (cell_closed w p c)

@@ -7,6 +7,8 @@ pub mod Known
 pub mod Ptr
 pub mod Guard
 pub mod Owned
+pub mod Shared
+pub mod RawPtr
 pub mod Limits
 pub mod Lending
 pub mod Whole

@@ -1,13 +1,13 @@
 -- How much of a world is out of its hands
-use Rattle.std.specs.Prelude.{ℕ, ◌+◌, ◌<◌, ◌≡◌, ◌≤◌, Bool, true, false, List, [], ◌∷◌, Option, None, Some, is_some, count_by, length}
+use Rattle.std.specs.Prelude.{ℕ, ◌+◌, ◌<◌, ◌≡◌, ◌≤◌, Bool, true, false, List, [], ◌∷◌, Option, None, Some, is_some, IsSome, IsTrue, count_by, length}
 use Rattle.sdd_store.specs.Table.{IsEmptyAt, IsFull, entry_at}
 use Rattle.sdd_base.specs.Whole.{taken}
 use Rattle.sdd_store.specs.declared.standing.Standing.{Standing}
 use Rattle.sdd_store.specs.declared.standing.Standing.TheVariants.{Owned, Raw, Shared, Retired, Private}
 use Rattle.sdd_store.specs.declared.standing.Cell.{Cell}
-use Rattle.sdd_base.specs.Holding.{Holding, owned, atomic_owned}
+use Rattle.sdd_base.specs.Holding.{Holding, owned, shared, atomic_owned, atomic_shared}
 use Rattle.sdd_base.specs.World.{World, HasPlace, standing_at}
-use Rattle.sdd_base.specs.Steps.{made, retired, nulled, cell_closed, opened, given, given_all, ended}
+use Rattle.sdd_base.specs.Steps.{made, made_shared, with_standing, retired, nulled, with_cell, without_cell, cell_closed, opened, given, given_all, ended}
 
 -- the slot's item has an owner, or is out as raw
 abbrev pub is_out : Option Standing → Bool
@@ -31,10 +31,12 @@ module _ {T : Type 0} where
   abbrev pub IsNullCell : World T → ℕ → Type 0
   IsNullCell w c = (cell : Cell) × (entry_at w.cells c ≡ Some cell) × (cell.held ≡ None)
 
-  -- what a value holds is out
+  -- what a value holds is out, and a shared item with no other owner
   abbrev pub IsOut : World T → Holding → Type 0
   IsOut w (owned k home) = standing_at w k ≡ Some Owned
+  IsOut w (shared k home) = standing_at w k ≡ Some (Shared 1)
   IsOut w (atomic_owned c home) = IsNullCell w c
+  IsOut w (atomic_shared c home) = IsNullCell w c
 
   -- each is, when p is given it after those before it
   abbrev pub AreOut : World T → ℕ → List Holding → Type 0
@@ -44,8 +46,13 @@ module _ {T : Type 0} where
 -- what puts something out, and what takes it back
 pub record OutLaws {T : Type 0} (holds : T → List Holding) (w : World T) : Type 0 where
   pub making : (k : ℕ) (value : T) → IsEmptyAt w.standings k → out (made w k value) ≡ out w + 1
+  pub making_shared : (k : ℕ) (value : T) → IsEmptyAt w.standings k → out (made_shared w k value) ≡ out w + 1
+  -- one owner more or fewer, of several
+  pub sharing : (k n m : ℕ) → standing_at w k ≡ Some (Shared n) → out (with_standing w k (Shared m)) ≡ out w
+  pub retiring : (p k : ℕ) → IsTrue (is_out (standing_at w k)) → out (retired w p k) + 1 ≡ out w
   pub nulling : (c : ℕ) → IsEmptyAt w.cells c → out (nulled w c) ≡ out w + 1
-  pub retiring : (p k : ℕ) → standing_at w k ≡ Some Owned → out (retired w p k) + 1 ≡ out w
+  pub filling : (c : ℕ) (cell : Cell) → IsSome (entry_at w.cells c) → out (with_cell w c cell) ≡ out w
+  pub freeing : (c : ℕ) → IsSome (entry_at w.cells c) → out (without_cell w c) + 1 ≡ out w
   pub closing : (p c : ℕ) → IsNullCell w c → out (cell_closed w p c) + 1 ≡ out w
   -- what a value gives up takes away what it holds
   pub giving : (p : ℕ) (hs : List Holding) → AreOut w p hs → out (given_all w p hs) + length hs ≡ out w

@@ -1,27 +1,45 @@
 -- What an owner and a cell name
-use Rattle.std.specs.Prelude.{ℕ}
+use Rattle.std.specs.Prelude.{ℕ, ◌≡◌, IfSome, Option, option_map}
+use Rattle.sdd_core.specs.declared.tag.Tag.{Tag}
 use Rattle.sdd_token.specs.Units as token
 use Rattle.sdd_token.specs.Right.{number_of, home_of}
+use Rattle.sdd_token.specs.declared.right.Right.{Right}
 use Rattle.sdd_base.specs.declared.owned.Owned.{Owned}
 use Rattle.sdd_base.specs.declared.atomic_owned.AtomicOwned.{AtomicOwned}
+use Rattle.sdd_store.specs.declared.standing.Cell.{Cell}
 use Rattle.sdd_base.specs.Holding.{Holding, owned, atomic_owned}
 
--- the slot of an owner's item, and where slots are numbered
-abbrev pub slot_of : {T : Type 0} → Owned T → ℕ
-slot_of o = number_of o.right
+module _ {T : Type 0} where
+  abbrev pub right_of : Owned T → Right
+  right_of o = o.right.right
 
-abbrev pub slots_home : {T : Type 0} → Owned T → token.Home
-slots_home o = home_of o.right
+  -- the slot of an owner's item, and where slots are numbered
+  abbrev pub slot_of : Owned T → ℕ
+  slot_of o = number_of (right_of o)
 
-abbrev pub holding_of : {T : Type 0} → Owned T → Holding
-holding_of o = owned (slot_of o) (slots_home o)
+  abbrev pub slots_home : Owned T → token.Home
+  slots_home o = home_of (right_of o)
 
--- the number of a cell, and where cells are numbered
-abbrev pub cell_of : {T : Type 0} → AtomicOwned T → ℕ
-cell_of c = number_of c.right
+  abbrev pub holding_of : Owned T → Holding
+  holding_of o = owned (slot_of o) (slots_home o)
 
-abbrev pub cells_home : {T : Type 0} → AtomicOwned T → token.Home
-cells_home c = home_of c.right
+  -- an owner, if there is one, is of these slots
+  abbrev pub IsOfSlots : token.Home → Option (Owned T) → Type 0
+  IsOfSlots home o = IfSome o (λ owner. slots_home owner ≡ home)
 
-abbrev pub cell_holding : {T : Type 0} → AtomicOwned T → Holding
-cell_holding c = atomic_owned (cell_of c) (cells_home c)
+  -- a cell with this owner, and this tag
+  abbrev pub cell_with : Option (Owned T) → Tag → Cell
+  cell_with o tag = record { held = option_map slot_of o; tag = tag }
+
+  abbrev pub cell_right : AtomicOwned T → Right
+  cell_right c = c.right.right
+
+  -- the number of a cell, and where cells are numbered
+  abbrev pub cell_of : AtomicOwned T → ℕ
+  cell_of c = number_of (cell_right c)
+
+  abbrev pub cells_home : AtomicOwned T → token.Home
+  cells_home c = home_of (cell_right c)
+
+  abbrev pub cell_holding : AtomicOwned T → Holding
+  cell_holding c = atomic_owned (cell_of c) (cells_home c)

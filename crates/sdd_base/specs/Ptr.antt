@@ -4,6 +4,7 @@ use Rattle.std.specs.Option.{option_eq}
 use Rattle.std.specs.Ordering.{on, eq_of_both}
 use Rattle.sdd_core.specs.declared.tag.Tag.{Tag}
 use Rattle.sdd_core.specs.Tag.{number_of}
+use Rattle.sdd_store.specs.declared.standing.Cell.{Cell}
 use Rattle.sdd_base.specs.declared.ptr.Ptr.{Ptr}
 
 module _ {T : Type 0} where
@@ -25,6 +26,15 @@ module _ {T : Type 0} where
   -- they name one slot, or none, and have one tag
   abbrev pub are_equal : Ptr T → Ptr T → Bool
   are_equal = eq_of_both (on slot_named (option_eq ◌==◌)) (on (λ p. number_of (tag_of p)) ◌==◌)
+
+  -- what a cell holds that it was loaded from
+  abbrev pub cell_seen : Ptr T → Cell
+  cell_seen p = record { held = slot_named p; tag = tag_of p }
+
+  -- it shows the value that its slot shows, and null shows none
+  pub record IsShown (shows : ℕ → T → Type 0) (p : Ptr T) : Type 0 where
+    pub full : (k : ℕ) → slot_named p ≡ Some k → (value : T) × (shown_by p ≡ Some value) × shows k value
+    pub null : slot_named p ≡ None → shown_by p ≡ None
 
   -- each slot that showed a value shows it still
   abbrev pub KeepsShown : (ℕ → T → Type 0) → (ℕ → T → Type 0) → Type 0

@@ -1,5 +1,5 @@
 -- What each call does to a world
-use Rattle.std.specs.Prelude.{ℕ, List, [], ◌∷◌, Option, Some, None, slice_set, if◌then◌else◌}
+use Rattle.std.specs.Prelude.{ℕ, ◌-◌, List, [], ◌∷◌, Option, Some, None, nat_lt, slice_set, if◌then◌else◌}
 use Rattle.sdd_core.specs.declared.tag.Tag.TheVariants.{None as no_tag}
 use Rattle.sdd_store.specs.Waiting.{What}
 use Rattle.sdd_store.specs.Waiting.What.{Item, Private, Job}
@@ -9,7 +9,7 @@ use Rattle.sdd_store.specs.Tally.{one_made, one_reclaimed}
 use Rattle.sdd_store.specs.declared.standing.Standing.{Standing}
 use Rattle.sdd_store.specs.declared.standing.Standing.TheVariants.{Owned, Raw, Shared, Retired, Private as privately}
 use Rattle.sdd_store.specs.declared.standing.Cell.{Cell}
-use Rattle.sdd_base.specs.Holding.{Holding, owned, atomic_owned}
+use Rattle.sdd_base.specs.Holding.{Holding, owned, shared, atomic_owned, atomic_shared}
 use Rattle.sdd_base.specs.World.{World, place_at, standing_at, value_at}
 
 -- what a cell holds, if one is there
@@ -18,24 +18,45 @@ held_in None = None
 held_in (Some cell) = cell.held
 
 module _ {T : Type 0} where
-  -- some slot that was free has the value, out as owned
+  -- some slot that was free has the value, which stands so
+  abbrev pub made_as : World T → ℕ → T → Standing → World T
+  made_as w k value s =
+      record w { standings = with_entry w.standings k s; values = slice_set w.values k (Some value); tally = one_made w.tally }
+
+  -- it is out as owned
   abbrev pub made : World T → ℕ → T → World T
-  made w k value = record w { standings = with_entry w.standings k Owned; values = slice_set w.values k (Some value); tally = one_made w.tally }
+  made w k value = made_as w k value Owned
+
+  -- it is out with one owner, and may have more
+  abbrev pub made_shared : World T → ℕ → T → World T
+  made_shared w k value = made_as w k value (Shared 1)
+
+  -- the item in the slot stands so
+  abbrev pub with_standing : World T → ℕ → Standing → World T
+  with_standing w k s = record w { standings = with_entry w.standings k s }
 
   -- the item in the slot waits with p
   abbrev pub retired : World T → ℕ → ℕ → World T
   retired w p k = record w { time = time.awaiting_at w.time p (Item k); standings = with_entry w.standings k Retired }
 
+  -- a cell that was free, or held something, holds this
+  abbrev pub with_cell : World T → ℕ → Cell → World T
+  with_cell w c cell = record w { cells = with_entry w.cells c cell }
+
   -- some cell that was free holds nothing
   abbrev pub nulled : World T → ℕ → World T
-  nulled w c = record w { cells = with_entry w.cells c (record { held = None; tag = no_tag }) }
+  nulled w c = with_cell w c (record { held = None; tag = no_tag })
 
-  -- p is given the owner of the slot's item, which stands so: an item that is out as owned is retired
+  -- the cell is free
+  abbrev pub without_cell : World T → ℕ → World T
+  without_cell w c = record w { cells = without_entry w.cells c }
+
+  -- p is given an owner of the slot's item, which stands so: the last owner's item is retired
   abbrev pub owner_given : World T → ℕ → ℕ → Option Standing → World T
   owner_given w p k None = w
   owner_given w p k (Some Owned) = retired w p k
   owner_given w p k (Some Raw) = w
-  owner_given w p k (Some (Shared n)) = w
+  owner_given w p k (Some (Shared n)) = if nat_lt 1 n then with_standing w k (Shared (n - 1)) else retired w p k
   owner_given w p k (Some Retired) = w
   owner_given w p k (Some (privately c)) = w
 
@@ -44,14 +65,16 @@ module _ {T : Type 0} where
   spilled w p None = w
   spilled w p (Some k) = owner_given w p k (standing_at w k)
 
-  -- the cell is free, and p retires what it held
+  -- the cell is free, and p is given what it held
   abbrev pub cell_closed : World T → ℕ → ℕ → World T
-  cell_closed w p c = spilled (record w { cells = without_entry w.cells c }) p (held_in (entry_at w.cells c))
+  cell_closed w p c = spilled (without_cell w c) p (held_in (entry_at w.cells c))
 
   -- p is given one of the things that a value held
   abbrev pub given : World T → ℕ → Holding → World T
   given w p (owned k home) = owner_given w p k (standing_at w k)
+  given w p (shared k home) = owner_given w p k (standing_at w k)
   given w p (atomic_owned c home) = cell_closed w p c
+  given w p (atomic_shared c home) = cell_closed w p c
 
   abbrev pub given_all : World T → ℕ → List Holding → World T
   given_all w p [] = w

@@ -1,7 +1,7 @@
 -- What can't go while a guard is open
 use Rattle.std.specs.Prelude.{ℕ, ◌+◌, ◌-◌, ◌≤◌, ◌≡◌, ◌⊎◌, IsTrue, List, Some, min}
 use Rattle.sdd_store.specs.Time.{is_open}
-use Rattle.sdd_store.specs.declared.standing.Standing.TheVariants.{Owned, Retired}
+use Rattle.sdd_store.specs.declared.standing.Standing.TheVariants.{Retired}
 use Rattle.sdd_base.specs.Holding.{Holding}
 use Rattle.sdd_base.specs.World.{World, place_at, standing_at, value_at, IsPlaceOf}
 use Rattle.sdd_base.specs.Steps.{retired}
@@ -39,7 +39,7 @@ module _ {T : Type 0} (holds : T → List Holding) where
 
   -- the law: an item that is retired while a guard of p is open waits in its slot, with its value, as long as that guard is, and can't go
   abbrev pub KeepsUnderGuards : World T → Type 0
-  KeepsUnderGuards w = (p q k : ℕ) → IsTrue (is_open (place_at w p)) → IsPlaceOf w q → standing_at w k ≡ Some Owned →
+  KeepsUnderGuards w = (p q k : ℕ) → IsTrue (is_open (place_at w p)) → IsPlaceOf w q → IsTrue (is_out (standing_at w k)) →
       (new : World T) → CallsUnder p (retired w q k) new → IsUnder new p k × (value_at new k ≡ value_at w k)
 
   -- the same of every item that has seen no change of its holder yet, as each one when it begins to wait: retired by its owner, or given up by a value

@@ -1,46 +1,120 @@
-ghost use Rattle.std.specs.Prelude.{◌≡◌, IfOk, MatchResult};
-ghost use Rattle.sdd_base.specs.World.{World};
+ghost use Rattle.std.specs.Prelude.{ℕ, ◌≡◌, ◌≢◌, ◌+◌, ◌^◌, ◌<◌, ◌⊎◌, ◌↔◌, IfErr, IfOk, IfSome, IsOk, IsSome, IsTrue, MatchOption, MatchResult, None, Some, if◌then◌else◌, option_map};
+ghost use Rattle.sdd_token.specs.Right.{kind_of};
+ghost use Rattle.sdd_slots.specs.Slots.{IsSharedBy};
+ghost use Rattle.sdd_base.specs.Holding.{AreOf};
+ghost use Rattle.sdd_base.specs.World.{World, standing_at};
 ghost use Rattle.sdd_base.specs.Seat.{IsSeated, IsExact};
 ghost use Rattle.sdd_base.specs.Known.{KnowsOn};
 ghost use Rattle.sdd_base.specs.Own.{IsSpilled};
-ghost use Rattle.sdd_base.specs.Ptr.{KeepsShown};
-ghost use Rattle.sdd_base.specs.Steps.{nulled, cell_closed};
-ghost use Rattle.sdd_base.specs.Owned.{cell_of, cells_home};
-ghost use Rattle.sdd_store.specs.Table.{IsEmptyAt, IsFull};
+ghost use Rattle.sdd_base.specs.Ptr.{KeepsShown, IsShown, cell_seen, slot_named, shown_by, tag_of};
+ghost use Rattle.sdd_base.specs.RawPtr as raw;
+ghost use Rattle.sdd_base.specs.Guard.{reader_of};
+ghost use Rattle.sdd_base.specs.Steps.{made, nulled, with_cell, without_cell, with_standing, cell_closed};
+ghost use Rattle.sdd_base.specs.Owned.{right_of, slot_of, slots_home, cell_right, cell_of, cells_home, cell_with, IsOfSlots};
+ghost use Rattle.sdd_core.specs.declared.tag.Tag.TheVariants.{None as no_tag};
+ghost use Rattle.sdd_store.specs.Table.{IsEmptyAt, IsFull, entry_at};
 
+use crate::guard::Guard;
 use crate::item::Item;
+use crate::owned::Owned;
+use crate::ptr::Ptr;
+use crate::raw_ptr::RawPtr;
 use crate::space::Space;
-use sdd_core::Refused;
-use sdd_token::Right;
+use sdd_core::{Refused, Tag};
+use sdd_store::{Cell, Standing};
+use sdd_token::{Kind, Right, Sole};
 use std::marker::PhantomData;
+
+/// An owner, if there is one, and a pointer.
+pub type OwnedPtrPair<'g, T> = (Option<Owned<T>>, Ptr<'g, T>);
 
 /// A cell that holds an owner, or nothing, and a tag.
 ///
-/// It must be spent: by `close`, or given into a value.
+/// It must be spent: by `close`, by `into_owned`, or given into a value.
 pub struct AtomicOwned<T> {
-    right: Right,
+    right: Sole,
     of: PhantomData<T>,
 }
 
+const _: () = prove!(size_of::<AtomicOwned<u64>>() == 4);
+
 impl<T> AtomicOwned<T> {
     pub(crate) fn of_right(right: Right) -> AtomicOwned<T>
-        ensures { result.right ≡ right }
+        requires { kind_of right ≡ Kind.Owned }
+        ensures { cell_right result ≡ right }
     {
         AtomicOwned {
-            right,
+            right: Sole::of(right),
             of: PhantomData,
         }
     }
 
     pub(crate) fn into_right(self) -> Right
-        ensures { result ≡ self.right }
+        ensures right { result ≡ cell_right self }
+        ensures kind { kind_of result ≡ Kind.Owned }
     {
         let AtomicOwned { right, of: _ } = self;
-        right
+        right.into_right()
+    }
+
+    pub(crate) fn right(&self) -> &Right
+        ensures right { result.now ≡ cell_right self.now }
+        ensures kind { kind_of result.now ≡ Kind.Owned }
+    {
+        self.right.right()
     }
 }
 
 impl<T: Item<T>> AtomicOwned<T> {
+    /// A cell that holds the owner of a new item, with tag None.
+    ///
+    /// `NoSlot` where no slot is free, else `NoCell` where no cell is; the value comes back.
+    pub fn new<S: Space<T>>(value: T, s: &mut S) -> Result<AtomicOwned<T>, (T, Refused)>
+        requires seated { IsSeated (S.seat s.old) }
+        requires home { AreOf (S.seat s.old).home (T.holds value) }
+        ensures seat { S.seat s.new ≡ S.seat s.old }
+        ensures own { S.own s.new ≡ S.own s.old }
+        ensures known { KnowsOn (S.known s.old) (S.known s.new) }
+        ensures home { IfOk result (λ cell. cells_home cell ≡ (S.seat s.old).home.cells) }
+        ensures exact { IsExact (S.seat s.old) → MatchResult result
+            (λ cell. (slot : ℕ) × IsEmptyAt (S.world s.old).standings slot × IsEmptyAt (S.world s.old).cells (cell_of cell) ×
+            (S.world s.new ≡ with_cell (made (S.world s.old) slot value) (cell_of cell) (record { held = Some slot; tag = no_tag })))
+            (λ e. (IsFull (S.world s.old).standings × (e ≡ (value, Refused.NoSlot)) ⊎
+            ¬ (IsFull (S.world s.old).standings) × IsFull (S.world s.old).cells × (e ≡ (value, Refused.NoCell))) × (S.world s.new ≡ S.world s.old)) }
+        ensures keeps { KeepsShown (S.shows s.old) (S.shows s.new) }
+    {
+        Ok(AtomicOwned::of_right(s.make_in_cell(value, Kind::Owned)?))
+    }
+
+    /// A cell that holds this owner, with tag None.
+    ///
+    /// `NoCell` where no cell is free; the owner comes back.
+    pub fn from<S: Space<T>>(
+        owner: Owned<T>,
+        s: &mut S,
+    ) -> Result<AtomicOwned<T>, (Owned<T>, Refused)>
+        requires seated { IsSeated (S.seat s.old) }
+        requires home { slots_home owner ≡ (S.seat s.old).home.slots }
+        ensures seat { S.seat s.new ≡ S.seat s.old }
+        ensures own { S.own s.new ≡ S.own s.old }
+        ensures known { KnowsOn (S.known s.old) (S.known s.new) }
+        ensures home { IfOk result (λ cell. cells_home cell ≡ (S.seat s.old).home.cells) }
+        ensures back { IfErr result (λ e. right_of e.0 ≡ right_of owner) }
+        ensures exact { IsExact (S.seat s.old) → MatchResult result
+            (λ cell. IsEmptyAt (S.world s.old).cells (cell_of cell) ×
+            (S.world s.new ≡ with_cell (S.world s.old) (cell_of cell) (cell_with (Some owner) no_tag)))
+            (λ e. IsFull (S.world s.old).cells × (e.1 ≡ Refused.NoCell) × (S.world s.new ≡ S.world s.old)) }
+        ensures keeps { KeepsShown (S.shows s.old) (S.shows s.new) }
+    {
+        match s.make_cell(Some(owner.into_right()), Tag::None, Kind::Owned) {
+            Ok(cell) => Ok(AtomicOwned::of_right(cell)),
+            Err((held, refused)) => match held {
+                Some(right) => Err((Owned::of_right(right), refused)),
+                None => unreachable!(),
+            },
+        }
+    }
+
     /// A cell that holds nothing.
     ///
     /// `NoCell` where no cell is free.
@@ -55,7 +129,182 @@ impl<T: Item<T>> AtomicOwned<T> {
             (λ e. IsFull (S.world s.old).cells × (e ≡ Refused.NoCell) × (S.world s.new ≡ S.world s.old)) }
         ensures keeps { KeepsShown (S.shows s.old) (S.shows s.new) }
     {
-        s.make_cell()
+        match s.make_cell(None, Tag::None, Kind::Owned) {
+            Ok(cell) => Ok(AtomicOwned::of_right(cell)),
+            Err((held, refused)) => match held {
+                None => Err(refused),
+                Some(_) => unreachable!(),
+            },
+        }
+    }
+
+    /// The cell holds nothing.
+    pub fn is_null<S: Space<T>>(&self, s: &mut S) -> bool
+        requires seated { IsSeated (S.seat s.old) }
+        requires home { cells_home self.now ≡ (S.seat s.old).home.cells }
+        ensures seat { S.seat s.new ≡ S.seat s.old }
+        ensures own { S.own s.new ≡ S.own s.old }
+        ensures known { KnowsOn (S.known s.old) (S.known s.new) }
+        ensures exact { IsExact (S.seat s.old) → (S.world s.new ≡ S.world s.old) ×
+            ((cell : Cell) × (entry_at (S.world s.old).cells (cell_of self.now) ≡ Some cell) × (IsTrue result ↔ (cell.held ≡ None))) }
+        ensures keeps { KeepsShown (S.shows s.old) (S.shows s.new) }
+    {
+        s.cell(self.right()).held.is_none()
+    }
+
+    /// The cell's tag.
+    pub fn tag<S: Space<T>>(&self, s: &mut S) -> Tag
+        requires seated { IsSeated (S.seat s.old) }
+        requires home { cells_home self.now ≡ (S.seat s.old).home.cells }
+        ensures seat { S.seat s.new ≡ S.seat s.old }
+        ensures own { S.own s.new ≡ S.own s.old }
+        ensures known { KnowsOn (S.known s.old) (S.known s.new) }
+        ensures exact { IsExact (S.seat s.old) → (S.world s.new ≡ S.world s.old) ×
+            ((cell : Cell) × (entry_at (S.world s.old).cells (cell_of self.now) ≡ Some cell) × (result ≡ cell.tag)) }
+        ensures keeps { KeepsShown (S.shows s.old) (S.shows s.new) }
+    {
+        s.cell(self.right()).tag
+    }
+
+    /// A pointer to the item that the cell holds, with the cell's tag. It shows the item's value for as long as the guard is borrowed, whatever becomes of
+    /// the cell and the item. The guard is one of the participant that calls.
+    pub fn load<'g, S: Space<T>>(&self, guard: &'g Guard, s: &mut S) -> Ptr<'g, T>
+        requires seated { IsSeated (S.seat s.old) }
+        requires home { cells_home self.now ≡ (S.seat s.old).home.cells }
+        requires reader { reader_of guard.now ≡ (S.seat s.old).reader }
+        ensures seat { S.seat s.new ≡ S.seat s.old }
+        ensures own { S.own s.new ≡ S.own s.old }
+        ensures known { KnowsOn (S.known s.old) (S.known s.new) }
+        ensures shown { IsShown (S.shows s.new) result }
+        ensures exact { IsExact (S.seat s.old) → (entry_at (S.world s.old).cells (cell_of self.now) ≡ Some (cell_seen result)) × (S.world s.new ≡ S.world s.old) }
+        ensures keeps { KeepsShown (S.shows s.old) (S.shows s.new) }
+    {
+        s.load(self.right(), guard)
+    }
+
+    /// The cell holds this owner, or nothing, with this tag. Answers what it held, and the tag before.
+    pub fn swap<S: Space<T>>(
+        &self,
+        next: (Option<Owned<T>>, Tag),
+        s: &mut S,
+    ) -> (Option<Owned<T>>, Tag)
+        requires seated { IsSeated (S.seat s.old) }
+        requires home { cells_home self.now ≡ (S.seat s.old).home.cells }
+        requires owner { IsOfSlots (S.seat s.old).home.slots next.0 }
+        ensures seat { S.seat s.new ≡ S.seat s.old }
+        ensures own { S.own s.new ≡ S.own s.old }
+        ensures known { KnowsOn (S.known s.old) (S.known s.new) }
+        ensures owner { IsOfSlots (S.seat s.old).home.slots result.0 }
+        ensures exact { IsExact (S.seat s.old) → (entry_at (S.world s.old).cells (cell_of self.now) ≡ Some (cell_with result.0 result.1)) ×
+            (S.world s.new ≡ with_cell (S.world s.old) (cell_of self.now) (cell_with next.0 next.1)) }
+        ensures keeps { KeepsShown (S.shows s.old) (S.shows s.new) }
+    {
+        let (owner, tag) = next;
+        let (old, old_tag) = s.swap(self.right(), Owned::into_held(owner), tag);
+        (Owned::of_held(old), old_tag)
+    }
+
+    /// Sets the tag, if the condition holds of what the cell holds, and answers whether it did. In a world the condition is asked once.
+    pub fn update_tag_if<S: Space<T>, F: FnMut(RawPtr<T>) -> bool>(
+        &self,
+        tag: Tag,
+        condition: F,
+        s: &mut S,
+    ) -> Result<bool, Refused>
+        requires seated { IsSeated (S.seat s.old) }
+        requires home { cells_home self.now ≡ (S.seat s.old).home.cells }
+        requires callable { F.IsAlwaysCallable condition }
+        ensures seat { S.seat s.new ≡ S.seat s.old }
+        ensures own { S.own s.new ≡ S.own s.old }
+        ensures known { KnowsOn (S.known s.old) (S.known s.new) }
+        ensures exact { IsExact (S.seat s.old) → IsOk result × IfOk result (λ changed. (ptr : RawPtr T) ×
+            (entry_at (S.world s.old).cells (cell_of self.now) ≡ Some (raw.cell_seen ptr)) × F.post condition ptr changed ×
+            (S.world s.new ≡ (if changed then with_cell (S.world s.old) (cell_of self.now) (record (raw.cell_seen ptr) { tag = tag }) else S.world s.old))) }
+        ensures keeps { KeepsShown (S.shows s.old) (S.shows s.new) }
+    {
+        s.set_tag_if(self.right(), tag, condition)
+    }
+
+    /// The cell holds this owner, or nothing, with this tag, if it held the item that the pointer names, or nothing where it is null, with the pointer's tag.
+    /// Then what it held comes back, with a pointer to what it holds now; else the owner handed in, with a pointer to what it holds.
+    pub fn compare_exchange<'g, S: Space<T>>(
+        &self,
+        current: Ptr<'g, T>,
+        next: (Option<Owned<T>>, Tag),
+        guard: &'g Guard,
+        s: &mut S,
+    ) -> Result<OwnedPtrPair<'g, T>, OwnedPtrPair<'g, T>>
+        requires seated { IsSeated (S.seat s.old) }
+        requires home { cells_home self.now ≡ (S.seat s.old).home.cells }
+        requires owner { IsOfSlots (S.seat s.old).home.slots next.0 }
+        requires reader { reader_of guard.now ≡ (S.seat s.old).reader }
+        ensures seat { S.seat s.new ≡ S.seat s.old }
+        ensures own { S.own s.new ≡ S.own s.old }
+        ensures known { KnowsOn (S.known s.old) (S.known s.new) }
+        ensures owner { IfOk result (λ o. IsOfSlots (S.seat s.old).home.slots o.0) }
+        ensures old { IfOk result (λ o. option_map slot_of o.0 ≡ slot_named current.entry) }
+        ensures now { IfOk result (λ o. cell_seen o.1 ≡ cell_with next.0 next.1) }
+        ensures back { IfErr result (λ e. option_map right_of e.0 ≡ option_map right_of next.0) }
+        ensures shown { MatchResult result (λ o. IsShown (S.shows s.new) o.1) (λ e. IsShown (S.shows s.new) e.1) }
+        ensures exact { IsExact (S.seat s.old) → MatchResult result
+            (λ _. (entry_at (S.world s.old).cells (cell_of self.now) ≡ Some (cell_seen current.entry)) ×
+            (S.world s.new ≡ with_cell (S.world s.old) (cell_of self.now) (cell_with next.0 next.1)))
+            (λ e. (entry_at (S.world s.old).cells (cell_of self.now) ≡ Some (cell_seen e.1)) × (cell_seen e.1 ≢ cell_seen current.entry) × (S.world s.new ≡ S.world s.old)) }
+        ensures keeps { KeepsShown (S.shows s.old) (S.shows s.new) }
+    {
+        let (owner, tag) = next;
+        let expected = Cell {
+            held: current.slot(),
+            tag: current.tag(),
+        };
+        match s.exchange(self.right(), expected, Owned::into_held(owner), tag, guard) {
+            Ok((old, ptr)) => Ok((Owned::of_held(old), ptr)),
+            Err((back, ptr)) => Err((Owned::of_held(back), ptr)),
+        }
+    }
+
+    /// The same as `compare_exchange`: it never fails where the pointers are equal.
+    pub fn compare_exchange_weak<'g, S: Space<T>>(
+        &self,
+        current: Ptr<'g, T>,
+        next: (Option<Owned<T>>, Tag),
+        guard: &'g Guard,
+        s: &mut S,
+    ) -> Result<OwnedPtrPair<'g, T>, OwnedPtrPair<'g, T>>
+        requires seated { IsSeated (S.seat s.old) }
+        requires home { cells_home self.now ≡ (S.seat s.old).home.cells }
+        requires owner { IsOfSlots (S.seat s.old).home.slots next.0 }
+        requires reader { reader_of guard.now ≡ (S.seat s.old).reader }
+        ensures seat { S.seat s.new ≡ S.seat s.old }
+        ensures own { S.own s.new ≡ S.own s.old }
+        ensures known { KnowsOn (S.known s.old) (S.known s.new) }
+        ensures owner { IfOk result (λ o. IsOfSlots (S.seat s.old).home.slots o.0) }
+        ensures old { IfOk result (λ o. option_map slot_of o.0 ≡ slot_named current.entry) }
+        ensures now { IfOk result (λ o. cell_seen o.1 ≡ cell_with next.0 next.1) }
+        ensures back { IfErr result (λ e. option_map right_of e.0 ≡ option_map right_of next.0) }
+        ensures shown { MatchResult result (λ o. IsShown (S.shows s.new) o.1) (λ e. IsShown (S.shows s.new) e.1) }
+        ensures exact { IsExact (S.seat s.old) → MatchResult result
+            (λ _. (entry_at (S.world s.old).cells (cell_of self.now) ≡ Some (cell_seen current.entry)) ×
+            (S.world s.new ≡ with_cell (S.world s.old) (cell_of self.now) (cell_with next.0 next.1)))
+            (λ e. (entry_at (S.world s.old).cells (cell_of self.now) ≡ Some (cell_seen e.1)) × (cell_seen e.1 ≢ cell_seen current.entry) × (S.world s.new ≡ S.world s.old)) }
+        ensures keeps { KeepsShown (S.shows s.old) (S.shows s.new) }
+    {
+        self.compare_exchange(current, next, guard, s)
+    }
+
+    /// Frees the cell. What it held comes back.
+    pub fn into_owned<S: Space<T>>(self, s: &mut S) -> Option<Owned<T>>
+        requires seated { IsSeated (S.seat s.old) }
+        requires home { cells_home self ≡ (S.seat s.old).home.cells }
+        ensures seat { S.seat s.new ≡ S.seat s.old }
+        ensures own { S.own s.new ≡ S.own s.old }
+        ensures known { KnowsOn (S.known s.old) (S.known s.new) }
+        ensures owner { IsOfSlots (S.seat s.old).home.slots result }
+        ensures exact { IsExact (S.seat s.old) → ((tag : Tag) × (entry_at (S.world s.old).cells (cell_of self) ≡ Some (cell_with result tag))) ×
+            (S.world s.new ≡ without_cell (S.world s.old) (cell_of self)) }
+        ensures keeps { KeepsShown (S.shows s.old) (S.shows s.new) }
+    {
+        Owned::of_held(s.take_cell(self.into_right()))
     }
 
     /// Frees the cell, and retires what it holds.
@@ -68,6 +317,8 @@ impl<T: Item<T>> AtomicOwned<T> {
         ensures exact { IsExact (S.seat s.old) → S.world s.new ≡ cell_closed (S.world s.old) (S.seat s.old).place (cell_of self) }
         ensures keeps { KeepsShown (S.shows s.old) (S.shows s.new) }
     {
-        s.close_cell(self);
+        if let Some(right) = s.take_cell(self.into_right()) {
+            let _ = s.let_go(right);
+        }
     }
 }

@@ -1,46 +1,85 @@
 //! What the spaces need beyond the public surface: an owner, a cell, a guard and a pointer as what they are made of.
-ghost use Rattle.std.specs.Prelude.{◌≡◌, Some, option_copied};
-ghost use Rattle.sdd_token.specs.Right.{number_of, home_of};
-ghost use Rattle.sdd_base.specs.Owned.{slot_of, slots_home, cell_of, cells_home};
+ghost use Rattle.std.specs.Prelude.{◌≡◌, None, Some, option_copied};
+ghost use Rattle.sdd_token.specs.Right.{kind_of};
+ghost use Rattle.sdd_base.specs.Owned.{slot_of, right_of, cell_right};
+ghost use Rattle.sdd_base.specs.Shared as shared;
+ghost use Rattle.sdd_base.specs.RawPtr as raw;
 ghost use Rattle.sdd_base.specs.Ptr.{slot_named, shown_by, tag_of};
 ghost use Rattle.sdd_base.specs.Guard.{reader_of, Reader};
 ghost use Rattle.sdd_core.specs.declared.tag.Tag.TheVariants.{None as no_tag};
 
 use crate::atomic_owned::AtomicOwned;
+use crate::atomic_shared::AtomicShared;
 use crate::guard::Guard;
 use crate::owned::Owned;
 use crate::ptr::Ptr;
+use crate::raw_ptr::RawPtr;
+use crate::shared::Shared;
+use sdd_core::Tag;
 use sdd_places::{Stage, Tenure};
-use sdd_token::Right;
+use sdd_store::Cell;
+use sdd_token::{Kind, Right};
 
-/// The owner that has a right to its slot.
+/// The owner whose right this is.
 pub fn owner_of<T>(right: Right) -> Owned<T>
-    ensures slot { slot_of result ≡ number_of right }
-    ensures home { slots_home result ≡ home_of right }
+    requires { kind_of right ≡ Kind.Owned }
+    ensures { right_of result ≡ right }
 {
     Owned::of_right(right)
 }
 
-/// The right that an owner has.
+/// The right of an owner.
 pub fn right_of_owner<T>(owner: Owned<T>) -> Right
-    ensures slot { number_of result ≡ slot_of owner }
-    ensures home { home_of result ≡ slots_home owner }
+    ensures right { result ≡ right_of owner }
+    ensures kind { kind_of result ≡ Kind.Owned }
+{
+    owner.into_right()
+}
+
+/// The shared owner whose right this is.
+pub fn shared_of<T>(right: Right) -> Shared<T>
+    requires { kind_of right ≡ Kind.Shared }
+    ensures { shared.right_of result ≡ right }
+{
+    Shared::of_right(right)
+}
+
+/// The right of a shared owner.
+pub fn right_of_shared<T>(owner: Shared<T>) -> Right
+    ensures right { result ≡ shared.right_of owner }
+    ensures kind { kind_of result ≡ Kind.Shared }
 {
     owner.into_right()
 }
 
 /// The cell whose right this is.
 pub fn cell_with<T>(right: Right) -> AtomicOwned<T>
-    ensures cell { cell_of result ≡ number_of right }
-    ensures home { cells_home result ≡ home_of right }
+    requires { kind_of right ≡ Kind.Owned }
+    ensures { cell_right result ≡ right }
 {
     AtomicOwned::of_right(right)
 }
 
-/// The right to a cell.
+/// The right of a cell.
 pub fn right_of_cell<T>(cell: AtomicOwned<T>) -> Right
-    ensures cell { number_of result ≡ cell_of cell }
-    ensures home { home_of result ≡ cells_home cell }
+    ensures right { result ≡ cell_right cell }
+    ensures kind { kind_of result ≡ Kind.Owned }
+{
+    cell.into_right()
+}
+
+/// The cell of shared owners whose right this is.
+pub fn shared_cell_with<T>(right: Right) -> AtomicShared<T>
+    requires { kind_of right ≡ Kind.Shared }
+    ensures { shared.cell_right result ≡ right }
+{
+    AtomicShared::of_right(right)
+}
+
+/// The right of a cell of shared owners.
+pub fn right_of_shared_cell<T>(cell: AtomicShared<T>) -> Right
+    ensures right { result ≡ shared.cell_right cell }
+    ensures kind { kind_of result ≡ Kind.Shared }
 {
     cell.into_right()
 }
@@ -64,6 +103,22 @@ pub fn slot_of_owner<T>(owner: &Owned<T>) -> u32
     ensures { result ≡ slot_of owner.now }
 {
     owner.slot()
+}
+
+/// A null pointer with a tag.
+pub fn null_with<'g, T>(tag: Tag) -> Ptr<'g, T>
+    ensures slot { slot_named result ≡ None }
+    ensures shown { shown_by result ≡ None }
+    ensures tag { tag_of result ≡ tag }
+{
+    Ptr::null().with_tag(tag)
+}
+
+/// A raw pointer to what a cell holds.
+pub fn raw_ptr_to<T>(cell: Cell) -> RawPtr<T>
+    ensures { raw.cell_seen result ≡ cell }
+{
+    RawPtr::of(cell.held, cell.tag)
 }
 
 /// A pointer to the item in a slot that shows this value.

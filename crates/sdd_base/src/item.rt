@@ -7,11 +7,14 @@ ghost use Rattle.sdd_base.specs.Seat.{Seat, IsSeated, IsExact};
 ghost use Rattle.sdd_base.specs.Own.{GrowsOn};
 ghost use Rattle.sdd_base.specs.Steps.{given, given_all};
 ghost use Rattle.sdd_base.specs.Owned.{slots_home, cells_home, holding_of, cell_holding};
+ghost use Rattle.sdd_base.specs.Shared as shared;
 
 use crate::atomic_owned::AtomicOwned;
+use crate::atomic_shared::AtomicShared;
 use crate::owned::Owned;
+use crate::shared::Shared;
 
-/// Takes what a value gives up: each owner among it is retired at that moment, by the participant that reclaims the value.
+/// Takes what a value gives up: each last owner among it is retired at that moment, by the participant that reclaims the value.
 pub trait Giver<I> {
     /// What the calls change.
     ghost world: { Self → World I };
@@ -31,6 +34,15 @@ pub trait Giver<I> {
         ensures lending { lending self.new ≡ lending self.old }
         ensures exact { IsExact (seat self.old) → world self.new ≡ given (world self.old) (seat self.old).place (holding_of owner) };
 
+    /// Gives a shared owner up; the last one's item is retired.
+    fn shared(&mut self, owner: Shared<I>)
+        requires seated { IsSeated (seat self.old) }
+        requires home { shared.slots_home owner ≡ (seat self.old).home.slots }
+        ensures seat { seat self.new ≡ seat self.old }
+        ensures own { GrowsOn (own self.old) (own self.new) }
+        ensures lending { lending self.new ≡ lending self.old }
+        ensures exact { IsExact (seat self.old) → world self.new ≡ given (world self.old) (seat self.old).place (shared.holding_of owner) };
+
     /// Frees the cell, and retires what it held.
     fn atomic_owned(&mut self, cell: AtomicOwned<I>)
         requires seated { IsSeated (seat self.old) }
@@ -39,6 +51,15 @@ pub trait Giver<I> {
         ensures own { GrowsOn (own self.old) (own self.new) }
         ensures lending { lending self.new ≡ lending self.old }
         ensures exact { IsExact (seat self.old) → world self.new ≡ given (world self.old) (seat self.old).place (cell_holding cell) };
+
+    /// Frees the cell, and gives up what it held.
+    fn atomic_shared(&mut self, cell: AtomicShared<I>)
+        requires seated { IsSeated (seat self.old) }
+        requires home { shared.cells_home cell ≡ (seat self.old).home.cells }
+        ensures seat { seat self.new ≡ seat self.old }
+        ensures own { GrowsOn (own self.old) (own self.new) }
+        ensures lending { lending self.new ≡ lending self.old }
+        ensures exact { IsExact (seat self.old) → world self.new ≡ given (world self.old) (seat self.old).place (shared.cell_holding cell) };
 }
 
 /// A value that may hold owners and cells of a space of items `I`.

@@ -3,6 +3,7 @@
 #![tactic(auto)]
 
 pub mod atomic_owned;
+pub mod atomic_shared;
 pub mod guard;
 pub mod inner;
 pub mod item;
@@ -11,13 +12,18 @@ pub mod limits;
 pub mod look;
 pub mod owned;
 pub mod ptr;
+pub mod raw_ptr;
+pub mod shared;
 pub mod space;
 
-pub use atomic_owned::AtomicOwned;
+pub use atomic_owned::{AtomicOwned, OwnedPtrPair};
+pub use atomic_shared::{AtomicShared, SharedPtrPair};
 pub use guard::Guard;
 pub use item::{Giver, Item};
 pub use limits::Limits;
 pub use look::{Look, Shows};
 pub use owned::Owned;
 pub use ptr::Ptr;
+pub use raw_ptr::RawPtr;
+pub use shared::Shared;
 pub use space::{Guards, Space};

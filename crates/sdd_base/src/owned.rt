@@ -1,11 +1,11 @@
-ghost use Rattle.std.specs.Prelude.{◌≡◌, IfOk, IfSome, IsSome, MatchResult, Some, None, slice_index_or};
-ghost use Rattle.sdd_token.specs.Right.{number_of, home_of};
+ghost use Rattle.std.specs.Prelude.{◌≡◌, IfOk, IfSome, IsSome, MatchResult, Some, None, option_map};
+ghost use Rattle.sdd_token.specs.Right.{kind_of};
 ghost use Rattle.sdd_base.specs.Holding.{AreOf};
 ghost use Rattle.sdd_base.specs.World.{World, standing_at};
 ghost use Rattle.sdd_base.specs.Seat.{IsSeated, IsExact};
 ghost use Rattle.sdd_base.specs.Known.{KnowsOn};
 ghost use Rattle.sdd_base.specs.Steps.{made, retired};
-ghost use Rattle.sdd_base.specs.Owned.{slot_of, slots_home};
+ghost use Rattle.sdd_base.specs.Owned.{right_of, slot_of, slots_home};
 ghost use Rattle.sdd_core.specs.declared.tag.Tag.TheVariants.{None as no_tag};
 ghost use Rattle.sdd_base.specs.Ptr.{slot_named, shown_by, tag_of, KeepsShown};
 ghost use Rattle.sdd_base.specs.Guard.{reader_of};
@@ -20,14 +20,14 @@ use crate::ptr::Ptr;
 use crate::space::Space;
 use sdd_core::Refused;
 use sdd_store::Standing;
-use sdd_token::Right;
+use sdd_token::{Kind, Right, Sole};
 use std::marker::PhantomData;
 
 /// The one owner of an item.
 ///
-/// It must be spent: by `retire`, or given into a value. It may lie in a value of its own item type.
+/// It must be spent: by `retire`, or given into a cell or a value. It may lie in a value of its own item type.
 pub struct Owned<T> {
-    right: Right,
+    right: Sole,
     of: PhantomData<T>,
 }
 
@@ -35,25 +35,55 @@ const _: () = prove!(size_of::<Owned<u64>>() == 4);
 
 impl<T> Owned<T> {
     pub(crate) fn of_right(right: Right) -> Owned<T>
-        ensures { result.right ≡ right }
+        requires { kind_of right ≡ Kind.Owned }
+        ensures { right_of result ≡ right }
     {
         Owned {
-            right,
+            right: Sole::of(right),
             of: PhantomData,
         }
     }
 
     pub(crate) fn into_right(self) -> Right
-        ensures { result ≡ self.right }
+        ensures right { result ≡ right_of self }
+        ensures kind { kind_of result ≡ Kind.Owned }
     {
         let Owned { right, of: _ } = self;
-        right
+        right.into_right()
+    }
+
+    pub(crate) fn right(&self) -> &Right
+        ensures right { result.now ≡ right_of self.now }
+        ensures kind { kind_of result.now ≡ Kind.Owned }
+    {
+        self.right.right()
+    }
+
+    /// The owner that a cell held, if there is one.
+    pub(crate) fn of_held(held: Option<Right>) -> Option<Owned<T>>
+        requires { IfSome held (λ right. kind_of right ≡ Kind.Owned) }
+        ensures { option_map right_of result ≡ held }
+    {
+        match held {
+            Some(right) => Some(Owned::of_right(right)),
+            None => None,
+        }
+    }
+
+    pub(crate) fn into_held(owner: Option<Owned<T>>) -> Option<Right>
+        ensures right { result ≡ option_map right_of owner }
+        ensures kind { IfSome result (λ right. kind_of right ≡ Kind.Owned) }
+    {
+        match owner {
+            Some(owner) => Some(owner.into_right()),
+            None => None,
+        }
     }
 
     pub(crate) fn slot(&self) -> u32
         ensures { result ≡ slot_of self.now }
     {
-        self.right.number()
+        self.right().number()
     }
 
     /// The item's value. Its owner alone can look at it without a guard.
@@ -61,7 +91,7 @@ impl<T> Owned<T> {
         requires home { slots_home self.now ≡ (L.home at.now).slots }
         ensures shown { L.shows at.now (slot_of self.now) result.now }
     {
-        at.value(&self.right)
+        at.value(self.right())
     }
 }
 
@@ -78,7 +108,7 @@ impl<T: Item<T>> Owned<T> {
         ensures exact { IsExact (S.seat s.old) → S.world s.new ≡ S.world s.old }
         ensures keeps { KeepsShown (S.shows s.old) (S.shows s.new) }
     {
-        s.guarded(&self.right, guard)
+        s.guarded(self.right(), guard)
     }
 
     /// A pointer to the item, which shows its value for as long as the guard is borrowed, also after the item was retired. The guard is one of the
@@ -97,8 +127,8 @@ impl<T: Item<T>> Owned<T> {
         ensures exact { IsExact (S.seat s.old) → S.world s.new ≡ S.world s.old }
         ensures keeps { KeepsShown (S.shows s.old) (S.shows s.new) }
     {
-        let value = s.guarded(&self.right, guard);
-        Ptr::to(self.right.number(), value)
+        let value = s.guarded(self.right(), guard);
+        Ptr::to(self.slot(), value)
     }
 
     /// Puts a value into a free slot.
@@ -117,7 +147,7 @@ impl<T: Item<T>> Owned<T> {
             (λ e. IsFull (S.world s.old).standings × (e ≡ (value, Refused.NoSlot)) × (S.world s.new ≡ S.world s.old)) }
         ensures keeps { KeepsShown (S.shows s.old) (S.shows s.new) }
     {
-        s.make(value)
+        Ok(Owned::of_right(s.make(value, Kind::Owned)?))
     }
 
     /// Puts the value that `f` makes into a free slot.
@@ -141,7 +171,7 @@ impl<T: Item<T>> Owned<T> {
             (λ e. IsFull (S.world s.old).standings × (e ≡ (f, Refused.NoSlot)) × (S.world s.new ≡ S.world s.old)) }
         ensures keeps { KeepsShown (S.shows s.old) (S.shows s.new) }
     {
-        s.make_with(f)
+        Ok(Owned::of_right(s.make_with(f, Kind::Owned)?))
     }
 
     /// Retires the item: it waits with the calling participant, which reclaims it at its third later outermost opening that finds another epoch.
@@ -155,6 +185,6 @@ impl<T: Item<T>> Owned<T> {
         ensures exact { IsExact (S.seat s.old) → S.world s.new ≡ retired (S.world s.old) (S.seat s.old).place (slot_of self) }
         ensures keeps { KeepsShown (S.shows s.old) (S.shows s.new) }
     {
-        s.retire(self);
+        let _ = s.let_go(self.into_right());
     }
 }

@@ -1,7 +1,10 @@
 ghost use Rattle.std.specs.Prelude.{◌≡◌, ◌↔◌, IsSome, IsTrue};
 
+use crate::item::Item;
 use crate::look::Look;
-use sdd_core::Tag;
+use crate::shared::Shared;
+use crate::space::Space;
+use sdd_core::{Refused, Tag};
 use sdd_places::Sight;
 use std::alloc::AllocError;
 use std::fmt::{self, Debug, Formatter};
@@ -180,6 +183,43 @@ impl<'g, T> Ptr<'g, T> {
         ensures null { IsSome result ↔ ¬ (IsNull self.now) }
     {
         at.look(*self)
+    }
+}
+
+impl<'g, T: Item<T>> Ptr<'g, T> {
+    ghost use Rattle.std.specs.Prelude.{ℕ, ◌≡◌, ◌+◌, ◌^◌, ◌<◌, IfOk, IfSome, MatchOption, MatchResult, None, Some};
+    ghost use Rattle.sdd_slots.specs.Slots.{IsSharedBy, owners_of};
+    ghost use Rattle.sdd_store.specs.declared.standing.Standing.TheVariants.{Shared as shared_by};
+    ghost use Rattle.sdd_base.specs.World.{World, standing_at};
+    ghost use Rattle.sdd_base.specs.Seat.{IsSeated, IsExact};
+    ghost use Rattle.sdd_base.specs.Known.{KnowsOn};
+    ghost use Rattle.sdd_base.specs.Steps.{with_standing};
+    ghost use Rattle.sdd_base.specs.Shared.{IsOfSlots, slot_of};
+    ghost use Rattle.sdd_base.specs.Ptr.{KeepsShown, slot_named};
+
+    /// One owner more of the item, if it is shared: None for null, for an item with one owner that can't be shared, and after the last owner went.
+    ///
+    /// `TooManyOwners` where 2^62 own it, cells counted.
+    pub fn get_shared<S: Space<T>>(&self, s: &mut S) -> Result<Option<Shared<T>>, Refused>
+        requires seated { IsSeated (S.seat s.old) }
+        ensures seat { S.seat s.new ≡ S.seat s.old }
+        ensures own { S.own s.new ≡ S.own s.old }
+        ensures known { KnowsOn (S.known s.old) (S.known s.new) }
+        ensures owner { IfOk result (IsOfSlots (S.seat s.old).home.slots) }
+        ensures slot { IfOk result (λ o. IfSome o (λ owner. slot_named self.now ≡ Some (slot_of owner))) }
+        ensures exact { IsExact (S.seat s.old) → MatchResult result
+            (λ o. MatchOption o
+            ((S.world s.new ≡ S.world s.old) × IfSome (slot_named self.now) (λ slot. owners_of (standing_at (S.world s.old) slot) ≡ None))
+            (λ owner. (owners : ℕ) × IsSharedBy owners (standing_at (S.world s.old) (slot_of owner)) × (owners < 2 ^ 62) ×
+            (S.world s.new ≡ with_standing (S.world s.old) (slot_of owner) (shared_by (owners + 1)))))
+            (λ e. (e ≡ Refused.TooManyOwners) × (S.world s.new ≡ S.world s.old) ×
+            ((slot : ℕ) × (slot_named self.now ≡ Some slot) × IsSharedBy (2 ^ 62) (standing_at (S.world s.old) slot))) }
+        ensures keeps { KeepsShown (S.shows s.old) (S.shows s.new) }
+    {
+        let Some(slot) = self.slot() else {
+            return Ok(None);
+        };
+        Ok(Shared::of_held(s.upgrade(slot)?))
     }
 }
 

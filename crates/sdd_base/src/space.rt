@@ -1,28 +1,32 @@
-ghost use Rattle.std.specs.Prelude.{◌≡◌, ◌↔◌, ℕ, Bool, IfOk, IsSome, IsTrue, MatchResult, Some};
+ghost use Rattle.std.specs.Prelude.{◌≡◌, ◌≢◌, ◌+◌, ◌^◌, ◌<◌, ◌↔◌, ◌⊎◌, ℕ, Bool, IfErr, IfOk, IfSome, IsOk, IsSome, IsTrue, MatchOption, MatchResult, None, Some, if◌then◌else◌};
 ghost use Rattle.sdd_store.specs.Waiting.What.{Item};
 ghost use Rattle.sdd_store.specs.declared.time.Participant.{Participant};
 ghost use Rattle.sdd_store.specs.Time.{CanNest, has_garbage, is_open, with_garbage};
 ghost use Rattle.sdd_store.specs.Time as time;
-ghost use Rattle.sdd_store.specs.Table.{IsEmptyAt, IsFull};
+ghost use Rattle.sdd_store.specs.Table.{IsEmptyAt, IsFull, entry_at};
 ghost use Rattle.sdd_base.specs.Holding.{AreOf};
 ghost use Rattle.sdd_base.specs.World.{World, place_at, standing_at, value_at};
+ghost use Rattle.sdd_core.specs.declared.tag.Tag.TheVariants.{None as no_tag};
 ghost use Rattle.sdd_base.specs.Seat.{Seat, IsSeated, IsExact, IsLone, MayNest};
 ghost use Rattle.sdd_base.specs.Own.{IsOpened, IsClosed, IsSpilled};
 ghost use Rattle.sdd_base.specs.Known.{Known, KnowsOn, KnowsOpened, KnowsClosed, IsNear, IsRaisedBy};
-ghost use Rattle.sdd_token.specs.Right.{number_of, home_of};
+ghost use Rattle.sdd_token.specs.Kind.{IsOwner};
+ghost use Rattle.sdd_token.specs.Right.{number_of, home_of, kind_of};
+ghost use Rattle.sdd_slots.specs.Slots.{IsOwnedBy, IsSharedBy, first_standing, has_others, owners_of};
+ghost use Rattle.sdd_slots.specs.Cells.{MayHold, cell_with, slot_held};
 ghost use Rattle.sdd_base.specs.Guard.{reader_of};
-ghost use Rattle.sdd_base.specs.Ptr.{KeepsShown};
-ghost use Rattle.sdd_base.specs.Steps.{made, retired, nulled, cell_closed, opened, closed, stirred, accelerated};
-ghost use Rattle.sdd_base.specs.Owned.{slot_of, slots_home, cell_of, cells_home};
+ghost use Rattle.sdd_base.specs.Ptr.{KeepsShown, IsShown, slot_named, tag_of, cell_seen};
+ghost use Rattle.sdd_base.specs.RawPtr as raw;
+ghost use Rattle.sdd_base.specs.Steps.{made_as, with_standing, owner_given, with_cell, without_cell, opened, closed, stirred, accelerated};
 
-use crate::atomic_owned::AtomicOwned;
 use crate::guard::Guard;
 use crate::item::Item;
 use crate::look::{Look, Shows};
-use crate::owned::Owned;
-use sdd_core::Refused;
-use sdd_store::Standing;
-use sdd_token::Right;
+use crate::ptr::Ptr;
+use crate::raw_ptr::RawPtr;
+use sdd_core::{Refused, Tag};
+use sdd_store::{Cell, Standing};
+use sdd_token::{Kind, Right};
 
 /// The guards of one participant of a world or domain.
 pub trait Guards<T: Item<T>>: Shows<T> {
@@ -111,39 +115,46 @@ pub trait Guards<T: Item<T>>: Shows<T> {
 }
 
 /// A world or domain as one participant has it.
+///
+/// An owner is here the right that it has to its slot, and a cell the right that its owner has to it.
 pub trait Space<T: Item<T>>: Look<T> + Guards<T> {
     /// Only the caller's own calls change the space, so that what they do is said exactly.
     const ALONE: bool;
     /// The same truth, for clauses.
     ghost is_alone: { Bool };
 
-    /// Puts a value into a free slot.
-    fn make(&mut self, value: T) -> Result<Owned<T>, (T, Refused)>
+    /// Puts a value into a free slot, for an owner of this kind.
+    fn make(&mut self, value: T, kind: Kind) -> Result<Right, (T, Refused)>
         requires seated { IsSeated (Self.seat self.old) }
         requires home { AreOf (Self.seat self.old).home (T.holds value) }
+        requires owner { IsOwner kind }
         ensures seat { Self.seat self.new ≡ Self.seat self.old }
         ensures own { Self.own self.new ≡ Self.own self.old }
         ensures known { KnowsOn (Self.known self.old) (Self.known self.new) }
-        ensures home { IfOk result (λ owner. slots_home owner ≡ (Self.seat self.old).home.slots) }
-        ensures shown { IfOk result (λ owner. Self.shows self.new (slot_of owner) value) }
+        ensures home { IfOk result (λ right. home_of right ≡ (Self.seat self.old).home.slots) }
+        ensures kind { IfOk result (λ right. kind_of right ≡ kind) }
+        ensures shown { IfOk result (λ right. Self.shows self.new (number_of right) value) }
         ensures exact { IsExact (Self.seat self.old) → MatchResult result
-            (λ owner. IsEmptyAt (Self.world self.old).standings (slot_of owner) × (Self.world self.new ≡ made (Self.world self.old) (slot_of owner) value))
+            (λ right. IsEmptyAt (Self.world self.old).standings (number_of right) ×
+            (Self.world self.new ≡ made_as (Self.world self.old) (number_of right) value (first_standing kind)))
             (λ e. IsFull (Self.world self.old).standings × (e ≡ (value, Refused.NoSlot)) × (Self.world self.new ≡ Self.world self.old)) }
         ensures keeps { KeepsShown (Self.shows self.old) (Self.shows self.new) };
 
-    /// Makes a value and puts it into a free slot; where none is free it isn't made.
-    fn make_with<F: FnOnce() -> T>(&mut self, make: F) -> Result<Owned<T>, (F, Refused)>
+    /// Makes a value and puts it into a free slot, for an owner of this kind; where none is free it isn't made.
+    fn make_with<F: FnOnce() -> T>(&mut self, make: F, kind: Kind) -> Result<Right, (F, Refused)>
         requires seated { IsSeated (Self.seat self.old) }
         requires callable { F.pre make }
         requires home { (value : T) → F.post make value → AreOf (Self.seat self.old).home (T.holds value) }
+        requires owner { IsOwner kind }
         ensures seat { Self.seat self.new ≡ Self.seat self.old }
         ensures own { Self.own self.new ≡ Self.own self.old }
         ensures known { KnowsOn (Self.known self.old) (Self.known self.new) }
-        ensures home { IfOk result (λ owner. slots_home owner ≡ (Self.seat self.old).home.slots) }
-        ensures shown { IfOk result (λ owner. (value : T) × F.post make value × Self.shows self.new (slot_of owner) value) }
+        ensures home { IfOk result (λ right. home_of right ≡ (Self.seat self.old).home.slots) }
+        ensures kind { IfOk result (λ right. kind_of right ≡ kind) }
+        ensures shown { IfOk result (λ right. (value : T) × F.post make value × Self.shows self.new (number_of right) value) }
         ensures exact { IsExact (Self.seat self.old) → MatchResult result
-            (λ owner. IsEmptyAt (Self.world self.old).standings (slot_of owner) ×
-            ((value : T) × F.post make value × (Self.world self.new ≡ made (Self.world self.old) (slot_of owner) value)))
+            (λ right. IsEmptyAt (Self.world self.old).standings (number_of right) ×
+            ((value : T) × F.post make value × (Self.world self.new ≡ made_as (Self.world self.old) (number_of right) value (first_standing kind))))
             (λ e. IsFull (Self.world self.old).standings × (e ≡ (make, Refused.NoSlot)) × (Self.world self.new ≡ Self.world self.old)) }
         ensures keeps { KeepsShown (Self.shows self.old) (Self.shows self.new) };
 
@@ -159,37 +170,218 @@ pub trait Space<T: Item<T>>: Look<T> + Guards<T> {
         ensures exact { IsExact (Self.seat self.old) → Self.world self.new ≡ Self.world self.old }
         ensures keeps { KeepsShown (Self.shows self.old) (Self.shows self.new) };
 
-    /// The item waits with the participant.
-    fn retire(&mut self, owner: Owned<T>)
+    /// One owner more of the item of a shared owner.
+    fn add_owner(&mut self, right: &Right) -> Result<Right, Refused>
         requires seated { IsSeated (Self.seat self.old) }
-        requires home { slots_home owner ≡ (Self.seat self.old).home.slots }
+        requires home { home_of right.now ≡ (Self.seat self.old).home.slots }
+        requires kind { kind_of right.now ≡ Kind.Shared }
         ensures seat { Self.seat self.new ≡ Self.seat self.old }
-        ensures own { Self.own self.new ≡ time.awaiting (Item (slot_of owner)) (Self.own self.old) }
-        ensures owned { IsExact (Self.seat self.old) → standing_at (Self.world self.old) (slot_of owner) ≡ Some Standing.Owned }
+        ensures own { Self.own self.new ≡ Self.own self.old }
         ensures known { KnowsOn (Self.known self.old) (Self.known self.new) }
-        ensures exact { IsExact (Self.seat self.old) → Self.world self.new ≡ retired (Self.world self.old) (Self.seat self.old).place (slot_of owner) }
+        ensures home { IfOk result (λ other. home_of other ≡ (Self.seat self.old).home.slots) }
+        ensures slot { IfOk result (λ other. number_of other ≡ number_of right.now) }
+        ensures kind { IfOk result (λ other. kind_of other ≡ Kind.Shared) }
+        ensures exact { IsExact (Self.seat self.old) → (owners : ℕ) × IsSharedBy owners (standing_at (Self.world self.old) (number_of right.now)) ×
+            MatchResult result
+            (λ _. (owners < 2 ^ 62) ×
+            (Self.world self.new ≡ with_standing (Self.world self.old) (number_of right.now) (Standing.Shared (owners + 1))))
+            (λ e. (owners ≡ 2 ^ 62) × (e ≡ Refused.TooManyOwners) × (Self.world self.new ≡ Self.world self.old)) }
         ensures keeps { KeepsShown (Self.shows self.old) (Self.shows self.new) };
 
-    /// A free cell holds nothing.
-    fn make_cell(&mut self) -> Result<AtomicOwned<T>, Refused>
+    /// One owner more of the item in a slot, if it is shared.
+    fn upgrade(&mut self, slot: u32) -> Result<Option<Right>, Refused>
         requires seated { IsSeated (Self.seat self.old) }
         ensures seat { Self.seat self.new ≡ Self.seat self.old }
         ensures own { Self.own self.new ≡ Self.own self.old }
         ensures known { KnowsOn (Self.known self.old) (Self.known self.new) }
-        ensures home { IfOk result (λ cell. cells_home cell ≡ (Self.seat self.old).home.cells) }
+        ensures home { IfOk result (λ o. IfSome o (λ right. home_of right ≡ (Self.seat self.old).home.slots)) }
+        ensures slot { IfOk result (λ o. IfSome o (λ right. number_of right ≡ slot)) }
+        ensures kind { IfOk result (λ o. IfSome o (λ right. kind_of right ≡ Kind.Shared)) }
         ensures exact { IsExact (Self.seat self.old) → MatchResult result
-            (λ cell. IsEmptyAt (Self.world self.old).cells (cell_of cell) × (Self.world self.new ≡ nulled (Self.world self.old) (cell_of cell)))
-            (λ e. IsFull (Self.world self.old).cells × (e ≡ Refused.NoCell) × (Self.world self.new ≡ Self.world self.old)) }
+            (λ o. MatchOption o
+            ((owners_of (standing_at (Self.world self.old) slot) ≡ None) × (Self.world self.new ≡ Self.world self.old))
+            (λ _. (owners : ℕ) × IsSharedBy owners (standing_at (Self.world self.old) slot) × (owners < 2 ^ 62) ×
+            (Self.world self.new ≡ with_standing (Self.world self.old) slot (Standing.Shared (owners + 1)))))
+            (λ e. IsSharedBy (2 ^ 62) (standing_at (Self.world self.old) slot) × (e ≡ Refused.TooManyOwners) × (Self.world self.new ≡ Self.world self.old)) }
         ensures keeps { KeepsShown (Self.shows self.old) (Self.shows self.new) };
 
-    /// The cell is free, and what it held is retired.
-    fn close_cell(&mut self, cell: AtomicOwned<T>)
+    /// An owner lets its item go, and is told whether it was the last. The last one's item waits with the participant.
+    fn let_go(&mut self, right: Right) -> bool
         requires seated { IsSeated (Self.seat self.old) }
-        requires home { cells_home cell ≡ (Self.seat self.old).home.cells }
+        requires home { home_of right ≡ (Self.seat self.old).home.slots }
+        ensures seat { Self.seat self.new ≡ Self.seat self.old }
+        ensures own { Self.own self.new ≡ (if result then time.awaiting (Item (number_of right)) (Self.own self.old) else Self.own self.old) }
+        ensures sole { kind_of right ≡ Kind.Owned → IsTrue result }
+        ensures owned { IsExact (Self.seat self.old) → IsOwnedBy (kind_of right) (standing_at (Self.world self.old) (number_of right)) }
+        ensures known { KnowsOn (Self.known self.old) (Self.known self.new) }
+        ensures last { IsExact (Self.seat self.old) →
+            IsTrue result ↔ ¬ (IsTrue (has_others (standing_at (Self.world self.old) (number_of right)))) }
+        ensures exact { IsExact (Self.seat self.old) → Self.world self.new ≡
+            owner_given (Self.world self.old) (Self.seat self.old).place (number_of right) (standing_at (Self.world self.old) (number_of right)) }
+        ensures keeps { KeepsShown (Self.shows self.old) (Self.shows self.new) };
+
+    /// A free cell for owners of this kind, which holds this one, if there is one, with this tag.
+    fn make_cell(
+        &mut self,
+        held: Option<Right>,
+        tag: Tag,
+        kind: Kind,
+    ) -> Result<Right, (Option<Right>, Refused)>
+        requires seated { IsSeated (Self.seat self.old) }
+        requires owner { IsOwner kind }
+        requires held { MayHold (Self.seat self.old).home.slots kind held }
+        ensures seat { Self.seat self.new ≡ Self.seat self.old }
+        ensures own { Self.own self.new ≡ Self.own self.old }
+        ensures known { KnowsOn (Self.known self.old) (Self.known self.new) }
+        ensures home { IfOk result (λ cell. home_of cell ≡ (Self.seat self.old).home.cells) }
+        ensures kind { IfOk result (λ cell. kind_of cell ≡ kind) }
+        ensures back { IfErr result (λ e. e.0 ≡ held) }
+        ensures exact { IsExact (Self.seat self.old) → MatchResult result
+            (λ cell. IsEmptyAt (Self.world self.old).cells (number_of cell) ×
+            (Self.world self.new ≡ with_cell (Self.world self.old) (number_of cell) (cell_with held tag)))
+            (λ e. IsFull (Self.world self.old).cells × (e ≡ (held, Refused.NoCell)) × (Self.world self.new ≡ Self.world self.old)) }
+        ensures keeps { KeepsShown (Self.shows self.old) (Self.shows self.new) };
+
+    /// Puts a value into a free slot, and its owner, which is of this kind, into a free cell.
+    fn make_in_cell(&mut self, value: T, kind: Kind) -> Result<Right, (T, Refused)>
+        requires seated { IsSeated (Self.seat self.old) }
+        requires home { AreOf (Self.seat self.old).home (T.holds value) }
+        requires owner { IsOwner kind }
+        ensures seat { Self.seat self.new ≡ Self.seat self.old }
+        ensures own { Self.own self.new ≡ Self.own self.old }
+        ensures known { KnowsOn (Self.known self.old) (Self.known self.new) }
+        ensures home { IfOk result (λ cell. home_of cell ≡ (Self.seat self.old).home.cells) }
+        ensures kind { IfOk result (λ cell. kind_of cell ≡ kind) }
+        ensures exact { IsExact (Self.seat self.old) → MatchResult result
+            (λ cell. (slot : ℕ) × IsEmptyAt (Self.world self.old).standings slot × IsEmptyAt (Self.world self.old).cells (number_of cell) ×
+            (Self.world self.new ≡ with_cell (made_as (Self.world self.old) slot value (first_standing kind)) (number_of cell)
+            (record { held = Some slot; tag = no_tag })))
+            (λ e. (IsFull (Self.world self.old).standings × (e ≡ (value, Refused.NoSlot)) ⊎
+            ¬ (IsFull (Self.world self.old).standings) × IsFull (Self.world self.old).cells × (e ≡ (value, Refused.NoCell))) ×
+            (Self.world self.new ≡ Self.world self.old)) }
+        ensures keeps { KeepsShown (Self.shows self.old) (Self.shows self.new) };
+
+    /// What a cell holds at this moment.
+    fn cell(&mut self, cell: &Right) -> Cell
+        requires seated { IsSeated (Self.seat self.old) }
+        requires home { home_of cell.now ≡ (Self.seat self.old).home.cells }
+        ensures seat { Self.seat self.new ≡ Self.seat self.old }
+        ensures own { Self.own self.new ≡ Self.own self.old }
+        ensures known { KnowsOn (Self.known self.old) (Self.known self.new) }
+        ensures exact { IsExact (Self.seat self.old) →
+            (entry_at (Self.world self.old).cells (number_of cell.now) ≡ Some result) × (Self.world self.new ≡ Self.world self.old) }
+        ensures keeps { KeepsShown (Self.shows self.old) (Self.shows self.new) };
+
+    /// A pointer to what a cell holds, with the cell's tag.
+    fn load<'g>(&mut self, cell: &Right, guard: &'g Guard) -> Ptr<'g, T>
+        requires seated { IsSeated (Self.seat self.old) }
+        requires home { home_of cell.now ≡ (Self.seat self.old).home.cells }
+        requires reader { reader_of guard.now ≡ (Self.seat self.old).reader }
+        ensures seat { Self.seat self.new ≡ Self.seat self.old }
+        ensures own { Self.own self.new ≡ Self.own self.old }
+        ensures known { KnowsOn (Self.known self.old) (Self.known self.new) }
+        ensures shown { IsShown (Self.shows self.new) result }
+        ensures owned { IsExact (Self.seat self.old) →
+            IfSome (slot_named result) (λ slot. IsOwnedBy (kind_of cell.now) (standing_at (Self.world self.old) slot)) }
+        ensures exact { IsExact (Self.seat self.old) →
+            (entry_at (Self.world self.old).cells (number_of cell.now) ≡ Some (cell_seen result)) × (Self.world self.new ≡ Self.world self.old) }
+        ensures keeps { KeepsShown (Self.shows self.old) (Self.shows self.new) };
+
+    /// The cell holds another owner, or none, and has this tag. What it held, and its tag, come back.
+    fn swap(&mut self, cell: &Right, new: Option<Right>, tag: Tag) -> (Option<Right>, Tag)
+        requires seated { IsSeated (Self.seat self.old) }
+        requires home { home_of cell.now ≡ (Self.seat self.old).home.cells }
+        requires held { MayHold (Self.seat self.old).home.slots (kind_of cell.now) new }
+        ensures seat { Self.seat self.new ≡ Self.seat self.old }
+        ensures own { Self.own self.new ≡ Self.own self.old }
+        ensures known { KnowsOn (Self.known self.old) (Self.known self.new) }
+        ensures held { MayHold (Self.seat self.old).home.slots (kind_of cell.now) result.0 }
+        ensures exact { IsExact (Self.seat self.old) →
+            (entry_at (Self.world self.old).cells (number_of cell.now) ≡ Some (cell_with result.0 result.1)) ×
+            (Self.world self.new ≡ with_cell (Self.world self.old) (number_of cell.now) (cell_with new tag)) }
+        ensures keeps { KeepsShown (Self.shows self.old) (Self.shows self.new) };
+
+    /// The same, if the cell holds what was expected. Then what it held comes back, with a pointer to what it holds now; else the one handed in,
+    /// with a pointer to what it holds.
+    fn exchange<'g>(
+        &mut self,
+        cell: &Right,
+        current: Cell,
+        new: Option<Right>,
+        tag: Tag,
+        guard: &'g Guard,
+    ) -> Result<(Option<Right>, Ptr<'g, T>), (Option<Right>, Ptr<'g, T>)>
+        requires seated { IsSeated (Self.seat self.old) }
+        requires home { home_of cell.now ≡ (Self.seat self.old).home.cells }
+        requires held { MayHold (Self.seat self.old).home.slots (kind_of cell.now) new }
+        requires reader { reader_of guard.now ≡ (Self.seat self.old).reader }
+        ensures seat { Self.seat self.new ≡ Self.seat self.old }
+        ensures own { Self.own self.new ≡ Self.own self.old }
+        ensures known { KnowsOn (Self.known self.old) (Self.known self.new) }
+        ensures held { IfOk result (λ o. MayHold (Self.seat self.old).home.slots (kind_of cell.now) o.0) }
+        ensures old { IfOk result (λ o. slot_held o.0 ≡ current.held) }
+        ensures now { IfOk result (λ o. cell_seen o.1 ≡ cell_with new tag) }
+        ensures back { IfErr result (λ e. e.0 ≡ new) }
+        ensures shown { MatchResult result (λ o. IsShown (Self.shows self.new) o.1) (λ e. IsShown (Self.shows self.new) e.1) }
+        ensures exact { IsExact (Self.seat self.old) → MatchResult result
+            (λ _. (entry_at (Self.world self.old).cells (number_of cell.now) ≡ Some current) ×
+            (Self.world self.new ≡ with_cell (Self.world self.old) (number_of cell.now) (cell_with new tag)))
+            (λ e. (entry_at (Self.world self.old).cells (number_of cell.now) ≡ Some (cell_seen e.1)) × (cell_seen e.1 ≢ current) ×
+            (Self.world self.new ≡ Self.world self.old)) }
+        ensures keeps { KeepsShown (Self.shows self.old) (Self.shows self.new) };
+
+    /// The cell has another tag, if the condition holds of what it holds.
+    fn set_tag_if<F: FnMut(RawPtr<T>) -> bool>(
+        &mut self,
+        cell: &Right,
+        tag: Tag,
+        condition: F,
+    ) -> Result<bool, Refused>
+        requires seated { IsSeated (Self.seat self.old) }
+        requires home { home_of cell.now ≡ (Self.seat self.old).home.cells }
+        requires callable { F.IsAlwaysCallable condition }
+        ensures seat { Self.seat self.new ≡ Self.seat self.old }
+        ensures own { Self.own self.new ≡ Self.own self.old }
+        ensures known { KnowsOn (Self.known self.old) (Self.known self.new) }
+        ensures exact { IsExact (Self.seat self.old) → IsOk result × IfOk result (λ changed. (ptr : RawPtr T) ×
+            (entry_at (Self.world self.old).cells (number_of cell.now) ≡ Some (raw.cell_seen ptr)) × F.post condition ptr changed ×
+            (Self.world self.new ≡ (if changed then with_cell (Self.world self.old) (number_of cell.now) (record (raw.cell_seen ptr) { tag = tag })
+            else Self.world self.old))) }
+        ensures keeps { KeepsShown (Self.shows self.old) (Self.shows self.new) };
+
+    /// Another cell that holds one owner more of what a cell holds, if it holds anything, with its tag.
+    fn copy_cell(&mut self, cell: &Right, guard: &Guard) -> Result<Right, Refused>
+        requires seated { IsSeated (Self.seat self.old) }
+        requires home { home_of cell.now ≡ (Self.seat self.old).home.cells }
+        requires kind { kind_of cell.now ≡ Kind.Shared }
+        requires reader { reader_of guard.now ≡ (Self.seat self.old).reader }
         ensures seat { Self.seat self.new ≡ Self.seat self.old }
         ensures own { IsSpilled (Self.own self.old) (Self.own self.new) }
         ensures known { KnowsOn (Self.known self.old) (Self.known self.new) }
-        ensures exact { IsExact (Self.seat self.old) → Self.world self.new ≡ cell_closed (Self.world self.old) (Self.seat self.old).place (cell_of cell) }
+        ensures home { IfOk result (λ other. home_of other ≡ (Self.seat self.old).home.cells) }
+        ensures kind { IfOk result (λ other. kind_of other ≡ Kind.Shared) }
+        ensures exact { IsExact (Self.seat self.old) → (old : Cell) × (entry_at (Self.world self.old).cells (number_of cell.now) ≡ Some old) × MatchResult result
+            (λ other. IsEmptyAt (Self.world self.old).cells (number_of other) × MatchOption old.held
+            (Self.world self.new ≡ with_cell (Self.world self.old) (number_of other) old)
+            (λ slot. (owners : ℕ) × IsSharedBy owners (standing_at (Self.world self.old) slot) × (owners < 2 ^ 62) ×
+            (Self.world self.new ≡ with_cell (with_standing (Self.world self.old) slot (Standing.Shared (owners + 1))) (number_of other) old)))
+            (λ e. (Self.world self.new ≡ Self.world self.old) × (IsFull (Self.world self.old).cells × (e ≡ Refused.NoCell) ⊎
+            ¬ (IsFull (Self.world self.old).cells) × (e ≡ Refused.TooManyOwners) × IsSome old.held ×
+            IfSome old.held (λ slot. IsSharedBy (2 ^ 62) (standing_at (Self.world self.old) slot)))) }
+        ensures keeps { KeepsShown (Self.shows self.old) (Self.shows self.new) };
+
+    /// Gives a cell up. What it held comes back.
+    fn take_cell(&mut self, cell: Right) -> Option<Right>
+        requires seated { IsSeated (Self.seat self.old) }
+        requires home { home_of cell ≡ (Self.seat self.old).home.cells }
+        ensures seat { Self.seat self.new ≡ Self.seat self.old }
+        ensures own { Self.own self.new ≡ Self.own self.old }
+        ensures known { KnowsOn (Self.known self.old) (Self.known self.new) }
+        ensures held { MayHold (Self.seat self.old).home.slots (kind_of cell) result }
+        ensures exact { IsExact (Self.seat self.old) →
+            IfSome (entry_at (Self.world self.old).cells (number_of cell)) (λ old. old.held ≡ slot_held result) ×
+            IsSome (entry_at (Self.world self.old).cells (number_of cell)) ×
+            (Self.world self.new ≡ without_cell (Self.world self.old) (number_of cell)) }
         ensures keeps { KeepsShown (Self.shows self.old) (Self.shows self.new) };
 
     /// Where only the caller's own calls change the space, what they do is said exactly.

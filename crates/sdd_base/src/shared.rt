@@ -1,0 +1,211 @@
+ghost use Rattle.std.specs.Prelude.{ℕ, ◌≡◌, ◌+◌, ◌^◌, ◌<◌, ◌↔◌, IfOk, IfSome, IsSome, IsTrue, MatchResult, Some, None, option_map, if◌then◌else◌};
+ghost use Rattle.sdd_token.specs.Right.{kind_of};
+ghost use Rattle.sdd_base.specs.Holding.{AreOf};
+ghost use Rattle.sdd_base.specs.World.{World, standing_at};
+ghost use Rattle.sdd_base.specs.Seat.{IsSeated, IsExact};
+ghost use Rattle.sdd_base.specs.Known.{KnowsOn};
+ghost use Rattle.sdd_base.specs.Steps.{made_shared, with_standing, owner_given};
+ghost use Rattle.sdd_base.specs.Shared.{right_of, slot_of, slots_home};
+ghost use Rattle.sdd_core.specs.declared.tag.Tag.TheVariants.{None as no_tag};
+ghost use Rattle.sdd_base.specs.Ptr.{slot_named, shown_by, tag_of, KeepsShown};
+ghost use Rattle.sdd_base.specs.Guard.{reader_of};
+ghost use Rattle.sdd_slots.specs.Slots.{IsSharedBy};
+ghost use Rattle.sdd_store.specs.Table.{IsEmptyAt, IsFull};
+ghost use Rattle.sdd_store.specs.Time as time;
+ghost use Rattle.sdd_store.specs.Waiting.What.{Item};
+
+use crate::guard::Guard;
+use crate::item::Item;
+use crate::look::Look;
+use crate::ptr::Ptr;
+use crate::space::Space;
+use sdd_core::Refused;
+use sdd_store::Standing;
+use sdd_token::{Kind, Right, Share};
+use std::marker::PhantomData;
+
+/// One owner of an item that others may own too: other `Shared`, and cells.
+///
+/// It must be spent: by `release`, or given into a cell or a value. The last owner's item is retired. It may lie in a value of its own item type.
+pub struct Shared<T> {
+    right: Share,
+    of: PhantomData<T>,
+}
+
+const _: () = prove!(size_of::<Shared<u64>>() == 4);
+
+impl<T> Shared<T> {
+    pub(crate) fn of_right(right: Right) -> Shared<T>
+        requires { kind_of right ≡ Kind.Shared }
+        ensures { right_of result ≡ right }
+    {
+        Shared {
+            right: Share::of(right),
+            of: PhantomData,
+        }
+    }
+
+    pub(crate) fn into_right(self) -> Right
+        ensures right { result ≡ right_of self }
+        ensures kind { kind_of result ≡ Kind.Shared }
+    {
+        let Shared { right, of: _ } = self;
+        right.into_right()
+    }
+
+    pub(crate) fn right(&self) -> &Right
+        ensures right { result.now ≡ right_of self.now }
+        ensures kind { kind_of result.now ≡ Kind.Shared }
+    {
+        self.right.right()
+    }
+
+    /// The owner that a cell held, if there is one.
+    pub(crate) fn of_held(held: Option<Right>) -> Option<Shared<T>>
+        requires { IfSome held (λ right. kind_of right ≡ Kind.Shared) }
+        ensures { option_map right_of result ≡ held }
+    {
+        match held {
+            Some(right) => Some(Shared::of_right(right)),
+            None => None,
+        }
+    }
+
+    pub(crate) fn into_held(owner: Option<Shared<T>>) -> Option<Right>
+        ensures right { result ≡ option_map right_of owner }
+        ensures kind { IfSome result (λ right. kind_of right ≡ Kind.Shared) }
+    {
+        match owner {
+            Some(owner) => Some(owner.into_right()),
+            None => None,
+        }
+    }
+
+    pub(crate) fn slot(&self) -> u32
+        ensures { result ≡ slot_of self.now }
+    {
+        self.right().number()
+    }
+
+    /// The item's value. Its owners can look at it without a guard.
+    pub fn get<'a, L: Look<T>>(&'a self, at: &'a L) -> &'a T
+        requires home { slots_home self.now ≡ (L.home at.now).slots }
+        ensures shown { L.shows at.now (slot_of self.now) result.now }
+    {
+        at.value(self.right())
+    }
+}
+
+impl<T: Item<T>> Shared<T> {
+    /// The item's value, for as long as the guard is borrowed, also after the item was retired. The guard is one of the participant that calls.
+    pub fn get_guarded_ref<'g, S: Space<T>>(&self, guard: &'g Guard, s: &mut S) -> &'g T
+        requires seated { IsSeated (S.seat s.old) }
+        requires home { slots_home self.now ≡ (S.seat s.old).home.slots }
+        requires reader { reader_of guard.now ≡ (S.seat s.old).reader }
+        ensures seat { S.seat s.new ≡ S.seat s.old }
+        ensures own { S.own s.new ≡ S.own s.old }
+        ensures known { KnowsOn (S.known s.old) (S.known s.new) }
+        ensures shown { S.shows s.new (slot_of self.now) result.now }
+        ensures exact { IsExact (S.seat s.old) → S.world s.new ≡ S.world s.old }
+        ensures keeps { KeepsShown (S.shows s.old) (S.shows s.new) }
+    {
+        s.guarded(self.right(), guard)
+    }
+
+    /// A pointer to the item, which shows its value for as long as the guard is borrowed, also after the item was retired. The guard is one of the
+    /// participant that calls.
+    pub fn get_guarded_ptr<'g, S: Space<T>>(&self, guard: &'g Guard, s: &mut S) -> Ptr<'g, T>
+        requires seated { IsSeated (S.seat s.old) }
+        requires home { slots_home self.now ≡ (S.seat s.old).home.slots }
+        requires reader { reader_of guard.now ≡ (S.seat s.old).reader }
+        ensures seat { S.seat s.new ≡ S.seat s.old }
+        ensures own { S.own s.new ≡ S.own s.old }
+        ensures known { KnowsOn (S.known s.old) (S.known s.new) }
+        ensures slot { slot_named result ≡ Some (slot_of self.now) }
+        ensures tag { tag_of result ≡ no_tag }
+        ensures shown { IfSome (shown_by result) (S.shows s.new (slot_of self.now)) }
+        ensures full { IsSome (shown_by result) }
+        ensures exact { IsExact (S.seat s.old) → S.world s.new ≡ S.world s.old }
+        ensures keeps { KeepsShown (S.shows s.old) (S.shows s.new) }
+    {
+        let value = s.guarded(self.right(), guard);
+        Ptr::to(self.slot(), value)
+    }
+
+    /// Puts a value into a free slot, with one owner.
+    ///
+    /// `NoSlot` where none is free; the value comes back.
+    pub fn new<S: Space<T>>(value: T, s: &mut S) -> Result<Shared<T>, (T, Refused)>
+        requires seated { IsSeated (S.seat s.old) }
+        requires home { AreOf (S.seat s.old).home (T.holds value) }
+        ensures seat { S.seat s.new ≡ S.seat s.old }
+        ensures own { S.own s.new ≡ S.own s.old }
+        ensures known { KnowsOn (S.known s.old) (S.known s.new) }
+        ensures home { IfOk result (λ owner. slots_home owner ≡ (S.seat s.old).home.slots) }
+        ensures shown { IfOk result (λ owner. S.shows s.new (slot_of owner) value) }
+        ensures exact { IsExact (S.seat s.old) → MatchResult result
+            (λ owner. IsEmptyAt (S.world s.old).standings (slot_of owner) × (S.world s.new ≡ made_shared (S.world s.old) (slot_of owner) value))
+            (λ e. IsFull (S.world s.old).standings × (e ≡ (value, Refused.NoSlot)) × (S.world s.new ≡ S.world s.old)) }
+        ensures keeps { KeepsShown (S.shows s.old) (S.shows s.new) }
+    {
+        Ok(Shared::of_right(s.make(value, Kind::Shared)?))
+    }
+
+    /// Puts the value that `f` makes into a free slot, with one owner.
+    ///
+    /// `NoSlot` where none is free; `f` comes back uncalled.
+    pub fn new_with<S: Space<T>, F: FnOnce() -> T>(
+        f: F,
+        s: &mut S,
+    ) -> Result<Shared<T>, (F, Refused)>
+        requires seated { IsSeated (S.seat s.old) }
+        requires callable { F.pre f }
+        requires home { (value : T) → F.post f value → AreOf (S.seat s.old).home (T.holds value) }
+        ensures seat { S.seat s.new ≡ S.seat s.old }
+        ensures own { S.own s.new ≡ S.own s.old }
+        ensures known { KnowsOn (S.known s.old) (S.known s.new) }
+        ensures home { IfOk result (λ owner. slots_home owner ≡ (S.seat s.old).home.slots) }
+        ensures shown { IfOk result (λ owner. (value : T) × F.post f value × S.shows s.new (slot_of owner) value) }
+        ensures exact { IsExact (S.seat s.old) → MatchResult result
+            (λ owner. IsEmptyAt (S.world s.old).standings (slot_of owner) ×
+            ((value : T) × F.post f value × (S.world s.new ≡ made_shared (S.world s.old) (slot_of owner) value)))
+            (λ e. IsFull (S.world s.old).standings × (e ≡ (f, Refused.NoSlot)) × (S.world s.new ≡ S.world s.old)) }
+        ensures keeps { KeepsShown (S.shows s.old) (S.shows s.new) }
+    {
+        Ok(Shared::of_right(s.make_with(f, Kind::Shared)?))
+    }
+
+    /// One owner more of the same item.
+    ///
+    /// `TooManyOwners` where 2^62 own it, cells counted.
+    pub fn clone<S: Space<T>>(&self, s: &mut S) -> Result<Shared<T>, Refused>
+        requires seated { IsSeated (S.seat s.old) }
+        requires home { slots_home self.now ≡ (S.seat s.old).home.slots }
+        ensures seat { S.seat s.new ≡ S.seat s.old }
+        ensures own { S.own s.new ≡ S.own s.old }
+        ensures known { KnowsOn (S.known s.old) (S.known s.new) }
+        ensures home { IfOk result (λ other. slots_home other ≡ (S.seat s.old).home.slots) }
+        ensures slot { IfOk result (λ other. slot_of other ≡ slot_of self.now) }
+        ensures exact { IsExact (S.seat s.old) → (owners : ℕ) × IsSharedBy owners (standing_at (S.world s.old) (slot_of self.now)) × MatchResult result
+            (λ _. (owners < 2 ^ 62) × (S.world s.new ≡ with_standing (S.world s.old) (slot_of self.now) (Standing.Shared (owners + 1))))
+            (λ e. (owners ≡ 2 ^ 62) × (e ≡ Refused.TooManyOwners) × (S.world s.new ≡ S.world s.old)) }
+        ensures keeps { KeepsShown (S.shows s.old) (S.shows s.new) }
+    {
+        Ok(Shared::of_right(s.add_owner(self.right())?))
+    }
+
+    /// Gives this owner up, and answers whether it was the last, cells counted. The last one's item is retired: it waits with the calling participant.
+    pub fn release<S: Space<T>>(self, s: &mut S) -> bool
+        requires seated { IsSeated (S.seat s.old) }
+        requires home { slots_home self ≡ (S.seat s.old).home.slots }
+        ensures seat { S.seat s.new ≡ S.seat s.old }
+        ensures own { S.own s.new ≡ (if result then time.awaiting (Item (slot_of self)) (S.own s.old) else S.own s.old) }
+        ensures known { KnowsOn (S.known s.old) (S.known s.new) }
+        ensures exact { IsExact (S.seat s.old) → (owners : ℕ) × IsSharedBy owners (standing_at (S.world s.old) (slot_of self)) ×
+            (IsTrue result ↔ (owners ≡ 1)) ×
+            (S.world s.new ≡ owner_given (S.world s.old) (S.seat s.old).place (slot_of self) (Some (Standing.Shared owners))) }
+        ensures keeps { KeepsShown (S.shows s.old) (S.shows s.new) }
+    {
+        s.let_go(self.into_right())
+    }
+}
