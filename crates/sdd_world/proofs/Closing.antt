@@ -6,17 +6,19 @@ use Rattle.std.proofs.lemmas.Bool.Decides.{nat_tests}
 use Rattle.std.proofs.lemmas.List.Sums.{sum_by-set, sum_by_push, sum_by-cons}
 use Rattle.sdd_store.specs.Waiting.{What, Waiting, fresh, aged, left, older, is_due}
 use Rattle.sdd_store.specs.Waiting.What.{Item, Private, Job}
-use Rattle.sdd_store.specs.Time.{without_waiting, Time, with_place, nobody, pace_of, due_next, rotated, awaiting, is_open}
+use Rattle.sdd_store.specs.Time.{without_waiting, Time, with_place, nobody, pace_of, due_next, rotated, is_open}
 use Rattle.sdd_store.specs.Time as time
-use Rattle.sdd_store.specs.Table.{entry_at, without_entry}
+use Rattle.sdd_store.specs.Table.{entry_at}
 use Rattle.sdd_store.specs.declared.time.Participant.{Participant}
 use Rattle.sdd_store.specs.declared.time.Pace.{Pace}
 use Rattle.sdd_store.specs.declared.standing.Standing.{Standing}
-use Rattle.sdd_store.specs.declared.standing.Standing.TheVariants.{Owned, Raw, Shared, Retired, Private as privately}
+use Rattle.sdd_store.specs.declared.standing.Standing.TheVariants.{Shared, Retired}
 use Rattle.sdd_base.specs.World.{World, standing_at, place_at}
-use Rattle.sdd_base.specs.Steps.{retired, spilled, cell_closed, held_in, owner_given, given, given_all, freed, taken_out, waiting_value, slot_reclaimed, reclaimed, all_reclaimed, changed}
+use Rattle.sdd_base.specs.Steps.{retired, with_standing, without_cell, spilled, cell_closed, held_in, owner_given, given, given_all, freed, taken_out, waiting_value, reclaimed, all_reclaimed, changed}
 use Rattle.sdd_base.specs.Steps as steps
-use Rattle.sdd_base.specs.Holding.{Holding, owned, atomic_owned}
+use Rattle.sdd_base.specs.Holding.{Holding, owned, shared, atomic_owned, atomic_shared}
+use Rattle.sdd_base.specs.Out.{is_out}
+use Rattle.sdd_base.proofs.Standings.{out-inside, owner-given}
 use Rattle.sdd_base.specs.World.{IsGuarded}
 use Rattle.sdd_base.specs.Lending.{Lending}
 use Rattle.sdd_base.proofs.Four.{all-closed, not-guarded}
@@ -29,17 +31,9 @@ use Rattle.sdd_world.proofs.Lending.{SameGuards, guards-placed, lent-keeps, all-
 abbrev to_go : Waiting → ℕ
 to_go w = 3 - w.seen + 1
 
-abbrev is_owned : Option Standing → Bool
-is_owned None = false
-is_owned (Some Owned) = true
-is_owned (Some Raw) = false
-is_owned (Some (Shared n)) = false
-is_owned (Some Retired) = false
-is_owned (Some (privately c)) = false
-
 -- how much what waits may still see, and what may yet be given
 abbrev pub ahead : {T : Type 0} → List Waiting → World T → ℕ
-ahead waiting w = sum_by to_go waiting + 4 * count_by is_owned w.standings
+ahead waiting w = sum_by to_go waiting + 4 * count_by is_out w.standings
 
 -- the place has this pace, and this waits with it
 abbrev pub moved : Time → ℕ → ℕ → ℕ → List Waiting → Time
@@ -119,32 +113,40 @@ module _ {T : Type 0} where
   Moves-range {p} l a = let e = ap (λ (t : Time). length t.places) a.time in grind (arith, common_steps, e)
 
   -- an item that is out begins to wait
-  Moves-retired : (w : World T) (p k : ℕ) → standing_at w k ≡ Some Owned → Moves p w (retired w p k)
+  Moves-retired : (w : World T) (p k : ℕ) → is_out (standing_at w k) ≡ true → Moves p w (retired w p k)
   Moves-retired w p k there =
-      let one = sum_by-set (λ s. cond (is_owned s) 1 0) w.standings k (Some Retired) None (in_range w.standings k Owned there) in
-      let was = ap {B = ℕ} (λ (s : Option Standing). cond (is_owned s) 1 0) there in
+      let one = sum_by-set (λ s. cond (is_out s) 1 0) w.standings k (Some Retired) None (out-inside w.standings k there) in
+      let was = ap {B = ℕ} (λ (b : Bool). cond b 1 0) there in
       let more = sum_by_push to_go (place_at w p).bags.waiting (fresh (Item k)) in
       record { found = _; countdown = _; waiting = _; time = refl; no_more = omega (arith, one, was, more) }
 
+  -- an item that is shared has fewer owners, or more
+  Moves-shared : (w : World T) (p k n m : ℕ) → standing_at w k ≡ Some (Shared n) → Moves p w (with_standing w k (Shared m))
+  Moves-shared w p k n m there =
+      let one = sum_by-set (λ s. cond (is_out s) 1 0) w.standings k (Some (Shared m)) None (in_range w.standings k (Shared n) there) in
+      let was = ap {B = ℕ} (λ (s : Option Standing). cond (is_out s) 1 0) there in
+      record { found = _; countdown = _; waiting = _; time = moved-same w.time p; no_more = omega (arith, one, was) }
+
   Moves-owner_given : (w : World T) (p k : ℕ) (s : Option Standing) → standing_at w k ≡ s → Moves p w (owner_given w p k s)
-  Moves-owner_given w p k None is = Moves-refl p w
-  Moves-owner_given w p k (Some Owned) is = Moves-retired w p k is
-  Moves-owner_given w p k (Some Raw) is = Moves-refl p w
-  Moves-owner_given w p k (Some (Shared n)) is = Moves-refl p w
-  Moves-owner_given w p k (Some Retired) is = Moves-refl p w
-  Moves-owner_given w p k (Some (privately c)) is = Moves-refl p w
+  Moves-owner_given w p k s is =
+      owner-given (λ (u : World T). Moves p w u) w p k s is (Moves-refl p w) (λ there. Moves-retired w p k there)
+      (λ n several more. Moves-shared w p k n (n - 1) several)
 
   Moves-spilled : (w : World T) (p : ℕ) (held : Option ℕ) → Moves p w (spilled w p held)
   Moves-spilled w p None = Moves-refl p w
   Moves-spilled w p (Some k) = Moves-owner_given w p k (standing_at w k) refl
 
-  Moves-without_cell : (w : World T) (p c : ℕ) → Moves p w (record w { cells = without_entry w.cells c })
+  Moves-without_cell : (w : World T) (p c : ℕ) → Moves p w (without_cell w c)
   Moves-without_cell w p c = record { found = _; countdown = _; waiting = _; time = moved-same w.time p; no_more = omega arith }
+
+  Moves-cell_closed : (w : World T) (p c : ℕ) → p < length w.time.places → Moves p w (cell_closed w p c)
+  Moves-cell_closed w p c l = Moves-trans l (Moves-without_cell w p c) (Moves-spilled (without_cell w c) p (held_in (entry_at w.cells c)))
 
   Moves-given : (w : World T) (p : ℕ) (h : Holding) → p < length w.time.places → Moves p w (given w p h)
   Moves-given w p (owned k home) l = Moves-owner_given w p k (standing_at w k) refl
-  Moves-given w p (atomic_owned c home) l =
-      Moves-trans l (Moves-without_cell w p c) (Moves-spilled (record w { cells = without_entry w.cells c }) p (held_in (entry_at w.cells c)))
+  Moves-given w p (shared k home) l = Moves-owner_given w p k (standing_at w k) refl
+  Moves-given w p (atomic_owned c home) l = Moves-cell_closed w p c l
+  Moves-given w p (atomic_shared c home) l = Moves-cell_closed w p c l
 
   Moves-given_all : (w : World T) (p : ℕ) (hs : List Holding) → p < length w.time.places → Moves p w (given_all w p hs)
   Moves-given_all w p [] l = Moves-refl p w
@@ -154,7 +156,7 @@ module _ {T : Type 0} where
 
   Moves-freed : (w : World T) (p k : ℕ) → k < length w.standings → Moves p w (freed w k)
   Moves-freed w p k l =
-      let one = sum_by-set (λ s. cond (is_owned s) 1 0) w.standings k None None l in
+      let one = sum_by-set (λ s. cond (is_out s) 1 0) w.standings k None None l in
       record { found = _; countdown = _; waiting = _; time = moved-same w.time p; no_more = omega (arith, one) }
 
   module _ (holds : T → List Holding) where
@@ -265,7 +267,7 @@ module _ {T : Type 0} where
   paced-ahead : (w : World T) (p : ℕ) (pace : Pace) → p < length w.time.places →
       ahead (place_at (paced w p pace) p).bags.waiting (paced w p pace) ≡ ahead (place_at w p).bags.waiting w
   paced-ahead w p pace l =
-      ap (λ (x : Participant). sum_by to_go x.bags.waiting + 4 * count_by is_owned w.standings)
+      ap (λ (x : Participant). sum_by to_go x.bags.waiting + 4 * count_by is_out w.standings)
       (get_or-set_same w.time.places p (time.paced pace (place_at w p)) nobody l)
 
   -- where something waits, such a change brings the end nearer

@@ -1,5 +1,5 @@
 -- What is lent of a world stays safe by each call
-use Rattle.std.proofs.Common.{◌≡◌, ◌≢◌, ◌⊎◌, inl, inr, ℕ, ◌+◌, ◌^◌, ◌<◌, ◌≤◌, List, [], ◌∷◌, length, Bool, refl, sym, ap, ◌∙◌, arith, true, false, Some, IsTrue, subst, slice_index_or, slice_set, nat_lt}
+use Rattle.std.proofs.Common.{◌≡◌, ◌≢◌, ◌⊎◌, inl, inr, ℕ, ◌+◌, ◌^◌, ◌<◌, ◌≤◌, List, [], ◌∷◌, length, Bool, refl, sym, ap, ◌∙◌, arith, true, false, Some, None, Option, IsTrue, subst, slice_index_or, slice_set, nat_lt}
 use Rattle.std.specs.Prelude.{◌-◌, ◌==◌, Contains, if◌then◌else◌}
 use Rattle.std.proofs.lemmas.Bool.{cases_eq}
 use Rattle.std.proofs.lemmas.Bool.Decides.{nat_tests}
@@ -8,7 +8,8 @@ use Rattle.sdd_store.specs.Waiting.What.{Item}
 use Rattle.sdd_store.specs.Time.{Time, IsVacant, IsLive, nobody, with_place, is_open}
 use Rattle.sdd_store.specs.Time as time
 use Rattle.sdd_store.specs.declared.time.Participant.{Participant}
-use Rattle.sdd_store.specs.declared.standing.Standing.TheVariants.{Owned}
+use Rattle.sdd_store.specs.declared.standing.Standing.{Standing}
+use Rattle.sdd_store.specs.declared.standing.Standing.TheVariants.{Shared, Retired}
 use Rattle.sdd_places.specs.Block.{IsHome, IsFreeFor, lent, stake_at, unlent}
 use Rattle.sdd_places.specs.Tenures.{Tenures, Kept, kept_at, whole}
 use Rattle.sdd_places.specs.declared.tenures.Stage.{Stage}
@@ -19,13 +20,16 @@ use Rattle.sdd_store.specs.Table.{Entries}
 use Rattle.sdd_store.specs.declared.standing.Cell.{Cell}
 use Rattle.sdd_base.specs.Lending.{Lending}
 use Rattle.sdd_base.specs.World.{World, KeepsSizes, IsPlaceOf, place_at, standing_at}
-use Rattle.sdd_base.specs.Steps.{retired, opened, closed, ended, registered, reclaims}
+use Rattle.sdd_base.specs.Steps.{retired, with_standing, owner_given, opened, closed, ended, registered, reclaims}
+use Rattle.sdd_base.specs.Out.{is_out}
 use Rattle.sdd_base.specs.Own.{all_awaiting, opened_at, changed_at}
 use Rattle.sdd_base.specs.Whole.{IsWhole}
 use Rattle.sdd_base.specs.Under.{IsSafe, Stays}
 use Rattle.sdd_base.specs.Calls.{Calls}
 use Rattle.sdd_base.specs.Calls.Calls.{registers, ends, opens, closes}
 use Rattle.sdd_base.proofs.Own as own
+use Rattle.sdd_base.proofs.Standings.{owner-given, out-inside}
+use Rattle.sdd_store.proofs.Adopting.{same-or-not}
 use Rattle.sdd_base.proofs.Closes.{put-same}
 use Rattle.sdd_base.proofs.Nesting.{guards-closed, guards-registered, one-if, none-if}
 use Rattle.sdd_base.proofs.Housed.{guard-taken, vacant-apart}
@@ -188,14 +192,42 @@ module _ {T : Type 0} where
       } in
       lent-keeps w (record w { home = h; cells = cells }) l readers (λ q. refl) (λ p k safe o. safe-cells w h cells p k safe) i
 
-  pub lent-retired : (holds : T → List Holding) (v : World T) (l : Lending) (p k : ℕ) → p < length v.time.places → standing_at v k ≡ Some Owned →
+  pub lent-retired : (holds : T → List Holding) (v : World T) (l : Lending) (p k : ℕ) → p < length v.time.places → is_out (standing_at v k) ≡ true →
       AreLentOf v l → AreLentOf (retired v p k) l
-  lent-retired holds v l p k there owned i =
+  lent-retired holds v l p k there out i =
       let x : Participant = time.awaiting (Item k) (place_at v p) in
       let places = length-set v.time.places p x in
       let readers : HasReaders (retired v p k) = record { places = omega (arith, i.readers.places, places); nesting = i.readers.nesting } in
       lent-keeps v (retired v p k) l readers (guards-placed v p x there refl)
-      (λ q j safe o. safe-retires q j holds v p k there owned safe o) i
+      (λ q j safe o. safe-retires q j holds v p k there out safe o) i
+
+  -- an item that is shared by more or fewer is safe as it was
+  safe-shared : (v : World T) (k n m : ℕ) → standing_at v k ≡ Some (Shared n) → (p j : ℕ) → IsSafe v p j → IsSafe (with_standing v k (Shared m)) p j
+  safe-shared v k n m is p j safe = record { guarded = safe.guarded; stays = by safe.stays (same-or-not j k) } where
+    by : Stays v p j → (j ≡ k) ⊎ (j ≢ k) → Stays (with_standing v k (Shared m)) p j
+    by (inl out) (inl e) = inl (rw (e, get_or-set_same v.standings k (Some (Shared m)) None (out-inside v.standings k (ap is_out is))) refl)
+    by (inl out) (inr apart) = inl (rw (get_or-set_other v.standings k j (Some (Shared m)) None apart) out)
+    by (inr u) (inl e) = let never : Some Retired ≡ Some (Shared n) = sym u.standing ∙ ap (standing_at v) e ∙ is in absurd (cc)
+    by (inr u) (inr apart) = inr (record {
+      guarded = u.guarded;
+      standing = get_or-set_other v.standings k j (Some (Shared m)) None apart ∙ u.standing;
+      holder = u.holder;
+      seen = u.seen;
+      waits = u.waits;
+      safe = u.safe;
+    })
+
+  pub lent-shared : (v : World T) (l : Lending) (k n m : ℕ) → standing_at v k ≡ Some (Shared n) → AreLentOf v l → AreLentOf (with_standing v k (Shared m)) l
+  lent-shared v l k n m is i =
+      lent-keeps v (with_standing v k (Shared m)) l (record { places = i.readers.places; nesting = i.readers.nesting }) (λ q. refl)
+      (λ p j safe o. safe-shared v k n m is p j safe) i
+
+  -- an owner goes, the last one or another
+  pub lent-owner_given : (holds : T → List Holding) (v : World T) (l : Lending) (p k : ℕ) → p < length v.time.places → (s : Option Standing) →
+      standing_at v k ≡ s → AreLentOf v l → AreLentOf (owner_given v p k s) l
+  lent-owner_given holds v l p k there s is i =
+      owner-given (λ (u : World T). AreLentOf u l) v p k s is i (λ out. lent-retired holds v l p k there out i)
+      (λ n several more. lent-shared v l k n (n - 1) several i)
 
   -- a newcomer's place is a reader's too
   readers-registered : (w : World T) (p : ℕ) → IsVacant w.time p → w.time.participants ≡ w.home.readers.size → IsWhole w → HasReaders w →

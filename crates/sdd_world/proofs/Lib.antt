@@ -2,3 +2,4 @@ pub mod Shown
 pub mod Lending
 pub mod Closing
 pub mod Sweeping
+pub mod Letting

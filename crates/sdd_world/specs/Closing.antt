@@ -1,14 +1,14 @@
 -- What the closing of a world does
-use Rattle.std.specs.Prelude.{ℕ, zero, suc, ◌+◌, ◌≡◌, All, Contains, IsNone, IsSome, List, [], ◌∷◌, length, map, None, Some}
+use Rattle.std.specs.Prelude.{ℕ, zero, suc, ◌+◌, ◌-◌, ◌<◌, ◌≡◌, ◌≢◌, ◌↔◌, max, All, AllPairs, Contains, IsNone, IsSome, List, [], ◌∷◌, length, map, slice_get, Option, None, Some}
 use Rattle.sdd_store.specs.declared.time.Pace.{Pace}
 use Rattle.sdd_store.specs.Time.{Time, pace_of, paced_at, without_waiting}
-use Rattle.sdd_token.specs.Units as token
 use Rattle.sdd_store.specs.Table.{entry_at}
 use Rattle.sdd_store.specs.Tally.{one_reclaimed}
 use Rattle.sdd_store.specs.declared.tally.Tally.{Tally}
-use Rattle.sdd_store.specs.declared.standing.Standing.TheVariants.{Owned}
+use Rattle.sdd_store.specs.declared.standing.Standing.{Standing}
+use Rattle.sdd_store.specs.declared.standing.Standing.TheVariants.{Owned, Raw, Shared, Retired, Private as privately}
 use Rattle.sdd_slots.specs.Slots.{IsWaiting}
-use Rattle.sdd_base.specs.Holding.{Holding, owned, atomic_owned}
+use Rattle.sdd_base.specs.Holding.{Holding, owned, shared, atomic_owned, atomic_shared}
 use Rattle.sdd_base.specs.World.{World, place_at, standing_at, value_at}
 use Rattle.sdd_base.specs.Steps.{changed, held_in}
 use Rattle.sdd_base.specs.Whole.{taken, IsCounted}
@@ -42,42 +42,108 @@ pub record Closes {T : Type 0} (holds : T → List Holding) (old new : World T) 
   pub time : new.time ≡ emptied old.time
   pub home : new.home ≡ old.home
 
--- the item whose owner this is, or is in this cell, is in slot k
-abbrev pub Names : {T : Type 0} → World T → Holding → ℕ → Type 0
-Names w (owned j home) k = j ≡ k
-Names w (atomic_owned c home) k = held_in (entry_at w.cells c) ≡ Some k
+-- an owner of an item: the value in the slot holds it at this index, or the cell holds it
+pub data Owner : Type 0 where
+  of_value : (slot index : ℕ) → Owner
+  of_cell : (cell : ℕ) → Owner
 
--- the item in the slot goes with what waits: it waits itself, or the value of an item that goes gives up its owner
-pub data Goes {T : Type 0} (holds : T → List Holding) (w : World T) : ℕ → Type 0 where
-  waits : (k : ℕ) → IsWaiting (standing_at w k) → Goes holds w k
-  given : (k j : ℕ) (value : T) (h : Holding) → Goes holds w j → value_at w j ≡ Some value → Contains (holds value) h →
-      Names w h k → standing_at w k ≡ Some Owned → Goes holds w k
+-- what holds owners: the item in a slot, whose value does, or a cell
+pub data Holder : Type 0 where
+  the_item : (slot : ℕ) → Holder
+  the_cell : (cell : ℕ) → Holder
 
--- so does the cell: the value of an item that goes holds it
-pub record GoesCell {T : Type 0} (holds : T → List Holding) (w : World T) (c : ℕ) : Type 0 where
-  pub slot : ℕ
-  pub value : T
-  pub there : value_at w slot ≡ Some value
-  pub home : token.Home
-  pub held : Contains (holds value) (atomic_owned c home)
-  pub goes : Goes holds w slot
+-- what holds the owner
+abbrev pub holder : Owner → Holder
+holder (of_value j i) = the_item j
+holder (of_cell c) = the_cell c
+
+-- the slot whose item it owns, if it is an owner
+abbrev pub slot_owned : Option Holding → Option ℕ
+slot_owned None = None
+slot_owned (Some (owned k home)) = Some k
+slot_owned (Some (shared k home)) = Some k
+slot_owned (Some (atomic_owned c home)) = None
+slot_owned (Some (atomic_shared c home)) = None
+
+-- the number of the cell, if it is one
+abbrev pub cell_held : Option Holding → Option ℕ
+cell_held None = None
+cell_held (Some (owned k home)) = None
+cell_held (Some (shared k home)) = None
+cell_held (Some (atomic_owned c home)) = Some c
+cell_held (Some (atomic_shared c home)) = Some c
+
+-- how many owners have to be given up until the item waits: all that it has, and one at least of an item that stands shared
+abbrev pub owner_count : Option Standing → ℕ
+owner_count None = 0
+owner_count (Some Owned) = 1
+owner_count (Some Raw) = 0
+owner_count (Some (Shared n)) = max 1 n
+owner_count (Some Retired) = 0
+owner_count (Some (privately c)) = 0
+
+-- how the item stands with so many owners fewer, while some are left
+abbrev pub with_fewer : ℕ → Option Standing → Option Standing
+with_fewer n None = None
+with_fewer n (Some Owned) = Some Owned
+with_fewer n (Some Raw) = Some Raw
+with_fewer n (Some (Shared m)) = Some (Shared (m - n))
+with_fewer n (Some Retired) = Some Retired
+with_fewer n (Some (privately c)) = Some (privately c)
+
+module _ {T : Type 0} (holds : T → List Holding) where
+  -- what a value holds at this index
+  abbrev pub held_by : Option T → ℕ → Option Holding
+  held_by None i = None
+  held_by (Some value) i = slice_get (holds value) i
+
+  -- what the value in the slot holds at this index
+  abbrev pub held_at : World T → ℕ → ℕ → Option Holding
+  held_at w j i = held_by (value_at w j) i
+
+  -- the slot whose item the owner is of
+  abbrev pub owns : World T → Owner → Option ℕ
+  owns w (of_value j i) = slot_owned (held_at w j i)
+  owns w (of_cell c) = held_in (entry_at w.cells c)
+
+-- distinct owners of the slot's item, as many as it has
+pub record AreAllOf {T : Type 0} (holds : T → List Holding) (w : World T) (k : ℕ) (owners : List Owner) : Type 0 where
+  pub each : (o : Owner) → Contains owners o → owns holds w o ≡ Some k
+  pub distinct : AllPairs ◌≢◌ owners
+  pub some : 0 < length owners
+  pub all : length owners ≡ owner_count (standing_at w k)
+
+-- what goes with what waits: an item that waits itself, or whose owners are all held by what goes; and a cell that the value of such an item holds
+pub data Goes {T : Type 0} (holds : T → List Holding) (w : World T) : Holder → Type 0 where
+  waits : (k : ℕ) → IsWaiting (standing_at w k) → Goes holds w (the_item k)
+  given : (k : ℕ) (owners : List Owner) → AreAllOf holds w k owners → ((o : Owner) → Contains owners o → Goes holds w (holder o)) →
+      Goes holds w (the_item k)
+  held : (j i c : ℕ) → cell_held (held_at holds w j i) ≡ Some c → Goes holds w (the_item j) → Goes holds w (the_cell c)
 
 -- all that is out goes with what waits
 pub record AllGo {T : Type 0} (holds : T → List Holding) (w : World T) : Type 0 where
-  pub slots : (k : ℕ) → IsSome (standing_at w k) → Goes holds w k
-  pub cells : (c : ℕ) → IsSome (entry_at w.cells c) → GoesCell holds w c
+  pub slots : (k : ℕ) → IsSome (standing_at w k) → Goes holds w (the_item k)
+  pub cells : (c : ℕ) → IsSome (entry_at w.cells c) → Goes holds w (the_cell c)
 
 -- so many items more were reclaimed
 abbrev pub with_reclaimed : ℕ → Tally → Tally
 with_reclaimed zero t = t
 with_reclaimed (suc n) t = one_reclaimed (with_reclaimed n t)
 
--- what goes is free, and its items are counted as reclaimed; everything else is as before
+-- the item stays, with its value; exactly those of its owners are given up whose holder goes
+pub record Stays {T : Type 0} (holds : T → List Holding) (old new : World T) (k : ℕ) : Type 0 where
+  pub given : List Owner
+  pub distinct : AllPairs ◌≢◌ given
+  pub all : (o : Owner) → (Contains given o ↔ ((owns holds old o ≡ Some k) × Goes holds old (holder o)))
+  pub standing : standing_at new k ≡ with_fewer (length given) (standing_at old k)
+  pub value : value_at new k ≡ value_at old k
+
+-- what goes is free, and its items are counted as reclaimed; everything else is as before, but for the owners that went
 pub record Sweeps {T : Type 0} (holds : T → List Holding) (old new : World T) : Type 0 where
-  pub gone : (k : ℕ) → Goes holds old k → (standing_at new k ≡ None) × (value_at new k ≡ None)
-  pub kept : (k : ℕ) → ¬ (Goes holds old k) → (standing_at new k ≡ standing_at old k) × (value_at new k ≡ value_at old k)
-  pub cells_gone : (c : ℕ) → GoesCell holds old c → entry_at new.cells c ≡ None
-  pub cells_kept : (c : ℕ) → ¬ (GoesCell holds old c) → entry_at new.cells c ≡ entry_at old.cells c
+  pub gone : (k : ℕ) → Goes holds old (the_item k) → (standing_at new k ≡ None) × (value_at new k ≡ None)
+  pub kept : (k : ℕ) → ¬ (Goes holds old (the_item k)) → Stays holds old new k
+  pub cells_gone : (c : ℕ) → Goes holds old (the_cell c) → entry_at new.cells c ≡ None
+  pub cells_kept : (c : ℕ) → ¬ (Goes holds old (the_cell c)) → entry_at new.cells c ≡ entry_at old.cells c
   pub reclaimed : (n : ℕ) × (taken old ≡ taken new + n) × (new.tally ≡ with_reclaimed n old.tally)
   pub time : new.time ≡ emptied old.time
   pub home : new.home ≡ old.home

@@ -1,13 +1,11 @@
 -- A world with what is lent of it, and what its parts keep true of each other
-use Rattle.std.specs.Prelude.{ℕ, ◌+◌, ◌≤◌, ◌≡◌, List, length, None, sum_by, count_by}
+use Rattle.std.specs.Prelude.{ℕ, ◌+◌, ◌≤◌, ◌≡◌, List, length, sum_by, count_by}
 use Rattle.sdd_store.specs.Time.{Time, waiting_count}
-use Rattle.sdd_store.specs.Table.{entry_at}
 use Rattle.sdd_places.specs.Tenures.{Tenures}
 use Rattle.sdd_slots.specs.Slots.{Slots}
 use Rattle.sdd_slots.specs.Cells.{Cells}
 use Rattle.sdd_base.specs.Holding.{Holding, ValuesAreOf}
 use Rattle.sdd_base.specs.World.{World, is_loose}
-use Rattle.sdd_base.specs.Steps.{held_in}
 use Rattle.sdd_base.specs.Lending.{Lending}
 
 -- a world, and what of its values is lent
@@ -15,11 +13,11 @@ pub record Core (T : Type 0) : Type 0 where
   pub world : World T
   pub lending : Lending
 
--- there is room for each slot to wait, no cell holds an item, values hold what is of this home, and each place may have a reader
+-- there is room for each slot to wait, cells hold owners of these slots, values hold what is of this home, and each place may have a reader
 pub record IsSound {T : Type 0} (holds : T → List Holding) (t : Time) (s : Slots T) (c : Cells) (r : Tenures) : Type 0 where
   pub counted : sum_by waiting_count t.places + count_by is_loose s.standings ≤ length s.standings
   pub reserved : t.room ≡ length s.standings
-  pub empty : (k : ℕ) → held_in (entry_at c.cells k) ≡ None
+  pub held : c.slots ≡ s.home
   pub homes : ValuesAreOf holds (record { slots = s.home; cells = c.home; readers = r.home }) s.values
   pub participants : t.participants ≡ r.home.size
   pub tenures : length r.kept ≡ r.home.size

@@ -1,6 +1,11 @@
-ghost use Rattle.std.specs.Prelude.{◌≡◌, ℕ, ◌+◌, ◌^◌, ◌<◌, ◌≤◌, Bool, true, false, if◌then◌else◌, Contains, List, [], map, length, vec_capacity, Some, None, Option, IsSome, MatchOption, MatchResult, IfOk, IsTrue, option_copied, ◌⊎◌, ◌↔◌};
+ghost use Rattle.std.specs.Prelude.{◌≡◌, ℕ, ◌+◌, ◌^◌, ◌<◌, ◌≤◌, Bool, true, false, if◌then◌else◌, Contains, List, [], map, length, vec_capacity, Some, None, Option, IsSome, MatchOption, MatchResult, IfOk, IfSome, IsTrue, option_copied, ◌⊎◌, ◌↔◌};
 ghost use Rattle.sdd_core.specs.Epoch.{epoch_of};
-ghost use Rattle.sdd_token.specs.Right.{number_of, home_of};
+ghost use Rattle.sdd_token.specs.Kind.{IsOwner};
+ghost use Rattle.sdd_token.specs.Right.{number_of, home_of, kind_of};
+ghost use Rattle.sdd_slots.specs.Slots.{IsOwnedBy, IsSharedBy, first_standing, has_others, let_go, owners_of};
+ghost use Rattle.sdd_slots.specs.Cells.{MayHold, cell_with, slot_held};
+ghost use Rattle.sdd_base.specs.Ptr.{IsShown, cell_seen, slot_named};
+ghost use Rattle.sdd_base.specs.Shared as shared;
 ghost use Rattle.sdd_store.specs.Waiting.{What};
 ghost use Rattle.sdd_store.specs.Waiting.What.{Item};
 ghost use Rattle.sdd_store.specs.Time as time;
@@ -10,7 +15,7 @@ ghost use Rattle.sdd_base.specs.Seat.{seat_for, IsSeated, IsExact};
 ghost use Rattle.sdd_base.specs.Own.{GrowsOn};
 ghost use Rattle.sdd_base.specs.Owned.{slots_home, cells_home, holding_of, cell_holding};
 ghost use Rattle.sdd_base.specs.World.{World, IsBlank, weight, KeepsSizes, place_at, standing_at, value_at, HasPlace, IsPlaceOf};
-ghost use Rattle.sdd_base.specs.Steps.{made, retired, nulled, cell_closed, given, given_all, slot_reclaimed, all_reclaimed, rotated, settled, opened, reclaims, changed, nested, closed, stirred, accelerated, registered, ended};
+ghost use Rattle.sdd_base.specs.Steps.{made_as, with_standing, retired, owner_given, with_cell, without_cell, cell_closed, given, given_all, slot_reclaimed, all_reclaimed, rotated, settled, opened, reclaims, changed, nested, closed, stirred, accelerated, registered, ended};
 ghost use Rattle.sdd_base.specs.Whole.{IsWhole};
 ghost use Rattle.sdd_base.specs.Under.{Stays};
 ghost use Rattle.sdd_places.specs.Block.{IsHome, IsFreeFor, stake_at};
@@ -18,12 +23,12 @@ ghost use Rattle.sdd_places.specs.Tenures.{kept_at};
 ghost use Rattle.sdd_world.specs.Closing.{paced, NothingIsOut};
 ghost use Rattle.sdd_world.specs.Lending.{AreLent, IsPartAt, shared, given_up};
 
-use sdd_base::{AtomicOwned, Giver, Item, Owned, inner};
-use sdd_core::Refused;
+use sdd_base::{AtomicOwned, AtomicShared, Giver, Item, Owned, Ptr, Shared, inner};
+use sdd_core::{Refused, Tag};
 use sdd_places::{Stage, Tenure, Tenures};
-use sdd_slots::{Cells, Slots};
-use sdd_store::{Pace, Standing, Tally, Time};
-use sdd_token::Right;
+use sdd_slots::{Cells, MOST_OWNERS, Slots};
+use sdd_store::{Cell, Pace, Standing, Tally, Time};
+use sdd_token::{Kind, Right};
 use std::alloc::{AllocError, Global};
 use std::marker::Model;
 
@@ -64,44 +69,88 @@ impl<T: Item<T>> Core<T> {
         self.slots.is_full()
     }
 
-    /// Puts a value into a free slot.
-    pub fn make(&mut self, value: T) -> Result<Right, T>
+    /// Puts a value into a free slot, for an owner of this kind.
+    pub fn make(&mut self, value: T, kind: Kind) -> Result<Right, T>
         requires home { AreOf self.old.world.home (T.holds value) }
+        requires owner { IsOwner kind }
         ensures made { MatchResult result
-            (λ right. (home_of right ≡ self.old.world.home.slots) × IsEmptyAt self.old.world.standings (number_of right) ×
-            (self.new ≡ record self.old { world = made self.old.world (number_of right) value }))
+            (λ right. (home_of right ≡ self.old.world.home.slots) × (kind_of right ≡ kind) × IsEmptyAt self.old.world.standings (number_of right) ×
+            (self.new ≡ record self.old { world = made_as self.old.world (number_of right) value (first_standing kind) }))
             (λ back. IsFull self.old.world.standings × (back ≡ value) × (self.new ≡ self.old)) }
         ensures sizes { KeepsSizes self.old.world self.new.world }
         ensures whole { IsWhole self.old.world → IsWhole self.new.world }
         ensures lent { IsWhole self.old.world → AreLent self.old → AreLent self.new }
         ensures keeps { IsWhole self.old.world → (k : ℕ) (v : T) → value_at self.old.world k ≡ Some v → value_at self.new.world k ≡ Some v }
     {
-        let right = self.slots.make(value)?;
+        let right = self.slots.make(value, kind)?;
         self.tally.count_made();
         Ok(right)
     }
 
-    /// The item waits with a place.
-    pub fn retire(&mut self, place: usize, right: Right)
-        requires place { HasPlace self.old.world place }
-        requires home { home_of right ≡ self.old.world.home.slots }
-        ensures owned { standing_at self.old.world (number_of right) ≡ Some Standing.Owned }
-        ensures retired { self.new ≡ record self.old { world = retired self.old.world place (number_of right) } }
-        ensures sizes { KeepsSizes self.old.world self.new.world }
-        ensures whole { IsPlaceOf self.old.world place → IsWhole self.old.world → IsWhole self.new.world }
-        ensures lent { AreLent self.old → AreLent self.new }
+    /// The slot of an owner, with how the owner finds it.
+    pub fn slot_of(&self, right: &Right) -> u32
+        requires { home_of right.now ≡ self.now.world.home.slots }
+        ensures slot { result ≡ number_of right.now }
+        ensures owned { IsOwnedBy (kind_of right.now) (standing_at self.now.world result) }
     {
-        let slot = self.slots.retire(right);
-        self.time.wait(place, slot);
+        self.slots.slot_of(right)
     }
 
-    /// The item waits at some place that isn't free.
+    /// One owner more of the item in a slot, if it is shared.
+    ///
+    /// `TooManyOwners` where as many share it as may.
+    pub fn upgrade(&mut self, slot: u32) -> Result<Option<Right>, Refused>
+        ensures right { IfOk result (λ o. IfSome o
+            (λ right. (home_of right ≡ self.old.world.home.slots) × (number_of right ≡ slot) × (kind_of right ≡ Kind.Shared))) }
+        ensures upgraded { MatchResult result
+            (λ o. MatchOption o
+            ((owners_of (standing_at self.old.world slot) ≡ None) × (self.new ≡ self.old))
+            (λ _. (owners : ℕ) × IsSharedBy owners (standing_at self.old.world slot) × (owners < 2 ^ 62) ×
+            (self.new ≡ record self.old { world = with_standing self.old.world slot (Standing.Shared (owners + 1)) })))
+            (λ e. IsSharedBy (2 ^ 62) (standing_at self.old.world slot) × (e ≡ Refused.TooManyOwners) × (self.new ≡ self.old)) }
+        ensures sizes { KeepsSizes self.old.world self.new.world }
+        ensures whole { IsWhole self.old.world → IsWhole self.new.world }
+        ensures lent { IsWhole self.old.world → AreLent self.old → AreLent self.new }
+    {
+        match self.slots.owners(slot) {
+            Some(owners) if owners < MOST_OWNERS => Ok(Some(self.slots.add_owner(slot, owners))),
+            Some(_) => Err(Refused::TooManyOwners),
+            None => Ok(None),
+        }
+    }
+
+    /// An owner lets its item go, and is told whether it was the last. The last one's item waits with a place.
+    pub fn let_go(&mut self, place: usize, right: Right) -> bool
+        requires place { HasPlace self.old.world place }
+        requires home { home_of right ≡ self.old.world.home.slots }
+        ensures owned { IsOwnedBy (kind_of right) (standing_at self.old.world (number_of right)) }
+        ensures last { IsTrue result ↔ ¬ (IsTrue (has_others (standing_at self.old.world (number_of right)))) }
+        ensures gone { self.new ≡ record self.old {
+          world = owner_given self.old.world place (number_of right) (standing_at self.old.world (number_of right));
+        } }
+        ensures waits { (if result then retired self.old.world place (number_of right)
+            else with_standing self.old.world (number_of right) (let_go (standing_at self.old.world (number_of right)))) ≡ self.new.world }
+        ensures sizes { KeepsSizes self.old.world self.new.world }
+        ensures whole { IsSome (time.phase_at self.old.world.time place) → IsWhole self.old.world → IsWhole self.new.world }
+        ensures lent { AreLent self.old → AreLent self.new }
+    {
+        let slot = right.number();
+        let is_last = self.slots.let_go(right);
+        if is_last {
+            self.time.wait(place, slot);
+        }
+        is_last
+    }
+
+    /// The owner's item waits at some place that isn't free, if it was the last.
     pub fn leave(&mut self, right: Right)
         requires some { (p : ℕ) × IsSome (time.phase_at self.old.world.time p) }
         requires home { home_of right ≡ self.old.world.home.slots }
-        ensures owned { standing_at self.old.world (number_of right) ≡ Some Standing.Owned }
+        ensures owned { IsOwnedBy (kind_of right) (standing_at self.old.world (number_of right)) }
         ensures left { (p : ℕ) × IsSome (time.phase_at self.old.world.time p)
-            × (self.new ≡ record self.old { world = retired self.old.world p (number_of right) }) }
+            × (self.new ≡ record self.old {
+              world = owner_given self.old.world p (number_of right) (standing_at self.old.world (number_of right));
+            }) }
         ensures sizes { KeepsSizes self.old.world self.new.world }
         ensures whole { IsWhole self.old.world → IsWhole self.new.world }
         ensures lent { AreLent self.old → AreLent self.new }
@@ -109,33 +158,107 @@ impl<T: Item<T>> Core<T> {
         let Some(place) = self.time.some_taken() else {
             unreachable!()
         };
-        self.retire(place, right);
+        let _ = self.let_go(place, right);
     }
 
-    /// A free cell holds nothing.
-    pub fn null(&mut self) -> Option<Right>
-        ensures nulled { MatchOption result
-            (IsFull self.old.world.cells × (self.new ≡ self.old))
-            (λ right. (home_of right ≡ self.old.world.home.cells) × IsEmptyAt self.old.world.cells (number_of right)
-            × (self.new ≡ record self.old { world = nulled self.old.world (number_of right) })) }
+    /// No cell is free.
+    pub fn has_no_cell(&self) -> bool
+        ensures { IsTrue result ↔ IsFull self.now.world.cells }
+    {
+        self.cells.is_full()
+    }
+
+    /// A free cell for owners of this kind holds this one, if there is one.
+    pub fn make_cell(
+        &mut self,
+        held: Option<Right>,
+        tag: Tag,
+        kind: Kind,
+    ) -> Result<Right, Option<Right>>
+        requires owner { IsOwner kind }
+        requires held { MayHold self.old.world.home.slots kind held }
+        ensures made { MatchResult result
+            (λ cell. (home_of cell ≡ self.old.world.home.cells) × (kind_of cell ≡ kind) × IsEmptyAt self.old.world.cells (number_of cell)
+            × (self.new ≡ record self.old { world = with_cell self.old.world (number_of cell) (cell_with held tag) }))
+            (λ back. IsFull self.old.world.cells × (back ≡ held) × (self.new ≡ self.old)) }
         ensures sizes { KeepsSizes self.old.world self.new.world }
         ensures whole { IsWhole self.old.world → IsWhole self.new.world }
         ensures lent { IsWhole self.old.world → AreLent self.old → AreLent self.new }
     {
-        self.cells.null()
+        self.cells.claim(held, tag, kind)
     }
 
-    /// The cell is free again. No cell can hold an item yet, so there is nothing to retire.
-    pub fn close_cell(&mut self, place: usize, right: Right)
-        requires place { HasPlace self.old.world place }
-        requires home { home_of right ≡ self.old.world.home.cells }
-        ensures closed { self.new ≡ record self.old { world = cell_closed self.old.world place (number_of right) } }
-        ensures sizes { KeepsSizes self.old.world self.new.world }
-        ensures whole { IsPlaceOf self.old.world place → IsWhole self.old.world → IsWhole self.new.world }
-        ensures lent { IsPlaceOf self.old.world place → IsWhole self.old.world → AreLent self.old → AreLent self.new }
+    /// What a cell holds.
+    pub fn cell(&self, cell: &Right) -> Cell
+        requires { home_of cell.now ≡ self.now.world.home.cells }
+        ensures { entry_at self.now.world.cells (number_of cell.now) ≡ Some result }
     {
-        let _ = place;
-        let _ = self.cells.close(right);
+        self.cells.get(cell)
+    }
+
+    /// The slot whose item a cell holds, as its owner finds it.
+    pub fn slot_held(&self, cell: &Right) -> Option<u32>
+        requires { home_of cell.now ≡ self.now.world.home.cells }
+        ensures taken { IsSome (entry_at self.now.world.cells (number_of cell.now)) }
+        ensures held { IfSome (entry_at self.now.world.cells (number_of cell.now)) (λ old. old.held ≡ result) }
+        ensures owned { IfSome result (λ slot. IsOwnedBy (kind_of cell.now) (standing_at self.now.world slot)) }
+    {
+        let right = self.cells.owner(cell)?;
+        Some(self.slots.slot_of(right))
+    }
+
+    /// The cell holds another owner, or none, and has this tag. What it held comes back.
+    pub fn swap(&mut self, cell: &Right, new: Option<Right>, tag: Tag) -> Option<Right>
+        requires home { home_of cell.now ≡ self.old.world.home.cells }
+        requires held { MayHold self.old.world.home.slots (kind_of cell.now) new }
+        ensures taken { IsSome (entry_at self.old.world.cells (number_of cell.now)) }
+        ensures held { IfSome (entry_at self.old.world.cells (number_of cell.now)) (λ old. old.held ≡ slot_held result) }
+        ensures owner { MayHold self.old.world.home.slots (kind_of cell.now) result }
+        ensures swapped { self.new ≡ record self.old { world = with_cell self.old.world (number_of cell.now) (cell_with new tag) } }
+        ensures sizes { KeepsSizes self.old.world self.new.world }
+        ensures whole { IsWhole self.old.world → IsWhole self.new.world }
+        ensures lent { IsWhole self.old.world → AreLent self.old → AreLent self.new }
+    {
+        self.cells.swap(cell, new, tag)
+    }
+
+    /// The cell has this tag.
+    pub fn set_tag(&mut self, cell: &Right, tag: Tag)
+        requires { home_of cell.now ≡ self.old.world.home.cells }
+        ensures taken { IsSome (entry_at self.old.world.cells (number_of cell.now)) }
+        ensures tagged { IfSome (entry_at self.old.world.cells (number_of cell.now))
+            (λ old. self.new ≡ record self.old { world = with_cell self.old.world (number_of cell.now) (record old { tag = tag }) }) }
+        ensures sizes { KeepsSizes self.old.world self.new.world }
+        ensures whole { IsWhole self.old.world → IsWhole self.new.world }
+        ensures lent { IsWhole self.old.world → AreLent self.old → AreLent self.new }
+    {
+        self.cells.set_tag(cell, tag);
+    }
+
+    /// Gives a cell up. What it held comes back.
+    pub fn take_cell(&mut self, cell: Right) -> Option<Right>
+        requires { home_of cell ≡ self.old.world.home.cells }
+        ensures taken { IsSome (entry_at self.old.world.cells (number_of cell)) }
+        ensures held { IfSome (entry_at self.old.world.cells (number_of cell)) (λ old. old.held ≡ slot_held result) }
+        ensures owner { MayHold self.old.world.home.slots (kind_of cell) result }
+        ensures freed { self.new ≡ record self.old { world = without_cell self.old.world (number_of cell) } }
+        ensures sizes { KeepsSizes self.old.world self.new.world }
+        ensures whole { IsWhole self.old.world → IsWhole self.new.world }
+        ensures lent { IsWhole self.old.world → AreLent self.old → AreLent self.new }
+    {
+        self.cells.close(cell)
+    }
+
+    /// The cell is free, and a place is given what it held.
+    pub fn close_cell(&mut self, place: usize, cell: Right)
+        requires place { HasPlace self.old.world place }
+        requires home { home_of cell ≡ self.old.world.home.cells }
+        ensures closed { self.new ≡ record self.old { world = cell_closed self.old.world place (number_of cell) } }
+        ensures sizes { KeepsSizes self.old.world self.new.world }
+    {
+        if let Some(right) = self.take_cell(cell) {
+            let _ = self.let_go(place, right);
+        }
     }
 }
 
@@ -172,7 +295,20 @@ impl<T: Item<T>> Giver<T> for Retirement<'_, T> {
         ensures exact { IsExact (seat_for self.old.core.now.world self.old.place self.old.core.ghost_name) →
             self.new.core.now.world ≡ given self.old.core.now.world self.old.place (holding_of owner) }
     {
-        self.core.retire(self.place, inner::right_of_owner(owner));
+        let _ = self.core.let_go(self.place, inner::right_of_owner(owner));
+    }
+
+    fn shared(&mut self, owner: Shared<T>)
+        requires seated { IsSeated (seat_for self.old.core.now.world self.old.place self.old.core.ghost_name) }
+        requires home { shared.slots_home owner ≡ self.old.core.now.world.home.slots }
+        ensures seat { seat_for self.new.core.now.world self.new.place self.new.core.ghost_name ≡
+            seat_for self.old.core.now.world self.old.place self.old.core.ghost_name }
+        ensures own { GrowsOn (place_at self.old.core.now.world self.old.place) (place_at self.new.core.now.world self.new.place) }
+        ensures lending { self.new.core.now.lending ≡ self.old.core.now.lending }
+        ensures exact { IsExact (seat_for self.old.core.now.world self.old.place self.old.core.ghost_name) →
+            self.new.core.now.world ≡ given self.old.core.now.world self.old.place (shared.holding_of owner) }
+    {
+        let _ = self.core.let_go(self.place, inner::right_of_shared(owner));
     }
 
     fn atomic_owned(&mut self, cell: AtomicOwned<T>)
@@ -186,6 +322,20 @@ impl<T: Item<T>> Giver<T> for Retirement<'_, T> {
             self.new.core.now.world ≡ given self.old.core.now.world self.old.place (cell_holding cell) }
     {
         self.core.close_cell(self.place, inner::right_of_cell(cell));
+    }
+
+    fn atomic_shared(&mut self, cell: AtomicShared<T>)
+        requires seated { IsSeated (seat_for self.old.core.now.world self.old.place self.old.core.ghost_name) }
+        requires home { shared.cells_home cell ≡ self.old.core.now.world.home.cells }
+        ensures seat { seat_for self.new.core.now.world self.new.place self.new.core.ghost_name ≡
+            seat_for self.old.core.now.world self.old.place self.old.core.ghost_name }
+        ensures own { GrowsOn (place_at self.old.core.now.world self.old.place) (place_at self.new.core.now.world self.new.place) }
+        ensures lending { self.new.core.now.lending ≡ self.old.core.now.lending }
+        ensures exact { IsExact (seat_for self.old.core.now.world self.old.place self.old.core.ghost_name) →
+            self.new.core.now.world ≡ given self.old.core.now.world self.old.place (shared.cell_holding cell) }
+    {
+        self.core
+            .close_cell(self.place, inner::right_of_shared_cell(cell));
     }
 }
 
@@ -406,6 +556,25 @@ impl<T: Item<T>> Core<T> {
         self.lend_from(place, slot, part)
     }
 
+    /// A pointer to what a cell holds, with the cell's tag, for as long as a part of the place's tenure is borrowed.
+    pub fn load<'g>(&mut self, place: usize, cell: &Right, part: &'g Tenure) -> Ptr<'g, T>
+        requires place { HasPlace self.old.world place }
+        requires home { home_of cell.now ≡ self.old.world.home.cells }
+        requires lent { AreLent self.old }
+        requires part { IsPartAt self.old.world.home.readers place part.now }
+        ensures seen { entry_at self.old.world.cells (number_of cell.now) ≡ Some (cell_seen result) }
+        ensures owned { IfSome (slot_named result) (λ slot. IsOwnedBy (kind_of cell.now) (standing_at self.old.world slot)) }
+        ensures shown { IsShown (λ k value. value_at self.old.world k ≡ Some value) result }
+        ensures world { self.new.world ≡ self.old.world }
+        ensures lent { AreLent self.new }
+    {
+        let tag = self.cells.get(cell).tag;
+        let Some(slot) = self.slot_held(cell) else {
+            return inner::null_with(tag);
+        };
+        inner::ptr_to(slot, self.lend_from(place, slot, part)).with_tag(tag)
+    }
+
     /// The value in a slot whose item stays there while a guard of the place is open.
     pub fn lend_from<'g>(&mut self, place: usize, slot: u32, part: &'g Tenure) -> &'g T
         requires place { HasPlace self.old.world place }
@@ -443,11 +612,12 @@ impl<T: Item<T>> Core<T> {
         let Core {
             time: _,
             slots,
-            cells: _,
+            cells,
             tenures: _,
             tally,
         } = self;
         slots.destroy();
+        cells.destroy();
         tally
     }
 
@@ -466,9 +636,15 @@ impl<T: Item<T>> Core<T> {
         ensures blank { IfOk result (λ core. IsBlank time slots cells core.world) }
         ensures lent { IfOk result AreLent }
     {
-        let cells = Cells::new(alloc, cells)?;
         let tenures = Tenures::new(alloc, participants as usize)?;
-        let slots = Slots::new(alloc, slots, participants)?;
+        let mut slots = Slots::new(alloc, slots, participants)?;
+        let cells = match Cells::new(alloc, cells, slots.badge()) {
+            Ok(cells) => cells,
+            Err(refused) => {
+                slots.destroy();
+                return Err(refused);
+            }
+        };
         Ok(Core {
             time,
             slots,

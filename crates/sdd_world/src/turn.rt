@@ -1,21 +1,14 @@
-ghost use Rattle.std.specs.Prelude.{◌≡◌, ℕ, Some, option_copied};
-ghost use Rattle.sdd_base.specs.World.{World, IsPlaceOf, place_at, standing_at, value_at};
+ghost use Rattle.std.specs.Prelude.{◌≡◌, option_copied};
+ghost use Rattle.sdd_base.specs.World.{World, IsPlaceOf};
 ghost use Rattle.sdd_world.specs.Place.{index_of};
 ghost use Rattle.sdd_world.specs.Shown.{one_value};
-ghost use Rattle.sdd_base.specs.Seat.{seat_on, IsSeated, IsExact};
-ghost use Rattle.sdd_base.specs.Steps.{retired, cell_closed};
-ghost use Rattle.sdd_base.specs.Owned.{slot_of, slots_home, cell_of, cells_home};
-ghost use Rattle.sdd_store.specs.Time.{awaiting};
-ghost use Rattle.sdd_store.specs.Waiting.What.{Item};
-ghost use Rattle.sdd_base.specs.Ptr.{KeepsShown, shown_by};
-ghost use Rattle.sdd_base.specs.Own.{IsSpilled};
-ghost use Rattle.sdd_base.specs.Known.{KnowsOn};
+ghost use Rattle.sdd_base.specs.Ptr.{shown_by};
 
 use crate::world::{Place, World};
-use sdd_base::{AtomicOwned, Guard, Guards, Item, Look, Owned, Ptr, Shows, Space, inner};
-use sdd_core::Refused;
-use sdd_store::Standing;
-use sdd_token::Right;
+use sdd_base::{Guard, Guards, Item, Look, Ptr, RawPtr, Shows, Space, inner};
+use sdd_core::{Refused, Tag};
+use sdd_store::Cell;
+use sdd_token::{Kind, Right};
 
 /// One participant's turn at a world: the space in which it makes its calls.
 pub struct Turn<'w, T: Item<T>> {
@@ -152,21 +145,21 @@ impl<T: Item<T>> Space<T> for Turn<'_, T> {
 
     ghost is_alone = { true };
 
-    fn make(&mut self, value: T) -> Result<Owned<T>, (T, Refused)> {
+    fn make(&mut self, value: T, kind: Kind) -> Result<Right, (T, Refused)> {
         let world = &mut *self.world;
-        match world.core.make(value) {
-            Ok(right) => Ok(inner::owner_of(right)),
+        match world.core.make(value, kind) {
+            Ok(right) => Ok(right),
             Err(value) => Err((value, Refused::NoSlot)),
         }
     }
 
-    fn make_with<F: FnOnce() -> T>(&mut self, make: F) -> Result<Owned<T>, (F, Refused)> {
+    fn make_with<F: FnOnce() -> T>(&mut self, make: F, kind: Kind) -> Result<Right, (F, Refused)> {
         let world = &mut *self.world;
         if world.core.is_full() {
             return Err((make, Refused::NoSlot));
         }
-        match world.core.make(make()) {
-            Ok(right) => Ok(inner::owner_of(right)),
+        match world.core.make(make(), kind) {
+            Ok(right) => Ok(right),
             Err(_) => unreachable!(),
         }
     }
@@ -176,49 +169,127 @@ impl<T: Item<T>> Space<T> for Turn<'_, T> {
         world.core.lend(self.place, right, inner::tenure_of(guard))
     }
 
-    fn retire(&mut self, owner: Owned<T>)
-        requires seated { IsSeated (seat_on self.old.world.now self.old.place self.old.world.ghost_name) }
-        requires home { slots_home owner ≡ self.old.world.now.home.slots }
-        ensures seat { seat_on self.new.world.now self.new.place self.new.world.ghost_name ≡
-            seat_on self.old.world.now self.old.place self.old.world.ghost_name }
-        ensures own { place_at self.new.world.now self.new.place ≡ awaiting (Item (slot_of owner)) (place_at self.old.world.now self.old.place) }
-        ensures owned { IsExact (seat_on self.old.world.now self.old.place self.old.world.ghost_name) →
-            standing_at self.old.world.now (slot_of owner) ≡ Some Standing.Owned }
-        ensures known { KnowsOn (record { told = self.old.world.now.time.count; since = self.old.world.now.time.count })
-            (record { told = self.new.world.now.time.count; since = self.new.world.now.time.count }) }
-        ensures exact { IsExact (seat_on self.old.world.now self.old.place self.old.world.ghost_name) →
-            self.new.world.now ≡ retired self.old.world.now self.old.place (slot_of owner) }
-        ensures keeps { KeepsShown
-            (λ k value. value_at self.old.world.now k ≡ Some value) (λ k value. value_at self.new.world.now k ≡ Some value) }
-    {
+    fn add_owner(&mut self, right: &Right) -> Result<Right, Refused> {
         let world = &mut *self.world;
-        world.core.retire(self.place, inner::right_of_owner(owner));
-    }
-
-    fn make_cell(&mut self) -> Result<AtomicOwned<T>, Refused> {
-        let world = &mut *self.world;
-        match world.core.null() {
-            Some(right) => Ok(inner::cell_with(right)),
-            None => Err(Refused::NoCell),
+        let slot = world.core.slot_of(right);
+        match world.core.upgrade(slot)? {
+            Some(right) => Ok(right),
+            None => unreachable!(),
         }
     }
 
-    fn close_cell(&mut self, cell: AtomicOwned<T>)
-        requires seated { IsSeated (seat_on self.old.world.now self.old.place self.old.world.ghost_name) }
-        requires home { cells_home cell ≡ self.old.world.now.home.cells }
-        ensures seat { seat_on self.new.world.now self.new.place self.new.world.ghost_name ≡
-            seat_on self.old.world.now self.old.place self.old.world.ghost_name }
-        ensures own { IsSpilled (place_at self.old.world.now self.old.place) (place_at self.new.world.now self.new.place) }
-        ensures known { KnowsOn (record { told = self.old.world.now.time.count; since = self.old.world.now.time.count })
-            (record { told = self.new.world.now.time.count; since = self.new.world.now.time.count }) }
-        ensures exact { IsExact (seat_on self.old.world.now self.old.place self.old.world.ghost_name) →
-            self.new.world.now ≡ cell_closed self.old.world.now self.old.place (cell_of cell) }
-        ensures keeps { KeepsShown
-            (λ k value. value_at self.old.world.now k ≡ Some value) (λ k value. value_at self.new.world.now k ≡ Some value) }
-    {
-        let right = inner::right_of_cell(cell);
+    fn upgrade(&mut self, slot: u32) -> Result<Option<Right>, Refused> {
         let world = &mut *self.world;
-        world.core.close_cell(self.place, right);
+        world.core.upgrade(slot)
+    }
+
+    fn let_go(&mut self, right: Right) -> bool {
+        let world = &mut *self.world;
+        world.core.let_go(self.place, right)
+    }
+
+    fn make_cell(
+        &mut self,
+        held: Option<Right>,
+        tag: Tag,
+        kind: Kind,
+    ) -> Result<Right, (Option<Right>, Refused)> {
+        let world = &mut *self.world;
+        match world.core.make_cell(held, tag, kind) {
+            Ok(cell) => Ok(cell),
+            Err(held) => Err((held, Refused::NoCell)),
+        }
+    }
+
+    fn make_in_cell(&mut self, value: T, kind: Kind) -> Result<Right, (T, Refused)> {
+        let world = &mut *self.world;
+        if world.core.is_full() {
+            return Err((value, Refused::NoSlot));
+        }
+        if world.core.has_no_cell() {
+            return Err((value, Refused::NoCell));
+        }
+        match world.core.make(value, kind) {
+            Ok(right) => match world.core.make_cell(Some(right), Tag::None, kind) {
+                Ok(cell) => Ok(cell),
+                Err(_) => unreachable!(),
+            },
+            Err(_) => unreachable!(),
+        }
+    }
+
+    fn cell(&mut self, cell: &Right) -> Cell {
+        let world = &mut *self.world;
+        world.core.cell(cell)
+    }
+
+    fn load<'g>(&mut self, cell: &Right, guard: &'g Guard) -> Ptr<'g, T> {
+        let world = &mut *self.world;
+        world.core.load(self.place, cell, inner::tenure_of(guard))
+    }
+
+    fn swap(&mut self, cell: &Right, new: Option<Right>, tag: Tag) -> (Option<Right>, Tag) {
+        let world = &mut *self.world;
+        let old = world.core.cell(cell).tag;
+        (world.core.swap(cell, new, tag), old)
+    }
+
+    fn exchange<'g>(
+        &mut self,
+        cell: &Right,
+        current: Cell,
+        new: Option<Right>,
+        tag: Tag,
+        guard: &'g Guard,
+    ) -> Result<(Option<Right>, Ptr<'g, T>), (Option<Right>, Ptr<'g, T>)> {
+        let world = &mut *self.world;
+        if world.core.cell(cell) != current {
+            return Err((
+                new,
+                world.core.load(self.place, cell, inner::tenure_of(guard)),
+            ));
+        }
+        let old = world.core.swap(cell, new, tag);
+        Ok((
+            old,
+            world.core.load(self.place, cell, inner::tenure_of(guard)),
+        ))
+    }
+
+    fn set_tag_if<F: FnMut(RawPtr<T>) -> bool>(
+        &mut self,
+        cell: &Right,
+        tag: Tag,
+        mut condition: F,
+    ) -> Result<bool, Refused> {
+        let world = &mut *self.world;
+        if !condition(inner::raw_ptr_to(world.core.cell(cell))) {
+            return Ok(false);
+        }
+        world.core.set_tag(cell, tag);
+        Ok(true)
+    }
+
+    fn copy_cell(&mut self, cell: &Right, guard: &Guard) -> Result<Right, Refused> {
+        let _ = guard;
+        let world = &mut *self.world;
+        let tag = world.core.cell(cell).tag;
+        if world.core.has_no_cell() {
+            return Err(Refused::NoCell);
+        }
+        let owner = match world.core.slot_held(cell) {
+            Some(slot) => world.core.upgrade(slot)?,
+            None => None,
+        };
+        match world.core.make_cell(owner, tag, Kind::Shared) {
+            Ok(other) => Ok(other),
+            Err(_) => unreachable!(),
+        }
+    }
+
+    fn take_cell(&mut self, cell: Right) -> Option<Right> {
+        let world = &mut *self.world;
+        world.core.take_cell(cell)
     }
 
     ghost alone_is_exact = { λ _ alone. alone };

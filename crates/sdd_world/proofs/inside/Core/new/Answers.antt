@@ -9,17 +9,17 @@ use Rattle.sdd_world.proofs.inside.Core.new.Goals as goal
 pub invariant_of-result : goal.invariant_of-result
 invariant_of-result g c =
     let none : sum_by waiting_count c.args.time.places ≡ 0 = ap (λ ps. sum_by waiting_count ps) c.requires.idle in
-    record {
+    rw (c.badge.ensures.same) (record {
       counted = omega (arith, none, count_by-le-length is_loose c.in_ok-slots.slots.standings);
       reserved = grind (arith, common_steps);
-      empty = grind (arith, common_steps);
+      held = grind (arith, common_steps);
       homes = grind (arith, common_steps);
       participants = grind (arith, common_steps);
       tenures = grind (arith, common_steps);
       readers = grind (arith, common_steps);
-    }
+    })
 
 pub returns-clause-lent : goal.returns-clause-lent
 returns-clause-lent g c =
-    lent-blank _ _ c.args.slots c.args.participants c.requires.idle c.requires.nesting c.in_ok-slots.ensures.stakes.0 c.in_ok-tenures.ensures.size
-    (c.in_ok-tenures.ensures.count ∙ sym c.in_ok-tenures.ensures.size) c.in_ok-tenures.ensures.closed
+    rw (c.badge.ensures.same) (lent-blank _ _ c.args.slots c.args.participants c.requires.idle c.requires.nesting c.in_ok-slots.ensures.stakes.0 c.in_ok-tenures.ensures.size
+    (c.in_ok-tenures.ensures.count ∙ sym c.in_ok-tenures.ensures.size) c.in_ok-tenures.ensures.closed)

@@ -38,7 +38,7 @@ sound holds t u s c r (Ok p) h i =
     rw h.1 (record {
       counted = omega (arith, i.counted, a.waiting);
       reserved = a.room ∙ i.reserved;
-      empty = i.empty;
+      held = i.held;
       homes = i.homes;
       participants = a.participants ∙ i.participants;
       tenures = i.tenures;

@@ -1,6 +1,6 @@
-use Rattle.std.proofs.Common.{ℕ}
+use Rattle.std.proofs.Common.{ℕ, refl}
 use Rattle.sdd_base.specs.Owned.{slot_of}
-use Rattle.sdd_base.proofs.Own.{gives-grows, Gives-retired}
+use Rattle.sdd_base.proofs.Own.{gives-grows, Gives-owner_given}
 use Rattle.sdd_world.proofs.inside.RetirementGiver.owned.Goals as goal
 
 pub returns-clause-own : goal.returns-clause-own
@@ -8,4 +8,4 @@ returns-clause-own g c =
     let w = c.args.self.now.core.now.world in
     let p : ℕ = c.args.self.now.place in
     let slot : ℕ = slot_of c.args.owner in
-    rw (c.retire.ensures.retired, c.right_of_owner.ensures.slot) (gives-grows c.requires.seated.0 (Gives-retired w p slot))
+    rw (c.let_go.ensures.gone, c.right_of_owner.ensures.right) (gives-grows c.requires.seated.0 (Gives-owner_given w p slot _ refl))
