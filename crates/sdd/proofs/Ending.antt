@@ -1,11 +1,10 @@
 -- A script that let go of all it held ends its world, and all that was made was reclaimed
-use Rattle.sdd_base.specs.Holding.{atomic_owned}
 use Rattle.sdd_base.specs.World.{IsGuarded}
-use Rattle.sdd_world.specs.Closing.{AllGo}
-use Rattle.sdd_world.specs.Closing.Goes.{waits}
+use Rattle.sdd_world.specs.Closing.{AllGo, cell_held, held_by}
+use Rattle.sdd_world.specs.Closing.Goes.{waits, held}
 use Rattle.sdd_store.specs.Time as time
 use Rattle.sdd.proofs.Attending.{none-of}
-use Rattle.sdd.proofs.Words.{IsTrue, is_open, subst, ◌≡◌, ℕ, true, List, Option, Some, None, IsSome, is_some, map, slice_index_or, refl, sym, ap, ◌∙◌, ltb-true, arith, get_or-map, get_or_default, nobody, is_waiting, IsWhole, place_at, standing_at, filled-there, Fate, Out, Retired, Gone, holdings_of, link_home, fate_at, Desk, name_at, IsSound, IsThere, StandsAs}
+use Rattle.sdd.proofs.Words.{IsTrue, is_open, subst, ◌≡◌, ℕ, true, List, Option, Some, None, IsSome, is_some, map, slice_index_or, refl, sym, ap, ◌∙◌, ltb-true, arith, get_or-map, get_or_default, nobody, is_waiting, IsWhole, place_at, standing_at, filled-there, Fate, Out, Retired, Gone, holdings_of, fate_at, Desk, name_at, IsSound, IsThere, StandsAs}
 
 module _ (d : Desk) (s : IsSound d) (closed : (g : ℕ) → slice_index_or d.ledger.guards g None ≡ None) where
   -- no participant has a guard open where every one is closed
@@ -41,14 +40,8 @@ module _ (d : Desk) (s : IsSound d) where
       slots = λ k t. waits k (waits-there k t);
       cells = λ c t.
           (let link = s.linked.linked c t in
-          record {
-            slot = link.0;
-            value = link.1;
-            there = link.2;
-            home = link_home link.1;
-            held = (0, omega arith, ap (λ k. atomic_owned k (link_home link.1)) link.3);
-            goes = waits link.0 (waits-there link.0 (sym (filled-there d.world link.0 whole.filled) ∙ ap is_some link.2));
-          });
+          held link.0 0 c (ap (λ v. cell_held (held_by holdings_of v 0)) link.2 ∙ ap Some link.3)
+          (waits link.0 (waits-there link.0 (sym (filled-there d.world link.0 whole.filled) ∙ ap is_some link.2))));
     }
 
 -- where nothing stands for a name, nothing is in hand

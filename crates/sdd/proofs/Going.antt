@@ -14,7 +14,8 @@ use Rattle.sdd_store.specs.declared.tally.Tally.{Tally}
 use Rattle.sdd_base.specs.World.{IsNew}
 use Rattle.sdd_base.specs.Steps as steps
 use Rattle.sdd_base.specs.Whole.{times_with}
-use Rattle.sdd_base.specs.Calls.Calls.{registers, ends, closes, makes, nulls, retires}
+use Rattle.sdd_base.specs.Calls.Calls.{registers, ends, closes, makes, changes_cells, retires}
+use Rattle.sdd_base.specs.Out.{is_out}
 use Rattle.sdd_base.specs.Under.{KeepsUnderGuards}
 use Rattle.sdd_base.specs.declared.limits.Limits.{Limits}
 use Rattle.sdd_store.specs.Renaming.{waiting_by, participant_by}
@@ -200,7 +201,7 @@ module _ (d : Desk) (s : IsSound d) where
               | inr shut ↦ absurd (shut x.place before)
               | inl actor ↦
                   elim (cases_eq j i) [
-                    | inl same ↦ rw same (λ end path. (actor.1 x.place p k before actor.0 owns end path).0)
+                    | inl same ↦ rw same (λ end path. (actor.1 x.place p k before actor.0 (ap is_out owns) end path).0)
                     | inr ne ↦ keeps-on x.place (slot_at d j) d.world new.world before (retires d.world p k actor.0 owns)
                         (s.kept n j at x there (sym (others j ne) ∙ e) since before)
                   ]
@@ -333,8 +334,8 @@ module _ (d : Desk) (s : IsSound d) where
             | inl is ↦ absurd (let z : Out ≡ Retired at = sym (ap (fate_at with_item.ledger) is ∙ fate-new) ∙ e in cc)
             | inr ne ↦
                 subst (λ q. Keeps with_item.world x.place q) (sym (slot-old j ne))
-                (keeps-on x.place (slot_at d j) (steps.nulled d.world c) with_item.world o (makes (steps.nulled d.world c) k v slot)
-                (keeps-on x.place (slot_at d j) d.world (steps.nulled d.world c) o (nulls d.world c cell)
+                (keeps-on x.place (slot_at d j) (steps.nulled d.world c) with_item.world o (makes (steps.nulled d.world c) k v standing.Owned (inl refl) slot)
+                (keeps-on x.place (slot_at d j) d.world (steps.nulled d.world c) o (changes_cells d.world (slice_set d.world.cells c new_cell) (length-set d.world.cells c new_cell))
                 (s.kept n j at x there (sym (fate-old j ne) ∙ e) since o)))
           ];
       made = made-more;

@@ -8,7 +8,8 @@ pub use script::{
     Reader, Reply, Scene, Sink, Source, Writer, play, run,
 };
 pub use sdd_base::{
-    AtomicOwned, Giver, Guard, Guards, Item, Limits, Look, Owned, Ptr, Shows, Space,
+    AtomicOwned, AtomicShared, Giver, Guard, Guards, Item, Limits, Look, Owned, OwnedPtrPair, Ptr,
+    RawPtr, Shared, SharedPtrPair, Shows, Space,
 };
 pub use sdd_core::machine::{Did, Machine, Step, safety};
 pub use sdd_core::{Epoch, Refused, Tag};

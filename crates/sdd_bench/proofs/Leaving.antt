@@ -14,7 +14,7 @@ use Rattle.sdd_base.specs.World.{World, place_at, standing_at}
 use Rattle.sdd_base.specs.Steps.{opened, closed, changed, made, retired, all_reclaimed}
 use Rattle.sdd_base.specs.Steps as steps
 use Rattle.sdd_base.specs.Own.{IsOpened, IsClosed, opened_at, closed_with}
-use Rattle.sdd_base.specs.Out.{out, HoldsNothing}
+use Rattle.sdd_base.specs.Out.{is_out, out, HoldsNothing}
 use Rattle.sdd_base.specs.Seat.{Seat, IsExact}
 use Rattle.sdd_base.proofs.Whole.{all_awaiting-guards, below-or-past}
 use Rattle.sdd_base.proofs.Out.{out-laws}
@@ -83,7 +83,7 @@ module _ {T : Type 0} (holds : T → List Holding) (plain : HoldsNothing holds) 
   item-out : (w : World T) (p k : ℕ) (value : T) → IsEmptyAt w.standings k → out (retired (made w k value) p k) ≡ out w
   item-out w p k value empty =
       let m = (out-laws holds w).making k value empty in
-      let r = (out-laws holds (made w k value)).retiring p k (made-there w k value empty) in
+      let r = (out-laws holds (made w k value)).retiring p k (ap is_out (made-there w k value empty)) in
       omega (arith, m, r)
 
   -- two items that are made, and then retired
@@ -96,7 +96,7 @@ module _ {T : Type 0} (holds : T → List Holding) (plain : HoldsNothing holds) 
       let still : standing_at two k ≡ Some Owned = get_or-set_other one.standings j k (Some Owned) None (λ e. other (sym e)) ∙ there in
       let last : standing_at (retired two p k) j ≡ Some Owned = get_or-set_other two.standings k j (Some Retired) None other ∙ made-there one j b second in
       let m = (out-laws holds w).making k a first in let n = (out-laws holds one).making j b second in
-      let r = (out-laws holds two).retiring p k still in let s = (out-laws holds (retired two p k)).retiring q j last in
+      let r = (out-laws holds two).retiring p k (ap is_out still) in let s = (out-laws holds (retired two p k)).retiring q j (ap is_out last) in
       omega (arith, m, n, r, s)
 
 -- a number holds nothing
