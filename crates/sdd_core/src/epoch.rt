@@ -105,6 +105,3 @@ impl From<Epoch> for u8 {
         epoch.value
     }
 }
-
-#[cfg(test)]
-mod tests;

@@ -419,6 +419,3 @@ pub fn safety(alloc: Global, steps: &[Step]) -> Result<Machine, Refused>
     }
     Ok(machine)
 }
-
-#[cfg(test)]
-mod tests;

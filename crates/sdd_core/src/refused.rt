@@ -51,6 +51,3 @@ impl<T: Drop> From<AllocFailed<T>> for Refused {
         Refused::NoMemory
     }
 }
-
-#[cfg(test)]
-mod tests;

@@ -36,6 +36,3 @@ impl From<Tag> for u8 {
         tag as u8
     }
 }
-
-#[cfg(test)]
-mod tests;

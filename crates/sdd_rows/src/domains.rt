@@ -82,6 +82,27 @@ fn accelerated(rt: &impl Abort, local: &mut Local<'_>) -> u8
     epoch
 }
 
+/// The accelerated guards of a participant show these epochs.
+fn shows(rt: &impl Abort, local: &mut Local<'_>, epochs: &[u8])
+    requires { IsSeated (seat_of local.old) }
+    ensures { seat_of local.new ≡ seat_of local.old }
+{
+    for epoch in epochs {
+        assert_eq!(rt; accelerated(rt, local), *epoch);
+    }
+}
+
+/// What one more guard is refused with.
+fn refused_guard(rt: &impl Abort, local: &mut Local<'_>) -> Refused
+    requires { IsSeated (seat_of local.old) }
+    ensures { seat_of local.new ≡ seat_of local.old }
+{
+    match Guard::new::<u64, Local<'_>>(local) {
+        Ok(_guard) => panic!(rt; "two guards are open"),
+        Err(refused) => refused,
+    }
+}
+
 /// What one more participant is refused with.
 fn refusal(rt: &impl Abort, domain: &Domain) -> Refused {
     match Local::register(domain) {
@@ -179,10 +200,7 @@ fn a_participant_with_a_guard_open_does_not_end(rt: HostRuntime) {
     let mut local = registered(&rt, &domain);
     let outer = opened(&rt, &mut local);
     let inner = opened(&rt, &mut local);
-    match Guard::new::<u64, Local<'_>>(&mut local) {
-        Ok(_guard) => panic!(rt; "two guards are open"),
-        Err(refused) => assert_eq!(rt; refused, Refused::TooManyGuards),
-    }
+    assert_eq!(rt; refused_guard(&rt, &mut local), Refused::TooManyGuards);
     close(inner, &mut local);
     let Err(mut local) = local.end() else {
         panic!(rt; "a guard is open")
@@ -201,14 +219,10 @@ fn an_open_guard_holds_the_count(rt: HostRuntime) {
     let mut still = registered(&rt, &domain);
     let mut busy = registered(&rt, &domain);
     let guard = opened(&rt, &mut still);
-    for shown in [0, 1, 1, 1] {
-        assert_eq!(rt; accelerated(&rt, &mut busy), shown);
-    }
+    shows(&rt, &mut busy, &[0, 1, 1, 1]);
     assert_eq!(rt; shown(&guard, &mut still), 1);
     close(guard, &mut still);
-    for shown in [1, 2, 3] {
-        assert_eq!(rt; accelerated(&rt, &mut busy), shown);
-    }
+    shows(&rt, &mut busy, &[1, 2, 3]);
     let receipts = vec![in rt.alloc(); ended(&rt, still), ended(&rt, busy)].expect(
         &rt,
         "there is memory",

@@ -3,8 +3,10 @@ ghost use Rattle.std.specs.Prelude.{◌≡◌, ◌≢◌, ℕ};
 ghost use Rattle.sdd_base.specs.World.{IsPlaceOf};
 ghost use Rattle.sdd_world.specs.Place.{index_of};
 
-use crate::steps::{AMPLE, accelerated, closed, joined, made, new_world, retire, shows};
-use sdd_base::{Guard, Item, Limits};
+use crate::steps::{
+    AMPLE, accelerated, close, closed, joined, made, new_world, opened, retire, shows,
+};
+use sdd_base::{Item, Limits};
 use sdd_core::Refused;
 use sdd_world::{Place, World};
 use std::process::Abort;
@@ -75,14 +77,12 @@ fn an_adopted_place_is_taken_again(rt: HostRuntime) {
 fn a_participant_with_a_guard_open_does_not_end(rt: HostRuntime) {
     let mut world: World<u64> = new_world(&rt, ALONE, 0);
     let place = joined(&rt, &mut world);
-    let mut turn = world.at(&place);
-    let guard = Guard::new(&mut turn).expect(&rt, "a guard may be opened");
-    drop(turn);
+    let guard = opened(&rt, &mut world, &place);
     match world.end(place) {
         Ok(()) => panic!(rt; "a guard is open"),
         Err((place, refused)) => {
             assert_eq!(rt; refused, Refused::GuardOpen);
-            guard.close(&mut world.at(&place));
+            close(&mut world, &place, guard);
             ends(&rt, &mut world, place);
         }
     }

@@ -1,7 +1,9 @@
 //! The thread of the first example in the original crate's README: a number that is owned, a guard, a pointer that is
 //! good under it, and an owner that goes first.
 use crate::steps::{AMPLE, closed, joined, new_world};
-use sdd::{Guard, Owned, Tag, World};
+use sdd_base::{Guard, Owned};
+use sdd_core::Tag;
+use sdd_world::World;
 
 #[test]
 fn a_guard_keeps_what_its_owner_gave_up(rt: HostRuntime) {

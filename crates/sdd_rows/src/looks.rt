@@ -1,5 +1,7 @@
 //! Looks through pointers: while another participant goes on, and under guards that nest.
-use crate::steps::{AMPLE, closed, joined, made, new_world, retire, shows};
+use crate::steps::{
+    AMPLE, close, closed, joined, made, new_world, opened, pointer, retire, seen, shows,
+};
 use sdd_base::{Guard, Ptr};
 use sdd_world::World;
 
@@ -15,15 +17,13 @@ fn a_pointer_shows_a_retired_item_while_another_participant_goes_on(rt: HostRunt
     let reader = joined(&rt, &mut world);
     let writer = joined(&rt, &mut world);
     let owner = made(&rt, &mut world, &writer, 7);
-    let mut turn = world.at(&reader);
-    let guard = Guard::new(&mut turn).expect(&rt, "a guard may be opened");
-    let ptr = owner.get_guarded_ptr(&guard, &mut turn);
-    assert_eq!(rt; ptr.as_ref(&turn).copied(), Some(7));
-    drop(turn);
+    let guard = opened(&rt, &mut world, &reader);
+    let ptr = pointer(&mut world, &reader, &owner, &guard);
+    assert_eq!(rt; seen(&mut world, &reader, ptr), Some(7));
     retire(&mut world, &writer, owner);
     shows(&rt, &mut world, &writer, &[(0, 0), (1, 0), (1, 0), (1, 0)]);
     assert_eq!(rt; ptr.as_ref(&world).copied(), Some(7));
-    guard.close(&mut world.at(&reader));
+    close(&mut world, &reader, guard);
     shows(&rt, &mut world, &writer, &[(1, 0), (2, 0), (3, 1)]);
     closed(&rt, world);
 }
@@ -34,17 +34,15 @@ fn a_pointer_of_the_inner_guard_is_good_after_the_outer_was_closed(rt: HostRunti
     let place = joined(&rt, &mut world);
     let first = made(&rt, &mut world, &place, 7);
     let second = made(&rt, &mut world, &place, 8);
-    let mut turn = world.at(&place);
-    let outer = Guard::new(&mut turn).expect(&rt, "a guard may be opened");
-    let inner = Guard::new(&mut turn).expect(&rt, "a guard may be opened");
-    let under_outer = first.get_guarded_ptr(&outer, &mut turn);
-    let under_inner = second.get_guarded_ptr(&inner, &mut turn);
-    first.retire(&mut turn);
-    second.retire(&mut turn);
-    assert_eq!(rt; under_outer.as_ref(&turn).copied(), Some(7));
-    outer.close(&mut turn);
-    assert_eq!(rt; under_inner.as_ref(&turn).copied(), Some(8));
-    inner.close(&mut turn);
-    drop(turn);
+    let outer = opened(&rt, &mut world, &place);
+    let inner = opened(&rt, &mut world, &place);
+    let under_outer = pointer(&mut world, &place, &first, &outer);
+    let under_inner = pointer(&mut world, &place, &second, &inner);
+    retire(&mut world, &place, first);
+    retire(&mut world, &place, second);
+    assert_eq!(rt; seen(&mut world, &place, under_outer), Some(7));
+    close(&mut world, &place, outer);
+    assert_eq!(rt; seen(&mut world, &place, under_inner), Some(8));
+    close(&mut world, &place, inner);
     closed(&rt, world);
 }

@@ -1,7 +1,9 @@
 //! An owner that lies in a value.
-use crate::steps::{AMPLE, closed, joined, made, new_world, retire, shows};
+use crate::steps::{
+    AMPLE, accelerate, close, closed, epoch, has_garbage, joined, made, new_world, opened, retire,
+    shows,
+};
 use crate::value::Value;
-use sdd_base::Guard;
 use sdd_world::World;
 
 #[test]
@@ -12,13 +14,11 @@ fn an_inner_item_goes_three_epochs_after_the_outer_one(rt: HostRuntime) {
     let outer = made(&rt, &mut world, &place, Value::Of(inner));
     retire(&mut world, &place, outer);
     shows(&rt, &mut world, &place, &[(0, 0), (1, 0), (2, 0)]);
-    let mut turn = world.at(&place);
-    let guard = Guard::new(&mut turn).expect(&rt, "a guard may be opened");
-    assert_eq!(rt; u8::from(guard.epoch(&mut turn)), 3);
-    assert!(rt; guard.has_garbage(&turn));
-    guard.accelerate(&mut turn);
-    guard.close(&mut turn);
-    drop(turn);
+    let guard = opened(&rt, &mut world, &place);
+    assert_eq!(rt; epoch(&mut world, &place, &guard), 3);
+    assert!(rt; has_garbage(&mut world, &place, &guard));
+    accelerate(&mut world, &place, &guard);
+    close(&mut world, &place, guard);
     assert_eq!(rt; world.tally().reclaimed, 1);
     shows(&rt, &mut world, &place, &[(4, 1), (5, 1), (6, 2)]);
     closed(&rt, world);

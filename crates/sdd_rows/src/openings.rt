@@ -4,8 +4,10 @@ ghost use Rattle.sdd_base.specs.World.{IsPlaceOf};
 ghost use Rattle.sdd_world.specs.Place.{index_of};
 ghost use Rattle.sdd_rows.specs.Stays.{Stays};
 
-use crate::steps::{AMPLE, accelerated, closed, joined, made, new_world, plain, retire, shows};
-use sdd_base::Guard;
+use crate::steps::{
+    AMPLE, accelerate, accelerated, close, closed, epoch, joined, made, new_world, opened, plain,
+    retire, shows,
+};
 use sdd_world::{Place, World};
 use std::process::Abort;
 
@@ -58,16 +60,12 @@ fn an_open_guard_of_another_participant_keeps_an_item(rt: HostRuntime) {
     let mut world: World<u64> = new_world(&rt, AMPLE, 0);
     let first = joined(&rt, &mut world);
     let second = joined(&rt, &mut world);
-    let mut turn = world.at(&first);
-    let guard = Guard::new(&mut turn).expect(&rt, "a guard may be opened");
-    assert_eq!(rt; u8::from(guard.epoch(&mut turn)), 0);
-    drop(turn);
+    let guard = opened(&rt, &mut world, &first);
+    assert_eq!(rt; epoch(&mut world, &first, &guard), 0);
     let owner = made(&rt, &mut world, &second, 7);
     retire(&mut world, &second, owner);
     shows(&rt, &mut world, &second, &[(0, 0), (1, 0), (1, 0), (1, 0)]);
-    let mut turn = world.at(&first);
-    guard.close(&mut turn);
-    drop(turn);
+    close(&mut world, &first, guard);
     shows(&rt, &mut world, &second, &[(1, 0), (2, 0), (3, 1)]);
     closed(&rt, world);
 }
@@ -77,16 +75,12 @@ fn at_the_last_count_an_item_stays_until_the_world_is_closed(rt: HostRuntime) {
     let mut world: World<u64> = new_world(&rt, AMPLE, u64::MAX - 1);
     let place = joined(&rt, &mut world);
     assert_eq!(rt; accelerated(&rt, &mut world, &place), 62);
-    let mut turn = world.at(&place);
-    let guard = Guard::new(&mut turn).expect(&rt, "a guard may be opened");
-    assert_eq!(rt; u8::from(guard.epoch(&mut turn)), 63);
-    drop(turn);
+    let guard = opened(&rt, &mut world, &place);
+    assert_eq!(rt; epoch(&mut world, &place, &guard), 63);
     let owner = made(&rt, &mut world, &place, 7);
     retire(&mut world, &place, owner);
-    let mut turn = world.at(&place);
-    guard.accelerate(&mut turn);
-    guard.close(&mut turn);
-    drop(turn);
+    accelerate(&mut world, &place, &guard);
+    close(&mut world, &place, guard);
     shows(
         &rt,
         &mut world,

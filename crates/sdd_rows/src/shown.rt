@@ -1,6 +1,6 @@
 //! What `Debug` prints of a guard and a pointer, and which pointers are equal.
-use crate::steps::{AMPLE, closed, joined, made, new_world, retire};
-use sdd_base::{Guard, Ptr};
+use crate::steps::{AMPLE, close, closed, joined, made, new_world, opened, pointer, retire};
+use sdd_base::Ptr;
 use sdd_core::Tag;
 use sdd_world::World;
 use std::test::Fail;
@@ -11,11 +11,9 @@ fn guards_and_pointers_have_texts(rt: HostRuntime) -> Result<(), Fail> {
     let mut world: World<u64> = new_world(&rt, AMPLE, 0);
     joined(&rt, &mut world);
     let place = joined(&rt, &mut world);
-    let mut turn = world.at(&place);
-    let guard = Guard::new(&mut turn).expect(&rt, "a guard may be opened");
+    let guard = opened(&rt, &mut world, &place);
     let shown = format!(in alloc; "{guard:?}");
-    guard.close(&mut turn);
-    drop(turn);
+    close(&mut world, &place, guard);
     closed(&rt, world);
     assert_eq!(rt; shown?.as_str(), "Guard { .. }");
     let null: Ptr<'_, u64> = Ptr::null().with_tag(Tag::Both);
@@ -24,23 +22,28 @@ fn guards_and_pointers_have_texts(rt: HostRuntime) -> Result<(), Fail> {
     Ok(())
 }
 
+/// Whether pointers of one item are equal, and no others are. One item is pointed to twice, and another once.
+fn are_told_apart(one: Ptr<'_, u64>, again: Ptr<'_, u64>, other: Ptr<'_, u64>) -> bool {
+    let tagged = one.with_tag(Tag::First);
+    one == again
+        && one != other
+        && one != tagged
+        && tagged == one.with_tag(Tag::First)
+        && one != Ptr::null()
+}
+
 #[test]
 fn pointers_are_equal_by_slot_and_tag(rt: HostRuntime) {
     let mut world: World<u64> = new_world(&rt, AMPLE, 0);
     let place = joined(&rt, &mut world);
     let first = made(&rt, &mut world, &place, 7);
     let second = made(&rt, &mut world, &place, 7);
-    let mut turn = world.at(&place);
-    let guard = Guard::new(&mut turn).expect(&rt, "a guard may be opened");
-    let one = first.get_guarded_ptr(&guard, &mut turn);
-    let other = second.get_guarded_ptr(&guard, &mut turn);
-    assert!(rt; one == first.get_guarded_ptr(&guard, &mut turn));
-    assert!(rt; one != other);
-    assert!(rt; one != one.with_tag(Tag::First));
-    assert!(rt; one.with_tag(Tag::First) == one.with_tag(Tag::First));
-    assert!(rt; one != Ptr::null());
-    guard.close(&mut turn);
-    drop(turn);
+    let guard = opened(&rt, &mut world, &place);
+    let one = pointer(&mut world, &place, &first, &guard);
+    let again = pointer(&mut world, &place, &first, &guard);
+    let other = pointer(&mut world, &place, &second, &guard);
+    assert!(rt; are_told_apart(one, again, other));
+    close(&mut world, &place, guard);
     retire(&mut world, &place, first);
     retire(&mut world, &place, second);
     closed(&rt, world);

@@ -1,8 +1,20 @@
 //! Slots that run out, and what an owner shows.
-use crate::steps::{AMPLE, closed, joined, made, new_world, refused, retire, shows};
+ghost use Rattle.std.specs.Prelude.{◌≡◌};
+ghost use Rattle.sdd_base.specs.Guard.{reader_of};
+ghost use Rattle.sdd_base.specs.Owned.{slots_home, cells_home};
+ghost use Rattle.sdd_base.specs.Seat.{reader_at};
+ghost use Rattle.sdd_base.specs.World.{IsPlaceOf};
+ghost use Rattle.sdd_world.specs.Place.{index_of};
+ghost use Rattle.sdd_rows.specs.Stays.{Stays};
+
+use crate::steps::{
+    AMPLE, close, closed, has_garbage, joined, made, new_world, opened, pointer, refused,
+    refused_guard, retire, seen, shows,
+};
 use sdd_base::{AtomicOwned, Guard, Limits, Owned, Space};
 use sdd_core::Refused;
-use sdd_world::World;
+use sdd_world::{Place, World};
+use std::process::Abort;
 
 #[test]
 fn an_owner_takes_four_bytes(rt: HostRuntime) {
@@ -40,28 +52,86 @@ fn a_slot_is_free_again_once_its_item_was_reclaimed(rt: HostRuntime) {
     closed(&rt, world);
 }
 
-#[test]
-fn a_closure_that_is_refused_comes_back_uncalled(rt: HostRuntime) {
-    let limits = Limits { slots: 1, ..AMPLE };
-    let mut world: World<u64> = new_world(&rt, limits, 0);
-    let place = joined(&rt, &mut world);
-    let mut turn = world.at(&place);
-    let owner = match Owned::new_with(|| 7u64, &mut turn) {
+/// The owner of an item that a closure makes.
+fn made_by_closure(rt: &impl Abort, world: &mut World<u64>, place: &Place) -> Owned<u64>
+    requires place { IsPlaceOf world.old (index_of place.now) }
+    ensures stays { Stays world.old world.new }
+    ensures home { slots_home result ≡ world.new.home.slots }
+{
+    let mut turn = world.at(place);
+    match Owned::new_with(|| 7u64, &mut turn) {
         Ok(owner) => owner,
         Err((_make, refused)) => panic!(rt; "{refused:?}"),
-    };
-    assert_eq!(rt; *owner.get(&turn), 7);
-    let back = match Owned::new_with(|| 8u64, &mut turn) {
+    }
+}
+
+/// What a closure that is refused would have made.
+fn refused_closure(world: &mut World<u64>, place: &Place) -> Option<(u64, Refused)>
+    requires place { IsPlaceOf world.old (index_of place.now) }
+    ensures stays { Stays world.old world.new }
+{
+    let mut turn = world.at(place);
+    match Owned::new_with(|| 8u64, &mut turn) {
         Ok(second) => {
             second.retire(&mut turn);
             None
         }
         Err((make, refused)) => Some((make(), refused)),
-    };
+    }
+}
+
+/// What the participant sees of an owner's item.
+fn value(world: &mut World<u64>, place: &Place, owner: &Owned<u64>) -> u64
+    requires place { IsPlaceOf world.old (index_of place.now) }
+    requires home { slots_home owner.now ≡ world.old.home.slots }
+    ensures stays { Stays world.old world.new }
+{
+    *owner.get(&world.at(place))
+}
+
+#[test]
+fn a_closure_that_is_refused_comes_back_uncalled(rt: HostRuntime) {
+    let limits = Limits { slots: 1, ..AMPLE };
+    let mut world: World<u64> = new_world(&rt, limits, 0);
+    let place = joined(&rt, &mut world);
+    let owner = made_by_closure(&rt, &mut world, &place);
+    assert_eq!(rt; value(&mut world, &place, &owner), 7);
+    let back = refused_closure(&mut world, &place);
     assert_eq!(rt; back, Some((8, Refused::NoSlot)));
-    owner.retire(&mut turn);
-    drop(turn);
+    retire(&mut world, &place, owner);
     closed(&rt, world);
+}
+
+/// A cell that holds nothing.
+fn null_cell(rt: &impl Abort, world: &mut World<u64>, place: &Place) -> AtomicOwned<u64>
+    requires place { IsPlaceOf world.old (index_of place.now) }
+    ensures stays { Stays world.old world.new }
+    ensures home { cells_home result ≡ world.new.home.cells }
+{
+    AtomicOwned::null(&mut world.at(place)).expect(rt, "a cell is free")
+}
+
+fn close_cell(world: &mut World<u64>, place: &Place, cell: AtomicOwned<u64>)
+    requires place { IsPlaceOf world.old (index_of place.now) }
+    requires home { cells_home cell ≡ world.old.home.cells }
+    ensures stays { Stays world.old world.new }
+{
+    cell.close(&mut world.at(place));
+}
+
+/// What a cell is refused with.
+fn refused_cell(world: &mut World<u64>, place: &Place) -> Option<Refused>
+    requires place { IsPlaceOf world.old (index_of place.now) }
+    ensures stays { Stays world.old world.new }
+{
+    let mut turn = world.at(place);
+    match AtomicOwned::null(&mut turn) {
+        Ok(second) => {
+            second.close(&mut turn);
+            None
+        }
+        Err(refused) => Some(refused),
+    }
 }
 
 #[test]
@@ -69,21 +139,20 @@ fn a_cell_is_free_again_once_it_was_closed(rt: HostRuntime) {
     let limits = Limits { cells: 1, ..AMPLE };
     let mut world: World<u64> = new_world(&rt, limits, 0);
     let place = joined(&rt, &mut world);
-    let mut turn = world.at(&place);
-    let cell = AtomicOwned::null(&mut turn).expect(&rt, "a cell is free");
-    let refused = match AtomicOwned::null(&mut turn) {
-        Ok(second) => {
-            second.close(&mut turn);
-            None
-        }
-        Err(refused) => Some(refused),
-    };
-    assert_eq!(rt; refused, Some(Refused::NoCell));
-    cell.close(&mut turn);
-    let cell = AtomicOwned::null(&mut turn).expect(&rt, "a cell is free");
-    cell.close(&mut turn);
-    drop(turn);
+    let cell = null_cell(&rt, &mut world, &place);
+    assert_eq!(rt; refused_cell(&mut world, &place), Some(Refused::NoCell));
+    close_cell(&mut world, &place, cell);
+    let cell = null_cell(&rt, &mut world, &place);
+    close_cell(&mut world, &place, cell);
     closed(&rt, world);
+}
+
+/// Has the participant count down to a scan.
+fn set_has_garbage(world: &mut World<u64>, place: &Place, guard: &Guard)
+    requires place { IsPlaceOf world.old (index_of place.now) }
+    ensures stays { Stays world.old world.new }
+{
+    guard.set_has_garbage(&mut world.at(place));
 }
 
 #[test]
@@ -94,41 +163,40 @@ fn a_guard_more_than_may_nest_is_refused(rt: HostRuntime) {
     };
     let mut world: World<u64> = new_world(&rt, limits, 0);
     let place = joined(&rt, &mut world);
-    let mut turn = world.at(&place);
-    let outer = Guard::new(&mut turn).expect(&rt, "a guard may be opened");
-    let inner = Guard::new(&mut turn).expect(&rt, "a guard may be opened");
-    let refused = match Guard::new(&mut turn) {
-        Ok(third) => {
-            third.close(&mut turn);
-            None
-        }
-        Err(refused) => Some(refused),
-    };
-    assert_eq!(rt; refused, Some(Refused::TooManyGuards));
-    assert!(rt; !outer.has_garbage(&turn));
-    outer.set_has_garbage(&mut turn);
-    assert!(rt; outer.has_garbage(&turn));
-    inner.close(&mut turn);
-    outer.close(&mut turn);
-    drop(turn);
+    let outer = opened(&rt, &mut world, &place);
+    let inner = opened(&rt, &mut world, &place);
+    assert_eq!(rt;
+        refused_guard(&mut world, &place),
+        Some(Refused::TooManyGuards)
+    );
+    assert!(rt; !has_garbage(&mut world, &place, &outer));
+    set_has_garbage(&mut world, &place, &outer);
+    assert!(rt; has_garbage(&mut world, &place, &outer));
+    close(&mut world, &place, inner);
+    close(&mut world, &place, outer);
     closed(&rt, world);
+}
+
+/// The value that the participant sees by its guard.
+fn value_under(world: &mut World<u64>, place: &Place, owner: &Owned<u64>, guard: &Guard) -> u64
+    requires place { IsPlaceOf world.old (index_of place.now) }
+    requires home { slots_home owner.now ≡ world.old.home.slots }
+    requires reader { reader_of guard.now ≡ reader_at world.old (index_of place.now) }
+    ensures stays { Stays world.old world.new }
+{
+    *owner.get_guarded_ref(guard, &mut world.at(place))
 }
 
 #[test]
 fn a_guarded_pointer_shows_a_retired_item(rt: HostRuntime) {
     let mut world: World<u64> = new_world(&rt, AMPLE, 0);
     let place = joined(&rt, &mut world);
-    let mut turn = world.at(&place);
-    let guard = Guard::new(&mut turn).expect(&rt, "a guard may be opened");
-    let owner = match Owned::new(7u64, &mut turn) {
-        Ok(owner) => owner,
-        Err((_, refused)) => panic!(rt; "{refused:?}"),
-    };
-    assert_eq!(rt; *owner.get_guarded_ref(&guard, &mut turn), 7);
-    let ptr = owner.get_guarded_ptr(&guard, &mut turn);
-    owner.retire(&mut turn);
-    assert_eq!(rt; ptr.as_ref(&turn).copied(), Some(7));
-    guard.close(&mut turn);
-    drop(turn);
+    let guard = opened(&rt, &mut world, &place);
+    let owner = made(&rt, &mut world, &place, 7);
+    assert_eq!(rt; value_under(&mut world, &place, &owner, &guard), 7);
+    let ptr = pointer(&mut world, &place, &owner, &guard);
+    retire(&mut world, &place, owner);
+    assert_eq!(rt; seen(&mut world, &place, ptr), Some(7));
+    close(&mut world, &place, guard);
     closed(&rt, world);
 }

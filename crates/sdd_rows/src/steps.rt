@@ -2,11 +2,13 @@
 ghost use Rattle.std.specs.Prelude.{◌≡◌, ◌≢◌, ℕ};
 ghost use Rattle.sdd_base.specs.Holding.{AreOf};
 ghost use Rattle.sdd_base.specs.Owned.{slots_home};
+ghost use Rattle.sdd_base.specs.Guard.{reader_of};
+ghost use Rattle.sdd_base.specs.Seat.{reader_at};
 ghost use Rattle.sdd_base.specs.World.{IsPlaceOf};
 ghost use Rattle.sdd_world.specs.Place.{index_of};
 ghost use Rattle.sdd_rows.specs.Stays.{Stays};
 
-use sdd_base::{Guard, Item, Limits, Owned};
+use sdd_base::{Guard, Item, Limits, Owned, Ptr};
 use sdd_core::Refused;
 use sdd_store::Tally;
 use sdd_world::{Place, World};
@@ -48,16 +50,80 @@ pub fn closed<T: Item<T>>(rt: &impl Abort, world: World<T>) -> Tally {
     }
 }
 
+/// One more guard of the participant.
+pub fn opened<T: Item<T>>(rt: &impl Abort, world: &mut World<T>, place: &Place) -> Guard
+    requires place { IsPlaceOf world.old (index_of place.now) }
+    ensures stays { Stays world.old world.new }
+    ensures reader { reader_of result ≡ reader_at world.new (index_of place.now) }
+{
+    Guard::new(&mut world.at(place)).expect(rt, "a guard may be opened")
+}
+
+/// Closes a guard of the participant.
+pub fn close<T: Item<T>>(world: &mut World<T>, place: &Place, guard: Guard)
+    requires place { IsPlaceOf world.old (index_of place.now) }
+    requires reader { reader_of guard ≡ reader_at world.old (index_of place.now) }
+    ensures stays { Stays world.old world.new }
+{
+    guard.close(&mut world.at(place));
+}
+
+/// Which epoch the guard shows now.
+pub fn epoch<T: Item<T>>(world: &mut World<T>, place: &Place, guard: &Guard) -> u8
+    requires place { IsPlaceOf world.old (index_of place.now) }
+    ensures stays { Stays world.old world.new }
+{
+    u8::from(guard.epoch(&mut world.at(place)))
+}
+
+/// Has the participant's next outermost close scan.
+pub fn accelerate<T: Item<T>>(world: &mut World<T>, place: &Place, guard: &Guard)
+    requires place { IsPlaceOf world.old (index_of place.now) }
+    ensures stays { Stays world.old world.new }
+{
+    guard.accelerate(&mut world.at(place));
+}
+
+/// Something may wait with the participant.
+pub fn has_garbage<T: Item<T>>(world: &mut World<T>, place: &Place, guard: &Guard) -> bool
+    requires place { IsPlaceOf world.old (index_of place.now) }
+    ensures stays { Stays world.old world.new }
+{
+    guard.has_garbage(&world.at(place))
+}
+
+/// A pointer that is good under the guard.
+pub fn pointer<'g>(
+    world: &mut World<u64>,
+    place: &Place,
+    owner: &Owned<u64>,
+    guard: &'g Guard,
+) -> Ptr<'g, u64>
+    requires place { IsPlaceOf world.old (index_of place.now) }
+    requires home { slots_home owner.now ≡ world.old.home.slots }
+    requires reader { reader_of guard.now ≡ reader_at world.old (index_of place.now) }
+    ensures stays { Stays world.old world.new }
+{
+    owner.get_guarded_ptr(guard, &mut world.at(place))
+}
+
+/// What the participant sees through a pointer.
+pub fn seen(world: &mut World<u64>, place: &Place, ptr: Ptr<'_, u64>) -> Option<u64>
+    requires place { IsPlaceOf world.old (index_of place.now) }
+    ensures stays { Stays world.old world.new }
+{
+    ptr.as_ref(&world.at(place)).copied()
+}
+
 /// Opens and closes a guard, and tells which epoch it showed.
 pub fn plain<T: Item<T>>(rt: &impl Abort, world: &mut World<T>, place: &Place) -> u8
     requires place { IsPlaceOf world.old (index_of place.now) }
     ensures stays { Stays world.old world.new }
 {
-    let mut turn = world.at(place);
-    let guard = Guard::new(&mut turn).expect(rt, "a guard may be opened");
-    let epoch = guard.epoch(&mut turn);
-    guard.close(&mut turn);
-    u8::from(epoch)
+    let guard = opened(rt, world, place);
+    let shown = epoch(world, place, &guard);
+    close(world, place, guard);
+    shown
 }
 
 /// Opens, accelerates and closes a guard, and tells which epoch it showed.
@@ -65,12 +131,11 @@ pub fn accelerated<T: Item<T>>(rt: &impl Abort, world: &mut World<T>, place: &Pl
     requires place { IsPlaceOf world.old (index_of place.now) }
     ensures stays { Stays world.old world.new }
 {
-    let mut turn = world.at(place);
-    let guard = Guard::new(&mut turn).expect(rt, "a guard may be opened");
-    let epoch = guard.epoch(&mut turn);
-    guard.accelerate(&mut turn);
-    guard.close(&mut turn);
-    u8::from(epoch)
+    let guard = opened(rt, world, place);
+    let shown = epoch(world, place, &guard);
+    accelerate(world, place, &guard);
+    close(world, place, guard);
+    shown
 }
 
 /// The accelerated guards of a participant show these epochs, and at each so many items are reclaimed in all.
@@ -120,5 +185,20 @@ pub fn refused(world: &mut World<u64>, place: &Place, value: u64) -> Option<(u64
             None
         }
         Err(back) => Some(back),
+    }
+}
+
+/// What a guard is refused with.
+pub fn refused_guard(world: &mut World<u64>, place: &Place) -> Option<Refused>
+    requires place { IsPlaceOf world.old (index_of place.now) }
+    ensures stays { Stays world.old world.new }
+{
+    let mut turn = world.at(place);
+    match Guard::new(&mut turn) {
+        Ok(guard) => {
+            guard.close(&mut turn);
+            None
+        }
+        Err(refused) => Some(refused),
     }
 }

@@ -1,7 +1,8 @@
+//! Epochs, which turn round at 64.
 ghost use Rattle.std.specs.Prelude.{◌≡◌, ◌<◌, ◌≤◌, ◌↔◌, IsTrue, Ok, Err};
 
-use super::*;
-use crate::inner::epoch_of_count;
+use sdd_core::Epoch;
+use sdd_core::inner::epoch_of_count;
 
 // What a caller's proof gets of the contracts: they compose to the laws.
 

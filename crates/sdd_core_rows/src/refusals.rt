@@ -1,5 +1,6 @@
-use super::*;
-use crate::inner::number_of_refusal;
+//! What a refusal prints.
+use sdd_core::Refused;
+use sdd_core::inner::number_of_refusal;
 use std::test::Fail;
 
 #[test]

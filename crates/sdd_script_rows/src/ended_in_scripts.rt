@@ -1,9 +1,9 @@
 //! Scripts whose participants end, from the bytes of their calls to the bytes of their answers.
-use crate::steps::AMPLE;
+use crate::limits::AMPLE;
 use sdd::{Ended, Limits, Reader, Writer, play, run};
 use sdd_lines::{Script, parse_all};
 use sdd_store::Tally;
-use std::alloc::AllocError;
+use std::alloc::{AllocError, Global};
 use std::process::Abort;
 use std::test::Fail;
 
@@ -19,12 +19,8 @@ const TWO: Limits = Limits {
     ..AMPLE
 };
 
-/// A script of these lines is played, and each line is answered by what stands beside it.
-fn answers<R>(rt: &R, limits: Limits, table: &[(&str, &str)]) -> Result<(), AllocError>
-where
-    R: Abort + AllocGlobal,
-{
-    let alloc = rt.alloc();
+/// The lines of a table, and the answers that stand beside them.
+fn texts(alloc: Global, table: &[(&str, &str)]) -> Result<(String, String), AllocError> {
     let mut script = String::new(alloc);
     let mut expected = String::new(alloc);
     for (line, answer) in table {
@@ -33,10 +29,25 @@ where
         expected.push_str(answer)?;
         expected.push_str("\n")?;
     }
+    Ok((script, expected))
+}
+
+/// How the play of a script ends, and what it has written by then.
+fn played(alloc: Global, limits: Limits, script: &str) -> (Ended, Vec<u8>) {
     let mut written = Vec::new(alloc);
     let mut reader = Reader::new(script.as_bytes());
     let mut writer = Writer::new(&mut written);
     let ended = play(alloc, limits, &mut reader, &mut writer);
+    (ended, written)
+}
+
+/// A script of these lines is played, and each line is answered by what stands beside it.
+fn answers<R>(rt: &R, limits: Limits, table: &[(&str, &str)]) -> Result<(), AllocError>
+where
+    R: Abort + AllocGlobal,
+{
+    let (script, expected) = texts(rt.alloc(), table)?;
+    let (ended, written) = played(rt.alloc(), limits, script.as_str());
     assert_eq!(rt; ended, Ended::Played);
     assert_eq!(rt; str::from_utf8(written.as_slice()), Ok(expected.as_str()));
     Ok(())

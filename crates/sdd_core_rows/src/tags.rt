@@ -1,7 +1,8 @@
+//! Tags and their numbers.
 ghost use Rattle.std.specs.Prelude.{◌≡◌, ◌<◌, ◌↔◌, IsTrue, Ok};
 ghost use Rattle.sdd_core.specs.Tag.{number_of};
 
-use super::*;
+use sdd_core::Tag;
 
 // What a caller's proof gets of the contracts: they compose to the laws.
 

@@ -1,9 +1,9 @@
 //! Ample memory at the greatest sizes. A body that refuses with `NoMemory` beyond some size meets every contract.
 
-use crate::steps::{AMPLE, closed, joined};
+use crate::limits::AMPLE;
 use sdd::{
-    Action, Answer, Call, Ended, ItemName, Limits, Names, OwnerName, PlaceName, Reader, Refused,
-    Reply, World, Writer, play, run,
+    Action, Answer, Call, Ended, ItemName, Limits, Names, OwnerName, PlaceName, Reader, Reply,
+    Writer, play, run,
 };
 use sdd_lines::{Script, parse_all, print_all, read_to_end};
 use std::alloc::{AllocError, Global};
@@ -147,32 +147,5 @@ fn an_answer_names_the_most_items(rt: HostRuntime) -> Result<(), Fail> {
     assert!(rt; printed.starts_with(b"ok reclaimed i0 i1 i2 "));
     assert!(rt; printed.ends_with(b" i65534 i65535\n"));
     assert_eq!(rt; printed.len(), 447_655);
-    Ok(())
-}
-
-#[test]
-fn a_world_has_the_greatest_limits(rt: HostRuntime) -> Result<(), Refused> {
-    let mut world: World<u64> = World::new(rt.alloc(), GREATEST)?;
-    let place = joined(&rt, &mut world);
-    assert_eq!(rt; place.index(), 0);
-    closed(&rt, world);
-    Ok(())
-}
-
-/// With 65,536 slots, since each participant has room for as many items as there are slots.
-#[test]
-fn a_world_has_the_most_participants(rt: HostRuntime) -> Result<(), Refused> {
-    let limits = Limits {
-        slots: 65_536,
-        cells: 1,
-        ..GREATEST
-    };
-    let mut world: World<u64> = World::new(rt.alloc(), limits)?;
-    for index in 0usize..1024 {
-        let place = joined(&rt, &mut world);
-        assert_eq!(rt; place.index(), index);
-    }
-    assert_eq!(rt; world.register().err(), Some(Refused::NoPlace));
-    closed(&rt, world);
     Ok(())
 }

@@ -1,4 +1,6 @@
-use super::*;
+//! The machine's single steps, and what each does.
+use sdd_core::Refused;
+use sdd_core::machine::{Did, Machine, Step, safety};
 use std::process::Abort;
 use std::test::Fail;
 
