@@ -16,3 +16,4 @@ pub mod Passing
 pub mod Nesting
 pub mod Letting
 pub mod Sharing
+pub mod Accounts

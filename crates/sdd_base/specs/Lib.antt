@@ -18,3 +18,4 @@ pub mod Left
 pub mod Adopting
 pub mod Under
 pub mod Passing
+pub mod Accounts

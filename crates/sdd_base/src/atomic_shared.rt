@@ -76,6 +76,8 @@ impl<T: Item<T>> AtomicShared<T> {
         ensures own { S.own s.new ≡ S.own s.old }
         ensures known { KnowsOn (S.known s.old) (S.known s.new) }
         ensures home { IfOk result (λ cell. cells_home cell ≡ (S.seat s.old).home.cells) }
+        ensures shown { IfOk result (λ cell. (slot : ℕ) × S.shows s.new slot value ×
+            (IsExact (S.seat s.old) → entry_at (S.world s.new).cells (cell_of cell) ≡ Some (record { held = Some slot; tag = no_tag }))) }
         ensures exact { IsExact (S.seat s.old) → MatchResult result
             (λ cell. (slot : ℕ) × IsEmptyAt (S.world s.old).standings slot × IsEmptyAt (S.world s.old).cells (cell_of cell) ×
             (S.world s.new ≡ with_cell (made_shared (S.world s.old) slot value) (cell_of cell) (record { held = Some slot; tag = no_tag })))
@@ -318,7 +320,7 @@ impl<T: Item<T>> AtomicShared<T> {
         ensures keeps { KeepsShown (S.shows s.old) (S.shows s.new) }
     {
         if let Some(right) = s.take_cell(self.into_right()) {
-            let _ = s.let_go(right);
+            let _ = s.let_go(right, Kind::Shared);
         }
     }
 

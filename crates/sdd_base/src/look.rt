@@ -1,21 +1,26 @@
 ghost use Rattle.std.specs.Prelude.{◌≡◌, ℕ, option_copied};
 ghost use Rattle.sdd_token.specs.Right.{number_of, home_of};
-ghost use Rattle.sdd_base.specs.Holding.{Home};
+ghost use Rattle.sdd_base.specs.Holding.{Home, AreOf};
 ghost use Rattle.sdd_base.specs.Ptr.{shown_by};
 
+use crate::item::Item;
 use crate::ptr::Ptr;
 use sdd_token::Right;
 
 /// What the slots of a world or domain show.
-pub trait Shows<T> {
+pub trait Shows<T: Item<T>> {
     /// Where its slots, cells and readers are numbered.
     ghost home: { Self → Home };
     /// The slot shows this value.
     ghost shows: { Self → ℕ → T → Type 0 };
+
+    /// A law, which does nothing when the program runs: what a shown value holds is of this home. So a cell that stands in it can be loaded from.
+    fn shown_is_of_home(&self)
+        ensures { (k : ℕ) (value : T) → shows self.now k value → AreOf (home self.now) (T.holds value) };
 }
 
 /// Where items can be looked at: a world, a turn at it, a domain, a participant of it.
-pub trait Look<T>: Shows<T> {
+pub trait Look<T: Item<T>>: Shows<T> {
     /// The value of an owner's item.
     fn value<'a>(&'a self, right: &'a Right) -> &'a T
         requires home { home_of right.now ≡ (Self.home self.now).slots }

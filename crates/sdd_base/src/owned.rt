@@ -85,7 +85,9 @@ impl<T> Owned<T> {
     {
         self.right().number()
     }
+}
 
+impl<T: Item<T>> Owned<T> {
     /// The item's value. Its owner alone can look at it without a guard.
     pub fn get<'a, L: Look<T>>(&'a self, at: &'a L) -> &'a T
         requires home { slots_home self.now ≡ (L.home at.now).slots }
@@ -93,9 +95,7 @@ impl<T> Owned<T> {
     {
         at.value(self.right())
     }
-}
 
-impl<T: Item<T>> Owned<T> {
     /// The item's value, for as long as the guard is borrowed, also after the item was retired. The guard is one of the participant that calls.
     pub fn get_guarded_ref<'g, S: Space<T>>(&self, guard: &'g Guard, s: &mut S) -> &'g T
         requires seated { IsSeated (S.seat s.old) }
@@ -185,6 +185,6 @@ impl<T: Item<T>> Owned<T> {
         ensures exact { IsExact (S.seat s.old) → S.world s.new ≡ retired (S.world s.old) (S.seat s.old).place (slot_of self) }
         ensures keeps { KeepsShown (S.shows s.old) (S.shows s.new) }
     {
-        let _ = s.let_go(self.into_right());
+        let _ = s.let_go(self.into_right(), Kind::Owned);
     }
 }

@@ -174,6 +174,18 @@ impl<'g, T> Ptr<'g, T> {
     {
         self.with_tag(Tag::None)
     }
+}
+
+impl<'g, T: Item<T>> Ptr<'g, T> {
+    ghost use Rattle.std.specs.Prelude.{ℕ, ◌≡◌, ◌↔◌, ◌+◌, ◌^◌, ◌<◌, IfOk, IfSome, IsSome, MatchOption, MatchResult, None, Some, option_copied};
+    ghost use Rattle.sdd_slots.specs.Slots.{IsSharedBy, owners_of};
+    ghost use Rattle.sdd_store.specs.declared.standing.Standing.TheVariants.{Shared as shared_by};
+    ghost use Rattle.sdd_base.specs.World.{World, standing_at};
+    ghost use Rattle.sdd_base.specs.Seat.{IsSeated, IsExact};
+    ghost use Rattle.sdd_base.specs.Known.{KnowsOn};
+    ghost use Rattle.sdd_base.specs.Steps.{with_standing};
+    ghost use Rattle.sdd_base.specs.Shared.{IsOfSlots, slot_of};
+    ghost use Rattle.sdd_base.specs.Ptr.{KeepsShown, IsNull, shown_by, slot_named};
 
     /// The value of the item, which is the one that the pointer was made with, whatever was called since; None for null.
     ///
@@ -184,18 +196,6 @@ impl<'g, T> Ptr<'g, T> {
     {
         at.look(*self)
     }
-}
-
-impl<'g, T: Item<T>> Ptr<'g, T> {
-    ghost use Rattle.std.specs.Prelude.{ℕ, ◌≡◌, ◌+◌, ◌^◌, ◌<◌, IfOk, IfSome, MatchOption, MatchResult, None, Some};
-    ghost use Rattle.sdd_slots.specs.Slots.{IsSharedBy, owners_of};
-    ghost use Rattle.sdd_store.specs.declared.standing.Standing.TheVariants.{Shared as shared_by};
-    ghost use Rattle.sdd_base.specs.World.{World, standing_at};
-    ghost use Rattle.sdd_base.specs.Seat.{IsSeated, IsExact};
-    ghost use Rattle.sdd_base.specs.Known.{KnowsOn};
-    ghost use Rattle.sdd_base.specs.Steps.{with_standing};
-    ghost use Rattle.sdd_base.specs.Shared.{IsOfSlots, slot_of};
-    ghost use Rattle.sdd_base.specs.Ptr.{KeepsShown, slot_named};
 
     /// One owner more of the item, if it is shared: None for null, for an item with one owner that can't be shared, and after the last owner went.
     ///

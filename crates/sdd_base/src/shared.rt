@@ -86,7 +86,9 @@ impl<T> Shared<T> {
     {
         self.right().number()
     }
+}
 
+impl<T: Item<T>> Shared<T> {
     /// The item's value. Its owners can look at it without a guard.
     pub fn get<'a, L: Look<T>>(&'a self, at: &'a L) -> &'a T
         requires home { slots_home self.now ≡ (L.home at.now).slots }
@@ -94,9 +96,7 @@ impl<T> Shared<T> {
     {
         at.value(self.right())
     }
-}
 
-impl<T: Item<T>> Shared<T> {
     /// The item's value, for as long as the guard is borrowed, also after the item was retired. The guard is one of the participant that calls.
     pub fn get_guarded_ref<'g, S: Space<T>>(&self, guard: &'g Guard, s: &mut S) -> &'g T
         requires seated { IsSeated (S.seat s.old) }
@@ -206,6 +206,6 @@ impl<T: Item<T>> Shared<T> {
             (S.world s.new ≡ owner_given (S.world s.old) (S.seat s.old).place (slot_of self) (Some (Standing.Shared owners))) }
         ensures keeps { KeepsShown (S.shows s.old) (S.shows s.new) }
     {
-        s.let_go(self.into_right())
+        s.let_go(self.into_right(), Kind::Shared)
     }
 }

@@ -205,10 +205,13 @@ pub trait Space<T: Item<T>>: Look<T> + Guards<T> {
             (λ e. IsSharedBy (2 ^ 62) (standing_at (Self.world self.old) slot) × (e ≡ Refused.TooManyOwners) × (Self.world self.new ≡ Self.world self.old)) }
         ensures keeps { KeepsShown (Self.shows self.old) (Self.shows self.new) };
 
-    /// An owner lets its item go, and is told whether it was the last. The last one's item waits with the participant.
-    fn let_go(&mut self, right: Right) -> bool
+    /// An owner of this kind lets its item go, and is told whether it was the last. The last one's item waits with the participant.
+    ///
+    /// Who calls knows the kind when the program is compiled, so that nothing is looked up for an owner that is alone.
+    fn let_go(&mut self, right: Right, kind: Kind) -> bool
         requires seated { IsSeated (Self.seat self.old) }
         requires home { home_of right ≡ (Self.seat self.old).home.slots }
+        requires kind { kind_of right ≡ kind }
         ensures seat { Self.seat self.new ≡ Self.seat self.old }
         ensures own { Self.own self.new ≡ (if result then time.awaiting (Item (number_of right)) (Self.own self.old) else Self.own self.old) }
         ensures sole { kind_of right ≡ Kind.Owned → IsTrue result }
@@ -252,6 +255,8 @@ pub trait Space<T: Item<T>>: Look<T> + Guards<T> {
         ensures known { KnowsOn (Self.known self.old) (Self.known self.new) }
         ensures home { IfOk result (λ cell. home_of cell ≡ (Self.seat self.old).home.cells) }
         ensures kind { IfOk result (λ cell. kind_of cell ≡ kind) }
+        ensures shown { IfOk result (λ cell. (slot : ℕ) × Self.shows self.new slot value ×
+            (IsExact (Self.seat self.old) → entry_at (Self.world self.new).cells (number_of cell) ≡ Some (record { held = Some slot; tag = no_tag }))) }
         ensures exact { IsExact (Self.seat self.old) → MatchResult result
             (λ cell. (slot : ℕ) × IsEmptyAt (Self.world self.old).standings slot × IsEmptyAt (Self.world self.old).cells (number_of cell) ×
             (Self.world self.new ≡ with_cell (made_as (Self.world self.old) slot value (first_standing kind)) (number_of cell)

@@ -48,7 +48,7 @@ closes-one : (old new : Participant) (n : ℕ) → old.guards ≡ n + 1 → IsCl
 closes-one old new n g c =
     ap (λ (p : Participant). p.guards) c.own ∙ closed-guards c.marked (adopting c.left old) n g (nat_lt 1 old.guards) refl
 
-exact-on : (s r : Seat) → r ≡ s → IsExact s → IsExact r
+pub exact-on : (s r : Seat) → r ≡ s → IsExact s → IsExact r
 exact-on s r e exact = subst (λ (x : Seat). IsExact x) (sym e) exact
 
 module _ {T : Type 0} (holds : T → List Holding) (plain : HoldsNothing holds) where

@@ -1,5 +1,7 @@
 -- What work leaves of guards and owners
-use Rattle.std.specs.Prelude.{◌≡◌}
+use Rattle.std.specs.Prelude.{ℕ, ◌≡◌, Some}
+use Rattle.sdd_core.specs.declared.tag.Tag.{Tag}
+use Rattle.sdd_store.specs.Table.{entry_at}
 use Rattle.sdd_store.specs.declared.time.Participant.{Participant}
 use Rattle.sdd_base.specs.Out.{out}
 use Rattle.sdd_base.specs.Seat.{Seat, IsExact}
@@ -10,3 +12,7 @@ pub record Leaves {T : Type 0} (s : Seat) (p : Participant) (old : World T) (r :
   pub seat : r ≡ s
   pub guards : q.guards ≡ p.guards
   pub kept : IsExact s → out new ≡ out old
+
+-- a cell holds an owner
+abbrev pub IsFilled : {T : Type 0} → World T → ℕ → Type 0
+IsFilled w c = (slot : ℕ) × (tag : Tag) × (entry_at w.cells c ≡ Some (record { held = Some slot; tag = tag }))

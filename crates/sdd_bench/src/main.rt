@@ -1,6 +1,7 @@
 //! The program `sdd-bench`: does an operation so often, for whoever counts its instructions.
 #![tactic(auto)]
 
+mod cells;
 mod local;
 mod operation;
 mod turns;
@@ -22,7 +23,7 @@ const USAGE: &str = "usage: sdd-bench OPERATION TURNS";
 const LIMITS: Limits = Limits {
     participants: 1,
     slots: 1024,
-    cells: 1,
+    cells: 2,
     jobs: 0,
     nesting: 2,
     tries: 1,
@@ -64,6 +65,9 @@ fn done(alloc: Global, operation: Operation, turns: u64) -> Result<(Tally, u64),
         Operation::World(guarding) => world::run(alloc, LIMITS, Work::Guards(guarding), turns),
         Operation::Item => world::run(alloc, LIMITS, Work::Items, turns),
         Operation::Read => world::run(alloc, LIMITS, Work::Reads, turns),
+        Operation::Load => world::run(alloc, LIMITS, Work::Loads, turns),
+        Operation::Share => world::run(alloc, LIMITS, Work::Shares, turns),
+        Operation::Swap => world::run(alloc, LIMITS, Work::Swaps, turns),
         Operation::Local(guarding) => Ok((local::run(alloc, LIMITS, guarding, turns)?, 0)),
     }
 }

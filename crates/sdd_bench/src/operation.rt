@@ -24,6 +24,12 @@ pub enum Operation {
     Item,
     /// In a world, an owner looks at its item.
     Read,
+    /// In a world, a cell is loaded from under a guard, and the pointer looked through.
+    Load,
+    /// In a world, a shared owner is cloned, and the clone released.
+    Share,
+    /// In a world, under a guard, an item is made and put into a cell, and what the cell held is retired; what is due is reclaimed.
+    Swap,
 }
 
 /// The operation of that name.
@@ -36,6 +42,9 @@ pub fn named(word: &str) -> Option<Operation>
         "world-accelerated" => Some(Operation::World(Guarding::Accelerated)),
         "world-item" => Some(Operation::Item),
         "world-read" => Some(Operation::Read),
+        "world-load" => Some(Operation::Load),
+        "world-share" => Some(Operation::Share),
+        "world-swap" => Some(Operation::Swap),
         "local-outermost" => Some(Operation::Local(Guarding::Outermost)),
         "local-nested" => Some(Operation::Local(Guarding::Nested)),
         "local-accelerated" => Some(Operation::Local(Guarding::Accelerated)),

@@ -1,11 +1,14 @@
 //! The loops whose instructions are counted, written once for every space.
-ghost use Rattle.std.specs.Prelude.{◌≡◌};
-ghost use Rattle.sdd_base.specs.Seat.{IsSeated};
+ghost use Rattle.std.specs.Prelude.{◌≡◌, Some};
+ghost use Rattle.sdd_store.specs.declared.standing.Standing.TheVariants.{Shared as shared_by};
+ghost use Rattle.sdd_base.specs.Seat.{IsExact, IsSeated};
+ghost use Rattle.sdd_base.specs.World.{standing_at};
 ghost use Rattle.sdd_base.specs.Owned.{slots_home};
+ghost use Rattle.sdd_base.specs.Shared as shared;
 ghost use Rattle.sdd_bench.specs.Leaves.{Leaves};
 
 use crate::operation::Guarding;
-use sdd_base::{Guard, Guards, Look, Owned, Space};
+use sdd_base::{Guard, Guards, Look, Owned, Shared, Space};
 use sdd_core::Refused;
 
 /// Does something with guards that often.
@@ -119,4 +122,36 @@ fn reads<L: Look<u64>>(space: &L, one: &Owned<u64>, other: &Owned<u64>, turns: u
         sum = sum.wrapping_add(value);
     }
     sum
+}
+
+/// Makes an item with a shared owner, clones the owner and releases the clone that often, and releases the owner.
+#[inline(always)]
+pub fn shares<S: Space<u64>>(space: &mut S, turns: u64) -> Result<(), Refused>
+    requires { IsSeated (S.seat space.old) }
+    ensures { Leaves (S.seat space.old) (S.own space.old) (S.world space.old) (S.seat space.new) (S.own space.new) (S.world space.new) }
+{
+    match Shared::new(1, space) {
+        Ok(owner) => {
+            let done = clones(space, &owner, turns);
+            let _ = owner.release(space);
+            done
+        }
+        Err((_value, refused)) => Err(refused),
+    }
+}
+
+/// Clones the only owner of an item, and releases the clone, that often.
+#[inline(always)]
+fn clones<S: Space<u64>>(space: &mut S, owner: &Shared<u64>, turns: u64) -> Result<(), Refused>
+    requires seated { IsSeated (S.seat space.old) }
+    requires home { shared.slots_home owner.now ≡ (S.seat space.old).home.slots }
+    requires alone { IsExact (S.seat space.old) → standing_at (S.world space.old) (shared.slot_of owner.now) ≡ Some (shared_by 1) }
+    ensures leaves { Leaves (S.seat space.old) (S.own space.old) (S.world space.old) (S.seat space.new) (S.own space.new) (S.world space.new) }
+    ensures alone { IsExact (S.seat space.old) → standing_at (S.world space.new) (shared.slot_of owner.now) ≡ Some (shared_by 1) }
+{
+    for _turn in 0..turns {
+        let other = owner.clone(space)?;
+        let _ = other.release(space);
+    }
+    Ok(())
 }

@@ -8,7 +8,7 @@ ghost use Rattle.sdd_base.specs.World.{IsGuarded};
 ghost use Rattle.sdd_bench.specs.Leaves.{Leaves};
 
 use crate::operation::Guarding;
-use crate::turns;
+use crate::{cells, turns};
 use sdd_base::{Limits, Space};
 use sdd_core::Refused;
 use sdd_store::Tally;
@@ -21,6 +21,9 @@ pub enum Work {
     Guards(Guarding),
     Items,
     Reads,
+    Loads,
+    Shares,
+    Swaps,
 }
 
 /// Does the work that often, and answers the tally with which the world is closed, and the sum of what owners found.
@@ -57,6 +60,9 @@ fn worked<S: Space<u64>>(space: &mut S, work: Work, turns: u64) -> Result<u64, R
         Work::Guards(guarding) => turns::guards(space, guarding, turns)?,
         Work::Items => turns::items(space, turns)?,
         Work::Reads => return turns::looks(space, turns),
+        Work::Loads => return cells::loads(space, turns),
+        Work::Shares => turns::shares(space, turns)?,
+        Work::Swaps => cells::swaps(space, turns)?,
     }
     Ok(0)
 }

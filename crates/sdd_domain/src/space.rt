@@ -9,6 +9,8 @@ impl<T: Item<T>> Shows<T> for Local<'_> {
     ghost home = { λ _. nowhere };
 
     ghost shows = { λ _ _ _. ⊥ };
+
+    fn shown_is_of_home(&self) {}
 }
 
 impl<T: Item<T>> Guards<T> for Local<'_> {

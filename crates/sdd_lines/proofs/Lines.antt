@@ -1,5 +1,5 @@
 -- The words of a line, the numbers that they are, and the calls: each call is read of its line
-use Rattle.std.proofs.Common.{◌≡◌, ℕ, ◌+◌, ◌*◌, ◌<◌, ◌≤◌, ◌≢◌, false, eqb, List, [], ◌∷◌, ◌++◌, length, length-append, get_or, take, drop, take-append-drop, map, Option, Some, None, IfSome, OnSome, MatchOption, Result, Ok, Err, refl, sym, ap, subst, ◌∙◌, lit<, arith, rules}
+use Rattle.std.proofs.Common.{◌≡◌, ℕ, ◌+◌, ◌<◌, ◌≤◌, ◌≢◌, false, eqb, List, [], ◌∷◌, ◌++◌, length, length-append, get_or, take, drop, take-append-drop, map, Option, Some, None, IfSome, OnSome, MatchOption, Result, Ok, Err, refl, sym, ap, subst, ◌∙◌, lit<, arith, rules}
 use Rattle.std.specs.Result.{result_ok}
 use Rattle.std.specs.Int.{IsInRange}
 use Rattle.std.specs.List.{All, AllByRecursion}
@@ -8,18 +8,19 @@ use Rattle.std.specs.Str.{IsAscii, IsUtf8}
 use Rattle.std.specs.Str.Parse.{AllDigits, digits_value, ParsesUnsigned}
 use Rattle.std.specs.Str.Pattern.{FindsCharPrefix, HasCharAt}
 use Rattle.std.proofs.lemmas.Bool.{ne_eqb, eq-eqb}
-use Rattle.std.proofs.lemmas.List.{drop_more, get_or-take, length-take-le}
+use Rattle.std.proofs.lemmas.List.{length-map, drop_more, get_or-take, length-take-le}
 use Rattle.std.proofs.lemmas.List.Elements.{All-from_get_or, All-cons, All-weaker, All-from_recursion}
-use Rattle.std.proofs.lemmas.List.Splits.{slice_split_none, slice_split_at, join_with_byte-slice_split, length-slice_split}
+use Rattle.std.proofs.lemmas.List.Splits.{slice_split_none, slice_split_at, join_with_byte-slice_split}
 use Rattle.std.proofs.lemmas.Str.Pattern.{drop_at_char, strip_prefix_char}
 use Rattle.std.proofs.lemmas.Slice.Eq.{bytes_eq-Decides}
 use Rattle.std.proofs.lemmas.Str.Parse.{IsNumeralModel, numerals_by_value, tells_digits, digit_at, parse_plain}
 use Rattle.std.proofs.lemmas.Fmt.{decimal_digit, decimal_nonempty, first_decimal, digits_decimal, digits_value-decimal, decimal-digits_value, parse-decimal, length-decimal-le}
 use Rattle.std.proofs.lemmas.Str.{IsAscii-append, IsUtf8-from_ascii, lead_after_ascii}
 use Rattle.std.proofs.lemmas.Str.Ascii.{IsAscii-cons, IsAscii-from_all}
-use Rattle.sdd_lines.specs.Call.{Call, Register, Tally, At, Action, Open, Epoch, Garbage, Set, Accelerate, Owned, Read, Look, Retire, Close, End, Argument, Number, place, IsNumber, IsWordOf, joined, word_of, spoken, words_of, line_of, HasNumber, HasNumbers, IsTextOf, IsCallText}
-use Rattle.sdd_lines.specs.Reading.{words, IsNumberOf, number_at, numbered_at, argument_at, action_at, place_call_at, call_at, ◌>>=◌}
+use Rattle.sdd_lines.specs.Call.{Call, Register, Tally, At, Action, Open, Argument, Number, Guard, Owner, Item, place, IsNumber, IsWordOf, joined, word_of, spoken, words_of, line_of, HasNumber, HasNumbers, IsTextOf, IsCallText}
+use Rattle.sdd_lines.specs.Reading.{words, IsNumberOf, number_at, numbered_at, argument_at, place_call_at, call_at, most_arguments, arguments_at, few_arguments_at, with_arguments, called, ◌>>=◌}
 use Rattle.std.proofs.lemmas.Bool.Decides.{nat_tests}
+use Rattle.std.proofs.lemmas.Grind.{common_steps}
 use Rattle.std.specs.Prelude.{codes}
 
 -- ---- words
@@ -44,21 +45,6 @@ first_word bs k l e h =
     before i m = omega (arith, m, length-take-le k bs)
 
 pub ruleset by_space = (one_word, first_word, lead_after_ascii)
-
--- where what follows the first argument is none, there is no action
-nothing_then : (o : Option Argument) → ◌≡◌ {A = Option Action} (o >>= λ a. None) None
-nothing_then None = refl
-nothing_then (Some a) = refl
-
-no_second : (verb first text : List ℕ) (rest : List (List ℕ)) → joined rest ≡ text → 0 < length rest → argument_at text ≡ None →
-    action_at (verb ∷ first ∷ rest) ≡ None
-no_second verb first text [] e l h = absurd (omega arith)
-no_second verb first text (word ∷ []) e l h = rw (e, h) (nothing_then (argument_at first))
-no_second verb first text (word ∷ other ∷ more) e l h = refl
-
-pub bad_second : (verb first text : List ℕ) → argument_at text ≡ None → action_at (verb ∷ first ∷ words text) ≡ None
-bad_second verb first text =
-    no_second verb first text (words text) (join_with_byte-slice_split 32 text) (omega (arith, length-slice_split (λ b. eqb b 32) text))
 
 -- ---- numbers
 
@@ -111,75 +97,123 @@ pub unlettered : (n : ℕ) (word : List ℕ) → IsWordOf n word → argument_at
 unlettered n [] h = absurd (omega (arith, first_digit n [] h))
 unlettered n (b ∷ bs) h = grind (arith, nat_tests, first_digit n (b ∷ bs) h, number_at-decimal n h.0, h.1)
 
+-- ---- arguments
+
+pub ruleset one_argument = (number_is, unlettered)
+
+argument_said : (a : Argument) → HasNumber a → argument_at (word_of a) ≡ Some a
+argument_said (Number n) h = unlettered n (decimal n) (h, refl)
+argument_said (Guard g) h = rw (number_at-decimal g.0 h) refl
+argument_said (Owner o) h = rw (number_at-decimal o.0 h) refl
+argument_said (Item i) h = rw (number_at-decimal i.0 h) refl
+
+-- arguments are what their words are
+arguments_said : (xs : List Argument) → AllByRecursion HasNumber xs → arguments_at (map word_of xs) ≡ Some xs
+arguments_said [] h = refl
+arguments_said (a ∷ xs) h = rw (argument_said a h.0, arguments_said xs h.1) refl
+
+few_said : (xs : List Argument) → AllByRecursion HasNumber xs → length xs ≤ most_arguments → few_arguments_at (map word_of xs) ≡ Some xs
+few_said xs h l = grind (arith, nat_tests, length-map xs word_of, arguments_said xs h)
+
+pub all_read : (xs ys : List Argument) (x : Argument) (word : List ℕ) (all : List (List ℕ)) → map word_of xs ++ word ∷ [] ≡ all →
+    AllByRecursion HasNumber xs → HasNumber x → word_of x ≡ word → length xs < most_arguments → ys ≡ xs ++ x ∷ [] → Some ys ≡ few_arguments_at all
+all_read xs ys x word all e h k w l r =
+    let told : map word_of (xs ++ x ∷ []) ≡ all = grind (arith, common_steps) in
+    ap Some r ∙ sym (few_said (xs ++ x ∷ []) (grind (arith, common_steps)) (omega (arith, length-append xs (x ∷ [])))) ∙ ap few_arguments_at told
+
+-- a word that is no argument is none behind others either
+nothing_then : (o : Option Argument) → ◌≡◌ {A = Option (List Argument)} (o >>= λ a. None) None
+nothing_then None = refl
+nothing_then (Some a) = refl
+
+none_read : (xs : List Argument) (word : List ℕ) (ws : List (List ℕ)) → argument_at word ≡ None → arguments_at (map word_of xs ++ word ∷ ws) ≡ None
+none_read [] word ws e = rw e refl
+none_read (a ∷ xs) word ws e = rw (none_read xs word ws e) (nothing_then (argument_at (word_of a)))
+
+pub bad_word : (xs : List Argument) (word : List ℕ) (ws all : List (List ℕ)) → map word_of xs ++ word ∷ ws ≡ all → argument_at word ≡ None →
+    few_arguments_at all ≡ None
+bad_word xs word ws all e h = grind (arith, nat_tests, none_read xs word ws h)
+
+pub many_words : (xs : List Argument) (word : List ℕ) (ws all : List (List ℕ)) → map word_of xs ++ word ∷ ws ≡ all → most_arguments ≤ length xs →
+    few_arguments_at all ≡ None
+many_words xs word ws all e l = grind (arith, nat_tests, length-map xs word_of, length-append (map word_of xs) (word ∷ ws), ap length e)
+
+pub ruleset by_word = (all_read, bad_word, many_words)
+
 -- ---- a call as words
 
--- a short word of ASCII, with no space
-record IsWord (word : List ℕ) : Type 0 where
+-- a word of ASCII, with no space and at most so many bytes
+record IsWord (most : ℕ) (word : List ℕ) : Type 0 where
   plain : All (IsInRange 33 126) word
-  short : length word ≤ 21
+  short : length word ≤ most
 
-literal_word : (word : List ℕ) → AllByRecursion (IsInRange 33 126) word → length word ≤ 21 → IsWord word
-literal_word word h l = record { plain = All-from_recursion (IsInRange 33 126) word h; short = l }
+literal_word : (most : ℕ) (word : List ℕ) → AllByRecursion (IsInRange 33 126) word → length word ≤ most → IsWord most word
+literal_word most word h l = record { plain = All-from_recursion (IsInRange 33 126) word h; short = l }
 
-number_word : (n : ℕ) → IsNumber n → IsWord (decimal n)
+number_word : (n : ℕ) → IsNumber n → IsWord 20 (decimal n)
 number_word n h = record {
   plain = All-from_get_or (IsInRange 33 126) (decimal n) 0 (λ i l.
       let digit = digit_at (decimal n) i (digits_decimal own n h) l in (omega (arith, digit.0), omega (arith, digit.1)));
-  short = omega (arith, length-decimal-le 20 n (lit< tt) (omega arith) h);
+  short = length-decimal-le 20 n (lit< tt) (omega arith) h;
 }
 
-name_word : (letter n : ℕ) → IsInRange 33 126 letter → IsNumber n → IsWord (letter ∷ decimal n)
+name_word : (letter n : ℕ) → IsInRange 33 126 letter → IsNumber n → IsWord 21 (letter ∷ decimal n)
 name_word letter n l h = record {
   plain = All-cons (IsInRange 33 126) letter _ l (number_word n h).plain;
-  short = omega (arith, length-decimal-le 20 n (lit< tt) (omega arith) h);
+  short = omega (arith, (number_word n h).short);
 }
 
 ruleset as_words = (rules, literal_word, number_word, name_word)
 
+-- the bytes of an argument, and of arguments with a space before each, at most
+abbrev room_of : Argument → ℕ
+room_of (Number n) = 20
+room_of argument = 21
+
+abbrev room : List Argument → ℕ
+room [] = 0
+room (a ∷ xs) = 1 + room_of a + room xs
+
+argument_word : (a : Argument) → HasNumber a → IsWord (room_of a) (word_of a)
+argument_word (Number n) h = number_word n h
+argument_word a h = search (as_words, h)
+
 unspaced : (word : List ℕ) → All (IsInRange 33 126) word → HasNoSpace word
 unspaced word = All-weaker (IsInRange 33 126) (λ b. eqb b 32 ≡ false) (λ b h. ne_eqb b 32 (λ e. omega (arith, h.0))) word
-
--- an argument is one word
-lone_word : (word : List ℕ) → IsWord word → words word ≡ word ∷ []
-lone_word word h = slice_split_none _ word (unspaced word h.plain)
-
-pub one_number : (n : ℕ) (word : List ℕ) → IsWordOf n word → words word ≡ word ∷ []
-one_number n word h = lone_word word (subst IsWord h.1 (number_word n h.0))
-
-pub one_name : (letter n : ℕ) (word : List ℕ) → letter ∷ decimal n ≡ word → IsInRange 33 126 letter → IsNumber n → words word ≡ word ∷ []
-one_name letter n word e l h = lone_word word (subst IsWord e (name_word letter n l h))
-
-pub ruleset one_argument = (number_is, unlettered, one_number, one_name)
 
 ascii : (word : List ℕ) → All (IsInRange 33 126) word → IsAscii word
 ascii word h = IsAscii-from_all word (All-weaker (IsInRange 33 126) (λ b. b < 128) (λ b k. omega (arith, k.1)) word h)
 
--- words that are joined are no other words, ASCII, and short
-word_line : (w : List ℕ) (ws : List (List ℕ)) → AllByRecursion IsWord (w ∷ ws) →
-    (words (joined (w ∷ ws)) ≡ w ∷ ws) × IsAscii (joined (w ∷ ws)) × (length (joined (w ∷ ws)) ≤ 22 * length (w ∷ ws))
-word_line w [] h = (lone_word w h.0, ascii w h.0.plain, omega (arith, h.0.short))
-word_line w (v ∷ ws) h = let rest = word_line v ws h.1 in (
-  slice_split_at _ w 32 _ (unspaced w h.0.plain) refl ∙ ap (λ vs. w ∷ vs) rest.0,
-  IsAscii-append w _ (ascii w h.0.plain) (IsAscii-cons 32 _ (lit< tt) rest.1),
-  omega (arith, length-append w (32 ∷ joined (v ∷ ws)), h.0.short, rest.2),
-)
+-- words that are joined are no other words, ASCII, and have at most so many bytes
+record AreJoined (most : ℕ) (ws : List (List ℕ)) : Type 0 where
+  apart : words (joined ws) ≡ ws
+  ascii : IsAscii (joined ws)
+  short : length (joined ws) ≤ most
 
--- an action is words, few of them, and is read of them
-abbrev IsSaid : Action → List (List ℕ) → Type 0
-IsSaid action said = AllByRecursion IsWord said × (length said ≤ 4) × (action_at said ≡ Some action)
+one_joined : (n : ℕ) (w : List ℕ) → IsWord n w → AreJoined n (w ∷ [])
+one_joined n w h = record { apart = slice_split_none _ w (unspaced w h.plain); ascii = ascii w h.plain; short = h.short }
 
-said : (action : Action) → AllByRecursion HasNumber (spoken action).1 → IsSaid action ((spoken action).0 ∷ map word_of (spoken action).1)
-said Open h = (search as_words, lit< tt, refl)
-said (Epoch g) h = ((search as_words, search (as_words, h.0)), lit< tt, rw (number_at-decimal g.0 h.0) refl)
-said (Garbage g) h = ((search as_words, search (as_words, h.0)), lit< tt, rw (number_at-decimal g.0 h.0) refl)
-said (Set g) h = ((search as_words, search (as_words, h.0)), lit< tt, rw (number_at-decimal g.0 h.0) refl)
-said (Accelerate g) h = ((search as_words, search (as_words, h.0)), lit< tt, rw (number_at-decimal g.0 h.0) refl)
-said (Close g) h = ((search as_words, search (as_words, h.0)), lit< tt, rw (number_at-decimal g.0 h.0) refl)
-said (Read o) h = ((search as_words, search (as_words, h.0)), lit< tt, rw (number_at-decimal o.0 h.0) refl)
-said (Retire o) h = ((search as_words, search (as_words, h.0)), lit< tt, rw (number_at-decimal o.0 h.0) refl)
-said (Look i g) h = ((search as_words, search (as_words, h.0, h.1.0)), lit< tt, rw (number_at-decimal i.0 h.0, number_at-decimal g.0 h.1.0) refl)
-said (Owned n) h = ((search as_words, search (as_words, h.0)), lit< tt, rw (unlettered n (decimal n) (h.0, refl)) refl)
-said End h = (search as_words, lit< tt, refl)
+more_joined : (n m : ℕ) (w v : List ℕ) (ws : List (List ℕ)) → IsWord n w → AreJoined m (v ∷ ws) → AreJoined (n + (1 + m)) (w ∷ v ∷ ws)
+more_joined n m w v ws h rest = record {
+  apart = slice_split_at _ w 32 _ (unspaced w h.plain) refl ∙ ap (λ vs. w ∷ vs) rest.apart;
+  ascii = IsAscii-append w _ (ascii w h.plain) (IsAscii-cons 32 _ (lit< tt) rest.ascii);
+  short = omega (arith, length-append w (32 ∷ joined (v ∷ ws)), h.short, rest.short);
+}
+
+all_joined : (n : ℕ) (w : List ℕ) (xs : List Argument) → IsWord n w → AllByRecursion HasNumber xs → AreJoined (n + room xs) (w ∷ map word_of xs)
+all_joined n w [] h k = subst (λ m. AreJoined m (w ∷ [])) (omega arith) (one_joined n w h)
+all_joined n w (a ∷ xs) h k =
+    subst (λ m. AreJoined m (w ∷ word_of a ∷ map word_of xs)) (omega arith)
+    (more_joined n (room_of a + room xs) w (word_of a) (map word_of xs) h (all_joined (room_of a) (word_of a) xs (argument_word a k.0) k.1))
+
+-- an action's verb is a word, its arguments are few and short, and no other action has both
+abbrev IsSaid : Action → Type 0
+IsSaid action = IsWord 10 (spoken action).0 × (length (spoken action).1 ≤ most_arguments) × (room (spoken action).1 ≤ 168)
+    × (called (spoken action).0 (with_arguments (spoken action).1) ≡ Some action)
+
+said : (action : Action) → IsSaid action
+said Open = (search as_words, omega arith, omega arith, refl)
+said action = (search as_words, omega arith, omega arith, refl)
 
 -- ---- both
 
@@ -190,14 +224,15 @@ pub record IsLine (call : Call) (line : List ℕ) : Type 0 where
   pub read : call_at line ≡ Some call
 
 pub call_line : (call : Call) → HasNumbers call → IsLine call (line_of call)
-call_line Register h = let line = word_line (codes "register") [] (search as_words) in record { ascii = line.1; short = omega (arith, line.2); read = refl }
-call_line Tally h = let line = word_line (codes "tally") [] (search as_words) in record { ascii = line.1; short = omega (arith, line.2); read = refl }
+call_line Register h = let line = one_joined 8 (codes "register") (search as_words) in record { ascii = line.ascii; short = omega (arith, line.short); read = refl }
+call_line Tally h = let line = one_joined 5 (codes "tally") (search as_words) in record { ascii = line.ascii; short = omega (arith, line.short); read = refl }
 call_line (At p action) h =
-    let act = said action h.1 in
-    let line = word_line (place p) ((spoken action).0 ∷ map word_of (spoken action).1) (name_word 112 p.0 (search rules) h.0, act.0) in record {
-      ascii = line.1;
-      short = omega (arith, line.2, act.1);
-      read = ap place_call_at line.0 ∙ rw (number_at-decimal p.0 h.0, act.2) refl;
+    let act = said action in
+    let spoken_line = all_joined 10 (spoken action).0 (spoken action).1 act.0 h.1 in
+    let line = more_joined 21 _ (place p) _ _ (name_word 112 p.0 (search rules) h.0) spoken_line in record {
+      ascii = line.ascii;
+      short = omega (arith, line.short, act.2);
+      read = ap place_call_at line.apart ∙ rw (number_at-decimal p.0 h.0, few_said (spoken action).1 h.1 act.1, act.3) refl;
     }
 
 pub call_at_answers : (line : List ℕ) (o : Option Call) → o ≡ call_at line → IfSome o (λ call. HasNumbers call × (words_of call ≡ words line)) →

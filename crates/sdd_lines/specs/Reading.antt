@@ -1,5 +1,5 @@
 -- Reading a line, word by word. Only private functions cite this: what a line is, `Call` says by the calls' own texts.
-use Rattle.std.specs.Prelude.{◌≡◌, ℕ, ◌^◌, ◌&&◌, List, [], ◌∷◌, Option, Some, None, IfSome, codes, if◌then◌else◌, ◌==◌, nat_lt}
+use Rattle.std.specs.Prelude.{◌≡◌, ℕ, ◌^◌, ◌&&◌, List, [], ◌∷◌, Option, Some, None, IfSome, codes, length, if◌then◌else◌, ◌==◌, nat_lt}
 use Rattle.std.specs.List.{slice_split}
 use Rattle.std.specs.Option.{option_and_then}
 use Rattle.std.specs.Fmt.{decimal}
@@ -37,6 +37,22 @@ argument_at (byte ∷ bytes) =
     else (if byte == 111 then (number_at bytes >>= λ n. Some (Owner (record { 0 = n })))
     else (if byte == 105 then (number_at bytes >>= λ n. Some (Item (record { 0 = n }))) else (number_at (byte ∷ bytes) >>= λ n. Some (Number n))))
 
+-- the arguments that words are, if each is one
+abbrev pub arguments_at : List (List ℕ) → Option (List Argument)
+arguments_at [] = Some []
+arguments_at (word ∷ words) = do
+  argument ← argument_at word
+  arguments ← arguments_at words
+  Some (argument ∷ arguments)
+
+-- no verb has more arguments
+abbrev pub most_arguments : ℕ
+most_arguments = 8
+
+-- the same of no more words than that
+abbrev pub few_arguments_at : List (List ℕ) → Option (List Argument)
+few_arguments_at words = if nat_lt most_arguments (length words) then None else arguments_at words
+
 -- the actions with these arguments
 abbrev pub with_arguments : List Argument → List Action
 with_arguments [] = Open ∷ End ∷ []
@@ -51,13 +67,10 @@ abbrev pub called : List ℕ → List Action → Option Action
 called verb [] = None
 called verb (action ∷ actions) = if bytes_eq verb (spoken action).0 then Some action else called verb actions
 
--- a verb, and at most two arguments
+-- a verb, and its arguments
 abbrev pub action_at : List (List ℕ) → Option Action
 action_at [] = None
-action_at (verb ∷ []) = called verb (with_arguments [])
-action_at (verb ∷ first ∷ []) = argument_at first >>= λ a. called verb (with_arguments (a ∷ []))
-action_at (verb ∷ first ∷ second ∷ []) = argument_at first >>= λ a. argument_at second >>= λ b. called verb (with_arguments (a ∷ b ∷ []))
-action_at (verb ∷ first ∷ second ∷ third ∷ more) = None
+action_at (verb ∷ words) = few_arguments_at words >>= λ arguments. called verb (with_arguments arguments)
 
 abbrev pub place_call_at : List (List ℕ) → Option Call
 place_call_at [] = None

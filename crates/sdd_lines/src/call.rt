@@ -1,5 +1,6 @@
 //! The calls of a script, each of which is a line.
 
+mod arguments;
 pub(crate) mod reading;
 
 use crate::name::{GuardName, ItemName, OwnerName, PlaceName};

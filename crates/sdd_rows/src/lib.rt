@@ -1,15 +1,11 @@
-//! Worked examples, as tests: which epoch each guard of a world or a domain shows, at which of them an item is reclaimed,
-//! and the greatest sizes of worlds.
+//! Worked examples, as tests: which epoch each guard of a world shows, at which of them an item is reclaimed, and the greatest
+//! sizes of worlds. The steps that they are made of serve other crates of tests too.
 #![tactic(auto)]
 
-#[cfg(test)]
-mod domains;
 #[cfg(test)]
 mod ending;
 #[cfg(test)]
 mod first_example;
-#[cfg(test)]
-mod guards;
 #[cfg(test)]
 mod limits_and_memory;
 #[cfg(test)]
@@ -22,8 +18,7 @@ mod openings;
 mod shown;
 #[cfg(test)]
 mod slots_and_owners;
-#[cfg(test)]
-mod steps;
+pub mod steps;
 pub mod value;
 #[cfg(test)]
 mod world_sizes;

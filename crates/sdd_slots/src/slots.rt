@@ -1,5 +1,5 @@
 ghost use Rattle.sdd_places.specs.Block.{IsHome, IsFreeFor, stake_at, lent, settled, unlent};
-ghost use Rattle.std.specs.Prelude.{ℕ, ◌≡◌, ◌+◌, ◌^◌, ◌<◌, ◌≤◌, ◌↔◌, All, IfErr, IfNone, IfOk, IfSome, IsNone, IsSome, IsTrue, MatchResult, None, OnErr, OnSome, Some, length, replicate};
+ghost use Rattle.std.specs.Prelude.{ℕ, ◌≡◌, ◌+◌, ◌^◌, ◌<◌, ◌≤◌, ◌↔◌, All, IfErr, IfNone, IfOk, IfSome, IsNone, IsSome, IsTrue, MatchResult, None, OnErr, OnSome, Some, length, replicate, unwrap_or};
 ghost use Rattle.sdd_token.specs.Kind.{IsOwner};
 ghost use Rattle.sdd_token.specs.Right.{number_of, home_of, kind_of, badge_home};
 ghost use Rattle.sdd_store.specs.Table.{IsEmptyAt, IsFull};
@@ -150,15 +150,16 @@ impl<T> Slots<T> {
         self.rights.grant_another(slot)
     }
 
-    /// Lets an owner go, and tells whether it was the last: then the item waits to be reclaimed.
-    pub fn let_go(&mut self, right: Right) -> bool
-        requires { home_of right ≡ self.old.home }
+    /// Lets an owner of this kind go, and tells whether it was the last: then the item waits to be reclaimed.
+    pub fn let_go(&mut self, right: Right, kind: Kind) -> bool
+        requires home { home_of right ≡ self.old.home }
+        requires kind { kind_of right ≡ kind }
         ensures owned { IsOwnedBy (kind_of right) (standing_at self.old (number_of right)) }
         ensures last { IsTrue result ↔ ¬ (IsTrue (has_others (standing_at self.old (number_of right)))) }
         ensures gone { self.new ≡ with_standing self.old (number_of right) (let_go (standing_at self.old (number_of right))) }
     {
         let slot = self.slot_of(&right);
-        let owners = self.owners(slot).unwrap_or(1);
+        let owners = self.owners_beside(&right, kind);
         self.rights.redeem(right);
         if owners > 1 {
             self.standings.replace(slot, Standing::Shared(owners - 1));
@@ -214,6 +215,22 @@ impl<T> Slots<T> {
             places,
         } = self;
         places.destroy();
+    }
+
+    /// How many owners an owner's item has, itself among them. For the owner of an item that is not shared nothing is looked up.
+    fn owners_beside(&self, right: &Right, kind: Kind) -> u64
+        requires home { home_of right.now ≡ self.now.home }
+        requires kind { kind_of right.now ≡ kind }
+        ensures { result ≡ unwrap_or (owners_of (standing_at self.now (number_of right.now))) 1 }
+    {
+        let slot = self.slot_of(right);
+        match kind {
+            Kind::Shared => match self.standings.at(slot) {
+                Standing::Shared(owners) => owners,
+                _ => unreachable!(),
+            },
+            Kind::Free | Kind::Owned | Kind::Raw | Kind::Retired => 1,
+        }
     }
 
     fn is_waiting(&self, slot: u32) -> bool

@@ -1,6 +1,6 @@
 -- An owner that is let go
 use Rattle.std.proofs.Common.{◌≡◌, ℕ, ◌<◌, Bool, true, false, IsTrue, Option, Some, None, List, length, refl, sym, ap, ◌∙◌, subst}
-use Rattle.std.specs.Prelude.{◌↔◌, IsSome, is_some, if◌then◌else◌}
+use Rattle.std.specs.Prelude.{◌↔◌, IsSome, is_some}
 use Rattle.sdd_token.specs.Kind.{IsOwner}
 use Rattle.sdd_token.specs.declared.right.Kind.{Kind}
 use Rattle.sdd_token.specs.declared.right.Kind.TheVariants as kind

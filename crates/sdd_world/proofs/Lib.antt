@@ -3,3 +3,4 @@ pub mod Lending
 pub mod Closing
 pub mod Sweeping
 pub mod Letting
+pub mod AllGo

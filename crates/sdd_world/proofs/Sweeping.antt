@@ -23,7 +23,8 @@ use Rattle.sdd_base.specs.Steps.{without_cell, spilled, cell_closed, held_in, ow
 use Rattle.sdd_base.specs.Steps as steps
 use Rattle.sdd_base.specs.Holding.{Holding, owned, shared, atomic_owned, atomic_shared}
 use Rattle.sdd_base.specs.Whole.{times_with, taken, IsWhole}
-use Rattle.sdd_world.specs.Closing.{NothingIsOut, aged_out, all_aged_out, Closes, Owner, Holder, holder, slot_owned, cell_held, owner_count, with_fewer, held_by, held_at, owns, AreAllOf, Goes, AllGo, with_reclaimed, Stays, Sweeps, Accounts}
+use Rattle.sdd_base.specs.Accounts.{owner_count}
+use Rattle.sdd_world.specs.Closing.{NothingIsOut, aged_out, all_aged_out, Closes, Owner, Holder, holder, slot_owned, cell_held, with_fewer, held_by, held_at, owns, AreAllOf, Goes, AllGo, with_reclaimed, Stays, Sweeps, Accounts}
 use Rattle.sdd_world.specs.Closing.Owner.{of_value, of_cell}
 use Rattle.sdd_world.specs.Closing.Holder.{the_item, the_cell}
 use Rattle.sdd_world.specs.Closing.Goes.{waits, given as by_giving, held as by_holding}
@@ -44,7 +45,7 @@ module _ {A : Type 0} where
   later-in : (x : A) (xs : List A) (a : A) → Contains xs a → Contains (x ∷ xs) a
   later-in x xs a c = (suc c.0, omega (arith, c.1), c.2)
 
-  in-which : (x : A) (xs : List A) (a : A) → Contains (x ∷ xs) a → (x ≡ a) ⊎ Contains xs a
+  pub in-which : (x : A) (xs : List A) (a : A) → Contains (x ∷ xs) a → (x ≡ a) ⊎ Contains xs a
   in-which x xs a (zero, l, e) = inl e
   in-which x xs a (suc k, l, e) = inr (k, omega (arith, l), e)
 
@@ -54,7 +55,7 @@ module _ {A : Type 0} where
   rest-apart : (x : A) (xs : List A) → AllPairs ◌≢◌ (x ∷ xs) → AllPairs ◌≢◌ xs
   rest-apart x xs h i j d before l = h (suc i) (suc j) d (omega (arith, before)) (omega (arith, l))
 
-  one-more-apart : (x : A) (xs : List A) → (Contains xs x → ⊥) → AllPairs ◌≢◌ xs → AllPairs ◌≢◌ (x ∷ xs)
+  pub one-more-apart : (x : A) (xs : List A) → (Contains xs x → ⊥) → AllPairs ◌≢◌ xs → AllPairs ◌≢◌ (x ∷ xs)
   one-more-apart x xs new h = AllPairs-cons ◌≢◌ x xs (λ k d l e. new (rw e (Contains-get_or xs k d l))) h
 
   -- the others
@@ -917,7 +918,7 @@ none-counted p none [] e k = none
 none-counted p none (x ∷ xs) e zero = first-none p x xs e (p x) refl
 none-counted p none (x ∷ xs) e (suc k) = none-counted p none xs (omega (arith, e, sum_by-cons (λ y. cond (p y) 1 0) x xs)) k
 
-all-uncounted : {E : Type 0} (p : Option E → Bool) (xs : List (Option E)) → ((k : ℕ) → p (slice_index_or xs k None) ≡ false) → count_by p xs ≡ 0
+pub all-uncounted : {E : Type 0} (p : Option E → Bool) (xs : List (Option E)) → ((k : ℕ) → p (slice_index_or xs k None) ≡ false) → count_by p xs ≡ 0
 all-uncounted p [] h = refl
 all-uncounted p (x ∷ xs) h =
     let here : one_where (p x) ≡ 0 = rw (h zero) refl in

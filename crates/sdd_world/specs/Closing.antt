@@ -1,5 +1,5 @@
 -- What the closing of a world does
-use Rattle.std.specs.Prelude.{ℕ, zero, suc, ◌+◌, ◌-◌, ◌<◌, ◌≡◌, ◌≢◌, ◌↔◌, max, All, AllPairs, Contains, IsNone, IsSome, List, [], ◌∷◌, length, map, slice_get, Option, None, Some}
+use Rattle.std.specs.Prelude.{ℕ, zero, suc, ◌+◌, ◌-◌, ◌<◌, ◌≡◌, ◌≢◌, ◌↔◌, All, AllPairs, Contains, IsNone, IsSome, List, [], ◌∷◌, length, map, slice_get, Option, None, Some}
 use Rattle.sdd_store.specs.declared.time.Pace.{Pace}
 use Rattle.sdd_store.specs.Time.{Time, pace_of, paced_at, without_waiting}
 use Rattle.sdd_store.specs.Table.{entry_at}
@@ -12,6 +12,7 @@ use Rattle.sdd_base.specs.Holding.{Holding, owned, shared, atomic_owned, atomic_
 use Rattle.sdd_base.specs.World.{World, place_at, standing_at, value_at}
 use Rattle.sdd_base.specs.Steps.{changed, held_in}
 use Rattle.sdd_base.specs.Whole.{taken, IsCounted}
+use Rattle.sdd_base.specs.Accounts.{owner_count}
 
 -- nothing waits with anyone, nor at the place of anyone who has ended
 abbrev pub emptied : Time → Time
@@ -72,15 +73,6 @@ cell_held (Some (owned k home)) = None
 cell_held (Some (shared k home)) = None
 cell_held (Some (atomic_owned c home)) = Some c
 cell_held (Some (atomic_shared c home)) = Some c
-
--- how many owners have to be given up until the item waits: all that it has, and one at least of an item that stands shared
-abbrev pub owner_count : Option Standing → ℕ
-owner_count None = 0
-owner_count (Some Owned) = 1
-owner_count (Some Raw) = 0
-owner_count (Some (Shared n)) = max 1 n
-owner_count (Some Retired) = 0
-owner_count (Some (privately c)) = 0
 
 -- how the item stands with so many owners fewer, while some are left
 abbrev pub with_fewer : ℕ → Option Standing → Option Standing

@@ -1,5 +1,5 @@
 -- A world with what is lent of it, and what its parts keep true of each other
-use Rattle.std.specs.Prelude.{ℕ, ◌+◌, ◌≤◌, ◌≡◌, List, length, sum_by, count_by}
+use Rattle.std.specs.Prelude.{◌+◌, ◌≤◌, ◌≡◌, List, length, sum_by, count_by}
 use Rattle.sdd_store.specs.Time.{Time, waiting_count}
 use Rattle.sdd_places.specs.Tenures.{Tenures}
 use Rattle.sdd_slots.specs.Slots.{Slots}

@@ -119,10 +119,11 @@ impl<T: Item<T>> Core<T> {
         }
     }
 
-    /// An owner lets its item go, and is told whether it was the last. The last one's item waits with a place.
-    pub fn let_go(&mut self, place: usize, right: Right) -> bool
+    /// An owner of this kind lets its item go, and is told whether it was the last. The last one's item waits with a place.
+    pub fn let_go(&mut self, place: usize, right: Right, kind: Kind) -> bool
         requires place { HasPlace self.old.world place }
         requires home { home_of right ≡ self.old.world.home.slots }
+        requires kind { kind_of right ≡ kind }
         ensures owned { IsOwnedBy (kind_of right) (standing_at self.old.world (number_of right)) }
         ensures last { IsTrue result ↔ ¬ (IsTrue (has_others (standing_at self.old.world (number_of right)))) }
         ensures gone { self.new ≡ record self.old {
@@ -135,17 +136,18 @@ impl<T: Item<T>> Core<T> {
         ensures lent { AreLent self.old → AreLent self.new }
     {
         let slot = right.number();
-        let is_last = self.slots.let_go(right);
+        let is_last = self.slots.let_go(right, kind);
         if is_last {
             self.time.wait(place, slot);
         }
         is_last
     }
 
-    /// The owner's item waits at some place that isn't free, if it was the last.
-    pub fn leave(&mut self, right: Right)
+    /// The item of an owner of this kind waits at some place that isn't free, if it was the last.
+    pub fn leave(&mut self, right: Right, kind: Kind)
         requires some { (p : ℕ) × IsSome (time.phase_at self.old.world.time p) }
         requires home { home_of right ≡ self.old.world.home.slots }
+        requires kind { kind_of right ≡ kind }
         ensures owned { IsOwnedBy (kind_of right) (standing_at self.old.world (number_of right)) }
         ensures left { (p : ℕ) × IsSome (time.phase_at self.old.world.time p)
             × (self.new ≡ record self.old {
@@ -158,7 +160,7 @@ impl<T: Item<T>> Core<T> {
         let Some(place) = self.time.some_taken() else {
             unreachable!()
         };
-        let _ = self.let_go(place, right);
+        let _ = self.let_go(place, right, kind);
     }
 
     /// No cell is free.
@@ -249,15 +251,16 @@ impl<T: Item<T>> Core<T> {
         self.cells.close(cell)
     }
 
-    /// The cell is free, and a place is given what it held.
-    pub fn close_cell(&mut self, place: usize, cell: Right)
+    /// A cell for owners of this kind is free, and a place is given what it held.
+    pub fn close_cell(&mut self, place: usize, cell: Right, kind: Kind)
         requires place { HasPlace self.old.world place }
         requires home { home_of cell ≡ self.old.world.home.cells }
+        requires kind { kind_of cell ≡ kind }
         ensures closed { self.new ≡ record self.old { world = cell_closed self.old.world place (number_of cell) } }
         ensures sizes { KeepsSizes self.old.world self.new.world }
     {
         if let Some(right) = self.take_cell(cell) {
-            let _ = self.let_go(place, right);
+            let _ = self.let_go(place, right, kind);
         }
     }
 }
@@ -295,7 +298,9 @@ impl<T: Item<T>> Giver<T> for Retirement<'_, T> {
         ensures exact { IsExact (seat_for self.old.core.now.world self.old.place self.old.core.ghost_name) →
             self.new.core.now.world ≡ given self.old.core.now.world self.old.place (holding_of owner) }
     {
-        let _ = self.core.let_go(self.place, inner::right_of_owner(owner));
+        let _ = self
+            .core
+            .let_go(self.place, inner::right_of_owner(owner), Kind::Owned);
     }
 
     fn shared(&mut self, owner: Shared<T>)
@@ -308,7 +313,9 @@ impl<T: Item<T>> Giver<T> for Retirement<'_, T> {
         ensures exact { IsExact (seat_for self.old.core.now.world self.old.place self.old.core.ghost_name) →
             self.new.core.now.world ≡ given self.old.core.now.world self.old.place (shared.holding_of owner) }
     {
-        let _ = self.core.let_go(self.place, inner::right_of_shared(owner));
+        let _ = self
+            .core
+            .let_go(self.place, inner::right_of_shared(owner), Kind::Shared);
     }
 
     fn atomic_owned(&mut self, cell: AtomicOwned<T>)
@@ -321,7 +328,8 @@ impl<T: Item<T>> Giver<T> for Retirement<'_, T> {
         ensures exact { IsExact (seat_for self.old.core.now.world self.old.place self.old.core.ghost_name) →
             self.new.core.now.world ≡ given self.old.core.now.world self.old.place (cell_holding cell) }
     {
-        self.core.close_cell(self.place, inner::right_of_cell(cell));
+        self.core
+            .close_cell(self.place, inner::right_of_cell(cell), Kind::Owned);
     }
 
     fn atomic_shared(&mut self, cell: AtomicShared<T>)
@@ -334,8 +342,7 @@ impl<T: Item<T>> Giver<T> for Retirement<'_, T> {
         ensures exact { IsExact (seat_for self.old.core.now.world self.old.place self.old.core.ghost_name) →
             self.new.core.now.world ≡ given self.old.core.now.world self.old.place (shared.cell_holding cell) }
     {
-        self.core
-            .close_cell(self.place, inner::right_of_shared_cell(cell));
+        self.core.close_cell(self.place, inner::right_of_shared_cell(cell), Kind::Shared);
     }
 }
 
@@ -675,6 +682,13 @@ impl<T: Item<T>> Core<T> {
         ensures lent { ¬ (IsTrue (time.is_open (place_at self.old.world place))) → IsWhole self.old.world → AreLent self.old → AreLent self.new }
     {
         self.time.end(place);
+    }
+
+    /// What the values hold is of the world. It does nothing when the program runs.
+    pub fn values_are_of_home(&self)
+        ensures { ValuesAreOf T.holds self.now.world.home self.now.world.values }
+    {
+        let _slots = &self.slots;
     }
 
     pub fn time(&self) -> &Time

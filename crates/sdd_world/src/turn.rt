@@ -46,6 +46,10 @@ impl<T: Item<T>> Shows<T> for World<T> {
     ghost home = { λ w. w.home };
 
     ghost shows = { λ w k value. value_at w k ≡ Some value };
+
+    fn shown_is_of_home(&self) {
+        self.core.values_are_of_home();
+    }
 }
 
 impl<T: Item<T>> Look<T> for World<T> {
@@ -69,6 +73,11 @@ impl<T: Item<T>> Shows<T> for Turn<'_, T> {
     ghost home = { λ t. t.world.now.home };
 
     ghost shows = { λ t k value. value_at t.world.now k ≡ Some value };
+
+    fn shown_is_of_home(&self) {
+        let world: &World<T> = self.world;
+        world.core.values_are_of_home();
+    }
 }
 
 impl<T: Item<T>> Look<T> for Turn<'_, T> {
@@ -183,9 +192,9 @@ impl<T: Item<T>> Space<T> for Turn<'_, T> {
         world.core.upgrade(slot)
     }
 
-    fn let_go(&mut self, right: Right) -> bool {
+    fn let_go(&mut self, right: Right, kind: Kind) -> bool {
         let world = &mut *self.world;
-        world.core.let_go(self.place, right)
+        world.core.let_go(self.place, right, kind)
     }
 
     fn make_cell(

@@ -21,6 +21,7 @@ use crate::inside::Core;
 use sdd_base::{Guard, Item, Limits, Owned, inner};
 use sdd_core::Refused;
 use sdd_store::{Tally, Time};
+use sdd_token::Kind;
 use std::alloc::Global;
 use std::marker::Model;
 
@@ -155,7 +156,7 @@ impl<T: Item<T>> World<T> {
         ensures owned { standing_at self.old (slot_of owner) ≡ Some standing.Owned }
         ensures left { (p : ℕ) × IsSome (phase_at self.old.time p) × (self.new ≡ retired self.old p (slot_of owner)) }
     {
-        self.core.leave(inner::right_of_owner(owner));
+        self.core.leave(inner::right_of_owner(owner), Kind::Owned);
     }
 
     /// The value in a slot whose item stays there while a guard of the place is open, for as long as this guard is borrowed.

@@ -4,8 +4,9 @@ ghost use Rattle.std.specs.Prelude.{◌≡◌, [], ◌∷◌, ◌<◌, Some, IfS
 ghost use Rattle.std.specs.List.{AllByRecursion};
 ghost use Rattle.std.specs.Fmt.{decimal};
 ghost use Rattle.sdd_lines.specs.Call.{IsNumber, HasNumber, word_of, spoken, HasNumbers, words_of};
-ghost use Rattle.sdd_lines.specs.Reading.{words, IsNumberOf, numbered_at, argument_at, with_arguments, called, action_at, call_at};
+ghost use Rattle.sdd_lines.specs.Reading.{words, IsNumberOf, numbered_at, argument_at, few_arguments_at, with_arguments, called, action_at, call_at};
 
+use super::arguments::Arguments;
 use super::{Action, Argument, Call};
 use crate::first::first_at;
 use crate::name::{GuardName, ItemName, OwnerName, PlaceName};
@@ -44,7 +45,6 @@ fn numbered(letter: char, word: &str) -> Option<u64>
 fn argument(word: &str) -> Option<Argument>
     ensures is { result ≡ argument_at word.now }
     ensures sound { IfSome result (λ argument. HasNumber argument × (word_of argument ≡ word.now)) }
-    ensures one { IfSome result (λ _. words word.now ≡ word.now ∷ []) }
 {
     match word.as_bytes() {
         [b'g', ..] => Some(Argument::Guard(GuardName(numbered('g', word)?))),
@@ -52,6 +52,22 @@ fn argument(word: &str) -> Option<Argument>
         [b'i', ..] => Some(Argument::Item(ItemName(numbered('i', word)?))),
         _ => Some(Argument::Number(number(word)?)),
     }
+}
+
+/// The arguments that the words of a text are, or `None` where one is none or they are too many.
+#[tactic(auto, using(crate::proofs::Lines::by_word))]
+fn arguments(text: &str) -> Option<Arguments>
+    ensures is { result ≡ few_arguments_at (words text.now) }
+    ensures sound { IfSome result (λ arguments. AllByRecursion HasNumber arguments × (map word_of arguments ≡ words text.now)) }
+{
+    let mut found = Arguments::none();
+    let mut rest = text;
+    while let Some((word, after)) = split_word(rest) {
+        found.push(argument(word)?)?;
+        rest = after;
+    }
+    found.push(argument(rest)?)?;
+    Some(found)
 }
 
 /// The verbs, each with its arguments.
@@ -77,21 +93,15 @@ fn spoken(verb: &str, arguments: &[Argument]) -> Option<Action>
     }
 }
 
-#[tactic(auto, using(crate::proofs::Lines::bad_second))]
 fn action(text: &str) -> Option<Action>
     ensures is { result ≡ action_at (words text.now) }
     ensures sound { IfSome result (λ action. AllByRecursion HasNumber (spoken action).1
         × ((spoken action).0 ∷ map word_of (spoken action).1 ≡ words text.now)) }
 {
-    let Some((verb, rest)) = split_word(text) else {
-        return spoken(text, &[]);
-    };
-    // An argument is one word, so the last one is found without a search for a space.
-    if let Some(argument) = argument(rest) {
-        return spoken(verb, &[argument]);
+    match split_word(text) {
+        Some((verb, rest)) => spoken(verb, arguments(rest)?.as_slice()),
+        None => spoken(text, &[]),
     }
-    let (first, second) = split_word(rest)?;
-    spoken(verb, &[argument(first)?, argument(second)?])
 }
 
 pub(super) fn call(text: &str) -> Option<Call>

@@ -1,4 +1,3 @@
-use Rattle.std.proofs.Common.{◌≡◌, ◌∙◌}
 use Rattle.sdd_base.specs.Ptr.{cell_seen}
 use Rattle.sdd_base.proofs.Sharing.{shares}
 use Rattle.sdd_base.proofs.atomic_shared.AtomicShared.get_shared.Goals as goal

@@ -13,10 +13,10 @@ use Rattle.sdd_slots.proofs.slots.Slots.let_go.Goals as goal
 pub invariant_of-self : goal.invariant_of-self
 invariant_of-self g c =
     let slot = c.slot_of-slot.result in
-    let owners = c.unwrap_or-owners.result in
+    let owners = c.owners_beside-owners.result in
     let s = slice_index_or c.self.inside.standings slot None in
     let here : c.redeem.result ≡ slot = c.redeem.ensures.number ∙ sym c.slot_of-slot.ensures.slot in
-    let same : owners ≡ owners-or-one s = c.unwrap_or-owners.ensures ∙ ap (λ (o : Option ℕ). unwrap_or o 1) (rw (← c.self.view_is) at c.owners.ensures.owners) in
+    let same : owners ≡ owners-or-one s = rw (← c.self.view_is, ← c.slot_of-slot.ensures.slot) at c.owners_beside-owners.ensures in
     let is : s ≡ Some (Shared owners) =
     more-owners s (omega (arith, same, c.if-owners-gt1.true)) ∙ ap (λ (n : ℕ). Some (Shared n)) (sym same) in
     let there = kept-there slot c.self.invariant in

@@ -1,5 +1,4 @@
-use Rattle.std.proofs.Common.{◌≡◌, inl, inr, ℕ, refl}
-use Rattle.sdd_token.specs.Kind.{IsOwner}
+use Rattle.std.proofs.Common.{inl, inr, ℕ, refl}
 use Rattle.sdd_token.specs.Right.{number_of}
 use Rattle.sdd_token.specs.declared.right.Kind.{Kind}
 use Rattle.sdd_token.specs.declared.right.Kind.TheVariants as kind

@@ -3,7 +3,6 @@ use Rattle.std.specs.Prelude.{unwrap_or}
 use Rattle.std.proofs.lemmas.List.{get_or-set_same}
 use Rattle.sdd_token.specs.Right.{number_of}
 use Rattle.sdd_store.specs.declared.standing.Cell.{Cell}
-use Rattle.sdd_store.specs.Table.{entry_at}
 use Rattle.sdd_slots.specs.Cells.{cell_with}
 use Rattle.sdd_slots.proofs.SlotsKept.{inside-some}
 use Rattle.sdd_base.specs.Ptr.{cell_seen}

@@ -1,4 +1,4 @@
-use Rattle.std.proofs.Common.{◌≡◌, refl, sym, ap, ◌∙◌, subst, Bool, Some, of_calls, ℕ}
+use Rattle.std.proofs.Common.{refl, sym, ap, ◌∙◌, subst, Bool, Some, of_calls, ℕ}
 use Rattle.sdd_token.specs.Right.{number_of}
 use Rattle.sdd_base.specs.Steps.{with_cell}
 use Rattle.sdd_store.specs.declared.standing.Cell.{Cell}

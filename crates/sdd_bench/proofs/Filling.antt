@@ -1,0 +1,66 @@
+-- What cells that are filled and emptied leave
+use Rattle.std.proofs.Common.{◌≡◌, ◌≢◌, ◌⊎◌, inl, inr, ℕ, ◌+◌, ◌<◌, ◌≤◌, List, [], ◌∷◌, Bool, true, false, length, refl, sym, ap, ◌∙◌, arith, subst, Some, None, Option}
+use Rattle.std.specs.Prelude.{is_some}
+use Rattle.std.proofs.lemmas.List.{get_or-set_same, get_or-set_other, length-set, set-set}
+use Rattle.sdd_core.specs.declared.tag.Tag.TheVariants.{None as no_tag}
+use Rattle.sdd_store.specs.Waiting.{What}
+use Rattle.sdd_store.specs.Waiting.What.{Item, Private, Job}
+use Rattle.sdd_store.specs.Table.{Entries, IsEmptyAt, entry_at, with_entry, without_entry}
+use Rattle.sdd_store.specs.Time.{is_open, finds_another, due_next}
+use Rattle.sdd_store.specs.declared.standing.Cell.{Cell}
+use Rattle.sdd_store.specs.declared.standing.Standing.{Standing}
+use Rattle.sdd_store.specs.declared.standing.Standing.TheVariants.{Owned, Raw, Shared, Retired, Private as privately}
+use Rattle.sdd_slots.proofs.SlotsKept.{inside-some}
+use Rattle.sdd_base.specs.Holding.{Holding}
+use Rattle.sdd_base.specs.World.{World, place_at, standing_at, value_at}
+use Rattle.sdd_base.specs.Steps.{made, nulled, with_cell, opened, changed, taken_out, waiting_value, reclaimed, all_reclaimed}
+use Rattle.sdd_base.specs.Steps as steps
+use Rattle.sdd_base.specs.Out.{out, HoldsNothing}
+use Rattle.sdd_base.proofs.Out.{out-laws}
+use Rattle.sdd_bench.specs.Leaves.{IsFilled}
+use Rattle.sdd_bench.proofs.Leaving.{nothing}
+
+-- a cell that holds something, and then something else
+pub set-there : (cells : Entries Cell) (c : ℕ) (x y : Cell) → entry_at cells c ≡ Some x → entry_at (with_entry cells c y) c ≡ Some y
+set-there cells c x y is = get_or-set_same cells c (Some y) None (inside-some cells c (ap is_some is))
+
+module _ {T : Type 0} (holds : T → List Holding) (plain : HoldsNothing holds) (p : ℕ) where
+  -- what is reclaimed changes no cell, where values hold nothing
+  taken-cells : (w : World T) (k : ℕ) (v : Option T) → (taken_out holds w p k v).cells ≡ w.cells
+  taken-cells w k None = refl
+  taken-cells w k (Some v) = rw (plain v) refl
+
+  slot-cells : (w : World T) (k : ℕ) (s : Option Standing) → (taken_out holds w p k (waiting_value w k s)).cells ≡ w.cells
+  slot-cells w k None = refl
+  slot-cells w k (Some Owned) = refl
+  slot-cells w k (Some Raw) = refl
+  slot-cells w k (Some (Shared m)) = refl
+  slot-cells w k (Some Retired) = taken-cells w k (value_at w k)
+  slot-cells w k (Some (privately c)) = taken-cells w k (value_at w k)
+
+  reclaimed-cells : (w : World T) (x : What) → (reclaimed holds w p x).cells ≡ w.cells
+  reclaimed-cells w (Item k) = slot-cells w k (standing_at w k)
+  reclaimed-cells w (Private k c) = slot-cells w k (standing_at w k)
+  reclaimed-cells w (Job j) = refl
+
+  all-cells : (xs : List What) (w : World T) → (all_reclaimed holds w p xs).cells ≡ w.cells
+  all-cells [] w = refl
+  all-cells (x ∷ xs) w = all-cells xs (reclaimed holds w p x) ∙ reclaimed-cells w x
+
+  -- no opening does either
+  opened-cells-if : (w : World T) (a b : Bool) → is_open (place_at w p) ≡ a → finds_another (steps.nested w p).time p ≡ b → (opened holds w p).cells ≡ w.cells
+  opened-cells-if w true b e f = rw e refl
+  opened-cells-if w false false e f = rw (e, f) refl
+  opened-cells-if w false true e f =
+      rw (e, f) (all-cells (due_next (place_at (steps.nested w p) p)) (steps.rotated (steps.nested w p) p))
+
+  pub opened-cells : (w : World T) → (opened holds w p).cells ≡ w.cells
+  opened-cells w = opened-cells-if w (is_open (place_at w p)) (finds_another (steps.nested w p).time p) refl refl
+
+-- a cell that holds an owner holds it still where no cell changes, and where a guard is opened
+pub filled-on : (w v : World ℕ) (c : ℕ) → v ≡ w → IsFilled w c → IsFilled v c
+filled-on w v c e f = subst (λ (u : World ℕ). IsFilled u c) (sym e) f
+
+pub opened-filled : (w v : World ℕ) (p c : ℕ) → v ≡ opened nothing w p → IsFilled w c → IsFilled v c
+opened-filled w v p c e (slot, tag, is) =
+    (slot, tag, ap (λ (u : World ℕ). entry_at u.cells c) e ∙ ap (λ (cells : Entries Cell). entry_at cells c) (opened-cells nothing (λ n. refl) p w) ∙ is)

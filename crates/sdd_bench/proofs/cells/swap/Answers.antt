@@ -1,0 +1,15 @@
+use Rattle.std.proofs.Common.{◌≡◌, ℕ, Some, None, ap, ◌∙◌}
+use Rattle.std.proofs.lemmas.List.{get_or-set_same}
+use Rattle.sdd_core.specs.declared.tag.Tag.TheVariants.{None as no_tag}
+use Rattle.sdd_store.specs.Table.{entry_at}
+use Rattle.sdd_base.specs.Owned.{slot_of, cell_of}
+use Rattle.sdd_base.specs.World.{World}
+use Rattle.sdd_bench.proofs.Filling.{set-there}
+use Rattle.sdd_bench.proofs.cells.swap.Goals as goal
+
+pub returns-in-Some-default-clause-filled : goal.returns-in-Some-default-clause-filled
+returns-in-Some-default-clause-filled g c = λ exact.
+    let cell : ℕ = cell_of c.args.cell.now in
+    let swapped = c.swap.ensures.exact (rw c.in-Ok.ensures.seat exact) in
+    let retired = c.retire.ensures.exact (rw (c.swap.ensures.seat, c.in-Ok.ensures.seat) exact) in
+    (slot_of c.in-Ok.next, no_tag, rw (retired, swapped.1) (set-there _ cell _ _ swapped.0))

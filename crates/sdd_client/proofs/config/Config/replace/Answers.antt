@@ -1,0 +1,24 @@
+use Rattle.std.proofs.Common.{ℕ}
+use Rattle.sdd_base.specs.Seat.{IsExact}
+use Rattle.sdd_base.specs.Shared.{slot_of}
+use Rattle.sdd_client.specs.Config.{cell_of}
+use Rattle.sdd_client.proofs.Replacing.{replaces}
+use Rattle.sdd_client.proofs.config.Config.replace.Goals as goal
+
+pub returns-clause-exact : goal.returns-clause-exact
+returns-clause-exact g c = λ exact slot owners old set.
+    let seat = g.S.Guards.seat in let world = g.S.Guards.world in
+    let next : ℕ = slot_of c.in_ok-next.next in
+    let make = c.in_ok-next.ensures in let swap = c.swap-before.ensures in let release = c.release.ensures in
+    let made = make.exact exact in
+    let first : IsExact (seat c.new.new.s) = rw make.seat exact in
+    let swapped = rw c.in-Some.is at (swap.exact first) in
+    let second : IsExact (seat c.swap-before.new.s) = rw swap.seat first in
+    let gone = rw (swap.seat, make.seat) at (release.exact second) in
+    let third : IsExact (seat c.release.new.s) = rw release.seat second in
+    let shown = (g.met.S.Guards.shows_is_value c.release.new.s third next c.args.value).0 (release.keeps next c.args.value (swap.keeps next c.args.value make.shown)) in
+    let done =
+    replaces (world c.args.s.now) (seat c.args.s.now).place (cell_of c.args.self.now) slot owners next old c.args.value set made.0
+    (world c.new.new.s) (world c.swap-before.new.s) (world c.release.new.s) (slot_of c.in-Some.owner) gone.0 c.swap-before.result.1
+    made.1 swapped.0 swapped.1 gone.1 gone.3 shown in
+    (next, made.0, done.0, done.1)
