@@ -11,8 +11,8 @@ pub use sdd_base::{
     AtomicOwned, AtomicShared, Giver, Guard, Guards, Item, Limits, Look, Owned, OwnedPtrPair, Ptr,
     RawPtr, Shared, SharedPtrPair, Shows, Space,
 };
-pub use sdd_core::machine::{Did, Machine, Step, safety};
 pub use sdd_core::{Epoch, Refused, Tag};
 pub use sdd_domain::{Domain, Local, Receipt};
+pub use sdd_machine::machine::{Did, Machine, Step, safety};
 pub use sdd_store::Tally;
 pub use sdd_world::{Place, Turn, World};

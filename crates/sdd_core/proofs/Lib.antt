@@ -1,14 +1,1 @@
 pub mod Epochs
-pub mod Greatest
-pub mod Histories
-pub mod Places
-pub mod Counts
-pub mod Guards
-pub mod Fates
-pub mod InBags
-pub mod Theorem
-pub mod Seen
-pub mod Gather
-pub mod Walks
-pub mod Relinks
-pub mod Trios

@@ -1,10 +1,3 @@
-pub mod Bags
-pub mod Chains
 pub mod Epoch
-pub mod History
-pub mod Laws
 pub mod Refused
-pub mod Sizes
-pub mod Table
 pub mod Tag
-pub mod Views

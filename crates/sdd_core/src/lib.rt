@@ -1,9 +1,8 @@
-//! What the rest stands on: epochs, tags, refusals, and the collector as a machine of single steps.
+//! What the rest stands on: epochs, tags and refusals.
 #![tactic(auto)]
 
 pub mod epoch;
 pub mod inner;
-pub mod machine;
 pub mod refused;
 pub mod tag;
 

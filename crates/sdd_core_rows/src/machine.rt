@@ -1,6 +1,6 @@
 //! The machine's single steps, and what each does.
 use sdd_core::Refused;
-use sdd_core::machine::{Did, Machine, Step, safety};
+use sdd_machine::machine::{Did, Machine, Step, safety};
 use std::process::Abort;
 use std::test::Fail;
 

@@ -1,5 +1,5 @@
 //! Machines of the greatest size and lists of many steps, with ample memory: a body that refuses memory beyond some size meets every contract.
-use sdd_core::machine::{Did, MAX_ITEMS, MAX_PLACES, Machine, Step, safety};
+use sdd_machine::machine::{Did, MAX_ITEMS, MAX_PLACES, Machine, Step, safety};
 use std::alloc::{AllocError, Global};
 use std::test::Fail;
 

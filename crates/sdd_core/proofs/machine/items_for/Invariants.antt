@@ -1,6 +1,0 @@
-use Rattle.std.proofs.Common.{◌≡◌, map, take}
-use Rattle.sdd_core.specs.Sizes.{greatest, item_named}
-use Rattle.sdd_core.proofs.machine.items_for.Given as goal
-
-abbrev pub invariant-loop-step : goal.invariant-loop-step
-invariant-loop-step l = l.greatest ≡ greatest (map item_named (take l.step-index l.steps))

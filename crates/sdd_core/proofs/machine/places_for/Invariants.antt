@@ -1,6 +1,0 @@
-use Rattle.std.proofs.Common.{◌≡◌, map, take}
-use Rattle.sdd_core.specs.Sizes.{greatest, place_named}
-use Rattle.sdd_core.proofs.machine.places_for.Given as goal
-
-abbrev pub invariant-loop-step : goal.invariant-loop-step
-invariant-loop-step l = l.greatest ≡ greatest (map place_named (take l.step-index l.steps))
