@@ -105,6 +105,13 @@ pub fn slot_of_owner<T>(owner: &Owned<T>) -> u32
     owner.slot()
 }
 
+/// The slot of a shared owner's item.
+pub fn slot_of_shared<T>(owner: &Shared<T>) -> u32
+    ensures { result ≡ shared.slot_of owner.now }
+{
+    owner.slot()
+}
+
 /// A null pointer with a tag.
 pub fn null_with<'g, T>(tag: Tag) -> Ptr<'g, T>
     ensures slot { slot_named result ≡ None }

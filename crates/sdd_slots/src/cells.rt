@@ -46,10 +46,7 @@ impl Cells {
     {
         let rights = Rights::new(alloc, size as usize, Kind::Free)?;
         let cells = Table::new(alloc, size)?;
-        let mut held = Vec::with_capacity(alloc, size as usize)?;
-        for _cell in 0..size {
-            held.push_reserved(None);
-        }
+        let held = no_owners(alloc, size)?;
         Ok(Cells {
             rights,
             cells,
@@ -189,6 +186,17 @@ impl Cells {
         }
         held.destroy_empty();
     }
+}
+
+/// That many cells hold no owner.
+fn no_owners(alloc: Global, size: u32) -> Result<Vec<Option<Right>>, AllocError>
+    ensures { IfOk result (λ held. held.items ≡ replicate size None) }
+{
+    let mut held = Vec::with_capacity(alloc, size as usize)?;
+    for _cell in 0..size {
+        held.push_reserved(None);
+    }
+    Ok(held)
 }
 
 /// The slot of an owner, if there is one.

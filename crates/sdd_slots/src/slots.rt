@@ -126,6 +126,21 @@ impl<T> Slots<T> {
         self.places.value(self.slot_of(right) as usize)
     }
 
+    /// The value in a slot that is not free.
+    pub fn value_in(&self, slot: u32) -> &T
+        requires { IsSome (value_at self.now slot) }
+        ensures { value_at self.now slot ≡ Some result.now }
+    {
+        self.places.value(slot as usize)
+    }
+
+    /// How the item in a slot stands; nothing where the slot is free.
+    pub fn standing(&self, slot: u32) -> Option<Standing>
+        ensures { result ≡ standing_at self.now slot }
+    {
+        self.standings.get(slot)
+    }
+
     /// How many owners share the item in a slot; of one that is not shared nothing.
     pub fn owners(&self, slot: u32) -> Option<u64>
         ensures owners { result ≡ owners_of (standing_at self.now slot) }

@@ -1,5 +1,5 @@
 //! What a script needs of a world beyond the public surface.
-ghost use Rattle.std.specs.Prelude.{◌≡◌, ℕ, IsSome, Some, map};
+ghost use Rattle.std.specs.Prelude.{◌≡◌, ◌↔◌, ℕ, IsSome, IsTrue, Some, map};
 ghost use Rattle.sdd_store.specs.Waiting.What.{Item};
 ghost use Rattle.sdd_store.specs.Time.{is_open, phase_at};
 ghost use Rattle.sdd_base.specs.World.{IsPlaceOf, place_at, standing_at, value_at};
@@ -7,14 +7,21 @@ ghost use Rattle.sdd_base.specs.Guard.{reader_of};
 ghost use Rattle.sdd_base.specs.Seat.{reader_at};
 ghost use Rattle.sdd_base.specs.Ptr.{slot_named, shown_by};
 ghost use Rattle.sdd_base.specs.Under.{Stays};
-ghost use Rattle.sdd_base.specs.Owned.{slot_of, slots_home};
+ghost use Rattle.sdd_base.specs.Owned.{slot_of, slots_home, cell_of, cells_home};
+ghost use Rattle.sdd_base.specs.Shared as shared;
+ghost use Rattle.sdd_slots.specs.Slots.{IsSharedBy};
+ghost use Rattle.sdd_store.specs.Table.{IsFull};
 ghost use Rattle.sdd_store.specs.declared.standing.Standing.TheVariants as standing;
-ghost use Rattle.sdd_base.specs.Steps.{reclaims, retired};
+ghost use Rattle.sdd_base.specs.Steps.{reclaims, retired, owner_given, cell_closed};
 ghost use Rattle.sdd_world.specs.Place.{index_of};
 
 use crate::world::{Place, World};
-use sdd_base::inner::ptr_to;
-use sdd_base::{Guard, Item, Owned, Ptr};
+use sdd_base::inner::{
+    ptr_to, right_of_cell, right_of_owner, right_of_shared, right_of_shared_cell,
+};
+use sdd_base::{AtomicOwned, AtomicShared, Guard, Item, Owned, Ptr, Shared};
+use sdd_store::Standing;
+use sdd_token::Kind;
 
 /// The slots whose items the next opening of a participant reclaims.
 pub fn reclaims_next<'w, T: Item<T>>(world: &'w World<T>, place: &Place) -> &'w [u32]
@@ -22,6 +29,21 @@ pub fn reclaims_next<'w, T: Item<T>>(world: &'w World<T>, place: &Place) -> &'w 
     ensures { map Item result.now ≡ reclaims world.now (index_of place.now) }
 {
     world.reclaims(place.index())
+}
+
+/// The value in a slot that is not free.
+pub fn value_in<T: Item<T>>(world: &World<T>, slot: u32) -> &T
+    requires { IsSome (value_at world.now slot) }
+    ensures { value_at world.now slot ≡ Some result.now }
+{
+    world.value_in(slot)
+}
+
+/// How the item in a slot stands; nothing where the slot is free.
+pub fn standing_of<T: Item<T>>(world: &World<T>, slot: u32) -> Option<Standing>
+    ensures { result ≡ standing_at world.now slot }
+{
+    world.standing(slot)
 }
 
 /// A guard of the participant is open.
@@ -50,6 +72,20 @@ pub fn ptr_at<'g, T: Item<T>>(
     ptr_to(slot, world.lend(place, slot, guard))
 }
 
+/// No slot is free.
+pub fn has_no_slot<T: Item<T>>(world: &World<T>) -> bool
+    ensures { IsTrue result ↔ IsFull world.now.standings }
+{
+    world.core.is_full()
+}
+
+/// No cell is free.
+pub fn has_no_cell<T: Item<T>>(world: &World<T>) -> bool
+    ensures { IsTrue result ↔ IsFull world.now.cells }
+{
+    world.core.has_no_cell()
+}
+
 /// The owner's item waits at some place that isn't free: with a participant, or where one left it that has ended.
 pub fn leave<T: Item<T>>(world: &mut World<T>, owner: Owned<T>)
     requires some { (p : ℕ) × IsSome (phase_at world.old.time p) }
@@ -57,5 +93,34 @@ pub fn leave<T: Item<T>>(world: &mut World<T>, owner: Owned<T>)
     ensures owned { standing_at world.old (slot_of owner) ≡ Some standing.Owned }
     ensures left { (p : ℕ) × IsSome (phase_at world.old.time p) × (world.new ≡ retired world.old p (slot_of owner)) }
 {
-    world.leave(owner);
+    world.leave(right_of_owner(owner), Kind::Owned);
+}
+
+/// The shared owner goes: if it was the last, its item waits at some place that isn't free.
+pub fn leave_shared<T: Item<T>>(world: &mut World<T>, owner: Shared<T>)
+    requires some { (p : ℕ) × IsSome (phase_at world.old.time p) }
+    requires home { shared.slots_home owner ≡ world.old.home.slots }
+    ensures shared { (owners : ℕ) × IsSharedBy owners (standing_at world.old (shared.slot_of owner)) }
+    ensures left { (p : ℕ) × IsSome (phase_at world.old.time p)
+        × (world.new ≡ owner_given world.old p (shared.slot_of owner) (standing_at world.old (shared.slot_of owner))) }
+{
+    world.leave(right_of_shared(owner), Kind::Shared);
+}
+
+/// The cell is free, and some place that isn't free is given the item that it held.
+pub fn leave_cell<T: Item<T>>(world: &mut World<T>, cell: AtomicOwned<T>)
+    requires some { (p : ℕ) × IsSome (phase_at world.old.time p) }
+    requires home { cells_home cell ≡ world.old.home.cells }
+    ensures { (p : ℕ) × IsSome (phase_at world.old.time p) × (world.new ≡ cell_closed world.old p (cell_of cell)) }
+{
+    world.leave_cell(right_of_cell(cell), Kind::Owned);
+}
+
+/// The cell is free, and some place that isn't free is given the shared owner that it held.
+pub fn leave_shared_cell<T: Item<T>>(world: &mut World<T>, cell: AtomicShared<T>)
+    requires some { (p : ℕ) × IsSome (phase_at world.old.time p) }
+    requires home { shared.cells_home cell ≡ world.old.home.cells }
+    ensures { (p : ℕ) × IsSome (phase_at world.old.time p) × (world.new ≡ cell_closed world.old p (shared.cell_of cell)) }
+{
+    world.leave_cell(right_of_shared_cell(cell), Kind::Shared);
 }

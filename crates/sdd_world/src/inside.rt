@@ -163,6 +163,21 @@ impl<T: Item<T>> Core<T> {
         let _ = self.let_go(place, right, kind);
     }
 
+    /// The value in a slot that is not free.
+    pub fn value_in(&self, slot: u32) -> &T
+        requires { IsSome (value_at self.now.world slot) }
+        ensures { value_at self.now.world slot ≡ Some result.now }
+    {
+        self.slots.value_in(slot)
+    }
+
+    /// How the item in a slot stands; nothing where the slot is free.
+    pub fn standing(&self, slot: u32) -> Option<Standing>
+        ensures { result ≡ standing_at self.now.world slot }
+    {
+        self.slots.standing(slot)
+    }
+
     /// No cell is free.
     pub fn has_no_cell(&self) -> bool
         ensures { IsTrue result ↔ IsFull self.now.world.cells }
@@ -207,6 +222,30 @@ impl<T: Item<T>> Core<T> {
     {
         let right = self.cells.owner(cell)?;
         Some(self.slots.slot_of(right))
+    }
+
+    /// One owner more of what a cell of shared owners holds, if it holds anything.
+    ///
+    /// `TooManyOwners` where as many share it as may.
+    pub fn owner_held(&mut self, cell: &Right) -> Result<Option<Right>, Refused>
+        requires home { home_of cell.now ≡ self.old.world.home.cells }
+        requires kind { kind_of cell.now ≡ Kind.Shared }
+        ensures held { (old : Cell) × (entry_at self.old.world.cells (number_of cell.now) ≡ Some old) × MatchResult result
+            (λ o. (old.held ≡ slot_held o) × MayHold self.old.world.home.slots Kind.Shared o)
+            (λ e. (e ≡ Refused.TooManyOwners) × IsSome old.held × IfSome old.held (λ slot. IsSharedBy (2 ^ 62) (standing_at self.old.world slot))) }
+        ensures upgraded { MatchResult result
+            (λ o. MatchOption (slot_held o) (self.new ≡ self.old)
+            (λ slot. (owners : ℕ) × IsSharedBy owners (standing_at self.old.world slot) × (owners < 2 ^ 62) ×
+            (self.new ≡ record self.old { world = with_standing self.old.world slot (Standing.Shared (owners + 1)) })))
+            (λ _. self.new ≡ self.old) }
+        ensures sizes { KeepsSizes self.old.world self.new.world }
+        ensures whole { IsWhole self.old.world → IsWhole self.new.world }
+        ensures lent { IsWhole self.old.world → AreLent self.old → AreLent self.new }
+    {
+        match self.slot_held(cell) {
+            Some(slot) => self.upgrade(slot),
+            None => Ok(None),
+        }
     }
 
     /// The cell holds another owner, or none, and has this tag. What it held comes back.
@@ -258,10 +297,29 @@ impl<T: Item<T>> Core<T> {
         requires kind { kind_of cell ≡ kind }
         ensures closed { self.new ≡ record self.old { world = cell_closed self.old.world place (number_of cell) } }
         ensures sizes { KeepsSizes self.old.world self.new.world }
+        ensures whole { IsSome (time.phase_at self.old.world.time place) → IsWhole self.old.world → IsWhole self.new.world }
+        ensures lent { IsWhole self.old.world → AreLent self.old → AreLent self.new }
     {
         if let Some(right) = self.take_cell(cell) {
             let _ = self.let_go(place, right, kind);
         }
+    }
+
+    /// A cell for owners of this kind is free, and some place that isn't free is given what it held.
+    pub fn leave_cell(&mut self, cell: Right, kind: Kind)
+        requires some { (p : ℕ) × IsSome (time.phase_at self.old.world.time p) }
+        requires home { home_of cell ≡ self.old.world.home.cells }
+        requires kind { kind_of cell ≡ kind }
+        ensures left { (p : ℕ) × IsSome (time.phase_at self.old.world.time p)
+            × (self.new ≡ record self.old { world = cell_closed self.old.world p (number_of cell) }) }
+        ensures sizes { KeepsSizes self.old.world self.new.world }
+        ensures whole { IsWhole self.old.world → IsWhole self.new.world }
+        ensures lent { IsWhole self.old.world → AreLent self.old → AreLent self.new }
+    {
+        let Some(place) = self.time.some_taken() else {
+            unreachable!()
+        };
+        self.close_cell(place, cell, kind);
     }
 }
 

@@ -286,10 +286,7 @@ impl<T: Item<T>> Space<T> for Turn<'_, T> {
         if world.core.has_no_cell() {
             return Err(Refused::NoCell);
         }
-        let owner = match world.core.slot_held(cell) {
-            Some(slot) => world.core.upgrade(slot)?,
-            None => None,
-        };
+        let owner = world.core.owner_held(cell)?;
         match world.core.make_cell(owner, tag, Kind::Shared) {
             Ok(other) => Ok(other),
             Err(_) => unreachable!(),

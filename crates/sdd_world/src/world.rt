@@ -1,27 +1,26 @@
 ghost use Rattle.std.specs.Prelude.{◌≡◌, ◌≢◌, ℕ, ◌+◌, ◌<◌, ◌≤◌, ◌⊎◌, [], false, map, length, Some, None, Option, IfOk, IfSome, MatchOption, MatchResult, IsSome, IsTrue, ◌↔◌};
-ghost use Rattle.sdd_token.specs.Right.{number_of, home_of};
+ghost use Rattle.sdd_token.specs.Right.{number_of, home_of, kind_of};
+ghost use Rattle.sdd_slots.specs.Slots.{IsOwnedBy};
 ghost use Rattle.sdd_store.specs.Waiting.What.{Item};
 ghost use Rattle.sdd_store.specs.Time.{CanNest, phase_at, IsVacant, IsCrowded, is_open, due_next};
 ghost use Rattle.sdd_store.specs.Table.{IsEmptyAt, IsFull};
 ghost use Rattle.sdd_base.specs.Holding.{AreOf};
-ghost use Rattle.sdd_store.specs.declared.standing.Standing.TheVariants as standing;
 ghost use Rattle.sdd_base.specs.World.{World, IsGuarded, IsPlaceOf, IsNew, place_at, standing_at, value_at};
 ghost use Rattle.sdd_base.specs.Guard.{reader_of};
 ghost use Rattle.sdd_base.specs.Seat.{reader_at};
 ghost use Rattle.sdd_base.specs.Under.{Stays};
-ghost use Rattle.sdd_base.specs.Owned.{slot_of, slots_home};
 ghost use Rattle.sdd_base.specs.Out.{out};
 ghost use Rattle.sdd_base.specs.Limits.{AreInRange};
-ghost use Rattle.sdd_base.specs.Steps.{made, retired, nulled, cell_closed, opened, changed, closed, stirred, accelerated, registered, ended, reclaims};
+ghost use Rattle.sdd_base.specs.Steps.{made, owner_given, nulled, cell_closed, opened, changed, closed, stirred, accelerated, registered, ended, reclaims};
 
 mod closing;
 mod laws;
 
 use crate::inside::Core;
-use sdd_base::{Guard, Item, Limits, Owned, inner};
+use sdd_base::{Guard, Item, Limits, inner};
 use sdd_core::Refused;
-use sdd_store::{Tally, Time};
-use sdd_token::Kind;
+use sdd_store::{Standing, Tally, Time};
+use sdd_token::{Kind, Right};
 use std::alloc::Global;
 use std::marker::Model;
 
@@ -149,14 +148,26 @@ impl<T: Item<T>> World<T> {
         self.core.tally()
     }
 
-    /// The owner's item waits at some place that isn't free: with a participant, or where one left it that has ended.
-    pub(crate) fn leave(&mut self, owner: Owned<T>)
+    /// The item of an owner of this kind waits at some place that isn't free, if it was the last.
+    pub(crate) fn leave(&mut self, right: Right, kind: Kind)
         requires some { (p : ℕ) × IsSome (phase_at self.old.time p) }
-        requires home { slots_home owner ≡ self.old.home.slots }
-        ensures owned { standing_at self.old (slot_of owner) ≡ Some standing.Owned }
-        ensures left { (p : ℕ) × IsSome (phase_at self.old.time p) × (self.new ≡ retired self.old p (slot_of owner)) }
+        requires home { home_of right ≡ self.old.home.slots }
+        requires kind { kind_of right ≡ kind }
+        ensures owned { IsOwnedBy (kind_of right) (standing_at self.old (number_of right)) }
+        ensures left { (p : ℕ) × IsSome (phase_at self.old.time p)
+            × (self.new ≡ owner_given self.old p (number_of right) (standing_at self.old (number_of right))) }
     {
-        self.core.leave(inner::right_of_owner(owner), Kind::Owned);
+        self.core.leave(right, kind);
+    }
+
+    /// A cell for owners of this kind is free, and some place that isn't free is given what it held.
+    pub(crate) fn leave_cell(&mut self, cell: Right, kind: Kind)
+        requires some { (p : ℕ) × IsSome (phase_at self.old.time p) }
+        requires home { home_of cell ≡ self.old.home.cells }
+        requires kind { kind_of cell ≡ kind }
+        ensures left { (p : ℕ) × IsSome (phase_at self.old.time p) × (self.new ≡ cell_closed self.old p (number_of cell)) }
+    {
+        self.core.leave_cell(cell, kind);
     }
 
     /// The value in a slot whose item stays there while a guard of the place is open, for as long as this guard is borrowed.
@@ -169,6 +180,21 @@ impl<T: Item<T>> World<T> {
     {
         self.core
             .lend_from(place.index, slot, inner::tenure_of(guard))
+    }
+
+    /// The value in a slot that is not free.
+    pub(crate) fn value_in(&self, slot: u32) -> &T
+        requires { IsSome (value_at self.now slot) }
+        ensures { value_at self.now slot ≡ Some result.now }
+    {
+        self.core.value_in(slot)
+    }
+
+    /// How the item in a slot stands; nothing where the slot is free.
+    pub(crate) fn standing(&self, slot: u32) -> Option<Standing>
+        ensures { result ≡ standing_at self.now slot }
+    {
+        self.core.standing(slot)
     }
 
     pub(crate) fn time(&self) -> &Time

@@ -1,5 +1,5 @@
 use Rattle.std.proofs.Common.{◌≡◌, ◌≤◌, vec_len, vec_capacity, replicate, None}
-use Rattle.sdd_slots.proofs.cells.Cells.new.Given as goal
+use Rattle.sdd_slots.proofs.cells.no_owners.Given as goal
 
 abbrev pub invariant-loop-cell : goal.invariant-loop-cell
 invariant-loop-cell l = record {
