@@ -1,11 +1,13 @@
-//! Worked examples, as tests: which epoch each guard of a world shows, at which of them an item is reclaimed, and the greatest
-//! sizes of worlds. The steps that they are made of serve other crates of tests too.
+//! Worked examples, as tests: which epoch each guard of a world shows, at which of them an item is reclaimed, the greatest
+//! sizes of worlds, and the same calls over a turn and over a domain's only participant.
 #![tactic(auto)]
 
 #[cfg(test)]
 mod ending;
 #[cfg(test)]
 mod first_example;
+#[cfg(test)]
+mod guards;
 #[cfg(test)]
 mod limits_and_memory;
 #[cfg(test)]
@@ -18,7 +20,8 @@ mod openings;
 mod shown;
 #[cfg(test)]
 mod slots_and_owners;
-pub mod steps;
+#[cfg(test)]
+mod steps;
 pub mod value;
 #[cfg(test)]
 mod world_sizes;

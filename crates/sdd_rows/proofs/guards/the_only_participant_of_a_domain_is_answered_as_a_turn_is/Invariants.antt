@@ -2,7 +2,7 @@ use Rattle.sdd_base.specs.Seat.{IsSeated}
 use Rattle.sdd_base.specs.World.{IsPlaceOf}
 use Rattle.sdd_world.specs.Place.{index_of}
 use Rattle.sdd_domain.specs.Space.{seat_of}
-use Rattle.sdd_domain_rows.proofs.guards.the_only_participant_of_a_domain_is_answered_as_a_turn_is.Given as goal
+use Rattle.sdd_rows.proofs.guards.the_only_participant_of_a_domain_is_answered_as_a_turn_is.Given as goal
 
 abbrev pub invariant-loop-call : goal.invariant-loop-call
 invariant-loop-call g l = record {

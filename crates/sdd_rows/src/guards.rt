@@ -7,10 +7,10 @@ ghost use Rattle.sdd_base.specs.Guard.{reader_of};
 ghost use Rattle.sdd_domain.specs.Space.{seat_of};
 ghost use Rattle.sdd_rows.specs.Stays.{Stays};
 
+use crate::steps::{closed, joined, new_world};
 use sdd_base::{Guard, Guards, Item, Limits};
 use sdd_core::Refused;
 use sdd_domain::{Domain, Local};
-use sdd_rows::steps::{closed, joined, new_world};
 use sdd_world::{Place, World};
 use std::process::Abort;
 
