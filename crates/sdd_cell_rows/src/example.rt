@@ -1,0 +1,130 @@
+//! Examples over any space, and the world that they are run in.
+ghost use Rattle.std.specs.Prelude.{◌≡◌};
+ghost use Rattle.sdd_base.specs.Seat.{IsSeated};
+
+use crate::steps::accelerated;
+use sdd_base::{Item, Limits, Space};
+use sdd_world::{Place, World};
+use std::marker::Model;
+use std::process::Abort;
+
+/// Enough of everything.
+pub const AMPLE: Limits = Limits {
+    participants: 8,
+    slots: 64,
+    cells: 64,
+    jobs: 8,
+    nesting: 8,
+    tries: 1,
+};
+
+/// Of an opening: the epoch that its guard shows, how many items are reclaimed by then, and whether something may wait with the participant.
+pub type Shown = (u8, u128, bool);
+
+/// What one participant does in some space. It asserts what it is answered.
+pub trait Example<T: Item<T>> {
+    fn run<R: Abort, S: Space<T>>(rt: &R, s: &mut S)
+        requires seated { IsSeated (S.seat s.old) }
+        ensures seat { S.seat s.new ≡ S.seat s.old };
+}
+
+/// A world, and the participant that makes the calls.
+pub struct Setting<T: Item<T>> {
+    world: World<T>,
+    place: Place,
+}
+
+impl<T: Item<T>> Model for Setting<T> {
+    ghost use Rattle.sdd_base.specs.World.{IsPlaceOf};
+    ghost use Rattle.sdd_world.specs.Place.{index_of};
+
+    ghost Value = { Unit {0} };
+
+    ghost view = { λ _. tt };
+
+    ghost invariant = { λ s. IsPlaceOf s.world (index_of s.place) };
+}
+
+impl<T: Item<T>> Setting<T> {
+    /// A new world with one participant.
+    pub fn new<R: Abort + AllocGlobal>(rt: &R, limits: Limits) -> Setting<T> {
+        let mut world = World::new(rt.alloc(), limits).expect(rt, "the limits are in range");
+        let place = world.register().expect(rt, "a place is free");
+        Setting { world, place }
+    }
+
+    /// The participant does this.
+    pub fn run<E: Example<T>>(&mut self, rt: &impl Abort) {
+        E::run(rt, &mut self.world.at(&self.place));
+    }
+
+    /// Another participant comes, and this one ends. From now on the other makes the calls.
+    pub fn hand_over(&mut self, rt: &impl Abort) {
+        let next = self.world.register().expect(rt, "a place is free");
+        let before = std::mem::replace(&mut self.place, next);
+        match self.world.end(before) {
+            Ok(()) => {}
+            Err((_place, refused)) => panic!(rt; "{refused:?}"),
+        }
+    }
+
+    /// Opens, accelerates and closes a guard.
+    fn accelerated(&mut self, rt: &impl Abort) -> (u8, bool) {
+        accelerated(rt, &mut self.world.at(&self.place))
+    }
+
+    /// The participant's next accelerated guards show this.
+    pub fn shows(&mut self, rt: &impl Abort, table: &[Shown]) {
+        for (epoch, reclaimed, garbage) in table {
+            assert_eq!(rt; self.accelerated(rt), (*epoch, *garbage));
+            assert_eq!(rt;
+                self.world.tally().reclaimed,
+                *reclaimed,
+                "at epoch {epoch}"
+            );
+        }
+    }
+
+    /// Ends the world, by which all that was made is reclaimed.
+    pub fn closed(self, rt: &impl Abort) {
+        let Setting { world, place: _ } = self;
+        match world.close() {
+            Ok(tally) => assert_eq!(rt; (tally.reclaimed, tally.in_place), (tally.made, 0)),
+            Err((_world, refused)) => panic!(rt; "{refused:?}"),
+        }
+    }
+}
+
+/// A participant of a world with these limits does this, and all that was made is reclaimed at the end.
+pub fn in_a_world<T: Item<T>, E: Example<T>, R: Abort + AllocGlobal>(rt: &R, limits: Limits) {
+    let mut setting: Setting<T> = Setting::new(rt, limits);
+    setting.run::<E>(rt);
+    setting.closed(rt);
+}
+
+/// The participant's guards show this afterwards.
+pub fn in_a_world_that_shows<T: Item<T>, E: Example<T>, R: Abort + AllocGlobal>(
+    rt: &R,
+    limits: Limits,
+    table: &[Shown],
+) {
+    let mut setting: Setting<T> = Setting::new(rt, limits);
+    setting.run::<E>(rt);
+    setting.shows(rt, table);
+    setting.closed(rt);
+}
+
+/// The participant's guards show this afterwards, and once it has ended those of another that.
+pub fn in_a_world_handed_over<T: Item<T>, E: Example<T>, R: Abort + AllocGlobal>(
+    rt: &R,
+    limits: Limits,
+    own: &[Shown],
+    others: &[Shown],
+) {
+    let mut setting: Setting<T> = Setting::new(rt, limits);
+    setting.run::<E>(rt);
+    setting.shows(rt, own);
+    setting.hand_over(rt);
+    setting.shows(rt, others);
+    setting.closed(rt);
+}

@@ -1,0 +1,247 @@
+//! Owners that are alone, and cells of them.
+ghost use Rattle.std.specs.Prelude.{◌≡◌};
+ghost use Rattle.sdd_base.specs.Guard.{reader_of};
+ghost use Rattle.sdd_base.specs.Holding.{AreOf};
+ghost use Rattle.sdd_base.specs.Owned.{slots_home, cells_home, IsOfSlots};
+ghost use Rattle.sdd_base.specs.Seat.{IsSeated};
+
+use crate::steps::{Read, close, opened, seen};
+use sdd_base::{AtomicOwned, Guard, Item, Owned, Ptr, Space};
+use sdd_core::{Refused, Tag};
+use std::process::Abort;
+
+/// The owner of a new item.
+pub fn made<T: Item<T>, S: Space<T>>(rt: &impl Abort, s: &mut S, value: T) -> Owned<T>
+    requires seated { IsSeated (S.seat s.old) }
+    requires home { AreOf (S.seat s.old).home (T.holds value) }
+    ensures seat { S.seat s.new ≡ S.seat s.old }
+    ensures home { slots_home result ≡ (S.seat s.new).home.slots }
+{
+    match Owned::new(value, s) {
+        Ok(owner) => owner,
+        Err((_value, refused)) => panic!(rt; "{refused:?}"),
+    }
+}
+
+/// The owner of a new item, or of none.
+fn made_if<S: Space<u64>>(rt: &impl Abort, s: &mut S, value: Option<u64>) -> Option<Owned<u64>>
+    requires seated { IsSeated (S.seat s.old) }
+    ensures seat { S.seat s.new ≡ S.seat s.old }
+    ensures home { IsOfSlots (S.seat s.new).home.slots result }
+{
+    match value {
+        Some(value) => Some(made(rt, s, value)),
+        None => None,
+    }
+}
+
+/// The item waits from now on.
+pub fn retire<T: Item<T>, S: Space<T>>(s: &mut S, owner: Owned<T>)
+    requires seated { IsSeated (S.seat s.old) }
+    requires home { slots_home owner ≡ (S.seat s.old).home.slots }
+    ensures seat { S.seat s.new ≡ S.seat s.old }
+{
+    owner.retire(s);
+}
+
+/// The number of the owner's item, which waits from now on.
+pub fn spent<S: Space<u64>>(s: &mut S, owner: Option<Owned<u64>>) -> Option<u64>
+    requires seated { IsSeated (S.seat s.old) }
+    requires home { IsOfSlots (S.seat s.old).home.slots owner }
+    ensures seat { S.seat s.new ≡ S.seat s.old }
+{
+    let owner = owner?;
+    let value = *owner.get(s);
+    owner.retire(s);
+    Some(value)
+}
+
+/// A cell that holds the owner of a new item.
+pub fn cell<T: Item<T>, S: Space<T>>(rt: &impl Abort, s: &mut S, value: T) -> AtomicOwned<T>
+    requires seated { IsSeated (S.seat s.old) }
+    requires home { AreOf (S.seat s.old).home (T.holds value) }
+    ensures seat { S.seat s.new ≡ S.seat s.old }
+    ensures home { cells_home result ≡ (S.seat s.new).home.cells }
+{
+    match AtomicOwned::new(value, s) {
+        Ok(cell) => cell,
+        Err((_value, refused)) => panic!(rt; "{refused:?}"),
+    }
+}
+
+/// A cell that holds nothing.
+pub fn null<S: Space<u64>>(rt: &impl Abort, s: &mut S) -> AtomicOwned<u64>
+    requires seated { IsSeated (S.seat s.old) }
+    ensures seat { S.seat s.new ≡ S.seat s.old }
+    ensures home { cells_home result ≡ (S.seat s.new).home.cells }
+{
+    AtomicOwned::null(s).expect(rt, "a cell is free")
+}
+
+/// What a cell that may not be had is refused with. The number comes back of one that would hold a new item.
+pub fn refused<S: Space<u64>>(s: &mut S, value: u64) -> Option<(u64, Refused)>
+    requires seated { IsSeated (S.seat s.old) }
+    ensures seat { S.seat s.new ≡ S.seat s.old }
+{
+    match AtomicOwned::new(value, s) {
+        Ok(cell) => {
+            cell.close(s);
+            None
+        }
+        Err(back) => Some(back),
+    }
+}
+
+/// The same of one that would hold this owner, whose number comes back. Its item waits from now on.
+pub fn refused_from<S: Space<u64>>(s: &mut S, owner: Owned<u64>) -> Option<(Option<u64>, Refused)>
+    requires seated { IsSeated (S.seat s.old) }
+    requires home { slots_home owner ≡ (S.seat s.old).home.slots }
+    ensures seat { S.seat s.new ≡ S.seat s.old }
+{
+    match AtomicOwned::from(owner, s) {
+        Ok(cell) => {
+            cell.close(s);
+            None
+        }
+        Err((owner, refused)) => Some((spent(s, Some(owner)), refused)),
+    }
+}
+
+/// The same of one that would hold nothing.
+pub fn refused_null<T: Item<T>, S: Space<T>>(s: &mut S) -> Option<Refused>
+    requires seated { IsSeated (S.seat s.old) }
+    ensures seat { S.seat s.new ≡ S.seat s.old }
+{
+    match AtomicOwned::null(s) {
+        Ok(cell) => {
+            cell.close(s);
+            None
+        }
+        Err(refused) => Some(refused),
+    }
+}
+
+/// The cell is free again, and what it held waits.
+pub fn close_cell<S: Space<u64>>(s: &mut S, cell: AtomicOwned<u64>)
+    requires seated { IsSeated (S.seat s.old) }
+    requires home { cells_home cell ≡ (S.seat s.old).home.cells }
+    ensures seat { S.seat s.new ≡ S.seat s.old }
+{
+    cell.close(s);
+}
+
+/// The cell is free again. The number that it held; its item waits from now on.
+pub fn taken<S: Space<u64>>(s: &mut S, cell: AtomicOwned<u64>) -> Option<u64>
+    requires seated { IsSeated (S.seat s.old) }
+    requires home { cells_home cell ≡ (S.seat s.old).home.cells }
+    ensures seat { S.seat s.new ≡ S.seat s.old }
+{
+    let owner = cell.into_owned(s);
+    spent(s, owner)
+}
+
+/// A pointer to what the cell holds.
+pub fn load<'g, S: Space<u64>>(s: &mut S, cell: &AtomicOwned<u64>, guard: &'g Guard) -> Ptr<'g, u64>
+    requires seated { IsSeated (S.seat s.old) }
+    requires home { cells_home cell.now ≡ (S.seat s.old).home.cells }
+    requires reader { reader_of guard.now ≡ (S.seat s.old).reader }
+    ensures seat { S.seat s.new ≡ S.seat s.old }
+{
+    cell.load(guard, s)
+}
+
+/// The number that the cell holds, and its tag, under a guard of its own.
+pub fn held<S: Space<u64>>(
+    rt: &impl Abort,
+    s: &mut S,
+    cell: &AtomicOwned<u64>,
+) -> (Option<u64>, Tag)
+    requires seated { IsSeated (S.seat s.old) }
+    requires home { cells_home cell.now ≡ (S.seat s.old).home.cells }
+    ensures seat { S.seat s.new ≡ S.seat s.old }
+{
+    let guard = opened(rt, s);
+    let ptr = load(s, cell, &guard);
+    let held = (seen(s, ptr), ptr.tag());
+    close(s, guard);
+    assert_eq!(rt; cell.is_null(s), held.0.is_none());
+    assert_eq!(rt; cell.tag(s), held.1);
+    held
+}
+
+/// Sets the tag if it is this one, and tells whether it was.
+pub fn tag_if<S: Space<u64>>(
+    rt: &impl Abort,
+    s: &mut S,
+    cell: &AtomicOwned<u64>,
+    old: Tag,
+    new: Tag,
+) -> bool
+    requires seated { IsSeated (S.seat s.old) }
+    requires home { cells_home cell.now ≡ (S.seat s.old).home.cells }
+    ensures seat { S.seat s.new ≡ S.seat s.old }
+{
+    cell.update_tag_if(new, |ptr| ptr.tag() == old, s)
+        .expect(rt, "in a world the condition is asked once")
+}
+
+/// The cell holds a new item, or nothing, with this tag. The number that it held, whose item waits from now on, and the tag before.
+pub fn swapped<S: Space<u64>>(
+    rt: &impl Abort,
+    s: &mut S,
+    cell: &AtomicOwned<u64>,
+    next: Option<u64>,
+    tag: Tag,
+) -> (Option<u64>, Tag)
+    requires seated { IsSeated (S.seat s.old) }
+    requires home { cells_home cell.now ≡ (S.seat s.old).home.cells }
+    ensures seat { S.seat s.new ≡ S.seat s.old }
+{
+    let owner = made_if(rt, s, next);
+    let (old, old_tag) = cell.swap((owner, tag), s);
+    (spent(s, old), old_tag)
+}
+
+/// The same if the cell holds what the pointer names.
+pub fn exchanged<'g, S: Space<u64>>(
+    rt: &impl Abort,
+    s: &mut S,
+    cell: &AtomicOwned<u64>,
+    current: Ptr<'g, u64>,
+    next: Option<u64>,
+    tag: Tag,
+    guard: &'g Guard,
+) -> Result<Read, Read>
+    requires seated { IsSeated (S.seat s.old) }
+    requires home { cells_home cell.now ≡ (S.seat s.old).home.cells }
+    requires reader { reader_of guard.now ≡ (S.seat s.old).reader }
+    ensures seat { S.seat s.new ≡ S.seat s.old }
+{
+    let owner = made_if(rt, s, next);
+    match cell.compare_exchange(current, (owner, tag), guard, s) {
+        Ok((old, now)) => Ok((spent(s, old), seen(s, now), now.tag())),
+        Err((back, now)) => Err((spent(s, back), seen(s, now), now.tag())),
+    }
+}
+
+/// The same by `compare_exchange_weak`.
+pub fn weakly_exchanged<'g, S: Space<u64>>(
+    rt: &impl Abort,
+    s: &mut S,
+    cell: &AtomicOwned<u64>,
+    current: Ptr<'g, u64>,
+    next: Option<u64>,
+    tag: Tag,
+    guard: &'g Guard,
+) -> Result<Read, Read>
+    requires seated { IsSeated (S.seat s.old) }
+    requires home { cells_home cell.now ≡ (S.seat s.old).home.cells }
+    requires reader { reader_of guard.now ≡ (S.seat s.old).reader }
+    ensures seat { S.seat s.new ≡ S.seat s.old }
+{
+    let owner = made_if(rt, s, next);
+    match cell.compare_exchange_weak(current, (owner, tag), guard, s) {
+        Ok((old, now)) => Ok((spent(s, old), seen(s, now), now.tag())),
+        Err((back, now)) => Err((spent(s, back), seen(s, now), now.tag())),
+    }
+}

@@ -1,0 +1,32 @@
+use sdd_base::{AtomicOwned, AtomicShared, Giver, Item, Owned, Shared};
+
+/// A number, or what holds other items.
+pub enum Value {
+    Number(u64),
+    /// One owner of an item that others may own too.
+    Of(Shared<Value>),
+    /// A number, and a cell with an owner of the next node, or with nothing.
+    Node(u64, AtomicShared<Value>),
+    /// One of each kind that a value may hold.
+    Four(Owned<Value>, Shared<Value>, AtomicOwned<Value>, AtomicShared<Value>),
+}
+
+impl Item<Value> for Value {
+    ghost use Rattle.sdd_cell_rows.specs.Value.{holdings_of};
+
+    ghost holds = { holdings_of };
+
+    fn give_up<G: Giver<Value>>(self, giver: &mut G) {
+        match self {
+            Value::Number(_) => {}
+            Value::Of(owner) => giver.shared(owner),
+            Value::Node(_, next) => giver.atomic_shared(next),
+            Value::Four(owned, shared, owned_cell, shared_cell) => {
+                giver.owned(owned);
+                giver.shared(shared);
+                giver.atomic_owned(owned_cell);
+                giver.atomic_shared(shared_cell);
+            }
+        }
+    }
+}
