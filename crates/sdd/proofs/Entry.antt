@@ -1,6 +1,8 @@
 -- What a list has at each number, after one entry of it is replaced or pushed
-use Rattle.std.proofs.lemmas.List.{set_past, get_or_push}
-use Rattle.sdd.proofs.Words.{◌≡◌, ◌≢◌, ℕ, ◌<◌, ◌≤◌, List, [], ◌∷◌, ◌++◌, Option, Some, None, IsSome, is_some, length, slice_index_or, slice_set, refl, sym, ap, ◌∙◌, arith, false≢true, common_steps, set-get_or}
+use Rattle.std.proofs.lemmas.List.{set_past, set-get_or, get_or_push}
+use Rattle.std.proofs.Common.{◌≡◌, ◌≢◌, ℕ, ◌<◌, ◌≤◌, List, [], ◌∷◌, ◌++◌, Option, Some, None, IsSome, is_some, length, slice_index_or, slice_set, refl, sym, ap, ◌∙◌, arith}
+use Rattle.std.proofs.lemmas.Bool.{false≢true}
+use Rattle.std.proofs.lemmas.Grind.{common_steps}
 pub use Rattle.std.proofs.lemmas.List.{get_or-set_same as at-same, get_or-set_other as at-other}
 
 module _ {X : Type 0} where

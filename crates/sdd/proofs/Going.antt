@@ -1,426 +1,453 @@
--- What is always true of a desk is true at its start, and after each call but an opening
-use Rattle.sdd.proofs.Words.{◌≡◌, ◌≢◌, ◌⊎◌, ℕ, zero, suc, ◌+◌, ◌^◌, ◌<◌, ◌≤◌, ◌==◌, nat_lt, lt-ltb, ltb-true, true, false, List, [], ◌∷◌, ◌++◌, Option, Some, None, IsSome, is_some, length, map, count_by, slice_index_or, slice_set, inl, inr, refl, sym, ap, ◌∙◌, subst, arith, IsTrue, cases_eq, cases_lt, length-set, length_push, length-map, get_or_past, What, Item, Private, Job, Time, nobody, is_open, Participant, Standing, World, IsPlaceOf, standing_at, value_at, held_in, is_of_slot, IsWhole, Calls, filled-there, one_where, count-cons, Val, Fate, Out, Retired, Gone, holdings_of, link_of, Opening, fate_at, with_retired, what_by, time_by, Desk, slot_at, name_at, IsSound, IsThere, StandsAs, IsAttended, Keeps}
-use Rattle.std.proofs.Common.{sum_by}
-use Rattle.std.proofs.lemmas.List.Sums.{sum_by-cons}
-use Rattle.std.proofs.Math.ListN.{replicate, length-replicate}
-use Rattle.sdd_store.specs.Waiting.{Waiting, having_seen}
-use Rattle.sdd_store.specs.Time as time
-use Rattle.sdd_store.specs.Time.{IsLive, IsVacant, phase_at, place_at}
-use Rattle.sdd_store.specs.Table.{IsEmptyAt}
+-- What is always true of a desk is true after each call
+use Rattle.std.proofs.Common.{◌≡◌, ℕ, zero, suc, ◌+◌, ◌^◌, ◌<◌, ◌≤◌, Bool, true, false, nat_lt, if◌then◌else◌, List, [], ◌∷◌, ◌++◌, Option, Some, None, IsSome, is_some, map, length, count_by, slice_index, slice_index_or, slice_set, inl, inr, refl, sym, ap, ◌∙◌, subst, arith}
+use Rattle.std.specs.Prelude.{Contains, IsTrue, replicate, ◌↔◌}
+use Rattle.std.specs.List.Sorted.{IsPermutation, IsNonDecreasingBy, IsStrictlyIncreasing}
+use Rattle.std.proofs.lemmas.List.{length-set, length-replicate}
+use Rattle.std.proofs.lemmas.Bool.Decides.{nat_tests}
+use Rattle.sdd_store.specs.Table.{IsEmptyAt, entry_at}
+use Rattle.sdd_store.specs.Time.{IsVacant, is_open}
+use Rattle.sdd_store.specs.Waiting.What.{Item}
 use Rattle.sdd_store.specs.declared.standing.Standing.TheVariants as standing
-use Rattle.sdd_core.specs.declared.tag.Tag.TheVariants.{None as no_tag}
-use Rattle.sdd_store.specs.declared.standing.Cell.{Cell}
-use Rattle.sdd_store.specs.declared.tally.Tally.{Tally}
-use Rattle.sdd_base.specs.World.{IsNew}
-use Rattle.sdd_base.specs.Steps as steps
-use Rattle.sdd_base.specs.Whole.{times_with}
-use Rattle.sdd_base.specs.Calls.Calls.{registers, ends, closes, makes, changes_cells, retires}
+use Rattle.sdd_slots.specs.Slots.{IsSharedBy, is_waiting}
+use Rattle.sdd_base.specs.Calls.{IsFirst}
+use Rattle.sdd_base.specs.Calls.Calls.{registers, ends, closes, stirs, accelerates, shares, retires, releases}
+use Rattle.sdd_base.specs.Holding.{Holding, Home, IsOf}
+use Rattle.sdd_base.specs.Holding as holding
 use Rattle.sdd_base.specs.Out.{is_out}
-use Rattle.sdd_base.specs.Under.{KeepsUnderGuards}
+use Rattle.sdd_base.specs.Steps.{registered, ended, opened, reclaims, made_as, nulled, retired, closed, stirred, accelerated, owner_given, with_standing}
+use Rattle.sdd_base.specs.Under.{Stays}
+use Rattle.sdd_base.specs.Whole.{IsWhole}
 use Rattle.sdd_base.specs.declared.limits.Limits.{Limits}
-use Rattle.sdd_store.specs.Renaming.{waiting_by, participant_by}
-use Rattle.sdd.proofs.Entry.{at-same, at-other, at-pushed, at-end, at-default, as-each, inside, is-there, not-free}
-use Rattle.sdd_base.proofs.Nesting.{one-if, guards-registered, guards-closed}
-use Rattle.sdd.proofs.Attending.{pushed-entry, left-entry, attended-same, attended-registered, attended-ended, attended-closed, shut, open-guard}
-use Rattle.sdd.proofs.Kept.{kept-on, keeps-on}
-use Rattle.sdd.proofs.Opening.{stands-still}
+use Rattle.sdd_base.specs.World.{IsPlaceOf, place_at, standing_at, value_at}
+use Rattle.sdd_base.specs.Accounts.{times_held}
+use Rattle.sdd_base.proofs.Accounts.{accounted-as, accounted-blank}
+use Rattle.sdd_store.specs.declared.tally.Tally.{Tally}
+use Rattle.sdd_lines.specs.declared.name.ItemName.{ItemName}
+use Rattle.sdd_lines.specs.declared.call.Value.{Value}
+use Rattle.sdd_lines.specs.declared.call.Value.TheVariants.{Number, Of}
+use Rattle.sdd.specs.declared.script.val.Val.{Val}
+use Rattle.sdd.specs.declared.script.holding.Ownership.{Ownership}
+use Rattle.sdd.specs.declared.script.holding.Ownership.TheVariants as ownership
+use Rattle.sdd.specs.Val.{holdings_of, body_of, link_of}
+use Rattle.sdd.specs.Desk.{Desk, Opening, BeginsLine, IsDated, IsStart, IsThere, date_at, opening_at, holding_at, cell_of, slot_at, slot_of, sole_slot, shared_slot, in_world, with_guard, with_newcomer, without_participant, without_guard, with_owner, without_owner, with_item, later}
+use Rattle.sdd.specs.Made.{IsPutIn, owners_left, put_in}
+use Rattle.sdd.specs.Shown.{item_in}
+use Rattle.sdd.specs.Sound.{IsSound, Keeper, Keeps, named_owners, owns}
+use Rattle.sdd.specs.Sound.Keeper.{value_in, name_of}
+use Rattle.sdd.specs.Stage.{owners_in, standing_first, holding_first, waits_among}
+use Rattle.sdd.proofs.Entry.{not-free}
+use Rattle.sdd.proofs.Stocked.{stocked-as, stocked-made, no_slot-same, no_slot-standing, no_slot-retired, no_slot-given, no_slot-opened}
+use Rattle.sdd.proofs.Keepers.{keepers-as, keepers-made, keepers-opened, given-same}
+use Rattle.sdd.proofs.Attending.{pushed-entry, left-entry, keeps-time, keeps-retired, keeps-owner_given, keeps-stirred, keeps-accelerated, attended-acts, attended-later, attended-start, attended-registered, attended-ended, attended-closed, attended-opened}
+use Rattle.sdd.proofs.Attending as attending
+use Rattle.sdd.proofs.Kept as kept
+use Rattle.sdd.proofs.Kept.{kept-call, kept-made, kept-later, kept-start, kept-opened, were-same, were-registered, were-ended, were-closed, unguarded}
+use Rattle.sdd.proofs.Dates.{first-waits-not, dated-same, dated-stands, early-dated, early-later, early-start, begins-line}
+use Rattle.sdd.proofs.Dates as dates
+use Rattle.sdd.proofs.Counting.{puts-number, puts-owner, times_in, counted-made, counted-retired, counted-released, counted-shared, counted-opened}
+use Rattle.sdd.proofs.Layers.{told-made, layered-retired, layered-given, layered-shared, layered-opened, layered-made}
+use Rattle.sdd.proofs.Gone.{counts-given, counts-opened}
+use Rattle.sdd.proofs.Gone as gone
 
--- an item that is there has a name that was given
-there-inside : (items : List Fate) (i : ℕ) → IsThere (slice_index_or items i Gone) → i < length items
-there-inside items i h =
-    elim (cases_lt i (length items)) [
-      | inl lt ↦ lt
-      | inr past ↦ absurd (subst IsThere (get_or_past items i Gone past) h)
+-- an owner, of either kind
+sole-is : (x : Option Holding) (k : ℕ) → sole_slot x ≡ Some k → (h : Holding) × (x ≡ Some h) × (slot_of (Some h) ≡ Some k)
+sole-is None k e = absurd (cc)
+sole-is (Some (holding.owned j home)) k e = (holding.owned j home, refl, e)
+sole-is (Some (holding.shared j home)) k e = absurd (cc)
+sole-is (Some (holding.atomic_owned c home)) k e = absurd (cc)
+sole-is (Some (holding.atomic_shared c home)) k e = absurd (cc)
+
+shared-is : (x : Option Holding) (k : ℕ) → shared_slot x ≡ Some k → (h : Holding) × (x ≡ Some h) × (slot_of (Some h) ≡ Some k)
+shared-is None k e = absurd (cc)
+shared-is (Some (holding.owned j home)) k e = absurd (cc)
+shared-is (Some (holding.shared j home)) k e = (holding.shared j home, refl, e)
+shared-is (Some (holding.atomic_owned c home)) k e = absurd (cc)
+shared-is (Some (holding.atomic_shared c home)) k e = absurd (cc)
+
+-- what has a name is at home
+abbrev pub AtHome : Home → List (Option Holding) → Type 0
+AtHome home hs = (n : ℕ) (h : Holding) → holding_at hs n ≡ Some h → IsOf home h
+
+pub at_home-spent : (home : Home) (hs : List (Option Holding)) (o : ℕ) → AtHome home hs → AtHome home (slice_set hs o None)
+at_home-spent home hs o all n h e = all n h (left-entry hs o n h e).1
+
+pub at_home-given : (home : Home) (hs : List (Option Holding)) (x : Holding) → IsOf home x → AtHome home hs → AtHome home (hs ++ Some x ∷ [])
+at_home-given home hs x own all n h e =
+    elim (pushed-entry hs x h n e) [
+      | inl last ↦ subst (IsOf home) last.1 own
+      | inr was ↦ all n h was
     ]
 
-pub fate-inside : (items : List Fate) (i : ℕ) → slice_index_or items i Gone ≡ Out → i < length items
-fate-inside items i e = there-inside items i (subst IsThere (sym e) tt)
-
-pub stands-there : (f : Fate) (o : Option Standing) → IsThere f → StandsAs f o → IsSome o
-stands-there Out o h e = ap is_some e
-stands-there (Retired at) o h e = ap is_some e
-stands-there Gone o h e = absurd h
-
-is-none : {X : Type 0} (o : Option X) → is_some o ≡ false → o ≡ None
-is-none None e = refl
-is-none (Some x) e = absurd (cc)
+-- a shared owner is the last one
+last-or-not : {X : Type 0} (b : Bool) (count : ℕ) (x y : X) → 1 ≤ count → (IsTrue b ↔ (count ≡ 1)) →
+    (if b then x else y) ≡ (if nat_lt 1 count then y else x)
+last-or-not true count x y some last = let one = last.0 refl in rw one refl
+last-or-not false count x y some last = by (nat_lt 1 count) refl where
+  by : (c : Bool) → nat_lt 1 count ≡ c → y ≡ (if c then y else x)
+  by true e = refl
+  by false e = absurd (let one : count ≡ 1 = grind (arith, nat_tests, e, some) in let never : false ≡ true = last.1 one in cc)
 
 module _ (d : Desk) (s : IsSound d) where
-  -- ---- time alone goes on
-  pub sound-timed : (t u : Time) (places guards : List (Option Opening)) → Calls holdings_of d.world (record d.world { time = t }) →
-      IsAttended (record d.world { time = t }) (record d.ledger { time = u; places = places; guards = guards }) →
-      ((n : ℕ) (x : Opening) → slice_index_or places n None ≡ Some x → x.since ≤ d.ledger.moment → IsTrue (is_open (place_at t x.place)) →
-      (slice_index_or d.ledger.places n None ≡ Some x) × IsTrue (is_open (place_at d.world.time x.place))) →
-      IsSound (record d { world = record d.world { time = t }; ledger = record d.ledger { time = u; places = places; guards = guards } })
-  sound-timed t u places guards call attended same =
-      let new = record d { world = record d.world { time = t }; ledger = record d.ledger { time = u; places = places; guards = guards } } in
-      record {
-        stocked = record { stands = s.stocked.stands; named = s.stocked.named; taken = s.stocked.taken; slots = s.stocked.slots; names = s.stocked.names };
-        owned = record { out = s.owned.out; apart = s.owned.apart; owner = s.owned.owner; dated = s.owned.dated };
-        linked = record { linked = s.linked.linked; unlinked = s.linked.unlinked };
-        attended = attended;
-        kept = kept-on d new s.owned s.kept call (λ i at e. (e, refl)) same;
-        made = s.made;
-        in_place = s.in_place;
-      }
+  -- an open guard's participant is open
+  pub open-guard : (g : ℕ) (y : Opening) → opening_at d.guards g ≡ Some y → 0 < (place_at d.world y.place).guards
+  open-guard g y e = attending.open-guard d s.attended g y e
 
-  still-there : (p : ℕ) (y : Participant) (q : ℕ) → IsPlaceOf d.world q → IsLive (time.with_place d.world.time p y) q
-  still-there p y q live = (omega (arith, live.0, length-set d.world.time.places p y), live.1)
+  pub can-point : (n k : ℕ) (x : Opening) → opening_at d.places n ≡ Some x → IsTrue (is_open (place_at d.world x.place)) → IsSome (standing_at d.world k) →
+      (IsTrue (is_waiting (standing_at d.world k)) → x.since ≤ date_at d k) → Stays d.world x.place k
+  can-point n k x there o taken since = kept.can-point d s.kept n k x there o taken since
 
-  -- the place of p is written, and as many guards are open there
-  pub sound-written : (p : ℕ) (y : Participant) (u : Time) → y.guards ≡ (place_at d.world.time p).guards →
-      Calls holdings_of d.world (record d.world { time = time.with_place d.world.time p y }) →
-      IsSound (record d { world = record d.world { time = time.with_place d.world.time p y }; ledger = record d.ledger { time = u } })
-  sound-written p y u as_many call =
-      let many = as-each (λ (z : Participant). z.guards) d.world.time.places p y nobody as_many in
-      sound-timed (time.with_place d.world.time p y) u d.ledger.places d.ledger.guards call
-      (attended-same d.world d.ledger s.attended (record d.world { time = time.with_place d.world.time p y }) u d.ledger.owners d.ledger.items
-      (still-there p y) many s.attended.placed)
-      (λ n x e early o. (e, subst (λ g. IsTrue (nat_lt 0 g)) (many x.place) o))
-
-  -- a participant registers at a place that nobody has
-  pub sound-registered : (p : ℕ) (u : Time) → IsVacant d.world.time p → IsLive (time.registered d.world.time p) p →
-      ((q : ℕ) → IsPlaceOf d.world q → (q ≢ p) × IsLive (time.registered d.world.time p) q) → IsSound (record d {
-        world = steps.registered d.world p;
-        ledger = record d.ledger { time = u; places = d.ledger.places ++ Some (record { place = p; since = 0 }) ∷ [] };
-      })
-  sound-registered p u vacant live others =
-      let new : Opening = record { place = p; since = 0 } in
-      let none = shut d.world d.ledger s.attended p live others in
-      let many = λ (q : ℕ). guards-registered d.world.time p q none in
-      sound-timed (time.registered d.world.time p) u (d.ledger.places ++ Some new ∷ []) d.ledger.guards (registers d.world p vacant)
-      (attended-registered d.world d.ledger s.attended p live others u)
-      (λ n x e early o.
-      elim (pushed-entry d.ledger.places new x n e) [
-        | inr was ↦ (was, subst (λ g. IsTrue (nat_lt 0 g)) (many x.place) o)
-        | inl h ↦
-            let shut = many x.place ∙ ap (λ (y : Opening). (place_at d.world.time y.place).guards) (sym h.1) ∙ none in
-            absurd (let z : true ≡ false = sym o ∙ ap (nat_lt 0) shut in cc)
-      ])
-
-  -- participant n, which has no guard open, ends
-  pub sound-ended : (n : ℕ) (x : Opening) (u : Time) → slice_index_or d.ledger.places n None ≡ Some x →
-      (IsTrue (is_open (place_at d.world.time x.place)) → ⊥) →
-      IsSound (record d { world = steps.ended d.world x.place; ledger = record d.ledger { time = u; places = slice_set d.ledger.places n None } })
-  sound-ended n x u there closed =
-      sound-timed (time.ended d.world.time x.place) u (slice_set d.ledger.places n None) d.ledger.guards
-      (ends d.world x.place (s.attended.inside n x there) closed) (attended-ended d.world d.ledger s.attended u n x there closed)
-      (λ m y e early o. ((left-entry d.ledger.places n m y e).1, o))
-
-  pub sound-closed : (u : Time) (g p : ℕ) (y : Opening) → slice_index_or d.ledger.guards g None ≡ Some y → y.place ≡ p →
-      IsSound (record d { world = steps.closed d.world p; ledger = record d.ledger { time = u; guards = slice_set d.ledger.guards g None } })
-  sound-closed u g p y e is =
-      let who = s.attended.since g y e in
-      let live : IsPlaceOf d.world p = subst (IsPlaceOf d.world) (who.3 ∙ is) (s.attended.inside who.0 who.1 who.2) in
-      let some : 0 < (place_at d.world.time p).guards = subst (λ q. 0 < (place_at d.world.time q).guards) is (open-guard d.world d.ledger s.attended g y e) in
-      sound-timed (time.closed d.world.time p) u d.ledger.places (slice_set d.ledger.guards g None) (closes d.world p live)
-      (attended-closed d.world d.ledger s.attended u g p y e is live)
-      (λ n x f early o. (
-        f,
-        lt-ltb 0 (place_at d.world.time x.place).guards (omega (
-          arith,
-          guards-closed d.world.time p x.place live some,
-          ltb-true 0 (place_at (time.closed d.world.time p) x.place).guards o,
-        )),
-      ))
-
-  -- ---- an item is retired, by a participant, or where no guard is open
-  pub sound-retired : (p o i : ℕ) → slice_index_or d.ledger.owners o None ≡ Some i →
-      (IsPlaceOf d.world p × KeepsUnderGuards holdings_of d.world) ⊎ ((q : ℕ) → IsTrue (is_open (place_at d.world.time q)) → ⊥) →
-      IsSound (record d { world = steps.retired d.world p (slot_at d i); ledger = with_retired d.ledger p o (Some i) })
-  sound-retired p o i owner who =
-      let k = slot_at d i in
-      let l = with_retired d.ledger p o (Some i) in
-      let new = record d { world = steps.retired d.world p k; ledger = l } in
-      let out = s.owned.out o i owner in
-      let owns : standing_at d.world k ≡ Some standing.Owned = subst (λ f. StandsAs f (standing_at d.world k)) out (s.stocked.stands i) in
-      let item_in = fate-inside d.ledger.items i out in
-      let slot_in = inside d.world.standings k (is-there d.world.standings k standing.Owned owns) in
-      let y = time.awaiting (Item k) (place_at d.world.time p) in
-      let many = as-each (λ (z : Participant). z.guards) d.world.time.places p y nobody refl in
-      let own : fate_at l i ≡ Retired d.ledger.moment = at-same d.ledger.items i (Retired d.ledger.moment) Gone item_in in
-      let others = λ (j : ℕ) (ne : j ≢ i). at-other d.ledger.items i j (Retired d.ledger.moment) Gone ne in
-      -- an item that is there is in another slot
-      let slots_apart = λ (j : ℕ) (h : IsThere (fate_at d.ledger j)) (ne : j ≢ i) (e : slot_at d j ≡ k).
-      ne (sym (s.stocked.named j h) ∙ ap (name_at d) e ∙ s.stocked.named i (subst IsThere (sym out) tt)) in
-      record {
-        stocked = record {
-          stands = λ j.
-              elim (cases_eq j i) [
-                | inl e ↦ rw e (subst (λ f. StandsAs f (standing_at new.world k)) (sym own) (at-same d.world.standings k (Some standing.Retired) None slot_in))
-                | inr ne ↦ subst (λ f. StandsAs f (standing_at new.world (slot_at d j))) (sym (others j ne))
-                    (stands-still (fate_at d.ledger j) (standing_at d.world (slot_at d j)) (standing_at new.world (slot_at d j))
-                    (λ h. at-other d.world.standings k (slot_at d j) (Some standing.Retired) None (slots_apart j h ne)) (s.stocked.stands j))
-              ];
-          named = λ j h.
-              elim (cases_eq j i) [
-                | inl e ↦ rw e (s.stocked.named i (subst IsThere (sym out) tt))
-                | inr ne ↦ s.stocked.named j (subst IsThere (others j ne) h)
-              ];
-          taken = λ q t.
-              (let was = s.stocked.taken q
-              (subst (λ b. b ≡ true) (as-each is_some d.world.standings k (Some standing.Retired) None (sym (ap is_some owns)) q) t) in (
-                elim (cases_eq (name_at d q) i) [
-                  | inl e ↦ subst IsThere (sym (ap (fate_at l) e ∙ own)) tt
-                  | inr ne ↦ subst IsThere (sym (others (name_at d q) ne)) was.0
-                ],
-                was.1,
-              ));
-          slots = s.stocked.slots ∙ sym (length-set d.ledger.items i (Retired d.ledger.moment));
-          names = s.stocked.names ∙ sym (length-set d.world.standings k (Some standing.Retired));
-        };
-        owned = record {
-          out = λ r j h.
-              (let was = (left-entry d.ledger.owners o r j h).1 in
-              others j (λ e. (let same = s.owned.apart r o i (was ∙ ap Some e) owner in
-              let z : None ≡ Some j = sym (rw same (at-default d.ledger.owners o None)) ∙ h in absurd (cc))) ∙ s.owned.out r j was);
-          apart = λ r q j h f. s.owned.apart r q j (left-entry d.ledger.owners o r j h).1 (left-entry d.ledger.owners o q j f).1;
-          owner = λ j e.
-              elim (cases_eq j i) [
-                | inl same ↦ absurd (let z : Retired d.ledger.moment ≡ Out = sym (ap (fate_at l) same ∙ own) ∙ e in cc)
-                | inr ne ↦
-                    let was = s.owned.owner j (sym (others j ne) ∙ e) in
-                    let other : was.0 ≢ o = λ z. (let same : Some j ≡ Some i = sym was.1 ∙ ap (λ r. slice_index_or d.ledger.owners r None) z ∙ owner in
-                    let one : j ≡ i = cc in ne one) in
-                    (was.0, at-other d.ledger.owners o was.0 None None other ∙ was.1)
-              ];
-          dated = λ j at e.
-              elim (cases_eq j i) [
-                | inl same ↦
-                    (let z : Retired d.ledger.moment ≡ Retired at = sym (ap (fate_at l) same ∙ own) ∙ e in
-                    let now : d.ledger.moment ≡ at = cc in omega (arith, now))
-                | inr ne ↦ s.owned.dated j at (sym (others j ne) ∙ e)
-              ];
-        };
-        linked = record { linked = s.linked.linked; unlinked = s.linked.unlinked };
-        attended = attended-same d.world d.ledger s.attended new.world l.time l.owners l.items (still-there p y) many
-            (λ some. s.attended.placed (omega (arith, some, length-set d.ledger.items i (Retired d.ledger.moment))));
-        kept = λ n j at x there e since o_new.
-            (let before : IsTrue (is_open (place_at d.world.time x.place)) = subst (λ g. IsTrue (nat_lt 0 g)) (many x.place) o_new in
-            elim who [
-              | inr shut ↦ absurd (shut x.place before)
-              | inl actor ↦
-                  elim (cases_eq j i) [
-                    | inl same ↦ rw same (λ end path. (actor.1 x.place p k before actor.0 (ap is_out owns) end path).0)
-                    | inr ne ↦ keeps-on x.place (slot_at d j) d.world new.world before (retires d.world p k actor.0 owns)
-                        (s.kept n j at x there (sym (others j ne) ∙ e) since before)
-                  ]
-            ]);
-        made = s.made ∙ sym (length-set d.ledger.items i (Retired d.ledger.moment));
-        in_place = s.in_place;
-      }
-
-  -- ---- an item is made
-  module _ (c k : ℕ) (v : Val) (whole : IsWhole d.world) (cell : IsEmptyAt d.world.cells c) (slot : IsEmptyAt d.world.standings k) (link : link_of v ≡ c)
-      (placed : (p : ℕ) × IsSome (phase_at d.world.time p)) where
-    abbrev pub with_item : Desk
-    with_item = record d {
-      world = steps.made (steps.nulled d.world c) k v;
-      ledger = record d.ledger { owners = d.ledger.owners ++ Some (length d.ledger.items) ∷ []; items = d.ledger.items ++ Out ∷ [] };
-      slots = d.slots ++ k ∷ [];
-      names = slice_set d.names k (length d.ledger.items);
-    }
-
-    slot-free : (j : ℕ) → IsThere (fate_at d.ledger j) → slot_at d j ≢ k
-    slot-free j h e = not-free (standing_at d.world (slot_at d j)) (stands-there (fate_at d.ledger j) (standing_at d.world (slot_at d j)) h
-        (s.stocked.stands j))
-        (ap (standing_at d.world) e ∙ slot.1)
-
-    -- of what was named before all is as it was
-    fate-old : (j : ℕ) → j ≢ length d.ledger.items → fate_at with_item.ledger j ≡ fate_at d.ledger j
-    fate-old j ne = at-pushed d.ledger.items Out Gone j ne
-
-    slot-old : (j : ℕ) → j ≢ length d.ledger.items → slot_at with_item j ≡ slot_at d j
-    slot-old j ne = at-pushed d.slots k 0 j (λ e. ne (e ∙ s.stocked.slots))
-
-    fate-new : fate_at with_item.ledger (length d.ledger.items) ≡ Out
-    fate-new = at-end d.ledger.items Out Gone
-
-    slot-new : slot_at with_item (length d.ledger.items) ≡ k
-    slot-new = ap (λ j. slice_index_or (d.slots ++ k ∷ []) j 0) (sym s.stocked.slots) ∙ at-end d.slots k 0
-
-    name-new : name_at with_item k ≡ length d.ledger.items
-    name-new = at-same d.names k (length d.ledger.items) 0 (omega (arith, slot.0, s.stocked.names))
-
-    owner-old : (o j : ℕ) → slice_index_or with_item.ledger.owners o None ≡ Some j →
-        ((o ≡ length d.ledger.owners) × (length d.ledger.items ≡ j)) ⊎ (slice_index_or d.ledger.owners o None ≡ Some j)
-    owner-old o j e = pushed-entry d.ledger.owners (length d.ledger.items) j o e
-
-    -- no owner had the name
-    unowned : (o : ℕ) → slice_index_or d.ledger.owners o None ≡ Some (length d.ledger.items) → ⊥
-    unowned o e = omega (arith, fate-inside d.ledger.items (length d.ledger.items) (s.owned.out o (length d.ledger.items) e))
-
-    pub sound-made : length d.ledger.items + 1 < 2 ^ 128 → IsSound with_item
-    sound-made few = record {
-      stocked = record {
-        stands = λ j.
-            elim (cases_eq j (length d.ledger.items)) [
-              | inl e ↦ rw e (subst (λ f. StandsAs f (standing_at with_item.world (slot_at with_item (length d.ledger.items)))) (sym fate-new)
-                  (ap (standing_at with_item.world) slot-new ∙ at-same d.world.standings k (Some standing.Owned) None slot.0))
-              | inr ne ↦ subst (λ f. StandsAs f (standing_at with_item.world (slot_at with_item j))) (sym (fate-old j ne))
-                  (stands-still (fate_at d.ledger j) (standing_at d.world (slot_at d j)) (standing_at with_item.world (slot_at with_item j))
-                  (λ h. ap (standing_at with_item.world) (slot-old j ne)
-                  ∙ at-other d.world.standings k (slot_at d j) (Some standing.Owned) None (slot-free j h)) (s.stocked.stands j))
-            ];
-        named = λ j h.
-            elim (cases_eq j (length d.ledger.items)) [
-              | inl e ↦ rw e (ap (name_at with_item) slot-new ∙ name-new)
-              | inr ne ↦
-                  let was = subst IsThere (fate-old j ne) h in
-                  ap (name_at with_item) (slot-old j ne) ∙ at-other d.names k (slot_at d j) (length d.ledger.items) 0 (slot-free j was) ∙ s.stocked.named j was
-            ];
-        taken = λ q t.
-            elim (cases_eq q k) [
-              | inl e ↦ rw e (subst IsThere (sym (ap (fate_at with_item.ledger) name-new ∙ fate-new)) tt, ap (slot_at with_item) name-new ∙ slot-new)
-              | inr ne ↦
-                  let was = s.stocked.taken q (subst (λ x. IsSome x) (at-other d.world.standings k q (Some standing.Owned) None ne) t) in
-                  let name : name_at with_item q ≡ name_at d q = at-other d.names k q (length d.ledger.items) 0 ne in
-                  let old : name_at d q ≢ length d.ledger.items = λ e. omega (arith, e, there-inside d.ledger.items (name_at d q) was.0) in (
-                    subst IsThere (sym (ap (fate_at with_item.ledger) name ∙ fate-old (name_at d q) old)) was.0,
-                    ap (slot_at with_item) name ∙ slot-old (name_at d q) old ∙ was.1,
-                  )
-            ];
-        slots = omega (arith, s.stocked.slots, length_push d.slots k, length_push d.ledger.items Out);
-        names = omega (arith, s.stocked.names, length-set d.names k (length d.ledger.items), length-set d.world.standings k (Some standing.Owned));
-      };
-      owned = record {
-        out = λ o j h.
-            elim (owner-old o j h) [
-              | inl new ↦ ap (fate_at with_item.ledger) (sym new.1) ∙ fate-new
-              | inr old ↦ fate-old j (λ e. unowned o (old ∙ ap Some e)) ∙ s.owned.out o j old
-            ];
-        apart = λ o r j h f.
-            elim (owner-old o j h) [
-              | inl new ↦
-                  elim (owner-old r j f) [
-                    | inl also ↦ new.0 ∙ sym also.0
-                    | inr old ↦ absurd (unowned r (old ∙ ap Some (sym new.1)))
-                  ]
-              | inr old ↦
-                  elim (owner-old r j f) [
-                    | inl new ↦ absurd (unowned o (old ∙ ap Some (sym new.1)))
-                    | inr too ↦ s.owned.apart o r j old too
-                  ]
-            ];
-        owner = λ j e.
-            elim (cases_eq j (length d.ledger.items)) [
-              | inl is ↦ (length d.ledger.owners, at-end d.ledger.owners (Some (length d.ledger.items)) None ∙ ap Some (sym is))
-              | inr ne ↦
-                  let was = s.owned.owner j (sym (fate-old j ne) ∙ e) in
-                  let lt = inside d.ledger.owners was.0 (is-there d.ledger.owners was.0 j was.1) in
-                  (was.0, at-pushed d.ledger.owners (Some (length d.ledger.items)) None was.0 (λ z. omega (arith, z, lt)) ∙ was.1)
-            ];
-        dated = λ j at e.
-            elim (cases_eq j (length d.ledger.items)) [
-              | inl is ↦ absurd (let z : Out ≡ Retired at = sym (ap (fate_at with_item.ledger) is ∙ fate-new) ∙ e in cc)
-              | inr ne ↦ s.owned.dated j at (sym (fate-old j ne) ∙ e)
-            ];
-      };
-      linked = record {
-        linked = λ q t.
-            elim (cases_eq q c) [
-              | inl e ↦ (k, v, at-same d.world.values k (Some v) None values-in, link ∙ sym e)
-              | inr ne ↦
-                  let was = s.linked.linked q (subst (λ x. IsSome x) (at-other d.world.cells c q new_cell None ne) t) in
-                  let other : was.0 ≢ k = λ e. not-free (value_at d.world was.0) (ap is_some was.2) (ap (value_at d.world) e ∙ no-value) in
-                  (was.0, was.1, at-other d.world.values k was.0 (Some v) None other ∙ was.2, was.3)
-            ];
-        unlinked = λ q. as-each held_in d.world.cells c new_cell None (sym (s.linked.unlinked c)) q ∙ s.linked.unlinked q;
-      };
-      attended = attended-same d.world d.ledger s.attended with_item.world d.ledger.time with_item.ledger.owners with_item.ledger.items (λ q live. live)
-          (λ q. refl) (λ some. placed);
-      kept = λ n j at x there e since o.
-          elim (cases_eq j (length d.ledger.items)) [
-            | inl is ↦ absurd (let z : Out ≡ Retired at = sym (ap (fate_at with_item.ledger) is ∙ fate-new) ∙ e in cc)
-            | inr ne ↦
-                subst (λ q. Keeps with_item.world x.place q) (sym (slot-old j ne))
-                (keeps-on x.place (slot_at d j) (steps.nulled d.world c) with_item.world o (makes (steps.nulled d.world c) k v standing.Owned (inl refl) slot)
-                (keeps-on x.place (slot_at d j) d.world (steps.nulled d.world c) o (changes_cells d.world (slice_set d.world.cells c new_cell) (length-set d.world.cells c new_cell))
-                (s.kept n j at x there (sym (fate-old j ne) ∙ e) since o)))
-          ];
-      made = made-more;
+  module _ (whole : IsWhole d.world) where
+    pub sound-stirred : (p : ℕ) → IsPlaceOf d.world p → IsSound (in_world d (stirred d.world p))
+    sound-stirred p live = record {
+      stocked = stocked-as d new s.stocked refl refl refl (no_slot-same d.world new.world refl);
+      cells = keepers-as d new s.cells refl refl refl;
+      layered = record { older = s.layered.older; owned = s.layered.owned };
+      accounts = s.accounts;
+      owners_home = s.owners_home;
+      cells_home = s.cells_home;
+      attended = attended-acts d new s.attended (keeps-stirred d.world p) refl refl (omega arith) p live;
+      kept = kept-call d new s.kept dated whole (stirs d.world p live) (were-same d new refl (keeps-stirred d.world p).guards);
+      early = early-dated d new dated (omega arith) s.early;
+      made = s.made;
       in_place = s.in_place;
     } where
-      new_cell : Option Cell
-      new_cell = Some (record { held = None; tag = no_tag })
+      new : Desk
+      new = in_world d (stirred d.world p)
 
-      values-in : k < length d.world.values
-      values-in = omega (arith, slot.0, sym (length-map d.world.values is_some) ∙ ap length whole.filled ∙ length-map d.world.standings is_some)
+      dated : IsDated d new
+      dated = dated-same d new refl refl
 
-      no-value : value_at d.world k ≡ None
-      no-value = is-none (value_at d.world k) (filled-there d.world k whole.filled ∙ ap is_some slot.1)
+    pub sound-accelerated : (p : ℕ) → IsPlaceOf d.world p → IsSound (in_world d (accelerated d.world p))
+    sound-accelerated p live = record {
+      stocked = stocked-as d new s.stocked refl refl refl (no_slot-same d.world new.world refl);
+      cells = keepers-as d new s.cells refl refl refl;
+      layered = record { older = s.layered.older; owned = s.layered.owned };
+      accounts = s.accounts;
+      owners_home = s.owners_home;
+      cells_home = s.cells_home;
+      attended = attended-acts d new s.attended (keeps-accelerated d.world p) refl refl (omega arith) p live;
+      kept = kept-call d new s.kept dated whole (accelerates d.world p live) (were-same d new refl (keeps-accelerated d.world p).guards);
+      early = early-dated d new dated (omega arith) s.early;
+      made = s.made;
+      in_place = s.in_place;
+    } where
+      new : Desk
+      new = in_world d (accelerated d.world p)
 
-      made-more : with_item.world.tally.made ≡ length with_item.ledger.items
-      made-more = omega (arith, few, s.made, length_push d.ledger.items Out)
+      dated : IsDated d new
+      dated = dated-same d new refl refl
 
--- ---- before the first line
+    pub sound-registered : (p : ℕ) → IsVacant d.world.time p → IsSound (in_world (with_newcomer d p) (registered d.world p))
+    sound-registered p vacant = record {
+      stocked = stocked-as d new s.stocked refl refl refl (no_slot-same d.world new.world refl);
+      cells = keepers-as d new s.cells refl refl refl;
+      layered = record { older = s.layered.older; owned = s.layered.owned };
+      accounts = s.accounts;
+      owners_home = s.owners_home;
+      cells_home = s.cells_home;
+      attended = attended-registered d s.attended p vacant whole.housed.lengths new refl refl refl (omega arith);
+      kept = kept-call d new s.kept dated whole (registers d.world p vacant) (were-registered d new s.attended p vacant whole.housed.lengths refl refl);
+      early = early-dated d new dated (omega arith) s.early;
+      made = s.made;
+      in_place = s.in_place;
+    } where
+      new : Desk
+      new = in_world (with_newcomer d p) (registered d.world p)
 
-none-at : (E : Type 0) (n k : ℕ) → slice_index_or (replicate {A = Option E} n None) k None ≡ None
-none-at E zero k = refl
-none-at E (suc n) zero = refl
-none-at E (suc n) (suc k) = none-at E n k
+      dated : IsDated d new
+      dated = dated-same d new refl refl
 
-pub sound-start : (l : Limits) (w : World Val) (u : Time) (names : List ℕ) → IsNew l 0 w → length names ≡ l.slots →
-    IsSound (record {
-      world = w;
-      ledger = record { moment = 0; time = u; places = []; guards = []; owners = []; items = [] };
-      slots = [];
-      names = names;
-    })
-sound-start l w u names new long = record {
+    pub sound-ended : (n : ℕ) (x : Opening) → opening_at d.places n ≡ Some x → (IsTrue (is_open (place_at d.world x.place)) → ⊥) →
+        IsSound (in_world (without_participant d n) (ended d.world x.place))
+    sound-ended n x there shut = record {
+      stocked = stocked-as d new s.stocked refl refl refl (no_slot-same d.world new.world refl);
+      cells = keepers-as d new s.cells refl refl refl;
+      layered = record { older = s.layered.older; owned = s.layered.owned };
+      accounts = s.accounts;
+      owners_home = s.owners_home;
+      cells_home = s.cells_home;
+      attended = attended-ended d s.attended n x there shut new refl refl refl (omega arith);
+      kept = kept-call d new s.kept dated whole (ends d.world x.place (s.attended.inside n x there) shut) (were-ended d new s.attended n x.place refl refl);
+      early = early-dated d new dated (omega arith) s.early;
+      made = s.made;
+      in_place = s.in_place;
+    } where
+      new : Desk
+      new = in_world (without_participant d n) (ended d.world x.place)
+
+      dated : IsDated d new
+      dated = dated-same d new refl refl
+
+    pub sound-closed : (g p : ℕ) (y : Opening) → opening_at d.guards g ≡ Some y → y.place ≡ p → IsPlaceOf d.world p →
+        IsSound (in_world (without_guard d g) (closed d.world p))
+    sound-closed g p y there same live = record {
+      stocked = stocked-as d new s.stocked refl refl refl (no_slot-same d.world new.world refl);
+      cells = keepers-as d new s.cells refl refl refl;
+      layered = record { older = s.layered.older; owned = s.layered.owned };
+      accounts = s.accounts;
+      owners_home = s.owners_home;
+      cells_home = s.cells_home;
+      attended = attended-closed d s.attended g p y there same new refl refl refl (omega arith);
+      kept = kept-call d new s.kept dated whole (closes d.world p live) (were-closed d new s.attended g p y there same refl refl);
+      early = early-dated d new dated (omega arith) s.early;
+      made = s.made;
+      in_place = s.in_place;
+    } where
+      new : Desk
+      new = in_world (without_guard d g) (closed d.world p)
+
+      dated : IsDated d new
+      dated = dated-same d new refl refl
+
+    -- ---- owners
+
+    module _ (p k o : ℕ) (live : IsPlaceOf d.world p) (owner : sole_slot (holding_at d.owners o) ≡ Some k) (stands : standing_at d.world k ≡ Some standing.Owned) where
+      abbrev after_retired : Desk
+      after_retired = record (in_world (without_owner d o) (retired d.world p k)) { dates = slice_set d.dates k d.moment }
+
+      pub dated-retired : IsDated d after_retired
+      dated-retired = dates.dated-retired d after_retired p k (ap is_out stands) s.stocked.dates refl refl
+
+      pub sound-retired : IsSound after_retired
+      sound-retired =
+          let h = sole-is (holding_at d.owners o) k owner in
+          let layers = layered-retired d d.world p k (record { older = s.layered.older; owned = s.layered.owned }) in
+          record {
+            stocked = stocked-as d after_retired s.stocked refl refl (length-set d.dates k d.moment) (no_slot-retired d.world p k (ap is_some stands));
+            cells = keepers-as d after_retired s.cells refl refl refl;
+            layered = record { older = layers.older; owned = layers.owned };
+            accounts = counted-retired d s.accounts o h.0 h.1 k h.2 p stands;
+            owners_home = at_home-spent d.world.home d.owners o s.owners_home;
+            cells_home = s.cells_home;
+            attended = attended-acts d after_retired s.attended (keeps-retired d.world p k) refl refl (omega arith) p live;
+            kept = kept-call d after_retired s.kept dated-retired whole (retires d.world p k live stands)
+                (were-same d after_retired refl (keeps-retired d.world p k).guards);
+            early = early-dated d after_retired dated-retired (omega arith) s.early;
+            made = s.made;
+            in_place = s.in_place;
+          }
+
+    module _ (p k o count : ℕ) (b : Bool) (live : IsPlaceOf d.world p) (owner : shared_slot (holding_at d.owners o) ≡ Some k)
+        (stands : IsSharedBy count (standing_at d.world k)) (last : IsTrue b ↔ (count ≡ 1)) where
+      abbrev after_released : Desk
+      after_released = record (in_world (without_owner d o) (owner_given d.world p k (Some (standing.Shared count)))) {
+        dates = if b then slice_set d.dates k d.moment else d.dates;
+      }
+
+      pub dated-released : IsDated d after_released
+      dated-released =
+          dates.dated-released d after_released p k count stands.shared s.stocked.dates
+          (last-or-not b count (slice_set d.dates k d.moment) d.dates stands.some last) refl
+
+      pub sound-released : IsSound after_released
+      sound-released =
+          let h = shared-is (holding_at d.owners o) k owner in
+          let layers = layered-given d d.world p k (Some (standing.Shared count)) stands.shared (record { older = s.layered.older; owned = s.layered.owned }) in
+          let same = given-same d.world p k (Some (standing.Shared count)) stands.shared in
+          let counts = counts-given d.world p k (Some (standing.Shared count)) stands.shared in
+          let keeps = keeps-owner_given d.world p k (Some (standing.Shared count)) stands.shared in
+          record {
+            stocked = stocked-as d after_released s.stocked refl refl dated-released.long (no_slot-given d.world p k (Some (standing.Shared count)) stands.shared);
+            cells = keepers-as d after_released s.cells same.0 same.1 refl;
+            layered = record { older = layers.older; owned = layers.owned };
+            accounts = counted-released d s.accounts o h.0 h.1 k h.2 p count stands.shared;
+            owners_home = rw counts.home (at_home-spent d.world.home d.owners o s.owners_home);
+            cells_home = rw counts.home s.cells_home;
+            attended = attended-acts d after_released s.attended keeps refl refl (omega arith) p live;
+            kept = kept-call d after_released s.kept dated-released whole (releases d.world p k count live stands.shared)
+                (were-same d after_released refl keeps.guards);
+            early = early-dated d after_released dated-released (omega arith) s.early;
+            made = counts.made ∙ s.made;
+            in_place = counts.in_place ∙ s.in_place;
+          }
+
+    module _ (p k count : ℕ) (live : IsPlaceOf d.world p) (stands : IsSharedBy count (standing_at d.world k)) where
+      abbrev after_shared : Desk
+      after_shared = with_owner (in_world d (with_standing d.world k (standing.Shared (count + 1)))) (holding.shared k d.world.home.slots)
+
+      pub dated-shared : IsDated d after_shared
+      dated-shared = dated-stands d after_shared k (standing.Shared (count + 1)) refl refl refl
+
+      pub sound-shared : IsSound after_shared
+      sound-shared =
+          let layers = layered-shared d d.world k (count + 1) (record { older = s.layered.older; owned = s.layered.owned }) in
+          let keeps = keeps-time d.world after_shared.world refl in
+          record {
+            stocked = stocked-as d after_shared s.stocked refl refl refl (no_slot-standing d.world k (standing.Shared (count + 1)) (ap is_some stands.shared));
+            cells = keepers-as d after_shared s.cells refl refl refl;
+            layered = record { older = layers.older; owned = layers.owned };
+            accounts = counted-shared d s.accounts (holding.shared k d.world.home.slots) k count refl stands.shared stands.some;
+            owners_home = at_home-given d.world.home d.owners (holding.shared k d.world.home.slots) refl s.owners_home;
+            cells_home = s.cells_home;
+            attended = attended-acts d after_shared s.attended keeps refl refl (omega arith) p live;
+            kept = kept-call d after_shared s.kept dated-shared whole (shares d.world k count stands.shared) (were-same d after_shared refl keeps.guards);
+            early = early-dated d after_shared dated-shared (omega arith) s.early;
+            made = s.made;
+            in_place = s.in_place;
+          }
+
+    -- ---- an item is made
+    module _ (own : Ownership) (value : Value) (p k c : ℕ) (v : Val) (live : IsPlaceOf d.world p) (cell : IsEmptyAt d.world.cells c)
+        (slot : IsEmptyAt d.world.standings k) (put : IsPutIn d value (body_of v)) (link : link_of v ≡ c) (few : length d.slots + 1 < 2 ^ 128) where
+      abbrev after_made : Desk
+      after_made =
+          with_owner (in_world (with_item (put_in d value) k) (made_as (nulled d.world c) k v (standing_first own))) (holding_first own k d.world.home.slots)
+
+      first : (w : Ownership) → IsFirst (standing_first w)
+      first ownership.Sole = inl refl
+      first ownership.Shared = inr refl
+
+      its-slot : (w : Ownership) → slot_of (Some (holding_first w k d.world.home.slots)) ≡ Some k
+      its-slot ownership.Sole = refl
+      its-slot ownership.Shared = refl
+
+      its-home : (w : Ownership) → IsOf d.world.home (holding_first w k d.world.home.slots)
+      its-home ownership.Sole = refl
+      its-home ownership.Shared = refl
+
+      moved : (x : Value) → IsPutIn d x (body_of v) → (j : ℕ) → named_owners d j ≡ named_owners (put_in d x) j + times_in j (body_of v)
+      moved (Number n) e j = puts-number d v n e j
+      moved (Of o) (h, there, is) j = puts-owner d v o.0 h there is j
+
+      at_home-left : (x : Value) → AtHome d.world.home (owners_left d.owners x)
+      at_home-left (Number n) = s.owners_home
+      at_home-left (Of o) = at_home-spent d.world.home d.owners o.0 s.owners_home
+
+      pub dated-made : IsDated d after_made
+      dated-made = dated-stands d after_made k (standing_first own) (first-waits-not (standing_first own) (first own)) refl refl
+
+      pub sound-made : IsSound after_made
+      sound-made =
+          let keeps = keeps-time d.world after_made.world refl in
+          record {
+            stocked = stocked-made d k s.stocked slot after_made (standing_first own) refl refl refl refl;
+            cells = keepers-made d after_made c k v s.cells cell slot link whole.filled refl refl refl;
+            layered = layered-made d s.layered s.accounts s.stocked whole.filled (put_in d value) c k v (standing_first own) slot (first own) (moved value put)
+                after_made refl refl;
+            accounts = counted-made d s.accounts (put_in d value) c k v (standing_first own) (holding_first own k d.world.home.slots) whole.filled cell slot
+                (first own) (its-slot own) (moved value put);
+            owners_home = at_home-given d.world.home (owners_left d.owners value) (holding_first own k d.world.home.slots) (its-home own) (at_home-left value);
+            cells_home = s.cells_home;
+            attended = attended-acts d after_made s.attended keeps refl refl (omega arith) p live;
+            kept = kept-made d after_made s.kept dated-made whole c k v (standing_first own) (first own) slot refl (were-same d after_made refl keeps.guards);
+            early = early-dated d after_made dated-made (omega arith) s.early;
+            made = told-made d (nulled d.world c) k v (standing_first own) s.made few;
+            in_place = s.in_place;
+          }
+
+    -- ---- a guard is opened
+
+    pub home-opened : (p : ℕ) → (opened holdings_of d.world p).home ≡ d.world.home
+    home-opened p = (counts-opened d.world p holdings_of).home
+
+    module _ (n : ℕ) (x : Opening) (there : opening_at d.places n ≡ Some x) (slots : List ℕ) (are : map Item slots ≡ reclaims d.world x.place)
+        (new_dates : List ℕ) (long : length new_dates ≡ length d.dates)
+        (now : (k : ℕ) → slice_index new_dates k
+        ≡ (if waits_among (opened holdings_of d.world x.place) (owners_in d.world slots) k then d.moment else slice_index d.dates k)) where
+      abbrev after_opening : Desk
+      after_opening = record (in_world (with_guard d n x.place) (opened holdings_of d.world x.place)) { dates = new_dates }
+
+      pub dated-opened : IsDated d after_opening
+      dated-opened =
+          gone.dated-opened d x.place (s.attended.inside n x there).0 s.stocked s.cells whole s.accounts slots are after_opening refl long now
+
+      pub sound-opened : BeginsLine d → IsSound after_opening
+      sound-opened line =
+          let layers = layered-opened d d.world x.place (record { older = s.layered.older; owned = s.layered.owned }) in
+          let counts = counts-opened d.world x.place holdings_of in
+          let middle = in_world d (opened holdings_of d.world x.place) in
+          record {
+            stocked = stocked-as d after_opening s.stocked refl refl long (no_slot-opened d.world x.place holdings_of);
+            cells = keepers-as middle after_opening (keepers-opened d x.place s.cells) refl refl refl;
+            layered = record { older = layers.older; owned = layers.owned };
+            accounts = counted-opened d s.accounts x.place;
+            owners_home = rw counts.home s.owners_home;
+            cells_home = rw counts.home s.cells_home;
+            attended = attended-opened d s.attended n x there after_opening refl refl refl (omega arith);
+            kept = kept-opened d after_opening s.attended s.kept whole dated-opened line n x there refl refl;
+            early = early-dated d after_opening dated-opened (omega arith) s.early;
+            made = counts.made ∙ s.made;
+            in_place = counts.in_place ∙ s.in_place;
+          }
+
+    -- the names found, and sorted
+    pub names-go : (p : ℕ) (slots : List ℕ) (found sorted : List ItemName) → map Item slots ≡ reclaims d.world p →
+        found ≡ map (item_in d.names) slots → IsPermutation found sorted → IsNonDecreasingBy (λ (i : ItemName). i.0) sorted →
+        IsStrictlyIncreasing (map (λ (i : ItemName). i.0) sorted)
+        × ((i : ItemName) → Contains sorted i ↔ (IsThere d i.0 × Contains (reclaims d.world p) (Item (slot_at d i.0))))
+    names-go p slots found sorted are named moved up = gone.names-go d p s.stocked whole slots are found named sorted moved up
+
+    -- what goes began to wait before any guard was opened that is open now
+    pub not-under : (p k : ℕ) → IsPlaceOf d.world p → Contains (reclaims d.world p) (Item k) → (g : ℕ) (y : Opening) →
+        opening_at d.guards g ≡ Some y → date_at d k < y.since
+    not-under p k live goes g y there = unguarded d s.attended s.kept whole p k live goes g y there
+
+-- ---- the start, and a line more
+
+blank : {E : Type 0} (n k : ℕ) → slice_index_or (replicate {A = Option E} n None) k None ≡ None
+blank zero k = refl
+blank (suc n) zero = refl
+blank (suc n) (suc k) = blank n k
+
+-- before the first line
+pub sound-start : (l : Limits) (d : Desk) → IsStart l d → length d.names ≡ l.slots → IsSound d
+sound-start l d start names = record {
   stocked = record {
-    stands = λ i. tt;
-    named = λ i h. absurd h;
-    taken = λ k t. absurd (not-free (standing_at w k) t (ap (λ xs. slice_index_or xs k None) new.standings ∙ none-at Standing l.slots k));
-    slots = refl;
-    names = long ∙ sym (ap length new.standings ∙ length-replicate l.slots None);
+    named = λ k some. absurd (not-free (standing_at d.world k) some (standings k));
+    names = names ∙ sym long;
+    dates = ap length start.dates ∙ length-replicate l.slots 0 ∙ sym long;
   };
-  owned = record {
-    out = λ o i h. absurd (cc);
-    apart = λ o r i h f. absurd (cc);
-    owner = λ i e. absurd (cc);
-    dated = λ i at e. absurd (cc);
+  cells = record {
+    keeper = λ c some. absurd (not-free (entry_at d.world.cells c) some (entries c));
+    taken = λ k c h. absurd (no-keeper k c h);
+    apart = λ j k c h g. absurd (no-keeper j c h);
+    bare = λ k c h. absurd (no-keeper (value_in k) c h);
   };
-  linked = record {
-    linked = λ c t. absurd (not-free (slice_index_or w.cells c None) t (ap (λ xs. slice_index_or xs c None) new.cells ∙ none-at Cell l.cells c));
-    unlinked = λ c. ap (λ xs. held_in (slice_index_or xs c None)) new.cells ∙ ap held_in (none-at Cell l.cells c);
+  layered = record {
+    older = λ j k some. absurd (let none : times_held holdings_of k (value_at d.world j) ≡ 0 = ap (times_held holdings_of k) (values j) in omega (arith, none, some));
+    owned = λ k e. absurd (let never : None ≡ Some standing.Raw = sym (standings k) ∙ e in cc);
   };
-  attended = record {
-    inside = λ n x e. absurd (cc);
-    apart = λ n m x y e f same. absurd (cc);
-    opened = λ p. ap (λ (t : Time). (place_at t p).guards) new.time;
-    since = λ g y e. absurd (cc);
-    early = λ n x e. absurd (cc);
-    placed = λ some. absurd (omega (arith, some));
-  };
-  kept = λ n i at x e. absurd (cc);
-  made = ap (λ (t : Tally). t.made) new.tally;
-  in_place = ap (λ (t : Tally). t.in_place) new.tally;
+  accounts = accounted-as holdings_of (λ _. 0) (named_owners d) d.world (λ k. ap (count_by (owns k)) start.owners)
+      (accounted-blank holdings_of d.world _ l.slots l.cells start.world);
+  owners_home = λ n h e. absurd (let never : None ≡ Some h = sym (ap (λ hs. holding_at hs n) start.owners) ∙ e in cc);
+  cells_home = λ n h e. absurd (let never : None ≡ Some h = sym (ap (λ hs. holding_at hs n) start.cells) ∙ e in cc);
+  attended = attended-start d start;
+  kept = kept-start d start;
+  early = early-start d start;
+  made = ap (λ (t : Tally). t.made) start.world.tally ∙ sym (ap length start.slots);
+  in_place = ap (λ (t : Tally). t.in_place) start.world.tally;
+} where
+  standings : (k : ℕ) → standing_at d.world k ≡ None
+  standings k = ap (λ ss. slice_index_or ss k None) start.world.standings ∙ blank l.slots k
+
+  values : (k : ℕ) → value_at d.world k ≡ None
+  values k = ap (λ vs. slice_index_or vs k None) start.world.values ∙ blank l.slots k
+
+  entries : (c : ℕ) → entry_at d.world.cells c ≡ None
+  entries c = ap (λ cs. slice_index_or cs c None) start.world.cells ∙ blank l.cells c
+
+  long : length d.world.standings ≡ l.slots
+  long = ap length start.world.standings ∙ length-replicate l.slots None
+
+  no-keeper : (k : Keeper) (c : ℕ) → Keeps d k c → ⊥
+  no-keeper (value_in j) c h = let never : None ≡ Some h.0 = sym (values j) ∙ h.1 in cc
+  no-keeper (name_of n) c h = let never : None ≡ Some c = sym (ap (λ hs. cell_of (holding_at hs n)) start.cells) ∙ h in cc
+
+-- a line is counted
+pub sound-later : (d : Desk) → IsSound d → IsSound (later d)
+sound-later d s = record {
+  stocked = record { named = s.stocked.named; names = s.stocked.names; dates = s.stocked.dates };
+  cells = keepers-as d (later d) s.cells refl refl refl;
+  layered = record { older = s.layered.older; owned = s.layered.owned };
+  accounts = s.accounts;
+  owners_home = s.owners_home;
+  cells_home = s.cells_home;
+  attended = attended-later d s.attended;
+  kept = kept-later d s.kept;
+  early = early-later d s.early;
+  made = s.made;
+  in_place = s.in_place;
 }
 
--- ---- a slot that is given another name
-
-waiting-same : (f g : ℕ → ℕ) (k : ℕ) → ((j : ℕ) → j ≢ k → g j ≡ f j) → (ws : List Waiting) → count_by (λ (w : Waiting). is_of_slot k w.what) ws ≡ 0 →
-    map (waiting_by g) ws ≡ map (waiting_by f) ws
-waiting-same f g k same [] none = refl
-waiting-same f g k same (w ∷ ws) none =
-    let head = count-cons (λ (x : Waiting). is_of_slot k x.what) w ws in
-    let here : waiting_by g w ≡ waiting_by f w = ap (having_seen w.seen) (what-same w.what (omega (arith, head, none))) in
-    cc (here, waiting-same f g k same ws (omega (arith, head, none))) where
-      apart : (j : ℕ) → one_where (j == k) ≡ 0 → g j ≡ f j
-      apart j none = same j (λ e. absurd (omega (arith, none, one-if j k e)))
-
-      what-same : (x : What) → one_where (is_of_slot k x) ≡ 0 → what_by g x ≡ what_by f x
-      what-same (Item j) none = ap Item (apart j none)
-      what-same (Private j c) none = ap (λ i. Private i c) (apart j none)
-      what-same (Job j) none = refl
-
-pub renamed : (f g : ℕ → ℕ) (k : ℕ) → ((j : ℕ) → j ≢ k → g j ≡ f j) → (t : Time) → sum_by (times_with k) t.places ≡ 0 → time_by g t ≡ time_by f t
-renamed f g k same t none = ap (λ ps. record t { places = ps }) (all t.places none) where
-  all : (ps : List Participant) → sum_by (times_with k) ps ≡ 0 → map (participant_by g) ps ≡ map (participant_by f) ps
-  all [] none = refl
-  all (x ∷ ps) none =
-      let head = sum_by-cons (times_with k) x ps in
-      let here : participant_by g x ≡ participant_by f x =
-      ap (λ ws. record x { bags = record x.bags { waiting = ws } }) (waiting-same f g k same x.bags.waiting (omega (arith, head, none))) in
-      cc (here, all ps (omega (arith, head, none)))
+pub line-begins : (d : Desk) → IsSound d → BeginsLine (later d)
+line-begins d s = begins-line d s.early

@@ -1,8 +1,7 @@
 pub mod Val
-pub mod Made
-pub mod Ledger
-pub mod Due
 pub mod Desk
+pub mod Made
+pub mod Shown
 pub mod Script
 pub mod Sound
 pub mod Leaving

@@ -1,86 +1,93 @@
 -- What is always true of a desk
-use Rattle.std.specs.Prelude.{ℕ, ◌+◌, ◌<◌, ◌≤◌, ◌≡◌, ◌==◌, Bool, false, IsTrue, IsSome, Option, None, Some, count_by, length, slice_index_or}
+use Rattle.std.specs.Prelude.{ℕ, ◌+◌, ◌<◌, ◌≤◌, ◌≡◌, ◌≢◌, ◌==◌, Bool, false, IsTrue, IsSome, List, Option, None, Some, count_by, length}
 use Rattle.sdd_store.specs.Time.{is_open, phase_at}
 use Rattle.sdd_store.specs.Table.{entry_at}
-use Rattle.sdd_store.specs.declared.standing.Standing.{Standing}
-use Rattle.sdd_store.specs.declared.standing.Standing.TheVariants as standing
-use Rattle.sdd_base.specs.World.{World, IsPlaceOf, place_at, standing_at, value_at}
+use Rattle.sdd_store.specs.declared.standing.Standing.TheVariants.{Raw}
+use Rattle.sdd_slots.specs.Slots.{is_waiting}
+use Rattle.sdd_base.specs.Holding.{Holding, IsOf}
+use Rattle.sdd_base.specs.World.{IsPlaceOf, place_at, standing_at, value_at}
 use Rattle.sdd_base.specs.Steps.{held_in}
-use Rattle.sdd_base.specs.Under.{CallsUnder, IsUnder}
-use Rattle.sdd.specs.declared.script.fate.Fate.{Fate}
-use Rattle.sdd.specs.declared.script.fate.Fate.TheVariants.{Out, Retired, Gone}
+use Rattle.sdd_base.specs.Accounts.{IsAccounted, is_owner_of, times_held}
+use Rattle.sdd_base.specs.Under.{IsSafe}
 use Rattle.sdd.specs.declared.script.val.Val.{Val}
 use Rattle.sdd.specs.Val.{holdings_of, link_of}
-use Rattle.sdd.specs.Ledger.{Ledger, Opening, IsOwnerOf, fate_at}
-use Rattle.sdd.specs.Desk.{Desk, slot_at, name_at}
-
--- the item was not reclaimed
-abbrev pub IsThere : Fate → Type 0
-IsThere Out = Unit {0}
-IsThere (Retired at) = Unit {0}
-IsThere Gone = ⊥
-
--- the slot of an item stands as what became of it
-abbrev pub StandsAs : Fate → Option Standing → Type 0
-StandsAs Out s = s ≡ Some standing.Owned
-StandsAs (Retired at) s = s ≡ Some standing.Retired
-StandsAs Gone s = Unit {0}
+use Rattle.sdd.specs.Desk.{Desk, Opening, opening_at, holding_at, slot_at, name_at, date_at, cell_of}
 
 -- which item is in which slot
 pub record IsStocked (d : Desk) : Type 0 where
-  pub stands : (i : ℕ) → StandsAs (fate_at d.ledger i) (standing_at d.world (slot_at d i))
-  -- the slot of an item that is there has its name
-  pub named : (i : ℕ) → IsThere (fate_at d.ledger i) → name_at d (slot_at d i) ≡ i
-  -- a slot that is taken is that of the item whose name it has
-  pub taken : (s : ℕ) → IsSome (standing_at d.world s) → IsThere (fate_at d.ledger (name_at d s)) × (slot_at d (name_at d s) ≡ s)
-  pub slots : length d.slots ≡ length d.ledger.items
+  -- a slot that is not free is that of the item that it has
+  pub named : (s : ℕ) → IsSome (standing_at d.world s) → (name_at d s < length d.slots) × (slot_at d (name_at d s) ≡ s)
   pub names : length d.names ≡ length d.world.standings
+  pub dates : length d.dates ≡ length d.world.standings
 
--- each item that is out has one owner
-pub record IsOwned (l : Ledger) : Type 0 where
-  pub out : (o i : ℕ) → IsOwnerOf l i o → fate_at l i ≡ Out
-  pub apart : (o r i : ℕ) → IsOwnerOf l i o → IsOwnerOf l i r → o ≡ r
-  pub owner : (i : ℕ) → fate_at l i ≡ Out → (o : ℕ) × IsOwnerOf l i o
-  -- none was retired in a line to come
-  pub dated : (i at : ℕ) → fate_at l i ≡ Retired at → at ≤ l.moment
+-- what keeps a cell: the value in a slot, whose link it is, or a name
+pub data Keeper : Type 0 where
+  value_in : (slot : ℕ) → Keeper
+  name_of : (cell : ℕ) → Keeper
 
--- what values hold: a cell that is taken is the link of some slot's value, and holds nothing
-pub record IsLinked (w : World Val) : Type 0 where
-  pub linked : (c : ℕ) → IsSome (entry_at w.cells c) → (s : ℕ) × (v : Val) × (value_at w s ≡ Some v) × (link_of v ≡ c)
-  pub unlinked : (c : ℕ) → held_in (entry_at w.cells c) ≡ None
+abbrev pub Keeps : Desk → Keeper → ℕ → Type 0
+Keeps d (value_in s) c = (v : Val) × (value_at d.world s ≡ Some v) × (link_of v ≡ c)
+Keeps d (name_of n) c = cell_of (holding_at d.cells n) ≡ Some c
+
+-- the cells that are taken are those that something keeps, each one thing; links hold nothing
+pub record AreKept (d : Desk) : Type 0 where
+  pub keeper : (c : ℕ) → IsSome (entry_at d.world.cells c) → (k : Keeper) × Keeps d k c
+  pub taken : (k : Keeper) (c : ℕ) → Keeps d k c → IsSome (entry_at d.world.cells c)
+  pub apart : (j k : Keeper) (c : ℕ) → Keeps d j c → Keeps d k c → j ≡ k
+  pub bare : (s c : ℕ) → Keeps d (value_in s) c → held_in (entry_at d.world.cells c) ≡ None
 
 -- the guard is one of p's
 abbrev pub is_of : ℕ → Option Opening → Bool
 is_of p None = false
 is_of p (Some x) = x.place == p
 
+-- what is named is an owner of the slot's item
+abbrev pub owns : ℕ → Option Holding → Bool
+owns k None = false
+owns k (Some h) = is_owner_of k h
+
+-- how many owners of the slot's item have names
+abbrev pub named_owners : Desk → ℕ → ℕ
+named_owners d k = count_by (owns k) d.owners
+
+-- what has a name is of the world's home
+abbrev pub AreAtHome : Desk → List (Option Holding) → Type 0
+AreAtHome d hs = (n : ℕ) (h : Holding) → holding_at hs n ≡ Some h → IsOf d.world.home h
+
 -- who is there, and which guards are open
-pub record IsAttended (w : World Val) (l : Ledger) : Type 0 where
-  pub inside : (n : ℕ) (x : Opening) → slice_index_or l.places n None ≡ Some x → IsPlaceOf w x.place
-  pub apart : (n m : ℕ) (x y : Opening) → slice_index_or l.places n None ≡ Some x → slice_index_or l.places m None ≡ Some y → x.place ≡ y.place → n ≡ m
-  pub opened : (p : ℕ) → (place_at w p).guards ≡ count_by (is_of p) l.guards
+pub record IsAttended (d : Desk) : Type 0 where
+  pub inside : (n : ℕ) (x : Opening) → opening_at d.places n ≡ Some x → IsPlaceOf d.world x.place
+  pub apart : (n m : ℕ) (x y : Opening) → opening_at d.places n ≡ Some x → opening_at d.places m ≡ Some y → x.place ≡ y.place → n ≡ m
+  pub opened : (p : ℕ) → (place_at d.world p).guards ≡ count_by (is_of p) d.guards
   -- a guard is that of a participant, which has not been without one since
-  pub since : (g : ℕ) (y : Opening) → slice_index_or l.guards g None ≡ Some y →
-      (n : ℕ) × (x : Opening) × (slice_index_or l.places n None ≡ Some x) × (x.place ≡ y.place) × (x.since ≤ y.since)
+  pub since : (g : ℕ) (y : Opening) → opening_at d.guards g ≡ Some y →
+      (n : ℕ) × (x : Opening) × (opening_at d.places n ≡ Some x) × (x.place ≡ y.place) × (x.since ≤ y.since)
   -- in a line so far
-  pub early : (n : ℕ) (x : Opening) → slice_index_or l.places n None ≡ Some x → x.since ≤ l.moment + 1
-  -- an item was made by some participant, and its place, or another, is not free
-  pub placed : 0 < length l.items → (p : ℕ) × IsSome (phase_at w.time p)
+  pub early : (n : ℕ) (x : Opening) → opening_at d.places n ≡ Some x → x.since ≤ d.moment
+  -- an item or a cell was made by some participant, and its place, or another, is not free
+  pub placed : 0 < length d.slots + length d.cells → (p : ℕ) × IsSome (phase_at d.world.time p)
 
--- the slot's item waits, and can't go, as long as a guard of p is open
-abbrev pub Keeps : World Val → (p k : ℕ) → Type 0
-Keeps w p k = (new : World Val) → CallsUnder holdings_of p w new → IsUnder new p k
-
--- so does an item that was retired since a participant's outermost opening
+-- what began to wait since a participant's last outermost opening can't go as long as a guard of it is open
 abbrev pub IsKept : Desk → Type 0
-IsKept d = (n i at : ℕ) (x : Opening) → slice_index_or d.ledger.places n None ≡ Some x → fate_at d.ledger i ≡ Retired at → x.since ≤ at →
-    IsTrue (is_open (place_at d.world x.place)) → Keeps d.world x.place (slot_at d i)
+IsKept d = (n s : ℕ) (x : Opening) → opening_at d.places n ≡ Some x → IsTrue (is_open (place_at d.world x.place)) →
+    IsTrue (is_waiting (standing_at d.world s)) → x.since ≤ date_at d s → IsSafe d.world x.place s
+
+-- what values hold goes back to older items, and an item that is out has an owner: so with no owner outside all goes
+pub record IsLayered (d : Desk) : Type 0 where
+  -- what a value holds is an owner of an item that was made before its own
+  pub older : (j k : ℕ) → 1 ≤ times_held holdings_of k (value_at d.world j) → name_at d k < name_at d j
+  pub owned : (k : ℕ) → standing_at d.world k ≢ Some Raw
 
 pub record IsSound (d : Desk) : Type 0 where
   pub stocked : IsStocked d
-  pub owned : IsOwned d.ledger
-  pub linked : IsLinked d.world
-  pub attended : IsAttended d.world d.ledger
+  pub cells : AreKept d
+  pub layered : IsLayered d
+  pub accounts : IsAccounted holdings_of (named_owners d) d.world
+  pub owners_home : AreAtHome d d.owners
+  pub cells_home : AreAtHome d d.cells
+  pub attended : IsAttended d
   pub kept : IsKept d
-  pub made : d.world.tally.made ≡ length d.ledger.items
+  -- in a line so far
+  pub early : (s : ℕ) → date_at d s ≤ d.moment
+  pub made : d.world.tally.made ≡ length d.slots
   pub in_place : d.world.tally.in_place ≡ 0

@@ -1,6 +1,6 @@
 //! Scripts: calls on a world, and what they answer.
 
-pub mod fate;
+pub mod holding;
 pub mod named;
 pub mod player;
 pub mod runner;
@@ -12,7 +12,7 @@ pub use player::play;
 pub use runner::run;
 pub use scene::Scene;
 pub use sdd_lines::{
-    Action, Answer, Call, Ended, Fault, GuardName, ItemName, JobName, Names, OwnerName, PlaceName,
-    Reader, Reply, Sink, Source, Writer,
+    Action, Answer, Call, CellName, Ended, Fault, GuardName, ItemName, JobName, Names, OwnerName,
+    PlaceName, Reader, Reply, Sink, Source, Value, Writer,
 };
 pub use val::Val;

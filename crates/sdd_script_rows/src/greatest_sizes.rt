@@ -34,7 +34,7 @@ fn most_calls(alloc: Global) -> Result<Vec<Call>, AllocError> {
     let mut calls = Vec::new(alloc);
     calls.push(Call::Register)?;
     for number in 1..65_536 {
-        calls.push(Call::At(PlaceName(0), Action::Owned(number)))?;
+        calls.push(Call::At(PlaceName(0), Action::Owned(Value::Number(number))))?;
     }
     Ok(calls)
 }

@@ -15,9 +15,13 @@ pub struct Scene {
 }
 
 impl Model for Scene {
+    ghost use Rattle.std.specs.Coded.{codes};
+    ghost use Rattle.sdd.specs.contracts.script.val.Val as val;
     ghost use Rattle.sdd.specs.Desk.{Desk};
 
     ghost Value = { Desk };
+
+    ghost coded = { Prim.hlevel (codes, val.the_row.coded) };
 
     ghost view = { λ scene. scene.stage };
 }

@@ -1,10 +1,17 @@
 ghost use Rattle.std.specs.Prelude.{◌≡◌};
 
-use sdd_base::{AtomicOwned, Giver, Item};
+use sdd_base::{AtomicOwned, Giver, Item, Owned, Shared};
 
-/// The value of an item of a script: an entry with a number, and a cell for its link.
+/// What an item of a script holds beside its link: a number, or an owner of another item.
+pub enum Body<T> {
+    Number(u64),
+    Owned(Owned<T>),
+    Shared(Shared<T>),
+}
+
+/// The value of an item of a script: an entry with what it holds, and a cell for its link.
 pub struct Val {
-    body: u64,
+    body: Body<Val>,
     link: AtomicOwned<Val>,
 }
 
@@ -14,7 +21,12 @@ impl Item<Val> for Val {
     ghost holds = { holdings_of };
 
     fn give_up<G: Giver<Val>>(self, giver: &mut G) {
-        let Val { body: _, link } = self;
+        let Val { body, link } = self;
+        match body {
+            Body::Number(_) => {}
+            Body::Owned(owner) => giver.owned(owner),
+            Body::Shared(owner) => giver.shared(owner),
+        }
         giver.atomic_owned(link);
     }
 }
@@ -23,8 +35,8 @@ impl Val {
     ghost use Rattle.sdd.specs.Val.{body_of, link_of, link_home};
     ghost use Rattle.sdd_base.specs.Owned.{cell_of, cells_home};
 
-    /// A number, with its cell.
-    pub fn new(body: u64, link: AtomicOwned<Val>) -> Val
+    /// What it holds, with its cell.
+    pub fn new(body: Body<Val>, link: AtomicOwned<Val>) -> Val
         ensures body { body_of result ≡ body }
         ensures link { link_of result ≡ cell_of link }
         ensures home { link_home result ≡ cells_home link }
@@ -32,19 +44,10 @@ impl Val {
         Val { body, link }
     }
 
-    /// The number.
-    pub fn body(&self) -> u64
-        ensures { result ≡ body_of self.now }
+    /// What it holds.
+    pub fn body(&self) -> &Body<Val>
+        ensures { result.now ≡ body_of self.now }
     {
-        self.body
-    }
-
-    /// Gives the cell back.
-    pub fn into_link(self) -> AtomicOwned<Val>
-        ensures link { cell_of result ≡ link_of self }
-        ensures home { cells_home result ≡ link_home self }
-    {
-        let Val { body: _, link } = self;
-        link
+        &self.body
     }
 }

@@ -47,7 +47,7 @@ fn each_script_is_answered(rt: HostRuntime) {
 
 #[test]
 fn a_scene_shows_its_world_until_it_is_closed(rt: HostRuntime) -> Result<(), Refused> {
-    let calls = [Call::Register, Call::At(PlaceName(0), Action::Owned(7))];
+    let calls = [Call::Register, Call::At(PlaceName(0), Action::Owned(Value::Number(7)))];
     let (answers, scene) = run(rt.alloc(), USUAL_LIMITS, &calls)?;
     let shown = scene.world().tally();
     let closed = scene.close();
