@@ -15,9 +15,9 @@ use Rattle.sdd_store.specs.declared.standing.Standing.{Standing}
 use Rattle.sdd_store.specs.declared.standing.Standing.TheVariants.{Owned, Raw, Shared, Retired, Private as privately}
 use Rattle.sdd_store.specs.declared.standing.Cell.{Cell}
 use Rattle.sdd_base.specs.World.{World, IsBlank, standing_at, value_at, place_at}
-use Rattle.sdd_base.specs.Steps.{made_as, with_standing, retired, nulled, with_cell, without_cell, spilled, cell_closed, held_in, owner_given, given, given_all, freed, taken_out, waiting_value, slot_reclaimed, reclaimed, all_reclaimed, caught_up, changed, opened}
+use Rattle.sdd_base.specs.Steps.{made_as, with_standing, retired, nulled, with_cell, without_cell, spilled, cell_closed, held_in, owner_given, given, given_all, freed, vacated, with_value, dropped_out, dropped, taken_out, waiting_value, slot_reclaimed, reclaimed, all_reclaimed, caught_up, changed, opened}
 use Rattle.sdd_base.specs.Steps as steps
-use Rattle.sdd_base.specs.Holding.{Holding, owned, shared, atomic_owned, atomic_shared}
+use Rattle.sdd_base.specs.Holding.{Holding, owned, shared, atomic_owned, atomic_shared, atomic_raw}
 use Rattle.sdd_base.specs.Calls.{IsFirst}
 use Rattle.sdd_base.specs.Out.{is_out}
 use Rattle.sdd_base.specs.Accounts.{owner_count, is_owner_of, is_of, holds_slot, times_held, inner_owners, IsAccounted}
@@ -191,6 +191,8 @@ module _ {T : Type 0} (holds : T → List Holding) where
       accounted-cell_closed w p c now (accounted-as outside now w (λ j. omega (arith, less j)) a)
   accounted-given w p (atomic_shared c home) outside now less a =
       accounted-cell_closed w p c now (accounted-as outside now w (λ j. omega (arith, less j)) a)
+  accounted-given w p (atomic_raw c home) outside now less a =
+      accounted-cell_closed w p c now (accounted-as outside now w (λ j. omega (arith, less j)) a)
 
   pub accounted-given_all : (w : World T) (p : ℕ) (hs : List Holding) (outside now : ℕ → ℕ) →
       ((j : ℕ) → outside j ≡ now j + count_by (is_owner_of j) hs) → IsAccounted holds outside w → IsAccounted holds now (given_all w p hs)
@@ -259,6 +261,44 @@ module _ {T : Type 0} (holds : T → List Holding) where
         let u = steps.nested w p in
         either-accounted (is_open (place_at w p)) u (caught_up holds u p) a (accounted-caught_up u a)
 
+  -- ---- an item is dropped, or changed, in its place
+  vacated-at : (w : World T) (k j : ℕ) → owner_count (standing_at w k) ≡ 1 → (j ≡ k) ⊎ (j ≢ k) →
+      owner_count (entry_at (slice_set w.standings k None) j) + one_where (k == j) ≡ owner_count (standing_at w j)
+  vacated-at w k j one (inl e) =
+      let gone : owner_count (entry_at (slice_set w.standings k None) j) ≡ 0 = rw e (ap owner_count (none-there w.standings k)) in
+      let was : owner_count (standing_at w j) ≡ 1 = rw e one in
+      omega (arith, gone, was, one-here k j e)
+  vacated-at w k j one (inr apart) =
+      omega (arith, none-here k j apart, ap owner_count (get_or-set_other w.standings k j None None apart))
+
+  -- its owner goes, and what its value held is outside
+  pub accounted-vacated : (w : World T) (k : ℕ) (outside now : ℕ → ℕ) → owner_count (standing_at w k) ≡ 1 →
+      ((j : ℕ) → now j + one_where (k == j) ≡ outside j + times_held holds j (value_at w k)) →
+      IsAccounted holds outside w → IsAccounted holds now (vacated w k)
+  accounted-vacated w k outside now one moved a j =
+      omega (arith, a j, moved j, vacated-at w k j one (same-or-not j k), sum-out (times_held holds j) refl w.values k)
+
+  accounted-dropped_out : (w : World T) (p k : ℕ) (outside now : ℕ → ℕ) → owner_count (standing_at w k) ≡ 1 →
+      ((j : ℕ) → outside j ≡ now j + one_where (k == j)) → (v : T) → value_at w k ≡ Some v →
+      IsAccounted holds outside w → IsAccounted holds now (dropped_out holds w p k (Some v))
+  accounted-dropped_out w p k outside now one less v is a =
+      let mid : ℕ → ℕ = λ j. now j + count_by (is_owner_of j) (holds v) in
+      let held : (j : ℕ) → times_held holds j (value_at w k) ≡ count_by (is_owner_of j) (holds v) = λ j. ap (times_held holds j) is in
+      accounted-given_all (vacated w k) p (holds v) mid now (λ j. refl)
+      (accounted-vacated w k outside mid one (λ j. omega (arith, less j, held j)) a)
+
+  -- the one owner drops its item: what the value held is given to p
+  pub accounted-dropped : (w : World T) (p k : ℕ) (v : T) (outside now : ℕ → ℕ) → owner_count (standing_at w k) ≡ 1 → value_at w k ≡ Some v →
+      ((j : ℕ) → outside j ≡ now j + one_where (k == j)) → IsAccounted holds outside w → IsAccounted holds now (dropped holds w p k)
+  accounted-dropped w p k v outside now one is less a = rw is (accounted-dropped_out w p k outside now one less v is a)
+
+  -- the value is another: what it holds came from outside, and what the one before held is there
+  pub accounted-with_value : (w : World T) (k : ℕ) (v : T) (outside now : ℕ → ℕ) → k < length w.values →
+      ((j : ℕ) → now j + count_by (is_owner_of j) (holds v) ≡ outside j + times_held holds j (value_at w k)) →
+      IsAccounted holds outside w → IsAccounted holds now (with_value w k v)
+  accounted-with_value w k v outside now l moved a j =
+      omega (arith, a j, moved j, sum_by-set (times_held holds j) w.values k (Some v) None l)
+
   -- ---- a new item, and an owner more
   more-at : (w : World T) (k j : ℕ) (s : Option Standing) → k < length w.standings → owner_count s ≡ owner_count (standing_at w k) + 1 →
       (j ≡ k) ⊎ (j ≢ k) → owner_count (entry_at (slice_set w.standings k s) j) ≡ owner_count (standing_at w j) + one_where (k == j)
@@ -289,6 +329,19 @@ module _ {T : Type 0} (holds : T → List Holding) where
       let before : owner_count (standing_at w k) ≡ max 1 n = ap owner_count is in
       let count : owner_count (Some (Shared (n + 1))) ≡ owner_count (standing_at w k) + 1 = omega (arith, before, some) in
       omega (arith, a j, more j, more-at w k j (Some (Shared (n + 1))) (in_range w.standings k (Shared n) is) count (same-or-not j k))
+
+  -- ---- an item goes raw, and comes back: the one owner is outside before, or afterwards
+  pub accounted-put_out_raw : (w : World T) (k : ℕ) (outside now : ℕ → ℕ) → standing_at w k ≡ Some Owned →
+      ((j : ℕ) → outside j ≡ now j + one_where (k == j)) → IsAccounted holds outside w → IsAccounted holds now (with_standing w k Raw)
+  accounted-put_out_raw w k outside now is less a =
+      fewer w w.time k (Some Raw) outside now (in_range w.standings k Owned is) (ap owner_count is) less a
+
+  pub accounted-taken_back_raw : (w : World T) (k : ℕ) (outside now : ℕ → ℕ) → standing_at w k ≡ Some Raw →
+      ((j : ℕ) → now j ≡ outside j + one_where (k == j)) → IsAccounted holds outside w → IsAccounted holds now (with_standing w k Owned)
+  accounted-taken_back_raw w k outside now is more a j =
+      let none : owner_count (standing_at w k) ≡ 0 = ap owner_count is in
+      let count : owner_count (Some Owned) ≡ owner_count (standing_at w k) + 1 = omega (arith, none) in
+      omega (arith, a j, more j, more-at w k j (Some Owned) (in_range w.standings k Raw is) count (same-or-not j k))
 
   -- ---- whose owner is somewhere, is out
   pub accounted-out : (w : World T) (k : ℕ) (outside : ℕ → ℕ) → IsAccounted holds outside w → 1 ≤ outside k + inner_owners holds w k →

@@ -29,6 +29,7 @@ use Rattle.sdd_store.specs.declared.phases.Phase.{Phase}
 use Rattle.sdd_base.proofs.Opening.{how, Nests, IsChange, Stands, opened-stays, opened-goes, opened-other, in_before}
 use Rattle.sdd_base.proofs.Entries.{waits-standing, waits-young, entry-due, one-place, nests-waits, change-waits}
 use Rattle.sdd_base.proofs.Under.{closed-persists}
+use Rattle.sdd_base.proofs.Guarded.{whichever, open-inside}
 
 -- nobody has a guard open
 abbrev pub AllClosed : {T : Type 0} → World T → Type 0
@@ -37,17 +38,6 @@ AllClosed w = (q : ℕ) → is_open (place_at w q) ≡ false
 shut : (b : Bool) → (IsTrue b → ⊥) → b ≡ false
 shut true h = absurd (h refl)
 shut false h = refl
-
-pub whichever : (ps : List Participant) (k : ℕ) (d e : Participant) → k < length ps → slice_index_or ps k d ≡ slice_index_or ps k e
-whichever [] k d e l = absurd (omega (arith, l))
-whichever (x ∷ ps) zero d e l = refl
-whichever (x ∷ ps) (suc k) d e l = whichever ps k d e (omega (arith, l))
-
-pub open-inside : (ps : List Participant) (q : ℕ) → (q < length ps) ⊎ (length ps ≤ q) → IsTrue (is_open (slice_index_or ps q nobody)) →
-    Any (λ p. IsTrue (is_open p)) ps
-open-inside ps q (inl l) o = (q, slice_index_or ps q nobody, l, whichever ps q (slice_index_or ps q nobody) nobody l, o)
-open-inside ps q (inr past) o =
-    let never : IsTrue (is_open nobody) = subst (λ (x : Participant). IsTrue (is_open x)) (get_or_past ps q nobody past) o in absurd (cc)
 
 -- no guard is open exactly where each participant has none
 pub all-closed : {T : Type 0} (w : World T) → (IsGuarded w → ⊥) → AllClosed w

@@ -18,17 +18,18 @@ use Rattle.sdd_store.specs.declared.time.Pace.{Pace}
 use Rattle.sdd_store.specs.declared.standing.Standing.{Standing}
 use Rattle.sdd_store.specs.declared.standing.Standing.TheVariants.{Shared}
 use Rattle.sdd_store.specs.declared.standing.Cell.{Cell}
+use Rattle.sdd_store.specs.declared.standing.Pointer.{Pointer}
 use Rattle.sdd_slots.specs.Slots.{is_waiting}
 use Rattle.sdd_store.proofs.Adopting.{Scans, scans-if, scans-there, live-entry, same-or-not}
 use Rattle.sdd_base.specs.World.{World, standing_at, place_at}
-use Rattle.sdd_base.specs.Steps.{made_as, with_standing, owner_given, retired, cell_closed, all_reclaimed, changed}
+use Rattle.sdd_base.specs.Steps.{made_as, with_standing, with_value, dropped, owner_given, retired, cell_closed, all_reclaimed, changed}
 use Rattle.sdd_base.specs.Steps as steps
 use Rattle.sdd_base.specs.Holding.{Holding}
 use Rattle.sdd_base.specs.Whole.{IsAbreast, AreHoused, IsWhole}
 use Rattle.sdd_base.specs.Own.{all_awaiting}
 use Rattle.sdd_base.specs.Out.{is_out}
 use Rattle.sdd_base.specs.Calls.{IsFirst}
-use Rattle.sdd_base.proofs.Own.{Gives, Gives-all_reclaimed, Gives-owner_given, Gives-cell_closed}
+use Rattle.sdd_base.proofs.Own.{Gives, Gives-all_reclaimed, Gives-owner_given, Gives-cell_closed, Gives-dropped}
 use Rattle.sdd_base.proofs.Whole.{HasItems, below-or-past, append-last, all_awaiting-guards}
 use Rattle.sdd_base.proofs.Whole as whole
 use Rattle.sdd_base.specs.Left.{Waits}
@@ -136,6 +137,15 @@ module _ {T : Type 0} where
     pub Whole-opened : (w : World T) (p : ℕ) → IsLive w.time p → IsWhole w → IsWhole (steps.opened holds w p)
     Whole-opened w p l i = with-places (whole.Items-opened holds w p l.0 (items i)) (housed-opened w p l i.housed (how holds w p l.0))
 
+    -- an item is dropped in its place
+    pub Whole-dropped : (w : World T) (p k : ℕ) → IsTaken w.time p → is_out (standing_at w k) ≡ true → IsWhole w → IsWhole (dropped holds w p k)
+    Whole-dropped w p k l out i =
+        with-places (whole.Items-dropped holds w p k l.there out (items i)) (housed-gives p l i.housed (Gives-dropped holds w p k l.there)).1
+
+  -- an item has another value
+  pub Whole-with_value : (w : World T) (k : ℕ) (v : T) → is_out (standing_at w k) ≡ true → IsWhole w → IsWhole (with_value w k v)
+  Whole-with_value w k v out i = with-places (whole.Items-with_value w k v out (items i)) i.housed
+
   pub Whole-paced : (w : World T) (p : ℕ) (pace : Pace) → IsTaken w.time p → IsAbreast w.time.count (time.paced pace (place_at w p)) → IsWhole w →
       IsWhole (record w { time = time.paced_at w.time p pace })
   Whole-paced w p pace l a i =
@@ -153,6 +163,11 @@ module _ {T : Type 0} where
   pub Whole-shared : (w : World T) (k n m : ℕ) → standing_at w k ≡ Some (Shared n) → IsWhole w → IsWhole (with_standing w k (Shared m))
   Whole-shared w k n m is i = with-places (whole.Items-shared w k n m is (items i)) i.housed
 
+  -- an item that is out stands otherwise, and is out
+  pub Whole-restands : (w : World T) (k : ℕ) (s : Standing) → is_out (standing_at w k) ≡ true → is_out (Some s) ≡ true → IsWhole w →
+      IsWhole (with_standing w k s)
+  Whole-restands w k s was now i = with-places (whole.Items-restands w k s was now (items i)) i.housed
+
   pub Whole-owner_given : (w : World T) (p k : ℕ) → IsTaken w.time p → (s : Option Standing) → standing_at w k ≡ s → IsWhole w → IsWhole (owner_given w p k s)
   Whole-owner_given w p k l s is i =
       with-places (whole.Items-owner_given w p k l.there s is (items i)) (housed-gives p l i.housed (Gives-owner_given w p k s is)).1
@@ -165,6 +180,9 @@ module _ {T : Type 0} where
 
   pub Whole-cells : (w : World T) (cells : Entries Cell) → IsWhole w → IsWhole (record w { cells = cells })
   Whole-cells w cells i = with-places (whole.Items-cells w cells (items i)) i.housed
+
+  pub Whole-pointers : (w : World T) (pointers : List Pointer) → IsWhole w → IsWhole (record w { pointers = pointers })
+  Whole-pointers w pointers i = with-places (whole.Items-pointers w pointers (items i)) i.housed
 
   pub Whole-made_as : (w : World T) (k : ℕ) (v : T) (s : Standing) → IsFirst s → IsEmptyAt w.standings k → IsWhole w → IsWhole (made_as w k v s)
   Whole-made_as w k v s first empty i = with-places (whole.Items-made_as w k v s (first-idle s first) empty.0 empty.1 (items i)) i.housed

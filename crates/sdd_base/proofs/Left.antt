@@ -9,9 +9,9 @@ use Rattle.sdd_store.specs.Waiting.What.{Item}
 use Rattle.sdd_store.specs.Time.{Time, with_place, nobody, is_open, passes, last_count, counted_down, phase_at, rested}
 use Rattle.sdd_store.specs.Time as time
 use Rattle.sdd_store.specs.declared.time.Participant.{Participant}
-use Rattle.sdd_store.specs.declared.standing.Standing.TheVariants.{Shared}
+use Rattle.sdd_store.specs.declared.standing.Standing.TheVariants.{Owned, Raw, Shared}
 use Rattle.sdd_base.specs.World.{World, standing_at, value_at, place_at, IsPlaceOf}
-use Rattle.sdd_base.specs.Steps.{made_as, with_standing, retired, owner_given, cell_closed, opened, closed, registered, ended, reclaims}
+use Rattle.sdd_base.specs.Steps.{made_as, with_standing, with_value, dropped, retired, owner_given, cell_closed, opened, closed, registered, ended, reclaims}
 use Rattle.sdd_base.specs.Holding.{Holding}
 use Rattle.sdd_base.specs.Own.{all_awaiting}
 use Rattle.sdd_base.specs.Whole.{IsWhole}
@@ -19,11 +19,12 @@ use Rattle.sdd_base.specs.Out.{is_out}
 use Rattle.sdd_base.specs.Left.{Waits, left, IsHeldUp, OpeningsLower, NoCallRaises, GoesAtLatest, Stays, GoesInTime}
 use Rattle.sdd_base.specs.Left.Stays.{starts, one_opening, one_call}
 use Rattle.sdd_base.specs.Calls.{Calls}
-use Rattle.sdd_base.specs.Calls.Calls.{registers, ends, opens, closes, stirs, accelerates, makes, shares, retires, releases, changes_cells, closes_cell}
-use Rattle.sdd_base.proofs.Own.{Gives, Gives-owner_given, Gives-cell_closed, all_awaiting-found}
+use Rattle.sdd_base.specs.Calls.Calls.{registers, ends, opens, closes, stirs, accelerates, makes, shares, retires, releases, edits, drops, puts_out_raw, takes_back_raw, changes_cells, closes_cell, changes_pointers}
+use Rattle.sdd_base.proofs.Own.{Gives, Gives-owner_given, Gives-cell_closed, Gives-dropped, all_awaiting-found}
 use Rattle.sdd_base.proofs.Own as own
+use Rattle.sdd_base.proofs.Standings.{alone-out}
 use Rattle.sdd_base.proofs.Whole.{HasItems, Items-opened, below-or-past, times_among, filled-there, all_awaiting-guards, some-waits}
-use Rattle.sdd_base.proofs.Housed.{Whole-opened, Whole-closed, Whole-stirred, Whole-accelerated, Whole-made_as, Whole-shared, Whole-retires, Whole-owner_given, Whole-cells, Whole-cell_closed, Whole-registered, Whole-ended, items, live-is, live-taken, registered-keeps}
+use Rattle.sdd_base.proofs.Housed.{Whole-opened, Whole-closed, Whole-stirred, Whole-accelerated, Whole-made_as, Whole-shared, Whole-restands, Whole-retires, Whole-owner_given, Whole-cells, Whole-pointers, Whole-cell_closed, Whole-with_value, Whole-dropped, Whole-registered, Whole-ended, items, live-is, live-taken, registered-keeps}
 use Rattle.sdd_base.proofs.Closes.{how-closed}
 use Rattle.sdd_store.proofs.Adopting.{Adopts, adopts, same-or-not}
 use Rattle.sdd_store.specs.Phases.{is_ended}
@@ -463,8 +464,13 @@ module _ {T : Type 0} where
         (lowers-place w.time r q (time.awaiting (Item j) (place_at w r)) l.0 (Lowers-given w.time.count (j ∷ []) (place_at w r)))
     each-call q k seen (releases w r j n l is) i live h =
         goes-gives w (owner_given w r j (Some (Shared n))) r q k seen l.0 h (Gives-owner_given w r j (Some (Shared n)) is)
+    each-call q k seen (edits w j value may) i live h = goes-still w (with_value w j value) q k seen h refl
+    each-call q k seen (drops w r j l may) i live h = goes-gives w (dropped holds w r j) r q k seen l.0 h (Gives-dropped holds w r j l.0)
+    each-call q k seen (puts_out_raw w j is) i live h = goes-still w (with_standing w j Raw) q k seen h refl
+    each-call q k seen (takes_back_raw w j is) i live h = goes-still w (with_standing w j Owned) q k seen h refl
     each-call q k seen (changes_cells w cells same) i live h = goes-still w (record w { cells = cells }) q k seen h refl
     each-call q k seen (closes_cell w r c l) i live h = goes-gives w (cell_closed w r c) r q k seen l.0 h (Gives-cell_closed w r c l.0)
+    each-call q k seen (changes_pointers w pointers same) i live h = goes-still w (record w { pointers = pointers }) q k seen h refl
 
     pub no-call-raises : (w : World T) → IsWhole w → NoCallRaises holds w
     no-call-raises w i = λ new call q k seen live h. each-call q k seen call i live h
@@ -487,8 +493,13 @@ module _ {T : Type 0} where
     Whole-called (shares w j n is) i = Whole-shared w j n (n + 1) is i
     Whole-called (retires w r j l there) i = Whole-retires w r j (live-taken w.time r l) (ap is_out there) i
     Whole-called (releases w r j n l is) i = Whole-owner_given w r j (live-taken w.time r l) (Some (Shared n)) is i
+    Whole-called (edits w j value may) i = Whole-with_value w j value (alone-out (standing_at w j) may.alone) i
+    Whole-called (drops w r j l may) i = Whole-dropped holds w r j (live-taken w.time r l) (alone-out (standing_at w j) may.alone) i
+    Whole-called (puts_out_raw w j is) i = Whole-restands w j Raw (ap is_out is) refl i
+    Whole-called (takes_back_raw w j is) i = Whole-restands w j Owned (ap is_out is) refl i
     Whole-called (changes_cells w cells same) i = Whole-cells w cells i
     Whole-called (closes_cell w r c l) i = Whole-cell_closed w r c l i
+    Whole-called (changes_pointers w pointers same) i = Whole-pointers w pointers i
 
     -- the item still waits, and each outermost opening has lowered what is left
     record Waning (w new : World T) (q k seen openings : ℕ) : Type 0 where

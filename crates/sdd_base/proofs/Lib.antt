@@ -2,6 +2,7 @@ pub mod Standings
 pub mod Own
 pub mod Weights
 pub mod Whole
+pub mod Guarded
 pub mod Opening
 pub mod Housed
 pub mod Closes
@@ -14,6 +15,7 @@ pub mod Out
 pub mod Left
 pub mod Passing
 pub mod Nesting
+pub mod InPlace
 pub mod Letting
 pub mod Sharing
 pub mod Accounts

@@ -16,7 +16,7 @@ use Rattle.sdd_slots.specs.Slots.{is_waiting}
 use Rattle.sdd_base.specs.World.{World, standing_at, value_at, place_at}
 use Rattle.sdd_base.specs.Steps.{with_standing, retired, spilled, cell_closed, held_in, owner_given, given, given_all, freed, taken_out, waiting_value, reclaimed, all_reclaimed, changed, opened, reclaims}
 use Rattle.sdd_base.specs.Steps as steps
-use Rattle.sdd_base.specs.Holding.{Holding, owned, shared, atomic_owned, atomic_shared}
+use Rattle.sdd_base.specs.Holding.{Holding, owned, shared, atomic_owned, atomic_shared, atomic_raw}
 use Rattle.sdd_base.specs.Own.{all_awaiting}
 use Rattle.sdd_base.specs.Whole.{is_of_slot}
 use Rattle.sdd_base.specs.Out.{is_out}
@@ -46,6 +46,7 @@ module _ {T : Type 0} (p : ℕ) (P : World T → Type 0)
   keeps-given w (shared k home) i = keeps-owner_given w k (standing_at w k) refl i
   keeps-given w (atomic_owned c home) i = keeps-cell_closed w c i
   keeps-given w (atomic_shared c home) i = keeps-cell_closed w c i
+  keeps-given w (atomic_raw c home) i = keeps-cell_closed w c i
 
   pub keeps-given_all : (w : World T) (hs : List Holding) → P w → P (given_all w p hs)
   keeps-given_all w [] i = i

@@ -11,9 +11,9 @@ use Rattle.sdd_store.specs.declared.standing.Standing.{Standing}
 use Rattle.sdd_store.specs.declared.standing.Standing.TheVariants.{Owned, Raw, Shared, Retired, Private as privately}
 use Rattle.sdd_store.specs.declared.standing.Cell.{Cell}
 use Rattle.sdd_base.specs.World.{World, place_at, standing_at, value_at}
-use Rattle.sdd_base.specs.Steps.{made_as, with_standing, retired, nulled, with_cell, without_cell, cell_closed, given, given_all, held_in, freed, taken_out, waiting_value, reclaimed, all_reclaimed, opened, changed, spilled}
+use Rattle.sdd_base.specs.Steps.{made_as, with_standing, retired, nulled, with_cell, without_cell, cell_closed, given, given_all, held_in, freed, vacated, with_value, dropped, taken_out, waiting_value, reclaimed, all_reclaimed, opened, changed, spilled}
 use Rattle.sdd_base.specs.Steps as steps
-use Rattle.sdd_base.specs.Holding.{Holding, owned, shared, atomic_owned, atomic_shared}
+use Rattle.sdd_base.specs.Holding.{Holding, owned, shared, atomic_owned, atomic_shared, atomic_raw}
 use Rattle.sdd_base.specs.Out.{is_out, out, HoldsNothing, IsNullCell, IsOut, AreOut, OutLaws}
 use Rattle.sdd_core.specs.declared.tag.Tag.TheVariants.{None as no_tag}
 use Rattle.sdd_base.proofs.Whole.{one_where, below-or-past}
@@ -66,6 +66,12 @@ module _ {T : Type 0} where
       let was : one_where (is_out (standing_at w k)) ≡ 1 = rw is refl in
       omega (arith, set-out w k (Some (Shared m)) (in_range w.standings k (Shared n) is), was)
 
+  out-restands : (w : World T) (k : ℕ) (s : Standing) → is_out (standing_at w k) ≡ true → is_out (Some s) ≡ true → out (with_standing w k s) ≡ out w
+  out-restands w k s is now =
+      let was : one_where (is_out (standing_at w k)) ≡ 1 = rw is refl in
+      let one : one_where (is_out (Some s)) ≡ 1 = rw now refl in
+      omega (arith, set-out w k (Some s) (out-inside w.standings k is), was, one)
+
   out-made_as : (w : World T) (k : ℕ) (v : T) (s : Standing) → is_out (Some s) ≡ true → IsEmptyAt w.standings k → out (made_as w k v s) ≡ out w + 1
   out-made_as w k v s is empty =
       let was : one_where (is_out (standing_at w k)) ≡ 0 = rw empty.1 refl in
@@ -92,6 +98,7 @@ module _ {T : Type 0} where
   out-given w p (shared k home) is = rw is (out-retired w p k (ap is_out is))
   out-given w p (atomic_owned c home) is = out-cell_closed w p c is
   out-given w p (atomic_shared c home) is = out-cell_closed w p c is
+  out-given w p (atomic_raw c home) is = out-cell_closed w p c is
 
   out-given_all : (w : World T) (p : ℕ) (hs : List Holding) → AreOut w p hs → out (given_all w p hs) + length hs ≡ out w
   out-given_all w p [] are = omega arith
@@ -167,6 +174,19 @@ module _ {T : Type 0} where
     opened-same w h (inl c) = ap (λ (u : World T). out u) c.nests ∙ h
     opened-same w h (inr c) = ap (λ (u : World T). out u) c.change ∙ all-same (due_next (place_at (steps.nested w p) p)) (steps.rotated (steps.nested w p) p) h
 
+  -- an item is dropped in its place
+  out-vacated : (w : World T) (k : ℕ) → is_out (standing_at w k) ≡ true → out (vacated w k) + 1 ≡ out w
+  out-vacated w k is =
+      let was : one_where (is_out (standing_at w k)) ≡ 1 = rw is refl in
+      omega (arith, set-out w k None (out-inside w.standings k is), was)
+
+  out-dropped : (holds : T → List Holding) (w : World T) (p k : ℕ) (value : T) → is_out (standing_at w k) ≡ true → value_at w k ≡ Some value →
+      AreOut (vacated w k) p (holds value) → out (dropped holds w p k) + length (holds value) + 1 ≡ out w
+  out-dropped holds w p k value is there are =
+      let left = out-given_all (vacated w k) p (holds value) are in
+      let one = out-vacated w k is in
+      rw there (omega (arith, left, one))
+
   nulled-more : (w : World T) (c : ℕ) → IsEmptyAt w.cells c → out (nulled w c) ≡ out w + 1
   nulled-more w c empty =
       let was : one_where (is_some (entry_at w.cells c)) ≡ 0 = rw empty.1 refl in
@@ -178,12 +198,16 @@ module _ {T : Type 0} where
         making = λ k v empty. out-made_as w k v Owned refl empty;
         making_shared = λ k v empty. out-made_as w k v (Shared 1) refl empty;
         sharing = out-shared w;
+        restanding = out-restands w;
         retiring = out-retired w;
         nulling = nulled-more w;
         filling = out-filled w;
+        repointing = λ c pointer. refl;
         freeing = out-cell_freed w;
         closing = out-cell_closed w;
         giving = out-given_all w;
+        dropping = out-dropped holds w;
+        editing = λ k v. refl;
         ending = λ p. refl;
         opening = λ p l. opened-at-most holds (out w) p w (omega arith) (how holds w p l);
         opening_plain = λ plain p l. opened-same holds plain (out w) p w refl (how holds w p l);

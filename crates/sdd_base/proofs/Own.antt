@@ -10,11 +10,11 @@ use Rattle.sdd_store.specs.Time as time
 use Rattle.sdd_store.specs.Table.{entry_at, without_entry}
 use Rattle.sdd_store.specs.declared.time.Participant.{Participant}
 use Rattle.sdd_store.specs.declared.standing.Standing.{Standing}
-use Rattle.sdd_base.specs.World.{World, standing_at, place_at}
+use Rattle.sdd_base.specs.World.{World, standing_at, value_at, place_at}
 use Rattle.sdd_base.specs.Own.{all_awaiting, GrowsOn, changed_at, opened_at}
-use Rattle.sdd_base.specs.Steps.{retired, spilled, cell_closed, held_in, owner_given, given, given_all, freed, taken_out, waiting_value, slot_reclaimed, reclaimed, all_reclaimed, changed, opened, caught_up}
+use Rattle.sdd_base.specs.Steps.{retired, spilled, cell_closed, held_in, owner_given, given, given_all, freed, vacated, dropped_out, dropped, taken_out, waiting_value, slot_reclaimed, reclaimed, all_reclaimed, changed, opened, caught_up}
 use Rattle.sdd_base.specs.Steps as steps
-use Rattle.sdd_base.specs.Holding.{Holding, owned, shared, atomic_owned, atomic_shared}
+use Rattle.sdd_base.specs.Holding.{Holding, owned, shared, atomic_owned, atomic_shared, atomic_raw}
 use Rattle.sdd_base.proofs.Standings.{owner-given}
 
 all_awaiting-append : (ks js : List ℕ) (x : Participant) → all_awaiting (ks ++ js) x ≡ all_awaiting js (all_awaiting ks x)
@@ -84,6 +84,7 @@ module _ {T : Type 0} where
   Gives-given w p (shared k home) l = Gives-owner_given w p k (standing_at w k) refl
   Gives-given w p (atomic_owned c home) l = Gives-cell_closed w p c l
   Gives-given w p (atomic_shared c home) l = Gives-cell_closed w p c l
+  Gives-given w p (atomic_raw c home) l = Gives-cell_closed w p c l
 
   Gives-given_all : (w : World T) (p : ℕ) (hs : List Holding) → p < length w.time.places → Gives p w (given_all w p hs)
   Gives-given_all w p [] l = Gives-nothing refl
@@ -95,6 +96,13 @@ module _ {T : Type 0} where
     Gives-taken_out : (w : World T) (p k : ℕ) → p < length w.time.places → (value : Option T) → Gives p w (taken_out holds w p k value)
     Gives-taken_out w p k l None = Gives-nothing refl
     Gives-taken_out w p k l (Some value) = Gives-trans l (Gives-nothing refl) (Gives-given_all (freed w k) p (holds value) l)
+
+    Gives-dropped_out : (w : World T) (p k : ℕ) → p < length w.time.places → (value : Option T) → Gives p w (dropped_out holds w p k value)
+    Gives-dropped_out w p k l None = Gives-nothing refl
+    Gives-dropped_out w p k l (Some value) = Gives-trans l (Gives-nothing refl) (Gives-given_all (vacated w k) p (holds value) l)
+
+    pub Gives-dropped : (w : World T) (p k : ℕ) → p < length w.time.places → Gives p w (dropped holds w p k)
+    Gives-dropped w p k l = Gives-dropped_out w p k l (value_at w k)
 
     pub Gives-reclaimed : (w : World T) (p : ℕ) (x : What) → p < length w.time.places → Gives p w (reclaimed holds w p x)
     Gives-reclaimed w p (Item k) l = Gives-taken_out w p k l (waiting_value w k (standing_at w k))

@@ -17,7 +17,8 @@ use Rattle.sdd_base.specs.Out.{is_out}
 use Rattle.sdd_base.proofs.Out.{out-laws}
 use Rattle.sdd_base.proofs.Own.{Gives-all_reclaimed}
 use Rattle.sdd_base.proofs.Opening.{how, Nests, IsChange, keeps-given_all, in_before}
-use Rattle.sdd_base.proofs.Four.{whichever, open-inside, all-closed, not-guarded, still-closed, still-lives, still-place, ready-live}
+use Rattle.sdd_base.proofs.Guarded.{whichever, open-inside}
+use Rattle.sdd_base.proofs.Four.{all-closed, not-guarded, still-closed, still-lives, still-place, ready-live}
 use Rattle.std.proofs.lemmas.Bool.Decides.{nat_tests}
 use Rattle.sdd_base.proofs.Housed.{each-place}
 use Rattle.std.proofs.Math.ListN.{get_or-append}

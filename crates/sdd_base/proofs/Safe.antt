@@ -10,7 +10,7 @@ use Rattle.sdd_store.specs.Time.{nobody, due_next, is_open}
 use Rattle.sdd_store.specs.Time as time
 use Rattle.sdd_store.specs.declared.time.Participant.{Participant}
 use Rattle.sdd_store.specs.declared.standing.Standing.{Standing}
-use Rattle.sdd_store.specs.declared.standing.Standing.TheVariants.{Shared, Retired}
+use Rattle.sdd_store.specs.declared.standing.Standing.TheVariants.{Owned, Raw, Shared, Retired}
 use Rattle.sdd_slots.specs.Slots.{is_waiting}
 use Rattle.sdd_base.specs.World.{World, standing_at, place_at}
 use Rattle.sdd_base.specs.Steps.{with_standing, retired, owner_given, cell_closed, freed, taken_out, waiting_value, reclaimed, all_reclaimed, changed, opened, reclaims}
@@ -21,8 +21,9 @@ use Rattle.sdd_base.specs.Left.{Waits}
 use Rattle.sdd_base.specs.Out.{is_out}
 use Rattle.sdd_base.specs.Under.{IsUnder, IsSafe}
 use Rattle.sdd_base.specs.Calls.{Calls}
-use Rattle.sdd_base.specs.Calls.Calls.{registers, ends, opens, closes, stirs, accelerates, makes, shares, retires, releases, changes_cells, closes_cell}
+use Rattle.sdd_base.specs.Calls.Calls.{registers, ends, opens, closes, stirs, accelerates, makes, shares, retires, releases, edits, drops, puts_out_raw, takes_back_raw, changes_cells, closes_cell, changes_pointers}
 use Rattle.sdd_base.proofs.Whole.{count-cons, times_among, times-aged}
+use Rattle.sdd_base.proofs.Guarded.{guarded}
 use Rattle.sdd_base.proofs.Standings.{out-waits-not, out-inside, out-apart}
 use Rattle.sdd_base.proofs.Weights.{in_range}
 use Rattle.sdd_base.proofs.Entries.{one-place}
@@ -141,6 +142,12 @@ module _ {T : Type 0} (q k : ℕ) where
     pub opens-keeps : (w : World T) → q < length w.time.places → IsWhole w → is_out (standing_at w k) ≡ true → IsOutOrFresh (opened holds w q)
     opens-keeps w l i out = opens-if w l i out (how holds w q l)
 
+-- an item that is out stands otherwise, and is out
+restands-out : {T : Type 0} (k : ℕ) (w : World T) (j : ℕ) (s : Standing) → is_out (standing_at w j) ≡ true → is_out (Some s) ≡ true →
+    is_out (standing_at w k) ≡ true → (k ≡ j) ⊎ (k ≢ j) → is_out (standing_at (with_standing w j s) k) ≡ true
+restands-out k w j s was now out (inl e) = rw e (ap is_out (get_or-set_same w.standings j (Some s) None (out-inside w.standings j was)) ∙ now)
+restands-out k w j s was now out (inr apart) = ap is_out (get_or-set_other w.standings j k (Some s) None apart) ∙ out
+
 module _ {T : Type 0} (p k : ℕ) where
   safe-or : {q : ℕ} (w : World T) → IsTrue (is_open (place_at w p)) → IsOutOrFresh q k w → IsSafe w p k
   safe-or w o (l, inl out) = record { guarded = o; stays = inl out }
@@ -154,27 +161,33 @@ module _ {T : Type 0} (p k : ℕ) where
 
   module _ (holds : T → List Holding) where
     -- what is out stays out, or waits with whom it was given up to
-    out-call : {v w : World T} → Calls holds v w → IsWhole v → is_out (standing_at v k) ≡ true → IsTrue (is_open (place_at w p)) → IsSafe w p k
-    out-call (registers v r vacant) i out o = safe-out o out
-    out-call (ends v r l shut) i out o = safe-out o out
-    out-call (opens v r l) i out o = safe-or (opened holds v r) o (opens-keeps r k holds v l.0 i out)
-    out-call (closes v r l) i out o = safe-out o out
-    out-call (stirs v r l) i out o = safe-out o out
-    out-call (accelerates v r l) i out o = safe-out o out
-    out-call (makes v j value s first empty) i out o =
+    out-call : {v w : World T} → Calls holds v w → IsWhole v → IsTrue (is_open (place_at v p)) → is_out (standing_at v k) ≡ true →
+        IsTrue (is_open (place_at w p)) → IsSafe w p k
+    out-call (registers v r vacant) i on out o = safe-out o out
+    out-call (ends v r l shut) i on out o = safe-out o out
+    out-call (opens v r l) i on out o = safe-or (opened holds v r) o (opens-keeps r k holds v l.0 i out)
+    out-call (closes v r l) i on out o = safe-out o out
+    out-call (stirs v r l) i on out o = safe-out o out
+    out-call (accelerates v r l) i on out o = safe-out o out
+    out-call (makes v j value s first empty) i on out o =
         let apart : k ≢ j = λ e. out-apart v.standings k j out (ap is_out empty.1) (sym e) in
         safe-out o (ap is_out (get_or-set_other v.standings j k (Some s) None apart) ∙ out)
-    out-call (shares v j n is) i out o = safe-out o (shares-out 0 k v j n (n + 1) is out (same-or-not k j))
-    out-call (retires v r j l there) i out o = safe-or (retired v r j) o (retires-keeps r k v j (ap is_out there) (l.0, inl out))
-    out-call (releases v r j n l is) i out o =
+    out-call (shares v j n is) i on out o = safe-out o (shares-out 0 k v j n (n + 1) is out (same-or-not k j))
+    out-call (retires v r j l there) i on out o = safe-or (retired v r j) o (retires-keeps r k v j (ap is_out there) (l.0, inl out))
+    out-call (releases v r j n l is) i on out o =
         safe-or (owner_given v r j (Some (Shared n))) o (gives-keeps r k v j (Some (Shared n)) is (l.0, inl out))
-    out-call (changes_cells v cells same) i out o = safe-out o out
-    out-call (closes_cell v r c l) i out o = safe-or (cell_closed v r c) o (closes_cell-keeps r k v c (l.0, inl out))
+    out-call (edits v j value may) i on out o = absurd (may.quiet (guarded v p on))
+    out-call (drops v r j l may) i on out o = absurd (may.quiet (guarded v p on))
+    out-call (puts_out_raw v j is) i on out o = safe-out o (restands-out k v j Raw (ap is_out is) refl out (same-or-not k j))
+    out-call (takes_back_raw v j is) i on out o = safe-out o (restands-out k v j Owned (ap is_out is) refl out (same-or-not k j))
+    out-call (changes_cells v cells same) i on out o = safe-out o out
+    out-call (closes_cell v r c l) i on out o = safe-or (cell_closed v r c) o (closes_cell-keeps r k v c (l.0, inl out))
+    out-call (changes_pointers v pointers same) i on out o = safe-out o out
 
     -- each call keeps safe what was, where the guard is open afterwards
     pub safe-call : {v w : World T} → Calls holds v w → IsWhole v → IsSafe v p k → IsTrue (is_open (place_at w p)) → IsSafe w p k
     safe-call call i safe o = elim safe.stays [
-      | inl out ↦ out-call call i out o
+      | inl out ↦ out-call call i safe.guarded out o
       | inr under ↦ record { guarded = o; stays = inr (one-call holds p k call i under o).1.0 }
     ]
 

@@ -1,5 +1,5 @@
 -- How an item stands that is out, and what an owner that is given makes of it
-use Rattle.std.proofs.Common.{◌≡◌, ◌≢◌, ℕ, ◌<◌, List, [], ◌∷◌, length, Bool, refl, sym, ap, ◌∙◌, arith, true, false, nat_lt, Some, None, Option, zero, suc, slice_index_or}
+use Rattle.std.proofs.Common.{◌≡◌, ◌≢◌, inl, inr, ℕ, ◌<◌, List, [], ◌∷◌, length, Bool, refl, sym, ap, ◌∙◌, arith, true, false, nat_lt, Some, None, Option, zero, suc, slice_index_or}
 use Rattle.std.specs.Prelude.{◌-◌, is_some}
 use Rattle.std.proofs.lemmas.Bool.Decides.{nat_tests}
 use Rattle.sdd_store.specs.declared.standing.Standing.{Standing}
@@ -7,6 +7,7 @@ use Rattle.sdd_store.specs.declared.standing.Standing.TheVariants.{Owned, Raw, S
 use Rattle.sdd_slots.specs.Slots.{is_waiting}
 use Rattle.sdd_base.specs.World.{World, standing_at}
 use Rattle.sdd_base.specs.Steps.{retired, with_standing, owner_given}
+use Rattle.sdd_base.specs.InPlace.{IsAlone}
 use Rattle.sdd_base.specs.Out.{is_out}
 
 -- what is out is there, and waits not
@@ -29,6 +30,11 @@ waits-out-not (Some Raw) waits = absurd (cc)
 waits-out-not (Some (Shared n)) waits = absurd (cc)
 waits-out-not (Some Retired) waits = refl
 waits-out-not (Some (privately c)) waits = refl
+
+-- what has one owner is out
+pub alone-out : (s : Option Standing) → IsAlone s → is_out s ≡ true
+alone-out s (inl e) = ap is_out e
+alone-out s (inr e) = ap is_out e
 
 pub out-inside : (ss : List (Option Standing)) (k : ℕ) → is_out (slice_index_or ss k None) ≡ true → k < length ss
 out-inside [] k out = absurd (cc)

@@ -11,7 +11,7 @@ use Rattle.sdd_store.specs.Phases.{is_ended}
 use Rattle.sdd_store.specs.Time as time
 use Rattle.sdd_store.specs.declared.time.Participant.{Participant}
 use Rattle.sdd_store.specs.declared.standing.Standing.{Standing}
-use Rattle.sdd_store.specs.declared.standing.Standing.TheVariants.{Shared, Retired}
+use Rattle.sdd_store.specs.declared.standing.Standing.TheVariants.{Owned, Raw, Shared, Retired}
 use Rattle.sdd_base.specs.World.{World, standing_at, value_at, place_at, IsPlaceOf}
 use Rattle.sdd_base.specs.Steps.{made_as, with_standing, retired, owner_given, cell_closed, opened, closed, registered, ended, reclaims}
 use Rattle.sdd_base.specs.Holding.{Holding}
@@ -21,13 +21,14 @@ use Rattle.sdd_base.specs.Left.{Waits}
 use Rattle.sdd_base.specs.Out.{is_out}
 use Rattle.sdd_base.specs.Under.{more, IsUnder, CallsUnder, KeepsUnderGuards, KeepsFreshUnderGuards}
 use Rattle.sdd_base.specs.Calls.{Calls}
-use Rattle.sdd_base.specs.Calls.Calls.{registers, ends, opens, closes, stirs, accelerates, makes, shares, retires, releases, changes_cells, closes_cell}
+use Rattle.sdd_base.specs.Calls.Calls.{registers, ends, opens, closes, stirs, accelerates, makes, shares, retires, releases, edits, drops, puts_out_raw, takes_back_raw, changes_cells, closes_cell, changes_pointers}
 use Rattle.sdd_base.specs.Under.CallsUnder.{none, more_calls}
 use Rattle.sdd_base.proofs.Own.{Gives, Gives-owner_given, Gives-cell_closed}
 use Rattle.sdd_base.proofs.Own as own
+use Rattle.sdd_base.proofs.Guarded.{guarded}
 use Rattle.sdd_base.proofs.Standings.{out-inside, out-apart}
 use Rattle.sdd_base.proofs.Whole.{times_among}
-use Rattle.sdd_base.proofs.Housed.{Whole-opened, Whole-closed, Whole-stirred, Whole-accelerated, Whole-made_as, Whole-shared, Whole-retires, Whole-owner_given, Whole-cells, Whole-cell_closed, Whole-registered, Whole-ended, IsTaken, live-taken, registered-keeps, waits-taken, guard-taken}
+use Rattle.sdd_base.proofs.Housed.{Whole-opened, Whole-closed, Whole-stirred, Whole-accelerated, Whole-made_as, Whole-shared, Whole-restands, Whole-retires, Whole-owner_given, Whole-cells, Whole-pointers, Whole-cell_closed, Whole-registered, Whole-ended, IsTaken, live-taken, registered-keeps, waits-taken, guard-taken}
 use Rattle.sdd_base.proofs.Closes.{how-closed}
 use Rattle.sdd_store.proofs.Adopting.{same-or-not}
 use Rattle.sdd_base.proofs.Opening.{how, Nests, IsChange, Stands, opened-stays, opened-other, shared-apart, owner_given-stands, closed-stands, all_awaiting-waiting}
@@ -235,6 +236,14 @@ module _ {T : Type 0} where
         λ q. Persists-same (place_at v q) (place_at w q) (ap (λ (t : Time). time.place_at t q) e) in
         kept v w p k u o s (at p) (at u.holder)
 
+    -- another item that is out stands otherwise
+    under-restands : (v : World T) (p k j : ℕ) (s : Standing) → is_out (standing_at v j) ≡ true → (u : IsUnder v p k) →
+        IsTrue (is_open (place_at (with_standing v j s) p)) → KeptUnder v (with_standing v j s) p k
+    under-restands v p k j s out u o =
+        let apart : k ≢ j = out-apart v.standings j k out (ap is_out u.standing) in
+        under-still v (with_standing v j s) p k u refl
+        (record { standing = get_or-set_other v.standings j k (Some s) None apart ∙ u.standing; value = refl }) o
+
     -- what is under a guard is among nobody's due
     pub under-not-due : (w : World T) (p k r : ℕ) → r < length w.time.places → IsWhole w → (u : IsUnder w p k) → times_among k (reclaims w r) ≡ 0
     under-not-due w p k r l i u = elim (how holds w r l) [
@@ -284,12 +293,22 @@ module _ {T : Type 0} where
         (Whole-retires v r j (live-taken v.time r l) (ap is_out there) i, under-retires v p k r j l.0 (ap is_out there) u o)
     one-call p k (releases v r j n l is) i u o =
         (Whole-owner_given v r j (live-taken v.time r l) (Some (Shared n)) is i, under-owner_given v p k r j l.0 (Some (Shared n)) is u o)
+    one-call p k (edits v j value may) i u o = absurd (may.quiet (guarded v p u.guarded))
+    one-call p k (drops v r j l may) i u o = absurd (may.quiet (guarded v p u.guarded))
+    one-call p k (puts_out_raw v j is) i u o =
+        (Whole-restands v j Raw (ap is_out is) refl i, under-restands v p k j Raw (ap is_out is) u o)
+    one-call p k (takes_back_raw v j is) i u o =
+        (Whole-restands v j Owned (ap is_out is) refl i, under-restands v p k j Owned (ap is_out is) u o)
     one-call p k (changes_cells v cells same) i u o =
         (Whole-cells v cells i, under-still v (record v { cells = cells }) p k u refl (record { standing = u.standing; value = refl }) o)
     one-call p k (closes_cell v r c l) i u o = (
       Whole-cell_closed v r c l i,
       under-gives v (cell_closed v r c) p k r l.0 (Gives-cell_closed v r c l.0) u
           (closed-stands r k (Some Retired) (value_at v k) refl v c (record { standing = u.standing; value = refl })) o,
+    )
+    one-call p k (changes_pointers v pointers same) i u o = (
+      Whole-pointers v pointers i,
+      under-still v (record v { pointers = pointers }) p k u refl (record { standing = u.standing; value = refl }) o,
     )
 
     all-calls : (p k : ℕ) {v w : World T} → CallsUnder holds p v w → IsWhole v → IsUnder v p k → IsWhole w × KeptUnder v w p k

@@ -15,9 +15,10 @@ use Rattle.sdd_store.specs.declared.time.Participant.{Participant}
 use Rattle.sdd_store.specs.declared.standing.Standing.{Standing}
 use Rattle.sdd_store.specs.declared.standing.Standing.TheVariants.{Shared, Retired}
 use Rattle.sdd_store.specs.declared.standing.Cell.{Cell}
-use Rattle.sdd_base.specs.World.{World, KeepsSizes, weight, is_loose, standing_at, place_at}
-use Rattle.sdd_base.specs.Steps.{made_as, with_standing, retired, spilled, cell_closed, held_in, owner_given, given, given_all, freed, taken_out, waiting_value, slot_reclaimed, all_reclaimed}
-use Rattle.sdd_base.specs.Holding.{Holding, owned, shared, atomic_owned, atomic_shared}
+use Rattle.sdd_store.specs.declared.standing.Pointer.{Pointer}
+use Rattle.sdd_base.specs.World.{World, KeepsSizes, weight, is_loose, standing_at, value_at, place_at}
+use Rattle.sdd_base.specs.Steps.{made_as, with_standing, retired, spilled, cell_closed, held_in, owner_given, given, given_all, freed, vacated, dropped_out, dropped, taken_out, waiting_value, slot_reclaimed, all_reclaimed}
+use Rattle.sdd_base.specs.Holding.{Holding, owned, shared, atomic_owned, atomic_shared, atomic_raw}
 use Rattle.sdd_base.specs.Out.{is_out}
 use Rattle.sdd_base.specs.Calls.{IsFirst}
 use Rattle.sdd_base.proofs.Standings.{out-waits-not, out-inside, owner-given}
@@ -82,6 +83,21 @@ SameSize-shared w k n m is =
       room_same = refl;
     }
 
+-- an item that is out stands otherwise, and is out
+pub SameSize-restands : {T : Type 0} (w : World T) (k : ℕ) (s : Standing) → is_out (standing_at w k) ≡ true → is_out (Some s) ≡ true →
+    SameSize w (with_standing w k s)
+SameSize-restands w k s was now =
+    record {
+      weight_same = ap (λ (n : ℕ). sum_by waiting_count w.time.places + n)
+          (stands-weight w k s (out-inside w.standings k was) (out-loose (Some s) now ∙ sym (out-loose (standing_at w k) was)));
+      places_same = refl;
+      phases_same = refl;
+      slots_same = length-set w.standings k (Some s);
+      home_same = refl;
+      nesting_same = refl;
+      room_same = refl;
+    }
+
 -- a new item is loose, as a free slot is
 first-loose : (s : Standing) → IsFirst s → is_loose (Some s) ≡ true
 first-loose s (inl e) = rw e refl
@@ -103,6 +119,10 @@ SameSize-made_as w k v s first empty =
 -- the cells weigh nothing
 pub SameSize-cells : {T : Type 0} (w : World T) (cells : Entries Cell) → SameSize w (record w { cells = cells })
 SameSize-cells w cells =
+    record { weight_same = refl; places_same = refl; phases_same = refl; slots_same = refl; home_same = refl; nesting_same = refl; room_same = refl }
+
+pub SameSize-pointers : {T : Type 0} (w : World T) (pointers : List Pointer) → SameSize w (record w { pointers = pointers })
+SameSize-pointers w pointers =
     record { weight_same = refl; places_same = refl; phases_same = refl; slots_same = refl; home_same = refl; nesting_same = refl; room_same = refl }
 
 pub SameSize-refl : {T : Type 0} (w : World T) → SameSize w w
@@ -142,12 +162,39 @@ SameSize-given w p (owned k home) l = SameSize-owner_given w p k l (standing_at 
 SameSize-given w p (shared k home) l = SameSize-owner_given w p k l (standing_at w k) refl
 SameSize-given w p (atomic_owned c home) l = SameSize-cell_closed w p c l
 SameSize-given w p (atomic_shared c home) l = SameSize-cell_closed w p c l
+SameSize-given w p (atomic_raw c home) l = SameSize-cell_closed w p c l
 
 pub SameSize-given_all : {T : Type 0} (w : World T) (p : ℕ) (hs : List Holding) → p < length w.time.places → SameSize w (given_all w p hs)
 SameSize-given_all w p [] l = SameSize-refl w
 SameSize-given_all w p (h ∷ hs) l =
     let one = SameSize-given w p h l in
     SameSize-trans one (SameSize-given_all (given w p h) p hs (omega (arith, one.places_same)))
+
+-- a free slot is as loose as one whose item is out
+pub SameSize-vacated : {T : Type 0} (w : World T) (k : ℕ) → is_out (standing_at w k) ≡ true → SameSize w (vacated w k)
+SameSize-vacated w k out =
+    let all = sum_by-set loose_weight w.standings k None None (out-inside w.standings k out) in
+    let was : loose_weight (standing_at w k) ≡ 1 = rw (out-loose (standing_at w k) out) refl in
+    record {
+      weight_same = omega (arith, all, was);
+      places_same = refl;
+      phases_same = refl;
+      slots_same = length-set w.standings k None;
+      home_same = refl;
+      nesting_same = refl;
+      room_same = refl;
+    }
+
+-- an item is dropped in its place
+SameSize-dropped_out : {T : Type 0} (holds : T → List Holding) (w : World T) (p k : ℕ) → p < length w.time.places → is_out (standing_at w k) ≡ true →
+    (value : Option T) → SameSize w (dropped_out holds w p k value)
+SameSize-dropped_out holds w p k l out None = SameSize-refl w
+SameSize-dropped_out holds w p k l out (Some value) =
+    SameSize-trans (SameSize-vacated w k out) (SameSize-given_all (vacated w k) p (holds value) l)
+
+pub SameSize-dropped : {T : Type 0} (holds : T → List Holding) (w : World T) (p k : ℕ) → p < length w.time.places → is_out (standing_at w k) ≡ true →
+    SameSize w (dropped holds w p k)
+SameSize-dropped holds w p k l out = SameSize-dropped_out holds w p k l out (value_at w k)
 
 -- at most one slot more is loose
 pub record FreesOne {T : Type 0} (old new : World T) : Type 0 where

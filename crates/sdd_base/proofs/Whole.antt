@@ -15,18 +15,19 @@ use Rattle.sdd_store.specs.Bags.{Bags}
 use Rattle.sdd_store.specs.Time.{Time, with_place, nobody, newcomer, due_next, is_open, passes, last_count, stirred, counted_down, pace_of, rested, IsLive}
 use Rattle.sdd_store.specs.Time as time
 use Rattle.sdd_store.specs.Table.{Entries, entry_at, without_entry}
-use Rattle.sdd_store.specs.Tally.{one_made, one_reclaimed}
+use Rattle.sdd_store.specs.Tally.{one_in_place, one_made, one_reclaimed}
 use Rattle.sdd_store.specs.declared.tally.Tally.{Tally}
 use Rattle.sdd_store.specs.declared.time.Participant.{Participant}
 use Rattle.sdd_store.specs.declared.time.Pace.{Pace}
 use Rattle.sdd_store.specs.declared.standing.Standing.{Standing}
 use Rattle.sdd_store.specs.declared.standing.Standing.TheVariants.{Owned, Raw, Shared, Retired, Private as privately}
 use Rattle.sdd_store.specs.declared.standing.Cell.{Cell}
+use Rattle.sdd_store.specs.declared.standing.Pointer.{Pointer}
 use Rattle.sdd_slots.specs.Slots.{is_waiting, IsWaiting}
 use Rattle.sdd_base.specs.World.{World, standing_at, value_at, place_at}
-use Rattle.sdd_base.specs.Steps.{made_as, with_standing, retired, spilled, cell_closed, held_in, owner_given, given, given_all, freed, taken_out, waiting_value, slot_reclaimed, reclaimed, all_reclaimed, changed}
+use Rattle.sdd_base.specs.Steps.{made_as, with_standing, retired, spilled, cell_closed, held_in, owner_given, given, given_all, freed, vacated, dropped_out, dropped, with_value, taken_out, waiting_value, slot_reclaimed, reclaimed, all_reclaimed, changed}
 use Rattle.sdd_base.specs.Steps as steps
-use Rattle.sdd_base.specs.Holding.{Holding, owned, shared, atomic_owned, atomic_shared}
+use Rattle.sdd_base.specs.Holding.{Holding, owned, shared, atomic_owned, atomic_shared, atomic_raw}
 use Rattle.sdd_base.specs.Out.{is_out}
 use Rattle.sdd_base.specs.Whole.{is_of_slot, times_with, once_if, times_waiting, taken, IsAbreast, IsCounted}
 use Rattle.sdd_base.specs.Own.{all_awaiting}
@@ -179,6 +180,9 @@ waits-inside (s ∷ ss) (suc k) h = omega (arith, waits-inside ss k h)
 
 one-reclaimed : (t : Tally) (n m : ℕ) → m + 1 ≡ n → IsCounted t n → IsCounted (one_reclaimed t) m
 one-reclaimed t n m e c = λ room. let all = c room in omega (arith, all, e, room)
+
+one-in_place : (t : Tally) (n m : ℕ) → m + 1 ≡ n → IsCounted t n → IsCounted (one_in_place t) m
+one-in_place t n m e c = λ room. let all = c room in omega (arith, all, e, room)
 
 pub all_awaiting-guards : (ks : List ℕ) (x : Participant) → (all_awaiting ks x).guards ≡ x.guards
 all_awaiting-guards [] x = refl
@@ -374,6 +378,28 @@ module _ {T : Type 0} where
         counted = rw same i.counted;
       }
 
+  -- an item that is out stands otherwise, and is out
+  restands-once : (w : World T) (k j : ℕ) (s : Standing) → is_waiting (standing_at w k) ≡ false → is_waiting (Some s) ≡ false → HasItems w →
+      ((j ≡ k) × (standing_at (with_standing w k s) j ≡ Some s)) ⊎ ((j ≢ k) × (standing_at (with_standing w k s) j ≡ standing_at w j)) →
+      times_waiting w j ≡ once_if (is_waiting (standing_at (with_standing w k s) j))
+  restands-once w k j s was now i (inl (e, is)) = rw (is, now) (i.once j ∙ rw (e, was) refl)
+  restands-once w k j s was now i (inr (apart, is)) = rw is (i.once j)
+
+  pub Items-restands : (w : World T) (k : ℕ) (s : Standing) → is_out (standing_at w k) ≡ true → is_out (Some s) ≡ true → HasItems w →
+      HasItems (with_standing w k s)
+  Items-restands w k s was now i =
+      let inside : k < length w.standings = out-inside w.standings k was in
+      let some = out-some (standing_at w k) was in
+      let same : taken (with_standing w k s) ≡ taken w =
+      let c = set-taken w k (Some s) inside in let o : one_where (is_some (standing_at w k)) ≡ 1 = rw some refl in omega (arith, c, o) in
+      record {
+        filled = same-filled w k (Some s) i.filled (sym some);
+        once = λ j. restands-once w k j s (out-waits-not (standing_at w k) was) (out-waits-not (Some s) now) i
+            (set-standing w.standings k j (Some s) inside (same-or-not j k));
+        abreast = i.abreast;
+        counted = rw same i.counted;
+      }
+
   Whole-owner_given : (w : World T) (p k : ℕ) (xs : List What) (s : Option Standing) → p < length w.time.places → standing_at w k ≡ s → IsWholeBut xs w →
       IsWholeBut xs (owner_given w p k s)
   Whole-owner_given w p k xs s l is i =
@@ -394,6 +420,7 @@ module _ {T : Type 0} where
   Whole-given w p (shared k home) xs l i = Whole-owner_given w p k xs (standing_at w k) l refl i
   Whole-given w p (atomic_owned c home) xs l i = Whole-cell_closed-but w p c xs l i
   Whole-given w p (atomic_shared c home) xs l i = Whole-cell_closed-but w p c xs l i
+  Whole-given w p (atomic_raw c home) xs l i = Whole-cell_closed-but w p c xs l i
 
   Whole-given_all : (w : World T) (p : ℕ) (hs : List Holding) (xs : List What) → p < length w.time.places → IsWholeBut xs w → IsWholeBut xs (given_all w p hs)
   Whole-given_all w p [] xs l i = i
@@ -425,7 +452,34 @@ module _ {T : Type 0} where
         counted = one-reclaimed w.tally (taken w) (taken (freed w k)) fewer i.counted;
       }
 
+  -- a slot whose item was out is free
+  vacated-once : (w : World T) (k j : ℕ) (xs : List What) → is_waiting (standing_at w k) ≡ false → IsWholeBut xs w →
+      ((j ≡ k) × (standing_at (vacated w k) j ≡ None)) ⊎ ((j ≢ k) × (standing_at (vacated w k) j ≡ standing_at w j)) →
+      times_waiting w j + times_among j xs ≡ once_if (is_waiting (standing_at (vacated w k) j))
+  vacated-once w k j xs idle i (inl (e, s)) = rw s (i.once j ∙ rw (e, idle) refl)
+  vacated-once w k j xs idle i (inr (apart, s)) = rw s (i.once j)
+
+  Whole-vacated : (w : World T) (k : ℕ) (xs : List What) → is_out (standing_at w k) ≡ true → IsWholeBut xs w → IsWholeBut xs (vacated w k)
+  Whole-vacated w k xs out i =
+      let inside : k < length w.standings = out-inside w.standings k out in
+      let one : one_where (is_some (standing_at w k)) ≡ 1 = rw (out-some (standing_at w k) out) refl in
+      let fewer : taken (vacated w k) + 1 ≡ taken w = omega (arith, set-taken w k None inside, one) in
+      record {
+        filled = set-filled w k None None i.filled refl;
+        once = λ j. vacated-once w k j xs (out-waits-not (standing_at w k) out) i (set-standing w.standings k j None inside (same-or-not j k));
+        abreast = i.abreast;
+        counted = one-in_place w.tally (taken w) (taken (vacated w k)) fewer i.counted;
+      }
+
   module _ (holds : T → List Holding) where
+    Whole-dropped_out : (w : World T) (p k : ℕ) (xs : List What) → p < length w.time.places → is_out (standing_at w k) ≡ true → IsWholeBut xs w →
+        (v : Option T) → IsWholeBut xs (dropped_out holds w p k v)
+    Whole-dropped_out w p k xs l out i None = i
+    Whole-dropped_out w p k xs l out i (Some v) = Whole-given_all (vacated w k) p (holds v) xs l (Whole-vacated w k xs out i)
+
+    pub Items-dropped : (w : World T) (p k : ℕ) → p < length w.time.places → is_out (standing_at w k) ≡ true → HasItems w → HasItems (dropped holds w p k)
+    Items-dropped w p k l out i = whole-of (dropped holds w p k) (Whole-dropped_out w p k [] l out (whole-but-nothing w i) (value_at w k))
+
     Whole-value : (w : World T) (p k : ℕ) (x : What) (xs : List What) → p < length w.time.places → ((j : ℕ) → is_of_slot j x ≡ (k == j)) →
         is_waiting (standing_at w k) ≡ true →
         IsWholeBut (x ∷ xs) w → (v : Option T) → is_some v ≡ true → IsWholeBut xs (taken_out holds w p k v)
@@ -570,8 +624,20 @@ module _ {T : Type 0} where
       HasItems (owner_given w p k s)
   Items-owner_given w p k l s is i = whole-of (owner_given w p k s) (Whole-owner_given w p k [] s l is (whole-but-nothing w i))
 
+  -- an item has another value
+  pub Items-with_value : (w : World T) (k : ℕ) (v : T) → is_out (standing_at w k) ≡ true → HasItems w → HasItems (with_value w k v)
+  Items-with_value w k v out i = record {
+    filled = map-set_same is_some w.values k (Some v) None (sym (filled-there w k i.filled ∙ out-some (standing_at w k) out)) ∙ i.filled;
+    once = i.once;
+    abreast = i.abreast;
+    counted = i.counted;
+  }
+
   pub Items-cells : (w : World T) (cells : Entries Cell) → HasItems w → HasItems (record w { cells = cells })
   Items-cells w cells i = record { filled = i.filled; once = i.once; abreast = i.abreast; counted = i.counted }
+
+  pub Items-pointers : (w : World T) (pointers : List Pointer) → HasItems w → HasItems (record w { pointers = pointers })
+  Items-pointers w pointers i = record { filled = i.filled; once = i.once; abreast = i.abreast; counted = i.counted }
 
   pub Items-stirred : (w : World T) (p : ℕ) → p < length w.time.places → HasItems w → HasItems (steps.stirred w p)
   Items-stirred w p l i =

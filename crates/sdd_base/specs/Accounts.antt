@@ -3,7 +3,7 @@ use Rattle.std.specs.Prelude.{ℕ, ◌+◌, ◌≡◌, ◌==◌, Bool, false, ma
 use Rattle.sdd_store.specs.declared.standing.Standing.{Standing}
 use Rattle.sdd_store.specs.declared.standing.Standing.TheVariants.{Owned, Raw, Shared, Retired, Private as privately}
 use Rattle.sdd_store.specs.declared.standing.Cell.{Cell}
-use Rattle.sdd_base.specs.Holding.{Holding, owned, shared, atomic_owned, atomic_shared}
+use Rattle.sdd_base.specs.Holding.{Holding, owned, shared, atomic_owned, atomic_shared, atomic_raw}
 use Rattle.sdd_base.specs.World.{World, standing_at}
 use Rattle.sdd_base.specs.Steps.{held_in}
 
@@ -22,6 +22,7 @@ is_owner_of k (owned j home) = j == k
 is_owner_of k (shared j home) = j == k
 is_owner_of k (atomic_owned c home) = false
 is_owner_of k (atomic_shared c home) = false
+is_owner_of k (atomic_raw c home) = false
 
 -- what a cell holds is the slot's item
 abbrev pub is_of : ℕ → Option ℕ → Bool

@@ -14,6 +14,7 @@ pub data Holding : Type 0 where
   shared : (slot : ℕ) (home : token.Home) → Holding
   atomic_owned : (cell : ℕ) (home : token.Home) → Holding
   atomic_shared : (cell : ℕ) (home : token.Home) → Holding
+  atomic_raw : (cell : ℕ) (home : token.Home) → Holding
 
 -- it is of this home
 abbrev pub IsOf : Home → Holding → Type 0
@@ -21,6 +22,7 @@ IsOf home (owned slot h) = h ≡ home.slots
 IsOf home (shared slot h) = h ≡ home.slots
 IsOf home (atomic_owned cell h) = h ≡ home.cells
 IsOf home (atomic_shared cell h) = h ≡ home.cells
+IsOf home (atomic_raw cell h) = h ≡ home.cells
 
 -- each of them is
 abbrev pub AreOf : Home → List Holding → Type 0

@@ -2,6 +2,7 @@ pub mod Holding
 pub mod World
 pub mod Seat
 pub mod Steps
+pub mod InPlace
 pub mod Own
 pub mod Known
 pub mod Ptr
@@ -9,6 +10,7 @@ pub mod Guard
 pub mod Owned
 pub mod Shared
 pub mod RawPtr
+pub mod RawCell
 pub mod Limits
 pub mod Lending
 pub mod Whole

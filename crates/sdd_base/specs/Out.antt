@@ -5,9 +5,10 @@ use Rattle.sdd_base.specs.Whole.{taken}
 use Rattle.sdd_store.specs.declared.standing.Standing.{Standing}
 use Rattle.sdd_store.specs.declared.standing.Standing.TheVariants.{Owned, Raw, Shared, Retired, Private}
 use Rattle.sdd_store.specs.declared.standing.Cell.{Cell}
-use Rattle.sdd_base.specs.Holding.{Holding, owned, shared, atomic_owned, atomic_shared}
-use Rattle.sdd_base.specs.World.{World, HasPlace, standing_at}
-use Rattle.sdd_base.specs.Steps.{made, made_shared, with_standing, retired, nulled, with_cell, without_cell, cell_closed, opened, given, given_all, ended}
+use Rattle.sdd_store.specs.declared.standing.Pointer.{Pointer}
+use Rattle.sdd_base.specs.Holding.{Holding, owned, shared, atomic_owned, atomic_shared, atomic_raw}
+use Rattle.sdd_base.specs.World.{World, HasPlace, standing_at, value_at}
+use Rattle.sdd_base.specs.Steps.{made, made_shared, with_standing, with_value, vacated, dropped, retired, nulled, with_cell, with_pointer, without_cell, cell_closed, opened, given, given_all, ended}
 
 -- the slot's item has an owner, or is out as raw
 abbrev pub is_out : Option Standing → Bool
@@ -37,6 +38,7 @@ module _ {T : Type 0} where
   IsOut w (shared k home) = standing_at w k ≡ Some (Shared 1)
   IsOut w (atomic_owned c home) = IsNullCell w c
   IsOut w (atomic_shared c home) = IsNullCell w c
+  IsOut w (atomic_raw c home) = IsNullCell w c
 
   -- each is, when p is given it after those before it
   abbrev pub AreOut : World T → ℕ → List Holding → Type 0
@@ -49,13 +51,20 @@ pub record OutLaws {T : Type 0} (holds : T → List Holding) (w : World T) : Typ
   pub making_shared : (k : ℕ) (value : T) → IsEmptyAt w.standings k → out (made_shared w k value) ≡ out w + 1
   -- one owner more or fewer, of several
   pub sharing : (k n m : ℕ) → standing_at w k ≡ Some (Shared n) → out (with_standing w k (Shared m)) ≡ out w
+  -- an item that is out otherwise, as owned or as raw
+  pub restanding : (k : ℕ) (s : Standing) → IsTrue (is_out (standing_at w k)) → IsTrue (is_out (Some s)) → out (with_standing w k s) ≡ out w
   pub retiring : (p k : ℕ) → IsTrue (is_out (standing_at w k)) → out (retired w p k) + 1 ≡ out w
   pub nulling : (c : ℕ) → IsEmptyAt w.cells c → out (nulled w c) ≡ out w + 1
   pub filling : (c : ℕ) (cell : Cell) → IsSome (entry_at w.cells c) → out (with_cell w c cell) ≡ out w
+  pub repointing : (c : ℕ) (pointer : Pointer) → out (with_pointer w c pointer) ≡ out w
   pub freeing : (c : ℕ) → IsSome (entry_at w.cells c) → out (without_cell w c) + 1 ≡ out w
   pub closing : (p c : ℕ) → IsNullCell w c → out (cell_closed w p c) + 1 ≡ out w
   -- what a value gives up takes away what it holds
   pub giving : (p : ℕ) (hs : List Holding) → AreOut w p hs → out (given_all w p hs) + length hs ≡ out w
+  -- an item that is dropped in its place is one, and what its value held more
+  pub dropping : (p k : ℕ) (value : T) → IsTrue (is_out (standing_at w k)) → value_at w k ≡ Some value → AreOut (vacated w k) p (holds value) →
+      out (dropped holds w p k) + length (holds value) + 1 ≡ out w
+  pub editing : (k : ℕ) (value : T) → out (with_value w k value) ≡ out w
   pub ending : (p : ℕ) → out (ended w p) ≡ out w
   -- no opening puts anything out
   pub opening : (p : ℕ) → HasPlace w p → out (opened holds w p) ≤ out w

@@ -1,5 +1,5 @@
 -- What a pointer names, and shows
-use Rattle.std.specs.Prelude.{ℕ, ◌≡◌, ◌==◌, Bool, Option, None, Some, if◌then◌else◌}
+use Rattle.std.specs.Prelude.{ℕ, ◌≡◌, ◌≢◌, ◌==◌, Bool, Option, None, Some, if◌then◌else◌}
 use Rattle.std.specs.Option.{option_eq}
 use Rattle.std.specs.Ordering.{on, eq_of_both}
 use Rattle.sdd_core.specs.declared.tag.Tag.{Tag}
@@ -39,3 +39,7 @@ module _ {T : Type 0} where
   -- each slot that showed a value shows it still
   abbrev pub KeepsShown : (ℕ → T → Type 0) → (ℕ → T → Type 0) → Type 0
   KeepsShown shown shown_after = (k : ℕ) (value : T) → shown k value → shown_after k value
+
+  -- each other slot does
+  abbrev pub KeepsOthers : ℕ → (ℕ → T → Type 0) → (ℕ → T → Type 0) → Type 0
+  KeepsOthers changed shown shown_after = (k : ℕ) (value : T) → k ≢ changed → shown k value → shown_after k value

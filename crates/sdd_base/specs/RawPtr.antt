@@ -5,6 +5,7 @@ use Rattle.std.specs.Ordering.{on, eq_of_both}
 use Rattle.sdd_core.specs.declared.tag.Tag.{Tag}
 use Rattle.sdd_core.specs.Tag.{number_of}
 use Rattle.sdd_store.specs.declared.standing.Cell.{Cell}
+use Rattle.sdd_store.specs.declared.standing.Pointer.{Pointer}
 use Rattle.sdd_base.specs.declared.raw_ptr.RawPtr.{RawPtr}
 
 module _ {T : Type 0} where
@@ -18,6 +19,10 @@ module _ {T : Type 0} where
   -- what a cell holds that it stands for
   abbrev pub cell_seen : RawPtr T → Cell
   cell_seen p = record { held = slot_named p; tag = tag_of p }
+
+  -- what a raw cell has that points to it
+  abbrev pub pointer_of : RawPtr T → Pointer
+  pointer_of p = record { named = slot_named p; tag = tag_of p }
 
   -- a pointer is null whatever its tag
   abbrev pub IsNull : RawPtr T → Type 0

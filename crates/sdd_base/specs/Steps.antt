@@ -5,11 +5,12 @@ use Rattle.sdd_store.specs.Waiting.{What}
 use Rattle.sdd_store.specs.Waiting.What.{Item, Private, Job}
 use Rattle.sdd_store.specs.Time as time
 use Rattle.sdd_store.specs.Table.{entry_at, with_entry, without_entry}
-use Rattle.sdd_store.specs.Tally.{one_made, one_reclaimed}
+use Rattle.sdd_store.specs.Tally.{one_in_place, one_made, one_reclaimed}
 use Rattle.sdd_store.specs.declared.standing.Standing.{Standing}
 use Rattle.sdd_store.specs.declared.standing.Standing.TheVariants.{Owned, Raw, Shared, Retired, Private as privately}
 use Rattle.sdd_store.specs.declared.standing.Cell.{Cell}
-use Rattle.sdd_base.specs.Holding.{Holding, owned, shared, atomic_owned, atomic_shared}
+use Rattle.sdd_store.specs.declared.standing.Pointer.{Pointer}
+use Rattle.sdd_base.specs.Holding.{Holding, owned, shared, atomic_owned, atomic_shared, atomic_raw}
 use Rattle.sdd_base.specs.World.{World, place_at, standing_at, value_at}
 
 -- what a cell holds, if one is there
@@ -35,6 +36,10 @@ module _ {T : Type 0} where
   abbrev pub with_standing : World T → ℕ → Standing → World T
   with_standing w k s = record w { standings = with_entry w.standings k s }
 
+  -- the item in the slot has another value
+  abbrev pub with_value : World T → ℕ → T → World T
+  with_value w k value = record w { values = slice_set w.values k (Some value) }
+
   -- the item in the slot waits with p
   abbrev pub retired : World T → ℕ → ℕ → World T
   retired w p k = record w { time = time.awaiting_at w.time p (Item k); standings = with_entry w.standings k Retired }
@@ -46,6 +51,14 @@ module _ {T : Type 0} where
   -- some cell that was free holds nothing
   abbrev pub nulled : World T → ℕ → World T
   nulled w c = with_cell w c (record { held = None; tag = no_tag })
+
+  -- a raw cell points to this
+  abbrev pub with_pointer : World T → ℕ → Pointer → World T
+  with_pointer w c pointer = record w { pointers = slice_set w.pointers c pointer }
+
+  -- some cell that was free is a raw cell, which holds nothing and points to this
+  abbrev pub pointing : World T → ℕ → Pointer → World T
+  pointing w c pointer = with_pointer (nulled w c) c pointer
 
   -- the cell is free
   abbrev pub without_cell : World T → ℕ → World T
@@ -75,6 +88,7 @@ module _ {T : Type 0} where
   given w p (shared k home) = owner_given w p k (standing_at w k)
   given w p (atomic_owned c home) = cell_closed w p c
   given w p (atomic_shared c home) = cell_closed w p c
+  given w p (atomic_raw c home) = cell_closed w p c
 
   abbrev pub given_all : World T → ℕ → List Holding → World T
   given_all w p [] = w
@@ -93,6 +107,10 @@ module _ {T : Type 0} where
   abbrev pub freed : World T → ℕ → World T
   freed w k = record w { standings = without_entry w.standings k; values = slice_set w.values k None; tally = one_reclaimed w.tally }
 
+  -- the slot is free, and one item more was dropped in its place
+  abbrev pub vacated : World T → ℕ → World T
+  vacated w k = record w { standings = without_entry w.standings k; values = slice_set w.values k None; tally = one_in_place w.tally }
+
   -- what waits with p has seen one change more, and what has seen three is taken out
   abbrev pub rotated : World T → ℕ → World T
   rotated w p = record w { time = time.rotated_at w.time p }
@@ -110,6 +128,15 @@ module _ {T : Type 0} where
     abbrev pub taken_out : World T → ℕ → ℕ → Option T → World T
     taken_out w p k None = w
     taken_out w p k (Some value) = given_all (freed w k) p (holds value)
+
+    -- the value is dropped in its place, and gives up to p what it holds
+    abbrev pub dropped_out : World T → ℕ → ℕ → Option T → World T
+    dropped_out w p k None = w
+    dropped_out w p k (Some value) = given_all (vacated w k) p (holds value)
+
+    -- the item in the slot is dropped in its place
+    abbrev pub dropped : World T → ℕ → ℕ → World T
+    dropped w p k = dropped_out w p k (value_at w k)
 
     abbrev pub slot_reclaimed : World T → ℕ → ℕ → World T
     slot_reclaimed w p k = taken_out w p k (waiting_value w k (standing_at w k))

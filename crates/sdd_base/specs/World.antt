@@ -1,14 +1,16 @@
 -- A world as clauses see it
-use Rattle.std.specs.Prelude.{ℕ, Any, IsTrue, ◌+◌, ◌≤◌, ◌<◌, ◌≡◌, Bool, true, false, List, [], length, Option, None, sum_by, count_by, slice_index_or, replicate}
+use Rattle.std.specs.Prelude.{ℕ, Any, IsTrue, ◌+◌, ◌≤◌, ◌<◌, ◌≡◌, Bool, true, false, List, [], length, Option, None, sum_by, count_by, slice_get, slice_index_or, replicate}
 use Rattle.sdd_store.specs.Time.{Time, lives, waiting_count}
 use Rattle.sdd_store.specs.Time as time
 use Rattle.sdd_store.specs.Table.{Entries, entry_at}
 use Rattle.sdd_store.specs.declared.standing.Standing.{Standing}
 use Rattle.sdd_store.specs.declared.standing.Cell.{Cell}
+use Rattle.sdd_store.specs.declared.standing.Pointer.{Pointer}
 use Rattle.sdd_store.specs.declared.tally.Tally.{Tally}
 use Rattle.sdd_store.specs.Tally.{no_items}
 use Rattle.sdd_store.specs.declared.time.Participant.{Participant}
 use Rattle.sdd_slots.specs.Slots.{is_waiting}
+use Rattle.sdd_slots.specs.Cells.{null_pointer}
 use Rattle.sdd_base.specs.Holding.{Home}
 use Rattle.sdd_base.specs.declared.limits.Limits.{Limits}
 
@@ -18,6 +20,8 @@ pub record World (T : Type 0) : Type 0 where
   pub standings : Entries Standing
   pub values : List (Option T)
   pub cells : Entries Cell
+  -- of each number of a cell what the raw cell that has it points to, or the last one that had it
+  pub pointers : List Pointer
   pub tally : Tally
 
 module _ {T : Type 0} where
@@ -30,12 +34,17 @@ module _ {T : Type 0} where
   abbrev pub value_at : World T → ℕ → Option T
   value_at w k = slice_index_or w.values k None
 
+  -- what the raw cell of this number points to
+  abbrev pub pointer_at : World T → ℕ → Option Pointer
+  pointer_at w c = slice_get w.pointers c
+
   -- a world without items: time is so, and there are that many slots and cells, all free
   pub record IsBlank (t : Time) (slot_count cell_count : ℕ) (w : World T) : Type 0 where
     pub time : w.time ≡ t
     pub standings : w.standings ≡ replicate slot_count None
     pub values : w.values ≡ replicate slot_count None
     pub cells : w.cells ≡ replicate cell_count None
+    pub pointers : w.pointers ≡ replicate cell_count null_pointer
     pub tally : w.tally ≡ no_items
 
   -- a world without participants and items, at this count and with these limits

@@ -9,6 +9,7 @@ ghost use Rattle.sdd_base.specs.Guard.{reader_of, Reader};
 ghost use Rattle.sdd_core.specs.declared.tag.Tag.TheVariants.{None as no_tag};
 
 use crate::atomic_owned::AtomicOwned;
+use crate::atomic_raw::AtomicRaw;
 use crate::atomic_shared::AtomicShared;
 use crate::guard::Guard;
 use crate::owned::Owned;
@@ -17,8 +18,8 @@ use crate::raw_ptr::RawPtr;
 use crate::shared::Shared;
 use sdd_core::Tag;
 use sdd_places::{Stage, Tenure};
-use sdd_store::Cell;
-use sdd_token::{Kind, Right};
+use sdd_store::{Cell, Pointer};
+use sdd_token::{Kind, RawRight, Right};
 
 /// The owner whose right this is.
 pub fn owner_of<T>(right: Right) -> Owned<T>
@@ -50,6 +51,14 @@ pub fn right_of_shared<T>(owner: Shared<T>) -> Right
     ensures kind { kind_of result ≡ Kind.Shared }
 {
     owner.into_right()
+}
+
+/// The same right, for as long as the owner is borrowed.
+pub fn right_in_shared<T>(owner: &Shared<T>) -> &Right
+    ensures right { result.now ≡ shared.right_of owner.now }
+    ensures kind { kind_of result.now ≡ Kind.Shared }
+{
+    owner.right()
 }
 
 /// The cell whose right this is.
@@ -162,4 +171,32 @@ pub fn tenure_of(guard: &Guard) -> &Tenure
     ensures single { result.now.units ≡ 1 }
 {
     guard.part()
+}
+
+/// The raw cell whose right this is.
+pub fn raw_cell_with<T>(right: RawRight) -> AtomicRaw<T>
+    ensures { result.right ≡ right }
+{
+    AtomicRaw::of_right(right)
+}
+
+/// The right of a raw cell.
+pub fn right_of_raw_cell<T>(cell: AtomicRaw<T>) -> RawRight
+    ensures { result ≡ cell.right }
+{
+    cell.into_right()
+}
+
+/// The pointer that a raw cell has.
+pub fn raw_ptr_of<T>(pointer: Pointer) -> RawPtr<T>
+    ensures { raw.pointer_of result ≡ pointer }
+{
+    RawPtr::of_pointer(pointer)
+}
+
+/// What a raw cell has that points to the same.
+pub fn pointer_of_raw<T>(ptr: &RawPtr<T>) -> Pointer
+    ensures { result ≡ raw.pointer_of ptr.now }
+{
+    ptr.pointer()
 }

@@ -8,8 +8,10 @@ ghost use Rattle.sdd_base.specs.Own.{GrowsOn};
 ghost use Rattle.sdd_base.specs.Steps.{given, given_all};
 ghost use Rattle.sdd_base.specs.Owned.{slots_home, cells_home, holding_of, cell_holding};
 ghost use Rattle.sdd_base.specs.Shared as shared;
+ghost use Rattle.sdd_base.specs.RawCell as raw_cell;
 
 use crate::atomic_owned::AtomicOwned;
+use crate::atomic_raw::AtomicRaw;
 use crate::atomic_shared::AtomicShared;
 use crate::owned::Owned;
 use crate::shared::Shared;
@@ -60,6 +62,15 @@ pub trait Giver<I> {
         ensures own { GrowsOn (own self.old) (own self.new) }
         ensures lending { lending self.new ≡ lending self.old }
         ensures exact { IsExact (seat self.old) → world self.new ≡ given (world self.old) (seat self.old).place (shared.cell_holding cell) };
+
+    /// Frees the cell.
+    fn atomic_raw(&mut self, cell: AtomicRaw<I>)
+        requires seated { IsSeated (seat self.old) }
+        requires home { raw_cell.cells_home cell ≡ (seat self.old).home.cells }
+        ensures seat { seat self.new ≡ seat self.old }
+        ensures own { GrowsOn (own self.old) (own self.new) }
+        ensures lending { lending self.new ≡ lending self.old }
+        ensures exact { IsExact (seat self.old) → world self.new ≡ given (world self.old) (seat self.old).place (raw_cell.cell_holding cell) };
 }
 
 /// A value that may hold owners and cells of a space of items `I`.

@@ -1,13 +1,15 @@
 //! Laws of every space, as functions that callers can cite by calling them.
 ghost use Rattle.std.specs.Prelude.{◌≡◌, ◌⊎◌, IsTrue};
 ghost use Rattle.sdd_core.specs.Epoch.{epoch_after};
-ghost use Rattle.sdd_base.specs.Seat.{IsSeated};
+ghost use Rattle.sdd_base.specs.Seat.{IsSeated, IsExact};
 ghost use Rattle.sdd_base.specs.Known.{KnowsOn};
+ghost use Rattle.sdd_base.specs.Owned.{slot_of, slots_home};
 ghost use Rattle.sdd_store.specs.Time.{is_open};
 
 use crate::guard::Guard;
 use crate::item::Item;
-use crate::space::Guards;
+use crate::owned::Owned;
+use crate::space::{Guards, Space};
 use sdd_core::Epoch;
 
 /// The epoch, asked twice under one open guard: the second answer is the first one or its `next`.
@@ -22,4 +24,21 @@ pub fn epoch_moves_by_one<T: Item<T>, S: Guards<T>>(guard: &Guard, s: &mut S) ->
     let first = guard.epoch::<T, S>(s);
     let second = guard.epoch::<T, S>(s);
     (first, second)
+}
+
+/// An owner whose item goes raw and comes back owns the same item, and all else is as before.
+pub fn comes_back<T: Item<T>, S: Space<T>>(owner: Owned<T>, s: &mut S) -> Owned<T>
+    requires seated { IsSeated (S.seat s.old) }
+    requires home { slots_home owner ≡ (S.seat s.old).home.slots }
+    requires exact { IsExact (S.seat s.old) }
+    ensures seat { S.seat s.new ≡ S.seat s.old }
+    ensures home { slots_home result ≡ (S.seat s.new).home.slots }
+    ensures same { slot_of result ≡ slot_of owner }
+    ensures world { S.world s.new ≡ S.world s.old }
+{
+    let ptr = owner.into_raw(s);
+    let Some(owner) = Owned::from_raw(ptr, s) else {
+        unreachable!()
+    };
+    owner
 }

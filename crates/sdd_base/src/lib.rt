@@ -3,6 +3,7 @@
 #![tactic(auto)]
 
 pub mod atomic_owned;
+pub mod atomic_raw;
 pub mod atomic_shared;
 pub mod guard;
 pub mod inner;
@@ -17,6 +18,7 @@ pub mod shared;
 pub mod space;
 
 pub use atomic_owned::{AtomicOwned, OwnedPtrPair};
+pub use atomic_raw::AtomicRaw;
 pub use atomic_shared::{AtomicShared, SharedPtrPair};
 pub use guard::Guard;
 pub use item::{Giver, Item};

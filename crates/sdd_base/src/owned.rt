@@ -1,14 +1,17 @@
-ghost use Rattle.std.specs.Prelude.{◌≡◌, IfOk, IfSome, IsSome, MatchResult, Some, None, option_map};
+ghost use Rattle.std.specs.Fn.{FnOnceReturnsAtMut};
+ghost use Rattle.std.specs.Prelude.{◌≡◌, ◌≢◌, IfErr, IfOk, IfSome, IsSome, MatchOption, MatchResult, Some, None, option_map};
 ghost use Rattle.sdd_token.specs.Right.{kind_of};
 ghost use Rattle.sdd_base.specs.Holding.{AreOf};
-ghost use Rattle.sdd_base.specs.World.{World, standing_at};
+ghost use Rattle.sdd_base.specs.World.{World, IsGuarded, standing_at, value_at};
 ghost use Rattle.sdd_base.specs.Seat.{IsSeated, IsExact};
 ghost use Rattle.sdd_base.specs.Known.{KnowsOn};
-ghost use Rattle.sdd_base.specs.Steps.{made, retired};
-ghost use Rattle.sdd_base.specs.Owned.{right_of, slot_of, slots_home};
+ghost use Rattle.sdd_base.specs.Own.{GrowsOn};
+ghost use Rattle.sdd_base.specs.Steps.{made, retired, with_standing, with_value, dropped};
+ghost use Rattle.sdd_base.specs.Owned.{right_of, slot_of, slots_home, IsOfSlots};
 ghost use Rattle.sdd_core.specs.declared.tag.Tag.TheVariants.{None as no_tag};
-ghost use Rattle.sdd_base.specs.Ptr.{slot_named, shown_by, tag_of, KeepsShown};
+ghost use Rattle.sdd_base.specs.Ptr.{slot_named, shown_by, tag_of, KeepsOthers, KeepsShown};
 ghost use Rattle.sdd_base.specs.Guard.{reader_of};
+ghost use Rattle.sdd_base.specs.RawPtr as raw;
 ghost use Rattle.sdd_store.specs.Table.{IsEmptyAt, IsFull};
 ghost use Rattle.sdd_store.specs.Time as time;
 ghost use Rattle.sdd_store.specs.Waiting.What.{Item};
@@ -17,8 +20,9 @@ use crate::guard::Guard;
 use crate::item::Item;
 use crate::look::Look;
 use crate::ptr::Ptr;
+use crate::raw_ptr::RawPtr;
 use crate::space::Space;
-use sdd_core::Refused;
+use sdd_core::{Refused, Tag};
 use sdd_store::Standing;
 use sdd_token::{Kind, Right, Sole};
 use std::marker::PhantomData;
@@ -186,5 +190,94 @@ impl<T: Item<T>> Owned<T> {
         ensures keeps { KeepsShown (S.shows s.old) (S.shows s.new) }
     {
         let _ = s.let_go(self.into_right(), Kind::Owned);
+    }
+
+    /// Changes the value by `f`, where no guard of any participant is open.
+    ///
+    /// `GuardOpen` where one is: `f` comes back uncalled. A `&mut` to the value can't be answered, since what a value holds has to stay of this
+    /// world or domain.
+    pub fn get_mut<R, F: FnOnce(&mut T) -> R, S: Space<T>>(
+        &mut self,
+        f: F,
+        s: &mut S,
+    ) -> Result<R, (F, Refused)>
+        requires seated { IsSeated (S.seat s.old) }
+        requires home { slots_home self.old ≡ (S.seat s.old).home.slots }
+        requires callable { F.IsAlwaysCallable f }
+        requires held { (was now : T) (r : R) → FnOnceReturnsAtMut F.FnOnce f was r now →
+            AreOf (S.seat s.old).home (T.holds was) → AreOf (S.seat s.old).home (T.holds now) }
+        ensures same { self.new ≡ self.old }
+        ensures seat { S.seat s.new ≡ S.seat s.old }
+        ensures own { S.own s.new ≡ S.own s.old }
+        ensures known { KnowsOn (S.known s.old) (S.known s.new) }
+        ensures back { IfErr result (λ e. e.0 ≡ f) }
+        ensures shown { IfOk result (λ r. (was : T) × (now : T) × S.shows s.old (slot_of self.old) was × FnOnceReturnsAtMut F.FnOnce f was r now ×
+            S.shows s.new (slot_of self.old) now) }
+        ensures exact { IsExact (S.seat s.old) → MatchResult result
+            (λ r. ¬ (IsGuarded (S.world s.old)) ×
+            ((was : T) × (now : T) × (value_at (S.world s.old) (slot_of self.old) ≡ Some was) × FnOnceReturnsAtMut F.FnOnce f was r now ×
+            (S.world s.new ≡ with_value (S.world s.old) (slot_of self.old) now)))
+            (λ e. IsGuarded (S.world s.old) × (e.1 ≡ Refused.GuardOpen) × (S.world s.new ≡ S.world s.old)) }
+        ensures keeps { MatchResult result (λ _. KeepsOthers (slot_of self.old) (S.shows s.old) (S.shows s.new))
+            (λ _. KeepsShown (S.shows s.old) (S.shows s.new)) }
+    {
+        s.edit(self.right(), Kind::Owned, f)
+    }
+
+    /// Drops the item in its place, where no guard of any participant is open: its value gives up at once what it holds, and its slot is free.
+    ///
+    /// `GuardOpen` where one is: the owner comes back.
+    pub fn drop_in_place<S: Space<T>>(self, s: &mut S) -> Result<(), (Owned<T>, Refused)>
+        requires seated { IsSeated (S.seat s.old) }
+        requires home { slots_home self ≡ (S.seat s.old).home.slots }
+        ensures seat { S.seat s.new ≡ S.seat s.old }
+        ensures own { GrowsOn (S.own s.old) (S.own s.new) }
+        ensures known { KnowsOn (S.known s.old) (S.known s.new) }
+        ensures back { IfErr result (λ e. right_of e.0 ≡ right_of self) }
+        ensures exact { IsExact (S.seat s.old) → MatchResult result
+            (λ _. ¬ (IsGuarded (S.world s.old)) × (S.world s.new ≡ dropped T.holds (S.world s.old) (S.seat s.old).place (slot_of self)))
+            (λ e. IsGuarded (S.world s.old) × (e.1 ≡ Refused.GuardOpen) × (S.world s.new ≡ S.world s.old)) }
+        ensures keeps { MatchResult result (λ _. KeepsOthers (slot_of self) (S.shows s.old) (S.shows s.new))
+            (λ _. KeepsShown (S.shows s.old) (S.shows s.new)) }
+    {
+        match s.drop_in_place(self.into_right(), Kind::Owned) {
+            Ok(_) => Ok(()),
+            Err((right, refused)) => Err((Owned::of_right(right), refused)),
+        }
+    }
+
+    /// Puts the item out as raw: nobody owns it, until `from_raw` makes an owner of a pointer to it again.
+    pub fn into_raw<S: Space<T>>(self, s: &mut S) -> RawPtr<T>
+        requires seated { IsSeated (S.seat s.old) }
+        requires home { slots_home self ≡ (S.seat s.old).home.slots }
+        ensures seat { S.seat s.new ≡ S.seat s.old }
+        ensures own { S.own s.new ≡ S.own s.old }
+        ensures known { KnowsOn (S.known s.old) (S.known s.new) }
+        ensures slot { raw.slot_named result ≡ Some (slot_of self) }
+        ensures tag { raw.tag_of result ≡ no_tag }
+        ensures owned { IsExact (S.seat s.old) → standing_at (S.world s.old) (slot_of self) ≡ Some Standing.Owned }
+        ensures exact { IsExact (S.seat s.old) → S.world s.new ≡ with_standing (S.world s.old) (slot_of self) Standing.Raw }
+        ensures keeps { KeepsShown (S.shows s.old) (S.shows s.new) }
+    {
+        let slot = s.put_out_raw(self.into_right());
+        RawPtr::of(Some(slot), Tag::None)
+    }
+
+    /// The owner of an item that is out as raw: none for null, and for a slot whose item isn't out as raw. The pointer's tag is ignored.
+    pub fn from_raw<S: Space<T>>(ptr: RawPtr<T>, s: &mut S) -> Option<Owned<T>>
+        requires seated { IsSeated (S.seat s.old) }
+        ensures seat { S.seat s.new ≡ S.seat s.old }
+        ensures own { S.own s.new ≡ S.own s.old }
+        ensures known { KnowsOn (S.known s.old) (S.known s.new) }
+        ensures home { IsOfSlots (S.seat s.old).home.slots result }
+        ensures slot { IfSome result (λ owner. raw.slot_named ptr ≡ Some (slot_of owner)) }
+        ensures exact { IsExact (S.seat s.old) → MatchOption result
+            (IfSome (raw.slot_named ptr) (λ slot. standing_at (S.world s.old) slot ≢ Some Standing.Raw) × (S.world s.new ≡ S.world s.old))
+            (λ owner. (standing_at (S.world s.old) (slot_of owner) ≡ Some Standing.Raw) ×
+            (S.world s.new ≡ with_standing (S.world s.old) (slot_of owner) Standing.Owned)) }
+        ensures keeps { KeepsShown (S.shows s.old) (S.shows s.new) }
+    {
+        let slot = ptr.slot()?;
+        Owned::of_held(s.take_back_raw(slot))
     }
 }

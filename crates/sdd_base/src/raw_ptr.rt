@@ -1,6 +1,11 @@
 ghost use Rattle.std.specs.Prelude.{◌≡◌, ◌↔◌, IsTrue};
 
+use crate::guard::Guard;
+use crate::item::Item;
+use crate::ptr::Ptr;
+use crate::space::Space;
 use sdd_core::Tag;
+use sdd_store::Pointer;
 use std::alloc::AllocError;
 use std::fmt::{self, Debug, Formatter};
 use std::marker::PhantomData;
@@ -67,7 +72,7 @@ impl<T> Eq for RawPtr<T> {
 impl<T> RawPtr<T> {
     ghost use Rattle.std.specs.Prelude.{◌≡◌, ◌↔◌, Option, None, Some, IsTrue};
     ghost use Rattle.sdd_core.specs.declared.tag.Tag.TheVariants.{None as no_tag};
-    ghost use Rattle.sdd_base.specs.RawPtr.{slot_named, tag_of, IsNull};
+    ghost use Rattle.sdd_base.specs.RawPtr.{slot_named, pointer_of, tag_of, IsNull};
 
     /// The null pointer, without a tag.
     pub fn null() -> RawPtr<T>
@@ -93,6 +98,23 @@ impl<T> RawPtr<T> {
         ensures { result ≡ slot_named self.now }
     {
         if self.named { Some(self.slot) } else { None }
+    }
+
+    /// The pointer that a raw cell has.
+    pub(crate) fn of_pointer(pointer: Pointer) -> RawPtr<T>
+        ensures { pointer_of result ≡ pointer }
+    {
+        RawPtr::of(pointer.named, pointer.tag)
+    }
+
+    /// What a raw cell has that points to the same.
+    pub(crate) fn pointer(&self) -> Pointer
+        ensures { result ≡ pointer_of self.now }
+    {
+        Pointer {
+            named: self.slot(),
+            tag: self.tag,
+        }
     }
 
     /// Null, whatever the tag is.
@@ -145,6 +167,39 @@ impl<T> RawPtr<T> {
         ensures slot { slot_named result ≡ slot_named self }
     {
         self.with_tag(Tag::None)
+    }
+}
+
+impl<T: Item<T>> RawPtr<T> {
+    ghost use Rattle.std.specs.Prelude.{◌≡◌, ◌↔◌, IfSome, IsSome, Some};
+    ghost use Rattle.sdd_store.specs.declared.standing.Standing.TheVariants.{Raw};
+    ghost use Rattle.sdd_base.specs.World.{World, standing_at};
+    ghost use Rattle.sdd_base.specs.Seat.{IsSeated, IsExact};
+    ghost use Rattle.sdd_base.specs.Known.{KnowsOn};
+    ghost use Rattle.sdd_base.specs.Guard.{reader_of};
+    ghost use Rattle.sdd_base.specs.RawPtr.{slot_named, cell_seen};
+    ghost use Rattle.sdd_base.specs.Ptr.{KeepsShown, IsShown};
+    ghost use Rattle.sdd_base.specs.Ptr as guarded;
+
+    /// A pointer to the item, with the same tag, where it is out as raw; it shows its value for as long as the guard is borrowed, whatever becomes of the
+    /// item. A null pointer is one to nothing. None for a slot whose item isn't out as raw. The guard is one of the participant that calls.
+    pub fn into_ptr<'g, S: Space<T>>(self, s: &mut S, guard: &'g Guard) -> Option<Ptr<'g, T>>
+        requires seated { IsSeated (S.seat s.old) }
+        requires reader { reader_of guard.now ≡ (S.seat s.old).reader }
+        ensures seat { S.seat s.new ≡ S.seat s.old }
+        ensures own { S.own s.new ≡ S.own s.old }
+        ensures known { KnowsOn (S.known s.old) (S.known s.new) }
+        ensures same { IfSome result (λ ptr. guarded.cell_seen ptr ≡ cell_seen self) }
+        ensures shown { IfSome result (λ ptr. IsShown (S.shows s.new) ptr) }
+        ensures exact { IsExact (S.seat s.old) →
+            (IsSome result ↔ IfSome (slot_named self) (λ slot. standing_at (S.world s.old) slot ≡ Some Raw)) × (S.world s.new ≡ S.world s.old) }
+        ensures keeps { KeepsShown (S.shows s.old) (S.shows s.new) }
+    {
+        let Some(slot) = self.slot() else {
+            return Some(Ptr::null().with_tag(self.tag));
+        };
+        let value = s.guarded_raw(slot, guard)?;
+        Some(Ptr::to(slot, value).with_tag(self.tag))
     }
 }
 

@@ -1,13 +1,15 @@
-ghost use Rattle.std.specs.Prelude.{ℕ, ◌≡◌, ◌+◌, ◌^◌, ◌<◌, ◌↔◌, IfOk, IfSome, IsSome, IsTrue, MatchResult, Some, None, option_map, if◌then◌else◌};
+ghost use Rattle.std.specs.Fn.{FnOnceReturnsAtMut};
+ghost use Rattle.std.specs.Prelude.{ℕ, ◌≡◌, ◌+◌, ◌^◌, ◌<◌, ◌↔◌, ◌⊎◌, ◌-◌, IfErr, IfOk, IfSome, IsSome, IsTrue, MatchBool, MatchResult, Some, None, option_map, if◌then◌else◌};
 ghost use Rattle.sdd_token.specs.Right.{kind_of};
 ghost use Rattle.sdd_base.specs.Holding.{AreOf};
-ghost use Rattle.sdd_base.specs.World.{World, standing_at};
+ghost use Rattle.sdd_base.specs.World.{World, IsGuarded, standing_at, value_at};
 ghost use Rattle.sdd_base.specs.Seat.{IsSeated, IsExact};
 ghost use Rattle.sdd_base.specs.Known.{KnowsOn};
-ghost use Rattle.sdd_base.specs.Steps.{made_shared, with_standing, owner_given};
+ghost use Rattle.sdd_base.specs.Own.{GrowsOn};
+ghost use Rattle.sdd_base.specs.Steps.{made_shared, with_standing, with_value, dropped, owner_given};
 ghost use Rattle.sdd_base.specs.Shared.{right_of, slot_of, slots_home};
 ghost use Rattle.sdd_core.specs.declared.tag.Tag.TheVariants.{None as no_tag};
-ghost use Rattle.sdd_base.specs.Ptr.{slot_named, shown_by, tag_of, KeepsShown};
+ghost use Rattle.sdd_base.specs.Ptr.{slot_named, shown_by, tag_of, KeepsOthers, KeepsShown};
 ghost use Rattle.sdd_base.specs.Guard.{reader_of};
 ghost use Rattle.sdd_slots.specs.Slots.{IsSharedBy};
 ghost use Rattle.sdd_store.specs.Table.{IsEmptyAt, IsFull};
@@ -207,5 +209,63 @@ impl<T: Item<T>> Shared<T> {
         ensures keeps { KeepsShown (S.shows s.old) (S.shows s.new) }
     {
         s.let_go(self.into_right(), Kind::Shared)
+    }
+
+    /// Changes the value by `f`, where this owner is alone, cells counted, and no guard of any participant is open.
+    ///
+    /// `NotAlone` where others own the item, and else `GuardOpen` where a guard is open: `f` comes back uncalled.
+    pub fn get_mut<R, F: FnOnce(&mut T) -> R, S: Space<T>>(
+        &mut self,
+        f: F,
+        s: &mut S,
+    ) -> Result<R, (F, Refused)>
+        requires seated { IsSeated (S.seat s.old) }
+        requires home { slots_home self.old ≡ (S.seat s.old).home.slots }
+        requires callable { F.IsAlwaysCallable f }
+        requires held { (was now : T) (r : R) → FnOnceReturnsAtMut F.FnOnce f was r now →
+            AreOf (S.seat s.old).home (T.holds was) → AreOf (S.seat s.old).home (T.holds now) }
+        ensures same { self.new ≡ self.old }
+        ensures seat { S.seat s.new ≡ S.seat s.old }
+        ensures own { S.own s.new ≡ S.own s.old }
+        ensures known { KnowsOn (S.known s.old) (S.known s.new) }
+        ensures back { IfErr result (λ e. e.0 ≡ f) }
+        ensures shown { IfOk result (λ r. (was : T) × (now : T) × S.shows s.old (slot_of self.old) was × FnOnceReturnsAtMut F.FnOnce f was r now ×
+            S.shows s.new (slot_of self.old) now) }
+        ensures exact { IsExact (S.seat s.old) → (owners : ℕ) × IsSharedBy owners (standing_at (S.world s.old) (slot_of self.old)) × MatchResult result
+            (λ r. (owners ≡ 1) × ¬ (IsGuarded (S.world s.old)) ×
+            ((was : T) × (now : T) × (value_at (S.world s.old) (slot_of self.old) ≡ Some was) × FnOnceReturnsAtMut F.FnOnce f was r now ×
+            (S.world s.new ≡ with_value (S.world s.old) (slot_of self.old) now)))
+            (λ e. ((1 < owners) × (e.1 ≡ Refused.NotAlone) ⊎ (owners ≡ 1) × IsGuarded (S.world s.old) × (e.1 ≡ Refused.GuardOpen)) ×
+            (S.world s.new ≡ S.world s.old)) }
+        ensures keeps { MatchResult result (λ _. KeepsOthers (slot_of self.old) (S.shows s.old) (S.shows s.new))
+            (λ _. KeepsShown (S.shows s.old) (S.shows s.new)) }
+    {
+        s.edit(self.right(), Kind::Shared, f)
+    }
+
+    /// Gives this owner up, and answers whether it was the last, cells counted. The last one's item is dropped in its place, where no guard of any
+    /// participant is open: its value gives up at once what it holds, and its slot is free.
+    ///
+    /// `GuardOpen` where this is the last owner and a guard is open: it comes back.
+    pub fn drop_in_place<S: Space<T>>(self, s: &mut S) -> Result<bool, (Shared<T>, Refused)>
+        requires seated { IsSeated (S.seat s.old) }
+        requires home { slots_home self ≡ (S.seat s.old).home.slots }
+        ensures seat { S.seat s.new ≡ S.seat s.old }
+        ensures own { GrowsOn (S.own s.old) (S.own s.new) }
+        ensures known { KnowsOn (S.known s.old) (S.known s.new) }
+        ensures back { IfErr result (λ e. right_of e.0 ≡ right_of self) }
+        ensures exact { IsExact (S.seat s.old) → (owners : ℕ) × IsSharedBy owners (standing_at (S.world s.old) (slot_of self)) × MatchResult result
+            (λ last. MatchBool last
+            ((owners ≡ 1) × ¬ (IsGuarded (S.world s.old)) × (S.world s.new ≡ dropped T.holds (S.world s.old) (S.seat s.old).place (slot_of self)))
+            ((1 < owners) × (S.world s.new ≡ with_standing (S.world s.old) (slot_of self) (Standing.Shared (owners - 1)))))
+            (λ e. (owners ≡ 1) × IsGuarded (S.world s.old) × (e.1 ≡ Refused.GuardOpen) × (S.world s.new ≡ S.world s.old)) }
+        ensures others { KeepsOthers (slot_of self) (S.shows s.old) (S.shows s.new) }
+        ensures keeps { MatchResult result (λ last. ¬ (IsTrue last) → KeepsShown (S.shows s.old) (S.shows s.new))
+            (λ _. KeepsShown (S.shows s.old) (S.shows s.new)) }
+    {
+        match s.drop_in_place(self.into_right(), Kind::Shared) {
+            Ok(last) => Ok(last),
+            Err((right, refused)) => Err((Shared::of_right(right), refused)),
+        }
     }
 }

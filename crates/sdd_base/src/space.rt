@@ -1,23 +1,26 @@
-ghost use Rattle.std.specs.Prelude.{◌≡◌, ◌≢◌, ◌+◌, ◌^◌, ◌<◌, ◌↔◌, ◌⊎◌, ℕ, Bool, IfErr, IfOk, IfSome, IsOk, IsSome, IsTrue, MatchOption, MatchResult, None, Some, if◌then◌else◌};
+ghost use Rattle.std.specs.Fn.{FnOnceReturnsAtMut};
+ghost use Rattle.std.specs.Prelude.{◌≡◌, ◌≢◌, ◌+◌, ◌^◌, ◌<◌, ◌↔◌, ◌⊎◌, ℕ, Bool, IfErr, IfOk, IfSome, IsOk, IsSome, IsTrue, MatchBool, MatchOption, MatchResult, None, Some, if◌then◌else◌};
 ghost use Rattle.sdd_store.specs.Waiting.What.{Item};
 ghost use Rattle.sdd_store.specs.declared.time.Participant.{Participant};
 ghost use Rattle.sdd_store.specs.Time.{CanNest, has_garbage, is_open, with_garbage};
 ghost use Rattle.sdd_store.specs.Time as time;
 ghost use Rattle.sdd_store.specs.Table.{IsEmptyAt, IsFull, entry_at};
 ghost use Rattle.sdd_base.specs.Holding.{AreOf};
-ghost use Rattle.sdd_base.specs.World.{World, place_at, standing_at, value_at};
+ghost use Rattle.sdd_base.specs.World.{World, IsGuarded, pointer_at, place_at, standing_at, value_at};
 ghost use Rattle.sdd_core.specs.declared.tag.Tag.TheVariants.{None as no_tag};
 ghost use Rattle.sdd_base.specs.Seat.{Seat, IsSeated, IsExact, IsLone, MayNest};
-ghost use Rattle.sdd_base.specs.Own.{IsOpened, IsClosed, IsSpilled};
+ghost use Rattle.sdd_base.specs.Own.{IsOpened, IsClosed, IsSpilled, GrowsOn};
 ghost use Rattle.sdd_base.specs.Known.{Known, KnowsOn, KnowsOpened, KnowsClosed, IsNear, IsRaisedBy};
 ghost use Rattle.sdd_token.specs.Kind.{IsOwner};
-ghost use Rattle.sdd_token.specs.Right.{number_of, home_of, kind_of};
+ghost use Rattle.sdd_token.specs.Right.{number_of, home_of, kind_of, raw_number_of, raw_home_of};
 ghost use Rattle.sdd_slots.specs.Slots.{IsOwnedBy, IsSharedBy, first_standing, has_others, owners_of};
 ghost use Rattle.sdd_slots.specs.Cells.{MayHold, cell_with, slot_held};
 ghost use Rattle.sdd_base.specs.Guard.{reader_of};
-ghost use Rattle.sdd_base.specs.Ptr.{KeepsShown, IsShown, slot_named, tag_of, cell_seen};
+ghost use Rattle.sdd_base.specs.Ptr.{KeepsShown, KeepsOthers, IsShown, slot_named, tag_of, cell_seen};
 ghost use Rattle.sdd_base.specs.RawPtr as raw;
-ghost use Rattle.sdd_base.specs.Steps.{made_as, with_standing, owner_given, with_cell, without_cell, opened, closed, stirred, accelerated};
+ghost use Rattle.sdd_base.specs.Out.{IsNullCell};
+ghost use Rattle.sdd_base.specs.InPlace.{IsAlone, MayInPlace, RefusedInPlace};
+ghost use Rattle.sdd_base.specs.Steps.{made_as, with_standing, with_value, dropped, owner_given, with_cell, with_pointer, pointing, without_cell, opened, closed, stirred, accelerated};
 
 use crate::guard::Guard;
 use crate::item::Item;
@@ -25,8 +28,8 @@ use crate::look::{Look, Shows};
 use crate::ptr::Ptr;
 use crate::raw_ptr::RawPtr;
 use sdd_core::{Refused, Tag};
-use sdd_store::{Cell, Standing};
-use sdd_token::{Kind, Right};
+use sdd_store::{Cell, Pointer, Standing};
+use sdd_token::{Kind, RawRight, Right};
 
 /// The guards of one participant of a world or domain.
 pub trait Guards<T: Item<T>>: Shows<T> {
@@ -223,6 +226,103 @@ pub trait Space<T: Item<T>>: Look<T> + Guards<T> {
             owner_given (Self.world self.old) (Self.seat self.old).place (number_of right) (standing_at (Self.world self.old) (number_of right)) }
         ensures keeps { KeepsShown (Self.shows self.old) (Self.shows self.new) };
 
+    /// Changes the value of an owner's item in its place, where the owner, which is of this kind, is alone and no guard is open.
+    ///
+    /// `NotAlone` where others own the item, and else `GuardOpen`: `f` comes back uncalled.
+    fn edit<R, F: FnOnce(&mut T) -> R>(
+        &mut self,
+        right: &Right,
+        kind: Kind,
+        f: F,
+    ) -> Result<R, (F, Refused)>
+        requires seated { IsSeated (Self.seat self.old) }
+        requires home { home_of right.now ≡ (Self.seat self.old).home.slots }
+        requires kind { kind_of right.now ≡ kind }
+        requires callable { F.IsAlwaysCallable f }
+        requires held { (was now : T) (r : R) → FnOnceReturnsAtMut F.FnOnce f was r now →
+            AreOf (Self.seat self.old).home (T.holds was) → AreOf (Self.seat self.old).home (T.holds now) }
+        ensures seat { Self.seat self.new ≡ Self.seat self.old }
+        ensures own { Self.own self.new ≡ Self.own self.old }
+        ensures known { KnowsOn (Self.known self.old) (Self.known self.new) }
+        ensures back { IfErr result (λ e. e.0 ≡ f) }
+        ensures shown { IfOk result (λ r. (was : T) × (now : T) × Self.shows self.old (number_of right.now) was ×
+            FnOnceReturnsAtMut F.FnOnce f was r now × Self.shows self.new (number_of right.now) now) }
+        ensures owned { IsExact (Self.seat self.old) → IsOwnedBy (kind_of right.now) (standing_at (Self.world self.old) (number_of right.now)) }
+        ensures exact { IsExact (Self.seat self.old) → MatchResult result
+            (λ r. MayInPlace (Self.world self.old) (number_of right.now) ×
+            ((was : T) × (now : T) × (value_at (Self.world self.old) (number_of right.now) ≡ Some was) × FnOnceReturnsAtMut F.FnOnce f was r now ×
+            (Self.world self.new ≡ with_value (Self.world self.old) (number_of right.now) now)))
+            (λ e. RefusedInPlace (Self.world self.old) (number_of right.now) e.1 × (Self.world self.new ≡ Self.world self.old)) }
+        ensures keeps { MatchResult result
+            (λ _. KeepsOthers (number_of right.now) (Self.shows self.old) (Self.shows self.new))
+            (λ _. KeepsShown (Self.shows self.old) (Self.shows self.new)) };
+
+    /// An owner of this kind goes, and is told whether it was the last. The last one's item is dropped in its place, where no guard is open: its value
+    /// gives up at once what it holds.
+    ///
+    /// `GuardOpen` for the last owner alone, which comes back.
+    fn drop_in_place(&mut self, right: Right, kind: Kind) -> Result<bool, (Right, Refused)>
+        requires seated { IsSeated (Self.seat self.old) }
+        requires home { home_of right ≡ (Self.seat self.old).home.slots }
+        requires kind { kind_of right ≡ kind }
+        ensures seat { Self.seat self.new ≡ Self.seat self.old }
+        ensures own { GrowsOn (Self.own self.old) (Self.own self.new) }
+        ensures known { KnowsOn (Self.known self.old) (Self.known self.new) }
+        ensures back { IfErr result (λ e. e.0 ≡ right) }
+        ensures owned { IsExact (Self.seat self.old) → IsOwnedBy (kind_of right) (standing_at (Self.world self.old) (number_of right)) }
+        ensures exact { IsExact (Self.seat self.old) → MatchResult result
+            (λ last. MatchBool last
+            (MayInPlace (Self.world self.old) (number_of right) ×
+            (Self.world self.new ≡ dropped T.holds (Self.world self.old) (Self.seat self.old).place (number_of right)))
+            (IsTrue (has_others (standing_at (Self.world self.old) (number_of right))) × (Self.world self.new ≡
+            owner_given (Self.world self.old) (Self.seat self.old).place (number_of right) (standing_at (Self.world self.old) (number_of right)))))
+            (λ e. IsAlone (standing_at (Self.world self.old) (number_of right)) × IsGuarded (Self.world self.old) × (e.1 ≡ Refused.GuardOpen) ×
+            (Self.world self.new ≡ Self.world self.old)) }
+        ensures others { KeepsOthers (number_of right) (Self.shows self.old) (Self.shows self.new) }
+        ensures keeps { MatchResult result
+            (λ last. ¬ (IsTrue last) → KeepsShown (Self.shows self.old) (Self.shows self.new))
+            (λ _. KeepsShown (Self.shows self.old) (Self.shows self.new)) };
+
+    /// The item of the one owner is out as raw, and nobody owns it.
+    fn put_out_raw(&mut self, right: Right) -> u32
+        requires seated { IsSeated (Self.seat self.old) }
+        requires home { home_of right ≡ (Self.seat self.old).home.slots }
+        requires kind { kind_of right ≡ Kind.Owned }
+        ensures seat { Self.seat self.new ≡ Self.seat self.old }
+        ensures own { Self.own self.new ≡ Self.own self.old }
+        ensures known { KnowsOn (Self.known self.old) (Self.known self.new) }
+        ensures slot { result ≡ number_of right }
+        ensures owned { IsExact (Self.seat self.old) → standing_at (Self.world self.old) (number_of right) ≡ Some Standing.Owned }
+        ensures exact { IsExact (Self.seat self.old) → Self.world self.new ≡ with_standing (Self.world self.old) (number_of right) Standing.Raw }
+        ensures keeps { KeepsShown (Self.shows self.old) (Self.shows self.new) };
+
+    /// The owner of an item that is out as raw; of any other slot none.
+    fn take_back_raw(&mut self, slot: u32) -> Option<Right>
+        requires seated { IsSeated (Self.seat self.old) }
+        ensures seat { Self.seat self.new ≡ Self.seat self.old }
+        ensures own { Self.own self.new ≡ Self.own self.old }
+        ensures known { KnowsOn (Self.known self.old) (Self.known self.new) }
+        ensures home { IfSome result (λ right. home_of right ≡ (Self.seat self.old).home.slots) }
+        ensures slot { IfSome result (λ right. number_of right ≡ slot) }
+        ensures kind { IfSome result (λ right. kind_of right ≡ Kind.Owned) }
+        ensures exact { IsExact (Self.seat self.old) → MatchOption result
+            ((standing_at (Self.world self.old) slot ≢ Some Standing.Raw) × (Self.world self.new ≡ Self.world self.old))
+            (λ _. (standing_at (Self.world self.old) slot ≡ Some Standing.Raw) ×
+            (Self.world self.new ≡ with_standing (Self.world self.old) slot Standing.Owned)) }
+        ensures keeps { KeepsShown (Self.shows self.old) (Self.shows self.new) };
+
+    /// The value of an item that is out as raw, for as long as the guard is borrowed, whatever becomes of the item; of any other slot none.
+    fn guarded_raw<'g>(&mut self, slot: u32, guard: &'g Guard) -> Option<&'g T>
+        requires seated { IsSeated (Self.seat self.old) }
+        requires reader { reader_of guard.now ≡ (Self.seat self.old).reader }
+        ensures seat { Self.seat self.new ≡ Self.seat self.old }
+        ensures own { Self.own self.new ≡ Self.own self.old }
+        ensures known { KnowsOn (Self.known self.old) (Self.known self.new) }
+        ensures shown { IfSome result (λ value. Self.shows self.new slot value.now) }
+        ensures exact { IsExact (Self.seat self.old) →
+            (IsSome result ↔ (standing_at (Self.world self.old) slot ≡ Some Standing.Raw)) × (Self.world self.new ≡ Self.world self.old) }
+        ensures keeps { KeepsShown (Self.shows self.old) (Self.shows self.new) };
+
     /// A free cell for owners of this kind, which holds this one, if there is one, with this tag.
     fn make_cell(
         &mut self,
@@ -387,6 +487,109 @@ pub trait Space<T: Item<T>>: Look<T> + Guards<T> {
             IfSome (entry_at (Self.world self.old).cells (number_of cell)) (λ old. old.held ≡ slot_held result) ×
             IsSome (entry_at (Self.world self.old).cells (number_of cell)) ×
             (Self.world self.new ≡ without_cell (Self.world self.old) (number_of cell)) }
+        ensures keeps { KeepsShown (Self.shows self.old) (Self.shows self.new) };
+
+    /// A free cell that points to this.
+    fn make_raw_cell(&mut self, pointer: Pointer) -> Result<RawRight, Refused>
+        requires seated { IsSeated (Self.seat self.old) }
+        ensures seat { Self.seat self.new ≡ Self.seat self.old }
+        ensures own { Self.own self.new ≡ Self.own self.old }
+        ensures known { KnowsOn (Self.known self.old) (Self.known self.new) }
+        ensures home { IfOk result (λ cell. raw_home_of cell ≡ (Self.seat self.old).home.cells) }
+        ensures exact { IsExact (Self.seat self.old) → MatchResult result
+            (λ cell. IsEmptyAt (Self.world self.old).cells (raw_number_of cell) ×
+            (Self.world self.new ≡ pointing (Self.world self.old) (raw_number_of cell) pointer))
+            (λ e. IsFull (Self.world self.old).cells × (e ≡ Refused.NoCell) × (Self.world self.new ≡ Self.world self.old)) }
+        ensures keeps { KeepsShown (Self.shows self.old) (Self.shows self.new) };
+
+    /// What a raw cell points to at this moment.
+    fn pointer(&mut self, cell: &RawRight) -> Pointer
+        requires seated { IsSeated (Self.seat self.old) }
+        requires home { raw_home_of cell.now ≡ (Self.seat self.old).home.cells }
+        ensures seat { Self.seat self.new ≡ Self.seat self.old }
+        ensures own { Self.own self.new ≡ Self.own self.old }
+        ensures known { KnowsOn (Self.known self.old) (Self.known self.new) }
+        ensures exact { IsExact (Self.seat self.old) →
+            (pointer_at (Self.world self.old) (raw_number_of cell.now) ≡ Some result) × (Self.world self.new ≡ Self.world self.old) }
+        ensures keeps { KeepsShown (Self.shows self.old) (Self.shows self.new) };
+
+    /// A raw cell points to this. What it pointed to.
+    fn swap_pointer(&mut self, cell: &RawRight, new: Pointer) -> Pointer
+        requires seated { IsSeated (Self.seat self.old) }
+        requires home { raw_home_of cell.now ≡ (Self.seat self.old).home.cells }
+        ensures seat { Self.seat self.new ≡ Self.seat self.old }
+        ensures own { Self.own self.new ≡ Self.own self.old }
+        ensures known { KnowsOn (Self.known self.old) (Self.known self.new) }
+        ensures exact { IsExact (Self.seat self.old) →
+            (pointer_at (Self.world self.old) (raw_number_of cell.now) ≡ Some result) ×
+            (Self.world self.new ≡ with_pointer (Self.world self.old) (raw_number_of cell.now) new) }
+        ensures keeps { KeepsShown (Self.shows self.old) (Self.shows self.new) };
+
+    /// The same, if it points to what was expected; else what it points to comes back.
+    fn exchange_pointer(
+        &mut self,
+        cell: &RawRight,
+        current: Pointer,
+        new: Pointer,
+    ) -> Result<(), Pointer>
+        requires seated { IsSeated (Self.seat self.old) }
+        requires home { raw_home_of cell.now ≡ (Self.seat self.old).home.cells }
+        ensures seat { Self.seat self.new ≡ Self.seat self.old }
+        ensures own { Self.own self.new ≡ Self.own self.old }
+        ensures known { KnowsOn (Self.known self.old) (Self.known self.new) }
+        ensures exact { IsExact (Self.seat self.old) → MatchResult result
+            (λ _. (pointer_at (Self.world self.old) (raw_number_of cell.now) ≡ Some current) ×
+            (Self.world self.new ≡ with_pointer (Self.world self.old) (raw_number_of cell.now) new))
+            (λ now. (pointer_at (Self.world self.old) (raw_number_of cell.now) ≡ Some now) × (now ≢ current) × (Self.world self.new ≡ Self.world self.old)) }
+        ensures keeps { KeepsShown (Self.shows self.old) (Self.shows self.new) };
+
+    /// A raw cell's pointer has another tag, if the condition holds of it.
+    fn tag_pointer_if<F: FnMut(RawPtr<T>) -> bool>(
+        &mut self,
+        cell: &RawRight,
+        tag: Tag,
+        condition: F,
+    ) -> Result<bool, Refused>
+        requires seated { IsSeated (Self.seat self.old) }
+        requires home { raw_home_of cell.now ≡ (Self.seat self.old).home.cells }
+        requires callable { F.IsAlwaysCallable condition }
+        ensures seat { Self.seat self.new ≡ Self.seat self.old }
+        ensures own { Self.own self.new ≡ Self.own self.old }
+        ensures known { KnowsOn (Self.known self.old) (Self.known self.new) }
+        ensures exact { IsExact (Self.seat self.old) → IsOk result × IfOk result (λ changed. (ptr : RawPtr T) ×
+            (pointer_at (Self.world self.old) (raw_number_of cell.now) ≡ Some (raw.pointer_of ptr)) × F.post condition ptr changed ×
+            (Self.world self.new ≡ (if changed
+            then with_pointer (Self.world self.old) (raw_number_of cell.now) (record (raw.pointer_of ptr) { tag = tag }) else Self.world self.old))) }
+        ensures keeps { KeepsShown (Self.shows self.old) (Self.shows self.new) };
+
+    /// A raw cell points to what `f` makes of its pointer, if that is anything. What it pointed to, or points to still.
+    fn update_pointer<F: FnMut(RawPtr<T>) -> Option<RawPtr<T>>>(
+        &mut self,
+        cell: &RawRight,
+        f: F,
+    ) -> Result<Result<RawPtr<T>, RawPtr<T>>, Refused>
+        requires seated { IsSeated (Self.seat self.old) }
+        requires home { raw_home_of cell.now ≡ (Self.seat self.old).home.cells }
+        requires callable { F.IsAlwaysCallable f }
+        ensures seat { Self.seat self.new ≡ Self.seat self.old }
+        ensures own { Self.own self.new ≡ Self.own self.old }
+        ensures known { KnowsOn (Self.known self.old) (Self.known self.new) }
+        ensures exact { IsExact (Self.seat self.old) → IsOk result × IfOk result (λ updated. MatchResult updated
+            (λ was. (next : RawPtr T) × (pointer_at (Self.world self.old) (raw_number_of cell.now) ≡ Some (raw.pointer_of was)) × F.post f was (Some next) ×
+            (Self.world self.new ≡ with_pointer (Self.world self.old) (raw_number_of cell.now) (raw.pointer_of next)))
+            (λ now. (pointer_at (Self.world self.old) (raw_number_of cell.now) ≡ Some (raw.pointer_of now)) × F.post f now None ×
+            (Self.world self.new ≡ Self.world self.old))) }
+        ensures keeps { KeepsShown (Self.shows self.old) (Self.shows self.new) };
+
+    /// Gives a raw cell up. It holds nothing.
+    fn close_raw_cell(&mut self, cell: RawRight)
+        requires seated { IsSeated (Self.seat self.old) }
+        requires home { raw_home_of cell ≡ (Self.seat self.old).home.cells }
+        ensures seat { Self.seat self.new ≡ Self.seat self.old }
+        ensures own { Self.own self.new ≡ Self.own self.old }
+        ensures known { KnowsOn (Self.known self.old) (Self.known self.new) }
+        ensures exact { IsExact (Self.seat self.old) → IsNullCell (Self.world self.old) (raw_number_of cell) ×
+            (Self.world self.new ≡ without_cell (Self.world self.old) (raw_number_of cell)) }
         ensures keeps { KeepsShown (Self.shows self.old) (Self.shows self.new) };
 
     /// Where only the caller's own calls change the space, what they do is said exactly.

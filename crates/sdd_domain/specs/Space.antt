@@ -38,6 +38,7 @@ no_world = record {
   standings = [];
   values = [];
   cells = [];
+  pointers = [];
   tally = no_items;
 }
 

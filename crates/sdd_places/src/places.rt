@@ -1,4 +1,5 @@
 //! Places for values, each empty or with a value, which can be lent to readers.
+ghost use Rattle.std.specs.Fn.{FnOnceReturnsAtMut};
 ghost use Rattle.std.specs.Prelude.{◌≡◌, ◌<◌, ℕ, IfOk, IsSome, None, Some, length, option_copied, replicate, slice_set};
 ghost use Rattle.core.specs.Mem.Slots.{slots_items, slots_ptr, slots_len, IsFull};
 ghost use Rattle.sdd_places.specs.Block.{IsHome, IsFreeFor, stake_at, lent, settled, unlent};
@@ -165,6 +166,21 @@ impl<T> Places<T> {
             unreachable!()
         };
         was
+    }
+
+    /// Changes the value in a place. It is lent to nobody.
+    pub fn edit<R, F: FnOnce(&mut T) -> R>(&mut self, at: usize, f: F) -> R
+        requires inside { at < length self.old.values }
+        requires filled { IsSome (value_at self.old at) }
+        requires home { IsHome self.old.stakes at }
+        requires callable { F.IsAlwaysCallable f }
+        ensures { (was : T) × (now : T) × (value_at self.old at ≡ Some was) × FnOnceReturnsAtMut F.FnOnce f was result now ×
+            (self.new ≡ record self.old { values = slice_set self.old.values at (Some now) }) }
+    {
+        let Some(value) = self.block.edit(at) else {
+            unreachable!()
+        };
+        f(value)
     }
 
     /// Gives the memory back. The places are empty.

@@ -73,6 +73,18 @@ module _ {home slots : Home} {kept : List Kept} {cells : Entries Cell} {rights :
         let units : (kept_at kept k).units ≡ 2 ^ 63 - right_units of = ap (λ (x : Kept). x.units) f.0 ∙ ap (λ (x : Kind). 2 ^ 63 - right_units x) e in
         omega (arith, units, le)
 
+  -- the same where the cell is a raw one
+  pub raw-whole-again : (k : ℕ) → AreKept home slots kept cells rights → (kept_at kept k).kind ≡ kind.Raw → (kept_at kept k).units + 1 ≡ 2 ^ 63
+  raw-whole-again k a e = again-if (entry_at cells k) refl where
+    again-if : (c : Option Cell) → entry_at cells k ≡ c → (kept_at kept k).units + 1 ≡ 2 ^ 63
+    again-if None is =
+        let free = ap (λ (x : Kept). x.kind) (subst (λ c. Fits slots (kept_at kept k) c (right_at rights k)) is (a.each k)).0 in
+        let never : kind.Raw ≡ kind.Free = sym e ∙ free in absurd (cc)
+    again-if (Some cell) is =
+        let f = subst (λ c. Fits slots (kept_at kept k) c (right_at rights k)) is (a.each k) in
+        let units : (kept_at kept k).units ≡ 2 ^ 63 - 1 = ap (λ (x : Kept). x.units) f.0 ∙ ap (λ (x : Kind). 2 ^ 63 - right_units x) e in
+        omega (arith, units)
+
 -- an owner has not more units than there are
 pub units-fit : (of : Kind) → right_units of ≤ 2 ^ 63
 units-fit kind.Free = omega arith

@@ -1,10 +1,9 @@
 -- What is kept of one slot, where it changes
-use Rattle.std.proofs.Common.{◌≡◌, ℕ, List, length, slice_index_or, slice_set, sym, ◌∙◌, ap, refl, Option, None, Some, Bool, false, [], ◌∷◌, arith, zero}
+use Rattle.std.proofs.Common.{◌≡◌, ℕ, List, length, slice_index_or, slice_set, sym, ◌∙◌, ap, refl, Option, None, Some, Bool, true, false, [], ◌∷◌, arith, zero}
 use Rattle.std.specs.Prelude.{map, is_some, IsSome, IsNone, All, option_copied, unwrap_or, ◌+◌, ◌-◌, ◌<◌, ◌≤◌, ◌^◌, suc}
 use Rattle.std.proofs.Math.ListN.{get_or-map, length-set, replicate}
 use Rattle.std.proofs.Math.Seq.{map-set_same}
 use Rattle.std.proofs.lemmas.List.{map-set, get_or_read, length-map, length-replicate}
-use denote.Bor.{Bor}
 use Rattle.sdd_token.specs.Units.{Home}
 use Rattle.sdd_token.specs.Kind.{IsOwner, right_units}
 use Rattle.sdd_token.specs.Rights.{Kept, whole, granted}
@@ -146,14 +145,29 @@ last-units kind.Raw s h o few = absurd (cc)
 last-units kind.Shared s h o few = last-of-several s (o.together refl).0 (o.together refl).1 few
 last-units kind.Retired s h o few = absurd (cc)
 
--- one owner more: its unit is out
-pub more-kept : (s : Option Standing) (n : ℕ) → s ≡ Some (Shared n) → n < 2 ^ 62 →
-    kept_of (Some (Shared (n + 1))) ≡ record (kept_of s) { units = (kept_of s).units - 1 }
-more-kept s n is fewer =
+-- so many owners more: their units are out
+pub more-kept : (s : Option Standing) (n more : ℕ) → s ≡ Some (Shared n) → n + more ≤ 2 ^ 62 →
+    kept_of (Some (Shared (n + more))) ≡ record (kept_of s) { units = (kept_of s).units - more }
+more-kept s n more is few =
     let kept : kept_of s ≡ record { kind = kind.Shared; units = 2 ^ 63 - n } = ap kept_of is in
     let units : (kept_of s).units ≡ 2 ^ 63 - n = ap (λ (x : Kept). x.units) kept in
-    let sum : 2 ^ 63 - (n + 1) ≡ (kept_of s).units - 1 = omega (arith, units, fewer) in
+    let sum : 2 ^ 63 - (n + more) ≡ (kept_of s).units - more = omega (arith, units, few) in
     record-kept (sym (ap (λ (x : Kept). x.kind) kept)) sum
+
+-- so many owners go but one: their units are kept but one
+pub but-one-kept : (s : Option Standing) (n count : ℕ) → s ≡ Some (Shared n) → n ≤ 2 ^ 62 → 1 ≤ count → count ≤ n →
+    kept_of (Some (Shared (n - count + 1))) ≡ record (kept_of s) { units = (kept_of s).units + count - 1 }
+but-one-kept s n count is most some fits =
+    let kept : kept_of s ≡ record { kind = kind.Shared; units = 2 ^ 63 - n } = ap kept_of is in
+    let units : (kept_of s).units ≡ 2 ^ 63 - n = ap (λ (x : Kept). x.units) kept in
+    let sum : 2 ^ 63 - (n - count + 1) ≡ (kept_of s).units + count - 1 = omega (arith, units, most, some, fits) in
+    record-kept (sym (ap (λ (x : Kept). x.kind) kept)) sum
+
+-- no more owners go than there are
+pub no-more-than : (s : Option Standing) (n count : ℕ) → s ≡ Some (Shared n) → n ≤ 2 ^ 62 → (kept_of s).units + count ≤ 2 ^ 63 → count ≤ n
+no-more-than s n count is most fits =
+    let units : (kept_of s).units ≡ 2 ^ 63 - n = ap (λ (x : Option Standing). (kept_of x).units) is in
+    omega (arith, units, most, fits)
 
 -- a slot that waits is not free
 pub some-waiting : (s : Option Standing) → IsWaiting s → IsSome s
@@ -243,3 +257,13 @@ pub keeps-so : {T : Type 0} {home : Home} {kept : List Kept} {standings : Entrie
     (s : Option Standing) (x : Kept) → kept_of s ≡ x → is_some s ≡ is_some (slice_index_or standings k None) → IsBounded s → AreKept home kept standings values →
     AreKept home (slice_set kept k x) (slice_set standings k s) values
 keeps-so k s x e f b a = rw (← e) (keeps-value k s f b a)
+
+-- a slot that is not free has another value
+pub keeps-other : {T : Type 0} {home : Home} {kept : List Kept} {standings : Entries Standing} {values : List (Option T)} (k : ℕ) (v : T) →
+    is_some (slice_index_or values k None) ≡ true → AreKept home kept standings values → AreKept home kept standings (slice_set values k (Some v))
+keeps-other {T} {home} {kept} {standings} {values} k v e a = record {
+  sized = a.sized;
+  told = a.told;
+  filled = map-set_same is_some values k (Some v) None (sym e) ∙ a.filled;
+  bounded = a.bounded;
+}

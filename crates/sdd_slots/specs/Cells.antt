@@ -1,5 +1,5 @@
 -- The cells of a world
-use Rattle.std.specs.Prelude.{ℕ, ◌≡◌, IfSome, List, length, Option, None, Some, option_map, slice_index_or}
+use Rattle.std.specs.Prelude.{ℕ, ◌≡◌, IfSome, List, length, Option, None, Some, option_map, slice_index_or, slice_set}
 use Rattle.sdd_core.specs.declared.tag.Tag.{Tag}
 use Rattle.sdd_core.specs.declared.tag.Tag.TheVariants as tag
 use Rattle.sdd_token.specs.Units.{Home}
@@ -10,12 +10,19 @@ use Rattle.sdd_token.specs.declared.right.Kind.{Kind}
 use Rattle.sdd_token.specs.declared.right.Kind.TheVariants as kind
 use Rattle.sdd_store.specs.Table.{Entries, entry_at, with_entry, without_entry}
 use Rattle.sdd_store.specs.declared.standing.Cell.{Cell}
+use Rattle.sdd_store.specs.declared.standing.Pointer.{Pointer}
 
--- the home whose numbers the cells are, what each one that is taken holds, and where the slots are numbered
+-- what names nothing, without a tag
+abbrev pub null_pointer : Pointer
+null_pointer = record { named = None; tag = tag.None }
+
+-- the home whose numbers the cells are, what each one that is taken holds, where the slots are numbered, and of each number what the raw cell that has it
+-- points to, or the last one that had it
 pub record Cells : Type 0 where
   pub home : Home
   pub cells : Entries Cell
   pub slots : Home
+  pub pointers : List Pointer
 
 -- the slot whose owner has the right
 abbrev pub slot_held : Option Right → Option ℕ
@@ -32,6 +39,14 @@ with_cell cells k cell = record cells { cells = with_entry cells.cells k cell }
 -- the cell is free
 abbrev pub without_cell : Cells → ℕ → Cells
 without_cell cells k = record cells { cells = without_entry cells.cells k }
+
+-- a raw cell points to this
+abbrev pub with_pointer : Cells → ℕ → Pointer → Cells
+with_pointer cells k pointer = record cells { pointers = slice_set cells.pointers k pointer }
+
+-- a raw cell holds nothing
+abbrev pub null_cell : Cell
+null_cell = record { held = None; tag = tag.None }
 
 -- if there is one, it is the right of an owner of this kind to one of the slots
 abbrev pub MayHold : Home → Kind → Option Right → Type 0

@@ -78,6 +78,10 @@ module _ {T : Type 0} where
   abbrev pub with_standing : Slots T → ℕ → Standing → Slots T
   with_standing slots k standing = record slots { standings = with_entry slots.standings k standing }
 
+  -- the slot has another value, which stands as the one before
+  abbrev pub with_value : Slots T → ℕ → T → Slots T
+  with_value slots k value = record slots { values = slice_set slots.values k (Some value) }
+
   -- the slot is free, and its value is gone
   abbrev pub without_slot : Slots T → ℕ → Slots T
   without_slot slots k = record slots { standings = without_entry slots.standings k; values = slice_set slots.values k None }

@@ -1,17 +1,18 @@
-ghost use Rattle.std.specs.Prelude.{◌≡◌, ◌<◌, ◌↔◌, All, IfErr, IfOk, IfSome, IsNone, IsSome, IsTrue, MatchResult, None, OnErr, Some, option_copied, replicate};
+ghost use Rattle.std.specs.Prelude.{◌≡◌, ◌<◌, ◌↔◌, All, IfErr, IfNone, IfOk, IfSome, IsNone, IsSome, IsTrue, MatchResult, None, OnErr, Some, length, option_copied, replicate, slice_get};
 ghost use Rattle.sdd_token.specs.Kind.{IsOwner};
-ghost use Rattle.sdd_token.specs.Right.{number_of, home_of, kind_of, badge_home};
-ghost use Rattle.sdd_slots.specs.Cells.{slot_held};
+ghost use Rattle.sdd_token.specs.Right.{number_of, home_of, kind_of, raw_number_of, raw_home_of, badge_home};
+ghost use Rattle.sdd_slots.specs.Cells.{slot_held, null_cell, null_pointer};
 ghost use Rattle.sdd_store.specs.Table.{IsEmptyAt, IsFull, entry_at};
 
 use sdd_core::Tag;
-use sdd_store::{Cell, Table};
-use sdd_token::{Badge, Kind, Right, Rights};
+use sdd_store::{Cell, Pointer, Table};
+use sdd_token::{Badge, Kind, RawRight, Right, Rights};
 use std::alloc::{AllocError, Global};
 use std::marker::Model;
 use std::mem::replace;
 
-/// Cells, each free or taken. One that is taken holds an owner of a slot, or nothing, and a tag.
+/// Cells, each free or taken. One that is taken holds an owner of a slot, or nothing, and a tag; or it is a raw cell, which holds nothing and has a pointer
+/// beside it.
 ///
 /// A cell holds owners of its own kind alone: of an owned item, or of a shared one. Memory is taken when the cells are made, and never again. No call's
 /// cost depends on how many cells there are.
@@ -22,36 +23,42 @@ pub struct Cells {
     held: Vec<Option<Right>>,
     /// Whose slots the owners are of.
     slots: Badge,
+    /// What a raw cell points to: a word of its own beside the cell.
+    pointers: Vec<Pointer>,
 }
 
 impl Model for Cells {
+    ghost use Rattle.std.specs.Prelude.{◌≡◌, length};
     ghost use Rattle.sdd_token.specs.Right.{badge_home};
     ghost use Rattle.sdd_slots.specs.Cells.{Cells, AreKept};
 
     ghost Value = { Cells };
 
-    ghost view = { λ c. record { home = c.rights.home; cells = c.cells; slots = badge_home c.slots } };
+    ghost view = { λ c. record { home = c.rights.home; cells = c.cells; slots = badge_home c.slots; pointers = c.pointers.items } };
 
-    ghost invariant = { λ c. AreKept c.rights.home (badge_home c.slots) c.rights.kept c.cells c.held.items };
+    ghost invariant = { λ c. AreKept c.rights.home (badge_home c.slots) c.rights.kept c.cells c.held.items × (length c.pointers.items ≡ c.rights.home.size) };
 }
 
 impl Cells {
-    ghost use Rattle.sdd_slots.specs.Cells.{cell_with, slot_held, with_cell, without_cell, MayHold};
+    ghost use Rattle.sdd_slots.specs.Cells.{cell_with, slot_held, with_cell, without_cell, with_pointer, MayHold};
 
     /// That many cells, all free, in a home of their own, for owners of these slots.
     pub fn new(alloc: Global, size: u32, slots: Badge) -> Result<Cells, AllocError>
         ensures size { IfOk result (λ cells. cells.home.size ≡ size) }
         ensures cells { IfOk result (λ cells. cells.cells ≡ replicate size None) }
         ensures slots { IfOk result (λ cells. cells.slots ≡ badge_home slots) }
+        ensures pointers { IfOk result (λ cells. cells.pointers ≡ replicate size null_pointer) }
     {
         let rights = Rights::new(alloc, size as usize, Kind::Free)?;
         let cells = Table::new(alloc, size)?;
+        let pointers = null_pointers(alloc, size)?;
         let held = no_owners(alloc, size)?;
         Ok(Cells {
             rights,
             cells,
             held,
             slots,
+            pointers,
         })
     }
 
@@ -168,6 +175,57 @@ impl Cells {
         self.held[cell as usize].take()
     }
 
+    /// Takes some free cell, which points to this; where no cell is free there is none.
+    pub fn claim_raw(&mut self, pointer: Pointer) -> Option<RawRight>
+        ensures home { IfSome result (λ cell. raw_home_of cell ≡ self.old.home) }
+        ensures free { IfSome result (λ cell. IsEmptyAt self.old.cells (raw_number_of cell)) }
+        ensures claimed { IfSome result (λ cell. self.new ≡ with_pointer (with_cell self.old (raw_number_of cell) null_cell) (raw_number_of cell) pointer) }
+        ensures full { IfNone result (IsFull self.old.cells) }
+        ensures same { IfNone result (self.new ≡ self.old) }
+    {
+        let nothing = Cell {
+            held: None,
+            tag: Tag::None,
+        };
+        let Ok(cell) = self.cells.claim(nothing) else {
+            return None;
+        };
+        self.pointers[cell as usize] = pointer;
+        Some(self.rights.grant_raw(cell))
+    }
+
+    /// What a raw cell points to. It holds nothing.
+    pub fn pointer(&self, cell: &RawRight) -> Pointer
+        requires { raw_home_of cell.now ≡ self.now.home }
+        ensures pointer { slice_get self.now.pointers (raw_number_of cell.now) ≡ Some result }
+        ensures taken { IsSome (entry_at self.now.cells (raw_number_of cell.now)) }
+        ensures null { IfSome (entry_at self.now.cells (raw_number_of cell.now)) (λ cell. cell.held ≡ None) }
+    {
+        self.rights.agrees_raw(cell);
+        self.pointers[cell.number() as usize]
+    }
+
+    /// A raw cell points to this from now on.
+    pub fn point(&mut self, cell: &RawRight, pointer: Pointer)
+        requires { raw_home_of cell.now ≡ self.old.home }
+        ensures { self.new ≡ with_pointer self.old (raw_number_of cell.now) pointer }
+    {
+        self.rights.agrees_raw(cell);
+        self.pointers[cell.number() as usize] = pointer;
+    }
+
+    /// Gives a raw cell up. It holds nothing.
+    pub fn close_raw(&mut self, cell: RawRight)
+        requires { raw_home_of cell ≡ self.old.home }
+        ensures taken { IsSome (entry_at self.old.cells (raw_number_of cell)) }
+        ensures null { IfSome (entry_at self.old.cells (raw_number_of cell)) (λ cell. cell.held ≡ None) }
+        ensures closed { self.new ≡ without_cell self.old (raw_number_of cell) }
+    {
+        let number = self.rights.redeem_raw(cell);
+        self.rights.set(number as usize, Kind::Free);
+        self.cells.release(number);
+    }
+
     /// Lets go of cells that are all free.
     pub fn destroy(self)
         requires { All (λ cell. IsNone cell) self.cells }
@@ -177,6 +235,7 @@ impl Cells {
             cells: _,
             mut held,
             slots: _,
+            pointers: _,
         } = self;
         while let Some(right) = held.pop() {
             match right {
@@ -197,6 +256,20 @@ fn no_owners(alloc: Global, size: u32) -> Result<Vec<Option<Right>>, AllocError>
         held.push_reserved(None);
     }
     Ok(held)
+}
+
+/// That many raw cells point to nothing.
+fn null_pointers(alloc: Global, size: u32) -> Result<Vec<Pointer>, AllocError>
+    ensures { IfOk result (λ pointers. pointers.items ≡ replicate size null_pointer) }
+{
+    let mut pointers = Vec::with_capacity(alloc, size as usize)?;
+    for _cell in 0..size {
+        pointers.push_reserved(Pointer {
+            named: None,
+            tag: Tag::None,
+        });
+    }
+    Ok(pointers)
 }
 
 /// The slot of an owner, if there is one.

@@ -1,13 +1,15 @@
+ghost use Rattle.std.specs.Fn.{FnOnceReturnsAtMut};
 ghost use Rattle.sdd_places.specs.Block.{IsHome, IsFreeFor, stake_at, lent, settled, unlent};
-ghost use Rattle.std.specs.Prelude.{ℕ, ◌≡◌, ◌+◌, ◌^◌, ◌<◌, ◌≤◌, ◌↔◌, All, IfErr, IfNone, IfOk, IfSome, IsNone, IsSome, IsTrue, MatchResult, None, OnErr, OnSome, Some, length, replicate, unwrap_or};
+ghost use Rattle.std.specs.Prelude.{ℕ, ◌≡◌, ◌≢◌, ◌+◌, ◌^◌, ◌<◌, ◌≤◌, ◌↔◌, All, IfErr, IfNone, IfOk, IfSome, IsNone, IsSome, IsTrue, MatchOption, MatchResult, None, OnErr, OnSome, Some, length, replicate, unwrap_or};
 ghost use Rattle.sdd_token.specs.Kind.{IsOwner};
 ghost use Rattle.sdd_token.specs.Right.{number_of, home_of, kind_of, badge_home};
+ghost use Rattle.sdd_token.specs.Shares as shares;
 ghost use Rattle.sdd_store.specs.Table.{IsEmptyAt, IsFull};
-ghost use Rattle.sdd_slots.specs.Slots.{standing_at, value_at, with_made, with_standing, without_slot, first_standing, let_go, has_others, owners_of, IsOwnedBy, IsSharedBy, IsWaiting};
+ghost use Rattle.sdd_slots.specs.Slots.{standing_at, value_at, with_made, with_standing, with_value, without_slot, first_standing, let_go, has_others, owners_of, IsOwnedBy, IsSharedBy, IsWaiting};
 
 use sdd_places::{Ended, Places, Tenure};
 use sdd_store::{Standing, Table};
-use sdd_token::{Badge, Kind, Right, Rights};
+use sdd_token::{Badge, Kind, Right, Rights, Shares};
 use std::alloc::{AllocError, Global};
 use std::marker::Model;
 
@@ -165,6 +167,40 @@ impl<T> Slots<T> {
         self.rights.grant_another(slot)
     }
 
+    /// So many owners more at once, in one piece, of an item that is shared, where with them no more share it than may.
+    pub fn add_owners(&mut self, slot: u32, owners: u64, more: u64) -> Shares
+        requires shared { IsSharedBy owners (standing_at self.old slot) }
+        requires some { 1 ≤ more }
+        requires fits { owners + more ≤ 2 ^ 62 }
+        ensures home { shares.home_of result ≡ self.old.home }
+        ensures slot { shares.number_of result ≡ slot }
+        ensures count { shares.count_of result ≡ more }
+        ensures added { self.new ≡ with_standing self.old slot (Standing.Shared (owners + more)) }
+    {
+        self.standings
+            .replace(slot, Standing::Shared(owners + more));
+        self.rights.grant_several(slot, more)
+    }
+
+    /// Lets owners go that came in one piece, all but one. So nothing waits afterwards.
+    pub fn let_go_but_one(&mut self, several: Shares) -> Right
+        requires { shares.home_of several ≡ self.old.home }
+        ensures home { home_of result ≡ self.old.home }
+        ensures slot { number_of result ≡ shares.number_of several }
+        ensures kind { kind_of result ≡ Kind.Shared }
+        ensures gone { (others : ℕ) × IsSharedBy (others + shares.count_of several) (standing_at self.old (shares.number_of several))
+            × (self.new ≡ with_standing self.old (shares.number_of several) (Standing.Shared (others + 1))) }
+    {
+        let count = several.count();
+        let slot = self.rights.redeem_several(several);
+        let Standing::Shared(owners) = self.standings.at(slot) else {
+            unreachable!()
+        };
+        self.standings
+            .replace(slot, Standing::Shared(owners - count + 1));
+        self.rights.grant_another(slot)
+    }
+
     /// Lets an owner of this kind go, and tells whether it was the last: then the item waits to be reclaimed.
     pub fn let_go(&mut self, right: Right, kind: Kind) -> bool
         requires home { home_of right ≡ self.old.home }
@@ -185,6 +221,37 @@ impl<T> Slots<T> {
         true
     }
 
+    /// The item of the one owner is out as raw, with nobody's right.
+    pub fn put_out_raw(&mut self, right: Right) -> u32
+        requires home { home_of right ≡ self.old.home }
+        requires kind { kind_of right ≡ Kind.Owned }
+        ensures slot { result ≡ number_of right }
+        ensures owned { standing_at self.old (number_of right) ≡ Some Standing.Owned }
+        ensures raw { self.new ≡ with_standing self.old (number_of right) Standing.Raw }
+    {
+        let slot = self.slot_of(&right);
+        self.rights.redeem(right);
+        self.rights.set(slot as usize, Kind::Raw);
+        self.standings.replace(slot, Standing::Raw);
+        slot
+    }
+
+    /// The right of an owner to a slot whose item is out as raw; to any other slot none.
+    pub fn take_back_raw(&mut self, slot: u32) -> Option<Right>
+        ensures home { IfSome result (λ right. home_of right ≡ self.old.home) }
+        ensures slot { IfSome result (λ right. number_of right ≡ slot) }
+        ensures kind { IfSome result (λ right. kind_of right ≡ Kind.Owned) }
+        ensures back { MatchOption result
+            ((standing_at self.old slot ≢ Some Standing.Raw) × (self.new ≡ self.old))
+            (λ _. (standing_at self.old slot ≡ Some Standing.Raw) × (self.new ≡ with_standing self.old slot Standing.Owned)) }
+    {
+        let Some(Standing::Raw) = self.standings.get(slot) else {
+            return None;
+        };
+        self.standings.replace(slot, Standing::Owned);
+        Some(self.rights.grant(slot, Kind::Owned))
+    }
+
     /// Takes the value of a slot that waits, which is free then; of any other slot nothing.
     pub fn reclaim(&mut self, slot: u32) -> Option<T>
         requires home { IsWaiting (standing_at self.old slot) → IsHome self.old.stakes slot }
@@ -199,6 +266,45 @@ impl<T> Slots<T> {
         self.standings.release(slot);
         self.rights.set(slot as usize, Kind::Free);
         Some(self.places.take(slot as usize))
+    }
+
+    /// Others share the item of an owner. For the owner of an item that is not shared nothing is looked up.
+    pub fn has_others(&self, right: &Right, kind: Kind) -> bool
+        requires home { home_of right.now ≡ self.now.home }
+        requires kind { kind_of right.now ≡ kind }
+        ensures others { IsTrue result ↔ IsTrue (has_others (standing_at self.now (number_of right.now))) }
+        ensures owned { IsOwnedBy (kind_of right.now) (standing_at self.now (number_of right.now)) }
+    {
+        let _ = self.slot_of(right);
+        self.owners_beside(right, kind) > 1
+    }
+
+    /// Changes the value of an owner's item, which is lent to nobody.
+    pub fn edit<R, F: FnOnce(&mut T) -> R>(&mut self, right: &Right, f: F) -> R
+        requires right { home_of right.now ≡ self.old.home }
+        requires home { IsHome self.old.stakes (number_of right.now) }
+        requires callable { F.IsAlwaysCallable f }
+        ensures { (was : T) × (now : T) × (value_at self.old (number_of right.now) ≡ Some was) × FnOnceReturnsAtMut F.FnOnce f was result now ×
+            (self.new ≡ with_value self.old (number_of right.now) now) }
+    {
+        let slot = self.slot_of(right);
+        self.places.edit(slot as usize, f)
+    }
+
+    /// Takes the value of an owner that is alone, which is lent to nobody. The slot is free then.
+    pub fn take(&mut self, right: Right) -> T
+        requires right { home_of right ≡ self.old.home }
+        requires alone { ¬ (IsTrue (has_others (standing_at self.old (number_of right)))) }
+        requires home { IsHome self.old.stakes (number_of right) }
+        ensures owned { IsOwnedBy (kind_of right) (standing_at self.old (number_of right)) }
+        ensures value { value_at self.old (number_of right) ≡ Some result }
+        ensures taken { self.new ≡ without_slot self.old (number_of right) }
+    {
+        let slot = self.slot_of(&right);
+        self.rights.redeem(right);
+        self.rights.set(slot as usize, Kind::Free);
+        self.standings.release(slot);
+        self.places.take(slot as usize)
     }
 
     /// The value in a slot that isn't free, for a reader, for as long as its tenure is borrowed.

@@ -14,3 +14,6 @@ one_made t = record t { made = one_more t.made }
 
 abbrev pub one_reclaimed : Tally → Tally
 one_reclaimed t = record t { reclaimed = one_more t.reclaimed }
+
+abbrev pub one_in_place : Tally → Tally
+one_in_place t = record t { in_place = one_more t.in_place }

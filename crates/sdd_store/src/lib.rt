@@ -10,7 +10,7 @@ pub mod time;
 
 pub use bags::Bags;
 pub use phases::{Phase, Phases};
-pub use standing::{Cell, Standing};
+pub use standing::{Cell, Pointer, Standing};
 pub use table::Table;
 pub use tally::Tally;
 pub use time::{Pace, Participant, Time};

@@ -21,3 +21,10 @@ pub struct Cell {
     pub held: Option<u32>,
     pub tag: Tag,
 }
+
+/// What a raw pointer names: the item in a slot, or nothing; and its tag.
+#[derive(Clone, Copy, Debug, PartialEq, Eq)]
+pub struct Pointer {
+    pub named: Option<u32>,
+    pub tag: Tag,
+}

@@ -1,5 +1,5 @@
 ghost use Rattle.std.specs.Prelude.{◌≡◌};
-ghost use Rattle.sdd_store.specs.Tally.{no_items, one_made, one_reclaimed};
+ghost use Rattle.sdd_store.specs.Tally.{no_items, one_in_place, one_made, one_reclaimed};
 
 /// How many items a participant or a world made, reclaimed and dropped in place.
 ///
@@ -33,5 +33,11 @@ impl Tally {
         ensures { self.new ≡ one_reclaimed self.old }
     {
         self.reclaimed = self.reclaimed.saturating_add(1);
+    }
+
+    pub fn count_in_place(&mut self)
+        ensures { self.new ≡ one_in_place self.old }
+    {
+        self.in_place = self.in_place.saturating_add(1);
     }
 }

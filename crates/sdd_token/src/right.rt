@@ -1,4 +1,4 @@
-ghost use Rattle.std.specs.Prelude.{◌≡◌, ◌<◌};
+ghost use Rattle.std.specs.Prelude.{◌≡◌, ◌<◌, ◌≤◌};
 ghost use Rattle.sdd_token.specs.declared.right.Kind.{Kind};
 ghost use Rattle.sdd_token.specs.Kind.{right_units, IsOwner};
 
@@ -121,6 +121,63 @@ impl Share {
         ensures kind { kind_of result.now ≡ Kind.Shared }
     {
         &self.right
+    }
+}
+
+/// The rights of several owners of a number, in one piece.
+///
+/// It can be neither copied nor let go, only redeemed where it was granted.
+pub struct Shares {
+    pub(crate) number: u32,
+    pub(crate) count: u64,
+    pub(crate) part: Part<Kind>,
+    pub ghost named: { part.number ≡ number },
+    pub ghost inside: { number < part.home.size },
+    pub ghost kind: { part.kind ≡ Kind.Shared },
+    pub ghost some: { 1 ≤ count },
+    pub ghost due: { part.units ≡ count },
+}
+
+impl Shares {
+    ghost use Rattle.sdd_token.specs.Shares.{number_of, count_of};
+
+    /// The number that the rights are to.
+    pub fn number(&self) -> u32
+        ensures { result ≡ number_of self.now }
+    {
+        self.number
+    }
+
+    /// How many owners' rights there are.
+    pub fn count(&self) -> u64
+        ensures { result ≡ count_of self.now }
+    {
+        self.count
+    }
+}
+
+/// A right to a number that is out as raw: a cell of raw pointers has one. There is no owner of such a number.
+///
+/// It can be neither copied nor let go, only redeemed where it was granted.
+pub struct RawRight {
+    pub(crate) number: u32,
+    pub(crate) part: Part<Kind>,
+    pub ghost named: { part.number ≡ number },
+    pub ghost inside: { number < part.home.size },
+    pub ghost kind: { part.kind ≡ Kind.Raw },
+    pub ghost due: { part.units ≡ right_units part.kind },
+}
+
+const _: () = prove!(size_of::<RawRight>() == 4);
+
+impl RawRight {
+    ghost use Rattle.sdd_token.specs.Right.{raw_number_of};
+
+    /// The number that the right is to.
+    pub fn number(&self) -> u32
+        ensures { result ≡ raw_number_of self.now }
+    {
+        self.number
     }
 }
 

@@ -1,11 +1,12 @@
 //! The units that a space keeps of the numbers of one book.
 ghost use Rattle.std.specs.Prelude.{◌≡◌, ◌+◌, ◌-◌, ◌<◌, ◌≤◌, IfOk, replicate, slice_set};
 ghost use Rattle.sdd_token.specs.Kind.{right_units, IsOwner};
-ghost use Rattle.sdd_token.specs.Right.{number_of, home_of, kind_of, badge_home};
+ghost use Rattle.sdd_token.specs.Right.{number_of, home_of, kind_of, raw_number_of, raw_home_of, badge_home};
 ghost use Rattle.sdd_token.specs.Rights.{kept_at, whole, granted};
+ghost use Rattle.sdd_token.specs.Shares as shares;
 
 use crate::part::{Book, Part, WHOLE};
-use crate::right::{Badge, Kind, Right};
+use crate::right::{Badge, Kind, RawRight, Right, Shares};
 use std::alloc::{AllocError, Global};
 use std::marker::Model;
 
@@ -156,6 +157,50 @@ impl Rights {
         number
     }
 
+    /// Grants so many rights more to a number that several may own, in one piece. At least one unit stays.
+    pub fn grant_several(&mut self, number: u32, count: u64) -> Shares
+        requires inside { number < self.old.home.size }
+        requires kind { (kept_at self.old number).kind ≡ Kind.Shared }
+        requires some { 1 ≤ count }
+        requires more { count < (kept_at self.old number).units }
+        ensures shares_home { shares.home_of result ≡ self.old.home }
+        ensures shares_number { shares.number_of result ≡ number }
+        ensures shares_count { shares.count_of result ≡ count }
+        ensures home { self.new.home ≡ self.old.home }
+        ensures kept { self.new.kept ≡ slice_set self.old.kept number
+            (record (kept_at self.old number) { units = (kept_at self.old number).units - count }) }
+    {
+        let part = self.parts[number as usize].split(count);
+        Shares {
+            number,
+            count,
+            part,
+        }
+    }
+
+    /// Takes rights back that were granted in one piece. What is kept of their number had agreed that several may own it.
+    pub fn redeem_several(&mut self, several: Shares) -> u32
+        requires { shares.home_of several ≡ self.old.home }
+        ensures number { result ≡ shares.number_of several }
+        ensures inside { result < self.old.home.size }
+        ensures kind { (kept_at self.old result).kind ≡ Kind.Shared }
+        ensures some { (0 < (kept_at self.old result).units) × (1 ≤ shares.count_of several) }
+        ensures fits { (kept_at self.old result).units + shares.count_of several ≤ WHOLE }
+        ensures home { self.new.home ≡ self.old.home }
+        ensures kept { self.new.kept ≡ slice_set self.old.kept result
+            (record (kept_at self.old result) { units = (kept_at self.old result).units + shares.count_of several }) }
+    {
+        let Shares {
+            number,
+            count: _,
+            mut part,
+        } = several;
+        let kept = &mut self.parts[number as usize];
+        kept.apart(&mut part);
+        kept.join(part);
+        number
+    }
+
     /// Who has a right to a number agrees on its kind.
     pub fn agrees(&self, right: &Right)
         requires { home_of right.now ≡ self.now.home }
@@ -163,5 +208,44 @@ impl Rights {
         ensures kind { (kept_at self.now (number_of right.now)).kind ≡ kind_of right.now }
     {
         self.agree(right.number as usize, &right.part);
+    }
+
+    /// Grants a right to a number that is kept whole, which is out as raw from then on.
+    pub fn grant_raw(&mut self, number: u32) -> RawRight
+        requires inside { number < self.old.home.size }
+        requires whole { (kept_at self.old number).units ≡ WHOLE }
+        ensures right_home { raw_home_of result ≡ self.old.home }
+        ensures right_number { raw_number_of result ≡ number }
+        ensures home { self.new.home ≡ self.old.home }
+        ensures kept { self.new.kept ≡ slice_set self.old.kept number (granted Kind.Raw) }
+    {
+        let kept = &mut self.parts[number as usize];
+        kept.set(&Kind::Raw, &());
+        let part = kept.split(Kind::Raw.units());
+        RawRight { number, part }
+    }
+
+    /// Takes a right to a number that is out as raw back.
+    pub fn redeem_raw(&mut self, right: RawRight) -> u32
+        requires { raw_home_of right ≡ self.old.home }
+        ensures number { result ≡ raw_number_of right }
+        ensures inside { result < self.old.home.size }
+        ensures kind { (kept_at self.old result).kind ≡ Kind.Raw }
+        ensures home { self.new.home ≡ self.old.home }
+        ensures kept { self.new.kept ≡ slice_set self.old.kept result
+            (record (kept_at self.old result) { units = (kept_at self.old result).units + right_units Kind.Raw }) }
+    {
+        let RawRight { number, part } = right;
+        self.join(number as usize, part);
+        number
+    }
+
+    /// Who has a right to a number that is out as raw agrees on that.
+    pub fn agrees_raw(&self, raw: &RawRight)
+        requires { raw_home_of raw.now ≡ self.now.home }
+        ensures inside { raw_number_of raw.now < self.now.home.size }
+        ensures kind { (kept_at self.now (raw_number_of raw.now)).kind ≡ Kind.Raw }
+    {
+        self.agree(raw.number as usize, &raw.part);
     }
 }

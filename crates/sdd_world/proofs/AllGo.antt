@@ -10,7 +10,7 @@ use Rattle.sdd_store.specs.declared.standing.Standing.TheVariants.{Owned, Raw, S
 use Rattle.sdd_slots.specs.Slots.{is_waiting}
 use Rattle.sdd_base.specs.World.{World, standing_at, value_at}
 use Rattle.sdd_base.specs.Steps.{held_in}
-use Rattle.sdd_base.specs.Holding.{Holding, owned, shared, atomic_owned, atomic_shared}
+use Rattle.sdd_base.specs.Holding.{Holding, owned, shared, atomic_owned, atomic_shared, atomic_raw}
 use Rattle.sdd_base.specs.Accounts.{owner_count, is_owner_of, is_of, holds_slot, times_held, IsAccounted}
 use Rattle.sdd_base.proofs.Whole.{one_where, count-cons, filled-there}
 use Rattle.sdd_world.specs.Closing.{Owner, holder, slot_owned, cell_held, held_by, held_at, owns, Goes, AllGo}
@@ -25,6 +25,7 @@ is-owned k (owned j home) e = let same : j ≡ k = grind (arith, nat_tests, e) i
 is-owned k (shared j home) e = let same : j ≡ k = grind (arith, nat_tests, e) in ap Some same
 is-owned k (atomic_owned c home) e = absurd (cc)
 is-owned k (atomic_shared c home) e = absurd (cc)
+is-owned k (atomic_raw c home) e = absurd (cc)
 
 same-slot : (j k : ℕ) → Some j ≡ Some k → (j == k) ≡ true
 same-slot j k e = let same : j ≡ k = cc in grind (arith, nat_tests, same)
@@ -34,6 +35,7 @@ owned-is k (owned j home) e = same-slot j k e
 owned-is k (shared j home) e = same-slot j k e
 owned-is k (atomic_owned c home) e = absurd (cc)
 owned-is k (atomic_shared c home) e = absurd (cc)
+owned-is k (atomic_raw c home) e = absurd (cc)
 
 -- an owner among what is held is counted
 owner-counts : (k i : ℕ) (hs : List Holding) → slot_owned (slice_get hs i) ≡ Some k → 1 ≤ count_by (is_owner_of k) hs

@@ -16,7 +16,7 @@ use Rattle.sdd_store.specs.declared.standing.Standing.TheVariants.{Shared, Retir
 use Rattle.sdd_base.specs.World.{World, standing_at, place_at}
 use Rattle.sdd_base.specs.Steps.{retired, with_standing, without_cell, spilled, cell_closed, held_in, owner_given, given, given_all, freed, taken_out, waiting_value, reclaimed, all_reclaimed, changed}
 use Rattle.sdd_base.specs.Steps as steps
-use Rattle.sdd_base.specs.Holding.{Holding, owned, shared, atomic_owned, atomic_shared}
+use Rattle.sdd_base.specs.Holding.{Holding, owned, shared, atomic_owned, atomic_shared, atomic_raw}
 use Rattle.sdd_base.specs.Out.{is_out}
 use Rattle.sdd_base.proofs.Standings.{out-inside, owner-given}
 use Rattle.sdd_base.specs.World.{IsGuarded}
@@ -147,6 +147,7 @@ module _ {T : Type 0} where
   Moves-given w p (shared k home) l = Moves-owner_given w p k (standing_at w k) refl
   Moves-given w p (atomic_owned c home) l = Moves-cell_closed w p c l
   Moves-given w p (atomic_shared c home) l = Moves-cell_closed w p c l
+  Moves-given w p (atomic_raw c home) l = Moves-cell_closed w p c l
 
   Moves-given_all : (w : World T) (p : ℕ) (hs : List Holding) → p < length w.time.places → Moves p w (given_all w p hs)
   Moves-given_all w p [] l = Moves-refl p w

@@ -18,6 +18,7 @@ use Rattle.sdd_places.proofs.Stakes.{all-home, all-free, all-lent, all-settled, 
 use Rattle.sdd_base.specs.Holding.{Holding, Home}
 use Rattle.sdd_store.specs.Table.{Entries}
 use Rattle.sdd_store.specs.declared.standing.Cell.{Cell}
+use Rattle.sdd_store.specs.declared.standing.Pointer.{Pointer}
 use Rattle.sdd_base.specs.Lending.{Lending}
 use Rattle.sdd_base.specs.World.{World, KeepsSizes, IsPlaceOf, place_at, standing_at}
 use Rattle.sdd_base.specs.Steps.{retired, with_standing, owner_given, opened, closed, ended, registered, reclaims}
@@ -176,21 +177,22 @@ module _ {T : Type 0} where
   lent-call holds v w l call whole readers same i =
       lent-keeps v w l (readers i.readers) same (λ p k safe o. safe-call p k holds call whole safe o) i
 
-  -- the cells are none of its business
-  safe-cells : (w : World T) (h : Home) (cells : Entries Cell) (p k : ℕ) → IsSafe w p k → IsSafe (record w { home = h; cells = cells }) p k
-  safe-cells w h cells p k i = record { guarded = i.guarded; stays = by i.stays } where
-    by : Stays w p k → Stays (record w { home = h; cells = cells }) p k
+  -- the cells are none of its business, nor what raw ones point to
+  safe-cells : (w : World T) (h : Home) (cells : Entries Cell) (pointers : List Pointer) (p k : ℕ) → IsSafe w p k →
+      IsSafe (record w { home = h; cells = cells; pointers = pointers }) p k
+  safe-cells w h cells pointers p k i = record { guarded = i.guarded; stays = by i.stays } where
+    by : Stays w p k → Stays (record w { home = h; cells = cells; pointers = pointers }) p k
     by (inl out) = inl out
     by (inr u) = inr (record { guarded = u.guarded; standing = u.standing; holder = u.holder; seen = u.seen; waits = u.waits; safe = u.safe })
 
-  pub lent-cells : (w : World T) (l : Lending) (h : Home) (cells : Entries Cell) → h.readers ≡ w.home.readers → AreLentOf w l →
-      AreLentOf (record w { home = h; cells = cells }) l
-  lent-cells w l h cells same i =
-      let readers : HasReaders (record w { home = h; cells = cells }) = record {
+  pub lent-cells : (w : World T) (l : Lending) (h : Home) (cells : Entries Cell) (pointers : List Pointer) → h.readers ≡ w.home.readers → AreLentOf w l →
+      AreLentOf (record w { home = h; cells = cells; pointers = pointers }) l
+  lent-cells w l h cells pointers same i =
+      let readers : HasReaders (record w { home = h; cells = cells; pointers = pointers }) = record {
         places = let size = ap (λ h. h.size) same in let places = i.readers.places in omega (arith, places, size);
         nesting = i.readers.nesting;
       } in
-      lent-keeps w (record w { home = h; cells = cells }) l readers (λ q. refl) (λ p k safe o. safe-cells w h cells p k safe) i
+      lent-keeps w (record w { home = h; cells = cells; pointers = pointers }) l readers (λ q. refl) (λ p k safe o. safe-cells w h cells pointers p k safe) i
 
   pub lent-retired : (holds : T → List Holding) (v : World T) (l : Lending) (p k : ℕ) → p < length v.time.places → is_out (standing_at v k) ≡ true →
       AreLentOf v l → AreLentOf (retired v p k) l

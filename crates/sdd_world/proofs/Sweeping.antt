@@ -21,7 +21,7 @@ use Rattle.sdd_slots.specs.Slots.{is_waiting, IsWaiting}
 use Rattle.sdd_base.specs.World.{World, standing_at, value_at, place_at}
 use Rattle.sdd_base.specs.Steps.{without_cell, spilled, cell_closed, held_in, owner_given, given, given_all, freed, taken_out, waiting_value, reclaimed, all_reclaimed, changed}
 use Rattle.sdd_base.specs.Steps as steps
-use Rattle.sdd_base.specs.Holding.{Holding, owned, shared, atomic_owned, atomic_shared}
+use Rattle.sdd_base.specs.Holding.{Holding, owned, shared, atomic_owned, atomic_shared, atomic_raw}
 use Rattle.sdd_base.specs.Whole.{times_with, taken, IsWhole}
 use Rattle.sdd_base.specs.Accounts.{owner_count}
 use Rattle.sdd_world.specs.Closing.{NothingIsOut, aged_out, all_aged_out, Closes, Owner, Holder, holder, slot_owned, cell_held, with_fewer, held_by, held_at, owns, AreAllOf, Goes, AllGo, with_reclaimed, Stays, Sweeps, Accounts}
@@ -36,6 +36,7 @@ use Rattle.sdd_store.specs.declared.tally.Tally.{Tally}
 use Rattle.sdd_base.proofs.Whole.{one_where, waits-inside}
 use Rattle.sdd_base.proofs.Opening.{none-here}
 use Rattle.sdd_store.proofs.Adopting.{same-or-not}
+use Rattle.sdd_world.proofs.Pointers.{all_aged_out-pointers}
 
 -- ---- lists whose elements all differ
 module _ {A : Type 0} where
@@ -596,6 +597,7 @@ module _ {T : Type 0} (holds : T → List Holding) (old : World T) where
   gives s n w p (shared k home) is a = gives-owner s n w p k (ap slot_owned is) (ap cell_held is) a
   gives s n w p (atomic_owned c home) is a = gives-closed s n w p c (ap slot_owned is) (ap cell_held is) a
   gives s n w p (atomic_shared c home) is a = gives-closed s n w p c (ap slot_owned is) (ap cell_held is) a
+  gives s n w p (atomic_raw c home) is a = gives-closed s n w p c (ap slot_owned is) (ap cell_held is) a
 
   past-end-if : (s n j i : ℕ) → ((m : ℕ) → held_at holds old s (n + m) ≡ None) → (held_at holds old j i ≡ None → ⊥) → j ≡ s →
       (i < n) ⊎ (n ≤ i) → i < n
@@ -847,6 +849,7 @@ module _ {T : Type 0} (holds : T → List Holding) (old : World T) where
         kept = λ k h. slot-kept new e k h (e.swept.slot k);
         cells_gone = λ d g. all-gone new e (the_cell d) g;
         cells_kept = λ d h. cell-kept new d h (e.swept.cell d);
+        pointers = ap (λ (u : World T). u.pointers) c.changes.1 ∙ all_aged_out-pointers holds c.changes.0 old;
         reclaimed = e.swept.count;
         time = c.time;
         home = c.home;

@@ -8,7 +8,7 @@ use Rattle.sdd_store.specs.declared.tally.Tally.{Tally}
 use Rattle.sdd_store.specs.declared.standing.Standing.{Standing}
 use Rattle.sdd_store.specs.declared.standing.Standing.TheVariants.{Owned, Raw, Shared, Retired, Private as privately}
 use Rattle.sdd_slots.specs.Slots.{IsWaiting}
-use Rattle.sdd_base.specs.Holding.{Holding, owned, shared, atomic_owned, atomic_shared}
+use Rattle.sdd_base.specs.Holding.{Holding, owned, shared, atomic_owned, atomic_shared, atomic_raw}
 use Rattle.sdd_base.specs.World.{World, place_at, standing_at, value_at}
 use Rattle.sdd_base.specs.Steps.{changed, held_in}
 use Rattle.sdd_base.specs.Whole.{taken, IsCounted}
@@ -65,6 +65,7 @@ slot_owned (Some (owned k home)) = Some k
 slot_owned (Some (shared k home)) = Some k
 slot_owned (Some (atomic_owned c home)) = None
 slot_owned (Some (atomic_shared c home)) = None
+slot_owned (Some (atomic_raw c home)) = None
 
 -- the number of the cell, if it is one
 abbrev pub cell_held : Option Holding → Option ℕ
@@ -73,6 +74,7 @@ cell_held (Some (owned k home)) = None
 cell_held (Some (shared k home)) = None
 cell_held (Some (atomic_owned c home)) = Some c
 cell_held (Some (atomic_shared c home)) = Some c
+cell_held (Some (atomic_raw c home)) = Some c
 
 -- how the item stands with so many owners fewer, while some are left
 abbrev pub with_fewer : ℕ → Option Standing → Option Standing
@@ -136,6 +138,7 @@ pub record Sweeps {T : Type 0} (holds : T → List Holding) (old new : World T) 
   pub kept : (k : ℕ) → ¬ (Goes holds old (the_item k)) → Stays holds old new k
   pub cells_gone : (c : ℕ) → Goes holds old (the_cell c) → entry_at new.cells c ≡ None
   pub cells_kept : (c : ℕ) → ¬ (Goes holds old (the_cell c)) → entry_at new.cells c ≡ entry_at old.cells c
+  pub pointers : new.pointers ≡ old.pointers
   pub reclaimed : (n : ℕ) × (taken old ≡ taken new + n) × (new.tally ≡ with_reclaimed n old.tally)
   pub time : new.time ≡ emptied old.time
   pub home : new.home ≡ old.home

@@ -1,5 +1,5 @@
-//! What a script needs of a world beyond the public surface.
-ghost use Rattle.std.specs.Prelude.{◌≡◌, ◌↔◌, ℕ, IsSome, IsTrue, Some, map};
+//! What a script, or a test, needs of a world beyond the public surface.
+ghost use Rattle.std.specs.Prelude.{◌≡◌, ◌↔◌, ◌+◌, ◌^◌, ◌<◌, ◌≤◌, ℕ, IfOk, IsSome, IsTrue, MatchResult, Some, map};
 ghost use Rattle.sdd_store.specs.Waiting.What.{Item};
 ghost use Rattle.sdd_store.specs.Time.{is_open, phase_at};
 ghost use Rattle.sdd_base.specs.World.{IsPlaceOf, place_at, standing_at, value_at};
@@ -9,19 +9,22 @@ ghost use Rattle.sdd_base.specs.Ptr.{slot_named, shown_by};
 ghost use Rattle.sdd_base.specs.Under.{Stays};
 ghost use Rattle.sdd_base.specs.Owned.{slot_of, slots_home, cell_of, cells_home};
 ghost use Rattle.sdd_base.specs.Shared as shared;
+ghost use Rattle.sdd_token.specs.Shares as shares;
 ghost use Rattle.sdd_slots.specs.Slots.{IsSharedBy};
 ghost use Rattle.sdd_store.specs.Table.{IsFull};
 ghost use Rattle.sdd_store.specs.declared.standing.Standing.TheVariants as standing;
-ghost use Rattle.sdd_base.specs.Steps.{reclaims, retired, owner_given, cell_closed};
+ghost use Rattle.sdd_base.specs.Steps.{reclaims, retired, owner_given, cell_closed, with_standing};
 ghost use Rattle.sdd_world.specs.Place.{index_of};
 
 use crate::world::{Place, World};
 use sdd_base::inner::{
-    ptr_to, right_of_cell, right_of_owner, right_of_shared, right_of_shared_cell,
+    ptr_to, right_in_shared, right_of_cell, right_of_owner, right_of_shared, right_of_shared_cell,
+    shared_of,
 };
 use sdd_base::{AtomicOwned, AtomicShared, Guard, Item, Owned, Ptr, Shared};
+use sdd_core::Refused;
 use sdd_store::Standing;
-use sdd_token::Kind;
+use sdd_token::{Kind, Shares};
 
 /// The slots whose items the next opening of a participant reclaims.
 pub fn reclaims_next<'w, T: Item<T>>(world: &'w World<T>, place: &Place) -> &'w [u32]
@@ -123,4 +126,35 @@ pub fn leave_shared_cell<T: Item<T>>(world: &mut World<T>, cell: AtomicShared<T>
     ensures { (p : ℕ) × IsSome (phase_at world.old.time p) × (world.new ≡ cell_closed world.old p (shared.cell_of cell)) }
 {
     world.leave_cell(right_of_shared_cell(cell), Kind::Shared);
+}
+
+/// So many owners more of an owner's item at once, in one piece. So a test reaches the most owners that there may be.
+///
+/// `TooManyOwners` where with them more than 2^62 would own it, cells counted.
+pub fn add_owners<T: Item<T>>(
+    world: &mut World<T>,
+    owner: &Shared<T>,
+    more: u64,
+) -> Result<Shares, Refused>
+    requires home { shared.slots_home owner.now ≡ world.old.home.slots }
+    requires some { 1 ≤ more }
+    ensures home { IfOk result (λ several. shares.home_of several ≡ world.old.home.slots) }
+    ensures slot { IfOk result (λ several. shares.number_of several ≡ shared.slot_of owner.now) }
+    ensures count { IfOk result (λ several. shares.count_of several ≡ more) }
+    ensures exact { (owners : ℕ) × IsSharedBy owners (standing_at world.old (shared.slot_of owner.now)) × MatchResult result
+        (λ _. (owners + more ≤ 2 ^ 62) × (world.new ≡ with_standing world.old (shared.slot_of owner.now) (standing.Shared (owners + more))))
+        (λ e. (2 ^ 62 < owners + more) × (e ≡ Refused.TooManyOwners) × (world.new ≡ world.old)) }
+{
+    world.core.add_owners(right_in_shared(owner), more)
+}
+
+/// Owners go that came in one piece, all but one, which is an owner as any other. With it the item has one at least, so nothing waits.
+pub fn let_go_but_one<T: Item<T>>(world: &mut World<T>, several: Shares) -> Shared<T>
+    requires { shares.home_of several ≡ world.old.home.slots }
+    ensures home { shared.slots_home result ≡ world.old.home.slots }
+    ensures slot { shared.slot_of result ≡ shares.number_of several }
+    ensures exact { (others : ℕ) × IsSharedBy (others + shares.count_of several) (standing_at world.old (shares.number_of several))
+        × (world.new ≡ with_standing world.old (shares.number_of several) (standing.Shared (others + 1))) }
+{
+    shared_of(world.core.let_go_but_one(several))
 }

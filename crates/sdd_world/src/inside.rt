@@ -1,11 +1,14 @@
-ghost use Rattle.std.specs.Prelude.{◌≡◌, ℕ, ◌+◌, ◌^◌, ◌<◌, ◌≤◌, Bool, true, false, if◌then◌else◌, Contains, List, [], map, length, vec_capacity, Some, None, Option, IsSome, MatchOption, MatchResult, IfOk, IfSome, IsTrue, option_copied, ◌⊎◌, ◌↔◌};
+ghost use Rattle.std.specs.Fn.{FnOnceReturnsAtMut};
+ghost use Rattle.std.specs.Prelude.{◌≡◌, ◌≢◌, ℕ, ◌+◌, ◌^◌, ◌<◌, ◌≤◌, Bool, true, false, if◌then◌else◌, Contains, List, [], map, length, vec_capacity, Some, None, Option, IsSome, MatchOption, MatchResult, IfOk, IfSome, IsTrue, option_copied, ◌⊎◌, ◌↔◌};
 ghost use Rattle.sdd_core.specs.Epoch.{epoch_of};
 ghost use Rattle.sdd_token.specs.Kind.{IsOwner};
-ghost use Rattle.sdd_token.specs.Right.{number_of, home_of, kind_of};
+ghost use Rattle.sdd_token.specs.Right.{number_of, home_of, kind_of, raw_number_of, raw_home_of};
+ghost use Rattle.sdd_token.specs.Shares as shares;
 ghost use Rattle.sdd_slots.specs.Slots.{IsOwnedBy, IsSharedBy, first_standing, has_others, let_go, owners_of};
 ghost use Rattle.sdd_slots.specs.Cells.{MayHold, cell_with, slot_held};
 ghost use Rattle.sdd_base.specs.Ptr.{IsShown, cell_seen, slot_named};
 ghost use Rattle.sdd_base.specs.Shared as shared;
+ghost use Rattle.sdd_base.specs.RawCell as raw_cell;
 ghost use Rattle.sdd_store.specs.Waiting.{What};
 ghost use Rattle.sdd_store.specs.Waiting.What.{Item};
 ghost use Rattle.sdd_store.specs.Time as time;
@@ -14,8 +17,10 @@ ghost use Rattle.sdd_base.specs.Holding.{AreOf, ValuesAreOf};
 ghost use Rattle.sdd_base.specs.Seat.{seat_for, IsSeated, IsExact};
 ghost use Rattle.sdd_base.specs.Own.{GrowsOn};
 ghost use Rattle.sdd_base.specs.Owned.{slots_home, cells_home, holding_of, cell_holding};
-ghost use Rattle.sdd_base.specs.World.{World, IsBlank, weight, KeepsSizes, place_at, standing_at, value_at, HasPlace, IsPlaceOf};
-ghost use Rattle.sdd_base.specs.Steps.{made_as, with_standing, retired, owner_given, with_cell, without_cell, cell_closed, given, given_all, slot_reclaimed, all_reclaimed, rotated, settled, opened, reclaims, changed, nested, closed, stirred, accelerated, registered, ended};
+ghost use Rattle.sdd_base.specs.World.{World, IsBlank, weight, KeepsSizes, place_at, pointer_at, standing_at, value_at, HasPlace, IsPlaceOf};
+ghost use Rattle.sdd_base.specs.Steps.{made_as, with_standing, with_value, dropped, retired, owner_given, with_cell, with_pointer, pointing, without_cell, cell_closed, given, given_all, slot_reclaimed, all_reclaimed, rotated, settled, opened, reclaims, changed, nested, closed, stirred, accelerated, registered, ended};
+ghost use Rattle.sdd_base.specs.Out.{IsNullCell};
+ghost use Rattle.sdd_base.specs.InPlace.{MayInPlace, RefusedInPlace};
 ghost use Rattle.sdd_base.specs.Whole.{IsWhole};
 ghost use Rattle.sdd_base.specs.Under.{Stays};
 ghost use Rattle.sdd_places.specs.Block.{IsHome, IsFreeFor, stake_at};
@@ -23,12 +28,12 @@ ghost use Rattle.sdd_places.specs.Tenures.{kept_at};
 ghost use Rattle.sdd_world.specs.Closing.{paced, NothingIsOut};
 ghost use Rattle.sdd_world.specs.Lending.{AreLent, IsPartAt, shared, given_up};
 
-use sdd_base::{AtomicOwned, AtomicShared, Giver, Item, Owned, Ptr, Shared, inner};
+use sdd_base::{AtomicOwned, AtomicRaw, AtomicShared, Giver, Item, Owned, Ptr, Shared, inner};
 use sdd_core::{Refused, Tag};
 use sdd_places::{Stage, Tenure, Tenures};
 use sdd_slots::{Cells, MOST_OWNERS, Slots};
-use sdd_store::{Cell, Pace, Standing, Tally, Time};
-use sdd_token::{Kind, Right};
+use sdd_store::{Cell, Pace, Pointer, Standing, Tally, Time};
+use sdd_token::{Kind, RawRight, Right, Shares};
 use std::alloc::{AllocError, Global};
 use std::marker::Model;
 
@@ -53,6 +58,7 @@ impl<T: Item<T>> Model for Core<T> {
         standings = c.slots.standings;
         values = c.slots.values;
         cells = c.cells.cells;
+        pointers = c.cells.pointers;
         tally = c.tally;
       };
       lending = record { stakes = c.slots.stakes; tenures = c.tenures };
@@ -119,6 +125,49 @@ impl<T: Item<T>> Core<T> {
         }
     }
 
+    /// So many owners more at once, in one piece, of the item of an owner that may have others beside it.
+    ///
+    /// `TooManyOwners` where with them more would share it than may.
+    pub fn add_owners(&mut self, right: &Right, more: u64) -> Result<Shares, Refused>
+        requires home { home_of right.now ≡ self.old.world.home.slots }
+        requires kind { kind_of right.now ≡ Kind.Shared }
+        requires some { 1 ≤ more }
+        ensures home { IfOk result (λ several. shares.home_of several ≡ self.old.world.home.slots) }
+        ensures slot { IfOk result (λ several. shares.number_of several ≡ number_of right.now) }
+        ensures count { IfOk result (λ several. shares.count_of several ≡ more) }
+        ensures added { (owners : ℕ) × IsSharedBy owners (standing_at self.old.world (number_of right.now)) × MatchResult result
+            (λ _. (owners + more ≤ 2 ^ 62) ×
+            (self.new ≡ record self.old { world = with_standing self.old.world (number_of right.now) (Standing.Shared (owners + more)) }))
+            (λ e. (2 ^ 62 < owners + more) × (e ≡ Refused.TooManyOwners) × (self.new ≡ self.old)) }
+        ensures sizes { KeepsSizes self.old.world self.new.world }
+        ensures whole { IsWhole self.old.world → IsWhole self.new.world }
+        ensures lent { IsWhole self.old.world → AreLent self.old → AreLent self.new }
+    {
+        let slot = self.slots.slot_of(right);
+        match self.slots.owners(slot) {
+            Some(owners) if more <= MOST_OWNERS - owners => {
+                Ok(self.slots.add_owners(slot, owners, more))
+            }
+            Some(_) => Err(Refused::TooManyOwners),
+            None => unreachable!(),
+        }
+    }
+
+    /// Owners go that came in one piece, all but one.
+    pub fn let_go_but_one(&mut self, several: Shares) -> Right
+        requires { shares.home_of several ≡ self.old.world.home.slots }
+        ensures home { home_of result ≡ self.old.world.home.slots }
+        ensures slot { number_of result ≡ shares.number_of several }
+        ensures kind { kind_of result ≡ Kind.Shared }
+        ensures gone { (others : ℕ) × IsSharedBy (others + shares.count_of several) (standing_at self.old.world (shares.number_of several))
+            × (self.new ≡ record self.old { world = with_standing self.old.world (shares.number_of several) (Standing.Shared (others + 1)) }) }
+        ensures sizes { KeepsSizes self.old.world self.new.world }
+        ensures whole { IsWhole self.old.world → IsWhole self.new.world }
+        ensures lent { IsWhole self.old.world → AreLent self.old → AreLent self.new }
+    {
+        self.slots.let_go_but_one(several)
+    }
+
     /// An owner of this kind lets its item go, and is told whether it was the last. The last one's item waits with a place.
     pub fn let_go(&mut self, place: usize, right: Right, kind: Kind) -> bool
         requires place { HasPlace self.old.world place }
@@ -161,6 +210,67 @@ impl<T: Item<T>> Core<T> {
             unreachable!()
         };
         let _ = self.let_go(place, right, kind);
+    }
+
+    /// The item of the one owner is out as raw.
+    pub fn put_out_raw(&mut self, right: Right) -> u32
+        requires home { home_of right ≡ self.old.world.home.slots }
+        requires kind { kind_of right ≡ Kind.Owned }
+        ensures slot { result ≡ number_of right }
+        ensures owned { standing_at self.old.world (number_of right) ≡ Some Standing.Owned }
+        ensures raw { self.new ≡ record self.old { world = with_standing self.old.world (number_of right) Standing.Raw } }
+        ensures sizes { KeepsSizes self.old.world self.new.world }
+        ensures whole { IsWhole self.old.world → IsWhole self.new.world }
+        ensures lent { IsWhole self.old.world → AreLent self.old → AreLent self.new }
+    {
+        self.slots.put_out_raw(right)
+    }
+
+    /// The owner of an item that is out as raw; of any other slot none.
+    pub fn take_back_raw(&mut self, slot: u32) -> Option<Right>
+        ensures right { IfSome result (λ right. (home_of right ≡ self.old.world.home.slots) × (number_of right ≡ slot) × (kind_of right ≡ Kind.Owned)) }
+        ensures back { MatchOption result
+            ((standing_at self.old.world slot ≢ Some Standing.Raw) × (self.new ≡ self.old))
+            (λ _. (standing_at self.old.world slot ≡ Some Standing.Raw) ×
+            (self.new ≡ record self.old { world = with_standing self.old.world slot Standing.Owned })) }
+        ensures sizes { KeepsSizes self.old.world self.new.world }
+        ensures whole { IsWhole self.old.world → IsWhole self.new.world }
+        ensures lent { IsWhole self.old.world → AreLent self.old → AreLent self.new }
+    {
+        self.slots.take_back_raw(slot)
+    }
+
+    /// Why an owner of this kind may not change or drop its item in its place, if it may not: others own it, or else a guard is open.
+    pub fn refused_in_place(&self, right: &Right, kind: Kind) -> Option<Refused>
+        requires home { home_of right.now ≡ self.now.world.home.slots }
+        requires kind { kind_of right.now ≡ kind }
+        ensures owned { IsOwnedBy (kind_of right.now) (standing_at self.now.world (number_of right.now)) }
+        ensures refused { MatchOption result (MayInPlace self.now.world (number_of right.now)) (RefusedInPlace self.now.world (number_of right.now)) }
+    {
+        if self.slots.has_others(right, kind) {
+            return Some(Refused::NotAlone);
+        }
+        if self.time.is_any_open() {
+            return Some(Refused::GuardOpen);
+        }
+        None
+    }
+
+    /// Changes the value of an owner's item in its place.
+    pub fn edit<R, F: FnOnce(&mut T) -> R>(&mut self, right: &Right, f: F) -> R
+        requires home { home_of right.now ≡ self.old.world.home.slots }
+        requires may { MayInPlace self.old.world (number_of right.now) }
+        requires lent { AreLent self.old }
+        requires callable { F.IsAlwaysCallable f }
+        requires held { (was now : T) (r : R) → FnOnceReturnsAtMut F.FnOnce f was r now →
+            AreOf self.old.world.home (T.holds was) → AreOf self.old.world.home (T.holds now) }
+        ensures changed { (was : T) × (now : T) × (value_at self.old.world (number_of right.now) ≡ Some was) × FnOnceReturnsAtMut F.FnOnce f was result now ×
+            (self.new ≡ record self.old { world = with_value self.old.world (number_of right.now) now }) }
+        ensures sizes { KeepsSizes self.old.world self.new.world }
+        ensures whole { IsWhole self.old.world → IsWhole self.new.world }
+        ensures lent { AreLent self.new }
+    {
+        self.slots.edit(right, f)
     }
 
     /// The value in a slot that is not free.
@@ -290,6 +400,50 @@ impl<T: Item<T>> Core<T> {
         self.cells.close(cell)
     }
 
+    /// A free cell is a raw one, and points to this.
+    pub fn make_raw_cell(&mut self, pointer: Pointer) -> Option<RawRight>
+        ensures made { MatchOption result
+            (IsFull self.old.world.cells × (self.new ≡ self.old))
+            (λ cell. (raw_home_of cell ≡ self.old.world.home.cells) × IsEmptyAt self.old.world.cells (raw_number_of cell)
+            × (self.new ≡ record self.old { world = pointing self.old.world (raw_number_of cell) pointer })) }
+        ensures sizes { KeepsSizes self.old.world self.new.world }
+        ensures whole { IsWhole self.old.world → IsWhole self.new.world }
+        ensures lent { IsWhole self.old.world → AreLent self.old → AreLent self.new }
+    {
+        self.cells.claim_raw(pointer)
+    }
+
+    /// What a raw cell points to.
+    pub fn pointer(&self, cell: &RawRight) -> Pointer
+        requires { raw_home_of cell.now ≡ self.now.world.home.cells }
+        ensures { pointer_at self.now.world (raw_number_of cell.now) ≡ Some result }
+    {
+        self.cells.pointer(cell)
+    }
+
+    /// A raw cell points to this.
+    pub fn point(&mut self, cell: &RawRight, pointer: Pointer)
+        requires { raw_home_of cell.now ≡ self.old.world.home.cells }
+        ensures pointed { self.new ≡ record self.old { world = with_pointer self.old.world (raw_number_of cell.now) pointer } }
+        ensures sizes { KeepsSizes self.old.world self.new.world }
+        ensures whole { IsWhole self.old.world → IsWhole self.new.world }
+        ensures lent { IsWhole self.old.world → AreLent self.old → AreLent self.new }
+    {
+        self.cells.point(cell, pointer);
+    }
+
+    /// Gives a raw cell up. It holds nothing.
+    pub fn close_raw_cell(&mut self, cell: RawRight)
+        requires { raw_home_of cell ≡ self.old.world.home.cells }
+        ensures null { IsNullCell self.old.world (raw_number_of cell) }
+        ensures freed { self.new ≡ record self.old { world = without_cell self.old.world (raw_number_of cell) } }
+        ensures sizes { KeepsSizes self.old.world self.new.world }
+        ensures whole { IsWhole self.old.world → IsWhole self.new.world }
+        ensures lent { IsWhole self.old.world → AreLent self.old → AreLent self.new }
+    {
+        self.cells.close_raw(cell);
+    }
+
     /// A cell for owners of this kind is free, and a place is given what it held.
     pub fn close_cell(&mut self, place: usize, cell: Right, kind: Kind)
         requires place { HasPlace self.old.world place }
@@ -402,9 +556,32 @@ impl<T: Item<T>> Giver<T> for Retirement<'_, T> {
     {
         self.core.close_cell(self.place, inner::right_of_shared_cell(cell), Kind::Shared);
     }
+
+    fn atomic_raw(&mut self, cell: AtomicRaw<T>)
+        requires seated { IsSeated (seat_for self.old.core.now.world self.old.place self.old.core.ghost_name) }
+        requires home { raw_cell.cells_home cell ≡ self.old.core.now.world.home.cells }
+        ensures seat { seat_for self.new.core.now.world self.new.place self.new.core.ghost_name ≡
+            seat_for self.old.core.now.world self.old.place self.old.core.ghost_name }
+        ensures own { GrowsOn (place_at self.old.core.now.world self.old.place) (place_at self.new.core.now.world self.new.place) }
+        ensures lending { self.new.core.now.lending ≡ self.old.core.now.lending }
+        ensures exact { IsExact (seat_for self.old.core.now.world self.old.place self.old.core.ghost_name) →
+            self.new.core.now.world ≡ given self.old.core.now.world self.old.place (raw_cell.cell_holding cell) }
+    {
+        self.core.close_raw_cell(inner::right_of_raw_cell(cell));
+    }
 }
 
 impl<T: Item<T>> Core<T> {
+    /// A value that was taken out of its slot gives up to a place what it holds.
+    fn give_up(&mut self, place: usize, value: T)
+        requires place { HasPlace self.old.world place }
+        requires held { AreOf self.old.world.home (T.holds value) }
+        ensures { self.new ≡ record self.old { world = given_all self.old.world place (T.holds value) } }
+    {
+        let mut giver = Retirement { core: self, place };
+        value.give_up(&mut giver);
+    }
+
     /// An item that waited is reclaimed, and its value gives up to the place what it holds.
     fn reclaim(&mut self, place: usize, slot: u32)
         requires place { HasPlace self.old.world place }
@@ -416,8 +593,23 @@ impl<T: Item<T>> Core<T> {
             return;
         };
         self.tally.count_reclaimed();
-        let mut giver = Retirement { core: self, place };
-        value.give_up(&mut giver);
+        self.give_up(place, value);
+    }
+
+    /// An owner that is alone drops its item in its place, whose value gives up to the place what it holds.
+    pub fn drop_in_place(&mut self, place: usize, right: Right)
+        requires place { HasPlace self.old.world place }
+        requires home { home_of right ≡ self.old.world.home.slots }
+        requires may { MayInPlace self.old.world (number_of right) }
+        requires lent { AreLent self.old }
+        ensures dropped { self.new ≡ record self.old { world = dropped T.holds self.old.world place (number_of right) } }
+        ensures sizes { KeepsSizes self.old.world self.new.world }
+        ensures whole { IsSome (time.phase_at self.old.world.time place) → IsWhole self.old.world → IsWhole self.new.world }
+        ensures lent { AreLent self.new }
+    {
+        let value = self.slots.take(right);
+        self.tally.count_in_place();
+        self.give_up(place, value);
     }
 
     fn reclaim_all(&mut self, place: usize, due: &[u32])
@@ -652,6 +844,22 @@ impl<T: Item<T>> Core<T> {
     {
         self.tenures.agree(place, part);
         self.slots.lend(slot, place, part)
+    }
+
+    /// The value of an item that is out as raw, for as long as a part of the place's tenure is borrowed; of any other slot none.
+    pub fn lend_raw<'g>(&mut self, place: usize, slot: u32, part: &'g Tenure) -> Option<&'g T>
+        requires place { HasPlace self.old.world place }
+        requires lent { AreLent self.old }
+        requires part { IsPartAt self.old.world.home.readers place part.now }
+        ensures raw { IsSome result ↔ (standing_at self.old.world slot ≡ Some Standing.Raw) }
+        ensures value { IfSome result (λ value. value_at self.new.world slot ≡ Some value.now) }
+        ensures world { self.new.world ≡ self.old.world }
+        ensures lent { AreLent self.new }
+    {
+        let Some(Standing::Raw) = self.slots.standing(slot) else {
+            return None;
+        };
+        Some(self.lend_from(place, slot, part))
     }
 
     pub fn set_pace(&mut self, place: usize, pace: Pace)

@@ -7,8 +7,8 @@ ghost use Rattle.sdd_base.specs.Ptr.{shown_by};
 use crate::world::{Place, World};
 use sdd_base::{Guard, Guards, Item, Look, Ptr, RawPtr, Shows, Space, inner};
 use sdd_core::{Refused, Tag};
-use sdd_store::Cell;
-use sdd_token::{Kind, Right};
+use sdd_store::{Cell, Pointer};
+use sdd_token::{Kind, RawRight, Right};
 
 /// One participant's turn at a world: the space in which it makes its calls.
 pub struct Turn<'w, T: Item<T>> {
@@ -197,6 +197,48 @@ impl<T: Item<T>> Space<T> for Turn<'_, T> {
         world.core.let_go(self.place, right, kind)
     }
 
+    fn edit<R, F: FnOnce(&mut T) -> R>(
+        &mut self,
+        right: &Right,
+        kind: Kind,
+        f: F,
+    ) -> Result<R, (F, Refused)> {
+        let world = &mut *self.world;
+        if let Some(refused) = world.core.refused_in_place(right, kind) {
+            return Err((f, refused));
+        }
+        Ok(world.core.edit(right, f))
+    }
+
+    fn drop_in_place(&mut self, right: Right, kind: Kind) -> Result<bool, (Right, Refused)> {
+        let world = &mut *self.world;
+        match world.core.refused_in_place(&right, kind) {
+            Some(Refused::NotAlone) => Ok(world.core.let_go(self.place, right, kind)),
+            Some(refused) => Err((right, refused)),
+            None => {
+                world.core.drop_in_place(self.place, right);
+                Ok(true)
+            }
+        }
+    }
+
+    fn put_out_raw(&mut self, right: Right) -> u32 {
+        let world = &mut *self.world;
+        world.core.put_out_raw(right)
+    }
+
+    fn take_back_raw(&mut self, slot: u32) -> Option<Right> {
+        let world = &mut *self.world;
+        world.core.take_back_raw(slot)
+    }
+
+    fn guarded_raw<'g>(&mut self, slot: u32, guard: &'g Guard) -> Option<&'g T> {
+        let world = &mut *self.world;
+        world
+            .core
+            .lend_raw(self.place, slot, inner::tenure_of(guard))
+    }
+
     fn make_cell(
         &mut self,
         held: Option<Right>,
@@ -296,6 +338,77 @@ impl<T: Item<T>> Space<T> for Turn<'_, T> {
     fn take_cell(&mut self, cell: Right) -> Option<Right> {
         let world = &mut *self.world;
         world.core.take_cell(cell)
+    }
+
+    fn make_raw_cell(&mut self, pointer: Pointer) -> Result<RawRight, Refused> {
+        let world = &mut *self.world;
+        match world.core.make_raw_cell(pointer) {
+            Some(cell) => Ok(cell),
+            None => Err(Refused::NoCell),
+        }
+    }
+
+    fn pointer(&mut self, cell: &RawRight) -> Pointer {
+        let world = &mut *self.world;
+        world.core.pointer(cell)
+    }
+
+    fn swap_pointer(&mut self, cell: &RawRight, new: Pointer) -> Pointer {
+        let world = &mut *self.world;
+        let old = world.core.pointer(cell);
+        world.core.point(cell, new);
+        old
+    }
+
+    fn exchange_pointer(
+        &mut self,
+        cell: &RawRight,
+        current: Pointer,
+        new: Pointer,
+    ) -> Result<(), Pointer> {
+        let world = &mut *self.world;
+        let now = world.core.pointer(cell);
+        if now != current {
+            return Err(now);
+        }
+        world.core.point(cell, new);
+        Ok(())
+    }
+
+    fn tag_pointer_if<F: FnMut(RawPtr<T>) -> bool>(
+        &mut self,
+        cell: &RawRight,
+        tag: Tag,
+        mut condition: F,
+    ) -> Result<bool, Refused> {
+        let world = &mut *self.world;
+        let ptr = inner::raw_ptr_of(world.core.pointer(cell));
+        if !condition(ptr) {
+            return Ok(false);
+        }
+        world
+            .core
+            .point(cell, inner::pointer_of_raw(&ptr.with_tag(tag)));
+        Ok(true)
+    }
+
+    fn update_pointer<F: FnMut(RawPtr<T>) -> Option<RawPtr<T>>>(
+        &mut self,
+        cell: &RawRight,
+        mut f: F,
+    ) -> Result<Result<RawPtr<T>, RawPtr<T>>, Refused> {
+        let world = &mut *self.world;
+        let was = inner::raw_ptr_of(world.core.pointer(cell));
+        let Some(next) = f(was) else {
+            return Ok(Err(was));
+        };
+        world.core.point(cell, inner::pointer_of_raw(&next));
+        Ok(Ok(was))
+    }
+
+    fn close_raw_cell(&mut self, cell: RawRight) {
+        let world = &mut *self.world;
+        world.core.close_raw_cell(cell);
     }
 
     ghost alone_is_exact = { λ _ alone. alone };

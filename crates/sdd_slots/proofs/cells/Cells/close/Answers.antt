@@ -8,5 +8,6 @@ use Rattle.sdd_slots.proofs.cells.Cells.close.Goals as goal
 pub set-requires-clause-whole : goal.set-requires-clause-whole
 set-requires-clause-whole c =
     rw (c.redeem-cell.ensures.kept)
-    rw (get_or-set_same c.self.inside.rights.kept c.redeem-cell.result _ (whole Free) (omega (arith, c.self.invariant.kept_rowed, c.redeem-cell.ensures.inside)))
-    (whole-again c.redeem-cell.result _ c.self.invariant c.redeem-cell.ensures.kind c.args.right.owner (units-fit _))
+    rw (get_or-set_same c.self.inside.rights.kept c.redeem-cell.result _ (whole Free)
+    (omega (arith, c.self.invariant.0.kept_rowed, c.redeem-cell.ensures.inside)))
+    (whole-again c.redeem-cell.result _ c.self.invariant.0 c.redeem-cell.ensures.kind c.args.right.owner (units-fit _))

@@ -11,5 +11,6 @@ invariant_of-self g c =
     let is : slice_index_or c.self.inside.standings c.args.slot None ≡ Some (Shared owners) = (rw (← c.self.view_is) at c.requires.shared).shared in
     rw (c.grant_another.ensures.home, c.grant_another.ensures.kept, c.replace.ensures)
     (keeps-so c.args.slot (Some (Shared (owners + 1))) _
-    (more-kept _ owners is c.requires.fewer ∙ ap (λ (x : Kept). record x { units = x.units - 1 }) (sym (kept-there c.args.slot c.self.invariant)))
+    (more-kept _ owners 1 is (omega (arith, c.requires.fewer))
+    ∙ ap (λ (x : Kept). record x { units = x.units - 1 }) (sym (kept-there c.args.slot c.self.invariant)))
     (sym (ap is_some is)) (shared-bounded (owners + 1) (omega arith) (omega (arith, c.requires.fewer))) c.self.invariant)

@@ -3,4 +3,4 @@ use Rattle.sdd_world.proofs.Lending.{lent-cells}
 use Rattle.sdd_world.proofs.inside.Core.set_tag.Goals as goal
 
 pub returns-clause-lent : goal.returns-clause-lent
-returns-clause-lent g c = rw (← c.self.view_is) (λ _ k. lent-cells _ _ _ _ refl k)
+returns-clause-lent g c = rw (← c.self.view_is) (λ _ k. lent-cells _ _ _ _ _ refl k)

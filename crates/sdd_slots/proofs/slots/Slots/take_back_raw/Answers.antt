@@ -1,0 +1,10 @@
+use Rattle.std.proofs.Common.{ap, Some}
+use Rattle.std.specs.Prelude.{is_some}
+use Rattle.sdd_store.specs.declared.standing.Standing.TheVariants.{Owned}
+use Rattle.sdd_slots.proofs.SlotsKept.{keeps-value}
+use Rattle.sdd_slots.proofs.slots.Slots.take_back_raw.Goals as goal
+
+pub invariant_of-self : goal.invariant_of-self
+invariant_of-self g c =
+    rw (c.grant.ensures.home, c.grant.ensures.kept, c.replace.ensures)
+    (keeps-value c.args.slot (Some Owned) (ap is_some c.in-Some-Raw.ensures) (λ n e. absurd (cc)) c.self.invariant)
