@@ -24,16 +24,4 @@ pub use Rattle.sdd_base.proofs.Whole.{one_where, times_among, count-cons, some-w
 pub use Rattle.sdd_world.specs.Place.{index_of}
 pub use Rattle.sdd_lines.specs.declared.name.ItemName.{ItemName}
 pub use Rattle.sdd_lines.specs.declared.call.Call.TheVariants.{Register, At}
-pub use Rattle.sdd.specs.declared.script.val.Val.{Val}
-pub use Rattle.sdd.specs.declared.script.fate.Fate.{Fate}
-pub use Rattle.sdd.specs.declared.script.fate.Fate.TheVariants.{Out, Retired, Gone}
-pub use Rattle.sdd.specs.declared.script.stage.Attending.{Attending}
-pub use Rattle.sdd.specs.declared.script.stage.Hand.{Hand}
-pub use Rattle.sdd.specs.Val.{holdings_of, body_of, link_of, link_home}
-pub use Rattle.sdd.specs.Ledger.{Ledger, Opening, with_guard, with_retired, all_gone, fate_at}
 pub use Rattle.sdd_store.specs.Time.{opened, due_at}
-pub use Rattle.sdd_store.specs.Renaming.{what_by, time_by}
-pub use Rattle.sdd.specs.Desk.{Desk, slot_at, name_at}
-pub use Rattle.sdd.specs.Script.{Acts, Answers, Runs, IsWaiting}
-pub use Rattle.sdd.specs.Stage.{attending, guarding, item_held, item_named, what_named, desk_of, IsTied}
-pub use Rattle.sdd.specs.Sound.{IsSound, IsStocked, IsOwned, IsLinked, IsKept, IsAttended, IsThere, StandsAs, Keeps, is_of}

@@ -1,10 +1,3 @@
-pub mod Val
-pub mod Made
-pub mod Ledger
-pub mod Due
-pub mod Desk
-pub mod Script
-pub mod Sound
 pub mod Leaving
 pub mod Stage
 pub mod Play

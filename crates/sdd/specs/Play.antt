@@ -9,8 +9,8 @@ use Rattle.sdd_lines.specs.declared.call.Call.{Call}
 use Rattle.sdd_lines.specs.declared.answer.Answer.{Answer}
 use Rattle.sdd_lines.specs.declared.ended.Ended.{Ended}
 use Rattle.sdd_lines.specs.declared.ended.Ended.TheVariants.{Played, NotACall, LimitsOutOfRange, CannotRead, CannotWrite, NoMemory}
-use Rattle.sdd.specs.Desk.{Desk}
-use Rattle.sdd.specs.Script.{IsRun}
+use Rattle.sdd_desk.specs.Desk.{Desk}
+use Rattle.sdd_desk.specs.Script.{IsRun}
 
 -- calls on a new world within these limits are answered so
 abbrev pub AreAnswers : Limits → List Call → List Answer → Type 0

@@ -1,20 +1,41 @@
 -- What a script has in hand, as its desk, and how the two are tied
-use Rattle.std.specs.Prelude.{ℕ, ◌≡◌, List, Option, Some, None, IsSome, map, slice_index, slice_index_or, slice_set}
+use Rattle.std.specs.Prelude.{ℕ, ◌≡◌, ◌<◌, ◌≤◌, IsSome, IsTrue, List, [], ◌∷◌, ◌++◌, Option, Some, None, length, map, slice_index, slice_index_or, slice_set, if◌then◌else◌}
 use Rattle.std.specs.Option.{option_map}
 use Rattle.sdd_token.specs.Units as token
-use Rattle.sdd_store.specs.Waiting.{What}
-use Rattle.sdd_store.specs.Waiting.What.{Item}
 use Rattle.sdd_base.specs.Guard.{reader_of}
-use Rattle.sdd_base.specs.Owned.{slot_of, slots_home}
-use Rattle.sdd_world.specs.Place.{index_of}
+use Rattle.sdd_slots.specs.Slots.{is_waiting}
+use Rattle.sdd_base.specs.Holding.{Holding}
+use Rattle.sdd_base.specs.Holding as holding
+use Rattle.sdd_base.specs.World.{World, standing_at}
+use Rattle.sdd_lines.specs.declared.call.Action.{Action}
+use Rattle.sdd_lines.specs.declared.call.Action.TheVariants as call
 use Rattle.sdd_lines.specs.declared.name.ItemName.{ItemName}
-use Rattle.sdd.specs.Ledger.{Opening, IsOf, place_in}
-use Rattle.sdd_store.specs.Renaming.{time_by}
-use Rattle.sdd.specs.Desk.{Desk}
-use Rattle.sdd.specs.Sound.{IsSound}
+use Rattle.sdd_lines.specs.declared.name.OwnerName.{OwnerName}
+use Rattle.sdd_lines.specs.declared.call.Value.{Value}
+use Rattle.sdd_lines.specs.declared.call.Value.TheVariants.{Number, Of}
+use Rattle.sdd_lines.specs.declared.answer.Reply.{Reply}
+use Rattle.sdd_lines.specs.declared.answer.Reply.TheVariants as reply
+use Rattle.sdd_base.specs.Owned as owned
+use Rattle.sdd_base.specs.Shared as shared
+use Rattle.sdd_world.specs.Place.{index_of}
+use Rattle.sdd_desk.specs.declared.val.Body.{Body}
+use Rattle.sdd_desk.specs.declared.val.Body.TheVariants as body
+use Rattle.sdd_desk.specs.declared.val.Val.{Val}
+use Rattle.sdd_desk.specs.Val.{owner_in}
+use Rattle.sdd_desk.specs.Desk.{Desk, Opening, opening_at, holding_at, place_in, sole_slot, shared_slot}
+use Rattle.sdd_desk.specs.Script.{IsOf, owners_put}
+use Rattle.sdd_desk.specs.Sound.{IsSound}
+use Rattle.sdd_desk.specs.Held.{holding_first}
+use Rattle.sdd_desk.specs.declared.ownership.Ownership.{Ownership}
+use Rattle.sdd_desk.specs.declared.ownership.Ownership.TheVariants as ownership
+use Rattle.sdd.specs.declared.script.holding.AnOwner.{AnOwner}
+use Rattle.sdd.specs.declared.script.holding.AnOwner.TheVariants.{Sole, Share}
+use Rattle.sdd.specs.declared.script.holding.ACell.{ACell}
+use Rattle.sdd.specs.declared.script.holding.ACell.TheVariants as cell
+use Rattle.sdd.specs.declared.script.holding.Filling.{Filling}
+use Rattle.sdd.specs.declared.script.holding.Filling.TheVariants as filling
 use Rattle.sdd.specs.declared.script.stage.Attending.{Attending}
 use Rattle.sdd.specs.declared.script.stage.Guarding.{Guarding}
-use Rattle.sdd.specs.declared.script.stage.Held.{Held}
 use Rattle.sdd.specs.declared.script.stage.Hand.{Hand}
 
 abbrev pub attending : Option Attending → Option Opening
@@ -25,54 +46,31 @@ abbrev pub guarding : Option Guarding → Option Opening
 guarding None = None
 guarding (Some x) = Some (record { place = x.place; since = x.since })
 
-abbrev pub item_held : Option Held → Option ℕ
-item_held None = None
-item_held (Some held) = Some held.item
+abbrev pub owner_holding : AnOwner → Holding
+owner_holding (Sole o) = owned.holding_of o
+owner_holding (Share o) = shared.holding_of o
+
+abbrev pub cell_holding : ACell → Holding
+cell_holding (cell.Sole c) = owned.cell_holding c
+cell_holding (cell.Share c) = shared.cell_holding c
 
 abbrev pub desk_of : Hand → Desk
 desk_of s =
     record {
+      moment = s.moment;
       world = s.world;
-      ledger = record {
-        moment = s.moment;
-        time = time_by (slice_index s.names.items) s.world.time;
-        places = map attending s.places.entries.items;
-        guards = map guarding s.guards.entries.items;
-        owners = map item_held s.owners.entries.items;
-        items = s.fates.items;
-      };
+      places = map attending s.places.entries.items;
+      guards = map guarding s.guards.entries.items;
+      owners = map (option_map owner_holding) s.owners.entries.items;
+      cells = map (option_map cell_holding) s.cells.entries.items;
       slots = s.slots.items;
       names = s.names.items;
+      dates = s.dates.items;
     }
-
--- the participant n is there, and g is the name of one of its open guards
-abbrev pub HasOpen : List (Option Opening) → List (Option Opening) → (n g : ℕ) → Type 0
-HasOpen places guards n g = IsSome (slice_index_or places n None) × IsOf (place_in (slice_index_or places n None)) (slice_index_or guards g None)
-
--- the outermost opening of participant n was in the line before this one
-abbrev pub opened_since : List (Option Opening) → (n line : ℕ) → List (Option Opening)
-opened_since places n line = slice_set places n (option_map (λ (x : Opening). record x { since = line }) (slice_index_or places n None))
-
--- the item of this name
-abbrev pub what_named : ItemName → What
-what_named i = Item i.0
-
--- the name of the item that a slot had last
-abbrev pub item_named : List ℕ → ℕ → ItemName
-item_named names slot = record { 0 = slice_index names slot }
-
--- an owner is that of its item's slot
-pub record IsOwnerIn (home : token.Home) (slots : List ℕ) (held : Held) : Type 0 where
-  pub home_is : slots_home held.owner ≡ home
-  pub slot_is : slot_of held.owner ≡ slice_index_or slots held.item 0
-
-abbrev pub OwnsItem : token.Home → List ℕ → Option Held → Type 0
-OwnsItem home slots None = Unit {0}
-OwnsItem home slots (Some held) = IsOwnerIn home slots held
 
 -- a guard is that of the participant under whose name it was opened
 pub record IsGuardIn (home : token.Home) (places : List (Option Opening)) (held : Guarding) : Type 0 where
-  pub own : option_map (λ (x : Opening). x.place) (slice_index_or places held.participant None) ≡ Some held.place
+  pub own : option_map (λ (x : Opening). x.place) (opening_at places held.participant) ≡ Some held.place
   pub reader : reader_of held.guard ≡ record { home = home; number = held.place }
 
 abbrev pub GuardsIn : token.Home → List (Option Opening) → Option Guarding → Type 0
@@ -82,5 +80,121 @@ GuardsIn home places (Some held) = IsGuardIn home places held
 -- what is in hand is what the desk says
 pub record IsTied (s : Hand) : Type 0 where
   pub sound : IsSound (desk_of s)
-  pub owners : (o : ℕ) → OwnsItem s.world.home.slots s.slots.items (slice_index_or s.owners.entries.items o None)
   pub guards : (g : ℕ) → GuardsIn s.world.home.readers (map attending s.places.entries.items) (slice_index_or s.guards.entries.items g None)
+
+-- ---- what the stage's functions say of each other
+
+-- the participant n is there, and g is the name of one of its open guards
+abbrev pub AreOpen : List (Option Opening) → List (Option Opening) → (n g : ℕ) → Type 0
+AreOpen places guards n g = IsSome (opening_at places n) × IsOf (place_in (opening_at places n)) (opening_at guards g)
+
+-- the outermost opening of participant n was in this line
+abbrev pub opened_since : List (Option Opening) → (n line : ℕ) → List (Option Opening)
+opened_since places n line = slice_set places n (option_map (λ (x : Opening). record x { since = line }) (opening_at places n))
+
+-- the line that makes an item that is so owned
+abbrev pub making : Ownership → Value → Action
+making ownership.Sole value = call.Owned value
+making ownership.Shared value = call.Shared value
+
+-- ---- cells
+
+abbrev pub making_cell : Ownership → Option OwnerName → Action
+making_cell ownership.Sole x = call.CellOwned x
+making_cell ownership.Shared x = call.CellShared x
+
+-- which owners a cell is for, and its number
+abbrev pub cell_kind : ACell → Ownership
+cell_kind (cell.Sole c) = ownership.Sole
+cell_kind (cell.Share c) = ownership.Shared
+
+abbrev pub cell_number : ACell → ℕ
+cell_number (cell.Sole c) = owned.cell_of c
+cell_number (cell.Share c) = shared.cell_of c
+
+-- a cell for such owners
+abbrev pub holding_around : Ownership → (cell : ℕ) → token.Home → Holding
+holding_around ownership.Sole c home = holding.atomic_owned c home
+holding_around ownership.Shared c home = holding.atomic_shared c home
+
+-- what a cell is filled with, and for which owners it is then
+abbrev pub filling_holding : Filling → Option Holding
+filling_holding (filling.Sole o) = option_map owned.holding_of o
+filling_holding (filling.Share o) = option_map shared.holding_of o
+
+abbrev pub filling_kind : Filling → Ownership
+filling_kind (filling.Sole o) = ownership.Sole
+filling_kind (filling.Share o) = ownership.Shared
+
+-- what fills a cell for such owners is none, or the name of one of them
+abbrev pub FitsIn : List (Option Holding) → Ownership → Option OwnerName → Type 0
+FitsIn owners kind None = Unit {0}
+FitsIn owners ownership.Sole (Some o) = IsSome (sole_slot (holding_at owners o.0))
+FitsIn owners ownership.Shared (Some o) = IsSome (shared_slot (holding_at owners o.0))
+
+-- the owner of this name, or none
+abbrev pub named_owner : List (Option Holding) → Option OwnerName → Option Holding
+named_owner owners None = None
+named_owner owners (Some o) = holding_at owners o.0
+
+-- this fills a cell for such owners: none, or the owner of this name, which is spent by it
+pub record Fills (owners : List (Option Holding)) (kind : Ownership) (x : Option OwnerName) (new : List (Option Holding)) (f : Filling) : Type 0 where
+  pub of_kind : filling_kind f ≡ kind
+  pub holding : filling_holding f ≡ named_owner owners x
+  pub left : new ≡ owners_put owners x
+
+-- what comes out of a cell for such owners that held this
+abbrev pub held_as : Ownership → Option ℕ → token.Home → Option Holding
+held_as kind held home = option_map (λ k. holding_first kind k home) held
+
+-- an owner, if there is one, is given the next name
+abbrev pub IsGiven : List (Option Holding) → Option Holding → List (Option Holding) → Option OwnerName → Type 0
+IsGiven owners None new name = (new ≡ owners) × (name ≡ None)
+IsGiven owners (Some h) new name = (new ≡ owners ++ Some h ∷ []) × (name ≡ Some (record { 0 = length owners }))
+
+-- the reply that tells it
+abbrev pub given_back : Option OwnerName → Reply
+given_back None = reply.Nothing
+given_back (Some o) = reply.Owner o
+
+-- an owner, if there is one, whose name was spent, stands under it again
+abbrev pub CanPutBack : List (Option Holding) → Option OwnerName → Option Holding → Type 0
+CanPutBack owners None h = h ≡ None
+CanPutBack owners (Some o) h = (o.0 < length owners) × (holding_at owners o.0 ≡ None) × IsSome h
+
+abbrev pub owners_back : List (Option Holding) → Option OwnerName → Option Holding → List (Option Holding)
+owners_back owners None h = owners
+owners_back owners (Some o) h = slice_set owners o.0 h
+
+-- if the item in this slot waits now, it began to do so in this line
+abbrev pub dated_if_waiting : World Val → Option ℕ → (line : ℕ) → List ℕ → List ℕ
+dated_if_waiting w None line dates = dates
+dated_if_waiting w (Some k) line dates = if is_waiting (standing_at w k) then slice_set dates k line else dates
+
+-- the slot of the owner that a body is has an item with a name
+abbrev pub SlotInside : List ℕ → Body Val → Type 0
+SlotInside names (body.Number n) = Unit {0}
+SlotInside names (body.Owned o) = owned.slot_of o < length names
+SlotInside names (body.Shared o) = shared.slot_of o < length names
+
+-- what a value takes of these owners is not there
+abbrev pub IsMissing : List (Option AnOwner) → Value → Type 0
+IsMissing owners (Number n) = ⊥
+IsMissing owners (Of o) = slice_index_or owners o.0 None ≡ None
+
+-- it is this, and the name of an owner is spent by it
+abbrev pub BecomesBody : List (Option AnOwner) → Value → List (Option AnOwner) → Body Val → Type 0
+BecomesBody owners (Number n) new b = (b ≡ body.Number n) × (new ≡ owners)
+BecomesBody owners (Of o) new b =
+    (owner : AnOwner) × (slice_index_or owners o.0 None ≡ Some owner) × (owner_in b ≡ owner_holding owner ∷ []) × (new ≡ slice_set owners o.0 None)
+
+-- an item is there, and did not begin to wait before this line
+pub record CanPointAt (w : World Val) (slots names dates : List ℕ) (i since : ℕ) : Type 0 where
+  pub last : slice_index names (slice_index_or slots i 0) ≡ i
+  pub taken : IsSome (standing_at w (slice_index_or slots i 0))
+  pub fresh : IsTrue (is_waiting (standing_at w (slice_index_or slots i 0))) → since ≤ slice_index dates (slice_index_or slots i 0)
+
+-- an item that an exchange compares with is so; to null anybody can point
+abbrev pub CanCompareAt : World Val → (slots names dates : List ℕ) → Option ItemName → (since : ℕ) → Type 0
+CanCompareAt w slots names dates None since = Unit {0}
+CanCompareAt w slots names dates (Some i) since = CanPointAt w slots names dates i.0 since

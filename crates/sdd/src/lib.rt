@@ -4,12 +4,12 @@
 pub mod script;
 
 pub use script::{
-    Action, Answer, Call, Ended, Fault, GuardName, ItemName, JobName, Names, OwnerName, PlaceName,
-    Reader, Reply, Scene, Sink, Source, Writer, play, run,
+    Action, Answer, Call, CellName, Ended, Fault, GuardName, ItemName, JobName, Names, OwnerName,
+    PlaceName, Reader, Reply, Scene, Sink, Source, Value, Writer, play, run,
 };
 pub use sdd_base::{
-    AtomicOwned, AtomicShared, Giver, Guard, Guards, Item, Limits, Look, Owned, OwnedPtrPair, Ptr,
-    RawPtr, Shared, SharedPtrPair, Shows, Space,
+    AtomicOwned, AtomicRaw, AtomicShared, Giver, Guard, Guards, Item, Limits, Look, Owned,
+    OwnedPtrPair, Ptr, RawPtr, Shared, SharedPtrPair, Shows, Space,
 };
 pub use sdd_core::{Epoch, Refused, Tag};
 pub use sdd_domain::{Domain, Local, Receipt};

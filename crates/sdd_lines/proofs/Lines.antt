@@ -1,13 +1,13 @@
 -- The words of a line, the numbers that they are, and the calls: each call is read of its line
-use Rattle.std.proofs.Common.{◌≡◌, ℕ, ◌+◌, ◌<◌, ◌≤◌, ◌≢◌, false, eqb, List, [], ◌∷◌, ◌++◌, length, length-append, get_or, take, drop, take-append-drop, map, Option, Some, None, IfSome, OnSome, MatchOption, Result, Ok, Err, refl, sym, ap, subst, ◌∙◌, lit<, arith, rules}
+use Rattle.std.proofs.Common.{◌≡◌, ℕ, ◌+◌, ◌<◌, ◌≤◌, ◌≢◌, Bool, true, false, eqb, List, [], ◌∷◌, ◌++◌, length, length-append, get_or, take, drop, take-append-drop, map, Option, Some, None, IfSome, OnSome, MatchOption, Result, Ok, Err, refl, sym, ap, subst, ◌∙◌, lit<, arith, rules}
 use Rattle.std.specs.Result.{result_ok}
 use Rattle.std.specs.Int.{IsInRange}
 use Rattle.std.specs.List.{All, AllByRecursion}
 use Rattle.std.specs.Fmt.{decimal}
-use Rattle.std.specs.Str.{IsAscii, IsUtf8}
+use Rattle.std.specs.Str.{IsAscii, IsUtf8, bytes_eq}
 use Rattle.std.specs.Str.Parse.{AllDigits, digits_value, ParsesUnsigned}
 use Rattle.std.specs.Str.Pattern.{FindsCharPrefix, HasCharAt}
-use Rattle.std.proofs.lemmas.Bool.{ne_eqb, eq-eqb}
+use Rattle.std.proofs.lemmas.Bool.{ne_eqb, eq-eqb, cond-false}
 use Rattle.std.proofs.lemmas.List.{length-map, drop_more, get_or-take, length-take-le}
 use Rattle.std.proofs.lemmas.List.Elements.{All-from_get_or, All-cons, All-weaker, All-from_recursion}
 use Rattle.std.proofs.lemmas.List.Splits.{slice_split_none, slice_split_at, join_with_byte-slice_split}
@@ -17,11 +17,23 @@ use Rattle.std.proofs.lemmas.Str.Parse.{IsNumeralModel, numerals_by_value, tells
 use Rattle.std.proofs.lemmas.Fmt.{decimal_digit, decimal_nonempty, first_decimal, digits_decimal, digits_value-decimal, decimal-digits_value, parse-decimal, length-decimal-le}
 use Rattle.std.proofs.lemmas.Str.{IsAscii-append, IsUtf8-from_ascii, lead_after_ascii}
 use Rattle.std.proofs.lemmas.Str.Ascii.{IsAscii-cons, IsAscii-from_all}
-use Rattle.sdd_lines.specs.Call.{Call, Register, Tally, At, Action, Open, Argument, Number, Guard, Owner, Item, place, IsNumber, IsWordOf, joined, word_of, spoken, words_of, line_of, HasNumber, HasNumbers, IsTextOf, IsCallText}
-use Rattle.sdd_lines.specs.Reading.{words, IsNumberOf, number_at, numbered_at, argument_at, place_call_at, call_at, most_arguments, arguments_at, few_arguments_at, with_arguments, called, ◌>>=◌}
+use Rattle.sdd_core.specs.declared.tag.Tag.{Tag as Tags}
+use Rattle.sdd_core.specs.declared.tag.Tag.TheVariants as tags
+use Rattle.sdd_lines.specs.Name.{place, tag}
+use Rattle.sdd_lines.specs.declared.call.Call.{Call}
+use Rattle.sdd_lines.specs.declared.call.Call.TheVariants.{Register, Tally, At}
+use Rattle.sdd_lines.specs.declared.call.Action.{Action}
+use Rattle.sdd_lines.specs.declared.call.Action.TheVariants as action
+use Rattle.sdd_lines.specs.declared.call.Value.TheVariants as value
+use Rattle.sdd_lines.specs.declared.call.Argument.{Argument}
+use Rattle.sdd_lines.specs.declared.call.Argument.TheVariants.{Number, Guard, Owner, Item, Cell, Tag, Word}
+use Rattle.sdd_lines.specs.declared.call.Word.{Word as FixedWord}
+use Rattle.sdd_lines.specs.declared.call.Word.TheVariants.{Owned, Shared, Of, If, Was, Now}
+use Rattle.sdd_lines.specs.Call.{IsNumber, IsWordOf, joined, fixed, word_of, spoken, words_of, line_of, HasNumber, HasNumbers, IsTextOf, IsCallText}
+use Rattle.sdd_lines.specs.Reading.{words, IsNumberOf, number_at, numbered_at, numbered_argument_at, plain_arguments, argument_among, argument_at, place_call_at, call_at, most_arguments, arguments_at, few_arguments_at, with_arguments, called, ◌>>=◌}
 use Rattle.std.proofs.lemmas.Bool.Decides.{nat_tests}
 use Rattle.std.proofs.lemmas.Grind.{common_steps}
-use Rattle.std.specs.Prelude.{codes}
+use Rattle.std.specs.Prelude.{codes, if◌then◌else◌}
 
 -- ---- words
 
@@ -93,7 +105,7 @@ prefixed letter word n o h small r = rw (drop_at_char letter word 0 n h small, e
 
 pub ruleset lettered = (no_prefix, prefixed)
 
-pub unlettered : (n : ℕ) (word : List ℕ) → IsWordOf n word → argument_at word ≡ Some (Number n)
+pub unlettered : (n : ℕ) (word : List ℕ) → IsWordOf n word → numbered_argument_at word ≡ Some (Number n)
 unlettered n [] h = absurd (omega (arith, first_digit n [] h))
 unlettered n (b ∷ bs) h = grind (arith, nat_tests, first_digit n (b ∷ bs) h, number_at-decimal n h.0, h.1)
 
@@ -101,11 +113,39 @@ unlettered n (b ∷ bs) h = grind (arith, nat_tests, first_digit n (b ∷ bs) h,
 
 pub ruleset one_argument = (number_is, unlettered)
 
+-- a word with a digit where none of these has any is none of these
+unplain : (xs : List Argument) (k : ℕ) (word : List ℕ) → AllByRecursion (λ a. 57 < get_or (word_of a) k 0) xs → IsInRange 48 57 (get_or word k 0) →
+    argument_among xs word ≡ numbered_argument_at word
+unplain [] k word l h = refl
+unplain (a ∷ xs) k word l h = cond-false _ _ _ (differing word (word_of a) k l.0 h) ∙ unplain xs k word l.1 h
+  where
+    differing : (word other : List ℕ) (k : ℕ) → 57 < get_or other k 0 → IsInRange 48 57 (get_or word k 0) → bytes_eq word other ≡ false
+    differing word other k l h = grind (arith, bytes_eq-Decides word other)
+
+number_said : (n : ℕ) → IsNumber n → argument_at (decimal n) ≡ Some (Number n)
+number_said n h = unplain plain_arguments 0 (decimal n) (search rules) (first_digit n (decimal n) (h, refl)) ∙ unlettered n (decimal n) (h, refl)
+
+name_said : (letter n : ℕ) → IsNumber n → argument_at (letter ∷ decimal n) ≡ numbered_argument_at (letter ∷ decimal n)
+name_said letter n h = unplain plain_arguments 1 (letter ∷ decimal n) (search rules) (first_digit n (decimal n) (h, refl))
+
+tag_said : (t : Tags) → argument_at (tag t) ≡ Some (Tag t)
+tag_said tags.None = refl
+tag_said t = refl
+
+fixed_said : (w : FixedWord) → argument_at (fixed w) ≡ Some (Word w)
+fixed_said Owned = refl
+fixed_said w = refl
+
 argument_said : (a : Argument) → HasNumber a → argument_at (word_of a) ≡ Some a
-argument_said (Number n) h = unlettered n (decimal n) (h, refl)
-argument_said (Guard g) h = rw (number_at-decimal g.0 h) refl
-argument_said (Owner o) h = rw (number_at-decimal o.0 h) refl
-argument_said (Item i) h = rw (number_at-decimal i.0 h) refl
+argument_said (Number n) h = number_said n h
+argument_said (Guard g) h = name_said 103 g.0 h ∙ rw (number_at-decimal g.0 h) refl
+argument_said (Owner None) h = refl
+argument_said (Owner (Some o)) h = name_said 111 o.0 h ∙ rw (number_at-decimal o.0 h) refl
+argument_said (Item None) h = refl
+argument_said (Item (Some i)) h = name_said 105 i.0 h ∙ rw (number_at-decimal i.0 h) refl
+argument_said (Cell c) h = name_said 99 c.0 h ∙ rw (number_at-decimal c.0 h) refl
+argument_said (Tag t) h = tag_said t
+argument_said (Word w) h = fixed_said w
 
 -- arguments are what their words are
 arguments_said : (xs : List Argument) → AllByRecursion HasNumber xs → arguments_at (map word_of xs) ≡ Some xs
@@ -168,14 +208,28 @@ ruleset as_words = (rules, literal_word, number_word, name_word)
 -- the bytes of an argument, and of arguments with a space before each, at most
 abbrev room_of : Argument → ℕ
 room_of (Number n) = 20
+room_of (Tag t) = 6
+room_of (Word w) = 6
 room_of argument = 21
 
 abbrev room : List Argument → ℕ
 room [] = 0
 room (a ∷ xs) = 1 + room_of a + room xs
 
+tag_word : (t : Tags) → IsWord 6 (tag t)
+tag_word tags.None = search as_words
+tag_word t = search as_words
+
+fixed_word : (w : FixedWord) → IsWord 6 (fixed w)
+fixed_word Owned = search as_words
+fixed_word w = search as_words
+
 argument_word : (a : Argument) → HasNumber a → IsWord (room_of a) (word_of a)
 argument_word (Number n) h = number_word n h
+argument_word (Owner None) h = search as_words
+argument_word (Item None) h = search as_words
+argument_word (Tag t) h = tag_word t
+argument_word (Word w) h = fixed_word w
 argument_word a h = search (as_words, h)
 
 unspaced : (word : List ℕ) → All (IsInRange 33 126) word → HasNoSpace word
@@ -206,13 +260,51 @@ all_joined n w (a ∷ xs) h k =
     subst (λ m. AreJoined m (w ∷ word_of a ∷ map word_of xs)) (omega arith)
     (more_joined n (room_of a + room xs) w (word_of a) (map word_of xs) h (all_joined (room_of a) (word_of a) xs (argument_word a k.0) k.1))
 
+-- the actions with some arguments have these arguments
+with_said : (xs : List Argument) → AllByRecursion (λ action. (spoken action).1 ≡ xs) (with_arguments xs)
+with_said [] = search rules
+with_said (Number n ∷ []) = search rules
+with_said (Guard g ∷ []) = search rules
+with_said (Owner (Some o) ∷ []) = search rules
+with_said (Cell c ∷ []) = search rules
+with_said (Item (Some i) ∷ Guard g ∷ []) = search rules
+with_said (Cell c ∷ Guard g ∷ []) = search rules
+with_said (Word Of ∷ Owner (Some o) ∷ []) = search rules
+with_said (Word Owned ∷ Owner x ∷ []) = search rules
+with_said (Word Shared ∷ Owner x ∷ []) = search rules
+with_said (Cell c ∷ Owner x ∷ Tag t ∷ []) = search rules
+with_said (Cell c ∷ Tag t ∷ Word If ∷ Tag u ∷ []) = search rules
+with_said (Cell c ∷ Guard g ∷ Word Was ∷ Item y ∷ Tag t ∷ Word Now ∷ Owner x ∷ Tag u ∷ []) = search rules
+with_said arguments = tt
+
+both_parts : (said : List ℕ × List Argument) (verb : List ℕ) (xs : List Argument) → verb ≡ said.0 → said.1 ≡ xs → said ≡ (verb, xs)
+both_parts (v, ys) verb xs e k = cc (e, k)
+
+one_said : (verb : List ℕ) (xs : List Argument) (a action : Action) (rest : Option Action) (same : Bool) → (same ≡ true → verb ≡ (spoken a).0) →
+    (spoken a).1 ≡ xs → (rest ≡ Some action → spoken action ≡ (verb, xs)) → (if same then Some a else rest) ≡ Some action → spoken action ≡ (verb, xs)
+one_said verb xs a action rest true is k others e = cc (both_parts (spoken a) verb xs (is refl) k, e)
+one_said verb xs a action rest false is k others e = others e
+
+called_said : (verb : List ℕ) (xs : List Argument) (actions : List Action) (action : Action) → AllByRecursion (λ a. (spoken a).1 ≡ xs) actions →
+    called verb actions ≡ Some action → spoken action ≡ (verb, xs)
+called_said verb xs [] action h e = cc e
+called_said verb xs (a ∷ actions) action h e =
+    one_said verb xs a action (called verb actions) (bytes_eq verb (spoken a).0) (bytes_eq-Decides verb (spoken a).0).0 h.0
+    (called_said verb xs actions action h.1) e
+
+-- the action that a verb and its arguments are has these
+pub said_by : (verb : List ℕ) (xs : List Argument) (action : Action) → called verb (with_arguments xs) ≡ Some action → spoken action ≡ (verb, xs)
+said_by verb xs action e = called_said verb xs (with_arguments xs) action (with_said xs) e
+
 -- an action's verb is a word, its arguments are few and short, and no other action has both
 abbrev IsSaid : Action → Type 0
 IsSaid action = IsWord 10 (spoken action).0 × (length (spoken action).1 ≤ most_arguments) × (room (spoken action).1 ≤ 168)
     × (called (spoken action).0 (with_arguments (spoken action).1) ≡ Some action)
 
 said : (action : Action) → IsSaid action
-said Open = (search as_words, omega arith, omega arith, refl)
+said action.Open = (search as_words, omega arith, omega arith, refl)
+said (action.Owned (value.Number n)) = (search as_words, omega arith, omega arith, refl)
+said (action.Shared (value.Number n)) = (search as_words, omega arith, omega arith, refl)
 said action = (search as_words, omega arith, omega arith, refl)
 
 -- ---- both
@@ -224,8 +316,12 @@ pub record IsLine (call : Call) (line : List ℕ) : Type 0 where
   pub read : call_at line ≡ Some call
 
 pub call_line : (call : Call) → HasNumbers call → IsLine call (line_of call)
-call_line Register h = let line = one_joined 8 (codes "register") (search as_words) in record { ascii = line.ascii; short = omega (arith, line.short); read = refl }
-call_line Tally h = let line = one_joined 5 (codes "tally") (search as_words) in record { ascii = line.ascii; short = omega (arith, line.short); read = refl }
+call_line Register h =
+    let line = one_joined 8 (codes "register") (search as_words) in
+    record { ascii = line.ascii; short = omega (arith, line.short); read = refl }
+call_line Tally h =
+    let line = one_joined 5 (codes "tally") (search as_words) in
+    record { ascii = line.ascii; short = omega (arith, line.short); read = refl }
 call_line (At p action) h =
     let act = said action in
     let spoken_line = all_joined 10 (spoken action).0 (spoken action).1 act.0 h.1 in

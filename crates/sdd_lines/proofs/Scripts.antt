@@ -2,7 +2,8 @@
 use Rattle.std.proofs.Common.{◌≡◌, ℕ, ◌+◌, ◌<◌, ◌≢◌, suc, zero, List, [], ◌∷◌, ◌++◌, length, length-append, append-nil, get_or, add-one, take, drop, map, refl, sym, ap, ◌≤◌, ◌∙◌, arith}
 use Rattle.std.specs.List.{onto_first, AllByRecursion}
 use Rattle.std.proofs.lemmas.Bool.{ne_eqb, cond-false}
-use Rattle.sdd_lines.specs.Call.{Call, line_of, HasNumbers, IsCallText}
+use Rattle.sdd_lines.specs.declared.call.Call.{Call}
+use Rattle.sdd_lines.specs.Call.{line_of, HasNumbers, IsCallText}
 use Rattle.sdd_lines.specs.Script.{lines, most_calls, AreCalls, IsFirstFault}
 use Rattle.sdd_lines.proofs.Lines.{call_line}
 

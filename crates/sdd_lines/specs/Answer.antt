@@ -1,15 +1,17 @@
 -- The texts of answers
-use Rattle.std.specs.Prelude.{ℕ, List, [], ◌∷◌, ◌++◌, map, codes, true, false}
+use Rattle.std.specs.Prelude.{ℕ, List, [], ◌∷◌, ◌++◌, Option, Some, None, map, codes, true, false}
 use Rattle.std.specs.List.{flat_map}
 use Rattle.std.specs.Fmt.{decimal}
 use Rattle.sdd_core.specs.Refused.{number_of}
 use Rattle.sdd_core.specs.declared.refused.Refused.{Refused as Refusal}
 use Rattle.sdd_core.specs.declared.refused.Refused.TheVariants.{NoSlot, NoCell, NoJob, NoPlace, NoMemory, TooManyGuards, GuardOpen, NotAlone, OwnerOut, Contended, TooManyOwners, BadLimits}
 use Rattle.sdd_lines.specs.Call.{joined}
-use Rattle.sdd_lines.specs.Name.{place, guard, owner, item, job}
+use Rattle.sdd_lines.specs.Name.{place, guard, owner, item, cell, job, tag}
+use Rattle.sdd_lines.specs.declared.name.OwnerName.{OwnerName}
+use Rattle.sdd_lines.specs.declared.name.ItemName.{ItemName}
 use Rattle.sdd_lines.specs.declared.answer.Answer.{Answer}
 use Rattle.sdd_lines.specs.declared.answer.Reply.{Reply}
-use Rattle.sdd_lines.specs.declared.answer.Reply.TheVariants.{Place, Tally, Guard, Epoch, Truth, Done, Item, Value, Refused, Invalid}
+use Rattle.sdd_lines.specs.declared.answer.Reply.TheVariants.{Place, Tally, Guard, Epoch, Truth, Done, Item, Owner, Nothing, Value, Holding, Cell, Pointer, Tag, Swapped, Exchanged, Differs, Refused, Invalid}
 
 -- the name of a refusal
 abbrev pub refusal : Refusal → List ℕ
@@ -26,6 +28,16 @@ refusal Contended = codes "Contended"
 refusal TooManyOwners = codes "TooManyOwners"
 refusal BadLimits = codes "BadLimits"
 
+-- an owner, or that there is none
+abbrev pub held : Option OwnerName → List ℕ
+held None = codes "none"
+held (Some o) = owner o
+
+-- an item, or that there is none
+abbrev pub target : Option ItemName → List ℕ
+target None = codes "null"
+target (Some i) = item i
+
 abbrev pub words_of_reply : Reply → List (List ℕ)
 words_of_reply (Place p) = place p ∷ []
 words_of_reply (Tally t) = codes "made" ∷ decimal t.made ∷ codes "reclaimed" ∷ decimal t.reclaimed ∷ codes "in" ∷ codes "place" ∷ decimal t.in_place ∷ []
@@ -35,7 +47,16 @@ words_of_reply (Truth true) = codes "true" ∷ []
 words_of_reply (Truth false) = codes "false" ∷ []
 words_of_reply Done = codes "ok" ∷ []
 words_of_reply (Item o i) = owner o ∷ item i ∷ []
+words_of_reply (Owner o) = owner o ∷ []
+words_of_reply Nothing = codes "none" ∷ []
 words_of_reply (Value n) = decimal n ∷ []
+words_of_reply (Holding i) = codes "of" ∷ item i ∷ []
+words_of_reply (Cell c) = cell c ∷ []
+words_of_reply (Pointer i t) = target i ∷ tag t ∷ []
+words_of_reply (Tag t) = tag t ∷ []
+words_of_reply (Swapped o t) = held o ∷ tag t ∷ []
+words_of_reply (Exchanged o) = codes "ok" ∷ held o ∷ []
+words_of_reply (Differs i t) = codes "differs" ∷ target i ∷ tag t ∷ []
 words_of_reply (Refused r) = codes "refused" ∷ decimal (number_of r) ∷ refusal r ∷ []
 words_of_reply Invalid = codes "invalid" ∷ []
 

@@ -1,39 +1,74 @@
 -- The texts of calls: words, with one space between two of them
-use Rattle.std.specs.Prelude.{◌≡◌, ℕ, ◌^◌, ◌<◌, List, [], ◌∷◌, codes, map}
+use Rattle.std.specs.Prelude.{◌≡◌, ℕ, ◌^◌, ◌<◌, List, [], ◌∷◌, Some, None, codes, map}
 use Rattle.std.specs.List.{join_with_byte, AllByRecursion}
 use Rattle.std.specs.Fmt.{decimal}
-pub use Rattle.sdd_lines.specs.Name.{place, guard, owner, item}
-pub use Rattle.sdd_lines.specs.declared.call.Action.{Action}
-pub use Rattle.sdd_lines.specs.declared.call.Action.TheVariants.{Open, Epoch, Garbage, Set, Accelerate, Owned, Read, Look, Retire, Close, End}
-pub use Rattle.sdd_lines.specs.declared.call.Argument.{Argument}
-pub use Rattle.sdd_lines.specs.declared.call.Argument.TheVariants.{Number, Guard, Owner, Item}
-pub use Rattle.sdd_lines.specs.declared.call.Call.{Call}
-pub use Rattle.sdd_lines.specs.declared.call.Call.TheVariants.{Register, Tally, At}
+use Rattle.sdd_lines.specs.Name.{place, guard, owner, item, cell, tag}
+use Rattle.sdd_lines.specs.declared.call.Action.{Action}
+use Rattle.sdd_lines.specs.declared.call.Action.TheVariants as action
+use Rattle.sdd_lines.specs.declared.call.Value.TheVariants as value
+use Rattle.sdd_lines.specs.declared.call.Argument.{Argument}
+use Rattle.sdd_lines.specs.declared.call.Argument.TheVariants.{Number, Guard, Owner, Item, Cell, Tag, Word}
+use Rattle.sdd_lines.specs.declared.call.Word.{Word as FixedWord}
+use Rattle.sdd_lines.specs.declared.call.Word.TheVariants.{Owned, Shared, Of, If, Was, Now}
+use Rattle.sdd_lines.specs.declared.call.Call.{Call}
+use Rattle.sdd_lines.specs.declared.call.Call.TheVariants.{Register, Tally, At}
 
 -- words as a text
 abbrev pub joined : List (List ℕ) → List ℕ
 joined words = join_with_byte 32 words
 
+-- a word that a line has in a fixed place
+abbrev pub fixed : FixedWord → List ℕ
+fixed Owned = codes "owned"
+fixed Shared = codes "shared"
+fixed Of = codes "of"
+fixed If = codes "if"
+fixed Was = codes "was"
+fixed Now = codes "now"
+
 -- an argument as a word
 abbrev pub word_of : Argument → List ℕ
 word_of (Number n) = decimal n
 word_of (Guard g) = guard g
-word_of (Owner o) = owner o
-word_of (Item i) = item i
+word_of (Owner None) = codes "none"
+word_of (Owner (Some o)) = owner o
+word_of (Item None) = codes "null"
+word_of (Item (Some i)) = item i
+word_of (Cell c) = cell c
+word_of (Tag t) = tag t
+word_of (Word w) = fixed w
 
 -- the verb of an action, and its arguments
 abbrev pub spoken : Action → List ℕ × List Argument
-spoken Open = (codes "open", [])
-spoken (Epoch g) = (codes "epoch", Guard g ∷ [])
-spoken (Garbage g) = (codes "garbage", Guard g ∷ [])
-spoken (Set g) = (codes "set", Guard g ∷ [])
-spoken (Accelerate g) = (codes "accelerate", Guard g ∷ [])
-spoken (Owned n) = (codes "owned", Number n ∷ [])
-spoken (Read o) = (codes "read", Owner o ∷ [])
-spoken (Look i g) = (codes "look", Item i ∷ Guard g ∷ [])
-spoken (Retire o) = (codes "retire", Owner o ∷ [])
-spoken (Close g) = (codes "close", Guard g ∷ [])
-spoken End = (codes "end", [])
+spoken action.Open = (codes "open", [])
+spoken (action.Epoch g) = (codes "epoch", Guard g ∷ [])
+spoken (action.Garbage g) = (codes "garbage", Guard g ∷ [])
+spoken (action.Set g) = (codes "set", Guard g ∷ [])
+spoken (action.Accelerate g) = (codes "accelerate", Guard g ∷ [])
+spoken (action.Owned (value.Number n)) = (codes "owned", Number n ∷ [])
+spoken (action.Owned (value.Of o)) = (codes "owned", Word Of ∷ Owner (Some o) ∷ [])
+spoken (action.Shared (value.Number n)) = (codes "shared", Number n ∷ [])
+spoken (action.Shared (value.Of o)) = (codes "shared", Word Of ∷ Owner (Some o) ∷ [])
+spoken (action.Read o) = (codes "read", Owner (Some o) ∷ [])
+spoken (action.Look i g) = (codes "look", Item (Some i) ∷ Guard g ∷ [])
+spoken (action.Upgrade i g) = (codes "upgrade", Item (Some i) ∷ Guard g ∷ [])
+spoken (action.Retire o) = (codes "retire", Owner (Some o) ∷ [])
+spoken (action.Release o) = (codes "release", Owner (Some o) ∷ [])
+spoken (action.Clone o) = (codes "clone", Owner (Some o) ∷ [])
+spoken (action.CellOwned x) = (codes "cell", Word Owned ∷ Owner x ∷ [])
+spoken (action.CellShared x) = (codes "cell", Word Shared ∷ Owner x ∷ [])
+spoken (action.Load c g) = (codes "load", Cell c ∷ Guard g ∷ [])
+spoken (action.Tag c) = (codes "tag", Cell c ∷ [])
+spoken (action.Swap c x t) = (codes "swap", Cell c ∷ Owner x ∷ Tag t ∷ [])
+spoken (action.TagIf c t u) = (codes "tagif", Cell c ∷ Tag t ∷ Word If ∷ Tag u ∷ [])
+spoken (action.Exchange c g y t x u) =
+    (codes "cas", Cell c ∷ Guard g ∷ Word Was ∷ Item y ∷ Tag t ∷ Word Now ∷ Owner x ∷ Tag u ∷ [])
+spoken (action.Copy c g) = (codes "copy", Cell c ∷ Guard g ∷ [])
+spoken (action.Share c g) = (codes "share", Cell c ∷ Guard g ∷ [])
+spoken (action.Into c) = (codes "into", Cell c ∷ [])
+spoken (action.Close g) = (codes "close", Guard g ∷ [])
+spoken (action.CloseCell c) = (codes "close", Cell c ∷ [])
+spoken action.End = (codes "end", [])
 
 -- a place, a verb and its arguments
 abbrev pub words_of : Call → List (List ℕ)
@@ -57,8 +92,10 @@ IsWordOf n word = IsNumber n × (decimal n ≡ word)
 abbrev pub HasNumber : Argument → Type 0
 HasNumber (Number n) = IsNumber n
 HasNumber (Guard g) = IsNumber g.0
-HasNumber (Owner o) = IsNumber o.0
-HasNumber (Item i) = IsNumber i.0
+HasNumber (Owner (Some o)) = IsNumber o.0
+HasNumber (Item (Some i)) = IsNumber i.0
+HasNumber (Cell c) = IsNumber c.0
+HasNumber argument = Unit {0}
 
 -- the numbers of a call have 64 bits each
 abbrev pub HasNumbers : Call → Type 0

@@ -1,10 +1,13 @@
--- The texts of names
+-- The texts of names and of tags
 use Rattle.std.specs.Prelude.{ℕ, List, ◌++◌, codes}
 use Rattle.std.specs.Fmt.{decimal}
+use Rattle.sdd_core.specs.declared.tag.Tag.{Tag}
+use Rattle.sdd_core.specs.declared.tag.Tag.TheVariants.{None, First, Second, Both}
 use Rattle.sdd_lines.specs.declared.name.PlaceName.{PlaceName}
 use Rattle.sdd_lines.specs.declared.name.GuardName.{GuardName}
 use Rattle.sdd_lines.specs.declared.name.OwnerName.{OwnerName}
 use Rattle.sdd_lines.specs.declared.name.ItemName.{ItemName}
+use Rattle.sdd_lines.specs.declared.name.CellName.{CellName}
 use Rattle.sdd_lines.specs.declared.name.JobName.{JobName}
 
 abbrev pub place : PlaceName → List ℕ
@@ -19,5 +22,14 @@ owner name = codes "o" ++ decimal name.0
 abbrev pub item : ItemName → List ℕ
 item name = codes "i" ++ decimal name.0
 
+abbrev pub cell : CellName → List ℕ
+cell name = codes "c" ++ decimal name.0
+
 abbrev pub job : JobName → List ℕ
 job name = codes "j" ++ decimal name.0
+
+abbrev pub tag : Tag → List ℕ
+tag None = codes "None"
+tag First = codes "First"
+tag Second = codes "Second"
+tag Both = codes "Both"

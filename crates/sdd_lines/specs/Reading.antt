@@ -5,7 +5,16 @@ use Rattle.std.specs.Option.{option_and_then}
 use Rattle.std.specs.Fmt.{decimal}
 use Rattle.std.specs.Str.{bytes_eq}
 use Rattle.std.specs.Str.Parse.{digits_value}
-use Rattle.sdd_lines.specs.Call.{spoken, IsWordOf, Call, Register, Tally, At, Action, Open, Epoch, Garbage, Set, Accelerate, Owned, Read, Look, Retire, Close, End, Argument, Number, Guard, Owner, Item}
+use Rattle.sdd_core.specs.declared.tag.Tag.TheVariants as tag
+use Rattle.sdd_lines.specs.Call.{spoken, word_of, IsWordOf}
+use Rattle.sdd_lines.specs.declared.call.Action.{Action}
+use Rattle.sdd_lines.specs.declared.call.Action.TheVariants as action
+use Rattle.sdd_lines.specs.declared.call.Value.TheVariants as value
+use Rattle.sdd_lines.specs.declared.call.Argument.{Argument}
+use Rattle.sdd_lines.specs.declared.call.Argument.TheVariants.{Number, Guard, Owner, Item, Cell, Tag, Word}
+use Rattle.sdd_lines.specs.declared.call.Word.TheVariants.{Owned, Shared, Of, If, Was, Now}
+use Rattle.sdd_lines.specs.declared.call.Call.{Call}
+use Rattle.sdd_lines.specs.declared.call.Call.TheVariants.{Register, Tally, At}
 
 infixl 10 ◌>>=◌
 abbrev pub ◌>>=◌ : {A B : Type 0} → Option A → (A → Option B) → Option B
@@ -30,12 +39,27 @@ numbered_at letter [] = None
 numbered_at letter (byte ∷ bytes) = if byte == letter then number_at bytes else None
 
 -- a number by itself, or behind a letter that says what it names
-abbrev pub argument_at : List ℕ → Option Argument
-argument_at [] = None
-argument_at (byte ∷ bytes) =
+abbrev pub numbered_argument_at : List ℕ → Option Argument
+numbered_argument_at [] = None
+numbered_argument_at (byte ∷ bytes) =
     if byte == 103 then (number_at bytes >>= λ n. Some (Guard (record { 0 = n })))
-    else (if byte == 111 then (number_at bytes >>= λ n. Some (Owner (record { 0 = n })))
-    else (if byte == 105 then (number_at bytes >>= λ n. Some (Item (record { 0 = n }))) else (number_at (byte ∷ bytes) >>= λ n. Some (Number n))))
+    else if byte == 111 then (number_at bytes >>= λ n. Some (Owner (Some (record { 0 = n }))))
+    else if byte == 105 then (number_at bytes >>= λ n. Some (Item (Some (record { 0 = n }))))
+    else if byte == 99 then (number_at bytes >>= λ n. Some (Cell (record { 0 = n })))
+    else (number_at (byte ∷ bytes) >>= λ n. Some (Number n))
+
+-- the arguments without a number
+abbrev pub plain_arguments : List Argument
+plain_arguments = Owner None ∷ Item None ∷ Tag tag.None ∷ Tag tag.First ∷ Tag tag.Second ∷ Tag tag.Both
+    ∷ Word Owned ∷ Word Shared ∷ Word Of ∷ Word If ∷ Word Was ∷ Word Now ∷ []
+
+-- the first of these arguments that a word is, or else the one with a number
+abbrev pub argument_among : List Argument → List ℕ → Option Argument
+argument_among [] word = numbered_argument_at word
+argument_among (argument ∷ arguments) word = if bytes_eq word (word_of argument) then Some argument else argument_among arguments word
+
+abbrev pub argument_at : List ℕ → Option Argument
+argument_at word = argument_among plain_arguments word
 
 -- the arguments that words are, if each is one
 abbrev pub arguments_at : List (List ℕ) → Option (List Argument)
@@ -55,11 +79,19 @@ few_arguments_at words = if nat_lt most_arguments (length words) then None else 
 
 -- the actions with these arguments
 abbrev pub with_arguments : List Argument → List Action
-with_arguments [] = Open ∷ End ∷ []
-with_arguments (Number n ∷ []) = Owned n ∷ []
-with_arguments (Guard g ∷ []) = Epoch g ∷ Garbage g ∷ Set g ∷ Accelerate g ∷ Close g ∷ []
-with_arguments (Owner o ∷ []) = Read o ∷ Retire o ∷ []
-with_arguments (Item i ∷ Guard g ∷ []) = Look i g ∷ []
+with_arguments [] = action.Open ∷ action.End ∷ []
+with_arguments (Number n ∷ []) = action.Owned (value.Number n) ∷ action.Shared (value.Number n) ∷ []
+with_arguments (Guard g ∷ []) = action.Epoch g ∷ action.Garbage g ∷ action.Set g ∷ action.Accelerate g ∷ action.Close g ∷ []
+with_arguments (Owner (Some o) ∷ []) = action.Read o ∷ action.Retire o ∷ action.Release o ∷ action.Clone o ∷ []
+with_arguments (Cell c ∷ []) = action.Tag c ∷ action.Into c ∷ action.CloseCell c ∷ []
+with_arguments (Item (Some i) ∷ Guard g ∷ []) = action.Look i g ∷ action.Upgrade i g ∷ []
+with_arguments (Cell c ∷ Guard g ∷ []) = action.Load c g ∷ action.Copy c g ∷ action.Share c g ∷ []
+with_arguments (Word Of ∷ Owner (Some o) ∷ []) = action.Owned (value.Of o) ∷ action.Shared (value.Of o) ∷ []
+with_arguments (Word Owned ∷ Owner x ∷ []) = action.CellOwned x ∷ []
+with_arguments (Word Shared ∷ Owner x ∷ []) = action.CellShared x ∷ []
+with_arguments (Cell c ∷ Owner x ∷ Tag t ∷ []) = action.Swap c x t ∷ []
+with_arguments (Cell c ∷ Tag t ∷ Word If ∷ Tag u ∷ []) = action.TagIf c t u ∷ []
+with_arguments (Cell c ∷ Guard g ∷ Word Was ∷ Item y ∷ Tag t ∷ Word Now ∷ Owner x ∷ Tag u ∷ []) = action.Exchange c g y t x u ∷ []
 with_arguments arguments = []
 
 -- the first of the actions with this verb

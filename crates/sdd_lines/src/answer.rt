@@ -1,11 +1,12 @@
 //! The answers of a script, each of which is a line.
 
 ghost use Rattle.std.specs.Prelude.{◌≡◌, ℕ, List, [], ◌∷◌, ◌++◌, map, Some, OnOk, IfOk, IfErr, string_bytes};
+ghost use Rattle.sdd_lines.specs.Name.{tag as word_of_tag};
 ghost use Rattle.sdd_lines.specs.Answer.{refusal, ending, text_of, text_of_all, text_of_fault};
 
-use crate::name::{GuardName, ItemName, JobName, Names, OwnerName, PlaceName};
+use crate::name::{CellName, GuardName, ItemName, JobName, Names, OwnerName, PlaceName};
 use sdd_core::inner::number_of_refusal;
-use sdd_core::{Epoch, Refused};
+use sdd_core::{Epoch, Refused, Tag};
 use sdd_store::Tally;
 use std::alloc::{AllocError, Global};
 use std::fmt;
@@ -13,14 +14,40 @@ use std::fmt;
 /// What a call answered.
 #[derive(Clone, Copy, Debug, PartialEq, Eq)]
 pub enum Reply {
+    /// `p0`: a new participant.
     Place(PlaceName),
+    /// `made A reclaimed B in place C`: how many items there were.
     Tally(Tally),
+    /// `g0 epoch E`: a new guard, and the epoch that it shows.
     Guard(GuardName, Epoch),
+    /// An epoch, as its number.
     Epoch(Epoch),
+    /// `true` or `false`.
     Truth(bool),
+    /// `ok`: nothing else is to be told.
     Done,
+    /// `o0 i0`: a new owner of a new item.
     Item(OwnerName, ItemName),
+    /// `o0`: an owner of an item that was there.
+    Owner(OwnerName),
+    /// `none`: no owner.
+    Nothing,
+    /// A value that is a number, as `7`.
     Value(u64),
+    /// `of i0`: a value that holds an owner of this item.
+    Holding(ItemName),
+    /// `c0`: a new cell.
+    Cell(CellName),
+    /// `i0 T` or `null T`: a pointer to an item, or to none, and its tag.
+    Pointer(Option<ItemName>, Tag),
+    /// A tag: `None`, `First`, `Second` or `Both`.
+    Tag(Tag),
+    /// `o0 T` or `none T`: the owner that a cell held, if any, and the cell's tag.
+    Swapped(Option<OwnerName>, Tag),
+    /// `ok o0` or `ok none`: a cell had what was expected, and held this owner, if any.
+    Exchanged(Option<OwnerName>),
+    /// `differs i0 T` or `differs null T`: a cell points to this, and not to what was expected. Nothing changed.
+    Differs(Option<ItemName>, Tag),
     Refused(Refused),
     /// The call names what was never given, is spent or is of the wrong kind. Nothing changed.
     Invalid,
@@ -48,7 +75,20 @@ impl fmt::Display for Reply {
             Reply::Truth(truth) => write!(f, "{truth}"),
             Reply::Done => write!(f, "ok"),
             Reply::Item(owner, item) => write!(f, "{owner} {item}"),
+            Reply::Owner(owner) => write!(f, "{owner}"),
+            Reply::Nothing => write!(f, "none"),
             Reply::Value(value) => write!(f, "{value}"),
+            Reply::Holding(item) => write!(f, "of {item}"),
+            Reply::Cell(cell) => write!(f, "{cell}"),
+            Reply::Pointer(Some(item), tag) => write!(f, "{item} {}", name_of_tag(tag)),
+            Reply::Pointer(None, tag) => write!(f, "null {}", name_of_tag(tag)),
+            Reply::Tag(tag) => write!(f, "{}", name_of_tag(tag)),
+            Reply::Swapped(Some(owner), tag) => write!(f, "{owner} {}", name_of_tag(tag)),
+            Reply::Swapped(None, tag) => write!(f, "none {}", name_of_tag(tag)),
+            Reply::Exchanged(Some(owner)) => write!(f, "ok {owner}"),
+            Reply::Exchanged(None) => write!(f, "ok none"),
+            Reply::Differs(Some(item), tag) => write!(f, "differs {item} {}", name_of_tag(tag)),
+            Reply::Differs(None, tag) => write!(f, "differs null {}", name_of_tag(tag)),
             Reply::Refused(refused) => {
                 write!(
                     f,
@@ -141,5 +181,16 @@ fn name_of(refused: Refused) -> &'static str
         Refused::Contended => "Contended",
         Refused::TooManyOwners => "TooManyOwners",
         Refused::BadLimits => "BadLimits",
+    }
+}
+
+fn name_of_tag(tag: Tag) -> &'static str
+    ensures { result.now ≡ word_of_tag tag }
+{
+    match tag {
+        Tag::None => "None",
+        Tag::First => "First",
+        Tag::Second => "Second",
+        Tag::Both => "Both",
     }
 }

@@ -3,7 +3,8 @@
 mod arguments;
 pub(crate) mod reading;
 
-use crate::name::{GuardName, ItemName, OwnerName, PlaceName};
+use crate::name::{CellName, GuardName, ItemName, OwnerName, PlaceName};
+use sdd_core::Tag;
 use std::str;
 
 /// A call of a script.
@@ -17,26 +18,92 @@ pub enum Call {
 /// What a participant is to do.
 #[derive(Clone, Copy, Debug, PartialEq, Eq)]
 pub enum Action {
+    /// `open`: opens a guard.
     Open,
+    /// `epoch G`: the epoch that a guard shows.
     Epoch(GuardName),
+    /// `garbage G`: whether something may wait.
     Garbage(GuardName),
+    /// `set G`: says that there is garbage.
     Set(GuardName),
+    /// `accelerate G`: has the next outermost close try to raise the epoch.
     Accelerate(GuardName),
-    Owned(u64),
+    /// `owned V`: makes an item with one owner.
+    Owned(Value),
+    /// `shared V`: makes an item whose owners are counted.
+    Shared(Value),
+    /// `read O`: the value of an owner's item.
     Read(OwnerName),
+    /// `look I G`: the value of an item that has no owner at hand, through a pointer to it.
     Look(ItemName, GuardName),
+    /// `upgrade I G`: an owner more of an item, through a pointer to it.
+    Upgrade(ItemName, GuardName),
+    /// `retire O`: retires the item of its one owner.
     Retire(OwnerName),
+    /// `release O`: gives up one of the counted owners.
+    Release(OwnerName),
+    /// `clone O`: an owner more beside a counted one.
+    Clone(OwnerName),
+    /// `cell owned X`: a cell that holds an owner, or `none`, and closes with it.
+    CellOwned(Option<OwnerName>),
+    /// `cell shared X`: a cell that holds a counted owner, or `none`.
+    CellShared(Option<OwnerName>),
+    /// `load C G`: what a cell points to, under a guard.
+    Load(CellName, GuardName),
+    /// `tag C`: the tag of a cell.
+    Tag(CellName),
+    /// `swap C X T`: puts an owner, or `none`, and a tag into a cell, and takes out what was there.
+    Swap(CellName, Option<OwnerName>, Tag),
+    /// `tagif C T if T`: gives a cell the first tag where it has the second.
+    TagIf(CellName, Tag, Tag),
+    /// `cas C G was Y T now X T`: where a cell points to an item, or `null`, with a tag, swaps that for an owner, or `none`, and a tag.
+    Exchange(CellName, GuardName, Option<ItemName>, Tag, Option<OwnerName>, Tag),
+    /// `copy C G`: a cell with one more owner of what a shared cell holds.
+    Copy(CellName, GuardName),
+    /// `share C G`: one more owner of what a shared cell holds.
+    Share(CellName, GuardName),
+    /// `into C`: ends a cell, and takes out the owner in it.
+    Into(CellName),
+    /// `close G`: closes a guard.
     Close(GuardName),
+    /// `close C`: closes a cell, and gives up what it holds.
+    CloseCell(CellName),
+    /// `end`: the participant takes part no more.
     End,
 }
 
-/// An argument of a verb, which is a word of a line.
+/// The value of a new item.
+#[derive(Clone, Copy, Debug, PartialEq, Eq)]
+pub enum Value {
+    /// A number, as `7`.
+    Number(u64),
+    /// An owner that goes into the value, as `of o0`.
+    Of(OwnerName),
+}
+
+/// An argument of a verb: a word of a line that is a number, a name, a tag or fixed.
 #[derive(Clone, Copy)]
 pub(crate) enum Argument {
     Number(u64),
     Guard(GuardName),
-    Owner(OwnerName),
-    Item(ItemName),
+    /// An owner, or `none`.
+    Owner(Option<OwnerName>),
+    /// An item, or `null`.
+    Item(Option<ItemName>),
+    Cell(CellName),
+    Tag(Tag),
+    Word(Word),
+}
+
+/// A word that a line has in a fixed place.
+#[derive(Clone, Copy)]
+pub(crate) enum Word {
+    Owned,
+    Shared,
+    Of,
+    If,
+    Was,
+    Now,
 }
 
 impl Call {

@@ -13,8 +13,8 @@ pub mod name;
 pub mod script;
 
 pub use answer::{Answer, Reply, print_all, print_fault};
-pub use call::{Action, Call};
+pub use call::{Action, Call, Value};
 pub use device::{Fault, ReadEnd, Reader, Sink, Source, Writer, read_to_end, write_all};
 pub use ended::Ended;
-pub use name::{GuardName, ItemName, JobName, Names, OwnerName, PlaceName};
+pub use name::{CellName, GuardName, ItemName, JobName, Names, OwnerName, PlaceName};
 pub use script::{MOST_CALLS, Script, parse_all};

@@ -22,6 +22,10 @@ pub struct OwnerName(pub u64);
 #[derive(Clone, Copy, Debug, PartialEq, Eq, PartialOrd, Ord)]
 pub struct ItemName(pub u64);
 
+/// The name of a cell, as `c0`.
+#[derive(Clone, Copy, Debug, PartialEq, Eq, PartialOrd, Ord)]
+pub struct CellName(pub u64);
+
 /// The name of a job, as `j0`. No line takes one.
 #[derive(Clone, Copy, Debug, PartialEq, Eq, PartialOrd, Ord)]
 pub struct JobName(pub u64);
@@ -67,6 +71,17 @@ impl fmt::Display for ItemName {
 
     fn fmt<W: fmt::Write>(&self, f: &mut fmt::Formatter<W>) -> fmt::Result {
         write!(f, "i{}", self.0)
+    }
+}
+
+impl fmt::Display for CellName {
+    ghost use Rattle.std.specs.Prelude.{Some};
+    ghost use Rattle.sdd_lines.specs.Name.{cell};
+
+    ghost output = { λ name. Some (cell name) };
+
+    fn fmt<W: fmt::Write>(&self, f: &mut fmt::Formatter<W>) -> fmt::Result {
+        write!(f, "c{}", self.0)
     }
 }
 

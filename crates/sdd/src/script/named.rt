@@ -49,9 +49,20 @@ impl<T> Named<T> {
     pub fn take(&mut self, name: u64) -> Option<T>
         ensures taken { result ≡ slice_index_or self.old.entries.items name None }
         ensures spent { self.new.entries.items ≡ slice_set self.old.entries.items name None }
+        ensures room { vec_capacity self.new.entries ≡ vec_capacity self.old.entries }
     {
         let index = usize::try_from(name).ok()?;
         self.entries.get_mut(index)?.take()
+    }
+
+    /// A name that was spent stands for this from now on.
+    pub fn put_back(&mut self, name: u64, value: T)
+        requires spent { (name < length self.old.entries.items) × (slice_index_or self.old.entries.items name None ≡ None) }
+        ensures back { self.new.entries.items ≡ slice_set self.old.entries.items name (Some value) }
+    {
+        if let Some(_) = self.entries[name as usize].replace(value) {
+            unreachable!()
+        }
     }
 
     /// Lets the names go, which are all spent.

@@ -1,7 +1,7 @@
 //! Runs of scripts.
 ghost use Rattle.std.specs.Prelude.{◌≡◌, ◌⊎◌, IfOk, MatchResult};
 ghost use Rattle.sdd_base.specs.Limits.{AreInRange};
-ghost use Rattle.sdd.specs.Script.{IsRun};
+ghost use Rattle.sdd_desk.specs.Script.{IsRun};
 
 use crate::script::scene::Scene;
 use crate::script::stage::Stage;

@@ -2,7 +2,7 @@
 ghost use Rattle.std.specs.Prelude.{◌≡◌};
 
 use crate::script::stage::Stage;
-use crate::script::val::Val;
+use sdd_desk::Val;
 use sdd_store::Tally;
 use sdd_world::World;
 use std::marker::Model;
@@ -15,9 +15,13 @@ pub struct Scene {
 }
 
 impl Model for Scene {
-    ghost use Rattle.sdd.specs.Desk.{Desk};
+    ghost use Rattle.std.specs.Coded.{codes};
+    ghost use Rattle.sdd_desk.specs.contracts.val.Val as val;
+    ghost use Rattle.sdd_desk.specs.Desk.{Desk};
 
     ghost Value = { Desk };
+
+    ghost coded = { Prim.hlevel (codes, val.the_row.coded) };
 
     ghost view = { λ scene. scene.stage };
 }

@@ -1,17 +1,20 @@
 //! The world of a script in the middle of a run, with what its names stand for.
-ghost use Rattle.std.specs.Prelude.{◌≡◌, ℕ, ◌+◌, ◌^◌, ◌<◌, ◌⊎◌, [], IfOk, MatchResult};
+ghost use Rattle.std.specs.Prelude.{◌≡◌, ◌≢◌, ℕ, ◌+◌, ◌^◌, ◌<◌, ◌⊎◌, [], IfOk, MatchResult};
 
+mod cells;
+mod exchanges;
 mod guards;
 mod items;
 mod leaving;
+mod owners;
 mod participants;
 
-use crate::script::fate::Fate;
+use crate::script::holding::{ACell, AnOwner};
 use crate::script::named::Named;
-use crate::script::val::Val;
-use sdd_base::{Guard, Limits, Owned};
+use sdd_base::{Guard, Limits};
 use sdd_core::Refused;
-use sdd_lines::{Action, Answer, Call, Names, Reply};
+use sdd_desk::{Ownership, Val};
+use sdd_lines::{Action, Answer, Call, Names, PlaceName, Reply};
 use sdd_world::{Place, World};
 use std::alloc::Global;
 use std::marker::Model;
@@ -20,7 +23,7 @@ use std::marker::Model;
 #[derive(Drop)]
 pub struct Attending {
     pub place: Place,
-    /// The first line after its last outermost opening.
+    /// The line of its last outermost opening.
     pub since: u64,
 }
 
@@ -31,32 +34,26 @@ pub struct Guarding {
     pub place: usize,
     /// The name of the participant whose it is.
     pub participant: u64,
-    /// The first line after its opening.
+    /// The line of its opening.
     pub since: u64,
-}
-
-/// An owner of a script.
-pub struct Held {
-    pub owner: Owned<Val>,
-    /// The name of its item.
-    pub item: u64,
 }
 
 /// A world, and what a script holds of it.
 pub struct Hand {
     pub world: World<Val>,
     pub alloc: Global,
-    /// How many lines there were.
+    /// How many lines there were, the present one counted.
     pub moment: u64,
     pub places: Named<Attending>,
     pub guards: Named<Guarding>,
-    pub owners: Named<Held>,
+    pub owners: Named<AnOwner>,
+    pub cells: Named<ACell>,
     /// Of each item its slot.
     pub slots: Vec<u32>,
-    /// What became of each item.
-    pub fates: Vec<Fate>,
     /// Of each slot the name of the item that it had last.
     pub names: Vec<u64>,
+    /// Of each slot the line in which its item began to wait.
+    pub dates: Vec<u64>,
 }
 
 /// A script in the middle of a run.
@@ -65,10 +62,14 @@ pub struct Stage {
 }
 
 impl Model for Stage {
-    ghost use Rattle.sdd.specs.Desk.{Desk};
+    ghost use Rattle.std.specs.Coded.{codes};
+    ghost use Rattle.sdd_desk.specs.contracts.val.Val as val;
+    ghost use Rattle.sdd_desk.specs.Desk.{Desk};
     ghost use Rattle.sdd.specs.Stage.{desk_of, IsTied};
 
     ghost Value = { Desk };
+
+    ghost coded = { Prim.hlevel (codes, val.the_row.coded) };
 
     ghost view = { λ stage. desk_of stage.hand };
 
@@ -77,8 +78,10 @@ impl Model for Stage {
 
 impl Stage {
     ghost use Rattle.sdd_base.specs.Limits.{AreInRange};
-    ghost use Rattle.sdd.specs.Desk.{IsStart};
-    ghost use Rattle.sdd.specs.Script.{Acts, Answers, Step};
+    ghost use Rattle.sdd_base.specs.Left.{GoesInTime};
+    ghost use Rattle.sdd_desk.specs.Val.{holdings_of};
+    ghost use Rattle.sdd_desk.specs.Desk.{BeginsLine, IsStart, later};
+    ghost use Rattle.sdd_desk.specs.Script.{Acts, Answers, Step};
 
     /// A new world, of which nothing has a name.
     pub fn new(alloc: Global, limits: Limits) -> Result<Stage, Refused>
@@ -90,6 +93,7 @@ impl Stage {
             return Err(Refused::BadLimits);
         }
         let names = vec![in alloc; 0; limits.slots as usize]?;
+        let dates = vec![in alloc; 0; limits.slots as usize]?;
         let world = World::new(alloc, limits)?;
         Ok(Stage {
             hand: Hand {
@@ -99,9 +103,10 @@ impl Stage {
                 places: Named::new(alloc),
                 guards: Named::new(alloc),
                 owners: Named::new(alloc),
+                cells: Named::new(alloc),
                 slots: Vec::new(alloc),
-                fates: Vec::new(alloc),
                 names,
+                dates,
             },
         })
     }
@@ -113,39 +118,77 @@ impl Stage {
         &self.hand.world
     }
 
-    /// One line. With `NoMemory`, which alone refuses it, nothing has changed.
+    /// One line. `NoMemory` alone refuses it.
     pub fn step(&mut self, call: &Call) -> Result<Answer, Refused>
-        requires more { self.old.ledger.moment + 1 < 2 ^ 64 }
-        ensures step { MatchResult result (λ answer. Step self.old call.now answer self.new)
-            (λ refused. (refused ≡ Refused.NoMemory) × (self.new ≡ self.old)) }
+        requires more { self.old.moment + 1 < 2 ^ 64 }
+        ensures step { MatchResult result (λ answer. Step self.old call.now answer self.new × GoesInTime holdings_of self.new.world)
+            (λ refused. (refused ≡ Refused.NoMemory) × (self.new ≡ later self.old)) }
     {
-        let answer = self.answer_to(call)?;
         self.hand.moment += 1;
+        let answer = self.answer_to(call)?;
+        self.hand.world.reclaims_in_time();
         Ok(answer)
     }
 
-    /// What a call answers.
+    /// What a call answers, in a line of its own.
     fn answer_to(&mut self, call: &Call) -> Result<Answer, Refused>
-        requires more { self.old.ledger.moment + 1 < 2 ^ 64 }
+        requires line { BeginsLine self.old }
         ensures answers { MatchResult result (λ answer. Answers self.old call.now answer self.new)
             (λ refused. (refused ≡ Refused.NoMemory) × (self.new ≡ self.old)) }
     {
-        let reply = match *call {
+        match *call {
+            Call::At(name, Action::Open) => Ok(self.open(name)?),
+            _ => {
+                let reply = self.reply_to(call)?;
+                Ok(self.answer(reply))
+            }
+        }
+    }
+
+    /// The reply to a call that opens no guard.
+    fn reply_to(&mut self, call: &Call) -> Result<Reply, Refused>
+        requires other { (name : PlaceName) → call.now ≢ Call.At name Action.Open }
+        ensures acts { MatchResult result (λ reply. Acts self.old call.now reply self.new)
+            (λ refused. (refused ≡ Refused.NoMemory) × (self.new ≡ self.old)) }
+    {
+        Ok(match *call {
             Call::Register => self.register()?,
             Call::Tally => Reply::Tally(self.hand.world.tally()),
-            Call::At(name, Action::Open) => return Ok(self.open(name)?),
+            Call::At(_, Action::Open) => unreachable!(),
             Call::At(name, Action::End) => self.end(name),
             Call::At(name, Action::Epoch(guard)) => self.epoch(name, guard),
             Call::At(name, Action::Garbage(guard)) => self.garbage(name, guard),
             Call::At(name, Action::Set(guard)) => self.set(name, guard),
             Call::At(name, Action::Accelerate(guard)) => self.accelerate(name, guard),
-            Call::At(name, Action::Owned(number)) => self.make(name, number)?,
+            Call::At(name, Action::Owned(value)) => self.make(name, value, Ownership::Sole)?,
+            Call::At(name, Action::Shared(value)) => self.make(name, value, Ownership::Shared)?,
             Call::At(name, Action::Read(owner)) => self.read(name, owner),
             Call::At(name, Action::Look(item, guard)) => self.look(name, item, guard),
+            Call::At(name, Action::Upgrade(item, guard)) => self.upgrade(name, item, guard)?,
+            Call::At(name, Action::Clone(owner)) => self.clone_owner(name, owner)?,
+            Call::At(name, Action::Release(owner)) => self.release(name, owner),
             Call::At(name, Action::Retire(owner)) => self.retire(name, owner),
             Call::At(name, Action::Close(guard)) => self.close_guard(name, guard),
-        };
-        Ok(self.answer(reply))
+            Call::At(name, Action::CellOwned(owner)) => {
+                self.make_cell(name, owner, Ownership::Sole)?
+            }
+            Call::At(name, Action::CellShared(owner)) => {
+                self.make_cell(name, owner, Ownership::Shared)?
+            }
+            Call::At(name, Action::Load(cell, guard)) => self.load(name, cell, guard),
+            Call::At(name, Action::Tag(cell)) => self.tag(name, cell),
+            Call::At(name, Action::Swap(cell, owner, tag)) => self.swap(name, cell, owner, tag)?,
+            Call::At(name, Action::TagIf(cell, tag, was)) => {
+                self.set_tag_if(name, cell, tag, was)
+            }
+            Call::At(name, Action::Exchange(cell, guard, item, was, owner, tag)) => {
+                self.exchange(name, cell, guard, item, was, owner, tag)?
+            }
+            Call::At(name, Action::Into(cell)) => self.into_owner(name, cell)?,
+            Call::At(name, Action::Copy(cell, guard)) => self.copy(name, cell, guard)?,
+            Call::At(name, Action::Share(cell, guard)) => self.share(name, cell, guard)?,
+            Call::At(name, Action::CloseCell(cell)) => self.close_cell(name, cell),
+        })
     }
 
     /// An answer without endings.

@@ -4,12 +4,13 @@ ghost use Rattle.std.specs.Prelude.{◌≡◌, [], ◌∷◌, ◌<◌, Some, IfS
 ghost use Rattle.std.specs.List.{AllByRecursion};
 ghost use Rattle.std.specs.Fmt.{decimal};
 ghost use Rattle.sdd_lines.specs.Call.{IsNumber, HasNumber, word_of, spoken, HasNumbers, words_of};
-ghost use Rattle.sdd_lines.specs.Reading.{words, IsNumberOf, numbered_at, argument_at, few_arguments_at, with_arguments, called, action_at, call_at};
+ghost use Rattle.sdd_lines.specs.Reading.{words, IsNumberOf, numbered_at, argument_at, numbered_argument_at, few_arguments_at, with_arguments, called, action_at, call_at};
 
 use super::arguments::Arguments;
-use super::{Action, Argument, Call};
+use super::{Action, Argument, Call, Value, Word};
 use crate::first::first_at;
-use crate::name::{GuardName, ItemName, OwnerName, PlaceName};
+use crate::name::{CellName, GuardName, ItemName, OwnerName, PlaceName};
+use sdd_core::Tag;
 
 /// The first word, and what follows the space behind it, if there is one.
 #[tactic(auto, using(crate::proofs::Lines::by_space))]
@@ -46,10 +47,34 @@ fn argument(word: &str) -> Option<Argument>
     ensures is { result ≡ argument_at word.now }
     ensures sound { IfSome result (λ argument. HasNumber argument × (word_of argument ≡ word.now)) }
 {
+    match word {
+        "none" => Some(Argument::Owner(None)),
+        "null" => Some(Argument::Item(None)),
+        "None" => Some(Argument::Tag(Tag::None)),
+        "First" => Some(Argument::Tag(Tag::First)),
+        "Second" => Some(Argument::Tag(Tag::Second)),
+        "Both" => Some(Argument::Tag(Tag::Both)),
+        "owned" => Some(Argument::Word(Word::Owned)),
+        "shared" => Some(Argument::Word(Word::Shared)),
+        "of" => Some(Argument::Word(Word::Of)),
+        "if" => Some(Argument::Word(Word::If)),
+        "was" => Some(Argument::Word(Word::Was)),
+        "now" => Some(Argument::Word(Word::Now)),
+        _ => numbered_argument(word),
+    }
+}
+
+/// A number by itself, or behind a letter that says what it names.
+#[tactic(auto, using(crate::proofs::Lines::one_argument))]
+fn numbered_argument(word: &str) -> Option<Argument>
+    ensures is { result ≡ numbered_argument_at word.now }
+    ensures sound { IfSome result (λ argument. HasNumber argument × (word_of argument ≡ word.now)) }
+{
     match word.as_bytes() {
         [b'g', ..] => Some(Argument::Guard(GuardName(numbered('g', word)?))),
-        [b'o', ..] => Some(Argument::Owner(OwnerName(numbered('o', word)?))),
-        [b'i', ..] => Some(Argument::Item(ItemName(numbered('i', word)?))),
+        [b'o', ..] => Some(Argument::Owner(Some(OwnerName(numbered('o', word)?)))),
+        [b'i', ..] => Some(Argument::Item(Some(ItemName(numbered('i', word)?)))),
+        [b'c', ..] => Some(Argument::Cell(CellName(numbered('c', word)?))),
         _ => Some(Argument::Number(number(word)?)),
     }
 }
@@ -70,29 +95,139 @@ fn arguments(text: &str) -> Option<Arguments>
     Some(found)
 }
 
-/// The verbs, each with its arguments.
+/// The verbs, each with its arguments. Its own are those with none or with eight.
 fn spoken(verb: &str, arguments: &[Argument]) -> Option<Action>
-    ensures is { result ≡ called verb.now (with_arguments arguments.now) }
-    ensures sound { IfSome result (λ action. spoken action ≡ (verb.now, arguments.now)) }
+    ensures { result ≡ called verb.now (with_arguments arguments.now) }
 {
-    match (arguments, verb) {
-        ([], "open") => Some(Action::Open),
-        ([], "end") => Some(Action::End),
-        ([Argument::Number(number)], "owned") => Some(Action::Owned(*number)),
-        ([Argument::Guard(guard)], "epoch") => Some(Action::Epoch(*guard)),
-        ([Argument::Guard(guard)], "garbage") => Some(Action::Garbage(*guard)),
-        ([Argument::Guard(guard)], "set") => Some(Action::Set(*guard)),
-        ([Argument::Guard(guard)], "accelerate") => Some(Action::Accelerate(*guard)),
-        ([Argument::Guard(guard)], "close") => Some(Action::Close(*guard)),
-        ([Argument::Owner(owner)], "read") => Some(Action::Read(*owner)),
-        ([Argument::Owner(owner)], "retire") => Some(Action::Retire(*owner)),
-        ([Argument::Item(item), Argument::Guard(guard)], "look") => Some(Action::Look(
-            *item, *guard,
-        )),
+    match *arguments {
+        [] => match verb {
+            "open" => Some(Action::Open),
+            "end" => Some(Action::End),
+            _ => None,
+        },
+        [argument] => with_one(verb, argument),
+        [first, second] => with_two(verb, first, second),
+        [first, second, third] => with_three(verb, first, second, third),
+        [first, second, third, fourth] => with_four(verb, first, second, third, fourth),
+        [
+            Argument::Cell(cell),
+            Argument::Guard(guard),
+            Argument::Word(Word::Was),
+            Argument::Item(item),
+            Argument::Tag(old),
+            Argument::Word(Word::Now),
+            Argument::Owner(held),
+            Argument::Tag(tag),
+        ] => match verb {
+            "cas" => Some(Action::Exchange(cell, guard, item, old, held, tag)),
+            _ => None,
+        },
         _ => None,
     }
 }
 
+/// The verbs with one argument.
+fn with_one(verb: &str, argument: Argument) -> Option<Action>
+    ensures { result ≡ called verb.now (with_arguments (argument ∷ [])) }
+{
+    match argument {
+        Argument::Number(number) => match verb {
+            "owned" => Some(Action::Owned(Value::Number(number))),
+            "shared" => Some(Action::Shared(Value::Number(number))),
+            _ => None,
+        },
+        Argument::Guard(guard) => match verb {
+            "epoch" => Some(Action::Epoch(guard)),
+            "garbage" => Some(Action::Garbage(guard)),
+            "set" => Some(Action::Set(guard)),
+            "accelerate" => Some(Action::Accelerate(guard)),
+            "close" => Some(Action::Close(guard)),
+            _ => None,
+        },
+        Argument::Owner(Some(owner)) => match verb {
+            "read" => Some(Action::Read(owner)),
+            "retire" => Some(Action::Retire(owner)),
+            "release" => Some(Action::Release(owner)),
+            "clone" => Some(Action::Clone(owner)),
+            _ => None,
+        },
+        Argument::Cell(cell) => match verb {
+            "tag" => Some(Action::Tag(cell)),
+            "into" => Some(Action::Into(cell)),
+            "close" => Some(Action::CloseCell(cell)),
+            _ => None,
+        },
+        _ => None,
+    }
+}
+
+/// The verbs with two arguments.
+fn with_two(verb: &str, first: Argument, second: Argument) -> Option<Action>
+    ensures { result ≡ called verb.now (with_arguments (first ∷ second ∷ [])) }
+{
+    match (first, second) {
+        (Argument::Item(Some(item)), Argument::Guard(guard)) => match verb {
+            "look" => Some(Action::Look(item, guard)),
+            "upgrade" => Some(Action::Upgrade(item, guard)),
+            _ => None,
+        },
+        (Argument::Cell(cell), Argument::Guard(guard)) => match verb {
+            "load" => Some(Action::Load(cell, guard)),
+            "copy" => Some(Action::Copy(cell, guard)),
+            "share" => Some(Action::Share(cell, guard)),
+            _ => None,
+        },
+        (Argument::Word(Word::Of), Argument::Owner(Some(owner))) => match verb {
+            "owned" => Some(Action::Owned(Value::Of(owner))),
+            "shared" => Some(Action::Shared(Value::Of(owner))),
+            _ => None,
+        },
+        (Argument::Word(Word::Owned), Argument::Owner(held)) => match verb {
+            "cell" => Some(Action::CellOwned(held)),
+            _ => None,
+        },
+        (Argument::Word(Word::Shared), Argument::Owner(held)) => match verb {
+            "cell" => Some(Action::CellShared(held)),
+            _ => None,
+        },
+        _ => None,
+    }
+}
+
+/// The verbs with three arguments.
+fn with_three(verb: &str, first: Argument, second: Argument, third: Argument) -> Option<Action>
+    ensures { result ≡ called verb.now (with_arguments (first ∷ second ∷ third ∷ [])) }
+{
+    match (first, second, third) {
+        (Argument::Cell(cell), Argument::Owner(held), Argument::Tag(tag)) => match verb {
+            "swap" => Some(Action::Swap(cell, held, tag)),
+            _ => None,
+        },
+        _ => None,
+    }
+}
+
+/// The verbs with four arguments.
+fn with_four(
+    verb: &str,
+    first: Argument,
+    second: Argument,
+    third: Argument,
+    fourth: Argument,
+) -> Option<Action>
+    ensures { result ≡ called verb.now (with_arguments (first ∷ second ∷ third ∷ fourth ∷ [])) }
+{
+    match (first, second, third, fourth) {
+        (Argument::Cell(cell), Argument::Tag(tag), Argument::Word(Word::If), Argument::Tag(old)) =>
+            match verb {
+                "tagif" => Some(Action::TagIf(cell, tag, old)),
+                _ => None,
+            },
+        _ => None,
+    }
+}
+
+#[tactic(auto, using(crate::proofs::Lines::said_by))]
 fn action(text: &str) -> Option<Action>
     ensures is { result ≡ action_at (words text.now) }
     ensures sound { IfSome result (λ action. AllByRecursion HasNumber (spoken action).1

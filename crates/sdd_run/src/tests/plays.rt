@@ -2,7 +2,9 @@
 
 use super::devices::{Page, Trickle};
 use crate::arguments::USUAL_LIMITS;
-use sdd::{Action, Call, Ended, Limits, PlaceName, Reader, Refused, Tally, Writer, play, run};
+use sdd::{
+    Action, Call, Ended, Limits, PlaceName, Reader, Refused, Tally, Value, Writer, play, run,
+};
 use std::alloc::Global;
 
 /// The shortest way of an item: it is made and retired, and goes at the third later opening that finds another epoch.
@@ -47,7 +49,10 @@ fn each_script_is_answered(rt: HostRuntime) {
 
 #[test]
 fn a_scene_shows_its_world_until_it_is_closed(rt: HostRuntime) -> Result<(), Refused> {
-    let calls = [Call::Register, Call::At(PlaceName(0), Action::Owned(7))];
+    let calls = [
+        Call::Register,
+        Call::At(PlaceName(0), Action::Owned(Value::Number(7))),
+    ];
     let (answers, scene) = run(rt.alloc(), USUAL_LIMITS, &calls)?;
     let shown = scene.world().tally();
     let closed = scene.close();

@@ -1,34 +1,37 @@
 //! What participants do with guards.
 #![tactic(auto, using(crate::proofs::Taken::in_hand))]
 
-ghost use Rattle.std.specs.Prelude.{All, ◌≡◌, ℕ, ◌+◌, ◌^◌, ◌<◌, [], IfOk, IfSome, None, Some, MatchOption, MatchResult, length, map, slice_index_or, if◌then◌else◌};
+ghost use Rattle.std.specs.Prelude.{All, ◌≡◌, ℕ, ◌+◌, ◌^◌, ◌<◌, [], IfOk, IfSome, None, Some, MatchOption, MatchResult, length, map, slice_index, slice_index_or, IsSome, if◌then◌else◌};
 ghost use Rattle.sdd_core.specs.Epoch.{epoch_of};
-ghost use Rattle.sdd_store.specs.Time.{CanNest};
+ghost use Rattle.sdd_store.specs.Time.{CanNest, has_garbage};
 ghost use Rattle.sdd_base.specs.Guard.{reader_of};
 ghost use Rattle.sdd_base.specs.Seat.{reader_at};
-ghost use Rattle.sdd_base.specs.World.{IsPlaceOf};
+ghost use Rattle.sdd_base.specs.World.{IsPlaceOf, place_at, value_at};
 ghost use Rattle.sdd_base.specs.Steps.{opened, closed, stirred, accelerated};
 ghost use Rattle.sdd_world.specs.Place.{index_of};
-ghost use Rattle.sdd.specs.Val.{holdings_of};
-ghost use Rattle.sdd.specs.Ledger.{all_gone};
-ghost use Rattle.sdd.specs.Stage.{attending, guarding, item_named, what_named, opened_since, HasOpen};
+ghost use Rattle.sdd_desk.specs.Val.{holdings_of};
+ghost use Rattle.sdd_desk.specs.Shown.{item_in};
+ghost use Rattle.sdd.specs.Stage.{attending, guarding, opened_since, AreOpen};
+ghost use Rattle.sdd_desk.specs.Held.{owners_in, waits_among};
 
 use super::{Attending, Guarding, Stage};
-use crate::script::fate::Fate;
+use crate::script::holding::is_waiting;
 use crate::script::named::Named;
-use crate::script::val::Val;
 use sdd_base::Guard;
+use sdd_base::inner::{slot_of_owner, slot_of_shared};
 use sdd_core::{Epoch, Refused};
+use sdd_desk::{Body, Val};
 use sdd_lines::{Action, Answer, Call, GuardName, ItemName, Names, PlaceName, Reply};
-use sdd_world::inner::{is_open, reclaims_next};
+use sdd_world::inner::{is_open, reclaims_next, value_in};
 use sdd_world::{Place, World};
 use std::alloc::{AllocError, Global};
 
 impl Stage {
-    ghost use Rattle.sdd.specs.Script.{Acts, Answers};
+    ghost use Rattle.sdd_desk.specs.Desk.{BeginsLine};
+    ghost use Rattle.sdd_desk.specs.Script.{Acts, Answers};
 
     pub fn open(&mut self, name: PlaceName) -> Result<Answer, AllocError>
-        requires more { self.old.ledger.moment + 1 < 2 ^ 64 }
+        requires line { BeginsLine self.old }
         ensures answers { MatchResult result (λ answer. Answers self.old (Call.At name Action.Open) answer self.new) (λ _. self.new ≡ self.old) }
     {
         let Some(attending) = self.hand.places.get(name.0) else {
@@ -38,14 +41,20 @@ impl Stage {
         self.hand.world.is_whole();
         let slots = reclaims_next(&self.hand.world, &attending.place);
         let mut due = names_of(self.hand.alloc, slots, self.hand.names.as_slice())?;
+        let given = owners_in(self.hand.alloc, &self.hand.world, slots)?;
         let is_nested = is_open(&self.hand.world, &attending.place);
         let (guard, epoch) = match open_at(&mut self.hand.world, &attending.place) {
             Ok(opened) => opened,
             Err(refused) => return Ok(self.answer(Reply::Refused(refused))),
         };
         let place = attending.place.index();
-        let since = self.hand.moment + 1;
-        mark_gone(&mut self.hand.fates, due.as_slice());
+        let since = self.hand.moment;
+        date_waiting(
+            &mut self.hand.dates,
+            &self.hand.world,
+            given.as_slice(),
+            since,
+        );
         note_opening(&mut self.hand.places, name.0, since, is_nested);
         let participant = name.0;
         let name = self.hand.guards.give(Guarding {
@@ -69,8 +78,8 @@ impl Stage {
         else {
             return Reply::Invalid;
         };
-        let mut turn = self.hand.world.at(&attending.place);
-        Reply::Epoch(held.guard.epoch(&mut turn))
+        self.hand.world.is_whole();
+        Reply::Epoch(epoch_at(&mut self.hand.world, &attending.place, &held.guard))
     }
 
     pub fn garbage(&mut self, name: PlaceName, guard: GuardName) -> Reply
@@ -80,8 +89,8 @@ impl Stage {
         else {
             return Reply::Invalid;
         };
-        let turn = self.hand.world.at(&attending.place);
-        Reply::Truth(held.guard.has_garbage(&turn))
+        self.hand.world.is_whole();
+        Reply::Truth(garbage_at(&mut self.hand.world, &attending.place, &held.guard))
     }
 
     pub fn set(&mut self, name: PlaceName, guard: GuardName) -> Reply
@@ -91,6 +100,7 @@ impl Stage {
         else {
             return Reply::Invalid;
         };
+        self.hand.world.is_whole();
         stir_at(&mut self.hand.world, &attending.place, &held.guard);
         Reply::Done
     }
@@ -102,6 +112,7 @@ impl Stage {
         else {
             return Reply::Invalid;
         };
+        self.hand.world.is_whole();
         accelerate_at(&mut self.hand.world, &attending.place, &held.guard);
         Reply::Done
     }
@@ -123,6 +134,7 @@ impl Stage {
         else {
             return Reply::Invalid;
         };
+        self.hand.world.is_whole();
         close_at(&mut self.hand.world, &attending.place, guard);
         Reply::Done
     }
@@ -136,8 +148,8 @@ pub fn under<'p, 'g>(
     guard: GuardName,
 ) -> Option<(&'p Attending, &'g Guarding)>
     ensures valid { MatchOption result
-        (¬ (HasOpen (map attending places.now.entries.items) (map guarding guards.now.entries.items) name.0 guard.0))
-        (λ _. HasOpen (map attending places.now.entries.items) (map guarding guards.now.entries.items) name.0 guard.0) }
+        (¬ (AreOpen (map attending places.now.entries.items) (map guarding guards.now.entries.items) name.0 guard.0))
+        (λ _. AreOpen (map attending places.now.entries.items) (map guarding guards.now.entries.items) name.0 guard.0) }
     ensures found { IfSome result (λ found. (attending (Some found.0.now) ≡ slice_index_or (map attending places.now.entries.items) name.0 None)
         × (slice_index_or guards.now.entries.items guard.0 None ≡ Some found.1.now) × (found.1.now.place ≡ index_of found.0.now.place)) }
 {
@@ -153,7 +165,7 @@ pub fn under<'p, 'g>(
 /// The names of the items that these slots had last.
 fn names_of(alloc: Global, slots: &[u32], names: &[u64]) -> Result<Vec<ItemName>, AllocError>
     requires inside { All (λ slot. slot < length names.now) slots.now }
-    ensures { IfOk result (λ found. found.items ≡ map (item_named names.now) slots.now) }
+    ensures { IfOk result (λ found. found.items ≡ map (item_in names.now) slots.now) }
 {
     let mut found = Vec::with_capacity(alloc, slots.len())?;
     for slot in slots {
@@ -175,6 +187,26 @@ fn open_at(world: &mut World<Val>, place: &Place) -> Result<(Guard, Epoch), Refu
     let guard = Guard::new(&mut turn)?;
     let epoch = guard.epoch(&mut turn);
     Ok((guard, epoch))
+}
+
+/// The epoch that the guard shows.
+fn epoch_at(world: &mut World<Val>, place: &Place, guard: &Guard) -> Epoch
+    requires { IsPlaceOf world.old (index_of place.now) }
+    ensures epoch { result ≡ epoch_of world.old.time.count }
+    ensures world { world.new ≡ world.old }
+{
+    let mut turn = world.at(place);
+    guard.epoch(&mut turn)
+}
+
+/// Something may wait with the participant.
+fn garbage_at(world: &mut World<Val>, place: &Place, guard: &Guard) -> bool
+    requires { IsPlaceOf world.old (index_of place.now) }
+    ensures garbage { result ≡ has_garbage (place_at world.old (index_of place.now)) }
+    ensures world { world.new ≡ world.old }
+{
+    let turn = world.at(place);
+    guard.has_garbage(&turn)
 }
 
 /// The participant has garbage from now on.
@@ -205,17 +237,37 @@ pub fn close_at(world: &mut World<Val>, place: &Place, guard: Guard)
     guard.close(&mut turn);
 }
 
-/// The names of these items are spent.
-fn mark_gone(fates: &mut Vec<Fate>, names: &[ItemName])
-    requires inside { All (λ name. name.0 < length fates.old.items) names.now }
-    ensures { fates.new.items ≡ all_gone fates.old.items (map what_named names.now) }
+/// The slots whose owners the values in these slots hold.
+fn owners_in(alloc: Global, world: &World<Val>, slots: &[u32]) -> Result<Vec<u32>, AllocError>
+    requires taken { All (λ slot. IsSome (value_at world.now slot)) slots.now }
+    ensures { IfOk result (λ found. found.items ≡ owners_in world.now slots.now) }
 {
-    for name in names {
-        fates[name.0 as usize] = Fate::Gone;
+    let mut found = Vec::with_capacity(alloc, slots.len())?;
+    for slot in slots {
+        match value_in(world, *slot).body() {
+            Body::Number(_) => {}
+            Body::Owned(owner) => found.push_reserved(slot_of_owner(owner)),
+            Body::Shared(owner) => found.push_reserved(slot_of_shared(owner)),
+        }
+    }
+    Ok(found)
+}
+
+/// The items of these slots that wait began to do so in this line.
+fn date_waiting(dates: &mut Vec<u64>, world: &World<Val>, slots: &[u32], line: u64)
+    requires inside { All (λ slot. slot < length dates.old.items) slots.now }
+    ensures dated { (s : ℕ) → slice_index dates.new.items s
+        ≡ (if waits_among world.now slots.now s then line else slice_index dates.old.items s) }
+    ensures long { length dates.new.items ≡ length dates.old.items }
+{
+    for slot in slots {
+        if is_waiting(world, *slot) {
+            dates[*slot as usize] = line;
+        }
     }
 }
 
-/// An opening that isn't nested is the participant's last outermost one, in the line before this one.
+/// An opening that isn't nested is the participant's last outermost one, in this line.
 fn note_opening(places: &mut Named<Attending>, name: u64, since: u64, is_nested: bool)
     requires { name < length places.old.entries.items }
     ensures { map attending places.new.entries.items

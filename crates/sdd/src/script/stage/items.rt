@@ -1,55 +1,72 @@
-//! What participants do with items and their owners.
+//! How items of a script are made, and how they are seen.
 #![tactic(auto, using(crate::proofs::Taken::in_hand))]
 
-ghost use Rattle.std.specs.Prelude.{◌≡◌, ◌≢◌, ℕ, IfOk, IsSome, None, Some, MatchOption, MatchResult, length, slice_index_or};
-ghost use Rattle.sdd_base.specs.Steps.{retired};
-ghost use Rattle.sdd_base.specs.World.{IsPlaceOf, standing_at, value_at};
-ghost use Rattle.sdd_base.specs.Owned.{slot_of, slots_home};
+ghost use Rattle.std.specs.Prelude.{◌≡◌, ◌↔◌, ◌<◌, ◌≤◌, ℕ, ◌∷◌, [], All, IsSome, IsTrue, None, Some, MatchOption, MatchResult, length, slice_index, slice_index_or, slice_set, vec_capacity};
+ghost use Rattle.std.specs.Option.{option_map};
+ghost use Rattle.sdd_store.specs.Table.{IsEmptyAt, IsFull};
+ghost use Rattle.sdd_base.specs.Steps.{made_as, nulled};
+ghost use Rattle.sdd_base.specs.World.{World, IsPlaceOf, standing_at, value_at};
+ghost use Rattle.sdd_base.specs.Holding.{AreOf, IsOf};
 ghost use Rattle.sdd_base.specs.Guard.{reader_of};
 ghost use Rattle.sdd_base.specs.Seat.{reader_at};
 ghost use Rattle.sdd_base.specs.Under.{Stays};
-ghost use Rattle.sdd_store.specs.declared.standing.Standing.TheVariants as standing;
+ghost use Rattle.sdd_slots.specs.Slots.{is_waiting};
 ghost use Rattle.sdd_world.specs.Place.{index_of};
-ghost use Rattle.sdd.specs.declared.script.val.Val.{Val};
-ghost use Rattle.sdd.specs.Val.{body_of};
-ghost use Rattle.sdd.specs.Ledger.{IsThereSince};
-ghost use Rattle.sdd.specs.Made.{Makes, RefusesItem};
+ghost use Rattle.sdd_desk.specs.declared.val.Val.{Val};
+ghost use Rattle.sdd_desk.specs.Val.{body_of, owner_in, link_of, link_home};
+ghost use Rattle.sdd_desk.specs.Desk.{slot_of};
+ghost use Rattle.sdd_desk.specs.Shown.{told_of};
+ghost use Rattle.sdd.specs.Stage.{owner_holding, making, SlotInside, IsMissing, BecomesBody, CanPointAt};
+ghost use Rattle.sdd_desk.specs.Held.{standing_first, holding_first};
 
+use super::Stage;
 use super::guards::under;
-use super::{Held, Stage};
-use crate::script::fate::Fate;
-use crate::script::val::Val;
-use sdd_base::inner::slot_of_owner;
-use sdd_base::{AtomicOwned, Guard, Owned};
+use crate::script::holding::{AnOwner, is_waiting};
+use crate::script::named::Named;
+use sdd_base::inner::{slot_of_owner, slot_of_shared};
+use sdd_base::{AtomicOwned, Guard, Owned, Shared};
 use sdd_core::Refused;
-use sdd_lines::{Action, Call, GuardName, ItemName, OwnerName, PlaceName, Reply};
-use sdd_world::inner::ptr_at;
+use sdd_desk::{Body, Ownership, Val};
+use sdd_lines::{Action, Call, GuardName, ItemName, OwnerName, PlaceName, Reply, Value};
+use sdd_world::inner::{has_no_cell, has_no_slot, ptr_at, standing_of};
 use sdd_world::{Place, World};
 use std::alloc::AllocError;
 
 impl Stage {
-    ghost use Rattle.sdd.specs.Script.{Acts};
+    ghost use Rattle.sdd_desk.specs.Script.{Acts};
 
-    pub fn make(&mut self, name: PlaceName, number: u64) -> Result<Reply, AllocError>
-        ensures acts { MatchResult result (λ reply. Acts self.old (Call.At name (Action.Owned number)) reply self.new) (λ _. self.new ≡ self.old) }
+    pub fn make(
+        &mut self,
+        name: PlaceName,
+        value: Value,
+        ownership: Ownership,
+    ) -> Result<Reply, AllocError>
+        ensures acts { MatchResult result (λ reply. Acts self.old (Call.At name (making ownership value)) reply self.new) (λ _. self.new ≡ self.old) }
     {
         let Some(attending) = self.hand.places.get(name.0) else {
             return Ok(Reply::Invalid);
         };
+        if is_missing(&self.hand.owners, value) {
+            return Ok(Reply::Invalid);
+        }
         self.hand.owners.make_room()?;
         self.hand.slots.reserve(1)?;
-        self.hand.fates.reserve(1)?;
         self.hand.world.is_whole();
-        let owner = match make_item(&mut self.hand.world, &attending.place, number) {
-            Ok(owner) => owner,
-            Err(refused) => return Ok(Reply::Refused(refused)),
+        if has_no_cell(&self.hand.world) {
+            return Ok(Reply::Refused(Refused::NoCell));
+        }
+        if has_no_slot(&self.hand.world) {
+            return Ok(Reply::Refused(Refused::NoSlot));
+        }
+        let Some(body) = body_from(&mut self.hand.owners, value) else {
+            unreachable!()
         };
-        let slot = slot_of_owner(&owner);
-        let item = self.hand.fates.len() as u64;
+        let owner = make_item(&mut self.hand.world, &attending.place, body, ownership);
+        let slot = owner.slot();
+        let item = self.hand.slots.len() as u64;
         self.hand.names[slot as usize] = item;
         self.hand.slots.push_reserved(slot);
-        self.hand.fates.push_reserved(Fate::Out);
-        let name = self.hand.owners.give(Held { owner, item });
+        let name = self.hand.owners.give(owner);
         Ok(Reply::Item(OwnerName(name), ItemName(item)))
     }
 
@@ -62,22 +79,8 @@ impl Stage {
         let Some(held) = self.hand.owners.get(owner.0) else {
             return Reply::Invalid;
         };
-        Reply::Value(held.owner.get(&self.hand.world).body())
-    }
-
-    pub fn retire(&mut self, name: PlaceName, owner: OwnerName) -> Reply
-        ensures acts { Acts self.old (Call.At name (Action.Retire owner)) result self.new }
-    {
-        let Some(attending) = self.hand.places.get(name.0) else {
-            return Reply::Invalid;
-        };
-        let Some(Held { owner, item }) = self.hand.owners.take(owner.0) else {
-            return Reply::Invalid;
-        };
-        self.hand.world.keeps_under_guards();
-        retire_item(&mut self.hand.world, &attending.place, owner);
-        self.hand.fates[item as usize] = Fate::Retired(self.hand.moment);
-        Reply::Done
+        self.hand.world.is_whole();
+        told(held.get(&self.hand.world), self.hand.names.as_slice())
     }
 
     pub fn look(&mut self, name: PlaceName, item: ItemName, guard: GuardName) -> Reply
@@ -87,71 +90,130 @@ impl Stage {
         else {
             return Reply::Invalid;
         };
-        let fates = self.hand.fates.as_slice();
-        let Some(slot) = slot_since(fates, self.hand.slots.as_slice(), item, attending.since) else {
+        self.hand.world.is_whole();
+        let slots = self.hand.slots.as_slice();
+        let names = self.hand.names.as_slice();
+        let dates = self.hand.dates.as_slice();
+        let Some(slot) = slot_since(&self.hand.world, slots, names, dates, item, attending.since)
+        else {
             return Reply::Invalid;
         };
-        Reply::Value(number_shown(&mut self.hand.world, &attending.place, &held.guard, slot))
+        let place = &attending.place;
+        told(
+            value_shown(&mut self.hand.world, place, &held.guard, slot),
+            names,
+        )
     }
 }
 
-/// The slot of an item that was not retired before this line.
-fn slot_since(fates: &[Fate], slots: &[u32], name: ItemName, line: u64) -> Option<u32>
-    requires { length slots.now ≡ length fates.now }
-    ensures { MatchOption result
-        (¬ (IsThereSince line (slice_index_or fates.now name.0 Fate.Gone)))
-        (λ slot. IsThereSince line (slice_index_or fates.now name.0 Fate.Gone) × (slot ≡ slice_index_or slots.now name.0 0)) }
+/// What the value of an item holds, as a reply.
+fn told(value: &Val, names: &[u64]) -> Reply
+    requires { SlotInside names.now (body_of value.now) }
+    ensures { result ≡ told_of names.now (body_of value.now) }
 {
-    let index = usize::try_from(name.0).ok()?;
-    match *fates.get(index)? {
-        Fate::Out => Some(slots[index]),
-        Fate::Retired(at) if line <= at => Some(slots[index]),
-        Fate::Retired(_) | Fate::Gone => None,
+    match value.body() {
+        Body::Number(number) => Reply::Value(*number),
+        Body::Owned(owner) => Reply::Holding(ItemName(names[slot_of_owner(owner) as usize])),
+        Body::Shared(owner) => Reply::Holding(ItemName(names[slot_of_shared(owner) as usize])),
     }
 }
 
-/// A new item with this number, and a cell for its link.
-///
-/// `NoCell` where no cell is free, and else `NoSlot` where no slot is: then nothing has changed.
-fn make_item(world: &mut World<Val>, place: &Place, number: u64) -> Result<Owned<Val>, Refused>
+/// What a line would put into an item is not there.
+fn is_missing(owners: &Named<AnOwner>, value: Value) -> bool
+    ensures { IsTrue result ↔ IsMissing owners.now.entries.items value }
+{
+    match value {
+        Value::Number(_) => false,
+        Value::Of(owner) => owners.get(owner.0).is_none(),
+    }
+}
+
+/// What a line puts into an item. An owner's name is spent by it.
+fn body_from(owners: &mut Named<AnOwner>, value: Value) -> Option<Body<Val>>
+    ensures room { vec_capacity owners.new.entries ≡ vec_capacity owners.old.entries }
+    ensures becomes { MatchOption result (IsMissing owners.old.entries.items value × (owners.new.entries.items ≡ owners.old.entries.items))
+        (λ body. BecomesBody owners.old.entries.items value owners.new.entries.items body) }
+{
+    match value {
+        Value::Number(number) => Some(Body::Number(number)),
+        Value::Of(owner) => match owners.take(owner.0)? {
+            AnOwner::Sole(owner) => Some(Body::Owned(owner)),
+            AnOwner::Share(owner) => Some(Body::Shared(owner)),
+        },
+    }
+}
+
+/// The slot of an item that a participant can point to whose last outermost opening was in this line.
+pub fn slot_since(
+    world: &World<Val>,
+    slots: &[u32],
+    names: &[u64],
+    dates: &[u64],
+    item: ItemName,
+    since: u64,
+) -> Option<u32>
+    requires names { length names.now ≡ length world.now.standings }
+    requires dates { length dates.now ≡ length world.now.standings }
+    requires inside { (s : ℕ) → IsSome (standing_at world.now s) → slice_index names.now s < length slots.now }
+    ensures { MatchOption result
+        (¬ (CanPointAt world.now slots.now names.now dates.now item.0 since))
+        (λ slot. CanPointAt world.now slots.now names.now dates.now item.0 since × (slot ≡ slice_index_or slots.now item.0 0)) }
+{
+    let index = usize::try_from(item.0).ok()?;
+    let slot = *slots.get(index)?;
+    if *names.get(slot as usize)? != item.0 || standing_of(world, slot).is_none() {
+        return None;
+    }
+    if is_waiting(world, slot) && dates[slot as usize] < since {
+        return None;
+    }
+    Some(slot)
+}
+
+/// A new item, which holds this, and a cell for its link.
+fn make_item(
+    world: &mut World<Val>,
+    place: &Place,
+    body: Body<Val>,
+    ownership: Ownership,
+) -> AnOwner
     requires place { IsPlaceOf world.old (index_of place.now) }
-    ensures home { IfOk result (λ owner. slots_home owner ≡ world.old.home.slots) }
-    ensures made { MatchResult result (λ owner. Makes world.old number (slot_of owner) world.new)
-        (λ refused. RefusesItem world.old refused × (world.new ≡ world.old)) }
+    requires cell { ¬ (IsFull world.old.cells) }
+    requires slot { ¬ (IsFull world.old.standings) }
+    requires home { AreOf world.old.home (owner_in body) }
+    ensures made { (k cell : ℕ) × (entry : Val) × (owner_holding result ≡ holding_first ownership k world.old.home.slots)
+        × IsEmptyAt world.old.cells cell × IsEmptyAt world.old.standings k
+        × (body_of entry ≡ body) × (link_of entry ≡ cell) × (link_home entry ≡ world.old.home.cells)
+        × (world.new ≡ made_as (nulled world.old cell) k entry (standing_first ownership)) }
 {
     let mut turn = world.at(place);
-    let link = AtomicOwned::null(&mut turn)?;
-    match Owned::new(Val::new(number, link), &mut turn) {
-        Ok(owner) => Ok(owner),
-        Err((value, refused)) => {
-            value.into_link().close(&mut turn);
-            Err(refused)
-        }
+    let Ok(link) = AtomicOwned::null(&mut turn) else {
+        unreachable!()
+    };
+    let value = Val::new(body, link);
+    match ownership {
+        Ownership::Sole => match Owned::new(value, &mut turn) {
+            Ok(owner) => AnOwner::Sole(owner),
+            Err(_) => unreachable!(),
+        },
+        Ownership::Shared => match Shared::new(value, &mut turn) {
+            Ok(owner) => AnOwner::Share(owner),
+            Err(_) => unreachable!(),
+        },
     }
 }
 
-/// The number in a slot, as a pointer to its item shows it under a guard of the participant.
-fn number_shown(world: &mut World<Val>, place: &Place, guard: &Guard, slot: u32) -> u64
+/// The value in a slot, as a pointer to its item shows it under a guard of the participant.
+fn value_shown<'g>(world: &mut World<Val>, place: &Place, guard: &'g Guard, slot: u32) -> &'g Val
     requires place { IsPlaceOf world.old (index_of place.now) }
     requires reader { reader_of guard.now ≡ reader_at world.old (index_of place.now) }
     requires stays { Stays world.old (index_of place.now) slot }
-    ensures shown { (v : Val) × (value_at world.old slot ≡ Some v) × (body_of v ≡ result) }
+    ensures shown { value_at world.old slot ≡ Some result.now }
     ensures world { world.new ≡ world.old }
 {
     let ptr = ptr_at(world, place, slot, guard);
     let Some(value) = ptr.as_ref(world) else {
         unreachable!()
     };
-    value.body()
-}
-
-/// The owner retires its item, which waits with the participant.
-pub fn retire_item(world: &mut World<Val>, place: &Place, owner: Owned<Val>)
-    requires place { IsPlaceOf world.old (index_of place.now) }
-    requires home { slots_home owner ≡ world.old.home.slots }
-    ensures retired { world.new ≡ retired world.old (index_of place.now) (slot_of owner) }
-    ensures owned { standing_at world.old (slot_of owner) ≡ Some standing.Owned }
-{
-    let mut turn = world.at(place);
-    owner.retire(&mut turn);
+    value
 }

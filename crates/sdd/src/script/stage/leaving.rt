@@ -1,15 +1,15 @@
 //! The end of a script's world.
 ghost use Rattle.std.specs.Prelude.{◌≡◌, ℕ, None, slice_index_or};
-ghost use Rattle.sdd.specs.Leaving.{SpendsOwner, SpendsGuard};
+ghost use Rattle.sdd.specs.Leaving.{SpendsOwner, SpendsCell, SpendsGuard};
 
-use super::{Hand, Held, Stage};
-use crate::script::fate::Fate;
+use super::{Hand, Stage};
+use crate::script::holding::{ACell, AnOwner};
 use sdd_lines::{GuardName, PlaceName};
 use sdd_store::Tally;
-use sdd_world::inner::leave;
+use sdd_world::inner::{leave, leave_cell, leave_shared, leave_shared_cell};
 
 impl Stage {
-    /// Every guard is closed and every owner spent, and then the world ends: all that waits is reclaimed.
+    /// Every guard is closed, every owner and every cell spent, and then the world ends: all that waits is reclaimed.
     pub fn close(mut self) -> Tally
         ensures made { result.made ≡ self.world.tally.made }
         ensures reclaimed { result.reclaimed ≡ self.world.tally.made }
@@ -17,6 +17,7 @@ impl Stage {
     {
         self.spend_guards();
         self.spend_owners();
+        self.spend_cells();
         let Stage { hand } = self;
         let Hand {
             world,
@@ -25,12 +26,14 @@ impl Stage {
             places: _,
             guards,
             owners,
+            cells,
             slots: _,
-            fates: _,
             names: _,
+            dates: _,
         } = hand;
         guards.destroy_spent();
         owners.destroy_spent();
+        cells.destroy_spent();
         world.is_whole();
         match world.close() {
             Ok(tally) => tally,
@@ -40,7 +43,7 @@ impl Stage {
 
     /// Each guard that is open is closed.
     fn spend_guards(&mut self)
-        ensures spent { (g : ℕ) → slice_index_or self.new.ledger.guards g None ≡ None }
+        ensures spent { (g : ℕ) → slice_index_or self.new.guards g None ≡ None }
         ensures tally { self.new.world.tally ≡ self.old.world.tally }
     {
         for guard in 0..self.hand.guards.entries.len() {
@@ -48,11 +51,11 @@ impl Stage {
         }
     }
 
-    /// Each owner that isn't spent is, where no guard is open: its item waits with whoever is there, or with one that has ended.
+    /// Each owner that isn't spent is, where no guard is open: it is given up, at whatever place is there.
     fn spend_owners(&mut self)
-        requires shut { (g : ℕ) → slice_index_or self.old.ledger.guards g None ≡ None }
-        ensures spent { (o : ℕ) → slice_index_or self.new.ledger.owners o None ≡ None }
-        ensures guards { self.new.ledger.guards ≡ self.old.ledger.guards }
+        requires shut { (g : ℕ) → slice_index_or self.old.guards g None ≡ None }
+        ensures spent { (o : ℕ) → slice_index_or self.new.owners o None ≡ None }
+        ensures guards { self.new.guards ≡ self.old.guards }
         ensures tally { self.new.world.tally ≡ self.old.world.tally }
     {
         for owner in 0..self.hand.owners.entries.len() {
@@ -60,14 +63,38 @@ impl Stage {
         }
     }
 
-    #[tactic(auto, using(crate::proofs::Taken::in_hand))]
+    /// Each cell that isn't spent is, where no guard is open: it is closed, at whatever place is there.
+    fn spend_cells(&mut self)
+        requires shut { (g : ℕ) → slice_index_or self.old.guards g None ≡ None }
+        ensures spent { (c : ℕ) → slice_index_or self.new.cells c None ≡ None }
+        ensures guards { self.new.guards ≡ self.old.guards }
+        ensures owners { self.new.owners ≡ self.old.owners }
+        ensures tally { self.new.world.tally ≡ self.old.world.tally }
+    {
+        for cell in 0..self.hand.cells.entries.len() {
+            self.spend_cell(cell as u64);
+        }
+    }
+
+    fn spend_cell(&mut self, cell: u64)
+        requires shut { (g : ℕ) → slice_index_or self.old.guards g None ≡ None }
+        ensures { SpendsCell cell self.old self.new }
+    {
+        match self.hand.cells.take(cell) {
+            None => {}
+            Some(ACell::Sole(cell)) => leave_cell(&mut self.hand.world, cell),
+            Some(ACell::Share(cell)) => leave_shared_cell(&mut self.hand.world, cell),
+        }
+    }
+
     fn spend_owner(&mut self, owner: u64)
-        requires shut { (g : ℕ) → slice_index_or self.old.ledger.guards g None ≡ None }
+        requires shut { (g : ℕ) → slice_index_or self.old.guards g None ≡ None }
         ensures { SpendsOwner owner self.old self.new }
     {
-        if let Some(Held { owner, item }) = self.hand.owners.take(owner) {
-            leave(&mut self.hand.world, owner);
-            self.hand.fates[item as usize] = Fate::Retired(self.hand.moment);
+        match self.hand.owners.take(owner) {
+            None => {}
+            Some(AnOwner::Sole(owner)) => leave(&mut self.hand.world, owner),
+            Some(AnOwner::Share(owner)) => leave_shared(&mut self.hand.world, owner),
         }
     }
 

@@ -9,20 +9,21 @@ use sdd_lines::{Action, Call, PlaceName, Reply};
 use sdd_world::inner::is_open;
 
 impl Stage {
-    ghost use Rattle.sdd.specs.Script.{Acts};
+    ghost use Rattle.sdd_desk.specs.Script.{Acts};
 
     pub fn register(&mut self) -> Result<Reply, Refused>
         ensures acts { MatchResult result (λ reply. Acts self.old Call.Register reply self.new)
             (λ refused. (refused ≡ Refused.NoMemory) × (self.new ≡ self.old)) }
     {
         self.hand.places.make_room()?;
+        self.hand.world.is_whole();
         match self.hand.world.register() {
             Ok(place) => {
                 let name = self.hand.places.give(Attending { place, since: 0 });
                 Ok(Reply::Place(PlaceName(name)))
             }
-            Err(Refused::NoMemory) => Err(Refused::NoMemory),
-            Err(refused) => Ok(Reply::Refused(refused)),
+            Err(Refused::NoPlace) => Ok(Reply::Refused(Refused::NoPlace)),
+            Err(_) => Err(Refused::NoMemory),
         }
     }
 
@@ -32,6 +33,7 @@ impl Stage {
         let Some(attending) = self.hand.places.get(name.0) else {
             return Reply::Invalid;
         };
+        self.hand.world.is_whole();
         if is_open(&self.hand.world, &attending.place) {
             return Reply::Refused(Refused::GuardOpen);
         }

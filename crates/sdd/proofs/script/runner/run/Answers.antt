@@ -1,7 +1,6 @@
 use Rattle.std.proofs.lemmas.List.{take_more, take_all}
-use Rattle.sdd.specs.Ledger.{event_of}
-use Rattle.sdd.proofs.Words.{length, slice_index_or, ap, arith, length_push, Register, Desk}
-use Rattle.sdd.proofs.Runs.{runs-push, runs-due, moment-after}
+use Rattle.sdd.proofs.Words.{length, ap, arith, length_push, Register}
+use Rattle.sdd_desk.proofs.Runs.{runs-push}
 use Rattle.sdd.proofs.script.runner.run.Goals as goal
 
 pub loop-call-preserved : goal.loop-call-preserved
@@ -10,14 +9,9 @@ loop-call-preserved c =
     let pushed = c.push_reserved.ensures.items in
     let step = c.in-Ok-step.ensures.step in
     record {
-      runs = rw (take_more c.args.calls.now c.loop-call.call-index Register c.loop-call-test.true, pushed) (runs-push _ _ _ _ _ _ _ before.runs step);
-      moment = omega (
-        arith,
-        ap (λ (d : Desk). d.ledger.moment) step.2,
-        moment-after c.loop-call.stage.ledger (event_of (slice_index_or c.args.calls.now c.loop-call.call-index Register) c.in-Ok-step.answer.reply) _
-            step.1.acts.1,
-        before.moment,
-      );
+      runs = rw (take_more c.args.calls.now c.loop-call.call-index Register c.loop-call-test.true, pushed)
+          (runs-push _ _ _ _ _ _ _ before.runs step.0 step.1);
+      moment = omega (arith, step.0.acts.line, before.moment);
       answered = omega (arith, ap length pushed, length_push c.loop-call.answers.items c.in-Ok-step.answer, before.answered);
       room = omega (arith, before.room, c.push_reserved.ensures.capacity);
     }
@@ -26,10 +20,4 @@ pub returns-clause-run : goal.returns-clause-run
 returns-clause-run c =
     let done = c.loop-call-test.false in
     let all = rw (take_all c.loop-call.call-index c.args.calls.now (omega (arith, done))) at c.loop-call.invariant.runs in
-    let runs = rw (← c.of.ensures) at all in
-    record {
-      start = c.in_ok-stage.stage;
-      begins = c.in_ok-stage.ensures.start;
-      runs = runs;
-      due = runs-due _ _ _ _ _ c.in_ok-stage.ensures.start.ledger runs;
-    }
+    record { start = c.in_ok-stage.stage; begins = c.in_ok-stage.ensures.start; runs = rw (← c.of.ensures) at all }

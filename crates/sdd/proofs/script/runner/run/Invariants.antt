@@ -1,11 +1,12 @@
-use Rattle.sdd.proofs.Words.{◌≡◌, ◌≤◌, length, take, vec_capacity, Runs}
+use Rattle.sdd.proofs.Words.{◌≡◌, ◌≤◌, length, take, vec_capacity}
+use Rattle.sdd_desk.specs.Script.{Runs}
 use Rattle.sdd.proofs.script.runner.run.Given as goal
 
 -- the calls so far ran
 abbrev pub invariant-loop-call : goal.invariant-loop-call
 invariant-loop-call l = record {
   runs : Runs l.initial.stage (take l.call-index l.calls) l.answers.items l.stage;
-  moment : l.stage.ledger.moment ≡ l.call-index;
+  moment : l.stage.moment ≡ l.call-index;
   answered : length l.answers.items ≡ l.call-index;
   room : length l.calls ≤ vec_capacity l.answers;
 }

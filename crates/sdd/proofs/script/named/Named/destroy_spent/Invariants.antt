@@ -1,5 +1,5 @@
 use Rattle.std.proofs.Common.{vec_len}
-use Rattle.sdd.proofs.Words.{◌≡◌, ℕ, None, slice_index_or}
+use Rattle.std.proofs.Common.{◌≡◌, ℕ, None, slice_index_or}
 use Rattle.sdd.proofs.script.named.Named.destroy_spent.Given as goal
 
 abbrev pub decreases-loop-entry : goal.decreases-loop-entry

@@ -1,14 +1,37 @@
-use Rattle.sdd.proofs.Words.{refl, sym, with_item, Retired}
-use Rattle.sdd.proofs.Acts.{got, acts-retired}
+use Rattle.sdd.proofs.Words.{slice_set, ap}
+use Rattle.std.specs.Vec.{with_item}
+use Rattle.sdd.proofs.Acts.{got, owner-home, acts-retired}
+use Rattle.sdd.proofs.Missing.{nobody, none-retired}
 use Rattle.sdd.proofs.script.stage.Stage.retire.Goals as goal
 
+pub returns-in_default : goal.returns-in_default
+returns-in_default c = record { acts = rw (← c.self.view_is) (nobody c.self.inside.hand c.args.name _ c.in_default.ensures) }
+
+pub returns-in_default-take_sole : goal.returns-in_default-take_sole
+returns-in_default-take_sole c = record {
+  acts = rw (← c.self.view_is, c.in_default-take_sole.ensures.1)
+      (none-retired c.self.inside.hand c.args.name c.args.owner c.in_default-take_sole.ensures.0);
+}
+
+pub retire_item-requires-clause-home : goal.retire_item-requires-clause-home
+retire_item-requires-clause-home c = owner-home c.self.inside.hand c.self.invariant c.is_whole.ensures c.args.owner.0 _ c.in-Some-take_sole.ensures.0
+
 pub invariant_of-self-2 : goal.invariant_of-self-2
-invariant_of-self-2 c = (acts-retired _ c.self.invariant c.args.name _ (got c.self.inside.hand.places _ _ c.in-Some.ensures) c.args.owner _ _ _ _
-    (sym c.in-Some-take.ensures.taken) c.keeps_under_guards.ensures.retired c.in-Some-take.ensures.spent refl c.retire_item.ensures.retired).0
+invariant_of-self-2 c =
+    let now = c.self.inside.hand.moment in
+    let dated = ap (λ k. slice_set c.self.inside.hand.dates.items k now) c.slot_of_owner-slot.ensures in
+    let there = got c.self.inside.hand.places c.args.name.0 _ c.in-Some.ensures in
+    (acts-retired c.self.inside.hand c.self.invariant c.is_whole.ensures c.args.name _ there c.args.owner _
+    c.take_sole.new.owners.entries (with_item c.self.inside.hand.dates c.slot_of_owner-slot.result now) _ c.in-Some-take_sole.ensures.0
+    c.in-Some-take_sole.ensures.1 dated c.retire_item.ensures.owned c.retire_item.ensures.retired).0
 
 pub returns : goal.returns
-returns c = record {
-  acts = rw (← c.self.view_is) (acts-retired _ c.self.invariant _ _ (got c.self.inside.hand.places c.args.name.0 _ c.in-Some.ensures) _ _
-      c.take.new.self.entries (with_item c.self.inside.hand.fates c.in-Some-take.field-0.item (Retired c.self.inside.hand.moment)) _
-      (sym c.in-Some-take.ensures.taken) c.keeps_under_guards.ensures.retired c.in-Some-take.ensures.spent refl c.retire_item.ensures.retired).1;
-}
+returns c =
+    let now = c.self.inside.hand.moment in
+    let dated = ap (λ k. slice_set c.self.inside.hand.dates.items k now) c.slot_of_owner-slot.ensures in
+    record {
+      acts = rw (← c.self.view_is) (acts-retired c.self.inside.hand c.self.invariant c.is_whole.ensures c.args.name _
+          (got c.self.inside.hand.places c.args.name.0 _ c.in-Some.ensures) c.args.owner _ c.take_sole.new.owners.entries
+          (with_item c.self.inside.hand.dates c.slot_of_owner-slot.result now) _ c.in-Some-take_sole.ensures.0 c.in-Some-take_sole.ensures.1 dated
+          c.retire_item.ensures.owned c.retire_item.ensures.retired).1;
+    }

@@ -1,8 +1,13 @@
-use Rattle.sdd.proofs.Words.{None, refl, sym, ap, ◌∙◌, get_or-map, guarding}
-use Rattle.sdd.proofs.Entry.{spent_twice}
+use Rattle.std.proofs.Common.{refl, sym}
+use Rattle.sdd.proofs.Ending.{spends-nothing, spends-guard}
 use Rattle.sdd.proofs.script.stage.Stage.spend_guard.Goals as goal
+
+pub returns-in-Some : goal.returns-in-Some
+returns-in-Some c =
+    let acts = rw (← c.self.view_is) at c.close_guard.ensures.acts in
+    rw (← c.self.view_is)
+    (spends-guard c.self.inside.hand c.self.invariant c.args.guard c.in-Some.held.now (sym c.in-Some.ensures) _ _ refl refl _ _ acts)
 
 pub returns-in_default : goal.returns-in_default
 returns-in_default c =
-    let none = get_or-map guarding c.self.inside.hand.guards.entries.items c.args.guard None ∙ ap guarding (sym c.in_default.ensures) in
-    rw (← c.self.view_is) (record { guards = spent_twice _ _ none; tally = refl })
+    rw (← c.self.view_is) (spends-nothing c.self.inside.hand c.self.invariant c.args.guard (sym c.in_default.ensures))

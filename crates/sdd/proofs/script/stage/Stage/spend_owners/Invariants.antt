@@ -1,10 +1,10 @@
-use Rattle.sdd.proofs.Words.{◌≡◌, length}
-use Rattle.sdd.proofs.Entry.{IsSpentTo}
+use Rattle.std.proofs.Common.{◌≡◌, length}
+use Rattle.sdd_desk.proofs.Entry.{IsSpentTo}
 use Rattle.sdd.proofs.script.stage.Stage.spend_owners.Given as goal
 
 abbrev pub invariant-loop-owner : goal.invariant-loop-owner
 invariant-loop-owner l = record {
-  spent : IsSpentTo l.owner (length l.initial.self.ledger.owners) l.self.ledger.owners;
-  guards : l.self.ledger.guards ≡ l.initial.self.ledger.guards;
+  spent : IsSpentTo l.owner (length l.initial.self.owners) l.self.owners;
+  guards : l.self.guards ≡ l.initial.self.guards;
   tally : l.self.world.tally ≡ l.initial.self.world.tally;
 }

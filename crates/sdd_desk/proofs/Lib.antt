@@ -1,0 +1,14 @@
+pub mod StockWords
+pub mod Terms
+pub mod Entry
+pub mod Stocked
+pub mod Keepers
+pub mod Attending
+pub mod Dates
+pub mod Kept
+pub mod Counting
+pub mod Layers
+pub mod Gone
+pub mod Going
+pub mod CellGoing
+pub mod Runs

@@ -1,0 +1,184 @@
+-- A script's world, and what its names stand for
+use Rattle.std.specs.Prelude.{ℕ, ◌+◌, ◌<◌, ◌≡◌, List, [], ◌∷◌, ◌++◌, Option, None, Some, IsSome, length, replicate, slice_index, slice_index_or, slice_set, if◌then◌else◌}
+use Rattle.sdd_store.specs.Time.{is_open}
+use Rattle.sdd_slots.specs.Slots.{is_waiting}
+use Rattle.sdd_base.specs.Holding.{Holding, owned, shared, atomic_owned, atomic_shared, atomic_raw}
+use Rattle.sdd_base.specs.World.{World, IsNew, place_at, standing_at}
+use Rattle.sdd_base.specs.declared.limits.Limits.{Limits}
+use Rattle.sdd_desk.specs.declared.val.Val.{Val}
+
+-- a place that is open, or was: since which line
+pub record Opening : Type 0 where
+  pub place : ℕ
+  pub since : ℕ
+
+pub record Desk : Type 0 where
+  -- how many lines there were, this one counted
+  pub moment : ℕ
+  pub world : World Val
+  -- of each participant its place, and the line of its last outermost opening, until it ends
+  pub places : List (Option Opening)
+  -- of each guard its place, and the line of its opening, until it is closed
+  pub guards : List (Option Opening)
+  -- each owner, until it is spent
+  pub owners : List (Option Holding)
+  -- each cell, until it is spent
+  pub cells : List (Option Holding)
+  -- of each item its slot
+  pub slots : List ℕ
+  -- of each slot the item that it had last
+  pub names : List ℕ
+  -- of each slot the line in which its item began to wait
+  pub dates : List ℕ
+
+-- ---- names
+
+-- the guard or participant of this name
+abbrev pub opening_at : List (Option Opening) → ℕ → Option Opening
+opening_at xs n = slice_index_or xs n None
+
+-- the owner or cell of this name
+abbrev pub holding_at : List (Option Holding) → ℕ → Option Holding
+holding_at xs n = slice_index_or xs n None
+
+abbrev pub slot_at : Desk → ℕ → ℕ
+slot_at d i = slice_index_or d.slots i 0
+
+abbrev pub name_at : Desk → ℕ → ℕ
+name_at d s = slice_index d.names s
+
+abbrev pub date_at : Desk → ℕ → ℕ
+date_at d s = slice_index d.dates s
+
+-- an item is there until it is reclaimed: its slot has it last, and is not free
+pub record IsThere (d : Desk) (i : ℕ) : Type 0 where
+  pub last : name_at d (slot_at d i) ≡ i
+  pub taken : IsSome (standing_at d.world (slot_at d i))
+
+-- ---- places
+
+abbrev pub place_in : Option Opening → ℕ
+place_in None = 0
+place_in (Some x) = x.place
+
+abbrev pub since_in : Option Opening → ℕ
+since_in None = 0
+since_in (Some x) = x.since
+
+-- the place of a participant that is there
+abbrev pub place_of : Desk → ℕ → ℕ
+place_of d n = place_in (opening_at d.places n)
+
+-- the line of its last outermost opening
+abbrev pub since_of : Desk → ℕ → ℕ
+since_of d n = since_in (opening_at d.places n)
+
+-- ---- owners and cells
+
+-- the slot of an owner
+abbrev pub slot_of : Option Holding → Option ℕ
+slot_of None = None
+slot_of (Some (owned k home)) = Some k
+slot_of (Some (shared k home)) = Some k
+slot_of (Some (atomic_owned c home)) = None
+slot_of (Some (atomic_shared c home)) = None
+slot_of (Some (atomic_raw c home)) = None
+
+-- the slot of an only owner
+abbrev pub sole_slot : Option Holding → Option ℕ
+sole_slot None = None
+sole_slot (Some (owned k home)) = Some k
+sole_slot (Some (shared k home)) = None
+sole_slot (Some (atomic_owned c home)) = None
+sole_slot (Some (atomic_shared c home)) = None
+sole_slot (Some (atomic_raw c home)) = None
+
+-- the slot of an owner of several
+abbrev pub shared_slot : Option Holding → Option ℕ
+shared_slot None = None
+shared_slot (Some (owned k home)) = None
+shared_slot (Some (shared k home)) = Some k
+shared_slot (Some (atomic_owned c home)) = None
+shared_slot (Some (atomic_shared c home)) = None
+shared_slot (Some (atomic_raw c home)) = None
+
+-- the number of a cell that holds owners
+abbrev pub cell_of : Option Holding → Option ℕ
+cell_of None = None
+cell_of (Some (owned k home)) = None
+cell_of (Some (shared k home)) = None
+cell_of (Some (atomic_owned c home)) = Some c
+cell_of (Some (atomic_shared c home)) = Some c
+cell_of (Some (atomic_raw c home)) = None
+
+-- the number of a cell for shared owners
+abbrev pub shared_cell : Option Holding → Option ℕ
+shared_cell None = None
+shared_cell (Some (owned k home)) = None
+shared_cell (Some (shared k home)) = None
+shared_cell (Some (atomic_owned c home)) = None
+shared_cell (Some (atomic_shared c home)) = Some c
+shared_cell (Some (atomic_raw c home)) = None
+
+-- ---- what changes
+
+abbrev pub in_world : Desk → World Val → Desk
+in_world d w = record d { world = w }
+
+abbrev pub with_owner : Desk → Holding → Desk
+with_owner d h = record d { owners = d.owners ++ Some h ∷ [] }
+
+abbrev pub without_owner : Desk → ℕ → Desk
+without_owner d o = record d { owners = slice_set d.owners o None }
+
+-- the next item is in slot k
+abbrev pub with_item : Desk → ℕ → Desk
+with_item d k = record d { slots = d.slots ++ k ∷ []; names = slice_set d.names k (length d.slots) }
+
+-- a newcomer is at place p
+abbrev pub with_newcomer : Desk → ℕ → Desk
+with_newcomer d p = record d { places = d.places ++ Some (record { place = p; since = 0 }) ∷ [] }
+
+abbrev pub without_participant : Desk → ℕ → Desk
+without_participant d n = record d { places = slice_set d.places n None }
+
+-- participant n, at p, has one more guard open, since this line
+abbrev pub with_guard : Desk → (n p : ℕ) → Desk
+with_guard d n p =
+    let now : Opening = record { place = p; since = d.moment } in
+    record d {
+      places = if is_open (place_at d.world p) then d.places else slice_set d.places n (Some now);
+      guards = d.guards ++ Some now ∷ [];
+    }
+
+abbrev pub without_guard : Desk → ℕ → Desk
+without_guard d g = record d { guards = slice_set d.guards g None }
+
+-- one line later
+abbrev pub later : Desk → Desk
+later d = record d { moment = d.moment + 1 }
+
+-- a line begins: nothing began to wait in it so far
+abbrev pub BeginsLine : Desk → Type 0
+BeginsLine d = (s : ℕ) → date_at d s < d.moment
+
+-- it is so now, whatever the dates are
+abbrev pub Leaves : Desk → Desk → Type 0
+Leaves d new = new ≡ record d { dates = new.dates }
+
+-- of each slot whose item begins to wait this is the line; the others keep theirs
+pub record IsDated (old new : Desk) : Type 0 where
+  pub dated : (s : ℕ) → date_at new s
+      ≡ (if is_waiting (standing_at new.world s) then (if is_waiting (standing_at old.world s) then date_at old s else old.moment) else date_at old s)
+  pub long : length new.dates ≡ length old.dates
+
+-- before its first line: the world is new, within these limits, and no name was given
+pub record IsStart (limits : Limits) (d : Desk) : Type 0 where
+  pub world : IsNew limits 0 d.world
+  pub moment : d.moment ≡ 0
+  pub places : d.places ≡ []
+  pub guards : d.guards ≡ []
+  pub owners : d.owners ≡ []
+  pub cells : d.cells ≡ []
+  pub slots : d.slots ≡ []
+  pub dates : d.dates ≡ replicate limits.slots 0

@@ -1,0 +1,45 @@
+-- Of a new item how it stands, and of values whose owners they hold
+use Rattle.std.specs.Prelude.{ℕ, ◌==◌, ◌&&◌, Bool, List, [], ◌∷◌, Option, Some, None, count_by, nat_lt}
+use Rattle.std.specs.List.{flat_map}
+use Rattle.sdd_token.specs.Units as token
+use Rattle.sdd_store.specs.declared.standing.Standing.{Standing}
+use Rattle.sdd_store.specs.declared.standing.Standing.TheVariants as standing
+use Rattle.sdd_slots.specs.Slots.{is_waiting}
+use Rattle.sdd_base.specs.Holding.{Holding}
+use Rattle.sdd_base.specs.Holding as holding
+use Rattle.sdd_base.specs.World.{World, standing_at, value_at}
+use Rattle.sdd_desk.specs.declared.ownership.Ownership.{Ownership}
+use Rattle.sdd_desk.specs.declared.ownership.Ownership.TheVariants as ownership
+use Rattle.sdd_desk.specs.declared.val.Val.{Val}
+use Rattle.sdd_desk.specs.Val.{body_of, owner_in}
+
+-- how a new item stands that is so owned, and its owner
+abbrev pub standing_first : Ownership → Standing
+standing_first ownership.Sole = standing.Owned
+standing_first ownership.Shared = standing.Shared 1
+
+abbrev pub holding_first : Ownership → (slot : ℕ) → token.Home → Holding
+holding_first ownership.Sole k home = holding.owned k home
+holding_first ownership.Shared k home = holding.shared k home
+
+-- the slots whose owners are these
+abbrev pub slots_of : List Holding → List ℕ
+slots_of [] = []
+slots_of (holding.owned k home ∷ hs) = k ∷ slots_of hs
+slots_of (holding.shared k home ∷ hs) = k ∷ slots_of hs
+slots_of (holding.atomic_owned c home ∷ hs) = slots_of hs
+slots_of (holding.atomic_shared c home ∷ hs) = slots_of hs
+slots_of (holding.atomic_raw c home ∷ hs) = slots_of hs
+
+-- the slots whose owner the body of a value is, if one is there
+abbrev pub slots_in : Option Val → List ℕ
+slots_in None = []
+slots_in (Some v) = slots_of (owner_in (body_of v))
+
+-- the slots whose owners the values in these slots hold
+abbrev pub owners_in : World Val → List ℕ → List ℕ
+owners_in w slots = flat_map (λ s. slots_in (value_at w s)) slots
+
+-- a slot is among these, and its item waits
+abbrev pub waits_among : World Val → List ℕ → ℕ → Bool
+waits_among w slots s = nat_lt 0 (count_by (λ k. k == s) slots) && is_waiting (standing_at w s)

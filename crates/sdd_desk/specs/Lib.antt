@@ -1,0 +1,7 @@
+pub mod Val
+pub mod Desk
+pub mod Made
+pub mod Shown
+pub mod Script
+pub mod Sound
+pub mod Held

@@ -1,0 +1,38 @@
+-- What the lines of a script show of values and cells
+use Rattle.std.specs.Prelude.{ℕ, ◌≡◌, List, Option, Some, option_map, slice_index}
+use Rattle.sdd_store.specs.declared.standing.Cell.{Cell}
+use Rattle.sdd_store.specs.Table.{entry_at}
+use Rattle.sdd_base.specs.Owned as owned
+use Rattle.sdd_base.specs.Shared as shared
+use Rattle.sdd_base.specs.World.{value_at}
+use Rattle.sdd_lines.specs.declared.name.ItemName.{ItemName}
+use Rattle.sdd_lines.specs.declared.answer.Reply.{Reply}
+use Rattle.sdd_lines.specs.declared.answer.Reply.TheVariants as reply
+use Rattle.sdd_desk.specs.declared.val.Body.{Body}
+use Rattle.sdd_desk.specs.declared.val.Body.TheVariants.{Number, Owned, Shared}
+use Rattle.sdd_desk.specs.declared.val.Val.{Val}
+use Rattle.sdd_desk.specs.Val.{body_of}
+use Rattle.sdd_desk.specs.Desk.{Desk, cell_of, holding_at}
+
+-- the item that a slot had last
+abbrev pub item_in : List ℕ → ℕ → ItemName
+item_in names s = record { 0 = slice_index names s }
+
+-- a body as a reply: its number, or the item that it holds an owner of
+abbrev pub told_of : List ℕ → Body Val → Reply
+told_of names (Number n) = reply.Value n
+told_of names (Owned o) = reply.Holding (item_in names (owned.slot_of o))
+told_of names (Shared o) = reply.Holding (item_in names (shared.slot_of o))
+
+-- the value of the item in slot k, as a reply
+abbrev pub Shows : Desk → ℕ → Reply → Type 0
+Shows d k given = (v : Val) × (value_at d.world k ≡ Some v) × (given ≡ told_of d.names (body_of v))
+
+-- the item that a cell holds, or none
+abbrev pub item_held : Desk → Cell → Option ItemName
+item_held d cell = option_map (item_in d.names) cell.held
+
+-- the cell of this name is number k, and holds this
+pub record IsCell (d : Desk) (c k : ℕ) (cell : Cell) : Type 0 where
+  pub named : cell_of (holding_at d.cells c) ≡ Some k
+  pub holds : entry_at d.world.cells k ≡ Some cell

@@ -1,0 +1,93 @@
+-- What is always true of a desk
+use Rattle.std.specs.Prelude.{ℕ, ◌+◌, ◌<◌, ◌≤◌, ◌≡◌, ◌≢◌, ◌==◌, Bool, false, IsTrue, IsSome, List, Option, None, Some, count_by, length}
+use Rattle.sdd_store.specs.Time.{is_open, phase_at}
+use Rattle.sdd_store.specs.Table.{entry_at}
+use Rattle.sdd_store.specs.declared.standing.Standing.TheVariants.{Raw}
+use Rattle.sdd_slots.specs.Slots.{is_waiting}
+use Rattle.sdd_base.specs.Holding.{Holding, IsOf}
+use Rattle.sdd_base.specs.World.{IsPlaceOf, place_at, standing_at, value_at}
+use Rattle.sdd_base.specs.Steps.{held_in}
+use Rattle.sdd_base.specs.Accounts.{IsAccounted, is_owner_of, times_held}
+use Rattle.sdd_base.specs.Under.{IsSafe}
+use Rattle.sdd_desk.specs.declared.val.Val.{Val}
+use Rattle.sdd_desk.specs.Val.{holdings_of, link_of}
+use Rattle.sdd_desk.specs.Desk.{Desk, Opening, opening_at, holding_at, slot_at, name_at, date_at, cell_of}
+
+-- which item is in which slot
+pub record IsStocked (d : Desk) : Type 0 where
+  -- a slot that is not free is that of the item that it has
+  pub named : (s : ℕ) → IsSome (standing_at d.world s) → (name_at d s < length d.slots) × (slot_at d (name_at d s) ≡ s)
+  pub names : length d.names ≡ length d.world.standings
+  pub dates : length d.dates ≡ length d.world.standings
+
+-- what keeps a cell: the value in a slot, whose link it is, or a name
+pub data Keeper : Type 0 where
+  value_in : (slot : ℕ) → Keeper
+  name_of : (cell : ℕ) → Keeper
+
+abbrev pub Keeps : Desk → Keeper → ℕ → Type 0
+Keeps d (value_in s) c = (v : Val) × (value_at d.world s ≡ Some v) × (link_of v ≡ c)
+Keeps d (name_of n) c = cell_of (holding_at d.cells n) ≡ Some c
+
+-- the cells that are taken are those that something keeps, each one thing; links hold nothing
+pub record AreKept (d : Desk) : Type 0 where
+  pub keeper : (c : ℕ) → IsSome (entry_at d.world.cells c) → (k : Keeper) × Keeps d k c
+  pub taken : (k : Keeper) (c : ℕ) → Keeps d k c → IsSome (entry_at d.world.cells c)
+  pub apart : (j k : Keeper) (c : ℕ) → Keeps d j c → Keeps d k c → j ≡ k
+  pub bare : (s c : ℕ) → Keeps d (value_in s) c → held_in (entry_at d.world.cells c) ≡ None
+
+-- the guard is one of p's
+abbrev pub is_of : ℕ → Option Opening → Bool
+is_of p None = false
+is_of p (Some x) = x.place == p
+
+-- what is named is an owner of the slot's item
+abbrev pub owns : ℕ → Option Holding → Bool
+owns k None = false
+owns k (Some h) = is_owner_of k h
+
+-- how many owners of the slot's item have names
+abbrev pub named_owners : Desk → ℕ → ℕ
+named_owners d k = count_by (owns k) d.owners
+
+-- what has a name is of the world's home
+abbrev pub AreAtHome : Desk → List (Option Holding) → Type 0
+AreAtHome d hs = (n : ℕ) (h : Holding) → holding_at hs n ≡ Some h → IsOf d.world.home h
+
+-- who is there, and which guards are open
+pub record IsAttended (d : Desk) : Type 0 where
+  pub inside : (n : ℕ) (x : Opening) → opening_at d.places n ≡ Some x → IsPlaceOf d.world x.place
+  pub apart : (n m : ℕ) (x y : Opening) → opening_at d.places n ≡ Some x → opening_at d.places m ≡ Some y → x.place ≡ y.place → n ≡ m
+  pub opened : (p : ℕ) → (place_at d.world p).guards ≡ count_by (is_of p) d.guards
+  -- a guard is that of a participant, which has not been without one since
+  pub since : (g : ℕ) (y : Opening) → opening_at d.guards g ≡ Some y →
+      (n : ℕ) × (x : Opening) × (opening_at d.places n ≡ Some x) × (x.place ≡ y.place) × (x.since ≤ y.since)
+  -- in a line so far
+  pub early : (n : ℕ) (x : Opening) → opening_at d.places n ≡ Some x → x.since ≤ d.moment
+  -- an item or a cell was made by some participant, and its place, or another, is not free
+  pub placed : 0 < length d.slots + length d.cells → (p : ℕ) × IsSome (phase_at d.world.time p)
+
+-- what began to wait since a participant's last outermost opening can't go as long as a guard of it is open
+abbrev pub IsKept : Desk → Type 0
+IsKept d = (n s : ℕ) (x : Opening) → opening_at d.places n ≡ Some x → IsTrue (is_open (place_at d.world x.place)) →
+    IsTrue (is_waiting (standing_at d.world s)) → x.since ≤ date_at d s → IsSafe d.world x.place s
+
+-- what values hold goes back to older items, and an item that is out has an owner: so with no owner outside all goes
+pub record IsLayered (d : Desk) : Type 0 where
+  -- what a value holds is an owner of an item that was made before its own
+  pub older : (j k : ℕ) → 1 ≤ times_held holdings_of k (value_at d.world j) → name_at d k < name_at d j
+  pub owned : (k : ℕ) → standing_at d.world k ≢ Some Raw
+
+pub record IsSound (d : Desk) : Type 0 where
+  pub stocked : IsStocked d
+  pub cells : AreKept d
+  pub layered : IsLayered d
+  pub accounts : IsAccounted holdings_of (named_owners d) d.world
+  pub owners_home : AreAtHome d d.owners
+  pub cells_home : AreAtHome d d.cells
+  pub attended : IsAttended d
+  pub kept : IsKept d
+  -- in a line so far
+  pub early : (s : ℕ) → date_at d s ≤ d.moment
+  pub made : d.world.tally.made ≡ length d.slots
+  pub in_place : d.world.tally.in_place ≡ 0

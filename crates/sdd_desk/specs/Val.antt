@@ -1,0 +1,28 @@
+-- What the value of a script's item is
+use Rattle.std.specs.Prelude.{ℕ, List, [], ◌∷◌, ◌++◌}
+use Rattle.sdd_token.specs.Units as token
+use Rattle.sdd_base.specs.Owned as owned
+use Rattle.sdd_base.specs.Shared as shared
+use Rattle.sdd_base.specs.Holding.{Holding}
+use Rattle.sdd_desk.specs.declared.val.Body.{Body}
+use Rattle.sdd_desk.specs.declared.val.Body.TheVariants.{Number, Owned, Shared}
+use Rattle.sdd_desk.specs.declared.val.Val.{Val, out-Val}
+
+abbrev pub body_of : Val → Body Val
+body_of v = (out-Val v).body
+
+abbrev pub link_of : Val → ℕ
+link_of v = owned.cell_of (out-Val v).link
+
+abbrev pub link_home : Val → token.Home
+link_home v = owned.cells_home (out-Val v).link
+
+-- the owner that a body is, if it is one
+abbrev pub owner_in : Body Val → List Holding
+owner_in (Number n) = []
+owner_in (Owned o) = owned.holding_of o ∷ []
+owner_in (Shared o) = shared.holding_of o ∷ []
+
+-- it holds an owner or none, and its link
+abbrev pub holdings_of : Val → List Holding
+holdings_of v = owner_in (body_of v) ++ owned.cell_holding (out-Val v).link ∷ []
