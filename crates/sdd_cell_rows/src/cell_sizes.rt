@@ -24,7 +24,7 @@ fn each_owner_and_cell_is_made_in_a_world_of_the_greatest_size(rt: HostRuntime) 
     setting.run::<Nothing>(&rt);
     setting.run::<Copies>(&rt);
     setting.run::<Releases>(&rt);
-    setting.closed(&rt);
+    setting.closed(&rt, 0);
 }
 
 #[test]

@@ -85,11 +85,14 @@ impl<T: Item<T>> Setting<T> {
         }
     }
 
-    /// Ends the world, by which all that was made is reclaimed.
-    pub fn closed(self, rt: &impl Abort) {
+    /// Ends the world, by which all that was made and not dropped in its place is reclaimed. So many were dropped.
+    pub fn closed(self, rt: &impl Abort, in_place: u128) {
         let Setting { world, place: _ } = self;
         match world.close() {
-            Ok(tally) => assert_eq!(rt; (tally.reclaimed, tally.in_place), (tally.made, 0)),
+            Ok(tally) => {
+                let gone = tally.reclaimed.saturating_add(tally.in_place);
+                assert_eq!(rt; (gone, tally.in_place), (tally.made, in_place));
+            }
             Err((_world, refused)) => panic!(rt; "{refused:?}"),
         }
     }
@@ -99,7 +102,7 @@ impl<T: Item<T>> Setting<T> {
 pub fn in_a_world<T: Item<T>, E: Example<T>, R: Abort + AllocGlobal>(rt: &R, limits: Limits) {
     let mut setting: Setting<T> = Setting::new(rt, limits);
     setting.run::<E>(rt);
-    setting.closed(rt);
+    setting.closed(rt, 0);
 }
 
 /// The participant's guards show this afterwards.
@@ -111,7 +114,7 @@ pub fn in_a_world_that_shows<T: Item<T>, E: Example<T>, R: Abort + AllocGlobal>(
     let mut setting: Setting<T> = Setting::new(rt, limits);
     setting.run::<E>(rt);
     setting.shows(rt, table);
-    setting.closed(rt);
+    setting.closed(rt, 0);
 }
 
 /// The participant's guards show this afterwards, and once it has ended those of another that.
@@ -126,5 +129,18 @@ pub fn in_a_world_handed_over<T: Item<T>, E: Example<T>, R: Abort + AllocGlobal>
     setting.shows(rt, own);
     setting.hand_over(rt);
     setting.shows(rt, others);
-    setting.closed(rt);
+    setting.closed(rt, 0);
+}
+
+/// So many items are dropped in their place, and the participant's guards show this afterwards.
+pub fn in_a_world_that_drops<T: Item<T>, E: Example<T>, R: Abort + AllocGlobal>(
+    rt: &R,
+    limits: Limits,
+    table: &[Shown],
+    in_place: u128,
+) {
+    let mut setting: Setting<T> = Setting::new(rt, limits);
+    setting.run::<E>(rt);
+    setting.shows(rt, table);
+    setting.closed(rt, in_place);
 }

@@ -10,7 +10,15 @@ mod example;
 #[cfg(test)]
 mod giving_up;
 #[cfg(test)]
+mod in_place;
+#[cfg(test)]
+mod most_owners;
+#[cfg(test)]
 mod owned_cells;
+#[cfg(test)]
+mod raw_cells;
+#[cfg(test)]
+mod raw_items;
 #[cfg(test)]
 mod raw_pointers;
 #[cfg(test)]

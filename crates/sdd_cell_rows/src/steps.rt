@@ -4,6 +4,7 @@ ghost use Rattle.sdd_base.specs.Guard.{reader_of};
 ghost use Rattle.sdd_base.specs.Seat.{IsSeated};
 
 pub mod owned;
+pub mod raw;
 pub mod shared;
 
 use sdd_base::{Guard, Item, Look, Ptr, Space};

@@ -1,4 +1,4 @@
-use sdd_base::{AtomicOwned, AtomicShared, Giver, Item, Owned, Shared};
+use sdd_base::{AtomicOwned, AtomicRaw, AtomicShared, Giver, Item, Owned, Shared};
 
 /// A number, or what holds other items.
 pub enum Value {
@@ -7,7 +7,9 @@ pub enum Value {
     Of(Shared<Value>),
     /// A number, and a cell with an owner of the next node, or with nothing.
     Node(u64, AtomicShared<Value>),
-    /// One of each kind that a value may hold.
+    /// A cell of raw pointers.
+    Raw(AtomicRaw<Value>),
+    /// One of each kind of owner, and of cell that owns.
     Four(Owned<Value>, Shared<Value>, AtomicOwned<Value>, AtomicShared<Value>),
 }
 
@@ -21,6 +23,7 @@ impl Item<Value> for Value {
             Value::Number(_) => {}
             Value::Of(owner) => giver.shared(owner),
             Value::Node(_, next) => giver.atomic_shared(next),
+            Value::Raw(cell) => giver.atomic_raw(cell),
             Value::Four(owned, shared, owned_cell, shared_cell) => {
                 giver.owned(owned);
                 giver.shared(shared);

@@ -15,7 +15,7 @@ use std::process::Abort;
 fn number_of(value: &Value) -> Option<u64> {
     match value {
         Value::Number(number) | Value::Node(number, _) => Some(*number),
-        Value::Of(_) | Value::Four(_, _, _, _) => None,
+        Value::Of(_) | Value::Raw(_) | Value::Four(_, _, _, _) => None,
     }
 }
 
@@ -31,7 +31,7 @@ fn next_of<'g, S: Space<Value>>(s: &mut S, value: &'g Value, guard: &'g Guard) -
     s.shown_is_of_home();
     match value {
         Value::Node(_, next) => next.load(guard, s).as_ref(s),
-        Value::Number(_) | Value::Of(_) | Value::Four(_, _, _, _) => None,
+        Value::Number(_) | Value::Of(_) | Value::Raw(_) | Value::Four(_, _, _, _) => None,
     }
 }
 

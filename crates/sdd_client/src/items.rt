@@ -7,6 +7,7 @@ ghost use Rattle.sdd_base.specs.World.{place_at, value_at};
 ghost use Rattle.sdd_base.specs.Owned.{slot_of, slots_home};
 ghost use Rattle.sdd_store.specs.Time.{has_garbage};
 
+use sdd_base::laws::comes_back;
 use sdd_base::{Guard, Owned, Space};
 use sdd_core::Refused;
 
@@ -32,6 +33,22 @@ pub fn value_in_its_slot<S: Space<u64>>(owner: &Owned<u64>, s: &S) -> u64
     ensures { value_at (S.world s.now) (slot_of owner.now) ≡ Some result }
 {
     *owner.get(s)
+}
+
+/// Puts an item out as raw and takes it back; answers what is read then, which is what was in its slot.
+pub fn raw_and_back<S: Space<u64>>(owner: Owned<u64>, s: &mut S) -> (Owned<u64>, u64)
+    requires seated { IsSeated (S.seat s.old) }
+    requires home { slots_home owner ≡ (S.seat s.old).home.slots }
+    requires exact { IsExact (S.seat s.old) }
+    ensures seat { S.seat s.new ≡ S.seat s.old }
+    ensures home { slots_home result.0 ≡ (S.seat s.new).home.slots }
+    ensures same { slot_of result.0 ≡ slot_of owner }
+    ensures read { value_at (S.world s.old) (slot_of owner) ≡ Some result.1 }
+    ensures world { S.world s.new ≡ S.world s.old }
+{
+    let owner = comes_back(owner, s);
+    let read = value_in_its_slot(&owner, s);
+    (owner, read)
 }
 
 /// Whether something may wait with the participant of an exact space, as the world has it.

@@ -1,9 +1,9 @@
 //! The texts of answers.
 
-use sdd_core::Refused;
 use sdd_core::inner::epoch_of_count;
+use sdd_core::{Refused, Tag};
 use sdd_lines::{
-    Answer, GuardName, ItemName, JobName, Names, OwnerName, PlaceName, Reply, print_all,
+    Answer, CellName, GuardName, ItemName, JobName, Names, OwnerName, PlaceName, Reply, print_all,
     print_fault,
 };
 use sdd_store::Tally;
@@ -59,6 +59,22 @@ fn replies_have_texts(rt: HostRuntime) -> Result<(), Fail> {
         (Reply::Done, "ok\n"),
         (Reply::Item(OwnerName(0), ItemName(12)), "o0 i12\n"),
         (Reply::Value(18446744073709551615), "18446744073709551615\n"),
+        (Reply::Owner(OwnerName(2)), "o2\n"),
+        (Reply::Nothing, "none\n"),
+        (Reply::Holding(ItemName(4)), "of i4\n"),
+        (Reply::Cell(CellName(5)), "c5\n"),
+        (Reply::Pointer(Some(ItemName(4)), Tag::Both), "i4 Both\n"),
+        (Reply::Pointer(None, Tag::None), "null None\n"),
+        (Reply::Tag(Tag::Second), "Second\n"),
+        (Reply::Swapped(Some(OwnerName(2)), Tag::First), "o2 First\n"),
+        (Reply::Swapped(None, Tag::None), "none None\n"),
+        (Reply::Exchanged(Some(OwnerName(2))), "ok o2\n"),
+        (Reply::Exchanged(None), "ok none\n"),
+        (
+            Reply::Differs(Some(ItemName(4)), Tag::Both),
+            "differs i4 Both\n",
+        ),
+        (Reply::Differs(None, Tag::First), "differs null First\n"),
         (Reply::Refused(Refused::NoSlot), "refused 1 NoSlot\n"),
         (Reply::Refused(Refused::NoCell), "refused 2 NoCell\n"),
         (Reply::Refused(Refused::NoJob), "refused 3 NoJob\n"),

@@ -1,10 +1,7 @@
 //! Scripts whose participants end, from the bytes of their calls to the bytes of their answers.
 use crate::limits::AMPLE;
-use sdd::{Ended, Limits, Reader, Writer, play, run};
-use sdd_lines::{Script, parse_all};
-use sdd_store::Tally;
-use std::alloc::{AllocError, Global};
-use std::process::Abort;
+use crate::plays::{answers, tally_at_the_close};
+use sdd::Limits;
 use std::test::Fail;
 
 /// One participant, and enough of everything else.
@@ -18,54 +15,6 @@ const TWO: Limits = Limits {
     participants: 2,
     ..AMPLE
 };
-
-/// The lines of a table, and the answers that stand beside them.
-fn texts(alloc: Global, table: &[(&str, &str)]) -> Result<(String, String), AllocError> {
-    let mut script = String::new(alloc);
-    let mut expected = String::new(alloc);
-    for (line, answer) in table {
-        script.push_str(line)?;
-        script.push_str("\n")?;
-        expected.push_str(answer)?;
-        expected.push_str("\n")?;
-    }
-    Ok((script, expected))
-}
-
-/// How the play of a script ends, and what it has written by then.
-fn played(alloc: Global, limits: Limits, script: &str) -> (Ended, Vec<u8>) {
-    let mut written = Vec::new(alloc);
-    let mut reader = Reader::new(script.as_bytes());
-    let mut writer = Writer::new(&mut written);
-    let ended = play(alloc, limits, &mut reader, &mut writer);
-    (ended, written)
-}
-
-/// A script of these lines is played, and each line is answered by what stands beside it.
-fn answers<R>(rt: &R, limits: Limits, table: &[(&str, &str)]) -> Result<(), AllocError>
-where
-    R: Abort + AllocGlobal,
-{
-    let (script, expected) = texts(rt.alloc(), table)?;
-    let (ended, written) = played(rt.alloc(), limits, script.as_str());
-    assert_eq!(rt; ended, Ended::Played);
-    assert_eq!(rt; str::from_utf8(written.as_slice()), Ok(expected.as_str()));
-    Ok(())
-}
-
-/// The tally with which the scene of a script closes.
-fn tally_at_the_close<R>(rt: &R, limits: Limits, script: &str) -> Result<Tally, Fail>
-where
-    R: Abort + AllocGlobal,
-{
-    match parse_all(rt.alloc(), script.as_bytes())? {
-        Script::Calls(calls) => {
-            let (_answers, scene) = run(rt.alloc(), limits, calls.as_slice())?;
-            Ok(scene.close())
-        }
-        Script::Fault(line) => panic!(rt; "line {line}"),
-    }
-}
 
 #[test]
 fn what_a_participant_left_goes_at_the_fourth_opening_of_another(

@@ -3,7 +3,7 @@
 use crate::limits::AMPLE;
 use sdd::{
     Action, Answer, Call, Ended, ItemName, Limits, Names, OwnerName, PlaceName, Reader, Reply,
-    Writer, play, run,
+    Value, Writer, play, run,
 };
 use sdd_lines::{Script, parse_all, print_all, read_to_end};
 use std::alloc::{AllocError, Global};
@@ -34,7 +34,7 @@ fn most_calls(alloc: Global) -> Result<Vec<Call>, AllocError> {
     let mut calls = Vec::new(alloc);
     calls.push(Call::Register)?;
     for number in 1..65_536 {
-        calls.push(Call::At(PlaceName(0), Action::Owned(number)))?;
+        calls.push(Call::At(PlaceName(0), Action::Owned(Value::Number(number))))?;
     }
     Ok(calls)
 }

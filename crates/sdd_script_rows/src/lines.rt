@@ -1,6 +1,9 @@
 //! Lines that are calls, and lines that are none.
 
-use sdd_lines::{Action, Call, GuardName, ItemName, OwnerName, PlaceName, Script, parse_all};
+use sdd_core::Tag;
+use sdd_lines::{
+    Action, Call, CellName, GuardName, ItemName, OwnerName, PlaceName, Script, Value, parse_all,
+};
 use std::alloc::Global;
 use std::test::Fail;
 
@@ -10,6 +13,7 @@ fn lines_are_calls(rt: HostRuntime) {
     let guard = GuardName(1);
     let owner = OwnerName(2);
     let item = ItemName(10);
+    let cell = CellName(3);
     for (line, call) in [
         ("register", Call::Register),
         ("tally", Call::Tally),
@@ -22,15 +26,67 @@ fn lines_are_calls(rt: HostRuntime) {
             "p0 accelerate g1",
             Call::At(place, Action::Accelerate(guard)),
         ),
-        ("p0 owned 0", Call::At(place, Action::Owned(0))),
+        (
+            "p0 owned 0",
+            Call::At(place, Action::Owned(Value::Number(0))),
+        ),
         (
             "p0 owned 18446744073709551615",
-            Call::At(place, Action::Owned(u64::MAX)),
+            Call::At(place, Action::Owned(Value::Number(u64::MAX))),
         ),
         ("p0 read o2", Call::At(place, Action::Read(owner))),
         ("p0 look i10 g1", Call::At(place, Action::Look(item, guard))),
         ("p0 retire o2", Call::At(place, Action::Retire(owner))),
         ("p0 close g1", Call::At(place, Action::Close(guard))),
+        (
+            "p0 shared of o2",
+            Call::At(place, Action::Shared(Value::Of(owner))),
+        ),
+        (
+            "p0 upgrade i10 g1",
+            Call::At(place, Action::Upgrade(item, guard)),
+        ),
+        ("p0 release o2", Call::At(place, Action::Release(owner))),
+        ("p0 clone o2", Call::At(place, Action::Clone(owner))),
+        (
+            "p0 cell owned none",
+            Call::At(place, Action::CellOwned(None)),
+        ),
+        (
+            "p0 cell shared o2",
+            Call::At(place, Action::CellShared(Some(owner))),
+        ),
+        ("p0 load c3 g1", Call::At(place, Action::Load(cell, guard))),
+        ("p0 tag c3", Call::At(place, Action::Tag(cell))),
+        (
+            "p0 swap c3 o2 First",
+            Call::At(place, Action::Swap(cell, Some(owner), Tag::First)),
+        ),
+        (
+            "p0 tagif c3 Both if None",
+            Call::At(place, Action::TagIf(cell, Tag::Both, Tag::None)),
+        ),
+        (
+            "p0 cas c3 g1 was i10 None now o2 First",
+            Call::At(
+                place,
+                Action::Exchange(cell, guard, Some(item), Tag::None, Some(owner), Tag::First),
+            ),
+        ),
+        (
+            "p0 cas c3 g1 was null Second now none Both",
+            Call::At(
+                place,
+                Action::Exchange(cell, guard, None, Tag::Second, None, Tag::Both),
+            ),
+        ),
+        ("p0 copy c3 g1", Call::At(place, Action::Copy(cell, guard))),
+        (
+            "p0 share c3 g1",
+            Call::At(place, Action::Share(cell, guard)),
+        ),
+        ("p0 into c3", Call::At(place, Action::Into(cell))),
+        ("p0 close c3", Call::At(place, Action::CloseCell(cell))),
         (
             "p18446744073709551615 open",
             Call::At(PlaceName(u64::MAX), Action::Open),
@@ -76,6 +132,32 @@ fn malformed_lines_are_no_calls(rt: HostRuntime) {
         "p0 close p0",
         "p0 retire i0",
         "p0 defer g0",
+        "p0 owned none",
+        "p0 owned of none",
+        "p0 cell o0",
+        "p0 cell shared null",
+        "p0 swap c0 o0",
+        "p0 swap c0 o0 first",
+        "p0 cas c0 g0 was none None now o0 None",
+        "p0 cas c0 g0 was i0 None now o0 None None",
+        "p0 look null g0",
+        "p0 shared",
+        "p0 shared of i0",
+        "p0 release i0",
+        "p0 upgrade o0 g0",
+        "p0 cell none",
+        "p0 cell owned",
+        "p0 load c0",
+        "p0 copy o0 g0",
+        "p0 share c0",
+        "p0 into o0",
+        "p0 swap c0 null None",
+        "p0 tagif c0 First None",
+        "p0 tagif c0 First if none",
+        "p0 cas c0 g0 was o0 None now o0 None",
+        "p0 cas c0 g0 was i0 None now null None",
+        "p0 cas c0 g0 was i0 now o0 None",
+        "p0 cas c0 was i0 None now o0 None",
         "end",
         "p0 end g0",
         "p0 end ",

@@ -1,12 +1,12 @@
 //! Owners that are alone, and cells of them.
-ghost use Rattle.std.specs.Prelude.{◌≡◌};
+ghost use Rattle.std.specs.Prelude.{◌≡◌, IfErr};
 ghost use Rattle.sdd_base.specs.Guard.{reader_of};
 ghost use Rattle.sdd_base.specs.Holding.{AreOf};
 ghost use Rattle.sdd_base.specs.Owned.{slots_home, cells_home, IsOfSlots};
 ghost use Rattle.sdd_base.specs.Seat.{IsSeated};
 
 use crate::steps::{Read, close, opened, seen};
-use sdd_base::{AtomicOwned, Guard, Item, Owned, Ptr, Space};
+use sdd_base::{AtomicOwned, Guard, Item, Owned, Ptr, RawPtr, Space};
 use sdd_core::{Refused, Tag};
 use std::process::Abort;
 
@@ -244,4 +244,80 @@ pub fn weakly_exchanged<'g, S: Space<u64>>(
         Ok((old, now)) => Ok((spent(s, old), seen(s, now), now.tag())),
         Err((back, now)) => Err((spent(s, back), seen(s, now), now.tag())),
     }
+}
+
+/// The item has another number from now on. The one before.
+pub fn put<S: Space<u64>>(s: &mut S, owner: &mut Owned<u64>, value: u64) -> Result<u64, Refused>
+    requires seated { IsSeated (S.seat s.old) }
+    requires home { slots_home owner.old ≡ (S.seat s.old).home.slots }
+    ensures seat { S.seat s.new ≡ S.seat s.old }
+    ensures same { owner.new ≡ owner.old }
+{
+    match owner.get_mut(|number| std::mem::replace(number, value), s) {
+        Ok(was) => Ok(was),
+        Err((_put, refused)) => Err(refused),
+    }
+}
+
+/// The item is dropped in its place; or the owner comes back.
+pub fn drop_in_place<T: Item<T>, S: Space<T>>(
+    s: &mut S,
+    owner: Owned<T>,
+) -> Result<(), (Owned<T>, Refused)>
+    requires seated { IsSeated (S.seat s.old) }
+    requires home { slots_home owner ≡ (S.seat s.old).home.slots }
+    ensures seat { S.seat s.new ≡ S.seat s.old }
+    ensures home { IfErr result (λ e. slots_home e.0 ≡ (S.seat s.new).home.slots) }
+{
+    owner.drop_in_place(s)
+}
+
+/// The item is out as raw.
+pub fn raw<T: Item<T>, S: Space<T>>(s: &mut S, owner: Owned<T>) -> RawPtr<T>
+    requires seated { IsSeated (S.seat s.old) }
+    requires home { slots_home owner ≡ (S.seat s.old).home.slots }
+    ensures seat { S.seat s.new ≡ S.seat s.old }
+{
+    owner.into_raw(s)
+}
+
+/// The owner of an item that is out as raw.
+pub fn unraw<T: Item<T>, S: Space<T>>(s: &mut S, ptr: RawPtr<T>) -> Option<Owned<T>>
+    requires seated { IsSeated (S.seat s.old) }
+    ensures seat { S.seat s.new ≡ S.seat s.old }
+    ensures home { IsOfSlots (S.seat s.new).home.slots result }
+{
+    Owned::from_raw(ptr, s)
+}
+
+/// Whether the item is out as raw. If so it is owned again, and waits from now on.
+pub fn is_raw<S: Space<u64>>(s: &mut S, ptr: RawPtr<u64>) -> bool
+    requires seated { IsSeated (S.seat s.old) }
+    ensures seat { S.seat s.new ≡ S.seat s.old }
+{
+    let owner = unraw(s, ptr);
+    spent(s, owner).is_some()
+}
+
+/// A pointer to what a raw pointer names, where that is out as raw.
+pub fn pointer_to<'g, T: Item<T>, S: Space<T>>(
+    s: &mut S,
+    ptr: RawPtr<T>,
+    guard: &'g Guard,
+) -> Option<Ptr<'g, T>>
+    requires seated { IsSeated (S.seat s.old) }
+    requires reader { reader_of guard.now ≡ (S.seat s.old).reader }
+    ensures seat { S.seat s.new ≡ S.seat s.old }
+{
+    ptr.into_ptr(s, guard)
+}
+
+/// The number that a raw pointer names, where that is out as raw.
+pub fn see<S: Space<u64>>(s: &mut S, ptr: RawPtr<u64>, guard: &Guard) -> Option<u64>
+    requires seated { IsSeated (S.seat s.old) }
+    requires reader { reader_of guard.now ≡ (S.seat s.old).reader }
+    ensures seat { S.seat s.new ≡ S.seat s.old }
+{
+    let ptr = pointer_to(s, ptr, guard)?;
+    seen(s, ptr)
 }

@@ -1,5 +1,5 @@
 //! Owners that may have others beside them, and cells of them.
-ghost use Rattle.std.specs.Prelude.{◌≡◌};
+ghost use Rattle.std.specs.Prelude.{◌≡◌, IfErr};
 ghost use Rattle.sdd_base.specs.Guard.{reader_of};
 ghost use Rattle.sdd_base.specs.Holding.{AreOf};
 ghost use Rattle.sdd_base.specs.Shared.{slots_home, cells_home, IsOfSlots};
@@ -101,6 +101,75 @@ pub fn upgraded<S: Space<u64>>(rt: &impl Abort, s: &mut S, ptr: Ptr<'_, u64>) ->
 {
     let owner = ptr.get_shared(s).expect(rt, "another owner may be had")?;
     Some(owner.release(s))
+}
+
+/// What another owner is refused with. If it is had, it is given up again.
+pub fn refused_copy<S: Space<u64>>(s: &mut S, owner: &Shared<u64>) -> Option<Refused>
+    requires seated { IsSeated (S.seat s.old) }
+    requires home { slots_home owner.now ≡ (S.seat s.old).home.slots }
+    ensures seat { S.seat s.new ≡ S.seat s.old }
+{
+    match owner.clone(s) {
+        Ok(other) => {
+            let _ = other.release(s);
+            None
+        }
+        Err(refused) => Some(refused),
+    }
+}
+
+/// The same of an owner of the pointer's item.
+pub fn refused_upgrade<S: Space<u64>>(s: &mut S, ptr: Ptr<'_, u64>) -> Option<Refused>
+    requires seated { IsSeated (S.seat s.old) }
+    ensures seat { S.seat s.new ≡ S.seat s.old }
+{
+    match ptr.get_shared(s) {
+        Ok(owner) => {
+            let _ = spent(s, owner);
+            None
+        }
+        Err(refused) => Some(refused),
+    }
+}
+
+/// The same of an owner of what the cell holds.
+pub fn refused_owner<S: Space<u64>>(
+    s: &mut S,
+    cell: &AtomicShared<u64>,
+    guard: &Guard,
+) -> Option<Refused>
+    requires seated { IsSeated (S.seat s.old) }
+    requires home { cells_home cell.now ≡ (S.seat s.old).home.cells }
+    requires reader { reader_of guard.now ≡ (S.seat s.old).reader }
+    ensures seat { S.seat s.new ≡ S.seat s.old }
+{
+    match cell.get_shared(guard, s) {
+        Ok(owner) => {
+            let _ = spent(s, owner);
+            None
+        }
+        Err(refused) => Some(refused),
+    }
+}
+
+/// The same of another cell that holds one.
+pub fn refused_cell<S: Space<u64>>(
+    s: &mut S,
+    cell: &AtomicShared<u64>,
+    guard: &Guard,
+) -> Option<Refused>
+    requires seated { IsSeated (S.seat s.old) }
+    requires home { cells_home cell.now ≡ (S.seat s.old).home.cells }
+    requires reader { reader_of guard.now ≡ (S.seat s.old).reader }
+    ensures seat { S.seat s.new ≡ S.seat s.old }
+{
+    match cell.clone(guard, s) {
+        Ok(copy) => {
+            copy.close(s);
+            None
+        }
+        Err(refused) => Some(refused),
+    }
 }
 
 /// The number of the owner's item. The owner is given up.
@@ -364,4 +433,30 @@ pub fn owner_of<S: Space<u64>>(
         .expect(rt, "another owner may be had");
     close(s, guard);
     owner
+}
+
+/// The item has another number from now on. The one before.
+pub fn put<S: Space<u64>>(s: &mut S, owner: &mut Shared<u64>, value: u64) -> Result<u64, Refused>
+    requires seated { IsSeated (S.seat s.old) }
+    requires home { slots_home owner.old ≡ (S.seat s.old).home.slots }
+    ensures seat { S.seat s.new ≡ S.seat s.old }
+    ensures same { owner.new ≡ owner.old }
+{
+    match owner.get_mut(|number| std::mem::replace(number, value), s) {
+        Ok(was) => Ok(was),
+        Err((_put, refused)) => Err(refused),
+    }
+}
+
+/// The owner goes in place, and tells whether it was the last; or it comes back.
+pub fn drop_in_place<T: Item<T>, S: Space<T>>(
+    s: &mut S,
+    owner: Shared<T>,
+) -> Result<bool, (Shared<T>, Refused)>
+    requires seated { IsSeated (S.seat s.old) }
+    requires home { slots_home owner ≡ (S.seat s.old).home.slots }
+    ensures seat { S.seat s.new ≡ S.seat s.old }
+    ensures home { IfErr result (λ e. slots_home e.0 ≡ (S.seat s.new).home.slots) }
+{
+    owner.drop_in_place(s)
 }

@@ -1,0 +1,215 @@
+//! As many owners of one item as there may be. Most of them come in one piece.
+ghost use Rattle.std.specs.Prelude.{◌≡◌, ◌≤◌};
+ghost use Rattle.sdd_base.specs.Seat.{IsSeated};
+ghost use Rattle.sdd_base.specs.Shared.{slots_home, cells_home};
+
+use crate::example::AMPLE;
+use crate::steps::{close, opened, seen, shared};
+use sdd_base::{AtomicShared, Limits, Shared, Space, inner};
+use sdd_core::Refused;
+use sdd_store::Standing;
+use sdd_token::Shares;
+use sdd_world::inner::{add_owners, let_go_but_one, standing_of};
+use sdd_world::{Place, World};
+use std::marker::Model;
+use std::process::Abort;
+
+/// 2^62.
+const MOST: u64 = 4_611_686_018_427_387_904;
+
+/// What one owner more is refused with, by each call that gives one.
+#[derive(Clone, Copy, Debug, PartialEq)]
+struct Refusals {
+    /// Another owner.
+    copy: Option<Refused>,
+    /// An owner of a pointer.
+    upgrade: Option<Refused>,
+    /// An owner of what the cell holds.
+    owner: Option<Refused>,
+    /// A copy of the cell.
+    cell: Option<Refused>,
+}
+
+const NONE: Refusals = Refusals {
+    copy: None,
+    upgrade: None,
+    owner: None,
+    cell: None,
+};
+
+const TOO_MANY: Refusals = Refusals {
+    copy: Some(Refused::TooManyOwners),
+    upgrade: Some(Refused::TooManyOwners),
+    owner: Some(Refused::TooManyOwners),
+    cell: Some(Refused::TooManyOwners),
+};
+
+/// An owner of an item, a cell that holds another, and more owners in one piece.
+struct Crowd {
+    world: World<u64>,
+    place: Place,
+    owner: Shared<u64>,
+    cell: AtomicShared<u64>,
+    more: Shares,
+}
+
+impl Model for Crowd {
+    ghost use Rattle.std.specs.Prelude.{◌≡◌};
+    ghost use Rattle.sdd_base.specs.World.{IsPlaceOf};
+    ghost use Rattle.sdd_base.specs.Shared.{slots_home, cells_home};
+    ghost use Rattle.sdd_token.specs.Shares.{home_of};
+    ghost use Rattle.sdd_world.specs.Place.{index_of};
+
+    ghost Value = { Unit {0} };
+
+    ghost view = { λ _. tt };
+
+    ghost invariant = { λ c. IsPlaceOf c.world (index_of c.place) × (slots_home c.owner ≡ c.world.home.slots) ×
+        (cells_home c.cell ≡ c.world.home.cells) × (home_of c.more ≡ c.world.home.slots) };
+}
+
+impl Crowd {
+    /// So many owners in one piece, beside the owner and the one in the cell.
+    fn new<R: Abort + AllocGlobal>(rt: &R, limits: Limits, more: u64) -> Crowd
+        requires { 1 ≤ more }
+    {
+        let mut world = World::new(rt.alloc(), limits).expect(rt, "the limits are in range");
+        let place = world.register().expect(rt, "a place is free");
+        let owner = shared::made(rt, &mut world.at(&place), 7);
+        let cell = cell_beside(rt, &mut world.at(&place), &owner);
+        let more = add_owners(&mut world, &owner, more).expect(rt, "so many may own it");
+        Crowd {
+            world,
+            place,
+            owner,
+            cell,
+            more,
+        }
+    }
+
+    /// How the item stands.
+    fn standing(&self) -> Option<Standing> {
+        standing_of(&self.world, inner::slot_of_shared(&self.owner))
+    }
+
+    /// What one owner more is refused with. Who is had is given up again.
+    fn refusals(&mut self, rt: &impl Abort) -> Refusals {
+        refusals_of(rt, &mut self.world.at(&self.place), &self.owner, &self.cell)
+    }
+
+    /// What so many owners more are refused with. Those that are had are given up again.
+    fn refused_more(&mut self, more: u64) -> Option<Refused>
+        requires { 1 ≤ more }
+    {
+        match add_owners(&mut self.world, &self.owner, more) {
+            Ok(several) => {
+                let owner = let_go_but_one(&mut self.world, several);
+                let _ = shared::release(&mut self.world.at(&self.place), owner);
+                None
+            }
+            Err(refused) => Some(refused),
+        }
+    }
+
+    /// What one owner more is refused with beside another one that is had, and given up again.
+    fn refusals_beside_another(&mut self, rt: &impl Abort) -> Refusals {
+        let turn = &mut self.world.at(&self.place);
+        let other = shared::copied(rt, turn, &self.owner);
+        let refusals = refusals_of(rt, turn, &self.owner, &self.cell);
+        let _ = shared::release(turn, other);
+        refusals
+    }
+
+    /// The owner and the cell go, then all but one of those in one piece. That one may have others beside it again, and is the last.
+    fn closed(self, rt: &impl Abort) {
+        let Crowd {
+            mut world,
+            place,
+            owner,
+            cell,
+            more,
+        } = self;
+        assert!(rt; !shared::release(&mut world.at(&place), owner));
+        shared::close_cell(&mut world.at(&place), cell);
+        let last = let_go_but_one(&mut world, more);
+        let other = shared::copied(rt, &mut world.at(&place), &last);
+        assert!(rt; !shared::release(&mut world.at(&place), other));
+        assert!(rt; shared::release(&mut world.at(&place), last));
+        match world.close() {
+            Ok(tally) => assert_eq!(rt; (tally.made, tally.reclaimed), (1, 1)),
+            Err((_world, refused)) => panic!(rt; "{refused:?}"),
+        }
+    }
+}
+
+/// A cell that holds one owner more.
+fn cell_beside<S: Space<u64>>(rt: &impl Abort, s: &mut S, owner: &Shared<u64>) -> AtomicShared<u64>
+    requires seated { IsSeated (S.seat s.old) }
+    requires home { slots_home owner.now ≡ (S.seat s.old).home.slots }
+    ensures seat { S.seat s.new ≡ S.seat s.old }
+    ensures home { cells_home result ≡ (S.seat s.new).home.cells }
+{
+    let other = shared::copied(rt, s, owner);
+    match AtomicShared::from(other, s) {
+        Ok(cell) => cell,
+        Err((_owner, refused)) => panic!(rt; "{refused:?}"),
+    }
+}
+
+/// What one owner more is refused with, by each call that gives one. Who is had is given up again.
+fn refusals_of<S: Space<u64>>(
+    rt: &impl Abort,
+    s: &mut S,
+    owner: &Shared<u64>,
+    cell: &AtomicShared<u64>,
+) -> Refusals
+    requires seated { IsSeated (S.seat s.old) }
+    requires owner { slots_home owner.now ≡ (S.seat s.old).home.slots }
+    requires cell { cells_home cell.now ≡ (S.seat s.old).home.cells }
+    ensures seat { S.seat s.new ≡ S.seat s.old }
+{
+    let guard = opened(rt, s);
+    let ptr = shared::pointer(s, owner, &guard);
+    let refusals = Refusals {
+        copy: shared::refused_copy(s, owner),
+        upgrade: shared::refused_upgrade(s, ptr),
+        owner: shared::refused_owner(s, cell, &guard),
+        cell: shared::refused_cell(s, cell, &guard),
+    };
+    assert_eq!(rt; seen(s, ptr), Some(7));
+    close(s, guard);
+    refusals
+}
+
+#[test]
+fn where_2_62_own_an_item_nobody_more_may(rt: HostRuntime) {
+    let mut crowd = Crowd::new(&rt, AMPLE, MOST - 2);
+    assert_eq!(rt; crowd.refusals(&rt), TOO_MANY);
+    assert_eq!(rt; crowd.refused_more(1), Some(Refused::TooManyOwners));
+    assert_eq!(rt; crowd.refused_more(u64::MAX), Some(Refused::TooManyOwners));
+    assert_eq!(rt; crowd.standing(), Some(Standing::Shared(MOST)));
+    crowd.closed(&rt);
+}
+
+#[test]
+fn where_one_fewer_own_it_one_more_may(rt: HostRuntime) {
+    let mut crowd = Crowd::new(&rt, AMPLE, MOST - 3);
+    assert_eq!(rt; crowd.refusals(&rt), NONE);
+    assert_eq!(rt; crowd.refused_more(2), Some(Refused::TooManyOwners));
+    assert_eq!(rt; crowd.refused_more(1), None);
+    assert_eq!(rt; crowd.refusals_beside_another(&rt), TOO_MANY);
+    assert_eq!(rt; crowd.standing(), Some(Standing::Shared(MOST - 1)));
+    crowd.closed(&rt);
+}
+
+#[test]
+fn where_no_cell_is_free_a_copy_of_a_cell_is_refused_for_that(rt: HostRuntime) {
+    let limits = Limits { cells: 1, ..AMPLE };
+    let mut crowd = Crowd::new(&rt, limits, MOST - 2);
+    let refusals = Refusals {
+        cell: Some(Refused::NoCell),
+        ..TOO_MANY
+    };
+    assert_eq!(rt; crowd.refusals(&rt), refusals);
+    crowd.closed(&rt);
+}

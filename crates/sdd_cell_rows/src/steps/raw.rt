@@ -1,0 +1,133 @@
+//! Raw cells.
+ghost use Rattle.std.specs.Prelude.{◌≡◌};
+ghost use Rattle.sdd_base.specs.RawCell.{cells_home};
+ghost use Rattle.sdd_base.specs.Seat.{IsSeated};
+
+use crate::steps::{close, opened};
+use sdd_base::{AtomicRaw, Item, RawPtr, Space};
+use sdd_core::{Refused, Tag};
+use std::process::Abort;
+
+/// A cell with this pointer.
+pub fn cell<T: Item<T>, S: Space<T>>(rt: &impl Abort, s: &mut S, ptr: RawPtr<T>) -> AtomicRaw<T>
+    requires seated { IsSeated (S.seat s.old) }
+    ensures seat { S.seat s.new ≡ S.seat s.old }
+    ensures home { cells_home result ≡ (S.seat s.new).home.cells }
+{
+    AtomicRaw::new(ptr, s).expect(rt, "a cell is free")
+}
+
+/// What a null cell is refused with, if it is.
+pub fn refused_null<T: Item<T>, S: Space<T>>(s: &mut S) -> Option<Refused>
+    requires seated { IsSeated (S.seat s.old) }
+    ensures seat { S.seat s.new ≡ S.seat s.old }
+{
+    match AtomicRaw::null(s) {
+        Ok(cell) => {
+            cell.close(s);
+            None
+        }
+        Err(refused) => Some(refused),
+    }
+}
+
+/// The cell's pointer, under a guard of its own.
+pub fn held<S: Space<u64>>(rt: &impl Abort, s: &mut S, cell: &AtomicRaw<u64>) -> RawPtr<u64>
+    requires seated { IsSeated (S.seat s.old) }
+    requires home { cells_home cell.now ≡ (S.seat s.old).home.cells }
+    ensures seat { S.seat s.new ≡ S.seat s.old }
+{
+    let guard = opened(rt, s);
+    let ptr = cell.load(&guard, s);
+    close(s, guard);
+    assert_eq!(rt; cell.is_null(s), ptr.is_null());
+    assert_eq!(rt; cell.tag(s), ptr.tag());
+    ptr
+}
+
+/// The cell has this pointer.
+pub fn store<S: Space<u64>>(s: &mut S, cell: &AtomicRaw<u64>, ptr: RawPtr<u64>)
+    requires seated { IsSeated (S.seat s.old) }
+    requires home { cells_home cell.now ≡ (S.seat s.old).home.cells }
+    ensures seat { S.seat s.new ≡ S.seat s.old }
+{
+    cell.store(ptr, s);
+}
+
+/// The cell has this pointer. The one before.
+pub fn swapped<S: Space<u64>>(
+    rt: &impl Abort,
+    s: &mut S,
+    cell: &AtomicRaw<u64>,
+    ptr: RawPtr<u64>,
+) -> RawPtr<u64>
+    requires seated { IsSeated (S.seat s.old) }
+    requires home { cells_home cell.now ≡ (S.seat s.old).home.cells }
+    ensures seat { S.seat s.new ≡ S.seat s.old }
+{
+    let guard = opened(rt, s);
+    let old = cell.swap(ptr, &guard, s);
+    close(s, guard);
+    old
+}
+
+/// Sets the tag if it is this one, and tells whether it was.
+pub fn tag_if<S: Space<u64>>(
+    rt: &impl Abort,
+    s: &mut S,
+    cell: &AtomicRaw<u64>,
+    old: Tag,
+    new: Tag,
+) -> bool
+    requires seated { IsSeated (S.seat s.old) }
+    requires home { cells_home cell.now ≡ (S.seat s.old).home.cells }
+    ensures seat { S.seat s.new ≡ S.seat s.old }
+{
+    cell.update_tag_if(new, |ptr| ptr.tag() == old, s)
+        .expect(rt, "in a world the condition is asked once")
+}
+
+/// The cell has another pointer, if it had this one.
+pub fn exchanged<S: Space<u64>>(
+    rt: &impl Abort,
+    s: &mut S,
+    cell: &AtomicRaw<u64>,
+    current: RawPtr<u64>,
+    new: RawPtr<u64>,
+) -> Result<RawPtr<u64>, RawPtr<u64>>
+    requires seated { IsSeated (S.seat s.old) }
+    requires home { cells_home cell.now ≡ (S.seat s.old).home.cells }
+    ensures seat { S.seat s.new ≡ S.seat s.old }
+{
+    let guard = opened(rt, s);
+    let result = cell.compare_exchange(current, new, &guard, s);
+    close(s, guard);
+    result
+}
+
+/// The cell has this pointer, if it was not null. The one before, or the one that it has still.
+pub fn updated<S: Space<u64>>(
+    rt: &impl Abort,
+    s: &mut S,
+    cell: &AtomicRaw<u64>,
+    next: RawPtr<u64>,
+) -> Result<RawPtr<u64>, RawPtr<u64>>
+    requires seated { IsSeated (S.seat s.old) }
+    requires home { cells_home cell.now ≡ (S.seat s.old).home.cells }
+    ensures seat { S.seat s.new ≡ S.seat s.old }
+{
+    let guard = opened(rt, s);
+    let update = |ptr: RawPtr<u64>| if ptr.is_null() { None } else { Some(next) };
+    let result = cell.fetch_update(update, &guard, s);
+    close(s, guard);
+    result.expect(rt, "in a world it is called once")
+}
+
+/// The cell is free again.
+pub fn close_cell<T: Item<T>, S: Space<T>>(s: &mut S, cell: AtomicRaw<T>)
+    requires seated { IsSeated (S.seat s.old) }
+    requires home { cells_home cell ≡ (S.seat s.old).home.cells }
+    ensures seat { S.seat s.new ≡ S.seat s.old }
+{
+    cell.close(s);
+}
