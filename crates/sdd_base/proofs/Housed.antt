@@ -71,7 +71,7 @@ housed-live : (t : Time) (p : ℕ) (x : Participant) → IsLive t p → AreHouse
 housed-live t p x l h = housed-put t p x (live-taken t p l) (λ _. live-is t p l) h
 
 -- as many guards as before
-housed-keeps : (t : Time) (p : ℕ) (x : Participant) → IsTaken t p → x.guards ≡ (time.place_at t p).guards → AreHoused t → AreHoused (with_place t p x)
+pub housed-keeps : (t : Time) (p : ℕ) (x : Participant) → IsTaken t p → x.guards ≡ (time.place_at t p).guards → AreHoused t → AreHoused (with_place t p x)
 housed-keeps t p x l e h = housed-put t p x l (λ o. h.shut p (subst (λ (n : ℕ). IsTrue (nat_lt 0 n)) e o)) h
 
 taken-put : (t : Time) (p : ℕ) (x : Participant) → IsTaken t p → IsTaken (with_place t p x) p
@@ -89,7 +89,7 @@ module _ {T : Type 0} where
   pub with-places : {w : World T} → HasItems w → AreHoused w.time → IsWhole w
   with-places i h = record { filled = i.filled; once = i.once; abreast = i.abreast; housed = h; counted = i.counted }
 
-  housed-gives : {u v : World T} (p : ℕ) → IsTaken u.time p → AreHoused u.time → Gives p u v → IsTaken v.time p × AreHoused v.time
+  pub housed-gives : {u v : World T} (p : ℕ) → IsTaken u.time p → AreHoused u.time → Gives p u v → IsTaken v.time p × AreHoused v.time
   housed-gives {u} {v} p l h g =
       let x = all_awaiting g.slots (place_at u p) in
       subst (λ (t : Time). IsTaken t p × AreHoused t) (sym g.time)

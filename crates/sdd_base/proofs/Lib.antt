@@ -19,3 +19,4 @@ pub mod InPlace
 pub mod Letting
 pub mod Sharing
 pub mod Accounts
+pub mod Collecting

@@ -158,15 +158,15 @@ abreast-settled count x a =
     }
 
 -- a slot's standing is set
-set-standing : (ss : List (Option Standing)) (k j : ℕ) (s : Option Standing) → k < length ss → (j ≡ k) ⊎ (j ≢ k) →
+pub set-standing : (ss : List (Option Standing)) (k j : ℕ) (s : Option Standing) → k < length ss → (j ≡ k) ⊎ (j ≢ k) →
     ((j ≡ k) × (slice_index_or (slice_set ss k s) j None ≡ s)) ⊎ ((j ≢ k) × (slice_index_or (slice_set ss k s) j None ≡ slice_index_or ss j None))
 set-standing ss k j s l (inl e) = inl (e, rw e (get_or-set_same ss k s None l))
 set-standing ss k j s l (inr apart) = inr (apart, get_or-set_other ss k j s None apart)
 
-apart-test : (k j : ℕ) → j ≢ k → (k == j) ≡ false
+pub apart-test : (k j : ℕ) → j ≢ k → (k == j) ≡ false
 apart-test k j apart = grind (arith, nat_tests)
 
-same-test : (k j : ℕ) → j ≡ k → (k == j) ≡ true
+pub same-test : (k j : ℕ) → j ≡ k → (k == j) ≡ true
 same-test k j e = grind (arith, nat_tests)
 
 pub some-waits : (s : Option Standing) → is_waiting s ≡ true → is_some s ≡ true
@@ -301,7 +301,7 @@ module _ {T : Type 0} where
   pub filled-there : (w : World T) (k : ℕ) → map is_some w.values ≡ map is_some w.standings → is_some (value_at w k) ≡ is_some (standing_at w k)
   filled-there w k e = sym (get_or-map is_some w.values k None) ∙ ap (λ (bs : List Bool). slice_index_or bs k false) e ∙ get_or-map is_some w.standings k None
 
-  same-filled : (w : World T) (k : ℕ) (s : Option Standing) → map is_some w.values ≡ map is_some w.standings → is_some s ≡ is_some (standing_at w k) →
+  pub same-filled : (w : World T) (k : ℕ) (s : Option Standing) → map is_some w.values ≡ map is_some w.standings → is_some s ≡ is_some (standing_at w k) →
       map is_some w.values ≡ map is_some (slice_set w.standings k s)
   same-filled w k s e f = e ∙ sym (map-set_same is_some w.standings k s None f)
 

@@ -1,5 +1,5 @@
 -- The slots of a world: how each stands, and its value
-use Rattle.std.specs.Prelude.{ℕ, ◌+◌, ◌-◌, ◌^◌, ◌<◌, ◌≤◌, ◌≡◌, Bool, true, false, IsTrue, List, length, map, is_some, nat_lt, Option, None, Some, slice_index_or, slice_set, if◌then◌else◌}
+use Rattle.std.specs.Prelude.{ℕ, ◌-◌, ◌^◌, ◌≤◌, ◌≡◌, Bool, true, false, IsTrue, List, length, map, is_some, nat_lt, Option, None, Some, slice_index_or, slice_set, if◌then◌else◌}
 use Rattle.sdd_token.specs.Units.{Home}
 use Rattle.sdd_token.specs.Rights.{Kept, whole, granted}
 use Rattle.sdd_token.specs.declared.right.Kind.{Kind}
@@ -50,6 +50,15 @@ let_go (Some Raw) = Retired
 let_go (Some (Shared owners)) = if nat_lt 1 owners then Shared (owners - 1) else Retired
 let_go (Some Retired) = Retired
 let_go (Some (Private collector)) = Retired
+
+-- the same: after the last one the item waits for the collector of this number
+abbrev pub collected : ℕ → Option Standing → Standing
+collected collector None = Private collector
+collected collector (Some Owned) = Private collector
+collected collector (Some Raw) = Private collector
+collected collector (Some (Shared owners)) = if nat_lt 1 owners then Shared (owners - 1) else Private collector
+collected collector (Some Retired) = Private collector
+collected collector (Some (Private other)) = Private collector
 
 -- so many owners share it, as many as there may be at most
 pub record IsSharedBy (owners : ℕ) (standing : Option Standing) : Type 0 where

@@ -5,7 +5,7 @@ ghost use Rattle.sdd_token.specs.Kind.{IsOwner};
 ghost use Rattle.sdd_token.specs.Right.{number_of, home_of, kind_of, badge_home};
 ghost use Rattle.sdd_token.specs.Shares as shares;
 ghost use Rattle.sdd_store.specs.Table.{IsEmptyAt, IsFull};
-ghost use Rattle.sdd_slots.specs.Slots.{standing_at, value_at, with_made, with_standing, with_value, without_slot, first_standing, let_go, has_others, owners_of, IsOwnedBy, IsSharedBy, IsWaiting};
+ghost use Rattle.sdd_slots.specs.Slots.{standing_at, value_at, with_made, with_standing, with_value, without_slot, first_standing, let_go, collected, has_others, owners_of, IsOwnedBy, IsSharedBy, IsWaiting};
 
 use sdd_places::{Ended, Places, Tenure};
 use sdd_store::{Standing, Table};
@@ -217,6 +217,26 @@ impl<T> Slots<T> {
             return false;
         }
         self.standings.replace(slot, Standing::Retired);
+        self.rights.set(slot as usize, Kind::Retired);
+        true
+    }
+
+    /// The same for a collector: after the last owner the item waits for the collector of this number.
+    pub fn collect(&mut self, right: Right, kind: Kind, collector: u32) -> bool
+        requires home { home_of right ≡ self.old.home }
+        requires kind { kind_of right ≡ kind }
+        ensures owned { IsOwnedBy (kind_of right) (standing_at self.old (number_of right)) }
+        ensures last { IsTrue result ↔ ¬ (IsTrue (has_others (standing_at self.old (number_of right)))) }
+        ensures gone { self.new ≡ with_standing self.old (number_of right) (collected collector (standing_at self.old (number_of right))) }
+    {
+        let slot = self.slot_of(&right);
+        let sharers = self.owners_beside(&right, kind);
+        self.rights.redeem(right);
+        if sharers > 1 {
+            self.standings.replace(slot, Standing::Shared(sharers - 1));
+            return false;
+        }
+        self.standings.replace(slot, Standing::Private(collector));
         self.rights.set(slot as usize, Kind::Retired);
         true
     }
