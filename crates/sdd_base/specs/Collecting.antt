@@ -1,5 +1,5 @@
 -- Private collectors: what waits for one, and how one is closed
-use Rattle.std.specs.Prelude.{ℕ, ◌-◌, ◌==◌, ◌++◌, Bool, false, List, [], ◌∷◌, Option, Some, None, map, filter, not, nat_lt, if◌then◌else◌}
+use Rattle.std.specs.Prelude.{ℕ, ◌-◌, ◌==◌, ◌++◌, ◌≡◌, ◌≢◌, Bool, false, List, [], ◌∷◌, Option, Some, None, map, filter, not, nat_lt, if◌then◌else◌}
 use Rattle.sdd_store.specs.Waiting.{What, Waiting}
 use Rattle.sdd_store.specs.Waiting.What.{Item, Private, Job}
 use Rattle.sdd_store.specs.Time as time
@@ -8,7 +8,7 @@ use Rattle.sdd_store.specs.declared.standing.Standing.{Standing}
 use Rattle.sdd_store.specs.declared.standing.Standing.TheVariants.{Owned, Raw, Shared, Retired, Private as privately}
 use Rattle.sdd_store.specs.declared.time.Participant.{Participant}
 use Rattle.sdd_base.specs.Holding.{Holding}
-use Rattle.sdd_base.specs.World.{World}
+use Rattle.sdd_base.specs.World.{World, standing_at}
 use Rattle.sdd_base.specs.Steps.{with_standing, without_cell, all_reclaimed}
 
 -- it waits for the collector of this number
@@ -59,3 +59,7 @@ module _ {T : Type 0} where
   -- p closes the collector: its cell is free, and what waited for it is reclaimed at once, whose values give up to p what they hold
   abbrev pub collector_closed : (T → List Holding) → World T → (p c : ℕ) → World T
   collector_closed holds w p c = all_reclaimed holds (rid_all (without_cell w c) c) p (waits_for w c)
+
+  -- what slots showed they show still, but those that waited for the collector
+  abbrev pub KeepsBut : World T → ℕ → (ℕ → T → Type 0) → (ℕ → T → Type 0) → Type 0
+  KeepsBut w c old new = (k : ℕ) (value : T) → standing_at w k ≢ Some (privately c) → old k value → new k value

@@ -22,3 +22,4 @@ pub mod Under
 pub mod Passing
 pub mod Accounts
 pub mod Collecting
+pub mod Collector

@@ -1,6 +1,7 @@
 ghost use Rattle.std.specs.Fn.{FnOnceReturnsAtMut};
 ghost use Rattle.std.specs.Prelude.{◌≡◌, ◌≢◌, ◌+◌, ◌^◌, ◌<◌, ◌↔◌, ◌⊎◌, ℕ, Bool, IfErr, IfOk, IfSome, IsOk, IsSome, IsTrue, MatchBool, MatchOption, MatchResult, None, Some, if◌then◌else◌};
-ghost use Rattle.sdd_store.specs.Waiting.What.{Item};
+ghost use Rattle.sdd_store.specs.Waiting.What.{Item, Private};
+ghost use Rattle.sdd_base.specs.Collecting.{owner_collected, collector_closed, KeepsBut};
 ghost use Rattle.sdd_store.specs.declared.time.Participant.{Participant};
 ghost use Rattle.sdd_store.specs.Time.{CanNest, has_garbage, is_open, with_garbage};
 ghost use Rattle.sdd_store.specs.Time as time;
@@ -322,6 +323,43 @@ pub trait Space<T: Item<T>>: Look<T> + Guards<T> {
         ensures exact { IsExact (Self.seat self.old) →
             (IsSome result ↔ (standing_at (Self.world self.old) slot ≡ Some Standing.Raw)) × (Self.world self.new ≡ Self.world self.old) }
         ensures keeps { KeepsShown (Self.shows self.old) (Self.shows self.new) };
+
+    /// An owner of this kind goes, and is told whether it was the last. The last one's item waits for a collector, with the participant.
+    fn collect(&mut self, right: Right, kind: Kind, collector: &Right, guard: &Guard) -> bool
+        requires seated { IsSeated (Self.seat self.old) }
+        requires home { home_of right ≡ (Self.seat self.old).home.slots }
+        requires kind { kind_of right ≡ kind }
+        requires collector { home_of collector.now ≡ (Self.seat self.old).home.cells }
+        requires reader { reader_of guard.now ≡ (Self.seat self.old).reader }
+        ensures seat { Self.seat self.new ≡ Self.seat self.old }
+        ensures own { Self.own self.new ≡
+            (if result then time.awaiting (Private (number_of right) (number_of collector.now)) (Self.own self.old) else Self.own self.old) }
+        ensures sole { kind_of right ≡ Kind.Owned → IsTrue result }
+        ensures owned { IsExact (Self.seat self.old) → IsOwnedBy (kind_of right) (standing_at (Self.world self.old) (number_of right)) }
+        ensures known { KnowsOn (Self.known self.old) (Self.known self.new) }
+        ensures last { IsExact (Self.seat self.old) →
+            IsTrue result ↔ ¬ (IsTrue (has_others (standing_at (Self.world self.old) (number_of right)))) }
+        ensures exact { IsExact (Self.seat self.old) → Self.world self.new ≡ owner_collected (Self.world self.old) (Self.seat self.old).place
+            (number_of right) (number_of collector.now) (standing_at (Self.world self.old) (number_of right)) }
+        ensures keeps { KeepsShown (Self.shows self.old) (Self.shows self.new) };
+
+    /// Ends a collector, whose cell is free then, where no guard is open: what waits for it with any participant is reclaimed at once.
+    ///
+    /// `GuardOpen` where one is: the right comes back.
+    fn close_collector(&mut self, collector: Right) -> Result<(), (Right, Refused)>
+        requires seated { IsSeated (Self.seat self.old) }
+        requires home { home_of collector ≡ (Self.seat self.old).home.cells }
+        requires kind { kind_of collector ≡ Kind.Owned }
+        ensures seat { Self.seat self.new ≡ Self.seat self.old }
+        ensures known { KnowsOn (Self.known self.old) (Self.known self.new) }
+        ensures back { IfErr result (λ e. e.0 ≡ collector) }
+        ensures exact { IsExact (Self.seat self.old) → MatchResult result
+            (λ _. ¬ (IsGuarded (Self.world self.old)) ×
+            (Self.world self.new ≡ collector_closed T.holds (Self.world self.old) (Self.seat self.old).place (number_of collector)))
+            (λ e. IsGuarded (Self.world self.old) × (e.1 ≡ Refused.GuardOpen) × (Self.world self.new ≡ Self.world self.old)) }
+        ensures keeps { MatchResult result
+            (λ _. IsExact (Self.seat self.old) → KeepsBut (Self.world self.old) (number_of collector) (Self.shows self.old) (Self.shows self.new))
+            (λ _. KeepsShown (Self.shows self.old) (Self.shows self.new)) };
 
     /// A free cell for owners of this kind, which holds this one, if there is one, with this tag.
     fn make_cell(
