@@ -13,6 +13,7 @@ mod giving_up;
 mod in_place;
 #[cfg(test)]
 mod most_owners;
+mod jobs;
 #[cfg(test)]
 mod owned_cells;
 #[cfg(test)]
