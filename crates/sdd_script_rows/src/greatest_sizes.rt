@@ -1,6 +1,6 @@
 //! Ample memory at the greatest sizes. A body that refuses with `NoMemory` beyond some size meets every contract.
 
-use crate::limits::AMPLE;
+use crate::dialogue::AMPLE;
 use sdd::{
     Action, Answer, Call, Ended, ItemName, Limits, Names, OwnerName, PlaceName, Reader, Reply,
     Value, Writer, play, run,

@@ -1,0 +1,84 @@
+//! Worked examples of scripts: each example of `data/` is played, and it is told whether each of its lines is answered
+//! by what stands beside it.
+//!
+//! The module `dialogue` says what an example looks like. Functions test what no script shows: which lines are calls,
+//! the texts of all answers, devices, and the greatest sizes.
+#![tactic(auto)]
+
+#[cfg(test)]
+mod answers;
+#[cfg(test)]
+mod devices;
+mod dialogue;
+#[cfg(test)]
+mod greatest_sizes;
+#[cfg(test)]
+mod lines;
+mod verdict;
+
+use dialogue::Dialogue;
+use std::alloc::{AllocError, Global};
+use std::rt::Files;
+use std::{fs, io};
+use verdict::Verdict;
+
+/// The folders of examples.
+const GROUPS: [&str; 8] = [
+    // items that several own
+    "shared_owners",
+    // cells, of either kind
+    "cells",
+    // an exchange that fails gives the owner back, and one that succeeds spends it
+    "exchanges",
+    // what a value held goes three changes after it, and is named then
+    "nested_values",
+    // participants end
+    "ended_in_scripts",
+    // a participant takes over what an ended one left, where values hold owners
+    "adopted_values",
+    // slots and cells are refused: which refusal comes first, and what is as before
+    "refused_lines",
+    // what a line names is not there, or is of the wrong kind: it is answered `invalid`, and nothing changes
+    "invalid_lines",
+];
+
+fn main(rt: HostRuntime) -> io::Result<()> {
+    for group in GROUPS {
+        for name in examples(&rt, group)? {
+            let path = format!(in rt.alloc(); "{group}/{name}.play")?;
+            let example = fs::read_to_string(&rt, path)?;
+            let verdict = judged(rt.alloc(), example.as_str())?;
+            println!(rt; "{group}/{name}: {verdict}")?;
+        }
+    }
+    Ok(())
+}
+
+/// The names of the examples in a folder, in their order.
+fn examples<R>(rt: &R, group: &str) -> io::Result<Vec<String>>
+where
+    R: Files + AllocGlobal + Clone + Drop,
+{
+    let mut names = Vec::new(rt.alloc());
+    for entry in fs::read_dir(rt, group)? {
+        let entry = entry?;
+        if let Some(name) = entry.file_name().strip_suffix(".play") {
+            names.push(String::from_str(rt.alloc(), name)?)?;
+        }
+    }
+    names.sort()?;
+    Ok(names)
+}
+
+/// What comes of an example.
+fn judged(alloc: Global, example: &str) -> Result<Verdict, AllocError> {
+    let mut dialogue = Dialogue::new(alloc);
+    let mut number = 0u64;
+    for line in example.lines() {
+        number = number.saturating_add(1);
+        if !dialogue.takes(line)? {
+            return Ok(Verdict::NoLine(number));
+        }
+    }
+    dialogue.verdict(alloc)
+}
