@@ -4,6 +4,5 @@
 pub mod config;
 pub mod guards;
 pub mod items;
-pub mod looks;
 pub mod nodes;
 pub mod programs;
