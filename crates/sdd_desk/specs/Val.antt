@@ -23,6 +23,12 @@ owner_in (Number n) = []
 owner_in (Owned o) = owned.holding_of o ∷ []
 owner_in (Shared o) = shared.holding_of o ∷ []
 
+-- with another number; an owner stays
+abbrev pub renumbered : Body Val → ℕ → Body Val
+renumbered (Number m) n = Number n
+renumbered (Owned o) n = Owned o
+renumbered (Shared o) n = Shared o
+
 -- it holds an owner or none, and its link
 abbrev pub holdings_of : Val → List Holding
 holdings_of v = owner_in (body_of v) ++ owned.cell_holding (out-Val v).link ∷ []
