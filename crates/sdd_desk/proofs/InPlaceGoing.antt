@@ -1,5 +1,5 @@
 -- What is always true of a desk is true after an item is changed or dropped in its place, goes raw or comes back
-use Rattle.std.proofs.Common.{◌≡◌, ℕ, ◌-◌, ◌<◌, ◌≤◌, Bool, true, false, if◌then◌else◌, List, [], ◌∷◌, Option, Some, None, is_some, length, inl, inr, refl, sym, ap, ◌∙◌, subst, lt-ltb, arith}
+use Rattle.std.proofs.Common.{◌≡◌, ℕ, ◌-◌, ◌<◌, ◌≤◌, Bool, true, false, if◌then◌else◌, List, [], ◌∷◌, Option, Some, None, is_some, length, slice_set, inl, inr, refl, sym, ap, ◌∙◌, subst, lt-ltb, arith}
 use Rattle.std.specs.Prelude.{◌==◌, IsTrue, ◌↔◌}
 use Rattle.std.proofs.lemmas.Bool.{false≢true, cases_eq}
 use Rattle.sdd_store.specs.declared.standing.Standing.TheVariants.{Owned, Raw, Shared}
@@ -13,18 +13,20 @@ use Rattle.sdd_base.specs.Out.{is_out}
 use Rattle.sdd_base.specs.Steps as steps
 use Rattle.sdd_base.specs.Steps.{with_standing, with_value, vacated, dropped, dropped_out, owner_given, given_all}
 use Rattle.sdd_base.specs.Whole.{IsWhole}
-use Rattle.sdd_base.specs.World.{World, IsPlaceOf, standing_at, value_at}
+use Rattle.sdd_base.specs.World.{World, IsGuarded, IsPlaceOf, standing_at, value_at}
 use Rattle.sdd_base.proofs.Accounts.{accounted-put_out_raw, accounted-taken_back_raw, accounted-with_value, accounted-dropped, in_value-out}
 use Rattle.sdd_base.proofs.Standings.{out-some, out-waits-not}
 use Rattle.sdd_base.proofs.Whole.{count-cons, one_where}
 use Rattle.sdd_base.proofs.Nesting.{one-if, none-if}
+use Rattle.sdd_lines.specs.declared.answer.Reply.{Reply}
+use Rattle.sdd_lines.specs.declared.answer.Reply.TheVariants as reply
 use Rattle.sdd_desk.specs.declared.val.Body.{Body}
 use Rattle.sdd_desk.specs.declared.val.Body.TheVariants as body
 use Rattle.sdd_desk.specs.declared.val.Val.{Val}
-use Rattle.sdd_desk.specs.Val.{holdings_of, body_of, link_of, link_home, owner_in}
+use Rattle.sdd_desk.specs.Val.{holdings_of, body_of, link_of, link_home, owner_in, renumbered}
 use Rattle.sdd_desk.specs.Desk.{Desk, IsDated, holding_at, slot_of, sole_slot, shared_slot, in_world, with_owner, without_owner}
 use Rattle.sdd_desk.specs.Held.{slot_held, slots_of, slots_in}
-use Rattle.sdd_desk.specs.InPlace.{Puts, IsNumberIn}
+use Rattle.sdd_desk.specs.InPlace.{Puts, Drops}
 use Rattle.sdd_desk.specs.Script.{AreCalls}
 use Rattle.sdd_desk.specs.Script.AreCalls.{none as no_call, one_more}
 use Rattle.sdd_desk.specs.Sound.{IsSound, named_owners}
@@ -36,7 +38,7 @@ use Rattle.sdd_desk.proofs.Kept.{kept-call, were-same}
 use Rattle.sdd_desk.proofs.Dates.{dated-same, dated-stands, dated-kept, dated-either, early-dated}
 use Rattle.sdd_desk.proofs.Counting.{times-held, named-more, named-fewer}
 use Rattle.sdd_desk.proofs.Counting as counting
-use Rattle.sdd_desk.proofs.Layers.{layered-dropped, layered-edited}
+use Rattle.sdd_desk.proofs.Layers.{layered-dropped, layered-edited, set-either}
 use Rattle.sdd_desk.proofs.Gone.{times_in, body-waits, value-times, counts-given_all, KeepsCounts}
 use Rattle.sdd_desk.proofs.Going.{sole-is, at_home-spent, at_home-given, sound-released, dated-released}
 use Rattle.sdd_desk.proofs.CellGoing.{dates_spilled}
@@ -60,6 +62,15 @@ held-slots (body.Shared o) = refl
 unless : (b : Bool) → (b ≡ false → ⊥) → b ≡ true
 unless true not = refl
 unless false not = absurd (not refl)
+
+-- the item whose owner a value holds is out
+value-held-out : (d : Desk) → IsSound d → (k : ℕ) (v : Val) → value_at d.world k ≡ Some v → (m : ℕ) → slot_held (body_of v) ≡ Some m →
+    is_out (standing_at d.world m) ≡ true
+value-held-out d s k v there m is =
+    let among : times_in m (slots_in (Some v)) ≡ one_where (m == m) =
+    ap (times_in m) (held-slots (body_of v) ∙ ap listed is) ∙ count-cons (λ j. j == m) m [] ∙ omega arith in
+    let held : 1 ≤ times_held holdings_of m (Some v) = omega (arith, among, value-times m (Some v), one-if m m refl) in
+    in_value-out holdings_of d.world k m (named_owners d) s.accounts (omega (arith, held, ap (times_held holdings_of m) there))
 
 module _ (d : Desk) (s : IsSound d) (whole : IsWhole d.world) (p k : ℕ) (live : IsPlaceOf d.world p) where
   -- ---- an item goes raw
@@ -119,7 +130,7 @@ module _ (d : Desk) (s : IsSound d) (whole : IsWhole d.world) (p k : ℕ) (live 
         }
 
   -- ---- a number is changed in its place
-  module _ (number : ℕ) (w : World Val) (may : MayInPlace d.world k) (number_in : IsNumberIn d k) (puts : Puts d k number w) where
+  module _ (number m : ℕ) (w : World Val) (may : MayInPlace d.world k) (puts : Puts d.world k number w) (is : body_of puts.was ≡ body.Number m) where
     abbrev pub after_put : Desk
     after_put = in_world d w
 
@@ -134,11 +145,10 @@ module _ (d : Desk) (s : IsSound d) (whole : IsWhole d.world) (p k : ℕ) (live 
 
     -- neither number is an owner
     none-now : (j : ℕ) → counting.times_in j (body_of puts.now) ≡ 0
-    none-now = number-holds-none (body_of puts.now) number puts.body
+    none-now = number-holds-none (body_of puts.now) number (puts.body ∙ ap (λ b. renumbered b number) is)
 
     none-was : (j : ℕ) → times_held holdings_of j (value_at d.world k) ≡ 0
-    none-was j =
-        ap (times_held holdings_of j) number_in.2 ∙ times-held number_in.0 j ∙ number-holds-none (body_of number_in.0) number_in.1 number_in.3 j
+    none-was j = ap (times_held holdings_of j) puts.there ∙ times-held puts.was j ∙ number-holds-none (body_of puts.was) m is j
 
     sound-in_place : IsSound put_in_place
     sound-in_place =
@@ -198,14 +208,6 @@ module _ (d : Desk) (s : IsSound d) (whole : IsWhole d.world) (p k : ℕ) (live 
         subst (λ ks. 1 ≤ times_in j ks) (held-slots (body_of v))
         (body-waits (vacated d.world k) p (link_of v) j (link_home v) (body_of v) bare (vacated-idle j idle) waits)
 
-    -- what the value held is out
-    held-out : (m : ℕ) → slot_held (body_of v) ≡ Some m → is_out (standing_at d.world m) ≡ true
-    held-out m is =
-        let among : times_in m (slots_in (Some v)) ≡ one_where (m == m) =
-        ap (times_in m) (held-slots (body_of v) ∙ ap listed is) ∙ count-cons (λ j. j == m) m [] ∙ omega arith in
-        let held : 1 ≤ times_held holdings_of m (Some v) = omega (arith, among, value-times m (Some v), one-if m m refl) in
-        in_value-out holdings_of d.world k m (named_owners d) s.accounts (omega (arith, held, ap (times_held holdings_of m) there))
-
     pub dated-dropped : IsDated d after_dropped
     dated-dropped = by (slot_held (body_of v)) refl where
       by : (held : Option ℕ) → slot_held (body_of v) ≡ held → IsDated d after_dropped
@@ -213,7 +215,7 @@ module _ (d : Desk) (s : IsSound d) (whole : IsWhole d.world) (p k : ℕ) (live 
           dated-kept d after_dropped (ap (dates_spilled d after_dropped.world) is)
           (λ j now. unless (is_waiting (standing_at d.world j)) (λ idle. absurd (omega (arith, gave j now idle, ap (λ x. times_in j (listed x)) is))))
       by (Some m) is =
-          let out = held-out m is in
+          let out = value-held-out d s k v there m is in
           dated-either d after_dropped m (out-waits-not (standing_at d.world m) out)
           (slot-inside d s.stocked m (out-some (standing_at d.world m) out)).1 (ap (dates_spilled d after_dropped.world) is)
           (λ j apart now. unless (is_waiting (standing_at d.world j)) (λ idle.
@@ -264,3 +266,64 @@ module _ (d : Desk) (s : IsSound d) (whole : IsWhole d.world) (p k : ℕ) (live 
 
     pub sound-fewer : IsSound after_fewer
     sound-fewer = subst (λ u. IsSound (in_world (without_owner d o) u)) fewer (sound-released d s whole p k o owners false live owner stands not-last)
+
+-- ---- an owner goes, alone or with its item
+
+-- what an action leaves is sound
+pub record LeavesSound (d new : Desk) : Type 0 where
+  pub sound : IsSound new
+  pub dated : IsDated d new
+  pub calls : AreCalls d.world new.world
+
+module _ (d : Desk) (s : IsSound d) (whole : IsWhole d.world) (p : ℕ) (live : IsPlaceOf d.world p) (o k : ℕ) (v : Val)
+    (there : value_at d.world k ≡ Some v) where
+  abbrev pub after_drop : World Val → Desk
+  after_drop w = record (in_world (without_owner d o) w) { dates = dates_spilled d w (slot_held (body_of v)) }
+
+  alone-leaves : (h : Holding) (w : World Val) → holding_at d.owners o ≡ Some h → slot_of (Some h) ≡ Some k → IsAlone (standing_at d.world k) →
+      ¬ (IsGuarded d.world) → w ≡ dropped holdings_of d.world p k → LeavesSound d (after_drop w)
+  alone-leaves h w named slot alone quiet world =
+      let may : MayInPlace d.world k = record { alone = alone; quiet = quiet } in
+      subst (λ u. LeavesSound d (after_drop u)) (sym world) (record {
+        sound = sound-dropped d s whole p k live o h named slot v there may;
+        dated = dated-dropped d s whole p k live o h named slot v there may;
+        calls = calls-dropped d s whole p k live o h named slot v there may;
+      })
+
+  -- what the value holds doesn't wait where the item stays
+  still-idle : (m owners : ℕ) → slot_held (body_of v) ≡ Some m → is_waiting (standing_at (with_standing d.world k (Shared owners)) m) ≡ false
+  still-idle m owners is =
+      let idle = out-waits-not (standing_at d.world m) (value-held-out d s k v there m is) in
+      elim (set-either d.world.standings k m (Some (Shared owners)) None) [
+        | inl e ↦ ap is_waiting e
+        | inr e ↦ ap is_waiting e ∙ idle
+      ]
+
+  still-dated : (owners : ℕ) (held : Option ℕ) → slot_held (body_of v) ≡ held → dates_spilled d (with_standing d.world k (Shared owners)) held ≡ d.dates
+  still-dated owners None is = refl
+  still-dated owners (Some m) is = ap (λ b. if b then slice_set d.dates m d.moment else d.dates) (still-idle m owners is)
+
+  fewer-leaves : (owners : ℕ) (w : World Val) → shared_slot (holding_at d.owners o) ≡ Some k → IsSharedBy owners (standing_at d.world k) → 1 < owners →
+      w ≡ with_standing d.world k (Shared (owners - 1)) → LeavesSound d (after_drop w)
+  fewer-leaves owners w owner stands more world =
+      let left = with_standing d.world k (Shared (owners - 1)) in
+      let same : after_fewer d s whole p k live o owners owner stands more ≡ after_drop left =
+      ap (λ ds. record (in_world (without_owner d o) left) { dates = ds }) (sym (still-dated (owners - 1) (slot_held (body_of v)) refl)) in
+      subst (λ u. LeavesSound d (after_drop u)) (sym world) (subst (LeavesSound d) same (record {
+        sound = sound-fewer d s whole p k live o owners owner stands more;
+        dated = dated-fewer d s whole p k live o owners owner stands more;
+        calls = calls-fewer d s whole p k live o owners owner stands more;
+      }))
+
+  pub drop-leaves : (h : Holding) (given : Reply) (w : World Val) → holding_at d.owners o ≡ Some h → slot_of (Some h) ≡ Some k →
+      Drops d.world p h given w → LeavesSound d (after_drop w)
+  drop-leaves (holding.owned j home) reply.Done w named slot does =
+      let same : j ≡ k = cc in
+      alone-leaves (holding.owned j home) w named slot (inl (rw same at does.0)) does.1 (rw same at does.2)
+  drop-leaves (holding.shared j home) (reply.Truth true) w named slot does =
+      let same : j ≡ k = cc in
+      alone-leaves (holding.shared j home) w named slot (inr (rw same at does.0)) does.1 (rw same at does.2)
+  drop-leaves (holding.shared j home) (reply.Truth false) w named slot does =
+      let same : j ≡ k = cc in
+      fewer-leaves does.0 w (ap shared_slot named ∙ ap Some same) (rw same at does.1) does.2 (rw same at does.3)
+  drop-leaves h given w named slot does = absurd does

@@ -1,5 +1,5 @@
 -- The meaning of a script: what its calls answer, and what they leave
-use Rattle.std.specs.Prelude.{ℕ, IsTrue, ◌≡◌, ◌≢◌, ◌+◌, ◌-◌, ◌^◌, ◌<◌, ◌≤◌, List, [], ◌∷◌, ◌++◌, Option, None, Some, IsSome, Contains, true, false, length, map, slice_set, ◌↔◌, if◌then◌else◌}
+use Rattle.std.specs.Prelude.{ℕ, IsTrue, ◌≡◌, ◌≢◌, ◌+◌, ◌^◌, ◌<◌, ◌≤◌, List, [], ◌∷◌, ◌++◌, Option, None, Some, IsSome, Contains, length, map, slice_set, ◌↔◌, if◌then◌else◌}
 use Rattle.std.specs.List.Sorted.{IsStrictlyIncreasing}
 use Rattle.sdd_core.specs.Epoch.{epoch_of}
 use Rattle.sdd_core.specs.declared.tag.Tag.{Tag}
@@ -13,9 +13,9 @@ use Rattle.sdd_store.specs.declared.standing.Standing.TheVariants.{Owned, Raw, S
 use Rattle.sdd_slots.specs.Slots.{IsSharedBy, is_waiting}
 use Rattle.sdd_base.specs.declared.limits.Limits.{Limits}
 use Rattle.sdd_base.specs.Holding.{Holding, owned, shared, atomic_owned, atomic_shared, atomic_raw}
-use Rattle.sdd_base.specs.World.{World, IsGuarded, place_at, standing_at}
-use Rattle.sdd_base.specs.InPlace.{IsAlone, MayInPlace, RefusedInPlace}
-use Rattle.sdd_base.specs.Steps.{registered, ended, retired, opened, closed, stirred, accelerated, reclaims, owner_given, with_standing, dropped, without_cell, cell_closed}
+use Rattle.sdd_base.specs.World.{World, place_at, standing_at}
+use Rattle.sdd_base.specs.InPlace.{MayInPlace, RefusedInPlace}
+use Rattle.sdd_base.specs.Steps.{registered, ended, retired, opened, closed, stirred, accelerated, reclaims, owner_given, with_standing, without_cell, cell_closed}
 use Rattle.sdd_base.specs.Steps as steps
 use Rattle.sdd_base.specs.Calls.{Calls}
 use Rattle.sdd_base.specs.Left.{GoesInTime}
@@ -34,7 +34,7 @@ use Rattle.sdd_desk.specs.declared.val.Val.{Val}
 use Rattle.sdd_desk.specs.Val.{holdings_of}
 use Rattle.sdd_desk.specs.Made.{Makes, RefusesItem, put_in}
 use Rattle.sdd_desk.specs.Shown.{Shows, IsCell, item_held, item_in}
-use Rattle.sdd_desk.specs.InPlace.{OwnsNumber, Puts, IsRaw}
+use Rattle.sdd_desk.specs.InPlace.{OwnsNumber, Puts, Drops, RefusesDrop, IsRaw}
 use Rattle.sdd_desk.specs.Desk.{Desk, Opening, IsStart, IsDated, IsThere, Leaves, opening_at, holding_at, slot_at, date_at, place_of, since_of, slot_of, sole_slot, shared_slot, shared_cell, in_world, with_owner, without_owner, with_item, with_newcomer, without_participant, with_guard, without_guard, later}
 use Rattle.sdd_desk.specs.Desk as desk
 
@@ -261,21 +261,12 @@ Does d n p (call.Release o) (reply.Truth b) new =
     (k : ℕ) × (owners : ℕ) × (shared_slot (holding_at d.owners o.0) ≡ Some k) × IsSharedBy owners (standing_at d.world k) × (IsTrue b ↔ (owners ≡ 1))
     × Leaves (in_world (without_owner d o.0) (owner_given d.world p k (Some (Shared owners)))) new
 Does d n p (call.Put o number) reply.Done new =
-    (k : ℕ) × (w : World Val) × (slot_of (holding_at d.owners o.0) ≡ Some k) × MayInPlace d.world k × Puts d k number w × Leaves (in_world d w) new
+    (k : ℕ) × (w : World Val) × (slot_of (holding_at d.owners o.0) ≡ Some k) × MayInPlace d.world k × Puts d.world k number w × Leaves (in_world d w) new
 Does d n p (call.Put o number) (reply.Refused e) new =
     ((k : ℕ) × (slot_of (holding_at d.owners o.0) ≡ Some k) × RefusedInPlace d.world k e) × (new ≡ d)
--- one of several owners goes alone, whatever guards are open
-Does d n p (call.Drop o) reply.Done new =
-    (k : ℕ) × (sole_slot (holding_at d.owners o.0) ≡ Some k) × ¬ (IsGuarded d.world)
-    × Leaves (in_world (without_owner d o.0) (dropped holdings_of d.world p k)) new
-Does d n p (call.Drop o) (reply.Truth true) new =
-    (k : ℕ) × (shared_slot (holding_at d.owners o.0) ≡ Some k) × (standing_at d.world k ≡ Some (Shared 1)) × ¬ (IsGuarded d.world)
-    × Leaves (in_world (without_owner d o.0) (dropped holdings_of d.world p k)) new
-Does d n p (call.Drop o) (reply.Truth false) new =
-    (k : ℕ) × (owners : ℕ) × (shared_slot (holding_at d.owners o.0) ≡ Some k) × IsSharedBy owners (standing_at d.world k) × (1 < owners)
-    × Leaves (in_world (without_owner d o.0) (with_standing d.world k (Shared (owners - 1)))) new
-Does d n p (call.Drop o) (reply.Refused GuardOpen) new =
-    ((k : ℕ) × (slot_of (holding_at d.owners o.0) ≡ Some k) × IsAlone (standing_at d.world k)) × IsGuarded d.world × (new ≡ d)
+Does d n p (call.Drop o) (reply.Refused GuardOpen) new = ((h : Holding) × (holding_at d.owners o.0 ≡ Some h) × RefusesDrop d.world h) × (new ≡ d)
+Does d n p (call.Drop o) given new =
+    (h : Holding) × (w : World Val) × (holding_at d.owners o.0 ≡ Some h) × Drops d.world p h given w × Leaves (in_world (without_owner d o.0) w) new
 Does d n p (call.Raw o) (reply.Raw i) new =
     (k : ℕ) × (sole_slot (holding_at d.owners o.0) ≡ Some k) × (i ≡ item_in d.names k)
     × Leaves (in_world (without_owner d o.0) (with_standing d.world k Raw)) new
