@@ -8,6 +8,7 @@ mod items;
 mod leaving;
 mod owners;
 mod participants;
+mod raw;
 
 use crate::script::holding::{ACell, AnOwner};
 use crate::script::named::Named;
@@ -168,6 +169,11 @@ impl Stage {
             Call::At(name, Action::Clone(owner)) => self.clone_owner(name, owner)?,
             Call::At(name, Action::Release(owner)) => self.release(name, owner),
             Call::At(name, Action::Retire(owner)) => self.retire(name, owner),
+            Call::At(name, Action::Put(owner, number)) => self.put(name, owner, number),
+            Call::At(name, Action::Drop(owner)) => self.drop_owner(name, owner),
+            Call::At(name, Action::Raw(owner)) => self.put_out_raw(name, owner),
+            Call::At(name, Action::Unraw(item)) => self.take_back_raw(name, item)?,
+            Call::At(name, Action::See(item, guard)) => self.see(name, item, guard),
             Call::At(name, Action::Close(guard)) => self.close_guard(name, guard),
             Call::At(name, Action::CellOwned(owner)) => {
                 self.make_cell(name, owner, Ownership::Sole)?

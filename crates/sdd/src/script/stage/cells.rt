@@ -337,7 +337,7 @@ fn close_at(world: &mut World<Val>, place: &Place, cell: ACell)
 }
 
 /// The item in this slot, if it waits now, began to do so in this line.
-fn date_if_waiting(dates: &mut Vec<u64>, world: &World<Val>, slot: Option<u32>, line: u64)
+pub fn date_if_waiting(dates: &mut Vec<u64>, world: &World<Val>, slot: Option<u32>, line: u64)
     requires { IfSome slot (λ slot. slot < length dates.old.items) }
     ensures { dates.new.items ≡ dated_if_waiting world.now slot line dates.old.items }
 {

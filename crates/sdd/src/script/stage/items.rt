@@ -108,7 +108,7 @@ impl Stage {
 }
 
 /// What the value of an item holds, as a reply.
-fn told(value: &Val, names: &[u64]) -> Reply
+pub fn told(value: &Val, names: &[u64]) -> Reply
     requires { SlotInside names.now (body_of value.now) }
     ensures { result ≡ told_of names.now (body_of value.now) }
 {
