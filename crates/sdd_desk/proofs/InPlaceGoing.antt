@@ -145,7 +145,7 @@ module _ (d : Desk) (s : IsSound d) (whole : IsWhole d.world) (p k : ℕ) (live 
 
     -- neither number is an owner
     none-now : (j : ℕ) → counting.times_in j (body_of puts.now) ≡ 0
-    none-now = number-holds-none (body_of puts.now) number (puts.body ∙ ap (λ b. renumbered b number) is)
+    none-now = number-holds-none (body_of puts.now) number (puts.changed.body ∙ ap (λ b. renumbered b number) is)
 
     none-was : (j : ℕ) → times_held holdings_of j (value_at d.world k) ≡ 0
     none-was j = ap (times_held holdings_of j) puts.there ∙ times-held puts.was j ∙ number-holds-none (body_of puts.was) m is j
@@ -156,7 +156,7 @@ module _ (d : Desk) (s : IsSound d) (whole : IsWhole d.world) (p k : ℕ) (live 
         let lt : k < length d.world.values = inside d.world.values k (ap is_some puts.there) in
         record {
           stocked = stocked-as d put_in_place s.stocked refl refl refl (no_slot-same d.world put_in_place.world refl);
-          cells = keepers-edited d put_in_place s.cells k puts.was puts.now puts.there puts.link refl refl refl;
+          cells = keepers-edited d put_in_place s.cells k puts.was puts.now puts.there puts.changed.link refl refl refl;
           layered = layered-edited d d.world k puts.now none-now s.layered;
           accounts = accounted-with_value holdings_of d.world k puts.now (named_owners d) (named_owners put_in_place) lt
               (λ j. omega (arith, none-was j, none-now j, times-held puts.now j)) s.accounts;

@@ -11,7 +11,7 @@ use Rattle.sdd_lines.specs.declared.answer.Reply.{Reply}
 use Rattle.sdd_lines.specs.declared.answer.Reply.TheVariants as reply
 use Rattle.sdd_desk.specs.declared.val.Body.TheVariants.{Number}
 use Rattle.sdd_desk.specs.declared.val.Val.{Val}
-use Rattle.sdd_desk.specs.Val.{body_of, link_of, link_home, renumbered, holdings_of}
+use Rattle.sdd_desk.specs.Val.{body_of, Renumbers, holdings_of}
 use Rattle.sdd_desk.specs.Desk.{Desk, holding_at, slot_at, slot_of}
 
 -- the name is that of an owner of a number
@@ -24,9 +24,7 @@ pub record Puts (old : World Val) (k number : ℕ) (new : World Val) : Type 0 wh
   pub was : Val
   pub now : Val
   pub there : value_at old k ≡ Some was
-  pub body : body_of now ≡ renumbered (body_of was) number
-  pub link : link_of now ≡ link_of was
-  pub home : link_home now ≡ link_home was
+  pub changed : Renumbers was number now
   pub put : new ≡ with_value old k now
 
 -- p gives this owner up, and its item is dropped in its place if it was alone. Of a shared one it is told which

@@ -32,7 +32,7 @@ impl Item<Val> for Val {
 }
 
 impl Val {
-    ghost use Rattle.sdd_desk.specs.Val.{body_of, link_of, link_home, renumbered};
+    ghost use Rattle.sdd_desk.specs.Val.{body_of, link_of, link_home, Renumbers};
     ghost use Rattle.sdd_base.specs.Owned.{cell_of, cells_home};
 
     /// What it holds, with its cell.
@@ -46,9 +46,7 @@ impl Val {
 
     /// Puts a number in the place of its number. An owner stays as it is, since it must be spent.
     pub fn put(&mut self, number: u64)
-        ensures body { body_of self.new ≡ renumbered (body_of self.old) number }
-        ensures link { link_of self.new ≡ link_of self.old }
-        ensures home { link_home self.new ≡ link_home self.old }
+        ensures { Renumbers self.old number self.new }
     {
         if let Body::Number(held) = &mut self.body {
             *held = number;

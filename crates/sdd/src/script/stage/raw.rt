@@ -12,7 +12,7 @@ ghost use Rattle.sdd_base.specs.Steps.{with_standing};
 ghost use Rattle.sdd_base.specs.World.{World, standing_at, value_at};
 ghost use Rattle.sdd_desk.specs.Held.{slot_held};
 ghost use Rattle.sdd_desk.specs.InPlace.{Puts, Drops, RefusesDrop};
-ghost use Rattle.sdd_desk.specs.Val.{body_of};
+ghost use Rattle.sdd_desk.specs.Val.{body_of, Renumbers};
 ghost use Rattle.sdd_desk.specs.declared.val.Body.{Body};
 ghost use Rattle.sdd_desk.specs.declared.val.Body.TheVariants.{Number};
 ghost use Rattle.sdd_desk.specs.declared.val.Val.{Val};
@@ -188,21 +188,20 @@ impl Step for PutsNumber {
 
     fn done<S: Space<Val>>(self, s: &mut S) -> (AnOwner, Result<(), Refused>) {
         let PutsNumber { owner, number } = self;
+        let put = move |value: &mut Val|
+            ensures { Renumbers value.old number value.new }
+        {
+            value.put(number);
+        };
         match owner {
-            AnOwner::Sole(mut held) => {
-                let put = match held.get_mut(|value: &mut Val| value.put(number), s) {
-                    Ok(()) => Ok(()),
-                    Err((_, refused)) => Err(refused),
-                };
-                (AnOwner::Sole(held), put)
-            }
-            AnOwner::Share(mut held) => {
-                let put = match held.get_mut(|value: &mut Val| value.put(number), s) {
-                    Ok(()) => Ok(()),
-                    Err((_, refused)) => Err(refused),
-                };
-                (AnOwner::Share(held), put)
-            }
+            AnOwner::Sole(mut held) => match held.get_mut(put, s) {
+                Ok(()) => (AnOwner::Sole(held), Ok(())),
+                Err((_, refused)) => (AnOwner::Sole(held), Err(refused)),
+            },
+            AnOwner::Share(mut held) => match held.get_mut(put, s) {
+                Ok(()) => (AnOwner::Share(held), Ok(())),
+                Err((_, refused)) => (AnOwner::Share(held), Err(refused)),
+            },
         }
     }
 }
