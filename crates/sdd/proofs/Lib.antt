@@ -5,6 +5,7 @@ pub mod CellActs
 pub mod Acts
 pub mod ExchangeActs
 pub mod Missing
+pub mod RawActs
 pub mod Unshared
 pub mod Inside
 pub mod Making

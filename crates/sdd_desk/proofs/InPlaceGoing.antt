@@ -227,11 +227,12 @@ module _ (d : Desk) (s : IsSound d) (whole : IsWhole d.world) (p k : ℕ) (live 
             none-if m j (λ e. apart (sym e)),
           ))))
 
+    pub counts : KeepsCounts (vacated d.world k) (dropped holdings_of d.world p k)
+    counts = rw there (counts-given_all (vacated d.world k) p (holdings_of v))
+
     pub sound-dropped : IsSound after_dropped
     sound-dropped =
         let keeps = keeps-dropped d.world p k live.0 in
-        let counts : KeepsCounts (vacated d.world k) (dropped holdings_of d.world p k) =
-        rw there (counts-given_all (vacated d.world k) p (holdings_of v)) in
         let middle = in_world d (dropped holdings_of d.world p k) in
         record {
           stocked = stocked-as d after_dropped s.stocked refl refl dated-dropped.long (no_slot-dropped d.world p holdings_of k);
@@ -274,6 +275,7 @@ pub record LeavesSound (d new : Desk) : Type 0 where
   pub sound : IsSound new
   pub dated : IsDated d new
   pub calls : AreCalls d.world new.world
+  pub home : new.world.home ≡ d.world.home
 
 module _ (d : Desk) (s : IsSound d) (whole : IsWhole d.world) (p : ℕ) (live : IsPlaceOf d.world p) (o k : ℕ) (v : Val)
     (there : value_at d.world k ≡ Some v) where
@@ -288,6 +290,7 @@ module _ (d : Desk) (s : IsSound d) (whole : IsWhole d.world) (p : ℕ) (live : 
         sound = sound-dropped d s whole p k live o h named slot v there may;
         dated = dated-dropped d s whole p k live o h named slot v there may;
         calls = calls-dropped d s whole p k live o h named slot v there may;
+        home = (counts d s whole p k live o h named slot v there may).home;
       })
 
   -- what the value holds doesn't wait where the item stays
@@ -313,6 +316,7 @@ module _ (d : Desk) (s : IsSound d) (whole : IsWhole d.world) (p : ℕ) (live : 
         sound = sound-fewer d s whole p k live o owners owner stands more;
         dated = dated-fewer d s whole p k live o owners owner stands more;
         calls = calls-fewer d s whole p k live o owners owner stands more;
+        home = refl;
       }))
 
   pub drop-leaves : (h : Holding) (given : Reply) (w : World Val) → holding_at d.owners o ≡ Some h → slot_of (Some h) ≡ Some k →
