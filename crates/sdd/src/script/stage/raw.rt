@@ -61,10 +61,10 @@ impl Stage {
             },
         );
         self.hand.owners.put_back(owner.0, held);
-        match put {
-            Ok(()) => Reply::Done,
-            Err(refused) => Reply::Refused(refused),
+        if let Err(refused) = put {
+            return Reply::Refused(refused);
         }
+        Reply::Done
     }
 
     pub fn drop_owner(&mut self, name: PlaceName, owner: OwnerName) -> Reply
@@ -78,17 +78,17 @@ impl Stage {
         };
         self.hand.world.is_whole();
         let given = slot_given(held.get(&self.hand.world));
-        match step_at(&mut self.hand.world, &attending.place, DropsOwner { owner: held }) {
-            Ok(reply) => {
-                let line = self.hand.moment;
-                date_if_waiting(&mut self.hand.dates, &self.hand.world, given, line);
-                reply
-            }
+        let place = &attending.place;
+        let reply = match step_at(&mut self.hand.world, place, DropsOwner { owner: held }) {
+            Ok(reply) => reply,
             Err((held, refused)) => {
                 self.hand.owners.put_back(owner.0, held);
-                Reply::Refused(refused)
+                return Reply::Refused(refused);
             }
-        }
+        };
+        let line = self.hand.moment;
+        date_if_waiting(&mut self.hand.dates, &self.hand.world, given, line);
+        reply
     }
 
     pub fn put_out_raw(&mut self, name: PlaceName, owner: OwnerName) -> Reply
@@ -144,10 +144,11 @@ impl Stage {
             return Reply::Invalid;
         };
         let guard = &held.guard;
-        match step_at(&mut self.hand.world, &attending.place, SeesRaw { slot, guard }) {
-            Some(value) => told(value, names),
-            None => Reply::Nothing,
-        }
+        let place = &attending.place;
+        let Some(value) = step_at(&mut self.hand.world, place, SeesRaw { slot, guard }) else {
+            return Reply::Nothing;
+        };
+        told(value, names)
     }
 }
 

@@ -1,0 +1,36 @@
+use Rattle.std.proofs.Common.{slice_index, ap}
+use Rattle.sdd_lines.specs.declared.call.Action.TheVariants as call
+use Rattle.sdd_lines.specs.declared.call.Call.TheVariants.{At}
+use Rattle.sdd_lines.specs.declared.answer.Reply.TheVariants as reply
+use Rattle.sdd.specs.Stage.{desk_of}
+use Rattle.sdd.proofs.Acts.{Does, got, owner-home}
+use Rattle.sdd.proofs.Missing.{invalid, nobody, no-sole}
+use Rattle.sdd.proofs.RawActs.{acts-raw}
+use Rattle.sdd.proofs.script.stage.Stage.put_out_raw.Goals as goal
+
+pub returns-in_default : goal.returns-in_default
+returns-in_default c = record { acts = rw (← c.self.view_is) (nobody c.self.inside.hand c.args.name _ c.in_default.ensures) }
+
+pub returns-in_default-take_sole : goal.returns-in_default-take_sole
+returns-in_default-take_sole c =
+    let h = c.self.inside.hand in
+    record {
+      acts = rw (← c.self.view_is, c.in_default-take_sole.ensures.1) (invalid (desk_of h) c.args.name (call.Raw c.args.owner)
+          (λ valid. no-sole h c.args.owner.0 c.in_default-take_sole.ensures.0 valid.1));
+    }
+
+pub step_at-requires-clause-asked : goal.step_at-requires-clause-asked
+step_at-requires-clause-asked c = owner-home c.self.inside.hand c.self.invariant c.is_whole.ensures c.args.owner.0 _ c.in-Some-take_sole.ensures.0
+
+went : (c : goal.After-row_known-1) → Does (desk_of c.self.inside.hand) (At c.args.name (call.Raw c.args.owner))
+    (reply.Raw (record { 0 = c.index.result.now })) (record c.self.inside.hand { world = c.step_at.new.world; owners = c.take_sole.new.owners })
+went c =
+    let h = c.self.inside.hand in
+    acts-raw h c.self.invariant c.is_whole.ensures c.args.name _ (got h.places c.args.name.0 _ c.in-Some.ensures) c.args.owner _ _ _ _
+    c.in-Some-take_sole.ensures.0 c.in-Some-take_sole.ensures.1 c.step_at.ensures.done.0 c.step_at.ensures.done.1 ?
+
+pub invariant_of-self-2 : goal.invariant_of-self-2
+invariant_of-self-2 c = (went c).0
+
+pub returns : goal.returns
+returns c = record { acts = rw (← c.self.view_is) (went c).1 }
