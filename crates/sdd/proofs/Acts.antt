@@ -143,7 +143,7 @@ module _ (h : Hand) (t : IsTied h) (whole : IsWhole h.world) where
   pub owner-home : (o : ℕ) (x : AnOwner) → slice_index_or h.owners.entries.items o None ≡ Some x → holding.IsOf h.world.home (owner_holding x)
   owner-home o x e = t.sound.owners_home o (owner_holding x) (named-owner o x e)
 
-  owner-spent : (owners : Vec (Option AnOwner)) (o : ℕ) → owners.items ≡ slice_set h.owners.entries.items o None →
+  pub owner-spent : (owners : Vec (Option AnOwner)) (o : ℕ) → owners.items ≡ slice_set h.owners.entries.items o None →
       map (option_map owner_holding) owners.items ≡ slice_set d.owners o None
   owner-spent owners o taken = ap (map (option_map owner_holding)) taken ∙ map-set (option_map owner_holding) h.owners.entries.items o None
 

@@ -1,5 +1,5 @@
 -- What each action on an item in its place, or on a raw one, leaves in hand: it is sound, and it is what the call means
-use Rattle.std.proofs.Common.{◌≡◌, ◌≢◌, ℕ, Bool, true, false, List, [], ◌∷◌, ◌++◌, Option, Some, None, IsSome, is_some, map, length, slice_index, slice_index_or, slice_set, refl, sym, ap, ◌∙◌, subst}
+use Rattle.std.proofs.Common.{◌≡◌, ◌≢◌, ℕ, Bool, true, false, List, [], ◌∷◌, ◌++◌, Option, Some, None, IsSome, is_some, map, length, slice_index, slice_index_or, slice_set, refl, sym, ap, ◌∙◌, subst, arith}
 use Rattle.std.specs.Option.{option_map}
 use Rattle.std.specs.Global.{Vec}
 use Rattle.std.proofs.Math.ListN.{get_or-map}
@@ -68,7 +68,7 @@ pub there-from : (h : Hand) (i : ℕ) → CanPointAt h.world h.slots.items h.nam
 there-from h i can = record { last = can.last; taken = can.taken }
 
 pub there-not : (h : Hand) (i : ℕ) → ¬ (CanPointAt h.world h.slots.items h.names.items h.dates.items i 0) → ¬ (IsThere (desk_of h) i)
-there-not h i cannot there = cannot (record { last = there.last; taken = there.taken; fresh = λ waits. omega })
+there-not h i cannot there = cannot (record { last = there.last; taken = there.taken; fresh = λ waits. omega arith })
 
 module _ (h : Hand) (t : IsTied h) (whole : IsWhole h.world) (name : PlaceName) (a : Attending)
     (there : attending (Some a) ≡ opening_at (desk_of h).places name.0) where

@@ -40,7 +40,7 @@ returns-in_default-step_at c =
     }
 
 pub told-requires : goal.told-requires
-told-requires c = rw c.as_slice-names.ensures.value (value-inside c.self.inside.hand c.self.invariant _ _ c.in-Some-step_at.ensures.done.1)
+told-requires c = rw c.as_slice-names.ensures.value (value-inside c.self.inside.hand c.self.invariant _ _ c.in-Some-step_at.ensures.done.0.1)
 
 pub returns : goal.returns
 returns c =
@@ -50,6 +50,6 @@ returns c =
     let done = c.in-Some-step_at.ensures.done in
     let told : c.told.result ≡ told_of h.names.items (body_of c.in-Some-step_at.value.now) = rw c.as_slice-names.ensures.value at c.told.ensures in
     record {
-      acts = rw (← c.self.view_is, done.2, told) (acts-seen h c.self.invariant c.is_whole.ensures c.args.name _ c.in-Some.ensures.found.0
-          c.args.item c.args.guard _ c.in-Some.ensures.valid (there-from h c.args.item.0 can) (rw slot at done.0) (rw slot at done.1));
+      acts = rw (← c.self.view_is, done.1, told) (acts-seen h c.self.invariant c.is_whole.ensures c.args.name _ c.in-Some.ensures.found.0
+          c.args.item c.args.guard _ c.in-Some.ensures.valid (there-from h c.args.item.0 can) (rw slot at done.0.0) (rw slot at done.0.1));
     }

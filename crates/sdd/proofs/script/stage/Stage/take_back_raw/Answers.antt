@@ -52,7 +52,7 @@ returns-in-None c =
     let done = c.in-None.ensures.done in
     record {
       acts = rw (← c.self.view_is) (still-as h (record h { world = c.step_at.new.world; owners = c.make_room.new.self }) _ _
-          (same-owners h c.step_at.new.world c.make_room.new.self.entries done.2 c.make_room.ensures.kept)
+          (same-owners h c.step_at.new.world c.make_room.new.self.entries done.1.1 c.make_room.ensures.kept)
           (none-back h c.self.invariant c.is_whole.ensures c.args.name _ (got h.places c.args.name.0 _ c.in-Some.ensures) c.args.item
-          (there-from h c.args.item.0 can) (rw slot at done.1)));
+          (there-from h c.args.item.0 can) (rw slot at done.1.0)));
     }
