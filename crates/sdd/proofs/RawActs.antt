@@ -70,6 +70,23 @@ there-from h i can = record { last = can.last; taken = can.taken }
 pub there-not : (h : Hand) (i : ℕ) → ¬ (CanPointAt h.world h.slots.items h.names.items h.dates.items i 0) → ¬ (IsThere (desk_of h) i)
 there-not h i cannot there = cannot (record { last = there.last; taken = there.taken; fresh = λ waits. omega arith })
 
+-- where the world and what names of owners stand for are as before, so is the desk
+pub same-desk : (h : Hand) (w : World Val) (owners : Vec (Option AnOwner)) → w ≡ h.world → map (option_map owner_holding) owners.items ≡ (desk_of h).owners →
+    desk_of (record h { world = w; owners = record { entries = owners } }) ≡ desk_of h
+same-desk h w owners world same = cc (world, same)
+
+-- one name stands for one owner, of one item
+pub one-held : (x y : AnOwner) (o : Option AnOwner) → Some x ≡ o → Some y ≡ o → x ≡ y
+one-held x y o e f = let both : Some x ≡ Some y = e ∙ sym f in cc
+
+pub same-value : (h : Hand) (x : AnOwner) (j k : ℕ) (v : Val) → slot_of (Some (owner_holding x)) ≡ Some j → slot_of (Some (owner_holding x)) ≡ Some k →
+    value_at h.world j ≡ Some v → value_at h.world k ≡ Some v
+same-value h x j k v e f shown = let both : Some j ≡ Some k = sym e ∙ f in let same : j ≡ k = cc in rw (← same) shown
+
+-- who owns a number is an owner
+pub owned-is : (d : Desk) (o : ℕ) → OwnsNumber d o → IsOwner d o
+owned-is d o owns = ap is_some owns.3
+
 module _ (h : Hand) (t : IsTied h) (whole : IsWhole h.world) (name : PlaceName) (a : Attending)
     (there : attending (Some a) ≡ opening_at (desk_of h).places name.0) where
   abbrev d : Desk
