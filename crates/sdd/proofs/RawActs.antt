@@ -73,7 +73,9 @@ there-not h i cannot there = cannot (record { last = there.last; taken = there.t
 -- where the world and what names of owners stand for are as before, so is the desk
 pub same-desk : (h : Hand) (w : World Val) (owners : Vec (Option AnOwner)) → w ≡ h.world → map (option_map owner_holding) owners.items ≡ (desk_of h).owners →
     desk_of (record h { world = w; owners = record { entries = owners } }) ≡ desk_of h
-same-desk h w owners world same = cc (world, same)
+same-desk h w owners world same =
+    ap (λ (u : World Val). record (desk_of h) { world = u; owners = map (option_map owner_holding) owners.items }) world
+    ∙ ap (λ (os : List (Option Holding)). record (desk_of h) { owners = os }) same
 
 -- one name stands for one owner, of one item
 pub one-held : (x y : AnOwner) (o : Option AnOwner) → Some x ≡ o → Some y ≡ o → x ≡ y

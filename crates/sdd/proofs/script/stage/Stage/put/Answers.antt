@@ -40,15 +40,11 @@ pub step_at-held-requires-clause-asked : goal.step_at-held-requires-clause-asked
 step_at-held-requires-clause-asked c =
     owner-home c.self.inside.hand c.self.invariant c.is_whole.ensures c.args.owner.0 _ (sym c.in-Some-take.ensures.taken)
 
-same-owner : (c : goal.After-put_back) → map (option_map owner_holding) c.put_back.new.self.entries.items ≡ (desk_of c.self.inside.hand).owners
-same-owner c =
-    put-back c.self.inside.hand c.take.new.self.entries c.put_back.new.self.entries c.args.owner.0 _ _ (sym c.in-Some-take.ensures.taken)
-    c.in-Some-take.ensures.spent c.put_back.ensures.back (ap owner_holding c.step_at-held.ensures.done.0)
-
 back : (c : goal.In-Err) → desk_of (record c.self.inside.hand { world = c.step_at-held.new.world; owners = c.put_back.new.self }) ≡ desk_of c.self.inside.hand
 back c =
     let out = rw c.in-Err.is at c.step_at-held.ensures.done.1 in
-    same-desk c.self.inside.hand c.step_at-held.new.world c.put_back.new.self.entries out.3 (same-owner c.before)
+    same-desk c.self.inside.hand c.step_at-held.new.world c.put_back.new.self.entries out.2.1 (put-back c.self.inside.hand c.take.new.self.entries c.put_back.new.self.entries c.args.owner.0 _ _ (sym c.in-Some-take.ensures.taken)
+    c.in-Some-take.ensures.spent c.put_back.ensures.back (ap owner_holding c.step_at-held.ensures.done.0))
 
 pub invariant_of-self : goal.invariant_of-self
 invariant_of-self c = (goes (back c) c.self.invariant.sound c.self.invariant.guards).tied
@@ -64,7 +60,7 @@ returns-in-Err c =
       acts = rw (← c.self.view_is) (still-as h (record h { world = c.step_at-held.new.world; owners = c.put_back.new.self }) _ _ (back c)
           (put-refused h c.self.invariant c.is_whole.ensures c.args.name _ (got h.places c.args.name.0 _ c.in-Some.ensures) c.args.owner x
           (sym c.in-Some-take.ensures.taken) c.args.number out.0 number.0 _ _ out.1
-          (same-value h x _ _ _ slot out.1 c.get-3.ensures.2) number.1 out.2));
+          (same-value h x _ _ _ slot out.1 c.get-3.ensures.2) number.1 out.2.0));
     }
 
 put : (c : goal.In_default-put) → Does (desk_of c.self.inside.hand) (At c.args.name (call.Put c.args.owner c.args.number)) reply.Done
@@ -77,7 +73,8 @@ put c =
     let number = c.if-not-is_number.ensures.0 refl in
     acts-put h c.self.invariant c.is_whole.ensures c.args.name _ (got h.places c.args.name.0 _ c.in-Some.ensures) c.args.owner x
     (sym c.in-Some-take.ensures.taken) c.args.number out.0 number.0 _ _ c.put_back.new.self.entries out.1
-    (same-value h x _ _ _ slot out.1 c.get-3.ensures.2) number.1 out.2 out.3 (same-owner c.before)
+    (same-value h x _ _ _ slot out.1 c.get-3.ensures.2) number.1 out.2.0 out.2.1 (put-back c.self.inside.hand c.take.new.self.entries c.put_back.new.self.entries c.args.owner.0 _ _ (sym c.in-Some-take.ensures.taken)
+    c.in-Some-take.ensures.spent c.put_back.ensures.back (ap owner_holding c.step_at-held.ensures.done.0))
 
 pub invariant_of-self-2 : goal.invariant_of-self-2
 invariant_of-self-2 c = (put c).0
