@@ -39,7 +39,10 @@ use Rattle.sdd.specs.declared.script.stage.Attending.{Attending}
 use Rattle.sdd.specs.declared.script.stage.Hand.{Hand}
 use Rattle.sdd.specs.Stage.{attending, owner_holding, desk_of, dated_if_waiting, GuardsIn, IsTied, CanPointAt}
 use Rattle.sdd_desk.proofs.CellGoing.{dates_spilled}
-use Rattle.sdd_desk.proofs.InPlaceGoing.{calls-raw, dated-raw, sound-raw, calls-back, dated-back, sound-back, calls-put, dated-put, sound-put, after_drop, drop-leaves}
+use Rattle.sdd_desk.proofs.InPlaceGoing.{calls-raw, dated-raw, sound-raw, calls-back, dated-back, sound-back, calls-put, dated-put, sound-put, after_drop, drop-leaves, value-held-out}
+use Rattle.sdd_desk.proofs.Stocked.{slot-inside}
+use Rattle.sdd_desk.proofs.Counting.{out-there}
+use Rattle.std.specs.Prelude.{IfSome, ◌<◌}
 use Rattle.sdd.proofs.Acts.{Does, does, goes, still, is, is-there, in_range, named-owner, owner-spent, owner-more}
 use Rattle.sdd.proofs.Missing.{invalid}
 
@@ -76,6 +79,14 @@ pub same-desk : (h : Hand) (w : World Val) (owners : Vec (Option AnOwner)) → w
 same-desk h w owners world same =
     ap (λ (u : World Val). record (desk_of h) { world = u; owners = map (option_map owner_holding) owners.items }) world
     ∙ ap (λ (os : List (Option Holding)). record (desk_of h) { owners = os }) same
+
+-- the item whose owner a value holds has a date
+pub held-dated : (h : Hand) → IsTied h → (k : ℕ) (v : Val) → value_at h.world k ≡ Some v → (held : Option ℕ) → slot_held (body_of v) ≡ held →
+    IfSome held (λ m. m < length h.dates.items)
+held-dated h t k v shown None is = tt
+held-dated h t k v shown (Some m) is =
+    let out = value-held-out (desk_of h) t.sound k v shown m is in
+    (slot-inside (desk_of h) t.sound.stocked m (out-there h.world m out)).1
 
 -- one name stands for one owner, of one item
 pub one-held : (x y : AnOwner) (o : Option AnOwner) → Some x ≡ o → Some y ≡ o → x ≡ y

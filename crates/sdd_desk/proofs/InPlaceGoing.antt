@@ -64,7 +64,7 @@ unless true not = refl
 unless false not = absurd (not refl)
 
 -- the item whose owner a value holds is out
-value-held-out : (d : Desk) → IsSound d → (k : ℕ) (v : Val) → value_at d.world k ≡ Some v → (m : ℕ) → slot_held (body_of v) ≡ Some m →
+pub value-held-out : (d : Desk) → IsSound d → (k : ℕ) (v : Val) → value_at d.world k ≡ Some v → (m : ℕ) → slot_held (body_of v) ≡ Some m →
     is_out (standing_at d.world m) ≡ true
 value-held-out d s k v there m is =
     let among : times_in m (slots_in (Some v)) ≡ one_where (m == m) =

@@ -1,55 +1,65 @@
-use Rattle.std.proofs.Common.{rules, ◌≡◌, ◌≢◌, IfSome, IsTrue, ◌↔◌, ℕ, Some, MatchOption, MatchResult, ◌+◌, ◌-◌, ◌*◌, ◌<◌, ◌≤◌, length, ◌/◌, ◌%◌, Bool, true, false, nat_eq, nat_lt, List, [], ◌∷◌, ◌++◌, slice_index_or, slice_set, bit_and, bit_or, Fits, w8, w32, w64, Bor, MutBor}
-use Rattle.sdd_core.specs.declared.refused.Refused.TheVariants as refused
-use Rattle.sdd_store.specs.declared.standing.Standing.TheVariants as standing
-use Rattle.sdd_base.specs.Guard.{Reader, reader_of}
-use Rattle.sdd_base.specs.Holding.{Home, IsOf}
-use Rattle.sdd_base.specs.InPlace.{MayInPlace, RefusedInPlace}
-use Rattle.sdd_base.specs.Owned.{slot_of, slots_home}
-use Rattle.sdd_base.specs.Steps.{with_standing}
-use Rattle.sdd_base.specs.World.{World, standing_at, value_at}
-use Rattle.sdd_desk.specs.Held.{slot_held}
-use Rattle.sdd_desk.specs.InPlace.{Puts, Drops, RefusesDrop}
-use Rattle.sdd_desk.specs.Val.{body_of, Renumbers}
-use Rattle.sdd_desk.specs.declared.val.Body.{Body}
-use Rattle.sdd_desk.specs.declared.val.Body.TheVariants.{Number}
-use Rattle.sdd_desk.specs.declared.val.Val.{Val}
-use Rattle.sdd_desk.specs.Desk as desk
-use Rattle.sdd.specs.Stage.{owner_holding}
-use Rattle.sdd_desk.specs.Script.{Acts}
+use Rattle.std.proofs.Common.{◌≡◌, Some, refl, sym, ◌∙◌}
+use Rattle.sdd_lines.specs.declared.call.Action.TheVariants as call
+use Rattle.sdd_desk.proofs.Entry.{spent_twice}
+use Rattle.sdd.specs.Stage.{desk_of}
+use Rattle.sdd.proofs.Acts.{got, goes, owner-home}
+use Rattle.sdd.proofs.ExchangeActs.{still-as}
+use Rattle.sdd.proofs.Missing.{invalid, nobody, no-owner}
+use Rattle.sdd.proofs.RawActs.{acts-dropped, drop-refused, held-dated, put-back, same-desk}
 use Rattle.sdd.proofs.script.stage.Stage.drop_owner.Goals as goal
 
--- src/script/stage/raw.rt:74:13
 pub returns-in_default : goal.returns-in_default
-returns-in_default c = ?
+returns-in_default c = record { acts = rw (← c.self.view_is) (nobody c.self.inside.hand c.args.name _ c.in_default.ensures) }
 
--- src/script/stage/raw.rt:77:13
 pub returns-in_default-take : goal.returns-in_default-take
-returns-in_default-take c = ?
+returns-in_default-take c =
+    let h = c.self.inside.hand in
+    let same = c.in_default-take.ensures.spent ∙ sym (spent_twice h.owners.entries.items c.args.owner.0 (sym c.in_default-take.ensures.taken)) in
+    record {
+      acts = rw (← c.self.view_is, same) (invalid (desk_of h) c.args.name (call.Drop c.args.owner)
+          (λ valid. no-owner h c.args.owner.0 c.in_default-take.ensures.taken valid.1));
+    }
 
--- src/script/stage/raw.rt:80:32
 pub get-requires-2 : goal.get-requires-2
-get-requires-2 c = ?
+get-requires-2 c = record {
+  home = owner-home c.self.inside.hand c.self.invariant c.is_whole.ensures c.args.owner.0 _ (sym c.in-Some-take.ensures.taken);
+}
 
--- src/script/stage/raw.rt:81:15
 pub step_at-requires-clause-asked : goal.step_at-requires-clause-asked
-step_at-requires-clause-asked c = ?
+step_at-requires-clause-asked c =
+    owner-home c.self.inside.hand c.self.invariant c.is_whole.ensures c.args.owner.0 _ (sym c.in-Some-take.ensures.taken)
 
--- src/script/stage/raw.rt:84:17
 pub date_if_waiting-requires : goal.date_if_waiting-requires
-date_if_waiting-requires c = ?
+date_if_waiting-requires c = rw c.slot_given-given.ensures (held-dated c.self.inside.hand c.self.invariant _ _ c.get-2.ensures.2 _ refl)
 
--- src/script/stage/raw.rt:85:17
-pub invariant_of-self-in-Ok : goal.invariant_of-self-in-Ok
-invariant_of-self-in-Ok c = ?
+pub invariant_of-self-2 : goal.invariant_of-self-2
+invariant_of-self-2 c =
+    let h = c.self.inside.hand in
+    (acts-dropped h c.self.invariant c.is_whole.ensures c.args.name _ (got h.places c.args.name.0 _ c.in-Some.ensures) c.args.owner _
+    (sym c.in-Some-take.ensures.taken) _ _ _ _ c.take.new.self.entries c.date_if_waiting.new.dates c.get-2.ensures.1 c.get-2.ensures.2
+    c.in-Ok.ensures.done c.in-Some-take.ensures.spent (rw c.slot_given-given.ensures at c.date_if_waiting.ensures)).0
 
--- src/script/stage/raw.rt:89:17
 pub invariant_of-self-in-Err : goal.invariant_of-self-in-Err
-invariant_of-self-in-Err c = ?
+invariant_of-self-in-Err c =
+    let h = c.self.inside.hand in
+    (goes (same-desk h c.step_at.new.world c.put_back.new.self.entries c.in-Err.ensures.done.3
+    (put-back h c.take.new.self.entries c.put_back.new.self.entries c.args.owner.0 _ _ (sym c.in-Some-take.ensures.taken)
+    c.in-Some-take.ensures.spent c.put_back.ensures.back c.in-Err.ensures.done.0)) c.self.invariant.sound c.self.invariant.guards).tied
 
--- src/script/stage/raw.rt:70:5
-pub returns-in-Ok : goal.returns-in-Ok
-returns-in-Ok c = ?
+pub returns : goal.returns
+returns c =
+    let h = c.self.inside.hand in
+    record { acts = rw (← c.self.view_is) (acts-dropped h c.self.invariant c.is_whole.ensures c.args.name _ (got h.places c.args.name.0 _ c.in-Some.ensures) c.args.owner _
+    (sym c.in-Some-take.ensures.taken) _ _ _ _ c.take.new.self.entries c.date_if_waiting.new.dates c.get-2.ensures.1 c.get-2.ensures.2
+    c.in-Ok.ensures.done c.in-Some-take.ensures.spent (rw c.slot_given-given.ensures at c.date_if_waiting.ensures)).1 }
 
--- src/script/stage/raw.rt:70:5
 pub returns-in-Err : goal.returns-in-Err
-returns-in-Err c = ?
+returns-in-Err c =
+    let h = c.self.inside.hand in
+    record {
+      acts = rw (← c.self.view_is, c.in-Err.ensures.done.1) (still-as h (record h { world = c.step_at.new.world; owners = c.put_back.new.self }) _ _ (same-desk h c.step_at.new.world c.put_back.new.self.entries c.in-Err.ensures.done.3
+    (put-back h c.take.new.self.entries c.put_back.new.self.entries c.args.owner.0 _ _ (sym c.in-Some-take.ensures.taken)
+    c.in-Some-take.ensures.spent c.put_back.ensures.back c.in-Err.ensures.done.0))
+          (drop-refused h c.self.invariant c.is_whole.ensures c.args.name _ (got h.places c.args.name.0 _ c.in-Some.ensures) c.args.owner _
+          (sym c.in-Some-take.ensures.taken) c.in-Err.ensures.done.2));
+    }
