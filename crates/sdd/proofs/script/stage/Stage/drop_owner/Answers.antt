@@ -49,17 +49,19 @@ invariant_of-self-in-Err c =
 pub returns : goal.returns
 returns c =
     let h = c.self.inside.hand in
-    record { acts = rw (← c.self.view_is) (acts-dropped h c.self.invariant c.is_whole.ensures c.args.name _ (got h.places c.args.name.0 _ c.in-Some.ensures) c.args.owner _
-    (sym c.in-Some-take.ensures.taken) _ _ _ _ c.take.new.self.entries c.date_if_waiting.new.dates c.get-2.ensures.1 c.get-2.ensures.2
-    c.in-Ok.ensures.done c.in-Some-take.ensures.spent (rw c.slot_given-given.ensures at c.date_if_waiting.ensures)).1 }
+    record {
+      acts = rw (← c.self.view_is) (acts-dropped h c.self.invariant c.is_whole.ensures c.args.name _ (got h.places c.args.name.0 _ c.in-Some.ensures) c.args.owner _
+          (sym c.in-Some-take.ensures.taken) _ _ _ _ c.take.new.self.entries c.date_if_waiting.new.dates c.get-2.ensures.1 c.get-2.ensures.2
+          c.in-Ok.ensures.done c.in-Some-take.ensures.spent (rw c.slot_given-given.ensures at c.date_if_waiting.ensures)).1;
+    }
 
 pub returns-in-Err : goal.returns-in-Err
 returns-in-Err c =
     let h = c.self.inside.hand in
     record {
       acts = rw (← c.self.view_is, c.in-Err.ensures.done.1) (still-as h (record h { world = c.step_at.new.world; owners = c.put_back.new.self }) _ _ (same-desk h c.step_at.new.world c.put_back.new.self.entries c.in-Err.ensures.done.3
-    (put-back h c.take.new.self.entries c.put_back.new.self.entries c.args.owner.0 _ _ (sym c.in-Some-take.ensures.taken)
-    c.in-Some-take.ensures.spent c.put_back.ensures.back c.in-Err.ensures.done.0))
+          (put-back h c.take.new.self.entries c.put_back.new.self.entries c.args.owner.0 _ _ (sym c.in-Some-take.ensures.taken)
+          c.in-Some-take.ensures.spent c.put_back.ensures.back c.in-Err.ensures.done.0))
           (drop-refused h c.self.invariant c.is_whole.ensures c.args.name _ (got h.places c.args.name.0 _ c.in-Some.ensures) c.args.owner _
           (sym c.in-Some-take.ensures.taken) c.in-Err.ensures.done.2));
     }
