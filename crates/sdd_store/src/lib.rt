@@ -2,6 +2,7 @@
 #![tactic(auto)]
 
 pub mod bags;
+pub mod jobs;
 pub mod phases;
 pub mod standing;
 pub mod table;
@@ -9,6 +10,7 @@ pub mod tally;
 pub mod time;
 
 pub use bags::Bags;
+pub use jobs::{Deferred, Job, Jobs};
 pub use phases::{Phase, Phases};
 pub use standing::{Cell, Pointer, Standing};
 pub use table::Table;

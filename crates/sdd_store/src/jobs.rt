@@ -1,0 +1,97 @@
+ghost use Rattle.std.specs.Prelude.{◌≡◌, IsSome, IsTrue, ◌↔◌, IfOk, MatchResult, None, replicate};
+ghost use Rattle.sdd_store.specs.Table.{entry_at, with_entry, without_entry, IsEmptyAt, IsFull};
+
+use crate::table::Table;
+use std::alloc::{AllocError, Global};
+use std::marker::Model;
+
+/// A job that can be deferred.
+///
+/// It runs once. Whoever writes one says in `run` what it does; a closure can't be one, since no contract of a table can say of many closures that each
+/// may be called.
+pub trait Job: Drop {
+    fn run(&mut self);
+}
+
+/// What waits in a place of the table: a caller's job, or one that does nothing.
+#[derive(Drop)]
+pub enum Deferred {
+    Boxed(Box<dyn Job + Send>),
+    Empty,
+}
+
+/// A table of a fixed number of places for jobs, each free or with a job that waits.
+///
+/// A free place is found at once. Memory is taken when the table is made, and never again: a box is the caller's.
+#[derive(Drop)]
+pub struct Jobs {
+    numbers: Table<()>,
+    jobs: Vec<Option<Deferred>>,
+}
+
+impl Deferred {
+    /// Runs the job, which is gone then.
+    fn run(self) {
+        match self {
+            Deferred::Boxed(mut job) => job.run(),
+            Deferred::Empty => {}
+        }
+    }
+}
+
+impl Model for Jobs {
+    ghost use Rattle.sdd_store.specs.Table.{Entries};
+    ghost use Rattle.sdd_store.specs.Jobs.{AreBeside};
+
+    ghost Value = { Entries (Unit {0}) };
+
+    ghost view = { λ t. t.numbers };
+
+    ghost invariant = { λ t. AreBeside t.numbers t.jobs.items };
+}
+
+impl Jobs {
+    /// A table of that many places, all free.
+    pub fn new(alloc: Global, size: u32) -> Result<Jobs, AllocError>
+        ensures { IfOk result (λ t. t ≡ replicate size None) }
+    {
+        let numbers = Table::new(alloc, size)?;
+        let mut jobs = Vec::with_capacity(alloc, size as usize)?;
+        for _ in 0..size {
+            jobs.push_reserved(None);
+        }
+        Ok(Jobs { numbers, jobs })
+    }
+
+    /// No place is free.
+    pub fn is_full(&self) -> bool
+        ensures { IsTrue result ↔ IsFull self.now }
+    {
+        self.numbers.is_full()
+    }
+
+    /// Puts a job into some free place, and tells which; where none is free it comes back, and hasn't run.
+    pub fn put(&mut self, job: Deferred) -> Result<u32, Deferred>
+        ensures put { MatchResult result
+            (λ k. IsEmptyAt self.old k × (self.new ≡ with_entry self.old k tt))
+            (λ back. IsFull self.old × (back ≡ job) × (self.new ≡ self.old)) }
+    {
+        let Ok(place) = self.numbers.claim(()) else {
+            return Err(job);
+        };
+        self.jobs[place as usize] = Some(job);
+        Ok(place)
+    }
+
+    /// Runs the job in a place, which is free then.
+    pub fn run(&mut self, place: u32)
+        requires { IsSome (entry_at self.old place) }
+        ensures { self.new ≡ without_entry self.old place }
+    {
+        self.numbers.release(place);
+        let Some(job) = self.jobs[place as usize].take() else {
+            unreachable!()
+        };
+        job.run();
+    }
+}
