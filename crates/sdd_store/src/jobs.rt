@@ -83,11 +83,13 @@ impl Jobs {
         Ok(place)
     }
 
-    /// Runs the job in a place, which is free then.
+    /// Runs the job in a place, if one waits there; then the place is free.
     pub fn run(&mut self, place: u32)
-        requires { IsSome (entry_at self.old place) }
         ensures { self.new ≡ without_entry self.old place }
     {
+        let Some(()) = self.numbers.get(place) else {
+            return;
+        };
         self.numbers.release(place);
         let Some(job) = self.jobs[place as usize].take() else {
             unreachable!()
