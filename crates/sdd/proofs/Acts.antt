@@ -15,7 +15,7 @@ use Rattle.sdd_core.specs.declared.refused.Refused.TheVariants.{GuardOpen, NoPla
 use Rattle.sdd_store.specs.Table.{IsEmptyAt}
 use Rattle.sdd_store.specs.Time as time
 use Rattle.sdd_store.specs.Time.{CanNest, IsCrowded, IsVacant, has_garbage, is_open}
-use Rattle.sdd_store.specs.Waiting.What.{Item}
+use Rattle.sdd_store.specs.declared.waiting.What.TheVariants.{Item}
 use Rattle.sdd_store.specs.declared.standing.Standing.TheVariants as standing
 use Rattle.sdd_slots.specs.Slots.{IsSharedBy}
 use Rattle.sdd_base.specs.declared.owned.Owned.{Owned}

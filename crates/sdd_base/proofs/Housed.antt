@@ -6,7 +6,7 @@ use Rattle.std.proofs.lemmas.List.{get_or_push, length-set, length-append, get_o
 use Rattle.std.proofs.lemmas.List.Sums.{sum_by-set, sum_by-append}
 use Rattle.std.proofs.lemmas.Bool.Decides.{nat_tests}
 use Rattle.sdd_store.specs.Waiting.{Waiting, having_seen}
-use Rattle.sdd_store.specs.Waiting.What.{Item}
+use Rattle.sdd_store.specs.declared.waiting.What.TheVariants.{Item, Job}
 use Rattle.sdd_store.specs.Time.{Time, with_place, nobody, newcomer, due_next, is_open, phase_at, rested, waiting_count, IsLive, IsVacant}
 use Rattle.sdd_store.specs.Time as time
 use Rattle.sdd_store.specs.Phases.{is_live}
@@ -22,7 +22,7 @@ use Rattle.sdd_store.specs.declared.standing.Pointer.{Pointer}
 use Rattle.sdd_slots.specs.Slots.{is_waiting}
 use Rattle.sdd_store.proofs.Adopting.{Scans, scans-if, scans-there, live-entry, same-or-not}
 use Rattle.sdd_base.specs.World.{World, standing_at, place_at}
-use Rattle.sdd_base.specs.Steps.{made_as, with_standing, with_value, dropped, owner_given, retired, cell_closed, all_reclaimed, changed}
+use Rattle.sdd_base.specs.Steps.{made_as, with_standing, with_value, dropped, owner_given, retired, cell_closed, deferred, all_reclaimed, changed}
 use Rattle.sdd_base.specs.Steps as steps
 use Rattle.sdd_base.specs.Holding.{Holding}
 use Rattle.sdd_base.specs.Whole.{IsAbreast, AreHoused, IsWhole}
@@ -154,6 +154,10 @@ module _ {T : Type 0} where
   pub Whole-cell_closed : (w : World T) (p c : ℕ) → IsLive w.time p → IsWhole w → IsWhole (cell_closed w p c)
   Whole-cell_closed w p c l i =
       with-places (whole.Items-cell_closed w p c l.0 (items i)) (housed-gives p (live-taken w.time p l) i.housed (Gives-cell_closed w p c l.0)).1
+
+  pub Whole-deferred : (w : World T) (p j : ℕ) → IsTaken w.time p → IsWhole w → IsWhole (deferred w p j)
+  Whole-deferred w p j l i =
+      with-places (whole.Items-deferred w p j l.there (items i)) (housed-keeps w.time p (time.awaiting (Job j) (place_at w p)) l refl i.housed)
 
   pub Whole-retires : (w : World T) (p k : ℕ) → IsTaken w.time p → is_out (standing_at w k) ≡ true → IsWhole w → IsWhole (retired w p k)
   Whole-retires w p k l out i =

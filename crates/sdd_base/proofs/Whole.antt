@@ -9,8 +9,9 @@ use Rattle.std.proofs.lemmas.List.Elements.{All-push, All-nil, All-weaker, filte
 use Rattle.std.specs.List.{list_all}
 use Rattle.std.proofs.lemmas.Bool.Decides.{nat_tests}
 use Rattle.sdd_store.proofs.Adopting.{IsAdditive, Adopts, Stays, adopts, scans-if, scans-there, same-or-not}
-use Rattle.sdd_store.specs.Waiting.{What, Waiting, anew, fresh, aged, left, due, older, is_due}
-use Rattle.sdd_store.specs.Waiting.What.{Item, Private, Job}
+use Rattle.sdd_store.specs.declared.waiting.What.{What}
+use Rattle.sdd_store.specs.Waiting.{Waiting, anew, fresh, aged, left, due, older, is_due}
+use Rattle.sdd_store.specs.declared.waiting.What.TheVariants.{Item, Job}
 use Rattle.sdd_store.specs.Bags.{Bags}
 use Rattle.sdd_store.specs.Time.{Time, with_place, nobody, newcomer, due_next, is_open, passes, last_count, stirred, counted_down, pace_of, rested, IsLive}
 use Rattle.sdd_store.specs.Time as time
@@ -25,7 +26,7 @@ use Rattle.sdd_store.specs.declared.standing.Cell.{Cell}
 use Rattle.sdd_store.specs.declared.standing.Pointer.{Pointer}
 use Rattle.sdd_slots.specs.Slots.{is_waiting, IsWaiting}
 use Rattle.sdd_base.specs.World.{World, standing_at, value_at, place_at}
-use Rattle.sdd_base.specs.Steps.{made_as, with_standing, retired, spilled, cell_closed, held_in, owner_given, given, given_all, freed, vacated, dropped_out, dropped, with_value, taken_out, waiting_value, slot_reclaimed, reclaimed, all_reclaimed, changed}
+use Rattle.sdd_base.specs.Steps.{made_as, with_standing, retired, deferred, spilled, cell_closed, held_in, owner_given, given, given_all, freed, vacated, dropped_out, dropped, with_value, taken_out, waiting_value, slot_reclaimed, reclaimed, all_reclaimed, changed}
 use Rattle.sdd_base.specs.Steps as steps
 use Rattle.sdd_base.specs.Holding.{Holding, owned, shared, atomic_owned, atomic_shared, atomic_raw}
 use Rattle.sdd_base.specs.Out.{is_out}
@@ -83,26 +84,26 @@ pub abreast-place : (t : Time) (count p : ℕ) (x : Participant) → p < length 
     (q : ℕ) → IsAbreast count (time.place_at (with_place t p x) q)
 abreast-place t count p x l a all q = abreast-at t count p q x l a all (same-or-not q p)
 
--- an item begins to wait
+-- an item or a job begins to wait
 stirred-bound : (d : ℕ) → d ≤ 128 → (b : Bool) → (d == 128) ≡ b → stirred d ≤ 127
 stirred-bound d h true e = rw e (omega arith)
 stirred-bound d h false e = let apart : d ≢ 128 = grind (arith, nat_tests, e) in rw e (omega arith)
 
-pub abreast-awaiting : (count k : ℕ) (x : Participant) → IsAbreast count x → IsAbreast count (time.awaiting (Item k) x)
-abreast-awaiting count k x a =
+pub abreast-awaiting : (count : ℕ) (what : What) (x : Participant) → IsAbreast count x → IsAbreast count (time.awaiting what x)
+abreast-awaiting count what x a =
     let low : stirred x.countdown ≤ 127 = stirred-bound x.countdown a.countdown (x.countdown == 128) refl in
     record {
       found = a.found;
       near = a.near;
-      young = All-push (λ (w : Waiting). w.seen ≤ 2) x.bags.waiting (fresh (Item k)) a.young (omega arith);
+      young = All-push (λ (w : Waiting). w.seen ≤ 2) x.bags.waiting (fresh what) a.young (omega arith);
       countdown = omega arith;
       quiet = λ e. absurd (omega (arith, e, low));
     }
 
-pub times-awaiting : (j k : ℕ) (x : Participant) → times_with j (time.awaiting (Item k) x) ≡ times_with j x + cond (k == j) 1 0
-times-awaiting j k x =
-    sum_by-append (λ (w : Waiting). cond (is_of_slot j w.what) 1 0) x.bags.waiting (fresh (Item k) ∷ [])
-    ∙ ap (λ n. times_with j x + n) (zero-add (cond (k == j) 1 0))
+pub times-awaiting : (j : ℕ) (what : What) (x : Participant) → times_with j (time.awaiting what x) ≡ times_with j x + cond (is_of_slot j what) 1 0
+times-awaiting j what x =
+    sum_by-append (λ (w : Waiting). cond (is_of_slot j w.what) 1 0) x.bags.waiting (fresh what ∷ [])
+    ∙ ap (λ n. times_with j x + n) (zero-add (cond (is_of_slot j what) 1 0))
 
 passes-young : (w : Waiting) → not (is_due w) ≡ true → w.seen ≤ 2
 passes-young w e = grind (arith, nat_tests, e)
@@ -327,7 +328,7 @@ module _ {T : Type 0} where
   -- an item that is out begins to wait
   retired-times : (w : World T) (p k j : ℕ) → p < length w.time.places → times_waiting (retired w p k) j ≡ times_waiting w j + cond (k == j) 1 0
   retired-times w p k j l =
-      omega (arith, times-place w.time p j (time.awaiting (Item k) (place_at w p)) l, times-awaiting j k (place_at w p))
+      omega (arith, times-place w.time p j (time.awaiting (Item k) (place_at w p)) l, times-awaiting j (Item k) (place_at w p))
 
   retired-once : (w : World T) (p k j : ℕ) (xs : List What) → p < length w.time.places → is_waiting (standing_at w k) ≡ false → IsWholeBut xs w →
       ((j ≡ k) × (standing_at (retired w p k) j ≡ Some Retired)) ⊎ ((j ≢ k) × (standing_at (retired w p k) j ≡ standing_at w j)) →
@@ -353,8 +354,19 @@ module _ {T : Type 0} where
             (set-standing w.standings k j (Some Retired) inside (same-or-not j k));
         abreast =
             abreast-place w.time w.time.count p (time.awaiting (Item k) (place_at w p)) l
-            (abreast-awaiting w.time.count k (place_at w p) (i.abreast p)) i.abreast;
+            (abreast-awaiting w.time.count (Item k) (place_at w p) (i.abreast p)) i.abreast;
         counted = rw same i.counted;
+      }
+
+  -- a job begins to wait
+  pub Items-deferred : (w : World T) (p j : ℕ) → p < length w.time.places → HasItems w → HasItems (deferred w p j)
+  Items-deferred w p j l i =
+      let x : Participant = time.awaiting (Job j) (place_at w p) in
+      record {
+        filled = i.filled;
+        once = λ k. omega (arith, i.once k, times-place w.time p k x l, times-awaiting k (Job j) (place_at w p));
+        abreast = abreast-place w.time w.time.count p x l (abreast-awaiting w.time.count (Job j) (place_at w p) (i.abreast p)) i.abreast;
+        counted = i.counted;
       }
 
   -- an item that is shared has one owner more or fewer
@@ -509,7 +521,6 @@ module _ {T : Type 0} where
     Whole-reclaimed : (w : World T) (p : ℕ) (x : What) (xs : List What) → p < length w.time.places → IsWholeBut (x ∷ xs) w →
         IsWholeBut xs (reclaimed holds w p x)
     Whole-reclaimed w p (Item k) xs l i = Whole-standing w p k (Item k) xs l (λ j. refl) (standing_at w k) refl i
-    Whole-reclaimed w p (Private k c) xs l i = Whole-standing w p k (Private k c) xs l (λ j. refl) (standing_at w k) refl i
     Whole-reclaimed w p (Job n) xs l i =
         record { filled = i.filled; once = λ k. omega (arith, i.once k, count-cons (is_of_slot k) (Job n) xs); abreast = i.abreast; counted = i.counted }
 

@@ -1,7 +1,8 @@
 -- What is always true of a world
 use Rattle.std.specs.Prelude.{ℕ, ◌+◌, ◌^◌, ◌<◌, ◌≤◌, ◌≡◌, ◌==◌, Bool, true, false, IsTrue, [], length, map, None, Some, is_some, All, sum_by, count_by}
-use Rattle.sdd_store.specs.Waiting.{What, Waiting}
-use Rattle.sdd_store.specs.Waiting.What.{Item, Private, Job}
+use Rattle.sdd_store.specs.declared.waiting.What.{What}
+use Rattle.sdd_store.specs.Waiting.{Waiting}
+use Rattle.sdd_store.specs.declared.waiting.What.TheVariants.{Item, Job}
 use Rattle.sdd_store.specs.Time.{Time, is_open}
 use Rattle.sdd_store.specs.Time as time
 use Rattle.sdd_store.specs.declared.phases.Phase.TheVariants.{Live}
@@ -13,7 +14,6 @@ use Rattle.sdd_base.specs.World.{World, place_at, standing_at}
 -- what waits is the slot's item
 abbrev pub is_of_slot : ℕ → What → Bool
 is_of_slot k (Item j) = j == k
-is_of_slot k (Private j c) = j == k
 is_of_slot k (Job j) = false
 
 -- how often the slot's item stands among what waits with a participant

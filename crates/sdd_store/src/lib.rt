@@ -8,6 +8,7 @@ pub mod standing;
 pub mod table;
 pub mod tally;
 pub mod time;
+pub mod waiting;
 
 pub use bags::Bags;
 pub use jobs::{Deferred, Job, Jobs};
@@ -16,3 +17,4 @@ pub use standing::{Cell, Pointer, Standing};
 pub use table::Table;
 pub use tally::Tally;
 pub use time::{Pace, Participant, Time};
+pub use waiting::What;

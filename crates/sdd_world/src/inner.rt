@@ -1,6 +1,5 @@
 //! What a script, or a test, needs of a world beyond the public surface.
 ghost use Rattle.std.specs.Prelude.{◌≡◌, ◌↔◌, ◌+◌, ◌^◌, ◌<◌, ◌≤◌, ℕ, IfOk, IsSome, IsTrue, MatchResult, Some, map};
-ghost use Rattle.sdd_store.specs.Waiting.What.{Item};
 ghost use Rattle.sdd_store.specs.Time.{is_open, phase_at};
 ghost use Rattle.sdd_base.specs.World.{IsPlaceOf, place_at, standing_at, value_at};
 ghost use Rattle.sdd_base.specs.Guard.{reader_of};
@@ -23,13 +22,13 @@ use sdd_base::inner::{
 };
 use sdd_base::{AtomicOwned, AtomicShared, Guard, Item, Owned, Ptr, Shared};
 use sdd_core::Refused;
-use sdd_store::Standing;
+use sdd_store::{Standing, What};
 use sdd_token::{Kind, Shares};
 
-/// The slots whose items the next opening of a participant reclaims.
-pub fn reclaims_next<'w, T: Item<T>>(world: &'w World<T>, place: &Place) -> &'w [u32]
+/// The items that the next opening of a participant reclaims, and the jobs that it runs.
+pub fn reclaims_next<'w, T: Item<T>>(world: &'w World<T>, place: &Place) -> &'w [What]
     requires { IsPlaceOf world.now (index_of place.now) }
-    ensures { map Item result.now ≡ reclaims world.now (index_of place.now) }
+    ensures { result.now ≡ reclaims world.now (index_of place.now) }
 {
     world.reclaims(place.index())
 }

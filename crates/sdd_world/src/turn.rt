@@ -7,7 +7,7 @@ ghost use Rattle.sdd_base.specs.Ptr.{shown_by};
 use crate::world::{Place, World};
 use sdd_base::{Guard, Guards, Item, Look, Ptr, RawPtr, Shows, Space, inner};
 use sdd_core::{Refused, Tag};
-use sdd_store::{Cell, Pointer};
+use sdd_store::{Cell, Deferred, Pointer};
 use sdd_token::{Kind, RawRight, Right};
 
 /// One participant's turn at a world: the space in which it makes its calls.
@@ -190,6 +190,14 @@ impl<T: Item<T>> Space<T> for Turn<'_, T> {
     fn upgrade(&mut self, slot: u32) -> Result<Option<Right>, Refused> {
         let world = &mut *self.world;
         world.core.upgrade(slot)
+    }
+
+    fn defer(&mut self, job: Deferred) -> Result<(), (Deferred, Refused)> {
+        let world = &mut *self.world;
+        match world.core.defer(self.place, job) {
+            Ok(()) => Ok(()),
+            Err(job) => Err((job, Refused::NoJob)),
+        }
     }
 
     fn let_go(&mut self, right: Right, kind: Kind) -> bool {

@@ -1,6 +1,7 @@
 use Rattle.std.proofs.Common.{◌≡◌, ap, sym, ◌∙◌, arith, sum_by}
 use Rattle.std.proofs.lemmas.Grind.{common_steps}
 use Rattle.std.proofs.lemmas.List.Sums.{count_by-le-length}
+use Rattle.std.specs.Prelude.{is_none}
 use Rattle.sdd_store.specs.Time.{waiting_count}
 use Rattle.sdd_base.specs.World.{is_loose}
 use Rattle.sdd_world.proofs.Lending.{lent-blank}
@@ -10,7 +11,7 @@ pub invariant_of-result : goal.invariant_of-result
 invariant_of-result g c =
     let none : sum_by waiting_count c.args.time.places ≡ 0 = ap (λ ps. sum_by waiting_count ps) c.requires.idle in
     rw (c.badge.ensures.same) (record {
-      counted = omega (arith, none, count_by-le-length is_loose c.in_ok-slots.slots.standings);
+      counted = omega (arith, none, count_by-le-length is_loose c.in_ok-slots.slots.standings, count_by-le-length is_none c.in_ok-jobs.jobs);
       reserved = grind (arith, common_steps);
       held = grind (arith, common_steps);
       homes = grind (arith, common_steps);
