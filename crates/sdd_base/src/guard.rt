@@ -6,7 +6,6 @@ use crate::space::{Guards, Space};
 use sdd_core::inner::epoch_of_count;
 use sdd_core::{Epoch, Refused};
 use sdd_places::{Stage, Tenure};
-use sdd_store::Deferred;
 
 /// An open guard: its participant has published a count, and a scan gives up while this count is behind.
 ///
@@ -143,9 +142,9 @@ impl Guard {
     /// `NoJob` where as many jobs wait as the limits say: the job comes back, and hasn't run.
     pub fn defer_execute<T: Item<T>, S: Space<T>>(
         &self,
-        job: Deferred,
+        job: S::Job,
         s: &mut S,
-    ) -> Result<(), (Deferred, Refused)>
+    ) -> Result<(), (S::Job, Refused)>
         requires seated { IsSeated (S.seat s.old) }
         requires reader { reader_of self.now ≡ (S.seat s.old).reader }
         ensures seat { S.seat s.new ≡ S.seat s.old }

@@ -28,7 +28,7 @@ use crate::look::{Look, Shows};
 use crate::ptr::Ptr;
 use crate::raw_ptr::RawPtr;
 use sdd_core::{Refused, Tag};
-use sdd_store::{Cell, Deferred, Pointer, Standing};
+use sdd_store::{Cell, Job, Pointer, Standing};
 use sdd_token::{Kind, RawRight, Right};
 
 /// The guards of one participant of a world or domain.
@@ -126,6 +126,9 @@ pub trait Space<T: Item<T>>: Look<T> + Guards<T> {
     /// The same truth, for clauses.
     ghost is_alone: { Bool };
 
+    /// What can be deferred.
+    type Job: Job;
+
     /// Puts a value into a free slot, for an owner of this kind.
     fn make(&mut self, value: T, kind: Kind) -> Result<Right, (T, Refused)>
         requires seated { IsSeated (Self.seat self.old) }
@@ -209,7 +212,7 @@ pub trait Space<T: Item<T>>: Look<T> + Guards<T> {
         ensures keeps { KeepsShown (Self.shows self.old) (Self.shows self.new) };
 
     /// Puts a job into a free place of the table of jobs. It waits with the participant, as an item does that is retired.
-    fn defer(&mut self, job: Deferred) -> Result<(), (Deferred, Refused)>
+    fn defer(&mut self, job: Self::Job) -> Result<(), (Self::Job, Refused)>
         requires seated { IsSeated (Self.seat self.old) }
         ensures seat { Self.seat self.new ≡ Self.seat self.old }
         ensures own { MatchResult result

@@ -5,41 +5,39 @@ use crate::table::Table;
 use std::alloc::{AllocError, Global};
 use std::marker::Model;
 
-/// A job that can be deferred.
-///
-/// It runs once. Whoever writes one says in `run` what it does; a closure can't be one, since no contract of a table can say of many closures that each
-/// may be called.
+/// A job that can be deferred. It runs once.
 pub trait Job: Drop {
     fn run(&mut self);
 }
 
-/// What waits in a place of the table: a caller's job, or one that does nothing.
+/// What a caller defers: a job in a box, or one that does nothing.
+///
+/// A closure can't be in the box, since no contract of a table can say of many closures that each may be called.
 #[derive(Drop)]
 pub enum Deferred {
     Boxed(Box<dyn Job + Send>),
     Empty,
 }
 
-/// A table of a fixed number of places for jobs, each free or with a job that waits.
-///
-/// A free place is found at once. Memory is taken when the table is made, and never again: a box is the caller's.
-#[derive(Drop)]
-pub struct Jobs {
-    numbers: Table<()>,
-    jobs: Vec<Option<Deferred>>,
-}
-
-impl Deferred {
-    /// Runs the job, which is gone then.
-    fn run(self) {
+impl Job for Deferred {
+    fn run(&mut self) {
         match self {
-            Deferred::Boxed(mut job) => job.run(),
+            Deferred::Boxed(job) => job.run(),
             Deferred::Empty => {}
         }
     }
 }
 
-impl Model for Jobs {
+/// A table of a fixed number of places for jobs, each free or with a job that waits.
+///
+/// A free place is found at once. Memory is taken when the table is made, and never again: a box is the caller's.
+#[derive(Drop)]
+pub struct Jobs<J: Job> {
+    numbers: Table<()>,
+    jobs: Vec<Option<J>>,
+}
+
+impl<J: Job> Model for Jobs<J> {
     ghost use Rattle.sdd_store.specs.Table.{Entries};
     ghost use Rattle.sdd_store.specs.Jobs.{AreBeside};
 
@@ -50,9 +48,9 @@ impl Model for Jobs {
     ghost invariant = { λ t. AreBeside t.numbers t.jobs.items };
 }
 
-impl Jobs {
+impl<J: Job> Jobs<J> {
     /// A table of that many places, all free.
-    pub fn new(alloc: Global, size: u32) -> Result<Jobs, AllocError>
+    pub fn new(alloc: Global, size: u32) -> Result<Jobs<J>, AllocError>
         ensures { IfOk result (λ t. t ≡ replicate size None) }
     {
         let numbers = Table::new(alloc, size)?;
@@ -71,7 +69,7 @@ impl Jobs {
     }
 
     /// Puts a job into some free place, and tells which; where none is free it comes back, and hasn't run.
-    pub fn put(&mut self, job: Deferred) -> Result<u32, Deferred>
+    pub fn put(&mut self, job: J) -> Result<u32, J>
         ensures put { MatchResult result
             (λ k. IsEmptyAt self.old k × (self.new ≡ with_entry self.old k tt))
             (λ back. IsFull self.old × (back ≡ job) × (self.new ≡ self.old)) }
@@ -91,7 +89,7 @@ impl Jobs {
             return;
         };
         self.numbers.release(place);
-        let Some(job) = self.jobs[place as usize].take() else {
+        let Some(mut job) = self.jobs[place as usize].take() else {
             unreachable!()
         };
         job.run();

@@ -31,22 +31,22 @@ use sdd_base::{AtomicOwned, AtomicRaw, AtomicShared, Giver, Item, Owned, Ptr, Sh
 use sdd_core::{Refused, Tag};
 use sdd_places::{Stage, Tenure, Tenures};
 use sdd_slots::{Cells, MOST_OWNERS, Slots};
-use sdd_store::{Cell, Deferred, Jobs, Pace, Pointer, Standing, Tally, Time, What};
+use sdd_store::{Cell, Job, Jobs, Pace, Pointer, Standing, Tally, Time, What};
 use sdd_token::{Kind, RawRight, Right, Shares};
 use std::alloc::{AllocError, Global};
 use std::marker::Model;
 
 /// The items and cells of a world, and those who wait with them.
-pub struct Core<T: Item<T>> {
+pub struct Core<T: Item<T>, J: Job> {
     time: Time,
     slots: Slots<T>,
     cells: Cells,
-    jobs: Jobs,
+    jobs: Jobs<J>,
     tenures: Tenures,
     tally: Tally,
 }
 
-impl<T: Item<T>> Model for Core<T> {
+impl<T: Item<T>, J: Job> Model for Core<T, J> {
     ghost use Rattle.sdd_world.specs.Core.{Core, IsSound};
 
     ghost Value = { Core T };
@@ -68,7 +68,7 @@ impl<T: Item<T>> Model for Core<T> {
     ghost invariant = { λ c. IsSound T.holds c.time c.slots c.cells c.jobs c.tenures };
 }
 
-impl<T: Item<T>> Core<T> {
+impl<T: Item<T>, J: Job> Core<T, J> {
     /// No slot is free.
     pub fn is_full(&self) -> bool
         ensures { IsTrue result ↔ IsFull self.now.world.standings }
@@ -194,7 +194,7 @@ impl<T: Item<T>> Core<T> {
     }
 
     /// A job waits with a place, if a place of the table of jobs is free; else it comes back.
-    pub fn defer(&mut self, place: usize, job: Deferred) -> Result<(), Deferred>
+    pub fn defer(&mut self, place: usize, job: J) -> Result<(), J>
         requires place { IsPlaceOf self.old.world place }
         ensures deferred { MatchResult result
             (λ _. (number : ℕ) × IsEmptyAt self.old.world.jobs number × (self.new ≡ record self.old { world = deferred self.old.world place number }))
@@ -494,12 +494,12 @@ impl<T: Item<T>> Core<T> {
 }
 
 /// Retires for a place what it is given.
-struct Retirement<'c, T: Item<T>> {
-    core: &'c mut Core<T>,
+struct Retirement<'c, T: Item<T>, J: Job> {
+    core: &'c mut Core<T, J>,
     place: usize,
 }
 
-impl<T: Item<T>> Drop for Retirement<'_, T> {
+impl<T: Item<T>, J: Job> Drop for Retirement<'_, T, J> {
     fn drop(self)
         ensures { self.exit.0.now ≡ self.entry.core.now }
     {
@@ -507,7 +507,7 @@ impl<T: Item<T>> Drop for Retirement<'_, T> {
     }
 }
 
-impl<T: Item<T>> Giver<T> for Retirement<'_, T> {
+impl<T: Item<T>, J: Job> Giver<T> for Retirement<'_, T, J> {
     ghost world = { λ r. r.core.now.world };
 
     ghost seat = { λ r. seat_for r.core.now.world r.place r.core.ghost_name };
@@ -587,7 +587,7 @@ impl<T: Item<T>> Giver<T> for Retirement<'_, T> {
     }
 }
 
-impl<T: Item<T>> Core<T> {
+impl<T: Item<T>, J: Job> Core<T, J> {
     /// A value that was taken out of its slot gives up to a place what it holds.
     fn give_up(&mut self, place: usize, value: T)
         requires place { HasPlace self.old.world place }
@@ -932,7 +932,7 @@ impl<T: Item<T>> Core<T> {
         slots: u32,
         cells: u32,
         jobs: u32,
-    ) -> Result<Core<T>, AllocError>
+    ) -> Result<Core<T, J>, AllocError>
         requires idle { time.places ≡ [] }
         requires room { time.room ≡ slots + jobs }
         requires participants { time.participants ≡ participants }

@@ -18,7 +18,7 @@ mod laws;
 use crate::inside::Core;
 use sdd_base::{Guard, Item, Limits, inner};
 use sdd_core::Refused;
-use sdd_store::{Standing, Tally, Time, What};
+use sdd_store::{Deferred, Job, Standing, Tally, Time, What};
 use sdd_token::{Kind, Right};
 use std::alloc::Global;
 use std::marker::Model;
@@ -26,13 +26,13 @@ use std::marker::Model;
 /// All that the participants of one thread share: items, cells, and the epoch.
 ///
 /// A world must be spent by `close`.
-pub struct World<T: Item<T>> {
-    pub(crate) core: Core<T>,
+pub struct World<T: Item<T>, J: Job = Deferred> {
+    pub(crate) core: Core<T, J>,
     pub(crate) spare: Vec<What>,
     alloc: Global,
 }
 
-impl<T: Item<T>> Model for World<T> {
+impl<T: Item<T>, J: Job> Model for World<T, J> {
     ghost use Rattle.std.specs.Prelude.{◌≡◌, ◌≤◌, [], length, vec_capacity};
     ghost use Rattle.sdd_base.specs.World.{World, most};
     ghost use Rattle.sdd_base.specs.Whole.{IsWhole};
@@ -62,13 +62,13 @@ impl Place {
     }
 }
 
-impl<T: Item<T>> World<T> {
+impl<T: Item<T>, J: Job> World<T, J> {
     ghost use Rattle.sdd_world.specs.Place.{index_of};
 
     /// A world that starts at epoch 0.
     ///
     /// `BadLimits` where a limit is out of its range; `NoMemory` where the memory for all items and cells was refused.
-    pub fn new(alloc: Global, limits: Limits) -> Result<World<T>, Refused>
+    pub fn new(alloc: Global, limits: Limits) -> Result<World<T, J>, Refused>
         ensures new { IfOk result (IsNew limits 0) }
         ensures spent { IfOk result (λ world. ¬ (IsGuarded world) × (out world ≡ 0)) }
         ensures limits { MatchResult result (λ _. AreInRange limits)
@@ -80,7 +80,7 @@ impl<T: Item<T>> World<T> {
     /// A world that starts at a count of epochs, of which epochs show the last six bits.
     ///
     /// Refusals are those of `new`.
-    pub fn starting_at(alloc: Global, limits: Limits, count: u64) -> Result<World<T>, Refused>
+    pub fn starting_at(alloc: Global, limits: Limits, count: u64) -> Result<World<T, J>, Refused>
         ensures new { IfOk result (IsNew limits count) }
         ensures spent { IfOk result (λ world. ¬ (IsGuarded world) × (out world ≡ 0)) }
         ensures limits { MatchResult result (λ _. AreInRange limits)

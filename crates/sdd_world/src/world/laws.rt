@@ -9,8 +9,9 @@ ghost use Rattle.sdd_base.specs.Under.{KeepsFreshUnderGuards, KeepsUnderGuards};
 
 use super::World;
 use sdd_base::Item;
+use sdd_store::Job;
 
-impl<T: Item<T>> World<T> {
+impl<T: Item<T>, J: Job> World<T, J> {
     /// What the parts of a world keep true of each other: a value where a slot is taken, each item that waits once, each participant abreast of the
     /// count, each item accounted for.
     pub fn is_whole(&self)
