@@ -286,13 +286,20 @@ pub FreesOne-slot_reclaimed : {T : Type 0} (holds : T → List Holding) (w : Wor
     FreesOne w (slot_reclaimed holds w p k)
 FreesOne-slot_reclaimed holds w p k l = FreesOne-standing holds w p k l (standing_at w k) refl
 
+-- one place of a job more is free at most, where one is freed
+pub one-freed : (jobs : Entries (Unit {0})) (j : ℕ) → count_by is_none (without_entry jobs j) ≤ count_by is_none jobs + 1
+one-freed jobs j = by (nat_lt j (length jobs)) refl where
+  by : (b : Bool) → nat_lt j (length jobs) ≡ b → count_by is_none (without_entry jobs j) ≤ count_by is_none jobs + 1
+  by true e =
+      let inside : j < length jobs = grind (arith, nat_tests, e) in
+      let m = sum_by-set free_weight jobs j None None inside in omega (arith, m)
+  by false e = rw (set_past jobs j None (grind (arith, nat_tests, e))) (omega arith)
+
 -- a job runs
-ran-free : {T : Type 0} (w : World T) (j : ℕ) → (b : Bool) → nat_lt j (length w.jobs) ≡ b → FreesOne w (ran w j)
-ran-free w j true e =
-    let l : j < length w.jobs = grind (arith, nat_tests, e) in
-    let m = sum_by-set free_weight w.jobs j None None l in
+ran-free : {T : Type 0} (w : World T) (j : ℕ) → FreesOne w (ran w j)
+ran-free w j =
     record {
-      weight_grows = omega (arith, m);
+      weight_grows = omega (arith, one-freed w.jobs j);
       places_same = refl;
       phases_same = refl;
       slots_same = refl;
@@ -301,12 +308,11 @@ ran-free w j true e =
       nesting_same = refl;
       room_same = refl;
     }
-ran-free w j false e = rw (set_past w.jobs j None (grind (arith, nat_tests, e))) (FreesOne-refl w)
 
 pub FreesOne-reclaimed : {T : Type 0} (holds : T → List Holding) (w : World T) (p : ℕ) (x : What) → p < length w.time.places →
     FreesOne w (reclaimed holds w p x)
 FreesOne-reclaimed holds w p (Item k) l = FreesOne-slot_reclaimed holds w p k l
-FreesOne-reclaimed holds w p (Job j) l = ran-free w j (nat_lt j (length w.jobs)) refl
+FreesOne-reclaimed holds w p (Job j) l = ran-free w j
 
 -- to reclaim the rest is to reclaim the next one, and then the rest
 pub all_reclaimed-drop : {T : Type 0} (holds : T → List Holding) (w : World T) (p : ℕ) (xs : List What) (i : ℕ) (d : What) → i < length xs →

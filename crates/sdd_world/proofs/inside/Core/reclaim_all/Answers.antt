@@ -1,12 +1,13 @@
 use Rattle.std.proofs.Common.{ℕ, ◌+◌, get_or, arith, sym, ◌∙◌, length-drop}
 use Rattle.sdd_store.specs.declared.waiting.What.{What}
+use Rattle.sdd_store.specs.declared.waiting.What.TheVariants.{Item}
 use Rattle.sdd_base.proofs.Weights.{FreesOne-reclaimed, FreesOne-sizes, KeepsSizes-trans, all_reclaimed-drop}
 use Rattle.sdd_world.proofs.inside.Core.reclaim_all.Goals as goal
 
 pub loop-what-preserved : goal.loop-what-preserved
 loop-what-preserved g c =
     let i : ℕ = c.loop-what.what-index in
-    let what : What = get_or c.args.due.now i c.loop-what.what in
+    let what : What = get_or c.args.due.now i (Item 0) in
     let step = FreesOne-reclaimed g.T.Item.holds c.loop-what.self.world c.args.place what c.loop-what.invariant.place in
     let here = length-drop i c.args.due.now in
     let after = length-drop (i + 1) c.args.due.now in
