@@ -51,7 +51,7 @@ first-count : (s : Standing) → IsFirst s → owner_count (Some s) ≡ 1
 first-count s (inl e) = rw e refl
 first-count s (inr e) = rw e refl
 
-blank-at : {E : Type 0} (n k : ℕ) → slice_index_or (replicate {A = Option E} n None) k None ≡ None
+pub blank-at : {E : Type 0} (n k : ℕ) → slice_index_or (replicate {A = Option E} n None) k None ≡ None
 blank-at zero k = refl
 blank-at (suc n) zero = refl
 blank-at (suc n) (suc k) = blank-at n k

@@ -43,7 +43,7 @@ module _ {T : Type 0} (holds : T → List Holding) where
   pub sound-edited : (t : Time) (s : Slots T) (c : Cells) (jobs : Entries (Unit {0})) (r : Tenures) (k : ℕ) (v : T) → IsSound holds t s c jobs r →
       AreOf (record { slots = s.home; cells = c.home; readers = r.home }) (holds v) →
       IsSound holds t (record s { values = slice_set s.values k (Some v) }) c jobs r
-  sound-edited t s c r k v i of = record {
+  sound-edited t s c jobs r k v i of = record {
     counted = i.counted;
     reserved = i.reserved;
     held = i.held;

@@ -18,7 +18,7 @@ impl<T: Item<T>, J: Job> World<T, J> {
     /// has been reclaimed. With either the world comes back.
     pub fn close(mut self) -> Result<Tally, (World<T, J>, Refused)>
         ensures closed { MatchResult result
-            (λ tally. ¬ (IsGuarded self) × ((end : World T) × Closes T.holds self end × NothingIsOut end × (tally ≡ end.tally)))
+            (λ tally. ¬ (IsGuarded self) × ((end : World T J) × Closes T.holds self end × NothingIsOut end × (tally ≡ end.tally)))
             (λ e. ((e.1 ≡ Refused.GuardOpen) × IsGuarded self × (e.0 ≡ self)) ⊎
             ((e.1 ≡ Refused.OwnerOut) × ¬ (IsGuarded self) × Closes T.holds self e.0 × ¬ (NothingIsOut e.0))) }
         ensures exactly { IsOk result ↔ (¬ (IsGuarded self) × AllGo T.holds self) }

@@ -22,7 +22,7 @@ impl<T: Item<T>, J: Job> World<T, J> {
 
     /// What each call puts out of the world's hands, and what it takes back.
     pub fn counts_what_is_out(&self)
-        ensures { (w : World T) → OutLaws T.holds w }
+        ensures { (w : World T J) → OutLaws T.holds w }
     {}
 
     /// After how many openings of its holder an item that waits is reclaimed at latest.

@@ -9,7 +9,6 @@ use Rattle.sdd_base.specs.World.{World, IsPlaceOf, place_at}
 use Rattle.sdd_base.specs.Whole.{IsWhole}
 use Rattle.sdd_base.specs.Steps.{deferred}
 use Rattle.sdd_base.specs.Calls.Calls.{defers}
-use Rattle.sdd_base.proofs.Housed.{Whole-deferred, live-taken}
 use Rattle.sdd_world.specs.Lending.{AreLentOf}
 use Rattle.sdd_world.proofs.Lending.{lent-call, guards-placed, readers-placed}
 use Rattle.sdd_world.proofs.inside.Core.defer.Goals as goal
@@ -20,3 +19,9 @@ lent-after holds w l p j live free i k =
     let x : Participant = time.awaiting (Job j) (place_at w p) in
     lent-call holds w (deferred w p j) l (defers w p j live free) i
     (λ h. let r = readers-placed w p x h in record { places = r.places; nesting = r.nesting }) (guards-placed w p x live.0 refl) k
+
+pub returns-clause-lent : goal.returns-clause-lent
+returns-clause-lent g c =
+    let put = c.in_ok-number.ensures.put in
+    rw (← c.self.view_is, put.1, c.wait.ensures)
+    (lent-after g.T.Item.holds _ _ c.args.place c.in_ok-number.number (rw (← c.self.view_is) at c.requires.place) put.0)

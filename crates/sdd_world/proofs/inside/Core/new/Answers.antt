@@ -1,4 +1,5 @@
-use Rattle.std.proofs.Common.{◌≡◌, ap, sym, ◌∙◌, arith, sum_by}
+use Rattle.std.proofs.Common.{◌≡◌, ap, sym, ◌∙◌, arith, sum_by, length, None}
+use Rattle.std.proofs.lemmas.List.{length-replicate}
 use Rattle.std.proofs.lemmas.Grind.{common_steps}
 use Rattle.std.proofs.lemmas.List.Sums.{count_by-le-length}
 use Rattle.std.specs.Prelude.{is_none}
@@ -12,7 +13,12 @@ invariant_of-result g c =
     let none : sum_by waiting_count c.args.time.places ≡ 0 = ap (λ ps. sum_by waiting_count ps) c.requires.idle in
     rw (c.badge.ensures.same) (record {
       counted = omega (arith, none, count_by-le-length is_loose c.in_ok-slots.slots.standings, count_by-le-length is_none c.in_ok-jobs.jobs);
-      reserved = grind (arith, common_steps);
+      reserved = omega (
+        arith,
+        c.requires.room,
+        ap length c.in_ok-slots.ensures.standings ∙ length-replicate c.args.slots None,
+        ap length c.in_ok-jobs.ensures ∙ length-replicate c.args.jobs None,
+      );
       held = grind (arith, common_steps);
       homes = grind (arith, common_steps);
       participants = grind (arith, common_steps);
