@@ -5,6 +5,7 @@ use Rattle.std.proofs.lemmas.List.Sums.{count_by-le-length}
 use Rattle.std.specs.Prelude.{is_none}
 use Rattle.sdd_store.specs.Time.{waiting_count}
 use Rattle.sdd_base.specs.World.{is_loose}
+use Rattle.sdd_base.proofs.Accounts.{blank-at}
 use Rattle.sdd_world.proofs.Lending.{lent-blank}
 use Rattle.sdd_world.proofs.inside.Core.new.Goals as goal
 
@@ -20,7 +21,7 @@ invariant_of-result g c =
         ap length c.in_ok-jobs.ensures ∙ length-replicate c.args.jobs None,
       );
       held = grind (arith, common_steps);
-      homes = grind (arith, common_steps);
+      homes = λ k. rw (c.in_ok-slots.ensures.values, blank-at c.args.slots k) tt;
       participants = grind (arith, common_steps);
       tenures = grind (arith, common_steps);
       readers = grind (arith, common_steps);
