@@ -6,6 +6,7 @@ pub mod player;
 pub mod runner;
 pub mod scene;
 mod stage;
+mod steps;
 
 pub use player::play;
 pub use runner::run;

@@ -5,21 +5,23 @@ ghost use Rattle.std.specs.Prelude.{◌≡◌, ◌<◌, ℕ, IfSome, IsTrue, ◌
 ghost use Rattle.sdd_core.specs.declared.tag.Tag.TheVariants.{None as no_tag};
 ghost use Rattle.sdd_store.specs.Table.{IsEmptyAt, IsFull, entry_at};
 ghost use Rattle.sdd_store.specs.declared.standing.Cell.{Cell};
-ghost use Rattle.sdd_base.specs.Guard.{reader_of};
-ghost use Rattle.sdd_base.specs.Holding.{IsOf};
+ghost use Rattle.sdd_base.specs.Guard.{Reader, reader_of};
+ghost use Rattle.sdd_base.specs.Holding.{Home, IsOf};
 ghost use Rattle.sdd_base.specs.RawPtr.{tag_of as tag_held};
 ghost use Rattle.sdd_base.specs.Seat.{reader_at};
 ghost use Rattle.sdd_base.specs.Steps.{cell_closed, held_in, with_cell};
 ghost use Rattle.sdd_base.specs.World.{World, IsPlaceOf};
 ghost use Rattle.sdd_world.specs.Place.{index_of};
+ghost use Rattle.sdd_desk.specs.declared.val.Val.{Val};
 ghost use Rattle.sdd_desk.specs.Desk.{slot_of};
 ghost use Rattle.sdd.specs.Stage.{cell_holding, cell_number, filling_holding, filling_kind, holding_around, making_cell, dated_if_waiting};
 
 use super::Stage;
 use super::guards::under;
 use crate::script::holding::{ACell, Filling, fits, is_waiting, take_filling};
+use crate::script::steps::{Step, step_at};
 use sdd_base::inner::{slot_of_owner, slot_of_ptr, slot_of_shared};
-use sdd_base::{AtomicOwned, AtomicShared, Guard, RawPtr};
+use sdd_base::{AtomicOwned, AtomicShared, Guard, RawPtr, Space};
 use sdd_core::{Refused, Tag};
 use sdd_desk::{Ownership, Val};
 use sdd_lines::{Action, Call, CellName, GuardName, ItemName, OwnerName, PlaceName, Reply};
@@ -120,6 +122,42 @@ impl Stage {
 }
 
 /// A new cell, filled with this.
+struct MakesCell {
+    filling: Filling,
+}
+
+impl Step for MakesCell {
+    type Out = ACell;
+
+    ghost asks = { λ step home _ world. ¬ (IsFull world.cells) × IfSome (filling_holding step.filling) (IsOf home) };
+
+    ghost does = { λ step home _ before made after. (k : ℕ) × (cell_holding made ≡ holding_around (filling_kind step.filling) k home.cells) × IsEmptyAt before.cells k
+        × (after ≡ with_cell before k (record { held = slot_of (filling_holding step.filling); tag = no_tag })) };
+
+    fn done<S: Space<Val>>(self, s: &mut S) -> ACell {
+        let MakesCell { filling } = self;
+        match filling {
+            Filling::Sole(None) => match AtomicOwned::null(s) {
+                Ok(cell) => ACell::Sole(cell),
+                Err(_) => unreachable!(),
+            },
+            Filling::Sole(Some(owner)) => match AtomicOwned::from(owner, s) {
+                Ok(cell) => ACell::Sole(cell),
+                Err(_) => unreachable!(),
+            },
+            Filling::Share(None) => match AtomicShared::null(s) {
+                Ok(cell) => ACell::Share(cell),
+                Err(_) => unreachable!(),
+            },
+            Filling::Share(Some(owner)) => match AtomicShared::from(owner, s) {
+                Ok(cell) => ACell::Share(cell),
+                Err(_) => unreachable!(),
+            },
+        }
+    }
+}
+
+/// A new cell, filled with this.
 fn cell_around(world: &mut World<Val>, place: &Place, filling: Filling) -> ACell
     requires place { IsPlaceOf world.old (index_of place.now) }
     requires cell { ¬ (IsFull world.old.cells) }
@@ -127,24 +165,32 @@ fn cell_around(world: &mut World<Val>, place: &Place, filling: Filling) -> ACell
     ensures made { (k : ℕ) × (cell_holding result ≡ holding_around (filling_kind filling) k world.old.home.cells) × IsEmptyAt world.old.cells k
         × (world.new ≡ with_cell world.old k (record { held = slot_of (filling_holding filling); tag = no_tag })) }
 {
-    let mut turn = world.at(place);
-    match filling {
-        Filling::Sole(None) => match AtomicOwned::null(&mut turn) {
-            Ok(cell) => ACell::Sole(cell),
-            Err(_) => unreachable!(),
-        },
-        Filling::Sole(Some(owner)) => match AtomicOwned::from(owner, &mut turn) {
-            Ok(cell) => ACell::Sole(cell),
-            Err(_) => unreachable!(),
-        },
-        Filling::Share(None) => match AtomicShared::null(&mut turn) {
-            Ok(cell) => ACell::Share(cell),
-            Err(_) => unreachable!(),
-        },
-        Filling::Share(Some(owner)) => match AtomicShared::from(owner, &mut turn) {
-            Ok(cell) => ACell::Share(cell),
-            Err(_) => unreachable!(),
-        },
+    step_at(world, place, MakesCell { filling })
+}
+
+/// What a cell holds, and its tag, as a pointer shows them.
+struct LoadsCell<'a> {
+    cell: &'a ACell,
+    guard: &'a Guard,
+}
+
+impl Step for LoadsCell<'_> {
+    type Out = Cell;
+
+    ghost asks = { λ step home reader _. IsOf home (cell_holding step.cell.now) × (reader_of step.guard.now ≡ reader) };
+
+    ghost does = { λ step _ _ before loaded after. (entry_at before.cells (cell_number step.cell.now) ≡ Some loaded) × (after ≡ before) };
+
+    fn done<S: Space<Val>>(self, s: &mut S) -> Cell {
+        let LoadsCell { cell, guard } = self;
+        let ptr = match cell {
+            ACell::Sole(cell) => cell.load(guard, s),
+            ACell::Share(cell) => cell.load(guard, s),
+        };
+        Cell {
+            held: slot_of_ptr(&ptr),
+            tag: ptr.tag(),
+        }
     }
 }
 
@@ -156,14 +202,27 @@ fn cell_loaded(world: &mut World<Val>, place: &Place, cell: &ACell, guard: &Guar
     ensures loaded { entry_at world.old.cells (cell_number cell.now) ≡ Some result }
     ensures world { world.new ≡ world.old }
 {
-    let mut turn = world.at(place);
-    let ptr = match cell {
-        ACell::Sole(cell) => cell.load(guard, &mut turn),
-        ACell::Share(cell) => cell.load(guard, &mut turn),
-    };
-    Cell {
-        held: slot_of_ptr(&ptr),
-        tag: ptr.tag(),
+    step_at(world, place, LoadsCell { cell, guard })
+}
+
+/// The tag of a cell.
+struct ReadsTag<'a> {
+    cell: &'a ACell,
+}
+
+impl Step for ReadsTag<'_> {
+    type Out = Tag;
+
+    ghost asks = { λ step home _ _. IsOf home (cell_holding step.cell.now) };
+
+    ghost does = { λ step _ _ before tag after. (held : Cell) × (entry_at before.cells (cell_number step.cell.now) ≡ Some held) × (tag ≡ held.tag) × (after ≡ before) };
+
+    fn done<S: Space<Val>>(self, s: &mut S) -> Tag {
+        let ReadsTag { cell } = self;
+        match cell {
+            ACell::Sole(cell) => cell.tag(s),
+            ACell::Share(cell) => cell.tag(s),
+        }
     }
 }
 
@@ -174,11 +233,7 @@ fn tag_of(world: &mut World<Val>, place: &Place, cell: &ACell) -> Tag
     ensures tag { (held : Cell) × (entry_at world.old.cells (cell_number cell.now) ≡ Some held) × (result ≡ held.tag) }
     ensures world { world.new ≡ world.old }
 {
-    let mut turn = world.at(place);
-    match cell {
-        ACell::Sole(cell) => cell.tag(&mut turn),
-        ACell::Share(cell) => cell.tag(&mut turn),
-    }
+    step_at(world, place, ReadsTag { cell })
 }
 
 /// Gives a cell a tag if it has this one, and answers whether it had.
@@ -204,6 +259,43 @@ fn tag_if(world: &mut World<Val>, place: &Place, cell: &ACell, tag: Tag, was: Ta
     }
 }
 
+/// The slot whose item a cell holds: it is taken out and put back.
+struct PeeksCell<'a> {
+    cell: &'a ACell,
+}
+
+impl Step for PeeksCell<'_> {
+    type Out = Option<u32>;
+
+    ghost asks = { λ step home _ _. IsOf home (cell_holding step.cell.now) };
+
+    ghost does = { λ step _ _ before slot after. (slot ≡ held_in (entry_at before.cells (cell_number step.cell.now))) × (after ≡ before) };
+
+    fn done<S: Space<Val>>(self, s: &mut S) -> Option<u32> {
+        let PeeksCell { cell } = self;
+        match cell {
+            ACell::Sole(cell) => {
+                let (owner, tag) = cell.swap((None, Tag::None), s);
+                let slot = owner.as_ref().map(slot_of_owner);
+                let (rest, _) = cell.swap((owner, tag), s);
+                match rest {
+                    None => slot,
+                    Some(_) => unreachable!(),
+                }
+            }
+            ACell::Share(cell) => {
+                let (owner, tag) = cell.swap((None, Tag::None), s);
+                let slot = owner.as_ref().map(slot_of_shared);
+                let (rest, _) = cell.swap((owner, tag), s);
+                match rest {
+                    None => slot,
+                    Some(_) => unreachable!(),
+                }
+            }
+        }
+    }
+}
+
 /// The slot whose item a cell holds, which no guard is needed for: it is taken out and put back.
 fn slot_in(world: &mut World<Val>, place: &Place, cell: &ACell) -> Option<u32>
     requires place { IsPlaceOf world.old (index_of place.now) }
@@ -211,25 +303,26 @@ fn slot_in(world: &mut World<Val>, place: &Place, cell: &ACell) -> Option<u32>
     ensures slot { result ≡ held_in (entry_at world.old.cells (cell_number cell.now)) }
     ensures world { world.new ≡ world.old }
 {
-    let mut turn = world.at(place);
-    match cell {
-        ACell::Sole(cell) => {
-            let (owner, tag) = cell.swap((None, Tag::None), &mut turn);
-            let slot = owner.as_ref().map(slot_of_owner);
-            let (rest, _) = cell.swap((owner, tag), &mut turn);
-            match rest {
-                None => slot,
-                Some(_) => unreachable!(),
-            }
-        }
-        ACell::Share(cell) => {
-            let (owner, tag) = cell.swap((None, Tag::None), &mut turn);
-            let slot = owner.as_ref().map(slot_of_shared);
-            let (rest, _) = cell.swap((owner, tag), &mut turn);
-            match rest {
-                None => slot,
-                Some(_) => unreachable!(),
-            }
+    step_at(world, place, PeeksCell { cell })
+}
+
+/// A cell is closed, and the participant is given what it held.
+struct ClosesCell {
+    cell: ACell,
+}
+
+impl Step for ClosesCell {
+    type Out = ();
+
+    ghost asks = { λ step home _ _. IsOf home (cell_holding step.cell) };
+
+    ghost does = { λ step _ place before _ after. after ≡ cell_closed before place (cell_number step.cell) };
+
+    fn done<S: Space<Val>>(self, s: &mut S) {
+        let ClosesCell { cell } = self;
+        match cell {
+            ACell::Sole(cell) => cell.close(s),
+            ACell::Share(cell) => cell.close(s),
         }
     }
 }
@@ -240,11 +333,7 @@ fn close_at(world: &mut World<Val>, place: &Place, cell: ACell)
     requires home { IsOf world.old.home (cell_holding cell) }
     ensures { world.new ≡ cell_closed world.old (index_of place.now) (cell_number cell) }
 {
-    let mut turn = world.at(place);
-    match cell {
-        ACell::Sole(cell) => cell.close(&mut turn),
-        ACell::Share(cell) => cell.close(&mut turn),
-    }
+    step_at(world, place, ClosesCell { cell });
 }
 
 /// The item in this slot, if it waits now, began to do so in this line.

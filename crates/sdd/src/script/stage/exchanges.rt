@@ -4,16 +4,19 @@
 ghost use Rattle.std.specs.Prelude.{◌≡◌, ◌≢◌, ◌⊎◌, ◌+◌, ◌^◌, ◌<◌, ℕ, IfOk, IfSome, IsSome, None, Some, MatchOption, MatchResult, length, map, option_map, slice_index, slice_index_or, vec_capacity};
 ghost use Rattle.sdd_store.specs.Table.{IsEmptyAt, IsFull, entry_at};
 ghost use Rattle.sdd_store.specs.declared.standing.Standing.TheVariants.{Shared as shared_by};
+ghost use Rattle.sdd_core.specs.declared.refused.Refused.TheVariants as refused;
+ghost use Rattle.sdd_store.specs.declared.standing.Cell.{Cell};
 ghost use Rattle.sdd_slots.specs.Slots.{IsSharedBy};
-ghost use Rattle.sdd_base.specs.Holding.{IsOf};
+ghost use Rattle.sdd_base.specs.Holding.{Home, IsOf};
 ghost use Rattle.sdd_base.specs.Ptr.{cell_seen, slot_named};
 ghost use Rattle.sdd_base.specs.Steps.{with_cell, with_standing, without_cell};
 ghost use Rattle.sdd_base.specs.Under.{Stays};
 ghost use Rattle.sdd_base.specs.World.{World, IsPlaceOf, standing_at};
 ghost use Rattle.sdd_base.specs.Shared as shared;
-ghost use Rattle.sdd_base.specs.Guard.{reader_of};
+ghost use Rattle.sdd_base.specs.Guard.{Reader, reader_of};
 ghost use Rattle.sdd_base.specs.Seat.{reader_at};
 ghost use Rattle.sdd_world.specs.Place.{index_of};
+ghost use Rattle.sdd_desk.specs.declared.val.Val.{Val};
 ghost use Rattle.sdd_desk.specs.Desk.{slot_of};
 ghost use Rattle.sdd_desk.specs.Shown.{item_in};
 ghost use Rattle.sdd.specs.Stage.{owner_holding, cell_holding, cell_kind, cell_number, filling_holding, filling_kind, held_as, IsGiven, given_back, CanPutBack, owners_back, CanCompareAt};
@@ -23,8 +26,9 @@ use super::guards::under;
 use super::items::slot_since;
 use crate::script::holding::{ACell, AnOwner, Filling, fits, take_filling};
 use crate::script::named::Named;
+use crate::script::steps::{Step, TakesOut, step_at};
 use sdd_base::inner::{null_with, slot_of_ptr};
-use sdd_base::{AtomicShared, Guard, Ptr, Shared};
+use sdd_base::{AtomicShared, Guard, Ptr, Shared, Space};
 use sdd_core::{Refused, Tag};
 use sdd_desk::Val;
 use sdd_lines::{Action, Call, CellName, GuardName, ItemName, OwnerName, PlaceName, Reply};
@@ -317,6 +321,54 @@ fn swap_in(
     }
 }
 
+/// The cell holds this from now on, if it held what the pointer names: then what it held comes back. Else what was to go in, and what the cell holds.
+struct ExchangesIn<'a> {
+    cell: &'a ACell,
+    guard: &'a Guard,
+    current: Ptr<'a, Val>,
+    next: Filling,
+    tag: Tag,
+}
+
+impl Step for ExchangesIn<'_> {
+    type Out = Result<Filling, (Filling, Cell)>;
+
+    ghost asks = { λ step home reader _. (reader_of step.guard.now ≡ reader) × IsOf home (cell_holding step.cell.now)
+        × (filling_kind step.next ≡ cell_kind step.cell.now) × IfSome (filling_holding step.next) (IsOf home) };
+
+    ghost does = { λ step home _ before result after. MatchResult result
+        (λ old. (entry_at before.cells (cell_number step.cell.now) ≡ Some (cell_seen step.current))
+        × (filling_holding old ≡ held_as (cell_kind step.cell.now) (slot_named step.current) home.slots)
+        × (after ≡ with_cell before (cell_number step.cell.now) (record { held = slot_of (filling_holding step.next); tag = step.tag })))
+        (λ e. (filling_holding e.0 ≡ filling_holding step.next) × (entry_at before.cells (cell_number step.cell.now) ≡ Some e.1)
+        × (e.1 ≢ cell_seen step.current) × (after ≡ before)) };
+
+    fn done<S: Space<Val>>(self, s: &mut S) -> Result<Filling, (Filling, Cell)> {
+        let ExchangesIn {
+            cell,
+            guard,
+            current,
+            next,
+            tag,
+        } = self;
+        match (cell, next) {
+            (ACell::Sole(cell), Filling::Sole(next)) => {
+                match cell.compare_exchange(current, (next, tag), guard, s) {
+                    Ok((old, _)) => Ok(Filling::Sole(old)),
+                    Err((back, ptr)) => Err((Filling::Sole(back), seen_by(&ptr))),
+                }
+            }
+            (ACell::Share(cell), Filling::Share(next)) => {
+                match cell.compare_exchange(current, (next, tag), guard, s) {
+                    Ok((old, _)) => Ok(Filling::Share(old)),
+                    Err((back, ptr)) => Err((Filling::Share(back), seen_by(&ptr))),
+                }
+            }
+            _ => unreachable!(),
+        }
+    }
+}
+
 /// The cell holds this from now on, with this tag, if it held what the pointer names, with its tag: then what it held comes back. Else what was to go in,
 /// and what the cell holds.
 fn exchange_in<'g>(
@@ -340,22 +392,14 @@ fn exchange_in<'g>(
         (λ e. (filling_holding e.0 ≡ filling_holding next) × (entry_at world.old.cells (cell_number cell.now) ≡ Some e.1)
         × (e.1 ≢ cell_seen current.entry) × (world.new ≡ world.old)) }
 {
-    let mut turn = world.at(place);
-    match (cell, next) {
-        (ACell::Sole(cell), Filling::Sole(next)) => {
-            match cell.compare_exchange(current, (next, tag), guard, &mut turn) {
-                Ok((old, _)) => Ok(Filling::Sole(old)),
-                Err((back, ptr)) => Err((Filling::Sole(back), seen_by(&ptr))),
-            }
-        }
-        (ACell::Share(cell), Filling::Share(next)) => {
-            match cell.compare_exchange(current, (next, tag), guard, &mut turn) {
-                Ok((old, _)) => Ok(Filling::Share(old)),
-                Err((back, ptr)) => Err((Filling::Share(back), seen_by(&ptr))),
-            }
-        }
-        _ => unreachable!(),
-    }
+    let exchanges = ExchangesIn {
+        cell,
+        guard,
+        current,
+        next,
+        tag,
+    };
+    step_at(world, place, exchanges)
 }
 
 /// What the cell holds that the pointer was loaded from.
@@ -376,11 +420,7 @@ fn take_out(world: &mut World<Val>, place: &Place, cell: ACell) -> Filling
         × (filling_holding result ≡ held_as (cell_kind cell) held.held world.old.home.slots)
         × (world.new ≡ without_cell world.old (cell_number cell)) }
 {
-    let mut turn = world.at(place);
-    match cell {
-        ACell::Sole(cell) => Filling::Sole(cell.into_owned(&mut turn)),
-        ACell::Share(cell) => Filling::Share(cell.into_shared(&mut turn)),
-    }
+    step_at(world, place, TakesOut { cell })
 }
 
 /// The cell of this name, if it is one for shared owners.
@@ -392,6 +432,31 @@ fn shared_cell_of(cells: &Named<ACell>, name: u64) -> Option<&AtomicShared<Val>>
     match cells.get(name)? {
         ACell::Share(cell) => Some(cell),
         ACell::Sole(_) => None,
+    }
+}
+
+/// One owner more of what the cell holds, if it holds something.
+struct SharesHeld<'a> {
+    guard: &'a Guard,
+    cell: &'a AtomicShared<Val>,
+}
+
+impl Step for SharesHeld<'_> {
+    type Out = Result<Option<Shared<Val>>, Refused>;
+
+    ghost asks = { λ step home reader _. (reader_of step.guard.now ≡ reader) × (shared.cells_home step.cell.now ≡ home.cells) };
+
+    ghost does = { λ step home _ before result after. (IfOk result (shared.IsOfSlots home.slots))
+        × ((held : Cell) × (entry_at before.cells (shared.cell_of step.cell.now) ≡ Some held) × MatchResult result
+        (λ o. (option_map shared.slot_of o ≡ held.held) × MatchOption o (after ≡ before)
+        (λ owner. (owners : ℕ) × IsSharedBy owners (standing_at before (shared.slot_of owner)) × (owners < 2 ^ 62)
+        × (after ≡ with_standing before (shared.slot_of owner) (shared_by (owners + 1)))))
+        (λ e. (e ≡ refused.TooManyOwners) × IfSome held.held (λ slot. IsSharedBy (2 ^ 62) (standing_at before slot)) × IsSome held.held
+        × (after ≡ before))) };
+
+    fn done<S: Space<Val>>(self, s: &mut S) -> Result<Option<Shared<Val>>, Refused> {
+        let SharesHeld { guard, cell } = self;
+        cell.get_shared(guard, s)
     }
 }
 
@@ -413,8 +478,34 @@ fn share_held(
         (λ e. (e ≡ Refused.TooManyOwners) × IfSome held.held (λ slot. IsSharedBy (2 ^ 62) (standing_at world.old slot)) × IsSome held.held
         × (world.new ≡ world.old)) }
 {
-    let mut turn = world.at(place);
-    cell.get_shared(guard, &mut turn)
+    step_at(world, place, SharesHeld { guard, cell })
+}
+
+/// Another cell, with one owner more of what the cell holds, if it holds something.
+struct CopiesCell<'a> {
+    guard: &'a Guard,
+    cell: &'a AtomicShared<Val>,
+}
+
+impl Step for CopiesCell<'_> {
+    type Out = Result<AtomicShared<Val>, Refused>;
+
+    ghost asks = { λ step home reader _. (reader_of step.guard.now ≡ reader) × (shared.cells_home step.cell.now ≡ home.cells) };
+
+    ghost does = { λ step home _ before result after. (IfOk result (λ other. shared.cells_home other ≡ home.cells))
+        × ((held : Cell) × (entry_at before.cells (shared.cell_of step.cell.now) ≡ Some held) × MatchResult result
+        (λ other. IsEmptyAt before.cells (shared.cell_of other) × MatchOption held.held
+        (after ≡ with_cell before (shared.cell_of other) held)
+        (λ slot. (owners : ℕ) × IsSharedBy owners (standing_at before slot) × (owners < 2 ^ 62)
+        × (after ≡ with_cell (with_standing before slot (shared_by (owners + 1))) (shared.cell_of other) held)))
+        (λ e. (after ≡ before) × (IsFull before.cells × (e ≡ refused.NoCell) ⊎
+        ¬ (IsFull before.cells) × (e ≡ refused.TooManyOwners) × IsSome held.held
+        × IfSome held.held (λ slot. IsSharedBy (2 ^ 62) (standing_at before slot))))) };
+
+    fn done<S: Space<Val>>(self, s: &mut S) -> Result<AtomicShared<Val>, Refused> {
+        let CopiesCell { guard, cell } = self;
+        cell.clone(guard, s)
+    }
 }
 
 /// Another cell, with one owner more of what the cell holds, if it holds something.
@@ -437,6 +528,5 @@ fn copy_held(
         ¬ (IsFull world.old.cells) × (e ≡ Refused.TooManyOwners) × IsSome held.held
         × IfSome held.held (λ slot. IsSharedBy (2 ^ 62) (standing_at world.old slot)))) }
 {
-    let mut turn = world.at(place);
-    cell.clone(guard, &mut turn)
+    step_at(world, place, CopiesCell { guard, cell })
 }

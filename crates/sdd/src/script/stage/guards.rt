@@ -4,11 +4,13 @@
 ghost use Rattle.std.specs.Prelude.{All, ◌≡◌, ℕ, ◌+◌, ◌^◌, ◌<◌, [], IfOk, IfSome, None, Some, MatchOption, MatchResult, length, map, slice_index, slice_index_or, IsSome, if◌then◌else◌};
 ghost use Rattle.sdd_core.specs.Epoch.{epoch_of};
 ghost use Rattle.sdd_store.specs.Time.{CanNest, has_garbage};
-ghost use Rattle.sdd_base.specs.Guard.{reader_of};
+ghost use Rattle.sdd_base.specs.Guard.{Reader, reader_of};
+ghost use Rattle.sdd_base.specs.Holding.{Home};
 ghost use Rattle.sdd_base.specs.Seat.{reader_at};
-ghost use Rattle.sdd_base.specs.World.{IsPlaceOf, place_at, value_at};
+ghost use Rattle.sdd_base.specs.World.{World, IsPlaceOf, place_at, value_at};
 ghost use Rattle.sdd_base.specs.Steps.{opened, closed, stirred, accelerated};
 ghost use Rattle.sdd_world.specs.Place.{index_of};
+ghost use Rattle.sdd_desk.specs.declared.val.Val.{Val};
 ghost use Rattle.sdd_desk.specs.Val.{holdings_of};
 ghost use Rattle.sdd_desk.specs.Shown.{item_in};
 ghost use Rattle.sdd.specs.Stage.{attending, guarding, opened_since, AreOpen};
@@ -17,8 +19,9 @@ ghost use Rattle.sdd_desk.specs.Held.{owners_in, waits_among};
 use super::{Attending, Guarding, Stage};
 use crate::script::holding::is_waiting;
 use crate::script::named::Named;
-use sdd_base::Guard;
+use crate::script::steps::{ShowsEpoch, Step, step_at};
 use sdd_base::inner::{slot_of_owner, slot_of_shared};
+use sdd_base::{Guard, Space};
 use sdd_core::{Epoch, Refused};
 use sdd_desk::{Body, Val};
 use sdd_lines::{Action, Answer, Call, GuardName, ItemName, Names, PlaceName, Reply};
@@ -195,8 +198,25 @@ fn epoch_at(world: &mut World<Val>, place: &Place, guard: &Guard) -> Epoch
     ensures epoch { result ≡ epoch_of world.old.time.count }
     ensures world { world.new ≡ world.old }
 {
-    let mut turn = world.at(place);
-    guard.epoch(&mut turn)
+    step_at(world, place, ShowsEpoch { guard })
+}
+
+/// Something may wait with the participant.
+struct ShowsGarbage<'a> {
+    guard: &'a Guard,
+}
+
+impl Step for ShowsGarbage<'_> {
+    type Out = bool;
+
+    ghost asks = { λ _ _ _ _. Unit {0} };
+
+    ghost does = { λ _ _ place before result after. (result ≡ has_garbage (place_at before place)) × (after ≡ before) };
+
+    fn done<S: Space<Val>>(self, s: &mut S) -> bool {
+        let ShowsGarbage { guard } = self;
+        guard.has_garbage(s)
+    }
 }
 
 /// Something may wait with the participant.
@@ -205,8 +225,25 @@ fn garbage_at(world: &mut World<Val>, place: &Place, guard: &Guard) -> bool
     ensures garbage { result ≡ has_garbage (place_at world.old (index_of place.now)) }
     ensures world { world.new ≡ world.old }
 {
-    let turn = world.at(place);
-    guard.has_garbage(&turn)
+    step_at(world, place, ShowsGarbage { guard })
+}
+
+/// The participant has garbage from now on.
+struct SetsGarbage<'a> {
+    guard: &'a Guard,
+}
+
+impl Step for SetsGarbage<'_> {
+    type Out = ();
+
+    ghost asks = { λ _ _ _ _. Unit {0} };
+
+    ghost does = { λ _ _ place before _ after. after ≡ stirred before place };
+
+    fn done<S: Space<Val>>(self, s: &mut S) {
+        let SetsGarbage { guard } = self;
+        guard.set_has_garbage(s);
+    }
 }
 
 /// The participant has garbage from now on.
@@ -214,8 +251,25 @@ fn stir_at(world: &mut World<Val>, place: &Place, guard: &Guard)
     requires { IsPlaceOf world.old (index_of place.now) }
     ensures { world.new ≡ stirred world.old (index_of place.now) }
 {
-    let mut turn = world.at(place);
-    guard.set_has_garbage(&mut turn);
+    step_at(world, place, SetsGarbage { guard });
+}
+
+/// The participant's next outermost close scans.
+struct Accelerates<'a> {
+    guard: &'a Guard,
+}
+
+impl Step for Accelerates<'_> {
+    type Out = ();
+
+    ghost asks = { λ _ _ _ _. Unit {0} };
+
+    ghost does = { λ _ _ place before _ after. after ≡ accelerated before place };
+
+    fn done<S: Space<Val>>(self, s: &mut S) {
+        let Accelerates { guard } = self;
+        guard.accelerate(s);
+    }
 }
 
 /// The participant's next outermost close scans.
@@ -223,8 +277,25 @@ fn accelerate_at(world: &mut World<Val>, place: &Place, guard: &Guard)
     requires { IsPlaceOf world.old (index_of place.now) }
     ensures { world.new ≡ accelerated world.old (index_of place.now) }
 {
-    let mut turn = world.at(place);
-    guard.accelerate(&mut turn);
+    step_at(world, place, Accelerates { guard });
+}
+
+/// The guard, which is the participant's, is closed.
+struct ClosesGuard {
+    guard: Guard,
+}
+
+impl Step for ClosesGuard {
+    type Out = ();
+
+    ghost asks = { λ step _ reader _. reader_of step.guard ≡ reader };
+
+    ghost does = { λ _ _ place before _ after. after ≡ closed before place };
+
+    fn done<S: Space<Val>>(self, s: &mut S) {
+        let ClosesGuard { guard } = self;
+        guard.close(s);
+    }
 }
 
 /// The guard, which is the participant's, is closed.
@@ -233,8 +304,7 @@ pub fn close_at(world: &mut World<Val>, place: &Place, guard: Guard)
     requires reader { reader_of guard ≡ reader_at world.old (index_of place.now) }
     ensures { world.new ≡ closed world.old (index_of place.now) }
 {
-    let mut turn = world.at(place);
-    guard.close(&mut turn);
+    step_at(world, place, ClosesGuard { guard });
 }
 
 /// The slots whose owners the values in these slots hold.

@@ -6,8 +6,8 @@ ghost use Rattle.std.specs.Option.{option_map};
 ghost use Rattle.sdd_store.specs.Table.{IsEmptyAt, IsFull};
 ghost use Rattle.sdd_base.specs.Steps.{made_as, nulled};
 ghost use Rattle.sdd_base.specs.World.{World, IsPlaceOf, standing_at, value_at};
-ghost use Rattle.sdd_base.specs.Holding.{AreOf, IsOf};
-ghost use Rattle.sdd_base.specs.Guard.{reader_of};
+ghost use Rattle.sdd_base.specs.Holding.{Home, AreOf, IsOf};
+ghost use Rattle.sdd_base.specs.Guard.{Reader, reader_of};
 ghost use Rattle.sdd_base.specs.Seat.{reader_at};
 ghost use Rattle.sdd_base.specs.Under.{Stays};
 ghost use Rattle.sdd_slots.specs.Slots.{is_waiting};
@@ -23,8 +23,9 @@ use super::Stage;
 use super::guards::under;
 use crate::script::holding::{AnOwner, is_waiting};
 use crate::script::named::Named;
+use crate::script::steps::{Step, step_at};
 use sdd_base::inner::{slot_of_owner, slot_of_shared};
-use sdd_base::{AtomicOwned, Guard, Owned, Shared};
+use sdd_base::{AtomicOwned, Guard, Owned, Shared, Space};
 use sdd_core::Refused;
 use sdd_desk::{Body, Ownership, Val};
 use sdd_lines::{Action, Call, GuardName, ItemName, OwnerName, PlaceName, Reply, Value};
@@ -171,6 +172,41 @@ pub fn slot_since(
 }
 
 /// A new item, which holds this, and a cell for its link.
+struct MakesItem {
+    body: Body<Val>,
+    ownership: Ownership,
+}
+
+impl Step for MakesItem {
+    type Out = AnOwner;
+
+    ghost asks = { λ step home _ world. ¬ (IsFull world.cells) × ¬ (IsFull world.standings) × AreOf home (owner_in step.body) };
+
+    ghost does = { λ step home _ before made after. (k cell : ℕ) × (entry : Val) × (owner_holding made ≡ holding_first step.ownership k home.slots)
+        × IsEmptyAt before.cells cell × IsEmptyAt before.standings k
+        × (body_of entry ≡ step.body) × (link_of entry ≡ cell) × (link_home entry ≡ home.cells)
+        × (after ≡ made_as (nulled before cell) k entry (standing_first step.ownership)) };
+
+    fn done<S: Space<Val>>(self, s: &mut S) -> AnOwner {
+        let MakesItem { body, ownership } = self;
+        let Ok(link) = AtomicOwned::null(s) else {
+            unreachable!()
+        };
+        let value = Val::new(body, link);
+        match ownership {
+            Ownership::Sole => match Owned::new(value, s) {
+                Ok(owner) => AnOwner::Sole(owner),
+                Err(_) => unreachable!(),
+            },
+            Ownership::Shared => match Shared::new(value, s) {
+                Ok(owner) => AnOwner::Share(owner),
+                Err(_) => unreachable!(),
+            },
+        }
+    }
+}
+
+/// A new item, which holds this, and a cell for its link.
 fn make_item(
     world: &mut World<Val>,
     place: &Place,
@@ -186,21 +222,7 @@ fn make_item(
         × (body_of entry ≡ body) × (link_of entry ≡ cell) × (link_home entry ≡ world.old.home.cells)
         × (world.new ≡ made_as (nulled world.old cell) k entry (standing_first ownership)) }
 {
-    let mut turn = world.at(place);
-    let Ok(link) = AtomicOwned::null(&mut turn) else {
-        unreachable!()
-    };
-    let value = Val::new(body, link);
-    match ownership {
-        Ownership::Sole => match Owned::new(value, &mut turn) {
-            Ok(owner) => AnOwner::Sole(owner),
-            Err(_) => unreachable!(),
-        },
-        Ownership::Shared => match Shared::new(value, &mut turn) {
-            Ok(owner) => AnOwner::Share(owner),
-            Err(_) => unreachable!(),
-        },
-    }
+    step_at(world, place, MakesItem { body, ownership })
 }
 
 /// The value in a slot, as a pointer to its item shows it under a guard of the participant.

@@ -3,23 +3,28 @@
 
 ghost use Rattle.std.specs.Prelude.{◌≡◌, ◌≢◌, ◌+◌, ◌^◌, ◌<◌, ℕ, IfOk, IsTrue, ◌↔◌, None, Some, MatchOption, MatchResult};
 ghost use Rattle.sdd_store.specs.declared.standing.Standing.TheVariants.{Shared as shared_by};
+ghost use Rattle.sdd_core.specs.declared.refused.Refused.TheVariants as refused;
 ghost use Rattle.sdd_slots.specs.Slots.{IsSharedBy};
 ghost use Rattle.sdd_base.specs.Steps.{retired, owner_given, with_standing};
 ghost use Rattle.sdd_base.specs.World.{World, IsPlaceOf, standing_at};
 ghost use Rattle.sdd_base.specs.Owned.{slot_of, slots_home};
 ghost use Rattle.sdd_base.specs.Shared as shared_owner;
-ghost use Rattle.sdd_base.specs.Guard.{reader_of};
+ghost use Rattle.sdd_base.specs.Guard.{Reader, reader_of};
+ghost use Rattle.sdd_base.specs.Holding.{Home};
+ghost use Rattle.sdd_base.specs.Ptr.{slot_named};
 ghost use Rattle.sdd_base.specs.Seat.{reader_at};
 ghost use Rattle.sdd_base.specs.Under.{Stays};
 ghost use Rattle.sdd_store.specs.declared.standing.Standing.TheVariants as standing;
 ghost use Rattle.sdd_world.specs.Place.{index_of};
+ghost use Rattle.sdd_desk.specs.declared.val.Val.{Val};
 
 use super::Stage;
 use super::guards::under;
 use super::items::slot_since;
 use crate::script::holding::{AnOwner, shared_of, take_shared, take_sole};
+use crate::script::steps::{Step, step_at};
 use sdd_base::inner::{slot_of_owner, slot_of_shared};
-use sdd_base::{Guard, Owned, Shared};
+use sdd_base::{Guard, Owned, Ptr, Shared, Space};
 use sdd_core::Refused;
 use sdd_desk::Val;
 use sdd_lines::{Action, Call, GuardName, ItemName, OwnerName, PlaceName, Reply};
@@ -117,14 +122,50 @@ impl Stage {
 }
 
 /// The only owner retires its item, which waits with the participant.
+struct RetiresItem {
+    owner: Owned<Val>,
+}
+
+impl Step for RetiresItem {
+    type Out = ();
+
+    ghost asks = { λ step home _ _. slots_home step.owner ≡ home.slots };
+
+    ghost does = { λ step _ place before _ after. (after ≡ retired before place (slot_of step.owner)) × (standing_at before (slot_of step.owner) ≡ Some standing.Owned) };
+
+    fn done<S: Space<Val>>(self, s: &mut S) {
+        let RetiresItem { owner } = self;
+        owner.retire(s);
+    }
+}
+
+/// The only owner retires its item, which waits with the participant.
 fn retire_item(world: &mut World<Val>, place: &Place, owner: Owned<Val>)
     requires place { IsPlaceOf world.old (index_of place.now) }
     requires home { slots_home owner ≡ world.old.home.slots }
     ensures retired { world.new ≡ retired world.old (index_of place.now) (slot_of owner) }
     ensures owned { standing_at world.old (slot_of owner) ≡ Some standing.Owned }
 {
-    let mut turn = world.at(place);
-    owner.retire(&mut turn);
+    step_at(world, place, RetiresItem { owner });
+}
+
+/// A shared owner is given up; the last one's item waits with the participant.
+struct ReleasesOwner {
+    owner: Shared<Val>,
+}
+
+impl Step for ReleasesOwner {
+    type Out = bool;
+
+    ghost asks = { λ step home _ _. shared_owner.slots_home step.owner ≡ home.slots };
+
+    ghost does = { λ step _ place before was_last after. (owners : ℕ) × IsSharedBy owners (standing_at before (shared_owner.slot_of step.owner)) × (IsTrue was_last ↔ (owners ≡ 1))
+        × (after ≡ owner_given before place (shared_owner.slot_of step.owner) (Some (shared_by owners))) };
+
+    fn done<S: Space<Val>>(self, s: &mut S) -> bool {
+        let ReleasesOwner { owner } = self;
+        owner.release(s)
+    }
 }
 
 /// A shared owner is given up; the last one's item waits with the participant.
@@ -134,8 +175,29 @@ fn release_owner(world: &mut World<Val>, place: &Place, owner: Shared<Val>) -> b
     ensures released { (owners : ℕ) × IsSharedBy owners (standing_at world.old (shared_owner.slot_of owner)) × (IsTrue result ↔ (owners ≡ 1))
         × (world.new ≡ owner_given world.old (index_of place.now) (shared_owner.slot_of owner) (Some (shared_by owners))) }
 {
-    let mut turn = world.at(place);
-    owner.release(&mut turn)
+    step_at(world, place, ReleasesOwner { owner })
+}
+
+/// One owner more beside a shared one.
+struct ClonesOwner<'a> {
+    owner: &'a Shared<Val>,
+}
+
+impl Step for ClonesOwner<'_> {
+    type Out = Result<Shared<Val>, Refused>;
+
+    ghost asks = { λ step home _ _. shared_owner.slots_home step.owner.now ≡ home.slots };
+
+    ghost does = { λ step home _ before result after. (IfOk result (λ other.
+        (shared_owner.slot_of other ≡ shared_owner.slot_of step.owner.now) × (shared_owner.slots_home other ≡ home.slots)))
+        × ((owners : ℕ) × IsSharedBy owners (standing_at before (shared_owner.slot_of step.owner.now)) × MatchResult result
+        (λ _. (owners < 2 ^ 62) × (after ≡ with_standing before (shared_owner.slot_of step.owner.now) (shared_by (owners + 1))))
+        (λ e. (owners ≡ 2 ^ 62) × (e ≡ refused.TooManyOwners) × (after ≡ before))) };
+
+    fn done<S: Space<Val>>(self, s: &mut S) -> Result<Shared<Val>, Refused> {
+        let ClonesOwner { owner } = self;
+        owner.clone(s)
+    }
 }
 
 /// One owner more beside a shared one.
@@ -152,8 +214,31 @@ fn clone_held(
         (λ _. (owners < 2 ^ 62) × (world.new ≡ with_standing world.old (shared_owner.slot_of owner.now) (shared_by (owners + 1))))
         (λ e. (owners ≡ 2 ^ 62) × (e ≡ Refused.TooManyOwners) × (world.new ≡ world.old)) }
 {
-    let mut turn = world.at(place);
-    owner.clone(&mut turn)
+    step_at(world, place, ClonesOwner { owner })
+}
+
+/// One owner more of the item that a pointer is to.
+struct SharesItem<'a> {
+    ptr: Ptr<'a, Val>,
+}
+
+impl Step for SharesItem<'_> {
+    type Out = Result<Option<Shared<Val>>, Refused>;
+
+    ghost asks = { λ _ _ _ _. Unit {0} };
+
+    ghost does = { λ step home _ before result after. (slot : ℕ) → slot_named step.ptr ≡ Some slot → (IfOk result (λ o. MatchOption o (Unit {0})
+        (λ owner. (shared_owner.slot_of owner ≡ slot) × (shared_owner.slots_home owner ≡ home.slots))))
+        × MatchResult result
+        (λ o. MatchOption o (((owners : ℕ) → standing_at before slot ≢ Some (shared_by owners)) × (after ≡ before))
+        (λ _. (owners : ℕ) × IsSharedBy owners (standing_at before slot) × (owners < 2 ^ 62)
+        × (after ≡ with_standing before slot (shared_by (owners + 1)))))
+        (λ e. (e ≡ refused.TooManyOwners) × IsSharedBy (2 ^ 62) (standing_at before slot) × (after ≡ before)) };
+
+    fn done<S: Space<Val>>(self, s: &mut S) -> Result<Option<Shared<Val>>, Refused> {
+        let SharesItem { ptr } = self;
+        ptr.get_shared(s)
+    }
 }
 
 /// One owner more of the item in a slot, through a pointer to it under a guard of the participant.
@@ -175,6 +260,5 @@ fn share_item(
         (λ e. (e ≡ Refused.TooManyOwners) × IsSharedBy (2 ^ 62) (standing_at world.old slot) × (world.new ≡ world.old)) }
 {
     let ptr = ptr_at(world, place, slot, guard);
-    let mut turn = world.at(place);
-    ptr.get_shared(&mut turn)
+    step_at(world, place, SharesItem { ptr })
 }
