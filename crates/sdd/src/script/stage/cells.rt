@@ -53,7 +53,8 @@ impl Stage {
             return Ok(Reply::Refused(Refused::NoCell));
         }
         let filling = take_filling(&mut self.hand.owners, ownership, owner);
-        let cell = cell_around(&mut self.hand.world, &attending.place, filling);
+        let step = MakesCell { filling };
+        let cell = step_at(&mut self.hand.world, &attending.place, step);
         let name = self.hand.cells.give(cell);
         Ok(Reply::Cell(CellName(name)))
     }
@@ -69,7 +70,11 @@ impl Stage {
             return Reply::Invalid;
         };
         self.hand.world.is_whole();
-        let loaded = cell_loaded(&mut self.hand.world, &attending.place, cell, &held.guard);
+        let step = LoadsCell {
+            cell,
+            guard: &held.guard,
+        };
+        let loaded = step_at(&mut self.hand.world, &attending.place, step);
         let item = match loaded.held {
             Some(slot) => Some(ItemName(self.hand.names[slot as usize])),
             None => None,
@@ -87,7 +92,8 @@ impl Stage {
             return Reply::Invalid;
         };
         self.hand.world.is_whole();
-        Reply::Tag(tag_of(&mut self.hand.world, &attending.place, cell))
+        let step = ReadsTag { cell };
+        Reply::Tag(step_at(&mut self.hand.world, &attending.place, step))
     }
 
     pub fn set_tag_if(&mut self, name: PlaceName, cell: CellName, tag: Tag, was: Tag) -> Reply
@@ -113,8 +119,9 @@ impl Stage {
             return Reply::Invalid;
         };
         self.hand.world.is_whole();
-        let held = slot_in(&mut self.hand.world, &attending.place, &cell);
-        close_at(&mut self.hand.world, &attending.place, cell);
+        let place = &attending.place;
+        let held = step_at(&mut self.hand.world, place, PeeksCell { cell: &cell });
+        step_at(&mut self.hand.world, place, ClosesCell { cell });
         let line = self.hand.moment;
         date_if_waiting(&mut self.hand.dates, &self.hand.world, held, line);
         Reply::Done
@@ -157,17 +164,6 @@ impl Step for MakesCell {
     }
 }
 
-/// A new cell, filled with this.
-fn cell_around(world: &mut World<Val>, place: &Place, filling: Filling) -> ACell
-    requires place { IsPlaceOf world.old (index_of place.now) }
-    requires cell { ¬ (IsFull world.old.cells) }
-    requires home { IfSome (filling_holding filling) (IsOf world.old.home) }
-    ensures made { (k : ℕ) × (cell_holding result ≡ holding_around (filling_kind filling) k world.old.home.cells) × IsEmptyAt world.old.cells k
-        × (world.new ≡ with_cell world.old k (record { held = slot_of (filling_holding filling); tag = no_tag })) }
-{
-    step_at(world, place, MakesCell { filling })
-}
-
 /// What a cell holds, and its tag, as a pointer shows them.
 struct LoadsCell<'a> {
     cell: &'a ACell,
@@ -194,17 +190,6 @@ impl Step for LoadsCell<'_> {
     }
 }
 
-/// What a cell holds, and its tag, as a pointer shows them that is loaded under a guard of the participant.
-fn cell_loaded(world: &mut World<Val>, place: &Place, cell: &ACell, guard: &Guard) -> Cell
-    requires place { IsPlaceOf world.old (index_of place.now) }
-    requires home { IsOf world.old.home (cell_holding cell.now) }
-    requires reader { reader_of guard.now ≡ reader_at world.old (index_of place.now) }
-    ensures loaded { entry_at world.old.cells (cell_number cell.now) ≡ Some result }
-    ensures world { world.new ≡ world.old }
-{
-    step_at(world, place, LoadsCell { cell, guard })
-}
-
 /// The tag of a cell.
 struct ReadsTag<'a> {
     cell: &'a ACell,
@@ -224,16 +209,6 @@ impl Step for ReadsTag<'_> {
             ACell::Share(cell) => cell.tag(s),
         }
     }
-}
-
-/// The tag of a cell.
-fn tag_of(world: &mut World<Val>, place: &Place, cell: &ACell) -> Tag
-    requires place { IsPlaceOf world.old (index_of place.now) }
-    requires home { IsOf world.old.home (cell_holding cell.now) }
-    ensures tag { (held : Cell) × (entry_at world.old.cells (cell_number cell.now) ≡ Some held) × (result ≡ held.tag) }
-    ensures world { world.new ≡ world.old }
-{
-    step_at(world, place, ReadsTag { cell })
 }
 
 /// Gives a cell a tag if it has this one, and answers whether it had.
@@ -296,16 +271,6 @@ impl Step for PeeksCell<'_> {
     }
 }
 
-/// The slot whose item a cell holds, which no guard is needed for: it is taken out and put back.
-fn slot_in(world: &mut World<Val>, place: &Place, cell: &ACell) -> Option<u32>
-    requires place { IsPlaceOf world.old (index_of place.now) }
-    requires home { IsOf world.old.home (cell_holding cell.now) }
-    ensures slot { result ≡ held_in (entry_at world.old.cells (cell_number cell.now)) }
-    ensures world { world.new ≡ world.old }
-{
-    step_at(world, place, PeeksCell { cell })
-}
-
 /// A cell is closed, and the participant is given what it held.
 struct ClosesCell {
     cell: ACell,
@@ -325,15 +290,6 @@ impl Step for ClosesCell {
             ACell::Share(cell) => cell.close(s),
         }
     }
-}
-
-/// A cell is closed, and the participant is given what it held.
-fn close_at(world: &mut World<Val>, place: &Place, cell: ACell)
-    requires place { IsPlaceOf world.old (index_of place.now) }
-    requires home { IsOf world.old.home (cell_holding cell) }
-    ensures { world.new ≡ cell_closed world.old (index_of place.now) (cell_number cell) }
-{
-    step_at(world, place, ClosesCell { cell });
 }
 
 /// The item in this slot, if it waits now, began to do so in this line.

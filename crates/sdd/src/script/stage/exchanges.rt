@@ -100,15 +100,14 @@ impl Stage {
         let next = take_filling(&mut self.hand.owners, holder.ownership(), owner);
         let place = &attending.place;
         let current = ptr_compared(&mut self.hand.world, place, &held.guard, slot, was);
-        match exchange_in(
-            &mut self.hand.world,
-            place,
-            &held.guard,
-            holder,
+        let step = ExchangesIn {
+            cell: holder,
+            guard: &held.guard,
             current,
             next,
             tag,
-        ) {
+        };
+        match step_at(&mut self.hand.world, place, step) {
             Ok(old) => {
                 let name = give_filling(&mut self.hand.owners, old);
                 Ok(Reply::Exchanged(name))
@@ -134,7 +133,8 @@ impl Stage {
         let Some(holder) = self.hand.cells.take(cell.0) else {
             unreachable!()
         };
-        let held = take_out(&mut self.hand.world, &attending.place, holder);
+        let step = TakesOut { cell: holder };
+        let held = step_at(&mut self.hand.world, &attending.place, step);
         let name = give_filling(&mut self.hand.owners, held);
         Ok(told_back(name))
     }
@@ -159,7 +159,11 @@ impl Stage {
         let Some(holder) = shared_cell_of(&self.hand.cells, cell.0) else {
             unreachable!()
         };
-        match copy_held(&mut self.hand.world, &attending.place, &held.guard, holder) {
+        let step = CopiesCell {
+            guard: &held.guard,
+            cell: holder,
+        };
+        match step_at(&mut self.hand.world, &attending.place, step) {
             Ok(other) => {
                 let name = self.hand.cells.give(ACell::Share(other));
                 Ok(Reply::Cell(CellName(name)))
@@ -185,7 +189,11 @@ impl Stage {
         };
         self.hand.owners.make_room()?;
         self.hand.world.is_whole();
-        match share_held(&mut self.hand.world, &attending.place, &held.guard, holder) {
+        let step = SharesHeld {
+            guard: &held.guard,
+            cell: holder,
+        };
+        match step_at(&mut self.hand.world, &attending.place, step) {
             Ok(Some(owner)) => {
                 let name = self.hand.owners.give(AnOwner::Share(owner));
                 Ok(Reply::Owner(OwnerName(name)))
@@ -369,39 +377,6 @@ impl Step for ExchangesIn<'_> {
     }
 }
 
-/// The cell holds this from now on, with this tag, if it held what the pointer names, with its tag: then what it held comes back. Else what was to go in,
-/// and what the cell holds.
-fn exchange_in<'g>(
-    world: &mut World<Val>,
-    place: &Place,
-    guard: &'g Guard,
-    cell: &ACell,
-    current: Ptr<'g, Val>,
-    next: Filling,
-    tag: Tag,
-) -> Result<Filling, (Filling, Cell)>
-    requires place { IsPlaceOf world.old (index_of place.now) }
-    requires reader { reader_of guard.now ≡ reader_at world.old (index_of place.now) }
-    requires home { IsOf world.old.home (cell_holding cell.now) }
-    requires of_kind { filling_kind next ≡ cell_kind cell.now }
-    requires owner { IfSome (filling_holding next) (IsOf world.old.home) }
-    ensures exchanged { MatchResult result
-        (λ old. (entry_at world.old.cells (cell_number cell.now) ≡ Some (cell_seen current.entry))
-        × (filling_holding old ≡ held_as (cell_kind cell.now) (slot_named current.entry) world.old.home.slots)
-        × (world.new ≡ with_cell world.old (cell_number cell.now) (record { held = slot_of (filling_holding next); tag = tag })))
-        (λ e. (filling_holding e.0 ≡ filling_holding next) × (entry_at world.old.cells (cell_number cell.now) ≡ Some e.1)
-        × (e.1 ≢ cell_seen current.entry) × (world.new ≡ world.old)) }
-{
-    let exchanges = ExchangesIn {
-        cell,
-        guard,
-        current,
-        next,
-        tag,
-    };
-    step_at(world, place, exchanges)
-}
-
 /// What the cell holds that the pointer was loaded from.
 fn seen_by(ptr: &Ptr<'_, Val>) -> Cell
     ensures { result ≡ cell_seen ptr.now }
@@ -410,17 +385,6 @@ fn seen_by(ptr: &Ptr<'_, Val>) -> Cell
         held: slot_of_ptr(ptr),
         tag: ptr.tag(),
     }
-}
-
-/// The cell is spent, and what it held comes back.
-fn take_out(world: &mut World<Val>, place: &Place, cell: ACell) -> Filling
-    requires place { IsPlaceOf world.old (index_of place.now) }
-    requires home { IsOf world.old.home (cell_holding cell) }
-    ensures taken { (held : Cell) × (entry_at world.old.cells (cell_number cell) ≡ Some held)
-        × (filling_holding result ≡ held_as (cell_kind cell) held.held world.old.home.slots)
-        × (world.new ≡ without_cell world.old (cell_number cell)) }
-{
-    step_at(world, place, TakesOut { cell })
 }
 
 /// The cell of this name, if it is one for shared owners.
@@ -460,27 +424,6 @@ impl Step for SharesHeld<'_> {
     }
 }
 
-/// One owner more of what the cell holds, if it holds something.
-fn share_held(
-    world: &mut World<Val>,
-    place: &Place,
-    guard: &Guard,
-    cell: &AtomicShared<Val>,
-) -> Result<Option<Shared<Val>>, Refused>
-    requires place { IsPlaceOf world.old (index_of place.now) }
-    requires reader { reader_of guard.now ≡ reader_at world.old (index_of place.now) }
-    requires home { shared.cells_home cell.now ≡ world.old.home.cells }
-    ensures home { IfOk result (shared.IsOfSlots world.old.home.slots) }
-    ensures shared { (held : Cell) × (entry_at world.old.cells (shared.cell_of cell.now) ≡ Some held) × MatchResult result
-        (λ o. (option_map shared.slot_of o ≡ held.held) × MatchOption o (world.new ≡ world.old)
-        (λ owner. (owners : ℕ) × IsSharedBy owners (standing_at world.old (shared.slot_of owner)) × (owners < 2 ^ 62)
-        × (world.new ≡ with_standing world.old (shared.slot_of owner) (shared_by (owners + 1)))))
-        (λ e. (e ≡ Refused.TooManyOwners) × IfSome held.held (λ slot. IsSharedBy (2 ^ 62) (standing_at world.old slot)) × IsSome held.held
-        × (world.new ≡ world.old)) }
-{
-    step_at(world, place, SharesHeld { guard, cell })
-}
-
 /// Another cell, with one owner more of what the cell holds, if it holds something.
 struct CopiesCell<'a> {
     guard: &'a Guard,
@@ -506,27 +449,4 @@ impl Step for CopiesCell<'_> {
         let CopiesCell { guard, cell } = self;
         cell.clone(guard, s)
     }
-}
-
-/// Another cell, with one owner more of what the cell holds, if it holds something.
-fn copy_held(
-    world: &mut World<Val>,
-    place: &Place,
-    guard: &Guard,
-    cell: &AtomicShared<Val>,
-) -> Result<AtomicShared<Val>, Refused>
-    requires place { IsPlaceOf world.old (index_of place.now) }
-    requires reader { reader_of guard.now ≡ reader_at world.old (index_of place.now) }
-    requires home { shared.cells_home cell.now ≡ world.old.home.cells }
-    ensures home { IfOk result (λ other. shared.cells_home other ≡ world.old.home.cells) }
-    ensures copied { (held : Cell) × (entry_at world.old.cells (shared.cell_of cell.now) ≡ Some held) × MatchResult result
-        (λ other. IsEmptyAt world.old.cells (shared.cell_of other) × MatchOption held.held
-        (world.new ≡ with_cell world.old (shared.cell_of other) held)
-        (λ slot. (owners : ℕ) × IsSharedBy owners (standing_at world.old slot) × (owners < 2 ^ 62)
-        × (world.new ≡ with_cell (with_standing world.old slot (shared_by (owners + 1))) (shared.cell_of other) held)))
-        (λ e. (world.new ≡ world.old) × (IsFull world.old.cells × (e ≡ Refused.NoCell) ⊎
-        ¬ (IsFull world.old.cells) × (e ≡ Refused.TooManyOwners) × IsSome held.held
-        × IfSome held.held (λ slot. IsSharedBy (2 ^ 62) (standing_at world.old slot)))) }
-{
-    step_at(world, place, CopiesCell { guard, cell })
 }

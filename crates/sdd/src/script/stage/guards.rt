@@ -82,7 +82,10 @@ impl Stage {
             return Reply::Invalid;
         };
         self.hand.world.is_whole();
-        Reply::Epoch(epoch_at(&mut self.hand.world, &attending.place, &held.guard))
+        let step = ShowsEpoch {
+            guard: &held.guard,
+        };
+        Reply::Epoch(step_at(&mut self.hand.world, &attending.place, step))
     }
 
     pub fn garbage(&mut self, name: PlaceName, guard: GuardName) -> Reply
@@ -93,7 +96,10 @@ impl Stage {
             return Reply::Invalid;
         };
         self.hand.world.is_whole();
-        Reply::Truth(garbage_at(&mut self.hand.world, &attending.place, &held.guard))
+        let step = ShowsGarbage {
+            guard: &held.guard,
+        };
+        Reply::Truth(step_at(&mut self.hand.world, &attending.place, step))
     }
 
     pub fn set(&mut self, name: PlaceName, guard: GuardName) -> Reply
@@ -104,7 +110,10 @@ impl Stage {
             return Reply::Invalid;
         };
         self.hand.world.is_whole();
-        stir_at(&mut self.hand.world, &attending.place, &held.guard);
+        let step = SetsGarbage {
+            guard: &held.guard,
+        };
+        step_at(&mut self.hand.world, &attending.place, step);
         Reply::Done
     }
 
@@ -116,7 +125,10 @@ impl Stage {
             return Reply::Invalid;
         };
         self.hand.world.is_whole();
-        accelerate_at(&mut self.hand.world, &attending.place, &held.guard);
+        let step = Accelerates {
+            guard: &held.guard,
+        };
+        step_at(&mut self.hand.world, &attending.place, step);
         Reply::Done
     }
 
@@ -138,7 +150,8 @@ impl Stage {
             return Reply::Invalid;
         };
         self.hand.world.is_whole();
-        close_at(&mut self.hand.world, &attending.place, guard);
+        let step = ClosesGuard { guard };
+        step_at(&mut self.hand.world, &attending.place, step);
         Reply::Done
     }
 }
@@ -192,15 +205,6 @@ fn open_at(world: &mut World<Val>, place: &Place) -> Result<(Guard, Epoch), Refu
     Ok((guard, epoch))
 }
 
-/// The epoch that the guard shows.
-fn epoch_at(world: &mut World<Val>, place: &Place, guard: &Guard) -> Epoch
-    requires { IsPlaceOf world.old (index_of place.now) }
-    ensures epoch { result ≡ epoch_of world.old.time.count }
-    ensures world { world.new ≡ world.old }
-{
-    step_at(world, place, ShowsEpoch { guard })
-}
-
 /// Something may wait with the participant.
 struct ShowsGarbage<'a> {
     guard: &'a Guard,
@@ -217,15 +221,6 @@ impl Step for ShowsGarbage<'_> {
         let ShowsGarbage { guard } = self;
         guard.has_garbage(s)
     }
-}
-
-/// Something may wait with the participant.
-fn garbage_at(world: &mut World<Val>, place: &Place, guard: &Guard) -> bool
-    requires { IsPlaceOf world.old (index_of place.now) }
-    ensures garbage { result ≡ has_garbage (place_at world.old (index_of place.now)) }
-    ensures world { world.new ≡ world.old }
-{
-    step_at(world, place, ShowsGarbage { guard })
 }
 
 /// The participant has garbage from now on.
@@ -246,14 +241,6 @@ impl Step for SetsGarbage<'_> {
     }
 }
 
-/// The participant has garbage from now on.
-fn stir_at(world: &mut World<Val>, place: &Place, guard: &Guard)
-    requires { IsPlaceOf world.old (index_of place.now) }
-    ensures { world.new ≡ stirred world.old (index_of place.now) }
-{
-    step_at(world, place, SetsGarbage { guard });
-}
-
 /// The participant's next outermost close scans.
 struct Accelerates<'a> {
     guard: &'a Guard,
@@ -272,14 +259,6 @@ impl Step for Accelerates<'_> {
     }
 }
 
-/// The participant's next outermost close scans.
-fn accelerate_at(world: &mut World<Val>, place: &Place, guard: &Guard)
-    requires { IsPlaceOf world.old (index_of place.now) }
-    ensures { world.new ≡ accelerated world.old (index_of place.now) }
-{
-    step_at(world, place, Accelerates { guard });
-}
-
 /// The guard, which is the participant's, is closed.
 struct ClosesGuard {
     guard: Guard,
@@ -296,15 +275,6 @@ impl Step for ClosesGuard {
         let ClosesGuard { guard } = self;
         guard.close(s);
     }
-}
-
-/// The guard, which is the participant's, is closed.
-pub fn close_at(world: &mut World<Val>, place: &Place, guard: Guard)
-    requires place { IsPlaceOf world.old (index_of place.now) }
-    requires reader { reader_of guard ≡ reader_at world.old (index_of place.now) }
-    ensures { world.new ≡ closed world.old (index_of place.now) }
-{
-    step_at(world, place, ClosesGuard { guard });
 }
 
 /// The slots whose owners the values in these slots hold.

@@ -62,7 +62,8 @@ impl Stage {
         let Some(body) = body_from(&mut self.hand.owners, value) else {
             unreachable!()
         };
-        let owner = make_item(&mut self.hand.world, &attending.place, body, ownership);
+        let step = MakesItem { body, ownership };
+        let owner = step_at(&mut self.hand.world, &attending.place, step);
         let slot = owner.slot();
         let item = self.hand.slots.len() as u64;
         self.hand.names[slot as usize] = item;
@@ -204,25 +205,6 @@ impl Step for MakesItem {
             },
         }
     }
-}
-
-/// A new item, which holds this, and a cell for its link.
-fn make_item(
-    world: &mut World<Val>,
-    place: &Place,
-    body: Body<Val>,
-    ownership: Ownership,
-) -> AnOwner
-    requires place { IsPlaceOf world.old (index_of place.now) }
-    requires cell { ¬ (IsFull world.old.cells) }
-    requires slot { ¬ (IsFull world.old.standings) }
-    requires home { AreOf world.old.home (owner_in body) }
-    ensures made { (k cell : ℕ) × (entry : Val) × (owner_holding result ≡ holding_first ownership k world.old.home.slots)
-        × IsEmptyAt world.old.cells cell × IsEmptyAt world.old.standings k
-        × (body_of entry ≡ body) × (link_of entry ≡ cell) × (link_home entry ≡ world.old.home.cells)
-        × (world.new ≡ made_as (nulled world.old cell) k entry (standing_first ownership)) }
-{
-    step_at(world, place, MakesItem { body, ownership })
 }
 
 /// The value in a slot, as a pointer to its item shows it under a guard of the participant.

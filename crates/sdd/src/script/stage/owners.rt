@@ -46,7 +46,8 @@ impl Stage {
         };
         self.hand.world.is_whole();
         let slot = slot_of_owner(&owner);
-        retire_item(&mut self.hand.world, &attending.place, owner);
+        let step = RetiresItem { owner };
+        step_at(&mut self.hand.world, &attending.place, step);
         self.hand.dates[slot as usize] = self.hand.moment;
         Reply::Done
     }
@@ -62,7 +63,8 @@ impl Stage {
         };
         self.hand.world.is_whole();
         let slot = slot_of_shared(&owner);
-        let was_last = release_owner(&mut self.hand.world, &attending.place, owner);
+        let step = ReleasesOwner { owner };
+        let was_last = step_at(&mut self.hand.world, &attending.place, step);
         if was_last {
             self.hand.dates[slot as usize] = self.hand.moment;
         }
@@ -76,11 +78,12 @@ impl Stage {
             return Ok(Reply::Invalid);
         };
         self.hand.owners.make_room()?;
-        let Some(held) = shared_of(&self.hand.owners, owner.0) else {
+        let Some(owner) = shared_of(&self.hand.owners, owner.0) else {
             return Ok(Reply::Invalid);
         };
         self.hand.world.is_whole();
-        match clone_held(&mut self.hand.world, &attending.place, held) {
+        let step = ClonesOwner { owner };
+        match step_at(&mut self.hand.world, &attending.place, step) {
             Ok(owner) => {
                 let name = self.hand.owners.give(AnOwner::Share(owner));
                 Ok(Reply::Owner(OwnerName(name)))
@@ -110,7 +113,9 @@ impl Stage {
         else {
             return Ok(Reply::Invalid);
         };
-        match share_item(&mut self.hand.world, &attending.place, &held.guard, slot) {
+        let place = &attending.place;
+        let ptr = ptr_at(&mut self.hand.world, place, slot, &held.guard);
+        match step_at(&mut self.hand.world, place, SharesItem { ptr }) {
             Ok(Some(owner)) => {
                 let name = self.hand.owners.give(AnOwner::Share(owner));
                 Ok(Reply::Owner(OwnerName(name)))
@@ -139,16 +144,6 @@ impl Step for RetiresItem {
     }
 }
 
-/// The only owner retires its item, which waits with the participant.
-fn retire_item(world: &mut World<Val>, place: &Place, owner: Owned<Val>)
-    requires place { IsPlaceOf world.old (index_of place.now) }
-    requires home { slots_home owner ≡ world.old.home.slots }
-    ensures retired { world.new ≡ retired world.old (index_of place.now) (slot_of owner) }
-    ensures owned { standing_at world.old (slot_of owner) ≡ Some standing.Owned }
-{
-    step_at(world, place, RetiresItem { owner });
-}
-
 /// A shared owner is given up; the last one's item waits with the participant.
 struct ReleasesOwner {
     owner: Shared<Val>,
@@ -166,16 +161,6 @@ impl Step for ReleasesOwner {
         let ReleasesOwner { owner } = self;
         owner.release(s)
     }
-}
-
-/// A shared owner is given up; the last one's item waits with the participant.
-fn release_owner(world: &mut World<Val>, place: &Place, owner: Shared<Val>) -> bool
-    requires place { IsPlaceOf world.old (index_of place.now) }
-    requires home { shared_owner.slots_home owner ≡ world.old.home.slots }
-    ensures released { (owners : ℕ) × IsSharedBy owners (standing_at world.old (shared_owner.slot_of owner)) × (IsTrue result ↔ (owners ≡ 1))
-        × (world.new ≡ owner_given world.old (index_of place.now) (shared_owner.slot_of owner) (Some (shared_by owners))) }
-{
-    step_at(world, place, ReleasesOwner { owner })
 }
 
 /// One owner more beside a shared one.
@@ -200,23 +185,6 @@ impl Step for ClonesOwner<'_> {
     }
 }
 
-/// One owner more beside a shared one.
-fn clone_held(
-    world: &mut World<Val>,
-    place: &Place,
-    owner: &Shared<Val>,
-) -> Result<Shared<Val>, Refused>
-    requires place { IsPlaceOf world.old (index_of place.now) }
-    requires home { shared_owner.slots_home owner.now ≡ world.old.home.slots }
-    ensures owner { IfOk result (λ other.
-        (shared_owner.slot_of other ≡ shared_owner.slot_of owner.now) × (shared_owner.slots_home other ≡ world.old.home.slots)) }
-    ensures shared { (owners : ℕ) × IsSharedBy owners (standing_at world.old (shared_owner.slot_of owner.now)) × MatchResult result
-        (λ _. (owners < 2 ^ 62) × (world.new ≡ with_standing world.old (shared_owner.slot_of owner.now) (shared_by (owners + 1))))
-        (λ e. (owners ≡ 2 ^ 62) × (e ≡ Refused.TooManyOwners) × (world.new ≡ world.old)) }
-{
-    step_at(world, place, ClonesOwner { owner })
-}
-
 /// One owner more of the item that a pointer is to.
 struct SharesItem<'a> {
     ptr: Ptr<'a, Val>,
@@ -239,26 +207,4 @@ impl Step for SharesItem<'_> {
         let SharesItem { ptr } = self;
         ptr.get_shared(s)
     }
-}
-
-/// One owner more of the item in a slot, through a pointer to it under a guard of the participant.
-fn share_item(
-    world: &mut World<Val>,
-    place: &Place,
-    guard: &Guard,
-    slot: u32,
-) -> Result<Option<Shared<Val>>, Refused>
-    requires place { IsPlaceOf world.old (index_of place.now) }
-    requires reader { reader_of guard.now ≡ reader_at world.old (index_of place.now) }
-    requires stays { Stays world.old (index_of place.now) slot }
-    ensures owner { IfOk result (λ o. MatchOption o (Unit {0})
-        (λ owner. (shared_owner.slot_of owner ≡ slot) × (shared_owner.slots_home owner ≡ world.old.home.slots))) }
-    ensures shared { MatchResult result
-        (λ o. MatchOption o (((owners : ℕ) → standing_at world.old slot ≢ Some (shared_by owners)) × (world.new ≡ world.old))
-        (λ _. (owners : ℕ) × IsSharedBy owners (standing_at world.old slot) × (owners < 2 ^ 62)
-        × (world.new ≡ with_standing world.old slot (shared_by (owners + 1)))))
-        (λ e. (e ≡ Refused.TooManyOwners) × IsSharedBy (2 ^ 62) (standing_at world.old slot) × (world.new ≡ world.old)) }
-{
-    let ptr = ptr_at(world, place, slot, guard);
-    step_at(world, place, SharesItem { ptr })
 }

@@ -6,12 +6,12 @@ use Rattle.sdd.proofs.script.stage.Stage.accelerate.Goals as goal
 
 pub invariant_of-self : goal.invariant_of-self
 invariant_of-self c = (acts-accelerated _ c.self.invariant c.is_whole.ensures c.args.name _ c.in-Some.ensures.found.0 c.args.guard _ c.in-Some.ensures.valid
-    c.accelerate_at.ensures).0
+    c.step_at.ensures.done).0
 
 pub returns : goal.returns
 returns c = record {
   acts = rw (← c.self.view_is) (acts-accelerated _ c.self.invariant c.is_whole.ensures c.args.name _ c.in-Some.ensures.found.0 c.args.guard _ c.in-Some.ensures.valid
-      c.accelerate_at.ensures).1;
+      c.step_at.ensures.done).1;
 }
 
 pub returns-in_default : goal.returns-in_default

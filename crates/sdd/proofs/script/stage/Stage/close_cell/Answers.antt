@@ -19,28 +19,28 @@ returns-in_default-take c =
           c.in_default-take.ensures.taken (λ v. v.1));
     }
 
-pub slot_in-held-requires-clause-home : goal.slot_in-held-requires-clause-home
-slot_in-held-requires-clause-home c = cell-home _ c.self.invariant c.args.cell.0 _ c.in-Some-take.ensures.taken
+pub step_at-held-requires-clause-asked : goal.step_at-held-requires-clause-asked
+step_at-held-requires-clause-asked c = cell-home _ c.self.invariant c.args.cell.0 _ c.in-Some-take.ensures.taken
 
-pub close_at-requires-clause-home : goal.close_at-requires-clause-home
-close_at-requires-clause-home c =
-    rw c.slot_in-held.ensures.world (cell-home _ c.self.invariant c.args.cell.0 _ c.in-Some-take.ensures.taken)
+pub step_at-requires-clause-asked : goal.step_at-requires-clause-asked
+step_at-requires-clause-asked c =
+    rw c.step_at-held.ensures.done.1 (cell-home _ c.self.invariant c.args.cell.0 _ c.in-Some-take.ensures.taken)
 
 pub date_if_waiting-requires : goal.date_if_waiting-requires
 date_if_waiting-requires c =
-    rw c.slot_in-held.ensures.slot (held-within _ c.self.invariant c.is_whole.ensures c.args.name _
+    rw c.step_at-held.ensures.done.0 (held-within _ c.self.invariant c.is_whole.ensures c.args.name _
     (got c.self.inside.hand.places c.args.name.0 _ c.in-Some.ensures) c.args.cell _ c.in-Some-take.ensures.taken)
 
 pub invariant_of-self-2 : goal.invariant_of-self-2
 invariant_of-self-2 c =
     (acts-cell_closed _ c.self.invariant c.is_whole.ensures c.args.name _ (got c.self.inside.hand.places c.args.name.0 _ c.in-Some.ensures) c.args.cell _
     c.in-Some-take.ensures.taken _ c.take.new.self.entries c.date_if_waiting.new.dates c.in-Some-take.ensures.spent
-    (rw c.slot_in-held.ensures.world at c.close_at.ensures) (rw c.slot_in-held.ensures.slot at c.date_if_waiting.ensures)).0
+    (rw c.step_at-held.ensures.done.1 at c.step_at.ensures.done) (rw c.step_at-held.ensures.done.0 at c.date_if_waiting.ensures)).0
 
 pub returns : goal.returns
 returns c = record {
   acts = rw (← c.self.view_is) (acts-cell_closed _ c.self.invariant c.is_whole.ensures c.args.name _
       (got c.self.inside.hand.places c.args.name.0 _ c.in-Some.ensures) c.args.cell _ c.in-Some-take.ensures.taken _
       c.take.new.self.entries c.date_if_waiting.new.dates c.in-Some-take.ensures.spent
-      (rw c.slot_in-held.ensures.world at c.close_at.ensures) (rw c.slot_in-held.ensures.slot at c.date_if_waiting.ensures)).1;
+      (rw c.step_at-held.ensures.done.1 at c.step_at.ensures.done) (rw c.step_at-held.ensures.done.0 at c.date_if_waiting.ensures)).1;
 }

@@ -7,10 +7,10 @@ returns-in_default c = record { acts = rw (← c.self.view_is) (still _ _ _ (c.i
 
 pub invariant_of-self-2 : goal.invariant_of-self-2
 invariant_of-self-2 c = (acts-closed c.self.inside.hand c.self.invariant c.is_whole.ensures c.args.name _ c.in-Some.ensures.found.0 c.args.guard _
-    c.take.new.self.entries _ c.in-Some.ensures.valid (sym c.in-Some-take.ensures.taken) c.in-Some-take.ensures.spent c.close_at.ensures).0
+    c.take.new.self.entries _ c.in-Some.ensures.valid (sym c.in-Some-take.ensures.taken) c.in-Some-take.ensures.spent c.step_at.ensures.done).0
 
 pub returns : goal.returns
 returns c = record {
   acts = rw (← c.self.view_is) (acts-closed c.self.inside.hand c.self.invariant c.is_whole.ensures c.args.name _ c.in-Some.ensures.found.0 c.args.guard _
-      c.take.new.self.entries _ c.in-Some.ensures.valid (sym c.in-Some-take.ensures.taken) c.in-Some-take.ensures.spent c.close_at.ensures).1;
+      c.take.new.self.entries _ c.in-Some.ensures.valid (sym c.in-Some-take.ensures.taken) c.in-Some-take.ensures.spent c.step_at.ensures.done).1;
 }

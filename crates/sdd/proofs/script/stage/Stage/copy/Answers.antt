@@ -24,13 +24,13 @@ copy_held-requires-clause-home c =
     cell-home c.self.inside.hand c.self.invariant c.args.cell.0 _ (rw c.make_room.ensures.kept at c.in-Some-shared_cell_of.ensures)
 
 copied : (c : goal.After-give-name) → Does (desk_of c.self.inside.hand) (At c.args.name (call.Copy c.args.cell c.args.guard))
-    (reply.Cell (record { 0 = c.give-name.result })) (record c.self.inside.hand { world = c.copy_held.new.world; cells = c.give-name.new.self })
+    (reply.Cell (record { 0 = c.give-name.result })) (record c.self.inside.hand { world = c.step_at.new.world; cells = c.give-name.new.self })
 copied c =
-    let out = c.in-Ok.ensures.copied in
+    let out = c.in-Ok.ensures.done.1 in
     let may = copied-may _ _ _ out.0 out.0.held out.2.1 in
     acts-copied c.self.inside.hand c.self.invariant c.is_whole.ensures c.args.name _ c.in-Some.ensures.found.0 c.args.cell c.args.guard _ out.0
     c.in-Some.ensures.valid (rw c.make_room.ensures.kept at c.in-Some-shared_cell_of.ensures) out.1 _ c.give-name.new.self.entries _ c.in-Ok.other may.0
-    (rw c.make_room.ensures.kept at c.give-name.ensures.given) c.in-Ok.ensures.home out.2.0 may.1 may.2
+    (rw c.make_room.ensures.kept at c.give-name.ensures.given) c.in-Ok.ensures.done.0 out.2.0 may.1 may.2
     (c.give-name.ensures.name ∙ ap length c.make_room.ensures.kept)
 
 pub invariant_of-self-in-Ok : goal.invariant_of-self-in-Ok
@@ -41,11 +41,11 @@ returns-in-Ok c = record { acts = rw (← c.self.view_is) (copied c).1 }
 
 pub returns-in-Err : goal.returns-in-Err
 returns-in-Err c =
-    let out = c.in-Err.ensures.copied in
+    let out = c.in-Err.ensures.done.1 in
     record {
       acts = rw (← c.self.view_is) (still-as c.self.inside.hand
-          (record c.self.inside.hand { world = c.copy_held.new.world; cells = c.make_room.new.self }) _ _
-          (same-cells c.self.inside.hand c.copy_held.new.world c.make_room.new.self.entries out.2.0 c.make_room.ensures.kept)
+          (record c.self.inside.hand { world = c.step_at.new.world; cells = c.make_room.new.self }) _ _
+          (same-cells c.self.inside.hand c.step_at.new.world c.make_room.new.self.entries out.2.0 c.make_room.ensures.kept)
           (copy-refused c.self.inside.hand c.self.invariant c.is_whole.ensures c.args.name _ c.in-Some.ensures.found.0 c.args.cell c.args.guard _ _
           c.in-Some.ensures.valid (rw c.make_room.ensures.kept at c.in-Some-shared_cell_of.ensures) out.1 _ out.2.1));
     }

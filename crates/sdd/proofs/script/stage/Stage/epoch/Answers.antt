@@ -11,6 +11,6 @@ returns-in_default c = record {
 
 pub returns : goal.returns
 returns c = record {
-  acts = rw (← c.self.view_is, c.epoch_at.ensures.world) (epoch-shown _ c.self.invariant c.is_whole.ensures c.args.name _ c.in-Some.ensures.found.0 c.args.guard
-      c.in-Some.ensures.valid _ c.epoch_at.ensures.epoch);
+  acts = rw (← c.self.view_is, c.step_at.ensures.done.1) (epoch-shown _ c.self.invariant c.is_whole.ensures c.args.name _ c.in-Some.ensures.found.0 c.args.guard
+      c.in-Some.ensures.valid _ c.step_at.ensures.done.0);
 }

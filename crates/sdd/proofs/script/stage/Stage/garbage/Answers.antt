@@ -11,6 +11,6 @@ returns-in_default c = record {
 
 pub returns : goal.returns
 returns c = record {
-  acts = rw (← c.self.view_is, c.garbage_at.ensures.world) (garbage-shown _ c.self.invariant c.is_whole.ensures c.args.name _ c.in-Some.ensures.found.0 c.args.guard
-      c.in-Some.ensures.valid _ c.garbage_at.ensures.garbage);
+  acts = rw (← c.self.view_is, c.step_at.ensures.done.1) (garbage-shown _ c.self.invariant c.is_whole.ensures c.args.name _ c.in-Some.ensures.found.0 c.args.guard
+      c.in-Some.ensures.valid _ c.step_at.ensures.done.0);
 }

@@ -15,14 +15,14 @@ returns-then-is_none c =
     let none = none-copied c.get-2.result _ c.if-is_none.ensures c.get-2.ensures in
     record { acts = rw (← c.self.view_is) (invalid _ _ _ (λ valid. no-cell c.self.inside.hand c.args.cell.0 none valid.1)) }
 
-pub take_out-held-requires-clause-home : goal.take_out-held-requires-clause-home
-take_out-held-requires-clause-home c = cell-home c.self.inside.hand c.self.invariant c.args.cell.0 _ (sym c.in-Some-take.ensures.taken)
+pub step_at-held-requires-clause-asked : goal.step_at-held-requires-clause-asked
+step_at-held-requires-clause-asked c = cell-home c.self.inside.hand c.self.invariant c.args.cell.0 _ (sym c.in-Some-take.ensures.taken)
 
 spent : (c : goal.After-told_back) → Does (desk_of c.self.inside.hand) (At c.args.name (call.Into c.args.cell)) (given_back c.give_filling-name.result)
-    (record c.self.inside.hand { world = c.take_out-held.new.world; owners = c.give_filling-name.new.owners; cells = c.take.new.self })
+    (record c.self.inside.hand { world = c.step_at-held.new.world; owners = c.give_filling-name.new.owners; cells = c.take.new.self })
 spent c =
     let h = c.self.inside.hand in
-    let out = c.take_out-held.ensures.taken in
+    let out = c.step_at-held.ensures.done in
     acts-taken h c.self.invariant c.is_whole.ensures c.args.name _ (got h.places c.args.name.0 _ c.in-Some.ensures) c.args.cell c.in-Some-take.holder out.0
     (sym c.in-Some-take.ensures.taken) out.1 _ c.give_filling-name.new.owners.entries c.take.new.self.entries _ c.give_filling-name.result
     c.in-Some-take.ensures.spent out.2 (rw c.make_room.ensures.kept at c.give_filling-name.ensures) out.3

@@ -21,13 +21,13 @@ returns-then-has_no_cell c = record {
       (c.if-has_no_cell.ensures.0 refl));
 }
 
-pub cell_around-cell-requires-clause-home : goal.cell_around-cell-requires-clause-home
-cell_around-cell-requires-clause-home c =
+pub step_at-cell-requires-clause-asked : goal.step_at-cell-requires-clause-asked
+step_at-cell-requires-clause-asked c =
     filling-home _ c.self.invariant c.args.ownership c.args.owner _ _ c.take_filling-filling.ensures.filled
 
 pub invariant_of-self-2 : goal.invariant_of-self-2
 invariant_of-self-2 c =
-    let made = c.cell_around-cell.ensures.made in
+    let made = c.step_at-cell.ensures.done in
     (acts-celled _ c.self.invariant c.is_whole.ensures c.args.name _ (got c.self.inside.hand.places c.args.name.0 _ c.in-Some.ensures)
     c.args.ownership c.args.owner made.0 _ c.take_filling-filling.new.owners.entries c.give-name.new.self.entries _ _ (record { 0 = c.give-name.result })
     (c.fits.ensures.0 c.if-not-fits.false) c.take_filling-filling.ensures.filled made.2 made.3 made.1
@@ -35,7 +35,7 @@ invariant_of-self-2 c =
 
 pub returns : goal.returns
 returns c =
-    let made = c.cell_around-cell.ensures.made in
+    let made = c.step_at-cell.ensures.done in
     record {
       acts = rw (← c.self.view_is) (acts-celled _ c.self.invariant c.is_whole.ensures c.args.name _
           (got c.self.inside.hand.places c.args.name.0 _ c.in-Some.ensures) c.args.ownership c.args.owner made.0 _

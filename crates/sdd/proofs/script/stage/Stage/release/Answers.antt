@@ -14,42 +14,42 @@ returns-in_default-take_shared c = record {
       (none-released c.self.inside.hand c.args.name c.args.owner c.in_default-take_shared.ensures.0);
 }
 
-pub release_owner-was_last-requires-clause-home : goal.release_owner-was_last-requires-clause-home
-release_owner-was_last-requires-clause-home c =
+pub step_at-was_last-requires-clause-asked : goal.step_at-was_last-requires-clause-asked
+step_at-was_last-requires-clause-asked c =
     owner-home c.self.inside.hand c.self.invariant c.is_whole.ensures c.args.owner.0 _ c.in-Some-take_shared.ensures.0
 
 pub invariant_of-self-then-was_last : goal.invariant_of-self-then-was_last
 invariant_of-self-then-was_last c =
     let now = c.self.inside.hand.moment in
-    let released = c.release_owner-was_last.ensures.released in
+    let released = c.step_at-was_last.ensures.done in
     let there = got c.self.inside.hand.places c.args.name.0 _ c.in-Some.ensures in
     (acts-released c.self.inside.hand c.self.invariant c.is_whole.ensures c.args.name _ there c.args.owner _
-    c.take_shared.new.owners.entries (with_item c.self.inside.hand.dates c.slot_of_shared-slot.result now) _ c.release_owner-was_last.result _
+    c.take_shared.new.owners.entries (with_item c.self.inside.hand.dates c.slot_of_shared-slot.result now) _ c.step_at-was_last.result _
     c.in-Some-take_shared.ensures.0 c.in-Some-take_shared.ensures.1
     (rw c.if-was_last.true (ap (λ k. slice_set c.self.inside.hand.dates.items k now) c.slot_of_shared-slot.ensures)) released.1 released.2 released.3).0
 
 pub invariant_of-self-else-was_last : goal.invariant_of-self-else-was_last
 invariant_of-self-else-was_last c =
-    let released = c.release_owner-was_last.ensures.released in
+    let released = c.step_at-was_last.ensures.done in
     let there = got c.self.inside.hand.places c.args.name.0 _ c.in-Some.ensures in
     (acts-released c.self.inside.hand c.self.invariant c.is_whole.ensures c.args.name _ there c.args.owner _
-    c.take_shared.new.owners.entries c.self.inside.hand.dates _ c.release_owner-was_last.result _
+    c.take_shared.new.owners.entries c.self.inside.hand.dates _ c.step_at-was_last.result _
     c.in-Some-take_shared.ensures.0 c.in-Some-take_shared.ensures.1 (rw c.if-was_last.false refl) released.1 released.2 released.3).0
 
 pub returns : goal.returns
 returns c =
     let now = c.self.inside.hand.moment in
-    let released = c.release_owner-was_last.ensures.released in
+    let released = c.step_at-was_last.ensures.done in
     record {
       acts = elim c.if-was_last.branch [
         | then-was_last w ↦ rw (← c.self.view_is, w.self-is) (acts-released c.self.inside.hand c.self.invariant c.is_whole.ensures c.args.name _
             (got c.self.inside.hand.places c.args.name.0 _ c.in-Some.ensures) c.args.owner _ c.take_shared.new.owners.entries
-            (with_item c.self.inside.hand.dates c.slot_of_shared-slot.result now) _ c.release_owner-was_last.result _
+            (with_item c.self.inside.hand.dates c.slot_of_shared-slot.result now) _ c.step_at-was_last.result _
             c.in-Some-take_shared.ensures.0 c.in-Some-take_shared.ensures.1
             (rw w.if-was_last.true (ap (λ k. slice_set c.self.inside.hand.dates.items k now) c.slot_of_shared-slot.ensures)) released.1 released.2 released.3).1
         | else-was_last w ↦ rw (← c.self.view_is, w.self-is) (acts-released c.self.inside.hand c.self.invariant c.is_whole.ensures c.args.name _
             (got c.self.inside.hand.places c.args.name.0 _ c.in-Some.ensures) c.args.owner _ c.take_shared.new.owners.entries
-            c.self.inside.hand.dates _ c.release_owner-was_last.result _
+            c.self.inside.hand.dates _ c.step_at-was_last.result _
             c.in-Some-take_shared.ensures.0 c.in-Some-take_shared.ensures.1 (rw w.if-was_last.false refl) released.1 released.2 released.3).1
       ];
     }

@@ -13,8 +13,8 @@ returns-in_default-take_sole c = record {
       (none-retired c.self.inside.hand c.args.name c.args.owner c.in_default-take_sole.ensures.0);
 }
 
-pub retire_item-requires-clause-home : goal.retire_item-requires-clause-home
-retire_item-requires-clause-home c = owner-home c.self.inside.hand c.self.invariant c.is_whole.ensures c.args.owner.0 _ c.in-Some-take_sole.ensures.0
+pub step_at-requires-clause-asked : goal.step_at-requires-clause-asked
+step_at-requires-clause-asked c = owner-home c.self.inside.hand c.self.invariant c.is_whole.ensures c.args.owner.0 _ c.in-Some-take_sole.ensures.0
 
 pub invariant_of-self-2 : goal.invariant_of-self-2
 invariant_of-self-2 c =
@@ -23,7 +23,7 @@ invariant_of-self-2 c =
     let there = got c.self.inside.hand.places c.args.name.0 _ c.in-Some.ensures in
     (acts-retired c.self.inside.hand c.self.invariant c.is_whole.ensures c.args.name _ there c.args.owner _
     c.take_sole.new.owners.entries (with_item c.self.inside.hand.dates c.slot_of_owner-slot.result now) _ c.in-Some-take_sole.ensures.0
-    c.in-Some-take_sole.ensures.1 dated c.retire_item.ensures.owned c.retire_item.ensures.retired).0
+    c.in-Some-take_sole.ensures.1 dated c.step_at.ensures.done.1 c.step_at.ensures.done.0).0
 
 pub returns : goal.returns
 returns c =
@@ -33,5 +33,5 @@ returns c =
       acts = rw (← c.self.view_is) (acts-retired c.self.inside.hand c.self.invariant c.is_whole.ensures c.args.name _
           (got c.self.inside.hand.places c.args.name.0 _ c.in-Some.ensures) c.args.owner _ c.take_sole.new.owners.entries
           (with_item c.self.inside.hand.dates c.slot_of_owner-slot.result now) _ c.in-Some-take_sole.ensures.0 c.in-Some-take_sole.ensures.1 dated
-          c.retire_item.ensures.owned c.retire_item.ensures.retired).1;
+          c.step_at.ensures.done.1 c.step_at.ensures.done.0).1;
     }

@@ -13,11 +13,11 @@ returns-in_default-get c = record {
   acts = rw (← c.self.view_is) (invalid-gone _ c.self.invariant c.args.name (call.Tag c.args.cell) c.args.cell.0 c.in_default-get.ensures (λ v. v.1));
 }
 
-pub tag_of-requires-clause-home : goal.tag_of-requires-clause-home
-tag_of-requires-clause-home c = cell-home _ c.self.invariant c.args.cell.0 _ c.in-Some-get.ensures
+pub step_at-requires-clause-asked : goal.step_at-requires-clause-asked
+step_at-requires-clause-asked c = cell-home _ c.self.invariant c.args.cell.0 _ c.in-Some-get.ensures
 
 pub returns : goal.returns
 returns c = record {
-  acts = rw (← c.self.view_is, c.tag_of.ensures.world) (acts-tag_told _ c.self.invariant c.is_whole.ensures c.args.name _
-      (got c.self.inside.hand.places c.args.name.0 _ c.in-Some.ensures) c.args.cell _ c.in-Some-get.ensures _ _ c.tag_of.ensures.tag.1 c.tag_of.ensures.tag.2);
+  acts = rw (← c.self.view_is, c.step_at.ensures.done.3) (acts-tag_told _ c.self.invariant c.is_whole.ensures c.args.name _
+      (got c.self.inside.hand.places c.args.name.0 _ c.in-Some.ensures) c.args.cell _ c.in-Some-get.ensures _ _ c.step_at.ensures.done.1 c.step_at.ensures.done.2);
 }
