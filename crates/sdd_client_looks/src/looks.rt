@@ -1,5 +1,6 @@
 //! Looks through a pointer while others go on.
-ghost use Rattle.std.specs.Prelude.{◌≡◌, ◌≢◌, [], IfOk, Some};
+ghost use Rattle.std.specs.Prelude.{◌≡◌, ◌≢◌, [], IfErr, IfOk, IsSome, MatchResult, Some};
+ghost use Rattle.sdd_store.specs.Time.{CanNest};
 ghost use Rattle.sdd_base.specs.Guard.{reader_of};
 ghost use Rattle.sdd_base.specs.Owned.{slot_of, slots_home};
 ghost use Rattle.sdd_base.specs.Seat.{IsSeated};
@@ -39,6 +40,8 @@ pub fn reader_and_writer(
     ensures owned { IfOk result (λ looks. value_at (opened (λ _. []) world.old (index_of reader.now)) (slot_of owner) ≡ Some looks.owned) }
     ensures first { IfOk result (λ looks. looks.first ≡ Some looks.owned) }
     ensures same { IfOk result (λ looks. looks.second ≡ looks.first) }
+    ensures refused { MatchResult result (λ _. CanNest world.old.time (index_of reader.now))
+        (λ e. (e ≡ (owner, Refused.TooManyGuards)) × ¬ (CanNest world.old.time (index_of reader.now)) × (world.new ≡ world.old)) }
 {
     let mut turn = world.at(reader);
     let guard = match Guard::new(&mut turn) {
@@ -98,7 +101,9 @@ pub fn nested_guards_outer_first<S: Space<u64>>(
     requires one { slots_home one.now ≡ (S.seat s.old).home.slots }
     requires other { slots_home other.now ≡ (S.seat s.old).home.slots }
     ensures seat { S.seat s.new ≡ S.seat s.old }
+    ensures seen { IfOk result (λ looks. IsSome looks.0) }
     ensures same { IfOk result (λ looks. looks.0 ≡ looks.1) }
+    ensures refused { IfErr result (λ e. e ≡ Refused.TooManyGuards) }
 {
     let outer = Guard::new(s)?;
     let inner = match Guard::new(s) {
