@@ -1,13 +1,1 @@
-pub mod Words
-pub mod Filled
-pub mod Peeked
-pub mod CellActs
-pub mod Acts
-pub mod ExchangeActs
-pub mod Missing
-pub mod Unshared
-pub mod Inside
-pub mod Making
-pub mod Taken
-pub mod Ending
 pub mod Plays

@@ -1,3 +1,1 @@
-pub mod Leaving
-pub mod Stage
 pub mod Play

@@ -1,11 +1,8 @@
 //! Scripts: calls on a world, and what they answer.
 
-pub mod holding;
-pub mod named;
 pub mod player;
 pub mod runner;
 pub mod scene;
-mod stage;
 
 pub use player::play;
 pub use runner::run;

@@ -210,6 +210,7 @@ impl<T: Item<T>> Owned<T> {
         ensures seat { S.seat s.new ≡ S.seat s.old }
         ensures own { S.own s.new ≡ S.own s.old }
         ensures known { KnowsOn (S.known s.old) (S.known s.new) }
+        ensures owned { IsExact (S.seat s.old) → standing_at (S.world s.old) (slot_of self.old) ≡ Some Standing.Owned }
         ensures back { IfErr result (λ e. e.0 ≡ f) }
         ensures shown { IfOk result (λ r. (was : T) × (now : T) × S.shows s.old (slot_of self.old) was × FnOnceReturnsAtMut F.FnOnce f was r now ×
             S.shows s.new (slot_of self.old) now) }
@@ -233,6 +234,7 @@ impl<T: Item<T>> Owned<T> {
         ensures seat { S.seat s.new ≡ S.seat s.old }
         ensures own { GrowsOn (S.own s.old) (S.own s.new) }
         ensures known { KnowsOn (S.known s.old) (S.known s.new) }
+        ensures owned { IsExact (S.seat s.old) → standing_at (S.world s.old) (slot_of self) ≡ Some Standing.Owned }
         ensures back { IfErr result (λ e. right_of e.0 ≡ right_of self) }
         ensures exact { IsExact (S.seat s.old) → MatchResult result
             (λ _. ¬ (IsGuarded (S.world s.old)) × (S.world s.new ≡ dropped T.holds (S.world s.old) (S.seat s.old).place (slot_of self)))

@@ -10,7 +10,7 @@ use Rattle.sdd_base.specs.declared.limits.Limits.{Limits}
 use Rattle.sdd_base.specs.Own.{all_awaiting, opened_at}
 use Rattle.sdd_base.specs.Steps as steps
 use Rattle.sdd_base.proofs.Whole.{one_where, count-cons, all_awaiting-guards}
-use Rattle.sdd_base.proofs.Own.{Gives, Gives-owner_given, Gives-cell_closed, Gives-all_reclaimed}
+use Rattle.sdd_base.proofs.Own.{Gives, Gives-owner_given, Gives-cell_closed, Gives-dropped, Gives-all_reclaimed}
 use Rattle.sdd_base.proofs.Own as own
 use Rattle.sdd_base.proofs.Opening.{how, Nests, IsChange, before, in_before, opened-other}
 use Rattle.sdd_base.proofs.Housed.{live-is, ended-lives, registered-live, registered-lives, registered-apart}
@@ -106,6 +106,9 @@ keeps-owner_given w p k s is = keeps-gives (Gives-owner_given w p k s is)
 
 pub keeps-cell_closed : (w : World Val) (p c : ℕ) → p < length w.time.places → KeepsGuards w (cell_closed w p c)
 keeps-cell_closed w p c l = keeps-gives (Gives-cell_closed w p c l)
+
+pub keeps-dropped : (w : World Val) (p k : ℕ) → p < length w.time.places → KeepsGuards w (steps.dropped holdings_of w p k)
+keeps-dropped w p k l = keeps-gives (Gives-dropped holdings_of w p k l)
 
 pub keeps-stirred : (w : World Val) (p : ℕ) → KeepsGuards w (steps.stirred w p)
 keeps-stirred w p = keeps-place w (steps.stirred w p) p (time.with_garbage (place_at w p)) refl refl

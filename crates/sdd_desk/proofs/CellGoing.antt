@@ -37,7 +37,7 @@ use Rattle.sdd_desk.proofs.Attending.{keeps-time, keeps-cell_closed, attended-ac
 use Rattle.sdd_desk.proofs.Kept.{kept-call, kept-two, were-same}
 use Rattle.sdd_desk.proofs.Dates.{begins-out, closed-other, dated-same, dated-stands, dated-either, early-dated}
 use Rattle.sdd_desk.proofs.Counting.{AreCounted, owner-where, named-fewer, counted-cell, counted-into, counted-cell_closed, cell-out}
-use Rattle.sdd_desk.proofs.Layers.{layered-cells, layered-shared, layered-closed}
+use Rattle.sdd_desk.proofs.Layers.{layered-closed}
 use Rattle.sdd_desk.proofs.Gone.{counts-cell_closed}
 use Rattle.sdd_desk.proofs.Going.{at_home-spent, at_home-given}
 
@@ -200,12 +200,11 @@ module _ (d : Desk) (s : IsSound d) where
 
       sound-cells : AreKept after_cells → AreCounted after_cells after_cells.world → AreAtHome d owners → AreAtHome d names → IsSound after_cells
       sound-cells kept counted owners_home cells_home =
-          let layers = layered-cells d d.world cells (record { older = s.layered.older; owned = s.layered.owned }) in
           let keeps = keeps-time d.world after_cells.world refl in
           record {
             stocked = stocked-as d after_cells s.stocked refl refl refl (no_slot-same d.world after_cells.world refl);
             cells = kept;
-            layered = record { older = layers.older; owned = layers.owned };
+            layered = s.layered;
             accounts = counted;
             owners_home = owners_home;
             cells_home = cells_home;
@@ -213,7 +212,6 @@ module _ (d : Desk) (s : IsSound d) where
             kept = kept-call d after_cells s.kept dated-cells whole (changes_cells d.world cells long) (were-same d after_cells refl keeps.guards);
             early = early-dated d after_cells dated-cells (omega arith) s.early;
             made = s.made;
-            in_place = s.in_place;
           }
 
     -- ---- a cell is made, for owners of the kind of another one
@@ -353,14 +351,14 @@ module _ (d : Desk) (s : IsSound d) where
 
       pub sound-cell_closed : IsSound after_cell_closed
       sound-cell_closed =
-          let layers = layered-closed d d.world p c (record { older = s.layered.older; owned = s.layered.owned }) in
+          let layers = layered-closed d d.world p c s.layered in
           let same = closed-same d.world p c in
           let counts = counts-cell_closed d.world p c in
           let keeps = keeps-cell_closed d.world p c live.0 in
           record {
             stocked = stocked-as d after_cell_closed s.stocked refl refl dated-cell_closed.long (no_slot-cell_closed d.world p c);
             cells = keepers-closed d after_cell_closed n c s.cells is.named same.0 same.1 refl;
-            layered = record { older = layers.older; owned = layers.owned };
+            layered = layers;
             accounts = counted-cell_closed d s.accounts p c;
             owners_home = rw counts.home s.owners_home;
             cells_home = rw counts.home (at_home-spent d.world.home d.cells n s.cells_home);
@@ -369,7 +367,6 @@ module _ (d : Desk) (s : IsSound d) where
                 (were-same d after_cell_closed refl keeps.guards);
             early = early-dated d after_cell_closed dated-cell_closed (omega arith) s.early;
             made = counts.made ∙ s.made;
-            in_place = counts.in_place ∙ s.in_place;
           }
 
       -- another cell is made, which holds what it holds, with one owner more
@@ -435,16 +432,13 @@ module _ (d : Desk) (s : IsSound d) where
 
           sound-copied_item : IsSound after_copied_item
           sound-copied_item =
-              let shared_world = with_standing d.world k (Shared (owners + 1)) in
-              let layers = layered-cells d shared_world after_copied_item.world.cells
-              (layered-shared d d.world k (owners + 1) (record { older = s.layered.older; owned = s.layered.owned })) in
               let slots = no_slot-standing d.world k (Shared (owners + 1)) (ap is_some stands.shared) in
               let keeps = keeps-time d.world after_copied_item.world refl in
               let whole_midway = Whole-cells d.world midway.cells whole in
               record {
                 stocked = stocked-as d after_copied_item s.stocked refl refl refl (record { taken = slots.taken; slots = slots.slots });
                 cells = keepers-named d after_copied_item other new_name cell s.cells free refl refl refl refl;
-                layered = record { older = layers.older; owned = layers.owned };
+                layered = s.layered;
                 accounts = counted-copied;
                 owners_home = s.owners_home;
                 cells_home = names_home;
@@ -453,7 +447,6 @@ module _ (d : Desk) (s : IsSound d) where
                     (were-same d after_copied_item refl keeps.guards) (begins-out shares-copied whole_midway);
                 early = early-dated d after_copied_item dated-copied_item (omega arith) s.early;
                 made = s.made;
-                in_place = s.in_place;
               }
 
         copied-calls : (held : Option ℕ) → cell.held ≡ held → MayShare d.world held owners → AreCalls d.world (copied_as held).world

@@ -8,7 +8,7 @@ use Rattle.sdd_base.specs.Calls.{Calls, IsFirst}
 use Rattle.sdd_base.specs.Calls.Calls.{registers, ends, opens, closes, stirs, accelerates, makes, shares, retires, releases, edits, drops, puts_out_raw, takes_back_raw, changes_cells, changes_pointers, closes_cell}
 use Rattle.sdd_base.specs.declared.limits.Limits.{Limits}
 use Rattle.sdd_base.specs.InPlace.{IsAlone}
-use Rattle.sdd_base.specs.Steps.{with_standing, without_cell, spilled, held_in, given_all, dropped_out, vacated}
+use Rattle.sdd_base.specs.Steps.{with_standing, without_cell, spilled, held_in, dropped_out, vacated}
 use Rattle.sdd_base.specs.World.{value_at}
 use Rattle.sdd_base.proofs.Whole.{times_among, times-aged}
 use Rattle.sdd_base.proofs.Entries.{one-place}

@@ -45,12 +45,12 @@ use Rattle.sdd_desk.proofs.Kept.{kept-call, kept-made, kept-later, kept-start, k
 use Rattle.sdd_desk.proofs.Dates.{first-waits-not, dated-same, dated-stands, early-dated, early-later, early-start, begins-line}
 use Rattle.sdd_desk.proofs.Dates as dates
 use Rattle.sdd_desk.proofs.Counting.{puts-number, puts-owner, times_in, counted-made, counted-retired, counted-released, counted-shared, counted-opened}
-use Rattle.sdd_desk.proofs.Layers.{told-made, layered-retired, layered-given, layered-shared, layered-opened, layered-made}
+use Rattle.sdd_desk.proofs.Layers.{told-made, layered-given, layered-opened, layered-made}
 use Rattle.sdd_desk.proofs.Gone.{counts-given, counts-opened}
 use Rattle.sdd_desk.proofs.Gone as gone
 
 -- an owner, of either kind
-sole-is : (x : Option Holding) (k : ℕ) → sole_slot x ≡ Some k → (h : Holding) × (x ≡ Some h) × (slot_of (Some h) ≡ Some k)
+pub sole-is : (x : Option Holding) (k : ℕ) → sole_slot x ≡ Some k → (h : Holding) × (x ≡ Some h) × (slot_of (Some h) ≡ Some k)
 sole-is None k e = absurd (cc)
 sole-is (Some (holding.owned j home)) k e = (holding.owned j home, refl, e)
 sole-is (Some (holding.shared j home)) k e = absurd (cc)
@@ -58,7 +58,7 @@ sole-is (Some (holding.atomic_owned c home)) k e = absurd (cc)
 sole-is (Some (holding.atomic_shared c home)) k e = absurd (cc)
 sole-is (Some (holding.atomic_raw c home)) k e = absurd (cc)
 
-shared-is : (x : Option Holding) (k : ℕ) → shared_slot x ≡ Some k → (h : Holding) × (x ≡ Some h) × (slot_of (Some h) ≡ Some k)
+pub shared-is : (x : Option Holding) (k : ℕ) → shared_slot x ≡ Some k → (h : Holding) × (x ≡ Some h) × (slot_of (Some h) ≡ Some k)
 shared-is None k e = absurd (cc)
 shared-is (Some (holding.owned j home)) k e = absurd (cc)
 shared-is (Some (holding.shared j home)) k e = (holding.shared j home, refl, e)
@@ -103,7 +103,7 @@ module _ (d : Desk) (s : IsSound d) where
     sound-stirred p live = record {
       stocked = stocked-as d new s.stocked refl refl refl (no_slot-same d.world new.world refl);
       cells = keepers-as d new s.cells refl refl refl;
-      layered = record { older = s.layered.older; owned = s.layered.owned };
+      layered = s.layered;
       accounts = s.accounts;
       owners_home = s.owners_home;
       cells_home = s.cells_home;
@@ -111,7 +111,6 @@ module _ (d : Desk) (s : IsSound d) where
       kept = kept-call d new s.kept dated whole (stirs d.world p live) (were-same d new refl (keeps-stirred d.world p).guards);
       early = early-dated d new dated (omega arith) s.early;
       made = s.made;
-      in_place = s.in_place;
     } where
       new : Desk
       new = in_world d (stirred d.world p)
@@ -123,7 +122,7 @@ module _ (d : Desk) (s : IsSound d) where
     sound-accelerated p live = record {
       stocked = stocked-as d new s.stocked refl refl refl (no_slot-same d.world new.world refl);
       cells = keepers-as d new s.cells refl refl refl;
-      layered = record { older = s.layered.older; owned = s.layered.owned };
+      layered = s.layered;
       accounts = s.accounts;
       owners_home = s.owners_home;
       cells_home = s.cells_home;
@@ -131,7 +130,6 @@ module _ (d : Desk) (s : IsSound d) where
       kept = kept-call d new s.kept dated whole (accelerates d.world p live) (were-same d new refl (keeps-accelerated d.world p).guards);
       early = early-dated d new dated (omega arith) s.early;
       made = s.made;
-      in_place = s.in_place;
     } where
       new : Desk
       new = in_world d (accelerated d.world p)
@@ -143,7 +141,7 @@ module _ (d : Desk) (s : IsSound d) where
     sound-registered p vacant = record {
       stocked = stocked-as d new s.stocked refl refl refl (no_slot-same d.world new.world refl);
       cells = keepers-as d new s.cells refl refl refl;
-      layered = record { older = s.layered.older; owned = s.layered.owned };
+      layered = s.layered;
       accounts = s.accounts;
       owners_home = s.owners_home;
       cells_home = s.cells_home;
@@ -151,7 +149,6 @@ module _ (d : Desk) (s : IsSound d) where
       kept = kept-call d new s.kept dated whole (registers d.world p vacant) (were-registered d new s.attended p vacant whole.housed.lengths refl refl);
       early = early-dated d new dated (omega arith) s.early;
       made = s.made;
-      in_place = s.in_place;
     } where
       new : Desk
       new = in_world (with_newcomer d p) (registered d.world p)
@@ -164,7 +161,7 @@ module _ (d : Desk) (s : IsSound d) where
     sound-ended n x there shut = record {
       stocked = stocked-as d new s.stocked refl refl refl (no_slot-same d.world new.world refl);
       cells = keepers-as d new s.cells refl refl refl;
-      layered = record { older = s.layered.older; owned = s.layered.owned };
+      layered = s.layered;
       accounts = s.accounts;
       owners_home = s.owners_home;
       cells_home = s.cells_home;
@@ -172,7 +169,6 @@ module _ (d : Desk) (s : IsSound d) where
       kept = kept-call d new s.kept dated whole (ends d.world x.place (s.attended.inside n x there) shut) (were-ended d new s.attended n x.place refl refl);
       early = early-dated d new dated (omega arith) s.early;
       made = s.made;
-      in_place = s.in_place;
     } where
       new : Desk
       new = in_world (without_participant d n) (ended d.world x.place)
@@ -185,7 +181,7 @@ module _ (d : Desk) (s : IsSound d) where
     sound-closed g p y there same live = record {
       stocked = stocked-as d new s.stocked refl refl refl (no_slot-same d.world new.world refl);
       cells = keepers-as d new s.cells refl refl refl;
-      layered = record { older = s.layered.older; owned = s.layered.owned };
+      layered = s.layered;
       accounts = s.accounts;
       owners_home = s.owners_home;
       cells_home = s.cells_home;
@@ -193,7 +189,6 @@ module _ (d : Desk) (s : IsSound d) where
       kept = kept-call d new s.kept dated whole (closes d.world p live) (were-closed d new s.attended g p y there same refl refl);
       early = early-dated d new dated (omega arith) s.early;
       made = s.made;
-      in_place = s.in_place;
     } where
       new : Desk
       new = in_world (without_guard d g) (closed d.world p)
@@ -213,11 +208,10 @@ module _ (d : Desk) (s : IsSound d) where
       pub sound-retired : IsSound after_retired
       sound-retired =
           let h = sole-is (holding_at d.owners o) k owner in
-          let layers = layered-retired d d.world p k (record { older = s.layered.older; owned = s.layered.owned }) in
           record {
             stocked = stocked-as d after_retired s.stocked refl refl (length-set d.dates k d.moment) (no_slot-retired d.world p k (ap is_some stands));
             cells = keepers-as d after_retired s.cells refl refl refl;
-            layered = record { older = layers.older; owned = layers.owned };
+            layered = s.layered;
             accounts = counted-retired d s.accounts o h.0 h.1 k h.2 p stands;
             owners_home = at_home-spent d.world.home d.owners o s.owners_home;
             cells_home = s.cells_home;
@@ -226,7 +220,6 @@ module _ (d : Desk) (s : IsSound d) where
                 (were-same d after_retired refl (keeps-retired d.world p k).guards);
             early = early-dated d after_retired dated-retired (omega arith) s.early;
             made = s.made;
-            in_place = s.in_place;
           }
 
     module _ (p k o count : ℕ) (b : Bool) (live : IsPlaceOf d.world p) (owner : shared_slot (holding_at d.owners o) ≡ Some k)
@@ -244,14 +237,14 @@ module _ (d : Desk) (s : IsSound d) where
       pub sound-released : IsSound after_released
       sound-released =
           let h = shared-is (holding_at d.owners o) k owner in
-          let layers = layered-given d d.world p k (Some (standing.Shared count)) stands.shared (record { older = s.layered.older; owned = s.layered.owned }) in
+          let layers = layered-given d d.world p k (Some (standing.Shared count)) stands.shared s.layered in
           let same = given-same d.world p k (Some (standing.Shared count)) stands.shared in
           let counts = counts-given d.world p k (Some (standing.Shared count)) stands.shared in
           let keeps = keeps-owner_given d.world p k (Some (standing.Shared count)) stands.shared in
           record {
             stocked = stocked-as d after_released s.stocked refl refl dated-released.long (no_slot-given d.world p k (Some (standing.Shared count)) stands.shared);
             cells = keepers-as d after_released s.cells same.0 same.1 refl;
-            layered = record { older = layers.older; owned = layers.owned };
+            layered = layers;
             accounts = counted-released d s.accounts o h.0 h.1 k h.2 p count stands.shared;
             owners_home = rw counts.home (at_home-spent d.world.home d.owners o s.owners_home);
             cells_home = rw counts.home s.cells_home;
@@ -260,7 +253,6 @@ module _ (d : Desk) (s : IsSound d) where
                 (were-same d after_released refl keeps.guards);
             early = early-dated d after_released dated-released (omega arith) s.early;
             made = counts.made ∙ s.made;
-            in_place = counts.in_place ∙ s.in_place;
           }
 
     module _ (p k count : ℕ) (live : IsPlaceOf d.world p) (stands : IsSharedBy count (standing_at d.world k)) where
@@ -272,12 +264,11 @@ module _ (d : Desk) (s : IsSound d) where
 
       pub sound-shared : IsSound after_shared
       sound-shared =
-          let layers = layered-shared d d.world k (count + 1) (record { older = s.layered.older; owned = s.layered.owned }) in
           let keeps = keeps-time d.world after_shared.world refl in
           record {
             stocked = stocked-as d after_shared s.stocked refl refl refl (no_slot-standing d.world k (standing.Shared (count + 1)) (ap is_some stands.shared));
             cells = keepers-as d after_shared s.cells refl refl refl;
-            layered = record { older = layers.older; owned = layers.owned };
+            layered = s.layered;
             accounts = counted-shared d s.accounts (holding.shared k d.world.home.slots) k count refl stands.shared stands.some;
             owners_home = at_home-given d.world.home d.owners (holding.shared k d.world.home.slots) refl s.owners_home;
             cells_home = s.cells_home;
@@ -285,7 +276,6 @@ module _ (d : Desk) (s : IsSound d) where
             kept = kept-call d after_shared s.kept dated-shared whole (shares d.world k count stands.shared) (were-same d after_shared refl keeps.guards);
             early = early-dated d after_shared dated-shared (omega arith) s.early;
             made = s.made;
-            in_place = s.in_place;
           }
 
     -- ---- an item is made
@@ -324,7 +314,7 @@ module _ (d : Desk) (s : IsSound d) where
           record {
             stocked = stocked-made d k s.stocked slot after_made (standing_first own) refl refl refl refl;
             cells = keepers-made d after_made c k v s.cells cell slot link whole.filled refl refl refl;
-            layered = layered-made d s.layered s.accounts s.stocked whole.filled (put_in d value) c k v (standing_first own) slot (first own) (moved value put)
+            layered = layered-made d s.layered s.accounts s.stocked whole.filled (put_in d value) c k v (standing_first own) slot (moved value put)
                 after_made refl refl;
             accounts = counted-made d s.accounts (put_in d value) c k v (standing_first own) (holding_first own k d.world.home.slots) whole.filled cell slot
                 (first own) (its-slot own) (moved value put);
@@ -334,7 +324,6 @@ module _ (d : Desk) (s : IsSound d) where
             kept = kept-made d after_made s.kept dated-made whole c k v (standing_first own) (first own) slot refl (were-same d after_made refl keeps.guards);
             early = early-dated d after_made dated-made (omega arith) s.early;
             made = told-made d (nulled d.world c) k v (standing_first own) s.made few;
-            in_place = s.in_place;
           }
 
     -- ---- a guard is opened
@@ -355,13 +344,13 @@ module _ (d : Desk) (s : IsSound d) where
 
       pub sound-opened : BeginsLine d → IsSound after_opening
       sound-opened line =
-          let layers = layered-opened d d.world x.place (record { older = s.layered.older; owned = s.layered.owned }) in
+          let layers = layered-opened d d.world x.place s.layered in
           let counts = counts-opened d.world x.place holdings_of in
           let middle = in_world d (opened holdings_of d.world x.place) in
           record {
             stocked = stocked-as d after_opening s.stocked refl refl long (no_slot-opened d.world x.place holdings_of);
             cells = keepers-as middle after_opening (keepers-opened d x.place s.cells) refl refl refl;
-            layered = record { older = layers.older; owned = layers.owned };
+            layered = layers;
             accounts = counted-opened d s.accounts x.place;
             owners_home = rw counts.home s.owners_home;
             cells_home = rw counts.home s.cells_home;
@@ -369,7 +358,6 @@ module _ (d : Desk) (s : IsSound d) where
             kept = kept-opened d after_opening s.attended s.kept whole dated-opened line n x there refl refl;
             early = early-dated d after_opening dated-opened (omega arith) s.early;
             made = counts.made ∙ s.made;
-            in_place = counts.in_place ∙ s.in_place;
           }
 
     -- the names found, and sorted
@@ -405,10 +393,7 @@ sound-start l d start names = record {
     apart = λ j k c h g. absurd (no-keeper j c h);
     bare = λ k c h. absurd (no-keeper (value_in k) c h);
   };
-  layered = record {
-    older = λ j k some. absurd (let none : times_held holdings_of k (value_at d.world j) ≡ 0 = ap (times_held holdings_of k) (values j) in omega (arith, none, some));
-    owned = λ k e. absurd (let never : None ≡ Some standing.Raw = sym (standings k) ∙ e in cc);
-  };
+  layered = λ j k some. absurd (let none : times_held holdings_of k (value_at d.world j) ≡ 0 = ap (times_held holdings_of k) (values j) in omega (arith, none, some));
   accounts = accounted-as holdings_of (λ _. 0) (named_owners d) d.world (λ k. ap (count_by (owns k)) start.owners)
       (accounted-blank holdings_of d.world _ l.slots l.cells start.world);
   owners_home = λ n h e. absurd (let never : None ≡ Some h = sym (ap (λ hs. holding_at hs n) start.owners) ∙ e in cc);
@@ -417,7 +402,6 @@ sound-start l d start names = record {
   kept = kept-start d start;
   early = early-start d start;
   made = ap (λ (t : Tally). t.made) start.world.tally ∙ sym (ap length start.slots);
-  in_place = ap (λ (t : Tally). t.in_place) start.world.tally;
 } where
   standings : (k : ℕ) → standing_at d.world k ≡ None
   standings k = ap (λ ss. slice_index_or ss k None) start.world.standings ∙ blank l.slots k
@@ -440,7 +424,7 @@ pub sound-later : (d : Desk) → IsSound d → IsSound (later d)
 sound-later d s = record {
   stocked = record { named = s.stocked.named; names = s.stocked.names; dates = s.stocked.dates };
   cells = keepers-as d (later d) s.cells refl refl refl;
-  layered = record { older = s.layered.older; owned = s.layered.owned };
+  layered = s.layered;
   accounts = s.accounts;
   owners_home = s.owners_home;
   cells_home = s.cells_home;
@@ -448,7 +432,6 @@ sound-later d s = record {
   kept = kept-later d s.kept;
   early = early-later d s.early;
   made = s.made;
-  in_place = s.in_place;
 }
 
 pub line-begins : (d : Desk) → IsSound d → BeginsLine (later d)

@@ -98,7 +98,7 @@ reclaims-once w p s i =
 reclaims-wait : (w : World Val) (p s : ℕ) → IsWhole w → 1 ≤ times_among s (reclaims w p) → is_waiting (standing_at w s) ≡ true
 reclaims-wait w p s i some = let once = reclaims-once w p s i in grind arith
 
-some-value : (o : Option Val) → is_some o ≡ true → (v : Val) × (o ≡ Some v)
+pub some-value : (o : Option Val) → is_some o ≡ true → (v : Val) × (o ≡ Some v)
 some-value None e = absurd (cc)
 some-value (Some v) e = (v, refl)
 
@@ -162,7 +162,7 @@ given-other w p k s t is ne =
     (λ n several more. at-other w.standings k s (Some (standing_shared (n - 1))) None ne)
 
 -- what begins to wait when p is given what a value held is the item whose owner the body was
-body-waits : (w : World Val) (p c s : ℕ) (home : Home) (b : Body Val) → held_in (entry_at w.cells c) ≡ None → is_waiting (standing_at w s) ≡ false →
+pub body-waits : (w : World Val) (p c s : ℕ) (home : Home) (b : Body Val) → held_in (entry_at w.cells c) ≡ None → is_waiting (standing_at w s) ≡ false →
     is_waiting (standing_at (given_all w p (owner_in b ++ atomic_owned c home ∷ [])) s) ≡ true → 1 ≤ times_in s (slots_of (owner_in b))
 body-waits w p c s home b bare idle waits = by b waits where
   closes : (u : World Val) → u.cells ≡ w.cells → standing_at (cell_closed u p c) s ≡ standing_at u s
@@ -264,7 +264,7 @@ body-times s c home (Shared o) =
     let all = count-cons (is_owner_of s) (shared.holding_of o) (atomic_owned c home ∷ []) in
     omega (arith, one, all)
 
-value-times : (s : ℕ) (v : Option Val) → times_in s (slots_in v) ≤ times_held holdings_of s v
+pub value-times : (s : ℕ) (v : Option Val) → times_in s (slots_in v) ≤ times_held holdings_of s v
 value-times s None = omega arith
 value-times s (Some v) = body-times s (link_of v) (link_home v) (body_of v)
 
@@ -477,6 +477,10 @@ module _ {T : Type 0} (w : World T) (p : ℕ) where
   pub counts-cell_closed : (c : ℕ) → KeepsCounts w (cell_closed w p c)
   counts-cell_closed c =
       keeps-cell_closed p (KeepsCounts w) counts-retired counts-cell counts-shared w c (record { slots = refl; made = refl; in_place = refl; home = refl })
+
+  pub counts-given_all : (hs : List Holding) → KeepsCounts w (given_all w p hs)
+  counts-given_all hs =
+      keeps-given_all p (KeepsCounts w) counts-retired counts-cell counts-shared w hs (record { slots = refl; made = refl; in_place = refl; home = refl })
 
   module _ (holds : T → List Holding) where
     out-counts : (u : World T) (k : ℕ) (v : Option T) → KeepsCounts w u → KeepsCounts w (taken_out holds u p k v)

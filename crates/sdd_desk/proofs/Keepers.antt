@@ -6,7 +6,7 @@ use Rattle.sdd_base.specs.Owned as owned
 use Rattle.sdd_base.specs.Shared as shared
 use Rattle.sdd_base.specs.Holding.{owned, shared, atomic_owned, atomic_shared, atomic_raw}
 use Rattle.sdd_base.specs.Steps as steps
-use Rattle.sdd_base.specs.Steps.{owner_given, spilled, cell_closed, freed, taken_out, waiting_value, reclaimed, all_reclaimed, given_all}
+use Rattle.sdd_base.specs.Steps.{owner_given, spilled, cell_closed, freed, taken_out, waiting_value, reclaimed, all_reclaimed, given_all, vacated, dropped_out, dropped}
 use Rattle.sdd_base.specs.Accounts.{IsAccounted}
 use Rattle.sdd_base.proofs.Accounts.{sum-out, outside-out}
 use Rattle.sdd_base.proofs.Standings.{out-some, owner-given}
@@ -274,7 +274,66 @@ keepers-closed d new n c i is values cells named = one-fewer d new i (name_of n)
   still (value_in s) x ne h = (h.0, ap (λ vs. slice_index_or vs s None) values ∙ h.1, h.2)
   still (name_of m) x ne h = rw named (ap cell_of (at-other d.cells n m None None (λ e. ne (ap name_of e))) ∙ h)
 
--- ---- an opening
+-- a value is gone, with its link
+module _ (d new : Desk) (i : AreKept d) (k : ℕ) (v : Val) (there : value_at d.world k ≡ Some v)
+    (values : new.world.values ≡ slice_set d.world.values k None) (cells : new.world.cells ≡ without_entry d.world.cells (link_of v))
+    (named : new.cells ≡ d.cells) where
+  was-kept : (j : Keeper) (x : ℕ) → Keeps new j x → (j ≢ value_in k) × Keeps d j x
+  was-kept (value_in s) x h =
+      elim (cases_eq s k) [
+        | inl e ↦ absurd (let gone : value_at new.world s ≡ None = rw (e, values) (at-default d.world.values k None) in
+            let none : None ≡ Some h.0 = sym gone ∙ h.1 in cc)
+        | inr ne ↦
+            (let same : value_at new.world s ≡ value_at d.world s = rw values (at-other d.world.values k s None None ne) in
+            (λ e. ne (cc), (h.0, sym same ∙ h.1, h.2)))
+      ]
+  was-kept (name_of n) x h = (λ e. absurd (cc), ap (λ hs. cell_of (holding_at hs n)) (sym named) ∙ h)
+
+  still-kept : (j : Keeper) (x : ℕ) → j ≢ value_in k → Keeps d j x → Keeps new j x
+  still-kept (value_in s) x ne h =
+      let same : value_at new.world s ≡ value_at d.world s = rw values (at-other d.world.values k s None None (λ e. ne (ap value_in e))) in
+      (h.0, same ∙ h.1, h.2)
+  still-kept (name_of n) x ne h = ap (λ hs. cell_of (holding_at hs n)) named ∙ h
+
+  pub keepers-gone : AreKept new
+  keepers-gone = one-fewer d new i (value_in k) (link_of v) (v, there, refl) cells was-kept still-kept
+
+-- a value is another, with the same link
+module _ (d new : Desk) (i : AreKept d) (k : ℕ) (was now : Val) (there : value_at d.world k ≡ Some was) (link : link_of now ≡ link_of was)
+    (values : new.world.values ≡ slice_set d.world.values k (Some now)) (cells : new.world.cells ≡ d.world.cells) (named : new.cells ≡ d.cells) where
+  value-edited : (s : ℕ) → ((s ≡ k) × (value_at new.world s ≡ Some now)) ⊎ ((s ≢ k) × (value_at new.world s ≡ value_at d.world s))
+  value-edited s = rw values (entry-set d.world.values k (Some now) s (inside d.world.values k (ap is_some there)))
+
+  one-value : (u v : Val) (o : Option Val) → o ≡ Some u → o ≡ Some v → u ≡ v
+  one-value u v o e f = let both : Some u ≡ Some v = sym e ∙ f in cc
+
+  before-edit : (j : Keeper) (x : ℕ) → Keeps new j x → Keeps d j x
+  before-edit (value_in s) x h =
+      elim (value-edited s) [
+        | inl here ↦ (was, ap (value_at d.world) here.0 ∙ there, sym link ∙ ap link_of (one-value now h.0 (value_at new.world s) here.1 h.1) ∙ h.2)
+        | inr other ↦ (h.0, sym other.1 ∙ h.1, h.2)
+      ]
+  before-edit (name_of n) x h = ap (λ hs. cell_of (holding_at hs n)) (sym named) ∙ h
+
+  after-edit : (j : Keeper) (x : ℕ) → Keeps d j x → Keeps new j x
+  after-edit (value_in s) x h =
+      elim (value-edited s) [
+        | inl here ↦
+            (let same = one-value was h.0 (value_at d.world s) (ap (value_at d.world) here.0 ∙ there) h.1 in
+            (now, here.1, link ∙ ap link_of same ∙ h.2))
+        | inr other ↦ (h.0, other.1 ∙ h.1, h.2)
+      ]
+  after-edit (name_of n) x h = ap (λ hs. cell_of (holding_at hs n)) named ∙ h
+
+  pub keepers-edited : AreKept new
+  keepers-edited = record {
+    keeper = λ c some. let j = i.keeper c (rw cells at some) in (j.0, after-edit j.0 c j.1);
+    taken = λ j c h. rw cells (i.taken j c (before-edit j c h));
+    apart = λ a b c g h. i.apart a b c (before-edit a c g) (before-edit b c h);
+    bare = λ s c h. ap (λ cs. held_in (entry_at cs c)) cells ∙ i.bare s c (before-edit (value_in s) c h);
+  }
+
+-- ---- what is given up
 
 -- what p is given of an owner changes no value and no cell
 pub given-same : {T : Type 0} (w : World T) (p k : ℕ) (s : Option Standing) → standing_at w k ≡ s →
@@ -314,6 +373,16 @@ body-given w p c home b none = by b where
       let g = given-same w p (shared.slot_of o) (standing_at w (shared.slot_of o)) refl in
       closes (owner_given w p (shared.slot_of o) (standing_at w (shared.slot_of o))) g.0 g.1
 
+-- the one owner drops its item: its value is gone, and gives up what it holds
+pub keepers-dropped : (d : Desk) (p k : ℕ) (v : Val) → value_at d.world k ≡ Some v → AreKept d → AreKept (in_world d (dropped holdings_of d.world p k))
+keepers-dropped d p k v there i =
+    let g = body-given (vacated d.world k) p (link_of v) (link_home v) (body_of v) (i.bare k (link_of v) (v, there, refl)) in
+    keepers-gone d (in_world d (dropped holdings_of d.world p k)) i k v there
+    (ap (λ (o : Option Val). (dropped_out holdings_of d.world p k o).values) there ∙ g.0)
+    (ap (λ (o : Option Val). (dropped_out holdings_of d.world p k o).cells) there ∙ g.1) refl
+
+-- ---- an opening
+
 module _ (d : Desk) (p : ℕ) where
   -- a value is taken out of its slot, and gives up what it holds
   out-kept : (w : World Val) (k : ℕ) (v : Option Val) → ((u : Val) → v ≡ Some u → value_at w k ≡ Some u) → AreKept (in_world d w) →
@@ -321,28 +390,8 @@ module _ (d : Desk) (p : ℕ) where
   out-kept w k None is i = i
   out-kept w k (Some v) is i =
       let there = is v refl in
-      let own : Keeps (in_world d w) (value_in k) (link_of v) = (v, there, refl) in
-      let g = body-given (freed w k) p (link_of v) (link_home v) (body_of v) (i.bare k (link_of v) own) in
-      one-fewer (in_world d w) (in_world d (taken_out holdings_of w p k (Some v))) i (value_in k) (link_of v) own g.1 (was g.0) (still g.0) where
-        was : (taken_out holdings_of w p k (Some v)).values ≡ slice_set w.values k None → (j : Keeper) (x : ℕ) →
-            Keeps (in_world d (taken_out holdings_of w p k (Some v))) j x → (j ≢ value_in k) × Keeps (in_world d w) j x
-        was values (value_in s) x h =
-            elim (cases_eq s k) [
-              | inl e ↦ absurd (let gone : value_at (taken_out holdings_of w p k (Some v)) s ≡ None = rw (e, values) (at-default w.values k None) in
-                  let none : None ≡ Some h.0 = sym gone ∙ h.1 in cc)
-              | inr ne ↦
-                  (let same : value_at (taken_out holdings_of w p k (Some v)) s ≡ value_at w s = rw values (at-other w.values k s None None ne) in
-                  (λ e. ne (cc), (h.0, sym same ∙ h.1, h.2)))
-            ]
-        was values (name_of n) x h = (λ e. absurd (cc), h)
-
-        still : (taken_out holdings_of w p k (Some v)).values ≡ slice_set w.values k None → (j : Keeper) (x : ℕ) → j ≢ value_in k →
-            Keeps (in_world d w) j x → Keeps (in_world d (taken_out holdings_of w p k (Some v))) j x
-        still values (value_in s) x ne h =
-            let same : value_at (taken_out holdings_of w p k (Some v)) s ≡ value_at w s =
-            rw values (at-other w.values k s None None (λ e. ne (ap value_in e))) in
-            (h.0, same ∙ h.1, h.2)
-        still values (name_of n) x ne h = h
+      let g = body-given (freed w k) p (link_of v) (link_home v) (body_of v) (i.bare k (link_of v) (v, there, refl)) in
+      keepers-gone (in_world d w) (in_world d (taken_out holdings_of w p k (Some v))) i k v there g.0 g.1 refl
 
   pub waiting-there : (w : World Val) (k : ℕ) (s : Option Standing) (v : Val) → waiting_value w k s ≡ Some v → value_at w k ≡ Some v
   waiting-there w k s v e = grind arith

@@ -7,17 +7,17 @@ use Rattle.sdd_store.specs.Waiting.{What}
 use Rattle.sdd_store.specs.Waiting.What.{Item, Private, Job}
 use Rattle.sdd_store.specs.Time.{Time, due_next, is_open}
 use Rattle.sdd_store.specs.Time as time
-use Rattle.sdd_store.specs.Table.{IsEmptyAt, entry_at, without_entry}
+use Rattle.sdd_store.specs.Table.{IsEmptyAt, without_entry}
 use Rattle.sdd_store.specs.declared.standing.Standing.{Standing}
-use Rattle.sdd_store.specs.declared.standing.Standing.TheVariants.{Owned, Raw, Shared, Retired}
+use Rattle.sdd_store.specs.declared.standing.Standing.TheVariants.{Shared}
 use Rattle.sdd_base.specs.Holding.{Home}
-use Rattle.sdd_base.specs.Calls.{IsFirst}
 use Rattle.sdd_base.specs.Out.{is_out}
 use Rattle.sdd_base.specs.World.{World, IsBlank, place_at, standing_at, value_at}
 use Rattle.sdd_base.specs.Accounts.{times_held}
-use Rattle.sdd_base.specs.Steps.{made_as, nulled, retired, owner_given, with_standing, cell_closed, freed, taken_out, waiting_value, reclaimed, all_reclaimed, changed, caught_up, opened}
+use Rattle.sdd_base.specs.Steps.{made_as, nulled, retired, owner_given, with_standing, cell_closed, freed, taken_out, waiting_value, reclaimed, all_reclaimed, changed, caught_up, opened, vacated, dropped_out, dropped, with_value}
 use Rattle.sdd_base.specs.Steps as steps
 use Rattle.sdd_base.proofs.Accounts.{outside-out, in_value-out}
+use Rattle.sdd_base.proofs.InPlace.{given_all-values}
 use Rattle.sdd_base.proofs.Opening.{keeps-owner_given, keeps-cell_closed, keeps-given_all}
 use Rattle.sdd_desk.specs.declared.val.Val.{Val}
 use Rattle.sdd_desk.specs.Val.{body_of, holdings_of}
@@ -99,15 +99,6 @@ told-made d w k v s e few = omega (arith, e, few, length_push d.slots k)
 
 -- ---- which items are older
 
--- where no item is out without an owner, none is after another stands somehow else
-owned-set : (ss : List (Option Standing)) (k : ℕ) (s : Option Standing) → s ≢ Some Raw → ((j : ℕ) → entry_at ss j ≢ Some Raw) → (j : ℕ) →
-    entry_at (slice_set ss k s) j ≢ Some Raw
-owned-set ss k s other none j =
-    elim (set-either ss k j s None) [
-      | inl is ↦ λ e. other (sym is ∙ e)
-      | inr was ↦ λ e. none j (sym was ∙ e)
-    ]
-
 -- what a value holds, where at most one value is gone
 times-freed : (vs : List (Option Val)) (k j i : ℕ) → 1 ≤ times_held holdings_of i (slice_index_or (slice_set vs k None) j None) →
     1 ≤ times_held holdings_of i (slice_index_or vs j None)
@@ -122,47 +113,38 @@ module _ (d : Desk) where
   abbrev pub AreLayered : World Val → Type 0
   AreLayered w = IsLayered (in_world d w)
 
-  stands-layered : (w : World Val) (t : Time) (k : ℕ) (s : Standing) → Some s ≢ Some Raw → AreLayered w →
-      AreLayered (record w { time = t; standings = slice_set w.standings k (Some s) })
-  stands-layered w t k s other l = record { older = l.older; owned = owned-set w.standings k (Some s) other l.owned }
-
-  pub layered-retired : (w : World Val) (p k : ℕ) → AreLayered w → AreLayered (retired w p k)
-  layered-retired w p k l = stands-layered w (time.awaiting_at w.time p (Item k)) k Retired (λ e. cc) l
-
-  pub layered-shared : (w : World Val) (k n : ℕ) → AreLayered w → AreLayered (with_standing w k (Shared n))
-  layered-shared w k n l = stands-layered w w.time k (Shared n) (λ e. cc) l
-
-  -- time or cells alone change
-  pub layered-time : (w : World Val) (t : Time) → AreLayered w → AreLayered (record w { time = t })
-  layered-time w t l = record { older = l.older; owned = l.owned }
-
-  pub layered-cells : (w : World Val) (cells : _) → AreLayered w → AreLayered (record w { cells = cells })
-  layered-cells w cells l = record { older = l.older; owned = l.owned }
-
   layered-freed : (w : World Val) (k : ℕ) → AreLayered w → AreLayered (freed w k)
-  layered-freed w k l = record {
-    older = λ j i some. l.older j i (times-freed w.values k j i some);
-    owned = owned-set w.standings k None (λ e. cc) l.owned;
-  }
+  layered-freed w k l = λ j i some. l j i (times-freed w.values k j i some)
 
   pub layered-given : (w : World Val) (p k : ℕ) (s : Option Standing) → standing_at w k ≡ s → AreLayered w → AreLayered (owner_given w p k s)
   layered-given w p k s is l =
-      keeps-given AreLayered (λ u q j out g. layered-retired u q j g) (λ u c g. layered-cells u (without_entry u.cells c) g)
-      (λ u j n m some g. layered-shared u j m g) w p k s is l
+      keeps-given AreLayered (λ u q j out g. g) (λ u c g. g) (λ u j n m some g. g) w p k s is l
 
   pub layered-closed : (w : World Val) (p c : ℕ) → AreLayered w → AreLayered (cell_closed w p c)
-  layered-closed w p c l =
-      keeps-closed AreLayered (λ u q j out g. layered-retired u q j g) (λ u c g. layered-cells u (without_entry u.cells c) g)
-      (λ u j n m some g. layered-shared u j m g) w p c l
+  layered-closed w p c l = keeps-closed AreLayered (λ u q j out g. g) (λ u c g. g) (λ u j n m some g. g) w p c l
 
   pub layered-opened : (w : World Val) (p : ℕ) → AreLayered w → AreLayered (opened holdings_of w p)
   layered-opened w p l =
-      keeps-opened AreLayered (λ u q j out g. layered-retired u q j g) (λ u c g. layered-cells u (without_entry u.cells c) g)
-      (λ u j n m some g. layered-shared u j m g) layered-freed layered-time w p l
+      keeps-opened AreLayered (λ u q j out g. g) (λ u c g. g) (λ u j n m some g. g) layered-freed (λ u t g. g) w p l
+
+  -- an item is dropped in its place
+  pub layered-dropped : (w : World Val) (p k : ℕ) (v : Val) → value_at w k ≡ Some v → AreLayered w → AreLayered (dropped holdings_of w p k)
+  layered-dropped w p k v there l =
+      let values : (dropped holdings_of w p k).values ≡ slice_set w.values k None =
+      ap (λ (o : Option Val). (dropped_out holdings_of w p k o).values) there ∙ given_all-values (vacated w k) p (holdings_of v) in
+      rw values (λ j i some. l j i (times-freed w.values k j i some))
+
+  -- a value is another, which holds no owner
+  pub layered-edited : (w : World Val) (k : ℕ) (v : Val) → ((i : ℕ) → times_in i (body_of v) ≡ 0) → AreLayered w → AreLayered (with_value w k v)
+  layered-edited w k v none l j i some =
+      elim (set-either w.values k j (Some v) None) [
+        | inl is ↦ absurd (omega (arith, some, ap (times_held holdings_of i) is, times-held v i, none i))
+        | inr was ↦ l j i (omega (arith, some, ap (times_held holdings_of i) was))
+      ]
 
 -- whatever has names, in that world
 pub layered-for : (d new : Desk) (w : World Val) → new.world ≡ w → new.names ≡ d.names → AreLayered d w → IsLayered new
-layered-for d new w world names l = record { older = rw (world, names) l.older; owned = rw world l.owned }
+layered-for d new w world names l = rw (world, names) l
 
 blank-at : {E : Type 0} (n k : ℕ) → slice_index_or (replicate {A = Option E} n None) k None ≡ None
 blank-at zero k = refl
@@ -172,14 +154,9 @@ blank-at (suc n) (suc k) = blank-at n k
 -- a world without items
 pub layered-start : (d : Desk) (t : Time) (slots cells : ℕ) → IsBlank t slots cells d.world → IsLayered d
 layered-start d t slots cells blank =
-    record {
-      older = λ j k some.
-          (let none : value_at d.world j ≡ None = ap (λ (vs : List (Option Val)). slice_index_or vs j None) blank.values ∙ blank-at slots j in
-          absurd (omega (arith, some, ap (times_held holdings_of k) none)));
-      owned = λ k e.
-          (let none : standing_at d.world k ≡ None = ap (λ (ss : List (Option Standing)). slice_index_or ss k None) blank.standings ∙ blank-at slots k in
-          let never : None ≡ Some Raw = sym none ∙ e in cc);
-    }
+    λ j k some.
+    (let none : value_at d.world j ≡ None = ap (λ (vs : List (Option Val)). slice_index_or vs j None) blank.values ∙ blank-at slots j in
+    absurd (omega (arith, some, ap (times_held holdings_of k) none)))
 
 -- there are as many values as slots
 filled-long : {A B : Type 0} (vs : List (Option A)) (ss : List (Option B)) → map is_some vs ≡ map is_some ss → length vs ≡ length ss
@@ -187,7 +164,7 @@ filled-long vs ss e = sym (length-map vs is_some) ∙ ap (λ (bs : List Bool). l
 
 -- an item is made: its value holds owners of items that are there, which were made before
 module _ (d : Desk) (l : IsLayered d) (a : AreCounted d d.world) (stocked : IsStocked d) (filled : map is_some d.world.values ≡ map is_some d.world.standings)
-    (e : Desk) (c k : ℕ) (v : Val) (s : Standing) (free : IsEmptyAt d.world.standings k) (first : IsFirst s)
+    (e : Desk) (c k : ℕ) (v : Val) (s : Standing) (free : IsEmptyAt d.world.standings k)
     (moved : (j : ℕ) → named_owners d j ≡ named_owners e j + times_in j (body_of v)) where
   abbrev made_names : List ℕ
   made_names = slice_set d.names k (length d.slots)
@@ -218,15 +195,7 @@ module _ (d : Desk) (l : IsLayered d) (a : AreCounted d d.world) (stocked : IsSt
       let out = in_value-out holdings_of d.world j i (named_owners d) a before in
       let mine : slice_index made_names i ≡ name_at d i = get_or-set_other d.names k i (length d.slots) 0 (elsewhere i out) in
       let its : slice_index made_names j ≡ name_at d j = get_or-set_other d.names k j (length d.slots) 0 apart in
-      omega (arith, mine, its, l.older j i before)
-
-  made-owned : (s : Standing) → IsFirst s → Some s ≢ Some Raw
-  made-owned s (inl is) = λ e. let never : Some Owned ≡ Some Raw = sym (ap Some is) ∙ e in cc
-  made-owned s (inr is) = λ e. let never : Some (Shared 1) ≡ Some Raw = sym (ap Some is) ∙ e in cc
+      omega (arith, mine, its, l j i before)
 
   pub layered-made : (new : Desk) → new.world ≡ made_as (nulled d.world c) k v s → new.names ≡ made_names → IsLayered new
-  layered-made new world names =
-      record {
-        older = rw (world, names) (λ j i some. made-older j i (cases_eq j k) some);
-        owned = rw world (owned-set d.world.standings k (Some s) (made-owned s first) l.owned);
-      }
+  layered-made new world names = rw (world, names) (λ j i some. made-older j i (cases_eq j k) some)

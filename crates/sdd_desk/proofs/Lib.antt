@@ -11,4 +11,5 @@ pub mod Layers
 pub mod Gone
 pub mod Going
 pub mod CellGoing
+pub mod InPlaceGoing
 pub mod Runs

@@ -1,11 +1,11 @@
 -- Which item is in which slot, after each step of a call
 use Rattle.sdd_store.specs.Time.{Time, is_open, finds_another, due_next}
 use Rattle.sdd_base.specs.Steps as steps
-use Rattle.sdd_base.specs.Steps.{retired, with_standing, owner_given, cell_closed, freed, taken_out, waiting_value, reclaimed, all_reclaimed}
+use Rattle.sdd_base.specs.Steps.{retired, with_standing, owner_given, cell_closed, freed, taken_out, waiting_value, reclaimed, all_reclaimed, vacated, dropped_out, dropped}
 use Rattle.sdd_base.proofs.Opening.{keeps-owner_given, keeps-cell_closed, keeps-given_all}
 use Rattle.sdd_base.proofs.Standings.{out-some}
 use Rattle.sdd_desk.proofs.Entry.{at-same, at-other, at-pushed, at-end, at-default, as-each, inside, not-free}
-use Rattle.sdd_desk.proofs.StockWords.{◌≡◌, ◌≢◌, ℕ, ◌<◌, Bool, true, false, if◌then◌else◌, List, [], ◌∷◌, ◌++◌, Option, Some, None, IsSome, is_some, length, slice_index_or, slice_set, inl, inr, refl, sym, ap, ◌∙◌, subst, arith, cases_eq, length-set, IsEmptyAt, with_entry, without_entry, What, Item, Private, Job, Standing, is_out, Holding, World, place_at, standing_at}
+use Rattle.sdd_desk.proofs.StockWords.{◌≡◌, ◌≢◌, ℕ, ◌<◌, Bool, true, false, if◌then◌else◌, List, [], ◌∷◌, ◌++◌, Option, Some, None, IsSome, is_some, length, slice_index_or, slice_set, inl, inr, refl, sym, ap, ◌∙◌, subst, arith, cases_eq, length-set, IsEmptyAt, with_entry, without_entry, What, Item, Private, Job, Standing, is_out, Holding, World, place_at, standing_at, value_at}
 use Rattle.std.proofs.lemmas.List.{length_push}
 use Rattle.sdd_store.specs.declared.standing.Standing.TheVariants.{Shared, Retired}
 use Rattle.sdd_desk.specs.Desk.{Desk, IsThere, slot_at, name_at}
@@ -83,6 +83,17 @@ module _ {T : Type 0} where
       all-no_slot : (xs : List What) (u : World T) → TakesNoSlot w u → TakesNoSlot w (all_reclaimed holds u p xs)
       all-no_slot [] u i = i
       all-no_slot (x ∷ xs) u i = all-no_slot xs (reclaimed holds u p x) (one-no_slot u x i)
+
+      -- a drop in place takes none
+      dropped_out-no_slot : (k : ℕ) (v : Option T) → TakesNoSlot w (dropped_out holds w p k v)
+      dropped_out-no_slot k None = start
+      dropped_out-no_slot k (Some v) =
+          let f = no_slot-freed w k in
+          let first : TakesNoSlot w (vacated w k) = record { taken = f.taken; slots = f.slots } in
+          keeps-given_all p (TakesNoSlot w) retires frees_cell shares (vacated w k) (holds v) first
+
+      pub no_slot-dropped : (k : ℕ) → TakesNoSlot w (dropped holds w p k)
+      no_slot-dropped k = dropped_out-no_slot k (value_at w k)
 
       -- an opening takes none
       pub no_slot-opened : TakesNoSlot w (steps.opened holds w p)

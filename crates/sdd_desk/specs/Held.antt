@@ -7,9 +7,13 @@ use Rattle.sdd_store.specs.declared.standing.Standing.TheVariants as standing
 use Rattle.sdd_slots.specs.Slots.{is_waiting}
 use Rattle.sdd_base.specs.Holding.{Holding}
 use Rattle.sdd_base.specs.Holding as holding
+use Rattle.sdd_base.specs.Owned as owned
+use Rattle.sdd_base.specs.Shared as shared
 use Rattle.sdd_base.specs.World.{World, standing_at, value_at}
 use Rattle.sdd_desk.specs.declared.ownership.Ownership.{Ownership}
 use Rattle.sdd_desk.specs.declared.ownership.Ownership.TheVariants as ownership
+use Rattle.sdd_desk.specs.declared.val.Body.{Body}
+use Rattle.sdd_desk.specs.declared.val.Body.TheVariants as body
 use Rattle.sdd_desk.specs.declared.val.Val.{Val}
 use Rattle.sdd_desk.specs.Val.{body_of, owner_in}
 
@@ -30,6 +34,12 @@ slots_of (holding.shared k home ∷ hs) = k ∷ slots_of hs
 slots_of (holding.atomic_owned c home ∷ hs) = slots_of hs
 slots_of (holding.atomic_shared c home ∷ hs) = slots_of hs
 slots_of (holding.atomic_raw c home ∷ hs) = slots_of hs
+
+-- the slot whose owner a body is, if it is one
+abbrev pub slot_held : Body Val → Option ℕ
+slot_held (body.Number n) = None
+slot_held (body.Owned o) = Some (owned.slot_of o)
+slot_held (body.Shared o) = Some (shared.slot_of o)
 
 -- the slots whose owner the body of a value is, if one is there
 abbrev pub slots_in : Option Val → List ℕ

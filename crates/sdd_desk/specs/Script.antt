@@ -9,11 +9,12 @@ use Rattle.sdd_store.specs.Waiting.What.{Item}
 use Rattle.sdd_store.specs.Time.{IsCrowded, IsVacant, CanNest, has_garbage, is_open}
 use Rattle.sdd_store.specs.Table.{IsEmptyAt, IsFull}
 use Rattle.sdd_store.specs.declared.standing.Cell.{Cell}
-use Rattle.sdd_store.specs.declared.standing.Standing.TheVariants.{Owned, Shared}
+use Rattle.sdd_store.specs.declared.standing.Standing.TheVariants.{Owned, Raw, Shared}
 use Rattle.sdd_slots.specs.Slots.{IsSharedBy, is_waiting}
 use Rattle.sdd_base.specs.declared.limits.Limits.{Limits}
 use Rattle.sdd_base.specs.Holding.{Holding, owned, shared, atomic_owned, atomic_shared, atomic_raw}
 use Rattle.sdd_base.specs.World.{World, place_at, standing_at}
+use Rattle.sdd_base.specs.InPlace.{MayInPlace, RefusedInPlace}
 use Rattle.sdd_base.specs.Steps.{registered, ended, retired, opened, closed, stirred, accelerated, reclaims, owner_given, with_standing, without_cell, cell_closed}
 use Rattle.sdd_base.specs.Steps as steps
 use Rattle.sdd_base.specs.Calls.{Calls}
@@ -32,7 +33,8 @@ use Rattle.sdd_lines.specs.declared.answer.Reply.TheVariants as reply
 use Rattle.sdd_desk.specs.declared.val.Val.{Val}
 use Rattle.sdd_desk.specs.Val.{holdings_of}
 use Rattle.sdd_desk.specs.Made.{Makes, RefusesItem, put_in}
-use Rattle.sdd_desk.specs.Shown.{Shows, IsCell, item_held}
+use Rattle.sdd_desk.specs.Shown.{Shows, IsCell, item_held, item_in}
+use Rattle.sdd_desk.specs.InPlace.{OwnsNumber, Puts, Drops, RefusesDrop, IsRaw}
 use Rattle.sdd_desk.specs.Desk.{Desk, Opening, IsStart, IsDated, IsThere, Leaves, opening_at, holding_at, slot_at, date_at, place_of, since_of, slot_of, sole_slot, shared_slot, shared_cell, in_world, with_owner, without_owner, with_item, with_newcomer, without_participant, with_guard, without_guard, later}
 use Rattle.sdd_desk.specs.Desk as desk
 
@@ -115,6 +117,11 @@ IsValid d n (call.Read o) = IsParticipant d n × IsOwner d o.0
 IsValid d n (call.Retire o) = IsParticipant d n × IsSole d o.0
 IsValid d n (call.Release o) = IsParticipant d n × IsShared d o.0
 IsValid d n (call.Clone o) = IsParticipant d n × IsShared d o.0
+IsValid d n (call.Put o number) = IsParticipant d n × OwnsNumber d o.0
+IsValid d n (call.Drop o) = IsParticipant d n × IsOwner d o.0
+IsValid d n (call.Raw o) = IsParticipant d n × IsSole d o.0
+IsValid d n (call.Unraw i) = IsParticipant d n × IsThere d i.0
+IsValid d n (call.See i g) = HasOpen d n g.0 × IsThere d i.0
 IsValid d n (call.Look i g) = HasOpen d n g.0 × CanPointTo d n i.0
 IsValid d n (call.Upgrade i g) = HasOpen d n g.0 × CanPointTo d n i.0
 IsValid d n (call.CellOwned x) = IsParticipant d n × FitsSole d x
@@ -253,6 +260,22 @@ Does d n p (call.Retire o) reply.Done new =
 Does d n p (call.Release o) (reply.Truth b) new =
     (k : ℕ) × (owners : ℕ) × (shared_slot (holding_at d.owners o.0) ≡ Some k) × IsSharedBy owners (standing_at d.world k) × (IsTrue b ↔ (owners ≡ 1))
     × Leaves (in_world (without_owner d o.0) (owner_given d.world p k (Some (Shared owners)))) new
+Does d n p (call.Put o number) reply.Done new =
+    (k : ℕ) × (w : World Val) × (slot_of (holding_at d.owners o.0) ≡ Some k) × MayInPlace d.world k × Puts d.world k number w × Leaves (in_world d w) new
+Does d n p (call.Put o number) (reply.Refused e) new =
+    ((k : ℕ) × (slot_of (holding_at d.owners o.0) ≡ Some k) × RefusedInPlace d.world k e) × (new ≡ d)
+Does d n p (call.Drop o) (reply.Refused GuardOpen) new = ((h : Holding) × (holding_at d.owners o.0 ≡ Some h) × RefusesDrop d.world h) × (new ≡ d)
+Does d n p (call.Drop o) given new =
+    (h : Holding) × (w : World Val) × (holding_at d.owners o.0 ≡ Some h) × Drops d.world p h given w × Leaves (in_world (without_owner d o.0) w) new
+Does d n p (call.Raw o) (reply.Raw i) new =
+    (k : ℕ) × (sole_slot (holding_at d.owners o.0) ≡ Some k) × (i ≡ item_in d.names k)
+    × Leaves (in_world (without_owner d o.0) (with_standing d.world k Raw)) new
+-- none where the item isn't out as raw
+Does d n p (call.Unraw i) reply.Nothing new = ¬ (IsRaw d i.0) × (new ≡ d)
+Does d n p (call.Unraw i) (reply.Owner o) new =
+    IsRaw d i.0 × GivesOwner d (with_standing d.world (slot_at d i.0) Owned) (owned (slot_at d i.0) d.world.home.slots) o new
+Does d n p (call.See i g) reply.Nothing new = ¬ (IsRaw d i.0) × (new ≡ d)
+Does d n p (call.See i g) given new = IsRaw d i.0 × Shows d (slot_at d i.0) given × (new ≡ d)
 Does d n p (call.CellOwned x) given new = MakesCell d x (cell_as None) given new
 Does d n p (call.CellShared x) given new = MakesCell d x (cell_as (Some (atomic_shared 0 d.world.home.cells))) given new
 Does d n p (call.Load c g) (reply.Pointer i tag) new = ((k : ℕ) × (cell : Cell) × IsCell d c.0 k cell × (i ≡ item_held d cell) × (tag ≡ cell.tag)) × (new ≡ d)

@@ -1,8 +1,7 @@
 -- What is always true of a desk
-use Rattle.std.specs.Prelude.{ℕ, ◌+◌, ◌<◌, ◌≤◌, ◌≡◌, ◌≢◌, ◌==◌, Bool, false, IsTrue, IsSome, List, Option, None, Some, count_by, length}
+use Rattle.std.specs.Prelude.{ℕ, ◌+◌, ◌<◌, ◌≤◌, ◌≡◌, ◌==◌, Bool, false, IsTrue, IsSome, List, Option, None, Some, count_by, length}
 use Rattle.sdd_store.specs.Time.{is_open, phase_at}
 use Rattle.sdd_store.specs.Table.{entry_at}
-use Rattle.sdd_store.specs.declared.standing.Standing.TheVariants.{Raw}
 use Rattle.sdd_slots.specs.Slots.{is_waiting}
 use Rattle.sdd_base.specs.Holding.{Holding, IsOf}
 use Rattle.sdd_base.specs.World.{IsPlaceOf, place_at, standing_at, value_at}
@@ -15,7 +14,7 @@ use Rattle.sdd_desk.specs.Desk.{Desk, Opening, opening_at, holding_at, slot_at, 
 
 -- which item is in which slot
 pub record IsStocked (d : Desk) : Type 0 where
-  -- a slot that is not free is that of the item that it has
+  -- a slot that is not free is that of the item that it has: so what is out as raw is out under its item's name
   pub named : (s : ℕ) → IsSome (standing_at d.world s) → (name_at d s < length d.slots) × (slot_at d (name_at d s) ≡ s)
   pub names : length d.names ≡ length d.world.standings
   pub dates : length d.dates ≡ length d.world.standings
@@ -72,11 +71,9 @@ abbrev pub IsKept : Desk → Type 0
 IsKept d = (n s : ℕ) (x : Opening) → opening_at d.places n ≡ Some x → IsTrue (is_open (place_at d.world x.place)) →
     IsTrue (is_waiting (standing_at d.world s)) → x.since ≤ date_at d s → IsSafe d.world x.place s
 
--- what values hold goes back to older items, and an item that is out has an owner: so with no owner outside all goes
-pub record IsLayered (d : Desk) : Type 0 where
-  -- what a value holds is an owner of an item that was made before its own
-  pub older : (j k : ℕ) → 1 ≤ times_held holdings_of k (value_at d.world j) → name_at d k < name_at d j
-  pub owned : (k : ℕ) → standing_at d.world k ≢ Some Raw
+-- what a value holds is an owner of an item that was made before its own: so with no owner outside, and none out as raw, all goes
+abbrev pub IsLayered : Desk → Type 0
+IsLayered d = (j k : ℕ) → 1 ≤ times_held holdings_of k (value_at d.world j) → name_at d k < name_at d j
 
 pub record IsSound (d : Desk) : Type 0 where
   pub stocked : IsStocked d
@@ -90,4 +87,3 @@ pub record IsSound (d : Desk) : Type 0 where
   -- in a line so far
   pub early : (s : ℕ) → date_at d s ≤ d.moment
   pub made : d.world.tally.made ≡ length d.slots
-  pub in_place : d.world.tally.in_place ≡ 0

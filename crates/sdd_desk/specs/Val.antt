@@ -1,5 +1,5 @@
 -- What the value of a script's item is
-use Rattle.std.specs.Prelude.{ℕ, List, [], ◌∷◌, ◌++◌}
+use Rattle.std.specs.Prelude.{ℕ, ◌≡◌, List, [], ◌∷◌, ◌++◌}
 use Rattle.sdd_token.specs.Units as token
 use Rattle.sdd_base.specs.Owned as owned
 use Rattle.sdd_base.specs.Shared as shared
@@ -22,6 +22,18 @@ abbrev pub owner_in : Body Val → List Holding
 owner_in (Number n) = []
 owner_in (Owned o) = owned.holding_of o ∷ []
 owner_in (Shared o) = shared.holding_of o ∷ []
+
+-- with another number; an owner stays
+abbrev pub renumbered : Body Val → ℕ → Body Val
+renumbered (Number m) n = Number n
+renumbered (Owned o) n = Owned o
+renumbered (Shared o) n = Shared o
+
+-- a value has this number in place of the one that it had, and the same link
+pub record Renumbers (was : Val) (number : ℕ) (now : Val) : Type 0 where
+  pub body : body_of now ≡ renumbered (body_of was) number
+  pub link : link_of now ≡ link_of was
+  pub home : link_home now ≡ link_home was
 
 -- it holds an owner or none, and its link
 abbrev pub holdings_of : Val → List Holding

@@ -32,7 +32,7 @@ impl Item<Val> for Val {
 }
 
 impl Val {
-    ghost use Rattle.sdd_desk.specs.Val.{body_of, link_of, link_home};
+    ghost use Rattle.sdd_desk.specs.Val.{body_of, link_of, link_home, Renumbers};
     ghost use Rattle.sdd_base.specs.Owned.{cell_of, cells_home};
 
     /// What it holds, with its cell.
@@ -42,6 +42,15 @@ impl Val {
         ensures home { link_home result ≡ cells_home link }
     {
         Val { body, link }
+    }
+
+    /// Puts a number in the place of its number. An owner stays as it is, since it must be spent.
+    pub fn put(&mut self, number: u64)
+        ensures { Renumbers self.old number self.new }
+    {
+        if let Body::Number(held) = &mut self.body {
+            *held = number;
+        }
     }
 
     /// What it holds.

@@ -30,8 +30,10 @@ pub enum Reply {
     Item(OwnerName, ItemName),
     /// `o0`: an owner of an item that was there.
     Owner(OwnerName),
-    /// `none`: no owner.
+    /// `none`: no owner, or nothing to see.
     Nothing,
+    /// `i0`: the item that is out as raw.
+    Raw(ItemName),
     /// A value that is a number, as `7`.
     Value(u64),
     /// `of i0`: a value that holds an owner of this item.
@@ -77,6 +79,7 @@ impl fmt::Display for Reply {
             Reply::Item(owner, item) => write!(f, "{owner} {item}"),
             Reply::Owner(owner) => write!(f, "{owner}"),
             Reply::Nothing => write!(f, "none"),
+            Reply::Raw(item) => write!(f, "{item}"),
             Reply::Value(value) => write!(f, "{value}"),
             Reply::Holding(item) => write!(f, "of {item}"),
             Reply::Cell(cell) => write!(f, "{cell}"),

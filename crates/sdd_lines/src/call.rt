@@ -44,6 +44,16 @@ pub enum Action {
     Release(OwnerName),
     /// `clone O`: an owner more beside a counted one.
     Clone(OwnerName),
+    /// `put O n`: the number that an owner's item holds becomes this one, in its place.
+    Put(OwnerName, u64),
+    /// `drop O`: gives up an owner; the item of one that is alone is dropped in its place.
+    Drop(OwnerName),
+    /// `raw O`: puts the item of its one owner out as raw, with no owner.
+    Raw(OwnerName),
+    /// `unraw I`: the owner of an item that is out as raw.
+    Unraw(ItemName),
+    /// `see I G`: the value of an item that is out as raw.
+    See(ItemName, GuardName),
     /// `cell owned X`: a cell that holds an owner, or `none`, and closes with it.
     CellOwned(Option<OwnerName>),
     /// `cell shared X`: a cell that holds a counted owner, or `none`.

@@ -61,6 +61,7 @@ fn replies_have_texts(rt: HostRuntime) -> Result<(), Fail> {
         (Reply::Value(18446744073709551615), "18446744073709551615\n"),
         (Reply::Owner(OwnerName(2)), "o2\n"),
         (Reply::Nothing, "none\n"),
+        (Reply::Raw(ItemName(4)), "i4\n"),
         (Reply::Holding(ItemName(4)), "of i4\n"),
         (Reply::Cell(CellName(5)), "c5\n"),
         (Reply::Pointer(Some(ItemName(4)), Tag::Both), "i4 Both\n"),

@@ -23,13 +23,17 @@ use std::{fs, io};
 use verdict::Verdict;
 
 /// The folders of examples.
-const GROUPS: [&str; 8] = [
+const GROUPS: [&str; 10] = [
     // items that several own
     "shared_owners",
     // cells, of either kind
     "cells",
     // an exchange that fails gives the owner back, and one that succeeds spends it
     "exchanges",
+    // items that are changed or dropped in their place
+    "items_in_place",
+    // items that are out as raw
+    "raw_items",
     // what a value held goes three changes after it, and is named then
     "nested_values",
     // participants end

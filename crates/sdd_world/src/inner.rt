@@ -110,6 +110,15 @@ pub fn leave_shared<T: Item<T>>(world: &mut World<T>, owner: Shared<T>)
     world.leave(right_of_shared(owner), Kind::Shared);
 }
 
+/// The item in a slot that is out as raw waits at some place that isn't free.
+pub fn leave_raw<T: Item<T>>(world: &mut World<T>, slot: u32)
+    requires some { (p : ℕ) × IsSome (phase_at world.old.time p) }
+    requires raw { standing_at world.old slot ≡ Some standing.Raw }
+    ensures left { (p : ℕ) × IsSome (phase_at world.old.time p) × (world.new ≡ retired world.old p slot) }
+{
+    world.leave_raw(slot);
+}
+
 /// The cell is free, and some place that isn't free is given the item that it held.
 pub fn leave_cell<T: Item<T>>(world: &mut World<T>, cell: AtomicOwned<T>)
     requires some { (p : ℕ) × IsSome (phase_at world.old.time p) }

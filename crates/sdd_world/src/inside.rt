@@ -240,6 +240,22 @@ impl<T: Item<T>> Core<T> {
         self.slots.take_back_raw(slot)
     }
 
+    /// The item in a slot that is out as raw waits at some place that isn't free.
+    pub fn leave_raw(&mut self, slot: u32)
+        requires some { (p : ℕ) × IsSome (time.phase_at self.old.world.time p) }
+        requires raw { standing_at self.old.world slot ≡ Some Standing.Raw }
+        ensures left { (p : ℕ) × IsSome (time.phase_at self.old.world.time p)
+            × (self.new ≡ record self.old { world = retired self.old.world p slot }) }
+        ensures sizes { KeepsSizes self.old.world self.new.world }
+        ensures whole { IsWhole self.old.world → IsWhole self.new.world }
+        ensures lent { IsWhole self.old.world → AreLent self.old → AreLent self.new }
+    {
+        let Some(right) = self.take_back_raw(slot) else {
+            unreachable!()
+        };
+        self.leave(right, Kind::Owned);
+    }
+
     /// Why an owner of this kind may not change or drop its item in its place, if it may not: others own it, or else a guard is open.
     pub fn refused_in_place(&self, right: &Right, kind: Kind) -> Option<Refused>
         requires home { home_of right.now ≡ self.now.world.home.slots }

@@ -11,7 +11,7 @@ ghost use Rattle.sdd_base.specs.Seat.{reader_at};
 ghost use Rattle.sdd_base.specs.Under.{Stays};
 ghost use Rattle.sdd_base.specs.Out.{out};
 ghost use Rattle.sdd_base.specs.Limits.{AreInRange};
-ghost use Rattle.sdd_base.specs.Steps.{made, owner_given, nulled, cell_closed, opened, changed, closed, stirred, accelerated, registered, ended, reclaims};
+ghost use Rattle.sdd_base.specs.Steps.{made, retired, owner_given, nulled, cell_closed, opened, changed, closed, stirred, accelerated, registered, ended, reclaims};
 
 mod closing;
 mod laws;
@@ -158,6 +158,15 @@ impl<T: Item<T>> World<T> {
             × (self.new ≡ owner_given self.old p (number_of right) (standing_at self.old (number_of right))) }
     {
         self.core.leave(right, kind);
+    }
+
+    /// The item in a slot that is out as raw waits at some place that isn't free.
+    pub(crate) fn leave_raw(&mut self, slot: u32)
+        requires some { (p : ℕ) × IsSome (phase_at self.old.time p) }
+        requires raw { standing_at self.old slot ≡ Some Standing.Raw }
+        ensures left { (p : ℕ) × IsSome (phase_at self.old.time p) × (self.new ≡ retired self.old p slot) }
+    {
+        self.core.leave_raw(slot);
     }
 
     /// A cell for owners of this kind is free, and some place that isn't free is given what it held.

@@ -4,10 +4,10 @@ ghost use Rattle.sdd_base.specs.Limits.{AreInRange};
 ghost use Rattle.sdd_desk.specs.Script.{IsRun};
 
 use crate::script::scene::Scene;
-use crate::script::stage::Stage;
 use sdd_base::Limits;
 use sdd_core::Refused;
 use sdd_lines::{Answer, Call};
+use sdd_stage::Stage;
 use std::alloc::Global;
 
 /// Runs calls on a new world, one after another, and answers each.

@@ -1,8 +1,8 @@
 //! What a script leaves behind.
-ghost use Rattle.std.specs.Prelude.{◌≡◌};
+ghost use Rattle.std.specs.Prelude.{◌≡◌, ◌+◌};
 
-use crate::script::stage::Stage;
 use sdd_desk::Val;
+use sdd_stage::Stage;
 use sdd_store::Tally;
 use sdd_world::World;
 use std::marker::Model;
@@ -40,13 +40,15 @@ impl Scene {
         self.stage.world()
     }
 
-    /// Ends the scene: every guard is closed and every owner spent, and all that waits is reclaimed. Answers how many items were made and reclaimed.
+    /// Ends the scene: every guard is closed, every owner and every cell spent, every item given up that is out as raw, and all that waits is
+    /// reclaimed. Answers how many items were made, reclaimed and dropped in place: those that the script made and dropped, and so each other one
+    /// that it made is reclaimed.
     ///
     /// It takes no memory and is never refused.
     pub fn close(self) -> Tally
         ensures made { result.made ≡ self.world.tally.made }
-        ensures reclaimed { result.reclaimed ≡ self.world.tally.made }
-        ensures in_place { result.in_place ≡ 0 }
+        ensures in_place { result.in_place ≡ self.world.tally.in_place }
+        ensures balance { result.reclaimed + result.in_place ≡ result.made }
     {
         let Scene { stage } = self;
         stage.close()

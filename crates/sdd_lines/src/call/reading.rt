@@ -149,6 +149,12 @@ fn with_one(verb: &str, argument: Argument) -> Option<Action>
             "retire" => Some(Action::Retire(owner)),
             "release" => Some(Action::Release(owner)),
             "clone" => Some(Action::Clone(owner)),
+            "drop" => Some(Action::Drop(owner)),
+            "raw" => Some(Action::Raw(owner)),
+            _ => None,
+        },
+        Argument::Item(Some(item)) => match verb {
+            "unraw" => Some(Action::Unraw(item)),
             _ => None,
         },
         Argument::Cell(cell) => match verb {
@@ -169,6 +175,11 @@ fn with_two(verb: &str, first: Argument, second: Argument) -> Option<Action>
         (Argument::Item(Some(item)), Argument::Guard(guard)) => match verb {
             "look" => Some(Action::Look(item, guard)),
             "upgrade" => Some(Action::Upgrade(item, guard)),
+            "see" => Some(Action::See(item, guard)),
+            _ => None,
+        },
+        (Argument::Owner(Some(owner)), Argument::Number(number)) => match verb {
+            "put" => Some(Action::Put(owner, number)),
             _ => None,
         },
         (Argument::Cell(cell), Argument::Guard(guard)) => match verb {

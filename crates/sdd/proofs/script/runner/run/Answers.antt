@@ -1,5 +1,7 @@
 use Rattle.std.proofs.lemmas.List.{take_more, take_all}
-use Rattle.sdd.proofs.Words.{length, ap, arith, length_push, Register}
+use Rattle.std.proofs.Common.{length, ap, arith}
+use Rattle.std.proofs.lemmas.List.{length_push}
+use Rattle.sdd_lines.specs.declared.call.Call.TheVariants.{Register}
 use Rattle.sdd_desk.proofs.Runs.{runs-push}
 use Rattle.sdd.proofs.script.runner.run.Goals as goal
 

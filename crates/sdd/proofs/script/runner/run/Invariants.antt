@@ -1,4 +1,4 @@
-use Rattle.sdd.proofs.Words.{◌≡◌, ◌≤◌, length, take, vec_capacity}
+use Rattle.std.proofs.Common.{◌≡◌, ◌≤◌, length, take, vec_capacity}
 use Rattle.sdd_desk.specs.Script.{Runs}
 use Rattle.sdd.proofs.script.runner.run.Given as goal
 

@@ -1,0 +1,251 @@
+-- What each action on an item in its place, or on a raw one, leaves in hand: it is sound, and it is what the call means
+use Rattle.std.proofs.Common.{◌≡◌, ◌≢◌, ℕ, true, false, List, [], ◌∷◌, ◌++◌, Option, Some, None, IsSome, is_some, map, length, slice_index, slice_index_or, slice_set, refl, sym, ap, ◌∙◌, subst, arith}
+use Rattle.std.specs.Option.{option_map}
+use Rattle.std.specs.Global.{Vec}
+use Rattle.std.proofs.Math.ListN.{get_or-map}
+use Rattle.std.proofs.lemmas.List.{length-map, map-set, set-get_or, set-set}
+use Rattle.sdd_core.specs.declared.refused.Refused.{Refused}
+use Rattle.sdd_core.specs.declared.refused.Refused.TheVariants.{GuardOpen}
+use Rattle.sdd_store.specs.declared.standing.Standing.TheVariants as standing
+use Rattle.sdd_base.specs.declared.owned.Owned.{Owned}
+use Rattle.sdd_base.specs.Holding as holding
+use Rattle.sdd_base.specs.Holding.{Holding}
+use Rattle.sdd_base.specs.InPlace.{MayInPlace, RefusedInPlace}
+use Rattle.sdd_base.specs.Steps.{with_standing}
+use Rattle.sdd_base.specs.Whole.{IsWhole}
+use Rattle.sdd_base.specs.World.{World, standing_at, value_at}
+use Rattle.sdd_base.specs.Owned as owned
+use Rattle.sdd_world.specs.Place.{index_of}
+use Rattle.sdd_lines.specs.declared.name.PlaceName.{PlaceName}
+use Rattle.sdd_lines.specs.declared.name.GuardName.{GuardName}
+use Rattle.sdd_lines.specs.declared.name.OwnerName.{OwnerName}
+use Rattle.sdd_lines.specs.declared.name.ItemName.{ItemName}
+use Rattle.sdd_lines.specs.declared.call.Call.TheVariants.{At}
+use Rattle.sdd_lines.specs.declared.call.Action.TheVariants as call
+use Rattle.sdd_lines.specs.declared.answer.Reply.{Reply}
+use Rattle.sdd_lines.specs.declared.answer.Reply.TheVariants as reply
+use Rattle.sdd_desk.specs.declared.val.Body.{Body}
+use Rattle.sdd_desk.specs.declared.val.Body.TheVariants as body
+use Rattle.sdd_desk.specs.declared.val.Val.{Val}
+use Rattle.sdd_desk.specs.Val.{body_of}
+use Rattle.sdd_desk.specs.Desk.{Desk, IsThere, opening_at, holding_at, slot_at, slot_of, sole_slot}
+use Rattle.sdd_desk.specs.Held.{slot_held}
+use Rattle.sdd_desk.specs.InPlace.{OwnsNumber, Puts, Drops, RefusesDrop, IsRaw}
+use Rattle.sdd_desk.specs.Script.{Acts, Meets, HasOpen, IsOwner}
+use Rattle.sdd_desk.specs.Shown.{told_of}
+use Rattle.sdd_steps.specs.declared.holding.AnOwner.{AnOwner}
+use Rattle.sdd_steps.specs.declared.holding.AnOwner.TheVariants.{Sole, Share}
+use Rattle.sdd_hand.specs.declared.participants.Attending.{Attending}
+use Rattle.sdd_stage.specs.declared.stage.Hand.{Hand}
+use Rattle.sdd_hand.specs.Hand.{attending, dated_if_waiting, CanPointAt}
+use Rattle.sdd_steps.specs.Owners.{owner_holding}
+use Rattle.sdd_stage.specs.Stage.{desk_of, GuardsIn, IsTied}
+use Rattle.sdd_desk.proofs.CellGoing.{dates_spilled}
+use Rattle.sdd_desk.proofs.InPlaceGoing.{calls-raw, dated-raw, sound-raw, calls-back, dated-back, sound-back, calls-put, dated-put, sound-put, after_drop, drop-leaves, value-held-out}
+use Rattle.sdd_desk.proofs.Stocked.{slot-inside}
+use Rattle.sdd_desk.proofs.Counting.{out-there}
+use Rattle.std.specs.Prelude.{IfSome, ◌<◌}
+use Rattle.sdd_stage.proofs.Acts.{Does, does, goes, still, is, is-there, in_range, named-owner, owner-spent, owner-more}
+use Rattle.sdd_stage.proofs.Missing.{invalid}
+
+-- what is told of a slot's dates is the same
+dated-spilled : (d : Desk) (w : World Val) (held : Option ℕ) → dated_if_waiting w held d.moment d.dates ≡ dates_spilled d w held
+dated-spilled d w None = refl
+dated-spilled d w (Some k) = refl
+
+some-slot : (x : AnOwner) (k : ℕ) (o : Option Holding) → o ≡ Some (owner_holding x) → slot_of (Some (owner_holding x)) ≡ Some k → slot_of o ≡ Some k
+some-slot x k o e slot = ap slot_of e ∙ slot
+
+-- an owner that was taken stands under its name again, as what it was
+pub put-back : (h : Hand) (between after : Vec (Option AnOwner)) (o : ℕ) (x y : AnOwner) → slice_index_or h.owners.entries.items o None ≡ Some x →
+    between.items ≡ slice_set h.owners.entries.items o None → after.items ≡ slice_set between.items o (Some y) → owner_holding y ≡ owner_holding x →
+    map (option_map owner_holding) after.items ≡ (desk_of h).owners
+put-back h between after o x y mine taken back same =
+    let xs = h.owners.entries.items in
+    let whole : after.items ≡ slice_set xs o (Some y) = back ∙ ap (λ zs. slice_set zs o (Some y)) taken ∙ set-set xs o None (Some y) in
+    let entry : option_map owner_holding (Some y) ≡ holding_at (desk_of h).owners o =
+    ap Some same ∙ sym (get_or-map (option_map owner_holding) xs o None ∙ ap (option_map owner_holding) mine) in
+    ap (map (option_map owner_holding)) whole ∙ map-set (option_map owner_holding) xs o (Some y)
+    ∙ ap (λ z. slice_set (desk_of h).owners o z) entry ∙ set-get_or (desk_of h).owners o None
+
+-- an item that is there whenever it began to wait
+pub there-from : (h : Hand) (i : ℕ) → CanPointAt h.world h.slots.items h.names.items h.dates.items i 0 → IsThere (desk_of h) i
+there-from h i can = record { last = can.last; taken = can.taken }
+
+pub there-not : (h : Hand) (i : ℕ) → ¬ (CanPointAt h.world h.slots.items h.names.items h.dates.items i 0) → ¬ (IsThere (desk_of h) i)
+there-not h i cannot there = cannot (record { last = there.last; taken = there.taken; fresh = λ waits. omega arith })
+
+-- where the world and what names of owners stand for are as before, so is the desk
+pub same-desk : (h : Hand) (w : World Val) (owners : Vec (Option AnOwner)) → w ≡ h.world → map (option_map owner_holding) owners.items ≡ (desk_of h).owners →
+    desk_of (record h { world = w; owners = record { entries = owners } }) ≡ desk_of h
+same-desk h w owners world same =
+    ap (λ (u : World Val). record (desk_of h) { world = u; owners = map (option_map owner_holding) owners.items }) world
+    ∙ ap (λ (os : List (Option Holding)). record (desk_of h) { owners = os }) same
+
+-- the item whose owner a value holds has a date
+pub held-dated : (h : Hand) → IsTied h → (k : ℕ) (v : Val) → value_at h.world k ≡ Some v → (held : Option ℕ) → slot_held (body_of v) ≡ held →
+    IfSome held (λ m. m < length h.dates.items)
+held-dated h t k v shown None same = tt
+held-dated h t k v shown (Some m) same =
+    let out = value-held-out (desk_of h) t.sound k v shown m same in
+    (slot-inside (desk_of h) t.sound.stocked m (out-there h.world m out)).1
+
+-- one name stands for one owner, of one item
+pub one-held : (x y : AnOwner) (o : Option AnOwner) → Some x ≡ o → Some y ≡ o → x ≡ y
+one-held x y o e f = let both : Some x ≡ Some y = e ∙ sym f in cc
+
+pub same-value : (h : Hand) (x : AnOwner) (j k : ℕ) (v : Val) → slot_of (Some (owner_holding x)) ≡ Some j → slot_of (Some (owner_holding x)) ≡ Some k →
+    value_at h.world j ≡ Some v → value_at h.world k ≡ Some v
+same-value h x j k v e f shown = let both : Some j ≡ Some k = sym e ∙ f in let same : j ≡ k = cc in rw (← same) shown
+
+-- who owns a number is an owner
+pub owned-is : (d : Desk) (o : ℕ) → OwnsNumber d o → IsOwner d o
+owned-is d o owns = ap is_some owns.3
+
+module _ (h : Hand) (t : IsTied h) (whole : IsWhole h.world) (name : PlaceName) (a : Attending)
+    (there : attending (Some a) ≡ opening_at (desk_of h).places name.0) where
+  abbrev d : Desk
+  d = desk_of h
+
+  abbrev p : ℕ
+  p = index_of a.place
+
+  -- ---- an item goes raw
+  pub acts-raw : (o : OwnerName) (i : ItemName) (w : World Val) (owners : Vec (Option AnOwner)) (x : Owned Val) →
+      slice_index_or h.owners.entries.items o.0 None ≡ Some (Sole x) → owners.items ≡ slice_set h.owners.entries.items o.0 None →
+      standing_at h.world (owned.slot_of x) ≡ Some standing.Owned → w ≡ with_standing h.world (owned.slot_of x) standing.Raw →
+      i.0 ≡ slice_index h.names.items (owned.slot_of x) →
+      Does d (At name (call.Raw o)) (reply.Raw i) (record h { world = w; owners = record { entries = owners } })
+  acts-raw o i w owners x mine taken stands world named =
+      let k = owned.slot_of x in
+      let entry = named-owner h t whole o.0 (Sole x) mine in
+      let gone = owner-spent h t whole owners o.0 taken in
+      let live = in_range h t whole name a there in
+      does d (At name (call.Raw o)) (reply.Raw i)
+      (goes (cc (world, gone)) (sound-raw d t.sound whole p k live o.0 (ap sole_slot entry) stands) t.guards)
+      (record {
+        meets = ((is-there h t whole name a there, ap (λ s. is_some (sole_slot s)) entry), (k, ap sole_slot entry, ap (λ n. record i { 0 = n }) named, refl));
+        dated = dated-raw d t.sound whole p k live o.0 (ap sole_slot entry) stands;
+        line = refl;
+        calls = calls-raw d t.sound whole p k live o.0 (ap sole_slot entry) stands;
+      })
+
+  -- ---- and comes back
+  pub acts-back : (i : ItemName) (r : OwnerName) (w : World Val) (owners : Vec (Option AnOwner)) (x : Owned Val) → IsThere d i.0 →
+      owned.slot_of x ≡ slot_at d i.0 → owned.slots_home x ≡ h.world.home.slots → owners.items ≡ h.owners.entries.items ++ Some (Sole x) ∷ [] →
+      IsRaw d i.0 → w ≡ with_standing h.world (slot_at d i.0) standing.Owned → r.0 ≡ length h.owners.entries.items →
+      Does d (At name (call.Unraw i)) (reply.Owner r) (record h { world = w; owners = record { entries = owners } })
+  acts-back i r w owners x is_there slot home pushed raw world named =
+      let k = slot_at d i.0 in
+      let live = in_range h t whole name a there in
+      let told = owner-more h t whole owners (Sole x) pushed ∙ ap (λ z. d.owners ++ Some (holding.owned z (owned.slots_home x)) ∷ []) slot
+      ∙ ap (λ z. d.owners ++ Some (holding.owned k z) ∷ []) home in
+      does d (At name (call.Unraw i)) (reply.Owner r)
+      (goes (cc (world, told)) (sound-back d t.sound whole p k live raw) t.guards)
+      (record {
+        meets = (
+          (is-there h t whole name a there, is_there),
+          (raw, (named ∙ sym (length-map h.owners.entries.items (option_map owner_holding)), refl)),
+        );
+        dated = dated-back d t.sound whole p k live raw;
+        line = refl;
+        calls = calls-back d t.sound whole p k live raw;
+      })
+
+  pub none-back : (i : ItemName) → IsThere d i.0 → ¬ (IsRaw d i.0) → Meets d (At name (call.Unraw i)) reply.Nothing d
+  none-back i is_there other = ((is-there h t whole name a there, is_there), (other, refl))
+
+  -- ---- a raw item is seen
+  pub acts-seen : (i : ItemName) (g : GuardName) (v : Val) → HasOpen d name.0 g.0 → IsThere d i.0 → IsRaw d i.0 →
+      value_at h.world (slot_at d i.0) ≡ Some v → Acts d (At name (call.See i g)) (told_of h.names.items (body_of v)) d
+  acts-seen i g v valid is_there raw shown = still d (At name (call.See i g)) (told_of h.names.items (body_of v)) (by (body_of v) refl) where
+    by : (b : Body Val) → body_of v ≡ b → Meets d (At name (call.See i g)) (told_of h.names.items b) d
+    by (body.Number m) e = ((valid, is_there), (raw, (v, shown, ap (told_of h.names.items) (sym e)), refl))
+    by (body.Owned x) e = ((valid, is_there), (raw, (v, shown, ap (told_of h.names.items) (sym e)), refl))
+    by (body.Shared x) e = ((valid, is_there), (raw, (v, shown, ap (told_of h.names.items) (sym e)), refl))
+
+  pub acts-unseen : (i : ItemName) (g : GuardName) → HasOpen d name.0 g.0 → IsThere d i.0 → ¬ (IsRaw d i.0) →
+      Acts d (At name (call.See i g)) reply.Nothing d
+  acts-unseen i g valid is_there other = still d (At name (call.See i g)) reply.Nothing ((valid, is_there), (other, refl))
+
+  -- ---- an owner of this name
+  module _ (o : OwnerName) (x : AnOwner) (mine : slice_index_or h.owners.entries.items o.0 None ≡ Some x) where
+    entry : holding_at d.owners o.0 ≡ Some (owner_holding x)
+    entry = named-owner h t whole o.0 x mine
+
+    owner-is : (x : AnOwner) → IsSome (slot_of (Some (owner_holding x)))
+    owner-is (Sole x) = refl
+    owner-is (Share x) = refl
+
+    is-owner : IsOwner d o.0
+    is-owner = subst (λ s. IsSome (slot_of s)) (sym entry) (owner-is x)
+
+    -- a number is changed in its place
+    owns : (k : ℕ) (v : Val) → slot_of (Some (owner_holding x)) ≡ Some k → value_at h.world k ≡ Some v → (m : ℕ) → body_of v ≡ body.Number m → OwnsNumber d o.0
+    owns k v slot shown m is_number = (k, v, m, ap slot_of entry ∙ slot, shown, is_number)
+
+    pub acts-put : (number k m : ℕ) (v : Val) (w : World Val) (owners : Vec (Option AnOwner)) → slot_of (Some (owner_holding x)) ≡ Some k →
+        value_at h.world k ≡ Some v → body_of v ≡ body.Number m → MayInPlace h.world k → Puts h.world k number w →
+        map (option_map owner_holding) owners.items ≡ d.owners →
+        Does d (At name (call.Put o number)) reply.Done (record h { world = w; owners = record { entries = owners } })
+    acts-put number k m v w owners slot shown is_number may puts same =
+        let live = in_range h t whole name a there in
+        let one : Some v ≡ Some puts.was = sym shown ∙ puts.there in
+        let was : body_of puts.was ≡ body.Number m = (let value : v ≡ puts.was = cc in ap body_of (sym value) ∙ is_number) in
+        does d (At name (call.Put o number)) reply.Done
+        (goes (cc same) (sound-put d t.sound whole p k live number m w may puts was)
+        (λ g. subst (λ (u : World Val). GuardsIn u.home.readers d.places (slice_index_or h.guards.entries.items g None)) (sym puts.put) (t.guards g)))
+        (record {
+          meets = ((is-there h t whole name a there, owns k v slot shown m is_number), (k, w, ap slot_of entry ∙ slot, may, puts, refl));
+          dated = dated-put d t.sound whole p k live number m w may puts was;
+          line = refl;
+          calls = calls-put d t.sound whole p k live number m w may puts was;
+        })
+
+    pub put-refused : (number k m : ℕ) (v : Val) (e : Refused) → slot_of (Some (owner_holding x)) ≡ Some k → value_at h.world k ≡ Some v →
+        body_of v ≡ body.Number m → RefusedInPlace h.world k e → Meets d (At name (call.Put o number)) (reply.Refused e) d
+    put-refused number k m v e slot shown is_number refused =
+        ((is-there h t whole name a there, owns k v slot shown m is_number), ((k, ap slot_of entry ∙ slot, refused), refl))
+
+    pub put-invalid : (number k : ℕ) (v : Val) → slot_of (Some (owner_holding x)) ≡ Some k → value_at h.world k ≡ Some v →
+        ((m : ℕ) → body_of v ≢ body.Number m) → Acts d (At name (call.Put o number)) reply.Invalid d
+    put-invalid number k v slot shown none = invalid d name (call.Put o number) (λ valid.
+        let own = valid.1 in
+        let same : Some k ≡ Some own.0 = sym (ap slot_of entry ∙ slot) ∙ own.3 in
+        let at : k ≡ own.0 = cc in
+        let both : Some v ≡ Some own.1 = sym shown ∙ ap (value_at h.world) at ∙ own.4 in
+        let value : v ≡ own.1 = cc in
+        none own.2 (ap body_of value ∙ own.5))
+
+    -- an owner goes, alone or with its item
+    pub acts-dropped : (k : ℕ) (v : Val) (given : Reply) (w : World Val) (owners : Vec (Option AnOwner)) (dates : Vec ℕ) →
+        slot_of (Some (owner_holding x)) ≡ Some k → value_at h.world k ≡ Some v → Drops h.world p (owner_holding x) given w →
+        owners.items ≡ slice_set h.owners.entries.items o.0 None →
+        dates.items ≡ dated_if_waiting w (slot_held (body_of v)) h.moment h.dates.items →
+        Does d (At name (call.Drop o)) given (record h { world = w; owners = record { entries = owners }; dates = dates })
+    acts-dropped k v given w owners dates slot shown did taken become =
+        let live = in_range h t whole name a there in
+        let left = drop-leaves d t.sound whole p live o.0 k v shown (owner_holding x) given w entry slot did in
+        let gone = owner-spent h t whole owners o.0 taken in
+        let now : dates.items ≡ dates_spilled d w (slot_held (body_of v)) = become ∙ dated-spilled d w (slot_held (body_of v)) in
+        does d (At name (call.Drop o)) given
+        (goes (cc (gone, now)) left.sound
+        (λ g. subst (λ z. GuardsIn z.readers d.places (slice_index_or h.guards.entries.items g None)) (sym left.home) (t.guards g)))
+        (record { meets = by (owner_holding x) given did refl; dated = left.dated; line = refl; calls = left.calls }) where
+          said : Reply → Type 0
+          said r = Meets d (At name (call.Drop o)) r (after_drop d t.sound whole p (in_range h t whole name a there) o.0 k v shown w)
+
+          tells : (z : Holding) → owner_holding x ≡ z → holding_at d.owners o.0 ≡ Some z
+          tells z e = entry ∙ ap Some e
+
+          by : (z : Holding) (r : Reply) → Drops h.world p z r w → owner_holding x ≡ z → said r
+          by (holding.owned j home) reply.Done did e =
+              ((is-there h t whole name a there, is-owner), rw (is h t whole name a there) (holding.owned j home, w, tells _ e, did, refl))
+          by (holding.shared j home) (reply.Truth true) did e =
+              ((is-there h t whole name a there, is-owner), rw (is h t whole name a there) (holding.shared j home, w, tells _ e, did, refl))
+          by (holding.shared j home) (reply.Truth false) did e =
+              ((is-there h t whole name a there, is-owner), rw (is h t whole name a there) (holding.shared j home, w, tells _ e, did, refl))
+          by z r did e = absurd did
+
+    pub drop-refused : RefusesDrop h.world (owner_holding x) → Meets d (At name (call.Drop o)) (reply.Refused GuardOpen) d
+    drop-refused refused = ((is-there h t whole name a there, is-owner), ((owner_holding x, entry, refused), refl))

@@ -1,0 +1,49 @@
+-- No owner more of an item is given: it has as many as may be, or one that can't be shared
+use Rattle.std.proofs.Common.{◌≡◌, ◌≢◌, ℕ, ◌^◌, Some, None, is_some, slice_index_or, refl, ap}
+use Rattle.sdd_core.specs.declared.refused.Refused.{Refused}
+use Rattle.sdd_core.specs.declared.refused.Refused.TheVariants.{TooManyOwners}
+use Rattle.sdd_store.specs.declared.standing.Standing.TheVariants as standing
+use Rattle.sdd_slots.specs.Slots.{IsSharedBy}
+use Rattle.sdd_base.specs.Whole.{IsWhole}
+use Rattle.sdd_base.specs.World.{standing_at}
+use Rattle.sdd_base.specs.declared.shared.Shared.{Shared}
+use Rattle.sdd_base.specs.Shared as shared
+use Rattle.sdd_lines.specs.declared.name.PlaceName.{PlaceName}
+use Rattle.sdd_lines.specs.declared.name.GuardName.{GuardName}
+use Rattle.sdd_lines.specs.declared.name.OwnerName.{OwnerName}
+use Rattle.sdd_lines.specs.declared.name.ItemName.{ItemName}
+use Rattle.sdd_lines.specs.declared.call.Call.TheVariants.{At}
+use Rattle.sdd_lines.specs.declared.call.Action.TheVariants as call
+use Rattle.sdd_lines.specs.declared.answer.Reply.TheVariants as reply
+use Rattle.sdd_desk.specs.declared.val.Val.{Val}
+use Rattle.sdd_steps.specs.declared.holding.AnOwner.TheVariants.{Share}
+use Rattle.sdd_stage.specs.declared.stage.Hand.{Hand}
+use Rattle.sdd_hand.specs.declared.participants.Attending.{Attending}
+use Rattle.sdd_desk.specs.Desk.{Desk, opening_at, shared_slot, slot_at}
+use Rattle.sdd_desk.specs.Script.{Acts, HasOpen, CanPointTo}
+use Rattle.sdd_hand.specs.Hand.{attending}
+use Rattle.sdd_stage.specs.Stage.{desk_of, IsTied}
+use Rattle.sdd_stage.proofs.Acts.{is-there, named-owner, still}
+
+module _ (h : Hand) (t : IsTied h) (whole : IsWhole h.world) (name : PlaceName) where
+  abbrev d : Desk
+  d = desk_of h
+
+  pub full-cloned : (a : Attending) → attending (Some a) ≡ opening_at d.places name.0 → (o : OwnerName) (y : Shared Val) (refused : Refused) →
+      slice_index_or h.owners.entries.items o.0 None ≡ Some (Share y) → refused ≡ TooManyOwners →
+      IsSharedBy (2 ^ 62) (standing_at h.world (shared.slot_of y)) → Acts d (At name (call.Clone o)) (reply.Refused refused) d
+  full-cloned a there o y refused mine is stands =
+      let entry = named-owner h t whole o.0 (Share y) mine in
+      rw is (still d (At name (call.Clone o)) (reply.Refused TooManyOwners) (
+        (is-there h t whole name a there, ap (λ s. is_some (shared_slot s)) entry),
+        (shared.slot_of y, ap shared_slot entry, (stands, refl)),
+      ))
+
+  pub full-upgraded : (i : ItemName) (g : GuardName) (refused : Refused) → HasOpen d name.0 g.0 → CanPointTo d name.0 i.0 → refused ≡ TooManyOwners →
+      IsSharedBy (2 ^ 62) (standing_at h.world (slot_at d i.0)) → Acts d (At name (call.Upgrade i g)) (reply.Refused refused) d
+  full-upgraded i g refused valid can is stands =
+      rw is (still d (At name (call.Upgrade i g)) (reply.Refused TooManyOwners) ((valid, can), (stands, refl)))
+
+  pub alone-upgraded : (i : ItemName) (g : GuardName) → HasOpen d name.0 g.0 → CanPointTo d name.0 i.0 →
+      ((owners : ℕ) → standing_at h.world (slot_at d i.0) ≢ Some (standing.Shared owners)) → Acts d (At name (call.Upgrade i g)) reply.Nothing d
+  alone-upgraded i g valid can alone = still d (At name (call.Upgrade i g)) reply.Nothing ((valid, can), (alone, refl))

@@ -1,0 +1,71 @@
+use Rattle.std.proofs.lemmas.List.Sorted.{IsNonDecreasingBy-from_sort}
+use Rattle.sdd_stage.proofs.Words.{length, refl, ap, ◌∙◌, ItemName}
+use Rattle.sdd_lines.specs.declared.call.Action.TheVariants as call
+use Rattle.sdd_lines.specs.declared.call.Call.TheVariants.{At}
+use Rattle.sdd_stage.specs.Stage.{desk_of}
+use Rattle.sdd_desk.proofs.Gone.{slots-inside, slots-filled, given-inside}
+use Rattle.sdd_stage.proofs.Acts.{got, noted-is, opening-refused, opens-to, answers-opened, answers-plain}
+use Rattle.sdd_stage.proofs.Missing.{nobody}
+use Rattle.sdd_stage.proofs.Taken.{tied, inside}
+use Rattle.sdd_stage.proofs.stage.Stage.open.Goals as goal
+
+pub returns-in_default : goal.returns-in_default
+returns-in_default c = record {
+  answers = rw (c.answer.ensures, ← c.self.view_is) (answers-plain _ _ (nobody c.self.inside.hand c.args.name call.Open c.in_default.ensures) (λ s e. e));
+}
+
+pub names_of-requires : goal.names_of-requires
+names_of-requires c = record {
+  inside = rw c.as_slice.ensures.value (slots-inside (desk_of c.self.inside.hand) _ c.self.invariant.sound.stocked c.is_whole.ensures _
+      c.reclaims_next-slots.ensures);
+}
+
+pub owners_in-requires : goal.owners_in-requires
+owners_in-requires c = record {
+  taken = slots-filled (desk_of c.self.inside.hand) _ c.self.invariant.sound.stocked c.is_whole.ensures _ c.reclaims_next-slots.ensures;
+}
+
+pub returns-in-Err : goal.returns-in-Err
+returns-in-Err c =
+    let there = got c.self.inside.hand.places c.args.name.0 _ c.in-Some.ensures in
+    let refused = c.in-Err.ensures.opened in
+    record {
+      answers = rw (c.answer-in-Err.ensures, refused.0, refused.2, c.make_room.ensures.kept, ← c.self.view_is)
+          (answers-plain (At c.args.name call.Open) _ (opening-refused c.self.inside.hand c.self.invariant c.is_whole.ensures c.args.name _ there refused.1)
+          (λ s e. e));
+    }
+
+pub date_waiting-requires : goal.date_waiting-requires
+date_waiting-requires c =
+    let s = c.self.invariant.sound in
+    record {
+      inside = rw (c.as_slice-2.ensures.value, c.in_ok-given.ensures) (given-inside (desk_of c.self.inside.hand) _
+          (inside c.self.inside.hand c.args.name.0 _ c.self.invariant c.in-Some.ensures) s.stocked s.cells c.is_whole.ensures s.accounts _);
+    }
+
+pub invariant_of-self-2 : goal.invariant_of-self-2
+invariant_of-self-2 c =
+    let there = got c.self.inside.hand.places c.args.name.0 _ c.in-Some.ensures in
+    let named = rw c.as_slice.ensures.value at c.in_ok-due.ensures in
+    let noted = noted-is _ c.self.invariant c.is_whole.ensures c.args.name _ there _ _ c.is_open-is_nested.ensures c.note_opening.ensures in
+    let given = rw c.make_room.ensures.kept at c.give-name.ensures.given in
+    let dated = rw (c.as_slice-2.ensures.value, c.in_ok-given.ensures, c.in-Ok.ensures.opened.1) at c.date_waiting.ensures.dated in
+    tied (opens-to _ c.self.invariant c.is_whole.ensures c.args.name _ there _ _ _ _ _ _ _ c.sort_unstable.new.self.items c.reclaims_next-slots.ensures named
+    noted given c.index-place.ensures c.in-Ok.ensures.reader refl refl c.in-Ok.ensures.opened.1 (rw (← c.self.view_is) at c.requires.line)
+    c.date_waiting.ensures.long dated)
+
+pub returns : goal.returns
+returns c =
+    let there = got c.self.inside.hand.places c.args.name.0 _ c.in-Some.ensures in
+    let named = rw c.as_slice.ensures.value at c.in_ok-due.ensures in
+    let noted = noted-is _ c.self.invariant c.is_whole.ensures c.args.name _ there _ _ c.is_open-is_nested.ensures c.note_opening.ensures in
+    let given = rw c.make_room.ensures.kept at c.give-name.ensures.given in
+    let dated = rw (c.as_slice-2.ensures.value, c.in_ok-given.ensures, c.in-Ok.ensures.opened.1) at c.date_waiting.ensures.dated in
+    let up = IsNonDecreasingBy-from_sort (λ (i : ItemName). i.0) c.sort_unstable.new.self.items c.sort_unstable.ensures.sorted in
+    record {
+      answers = rw (← c.self.view_is, c.of.ensures, c.new.ensures) (answers-opened _ c.self.invariant c.is_whole.ensures c.args.name _ there _
+          c.note_opening.new.places.entries c.give-name.new.self.entries c.date_waiting.new.dates _ _ _ _ c.reclaims_next-slots.ensures named noted given
+          c.index-place.ensures c.in-Ok.ensures.reader refl refl c.in-Ok.ensures.opened.1 (rw (← c.self.view_is) at c.requires.line)
+          c.date_waiting.ensures.long dated _ _ c.sort_unstable.ensures.permutation up c.in-Ok.ensures.opened.0
+          (c.give-name.ensures.name ∙ ap length c.make_room.ensures.kept) c.in-Ok.ensures.opened.2);
+    }

@@ -1,0 +1,200 @@
+//! What participants do with guards.
+#![tactic(auto, using(crate::proofs::Taken::in_hand))]
+
+ghost use Rattle.std.specs.Prelude.{◌≡◌, ◌<◌, IfOk, Some, MatchResult};
+ghost use Rattle.sdd_core.specs.Epoch.{epoch_of};
+ghost use Rattle.sdd_store.specs.Time.{CanNest, has_garbage};
+ghost use Rattle.sdd_base.specs.Guard.{reader_of};
+ghost use Rattle.sdd_base.specs.Seat.{reader_at};
+ghost use Rattle.sdd_base.specs.World.{World, IsPlaceOf, place_at};
+ghost use Rattle.sdd_base.specs.Steps.{opened, closed, stirred, accelerated};
+ghost use Rattle.sdd_world.specs.Place.{index_of};
+ghost use Rattle.sdd_desk.specs.declared.val.Val.{Val};
+ghost use Rattle.sdd_desk.specs.Val.{holdings_of};
+ghost use Rattle.sdd_hand.specs.Hand.{attending};
+ghost use Rattle.sdd_desk.specs.Held.{owners_in};
+
+use super::Stage;
+use crate::turns::step_at;
+use sdd_base::Guard;
+use sdd_core::{Epoch, Refused};
+use sdd_desk::Val;
+use sdd_hand::items::{date_waiting, names_of, owners_in};
+use sdd_hand::participants::{Guarding, note_opening, under};
+use sdd_lines::{Action, Answer, Call, GuardName, Names, PlaceName, Reply};
+use sdd_steps::guards::{Accelerates, ClosesGuard, SetsGarbage, ShowsEpoch, ShowsGarbage};
+use sdd_world::inner::{is_open, reclaims_next};
+use sdd_world::{Place, World};
+use std::alloc::AllocError;
+
+impl Stage {
+    ghost use Rattle.sdd_desk.specs.Desk.{BeginsLine};
+    ghost use Rattle.sdd_desk.specs.Script.{Acts, Answers};
+
+    pub fn open(&mut self, name: PlaceName) -> Result<Answer, AllocError>
+        requires line { BeginsLine self.old }
+        ensures answers { MatchResult result (λ answer. Answers self.old (Call.At name Action.Open) answer self.new) (λ _. self.new ≡ self.old) }
+    {
+        let Some(attending) = self.hand.places.get(name.0) else {
+            return Ok(self.answer(Reply::Invalid));
+        };
+        self.hand.guards.make_room()?;
+        self.hand.world.is_whole();
+        let slots = reclaims_next(&self.hand.world, &attending.place);
+        let mut due = names_of(self.hand.alloc, slots, self.hand.names.as_slice())?;
+        let given = owners_in(self.hand.alloc, &self.hand.world, slots)?;
+        let is_nested = is_open(&self.hand.world, &attending.place);
+        let (guard, epoch) = match open_at(&mut self.hand.world, &attending.place) {
+            Ok(opened) => opened,
+            Err(refused) => return Ok(self.answer(Reply::Refused(refused))),
+        };
+        let place = attending.place.index();
+        let since = self.hand.moment;
+        date_waiting(
+            &mut self.hand.dates,
+            &self.hand.world,
+            given.as_slice(),
+            since,
+        );
+        note_opening(&mut self.hand.places, name.0, since, is_nested);
+        let participant = name.0;
+        let name = self.hand.guards.give(Guarding {
+            guard,
+            place,
+            participant,
+            since,
+        });
+        due.sort_unstable();
+        Ok(Answer {
+            reply: Reply::Guard(GuardName(name), epoch),
+            reclaimed: Names::of(due),
+            ran: Names::new(self.hand.alloc),
+        })
+    }
+
+    pub fn epoch(&mut self, name: PlaceName, guard: GuardName) -> Reply
+        ensures acts { Acts self.old (Call.At name (Action.Epoch guard)) result self.new }
+    {
+        let Some((attending, held)) = under(&self.hand.places, &self.hand.guards, name, guard)
+        else {
+            return Reply::Invalid;
+        };
+        self.hand.world.is_whole();
+        Reply::Epoch(epoch_at(&mut self.hand.world, &attending.place, &held.guard))
+    }
+
+    pub fn garbage(&mut self, name: PlaceName, guard: GuardName) -> Reply
+        ensures acts { Acts self.old (Call.At name (Action.Garbage guard)) result self.new }
+    {
+        let Some((attending, held)) = under(&self.hand.places, &self.hand.guards, name, guard)
+        else {
+            return Reply::Invalid;
+        };
+        self.hand.world.is_whole();
+        Reply::Truth(garbage_at(&mut self.hand.world, &attending.place, &held.guard))
+    }
+
+    pub fn set(&mut self, name: PlaceName, guard: GuardName) -> Reply
+        ensures acts { Acts self.old (Call.At name (Action.Set guard)) result self.new }
+    {
+        let Some((attending, held)) = under(&self.hand.places, &self.hand.guards, name, guard)
+        else {
+            return Reply::Invalid;
+        };
+        self.hand.world.is_whole();
+        stir_at(&mut self.hand.world, &attending.place, &held.guard);
+        Reply::Done
+    }
+
+    pub fn accelerate(&mut self, name: PlaceName, guard: GuardName) -> Reply
+        ensures acts { Acts self.old (Call.At name (Action.Accelerate guard)) result self.new }
+    {
+        let Some((attending, held)) = under(&self.hand.places, &self.hand.guards, name, guard)
+        else {
+            return Reply::Invalid;
+        };
+        self.hand.world.is_whole();
+        accelerate_at(&mut self.hand.world, &attending.place, &held.guard);
+        Reply::Done
+    }
+
+    pub fn close_guard(&mut self, name: PlaceName, guard: GuardName) -> Reply
+        ensures acts { Acts self.old (Call.At name (Action.Close guard)) result self.new }
+    {
+        let Some((attending, _)) = under(&self.hand.places, &self.hand.guards, name, guard) else {
+            return Reply::Invalid;
+        };
+        let Some(
+            Guarding {
+                guard,
+                place: _,
+                participant: _,
+                since: _,
+            },
+        ) = self.hand.guards.take(guard.0)
+        else {
+            return Reply::Invalid;
+        };
+        self.hand.world.is_whole();
+        close_at(&mut self.hand.world, &attending.place, guard);
+        Reply::Done
+    }
+}
+
+/// A new guard of the participant, and the epoch then.
+fn open_at(world: &mut World<Val>, place: &Place) -> Result<(Guard, Epoch), Refused>
+    requires place { IsPlaceOf world.old (index_of place.now) }
+    ensures reader { IfOk result (λ opened. reader_of opened.0 ≡ reader_at world.old (index_of place.now)) }
+    ensures opened { MatchResult result
+        (λ given. CanNest world.old.time (index_of place.now)
+        × (world.new ≡ opened holdings_of world.old (index_of place.now)) × (given.1 ≡ epoch_of world.new.time.count))
+        (λ refused. (refused ≡ Refused.TooManyGuards) × ¬ (CanNest world.old.time (index_of place.now)) × (world.new ≡ world.old)) }
+{
+    let mut turn = world.at(place);
+    let guard = Guard::new(&mut turn)?;
+    let epoch = guard.epoch(&mut turn);
+    Ok((guard, epoch))
+}
+
+/// The epoch that the guard shows.
+fn epoch_at(world: &mut World<Val>, place: &Place, guard: &Guard) -> Epoch
+    requires { IsPlaceOf world.old (index_of place.now) }
+    ensures epoch { result ≡ epoch_of world.old.time.count }
+    ensures world { world.new ≡ world.old }
+{
+    step_at(world, place, ShowsEpoch { guard })
+}
+
+/// Something may wait with the participant.
+fn garbage_at(world: &mut World<Val>, place: &Place, guard: &Guard) -> bool
+    requires { IsPlaceOf world.old (index_of place.now) }
+    ensures garbage { result ≡ has_garbage (place_at world.old (index_of place.now)) }
+    ensures world { world.new ≡ world.old }
+{
+    step_at(world, place, ShowsGarbage { guard })
+}
+
+/// The participant has garbage from now on.
+fn stir_at(world: &mut World<Val>, place: &Place, guard: &Guard)
+    requires { IsPlaceOf world.old (index_of place.now) }
+    ensures { world.new ≡ stirred world.old (index_of place.now) }
+{
+    step_at(world, place, SetsGarbage { guard });
+}
+
+/// The participant's next outermost close scans.
+fn accelerate_at(world: &mut World<Val>, place: &Place, guard: &Guard)
+    requires { IsPlaceOf world.old (index_of place.now) }
+    ensures { world.new ≡ accelerated world.old (index_of place.now) }
+{
+    step_at(world, place, Accelerates { guard });
+}
+
+/// The guard, which is the participant's, is closed.
+pub fn close_at(world: &mut World<Val>, place: &Place, guard: Guard)
+    requires place { IsPlaceOf world.old (index_of place.now) }
+    requires reader { reader_of guard ≡ reader_at world.old (index_of place.now) }
+    ensures { world.new ≡ closed world.old (index_of place.now) }
+{
+    step_at(world, place, ClosesGuard { guard });
+}

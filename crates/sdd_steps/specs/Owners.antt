@@ -1,0 +1,52 @@
+-- What owners and cells of a script are
+use Rattle.std.specs.Prelude.{ℕ, Option}
+use Rattle.std.specs.Option.{option_map}
+use Rattle.sdd_base.specs.Holding.{Holding}
+use Rattle.sdd_desk.specs.Held.{holding_first}
+use Rattle.sdd_desk.specs.declared.ownership.Ownership.{Ownership}
+use Rattle.sdd_steps.specs.declared.holding.AnOwner.{AnOwner}
+use Rattle.sdd_steps.specs.declared.holding.AnOwner.TheVariants.{Sole, Share}
+use Rattle.sdd_steps.specs.declared.holding.ACell.{ACell}
+use Rattle.sdd_steps.specs.declared.holding.Filling.{Filling}
+use Rattle.sdd_token.specs.Units as token
+use Rattle.sdd_base.specs.Holding as holding
+use Rattle.sdd_base.specs.Owned as owned
+use Rattle.sdd_base.specs.Shared as shared
+use Rattle.sdd_desk.specs.declared.ownership.Ownership.TheVariants as ownership
+use Rattle.sdd_steps.specs.declared.holding.ACell.TheVariants as cell
+use Rattle.sdd_steps.specs.declared.holding.Filling.TheVariants as filling
+
+abbrev pub owner_holding : AnOwner → Holding
+owner_holding (Sole o) = owned.holding_of o
+owner_holding (Share o) = shared.holding_of o
+
+abbrev pub cell_holding : ACell → Holding
+cell_holding (cell.Sole c) = owned.cell_holding c
+cell_holding (cell.Share c) = shared.cell_holding c
+
+-- which owners a cell is for, and its number
+abbrev pub cell_kind : ACell → Ownership
+cell_kind (cell.Sole c) = ownership.Sole
+cell_kind (cell.Share c) = ownership.Shared
+
+abbrev pub cell_number : ACell → ℕ
+cell_number (cell.Sole c) = owned.cell_of c
+cell_number (cell.Share c) = shared.cell_of c
+
+-- a cell for such owners
+abbrev pub holding_around : Ownership → (cell : ℕ) → token.Home → Holding
+holding_around ownership.Sole c home = holding.atomic_owned c home
+holding_around ownership.Shared c home = holding.atomic_shared c home
+
+-- what a cell is filled with, and for which owners it is then
+abbrev pub filling_holding : Filling → Option Holding
+filling_holding (filling.Sole o) = option_map owned.holding_of o
+filling_holding (filling.Share o) = option_map shared.holding_of o
+
+abbrev pub filling_kind : Filling → Ownership
+filling_kind (filling.Sole o) = ownership.Sole
+filling_kind (filling.Share o) = ownership.Shared
+
+-- what comes out of a cell for such owners that held this
+abbrev pub held_as : Ownership → Option ℕ → token.Home → Option Holding
+held_as kind held home = option_map (λ k. holding_first kind k home) held

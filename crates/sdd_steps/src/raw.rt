@@ -1,0 +1,156 @@
+//! What participants do with items in their place, and with those that are out as raw.
+ghost use Rattle.std.specs.Prelude.{◌≡◌, ◌≢◌, IfSome, ℕ, Some, MatchOption, MatchResult};
+ghost use Rattle.sdd_base.specs.Guard.{reader_of};
+ghost use Rattle.sdd_base.specs.Holding.{IsOf};
+ghost use Rattle.sdd_base.specs.InPlace.{MayInPlace, RefusedInPlace};
+ghost use Rattle.sdd_base.specs.Owned.{slot_of, slots_home};
+ghost use Rattle.sdd_base.specs.Steps.{with_standing};
+ghost use Rattle.sdd_base.specs.World.{standing_at, value_at};
+ghost use Rattle.sdd_desk.specs.InPlace.{Puts, Drops, RefusesDrop};
+ghost use Rattle.sdd_desk.specs.Val.{Renumbers};
+ghost use Rattle.sdd_desk.specs.declared.val.Val.{Val};
+ghost use Rattle.sdd_steps.specs.Owners.{owner_holding};
+ghost use Rattle.sdd_core.specs.declared.refused.Refused.TheVariants as refused;
+ghost use Rattle.sdd_store.specs.declared.standing.Standing.TheVariants as standing;
+ghost use Rattle.sdd_desk.specs.Desk as desk;
+
+use crate::holding::AnOwner;
+use crate::step::Step;
+use sdd_base::inner::raw_ptr_of;
+use sdd_base::{Guard, Owned, Space};
+use sdd_core::{Refused, Tag};
+use sdd_desk::Val;
+use sdd_lines::Reply;
+use sdd_store::Pointer;
+
+/// The number of an owner's item is changed in its place; the owner comes back.
+pub struct PutsNumber {
+    pub owner: AnOwner,
+    pub number: u64,
+}
+
+impl Step for PutsNumber {
+    type Out = (AnOwner, Result<(), Refused>);
+
+    ghost asks = { λ step home _ _. IsOf home (owner_holding step.owner) };
+
+    ghost does = { λ step _ _ before out after. (out.0 ≡ step.owner)
+        × ((k : ℕ) × (desk.slot_of (Some (owner_holding step.owner)) ≡ Some k)
+        × MatchResult out.1 (λ _. MayInPlace before k × Puts before k step.number after) (λ e. RefusedInPlace before k e × (after ≡ before))) };
+
+    fn done<S: Space<Val>>(self, s: &mut S) -> (AnOwner, Result<(), Refused>) {
+        let PutsNumber { owner, number } = self;
+        let put = move |value: &mut Val|
+            ensures { Renumbers value.old number value.new }
+        {
+            value.put(number);
+        };
+        match owner {
+            AnOwner::Sole(mut held) => match held.get_mut(put, s) {
+                Ok(()) => (AnOwner::Sole(held), Ok(())),
+                Err((_, refused)) => (AnOwner::Sole(held), Err(refused)),
+            },
+            AnOwner::Share(mut held) => match held.get_mut(put, s) {
+                Ok(()) => (AnOwner::Share(held), Ok(())),
+                Err((_, refused)) => (AnOwner::Share(held), Err(refused)),
+            },
+        }
+    }
+}
+
+/// An owner goes, and its item is dropped in its place if it was alone; the reply tells of a shared one which.
+pub struct DropsOwner {
+    pub owner: AnOwner,
+}
+
+impl Step for DropsOwner {
+    type Out = Result<Reply, (AnOwner, Refused)>;
+
+    ghost asks = { λ step home _ _. IsOf home (owner_holding step.owner) };
+
+    ghost does = { λ step _ place before out after. MatchResult out
+        (λ reply. Drops before place (owner_holding step.owner) reply after)
+        (λ e. (owner_holding e.0 ≡ owner_holding step.owner) × (e.1 ≡ refused.GuardOpen) × RefusesDrop before (owner_holding step.owner)
+        × (after ≡ before)) };
+
+    fn done<S: Space<Val>>(self, s: &mut S) -> Result<Reply, (AnOwner, Refused)> {
+        let DropsOwner { owner } = self;
+        match owner {
+            AnOwner::Sole(held) => match held.drop_in_place(s) {
+                Ok(()) => Ok(Reply::Done),
+                Err((held, refused)) => Err((AnOwner::Sole(held), refused)),
+            },
+            AnOwner::Share(held) => match held.drop_in_place(s) {
+                Ok(was_last) => Ok(Reply::Truth(was_last)),
+                Err((held, refused)) => Err((AnOwner::Share(held), refused)),
+            },
+        }
+    }
+}
+
+/// The only owner's item is out as raw from now on.
+pub struct GoesRaw {
+    pub owner: Owned<Val>,
+}
+
+impl Step for GoesRaw {
+    type Out = ();
+
+    ghost asks = { λ step home _ _. slots_home step.owner ≡ home.slots };
+
+    ghost does = { λ step _ _ before _ after. (standing_at before (slot_of step.owner) ≡ Some standing.Owned)
+        × (after ≡ with_standing before (slot_of step.owner) standing.Raw) };
+
+    fn done<S: Space<Val>>(self, s: &mut S) {
+        let GoesRaw { owner } = self;
+        let _ = owner.into_raw(s);
+    }
+}
+
+/// The owner of the item in a slot that is out as raw.
+pub struct ComesBack {
+    pub slot: u32,
+}
+
+impl Step for ComesBack {
+    type Out = Option<Owned<Val>>;
+
+    ghost asks = { λ _ _ _ _. Unit {0} };
+
+    ghost does = { λ step home _ before out after. (IfSome out (λ owner. (slot_of owner ≡ step.slot) × (slots_home owner ≡ home.slots)))
+        × MatchOption out ((standing_at before step.slot ≢ Some standing.Raw) × (after ≡ before))
+        (λ _. (standing_at before step.slot ≡ Some standing.Raw) × (after ≡ with_standing before step.slot standing.Owned)) };
+
+    fn done<S: Space<Val>>(self, s: &mut S) -> Option<Owned<Val>> {
+        let ComesBack { slot } = self;
+        let ptr = raw_ptr_of(Pointer {
+            named: Some(slot),
+            tag: Tag::None,
+        });
+        Owned::from_raw(ptr, s)
+    }
+}
+
+/// The value of the item in a slot that is out as raw, under a guard of the participant.
+pub struct SeesRaw<'g> {
+    pub slot: u32,
+    pub guard: &'g Guard,
+}
+
+impl<'g> Step for SeesRaw<'g> {
+    type Out = Option<&'g Val>;
+
+    ghost asks = { λ step _ reader _. reader_of step.guard.now ≡ reader };
+
+    ghost does = { λ step _ _ before out after. MatchOption out (standing_at before step.slot ≢ Some standing.Raw)
+        (λ value. (standing_at before step.slot ≡ Some standing.Raw) × (value_at before step.slot ≡ Some value.now)) × (after ≡ before) };
+
+    fn done<S: Space<Val>>(self, s: &mut S) -> Option<&'g Val> {
+        let SeesRaw { slot, guard } = self;
+        let ptr = raw_ptr_of(Pointer {
+            named: Some(slot),
+            tag: Tag::None,
+        });
+        ptr.into_ptr(s, guard)?.as_ref(s)
+    }
+}

@@ -1,0 +1,27 @@
+//! What a participant does in a space, as a value.
+ghost use Rattle.std.specs.Prelude.{◌≡◌, ℕ};
+ghost use Rattle.sdd_base.specs.Guard.{Reader};
+ghost use Rattle.sdd_base.specs.Holding.{Home};
+ghost use Rattle.sdd_base.specs.Seat.{IsSeated, IsExact};
+ghost use Rattle.sdd_base.specs.World.{World};
+ghost use Rattle.sdd_desk.specs.declared.val.Val.{Val};
+
+use sdd_base::Space;
+use sdd_desk::Val;
+
+/// What a participant does in a space that nobody else changes.
+pub trait Step {
+    type Out;
+
+    /// What must be so in a home, of the participant with these guards, and of the world.
+    ghost asks: { Self → Home → Reader → World Val → Type 0 };
+    /// What is so then: at a home and a place, of the world before, of the answer and of the world after.
+    ghost does: { Self → Home → ℕ → World Val → Self.Out → World Val → Type 0 };
+
+    fn done<S: Space<Val>>(self, s: &mut S) -> Self::Out
+        requires seated { IsSeated (S.seat s.old) }
+        requires exact { IsExact (S.seat s.old) }
+        requires asked { asks self (S.seat s.old).home (S.seat s.old).reader (S.world s.old) }
+        ensures seat { S.seat s.new ≡ S.seat s.old }
+        ensures done { does self (S.seat s.old).home (S.seat s.old).place (S.world s.old) result (S.world s.new) };
+}
