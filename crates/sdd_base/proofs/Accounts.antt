@@ -6,8 +6,8 @@ use Rattle.std.proofs.lemmas.List.Sums.{sum_by-set, sum_by-cons}
 use Rattle.std.proofs.lemmas.Bool.Decides.{nat_tests}
 use Rattle.sdd_core.specs.declared.tag.Tag.TheVariants.{None as no_tag}
 use Rattle.sdd_store.proofs.Adopting.{same-or-not, none-there}
-use Rattle.sdd_store.specs.Waiting.{What}
-use Rattle.sdd_store.specs.Waiting.What.{Item, Private, Job}
+use Rattle.sdd_store.specs.declared.waiting.What.{What}
+use Rattle.sdd_store.specs.declared.waiting.What.TheVariants.{Item, Job}
 use Rattle.sdd_store.specs.Time.{Time, due_next, is_open}
 use Rattle.sdd_store.specs.Time as time
 use Rattle.sdd_store.specs.Table.{Entries, IsEmptyAt, entry_at}
@@ -51,7 +51,7 @@ first-count : (s : Standing) → IsFirst s → owner_count (Some s) ≡ 1
 first-count s (inl e) = rw e refl
 first-count s (inr e) = rw e refl
 
-blank-at : {E : Type 0} (n k : ℕ) → slice_index_or (replicate {A = Option E} n None) k None ≡ None
+pub blank-at : {E : Type 0} (n k : ℕ) → slice_index_or (replicate {A = Option E} n None) k None ≡ None
 blank-at zero k = refl
 blank-at (suc n) zero = refl
 blank-at (suc n) (suc k) = blank-at n k
@@ -93,8 +93,8 @@ module _ {T : Type 0} (holds : T → List Holding) where
   accounted-time outside w t a = a
 
   -- a world without items
-  pub accounted-blank : (w : World T) (t : Time) (slots cells : ℕ) → IsBlank t slots cells w → IsAccounted holds (λ _. 0) w
-  accounted-blank w t slots cells blank k =
+  pub accounted-blank : (w : World T) (t : Time) (slots cells jobs : ℕ) → IsBlank t slots cells jobs w → IsAccounted holds (λ _. 0) w
+  accounted-blank w t slots cells jobs blank k =
       let free = blank-at slots k in
       let stands = ap (λ (ss : Entries Standing). owner_count (entry_at ss k)) blank.standings ∙ ap owner_count free in
       let no_cells = blank-sum (λ (x : Option Cell). cond (holds_slot k x) 1 0) refl cells in
@@ -237,7 +237,6 @@ module _ {T : Type 0} (holds : T → List Holding) where
 
     pub accounted-reclaimed : (w : World T) (x : What) → IsAccounted holds outside w → IsAccounted holds outside (reclaimed holds w p x)
     accounted-reclaimed w (Item k) a = accounted-slot_reclaimed w k a
-    accounted-reclaimed w (Private k c) a = accounted-slot_reclaimed w k a
     accounted-reclaimed w (Job j) a = a
 
     pub accounted-all_reclaimed : (w : World T) (xs : List What) → IsAccounted holds outside w → IsAccounted holds outside (all_reclaimed holds w p xs)

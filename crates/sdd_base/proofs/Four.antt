@@ -5,7 +5,7 @@ use Rattle.std.specs.List.{list_all}
 use Rattle.std.proofs.lemmas.List.{get_or-set_same, get_or-set_other, get_or_past, length-set}
 use Rattle.std.proofs.lemmas.Bool.Decides.{nat_tests}
 use Rattle.sdd_store.specs.Waiting.{Waiting, having_seen}
-use Rattle.sdd_store.specs.Waiting.What.{Item}
+use Rattle.sdd_store.specs.declared.waiting.What.TheVariants.{Item}
 use Rattle.sdd_store.specs.Time.{Time, with_place, nobody, is_open, passes, last_count, due_next, rested, IsLive}
 use Rattle.sdd_store.specs.Time as time
 use Rattle.sdd_store.specs.declared.time.Participant.{Participant}

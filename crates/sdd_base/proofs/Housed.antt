@@ -6,7 +6,7 @@ use Rattle.std.proofs.lemmas.List.{get_or_push, length-set, length-append, get_o
 use Rattle.std.proofs.lemmas.List.Sums.{sum_by-set, sum_by-append}
 use Rattle.std.proofs.lemmas.Bool.Decides.{nat_tests}
 use Rattle.sdd_store.specs.Waiting.{Waiting, having_seen}
-use Rattle.sdd_store.specs.Waiting.What.{Item}
+use Rattle.sdd_store.specs.declared.waiting.What.TheVariants.{Item, Job}
 use Rattle.sdd_store.specs.Time.{Time, with_place, nobody, newcomer, due_next, is_open, phase_at, rested, waiting_count, IsLive, IsVacant}
 use Rattle.sdd_store.specs.Time as time
 use Rattle.sdd_store.specs.Phases.{is_live}
@@ -22,16 +22,19 @@ use Rattle.sdd_store.specs.declared.standing.Pointer.{Pointer}
 use Rattle.sdd_slots.specs.Slots.{is_waiting}
 use Rattle.sdd_store.proofs.Adopting.{Scans, scans-if, scans-there, live-entry, same-or-not}
 use Rattle.sdd_base.specs.World.{World, standing_at, place_at}
-use Rattle.sdd_base.specs.Steps.{made_as, with_standing, with_value, dropped, owner_given, retired, cell_closed, all_reclaimed, changed}
+use Rattle.sdd_base.specs.Steps.{made_as, with_standing, with_value, dropped, owner_given, retired, cell_closed, deferred, all_reclaimed, changed}
 use Rattle.sdd_base.specs.Steps as steps
 use Rattle.sdd_base.specs.Holding.{Holding}
-use Rattle.sdd_base.specs.Whole.{IsAbreast, AreHoused, IsWhole}
+use Rattle.sdd_base.specs.Whole.{IsAbreast, AreHoused, IsWhole, is_of_job}
 use Rattle.sdd_base.specs.Own.{all_awaiting}
 use Rattle.sdd_base.specs.Out.{is_out}
 use Rattle.sdd_base.specs.Calls.{IsFirst}
 use Rattle.sdd_base.proofs.Own.{Gives, Gives-all_reclaimed, Gives-owner_given, Gives-cell_closed, Gives-dropped}
 use Rattle.sdd_base.proofs.Whole.{HasItems, below-or-past, append-last, all_awaiting-guards}
 use Rattle.sdd_base.proofs.Whole as whole
+use Rattle.sdd_base.proofs.Listed.{listed-closed, listed-registered}
+use Rattle.sdd_base.proofs.Jobs.{JobsOnce}
+use Rattle.sdd_base.proofs.Jobs as jobs
 use Rattle.sdd_base.specs.Left.{Waits}
 use Rattle.sdd_base.proofs.Opening.{how, Nests, IsChange}
 use Rattle.sdd_base.proofs.Entries.{waits-place}
@@ -86,8 +89,8 @@ module _ {T : Type 0} where
   pub items : {w : World T} → IsWhole w → HasItems w
   items i = record { filled = i.filled; once = i.once; abreast = i.abreast; counted = i.counted }
 
-  pub with-places : {w : World T} → HasItems w → AreHoused w.time → IsWhole w
-  with-places i h = record { filled = i.filled; once = i.once; abreast = i.abreast; housed = h; counted = i.counted }
+  pub with-places : {w : World T} → HasItems w → JobsOnce w → AreHoused w.time → IsWhole w
+  with-places i j h = record { filled = i.filled; once = i.once; jobs_once = j; abreast = i.abreast; housed = h; counted = i.counted }
 
   housed-gives : {u v : World T} (p : ℕ) → IsTaken u.time p → AreHoused u.time → Gives p u v → IsTaken v.time p × AreHoused v.time
   housed-gives {u} {v} p l h g =
@@ -118,7 +121,7 @@ module _ {T : Type 0} where
         taken-put end.time p (time.settled (place_at end p)) end_taken
 
     pub Whole-changed : (w : World T) (p : ℕ) → IsTaken w.time p → IsWhole w → IsWhole (changed holds w p)
-    Whole-changed w p l i = with-places (whole.Items-changed holds w p l.there (items i)) (housed-changed w p l i.housed)
+    Whole-changed w p l i = with-places (whole.Items-changed holds w p l.there (items i)) (jobs.once-changed holds w p l.there i.jobs_once) (housed-changed w p l i.housed)
 
     housed-nested : (w : World T) (p : ℕ) → IsLive w.time p → AreHoused w.time → AreHoused (steps.nested w p).time
     housed-nested w p l h = housed-live w.time p (time.nested (place_at w p)) l h
@@ -128,64 +131,69 @@ module _ {T : Type 0} where
         housed-changed (steps.nested w p) p (taken-put w.time p (time.nested (place_at w p)) (live-taken w.time p l)) (housed-nested w p l h)
 
     pub Whole-changes_nested : (w : World T) (p : ℕ) → IsLive w.time p → IsWhole w → IsWhole (changed holds (steps.nested w p) p)
-    Whole-changes_nested w p l i = with-places (whole.Items-changes_nested holds w p l.0 (items i)) (housed-changes w p l i.housed)
+    Whole-changes_nested w p l i = with-places (whole.Items-changes_nested holds w p l.0 (items i)) (jobs.once-changes_nested holds w p l.0 i.jobs_once) (housed-changes w p l i.housed)
 
     housed-opened : (w : World T) (p : ℕ) → IsLive w.time p → AreHoused w.time → Nests holds w p ⊎ IsChange holds w p → AreHoused (steps.opened holds w p).time
     housed-opened w p l h (inl n) = subst (λ (u : World T). AreHoused u.time) (sym n.nests) (housed-nested w p l h)
     housed-opened w p l h (inr c) = subst (λ (u : World T). AreHoused u.time) (sym c.change) (housed-changes w p l h)
 
     pub Whole-opened : (w : World T) (p : ℕ) → IsLive w.time p → IsWhole w → IsWhole (steps.opened holds w p)
-    Whole-opened w p l i = with-places (whole.Items-opened holds w p l.0 (items i)) (housed-opened w p l i.housed (how holds w p l.0))
+    Whole-opened w p l i = with-places (whole.Items-opened holds w p l.0 (items i)) (jobs.once-opened holds w p l.0 i.jobs_once) (housed-opened w p l i.housed (how holds w p l.0))
 
     -- an item is dropped in its place
     pub Whole-dropped : (w : World T) (p k : ℕ) → IsTaken w.time p → is_out (standing_at w k) ≡ true → IsWhole w → IsWhole (dropped holds w p k)
     Whole-dropped w p k l out i =
-        with-places (whole.Items-dropped holds w p k l.there out (items i)) (housed-gives p l i.housed (Gives-dropped holds w p k l.there)).1
+        with-places (whole.Items-dropped holds w p k l.there out (items i)) (jobs.once-dropped holds w p k l.there i.jobs_once) (housed-gives p l i.housed (Gives-dropped holds w p k l.there)).1
 
   -- an item has another value
   pub Whole-with_value : (w : World T) (k : ℕ) (v : T) → is_out (standing_at w k) ≡ true → IsWhole w → IsWhole (with_value w k v)
-  Whole-with_value w k v out i = with-places (whole.Items-with_value w k v out (items i)) i.housed
+  Whole-with_value w k v out i = with-places (whole.Items-with_value w k v out (items i)) i.jobs_once i.housed
 
   pub Whole-paced : (w : World T) (p : ℕ) (pace : Pace) → IsTaken w.time p → IsAbreast w.time.count (time.paced pace (place_at w p)) → IsWhole w →
       IsWhole (record w { time = time.paced_at w.time p pace })
   Whole-paced w p pace l a i =
-      with-places (whole.Items-paced w p pace l.there a (items i)) (housed-keeps w.time p (time.paced pace (place_at w p)) l refl i.housed)
+      with-places (whole.Items-paced w p pace l.there a (items i)) (jobs.once-place w p (time.paced pace (place_at w p)) l.there refl i.jobs_once) (housed-keeps w.time p (time.paced pace (place_at w p)) l refl i.housed)
 
   pub Whole-cell_closed : (w : World T) (p c : ℕ) → IsLive w.time p → IsWhole w → IsWhole (cell_closed w p c)
   Whole-cell_closed w p c l i =
-      with-places (whole.Items-cell_closed w p c l.0 (items i)) (housed-gives p (live-taken w.time p l) i.housed (Gives-cell_closed w p c l.0)).1
+      with-places (whole.Items-cell_closed w p c l.0 (items i)) (jobs.once-cell_closed w p c l.0 i.jobs_once) (housed-gives p (live-taken w.time p l) i.housed (Gives-cell_closed w p c l.0)).1
+
+  pub Whole-deferred : (w : World T) (p j : ℕ) → IsTaken w.time p → IsEmptyAt w.jobs j → IsWhole w → IsWhole (deferred w p j)
+  Whole-deferred w p j l free i =
+      with-places (whole.Items-deferred w p j l.there (items i)) (jobs.once-deferred w p j l.there free i.jobs_once)
+      (housed-keeps w.time p (time.awaiting (Job j) (place_at w p)) l refl i.housed)
 
   pub Whole-retires : (w : World T) (p k : ℕ) → IsTaken w.time p → is_out (standing_at w k) ≡ true → IsWhole w → IsWhole (retired w p k)
   Whole-retires w p k l out i =
-      with-places (whole.Items-retires w p k l.there out (items i)) (housed-keeps w.time p (time.awaiting (Item k) (place_at w p)) l refl i.housed)
+      with-places (whole.Items-retires w p k l.there out (items i)) (jobs.once-retired w p k l.there i.jobs_once) (housed-keeps w.time p (time.awaiting (Item k) (place_at w p)) l refl i.housed)
 
   -- an item that is shared has one owner more or fewer
   pub Whole-shared : (w : World T) (k n m : ℕ) → standing_at w k ≡ Some (Shared n) → IsWhole w → IsWhole (with_standing w k (Shared m))
-  Whole-shared w k n m is i = with-places (whole.Items-shared w k n m is (items i)) i.housed
+  Whole-shared w k n m is i = with-places (whole.Items-shared w k n m is (items i)) i.jobs_once i.housed
 
   -- an item that is out stands otherwise, and is out
   pub Whole-restands : (w : World T) (k : ℕ) (s : Standing) → is_out (standing_at w k) ≡ true → is_out (Some s) ≡ true → IsWhole w →
       IsWhole (with_standing w k s)
-  Whole-restands w k s was now i = with-places (whole.Items-restands w k s was now (items i)) i.housed
+  Whole-restands w k s was now i = with-places (whole.Items-restands w k s was now (items i)) i.jobs_once i.housed
 
   pub Whole-owner_given : (w : World T) (p k : ℕ) → IsTaken w.time p → (s : Option Standing) → standing_at w k ≡ s → IsWhole w → IsWhole (owner_given w p k s)
   Whole-owner_given w p k l s is i =
-      with-places (whole.Items-owner_given w p k l.there s is (items i)) (housed-gives p l i.housed (Gives-owner_given w p k s is)).1
+      with-places (whole.Items-owner_given w p k l.there s is (items i)) (jobs.once-owner_given w p k l.there s is i.jobs_once) (housed-gives p l i.housed (Gives-owner_given w p k s is)).1
 
   pub Whole-stirred : (w : World T) (p : ℕ) → IsLive w.time p → IsWhole w → IsWhole (steps.stirred w p)
-  Whole-stirred w p l i = with-places (whole.Items-stirred w p l.0 (items i)) (housed-live w.time p (time.with_garbage (place_at w p)) l i.housed)
+  Whole-stirred w p l i = with-places (whole.Items-stirred w p l.0 (items i)) (jobs.once-place w p (time.with_garbage (place_at w p)) l.0 refl i.jobs_once) (housed-live w.time p (time.with_garbage (place_at w p)) l i.housed)
 
   pub Whole-accelerated : (w : World T) (p : ℕ) → IsLive w.time p → IsWhole w → IsWhole (steps.accelerated w p)
-  Whole-accelerated w p l i = with-places (whole.Items-accelerated w p l.0 (items i)) (housed-live w.time p (time.accelerated (place_at w p)) l i.housed)
+  Whole-accelerated w p l i = with-places (whole.Items-accelerated w p l.0 (items i)) (jobs.once-place w p (time.accelerated (place_at w p)) l.0 refl i.jobs_once) (housed-live w.time p (time.accelerated (place_at w p)) l i.housed)
 
   pub Whole-cells : (w : World T) (cells : Entries Cell) → IsWhole w → IsWhole (record w { cells = cells })
-  Whole-cells w cells i = with-places (whole.Items-cells w cells (items i)) i.housed
+  Whole-cells w cells i = with-places (whole.Items-cells w cells (items i)) i.jobs_once i.housed
 
   pub Whole-pointers : (w : World T) (pointers : List Pointer) → IsWhole w → IsWhole (record w { pointers = pointers })
-  Whole-pointers w pointers i = with-places (whole.Items-pointers w pointers (items i)) i.housed
+  Whole-pointers w pointers i = with-places (whole.Items-pointers w pointers (items i)) i.jobs_once i.housed
 
   pub Whole-made_as : (w : World T) (k : ℕ) (v : T) (s : Standing) → IsFirst s → IsEmptyAt w.standings k → IsWhole w → IsWhole (made_as w k v s)
-  Whole-made_as w k v s first empty i = with-places (whole.Items-made_as w k v s (first-idle s first) empty.0 empty.1 (items i)) i.housed
+  Whole-made_as w k v s first empty i = with-places (whole.Items-made_as w k v s (first-idle s first) empty.0 empty.1 (items i)) i.jobs_once i.housed
 
 pub nothing-waits : (ws : List Waiting) (y : Waiting) → Contains ws y → ws ≡ [] → ⊥
 nothing-waits ws y h e = let none : Contains [] y = subst (λ (vs : List Waiting). Contains vs y) e h in absurd (omega (arith, none.1))
@@ -331,11 +339,12 @@ housed-registered t p h false e = rw e (housed-more t h)
 
 module _ {T : Type 0} where
   pub Whole-closed : (w : World T) (p : ℕ) → IsLive w.time p → IsWhole w → IsWhole (steps.closed w p)
-  Whole-closed w p l i = with-places (whole.Items-closed w p l (items i)) (housed-closed w.time p l i.housed (nat_lt 1 (place_at w p).guards) refl)
+  Whole-closed w p l i = with-places (whole.Items-closed w p l (items i)) (λ j. listed-closed (is_of_job j) w.time p l ∙ i.jobs_once j) (housed-closed w.time p l i.housed (nat_lt 1 (place_at w p).guards) refl)
 
   pub Whole-registered : (w : World T) (p : ℕ) → IsVacant w.time p → IsWhole w → IsWhole (steps.registered w p)
   Whole-registered w p v i =
-      with-places (whole.Items-registered w p (λ l. i.housed.bare p (vacant-bare w.time p i.housed v l)) (items i))
+      let bare : p < length w.time.places → (place_at w p).bags.waiting ≡ [] = λ l. i.housed.bare p (vacant-bare w.time p i.housed v l) in
+      with-places (whole.Items-registered w p bare (items i)) (λ j. listed-registered (is_of_job j) w.time p bare ∙ i.jobs_once j)
       (housed-registered w.time p i.housed (nat_lt p (length w.time.places)) refl)
 
   pub Whole-ended : (w : World T) (p : ℕ) → IsLive w.time p → (IsTrue (is_open (place_at w p)) → ⊥) → IsWhole w → IsWhole (steps.ended w p)
@@ -344,6 +353,7 @@ module _ {T : Type 0} where
       record {
         filled = i.filled;
         once = i.once;
+        jobs_once = i.jobs_once;
         abreast = i.abreast;
         housed = record { lengths = h.lengths; shut = h.shut; bare = h.bare };
         counted = i.counted;

@@ -5,13 +5,13 @@ use Rattle.std.specs.List.{list_all}
 use Rattle.std.proofs.lemmas.List.{get_or-set_same, get_or-set_other}
 use Rattle.std.proofs.lemmas.Bool.Decides.{nat_tests}
 use Rattle.sdd_store.specs.Waiting.{Waiting, having_seen}
-use Rattle.sdd_store.specs.Waiting.What.{Item}
+use Rattle.sdd_store.specs.declared.waiting.What.TheVariants.{Item, Job}
 use Rattle.sdd_store.specs.Time.{Time, with_place, nobody, is_open, passes, last_count, counted_down, phase_at, rested}
 use Rattle.sdd_store.specs.Time as time
 use Rattle.sdd_store.specs.declared.time.Participant.{Participant}
 use Rattle.sdd_store.specs.declared.standing.Standing.TheVariants.{Owned, Raw, Shared}
 use Rattle.sdd_base.specs.World.{World, standing_at, value_at, place_at, IsPlaceOf}
-use Rattle.sdd_base.specs.Steps.{made_as, with_standing, with_value, dropped, retired, owner_given, cell_closed, opened, closed, registered, ended, reclaims}
+use Rattle.sdd_base.specs.Steps.{made_as, with_standing, with_value, dropped, retired, owner_given, cell_closed, deferred, opened, closed, registered, ended, reclaims}
 use Rattle.sdd_base.specs.Holding.{Holding}
 use Rattle.sdd_base.specs.Own.{all_awaiting}
 use Rattle.sdd_base.specs.Whole.{IsWhole}
@@ -19,16 +19,16 @@ use Rattle.sdd_base.specs.Out.{is_out}
 use Rattle.sdd_base.specs.Left.{Waits, left, IsHeldUp, OpeningsLower, NoCallRaises, GoesAtLatest, Stays, GoesInTime}
 use Rattle.sdd_base.specs.Left.Stays.{starts, one_opening, one_call}
 use Rattle.sdd_base.specs.Calls.{Calls}
-use Rattle.sdd_base.specs.Calls.Calls.{registers, ends, opens, closes, stirs, accelerates, makes, shares, retires, releases, edits, drops, puts_out_raw, takes_back_raw, changes_cells, closes_cell, changes_pointers}
+use Rattle.sdd_base.specs.Calls.Calls.{registers, ends, opens, closes, stirs, accelerates, makes, shares, retires, releases, defers, edits, drops, puts_out_raw, takes_back_raw, changes_cells, closes_cell, changes_pointers}
 use Rattle.sdd_base.proofs.Own.{Gives, Gives-owner_given, Gives-cell_closed, Gives-dropped, all_awaiting-found}
 use Rattle.sdd_base.proofs.Own as own
 use Rattle.sdd_base.proofs.Standings.{alone-out}
 use Rattle.sdd_base.proofs.Whole.{HasItems, Items-opened, below-or-past, times_among, filled-there, all_awaiting-guards, some-waits}
-use Rattle.sdd_base.proofs.Housed.{Whole-opened, Whole-closed, Whole-stirred, Whole-accelerated, Whole-made_as, Whole-shared, Whole-restands, Whole-retires, Whole-owner_given, Whole-cells, Whole-pointers, Whole-cell_closed, Whole-with_value, Whole-dropped, Whole-registered, Whole-ended, items, live-is, live-taken, registered-keeps}
+use Rattle.sdd_base.proofs.Housed.{Whole-opened, Whole-closed, Whole-stirred, Whole-accelerated, Whole-made_as, Whole-shared, Whole-restands, Whole-retires, Whole-deferred, Whole-owner_given, Whole-cells, Whole-pointers, Whole-cell_closed, Whole-with_value, Whole-dropped, Whole-registered, Whole-ended, items, live-is, live-taken, registered-keeps}
 use Rattle.sdd_base.proofs.Closes.{how-closed}
 use Rattle.sdd_store.proofs.Adopting.{Adopts, adopts, same-or-not}
 use Rattle.sdd_store.specs.Phases.{is_ended}
-use Rattle.sdd_base.proofs.Opening.{how, Nests, IsChange, opened-goes, opened-other, all_awaiting-waiting}
+use Rattle.sdd_base.proofs.Opening.{how, Nests, IsChange, opened-goes, opened-other, all_awaiting-waiting, still-waits}
 use Rattle.sdd_base.proofs.Entries.{waits-place, waits-young, waits-standing, entry-due, nests-waits, change-waits, differs, opens-changed}
 use Rattle.sdd_base.proofs.Under.{closed-persists}
 
@@ -464,6 +464,11 @@ module _ {T : Type 0} where
         (lowers-place w.time r q (time.awaiting (Item j) (place_at w r)) l.0 (Lowers-given w.time.count (j ∷ []) (place_at w r)))
     each-call q k seen (releases w r j n l is) i live h =
         goes-gives w (owner_given w r j (Some (Shared n))) r q k seen l.0 h (Gives-owner_given w r j (Some (Shared n)) is)
+    each-call q k seen (defers w r j l free) i live h =
+        let x = place_at w r in
+        let y : Participant = time.awaiting (Job j) x in
+        goes-on w (deferred w r j) q k seen h
+        (lowers-place w.time r q y l.0 (Lowers-slower w.time.count x y (still-waits (Job j) x) refl refl (stirred-lower x.countdown)))
     each-call q k seen (edits w j value may) i live h = goes-still w (with_value w j value) q k seen h refl
     each-call q k seen (drops w r j l may) i live h = goes-gives w (dropped holds w r j) r q k seen l.0 h (Gives-dropped holds w r j l.0)
     each-call q k seen (puts_out_raw w j is) i live h = goes-still w (with_standing w j Raw) q k seen h refl
@@ -493,6 +498,7 @@ module _ {T : Type 0} where
     Whole-called (shares w j n is) i = Whole-shared w j n (n + 1) is i
     Whole-called (retires w r j l there) i = Whole-retires w r j (live-taken w.time r l) (ap is_out there) i
     Whole-called (releases w r j n l is) i = Whole-owner_given w r j (live-taken w.time r l) (Some (Shared n)) is i
+    Whole-called (defers w r j l free) i = Whole-deferred w r j (live-taken w.time r l) free i
     Whole-called (edits w j value may) i = Whole-with_value w j value (alone-out (standing_at w j) may.alone) i
     Whole-called (drops w r j l may) i = Whole-dropped holds w r j (live-taken w.time r l) (alone-out (standing_at w j) may.alone) i
     Whole-called (puts_out_raw w j is) i = Whole-restands w j Raw (ap is_out is) refl i

@@ -1,9 +1,11 @@
 pub mod Standings
 pub mod Own
 pub mod Weights
+pub mod Listed
 pub mod Whole
 pub mod Guarded
 pub mod Opening
+pub mod Jobs
 pub mod Housed
 pub mod Closes
 pub mod Adopted

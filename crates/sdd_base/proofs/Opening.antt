@@ -4,8 +4,9 @@ use Rattle.std.specs.Prelude.{◌-◌, ◌==◌, not, Contains}
 use Rattle.std.proofs.lemmas.List.Elements.{Contains-append_left}
 use Rattle.std.proofs.lemmas.List.{length-set, get_or-set_same, get_or-set_other}
 use Rattle.std.proofs.lemmas.Bool.Decides.{nat_tests}
-use Rattle.sdd_store.specs.Waiting.{What, Waiting, fresh}
-use Rattle.sdd_store.specs.Waiting.What.{Item, Private, Job}
+use Rattle.sdd_store.specs.declared.waiting.What.{What}
+use Rattle.sdd_store.specs.Waiting.{Waiting, fresh}
+use Rattle.sdd_store.specs.declared.waiting.What.TheVariants.{Item, Job}
 use Rattle.sdd_store.specs.Time.{Time, with_place, nobody, due_next, is_open}
 use Rattle.sdd_store.specs.Time as time
 use Rattle.sdd_store.specs.Table.{entry_at, without_entry}
@@ -112,9 +113,7 @@ module _ {T : Type 0} where
         Stands k s v (reclaimed holds w p x)
     reclaimed-stands w (Item j) s v idle other i =
         out-stands w j s v idle (λ e. absurd (grind (arith, nat_tests, other, e))) (waiting_value w j (standing_at w j)) i
-    reclaimed-stands w (Private j c) s v idle other i =
-        out-stands w j s v idle (λ e. absurd (grind (arith, nat_tests, other, e))) (waiting_value w j (standing_at w j)) i
-    reclaimed-stands w (Job n) s v idle other i = i
+    reclaimed-stands w (Job n) s v idle other i = record { standing = i.standing; value = i.value }
 
     -- nothing comes back into a slot that is free
     out-gone : (w : World T) (j : ℕ) → (k ≡ j) ⊎ (k ≢ j) → (u : Option T) → Stands k None None w → Stands k None None (taken_out holds w p j u)
@@ -124,8 +123,7 @@ module _ {T : Type 0} where
 
     reclaimed-gone : (w : World T) (x : What) → Stands k None None w → Stands k None None (reclaimed holds w p x)
     reclaimed-gone w (Item j) i = out-gone w j (same-or-not k j) (waiting_value w j (standing_at w j)) i
-    reclaimed-gone w (Private j c) i = out-gone w j (same-or-not k j) (waiting_value w j (standing_at w j)) i
-    reclaimed-gone w (Job n) i = i
+    reclaimed-gone w (Job n) i = record { standing = i.standing; value = i.value }
 
     all-gone : (xs : List What) (w : World T) → Stands k None None w → Stands k None None (all_reclaimed holds w p xs)
     all-gone [] w i = i
@@ -164,9 +162,6 @@ module _ {T : Type 0} where
     reclaimed-goes w (Item j) s v of waits i =
         let e : k ≡ j = grind (arith, nat_tests, of) in
         rw (sym (ap (λ (n : ℕ). standing_at w n) e) ∙ i.standing) (there-goes w j s v e waits i)
-    reclaimed-goes w (Private j c) s v of waits i =
-        let e : k ≡ j = grind (arith, nat_tests, of) in
-        rw (sym (ap (λ (n : ℕ). standing_at w n) e) ∙ i.standing) (there-goes w j s v e waits i)
     reclaimed-goes w (Job n) s v of waits i = absurd (cc)
 
     all-goes-if : (x : What) (xs : List What) (w : World T) (s : Option Standing) (v : T) → is_waiting s ≡ true → 1 ≤ times_among k (x ∷ xs) → (b : Bool) →
@@ -185,6 +180,10 @@ module _ {T : Type 0} where
     all-goes (x ∷ xs) w s v waits (inr on) = all-goes xs (reclaimed holds w p x) s v waits (all-goes-if x xs w s v waits on.0 (is_of_slot k x) refl on.1)
 
 -- how a place stands after others gave to p
+-- what waits goes on waiting where something more begins to
+pub still-waits : (what : What) (x : Participant) (w : Waiting) → Contains x.bags.waiting w → Contains (time.awaiting what x).bags.waiting w
+still-waits what x w h = Contains-append_left x.bags.waiting (fresh what ∷ []) w h
+
 pub all_awaiting-waiting : (ks : List ℕ) (x : Participant) (y : Waiting) → Contains x.bags.waiting y → Contains (all_awaiting ks x).bags.waiting y
 all_awaiting-waiting [] x y h = h
 all_awaiting-waiting (k ∷ ks) x y h = all_awaiting-waiting ks (time.awaiting (Item k) x) y (Contains-append_left x.bags.waiting (fresh (Item k) ∷ []) y h)

@@ -3,8 +3,8 @@ use Rattle.std.proofs.Common.{◌≡◌, ◌⊎◌, inl, inr, ℕ, ◌+◌, ◌<
 use Rattle.std.specs.Prelude.{is_some, IsSome, All}
 use Rattle.std.proofs.lemmas.List.Elements.{All-head, All-tail}
 use Rattle.std.proofs.lemmas.List.Sums.{sum_by-set, sum_by-cons}
-use Rattle.sdd_store.specs.Waiting.{What}
-use Rattle.sdd_store.specs.Waiting.What.{Item, Private, Job}
+use Rattle.sdd_store.specs.declared.waiting.What.{What}
+use Rattle.sdd_store.specs.declared.waiting.What.TheVariants.{Item, Job}
 use Rattle.sdd_store.specs.Table.{IsEmptyAt, entry_at}
 use Rattle.sdd_store.specs.Time.{due_next}
 use Rattle.sdd_store.specs.declared.standing.Standing.{Standing}
@@ -135,7 +135,6 @@ module _ {T : Type 0} where
 
     reclaimed-at-most : (w : World T) (x : What) → AtMost n w → AtMost n (reclaimed holds w p x)
     reclaimed-at-most w (Item k) h = slot-at-most w k (standing_at w k) refl h
-    reclaimed-at-most w (Private k c) h = slot-at-most w k (standing_at w k) refl h
     reclaimed-at-most w (Job j) h = h
 
     all-at-most : (xs : List What) (w : World T) → AtMost n w → AtMost n (all_reclaimed holds w p xs)
@@ -163,7 +162,6 @@ module _ {T : Type 0} where
 
     reclaimed-same : (w : World T) (x : What) → out w ≡ n → out (reclaimed holds w p x) ≡ n
     reclaimed-same w (Item k) h = slot-same w k (standing_at w k) refl h
-    reclaimed-same w (Private k c) h = slot-same w k (standing_at w k) refl h
     reclaimed-same w (Job j) h = h
 
     all-same : (xs : List What) (w : World T) → out w ≡ n → out (all_reclaimed holds w p xs) ≡ n
@@ -200,6 +198,7 @@ module _ {T : Type 0} where
         sharing = out-shared w;
         restanding = out-restands w;
         retiring = out-retired w;
+        deferring = λ p j. refl;
         nulling = nulled-more w;
         filling = out-filled w;
         repointing = λ c pointer. refl;

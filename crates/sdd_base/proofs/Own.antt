@@ -3,8 +3,8 @@ use Rattle.std.proofs.Common.{◌≡◌, ℕ, ◌<◌, ◌++◌, List, [], ◌�
 use Rattle.std.specs.Prelude.{◌==◌}
 use Rattle.std.proofs.lemmas.List.{length-set, get_or-set_same, set-set, set-get_or}
 use Rattle.std.proofs.lemmas.Bool.Decides.{nat_tests}
-use Rattle.sdd_store.specs.Waiting.{What}
-use Rattle.sdd_store.specs.Waiting.What.{Item, Private, Job}
+use Rattle.sdd_store.specs.declared.waiting.What.{What}
+use Rattle.sdd_store.specs.declared.waiting.What.TheVariants.{Item, Job}
 use Rattle.sdd_store.specs.Time.{Time, with_place, nobody, due_next, is_open}
 use Rattle.sdd_store.specs.Time as time
 use Rattle.sdd_store.specs.Table.{entry_at, without_entry}
@@ -106,7 +106,6 @@ module _ {T : Type 0} where
 
     pub Gives-reclaimed : (w : World T) (p : ℕ) (x : What) → p < length w.time.places → Gives p w (reclaimed holds w p x)
     Gives-reclaimed w p (Item k) l = Gives-taken_out w p k l (waiting_value w k (standing_at w k))
-    Gives-reclaimed w p (Private k c) l = Gives-taken_out w p k l (waiting_value w k (standing_at w k))
     Gives-reclaimed w p (Job j) l = Gives-nothing refl
 
     pub Gives-all_reclaimed : (w : World T) (p : ℕ) (xs : List What) → p < length w.time.places → Gives p w (all_reclaimed holds w p xs)

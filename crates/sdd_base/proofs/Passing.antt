@@ -1,7 +1,7 @@
 -- What an accelerated guard leaves
 use Rattle.std.proofs.Common.{◌≡◌, ◌≢◌, ◌++◌, IsTrue, subst, slice_index_or, ◌⊎◌, inl, inr, ℕ, ◌+◌, ◌<◌, ◌≤◌, List, [], ◌∷◌, length, Bool, true, false, nat_lt, refl, sym, ap, ◌∙◌, arith, Some, None, Option}
-use Rattle.sdd_store.specs.Waiting.{What}
-use Rattle.sdd_store.specs.Waiting.What.{Item, Private, Job}
+use Rattle.sdd_store.specs.declared.waiting.What.{What}
+use Rattle.sdd_store.specs.declared.waiting.What.TheVariants.{Item, Job}
 use Rattle.std.specs.Prelude.{◌^◌, is_some}
 use Rattle.sdd_store.specs.Time.{Time, due_next, newcomer, nobody, is_open, with_place}
 use Rattle.sdd_store.specs.Time as time
@@ -39,7 +39,6 @@ module _ {T : Type 0} (holds : T → List Holding) (p made in_place : ℕ) where
 
   made-reclaimed : (w : World T) (x : What) → Made w → Made (reclaimed holds w p x)
   made-reclaimed w (Item k) h = made-out w k (waiting_value w k (standing_at w k)) h
-  made-reclaimed w (Private k c) h = made-out w k (waiting_value w k (standing_at w k)) h
   made-reclaimed w (Job n) h = h
 
   made-all : (xs : List What) (w : World T) → Made w → Made (all_reclaimed holds w p xs)

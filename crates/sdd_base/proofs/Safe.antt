@@ -4,8 +4,9 @@ use Rattle.std.specs.Prelude.{Contains, ◌≤◌}
 use Rattle.std.proofs.lemmas.List.{get_or-set_same, get_or-set_other, length-set}
 use Rattle.std.proofs.lemmas.List.Elements.{Contains-push, Contains-append_left}
 use Rattle.std.proofs.lemmas.Bool.Decides.{nat_tests}
-use Rattle.sdd_store.specs.Waiting.{What, fresh, having_seen}
-use Rattle.sdd_store.specs.Waiting.What.{Item, Private, Job}
+use Rattle.sdd_store.specs.declared.waiting.What.{What}
+use Rattle.sdd_store.specs.Waiting.{fresh, having_seen}
+use Rattle.sdd_store.specs.declared.waiting.What.TheVariants.{Item, Job}
 use Rattle.sdd_store.specs.Time.{nobody, due_next, is_open}
 use Rattle.sdd_store.specs.Time as time
 use Rattle.sdd_store.specs.declared.time.Participant.{Participant}
@@ -21,7 +22,7 @@ use Rattle.sdd_base.specs.Left.{Waits}
 use Rattle.sdd_base.specs.Out.{is_out}
 use Rattle.sdd_base.specs.Under.{IsUnder, IsSafe}
 use Rattle.sdd_base.specs.Calls.{Calls}
-use Rattle.sdd_base.specs.Calls.Calls.{registers, ends, opens, closes, stirs, accelerates, makes, shares, retires, releases, edits, drops, puts_out_raw, takes_back_raw, changes_cells, closes_cell, changes_pointers}
+use Rattle.sdd_base.specs.Calls.Calls.{registers, ends, opens, closes, stirs, accelerates, makes, shares, retires, releases, defers, edits, drops, puts_out_raw, takes_back_raw, changes_cells, closes_cell, changes_pointers}
 use Rattle.sdd_base.proofs.Whole.{count-cons, times_among, times-aged}
 use Rattle.sdd_base.proofs.Guarded.{guarded}
 use Rattle.sdd_base.proofs.Standings.{out-waits-not, out-inside, out-apart}
@@ -97,7 +98,6 @@ module _ {T : Type 0} (q k : ℕ) where
 
     reclaims-keeps : (w : World T) (x : What) → is_of_slot k x ≡ false → IsOutOrFresh w → IsOutOrFresh (reclaimed holds w q x)
     reclaims-keeps w (Item j) other h = taken-keeps w j (λ e. absurd (grind (arith, nat_tests, other, e))) (waiting_value w j (standing_at w j)) h
-    reclaims-keeps w (Private j c) other h = taken-keeps w j (λ e. absurd (grind (arith, nat_tests, other, e))) (waiting_value w j (standing_at w j)) h
     reclaims-keeps w (Job n) other h = h
 
     reclaims-if : (x : What) (xs : List What) (w : World T) → times_among k (x ∷ xs) ≡ 0 → (b : Bool) → is_of_slot k x ≡ b → IsOutOrFresh w →
@@ -176,6 +176,7 @@ module _ {T : Type 0} (p k : ℕ) where
     out-call (retires v r j l there) i on out o = safe-or (retired v r j) o (retires-keeps r k v j (ap is_out there) (l.0, inl out))
     out-call (releases v r j n l is) i on out o =
         safe-or (owner_given v r j (Some (Shared n))) o (gives-keeps r k v j (Some (Shared n)) is (l.0, inl out))
+    out-call (defers v r j l free) i on out o = safe-out o out
     out-call (edits v j value may) i on out o = absurd (may.quiet (guarded v p on))
     out-call (drops v r j l may) i on out o = absurd (may.quiet (guarded v p on))
     out-call (puts_out_raw v j is) i on out o = safe-out o (restands-out k v j Raw (ap is_out is) refl out (same-or-not k j))

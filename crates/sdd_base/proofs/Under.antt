@@ -5,7 +5,7 @@ use Rattle.std.proofs.lemmas.List.{get_or-set_same, get_or-set_other}
 use Rattle.std.proofs.lemmas.List.Elements.{Contains-push}
 use Rattle.std.proofs.lemmas.Bool.Decides.{nat_tests}
 use Rattle.sdd_store.specs.Waiting.{Waiting, fresh, having_seen}
-use Rattle.sdd_store.specs.Waiting.What.{Item}
+use Rattle.sdd_store.specs.declared.waiting.What.TheVariants.{Item, Job}
 use Rattle.sdd_store.specs.Time.{Time, with_place, nobody, due_next, is_open, phase_at, IsLive}
 use Rattle.sdd_store.specs.Phases.{is_ended}
 use Rattle.sdd_store.specs.Time as time
@@ -13,7 +13,7 @@ use Rattle.sdd_store.specs.declared.time.Participant.{Participant}
 use Rattle.sdd_store.specs.declared.standing.Standing.{Standing}
 use Rattle.sdd_store.specs.declared.standing.Standing.TheVariants.{Owned, Raw, Shared, Retired}
 use Rattle.sdd_base.specs.World.{World, standing_at, value_at, place_at, IsPlaceOf}
-use Rattle.sdd_base.specs.Steps.{made_as, with_standing, retired, owner_given, cell_closed, opened, closed, registered, ended, reclaims}
+use Rattle.sdd_base.specs.Steps.{made_as, with_standing, retired, owner_given, cell_closed, deferred, opened, closed, registered, ended, reclaims}
 use Rattle.sdd_base.specs.Holding.{Holding}
 use Rattle.sdd_base.specs.Own.{all_awaiting}
 use Rattle.sdd_base.specs.Whole.{IsWhole}
@@ -21,17 +21,17 @@ use Rattle.sdd_base.specs.Left.{Waits}
 use Rattle.sdd_base.specs.Out.{is_out}
 use Rattle.sdd_base.specs.Under.{more, IsUnder, CallsUnder, KeepsUnderGuards, KeepsFreshUnderGuards}
 use Rattle.sdd_base.specs.Calls.{Calls}
-use Rattle.sdd_base.specs.Calls.Calls.{registers, ends, opens, closes, stirs, accelerates, makes, shares, retires, releases, edits, drops, puts_out_raw, takes_back_raw, changes_cells, closes_cell, changes_pointers}
+use Rattle.sdd_base.specs.Calls.Calls.{registers, ends, opens, closes, stirs, accelerates, makes, shares, retires, releases, defers, edits, drops, puts_out_raw, takes_back_raw, changes_cells, closes_cell, changes_pointers}
 use Rattle.sdd_base.specs.Under.CallsUnder.{none, more_calls}
 use Rattle.sdd_base.proofs.Own.{Gives, Gives-owner_given, Gives-cell_closed}
 use Rattle.sdd_base.proofs.Own as own
 use Rattle.sdd_base.proofs.Guarded.{guarded}
 use Rattle.sdd_base.proofs.Standings.{out-inside, out-apart}
 use Rattle.sdd_base.proofs.Whole.{times_among}
-use Rattle.sdd_base.proofs.Housed.{Whole-opened, Whole-closed, Whole-stirred, Whole-accelerated, Whole-made_as, Whole-shared, Whole-restands, Whole-retires, Whole-owner_given, Whole-cells, Whole-pointers, Whole-cell_closed, Whole-registered, Whole-ended, IsTaken, live-taken, registered-keeps, waits-taken, guard-taken}
+use Rattle.sdd_base.proofs.Housed.{Whole-opened, Whole-closed, Whole-stirred, Whole-accelerated, Whole-made_as, Whole-shared, Whole-restands, Whole-retires, Whole-deferred, Whole-owner_given, Whole-cells, Whole-pointers, Whole-cell_closed, Whole-registered, Whole-ended, IsTaken, live-taken, registered-keeps, waits-taken, guard-taken}
 use Rattle.sdd_base.proofs.Closes.{how-closed}
 use Rattle.sdd_store.proofs.Adopting.{same-or-not}
-use Rattle.sdd_base.proofs.Opening.{how, Nests, IsChange, Stands, opened-stays, opened-other, shared-apart, owner_given-stands, closed-stands, all_awaiting-waiting}
+use Rattle.sdd_base.proofs.Opening.{how, Nests, IsChange, Stands, opened-stays, opened-other, shared-apart, owner_given-stands, closed-stands, all_awaiting-waiting, still-waits}
 use Rattle.sdd_base.proofs.Entries.{other-due, young-due, change-waits}
 
 -- the same participant, as far as its changes go
@@ -293,6 +293,14 @@ module _ {T : Type 0} where
         (Whole-retires v r j (live-taken v.time r l) (ap is_out there) i, under-retires v p k r j l.0 (ap is_out there) u o)
     one-call p k (releases v r j n l is) i u o =
         (Whole-owner_given v r j (live-taken v.time r l) (Some (Shared n)) is i, under-owner_given v p k r j l.0 (Some (Shared n)) is u o)
+    one-call p k (defers v r j l free) i u o =
+        let x = place_at v r in
+        let y : Participant = time.awaiting (Job j) x in
+        let on : Persists x y = record { found = refl; waits = still-waits (Job j) x } in (
+          Whole-deferred v r j (live-taken v.time r l) free i,
+          kept v (deferred v r j) p k u o (record { standing = u.standing; value = refl }) (persists-place v.time r p y l.0 on)
+              (persists-place v.time r u.holder y l.0 on),
+        )
     one-call p k (edits v j value may) i u o = absurd (may.quiet (guarded v p u.guarded))
     one-call p k (drops v r j l may) i u o = absurd (may.quiet (guarded v p u.guarded))
     one-call p k (puts_out_raw v j is) i u o =

@@ -1,11 +1,13 @@
 -- No step makes more slots wait than there are
-use Rattle.std.proofs.Common.{◌≡◌, inl, inr, ℕ, ◌+◌, ◌<◌, ◌≤◌, List, [], ◌∷◌, length, cond, true, refl, sym, ap, ◌∙◌, arith, Some, None, map, drop, get_or, drop-cons, add-one, slice_index_or, sum_by, count_by, Option}
-use Rattle.std.specs.Prelude.{◌-◌}
+use Rattle.std.proofs.Common.{◌≡◌, inl, inr, ℕ, ◌+◌, ◌<◌, ◌≤◌, List, [], ◌∷◌, length, cond, Bool, true, false, nat_lt, refl, sym, ap, ◌∙◌, arith, Some, None, map, drop, get_or, drop-cons, add-one, slice_index_or, sum_by, count_by, Option}
+use Rattle.std.specs.Prelude.{◌-◌, is_none}
 use Rattle.std.proofs.lemmas.Grind.{common_steps}
-use Rattle.std.proofs.lemmas.List.{get_or_past, length-set, length-append}
+use Rattle.std.proofs.lemmas.List.{get_or_past, length-set, length-append, set_past}
+use Rattle.std.proofs.lemmas.Bool.Decides.{nat_tests}
 use Rattle.std.proofs.lemmas.List.Sums.{sum_by-set}
 use Rattle.sdd_store.specs.Waiting.{fresh}
-use Rattle.sdd_store.specs.Waiting.What.{Item}
+use Rattle.sdd_store.specs.declared.waiting.What.TheVariants.{Item, Job}
+use Rattle.sdd_store.specs.declared.waiting.What.{What}
 use Rattle.sdd_store.specs.Table.{Entries, IsEmptyAt, entry_at, with_entry, without_entry}
 use Rattle.sdd_store.specs.Time.{waiting_count, nobody}
 use Rattle.sdd_store.specs.Time as time
@@ -17,18 +19,19 @@ use Rattle.sdd_store.specs.declared.standing.Standing.TheVariants.{Shared, Retir
 use Rattle.sdd_store.specs.declared.standing.Cell.{Cell}
 use Rattle.sdd_store.specs.declared.standing.Pointer.{Pointer}
 use Rattle.sdd_base.specs.World.{World, KeepsSizes, weight, is_loose, standing_at, value_at, place_at}
-use Rattle.sdd_base.specs.Steps.{made_as, with_standing, retired, spilled, cell_closed, held_in, owner_given, given, given_all, freed, vacated, dropped_out, dropped, taken_out, waiting_value, slot_reclaimed, all_reclaimed}
+use Rattle.sdd_base.specs.Steps.{made_as, with_standing, retired, spilled, cell_closed, held_in, owner_given, given, given_all, freed, vacated, dropped_out, dropped, taken_out, waiting_value, slot_reclaimed, reclaimed, all_reclaimed, deferred, ran}
 use Rattle.sdd_base.specs.Holding.{Holding, owned, shared, atomic_owned, atomic_shared, atomic_raw}
 use Rattle.sdd_base.specs.Out.{is_out}
 use Rattle.sdd_base.specs.Calls.{IsFirst}
 use Rattle.sdd_base.proofs.Standings.{out-waits-not, out-inside, owner-given}
 
--- as many places, slots, room, and slots that wait or are loose
+-- as many places, slots, places of jobs, and room; and as much that waits, is loose or free
 pub record SameSize {T : Type 0} (old new : World T) : Type 0 where
   pub weight_same : weight new ≡ weight old
   pub places_same : length new.time.places ≡ length old.time.places
   pub phases_same : new.time.phases ≡ old.time.phases
   pub slots_same : length new.standings ≡ length old.standings
+  pub jobs_same : length new.jobs ≡ length old.jobs
   pub home_same : new.home ≡ old.home
   pub nesting_same : new.time.nesting ≡ old.time.nesting
   pub room_same : new.time.room ≡ old.time.room
@@ -42,6 +45,10 @@ out-loose s out = rw (out-waits-not s out, is_loose) refl
 -- how much a slot weighs that is loose or not
 abbrev loose_weight : Option Standing → ℕ
 loose_weight s = cond (is_loose s) 1 0
+
+-- how much a place of a job weighs that is free or not
+abbrev free_weight : Option (Unit {0}) → ℕ
+free_weight j = cond (is_none j) 1 0
 
 -- one slot stands otherwise: whether its item is loose is as before
 stands-weight : {T : Type 0} (w : World T) (k : ℕ) (s : Standing) → k < length w.standings → is_loose (Some s) ≡ is_loose (standing_at w k) →
@@ -64,6 +71,26 @@ SameSize-retired w p k l out =
       places_same = length-set w.time.places p x;
       phases_same = refl;
       slots_same = length-set w.standings k (Some Retired);
+      jobs_same = refl;
+      home_same = refl;
+      nesting_same = refl;
+      room_same = refl;
+    }
+
+-- a job begins to wait
+pub SameSize-deferred : {T : Type 0} (w : World T) (p j : ℕ) → p < length w.time.places → IsEmptyAt w.jobs j → SameSize w (deferred w p j)
+SameSize-deferred w p j l free =
+    let x : Participant = time.awaiting (Job j) (place_at w p) in
+    let places = sum_by-set waiting_count w.time.places p x nobody l in
+    let more : waiting_count x ≡ waiting_count (place_at w p) + 1 = length-append (place_at w p).bags.waiting (fresh (Job j) ∷ []) in
+    let jobs = sum_by-set free_weight w.jobs j (Some tt) None free.0 in
+    let was : free_weight (entry_at w.jobs j) ≡ 1 = ap free_weight free.1 in
+    record {
+      weight_same = omega (arith, places, more, jobs, was);
+      places_same = length-set w.time.places p x;
+      phases_same = refl;
+      slots_same = refl;
+      jobs_same = length-set w.jobs j (Some tt);
       home_same = refl;
       nesting_same = refl;
       room_same = refl;
@@ -73,11 +100,12 @@ SameSize-retired w p k l out =
 pub SameSize-shared : {T : Type 0} (w : World T) (k n m : ℕ) → standing_at w k ≡ Some (Shared n) → SameSize w (with_standing w k (Shared m))
 SameSize-shared w k n m is =
     record {
-      weight_same = ap (λ (n : ℕ). sum_by waiting_count w.time.places + n)
+      weight_same = ap (λ (n : ℕ). sum_by waiting_count w.time.places + n + count_by is_none w.jobs)
           (stands-weight w k (Shared m) (in_range w.standings k (Shared n) is) (sym (ap is_loose is)));
       places_same = refl;
       phases_same = refl;
       slots_same = length-set w.standings k (Some (Shared m));
+      jobs_same = refl;
       home_same = refl;
       nesting_same = refl;
       room_same = refl;
@@ -88,11 +116,12 @@ pub SameSize-restands : {T : Type 0} (w : World T) (k : ℕ) (s : Standing) → 
     SameSize w (with_standing w k s)
 SameSize-restands w k s was now =
     record {
-      weight_same = ap (λ (n : ℕ). sum_by waiting_count w.time.places + n)
+      weight_same = ap (λ (n : ℕ). sum_by waiting_count w.time.places + n + count_by is_none w.jobs)
           (stands-weight w k s (out-inside w.standings k was) (out-loose (Some s) now ∙ sym (out-loose (standing_at w k) was)));
       places_same = refl;
       phases_same = refl;
       slots_same = length-set w.standings k (Some s);
+      jobs_same = refl;
       home_same = refl;
       nesting_same = refl;
       room_same = refl;
@@ -106,11 +135,12 @@ first-loose s (inr e) = rw e refl
 pub SameSize-made_as : {T : Type 0} (w : World T) (k : ℕ) (v : T) (s : Standing) → IsFirst s → IsEmptyAt w.standings k → SameSize w (made_as w k v s)
 SameSize-made_as w k v s first empty =
     record {
-      weight_same = ap (λ (n : ℕ). sum_by waiting_count w.time.places + n)
+      weight_same = ap (λ (n : ℕ). sum_by waiting_count w.time.places + n + count_by is_none w.jobs)
           (stands-weight w k s empty.0 (first-loose s first ∙ sym (ap is_loose empty.1)));
       places_same = refl;
       phases_same = refl;
       slots_same = length-set w.standings k (Some s);
+      jobs_same = refl;
       home_same = refl;
       nesting_same = refl;
       room_same = refl;
@@ -119,15 +149,15 @@ SameSize-made_as w k v s first empty =
 -- the cells weigh nothing
 pub SameSize-cells : {T : Type 0} (w : World T) (cells : Entries Cell) → SameSize w (record w { cells = cells })
 SameSize-cells w cells =
-    record { weight_same = refl; places_same = refl; phases_same = refl; slots_same = refl; home_same = refl; nesting_same = refl; room_same = refl }
+    record { weight_same = refl; places_same = refl; phases_same = refl; slots_same = refl; jobs_same = refl; home_same = refl; nesting_same = refl; room_same = refl }
 
 pub SameSize-pointers : {T : Type 0} (w : World T) (pointers : List Pointer) → SameSize w (record w { pointers = pointers })
 SameSize-pointers w pointers =
-    record { weight_same = refl; places_same = refl; phases_same = refl; slots_same = refl; home_same = refl; nesting_same = refl; room_same = refl }
+    record { weight_same = refl; places_same = refl; phases_same = refl; slots_same = refl; jobs_same = refl; home_same = refl; nesting_same = refl; room_same = refl }
 
 pub SameSize-refl : {T : Type 0} (w : World T) → SameSize w w
 SameSize-refl w =
-    record { weight_same = refl; places_same = refl; phases_same = refl; slots_same = refl; home_same = refl; nesting_same = refl; room_same = refl }
+    record { weight_same = refl; places_same = refl; phases_same = refl; slots_same = refl; jobs_same = refl; home_same = refl; nesting_same = refl; room_same = refl }
 
 pub SameSize-trans : {T : Type 0} {u v w : World T} → SameSize u v → SameSize v w → SameSize u w
 SameSize-trans a b =
@@ -137,6 +167,7 @@ SameSize-trans a b =
       phases_same = b.phases_same ∙ a.phases_same;
       slots_same = b.slots_same
           ∙ a.slots_same;
+      jobs_same = b.jobs_same ∙ a.jobs_same;
       home_same = b.home_same ∙ a.home_same;
       nesting_same = b.nesting_same ∙ a.nesting_same;
       room_same = b.room_same ∙ a.room_same;
@@ -180,6 +211,7 @@ SameSize-vacated w k out =
       places_same = refl;
       phases_same = refl;
       slots_same = length-set w.standings k None;
+      jobs_same = refl;
       home_same = refl;
       nesting_same = refl;
       room_same = refl;
@@ -196,19 +228,20 @@ pub SameSize-dropped : {T : Type 0} (holds : T → List Holding) (w : World T) (
     SameSize w (dropped holds w p k)
 SameSize-dropped holds w p k l out = SameSize-dropped_out holds w p k l out (value_at w k)
 
--- at most one slot more is loose
+-- at most one slot more is loose, or one place of a job more is free
 pub record FreesOne {T : Type 0} (old new : World T) : Type 0 where
   pub weight_grows : weight new ≤ weight old + 1
   pub places_same : length new.time.places ≡ length old.time.places
   pub phases_same : new.time.phases ≡ old.time.phases
   pub slots_same : length new.standings ≡ length old.standings
+  pub jobs_same : length new.jobs ≡ length old.jobs
   pub home_same : new.home ≡ old.home
   pub nesting_same : new.time.nesting ≡ old.time.nesting
   pub room_same : new.time.room ≡ old.time.room
 
 pub FreesOne-refl : {T : Type 0} (w : World T) → FreesOne w w
 FreesOne-refl w =
-    record { weight_grows = omega arith; places_same = refl; phases_same = refl; slots_same = refl; home_same = refl; nesting_same = refl; room_same = refl }
+    record { weight_grows = omega arith; places_same = refl; phases_same = refl; slots_same = refl; jobs_same = refl; home_same = refl; nesting_same = refl; room_same = refl }
 
 pub freed-FreesOne : {T : Type 0} (w : World T) (k : ℕ) → k < length w.standings → FreesOne w (freed w k)
 freed-FreesOne w k l =
@@ -219,6 +252,7 @@ freed-FreesOne w k l =
       phases_same = refl;
       slots_same = grind
           (arith, common_steps);
+      jobs_same = refl;
       home_same = refl;
       nesting_same = refl;
       room_same = refl;
@@ -232,6 +266,7 @@ FreesOne-then a b =
       phases_same = b.phases_same ∙ a.phases_same;
       slots_same = b.slots_same
           ∙ a.slots_same;
+      jobs_same = b.jobs_same ∙ a.jobs_same;
       home_same = b.home_same ∙ a.home_same;
       nesting_same = b.nesting_same ∙ a.nesting_same;
       room_same = b.room_same ∙ a.room_same;
@@ -251,11 +286,39 @@ pub FreesOne-slot_reclaimed : {T : Type 0} (holds : T → List Holding) (w : Wor
     FreesOne w (slot_reclaimed holds w p k)
 FreesOne-slot_reclaimed holds w p k l = FreesOne-standing holds w p k l (standing_at w k) refl
 
+-- one place of a job more is free at most, where one is freed
+pub one-freed : (jobs : Entries (Unit {0})) (j : ℕ) → count_by is_none (without_entry jobs j) ≤ count_by is_none jobs + 1
+one-freed jobs j = by (nat_lt j (length jobs)) refl where
+  by : (b : Bool) → nat_lt j (length jobs) ≡ b → count_by is_none (without_entry jobs j) ≤ count_by is_none jobs + 1
+  by true e =
+      let inside : j < length jobs = grind (arith, nat_tests, e) in
+      let m = sum_by-set free_weight jobs j None None inside in omega (arith, m)
+  by false e = rw (set_past jobs j None (grind (arith, nat_tests, e))) (omega arith)
+
+-- a job runs
+ran-free : {T : Type 0} (w : World T) (j : ℕ) → FreesOne w (ran w j)
+ran-free w j =
+    record {
+      weight_grows = omega (arith, one-freed w.jobs j);
+      places_same = refl;
+      phases_same = refl;
+      slots_same = refl;
+      jobs_same = length-set w.jobs j None;
+      home_same = refl;
+      nesting_same = refl;
+      room_same = refl;
+    }
+
+pub FreesOne-reclaimed : {T : Type 0} (holds : T → List Holding) (w : World T) (p : ℕ) (x : What) → p < length w.time.places →
+    FreesOne w (reclaimed holds w p x)
+FreesOne-reclaimed holds w p (Item k) l = FreesOne-slot_reclaimed holds w p k l
+FreesOne-reclaimed holds w p (Job j) l = ran-free w j
+
 -- to reclaim the rest is to reclaim the next one, and then the rest
-pub all_reclaimed-drop : {T : Type 0} (holds : T → List Holding) (w : World T) (p : ℕ) (ks : List ℕ) (i : ℕ) → i < length ks →
-    all_reclaimed holds w p (map Item (drop i ks)) ≡ all_reclaimed holds (slot_reclaimed holds w p (get_or ks i 0)) p (map Item (drop (i + 1) ks))
-all_reclaimed-drop holds w p ks i l =
-    ap (λ xs. all_reclaimed holds w p (map Item xs)) (drop-cons ks i 0 l ∙ ap (λ n. get_or ks i 0 ∷ drop n ks) (sym (add-one i)))
+pub all_reclaimed-drop : {T : Type 0} (holds : T → List Holding) (w : World T) (p : ℕ) (xs : List What) (i : ℕ) (d : What) → i < length xs →
+    all_reclaimed holds w p (drop i xs) ≡ all_reclaimed holds (reclaimed holds w p (get_or xs i d)) p (drop (i + 1) xs)
+all_reclaimed-drop holds w p xs i d l =
+    ap (λ ys. all_reclaimed holds w p ys) (drop-cons xs i d l ∙ ap (λ n. get_or xs i d ∷ drop n xs) (sym (add-one i)))
 
 pub SameSize-sizes : {T : Type 0} {old new : World T} → SameSize old new → KeepsSizes old new
 SameSize-sizes f =
@@ -264,6 +327,7 @@ SameSize-sizes f =
       places = f.places_same;
       live = ap (λ (xs : Entries Phase). map is_live xs) f.phases_same;
       slots = f.slots_same;
+      jobs = f.jobs_same;
       nesting = f.nesting_same;
       room = f.room_same;
     }
@@ -275,6 +339,7 @@ FreesOne-sizes f =
       places = f.places_same;
       live = ap (λ (xs : Entries Phase). map is_live xs) f.phases_same;
       slots = f.slots_same;
+      jobs = f.jobs_same;
       nesting = f.nesting_same;
       room = f.room_same;
     }
@@ -286,6 +351,7 @@ KeepsSizes-trans a b =
       places = b.places ∙ a.places;
       live = b.live ∙ a.live;
       slots = b.slots ∙ a.slots;
+      jobs = b.jobs ∙ a.jobs;
       nesting = b.nesting ∙ a.nesting;
       room = b.room ∙ a.room;
     }

@@ -9,8 +9,9 @@ use Rattle.std.proofs.lemmas.List.Elements.{All-push, All-nil, All-weaker, filte
 use Rattle.std.specs.List.{list_all}
 use Rattle.std.proofs.lemmas.Bool.Decides.{nat_tests}
 use Rattle.sdd_store.proofs.Adopting.{IsAdditive, Adopts, Stays, adopts, scans-if, scans-there, same-or-not}
-use Rattle.sdd_store.specs.Waiting.{What, Waiting, anew, fresh, aged, left, due, older, is_due}
-use Rattle.sdd_store.specs.Waiting.What.{Item, Private, Job}
+use Rattle.sdd_store.specs.declared.waiting.What.{What}
+use Rattle.sdd_store.specs.Waiting.{Waiting, anew, fresh, aged, left, due, older, is_due}
+use Rattle.sdd_store.specs.declared.waiting.What.TheVariants.{Item, Job}
 use Rattle.sdd_store.specs.Bags.{Bags}
 use Rattle.sdd_store.specs.Time.{Time, with_place, nobody, newcomer, due_next, is_open, passes, last_count, stirred, counted_down, pace_of, rested, IsLive}
 use Rattle.sdd_store.specs.Time as time
@@ -25,21 +26,20 @@ use Rattle.sdd_store.specs.declared.standing.Cell.{Cell}
 use Rattle.sdd_store.specs.declared.standing.Pointer.{Pointer}
 use Rattle.sdd_slots.specs.Slots.{is_waiting, IsWaiting}
 use Rattle.sdd_base.specs.World.{World, standing_at, value_at, place_at}
-use Rattle.sdd_base.specs.Steps.{made_as, with_standing, retired, spilled, cell_closed, held_in, owner_given, given, given_all, freed, vacated, dropped_out, dropped, with_value, taken_out, waiting_value, slot_reclaimed, reclaimed, all_reclaimed, changed}
+use Rattle.sdd_base.specs.Steps.{made_as, with_standing, retired, deferred, spilled, cell_closed, held_in, owner_given, given, given_all, freed, vacated, dropped_out, dropped, with_value, taken_out, waiting_value, slot_reclaimed, reclaimed, all_reclaimed, changed}
 use Rattle.sdd_base.specs.Steps as steps
 use Rattle.sdd_base.specs.Holding.{Holding, owned, shared, atomic_owned, atomic_shared, atomic_raw}
 use Rattle.sdd_base.specs.Out.{is_out}
 use Rattle.sdd_base.specs.Whole.{is_of_slot, times_with, once_if, times_waiting, taken, IsAbreast, IsCounted}
 use Rattle.sdd_base.specs.Own.{all_awaiting}
 use Rattle.sdd_base.proofs.Own.{Gives-range, Gives-given, Gives-reclaimed, Gives-all_reclaimed, changes}
+pub use Rattle.sdd_base.proofs.Listed.{count-cons}
+use Rattle.sdd_base.proofs.Listed.{listed-place, listed-same, listed-awaiting, listed-aged, listed-additive}
 use Rattle.sdd_base.proofs.Standings.{out-some, out-waits-not, out-inside, owner-given}
 use Rattle.sdd_base.proofs.Weights.{in_range}
 
 abbrev pub one_where : Bool → ℕ
 one_where b = cond b 1 0
-
-pub count-cons : {X : Type 0} (p : X → Bool) (x : X) (xs : List X) → count_by p (x ∷ xs) ≡ cond (p x) 1 0 + count_by p xs
-count-cons p x xs = sum_by-cons (λ x. cond (p x) 1 0) x xs
 
 -- how often a slot's item is among these
 abbrev pub times_among : ℕ → List What → ℕ
@@ -65,13 +65,11 @@ pub record IsWholeBut {T : Type 0} (xs : List What) (w : World T) : Type 0 where
 -- one place changes
 pub times-place : (t : Time) (p k : ℕ) (x : Participant) → p < length t.places →
     sum_by (times_with k) (with_place t p x).places + times_with k (time.place_at t p) ≡ sum_by (times_with k) t.places + times_with k x
-times-place t p k x l = sum_by-set (times_with k) t.places p x nobody l
+times-place t p k x l = listed-place (is_of_slot k) t p x l
 
 pub times-same : (t : Time) (p k : ℕ) (x : Participant) → p < length t.places → x.bags.waiting ≡ (time.place_at t p).bags.waiting →
     sum_by (times_with k) (with_place t p x).places ≡ sum_by (times_with k) t.places
-times-same t p k x l e =
-    let same : times_with k x ≡ times_with k (time.place_at t p) = ap (λ (ws : List Waiting). count_by (λ (w : Waiting). is_of_slot k w.what) ws) e in
-    omega (arith, times-place t p k x l, same)
+times-same t p k x l e = listed-same (is_of_slot k) t p x l e
 
 abreast-at : (t : Time) (count p q : ℕ) (x : Participant) → p < length t.places → IsAbreast count x → ((r : ℕ) → IsAbreast count (time.place_at t r)) →
     (q ≡ p) ⊎ (q ≢ p) →
@@ -83,26 +81,24 @@ pub abreast-place : (t : Time) (count p : ℕ) (x : Participant) → p < length 
     (q : ℕ) → IsAbreast count (time.place_at (with_place t p x) q)
 abreast-place t count p x l a all q = abreast-at t count p q x l a all (same-or-not q p)
 
--- an item begins to wait
+-- an item or a job begins to wait
 stirred-bound : (d : ℕ) → d ≤ 128 → (b : Bool) → (d == 128) ≡ b → stirred d ≤ 127
 stirred-bound d h true e = rw e (omega arith)
 stirred-bound d h false e = let apart : d ≢ 128 = grind (arith, nat_tests, e) in rw e (omega arith)
 
-pub abreast-awaiting : (count k : ℕ) (x : Participant) → IsAbreast count x → IsAbreast count (time.awaiting (Item k) x)
-abreast-awaiting count k x a =
+pub abreast-awaiting : (count : ℕ) (what : What) (x : Participant) → IsAbreast count x → IsAbreast count (time.awaiting what x)
+abreast-awaiting count what x a =
     let low : stirred x.countdown ≤ 127 = stirred-bound x.countdown a.countdown (x.countdown == 128) refl in
     record {
       found = a.found;
       near = a.near;
-      young = All-push (λ (w : Waiting). w.seen ≤ 2) x.bags.waiting (fresh (Item k)) a.young (omega arith);
+      young = All-push (λ (w : Waiting). w.seen ≤ 2) x.bags.waiting (fresh what) a.young (omega arith);
       countdown = omega arith;
       quiet = λ e. absurd (omega (arith, e, low));
     }
 
-pub times-awaiting : (j k : ℕ) (x : Participant) → times_with j (time.awaiting (Item k) x) ≡ times_with j x + cond (k == j) 1 0
-times-awaiting j k x =
-    sum_by-append (λ (w : Waiting). cond (is_of_slot j w.what) 1 0) x.bags.waiting (fresh (Item k) ∷ [])
-    ∙ ap (λ n. times_with j x + n) (zero-add (cond (k == j) 1 0))
+pub times-awaiting : (j : ℕ) (what : What) (x : Participant) → times_with j (time.awaiting what x) ≡ times_with j x + cond (is_of_slot j what) 1 0
+times-awaiting j what x = listed-awaiting (is_of_slot j) what x
 
 passes-young : (w : Waiting) → not (is_due w) ≡ true → w.seen ≤ 2
 passes-young w e = grind (arith, nat_tests, e)
@@ -113,20 +109,8 @@ left-young ws =
     (filter_passes (λ (w : Waiting). not (is_due w)) (aged ws))
 
 -- after a change, what waited is left or due
-times-aged-cons : (k : ℕ) (w : Waiting) (ws : List Waiting) → times_listed k (left (aged ws)) + times_among k (due (aged ws)) ≡ times_listed k ws →
-    (b : Bool) → is_due (older w) ≡ b → times_listed k (left (aged (w ∷ ws))) + times_among k (due (aged (w ∷ ws))) ≡ times_listed k (w ∷ ws)
-times-aged-cons k w ws h true e =
-    let all = count-cons (λ (w : Waiting). is_of_slot k w.what) w ws in
-    let some = count-cons (is_of_slot k) w.what (due (aged ws)) in
-    rw e (omega (arith, h, all, some))
-times-aged-cons k w ws h false e =
-    let all = count-cons (λ (w : Waiting). is_of_slot k w.what) w ws in
-    let some = count-cons (λ (w : Waiting). is_of_slot k w.what) (older w) (left (aged ws)) in
-    rw e (omega (arith, h, all, some))
-
 pub times-aged : (k : ℕ) (ws : List Waiting) → times_listed k (left (aged ws)) + times_among k (due (aged ws)) ≡ times_listed k ws
-times-aged k [] = refl
-times-aged k (w ∷ ws) = times-aged-cons k w ws (times-aged k ws) (is_due (older w)) refl
+times-aged k ws = listed-aged (is_of_slot k) ws
 
 -- a change, before and after what is due is reclaimed
 abreast-rotated : (count : ℕ) (x : Participant) → x.countdown ≤ 128 → (x.countdown ≡ 128 → x.bags.waiting ≡ []) → IsAbreast count (time.rotated count x)
@@ -227,22 +211,6 @@ counted-quiet marked d h false e false f is =
     let less : d - 1 ≡ 128 = rw (e, f) at is in
     omega (arith, less)
 
--- an adoption moves each item that waits, and loses none
-anew-times : (k : ℕ) (ws : List Waiting) → times_listed k (map anew ws) ≡ times_listed k ws
-anew-times k [] = refl
-anew-times k (w ∷ ws) =
-    let one = count-cons (λ (w : Waiting). is_of_slot k w.what) w ws in
-    let other = count-cons (λ (w : Waiting). is_of_slot k w.what) (anew w) (map anew ws) in
-    omega (arith, one, other, anew-times k ws)
-
-times-additive : (k : ℕ) → IsAdditive (times_listed k)
-times-additive k =
-    record {
-      none = refl;
-      both = λ xs ys. sum_by-append (λ (w : Waiting). cond (is_of_slot k w.what) 1 0) xs (map anew ys)
-          ∙ ap (λ n. times_listed k xs + n) (anew-times k ys);
-    }
-
 -- who counts down at 0 adopts, and everyone keeps up with the count
 quiet-other : (x y : Participant) → Stays x y → (x.countdown ≡ 128 → x.bags.waiting ≡ []) →
     (y.bags.waiting ≡ x.bags.waiting) ⊎ (y.bags.waiting ≡ []) → y.countdown ≡ 128 → y.bags.waiting ≡ []
@@ -327,7 +295,7 @@ module _ {T : Type 0} where
   -- an item that is out begins to wait
   retired-times : (w : World T) (p k j : ℕ) → p < length w.time.places → times_waiting (retired w p k) j ≡ times_waiting w j + cond (k == j) 1 0
   retired-times w p k j l =
-      omega (arith, times-place w.time p j (time.awaiting (Item k) (place_at w p)) l, times-awaiting j k (place_at w p))
+      omega (arith, times-place w.time p j (time.awaiting (Item k) (place_at w p)) l, times-awaiting j (Item k) (place_at w p))
 
   retired-once : (w : World T) (p k j : ℕ) (xs : List What) → p < length w.time.places → is_waiting (standing_at w k) ≡ false → IsWholeBut xs w →
       ((j ≡ k) × (standing_at (retired w p k) j ≡ Some Retired)) ⊎ ((j ≢ k) × (standing_at (retired w p k) j ≡ standing_at w j)) →
@@ -353,8 +321,19 @@ module _ {T : Type 0} where
             (set-standing w.standings k j (Some Retired) inside (same-or-not j k));
         abreast =
             abreast-place w.time w.time.count p (time.awaiting (Item k) (place_at w p)) l
-            (abreast-awaiting w.time.count k (place_at w p) (i.abreast p)) i.abreast;
+            (abreast-awaiting w.time.count (Item k) (place_at w p) (i.abreast p)) i.abreast;
         counted = rw same i.counted;
+      }
+
+  -- a job begins to wait
+  pub Items-deferred : (w : World T) (p j : ℕ) → p < length w.time.places → HasItems w → HasItems (deferred w p j)
+  Items-deferred w p j l i =
+      let x : Participant = time.awaiting (Job j) (place_at w p) in
+      record {
+        filled = i.filled;
+        once = λ k. omega (arith, i.once k, times-place w.time p k x l, times-awaiting k (Job j) (place_at w p));
+        abreast = abreast-place w.time w.time.count p x l (abreast-awaiting w.time.count (Job j) (place_at w p) (i.abreast p)) i.abreast;
+        counted = i.counted;
       }
 
   -- an item that is shared has one owner more or fewer
@@ -509,7 +488,6 @@ module _ {T : Type 0} where
     Whole-reclaimed : (w : World T) (p : ℕ) (x : What) (xs : List What) → p < length w.time.places → IsWholeBut (x ∷ xs) w →
         IsWholeBut xs (reclaimed holds w p x)
     Whole-reclaimed w p (Item k) xs l i = Whole-standing w p k (Item k) xs l (λ j. refl) (standing_at w k) refl i
-    Whole-reclaimed w p (Private k c) xs l i = Whole-standing w p k (Private k c) xs l (λ j. refl) (standing_at w k) refl i
     Whole-reclaimed w p (Job n) xs l i =
         record { filled = i.filled; once = λ k. omega (arith, i.once k, count-cons (is_of_slot k) (Job n) xs); abreast = i.abreast; counted = i.counted }
 
@@ -740,7 +718,7 @@ module _ {T : Type 0} where
       let count : w.time.count ≡ u.count = sym (ap (λ (t : Time). t.count) a.only) in
       record {
         filled = i.filled;
-        once = λ k. a.totals (times_listed k) (times-additive k) ∙ i.once k;
+        once = λ k. a.totals (times_listed k) (listed-additive (is_of_slot k)) ∙ i.once k;
         abreast = λ r. subst (λ (n : ℕ). IsAbreast n (time.place_at u r)) count (abreast-adopted w.time u p w.time.count a none i.abreast r);
         counted = i.counted;
       }

@@ -9,7 +9,7 @@ use Rattle.sdd_store.specs.declared.standing.Pointer.{Pointer}
 use Rattle.sdd_base.specs.Holding.{Holding}
 use Rattle.sdd_base.specs.World.{World, place_at, standing_at, IsPlaceOf}
 use Rattle.sdd_base.specs.InPlace.{MayInPlace}
-use Rattle.sdd_base.specs.Steps.{made_as, with_standing, with_value, dropped, retired, owner_given, cell_closed, opened, closed, stirred, accelerated, registered, ended}
+use Rattle.sdd_base.specs.Steps.{made_as, with_standing, with_value, dropped, retired, deferred, owner_given, cell_closed, opened, closed, stirred, accelerated, registered, ended}
 
 -- a new item stands so: out with its one owner, who may share it or not
 abbrev pub IsFirst : Standing → Type 0
@@ -27,6 +27,7 @@ module _ {T : Type 0} (holds : T → List Holding) where
     shares : (w : World T) (k n : ℕ) → standing_at w k ≡ Some (Shared n) → Calls w (with_standing w k (Shared (n + 1)))
     retires : (w : World T) (p k : ℕ) → IsPlaceOf w p → standing_at w k ≡ Some Owned → Calls w (retired w p k)
     releases : (w : World T) (p k n : ℕ) → IsPlaceOf w p → standing_at w k ≡ Some (Shared n) → Calls w (owner_given w p k (Some (Shared n)))
+    defers : (w : World T) (p j : ℕ) → IsPlaceOf w p → IsEmptyAt w.jobs j → Calls w (deferred w p j)
     edits : (w : World T) (k : ℕ) (value : T) → MayInPlace w k → Calls w (with_value w k value)
     drops : (w : World T) (p k : ℕ) → IsPlaceOf w p → MayInPlace w k → Calls w (dropped holds w p k)
     puts_out_raw : (w : World T) (k : ℕ) → standing_at w k ≡ Some Owned → Calls w (with_standing w k Raw)

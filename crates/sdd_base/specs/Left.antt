@@ -1,7 +1,7 @@
 -- When an item goes at latest
 use Rattle.std.specs.Prelude.{ℕ, ◌+◌, ◌-◌, ◌*◌, ◌^◌, ◌<◌, ◌≤◌, ◌≡◌, ◌≢◌, ◌⊎◌, Contains, IsTrue, List, None, if◌then◌else◌}
 use Rattle.sdd_store.specs.Waiting.{having_seen}
-use Rattle.sdd_store.specs.Waiting.What.{Item}
+use Rattle.sdd_store.specs.declared.waiting.What.TheVariants.{Item}
 use Rattle.sdd_store.specs.Time.{Time, finds_another, is_open, last_count}
 use Rattle.sdd_store.specs.Time as time
 use Rattle.sdd_base.specs.Holding.{Holding}

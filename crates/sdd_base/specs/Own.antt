@@ -1,7 +1,7 @@
 -- What a call makes of what the calling participant keeps of its own, in every space
 use Rattle.std.specs.Prelude.{ℕ, ◌-◌, ◌==◌, ◌≡◌, Bool, List, [], ◌∷◌, Option, Some, None, ◌≢◌, nat_lt, if◌then◌else◌}
 use Rattle.sdd_store.specs.Waiting.{Waiting}
-use Rattle.sdd_store.specs.Waiting.What.{Item}
+use Rattle.sdd_store.specs.declared.waiting.What.TheVariants.{Item}
 use Rattle.sdd_store.specs.Time.{is_open, nested, rotated, settled, awaiting, adopting, due_next, counted_down}
 use Rattle.sdd_store.specs.declared.time.Participant.{Participant}
 

@@ -1,8 +1,8 @@
 -- What each call does to a world
 use Rattle.std.specs.Prelude.{ℕ, ◌-◌, List, [], ◌∷◌, Option, Some, None, nat_lt, slice_set, if◌then◌else◌}
 use Rattle.sdd_core.specs.declared.tag.Tag.TheVariants.{None as no_tag}
-use Rattle.sdd_store.specs.Waiting.{What}
-use Rattle.sdd_store.specs.Waiting.What.{Item, Private, Job}
+use Rattle.sdd_store.specs.declared.waiting.What.{What}
+use Rattle.sdd_store.specs.declared.waiting.What.TheVariants.{Item, Job}
 use Rattle.sdd_store.specs.Time as time
 use Rattle.sdd_store.specs.Table.{entry_at, with_entry, without_entry}
 use Rattle.sdd_store.specs.Tally.{one_in_place, one_made, one_reclaimed}
@@ -43,6 +43,14 @@ module _ {T : Type 0} where
   -- the item in the slot waits with p
   abbrev pub retired : World T → ℕ → ℕ → World T
   retired w p k = record w { time = time.awaiting_at w.time p (Item k); standings = with_entry w.standings k Retired }
+
+  -- some place of the table of jobs that was free has a job, which waits with p
+  abbrev pub deferred : World T → ℕ → ℕ → World T
+  deferred w p j = record w { time = time.awaiting_at w.time p (Job j); jobs = with_entry w.jobs j tt }
+
+  -- the job in the place ran, and the place is free
+  abbrev pub ran : World T → ℕ → World T
+  ran w j = record w { jobs = without_entry w.jobs j }
 
   -- a cell that was free, or held something, holds this
   abbrev pub with_cell : World T → ℕ → Cell → World T
@@ -144,8 +152,7 @@ module _ {T : Type 0} where
     -- p reclaims what waited
     abbrev pub reclaimed : World T → ℕ → What → World T
     reclaimed w p (Item k) = slot_reclaimed w p k
-    reclaimed w p (Private k c) = slot_reclaimed w p k
-    reclaimed w p (Job j) = w
+    reclaimed w p (Job j) = ran w j
 
     abbrev pub all_reclaimed : World T → ℕ → List What → World T
     all_reclaimed w p [] = w

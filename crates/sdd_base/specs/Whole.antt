@@ -1,9 +1,11 @@
 -- What is always true of a world
 use Rattle.std.specs.Prelude.{ℕ, ◌+◌, ◌^◌, ◌<◌, ◌≤◌, ◌≡◌, ◌==◌, Bool, true, false, IsTrue, [], length, map, None, Some, is_some, All, sum_by, count_by}
-use Rattle.sdd_store.specs.Waiting.{What, Waiting}
-use Rattle.sdd_store.specs.Waiting.What.{Item, Private, Job}
+use Rattle.sdd_store.specs.declared.waiting.What.{What}
+use Rattle.sdd_store.specs.Waiting.{Waiting}
+use Rattle.sdd_store.specs.declared.waiting.What.TheVariants.{Item, Job}
 use Rattle.sdd_store.specs.Time.{Time, is_open}
 use Rattle.sdd_store.specs.Time as time
+use Rattle.sdd_store.specs.Table.{entry_at}
 use Rattle.sdd_store.specs.declared.phases.Phase.TheVariants.{Live}
 use Rattle.sdd_store.specs.declared.tally.Tally.{Tally}
 use Rattle.sdd_store.specs.declared.time.Participant.{Participant}
@@ -13,12 +15,20 @@ use Rattle.sdd_base.specs.World.{World, place_at, standing_at}
 -- what waits is the slot's item
 abbrev pub is_of_slot : ℕ → What → Bool
 is_of_slot k (Item j) = j == k
-is_of_slot k (Private j c) = j == k
 is_of_slot k (Job j) = false
+
+-- what waits is the job in the place
+abbrev pub is_of_job : ℕ → What → Bool
+is_of_job j (Item k) = false
+is_of_job j (Job n) = n == j
 
 -- how often the slot's item stands among what waits with a participant
 abbrev pub times_with : ℕ → Participant → ℕ
 times_with k p = count_by (λ (w : Waiting). is_of_slot k w.what) p.bags.waiting
+
+-- how often the job in the place does
+abbrev pub jobs_with : ℕ → Participant → ℕ
+jobs_with j p = count_by (λ (w : Waiting). is_of_job j w.what) p.bags.waiting
 
 -- once if so, else never
 abbrev pub once_if : Bool → ℕ
@@ -29,6 +39,9 @@ module _ {T : Type 0} where
   -- how often it stands among all that waits
   abbrev pub times_waiting : World T → ℕ → ℕ
   times_waiting w k = sum_by (times_with k) w.time.places
+
+  abbrev pub times_deferred : World T → ℕ → ℕ
+  times_deferred w j = sum_by (jobs_with j) w.time.places
 
   -- how many slots are not free
   abbrev pub taken : World T → ℕ
@@ -61,6 +74,8 @@ pub record IsWhole {T : Type 0} (w : World T) : Type 0 where
   pub filled : map is_some w.values ≡ map is_some w.standings
   -- the item of a slot that waits stands once among all that waits, and no other does
   pub once : (k : ℕ) → times_waiting w k ≡ once_if (is_waiting (standing_at w k))
+  -- a job waits once exactly where a place of the table of jobs is taken
+  pub jobs_once : (j : ℕ) → times_deferred w j ≡ once_if (is_some (entry_at w.jobs j))
   pub abreast : (p : ℕ) → IsAbreast w.time.count (place_at w p)
   pub housed : AreHoused w.time
   pub counted : IsCounted w.tally (taken w)

@@ -1,5 +1,5 @@
 -- A world as clauses see it
-use Rattle.std.specs.Prelude.{ℕ, Any, IsTrue, ◌+◌, ◌≤◌, ◌<◌, ◌≡◌, Bool, true, false, List, [], length, Option, None, sum_by, count_by, slice_get, slice_index_or, replicate}
+use Rattle.std.specs.Prelude.{ℕ, Any, IsTrue, is_none, ◌+◌, ◌≤◌, ◌<◌, ◌≡◌, Bool, true, false, List, [], length, Option, None, sum_by, count_by, slice_get, slice_index_or, replicate}
 use Rattle.sdd_store.specs.Time.{Time, lives, waiting_count}
 use Rattle.sdd_store.specs.Time as time
 use Rattle.sdd_store.specs.Table.{Entries, entry_at}
@@ -22,6 +22,8 @@ pub record World (T : Type 0) : Type 0 where
   pub cells : Entries Cell
   -- of each number of a cell what the raw cell that has it points to, or the last one that had it
   pub pointers : List Pointer
+  -- which places of the table of jobs have a job that waits
+  pub jobs : Entries (Unit {0})
   pub tally : Tally
 
 module _ {T : Type 0} where
@@ -38,20 +40,21 @@ module _ {T : Type 0} where
   abbrev pub pointer_at : World T → ℕ → Option Pointer
   pointer_at w c = slice_get w.pointers c
 
-  -- a world without items: time is so, and there are that many slots and cells, all free
-  pub record IsBlank (t : Time) (slot_count cell_count : ℕ) (w : World T) : Type 0 where
+  -- a world without items and jobs: time is so, and there are that many slots, cells and places of jobs, all free
+  pub record IsBlank (t : Time) (slot_count cell_count job_count : ℕ) (w : World T) : Type 0 where
     pub time : w.time ≡ t
     pub standings : w.standings ≡ replicate slot_count None
     pub values : w.values ≡ replicate slot_count None
     pub cells : w.cells ≡ replicate cell_count None
     pub pointers : w.pointers ≡ replicate cell_count null_pointer
+    pub jobs : w.jobs ≡ replicate job_count None
     pub tally : w.tally ≡ no_items
 
   -- a world without participants and items, at this count and with these limits
   abbrev pub IsNew : Limits → ℕ → World T → Type 0
   IsNew l count w =
-      IsBlank (record { count = count; marked = false; places = []; phases = []; participants = l.participants; nesting = l.nesting; room = l.slots })
-      l.slots l.cells w
+      IsBlank (record { count = count; marked = false; places = []; phases = []; participants = l.participants; nesting = l.nesting; room = l.slots + l.jobs })
+      l.slots l.cells l.jobs w
 
   -- the world has this place
   abbrev pub HasPlace : World T → ℕ → Type 0
@@ -69,14 +72,18 @@ module _ {T : Type 0} where
 abbrev pub is_loose : Option Standing → Bool
 is_loose s = elim (is_waiting s) [ true ↦ false | false ↦ true ]
 
--- how many slots wait with some participant, and how many are loose
+-- how much waits with some participant, how many slots are loose, and how many places of jobs are free
 abbrev pub weight : {T : Type 0} → World T → ℕ
-weight w = sum_by waiting_count w.time.places + count_by is_loose w.standings
+weight w = sum_by waiting_count w.time.places + count_by is_loose w.standings + count_by is_none w.jobs
 
--- there is room for each slot to wait
+-- how much may wait at once: an item for each slot, and a job for each place of one
+abbrev pub most : {T : Type 0} → World T → ℕ
+most w = length w.standings + length w.jobs
+
+-- there is room for each slot and each job to wait
 pub record IsRoomy {T : Type 0} (w : World T) : Type 0 where
-  pub counted : weight w ≤ length w.standings
-  pub reserved : w.time.room ≡ length w.standings
+  pub counted : weight w ≤ most w
+  pub reserved : w.time.room ≡ most w
 
 -- the same home, as many places and slots, the same participants, and the same limits of nesting and room
 pub record KeepsSizes {T : Type 0} (old new : World T) : Type 0 where
@@ -84,5 +91,6 @@ pub record KeepsSizes {T : Type 0} (old new : World T) : Type 0 where
   pub places : length new.time.places ≡ length old.time.places
   pub live : lives new.time ≡ lives old.time
   pub slots : length new.standings ≡ length old.standings
+  pub jobs : length new.jobs ≡ length old.jobs
   pub nesting : new.time.nesting ≡ old.time.nesting
   pub room : new.time.room ≡ old.time.room

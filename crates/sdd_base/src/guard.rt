@@ -2,7 +2,7 @@ ghost use Rattle.std.specs.Prelude.{◌≡◌};
 ghost use Rattle.sdd_places.specs.declared.tenures.Stage.{Stage};
 
 use crate::item::Item;
-use crate::space::Guards;
+use crate::space::{Guards, Space};
 use sdd_core::inner::epoch_of_count;
 use sdd_core::{Epoch, Refused};
 use sdd_places::{Stage, Tenure};
@@ -21,7 +21,9 @@ pub struct Guard {
 const _: () = prove!(size_of::<Guard>() == 0);
 
 impl Guard {
-    ghost use Rattle.std.specs.Prelude.{◌≡◌, ◌%◌, MatchResult, IfOk, IsTrue};
+    ghost use Rattle.std.specs.Prelude.{◌≡◌, ◌%◌, ℕ, MatchResult, IfErr, IfOk, IsTrue};
+    ghost use Rattle.sdd_store.specs.declared.waiting.What.TheVariants.{Job};
+    ghost use Rattle.sdd_store.specs.Table.{IsEmptyAt, IsFull};
     ghost use Rattle.sdd_core.specs.Epoch.{epoch_of};
     ghost use Rattle.sdd_base.specs.World.{World, place_at};
     ghost use Rattle.sdd_base.specs.Seat.{IsSeated, IsExact, IsLone, MayNest};
@@ -29,7 +31,7 @@ impl Guard {
     ghost use Rattle.sdd_base.specs.Known.{KnowsOn, KnowsOpened, KnowsClosed, IsNear, IsRaisedBy};
     ghost use Rattle.sdd_base.specs.Ptr.{KeepsShown};
     ghost use Rattle.sdd_base.specs.Guard.{reader_of};
-    ghost use Rattle.sdd_base.specs.Steps.{opened, closed, stirred, accelerated};
+    ghost use Rattle.sdd_base.specs.Steps.{opened, closed, deferred, stirred, accelerated};
     ghost use Rattle.sdd_store.specs.Time.{CanNest, is_open, with_garbage, has_garbage};
     ghost use Rattle.sdd_store.specs.Time as time;
 
@@ -131,6 +133,35 @@ impl Guard {
         ensures keeps { KeepsShown (S.shows s.old) (S.shows s.new) }
     {
         s.stir();
+    }
+
+    /// Defers a job: it waits with the participant as an item does that is retired now, and runs once, within the opening at which it is due. That is
+    /// the third outermost opening from now on that finds another count of epochs, or, where the participant has ended before, that one of whoever
+    /// adopted what it left. A job that still waits as its world is closed runs then. Its place is free as soon as it ran.
+    ///
+    /// `NoJob` where as many jobs wait as the limits say: the job comes back, and hasn't run.
+    pub fn defer_execute<T: Item<T>, S: Space<T>>(
+        &self,
+        job: S::Job,
+        s: &mut S,
+    ) -> Result<(), (S::Job, Refused)>
+        requires seated { IsSeated (S.seat s.old) }
+        requires reader { reader_of self.now ≡ (S.seat s.old).reader }
+        ensures seat { S.seat s.new ≡ S.seat s.old }
+        ensures own { MatchResult result
+            (λ _. (place : ℕ) × (S.own s.new ≡ time.awaiting (Job place) (S.own s.old)))
+            (λ _. S.own s.new ≡ S.own s.old) }
+        ensures known { KnowsOn (S.known s.old) (S.known s.new) }
+        ensures back { IfErr result (λ e. e.0 ≡ job) }
+        ensures exact { IsExact (S.seat s.old) → MatchResult result
+            (λ _. (place : ℕ) × IsEmptyAt (S.world s.old).jobs place × (S.world s.new ≡ deferred (S.world s.old) (S.seat s.old).place place))
+            (λ e. IsFull (S.world s.old).jobs × (e.1 ≡ Refused.NoJob) × (S.world s.new ≡ S.world s.old)) }
+        ensures keeps { KeepsShown (S.shows s.old) (S.shows s.new) }
+    {
+        match s.defer(job) {
+            Ok(_place) => Ok(()),
+            Err(back) => Err(back),
+        }
     }
 
     /// Has the next outermost close of the participant scan.

@@ -14,7 +14,7 @@ ghost use Rattle.sdd_base.specs.Guard.{reader_of};
 ghost use Rattle.sdd_base.specs.RawPtr as raw;
 ghost use Rattle.sdd_store.specs.Table.{IsEmptyAt, IsFull};
 ghost use Rattle.sdd_store.specs.Time as time;
-ghost use Rattle.sdd_store.specs.Waiting.What.{Item};
+ghost use Rattle.sdd_store.specs.declared.waiting.What.TheVariants.{Item};
 
 use crate::guard::Guard;
 use crate::item::Item;

@@ -1,6 +1,6 @@
 ghost use Rattle.std.specs.Fn.{FnOnceReturnsAtMut};
 ghost use Rattle.std.specs.Prelude.{◌≡◌, ◌≢◌, ◌+◌, ◌^◌, ◌<◌, ◌↔◌, ◌⊎◌, ℕ, Bool, IfErr, IfOk, IfSome, IsOk, IsSome, IsTrue, MatchBool, MatchOption, MatchResult, None, Some, if◌then◌else◌};
-ghost use Rattle.sdd_store.specs.Waiting.What.{Item};
+ghost use Rattle.sdd_store.specs.declared.waiting.What.TheVariants.{Item, Job};
 ghost use Rattle.sdd_store.specs.declared.time.Participant.{Participant};
 ghost use Rattle.sdd_store.specs.Time.{CanNest, has_garbage, is_open, with_garbage};
 ghost use Rattle.sdd_store.specs.Time as time;
@@ -20,7 +20,7 @@ ghost use Rattle.sdd_base.specs.Ptr.{KeepsShown, KeepsOthers, IsShown, slot_name
 ghost use Rattle.sdd_base.specs.RawPtr as raw;
 ghost use Rattle.sdd_base.specs.Out.{IsNullCell};
 ghost use Rattle.sdd_base.specs.InPlace.{IsAlone, MayInPlace, RefusedInPlace};
-ghost use Rattle.sdd_base.specs.Steps.{made_as, with_standing, with_value, dropped, owner_given, with_cell, with_pointer, pointing, without_cell, opened, closed, stirred, accelerated};
+ghost use Rattle.sdd_base.specs.Steps.{made_as, with_standing, with_value, dropped, deferred, owner_given, with_cell, with_pointer, pointing, without_cell, opened, closed, stirred, accelerated};
 
 use crate::guard::Guard;
 use crate::item::Item;
@@ -28,7 +28,7 @@ use crate::look::{Look, Shows};
 use crate::ptr::Ptr;
 use crate::raw_ptr::RawPtr;
 use sdd_core::{Refused, Tag};
-use sdd_store::{Cell, Pointer, Standing};
+use sdd_store::{Cell, Job, Pointer, Standing};
 use sdd_token::{Kind, RawRight, Right};
 
 /// The guards of one participant of a world or domain.
@@ -126,6 +126,9 @@ pub trait Space<T: Item<T>>: Look<T> + Guards<T> {
     /// The same truth, for clauses.
     ghost is_alone: { Bool };
 
+    /// What can be deferred.
+    type Job: Job;
+
     /// Puts a value into a free slot, for an owner of this kind.
     fn make(&mut self, value: T, kind: Kind) -> Result<Right, (T, Refused)>
         requires seated { IsSeated (Self.seat self.old) }
@@ -206,6 +209,21 @@ pub trait Space<T: Item<T>>: Look<T> + Guards<T> {
             (λ _. (owners : ℕ) × IsSharedBy owners (standing_at (Self.world self.old) slot) × (owners < 2 ^ 62) ×
             (Self.world self.new ≡ with_standing (Self.world self.old) slot (Standing.Shared (owners + 1)))))
             (λ e. IsSharedBy (2 ^ 62) (standing_at (Self.world self.old) slot) × (e ≡ Refused.TooManyOwners) × (Self.world self.new ≡ Self.world self.old)) }
+        ensures keeps { KeepsShown (Self.shows self.old) (Self.shows self.new) };
+
+    /// Puts a job into a free place of the table of jobs, and tells which. It waits with the participant, as an item does that is retired.
+    fn defer(&mut self, job: Self::Job) -> Result<u32, (Self::Job, Refused)>
+        requires seated { IsSeated (Self.seat self.old) }
+        ensures seat { Self.seat self.new ≡ Self.seat self.old }
+        ensures own { MatchResult result
+            (λ number. Self.own self.new ≡ time.awaiting (Job number) (Self.own self.old))
+            (λ _. Self.own self.new ≡ Self.own self.old) }
+        ensures known { KnowsOn (Self.known self.old) (Self.known self.new) }
+        ensures back { IfErr result (λ e. e.0 ≡ job) }
+        ensures exact { IsExact (Self.seat self.old) → MatchResult result
+            (λ number. IsEmptyAt (Self.world self.old).jobs number ×
+            (Self.world self.new ≡ deferred (Self.world self.old) (Self.seat self.old).place number))
+            (λ e. IsFull (Self.world self.old).jobs × (e.1 ≡ Refused.NoJob) × (Self.world self.new ≡ Self.world self.old)) }
         ensures keeps { KeepsShown (Self.shows self.old) (Self.shows self.new) };
 
     /// An owner of this kind lets its item go, and is told whether it was the last. The last one's item waits with the participant.

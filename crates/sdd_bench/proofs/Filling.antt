@@ -3,8 +3,8 @@ use Rattle.std.proofs.Common.{◌≡◌, ◌≢◌, ◌⊎◌, inl, inr, ℕ, �
 use Rattle.std.specs.Prelude.{is_some}
 use Rattle.std.proofs.lemmas.List.{get_or-set_same, get_or-set_other, length-set, set-set}
 use Rattle.sdd_core.specs.declared.tag.Tag.TheVariants.{None as no_tag}
-use Rattle.sdd_store.specs.Waiting.{What}
-use Rattle.sdd_store.specs.Waiting.What.{Item, Private, Job}
+use Rattle.sdd_store.specs.declared.waiting.What.{What}
+use Rattle.sdd_store.specs.declared.waiting.What.TheVariants.{Item, Job}
 use Rattle.sdd_store.specs.Table.{Entries, IsEmptyAt, entry_at, with_entry, without_entry}
 use Rattle.sdd_store.specs.Time.{is_open, finds_another, due_next}
 use Rattle.sdd_store.specs.declared.standing.Cell.{Cell}
@@ -40,7 +40,6 @@ module _ {T : Type 0} (holds : T → List Holding) (plain : HoldsNothing holds) 
 
   reclaimed-cells : (w : World T) (x : What) → (reclaimed holds w p x).cells ≡ w.cells
   reclaimed-cells w (Item k) = slot-cells w k (standing_at w k)
-  reclaimed-cells w (Private k c) = slot-cells w k (standing_at w k)
   reclaimed-cells w (Job j) = refl
 
   all-cells : (xs : List What) (w : World T) → (all_reclaimed holds w p xs).cells ≡ w.cells

@@ -6,7 +6,7 @@ use Rattle.std.proofs.lemmas.List.{length-set, length-replicate}
 use Rattle.std.proofs.lemmas.Bool.Decides.{nat_tests}
 use Rattle.sdd_store.specs.Table.{IsEmptyAt, entry_at}
 use Rattle.sdd_store.specs.Time.{IsVacant, is_open}
-use Rattle.sdd_store.specs.Waiting.What.{Item}
+use Rattle.sdd_store.specs.declared.waiting.What.TheVariants.{Item}
 use Rattle.sdd_store.specs.declared.standing.Standing.TheVariants as standing
 use Rattle.sdd_slots.specs.Slots.{IsSharedBy, is_waiting}
 use Rattle.sdd_base.specs.Calls.{IsFirst}
@@ -395,7 +395,7 @@ sound-start l d start names = record {
   };
   layered = λ j k some. absurd (let none : times_held holdings_of k (value_at d.world j) ≡ 0 = ap (times_held holdings_of k) (values j) in omega (arith, none, some));
   accounts = accounted-as holdings_of (λ _. 0) (named_owners d) d.world (λ k. ap (count_by (owns k)) start.owners)
-      (accounted-blank holdings_of d.world _ l.slots l.cells start.world);
+      (accounted-blank holdings_of d.world _ l.slots l.cells l.jobs start.world);
   owners_home = λ n h e. absurd (let never : None ≡ Some h = sym (ap (λ hs. holding_at hs n) start.owners) ∙ e in cc);
   cells_home = λ n h e. absurd (let never : None ≡ Some h = sym (ap (λ hs. holding_at hs n) start.cells) ∙ e in cc);
   attended = attended-start d start;

@@ -492,8 +492,6 @@ module _ {T : Type 0} (w : World T) (p : ℕ) where
     all-counts [] u i = i
     all-counts (Item k ∷ xs) u i =
         all-counts xs (reclaimed holds u p (Item k)) (out-counts u k (waiting_value u k (standing_at u k)) i)
-    all-counts (Private k c ∷ xs) u i =
-        all-counts xs (reclaimed holds u p (Private k c)) (out-counts u k (waiting_value u k (standing_at u k)) i)
     all-counts (Job j ∷ xs) u i = all-counts xs u i
 
     pub counts-opened : KeepsCounts w (steps.opened holds w p)

@@ -398,7 +398,6 @@ module _ (d : Desk) (p : ℕ) where
 
   pub one-kept_on : (w : World Val) (x : What) → AreKept (in_world d w) → AreKept (in_world d (reclaimed holdings_of w p x))
   one-kept_on w (Item k) i = out-kept w k (waiting_value w k (standing_at w k)) (waiting-there w k (standing_at w k)) i
-  one-kept_on w (Private k c) i = out-kept w k (waiting_value w k (standing_at w k)) (waiting-there w k (standing_at w k)) i
   one-kept_on w (Job j) i = i
 
   all-kept : (xs : List What) (w : World Val) → AreKept (in_world d w) → AreKept (in_world d (all_reclaimed holdings_of w p xs))

@@ -3,8 +3,8 @@ use Rattle.std.proofs.Common.{◌≡◌, ◌≢◌, ◌⊎◌, inl, inr, ℕ, ze
 use Rattle.std.specs.Prelude.{replicate, if◌then◌else◌}
 use Rattle.std.proofs.lemmas.Bool.{cases_eq}
 use Rattle.std.proofs.lemmas.List.{length-map, length_push, get_or-set_same, get_or-set_other}
-use Rattle.sdd_store.specs.Waiting.{What}
-use Rattle.sdd_store.specs.Waiting.What.{Item, Private, Job}
+use Rattle.sdd_store.specs.declared.waiting.What.{What}
+use Rattle.sdd_store.specs.declared.waiting.What.TheVariants.{Item, Job}
 use Rattle.sdd_store.specs.Time.{Time, due_next, is_open}
 use Rattle.sdd_store.specs.Time as time
 use Rattle.sdd_store.specs.Table.{IsEmptyAt, without_entry}
@@ -52,7 +52,6 @@ module _ (P : World Val → Type 0)
 
     keeps-reclaimed : (w : World Val) (p : ℕ) (x : What) → P w → P (reclaimed holdings_of w p x)
     keeps-reclaimed w p (Item k) h = keeps-out w p k (waiting_value w k (standing_at w k)) h
-    keeps-reclaimed w p (Private k c) h = keeps-out w p k (waiting_value w k (standing_at w k)) h
     keeps-reclaimed w p (Job n) h = h
 
     keeps-all : (w : World Val) (p : ℕ) (xs : List What) → P w → P (all_reclaimed holdings_of w p xs)

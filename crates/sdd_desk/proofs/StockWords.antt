@@ -5,8 +5,8 @@ pub use Rattle.std.proofs.lemmas.Bool.{cases_eq, cases_lt}
 pub use Rattle.std.proofs.lemmas.Bool.Decides.{nat_tests}
 pub use Rattle.std.proofs.lemmas.List.{length-map, length-set}
 pub use Rattle.sdd_store.specs.Table.{Entries, IsEmptyAt, entry_at, with_entry, without_entry}
-pub use Rattle.sdd_store.specs.Waiting.{What}
-pub use Rattle.sdd_store.specs.Waiting.What.{Item, Private, Job}
+pub use Rattle.sdd_store.specs.declared.waiting.What.{What}
+pub use Rattle.sdd_store.specs.declared.waiting.What.TheVariants.{Item, Job}
 pub use Rattle.sdd_store.specs.declared.standing.Standing.{Standing}
 pub use Rattle.sdd_store.specs.declared.standing.Cell.{Cell}
 pub use Rattle.sdd_slots.specs.Slots.{is_waiting}

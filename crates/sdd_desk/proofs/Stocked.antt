@@ -77,7 +77,6 @@ module _ {T : Type 0} where
 
       one-no_slot : (u : World T) (x : What) → TakesNoSlot w u → TakesNoSlot w (reclaimed holds u p x)
       one-no_slot u (Item k) i = out-no_slot u k (waiting_value u k (standing_at u k)) i
-      one-no_slot u (Private k c) i = out-no_slot u k (waiting_value u k (standing_at u k)) i
       one-no_slot u (Job j) i = i
 
       all-no_slot : (xs : List What) (u : World T) → TakesNoSlot w u → TakesNoSlot w (all_reclaimed holds u p xs)

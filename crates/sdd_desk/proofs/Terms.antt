@@ -4,8 +4,8 @@ pub use Rattle.std.specs.Prelude.{◌-◌, Contains, IsTrue}
 pub use Rattle.std.proofs.lemmas.Bool.{cases_eq, cases_lt, false≢true}
 pub use Rattle.std.proofs.lemmas.Bool.Decides.{nat_tests}
 pub use Rattle.std.proofs.lemmas.List.{length-set}
-pub use Rattle.sdd_store.specs.Waiting.{What}
-pub use Rattle.sdd_store.specs.Waiting.What.{Item}
+pub use Rattle.sdd_store.specs.declared.waiting.What.{What}
+pub use Rattle.sdd_store.specs.declared.waiting.What.TheVariants.{Item}
 pub use Rattle.sdd_store.specs.Time.{Time, IsLive, IsVacant, is_open, nobody, phase_at, due_next}
 pub use Rattle.sdd_store.specs.declared.time.Participant.{Participant}
 pub use Rattle.sdd_store.specs.declared.standing.Standing.{Standing}

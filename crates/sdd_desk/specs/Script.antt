@@ -5,7 +5,7 @@ use Rattle.sdd_core.specs.Epoch.{epoch_of}
 use Rattle.sdd_core.specs.declared.tag.Tag.{Tag}
 use Rattle.sdd_core.specs.declared.tag.Tag.TheVariants.{None as no_tag}
 use Rattle.sdd_core.specs.declared.refused.Refused.TheVariants.{NoPlace, NoCell, TooManyGuards, GuardOpen, TooManyOwners}
-use Rattle.sdd_store.specs.Waiting.What.{Item}
+use Rattle.sdd_store.specs.declared.waiting.What.TheVariants.{Item}
 use Rattle.sdd_store.specs.Time.{IsCrowded, IsVacant, CanNest, has_garbage, is_open}
 use Rattle.sdd_store.specs.Table.{IsEmptyAt, IsFull}
 use Rattle.sdd_store.specs.declared.standing.Cell.{Cell}

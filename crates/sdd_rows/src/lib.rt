@@ -9,6 +9,8 @@ mod first_example;
 #[cfg(test)]
 mod guards;
 #[cfg(test)]
+mod jobs;
+#[cfg(test)]
 mod limits_and_memory;
 #[cfg(test)]
 mod looks;

@@ -2,3 +2,4 @@ pub mod Aging
 pub mod Listed
 pub mod Adopting
 pub mod Renaming
+pub mod Beside

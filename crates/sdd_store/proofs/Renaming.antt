@@ -4,7 +4,7 @@ use Rattle.std.specs.List.{list_all, filter}
 use Rattle.std.proofs.Math.ListN.{get_or-map}
 use Rattle.std.proofs.lemmas.List.{map-set, map_push, map-append, length-map}
 use Rattle.sdd_store.specs.Waiting.{Waiting, having_seen, anew, older, aged, is_due, due, left}
-use Rattle.sdd_store.specs.Waiting.What.{Item}
+use Rattle.sdd_store.specs.declared.waiting.What.{What}
 use Rattle.sdd_store.specs.Phases.{is_ended}
 use Rattle.sdd_store.specs.Table.{with_entry, without_entry}
 use Rattle.sdd_store.specs.declared.phases.Phase.TheVariants.{Live}
@@ -71,11 +71,11 @@ module _ (name : ℕ → ℕ) where
   pub by-accelerated : (t : Time) (p : ℕ) → time_by name (time.accelerated_at t p) ≡ time.accelerated_at (time_by name t) p
   by-accelerated t p = by-changed time.accelerated time.accelerated (λ x. refl) t p
 
-  pub by-awaiting : (t : Time) (p k : ℕ) → time_by name (time.awaiting_at t p (Item k)) ≡ time.awaiting_at (time_by name t) p (Item (name k))
-  by-awaiting t p k =
-      by-changed (time.awaiting (Item k)) (time.awaiting (Item (name k)))
+  pub by-awaiting : (t : Time) (p : ℕ) (w : What) → time_by name (time.awaiting_at t p w) ≡ time.awaiting_at (time_by name t) p (what_by name w)
+  by-awaiting t p w =
+      by-changed (time.awaiting w) (time.awaiting (what_by name w))
       (λ x. ap (λ ws. record (time.with_garbage x) { bags = record x.bags { waiting = ws } })
-      (map_push (waiting_by name) x.bags.waiting (having_seen 0 (Item k)))) t p
+      (map_push (waiting_by name) x.bags.waiting (having_seen 0 w))) t p
 
   by-nested : (t : Time) (p : ℕ) → time_by name (time.nested_at t p) ≡ time.nested_at (time_by name t) p
   by-nested t p = by-changed time.nested time.nested (λ x. refl) t p

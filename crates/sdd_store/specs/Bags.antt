@@ -1,6 +1,7 @@
 -- The bags of a participant, as one list of what waits
 use Rattle.std.specs.Prelude.{ℕ, List, map, ◌++◌}
-use Rattle.sdd_store.specs.Waiting.{What, Waiting, having_seen}
+use Rattle.sdd_store.specs.declared.waiting.What.{What}
+use Rattle.sdd_store.specs.Waiting.{Waiting, having_seen}
 
 -- what waits, the oldest first, and how much may wait
 pub record Bags : Type 0 where
@@ -8,8 +9,5 @@ pub record Bags : Type 0 where
   pub room : ℕ
 
 -- the next bag has seen two changes, the previous one has seen one, the current one none
-abbrev pub waiting_of : List ℕ → List ℕ → List ℕ → List Waiting
-waiting_of next prev current =
-    map (λ (slot : ℕ). having_seen 2 (What.Item slot)) next
-    ++ map (λ (slot : ℕ). having_seen 1 (What.Item slot)) prev
-    ++ map (λ (slot : ℕ). having_seen 0 (What.Item slot)) current
+abbrev pub waiting_of : List What → List What → List What → List Waiting
+waiting_of next prev current = map (having_seen 2) next ++ map (having_seen 1) prev ++ map (having_seen 0) current

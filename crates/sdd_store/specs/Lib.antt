@@ -5,3 +5,4 @@ pub mod Time
 pub mod Tally
 pub mod Table
 pub mod Renaming
+pub mod Jobs

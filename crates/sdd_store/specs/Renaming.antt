@@ -1,13 +1,13 @@
 -- Time with what waits under other names
 use Rattle.std.specs.Prelude.{ℕ, map}
-use Rattle.sdd_store.specs.Waiting.{What, Waiting, having_seen}
-use Rattle.sdd_store.specs.Waiting.What.{Item, Private, Job}
+use Rattle.sdd_store.specs.declared.waiting.What.{What}
+use Rattle.sdd_store.specs.Waiting.{Waiting, having_seen}
+use Rattle.sdd_store.specs.declared.waiting.What.TheVariants.{Item, Job}
 use Rattle.sdd_store.specs.Time.{Time}
 use Rattle.sdd_store.specs.declared.time.Participant.{Participant}
 
 abbrev pub what_by : (ℕ → ℕ) → What → What
 what_by name (Item k) = Item (name k)
-what_by name (Private k c) = Private (name k) c
 what_by name (Job j) = Job j
 
 abbrev pub waiting_by : (ℕ → ℕ) → Waiting → Waiting

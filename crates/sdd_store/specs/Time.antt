@@ -1,7 +1,8 @@
 -- The epoch of a world, and its participants
 use Rattle.std.specs.Prelude.{ℕ, zero, suc, ◌+◌, ◌-◌, ◌^◌, ◌==◌, ◌&&◌, ◌||◌, ◌≡◌, ◌<◌, ◌≤◌, ◌⊎◌, All, Bool, true, false, IsTrue, List, [], ◌∷◌, ◌++◌, Option, Some, None, length, map, slice_index_or, slice_set, sum_by, if◌then◌else◌, nat_lt, not}
 use Rattle.std.specs.List.{list_all}
-use Rattle.sdd_store.specs.Waiting.{What, Waiting, fresh, anew, aged, due, left}
+use Rattle.sdd_store.specs.declared.waiting.What.{What}
+use Rattle.sdd_store.specs.Waiting.{Waiting, fresh, anew, aged, due, left}
 use Rattle.sdd_store.specs.Table.{Entries, entry_at, with_entry, without_entry, IsEmptyAt, IsFull}
 use Rattle.sdd_store.specs.Phases.{Phases, is_live, is_ended}
 use Rattle.sdd_store.specs.declared.phases.Phase.{Phase}

@@ -1,11 +1,6 @@
 -- What waits with a participant
 use Rattle.std.specs.Prelude.{ℕ, ◌+◌, Bool, List, map, nat_lt, not, filter}
-
--- what waits: an ordinary item, an item that is private for a collector, or a job
-pub data What : Type 0 where
-  Item : (slot : ℕ) → What
-  Private : (slot collector : ℕ) → What
-  Job : (number : ℕ) → What
+use Rattle.sdd_store.specs.declared.waiting.What.{What}
 
 -- what waits, and how many of its holder's changes it has seen
 pub record Waiting : Type 0 where

@@ -1,19 +1,19 @@
 ghost use Rattle.std.specs.Prelude.{◌≡◌, ℕ, ◌+◌, ◌<◌, ◌≤◌, List, [], ◌∷◌, ◌++◌, length, IfOk, vec_capacity, map, IsTrue, ◌↔◌};
-ghost use Rattle.sdd_store.specs.Waiting.{What, anew, aged, due, left, fresh};
-ghost use Rattle.sdd_store.specs.Waiting.What.{Item};
+ghost use Rattle.sdd_store.specs.Waiting.{anew, aged, due, left, fresh};
 ghost use Rattle.sdd_store.specs.Bags.{Bags};
 
+use crate::waiting::What;
 use std::alloc::{AllocError, Global};
 use std::marker::Model;
 
-/// What waits with a participant, in three bags of slot numbers: current, previous and next.
+/// What waits with a participant, in three bags: current, previous and next.
 ///
 /// Memory is taken when the bags are made, and never again.
 #[derive(Drop)]
 pub struct Bags {
-    current: Vec<u32>,
-    previous: Vec<u32>,
-    next: Vec<u32>,
+    current: Vec<What>,
+    previous: Vec<What>,
+    next: Vec<What>,
     room: usize,
 }
 
@@ -41,7 +41,7 @@ impl Bags {
         }
     }
 
-    /// Bags in which that many items can wait.
+    /// Bags in which that much can wait.
     pub fn with_room(alloc: Global, room: usize) -> Result<Bags, AllocError>
         ensures { IfOk result (λ b. b ≡ record { waiting = []; room = room }) }
     {
@@ -56,12 +56,12 @@ impl Bags {
         })
     }
 
-    /// Puts an item into the current bag.
-    pub fn push(&mut self, slot: u32)
+    /// Puts something into the current bag.
+    pub fn push(&mut self, what: What)
         requires room { length self.old.waiting < self.old.room }
-        ensures { self.new ≡ record self.old { waiting = self.old.waiting ++ fresh (Item slot) ∷ [] } }
+        ensures { self.new ≡ record self.old { waiting = self.old.waiting ++ fresh what ∷ [] } }
     {
-        self.current.push_reserved(slot);
+        self.current.push_reserved(what);
     }
 
     /// Nothing waits.
@@ -72,18 +72,18 @@ impl Bags {
     }
 
     /// What the next rotation gives out.
-    pub fn due(&self) -> &[u32]
-        ensures { map Item result.now ≡ due (aged self.now.waiting) }
+    pub fn due(&self) -> &[What]
+        ensures { result.now ≡ due (aged self.now.waiting) }
     {
         self.next.as_slice()
     }
 
     /// Rotates: an empty bag is handed in to become the current one, and what is due comes back in its place.
-    pub fn rotate(&mut self, bag: &mut Vec<u32>)
+    pub fn rotate(&mut self, bag: &mut Vec<What>)
         requires empty { bag.old.items ≡ [] }
         requires room { self.old.room ≤ vec_capacity bag.old }
         ensures kept { self.new ≡ record self.old { waiting = left (aged self.old.waiting) } }
-        ensures taken { map Item bag.new.items ≡ due (aged self.old.waiting) }
+        ensures taken { bag.new.items ≡ due (aged self.old.waiting) }
         ensures room { self.old.room ≤ vec_capacity bag.new }
         ensures count { length self.new.waiting + length bag.new.items ≡ length self.old.waiting }
     {
@@ -113,15 +113,15 @@ impl Bags {
     }
 }
 
-/// Moves each slot of a bag to another one.
-fn pour(from: &mut Vec<u32>, to: &mut Vec<u32>)
+/// Moves what is in a bag to another one.
+fn pour(from: &mut Vec<What>, to: &mut Vec<What>)
     requires { length to.old.items + length from.old.items ≤ vec_capacity to.old }
     ensures poured { to.new.items ≡ to.old.items ++ from.old.items }
     ensures emptied { from.new.items ≡ [] }
     ensures reserved { (vec_capacity to.new ≡ vec_capacity to.old) × (vec_capacity from.new ≡ vec_capacity from.old) }
 {
-    for slot in from.as_slice() {
-        to.push_reserved(*slot);
+    for what in from.as_slice() {
+        to.push_reserved(*what);
     }
     from.clear();
 }

@@ -1,12 +1,12 @@
 ghost use Rattle.std.specs.Prelude.{IsSome, ◌≡◌, ◌≢◌, ℕ, ◌+◌, ◌<◌, ◌≤◌, ◌==◌, sum_by, List, [], ◌∷◌, ◌↔◌, map, length, IsTrue, IfOk, MatchOption, MatchResult, vec_capacity, Bool, false, if◌then◌else◌, Any, IsOk, Err, ◌⊎◌};
 ghost use Rattle.std.specs.List.{list_all};
-ghost use Rattle.sdd_store.specs.Waiting.{What, due, aged};
-ghost use Rattle.sdd_store.specs.Waiting.What.{Item};
+ghost use Rattle.sdd_store.specs.Waiting.{due, aged};
 ghost use Rattle.sdd_store.specs.Phases.{is_ended};
 ghost use Rattle.sdd_store.specs.Time.{Time, IsLive, KeepsPlaces, adopted, adopted_from, ended, newcomer, phase_at, rested, waiting_count, with_place, place_at, IsCrowded, IsVacant, CanNest, registered, with_garbage, has_garbage, accelerated, awaiting, nested, rotated, settled, pace_of, passes, raised, scanned, closed, stirred_at, accelerated_at, awaiting_at, nested_at, rotated_at, settled_at, paced_at, finds_another, is_open, due_next};
 
 use crate::bags::Bags;
 use crate::phases::{Phase, Phases};
+use crate::waiting::What;
 use sdd_core::Refused;
 use std::alloc::{AllocError, Global};
 use std::marker::Model;
@@ -81,11 +81,11 @@ impl Participant {
         self.bags.clear();
     }
 
-    fn wait(&mut self, slot: u32)
+    fn wait(&mut self, what: What)
         requires { length self.old.bags.waiting < self.old.bags.room }
-        ensures { self.new ≡ awaiting (Item slot) self.old }
+        ensures { self.new ≡ awaiting what self.old }
     {
-        self.bags.push(slot);
+        self.bags.push(what);
         self.stir();
     }
 
@@ -265,13 +265,13 @@ impl Time {
         self.places[place].countdown = 0;
     }
 
-    /// An item waits with a place from now on.
-    pub fn wait(&mut self, place: usize, slot: u32)
+    /// An item or a job waits with a place from now on.
+    pub fn wait(&mut self, place: usize, what: What)
         requires place { place < length self.old.places }
         requires room { length (place_at self.old place).bags.waiting < self.old.room }
-        ensures { self.new ≡ awaiting_at self.old place (Item slot) }
+        ensures { self.new ≡ awaiting_at self.old place what }
     {
-        self.places[place].wait(slot);
+        self.places[place].wait(what);
     }
 
     /// One guard more of a place is open. Tells whether that is a change: an outermost opening that finds another count.
@@ -299,12 +299,12 @@ impl Time {
     }
 
     /// A change: what has seen three comes out, into the empty bag that is handed in.
-    pub fn rotate(&mut self, place: usize, bag: &mut Vec<u32>)
+    pub fn rotate(&mut self, place: usize, bag: &mut Vec<What>)
         requires place { place < length self.old.places }
         requires empty { bag.old.items ≡ [] }
         requires reserved { self.old.room ≤ vec_capacity bag.old }
         ensures rotated { self.new ≡ rotated_at self.old place }
-        ensures taken { map Item bag.new.items ≡ due_next (place_at self.old place) }
+        ensures taken { bag.new.items ≡ due_next (place_at self.old place) }
         ensures reserved { self.old.room ≤ vec_capacity bag.new }
         ensures count { length (place_at self.new place).bags.waiting + length bag.new.items ≡ length (place_at self.old place).bags.waiting }
     {
@@ -314,9 +314,9 @@ impl Time {
     }
 
     /// What the next change of a place takes out.
-    pub fn due(&self, place: usize) -> &[u32]
+    pub fn due(&self, place: usize) -> &[What]
         requires { place < length self.now.places }
-        ensures { map Item result.now ≡ due_next (place_at self.now place) }
+        ensures { result.now ≡ due_next (place_at self.now place) }
     {
         self.places[place].bags.due()
     }

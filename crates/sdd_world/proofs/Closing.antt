@@ -4,8 +4,9 @@ use Rattle.std.proofs.lemmas.Grind.{common_steps}
 use Rattle.std.proofs.lemmas.List.{length-set, get_or_past, get_or-set_same, set-set, set-get_or}
 use Rattle.std.proofs.lemmas.Bool.Decides.{nat_tests}
 use Rattle.std.proofs.lemmas.List.Sums.{sum_by-set, sum_by_push, sum_by-cons}
-use Rattle.sdd_store.specs.Waiting.{What, Waiting, fresh, aged, left, older, is_due}
-use Rattle.sdd_store.specs.Waiting.What.{Item, Private, Job}
+use Rattle.sdd_store.specs.declared.waiting.What.{What}
+use Rattle.sdd_store.specs.Waiting.{Waiting, fresh, aged, left, older, is_due}
+use Rattle.sdd_store.specs.declared.waiting.What.TheVariants.{Item, Job}
 use Rattle.sdd_store.specs.Time.{without_waiting, Time, with_place, nobody, pace_of, due_next, rotated, is_open}
 use Rattle.sdd_store.specs.Time as time
 use Rattle.sdd_store.specs.Table.{entry_at}
@@ -172,8 +173,7 @@ module _ {T : Type 0} where
 
     Moves-reclaimed : (w : World T) (p : ℕ) (x : What) → p < length w.time.places → Moves p w (reclaimed holds w p x)
     Moves-reclaimed w p (Item k) l = Moves-standing w p k l (standing_at w k) refl
-    Moves-reclaimed w p (Private k c) l = Moves-standing w p k l (standing_at w k) refl
-    Moves-reclaimed w p (Job j) l = Moves-refl p w
+    Moves-reclaimed w p (Job j) l = record { found = _; countdown = _; waiting = _; time = moved-same w.time p; no_more = omega arith }
 
     Moves-all_reclaimed : (w : World T) (p : ℕ) (xs : List What) → p < length w.time.places → Moves p w (all_reclaimed holds w p xs)
     Moves-all_reclaimed w p [] l = Moves-refl p w

@@ -6,6 +6,7 @@ use Rattle.sdd_store.specs.Time as time
 use Rattle.sdd_places.specs.Tenures.{Tenures}
 use Rattle.sdd_slots.specs.Slots.{Slots}
 use Rattle.sdd_slots.specs.Cells.{Cells}
+use Rattle.sdd_store.specs.Table.{Entries}
 use Rattle.sdd_base.specs.Holding.{Holding, Home, AreOf, ValueIsOf, ValuesAreOf}
 use Rattle.sdd_base.specs.Lending.{Lending}
 use Rattle.sdd_base.specs.World.{World, KeepsSizes, place_at, standing_at, value_at}
@@ -39,10 +40,10 @@ module _ {T : Type 0} (holds : T → List Holding) where
       AreOf home (holds v)
   value-of_home home vs k v all e = subst (λ (o : Option T). ValueIsOf holds home o) e (all k)
 
-  pub sound-edited : (t : Time) (s : Slots T) (c : Cells) (r : Tenures) (k : ℕ) (v : T) → IsSound holds t s c r →
+  pub sound-edited : (t : Time) (s : Slots T) (c : Cells) (jobs : Entries (Unit {0})) (r : Tenures) (k : ℕ) (v : T) → IsSound holds t s c jobs r →
       AreOf (record { slots = s.home; cells = c.home; readers = r.home }) (holds v) →
-      IsSound holds t (record s { values = slice_set s.values k (Some v) }) c r
-  sound-edited t s c r k v i of = record {
+      IsSound holds t (record s { values = slice_set s.values k (Some v) }) c jobs r
+  sound-edited t s c jobs r k v i of = record {
     counted = i.counted;
     reserved = i.reserved;
     held = i.held;

@@ -4,7 +4,7 @@ use Rattle.std.specs.Prelude.{◌-◌, ◌==◌, Contains, if◌then◌else◌}
 use Rattle.std.proofs.lemmas.Bool.{cases_eq}
 use Rattle.std.proofs.lemmas.Bool.Decides.{nat_tests}
 use Rattle.std.proofs.lemmas.List.{get_or-set_same, get_or-set_other, get_or_past, length-append, length-set, set-set}
-use Rattle.sdd_store.specs.Waiting.What.{Item}
+use Rattle.sdd_store.specs.declared.waiting.What.TheVariants.{Item}
 use Rattle.sdd_store.specs.Time.{Time, IsVacant, IsLive, nobody, with_place, is_open}
 use Rattle.sdd_store.specs.Time as time
 use Rattle.sdd_store.specs.declared.time.Participant.{Participant}
@@ -297,7 +297,7 @@ module _ {T : Type 0} where
   part-left w l i p few = let all = (i.tenures p).units in let limit = i.readers.nesting in omega (arith, few, all, limit)
 
   pub sizes-closed : (w : World T) (p : ℕ) → time.KeepsPlaces w.time (time.closed w.time p) → KeepsSizes w (closed w p)
-  sizes-closed w p k = record { home = refl; places = k.places; live = k.lives; slots = refl; nesting = k.nesting; room = k.room }
+  sizes-closed w p k = record { home = refl; places = k.places; live = k.lives; slots = refl; jobs = refl; nesting = k.nesting; room = k.room }
 
   pub lent-ended : (holds : T → List Holding) (w : World T) (l : Lending) (p : ℕ) → IsPlaceOf w p → (IsTrue (is_open (place_at w p)) → ⊥) →
       IsWhole w → AreLentOf w l → AreLentOf (ended w p) l

@@ -1,7 +1,7 @@
 -- What is given up changes nothing that raw cells point to
 use Rattle.std.proofs.Common.{◌≡◌, ℕ, List, [], ◌∷◌, refl, ◌∙◌, Some, None, Option}
-use Rattle.sdd_store.specs.Waiting.{What}
-use Rattle.sdd_store.specs.Waiting.What.{Item, Private, Job}
+use Rattle.sdd_store.specs.declared.waiting.What.{What}
+use Rattle.sdd_store.specs.declared.waiting.What.TheVariants.{Item, Job}
 use Rattle.sdd_store.specs.Time.{due_next}
 use Rattle.sdd_base.specs.Holding.{Holding}
 use Rattle.sdd_base.specs.World.{World, place_at, standing_at}
@@ -21,7 +21,6 @@ module _ {T : Type 0} (holds : T → List Holding) where
 
   reclaimed-pointers : (w : World T) (p : ℕ) (x : What) → (reclaimed holds w p x).pointers ≡ w.pointers
   reclaimed-pointers w p (Item k) = taken-pointers w p k (waiting_value w k (standing_at w k))
-  reclaimed-pointers w p (Private k c) = taken-pointers w p k (waiting_value w k (standing_at w k))
   reclaimed-pointers w p (Job j) = refl
 
   all-pointers : (xs : List What) (w : World T) (p : ℕ) → (all_reclaimed holds w p xs).pointers ≡ w.pointers

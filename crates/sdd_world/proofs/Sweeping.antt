@@ -7,8 +7,8 @@ use Rattle.std.proofs.lemmas.List.{length-set, get_or-set_same, get_or-set_other
 use Rattle.std.proofs.lemmas.List.Sums.{sum_by-set, sum_by-cons}
 use Rattle.std.proofs.lemmas.List.Kept.{AllPairs-cons}
 use Rattle.std.proofs.lemmas.List.Elements.{Contains-get_or}
-use Rattle.sdd_store.specs.Waiting.{What}
-use Rattle.sdd_store.specs.Waiting.What.{Item, Private, Job}
+use Rattle.sdd_store.specs.declared.waiting.What.{What}
+use Rattle.sdd_store.specs.declared.waiting.What.TheVariants.{Item, Job}
 use Rattle.sdd_store.specs.Time.{without_waiting, Time, due_next, nobody, pace_of}
 use Rattle.sdd_store.specs.Time as time
 use Rattle.sdd_store.specs.Table.{Entries, entry_at, with_entry, without_entry}
@@ -719,8 +719,7 @@ module _ {T : Type 0} (holds : T → List Holding) (old : World T) where
 
   Swept-reclaimed : (w : World T) (p : ℕ) (x : What) → Swept nothing w → Swept nothing (reclaimed holds w p x)
   Swept-reclaimed w p (Item k) i = Swept-standing w p k (standing_at w k) refl i
-  Swept-reclaimed w p (Private k c) i = Swept-standing w p k (standing_at w k) refl i
-  Swept-reclaimed w p (Job n) i = i
+  Swept-reclaimed w p (Job n) i = record { slot = i.slot; cell = i.cell; done = i.done; count = i.count; slots = i.slots; cells = i.cells }
 
   Swept-all_reclaimed : (w : World T) (p : ℕ) (xs : List What) → Swept nothing w → Swept nothing (all_reclaimed holds w p xs)
   Swept-all_reclaimed w p [] i = i

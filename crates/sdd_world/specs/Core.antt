@@ -1,5 +1,6 @@
 -- A world with what is lent of it, and what its parts keep true of each other
-use Rattle.std.specs.Prelude.{◌+◌, ◌≤◌, ◌≡◌, List, length, sum_by, count_by}
+use Rattle.std.specs.Prelude.{◌+◌, ◌≤◌, ◌≡◌, List, length, is_none, sum_by, count_by}
+use Rattle.sdd_store.specs.Table.{Entries}
 use Rattle.sdd_store.specs.Time.{Time, waiting_count}
 use Rattle.sdd_places.specs.Tenures.{Tenures}
 use Rattle.sdd_slots.specs.Slots.{Slots}
@@ -13,10 +14,10 @@ pub record Core (T : Type 0) : Type 0 where
   pub world : World T
   pub lending : Lending
 
--- there is room for each slot to wait, cells hold owners of these slots, values hold what is of this home, and each place may have a reader
-pub record IsSound {T : Type 0} (holds : T → List Holding) (t : Time) (s : Slots T) (c : Cells) (r : Tenures) : Type 0 where
-  pub counted : sum_by waiting_count t.places + count_by is_loose s.standings ≤ length s.standings
-  pub reserved : t.room ≡ length s.standings
+-- there is room for each slot and each job to wait, cells hold owners of these slots, values hold what is of this home, and each place may have a reader
+pub record IsSound {T : Type 0} (holds : T → List Holding) (t : Time) (s : Slots T) (c : Cells) (jobs : Entries (Unit {0})) (r : Tenures) : Type 0 where
+  pub counted : sum_by waiting_count t.places + count_by is_loose s.standings + count_by is_none jobs ≤ length s.standings + length jobs
+  pub reserved : t.room ≡ length s.standings + length jobs
   pub held : c.slots ≡ s.home
   pub homes : ValuesAreOf holds (record { slots = s.home; cells = c.home; readers = r.home }) s.values
   pub participants : t.participants ≡ r.home.size

@@ -1,6 +1,5 @@
 //! What a script, or a test, needs of a world beyond the public surface.
 ghost use Rattle.std.specs.Prelude.{◌≡◌, ◌↔◌, ◌+◌, ◌^◌, ◌<◌, ◌≤◌, ℕ, IfOk, IsSome, IsTrue, MatchResult, Some, map};
-ghost use Rattle.sdd_store.specs.Waiting.What.{Item};
 ghost use Rattle.sdd_store.specs.Time.{is_open, phase_at};
 ghost use Rattle.sdd_base.specs.World.{IsPlaceOf, place_at, standing_at, value_at};
 ghost use Rattle.sdd_base.specs.Guard.{reader_of};
@@ -23,19 +22,19 @@ use sdd_base::inner::{
 };
 use sdd_base::{AtomicOwned, AtomicShared, Guard, Item, Owned, Ptr, Shared};
 use sdd_core::Refused;
-use sdd_store::Standing;
+use sdd_store::{Job, Standing, What};
 use sdd_token::{Kind, Shares};
 
-/// The slots whose items the next opening of a participant reclaims.
-pub fn reclaims_next<'w, T: Item<T>>(world: &'w World<T>, place: &Place) -> &'w [u32]
+/// The items that the next opening of a participant reclaims, and the jobs that it runs.
+pub fn reclaims_next<'w, T: Item<T>, J: Job>(world: &'w World<T, J>, place: &Place) -> &'w [What]
     requires { IsPlaceOf world.now (index_of place.now) }
-    ensures { map Item result.now ≡ reclaims world.now (index_of place.now) }
+    ensures { result.now ≡ reclaims world.now (index_of place.now) }
 {
     world.reclaims(place.index())
 }
 
 /// The value in a slot that is not free.
-pub fn value_in<T: Item<T>>(world: &World<T>, slot: u32) -> &T
+pub fn value_in<T: Item<T>, J: Job>(world: &World<T, J>, slot: u32) -> &T
     requires { IsSome (value_at world.now slot) }
     ensures { value_at world.now slot ≡ Some result.now }
 {
@@ -43,14 +42,14 @@ pub fn value_in<T: Item<T>>(world: &World<T>, slot: u32) -> &T
 }
 
 /// How the item in a slot stands; nothing where the slot is free.
-pub fn standing_of<T: Item<T>>(world: &World<T>, slot: u32) -> Option<Standing>
+pub fn standing_of<T: Item<T>, J: Job>(world: &World<T, J>, slot: u32) -> Option<Standing>
     ensures { result ≡ standing_at world.now slot }
 {
     world.standing(slot)
 }
 
 /// A guard of the participant is open.
-pub fn is_open<T: Item<T>>(world: &World<T>, place: &Place) -> bool
+pub fn is_open<T: Item<T>, J: Job>(world: &World<T, J>, place: &Place) -> bool
     requires { IsPlaceOf world.now (index_of place.now) }
     ensures { result ≡ is_open (place_at world.now (index_of place.now)) }
 {
@@ -58,8 +57,8 @@ pub fn is_open<T: Item<T>>(world: &World<T>, place: &Place) -> bool
 }
 
 /// A pointer to the item in a slot, which stays there while a guard of the participant is open. The guard is one of its.
-pub fn ptr_at<'g, T: Item<T>>(
-    world: &mut World<T>,
+pub fn ptr_at<'g, T: Item<T>, J: Job>(
+    world: &mut World<T, J>,
     place: &Place,
     slot: u32,
     guard: &'g Guard,
@@ -76,21 +75,21 @@ pub fn ptr_at<'g, T: Item<T>>(
 }
 
 /// No slot is free.
-pub fn has_no_slot<T: Item<T>>(world: &World<T>) -> bool
+pub fn has_no_slot<T: Item<T>, J: Job>(world: &World<T, J>) -> bool
     ensures { IsTrue result ↔ IsFull world.now.standings }
 {
     world.core.is_full()
 }
 
 /// No cell is free.
-pub fn has_no_cell<T: Item<T>>(world: &World<T>) -> bool
+pub fn has_no_cell<T: Item<T>, J: Job>(world: &World<T, J>) -> bool
     ensures { IsTrue result ↔ IsFull world.now.cells }
 {
     world.core.has_no_cell()
 }
 
 /// The owner's item waits at some place that isn't free: with a participant, or where one left it that has ended.
-pub fn leave<T: Item<T>>(world: &mut World<T>, owner: Owned<T>)
+pub fn leave<T: Item<T>, J: Job>(world: &mut World<T, J>, owner: Owned<T>)
     requires some { (p : ℕ) × IsSome (phase_at world.old.time p) }
     requires home { slots_home owner ≡ world.old.home.slots }
     ensures owned { standing_at world.old (slot_of owner) ≡ Some standing.Owned }
@@ -100,7 +99,7 @@ pub fn leave<T: Item<T>>(world: &mut World<T>, owner: Owned<T>)
 }
 
 /// The shared owner goes: if it was the last, its item waits at some place that isn't free.
-pub fn leave_shared<T: Item<T>>(world: &mut World<T>, owner: Shared<T>)
+pub fn leave_shared<T: Item<T>, J: Job>(world: &mut World<T, J>, owner: Shared<T>)
     requires some { (p : ℕ) × IsSome (phase_at world.old.time p) }
     requires home { shared.slots_home owner ≡ world.old.home.slots }
     ensures shared { (owners : ℕ) × IsSharedBy owners (standing_at world.old (shared.slot_of owner)) }
@@ -111,7 +110,7 @@ pub fn leave_shared<T: Item<T>>(world: &mut World<T>, owner: Shared<T>)
 }
 
 /// The item in a slot that is out as raw waits at some place that isn't free.
-pub fn leave_raw<T: Item<T>>(world: &mut World<T>, slot: u32)
+pub fn leave_raw<T: Item<T>, J: Job>(world: &mut World<T, J>, slot: u32)
     requires some { (p : ℕ) × IsSome (phase_at world.old.time p) }
     requires raw { standing_at world.old slot ≡ Some standing.Raw }
     ensures left { (p : ℕ) × IsSome (phase_at world.old.time p) × (world.new ≡ retired world.old p slot) }
@@ -120,7 +119,7 @@ pub fn leave_raw<T: Item<T>>(world: &mut World<T>, slot: u32)
 }
 
 /// The cell is free, and some place that isn't free is given the item that it held.
-pub fn leave_cell<T: Item<T>>(world: &mut World<T>, cell: AtomicOwned<T>)
+pub fn leave_cell<T: Item<T>, J: Job>(world: &mut World<T, J>, cell: AtomicOwned<T>)
     requires some { (p : ℕ) × IsSome (phase_at world.old.time p) }
     requires home { cells_home cell ≡ world.old.home.cells }
     ensures { (p : ℕ) × IsSome (phase_at world.old.time p) × (world.new ≡ cell_closed world.old p (cell_of cell)) }
@@ -129,7 +128,7 @@ pub fn leave_cell<T: Item<T>>(world: &mut World<T>, cell: AtomicOwned<T>)
 }
 
 /// The cell is free, and some place that isn't free is given the shared owner that it held.
-pub fn leave_shared_cell<T: Item<T>>(world: &mut World<T>, cell: AtomicShared<T>)
+pub fn leave_shared_cell<T: Item<T>, J: Job>(world: &mut World<T, J>, cell: AtomicShared<T>)
     requires some { (p : ℕ) × IsSome (phase_at world.old.time p) }
     requires home { shared.cells_home cell ≡ world.old.home.cells }
     ensures { (p : ℕ) × IsSome (phase_at world.old.time p) × (world.new ≡ cell_closed world.old p (shared.cell_of cell)) }
@@ -140,8 +139,8 @@ pub fn leave_shared_cell<T: Item<T>>(world: &mut World<T>, cell: AtomicShared<T>
 /// So many owners more of an owner's item at once, in one piece. So a test reaches the most owners that there may be.
 ///
 /// `TooManyOwners` where with them more than 2^62 would own it, cells counted.
-pub fn add_owners<T: Item<T>>(
-    world: &mut World<T>,
+pub fn add_owners<T: Item<T>, J: Job>(
+    world: &mut World<T, J>,
     owner: &Shared<T>,
     more: u64,
 ) -> Result<Shares, Refused>
@@ -158,7 +157,7 @@ pub fn add_owners<T: Item<T>>(
 }
 
 /// Owners go that came in one piece, all but one, which is an owner as any other. With it the item has one at least, so nothing waits.
-pub fn let_go_but_one<T: Item<T>>(world: &mut World<T>, several: Shares) -> Shared<T>
+pub fn let_go_but_one<T: Item<T>, J: Job>(world: &mut World<T, J>, several: Shares) -> Shared<T>
     requires { shares.home_of several ≡ world.old.home.slots }
     ensures home { shared.slots_home result ≡ world.old.home.slots }
     ensures slot { shared.slot_of result ≡ shares.number_of several }

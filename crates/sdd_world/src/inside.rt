@@ -9,16 +9,15 @@ ghost use Rattle.sdd_slots.specs.Cells.{MayHold, cell_with, slot_held};
 ghost use Rattle.sdd_base.specs.Ptr.{IsShown, cell_seen, slot_named};
 ghost use Rattle.sdd_base.specs.Shared as shared;
 ghost use Rattle.sdd_base.specs.RawCell as raw_cell;
-ghost use Rattle.sdd_store.specs.Waiting.{What};
-ghost use Rattle.sdd_store.specs.Waiting.What.{Item};
+ghost use Rattle.sdd_store.specs.declared.waiting.What.TheVariants.{Item};
 ghost use Rattle.sdd_store.specs.Time as time;
 ghost use Rattle.sdd_store.specs.Table.{entry_at, IsEmptyAt, IsFull};
 ghost use Rattle.sdd_base.specs.Holding.{AreOf, ValuesAreOf};
 ghost use Rattle.sdd_base.specs.Seat.{seat_for, IsSeated, IsExact};
 ghost use Rattle.sdd_base.specs.Own.{GrowsOn};
 ghost use Rattle.sdd_base.specs.Owned.{slots_home, cells_home, holding_of, cell_holding};
-ghost use Rattle.sdd_base.specs.World.{World, IsBlank, weight, KeepsSizes, place_at, pointer_at, standing_at, value_at, HasPlace, IsPlaceOf};
-ghost use Rattle.sdd_base.specs.Steps.{made_as, with_standing, with_value, dropped, retired, owner_given, with_cell, with_pointer, pointing, without_cell, cell_closed, given, given_all, slot_reclaimed, all_reclaimed, rotated, settled, opened, reclaims, changed, nested, closed, stirred, accelerated, registered, ended};
+ghost use Rattle.sdd_base.specs.World.{World, IsBlank, most, weight, KeepsSizes, place_at, pointer_at, standing_at, value_at, HasPlace, IsPlaceOf};
+ghost use Rattle.sdd_base.specs.Steps.{made_as, with_standing, with_value, dropped, retired, owner_given, with_cell, with_pointer, pointing, without_cell, cell_closed, given, given_all, deferred, slot_reclaimed, reclaimed, all_reclaimed, rotated, settled, opened, reclaims, changed, nested, closed, stirred, accelerated, registered, ended};
 ghost use Rattle.sdd_base.specs.Out.{IsNullCell};
 ghost use Rattle.sdd_base.specs.InPlace.{MayInPlace, RefusedInPlace};
 ghost use Rattle.sdd_base.specs.Whole.{IsWhole};
@@ -32,21 +31,22 @@ use sdd_base::{AtomicOwned, AtomicRaw, AtomicShared, Giver, Item, Owned, Ptr, Sh
 use sdd_core::{Refused, Tag};
 use sdd_places::{Stage, Tenure, Tenures};
 use sdd_slots::{Cells, MOST_OWNERS, Slots};
-use sdd_store::{Cell, Pace, Pointer, Standing, Tally, Time};
+use sdd_store::{Cell, Job, Jobs, Pace, Pointer, Standing, Tally, Time, What};
 use sdd_token::{Kind, RawRight, Right, Shares};
 use std::alloc::{AllocError, Global};
 use std::marker::Model;
 
 /// The items and cells of a world, and those who wait with them.
-pub struct Core<T: Item<T>> {
+pub struct Core<T: Item<T>, J: Job> {
     time: Time,
     slots: Slots<T>,
     cells: Cells,
+    jobs: Jobs<J>,
     tenures: Tenures,
     tally: Tally,
 }
 
-impl<T: Item<T>> Model for Core<T> {
+impl<T: Item<T>, J: Job> Model for Core<T, J> {
     ghost use Rattle.sdd_world.specs.Core.{Core, IsSound};
 
     ghost Value = { Core T };
@@ -59,15 +59,16 @@ impl<T: Item<T>> Model for Core<T> {
         values = c.slots.values;
         cells = c.cells.cells;
         pointers = c.cells.pointers;
+        jobs = c.jobs;
         tally = c.tally;
       };
       lending = record { stakes = c.slots.stakes; tenures = c.tenures };
     } };
 
-    ghost invariant = { λ c. IsSound T.holds c.time c.slots c.cells c.tenures };
+    ghost invariant = { λ c. IsSound T.holds c.time c.slots c.cells c.jobs c.tenures };
 }
 
-impl<T: Item<T>> Core<T> {
+impl<T: Item<T>, J: Job> Core<T, J> {
     /// No slot is free.
     pub fn is_full(&self) -> bool
         ensures { IsTrue result ↔ IsFull self.now.world.standings }
@@ -187,9 +188,24 @@ impl<T: Item<T>> Core<T> {
         let slot = right.number();
         let is_last = self.slots.let_go(right, kind);
         if is_last {
-            self.time.wait(place, slot);
+            self.time.wait(place, What::Item(slot));
         }
         is_last
+    }
+
+    /// A job waits with a place, if a place of the table of jobs is free, and which that is is told; else it comes back.
+    pub fn defer(&mut self, place: usize, job: J) -> Result<u32, J>
+        requires place { IsPlaceOf self.old.world place }
+        ensures deferred { MatchResult result
+            (λ number. IsEmptyAt self.old.world.jobs number × (self.new ≡ record self.old { world = deferred self.old.world place number }))
+            (λ back. IsFull self.old.world.jobs × (back ≡ job) × (self.new ≡ self.old)) }
+        ensures sizes { KeepsSizes self.old.world self.new.world }
+        ensures whole { IsWhole self.old.world → IsWhole self.new.world }
+        ensures lent { IsWhole self.old.world → AreLent self.old → AreLent self.new }
+    {
+        let number = self.jobs.put(job)?;
+        self.time.wait(place, What::Job(number));
+        Ok(number)
     }
 
     /// The item of an owner of this kind waits at some place that isn't free, if it was the last.
@@ -494,12 +510,12 @@ impl<T: Item<T>> Core<T> {
 }
 
 /// Retires for a place what it is given.
-struct Retirement<'c, T: Item<T>> {
-    core: &'c mut Core<T>,
+struct Retirement<'c, T: Item<T>, J: Job> {
+    core: &'c mut Core<T, J>,
     place: usize,
 }
 
-impl<T: Item<T>> Drop for Retirement<'_, T> {
+impl<T: Item<T>, J: Job> Drop for Retirement<'_, T, J> {
     fn drop(self)
         ensures { self.exit.0.now ≡ self.entry.core.now }
     {
@@ -507,7 +523,7 @@ impl<T: Item<T>> Drop for Retirement<'_, T> {
     }
 }
 
-impl<T: Item<T>> Giver<T> for Retirement<'_, T> {
+impl<T: Item<T>, J: Job> Giver<T> for Retirement<'_, T, J> {
     ghost world = { λ r. r.core.now.world };
 
     ghost seat = { λ r. seat_for r.core.now.world r.place r.core.ghost_name };
@@ -587,7 +603,7 @@ impl<T: Item<T>> Giver<T> for Retirement<'_, T> {
     }
 }
 
-impl<T: Item<T>> Core<T> {
+impl<T: Item<T>, J: Job> Core<T, J> {
     /// A value that was taken out of its slot gives up to a place what it holds.
     fn give_up(&mut self, place: usize, value: T)
         requires place { HasPlace self.old.world place }
@@ -599,9 +615,9 @@ impl<T: Item<T>> Core<T> {
     }
 
     /// An item that waited is reclaimed, and its value gives up to the place what it holds.
-    fn reclaim(&mut self, place: usize, slot: u32)
+    fn reclaim_item(&mut self, place: usize, slot: u32)
         requires place { HasPlace self.old.world place }
-        requires room { weight self.old.world < length self.old.world.standings }
+        requires room { weight self.old.world < most self.old.world }
         requires home { IsHome self.old.lending.stakes slot }
         ensures { self.new ≡ record self.old { world = slot_reclaimed T.holds self.old.world place slot } }
     {
@@ -610,6 +626,19 @@ impl<T: Item<T>> Core<T> {
         };
         self.tally.count_reclaimed();
         self.give_up(place, value);
+    }
+
+    /// An item that waited is reclaimed, or a job that waited runs.
+    fn reclaim(&mut self, place: usize, what: What)
+        requires place { HasPlace self.old.world place }
+        requires room { weight self.old.world < most self.old.world }
+        requires home { (k : ℕ) → what ≡ Item k → IsHome self.old.lending.stakes k }
+        ensures { self.new ≡ record self.old { world = reclaimed T.holds self.old.world place what } }
+    {
+        match what {
+            What::Item(slot) => self.reclaim_item(place, slot),
+            What::Job(number) => self.jobs.run(number),
+        }
     }
 
     /// An owner that is alone drops its item in its place, whose value gives up to the place what it holds.
@@ -628,33 +657,33 @@ impl<T: Item<T>> Core<T> {
         self.give_up(place, value);
     }
 
-    fn reclaim_all(&mut self, place: usize, due: &[u32])
+    fn reclaim_all(&mut self, place: usize, due: &[What])
         requires place { HasPlace self.old.world place }
-        requires room { weight self.old.world + length due.now ≤ length self.old.world.standings }
-        requires home { (k : ℕ) → Contains due.now k → IsHome self.old.lending.stakes k }
-        ensures reclaimed { self.new ≡ record self.old { world = all_reclaimed T.holds self.old.world place (map Item due.now) } }
+        requires room { weight self.old.world + length due.now ≤ most self.old.world }
+        requires home { (k : ℕ) → Contains due.now (Item k) → IsHome self.old.lending.stakes k }
+        ensures reclaimed { self.new ≡ record self.old { world = all_reclaimed T.holds self.old.world place due.now } }
         ensures sizes { KeepsSizes self.old.world self.new.world }
     {
-        for slot in due {
-            self.reclaim(place, *slot);
+        for what in due {
+            self.reclaim(place, *what);
         }
     }
 
     /// Opens one more guard of a place, and answers its part of the place's tenure. For a change an empty bag is lent.
-    pub fn open(&mut self, place: usize, spare: &mut Vec<u32>) -> Tenure
+    pub fn open(&mut self, place: usize, spare: &mut Vec<What>) -> Tenure
         requires place { IsPlaceOf self.old.world place }
         requires few { time.CanNest self.old.world.time place }
         requires whole { IsWhole self.old.world }
         requires lent { AreLent self.old }
         requires empty { spare.old.items ≡ [] }
-        requires reserved { length self.old.world.standings ≤ vec_capacity spare.old }
+        requires reserved { most self.old.world ≤ vec_capacity spare.old }
         ensures opened { self.new.world ≡ opened T.holds self.old.world place }
         ensures sizes { KeepsSizes self.old.world self.new.world }
         ensures whole { IsWhole self.new.world }
         ensures lent { AreLent self.new }
         ensures part { IsPartAt self.old.world.home.readers place result }
         ensures empty { spare.new.items ≡ [] }
-        ensures reserved { length self.new.world.standings ≤ vec_capacity spare.new }
+        ensures reserved { most self.new.world ≤ vec_capacity spare.new }
     {
         let is_nested = self.time.is_open(place);
         self.enter(place, spare);
@@ -662,17 +691,17 @@ impl<T: Item<T>> Core<T> {
     }
 
     /// One more guard of a place is open. An outermost one that finds another count is a change.
-    fn enter(&mut self, place: usize, spare: &mut Vec<u32>)
+    fn enter(&mut self, place: usize, spare: &mut Vec<What>)
         requires place { IsPlaceOf self.old.world place }
         requires few { time.CanNest self.old.world.time place }
         requires home { (k : ℕ) → Contains (reclaims self.old.world place) (Item k) → IsHome self.old.lending.stakes k }
         requires empty { spare.old.items ≡ [] }
-        requires reserved { length self.old.world.standings ≤ vec_capacity spare.old }
+        requires reserved { most self.old.world ≤ vec_capacity spare.old }
         ensures opened { self.new ≡ record self.old { world = opened T.holds self.old.world place } }
         ensures sizes { KeepsSizes self.old.world self.new.world }
         ensures whole { IsWhole self.old.world → IsWhole self.new.world }
         ensures empty { spare.new.items ≡ [] }
-        ensures reserved { length self.new.world.standings ≤ vec_capacity spare.new }
+        ensures reserved { most self.new.world ≤ vec_capacity spare.new }
     {
         if self.time.open(place) {
             self.change(place, spare);
@@ -696,15 +725,15 @@ impl<T: Item<T>> Core<T> {
     }
 
     /// A change of a place: what is due is reclaimed.
-    pub fn change(&mut self, place: usize, spare: &mut Vec<u32>)
+    pub fn change(&mut self, place: usize, spare: &mut Vec<What>)
         requires place { HasPlace self.old.world place }
         requires empty { spare.old.items ≡ [] }
-        requires reserved { length self.old.world.standings ≤ vec_capacity spare.old }
+        requires reserved { most self.old.world ≤ vec_capacity spare.old }
         requires home { (k : ℕ) → Contains (time.due_next (place_at self.old.world place)) (Item k) → IsHome self.old.lending.stakes k }
         ensures changed { self.new ≡ record self.old { world = changed T.holds self.old.world place } }
         ensures sizes { KeepsSizes self.old.world self.new.world }
         ensures empty { spare.new.items ≡ [] }
-        ensures reserved { length self.new.world.standings ≤ vec_capacity spare.new }
+        ensures reserved { most self.new.world ≤ vec_capacity spare.new }
     {
         if self.time.is_clear(place) {
             self.catch_up(place);
@@ -713,15 +742,15 @@ impl<T: Item<T>> Core<T> {
         }
     }
 
-    fn reclaim_due(&mut self, place: usize, spare: &mut Vec<u32>)
+    fn reclaim_due(&mut self, place: usize, spare: &mut Vec<What>)
         requires place { HasPlace self.old.world place }
         requires empty { spare.old.items ≡ [] }
-        requires reserved { length self.old.world.standings ≤ vec_capacity spare.old }
+        requires reserved { most self.old.world ≤ vec_capacity spare.old }
         requires home { (k : ℕ) → Contains (time.due_next (place_at self.old.world place)) (Item k) → IsHome self.old.lending.stakes k }
         ensures changed { self.new ≡ record self.old { world = changed T.holds self.old.world place } }
         ensures sizes { KeepsSizes self.old.world self.new.world }
         ensures empty { spare.new.items ≡ [] }
-        ensures reserved { length self.new.world.standings ≤ vec_capacity spare.new }
+        ensures reserved { most self.new.world ≤ vec_capacity spare.new }
     {
         self.rotate(place, spare);
         self.reclaim_all(place, spare.as_slice());
@@ -745,14 +774,14 @@ impl<T: Item<T>> Core<T> {
     }
 
     /// What has seen three changes comes out, into the empty bag that is handed in.
-    fn rotate(&mut self, place: usize, bag: &mut Vec<u32>)
+    fn rotate(&mut self, place: usize, bag: &mut Vec<What>)
         requires place { HasPlace self.old.world place }
         requires empty { bag.old.items ≡ [] }
-        requires reserved { length self.old.world.standings ≤ vec_capacity bag.old }
+        requires reserved { most self.old.world ≤ vec_capacity bag.old }
         ensures rotated { self.new ≡ record self.old { world = rotated self.old.world place } }
-        ensures taken { map Item bag.new.items ≡ time.due_next (place_at self.old.world place) }
-        ensures reserved { length self.old.world.standings ≤ vec_capacity bag.new }
-        ensures room { weight self.new.world + length bag.new.items ≤ length self.new.world.standings }
+        ensures taken { bag.new.items ≡ time.due_next (place_at self.old.world place) }
+        ensures reserved { most self.old.world ≤ vec_capacity bag.new }
+        ensures room { weight self.new.world + length bag.new.items ≤ most self.new.world }
         ensures sizes { KeepsSizes self.old.world self.new.world }
     {
         self.time.rotate(place, bag);
@@ -902,6 +931,7 @@ impl<T: Item<T>> Core<T> {
             time: _,
             slots,
             cells,
+            jobs: _,
             tenures: _,
             tally,
         } = self;
@@ -917,15 +947,17 @@ impl<T: Item<T>> Core<T> {
         participants: u32,
         slots: u32,
         cells: u32,
-    ) -> Result<Core<T>, AllocError>
+        jobs: u32,
+    ) -> Result<Core<T, J>, AllocError>
         requires idle { time.places ≡ [] }
-        requires room { time.room ≡ slots }
+        requires room { time.room ≡ slots + jobs }
         requires participants { time.participants ≡ participants }
         requires nesting { time.nesting < 2 ^ 32 }
-        ensures blank { IfOk result (λ core. IsBlank time slots cells core.world) }
+        ensures blank { IfOk result (λ core. IsBlank time slots cells jobs core.world) }
         ensures lent { IfOk result AreLent }
     {
         let tenures = Tenures::new(alloc, participants as usize)?;
+        let jobs = Jobs::new(alloc, jobs)?;
         let mut slots = Slots::new(alloc, slots, participants)?;
         let cells = match Cells::new(alloc, cells, slots.badge()) {
             Ok(cells) => cells,
@@ -938,6 +970,7 @@ impl<T: Item<T>> Core<T> {
             time,
             slots,
             cells,
+            jobs,
             tenures,
             tally: Tally::new(),
         })
@@ -949,6 +982,7 @@ impl<T: Item<T>> Core<T> {
             (λ e. ((e ≡ Refused.NoPlace) × time.IsCrowded self.old.world.time ⊎ (e ≡ Refused.NoMemory) × ¬ (time.IsCrowded self.old.world.time))
             × (self.new ≡ self.old)) }
         ensures slots { (length self.new.world.standings ≡ length self.old.world.standings) × (self.new.world.home ≡ self.old.world.home) }
+        ensures jobs { self.new.world.jobs ≡ self.old.world.jobs }
         ensures whole { IsWhole self.old.world → IsWhole self.new.world }
         ensures lent { IsWhole self.old.world → AreLent self.old → AreLent self.new }
     {
@@ -960,6 +994,7 @@ impl<T: Item<T>> Core<T> {
         requires place { IsPlaceOf self.old.world place }
         ensures ended { self.new ≡ record self.old { world = ended self.old.world place } }
         ensures slots { (length self.new.world.standings ≡ length self.old.world.standings) × (self.new.world.home ≡ self.old.world.home) }
+        ensures jobs { self.new.world.jobs ≡ self.old.world.jobs }
         ensures whole { ¬ (IsTrue (time.is_open (place_at self.old.world place))) → IsWhole self.old.world → IsWhole self.new.world }
         ensures lent { ¬ (IsTrue (time.is_open (place_at self.old.world place))) → IsWhole self.old.world → AreLent self.old → AreLent self.new }
     {

@@ -7,16 +7,16 @@ ghost use Rattle.sdd_base.specs.Ptr.{shown_by};
 use crate::world::{Place, World};
 use sdd_base::{Guard, Guards, Item, Look, Ptr, RawPtr, Shows, Space, inner};
 use sdd_core::{Refused, Tag};
-use sdd_store::{Cell, Pointer};
+use sdd_store::{Cell, Idle, Job, Pointer};
 use sdd_token::{Kind, RawRight, Right};
 
 /// One participant's turn at a world: the space in which it makes its calls.
-pub struct Turn<'w, T: Item<T>> {
-    world: &'w mut World<T>,
+pub struct Turn<'w, T: Item<T>, J: Job = Idle> {
+    world: &'w mut World<T, J>,
     place: usize,
 }
 
-impl<T: Item<T>> Drop for Turn<'_, T> {
+impl<T: Item<T>, J: Job> Drop for Turn<'_, T, J> {
     fn drop(self)
         ensures { self.exit.0.now ≡ self.entry.world.now }
     {
@@ -24,9 +24,9 @@ impl<T: Item<T>> Drop for Turn<'_, T> {
     }
 }
 
-impl<T: Item<T>> World<T> {
+impl<T: Item<T>, J: Job> World<T, J> {
     /// The turn of a participant of this world.
-    pub fn at(&mut self, place: &Place) -> Turn<'_, T>
+    pub fn at(&mut self, place: &Place) -> Turn<'_, T, J>
         requires place { IsPlaceOf self.old (index_of place.now) }
         ensures world { result.world.now ≡ self.old }
         ensures loan { result.world.ghost_name ≡ self.entry.ghost_name }
@@ -39,7 +39,7 @@ impl<T: Item<T>> World<T> {
     }
 }
 
-impl<T: Item<T>> Shows<T> for World<T> {
+impl<T: Item<T>, J: Job> Shows<T> for World<T, J> {
     ghost use Rattle.std.specs.Prelude.{◌≡◌, Some};
     ghost use Rattle.sdd_base.specs.World.{value_at};
 
@@ -52,7 +52,7 @@ impl<T: Item<T>> Shows<T> for World<T> {
     }
 }
 
-impl<T: Item<T>> Look<T> for World<T> {
+impl<T: Item<T>, J: Job> Look<T> for World<T, J> {
     fn value<'a>(&'a self, right: &'a Right) -> &'a T {
         self.core.value(right)
     }
@@ -66,7 +66,7 @@ impl<T: Item<T>> Look<T> for World<T> {
     ghost one_value = { λ w k u v a b. one_value w k u v a b };
 }
 
-impl<T: Item<T>> Shows<T> for Turn<'_, T> {
+impl<T: Item<T>, J: Job> Shows<T> for Turn<'_, T, J> {
     ghost use Rattle.std.specs.Prelude.{◌≡◌, Some};
     ghost use Rattle.sdd_base.specs.World.{value_at};
 
@@ -75,14 +75,14 @@ impl<T: Item<T>> Shows<T> for Turn<'_, T> {
     ghost shows = { λ t k value. value_at t.world.now k ≡ Some value };
 
     fn shown_is_of_home(&self) {
-        let world: &World<T> = self.world;
+        let world: &World<T, J> = self.world;
         world.core.values_are_of_home();
     }
 }
 
-impl<T: Item<T>> Look<T> for Turn<'_, T> {
+impl<T: Item<T>, J: Job> Look<T> for Turn<'_, T, J> {
     fn value<'a>(&'a self, right: &'a Right) -> &'a T {
-        let world: &World<T> = self.world;
+        let world: &World<T, J> = self.world;
         world.core.value(right)
     }
 
@@ -95,7 +95,7 @@ impl<T: Item<T>> Look<T> for Turn<'_, T> {
     ghost one_value = { λ t k u v a b. one_value t.world.now k u v a b };
 }
 
-impl<T: Item<T>> Guards<T> for Turn<'_, T> {
+impl<T: Item<T>, J: Job> Guards<T> for Turn<'_, T, J> {
     ghost use Rattle.std.specs.Prelude.{refl};
     ghost use Rattle.sdd_base.specs.Seat.{seat_on};
     ghost use Rattle.sdd_base.specs.World.{place_at};
@@ -147,12 +147,14 @@ impl<T: Item<T>> Guards<T> for Turn<'_, T> {
     ghost shows_is_value = { λ _ _ _ _. (λ h. h, λ h. h) };
 }
 
-impl<T: Item<T>> Space<T> for Turn<'_, T> {
+impl<T: Item<T>, J: Job> Space<T> for Turn<'_, T, J> {
     ghost use Rattle.std.specs.Prelude.{true};
 
     const ALONE: bool = true;
 
     ghost is_alone = { true };
+
+    type Job = J;
 
     fn make(&mut self, value: T, kind: Kind) -> Result<Right, (T, Refused)> {
         let world = &mut *self.world;
@@ -190,6 +192,14 @@ impl<T: Item<T>> Space<T> for Turn<'_, T> {
     fn upgrade(&mut self, slot: u32) -> Result<Option<Right>, Refused> {
         let world = &mut *self.world;
         world.core.upgrade(slot)
+    }
+
+    fn defer(&mut self, job: J) -> Result<u32, (J, Refused)> {
+        let world = &mut *self.world;
+        match world.core.defer(self.place, job) {
+            Ok(number) => Ok(number),
+            Err(job) => Err((job, Refused::NoJob)),
+        }
     }
 
     fn let_go(&mut self, right: Right, kind: Kind) -> bool {

@@ -1,7 +1,6 @@
 ghost use Rattle.std.specs.Prelude.{◌≡◌, ◌≢◌, ℕ, ◌+◌, ◌<◌, ◌≤◌, ◌⊎◌, [], false, map, length, Some, None, Option, IfOk, IfSome, MatchOption, MatchResult, IsSome, IsTrue, ◌↔◌};
 ghost use Rattle.sdd_token.specs.Right.{number_of, home_of, kind_of};
 ghost use Rattle.sdd_slots.specs.Slots.{IsOwnedBy};
-ghost use Rattle.sdd_store.specs.Waiting.What.{Item};
 ghost use Rattle.sdd_store.specs.Time.{CanNest, phase_at, IsVacant, IsCrowded, is_open, due_next};
 ghost use Rattle.sdd_store.specs.Table.{IsEmptyAt, IsFull};
 ghost use Rattle.sdd_base.specs.Holding.{AreOf};
@@ -19,7 +18,7 @@ mod laws;
 use crate::inside::Core;
 use sdd_base::{Guard, Item, Limits, inner};
 use sdd_core::Refused;
-use sdd_store::{Standing, Tally, Time};
+use sdd_store::{Idle, Job, Standing, Tally, Time, What};
 use sdd_token::{Kind, Right};
 use std::alloc::Global;
 use std::marker::Model;
@@ -27,15 +26,15 @@ use std::marker::Model;
 /// All that the participants of one thread share: items, cells, and the epoch.
 ///
 /// A world must be spent by `close`.
-pub struct World<T: Item<T>> {
-    pub(crate) core: Core<T>,
-    pub(crate) spare: Vec<u32>,
+pub struct World<T: Item<T>, J: Job = Idle> {
+    pub(crate) core: Core<T, J>,
+    pub(crate) spare: Vec<What>,
     alloc: Global,
 }
 
-impl<T: Item<T>> Model for World<T> {
+impl<T: Item<T>, J: Job> Model for World<T, J> {
     ghost use Rattle.std.specs.Prelude.{◌≡◌, ◌≤◌, [], length, vec_capacity};
-    ghost use Rattle.sdd_base.specs.World.{World};
+    ghost use Rattle.sdd_base.specs.World.{World, most};
     ghost use Rattle.sdd_base.specs.Whole.{IsWhole};
     ghost use Rattle.sdd_world.specs.Lending.{AreLent};
 
@@ -43,7 +42,7 @@ impl<T: Item<T>> Model for World<T> {
 
     ghost view = { λ w. w.core.world };
 
-    ghost invariant = { λ w. (w.spare.items ≡ []) × (length w.core.world.standings ≤ vec_capacity w.spare) × IsWhole w.core.world × AreLent w.core };
+    ghost invariant = { λ w. (w.spare.items ≡ []) × (most w.core.world ≤ vec_capacity w.spare) × IsWhole w.core.world × AreLent w.core };
 }
 
 /// A participant of a world.
@@ -63,13 +62,13 @@ impl Place {
     }
 }
 
-impl<T: Item<T>> World<T> {
+impl<T: Item<T>, J: Job> World<T, J> {
     ghost use Rattle.sdd_world.specs.Place.{index_of};
 
     /// A world that starts at epoch 0.
     ///
     /// `BadLimits` where a limit is out of its range; `NoMemory` where the memory for all items and cells was refused.
-    pub fn new(alloc: Global, limits: Limits) -> Result<World<T>, Refused>
+    pub fn new(alloc: Global, limits: Limits) -> Result<World<T, J>, Refused>
         ensures new { IfOk result (IsNew limits 0) }
         ensures spent { IfOk result (λ world. ¬ (IsGuarded world) × (out world ≡ 0)) }
         ensures limits { MatchResult result (λ _. AreInRange limits)
@@ -81,7 +80,7 @@ impl<T: Item<T>> World<T> {
     /// A world that starts at a count of epochs, of which epochs show the last six bits.
     ///
     /// Refusals are those of `new`.
-    pub fn starting_at(alloc: Global, limits: Limits, count: u64) -> Result<World<T>, Refused>
+    pub fn starting_at(alloc: Global, limits: Limits, count: u64) -> Result<World<T, J>, Refused>
         ensures new { IfOk result (IsNew limits count) }
         ensures spent { IfOk result (λ world. ¬ (IsGuarded world) × (out world ≡ 0)) }
         ensures limits { MatchResult result (λ _. AreInRange limits)
@@ -90,20 +89,22 @@ impl<T: Item<T>> World<T> {
         if !limits.are_in_range() {
             return Err(Refused::BadLimits);
         }
+        let most = (limits.slots + limits.jobs) as usize;
         let time = Time::new(
             alloc,
             count,
             limits.participants as usize,
             limits.nesting as u32,
-            limits.slots as usize,
+            most,
         )?;
-        let spare = Vec::with_capacity(alloc, limits.slots as usize)?;
+        let spare = Vec::with_capacity(alloc, most)?;
         let core = Core::new(
             alloc,
             time,
             limits.participants as u32,
             limits.slots as u32,
             limits.cells as u32,
+            limits.jobs as u32,
         )?;
         Ok(World { core, spare, alloc })
     }
@@ -212,10 +213,10 @@ impl<T: Item<T>> World<T> {
         self.core.time()
     }
 
-    /// The slots whose items the next opening of a place reclaims.
-    pub(crate) fn reclaims(&self, place: usize) -> &[u32]
+    /// The items that the next opening of a place reclaims, and the jobs that it runs.
+    pub(crate) fn reclaims(&self, place: usize) -> &[What]
         requires { IsPlaceOf self.now place }
-        ensures { map Item result.now ≡ reclaims self.now place }
+        ensures { result.now ≡ reclaims self.now place }
     {
         let time = self.core.time();
         if time.is_open(place) || !time.finds_another(place) {

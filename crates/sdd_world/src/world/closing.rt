@@ -8,17 +8,17 @@ ghost use Rattle.sdd_world.specs.Closing.{NothingIsOut, aged_out, all_aged_out, 
 use super::World;
 use sdd_base::Item;
 use sdd_core::Refused;
-use sdd_store::Tally;
+use sdd_store::{Job, Tally};
 
-impl<T: Item<T>> World<T> {
+impl<T: Item<T>, J: Job> World<T, J> {
     /// Ends the world: reclaims what waits, with what it gives up in turn, and answers the tally. Participants need not have ended.
     /// What ended ones left is reclaimed too.
     ///
     /// `GuardOpen` where a guard of some participant is open: nothing has changed. `OwnerOut` where an owner or a cell is still out: what waited
     /// has been reclaimed. With either the world comes back.
-    pub fn close(mut self) -> Result<Tally, (World<T>, Refused)>
+    pub fn close(mut self) -> Result<Tally, (World<T, J>, Refused)>
         ensures closed { MatchResult result
-            (λ tally. ¬ (IsGuarded self) × ((end : World T) × Closes T.holds self end × NothingIsOut end × (tally ≡ end.tally)))
+            (λ tally. ¬ (IsGuarded self) × ((end : World T J) × Closes T.holds self end × NothingIsOut end × (tally ≡ end.tally)))
             (λ e. ((e.1 ≡ Refused.GuardOpen) × IsGuarded self × (e.0 ≡ self)) ⊎
             ((e.1 ≡ Refused.OwnerOut) × ¬ (IsGuarded self) × Closes T.holds self e.0 × ¬ (NothingIsOut e.0))) }
         ensures exactly { IsOk result ↔ (¬ (IsGuarded self) × AllGo T.holds self) }

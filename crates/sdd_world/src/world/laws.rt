@@ -9,8 +9,9 @@ ghost use Rattle.sdd_base.specs.Under.{KeepsFreshUnderGuards, KeepsUnderGuards};
 
 use super::World;
 use sdd_base::Item;
+use sdd_store::Job;
 
-impl<T: Item<T>> World<T> {
+impl<T: Item<T>, J: Job> World<T, J> {
     /// What the parts of a world keep true of each other: a value where a slot is taken, each item that waits once, each participant abreast of the
     /// count, each item accounted for.
     pub fn is_whole(&self)
@@ -21,7 +22,7 @@ impl<T: Item<T>> World<T> {
 
     /// What each call puts out of the world's hands, and what it takes back.
     pub fn counts_what_is_out(&self)
-        ensures { (w : World T) → OutLaws T.holds w }
+        ensures { (w : World T J) → OutLaws T.holds w }
     {}
 
     /// After how many openings of its holder an item that waits is reclaimed at latest.

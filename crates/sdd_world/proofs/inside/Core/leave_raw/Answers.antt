@@ -2,7 +2,7 @@ use Rattle.std.proofs.Common.{◌≡◌, ℕ, Option, Some, None, ap, ◌∙◌}
 use Rattle.std.proofs.lemmas.List.{set-set, get_or-set_same}
 use Rattle.sdd_store.specs.Table.{Entries}
 use Rattle.sdd_store.specs.Time as time
-use Rattle.sdd_store.specs.Waiting.What.{Item}
+use Rattle.sdd_store.specs.declared.waiting.What.TheVariants.{Item}
 use Rattle.sdd_store.specs.declared.standing.Standing.{Standing}
 use Rattle.sdd_store.specs.declared.standing.Standing.TheVariants.{Owned, Raw, Retired}
 use Rattle.sdd_base.specs.Steps.{owner_given, retired, with_standing}

@@ -6,6 +6,7 @@ use Rattle.sdd_store.specs.Time as time
 use Rattle.sdd_places.specs.Tenures.{Tenures}
 use Rattle.sdd_slots.specs.Slots.{Slots}
 use Rattle.sdd_slots.specs.Cells.{Cells}
+use Rattle.sdd_store.specs.Table.{Entries}
 use Rattle.sdd_base.specs.Holding.{Holding}
 use Rattle.sdd_base.specs.Lending.{Lending}
 use Rattle.sdd_world.specs.Core.{IsSound}
@@ -31,9 +32,9 @@ lends holds w t l (Ok p) h n i k = rw h.1 (lent-registered holds w l p h.0 n i k
 lends holds w t l (Err e) h n i k = rw h k
 
 -- there is room for what waits, as before
-sound : {T : Type 0} (holds : T → List Holding) (t u : Time) (s : Slots T) (c : Cells) (r : Tenures) (answer : Result ℕ Refused) →
-    MatchResult answer (λ p. IsVacant t p × (u ≡ time.registered t p)) (λ _. u ≡ t) → IsSound holds t s c r → IsSound holds u s c r
-sound holds t u s c r (Ok p) h i =
+sound : {T : Type 0} (holds : T → List Holding) (t u : Time) (s : Slots T) (c : Cells) (jobs : Entries (Unit {0})) (r : Tenures) (answer : Result ℕ Refused) →
+    MatchResult answer (λ p. IsVacant t p × (u ≡ time.registered t p)) (λ _. u ≡ t) → IsSound holds t s c jobs r → IsSound holds u s c jobs r
+sound holds t u s c jobs r (Ok p) h i =
     let a = registered-adds t p in
     rw h.1 (record {
       counted = omega (arith, i.counted, a.waiting);
@@ -44,11 +45,11 @@ sound holds t u s c r (Ok p) h i =
       tenures = i.tenures;
       readers = i.readers;
     })
-sound holds t u s c r (Err e) h i = rw h i
+sound holds t u s c jobs r (Err e) h i = rw h i
 
 pub invariant_of-self : goal.invariant_of-self
 invariant_of-self g c =
-    sound g.T.Item.holds c.self.inside.time c.register.new.self c.self.inside.slots c.self.inside.cells c.self.inside.tenures c.register.result
+    sound g.T.Item.holds c.self.inside.time c.register.new.self c.self.inside.slots c.self.inside.cells c.self.inside.jobs c.self.inside.tenures c.register.result
     c.register.ensures.registered
     c.self.invariant
 

@@ -12,14 +12,14 @@ invariant_of-world g c =
     let i = c.world.invariant in
     let seated = rw (← c.world.view_is) at c.requires.seated in
     let some = ap is_some (live-is c.world.inside.core.world.time c.args.self.now.place seated) in
-    (i.0, omega (arith, i.1, c.let_go.ensures.sizes.slots), c.let_go.ensures.whole some i.2, c.let_go.ensures.lent i.3)
+    (i.0, omega (arith, i.1, c.let_go.ensures.sizes.slots, c.let_go.ensures.sizes.jobs), c.let_go.ensures.whole some i.2, c.let_go.ensures.lent i.3)
 
 pub invariant_of-world-in-None : goal.invariant_of-world-in-None
 invariant_of-world-in-None g c =
     let i = c.world.invariant in
     let seated = rw (← c.world.view_is) at c.requires.seated in
     let some = ap is_some (live-is c.world.inside.core.world.time c.args.self.now.place seated) in
-    (i.0, omega (arith, i.1, c.drop_in_place.ensures.sizes.slots), c.drop_in_place.ensures.whole some i.2, c.drop_in_place.ensures.lent)
+    (i.0, omega (arith, i.1, c.drop_in_place.ensures.sizes.slots, c.drop_in_place.ensures.sizes.jobs), c.drop_in_place.ensures.whole some i.2, c.drop_in_place.ensures.lent)
 
 pub returns-in-None-clause-own : goal.returns-in-None-clause-own
 returns-in-None-clause-own g c =

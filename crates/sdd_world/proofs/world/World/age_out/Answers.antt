@@ -29,7 +29,7 @@ invariant_of-self g c =
     let sizes = rw (c.set_pace.ensures.paced, c.pace-pace.ensures, c.time.ensures, ← c.self.view_is, c.change.ensures.changed)
     at (KeepsSizes-trans c.change.ensures.sizes c.set_pace.ensures.sizes) in (
       c.change.ensures.empty,
-      omega (arith, c.change.ensures.reserved, c.set_pace.ensures.sizes.slots),
+      omega (arith, c.change.ensures.reserved, c.set_pace.ensures.sizes.slots, c.set_pace.ensures.sizes.jobs),
       rw (c.set_pace.ensures.paced, c.pace-pace.ensures, c.time.ensures, ← c.self.view_is, c.change.ensures.changed)
           (Whole-paced (changed holds w p) p (pace_of (place_at w p)) still (abreast-paced holds w p l (items whole)) (Whole-changed holds w p taken whole)),
       rw (c.set_pace.ensures.paced, c.pace-pace.ensures, c.time.ensures, ← c.self.view_is, c.change.ensures.changed)

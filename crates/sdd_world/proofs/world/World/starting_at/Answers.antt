@@ -1,4 +1,9 @@
-use Rattle.std.proofs.Common.{ap, ◌∙◌, arith}
+use Rattle.std.proofs.Common.{ap, sym, ◌∙◌, arith, Option, sum_by}
+use Rattle.sdd_store.specs.Table.{Entries, entry_at}
+use Rattle.sdd_store.specs.declared.standing.Standing.{Standing}
+use Rattle.sdd_slots.specs.Slots.{is_waiting}
+use Rattle.sdd_base.specs.Whole.{times_with, once_if}
+use Rattle.sdd_base.proofs.Accounts.{blank-at}
 use Rattle.std.proofs.lemmas.Grind.{common_steps}
 use Rattle.sdd_base.proofs.Housed.{housed-none}
 use Rattle.sdd_world.proofs.world.World.starting_at.Goals as goal
@@ -11,7 +16,10 @@ invariant_of-result g c =
       grind (arith, common_steps),
       record {
         filled = grind (arith, common_steps);
-        once = grind (arith, common_steps);
+        once = λ k.
+            let idle = ap (λ t. sum_by (times_with k) t.places) time in
+            let free = ap (λ (ss : Entries Standing). entry_at ss k) new.standings ∙ blank-at _ k in
+            idle ∙ sym (ap (λ (s : Option Standing). once_if (is_waiting s)) free);
         abreast = grind (arith, common_steps);
         housed = housed-none c.in_ok-core.core.world.time (ap (λ t. t.places) time) (ap (λ t. t.phases) time);
         counted = grind (arith, common_steps);

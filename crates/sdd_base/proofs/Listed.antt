@@ -1,0 +1,103 @@
+-- How often something waits, counted over what waits: what changes one place, an age or a holder makes of it
+use Rattle.std.proofs.Common.{zero-add, ◌≡◌, ℕ, ◌+◌, ◌<◌, List, [], ◌∷◌, ◌++◌, length, cond, Bool, refl, sym, ap, ◌∙◌, arith, true, false, nat_lt, sum_by, count_by}
+use Rattle.std.specs.Prelude.{◌-◌, ◌==◌, map, if◌then◌else◌}
+use Rattle.std.proofs.lemmas.Bool.Decides.{nat_tests}
+use Rattle.std.proofs.lemmas.List.Sums.{sum_by-set, sum_by-append, sum_by-cons}
+use Rattle.sdd_store.proofs.Adopting.{IsAdditive, scans-if, scans-there}
+use Rattle.sdd_store.specs.declared.waiting.What.{What}
+use Rattle.sdd_store.specs.Waiting.{Waiting, anew, fresh, aged, left, due, older, is_due}
+use Rattle.sdd_store.specs.Time.{Time, IsLive, with_place, nobody, newcomer, is_open, rested}
+use Rattle.sdd_store.specs.Time as time
+use Rattle.sdd_store.specs.declared.time.Participant.{Participant}
+
+pub count-cons : {X : Type 0} (p : X → Bool) (x : X) (xs : List X) → count_by p (x ∷ xs) ≡ cond (p x) 1 0 + count_by p xs
+count-cons p x xs = sum_by-cons (λ x. cond (p x) 1 0) x xs
+
+module _ (of : What → Bool) where
+  -- how often it is among these
+  abbrev pub listed : List Waiting → ℕ
+  listed ws = count_by (λ (w : Waiting). of w.what) ws
+
+  -- and how often it waits with a participant
+  abbrev pub listed_with : Participant → ℕ
+  listed_with p = listed p.bags.waiting
+
+  -- one place changes
+  pub listed-place : (t : Time) (p : ℕ) (x : Participant) → p < length t.places →
+      sum_by listed_with (with_place t p x).places + listed_with (time.place_at t p) ≡ sum_by listed_with t.places + listed_with x
+  listed-place t p x l = sum_by-set listed_with t.places p x nobody l
+
+  pub listed-same : (t : Time) (p : ℕ) (x : Participant) → p < length t.places → x.bags.waiting ≡ (time.place_at t p).bags.waiting →
+      sum_by listed_with (with_place t p x).places ≡ sum_by listed_with t.places
+  listed-same t p x l e =
+      let same : listed_with x ≡ listed_with (time.place_at t p) = ap listed e in
+      omega (arith, listed-place t p x l, same)
+
+  -- something begins to wait
+  pub listed-awaiting : (what : What) (x : Participant) → listed_with (time.awaiting what x) ≡ listed_with x + cond (of what) 1 0
+  listed-awaiting what x =
+      sum_by-append (λ (w : Waiting). cond (of w.what) 1 0) x.bags.waiting (fresh what ∷ [])
+      ∙ ap (λ n. listed_with x + n) (zero-add (cond (of what) 1 0))
+
+  -- after a change, what waited is left or due
+  listed-aged-cons : (w : Waiting) (ws : List Waiting) → listed (left (aged ws)) + count_by of (due (aged ws)) ≡ listed ws →
+      (b : Bool) → is_due (older w) ≡ b → listed (left (aged (w ∷ ws))) + count_by of (due (aged (w ∷ ws))) ≡ listed (w ∷ ws)
+  listed-aged-cons w ws h true e =
+      let all = count-cons (λ (w : Waiting). of w.what) w ws in
+      let some = count-cons of w.what (due (aged ws)) in
+      rw e (omega (arith, h, all, some))
+  listed-aged-cons w ws h false e =
+      let all = count-cons (λ (w : Waiting). of w.what) w ws in
+      let some = count-cons (λ (w : Waiting). of w.what) (older w) (left (aged ws)) in
+      rw e (omega (arith, h, all, some))
+
+  pub listed-aged : (ws : List Waiting) → listed (left (aged ws)) + count_by of (due (aged ws)) ≡ listed ws
+  listed-aged [] = refl
+  listed-aged (w ∷ ws) = listed-aged-cons w ws (listed-aged ws) (is_due (older w)) refl
+
+  -- an adoption moves all that waits, and loses nothing
+  listed-anew : (ws : List Waiting) → listed (map anew ws) ≡ listed ws
+  listed-anew [] = refl
+  listed-anew (w ∷ ws) =
+      let one = count-cons (λ (w : Waiting). of w.what) w ws in
+      let other = count-cons (λ (w : Waiting). of w.what) (anew w) (map anew ws) in
+      omega (arith, one, other, listed-anew ws)
+
+  pub listed-additive : IsAdditive listed
+  listed-additive =
+      record {
+        none = refl;
+        both = λ xs ys. sum_by-append (λ (w : Waiting). cond (of w.what) 1 0) xs (map anew ys) ∙ ap (λ n. listed xs + n) (listed-anew ys);
+      }
+
+  -- a close of a guard moves what waits, and loses nothing
+  listed-last : (t : Time) (p : ℕ) → IsLive t p → (b : Bool) → sum_by listed_with (if b then time.left_by t p else t).places ≡ sum_by listed_with t.places
+  listed-last t p l true =
+      let scans = (time.place_at t p).countdown == 0 in
+      let u : Time = if scans then time.scanned t p else t in
+      let s = scans-if t p l scans in
+      listed-same u p (rested t.marked (time.place_at u p)) (scans-there l.0 s) refl
+      ∙ ap (λ (v : Time). sum_by listed_with v.places) s.is
+      ∙ s.adopting_first.totals listed listed-additive
+  listed-last t p l false = refl
+
+  listed-closed-if : (t : Time) (p : ℕ) → IsLive t p → (b : Bool) → nat_lt 1 (time.place_at t p).guards ≡ b →
+      sum_by listed_with (time.closed t p).places ≡ sum_by listed_with t.places
+  listed-closed-if t p l true e =
+      rw e (listed-same t p (record (time.place_at t p) { guards = (time.place_at t p).guards - 1 }) l.0 refl)
+  listed-closed-if t p l false e = rw e (listed-last t p l (is_open (time.place_at t p)))
+
+  pub listed-closed : (t : Time) (p : ℕ) → IsLive t p → sum_by listed_with (time.closed t p).places ≡ sum_by listed_with t.places
+  listed-closed t p l = listed-closed-if t p l (nat_lt 1 (time.place_at t p).guards) refl
+
+  -- a newcomer brings nothing that waits
+  listed-registered-if : (t : Time) (p : ℕ) → (p < length t.places → (time.place_at t p).bags.waiting ≡ []) → (b : Bool) → nat_lt p (length t.places) ≡ b →
+      sum_by listed_with (time.registered t p).places ≡ sum_by listed_with t.places
+  listed-registered-if t p bare true e =
+      let l : p < length t.places = grind (arith, nat_tests, e) in
+      rw e (listed-same t p (newcomer t.room) l (sym (bare l)))
+  listed-registered-if t p bare false e = rw e (omega (arith, sum_by-append listed_with t.places (newcomer t.room ∷ [])))
+
+  pub listed-registered : (t : Time) (p : ℕ) → (p < length t.places → (time.place_at t p).bags.waiting ≡ []) →
+      sum_by listed_with (time.registered t p).places ≡ sum_by listed_with t.places
+  listed-registered t p bare = listed-registered-if t p bare (nat_lt p (length t.places)) refl
