@@ -165,7 +165,7 @@ module _ {T : Type 0} where
 
   pub Whole-retires : (w : World T) (p k : ℕ) → IsTaken w.time p → is_out (standing_at w k) ≡ true → IsWhole w → IsWhole (retired w p k)
   Whole-retires w p k l out i =
-      with-places (whole.Items-retires w p k l.there out (items i)) (jobs.once-retired w p k l.there i.jobs_once) (housed-keeps w.time p (time.awaiting (Item k) (place_at w p)) l refl i.housed)
+      with-places (whole.Items-retires w p k l.there out (items i)) (jobs.once-retired w p k l.there out i.jobs_once) (housed-keeps w.time p (time.awaiting (Item k) (place_at w p)) l refl i.housed)
 
   -- an item that is shared has one owner more or fewer
   pub Whole-shared : (w : World T) (k n m : ℕ) → standing_at w k ≡ Some (Shared n) → IsWhole w → IsWhole (with_standing w k (Shared m))

@@ -14,6 +14,7 @@ pub mod RawCell
 pub mod Limits
 pub mod Lending
 pub mod Whole
+pub mod Jobs
 pub mod Out
 pub mod Calls
 pub mod Left

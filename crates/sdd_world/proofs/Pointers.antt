@@ -1,5 +1,5 @@
--- What is given up changes nothing that raw cells point to
-use Rattle.std.proofs.Common.{◌≡◌, ℕ, List, [], ◌∷◌, refl, ◌∙◌, Some, None, Option}
+-- What is given up changes nothing that raw cells point to, and makes and loses no place of the table of jobs
+use Rattle.std.proofs.Common.{◌≡◌, ℕ, List, [], ◌∷◌, length, refl, ◌∙◌, Some, None, Option}
 use Rattle.sdd_store.specs.declared.waiting.What.{What}
 use Rattle.sdd_store.specs.declared.waiting.What.TheVariants.{Item, Job}
 use Rattle.sdd_store.specs.Time.{due_next}
@@ -8,6 +8,7 @@ use Rattle.sdd_base.specs.World.{World, place_at, standing_at}
 use Rattle.sdd_base.specs.Steps.{given_all, freed, taken_out, waiting_value, reclaimed, all_reclaimed}
 use Rattle.sdd_base.specs.Steps as steps
 use Rattle.sdd_base.proofs.Opening.{keeps-given_all}
+use Rattle.sdd_base.proofs.Jobs.{length-all_reclaimed}
 use Rattle.sdd_world.specs.Closing.{aged_out, all_aged_out}
 
 module _ {T : Type 0} (holds : T → List Holding) where
@@ -33,3 +34,8 @@ module _ {T : Type 0} (holds : T → List Holding) where
   pub all_aged_out-pointers : (ps : List ℕ) (w : World T) → (all_aged_out holds w ps).pointers ≡ w.pointers
   all_aged_out-pointers [] w = refl
   all_aged_out-pointers (p ∷ ps) w = all_aged_out-pointers ps (aged_out holds w p) ∙ aged_out-pointers w p
+
+  pub all_aged_out-jobs : (ps : List ℕ) (w : World T) → length (all_aged_out holds w ps).jobs ≡ length w.jobs
+  all_aged_out-jobs [] w = refl
+  all_aged_out-jobs (p ∷ ps) w =
+      all_aged_out-jobs ps (aged_out holds w p) ∙ length-all_reclaimed holds (steps.rotated w p) p (due_next (place_at w p))

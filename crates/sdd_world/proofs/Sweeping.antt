@@ -22,7 +22,7 @@ use Rattle.sdd_base.specs.World.{World, standing_at, value_at, place_at}
 use Rattle.sdd_base.specs.Steps.{without_cell, spilled, cell_closed, held_in, owner_given, given, given_all, freed, taken_out, waiting_value, reclaimed, all_reclaimed, changed}
 use Rattle.sdd_base.specs.Steps as steps
 use Rattle.sdd_base.specs.Holding.{Holding, owned, shared, atomic_owned, atomic_shared, atomic_raw}
-use Rattle.sdd_base.specs.Whole.{times_with, taken, IsWhole}
+use Rattle.sdd_base.specs.Whole.{times_with, jobs_with, once_if, taken, IsWhole}
 use Rattle.sdd_base.specs.Accounts.{owner_count}
 use Rattle.sdd_world.specs.Closing.{NothingIsOut, aged_out, all_aged_out, Closes, Owner, Holder, holder, slot_owned, cell_held, with_fewer, held_by, held_at, owns, AreAllOf, Goes, AllGo, with_reclaimed, Stays, Sweeps, Accounts}
 use Rattle.sdd_world.specs.Closing.Owner.{of_value, of_cell}
@@ -36,7 +36,7 @@ use Rattle.sdd_store.specs.declared.tally.Tally.{Tally}
 use Rattle.sdd_base.proofs.Whole.{one_where, waits-inside}
 use Rattle.sdd_base.proofs.Opening.{none-here}
 use Rattle.sdd_store.proofs.Adopting.{same-or-not}
-use Rattle.sdd_world.proofs.Pointers.{all_aged_out-pointers}
+use Rattle.sdd_world.proofs.Pointers.{all_aged_out-pointers, all_aged_out-jobs}
 
 -- ---- lists whose elements all differ
 module _ {A : Type 0} where
@@ -830,6 +830,14 @@ module _ {T : Type 0} (holds : T → List Holding) (old : World T) where
   nobody-waits k [] = refl
   nobody-waits k (x ∷ xs) = omega (arith, sum_by-cons (times_with k) (without_waiting x) (map without_waiting xs), nobody-waits k xs)
 
+  nobody-defers : (j : ℕ) (places : List Participant) → sum_by (jobs_with j) (map without_waiting places) ≡ 0
+  nobody-defers j [] = refl
+  nobody-defers j (x ∷ xs) = omega (arith, sum_by-cons (jobs_with j) (without_waiting x) (map without_waiting xs), nobody-defers j xs)
+
+  free-place : (x : Option (Unit {0})) → once_if (is_some x) ≡ 0 → x ≡ None
+  free-place None e = refl
+  free-place (Some x) e = absurd (omega (arith, e))
+
   ended : (new : World T) → Closes holds old new → IsWhole new → Ended new
   ended new c i =
       record {
@@ -849,11 +857,13 @@ module _ {T : Type 0} (holds : T → List Holding) (old : World T) where
         cells_gone = λ d g. all-gone new e (the_cell d) g;
         cells_kept = λ d h. cell-kept new d h (e.swept.cell d);
         pointers = ap (λ (u : World T). u.pointers) c.changes.1 ∙ all_aged_out-pointers holds c.changes.0 old;
+        ran = λ j. free-place (entry_at new.jobs j) (sym (i.jobs_once j) ∙ ap (λ (t : Time). sum_by (jobs_with j) t.places) c.time ∙ nobody-defers j old.time.places);
         reclaimed = e.swept.count;
         time = c.time;
         home = c.home;
         slots = e.swept.slots;
         cells = e.swept.cells;
+        jobs = ap (λ (u : World T). length u.jobs) c.changes.1 ∙ all_aged_out-jobs holds c.changes.0 old;
       }
 
   -- a standing that is none at the end

@@ -139,11 +139,14 @@ pub record Sweeps {T : Type 0} (holds : T → List Holding) (old new : World T) 
   pub cells_gone : (c : ℕ) → Goes holds old (the_cell c) → entry_at new.cells c ≡ None
   pub cells_kept : (c : ℕ) → ¬ (Goes holds old (the_cell c)) → entry_at new.cells c ≡ entry_at old.cells c
   pub pointers : new.pointers ≡ old.pointers
+  -- every job ran
+  pub ran : (j : ℕ) → entry_at new.jobs j ≡ None
   pub reclaimed : (n : ℕ) × (taken old ≡ taken new + n) × (new.tally ≡ with_reclaimed n old.tally)
   pub time : new.time ≡ emptied old.time
   pub home : new.home ≡ old.home
   pub slots : length new.standings ≡ length old.standings
   pub cells : length new.cells ≡ length old.cells
+  pub jobs : length new.jobs ≡ length old.jobs
 
 -- the tally at the end: what was made and dropped in place is as before, and all else that was made was reclaimed, while the numbers have room
 pub record Accounts (old end : Tally) : Type 0 where

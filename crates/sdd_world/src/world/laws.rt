@@ -1,6 +1,7 @@
 //! What is always true of a world, as calls that give it out. They do nothing when the program runs.
 ghost use Rattle.sdd_base.specs.Whole.{IsWhole};
 ghost use Rattle.sdd_base.specs.Out.{OutLaws};
+ghost use Rattle.sdd_base.specs.Jobs.{RunsJobsOnce};
 ghost use Rattle.sdd_base.specs.Left.{FourGuardsReclaim, GoesAtLatest, GoesInTime};
 ghost use Rattle.sdd_base.specs.World.{World};
 ghost use Rattle.sdd_base.specs.Passing.{GuardsPass, ItemsPass};
@@ -24,6 +25,13 @@ impl<T: Item<T>, J: Job> World<T, J> {
     pub fn counts_what_is_out(&self)
         ensures { (w : World T J) → OutLaws T.holds w }
     {}
+
+    /// A job that waits is run once, by the opening that finds it due, and its place is free after that.
+    pub fn runs_jobs_once(&self)
+        ensures { RunsJobsOnce T.holds self.now }
+    {
+        self.is_whole();
+    }
 
     /// After how many openings of its holder an item that waits is reclaimed at latest.
     pub fn reclaims_in_time(&self)

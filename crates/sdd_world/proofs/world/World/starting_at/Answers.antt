@@ -1,8 +1,9 @@
 use Rattle.std.proofs.Common.{ap, sym, ◌∙◌, arith, Option, sum_by}
+use Rattle.std.specs.Prelude.{is_some}
 use Rattle.sdd_store.specs.Table.{Entries, entry_at}
 use Rattle.sdd_store.specs.declared.standing.Standing.{Standing}
 use Rattle.sdd_slots.specs.Slots.{is_waiting}
-use Rattle.sdd_base.specs.Whole.{times_with, once_if}
+use Rattle.sdd_base.specs.Whole.{times_with, jobs_with, once_if}
 use Rattle.sdd_base.proofs.Accounts.{blank-at}
 use Rattle.std.proofs.lemmas.Grind.{common_steps}
 use Rattle.sdd_base.proofs.Housed.{housed-none}
@@ -20,6 +21,10 @@ invariant_of-result g c =
             let idle = ap (λ t. sum_by (times_with k) t.places) time in
             let free = ap (λ (ss : Entries Standing). entry_at ss k) new.standings ∙ blank-at _ k in
             idle ∙ sym (ap (λ (s : Option Standing). once_if (is_waiting s)) free);
+        jobs_once = λ j.
+            let idle = ap (λ t. sum_by (jobs_with j) t.places) time in
+            let free = ap (λ (js : Entries (Unit {0})). entry_at js j) new.jobs ∙ blank-at _ j in
+            idle ∙ sym (ap (λ (x : Option (Unit {0})). once_if (is_some x)) free);
         abreast = grind (arith, common_steps);
         housed = housed-none c.in_ok-core.core.world.time (ap (λ t. t.places) time) (ap (λ t. t.phases) time);
         counted = grind (arith, common_steps);
