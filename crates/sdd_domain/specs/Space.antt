@@ -39,6 +39,7 @@ no_world = record {
   values = [];
   cells = [];
   pointers = [];
+  jobs = [];
   tally = no_items;
 }
 
