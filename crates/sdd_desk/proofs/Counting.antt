@@ -168,10 +168,10 @@ out-there w k out = out-some (standing_at w k) out
 -- ---- the start
 
 -- nothing has a name, in a world without items
-pub counted-start : (d : Desk) (t : Time) (slots cells : ℕ) → d.owners ≡ [] → IsBlank t slots cells d.world → AreCounted d d.world
-counted-start d t slots cells none blank =
+pub counted-start : (d : Desk) (t : Time) (slots cells jobs : ℕ) → d.owners ≡ [] → IsBlank t slots cells jobs d.world → AreCounted d d.world
+counted-start d t slots cells jobs none blank =
     accounted-as holdings_of (λ _. 0) (named_owners d) d.world (λ j. ap (λ (hs : List (Option Holding)). count_by (owns j) hs) none)
-    (accounted-blank holdings_of d.world t slots cells blank)
+    (accounted-blank holdings_of d.world t slots cells jobs blank)
 
 -- ---- what calls make of names
 

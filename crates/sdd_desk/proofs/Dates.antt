@@ -5,7 +5,7 @@ use Rattle.std.proofs.lemmas.List.{get_or-replicate, get_or_past, set_past}
 use Rattle.sdd_store.specs.Table.{entry_at, with_entry}
 use Rattle.sdd_store.proofs.Adopting.{same-or-not}
 use Rattle.sdd_base.specs.Calls.{Calls, IsFirst}
-use Rattle.sdd_base.specs.Calls.Calls.{registers, ends, opens, closes, stirs, accelerates, makes, shares, retires, releases, edits, drops, puts_out_raw, takes_back_raw, changes_cells, changes_pointers, closes_cell}
+use Rattle.sdd_base.specs.Calls.Calls.{registers, ends, opens, closes, stirs, accelerates, makes, shares, retires, releases, defers, edits, drops, puts_out_raw, takes_back_raw, changes_cells, changes_pointers, closes_cell}
 use Rattle.sdd_base.specs.declared.limits.Limits.{Limits}
 use Rattle.sdd_base.specs.InPlace.{IsAlone}
 use Rattle.sdd_base.specs.Steps.{with_standing, without_cell, spilled, held_in, dropped_out, vacated}
@@ -65,6 +65,7 @@ dropped-free w p s k apart free (Some v) =
 free-waits-not : {v w : World Val} → Calls holdings_of v w → IsWhole v → (s : ℕ) → standing_at v s ≡ None → is_waiting (standing_at w s) ≡ false
 free-waits-not (registers v p vacant) i s free = ap is_waiting free
 free-waits-not (ends v p l shut) i s free = ap is_waiting free
+free-waits-not (defers v p j l empty) i s free = ap is_waiting free
 free-waits-not (opens v p l) i s free =
     let none = idle-not-due v p s l.0 i (ap is_waiting free) in
     ap is_waiting (opened-stays holdings_of v p l.0 s None (value_at v s) refl none (record { standing = free; value = refl })).standing

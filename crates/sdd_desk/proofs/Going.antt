@@ -34,7 +34,7 @@ use Rattle.sdd_desk.specs.Made.{IsPutIn, owners_left, put_in}
 use Rattle.sdd_desk.specs.Shown.{item_in}
 use Rattle.sdd_desk.specs.Sound.{IsSound, Keeper, Keeps, named_owners, owns}
 use Rattle.sdd_desk.specs.Sound.Keeper.{value_in, name_of}
-use Rattle.sdd_desk.specs.Held.{owners_in, standing_first, holding_first, waits_among}
+use Rattle.sdd_desk.specs.Held.{owners_in, slots_among, standing_first, holding_first, waits_among}
 use Rattle.sdd_desk.proofs.Entry.{not-free}
 use Rattle.sdd_desk.proofs.Stocked.{stocked-as, stocked-made, no_slot-same, no_slot-standing, no_slot-retired, no_slot-given, no_slot-opened}
 use Rattle.sdd_desk.proofs.Keepers.{keepers-as, keepers-made, keepers-opened, given-same}
@@ -331,7 +331,7 @@ module _ (d : Desk) (s : IsSound d) where
     pub home-opened : (p : ℕ) → (opened holdings_of d.world p).home ≡ d.world.home
     home-opened p = (counts-opened d.world p holdings_of).home
 
-    module _ (n : ℕ) (x : Opening) (there : opening_at d.places n ≡ Some x) (slots : List ℕ) (are : map Item slots ≡ reclaims d.world x.place)
+    module _ (n : ℕ) (x : Opening) (there : opening_at d.places n ≡ Some x) (slots : List ℕ) (are : slots ≡ slots_among (reclaims d.world x.place))
         (new_dates : List ℕ) (long : length new_dates ≡ length d.dates)
         (now : (k : ℕ) → slice_index new_dates k
         ≡ (if waits_among (opened holdings_of d.world x.place) (owners_in d.world slots) k then d.moment else slice_index d.dates k)) where
@@ -361,7 +361,7 @@ module _ (d : Desk) (s : IsSound d) where
           }
 
     -- the names found, and sorted
-    pub names-go : (p : ℕ) (slots : List ℕ) (found sorted : List ItemName) → map Item slots ≡ reclaims d.world p →
+    pub names-go : (p : ℕ) (slots : List ℕ) (found sorted : List ItemName) → slots ≡ slots_among (reclaims d.world p) →
         found ≡ map (item_in d.names) slots → IsPermutation found sorted → IsNonDecreasingBy (λ (i : ItemName). i.0) sorted →
         IsStrictlyIncreasing (map (λ (i : ItemName). i.0) sorted)
         × ((i : ItemName) → Contains sorted i ↔ (IsThere d i.0 × Contains (reclaims d.world p) (Item (slot_at d i.0))))

@@ -24,14 +24,14 @@ use Rattle.sdd_base.proofs.Standings.{owner-given, out-some, out-waits-not, wait
 use Rattle.sdd_base.proofs.Whole.{times-aged}
 use Rattle.sdd_lines.specs.declared.name.ItemName.{ItemName}
 use Rattle.sdd_desk.proofs.Entry.{at-other, at-default}
-use Rattle.sdd_desk.proofs.StockWords.{◌≡◌, ◌≢◌, ◌⊎◌, ℕ, suc, ◌+◌, ◌-◌, ◌<◌, ◌≤◌, ◌==◌, ◌&&◌, ◌↔◌, Bool, true, false, nat_lt, if◌then◌else◌, List, [], ◌∷◌, ◌++◌, Option, Some, None, IsSome, is_some, map, length, count_by, slice_index_or, slice_set, inl, inr, refl, sym, ap, ◌∙◌, eq-eqb, ne_eqb, lt-ltb, cases_lt, arith, nat_tests, All, Contains, cases_eq, length-map, length-set, entry_at, without_entry, What, Item, Private, Job, Standing, is_waiting, is_out, held_in, reclaims, IsWhole, is_of_slot, once_if, Holding, World, place_at, standing_at, value_at, one_where, times_among, count-cons, some-waits, filled-there, Val, holdings_of, body_of, link_of}
+use Rattle.sdd_desk.proofs.StockWords.{◌≡◌, ◌≢◌, ◌⊎◌, ℕ, suc, ◌+◌, ◌-◌, ◌<◌, ◌≤◌, ◌==◌, ◌&&◌, ◌↔◌, Bool, true, false, nat_lt, if◌then◌else◌, List, [], ◌∷◌, ◌++◌, Option, Some, None, IsSome, is_some, map, length, count_by, slice_index_or, slice_set, inl, inr, refl, sym, ap, ◌∙◌, eq-eqb, ne_eqb, lt-ltb, cases_lt, arith, nat_tests, All, Contains, cases_eq, length-map, length-set, entry_at, without_entry, What, Item, Job, Standing, is_waiting, is_out, held_in, reclaims, IsWhole, is_of_slot, once_if, Holding, World, place_at, standing_at, value_at, one_where, times_among, count-cons, some-waits, filled-there, Val, holdings_of, body_of, link_of, zero, subst}
 use Rattle.sdd_desk.specs.declared.val.Body.{Body}
 use Rattle.sdd_desk.specs.declared.val.Body.TheVariants.{Number, Owned, Shared}
 use Rattle.sdd_desk.specs.Val.{owner_in, link_home}
 use Rattle.sdd_desk.specs.Desk.{Desk, IsThere, IsDated, slot_at, name_at, date_at, in_world}
 use Rattle.sdd_desk.specs.Shown.{item_in}
 use Rattle.sdd_desk.specs.Sound.{IsStocked, AreKept, named_owners}
-use Rattle.sdd_desk.specs.Held.{slots_of, slots_in, owners_in, waits_among}
+use Rattle.sdd_desk.specs.Held.{slots_of, slots_in, owners_in, slots_among, waits_among}
 use Rattle.sdd_desk.proofs.Stocked.{item-there, slot-inside}
 use Rattle.sdd_desk.proofs.Keepers.{given-same, body-given, closed-bare, one-kept_on, waiting-there, keepers-as}
 
@@ -224,10 +224,15 @@ module _ (d : Desk) (p : ℕ) (start : World Val) (s : ℕ) where
       ]
 
   -- all that begins to wait was its owner's whose value was among these
-  all-give : (slots : List ℕ) (w : World Val) → IsBefore w → is_waiting (standing_at (all_reclaimed holdings_of w p (map Item slots)) s) ≡ true →
-      1 ≤ times_in s (owners_in start slots)
+  all-give : (xs : List What) (w : World Val) → IsBefore w → is_waiting (standing_at (all_reclaimed holdings_of w p xs) s) ≡ true →
+      1 ≤ times_in s (owners_in start (slots_among xs))
+  all-give (Job j ∷ xs) w i waits =
+      all-give xs (reclaimed holdings_of w p (Job j)) (record { kept = one-kept_on d p w (Job j) i.kept; values = i.values; idle = i.idle }) waits
   all-give [] w i waits = let never : false ≡ true = sym i.idle ∙ waits in absurd (cc)
-  all-give (k ∷ ks) w i waits = by (is_waiting (standing_at u s)) refl (λ now. all-give ks u now waits) where
+  all-give (Item k ∷ xs) w i waits = by (is_waiting (standing_at u s)) refl (λ now. all-give xs u now waits) where
+    ks : List ℕ
+    ks = slots_among xs
+
     u : World Val
     u = reclaimed holdings_of w p (Item k)
 
@@ -302,22 +307,22 @@ module _ (d : Desk) (p : ℕ) (l : p < length d.world.time.places) (stocked : Is
       (slot-inside d stocked s (out-some (standing_at d.world s) (given-out slots s some))).1
 
   -- slots are reclaimed
-  module _ (slots : List ℕ) (are : map Item slots ≡ reclaims d.world p) where
+  module _ (slots : List ℕ) (are : slots ≡ slots_among (reclaims d.world p)) where
     begins-if : (s : ℕ) → is_waiting (standing_at d.world s) ≡ false → is_waiting (standing_at after s) ≡ true →
         Nests holdings_of d.world p ⊎ IsChange holdings_of d.world p → 1 ≤ times_in s (owners_in d.world slots)
     begins-if s idle waits (inl n) =
         let never : false ≡ true = sym idle ∙ ap (λ (u : World Val). is_waiting (standing_at u s)) (sym n.nests) ∙ waits in absurd (cc)
     begins-if s idle waits (inr c) =
         let first = before holdings_of d.world p in
-        let due : due_next (place_at (steps.nested d.world p) p) ≡ map Item slots = due-here holdings_of d.world p l ∙ sym c.due ∙ sym are in
-        let now : is_waiting (standing_at (all_reclaimed holdings_of first p (map Item slots)) s) ≡ true =
+        let due : due_next (place_at (steps.nested d.world p) p) ≡ reclaims d.world p = due-here holdings_of d.world p l ∙ sym c.due in
+        let now : is_waiting (standing_at (all_reclaimed holdings_of first p (reclaims d.world p)) s) ≡ true =
         ap (λ xs. is_waiting (standing_at (all_reclaimed holdings_of first p xs) s)) (sym due)
         ∙ ap (λ (u : World Val). is_waiting (standing_at u s)) (sym c.change) ∙ waits in
-        all-give d p d.world s slots first (record {
+        subst (λ ks. 1 ≤ times_in s (owners_in d.world ks)) (sym are) (all-give d p d.world s (reclaims d.world p) first (record {
           kept = keepers-as d (in_world d first) kept refl refl refl;
           values = λ k v h. h;
           idle = idle;
-        }) now
+        }) now)
 
     -- what begins to wait was given up by the values of these slots to p, and has seen no change
     pub begins-waiting : (s : ℕ) → is_waiting (standing_at after s) ≡ true → is_waiting (standing_at d.world s) ≡ false →
@@ -372,12 +377,31 @@ counted-contains s (x ∷ xs) some =
           (suc rest.0, omega (arith, lt), rest.2))
     ]
 
-module _ (d : Desk) (p : ℕ) (stocked : IsStocked d) (whole : IsWhole d.world) (slots : List ℕ) (are : map Item slots ≡ reclaims d.world p) where
+-- a slot is among these exactly if its item is
+among-slots : (s : ℕ) (xs : List What) → times_among s xs ≡ times_in s (slots_among xs)
+among-slots s [] = refl
+among-slots s (Item k ∷ xs) = omega (arith, among-slots s xs, count-cons (is_of_slot s) (Item k) xs, count-cons (λ k. k == s) k (slots_among xs))
+among-slots s (Job j ∷ xs) = omega (arith, among-slots s xs, count-cons (is_of_slot s) (Job j) xs)
+
+slots-contain : (xs : List What) (s : ℕ) → Contains (slots_among xs) s → Contains xs (Item s)
+slots-contain [] s c = absurd (omega (arith, c.1))
+slots-contain (Item k ∷ xs) s (zero, l, e) = (zero, omega arith, ap Item e)
+slots-contain (Item k ∷ xs) s (suc n, l, e) = let rest = slots-contain xs s (n, omega (arith, l), e) in (suc rest.0, omega (arith, rest.1), rest.2)
+slots-contain (Job j ∷ xs) s c = let rest = slots-contain xs s c in (suc rest.0, omega (arith, rest.1), rest.2)
+
+contain-slots : (xs : List What) (s : ℕ) → Contains xs (Item s) → Contains (slots_among xs) s
+contain-slots [] s c = absurd (omega (arith, c.1))
+contain-slots (Item k ∷ xs) s (zero, l, e) = (zero, omega arith, cc (e))
+contain-slots (Item k ∷ xs) s (suc n, l, e) = let rest = contain-slots xs s (n, omega (arith, l), e) in (suc rest.0, omega (arith, rest.1), rest.2)
+contain-slots (Job j ∷ xs) s (zero, l, e) = absurd (cc (e))
+contain-slots (Job j ∷ xs) s (suc n, l, e) = contain-slots xs s (n, omega (arith, l), e)
+
+module _ (d : Desk) (p : ℕ) (stocked : IsStocked d) (whole : IsWhole d.world) (slots : List ℕ) (are : slots ≡ slots_among (reclaims d.world p)) where
   pub slot-reclaimed : (s : ℕ) → Contains slots s → Contains (reclaims d.world p) (Item s)
-  slot-reclaimed s c = rw are at (contains-map Item slots s c)
+  slot-reclaimed s c = slots-contain (reclaims d.world p) s (subst (λ ks. Contains ks s) are c)
 
   pub times-slots : (s : ℕ) → times_among s (reclaims d.world p) ≡ times_in s slots
-  times-slots s = ap (times_among s) (sym are) ∙ count-map Item (is_of_slot s) slots
+  times-slots s = among-slots s (reclaims d.world p) ∙ ap (times_in s) (sym are)
 
   slot-before : (s : ℕ) → Contains slots s → (is_waiting (standing_at d.world s) ≡ true) × IsSome (standing_at d.world s) × IsSome (value_at d.world s)
   slot-before s c = reclaimed-waits d.world p whole s (slot-reclaimed s c)
@@ -415,10 +439,9 @@ module _ (d : Desk) (p : ℕ) (stocked : IsStocked d) (whole : IsWhole d.world) 
 
       back : IsThere d i.0 × Contains (reclaims d.world p) (Item (slot_at d i.0)) → Contains (map (item_in d.names) slots) i
       back h =
-          let from = map-contains Item slots 0 (Item (slot_at d i.0)) (rw (sym are) at h.1) in
-          let slot : from.0 ≡ slot_at d i.0 = cc (from.2) in
-          let name : name_at d from.0 ≡ i.0 = ap (name_at d) slot ∙ h.0.last in
-          rw (ap (λ n. record i { 0 = n }) name) at (contains-map (item_in d.names) slots from.0 from.1)
+          let s = slot_at d i.0 in
+          let among : Contains slots s = subst (λ ks. Contains ks s) (sym are) (contain-slots (reclaims d.world p) s h.1) in
+          rw (ap (λ n. record i { 0 = n }) h.0.last) at (contains-map (item_in d.names) slots s among)
 
     -- each of them once
     found-once : (n : ℕ) → count_by (λ (i : ItemName). i.0 == n) found ≤ 1
@@ -492,7 +515,8 @@ module _ {T : Type 0} (w : World T) (p : ℕ) where
     all-counts [] u i = i
     all-counts (Item k ∷ xs) u i =
         all-counts xs (reclaimed holds u p (Item k)) (out-counts u k (waiting_value u k (standing_at u k)) i)
-    all-counts (Job j ∷ xs) u i = all-counts xs u i
+    all-counts (Job j ∷ xs) u i =
+        all-counts xs (reclaimed holds u p (Job j)) (record { slots = i.slots; made = i.made; in_place = i.in_place; home = i.home })
 
     pub counts-opened : KeepsCounts w (steps.opened holds w p)
     counts-opened = by (is_open (place_at w p)) (finds_another (steps.nested w p).time p) where

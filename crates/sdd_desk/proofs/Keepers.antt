@@ -11,7 +11,7 @@ use Rattle.sdd_base.specs.Accounts.{IsAccounted}
 use Rattle.sdd_base.proofs.Accounts.{sum-out, outside-out}
 use Rattle.sdd_base.proofs.Standings.{out-some, owner-given}
 use Rattle.sdd_desk.proofs.Entry.{at-same, at-other, at-pushed, at-end, at-default, inside, not-free}
-use Rattle.sdd_desk.proofs.StockWords.{◌≡◌, ◌≢◌, ◌⊎◌, ℕ, ◌<◌, ◌≤◌, Bool, true, false, if◌then◌else◌, List, [], ◌∷◌, ◌++◌, Option, Some, None, IsSome, is_some, map, length, count_by, slice_index_or, slice_set, inl, inr, refl, sym, ap, ◌∙◌, arith, cases_eq, length-map, Entries, IsEmptyAt, entry_at, with_entry, without_entry, What, Item, Private, Job, Standing, Cell, is_out, held_in, Holding, World, place_at, standing_at, value_at, filled-there, IsWhole, Val, holdings_of, body_of, link_of, one_where, eq-eqb}
+use Rattle.sdd_desk.proofs.StockWords.{◌≡◌, ◌≢◌, ◌⊎◌, ℕ, ◌<◌, ◌≤◌, Bool, true, false, if◌then◌else◌, List, [], ◌∷◌, ◌++◌, Option, Some, None, IsSome, is_some, map, length, count_by, slice_index_or, slice_set, inl, inr, refl, sym, ap, ◌∙◌, arith, cases_eq, length-map, Entries, IsEmptyAt, entry_at, with_entry, without_entry, What, Item, Job, Standing, Cell, is_out, held_in, Holding, World, place_at, standing_at, value_at, filled-there, IsWhole, Val, holdings_of, body_of, link_of, one_where, eq-eqb}
 use Rattle.sdd_desk.specs.declared.val.Body.{Body}
 use Rattle.sdd_desk.specs.declared.val.Body.TheVariants.{Number, Owned, Shared}
 use Rattle.sdd_desk.specs.Val.{owner_in, link_home}
@@ -398,7 +398,7 @@ module _ (d : Desk) (p : ℕ) where
 
   pub one-kept_on : (w : World Val) (x : What) → AreKept (in_world d w) → AreKept (in_world d (reclaimed holdings_of w p x))
   one-kept_on w (Item k) i = out-kept w k (waiting_value w k (standing_at w k)) (waiting-there w k (standing_at w k)) i
-  one-kept_on w (Job j) i = i
+  one-kept_on w (Job j) i = keepers-as (in_world d w) (in_world d (reclaimed holdings_of w p (Job j))) i refl refl refl
 
   all-kept : (xs : List What) (w : World Val) → AreKept (in_world d w) → AreKept (in_world d (all_reclaimed holdings_of w p xs))
   all-kept [] w i = i

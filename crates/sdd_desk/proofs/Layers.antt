@@ -14,7 +14,7 @@ use Rattle.sdd_base.specs.Holding.{Home}
 use Rattle.sdd_base.specs.Out.{is_out}
 use Rattle.sdd_base.specs.World.{World, IsBlank, place_at, standing_at, value_at}
 use Rattle.sdd_base.specs.Accounts.{times_held}
-use Rattle.sdd_base.specs.Steps.{made_as, nulled, retired, owner_given, with_standing, cell_closed, freed, taken_out, waiting_value, reclaimed, all_reclaimed, changed, caught_up, opened, vacated, dropped_out, dropped, with_value}
+use Rattle.sdd_base.specs.Steps.{made_as, ran, nulled, retired, owner_given, with_standing, cell_closed, freed, taken_out, waiting_value, reclaimed, all_reclaimed, changed, caught_up, opened, vacated, dropped_out, dropped, with_value}
 use Rattle.sdd_base.specs.Steps as steps
 use Rattle.sdd_base.proofs.Accounts.{outside-out, in_value-out}
 use Rattle.sdd_base.proofs.InPlace.{given_all-values}
@@ -45,14 +45,15 @@ module _ (P : World Val → Type 0)
   pub keeps-closed : (w : World Val) (p c : ℕ) → P w → P (cell_closed w p c)
   keeps-closed w p c h = keeps-cell_closed p P (λ u j. retires u p j) frees_cell shares w c h
 
-  module _ (frees : (w : World Val) (k : ℕ) → P w → P (freed w k)) (times : (w : World Val) (t : Time) → P w → P (record w { time = t })) where
+  module _ (frees : (w : World Val) (k : ℕ) → P w → P (freed w k)) (times : (w : World Val) (t : Time) → P w → P (record w { time = t }))
+      (runs : (w : World Val) (n : ℕ) → P w → P (ran w n)) where
     keeps-out : (w : World Val) (p k : ℕ) (v : Option Val) → P w → P (taken_out holdings_of w p k v)
     keeps-out w p k None h = h
     keeps-out w p k (Some v) h = keeps-given_all p P (λ u j. retires u p j) frees_cell shares (freed w k) (holdings_of v) (frees w k h)
 
     keeps-reclaimed : (w : World Val) (p : ℕ) (x : What) → P w → P (reclaimed holdings_of w p x)
     keeps-reclaimed w p (Item k) h = keeps-out w p k (waiting_value w k (standing_at w k)) h
-    keeps-reclaimed w p (Job n) h = h
+    keeps-reclaimed w p (Job n) h = runs w n h
 
     keeps-all : (w : World Val) (p : ℕ) (xs : List What) → P w → P (all_reclaimed holdings_of w p xs)
     keeps-all w p [] h = h
@@ -89,7 +90,7 @@ module _ (home : Home) (made in_place : ℕ) (w : World Val) (h : IsTold home ma
 
   pub told-opened : (p : ℕ) → IsTold home made in_place (opened holdings_of w p)
   told-opened p =
-      keeps-opened (IsTold home made in_place) (λ u q j out g. g) (λ u c g. g) (λ u j n m some g. g) (λ u k g. g) (λ u t g. g) w p h
+      keeps-opened (IsTold home made in_place) (λ u q j out g. g) (λ u c g. g) (λ u j n m some g. g) (λ u k g. g) (λ u t g. g) (λ u n g. g) w p h
 
 -- one item more is made
 pub told-made : (d : Desk) (w : World Val) (k : ℕ) (v : Val) (s : Standing) → w.tally.made ≡ length d.slots → length d.slots + 1 < 2 ^ 128 →
@@ -124,7 +125,7 @@ module _ (d : Desk) where
 
   pub layered-opened : (w : World Val) (p : ℕ) → AreLayered w → AreLayered (opened holdings_of w p)
   layered-opened w p l =
-      keeps-opened AreLayered (λ u q j out g. g) (λ u c g. g) (λ u j n m some g. g) layered-freed (λ u t g. g) w p l
+      keeps-opened AreLayered (λ u q j out g. g) (λ u c g. g) (λ u j n m some g. g) layered-freed (λ u t g. g) (λ u n g. g) w p l
 
   -- an item is dropped in its place
   pub layered-dropped : (w : World Val) (p k : ℕ) (v : Val) → value_at w k ≡ Some v → AreLayered w → AreLayered (dropped holdings_of w p k)
@@ -151,8 +152,8 @@ blank-at (suc n) zero = refl
 blank-at (suc n) (suc k) = blank-at n k
 
 -- a world without items
-pub layered-start : (d : Desk) (t : Time) (slots cells : ℕ) → IsBlank t slots cells d.world → IsLayered d
-layered-start d t slots cells blank =
+pub layered-start : (d : Desk) (t : Time) (slots cells jobs : ℕ) → IsBlank t slots cells jobs d.world → IsLayered d
+layered-start d t slots cells jobs blank =
     λ j k some.
     (let none : value_at d.world j ≡ None = ap (λ (vs : List (Option Val)). slice_index_or vs j None) blank.values ∙ blank-at slots j in
     absurd (omega (arith, some, ap (times_held holdings_of k) none)))

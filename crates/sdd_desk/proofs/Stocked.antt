@@ -5,7 +5,7 @@ use Rattle.sdd_base.specs.Steps.{retired, with_standing, owner_given, cell_close
 use Rattle.sdd_base.proofs.Opening.{keeps-owner_given, keeps-cell_closed, keeps-given_all}
 use Rattle.sdd_base.proofs.Standings.{out-some}
 use Rattle.sdd_desk.proofs.Entry.{at-same, at-other, at-pushed, at-end, at-default, as-each, inside, not-free}
-use Rattle.sdd_desk.proofs.StockWords.{◌≡◌, ◌≢◌, ℕ, ◌<◌, Bool, true, false, if◌then◌else◌, List, [], ◌∷◌, ◌++◌, Option, Some, None, IsSome, is_some, length, slice_index_or, slice_set, inl, inr, refl, sym, ap, ◌∙◌, subst, arith, cases_eq, length-set, IsEmptyAt, with_entry, without_entry, What, Item, Private, Job, Standing, is_out, Holding, World, place_at, standing_at, value_at}
+use Rattle.sdd_desk.proofs.StockWords.{◌≡◌, ◌≢◌, ℕ, ◌<◌, Bool, true, false, if◌then◌else◌, List, [], ◌∷◌, ◌++◌, Option, Some, None, IsSome, is_some, length, slice_index_or, slice_set, inl, inr, refl, sym, ap, ◌∙◌, subst, arith, cases_eq, length-set, IsEmptyAt, with_entry, without_entry, What, Item, Job, Standing, is_out, Holding, World, place_at, standing_at, value_at}
 use Rattle.std.proofs.lemmas.List.{length_push}
 use Rattle.sdd_store.specs.declared.standing.Standing.TheVariants.{Shared, Retired}
 use Rattle.sdd_desk.specs.Desk.{Desk, IsThere, slot_at, name_at}
@@ -77,7 +77,7 @@ module _ {T : Type 0} where
 
       one-no_slot : (u : World T) (x : What) → TakesNoSlot w u → TakesNoSlot w (reclaimed holds u p x)
       one-no_slot u (Item k) i = out-no_slot u k (waiting_value u k (standing_at u k)) i
-      one-no_slot u (Job j) i = i
+      one-no_slot u (Job j) i = record { taken = i.taken; slots = i.slots }
 
       all-no_slot : (xs : List What) (u : World T) → TakesNoSlot w u → TakesNoSlot w (all_reclaimed holds u p xs)
       all-no_slot [] u i = i

@@ -4,6 +4,8 @@ use Rattle.std.specs.List.{flat_map}
 use Rattle.sdd_token.specs.Units as token
 use Rattle.sdd_store.specs.declared.standing.Standing.{Standing}
 use Rattle.sdd_store.specs.declared.standing.Standing.TheVariants as standing
+use Rattle.sdd_store.specs.declared.waiting.What.{What}
+use Rattle.sdd_store.specs.declared.waiting.What.TheVariants.{Item, Job}
 use Rattle.sdd_slots.specs.Slots.{is_waiting}
 use Rattle.sdd_base.specs.Holding.{Holding}
 use Rattle.sdd_base.specs.Holding as holding
@@ -53,3 +55,12 @@ owners_in w slots = flat_map (λ s. slots_in (value_at w s)) slots
 -- a slot is among these, and its item waits
 abbrev pub waits_among : World Val → List ℕ → ℕ → Bool
 waits_among w slots s = nat_lt 0 (count_by (λ k. k == s) slots) && is_waiting (standing_at w s)
+
+-- the slot of what waits, if that is an item
+abbrev pub slot_waiting : What → List ℕ
+slot_waiting (Item k) = k ∷ []
+slot_waiting (Job j) = []
+
+-- the slots of the items among what waits
+abbrev pub slots_among : List What → List ℕ
+slots_among xs = flat_map slot_waiting xs
