@@ -15,7 +15,7 @@ ghost use Rattle.sdd_world.specs.Place.{index_of};
 
 use sdd_base::laws::epoch_moves_by_one;
 use sdd_base::{Guard, Guards, Item, Owned};
-use sdd_store::Standing;
+use sdd_store::{Idle, Standing};
 use sdd_world::{Place, World};
 
 /// Opens a guard, accelerates it and closes it.
@@ -96,7 +96,7 @@ pub fn retired_under_a_guard<T: Item<T>>(
     requires writer { IsPlaceOf world.old (index_of writer.now) }
     requires guarded { IsTrue (is_open (place_at world.old (index_of reader.now))) }
     requires home { slots_home owner ≡ world.old.home.slots }
-    ensures { (new : World T) → CallsUnder T.holds (index_of reader.now) world.new new →
+    ensures { (new : World T Idle) → CallsUnder T.holds (index_of reader.now) world.new new →
         (standing_at new (slot_of owner) ≡ Some Standing.Retired) × (value_at new (slot_of owner) ≡ value_at world.old (slot_of owner)) }
 {
     world.keeps_under_guards();

@@ -7,7 +7,7 @@ ghost use Rattle.sdd_desk.specs.declared.val.Val.{Val};
 ghost use Rattle.sdd_desk.specs.Val.{body_of};
 ghost use Rattle.sdd_desk.specs.Shown.{told_of, item_in};
 ghost use Rattle.sdd_hand.specs.Hand.{SlotInside, CanPointAt, CanCompareAt, dated_if_waiting};
-ghost use Rattle.sdd_desk.specs.Held.{owners_in, waits_among, slot_held};
+ghost use Rattle.sdd_desk.specs.Held.{owners_in, slots_among, waits_among, slot_held};
 ghost use Rattle.sdd_desk.specs.declared.val.Body.{Body};
 ghost use Rattle.sdd_desk.specs.declared.val.Body.TheVariants.{Number};
 ghost use Rattle.sdd_slots.specs.Slots as slots;
@@ -16,7 +16,7 @@ use sdd_base::inner::{slot_of_owner, slot_of_shared};
 use sdd_base::{Owned, Shared};
 use sdd_desk::{Body, Val};
 use sdd_lines::{ItemName, Reply, Value};
-use sdd_store::Standing;
+use sdd_store::{Standing, What};
 use sdd_world::World;
 use sdd_world::inner::{standing_of, value_in};
 use std::alloc::{AllocError, Global};
@@ -123,6 +123,20 @@ pub fn slot_given(value: &Val) -> Option<u32>
         Body::Owned(owner) => Some(slot_of_owner(owner)),
         Body::Shared(owner) => Some(slot_of_shared(owner)),
     }
+}
+
+/// The slots of the items among what waits.
+pub fn slots_among(alloc: Global, waiting: &[What]) -> Result<Vec<u32>, AllocError>
+    ensures { IfOk result (λ found. found.items ≡ slots_among waiting.now) }
+{
+    let mut found = Vec::with_capacity(alloc, waiting.len())?;
+    for what in waiting {
+        match what {
+            What::Item(slot) => found.push_reserved(*slot),
+            What::Job(_) => {}
+        }
+    }
+    Ok(found)
 }
 
 /// The names of the items that these slots had last.

@@ -15,7 +15,7 @@ use Rattle.sdd_core.specs.declared.refused.Refused.TheVariants.{GuardOpen, NoPla
 use Rattle.sdd_store.specs.Table.{IsEmptyAt}
 use Rattle.sdd_store.specs.Time as time
 use Rattle.sdd_store.specs.Time.{CanNest, IsCrowded, IsVacant, has_garbage, is_open}
-use Rattle.sdd_store.specs.Waiting.What.{Item}
+use Rattle.sdd_store.specs.declared.waiting.What.TheVariants.{Item}
 use Rattle.sdd_store.specs.declared.standing.Standing.TheVariants as standing
 use Rattle.sdd_slots.specs.Slots.{IsSharedBy}
 use Rattle.sdd_base.specs.declared.owned.Owned.{Owned}
@@ -69,7 +69,7 @@ use Rattle.sdd_desk.specs.Sound.{IsSound}
 use Rattle.sdd_hand.specs.Hand.{attending, guarding, BecomesBody, opened_since}
 use Rattle.sdd_steps.specs.Owners.{owner_holding, cell_holding}
 use Rattle.sdd_stage.specs.Stage.{desk_of, IsTied, GuardsIn, making}
-use Rattle.sdd_desk.specs.Held.{owners_in, standing_first, holding_first, waits_among}
+use Rattle.sdd_desk.specs.Held.{owners_in, slots_among, standing_first, holding_first, waits_among}
 use Rattle.sdd_desk.proofs.Entry.{as-each, at-other, at-pushed, at-end, at-default}
 use Rattle.sdd_desk.proofs.Dates.{dated-same}
 use Rattle.sdd_desk.proofs.Going.{open-guard, can-point, sound-opened, sound-start, dated-opened, home-opened, names-go, not-under, sound-stirred, sound-accelerated, sound-registered, sound-ended, sound-closed, sound-retired, sound-released, sound-shared, sound-made, dated-retired, dated-released, dated-shared, dated-made}
@@ -534,7 +534,7 @@ module _ (h : Hand) (t : IsTied h) (whole : IsWhole h.world) where
 
     -- an opening, which found these slots, and these names
     module _ (w : World Val) (places : Vec (Option Attending)) (guards : Vec (Option Guarding)) (dates : Vec ℕ) (held : Guarding)
-        (slots : List ℕ) (found sorted : List ItemName) (are : map Item slots ≡ reclaims h.world p) (names_are : found ≡ map (item_in h.names.items) slots)
+        (slots : List ℕ) (found sorted : List ItemName) (are : slots ≡ slots_among (reclaims h.world p)) (names_are : found ≡ map (item_in h.names.items) slots)
         (entries : map attending places.items ≡ noted (is_open (time.place_at h.world.time p)))
         (pushed : guards.items ≡ h.guards.entries.items ++ Some held ∷ []) (own : held.place ≡ p)
         (reader : reader_of held.guard ≡ reader_at h.world p) (since : held.since ≡ h.moment) (participant : held.participant ≡ n)

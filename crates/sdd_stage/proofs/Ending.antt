@@ -14,7 +14,7 @@ use Rattle.sdd_store.specs.declared.standing.Standing.TheVariants.{Raw, Retired,
 use Rattle.sdd_store.specs.declared.standing.Cell.{Cell}
 use Rattle.sdd_store.specs.declared.tally.Tally.{Tally}
 use Rattle.sdd_store.specs.declared.time.Participant.{Participant}
-use Rattle.sdd_store.specs.Waiting.What.{Item}
+use Rattle.sdd_store.specs.declared.waiting.What.TheVariants.{Item}
 use Rattle.sdd_base.specs.Holding.{Holding, Home, IsOf}
 use Rattle.sdd_base.specs.Out.{is_out}
 use Rattle.sdd_base.specs.Owned as owned

@@ -9,8 +9,8 @@ pub use Rattle.std.proofs.lemmas.Grind.{common_steps}
 pub use Rattle.std.proofs.lemmas.List.{get_or_default, get_or_past, length-map, length-set, length_push, map-set, map_push, set-get_or}
 pub use Rattle.sdd_store.specs.Table.{entry_at}
 pub use Rattle.sdd_store.specs.Time.{Time, nobody, newcomer, is_open, finds_another, due_next}
-pub use Rattle.sdd_store.specs.Waiting.{What}
-pub use Rattle.sdd_store.specs.Waiting.What.{Item, Private, Job}
+pub use Rattle.sdd_store.specs.declared.waiting.What.{What}
+pub use Rattle.sdd_store.specs.declared.waiting.What.TheVariants.{Item, Job}
 pub use Rattle.sdd_store.specs.declared.time.Participant.{Participant}
 pub use Rattle.sdd_store.specs.declared.standing.Standing.{Standing}
 pub use Rattle.sdd_slots.specs.Slots.{is_waiting}
