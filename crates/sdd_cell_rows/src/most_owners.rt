@@ -75,8 +75,7 @@ impl Crowd {
     {
         let mut world = World::new(rt.alloc(), limits).expect(rt, "the limits are in range");
         let place = world.register().expect(rt, "a place is free");
-        let owner = shared::made(rt, &mut world.at(&place), 7);
-        let cell = cell_beside(rt, &mut world.at(&place), &owner);
+        let (owner, cell) = first_owners(rt, &mut world.at(&place));
         let more = add_owners(&mut world, &owner, more).expect(rt, "so many may own it");
         Crowd {
             world,
@@ -113,11 +112,7 @@ impl Crowd {
 
     /// What one owner more is refused with beside another one that is had, and given up again.
     fn refusals_beside_another(&mut self, rt: &impl Abort) -> Refusals {
-        let turn = &mut self.world.at(&self.place);
-        let other = shared::copied(rt, turn, &self.owner);
-        let refusals = refusals_of(rt, turn, &self.owner, &self.cell);
-        let _ = shared::release(turn, other);
-        refusals
+        refusals_beside(rt, &mut self.world.at(&self.place), &self.owner, &self.cell)
     }
 
     /// The owner and the cell go, then all but one of those in one piece. That one may have others beside it again, and is the last.
@@ -129,12 +124,9 @@ impl Crowd {
             cell,
             more,
         } = self;
-        assert!(rt; !shared::release(&mut world.at(&place), owner));
-        shared::close_cell(&mut world.at(&place), cell);
+        give_up(rt, &mut world.at(&place), owner, cell);
         let last = let_go_but_one(&mut world, more);
-        let other = shared::copied(rt, &mut world.at(&place), &last);
-        assert!(rt; !shared::release(&mut world.at(&place), other));
-        assert!(rt; shared::release(&mut world.at(&place), last));
+        last_goes(rt, &mut world.at(&place), last);
         match world.close() {
             Ok(tally) => assert_eq!(rt; (tally.made, tally.reclaimed), (1, 1)),
             Err((_world, refused)) => panic!(rt; "{refused:?}"),
@@ -142,18 +134,59 @@ impl Crowd {
     }
 }
 
-/// A cell that holds one owner more.
-fn cell_beside<S: Space<u64>>(rt: &impl Abort, s: &mut S, owner: &Shared<u64>) -> AtomicShared<u64>
+/// An owner of a new item, and a cell that holds another.
+fn first_owners<S: Space<u64>>(rt: &impl Abort, s: &mut S) -> (Shared<u64>, AtomicShared<u64>)
     requires seated { IsSeated (S.seat s.old) }
-    requires home { slots_home owner.now ≡ (S.seat s.old).home.slots }
     ensures seat { S.seat s.new ≡ S.seat s.old }
-    ensures home { cells_home result ≡ (S.seat s.new).home.cells }
+    ensures owner { slots_home result.0 ≡ (S.seat s.new).home.slots }
+    ensures cell { cells_home result.1 ≡ (S.seat s.new).home.cells }
 {
-    let other = shared::copied(rt, s, owner);
+    let owner = shared::made(rt, s, 7);
+    let other = shared::copied(rt, s, &owner);
     match AtomicShared::from(other, s) {
-        Ok(cell) => cell,
+        Ok(cell) => (owner, cell),
         Err((_owner, refused)) => panic!(rt; "{refused:?}"),
     }
+}
+
+/// The owner and the cell go, and others own the item still.
+fn give_up<S: Space<u64>>(rt: &impl Abort, s: &mut S, owner: Shared<u64>, cell: AtomicShared<u64>)
+    requires seated { IsSeated (S.seat s.old) }
+    requires owner { slots_home owner ≡ (S.seat s.old).home.slots }
+    requires cell { cells_home cell ≡ (S.seat s.old).home.cells }
+    ensures seat { S.seat s.new ≡ S.seat s.old }
+{
+    assert!(rt; !shared::release(s, owner));
+    shared::close_cell(s, cell);
+}
+
+/// The last owner may have another beside it again, and goes.
+fn last_goes<S: Space<u64>>(rt: &impl Abort, s: &mut S, last: Shared<u64>)
+    requires seated { IsSeated (S.seat s.old) }
+    requires home { slots_home last ≡ (S.seat s.old).home.slots }
+    ensures seat { S.seat s.new ≡ S.seat s.old }
+{
+    let other = shared::copied(rt, s, &last);
+    assert!(rt; !shared::release(s, other));
+    assert!(rt; shared::release(s, last));
+}
+
+/// What one owner more is refused with beside another one that is had, and given up again.
+fn refusals_beside<S: Space<u64>>(
+    rt: &impl Abort,
+    s: &mut S,
+    owner: &Shared<u64>,
+    cell: &AtomicShared<u64>,
+) -> Refusals
+    requires seated { IsSeated (S.seat s.old) }
+    requires owner { slots_home owner.now ≡ (S.seat s.old).home.slots }
+    requires cell { cells_home cell.now ≡ (S.seat s.old).home.cells }
+    ensures seat { S.seat s.new ≡ S.seat s.old }
+{
+    let other = shared::copied(rt, s, owner);
+    let refusals = refusals_of(rt, s, owner, cell);
+    let _ = shared::release(s, other);
+    refusals
 }
 
 /// What one owner more is refused with, by each call that gives one. Who is had is given up again.

@@ -3,6 +3,7 @@ use Rattle.sdd_stage.proofs.Words.{length, refl, ap, ◌∙◌, ItemName}
 use Rattle.sdd_lines.specs.declared.call.Action.TheVariants as call
 use Rattle.sdd_lines.specs.declared.call.Call.TheVariants.{At}
 use Rattle.sdd_stage.specs.Stage.{desk_of}
+use Rattle.sdd_desk.specs.Held.{slots_among}
 use Rattle.sdd_desk.proofs.Gone.{slots-inside, slots-filled, given-inside}
 use Rattle.sdd_stage.proofs.Acts.{got, noted-is, opening-refused, opens-to, answers-opened, answers-plain}
 use Rattle.sdd_stage.proofs.Missing.{nobody}
@@ -17,12 +18,12 @@ returns-in_default c = record {
 pub names_of-requires : goal.names_of-requires
 names_of-requires c = record {
   inside = rw c.as_slice.ensures.value (slots-inside (desk_of c.self.inside.hand) _ c.self.invariant.sound.stocked c.is_whole.ensures _
-      c.reclaims_next-slots.ensures);
+      (c.in_ok-slots.ensures ∙ ap slots_among c.reclaims_next-waiting.ensures));
 }
 
 pub owners_in-requires : goal.owners_in-requires
 owners_in-requires c = record {
-  taken = slots-filled (desk_of c.self.inside.hand) _ c.self.invariant.sound.stocked c.is_whole.ensures _ c.reclaims_next-slots.ensures;
+  taken = slots-filled (desk_of c.self.inside.hand) _ c.self.invariant.sound.stocked c.is_whole.ensures _ (c.in_ok-slots.ensures ∙ ap slots_among c.reclaims_next-waiting.ensures);
 }
 
 pub returns-in-Err : goal.returns-in-Err
@@ -50,7 +51,7 @@ invariant_of-self-2 c =
     let noted = noted-is _ c.self.invariant c.is_whole.ensures c.args.name _ there _ _ c.is_open-is_nested.ensures c.note_opening.ensures in
     let given = rw c.make_room.ensures.kept at c.give-name.ensures.given in
     let dated = rw (c.as_slice-2.ensures.value, c.in_ok-given.ensures, c.in-Ok.ensures.opened.1) at c.date_waiting.ensures.dated in
-    tied (opens-to _ c.self.invariant c.is_whole.ensures c.args.name _ there _ _ _ _ _ _ _ c.sort_unstable.new.self.items c.reclaims_next-slots.ensures named
+    tied (opens-to _ c.self.invariant c.is_whole.ensures c.args.name _ there _ _ _ _ _ _ _ c.sort_unstable.new.self.items (c.in_ok-slots.ensures ∙ ap slots_among c.reclaims_next-waiting.ensures) named
     noted given c.index-place.ensures c.in-Ok.ensures.reader refl refl c.in-Ok.ensures.opened.1 (rw (← c.self.view_is) at c.requires.line)
     c.date_waiting.ensures.long dated)
 
@@ -64,7 +65,7 @@ returns c =
     let up = IsNonDecreasingBy-from_sort (λ (i : ItemName). i.0) c.sort_unstable.new.self.items c.sort_unstable.ensures.sorted in
     record {
       answers = rw (← c.self.view_is, c.of.ensures, c.new.ensures) (answers-opened _ c.self.invariant c.is_whole.ensures c.args.name _ there _
-          c.note_opening.new.places.entries c.give-name.new.self.entries c.date_waiting.new.dates _ _ _ _ c.reclaims_next-slots.ensures named noted given
+          c.note_opening.new.places.entries c.give-name.new.self.entries c.date_waiting.new.dates _ _ _ _ (c.in_ok-slots.ensures ∙ ap slots_among c.reclaims_next-waiting.ensures) named noted given
           c.index-place.ensures c.in-Ok.ensures.reader refl refl c.in-Ok.ensures.opened.1 (rw (← c.self.view_is) at c.requires.line)
           c.date_waiting.ensures.long dated _ _ c.sort_unstable.ensures.permutation up c.in-Ok.ensures.opened.0
           (c.give-name.ensures.name ∙ ap length c.make_room.ensures.kept) c.in-Ok.ensures.opened.2);
