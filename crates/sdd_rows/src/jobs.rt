@@ -1,9 +1,12 @@
 //! Jobs that are deferred: when they run, and where no place is free.
+ghost use Rattle.std.specs.Prelude.{◌≡◌};
+ghost use Rattle.sdd_base.specs.Seat.{IsSeated};
+
 use crate::steps::AMPLE;
-use sdd_base::{Guard, Limits};
+use sdd_base::{Guard, Guards, Item, Limits};
 use sdd_core::Refused;
 use sdd_store::{Deferred, Job};
-use sdd_world::World;
+use sdd_world::{Turn, World};
 use std::process::Abort;
 use std::sync::Arc;
 use std::sync::atomic::{AtomicU64, Ordering};
@@ -18,6 +21,34 @@ struct Adds {
 impl Job for Adds {
     fn run(&mut self) {
         self.total.fetch_add(self.amount, Ordering::SeqCst);
+    }
+}
+
+/// Opens, accelerates and closes a guard, and tells which epoch it showed, and the number that jobs add to, as it was under the guard.
+fn shown<T: Item<T>, S: Guards<T>>(rt: &impl Abort, s: &mut S, total: &AtomicU64) -> (u8, u64)
+    requires { IsSeated (S.seat s.old) }
+    ensures { S.seat s.new ≡ S.seat s.old }
+{
+    let guard = Guard::new(s).expect(rt, "a guard may be opened");
+    let epoch = u8::from(guard.epoch(s));
+    let sum = total.load(Ordering::SeqCst);
+    guard.accelerate(s);
+    guard.close(s);
+    (epoch, sum)
+}
+
+/// The accelerated guards show these epochs, and under each the number that jobs add to is this one.
+fn shows<T: Item<T>, S: Guards<T>>(
+    rt: &impl Abort,
+    s: &mut S,
+    total: &AtomicU64,
+    table: &[(u8, u64)],
+)
+    requires { IsSeated (S.seat s.old) }
+    ensures { S.seat s.new ≡ S.seat s.old }
+{
+    for (epoch, sum) in table {
+        assert_eq!(rt; shown(rt, s, total), (*epoch, *sum));
     }
 }
 
@@ -37,21 +68,22 @@ fn a_job_runs_at_the_third_opening_that_finds_another_epoch(rt: HostRuntime) {
         amount: 7,
     };
     let job: Box<dyn Job + Send> = Box::new(rt.alloc(), adds).expect(&rt, "memory is there");
-    let mut world: World<u64, Deferred> =
-        World::new(rt.alloc(), AMPLE).expect(&rt, "the limits are in range");
+    let mut world: World<u64, Deferred> = World::new(rt.alloc(), AMPLE).expect(
+        &rt,
+        "the limits are in range",
+    );
     let place = world.register().expect(&rt, "a place is free");
     let mut turn = world.at(&place);
     let guard = Guard::new(&mut turn).expect(&rt, "a guard may be opened");
     assert!(&rt; guard.defer_execute(Deferred::Boxed(job), &mut turn).is_ok());
     assert!(&rt; guard.has_garbage(&turn));
     guard.close(&mut turn);
-    for (epoch, sum) in [(0, 0), (1, 0), (2, 0), (3, 7), (4, 7)] {
-        let guard = Guard::new(&mut turn).expect(&rt, "a guard may be opened");
-        assert_eq!(&rt; u8::from(guard.epoch(&mut turn)), epoch);
-        assert_eq!(&rt; total.load(Ordering::SeqCst), sum);
-        guard.accelerate(&mut turn);
-        guard.close(&mut turn);
-    }
+    shows::<u64, Turn<'_, u64, Deferred>>(
+        &rt,
+        &mut turn,
+        &total,
+        &[(0, 0), (1, 0), (2, 0), (3, 7), (4, 7)],
+    );
     drop(turn);
     assert_eq!(&rt; closed(&rt, world), 0);
 }
@@ -64,8 +96,10 @@ fn a_job_that_waits_runs_as_the_world_is_closed(rt: HostRuntime) {
         amount: 7,
     };
     let job: Box<dyn Job + Send> = Box::new(rt.alloc(), adds).expect(&rt, "memory is there");
-    let mut world: World<u64, Deferred> =
-        World::new(rt.alloc(), AMPLE).expect(&rt, "the limits are in range");
+    let mut world: World<u64, Deferred> = World::new(rt.alloc(), AMPLE).expect(
+        &rt,
+        "the limits are in range",
+    );
     let place = world.register().expect(&rt, "a place is free");
     let mut turn = world.at(&place);
     let guard = Guard::new(&mut turn).expect(&rt, "a guard may be opened");
@@ -79,8 +113,10 @@ fn a_job_that_waits_runs_as_the_world_is_closed(rt: HostRuntime) {
 #[test]
 fn without_a_place_a_job_comes_back(rt: HostRuntime) {
     let limits = Limits { jobs: 0, ..AMPLE };
-    let mut world: World<u64, Deferred> =
-        World::new(rt.alloc(), limits).expect(&rt, "the limits are in range");
+    let mut world: World<u64, Deferred> = World::new(rt.alloc(), limits).expect(
+        &rt,
+        "the limits are in range",
+    );
     let place = world.register().expect(&rt, "a place is free");
     let mut turn = world.at(&place);
     let guard = Guard::new(&mut turn).expect(&rt, "a guard may be opened");
