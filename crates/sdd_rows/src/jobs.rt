@@ -1,12 +1,14 @@
 //! Jobs that are deferred: when they run, and where no place is free.
 ghost use Rattle.std.specs.Prelude.{◌≡◌};
 ghost use Rattle.sdd_base.specs.Seat.{IsSeated};
+ghost use Rattle.sdd_base.specs.World.{IsPlaceOf};
+ghost use Rattle.sdd_world.specs.Place.{index_of};
 
 use crate::steps::AMPLE;
-use sdd_base::{Guard, Guards, Item, Limits};
+use sdd_base::{Guard, Guards, Item, Limits, Space};
 use sdd_core::Refused;
 use sdd_store::{Deferred, Job};
-use sdd_world::{Turn, World};
+use sdd_world::{Place, Turn, World};
 use std::process::Abort;
 use std::sync::Arc;
 use std::sync::atomic::{AtomicU64, Ordering};
@@ -52,6 +54,45 @@ fn shows<T: Item<T>, S: Guards<T>>(
     }
 }
 
+/// Defers a job under a guard of its own.
+fn deferred<S: Space<u64>>(
+    rt: &impl Abort,
+    s: &mut S,
+    job: S::Job,
+) -> Result<(), (S::Job, Refused)>
+    requires { IsSeated (S.seat s.old) }
+    ensures { S.seat s.new ≡ S.seat s.old }
+{
+    let guard = Guard::new(s).expect(rt, "a guard may be opened");
+    let answer = guard.defer_execute(job, s);
+    guard.close(s);
+    answer
+}
+
+/// A number that jobs add to.
+fn number<R: Abort + AllocGlobal>(rt: &R) -> Arc<AtomicU64> {
+    Arc::new(rt.alloc(), AtomicU64::new(0)).expect(rt, "memory is there")
+}
+
+/// A job that adds 7.
+fn adds_seven<R: Abort + AllocGlobal>(rt: &R, total: &Arc<AtomicU64>) -> Deferred {
+    let adds = Adds {
+        total: Arc::try_clone(total).expect(rt, "the count has room"),
+        amount: 7,
+    };
+    let job: Box<dyn Job + Send> = Box::new(rt.alloc(), adds).expect(rt, "memory is there");
+    Deferred::Boxed(job)
+}
+
+/// A world of jobs in boxes, and a participant of it.
+fn started<R: Abort + AllocGlobal>(rt: &R, limits: Limits) -> (World<u64, Deferred>, Place)
+    ensures { IsPlaceOf result.0 (index_of result.1) }
+{
+    let mut world = World::new(rt.alloc(), limits).expect(rt, "the limits are in range");
+    let place = world.register().expect(rt, "a place is free");
+    (world, place)
+}
+
 /// How many items were reclaimed in a world that a test is done with.
 fn closed(rt: &impl Abort, world: World<u64, Deferred>) -> u128 {
     match world.close() {
@@ -62,67 +103,38 @@ fn closed(rt: &impl Abort, world: World<u64, Deferred>) -> u128 {
 
 #[test]
 fn a_job_runs_at_the_third_opening_that_finds_another_epoch(rt: HostRuntime) {
-    let total = Arc::new(rt.alloc(), AtomicU64::new(0)).expect(&rt, "memory is there");
-    let adds = Adds {
-        total: Arc::try_clone(&total).expect(&rt, "the count has room"),
-        amount: 7,
-    };
-    let job: Box<dyn Job + Send> = Box::new(rt.alloc(), adds).expect(&rt, "memory is there");
-    let mut world: World<u64, Deferred> = World::new(rt.alloc(), AMPLE).expect(
-        &rt,
-        "the limits are in range",
-    );
-    let place = world.register().expect(&rt, "a place is free");
-    let mut turn = world.at(&place);
-    let guard = Guard::new(&mut turn).expect(&rt, "a guard may be opened");
-    assert!(&rt; guard.defer_execute(Deferred::Boxed(job), &mut turn).is_ok());
-    assert!(&rt; guard.has_garbage(&turn));
-    guard.close(&mut turn);
+    let total = number(&rt);
+    let (mut world, place) = started(&rt, AMPLE);
+    let job = adds_seven(&rt, &total);
+    assert!(&rt; deferred(&rt, &mut world.at(&place), job).is_ok());
     shows::<u64, Turn<'_, u64, Deferred>>(
         &rt,
-        &mut turn,
+        &mut world.at(&place),
         &total,
         &[(0, 0), (1, 0), (2, 0), (3, 7), (4, 7)],
     );
-    drop(turn);
     assert_eq!(&rt; closed(&rt, world), 0);
 }
 
 #[test]
 fn a_job_that_waits_runs_as_the_world_is_closed(rt: HostRuntime) {
-    let total = Arc::new(rt.alloc(), AtomicU64::new(0)).expect(&rt, "memory is there");
-    let adds = Adds {
-        total: Arc::try_clone(&total).expect(&rt, "the count has room"),
-        amount: 7,
-    };
-    let job: Box<dyn Job + Send> = Box::new(rt.alloc(), adds).expect(&rt, "memory is there");
-    let mut world: World<u64, Deferred> = World::new(rt.alloc(), AMPLE).expect(
-        &rt,
-        "the limits are in range",
-    );
-    let place = world.register().expect(&rt, "a place is free");
-    let mut turn = world.at(&place);
-    let guard = Guard::new(&mut turn).expect(&rt, "a guard may be opened");
-    assert!(&rt; guard.defer_execute(Deferred::Boxed(job), &mut turn).is_ok());
-    guard.close(&mut turn);
-    drop(turn);
+    let total = number(&rt);
+    let (mut world, place) = started(&rt, AMPLE);
+    let job = adds_seven(&rt, &total);
+    assert!(&rt; deferred(&rt, &mut world.at(&place), job).is_ok());
+    assert_eq!(&rt; total.load(Ordering::SeqCst), 0);
     assert_eq!(&rt; closed(&rt, world), 0);
     assert_eq!(&rt; total.load(Ordering::SeqCst), 7);
 }
 
 #[test]
-fn without_a_place_a_job_comes_back(rt: HostRuntime) {
-    let limits = Limits { jobs: 0, ..AMPLE };
-    let mut world: World<u64, Deferred> = World::new(rt.alloc(), limits).expect(
-        &rt,
-        "the limits are in range",
-    );
-    let place = world.register().expect(&rt, "a place is free");
-    let mut turn = world.at(&place);
-    let guard = Guard::new(&mut turn).expect(&rt, "a guard may be opened");
-    let answer = guard.defer_execute(Deferred::Empty, &mut turn);
-    assert!(&rt; matches!(answer, Err((Deferred::Empty, Refused::NoJob))));
-    guard.close(&mut turn);
-    drop(turn);
+fn without_a_place_a_job_comes_back_and_has_not_run(rt: HostRuntime) {
+    let total = number(&rt);
+    let (mut world, place) = started(&rt, Limits { jobs: 1, ..AMPLE });
+    let (first, second) = (adds_seven(&rt, &total), adds_seven(&rt, &total));
+    assert!(&rt; deferred(&rt, &mut world.at(&place), first).is_ok());
+    let answer = deferred(&rt, &mut world.at(&place), second);
+    assert!(&rt; matches!(answer, Err((Deferred::Boxed(_), Refused::NoJob))));
     assert_eq!(&rt; closed(&rt, world), 0);
+    assert_eq!(&rt; total.load(Ordering::SeqCst), 7);
 }

@@ -17,13 +17,14 @@ returns-in_default c = record {
 
 pub names_of-requires : goal.names_of-requires
 names_of-requires c = record {
-  inside = rw c.as_slice.ensures.value (slots-inside (desk_of c.self.inside.hand) _ c.self.invariant.sound.stocked c.is_whole.ensures _
+  inside = rw (c.as_slice.ensures.value, c.as_slice-slots.ensures.value) (slots-inside (desk_of c.self.inside.hand) _ c.self.invariant.sound.stocked c.is_whole.ensures _
       (c.in_ok-slots.ensures ∙ ap slots_among c.reclaims_next-waiting.ensures));
 }
 
 pub owners_in-requires : goal.owners_in-requires
 owners_in-requires c = record {
-  taken = slots-filled (desk_of c.self.inside.hand) _ c.self.invariant.sound.stocked c.is_whole.ensures _ (c.in_ok-slots.ensures ∙ ap slots_among c.reclaims_next-waiting.ensures);
+  taken = rw c.as_slice-slots.ensures.value (slots-filled (desk_of c.self.inside.hand) _ c.self.invariant.sound.stocked c.is_whole.ensures _
+      (c.in_ok-slots.ensures ∙ ap slots_among c.reclaims_next-waiting.ensures));
 }
 
 pub returns-in-Err : goal.returns-in-Err
@@ -47,10 +48,10 @@ date_waiting-requires c =
 pub invariant_of-self-2 : goal.invariant_of-self-2
 invariant_of-self-2 c =
     let there = got c.self.inside.hand.places c.args.name.0 _ c.in-Some.ensures in
-    let named = rw c.as_slice.ensures.value at c.in_ok-due.ensures in
+    let named = rw (c.as_slice.ensures.value, c.as_slice-slots.ensures.value) at c.in_ok-due.ensures in
     let noted = noted-is _ c.self.invariant c.is_whole.ensures c.args.name _ there _ _ c.is_open-is_nested.ensures c.note_opening.ensures in
     let given = rw c.make_room.ensures.kept at c.give-name.ensures.given in
-    let dated = rw (c.as_slice-2.ensures.value, c.in_ok-given.ensures, c.in-Ok.ensures.opened.1) at c.date_waiting.ensures.dated in
+    let dated = rw (c.as_slice-2.ensures.value, c.in_ok-given.ensures, c.as_slice-slots.ensures.value, c.in-Ok.ensures.opened.1) at c.date_waiting.ensures.dated in
     tied (opens-to _ c.self.invariant c.is_whole.ensures c.args.name _ there _ _ _ _ _ _ _ c.sort_unstable.new.self.items (c.in_ok-slots.ensures ∙ ap slots_among c.reclaims_next-waiting.ensures) named
     noted given c.index-place.ensures c.in-Ok.ensures.reader refl refl c.in-Ok.ensures.opened.1 (rw (← c.self.view_is) at c.requires.line)
     c.date_waiting.ensures.long dated)
@@ -58,10 +59,10 @@ invariant_of-self-2 c =
 pub returns : goal.returns
 returns c =
     let there = got c.self.inside.hand.places c.args.name.0 _ c.in-Some.ensures in
-    let named = rw c.as_slice.ensures.value at c.in_ok-due.ensures in
+    let named = rw (c.as_slice.ensures.value, c.as_slice-slots.ensures.value) at c.in_ok-due.ensures in
     let noted = noted-is _ c.self.invariant c.is_whole.ensures c.args.name _ there _ _ c.is_open-is_nested.ensures c.note_opening.ensures in
     let given = rw c.make_room.ensures.kept at c.give-name.ensures.given in
-    let dated = rw (c.as_slice-2.ensures.value, c.in_ok-given.ensures, c.in-Ok.ensures.opened.1) at c.date_waiting.ensures.dated in
+    let dated = rw (c.as_slice-2.ensures.value, c.in_ok-given.ensures, c.as_slice-slots.ensures.value, c.in-Ok.ensures.opened.1) at c.date_waiting.ensures.dated in
     let up = IsNonDecreasingBy-from_sort (λ (i : ItemName). i.0) c.sort_unstable.new.self.items c.sort_unstable.ensures.sorted in
     record {
       answers = rw (← c.self.view_is, c.of.ensures, c.new.ensures) (answers-opened _ c.self.invariant c.is_whole.ensures c.args.name _ there _
