@@ -74,18 +74,21 @@ module _ {T : Type 0} where
     ran-once : (w : World T) (n j : ℕ) (xs : List What) → JobsOnceBut (Job n ∷ xs) w → (j ≡ n) ⊎ (j ≢ n) →
         times_deferred w j + count_by (is_of_job j) xs ≡ once_if (is_some (entry_at (without_entry w.jobs n) j))
     ran-once w n j xs i (inl e) = here-once (is_some (entry_at w.jobs n)) refl where
-        same-test : (n == n) ≡ true
-        same-test = grind (arith, nat_tests)
-        all : times_deferred w n + count_by (is_of_job n) (Job n ∷ xs) ≡ once_if (is_some (entry_at w.jobs n))
-        all = i n
-        head : count_by (is_of_job n) (Job n ∷ xs) ≡ 1 + count_by (is_of_job n) xs
-        head = count-cons (is_of_job n) (Job n) xs ∙ rw same-test refl
-        here-once : (b : Bool) → is_some (entry_at w.jobs n) ≡ b →
-            times_deferred w j + count_by (is_of_job j) xs ≡ once_if (is_some (entry_at (without_entry w.jobs n) j))
-        here-once true there =
-            let now : entry_at (without_entry w.jobs n) n ≡ None = get_or-set_same w.jobs n None None (job-inside w.jobs n there) in
-            rw (e, now) (omega (arith, rw there at all, head))
-        here-once false there = absurd (omega (arith, rw there at all, head))
+      same-test : (n == n) ≡ true
+      same-test = grind (arith, nat_tests)
+
+      all : times_deferred w n + count_by (is_of_job n) (Job n ∷ xs) ≡ once_if (is_some (entry_at w.jobs n))
+      all = i n
+
+      head : count_by (is_of_job n) (Job n ∷ xs) ≡ 1 + count_by (is_of_job n) xs
+      head = count-cons (is_of_job n) (Job n) xs ∙ rw same-test refl
+
+      here-once : (b : Bool) → is_some (entry_at w.jobs n) ≡ b →
+          times_deferred w j + count_by (is_of_job j) xs ≡ once_if (is_some (entry_at (without_entry w.jobs n) j))
+      here-once true there =
+          let now : entry_at (without_entry w.jobs n) n ≡ None = get_or-set_same w.jobs n None None (job-inside w.jobs n there) in
+          rw (e, now) (omega (arith, rw there at all, head))
+      here-once false there = absurd (omega (arith, rw there at all, head))
     ran-once w n j xs i (inr apart) =
         let other : entry_at (without_entry w.jobs n) j ≡ entry_at w.jobs j = get_or-set_other w.jobs n j None None apart in
         let test : (n == j) ≡ false = grind (arith, nat_tests) in

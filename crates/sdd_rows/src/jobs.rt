@@ -55,11 +55,7 @@ fn shows<T: Item<T>, S: Guards<T>>(
 }
 
 /// Defers a job under a guard of its own.
-fn deferred<S: Space<u64>>(
-    rt: &impl Abort,
-    s: &mut S,
-    job: S::Job,
-) -> Result<(), (S::Job, Refused)>
+fn deferred<S: Space<u64>>(rt: &impl Abort, s: &mut S, job: S::Job) -> Result<(), (S::Job, Refused)>
     requires { IsSeated (S.seat s.old) }
     ensures { S.seat s.new ≡ S.seat s.old }
 {
