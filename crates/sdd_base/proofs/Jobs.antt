@@ -1,5 +1,5 @@
 -- A job waits once exactly where a place of the table of jobs is taken, after each step
-use Rattle.std.proofs.Common.{◌≡◌, ◌≢◌, ◌⊎◌, inl, inr, ℕ, ◌+◌, ◌<◌, ◌≤◌, List, [], ◌∷◌, length, Bool, cond, refl, sym, ap, subst, ◌∙◌, arith, true, false, zero, suc, Some, None, Option, sum_by, count_by}
+use Rattle.std.proofs.Common.{◌≡◌, ◌≢◌, ◌⊎◌, inl, inr, ℕ, ◌+◌, ◌<◌, ◌≤◌, List, [], ◌∷◌, length, Bool, cond, refl, sym, ap, subst, ◌∙◌, arith, true, false, zero, suc, Some, None, Option, count_by}
 use Rattle.std.specs.Prelude.{◌==◌, Contains, IsSome, is_some}
 use Rattle.std.proofs.lemmas.List.{length-set, get_or-set_same, get_or-set_other}
 use Rattle.std.proofs.lemmas.List.Sums.{get_or-le-sum_by}

@@ -1,16 +1,16 @@
 -- What is always true of a world is true after each step
-use Rattle.std.proofs.Common.{zero-add, subst, ◌≡◌, ◌≢◌, ◌⊎◌, inl, inr, ℕ, ◌+◌, ◌<◌, ◌≤◌, List, [], ◌∷◌, ◌++◌, length, cond, Bool, refl, sym, ap, ◌∙◌, arith, true, false, Some, None, nat_lt, Option, map, zero, suc, slice_index_or, slice_set, IsTrue, sum_by, count_by}
+use Rattle.std.proofs.Common.{subst, ◌≡◌, ◌≢◌, ◌⊎◌, inl, inr, ℕ, ◌+◌, ◌<◌, ◌≤◌, List, [], ◌∷◌, ◌++◌, length, cond, Bool, refl, sym, ap, ◌∙◌, arith, true, false, Some, None, nat_lt, Option, map, zero, suc, slice_index_or, slice_set, IsTrue, sum_by, count_by}
 use Rattle.std.specs.Prelude.{◌==◌, ◌&&◌, ◌-◌, is_some, if◌then◌else◌, All, not}
 use Rattle.std.proofs.Math.ListN.{get_or-map, get_or-append}
 use Rattle.std.proofs.Math.Seq.{map-set_same}
 use Rattle.std.proofs.lemmas.List.{length-set, get_or-set_same, get_or-set_other, map-set, set-set}
-use Rattle.std.proofs.lemmas.List.Sums.{sum_by-set, sum_by-append, sum_by-cons}
+use Rattle.std.proofs.lemmas.List.Sums.{sum_by-set, sum_by-append}
 use Rattle.std.proofs.lemmas.List.Elements.{All-push, All-nil, All-weaker, filter_passes}
 use Rattle.std.specs.List.{list_all}
 use Rattle.std.proofs.lemmas.Bool.Decides.{nat_tests}
-use Rattle.sdd_store.proofs.Adopting.{IsAdditive, Adopts, Stays, adopts, scans-if, scans-there, same-or-not}
+use Rattle.sdd_store.proofs.Adopting.{Adopts, Stays, adopts, scans-if, scans-there, same-or-not}
 use Rattle.sdd_store.specs.declared.waiting.What.{What}
-use Rattle.sdd_store.specs.Waiting.{Waiting, anew, fresh, aged, left, due, older, is_due}
+use Rattle.sdd_store.specs.Waiting.{Waiting, fresh, aged, left, due, is_due}
 use Rattle.sdd_store.specs.declared.waiting.What.TheVariants.{Item, Job}
 use Rattle.sdd_store.specs.Bags.{Bags}
 use Rattle.sdd_store.specs.Time.{Time, with_place, nobody, newcomer, due_next, is_open, passes, last_count, stirred, counted_down, pace_of, rested, IsLive}
