@@ -1,4 +1,4 @@
-use Rattle.std.proofs.Common.{◌≡◌, ◌+◌, ◌<◌, ℕ, List, length, arith, sum_by, count_by, None}
+use Rattle.std.proofs.Common.{◌+◌, ◌<◌, ℕ, List, length, arith, sum_by, count_by, None}
 use Rattle.std.specs.Prelude.{is_none}
 use Rattle.std.proofs.lemmas.List.{length-set}
 use Rattle.sdd_store.specs.Table.{Entries, without_entry}

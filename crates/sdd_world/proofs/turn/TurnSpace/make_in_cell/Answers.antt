@@ -1,4 +1,4 @@
-use Rattle.std.proofs.Common.{◌≡◌, ◌<◌, ℕ, Bool, List, length, ap, sym, ◌∙◌, arith, Some, None}
+use Rattle.std.proofs.Common.{◌<◌, ℕ, Bool, List, length, ap, sym, ◌∙◌, arith, Some, None}
 use Rattle.std.specs.Prelude.{is_some}
 use Rattle.std.proofs.lemmas.List.{get_or-set_same, length-map}
 use Rattle.sdd_token.specs.Right.{number_of}
