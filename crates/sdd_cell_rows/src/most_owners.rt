@@ -1,6 +1,8 @@
 //! As many owners of one item as there may be. Most of them come in one piece.
 ghost use Rattle.std.specs.Prelude.{◌≡◌, ◌≤◌};
 ghost use Rattle.sdd_base.specs.Seat.{IsSeated};
+ghost use Rattle.sdd_base.specs.World.{IsPlaceOf};
+ghost use Rattle.sdd_world.specs.Place.{index_of};
 ghost use Rattle.sdd_base.specs.Shared.{slots_home, cells_home};
 
 use crate::example::AMPLE;
@@ -75,7 +77,7 @@ impl Crowd {
     {
         let mut world = World::new(rt.alloc(), limits).expect(rt, "the limits are in range");
         let place = world.register().expect(rt, "a place is free");
-        let (owner, cell) = first_owners(rt, &mut world.at(&place));
+        let (owner, cell) = first_owners_at(rt, &mut world, &place);
         let more = add_owners(&mut world, &owner, more).expect(rt, "so many may own it");
         Crowd {
             world,
@@ -132,6 +134,20 @@ impl Crowd {
             Err((_world, refused)) => panic!(rt; "{refused:?}"),
         }
     }
+}
+
+/// The participant makes an item, and has an owner of it and a cell that holds another.
+fn first_owners_at(
+    rt: &impl Abort,
+    world: &mut World<u64>,
+    place: &Place,
+) -> (Shared<u64>, AtomicShared<u64>)
+    requires place { IsPlaceOf world.old (index_of place.now) }
+    ensures place { IsPlaceOf world.new (index_of place.now) }
+    ensures owner { slots_home result.0 ≡ world.new.home.slots }
+    ensures cell { cells_home result.1 ≡ world.new.home.cells }
+{
+    first_owners(rt, &mut world.at(place))
 }
 
 /// An owner of a new item, and a cell that holds another.

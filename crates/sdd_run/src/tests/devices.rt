@@ -1,7 +1,6 @@
-//! Devices without memory of their own, which move three bytes at a time and fail once their calls are used up.
+//! Devices that move three bytes at a time, and fail once their calls are used up.
 
-ghost use Rattle.std.specs.Prelude.{◌≤◌};
-
+use std::alloc::{AllocError, Global};
 use std::io;
 
 /// A reader of a text.
@@ -24,27 +23,22 @@ impl io::Read for Trickle<'_> {
     }
 }
 
-/// A page to write on, of 256 bytes.
+/// A page to write on, with room for 256 bytes.
 #[derive(Drop)]
 pub struct Page {
-    bytes: [u8; 256],
-    length: usize,
+    bytes: Vec<u8>,
     calls: u64,
-    ghost on_page: { length ≤ 256 },
 }
 
 impl Page {
-    pub fn new(calls: u64) -> Page {
-        Page {
-            bytes: [0; 256],
-            length: 0,
-            calls,
-        }
+    pub fn new(alloc: Global, calls: u64) -> Result<Page, AllocError> {
+        let bytes = Vec::with_capacity(alloc, 256)?;
+        Ok(Page { bytes, calls })
     }
 
     /// What was written.
     pub fn written(&self) -> &[u8] {
-        &self.bytes[..self.length]
+        self.bytes.as_slice()
     }
 }
 
@@ -54,10 +48,11 @@ impl io::Write for Page {
             return Err(io::Error::from(io::ErrorKind::TimedOut));
         }
         self.calls -= 1;
-        let count = bytes.len().min(3).min(256 - self.length);
-        self.bytes[self.length..self.length + count].copy_from_slice(&bytes[..count]);
-        self.length += count;
-        Ok(count)
+        let count = bytes.len().min(3);
+        match self.bytes.extend_from_slice(&bytes[..count]) {
+            Ok(()) => Ok(count),
+            Err(_) => Err(io::Error::from(io::ErrorKind::OutOfMemory)),
+        }
     }
 
     fn flush(&mut self) -> io::Result<()> {

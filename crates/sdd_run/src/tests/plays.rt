@@ -5,7 +5,7 @@ use crate::arguments::USUAL_LIMITS;
 use sdd::{
     Action, Call, Ended, Limits, PlaceName, Reader, Refused, Tally, Value, Writer, play, run,
 };
-use std::alloc::Global;
+use std::alloc::{AllocError, Global};
 
 /// The shortest way of an item: it is made and retired, and goes at the third later opening that finds another epoch.
 const SHORTEST_WAY: &str = "register\np0 owned 7\np0 retire o0\n\
@@ -18,13 +18,13 @@ const ITS_ANSWERS: &str =
 /// How many calls of a device that moves three bytes are more than any play here needs.
 const AMPLE: u64 = 1000;
 
-/// How a play of a text ends, and what it then has written.
-fn played(alloc: Global, limits: Limits, text: &str) -> (Ended, Page) {
-    let mut page = Page::new(AMPLE);
+/// How a play of a text ends, and what it then has written. No page is there where memory for it is refused.
+fn played(alloc: Global, limits: Limits, text: &str) -> Result<(Ended, Page), AllocError> {
+    let mut page = Page::new(alloc, AMPLE)?;
     let mut reader = Reader::new(text.as_bytes());
     let mut writer = Writer::new(&mut page);
     let ended = play(alloc, limits, &mut reader, &mut writer);
-    (ended, page)
+    Ok((ended, page))
 }
 
 /// A run that always answers want of memory does not pass this.
@@ -41,7 +41,7 @@ fn each_script_is_answered(rt: HostRuntime) {
         ),
         ("\n", Ended::NotACall(1), "line 1: not a call\n"),
     ] {
-        let (end, page) = played(rt.alloc(), USUAL_LIMITS, text);
+        let (end, page) = played(rt.alloc(), USUAL_LIMITS, text).expect(&rt, "memory is there");
         assert_eq!(rt; end, ended, "{text:?}");
         assert_eq!(rt; page.written(), written.as_bytes(), "{text:?}");
     }
@@ -97,7 +97,7 @@ fn limits_out_of_range_are_told_before_anything_is_read(rt: HostRuntime) {
             rest: b"register",
             calls: 0,
         });
-        let mut writer = Writer::new(Page::new(0));
+        let mut writer = Writer::new(Page::new(rt.alloc(), 0).expect(&rt, "memory is there"));
         let ended = play(rt.alloc(), limits, &mut reader, &mut writer);
         assert_eq!(rt; ended, Ended::LimitsOutOfRange, "{limits:?}");
         assert_eq!(rt; reader.failures(), 0);
@@ -111,7 +111,7 @@ fn each_failed_read_ends_the_play(rt: HostRuntime) {
     // Each call but the last reads three bytes, and the last none.
     let needed = text.len().div_ceil(3) as u64 + 1;
     for calls in 0..needed + 2 {
-        let mut page = Page::new(AMPLE);
+        let mut page = Page::new(rt.alloc(), AMPLE).expect(&rt, "memory is there");
         let mut reader = Reader::new(Trickle { rest: text, calls });
         let mut writer = Writer::new(&mut page);
         let ended = play(rt.alloc(), USUAL_LIMITS, &mut reader, &mut writer);
@@ -136,7 +136,7 @@ fn each_failed_write_leaves_a_beginning(rt: HostRuntime) {
         let whole = whole.as_bytes();
         let needed = whole.len().div_ceil(3);
         for calls in 0..needed + 2 {
-            let mut page = Page::new(calls as u64);
+            let mut page = Page::new(rt.alloc(), calls as u64).expect(&rt, "memory is there");
             let mut reader = Reader::new(text.as_bytes());
             let mut writer = Writer::new(&mut page);
             let ended = play(rt.alloc(), USUAL_LIMITS, &mut reader, &mut writer);
@@ -161,7 +161,9 @@ fn only_want_of_memory_ends_a_play_early(rt: HostRuntime) {
         (SHORTEST_WAY, Ended::Played, ITS_ANSWERS),
         ("p0\n", Ended::NotACall(1), "line 1: not a call\n"),
     ] {
-        let (ended, page) = played(rt.alloc(), USUAL_LIMITS, text);
+        let Ok((ended, page)) = played(rt.alloc(), USUAL_LIMITS, text) else {
+            continue;
+        };
         if ended == Ended::NoMemory {
             assert_eq!(rt; page.written(), b"".as_slice());
         } else {
