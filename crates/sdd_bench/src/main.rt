@@ -19,12 +19,12 @@ use world::Work;
 
 const USAGE: &str = "usage: sdd-bench OPERATION TURNS";
 
-/// A thousand items wait at most: three times 128, and a few more.
+/// A thousand items or jobs wait at most: three times 128, and a few more.
 const LIMITS: Limits = Limits {
     participants: 1,
     slots: 1024,
     cells: 2,
-    jobs: 0,
+    jobs: 1024,
     nesting: 2,
     tries: 1,
 };
@@ -64,6 +64,7 @@ fn done(alloc: Global, operation: Operation, turns: u64) -> Result<(Tally, u64),
     match operation {
         Operation::World(guarding) => world::run(alloc, LIMITS, Work::Guards(guarding), turns),
         Operation::Item => world::run(alloc, LIMITS, Work::Items, turns),
+        Operation::Job => world::run(alloc, LIMITS, Work::Jobs, turns),
         Operation::Read => world::run(alloc, LIMITS, Work::Reads, turns),
         Operation::Load => world::run(alloc, LIMITS, Work::Loads, turns),
         Operation::Share => world::run(alloc, LIMITS, Work::Shares, turns),

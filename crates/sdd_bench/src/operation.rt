@@ -22,6 +22,8 @@ pub enum Operation {
     Local(Guarding),
     /// In a world, an item is made and retired under a guard, and what is due is reclaimed.
     Item,
+    /// In a world, a job is deferred under a guard, and what is due runs.
+    Job,
     /// In a world, an owner looks at its item.
     Read,
     /// In a world, a cell is loaded from under a guard, and the pointer looked through.
@@ -41,6 +43,7 @@ pub fn named(word: &str) -> Option<Operation>
         "world-nested" => Some(Operation::World(Guarding::Nested)),
         "world-accelerated" => Some(Operation::World(Guarding::Accelerated)),
         "world-item" => Some(Operation::Item),
+        "world-job" => Some(Operation::Job),
         "world-read" => Some(Operation::Read),
         "world-load" => Some(Operation::Load),
         "world-share" => Some(Operation::Share),

@@ -10,6 +10,7 @@ ghost use Rattle.sdd_bench.specs.Leaves.{Leaves};
 use crate::operation::Guarding;
 use sdd_base::{Guard, Guards, Look, Owned, Shared, Space};
 use sdd_core::Refused;
+use sdd_store::Idle;
 
 /// Does something with guards that often.
 #[inline(always)]
@@ -76,6 +77,23 @@ pub fn items<S: Space<u64>>(space: &mut S, turns: u64) -> Result<(), Refused>
             }
         }
         guard.close(space);
+    }
+    Ok(())
+}
+
+/// Opens a guard that often, and defers a job under each. What is due runs.
+#[inline(always)]
+pub fn jobs<S: Space<u64, Job = Idle>>(space: &mut S, turns: u64) -> Result<(), Refused>
+    requires { IsSeated (S.seat space.old) }
+    ensures { Leaves (S.seat space.old) (S.own space.old) (S.world space.old) (S.seat space.new) (S.own space.new) (S.world space.new) }
+{
+    for _ in 0..turns {
+        let guard = Guard::new(space)?;
+        let deferred = guard.defer_execute(Idle, space);
+        guard.close(space);
+        if let Err((_job, refused)) = deferred {
+            return Err(refused);
+        }
     }
     Ok(())
 }

@@ -11,7 +11,7 @@ use crate::operation::Guarding;
 use crate::{cells, turns};
 use sdd_base::{Limits, Space};
 use sdd_core::Refused;
-use sdd_store::Tally;
+use sdd_store::{Idle, Tally};
 use sdd_world::World;
 use std::alloc::Global;
 
@@ -20,6 +20,7 @@ use std::alloc::Global;
 pub enum Work {
     Guards(Guarding),
     Items,
+    Jobs,
     Reads,
     Loads,
     Shares,
@@ -52,13 +53,14 @@ fn in_world(world: &mut World<u64>, work: Work, turns: u64) -> Result<u64, Refus
 }
 
 #[inline(always)]
-fn worked<S: Space<u64>>(space: &mut S, work: Work, turns: u64) -> Result<u64, Refused>
+fn worked<S: Space<u64, Job = Idle>>(space: &mut S, work: Work, turns: u64) -> Result<u64, Refused>
     requires { IsSeated (S.seat space.old) }
     ensures { Leaves (S.seat space.old) (S.own space.old) (S.world space.old) (S.seat space.new) (S.own space.new) (S.world space.new) }
 {
     match work {
         Work::Guards(guarding) => turns::guards(space, guarding, turns)?,
         Work::Items => turns::items(space, turns)?,
+        Work::Jobs => turns::jobs(space, turns)?,
         Work::Reads => return turns::looks(space, turns),
         Work::Loads => return cells::loads(space, turns),
         Work::Shares => turns::shares(space, turns)?,

@@ -1,0 +1,7 @@
+use Rattle.sdd_bench.specs.Leaves.{Leaves}
+use Rattle.sdd_bench.proofs.turns.jobs.Given as goal
+
+abbrev pub invariant-loop : goal.invariant-loop
+invariant-loop g l =
+    let seat = g.S.Guards.seat in let own = g.S.Guards.own in let world = g.S.Guards.world in
+    Leaves (seat l.fn.space) (own l.fn.space) (world l.fn.space) (seat l.space) (own l.space) (world l.space)
