@@ -139,7 +139,7 @@ pub record Sweeps {T : Type 0} (holds : T → List Holding) (old new : World T) 
   pub cells_gone : (c : ℕ) → Goes holds old (the_cell c) → entry_at new.cells c ≡ None
   pub cells_kept : (c : ℕ) → ¬ (Goes holds old (the_cell c)) → entry_at new.cells c ≡ entry_at old.cells c
   pub pointers : new.pointers ≡ old.pointers
-  -- every job ran
+  -- no place of the table of jobs is taken: what waited there ran
   pub ran : (j : ℕ) → entry_at new.jobs j ≡ None
   pub reclaimed : (n : ℕ) × (taken old ≡ taken new + n) × (new.tally ≡ with_reclaimed n old.tally)
   pub time : new.time ≡ emptied old.time
