@@ -3,3 +3,4 @@ pub mod Listed
 pub mod Adopting
 pub mod Renaming
 pub mod Beside
+pub mod Collecting

@@ -6,3 +6,4 @@ pub mod Tally
 pub mod Table
 pub mod Renaming
 pub mod Jobs
+pub mod Collecting

@@ -1,7 +1,11 @@
 ghost use Rattle.std.specs.Prelude.{◌≡◌, ℕ, ◌+◌, ◌<◌, ◌≤◌, List, [], ◌∷◌, ◌++◌, length, IfOk, vec_capacity, map, IsTrue, ◌↔◌};
 ghost use Rattle.sdd_store.specs.Waiting.{anew, aged, due, left, fresh};
 ghost use Rattle.sdd_store.specs.Bags.{Bags};
+ghost use Rattle.sdd_store.specs.Collecting.{is_kept_for, chosen_of, rest_of};
+ghost use Rattle.std.specs.Prelude.{filter, not};
 
+use crate::standing::Standing;
+use crate::table::Table;
 use crate::waiting::What;
 use std::alloc::{AllocError, Global};
 use std::marker::Model;
@@ -110,6 +114,55 @@ impl Bags {
         pour(&mut left.next, &mut self.current);
         pour(&mut left.previous, &mut self.current);
         pour(&mut left.current, &mut self.current);
+    }
+
+    /// What waits for a collector comes out, into the bag that is handed in, the oldest first.
+    pub fn take_for(&mut self, collector: u32, standings: &Table<Standing>, bag: &mut Vec<What>)
+        requires { length bag.old.items + length self.old.waiting ≤ vec_capacity bag.old }
+        ensures left { self.new ≡ record self.old { waiting = rest_of (is_kept_for collector standings.now) self.old.waiting } }
+        ensures taken { bag.new.items ≡ bag.old.items ++ chosen_of (is_kept_for collector standings.now) self.old.waiting }
+        ensures reserved { vec_capacity bag.new ≡ vec_capacity bag.old }
+    {
+        pick(&mut self.next, collector, standings, bag);
+        pick(&mut self.previous, collector, standings, bag);
+        pick(&mut self.current, collector, standings, bag);
+    }
+}
+
+/// It is an item that waits for the collector.
+fn is_kept_for(what: What, collector: u32, standings: &Table<Standing>) -> bool
+    ensures { result ≡ is_kept_for collector standings.now what }
+{
+    match what {
+        What::Item(slot) => match standings.get(slot) {
+            Some(Standing::Private(number)) => number == collector,
+            _ => false,
+        },
+        What::Job(_) => false,
+    }
+}
+
+/// Moves what waits for a collector from a bag to another one.
+fn pick(from: &mut Vec<What>, collector: u32, standings: &Table<Standing>, to: &mut Vec<What>)
+    requires { length to.old.items + length from.old.items ≤ vec_capacity to.old }
+    ensures picked { to.new.items ≡ to.old.items ++ filter (is_kept_for collector standings.now) from.old.items }
+    ensures left { from.new.items ≡ filter (λ what. not (is_kept_for collector standings.now what)) from.old.items }
+    ensures reserved { (vec_capacity to.new ≡ vec_capacity to.old) × (vec_capacity from.new ≡ vec_capacity from.old) }
+{
+    copy_kept(from.as_slice(), collector, standings, to);
+    from.retain(|what| !is_kept_for(*what, collector, standings));
+}
+
+/// Adds what waits for a collector to a bag.
+fn copy_kept(from: &[What], collector: u32, standings: &Table<Standing>, to: &mut Vec<What>)
+    requires { length to.old.items + length from.now ≤ vec_capacity to.old }
+    ensures copied { to.new.items ≡ to.old.items ++ filter (is_kept_for collector standings.now) from.now }
+    ensures reserved { vec_capacity to.new ≡ vec_capacity to.old }
+{
+    for what in from {
+        if is_kept_for(*what, collector, standings) {
+            to.push_reserved(*what);
+        }
     }
 }
 

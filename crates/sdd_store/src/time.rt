@@ -2,10 +2,14 @@ ghost use Rattle.std.specs.Prelude.{IsSome, ◌≡◌, ◌≢◌, ℕ, ◌+◌, 
 ghost use Rattle.std.specs.List.{list_all};
 ghost use Rattle.sdd_store.specs.Waiting.{due, aged};
 ghost use Rattle.sdd_store.specs.Phases.{is_ended};
+ghost use Rattle.sdd_store.specs.Collecting.{is_kept_for, chosen_of, chosen_among, time_without, without};
+ghost use Rattle.std.specs.Prelude.{◌++◌};
 ghost use Rattle.sdd_store.specs.Time.{Time, IsLive, KeepsPlaces, adopted, adopted_from, ended, newcomer, phase_at, rested, waiting_count, with_place, place_at, IsCrowded, IsVacant, CanNest, registered, with_garbage, has_garbage, accelerated, awaiting, nested, rotated, settled, pace_of, passes, raised, scanned, closed, stirred_at, accelerated_at, awaiting_at, nested_at, rotated_at, settled_at, paced_at, finds_another, is_open, due_next};
 
 use crate::bags::Bags;
 use crate::phases::{Phase, Phases};
+use crate::standing::Standing;
+use crate::table::Table;
 use crate::waiting::What;
 use sdd_core::Refused;
 use std::alloc::{AllocError, Global};
@@ -319,6 +323,37 @@ impl Time {
         ensures { result.now ≡ due_next (place_at self.now place) }
     {
         self.places[place].bags.due()
+    }
+
+    /// What waits for a collector, with whomever, comes out, into the empty bag that is handed in.
+    pub fn take_for(&mut self, collector: u32, standings: &Table<Standing>, bag: &mut Vec<What>)
+        requires empty { bag.old.items ≡ [] }
+        requires reserved { sum_by waiting_count self.old.places ≤ vec_capacity bag.old }
+        ensures left { self.new ≡ time_without (is_kept_for collector standings.now) self.old }
+        ensures taken { bag.new.items ≡ chosen_among (is_kept_for collector standings.now) self.old.places }
+        ensures reserved { vec_capacity bag.new ≡ vec_capacity bag.old }
+        ensures count { sum_by waiting_count self.new.places + length bag.new.items ≡ sum_by waiting_count self.old.places }
+    {
+        for place in 0..self.places.len() {
+            self.take_from(place, collector, standings, bag);
+        }
+    }
+
+    /// What waits for a collector with a place comes out.
+    fn take_from(
+        &mut self,
+        place: usize,
+        collector: u32,
+        standings: &Table<Standing>,
+        bag: &mut Vec<What>,
+    )
+        requires place { place < length self.old.places }
+        requires room { length bag.old.items + waiting_count (place_at self.old place) ≤ vec_capacity bag.old }
+        ensures left { self.new ≡ with_place self.old place (without (is_kept_for collector standings.now) (place_at self.old place)) }
+        ensures taken { bag.new.items ≡ bag.old.items ++ chosen_of (is_kept_for collector standings.now) (place_at self.old place).bags.waiting }
+        ensures reserved { vec_capacity bag.new ≡ vec_capacity bag.old }
+    {
+        self.places[place].bags.take_for(collector, standings, bag);
     }
 
     /// After a rotation and the drops.

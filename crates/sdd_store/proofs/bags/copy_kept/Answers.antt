@@ -1,0 +1,13 @@
+use Rattle.std.proofs.Common.{ap, arith, length, length-append, length-take, take}
+use Rattle.std.specs.Prelude.{filter}
+use Rattle.sdd_store.specs.Collecting.{is_kept_for}
+use Rattle.sdd_store.proofs.Collecting.{filter-within}
+use Rattle.sdd_store.proofs.bags.copy_kept.Goals as goal
+
+pub push_reserved-requires : goal.push_reserved-requires
+push_reserved-requires c =
+    let chosen = is_kept_for c.args.collector c.args.standings.now in
+    let so_far = take c.loop-what.what-index c.args.from.now in
+    let copied = ap length c.loop-what.invariant.0 in
+    let both = length-append c.args.to.now.items (filter chosen so_far) in
+    omega (arith, copied, both, filter-within chosen so_far, length-take c.loop-what.what-index c.args.from.now, c.loop-what-test.true, c.requires, c.loop-what.invariant.1, c.loop-what.auto.what-index-end)
