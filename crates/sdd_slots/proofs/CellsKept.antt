@@ -1,12 +1,11 @@
 -- What is kept of one cell, where it changes
-use Rattle.std.proofs.Common.{◌≡◌, ◌≢◌, ◌⊎◌, inl, inr, ◌<◌, ℕ, List, length, slice_set, slice_index_or, sym, ◌∙◌, ap, refl, arith, subst, Option, None, Some, true, zero, suc, take, [], ◌∷◌}
+use Rattle.std.proofs.Common.{◌≡◌, ◌≢◌, ◌⊎◌, inl, inr, ◌<◌, ℕ, List, slice_set, slice_index_or, sym, ◌∙◌, ap, refl, arith, subst, Option, None, Some, true, zero, suc, take, [], ◌∷◌}
 use Rattle.std.specs.Prelude.{◌+◌, ◌-◌, ◌≤◌, ◌^◌, IfSome, IsSome, IsNone, All}
 use Rattle.std.proofs.Math.ListN.{length-set, replicate}
-use Rattle.std.proofs.lemmas.List.{map-set, length-replicate, get_or-set_same, get_or-set_other}
-use Rattle.sdd_core.specs.declared.tag.Tag.{Tag}
+use Rattle.std.proofs.lemmas.List.{length-replicate, get_or-set_same, get_or-set_other}
 use Rattle.sdd_token.specs.Units.{Home}
 use Rattle.sdd_token.specs.Kind.{IsOwner, is_owner, right_units}
-use Rattle.sdd_token.specs.Rights.{Kept, whole, granted}
+use Rattle.sdd_token.specs.Rights.{Kept, whole}
 use Rattle.sdd_token.specs.declared.right.Right.{Right}
 use Rattle.sdd_token.specs.declared.right.Kind.{Kind}
 use Rattle.sdd_token.specs.declared.right.Kind.TheVariants as kind
@@ -14,7 +13,7 @@ use Rattle.sdd_store.specs.Table.{Entries, entry_at}
 use Rattle.sdd_store.specs.declared.standing.Cell.{Cell}
 use Rattle.sdd_store.proofs.Adopting.{same-or-not}
 use Rattle.sdd_slots.proofs.SlotsKept.{none-of, none-at}
-use Rattle.sdd_slots.specs.Cells.{AreKept, Fits, MayHold, right_at, slot_held, cell_with}
+use Rattle.sdd_slots.specs.Cells.{AreKept, Fits, MayHold, right_at, slot_held}
 
 -- what is kept of a cell's number
 abbrev pub kept_at : List Kept → ℕ → Kept

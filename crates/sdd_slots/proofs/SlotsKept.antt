@@ -1,6 +1,6 @@
 -- What is kept of one slot, where it changes
-use Rattle.std.proofs.Common.{◌≡◌, ℕ, List, length, slice_index_or, slice_set, sym, ◌∙◌, ap, refl, Option, None, Some, Bool, true, false, [], ◌∷◌, arith, zero}
-use Rattle.std.specs.Prelude.{map, is_some, IsSome, IsNone, All, option_copied, unwrap_or, ◌+◌, ◌-◌, ◌<◌, ◌≤◌, ◌^◌, suc}
+use Rattle.std.proofs.Common.{◌≡◌, ℕ, List, length, slice_index_or, slice_set, sym, ◌∙◌, ap, refl, Option, None, Some, Bool, true, false, [], ◌∷◌, arith, subst, zero}
+use Rattle.std.specs.Prelude.{map, is_some, IsSome, IsNone, IsTrue, All, unwrap_or, ◌+◌, ◌-◌, ◌<◌, ◌≤◌, ◌^◌, suc}
 use Rattle.std.proofs.Math.ListN.{get_or-map, length-set, replicate}
 use Rattle.std.proofs.Math.Seq.{map-set_same}
 use Rattle.std.proofs.lemmas.List.{map-set, get_or_read, length-map, length-replicate}
@@ -12,7 +12,7 @@ use Rattle.sdd_token.specs.declared.right.Kind.TheVariants as kind
 use Rattle.sdd_store.specs.Table.{Entries}
 use Rattle.sdd_store.specs.declared.standing.Standing.{Standing}
 use Rattle.sdd_store.specs.declared.standing.Standing.TheVariants.{Owned, Raw, Shared, Retired, Private}
-use Rattle.sdd_slots.specs.Slots.{AreKept, IsWaiting, IsBounded, IsSharedBy, IsOwnedBy, kept_of, first_standing, owners_of}
+use Rattle.sdd_slots.specs.Slots.{AreKept, IsWaiting, is_waiting, IsBounded, IsSharedBy, IsOwnedBy, kept_of, first_standing, owners_of}
 
 -- each of the same, mapped
 pub map-replicate : {X Y : Type 0} (f : X → Y) (n : ℕ) (x : X) → map f (replicate n x) ≡ replicate n (f x)
@@ -47,6 +47,17 @@ shared-only (Some Raw) h e = cc
 shared-only (Some (Shared n)) h e = (n, h n refl)
 shared-only (Some Retired) h e = cc
 shared-only (Some (Private n)) h e = cc
+
+-- where the last owner is gone, all is kept of an item that waits
+pub waiting-kept : (s : Standing) → IsWaiting (Some s) → kept_of (Some s) ≡ whole kind.Retired
+waiting-kept Owned h = absurd (cc)
+waiting-kept Raw h = absurd (cc)
+waiting-kept (Shared n) h = absurd (cc)
+waiting-kept Retired h = refl
+waiting-kept (Private c) h = refl
+
+pub waiting-bounded : (s : Standing) → IsWaiting (Some s) → IsBounded (Some s)
+waiting-bounded s h n e = let never : IsTrue (is_waiting (Some (Shared n))) = subst (λ (o : Option Standing). IsTrue (is_waiting o)) e h in absurd (cc)
 
 -- only where a slot is not free is anything but free kept of it
 taken-only : (s : Option Standing) → IsOwner (kept_of s).kind → IsSome s

@@ -1,5 +1,5 @@
 -- The slots of a world: how each stands, and its value
-use Rattle.std.specs.Prelude.{ℕ, ◌+◌, ◌-◌, ◌^◌, ◌<◌, ◌≤◌, ◌≡◌, Bool, true, false, IsTrue, List, length, map, is_some, nat_lt, Option, None, Some, slice_index_or, slice_set, if◌then◌else◌}
+use Rattle.std.specs.Prelude.{ℕ, ◌-◌, ◌^◌, ◌≤◌, ◌≡◌, Bool, true, false, IsTrue, List, length, map, is_some, nat_lt, Option, None, Some, slice_index_or, slice_set, if◌then◌else◌}
 use Rattle.sdd_token.specs.Units.{Home}
 use Rattle.sdd_token.specs.Rights.{Kept, whole, granted}
 use Rattle.sdd_token.specs.declared.right.Kind.{Kind}
@@ -42,14 +42,18 @@ has_others (Some (Shared owners)) = nat_lt 1 owners
 has_others (Some Retired) = false
 has_others (Some (Private collector)) = false
 
--- one owner fewer: after the last one the item waits
+-- one owner fewer: after the last one the item stands so
+abbrev pub let_go_to : Standing → Option Standing → Standing
+let_go_to last None = last
+let_go_to last (Some Owned) = last
+let_go_to last (Some Raw) = last
+let_go_to last (Some (Shared owners)) = if nat_lt 1 owners then Shared (owners - 1) else last
+let_go_to last (Some Retired) = last
+let_go_to last (Some (Private collector)) = last
+
+-- after the last one it waits
 abbrev pub let_go : Option Standing → Standing
-let_go None = Retired
-let_go (Some Owned) = Retired
-let_go (Some Raw) = Retired
-let_go (Some (Shared owners)) = if nat_lt 1 owners then Shared (owners - 1) else Retired
-let_go (Some Retired) = Retired
-let_go (Some (Private collector)) = Retired
+let_go = let_go_to Retired
 
 -- so many owners share it, as many as there may be at most
 pub record IsSharedBy (owners : ℕ) (standing : Option Standing) : Type 0 where

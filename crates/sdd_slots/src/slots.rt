@@ -5,7 +5,7 @@ ghost use Rattle.sdd_token.specs.Kind.{IsOwner};
 ghost use Rattle.sdd_token.specs.Right.{number_of, home_of, kind_of, badge_home};
 ghost use Rattle.sdd_token.specs.Shares as shares;
 ghost use Rattle.sdd_store.specs.Table.{IsEmptyAt, IsFull};
-ghost use Rattle.sdd_slots.specs.Slots.{standing_at, value_at, with_made, with_standing, with_value, without_slot, first_standing, let_go, has_others, owners_of, IsOwnedBy, IsSharedBy, IsWaiting};
+ghost use Rattle.sdd_slots.specs.Slots.{standing_at, value_at, with_made, with_standing, with_value, without_slot, first_standing, let_go, let_go_to, has_others, owners_of, IsOwnedBy, IsSharedBy, IsWaiting};
 
 use sdd_places::{Ended, Places, Tenure};
 use sdd_store::{Standing, Table};
@@ -143,6 +143,13 @@ impl<T> Slots<T> {
         self.standings.get(slot)
     }
 
+    /// How each slot stands.
+    pub fn standings(&self) -> &Table<Standing>
+        ensures { result.now ≡ self.now.standings }
+    {
+        &self.standings
+    }
+
     /// How many owners share the item in a slot; of one that is not shared nothing.
     pub fn owners(&self, slot: u32) -> Option<u64>
         ensures owners { result ≡ owners_of (standing_at self.now slot) }
@@ -209,6 +216,30 @@ impl<T> Slots<T> {
         ensures last { IsTrue result ↔ ¬ (IsTrue (has_others (standing_at self.old (number_of right)))) }
         ensures gone { self.new ≡ with_standing self.old (number_of right) (let_go (standing_at self.old (number_of right))) }
     {
+        self.let_go_to(right, kind, Standing::Retired)
+    }
+
+    /// Lets an owner of this kind go, and tells whether it was the last: then the item waits for the collector of that number.
+    pub fn collect(&mut self, right: Right, kind: Kind, collector: u32) -> bool
+        requires home { home_of right ≡ self.old.home }
+        requires kind { kind_of right ≡ kind }
+        ensures owned { IsOwnedBy (kind_of right) (standing_at self.old (number_of right)) }
+        ensures last { IsTrue result ↔ ¬ (IsTrue (has_others (standing_at self.old (number_of right)))) }
+        ensures gone { self.new ≡ with_standing self.old (number_of right)
+            (let_go_to (Standing.Private collector) (standing_at self.old (number_of right))) }
+    {
+        self.let_go_to(right, kind, Standing::Private(collector))
+    }
+
+    /// Lets an owner of this kind go, and tells whether it was the last: then the item waits, and stands so.
+    fn let_go_to(&mut self, right: Right, kind: Kind, last: Standing) -> bool
+        requires home { home_of right ≡ self.old.home }
+        requires kind { kind_of right ≡ kind }
+        requires waits { IsWaiting (Some last) }
+        ensures owned { IsOwnedBy (kind_of right) (standing_at self.old (number_of right)) }
+        ensures last { IsTrue result ↔ ¬ (IsTrue (has_others (standing_at self.old (number_of right)))) }
+        ensures gone { self.new ≡ with_standing self.old (number_of right) (let_go_to last (standing_at self.old (number_of right))) }
+    {
         let slot = self.slot_of(&right);
         let owners = self.owners_beside(&right, kind);
         self.rights.redeem(right);
@@ -216,7 +247,7 @@ impl<T> Slots<T> {
             self.standings.replace(slot, Standing::Shared(owners - 1));
             return false;
         }
-        self.standings.replace(slot, Standing::Retired);
+        self.standings.replace(slot, last);
         self.rights.set(slot as usize, Kind::Retired);
         true
     }

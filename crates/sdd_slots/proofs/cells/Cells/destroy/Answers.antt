@@ -1,6 +1,3 @@
-use Rattle.std.proofs.Common.{◌≡◌, None, Some, sym, ◌∙◌, ap, Option, arith}
-use Rattle.std.specs.Prelude.{◌-◌, vec_len}
-use Rattle.sdd_token.specs.declared.right.Right.{Right}
 use Rattle.sdd_slots.proofs.CellsKept.{no-right, none-take}
 use Rattle.sdd_slots.proofs.cells.Cells.destroy.Goals as goal
 

@@ -1,4 +1,4 @@
-use Rattle.std.proofs.Common.{ap, sym, ◌∙◌, Some}
+use Rattle.std.proofs.Common.{ap, ◌∙◌}
 use Rattle.std.specs.Prelude.{is_some}
 use Rattle.sdd_slots.proofs.SlotsKept.{filled-there, keeps-other}
 use Rattle.sdd_slots.proofs.slots.Slots.edit.Goals as goal

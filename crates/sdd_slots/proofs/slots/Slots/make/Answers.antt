@@ -1,4 +1,4 @@
-use Rattle.std.proofs.Common.{ap, ◌∙◌, refl, Some, sym}
+use Rattle.std.proofs.Common.{ap, ◌∙◌, refl, Some}
 use Rattle.std.specs.Prelude.{is_some}
 use Rattle.sdd_slots.specs.Slots.{first_standing}
 use Rattle.sdd_slots.proofs.SlotsKept.{filled-there, keeps, none-of, first-kept, first-bounded}

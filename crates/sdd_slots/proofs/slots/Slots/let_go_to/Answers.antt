@@ -1,14 +1,13 @@
-use Rattle.std.proofs.Common.{◌≡◌, ◌+◌, ◌-◌, ◌<◌, ◌≤◌, ◌^◌, ℕ, Option, ap, sym, ◌∙◌, arith, slice_index_or, None, Some}
-use Rattle.std.specs.Prelude.{is_some, unwrap_or}
+use Rattle.std.proofs.Common.{◌≡◌, ◌+◌, ◌-◌, ◌≤◌, ◌^◌, ℕ, ap, sym, ◌∙◌, arith, slice_index_or, None, Some}
+use Rattle.std.specs.Prelude.{is_some}
 use Rattle.std.proofs.lemmas.List.{set-set}
-use Rattle.sdd_store.specs.declared.standing.Standing.TheVariants.{Shared, Retired}
+use Rattle.sdd_store.specs.declared.standing.Standing.TheVariants.{Shared}
 use Rattle.sdd_token.specs.Kind.{right_units}
 use Rattle.sdd_token.specs.Right.{kind_of}
 use Rattle.sdd_token.specs.Rights.{Kept, whole}
-use Rattle.sdd_token.specs.declared.right.Kind.TheVariants.{Free}
-use Rattle.sdd_slots.specs.Slots.{owners_of}
-use Rattle.sdd_slots.proofs.SlotsKept.{owners-or-one, keeps-so, keeps-value, kept-there, fewer-kept, more-owners, last-units, shared-bounded}
-use Rattle.sdd_slots.proofs.slots.Slots.let_go.Goals as goal
+use Rattle.sdd_token.specs.declared.right.Kind.TheVariants.{Free, Retired as KindRetired}
+use Rattle.sdd_slots.proofs.SlotsKept.{owners-or-one, keeps-so, kept-there, fewer-kept, more-owners, shared-bounded, waiting-bounded, waiting-kept}
+use Rattle.sdd_slots.proofs.slots.Slots.let_go_to.Goals as goal
 
 pub invariant_of-self : goal.invariant_of-self
 invariant_of-self g c =
@@ -33,4 +32,5 @@ invariant_of-self-2 g c =
     let s = slice_index_or c.self.inside.standings slot None in
     let here : c.redeem.result ≡ slot = c.redeem.ensures.number ∙ sym c.slot_of-slot.ensures.slot in
     rw (c.set.ensures.home, c.set.ensures.kept, c.redeem.ensures.home, c.redeem.ensures.kept, c.replace-2.ensures, here, set-set c.self.inside.rights.kept slot _ _)
-    (keeps-value slot (Some Retired) (sym (rw (← c.self.view_is) at c.slot_of-slot.ensures.taken)) (λ n e. absurd (cc)) c.self.invariant)
+    (keeps-so slot (Some c.args.last) (whole KindRetired) (waiting-kept c.args.last c.requires.waits)
+    (sym (rw (← c.self.view_is) at c.slot_of-slot.ensures.taken)) (waiting-bounded c.args.last c.requires.waits) c.self.invariant)
