@@ -2,7 +2,7 @@
 use Rattle.std.proofs.Common.{◌≡◌, ◌≢◌, ◌⊎◌, inl, inr, ℕ, ◌+◌, ◌<◌, ◌≤◌, List, [], ◌∷◌, ◌++◌, length, Bool, refl, sym, ap, ◌∙◌, arith, true, false, Some, None, nat_lt, Option, map, sum_by, slice_index_or, slice_set, IsTrue, subst}
 use Rattle.std.specs.Prelude.{◌-◌, ◌==◌, Contains, if◌then◌else◌}
 use Rattle.std.proofs.Math.ListN.{get_or-append, get_or-map}
-use Rattle.std.proofs.lemmas.List.{get_or_push, length-set, length-append, get_or-set_same, get_or-set_other, get_or_past}
+use Rattle.std.proofs.lemmas.List.{get_or_push, length-map, length-set, length-append, get_or-set_same, get_or-set_other, get_or_past}
 use Rattle.std.proofs.lemmas.List.Sums.{sum_by-set, sum_by-append}
 use Rattle.std.proofs.lemmas.Bool.Decides.{nat_tests}
 use Rattle.sdd_store.specs.Waiting.{Waiting, having_seen}
@@ -16,13 +16,16 @@ use Rattle.sdd_store.specs.declared.phases.Phase.TheVariants.{Live, Ended}
 use Rattle.sdd_store.specs.declared.time.Participant.{Participant}
 use Rattle.sdd_store.specs.declared.time.Pace.{Pace}
 use Rattle.sdd_store.specs.declared.standing.Standing.{Standing}
-use Rattle.sdd_store.specs.declared.standing.Standing.TheVariants.{Shared}
+use Rattle.sdd_store.specs.declared.standing.Standing.TheVariants.{Shared, Retired}
 use Rattle.sdd_store.specs.declared.standing.Cell.{Cell}
 use Rattle.sdd_store.specs.declared.standing.Pointer.{Pointer}
 use Rattle.sdd_slots.specs.Slots.{is_waiting}
 use Rattle.sdd_store.proofs.Adopting.{Scans, scans-if, scans-there, live-entry, same-or-not}
 use Rattle.sdd_base.specs.World.{World, standing_at, place_at}
-use Rattle.sdd_base.specs.Steps.{made_as, with_standing, with_value, dropped, owner_given, retired, cell_closed, deferred, all_reclaimed, changed}
+use Rattle.sdd_store.specs.Collecting.{rest_of, time_without, without}
+use Rattle.sdd_store.specs.declared.waiting.What.{What}
+use Rattle.sdd_base.specs.Collecting.{collector_closed, is_for, waiting_for, without_collector}
+use Rattle.sdd_base.specs.Steps.{waiting_as, made_as, with_standing, with_value, dropped, owner_given, retired, cell_closed, deferred, all_reclaimed, changed}
 use Rattle.sdd_base.specs.Steps as steps
 use Rattle.sdd_base.specs.Holding.{Holding}
 use Rattle.sdd_base.specs.Whole.{IsAbreast, AreHoused, IsWhole, is_of_job}
@@ -79,6 +82,20 @@ housed-keeps t p x l e h = housed-put t p x l (λ o. h.shut p (subst (λ (n : �
 
 taken-put : (t : Time) (p : ℕ) (x : Participant) → IsTaken t p → IsTaken (with_place t p x) p
 taken-put t p x l = record { there = omega (arith, l.there, length-set t.places p x); taken = l.taken }
+
+-- what is chosen is taken out
+place-without : (t : Time) (chosen : What → Bool) (p : ℕ) → time.place_at (time_without chosen t) p ≡ without chosen (time.place_at t p)
+place-without t chosen p = get_or-map (without chosen) t.places p nobody
+
+taken-without : (t : Time) (chosen : What → Bool) (p : ℕ) → IsTaken t p → IsTaken (time_without chosen t) p
+taken-without t chosen p l = record { there = omega (arith, l.there, length-map t.places (without chosen)); taken = l.taken }
+
+housed-without : (t : Time) (chosen : What → Bool) → AreHoused t → AreHoused (time_without chosen t)
+housed-without t chosen h = record {
+  lengths = h.lengths ∙ sym (length-map t.places (without chosen));
+  shut = λ p o. h.shut p (subst (λ (x : Participant). IsTrue (is_open x)) (place-without t chosen p) o);
+  bare = λ p none. ap (λ (x : Participant). x.bags.waiting) (place-without t chosen p) ∙ ap (rest_of chosen) (h.bare p none);
+}
 
 -- a new item waits not
 first-idle : (s : Standing) → IsFirst s → is_waiting (Some s) ≡ false
@@ -140,6 +157,19 @@ module _ {T : Type 0} where
     pub Whole-opened : (w : World T) (p : ℕ) → IsLive w.time p → IsWhole w → IsWhole (steps.opened holds w p)
     Whole-opened w p l i = with-places (whole.Items-opened holds w p l.0 (items i)) (jobs.once-opened holds w p l.0 i.jobs_once) (housed-opened w p l i.housed (how holds w p l.0))
 
+    -- a collector is closed
+    housed-collector_closed : (w : World T) (p c : ℕ) → IsTaken w.time p → AreHoused w.time → AreHoused (collector_closed holds w p c).time
+    housed-collector_closed w p c l h =
+        let start = without_collector w c in
+        let start_taken = taken-without w.time (is_for w c) p l in
+        let g = Gives-all_reclaimed holds start p (waiting_for w c) start_taken.there in
+        (housed-gives p start_taken (housed-without w.time (is_for w c) h) g).1
+
+    pub Whole-collector_closed : (w : World T) (p c : ℕ) → IsTaken w.time p → IsWhole w → IsWhole (collector_closed holds w p c)
+    Whole-collector_closed w p c l i =
+        with-places (whole.Items-collector_closed holds w p c l.there (items i)) (jobs.once-collector_closed holds w p c l.there i.jobs_once)
+        (housed-collector_closed w p c l i.housed)
+
     -- an item is dropped in its place
     pub Whole-dropped : (w : World T) (p k : ℕ) → IsTaken w.time p → is_out (standing_at w k) ≡ true → IsWhole w → IsWhole (dropped holds w p k)
     Whole-dropped w p k l out i =
@@ -163,9 +193,14 @@ module _ {T : Type 0} where
       with-places (whole.Items-deferred w p j l.there (items i)) (jobs.once-deferred w p j l.there free i.jobs_once)
       (housed-keeps w.time p (time.awaiting (Job j) (place_at w p)) l refl i.housed)
 
+  pub Whole-waits : (w : World T) (p k : ℕ) (s : Standing) → is_waiting (Some s) ≡ true → IsTaken w.time p → is_out (standing_at w k) ≡ true →
+      IsWhole w → IsWhole (waiting_as w p k s)
+  Whole-waits w p k s waits l out i =
+      with-places (whole.Items-waiting w p k s waits l.there out (items i)) (jobs.once-waiting w p k s l.there i.jobs_once)
+      (housed-keeps w.time p (time.awaiting (Item k) (place_at w p)) l refl i.housed)
+
   pub Whole-retires : (w : World T) (p k : ℕ) → IsTaken w.time p → is_out (standing_at w k) ≡ true → IsWhole w → IsWhole (retired w p k)
-  Whole-retires w p k l out i =
-      with-places (whole.Items-retires w p k l.there out (items i)) (jobs.once-retired w p k l.there out i.jobs_once) (housed-keeps w.time p (time.awaiting (Item k) (place_at w p)) l refl i.housed)
+  Whole-retires w p k l out i = Whole-waits w p k Retired refl l out i
 
   -- an item that is shared has one owner more or fewer
   pub Whole-shared : (w : World T) (k n m : ℕ) → standing_at w k ≡ Some (Shared n) → IsWhole w → IsWhole (with_standing w k (Shared m))

@@ -1,7 +1,7 @@
 -- A job waits once exactly where a place of the table of jobs is taken, after each step
 use Rattle.std.proofs.Common.{◌≡◌, ◌≢◌, ◌⊎◌, inl, inr, ℕ, ◌+◌, ◌<◌, ◌≤◌, List, [], ◌∷◌, length, Bool, cond, refl, sym, ap, subst, ◌∙◌, arith, true, false, zero, suc, Some, None, Option, count_by}
 use Rattle.std.specs.Prelude.{◌==◌, Contains, IsSome, is_some}
-use Rattle.std.proofs.lemmas.List.{length-set, get_or-set_same, get_or-set_other}
+use Rattle.std.proofs.lemmas.List.{length-map, length-set, get_or-set_same, get_or-set_other}
 use Rattle.std.proofs.lemmas.List.Sums.{get_or-le-sum_by}
 use Rattle.std.proofs.lemmas.Bool.Decides.{nat_tests}
 use Rattle.sdd_store.proofs.Adopting.{same-or-not}
@@ -12,14 +12,17 @@ use Rattle.sdd_store.specs.Time as time
 use Rattle.sdd_store.specs.Table.{Entries, IsEmptyAt, entry_at, without_entry}
 use Rattle.sdd_store.specs.declared.time.Participant.{Participant}
 use Rattle.sdd_store.specs.declared.standing.Standing.{Standing}
+use Rattle.sdd_store.specs.declared.standing.Standing.TheVariants.{Retired}
 use Rattle.sdd_base.specs.World.{World, place_at, standing_at, value_at}
-use Rattle.sdd_base.specs.Steps.{deferred, retired, reclaims, cell_closed, owner_given, given_all, freed, vacated, dropped_out, dropped, taken_out, waiting_value, reclaimed, all_reclaimed, changed}
+use Rattle.sdd_store.specs.Collecting.{without}
+use Rattle.sdd_base.specs.Collecting.{collector_closed, is_for, waiting_for, without_collector}
+use Rattle.sdd_base.specs.Steps.{deferred, waiting_as, retired, reclaims, cell_closed, owner_given, given_all, freed, vacated, dropped_out, dropped, taken_out, waiting_value, reclaimed, all_reclaimed, changed}
 use Rattle.sdd_base.specs.Steps as steps
 use Rattle.sdd_base.specs.Holding.{Holding}
 use Rattle.sdd_base.specs.Whole.{is_of_job, jobs_with, once_if, times_deferred}
 use Rattle.sdd_base.specs.Out.{is_out}
 use Rattle.sdd_base.specs.Jobs.{RunsJobsOnce}
-use Rattle.sdd_base.proofs.Listed.{count-cons, listed-place, listed-same, listed-awaiting, listed-aged}
+use Rattle.sdd_base.proofs.Listed.{count-cons, listed-place, listed-same, listed-awaiting, listed-aged, listed-without}
 use Rattle.sdd_base.proofs.Opening.{how, Nests, IsChange, before, due-here, none-here, keeps-owner_given, keeps-cell_closed, keeps-given_all}
 
 job-inside : (js : Entries (Unit {0})) (n : ℕ) → is_some (entry_at js n) ≡ true → n < length js
@@ -50,12 +53,15 @@ module _ {T : Type 0} where
     abbrev HasOnce : World T → Type 0
     HasOnce w = (p < length w.time.places) × JobsOnceBut xs w
 
-    retires-once : (w : World T) (k : ℕ) → is_out (standing_at w k) ≡ true → HasOnce w → HasOnce (retired w p k)
-    retires-once w k out h =
+    waits-once : (w : World T) (k : ℕ) (s : Standing) → HasOnce w → HasOnce (waiting_as w p k s)
+    waits-once w k s h =
         let x : Participant = time.awaiting (Item k) (place_at w p) in (
           omega (arith, h.0, length-set w.time.places p x),
           λ j. omega (arith, h.1 j, listed-place (is_of_job j) w.time p x h.0, listed-awaiting (is_of_job j) (Item k) (place_at w p)),
         )
+
+    retires-once : (w : World T) (k : ℕ) → is_out (standing_at w k) ≡ true → HasOnce w → HasOnce (retired w p k)
+    retires-once w k out h = waits-once w k Retired h
 
     once-given_all : (w : World T) (hs : List Holding) → HasOnce w → HasOnce (given_all w p hs)
     once-given_all w hs h = keeps-given_all p HasOnce retires-once (λ u c i. i) (λ u k n m is i. i) w hs h
@@ -151,8 +157,19 @@ module _ {T : Type 0} where
   pub once-dropped : (holds : T → List Holding) (w : World T) (p k : ℕ) → p < length w.time.places → JobsOnce w → JobsOnce (dropped holds w p k)
   once-dropped holds w p k l i = no-more (dropped holds w p k) (once-dropped_out p [] holds w k (value_at w k) (l, none-yet w i)).1
 
-  pub once-retired : (w : World T) (p k : ℕ) → p < length w.time.places → is_out (standing_at w k) ≡ true → JobsOnce w → JobsOnce (retired w p k)
-  once-retired w p k l out i = no-more (retired w p k) (retires-once p [] w k out (l, none-yet w i)).1
+  pub once-waiting : (w : World T) (p k : ℕ) (s : Standing) → p < length w.time.places → JobsOnce w → JobsOnce (waiting_as w p k s)
+  once-waiting w p k s l i = no-more (waiting_as w p k s) (waits-once p [] w k s (l, none-yet w i)).1
+
+  -- a collector is closed: no job waits for it
+  once-without : (w : World T) (c : ℕ) → JobsOnce w → JobsOnceBut (waiting_for w c) (without_collector w c)
+  once-without w c i j = omega (arith, i j, listed-without (is_of_job j) (is_for w c) w.time.places)
+
+  pub once-collector_closed : (holds : T → List Holding) (w : World T) (p c : ℕ) → p < length w.time.places → JobsOnce w →
+      JobsOnce (collector_closed holds w p c)
+  once-collector_closed holds w p c l i =
+      let start = without_collector w c in
+      let inside : p < length start.time.places = omega (arith, l, length-map w.time.places (without (is_for w c))) in
+      no-more (collector_closed holds w p c) (once-all_reclaimed holds start p (waiting_for w c) (inside, once-without w c i)).1
 
   -- a job begins to wait, in a place that was free
   deferred-once : (w : World T) (p j n : ℕ) → p < length w.time.places → IsEmptyAt w.jobs j → JobsOnce w → (n ≡ j) ⊎ (n ≢ j) →

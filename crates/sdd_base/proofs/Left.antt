@@ -2,33 +2,39 @@
 use Rattle.std.proofs.Common.{◌≡◌, ◌≢◌, ◌⊎◌, inl, inr, ℕ, ◌+◌, ◌<◌, ◌≤◌, List, [], ◌∷◌, length, Bool, refl, sym, ap, ◌∙◌, arith, true, false, Some, None, nat_lt, Option, zero, suc, slice_index_or, IsTrue, subst}
 use Rattle.std.specs.Prelude.{◌-◌, ◌*◌, ◌==◌, ◌&&◌, Contains, is_some, if◌then◌else◌, not}
 use Rattle.std.specs.List.{list_all}
-use Rattle.std.proofs.lemmas.List.{get_or-set_same, get_or-set_other}
+use Rattle.std.proofs.lemmas.List.{length-map, get_or-set_same, get_or-set_other}
 use Rattle.std.proofs.lemmas.Bool.Decides.{nat_tests}
 use Rattle.sdd_store.specs.Waiting.{Waiting, having_seen}
 use Rattle.sdd_store.specs.declared.waiting.What.TheVariants.{Item, Job}
 use Rattle.sdd_store.specs.Time.{Time, with_place, nobody, is_open, passes, last_count, counted_down, phase_at, rested}
 use Rattle.sdd_store.specs.Time as time
 use Rattle.sdd_store.specs.declared.time.Participant.{Participant}
-use Rattle.sdd_store.specs.declared.standing.Standing.TheVariants.{Owned, Raw, Shared}
+use Rattle.sdd_store.specs.declared.standing.Standing.TheVariants.{Owned, Raw, Shared, Private as privately}
+use Rattle.sdd_slots.specs.Slots.{is_waiting}
+use Rattle.sdd_store.specs.Collecting.{without}
+use Rattle.sdd_store.specs.declared.waiting.What.{What}
+use Rattle.sdd_base.specs.Collecting.{collected, collector_closed, is_for, waiting_for, without_collector}
+use Rattle.std.proofs.Math.ListN.{get_or-map}
 use Rattle.sdd_base.specs.World.{World, standing_at, value_at, place_at, IsPlaceOf}
 use Rattle.sdd_base.specs.Steps.{made_as, with_standing, with_value, dropped, retired, owner_given, cell_closed, deferred, opened, closed, registered, ended, reclaims}
 use Rattle.sdd_base.specs.Holding.{Holding}
 use Rattle.sdd_base.specs.Own.{all_awaiting}
-use Rattle.sdd_base.specs.Whole.{IsWhole}
+use Rattle.sdd_base.specs.Whole.{IsWhole, is_of_slot}
+use Rattle.sdd_base.proofs.Listed.{listed-without, none-left, rest-contains}
 use Rattle.sdd_base.specs.Out.{is_out}
 use Rattle.sdd_base.specs.Left.{Waits, left, IsHeldUp, OpeningsLower, NoCallRaises, GoesAtLatest, Stays, GoesInTime}
 use Rattle.sdd_base.specs.Left.Stays.{starts, one_opening, one_call}
 use Rattle.sdd_base.specs.Calls.{Calls}
-use Rattle.sdd_base.specs.Calls.Calls.{registers, ends, opens, closes, stirs, accelerates, makes, shares, retires, releases, defers, edits, drops, puts_out_raw, takes_back_raw, changes_cells, closes_cell, changes_pointers}
-use Rattle.sdd_base.proofs.Own.{Gives, Gives-owner_given, Gives-cell_closed, Gives-dropped, all_awaiting-found}
+use Rattle.sdd_base.specs.Calls.Calls.{registers, ends, opens, closes, stirs, accelerates, makes, shares, retires, releases, defers, collects, closes_collector, edits, drops, puts_out_raw, takes_back_raw, changes_cells, closes_cell, changes_pointers}
+use Rattle.sdd_base.proofs.Own.{Gives, Gives-all_reclaimed, Gives-owner_given, Gives-cell_closed, Gives-dropped, all_awaiting-found}
 use Rattle.sdd_base.proofs.Own as own
 use Rattle.sdd_base.proofs.Standings.{alone-out}
 use Rattle.sdd_base.proofs.Whole.{HasItems, Items-opened, below-or-past, times_among, filled-there, all_awaiting-guards, some-waits}
-use Rattle.sdd_base.proofs.Housed.{Whole-opened, Whole-closed, Whole-stirred, Whole-accelerated, Whole-made_as, Whole-shared, Whole-restands, Whole-retires, Whole-deferred, Whole-owner_given, Whole-cells, Whole-pointers, Whole-cell_closed, Whole-with_value, Whole-dropped, Whole-registered, Whole-ended, items, live-is, live-taken, registered-keeps}
+use Rattle.sdd_base.proofs.Housed.{Whole-opened, Whole-closed, Whole-stirred, Whole-accelerated, Whole-made_as, Whole-shared, Whole-restands, Whole-retires, Whole-waits, Whole-collector_closed, Whole-deferred, Whole-owner_given, Whole-cells, Whole-pointers, Whole-cell_closed, Whole-with_value, Whole-dropped, Whole-registered, Whole-ended, items, live-is, live-taken, registered-keeps}
 use Rattle.sdd_base.proofs.Closes.{how-closed}
 use Rattle.sdd_store.proofs.Adopting.{Adopts, adopts, same-or-not}
 use Rattle.sdd_store.specs.Phases.{is_ended}
-use Rattle.sdd_base.proofs.Opening.{how, Nests, IsChange, opened-goes, opened-other, all_awaiting-waiting, still-waits}
+use Rattle.sdd_base.proofs.Opening.{how, Nests, IsChange, opened-goes, opened-other, all-goes, all_awaiting-waiting, still-waits}
 use Rattle.sdd_base.proofs.Entries.{waits-place, waits-young, waits-standing, entry-due, nests-waits, change-waits, differs, opens-changed}
 use Rattle.sdd_base.proofs.Under.{closed-persists}
 
@@ -264,6 +270,11 @@ nested-open x = grind (arith, nat_tests)
 still-open : (n : ℕ) → nat_lt 0 n ≡ true → nat_lt 0 (n + 1) ≡ nat_lt 0 n
 still-open n e = grind (arith, nat_tests)
 
+-- only the slot's item is of the slot
+only-item : (k : ℕ) (x : What) → is_of_slot k x ≡ true → (chosen : What → Bool) → chosen (Item k) ≡ true → chosen x ≡ true
+only-item k (Item j) of chosen is = let e : j ≡ k = grind (arith, nat_tests, of) in ap (λ (n : ℕ). chosen (Item n)) e ∙ is
+only-item k (Job j) of chosen is = absurd (cc)
+
 module _ {T : Type 0} where
   waits-low-if : (w : World T) (q k seen : ℕ) → HasItems w → Waits w q k seen → ((place_at w q).countdown ≡ 128) ⊎ ((place_at w q).countdown ≢ 128) →
       (place_at w q).countdown ≤ 127
@@ -441,6 +452,41 @@ module _ {T : Type 0} where
         goes-on w new q k seen h
         (subst (λ (t : Time). Lowers w.time.count t.count (place_at w q) (time.place_at t q)) (sym g.time) on)
 
+    -- a collector is closed: what waited for it is reclaimed, and all else goes on to wait
+    collector-takes : (w : World T) (r c q k seen : ℕ) → IsWhole w → Waits w q k seen → is_for w c (Item k) ≡ true → 1 ≤ times_among k (waiting_for w c)
+    collector-takes w r c q k seen i h for =
+        let all = i.once k in
+        let waits : is_waiting (standing_at w k) ≡ true = waits-standing w q k seen i h in
+        let one = rw waits at all in
+        let both = listed-without (is_of_slot k) (is_for w c) w.time.places in
+        let none = none-left (is_of_slot k) (is_for w c) (λ x of. only-item k x of (is_for w c) for) w.time.places in
+        omega (arith, one, both, none)
+
+    collector-closes : (w : World T) (r c q k seen : ℕ) → r < length w.time.places → IsWhole w → Waits w q k seen → (b : Bool) → is_for w c (Item k) ≡ b →
+        Outcome w (collector_closed holds w r c) q k seen
+    collector-closes w r c q k seen l i h true for =
+        let v = waits-value w q k seen i h in
+        let waits : is_waiting (standing_at w k) ≡ true = waits-standing w q k seen i h in
+        let start = without_collector w c in
+        inl (all-goes holds r k (waiting_for w c) start (standing_at w k) v.0 waits
+        (inr (collector-takes w r c q k seen i h for, record { standing = refl; value = v.1 }))).standing
+    collector-closes w r c q k seen l i h false other =
+        let start = without_collector w c in
+        let chosen = is_for w c in
+        let inside : r < length start.time.places = omega (arith, l, length-map w.time.places (without chosen)) in
+        let here : place_at start q ≡ without chosen (place_at w q) = get_or-map (without chosen) w.time.places q nobody in
+        let g = Gives-all_reclaimed holds start r (waiting_for w c) inside in
+        let on = subst (λ (t : Time). Lowers w.time.count w.time.count (place_at start q) (time.place_at t q)) (sym g.time)
+        (lowers-place start.time r q (all_awaiting g.slots (place_at start r)) inside (Lowers-given w.time.count g.slots (place_at start r))) in
+        let count : (collector_closed holds w r c).time.count ≡ w.time.count = ap (λ (t : Time). t.count) g.time in
+        let stays : Contains (without chosen (place_at w q)).bags.waiting (having_seen seen (Item k)) =
+        rest-contains chosen (place_at w q).bags.waiting (having_seen seen (Item k)) other h in
+        let waits : Waits start q k seen = subst (λ (x : Participant). Contains x.bags.waiting (having_seen seen (Item k))) (sym here) stays in
+        let same : left_of w.time.count (place_at start q) seen ≡ left w.time q seen = ap (λ (x : Participant). left_of w.time.count x seen) here in
+        let after : left (collector_closed holds w r c).time q seen ≡ left_of w.time.count (place_at (collector_closed holds w r c) q) seen =
+        ap (λ (n : ℕ). left_of n (place_at (collector_closed holds w r c) q) seen) count in
+        inr (seen, on.waits (having_seen seen (Item k)) waits, inl (omega (arith, on.lower seen, same, after)))
+
     each-call : (q k seen : ℕ) {w new : World T} → Calls holds w new → IsWhole w → IsPlaceOf w q → Waits w q k seen → Outcome w new q k seen
     each-call q k seen (registers w r vacant) i live h =
         goes-on w (registered w r) q k seen h
@@ -469,6 +515,10 @@ module _ {T : Type 0} where
         let y : Participant = time.awaiting (Job j) x in
         goes-on w (deferred w r j) q k seen h
         (lowers-place w.time r q y l.0 (Lowers-slower w.time.count x y (still-waits (Job j) x) refl refl (stirred-lower x.countdown)))
+    each-call q k seen (collects w r c j l alone) i live h =
+        goes-on w (collected w r c j) q k seen h
+        (lowers-place w.time r q (time.awaiting (Item j) (place_at w r)) l.0 (Lowers-given w.time.count (j ∷ []) (place_at w r)))
+    each-call q k seen (closes_collector w r c l quiet) i live h = collector-closes w r c q k seen l.0 i h (is_for w c (Item k)) refl
     each-call q k seen (edits w j value may) i live h = goes-still w (with_value w j value) q k seen h refl
     each-call q k seen (drops w r j l may) i live h = goes-gives w (dropped holds w r j) r q k seen l.0 h (Gives-dropped holds w r j l.0)
     each-call q k seen (puts_out_raw w j is) i live h = goes-still w (with_standing w j Raw) q k seen h refl
@@ -499,6 +549,8 @@ module _ {T : Type 0} where
     Whole-called (retires w r j l there) i = Whole-retires w r j (live-taken w.time r l) (ap is_out there) i
     Whole-called (releases w r j n l is) i = Whole-owner_given w r j (live-taken w.time r l) (Some (Shared n)) is i
     Whole-called (defers w r j l free) i = Whole-deferred w r j (live-taken w.time r l) free i
+    Whole-called (collects w r c j l alone) i = Whole-waits w r j (privately c) refl (live-taken w.time r l) (alone-out (standing_at w j) alone) i
+    Whole-called (closes_collector w r c l quiet) i = Whole-collector_closed holds w r c (live-taken w.time r l) i
     Whole-called (edits w j value may) i = Whole-with_value w j value (alone-out (standing_at w j) may.alone) i
     Whole-called (drops w r j l may) i = Whole-dropped holds w r j (live-taken w.time r l) (alone-out (standing_at w j) may.alone) i
     Whole-called (puts_out_raw w j is) i = Whole-restands w j Raw (ap is_out is) refl i

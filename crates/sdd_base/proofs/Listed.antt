@@ -1,6 +1,6 @@
 -- How often something waits, counted over what waits: what changes one place, an age or a holder makes of it
-use Rattle.std.proofs.Common.{zero-add, ◌≡◌, ℕ, ◌+◌, ◌<◌, List, [], ◌∷◌, length, cond, Bool, refl, sym, ap, ◌∙◌, arith, true, false, nat_lt, sum_by, count_by}
-use Rattle.std.specs.Prelude.{◌-◌, ◌==◌, map, if◌then◌else◌}
+use Rattle.std.proofs.Common.{zero-add, zero, suc, ◌⊎◌, inl, inr, ◌≡◌, ℕ, ◌+◌, ◌<◌, List, [], ◌∷◌, length, cond, Bool, refl, sym, ap, ◌∙◌, arith, true, false, nat_lt, sum_by, count_by}
+use Rattle.std.specs.Prelude.{◌-◌, ◌==◌, Contains, map, if◌then◌else◌}
 use Rattle.std.proofs.lemmas.Bool.Decides.{nat_tests}
 use Rattle.std.proofs.lemmas.List.Sums.{sum_by-set, sum_by-append, sum_by-cons}
 use Rattle.sdd_store.proofs.Adopting.{IsAdditive, scans-if, scans-there}
@@ -8,10 +8,28 @@ use Rattle.sdd_store.specs.declared.waiting.What.{What}
 use Rattle.sdd_store.specs.Waiting.{Waiting, anew, fresh, aged, left, due, older, is_due}
 use Rattle.sdd_store.specs.Time.{Time, IsLive, with_place, nobody, newcomer, is_open, rested}
 use Rattle.sdd_store.specs.Time as time
+use Rattle.sdd_store.specs.Collecting.{chosen_of, chosen_among, rest_of, without}
 use Rattle.sdd_store.specs.declared.time.Participant.{Participant}
 
 pub count-cons : {X : Type 0} (p : X → Bool) (x : X) (xs : List X) → count_by p (x ∷ xs) ≡ cond (p x) 1 0 + count_by p xs
 count-cons p x xs = sum_by-cons (λ x. cond (p x) 1 0) x xs
+
+-- what is not chosen is left
+rest-cons : (chosen : What → Bool) (w : Waiting) (ws : List Waiting) (y : Waiting) → chosen y.what ≡ false → (w ≡ y) ⊎ Contains (rest_of chosen ws) y →
+    (b : Bool) → chosen w.what ≡ b → Contains (rest_of chosen (w ∷ ws)) y
+rest-cons chosen w ws y other (inl e) true is = absurd (let never : true ≡ false = sym is ∙ ap (λ (z : Waiting). chosen z.what) e ∙ other in cc)
+rest-cons chosen w ws y other (inl e) false is = rw is (zero, omega arith, e)
+rest-cons chosen w ws y other (inr h) true is = rw is h
+rest-cons chosen w ws y other (inr h) false is = rw is (suc h.0, omega (arith, h.1), h.2)
+
+rest-or : (chosen : What → Bool) (w : Waiting) (ws : List Waiting) (y : Waiting) → chosen y.what ≡ false → Contains (w ∷ ws) y →
+    (Contains ws y → Contains (rest_of chosen ws) y) → Contains (rest_of chosen (w ∷ ws)) y
+rest-or chosen w ws y other (zero, l, e) on = rest-cons chosen w ws y other (inl e) (chosen w.what) refl
+rest-or chosen w ws y other (suc n, l, e) on = rest-cons chosen w ws y other (inr (on (n, omega (arith, l), e))) (chosen w.what) refl
+
+pub rest-contains : (chosen : What → Bool) (ws : List Waiting) (y : Waiting) → chosen y.what ≡ false → Contains ws y → Contains (rest_of chosen ws) y
+rest-contains chosen [] y other h = h
+rest-contains chosen (w ∷ ws) y other h = rest-or chosen w ws y other h (λ g. rest-contains chosen ws y other g)
 
 module _ (of : What → Bool) where
   -- how often it is among these
@@ -54,6 +72,53 @@ module _ (of : What → Bool) where
   pub listed-aged : (ws : List Waiting) → listed (left (aged ws)) + count_by of (due (aged ws)) ≡ listed ws
   listed-aged [] = refl
   listed-aged (w ∷ ws) = listed-aged-cons w ws (listed-aged ws) (is_due (older w)) refl
+
+  -- what is chosen is taken out, and the rest is left
+  listed-rest-cons : (chosen : What → Bool) (w : Waiting) (ws : List Waiting) → listed (rest_of chosen ws) + count_by of (chosen_of chosen ws) ≡ listed ws →
+      (b : Bool) → chosen w.what ≡ b → listed (rest_of chosen (w ∷ ws)) + count_by of (chosen_of chosen (w ∷ ws)) ≡ listed (w ∷ ws)
+  listed-rest-cons chosen w ws h true e =
+      let all = count-cons (λ (w : Waiting). of w.what) w ws in
+      let some = count-cons of w.what (chosen_of chosen ws) in
+      rw e (omega (arith, h, all, some))
+  listed-rest-cons chosen w ws h false e =
+      let all = count-cons (λ (w : Waiting). of w.what) w ws in
+      let some = count-cons (λ (w : Waiting). of w.what) w (rest_of chosen ws) in
+      rw e (omega (arith, h, all, some))
+
+  listed-rest : (chosen : What → Bool) (ws : List Waiting) → listed (rest_of chosen ws) + count_by of (chosen_of chosen ws) ≡ listed ws
+  listed-rest chosen [] = refl
+  listed-rest chosen (w ∷ ws) = listed-rest-cons chosen w ws (listed-rest chosen ws) (chosen w.what) refl
+
+  pub listed-without : (chosen : What → Bool) (ps : List Participant) →
+      sum_by listed_with (map (without chosen) ps) + count_by of (chosen_among chosen ps) ≡ sum_by listed_with ps
+  listed-without chosen [] = refl
+  listed-without chosen (p ∷ ps) =
+      let here = listed-rest chosen p.bags.waiting in
+      let rest = listed-without chosen ps in
+      let one = sum_by-cons listed_with (without chosen p) (map (without chosen) ps) in
+      let all = sum_by-cons listed_with p ps in
+      let long = sum_by-append (λ x. cond (of x) 1 0) (chosen_of chosen p.bags.waiting) (chosen_among chosen ps) in
+      omega (arith, here, rest, one, all, long)
+
+  -- where all of it is chosen, none is left
+  none-rest-cons : (chosen : What → Bool) → ((x : What) → of x ≡ true → chosen x ≡ true) → (w : Waiting) (ws : List Waiting) → listed (rest_of chosen ws) ≡ 0 →
+      (b : Bool) → chosen w.what ≡ b → (a : Bool) → of w.what ≡ a → listed (rest_of chosen (w ∷ ws)) ≡ 0
+  none-rest-cons chosen only w ws h true e a is = rw e h
+  none-rest-cons chosen only w ws h false e true is = absurd (let never : true ≡ false = sym (only w.what is) ∙ e in cc)
+  none-rest-cons chosen only w ws h false e false is =
+      let one : cond {A = ℕ} (of w.what) 1 0 ≡ 0 = rw is refl in
+      rw e (omega (arith, h, one, count-cons (λ (w : Waiting). of w.what) w (rest_of chosen ws)))
+
+  none-rest : (chosen : What → Bool) → ((x : What) → of x ≡ true → chosen x ≡ true) → (ws : List Waiting) → listed (rest_of chosen ws) ≡ 0
+  none-rest chosen only [] = refl
+  none-rest chosen only (w ∷ ws) = none-rest-cons chosen only w ws (none-rest chosen only ws) (chosen w.what) refl (of w.what) refl
+
+  pub none-left : (chosen : What → Bool) → ((x : What) → of x ≡ true → chosen x ≡ true) → (ps : List Participant) →
+      sum_by listed_with (map (without chosen) ps) ≡ 0
+  none-left chosen only [] = refl
+  none-left chosen only (p ∷ ps) =
+      let one = sum_by-cons listed_with (without chosen p) (map (without chosen) ps) in
+      omega (arith, one, none-rest chosen only p.bags.waiting, none-left chosen only ps)
 
   -- an adoption moves all that waits, and loses nothing
   listed-anew : (ws : List Waiting) → listed (map anew ws) ≡ listed ws

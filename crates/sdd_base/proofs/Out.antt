@@ -11,7 +11,8 @@ use Rattle.sdd_store.specs.declared.standing.Standing.{Standing}
 use Rattle.sdd_store.specs.declared.standing.Standing.TheVariants.{Owned, Raw, Shared, Retired, Private as privately}
 use Rattle.sdd_store.specs.declared.standing.Cell.{Cell}
 use Rattle.sdd_base.specs.World.{World, place_at, standing_at, value_at}
-use Rattle.sdd_base.specs.Steps.{made_as, with_standing, retired, nulled, with_cell, without_cell, cell_closed, given, given_all, held_in, freed, vacated, with_value, dropped, taken_out, waiting_value, reclaimed, all_reclaimed, opened, changed, spilled}
+use Rattle.sdd_base.specs.Collecting.{collector_closed, waiting_for, without_collector}
+use Rattle.sdd_base.specs.Steps.{made_as, with_standing, waiting_as, retired, nulled, with_cell, without_cell, cell_closed, given, given_all, held_in, freed, vacated, with_value, dropped, taken_out, waiting_value, reclaimed, all_reclaimed, opened, changed, spilled}
 use Rattle.sdd_base.specs.Steps as steps
 use Rattle.sdd_base.specs.Holding.{Holding, owned, shared, atomic_owned, atomic_shared, atomic_raw}
 use Rattle.sdd_base.specs.Out.{is_out, out, HoldsNothing, IsNullCell, IsOut, AreOut, OutLaws}
@@ -56,10 +57,14 @@ module _ {T : Type 0} where
       count_by is_some (slice_set w.cells c cell) + one_where (is_some (entry_at w.cells c)) ≡ count_by is_some w.cells + one_where (is_some cell)
   set-cell w c cell l = sum_by-set (λ (s : Option Cell). cond (is_some s) 1 0) w.cells c cell None l
 
-  out-retired : (w : World T) (p k : ℕ) → is_out (standing_at w k) ≡ true → out (retired w p k) + 1 ≡ out w
-  out-retired w p k is =
+  out-waiting : (w : World T) (p k : ℕ) (s : Standing) → is_out (Some s) ≡ false → is_out (standing_at w k) ≡ true → out (waiting_as w p k s) + 1 ≡ out w
+  out-waiting w p k s idle is =
       let was : one_where (is_out (standing_at w k)) ≡ 1 = rw is refl in
-      omega (arith, set-out w k (Some Retired) (out-inside w.standings k is), was)
+      let now : one_where (is_out (Some s)) ≡ 0 = rw idle refl in
+      omega (arith, set-out w k (Some s) (out-inside w.standings k is), was, now)
+
+  out-retired : (w : World T) (p k : ℕ) → is_out (standing_at w k) ≡ true → out (retired w p k) + 1 ≡ out w
+  out-retired w p k is = out-waiting w p k Retired refl is
 
   out-shared : (w : World T) (k n m : ℕ) → standing_at w k ≡ Some (Shared n) → out (with_standing w k (Shared m)) ≡ out w
   out-shared w k n m is =
@@ -172,6 +177,20 @@ module _ {T : Type 0} where
     opened-same w h (inl c) = ap (λ (u : World T). out u) c.nests ∙ h
     opened-same w h (inr c) = ap (λ (u : World T). out u) c.change ∙ all-same (due_next (place_at (steps.nested w p) p)) (steps.rotated (steps.nested w p) p) h
 
+  -- a collector is closed
+  out-without : (w : World T) (c : ℕ) → IsNullCell w c → out (without_collector w c) + 1 ≡ out w
+  out-without w c (cell, there, null) = out-cell_freed w c (ap is_some there)
+
+  collector-at-most : (holds : T → List Holding) (w : World T) (p c : ℕ) → IsNullCell w c → out (collector_closed holds w p c) + 1 ≤ out w
+  collector-at-most holds w p c null =
+      let start = without_collector w c in
+      omega (arith, out-without w c null, all-at-most holds (out start) p (waiting_for w c) start (omega arith))
+
+  collector-same : (holds : T → List Holding) → HoldsNothing holds → (w : World T) (p c : ℕ) → IsNullCell w c → out (collector_closed holds w p c) + 1 ≡ out w
+  collector-same holds plain w p c null =
+      let start = without_collector w c in
+      omega (arith, out-without w c null, all-same holds plain (out start) p (waiting_for w c) start refl)
+
   -- an item is dropped in its place
   out-vacated : (w : World T) (k : ℕ) → is_out (standing_at w k) ≡ true → out (vacated w k) + 1 ≡ out w
   out-vacated w k is =
@@ -198,6 +217,9 @@ module _ {T : Type 0} where
         sharing = out-shared w;
         restanding = out-restands w;
         retiring = out-retired w;
+        collecting = λ p c k is. out-waiting w p k (privately c) refl is;
+        closing_collector = collector-at-most holds w;
+        closing_collector_plain = λ plain. collector-same holds plain w;
         deferring = λ p j. refl;
         nulling = nulled-more w;
         filling = out-filled w;

@@ -11,10 +11,11 @@ use Rattle.sdd_store.specs.Time.{nobody, due_next, is_open}
 use Rattle.sdd_store.specs.Time as time
 use Rattle.sdd_store.specs.declared.time.Participant.{Participant}
 use Rattle.sdd_store.specs.declared.standing.Standing.{Standing}
-use Rattle.sdd_store.specs.declared.standing.Standing.TheVariants.{Owned, Raw, Shared, Retired}
+use Rattle.sdd_store.specs.declared.standing.Standing.TheVariants.{Owned, Raw, Shared, Retired, Private as privately}
 use Rattle.sdd_slots.specs.Slots.{is_waiting}
 use Rattle.sdd_base.specs.World.{World, standing_at, place_at}
-use Rattle.sdd_base.specs.Steps.{with_standing, retired, owner_given, cell_closed, freed, taken_out, waiting_value, reclaimed, all_reclaimed, changed, opened, reclaims}
+use Rattle.sdd_base.specs.Collecting.{collected}
+use Rattle.sdd_base.specs.Steps.{with_standing, waiting_as, retired, owner_given, cell_closed, freed, taken_out, waiting_value, reclaimed, all_reclaimed, changed, opened, reclaims}
 use Rattle.sdd_base.specs.Steps as steps
 use Rattle.sdd_base.specs.Holding.{Holding}
 use Rattle.sdd_base.specs.Whole.{IsWhole, is_of_slot}
@@ -22,10 +23,10 @@ use Rattle.sdd_base.specs.Left.{Waits}
 use Rattle.sdd_base.specs.Out.{is_out}
 use Rattle.sdd_base.specs.Under.{IsUnder, IsSafe}
 use Rattle.sdd_base.specs.Calls.{Calls}
-use Rattle.sdd_base.specs.Calls.Calls.{registers, ends, opens, closes, stirs, accelerates, makes, shares, retires, releases, defers, edits, drops, puts_out_raw, takes_back_raw, changes_cells, closes_cell, changes_pointers}
+use Rattle.sdd_base.specs.Calls.Calls.{registers, ends, opens, closes, stirs, accelerates, makes, shares, retires, releases, defers, collects, closes_collector, edits, drops, puts_out_raw, takes_back_raw, changes_cells, closes_cell, changes_pointers}
 use Rattle.sdd_base.proofs.Whole.{count-cons, times_among, times-aged}
 use Rattle.sdd_base.proofs.Guarded.{guarded}
-use Rattle.sdd_base.proofs.Standings.{out-waits-not, out-inside, out-apart}
+use Rattle.sdd_base.proofs.Standings.{alone-out, out-waits-not, out-inside, out-apart, waits-out-not}
 use Rattle.sdd_base.proofs.Weights.{in_range}
 use Rattle.sdd_base.proofs.Entries.{one-place}
 use Rattle.sdd_base.proofs.Opening.{keeps-owner_given, keeps-given_all, keeps-cell_closed, how, Nests, IsChange, before, in_before, due-here}
@@ -35,38 +36,42 @@ use Rattle.sdd_store.proofs.Adopting.{same-or-not}
 module _ {T : Type 0} (q k : ℕ) where
   -- the slot's item is out, or was given up to q, and has seen no change since
   abbrev IsOutOrFresh : World T → Type 0
-  IsOutOrFresh w = (q < length w.time.places) × ((is_out (standing_at w k) ≡ true) ⊎ ((standing_at w k ≡ Some Retired) × Waits w q k 0))
+  IsOutOrFresh w = (q < length w.time.places) × ((is_out (standing_at w k) ≡ true) ⊎ ((is_waiting (standing_at w k) ≡ true) × Waits w q k 0))
 
-  waiting-here : (w : World T) (j : ℕ) → q < length w.time.places → place_at (retired w q j) q ≡ time.awaiting (Item j) (place_at w q)
-  waiting-here w j l = get_or-set_same w.time.places q (time.awaiting (Item j) (place_at w q)) nobody l
+  waiting-here : (w : World T) (j : ℕ) (s : Standing) → q < length w.time.places → place_at (waiting_as w q j s) q ≡ time.awaiting (Item j) (place_at w q)
+  waiting-here w j s l = get_or-set_same w.time.places q (time.awaiting (Item j) (place_at w q)) nobody l
 
-  still-there : (w : World T) (j : ℕ) → q < length w.time.places → q < length (retired w q j).time.places
-  still-there w j l = omega (arith, l, length-set w.time.places q (time.awaiting (Item j) (place_at w q)))
+  still-there : (w : World T) (j : ℕ) (s : Standing) → q < length w.time.places → q < length (waiting_as w q j s).time.places
+  still-there w j s l = omega (arith, l, length-set w.time.places q (time.awaiting (Item j) (place_at w q)))
 
-  retires-out : (w : World T) (j : ℕ) → is_out (standing_at w j) ≡ true → q < length w.time.places → is_out (standing_at w k) ≡ true →
-      (k ≡ j) ⊎ (k ≢ j) → IsOutOrFresh (retired w q j)
-  retires-out w j was l out (inl e) = rw e (
-    still-there w j l,
+  waits-out : (w : World T) (j : ℕ) (s : Standing) → is_waiting (Some s) ≡ true → is_out (standing_at w j) ≡ true → q < length w.time.places →
+      is_out (standing_at w k) ≡ true → (k ≡ j) ⊎ (k ≢ j) → IsOutOrFresh (waiting_as w q j s)
+  waits-out w j s waits was l out (inl e) = rw e (
+    still-there w j s l,
     inr (
-      get_or-set_same w.standings j (Some Retired) None (out-inside w.standings j was),
-      subst (λ (x : Participant). Contains x.bags.waiting (having_seen 0 (Item j))) (sym (waiting-here w j l))
+      ap is_waiting (get_or-set_same w.standings j (Some s) None (out-inside w.standings j was)) ∙ waits,
+      subst (λ (x : Participant). Contains x.bags.waiting (having_seen 0 (Item j))) (sym (waiting-here w j s l))
           (Contains-push (place_at w q).bags.waiting (fresh (Item j))),
     ),
   )
-  retires-out w j was l out (inr apart) =
-      (still-there w j l, inl (ap (λ (s : Option Standing). is_out s) (get_or-set_other w.standings j k (Some Retired) None apart) ∙ out))
+  waits-out w j s waits was l out (inr apart) =
+      (still-there w j s l, inl (ap (λ (s : Option Standing). is_out s) (get_or-set_other w.standings j k (Some s) None apart) ∙ out))
 
-  retires-keeps : (w : World T) (j : ℕ) → is_out (standing_at w j) ≡ true → IsOutOrFresh w → IsOutOrFresh (retired w q j)
-  retires-keeps w j was (l, inl out) = retires-out w j was l out (same-or-not k j)
-  retires-keeps w j was (l, inr h) =
-      let apart : k ≢ j = out-apart w.standings j k was (ap is_out h.0) in (
-        still-there w j l,
+  waits-keeps : (w : World T) (j : ℕ) (s : Standing) → is_waiting (Some s) ≡ true → is_out (standing_at w j) ≡ true → IsOutOrFresh w →
+      IsOutOrFresh (waiting_as w q j s)
+  waits-keeps w j s waits was (l, inl out) = waits-out w j s waits was l out (same-or-not k j)
+  waits-keeps w j s waits was (l, inr h) =
+      let apart : k ≢ j = out-apart w.standings j k was (waits-out-not (standing_at w k) h.0) in (
+        still-there w j s l,
         inr (
-          get_or-set_other w.standings j k (Some Retired) None apart ∙ h.0,
-          subst (λ (x : Participant). Contains x.bags.waiting (having_seen 0 (Item k))) (sym (waiting-here w j l))
+          ap is_waiting (get_or-set_other w.standings j k (Some s) None apart) ∙ h.0,
+          subst (λ (x : Participant). Contains x.bags.waiting (having_seen 0 (Item k))) (sym (waiting-here w j s l))
               (Contains-append_left (place_at w q).bags.waiting (fresh (Item j) ∷ []) (having_seen 0 (Item k)) h.1),
         ),
       )
+
+  retires-keeps : (w : World T) (j : ℕ) → is_out (standing_at w j) ≡ true → IsOutOrFresh w → IsOutOrFresh (retired w q j)
+  retires-keeps w j was h = waits-keeps w j Retired refl was h
 
   -- an item that is shared stays out, with one owner more or fewer
   shares-out : (w : World T) (j n m : ℕ) → standing_at w j ≡ Some (Shared n) → is_out (standing_at w k) ≡ true → (k ≡ j) ⊎ (k ≢ j) →
@@ -77,8 +82,8 @@ module _ {T : Type 0} (q k : ℕ) where
   shares-keeps : (w : World T) (j n m : ℕ) → standing_at w j ≡ Some (Shared n) → IsOutOrFresh w → IsOutOrFresh (with_standing w j (Shared m))
   shares-keeps w j n m is (l, inl out) = (l, inl (shares-out w j n m is out (same-or-not k j)))
   shares-keeps w j n m is (l, inr h) =
-      let apart : k ≢ j = out-apart w.standings j k (ap is_out is) (ap is_out h.0) in
-      (l, inr (get_or-set_other w.standings j k (Some (Shared m)) None apart ∙ h.0, h.1))
+      let apart : k ≢ j = out-apart w.standings j k (ap is_out is) (waits-out-not (standing_at w k) h.0) in
+      (l, inr (ap is_waiting (get_or-set_other w.standings j k (Some (Shared m)) None apart) ∙ h.0, h.1))
 
   gives-keeps : (w : World T) (j : ℕ) (s : Option Standing) → standing_at w j ≡ s → IsOutOrFresh w → IsOutOrFresh (owner_given w q j s)
   gives-keeps w j s is h = keeps-owner_given q IsOutOrFresh retires-keeps (λ u d i. i) shares-keeps w j s is h
@@ -88,7 +93,7 @@ module _ {T : Type 0} (q k : ℕ) where
 
   freed-keeps : (w : World T) (j : ℕ) → k ≢ j → IsOutOrFresh w → IsOutOrFresh (freed w j)
   freed-keeps w j apart (l, inl out) = (l, inl (ap (λ (s : Option Standing). is_out s) (get_or-set_other w.standings j k None None apart) ∙ out))
-  freed-keeps w j apart (l, inr h) = (l, inr (get_or-set_other w.standings j k None None apart ∙ h.0, h.1))
+  freed-keeps w j apart (l, inr h) = (l, inr (ap is_waiting (get_or-set_other w.standings j k None None apart) ∙ h.0, h.1))
 
   module _ (holds : T → List Holding) where
     taken-keeps : (w : World T) (j : ℕ) → k ≢ j → (v : Option T) → IsOutOrFresh w → IsOutOrFresh (taken_out holds w q j v)
@@ -153,7 +158,7 @@ module _ {T : Type 0} (p k : ℕ) where
   safe-or w o (l, inl out) = record { guarded = o; stays = inl out }
   safe-or {q} w o (l, inr h) = record {
     guarded = o;
-    stays = inr (record { guarded = o; standing = h.0; holder = q; seen = 0; waits = h.1; safe = omega arith });
+    stays = inr (record { guarded = o; waiting = h.0; holder = q; seen = 0; waits = h.1; safe = omega arith });
   }
 
   safe-out : {w : World T} → IsTrue (is_open (place_at w p)) → is_out (standing_at w k) ≡ true → IsSafe w p k
@@ -177,6 +182,9 @@ module _ {T : Type 0} (p k : ℕ) where
     out-call (releases v r j n l is) i on out o =
         safe-or (owner_given v r j (Some (Shared n))) o (gives-keeps r k v j (Some (Shared n)) is (l.0, inl out))
     out-call (defers v r j l free) i on out o = safe-out o out
+    out-call (collects v r c j l alone) i on out o =
+        safe-or (collected v r c j) o (waits-keeps r k v j (privately c) refl (alone-out (standing_at v j) alone) (l.0, inl out))
+    out-call (closes_collector v r c l quiet) i on out o = absurd (quiet (guarded v p on))
     out-call (edits v j value may) i on out o = absurd (may.quiet (guarded v p on))
     out-call (drops v r j l may) i on out o = absurd (may.quiet (guarded v p on))
     out-call (puts_out_raw v j is) i on out o = safe-out o (restands-out k v j Raw (ap is_out is) refl out (same-or-not k j))
@@ -189,21 +197,21 @@ module _ {T : Type 0} (p k : ℕ) where
     pub safe-call : {v w : World T} → Calls holds v w → IsWhole v → IsSafe v p k → IsTrue (is_open (place_at w p)) → IsSafe w p k
     safe-call call i safe o = elim safe.stays [
       | inl out ↦ out-call call i safe.guarded out o
-      | inr under ↦ record { guarded = o; stays = inr (one-call holds p k call i under o).1.0 }
+      | inr under ↦ record { guarded = o; stays = inr (one-call holds p k call i under o).1.under }
     ]
 
     pub safe-retires : (v : World T) (r j : ℕ) → r < length v.time.places → is_out (standing_at v j) ≡ true → IsSafe v p k →
         IsTrue (is_open (place_at (retired v r j) p)) → IsSafe (retired v r j) p k
     safe-retires v r j l was safe o = elim safe.stays [
       | inl out ↦ safe-or (retired v r j) o (retires-keeps r k v j was (l, inl out))
-      | inr under ↦ record { guarded = o; stays = inr (under-retires holds v p k r j l was under o).0 }
+      | inr under ↦ record { guarded = o; stays = inr (under-retires holds v p k r j l was under o).under }
     ]
 
     pub safe-owner_given : (v : World T) (r j : ℕ) → r < length v.time.places → (s : Option Standing) → standing_at v j ≡ s → IsSafe v p k →
         IsTrue (is_open (place_at (owner_given v r j s) p)) → IsSafe (owner_given v r j s) p k
     safe-owner_given v r j l s is safe o = elim safe.stays [
       | inl out ↦ safe-or (owner_given v r j s) o (gives-keeps r k v j s is (l, inl out))
-      | inr under ↦ record { guarded = o; stays = inr (under-owner_given holds v p k r j l s is under o).0 }
+      | inr under ↦ record { guarded = o; stays = inr (under-owner_given holds v p k r j l s is under o).under }
     ]
 
     -- what is out is among nothing that an opening reclaims

@@ -11,28 +11,29 @@ use Rattle.sdd_store.specs.Phases.{is_ended}
 use Rattle.sdd_store.specs.Time as time
 use Rattle.sdd_store.specs.declared.time.Participant.{Participant}
 use Rattle.sdd_store.specs.declared.standing.Standing.{Standing}
-use Rattle.sdd_store.specs.declared.standing.Standing.TheVariants.{Owned, Raw, Shared, Retired}
+use Rattle.sdd_store.specs.declared.standing.Standing.TheVariants.{Owned, Raw, Shared, Retired, Private as privately}
+use Rattle.sdd_slots.specs.Slots.{is_waiting, IsWaiting}
 use Rattle.sdd_base.specs.World.{World, standing_at, value_at, place_at, IsPlaceOf}
-use Rattle.sdd_base.specs.Steps.{made_as, with_standing, retired, owner_given, cell_closed, deferred, opened, closed, registered, ended, reclaims}
+use Rattle.sdd_base.specs.Steps.{made_as, with_standing, waiting_as, retired, owner_given, cell_closed, deferred, opened, closed, registered, ended, reclaims}
 use Rattle.sdd_base.specs.Holding.{Holding}
 use Rattle.sdd_base.specs.Own.{all_awaiting}
 use Rattle.sdd_base.specs.Whole.{IsWhole}
 use Rattle.sdd_base.specs.Left.{Waits}
 use Rattle.sdd_base.specs.Out.{is_out}
-use Rattle.sdd_base.specs.Under.{more, IsUnder, CallsUnder, KeepsUnderGuards, KeepsFreshUnderGuards}
+use Rattle.sdd_base.specs.Under.{more, IsUnder, StaysUnder, CallsUnder, KeepsUnderGuards, KeepsCollectedUnderGuards, KeepsFreshUnderGuards}
 use Rattle.sdd_base.specs.Calls.{Calls}
-use Rattle.sdd_base.specs.Calls.Calls.{registers, ends, opens, closes, stirs, accelerates, makes, shares, retires, releases, defers, edits, drops, puts_out_raw, takes_back_raw, changes_cells, closes_cell, changes_pointers}
+use Rattle.sdd_base.specs.Calls.Calls.{registers, ends, opens, closes, stirs, accelerates, makes, shares, retires, releases, defers, collects, closes_collector, edits, drops, puts_out_raw, takes_back_raw, changes_cells, closes_cell, changes_pointers}
 use Rattle.sdd_base.specs.Under.CallsUnder.{none, more_calls}
 use Rattle.sdd_base.proofs.Own.{Gives, Gives-owner_given, Gives-cell_closed}
 use Rattle.sdd_base.proofs.Own as own
 use Rattle.sdd_base.proofs.Guarded.{guarded}
-use Rattle.sdd_base.proofs.Standings.{out-inside, out-apart}
+use Rattle.sdd_base.proofs.Standings.{alone-out, out-inside, out-apart, waits-out-not}
 use Rattle.sdd_base.proofs.Whole.{times_among}
-use Rattle.sdd_base.proofs.Housed.{Whole-opened, Whole-closed, Whole-stirred, Whole-accelerated, Whole-made_as, Whole-shared, Whole-restands, Whole-retires, Whole-deferred, Whole-owner_given, Whole-cells, Whole-pointers, Whole-cell_closed, Whole-registered, Whole-ended, IsTaken, live-taken, registered-keeps, waits-taken, guard-taken}
+use Rattle.sdd_base.proofs.Housed.{Whole-opened, Whole-closed, Whole-stirred, Whole-accelerated, Whole-made_as, Whole-shared, Whole-restands, Whole-retires, Whole-waits, Whole-deferred, Whole-owner_given, Whole-cells, Whole-pointers, Whole-cell_closed, Whole-registered, Whole-ended, IsTaken, live-taken, registered-keeps, waits-taken, guard-taken}
 use Rattle.sdd_base.proofs.Closes.{how-closed}
 use Rattle.sdd_store.proofs.Adopting.{same-or-not}
 use Rattle.sdd_base.proofs.Opening.{how, Nests, IsChange, Stands, opened-stays, opened-other, shared-apart, owner_given-stands, closed-stands, all_awaiting-waiting, still-waits}
-use Rattle.sdd_base.proofs.Entries.{other-due, young-due, change-waits}
+use Rattle.sdd_base.proofs.Entries.{waits-standing, other-due, young-due, change-waits}
 
 -- the same participant, as far as its changes go
 pub record Persists (x y : Participant) : Type 0 where
@@ -66,14 +67,14 @@ closed-persists t p q l on =
 
 module _ {T : Type 0} where
   -- the item goes on waiting with its holder, and no change is made
-  moves : (v w : World T) (p k : ℕ) → (u : IsUnder v p k) → IsTrue (is_open (place_at w p)) → standing_at w k ≡ Some Retired →
+  moves : (v w : World T) (p k : ℕ) → (u : IsUnder v p k) → IsTrue (is_open (place_at w p)) → IsWaiting (standing_at w k) →
       Persists (place_at v p) (place_at w p) → Persists (place_at v u.holder) (place_at w u.holder) → IsUnder w p k
   moves v w p k u o s on_p on_q =
       let same : more w p u.holder ≡ more v p u.holder =
       ap (λ (n : ℕ). min 2 (n + 1 - (place_at w u.holder).found)) on_p.found ∙ ap (λ (n : ℕ). min 2 ((place_at v p).found + 1 - n)) on_q.found in
       record {
         guarded = o;
-        standing = s;
+        waiting = s;
         holder = u.holder;
         seen = u.seen;
         waits = on_q.waits (having_seen u.seen (Item k)) u.waits;
@@ -115,7 +116,7 @@ module _ {T : Type 0} where
     -- the holder makes a change: that was one of those that it could make
     holder-changes : (w : World T) (p k : ℕ) → (u : IsUnder w p k) → IsWhole w → (c : IsChange holds w u.holder) → u.holder < length w.time.places →
         p ≢ u.holder →
-        standing_at (opened holds w u.holder) k ≡ Some Retired → IsTrue (is_open (place_at (opened holds w u.holder) p)) → IsUnder (opened holds w u.holder) p k
+        IsWaiting (standing_at (opened holds w u.holder) k) → IsTrue (is_open (place_at (opened holds w u.holder) p)) → IsUnder (opened holds w u.holder) p k
     holder-changes w p k u i c l apart s o =
         let q = u.holder in
         let new = opened holds w q in
@@ -128,47 +129,66 @@ module _ {T : Type 0} where
         let before : (place_at new p).found ≡ (place_at w p).found = ap (λ (x : Participant). x.found) (opened-other holds w q l p apart) in
         record {
           guarded = o;
-          standing = s;
+          waiting = s;
           holder = q;
           seen = u.seen + 1;
           waits = change-waits holds w q k u.seen l c young u.waits;
           safe = omega (arith, u.safe, near, a.found, b.found, c.another, found, before);
         }
 
-    -- the item is under the guard, with its value
+    -- the item is under the guard, stands as it stood, and has its value
     abbrev KeptUnder : World T → World T → ℕ → ℕ → Type 0
-    KeptUnder v w p k = IsUnder w p k × (value_at w k ≡ value_at v k)
+    KeptUnder v w p k = StaysUnder v w p k (standing_at v k)
 
-    kept : (v w : World T) (p k : ℕ) → (u : IsUnder v p k) → IsTrue (is_open (place_at w p)) → Stands k (Some Retired) (value_at v k) w →
+    -- a slot as it is
+    abbrev AsItWas : World T → ℕ → World T → Type 0
+    AsItWas v k w = Stands k (standing_at v k) (value_at v k) w
+
+    as-it-is : (w : World T) (k : ℕ) → AsItWas w k w
+    as-it-is w k = record { standing = refl; value = refl }
+
+    still-waiting : (v w : World T) (k : ℕ) → IsWaiting (standing_at v k) → AsItWas v k w → IsWaiting (standing_at w k)
+    still-waiting v w k waits s = ap is_waiting s.standing ∙ waits
+
+    kept : (v w : World T) (p k : ℕ) → (u : IsUnder v p k) → IsTrue (is_open (place_at w p)) → AsItWas v k w →
         Persists (place_at v p) (place_at w p) → Persists (place_at v u.holder) (place_at w u.holder) → KeptUnder v w p k
-    kept v w p k u o s on_p on_q = (moves v w p k u o s.standing on_p on_q, s.value)
+    kept v w p k u o s on_p on_q = record {
+      under = moves v w p k u o (still-waiting v w k u.waiting s) on_p on_q;
+      standing = s.standing;
+      value = s.value;
+    }
+
+    idle : (w : World T) (p k : ℕ) → IsUnder w p k → is_out (standing_at w k) ≡ false
+    idle w p k u = waits-out-not (standing_at w k) u.waiting
 
     under-nests : (w : World T) (p k r : ℕ) → r < length w.time.places → (u : IsUnder w p k) → (n : Nests holds w r) → KeptUnder w (opened holds w r) p k
     under-nests w p k r l u n =
         let none : times_among k (reclaims w r) ≡ 0 = ap (λ xs. times_among k xs) n.none in
-        let s = opened-stays holds w r l k (Some Retired) (value_at w k) refl none (record { standing = u.standing; value = refl }) in
+        let s = opened-stays holds w r l k (standing_at w k) (value_at w k) (idle w p k u) none (as-it-is w k) in
         kept w (opened holds w r) p k u (still-open w p r l u.guarded (same-or-not p r) (inl n)) s (nests-persists w r p l n) (nests-persists w r u.holder l n)
 
     under-changes : (w : World T) (p k r : ℕ) → r < length w.time.places → IsWhole w → (u : IsUnder w p k) → (c : IsChange holds w r) → p ≢ r →
         (r ≡ u.holder) ⊎ (r ≢ u.holder) → KeptUnder w (opened holds w r) p k
     under-changes w p k r l i u c apart (inr other) =
         let none = not-due w k r u.holder u.seen i u.waits (inr other) (λ e. absurd (other e)) (sym c.due) in
-        let s = opened-stays holds w r l k (Some Retired) (value_at w k) refl none (record { standing = u.standing; value = refl }) in
+        let s = opened-stays holds w r l k (standing_at w k) (value_at w k) (idle w p k u) none (as-it-is w k) in
         let on_p = Persists-same (place_at w p) (place_at (opened holds w r) p) (opened-other holds w r l p apart) in
         let on_q = Persists-same (place_at w u.holder) (place_at (opened holds w r) u.holder) (opened-other holds w r l u.holder (λ e. other (sym e))) in
         kept w (opened holds w r) p k u (still-open w p r l u.guarded (same-or-not p r) (inr c)) s on_p on_q
     under-changes w p k r l i u c apart (inl e) =
         let young : u.seen < 2 = holder-young w p k u i (subst (λ (m : ℕ). IsChange holds w m) e c) in
         let none = not-due w k r u.holder u.seen i u.waits (inl e) (λ _. young) (sym c.due) in
-        let s = opened-stays holds w r l k (Some Retired) (value_at w k) refl none (record { standing = u.standing; value = refl }) in
-        let o = still-open w p r l u.guarded (same-or-not p r) (inr c) in (
-          subst (λ (m : ℕ). IsUnder (opened holds w m) p k) (sym e)
+        let s = opened-stays holds w r l k (standing_at w k) (value_at w k) (idle w p k u) none (as-it-is w k) in
+        let o = still-open w p r l u.guarded (same-or-not p r) (inr c) in
+        record {
+          under = subst (λ (m : ℕ). IsUnder (opened holds w m) p k) (sym e)
               (holder-changes w p k u i (subst (λ (m : ℕ). IsChange holds w m) e c) (subst (λ (m : ℕ). m < length w.time.places) e l)
               (λ same. apart (same ∙ sym e))
-              (subst (λ (m : ℕ). standing_at (opened holds w m) k ≡ Some Retired) e s.standing)
-              (subst (λ (m : ℕ). IsTrue (is_open (place_at (opened holds w m) p))) e o)),
-          s.value,
-        )
+              (subst (λ (m : ℕ). IsWaiting (standing_at (opened holds w m) k)) e (still-waiting w (opened holds w r) k u.waiting s))
+              (subst (λ (m : ℕ). IsTrue (is_open (place_at (opened holds w m) p))) e o));
+          standing = s.standing;
+          value = s.value;
+        }
 
     under-opens : (w : World T) (p k r : ℕ) → r < length w.time.places → IsWhole w → (u : IsUnder w p k) → Nests holds w r ⊎ IsChange holds w r →
         KeptUnder w (opened holds w r) p k
@@ -183,7 +203,7 @@ module _ {T : Type 0} where
         IsTrue (is_open (place_at (record w { time = with_place w.time r x }) p)) →
         KeptUnder w (record w { time = with_place w.time r x }) p k
     under-place w p k r x l u on o =
-        kept w (record w { time = with_place w.time r x }) p k u o (record { standing = u.standing; value = refl }) (persists-place w.time r p x l on)
+        kept w (record w { time = with_place w.time r x }) p k u o (record { standing = refl; value = refl }) (persists-place w.time r p x l on)
         (persists-place w.time r u.holder x l on)
 
     persists-given : (ks : List ℕ) (x : Participant) → Persists x (all_awaiting ks x)
@@ -197,22 +217,34 @@ module _ {T : Type 0} where
         let same : more (closed v r) p u.holder ≡ more v p u.holder =
         ap (λ (n : ℕ). min 2 (n + 1 - (place_at (closed v r) u.holder).found)) (c.found p)
         ∙ ap (λ (n : ℕ). min 2 ((place_at v p).found + 1 - n)) (c.found u.holder) in
-        (record { guarded = o; standing = u.standing; holder = u.holder; seen = u.seen; waits = h; safe = omega (arith, u.safe, same) }, refl)
+        record {
+          under = record { guarded = o; waiting = u.waiting; holder = u.holder; seen = u.seen; waits = h; safe = omega (arith, u.safe, same) };
+          standing = refl;
+          value = refl;
+        }
     under-closes v p k r l o u (inr h) =
-        (record { guarded = o; standing = u.standing; holder = r; seen = 0; waits = h.1; safe = omega arith }, refl)
+        record {
+          under = record { guarded = o; waiting = u.waiting; holder = r; seen = 0; waits = h.1; safe = omega arith };
+          standing = refl;
+          value = refl;
+        }
 
-    -- the retirement of another item, to a place that is there
-    pub under-retires : (v : World T) (p k r j : ℕ) → r < length v.time.places → is_out (standing_at v j) ≡ true → (u : IsUnder v p k) →
-        IsTrue (is_open (place_at (retired v r j) p)) → KeptUnder v (retired v r j) p k
-    under-retires v p k r j l out u o =
-        let apart : k ≢ j = out-apart v.standings j k out (ap is_out u.standing) in
+    -- another item begins to wait, with a place that is there
+    under-waits : (v : World T) (p k r j : ℕ) (s : Standing) → r < length v.time.places → is_out (standing_at v j) ≡ true → (u : IsUnder v p k) →
+        IsTrue (is_open (place_at (waiting_as v r j s) p)) → KeptUnder v (waiting_as v r j s) p k
+    under-waits v p k r j s l out u o =
+        let apart : k ≢ j = out-apart v.standings j k out (idle v p k u) in
         let on = persists-given (j ∷ []) (place_at v r) in
-        kept v (retired v r j) p k u o (record { standing = get_or-set_other v.standings j k (Some Retired) None apart ∙ u.standing; value = refl })
+        kept v (waiting_as v r j s) p k u o (record { standing = get_or-set_other v.standings j k (Some s) None apart; value = refl })
         (persists-place v.time r p (time.awaiting (Item j) (place_at v r)) l on)
         (persists-place v.time r u.holder (time.awaiting (Item j) (place_at v r)) l on)
 
+    pub under-retires : (v : World T) (p k r j : ℕ) → r < length v.time.places → is_out (standing_at v j) ≡ true → (u : IsUnder v p k) →
+        IsTrue (is_open (place_at (retired v r j) p)) → KeptUnder v (retired v r j) p k
+    under-retires v p k r j l out u o = under-waits v p k r j Retired l out u o
+
     -- other items are given up to a place
-    under-gives : (v w : World T) (p k r : ℕ) → r < length v.time.places → Gives r v w → (u : IsUnder v p k) → Stands k (Some Retired) (value_at v k) w →
+    under-gives : (v w : World T) (p k r : ℕ) → r < length v.time.places → Gives r v w → (u : IsUnder v p k) → AsItWas v k w →
         IsTrue (is_open (place_at w p)) → KeptUnder v w p k
     under-gives v w p k r l g u s o =
         let on = persists-given g.slots (place_at v r) in
@@ -226,10 +258,10 @@ module _ {T : Type 0} where
         IsTrue (is_open (place_at (owner_given v r j s) p)) → KeptUnder v (owner_given v r j s) p k
     under-owner_given v p k r j l s is u o =
         under-gives v (owner_given v r j s) p k r l (Gives-owner_given v r j s is) u
-        (owner_given-stands r k (Some Retired) (value_at v k) refl v j s is (record { standing = u.standing; value = refl })) o
+        (owner_given-stands r k (standing_at v k) (value_at v k) (idle v p k u) v j s is (as-it-is v k)) o
 
     -- what changes no place
-    under-still : (v w : World T) (p k : ℕ) → (u : IsUnder v p k) → w.time ≡ v.time → Stands k (Some Retired) (value_at v k) w →
+    under-still : (v w : World T) (p k : ℕ) → (u : IsUnder v p k) → w.time ≡ v.time → AsItWas v k w →
         IsTrue (is_open (place_at w p)) → KeptUnder v w p k
     under-still v w p k u e s o =
         let at : (q : ℕ) → Persists (place_at v q) (place_at w q) =
@@ -240,9 +272,9 @@ module _ {T : Type 0} where
     under-restands : (v : World T) (p k j : ℕ) (s : Standing) → is_out (standing_at v j) ≡ true → (u : IsUnder v p k) →
         IsTrue (is_open (place_at (with_standing v j s) p)) → KeptUnder v (with_standing v j s) p k
     under-restands v p k j s out u o =
-        let apart : k ≢ j = out-apart v.standings j k out (ap is_out u.standing) in
+        let apart : k ≢ j = out-apart v.standings j k out (idle v p k u) in
         under-still v (with_standing v j s) p k u refl
-        (record { standing = get_or-set_other v.standings j k (Some s) None apart ∙ u.standing; value = refl }) o
+        (record { standing = get_or-set_other v.standings j k (Some s) None apart; value = refl }) o
 
     -- what is under a guard is among nobody's due
     pub under-not-due : (w : World T) (p k r : ℕ) → r < length w.time.places → IsWhole w → (u : IsUnder w p k) → times_among k (reclaims w r) ≡ 0
@@ -259,12 +291,12 @@ module _ {T : Type 0} where
         let same : (q : ℕ) → IsTaken v.time q → Persists (place_at v q) (place_at (registered v r) q) =
         λ q taken. Persists-same (place_at v q) (place_at (registered v r) q) (registered-keeps v.time r q taken vacant) in (
           Whole-registered v r vacant i,
-          kept v (registered v r) p k u o (record { standing = u.standing; value = refl }) (same p (guard-taken v p i u.guarded))
+          kept v (registered v r) p k u o (record { standing = refl; value = refl }) (same p (guard-taken v p i u.guarded))
               (same u.holder (waits-taken v u.holder k u.seen i u.waits)),
         )
     one-call p k (ends v r l shut) i u o = (
       Whole-ended v r l shut i,
-      kept v (ended v r) p k u o (record { standing = u.standing; value = refl }) (record { found = refl; waits = λ w h. h })
+      kept v (ended v r) p k u o (record { standing = refl; value = refl }) (record { found = refl; waits = λ w h. h })
           (record { found = refl; waits = λ w h. h }),
     )
     one-call p k (opens v r l) i u o = (Whole-opened holds v r l i, under-opens v p k r l.0 i u (how holds v r l.0))
@@ -275,19 +307,19 @@ module _ {T : Type 0} where
     one-call p k (accelerates v r l) i u o =
         (Whole-accelerated v r l i, under-place v p k r (time.accelerated (place_at v r)) l.0 u (record { found = refl; waits = λ w h. h }) o)
     one-call p k (makes v j value s first empty) i u o =
-        let apart : k ≢ j = λ e. let never : Some Retired ≡ None = sym u.standing ∙ ap (λ (n : ℕ). standing_at v n) e ∙ empty.1 in absurd (cc) in (
+        let apart : k ≢ j = λ e. let never : true ≡ false = sym u.waiting ∙ ap (λ (n : ℕ). is_waiting (standing_at v n)) e ∙ ap is_waiting empty.1 in absurd (cc) in (
           Whole-made_as v j value s first empty i,
           under-still v (made_as v j value s) p k u refl
               (record {
-                standing = get_or-set_other v.standings j k (Some s) None apart ∙ u.standing;
+                standing = get_or-set_other v.standings j k (Some s) None apart;
                 value = get_or-set_other v.values j k (Some value) None apart;
               }) o,
         )
     one-call p k (shares v j n is) i u o =
-        let apart : k ≢ j = out-apart v.standings j k (ap is_out is) (ap is_out u.standing) in (
+        let apart : k ≢ j = out-apart v.standings j k (ap is_out is) (idle v p k u) in (
           Whole-shared v j n (n + 1) is i,
           under-still v (with_standing v j (Shared (n + 1))) p k u refl
-              (shared-apart v j (n + 1) k (Some Retired) (value_at v k) apart (record { standing = u.standing; value = refl })) o,
+              (shared-apart v j (n + 1) k (standing_at v k) (value_at v k) apart (as-it-is v k)) o,
         )
     one-call p k (retires v r j l there) i u o =
         (Whole-retires v r j (live-taken v.time r l) (ap is_out there) i, under-retires v p k r j l.0 (ap is_out there) u o)
@@ -298,9 +330,13 @@ module _ {T : Type 0} where
         let y : Participant = time.awaiting (Job j) x in
         let on : Persists x y = record { found = refl; waits = still-waits (Job j) x } in (
           Whole-deferred v r j (live-taken v.time r l) free i,
-          kept v (deferred v r j) p k u o (record { standing = u.standing; value = refl }) (persists-place v.time r p y l.0 on)
+          kept v (deferred v r j) p k u o (record { standing = refl; value = refl }) (persists-place v.time r p y l.0 on)
               (persists-place v.time r u.holder y l.0 on),
         )
+    one-call p k (collects v r c j l alone) i u o =
+        let out = alone-out (standing_at v j) alone in
+        (Whole-waits v r j (privately c) refl (live-taken v.time r l) out i, under-waits v p k r j (privately c) l.0 out u o)
+    one-call p k (closes_collector v r c l quiet) i u o = absurd (quiet (guarded v p u.guarded))
     one-call p k (edits v j value may) i u o = absurd (may.quiet (guarded v p u.guarded))
     one-call p k (drops v r j l may) i u o = absurd (may.quiet (guarded v p u.guarded))
     one-call p k (puts_out_raw v j is) i u o =
@@ -308,43 +344,46 @@ module _ {T : Type 0} where
     one-call p k (takes_back_raw v j is) i u o =
         (Whole-restands v j Owned (ap is_out is) refl i, under-restands v p k j Owned (ap is_out is) u o)
     one-call p k (changes_cells v cells same) i u o =
-        (Whole-cells v cells i, under-still v (record v { cells = cells }) p k u refl (record { standing = u.standing; value = refl }) o)
+        (Whole-cells v cells i, under-still v (record v { cells = cells }) p k u refl (record { standing = refl; value = refl }) o)
     one-call p k (closes_cell v r c l) i u o = (
       Whole-cell_closed v r c l i,
       under-gives v (cell_closed v r c) p k r l.0 (Gives-cell_closed v r c l.0) u
-          (closed-stands r k (Some Retired) (value_at v k) refl v c (record { standing = u.standing; value = refl })) o,
+          (closed-stands r k (standing_at v k) (value_at v k) (idle v p k u) v c (as-it-is v k)) o,
     )
     one-call p k (changes_pointers v pointers same) i u o = (
       Whole-pointers v pointers i,
-      under-still v (record v { pointers = pointers }) p k u refl (record { standing = u.standing; value = refl }) o,
+      under-still v (record v { pointers = pointers }) p k u refl (record { standing = refl; value = refl }) o,
     )
 
     all-calls : (p k : ℕ) {v w : World T} → CallsUnder holds p v w → IsWhole v → IsUnder v p k → IsWhole w × KeptUnder v w p k
-    all-calls p k (none v o) i u = (i, (u, refl))
+    all-calls p k (none v o) i u = (i, record { under = u; standing = refl; value = refl })
     all-calls p k (more_calls u v w path call o) i under =
         let there = all-calls p k path i under in
-        let end = one-call p k call there.0 there.1.0 o in
-        (end.0, (end.1.0, end.1.1 ∙ there.1.1))
+        let end = one-call p k call there.0 there.1.under o in
+        (end.0, record { under = end.1.under; standing = end.1.standing ∙ there.1.standing; value = end.1.value ∙ there.1.value })
 
-    awaiting-open : (w : World T) (p q k : ℕ) → q < length w.time.places → IsTrue (is_open (place_at w p)) → (p ≡ q) ⊎ (p ≢ q) →
-        IsTrue (is_open (place_at (retired w q k) p))
-    awaiting-open w p q k l o (inl e) =
+    awaiting-open : (w : World T) (p q k : ℕ) (s : Standing) → q < length w.time.places → IsTrue (is_open (place_at w p)) → (p ≡ q) ⊎ (p ≢ q) →
+        IsTrue (is_open (place_at (waiting_as w q k s) p))
+    awaiting-open w p q k s l o (inl e) =
         let x : Participant = time.awaiting (Item k) (place_at w q) in
-        let here : place_at (retired w q k) q ≡ x = get_or-set_same w.time.places q x nobody l in
-        subst (λ (m : ℕ). IsTrue (is_open (place_at (retired w q k) m))) (sym e)
+        let here : place_at (waiting_as w q k s) q ≡ x = get_or-set_same w.time.places q x nobody l in
+        subst (λ (m : ℕ). IsTrue (is_open (place_at (waiting_as w q k s) m))) (sym e)
         (subst (λ (z : Participant). IsTrue (is_open z)) (sym here) (subst (λ (m : ℕ). IsTrue (is_open (place_at w m))) e o))
-    awaiting-open w p q k l o (inr apart) =
+    awaiting-open w p q k s l o (inr apart) =
         subst (λ (z : Participant). IsTrue (is_open z)) (sym (get_or-set_other w.time.places q p (time.awaiting (Item k) (place_at w q)) nobody apart)) o
 
-    -- an item that is retired while a guard is open is under it
-    pub under-retired : (w : World T) (p q k : ℕ) → IsTrue (is_open (place_at w p)) → q < length w.time.places → is_out (standing_at w k) ≡ true →
-        IsUnder (retired w q k) p k
-    under-retired w p q k o l out =
+    -- an item that begins to wait while a guard is open is under it
+    stands-there : (w : World T) (q k : ℕ) (s : Standing) → is_out (standing_at w k) ≡ true → standing_at (waiting_as w q k s) k ≡ Some s
+    stands-there w q k s out = get_or-set_same w.standings k (Some s) None (out-inside w.standings k out)
+
+    under-waiting : (w : World T) (p q k : ℕ) (s : Standing) → is_waiting (Some s) ≡ true → IsTrue (is_open (place_at w p)) →
+        q < length w.time.places → is_out (standing_at w k) ≡ true → IsUnder (waiting_as w q k s) p k
+    under-waiting w p q k s waits o l out =
         let x : Participant = time.awaiting (Item k) (place_at w q) in
-        let here : place_at (retired w q k) q ≡ x = get_or-set_same w.time.places q x nobody l in
+        let here : place_at (waiting_as w q k s) q ≡ x = get_or-set_same w.time.places q x nobody l in
         record {
-          guarded = awaiting-open w p q k l o (same-or-not p q);
-          standing = get_or-set_same w.standings k (Some Retired) None (out-inside w.standings k out);
+          guarded = awaiting-open w p q k s l o (same-or-not p q);
+          waiting = ap is_waiting (stands-there w q k s out) ∙ waits;
           holder = q;
           seen = 0;
           waits =
@@ -353,13 +392,22 @@ module _ {T : Type 0} where
           safe = omega arith;
         }
 
+    keeps-waiting : (w : World T) (p q k : ℕ) (s : Standing) → is_waiting (Some s) ≡ true → IsWhole w → IsTrue (is_open (place_at w p)) →
+        IsPlaceOf w q → is_out (standing_at w k) ≡ true → (new : World T) → CallsUnder holds p (waiting_as w q k s) new →
+        StaysUnder w new p k (Some s)
+    keeps-waiting w p q k s waits i o l out new path =
+        let under = under-waiting w p q k s waits o l.0 out in
+        let end = (all-calls p k path (Whole-waits w q k s waits (live-taken w.time q l) out i) under).1 in
+        record { under = end.under; standing = end.standing ∙ stands-there w q k s out; value = end.value }
+
     pub keeps-under-guards : (w : World T) → IsWhole w → KeepsUnderGuards holds w
-    keeps-under-guards w i = λ p q k o l out new path.
-        let end = all-calls p k path (Whole-retires w q k (live-taken w.time q l) out i) (under-retired w p q k o l.0 out) in
-        (end.1.0, end.1.1)
+    keeps-under-guards w i = λ p q k o l out new path. keeps-waiting w p q k Retired refl i o l out new path
+
+    pub keeps-collected-under-guards : (w : World T) → IsWhole w → KeepsCollectedUnderGuards holds w
+    keeps-collected-under-guards w i = λ p q c k o l out new path. keeps-waiting w p q k (privately c) refl i o l out new path
 
     pub keeps-fresh-under-guards : (w : World T) → IsWhole w → KeepsFreshUnderGuards holds w
-    keeps-fresh-under-guards w i = λ p q k o waits there new path.
-        let under : IsUnder w p k = record { guarded = o; standing = there; holder = q; seen = 0; waits = waits; safe = omega arith } in
-        let end = all-calls p k path i under in
-        (end.1.0, end.1.1)
+    keeps-fresh-under-guards w i = λ p q k o waits new path.
+        let there : is_waiting (standing_at w k) ≡ true = waits-standing w q k 0 i waits in
+        let under : IsUnder w p k = record { guarded = o; waiting = there; holder = q; seen = 0; waits = waits; safe = omega arith } in
+        (all-calls p k path i under).1

@@ -18,8 +18,9 @@ use Rattle.sdd_store.specs.declared.standing.Standing.{Standing}
 use Rattle.sdd_store.specs.declared.standing.Standing.TheVariants.{Shared, Retired}
 use Rattle.sdd_store.specs.declared.standing.Cell.{Cell}
 use Rattle.sdd_store.specs.declared.standing.Pointer.{Pointer}
+use Rattle.sdd_slots.specs.Slots.{is_waiting}
 use Rattle.sdd_base.specs.World.{World, KeepsSizes, weight, is_loose, standing_at, value_at, place_at}
-use Rattle.sdd_base.specs.Steps.{made_as, with_standing, retired, spilled, cell_closed, held_in, owner_given, given, given_all, freed, vacated, dropped_out, dropped, taken_out, waiting_value, slot_reclaimed, reclaimed, all_reclaimed, deferred, ran}
+use Rattle.sdd_base.specs.Steps.{made_as, with_standing, waiting_as, retired, spilled, cell_closed, held_in, owner_given, given, given_all, freed, vacated, dropped_out, dropped, taken_out, waiting_value, slot_reclaimed, reclaimed, all_reclaimed, deferred, ran}
 use Rattle.sdd_base.specs.Holding.{Holding, owned, shared, atomic_owned, atomic_shared, atomic_raw}
 use Rattle.sdd_base.specs.Out.{is_out}
 use Rattle.sdd_base.specs.Calls.{IsFirst}
@@ -38,6 +39,9 @@ pub record SameSize {T : Type 0} (old new : World T) : Type 0 where
 
 pub in_range : (xs : List (Option Standing)) (k : ℕ) (s : Standing) → slice_index_or xs k None ≡ Some s → k < length xs
 in_range xs k s is = grind (arith, get_or_past)
+
+waits-loose : (s : Option Standing) → is_waiting s ≡ true → is_loose s ≡ false
+waits-loose s waits = rw (waits, is_loose) refl
 
 out-loose : (s : Option Standing) → is_out s ≡ true → is_loose s ≡ true
 out-loose s out = rw (out-waits-not s out, is_loose) refl
@@ -59,23 +63,28 @@ stands-weight w k s l e =
     omega (arith, all, same)
 
 -- an item that is out begins to wait
-pub SameSize-retired : {T : Type 0} (w : World T) (p k : ℕ) → p < length w.time.places → is_out (standing_at w k) ≡ true → SameSize w (retired w p k)
-SameSize-retired w p k l out =
+pub SameSize-waiting : {T : Type 0} (w : World T) (p k : ℕ) (s : Standing) → is_waiting (Some s) ≡ true → p < length w.time.places →
+    is_out (standing_at w k) ≡ true → SameSize w (waiting_as w p k s)
+SameSize-waiting w p k s waits l out =
     let x : Participant = time.awaiting (Item k) (place_at w p) in
     let places = sum_by-set waiting_count w.time.places p x nobody l in
     let more : waiting_count x ≡ waiting_count (place_at w p) + 1 = length-append (place_at w p).bags.waiting (fresh (Item k) ∷ []) in
-    let slots = sum_by-set loose_weight w.standings k (Some Retired) None (out-inside w.standings k out) in
+    let slots = sum_by-set loose_weight w.standings k (Some s) None (out-inside w.standings k out) in
     let was : loose_weight (standing_at w k) ≡ 1 = rw (out-loose (standing_at w k) out) refl in
+    let now : loose_weight (Some s) ≡ 0 = rw (waits-loose (Some s) waits) refl in
     record {
-      weight_same = omega (arith, places, more, slots, was);
+      weight_same = omega (arith, places, more, slots, was, now);
       places_same = length-set w.time.places p x;
       phases_same = refl;
-      slots_same = length-set w.standings k (Some Retired);
+      slots_same = length-set w.standings k (Some s);
       jobs_same = refl;
       home_same = refl;
       nesting_same = refl;
       room_same = refl;
     }
+
+pub SameSize-retired : {T : Type 0} (w : World T) (p k : ℕ) → p < length w.time.places → is_out (standing_at w k) ≡ true → SameSize w (retired w p k)
+SameSize-retired w p k l out = SameSize-waiting w p k Retired refl l out
 
 -- a job begins to wait
 pub SameSize-deferred : {T : Type 0} (w : World T) (p j : ℕ) → p < length w.time.places → IsEmptyAt w.jobs j → SameSize w (deferred w p j)

@@ -3,9 +3,9 @@ use Rattle.std.proofs.Common.{subst, ◌≡◌, ◌≢◌, ◌⊎◌, inl, inr, 
 use Rattle.std.specs.Prelude.{◌==◌, ◌&&◌, ◌-◌, is_some, if◌then◌else◌, All, not}
 use Rattle.std.proofs.Math.ListN.{get_or-map, get_or-append}
 use Rattle.std.proofs.Math.Seq.{map-set_same}
-use Rattle.std.proofs.lemmas.List.{length-set, get_or-set_same, get_or-set_other, map-set, set-set}
+use Rattle.std.proofs.lemmas.List.{length-map, length-set, get_or-set_same, get_or-set_other, map-set, set-set}
 use Rattle.std.proofs.lemmas.List.Sums.{sum_by-set, sum_by-append}
-use Rattle.std.proofs.lemmas.List.Elements.{All-push, All-nil, All-weaker, filter_passes}
+use Rattle.std.proofs.lemmas.List.Elements.{All-filter, All-push, All-nil, All-weaker, filter_passes}
 use Rattle.std.specs.List.{list_all}
 use Rattle.std.proofs.lemmas.Bool.Decides.{nat_tests}
 use Rattle.sdd_store.proofs.Adopting.{Adopts, Stays, adopts, scans-if, scans-there, same-or-not}
@@ -26,7 +26,9 @@ use Rattle.sdd_store.specs.declared.standing.Cell.{Cell}
 use Rattle.sdd_store.specs.declared.standing.Pointer.{Pointer}
 use Rattle.sdd_slots.specs.Slots.{is_waiting, IsWaiting}
 use Rattle.sdd_base.specs.World.{World, standing_at, value_at, place_at}
-use Rattle.sdd_base.specs.Steps.{made_as, with_standing, retired, deferred, spilled, cell_closed, held_in, owner_given, given, given_all, freed, vacated, dropped_out, dropped, with_value, taken_out, waiting_value, slot_reclaimed, reclaimed, all_reclaimed, changed}
+use Rattle.sdd_store.specs.Collecting.{rest_of, without}
+use Rattle.sdd_base.specs.Collecting.{collector_closed, is_for, waiting_for, without_collector}
+use Rattle.sdd_base.specs.Steps.{made_as, with_standing, waiting_as, retired, deferred, spilled, cell_closed, held_in, owner_given, given, given_all, freed, vacated, dropped_out, dropped, with_value, taken_out, waiting_value, slot_reclaimed, reclaimed, all_reclaimed, changed}
 use Rattle.sdd_base.specs.Steps as steps
 use Rattle.sdd_base.specs.Holding.{Holding, owned, shared, atomic_owned, atomic_shared, atomic_raw}
 use Rattle.sdd_base.specs.Out.{is_out}
@@ -34,7 +36,7 @@ use Rattle.sdd_base.specs.Whole.{is_of_slot, times_with, once_if, times_waiting,
 use Rattle.sdd_base.specs.Own.{all_awaiting}
 use Rattle.sdd_base.proofs.Own.{Gives-range, Gives-given, Gives-reclaimed, Gives-all_reclaimed, changes}
 pub use Rattle.sdd_base.proofs.Listed.{count-cons}
-use Rattle.sdd_base.proofs.Listed.{listed-place, listed-same, listed-awaiting, listed-aged, listed-additive}
+use Rattle.sdd_base.proofs.Listed.{listed-place, listed-same, listed-awaiting, listed-aged, listed-additive, listed-without}
 use Rattle.sdd_base.proofs.Standings.{out-some, out-waits-not, out-inside, owner-given}
 use Rattle.sdd_base.proofs.Weights.{in_range}
 
@@ -96,6 +98,21 @@ abreast-awaiting count what x a =
       countdown = omega arith;
       quiet = λ e. absurd (omega (arith, e, low));
     }
+
+-- what is chosen is taken out
+abreast-without : (count : ℕ) (chosen : What → Bool) (x : Participant) → IsAbreast count x → IsAbreast count (without chosen x)
+abreast-without count chosen x a = record {
+  found = a.found;
+  near = a.near;
+  young = All-filter (λ (w : Waiting). not (chosen w.what)) (λ (w : Waiting). w.seen ≤ 2) x.bags.waiting a.young;
+  countdown = a.countdown;
+  quiet = λ e. ap (rest_of chosen) (a.quiet e);
+}
+
+abreast-all : (count : ℕ) (chosen : What → Bool) (ps : List Participant) (p : ℕ) → IsAbreast count (slice_index_or ps p nobody) →
+    IsAbreast count (slice_index_or (map (without chosen) ps) p nobody)
+abreast-all count chosen ps p a =
+    subst (λ (x : Participant). IsAbreast count x) (sym (get_or-map (without chosen) ps p nobody)) (abreast-without count chosen (slice_index_or ps p nobody) a)
 
 pub times-awaiting : (j : ℕ) (what : What) (x : Participant) → times_with j (time.awaiting what x) ≡ times_with j x + cond (is_of_slot j what) 1 0
 times-awaiting j what x = listed-awaiting (is_of_slot j) what x
@@ -293,37 +310,43 @@ module _ {T : Type 0} where
   whole-of w i = record { filled = i.filled; once = λ k. omega (arith, i.once k); abreast = i.abreast; counted = i.counted }
 
   -- an item that is out begins to wait
-  retired-times : (w : World T) (p k j : ℕ) → p < length w.time.places → times_waiting (retired w p k) j ≡ times_waiting w j + cond (k == j) 1 0
-  retired-times w p k j l =
+  waiting-times : (w : World T) (p k j : ℕ) (s : Standing) → p < length w.time.places →
+      times_waiting (waiting_as w p k s) j ≡ times_waiting w j + cond (k == j) 1 0
+  waiting-times w p k j s l =
       omega (arith, times-place w.time p j (time.awaiting (Item k) (place_at w p)) l, times-awaiting j (Item k) (place_at w p))
 
-  retired-once : (w : World T) (p k j : ℕ) (xs : List What) → p < length w.time.places → is_waiting (standing_at w k) ≡ false → IsWholeBut xs w →
-      ((j ≡ k) × (standing_at (retired w p k) j ≡ Some Retired)) ⊎ ((j ≢ k) × (standing_at (retired w p k) j ≡ standing_at w j)) →
-      times_waiting (retired w p k) j + times_among j xs ≡ once_if (is_waiting (standing_at (retired w p k) j))
-  retired-once w p k j xs l idle i (inl (e, s)) =
+  waiting-once : (w : World T) (p k j : ℕ) (s : Standing) (xs : List What) → is_waiting (Some s) ≡ true → p < length w.time.places →
+      is_waiting (standing_at w k) ≡ false → IsWholeBut xs w →
+      ((j ≡ k) × (standing_at (waiting_as w p k s) j ≡ Some s)) ⊎ ((j ≢ k) × (standing_at (waiting_as w p k s) j ≡ standing_at w j)) →
+      times_waiting (waiting_as w p k s) j + times_among j xs ≡ once_if (is_waiting (standing_at (waiting_as w p k s) j))
+  waiting-once w p k j s xs waits l idle i (inl (e, is)) =
       let before : times_waiting w j + times_among j xs ≡ 0 = i.once j ∙ rw (e, idle) refl in
       let more : one_where (k == j) ≡ 1 = rw (same-test k j e) refl in
-      rw s (omega (arith, retired-times w p k j l, before, more))
-  retired-once w p k j xs l idle i (inr (apart, s)) =
+      rw (is, waits) (omega (arith, waiting-times w p k j s l, before, more))
+  waiting-once w p k j s xs waits l idle i (inr (apart, is)) =
       let more : one_where (k == j) ≡ 0 = rw (apart-test k j apart) refl in
-      rw s (omega (arith, retired-times w p k j l, i.once j, more))
+      rw is (omega (arith, waiting-times w p k j s l, i.once j, more))
 
-  Whole-retired : (w : World T) (p k : ℕ) (xs : List What) → p < length w.time.places → is_out (standing_at w k) ≡ true → IsWholeBut xs w →
-      IsWholeBut xs (retired w p k)
-  Whole-retired w p k xs l out i =
+  Whole-waiting : (w : World T) (p k : ℕ) (s : Standing) (xs : List What) → is_waiting (Some s) ≡ true → p < length w.time.places →
+      is_out (standing_at w k) ≡ true → IsWholeBut xs w → IsWholeBut xs (waiting_as w p k s)
+  Whole-waiting w p k s xs waits l out i =
       let inside : k < length w.standings = out-inside w.standings k out in
       let some = out-some (standing_at w k) out in
-      let same : taken (retired w p k) ≡ taken w =
-      let c = set-taken w k (Some Retired) inside in let o : one_where (is_some (standing_at w k)) ≡ 1 = rw some refl in omega (arith, c, o) in
+      let same : taken (waiting_as w p k s) ≡ taken w =
+      let c = set-taken w k (Some s) inside in let o : one_where (is_some (standing_at w k)) ≡ 1 = rw some refl in omega (arith, c, o) in
       record {
-        filled = same-filled w k (Some Retired) i.filled (sym some);
-        once = λ j. retired-once w p k j xs l (out-waits-not (standing_at w k) out) i
-            (set-standing w.standings k j (Some Retired) inside (same-or-not j k));
+        filled = same-filled w k (Some s) i.filled (sym some);
+        once = λ j. waiting-once w p k j s xs waits l (out-waits-not (standing_at w k) out) i
+            (set-standing w.standings k j (Some s) inside (same-or-not j k));
         abreast =
             abreast-place w.time w.time.count p (time.awaiting (Item k) (place_at w p)) l
             (abreast-awaiting w.time.count (Item k) (place_at w p) (i.abreast p)) i.abreast;
         counted = rw same i.counted;
       }
+
+  Whole-retired : (w : World T) (p k : ℕ) (xs : List What) → p < length w.time.places → is_out (standing_at w k) ≡ true → IsWholeBut xs w →
+      IsWholeBut xs (retired w p k)
+  Whole-retired w p k xs l out i = Whole-waiting w p k Retired xs refl l out i
 
   -- a job begins to wait
   pub Items-deferred : (w : World T) (p j : ℕ) → p < length w.time.places → HasItems w → HasItems (deferred w p j)
@@ -592,8 +615,25 @@ module _ {T : Type 0} where
   pub Items-cell_closed : (w : World T) (p c : ℕ) → p < length w.time.places → HasItems w → HasItems (cell_closed w p c)
   Items-cell_closed w p c l i = whole-of (cell_closed w p c) (Whole-cell_closed-but w p c [] l (whole-but-nothing w i))
 
-  pub Items-retires : (w : World T) (p k : ℕ) → p < length w.time.places → is_out (standing_at w k) ≡ true → HasItems w → HasItems (retired w p k)
-  Items-retires w p k l out i = whole-of (retired w p k) (Whole-retired w p k [] l out (whole-but-nothing w i))
+  pub Items-waiting : (w : World T) (p k : ℕ) (s : Standing) → is_waiting (Some s) ≡ true → p < length w.time.places → is_out (standing_at w k) ≡ true →
+      HasItems w → HasItems (waiting_as w p k s)
+  Items-waiting w p k s waits l out i = whole-of (waiting_as w p k s) (Whole-waiting w p k s [] waits l out (whole-but-nothing w i))
+
+  -- a collector is closed
+  Whole-without : (w : World T) (c : ℕ) → HasItems w → IsWholeBut (waiting_for w c) (without_collector w c)
+  Whole-without w c i = record {
+    filled = i.filled;
+    once = λ k. omega (arith, i.once k, listed-without (is_of_slot k) (is_for w c) w.time.places);
+    abreast = λ p. abreast-all w.time.count (is_for w c) w.time.places p (i.abreast p);
+    counted = i.counted;
+  }
+
+  pub Items-collector_closed : (holds : T → List Holding) (w : World T) (p c : ℕ) → p < length w.time.places → HasItems w →
+      HasItems (collector_closed holds w p c)
+  Items-collector_closed holds w p c l i =
+      let start = without_collector w c in
+      let inside : p < length start.time.places = omega (arith, l, length-map w.time.places (without (is_for w c))) in
+      whole-of (collector_closed holds w p c) (Whole-all_reclaimed holds start p (waiting_for w c) inside (Whole-without w c i))
 
   pub Items-shared : (w : World T) (k n m : ℕ) → standing_at w k ≡ Some (Shared n) → HasItems w → HasItems (with_standing w k (Shared m))
   Items-shared w k n m is i = whole-of (with_standing w k (Shared m)) (Whole-shared-but w k n m [] is (whole-but-nothing w i))

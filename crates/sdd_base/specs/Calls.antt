@@ -7,8 +7,9 @@ use Rattle.sdd_store.specs.declared.standing.Standing.TheVariants.{Owned, Raw, S
 use Rattle.sdd_store.specs.declared.standing.Cell.{Cell}
 use Rattle.sdd_store.specs.declared.standing.Pointer.{Pointer}
 use Rattle.sdd_base.specs.Holding.{Holding}
-use Rattle.sdd_base.specs.World.{World, place_at, standing_at, IsPlaceOf}
-use Rattle.sdd_base.specs.InPlace.{MayInPlace}
+use Rattle.sdd_base.specs.World.{World, place_at, standing_at, IsGuarded, IsPlaceOf}
+use Rattle.sdd_base.specs.InPlace.{IsAlone, MayInPlace}
+use Rattle.sdd_base.specs.Collecting.{collected, collector_closed}
 use Rattle.sdd_base.specs.Steps.{made_as, with_standing, with_value, dropped, retired, deferred, owner_given, cell_closed, opened, closed, stirred, accelerated, registered, ended}
 
 -- a new item stands so: out with its one owner, who may share it or not
@@ -28,6 +29,9 @@ module _ {T : Type 0} (holds : T → List Holding) where
     retires : (w : World T) (p k : ℕ) → IsPlaceOf w p → standing_at w k ≡ Some Owned → Calls w (retired w p k)
     releases : (w : World T) (p k n : ℕ) → IsPlaceOf w p → standing_at w k ≡ Some (Shared n) → Calls w (owner_given w p k (Some (Shared n)))
     defers : (w : World T) (p j : ℕ) → IsPlaceOf w p → IsEmptyAt w.jobs j → Calls w (deferred w p j)
+    -- the one owner's item waits for a collector from now on
+    collects : (w : World T) (p c k : ℕ) → IsPlaceOf w p → IsAlone (standing_at w k) → Calls w (collected w p c k)
+    closes_collector : (w : World T) (p c : ℕ) → IsPlaceOf w p → ¬ (IsGuarded w) → Calls w (collector_closed holds w p c)
     edits : (w : World T) (k : ℕ) (value : T) → MayInPlace w k → Calls w (with_value w k value)
     drops : (w : World T) (p k : ℕ) → IsPlaceOf w p → MayInPlace w k → Calls w (dropped holds w p k)
     puts_out_raw : (w : World T) (k : ℕ) → standing_at w k ≡ Some Owned → Calls w (with_standing w k Raw)

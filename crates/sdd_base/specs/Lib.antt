@@ -17,6 +17,8 @@ pub mod Whole
 pub mod Jobs
 pub mod Out
 pub mod Calls
+pub mod Collecting
+pub mod Collector
 pub mod Left
 pub mod Adopting
 pub mod Under

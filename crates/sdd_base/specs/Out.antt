@@ -8,6 +8,7 @@ use Rattle.sdd_store.specs.declared.standing.Cell.{Cell}
 use Rattle.sdd_store.specs.declared.standing.Pointer.{Pointer}
 use Rattle.sdd_base.specs.Holding.{Holding, owned, shared, atomic_owned, atomic_shared, atomic_raw}
 use Rattle.sdd_base.specs.World.{World, HasPlace, standing_at, value_at}
+use Rattle.sdd_base.specs.Collecting.{collected, collector_closed}
 use Rattle.sdd_base.specs.Steps.{made, made_shared, with_standing, with_value, vacated, dropped, retired, deferred, nulled, with_cell, with_pointer, without_cell, cell_closed, opened, given, given_all, ended}
 
 -- the slot's item has an owner, or is out as raw
@@ -54,6 +55,11 @@ pub record OutLaws {T : Type 0} (holds : T → List Holding) (w : World T) : Typ
   -- an item that is out otherwise, as owned or as raw
   pub restanding : (k : ℕ) (s : Standing) → IsTrue (is_out (standing_at w k)) → IsTrue (is_out (Some s)) → out (with_standing w k s) ≡ out w
   pub retiring : (p k : ℕ) → IsTrue (is_out (standing_at w k)) → out (retired w p k) + 1 ≡ out w
+  pub collecting : (p c k : ℕ) → IsTrue (is_out (standing_at w k)) → out (collected w p c k) + 1 ≡ out w
+  -- a collector's close takes its cell back, and puts nothing out
+  pub closing_collector : (p c : ℕ) → IsNullCell w c → out (collector_closed holds w p c) + 1 ≤ out w
+  -- and nothing but the cell is taken back, where values hold nothing
+  pub closing_collector_plain : HoldsNothing holds → (p c : ℕ) → IsNullCell w c → out (collector_closed holds w p c) + 1 ≡ out w
   pub deferring : (p j : ℕ) → out (deferred w p j) ≡ out w
   pub nulling : (c : ℕ) → IsEmptyAt w.cells c → out (nulled w c) ≡ out w + 1
   pub filling : (c : ℕ) (cell : Cell) → IsSome (entry_at w.cells c) → out (with_cell w c cell) ≡ out w

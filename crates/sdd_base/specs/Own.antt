@@ -1,6 +1,8 @@
 -- What a call makes of what the calling participant keeps of its own, in every space
 use Rattle.std.specs.Prelude.{ℕ, ◌-◌, ◌==◌, ◌≡◌, Bool, List, [], ◌∷◌, Option, Some, None, ◌≢◌, nat_lt, if◌then◌else◌}
 use Rattle.sdd_store.specs.Waiting.{Waiting}
+use Rattle.sdd_store.specs.Collecting.{without}
+use Rattle.sdd_store.specs.declared.waiting.What.{What}
 use Rattle.sdd_store.specs.declared.waiting.What.TheVariants.{Item}
 use Rattle.sdd_store.specs.Time.{is_open, nested, rotated, settled, awaiting, adopting, due_next, counted_down}
 use Rattle.sdd_store.specs.declared.time.Participant.{Participant}
@@ -51,6 +53,12 @@ pub record IsClosed (old new : Participant) : Type 0 where
   pub left : List Waiting
   pub own : new ≡ closed_with marked (adopting left old)
   pub scans : left ≢ [] → (old.guards ≡ 1) × (old.countdown ≡ 0)
+
+-- a close of a collector made new of old: what was chosen of what waited is gone, and what that gave up, in these slots, waits
+pub record IsCollected (old new : Participant) : Type 0 where
+  pub chosen : What → Bool
+  pub given : List ℕ
+  pub own : new ≡ all_awaiting given (without chosen old)
 
 -- a close of a cell made new of old: as before, or one item more waits
 abbrev pub IsSpilled : Participant → Participant → Type 0

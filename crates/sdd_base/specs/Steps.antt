@@ -40,9 +40,13 @@ module _ {T : Type 0} where
   abbrev pub with_value : World T → ℕ → T → World T
   with_value w k value = record w { values = slice_set w.values k (Some value) }
 
+  -- the item in the slot begins to wait with p, and stands so
+  abbrev pub waiting_as : World T → ℕ → ℕ → Standing → World T
+  waiting_as w p k s = record w { time = time.awaiting_at w.time p (Item k); standings = with_entry w.standings k s }
+
   -- the item in the slot waits with p
   abbrev pub retired : World T → ℕ → ℕ → World T
-  retired w p k = record w { time = time.awaiting_at w.time p (Item k); standings = with_entry w.standings k Retired }
+  retired w p k = waiting_as w p k Retired
 
   -- some place of the table of jobs that was free has a job, which waits with p
   abbrev pub deferred : World T → ℕ → ℕ → World T

@@ -9,7 +9,8 @@ ghost use Rattle.sdd_base.specs.Holding.{AreOf};
 ghost use Rattle.sdd_base.specs.World.{World, IsGuarded, pointer_at, place_at, standing_at, value_at};
 ghost use Rattle.sdd_core.specs.declared.tag.Tag.TheVariants.{None as no_tag};
 ghost use Rattle.sdd_base.specs.Seat.{Seat, IsSeated, IsExact, IsLone, MayNest};
-ghost use Rattle.sdd_base.specs.Own.{IsOpened, IsClosed, IsSpilled, GrowsOn};
+ghost use Rattle.sdd_base.specs.Own.{IsOpened, IsClosed, IsCollected, IsSpilled, GrowsOn};
+ghost use Rattle.sdd_base.specs.Collecting.{owner_collected, collector_closed};
 ghost use Rattle.sdd_base.specs.Known.{Known, KnowsOn, KnowsOpened, KnowsClosed, IsNear, IsRaisedBy};
 ghost use Rattle.sdd_token.specs.Kind.{IsOwner};
 ghost use Rattle.sdd_token.specs.Right.{number_of, home_of, kind_of, raw_number_of, raw_home_of};
@@ -243,6 +244,40 @@ pub trait Space<T: Item<T>>: Look<T> + Guards<T> {
         ensures exact { IsExact (Self.seat self.old) → Self.world self.new ≡
             owner_given (Self.world self.old) (Self.seat self.old).place (number_of right) (standing_at (Self.world self.old) (number_of right)) }
         ensures keeps { KeepsShown (Self.shows self.old) (Self.shows self.new) };
+
+    /// An owner of this kind lets its item go, and is told whether it was the last. The last one's item waits with the participant, for a collector.
+    fn collect(&mut self, collector: &RawRight, right: Right, kind: Kind) -> bool
+        requires seated { IsSeated (Self.seat self.old) }
+        requires collector { raw_home_of collector.now ≡ (Self.seat self.old).home.cells }
+        requires home { home_of right ≡ (Self.seat self.old).home.slots }
+        requires kind { kind_of right ≡ kind }
+        ensures seat { Self.seat self.new ≡ Self.seat self.old }
+        ensures own { Self.own self.new ≡ (if result then time.awaiting (Item (number_of right)) (Self.own self.old) else Self.own self.old) }
+        ensures sole { kind_of right ≡ Kind.Owned → IsTrue result }
+        ensures owned { IsExact (Self.seat self.old) → IsOwnedBy (kind_of right) (standing_at (Self.world self.old) (number_of right)) }
+        ensures known { KnowsOn (Self.known self.old) (Self.known self.new) }
+        ensures last { IsExact (Self.seat self.old) →
+            IsTrue result ↔ ¬ (IsTrue (has_others (standing_at (Self.world self.old) (number_of right)))) }
+        ensures exact { IsExact (Self.seat self.old) → Self.world self.new ≡
+            owner_collected (Self.world self.old) (Self.seat self.old).place (raw_number_of collector.now) (number_of right)
+            (standing_at (Self.world self.old) (number_of right)) }
+        ensures keeps { KeepsShown (Self.shows self.old) (Self.shows self.new) };
+
+    /// Gives a collector up. What waits for it, with whomever, is reclaimed at once, where no guard is open.
+    ///
+    /// `GuardOpen` where one is: the collector comes back.
+    fn close_collector(&mut self, collector: RawRight) -> Result<(), (RawRight, Refused)>
+        requires seated { IsSeated (Self.seat self.old) }
+        requires collector { raw_home_of collector ≡ (Self.seat self.old).home.cells }
+        ensures seat { Self.seat self.new ≡ Self.seat self.old }
+        ensures own { MatchResult result (λ _. IsCollected (Self.own self.old) (Self.own self.new)) (λ _. Self.own self.new ≡ Self.own self.old) }
+        ensures known { KnowsOn (Self.known self.old) (Self.known self.new) }
+        ensures back { IfErr result (λ e. e.0 ≡ collector) }
+        ensures exact { IsExact (Self.seat self.old) → MatchResult result
+            (λ _. ¬ (IsGuarded (Self.world self.old)) × IsNullCell (Self.world self.old) (raw_number_of collector) ×
+            (Self.world self.new ≡ collector_closed T.holds (Self.world self.old) (Self.seat self.old).place (raw_number_of collector)))
+            (λ e. IsGuarded (Self.world self.old) × (e.1 ≡ Refused.GuardOpen) × (Self.world self.new ≡ Self.world self.old)) }
+        ensures keeps { IfErr result (λ _. KeepsShown (Self.shows self.old) (Self.shows self.new)) };
 
     /// Changes the value of an owner's item in its place, where the owner, which is of this kind, is alone and no guard is open.
     ///

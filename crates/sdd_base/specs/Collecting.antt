@@ -1,0 +1,39 @@
+-- What becomes of what waits for a collector
+use Rattle.std.specs.Prelude.{ℕ, ◌-◌, Bool, List, Option, None, Some, nat_lt, if◌then◌else◌}
+use Rattle.sdd_store.specs.Collecting.{is_kept_for, chosen_among, time_without}
+use Rattle.sdd_store.specs.declared.waiting.What.{What}
+use Rattle.sdd_store.specs.declared.standing.Standing.{Standing}
+use Rattle.sdd_store.specs.declared.standing.Standing.TheVariants.{Owned, Raw, Shared, Retired, Private as privately}
+use Rattle.sdd_base.specs.Holding.{Holding}
+use Rattle.sdd_base.specs.World.{World}
+use Rattle.sdd_base.specs.Steps.{all_reclaimed, waiting_as, with_standing, without_cell}
+
+module _ {T : Type 0} where
+  -- the item in the slot waits for the collector, with p
+  abbrev pub collected : World T → (p c k : ℕ) → World T
+  collected w p c k = waiting_as w p k (privately c)
+
+  -- p gives the collector an owner of the slot's item, which stands so: the last owner's item waits for it
+  abbrev pub owner_collected : World T → (p c k : ℕ) → Option Standing → World T
+  owner_collected w p c k None = w
+  owner_collected w p c k (Some Owned) = collected w p c k
+  owner_collected w p c k (Some Raw) = w
+  owner_collected w p c k (Some (Shared n)) = if nat_lt 1 n then with_standing w k (Shared (n - 1)) else collected w p c k
+  owner_collected w p c k (Some Retired) = w
+  owner_collected w p c k (Some (privately d)) = w
+
+  -- it waits for the collector
+  abbrev pub is_for : World T → ℕ → What → Bool
+  is_for w c = is_kept_for c w.standings
+
+  -- what waits for the collector, with whomever, one place after another
+  abbrev pub waiting_for : World T → ℕ → List What
+  waiting_for w c = chosen_among (is_for w c) w.time.places
+
+  -- nothing waits for it, and its cell is free
+  abbrev pub without_collector : World T → ℕ → World T
+  without_collector w c = without_cell (record w { time = time_without (is_for w c) w.time }) c
+
+  -- the collector's cell is free, and p reclaims what waited for it
+  abbrev pub collector_closed : (T → List Holding) → World T → (p c : ℕ) → World T
+  collector_closed holds w p c = all_reclaimed holds (without_collector w c) p (waiting_for w c)

@@ -1,0 +1,140 @@
+ghost use Rattle.std.specs.Prelude.{ℕ, ◌≡◌, ◌↔◌, IfErr, IfOk, IsTrue, MatchResult, Some, if◌then◌else◌};
+ghost use Rattle.sdd_base.specs.World.{World, IsGuarded, standing_at};
+ghost use Rattle.sdd_base.specs.Seat.{IsSeated, IsExact};
+ghost use Rattle.sdd_base.specs.Known.{KnowsOn};
+ghost use Rattle.sdd_base.specs.Own.{IsCollected};
+ghost use Rattle.sdd_base.specs.Ptr.{KeepsShown};
+ghost use Rattle.sdd_base.specs.Guard.{reader_of};
+ghost use Rattle.sdd_base.specs.Out.{IsNullCell};
+ghost use Rattle.sdd_base.specs.Steps.{pointing};
+ghost use Rattle.sdd_base.specs.Collecting.{collected, owner_collected, collector_closed};
+ghost use Rattle.sdd_base.specs.Collector.{collector_of, cells_home};
+ghost use Rattle.sdd_base.specs.Owned as owned;
+ghost use Rattle.sdd_base.specs.Shared as shared;
+ghost use Rattle.sdd_slots.specs.Slots.{IsSharedBy};
+ghost use Rattle.sdd_slots.specs.Cells.{null_pointer};
+ghost use Rattle.sdd_store.specs.Table.{IsEmptyAt, IsFull};
+ghost use Rattle.sdd_store.specs.Time as time;
+ghost use Rattle.sdd_store.specs.declared.waiting.What.TheVariants.{Item};
+
+use crate::guard::Guard;
+use crate::item::Item;
+use crate::owned::Owned;
+use crate::raw_ptr::RawPtr;
+use crate::shared::Shared;
+use crate::space::Space;
+use sdd_core::Refused;
+use sdd_store::Standing;
+use sdd_token::{Kind, RawRight};
+use std::marker::PhantomData;
+
+/// A collector of items that end with it at latest.
+///
+/// An item that it is given waits as one that is retired does, and goes as that one at the third later outermost opening of the participant with which it
+/// waits that finds another epoch. When the collector is closed, all that still waits for it goes at once. It takes one cell, and must be spent by
+/// `close`.
+pub struct PrivateCollector<T> {
+    right: RawRight,
+    of: PhantomData<T>,
+}
+
+const _: () = prove!(size_of::<PrivateCollector<u64>>() == 4);
+
+impl<T> PrivateCollector<T> {
+    fn of_right(right: RawRight) -> PrivateCollector<T>
+        ensures { result.right ≡ right }
+    {
+        PrivateCollector {
+            right,
+            of: PhantomData,
+        }
+    }
+
+    fn into_right(self) -> RawRight
+        ensures { result ≡ self.right }
+    {
+        let PrivateCollector { right, of: _ } = self;
+        right
+    }
+}
+
+impl<T: Item<T>> PrivateCollector<T> {
+    /// A collector for which nothing waits.
+    ///
+    /// `NoCell` where no cell is free.
+    pub fn new<S: Space<T>>(s: &mut S) -> Result<PrivateCollector<T>, Refused>
+        requires seated { IsSeated (S.seat s.old) }
+        ensures seat { S.seat s.new ≡ S.seat s.old }
+        ensures own { S.own s.new ≡ S.own s.old }
+        ensures known { KnowsOn (S.known s.old) (S.known s.new) }
+        ensures home { IfOk result (λ collector. cells_home collector ≡ (S.seat s.old).home.cells) }
+        ensures exact { IsExact (S.seat s.old) → MatchResult result
+            (λ collector. IsEmptyAt (S.world s.old).cells (collector_of collector) ×
+            (S.world s.new ≡ pointing (S.world s.old) (collector_of collector) null_pointer))
+            (λ e. IsFull (S.world s.old).cells × (e ≡ Refused.NoCell) × (S.world s.new ≡ S.world s.old)) }
+        ensures keeps { KeepsShown (S.shows s.old) (S.shows s.new) }
+    {
+        Ok(PrivateCollector::of_right(s.make_raw_cell(RawPtr::<T>::null().pointer())?))
+    }
+
+    /// The item waits for the collector, with the calling participant. The guard is one of that participant.
+    pub fn collect_owned<S: Space<T>>(&self, owner: Owned<T>, guard: &Guard, s: &mut S)
+        requires seated { IsSeated (S.seat s.old) }
+        requires collector { cells_home self.now ≡ (S.seat s.old).home.cells }
+        requires home { owned.slots_home owner ≡ (S.seat s.old).home.slots }
+        requires reader { reader_of guard.now ≡ (S.seat s.old).reader }
+        ensures seat { S.seat s.new ≡ S.seat s.old }
+        ensures own { S.own s.new ≡ time.awaiting (Item (owned.slot_of owner)) (S.own s.old) }
+        ensures owned { IsExact (S.seat s.old) → standing_at (S.world s.old) (owned.slot_of owner) ≡ Some Standing.Owned }
+        ensures known { KnowsOn (S.known s.old) (S.known s.new) }
+        ensures exact { IsExact (S.seat s.old) → S.world s.new ≡
+            collected (S.world s.old) (S.seat s.old).place (collector_of self.now) (owned.slot_of owner) }
+        ensures keeps { KeepsShown (S.shows s.old) (S.shows s.new) }
+    {
+        let _ = guard;
+        let _ = s.collect(&self.right, owner.into_right(), Kind::Owned);
+    }
+
+    /// Gives this owner up, and answers whether it was the last, cells counted. The last one's item waits for the collector, with the calling participant.
+    /// The guard is one of that participant.
+    pub fn collect_shared<S: Space<T>>(&self, owner: Shared<T>, guard: &Guard, s: &mut S) -> bool
+        requires seated { IsSeated (S.seat s.old) }
+        requires collector { cells_home self.now ≡ (S.seat s.old).home.cells }
+        requires home { shared.slots_home owner ≡ (S.seat s.old).home.slots }
+        requires reader { reader_of guard.now ≡ (S.seat s.old).reader }
+        ensures seat { S.seat s.new ≡ S.seat s.old }
+        ensures own { S.own s.new ≡ (if result then time.awaiting (Item (shared.slot_of owner)) (S.own s.old) else S.own s.old) }
+        ensures known { KnowsOn (S.known s.old) (S.known s.new) }
+        ensures exact { IsExact (S.seat s.old) → (owners : ℕ) × IsSharedBy owners (standing_at (S.world s.old) (shared.slot_of owner)) ×
+            (IsTrue result ↔ (owners ≡ 1)) ×
+            (S.world s.new ≡ owner_collected (S.world s.old) (S.seat s.old).place (collector_of self.now) (shared.slot_of owner)
+            (Some (Standing.Shared owners))) }
+        ensures keeps { KeepsShown (S.shows s.old) (S.shows s.new) }
+    {
+        let _ = guard;
+        s.collect(&self.right, owner.into_right(), Kind::Shared)
+    }
+
+    /// Frees the collector's cell. What waits for the collector, with whichever participant, also with one that has ended, is reclaimed at once, and what
+    /// its values give up waits with the calling participant.
+    ///
+    /// `GuardOpen` where a guard of any participant is open: the collector comes back, and nothing has changed.
+    pub fn close<S: Space<T>>(self, s: &mut S) -> Result<(), (PrivateCollector<T>, Refused)>
+        requires seated { IsSeated (S.seat s.old) }
+        requires collector { cells_home self ≡ (S.seat s.old).home.cells }
+        ensures seat { S.seat s.new ≡ S.seat s.old }
+        ensures own { MatchResult result (λ _. IsCollected (S.own s.old) (S.own s.new)) (λ _. S.own s.new ≡ S.own s.old) }
+        ensures known { KnowsOn (S.known s.old) (S.known s.new) }
+        ensures back { IfErr result (λ e. e.0 ≡ self) }
+        ensures exact { IsExact (S.seat s.old) → MatchResult result
+            (λ _. ¬ (IsGuarded (S.world s.old)) × IsNullCell (S.world s.old) (collector_of self) ×
+            (S.world s.new ≡ collector_closed T.holds (S.world s.old) (S.seat s.old).place (collector_of self)))
+            (λ e. IsGuarded (S.world s.old) × (e.1 ≡ Refused.GuardOpen) × (S.world s.new ≡ S.world s.old)) }
+        ensures keeps { IfErr result (λ _. KeepsShown (S.shows s.old) (S.shows s.new)) }
+    {
+        match s.close_collector(self.into_right()) {
+            Ok(()) => Ok(()),
+            Err((right, refused)) => Err((PrivateCollector::of_right(right), refused)),
+        }
+    }
+}
