@@ -1,7 +1,7 @@
 -- What a call makes of what waits with the participant that calls
 use Rattle.std.proofs.Common.{◌≡◌, ℕ, ◌<◌, ◌++◌, List, [], ◌∷◌, length, Bool, refl, sym, ap, ◌∙◌, arith, true, false, not, Some, None, Option, IsTrue}
 use Rattle.std.specs.Prelude.{◌==◌}
-use Rattle.std.proofs.lemmas.List.{length-set, get_or-set_same, set-set, set-get_or}
+use Rattle.std.proofs.lemmas.List.{length-map, length-set, get_or-set_same, set-set, set-get_or}
 use Rattle.std.proofs.lemmas.Bool.Decides.{nat_tests}
 use Rattle.sdd_store.specs.declared.waiting.What.{What}
 use Rattle.sdd_store.specs.declared.waiting.What.TheVariants.{Item, Job}
@@ -11,7 +11,10 @@ use Rattle.sdd_store.specs.Table.{entry_at, without_entry}
 use Rattle.sdd_store.specs.declared.time.Participant.{Participant}
 use Rattle.sdd_store.specs.declared.standing.Standing.{Standing}
 use Rattle.sdd_base.specs.World.{World, standing_at, value_at, place_at}
-use Rattle.sdd_base.specs.Own.{all_awaiting, GrowsOn, changed_at, opened_at}
+use Rattle.std.proofs.Math.ListN.{get_or-map}
+use Rattle.sdd_store.specs.Collecting.{without}
+use Rattle.sdd_base.specs.Collecting.{collector_closed, is_for, waiting_for, without_collector}
+use Rattle.sdd_base.specs.Own.{all_awaiting, IsCollected, GrowsOn, changed_at, opened_at}
 use Rattle.sdd_base.specs.Steps.{retired, spilled, cell_closed, held_in, owner_given, given, given_all, freed, vacated, dropped_out, dropped, taken_out, waiting_value, slot_reclaimed, reclaimed, all_reclaimed, changed, opened, caught_up}
 use Rattle.sdd_base.specs.Steps as steps
 use Rattle.sdd_base.specs.Holding.{Holding, owned, shared, atomic_owned, atomic_shared, atomic_raw}
@@ -113,6 +116,24 @@ module _ {T : Type 0} where
     Gives-all_reclaimed w p (x ∷ xs) l =
         let one = Gives-reclaimed w p x l in
         Gives-trans l one (Gives-all_reclaimed (reclaimed holds w p x) p xs (Gives-range l one))
+
+    -- the close of a collector
+    without-here : (w : World T) (p c : ℕ) → place_at (without_collector w c) p ≡ without (is_for w c) (place_at w p)
+    without-here w p c = get_or-map (without (is_for w c)) w.time.places p nobody
+
+    pub Gives-collector_closed : (w : World T) (p c : ℕ) → p < length w.time.places → Gives p (without_collector w c) (collector_closed holds w p c)
+    Gives-collector_closed w p c l =
+        Gives-all_reclaimed (without_collector w c) p (waiting_for w c) (omega (arith, l, length-map w.time.places (without (is_for w c))))
+
+    pub collector-own : (w : World T) (p c : ℕ) → p < length w.time.places → IsCollected (place_at w p) (place_at (collector_closed holds w p c) p)
+    collector-own w p c l =
+        let inside : p < length (without_collector w c).time.places = omega (arith, l, length-map w.time.places (without (is_for w c))) in
+        let g = Gives-collector_closed w p c l in
+        record {
+          chosen = is_for w c;
+          given = g.slots;
+          own = Gives-here inside g ∙ ap (all_awaiting g.slots) (without-here w p c);
+        }
 
     -- a change of p, as p has it, and the count
     pub record Changes (w : World T) (p : ℕ) : Type 0 where

@@ -30,7 +30,7 @@ use Rattle.sdd_base.proofs.Standings.{alone-out, out-waits-not, out-inside, out-
 use Rattle.sdd_base.proofs.Weights.{in_range}
 use Rattle.sdd_base.proofs.Entries.{one-place}
 use Rattle.sdd_base.proofs.Opening.{keeps-owner_given, keeps-given_all, keeps-cell_closed, how, Nests, IsChange, before, in_before, due-here}
-use Rattle.sdd_base.proofs.Under.{one-call, under-not-due, under-retires, under-owner_given}
+use Rattle.sdd_base.proofs.Under.{one-call, under-not-due, under-waits, under-owner_given}
 use Rattle.sdd_store.proofs.Adopting.{same-or-not}
 
 module _ {T : Type 0} (q k : ℕ) where
@@ -200,11 +200,11 @@ module _ {T : Type 0} (p k : ℕ) where
       | inr under ↦ record { guarded = o; stays = inr (one-call holds p k call i under o).1.under }
     ]
 
-    pub safe-retires : (v : World T) (r j : ℕ) → r < length v.time.places → is_out (standing_at v j) ≡ true → IsSafe v p k →
-        IsTrue (is_open (place_at (retired v r j) p)) → IsSafe (retired v r j) p k
-    safe-retires v r j l was safe o = elim safe.stays [
-      | inl out ↦ safe-or (retired v r j) o (retires-keeps r k v j was (l, inl out))
-      | inr under ↦ record { guarded = o; stays = inr (under-retires holds v p k r j l was under o).under }
+    pub safe-waits : (v : World T) (r j : ℕ) (s : Standing) → is_waiting (Some s) ≡ true → r < length v.time.places → is_out (standing_at v j) ≡ true →
+        IsSafe v p k → IsTrue (is_open (place_at (waiting_as v r j s) p)) → IsSafe (waiting_as v r j s) p k
+    safe-waits v r j s waits l was safe o = elim safe.stays [
+      | inl out ↦ safe-or (waiting_as v r j s) o (waits-keeps r k v j s waits was (l, inl out))
+      | inr under ↦ record { guarded = o; stays = inr (under-waits holds v p k r j s l was under o).under }
     ]
 
     pub safe-owner_given : (v : World T) (r j : ℕ) → r < length v.time.places → (s : Option Standing) → standing_at v j ≡ s → IsSafe v p k →

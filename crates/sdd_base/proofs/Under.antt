@@ -14,7 +14,7 @@ use Rattle.sdd_store.specs.declared.standing.Standing.{Standing}
 use Rattle.sdd_store.specs.declared.standing.Standing.TheVariants.{Owned, Raw, Shared, Retired, Private as privately}
 use Rattle.sdd_slots.specs.Slots.{is_waiting, IsWaiting}
 use Rattle.sdd_base.specs.World.{World, standing_at, value_at, place_at, IsPlaceOf}
-use Rattle.sdd_base.specs.Steps.{made_as, with_standing, waiting_as, retired, owner_given, cell_closed, deferred, opened, closed, registered, ended, reclaims}
+use Rattle.sdd_base.specs.Steps.{made_as, with_standing, waiting_as, owner_given, cell_closed, deferred, opened, closed, registered, ended, reclaims}
 use Rattle.sdd_base.specs.Holding.{Holding}
 use Rattle.sdd_base.specs.Own.{all_awaiting}
 use Rattle.sdd_base.specs.Whole.{IsWhole}
@@ -230,7 +230,7 @@ module _ {T : Type 0} where
         }
 
     -- another item begins to wait, with a place that is there
-    under-waits : (v : World T) (p k r j : ℕ) (s : Standing) → r < length v.time.places → is_out (standing_at v j) ≡ true → (u : IsUnder v p k) →
+    pub under-waits : (v : World T) (p k r j : ℕ) (s : Standing) → r < length v.time.places → is_out (standing_at v j) ≡ true → (u : IsUnder v p k) →
         IsTrue (is_open (place_at (waiting_as v r j s) p)) → KeptUnder v (waiting_as v r j s) p k
     under-waits v p k r j s l out u o =
         let apart : k ≢ j = out-apart v.standings j k out (idle v p k u) in
@@ -238,10 +238,6 @@ module _ {T : Type 0} where
         kept v (waiting_as v r j s) p k u o (record { standing = get_or-set_other v.standings j k (Some s) None apart; value = refl })
         (persists-place v.time r p (time.awaiting (Item j) (place_at v r)) l on)
         (persists-place v.time r u.holder (time.awaiting (Item j) (place_at v r)) l on)
-
-    pub under-retires : (v : World T) (p k r j : ℕ) → r < length v.time.places → is_out (standing_at v j) ≡ true → (u : IsUnder v p k) →
-        IsTrue (is_open (place_at (retired v r j) p)) → KeptUnder v (retired v r j) p k
-    under-retires v p k r j l out u o = under-waits v p k r j Retired l out u o
 
     -- other items are given up to a place
     under-gives : (v w : World T) (p k r : ℕ) → r < length v.time.places → Gives r v w → (u : IsUnder v p k) → AsItWas v k w →
@@ -322,7 +318,7 @@ module _ {T : Type 0} where
               (shared-apart v j (n + 1) k (standing_at v k) (value_at v k) apart (as-it-is v k)) o,
         )
     one-call p k (retires v r j l there) i u o =
-        (Whole-retires v r j (live-taken v.time r l) (ap is_out there) i, under-retires v p k r j l.0 (ap is_out there) u o)
+        (Whole-retires v r j (live-taken v.time r l) (ap is_out there) i, under-waits v p k r j Retired l.0 (ap is_out there) u o)
     one-call p k (releases v r j n l is) i u o =
         (Whole-owner_given v r j (live-taken v.time r l) (Some (Shared n)) is i, under-owner_given v p k r j l.0 (Some (Shared n)) is u o)
     one-call p k (defers v r j l free) i u o =

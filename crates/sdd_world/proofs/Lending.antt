@@ -19,9 +19,10 @@ use Rattle.sdd_base.specs.Holding.{Holding, Home}
 use Rattle.sdd_store.specs.Table.{Entries}
 use Rattle.sdd_store.specs.declared.standing.Cell.{Cell}
 use Rattle.sdd_store.specs.declared.standing.Pointer.{Pointer}
+use Rattle.sdd_slots.specs.Slots.{is_waiting}
 use Rattle.sdd_base.specs.Lending.{Lending}
 use Rattle.sdd_base.specs.World.{World, KeepsSizes, IsPlaceOf, place_at, standing_at}
-use Rattle.sdd_base.specs.Steps.{retired, with_standing, owner_given, opened, closed, ended, registered, reclaims}
+use Rattle.sdd_base.specs.Steps.{waiting_as, retired, with_standing, owner_given, opened, closed, ended, registered, reclaims}
 use Rattle.sdd_base.specs.Out.{is_out}
 use Rattle.sdd_base.specs.Own.{all_awaiting, opened_at, changed_at}
 use Rattle.sdd_base.specs.Whole.{IsWhole}
@@ -36,7 +37,7 @@ use Rattle.sdd_base.proofs.Nesting.{guards-closed, guards-registered, one-if, no
 use Rattle.sdd_base.proofs.Housed.{guard-taken, vacant-apart}
 use Rattle.sdd_base.proofs.Whole.{below-or-past}
 use Rattle.sdd_base.proofs.Opening.{opened-other}
-use Rattle.sdd_base.proofs.Safe.{safe-call, safe-retires, safe-not-due}
+use Rattle.sdd_base.proofs.Safe.{safe-call, safe-waits, safe-not-due}
 use Rattle.sdd_world.specs.Lending.{IsTenureOf, HasReaders, IsLentTo, AreLentOf, shared, joined, given_up}
 
 -- ---- how many guards are open at each place
@@ -183,7 +184,7 @@ module _ {T : Type 0} where
   safe-cells w h cells pointers p k i = record { guarded = i.guarded; stays = by i.stays } where
     by : Stays w p k → Stays (record w { home = h; cells = cells; pointers = pointers }) p k
     by (inl out) = inl out
-    by (inr u) = inr (record { guarded = u.guarded; standing = u.standing; holder = u.holder; seen = u.seen; waits = u.waits; safe = u.safe })
+    by (inr u) = inr (record { guarded = u.guarded; waiting = u.waiting; holder = u.holder; seen = u.seen; waits = u.waits; safe = u.safe })
 
   pub lent-cells : (w : World T) (l : Lending) (h : Home) (cells : Entries Cell) (pointers : List Pointer) → h.readers ≡ w.home.readers → AreLentOf w l →
       AreLentOf (record w { home = h; cells = cells; pointers = pointers }) l
@@ -194,14 +195,18 @@ module _ {T : Type 0} where
       } in
       lent-keeps w (record w { home = h; cells = cells; pointers = pointers }) l readers (λ q. refl) (λ p k safe o. safe-cells w h cells pointers p k safe) i
 
-  pub lent-retired : (holds : T → List Holding) (v : World T) (l : Lending) (p k : ℕ) → p < length v.time.places → is_out (standing_at v k) ≡ true →
-      AreLentOf v l → AreLentOf (retired v p k) l
-  lent-retired holds v l p k there out i =
+  pub lent-waiting : (holds : T → List Holding) (v : World T) (l : Lending) (p k : ℕ) (s : Standing) → is_waiting (Some s) ≡ true →
+      p < length v.time.places → is_out (standing_at v k) ≡ true → AreLentOf v l → AreLentOf (waiting_as v p k s) l
+  lent-waiting holds v l p k s waits there out i =
       let x : Participant = time.awaiting (Item k) (place_at v p) in
       let places = length-set v.time.places p x in
-      let readers : HasReaders (retired v p k) = record { places = omega (arith, i.readers.places, places); nesting = i.readers.nesting } in
-      lent-keeps v (retired v p k) l readers (guards-placed v p x there refl)
-      (λ q j safe o. safe-retires q j holds v p k there out safe o) i
+      let readers : HasReaders (waiting_as v p k s) = record { places = omega (arith, i.readers.places, places); nesting = i.readers.nesting } in
+      lent-keeps v (waiting_as v p k s) l readers (guards-placed v p x there refl)
+      (λ q j safe o. safe-waits q j holds v p k s waits there out safe o) i
+
+  pub lent-retired : (holds : T → List Holding) (v : World T) (l : Lending) (p k : ℕ) → p < length v.time.places → is_out (standing_at v k) ≡ true →
+      AreLentOf v l → AreLentOf (retired v p k) l
+  lent-retired holds v l p k there out i = lent-waiting holds v l p k Retired refl there out i
 
   -- an item that is shared by more or fewer is safe as it was
   safe-shared : (v : World T) (k n m : ℕ) → standing_at v k ≡ Some (Shared n) → (p j : ℕ) → IsSafe v p j → IsSafe (with_standing v k (Shared m)) p j
@@ -209,10 +214,10 @@ module _ {T : Type 0} where
     by : Stays v p j → (j ≡ k) ⊎ (j ≢ k) → Stays (with_standing v k (Shared m)) p j
     by (inl out) (inl e) = inl (rw (e, get_or-set_same v.standings k (Some (Shared m)) None (out-inside v.standings k (ap is_out is))) refl)
     by (inl out) (inr apart) = inl (rw (get_or-set_other v.standings k j (Some (Shared m)) None apart) out)
-    by (inr u) (inl e) = let never : Some Retired ≡ Some (Shared n) = sym u.standing ∙ ap (standing_at v) e ∙ is in absurd (cc)
+    by (inr u) (inl e) = let never : true ≡ false = sym u.waiting ∙ ap (λ (n : ℕ). is_waiting (standing_at v n)) e ∙ ap is_waiting is in absurd (cc)
     by (inr u) (inr apart) = inr (record {
       guarded = u.guarded;
-      standing = get_or-set_other v.standings k j (Some (Shared m)) None apart ∙ u.standing;
+      waiting = ap is_waiting (get_or-set_other v.standings k j (Some (Shared m)) None apart) ∙ u.waiting;
       holder = u.holder;
       seen = u.seen;
       waits = u.waits;

@@ -10,15 +10,17 @@ use Rattle.sdd_store.specs.Table.{with_entry}
 use Rattle.sdd_store.specs.declared.waiting.What.TheVariants.{Item}
 use Rattle.sdd_store.specs.declared.standing.Standing.{Standing}
 use Rattle.sdd_store.specs.declared.standing.Standing.TheVariants.{Owned, Raw, Shared, Retired, Private as privately}
-use Rattle.sdd_slots.specs.Slots.{IsOwnedBy, has_others, let_go}
+use Rattle.sdd_slots.specs.Slots.{IsOwnedBy, has_others, let_go, let_go_to}
 use Rattle.sdd_base.specs.Holding.{Holding}
 use Rattle.sdd_base.specs.Lending.{Lending}
-use Rattle.sdd_base.specs.World.{World, standing_at}
+use Rattle.sdd_base.specs.World.{World, IsPlaceOf, standing_at}
 use Rattle.sdd_base.specs.Whole.{IsWhole}
 use Rattle.sdd_base.specs.Steps.{with_standing, owner_given}
-use Rattle.sdd_base.proofs.Housed.{IsTaken, Whole-owner_given}
+use Rattle.sdd_base.specs.Collecting.{collected, owner_collected}
+use Rattle.sdd_base.specs.Out.{is_out}
+use Rattle.sdd_base.proofs.Housed.{IsTaken, Whole-owner_given, Whole-waits, live-taken}
 use Rattle.sdd_world.specs.Lending.{AreLentOf}
-use Rattle.sdd_world.proofs.Lending.{lent-owner_given}
+use Rattle.sdd_world.proofs.Lending.{lent-owner_given, lent-waiting}
 
 -- an owner finds its slot owned or shared
 pub data Found : Option Standing → Type 0 where
@@ -44,6 +46,79 @@ some-else r false e h = let never : false ≡ true = sym h ∙ e.1 (λ x. let z 
 -- a place that isn't free
 pub taken-place : (t : Time) (p : ℕ) → p < length t.places → IsSome (phase_at t p) → IsTaken t p
 taken-place t p there some = record { there = there; taken = λ none. let never : false ≡ true = sym (ap is_some none) ∙ some in cc }
+
+-- an owner that is collected
+module _ {T : Type 0} (w : World T) (p c k : ℕ) where
+  -- the last one goes
+  collect-last : (s : Option Standing) → Found s → has_others s ≡ false →
+      record w { time = time.awaiting_at w.time p (Item k); standings = with_entry w.standings k (let_go_to (privately c) s) } ≡ owner_collected w p c k s
+  collect-last None f h = elim f [ ]
+  collect-last (Some Raw) f h = elim f [ ]
+  collect-last (Some Retired) f h = elim f [ ]
+  collect-last (Some (privately d)) f h = elim f [ ]
+  collect-last (Some Owned) sole last = refl
+  collect-last (Some (Shared n)) (several _) last = rw last refl
+
+  -- another one goes
+  collect-other : (s : Option Standing) → Found s → has_others s ≡ true → with_standing w k (let_go_to (privately c) s) ≡ owner_collected w p c k s
+  collect-other None f h = elim f [ ]
+  collect-other (Some Raw) f h = elim f [ ]
+  collect-other (Some Retired) f h = elim f [ ]
+  collect-other (Some (privately d)) f h = elim f [ ]
+  collect-other (Some Owned) sole others = absurd (cc)
+  collect-other (Some (Shared n)) (several _) others = rw others refl
+
+  last-collected : (s : Option Standing) → Found s → has_others s ≡ false → owner_collected w p c k s ≡ collected w p c k
+  last-collected None f h = elim f [ ]
+  last-collected (Some Raw) f h = elim f [ ]
+  last-collected (Some Retired) f h = elim f [ ]
+  last-collected (Some (privately d)) f h = elim f [ ]
+  last-collected (Some Owned) sole last = refl
+  last-collected (Some (Shared n)) (several _) last = rw last refl
+
+  -- one of several goes as any other
+  other-given : (s : Option Standing) → Found s → has_others s ≡ true → owner_collected w p c k s ≡ owner_given w p k s
+  other-given None f h = elim f [ ]
+  other-given (Some Raw) f h = elim f [ ]
+  other-given (Some Retired) f h = elim f [ ]
+  other-given (Some (privately d)) f h = elim f [ ]
+  other-given (Some Owned) sole others = absurd (cc)
+  other-given (Some (Shared n)) (several _) others = rw others refl
+
+  found-out : (s : Option Standing) → Found s → is_out s ≡ true
+  found-out None f = elim f [ ]
+  found-out (Some Raw) f = elim f [ ]
+  found-out (Some Retired) f = elim f [ ]
+  found-out (Some (privately d)) f = elim f [ ]
+  found-out (Some Owned) f = refl
+  found-out (Some (Shared n)) f = refl
+
+  module _ (there : IsPlaceOf w p) (s : Option Standing) (is : standing_at w k ≡ s) (f : Found s) where
+    out : is_out (standing_at w k) ≡ true
+    out = ap is_out is ∙ found-out s f
+
+    pub whole-collected : has_others s ≡ false → IsWhole w →
+        IsWhole (record w { time = time.awaiting_at w.time p (Item k); standings = with_entry w.standings k (let_go_to (privately c) s) })
+    whole-collected last i =
+        subst (λ (u : World T). IsWhole u) (sym (collect-last s f last ∙ last-collected s f last))
+        (Whole-waits w p k (privately c) refl (live-taken w.time p there) out i)
+
+    pub whole-fewer : has_others s ≡ true → IsWhole w → IsWhole (with_standing w k (let_go_to (privately c) s))
+    whole-fewer others i =
+        subst (λ (u : World T). IsWhole u) (sym (collect-other s f others ∙ other-given s f others))
+        (Whole-owner_given w p k (live-taken w.time p there) s is i)
+
+    module _ (holds : T → List Holding) (l : Lending) (i : AreLentOf w l) where
+      pub lent-collected : has_others s ≡ false →
+          AreLentOf (record w { time = time.awaiting_at w.time p (Item k); standings = with_entry w.standings k (let_go_to (privately c) s) }) l
+      lent-collected last =
+          subst (λ (u : World T). AreLentOf u l) (sym (collect-last s f last ∙ last-collected s f last))
+          (lent-waiting holds w l p k (privately c) refl there.0 out i)
+
+      pub lent-fewer : has_others s ≡ true → AreLentOf (with_standing w k (let_go_to (privately c) s)) l
+      lent-fewer others =
+          subst (λ (u : World T). AreLentOf u l) (sym (collect-other s f others ∙ other-given s f others))
+          (lent-owner_given holds w l p k there.0 s is i)
 
 module _ {T : Type 0} (w : World T) (p k : ℕ) where
   -- the last owner goes

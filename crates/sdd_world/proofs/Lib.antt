@@ -1,6 +1,7 @@
 pub mod Shown
 pub mod Lending
 pub mod Closing
+pub mod Collecting
 pub mod Pointers
 pub mod Sweeping
 pub mod Letting

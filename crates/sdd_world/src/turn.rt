@@ -207,6 +207,24 @@ impl<T: Item<T>, J: Job> Space<T> for Turn<'_, T, J> {
         world.core.let_go(self.place, right, kind)
     }
 
+    fn collect(&mut self, collector: &RawRight, right: Right, kind: Kind) -> bool {
+        let world = &mut *self.world;
+        world
+            .core
+            .collect(self.place, collector.number(), right, kind)
+    }
+
+    fn close_collector(&mut self, collector: RawRight) -> Result<(), (RawRight, Refused)> {
+        let world = &mut *self.world;
+        if world.time().is_any_open() {
+            return Err((collector, Refused::GuardOpen));
+        }
+        world
+            .core
+            .close_collector(self.place, collector, &mut world.spare);
+        Ok(())
+    }
+
     fn edit<R, F: FnOnce(&mut T) -> R>(
         &mut self,
         right: &Right,

@@ -6,7 +6,7 @@ ghost use Rattle.sdd_base.specs.Left.{FourGuardsReclaim, GoesAtLatest, GoesInTim
 ghost use Rattle.sdd_base.specs.World.{World};
 ghost use Rattle.sdd_base.specs.Passing.{GuardsPass, ItemsPass};
 ghost use Rattle.sdd_base.specs.Adopting.{AdoptsWhatIsLeft};
-ghost use Rattle.sdd_base.specs.Under.{KeepsFreshUnderGuards, KeepsUnderGuards};
+ghost use Rattle.sdd_base.specs.Under.{KeepsCollectedUnderGuards, KeepsFreshUnderGuards, KeepsUnderGuards};
 
 use super::World;
 use sdd_base::Item;
@@ -65,9 +65,10 @@ impl<T: Item<T>, J: Job> World<T, J> {
         self.is_whole();
     }
 
-    /// No item is reclaimed while a guard that was open at its retirement is open.
+    /// No item is reclaimed while a guard that was open when it began to wait is open.
     pub fn keeps_under_guards(&self)
         ensures retired { KeepsUnderGuards T.holds self.now }
+        ensures collected { KeepsCollectedUnderGuards T.holds self.now }
         ensures fresh { KeepsFreshUnderGuards T.holds self.now }
     {
         self.is_whole();

@@ -1,8 +1,12 @@
-use Rattle.sdd_base.proofs.Under.{keeps-under-guards, keeps-fresh-under-guards}
+use Rattle.sdd_base.proofs.Under.{keeps-under-guards, keeps-collected-under-guards, keeps-fresh-under-guards}
 use Rattle.sdd_world.proofs.world.World.keeps_under_guards.Goals as goal
 
 pub returns : goal.returns
 returns g c =
     let now = c.args.self.now in
     let whole = c.is_whole.ensures in
-    record { retired = keeps-under-guards g.T.Item.holds now whole; fresh = keeps-fresh-under-guards g.T.Item.holds now whole }
+    record {
+      retired = keeps-under-guards g.T.Item.holds now whole;
+      collected = keeps-collected-under-guards g.T.Item.holds now whole;
+      fresh = keeps-fresh-under-guards g.T.Item.holds now whole;
+    }

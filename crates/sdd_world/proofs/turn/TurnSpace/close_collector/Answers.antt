@@ -1,0 +1,28 @@
+use Rattle.std.proofs.Common.{ℕ, ◌≡◌, ◌∙◌, arith, false, true, refl, sym}
+use Rattle.sdd_token.specs.Right.{raw_number_of}
+use Rattle.sdd_base.proofs.Own.{collector-own}
+use Rattle.sdd_world.proofs.Collecting.{count-closed}
+use Rattle.sdd_world.proofs.turn.TurnSpace.close_collector.Goals as goal
+
+pub returns-clause-own : goal.returns-clause-own
+returns-clause-own g c =
+    let w = c.args.self.now.world.now in
+    let p : ℕ = c.args.self.now.place in
+    let number : ℕ = raw_number_of c.args.collector in
+    rw (c.close_collector.ensures.closed, c.world.view_is) (collector-own g.T.Item.holds w p number c.requires.seated.0)
+
+pub returns-clause-known : goal.returns-clause-known
+returns-clause-known g c =
+    let w = c.args.self.now.world.now in
+    let p : ℕ = c.args.self.now.place in
+    let number : ℕ = raw_number_of c.args.collector in
+    let count = count-closed g.T.Item.holds w p number c.requires.seated.0 in
+    rw (c.close_collector.ensures.closed, c.world.view_is) (record { told = omega (arith, count); since = count })
+
+pub returns-clause-exact : goal.returns-clause-exact
+returns-clause-exact g c exact =
+    let asked = rw c.time.ensures at c.is_any_open.ensures in (
+      λ guarded. let never : false ≡ true = sym c.if-is_any_open.false ∙ asked.1 guarded in absurd (cc),
+      rw c.world.view_is at c.close_collector.ensures.null,
+      rw (c.close_collector.ensures.closed, c.world.view_is) refl,
+    )
