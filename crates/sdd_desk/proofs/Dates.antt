@@ -5,15 +5,18 @@ use Rattle.std.proofs.lemmas.List.{get_or-replicate, get_or_past, set_past}
 use Rattle.sdd_store.specs.Table.{entry_at, with_entry}
 use Rattle.sdd_store.proofs.Adopting.{same-or-not}
 use Rattle.sdd_base.specs.Calls.{Calls, IsFirst}
-use Rattle.sdd_base.specs.Calls.Calls.{registers, ends, opens, closes, stirs, accelerates, makes, shares, retires, releases, defers, edits, drops, puts_out_raw, takes_back_raw, changes_cells, changes_pointers, closes_cell}
+use Rattle.sdd_base.specs.Calls.Calls.{registers, ends, opens, closes, stirs, accelerates, makes, shares, retires, releases, defers, collects, closes_collector, edits, drops, puts_out_raw, takes_back_raw, changes_cells, changes_pointers, closes_cell}
 use Rattle.sdd_base.specs.declared.limits.Limits.{Limits}
 use Rattle.sdd_base.specs.InPlace.{IsAlone}
 use Rattle.sdd_base.specs.Steps.{with_standing, without_cell, spilled, held_in, dropped_out, vacated}
 use Rattle.sdd_base.specs.World.{value_at}
+use Rattle.sdd_base.specs.Whole.{is_of_slot}
+use Rattle.sdd_base.specs.Collecting.{is_for, waiting_for, without_collector}
+use Rattle.sdd_base.proofs.Listed.{listed-without}
 use Rattle.sdd_base.proofs.Whole.{times_among, times-aged}
 use Rattle.sdd_base.proofs.Entries.{one-place}
 use Rattle.sdd_base.proofs.Standings.{out-inside, out-waits-not}
-use Rattle.sdd_base.proofs.Opening.{how, opened-stays, owner_given-stands, closed-stands, keeps-given_all}
+use Rattle.sdd_base.proofs.Opening.{Stands, how, all-stands, opened-stays, owner_given-stands, closed-stands, keeps-given_all}
 use Rattle.sdd_desk.specs.Desk.{BeginsLine, IsStart}
 use Rattle.sdd_desk.proofs.Terms.{◌≡◌, ◌≢◌, ◌⊎◌, ℕ, ◌+◌, ◌-◌, ◌<◌, ◌≤◌, ◌==◌, Bool, true, false, nat_lt, if◌then◌else◌, List, Option, Some, None, length, count_by, slice_index, slice_index_or, slice_set, inl, inr, refl, sym, ap, ◌∙◌, lt-ltb, ltb-true, arith, cases_lt, false≢true, length-set, due_next, Standing, Owned, Raw, Shared, Retired, privately, is_waiting, World, place_at, standing_at, retired, owner_given, cell_closed, reclaims, IsWhole, is_out, Val, holdings_of, Desk, IsDated, date_at, later, at-same, at-other}
 
@@ -83,6 +86,14 @@ free-waits-not (retires v p k l there) i s free =
     ap is_waiting (at-other v.standings k s (Some Retired) None (free-apart v s k Owned free there) ∙ free)
 free-waits-not (releases v p k n l is) i s free =
     ap is_waiting (owner_given-stands p s None (value_at v s) refl v k (Some (Shared n)) is (record { standing = free; value = refl })).standing
+free-waits-not (collects v p c k l alone) i s free =
+    ap is_waiting (at-other v.standings k s (Some (privately c)) None (alone-apart v s k free alone) ∙ free)
+free-waits-not (closes_collector v p c l quiet) i s free =
+    let idle : is_waiting (standing_at v s) ≡ false = ap is_waiting free in
+    let once = rw idle at (i.once s) in
+    let none : times_among s (waiting_for v c) ≡ 0 = omega (arith, once, listed-without (is_of_slot s) (is_for v c) v.time.places) in
+    let was : Stands s None (value_at v s) (without_collector v c) = record { standing = free; value = refl } in
+    ap is_waiting (all-stands holdings_of p s (waiting_for v c) (without_collector v c) None (value_at v s) refl none was).standing
 free-waits-not (edits v k value may) i s free = ap is_waiting free
 free-waits-not (drops v p k l may) i s free =
     ap is_waiting (dropped-free v p s k (alone-apart v s k free may.alone) free (value_at v k))

@@ -21,7 +21,7 @@ use Rattle.sdd_base.proofs.Entries.{one-place}
 use Rattle.sdd_base.proofs.Opening.{Nests, IsChange, how, before, due-here, opened-stays, opened-goes, keeps-owner_given, keeps-cell_closed, keeps-given_all}
 use Rattle.sdd_base.proofs.Safe.{opens-keeps}
 use Rattle.sdd_base.proofs.Standings.{owner-given, out-some, out-waits-not, waits-out-not}
-use Rattle.sdd_base.proofs.Whole.{times-aged}
+use Rattle.sdd_base.proofs.Whole.{some-waits, times-aged}
 use Rattle.sdd_lines.specs.declared.name.ItemName.{ItemName}
 use Rattle.sdd_desk.proofs.Entry.{at-other, at-default}
 use Rattle.sdd_desk.proofs.StockWords.{◌≡◌, ◌≢◌, ◌⊎◌, ℕ, suc, ◌+◌, ◌-◌, ◌<◌, ◌≤◌, ◌==◌, ◌&&◌, ◌↔◌, Bool, true, false, nat_lt, if◌then◌else◌, List, [], ◌∷◌, ◌++◌, Option, Some, None, IsSome, is_some, map, length, count_by, slice_index_or, slice_set, inl, inr, refl, sym, ap, ◌∙◌, eq-eqb, ne_eqb, lt-ltb, cases_lt, arith, nat_tests, All, Contains, cases_eq, length-map, length-set, entry_at, without_entry, What, Item, Job, Standing, is_waiting, is_out, held_in, reclaims, IsWhole, is_of_slot, once_if, Holding, World, place_at, standing_at, value_at, one_where, times_among, count-cons, some-waits, filled-there, Val, holdings_of, body_of, link_of, zero, subst}
@@ -147,7 +147,7 @@ module _ (w : World Val) (p : ℕ) (whole : IsWhole w) where
       by true out =
           elim ((opens-keeps p s holdings_of w l whole out).1) [
             | inl still ↦ out-some (standing_at (steps.opened holdings_of w p) s) still
-            | inr waits ↦ ap is_some waits.0
+            | inr fresh ↦ some-waits (standing_at (steps.opened holdings_of w p) s) fresh.0
           ]
       by false idle =
           let stays = opened-stays holdings_of w p l s (standing_at w s) (value_at w s) idle none (record { standing = refl; value = refl }) in
@@ -326,12 +326,12 @@ module _ (d : Desk) (p : ℕ) (l : p < length d.world.time.places) (stocked : Is
 
     -- what begins to wait was given up by the values of these slots to p, and has seen no change
     pub begins-waiting : (s : ℕ) → is_waiting (standing_at after s) ≡ true → is_waiting (standing_at d.world s) ≡ false →
-        (1 ≤ times_in s (owners_in d.world slots)) × Waits after p s 0 × (standing_at after s ≡ Some Retired)
+        (1 ≤ times_in s (owners_in d.world slots)) × Waits after p s 0
     begins-waiting s waits idle =
         let given = begins-if s idle waits (how holdings_of d.world p l) in
         elim ((opens-keeps p s holdings_of d.world l whole (given-out slots s given)).1) [
           | inl out ↦ absurd (let never : false ≡ true = sym (out-waits-not (standing_at after s) out) ∙ waits in cc)
-          | inr fresh ↦ (given, fresh.1, fresh.0)
+          | inr fresh ↦ (given, fresh.1)
         ]
 
     -- ---- the dates

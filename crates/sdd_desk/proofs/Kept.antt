@@ -125,7 +125,7 @@ fresh-safe w p s l whole out waits o =
       | inl still ↦ absurd (false≢true (sym (out-waits-not (standing_at (opened holdings_of w p) s) still) ∙ waits))
       | inr h ↦ record {
         guarded = o;
-        stays = inr (record { guarded = o; standing = h.0; holder = p; seen = 0; waits = h.1; safe = omega arith });
+        stays = inr (record { guarded = o; waiting = h.0; holder = p; seen = 0; waits = h.1; safe = omega arith });
       }
     ]
 

@@ -697,25 +697,25 @@ impl<T: Item<T>, J: Job> Core<T, J> {
     }
 
     /// A collector's cell is free, and what waits for the collector is reclaimed, where no guard is open. An empty bag is lent.
-    pub fn close_collector(&mut self, place: usize, collector: RawRight, spare: &mut Vec<What>)
+    pub fn close_collector(&mut self, place: usize, collector: RawRight, bag: &mut Vec<What>)
         requires place { IsPlaceOf self.old.world place }
         requires home { raw_home_of collector ≡ self.old.world.home.cells }
         requires quiet { ¬ (IsGuarded self.old.world) }
         requires lent { AreLent self.old }
-        requires empty { spare.old.items ≡ [] }
-        requires reserved { most self.old.world ≤ vec_capacity spare.old }
+        requires empty { bag.old.items ≡ [] }
+        requires reserved { most self.old.world ≤ vec_capacity bag.old }
         ensures null { IsNullCell self.old.world (raw_number_of collector) }
         ensures closed { self.new ≡ record self.old { world = collector_closed T.holds self.old.world place (raw_number_of collector) } }
         ensures sizes { KeepsSizes self.old.world self.new.world }
         ensures whole { IsWhole self.old.world → IsWhole self.new.world }
         ensures lent { AreLent self.new }
-        ensures empty { spare.new.items ≡ [] }
-        ensures reserved { most self.new.world ≤ vec_capacity spare.new }
+        ensures empty { bag.new.items ≡ [] }
+        ensures reserved { most self.new.world ≤ vec_capacity bag.new }
     {
-        self.take_for(collector.number(), spare);
+        self.take_for(collector.number(), bag);
         self.close_raw_cell(collector);
-        self.reclaim_all(place, spare.as_slice());
-        spare.clear();
+        self.reclaim_all(place, bag.as_slice());
+        bag.clear();
     }
 
     /// What waits for a collector, with whomever, comes out, into the empty bag that is handed in.
