@@ -6,6 +6,8 @@ mod cell_limits;
 #[cfg(test)]
 mod cell_sizes;
 #[cfg(test)]
+mod collectors;
+#[cfg(test)]
 mod example;
 #[cfg(test)]
 mod giving_up;

@@ -3,6 +3,7 @@ ghost use Rattle.std.specs.Prelude.{◌≡◌};
 ghost use Rattle.sdd_base.specs.Guard.{reader_of};
 ghost use Rattle.sdd_base.specs.Seat.{IsSeated};
 
+pub mod collectors;
 pub mod owned;
 pub mod raw;
 pub mod shared;

@@ -209,9 +209,8 @@ impl<T: Item<T>, J: Job> Space<T> for Turn<'_, T, J> {
 
     fn collect(&mut self, collector: &RawRight, right: Right, kind: Kind) -> bool {
         let world = &mut *self.world;
-        world
-            .core
-            .collect(self.place, collector.number(), right, kind)
+        let number = collector.number();
+        world.core.collect(self.place, number, right, kind)
     }
 
     fn close_collector(&mut self, collector: RawRight) -> Result<(), (RawRight, Refused)> {

@@ -1,0 +1,117 @@
+//! Private collectors.
+ghost use Rattle.std.specs.Prelude.{◌≡◌};
+ghost use Rattle.sdd_base.specs.Collector.{cells_home};
+ghost use Rattle.sdd_base.specs.Holding.{AreOf};
+ghost use Rattle.sdd_base.specs.Seat.{IsSeated};
+ghost use Rattle.sdd_base.specs.Shared as shared;
+
+use crate::steps::{close, opened, owned};
+use sdd_base::{Item, Owned, PrivateCollector, Shared, Space};
+use sdd_core::Refused;
+use std::process::Abort;
+
+/// A collector for which nothing waits.
+pub fn made<T: Item<T>, S: Space<T>>(rt: &impl Abort, s: &mut S) -> PrivateCollector<T>
+    requires seated { IsSeated (S.seat s.old) }
+    ensures seat { S.seat s.new ≡ S.seat s.old }
+    ensures home { cells_home result ≡ (S.seat s.new).home.cells }
+{
+    PrivateCollector::new(s).expect(rt, "a cell is free")
+}
+
+/// What a collector that can't be made is refused with.
+pub fn refused<T: Item<T>, S: Space<T>>(rt: &impl Abort, s: &mut S) -> Option<Refused>
+    requires seated { IsSeated (S.seat s.old) }
+    ensures seat { S.seat s.new ≡ S.seat s.old }
+{
+    match PrivateCollector::<T>::new(s) {
+        Ok(collector) => {
+            closed(rt, s, collector);
+            None
+        }
+        Err(refused) => Some(refused),
+    }
+}
+
+/// A new item is collected.
+pub fn collect<T: Item<T>, S: Space<T>>(
+    rt: &impl Abort,
+    s: &mut S,
+    collector: &PrivateCollector<T>,
+    value: T,
+)
+    requires seated { IsSeated (S.seat s.old) }
+    requires collector { cells_home collector.now ≡ (S.seat s.old).home.cells }
+    requires home { AreOf (S.seat s.old).home (T.holds value) }
+    ensures seat { S.seat s.new ≡ S.seat s.old }
+{
+    let owner = owned::made(rt, s, value);
+    let guard = opened(rt, s);
+    collector.collect_owned(owner, &guard, s);
+    close(s, guard);
+}
+
+/// A shared owner is, and it is told whether it was the last.
+pub fn collect_shared<T: Item<T>, S: Space<T>>(
+    rt: &impl Abort,
+    s: &mut S,
+    collector: &PrivateCollector<T>,
+    owner: Shared<T>,
+) -> bool
+    requires seated { IsSeated (S.seat s.old) }
+    requires collector { cells_home collector.now ≡ (S.seat s.old).home.cells }
+    requires home { shared.slots_home owner ≡ (S.seat s.old).home.slots }
+    ensures seat { S.seat s.new ≡ S.seat s.old }
+{
+    let guard = opened(rt, s);
+    let was_last = collector.collect_shared(owner, &guard, s);
+    close(s, guard);
+    was_last
+}
+
+/// The collector is closed.
+pub fn closed<T: Item<T>, S: Space<T>>(
+    rt: &impl Abort,
+    s: &mut S,
+    collector: PrivateCollector<T>,
+)
+    requires seated { IsSeated (S.seat s.old) }
+    requires collector { cells_home collector ≡ (S.seat s.old).home.cells }
+    ensures seat { S.seat s.new ≡ S.seat s.old }
+{
+    match collector.close(s) {
+        Ok(()) => {}
+        Err((_collector, refused)) => panic!(rt; "{refused:?}"),
+    }
+}
+
+/// The collector can't be closed, and comes back.
+pub fn refused_close<T: Item<T>, S: Space<T>>(
+    rt: &impl Abort,
+    s: &mut S,
+    collector: PrivateCollector<T>,
+) -> (PrivateCollector<T>, Refused)
+    requires seated { IsSeated (S.seat s.old) }
+    requires collector { cells_home collector ≡ (S.seat s.old).home.cells }
+    ensures seat { S.seat s.new ≡ S.seat s.old }
+    ensures home { cells_home result.0 ≡ (S.seat s.new).home.cells }
+{
+    match collector.close(s) {
+        Ok(()) => panic!(rt; "the collector is closed"),
+        Err(back) => back,
+    }
+}
+
+/// A slot is free: one more item is made, and retired.
+pub fn has_slot<S: Space<u64>>(s: &mut S) -> bool
+    requires seated { IsSeated (S.seat s.old) }
+    ensures seat { S.seat s.new ≡ S.seat s.old }
+{
+    match Owned::new(0, s) {
+        Ok(owner) => {
+            owner.retire(s);
+            true
+        }
+        Err((_value, _refused)) => false,
+    }
+}
