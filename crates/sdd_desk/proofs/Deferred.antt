@@ -160,10 +160,15 @@ counted-one {X} q (x ∷ xs) some = by (q x) refl (counted-one q xs) where
 abbrev number : JobName → ℕ
 number j = j.0
 
-module _ (d : Desk) (p : ℕ) (all : AreDeferred d.jobs d.deferred d.world.jobs) (whole : IsWhole d.world) (live : IsPlaceOf d.world p)
-    (places : List ℕ) (are : places ≡ places_among (reclaims d.world p)) where
+module _ (d : Desk) (p : ℕ) (all : AreDeferred d.jobs d.deferred d.world.jobs) (whole : IsWhole d.world) (live : IsPlaceOf d.world p) where
+  abbrev places : List ℕ
+  places = places_among (reclaims d.world p)
+
+  abbrev found : List JobName
+  found = map (job_in d.deferred) places
+
   place-runs : (k : ℕ) → Contains places k → Contains (reclaims d.world p) (Job k)
-  place-runs k c = places-contain (reclaims d.world p) k (subst (λ ks. Contains ks k) are c)
+  place-runs k c = places-contain (reclaims d.world p) k c
 
   place-taken : (k : ℕ) → Contains places k → IsSome (entry_at d.world.jobs k)
   place-taken k c = runs-taken d.world p whole live k (place-runs k c)
@@ -174,50 +179,46 @@ module _ (d : Desk) (p : ℕ) (all : AreDeferred d.jobs d.deferred d.world.jobs)
       let k = slice_index_or places n e in
       omega (arith, inside d.world.jobs k (place-taken k (Contains-get_or places n e lt)), all.long)
 
-  module _ (found : List JobName) (is : found ≡ map (job_in d.deferred) places) where
-    -- a name is found exactly if its job runs
-    found-runs : (j : JobName) → Contains found j ↔ ((k : ℕ) × WaitsAt d j.0 k × Contains (reclaims d.world p) (Job k))
-    found-runs j = rw is (there, back) where
-      there : Contains (map (job_in d.deferred) places) j → (k : ℕ) × WaitsAt d j.0 k × Contains (reclaims d.world p) (Job k)
-      there c =
-          let from = map-contains (job_in d.deferred) places 0 j c in
-          (from.0, record { last = ap number from.2; taken = place-taken from.0 from.1 }, place-runs from.0 from.1)
+  -- a name is found exactly if its job runs
+  found-runs : (j : JobName) → Contains found j ↔ ((k : ℕ) × WaitsAt d j.0 k × Contains (reclaims d.world p) (Job k))
+  found-runs j = (there, back) where
+    there : Contains found j → (k : ℕ) × WaitsAt d j.0 k × Contains (reclaims d.world p) (Job k)
+    there c =
+        let from = map-contains (job_in d.deferred) places 0 j c in
+        (from.0, record { last = ap number from.2; taken = place-taken from.0 from.1 }, place-runs from.0 from.1)
 
-      back : ((k : ℕ) × WaitsAt d j.0 k × Contains (reclaims d.world p) (Job k)) → Contains (map (job_in d.deferred) places) j
-      back h =
-          let among : Contains places h.0 = subst (λ ks. Contains ks h.0) (sym are) (contain-places (reclaims d.world p) h.0 h.2) in
-          rw (ap (λ n. record j { 0 = n }) h.1.last) at (contains-map (job_in d.deferred) places h.0 among)
+    back : ((k : ℕ) × WaitsAt d j.0 k × Contains (reclaims d.world p) (Job k)) → Contains found j
+    back h =
+        let among = contain-places (reclaims d.world p) h.0 h.2 in
+        rw (ap (λ n. record j { 0 = n }) h.1.last) at (contains-map (job_in d.deferred) places h.0 among)
 
-    place-once : (k : ℕ) → times_in k places ≤ 1
-    place-once k = omega (arith, job-once d.world p whole live k, times-places k (reclaims d.world p), ap (times_in k) are)
+  -- each of them once
+  found-once : (n : ℕ) → count_by (λ (j : JobName). j.0 == n) found ≤ 1
+  found-once n = by (cases_lt 0 (count_by here places)) where
+    here : ℕ → Bool
+    here k = job_at d k == n
 
-    -- each of them once
-    found-once : (n : ℕ) → count_by (λ (j : JobName). j.0 == n) found ≤ 1
-    found-once n = by (cases_lt 0 (count_by here places)) where
-      here : ℕ → Bool
-      here k = job_at d k == n
+    same : count_by (λ (j : JobName). j.0 == n) found ≡ count_by here places
+    same = count-map (job_in d.deferred) (λ (j : JobName). j.0 == n) places
 
-      same : count_by (λ (j : JobName). j.0 == n) found ≡ count_by here places
-      same = ap (count_by (λ (j : JobName). j.0 == n)) is ∙ count-map (job_in d.deferred) (λ (j : JobName). j.0 == n) places
+    by : (0 < count_by here places) ⊎ (count_by here places ≤ 0) → count_by (λ (j : JobName). j.0 == n) found ≤ 1
+    by (inr none) = omega (arith, none, same)
+    by (inl some) =
+        let one = counted-one here places (omega (arith, some)) in
+        let k = one.0 in
+        let le = counts-le here (λ m. m == k) places (λ m c e. eq-eqb m k
+        (all.apart m k (place-taken m c) (place-taken k one.1) (let at = one.2 in grind (arith, nat_tests, e, at)))) in
+        omega (arith, same, le, job-once d.world p whole live k, times-places k (reclaims d.world p))
 
-      by : (0 < count_by here places) ⊎ (count_by here places ≤ 0) → count_by (λ (j : JobName). j.0 == n) found ≤ 1
-      by (inr none) = omega (arith, none, same)
-      by (inl some) =
-          let one = counted-one here places (omega (arith, some)) in
-          let k = one.0 in
-          let le = counts-le here (λ m. m == k) places (λ m c e. eq-eqb m k
-          (all.apart m k (place-taken m c) (place-taken k one.1) (let at = one.2 in grind (arith, nat_tests, e, at)))) in
-          omega (arith, same, le, place-once k)
-
-    -- what is answered rises, and names exactly the jobs that run
-    pub names-run : (sorted : List JobName) → IsPermutation found sorted → IsNonDecreasingBy (λ (j : JobName). j.0) sorted →
-        IsStrictlyIncreasing (map (λ (j : JobName). j.0) sorted)
-        × ((j : JobName) → Contains sorted j ↔ ((k : ℕ) × WaitsAt d j.0 k × Contains (reclaims d.world p) (Job k)))
-    names-run sorted moved up = (
-      rises number (record { 0 = 0 }) sorted up
-          (λ n. omega (arith, found-once n, sum_by-IsPermutation (λ (j : JobName). one_where (j.0 == n)) found sorted moved)),
-      (λ j. (
-        (λ c. (found-runs j).0 (Contains-permutation sorted found j (IsPermutation-sym found sorted moved) c)),
-        (λ h. Contains-permutation found sorted j moved ((found-runs j).1 h)),
-      )),
-    )
+  -- what is answered rises, and names exactly the jobs that run
+  pub names-run : (sorted : List JobName) → IsPermutation found sorted → IsNonDecreasingBy (λ (j : JobName). j.0) sorted →
+      IsStrictlyIncreasing (map (λ (j : JobName). j.0) sorted)
+      × ((j : JobName) → Contains sorted j ↔ ((k : ℕ) × WaitsAt d j.0 k × Contains (reclaims d.world p) (Job k)))
+  names-run sorted moved up = (
+    rises number (record { 0 = 0 }) sorted up
+        (λ n. omega (arith, found-once n, sum_by-IsPermutation (λ (j : JobName). one_where (j.0 == n)) found sorted moved)),
+    (λ j. (
+      (λ c. (found-runs j).0 (Contains-permutation sorted found j (IsPermutation-sym found sorted moved) c)),
+      (λ h. Contains-permutation found sorted j moved ((found-runs j).1 h)),
+    )),
+  )

@@ -417,15 +417,15 @@ module _ (d : Desk) (s : IsSound d) where
     names-go p slots found sorted are named moved up = gone.names-go d p s.stocked whole slots are found named sorted moved up
 
     -- the names found of what runs, and sorted
-    module _ (p : ℕ) (live : IsPlaceOf d.world p) (places : List ℕ) (are : places ≡ places_among (reclaims d.world p)) where
-      pub places-inside : All (λ k. k < length d.deferred) places
-      places-inside = jobs.places-inside d p s.deferred whole live places are
+    module _ (p : ℕ) (live : IsPlaceOf d.world p) where
+      pub places-inside : All (λ k. k < length d.deferred) (places_among (reclaims d.world p))
+      places-inside = jobs.places-inside d p s.deferred whole live
 
-      pub names-run : (found sorted : List JobName) → found ≡ map (job_in d.deferred) places → IsPermutation found sorted →
+      pub names-run : (sorted : List JobName) → IsPermutation (map (job_in d.deferred) (places_among (reclaims d.world p))) sorted →
           IsNonDecreasingBy (λ (j : JobName). j.0) sorted →
           IsStrictlyIncreasing (map (λ (j : JobName). j.0) sorted)
           × ((j : JobName) → Contains sorted j ↔ ((k : ℕ) × WaitsAt d j.0 k × Contains (reclaims d.world p) (Job k)))
-      names-run found sorted named moved up = jobs.names-run d p s.deferred whole live places are found named sorted moved up
+      names-run sorted moved up = jobs.names-run d p s.deferred whole live sorted moved up
 
     -- what goes began to wait before any guard was opened that is open now
     pub not-under : (p k : ℕ) → IsPlaceOf d.world p → Contains (reclaims d.world p) (Item k) → (g : ℕ) (y : Opening) →

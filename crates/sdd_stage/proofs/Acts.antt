@@ -585,13 +585,13 @@ module _ (h : Hand) (t : IsTied h) (whole : IsWhole h.world) where
 
       pub answers-opened : (g : GuardName) (epoch : Epoch) → IsPermutation found sorted → IsNonDecreasingBy (λ (i : ItemName). i.0) sorted →
           CanNest h.world.time p → g.0 ≡ length h.guards.entries.items → epoch ≡ epoch_of w.time.count →
-          (ks : List ℕ) (jobs ran : List JobName) → ks ≡ places_among (reclaims h.world p) → jobs ≡ map (job_in h.deferred.items) ks →
-          IsPermutation jobs ran → IsNonDecreasingBy (λ (j : JobName). j.0) ran →
+          (ran : List JobName) → IsPermutation (map (job_in h.deferred.items) (places_among (reclaims h.world p))) ran →
+          IsNonDecreasingBy (λ (j : JobName). j.0) ran →
           Answers d (At name call.Open) (record { reply = reply.Guard g epoch; reclaimed = sorted; ran = ran }) (desk_of after_opening)
-      answers-opened g epoch moved up nests given_name now_is ks jobs ran are_jobs jobs_named jobs_moved jobs_up =
+      answers-opened g epoch moved up nests given_name now_is ran jobs_moved jobs_up =
           let all = names-go d t.sound whole p slots found sorted are names_are moved up in
           let all_at : (i : ItemName) → Contains sorted i ↔ (IsThere d i.0 × Contains (reclaims d.world (place_of d n)) (Item (slot_at d i.0))) = rw is all.1 in
-          let run = names-run d t.sound whole p in_range ks are_jobs jobs ran jobs_named jobs_moved jobs_up in
+          let run = names-run d t.sound whole p in_range ran jobs_moved jobs_up in
           let run_at : (j : JobName) → Contains ran j ↔ ((k : ℕ) × WaitsAt d j.0 k × Contains (reclaims d.world (place_of d n)) (Job k)) = rw is run.1 in
           subst (Answers d (At name call.Open) (record { reply = reply.Guard g epoch; reclaimed = sorted; ran = ran })) (sym opens-to.desk) (record {
             acts = record {

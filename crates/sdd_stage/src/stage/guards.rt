@@ -21,7 +21,7 @@ use sdd_base::Guard;
 use sdd_core::{Epoch, Refused};
 use sdd_desk::Val;
 use sdd_hand::items::{date_waiting, names_of, owners_in, slots_among};
-use sdd_hand::jobs::{jobs_of, places_among};
+use sdd_hand::jobs::jobs_among;
 use sdd_hand::participants::{Guarding, note_opening, under};
 use sdd_lines::{Action, Answer, Call, GuardName, JobName, Names, PlaceName, Reply};
 use sdd_steps::guards::{
@@ -47,10 +47,8 @@ impl Stage {
         let waiting = reclaims_next(&self.hand.world, &attending.place);
         let slots = slots_among(self.hand.alloc, waiting)?;
         let slots = slots.as_slice();
-        let places = places_among(self.hand.alloc, waiting)?;
-        let places = places.as_slice();
         let deferred = self.hand.deferred.as_slice();
-        let mut ran = jobs_of(self.hand.alloc, places, deferred)?;
+        let ran = jobs_among(self.hand.alloc, waiting, deferred)?;
         let mut due = names_of(self.hand.alloc, slots, self.hand.names.as_slice())?;
         let given = owners_in(self.hand.alloc, &self.hand.world, slots)?;
         let is_nested = is_open(&self.hand.world, &attending.place);
@@ -75,7 +73,6 @@ impl Stage {
             since,
         });
         due.sort_unstable();
-        ran.sort_unstable();
         Ok(Answer {
             reply: Reply::Guard(GuardName(name), epoch),
             reclaimed: Names::of(due),

@@ -3,9 +3,8 @@ use Rattle.sdd_stage.proofs.Words.{length, refl, ap, ◌∙◌, ItemName}
 use Rattle.sdd_lines.specs.declared.call.Action.TheVariants as call
 use Rattle.sdd_lines.specs.declared.call.Call.TheVariants.{At}
 use Rattle.sdd_stage.specs.Stage.{desk_of}
-use Rattle.sdd_desk.specs.Held.{slots_among, places_among}
+use Rattle.sdd_desk.specs.Held.{slots_among}
 use Rattle.sdd_desk.proofs.Going.{places-inside}
-use Rattle.sdd_lines.specs.declared.name.JobName.{JobName}
 use Rattle.sdd_desk.proofs.Gone.{slots-inside, slots-filled, given-inside}
 use Rattle.sdd_stage.proofs.Acts.{got, in_range, noted-is, opening-refused, opens-to, answers-opened, answers-plain}
 use Rattle.sdd_stage.proofs.Missing.{nobody}
@@ -23,13 +22,12 @@ names_of-requires c = record {
       (c.in_ok-slots.ensures ∙ ap slots_among c.reclaims_next-waiting.ensures));
 }
 
-pub jobs_of-requires : goal.jobs_of-requires
-jobs_of-requires c =
+pub jobs_among-requires : goal.jobs_among-requires
+jobs_among-requires c =
     let there = got c.self.inside.hand.places c.args.name.0 _ c.in-Some.ensures in
     record {
-      inside = rw (c.as_slice-deferred.ensures.value, c.as_slice-places.ensures.value) (places-inside (desk_of c.self.inside.hand) c.self.invariant.sound
-          c.is_whole.ensures _ (in_range c.self.inside.hand c.self.invariant c.is_whole.ensures c.args.name _ there) _
-          (c.in_ok-places.ensures ∙ ap places_among c.reclaims_next-waiting.ensures));
+      inside = rw (c.as_slice-deferred.ensures.value, c.reclaims_next-waiting.ensures) (places-inside (desk_of c.self.inside.hand) c.self.invariant.sound
+          c.is_whole.ensures _ (in_range c.self.inside.hand c.self.invariant c.is_whole.ensures c.args.name _ there));
     }
 
 pub owners_in-requires : goal.owners_in-requires
@@ -75,13 +73,12 @@ returns c =
     let given = rw c.make_room.ensures.kept at c.give-name.ensures.given in
     let dated = rw (c.as_slice-2.ensures.value, c.in_ok-given.ensures, c.as_slice-slots.ensures.value, c.in-Ok.ensures.opened.1) at c.date_waiting.ensures.dated in
     let up = IsNonDecreasingBy-from_sort (λ (i : ItemName). i.0) c.sort_unstable.new.self.items c.sort_unstable.ensures.sorted in
-    let rises = IsNonDecreasingBy-from_sort (λ (j : JobName). j.0) c.sort_unstable-2.new.self.items c.sort_unstable-2.ensures.sorted in
-    let jobs = rw (c.as_slice-places.ensures.value, c.as_slice-deferred.ensures.value) at c.in_ok-ran.ensures in
+    let jobs = rw (c.as_slice-deferred.ensures.value, c.reclaims_next-waiting.ensures) at c.in_ok-ran.ensures.named in
     record {
       answers = rw (← c.self.view_is, c.of.ensures, c.of-2.ensures) (answers-opened _ c.self.invariant c.is_whole.ensures c.args.name _ there _
           c.note_opening.new.places.entries c.give-name.new.self.entries c.date_waiting.new.dates _ _ _ _ (c.in_ok-slots.ensures ∙ ap slots_among c.reclaims_next-waiting.ensures) named noted given
           c.index-place.ensures c.in-Ok.ensures.reader refl refl c.in-Ok.ensures.opened.1 (rw (← c.self.view_is) at c.requires.line)
           c.date_waiting.ensures.long dated _ _ c.sort_unstable.ensures.permutation up c.in-Ok.ensures.opened.0
-          (c.give-name.ensures.name ∙ ap length c.make_room.ensures.kept) c.in-Ok.ensures.opened.2 _ _ _
-          (c.in_ok-places.ensures ∙ ap places_among c.reclaims_next-waiting.ensures) jobs c.sort_unstable-2.ensures.permutation rises);
+          (c.give-name.ensures.name ∙ ap length c.make_room.ensures.kept) c.in-Ok.ensures.opened.2 _ jobs
+          c.in_ok-ran.ensures.ascending);
     }
