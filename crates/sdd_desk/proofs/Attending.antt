@@ -2,6 +2,7 @@
 use Rattle.std.proofs.lemmas.List.Sums.{sum_by-set, sum_by_push}
 use Rattle.sdd_store.specs.Time as time
 use Rattle.sdd_store.specs.Phases.{is_live}
+use Rattle.sdd_store.specs.declared.waiting.What.TheVariants.{Job}
 use Rattle.sdd_store.specs.Table.{Entries}
 use Rattle.sdd_store.specs.declared.phases.Phase.{Phase}
 use Rattle.sdd_store.specs.declared.phases.Phase.TheVariants.{Ended}
@@ -100,6 +101,9 @@ keeps-gives {p} {v} {w} g =
 
 pub keeps-retired : (w : World Val) (p k : ℕ) → KeepsGuards w (retired w p k)
 keeps-retired w p k = keeps-place w (retired w p k) p (time.awaiting (Item k) (place_at w p)) refl refl
+
+pub keeps-deferred : (w : World Val) (p k : ℕ) → KeepsGuards w (steps.deferred w p k)
+keeps-deferred w p k = keeps-place w (steps.deferred w p k) p (time.awaiting (Job k) (place_at w p)) refl refl
 
 pub keeps-owner_given : (w : World Val) (p k : ℕ) (s : Option Standing) → standing_at w k ≡ s → KeepsGuards w (owner_given w p k s)
 keeps-owner_given w p k s is = keeps-gives (Gives-owner_given w p k s is)

@@ -1,5 +1,5 @@
 -- What is always true of a desk is true after each call of a cell
-use Rattle.std.proofs.Common.{◌≡◌, ℕ, ◌+◌, ◌<◌, true, if◌then◌else◌, List, [], ◌∷◌, ◌++◌, Option, Some, None, IsSome, is_some, length, count_by, slice_set, refl, sym, ap, ◌∙◌, arith}
+use Rattle.std.proofs.Common.{subst, ◌≡◌, ℕ, ◌+◌, ◌<◌, true, if◌then◌else◌, List, [], ◌∷◌, ◌++◌, Option, Some, None, IsSome, is_some, length, count_by, slice_set, refl, sym, ap, ◌∙◌, arith}
 use Rattle.std.specs.Prelude.{◌==◌}
 use Rattle.std.proofs.lemmas.List.{length-set}
 use Rattle.std.proofs.lemmas.List.Sums.{sum_by_push}
@@ -29,7 +29,7 @@ use Rattle.sdd_desk.specs.Desk.{Desk, IsDated, holding_at, cell_of, slot_of, sol
 use Rattle.sdd_desk.specs.Script.{AreCalls, IsOwner, FitsSole, FitsShared, Fits, MayShare, shared_once_more, slot_put, owners_put, owners_taken, cell_as, owner_as}
 use Rattle.sdd_desk.specs.Script.AreCalls.{none as no_call, one_more}
 use Rattle.sdd_desk.specs.Shown.{IsCell}
-use Rattle.sdd_desk.specs.Sound.{IsSound, AreKept, AreAtHome, named_owners, owns}
+use Rattle.sdd_desk.specs.Sound.{IsSound, AreDeferred, AreKept, AreAtHome, named_owners, owns}
 use Rattle.sdd_desk.proofs.Entry.{is-there, inside}
 use Rattle.sdd_desk.proofs.Stocked.{stocked-as, no_slot-same, no_slot-standing, no_slot-cell_closed, slot-inside}
 use Rattle.sdd_desk.proofs.Keepers.{keepers-filled, keepers-named, keepers-closed, closed-bare, closed-same, named-cell}
@@ -39,6 +39,7 @@ use Rattle.sdd_desk.proofs.Dates.{begins-out, closed-other, dated-same, dated-st
 use Rattle.sdd_desk.proofs.Counting.{AreCounted, owner-where, named-fewer, counted-cell, counted-into, counted-cell_closed, cell-out}
 use Rattle.sdd_desk.proofs.Layers.{layered-closed}
 use Rattle.sdd_desk.proofs.Gone.{counts-cell_closed}
+use Rattle.sdd_desk.proofs.Deferred.{jobs-closed}
 use Rattle.sdd_desk.proofs.Going.{at_home-spent, at_home-given}
 
 -- ---- what goes into a cell
@@ -212,6 +213,8 @@ module _ (d : Desk) (s : IsSound d) where
             kept = kept-call d after_cells s.kept dated-cells whole (changes_cells d.world cells long) (were-same d after_cells refl keeps.guards);
             early = early-dated d after_cells dated-cells (omega arith) s.early;
             made = s.made;
+            deferred = s.deferred;
+            few = s.few;
           }
 
     -- ---- a cell is made, for owners of the kind of another one
@@ -367,6 +370,8 @@ module _ (d : Desk) (s : IsSound d) where
                 (were-same d after_cell_closed refl keeps.guards);
             early = early-dated d after_cell_closed dated-cell_closed (omega arith) s.early;
             made = counts.made ∙ s.made;
+            deferred = subst (AreDeferred d.jobs d.deferred) (sym (jobs-closed d.world p c)) s.deferred;
+            few = s.few;
           }
 
       -- another cell is made, which holds what it holds, with one owner more
@@ -447,6 +452,8 @@ module _ (d : Desk) (s : IsSound d) where
                     (were-same d after_copied_item refl keeps.guards) (begins-out shares-copied whole_midway);
                 early = early-dated d after_copied_item dated-copied_item (omega arith) s.early;
                 made = s.made;
+                deferred = s.deferred;
+                few = s.few;
               }
 
         copied-calls : (held : Option ℕ) → cell.held ≡ held → MayShare d.world held owners → AreCalls d.world (copied_as held).world

@@ -260,8 +260,8 @@ module _ (d new : Desk) where
         by false was date le = le
 
 -- one line later, each date is of an earlier line
-pub begins-line : (d : Desk) → ((s : ℕ) → date_at d s ≤ d.moment) → BeginsLine (later d)
-begins-line d early s = omega (arith, early s)
+pub begins-line : (d : Desk) → ((s : ℕ) → date_at d s ≤ d.moment) → d.jobs ≤ d.moment → BeginsLine (later d)
+begins-line d early few = record { dates = λ s. omega (arith, early s); jobs = omega (arith, few) }
 
 pub early-later : (d : Desk) → ((s : ℕ) → date_at d s ≤ d.moment) → (s : ℕ) → date_at (later d) s ≤ (later d).moment
 early-later d early s = omega (arith, early s)

@@ -1,20 +1,20 @@
 -- What is always true of a desk is true after each call
 use Rattle.std.proofs.Common.{◌≡◌, ℕ, zero, suc, ◌+◌, ◌^◌, ◌<◌, ◌≤◌, Bool, true, false, nat_lt, if◌then◌else◌, List, [], ◌∷◌, ◌++◌, Option, Some, None, IsSome, is_some, map, length, count_by, slice_index, slice_index_or, slice_set, inl, inr, refl, sym, ap, ◌∙◌, subst, arith}
-use Rattle.std.specs.Prelude.{Contains, IsTrue, replicate, ◌↔◌}
+use Rattle.std.specs.Prelude.{All, Contains, IsTrue, replicate, ◌↔◌}
 use Rattle.std.specs.List.Sorted.{IsPermutation, IsNonDecreasingBy, IsStrictlyIncreasing}
 use Rattle.std.proofs.lemmas.List.{length-set, length-replicate}
 use Rattle.std.proofs.lemmas.Bool.Decides.{nat_tests}
 use Rattle.sdd_store.specs.Table.{IsEmptyAt, entry_at}
 use Rattle.sdd_store.specs.Time.{IsVacant, is_open}
-use Rattle.sdd_store.specs.declared.waiting.What.TheVariants.{Item}
+use Rattle.sdd_store.specs.declared.waiting.What.TheVariants.{Item, Job}
 use Rattle.sdd_store.specs.declared.standing.Standing.TheVariants as standing
 use Rattle.sdd_slots.specs.Slots.{IsSharedBy, is_waiting}
 use Rattle.sdd_base.specs.Calls.{IsFirst}
-use Rattle.sdd_base.specs.Calls.Calls.{registers, ends, closes, stirs, accelerates, shares, retires, releases}
+use Rattle.sdd_base.specs.Calls.Calls.{registers, ends, closes, stirs, accelerates, shares, retires, releases, defers}
 use Rattle.sdd_base.specs.Holding.{Holding, Home, IsOf}
 use Rattle.sdd_base.specs.Holding as holding
 use Rattle.sdd_base.specs.Out.{is_out}
-use Rattle.sdd_base.specs.Steps.{registered, ended, opened, reclaims, made_as, nulled, retired, closed, stirred, accelerated, owner_given, with_standing}
+use Rattle.sdd_base.specs.Steps.{registered, ended, opened, reclaims, made_as, nulled, retired, closed, stirred, accelerated, deferred, owner_given, with_standing}
 use Rattle.sdd_base.specs.Under.{Stays}
 use Rattle.sdd_base.specs.Whole.{IsWhole}
 use Rattle.sdd_base.specs.declared.limits.Limits.{Limits}
@@ -23,22 +23,23 @@ use Rattle.sdd_base.specs.Accounts.{times_held}
 use Rattle.sdd_base.proofs.Accounts.{accounted-as, accounted-blank}
 use Rattle.sdd_store.specs.declared.tally.Tally.{Tally}
 use Rattle.sdd_lines.specs.declared.name.ItemName.{ItemName}
+use Rattle.sdd_lines.specs.declared.name.JobName.{JobName}
 use Rattle.sdd_lines.specs.declared.call.Value.{Value}
 use Rattle.sdd_lines.specs.declared.call.Value.TheVariants.{Number, Of}
 use Rattle.sdd_desk.specs.declared.val.Val.{Val}
 use Rattle.sdd_desk.specs.declared.ownership.Ownership.{Ownership}
 use Rattle.sdd_desk.specs.declared.ownership.Ownership.TheVariants as ownership
 use Rattle.sdd_desk.specs.Val.{holdings_of, body_of, link_of}
-use Rattle.sdd_desk.specs.Desk.{Desk, Opening, BeginsLine, IsDated, IsStart, IsThere, date_at, opening_at, holding_at, cell_of, slot_at, slot_of, sole_slot, shared_slot, in_world, with_guard, with_newcomer, without_participant, without_guard, with_owner, without_owner, with_item, later}
+use Rattle.sdd_desk.specs.Desk.{Desk, Opening, BeginsLine, IsDated, IsStart, IsThere, WaitsAt, date_at, opening_at, holding_at, cell_of, slot_at, slot_of, sole_slot, shared_slot, in_world, with_guard, with_newcomer, without_participant, without_guard, with_owner, without_owner, with_item, with_job, later}
 use Rattle.sdd_desk.specs.Made.{IsPutIn, owners_left, put_in}
-use Rattle.sdd_desk.specs.Shown.{item_in}
-use Rattle.sdd_desk.specs.Sound.{IsSound, Keeper, Keeps, named_owners, owns}
+use Rattle.sdd_desk.specs.Shown.{item_in, job_in}
+use Rattle.sdd_desk.specs.Sound.{IsSound, AreDeferred, Keeper, Keeps, named_owners, owns}
 use Rattle.sdd_desk.specs.Sound.Keeper.{value_in, name_of}
-use Rattle.sdd_desk.specs.Held.{owners_in, slots_among, standing_first, holding_first, waits_among}
+use Rattle.sdd_desk.specs.Held.{owners_in, slots_among, places_among, standing_first, holding_first, waits_among}
 use Rattle.sdd_desk.proofs.Entry.{not-free}
 use Rattle.sdd_desk.proofs.Stocked.{stocked-as, stocked-made, no_slot-same, no_slot-standing, no_slot-retired, no_slot-given, no_slot-opened}
 use Rattle.sdd_desk.proofs.Keepers.{keepers-as, keepers-made, keepers-opened, given-same}
-use Rattle.sdd_desk.proofs.Attending.{pushed-entry, left-entry, keeps-time, keeps-retired, keeps-owner_given, keeps-stirred, keeps-accelerated, attended-acts, attended-later, attended-start, attended-registered, attended-ended, attended-closed, attended-opened}
+use Rattle.sdd_desk.proofs.Attending.{pushed-entry, left-entry, keeps-time, keeps-retired, keeps-deferred, keeps-owner_given, keeps-stirred, keeps-accelerated, attended-acts, attended-later, attended-start, attended-registered, attended-ended, attended-closed, attended-opened}
 use Rattle.sdd_desk.proofs.Attending as attending
 use Rattle.sdd_desk.proofs.Kept as kept
 use Rattle.sdd_desk.proofs.Kept.{kept-call, kept-made, kept-later, kept-start, kept-opened, were-same, were-registered, were-ended, were-closed, unguarded}
@@ -48,6 +49,8 @@ use Rattle.sdd_desk.proofs.Counting.{puts-number, puts-owner, times_in, counted-
 use Rattle.sdd_desk.proofs.Layers.{told-made, layered-given, layered-opened, layered-made}
 use Rattle.sdd_desk.proofs.Gone.{counts-given, counts-opened}
 use Rattle.sdd_desk.proofs.Gone as gone
+use Rattle.sdd_desk.proofs.Deferred.{jobs-given, deferred-more, deferred-opened}
+use Rattle.sdd_desk.proofs.Deferred as jobs
 
 -- an owner, of either kind
 pub sole-is : (x : Option Holding) (k : ℕ) → sole_slot x ≡ Some k → (h : Holding) × (x ≡ Some h) × (slot_of (Some h) ≡ Some k)
@@ -111,6 +114,8 @@ module _ (d : Desk) (s : IsSound d) where
       kept = kept-call d new s.kept dated whole (stirs d.world p live) (were-same d new refl (keeps-stirred d.world p).guards);
       early = early-dated d new dated (omega arith) s.early;
       made = s.made;
+      deferred = s.deferred;
+      few = s.few;
     } where
       new : Desk
       new = in_world d (stirred d.world p)
@@ -130,6 +135,8 @@ module _ (d : Desk) (s : IsSound d) where
       kept = kept-call d new s.kept dated whole (accelerates d.world p live) (were-same d new refl (keeps-accelerated d.world p).guards);
       early = early-dated d new dated (omega arith) s.early;
       made = s.made;
+      deferred = s.deferred;
+      few = s.few;
     } where
       new : Desk
       new = in_world d (accelerated d.world p)
@@ -149,6 +156,8 @@ module _ (d : Desk) (s : IsSound d) where
       kept = kept-call d new s.kept dated whole (registers d.world p vacant) (were-registered d new s.attended p vacant whole.housed.lengths refl refl);
       early = early-dated d new dated (omega arith) s.early;
       made = s.made;
+      deferred = s.deferred;
+      few = s.few;
     } where
       new : Desk
       new = in_world (with_newcomer d p) (registered d.world p)
@@ -169,6 +178,8 @@ module _ (d : Desk) (s : IsSound d) where
       kept = kept-call d new s.kept dated whole (ends d.world x.place (s.attended.inside n x there) shut) (were-ended d new s.attended n x.place refl refl);
       early = early-dated d new dated (omega arith) s.early;
       made = s.made;
+      deferred = s.deferred;
+      few = s.few;
     } where
       new : Desk
       new = in_world (without_participant d n) (ended d.world x.place)
@@ -189,12 +200,40 @@ module _ (d : Desk) (s : IsSound d) where
       kept = kept-call d new s.kept dated whole (closes d.world p live) (were-closed d new s.attended g p y there same refl refl);
       early = early-dated d new dated (omega arith) s.early;
       made = s.made;
+      deferred = s.deferred;
+      few = s.few;
     } where
       new : Desk
       new = in_world (without_guard d g) (closed d.world p)
 
       dated : IsDated d new
       dated = dated-same d new refl refl
+
+    -- ---- a job is deferred
+    module _ (p k : ℕ) (live : IsPlaceOf d.world p) (free : IsEmptyAt d.world.jobs k) where
+      abbrev pub after_deferred : Desk
+      after_deferred = in_world (with_job d k) (deferred d.world p k)
+
+      pub dated-deferred : IsDated d after_deferred
+      dated-deferred = dated-same d after_deferred refl refl
+
+      pub sound-deferred : d.jobs < d.moment → IsSound after_deferred
+      sound-deferred few =
+          let keeps = keeps-deferred d.world p k in
+          record {
+            stocked = stocked-as d after_deferred s.stocked refl refl refl (no_slot-same d.world after_deferred.world refl);
+            cells = keepers-as d after_deferred s.cells refl refl refl;
+            layered = s.layered;
+            accounts = s.accounts;
+            owners_home = s.owners_home;
+            cells_home = s.cells_home;
+            attended = attended-acts d after_deferred s.attended keeps refl refl (omega arith) p live;
+            kept = kept-call d after_deferred s.kept dated-deferred whole (defers d.world p k live free) (were-same d after_deferred refl keeps.guards);
+            early = early-dated d after_deferred dated-deferred (omega arith) s.early;
+            made = s.made;
+            deferred = deferred-more d.jobs d.deferred d.world.jobs k free s.deferred;
+            few = omega (arith, few);
+          }
 
     -- ---- owners
 
@@ -220,6 +259,8 @@ module _ (d : Desk) (s : IsSound d) where
                 (were-same d after_retired refl (keeps-retired d.world p k).guards);
             early = early-dated d after_retired dated-retired (omega arith) s.early;
             made = s.made;
+            deferred = s.deferred;
+            few = s.few;
           }
 
     module _ (p k o count : ℕ) (b : Bool) (live : IsPlaceOf d.world p) (owner : shared_slot (holding_at d.owners o) ≡ Some k)
@@ -253,6 +294,8 @@ module _ (d : Desk) (s : IsSound d) where
                 (were-same d after_released refl keeps.guards);
             early = early-dated d after_released dated-released (omega arith) s.early;
             made = counts.made ∙ s.made;
+            deferred = subst (AreDeferred d.jobs d.deferred) (sym (jobs-given d.world p k (Some (standing.Shared count)) stands.shared)) s.deferred;
+            few = s.few;
           }
 
     module _ (p k count : ℕ) (live : IsPlaceOf d.world p) (stands : IsSharedBy count (standing_at d.world k)) where
@@ -276,6 +319,8 @@ module _ (d : Desk) (s : IsSound d) where
             kept = kept-call d after_shared s.kept dated-shared whole (shares d.world k count stands.shared) (were-same d after_shared refl keeps.guards);
             early = early-dated d after_shared dated-shared (omega arith) s.early;
             made = s.made;
+            deferred = s.deferred;
+            few = s.few;
           }
 
     -- ---- an item is made
@@ -324,6 +369,8 @@ module _ (d : Desk) (s : IsSound d) where
             kept = kept-made d after_made s.kept dated-made whole c k v (standing_first own) (first own) slot refl (were-same d after_made refl keeps.guards);
             early = early-dated d after_made dated-made (omega arith) s.early;
             made = told-made d (nulled d.world c) k v (standing_first own) s.made few;
+            deferred = s.deferred;
+            few = s.few;
           }
 
     -- ---- a guard is opened
@@ -358,6 +405,8 @@ module _ (d : Desk) (s : IsSound d) where
             kept = kept-opened d after_opening s.attended s.kept whole dated-opened line n x there refl refl;
             early = early-dated d after_opening dated-opened (omega arith) s.early;
             made = counts.made ∙ s.made;
+            deferred = deferred-opened d.world x.place whole (s.attended.inside n x there) d.jobs d.deferred s.deferred;
+            few = s.few;
           }
 
     -- the names found, and sorted
@@ -366,6 +415,17 @@ module _ (d : Desk) (s : IsSound d) where
         IsStrictlyIncreasing (map (λ (i : ItemName). i.0) sorted)
         × ((i : ItemName) → Contains sorted i ↔ (IsThere d i.0 × Contains (reclaims d.world p) (Item (slot_at d i.0))))
     names-go p slots found sorted are named moved up = gone.names-go d p s.stocked whole slots are found named sorted moved up
+
+    -- the names found of what runs, and sorted
+    module _ (p : ℕ) (live : IsPlaceOf d.world p) where
+      pub places-inside : All (λ k. k < length d.deferred) (places_among (reclaims d.world p))
+      places-inside = jobs.places-inside d p s.deferred whole live
+
+      pub names-run : (sorted : List JobName) → IsPermutation (map (job_in d.deferred) (places_among (reclaims d.world p))) sorted →
+          IsNonDecreasingBy (λ (j : JobName). j.0) sorted →
+          IsStrictlyIncreasing (map (λ (j : JobName). j.0) sorted)
+          × ((j : JobName) → Contains sorted j ↔ ((k : ℕ) × WaitsAt d j.0 k × Contains (reclaims d.world p) (Job k)))
+      names-run sorted moved up = jobs.names-run d p s.deferred whole live sorted moved up
 
     -- what goes began to wait before any guard was opened that is open now
     pub not-under : (p k : ℕ) → IsPlaceOf d.world p → Contains (reclaims d.world p) (Item k) → (g : ℕ) (y : Opening) →
@@ -402,12 +462,21 @@ sound-start l d start names = record {
   kept = kept-start d start;
   early = early-start d start;
   made = ap (λ (t : Tally). t.made) start.world.tally ∙ sym (ap length start.slots);
+  deferred = record {
+    named = λ k some. absurd (not-free (entry_at d.world.jobs k) some (places k));
+    apart = λ k m some other same. absurd (not-free (entry_at d.world.jobs k) some (places k));
+    long = ap length start.deferred ∙ length-replicate l.jobs 0 ∙ sym (ap length start.world.jobs ∙ length-replicate l.jobs None);
+  };
+  few = omega (arith, start.jobs);
 } where
   standings : (k : ℕ) → standing_at d.world k ≡ None
   standings k = ap (λ ss. slice_index_or ss k None) start.world.standings ∙ blank l.slots k
 
   values : (k : ℕ) → value_at d.world k ≡ None
   values k = ap (λ vs. slice_index_or vs k None) start.world.values ∙ blank l.slots k
+
+  places : (k : ℕ) → entry_at d.world.jobs k ≡ None
+  places k = ap (λ js. slice_index_or js k None) start.world.jobs ∙ blank l.jobs k
 
   entries : (c : ℕ) → entry_at d.world.cells c ≡ None
   entries c = ap (λ cs. slice_index_or cs c None) start.world.cells ∙ blank l.cells c
@@ -432,7 +501,9 @@ sound-later d s = record {
   kept = kept-later d s.kept;
   early = early-later d s.early;
   made = s.made;
+  deferred = s.deferred;
+  few = omega (arith, s.few);
 }
 
 pub line-begins : (d : Desk) → IsSound d → BeginsLine (later d)
-line-begins d s = begins-line d s.early
+line-begins d s = begins-line d s.early s.few

@@ -42,7 +42,7 @@ abbrev pub times_in : ℕ → List ℕ → ℕ
 times_in s slots = count_by (λ k. k == s) slots
 
 -- what passes one test passes another
-counts-le : {X : Type 0} (p q : X → Bool) (xs : List X) → ((x : X) → Contains xs x → p x ≡ true → q x ≡ true) → count_by p xs ≤ count_by q xs
+pub counts-le : {X : Type 0} (p q : X → Bool) (xs : List X) → ((x : X) → Contains xs x → p x ≡ true → q x ≡ true) → count_by p xs ≤ count_by q xs
 counts-le p q [] h = omega arith
 counts-le p q (x ∷ xs) h =
     let rest = counts-le p q xs (λ y c. h y (suc c.0, (let lt = c.1 in omega arith), c.2)) in
@@ -51,17 +51,17 @@ counts-le p q (x ∷ xs) h =
     let there = count-cons q x xs in
     grind arith
 
-count-map : {X Y : Type 0} (f : X → Y) (p : Y → Bool) (xs : List X) → count_by p (map f xs) ≡ count_by (λ x. p (f x)) xs
+pub count-map : {X Y : Type 0} (f : X → Y) (p : Y → Bool) (xs : List X) → count_by p (map f xs) ≡ count_by (λ x. p (f x)) xs
 count-map f p = is_sum_by (λ xs. count_by p (map f xs)) (λ x. one_where (p (f x))) refl (λ x xs. count-cons p (f x) (map f xs))
 
 -- what is there is counted
 pub counted-there : {X : Type 0} (q : X → Bool) (xs : List X) (x : X) → Contains xs x → q x ≡ true → 1 ≤ count_by q xs
 counted-there q xs x (k, lt, e) is = omega (arith, rw (e, is) at (get_or-le-sum_by (λ y. one_where (q y)) xs k x lt))
 
-contains-map : {X Y : Type 0} (f : X → Y) (xs : List X) (x : X) → Contains xs x → Contains (map f xs) (f x)
+pub contains-map : {X Y : Type 0} (f : X → Y) (xs : List X) (x : X) → Contains xs x → Contains (map f xs) (f x)
 contains-map f xs x (k, lt, e) = (k, omega (arith, lt, length-map xs f), get_or-map f xs k x ∙ ap f e)
 
-map-contains : {X Y : Type 0} (f : X → Y) (xs : List X) (d : X) (y : Y) → Contains (map f xs) y → (x : X) × Contains xs x × (f x ≡ y)
+pub map-contains : {X Y : Type 0} (f : X → Y) (xs : List X) (d : X) (y : Y) → Contains (map f xs) y → (x : X) × Contains xs x × (f x ≡ y)
 map-contains f xs d y (k, lt, e) =
     let lt : k < length xs = omega (arith, length-map xs f) in
     (slice_index_or xs k d, Contains-get_or xs k d lt, sym (get_or-map_in f xs k d y lt) ∙ e)
@@ -69,21 +69,24 @@ map-contains f xs d y (k, lt, e) =
 abbrev number : ItemName → ℕ
 number i = i.0
 
+abbrev first_item : ItemName
+first_item = record { 0 = 0 }
+
 -- numbers that do not fall, each of which is there once at most, rise
-rises : (xs : List ItemName) → IsNonDecreasingBy number xs → ((n : ℕ) → count_by (λ (i : ItemName). i.0 == n) xs ≤ 1) → IsStrictlyIncreasing (map number xs)
-rises xs up once k lt =
-    let d : ItemName = record { 0 = 0 } in
-    let lt : k + 1 < length xs = omega (arith, length-map xs number) in
-    let here : ItemName → ℕ = λ i. one_where (i.0 == number (slice_index_or xs k d)) in
+pub rises : {X : Type 0} (f : X → ℕ) (d : X) (xs : List X) → IsNonDecreasingBy f xs → ((n : ℕ) → count_by (λ x. f x == n) xs ≤ 1) →
+    IsStrictlyIncreasing (map f xs)
+rises {X} f d xs up once k lt =
+    let lt : k + 1 < length xs = omega (arith, length-map xs f) in
+    let here : X → ℕ = λ x. one_where (f x == f (slice_index_or xs k d)) in
     let both = sum_by_more_le here xs (k + 1) d lt in
     let first = sum_by_more here xs k d (omega arith) in
-    let one = once (number (slice_index_or xs k d)) in
+    let one = once (f (slice_index_or xs k d)) in
     let le = up k (k + 1) d (omega arith) lt in
-    rw (get_or-map number xs k d, get_or-map number xs (k + 1) d) (grind (arith, nat_tests))
+    rw (get_or-map_in f xs k d 0 (omega arith), get_or-map_in f xs (k + 1) d 0 lt) (grind (arith, nat_tests))
 
 -- ---- what is reclaimed waits, and goes
 
-once-bound : (b : Bool) → once_if b ≤ 1
+pub once-bound : (b : Bool) → once_if b ≤ 1
 once-bound true = omega arith
 once-bound false = omega arith
 
@@ -461,7 +464,7 @@ module _ (d : Desk) (p : ℕ) (stocked : IsStocked d) (whole : IsWhole d.world) 
         IsStrictlyIncreasing (map (λ (i : ItemName). i.0) sorted)
         × ((i : ItemName) → Contains sorted i ↔ (IsThere d i.0 × Contains (reclaims d.world p) (Item (slot_at d i.0))))
     names-go sorted moved up = (
-      rises sorted up (λ n. omega (arith, found-once n, sum_by-IsPermutation (λ (i : ItemName). one_where (i.0 == n)) found sorted moved)),
+      rises number first_item sorted up (λ n. omega (arith, found-once n, sum_by-IsPermutation (λ (i : ItemName). one_where (i.0 == n)) found sorted moved)),
       (λ i. (
         (λ c. (found-goes i).0 (Contains-permutation sorted found i (IsPermutation-sym found sorted moved) c)),
         (λ h. Contains-permutation found sorted i moved ((found-goes i).1 h)),

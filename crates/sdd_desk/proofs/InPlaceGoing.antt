@@ -29,7 +29,7 @@ use Rattle.sdd_desk.specs.Held.{slot_held, slots_of, slots_in}
 use Rattle.sdd_desk.specs.InPlace.{Puts, Drops}
 use Rattle.sdd_desk.specs.Script.{AreCalls}
 use Rattle.sdd_desk.specs.Script.AreCalls.{none as no_call, one_more}
-use Rattle.sdd_desk.specs.Sound.{IsSound, named_owners}
+use Rattle.sdd_desk.specs.Sound.{IsSound, AreDeferred, named_owners}
 use Rattle.sdd_desk.proofs.Entry.{at-other, at-default, inside}
 use Rattle.sdd_desk.proofs.Stocked.{stocked-as, no_slot-same, no_slot-standing, no_slot-dropped, slot-inside}
 use Rattle.sdd_desk.proofs.Keepers.{keepers-as, keepers-edited, keepers-dropped}
@@ -40,6 +40,7 @@ use Rattle.sdd_desk.proofs.Counting.{times-held, named-more, named-fewer}
 use Rattle.sdd_desk.proofs.Counting as counting
 use Rattle.sdd_desk.proofs.Layers.{layered-dropped, layered-edited, set-either}
 use Rattle.sdd_desk.proofs.Gone.{times_in, body-waits, value-times, counts-given_all, KeepsCounts}
+use Rattle.sdd_desk.proofs.Deferred.{jobs-given_all}
 use Rattle.sdd_desk.proofs.Going.{sole-is, at_home-spent, at_home-given, sound-released, dated-released}
 use Rattle.sdd_desk.proofs.CellGoing.{dates_spilled}
 
@@ -99,6 +100,8 @@ module _ (d : Desk) (s : IsSound d) (whole : IsWhole d.world) (p k : ℕ) (live 
           kept = kept-call d after_raw s.kept dated-raw whole (puts_out_raw d.world k stands) (were-same d after_raw refl keeps.guards);
           early = early-dated d after_raw dated-raw (omega arith) s.early;
           made = s.made;
+          deferred = s.deferred;
+          few = s.few;
         }
 
   -- ---- and comes back
@@ -127,6 +130,8 @@ module _ (d : Desk) (s : IsSound d) (whole : IsWhole d.world) (p k : ℕ) (live 
           kept = kept-call d after_back s.kept dated-back whole (takes_back_raw d.world k stands) (were-same d after_back refl keeps.guards);
           early = early-dated d after_back dated-back (omega arith) s.early;
           made = s.made;
+          deferred = s.deferred;
+          few = s.few;
         }
 
   -- ---- a number is changed in its place
@@ -166,6 +171,8 @@ module _ (d : Desk) (s : IsSound d) (whole : IsWhole d.world) (p k : ℕ) (live 
           kept = kept-call d put_in_place s.kept dated-in_place whole (edits d.world k puts.now may) (were-same d put_in_place refl keeps.guards);
           early = early-dated d put_in_place dated-in_place (omega arith) s.early;
           made = s.made;
+          deferred = s.deferred;
+          few = s.few;
         }
 
     pub calls-put : AreCalls d.world after_put.world
@@ -230,6 +237,9 @@ module _ (d : Desk) (s : IsSound d) (whole : IsWhole d.world) (p k : ℕ) (live 
     pub counts : KeepsCounts (vacated d.world k) (dropped holdings_of d.world p k)
     counts = rw there (counts-given_all (vacated d.world k) p (holdings_of v))
 
+    jobs-dropped : (dropped holdings_of d.world p k).jobs ≡ d.world.jobs
+    jobs-dropped = rw there (jobs-given_all (vacated d.world k) p (holdings_of v))
+
     pub sound-dropped : IsSound after_dropped
     sound-dropped =
         let keeps = keeps-dropped d.world p k live.0 in
@@ -246,6 +256,8 @@ module _ (d : Desk) (s : IsSound d) (whole : IsWhole d.world) (p k : ℕ) (live 
           kept = kept-call d after_dropped s.kept dated-dropped whole (drops d.world p k live may) (were-same d after_dropped refl keeps.guards);
           early = early-dated d after_dropped dated-dropped (omega arith) s.early;
           made = counts.made ∙ s.made;
+          deferred = subst (AreDeferred d.jobs d.deferred) (sym jobs-dropped) s.deferred;
+          few = s.few;
         }
 
   -- ---- one of several owners goes

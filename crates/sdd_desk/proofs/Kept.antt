@@ -157,7 +157,7 @@ module _ (d new : Desk) (a : IsAttended d) (kept : IsKept d) (whole : IsWhole d.
       IsSafe new.world x.place s
   own-safe s o waits since = by (is_waiting (standing_at d.world s)) refl where
     by : (was : Bool) → is_waiting (standing_at d.world s) ≡ was → IsSafe new.world x.place s
-    by true was = absurd (omega (arith, since, earlier s, date-before d new dated s waits was))
+    by true was = absurd (omega (arith, since, earlier.dates s, date-before d new dated s waits was))
     by false was =
         subst (λ (w : World Val). IsSafe w x.place s) (sym world)
         (fresh-safe d.world x.place s live whole (begins-out call whole s waits was)

@@ -9,6 +9,7 @@ pub mod Kept
 pub mod Counting
 pub mod Layers
 pub mod Gone
+pub mod Deferred
 pub mod Going
 pub mod CellGoing
 pub mod InPlaceGoing

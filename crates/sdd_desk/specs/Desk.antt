@@ -1,6 +1,7 @@
 -- A script's world, and what its names stand for
 use Rattle.std.specs.Prelude.{ℕ, ◌+◌, ◌<◌, ◌≡◌, List, [], ◌∷◌, ◌++◌, Option, None, Some, IsSome, length, replicate, slice_index, slice_index_or, slice_set, if◌then◌else◌}
 use Rattle.sdd_store.specs.Time.{is_open}
+use Rattle.sdd_store.specs.Table.{entry_at}
 use Rattle.sdd_slots.specs.Slots.{is_waiting}
 use Rattle.sdd_base.specs.Holding.{Holding, owned, shared, atomic_owned, atomic_shared, atomic_raw}
 use Rattle.sdd_base.specs.World.{World, IsNew, place_at, standing_at}
@@ -30,6 +31,10 @@ pub record Desk : Type 0 where
   pub names : List ℕ
   -- of each slot the line in which its item began to wait
   pub dates : List ℕ
+  -- how many jobs there were
+  pub jobs : ℕ
+  -- of each place of the table of jobs the job that it had last
+  pub deferred : List ℕ
 
 -- ---- names
 
@@ -49,6 +54,15 @@ name_at d s = slice_index d.names s
 
 abbrev pub date_at : Desk → ℕ → ℕ
 date_at d s = slice_index d.dates s
+
+-- the job that a place of the table of jobs had last
+abbrev pub job_at : Desk → ℕ → ℕ
+job_at d k = slice_index d.deferred k
+
+-- a job waits in a place of the table of jobs until it ran: the place has it last, and is not free
+pub record WaitsAt (d : Desk) (j k : ℕ) : Type 0 where
+  pub last : job_at d k ≡ j
+  pub taken : IsSome (entry_at d.world.jobs k)
 
 -- an item is there until it is reclaimed: its slot has it last, and is not free
 pub record IsThere (d : Desk) (i : ℕ) : Type 0 where
@@ -135,6 +149,10 @@ without_owner d o = record d { owners = slice_set d.owners o None }
 abbrev pub with_item : Desk → ℕ → Desk
 with_item d k = record d { slots = d.slots ++ k ∷ []; names = slice_set d.names k (length d.slots) }
 
+-- the next job is in place k of the table of jobs
+abbrev pub with_job : Desk → ℕ → Desk
+with_job d k = record d { jobs = d.jobs + 1; deferred = slice_set d.deferred k d.jobs }
+
 -- a newcomer is at place p
 abbrev pub with_newcomer : Desk → ℕ → Desk
 with_newcomer d p = record d { places = d.places ++ Some (record { place = p; since = 0 }) ∷ [] }
@@ -158,9 +176,10 @@ without_guard d g = record d { guards = slice_set d.guards g None }
 abbrev pub later : Desk → Desk
 later d = record d { moment = d.moment + 1 }
 
--- a line begins: nothing began to wait in it so far
-abbrev pub BeginsLine : Desk → Type 0
-BeginsLine d = (s : ℕ) → date_at d s < d.moment
+-- a line begins: nothing began to wait in it so far, and there were fewer jobs than lines
+pub record BeginsLine (d : Desk) : Type 0 where
+  pub dates : (s : ℕ) → date_at d s < d.moment
+  pub jobs : d.jobs < d.moment
 
 -- it is so now, whatever the dates are
 abbrev pub Leaves : Desk → Desk → Type 0
@@ -182,3 +201,5 @@ pub record IsStart (limits : Limits) (d : Desk) : Type 0 where
   pub cells : d.cells ≡ []
   pub slots : d.slots ≡ []
   pub dates : d.dates ≡ replicate limits.slots 0
+  pub jobs : d.jobs ≡ 0
+  pub deferred : d.deferred ≡ replicate limits.jobs 0

@@ -64,3 +64,12 @@ slot_waiting (Job j) = []
 -- the slots of the items among what waits
 abbrev pub slots_among : List What → List ℕ
 slots_among xs = flat_map slot_waiting xs
+
+-- the place of what waits in the table of jobs, if that is a job
+abbrev pub place_waiting : What → List ℕ
+place_waiting (Item k) = []
+place_waiting (Job j) = j ∷ []
+
+-- the places of the jobs among what waits
+abbrev pub places_among : List What → List ℕ
+places_among xs = flat_map place_waiting xs

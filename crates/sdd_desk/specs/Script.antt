@@ -4,8 +4,8 @@ use Rattle.std.specs.List.Sorted.{IsStrictlyIncreasing}
 use Rattle.sdd_core.specs.Epoch.{epoch_of}
 use Rattle.sdd_core.specs.declared.tag.Tag.{Tag}
 use Rattle.sdd_core.specs.declared.tag.Tag.TheVariants.{None as no_tag}
-use Rattle.sdd_core.specs.declared.refused.Refused.TheVariants.{NoPlace, NoCell, TooManyGuards, GuardOpen, TooManyOwners}
-use Rattle.sdd_store.specs.declared.waiting.What.TheVariants.{Item}
+use Rattle.sdd_core.specs.declared.refused.Refused.TheVariants.{NoPlace, NoCell, NoJob, TooManyGuards, GuardOpen, TooManyOwners}
+use Rattle.sdd_store.specs.declared.waiting.What.TheVariants.{Item, Job}
 use Rattle.sdd_store.specs.Time.{IsCrowded, IsVacant, CanNest, has_garbage, is_open}
 use Rattle.sdd_store.specs.Table.{IsEmptyAt, IsFull}
 use Rattle.sdd_store.specs.declared.standing.Cell.{Cell}
@@ -15,11 +15,12 @@ use Rattle.sdd_base.specs.declared.limits.Limits.{Limits}
 use Rattle.sdd_base.specs.Holding.{Holding, owned, shared, atomic_owned, atomic_shared, atomic_raw}
 use Rattle.sdd_base.specs.World.{World, place_at, standing_at}
 use Rattle.sdd_base.specs.InPlace.{MayInPlace, RefusedInPlace}
-use Rattle.sdd_base.specs.Steps.{registered, ended, retired, opened, closed, stirred, accelerated, reclaims, owner_given, with_standing, without_cell, cell_closed}
+use Rattle.sdd_base.specs.Steps.{registered, ended, retired, opened, closed, stirred, accelerated, deferred, reclaims, owner_given, with_standing, without_cell, cell_closed}
 use Rattle.sdd_base.specs.Steps as steps
 use Rattle.sdd_base.specs.Calls.{Calls}
 use Rattle.sdd_base.specs.Left.{GoesInTime}
 use Rattle.sdd_lines.specs.declared.name.ItemName.{ItemName}
+use Rattle.sdd_lines.specs.declared.name.JobName.{JobName}
 use Rattle.sdd_lines.specs.declared.name.OwnerName.{OwnerName}
 use Rattle.sdd_lines.specs.declared.call.Call.{Call}
 use Rattle.sdd_lines.specs.declared.call.Call.TheVariants.{Register, Tally, At}
@@ -35,7 +36,7 @@ use Rattle.sdd_desk.specs.Val.{holdings_of}
 use Rattle.sdd_desk.specs.Made.{Makes, RefusesItem, put_in}
 use Rattle.sdd_desk.specs.Shown.{Shows, IsCell, item_held, item_in}
 use Rattle.sdd_desk.specs.InPlace.{OwnsNumber, Puts, Drops, RefusesDrop, IsRaw}
-use Rattle.sdd_desk.specs.Desk.{Desk, Opening, IsStart, IsDated, IsThere, Leaves, opening_at, holding_at, slot_at, date_at, place_of, since_of, slot_of, sole_slot, shared_slot, shared_cell, in_world, with_owner, without_owner, with_item, with_newcomer, without_participant, with_guard, without_guard, later}
+use Rattle.sdd_desk.specs.Desk.{Desk, Opening, IsStart, IsDated, IsThere, WaitsAt, Leaves, opening_at, holding_at, slot_at, date_at, place_of, since_of, slot_of, sole_slot, shared_slot, shared_cell, in_world, with_owner, without_owner, with_item, with_job, with_newcomer, without_participant, with_guard, without_guard, later}
 use Rattle.sdd_desk.specs.Desk as desk
 
 -- ---- what is there, and of the right kind
@@ -110,6 +111,7 @@ IsValid d n (call.Epoch g) = HasOpen d n g.0
 IsValid d n (call.Garbage g) = HasOpen d n g.0
 IsValid d n (call.Set g) = HasOpen d n g.0
 IsValid d n (call.Accelerate g) = HasOpen d n g.0
+IsValid d n (call.Defer g) = HasOpen d n g.0
 IsValid d n (call.Close g) = HasOpen d n g.0
 IsValid d n (call.Owned value) = IsParticipant d n × IsThereToPut d value
 IsValid d n (call.Shared value) = IsParticipant d n × IsThereToPut d value
@@ -237,6 +239,10 @@ Does d n p (call.Epoch g) (reply.Epoch epoch) new = (epoch ≡ epoch_of d.world.
 Does d n p (call.Garbage g) (reply.Truth b) new = (b ≡ has_garbage (place_at d.world p)) × (new ≡ d)
 Does d n p (call.Set g) reply.Done new = Leaves (in_world d (stirred d.world p)) new
 Does d n p (call.Accelerate g) reply.Done new = Leaves (in_world d (accelerated d.world p)) new
+-- a free place of the table of jobs is taken, whichever
+Does d n p (call.Defer g) (reply.Job j) new =
+    (j.0 ≡ d.jobs) × ((k : ℕ) × IsEmptyAt d.world.jobs k × Leaves (in_world (with_job d k) (deferred d.world p k)) new)
+Does d n p (call.Defer g) (reply.Refused NoJob) new = IsFull d.world.jobs × (new ≡ d)
 Does d n p (call.Close g) reply.Done new = Leaves (in_world (without_guard d g.0) (closed d.world p)) new
 Does d n p call.End reply.Done new = ¬ (IsTrue (is_open (place_at d.world p))) × Leaves (in_world (without_participant d n) (ended d.world p)) new
 Does d n p call.End (reply.Refused GuardOpen) new = IsTrue (is_open (place_at d.world p)) × (new ≡ d)
@@ -325,12 +331,21 @@ Meets d (At n action) reply.Invalid new = ¬ (IsValid d n.0 action) × (new ≡ 
 Meets d (At n action) other new = IsValid d n.0 action × Does d n.0 (place_of d n.0) action other new
 Meets d call other new = ⊥
 
--- ---- what an answer names as reclaimed
+-- ---- what an answer names as reclaimed, and as run
 
 -- the slot's item is reclaimed by the call
 abbrev pub IsReclaimed : Desk → Call → Reply → ℕ → Type 0
 IsReclaimed d (At n call.Open) (reply.Guard g epoch) s = Contains (reclaims d.world (place_of d n.0)) (Item s)
 IsReclaimed d call other s = ⊥
+
+-- the job in this place of the table of jobs is run by the call
+abbrev pub IsRunBy : Desk → Call → Reply → ℕ → Type 0
+IsRunBy d (At n call.Open) (reply.Guard g epoch) k = Contains (reclaims d.world (place_of d n.0)) (Job k)
+IsRunBy d call other k = ⊥
+
+pub record NamesWhatRuns (d : Desk) (call : Call) (given : Reply) (names : List JobName) : Type 0 where
+  pub ascending : IsStrictlyIncreasing (map (λ (j : JobName). j.0) names)
+  pub exactly : (j : JobName) → Contains names j ↔ ((k : ℕ) × WaitsAt d j.0 k × IsRunBy d call given k)
 
 pub record NamesWhatGoes (d : Desk) (call : Call) (given : Reply) (names : List ItemName) : Type 0 where
   pub ascending : IsStrictlyIncreasing (map (λ (i : ItemName). i.0) names)
@@ -358,7 +373,7 @@ pub record Acts (old : Desk) (call : Call) (given : Reply) (new : Desk) : Type 0
 pub record Answers (old : Desk) (call : Call) (answer : Answer) (new : Desk) : Type 0 where
   pub acts : Acts old call answer.reply new
   pub goes : NamesWhatGoes old call answer.reply answer.reclaimed
-  pub no_job : answer.ran ≡ []
+  pub runs : NamesWhatRuns old call answer.reply answer.ran
 
 -- one line: the call, its answer, and the desk left behind
 abbrev pub Step : Desk → Call → Answer → Desk → Type 0

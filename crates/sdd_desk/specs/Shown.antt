@@ -6,6 +6,7 @@ use Rattle.sdd_base.specs.Owned as owned
 use Rattle.sdd_base.specs.Shared as shared
 use Rattle.sdd_base.specs.World.{value_at}
 use Rattle.sdd_lines.specs.declared.name.ItemName.{ItemName}
+use Rattle.sdd_lines.specs.declared.name.JobName.{JobName}
 use Rattle.sdd_lines.specs.declared.answer.Reply.{Reply}
 use Rattle.sdd_lines.specs.declared.answer.Reply.TheVariants as reply
 use Rattle.sdd_desk.specs.declared.val.Body.{Body}
@@ -17,6 +18,10 @@ use Rattle.sdd_desk.specs.Desk.{Desk, cell_of, holding_at}
 -- the item that a slot had last
 abbrev pub item_in : List ℕ → ℕ → ItemName
 item_in names s = record { 0 = slice_index names s }
+
+-- the job that a place of the table of jobs had last
+abbrev pub job_in : List ℕ → ℕ → JobName
+job_in deferred k = record { 0 = slice_index deferred k }
 
 -- a body as a reply: its number, or the item that it holds an owner of
 abbrev pub told_of : List ℕ → Body Val → Reply

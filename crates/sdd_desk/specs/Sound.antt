@@ -1,7 +1,7 @@
 -- What is always true of a desk
-use Rattle.std.specs.Prelude.{ℕ, ◌+◌, ◌<◌, ◌≤◌, ◌≡◌, ◌==◌, Bool, false, IsTrue, IsSome, List, Option, None, Some, count_by, length}
+use Rattle.std.specs.Prelude.{ℕ, ◌+◌, ◌<◌, ◌≤◌, ◌≡◌, ◌==◌, Bool, false, IsTrue, IsSome, List, Option, None, Some, count_by, length, slice_index}
 use Rattle.sdd_store.specs.Time.{is_open, phase_at}
-use Rattle.sdd_store.specs.Table.{entry_at}
+use Rattle.sdd_store.specs.Table.{Entries, entry_at}
 use Rattle.sdd_slots.specs.Slots.{is_waiting}
 use Rattle.sdd_base.specs.Holding.{Holding, IsOf}
 use Rattle.sdd_base.specs.World.{IsPlaceOf, place_at, standing_at, value_at}
@@ -75,6 +75,12 @@ IsKept d = (n s : ℕ) (x : Opening) → opening_at d.places n ≡ Some x → Is
 abbrev pub IsLayered : Desk → Type 0
 IsLayered d = (j k : ℕ) → 1 ≤ times_held holdings_of k (value_at d.world j) → name_at d k < name_at d j
 
+-- each place of the table of jobs that is taken has a job's name, no two the same
+pub record AreDeferred (jobs : ℕ) (deferred : List ℕ) (table : Entries (Unit {0})) : Type 0 where
+  pub named : (k : ℕ) → IsSome (entry_at table k) → slice_index deferred k < jobs
+  pub apart : (k m : ℕ) → IsSome (entry_at table k) → IsSome (entry_at table m) → slice_index deferred k ≡ slice_index deferred m → k ≡ m
+  pub long : length deferred ≡ length table
+
 pub record IsSound (d : Desk) : Type 0 where
   pub stocked : IsStocked d
   pub cells : AreKept d
@@ -87,3 +93,6 @@ pub record IsSound (d : Desk) : Type 0 where
   -- in a line so far
   pub early : (s : ℕ) → date_at d s ≤ d.moment
   pub made : d.world.tally.made ≡ length d.slots
+  pub deferred : AreDeferred d.jobs d.deferred d.world.jobs
+  -- a line defers one job at most
+  pub few : d.jobs ≤ d.moment

@@ -2,6 +2,7 @@
 #![tactic(auto)]
 
 pub mod items;
+pub mod jobs;
 pub mod named;
 pub mod owners;
 pub mod participants;

@@ -11,7 +11,7 @@ use Rattle.sdd_lines.specs.declared.name.OwnerName.{OwnerName}
 use Rattle.sdd_lines.specs.declared.name.ItemName.{ItemName}
 use Rattle.sdd_lines.specs.declared.answer.Answer.{Answer}
 use Rattle.sdd_lines.specs.declared.answer.Reply.{Reply}
-use Rattle.sdd_lines.specs.declared.answer.Reply.TheVariants.{Place, Tally, Guard, Epoch, Truth, Done, Item, Owner, Nothing, Raw, Value, Holding, Cell, Pointer, Tag, Swapped, Exchanged, Differs, Refused, Invalid}
+use Rattle.sdd_lines.specs.declared.answer.Reply.TheVariants.{Place, Tally, Guard, Epoch, Truth, Done, Job, Item, Owner, Nothing, Raw, Value, Holding, Cell, Pointer, Tag, Swapped, Exchanged, Differs, Refused, Invalid}
 
 -- the name of a refusal
 abbrev pub refusal : Refusal → List ℕ
@@ -46,6 +46,7 @@ words_of_reply (Epoch epoch) = decimal epoch ∷ []
 words_of_reply (Truth true) = codes "true" ∷ []
 words_of_reply (Truth false) = codes "false" ∷ []
 words_of_reply Done = codes "ok" ∷ []
+words_of_reply (Job j) = job j ∷ []
 words_of_reply (Item o i) = owner o ∷ item i ∷ []
 words_of_reply (Owner o) = owner o ∷ []
 words_of_reply Nothing = codes "none" ∷ []

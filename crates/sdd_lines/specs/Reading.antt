@@ -81,7 +81,7 @@ few_arguments_at words = if nat_lt most_arguments (length words) then None else 
 abbrev pub with_arguments : List Argument → List Action
 with_arguments [] = action.Open ∷ action.End ∷ []
 with_arguments (Number n ∷ []) = action.Owned (value.Number n) ∷ action.Shared (value.Number n) ∷ []
-with_arguments (Guard g ∷ []) = action.Epoch g ∷ action.Garbage g ∷ action.Set g ∷ action.Accelerate g ∷ action.Close g ∷ []
+with_arguments (Guard g ∷ []) = action.Epoch g ∷ action.Garbage g ∷ action.Set g ∷ action.Accelerate g ∷ action.Defer g ∷ action.Close g ∷ []
 with_arguments (Owner (Some o) ∷ []) = action.Read o ∷ action.Retire o ∷ action.Release o ∷ action.Clone o ∷ action.Drop o ∷ action.Raw o ∷ []
 with_arguments (Item (Some i) ∷ []) = action.Unraw i ∷ []
 with_arguments (Cell c ∷ []) = action.Tag c ∷ action.Into c ∷ action.CloseCell c ∷ []

@@ -26,6 +26,8 @@ pub enum Reply {
     Truth(bool),
     /// `ok`: nothing else is to be told.
     Done,
+    /// `j0`: a new job, which waits.
+    Job(JobName),
     /// `o0 i0`: a new owner of a new item.
     Item(OwnerName, ItemName),
     /// `o0`: an owner of an item that was there.
@@ -76,6 +78,7 @@ impl fmt::Display for Reply {
             Reply::Epoch(epoch) => write!(f, "{}", u8::from(epoch)),
             Reply::Truth(truth) => write!(f, "{truth}"),
             Reply::Done => write!(f, "ok"),
+            Reply::Job(job) => write!(f, "{job}"),
             Reply::Item(owner, item) => write!(f, "{owner} {item}"),
             Reply::Owner(owner) => write!(f, "{owner}"),
             Reply::Nothing => write!(f, "none"),

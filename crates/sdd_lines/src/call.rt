@@ -28,6 +28,8 @@ pub enum Action {
     Set(GuardName),
     /// `accelerate G`: has the next outermost close try to raise the epoch.
     Accelerate(GuardName),
+    /// `defer G`: defers a job that does nothing.
+    Defer(GuardName),
     /// `owned V`: makes an item with one owner.
     Owned(Value),
     /// `shared V`: makes an item whose owners are counted.

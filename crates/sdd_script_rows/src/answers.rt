@@ -57,6 +57,7 @@ fn replies_have_texts(rt: HostRuntime) -> Result<(), Fail> {
         (Reply::Truth(true), "true\n"),
         (Reply::Truth(false), "false\n"),
         (Reply::Done, "ok\n"),
+        (Reply::Job(JobName(6)), "j6\n"),
         (Reply::Item(OwnerName(0), ItemName(12)), "o0 i12\n"),
         (Reply::Value(18446744073709551615), "18446744073709551615\n"),
         (Reply::Owner(OwnerName(2)), "o2\n"),

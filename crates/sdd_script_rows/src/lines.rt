@@ -26,6 +26,7 @@ fn lines_are_calls(rt: HostRuntime) {
             "p0 accelerate g1",
             Call::At(place, Action::Accelerate(guard)),
         ),
+        ("p0 defer g1", Call::At(place, Action::Defer(guard))),
         (
             "p0 owned 0",
             Call::At(place, Action::Owned(Value::Number(0))),
@@ -136,7 +137,9 @@ fn malformed_lines_are_no_calls(rt: HostRuntime) {
         "p0 close o0",
         "p0 close p0",
         "p0 retire i0",
-        "p0 defer g0",
+        "p0 defer",
+        "p0 defer o0",
+        "p0 defer g0 g0",
         "p0 owned none",
         "p0 owned of none",
         "p0 cell o0",

@@ -23,7 +23,7 @@ use std::{fs, io};
 use verdict::Verdict;
 
 /// The folders of examples.
-const GROUPS: [&str; 10] = [
+const GROUPS: [&str; 11] = [
     // items that several own
     "shared_owners",
     // cells, of either kind
@@ -34,13 +34,15 @@ const GROUPS: [&str; 10] = [
     "items_in_place",
     // items that are out as raw
     "raw_items",
+    // jobs that are deferred: when they run, and where no place is free
+    "deferred_jobs",
     // what a value held goes three changes after it, and is named then
     "nested_values",
     // participants end
     "ended_in_scripts",
     // a participant takes over what an ended one left, where values hold owners
     "adopted_values",
-    // slots and cells are refused: which refusal comes first, and what is as before
+    // slots, cells and places of jobs are refused: which refusal comes first, and what is as before
     "refused_lines",
     // what a line names is not there, or is of the wrong kind: it is answered `invalid`, and nothing changes
     "invalid_lines",

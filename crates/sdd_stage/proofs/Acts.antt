@@ -11,22 +11,22 @@ use Rattle.sdd_token.specs.Units as token
 use Rattle.sdd_core.specs.Epoch.{epoch_of}
 use Rattle.sdd_core.specs.declared.epoch.Epoch.{Epoch}
 use Rattle.sdd_core.specs.declared.refused.Refused.{Refused}
-use Rattle.sdd_core.specs.declared.refused.Refused.TheVariants.{GuardOpen, NoPlace, TooManyGuards}
-use Rattle.sdd_store.specs.Table.{IsEmptyAt}
+use Rattle.sdd_core.specs.declared.refused.Refused.TheVariants.{GuardOpen, NoJob, NoPlace, TooManyGuards}
+use Rattle.sdd_store.specs.Table.{IsEmptyAt, IsFull}
 use Rattle.sdd_store.specs.Time as time
 use Rattle.sdd_store.specs.Time.{CanNest, IsCrowded, IsVacant, has_garbage, is_open}
-use Rattle.sdd_store.specs.declared.waiting.What.TheVariants.{Item}
+use Rattle.sdd_store.specs.declared.waiting.What.TheVariants.{Item, Job}
 use Rattle.sdd_store.specs.declared.standing.Standing.TheVariants as standing
 use Rattle.sdd_slots.specs.Slots.{IsSharedBy}
 use Rattle.sdd_base.specs.declared.owned.Owned.{Owned}
 use Rattle.sdd_base.specs.declared.shared.Shared.{Shared}
 use Rattle.sdd_base.specs.Calls.{IsFirst}
-use Rattle.sdd_base.specs.Calls.Calls.{registers, ends, closes, stirs, accelerates, makes, opens, shares, retires, releases, changes_cells}
+use Rattle.sdd_base.specs.Calls.Calls.{registers, ends, closes, stirs, accelerates, makes, opens, shares, retires, releases, defers, changes_cells}
 use Rattle.sdd_base.specs.Guard.{reader_of}
 use Rattle.sdd_base.specs.Holding.{Holding}
 use Rattle.sdd_base.specs.Holding as holding
 use Rattle.sdd_base.specs.Seat.{reader_at}
-use Rattle.sdd_base.specs.Steps.{registered, ended, made_as, nulled, opened, reclaims, retired, closed, stirred, accelerated, owner_given, with_standing}
+use Rattle.sdd_base.specs.Steps.{registered, ended, made_as, nulled, opened, reclaims, retired, closed, stirred, accelerated, deferred, owner_given, with_standing}
 use Rattle.sdd_base.specs.Under.{Stays}
 use Rattle.sdd_base.specs.Whole.{IsWhole}
 use Rattle.sdd_base.specs.declared.limits.Limits.{Limits}
@@ -39,6 +39,7 @@ use Rattle.sdd_lines.specs.declared.name.PlaceName.{PlaceName}
 use Rattle.sdd_lines.specs.declared.name.GuardName.{GuardName}
 use Rattle.sdd_lines.specs.declared.name.OwnerName.{OwnerName}
 use Rattle.sdd_lines.specs.declared.name.ItemName.{ItemName}
+use Rattle.sdd_lines.specs.declared.name.JobName.{JobName}
 use Rattle.sdd_lines.specs.declared.call.Call.{Call}
 use Rattle.sdd_lines.specs.declared.call.Call.TheVariants.{Register, Tally, At}
 use Rattle.sdd_lines.specs.declared.call.Action.TheVariants as call
@@ -59,20 +60,20 @@ use Rattle.sdd_hand.specs.declared.participants.Attending.{Attending}
 use Rattle.sdd_hand.specs.declared.participants.Guarding.{Guarding}
 use Rattle.sdd_stage.specs.declared.stage.Hand.{Hand}
 use Rattle.sdd_desk.specs.Val.{holdings_of, body_of, link_of, link_home}
-use Rattle.sdd_desk.specs.Desk.{Desk, Opening, BeginsLine, IsThere, with_guard, opening_at, holding_at, place_in, since_in, place_of, since_of, slot_at, slot_of, sole_slot, shared_slot, in_world, with_newcomer, without_participant, without_guard, with_owner, without_owner, with_item}
-use Rattle.sdd_desk.specs.Script.{Acts, Answers, AreCalls, IsReclaimed, Meets, HasOpen, IsParticipant, IsThereToPut, IsValid, CanPointTo}
+use Rattle.sdd_desk.specs.Desk.{Desk, Opening, BeginsLine, IsThere, WaitsAt, with_guard, opening_at, holding_at, place_in, since_in, place_of, since_of, slot_at, slot_of, sole_slot, shared_slot, in_world, with_newcomer, without_participant, without_guard, with_owner, without_owner, with_item}
+use Rattle.sdd_desk.specs.Script.{Acts, Answers, AreCalls, IsReclaimed, IsRunBy, Meets, HasOpen, IsParticipant, IsThereToPut, IsValid, CanPointTo}
 use Rattle.sdd_desk.specs.Made.{IsPutIn, RefusesItem, owners_left, put_in}
 use Rattle.sdd_desk.specs.Script as script
 use Rattle.sdd_desk.specs.Script.AreCalls.{none as no_call, one_more}
-use Rattle.sdd_desk.specs.Shown.{Shows, item_in, told_of}
+use Rattle.sdd_desk.specs.Shown.{Shows, item_in, job_in, told_of}
 use Rattle.sdd_desk.specs.Sound.{IsSound}
 use Rattle.sdd_hand.specs.Hand.{attending, guarding, BecomesBody, opened_since}
 use Rattle.sdd_steps.specs.Owners.{owner_holding, cell_holding}
 use Rattle.sdd_stage.specs.Stage.{desk_of, IsTied, GuardsIn, making}
-use Rattle.sdd_desk.specs.Held.{owners_in, slots_among, standing_first, holding_first, waits_among}
+use Rattle.sdd_desk.specs.Held.{owners_in, slots_among, places_among, standing_first, holding_first, waits_among}
 use Rattle.sdd_desk.proofs.Entry.{as-each, at-other, at-pushed, at-end, at-default}
 use Rattle.sdd_desk.proofs.Dates.{dated-same}
-use Rattle.sdd_desk.proofs.Going.{open-guard, can-point, sound-opened, sound-start, dated-opened, home-opened, names-go, not-under, sound-stirred, sound-accelerated, sound-registered, sound-ended, sound-closed, sound-retired, sound-released, sound-shared, sound-made, dated-retired, dated-released, dated-shared, dated-made}
+use Rattle.sdd_desk.proofs.Going.{open-guard, can-point, sound-opened, sound-start, dated-opened, home-opened, names-go, names-run, not-under, sound-deferred, dated-deferred, sound-stirred, sound-accelerated, sound-registered, sound-ended, sound-closed, sound-retired, sound-released, sound-shared, sound-made, dated-retired, dated-released, dated-shared, dated-made}
 
 -- what is left in hand is sound, and is this desk
 pub record Goes (new : Hand) (e : Desk) : Type 0 where
@@ -374,6 +375,23 @@ module _ (h : Hand) (t : IsTied h) (whole : IsWhole h.world) where
             calls = one_more h.world h.world _ (no_call h.world) (shares h.world k count stands.shared);
           })
 
+    -- ---- jobs
+
+    pub acts-deferred : (g : GuardName) (k : ℕ) (w : World Val) (names : Vec ℕ) (count : ℕ) (j : JobName) → HasOpen d n g.0 → IsEmptyAt h.world.jobs k →
+        w ≡ deferred h.world p k → names.items ≡ slice_set h.deferred.items k h.jobs → count ≡ h.jobs + 1 → j.0 ≡ h.jobs → BeginsLine d →
+        Does d (At name (call.Defer g)) (reply.Job j) (record h { world = w; deferred = names; jobs = count })
+    acts-deferred g k w names count j valid free world named more job line =
+        does d (At name (call.Defer g)) (reply.Job j) (goes (cc (world, named, more)) (sound-deferred d t.sound whole p k in_range free line.jobs) t.guards) (record {
+          meets = (valid, rw is (job, (k, free, refl)));
+          dated = dated-deferred d t.sound whole p k in_range free;
+          line = refl;
+          calls = one_more h.world h.world _ (no_call h.world) (defers h.world p k in_range free);
+        })
+
+    -- no place of the table of jobs is free
+    pub deferral-refused : (g : GuardName) → HasOpen d n g.0 → IsFull h.world.jobs → Acts d (At name (call.Defer g)) (reply.Refused NoJob) d
+    deferral-refused g valid full = still d (At name (call.Defer g)) (reply.Refused NoJob) (valid, (full, refl))
+
     -- no more guards may be open
     pub opening-refused : ¬ (CanNest h.world.time p) → Acts d (At name call.Open) (reply.Refused TooManyGuards) d
     opening-refused full = still d (At name call.Open) (reply.Refused TooManyGuards) (is-there, rw is (full, refl))
@@ -567,11 +585,15 @@ module _ (h : Hand) (t : IsTied h) (whole : IsWhole h.world) where
 
       pub answers-opened : (g : GuardName) (epoch : Epoch) → IsPermutation found sorted → IsNonDecreasingBy (λ (i : ItemName). i.0) sorted →
           CanNest h.world.time p → g.0 ≡ length h.guards.entries.items → epoch ≡ epoch_of w.time.count →
-          Answers d (At name call.Open) (record { reply = reply.Guard g epoch; reclaimed = sorted; ran = [] }) (desk_of after_opening)
-      answers-opened g epoch moved up nests given_name now_is =
+          (ran : List JobName) → IsPermutation (map (job_in h.deferred.items) (places_among (reclaims h.world p))) ran →
+          IsNonDecreasingBy (λ (j : JobName). j.0) ran →
+          Answers d (At name call.Open) (record { reply = reply.Guard g epoch; reclaimed = sorted; ran = ran }) (desk_of after_opening)
+      answers-opened g epoch moved up nests given_name now_is ran jobs_moved jobs_up =
           let all = names-go d t.sound whole p slots found sorted are names_are moved up in
           let all_at : (i : ItemName) → Contains sorted i ↔ (IsThere d i.0 × Contains (reclaims d.world (place_of d n)) (Item (slot_at d i.0))) = rw is all.1 in
-          subst (Answers d (At name call.Open) (record { reply = reply.Guard g epoch; reclaimed = sorted; ran = [] })) (sym opens-to.desk) (record {
+          let run = names-run d t.sound whole p in_range ran jobs_moved jobs_up in
+          let run_at : (j : JobName) → Contains ran j ↔ ((k : ℕ) × WaitsAt d j.0 k × Contains (reclaims d.world (place_of d n)) (Job k)) = rw is run.1 in
+          subst (Answers d (At name call.Open) (record { reply = reply.Guard g epoch; reclaimed = sorted; ran = ran })) (sym opens-to.desk) (record {
             acts = record {
               meets = (
                 is-there,
@@ -591,7 +613,7 @@ module _ (h : Hand) (t : IsTied h) (whole : IsWhole h.world) where
               exactly = all_at;
               unguarded = λ i c g y e. not-under d t.sound whole p (slot_at d i.0) in_range ((all.1 i).0 c).1 g y e;
             };
-            no_job = refl;
+            runs = record { ascending = run.0; exactly = run_at };
           })
 
 -- what a name stands for, as the desk has it
@@ -612,8 +634,8 @@ noted-is h t whole name a there nested new is e =
 -- nothing is in hand at the start
 pub tied-start : (h : Hand) (l : Limits) → IsNew l 0 h.world → h.moment ≡ 0 → h.places.entries.items ≡ [] → h.guards.entries.items ≡ [] →
     h.owners.entries.items ≡ [] → h.cells.entries.items ≡ [] → h.slots.items ≡ [] → length h.names.items ≡ l.slots →
-    h.dates.items ≡ replicate l.slots 0 → IsTied h
-tied-start h l new start places guards owners cells slots names dates = record {
+    h.dates.items ≡ replicate l.slots 0 → h.jobs ≡ 0 → h.deferred.items ≡ replicate l.jobs 0 → IsTied h
+tied-start h l new start places guards owners cells slots names dates jobs deferred = record {
   sound = sound-start l (desk_of h) (record {
     world = new;
     moment = start;
@@ -623,21 +645,26 @@ tied-start h l new start places guards owners cells slots names dates = record {
     cells = ap (map (option_map cell_holding)) cells;
     slots = slots;
     dates = dates;
+    jobs = jobs;
+    deferred = deferred;
   }) names;
   guards = λ g. subst (λ gs. GuardsIn h.world.home.readers (map attending h.places.entries.items) (slice_index_or gs g None)) (sym guards) tt;
 }
 
--- an answer that names nothing as reclaimed
+-- an answer that names nothing as reclaimed or run
 pub answers-plain : {old new : Desk} (call : Call) (given : Reply) → Acts old call given new → ((s : ℕ) → IsReclaimed old call given s → ⊥) →
-    Answers old call (record { reply = given; reclaimed = []; ran = [] }) new
-answers-plain call given acts none = record {
+    ((k : ℕ) → IsRunBy old call given k → ⊥) → Answers old call (record { reply = given; reclaimed = []; ran = [] }) new
+answers-plain call given acts none never = record {
   acts = acts;
   goes = record {
     ascending = λ k lt. absurd (omega (arith, lt));
     exactly = λ i. ((λ c. absurd (omega (arith, c.1))), (λ h. absurd (none _ h.1)));
     unguarded = λ i c. absurd (omega (arith, c.1));
   };
-  no_job = refl;
+  runs = record {
+    ascending = λ k lt. absurd (omega (arith, lt));
+    exactly = λ j. ((λ c. absurd (omega (arith, c.1))), (λ h. absurd (never h.0 h.2)));
+  };
 }
 
 -- no place is vacant

@@ -63,10 +63,11 @@ pub record LetsGo (old new : World Val) : Type 0 where
   pub phases : new.time.phases ≡ old.time.phases
   pub places : length new.time.places ≡ length old.time.places
   pub guards : (q : ℕ) → (place_at new q).guards ≡ (place_at old q).guards
+  pub jobs : new.jobs ≡ old.jobs
 
 module _ (w : World Val) where
   lets-start : LetsGo w w
-  lets-start = record { values = refl; home = refl; tally = refl; phases = refl; places = refl; guards = λ q. refl }
+  lets-start = record { values = refl; home = refl; tally = refl; phases = refl; places = refl; guards = λ q. refl; jobs = refl }
 
   lets-retired : (u : World Val) (p k : ℕ) → is_out (standing_at u k) ≡ true → LetsGo w u → LetsGo w (retired u p k)
   lets-retired u p k out l =
@@ -78,13 +79,14 @@ module _ (w : World Val) where
         phases = l.phases;
         places = length-set u.time.places p y ∙ l.places;
         guards = λ q. as-each (λ (x : Participant). x.guards) u.time.places p y nobody refl q ∙ l.guards q;
+        jobs = l.jobs;
       }
 
   lets-cell : (u : World Val) (c : ℕ) → LetsGo w u → LetsGo w (record u { cells = without_entry u.cells c })
-  lets-cell u c l = record { values = l.values; home = l.home; tally = l.tally; phases = l.phases; places = l.places; guards = l.guards }
+  lets-cell u c l = record { values = l.values; home = l.home; tally = l.tally; phases = l.phases; places = l.places; guards = l.guards; jobs = l.jobs }
 
   lets-shared : (u : World Val) (k n m : ℕ) → standing_at u k ≡ Some (Shared n) → LetsGo w u → LetsGo w (with_standing u k (Shared m))
-  lets-shared u k n m is l = record { values = l.values; home = l.home; tally = l.tally; phases = l.phases; places = l.places; guards = l.guards }
+  lets-shared u k n m is l = record { values = l.values; home = l.home; tally = l.tally; phases = l.phases; places = l.places; guards = l.guards; jobs = l.jobs }
 
   pub lets-given : (p k : ℕ) (s : Option Standing) → standing_at w k ≡ s → LetsGo w (owner_given w p k s)
   lets-given p k s is = keeps-given (LetsGo w) lets-retired lets-cell lets-shared w p k s is lets-start
@@ -129,7 +131,8 @@ module _ (d : Desk) (s : IsSound d) (shut : (g : ℕ) → opening_at d.guards g 
 
   -- what lets go of something is sound after it, where these parts are
   module _ (new : Desk) (l : LetsGo d.world new.world) (moment : new.moment ≡ d.moment) (places : new.places ≡ d.places) (guards : new.guards ≡ d.guards)
-      (slots : new.slots ≡ d.slots) (dates : new.dates ≡ d.dates) (cells : length new.cells ≡ length d.cells) where
+      (slots : new.slots ≡ d.slots) (dates : new.dates ≡ d.dates) (cells : length new.cells ≡ length d.cells)
+      (deferred : new.deferred ≡ d.deferred) (jobs : new.jobs ≡ d.jobs) where
     still-place : (p : ℕ) → IsPlaceOf d.world p → IsPlaceOf new.world p
     still-place p h = rw (l.places, l.phases) h
 
@@ -158,6 +161,8 @@ module _ (d : Desk) (s : IsSound d) (shut : (g : ℕ) → opening_at d.guards g 
           absurd (omega (arith, ltb-true 0 (place_at new.world x.place).guards o, l.guards x.place, no-guards x.place));
       early = rw (dates, moment) s.early;
       made = ap (λ (t : Tally). t.made) l.tally ∙ s.made ∙ ap (λ (xs : List ℕ). length xs) (sym slots);
+      deferred = rw (jobs, deferred, l.jobs) s.deferred;
+      few = rw (jobs, moment) s.few;
     }
 
   -- the owner of this name is spent, and its item waits at p if it was the last
@@ -169,7 +174,7 @@ module _ (d : Desk) (s : IsSound d) (shut : (g : ℕ) → opening_at d.guards g 
     pub sound-spent_owner : IsSound without
     sound-spent_owner =
         let l = lets-given d.world p k stands is in
-        sound-let without l refl refl refl refl refl refl
+        sound-let without l refl refl refl refl refl refl refl refl
         (stocked-as d without s.stocked refl refl refl (no_slot-given d.world p k stands is))
         (keepers-as d without s.cells l.values (cells-given d.world p k stands is) refl)
         (layered-for d without without.world refl refl (layered-given d d.world p k stands is s.layered))
@@ -185,7 +190,7 @@ module _ (d : Desk) (s : IsSound d) (shut : (g : ℕ) → opening_at d.guards g 
     sound-spent_cell =
         let l = lets-closed d.world p c in
         let e = without_the_cell in
-        sound-let e l refl refl refl refl refl (length-set d.cells n None)
+        sound-let e l refl refl refl refl refl (length-set d.cells n None) refl refl
         (stocked-as d e s.stocked refl refl refl (no_slot-cell_closed d.world p c))
         (keepers-closed d e n c s.cells named l.values (cells-closed d.world p c) refl)
         (layered-for d e e.world refl refl (layered-closed d d.world p c s.layered))
@@ -207,7 +212,7 @@ module _ (d : Desk) (s : IsSound d) (shut : (g : ℕ) → opening_at d.guards g 
     pub sound-left : IsSound with_it_left
     sound-left =
         let e = with_it_left in
-        sound-let e lets-left refl refl refl refl refl refl
+        sound-let e lets-left refl refl refl refl refl refl refl refl
         (stocked-as d e s.stocked refl refl refl (no_slot-retired d.world p k (ap is_some raw)))
         (keepers-as d e s.cells refl refl refl) s.layered counted-left s.owners_home s.cells_home
 

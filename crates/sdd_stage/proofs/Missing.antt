@@ -41,6 +41,7 @@ valid-there d n (call.Epoch g) valid = valid.0
 valid-there d n (call.Garbage g) valid = valid.0
 valid-there d n (call.Set g) valid = valid.0
 valid-there d n (call.Accelerate g) valid = valid.0
+valid-there d n (call.Defer g) valid = valid.0
 valid-there d n (call.Close g) valid = valid.0
 valid-there d n (call.Owned value) valid = valid.0
 valid-there d n (call.Shared value) valid = valid.0

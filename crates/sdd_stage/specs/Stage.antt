@@ -28,6 +28,8 @@ desk_of s =
       slots = s.slots.items;
       names = s.names.items;
       dates = s.dates.items;
+      jobs = s.jobs;
+      deferred = s.deferred.items;
     }
 
 -- a guard is that of the participant under whose name it was opened

@@ -37,6 +37,10 @@ pub struct Hand {
     pub names: Vec<u64>,
     /// Of each slot the line in which its item began to wait.
     pub dates: Vec<u64>,
+    /// How many jobs there were.
+    pub jobs: u64,
+    /// Of each place of the table of jobs the name of the job that it had last.
+    pub deferred: Vec<u64>,
 }
 
 /// A script in the middle of a run.
@@ -77,6 +81,7 @@ impl Stage {
         }
         let names = vec![in alloc; 0; limits.slots as usize]?;
         let dates = vec![in alloc; 0; limits.slots as usize]?;
+        let deferred = vec![in alloc; 0; limits.jobs as usize]?;
         let world = World::new(alloc, limits)?;
         Ok(Stage {
             hand: Hand {
@@ -90,6 +95,8 @@ impl Stage {
                 slots: Vec::new(alloc),
                 names,
                 dates,
+                jobs: 0,
+                deferred,
             },
         })
     }
@@ -130,6 +137,7 @@ impl Stage {
 
     /// The reply to a call that opens no guard.
     fn reply_to(&mut self, call: &Call) -> Result<Reply, Refused>
+        requires line { BeginsLine self.old }
         requires other { (name : PlaceName) → call.now ≢ Call.At name Action.Open }
         ensures acts { MatchResult result (λ reply. Acts self.old call.now reply self.new)
             (λ refused. (refused ≡ Refused.NoMemory) × (self.new ≡ self.old)) }
@@ -143,6 +151,7 @@ impl Stage {
             Call::At(name, Action::Garbage(guard)) => self.garbage(name, guard),
             Call::At(name, Action::Set(guard)) => self.set(name, guard),
             Call::At(name, Action::Accelerate(guard)) => self.accelerate(name, guard),
+            Call::At(name, Action::Defer(guard)) => self.defer(name, guard),
             Call::At(name, Action::Owned(value)) => self.make(name, value, Ownership::Sole)?,
             Call::At(name, Action::Shared(value)) => self.make(name, value, Ownership::Shared)?,
             Call::At(name, Action::Read(owner)) => self.read(name, owner),

@@ -17,7 +17,7 @@ use sdd_base::inner::{slot_of_owner, slot_of_ptr, slot_of_shared};
 use sdd_base::{AtomicOwned, AtomicShared, Guard, RawPtr, Space};
 use sdd_core::Tag;
 use sdd_desk::Val;
-use sdd_store::Cell;
+use sdd_store::{Cell, Idle};
 
 /// A new cell, filled with this.
 pub struct MakesCell {
@@ -32,7 +32,7 @@ impl Step for MakesCell {
     ghost does = { λ step home _ before made after. (k : ℕ) × (cell_holding made ≡ holding_around (filling_kind step.filling) k home.cells) × IsEmptyAt before.cells k
         × (after ≡ with_cell before k (record { held = slot_of (filling_holding step.filling); tag = no_tag })) };
 
-    fn done<S: Space<Val>>(self, s: &mut S) -> ACell {
+    fn done<S: Space<Val, Job = Idle>>(self, s: &mut S) -> ACell {
         let MakesCell { filling } = self;
         match filling {
             Filling::Sole(None) => match AtomicOwned::null(s) {
@@ -68,7 +68,7 @@ impl Step for LoadsCell<'_> {
 
     ghost does = { λ step _ _ before loaded after. (entry_at before.cells (cell_number step.cell.now) ≡ Some loaded) × (after ≡ before) };
 
-    fn done<S: Space<Val>>(self, s: &mut S) -> Cell {
+    fn done<S: Space<Val, Job = Idle>>(self, s: &mut S) -> Cell {
         let LoadsCell { cell, guard } = self;
         let ptr = match cell {
             ACell::Sole(cell) => cell.load(guard, s),
@@ -93,7 +93,7 @@ impl Step for ReadsTag<'_> {
 
     ghost does = { λ step _ _ before tag after. (held : Cell) × (entry_at before.cells (cell_number step.cell.now) ≡ Some held) × (tag ≡ held.tag) × (after ≡ before) };
 
-    fn done<S: Space<Val>>(self, s: &mut S) -> Tag {
+    fn done<S: Space<Val, Job = Idle>>(self, s: &mut S) -> Tag {
         let ReadsTag { cell } = self;
         match cell {
             ACell::Sole(cell) => cell.tag(s),
@@ -118,7 +118,7 @@ impl Step for TagsIf<'_> {
         × (IsTrue had ↔ (held.tag ≡ step.was))
         × (after ≡ (if had then with_cell before (cell_number step.cell.now) (record held { tag = step.tag }) else before)) };
 
-    fn done<S: Space<Val>>(self, s: &mut S) -> bool {
+    fn done<S: Space<Val, Job = Idle>>(self, s: &mut S) -> bool {
         let TagsIf { cell, tag, was } = self;
         let has_tag = move |ptr: RawPtr<Val>| -> bool
             ensures { IsTrue result ↔ (tag_held ptr ≡ was) }
@@ -148,7 +148,7 @@ impl Step for PeeksCell<'_> {
 
     ghost does = { λ step _ _ before slot after. (slot ≡ held_in (entry_at before.cells (cell_number step.cell.now))) × (after ≡ before) };
 
-    fn done<S: Space<Val>>(self, s: &mut S) -> Option<u32> {
+    fn done<S: Space<Val, Job = Idle>>(self, s: &mut S) -> Option<u32> {
         let PeeksCell { cell } = self;
         match cell {
             ACell::Sole(cell) => {
@@ -185,7 +185,7 @@ impl Step for ClosesCell {
 
     ghost does = { λ step _ place before _ after. after ≡ cell_closed before place (cell_number step.cell) };
 
-    fn done<S: Space<Val>>(self, s: &mut S) {
+    fn done<S: Space<Val, Job = Idle>>(self, s: &mut S) {
         let ClosesCell { cell } = self;
         match cell {
             ACell::Sole(cell) => cell.close(s),

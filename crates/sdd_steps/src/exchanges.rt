@@ -21,7 +21,7 @@ use sdd_base::inner::slot_of_ptr;
 use sdd_base::{AtomicShared, Guard, Ptr, Shared, Space};
 use sdd_core::{Refused, Tag};
 use sdd_desk::Val;
-use sdd_store::Cell;
+use sdd_store::{Cell, Idle};
 
 /// The cell holds this from now on, with this tag. Out come what it held, and the tag before.
 pub struct SwapsIn<'a> {
@@ -40,7 +40,7 @@ impl Step for SwapsIn<'_> {
         × (filling_holding out.0 ≡ held_as (cell_kind step.cell.now) held.held home.slots)
         × (after ≡ with_cell before (cell_number step.cell.now) (record { held = slot_of (filling_holding step.next); tag = step.tag })) };
 
-    fn done<S: Space<Val>>(self, s: &mut S) -> (Filling, Tag) {
+    fn done<S: Space<Val, Job = Idle>>(self, s: &mut S) -> (Filling, Tag) {
         let SwapsIn { cell, next, tag } = self;
         match (cell, next) {
             (ACell::Sole(cell), Filling::Sole(next)) => {
@@ -78,7 +78,7 @@ impl Step for ExchangesIn<'_> {
         (λ e. (filling_holding e.0 ≡ filling_holding step.next) × (entry_at before.cells (cell_number step.cell.now) ≡ Some e.1)
         × (e.1 ≢ cell_seen step.current) × (after ≡ before)) };
 
-    fn done<S: Space<Val>>(self, s: &mut S) -> Result<Filling, (Filling, Cell)> {
+    fn done<S: Space<Val, Job = Idle>>(self, s: &mut S) -> Result<Filling, (Filling, Cell)> {
         let ExchangesIn {
             cell,
             guard,
@@ -128,7 +128,7 @@ impl Step for TakesOut {
         × (filling_holding filling ≡ held_as (cell_kind step.cell) held.held home.slots)
         × (after ≡ without_cell before (cell_number step.cell)) };
 
-    fn done<S: Space<Val>>(self, s: &mut S) -> Filling {
+    fn done<S: Space<Val, Job = Idle>>(self, s: &mut S) -> Filling {
         let TakesOut { cell } = self;
         match cell {
             ACell::Sole(cell) => Filling::Sole(cell.into_owned(s)),
@@ -156,7 +156,7 @@ impl Step for SharesHeld<'_> {
         (λ e. (e ≡ refused.TooManyOwners) × IfSome held.held (λ slot. IsSharedBy (2 ^ 62) (standing_at before slot)) × IsSome held.held
         × (after ≡ before))) };
 
-    fn done<S: Space<Val>>(self, s: &mut S) -> Result<Option<Shared<Val>>, Refused> {
+    fn done<S: Space<Val, Job = Idle>>(self, s: &mut S) -> Result<Option<Shared<Val>>, Refused> {
         let SharesHeld { guard, cell } = self;
         cell.get_shared(guard, s)
     }
@@ -183,7 +183,7 @@ impl Step for CopiesCell<'_> {
         ¬ (IsFull before.cells) × (e ≡ refused.TooManyOwners) × IsSome held.held
         × IfSome held.held (λ slot. IsSharedBy (2 ^ 62) (standing_at before slot))))) };
 
-    fn done<S: Space<Val>>(self, s: &mut S) -> Result<AtomicShared<Val>, Refused> {
+    fn done<S: Space<Val, Job = Idle>>(self, s: &mut S) -> Result<AtomicShared<Val>, Refused> {
         let CopiesCell { guard, cell } = self;
         cell.clone(guard, s)
     }

@@ -12,6 +12,7 @@ use crate::holding::AnOwner;
 use crate::step::Step;
 use sdd_base::{AtomicOwned, Owned, Shared, Space};
 use sdd_desk::{Body, Ownership, Val};
+use sdd_store::Idle;
 
 /// A new item, which holds this, and a cell for its link.
 pub struct MakesItem {
@@ -29,7 +30,7 @@ impl Step for MakesItem {
         × (body_of entry ≡ step.body) × (link_of entry ≡ cell) × (link_home entry ≡ home.cells)
         × (after ≡ made_as (nulled before cell) k entry (standing_first step.ownership)) };
 
-    fn done<S: Space<Val>>(self, s: &mut S) -> AnOwner {
+    fn done<S: Space<Val, Job = Idle>>(self, s: &mut S) -> AnOwner {
         let MakesItem { body, ownership } = self;
         let Ok(link) = AtomicOwned::null(s) else {
             unreachable!()

@@ -8,8 +8,9 @@ ghost use Rattle.sdd_desk.specs.declared.val.Val.{Val};
 
 use sdd_base::Space;
 use sdd_desk::Val;
+use sdd_store::Idle;
 
-/// What a participant does in a space that nobody else changes.
+/// What a participant does in a space that nobody else changes, where jobs do nothing.
 pub trait Step {
     type Out;
 
@@ -18,7 +19,7 @@ pub trait Step {
     /// What is so then: at a home and a place, of the world before, of the answer and of the world after.
     ghost does: { Self → Home → ℕ → World Val → Self.Out → World Val → Type 0 };
 
-    fn done<S: Space<Val>>(self, s: &mut S) -> Self::Out
+    fn done<S: Space<Val, Job = Idle>>(self, s: &mut S) -> Self::Out
         requires seated { IsSeated (S.seat s.old) }
         requires exact { IsExact (S.seat s.old) }
         requires asked { asks self (S.seat s.old).home (S.seat s.old).reader (S.world s.old) }

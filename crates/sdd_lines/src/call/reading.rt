@@ -141,6 +141,7 @@ fn with_one(verb: &str, argument: Argument) -> Option<Action>
             "garbage" => Some(Action::Garbage(guard)),
             "set" => Some(Action::Set(guard)),
             "accelerate" => Some(Action::Accelerate(guard)),
+            "defer" => Some(Action::Defer(guard)),
             "close" => Some(Action::Close(guard)),
             _ => None,
         },

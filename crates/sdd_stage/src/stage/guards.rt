@@ -4,10 +4,11 @@
 ghost use Rattle.std.specs.Prelude.{◌≡◌, ◌<◌, IfOk, Some, MatchResult};
 ghost use Rattle.sdd_core.specs.Epoch.{epoch_of};
 ghost use Rattle.sdd_store.specs.Time.{CanNest, has_garbage};
+ghost use Rattle.sdd_store.specs.Table.{IsEmptyAt, IsFull};
 ghost use Rattle.sdd_base.specs.Guard.{reader_of};
 ghost use Rattle.sdd_base.specs.Seat.{reader_at};
 ghost use Rattle.sdd_base.specs.World.{World, IsPlaceOf, place_at};
-ghost use Rattle.sdd_base.specs.Steps.{opened, closed, stirred, accelerated};
+ghost use Rattle.sdd_base.specs.Steps.{opened, closed, stirred, accelerated, deferred};
 ghost use Rattle.sdd_world.specs.Place.{index_of};
 ghost use Rattle.sdd_desk.specs.declared.val.Val.{Val};
 ghost use Rattle.sdd_desk.specs.Val.{holdings_of};
@@ -20,9 +21,12 @@ use sdd_base::Guard;
 use sdd_core::{Epoch, Refused};
 use sdd_desk::Val;
 use sdd_hand::items::{date_waiting, names_of, owners_in, slots_among};
+use sdd_hand::jobs::jobs_among;
 use sdd_hand::participants::{Guarding, note_opening, under};
-use sdd_lines::{Action, Answer, Call, GuardName, Names, PlaceName, Reply};
-use sdd_steps::guards::{Accelerates, ClosesGuard, SetsGarbage, ShowsEpoch, ShowsGarbage};
+use sdd_lines::{Action, Answer, Call, GuardName, JobName, Names, PlaceName, Reply};
+use sdd_steps::guards::{
+    Accelerates, ClosesGuard, DefersJob, SetsGarbage, ShowsEpoch, ShowsGarbage,
+};
 use sdd_world::inner::{is_open, reclaims_next};
 use sdd_world::{Place, World};
 use std::alloc::AllocError;
@@ -43,6 +47,8 @@ impl Stage {
         let waiting = reclaims_next(&self.hand.world, &attending.place);
         let slots = slots_among(self.hand.alloc, waiting)?;
         let slots = slots.as_slice();
+        let deferred = self.hand.deferred.as_slice();
+        let ran = jobs_among(self.hand.alloc, waiting, deferred)?;
         let mut due = names_of(self.hand.alloc, slots, self.hand.names.as_slice())?;
         let given = owners_in(self.hand.alloc, &self.hand.world, slots)?;
         let is_nested = is_open(&self.hand.world, &attending.place);
@@ -70,7 +76,7 @@ impl Stage {
         Ok(Answer {
             reply: Reply::Guard(GuardName(name), epoch),
             reclaimed: Names::of(due),
-            ran: Names::new(self.hand.alloc),
+            ran: Names::of(ran),
         })
     }
 
@@ -118,6 +124,25 @@ impl Stage {
         self.hand.world.is_whole();
         accelerate_at(&mut self.hand.world, &attending.place, &held.guard);
         Reply::Done
+    }
+
+    pub fn defer(&mut self, name: PlaceName, guard: GuardName) -> Reply
+        requires line { BeginsLine self.old }
+        ensures acts { Acts self.old (Call.At name (Action.Defer guard)) result self.new }
+    {
+        let Some((attending, _)) = under(&self.hand.places, &self.hand.guards, name, guard) else {
+            return Reply::Invalid;
+        };
+        self.hand.world.is_whole();
+        let place = match defer_at(&mut self.hand.world, &attending.place) {
+            Ok(place) => place,
+            Err(refused) => return Reply::Refused(refused),
+        };
+        let job = self.hand.jobs;
+        prove!(job < self.hand.moment);
+        self.hand.deferred[place as usize] = job;
+        self.hand.jobs += 1;
+        Reply::Job(JobName(job))
     }
 
     pub fn close_guard(&mut self, name: PlaceName, guard: GuardName) -> Reply
@@ -190,6 +215,16 @@ fn accelerate_at(world: &mut World<Val>, place: &Place, guard: &Guard)
     ensures { world.new ≡ accelerated world.old (index_of place.now) }
 {
     step_at(world, place, Accelerates { guard });
+}
+
+/// A job that does nothing waits with the participant, in the place of the table of jobs that is told.
+fn defer_at(world: &mut World<Val>, place: &Place) -> Result<u32, Refused>
+    requires { IsPlaceOf world.old (index_of place.now) }
+    ensures deferred { MatchResult result
+        (λ number. IsEmptyAt world.old.jobs number × (world.new ≡ deferred world.old (index_of place.now) number))
+        (λ e. IsFull world.old.jobs × (e ≡ Refused.NoJob) × (world.new ≡ world.old)) }
+{
+    step_at(world, place, DefersJob)
 }
 
 /// The guard, which is the participant's, is closed.

@@ -38,6 +38,8 @@ impl Stage {
             slots: _,
             names: _,
             dates: _,
+            jobs: _,
+            deferred: _,
         } = hand;
         guards.destroy_spent();
         owners.destroy_spent();

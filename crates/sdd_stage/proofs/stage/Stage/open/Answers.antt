@@ -4,15 +4,16 @@ use Rattle.sdd_lines.specs.declared.call.Action.TheVariants as call
 use Rattle.sdd_lines.specs.declared.call.Call.TheVariants.{At}
 use Rattle.sdd_stage.specs.Stage.{desk_of}
 use Rattle.sdd_desk.specs.Held.{slots_among}
+use Rattle.sdd_desk.proofs.Going.{places-inside}
 use Rattle.sdd_desk.proofs.Gone.{slots-inside, slots-filled, given-inside}
-use Rattle.sdd_stage.proofs.Acts.{got, noted-is, opening-refused, opens-to, answers-opened, answers-plain}
+use Rattle.sdd_stage.proofs.Acts.{got, in_range, noted-is, opening-refused, opens-to, answers-opened, answers-plain}
 use Rattle.sdd_stage.proofs.Missing.{nobody}
 use Rattle.sdd_stage.proofs.Taken.{tied, inside}
 use Rattle.sdd_stage.proofs.stage.Stage.open.Goals as goal
 
 pub returns-in_default : goal.returns-in_default
 returns-in_default c = record {
-  answers = rw (c.answer.ensures, ← c.self.view_is) (answers-plain _ _ (nobody c.self.inside.hand c.args.name call.Open c.in_default.ensures) (λ s e. e));
+  answers = rw (c.answer.ensures, ← c.self.view_is) (answers-plain _ _ (nobody c.self.inside.hand c.args.name call.Open c.in_default.ensures) (λ s e. e) (λ k e. e));
 }
 
 pub names_of-requires : goal.names_of-requires
@@ -20,6 +21,14 @@ names_of-requires c = record {
   inside = rw (c.as_slice.ensures.value, c.as_slice-slots.ensures.value) (slots-inside (desk_of c.self.inside.hand) _ c.self.invariant.sound.stocked c.is_whole.ensures _
       (c.in_ok-slots.ensures ∙ ap slots_among c.reclaims_next-waiting.ensures));
 }
+
+pub jobs_among-requires : goal.jobs_among-requires
+jobs_among-requires c =
+    let there = got c.self.inside.hand.places c.args.name.0 _ c.in-Some.ensures in
+    record {
+      inside = rw (c.as_slice-deferred.ensures.value, c.reclaims_next-waiting.ensures) (places-inside (desk_of c.self.inside.hand) c.self.invariant.sound
+          c.is_whole.ensures _ (in_range c.self.inside.hand c.self.invariant c.is_whole.ensures c.args.name _ there));
+    }
 
 pub owners_in-requires : goal.owners_in-requires
 owners_in-requires c = record {
@@ -34,7 +43,7 @@ returns-in-Err c =
     record {
       answers = rw (c.answer-in-Err.ensures, refused.0, refused.2, c.make_room.ensures.kept, ← c.self.view_is)
           (answers-plain (At c.args.name call.Open) _ (opening-refused c.self.inside.hand c.self.invariant c.is_whole.ensures c.args.name _ there refused.1)
-          (λ s e. e));
+          (λ s e. e) (λ k e. e));
     }
 
 pub date_waiting-requires : goal.date_waiting-requires
@@ -64,10 +73,12 @@ returns c =
     let given = rw c.make_room.ensures.kept at c.give-name.ensures.given in
     let dated = rw (c.as_slice-2.ensures.value, c.in_ok-given.ensures, c.as_slice-slots.ensures.value, c.in-Ok.ensures.opened.1) at c.date_waiting.ensures.dated in
     let up = IsNonDecreasingBy-from_sort (λ (i : ItemName). i.0) c.sort_unstable.new.self.items c.sort_unstable.ensures.sorted in
+    let jobs = rw (c.as_slice-deferred.ensures.value, c.reclaims_next-waiting.ensures) at c.in_ok-ran.ensures.named in
     record {
-      answers = rw (← c.self.view_is, c.of.ensures, c.new.ensures) (answers-opened _ c.self.invariant c.is_whole.ensures c.args.name _ there _
+      answers = rw (← c.self.view_is, c.of.ensures, c.of-2.ensures) (answers-opened _ c.self.invariant c.is_whole.ensures c.args.name _ there _
           c.note_opening.new.places.entries c.give-name.new.self.entries c.date_waiting.new.dates _ _ _ _ (c.in_ok-slots.ensures ∙ ap slots_among c.reclaims_next-waiting.ensures) named noted given
           c.index-place.ensures c.in-Ok.ensures.reader refl refl c.in-Ok.ensures.opened.1 (rw (← c.self.view_is) at c.requires.line)
           c.date_waiting.ensures.long dated _ _ c.sort_unstable.ensures.permutation up c.in-Ok.ensures.opened.0
-          (c.give-name.ensures.name ∙ ap length c.make_room.ensures.kept) c.in-Ok.ensures.opened.2);
+          (c.give-name.ensures.name ∙ ap length c.make_room.ensures.kept) c.in-Ok.ensures.opened.2 _ jobs
+          c.in_ok-ran.ensures.ascending);
     }
