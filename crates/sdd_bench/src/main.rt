@@ -68,6 +68,7 @@ fn done(alloc: Global, operation: Operation, turns: u64) -> Result<(Tally, u64),
         Operation::Read => world::run(alloc, LIMITS, Work::Reads, turns),
         Operation::Load => world::run(alloc, LIMITS, Work::Loads, turns),
         Operation::Share => world::run(alloc, LIMITS, Work::Shares, turns),
+        Operation::Raw => world::run(alloc, LIMITS, Work::Raws, turns),
         Operation::Swap => world::run(alloc, LIMITS, Work::Swaps, turns),
         Operation::Local(guarding) => Ok((local::run(alloc, LIMITS, guarding, turns)?, 0)),
     }

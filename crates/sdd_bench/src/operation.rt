@@ -30,6 +30,8 @@ pub enum Operation {
     Load,
     /// In a world, a shared owner is cloned, and the clone released.
     Share,
+    /// In a world, an item goes raw and comes back.
+    Raw,
     /// In a world, under a guard, an item is made and put into a cell, and what the cell held is retired; what is due is reclaimed.
     Swap,
 }
@@ -47,6 +49,7 @@ pub fn named(word: &str) -> Option<Operation>
         "world-read" => Some(Operation::Read),
         "world-load" => Some(Operation::Load),
         "world-share" => Some(Operation::Share),
+        "world-raw" => Some(Operation::Raw),
         "world-swap" => Some(Operation::Swap),
         "local-outermost" => Some(Operation::Local(Guarding::Outermost)),
         "local-nested" => Some(Operation::Local(Guarding::Nested)),

@@ -3,11 +3,12 @@ ghost use Rattle.std.specs.Prelude.{◌≡◌, Some};
 ghost use Rattle.sdd_store.specs.declared.standing.Standing.TheVariants.{Shared as shared_by};
 ghost use Rattle.sdd_base.specs.Seat.{IsExact, IsSeated};
 ghost use Rattle.sdd_base.specs.World.{standing_at};
-ghost use Rattle.sdd_base.specs.Owned.{slots_home};
+ghost use Rattle.sdd_base.specs.Owned.{slot_of, slots_home};
 ghost use Rattle.sdd_base.specs.Shared as shared;
 ghost use Rattle.sdd_bench.specs.Leaves.{Leaves};
 
 use crate::operation::Guarding;
+use sdd_base::laws::comes_back;
 use sdd_base::{Guard, Guards, Look, Owned, Shared, Space};
 use sdd_core::Refused;
 use sdd_store::Idle;
@@ -172,4 +173,55 @@ fn clones<S: Space<u64>>(space: &mut S, owner: &Shared<u64>, turns: u64) -> Resu
         let _ = other.release(space);
     }
     Ok(())
+}
+
+/// Makes an item, which goes raw and comes back that often, and retires it.
+#[inline(always)]
+pub fn raws<S: Space<u64>>(space: &mut S, turns: u64) -> Result<(), Refused>
+    requires seated { IsSeated (S.seat space.old) }
+    requires exact { IsExact (S.seat space.old) }
+    ensures { Leaves (S.seat space.old) (S.own space.old) (S.world space.old) (S.seat space.new) (S.own space.new) (S.world space.new) }
+{
+    match Owned::new(1, space) {
+        Ok(owner) => {
+            let owner = round_trips(space, owner, turns);
+            owner.retire(space);
+            Ok(())
+        }
+        Err((_value, refused)) => Err(refused),
+    }
+}
+
+/// An item goes raw and comes back that often.
+#[inline(always)]
+fn round_trips<S: Space<u64>>(space: &mut S, owner: Owned<u64>, turns: u64) -> Owned<u64>
+    requires seated { IsSeated (S.seat space.old) }
+    requires exact { IsExact (S.seat space.old) }
+    requires home { slots_home owner ≡ (S.seat space.old).home.slots }
+    ensures seat { S.seat space.new ≡ S.seat space.old }
+    ensures own { S.own space.new ≡ S.own space.old }
+    ensures world { S.world space.new ≡ S.world space.old }
+    ensures home { slots_home result ≡ (S.seat space.new).home.slots }
+    ensures same { slot_of result ≡ slot_of owner }
+{
+    let mut owner = owner;
+    for _turn in 0..turns {
+        owner = round_trip(space, owner);
+    }
+    owner
+}
+
+/// An item goes raw and comes back.
+#[inline(always)]
+fn round_trip<S: Space<u64>>(space: &mut S, owner: Owned<u64>) -> Owned<u64>
+    requires seated { IsSeated (S.seat space.old) }
+    requires exact { IsExact (S.seat space.old) }
+    requires home { slots_home owner ≡ (S.seat space.old).home.slots }
+    ensures seat { S.seat space.new ≡ S.seat space.old }
+    ensures own { S.own space.new ≡ S.own space.old }
+    ensures world { S.world space.new ≡ S.world space.old }
+    ensures home { slots_home result ≡ (S.seat space.new).home.slots }
+    ensures same { slot_of result ≡ slot_of owner }
+{
+    comes_back(owner, space)
 }

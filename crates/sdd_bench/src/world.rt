@@ -2,7 +2,7 @@
 ghost use Rattle.std.specs.Prelude.{◌≡◌, [], Err, IfOk};
 ghost use Rattle.sdd_base.specs.Limits.{AreInRange};
 ghost use Rattle.sdd_base.specs.Out.{out};
-ghost use Rattle.sdd_base.specs.Seat.{IsSeated};
+ghost use Rattle.sdd_base.specs.Seat.{IsExact, IsSeated};
 ghost use Rattle.sdd_base.specs.Whole.{IsCounted};
 ghost use Rattle.sdd_base.specs.World.{IsGuarded};
 ghost use Rattle.sdd_bench.specs.Leaves.{Leaves};
@@ -24,6 +24,7 @@ pub enum Work {
     Reads,
     Loads,
     Shares,
+    Raws,
     Swaps,
 }
 
@@ -54,7 +55,8 @@ fn in_world(world: &mut World<u64>, work: Work, turns: u64) -> Result<u64, Refus
 
 #[inline(always)]
 fn worked<S: Space<u64, Job = Idle>>(space: &mut S, work: Work, turns: u64) -> Result<u64, Refused>
-    requires { IsSeated (S.seat space.old) }
+    requires seated { IsSeated (S.seat space.old) }
+    requires exact { IsExact (S.seat space.old) }
     ensures { Leaves (S.seat space.old) (S.own space.old) (S.world space.old) (S.seat space.new) (S.own space.new) (S.world space.new) }
 {
     match work {
@@ -64,6 +66,7 @@ fn worked<S: Space<u64, Job = Idle>>(space: &mut S, work: Work, turns: u64) -> R
         Work::Reads => return turns::looks(space, turns),
         Work::Loads => return cells::loads(space, turns),
         Work::Shares => turns::shares(space, turns)?,
+        Work::Raws => turns::raws(space, turns)?,
         Work::Swaps => cells::swaps(space, turns)?,
     }
     Ok(0)
