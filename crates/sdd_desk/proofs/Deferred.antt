@@ -1,10 +1,10 @@
 -- The names of the jobs that wait, after each call; and which of them an opening runs
+use Rattle.std.specs.Prelude.{slice_index}
 use Rattle.std.specs.List.Sorted.{IsPermutation, IsNonDecreasingBy, IsStrictlyIncreasing}
-use Rattle.std.proofs.Common.{get_or, cond}
 use Rattle.std.proofs.lemmas.List.Elements.{Contains-get_or}
 use Rattle.std.proofs.lemmas.List.Sorted.{sum_by-IsPermutation, IsPermutation-sym, Contains-permutation}
 use Rattle.std.proofs.lemmas.List.Sums.{get_or-le-sum_by}
-use Rattle.sdd_store.specs.Time.{is_open, finds_another, due_next, nobody}
+use Rattle.sdd_store.specs.Time.{due_next, nobody}
 use Rattle.sdd_base.specs.Jobs.{RunsJobsOnce}
 use Rattle.sdd_base.specs.Steps.{owner_given, cell_closed, given_all, opened}
 use Rattle.sdd_base.specs.Steps as steps
@@ -12,16 +12,15 @@ use Rattle.sdd_base.specs.Whole.{is_of_job, jobs_with}
 use Rattle.sdd_base.specs.World.{IsPlaceOf}
 use Rattle.sdd_base.proofs.Jobs.{runs-once, length-all_reclaimed}
 use Rattle.sdd_base.proofs.Listed.{listed-aged}
-use Rattle.sdd_base.proofs.Opening.{Nests, IsChange, how, before, keeps-owner_given, keeps-cell_closed, keeps-given_all}
+use Rattle.sdd_base.proofs.Opening.{how, before, keeps-owner_given, keeps-cell_closed, keeps-given_all}
 use Rattle.sdd_lines.specs.declared.name.JobName.{JobName}
-use Rattle.sdd_desk.proofs.Entry.{at-same, at-other, inside, is-there, not-free}
-use Rattle.sdd_desk.proofs.StockWords.{◌≡◌, ◌≢◌, ◌⊎◌, ℕ, zero, suc, ◌+◌, ◌<◌, ◌≤◌, ◌==◌, ◌↔◌, Bool, true, false, List, [], ◌∷◌, Option, Some, None, IsSome, is_some, map, length, count_by, slice_index_or, slice_set, inl, inr, refl, sym, ap, ◌∙◌, subst, eq-eqb, cases_eq, cases_lt, arith, nat_tests, All, Contains, length-set, Entries, IsEmptyAt, entry_at, with_entry, What, Item, Job, Standing, reclaims, IsWhole, once_if, Holding, World, place_at, standing_at, one_where, count-cons, Val, holdings_of}
-use Rattle.std.specs.Prelude.{slice_index}
+use Rattle.sdd_desk.proofs.Entry.{at-same, at-other, inside, not-free}
+use Rattle.sdd_desk.proofs.StockWords.{◌≡◌, ◌⊎◌, ℕ, zero, suc, ◌+◌, ◌<◌, ◌≤◌, ◌==◌, ◌↔◌, Bool, true, false, List, [], ◌∷◌, Option, Some, None, IsSome, is_some, map, length, count_by, slice_index_or, slice_set, inl, inr, refl, sym, ap, ◌∙◌, eq-eqb, cases_eq, cases_lt, arith, nat_tests, All, Contains, length-set, Entries, IsEmptyAt, entry_at, with_entry, What, Item, Job, Standing, reclaims, IsWhole, Holding, World, place_at, standing_at, one_where, count-cons, Val, holdings_of}
 use Rattle.sdd_desk.specs.Desk.{Desk, WaitsAt, job_at}
 use Rattle.sdd_desk.specs.Shown.{job_in}
 use Rattle.sdd_desk.specs.Sound.{AreDeferred}
 use Rattle.sdd_desk.specs.Held.{places_among}
-use Rattle.sdd_desk.proofs.Gone.{times_in, counts-le, count-map, contains-map, map-contains, counted-there, once-bound, rises}
+use Rattle.sdd_desk.proofs.Gone.{times_in, counts-le, count-map, contains-map, map-contains, once-bound, rises}
 
 -- ---- what changes no job
 
@@ -104,9 +103,10 @@ module _ (w : World Val) (p : ℕ) (whole : IsWhole w) (live : IsPlaceOf w p) wh
 
   table-long : length (opened holdings_of w p).jobs ≡ length w.jobs
   table-long =
+      let due = due_next (place_at (steps.nested w p) p) in
       elim (how holdings_of w p live.0) [
         | inl n ↦ ap (λ (u : World Val). length u.jobs) n.nests
-        | inr c ↦ ap (λ (u : World Val). length u.jobs) c.change ∙ length-all_reclaimed holdings_of (before holdings_of w p) p (due_next (place_at (steps.nested w p) p))
+        | inr c ↦ ap (λ (u : World Val). length u.jobs) c.change ∙ length-all_reclaimed holdings_of (before holdings_of w p) p due
       ]
 
   pub deferred-opened : (jobs : ℕ) (names : List ℕ) → AreDeferred jobs names w.jobs → AreDeferred jobs names (opened holdings_of w p).jobs

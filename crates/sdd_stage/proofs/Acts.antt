@@ -381,7 +381,9 @@ module _ (h : Hand) (t : IsTied h) (whole : IsWhole h.world) where
         w ≡ deferred h.world p k → names.items ≡ slice_set h.deferred.items k h.jobs → count ≡ h.jobs + 1 → j.0 ≡ h.jobs → BeginsLine d →
         Does d (At name (call.Defer g)) (reply.Job j) (record h { world = w; deferred = names; jobs = count })
     acts-deferred g k w names count j valid free world named more job line =
-        does d (At name (call.Defer g)) (reply.Job j) (goes (cc (world, named, more)) (sound-deferred d t.sound whole p k in_range free line.jobs) t.guards) (record {
+        does d (At name (call.Defer g)) (reply.Job j)
+        (goes (cc (world, named, more)) (sound-deferred d t.sound whole p k in_range free line.jobs) t.guards)
+        (record {
           meets = (valid, rw is (job, (k, free, refl)));
           dated = dated-deferred d t.sound whole p k in_range free;
           line = refl;

@@ -86,7 +86,8 @@ module _ (w : World Val) where
   lets-cell u c l = record { values = l.values; home = l.home; tally = l.tally; phases = l.phases; places = l.places; guards = l.guards; jobs = l.jobs }
 
   lets-shared : (u : World Val) (k n m : ℕ) → standing_at u k ≡ Some (Shared n) → LetsGo w u → LetsGo w (with_standing u k (Shared m))
-  lets-shared u k n m is l = record { values = l.values; home = l.home; tally = l.tally; phases = l.phases; places = l.places; guards = l.guards; jobs = l.jobs }
+  lets-shared u k n m is l =
+      record { values = l.values; home = l.home; tally = l.tally; phases = l.phases; places = l.places; guards = l.guards; jobs = l.jobs }
 
   pub lets-given : (p k : ℕ) (s : Option Standing) → standing_at w k ≡ s → LetsGo w (owner_given w p k s)
   lets-given p k s is = keeps-given (LetsGo w) lets-retired lets-cell lets-shared w p k s is lets-start

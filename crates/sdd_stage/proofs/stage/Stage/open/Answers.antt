@@ -13,7 +13,8 @@ use Rattle.sdd_stage.proofs.stage.Stage.open.Goals as goal
 
 pub returns-in_default : goal.returns-in_default
 returns-in_default c = record {
-  answers = rw (c.answer.ensures, ← c.self.view_is) (answers-plain _ _ (nobody c.self.inside.hand c.args.name call.Open c.in_default.ensures) (λ s e. e) (λ k e. e));
+  answers = rw (c.answer.ensures, ← c.self.view_is)
+      (answers-plain _ _ (nobody c.self.inside.hand c.args.name call.Open c.in_default.ensures) (λ s e. e) (λ k e. e));
 }
 
 pub names_of-requires : goal.names_of-requires
