@@ -10,17 +10,16 @@ use Rattle.sdd_store.specs.Time.{Time, with_place, nobody, is_open, passes, last
 use Rattle.sdd_store.specs.Time as time
 use Rattle.sdd_store.specs.declared.time.Participant.{Participant}
 use Rattle.sdd_store.specs.declared.standing.Standing.TheVariants.{Owned, Raw, Shared, Private as privately}
-use Rattle.sdd_slots.specs.Slots.{is_waiting}
 use Rattle.sdd_store.specs.Collecting.{without}
-use Rattle.sdd_store.specs.declared.waiting.What.{What}
 use Rattle.sdd_base.specs.Collecting.{collected, collector_closed, is_for, waiting_for, without_collector}
 use Rattle.std.proofs.Math.ListN.{get_or-map}
 use Rattle.sdd_base.specs.World.{World, standing_at, value_at, place_at, IsPlaceOf}
 use Rattle.sdd_base.specs.Steps.{made_as, with_standing, with_value, dropped, retired, owner_given, cell_closed, deferred, opened, closed, registered, ended, reclaims}
 use Rattle.sdd_base.specs.Holding.{Holding}
 use Rattle.sdd_base.specs.Own.{all_awaiting}
-use Rattle.sdd_base.specs.Whole.{IsWhole, is_of_slot}
-use Rattle.sdd_base.proofs.Listed.{listed-without, none-left, rest-contains}
+use Rattle.sdd_base.specs.Whole.{IsWhole}
+use Rattle.sdd_base.proofs.Listed.{rest-contains}
+use Rattle.sdd_base.proofs.Collecting.{goes}
 use Rattle.sdd_base.specs.Out.{is_out}
 use Rattle.sdd_base.specs.Left.{Waits, left, IsHeldUp, OpeningsLower, NoCallRaises, GoesAtLatest, Stays, GoesInTime}
 use Rattle.sdd_base.specs.Left.Stays.{starts, one_opening, one_call}
@@ -34,7 +33,7 @@ use Rattle.sdd_base.proofs.Housed.{Whole-opened, Whole-closed, Whole-stirred, Wh
 use Rattle.sdd_base.proofs.Closes.{how-closed}
 use Rattle.sdd_store.proofs.Adopting.{Adopts, adopts, same-or-not}
 use Rattle.sdd_store.specs.Phases.{is_ended}
-use Rattle.sdd_base.proofs.Opening.{how, Nests, IsChange, opened-goes, opened-other, all-goes, all_awaiting-waiting, still-waits}
+use Rattle.sdd_base.proofs.Opening.{how, Nests, IsChange, opened-goes, opened-other, all_awaiting-waiting, still-waits}
 use Rattle.sdd_base.proofs.Entries.{waits-place, waits-young, waits-standing, entry-due, nests-waits, change-waits, differs, opens-changed}
 use Rattle.sdd_base.proofs.Under.{closed-persists}
 
@@ -270,11 +269,6 @@ nested-open x = grind (arith, nat_tests)
 still-open : (n : ℕ) → nat_lt 0 n ≡ true → nat_lt 0 (n + 1) ≡ nat_lt 0 n
 still-open n e = grind (arith, nat_tests)
 
--- only the slot's item is of the slot
-only-item : (k : ℕ) (x : What) → is_of_slot k x ≡ true → (chosen : What → Bool) → chosen (Item k) ≡ true → chosen x ≡ true
-only-item k (Item j) of chosen is = let e : j ≡ k = grind (arith, nat_tests, of) in ap (λ (n : ℕ). chosen (Item n)) e ∙ is
-only-item k (Job j) of chosen is = absurd (cc)
-
 module _ {T : Type 0} where
   waits-low-if : (w : World T) (q k seen : ℕ) → HasItems w → Waits w q k seen → ((place_at w q).countdown ≡ 128) ⊎ ((place_at w q).countdown ≢ 128) →
       (place_at w q).countdown ≤ 127
@@ -453,23 +447,9 @@ module _ {T : Type 0} where
         (subst (λ (t : Time). Lowers w.time.count t.count (place_at w q) (time.place_at t q)) (sym g.time) on)
 
     -- a collector is closed: what waited for it is reclaimed, and all else goes on to wait
-    collector-takes : (w : World T) (r c q k seen : ℕ) → IsWhole w → Waits w q k seen → is_for w c (Item k) ≡ true → 1 ≤ times_among k (waiting_for w c)
-    collector-takes w r c q k seen i h for =
-        let all = i.once k in
-        let waits : is_waiting (standing_at w k) ≡ true = waits-standing w q k seen i h in
-        let one = rw waits at all in
-        let both = listed-without (is_of_slot k) (is_for w c) w.time.places in
-        let none = none-left (is_of_slot k) (is_for w c) (λ x of. only-item k x of (is_for w c) for) w.time.places in
-        omega (arith, one, both, none)
-
     collector-closes : (w : World T) (r c q k seen : ℕ) → r < length w.time.places → IsWhole w → Waits w q k seen → (b : Bool) → is_for w c (Item k) ≡ b →
         Outcome w (collector_closed holds w r c) q k seen
-    collector-closes w r c q k seen l i h true for =
-        let v = waits-value w q k seen i h in
-        let waits : is_waiting (standing_at w k) ≡ true = waits-standing w q k seen i h in
-        let start = without_collector w c in
-        inl (all-goes holds r k (waiting_for w c) start (standing_at w k) v.0 waits
-        (inr (collector-takes w r c q k seen i h for, record { standing = refl; value = v.1 }))).standing
+    collector-closes w r c q k seen l i h true for = inl (goes w c k i holds r (waits-standing w q k seen i h) for).standing
     collector-closes w r c q k seen l i h false other =
         let start = without_collector w c in
         let chosen = is_for w c in

@@ -8,6 +8,7 @@ pub mod Opening
 pub mod Jobs
 pub mod Housed
 pub mod Closes
+pub mod Collecting
 pub mod Adopted
 pub mod Entries
 pub mod Under

@@ -120,6 +120,26 @@ module _ (of : What → Bool) where
       let one = sum_by-cons listed_with (without chosen p) (map (without chosen) ps) in
       omega (arith, one, none-rest chosen only p.bags.waiting, none-left chosen only ps)
 
+  -- where none of it is chosen, none is taken
+  none-chosen-cons : (chosen : What → Bool) → ((x : What) → of x ≡ true → chosen x ≡ false) → (w : Waiting) (ws : List Waiting) →
+      count_by of (chosen_of chosen ws) ≡ 0 → (b : Bool) → chosen w.what ≡ b → (a : Bool) → of w.what ≡ a → count_by of (chosen_of chosen (w ∷ ws)) ≡ 0
+  none-chosen-cons chosen never w ws h false e a is = rw e h
+  none-chosen-cons chosen never w ws h true e true is = absurd (let clash : true ≡ false = sym e ∙ never w.what is in cc)
+  none-chosen-cons chosen never w ws h true e false is =
+      let one : cond {A = ℕ} (of w.what) 1 0 ≡ 0 = rw is refl in
+      rw e (omega (arith, h, one, count-cons of w.what (chosen_of chosen ws)))
+
+  none-chosen : (chosen : What → Bool) → ((x : What) → of x ≡ true → chosen x ≡ false) → (ws : List Waiting) → count_by of (chosen_of chosen ws) ≡ 0
+  none-chosen chosen never [] = refl
+  none-chosen chosen never (w ∷ ws) = none-chosen-cons chosen never w ws (none-chosen chosen never ws) (chosen w.what) refl (of w.what) refl
+
+  pub none-taken : (chosen : What → Bool) → ((x : What) → of x ≡ true → chosen x ≡ false) → (ps : List Participant) →
+      count_by of (chosen_among chosen ps) ≡ 0
+  none-taken chosen never [] = refl
+  none-taken chosen never (p ∷ ps) =
+      let long = sum_by-append (λ x. cond (of x) 1 0) (chosen_of chosen p.bags.waiting) (chosen_among chosen ps) in
+      omega (arith, long, none-chosen chosen never p.bags.waiting, none-taken chosen never ps)
+
   -- an adoption moves all that waits, and loses nothing
   listed-anew : (ws : List Waiting) → listed (map anew ws) ≡ listed ws
   listed-anew [] = refl

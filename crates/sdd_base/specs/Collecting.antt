@@ -1,11 +1,12 @@
 -- What becomes of what waits for a collector
-use Rattle.std.specs.Prelude.{ℕ, ◌-◌, Bool, List, Option, None, Some, nat_lt, if◌then◌else◌}
+use Rattle.std.specs.Prelude.{ℕ, ◌-◌, ◌≡◌, ◌≢◌, Bool, List, Option, None, Some, nat_lt, if◌then◌else◌}
 use Rattle.sdd_store.specs.Collecting.{is_kept_for, chosen_among, time_without}
 use Rattle.sdd_store.specs.declared.waiting.What.{What}
 use Rattle.sdd_store.specs.declared.standing.Standing.{Standing}
 use Rattle.sdd_store.specs.declared.standing.Standing.TheVariants.{Owned, Raw, Shared, Retired, Private as privately}
 use Rattle.sdd_base.specs.Holding.{Holding}
-use Rattle.sdd_base.specs.World.{World}
+use Rattle.sdd_slots.specs.Slots.{IsWaiting}
+use Rattle.sdd_base.specs.World.{World, HasPlace, standing_at, value_at}
 use Rattle.sdd_base.specs.Steps.{all_reclaimed, waiting_as, with_standing, without_cell}
 
 module _ {T : Type 0} where
@@ -37,3 +38,14 @@ module _ {T : Type 0} where
   -- the collector's cell is free, and p reclaims what waited for it
   abbrev pub collector_closed : (T → List Holding) → World T → (p c : ℕ) → World T
   collector_closed holds w p c = all_reclaimed holds (without_collector w c) p (waiting_for w c)
+
+-- by the close of a collector each slot whose item waits for it is free, and each other item that waits stays
+pub record EndsWith {T : Type 0} (holds : T → List Holding) (w : World T) (p c : ℕ) : Type 0 where
+  pub gone : (k : ℕ) → standing_at w k ≡ Some (privately c) →
+      (standing_at (collector_closed holds w p c) k ≡ None) × (value_at (collector_closed holds w p c) k ≡ None)
+  pub kept : (k : ℕ) → IsWaiting (standing_at w k) → standing_at w k ≢ Some (privately c) →
+      (standing_at (collector_closed holds w p c) k ≡ standing_at w k) × (value_at (collector_closed holds w p c) k ≡ value_at w k)
+
+-- the law: so it is, whoever closes it
+abbrev pub CollectedEnds : {T : Type 0} → (T → List Holding) → World T → Type 0
+CollectedEnds holds w = (p c : ℕ) → HasPlace w p → EndsWith holds w p c

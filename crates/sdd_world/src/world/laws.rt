@@ -5,6 +5,7 @@ ghost use Rattle.sdd_base.specs.Jobs.{RunsJobsOnce};
 ghost use Rattle.sdd_base.specs.Left.{FourGuardsReclaim, GoesAtLatest, GoesInTime};
 ghost use Rattle.sdd_base.specs.World.{World};
 ghost use Rattle.sdd_base.specs.Passing.{GuardsPass, ItemsPass};
+ghost use Rattle.sdd_base.specs.Collecting.{CollectedEnds};
 ghost use Rattle.sdd_base.specs.Adopting.{AdoptsWhatIsLeft};
 ghost use Rattle.sdd_base.specs.Under.{KeepsCollectedUnderGuards, KeepsFreshUnderGuards, KeepsUnderGuards};
 
@@ -61,6 +62,13 @@ impl<T: Item<T>, J: Job> World<T, J> {
     /// A close that scans takes over what ended participants left: it waits with who scans, with no change seen, and their places are free.
     pub fn adopts_what_is_left(&self)
         ensures { AdoptsWhatIsLeft self.now }
+    {
+        self.is_whole();
+    }
+
+    /// The close of a collector reclaims all that waits for it, and nothing else that waits.
+    pub fn ends_with_collectors(&self)
+        ensures { CollectedEnds T.holds self.now }
     {
         self.is_whole();
     }

@@ -1,0 +1,70 @@
+-- What the close of a collector takes, and what it leaves
+use Rattle.std.proofs.Common.{◌≡◌, ◌≢◌, inr, ℕ, ◌≤◌, List, Bool, refl, ap, ◌∙◌, arith, true, false, Some, None, Option}
+use Rattle.std.specs.Prelude.{is_some}
+use Rattle.std.proofs.lemmas.Bool.Decides.{nat_tests}
+use Rattle.sdd_store.specs.declared.waiting.What.{What}
+use Rattle.sdd_store.specs.declared.waiting.What.TheVariants.{Item, Job}
+use Rattle.sdd_store.specs.declared.standing.Standing.{Standing}
+use Rattle.sdd_store.specs.declared.standing.Standing.TheVariants.{Owned, Raw, Shared, Retired, Private as privately}
+use Rattle.sdd_store.specs.Collecting.{is_private_to}
+use Rattle.sdd_slots.specs.Slots.{is_waiting}
+use Rattle.sdd_base.specs.World.{World, standing_at, value_at}
+use Rattle.sdd_base.specs.Holding.{Holding}
+use Rattle.sdd_base.specs.Whole.{IsWhole, is_of_slot}
+use Rattle.sdd_base.specs.Collecting.{is_for, waiting_for, without_collector, collector_closed, CollectedEnds}
+use Rattle.sdd_base.proofs.Listed.{listed-without, none-left, none-taken}
+use Rattle.sdd_base.proofs.Opening.{Stands, all-goes, all-stands}
+use Rattle.sdd_base.proofs.Standings.{waits-out-not}
+use Rattle.sdd_base.proofs.Whole.{times_among, filled-there, some-waits}
+
+-- only the slot's item is of the slot
+only-item : (k : ℕ) (x : What) → is_of_slot k x ≡ true → (chosen : What → Bool) (b : Bool) → chosen (Item k) ≡ b → chosen x ≡ b
+only-item k (Item j) of chosen b is = let e : j ≡ k = grind (arith, nat_tests, of) in ap (λ (n : ℕ). chosen (Item n)) e ∙ is
+only-item k (Job j) of chosen b is = absurd (cc)
+
+-- whether an item waits for the collector
+is-private : (c : ℕ) (s : Option Standing) → s ≡ Some (privately c) → is_private_to c s ≡ true
+is-private c s is = ap (is_private_to c) is ∙ grind (arith, nat_tests)
+
+not-private : (c : ℕ) (s : Option Standing) → s ≢ Some (privately c) → is_private_to c s ≡ false
+not-private c None other = refl
+not-private c (Some Owned) other = refl
+not-private c (Some Raw) other = refl
+not-private c (Some (Shared n)) other = refl
+not-private c (Some Retired) other = refl
+not-private c (Some (privately d)) other =
+    let apart : d ≢ c = λ e. other (ap (λ (n : ℕ). Some (privately n)) e) in grind (arith, nat_tests)
+
+value-there : {X : Type 0} (v : Option X) → is_some v ≡ true → (x : X) × (v ≡ Some x)
+value-there None e = absurd (cc)
+value-there (Some x) e = (x, refl)
+
+module _ {T : Type 0} (w : World T) (c k : ℕ) (i : IsWhole w) where
+  pub takes : is_waiting (standing_at w k) ≡ true → is_for w c (Item k) ≡ true → 1 ≤ times_among k (waiting_for w c)
+  takes waits for =
+      let all = i.once k in
+      let one = rw waits at all in
+      let both = listed-without (is_of_slot k) (is_for w c) w.time.places in
+      let none = none-left (is_of_slot k) (is_for w c) (λ x of. only-item k x of (is_for w c) true for) w.time.places in
+      omega (arith, one, both, none)
+
+  pub passes-over : is_for w c (Item k) ≡ false → times_among k (waiting_for w c) ≡ 0
+  passes-over other = none-taken (is_of_slot k) (is_for w c) (λ x of. only-item k x of (is_for w c) false other) w.time.places
+
+  module _ (holds : T → List Holding) (p : ℕ) (waits : is_waiting (standing_at w k) ≡ true) where
+    pub goes : is_for w c (Item k) ≡ true → Stands k None None (collector_closed holds w p c)
+    goes for =
+        let v = value-there (value_at w k) (filled-there w k i.filled ∙ some-waits (standing_at w k) waits) in
+        all-goes holds p k (waiting_for w c) (without_collector w c) (standing_at w k) v.0 waits
+        (inr (takes waits for, record { standing = refl; value = v.1 }))
+
+    pub stays : is_for w c (Item k) ≡ false → Stands k (standing_at w k) (value_at w k) (collector_closed holds w p c)
+    stays other =
+        all-stands holds p k (waiting_for w c) (without_collector w c) (standing_at w k) (value_at w k) (waits-out-not (standing_at w k) waits)
+        (passes-over other) (record { standing = refl; value = refl })
+
+pub collected-ends : {T : Type 0} (holds : T → List Holding) (w : World T) → IsWhole w → CollectedEnds holds w
+collected-ends holds w i = λ p c l. record {
+  gone = λ k is. let s = goes w c k i holds p (ap is_waiting is) (is-private c (standing_at w k) is) in (s.standing, s.value);
+  kept = λ k waits other. let s = stays w c k i holds p waits (not-private c (standing_at w k) other) in (s.standing, s.value);
+}
