@@ -1,13 +1,16 @@
 //! Private collectors: what they are given goes at its third change, and at their close at latest.
-ghost use Rattle.std.specs.Prelude.{◌≡◌};
+ghost use Rattle.std.specs.Prelude.{◌≡◌, ◌≢◌, ℕ};
+ghost use Rattle.sdd_base.specs.Collector.{cells_home};
 ghost use Rattle.sdd_base.specs.Seat.{IsSeated};
+ghost use Rattle.sdd_base.specs.World.{IsPlaceOf};
+ghost use Rattle.sdd_world.specs.Place.{index_of};
 
 use crate::Value;
 use crate::example::{AMPLE, Example, in_a_world, in_a_world_that_shows};
 use crate::steps::{accelerated, close, collectors, opened, owned, shared};
-use sdd_base::{Limits, Space};
+use sdd_base::{Limits, PrivateCollector, Space};
 use sdd_core::Refused;
-use sdd_world::World;
+use sdd_world::{Place, World};
 use std::process::Abort;
 
 /// An owned and a shared item are collected, and both go at the close.
@@ -147,21 +150,53 @@ fn a_collector_takes_a_cell(rt: HostRuntime) {
     in_a_world::<u64, TakesACell, _>(&rt, ONE_CELL);
 }
 
-#[test]
-fn what_an_ended_participant_collected_goes_with_the_collector(rt: HostRuntime) {
-    let mut world: World<u64> = World::new(rt.alloc(), AMPLE).expect(&rt, "the limits are in range");
-    let first = world.register().expect(&rt, "a place is free");
-    let second = world.register().expect(&rt, "a place is free");
-    let collector = collectors::made(&rt, &mut world.at(&second));
-    collectors::collect(&rt, &mut world.at(&first), &collector, 37);
-    match world.end(first) {
+/// A participant collects a new item, and ends.
+fn collects_and_ends(
+    rt: &impl Abort,
+    world: &mut World<u64>,
+    place: Place,
+    collector: &PrivateCollector<u64>,
+)
+    requires place { IsPlaceOf world.old (index_of place) }
+    requires collector { cells_home collector.now ≡ world.old.home.cells }
+    ensures home { world.new.home ≡ world.old.home }
+    ensures others { (p : ℕ) → p ≢ index_of place → IsPlaceOf world.old p → IsPlaceOf world.new p }
+{
+    collectors::collect(rt, &mut world.at(&place), collector, 37);
+    match world.end(place) {
         Ok(()) => {}
         Err((_place, refused)) => panic!(rt; "{refused:?}"),
     }
-    let owner = shared::made(&rt, &mut world.at(&second), 43);
-    let was_last = collectors::collect_shared(&rt, &mut world.at(&second), &collector, owner);
+}
+
+/// A participant collects a shared owner of a new item, which is the last, and closes the collector.
+fn collects_and_closes(
+    rt: &impl Abort,
+    world: &mut World<u64>,
+    place: &Place,
+    collector: PrivateCollector<u64>,
+)
+    requires place { IsPlaceOf world.old (index_of place.now) }
+    requires collector { cells_home collector ≡ world.old.home.cells }
+{
+    let mut turn = world.at(place);
+    let owner = shared::made(rt, &mut turn, 43);
+    let was_last = collectors::collect_shared(rt, &mut turn, &collector, owner);
     assert!(rt; was_last);
-    collectors::closed(&rt, &mut world.at(&second), collector);
+    collectors::closed(rt, &mut turn, collector);
+}
+
+#[test]
+fn what_an_ended_participant_collected_goes_with_the_collector(rt: HostRuntime) {
+    let mut world: World<u64> = World::new(rt.alloc(), AMPLE).expect(
+        &rt,
+        "the limits are in range",
+    );
+    let first = world.register().expect(&rt, "a place is free");
+    let second = world.register().expect(&rt, "a place is free");
+    let collector = collectors::made(&rt, &mut world.at(&second));
+    collects_and_ends(&rt, &mut world, first, &collector);
+    collects_and_closes(&rt, &mut world, &second, collector);
     let tally = world.tally();
     assert_eq!(rt; (tally.made, tally.reclaimed, tally.in_place), (2, 2, 0));
     closed(&rt, world);
@@ -169,7 +204,10 @@ fn what_an_ended_participant_collected_goes_with_the_collector(rt: HostRuntime) 
 
 #[test]
 fn a_world_with_a_collector_is_not_closed(rt: HostRuntime) {
-    let mut world: World<u64> = World::new(rt.alloc(), AMPLE).expect(&rt, "the limits are in range");
+    let mut world: World<u64> = World::new(rt.alloc(), AMPLE).expect(
+        &rt,
+        "the limits are in range",
+    );
     let place = world.register().expect(&rt, "a place is free");
     let collector = collectors::made(&rt, &mut world.at(&place));
     collectors::collect(&rt, &mut world.at(&place), &collector, 37);

@@ -70,11 +70,7 @@ pub fn collect_shared<T: Item<T>, S: Space<T>>(
 }
 
 /// The collector is closed.
-pub fn closed<T: Item<T>, S: Space<T>>(
-    rt: &impl Abort,
-    s: &mut S,
-    collector: PrivateCollector<T>,
-)
+pub fn closed<T: Item<T>, S: Space<T>>(rt: &impl Abort, s: &mut S, collector: PrivateCollector<T>)
     requires seated { IsSeated (S.seat s.old) }
     requires collector { cells_home collector ≡ (S.seat s.old).home.cells }
     ensures seat { S.seat s.new ≡ S.seat s.old }
