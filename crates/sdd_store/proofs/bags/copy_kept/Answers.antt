@@ -10,4 +10,6 @@ push_reserved-requires c =
     let so_far = take c.loop-what.what-index c.args.from.now in
     let copied = ap length c.loop-what.invariant.0 in
     let both = length-append c.args.to.now.items (filter chosen so_far) in
-    omega (arith, copied, both, filter-within chosen so_far, length-take c.loop-what.what-index c.args.from.now, c.loop-what-test.true, c.requires, c.loop-what.invariant.1, c.loop-what.auto.what-index-end)
+    let few = filter-within chosen so_far in
+    let long = length-take c.loop-what.what-index c.args.from.now in
+    omega (arith, copied, both, few, long, c.loop-what-test.true, c.requires, c.loop-what.invariant.1, c.loop-what.auto.what-index-end)
