@@ -9,7 +9,7 @@ pub use script::{
 };
 pub use sdd_base::{
     AtomicOwned, AtomicRaw, AtomicShared, Giver, Guard, Guards, Item, Limits, Look, Owned,
-    OwnedPtrPair, Ptr, RawPtr, Shared, SharedPtrPair, Shows, Space,
+    OwnedPtrPair, PrivateCollector, Ptr, RawPtr, Shared, SharedPtrPair, Shows, Space,
 };
 pub use sdd_core::{Epoch, Refused, Tag};
 pub use sdd_domain::{Domain, Local, Receipt};
