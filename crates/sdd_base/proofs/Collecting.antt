@@ -1,5 +1,5 @@
 -- What the close of a collector takes, and what it leaves
-use Rattle.std.proofs.Common.{◌≡◌, ◌≢◌, inr, ℕ, ◌≤◌, List, Bool, refl, ap, ◌∙◌, arith, true, false, Some, None, Option}
+use Rattle.std.proofs.Common.{◌≡◌, ◌≢◌, inr, ℕ, ◌+◌, ◌≤◌, List, [], ◌∷◌, Bool, refl, ap, ◌∙◌, arith, true, false, Some, None, Option}
 use Rattle.std.specs.Prelude.{is_some}
 use Rattle.std.proofs.lemmas.Bool.Decides.{nat_tests}
 use Rattle.sdd_store.specs.declared.waiting.What.{What}
@@ -13,9 +13,11 @@ use Rattle.sdd_base.specs.Holding.{Holding}
 use Rattle.sdd_base.specs.Whole.{IsWhole, is_of_slot}
 use Rattle.sdd_base.specs.Collecting.{is_for, waiting_for, without_collector, collector_closed, CollectedEnds}
 use Rattle.sdd_base.proofs.Listed.{listed-without, none-left, none-taken}
-use Rattle.sdd_base.proofs.Opening.{Stands, all-goes, all-stands}
+use Rattle.sdd_base.specs.Steps.{all_reclaimed, freed, reclaimed, taken_out, waiting_value}
+use Rattle.std.proofs.lemmas.List.{get_or-set_other}
+use Rattle.sdd_base.proofs.Opening.{Stands, all-goes, all-stands, keeps-given_all}
 use Rattle.sdd_base.proofs.Standings.{waits-out-not}
-use Rattle.sdd_base.proofs.Whole.{times_among, filled-there, some-waits}
+use Rattle.sdd_base.proofs.Whole.{count-cons, times_among, filled-there, some-waits}
 
 -- only the slot's item is of the slot
 only-item : (k : ℕ) (x : What) → is_of_slot k x ≡ true → (chosen : What → Bool) (b : Bool) → chosen (Item k) ≡ b → chosen x ≡ b
@@ -38,6 +40,33 @@ not-private c (Some (privately d)) other =
 value-there : {X : Type 0} (v : Option X) → is_some v ≡ true → (x : X) × (v ≡ Some x)
 value-there None e = absurd (cc)
 value-there (Some x) e = (x, refl)
+
+-- what is reclaimed leaves each other slot its value
+module _ {T : Type 0} (holds : T → List Holding) (p k : ℕ) (v : Option T) where
+  abbrev HasValue : World T → Type 0
+  HasValue u = value_at u k ≡ v
+
+  taken-keeps : (w : World T) (j : ℕ) → k ≢ j → (u : Option T) → HasValue w → HasValue (taken_out holds w p j u)
+  taken-keeps w j apart None h = h
+  taken-keeps w j apart (Some u) h =
+      keeps-given_all p HasValue (λ x n out g. g) (λ x n g. g) (λ x n m o is g. g) (freed w j) (holds u) (get_or-set_other w.values j k None None apart ∙ h)
+
+  reclaimed-keeps : (w : World T) (x : What) → is_of_slot k x ≡ false → HasValue w → HasValue (reclaimed holds w p x)
+  reclaimed-keeps w (Item j) other h =
+      taken-keeps w j (λ e. absurd (grind (arith, nat_tests, other, e))) (waiting_value w j (standing_at w j)) h
+  reclaimed-keeps w (Job n) other h = h
+
+  reclaims-if : (x : What) (xs : List What) (w : World T) → times_among k (x ∷ xs) ≡ 0 → (b : Bool) → is_of_slot k x ≡ b → HasValue w →
+      (times_among k xs ≡ 0) × HasValue (reclaimed holds w p x)
+  reclaims-if x xs w none true e h =
+      let all : times_among k (x ∷ xs) ≡ 1 + times_among k xs = count-cons (is_of_slot k) x xs ∙ rw e refl in absurd (omega (arith, none, all))
+  reclaims-if x xs w none false e h =
+      let all : times_among k (x ∷ xs) ≡ 0 + times_among k xs = count-cons (is_of_slot k) x xs ∙ rw e refl in
+      (omega (arith, none, all), reclaimed-keeps w x e h)
+
+  all-keep : (xs : List What) (w : World T) → times_among k xs ≡ 0 → HasValue w → HasValue (all_reclaimed holds w p xs)
+  all-keep [] w none h = h
+  all-keep (x ∷ xs) w none h = let rest = reclaims-if x xs w none (is_of_slot k x) refl h in all-keep xs (reclaimed holds w p x) rest.0 rest.1
 
 module _ {T : Type 0} (w : World T) (c k : ℕ) (i : IsWhole w) where
   pub takes : is_waiting (standing_at w k) ≡ true → is_for w c (Item k) ≡ true → 1 ≤ times_among k (waiting_for w c)
@@ -66,5 +95,7 @@ module _ {T : Type 0} (w : World T) (c k : ℕ) (i : IsWhole w) where
 pub collected-ends : {T : Type 0} (holds : T → List Holding) (w : World T) → IsWhole w → CollectedEnds holds w
 collected-ends holds w i = λ p c l. record {
   gone = λ k is. let s = goes w c k i holds p (ap is_waiting is) (is-private c (standing_at w k) is) in (s.standing, s.value);
-  kept = λ k waits other. let s = stays w c k i holds p waits (not-private c (standing_at w k) other) in (s.standing, s.value);
+  waits = λ k waits other. (stays w c k i holds p waits (not-private c (standing_at w k) other)).standing;
+  keeps = λ k other.
+      all-keep holds p k (value_at w k) (waiting_for w c) (without_collector w c) (passes-over w c k i (not-private c (standing_at w k) other)) refl;
 }

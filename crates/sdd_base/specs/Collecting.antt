@@ -39,12 +39,12 @@ module _ {T : Type 0} where
   abbrev pub collector_closed : (T → List Holding) → World T → (p c : ℕ) → World T
   collector_closed holds w p c = all_reclaimed holds (without_collector w c) p (waiting_for w c)
 
--- by the close of a collector each slot whose item waits for it is free, and each other item that waits stays
+-- by the close of a collector each slot whose item waits for it is free; each other item that waits stands as it stood, and each other slot has its value
 pub record EndsWith {T : Type 0} (holds : T → List Holding) (w : World T) (p c : ℕ) : Type 0 where
   pub gone : (k : ℕ) → standing_at w k ≡ Some (privately c) →
       (standing_at (collector_closed holds w p c) k ≡ None) × (value_at (collector_closed holds w p c) k ≡ None)
-  pub kept : (k : ℕ) → IsWaiting (standing_at w k) → standing_at w k ≢ Some (privately c) →
-      (standing_at (collector_closed holds w p c) k ≡ standing_at w k) × (value_at (collector_closed holds w p c) k ≡ value_at w k)
+  pub waits : (k : ℕ) → IsWaiting (standing_at w k) → standing_at w k ≢ Some (privately c) → standing_at (collector_closed holds w p c) k ≡ standing_at w k
+  pub keeps : (k : ℕ) → standing_at w k ≢ Some (privately c) → value_at (collector_closed holds w p c) k ≡ value_at w k
 
 -- the law: so it is, whoever closes it
 abbrev pub CollectedEnds : {T : Type 0} → (T → List Holding) → World T → Type 0

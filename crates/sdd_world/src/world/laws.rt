@@ -66,7 +66,7 @@ impl<T: Item<T>, J: Job> World<T, J> {
         self.is_whole();
     }
 
-    /// The close of a collector reclaims all that waits for it, and nothing else that waits.
+    /// The close of a collector reclaims all that waits for it, and nothing else.
     pub fn ends_with_collectors(&self)
         ensures { CollectedEnds T.holds self.now }
     {
