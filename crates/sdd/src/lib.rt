@@ -4,8 +4,8 @@
 pub mod script;
 
 pub use script::{
-    Action, Answer, Call, CellName, Ended, Fault, GuardName, ItemName, JobName, Names, OwnerName,
-    PlaceName, Reader, Reply, Scene, Sink, Source, Value, Writer, play, run,
+    Action, Answer, Call, CellName, CollectorName, Ended, Fault, GuardName, ItemName, JobName,
+    Names, OwnerName, PlaceName, Reader, Reply, Scene, Sink, Source, Value, Writer, play, run,
 };
 pub use sdd_base::{
     AtomicOwned, AtomicRaw, AtomicShared, Giver, Guard, Guards, Item, Limits, Look, Owned,

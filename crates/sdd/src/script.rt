@@ -9,6 +9,6 @@ pub use runner::run;
 pub use scene::Scene;
 pub use sdd_desk::Val;
 pub use sdd_lines::{
-    Action, Answer, Call, CellName, Ended, Fault, GuardName, ItemName, JobName, Names, OwnerName,
-    PlaceName, Reader, Reply, Sink, Source, Value, Writer,
+    Action, Answer, Call, CellName, CollectorName, Ended, Fault, GuardName, ItemName, JobName,
+    Names, OwnerName, PlaceName, Reader, Reply, Sink, Source, Value, Writer,
 };

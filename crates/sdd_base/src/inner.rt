@@ -6,6 +6,7 @@ ghost use Rattle.sdd_base.specs.Shared as shared;
 ghost use Rattle.sdd_base.specs.RawPtr as raw;
 ghost use Rattle.sdd_base.specs.Ptr.{slot_named, shown_by, tag_of};
 ghost use Rattle.sdd_base.specs.Guard.{reader_of, Reader};
+ghost use Rattle.sdd_base.specs.Collector.{collector_of};
 ghost use Rattle.sdd_core.specs.declared.tag.Tag.TheVariants.{None as no_tag};
 
 use crate::atomic_owned::AtomicOwned;
@@ -13,6 +14,7 @@ use crate::atomic_raw::AtomicRaw;
 use crate::atomic_shared::AtomicShared;
 use crate::guard::Guard;
 use crate::owned::Owned;
+use crate::private_collector::PrivateCollector;
 use crate::ptr::Ptr;
 use crate::raw_ptr::RawPtr;
 use crate::shared::Shared;
@@ -185,6 +187,20 @@ pub fn right_of_raw_cell<T>(cell: AtomicRaw<T>) -> RawRight
     ensures { result ≡ cell.right }
 {
     cell.into_right()
+}
+
+/// The right of a collector's cell.
+pub fn right_of_collector<T>(collector: PrivateCollector<T>) -> RawRight
+    ensures { result ≡ collector.right }
+{
+    collector.into_right()
+}
+
+/// The number of a collector, which is that of its cell.
+pub fn number_of_collector<T>(collector: &PrivateCollector<T>) -> u32
+    ensures { result ≡ collector_of collector.now }
+{
+    collector.number()
 }
 
 /// The pointer that a raw cell has.

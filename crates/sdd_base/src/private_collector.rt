@@ -11,6 +11,7 @@ ghost use Rattle.sdd_base.specs.Collecting.{collected, owner_collected, collecto
 ghost use Rattle.sdd_base.specs.Collector.{collector_of, cells_home};
 ghost use Rattle.sdd_base.specs.Owned as owned;
 ghost use Rattle.sdd_base.specs.Shared as shared;
+ghost use Rattle.sdd_token.specs.Right.{raw_number_of};
 ghost use Rattle.sdd_slots.specs.Slots.{IsSharedBy};
 ghost use Rattle.sdd_slots.specs.Cells.{null_pointer};
 ghost use Rattle.sdd_store.specs.Table.{IsEmptyAt, IsFull};
@@ -50,11 +51,18 @@ impl<T> PrivateCollector<T> {
         }
     }
 
-    fn into_right(self) -> RawRight
+    pub(crate) fn into_right(self) -> RawRight
         ensures { result ≡ self.right }
     {
         let PrivateCollector { right, of: _ } = self;
         right
+    }
+
+    /// The number of its cell.
+    pub(crate) fn number(&self) -> u32
+        ensures { result ≡ raw_number_of self.now.right }
+    {
+        self.right.number()
     }
 }
 

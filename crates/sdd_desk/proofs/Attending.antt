@@ -95,7 +95,7 @@ keeps-place v w p x e same = record {
   guards = λ q. ap (λ (t : Time). (time.place_at t q).guards) e ∙ as-each (λ (y : Participant). y.guards) v.time.places p x nobody same q;
 }
 
-keeps-gives : {p : ℕ} {v w : World Val} → Gives p v w → KeepsGuards v w
+pub keeps-gives : {p : ℕ} {v w : World Val} → Gives p v w → KeepsGuards v w
 keeps-gives {p} {v} {w} g =
     keeps-place v w p (all_awaiting g.slots (place_at v p)) g.time (all_awaiting-guards g.slots (place_at v p))
 

@@ -209,6 +209,7 @@ module _ (d : Desk) (s : IsSound d) where
             accounts = counted;
             owners_home = owners_home;
             cells_home = cells_home;
+            collectors_home = s.collectors_home;
             attended = attended-acts d after_cells s.attended keeps refl refl (omega arith) p live;
             kept = kept-call d after_cells s.kept dated-cells whole (changes_cells d.world cells long) (were-same d after_cells refl keeps.guards);
             early = early-dated d after_cells dated-cells (omega arith) s.early;
@@ -241,7 +242,7 @@ module _ (d : Desk) (s : IsSound d) where
       pub sound-celled : IsSound after_celled
       sound-celled =
           sound-cells p live (with_entry d.world.cells c new_cell) after_celled.owners after_celled.cells long-celled
-          (keepers-named d after_celled c (cell_as like c d) new_cell s.cells free (cell_as-number like c d) refl refl refl)
+          (keepers-named d after_celled c (cell_as like c d) new_cell s.cells free (cell_as-number like c d) refl refl refl refl)
           (counted-cell d s.accounts after_celled c new_cell free.0 (λ j. omega (arith, put-counts d x put j, none-held d c free j)))
           (put-home d x s.owners_home)
           (at_home-given d.world.home d.cells (cell_as like c d) (cell_as-home like c d) s.cells_home)
@@ -271,7 +272,7 @@ module _ (d : Desk) (s : IsSound d) where
         pub sound-tagged : IsSound after_tagged
         sound-tagged =
             sound-cells p live after_tagged.world.cells d.owners d.cells (long-filled (record cell { tag = tag }))
-            (keepers-filled d after_tagged n c (record cell { tag = tag }) s.cells is.named refl refl refl)
+            (keepers-filled d after_tagged n c (record cell { tag = tag }) s.cells is.named refl refl refl refl)
             (counted-cell d s.accounts after_tagged c (record cell { tag = tag }) in_table (λ j. omega (arith, held-here j)))
             s.owners_home s.cells_home
 
@@ -295,7 +296,7 @@ module _ (d : Desk) (s : IsSound d) where
         pub sound-swapped : IsSound after_swapped
         sound-swapped =
             sound-cells p live after_swapped.world.cells after_swapped.owners d.cells (long-filled now_cell)
-            (keepers-filled d after_swapped n c now_cell s.cells is.named refl refl refl)
+            (keepers-filled d after_swapped n c now_cell s.cells is.named refl refl refl refl)
             (counted-cell d s.accounts after_swapped c now_cell in_table
             (λ j. omega (arith, held-here j, put-counts d x put j, taken-counts d (owners_put d.owners x) (holding_at d.cells n) cell.held j)))
             (taken-home d (owners_put d.owners x) (holding_at d.cells n) cell.held (put-home d x s.owners_home))
@@ -321,7 +322,7 @@ module _ (d : Desk) (s : IsSound d) where
       pub sound-taken : IsSound after_taken
       sound-taken =
           sound-cells p live (without_entry d.world.cells c) after_taken.owners after_taken.cells long-taken
-          (keepers-closed d after_taken n c s.cells is.named refl refl refl)
+          (keepers-closed d after_taken n c s.cells is.named refl refl refl refl)
           (counted-into d s.accounts after_taken c
           (λ j. omega (arith, held-here j, taken-counts d d.owners (holding_at d.cells n) cell.held j)))
           (taken-home d d.owners (holding_at d.cells n) cell.held s.owners_home)
@@ -360,11 +361,12 @@ module _ (d : Desk) (s : IsSound d) where
           let keeps = keeps-cell_closed d.world p c live.0 in
           record {
             stocked = stocked-as d after_cell_closed s.stocked refl refl dated-cell_closed.long (no_slot-cell_closed d.world p c);
-            cells = keepers-closed d after_cell_closed n c s.cells is.named same.0 same.1 refl;
+            cells = keepers-closed d after_cell_closed n c s.cells is.named same.0 same.1 refl refl;
             layered = layers;
             accounts = counted-cell_closed d s.accounts p c;
             owners_home = rw counts.home s.owners_home;
             cells_home = rw counts.home (at_home-spent d.world.home d.cells n s.cells_home);
+            collectors_home = rw counts.home s.collectors_home;
             attended = attended-acts d after_cell_closed s.attended keeps refl refl (omega arith) p live;
             kept = kept-call d after_cell_closed s.kept dated-cell_closed whole (closes_cell d.world p c live)
                 (were-same d after_cell_closed refl keeps.guards);
@@ -404,7 +406,7 @@ module _ (d : Desk) (s : IsSound d) where
           sound-copied_bare : IsSound (copied_as None)
           sound-copied_bare =
               sound-cells p live midway.cells d.owners after_copied.cells (length-set d.world.cells other (Some cell))
-              (keepers-named d (copied_as None) other new_name cell s.cells free refl refl refl refl)
+              (keepers-named d (copied_as None) other new_name cell s.cells free refl refl refl refl refl)
               (counted-cell d s.accounts d other cell free.0 (λ j. omega (arith, ap (λ (x : Option ℕ). one_where (is_of j x)) bare, none-held d other free j)))
               s.owners_home names_home
 
@@ -442,11 +444,12 @@ module _ (d : Desk) (s : IsSound d) where
               let whole_midway = Whole-cells d.world midway.cells whole in
               record {
                 stocked = stocked-as d after_copied_item s.stocked refl refl refl (record { taken = slots.taken; slots = slots.slots });
-                cells = keepers-named d after_copied_item other new_name cell s.cells free refl refl refl refl;
+                cells = keepers-named d after_copied_item other new_name cell s.cells free refl refl refl refl refl;
                 layered = s.layered;
                 accounts = counted-copied;
                 owners_home = s.owners_home;
                 cells_home = names_home;
+                collectors_home = s.collectors_home;
                 attended = attended-acts d after_copied_item s.attended keeps refl refl (omega arith) p live;
                 kept = kept-two d after_copied_item s.kept dated-copied_item whole midway cells-copied shares-copied whole_midway (λ q o. o)
                     (were-same d after_copied_item refl keeps.guards) (begins-out shares-copied whole_midway);

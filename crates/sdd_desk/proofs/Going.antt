@@ -30,11 +30,11 @@ use Rattle.sdd_desk.specs.declared.val.Val.{Val}
 use Rattle.sdd_desk.specs.declared.ownership.Ownership.{Ownership}
 use Rattle.sdd_desk.specs.declared.ownership.Ownership.TheVariants as ownership
 use Rattle.sdd_desk.specs.Val.{holdings_of, body_of, link_of}
-use Rattle.sdd_desk.specs.Desk.{Desk, Opening, BeginsLine, IsDated, IsStart, IsThere, WaitsAt, date_at, opening_at, holding_at, cell_of, slot_at, slot_of, sole_slot, shared_slot, in_world, with_guard, with_newcomer, without_participant, without_guard, with_owner, without_owner, with_item, with_job, later}
+use Rattle.sdd_desk.specs.Desk.{Desk, Opening, BeginsLine, IsDated, IsStart, IsThere, WaitsAt, date_at, opening_at, holding_at, cell_of, collector_of, slot_at, slot_of, sole_slot, shared_slot, in_world, with_guard, with_newcomer, without_participant, without_guard, with_owner, without_owner, with_item, with_job, later}
 use Rattle.sdd_desk.specs.Made.{IsPutIn, owners_left, put_in}
 use Rattle.sdd_desk.specs.Shown.{item_in, job_in}
 use Rattle.sdd_desk.specs.Sound.{IsSound, AreDeferred, Keeper, Keeps, named_owners, owns}
-use Rattle.sdd_desk.specs.Sound.Keeper.{value_in, name_of}
+use Rattle.sdd_desk.specs.Sound.Keeper.{value_in, name_of, collector_named}
 use Rattle.sdd_desk.specs.Held.{owners_in, slots_among, places_among, standing_first, holding_first, waits_among}
 use Rattle.sdd_desk.proofs.Entry.{not-free}
 use Rattle.sdd_desk.proofs.Stocked.{stocked-as, stocked-made, no_slot-same, no_slot-standing, no_slot-retired, no_slot-given, no_slot-opened}
@@ -105,11 +105,12 @@ module _ (d : Desk) (s : IsSound d) where
     pub sound-stirred : (p : ℕ) → IsPlaceOf d.world p → IsSound (in_world d (stirred d.world p))
     sound-stirred p live = record {
       stocked = stocked-as d new s.stocked refl refl refl (no_slot-same d.world new.world refl);
-      cells = keepers-as d new s.cells refl refl refl;
+      cells = keepers-as d new s.cells refl refl refl refl;
       layered = s.layered;
       accounts = s.accounts;
       owners_home = s.owners_home;
       cells_home = s.cells_home;
+      collectors_home = s.collectors_home;
       attended = attended-acts d new s.attended (keeps-stirred d.world p) refl refl (omega arith) p live;
       kept = kept-call d new s.kept dated whole (stirs d.world p live) (were-same d new refl (keeps-stirred d.world p).guards);
       early = early-dated d new dated (omega arith) s.early;
@@ -126,11 +127,12 @@ module _ (d : Desk) (s : IsSound d) where
     pub sound-accelerated : (p : ℕ) → IsPlaceOf d.world p → IsSound (in_world d (accelerated d.world p))
     sound-accelerated p live = record {
       stocked = stocked-as d new s.stocked refl refl refl (no_slot-same d.world new.world refl);
-      cells = keepers-as d new s.cells refl refl refl;
+      cells = keepers-as d new s.cells refl refl refl refl;
       layered = s.layered;
       accounts = s.accounts;
       owners_home = s.owners_home;
       cells_home = s.cells_home;
+      collectors_home = s.collectors_home;
       attended = attended-acts d new s.attended (keeps-accelerated d.world p) refl refl (omega arith) p live;
       kept = kept-call d new s.kept dated whole (accelerates d.world p live) (were-same d new refl (keeps-accelerated d.world p).guards);
       early = early-dated d new dated (omega arith) s.early;
@@ -147,11 +149,12 @@ module _ (d : Desk) (s : IsSound d) where
     pub sound-registered : (p : ℕ) → IsVacant d.world.time p → IsSound (in_world (with_newcomer d p) (registered d.world p))
     sound-registered p vacant = record {
       stocked = stocked-as d new s.stocked refl refl refl (no_slot-same d.world new.world refl);
-      cells = keepers-as d new s.cells refl refl refl;
+      cells = keepers-as d new s.cells refl refl refl refl;
       layered = s.layered;
       accounts = s.accounts;
       owners_home = s.owners_home;
       cells_home = s.cells_home;
+      collectors_home = s.collectors_home;
       attended = attended-registered d s.attended p vacant whole.housed.lengths new refl refl refl (omega arith);
       kept = kept-call d new s.kept dated whole (registers d.world p vacant) (were-registered d new s.attended p vacant whole.housed.lengths refl refl);
       early = early-dated d new dated (omega arith) s.early;
@@ -169,11 +172,12 @@ module _ (d : Desk) (s : IsSound d) where
         IsSound (in_world (without_participant d n) (ended d.world x.place))
     sound-ended n x there shut = record {
       stocked = stocked-as d new s.stocked refl refl refl (no_slot-same d.world new.world refl);
-      cells = keepers-as d new s.cells refl refl refl;
+      cells = keepers-as d new s.cells refl refl refl refl;
       layered = s.layered;
       accounts = s.accounts;
       owners_home = s.owners_home;
       cells_home = s.cells_home;
+      collectors_home = s.collectors_home;
       attended = attended-ended d s.attended n x there shut new refl refl refl (omega arith);
       kept = kept-call d new s.kept dated whole (ends d.world x.place (s.attended.inside n x there) shut) (were-ended d new s.attended n x.place refl refl);
       early = early-dated d new dated (omega arith) s.early;
@@ -191,11 +195,12 @@ module _ (d : Desk) (s : IsSound d) where
         IsSound (in_world (without_guard d g) (closed d.world p))
     sound-closed g p y there same live = record {
       stocked = stocked-as d new s.stocked refl refl refl (no_slot-same d.world new.world refl);
-      cells = keepers-as d new s.cells refl refl refl;
+      cells = keepers-as d new s.cells refl refl refl refl;
       layered = s.layered;
       accounts = s.accounts;
       owners_home = s.owners_home;
       cells_home = s.cells_home;
+      collectors_home = s.collectors_home;
       attended = attended-closed d s.attended g p y there same new refl refl refl (omega arith);
       kept = kept-call d new s.kept dated whole (closes d.world p live) (were-closed d new s.attended g p y there same refl refl);
       early = early-dated d new dated (omega arith) s.early;
@@ -222,11 +227,12 @@ module _ (d : Desk) (s : IsSound d) where
           let keeps = keeps-deferred d.world p k in
           record {
             stocked = stocked-as d after_deferred s.stocked refl refl refl (no_slot-same d.world after_deferred.world refl);
-            cells = keepers-as d after_deferred s.cells refl refl refl;
+            cells = keepers-as d after_deferred s.cells refl refl refl refl;
             layered = s.layered;
             accounts = s.accounts;
             owners_home = s.owners_home;
             cells_home = s.cells_home;
+            collectors_home = s.collectors_home;
             attended = attended-acts d after_deferred s.attended keeps refl refl (omega arith) p live;
             kept = kept-call d after_deferred s.kept dated-deferred whole (defers d.world p k live free) (were-same d after_deferred refl keeps.guards);
             early = early-dated d after_deferred dated-deferred (omega arith) s.early;
@@ -249,11 +255,12 @@ module _ (d : Desk) (s : IsSound d) where
           let h = sole-is (holding_at d.owners o) k owner in
           record {
             stocked = stocked-as d after_retired s.stocked refl refl (length-set d.dates k d.moment) (no_slot-retired d.world p k (ap is_some stands));
-            cells = keepers-as d after_retired s.cells refl refl refl;
+            cells = keepers-as d after_retired s.cells refl refl refl refl;
             layered = s.layered;
             accounts = counted-retired d s.accounts o h.0 h.1 k h.2 p stands;
             owners_home = at_home-spent d.world.home d.owners o s.owners_home;
             cells_home = s.cells_home;
+            collectors_home = s.collectors_home;
             attended = attended-acts d after_retired s.attended (keeps-retired d.world p k) refl refl (omega arith) p live;
             kept = kept-call d after_retired s.kept dated-retired whole (retires d.world p k live stands)
                 (were-same d after_retired refl (keeps-retired d.world p k).guards);
@@ -284,11 +291,12 @@ module _ (d : Desk) (s : IsSound d) where
           let keeps = keeps-owner_given d.world p k (Some (standing.Shared count)) stands.shared in
           record {
             stocked = stocked-as d after_released s.stocked refl refl dated-released.long (no_slot-given d.world p k (Some (standing.Shared count)) stands.shared);
-            cells = keepers-as d after_released s.cells same.0 same.1 refl;
+            cells = keepers-as d after_released s.cells same.0 same.1 refl refl;
             layered = layers;
             accounts = counted-released d s.accounts o h.0 h.1 k h.2 p count stands.shared;
             owners_home = rw counts.home (at_home-spent d.world.home d.owners o s.owners_home);
             cells_home = rw counts.home s.cells_home;
+            collectors_home = rw counts.home s.collectors_home;
             attended = attended-acts d after_released s.attended keeps refl refl (omega arith) p live;
             kept = kept-call d after_released s.kept dated-released whole (releases d.world p k count live stands.shared)
                 (were-same d after_released refl keeps.guards);
@@ -310,11 +318,12 @@ module _ (d : Desk) (s : IsSound d) where
           let keeps = keeps-time d.world after_shared.world refl in
           record {
             stocked = stocked-as d after_shared s.stocked refl refl refl (no_slot-standing d.world k (standing.Shared (count + 1)) (ap is_some stands.shared));
-            cells = keepers-as d after_shared s.cells refl refl refl;
+            cells = keepers-as d after_shared s.cells refl refl refl refl;
             layered = s.layered;
             accounts = counted-shared d s.accounts (holding.shared k d.world.home.slots) k count refl stands.shared stands.some;
             owners_home = at_home-given d.world.home d.owners (holding.shared k d.world.home.slots) refl s.owners_home;
             cells_home = s.cells_home;
+            collectors_home = s.collectors_home;
             attended = attended-acts d after_shared s.attended keeps refl refl (omega arith) p live;
             kept = kept-call d after_shared s.kept dated-shared whole (shares d.world k count stands.shared) (were-same d after_shared refl keeps.guards);
             early = early-dated d after_shared dated-shared (omega arith) s.early;
@@ -358,13 +367,14 @@ module _ (d : Desk) (s : IsSound d) where
           let keeps = keeps-time d.world after_made.world refl in
           record {
             stocked = stocked-made d k s.stocked slot after_made (standing_first own) refl refl refl refl;
-            cells = keepers-made d after_made c k v s.cells cell slot link whole.filled refl refl refl;
+            cells = keepers-made d after_made c k v s.cells cell slot link whole.filled refl refl refl refl;
             layered = layered-made d s.layered s.accounts s.stocked whole.filled (put_in d value) c k v (standing_first own) slot (moved value put)
                 after_made refl refl;
             accounts = counted-made d s.accounts (put_in d value) c k v (standing_first own) (holding_first own k d.world.home.slots) whole.filled cell slot
                 (first own) (its-slot own) (moved value put);
             owners_home = at_home-given d.world.home (owners_left d.owners value) (holding_first own k d.world.home.slots) (its-home own) (at_home-left value);
             cells_home = s.cells_home;
+            collectors_home = s.collectors_home;
             attended = attended-acts d after_made s.attended keeps refl refl (omega arith) p live;
             kept = kept-made d after_made s.kept dated-made whole c k v (standing_first own) (first own) slot refl (were-same d after_made refl keeps.guards);
             early = early-dated d after_made dated-made (omega arith) s.early;
@@ -396,11 +406,12 @@ module _ (d : Desk) (s : IsSound d) where
           let middle = in_world d (opened holdings_of d.world x.place) in
           record {
             stocked = stocked-as d after_opening s.stocked refl refl long (no_slot-opened d.world x.place holdings_of);
-            cells = keepers-as middle after_opening (keepers-opened d x.place s.cells) refl refl refl;
+            cells = keepers-as middle after_opening (keepers-opened d x.place s.cells) refl refl refl refl;
             layered = layers;
             accounts = counted-opened d s.accounts x.place;
             owners_home = rw counts.home s.owners_home;
             cells_home = rw counts.home s.cells_home;
+            collectors_home = rw counts.home s.collectors_home;
             attended = attended-opened d s.attended n x there after_opening refl refl refl (omega arith);
             kept = kept-opened d after_opening s.attended s.kept whole dated-opened line n x there refl refl;
             early = early-dated d after_opening dated-opened (omega arith) s.early;
@@ -458,6 +469,7 @@ sound-start l d start names = record {
       (accounted-blank holdings_of d.world _ l.slots l.cells l.jobs start.world);
   owners_home = λ n h e. absurd (let never : None ≡ Some h = sym (ap (λ hs. holding_at hs n) start.owners) ∙ e in cc);
   cells_home = λ n h e. absurd (let never : None ≡ Some h = sym (ap (λ hs. holding_at hs n) start.cells) ∙ e in cc);
+  collectors_home = λ n h e. absurd (let never : None ≡ Some h = sym (ap (λ hs. holding_at hs n) start.collectors) ∙ e in cc);
   attended = attended-start d start;
   kept = kept-start d start;
   early = early-start d start;
@@ -487,16 +499,18 @@ sound-start l d start names = record {
   no-keeper : (k : Keeper) (c : ℕ) → Keeps d k c → ⊥
   no-keeper (value_in j) c h = let never : None ≡ Some h.0 = sym (values j) ∙ h.1 in cc
   no-keeper (name_of n) c h = let never : None ≡ Some c = sym (ap (λ hs. cell_of (holding_at hs n)) start.cells) ∙ h in cc
+  no-keeper (collector_named n) c h = let never : None ≡ Some c = sym (ap (λ hs. collector_of (holding_at hs n)) start.collectors) ∙ h in cc
 
 -- a line is counted
 pub sound-later : (d : Desk) → IsSound d → IsSound (later d)
 sound-later d s = record {
   stocked = record { named = s.stocked.named; names = s.stocked.names; dates = s.stocked.dates };
-  cells = keepers-as d (later d) s.cells refl refl refl;
+  cells = keepers-as d (later d) s.cells refl refl refl refl;
   layered = s.layered;
   accounts = s.accounts;
   owners_home = s.owners_home;
   cells_home = s.cells_home;
+  collectors_home = s.collectors_home;
   attended = attended-later d s.attended;
   kept = kept-later d s.kept;
   early = early-later d s.early;

@@ -191,10 +191,10 @@ body-waits w p c s home b bare idle waits = by b waits where
 
 module _ (d : Desk) (p : ℕ) (start : World Val) (s : ℕ) where
   -- the item of slot s doesn't wait yet; the values that are still there are those of the start
-  record IsBefore (w : World Val) : Type 0 where
-    kept : AreKept (in_world d w)
-    values : (k : ℕ) (v : Val) → value_at w k ≡ Some v → value_at start k ≡ Some v
-    idle : is_waiting (standing_at w s) ≡ false
+  pub record IsBefore (w : World Val) : Type 0 where
+    pub kept : AreKept (in_world d w)
+    pub values : (k : ℕ) (v : Val) → value_at w k ≡ Some v → value_at start k ≡ Some v
+    pub idle : is_waiting (standing_at w s) ≡ false
 
   freed-idle : (w : World Val) (k : ℕ) → is_waiting (standing_at w s) ≡ false → is_waiting (standing_at (freed w k) s) ≡ false
   freed-idle w k idle =
@@ -227,7 +227,7 @@ module _ (d : Desk) (p : ℕ) (start : World Val) (s : ℕ) where
       ]
 
   -- all that begins to wait was its owner's whose value was among these
-  all-give : (xs : List What) (w : World Val) → IsBefore w → is_waiting (standing_at (all_reclaimed holdings_of w p xs) s) ≡ true →
+  pub all-give : (xs : List What) (w : World Val) → IsBefore w → is_waiting (standing_at (all_reclaimed holdings_of w p xs) s) ≡ true →
       1 ≤ times_in s (owners_in start (slots_among xs))
   all-give (Job j ∷ xs) w i waits =
       all-give xs (reclaimed holdings_of w p (Job j)) (record { kept = one-kept_on d p w (Job j) i.kept; values = i.values; idle = i.idle }) waits
@@ -322,7 +322,7 @@ module _ (d : Desk) (p : ℕ) (l : p < length d.world.time.places) (stocked : Is
         ap (λ xs. is_waiting (standing_at (all_reclaimed holdings_of first p xs) s)) (sym due)
         ∙ ap (λ (u : World Val). is_waiting (standing_at u s)) (sym c.change) ∙ waits in
         subst (λ ks. 1 ≤ times_in s (owners_in d.world ks)) (sym are) (all-give d p d.world s (reclaims d.world p) first (record {
-          kept = keepers-as d (in_world d first) kept refl refl refl;
+          kept = keepers-as d (in_world d first) kept refl refl refl refl;
           values = λ k v h. h;
           idle = idle;
         }) now)
@@ -367,7 +367,7 @@ module _ (d : Desk) (p : ℕ) (l : p < length d.world.time.places) (stocked : Is
 
 -- ---- the names that an opening answers
 
-counted-contains : (s : ℕ) (xs : List ℕ) → 1 ≤ times_in s xs → Contains xs s
+pub counted-contains : (s : ℕ) (xs : List ℕ) → 1 ≤ times_in s xs → Contains xs s
 counted-contains s [] some = absurd (omega (arith, some))
 counted-contains s (x ∷ xs) some =
     elim (cases_eq x s) [
@@ -381,12 +381,12 @@ counted-contains s (x ∷ xs) some =
     ]
 
 -- a slot is among these exactly if its item is
-among-slots : (s : ℕ) (xs : List What) → times_among s xs ≡ times_in s (slots_among xs)
+pub among-slots : (s : ℕ) (xs : List What) → times_among s xs ≡ times_in s (slots_among xs)
 among-slots s [] = refl
 among-slots s (Item k ∷ xs) = omega (arith, among-slots s xs, count-cons (is_of_slot s) (Item k) xs, count-cons (λ k. k == s) k (slots_among xs))
 among-slots s (Job j ∷ xs) = omega (arith, among-slots s xs, count-cons (is_of_slot s) (Job j) xs)
 
-slots-contain : (xs : List What) (s : ℕ) → Contains (slots_among xs) s → Contains xs (Item s)
+pub slots-contain : (xs : List What) (s : ℕ) → Contains (slots_among xs) s → Contains xs (Item s)
 slots-contain [] s c = absurd (omega (arith, c.1))
 slots-contain (Item k ∷ xs) s (zero, l, e) = (zero, omega arith, ap Item e)
 slots-contain (Item k ∷ xs) s (suc n, l, e) = let rest = slots-contain xs s (n, omega (arith, l), e) in (suc rest.0, omega (arith, rest.1), rest.2)
@@ -514,7 +514,7 @@ module _ {T : Type 0} (w : World T) (p : ℕ) where
     out-counts u k (Some v) i =
         keeps-given_all p (KeepsCounts w) counts-retired counts-cell counts-shared (freed u k) (holds v) (counts-freed u k i)
 
-    all-counts : (xs : List What) (u : World T) → KeepsCounts w u → KeepsCounts w (all_reclaimed holds u p xs)
+    pub all-counts : (xs : List What) (u : World T) → KeepsCounts w u → KeepsCounts w (all_reclaimed holds u p xs)
     all-counts [] u i = i
     all-counts (Item k ∷ xs) u i =
         all-counts xs (reclaimed holds u p (Item k)) (out-counts u k (waiting_value u k (standing_at u k)) i)

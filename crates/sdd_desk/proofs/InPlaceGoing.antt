@@ -91,11 +91,12 @@ module _ (d : Desk) (s : IsSound d) (whole : IsWhole d.world) (p k : ℕ) (live 
         let keeps = keeps-time d.world after_raw.world refl in
         record {
           stocked = stocked-as d after_raw s.stocked refl refl refl (no_slot-standing d.world k Raw (ap is_some stands));
-          cells = keepers-as d after_raw s.cells refl refl refl;
+          cells = keepers-as d after_raw s.cells refl refl refl refl;
           layered = s.layered;
           accounts = accounted-put_out_raw holdings_of d.world k (named_owners d) (named_owners after_raw) stands (named-fewer d o h.0 h.1 k h.2) s.accounts;
           owners_home = at_home-spent d.world.home d.owners o s.owners_home;
           cells_home = s.cells_home;
+          collectors_home = s.collectors_home;
           attended = attended-acts d after_raw s.attended keeps refl refl (omega arith) p live;
           kept = kept-call d after_raw s.kept dated-raw whole (puts_out_raw d.world k stands) (were-same d after_raw refl keeps.guards);
           early = early-dated d after_raw dated-raw (omega arith) s.early;
@@ -121,11 +122,12 @@ module _ (d : Desk) (s : IsSound d) (whole : IsWhole d.world) (p k : ℕ) (live 
         let h = holding.owned k d.world.home.slots in
         record {
           stocked = stocked-as d after_back s.stocked refl refl refl (no_slot-standing d.world k Owned (ap is_some stands));
-          cells = keepers-as d after_back s.cells refl refl refl;
+          cells = keepers-as d after_back s.cells refl refl refl refl;
           layered = s.layered;
           accounts = accounted-taken_back_raw holdings_of d.world k (named_owners d) (named_owners after_back) stands (named-more d h k refl) s.accounts;
           owners_home = at_home-given d.world.home d.owners h refl s.owners_home;
           cells_home = s.cells_home;
+          collectors_home = s.collectors_home;
           attended = attended-acts d after_back s.attended keeps refl refl (omega arith) p live;
           kept = kept-call d after_back s.kept dated-back whole (takes_back_raw d.world k stands) (were-same d after_back refl keeps.guards);
           early = early-dated d after_back dated-back (omega arith) s.early;
@@ -161,12 +163,13 @@ module _ (d : Desk) (s : IsSound d) (whole : IsWhole d.world) (p k : ℕ) (live 
         let lt : k < length d.world.values = inside d.world.values k (ap is_some puts.there) in
         record {
           stocked = stocked-as d put_in_place s.stocked refl refl refl (no_slot-same d.world put_in_place.world refl);
-          cells = keepers-edited d put_in_place s.cells k puts.was puts.now puts.there puts.changed.link refl refl refl;
+          cells = keepers-edited d put_in_place s.cells k puts.was puts.now puts.there puts.changed.link refl refl refl refl;
           layered = layered-edited d d.world k puts.now none-now s.layered;
           accounts = accounted-with_value holdings_of d.world k puts.now (named_owners d) (named_owners put_in_place) lt
               (λ j. omega (arith, none-was j, none-now j, times-held puts.now j)) s.accounts;
           owners_home = s.owners_home;
           cells_home = s.cells_home;
+          collectors_home = s.collectors_home;
           attended = attended-acts d put_in_place s.attended keeps refl refl (omega arith) p live;
           kept = kept-call d put_in_place s.kept dated-in_place whole (edits d.world k puts.now may) (were-same d put_in_place refl keeps.guards);
           early = early-dated d put_in_place dated-in_place (omega arith) s.early;
@@ -246,12 +249,13 @@ module _ (d : Desk) (s : IsSound d) (whole : IsWhole d.world) (p k : ℕ) (live 
         let middle = in_world d (dropped holdings_of d.world p k) in
         record {
           stocked = stocked-as d after_dropped s.stocked refl refl dated-dropped.long (no_slot-dropped d.world p holdings_of k);
-          cells = keepers-as middle after_dropped (keepers-dropped d p k v there s.cells) refl refl refl;
+          cells = keepers-as middle after_dropped (keepers-dropped d p k v there s.cells) refl refl refl refl;
           layered = layered-dropped d d.world p k v there s.layered;
           accounts = accounted-dropped holdings_of d.world p k v (named_owners d) (named_owners after_dropped) (one-owner may.alone) there
               (named-fewer d o h named k slot) s.accounts;
           owners_home = rw counts.home (at_home-spent d.world.home d.owners o s.owners_home);
           cells_home = rw counts.home s.cells_home;
+          collectors_home = rw counts.home s.collectors_home;
           attended = attended-acts d after_dropped s.attended keeps refl refl (omega arith) p live;
           kept = kept-call d after_dropped s.kept dated-dropped whole (drops d.world p k live may) (were-same d after_dropped refl keeps.guards);
           early = early-dated d after_dropped dated-dropped (omega arith) s.early;

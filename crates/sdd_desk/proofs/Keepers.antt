@@ -15,8 +15,8 @@ use Rattle.sdd_desk.proofs.StockWords.{◌≡◌, ◌≢◌, ◌⊎◌, ℕ, ◌
 use Rattle.sdd_desk.specs.declared.val.Body.{Body}
 use Rattle.sdd_desk.specs.declared.val.Body.TheVariants.{Number, Owned, Shared}
 use Rattle.sdd_desk.specs.Val.{owner_in, link_home}
-use Rattle.sdd_desk.specs.Desk.{Desk, holding_at, cell_of, slot_of, in_world}
-use Rattle.sdd_desk.specs.Sound.{AreKept, Keeper, value_in, name_of, Keeps, named_owners, owns}
+use Rattle.sdd_desk.specs.Desk.{Desk, holding_at, cell_of, collector_of, slot_of, in_world}
+use Rattle.sdd_desk.specs.Sound.{AreKept, Keeper, value_in, name_of, collector_named, Keeps, named_owners, owns}
 
 -- ---- who keeps what
 
@@ -26,11 +26,13 @@ one-kept d (value_in s) c x a b =
     let same : a.0 ≡ b.0 = (let e : Some a.0 ≡ Some b.0 = sym a.1 ∙ b.1 in cc) in
     sym a.2 ∙ ap link_of same ∙ b.2
 one-kept d (name_of n) c x a b = let e : Some c ≡ Some x = sym a ∙ b in cc
+one-kept d (collector_named n) c x a b = let e : Some c ≡ Some x = sym a ∙ b in cc
 
 -- with the same values and names the same is kept
-keeps-as : (d new : Desk) → new.world.values ≡ d.world.values → new.cells ≡ d.cells → (k : Keeper) (c : ℕ) → Keeps d k c → Keeps new k c
-keeps-as d new values named (value_in s) c h = (h.0, ap (λ vs. slice_index_or vs s None) values ∙ h.1, h.2)
-keeps-as d new values named (name_of n) c h = ap (λ hs. cell_of (holding_at hs n)) named ∙ h
+keeps-as : (d new : Desk) → new.world.values ≡ d.world.values → new.cells ≡ d.cells → new.collectors ≡ d.collectors → (k : Keeper) (c : ℕ) → Keeps d k c → Keeps new k c
+keeps-as d new values named collecting (value_in s) c h = (h.0, ap (λ vs. slice_index_or vs s None) values ∙ h.1, h.2)
+keeps-as d new values named collecting (name_of n) c h = ap (λ hs. cell_of (holding_at hs n)) named ∙ h
+keeps-as d new values named collecting (collector_named n) c h = ap (λ hs. collector_of (holding_at hs n)) collecting ∙ h
 
 -- an entry of a table that one entry is put into
 entry-set : {E : Type 0} (t : Entries E) (k : ℕ) (e : Option E) (j : ℕ) → k < length t →
@@ -56,21 +58,30 @@ name-inside hs n c e = inside hs n (some-name (holding_at hs n) e) where
   some-name None e = absurd (cc)
   some-name (Some h) e = refl
 
-pub keepers-as : (d new : Desk) → AreKept d → new.world.values ≡ d.world.values → new.world.cells ≡ d.world.cells → new.cells ≡ d.cells → AreKept new
-keepers-as d new i values cells named = record {
-  keeper = λ c some. let k = i.keeper c (rw cells at some) in (k.0, keeps-as d new values named k.0 c k.1);
+-- and who has the name of a collector
+collector-inside : (hs : List (Option Holding)) (n c : ℕ) → collector_of (holding_at hs n) ≡ Some c → n < length hs
+collector-inside hs n c e = inside hs n (some-name (holding_at hs n) e) where
+  some-name : (h : Option Holding) → collector_of h ≡ Some c → IsSome h
+  some-name None e = absurd (cc)
+  some-name (Some h) e = refl
+
+pub keepers-as : (d new : Desk) → AreKept d → new.world.values ≡ d.world.values → new.world.cells ≡ d.world.cells → new.cells ≡ d.cells →
+    new.collectors ≡ d.collectors → AreKept new
+keepers-as d new i values cells named collecting = record {
+  keeper = λ c some. let k = i.keeper c (rw cells at some) in (k.0, keeps-as d new values named collecting k.0 c k.1);
   taken = λ k c h. rw cells (i.taken k c (before k c h));
   apart = λ j k c g h. i.apart j k c (before j c g) (before k c h);
   bare = λ s c h. ap (λ cs. held_in (entry_at cs c)) cells ∙ i.bare s c (before (value_in s) c h);
 } where
   before : (k : Keeper) (c : ℕ) → Keeps new k c → Keeps d k c
-  before = keeps-as new d (sym values) (sym named)
+  before = keeps-as new d (sym values) (sym named) (sym collecting)
 
 -- a cell with a name holds something else
 pub keepers-filled : (d new : Desk) (n c : ℕ) (cell : Cell) → AreKept d → cell_of (holding_at d.cells n) ≡ Some c →
-    new.world.values ≡ d.world.values → new.world.cells ≡ with_entry d.world.cells c cell → new.cells ≡ d.cells → AreKept new
-keepers-filled d new n c cell i is values cells named = record {
-  keeper = λ x some. let k = i.keeper x (was x some) in (k.0, keeps-as d new values named k.0 x k.1);
+    new.world.values ≡ d.world.values → new.world.cells ≡ with_entry d.world.cells c cell → new.cells ≡ d.cells →
+    new.collectors ≡ d.collectors → AreKept new
+keepers-filled d new n c cell i is values cells named collecting = record {
+  keeper = λ x some. let k = i.keeper x (was x some) in (k.0, keeps-as d new values named collecting k.0 x k.1);
   taken = λ k x h. still x (i.taken k x (before k x h));
   apart = λ j k x g h. i.apart j k x (before j x g) (before k x h);
   bare = λ s x h.
@@ -81,7 +92,7 @@ keepers-filled d new n c cell i is values cells named = record {
       ];
 } where
   before : (k : Keeper) (x : ℕ) → Keeps new k x → Keeps d k x
-  before = keeps-as new d (sym values) (sym named)
+  before = keeps-as new d (sym values) (sym named) (sym collecting)
 
   there : IsSome (entry_at d.world.cells c)
   there = i.taken (name_of n) c is
@@ -162,7 +173,7 @@ null = record { held = None; tag = no_tag }
 module _ (d new : Desk) (c k : ℕ) (v : Val) (i : AreKept d) (free_cell : IsEmptyAt d.world.cells c) (free_slot : IsEmptyAt d.world.standings k)
     (link : link_of v ≡ c) (filled : map is_some d.world.values ≡ map is_some d.world.standings)
     (values : new.world.values ≡ slice_set d.world.values k (Some v)) (cells : new.world.cells ≡ with_entry d.world.cells c null)
-    (named : new.cells ≡ d.cells) where
+    (named : new.cells ≡ d.cells) (collecting : new.collectors ≡ d.collectors) where
   no-value : value_at d.world k ≡ None
   no-value = none-filled (value_at d.world k) (filled-there d.world k filled ∙ ap is_some free_slot.1)
 
@@ -183,6 +194,7 @@ module _ (d new : Desk) (c k : ℕ) (v : Val) (i : AreKept d) (free_cell : IsEmp
         | inr other ↦ inr (h.0, sym other.1 ∙ h.1, h.2)
       ]
   made-or-old (name_of n) x h = inr (rw (sym named) h)
+  made-or-old (collector_named n) x h = inr (rw (sym collecting) h)
 
   still-made : (j : Keeper) (x : ℕ) → Keeps d j x → Keeps new j x
   still-made (value_in s) x h =
@@ -191,6 +203,7 @@ module _ (d new : Desk) (c k : ℕ) (v : Val) (i : AreKept d) (free_cell : IsEmp
         | inr other ↦ (h.0, other.1 ∙ h.1, h.2)
       ]
   still-made (name_of n) x h = rw named h
+  still-made (collector_named n) x h = rw collecting h
 
   pub keepers-made : AreKept new
   keepers-made = one-more d new i (value_in k) c null free_cell cells own-made made-or-old still-made (λ s e. refl)
@@ -198,7 +211,7 @@ module _ (d new : Desk) (c k : ℕ) (v : Val) (i : AreKept d) (free_cell : IsEmp
 -- a cell that was free is given a name
 module _ (d new : Desk) (c : ℕ) (h : Holding) (cell : Cell) (i : AreKept d) (empty : IsEmptyAt d.world.cells c) (is : cell_of (Some h) ≡ Some c)
     (values : new.world.values ≡ d.world.values) (cells : new.world.cells ≡ with_entry d.world.cells c cell)
-    (named : new.cells ≡ d.cells ++ Some h ∷ []) where
+    (named : new.cells ≡ d.cells ++ Some h ∷ []) (collecting : new.collectors ≡ d.collectors) where
   name-given : (n : ℕ) → ((n ≡ length d.cells) × (holding_at new.cells n ≡ Some h)) ⊎ (holding_at new.cells n ≡ holding_at d.cells n)
   name-given n =
       elim (cases_eq n (length d.cells)) [
@@ -216,15 +229,51 @@ module _ (d new : Desk) (c : ℕ) (h : Holding) (cell : Cell) (i : AreKept d) (e
         | inl own ↦ inl (ap name_of own.0, (let e : Some x ≡ Some c = sym g ∙ ap cell_of own.1 ∙ is in cc))
         | inr old ↦ inr (sym (ap cell_of old) ∙ g)
       ]
+  named-or-old (collector_named n) x g = inr (rw (sym collecting) g)
 
   still-named : (j : Keeper) (x : ℕ) → Keeps d j x → Keeps new j x
   still-named (value_in s) x g = (g.0, ap (λ vs. slice_index_or vs s None) values ∙ g.1, g.2)
   still-named (name_of n) x g =
       let lt : n < length d.cells = name-inside d.cells n x g in
       rw named (ap cell_of (at-pushed d.cells (Some h) None n (omega (arith, lt))) ∙ g)
+  still-named (collector_named n) x g = rw collecting g
 
   pub keepers-named : AreKept new
   keepers-named = one-more d new i (name_of (length d.cells)) c cell empty cells own-named named-or-old still-named (λ s e. absurd (cc))
+
+-- a cell that was free is given to a new collector
+module _ (d new : Desk) (c : ℕ) (h : Holding) (i : AreKept d) (empty : IsEmptyAt d.world.cells c) (is : collector_of (Some h) ≡ Some c)
+    (values : new.world.values ≡ d.world.values) (cells : new.world.cells ≡ with_entry d.world.cells c null)
+    (named : new.cells ≡ d.cells) (collecting : new.collectors ≡ d.collectors ++ Some h ∷ []) where
+  collector-given : (n : ℕ) → ((n ≡ length d.collectors) × (holding_at new.collectors n ≡ Some h)) ⊎ (holding_at new.collectors n ≡ holding_at d.collectors n)
+  collector-given n =
+      elim (cases_eq n (length d.collectors)) [
+        | inl e ↦ inl (e, rw (e, collecting) (at-end d.collectors (Some h) None))
+        | inr ne ↦ inr (rw collecting (at-pushed d.collectors (Some h) None n ne))
+      ]
+
+  own-collected : Keeps new (collector_named (length d.collectors)) c
+  own-collected = rw collecting (ap collector_of (at-end d.collectors (Some h) None) ∙ is)
+
+  collected-or-old : (j : Keeper) (x : ℕ) → Keeps new j x → ((j ≡ collector_named (length d.collectors)) × (x ≡ c)) ⊎ Keeps d j x
+  collected-or-old (value_in s) x g = inr (g.0, ap (λ vs. slice_index_or vs s None) (sym values) ∙ g.1, g.2)
+  collected-or-old (name_of n) x g = inr (rw (sym named) g)
+  collected-or-old (collector_named n) x g =
+      elim (collector-given n) [
+        | inl own ↦ inl (ap collector_named own.0, (let e : Some x ≡ Some c = sym g ∙ ap collector_of own.1 ∙ is in cc))
+        | inr old ↦ inr (sym (ap collector_of old) ∙ g)
+      ]
+
+  still-collected : (j : Keeper) (x : ℕ) → Keeps d j x → Keeps new j x
+  still-collected (value_in s) x g = (g.0, ap (λ vs. slice_index_or vs s None) values ∙ g.1, g.2)
+  still-collected (name_of n) x g = rw named g
+  still-collected (collector_named n) x g =
+      let lt : n < length d.collectors = collector-inside d.collectors n x g in
+      rw collecting (ap collector_of (at-pushed d.collectors (Some h) None n (omega (arith, lt))) ∙ g)
+
+  pub keepers-collecting : AreKept new
+  keepers-collecting =
+      one-more d new i (collector_named (length d.collectors)) c null empty cells own-collected collected-or-old still-collected (λ s e. absurd (cc))
 
 -- ---- one keeper fewer, with its cell
 
@@ -257,8 +306,8 @@ module _ (d new : Desk) (i : AreKept d) (k : Keeper) (c : ℕ) (is : Keeps d k c
 
 -- a cell with a name is spent
 pub keepers-closed : (d new : Desk) (n c : ℕ) → AreKept d → cell_of (holding_at d.cells n) ≡ Some c → new.world.values ≡ d.world.values →
-    new.world.cells ≡ without_entry d.world.cells c → new.cells ≡ slice_set d.cells n None → AreKept new
-keepers-closed d new n c i is values cells named = one-fewer d new i (name_of n) c is cells was still where
+    new.world.cells ≡ without_entry d.world.cells c → new.cells ≡ slice_set d.cells n None → new.collectors ≡ d.collectors → AreKept new
+keepers-closed d new n c i is values cells named collecting = one-fewer d new i (name_of n) c is cells was still where
   was : (j : Keeper) (x : ℕ) → Keeps new j x → (j ≢ name_of n) × Keeps d j x
   was (value_in s) x h = (λ e. absurd (cc), (h.0, ap (λ vs. slice_index_or vs s None) (sym values) ∙ h.1, h.2))
   was (name_of m) x h =
@@ -269,15 +318,39 @@ keepers-closed d new n c i is values cells named = one-fewer d new i (name_of n)
             (let same : holding_at new.cells m ≡ holding_at d.cells m = rw named (at-other d.cells n m None None ne) in
             (λ e. ne (cc), sym (ap cell_of same) ∙ h))
       ]
+  was (collector_named m) x h = (λ e. absurd (cc), rw (sym collecting) h)
 
   still : (j : Keeper) (x : ℕ) → j ≢ name_of n → Keeps d j x → Keeps new j x
   still (value_in s) x ne h = (h.0, ap (λ vs. slice_index_or vs s None) values ∙ h.1, h.2)
   still (name_of m) x ne h = rw named (ap cell_of (at-other d.cells n m None None (λ e. ne (ap name_of e))) ∙ h)
+  still (collector_named m) x ne h = rw collecting h
+
+-- and so is a collector
+pub keepers-uncollected : (d new : Desk) (n c : ℕ) → AreKept d → collector_of (holding_at d.collectors n) ≡ Some c → new.world.values ≡ d.world.values →
+    new.world.cells ≡ without_entry d.world.cells c → new.cells ≡ d.cells → new.collectors ≡ slice_set d.collectors n None → AreKept new
+keepers-uncollected d new n c i is values cells named collecting = one-fewer d new i (collector_named n) c is cells was still where
+  was : (j : Keeper) (x : ℕ) → Keeps new j x → (j ≢ collector_named n) × Keeps d j x
+  was (value_in s) x h = (λ e. absurd (cc), (h.0, ap (λ vs. slice_index_or vs s None) (sym values) ∙ h.1, h.2))
+  was (name_of m) x h = (λ e. absurd (cc), rw (sym named) h)
+  was (collector_named m) x h =
+      elim (cases_eq m n) [
+        | inl e ↦ absurd (let spent : holding_at new.collectors m ≡ None = rw (e, collecting) (at-default d.collectors n None) in
+            let none : None ≡ Some x = sym (ap collector_of spent) ∙ h in cc)
+        | inr ne ↦
+            (let same : holding_at new.collectors m ≡ holding_at d.collectors m = rw collecting (at-other d.collectors n m None None ne) in
+            (λ e. ne (cc), sym (ap collector_of same) ∙ h))
+      ]
+
+  still : (j : Keeper) (x : ℕ) → j ≢ collector_named n → Keeps d j x → Keeps new j x
+  still (value_in s) x ne h = (h.0, ap (λ vs. slice_index_or vs s None) values ∙ h.1, h.2)
+  still (name_of m) x ne h = rw named h
+  still (collector_named m) x ne h =
+      rw collecting (ap collector_of (at-other d.collectors n m None None (λ e. ne (ap collector_named e))) ∙ h)
 
 -- a value is gone, with its link
 module _ (d new : Desk) (i : AreKept d) (k : ℕ) (v : Val) (there : value_at d.world k ≡ Some v)
     (values : new.world.values ≡ slice_set d.world.values k None) (cells : new.world.cells ≡ without_entry d.world.cells (link_of v))
-    (named : new.cells ≡ d.cells) where
+    (named : new.cells ≡ d.cells) (collecting : new.collectors ≡ d.collectors) where
   was-kept : (j : Keeper) (x : ℕ) → Keeps new j x → (j ≢ value_in k) × Keeps d j x
   was-kept (value_in s) x h =
       elim (cases_eq s k) [
@@ -288,19 +361,22 @@ module _ (d new : Desk) (i : AreKept d) (k : ℕ) (v : Val) (there : value_at d.
             (λ e. ne (cc), (h.0, sym same ∙ h.1, h.2)))
       ]
   was-kept (name_of n) x h = (λ e. absurd (cc), ap (λ hs. cell_of (holding_at hs n)) (sym named) ∙ h)
+  was-kept (collector_named n) x h = (λ e. absurd (cc), ap (λ hs. collector_of (holding_at hs n)) (sym collecting) ∙ h)
 
   still-kept : (j : Keeper) (x : ℕ) → j ≢ value_in k → Keeps d j x → Keeps new j x
   still-kept (value_in s) x ne h =
       let same : value_at new.world s ≡ value_at d.world s = rw values (at-other d.world.values k s None None (λ e. ne (ap value_in e))) in
       (h.0, same ∙ h.1, h.2)
   still-kept (name_of n) x ne h = ap (λ hs. cell_of (holding_at hs n)) named ∙ h
+  still-kept (collector_named n) x ne h = ap (λ hs. collector_of (holding_at hs n)) collecting ∙ h
 
   pub keepers-gone : AreKept new
   keepers-gone = one-fewer d new i (value_in k) (link_of v) (v, there, refl) cells was-kept still-kept
 
 -- a value is another, with the same link
 module _ (d new : Desk) (i : AreKept d) (k : ℕ) (was now : Val) (there : value_at d.world k ≡ Some was) (link : link_of now ≡ link_of was)
-    (values : new.world.values ≡ slice_set d.world.values k (Some now)) (cells : new.world.cells ≡ d.world.cells) (named : new.cells ≡ d.cells) where
+    (values : new.world.values ≡ slice_set d.world.values k (Some now)) (cells : new.world.cells ≡ d.world.cells)
+    (named : new.cells ≡ d.cells) (collecting : new.collectors ≡ d.collectors) where
   value-edited : (s : ℕ) → ((s ≡ k) × (value_at new.world s ≡ Some now)) ⊎ ((s ≢ k) × (value_at new.world s ≡ value_at d.world s))
   value-edited s = rw values (entry-set d.world.values k (Some now) s (inside d.world.values k (ap is_some there)))
 
@@ -314,6 +390,7 @@ module _ (d new : Desk) (i : AreKept d) (k : ℕ) (was now : Val) (there : value
         | inr other ↦ (h.0, sym other.1 ∙ h.1, h.2)
       ]
   before-edit (name_of n) x h = ap (λ hs. cell_of (holding_at hs n)) (sym named) ∙ h
+  before-edit (collector_named n) x h = ap (λ hs. collector_of (holding_at hs n)) (sym collecting) ∙ h
 
   after-edit : (j : Keeper) (x : ℕ) → Keeps d j x → Keeps new j x
   after-edit (value_in s) x h =
@@ -324,6 +401,7 @@ module _ (d new : Desk) (i : AreKept d) (k : ℕ) (was now : Val) (there : value
         | inr other ↦ (h.0, other.1 ∙ h.1, h.2)
       ]
   after-edit (name_of n) x h = ap (λ hs. cell_of (holding_at hs n)) named ∙ h
+  after-edit (collector_named n) x h = ap (λ hs. collector_of (holding_at hs n)) collecting ∙ h
 
   pub keepers-edited : AreKept new
   keepers-edited = record {
@@ -379,7 +457,7 @@ keepers-dropped d p k v there i =
     let g = body-given (vacated d.world k) p (link_of v) (link_home v) (body_of v) (i.bare k (link_of v) (v, there, refl)) in
     keepers-gone d (in_world d (dropped holdings_of d.world p k)) i k v there
     (ap (λ (o : Option Val). (dropped_out holdings_of d.world p k o).values) there ∙ g.0)
-    (ap (λ (o : Option Val). (dropped_out holdings_of d.world p k o).cells) there ∙ g.1) refl
+    (ap (λ (o : Option Val). (dropped_out holdings_of d.world p k o).cells) there ∙ g.1) refl refl
 
 -- ---- an opening
 
@@ -391,21 +469,21 @@ module _ (d : Desk) (p : ℕ) where
   out-kept w k (Some v) is i =
       let there = is v refl in
       let g = body-given (freed w k) p (link_of v) (link_home v) (body_of v) (i.bare k (link_of v) (v, there, refl)) in
-      keepers-gone (in_world d w) (in_world d (taken_out holdings_of w p k (Some v))) i k v there g.0 g.1 refl
+      keepers-gone (in_world d w) (in_world d (taken_out holdings_of w p k (Some v))) i k v there g.0 g.1 refl refl
 
   pub waiting-there : (w : World Val) (k : ℕ) (s : Option Standing) (v : Val) → waiting_value w k s ≡ Some v → value_at w k ≡ Some v
   waiting-there w k s v e = grind arith
 
   pub one-kept_on : (w : World Val) (x : What) → AreKept (in_world d w) → AreKept (in_world d (reclaimed holdings_of w p x))
   one-kept_on w (Item k) i = out-kept w k (waiting_value w k (standing_at w k)) (waiting-there w k (standing_at w k)) i
-  one-kept_on w (Job j) i = keepers-as (in_world d w) (in_world d (reclaimed holdings_of w p (Job j))) i refl refl refl
+  one-kept_on w (Job j) i = keepers-as (in_world d w) (in_world d (reclaimed holdings_of w p (Job j))) i refl refl refl refl
 
-  all-kept : (xs : List What) (w : World Val) → AreKept (in_world d w) → AreKept (in_world d (all_reclaimed holdings_of w p xs))
+  pub all-kept : (xs : List What) (w : World Val) → AreKept (in_world d w) → AreKept (in_world d (all_reclaimed holdings_of w p xs))
   all-kept [] w i = i
   all-kept (x ∷ xs) w i = all-kept xs (reclaimed holdings_of w p x) (one-kept_on w x i)
 
   in_time : (w u : World Val) → u.values ≡ w.values → u.cells ≡ w.cells → AreKept (in_world d w) → AreKept (in_world d u)
-  in_time w u values cells i = keepers-as (in_world d w) (in_world d u) i values cells refl
+  in_time w u values cells i = keepers-as (in_world d w) (in_world d u) i values cells refl refl
 
   pub keepers-opened : AreKept d → AreKept (in_world d (steps.opened holdings_of d.world p))
   keepers-opened i = by (is_open (place_at d.world p)) (finds_another (steps.nested d.world p).time p) where

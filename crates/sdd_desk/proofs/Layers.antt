@@ -127,6 +127,10 @@ module _ (d : Desk) where
   layered-opened w p l =
       keeps-opened AreLayered (λ u q j out g. g) (λ u c g. g) (λ u j n m some g. g) layered-freed (λ u t g. g) (λ u n g. g) w p l
 
+  pub layered-reclaimed : (w : World Val) (p : ℕ) (xs : List What) → AreLayered w → AreLayered (all_reclaimed holdings_of w p xs)
+  layered-reclaimed w p xs l =
+      keeps-all AreLayered (λ u q j out g. g) (λ u c g. g) (λ u j n m some g. g) layered-freed (λ u t g. g) (λ u n g. g) w p xs l
+
   -- an item is dropped in its place
   pub layered-dropped : (w : World Val) (p k : ℕ) (v : Val) → value_at w k ≡ Some v → AreLayered w → AreLayered (dropped holdings_of w p k)
   layered-dropped w p k v there l =

@@ -11,6 +11,8 @@ pub mod Layers
 pub mod Gone
 pub mod Deferred
 pub mod Going
+pub mod Collected
+pub mod CollectorGoing
 pub mod CellGoing
 pub mod InPlaceGoing
 pub mod Runs

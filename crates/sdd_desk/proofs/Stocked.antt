@@ -25,7 +25,7 @@ module _ {T : Type 0} where
   no_slot-then a b = record { taken = λ s t. a.taken s (b.taken s t); slots = b.slots ∙ a.slots }
 
   -- a slot that is taken stands otherwise
-  no_slot-set : (w : World T) (k : ℕ) (s : Standing) (t : Time) → IsSome (standing_at w k) →
+  pub no_slot-set : (w : World T) (k : ℕ) (s : Standing) (t : Time) → IsSome (standing_at w k) →
       TakesNoSlot w (record w { time = t; standings = with_entry w.standings k s })
   no_slot-set w k s t some = record {
     taken = λ j now. subst (λ b. b ≡ true) (as-each is_some w.standings k (Some s) None (sym some) j) now;
@@ -79,7 +79,7 @@ module _ {T : Type 0} where
       one-no_slot u (Item k) i = out-no_slot u k (waiting_value u k (standing_at u k)) i
       one-no_slot u (Job j) i = record { taken = i.taken; slots = i.slots }
 
-      all-no_slot : (xs : List What) (u : World T) → TakesNoSlot w u → TakesNoSlot w (all_reclaimed holds u p xs)
+      pub all-no_slot : (xs : List What) (u : World T) → TakesNoSlot w u → TakesNoSlot w (all_reclaimed holds u p xs)
       all-no_slot [] u i = i
       all-no_slot (x ∷ xs) u i = all-no_slot xs (reclaimed holds u p x) (one-no_slot u x i)
 

@@ -25,6 +25,8 @@ pub record Desk : Type 0 where
   pub owners : List (Option Holding)
   -- each cell, until it is spent
   pub cells : List (Option Holding)
+  -- each collector, by its cell, until it is spent
+  pub collectors : List (Option Holding)
   -- of each item its slot
   pub slots : List ℕ
   -- of each slot the item that it had last
@@ -134,6 +136,15 @@ shared_cell (Some (atomic_owned c home)) = None
 shared_cell (Some (atomic_shared c home)) = Some c
 shared_cell (Some (atomic_raw c home)) = None
 
+-- the number of a collector's cell
+abbrev pub collector_of : Option Holding → Option ℕ
+collector_of None = None
+collector_of (Some (owned k home)) = None
+collector_of (Some (shared k home)) = None
+collector_of (Some (atomic_owned c home)) = None
+collector_of (Some (atomic_shared c home)) = None
+collector_of (Some (atomic_raw c home)) = Some c
+
 -- ---- what changes
 
 abbrev pub in_world : Desk → World Val → Desk
@@ -169,6 +180,13 @@ with_guard d n p =
       guards = d.guards ++ Some now ∷ [];
     }
 
+-- the next collector has cell c
+abbrev pub with_collector : Desk → ℕ → Desk
+with_collector d c = record d { collectors = d.collectors ++ Some (atomic_raw c d.world.home.cells) ∷ [] }
+
+abbrev pub without_collector : Desk → ℕ → Desk
+without_collector d k = record d { collectors = slice_set d.collectors k None }
+
 abbrev pub without_guard : Desk → ℕ → Desk
 without_guard d g = record d { guards = slice_set d.guards g None }
 
@@ -199,6 +217,7 @@ pub record IsStart (limits : Limits) (d : Desk) : Type 0 where
   pub guards : d.guards ≡ []
   pub owners : d.owners ≡ []
   pub cells : d.cells ≡ []
+  pub collectors : d.collectors ≡ []
   pub slots : d.slots ≡ []
   pub dates : d.dates ≡ replicate limits.slots 0
   pub jobs : d.jobs ≡ 0

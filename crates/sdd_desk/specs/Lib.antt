@@ -3,6 +3,7 @@ pub mod Desk
 pub mod Made
 pub mod Shown
 pub mod InPlace
+pub mod Collecting
 pub mod Script
 pub mod Sound
 pub mod Held

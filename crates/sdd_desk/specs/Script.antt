@@ -13,9 +13,11 @@ use Rattle.sdd_store.specs.declared.standing.Standing.TheVariants.{Owned, Raw, S
 use Rattle.sdd_slots.specs.Slots.{IsSharedBy, is_waiting}
 use Rattle.sdd_base.specs.declared.limits.Limits.{Limits}
 use Rattle.sdd_base.specs.Holding.{Holding, owned, shared, atomic_owned, atomic_shared, atomic_raw}
-use Rattle.sdd_base.specs.World.{World, place_at, standing_at}
+use Rattle.sdd_base.specs.World.{World, IsGuarded, place_at, standing_at}
+use Rattle.sdd_base.specs.Collecting.{collector_closed, waiting_for}
+use Rattle.sdd_slots.specs.Cells.{null_pointer}
 use Rattle.sdd_base.specs.InPlace.{MayInPlace, RefusedInPlace}
-use Rattle.sdd_base.specs.Steps.{registered, ended, retired, opened, closed, stirred, accelerated, deferred, reclaims, owner_given, with_standing, without_cell, cell_closed}
+use Rattle.sdd_base.specs.Steps.{registered, ended, retired, opened, closed, stirred, accelerated, deferred, reclaims, owner_given, with_standing, without_cell, cell_closed, pointing}
 use Rattle.sdd_base.specs.Steps as steps
 use Rattle.sdd_base.specs.Calls.{Calls}
 use Rattle.sdd_base.specs.Left.{GoesInTime}
@@ -35,8 +37,9 @@ use Rattle.sdd_desk.specs.declared.val.Val.{Val}
 use Rattle.sdd_desk.specs.Val.{holdings_of}
 use Rattle.sdd_desk.specs.Made.{Makes, RefusesItem, put_in}
 use Rattle.sdd_desk.specs.Shown.{Shows, IsCell, item_held, item_in}
+use Rattle.sdd_desk.specs.Collecting.{Collects}
 use Rattle.sdd_desk.specs.InPlace.{OwnsNumber, Puts, Drops, RefusesDrop, IsRaw}
-use Rattle.sdd_desk.specs.Desk.{Desk, Opening, IsStart, IsDated, IsThere, WaitsAt, Leaves, opening_at, holding_at, slot_at, date_at, place_of, since_of, slot_of, sole_slot, shared_slot, shared_cell, in_world, with_owner, without_owner, with_item, with_job, with_newcomer, without_participant, with_guard, without_guard, later}
+use Rattle.sdd_desk.specs.Desk.{Desk, Opening, IsStart, IsDated, IsThere, WaitsAt, Leaves, opening_at, holding_at, slot_at, date_at, place_of, since_of, slot_of, sole_slot, shared_slot, shared_cell, collector_of, in_world, with_owner, without_owner, with_collector, without_collector, with_item, with_job, with_newcomer, without_participant, with_guard, without_guard, later}
 use Rattle.sdd_desk.specs.Desk as desk
 
 -- ---- what is there, and of the right kind
@@ -69,6 +72,10 @@ IsCellName d c = IsSome (desk.cell_of (holding_at d.cells c))
 
 abbrev pub IsSharedCell : Desk → ℕ → Type 0
 IsSharedCell d c = IsSome (shared_cell (holding_at d.cells c))
+
+-- the name is that of a collector
+abbrev pub IsCollector : Desk → ℕ → Type 0
+IsCollector d k = IsSome (collector_of (holding_at d.collectors k))
 
 -- what goes into a cell of this kind is none, or there and of its kind
 abbrev pub Fits : Desk → Option Holding → Option OwnerName → Type 0
@@ -137,6 +144,9 @@ IsValid d n (call.Into c) = IsParticipant d n × IsCellName d c.0
 IsValid d n (call.Copy c g) = HasOpen d n g.0 × IsSharedCell d c.0
 IsValid d n (call.Share c g) = HasOpen d n g.0 × IsSharedCell d c.0
 IsValid d n (call.CloseCell c) = IsParticipant d n × IsCellName d c.0
+IsValid d n call.Collector = IsParticipant d n
+IsValid d n (call.Collect o g k) = HasOpen d n g.0 × IsOwner d o.0 × IsCollector d k.0
+IsValid d n (call.CloseCollector k) = IsParticipant d n × IsCollector d k.0
 
 -- ---- what an action answers and leaves
 
@@ -317,6 +327,18 @@ Does d n p (call.Share c g) given new = (k : ℕ) × (s : ℕ) × (cell : Cell) 
 Does d n p (call.CloseCell c) reply.Done new =
     (k : ℕ) × (desk.cell_of (holding_at d.cells c.0) ≡ Some k)
     × Leaves (record d { world = cell_closed d.world p k; cells = slice_set d.cells c.0 None }) new
+-- a free cell is taken, whichever
+Does d n p call.Collector (reply.Collector k) new =
+    (k.0 ≡ length d.collectors)
+    × ((c : ℕ) × IsEmptyAt d.world.cells c × Leaves (in_world (with_collector d c) (pointing d.world c null_pointer)) new)
+Does d n p call.Collector (reply.Refused NoCell) new = IsFull d.world.cells × (new ≡ d)
+Does d n p (call.Collect o g k) given new =
+    (c : ℕ) × (h : Holding) × (w : World Val) × (collector_of (holding_at d.collectors k.0) ≡ Some c) × (holding_at d.owners o.0 ≡ Some h)
+    × Collects d.world p c h given w × Leaves (in_world (without_owner d o.0) w) new
+Does d n p (call.CloseCollector k) reply.Done new =
+    (c : ℕ) × (collector_of (holding_at d.collectors k.0) ≡ Some c) × ¬ (IsGuarded d.world)
+    × Leaves (in_world (without_collector d k.0) (collector_closed holdings_of d.world p c)) new
+Does d n p (call.CloseCollector k) (reply.Refused GuardOpen) new = IsGuarded d.world × (new ≡ d)
 -- no other reply is given
 Does d n p action other new = ⊥
 
@@ -336,6 +358,8 @@ Meets d call other new = ⊥
 -- the slot's item is reclaimed by the call
 abbrev pub IsReclaimed : Desk → Call → Reply → ℕ → Type 0
 IsReclaimed d (At n call.Open) (reply.Guard g epoch) s = Contains (reclaims d.world (place_of d n.0)) (Item s)
+IsReclaimed d (At n (call.CloseCollector k)) reply.Done s =
+    (c : ℕ) × (collector_of (holding_at d.collectors k.0) ≡ Some c) × Contains (waiting_for d.world c) (Item s)
 IsReclaimed d call other s = ⊥
 
 -- the job in this place of the table of jobs is run by the call

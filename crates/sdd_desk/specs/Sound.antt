@@ -10,7 +10,7 @@ use Rattle.sdd_base.specs.Accounts.{IsAccounted, is_owner_of, times_held}
 use Rattle.sdd_base.specs.Under.{IsSafe}
 use Rattle.sdd_desk.specs.declared.val.Val.{Val}
 use Rattle.sdd_desk.specs.Val.{holdings_of, link_of}
-use Rattle.sdd_desk.specs.Desk.{Desk, Opening, opening_at, holding_at, slot_at, name_at, date_at, cell_of}
+use Rattle.sdd_desk.specs.Desk.{Desk, Opening, opening_at, holding_at, slot_at, name_at, date_at, cell_of, collector_of}
 
 -- which item is in which slot
 pub record IsStocked (d : Desk) : Type 0 where
@@ -19,14 +19,16 @@ pub record IsStocked (d : Desk) : Type 0 where
   pub names : length d.names ≡ length d.world.standings
   pub dates : length d.dates ≡ length d.world.standings
 
--- what keeps a cell: the value in a slot, whose link it is, or a name
+-- what keeps a cell: the value in a slot, whose link it is, or a name, of a cell or of a collector
 pub data Keeper : Type 0 where
   value_in : (slot : ℕ) → Keeper
   name_of : (cell : ℕ) → Keeper
+  collector_named : (collector : ℕ) → Keeper
 
 abbrev pub Keeps : Desk → Keeper → ℕ → Type 0
 Keeps d (value_in s) c = (v : Val) × (value_at d.world s ≡ Some v) × (link_of v ≡ c)
 Keeps d (name_of n) c = cell_of (holding_at d.cells n) ≡ Some c
+Keeps d (collector_named n) c = collector_of (holding_at d.collectors n) ≡ Some c
 
 -- the cells that are taken are those that something keeps, each one thing; links hold nothing
 pub record AreKept (d : Desk) : Type 0 where
@@ -88,6 +90,7 @@ pub record IsSound (d : Desk) : Type 0 where
   pub accounts : IsAccounted holdings_of (named_owners d) d.world
   pub owners_home : AreAtHome d d.owners
   pub cells_home : AreAtHome d d.cells
+  pub collectors_home : AreAtHome d d.collectors
   pub attended : IsAttended d
   pub kept : IsKept d
   -- in a line so far

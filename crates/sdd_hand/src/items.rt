@@ -1,15 +1,16 @@
 //! Names of items: the slots that they have, and since when an item waits.
-ghost use Rattle.std.specs.Prelude.{◌≡◌, ◌↔◌, ◌<◌, ℕ, All, IsSome, IsTrue, None, Some, MatchOption, length, slice_index, slice_index_or, IfOk, IfSome, map, if◌then◌else◌};
+ghost use Rattle.std.specs.Prelude.{◌≡◌, ◌↔◌, ◌<◌, ◌≤◌, ◌^◌, ℕ, All, IsSome, IsTrue, None, Some, MatchOption, length, slice_index, slice_index_or, IfOk, IfSome, map, if◌then◌else◌};
 ghost use Rattle.std.specs.Option.{option_map};
 ghost use Rattle.sdd_base.specs.World.{World, standing_at, value_at};
 ghost use Rattle.sdd_slots.specs.Slots.{is_waiting};
 ghost use Rattle.sdd_desk.specs.declared.val.Val.{Val};
 ghost use Rattle.sdd_desk.specs.Val.{body_of};
 ghost use Rattle.sdd_desk.specs.Shown.{told_of, item_in};
-ghost use Rattle.sdd_hand.specs.Hand.{SlotInside, CanPointAt, CanCompareAt, dated_if_waiting};
+ghost use Rattle.sdd_hand.specs.Hand.{SlotInside, slots_waiting_for, CanPointAt, CanCompareAt, dated_if_waiting};
 ghost use Rattle.sdd_desk.specs.Held.{owners_in, slots_among, waits_among, slot_held};
 ghost use Rattle.sdd_desk.specs.declared.val.Body.{Body};
 ghost use Rattle.sdd_desk.specs.declared.val.Body.TheVariants.{Number};
+ghost use Rattle.sdd_store.specs.Collecting.{is_private_to};
 ghost use Rattle.sdd_slots.specs.Slots as slots;
 
 use sdd_base::inner::{slot_of_owner, slot_of_shared};
@@ -137,6 +138,35 @@ pub fn slots_among(alloc: Global, waiting: &[What]) -> Result<Vec<u32>, AllocErr
         }
     }
     Ok(found)
+}
+
+/// Of so many slots, those whose items wait for a collector.
+pub fn slots_for(
+    alloc: Global,
+    world: &World<Val>,
+    collector: u32,
+    slots: usize,
+) -> Result<Vec<u32>, AllocError>
+    requires small { slots ≤ 2 ^ 32 }
+    ensures { IfOk result (λ found. found.items ≡ slots_waiting_for world.now collector slots) }
+{
+    let mut found = Vec::new(alloc);
+    for slot in 0..slots {
+        if waits_for(world, slot as u32, collector) {
+            found.push(slot as u32)?;
+        }
+    }
+    Ok(found)
+}
+
+/// The item in a slot waits for a collector.
+fn waits_for(world: &World<Val>, slot: u32, collector: u32) -> bool
+    ensures { result ≡ is_private_to collector (standing_at world.now slot) }
+{
+    match standing_of(world, slot) {
+        Some(Standing::Private(of)) => of == collector,
+        _ => false,
+    }
 }
 
 /// The names of the items that these slots had last.

@@ -26,7 +26,7 @@ use Rattle.sdd_lines.specs.declared.call.Action.{Action}
 use Rattle.sdd_lines.specs.declared.call.Action.TheVariants as action
 use Rattle.sdd_lines.specs.declared.call.Value.TheVariants as value
 use Rattle.sdd_lines.specs.declared.call.Argument.{Argument}
-use Rattle.sdd_lines.specs.declared.call.Argument.TheVariants.{Number, Guard, Owner, Item, Cell, Tag, Word}
+use Rattle.sdd_lines.specs.declared.call.Argument.TheVariants.{Number, Guard, Owner, Item, Cell, Collector, Tag, Word}
 use Rattle.sdd_lines.specs.declared.call.Word.{Word as FixedWord}
 use Rattle.sdd_lines.specs.declared.call.Word.TheVariants.{Owned, Shared, Of, If, Was, Now}
 use Rattle.sdd_lines.specs.Call.{IsNumber, IsWordOf, joined, fixed, word_of, spoken, words_of, line_of, HasNumber, HasNumbers, IsTextOf, IsCallText}
@@ -144,6 +144,7 @@ argument_said (Owner (Some o)) h = name_said 111 o.0 h ∙ rw (number_at-decimal
 argument_said (Item None) h = refl
 argument_said (Item (Some i)) h = name_said 105 i.0 h ∙ rw (number_at-decimal i.0 h) refl
 argument_said (Cell c) h = name_said 99 c.0 h ∙ rw (number_at-decimal c.0 h) refl
+argument_said (Collector k) h = name_said 107 k.0 h ∙ rw (number_at-decimal k.0 h) refl
 argument_said (Tag t) h = tag_said t
 argument_said (Word w) h = fixed_said w
 
@@ -268,6 +269,7 @@ with_said (Guard g ∷ []) = search rules
 with_said (Owner (Some o) ∷ []) = search rules
 with_said (Item (Some i) ∷ []) = search rules
 with_said (Cell c ∷ []) = search rules
+with_said (Collector k ∷ []) = search rules
 with_said (Item (Some i) ∷ Guard g ∷ []) = search rules
 with_said (Owner (Some o) ∷ Number n ∷ []) = search rules
 with_said (Cell c ∷ Guard g ∷ []) = search rules
@@ -275,6 +277,7 @@ with_said (Word Of ∷ Owner (Some o) ∷ []) = search rules
 with_said (Word Owned ∷ Owner x ∷ []) = search rules
 with_said (Word Shared ∷ Owner x ∷ []) = search rules
 with_said (Cell c ∷ Owner x ∷ Tag t ∷ []) = search rules
+with_said (Owner (Some o) ∷ Guard g ∷ Collector k ∷ []) = search rules
 with_said (Cell c ∷ Tag t ∷ Word If ∷ Tag u ∷ []) = search rules
 with_said (Cell c ∷ Guard g ∷ Word Was ∷ Item y ∷ Tag t ∷ Word Now ∷ Owner x ∷ Tag u ∷ []) = search rules
 with_said arguments = tt

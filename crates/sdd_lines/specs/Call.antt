@@ -2,12 +2,12 @@
 use Rattle.std.specs.Prelude.{◌≡◌, ℕ, ◌^◌, ◌<◌, List, [], ◌∷◌, Some, None, codes, map}
 use Rattle.std.specs.List.{join_with_byte, AllByRecursion}
 use Rattle.std.specs.Fmt.{decimal}
-use Rattle.sdd_lines.specs.Name.{place, guard, owner, item, cell, tag}
+use Rattle.sdd_lines.specs.Name.{place, guard, owner, item, cell, collector, tag}
 use Rattle.sdd_lines.specs.declared.call.Action.{Action}
 use Rattle.sdd_lines.specs.declared.call.Action.TheVariants as action
 use Rattle.sdd_lines.specs.declared.call.Value.TheVariants as value
 use Rattle.sdd_lines.specs.declared.call.Argument.{Argument}
-use Rattle.sdd_lines.specs.declared.call.Argument.TheVariants.{Number, Guard, Owner, Item, Cell, Tag, Word}
+use Rattle.sdd_lines.specs.declared.call.Argument.TheVariants.{Number, Guard, Owner, Item, Cell, Collector, Tag, Word}
 use Rattle.sdd_lines.specs.declared.call.Word.{Word as FixedWord}
 use Rattle.sdd_lines.specs.declared.call.Word.TheVariants.{Owned, Shared, Of, If, Was, Now}
 use Rattle.sdd_lines.specs.declared.call.Call.{Call}
@@ -35,6 +35,7 @@ word_of (Owner (Some o)) = owner o
 word_of (Item None) = codes "null"
 word_of (Item (Some i)) = item i
 word_of (Cell c) = cell c
+word_of (Collector k) = collector k
 word_of (Tag t) = tag t
 word_of (Word w) = fixed w
 
@@ -72,8 +73,11 @@ spoken (action.Exchange c g y t x u) =
 spoken (action.Copy c g) = (codes "copy", Cell c ∷ Guard g ∷ [])
 spoken (action.Share c g) = (codes "share", Cell c ∷ Guard g ∷ [])
 spoken (action.Into c) = (codes "into", Cell c ∷ [])
+spoken action.Collector = (codes "collector", [])
+spoken (action.Collect o g k) = (codes "collect", Owner (Some o) ∷ Guard g ∷ Collector k ∷ [])
 spoken (action.Close g) = (codes "close", Guard g ∷ [])
 spoken (action.CloseCell c) = (codes "close", Cell c ∷ [])
+spoken (action.CloseCollector k) = (codes "close", Collector k ∷ [])
 spoken action.End = (codes "end", [])
 
 -- a place, a verb and its arguments
@@ -101,6 +105,7 @@ HasNumber (Guard g) = IsNumber g.0
 HasNumber (Owner (Some o)) = IsNumber o.0
 HasNumber (Item (Some i)) = IsNumber i.0
 HasNumber (Cell c) = IsNumber c.0
+HasNumber (Collector k) = IsNumber k.0
 HasNumber argument = Unit {0}
 
 -- the numbers of a call have 64 bits each

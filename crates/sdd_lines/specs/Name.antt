@@ -8,6 +8,7 @@ use Rattle.sdd_lines.specs.declared.name.GuardName.{GuardName}
 use Rattle.sdd_lines.specs.declared.name.OwnerName.{OwnerName}
 use Rattle.sdd_lines.specs.declared.name.ItemName.{ItemName}
 use Rattle.sdd_lines.specs.declared.name.CellName.{CellName}
+use Rattle.sdd_lines.specs.declared.name.CollectorName.{CollectorName}
 use Rattle.sdd_lines.specs.declared.name.JobName.{JobName}
 
 abbrev pub place : PlaceName → List ℕ
@@ -24,6 +25,9 @@ item name = codes "i" ++ decimal name.0
 
 abbrev pub cell : CellName → List ℕ
 cell name = codes "c" ++ decimal name.0
+
+abbrev pub collector : CollectorName → List ℕ
+collector name = codes "k" ++ decimal name.0
 
 abbrev pub job : JobName → List ℕ
 job name = codes "j" ++ decimal name.0

@@ -11,7 +11,7 @@ use Rattle.sdd_lines.specs.declared.call.Action.{Action}
 use Rattle.sdd_lines.specs.declared.call.Action.TheVariants as action
 use Rattle.sdd_lines.specs.declared.call.Value.TheVariants as value
 use Rattle.sdd_lines.specs.declared.call.Argument.{Argument}
-use Rattle.sdd_lines.specs.declared.call.Argument.TheVariants.{Number, Guard, Owner, Item, Cell, Tag, Word}
+use Rattle.sdd_lines.specs.declared.call.Argument.TheVariants.{Number, Guard, Owner, Item, Cell, Collector, Tag, Word}
 use Rattle.sdd_lines.specs.declared.call.Word.TheVariants.{Owned, Shared, Of, If, Was, Now}
 use Rattle.sdd_lines.specs.declared.call.Call.{Call}
 use Rattle.sdd_lines.specs.declared.call.Call.TheVariants.{Register, Tally, At}
@@ -46,6 +46,7 @@ numbered_argument_at (byte ∷ bytes) =
     else if byte == 111 then (number_at bytes >>= λ n. Some (Owner (Some (record { 0 = n }))))
     else if byte == 105 then (number_at bytes >>= λ n. Some (Item (Some (record { 0 = n }))))
     else if byte == 99 then (number_at bytes >>= λ n. Some (Cell (record { 0 = n })))
+    else if byte == 107 then (number_at bytes >>= λ n. Some (Collector (record { 0 = n })))
     else (number_at (byte ∷ bytes) >>= λ n. Some (Number n))
 
 -- the arguments without a number
@@ -79,12 +80,13 @@ few_arguments_at words = if nat_lt most_arguments (length words) then None else 
 
 -- the actions with these arguments
 abbrev pub with_arguments : List Argument → List Action
-with_arguments [] = action.Open ∷ action.End ∷ []
+with_arguments [] = action.Open ∷ action.Collector ∷ action.End ∷ []
 with_arguments (Number n ∷ []) = action.Owned (value.Number n) ∷ action.Shared (value.Number n) ∷ []
 with_arguments (Guard g ∷ []) = action.Epoch g ∷ action.Garbage g ∷ action.Set g ∷ action.Accelerate g ∷ action.Defer g ∷ action.Close g ∷ []
 with_arguments (Owner (Some o) ∷ []) = action.Read o ∷ action.Retire o ∷ action.Release o ∷ action.Clone o ∷ action.Drop o ∷ action.Raw o ∷ []
 with_arguments (Item (Some i) ∷ []) = action.Unraw i ∷ []
 with_arguments (Cell c ∷ []) = action.Tag c ∷ action.Into c ∷ action.CloseCell c ∷ []
+with_arguments (Collector k ∷ []) = action.CloseCollector k ∷ []
 with_arguments (Item (Some i) ∷ Guard g ∷ []) = action.Look i g ∷ action.Upgrade i g ∷ action.See i g ∷ []
 with_arguments (Owner (Some o) ∷ Number n ∷ []) = action.Put o n ∷ []
 with_arguments (Cell c ∷ Guard g ∷ []) = action.Load c g ∷ action.Copy c g ∷ action.Share c g ∷ []
@@ -92,6 +94,7 @@ with_arguments (Word Of ∷ Owner (Some o) ∷ []) = action.Owned (value.Of o) �
 with_arguments (Word Owned ∷ Owner x ∷ []) = action.CellOwned x ∷ []
 with_arguments (Word Shared ∷ Owner x ∷ []) = action.CellShared x ∷ []
 with_arguments (Cell c ∷ Owner x ∷ Tag t ∷ []) = action.Swap c x t ∷ []
+with_arguments (Owner (Some o) ∷ Guard g ∷ Collector k ∷ []) = action.Collect o g k ∷ []
 with_arguments (Cell c ∷ Tag t ∷ Word If ∷ Tag u ∷ []) = action.TagIf c t u ∷ []
 with_arguments (Cell c ∷ Guard g ∷ Word Was ∷ Item y ∷ Tag t ∷ Word Now ∷ Owner x ∷ Tag u ∷ []) = action.Exchange c g y t x u ∷ []
 with_arguments arguments = []

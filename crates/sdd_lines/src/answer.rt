@@ -4,7 +4,9 @@ ghost use Rattle.std.specs.Prelude.{◌≡◌, ℕ, List, [], ◌∷◌, ◌++�
 ghost use Rattle.sdd_lines.specs.Name.{tag as word_of_tag};
 ghost use Rattle.sdd_lines.specs.Answer.{refusal, ending, text_of, text_of_all, text_of_fault};
 
-use crate::name::{CellName, GuardName, ItemName, JobName, Names, OwnerName, PlaceName};
+use crate::name::{
+    CellName, CollectorName, GuardName, ItemName, JobName, Names, OwnerName, PlaceName,
+};
 use sdd_core::inner::number_of_refusal;
 use sdd_core::{Epoch, Refused, Tag};
 use sdd_store::Tally;
@@ -28,6 +30,8 @@ pub enum Reply {
     Done,
     /// `j0`: a new job, which waits.
     Job(JobName),
+    /// `k0`: a new collector.
+    Collector(CollectorName),
     /// `o0 i0`: a new owner of a new item.
     Item(OwnerName, ItemName),
     /// `o0`: an owner of an item that was there.
@@ -79,6 +83,7 @@ impl fmt::Display for Reply {
             Reply::Truth(truth) => write!(f, "{truth}"),
             Reply::Done => write!(f, "ok"),
             Reply::Job(job) => write!(f, "{job}"),
+            Reply::Collector(collector) => write!(f, "{collector}"),
             Reply::Item(owner, item) => write!(f, "{owner} {item}"),
             Reply::Owner(owner) => write!(f, "{owner}"),
             Reply::Nothing => write!(f, "none"),

@@ -3,7 +3,7 @@
 mod arguments;
 pub(crate) mod reading;
 
-use crate::name::{CellName, GuardName, ItemName, OwnerName, PlaceName};
+use crate::name::{CellName, CollectorName, GuardName, ItemName, OwnerName, PlaceName};
 use sdd_core::Tag;
 use std::str;
 
@@ -76,10 +76,16 @@ pub enum Action {
     Share(CellName, GuardName),
     /// `into C`: ends a cell, and takes out the owner in it.
     Into(CellName),
+    /// `collector`: a collector of items that end with it at latest.
+    Collector,
+    /// `collect O G K`: gives an owner to a collector.
+    Collect(OwnerName, GuardName, CollectorName),
     /// `close G`: closes a guard.
     Close(GuardName),
     /// `close C`: closes a cell, and gives up what it holds.
     CloseCell(CellName),
+    /// `close K`: closes a collector, and reclaims what waits for it.
+    CloseCollector(CollectorName),
     /// `end`: the participant takes part no more.
     End,
 }
@@ -103,6 +109,7 @@ pub(crate) enum Argument {
     /// An item, or `null`.
     Item(Option<ItemName>),
     Cell(CellName),
+    Collector(CollectorName),
     Tag(Tag),
     Word(Word),
 }

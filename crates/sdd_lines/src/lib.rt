@@ -16,5 +16,7 @@ pub use answer::{Answer, Reply, print_all, print_fault};
 pub use call::{Action, Call, Value};
 pub use device::{Fault, ReadEnd, Reader, Sink, Source, Writer, read_to_end, write_all};
 pub use ended::Ended;
-pub use name::{CellName, GuardName, ItemName, JobName, Names, OwnerName, PlaceName};
+pub use name::{
+    CellName, CollectorName, GuardName, ItemName, JobName, Names, OwnerName, PlaceName,
+};
 pub use script::{MOST_CALLS, Script, parse_all};

@@ -26,6 +26,10 @@ pub struct ItemName(pub u64);
 #[derive(Clone, Copy, Debug, PartialEq, Eq, PartialOrd, Ord)]
 pub struct CellName(pub u64);
 
+/// The name of a collector, as `k0`.
+#[derive(Clone, Copy, Debug, PartialEq, Eq, PartialOrd, Ord)]
+pub struct CollectorName(pub u64);
+
 /// The name of a job, as `j0`. No line takes one.
 #[derive(Clone, Copy, Debug, PartialEq, Eq, PartialOrd, Ord)]
 pub struct JobName(pub u64);
@@ -82,6 +86,17 @@ impl fmt::Display for CellName {
 
     fn fmt<W: fmt::Write>(&self, f: &mut fmt::Formatter<W>) -> fmt::Result {
         write!(f, "c{}", self.0)
+    }
+}
+
+impl fmt::Display for CollectorName {
+    ghost use Rattle.std.specs.Prelude.{Some};
+    ghost use Rattle.sdd_lines.specs.Name.{collector};
+
+    ghost output = { λ name. Some (collector name) };
+
+    fn fmt<W: fmt::Write>(&self, f: &mut fmt::Formatter<W>) -> fmt::Result {
+        write!(f, "k{}", self.0)
     }
 }
 

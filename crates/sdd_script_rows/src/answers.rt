@@ -3,8 +3,8 @@
 use sdd_core::inner::epoch_of_count;
 use sdd_core::{Refused, Tag};
 use sdd_lines::{
-    Answer, CellName, GuardName, ItemName, JobName, Names, OwnerName, PlaceName, Reply, print_all,
-    print_fault,
+    Answer, CellName, CollectorName, GuardName, ItemName, JobName, Names, OwnerName, PlaceName,
+    Reply, print_all, print_fault,
 };
 use sdd_store::Tally;
 use std::alloc::{AllocError, Global};
@@ -58,6 +58,7 @@ fn replies_have_texts(rt: HostRuntime) -> Result<(), Fail> {
         (Reply::Truth(false), "false\n"),
         (Reply::Done, "ok\n"),
         (Reply::Job(JobName(6)), "j6\n"),
+        (Reply::Collector(CollectorName(3)), "k3\n"),
         (Reply::Item(OwnerName(0), ItemName(12)), "o0 i12\n"),
         (Reply::Value(18446744073709551615), "18446744073709551615\n"),
         (Reply::Owner(OwnerName(2)), "o2\n"),

@@ -2,7 +2,8 @@
 
 use sdd_core::Tag;
 use sdd_lines::{
-    Action, Call, CellName, GuardName, ItemName, OwnerName, PlaceName, Script, Value, parse_all,
+    Action, Call, CellName, CollectorName, GuardName, ItemName, OwnerName, PlaceName, Script,
+    Value, parse_all,
 };
 use std::alloc::Global;
 use std::test::Fail;
@@ -93,6 +94,15 @@ fn lines_are_calls(rt: HostRuntime) {
         ),
         ("p0 into c3", Call::At(place, Action::Into(cell))),
         ("p0 close c3", Call::At(place, Action::CloseCell(cell))),
+        ("p0 collector", Call::At(place, Action::Collector)),
+        (
+            "p0 collect o2 g1 k4",
+            Call::At(place, Action::Collect(owner, guard, CollectorName(4))),
+        ),
+        (
+            "p0 close k4",
+            Call::At(place, Action::CloseCollector(CollectorName(4))),
+        ),
         (
             "p18446744073709551615 open",
             Call::At(PlaceName(u64::MAX), Action::Open),
@@ -136,6 +146,10 @@ fn malformed_lines_are_no_calls(rt: HostRuntime) {
         "close p0",
         "p0 close o0",
         "p0 close p0",
+        "p0 collector k0",
+        "p0 collect o0 k0 g0",
+        "p0 collect o0 g0",
+        "p0 collect none g0 k0",
         "p0 retire i0",
         "p0 defer",
         "p0 defer o0",

@@ -23,7 +23,7 @@ use std::{fs, io};
 use verdict::Verdict;
 
 /// The folders of examples.
-const GROUPS: [&str; 11] = [
+const GROUPS: [&str; 12] = [
     // items that several own
     "shared_owners",
     // cells, of either kind
@@ -36,6 +36,8 @@ const GROUPS: [&str; 11] = [
     "raw_items",
     // jobs that are deferred: when they run, and where no place is free
     "deferred_jobs",
+    // collectors: what waits for one, and its close
+    "private_collectors",
     // what a value held goes three changes after it, and is named then
     "nested_values",
     // participants end

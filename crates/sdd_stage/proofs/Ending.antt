@@ -177,7 +177,7 @@ module _ (d : Desk) (s : IsSound d) (shut : (g : ℕ) → opening_at d.guards g 
         let l = lets-given d.world p k stands is in
         sound-let without l refl refl refl refl refl refl refl refl
         (stocked-as d without s.stocked refl refl refl (no_slot-given d.world p k stands is))
-        (keepers-as d without s.cells l.values (cells-given d.world p k stands is) refl)
+        (keepers-as d without s.cells l.values (cells-given d.world p k stands is) refl refl)
         (layered-for d without without.world refl refl (layered-given d d.world p k stands is s.layered))
         (counted-given d s.accounts o h there k slot p stands is)
         (at-home-spent without.world.home d.owners o (rw l.home s.owners_home)) (rw l.home s.cells_home)
@@ -193,7 +193,7 @@ module _ (d : Desk) (s : IsSound d) (shut : (g : ℕ) → opening_at d.guards g 
         let e = without_the_cell in
         sound-let e l refl refl refl refl refl (length-set d.cells n None) refl refl
         (stocked-as d e s.stocked refl refl refl (no_slot-cell_closed d.world p c))
-        (keepers-closed d e n c s.cells named l.values (cells-closed d.world p c) refl)
+        (keepers-closed d e n c s.cells named l.values (cells-closed d.world p c) refl refl)
         (layered-for d e e.world refl refl (layered-closed d d.world p c s.layered))
         (counted-cell_closed d s.accounts p c) (rw l.home s.owners_home)
         (at-home-spent e.world.home d.cells n (rw l.home s.cells_home))
@@ -215,7 +215,7 @@ module _ (d : Desk) (s : IsSound d) (shut : (g : ℕ) → opening_at d.guards g 
         let e = with_it_left in
         sound-let e lets-left refl refl refl refl refl refl refl refl
         (stocked-as d e s.stocked refl refl refl (no_slot-retired d.world p k (ap is_some raw)))
-        (keepers-as d e s.cells refl refl refl) s.layered counted-left s.owners_home s.cells_home
+        (keepers-as d e s.cells refl refl refl refl) s.layered counted-left s.owners_home s.cells_home
 
 -- it isn't out as raw then, and no other is that wasn't
 module _ (w : World Val) (p k : ℕ) where

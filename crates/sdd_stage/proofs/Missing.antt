@@ -67,6 +67,9 @@ valid-there d n (call.Into c) valid = valid.0
 valid-there d n (call.Copy c g) valid = valid.0.0
 valid-there d n (call.Share c g) valid = valid.0.0
 valid-there d n (call.CloseCell c) valid = valid.0
+valid-there d n call.Collector valid = valid
+valid-there d n (call.Collect o g k) valid = valid.0.0
+valid-there d n (call.CloseCollector k) valid = valid.0
 
 module _ (h : Hand) where
   abbrev d : Desk

@@ -15,6 +15,15 @@ pub record SpendsOwner (o : ℕ) (old new : Desk) : Type 0 where
 pub record SpendsCell (c : ℕ) (old new : Desk) : Type 0 where
   pub cells : new.cells ≡ slice_set old.cells c None
   pub owners : new.owners ≡ old.owners
+  pub collectors : new.collectors ≡ old.collectors
+  pub guards : new.guards ≡ old.guards
+  pub tally : new.world.tally ≡ old.world.tally
+
+-- the collector is spent: its cell is free
+pub record SpendsCollector (k : ℕ) (old new : Desk) : Type 0 where
+  pub collectors : new.collectors ≡ slice_set old.collectors k None
+  pub owners : new.owners ≡ old.owners
+  pub cells : new.cells ≡ old.cells
   pub guards : new.guards ≡ old.guards
   pub tally : new.world.tally ≡ old.world.tally
 

@@ -10,7 +10,7 @@ use Rattle.sdd_desk.specs.Sound.{IsSound}
 use Rattle.sdd_desk.specs.declared.ownership.Ownership.{Ownership}
 use Rattle.sdd_hand.specs.declared.participants.Guarding.{Guarding}
 use Rattle.sdd_stage.specs.declared.stage.Hand.{Hand}
-use Rattle.sdd_steps.specs.Owners.{owner_holding, cell_holding}
+use Rattle.sdd_steps.specs.Owners.{owner_holding, cell_holding, collector_holding}
 use Rattle.sdd_hand.specs.Hand.{attending, guarding}
 use Rattle.sdd_token.specs.Units as token
 use Rattle.sdd_lines.specs.declared.call.Action.TheVariants as call
@@ -25,6 +25,7 @@ desk_of s =
       guards = map guarding s.guards.entries.items;
       owners = map (option_map owner_holding) s.owners.entries.items;
       cells = map (option_map cell_holding) s.cells.entries.items;
+      collectors = map (option_map collector_holding) s.collectors.entries.items;
       slots = s.slots.items;
       names = s.names.items;
       dates = s.dates.items;

@@ -2,6 +2,7 @@
 ghost use Rattle.std.specs.Prelude.{◌≡◌, ◌≢◌, ◌+◌, ◌^◌, ◌<◌, ◌⊎◌, [], IfOk, MatchResult};
 
 mod cells;
+mod collectors;
 mod exchanges;
 mod guards;
 mod items;
@@ -10,12 +11,12 @@ mod owners;
 mod participants;
 mod raw;
 
-use sdd_base::Limits;
+use sdd_base::{Limits, PrivateCollector};
 use sdd_core::Refused;
 use sdd_desk::{Ownership, Val};
 use sdd_hand::named::Named;
 use sdd_hand::participants::{Attending, Guarding};
-use sdd_lines::{Action, Answer, Call, Names, PlaceName, Reply};
+use sdd_lines::{Action, Answer, Call, CollectorName, Names, PlaceName, Reply};
 use sdd_steps::holding::{ACell, AnOwner};
 use sdd_world::World;
 use std::alloc::Global;
@@ -31,6 +32,7 @@ pub struct Hand {
     pub guards: Named<Guarding>,
     pub owners: Named<AnOwner>,
     pub cells: Named<ACell>,
+    pub collectors: Named<PrivateCollector<Val>>,
     /// Of each item its slot.
     pub slots: Vec<u32>,
     /// Of each slot the name of the item that it had last.
@@ -92,6 +94,7 @@ impl Stage {
                 guards: Named::new(alloc),
                 owners: Named::new(alloc),
                 cells: Named::new(alloc),
+                collectors: Named::new(alloc),
                 slots: Vec::new(alloc),
                 names,
                 dates,
@@ -128,6 +131,9 @@ impl Stage {
     {
         match *call {
             Call::At(name, Action::Open) => Ok(self.open(name)?),
+            Call::At(name, Action::CloseCollector(collector)) => {
+                Ok(self.close_collector(name, collector)?)
+            }
             _ => {
                 let reply = self.reply_to(call)?;
                 Ok(self.answer(reply))
@@ -135,17 +141,22 @@ impl Stage {
         }
     }
 
-    /// The reply to a call that opens no guard.
+    /// The reply to a call that opens no guard and closes no collector.
     fn reply_to(&mut self, call: &Call) -> Result<Reply, Refused>
         requires line { BeginsLine self.old }
         requires other { (name : PlaceName) → call.now ≢ Call.At name Action.Open }
+        requires no_close { (name : PlaceName) (collector : CollectorName) → call.now ≢ Call.At name (Action.CloseCollector collector) }
         ensures acts { MatchResult result (λ reply. Acts self.old call.now reply self.new)
             (λ refused. (refused ≡ Refused.NoMemory) × (self.new ≡ self.old)) }
     {
         Ok(match *call {
             Call::Register => self.register()?,
             Call::Tally => Reply::Tally(self.hand.world.tally()),
-            Call::At(_, Action::Open) => unreachable!(),
+            Call::At(_, Action::Open | Action::CloseCollector(_)) => unreachable!(),
+            Call::At(name, Action::Collector) => self.make_collector(name)?,
+            Call::At(name, Action::Collect(owner, guard, collector)) => {
+                self.collect(name, owner, guard, collector)
+            }
             Call::At(name, Action::End) => self.end(name),
             Call::At(name, Action::Epoch(guard)) => self.epoch(name, guard),
             Call::At(name, Action::Garbage(guard)) => self.garbage(name, guard),

@@ -9,6 +9,9 @@ use Rattle.sdd_steps.specs.declared.holding.AnOwner.TheVariants.{Sole, Share}
 use Rattle.sdd_steps.specs.declared.holding.ACell.{ACell}
 use Rattle.sdd_steps.specs.declared.holding.Filling.{Filling}
 use Rattle.sdd_token.specs.Units as token
+use Rattle.sdd_base.specs.declared.private_collector.PrivateCollector.{PrivateCollector}
+use Rattle.sdd_base.specs.Collector.{collector_of, cells_home as collectors_home}
+use Rattle.sdd_desk.specs.declared.val.Val.{Val}
 use Rattle.sdd_base.specs.Holding as holding
 use Rattle.sdd_base.specs.Owned as owned
 use Rattle.sdd_base.specs.Shared as shared
@@ -23,6 +26,10 @@ owner_holding (Share o) = shared.holding_of o
 abbrev pub cell_holding : ACell → Holding
 cell_holding (cell.Sole c) = owned.cell_holding c
 cell_holding (cell.Share c) = shared.cell_holding c
+
+-- a collector, by its cell
+abbrev pub collector_holding : PrivateCollector Val → Holding
+collector_holding k = holding.atomic_raw (collector_of k) (collectors_home k)
 
 -- which owners a cell is for, and its number
 abbrev pub cell_kind : ACell → Ownership

@@ -2,6 +2,7 @@
 #![tactic(auto)]
 
 pub mod cells;
+pub mod collectors;
 pub mod exchanges;
 pub mod guards;
 pub mod holding;

@@ -12,15 +12,17 @@ ghost use Rattle.sdd_token.specs.Shares as shares;
 ghost use Rattle.sdd_slots.specs.Slots.{IsSharedBy};
 ghost use Rattle.sdd_store.specs.Table.{IsFull};
 ghost use Rattle.sdd_store.specs.declared.standing.Standing.TheVariants as standing;
-ghost use Rattle.sdd_base.specs.Steps.{reclaims, retired, owner_given, cell_closed, with_standing};
+ghost use Rattle.sdd_base.specs.Steps.{reclaims, retired, owner_given, cell_closed, without_cell, with_standing};
+ghost use Rattle.sdd_base.specs.Out.{IsNullCell};
+ghost use Rattle.sdd_base.specs.Collector as collectors;
 ghost use Rattle.sdd_world.specs.Place.{index_of};
 
 use crate::world::{Place, World};
 use sdd_base::inner::{
-    ptr_to, right_in_shared, right_of_cell, right_of_owner, right_of_shared, right_of_shared_cell,
-    shared_of,
+    ptr_to, right_in_shared, right_of_cell, right_of_collector, right_of_owner, right_of_shared,
+    right_of_shared_cell, shared_of,
 };
-use sdd_base::{AtomicOwned, AtomicShared, Guard, Item, Owned, Ptr, Shared};
+use sdd_base::{AtomicOwned, AtomicShared, Guard, Item, Owned, PrivateCollector, Ptr, Shared};
 use sdd_core::Refused;
 use sdd_store::{Job, Standing, What};
 use sdd_token::{Kind, Shares};
@@ -134,6 +136,15 @@ pub fn leave_shared_cell<T: Item<T>, J: Job>(world: &mut World<T, J>, cell: Atom
     ensures { (p : ℕ) × IsSome (phase_at world.old.time p) × (world.new ≡ cell_closed world.old p (shared.cell_of cell)) }
 {
     world.leave_cell(right_of_shared_cell(cell), Kind::Shared);
+}
+
+/// A collector's cell is free. What waits for the collector waits on, and goes with the world at latest.
+pub fn leave_collector<T: Item<T>, J: Job>(world: &mut World<T, J>, collector: PrivateCollector<T>)
+    requires home { collectors.cells_home collector ≡ world.old.home.cells }
+    ensures null { IsNullCell world.old (collectors.collector_of collector) }
+    ensures left { world.new ≡ without_cell world.old (collectors.collector_of collector) }
+{
+    world.leave_collector(right_of_collector(collector));
 }
 
 /// So many owners more of an owner's item at once, in one piece. So a test reaches the most owners that there may be.

@@ -1,5 +1,5 @@
 ghost use Rattle.std.specs.Prelude.{◌≡◌, ◌≢◌, ℕ, ◌+◌, ◌<◌, ◌≤◌, ◌⊎◌, [], false, map, length, Some, None, Option, IfOk, IfSome, MatchOption, MatchResult, IsSome, IsTrue, ◌↔◌};
-ghost use Rattle.sdd_token.specs.Right.{number_of, home_of, kind_of};
+ghost use Rattle.sdd_token.specs.Right.{number_of, home_of, kind_of, raw_number_of, raw_home_of};
 ghost use Rattle.sdd_slots.specs.Slots.{IsOwnedBy};
 ghost use Rattle.sdd_store.specs.Time.{CanNest, phase_at, IsVacant, IsCrowded, is_open, due_next};
 ghost use Rattle.sdd_store.specs.Table.{IsEmptyAt, IsFull};
@@ -8,9 +8,9 @@ ghost use Rattle.sdd_base.specs.World.{World, IsGuarded, IsPlaceOf, IsNew, place
 ghost use Rattle.sdd_base.specs.Guard.{reader_of};
 ghost use Rattle.sdd_base.specs.Seat.{reader_at};
 ghost use Rattle.sdd_base.specs.Under.{Stays};
-ghost use Rattle.sdd_base.specs.Out.{out};
+ghost use Rattle.sdd_base.specs.Out.{IsNullCell, out};
 ghost use Rattle.sdd_base.specs.Limits.{AreInRange};
-ghost use Rattle.sdd_base.specs.Steps.{made, retired, owner_given, nulled, cell_closed, opened, changed, closed, stirred, accelerated, registered, ended, reclaims};
+ghost use Rattle.sdd_base.specs.Steps.{made, retired, owner_given, nulled, cell_closed, without_cell, opened, changed, closed, stirred, accelerated, registered, ended, reclaims};
 
 mod closing;
 mod laws;
@@ -19,7 +19,7 @@ use crate::inside::Core;
 use sdd_base::{Guard, Item, Limits, inner};
 use sdd_core::Refused;
 use sdd_store::{Idle, Job, Standing, Tally, Time, What};
-use sdd_token::{Kind, Right};
+use sdd_token::{Kind, RawRight, Right};
 use std::alloc::Global;
 use std::marker::Model;
 
@@ -178,6 +178,15 @@ impl<T: Item<T>, J: Job> World<T, J> {
         ensures left { (p : ℕ) × IsSome (phase_at self.old.time p) × (self.new ≡ cell_closed self.old p (number_of cell)) }
     {
         self.core.leave_cell(cell, kind);
+    }
+
+    /// A collector's cell is free. What waits for the collector waits on.
+    pub(crate) fn leave_collector(&mut self, collector: RawRight)
+        requires home { raw_home_of collector ≡ self.old.home.cells }
+        ensures null { IsNullCell self.old (raw_number_of collector) }
+        ensures left { self.new ≡ without_cell self.old (raw_number_of collector) }
+    {
+        self.core.close_raw_cell(collector);
     }
 
     /// The value in a slot whose item stays there while a guard of the place is open, for as long as this guard is borrowed.

@@ -9,7 +9,7 @@ ghost use Rattle.sdd_lines.specs.Reading.{words, IsNumberOf, numbered_at, argume
 use super::arguments::Arguments;
 use super::{Action, Argument, Call, Value, Word};
 use crate::first::first_at;
-use crate::name::{CellName, GuardName, ItemName, OwnerName, PlaceName};
+use crate::name::{CellName, CollectorName, GuardName, ItemName, OwnerName, PlaceName};
 use sdd_core::Tag;
 
 /// The first word, and what follows the space behind it, if there is one.
@@ -75,6 +75,7 @@ fn numbered_argument(word: &str) -> Option<Argument>
         [b'o', ..] => Some(Argument::Owner(Some(OwnerName(numbered('o', word)?)))),
         [b'i', ..] => Some(Argument::Item(Some(ItemName(numbered('i', word)?)))),
         [b'c', ..] => Some(Argument::Cell(CellName(numbered('c', word)?))),
+        [b'k', ..] => Some(Argument::Collector(CollectorName(numbered('k', word)?))),
         _ => Some(Argument::Number(number(word)?)),
     }
 }
@@ -102,6 +103,7 @@ fn spoken(verb: &str, arguments: &[Argument]) -> Option<Action>
     match *arguments {
         [] => match verb {
             "open" => Some(Action::Open),
+            "collector" => Some(Action::Collector),
             "end" => Some(Action::End),
             _ => None,
         },
@@ -164,6 +166,10 @@ fn with_one(verb: &str, argument: Argument) -> Option<Action>
             "close" => Some(Action::CloseCell(cell)),
             _ => None,
         },
+        Argument::Collector(collector) => match verb {
+            "close" => Some(Action::CloseCollector(collector)),
+            _ => None,
+        },
         _ => None,
     }
 }
@@ -215,6 +221,11 @@ fn with_three(verb: &str, first: Argument, second: Argument, third: Argument) ->
             "swap" => Some(Action::Swap(cell, held, tag)),
             _ => None,
         },
+        (Argument::Owner(Some(owner)), Argument::Guard(guard), Argument::Collector(collector)) =>
+            match verb {
+                "collect" => Some(Action::Collect(owner, guard, collector)),
+                _ => None,
+            },
         _ => None,
     }
 }

@@ -2,7 +2,7 @@
 ghost use Rattle.std.specs.Prelude.{◌≡◌, ◌≢◌, ◌↔◌, ◌+◌, ℕ, IsTrue, None, Some, slice_index_or};
 ghost use Rattle.sdd_store.specs.declared.standing.Standing.TheVariants.{Raw};
 ghost use Rattle.sdd_base.specs.World.{standing_at};
-ghost use Rattle.sdd_stage.specs.Leaving.{SpendsOwner, SpendsCell, SpendsGuard, LeavesRaw};
+ghost use Rattle.sdd_stage.specs.Leaving.{SpendsOwner, SpendsCell, SpendsCollector, SpendsGuard, LeavesRaw};
 
 use super::{Hand, Stage};
 use sdd_desk::Val;
@@ -11,7 +11,7 @@ use sdd_steps::holding::{ACell, AnOwner};
 use sdd_store::{Standing, Tally};
 use sdd_world::World;
 use sdd_world::inner::{
-    leave, leave_cell, leave_raw, leave_shared, leave_shared_cell, standing_of,
+    leave, leave_cell, leave_collector, leave_raw, leave_shared, leave_shared_cell, standing_of,
 };
 
 impl Stage {
@@ -24,6 +24,7 @@ impl Stage {
     {
         self.spend_guards();
         self.spend_owners();
+        self.spend_collectors();
         self.spend_cells();
         self.leave_raw_items();
         let Stage { hand } = self;
@@ -35,6 +36,7 @@ impl Stage {
             guards,
             owners,
             cells,
+            collectors,
             slots: _,
             names: _,
             dates: _,
@@ -44,6 +46,7 @@ impl Stage {
         guards.destroy_spent();
         owners.destroy_spent();
         cells.destroy_spent();
+        collectors.destroy_spent();
         world.is_whole();
         match world.close() {
             Ok(tally) => tally,
@@ -79,10 +82,24 @@ impl Stage {
         ensures spent { (c : ℕ) → slice_index_or self.new.cells c None ≡ None }
         ensures guards { self.new.guards ≡ self.old.guards }
         ensures owners { self.new.owners ≡ self.old.owners }
+        ensures collectors { self.new.collectors ≡ self.old.collectors }
         ensures tally { self.new.world.tally ≡ self.old.world.tally }
     {
         for cell in 0..self.hand.cells.entries.len() {
             self.spend_cell(cell as u64);
+        }
+    }
+
+    /// Each collector that isn't spent is, where no guard is open: its cell is free, and what waits for it goes with the world.
+    fn spend_collectors(&mut self)
+        requires shut { (g : ℕ) → slice_index_or self.old.guards g None ≡ None }
+        ensures spent { (k : ℕ) → slice_index_or self.new.collectors k None ≡ None }
+        ensures guards { self.new.guards ≡ self.old.guards }
+        ensures owners { self.new.owners ≡ self.old.owners }
+        ensures tally { self.new.world.tally ≡ self.old.world.tally }
+    {
+        for collector in 0..self.hand.collectors.entries.len() {
+            self.spend_collector(collector as u64);
         }
     }
 
@@ -93,6 +110,7 @@ impl Stage {
         ensures guards { self.new.guards ≡ self.old.guards }
         ensures owners { self.new.owners ≡ self.old.owners }
         ensures cells { self.new.cells ≡ self.old.cells }
+        ensures collectors { self.new.collectors ≡ self.old.collectors }
         ensures tally { self.new.world.tally ≡ self.old.world.tally }
     {
         for item in 0..self.hand.slots.len() {
@@ -118,6 +136,15 @@ impl Stage {
             None => {}
             Some(ACell::Sole(cell)) => leave_cell(&mut self.hand.world, cell),
             Some(ACell::Share(cell)) => leave_shared_cell(&mut self.hand.world, cell),
+        }
+    }
+
+    fn spend_collector(&mut self, collector: u64)
+        requires shut { (g : ℕ) → slice_index_or self.old.guards g None ≡ None }
+        ensures { SpendsCollector collector self.old self.new }
+    {
+        if let Some(collector) = self.hand.collectors.take(collector) {
+            leave_collector(&mut self.hand.world, collector);
         }
     }
 

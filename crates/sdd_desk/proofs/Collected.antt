@@ -1,0 +1,144 @@
+-- What is always true of a desk is true after each call of a collector that closes none
+use Rattle.std.proofs.Common.{◌≡◌, ℕ, ◌+◌, ◌<◌, Bool, true, false, nat_lt, if◌then◌else◌, List, [], ◌∷◌, Option, Some, None, is_some, length, slice_set, inl, inr, refl, sym, ap, ◌∙◌, subst, arith}
+use Rattle.std.proofs.lemmas.List.{length-set}
+use Rattle.std.proofs.lemmas.Bool.{false≢true}
+use Rattle.sdd_store.specs.Table.{IsEmptyAt, with_entry}
+use Rattle.sdd_store.specs.Time as time
+use Rattle.sdd_store.specs.declared.waiting.What.TheVariants.{Item}
+use Rattle.sdd_store.specs.declared.standing.Standing.{Standing}
+use Rattle.sdd_store.specs.declared.standing.Standing.TheVariants.{Owned, Retired, Private as privately}
+use Rattle.sdd_slots.specs.Slots.{is_waiting}
+use Rattle.sdd_slots.specs.Cells.{null_pointer}
+use Rattle.sdd_base.specs.Calls.{Calls}
+use Rattle.sdd_base.specs.Calls.Calls.{changes_cells, changes_pointers, collects}
+use Rattle.sdd_base.specs.Collecting.{collected}
+use Rattle.sdd_base.specs.Holding.{Holding, atomic_raw}
+use Rattle.sdd_base.specs.Out.{is_out}
+use Rattle.sdd_base.specs.Steps.{nulled, pointing, retired}
+use Rattle.sdd_base.specs.Accounts.{owner_count}
+use Rattle.sdd_base.specs.Whole.{IsWhole}
+use Rattle.sdd_base.specs.World.{World, IsPlaceOf, place_at, standing_at}
+use Rattle.sdd_base.proofs.Housed.{Whole-cells}
+use Rattle.sdd_base.proofs.Standings.{out-inside, out-some, out-waits-not}
+use Rattle.sdd_desk.specs.declared.val.Val.{Val}
+use Rattle.sdd_desk.specs.Val.{holdings_of}
+use Rattle.sdd_desk.specs.Desk.{Desk, IsDated, holding_at, slot_of, in_world, with_collector, without_owner}
+use Rattle.sdd_desk.specs.Script.{AreCalls}
+use Rattle.sdd_desk.specs.Script.AreCalls.{none as no_call, one_more}
+use Rattle.sdd_desk.specs.Sound.{IsSound}
+use Rattle.sdd_desk.proofs.Attending.{keeps-place, keeps-time, attended-acts}
+use Rattle.sdd_base.specs.InPlace.{IsAlone}
+use Rattle.std.proofs.lemmas.Bool.{cases_eq}
+use Rattle.sdd_desk.proofs.Entry.{at-same, at-other}
+use Rattle.sdd_desk.proofs.Counting.{AreCounted, counted-given, counted-nulled}
+use Rattle.sdd_desk.proofs.Dates.{dated-same, dated-either, early-dated}
+use Rattle.sdd_desk.proofs.Going.{at_home-given, at_home-spent}
+use Rattle.sdd_desk.proofs.Keepers.{keepers-as, keepers-collecting}
+use Rattle.sdd_desk.proofs.Kept.{kept-call, kept-two, were-same}
+use Rattle.sdd_desk.proofs.Stocked.{stocked-as, no_slot-same, no_slot-set}
+
+module _ (d : Desk) (s : IsSound d) (whole : IsWhole d.world) where
+  -- ---- a collector is made
+  module _ (p c : ℕ) (live : IsPlaceOf d.world p) (free : IsEmptyAt d.world.cells c) where
+    abbrev pub after_collecting : Desk
+    after_collecting = in_world (with_collector d c) (pointing d.world c null_pointer)
+
+    abbrev mid : World Val
+    mid = nulled d.world c
+
+    first : Calls holdings_of d.world mid
+    first = changes_cells d.world mid.cells (length-set d.world.cells c _)
+
+    second : Calls holdings_of mid after_collecting.world
+    second = changes_pointers mid after_collecting.world.pointers (length-set mid.pointers c null_pointer)
+
+    pub calls-collecting : AreCalls d.world after_collecting.world
+    calls-collecting = one_more d.world mid _ (one_more d.world d.world mid (no_call d.world) first) second
+
+    pub dated-collecting : IsDated d after_collecting
+    dated-collecting = dated-same d after_collecting refl refl
+
+    pub sound-collecting : IsSound after_collecting
+    sound-collecting =
+        let keeps = keeps-time d.world after_collecting.world refl in
+        let h = atomic_raw c d.world.home.cells in
+        record {
+          stocked = stocked-as d after_collecting s.stocked refl refl refl (no_slot-same d.world after_collecting.world refl);
+          cells = keepers-collecting d after_collecting c h s.cells free refl refl refl refl refl;
+          layered = s.layered;
+          accounts = counted-nulled d s.accounts c free;
+          owners_home = s.owners_home;
+          cells_home = s.cells_home;
+          collectors_home = at_home-given d.world.home d.collectors h refl s.collectors_home;
+          attended = attended-acts d after_collecting s.attended keeps refl refl (omega arith) p live;
+          kept = kept-two d after_collecting s.kept dated-collecting whole mid first second (Whole-cells d.world mid.cells whole) (λ q o. o)
+              (were-same d after_collecting refl keeps.guards) (λ k waits idle. absurd (false≢true (sym idle ∙ waits)));
+          early = early-dated d after_collecting dated-collecting (omega arith) s.early;
+          made = s.made;
+          deferred = s.deferred;
+          few = s.few;
+        }
+
+  -- ---- the one owner is given to a collector
+  module _ (p c k o : ℕ) (h : Holding) (live : IsPlaceOf d.world p) (there : holding_at d.owners o ≡ Some h) (slot : slot_of (Some h) ≡ Some k)
+      (alone : IsAlone (standing_at d.world k)) where
+    abbrev pub after_collected : Desk
+    after_collected = record (in_world (without_owner d o) (collected d.world p c k)) { dates = slice_set d.dates k d.moment }
+
+    out-alone : IsAlone (standing_at d.world k) → is_out (standing_at d.world k) ≡ true
+    out-alone (inl e) = ap is_out e
+    out-alone (inr e) = ap is_out e
+
+    out : is_out (standing_at d.world k) ≡ true
+    out = out-alone alone
+
+    in_table : k < length d.world.standings
+    in_table = out-inside d.world.standings k out
+
+    -- it waits then, and has no owner: as one that is retired
+    as_retired : {X : Type 0} (f : Option Standing → X) → f (Some (privately c)) ≡ f (Some Retired) → (j : ℕ) →
+        f (standing_at (collected d.world p c k) j) ≡ f (standing_at (retired d.world p k) j)
+    as_retired f same j =
+        elim (cases_eq j k) [
+          | inl e ↦ rw e (ap f (at-same d.world.standings k (Some (privately c)) None in_table) ∙ same
+              ∙ sym (ap f (at-same d.world.standings k (Some Retired) None in_table)))
+          | inr ne ↦ ap f (at-other d.world.standings k j (Some (privately c)) None ne ∙ sym (at-other d.world.standings k j (Some Retired) None ne))
+        ]
+
+    counted-gone : IsAlone (standing_at d.world k) → AreCounted (without_owner d o) (retired d.world p k)
+    counted-gone (inl e) = counted-given d s.accounts o h there k slot p _ e
+    counted-gone (inr e) = counted-given d s.accounts o h there k slot p _ e
+
+    counted-collected : AreCounted (without_owner d o) (collected d.world p c k)
+    counted-collected j = as_retired owner_count refl j ∙ counted-gone alone j
+
+    waits-now : is_waiting (standing_at after_collected.world k) ≡ true
+    waits-now = ap is_waiting (at-same d.world.standings k (Some (privately c)) None in_table)
+
+    pub dated-collected : IsDated d after_collected
+    dated-collected =
+        dated-either d after_collected k (out-waits-not (standing_at d.world k) out) (omega (arith, in_table, s.stocked.dates)) (rw waits-now refl)
+        (λ j apart waits. sym (ap is_waiting (at-other d.world.standings k j (Some (privately c)) None apart)) ∙ waits)
+
+    pub calls-collected : AreCalls d.world after_collected.world
+    calls-collected = one_more d.world d.world _ (no_call d.world) (collects d.world p c k live alone)
+
+    pub sound-collected : IsSound after_collected
+    sound-collected =
+        let keeps = keeps-place d.world after_collected.world p (time.awaiting (Item k) (place_at d.world p)) refl refl in
+        record {
+          stocked = stocked-as d after_collected s.stocked refl refl (length-set d.dates k d.moment)
+              (no_slot-set d.world k (privately c) after_collected.world.time (out-some (standing_at d.world k) out));
+          cells = keepers-as d after_collected s.cells refl refl refl refl;
+          layered = s.layered;
+          accounts = counted-collected;
+          owners_home = at_home-spent d.world.home d.owners o s.owners_home;
+          cells_home = s.cells_home;
+          collectors_home = s.collectors_home;
+          attended = attended-acts d after_collected s.attended keeps refl refl (omega arith) p live;
+          kept = kept-call d after_collected s.kept dated-collected whole (collects d.world p c k live alone) (were-same d after_collected refl keeps.guards);
+          early = early-dated d after_collected dated-collected (omega arith) s.early;
+          made = s.made;
+          deferred = s.deferred;
+          few = s.few;
+        }
