@@ -1,20 +1,22 @@
 -- What is always true of a desk is true after each call of a collector that closes none
-use Rattle.std.proofs.Common.{◌≡◌, ℕ, ◌+◌, ◌<◌, Bool, true, false, nat_lt, if◌then◌else◌, List, [], ◌∷◌, Option, Some, None, is_some, length, slice_set, inl, inr, refl, sym, ap, ◌∙◌, subst, arith}
+use Rattle.std.proofs.Common.{◌≡◌, ℕ, ◌-◌, ◌<◌, Bool, true, false, nat_lt, if◌then◌else◌, Option, Some, None, length, slice_set, inl, inr, refl, sym, ap, ◌∙◌, subst, ltb-true, arith}
+use Rattle.std.specs.Prelude.{IsTrue, ◌↔◌}
 use Rattle.std.proofs.lemmas.List.{length-set}
 use Rattle.std.proofs.lemmas.Bool.{false≢true}
-use Rattle.sdd_store.specs.Table.{IsEmptyAt, with_entry}
+use Rattle.sdd_store.specs.Table.{IsEmptyAt}
 use Rattle.sdd_store.specs.Time as time
 use Rattle.sdd_store.specs.declared.waiting.What.TheVariants.{Item}
 use Rattle.sdd_store.specs.declared.standing.Standing.{Standing}
-use Rattle.sdd_store.specs.declared.standing.Standing.TheVariants.{Owned, Retired, Private as privately}
-use Rattle.sdd_slots.specs.Slots.{is_waiting}
+use Rattle.sdd_store.specs.declared.standing.Standing.TheVariants.{Owned, Shared, Retired, Private as privately}
+use Rattle.sdd_slots.specs.Slots.{IsSharedBy, is_waiting}
 use Rattle.sdd_slots.specs.Cells.{null_pointer}
 use Rattle.sdd_base.specs.Calls.{Calls}
-use Rattle.sdd_base.specs.Calls.Calls.{changes_cells, changes_pointers, collects}
-use Rattle.sdd_base.specs.Collecting.{collected}
+use Rattle.sdd_base.specs.Calls.Calls.{changes_cells, changes_pointers, collects, releases}
+use Rattle.sdd_base.specs.Collecting.{collected, owner_collected}
 use Rattle.sdd_base.specs.Holding.{Holding, atomic_raw}
+use Rattle.sdd_base.specs.Holding as holding
 use Rattle.sdd_base.specs.Out.{is_out}
-use Rattle.sdd_base.specs.Steps.{nulled, pointing, retired}
+use Rattle.sdd_base.specs.Steps.{nulled, pointing, retired, with_standing}
 use Rattle.sdd_base.specs.Accounts.{owner_count}
 use Rattle.sdd_base.specs.Whole.{IsWhole}
 use Rattle.sdd_base.specs.World.{World, IsPlaceOf, place_at, standing_at}
@@ -22,17 +24,21 @@ use Rattle.sdd_base.proofs.Housed.{Whole-cells}
 use Rattle.sdd_base.proofs.Standings.{out-inside, out-some, out-waits-not}
 use Rattle.sdd_desk.specs.declared.val.Val.{Val}
 use Rattle.sdd_desk.specs.Val.{holdings_of}
-use Rattle.sdd_desk.specs.Desk.{Desk, IsDated, holding_at, slot_of, in_world, with_collector, without_owner}
+use Rattle.sdd_desk.specs.Desk.{Desk, IsDated, holding_at, shared_slot, slot_of, in_world, with_collector, without_owner}
+use Rattle.sdd_lines.specs.declared.answer.Reply.{Reply}
+use Rattle.sdd_lines.specs.declared.answer.Reply.TheVariants as reply
+use Rattle.sdd_desk.specs.Collecting.{Collects}
 use Rattle.sdd_desk.specs.Script.{AreCalls}
 use Rattle.sdd_desk.specs.Script.AreCalls.{none as no_call, one_more}
 use Rattle.sdd_desk.specs.Sound.{IsSound}
 use Rattle.sdd_desk.proofs.Attending.{keeps-place, keeps-time, attended-acts}
 use Rattle.sdd_base.specs.InPlace.{IsAlone}
 use Rattle.std.proofs.lemmas.Bool.{cases_eq}
+use Rattle.std.proofs.lemmas.Bool.Decides.{nat_tests}
 use Rattle.sdd_desk.proofs.Entry.{at-same, at-other}
-use Rattle.sdd_desk.proofs.Counting.{AreCounted, counted-given, counted-nulled}
+use Rattle.sdd_desk.proofs.Counting.{AreCounted, counted-given, counted-nulled, owned-out}
 use Rattle.sdd_desk.proofs.Dates.{dated-same, dated-either, early-dated}
-use Rattle.sdd_desk.proofs.Going.{at_home-given, at_home-spent}
+use Rattle.sdd_desk.proofs.Going.{at_home-given, at_home-spent, dated-released, sound-released}
 use Rattle.sdd_desk.proofs.Keepers.{keepers-as, keepers-collecting}
 use Rattle.sdd_desk.proofs.Kept.{kept-call, kept-two, were-same}
 use Rattle.sdd_desk.proofs.Stocked.{stocked-as, no_slot-same, no_slot-set}
@@ -142,3 +148,93 @@ module _ (d : Desk) (s : IsSound d) (whole : IsWhole d.world) where
           deferred = s.deferred;
           few = s.few;
         }
+
+  -- ---- an owner is given to a collector, of whichever kind it is
+
+  -- what is so then
+  pub record IsGivenSo (new : Desk) : Type 0 where
+    pub sound : IsSound new
+    pub dated : IsDated d new
+    pub calls : AreCalls d.world new.world
+    pub home : new.world.home ≡ d.world.home
+
+  module _ (p c k o : ℕ) (live : IsPlaceOf d.world p) where
+    -- it has this world, and its item is dated if it waits then
+    abbrev pub after_given : World Val → Desk
+    after_given w = record (in_world (without_owner d o) w) {
+      dates = if is_waiting (standing_at w k) then slice_set d.dates k d.moment else d.dates;
+    }
+
+    module _ (h : Holding) (there : holding_at d.owners o ≡ Some h) (slot : slot_of (Some h) ≡ Some k) where
+      -- it is the one owner
+      given-alone : IsAlone (standing_at d.world k) → IsGivenSo (after_given (collected d.world p c k))
+      given-alone alone =
+          subst (λ b. IsGivenSo (record (in_world (without_owner d o) (collected d.world p c k)) {
+            dates = if b then slice_set d.dates k d.moment else d.dates;
+          })) (sym (waits-now p c k o h live there slot alone)) (record {
+            sound = sound-collected p c k o h live there slot alone;
+            dated = dated-collected p c k o h live there slot alone;
+            calls = calls-collected p c k o h live there slot alone;
+            home = refl;
+          })
+
+      module _ (count : ℕ) (owner : shared_slot (holding_at d.owners o) ≡ Some k) (stands : IsSharedBy count (standing_at d.world k)) where
+        -- others are left
+        given-left : nat_lt 1 count ≡ true → IsGivenSo (after_given (with_standing d.world k (Shared (count - 1))))
+        given-left several =
+            subst (λ b. IsGivenSo (record (in_world (without_owner d o) left) { dates = if b then slice_set d.dates k d.moment else d.dates }))
+            (sym (ap is_waiting (at-same d.world.standings k (Some (Shared (count - 1))) None in_range))) (record {
+              sound = all.0;
+              dated = all.1;
+              calls = all.2;
+              home = refl;
+            }) where
+              left : World Val
+              left = with_standing d.world k (Shared (count - 1))
+
+              in_range : k < length d.world.standings
+              in_range = out-inside d.world.standings k (ap is_out stands.shared)
+
+              last : IsTrue false ↔ (count ≡ 1)
+              last = ((λ never. absurd (false≢true never)), (λ one. absurd (omega (arith, ltb-true 1 count several, one))))
+
+              Left : World Val → Type 0
+              Left w = let e = record (in_world (without_owner d o) w) { dates = d.dates } in IsSound e × IsDated d e × AreCalls d.world w
+
+              all : Left left
+              all =
+                  subst (λ b. Left (if b then with_standing d.world k (Shared (count - 1)) else retired d.world p k)) several (
+                    sound-released d s whole p k o count false live owner stands last,
+                    dated-released d s whole p k o count false live owner stands last,
+                    one_more d.world d.world _ (no_call d.world) (releases d.world p k count live stands.shared),
+                  )
+
+        given-shared : (w : World Val) → w ≡ owner_collected d.world p c k (Some (Shared count)) → IsGivenSo (after_given w)
+        given-shared w world = by (nat_lt 1 count) refl where
+          by : (several : Bool) → nat_lt 1 count ≡ several → IsGivenSo (after_given w)
+          by true e =
+              subst (λ u. IsGivenSo (after_given u)) (sym (world
+              ∙ ap (λ b. if b then with_standing d.world k (Shared (count - 1)) else collected d.world p c k) e)) (given-left e)
+          by false e =
+              let one : count ≡ 1 = grind (arith, nat_tests, e, stands.some) in
+              subst (λ u. IsGivenSo (after_given u)) (sym (world
+              ∙ ap (λ b. if b then with_standing d.world k (Shared (count - 1)) else collected d.world p c k) e))
+              (given-alone (inr (stands.shared ∙ ap (λ m. Some (Shared m)) one)))
+
+    -- as the line means it
+    pub sound-given : (h : Holding) (given : Reply) (w : World Val) → holding_at d.owners o ≡ Some h → slot_of (Some h) ≡ Some k →
+        Collects d.world p c h given w → IsGivenSo (after_given w)
+    sound-given (holding.owned j home) reply.Done w there slot does =
+        let same : j ≡ k = cc in
+        subst (λ u. IsGivenSo (after_given u)) (sym (does.1 ∙ ap (collected d.world p c) same))
+        (given-alone (holding.owned j home) there slot (inl (subst (λ i. standing_at d.world i ≡ Some Owned) same does.0)))
+    sound-given (holding.shared j home) (reply.Truth last) w there slot (count, stands, is_last, world) =
+        let same : j ≡ k = cc in
+        given-shared (holding.shared j home) there slot count (ap shared_slot there ∙ slot) (subst (λ i. IsSharedBy count (standing_at d.world i)) same stands) w
+        (world ∙ ap (λ i. owner_collected d.world p c i (Some (Shared count))) same)
+    sound-given h given w there slot does = absurd does
+
+  -- an owner's slot has a date
+  pub owner-inside : (o k : ℕ) (h : Holding) → holding_at d.owners o ≡ Some h → slot_of (Some h) ≡ Some k → k < length d.dates
+  owner-inside o k h there slot =
+      omega (arith, out-inside d.world.standings k (owned-out d s.accounts o h k there slot), s.stocked.dates)

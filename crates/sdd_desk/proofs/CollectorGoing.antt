@@ -1,10 +1,11 @@
 -- What is always true of a desk is true after a collector is closed, where no guard is open
-use Rattle.std.proofs.Common.{◌≡◌, ℕ, ◌+◌, ◌<◌, ◌≤◌, Bool, true, false, nat_lt, if◌then◌else◌, List, [], ◌∷◌, ◌++◌, Option, Some, None, length, map, slice_index, refl, sym, ap, ◌∙◌, subst, arith}
-use Rattle.std.specs.Prelude.{Contains, IsTrue, ◌==◌, ◌↔◌}
+use Rattle.std.proofs.Common.{◌≡◌, ℕ, ◌≤◌, Bool, true, false, nat_lt, if◌then◌else◌, List, [], ◌∷◌, ◌++◌, Option, Some, None, length, map, slice_index, refl, sym, ap, ◌∙◌, subst, lt-ltb, arith}
+use Rattle.std.specs.Prelude.{Contains, IsTrue}
+use Rattle.std.specs.List.Sorted.{IsPermutation, IsNonDecreasingBy}
 use Rattle.std.proofs.Math.ListN.{get_or-map}
 use Rattle.std.proofs.lemmas.Bool.{false≢true}
 use Rattle.std.proofs.lemmas.List.{length-map}
-use Rattle.sdd_store.specs.Collecting.{chosen_of, chosen_among, is_private_to, without}
+use Rattle.sdd_store.specs.Collecting.{chosen_of, chosen_among, without}
 use Rattle.sdd_store.specs.Table.{entry_at}
 use Rattle.sdd_store.specs.Time.{nobody, is_open}
 use Rattle.sdd_store.specs.Waiting.{Waiting}
@@ -14,35 +15,38 @@ use Rattle.sdd_store.specs.declared.waiting.What.TheVariants.{Item, Job}
 use Rattle.sdd_base.specs.Calls.Calls.{closes_collector}
 use Rattle.sdd_base.specs.Collecting.{collector_closed, is_for, waiting_for, without_collector as freed_collector}
 use Rattle.sdd_base.specs.Steps.{all_reclaimed, freed, held_in, reclaimed, taken_out, waiting_value}
-use Rattle.sdd_base.specs.Whole.{IsWhole, is_of_slot}
-use Rattle.sdd_base.proofs.Listed.{listed-without, none-left}
-use Rattle.sdd_base.proofs.Whole.{times_among}
-use Rattle.sdd_store.specs.declared.standing.Standing.{Standing}
-use Rattle.sdd_store.specs.declared.standing.Standing.TheVariants.{Owned, Raw, Shared, Retired, Private as privately}
-use Rattle.std.proofs.lemmas.Bool.Decides.{nat_tests}
+use Rattle.sdd_base.specs.Whole.{IsWhole}
 use Rattle.sdd_base.specs.World.{World, IsGuarded, IsPlaceOf, place_at, standing_at}
 use Rattle.sdd_base.proofs.Accounts.{accounted-all_reclaimed}
 use Rattle.sdd_base.proofs.Guarded.{guarded}
 use Rattle.sdd_base.proofs.Standings.{out-waits-not}
 use Rattle.sdd_slots.specs.Slots.{is_waiting}
+use Rattle.sdd_lines.specs.declared.name.CollectorName.{CollectorName}
+use Rattle.sdd_lines.specs.declared.name.ItemName.{ItemName}
+use Rattle.sdd_lines.specs.declared.name.PlaceName.{PlaceName}
+use Rattle.sdd_lines.specs.declared.call.Action.TheVariants as call
+use Rattle.sdd_lines.specs.declared.call.Call.TheVariants.{At}
+use Rattle.sdd_lines.specs.declared.answer.Reply.TheVariants as reply
 use Rattle.sdd_desk.specs.Held.{owners_in, slots_among, waits_among}
 use Rattle.sdd_base.proofs.Own.{Gives-collector_closed}
 use Rattle.sdd_desk.specs.declared.val.Val.{Val}
 use Rattle.sdd_desk.specs.Val.{holdings_of}
-use Rattle.sdd_desk.specs.Desk.{Desk, IsDated, date_at, holding_at, collector_of, in_world, without_collector}
-use Rattle.sdd_desk.specs.Script.{AreCalls}
+use Rattle.sdd_desk.specs.Desk.{Desk, Opening, IsDated, date_at, holding_at, collector_of, in_world, opening_at, slot_at, without_collector}
+use Rattle.sdd_desk.specs.Script.{AreCalls, NamesWhatGoes, NamesWhatRuns}
 use Rattle.sdd_desk.specs.Script.AreCalls.{none as no_call, one_more}
+use Rattle.sdd_desk.specs.Shown.{item_in}
 use Rattle.sdd_desk.specs.Sound.{IsSound, AreDeferred, AreKept, named_owners}
 use Rattle.sdd_desk.proofs.Attending.{KeepsGuards, keeps-gives, attended-acts}
 use Rattle.sdd_desk.proofs.Counting.{AreCounted, counted-into_none}
 use Rattle.sdd_desk.proofs.Dates.{dated-among, early-dated}
 use Rattle.sdd_desk.proofs.Deferred.{jobs-given_all}
-use Rattle.sdd_desk.proofs.Going.{at_home-spent}
-use Rattle.sdd_desk.proofs.Gone.{KeepsCounts, all-counts, all-give, among-slots, counted-contains, given-out, slots-contain, times_in}
+use Rattle.sdd_desk.proofs.Going.{at_home-spent, open-guard}
+use Rattle.sdd_desk.proofs.Gone.{KeepsCounts, all-counts, all-give, given-out, times_in}
 use Rattle.sdd_desk.proofs.Keepers.{all-kept, keepers-as, keepers-uncollected}
 use Rattle.sdd_desk.proofs.Kept.{kept-shut}
 use Rattle.sdd_desk.proofs.Layers.{layered-reclaimed}
 use Rattle.sdd_desk.proofs.Stocked.{TakesNoSlot, all-no_slot, no_slot-same, stocked-as}
+use Rattle.sdd_desk.proofs.WaitingFor.{names-waiting, owners-found, slots_for}
 
 -- ---- no job waits for a collector
 
@@ -71,30 +75,7 @@ module _ (w : World Val) (c : ℕ) where
   among-items (p ∷ ps) =
       items-append (chosen_of (is_for w c) p.bags.waiting) (chosen_among (is_for w c) ps) (chosen-items p.bags.waiting) (among-items ps)
 
--- ---- what waits for the collector is what its close takes out
-
-private-waits : (c : ℕ) (x : Option Standing) → is_private_to c x ≡ true → is_waiting x ≡ true
-private-waits c None e = absurd (false≢true e)
-private-waits c (Some Owned) e = absurd (false≢true e)
-private-waits c (Some Raw) e = absurd (false≢true e)
-private-waits c (Some (Shared m)) e = absurd (false≢true e)
-private-waits c (Some Retired) e = absurd (false≢true e)
-private-waits c (Some (privately k)) e = refl
-
-module _ (w : World Val) (c s : ℕ) where
-  same-slot : is_for w c (Item s) ≡ true → (x : What) → is_of_slot s x ≡ true → is_for w c x ≡ true
-  same-slot for (Item k) of =
-      let same : k ≡ s = grind (arith, nat_tests, of) in ap (λ j. is_for w c (Item j)) same ∙ for
-  same-slot for (Job j) of = absurd (false≢true of)
-
-  pub waits-for : IsWhole w → is_for w c (Item s) ≡ true → Contains (waiting_for w c) (Item s)
-  waits-for whole for =
-      let none = none-left (is_of_slot s) (is_for w c) (same-slot for) w.time.places in
-      let all = listed-without (is_of_slot s) (is_for w c) w.time.places in
-      let once = rw (private-waits c (standing_at w s) for) at (whole.once s) in
-      let some : 1 ≤ times_among s (waiting_for w c) = omega (arith, none, all, once) in
-      slots-contain (waiting_for w c) s
-      (counted-contains s (slots_among (waiting_for w c)) (omega (arith, some, among-slots s (waiting_for w c))))
+-- so its close takes no job out
 
 out-jobs : (w : World Val) (p k : ℕ) (v : Option Val) → (taken_out holdings_of w p k v).jobs ≡ w.jobs
 out-jobs w p k None = refl
@@ -154,17 +135,18 @@ module _ (d : Desk) (s : IsSound d) (whole : IsWhole d.world) (p c n : ℕ) (liv
         idle = idle;
       }) now
 
-  -- where all of them are among these slots, what begins to wait gets the date of this line
-  pub dated-uncollected : (slots : List ℕ) →
-      ((k : ℕ) → 1 ≤ times_in k (owners_in d.world (slots_among gone)) → 1 ≤ times_in k (owners_in d.world slots)) →
-      length new_dates ≡ length d.dates →
-      ((k : ℕ) → slice_index new_dates k
-      ≡ (if waits_among after_uncollected.world (owners_in d.world slots) k then d.moment else date_at d k)) → IsDated d after_uncollected
-  dated-uncollected slots all_of long dates =
+  -- the slots of what waits for it are found
+  abbrev slots : List ℕ
+  slots = slots_for d s.stocked whole c
+
+  -- what begins to wait gets the date of this line
+  pub dated-uncollected : length new_dates ≡ length d.dates →
+      ((k : ℕ) → slice_index new_dates k ≡ (if waits_among after_uncollected.world (owners_in d.world slots) k then d.moment else date_at d k)) →
+      IsDated d after_uncollected
+  dated-uncollected long dates =
       dated-among d after_uncollected (owners_in d.world slots) dates long
-      (λ k now idle. omega (arith, all_of k (begins-given k now idle)))
-      (λ k some. out-waits-not (standing_at d.world k)
-      (given-out d p live.0 s.stocked s.cells whole s.accounts slots k (omega (arith, some))))
+      (λ k now idle. owners-found d s.stocked whole c k (begins-given k now idle))
+      (λ k some. out-waits-not (standing_at d.world k) (given-out d p live.0 s.stocked s.cells whole s.accounts slots k (omega (arith, some))))
 
   counts : KeepsCounts d.world after_uncollected.world
   counts = all-counts d.world p holdings_of gone start (record { slots = refl; made = refl; in_place = refl; home = refl })
@@ -196,4 +178,35 @@ module _ (d : Desk) (s : IsSound d) (whole : IsWhole d.world) (p c n : ℕ) (liv
     made = counts.made ∙ s.made;
     deferred = subst (AreDeferred d.jobs d.deferred) (sym same-jobs) s.deferred;
     few = s.few;
+  }
+
+-- ---- what the close of a collector answers
+
+module _ (d : Desk) (s : IsSound d) (whole : IsWhole d.world) (c : ℕ) (name : PlaceName) (k : CollectorName)
+    (named : collector_of (holding_at d.collectors k.0) ≡ Some c) (quiet : IsGuarded d.world → ⊥) where
+  -- no guard has a name
+  pub no-guard : (g : ℕ) (y : Opening) → opening_at d.guards g ≡ Some y → ⊥
+  no-guard g y e = quiet (guarded d.world y.place (lt-ltb 0 (place_at d.world y.place).guards (open-guard d s g y e)))
+
+  -- the names found, and sorted
+  pub goes-uncollected : (found sorted : List ItemName) → found ≡ map (item_in d.names) (slots_for d s.stocked whole c) → IsPermutation found sorted →
+      IsNonDecreasingBy (λ (i : ItemName). i.0) sorted → NamesWhatGoes d (At name (call.CloseCollector k)) reply.Done sorted
+  goes-uncollected found sorted is moved up =
+      let all = names-waiting d s.stocked whole c found sorted is moved up in
+      record {
+        ascending = all.0;
+        exactly = λ i. (
+          (λ there. let was = (all.1 i).0 there in (was.0, (c, named, was.1))),
+          (λ h. let same : h.1.0 ≡ c = this h.1.0 h.1.1 in (all.1 i).1 (h.0, subst (λ x. Contains (waiting_for d.world x) (Item (slot_at d i.0))) same h.1.2)),
+        );
+        unguarded = λ i there g y e. absurd (no-guard g y e);
+      } where
+        this : (x : ℕ) → collector_of (holding_at d.collectors k.0) ≡ Some x → x ≡ c
+        this x e = let both : Some x ≡ Some c = sym e ∙ named in cc
+
+  -- and no job runs
+  pub runs-uncollected : NamesWhatRuns d (At name (call.CloseCollector k)) reply.Done []
+  runs-uncollected = record {
+    ascending = λ j lt. absurd (omega (arith, lt));
+    exactly = λ j. ((λ there. absurd (omega (arith, there.1))), (λ h. absurd (h.2)));
   }

@@ -18,6 +18,7 @@ use Rattle.sdd_base.specs.Steps.{registered, ended, opened, reclaims, made_as, n
 use Rattle.sdd_base.specs.Under.{Stays}
 use Rattle.sdd_base.specs.Whole.{IsWhole}
 use Rattle.sdd_base.specs.declared.limits.Limits.{Limits}
+use Rattle.sdd_base.specs.Limits.{AreInRange}
 use Rattle.sdd_base.specs.World.{IsPlaceOf, place_at, standing_at, value_at}
 use Rattle.sdd_base.specs.Accounts.{times_held}
 use Rattle.sdd_base.proofs.Accounts.{accounted-as, accounted-blank}
@@ -451,12 +452,13 @@ blank (suc n) zero = refl
 blank (suc n) (suc k) = blank n k
 
 -- before the first line
-pub sound-start : (l : Limits) (d : Desk) → IsStart l d → length d.names ≡ l.slots → IsSound d
-sound-start l d start names = record {
+pub sound-start : (l : Limits) (d : Desk) → IsStart l d → length d.names ≡ l.slots → AreInRange l → IsSound d
+sound-start l d start names ranges = record {
   stocked = record {
     named = λ k some. absurd (not-free (standing_at d.world k) some (standings k));
     names = names ∙ sym long;
     dates = ap length start.dates ∙ length-replicate l.slots 0 ∙ sym long;
+    few = omega (arith, names, ranges.slots);
   };
   cells = record {
     keeper = λ c some. absurd (not-free (entry_at d.world.cells c) some (entries c));
@@ -504,7 +506,7 @@ sound-start l d start names = record {
 -- a line is counted
 pub sound-later : (d : Desk) → IsSound d → IsSound (later d)
 sound-later d s = record {
-  stocked = record { named = s.stocked.named; names = s.stocked.names; dates = s.stocked.dates };
+  stocked = record { named = s.stocked.named; names = s.stocked.names; dates = s.stocked.dates; few = s.stocked.few };
   cells = keepers-as d (later d) s.cells refl refl refl refl;
   layered = s.layered;
   accounts = s.accounts;

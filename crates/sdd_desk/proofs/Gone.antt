@@ -392,12 +392,54 @@ slots-contain (Item k ∷ xs) s (zero, l, e) = (zero, omega arith, ap Item e)
 slots-contain (Item k ∷ xs) s (suc n, l, e) = let rest = slots-contain xs s (n, omega (arith, l), e) in (suc rest.0, omega (arith, rest.1), rest.2)
 slots-contain (Job j ∷ xs) s c = let rest = slots-contain xs s c in (suc rest.0, omega (arith, rest.1), rest.2)
 
-contain-slots : (xs : List What) (s : ℕ) → Contains xs (Item s) → Contains (slots_among xs) s
+pub contain-slots : (xs : List What) (s : ℕ) → Contains xs (Item s) → Contains (slots_among xs) s
 contain-slots [] s c = absurd (omega (arith, c.1))
 contain-slots (Item k ∷ xs) s (zero, l, e) = (zero, omega arith, cc (e))
 contain-slots (Item k ∷ xs) s (suc n, l, e) = let rest = contain-slots xs s (n, omega (arith, l), e) in (suc rest.0, omega (arith, rest.1), rest.2)
 contain-slots (Job j ∷ xs) s (zero, l, e) = absurd (cc (e))
 contain-slots (Job j ∷ xs) s (suc n, l, e) = contain-slots xs s (n, omega (arith, l), e)
+
+-- ---- the names of slots that are taken, each there once
+
+module _ (d : Desk) (stocked : IsStocked d) (slots : List ℕ) (taken : (s : ℕ) → Contains slots s → IsSome (standing_at d.world s))
+    (once : (s : ℕ) → times_in s slots ≤ 1) (found : List ItemName) (is : found ≡ map (item_in d.names) slots) where
+  -- a name is found exactly if its item is there, in one of them
+  found-there : (i : ItemName) → Contains found i ↔ (IsThere d i.0 × Contains slots (slot_at d i.0))
+  found-there i = rw is (there, back) where
+    there : Contains (map (item_in d.names) slots) i → IsThere d i.0 × Contains slots (slot_at d i.0)
+    there c =
+        let from = map-contains (item_in d.names) slots 0 i c in
+        let s = from.0 in
+        let name : name_at d s ≡ i.0 = ap number from.2 in
+        let home = item-there d stocked s (taken s from.1) in
+        let slot : slot_at d i.0 ≡ s = ap (slot_at d) (sym name) ∙ home.1 in
+        (rw name at home.0, rw slot from.1)
+
+    back : IsThere d i.0 × Contains slots (slot_at d i.0) → Contains (map (item_in d.names) slots) i
+    back h = rw (ap (λ n. record i { 0 = n }) h.0.last) at (contains-map (item_in d.names) slots (slot_at d i.0) h.1)
+
+  -- each of them once
+  found-once : (n : ℕ) → count_by (λ (i : ItemName). i.0 == n) found ≤ 1
+  found-once n =
+      let all : count_by (λ (i : ItemName). i.0 == n) found ≡ count_by (λ s. name_at d s == n) slots =
+      ap (count_by (λ (i : ItemName). i.0 == n)) is ∙ count-map (item_in d.names) (λ (i : ItemName). i.0 == n) slots in
+      let le : count_by (λ s. name_at d s == n) slots ≤ count_by (λ s. s == slot_at d n) slots =
+      counts-le (λ s. name_at d s == n) (λ s. s == slot_at d n) slots (λ s c e.
+      let home = (item-there d stocked s (taken s c)).1 in
+      let name : name_at d s ≡ n = grind (arith, nat_tests, e) in
+      eq-eqb s (slot_at d n) (sym home ∙ ap (slot_at d) name)) in
+      omega (arith, all, le, once (slot_at d n))
+
+  -- sorted they rise, and are exactly those of the items in these slots
+  pub names-found : (sorted : List ItemName) → IsPermutation found sorted → IsNonDecreasingBy (λ (i : ItemName). i.0) sorted →
+      IsStrictlyIncreasing (map (λ (i : ItemName). i.0) sorted) × ((i : ItemName) → Contains sorted i ↔ (IsThere d i.0 × Contains slots (slot_at d i.0)))
+  names-found sorted moved up = (
+    rises number first_item sorted up (λ n. omega (arith, found-once n, sum_by-IsPermutation (λ (i : ItemName). one_where (i.0 == n)) found sorted moved)),
+    (λ i. (
+      (λ c. (found-there i).0 (Contains-permutation sorted found i (IsPermutation-sym found sorted moved) c)),
+      (λ h. Contains-permutation found sorted i moved ((found-there i).1 h)),
+    )),
+  )
 
 module _ (d : Desk) (p : ℕ) (stocked : IsStocked d) (whole : IsWhole d.world) (slots : List ℕ) (are : slots ≡ slots_among (reclaims d.world p)) where
   pub slot-reclaimed : (s : ℕ) → Contains slots s → Contains (reclaims d.world p) (Item s)
@@ -427,49 +469,23 @@ module _ (d : Desk) (p : ℕ) (stocked : IsStocked d) (whole : IsWhole d.world) 
         | inr none ↦ taken-stays d.world p whole l s some (omega (arith, none))
       ]
 
-  module _ (found : List ItemName) (is : found ≡ map (item_in d.names) slots) where
-    -- a name is found exactly if its item is there, and reclaimed
-    found-goes : (i : ItemName) → Contains found i ↔ (IsThere d i.0 × Contains (reclaims d.world p) (Item (slot_at d i.0)))
-    found-goes i = rw is (there, back) where
-      there : Contains (map (item_in d.names) slots) i → IsThere d i.0 × Contains (reclaims d.world p) (Item (slot_at d i.0))
-      there c =
-          let from = map-contains (item_in d.names) slots 0 i c in
-          let s = from.0 in
-          let name : name_at d s ≡ i.0 = ap number from.2 in
-          let home = item-there d stocked s (slot-before s from.1).1 in
-          let slot : slot_at d i.0 ≡ s = ap (slot_at d) (sym name) ∙ home.1 in
-          (rw name at home.0, rw slot (slot-reclaimed s from.1))
+  -- each of them is there once
+  slots-once : (s : ℕ) → times_in s slots ≤ 1
+  slots-once s = omega (arith, times-slots s, reclaims-once d.world p s whole, once-bound (is_waiting (standing_at d.world s)))
 
-      back : IsThere d i.0 × Contains (reclaims d.world p) (Item (slot_at d i.0)) → Contains (map (item_in d.names) slots) i
-      back h =
-          let s = slot_at d i.0 in
-          let among : Contains slots s = subst (λ ks. Contains ks s) (sym are) (contain-slots (reclaims d.world p) s h.1) in
-          rw (ap (λ n. record i { 0 = n }) h.0.last) at (contains-map (item_in d.names) slots s among)
-
-    -- each of them once
-    found-once : (n : ℕ) → count_by (λ (i : ItemName). i.0 == n) found ≤ 1
-    found-once n =
-        let all : count_by (λ (i : ItemName). i.0 == n) found ≡ count_by (λ s. name_at d s == n) slots =
-        ap (count_by (λ (i : ItemName). i.0 == n)) is ∙ count-map (item_in d.names) (λ (i : ItemName). i.0 == n) slots in
-        let le : count_by (λ s. name_at d s == n) slots ≤ count_by (λ s. s == slot_at d n) slots =
-        counts-le (λ s. name_at d s == n) (λ s. s == slot_at d n) slots (λ s c e.
-        let home = (item-there d stocked s (slot-before s c).1).1 in
-        let name : name_at d s ≡ n = grind (arith, nat_tests, e) in
-        eq-eqb s (slot_at d n) (sym home ∙ ap (slot_at d) name)) in
-        let once = reclaims-once d.world p (slot_at d n) whole in
-        omega (arith, all, le, times-slots (slot_at d n), once, once-bound (is_waiting (standing_at d.world (slot_at d n))))
-
-    -- what is answered rises, and names exactly the items that are reclaimed
-    pub names-go : (sorted : List ItemName) → IsPermutation found sorted → IsNonDecreasingBy (λ (i : ItemName). i.0) sorted →
-        IsStrictlyIncreasing (map (λ (i : ItemName). i.0) sorted)
-        × ((i : ItemName) → Contains sorted i ↔ (IsThere d i.0 × Contains (reclaims d.world p) (Item (slot_at d i.0))))
-    names-go sorted moved up = (
-      rises number first_item sorted up (λ n. omega (arith, found-once n, sum_by-IsPermutation (λ (i : ItemName). one_where (i.0 == n)) found sorted moved)),
-      (λ i. (
-        (λ c. (found-goes i).0 (Contains-permutation sorted found i (IsPermutation-sym found sorted moved) c)),
-        (λ h. Contains-permutation found sorted i moved ((found-goes i).1 h)),
-      )),
-    )
+  -- what is answered rises, and names exactly the items that are reclaimed
+  pub names-go : (found : List ItemName) → found ≡ map (item_in d.names) slots → (sorted : List ItemName) → IsPermutation found sorted →
+      IsNonDecreasingBy (λ (i : ItemName). i.0) sorted →
+      IsStrictlyIncreasing (map (λ (i : ItemName). i.0) sorted)
+      × ((i : ItemName) → Contains sorted i ↔ (IsThere d i.0 × Contains (reclaims d.world p) (Item (slot_at d i.0))))
+  names-go found is sorted moved up =
+      let all = names-found d stocked slots (λ s c. (slot-before s c).1) slots-once found is sorted moved up in (
+        all.0,
+        (λ i. (
+          (λ c. let there = (all.1 i).0 c in (there.0, slot-reclaimed (slot_at d i.0) there.1)),
+          (λ h. (all.1 i).1 (h.0, subst (λ ks. Contains ks (slot_at d i.0)) (sym are) (contain-slots (reclaims d.world p) (slot_at d i.0) h.1))),
+        )),
+      )
 
 -- ---- an opening counts nothing but what it reclaims
 

@@ -11,6 +11,7 @@ pub mod Layers
 pub mod Gone
 pub mod Deferred
 pub mod Going
+pub mod WaitingFor
 pub mod Collected
 pub mod CollectorGoing
 pub mod CellGoing

@@ -112,6 +112,7 @@ stocked-as d new i slots names dates none = record {
   named = λ s t. rw (slots, names) (i.named s (none.taken s t));
   names = ap length names ∙ i.names ∙ sym none.slots;
   dates = dates ∙ i.dates ∙ sym none.slots;
+  few = rw names i.few;
 }
 
 -- the next item is made in slot k, which was free
@@ -147,6 +148,7 @@ module _ (d : Desk) (k : ℕ) (i : IsStocked d) (empty : IsEmptyAt d.world.stand
     names = ap length names ∙ length-set d.names k (length d.slots) ∙ i.names ∙ sym (length-set d.world.standings k (Some first))
         ∙ sym (ap length stands);
     dates = dates ∙ i.dates ∙ sym (length-set d.world.standings k (Some first)) ∙ sym (ap length stands);
+    few = omega (arith, ap length names, length-set d.names k (length d.slots), i.few);
   }
 
 -- ---- what is in a slot that is taken

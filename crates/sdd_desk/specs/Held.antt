@@ -1,9 +1,10 @@
 -- Of a new item how it stands, and of values whose owners they hold
-use Rattle.std.specs.Prelude.{ℕ, ◌==◌, ◌&&◌, Bool, List, [], ◌∷◌, Option, Some, None, count_by, nat_lt}
-use Rattle.std.specs.List.{flat_map}
+use Rattle.std.specs.Prelude.{ℕ, ◌==◌, ◌&&◌, Bool, List, [], ◌∷◌, Option, Some, None, count_by, filter, nat_lt}
+use Rattle.std.specs.List.{flat_map, range_with_len}
 use Rattle.sdd_token.specs.Units as token
 use Rattle.sdd_store.specs.declared.standing.Standing.{Standing}
 use Rattle.sdd_store.specs.declared.standing.Standing.TheVariants as standing
+use Rattle.sdd_store.specs.Collecting.{is_private_to}
 use Rattle.sdd_store.specs.declared.waiting.What.{What}
 use Rattle.sdd_store.specs.declared.waiting.What.TheVariants.{Item, Job}
 use Rattle.sdd_slots.specs.Slots.{is_waiting}
@@ -73,3 +74,7 @@ place_waiting (Job j) = j ∷ []
 -- the places of the jobs among what waits
 abbrev pub places_among : List What → List ℕ
 places_among xs = flat_map place_waiting xs
+
+-- of so many slots, those whose items wait for a collector
+abbrev pub slots_waiting_for : World Val → (c slots : ℕ) → List ℕ
+slots_waiting_for w c slots = filter (λ s. is_private_to c (standing_at w s)) (range_with_len 0 slots)

@@ -1,5 +1,5 @@
 -- What is always true of a desk
-use Rattle.std.specs.Prelude.{ℕ, ◌+◌, ◌<◌, ◌≤◌, ◌≡◌, ◌==◌, Bool, false, IsTrue, IsSome, List, Option, None, Some, count_by, length, slice_index}
+use Rattle.std.specs.Prelude.{ℕ, ◌+◌, ◌^◌, ◌<◌, ◌≤◌, ◌≡◌, ◌==◌, Bool, false, IsTrue, IsSome, List, Option, None, Some, count_by, length, slice_index}
 use Rattle.sdd_store.specs.Time.{is_open, phase_at}
 use Rattle.sdd_store.specs.Table.{Entries, entry_at}
 use Rattle.sdd_slots.specs.Slots.{is_waiting}
@@ -18,6 +18,8 @@ pub record IsStocked (d : Desk) : Type 0 where
   pub named : (s : ℕ) → IsSome (standing_at d.world s) → (name_at d s < length d.slots) × (slot_at d (name_at d s) ≡ s)
   pub names : length d.names ≡ length d.world.standings
   pub dates : length d.dates ≡ length d.world.standings
+  -- a slot is numbered by 32 bits
+  pub few : length d.names ≤ 2 ^ 32
 
 -- what keeps a cell: the value in a slot, whose link it is, or a name, of a cell or of a collector
 pub data Keeper : Type 0 where

@@ -1,8 +1,6 @@
 -- What the names of a script stand for
-use Rattle.std.specs.Prelude.{ℕ, ◌≡◌, ◌<◌, ◌≤◌, IsSome, IsTrue, List, filter, [], ◌∷◌, ◌++◌, Option, Some, None, length, slice_index, slice_index_or, slice_set, if◌then◌else◌}
-use Rattle.std.specs.List.{range_with_len}
+use Rattle.std.specs.Prelude.{ℕ, ◌≡◌, ◌<◌, ◌≤◌, IsSome, IsTrue, List, [], ◌∷◌, ◌++◌, Option, Some, None, length, slice_index, slice_index_or, slice_set, if◌then◌else◌}
 use Rattle.std.specs.Option.{option_map}
-use Rattle.sdd_store.specs.Collecting.{is_private_to}
 use Rattle.sdd_slots.specs.Slots.{is_waiting}
 use Rattle.sdd_base.specs.Holding.{Holding}
 use Rattle.sdd_base.specs.World.{World, standing_at}
@@ -85,10 +83,6 @@ owners_back owners (Some o) h = slice_set owners o.0 h
 abbrev pub dated_if_waiting : World Val → Option ℕ → (line : ℕ) → List ℕ → List ℕ
 dated_if_waiting w None line dates = dates
 dated_if_waiting w (Some k) line dates = if is_waiting (standing_at w k) then slice_set dates k line else dates
-
--- of so many slots, those whose items wait for a collector
-abbrev pub slots_waiting_for : World Val → (c slots : ℕ) → List ℕ
-slots_waiting_for w c slots = filter (λ s. is_private_to c (standing_at w s)) (range_with_len 0 slots)
 
 -- the slot of the owner that a body is has an item with a name
 abbrev pub SlotInside : List ℕ → Body Val → Type 0

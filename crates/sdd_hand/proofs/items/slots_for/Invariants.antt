@@ -1,5 +1,5 @@
 use Rattle.std.proofs.Common.{◌≡◌}
-use Rattle.sdd_hand.specs.Hand.{slots_waiting_for}
+use Rattle.sdd_desk.specs.Held.{slots_waiting_for}
 use Rattle.sdd_hand.proofs.items.slots_for.Given as goal
 
 abbrev pub invariant-loop-slot : goal.invariant-loop-slot
