@@ -230,7 +230,8 @@ module _ (d : Desk) (s : IsSound d) (whole : IsWhole d.world) where
         (given-alone (holding.owned j home) there slot (inl (subst (λ i. standing_at d.world i ≡ Some Owned) same does.0)))
     sound-given (holding.shared j home) (reply.Truth last) w there slot (count, stands, is_last, world) =
         let same : j ≡ k = cc in
-        given-shared (holding.shared j home) there slot count (ap shared_slot there ∙ slot) (subst (λ i. IsSharedBy count (standing_at d.world i)) same stands) w
+        given-shared (holding.shared j home) there slot count (ap shared_slot there ∙ slot)
+        (subst (λ i. IsSharedBy count (standing_at d.world i)) same stands) w
         (world ∙ ap (λ i. owner_collected d.world p c i (Some (Shared count))) same)
     sound-given h given w there slot does = absurd does
 

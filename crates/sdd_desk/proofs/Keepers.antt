@@ -29,7 +29,8 @@ one-kept d (name_of n) c x a b = let e : Some c ≡ Some x = sym a ∙ b in cc
 one-kept d (collector_named n) c x a b = let e : Some c ≡ Some x = sym a ∙ b in cc
 
 -- with the same values and names the same is kept
-keeps-as : (d new : Desk) → new.world.values ≡ d.world.values → new.cells ≡ d.cells → new.collectors ≡ d.collectors → (k : Keeper) (c : ℕ) → Keeps d k c → Keeps new k c
+keeps-as : (d new : Desk) → new.world.values ≡ d.world.values → new.cells ≡ d.cells → new.collectors ≡ d.collectors → (k : Keeper) (c : ℕ) →
+    Keeps d k c → Keeps new k c
 keeps-as d new values named collecting (value_in s) c h = (h.0, ap (λ vs. slice_index_or vs s None) values ∙ h.1, h.2)
 keeps-as d new values named collecting (name_of n) c h = ap (λ hs. cell_of (holding_at hs n)) named ∙ h
 keeps-as d new values named collecting (collector_named n) c h = ap (λ hs. collector_of (holding_at hs n)) collecting ∙ h
