@@ -38,7 +38,7 @@ fn numbers_below(alloc: Global, size: u32) -> Result<Vec<u32>, AllocError>
 }
 
 /// So many places, all empty.
-fn empty_places<E>(alloc: Global, size: u32) -> Result<Vec<Option<E>>, AllocError>
+pub(crate) fn empty_places<E>(alloc: Global, size: u32) -> Result<Vec<Option<E>>, AllocError>
     ensures { IfOk result (λ places. places.items ≡ replicate size None) }
 {
     let mut places = Vec::with_capacity(alloc, size as usize)?;
