@@ -1,3 +1,4 @@
+pub mod Fresh
 pub mod Aging
 pub mod Listed
 pub mod Adopting

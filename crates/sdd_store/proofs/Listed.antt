@@ -1,6 +1,6 @@
 -- The list of the empty places, after each change of a table
 use Rattle.std.proofs.Common.{◌≡◌, ◌≢◌, ℕ, ◌+◌, ◌<◌, ◌≤◌, true, false, cond, List, [], ◌∷◌, ◌++◌, Option, Some, None, IsSome, IsNone, All, is_some, is_none, count_by, length, zero, suc, ◌==◌, ◌↔◌, IsTrue, get_or, slice_set, eq-eqb, eqb-true, slice_index, arith, refl, sym, ap, ◌∙◌, below_more}
-use Rattle.std.proofs.lemmas.List.{length-set, get_or_append_left, get_or_push, length-append, get_or-set_other, get_or-set_same}
+use Rattle.std.proofs.lemmas.List.{length-set, get_or_append_left, get_or_push, length-append, get_or-set_other, get_or-set_same, append-nil}
 use Rattle.std.proofs.lemmas.List.Sums.{sum_by-set, sum_by-cons, count_by-le-length}
 use Rattle.sdd_store.specs.Table.{Entries, entry_at, with_entry, without_entry, IsEmptyAt, IsListed}
 
@@ -43,6 +43,13 @@ module _ {E : Type 0} where
   count-released t k h =
       let was : one_if_none (entry_at t k) ≡ 0 = zero-from-some (entry_at t k) h in
       let step = sum_by-set one_if_none t k None None (entry-lt-length t k h) in
+      omega (arith, was, step)
+
+  -- an entry in the place of one
+  pub count-replaced : (t : Entries E) (k : ℕ) (e : E) → IsSome (entry_at t k) → count_by is_none (with_entry t k e) ≡ count_by is_none t
+  count-replaced t k e h =
+      let was : one_if_none (entry_at t k) ≡ 0 = zero-from-some (entry_at t k) h in
+      let step = sum_by-set one_if_none t k (Some e) None (entry-lt-length t k h) in
       omega (arith, was, step)
 
   -- every place is empty
@@ -154,3 +161,21 @@ module _ {E : Type 0} where
         all = omega (arith, h.all, count-released t k some);
         reserved = rw (length-set t k None) h.reserved;
       }
+
+  -- no place is left or taken where an entry gives way to another
+  pub listed-replaced : (t : Entries E) (k : ℕ) (e : E) (empty : List ℕ) (room : ℕ) → IsListed t empty room → IsSome (entry_at t k) →
+      IsListed (with_entry t k e) empty room
+  listed-replaced t k e empty room h some =
+      record {
+        each = λ i lt. (
+          rw (length-set t k (Some e)) ((h.each i lt).0),
+          get_or-set_other t k (slice_index empty i) (Some e) None (unlisted t k empty room i h some lt) ∙ (h.each i lt).1,
+        );
+        once = h.once;
+        all = h.all ∙ sym (count-replaced t k e some);
+        reserved = rw (length-set t k (Some e)) h.reserved;
+      }
+
+  -- where nothing came out, the list is the same
+  pub listed-still : (t : Entries E) (empty left : List ℕ) (room later : ℕ) → IsListed t empty room → empty ≡ left ++ [] → later ≡ room → IsListed t left later
+  listed-still t empty left room later h same later_is = rw (later_is) (rw (same ∙ append-nil left) at h)

@@ -1,7 +1,7 @@
 ghost use Rattle.std.specs.Prelude.{◌≡◌, IsSome, IsTrue, ◌↔◌, IfOk, MatchResult, None, replicate};
 ghost use Rattle.sdd_store.specs.Table.{entry_at, with_entry, without_entry, IsEmptyAt, IsFull};
 
-use crate::table::Table;
+use crate::table::{Table, empty_places};
 use std::alloc::{AllocError, Global};
 use std::marker::Model;
 
@@ -62,10 +62,7 @@ impl<J: Job> Jobs<J> {
         ensures { IfOk result (λ t. t ≡ replicate size None) }
     {
         let numbers = Table::new(alloc, size)?;
-        let mut jobs = Vec::with_capacity(alloc, size as usize)?;
-        for _ in 0..size {
-            jobs.push_reserved(None);
-        }
+        let jobs = empty_places(alloc, size)?;
         Ok(Jobs { numbers, jobs })
     }
 

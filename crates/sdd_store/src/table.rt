@@ -1,4 +1,5 @@
-ghost use Rattle.std.specs.Prelude.{◌≡◌, ℕ, ◌<◌, ◌≤◌, All, IsNone, IsSome, IsTrue, ◌↔◌, IfOk, MatchResult, Some, None, length, replicate};
+ghost use Rattle.std.specs.Prelude.{◌≡◌, ℕ, ◌<◌, ◌≤◌, All, IsNone, IsSome, IsTrue, ◌↔◌, IfOk, MatchResult, Some, None, length, replicate, vec_capacity};
+ghost use Rattle.std.specs.List.{range_with_len};
 ghost use Rattle.sdd_store.specs.Table.{Entries, entry_at, with_entry, without_entry, IsEmptyAt, IsFull};
 
 use std::alloc::{AllocError, Global};
@@ -24,17 +25,36 @@ impl<E> Model for Table<E> {
     ghost invariant = { λ t. IsListed t.entries.items t.empty.items (vec_capacity t.empty) };
 }
 
+/// The numbers from 0 on, so many.
+fn numbers_below(alloc: Global, size: u32) -> Result<Vec<u32>, AllocError>
+    ensures items { IfOk result (λ numbers. numbers.items ≡ range_with_len 0 size) }
+    ensures room { IfOk result (λ numbers. size ≤ vec_capacity numbers) }
+{
+    let mut numbers = Vec::with_capacity(alloc, size as usize)?;
+    for number in 0..size {
+        numbers.push_reserved(number);
+    }
+    Ok(numbers)
+}
+
+/// So many places, all empty.
+pub(crate) fn empty_places<E>(alloc: Global, size: u32) -> Result<Vec<Option<E>>, AllocError>
+    ensures { IfOk result (λ places. places.items ≡ replicate size None) }
+{
+    let mut places = Vec::with_capacity(alloc, size as usize)?;
+    for _place in 0..size {
+        places.push_reserved(None);
+    }
+    Ok(places)
+}
+
 impl<E: Copy> Table<E> {
     /// A table of that many places, all empty.
     pub fn new(alloc: Global, size: u32) -> Result<Table<E>, AllocError>
         ensures { IfOk result (λ t. t ≡ replicate size None) }
     {
-        let mut empty = Vec::with_capacity(alloc, size as usize)?;
-        let mut entries = Vec::with_capacity(alloc, size as usize)?;
-        for place in 0..size {
-            entries.push_reserved(None);
-            empty.push_reserved(place);
-        }
+        let entries = empty_places(alloc, size)?;
+        let empty = numbers_below(alloc, size)?;
         Ok(Table { entries, empty })
     }
 
