@@ -169,10 +169,7 @@ impl<T: Item<T>, J: Job> Space<T> for Turn<'_, T, J> {
         if world.core.is_full() {
             return Err((make, Refused::NoSlot));
         }
-        match world.core.make(make(), kind) {
-            Ok(right) => Ok(right),
-            Err(_) => unreachable!(),
-        }
+        Ok(world.core.fill(make(), kind))
     }
 
     fn guarded<'g>(&mut self, right: &Right, guard: &'g Guard) -> &'g T {
@@ -287,11 +284,9 @@ impl<T: Item<T>, J: Job> Space<T> for Turn<'_, T, J> {
         if world.core.has_no_cell() {
             return Err((value, Refused::NoCell));
         }
-        match world.core.make(value, kind) {
-            Ok(right) => match world.core.make_cell(Some(right), Tag::None, kind) {
-                Ok(cell) => Ok(cell),
-                Err(_) => unreachable!(),
-            },
+        let right = world.core.fill(value, kind);
+        match world.core.make_cell(Some(right), Tag::None, kind) {
+            Ok(cell) => Ok(cell),
             Err(_) => unreachable!(),
         }
     }
