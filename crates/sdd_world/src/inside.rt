@@ -393,6 +393,25 @@ impl<T: Item<T>, J: Job> Core<T, J> {
         self.cells.claim(held, tag, kind)
     }
 
+    /// The same, where a cell is free.
+    pub fn fill_cell(&mut self, held: Option<Right>, tag: Tag, kind: Kind) -> Right
+        requires owner { IsOwner kind }
+        requires held { MayHold self.old.world.home.slots kind held }
+        requires room { ¬ (IsFull self.old.world.cells) }
+        ensures home { home_of result ≡ self.old.world.home.cells }
+        ensures kind { kind_of result ≡ kind }
+        ensures empty { IsEmptyAt self.old.world.cells (number_of result) }
+        ensures made { self.new ≡ record self.old { world = with_cell self.old.world (number_of result) (cell_with held tag) } }
+        ensures sizes { KeepsSizes self.old.world self.new.world }
+        ensures whole { IsWhole self.old.world → IsWhole self.new.world }
+        ensures lent { IsWhole self.old.world → AreLent self.old → AreLent self.new }
+    {
+        match self.make_cell(held, tag, kind) {
+            Ok(cell) => cell,
+            Err(_) => unreachable!(),
+        }
+    }
+
     /// What a cell holds.
     pub fn cell(&self, cell: &Right) -> Cell
         requires { home_of cell.now ≡ self.now.world.home.cells }

@@ -285,10 +285,7 @@ impl<T: Item<T>, J: Job> Space<T> for Turn<'_, T, J> {
             return Err((value, Refused::NoCell));
         }
         let right = world.core.fill(value, kind);
-        match world.core.make_cell(Some(right), Tag::None, kind) {
-            Ok(cell) => Ok(cell),
-            Err(_) => unreachable!(),
-        }
+        Ok(world.core.fill_cell(Some(right), Tag::None, kind))
     }
 
     fn cell(&mut self, cell: &Right) -> Cell {
@@ -351,10 +348,7 @@ impl<T: Item<T>, J: Job> Space<T> for Turn<'_, T, J> {
             return Err(Refused::NoCell);
         }
         let owner = world.core.owner_held(cell)?;
-        match world.core.make_cell(owner, tag, Kind::Shared) {
-            Ok(other) => Ok(other),
-            Err(_) => unreachable!(),
-        }
+        Ok(world.core.fill_cell(owner, tag, Kind::Shared))
     }
 
     fn take_cell(&mut self, cell: Right) -> Option<Right> {
