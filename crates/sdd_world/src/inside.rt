@@ -96,6 +96,25 @@ impl<T: Item<T>, J: Job> Core<T, J> {
         Ok(right)
     }
 
+    /// Puts a value into a free slot, for an owner of this kind, where one is there.
+    pub fn fill(&mut self, value: T, kind: Kind) -> Right
+        requires home { AreOf self.old.world.home (T.holds value) }
+        requires owner { IsOwner kind }
+        requires room { ¬ (IsFull self.old.world.standings) }
+        ensures home { home_of result ≡ self.old.world.home.slots }
+        ensures kind { kind_of result ≡ kind }
+        ensures empty { IsEmptyAt self.old.world.standings (number_of result) }
+        ensures made { self.new ≡ record self.old { world = made_as self.old.world (number_of result) value (first_standing kind) } }
+        ensures whole { IsWhole self.old.world → IsWhole self.new.world }
+        ensures lent { IsWhole self.old.world → AreLent self.old → AreLent self.new }
+        ensures keeps { IsWhole self.old.world → (k : ℕ) (v : T) → value_at self.old.world k ≡ Some v → value_at self.new.world k ≡ Some v }
+    {
+        match self.make(value, kind) {
+            Ok(right) => right,
+            Err(_) => unreachable!(),
+        }
+    }
+
     /// The slot of an owner, with how the owner finds it.
     pub fn slot_of(&self, right: &Right) -> u32
         requires { home_of right.now ≡ self.now.world.home.slots }
@@ -372,6 +391,25 @@ impl<T: Item<T>, J: Job> Core<T, J> {
         ensures lent { IsWhole self.old.world → AreLent self.old → AreLent self.new }
     {
         self.cells.claim(held, tag, kind)
+    }
+
+    /// The same, where a cell is free.
+    pub fn fill_cell(&mut self, held: Option<Right>, tag: Tag, kind: Kind) -> Right
+        requires owner { IsOwner kind }
+        requires held { MayHold self.old.world.home.slots kind held }
+        requires room { ¬ (IsFull self.old.world.cells) }
+        ensures home { home_of result ≡ self.old.world.home.cells }
+        ensures kind { kind_of result ≡ kind }
+        ensures empty { IsEmptyAt self.old.world.cells (number_of result) }
+        ensures made { self.new ≡ record self.old { world = with_cell self.old.world (number_of result) (cell_with held tag) } }
+        ensures sizes { KeepsSizes self.old.world self.new.world }
+        ensures whole { IsWhole self.old.world → IsWhole self.new.world }
+        ensures lent { IsWhole self.old.world → AreLent self.old → AreLent self.new }
+    {
+        match self.make_cell(held, tag, kind) {
+            Ok(cell) => cell,
+            Err(_) => unreachable!(),
+        }
     }
 
     /// What a cell holds.

@@ -169,10 +169,7 @@ impl<T: Item<T>, J: Job> Space<T> for Turn<'_, T, J> {
         if world.core.is_full() {
             return Err((make, Refused::NoSlot));
         }
-        match world.core.make(make(), kind) {
-            Ok(right) => Ok(right),
-            Err(_) => unreachable!(),
-        }
+        Ok(world.core.fill(make(), kind))
     }
 
     fn guarded<'g>(&mut self, right: &Right, guard: &'g Guard) -> &'g T {
@@ -287,13 +284,8 @@ impl<T: Item<T>, J: Job> Space<T> for Turn<'_, T, J> {
         if world.core.has_no_cell() {
             return Err((value, Refused::NoCell));
         }
-        match world.core.make(value, kind) {
-            Ok(right) => match world.core.make_cell(Some(right), Tag::None, kind) {
-                Ok(cell) => Ok(cell),
-                Err(_) => unreachable!(),
-            },
-            Err(_) => unreachable!(),
-        }
+        let right = world.core.fill(value, kind);
+        Ok(world.core.fill_cell(Some(right), Tag::None, kind))
     }
 
     fn cell(&mut self, cell: &Right) -> Cell {
@@ -356,10 +348,7 @@ impl<T: Item<T>, J: Job> Space<T> for Turn<'_, T, J> {
             return Err(Refused::NoCell);
         }
         let owner = world.core.owner_held(cell)?;
-        match world.core.make_cell(owner, tag, Kind::Shared) {
-            Ok(other) => Ok(other),
-            Err(_) => unreachable!(),
-        }
+        Ok(world.core.fill_cell(owner, tag, Kind::Shared))
     }
 
     fn take_cell(&mut self, cell: Right) -> Option<Right> {
