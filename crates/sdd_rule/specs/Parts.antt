@@ -23,11 +23,14 @@ with_both v w s = record v { epoch = w; slots = s }
 
 -- a token that knows nothing
 abbrev pub idle : Sizes → View
-idle sizes = record { epoch = nobody sizes.participants; places = record {}; slots = bare; words = blank sizes }
+idle sizes = record { sizes = sizes; epoch = nobody sizes.participants; places = record {}; slots = bare; words = blank sizes }
+
+abbrev pub no_sizes : Sizes
+no_sizes = record { participants = 0; slots = 0; jobs = 0; cells = 0 }
 
 -- a token that knows its owners alone
 abbrev pub owner_token : List ℕ → List ℕ → View
-owner_token owns shares = record { epoch = nobody 0; places = record {}; slots = owning_only owns shares; words = [] }
+owner_token owns shares = record { sizes = no_sizes; epoch = nobody 0; places = record {}; slots = owning_only owns shares; words = [] }
 
 -- the parts that speak of words and of what each participant knows
 pub record Parts (sizes : Sizes) (ws : List ℕ) (vs : List View) : Type 0 where

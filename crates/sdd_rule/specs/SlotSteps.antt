@@ -1,14 +1,15 @@
 -- What each step makes of what the participant knows of slots, and what it tells
 use Rattle.std.specs.Prelude.{◌≡◌, ◌≢◌, ℕ, ◌+◌, ◌==◌, ◌≤◌, not, if◌then◌else◌, List, [], ◌∷◌, ◌++◌, map, replicate, slice_index, slice_set, None}
 use Rattle.std.specs.List.{filter}
+use mathlib.Core.Option.{some}
+use lib.ListN.{get_elem?}
 use Rattle.sdd_rule.specs.declared.EpochView.{EpochView}
 use Rattle.sdd_rule.specs.declared.SlotsView.{SlotsView}
 use Rattle.sdd_rule.specs.declared.WaitingItem.{WaitingItem}
 use Rattle.sdd_rule.specs.declared.View.{View}
 use Rattle.sdd_rule.specs.declared.Sizes.{Sizes}
-use Rattle.sdd_rule.specs.Words.{words_behind}
+use Rattle.sdd_rule.specs.Words.{words_behind, slot_word}
 use Rattle.sdd_rule.specs.Epoch.{IsLone}
-use Rattle.sdd_rule.specs.Codes.{free_word, owned_word, waiting_word}
 use Rattle.sdd_rule.specs.Steps.{knowing, closed, Publishes}
 
 -- it owns nothing, sees nothing, and no item waits with it
@@ -28,12 +29,12 @@ abbrev pub behind : Sizes → ℕ → ℕ
 behind sizes slot = sizes.jobs + sizes.cells + slot
 
 -- what is known of these words once y is in that of a slot
-abbrev pub noted : Sizes → View → ℕ → ℕ → List ℕ
-noted sizes v slot y = slice_set v.words (behind sizes slot) y
+abbrev pub noted : ℕ → ℕ → View → List ℕ
+noted slot y v = slice_set v.words (behind v.sizes slot) y
 
 -- a lone participant finds what it knew
-abbrev pub Knew : Sizes → ℕ → View → ℕ → Type 0
-Knew sizes slot v x = IsLone v.epoch → x ≡ slice_index v.words (behind sizes slot)
+abbrev pub Knew : ℕ → View → ℕ → Type 0
+Knew slot v x = IsLone v.epoch → x ≡ slice_index v.words (behind v.sizes slot)
 
 -- the slots other than this one
 abbrev pub without : ℕ → List ℕ → List ℕ
@@ -43,28 +44,26 @@ without slot = filter (λ other. not (other == slot))
 abbrev pub without_item : ℕ → List WaitingItem → List WaitingItem
 without_item slot = filter (λ (x : WaitingItem). not (x.slot == slot))
 
-abbrev pub claimed : Sizes → ℕ → ℕ → View → View
-claimed sizes slot generation v = record v {
-  slots = record v.slots { owns = slot ∷ v.slots.owns };
-  words = noted sizes v slot (owned_word generation);
-}
+-- a slot is claimed, and its word is y then
+abbrev pub claimed : ℕ → ℕ → View → View
+claimed slot y v = record v { slots = record v.slots { owns = slot ∷ v.slots.owns }; words = noted slot y v }
 
 abbrev pub retired_now : ℕ → ℕ → WaitingItem
 retired_now slot count = record { slot = slot; retired_at = count; changes = 0 }
 
-abbrev pub retired : Sizes → ℕ → ℕ → ℕ → View → View
-retired sizes slot generation count v = record v {
+-- its item is retired at a count
+abbrev pub retired : ℕ → ℕ → ℕ → View → View
+retired slot y count v = record v {
   epoch = knowing v.epoch count;
   slots = record v.slots { owns = without slot v.slots.owns; waits = v.slots.waits ++ retired_now slot count ∷ [] };
-  words = noted sizes v slot (waiting_word generation);
+  words = noted slot y v;
 }
 
-abbrev pub given_back : Sizes → ℕ → ℕ → View → View
-given_back sizes slot generation v = record v {
-  slots = record v.slots { waits = without_item slot v.slots.waits };
-  words = noted sizes v slot (free_word generation);
-}
+-- it is given back
+abbrev pub given_back : ℕ → ℕ → View → View
+given_back slot y v = record v { slots = record v.slots { waits = without_item slot v.slots.waits }; words = noted slot y v }
 
+-- a guard sees it
 abbrev pub seeing : ℕ → View → View
 seeing slot v = record v { slots = record v.slots { sees = slot ∷ v.slots.sees } }
 
@@ -80,6 +79,10 @@ changed v = if v.epoch.count == v.epoch.found then v.slots else record v.slots {
 abbrev pub unseeing : View → SlotsView
 unseeing v = record v.slots { sees = [] }
 
+-- an item of the slot waits with it that has seen three changes
+abbrev pub IsDue : View → ℕ → Type 0
+IsDue v slot = (k : ℕ) × (x : WaitingItem) × (get_elem? v.slots.waits k ≡ some x) × (x.slot ≡ slot) × (3 ≤ x.changes)
+
 -- each of these: what was known before, the number found (at a store the number stored), and what is known after
 -- a step of the epoch's part leaves what is known of the others
 abbrev pub OnEpoch : (EpochView → ℕ → EpochView → Type 0) → View → ℕ → View → Type 0
@@ -92,20 +95,22 @@ PublishesAll v x w = (e : EpochView) × (w ≡ record v { epoch = e; slots = cha
 abbrev pub ClosesAll : View → ℕ → View → Type 0
 ClosesAll v x w = w ≡ record v { epoch = closed v.epoch; slots = unseeing v }
 
--- the claim of a slot, of which a lone participant knows beforehand whether it is free
-abbrev pub Claims : Sizes → ℕ → ℕ → View → ℕ → View → Type 0
-Claims sizes slot generation v x w =
-    (x ≡ free_word generation → w ≡ claimed sizes slot generation v) × (x ≢ free_word generation → w ≡ v) × Knew sizes slot v x
+-- the claim of a slot whose word is old as long as it is free
+abbrev pub Claims : ℕ → ℕ → ℕ → View → ℕ → View → Type 0
+Claims slot old y v x w = (x ≡ old → w ≡ claimed slot y v) × (x ≢ old → w ≡ v) × Knew slot v x
 
 -- an owned item waits from the count of this moment on, which is known after it
-abbrev pub Retires : Sizes → ℕ → ℕ → View → ℕ → View → Type 0
-Retires sizes slot generation v x w =
-    (count : ℕ) × (v.epoch.known ≤ count) × (IsLone v.epoch → count ≡ v.epoch.known) × (w ≡ retired sizes slot generation count v)
+abbrev pub Retires : ℕ → View → ℕ → View → Type 0
+Retires slot v y w = (count : ℕ) × (v.epoch.known ≤ count) × (IsLone v.epoch → count ≡ v.epoch.known) × (w ≡ retired slot y count v)
 
 -- the slot is free
-abbrev pub GivesBack : Sizes → ℕ → ℕ → View → ℕ → View → Type 0
-GivesBack sizes slot generation v x w = w ≡ given_back sizes slot generation v
+abbrev pub GivesBack : ℕ → View → ℕ → View → Type 0
+GivesBack slot v y w = w ≡ given_back slot y v
 
 -- a guard sees a slot of the participant's own
-abbrev pub Watches : Sizes → ℕ → View → ℕ → View → Type 0
-Watches sizes slot v x w = (w ≡ seeing slot v) × Knew sizes slot v x
+abbrev pub Watches : ℕ → View → ℕ → View → Type 0
+Watches slot v x w = (w ≡ seeing slot v) × Knew slot v x
+
+-- a step on the word i tells R of the slot whose word it is
+abbrev pub AtSlot : (ℕ → View → ℕ → View → Type 0) → ℕ → View → ℕ → View → Type 0
+AtSlot R i v x w = (slot : ℕ) → i ≡ slot_word v.sizes slot → R slot v x w

@@ -56,6 +56,8 @@ pub struct SlotsView {
 
 /// What a participant knows.
 pub struct View {
+    /// How many of each its domain has; none where it isn't a participant's token.
+    pub sizes: Sizes,
     pub epoch: EpochView,
     pub places: PlacesView,
     pub slots: SlotsView,
