@@ -1,3 +1,4 @@
+pub mod Sizes
 pub mod Board
 pub mod Token
 pub mod Scan

@@ -1,0 +1,83 @@
+//! The atomic steps on slots, by a participant.
+//!
+//! A slot is free, owned by one owner, or its item waits. A lone participant knows each word beforehand.
+ghost use Rattle.std.specs.Prelude.{◌≡◌, ◌<◌};
+ghost use Rattle.sdd_rule.specs.Codes.{free_word, owned_word, waiting_word};
+ghost use Rattle.sdd_rule.specs.Epoch.{HasPlace, IsOpen};
+ghost use Rattle.sdd_rule.specs.Slots.{owners_at, OwnsAlone, Holds};
+ghost use Rattle.sdd_rule.specs.SlotSteps.{IsDue, Claims, Retires, GivesBack, Watches};
+ghost use Rattle.sdd_domain.specs.Board.{id_of, sizes_of, slots_of};
+ghost use Rattle.sdd_domain.specs.Token.{view, epoch, Taught};
+
+use crate::board::{Board, Token};
+use crate::plays::{Claim, GiveBack, Retire, Watch};
+
+/// Nobody's slot.
+pub const FREE: u64 = 0;
+/// Its item has one owner, which isn't counted.
+pub const OWNED: u64 = 1;
+/// Its item is retired, and waits.
+pub const WAITING: u64 = 4;
+
+/// Tries to claim a slot, and answers its word before. It was free where this is `FREE`.
+#[inline]
+pub fn claim(board: &Board, token: &mut Token, slot: u32) -> u64
+    requires home { token.old.table_id ≡ id_of board.now }
+    requires sizes { (view token.old).sizes ≡ sizes_of board.now }
+    requires inside { slot < slots_of board.now }
+    requires place { HasPlace (epoch token.old) }
+    ensures { Taught (Claims slot (free_word 0) (owned_word 0)) token.old result token.new }
+{
+    board
+        .table
+        .shared
+        .compare_exchange::<Claim>(token, board.slot_word(slot), FREE, OWNED)
+}
+
+/// Retires the item of a slot of its own, which waits with the participant from now on.
+#[inline]
+pub fn retire(board: &Board, token: &mut Token, slot: u32)
+    requires home { token.old.table_id ≡ id_of board.now }
+    requires sizes { (view token.old).sizes ≡ sizes_of board.now }
+    requires inside { slot < slots_of board.now }
+    requires place { HasPlace (epoch token.old) }
+    requires own { OwnsAlone (view token.old) slot × ¬ (Holds (view token.old) slot) }
+    ensures { Taught (Retires slot) token.old (waiting_word 0) token.new }
+{
+    board
+        .table
+        .shared
+        .store::<Retire>(token, board.slot_word(slot), WAITING);
+}
+
+/// Gives back the slot of an item that has seen three changes, so that nobody sees it any more.
+#[inline]
+pub fn give_back(board: &Board, token: &mut Token, slot: u32)
+    requires home { token.old.table_id ≡ id_of board.now }
+    requires sizes { (view token.old).sizes ≡ sizes_of board.now }
+    requires inside { slot < slots_of board.now }
+    requires place { HasPlace (epoch token.old) }
+    requires due { IsDue (view token.old) slot }
+    ensures { Taught (GivesBack slot) token.old (free_word 0) token.new }
+{
+    board
+        .table
+        .shared
+        .store::<GiveBack>(token, board.slot_word(slot), FREE);
+}
+
+/// The open guard sees a slot of the participant's own from now on. Answers the slot's word.
+#[inline]
+pub fn watch(board: &Board, token: &mut Token, slot: u32) -> u64
+    requires home { token.old.table_id ≡ id_of board.now }
+    requires sizes { (view token.old).sizes ≡ sizes_of board.now }
+    requires inside { slot < slots_of board.now }
+    requires open { IsOpen (epoch token.old) }
+    requires own { (0 < owners_at slot (view token.old)) × ¬ (Holds (view token.old) slot) }
+    ensures { Taught (Watches slot) token.old result token.new }
+{
+    board
+        .table
+        .shared
+        .load::<Watch>(token, board.slot_word(slot))
+}
