@@ -7,3 +7,4 @@ pub mod Local
 pub mod Posed
 pub mod Receipt
 pub mod Space
+pub mod Life
