@@ -1,12 +1,12 @@
 -- A participant's token over a step
-use Rattle.std.specs.Prelude.{◌≡◌, ℕ, List}
+use Rattle.std.specs.Prelude.{◌≡◌, ℕ, List, [], ◌∷◌}
 use Rattle.atomic_table.specs.Table.{Me, Step}
 use Rattle.atomic_table.specs.declared.shared.Seat.{Seat}
 use Rattle.sdd_rule.specs.declared.EpochView.{EpochView}
 use Rattle.sdd_rule.specs.declared.SlotsView.{SlotsView}
 use Rattle.sdd_rule.specs.declared.View.{View}
 use Rattle.sdd_rule.specs.Steps.{Publishes, Closes}
-use Rattle.sdd_rule.specs.SlotSteps.{changed, unseeing}
+use Rattle.sdd_rule.specs.SlotSteps.{changed, unseeing, joined}
 
 module _ {S : Type 0} where
   -- what the token knows
@@ -55,3 +55,7 @@ module _ {S : Type 0} where
   abbrev pub HasClosed : Seat S View → Seat S View → Type 0
   HasClosed s s' = IsSame s s' × (s'.me.0.places ≡ s.me.0.places) × (slots s' ≡ unseeing (view s)) × (words_known s' ≡ words_known s)
       × Closes (epoch s) 1 (epoch s')
+
+  -- the owners that another token knew are the participant's own
+  abbrev pub IsTakenIn : List View → Seat S View → Seat S View → Type 0
+  IsTakenIn owners s s' = (w : View) → owners ≡ w ∷ [] → Taught (λ v _ v'. v' ≡ joined v w) s 0 s'

@@ -1,9 +1,11 @@
 //! What each step tells.
+ghost use Rattle.std.specs.Prelude.{[]};
 ghost use Rattle.sdd_rule.specs.Steps.{Registers, Reads, Counts, Ends, Locks, LooksAtState, LooksAtCount, Advances, Unlocks};
-ghost use Rattle.sdd_rule.specs.SlotSteps.{OnEpoch, PublishesAll, ClosesAll, Claims, Retires, GivesBack, Watches, AtSlot};
+ghost use Rattle.sdd_rule.specs.SlotSteps.{OnEpoch, PublishesAll, ClosesAll, Claims, Retires, GivesBack, Watches, AtSlot, first, parted, joined};
+ghost use Rattle.sdd_rule.specs.Parts.{owner_token};
 ghost use Rattle.sdd_domain.specs.Token.{Sits, Told};
 
-use atomic_table::Play;
+use atomic_table::{Join, Play, Split};
 use sdd_rule::View;
 
 pub struct Sit;
@@ -100,4 +102,20 @@ pub struct Watch;
 
 impl Play<(), View> for Watch {
     ghost then = { λ step. Told (AtSlot Watches step.word) };
+}
+
+pub struct Part;
+
+impl Split<View> for Part {
+    ghost left = { parted };
+
+    ghost right = { λ v. owner_token (first v.slots.owns) [] };
+}
+
+pub struct TakeIn;
+
+impl Join<View> for TakeIn {
+    ghost both = { joined };
+
+    ghost spent = { owner_token [] [] };
 }

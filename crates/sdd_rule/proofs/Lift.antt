@@ -11,7 +11,10 @@ use Rattle.sdd_rule.specs.declared.View.{View}
 use Rattle.sdd_rule.specs.declared.Sizes.{Sizes}
 use Rattle.sdd_rule.specs.Codes.{codes}
 use Rattle.sdd_rule.specs.Words.{all_words}
-use Rattle.sdd_rule.specs.Sums.{times}
+use Rattle.sdd_rule.specs.Sums.{is, times}
+use Rattle.sdd_rule.specs.SlotSteps.{first, others, parted, joined}
+use Rattle.sdd_rule.proofs.Sums.{total_append}
+use Rattle.std.specs.Prelude.{Some, None}
 use Rattle.sdd_rule.specs.Epoch.{HasPlace, EpochPart}
 use Rattle.sdd_rule.specs.Slots.{Holds, LonePart}
 use Rattle.sdd_rule.specs.Steps.{Steps, nobody}
@@ -121,3 +124,18 @@ module _ {S : Type 0} (sizes : Sizes) where
         };
         places = record { wide = k.places.wide };
       }
+
+  -- the only owner of the first slot goes to a token of its own, where none is held
+  pub parts_owner : (id : ℕ) (v : View) → v.slots.holds ≡ None → Splits (Kept {S = S} sizes) id v (parted v) (owner_token (first v.slots.owns) [])
+  parts_owner id v free = cuts id v (others v.slots.owns) v.slots.shares (first v.slots.owns) []
+      (λ i. (both i v.slots.owns, omega arith)) (λ i h. let c : None ≡ Some i = sym free ∙ h in cc)
+    where
+      both : (i : ℕ) (os : List ℕ) → times i os ≡ times i (others os) + times i (first os)
+      both i [] = refl
+      both i (x ∷ xs) = omega arith
+
+  -- and comes back
+  pub joins_owners : (id : ℕ) (v : View) (other : ℕ) (os ss : List ℕ)
+      → Joins (Kept {S = S} sizes) id v other (owner_token os ss) (joined v (owner_token os ss)) (owner_token [] [])
+  joins_owners id v other os ss = takes_in id v other (os ++ v.slots.owns) (ss ++ v.slots.shares) os ss
+      (λ i. (let e = total_append (is i) os v.slots.owns in omega arith, let e = total_append (is i) ss v.slots.shares in omega arith))

@@ -22,6 +22,10 @@ module _ {X : Type 0} (f : X → ℕ) where
   total_snoc [] w = omega arith
   total_snoc (x ∷ xs) w = let s = total_snoc xs w in omega arith
 
+  pub total_append : (vs us : List X) → total f (vs ++ us) ≡ total f vs + total f us
+  total_append [] us = omega arith
+  total_append (x ∷ xs) us = let s = total_append xs us in omega arith
+
   pub total_has : (vs : List X) (id : ℕ) (v : X) → get_elem? vs id ≡ some v → f v ≤ total f vs
   total_has [] id v e = absurd (some-ne-none v (sym e))
   total_has (x ∷ xs) zero v e = let s = ap f (some-injective _ _ e) in omega arith

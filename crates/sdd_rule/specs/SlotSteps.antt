@@ -44,6 +44,23 @@ without slot = filter (λ other. not (other == slot))
 abbrev pub without_item : ℕ → List WaitingItem → List WaitingItem
 without_item slot = filter (λ (x : WaitingItem). not (x.slot == slot))
 
+-- the first of a list, and the others
+abbrev pub first : List ℕ → List ℕ
+first [] = []
+first (x ∷ xs) = x ∷ []
+
+abbrev pub others : List ℕ → List ℕ
+others [] = []
+others (x ∷ xs) = xs
+
+-- the only owner of the first slot goes, to a token of its own
+abbrev pub parted : View → View
+parted v = record v { slots = record v.slots { owns = others v.slots.owns } }
+
+-- the owners that another knows come
+abbrev pub joined : View → View → View
+joined v w = record v { slots = record v.slots { owns = w.slots.owns ++ v.slots.owns; shares = w.slots.shares ++ v.slots.shares } }
+
 -- a slot is claimed, and its word is y then
 abbrev pub claimed : ℕ → ℕ → View → View
 claimed slot y v = record v { slots = record v.slots { owns = slot ∷ v.slots.owns }; words = noted slot y v }

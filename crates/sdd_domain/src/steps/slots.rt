@@ -1,16 +1,19 @@
 //! The atomic steps on slots, by a participant.
 //!
 //! A slot is free, owned by one owner, or its item waits. A lone participant knows each word beforehand.
-ghost use Rattle.std.specs.Prelude.{◌≡◌, ◌<◌};
+ghost use Rattle.std.specs.Prelude.{◌≡◌, ◌<◌, ℕ, [], ◌∷◌, None};
 ghost use Rattle.sdd_rule.specs.Codes.{free_word, owned_word, waiting_word};
 ghost use Rattle.sdd_rule.specs.Epoch.{HasPlace, IsOpen};
 ghost use Rattle.sdd_rule.specs.Slots.{owners_at, OwnsAlone, Holds};
-ghost use Rattle.sdd_rule.specs.SlotSteps.{IsDue, Claims, Retires, GivesBack, Watches};
+ghost use Rattle.sdd_rule.specs.SlotSteps.{IsDue, Claims, Retires, GivesBack, Watches, first, parted};
+ghost use Rattle.sdd_rule.specs.Parts.{owner_token};
 ghost use Rattle.sdd_domain.specs.Board.{id_of, sizes_of, slots_of};
-ghost use Rattle.sdd_domain.specs.Token.{view, epoch, Taught};
+ghost use Rattle.sdd_domain.specs.Token.{view, epoch, slots, Taught, IsTakenIn};
 
 use crate::board::{Board, Token};
-use crate::plays::{Claim, GiveBack, Retire, Watch};
+use crate::plays::{Claim, GiveBack, Part, Retire, TakeIn, Watch};
+use atomic_table::Badge;
+use sdd_rule::View;
 
 /// Nobody's slot.
 pub const FREE: u64 = 0;
@@ -80,4 +83,28 @@ pub fn watch(board: &Board, token: &mut Token, slot: u32) -> u64
         .table
         .shared
         .load::<Watch>(token, board.slot_word(slot))
+}
+
+/// Cuts the owner of the slot that was claimed last off the participant, as a token of its own.
+#[inline]
+pub fn cut(board: &Board, token: &mut Token) -> Badge<View>
+    requires home { token.old.table_id ≡ id_of board.now }
+    requires free { (slots token.old).holds ≡ None }
+    ensures participant { Taught (λ v _ w. w ≡ parted v) token.old 0 token.new }
+    ensures owner { (result.table_id ≡ id_of board.now) × (result.views ≡ owner_token (first (slots token.old).owns) [] ∷ []) }
+{
+    board.table.shared.split_seat::<Part>(token).into_badge()
+}
+
+/// Takes the owner of a slot in again.
+#[inline]
+pub fn take_in(board: &Board, token: &mut Token, owner: Badge<View>)
+    requires home { token.old.table_id ≡ id_of board.now }
+    requires owner { (owner.table_id ≡ id_of board.now) × (slot : ℕ) × (owner.views ≡ owner_token (slot ∷ []) [] ∷ []) }
+    ensures { IsTakenIn owner.views token.old token.new }
+{
+    board
+        .table
+        .shared
+        .join_seat::<TakeIn>(token, owner.into_seat());
 }
