@@ -1,5 +1,5 @@
 -- What each call of the table asks for
-use Rattle.std.proofs.Common.{◌≡◌, ◌≢◌, ℕ, ◌+◌, ◌<◌, eqb, [], sym, refl, ap, ◌∙◌, subst, arith}
+use Rattle.std.proofs.Common.{None, ◌≤◌, ◌≡◌, ◌≢◌, ℕ, ◌+◌, ◌<◌, eqb, [], sym, refl, ap, ◌∙◌, subst, arith}
 use mathlib.Core.Option.{none}
 use mathlib.Core.Logic.{dite}
 use native.Mathlib.Decide.{ℕ_discrete}
@@ -14,7 +14,7 @@ use Rattle.sdd_rule.specs.Codes.{free_word, owned_word, waiting_word}
 use Rattle.sdd_rule.specs.Epoch.{HasPlace, IsClosed, IsOpen, Scans}
 use Rattle.sdd_rule.specs.Steps.{Steps, Keeps, nobody, passed_by, knowing, IsNext, Registers, Reads, Counts, Publishes, Ends, Locks, LooksAtState, LooksAtCount, Advances, Unlocks}
 use Rattle.sdd_rule.specs.Slots.{owners_at, OwnsAlone, Holds}
-use Rattle.sdd_rule.specs.SlotSteps.{blank, changed, OnEpoch, PublishesAll, ClosesAll, IsDue, Claims, Retires, GivesBack, Watches, AtSlot}
+use Rattle.sdd_rule.specs.SlotSteps.{blank, changed, OnEpoch, PublishesAll, ClosesAll, IsDue, Claims, Retires, GivesBack, Watches, TakesHold, LetsGo, Discards, LooksForGuard, AtSlot}
 use Rattle.sdd_rule.specs.Parts.{idle, Parts, Kept}
 use Rattle.sdd_rule.proofs.Epoch as epochs
 use Rattle.sdd_rule.proofs.EpochSteps as over
@@ -136,6 +136,26 @@ module _ {S : Type 0} (sizes : Sizes) (slots : ℕ) where
       pub may_watch : IsOpen v → 0 < owners_at slot me.0 → ¬ (Holds me.0 slot) → May i (λ x. x) (Told (AtSlot Watches i) me)
       may_watch is_open mine free = may (AtSlot Watches i) i (λ x. x)
           (at_slot (λ x. x) (λ j. AtSlot Watches j me.0) (steps.watches id me.0 live slot is_open mine free))
+
+      pub may_hold : OwnsAlone me.0 slot → me.0.slots.holds ≡ None → May i (λ x. x) (Told (AtSlot TakesHold i) me)
+      may_hold mine free = may (AtSlot TakesHold i) i (λ x. x)
+          (at_slot (λ x. x) (λ j. AtSlot TakesHold j me.0) (steps.takes_hold id me.0 live slot within mine free))
+
+      pub may_let_go : Holds me.0 slot → May i (λ x. x) (Told (AtSlot LetsGo i) me)
+      may_let_go held = may (AtSlot LetsGo i) i (λ x. x)
+          (at_slot (λ x. x) (λ j. AtSlot LetsGo j me.0) (steps.lets_go id me.0 live slot within held))
+
+      pub may_discard : Holds me.0 slot → sizes.participants ≤ me.0.slots.looked → May i (λ _. free_word 0) (λ _. Told (AtSlot Discards i) me (free_word 0))
+      may_discard held all = let same_places = ap (λ (z : Sizes). z.participants) same in may_store (AtSlot Discards i) i (free_word 0)
+          (at_slot (λ _. free_word 0) (λ j _. AtSlot Discards j me.0 (free_word 0))
+          (steps.discards id me.0 live slot 0 within held (omega arith) (omega arith)))
+
+    pub may_look_for_guard : me.0.sizes ≡ sizes → HasPlace v → (i place : ℕ) → i ≡ state_word place → place ≡ me.0.slots.looked
+        → May i (λ x. x) (Told (LooksForGuard i) me)
+    may_look_for_guard same live i place is next = subst (λ (i : ℕ). May i (λ x. x) (Told (LooksForGuard i) me)) (sym is)
+        (may (LooksForGuard (state_word place)) (state_word place) (λ x. x)
+        (subst (λ (z : Sizes). Steps (Parts z) id me.0 (state_word place) (λ x. x) (LooksForGuard (state_word place) me.0)) same
+        (steps.looks id me.0 live place next)))
 
 module _ {S : Type 0} (s t : Seat S View) (r : ℕ) (home : t.table_id ≡ s.table_id) (number : t.id ≡ s.id) where
   -- the token after a step, from what the step tells of it

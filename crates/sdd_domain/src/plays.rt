@@ -1,7 +1,7 @@
 //! What each step tells.
 ghost use Rattle.std.specs.Prelude.{[]};
 ghost use Rattle.sdd_rule.specs.Steps.{Registers, Reads, Counts, Ends, Locks, LooksAtState, LooksAtCount, Advances, Unlocks};
-ghost use Rattle.sdd_rule.specs.SlotSteps.{OnEpoch, PublishesAll, ClosesAll, Claims, Retires, GivesBack, Watches, AtSlot, first, parted, joined};
+ghost use Rattle.sdd_rule.specs.SlotSteps.{OnEpoch, PublishesAll, ClosesAll, Claims, Retires, GivesBack, Watches, TakesHold, LetsGo, Discards, LooksForGuard, AtSlot, first, parted, joined};
 ghost use Rattle.sdd_rule.specs.Parts.{owner_token};
 ghost use Rattle.sdd_domain.specs.Token.{Sits, Told};
 
@@ -102,6 +102,30 @@ pub struct Watch;
 
 impl Play<(), View> for Watch {
     ghost then = { λ step. Told (AtSlot Watches step.word) };
+}
+
+pub struct Hold;
+
+impl Play<(), View> for Hold {
+    ghost then = { λ step. Told (AtSlot TakesHold step.word) };
+}
+
+pub struct LookForGuard;
+
+impl Play<(), View> for LookForGuard {
+    ghost then = { λ step. Told (LooksForGuard step.word) };
+}
+
+pub struct LetGo;
+
+impl Play<(), View> for LetGo {
+    ghost then = { λ step. Told (AtSlot LetsGo step.word) };
+}
+
+pub struct Discard;
+
+impl Play<(), View> for Discard {
+    ghost then = { λ step. Told (AtSlot Discards step.word) };
 }
 
 pub struct Part;

@@ -1,6 +1,8 @@
 -- The steps on slots keep all parts.
-use Rattle.std.proofs.Common.{◌≡◌, ℕ, ◌<◌, ◌≤◌, eqb, List, map, get_or, set, sym, refl, ap, ◌∙◌, subst, arith}
+use Rattle.std.proofs.Common.{None, ◌≡◌, ℕ, suc, ◌+◌, ◌<◌, ◌≤◌, eqb, List, map, get_or, set, sym, refl, ap, ◌∙◌, subst, arith}
 use mathlib.Core.Option.{some}
+use mathlib.Core.Logic.{dite}
+use native.Mathlib.Decide.{ℕ_discrete}
 use lib.ListN.{get_elem?}
 use lib.Seq.{set-get_or}
 use prog.Atomic.{either}
@@ -9,18 +11,19 @@ use Rattle.sdd_rule.specs.declared.EpochView.{EpochView}
 use Rattle.sdd_rule.specs.declared.WaitingItem.{WaitingItem}
 use Rattle.sdd_rule.specs.declared.View.{View}
 use Rattle.sdd_rule.specs.declared.Sizes.{Sizes}
-use Rattle.sdd_rule.specs.Words.{global_word, slot_word}
+use Rattle.sdd_rule.specs.Words.{global_word, state_word, slot_word}
 use Rattle.sdd_rule.specs.Codes.{codes, shared_base, free_word, owned_word, waiting_word}
 use Rattle.sdd_rule.specs.Epoch.{HasPlace, IsOpen, EpochPart}
 use Rattle.sdd_rule.specs.Slots.{slot_at, owners_at, OwnsAlone, Holds, SlotsPart}
 use Rattle.sdd_rule.specs.Steps.{Steps}
-use Rattle.sdd_rule.specs.SlotSteps.{noted, Knew, claimed, retired, given_back, seeing, Claims, Retires, GivesBack, Watches, AtSlot}
+use Rattle.sdd_rule.specs.SlotSteps.{noted, Knew, claimed, retired, given_back, seeing, Claims, Retires, GivesBack, Watches, AtSlot, held, let_go, looked_past, discarded, TakesHold, LetsGo, Discards, LooksForGuard}
 use Rattle.sdd_rule.specs.Parts.{epoch_of, Parts}
 use Rattle.sdd_rule.proofs.Codes.{sound, free_is, owned_is, waiting_is}
 use Rattle.sdd_rule.proofs.Epoch as epochs
 use Rattle.sdd_rule.proofs.EpochSteps.{seen_after}
 use Rattle.sdd_rule.proofs.Owning as owning
 use Rattle.sdd_rule.proofs.Seeing as seen
+use Rattle.sdd_rule.proofs.Holding as holding
 use Rattle.sdd_rule.proofs.Lone.{finds, lone_same, lone_noted}
 
 module _ (id : ℕ) (v : View) (live : HasPlace v.epoch) where
@@ -123,3 +126,63 @@ module _ (id : ℕ) (v : View) (live : HasPlace v.epoch) where
     },
     λ other is. (ap (λ (k : ℕ). seeing k v) (same_slot slot other is), knew_too slot other is (get_or ws i 0) (knew ws vs p at slot)),
   )
+
+  -- a load leaves the other parts
+  module _ (ws : List ℕ) (vs : List View) (p : Parts sizes ws vs) (at : get_elem? vs id ≡ some v) where
+    loaded : (i : ℕ) (w : View) → w.epoch ≡ v.epoch → w.words ≡ v.words → SlotsPart codes sizes ws (set vs id w)
+        → Parts sizes (set ws i (get_or ws i 0)) (set vs id w)
+    loaded i w same known slots = subst (λ (l : List ℕ). Parts sizes l (set vs id w)) (sym (set-get_or ws i 0)) record {
+      epoch = seen_after sizes ws vs id w
+          (subst (λ (e : EpochView). EpochPart sizes.participants ws (set (map epoch_of vs) id e)) (sym same) (same_epochs ws vs p at));
+      slots = slots;
+      lone = lone_same sizes ws vs p.lone id v at w known (λ z. subst HasPlace same z);
+    }
+
+  -- hold a slot, which needs no other word, as its owner isn't counted
+  pub takes_hold : (slot : ℕ) → slot < sizes.slots → OwnsAlone v slot → v.slots.holds ≡ None
+      → Steps (Parts sizes) id v (slot_word sizes slot) (λ x. x) (AtSlot TakesHold (slot_word sizes slot) v)
+  takes_hold slot inside mine free ws vs p at small = let i : ℕ = slot_word sizes slot in let x : ℕ = get_or ws i 0 in let w : View = held slot v in
+      let a = (p.slots.each id v at).alone slot mine in (
+        w,
+        loaded ws vs p at i w refl refl (subst (λ (l : List ℕ). SlotsPart codes sizes l (set vs id w)) (set-get_or ws i 0)
+            (holding.takes_hold codes sound sizes ws vs p.slots id v at slot x v.words inside mine free a.0 a.1)),
+        λ other is. (ap (λ (k : ℕ). held k v) (same_slot slot other is), knew_too slot other is x (knew ws vs p at slot)),
+      )
+
+  -- let go of it
+  pub lets_go : (slot : ℕ) → slot < sizes.slots → Holds v slot
+      → Steps (Parts sizes) id v (slot_word sizes slot) (λ x. x) (AtSlot LetsGo (slot_word sizes slot) v)
+  lets_go slot inside held ws vs p at small = let i : ℕ = slot_word sizes slot in let x : ℕ = get_or ws i 0 in let w : View = let_go v in
+      let f = p.slots.each id v at in let a = f.alone slot (f.held slot held) in (
+        w,
+        loaded ws vs p at i w refl refl (subst (λ (l : List ℕ). SlotsPart codes sizes l (set vs id w)) (set-get_or ws i 0)
+            (holding.lets_go codes sound sizes ws vs p.slots id v at slot x v.words inside held a.0 a.1)),
+        λ other is. (refl, knew_too slot other is x (knew ws vs p at slot)),
+      )
+
+  -- its item goes at once, after a look at each place
+  pub discards : (slot generation : ℕ) → slot < sizes.slots → Holds v slot → sizes.participants ≤ v.slots.looked → free_word generation < shared_base
+      → Steps (Parts sizes) id v (slot_word sizes slot) (λ _. free_word generation) (λ _. AtSlot Discards (slot_word sizes slot) v (free_word generation))
+  discards slot g inside held all low ws vs p at small = let y : ℕ = free_word g in let w : View = discarded slot y v in let word = free_is g low in (
+    w,
+    around ws vs p at slot y w live refl (same_epochs ws vs p at)
+        (holding.discards codes sound sizes ws vs p.slots id v at p.epoch slot y (noted slot y v) inside held all word.0 word.1),
+    λ other is. ap (λ (k : ℕ). discarded k y v) (same_slot slot other is),
+  )
+
+  -- look at the next place for a guard that may see it
+  pub looks : (place : ℕ) → place ≡ v.slots.looked
+      → Steps (Parts sizes) id v (state_word place) (λ x. x) (LooksForGuard (state_word place) v)
+  looks place next ws vs p at small = let i : ℕ = state_word place in let x : ℕ = get_or ws i 0 in
+      let f = p.epoch.each id v.epoch (at_epoch ws vs p at) in
+      let own : (q : ℕ) → i ≡ state_word q → HasPlace v.epoch → q ≡ v.epoch.place → x ≡ v.epoch.state
+      = λ q is z e. ap (λ (k : ℕ). get_or ws k 0) (let same : i ≡ state_word v.epoch.place = omega arith in same) ∙ f.state z in
+      dite (ℕ_discrete x 2)
+      (λ e. (v, unmoved ws vs p at i, λ q is. ((λ no. absurd (no e)), (λ _. refl), own q is)))
+      (λ no. let w : View = looked_past place v in (
+        w,
+        loaded ws vs p at i w refl refl (subst (λ (k : ℕ). SlotsPart codes sizes ws (set vs id (record v { slots = record v.slots { looked = k } })))
+            (let e : suc place ≡ place + 1 = omega arith in e)
+            (holding.passes codes sound sizes ws vs p.slots id v at p.epoch place next no)),
+        λ q is. ((λ _. ap (λ (k : ℕ). looked_past k v) (let e : place ≡ q = omega arith in e)), (λ e. absurd (no e)), own q is),
+      ))

@@ -1,5 +1,5 @@
 -- What each step makes of what the participant knows of slots, and what it tells
-use Rattle.std.specs.Prelude.{◌≡◌, ◌≢◌, ℕ, ◌+◌, ◌==◌, ◌≤◌, not, if◌then◌else◌, List, [], ◌∷◌, ◌++◌, map, replicate, slice_index, slice_set, None}
+use Rattle.std.specs.Prelude.{◌≡◌, ◌≢◌, ℕ, ◌+◌, ◌==◌, ◌≤◌, not, if◌then◌else◌, List, [], ◌∷◌, ◌++◌, map, replicate, slice_index, slice_set, Some, None}
 use Rattle.std.specs.List.{filter}
 use mathlib.Core.Option.{some}
 use lib.ListN.{get_elem?}
@@ -8,8 +8,8 @@ use Rattle.sdd_rule.specs.declared.SlotsView.{SlotsView}
 use Rattle.sdd_rule.specs.declared.WaitingItem.{WaitingItem}
 use Rattle.sdd_rule.specs.declared.View.{View}
 use Rattle.sdd_rule.specs.declared.Sizes.{Sizes}
-use Rattle.sdd_rule.specs.Words.{words_behind, slot_word}
-use Rattle.sdd_rule.specs.Epoch.{IsLone}
+use Rattle.sdd_rule.specs.Words.{words_behind, state_word, slot_word}
+use Rattle.sdd_rule.specs.Epoch.{HasPlace, IsLone}
 use Rattle.sdd_rule.specs.Steps.{knowing, closed, Publishes}
 
 -- it owns nothing, sees nothing, and no item waits with it
@@ -84,6 +84,22 @@ given_back slot y v = record v { slots = record v.slots { waits = without_item s
 abbrev pub seeing : ℕ → View → View
 seeing slot v = record v { slots = record v.slots { sees = slot ∷ v.slots.sees } }
 
+-- it holds a slot, and has looked at no place yet
+abbrev pub held : ℕ → View → View
+held slot v = record v { slots = record v.slots { holds = Some slot; looked = 0 } }
+
+-- it has looked at this place, the next one, where no guard is open
+abbrev pub looked_past : ℕ → View → View
+looked_past place v = record v { slots = record v.slots { looked = place + 1 } }
+
+-- it holds none
+abbrev pub let_go : View → View
+let_go v = record v { slots = record v.slots { holds = None; looked = 0 } }
+
+-- the item of the slot that is held goes at once
+abbrev pub discarded : ℕ → ℕ → View → View
+discarded slot y v = record v { slots = record v.slots { owns = without slot v.slots.owns; holds = None; looked = 0 }; words = noted slot y v }
+
 -- an item after one change more
 abbrev pub older : WaitingItem → WaitingItem
 older x = record x { changes = x.changes + 1 }
@@ -127,6 +143,23 @@ GivesBack slot v y w = w ≡ given_back slot y v
 -- a guard sees a slot of the participant's own
 abbrev pub Watches : ℕ → View → ℕ → View → Type 0
 Watches slot v x w = (w ≡ seeing slot v) × Knew slot v x
+
+-- a slot of the participant's own is held
+abbrev pub TakesHold : ℕ → View → ℕ → View → Type 0
+TakesHold slot v x w = (w ≡ held slot v) × Knew slot v x
+
+-- it no longer is
+abbrev pub LetsGo : ℕ → View → ℕ → View → Type 0
+LetsGo slot v x w = (w ≡ let_go v) × Knew slot v x
+
+-- its item goes at once
+abbrev pub Discards : ℕ → View → ℕ → View → Type 0
+Discards slot v y w = w ≡ discarded slot y v
+
+-- a look at the state of a place, whose word is i: is a guard open there, which may see what is held? Of its own place it knows
+abbrev pub LooksForGuard : ℕ → View → ℕ → View → Type 0
+LooksForGuard i v x w = (place : ℕ) → i ≡ state_word place
+    → (x ≢ 2 → w ≡ looked_past place v) × (x ≡ 2 → w ≡ v) × (HasPlace v.epoch → place ≡ v.epoch.place → x ≡ v.epoch.state)
 
 -- a step on the word i tells R of the slot whose word it is
 abbrev pub AtSlot : (ℕ → View → ℕ → View → Type 0) → ℕ → View → ℕ → View → Type 0

@@ -1,17 +1,21 @@
 //! The atomic steps on slots, by a participant.
 //!
 //! A slot is free, owned by one owner, or its item waits. A lone participant knows each word beforehand.
-ghost use Rattle.std.specs.Prelude.{◌≡◌, ◌<◌, ℕ, [], ◌∷◌, None};
+ghost use Rattle.std.specs.Prelude.{◌≡◌, ◌<◌, ◌≤◌, ℕ, [], ◌∷◌, None};
+ghost use Rattle.sdd_rule.specs.Words as words;
 ghost use Rattle.sdd_rule.specs.Codes.{free_word, owned_word, waiting_word};
 ghost use Rattle.sdd_rule.specs.Epoch.{HasPlace, IsOpen};
 ghost use Rattle.sdd_rule.specs.Slots.{owners_at, OwnsAlone, Holds};
-ghost use Rattle.sdd_rule.specs.SlotSteps.{IsDue, Claims, Retires, GivesBack, Watches, first, parted};
+ghost use Rattle.sdd_rule.specs.SlotSteps.{IsDue, Claims, Retires, GivesBack, Watches, TakesHold, LetsGo, Discards, LooksForGuard, first, parted};
 ghost use Rattle.sdd_rule.specs.Parts.{owner_token};
-ghost use Rattle.sdd_domain.specs.Board.{id_of, sizes_of, slots_of};
+ghost use Rattle.sdd_domain.specs.Board.{id_of, sizes_of, places_of, slots_of};
 ghost use Rattle.sdd_domain.specs.Token.{view, epoch, slots, Taught, IsTakenIn};
 
 use crate::board::{Board, Token};
-use crate::plays::{Claim, GiveBack, Part, Retire, TakeIn, Watch};
+use crate::plays::{
+    Claim, Discard, GiveBack, Hold, LetGo, LookForGuard, Part, Retire, TakeIn, Watch,
+};
+use crate::words::state_word;
 use atomic_table::Badge;
 use sdd_rule::View;
 
@@ -83,6 +87,71 @@ pub fn watch(board: &Board, token: &mut Token, slot: u32) -> u64
         .table
         .shared
         .load::<Watch>(token, board.slot_word(slot))
+}
+
+/// Holds a slot of the participant's own, to find out whether a guard sees it. Answers its word.
+#[inline]
+pub fn hold(board: &Board, token: &mut Token, slot: u32) -> u64
+    requires home { token.old.table_id ≡ id_of board.now }
+    requires sizes { (view token.old).sizes ≡ sizes_of board.now }
+    requires inside { slot < slots_of board.now }
+    requires place { HasPlace (epoch token.old) }
+    requires own { OwnsAlone (view token.old) slot × ((slots token.old).holds ≡ None) }
+    ensures { Taught (TakesHold slot) token.old result token.new }
+{
+    board
+        .table
+        .shared
+        .load::<Hold>(token, board.slot_word(slot))
+}
+
+/// Looks at the state of the next place, while a slot is held: no guard there sees it where this isn't `OPEN`.
+#[inline]
+pub fn look_for_guard(board: &Board, token: &mut Token, place: usize) -> u64
+    requires home { token.old.table_id ≡ id_of board.now }
+    requires sizes { (view token.old).sizes ≡ sizes_of board.now }
+    requires inside { place < places_of board.now }
+    requires place { HasPlace (epoch token.old) }
+    requires next { place ≡ (slots token.old).looked }
+    ensures { Taught (LooksForGuard (words.state_word place)) token.old result token.new }
+{
+    board
+        .table
+        .shared
+        .load::<LookForGuard>(token, state_word(place))
+}
+
+/// Lets go of the slot that is held. Answers its word.
+#[inline]
+pub fn let_go(board: &Board, token: &mut Token, slot: u32) -> u64
+    requires home { token.old.table_id ≡ id_of board.now }
+    requires sizes { (view token.old).sizes ≡ sizes_of board.now }
+    requires inside { slot < slots_of board.now }
+    requires place { HasPlace (epoch token.old) }
+    requires held { Holds (view token.old) slot }
+    ensures { Taught (LetsGo slot) token.old result token.new }
+{
+    board
+        .table
+        .shared
+        .load::<LetGo>(token, board.slot_word(slot))
+}
+
+/// Frees the slot that is held, once every place was looked at: its item goes at once.
+#[inline]
+pub fn discard(board: &Board, token: &mut Token, slot: u32)
+    requires home { token.old.table_id ≡ id_of board.now }
+    requires sizes { (view token.old).sizes ≡ sizes_of board.now }
+    requires inside { slot < slots_of board.now }
+    requires place { HasPlace (epoch token.old) }
+    requires held { Holds (view token.old) slot }
+    requires looked { places_of board.now ≤ (slots token.old).looked }
+    ensures { Taught (Discards slot) token.old (free_word 0) token.new }
+{
+    board
+        .table
+        .shared
+        .store::<Discard>(token, board.slot_word(slot), FREE);
 }
 
 /// Cuts the owner of the slot that was claimed last off the participant, as a token of its own.

@@ -7,7 +7,8 @@ use Rattle.sdd_rule.proofs.Lift.{joins_owners}
 use Rattle.sdd_domain.proofs.steps.slots.take_in.Goals as goal
 
 pub join_seat-requires : goal.join_seat-requires
-join_seat-requires c = let sized = c.args.board.now.sized in let e = c.into_seat.ensures in let r = c.requires in let sizes = c.args.board.now.table.shared.key in
+join_seat-requires c = let sized = c.args.board.now.sized in let e = c.into_seat.ensures in let r = c.requires in
+    let sizes = c.args.board.now.table.shared.key in
     let id = c.args.token.now.id in let v : View = c.args.token.now.me.0 in let other = c.into_seat.result.id in
     let same : c.into_seat.result.me.0 ≡ owner_token (r.owner.1 ∷ []) [] = cc (e.2, r.owner.2) in (
       r.home,
