@@ -43,19 +43,20 @@ module _ {S : Type 0} (sizes : Sizes) where
   module _ (slots id : ℕ) (me : Me S View) (i : ℕ) (f : ℕ → ℕ) where
     -- with it the participant may take or give slots of the table
     pub lift_with : (then : ℕ → View → Type 0) (told : ℕ → Me S View → Type 0) → Steps (Parts sizes) id me.0 i f then
-        → ((s : State S View) (w : View) → Kept sizes s → length s.homes ≡ slots → get_elem? s.views id ≡ some me.0 → then (get_or s.words i 0) w
+        → ((s : State S View) (w : View) → Kept sizes s → length s.homes ≡ slots → get_elem? s.views id ≡ some me.0
+        → Parts sizes (set s.words i (f (get_or s.words i 0))) (set s.views id w) → then (get_or s.words i 0) w
         → (a : Act S) × Valid s.homes me.1 a × PlacesPart sizes (stepped s i (f (get_or s.words i 0)) id me.1 w a)
         × told (get_or s.words i 0) (w, carried_after me.1 a))
         → Allows (Kept sizes) slots id me i f told
     lift_with then told step follow s k full at small =
-        let e = step s.words s.views k.parts at small in let w : View = e.0 in let b = follow s w k full at e.2 in
+        let e = step s.words s.views k.parts at small in let w : View = e.0 in let b = follow s w k full at e.1 e.2 in
         (w, b.0, b.1, record { parts = e.1; places = b.2 }, b.3)
 
     -- it takes and gives none
     pub lift : (then : ℕ → View → Type 0) (told : ℕ → Me S View → Type 0) → Steps (Parts sizes) id me.0 i f then
         → ((r : ℕ) (w : View) → then r w → told r (w, me.1)) → Allows (Kept sizes) slots id me i f told
     lift then told step tells = lift_with then told step
-        (λ s w k _ _ t. (
+        (λ s w k _ _ _ t. (
           keeps,
           tt,
           record { wide = let l = k.places.wide in omega (arith, length-set s.words i (f (get_or s.words i 0))) },
