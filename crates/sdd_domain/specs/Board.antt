@@ -1,12 +1,19 @@
 -- The words of a domain
 use Rattle.std.specs.Prelude.{ℕ}
 use Rattle.atomic_table.specs.Seated.{TableId}
+use Rattle.sdd_rule.specs.declared.Sizes.{Sizes}
 use Rattle.sdd_domain.specs.declared.board.Board.{Board}
 
 -- which words they are
 abbrev pub id_of : Board → TableId
 id_of b = b.table.shared.table_id
 
--- how many places there are
+-- how many of each there are
+abbrev pub sizes_of : Board → Sizes
+sizes_of b = b.table.shared.key
+
 abbrev pub places_of : Board → ℕ
-places_of b = b.places
+places_of b = (sizes_of b).participants
+
+abbrev pub slots_of : Board → ℕ
+slots_of b = (sizes_of b).slots

@@ -1,3 +1,4 @@
+pub mod Sizes
 pub mod Board
 pub mod Token
 pub mod Scan
@@ -6,3 +7,4 @@ pub mod Local
 pub mod Posed
 pub mod Receipt
 pub mod Space
+pub mod Life

@@ -9,9 +9,10 @@ use Rattle.sdd_places.specs.declared.tenures.Stage.TheVariants.{Closed, Open}
 use Rattle.sdd_rule.specs.declared.EpochView.{EpochView}
 use Rattle.sdd_rule.specs.declared.View.{View}
 use Rattle.sdd_rule.specs.Epoch.{IsClosed, IsOpen, Scans, IsLone}
+use Rattle.sdd_rule.specs.SlotSteps.{bare}
 use Rattle.sdd_domain.specs.declared.board.Board.{Board}
-use Rattle.sdd_domain.specs.Board.{id_of, places_of}
-use Rattle.sdd_domain.specs.Token.{epoch}
+use Rattle.sdd_domain.specs.Board.{id_of, sizes_of, places_of}
+use Rattle.sdd_domain.specs.Token.{view, epoch, slots}
 
 -- it has published its count; what it knows is the count at that publish or the next
 pub record IsNear (v : EpochView) : Type 0 where
@@ -33,6 +34,8 @@ module _ {S : Type 0} (b : Board) (p : ℕ) (own : Participant) (token : Seat S 
     pub near : 0 < own.guards → IsNear (epoch token)
     pub lone : 0 < own.guards → IsLone (epoch token) → (epoch token).known ≡ (epoch token).count
     pub free : ¬ (Scans (epoch token))
+    pub sizes : (view token).sizes ≡ sizes_of b
+    pub no_slots : slots token ≡ bare
     pub bare : own.bags.waiting ≡ []
 
 -- the part of a tenure that the participant keeps: each of its open guards has one unit more, and the tenure is open exactly while one is

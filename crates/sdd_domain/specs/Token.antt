@@ -1,28 +1,61 @@
 -- A participant's token over a step
-use Rattle.std.specs.Prelude.{◌≡◌, ℕ}
+use Rattle.std.specs.Prelude.{◌≡◌, ℕ, List, [], ◌∷◌}
 use Rattle.atomic_table.specs.Table.{Me, Step}
 use Rattle.atomic_table.specs.declared.shared.Seat.{Seat}
 use Rattle.sdd_rule.specs.declared.EpochView.{EpochView}
+use Rattle.sdd_rule.specs.declared.SlotsView.{SlotsView}
 use Rattle.sdd_rule.specs.declared.View.{View}
-use Rattle.sdd_rule.specs.Parts.{with_epoch}
+use Rattle.sdd_rule.specs.Steps.{Publishes, Closes}
+use Rattle.sdd_rule.specs.SlotSteps.{changed, unseeing, joined}
 
 module _ {S : Type 0} where
-  -- what the token knows of the epoch
+  -- what the token knows
+  abbrev pub view : Seat S View → View
+  view s = s.me.0
+
   abbrev pub epoch : Seat S View → EpochView
   epoch s = s.me.0.epoch
+
+  abbrev pub slots : Seat S View → SlotsView
+  slots s = s.me.0.slots
+
+  abbrev pub words_known : Seat S View → List ℕ
+  words_known s = s.me.0.words
 
   -- a new token, which is as the first one
   abbrev pub Sits : Step S → Me S View → ℕ → Me S View → Type 0
   Sits st m r m' = m' ≡ m
 
-  -- a step of the epoch's part that tells R: of what was known before, the number found and what is known after
-  abbrev pub Told : (EpochView → ℕ → EpochView → Type 0) → Me S View → ℕ → Me S View → Type 0
-  Told R m r m' = (w : EpochView) × (m' ≡ (with_epoch m.0 w, m.1)) × R m.0.epoch r w
+  -- a step that tells R: of what was known before, the number found and what is known after
+  abbrev pub Told : (View → ℕ → View → Type 0) → Me S View → ℕ → Me S View → Type 0
+  Told R m r m' = (m'.1 ≡ m.1) × R m.0 r m'.0
+
+  -- it is the same token, and knows the same sizes
+  abbrev pub IsSame : Seat S View → Seat S View → Type 0
+  IsSame s s' = (s'.table_id ≡ s.table_id) × (s'.id ≡ s.id) × (s'.me.1 ≡ s.me.1) × (s'.me.0.sizes ≡ s.me.0.sizes)
 
   -- the token is as it was, but for what it knows of the epoch
   abbrev pub IsSameBut : Seat S View → Seat S View → Type 0
-  IsSameBut s s' = (s'.table_id ≡ s.table_id) × (s'.id ≡ s.id) × (s'.me.1 ≡ s.me.1)
-      × (s'.me.0.places ≡ s.me.0.places) × (s'.me.0.slots ≡ s.me.0.slots) × (s'.me.0.cells ≡ s.me.0.cells)
+  IsSameBut s s' = IsSame s s' × (s'.me.0.places ≡ s.me.0.places) × (slots s' ≡ slots s) × (words_known s' ≡ words_known s)
 
+  -- a step of the epoch's part
   abbrev pub Stepped : (EpochView → ℕ → EpochView → Type 0) → Seat S View → ℕ → Seat S View → Type 0
   Stepped R s r s' = IsSameBut s s' × R (epoch s) r (epoch s')
+
+  -- any step, which tells R
+  abbrev pub Taught : (View → ℕ → View → Type 0) → Seat S View → ℕ → Seat S View → Type 0
+  Taught R s r s' = (s'.table_id ≡ s.table_id) × (s'.id ≡ s.id) × (s'.me.1 ≡ s.me.1) × R (view s) r (view s')
+
+  -- its count is published, and is a change for what waits if it is another one than before
+  abbrev pub HasPublished : Seat S View → Seat S View → Type 0
+  HasPublished s s' = IsSame s s' × (s'.me.0.places ≡ s.me.0.places) × (slots s' ≡ changed (view s)) × (words_known s' ≡ words_known s)
+      × Publishes (epoch s) 2 (epoch s')
+
+  -- no guard is open, and nothing is seen
+  abbrev pub HasClosed : Seat S View → Seat S View → Type 0
+  HasClosed s s' = IsSame s s' × (s'.me.0.places ≡ s.me.0.places) × (slots s' ≡ unseeing (view s)) × (words_known s' ≡ words_known s)
+      × Closes (epoch s) 1 (epoch s')
+
+  -- the owners that another token knew are the participant's own
+  abbrev pub IsTakenIn : List View → Seat S View → Seat S View → Type 0
+  IsTakenIn owners s s' = (w : View) → owners ≡ w ∷ [] → Taught (λ v _ v'. v' ≡ joined v w) s 0 s'

@@ -1,6 +1,6 @@
 ghost use Rattle.std.specs.Prelude.{◌≡◌, ◌+◌, ◌⊎◌, Ok, IfOk, MatchResult};
 ghost use Rattle.sdd_base.specs.Limits.{AreInRange};
-ghost use Rattle.sdd_domain.specs.Board.{places_of};
+ghost use Rattle.sdd_domain.specs.Board.{places_of, slots_of};
 ghost use Rattle.sdd_domain.specs.Receipt.{capped, sum_of};
 
 use crate::board::Board;
@@ -18,7 +18,7 @@ pub struct Domain {
     pub(crate) board: Board,
     pub(crate) limits: Limits,
     pub(crate) alloc: Global,
-    ghost limited: { AreInRange limits × (places_of board ≡ limits.participants) },
+    ghost limited: { AreInRange limits × (places_of board ≡ limits.participants) × (slots_of board ≡ limits.slots) },
 }
 
 fn add(sum: Tally, tally: Tally) -> Tally

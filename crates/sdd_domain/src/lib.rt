@@ -3,6 +3,7 @@
 
 mod board;
 pub mod domain;
+mod life;
 pub mod local;
 mod plays;
 pub mod receipt;

@@ -1,8 +1,9 @@
 ghost use Rattle.std.specs.Prelude.{◌≡◌, ◌⊎◌, ◌<◌, ℕ, IfSome, IfOk, IfErr, MatchResult};
 ghost use Rattle.sdd_store.specs.Time.{accelerated, has_garbage, with_garbage};
 ghost use Rattle.sdd_rule.specs.Steps.{nobody, Takes};
-ghost use Rattle.sdd_domain.specs.Board.{id_of, places_of};
-ghost use Rattle.sdd_domain.specs.Token.{epoch, IsSameBut};
+ghost use Rattle.sdd_rule.specs.SlotSteps.{blank};
+ghost use Rattle.sdd_domain.specs.Board.{id_of, sizes_of, places_of};
+ghost use Rattle.sdd_domain.specs.Token.{epoch, words_known, IsSameBut};
 ghost use Rattle.sdd_domain.specs.Domain.{home_of, limits_of};
 ghost use Rattle.sdd_domain.specs.Local.{CanNest, IsGuarded, IsNew, IsOpened, Opens, Closes, IsTold};
 ghost use Rattle.sdd_base.specs.Guard.{reader_of};
@@ -61,6 +62,7 @@ impl<'d> Model for Local<'d> {
 fn take_place(board: &Board, token: &mut Token) -> Option<usize>
     requires home { token.old.table_id ≡ id_of board.now }
     requires idle { epoch token.old ≡ nobody (places_of board.now) }
+    requires blank { words_known token.old ≡ blank (sizes_of board.now) }
     ensures same { IsSameBut token.old token.new }
     ensures taken { IfSome result (λ place. (place < places_of board.now) × Takes (nobody (places_of board.now)) place (epoch token.new)) }
 {

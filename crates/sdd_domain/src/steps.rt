@@ -1,11 +1,14 @@
-//! The atomic steps of the epoch, one function each. Nothing else changes a word of a domain.
+//! The atomic steps of the epoch, one function each. With those on slots nothing else changes a word of a domain.
 ghost use Rattle.std.specs.Prelude.{◌≡◌, ◌+◌, ◌^◌, ◌<◌, []};
 ghost use Rattle.sdd_rule.specs.Words as words;
 ghost use Rattle.sdd_rule.specs.Epoch.{IsClosed, IsOpen, Scans};
-ghost use Rattle.sdd_rule.specs.Steps.{nobody, IsNext, Registers, Reads, Counts, Publishes, Closes, Ends, Locks, LooksAtState, LooksAtCount, Advances, Unlocks};
+ghost use Rattle.sdd_rule.specs.Steps.{nobody, IsNext, Registers, Reads, Counts, Ends, Locks, LooksAtState, LooksAtCount, Advances, Unlocks};
 ghost use Rattle.sdd_rule.specs.Parts.{idle};
-ghost use Rattle.sdd_domain.specs.Board.{id_of, places_of};
-ghost use Rattle.sdd_domain.specs.Token.{epoch, Stepped};
+ghost use Rattle.sdd_domain.specs.Board.{id_of, sizes_of, places_of};
+ghost use Rattle.sdd_rule.specs.SlotSteps.{blank};
+ghost use Rattle.sdd_domain.specs.Token.{epoch, words_known, Stepped, HasPublished, HasClosed};
+
+pub mod slots;
 
 use crate::board::{Board, Token};
 use crate::plays::{
@@ -25,7 +28,7 @@ pub const ENDED: u64 = 3;
 
 /// A token without a place.
 pub fn sit(board: &Board) -> Token
-    ensures { (result.table_id ≡ id_of board.now) × (result.me ≡ (idle (places_of board.now), [])) }
+    ensures { (result.table_id ≡ id_of board.now) × (result.me ≡ (idle (sizes_of board.now), [])) }
 {
     board.table.shared.load_new_seat::<Sit>(GLOBAL).1
 }
@@ -41,7 +44,7 @@ pub fn is_free(board: &Board, place: usize) -> bool
 pub fn register(board: &Board, token: &mut Token, place: usize) -> u64
     requires home { token.old.table_id ≡ id_of board.now }
     requires inside { place < places_of board.now }
-    requires idle { epoch token.old ≡ nobody (places_of board.now) }
+    requires idle { (epoch token.old ≡ nobody (places_of board.now)) × (words_known token.old ≡ blank (sizes_of board.now)) }
     ensures { Stepped (Registers (words.state_word place)) token.old result token.new }
 {
     board
@@ -73,14 +76,14 @@ pub fn write(board: &Board, token: &mut Token, place: usize, count: u64)
         .store::<Write>(token, count_word(place), count);
 }
 
-/// Publishes the count that stands in the own count word.
+/// Publishes the count that stands in the own count word. Another one than before is a change for each item that waits.
 #[inline]
 pub fn publish(board: &Board, token: &mut Token, place: usize)
     requires home { token.old.table_id ≡ id_of board.now }
     requires own { (place ≡ (epoch token.old).place) × (place < places_of board.now) }
     requires closed { IsClosed (epoch token.old) }
     requires count { (epoch token.old).count ≡ (epoch token.old).known }
-    ensures { Stepped Publishes token.old 2 token.new }
+    ensures { HasPublished token.old token.new }
 {
     board
         .table
@@ -88,13 +91,13 @@ pub fn publish(board: &Board, token: &mut Token, place: usize)
         .store::<Publish>(token, state_word(place), OPEN);
 }
 
-/// Publishes that no guard is open.
+/// Publishes that no guard is open, so that none sees anything.
 #[inline]
 pub fn close(board: &Board, token: &mut Token, place: usize)
     requires home { token.old.table_id ≡ id_of board.now }
     requires own { (place ≡ (epoch token.old).place) × (place < places_of board.now) }
     requires open { IsOpen (epoch token.old) × ¬ (Scans (epoch token.old)) }
-    ensures { Stepped Closes token.old 1 token.new }
+    ensures { HasClosed token.old token.new }
 {
     board
         .table

@@ -27,6 +27,16 @@ pub fn count_word(place: usize) -> usize
     2 * place + 4
 }
 
+/// Where the slots' words begin.
+pub fn first_slot(sizes: &Sizes) -> u64
+    requires places { sizes.now.participants ≤ 2 ^ 32 }
+    requires jobs { sizes.now.jobs ≤ 2 ^ 32 }
+    requires cells { sizes.now.cells ≤ 2 ^ 32 }
+    ensures { result ≡ words.first_slot sizes.now }
+{
+    2 * sizes.participants + 3 + sizes.jobs + sizes.cells
+}
+
 /// How many words there are.
 pub fn word_count(sizes: &Sizes) -> u64
     requires places { sizes.now.participants ≤ 2 ^ 32 }
@@ -35,5 +45,5 @@ pub fn word_count(sizes: &Sizes) -> u64
     requires cells { sizes.now.cells ≤ 2 ^ 32 }
     ensures { result ≡ words.all_words sizes.now }
 {
-    2 * sizes.participants + 3 + sizes.slots + sizes.jobs + sizes.cells
+    2 * sizes.participants + 3 + sizes.jobs + sizes.cells + sizes.slots
 }

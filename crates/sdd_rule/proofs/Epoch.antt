@@ -8,12 +8,12 @@ use lib.Seq.{set-get_or}
 use prog.Atomic.{either}
 use Rattle.atomic_table.proofs.Lists.{set_here, set_else, exchanged, at_longer}
 use Rattle.sdd_rule.specs.declared.EpochView.{EpochView}
-use Rattle.sdd_rule.specs.Words.{global_word, lock_word, state_word, count_word}
+use Rattle.sdd_rule.specs.Words.{global_word, lock_word, state_word, count_word, after_places}
 use Rattle.sdd_rule.specs.Epoch.{HasPlace, IsClosed, IsOpen, Scans, IsLone, Fits, Apart, EpochPart}
-use Rattle.sdd_rule.specs.Steps.{Rises, Keeps, nobody, registered, knowing, counted, published, closed, ended, scanning, passed_by, unlocked, IsNext, Registers, Reads, Counts, Publishes, Closes, Ends, Locks, LooksAtState, LooksAtCount, Advances, Unlocks}
+use Rattle.sdd_rule.specs.Steps.{Steps, Rises, Keeps, nobody, registered, knowing, counted, published, closed, ended, scanning, passed_by, unlocked, IsNext, Registers, Reads, Counts, Publishes, Closes, Ends, Locks, LooksAtState, LooksAtCount, Advances, Unlocks}
 use Rattle.sdd_rule.proofs.Frame.{each_set, two_set, each_snoc, two_snoc}
 
-at_length : {A : Type 0} (l : List A) (i : ℕ) (a : A) → get_elem? l i ≡ some a → i < length l
+pub at_length : {A : Type 0} (l : List A) (i : ℕ) (a : A) → get_elem? l i ≡ some a → i < length l
 at_length [] i a e = absurd (some-ne-none a (sym e))
 at_length (x ∷ xs) zero a e = omega arith
 at_length (x ∷ xs) (suc i) a e = let h = at_length xs i a e in omega arith
@@ -115,7 +115,7 @@ module _ (n : ℕ) where
   unmoved ws vs id i v t at = still ws vs id i v v t at (t.each id v at) (λ u fu a b. (a, b)) (λ z. z)
 
   level : (v : EpochView) → Rises v v
-  level v = record { known = omega arith; found = omega arith }
+  level v = record { known = omega arith; found = omega arith; guard = λ z. (z, refl, refl) }
 
   -- a step on a word of the seat's own place
   own : (ws : List ℕ) (vs : List EpochView) (id i x : ℕ) (v w : EpochView) → EpochPart n ws vs → get_elem? vs id ≡ some v → HasPlace v
@@ -163,7 +163,7 @@ module _ (n : ℕ) where
             }
             (λ u fu a b. (record { places = a.places; locks = a.locks; passed = a.passed }, record { places = b.places; locks = b.locks; passed = b.passed }))
             (λ z. z),
-        record { known = k; found = omega arith },
+        record { known = k; found = omega arith; guard = λ z. (z, refl, refl) },
         (refl, k, (λ z. let p = f.published z in ((let s = p.since in omega arith), p.once)), λ alone. f.lone (sym (f.all (λ z. omega arith)) ∙ alone)),
       )
 
@@ -191,7 +191,7 @@ module _ (n : ℕ) where
               record { places = b.places; locks = b.locks; passed = b.passed },
             ))
             (λ z. z),
-        record { known = omega arith; found = omega arith },
+        record { known = omega arith; found = omega arith; guard = λ z. (z, refl, refl) },
         refl,
       )
 
@@ -223,12 +223,12 @@ module _ (n : ℕ) where
               },
             ))
             (λ z. z),
-        record { known = k; found = omega arith },
+        record { known = k; found = omega arith; guard = λ z. absurd (omega arith) },
         (g, refl, k, λ alone. f.lone (sym (f.all (λ z. omega arith)) ∙ alone) (omega arith)),
       )
 
   -- close
-  pub closes : (id : ℕ) (v : EpochView) → IsOpen v → ¬ (Scans v) → Keeps n id v (state_word v.place) (λ _. 1) (λ _. Closes v 1)
+  pub closes : (id : ℕ) (v : EpochView) → IsOpen v → ¬ (Scans v) → Steps (EpochPart n) id v (state_word v.place) (λ _. 1) (λ _. Closes v 1)
   closes id v is_open free ws vs t at small = let i : ℕ = state_word v.place in let w : EpochView = closed v in let f = t.each id v at in
       let wide = t.wide in let inside = f.inside (omega arith) in
       let zero_same = get_or-set_other ws i global_word 1 0 (λ e. omega arith) in (
@@ -251,7 +251,6 @@ module _ (n : ℕ) where
               record { places = λ z _. b.places z (omega arith); locks = b.locks; passed = λ _ z. absurd (omega arith) },
             ))
             (λ z. z),
-        record { known = omega arith; found = omega arith },
         refl,
       )
 
@@ -279,7 +278,7 @@ module _ (n : ℕ) where
               record { places = λ _ z. absurd (omega arith); locks = b.locks; passed = λ _ z. absurd (omega arith) },
             ))
             (λ z. z),
-        record { known = omega arith; found = omega arith },
+        record { known = omega arith; found = omega arith; guard = λ z. absurd (omega arith) },
         refl,
       )
 
@@ -315,7 +314,7 @@ module _ (n : ℕ) where
             ))
             (λ one none. absurd (used ws (set ws lock_word 1) v f (omega arith) (get_or-set_other ws lock_word (state_word 0) 1 0 (λ c. omega arith)) one none))
             (λ _. (id, w, set_here vs id w (at_length vs id v at), refl)),
-        record { known = omega arith; found = omega arith },
+        record { known = omega arith; found = omega arith; guard = λ z. (z, refl, refl) },
         ((λ _. refl), (λ no. absurd (no hit)), never),
       ))
       (λ miss. (v, unmoved ws vs id lock_word v t at, level v, ((λ e. absurd (miss e)), (λ _. refl), never)))
@@ -346,7 +345,7 @@ module _ (n : ℕ) where
             (λ one none. let l = (f.locked mine).1 in
             absurd (used ws (set ws lock_word 0) v f (omega arith) (get_or-set_other ws lock_word (state_word 0) 0 0 (λ c. omega arith)) one none))
             (λ no. absurd (no (get_or-set_same ws lock_word 0 0 (omega arith)))),
-        record { known = omega arith; found = omega arith },
+        record { known = omega arith; found = omega arith; guard = λ z. (z, refl, refl) },
         refl,
       )
 
@@ -386,7 +385,7 @@ module _ (n : ℕ) where
         passed_by v q,
         passing ws vs id (state_word q) v q next t at
             (λ u fu z same. absurd (no (ap (λ (k : ℕ). get_or ws (state_word k) 0) (sym same) ∙ (fu.state (omega arith) ∙ z)))),
-        record { known = omega arith; found = omega arith },
+        record { known = omega arith; found = omega arith; guard = λ z. (z, refl, refl) },
         λ q' is. ((λ _. ap (λ (k : ℕ). passed_by v k) (let g : q ≡ q' = omega arith in g)), (λ e. absurd (no e))),
       ))
 
@@ -399,7 +398,7 @@ module _ (n : ℕ) where
         passing ws vs id (count_word q) v q next t at
             (λ u fu z same. let o = (fu.published z).count in let c = fu.count (omega arith) in
             let c' : u.count ≡ v.count = sym c ∙ (ap (λ (k : ℕ). get_or ws (count_word k) 0) same ∙ e) in omega arith),
-        record { known = omega arith; found = omega arith },
+        record { known = omega arith; found = omega arith; guard = λ z. (z, refl, refl) },
         λ q' is. ((λ _. ap (λ (k : ℕ). passed_by v k) (let g : q ≡ q' = omega arith in g)), (λ no. absurd (no e))),
       ))
       (λ no. (v, unmoved ws vs id (count_word q) v t at, level v, λ q' is. ((λ e. absurd (no e)), (λ _. refl))))
@@ -448,7 +447,7 @@ module _ (n : ℕ) where
             (λ one none. let is_open = l.1 in
             absurd (used ws (set ws global_word y) v f (omega arith) (get_or-set_other ws global_word (state_word 0) y 0 (λ c. omega arith)) one none))
             (λ locked. held_set ws vs id v w t at (λ z. z) (λ e. locked (one_same ∙ e))),
-        record { known = omega arith; found = omega arith },
+        record { known = omega arith; found = omega arith; guard = λ z. (z, refl, refl) },
         ((λ _. refl), (λ no. absurd (no hit)), alone),
       ))
       (λ miss. (v, unmoved ws vs id global_word v t at, level v, ((λ e. absurd (miss e)), (λ _. refl), alone)))
@@ -483,7 +482,7 @@ module _ (n : ℕ) where
             (λ one none. let is : i ≡ state_word 0 = omega arith in let now = get_or-set_same ws i 1 0 (omega arith) in
             let now' : get_or (set ws i 1) (state_word 0) 0 ≡ 1 = ap (λ (k : ℕ). get_or (set ws i 1) k 0) (sym is) ∙ now in absurd (omega arith))
             (λ locked. held_set ws vs id v w t at (λ z. absurd (omega arith)) (λ e. locked (get_or-set_other ws i lock_word 1 0 (λ e. omega arith) ∙ e))),
-        record { known = omega arith; found = omega arith },
+        record { known = omega arith; found = omega arith; guard = λ z. absurd (omega arith) },
         λ p' is.
             let same : p ≡ p' = omega arith in
             let blank = λ (one : n ≡ 1). let e : state_word 0 ≡ i = omega arith in t.unused one (ap (λ (k : ℕ). get_or ws k 0) e ∙ hit) in (
@@ -492,6 +491,45 @@ module _ (n : ℕ) where
             ),
       ))
       (λ miss. (v, unmoved ws vs id i v t at, level v, λ p' is. ((λ e. absurd (miss e)), (λ _. refl))))
+
+  -- a word behind the places' changes, by a step of a participant
+  pub behind : (ws : List ℕ) (vs : List EpochView) (id i x : ℕ) (v : EpochView) → EpochPart n ws vs → get_elem? vs id ≡ some v → HasPlace v → after_places n ≤ i
+      → EpochPart n (set ws i x) vs
+  behind ws vs id i x v t at live high = record {
+    wide = let w = t.wide in omega (arith, length-set ws i x);
+    each = λ j u e. let f = t.each j u e in
+        untouched ws i x u (omega arith) (λ z. let p = f.inside z in ((λ c. omega arith), λ c. omega arith)) f;
+    two = t.two;
+    unused = λ one none. let f = t.each id v at in let p = f.inside live in
+        absurd (used ws (set ws i x) v f live (get_or-set_other ws i (state_word 0) x 0 (λ c. omega arith)) one none);
+    held = λ locked. t.held (λ e. locked (get_or-set_other ws i lock_word x 0 (λ e. omega arith) ∙ e));
+  }
+
+  -- a step may have its participant know the count of its moment
+  pub knows : (ws : List ℕ) (vs : List EpochView) (id : ℕ) (v : EpochView) → EpochPart n ws vs → get_elem? vs id ≡ some v
+      → EpochPart n ws (set vs id (knowing v (get_or ws global_word 0)))
+  knows ws vs id v t at = let w : EpochView = knowing v (get_or ws global_word 0) in let f = t.each id v at in let k = f.known in let l = f.found in
+      subst (λ (z : List ℕ). EpochPart n z (set vs id w)) (set-get_or ws global_word 0) (still ws vs id global_word v w t at
+      record {
+        all = f.all;
+        inside = f.inside;
+        states = f.states;
+        state = f.state;
+        count = f.count;
+        known = omega arith;
+        found = omega arith;
+        published = λ z. let p = f.published z in record { count = p.count; since = let s = p.since in omega arith; once = p.once };
+        locked = f.locked;
+        lone = λ _ _. refl;
+      }
+      (λ u fu a b. (record { places = a.places; locks = a.locks; passed = a.passed }, record { places = b.places; locks = b.locks; passed = b.passed }))
+      (λ z. z))
+
+  -- where there is one place, only one has it
+  pub no_other : (ws : List ℕ) (vs : List EpochView) (id j : ℕ) (v u : EpochView) → EpochPart n ws vs → n ≡ 1 → get_elem? vs id ≡ some v → HasPlace v
+      → j ≢ id → get_elem? vs j ≡ some u → ¬ (HasPlace u)
+  no_other ws vs id j v u t one at live apart e z = let a = (t.two id j v u (λ c. apart (sym c)) at e).places live z in
+      let p = (t.each id v at).inside live in let q = (t.each j u e).inside z in a (omega arith)
 
   fresh : (a : ℕ) → (a ≢ 0 → a ≡ n) → (ws : List ℕ) → Fits n ws (nobody a)
   fresh a is ws = record {
@@ -522,3 +560,17 @@ module _ (n : ℕ) where
     unused = t.unused;
     held = λ z. let h = t.held z in (h.0, h.1, at_longer vs (nobody a ∷ []) h.0 h.1 h.2, h.3);
   }
+
+  -- the start: all words are 0, and there is one token, which knows nothing
+  pub begins : (ws : List ℕ) → after_places n ≤ length ws → ((i : ℕ) → get_or ws i 0 ≡ 0) → EpochPart n ws (nobody n ∷ [])
+  begins ws wide none = record {
+    wide = wide;
+    each = λ j v e. subst (Fits n ws) (only j v e) (fresh n (λ _. refl) ws);
+    two = λ j k v w apart e e'. subst (λ (u : EpochView). Apart u w) (only j v e) (with_nobody n w).0;
+    unused = λ _ _. none;
+    held = λ locked. absurd (locked (none lock_word));
+  }
+    where
+      only : (j : ℕ) (v : EpochView) → get_elem? (nobody n ∷ []) j ≡ some v → nobody n ≡ v
+      only zero v e = some-injective _ _ e
+      only (suc j) v e = absurd (some-ne-none v (sym e))

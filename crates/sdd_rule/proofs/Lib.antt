@@ -1,3 +1,14 @@
 pub mod Frame
+pub mod Sums
+pub mod Codes
 pub mod Epoch
+pub mod SlotWords
+pub mod Owning
+pub mod Seeing
+pub mod SlotEpochs
+pub mod Lone
+pub mod Holding
+pub mod Tokens
+pub mod EpochSteps
+pub mod SlotSteps
 pub mod Lift

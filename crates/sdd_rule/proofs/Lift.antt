@@ -1,90 +1,142 @@
--- A step of one part is a step of the table, if the other parts follow.
-use Rattle.std.proofs.Common.{◌≡◌, ℕ, ◌<◌, List, [], ◌∷◌, map, length, get_or, set, sym, refl, ap, ◌∙◌, subst, arith, length-set}
-use mathlib.Core.Option.{some}
+-- A step that keeps the parts is a step of the table.
+use Rattle.std.proofs.Common.{◌≡◌, ℕ, zero, suc, ◌+◌, ◌<◌, List, [], ◌∷◌, ◌++◌, map, length, get_or, set, sym, refl, ap, ◌∙◌, subst, ⊎_elim, arith, length-set}
+use mathlib.Core.Option.{some, some-injective, some-ne-none}
 use mathlib.Core.List.{map-append}
 use lib.ListN.{get_elem?}
 use lib.Seq.{map-set}
-use Rattle.atomic_table.specs.Table.{State, Me, Act, keeps, Valid, carried_after, stepped, Allows, Enters}
-use Rattle.atomic_table.proofs.Lists.{at_map}
+use Rattle.atomic_table.specs.Table.{State, Me, Act, keeps, Valid, carried_after, stepped, Allows, Enters, Splits, Joins, opening}
+use Rattle.atomic_table.proofs.Lists.{at_map, at_snoc, set_again, set_else}
 use Rattle.sdd_rule.specs.declared.EpochView.{EpochView}
 use Rattle.sdd_rule.specs.declared.View.{View}
 use Rattle.sdd_rule.specs.declared.Sizes.{Sizes}
-use Rattle.sdd_rule.specs.Words.{after_places}
-use Rattle.sdd_rule.specs.Epoch.{EpochPart}
-use Rattle.sdd_rule.specs.Steps.{Rises, Keeps}
-use Rattle.sdd_rule.specs.Parts.{epoch_of, with_epoch, idle, PlacesPart, SlotsPart, CellsPart, Kept}
+use Rattle.sdd_rule.specs.Codes.{codes}
+use Rattle.sdd_rule.specs.Words.{all_words}
+use Rattle.sdd_rule.specs.Sums.{is, times}
+use Rattle.sdd_rule.specs.SlotSteps.{first, others, parted, joined}
+use Rattle.sdd_rule.proofs.Sums.{total_append}
+use Rattle.std.specs.Prelude.{Some, None}
+use Rattle.sdd_rule.specs.Epoch.{HasPlace, EpochPart}
+use Rattle.sdd_rule.specs.Slots.{Holds, LonePart}
+use Rattle.sdd_rule.specs.Steps.{Steps, nobody}
+use Rattle.sdd_rule.specs.Parts.{epoch_of, idle, owner_token, Parts, PlacesPart, Kept}
+use Rattle.sdd_rule.proofs.Codes.{sound}
 use Rattle.sdd_rule.proofs.Epoch.{seated}
+use Rattle.sdd_rule.proofs.Epoch as epochs
+use Rattle.sdd_rule.proofs.Owning.{owning}
+use Rattle.sdd_rule.proofs.Tokens.{sits, starts}
+use Rattle.sdd_rule.proofs.Tokens as tokens
+use Rattle.sdd_rule.proofs.Lone.{lone_same}
+
+-- a step that leaves what is known of the epoch
+same_epochs : (vs : List View) (id : ℕ) (v w : View) → get_elem? vs id ≡ some v → w.epoch ≡ v.epoch → map epoch_of (set vs id w) ≡ map epoch_of vs
+same_epochs vs id v w at same = map-set epoch_of vs id w
+    ∙ (ap (set (map epoch_of vs) id) same ∙ set_again (map epoch_of vs) id v.epoch (at_map epoch_of vs id v at))
+
+-- one token more, which has no place
+snoc_lone : (sizes : Sizes) (ws : List ℕ) (vs : List View) (t : View) → ¬ (HasPlace t.epoch) → LonePart sizes ws vs → LonePart sizes ws (vs ++ t ∷ [])
+snoc_lone sizes ws vs t none l = record {
+  knows = λ one j u e z. ⊎_elim (λ (a : get_elem? vs j ≡ some u). l.knows one j u a z)
+      (λ (a : t ≡ u). absurd (none (subst (λ (x : View). HasPlace x.epoch) (sym a) z))) (at_snoc vs t u j e);
+}
 
 module _ {S : Type 0} (sizes : Sizes) where
-  -- the parts that aren't the epoch's
-  pub record Beside (s : State S View) : Type 0 where
-    pub places : PlacesPart sizes s
-    pub slots : SlotsPart sizes s
-    pub cells : CellsPart sizes s
-
-  -- each of them over a step of the epoch's part, which names none of its words and leaves what is known of it
-  module _ (s : State S View) (id i x : ℕ) (v w : View) (k : Kept sizes s) (at : get_elem? s.views id ≡ some v)
-      (low : i < after_places sizes.participants) (up : Rises (epoch_of v) (epoch_of w)) where
-    abbrev moved : State S View
-    moved = record { words = set s.words i x; homes = s.homes; views = set s.views id w }
-
-    pub places_spared : w.places ≡ v.places → PlacesPart sizes moved
-    places_spared same = record { wide = let l = k.places.wide in omega (arith, length-set s.words i x) }
-
-    pub slots_spared : w.slots ≡ v.slots → SlotsPart sizes moved
-    slots_spared same = record { wide = let l = k.slots.wide in omega (arith, length-set s.words i x) }
-
-    pub cells_spared : w.cells ≡ v.cells → CellsPart sizes moved
-    cells_spared same = record { wide = let l = k.cells.wide in omega (arith, length-set s.words i x) }
-
   module _ (slots id : ℕ) (me : Me S View) (i : ℕ) (f : ℕ → ℕ) where
-    -- a step of the epoch's part, with which the participant may change what it knows of the others, and take or give slots
-    pub lift_epoch : (then : ℕ → EpochView → Type 0) (next : EpochView → View) (act : EpochView → Act S)
-        → ((w : EpochView) → epoch_of (next w) ≡ w) → Keeps sizes.participants id (epoch_of me.0) i f then
-        → ((s : State S View) (w : EpochView) → Kept sizes s → length s.homes ≡ slots → get_elem? s.views id ≡ some me.0
-        → Rises (epoch_of me.0) w → then (get_or s.words i 0) w
-        → Valid s.homes me.1 (act w) × Beside (stepped s i (f (get_or s.words i 0)) id me.1 (next w) (act w)))
-        → Allows (Kept sizes) slots id me i f (λ r m'. (w : EpochView) × (m' ≡ (next w, carried_after me.1 (act w))) × then r w)
-    lift_epoch then next act sees step follow s k full at small =
-        let e = step s.words (map epoch_of s.views) k.epoch (at_map epoch_of s.views id me.0 at) small in let w : EpochView = e.0 in
-        let b = follow s w k full at e.2 e.3 in let x : ℕ = f (get_or s.words i 0) in (
-          next w,
-          act w,
-          b.0,
-          record {
-            epoch = subst (λ (l : List EpochView). EpochPart sizes.participants (set s.words i x) l)
-                (sym (map-set epoch_of s.views id (next w) ∙ ap (λ (u : EpochView). set (map epoch_of s.views) id u) (sees w))) e.1;
-            places = b.1.places;
-            slots = b.1.slots;
-            cells = b.1.cells;
-          },
-          (w, refl, e.3),
-        )
+    -- with it the participant may take or give slots of the table
+    pub lift_with : (then : ℕ → View → Type 0) (told : ℕ → Me S View → Type 0) → Steps (Parts sizes) id me.0 i f then
+        → ((s : State S View) (w : View) → Kept sizes s → length s.homes ≡ slots → get_elem? s.views id ≡ some me.0
+        → Parts sizes (set s.words i (f (get_or s.words i 0))) (set s.views id w) → then (get_or s.words i 0) w
+        → (a : Act S) × Valid s.homes me.1 a × PlacesPart sizes (stepped s i (f (get_or s.words i 0)) id me.1 w a)
+        × told (get_or s.words i 0) (w, carried_after me.1 a))
+        → Allows (Kept sizes) slots id me i f told
+    lift_with then told step follow s k full at small =
+        let e = step s.words s.views k.parts at small in let w : View = e.0 in let b = follow s w k full at e.1 e.2 in
+        (w, b.0, b.1, record { parts = e.1; places = b.2 }, b.3)
 
-    -- one that changes nothing else
-    pub lift : (then : ℕ → EpochView → Type 0) → i < after_places sizes.participants → Keeps sizes.participants id (epoch_of me.0) i f then
-        → Allows (Kept sizes) slots id me i f (λ r m'. (w : EpochView) × (m' ≡ (with_epoch me.0 w, me.1)) × then r w)
-    lift then low step = lift_epoch then (with_epoch me.0) (λ _. keeps) (λ _. refl) step
-        (λ s w k _ at up _. (
+    -- it takes and gives none
+    pub lift : (then : ℕ → View → Type 0) (told : ℕ → Me S View → Type 0) → Steps (Parts sizes) id me.0 i f then
+        → ((r : ℕ) (w : View) → then r w → told r (w, me.1)) → Allows (Kept sizes) slots id me i f told
+    lift then told step tells = lift_with then told step
+        (λ s w k _ _ _ t. (
+          keeps,
           tt,
-          let x : ℕ = f (get_or s.words i 0) in
-              record {
-                places = places_spared s id i x me.0 (with_epoch me.0 w) k at low up refl;
-                slots = slots_spared s id i x me.0 (with_epoch me.0 w) k at low up refl;
-                cells = cells_spared s id i x me.0 (with_epoch me.0 w) k at low up refl;
-              },
+          record { wide = let l = k.places.wide in omega (arith, length-set s.words i (f (get_or s.words i 0))) },
+          tells (get_or s.words i 0) w t,
         ))
 
   -- a new token, which knows nothing
-  pub enters : (slots i : ℕ) (told : ℕ → View → Type 0) → ((r : ℕ) → told r (idle sizes.participants)) → Enters (Kept {S = S} sizes) slots i told
-  enters slots i told tells s k _ small = let n : ℕ = sizes.participants in (
-    idle n,
+  pub enters : (slots i : ℕ) (told : ℕ → View → Type 0) → ((r : ℕ) → told r (idle sizes)) → Enters (Kept {S = S} sizes) slots i told
+  enters slots i told tells s k _ small = let n : ℕ = sizes.participants in let w : View = idle sizes in (
+    w,
     record {
-      epoch = subst (λ (l : List EpochView). EpochPart n s.words l) (sym (map-append epoch_of s.views (idle n ∷ [])))
-          (seated n n (λ _. refl) s.words (map epoch_of s.views) k.epoch);
+      parts = record {
+        epoch = subst (λ (l : List EpochView). EpochPart n s.words l) (sym (map-append epoch_of s.views (w ∷ [])))
+            (seated n n (λ _. refl) s.words (map epoch_of s.views) k.parts.epoch);
+        slots = sits codes sizes s.words s.views k.parts.slots w refl;
+        lone = snoc_lone sizes s.words s.views w (λ z. absurd (omega arith)) k.parts.lone;
+      };
       places = record { wide = k.places.wide };
-      slots = record { wide = k.slots.wide };
-      cells = record { wide = k.cells.wide };
     },
     tells (get_or s.words i 0),
   )
+
+  -- the table at the start
+  pub begins : (ws : List ℕ) (xs : List S) → length ws ≡ all_words sizes → ((i : ℕ) → get_or ws i 0 ≡ 0) → Kept sizes (opening ws xs (idle sizes))
+  begins ws xs long none = record {
+    parts = record {
+      epoch = epochs.begins sizes.participants ws (omega arith) none;
+      slots = starts codes sound sizes ws (idle sizes) long none refl;
+      lone = record { knows = λ one j v e z. let e' = ap (λ (x : View). x.epoch.state) (only (idle sizes) j v e) in absurd (omega arith) };
+    };
+    places = record { wide = omega arith };
+  }
+    where
+      only : (t : View) (j : ℕ) (v : View) → get_elem? (t ∷ []) j ≡ some v → t ≡ v
+      only t zero v e = some-injective _ _ e
+      only t (suc j) v e = absurd (some-ne-none v (sym e))
+
+  -- owners are cut off as a token, but for the one of a slot that is held
+  pub cuts : (id : ℕ) (v : View) (os ss os' ss' : List ℕ)
+      → ((i : ℕ) → (times i v.slots.owns ≡ times i os + times i os') × (times i v.slots.shares ≡ times i ss + times i ss'))
+      → ((i : ℕ) → Holds v i → 0 < times i os) → Splits (Kept {S = S} sizes) id v (owning v os ss v.words) (owner_token os' ss')
+  cuts id v os ss os' ss' parts held s k at = let n : ℕ = sizes.participants in let w : View = owning v os ss v.words in let t : View = owner_token os' ss' in
+      let vs : List View = set s.views id w in record {
+        parts = record {
+          epoch = subst (λ (l : List EpochView). EpochPart n s.words l)
+              (sym (map-append epoch_of vs (t ∷ []) ∙ ap (λ (l : List EpochView). l ++ nobody 0 ∷ []) (same_epochs s.views id v w at refl)))
+              (seated n 0 (λ z. absurd (z refl)) s.words (map epoch_of s.views) k.parts.epoch);
+          slots = tokens.cuts codes sizes s.words s.views k.parts.slots id v at os ss t os' ss' refl parts held;
+          lone = snoc_lone sizes s.words vs t (λ z. absurd (omega arith)) (lone_same sizes s.words s.views k.parts.lone id v at w refl (λ z. z));
+        };
+        places = record { wide = k.places.wide };
+      }
+
+  -- and taken in again
+  pub takes_in : (id : ℕ) (v : View) (other : ℕ) (os ss os' ss' : List ℕ)
+      → ((i : ℕ) → (times i os ≡ times i v.slots.owns + times i os') × (times i ss ≡ times i v.slots.shares + times i ss'))
+      → Joins (Kept {S = S} sizes) id v other (owner_token os' ss') (owning v os ss v.words) (owner_token [] [])
+  takes_in id v other os ss os' ss' parts s k at apart there = let n : ℕ = sizes.participants in let w : View = owning v os ss v.words in
+      let t : View = owner_token os' ss' in let t' : View = owner_token [] [] in let vs : List View = set s.views id w in
+      let was : get_elem? s.views other ≡ some t = sym (set_else s.views id other w apart) ∙ there in record {
+        parts = record {
+          epoch = subst (λ (l : List EpochView). EpochPart n s.words l)
+              (sym (same_epochs vs other t t' there refl ∙ same_epochs s.views id v w at refl)) k.parts.epoch;
+          slots = tokens.takes_in codes sizes s.words s.views k.parts.slots id v at os ss other t t' os' ss' refl refl parts apart was;
+          lone = lone_same sizes s.words vs (lone_same sizes s.words s.views k.parts.lone id v at w refl (λ z. z)) other t there t' refl (λ z. z);
+        };
+        places = record { wide = k.places.wide };
+      }
+
+  -- the only owner of the first slot goes to a token of its own, where none is held
+  pub parts_owner : (id : ℕ) (v : View) → v.slots.holds ≡ None → Splits (Kept {S = S} sizes) id v (parted v) (owner_token (first v.slots.owns) [])
+  parts_owner id v free = cuts id v (others v.slots.owns) v.slots.shares (first v.slots.owns) []
+      (λ i. (both i v.slots.owns, omega arith)) (λ i h. let c : None ≡ Some i = sym free ∙ h in cc)
+    where
+      both : (i : ℕ) (os : List ℕ) → times i os ≡ times i (others os) + times i (first os)
+      both i [] = refl
+      both i (x ∷ xs) = omega arith
+
+  -- and comes back
+  pub joins_owners : (id : ℕ) (v : View) (other : ℕ) (os ss : List ℕ)
+      → Joins (Kept {S = S} sizes) id v other (owner_token os ss) (joined v (owner_token os ss)) (owner_token [] [])
+  joins_owners id v other os ss = takes_in id v other (os ++ v.slots.owns) (ss ++ v.slots.shares) os ss
+      (λ i. (let e = total_append (is i) os v.slots.owns in omega arith, let e = total_append (is i) ss v.slots.shares in omega arith))

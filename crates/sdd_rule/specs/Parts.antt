@@ -1,12 +1,16 @@
 -- The rule of a domain: a record of its parts
-use Rattle.std.specs.Prelude.{ℕ, ◌<◌, ◌≤◌, map, length}
+use Rattle.std.specs.Prelude.{ℕ, ◌<◌, List, [], map, length}
 use Rattle.atomic_table.specs.Table.{State}
 use Rattle.sdd_rule.specs.declared.EpochView.{EpochView}
+use Rattle.sdd_rule.specs.declared.SlotsView.{SlotsView}
 use Rattle.sdd_rule.specs.declared.View.{View}
 use Rattle.sdd_rule.specs.declared.Sizes.{Sizes}
-use Rattle.sdd_rule.specs.Words.{mark_word, cell_word, all_words}
+use Rattle.sdd_rule.specs.Words.{mark_word}
+use Rattle.sdd_rule.specs.Codes.{codes}
 use Rattle.sdd_rule.specs.Epoch.{EpochPart}
+use Rattle.sdd_rule.specs.Slots.{SlotsPart, LonePart}
 use Rattle.sdd_rule.specs.Steps.{nobody}
+use Rattle.sdd_rule.specs.SlotSteps.{bare, owning_only, blank}
 
 abbrev pub epoch_of : View → EpochView
 epoch_of v = v.epoch
@@ -14,25 +18,31 @@ epoch_of v = v.epoch
 abbrev pub with_epoch : View → EpochView → View
 with_epoch v w = record v { epoch = w }
 
+abbrev pub with_both : View → EpochView → SlotsView → View
+with_both v w s = record v { epoch = w; slots = s }
+
 -- a token that knows nothing
-abbrev pub idle : ℕ → View
-idle n = record { epoch = nobody n; places = record {}; slots = record {}; cells = record {} }
+abbrev pub idle : Sizes → View
+idle sizes = record { sizes = sizes; epoch = nobody sizes.participants; places = record {}; slots = bare; words = blank sizes }
+
+abbrev pub no_sizes : Sizes
+no_sizes = record { participants = 0; slots = 0; jobs = 0; cells = 0 }
+
+-- a token that knows its owners alone
+abbrev pub owner_token : List ℕ → List ℕ → View
+owner_token owns shares = record { sizes = no_sizes; epoch = nobody 0; places = record {}; slots = owning_only owns shares; words = [] }
+
+-- the parts that speak of words and of what each participant knows
+pub record Parts (sizes : Sizes) (ws : List ℕ) (vs : List View) : Type 0 where
+  pub epoch : EpochPart sizes.participants ws (map epoch_of vs)
+  pub slots : SlotsPart codes sizes ws vs
+  pub lone : LonePart sizes ws vs
 
 module _ {S : Type 0} (sizes : Sizes) (s : State S View) where
   -- what ended places left, and the mark: the word is there
   pub record PlacesPart : Type 0 where
     pub wide : mark_word < length s.words
 
-  -- slots and jobs: their words are there
-  pub record SlotsPart : Type 0 where
-    pub wide : cell_word sizes 0 ≤ length s.words
-
-  -- cells: their words are there
-  pub record CellsPart : Type 0 where
-    pub wide : all_words sizes ≤ length s.words
-
   pub record Kept : Type 0 where
-    pub epoch : EpochPart sizes.participants s.words (map epoch_of s.views)
+    pub parts : Parts sizes s.words s.views
     pub places : PlacesPart
-    pub slots : SlotsPart
-    pub cells : CellsPart

@@ -6,13 +6,19 @@ use Rattle.sdd_rule.specs.declared.EpochView.{EpochView}
 use Rattle.sdd_rule.specs.Words.{state_word, count_word}
 use Rattle.sdd_rule.specs.Epoch.{HasPlace, IsOpen, Scans, IsLone, EpochPart}
 
--- what each step keeps, and other parts may rely on
+-- the seat id, which knows v, takes a step on the word i: whatever the words and the others are,
+-- it knows something after it by which the part is kept, and of which more is told
+abbrev pub Steps : {X : Type 0} → (List ℕ → List X → Type 0) → ℕ → X → ℕ → (ℕ → ℕ) → (ℕ → X → Type 0) → Type 0
+Steps {X} part id v i f then = (ws : List ℕ) (xs : List X) → part ws xs → get_elem? xs id ≡ some v → slice_index ws i < 2 ^ 64
+    → (w : X) × part (slice_set ws i (f (slice_index ws i))) (slice_set xs id w) × then (slice_index ws i) w
+
+-- what each step but a close keeps, and other parts may rely on: what is known rises, and an open guard stays as it is published
 pub record Rises (v w : EpochView) : Type 0 where
   pub known : v.known ≤ w.known
   pub found : v.found ≤ w.found
+  pub guard : IsOpen v → IsOpen w × (w.since ≡ v.since) × (w.place ≡ v.place)
 
--- the seat id, which knows v, takes a step on the word i:
--- whatever the words and the others are, it knows something after it by which the part is kept
+-- the same of the epoch's part
 abbrev pub Keeps : ℕ → ℕ → EpochView → ℕ → (ℕ → ℕ) → (ℕ → EpochView → Type 0) → Type 0
 Keeps n id v i f then = (ws : List ℕ) (vs : List EpochView) → EpochPart n ws vs → get_elem? vs id ≡ some v → slice_index ws i < 2 ^ 64
     → (w : EpochView) × EpochPart n (slice_set ws i (f (slice_index ws i))) (slice_set vs id w) × Rises v w × then (slice_index ws i) w

@@ -23,15 +23,26 @@ count_word place = 2 * place + 4
 abbrev pub after_places : ℕ → ℕ
 after_places n = 2 * n + 3
 
-abbrev pub slot_word : Sizes → ℕ → ℕ
-slot_word sizes slot = after_places sizes.participants + slot
-
 abbrev pub job_word : Sizes → ℕ → ℕ
-job_word sizes job = after_places sizes.participants + sizes.slots + job
+job_word sizes job = after_places sizes.participants + job
+
+abbrev pub first_cell : Sizes → ℕ
+first_cell sizes = after_places sizes.participants + sizes.jobs
 
 abbrev pub cell_word : Sizes → ℕ → ℕ
-cell_word sizes cell = after_places sizes.participants + sizes.slots + sizes.jobs + cell
+cell_word sizes cell = first_cell sizes + cell
 
--- how many words there are
+-- behind all others: a word past the last one reads 0, so that a number past the last slot is that of a free slot
+abbrev pub first_slot : Sizes → ℕ
+first_slot sizes = after_places sizes.participants + sizes.jobs + sizes.cells
+
+abbrev pub slot_word : Sizes → ℕ → ℕ
+slot_word sizes slot = first_slot sizes + slot
+
+-- how many words there are behind the places'
+abbrev pub words_behind : Sizes → ℕ
+words_behind sizes = sizes.jobs + sizes.cells + sizes.slots
+
+-- and in all
 abbrev pub all_words : Sizes → ℕ
-all_words sizes = after_places sizes.participants + sizes.slots + sizes.jobs + sizes.cells
+all_words sizes = after_places sizes.participants + words_behind sizes

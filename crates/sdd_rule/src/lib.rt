@@ -29,18 +29,40 @@ pub struct EpochView {
 /// What a participant knows of ended places: nothing yet.
 pub struct PlacesView {}
 
-/// What a participant knows of slots and jobs: nothing yet.
-pub struct SlotsView {}
+/// An item that waits with a participant.
+pub struct WaitingItem {
+    pub slot: u64,
+    /// The global count at its retirement.
+    pub retired_at: u64,
+    /// How many changes of the count it has seen since.
+    pub changes: u64,
+}
 
-/// What a participant knows of cells: nothing yet.
-pub struct CellsView {}
+/// What a participant knows of slots. A clause reads an array as a list, of any length.
+pub struct SlotsView {
+    /// The slots whose only owner it has, which isn't counted.
+    pub owns: [u64; 0],
+    /// The slots of its other owners, one entry for each owner.
+    pub shares: [u64; 0],
+    /// The slots that it sees under its guards, one entry for each time.
+    pub sees: [u64; 0],
+    /// The items that wait with it.
+    pub waits: [WaitingItem; 0],
+    /// The slot of its own that it holds, so that nobody comes to see it.
+    pub holds: Option<u64>,
+    /// No place below this one has a guard that sees the slot that is held.
+    pub looked: u64,
+}
 
 /// What a participant knows.
 pub struct View {
+    /// How many of each its domain has; none where it isn't a participant's token.
+    pub sizes: Sizes,
     pub epoch: EpochView,
     pub places: PlacesView,
     pub slots: SlotsView,
-    pub cells: CellsView,
+    /// Where it is a lone participant: all words behind the places'.
+    pub words: [u64; 0],
 }
 
 /// How many of each a domain has, which says where its words are.

@@ -8,4 +8,4 @@ store-requires c = let sized = c.args.board.now.sized in let r = c.requires in
     (r.home, omega arith, may_end _ _ _ _ _ r.closed (omega (arith, r.own)) (omega (arith, r.own)))
 
 pub returns : goal.returns
-returns c = let e = c.store.ensures in told Ends c.args.token.now _ 3 e.0 e.1 e.2
+returns c = let e = c.store.ensures in told c.args.token.now _ 3 e.0 e.1 Ends e.2

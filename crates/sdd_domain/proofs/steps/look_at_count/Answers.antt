@@ -11,4 +11,4 @@ load-requires c = let sized = c.args.board.now.sized in let r = c.requires in
 pub returns : goal.returns
 returns c = let e = c.load.ensures in
     subst (λ (i : ℕ). Stepped (LooksAtCount i) c.args.token.now c.load.result c.load.new.seat) c.count_word.ensures
-    (told (LooksAtCount c.count_word.result) c.args.token.now _ c.load.result e.0 e.1 e.2)
+    (told c.args.token.now _ c.load.result e.0 e.1 (LooksAtCount c.count_word.result) e.2)

@@ -11,4 +11,4 @@ load-requires c = let sized = c.args.board.now.sized in let r = c.requires in
 pub returns : goal.returns
 returns c = let e = c.load.ensures in
     subst (λ (i : ℕ). Stepped (LooksAtState i) c.args.token.now c.load.result c.load.new.seat) c.state_word.ensures
-    (told (LooksAtState c.state_word.result) c.args.token.now _ c.load.result e.0 e.1 e.2)
+    (told c.args.token.now _ c.load.result e.0 e.1 (LooksAtState c.state_word.result) e.2)
