@@ -5,14 +5,12 @@ use Rattle.sdd_base.specs.Owned as owned
 use Rattle.sdd_base.specs.Shared as shared
 use Rattle.sdd_base.specs.RawCell as raw_cell
 use Rattle.sdd_cell_rows.specs.declared.value.Value.{Value, out-Value}
-use Rattle.sdd_cell_rows.specs.declared.value.Value.TheOpen.{Number, Of, Node, Raw, Four}
+use Rattle.sdd_cell_rows.specs.declared.value.Value.TheOpen.{Number, Of, Each}
 
 -- a number holds nothing, any other its owners and cells, in order
 abbrev pub holdings_of : Value → List Holding
 holdings_of v = elim (out-Value v) [
   | Number n ↦ []
   | Of owner ↦ shared.holding_of owner ∷ []
-  | Node n next ↦ shared.cell_holding next ∷ []
-  | Raw cell ↦ raw_cell.cell_holding cell ∷ []
-  | Four a b c d ↦ owned.holding_of a ∷ shared.holding_of b ∷ owned.cell_holding c ∷ shared.cell_holding d ∷ []
+  | Each a b c d e ↦ owned.holding_of a ∷ shared.holding_of b ∷ owned.cell_holding c ∷ shared.cell_holding d ∷ raw_cell.cell_holding e ∷ []
 ]

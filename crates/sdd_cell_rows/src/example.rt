@@ -58,16 +58,6 @@ impl<T: Item<T>> Setting<T> {
         E::run(rt, &mut self.world.at(&self.place));
     }
 
-    /// Another participant comes, and this one ends. From now on the other makes the calls.
-    pub fn hand_over(&mut self, rt: &impl Abort) {
-        let next = self.world.register().expect(rt, "a place is free");
-        let before = std::mem::replace(&mut self.place, next);
-        match self.world.end(before) {
-            Ok(()) => {}
-            Err((_place, refused)) => panic!(rt; "{refused:?}"),
-        }
-    }
-
     /// Opens, accelerates and closes a guard.
     fn accelerated(&mut self, rt: &impl Abort) -> (u8, bool) {
         accelerated(rt, &mut self.world.at(&self.place))
@@ -98,42 +88,9 @@ impl<T: Item<T>> Setting<T> {
     }
 }
 
-/// A participant of a world with these limits does this, and all that was made is reclaimed at the end.
-pub fn in_a_world<T: Item<T>, E: Example<T>, R: Abort + AllocGlobal>(rt: &R, limits: Limits) {
-    let mut setting: Setting<T> = Setting::new(rt, limits);
-    setting.run::<E>(rt);
-    setting.closed(rt, 0);
-}
-
-/// The participant's guards show this afterwards.
-pub fn in_a_world_that_shows<T: Item<T>, E: Example<T>, R: Abort + AllocGlobal>(
-    rt: &R,
-    limits: Limits,
-    table: &[Shown],
-) {
-    let mut setting: Setting<T> = Setting::new(rt, limits);
-    setting.run::<E>(rt);
-    setting.shows(rt, table);
-    setting.closed(rt, 0);
-}
-
-/// The participant's guards show this afterwards, and once it has ended those of another that.
-pub fn in_a_world_handed_over<T: Item<T>, E: Example<T>, R: Abort + AllocGlobal>(
-    rt: &R,
-    limits: Limits,
-    own: &[Shown],
-    others: &[Shown],
-) {
-    let mut setting: Setting<T> = Setting::new(rt, limits);
-    setting.run::<E>(rt);
-    setting.shows(rt, own);
-    setting.hand_over(rt);
-    setting.shows(rt, others);
-    setting.closed(rt, 0);
-}
-
-/// So many items are dropped in their place, and the participant's guards show this afterwards.
-pub fn in_a_world_that_drops<T: Item<T>, E: Example<T>, R: Abort + AllocGlobal>(
+/// A participant of a world with these limits does this, and its guards show this afterwards. So many items were dropped in their place, and all others that
+/// were made are reclaimed at the end.
+pub fn in_a_world<T: Item<T>, E: Example<T>, R: Abort + AllocGlobal>(
     rt: &R,
     limits: Limits,
     table: &[Shown],

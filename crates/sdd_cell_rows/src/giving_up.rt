@@ -1,14 +1,15 @@
-//! Values that hold owners and cells: what they hold goes three changes after them, whoever reclaims them.
-ghost use Rattle.std.specs.Prelude.{◌≡◌};
+//! Values that hold owners and cells: what they hold goes three changes after them.
+ghost use Rattle.std.specs.Prelude.{ℕ, ◌≡◌};
+ghost use Rattle.sdd_base.specs.Guard.{reader_of};
 ghost use Rattle.sdd_base.specs.Holding.{AreOf};
+ghost use Rattle.sdd_base.specs.Ptr.{KeepsShown};
 ghost use Rattle.sdd_base.specs.Seat.{IsSeated};
 ghost use Rattle.sdd_cell_rows.specs.Value.{holdings_of};
 
 use crate::Value;
-use crate::example::{AMPLE, Example, in_a_world, in_a_world_handed_over, in_a_world_that_shows};
-use crate::steps::{accelerated, owned, shared};
-use sdd_base::{Limits, Space};
-use sdd_core::Refused;
+use crate::example::{AMPLE, Example, in_a_world};
+use crate::steps::{close, opened, owned, raw, shared};
+use sdd_base::{Guard, Limits, RawPtr, Space};
 use std::process::Abort;
 
 /// A value with the only owner of another is retired.
@@ -22,65 +23,6 @@ impl Example<Value> for Nests {
     }
 }
 
-/// One owner of the inner item lies in a value that goes, and another doesn't: nothing waits then, and the other is the last.
-pub struct IsLeft;
-
-impl Example<Value> for IsLeft {
-    fn run<R: Abort, S: Space<Value>>(rt: &R, s: &mut S) {
-        let inner = shared::made(rt, s, Value::Number(7));
-        let other = shared::copied(rt, s, &inner);
-        let outer = owned::made(rt, s, Value::Of(inner));
-        owned::retire(s, outer);
-        assert_eq!(rt; accelerated(rt, s), (0, true));
-        assert_eq!(rt; accelerated(rt, s), (1, true));
-        assert_eq!(rt; accelerated(rt, s), (2, true));
-        assert_eq!(rt; accelerated(rt, s), (3, false));
-        assert!(rt; shared::release(s, other));
-    }
-}
-
-/// A value that holds one item by each kind of owner and cell.
-fn with_four<S: Space<Value>>(rt: &impl Abort, s: &mut S) -> Value
-    requires seated { IsSeated (S.seat s.old) }
-    ensures seat { S.seat s.new ≡ S.seat s.old }
-    ensures home { AreOf (S.seat s.new).home (holdings_of result) }
-{
-    let first = owned::made(rt, s, Value::Number(1));
-    let second = shared::made(rt, s, Value::Number(2));
-    let third = owned::cell(rt, s, Value::Number(3));
-    let fourth = shared::cell(rt, s, Value::Number(4));
-    Value::Four(first, second, third, fourth)
-}
-
-/// It is retired.
-struct RetiresFour;
-
-impl Example<Value> for RetiresFour {
-    fn run<R: Abort, S: Space<Value>>(rt: &R, s: &mut S) {
-        let value = with_four(rt, s);
-        let outer = owned::made(rt, s, value);
-        owned::retire(s, outer);
-        assert_eq!(rt; owned::refused_null(s), Some(Refused::NoCell));
-    }
-}
-
-/// The same, until its cells are free.
-struct FreesCells;
-
-impl Example<Value> for FreesCells {
-    fn run<R: Abort, S: Space<Value>>(rt: &R, s: &mut S) {
-        RetiresFour::run(rt, s);
-        assert_eq!(rt; accelerated(rt, s), (0, true));
-        assert_eq!(rt; accelerated(rt, s), (1, true));
-        assert_eq!(rt; accelerated(rt, s), (2, true));
-        assert_eq!(rt; accelerated(rt, s), (3, true));
-        assert_eq!(rt; owned::refused_null(s), None);
-    }
-}
-
-/// As many cells as a value with one item of each kind holds.
-const TWO_CELLS: Limits = Limits { cells: 2, ..AMPLE };
-
 #[test]
 fn what_a_value_held_goes_three_changes_later(rt: HostRuntime) {
     let table = [
@@ -92,16 +34,70 @@ fn what_a_value_held_goes_three_changes_later(rt: HostRuntime) {
         (5, 1, true),
         (6, 2, false),
     ];
-    in_a_world_that_shows::<Value, Nests, _>(&rt, AMPLE, &table);
-    let table = [(4, 1, true), (5, 1, true), (6, 5, false)];
-    in_a_world_that_shows::<Value, FreesCells, _>(&rt, TWO_CELLS, &table);
-    in_a_world::<Value, IsLeft, _>(&rt, AMPLE);
+    in_a_world::<Value, Nests, _>(&rt, AMPLE, &table, 0);
 }
 
+/// A value that holds one item by each kind of owner and of cell that owns, and a raw cell.
+fn with_each<S: Space<Value>>(rt: &impl Abort, s: &mut S) -> Value
+    requires seated { IsSeated (S.seat s.old) }
+    ensures seat { S.seat s.new ≡ S.seat s.old }
+    ensures home { AreOf (S.seat s.new).home (holdings_of result) }
+{
+    let first = owned::made(rt, s, Value::Number(1));
+    let second = shared::made(rt, s, Value::Number(2));
+    let third = owned::cell(rt, s, Value::Number(3));
+    let fourth = shared::cell(rt, s, Value::Number(4));
+    let fifth = raw::cell(rt, s, RawPtr::null());
+    Value::Each(first, second, third, fourth, fifth)
+}
+
+/// The number that the shared cell of such a value holds, as it is now. Some slot shows the value.
+fn number_beyond<S: Space<Value>>(s: &mut S, value: &Value, guard: &Guard) -> Option<u64>
+    requires seated { IsSeated (S.seat s.old) }
+    requires shown { (slot : ℕ) × S.shows s.old slot value.now }
+    requires reader { reader_of guard.now ≡ (S.seat s.old).reader }
+    ensures seat { S.seat s.new ≡ S.seat s.old }
+{
+    s.shown_is_of_home();
+    let Value::Each(_, _, _, cell, _) = value else {
+        return None;
+    };
+    match cell.load(guard, s).as_ref(s) {
+        Some(Value::Number(number)) => Some(*number),
+        _ => None,
+    }
+}
+
+/// It goes, and a reader goes on from it through its cell.
+struct HoldsEach;
+
+impl Example<Value> for HoldsEach {
+    fn run<R: Abort, S: Space<Value>>(rt: &R, s: &mut S) {
+        let guard = opened(rt, s);
+        let value = with_each(rt, s);
+        let owner = shared::made(rt, s, value);
+        let seen = owner.get_guarded_ref(&guard, s);
+        assert!(rt; owner.release(s));
+        assert_eq!(rt; number_beyond(s, seen, &guard), Some(4));
+        close(s, guard);
+    }
+}
+
+/// The greatest sizes, with an eighth of the most slots and cells, as more take a minute. A body that refuses beyond some size with `NoMemory` meets
+/// every contract.
+const GREATEST: Limits = Limits {
+    participants: 1024,
+    slots: 2_097_152,
+    cells: 2_097_152,
+    jobs: 65_536,
+    nesting: 4_294_967_295,
+    tries: 65_535,
+};
+
 #[test]
-fn what_values_held_goes_also_when_they_are_adopted_or_the_world_ends(rt: HostRuntime) {
-    let adopted = [
-        (0, 0, false),
+fn a_value_gives_up_each_kind_of_owner_and_cell_in_a_world_of_the_greatest_size(rt: HostRuntime) {
+    let table = [
+        (0, 0, true),
         (1, 0, true),
         (2, 0, true),
         (3, 1, true),
@@ -109,9 +105,5 @@ fn what_values_held_goes_also_when_they_are_adopted_or_the_world_ends(rt: HostRu
         (5, 1, true),
         (6, 5, false),
     ];
-    in_a_world_handed_over::<Value, RetiresFour, _>(&rt, TWO_CELLS, &[], &adopted);
-    let own = [(0, 0, true), (1, 0, true), (2, 0, true), (3, 1, true)];
-    let adopted = [(4, 1, false), (5, 1, true), (6, 1, true), (7, 5, false)];
-    in_a_world_handed_over::<Value, RetiresFour, _>(&rt, TWO_CELLS, &own, &adopted);
-    in_a_world::<Value, RetiresFour, _>(&rt, TWO_CELLS);
+    in_a_world::<Value, HoldsEach, _>(&rt, GREATEST, &table, 0);
 }

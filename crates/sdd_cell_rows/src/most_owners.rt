@@ -93,31 +93,22 @@ impl Crowd {
         standing_of(&self.world, inner::slot_of_shared(&self.owner))
     }
 
-    /// What one owner more is refused with. Who is had is given up again.
-    fn refusals(&mut self, rt: &impl Abort) -> Refusals {
-        refusals_of(rt, &mut self.world.at(&self.place), &self.owner, &self.cell)
+    /// What one owner more is refused with, and beside it yet another. Who is had is given up again.
+    fn refusals(&mut self, rt: &impl Abort) -> (Refusals, Option<Refusals>) {
+        refusals_of_two(rt, &mut self.world.at(&self.place), &self.owner, &self.cell)
     }
 
-    /// What so many owners more are refused with. Those that are had are given up again.
-    fn refused_more(&mut self, more: u64) -> Option<Refused>
+    /// What so many owners more are refused with.
+    fn refused_more(&mut self, rt: &impl Abort, more: u64) -> Refused
         requires { 1 ≤ more }
     {
         match add_owners(&mut self.world, &self.owner, more) {
-            Ok(several) => {
-                let owner = let_go_but_one(&mut self.world, several);
-                let _ = shared::release(&mut self.world.at(&self.place), owner);
-                None
-            }
-            Err(refused) => Some(refused),
+            Ok(_several) => panic!(rt; "so many may own it"),
+            Err(refused) => refused,
         }
     }
 
-    /// What one owner more is refused with beside another one that is had, and given up again.
-    fn refusals_beside_another(&mut self, rt: &impl Abort) -> Refusals {
-        refusals_beside(rt, &mut self.world.at(&self.place), &self.owner, &self.cell)
-    }
-
-    /// The owner and the cell go, then all but one of those in one piece. That one may have others beside it again, and is the last.
+    /// All but one of those in one piece go, then the owner and the cell. The one is the last.
     fn closed(self, rt: &impl Abort) {
         let Crowd {
             mut world,
@@ -126,9 +117,8 @@ impl Crowd {
             cell,
             more,
         } = self;
-        give_up(rt, &mut world.at(&place), owner, cell);
         let last = let_go_but_one(&mut world, more);
-        last_goes(rt, &mut world.at(&place), last);
+        all_go(rt, &mut world.at(&place), owner, cell, last);
         match world.close() {
             Ok(tally) => assert_eq!(rt; (tally.made, tally.reclaimed), (1, 1)),
             Err((_world, refused)) => panic!(rt; "{refused:?}"),
@@ -165,44 +155,46 @@ fn first_owners<S: Space<u64>>(rt: &impl Abort, s: &mut S) -> (Shared<u64>, Atom
     }
 }
 
-/// The owner and the cell go, and others own the item still.
-fn give_up<S: Space<u64>>(rt: &impl Abort, s: &mut S, owner: Shared<u64>, cell: AtomicShared<u64>)
+/// The owner and the cell go, and then the last owner.
+fn all_go<S: Space<u64>>(
+    rt: &impl Abort,
+    s: &mut S,
+    owner: Shared<u64>,
+    cell: AtomicShared<u64>,
+    last: Shared<u64>,
+)
     requires seated { IsSeated (S.seat s.old) }
     requires owner { slots_home owner ≡ (S.seat s.old).home.slots }
     requires cell { cells_home cell ≡ (S.seat s.old).home.cells }
+    requires last { slots_home last ≡ (S.seat s.old).home.slots }
     ensures seat { S.seat s.new ≡ S.seat s.old }
 {
     assert!(rt; !shared::release(s, owner));
     shared::close_cell(s, cell);
-}
-
-/// The last owner may have another beside it again, and goes.
-fn last_goes<S: Space<u64>>(rt: &impl Abort, s: &mut S, last: Shared<u64>)
-    requires seated { IsSeated (S.seat s.old) }
-    requires home { slots_home last ≡ (S.seat s.old).home.slots }
-    ensures seat { S.seat s.new ≡ S.seat s.old }
-{
-    let other = shared::copied(rt, s, &last);
-    assert!(rt; !shared::release(s, other));
     assert!(rt; shared::release(s, last));
 }
 
-/// What one owner more is refused with beside another one that is had, and given up again.
-fn refusals_beside<S: Space<u64>>(
+/// What one owner more is refused with, and beside it yet another. Who is had is given up again.
+fn refusals_of_two<S: Space<u64>>(
     rt: &impl Abort,
     s: &mut S,
     owner: &Shared<u64>,
     cell: &AtomicShared<u64>,
-) -> Refusals
+) -> (Refusals, Option<Refusals>)
     requires seated { IsSeated (S.seat s.old) }
     requires owner { slots_home owner.now ≡ (S.seat s.old).home.slots }
     requires cell { cells_home cell.now ≡ (S.seat s.old).home.cells }
     ensures seat { S.seat s.new ≡ S.seat s.old }
 {
-    let other = shared::copied(rt, s, owner);
-    let refusals = refusals_of(rt, s, owner, cell);
-    let _ = shared::release(s, other);
-    refusals
+    let first = refusals_of(rt, s, owner, cell);
+    match owner.clone(s) {
+        Ok(other) => {
+            let second = refusals_of(rt, s, owner, cell);
+            let _ = shared::release(s, other);
+            (first, Some(second))
+        }
+        Err(_refused) => (first, None),
+    }
 }
 
 /// What one owner more is refused with, by each call that gives one. Who is had is given up again.
@@ -218,7 +210,7 @@ fn refusals_of<S: Space<u64>>(
     ensures seat { S.seat s.new ≡ S.seat s.old }
 {
     let guard = opened(rt, s);
-    let ptr = shared::pointer(s, owner, &guard);
+    let ptr = owner.get_guarded_ptr(&guard, s);
     let refusals = Refusals {
         copy: shared::refused_copy(s, owner),
         upgrade: shared::refused_upgrade(s, ptr),
@@ -233,9 +225,9 @@ fn refusals_of<S: Space<u64>>(
 #[test]
 fn where_2_62_own_an_item_nobody_more_may(rt: HostRuntime) {
     let mut crowd = Crowd::new(&rt, AMPLE, MOST - 2);
-    assert_eq!(rt; crowd.refusals(&rt), TOO_MANY);
-    assert_eq!(rt; crowd.refused_more(1), Some(Refused::TooManyOwners));
-    assert_eq!(rt; crowd.refused_more(u64::MAX), Some(Refused::TooManyOwners));
+    assert_eq!(rt; crowd.refusals(&rt), (TOO_MANY, None));
+    assert_eq!(rt; crowd.refused_more(&rt, 1), Refused::TooManyOwners);
+    assert_eq!(rt; crowd.refused_more(&rt, u64::MAX), Refused::TooManyOwners);
     assert_eq!(rt; crowd.standing(), Some(Standing::Shared(MOST)));
     crowd.closed(&rt);
 }
@@ -243,22 +235,8 @@ fn where_2_62_own_an_item_nobody_more_may(rt: HostRuntime) {
 #[test]
 fn where_one_fewer_own_it_one_more_may(rt: HostRuntime) {
     let mut crowd = Crowd::new(&rt, AMPLE, MOST - 3);
-    assert_eq!(rt; crowd.refusals(&rt), NONE);
-    assert_eq!(rt; crowd.refused_more(2), Some(Refused::TooManyOwners));
-    assert_eq!(rt; crowd.refused_more(1), None);
-    assert_eq!(rt; crowd.refusals_beside_another(&rt), TOO_MANY);
+    assert_eq!(rt; crowd.refusals(&rt), (NONE, Some(TOO_MANY)));
+    assert_eq!(rt; crowd.refused_more(&rt, 2), Refused::TooManyOwners);
     assert_eq!(rt; crowd.standing(), Some(Standing::Shared(MOST - 1)));
-    crowd.closed(&rt);
-}
-
-#[test]
-fn where_no_cell_is_free_a_copy_of_a_cell_is_refused_for_that(rt: HostRuntime) {
-    let limits = Limits { cells: 1, ..AMPLE };
-    let mut crowd = Crowd::new(&rt, limits, MOST - 2);
-    let refusals = Refusals {
-        cell: Some(Refused::NoCell),
-        ..TOO_MANY
-    };
-    assert_eq!(rt; crowd.refusals(&rt), refusals);
     crowd.closed(&rt);
 }

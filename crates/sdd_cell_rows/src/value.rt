@@ -5,12 +5,8 @@ pub enum Value {
     Number(u64),
     /// One owner of an item that others may own too.
     Of(Shared<Value>),
-    /// A number, and a cell with an owner of the next node, or with nothing.
-    Node(u64, AtomicShared<Value>),
-    /// A cell of raw pointers.
-    Raw(AtomicRaw<Value>),
-    /// One of each kind of owner, and of cell that owns.
-    Four(Owned<Value>, Shared<Value>, AtomicOwned<Value>, AtomicShared<Value>),
+    /// One of each kind of owner, and of cell.
+    Each(Owned<Value>, Shared<Value>, AtomicOwned<Value>, AtomicShared<Value>, AtomicRaw<Value>),
 }
 
 impl Item<Value> for Value {
@@ -22,13 +18,12 @@ impl Item<Value> for Value {
         match self {
             Value::Number(_) => {}
             Value::Of(owner) => giver.shared(owner),
-            Value::Node(_, next) => giver.atomic_shared(next),
-            Value::Raw(cell) => giver.atomic_raw(cell),
-            Value::Four(owned, shared, owned_cell, shared_cell) => {
+            Value::Each(owned, shared, owned_cell, shared_cell, raw_cell) => {
                 giver.owned(owned);
                 giver.shared(shared);
                 giver.atomic_owned(owned_cell);
                 giver.atomic_shared(shared_cell);
+                giver.atomic_raw(raw_cell);
             }
         }
     }

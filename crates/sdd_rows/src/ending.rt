@@ -1,11 +1,9 @@
-//! Participants of a world that end: what they left goes with another, and their places are taken until then.
+//! Participants of a world that end: what they left goes with another, and their places are taken until then. And worlds that can't be closed.
 ghost use Rattle.std.specs.Prelude.{◌≡◌, ◌≢◌, ℕ};
 ghost use Rattle.sdd_base.specs.World.{IsPlaceOf};
 ghost use Rattle.sdd_world.specs.Place.{index_of};
 
-use crate::steps::{
-    AMPLE, accelerated, close, closed, joined, made, new_world, opened, retire, shows,
-};
+use crate::steps::{AMPLE, closed, joined, made, new_world, retire, shows};
 use sdd_base::{Item, Limits};
 use sdd_core::Refused;
 use sdd_world::{Place, World};
@@ -14,12 +12,6 @@ use std::process::Abort;
 /// One participant, and enough of everything else.
 const ALONE: Limits = Limits {
     participants: 1,
-    ..AMPLE
-};
-
-/// Two participants, and enough of everything else.
-const TWO: Limits = Limits {
-    participants: 2,
     ..AMPLE
 };
 
@@ -61,41 +53,19 @@ fn an_ended_place_counts_as_taken(rt: HostRuntime) {
 }
 
 #[test]
-fn an_adopted_place_is_taken_again(rt: HostRuntime) {
-    let mut world: World<u64> = new_world(&rt, TWO, 0);
-    let first = joined(&rt, &mut world);
-    let second = joined(&rt, &mut world);
-    ends(&rt, &mut world, first);
-    assert!(rt; world.register().is_err());
-    assert_eq!(rt; accelerated(&rt, &mut world, &second), 0);
-    let third = joined(&rt, &mut world);
-    assert_eq!(rt; accelerated(&rt, &mut world, &third), 1);
-    closed(&rt, world);
-}
-
-#[test]
-fn a_participant_with_a_guard_open_does_not_end(rt: HostRuntime) {
+fn a_world_does_not_end_while_an_owner_is_out(rt: HostRuntime) {
     let mut world: World<u64> = new_world(&rt, ALONE, 0);
     let place = joined(&rt, &mut world);
-    let guard = opened(&rt, &mut world, &place);
-    match world.end(place) {
-        Ok(()) => panic!(rt; "a guard is open"),
-        Err((place, refused)) => {
-            assert_eq!(rt; refused, Refused::GuardOpen);
-            close(&mut world, &place, guard);
-            ends(&rt, &mut world, place);
+    let first = made(&rt, &mut world, &place, 1);
+    let second = made(&rt, &mut world, &place, 2);
+    retire(&mut world, &place, first);
+    match world.close() {
+        Ok(_tally) => panic!(rt; "an owner is out"),
+        Err((mut world, refused)) => {
+            assert_eq!(rt; (refused, world.tally().reclaimed), (Refused::OwnerOut, 1));
+            retire(&mut world, &place, second);
+            let tally = closed(&rt, world);
+            assert_eq!(rt; (tally.made, tally.reclaimed, tally.in_place), (2, 2, 0));
         }
     }
-    closed(&rt, world);
-}
-
-#[test]
-fn the_end_of_a_world_reclaims_what_was_left(rt: HostRuntime) {
-    let mut world: World<u64> = new_world(&rt, ALONE, 0);
-    let place = joined(&rt, &mut world);
-    let owner = made(&rt, &mut world, &place, 7);
-    retire(&mut world, &place, owner);
-    ends(&rt, &mut world, place);
-    let tally = closed(&rt, world);
-    assert_eq!(rt; tally.reclaimed, 1);
 }

@@ -1,14 +1,12 @@
 //! Jobs that are deferred: when they run, and where no place is free.
 ghost use Rattle.std.specs.Prelude.{◌≡◌};
 ghost use Rattle.sdd_base.specs.Seat.{IsSeated};
-ghost use Rattle.sdd_base.specs.World.{IsPlaceOf};
-ghost use Rattle.sdd_world.specs.Place.{index_of};
 
 use crate::steps::AMPLE;
-use sdd_base::{Guard, Guards, Item, Limits, Space};
+use sdd_base::{Guard, Limits, Space};
 use sdd_core::Refused;
 use sdd_store::{Deferred, Job};
-use sdd_world::{Place, Turn, World};
+use sdd_world::World;
 use std::process::Abort;
 use std::sync::Arc;
 use std::sync::atomic::{AtomicU64, Ordering};
@@ -27,7 +25,7 @@ impl Job for Adds {
 }
 
 /// Opens, accelerates and closes a guard, and tells which epoch it showed, and the number that jobs add to, as it was under the guard.
-fn shown<T: Item<T>, S: Guards<T>>(rt: &impl Abort, s: &mut S, total: &AtomicU64) -> (u8, u64)
+fn shown<S: Space<u64>>(rt: &impl Abort, s: &mut S, total: &AtomicU64) -> (u8, u64)
     requires { IsSeated (S.seat s.old) }
     ensures { S.seat s.new ≡ S.seat s.old }
 {
@@ -39,21 +37,6 @@ fn shown<T: Item<T>, S: Guards<T>>(rt: &impl Abort, s: &mut S, total: &AtomicU64
     (epoch, sum)
 }
 
-/// The accelerated guards show these epochs, and under each the number that jobs add to is this one.
-fn shows<T: Item<T>, S: Guards<T>>(
-    rt: &impl Abort,
-    s: &mut S,
-    total: &AtomicU64,
-    table: &[(u8, u64)],
-)
-    requires { IsSeated (S.seat s.old) }
-    ensures { S.seat s.new ≡ S.seat s.old }
-{
-    for (epoch, sum) in table {
-        assert_eq!(rt; shown(rt, s, total), (*epoch, *sum));
-    }
-}
-
 /// Defers a job under a guard of its own.
 fn deferred<S: Space<u64>>(rt: &impl Abort, s: &mut S, job: S::Job) -> Result<(), (S::Job, Refused)>
     requires { IsSeated (S.seat s.old) }
@@ -63,6 +46,32 @@ fn deferred<S: Space<u64>>(rt: &impl Abort, s: &mut S, job: S::Job) -> Result<()
     let answer = guard.defer_execute(job, s);
     guard.close(s);
     answer
+}
+
+/// Defers two jobs where one may wait. The second one comes back, and once the first one ran it waits. What it was refused with.
+fn defers_two<S: Space<u64>>(
+    rt: &impl Abort,
+    s: &mut S,
+    first: S::Job,
+    second: S::Job,
+    total: &AtomicU64,
+) -> Refused
+    requires { IsSeated (S.seat s.old) }
+    ensures { S.seat s.new ≡ S.seat s.old }
+{
+    assert!(rt; deferred(rt, s, first).is_ok());
+    match deferred(rt, s, second) {
+        Ok(()) => panic!(rt; "no place is free"),
+        Err((job, refused)) => {
+            assert_eq!(rt; shown(rt, s, total), (0, 0));
+            assert_eq!(rt; shown(rt, s, total), (1, 0));
+            assert_eq!(rt; shown(rt, s, total), (2, 0));
+            assert_eq!(rt; shown(rt, s, total), (3, 7));
+            assert_eq!(rt; shown(rt, s, total), (4, 7));
+            assert!(rt; deferred(rt, s, job).is_ok());
+            refused
+        }
+    }
 }
 
 /// A number that jobs add to.
@@ -80,57 +89,22 @@ fn adds_seven<R: Abort + AllocGlobal>(rt: &R, total: &Arc<AtomicU64>) -> Deferre
     Deferred::Boxed(job)
 }
 
-/// A world of jobs in boxes, and a participant of it.
-fn started<R: Abort + AllocGlobal>(rt: &R, limits: Limits) -> (World<u64, Deferred>, Place)
-    ensures { IsPlaceOf result.0 (index_of result.1) }
-{
-    let mut world = World::new(rt.alloc(), limits).expect(rt, "the limits are in range");
-    let place = world.register().expect(rt, "a place is free");
-    (world, place)
-}
-
-/// How many items were reclaimed in a world that a test is done with.
-fn closed(rt: &impl Abort, world: World<u64, Deferred>) -> u128 {
-    match world.close() {
-        Ok(tally) => tally.reclaimed,
-        Err((_world, refused)) => panic!(rt; "{refused:?}"),
-    }
-}
-
 #[test]
 fn a_job_runs_at_the_third_opening_that_finds_another_epoch(rt: HostRuntime) {
     let total = number(&rt);
-    let (mut world, place) = started(&rt, AMPLE);
-    let job = adds_seven(&rt, &total);
-    assert!(&rt; deferred(&rt, &mut world.at(&place), job).is_ok());
-    shows::<u64, Turn<'_, u64, Deferred>>(
+    let limits = Limits { jobs: 1, ..AMPLE };
+    let mut world: World<u64, Deferred> = World::new(rt.alloc(), limits).expect(
         &rt,
-        &mut world.at(&place),
-        &total,
-        &[(0, 0), (1, 0), (2, 0), (3, 7), (4, 7)],
+        "the limits are in range",
     );
-    assert_eq!(&rt; closed(&rt, world), 0);
-}
-
-#[test]
-fn a_job_that_waits_runs_as_the_world_is_closed(rt: HostRuntime) {
-    let total = number(&rt);
-    let (mut world, place) = started(&rt, AMPLE);
-    let job = adds_seven(&rt, &total);
-    assert!(&rt; deferred(&rt, &mut world.at(&place), job).is_ok());
-    assert_eq!(&rt; total.load(Ordering::SeqCst), 0);
-    assert_eq!(&rt; closed(&rt, world), 0);
-    assert_eq!(&rt; total.load(Ordering::SeqCst), 7);
-}
-
-#[test]
-fn without_a_place_a_job_comes_back_and_has_not_run(rt: HostRuntime) {
-    let total = number(&rt);
-    let (mut world, place) = started(&rt, Limits { jobs: 1, ..AMPLE });
+    let place = world.register().expect(&rt, "a place is free");
     let (first, second) = (adds_seven(&rt, &total), adds_seven(&rt, &total));
-    assert!(&rt; deferred(&rt, &mut world.at(&place), first).is_ok());
-    let answer = deferred(&rt, &mut world.at(&place), second);
-    assert!(&rt; matches!(answer, Err((Deferred::Boxed(_), Refused::NoJob))));
-    assert_eq!(&rt; closed(&rt, world), 0);
+    let refused = defers_two(&rt, &mut world.at(&place), first, second, &total);
+    assert_eq!(&rt; refused, Refused::NoJob);
     assert_eq!(&rt; total.load(Ordering::SeqCst), 7);
+    match world.close() {
+        Ok(tally) => assert_eq!(&rt; tally.reclaimed, 0),
+        Err((_world, refused)) => panic!(&rt; "{refused:?}"),
+    }
+    assert_eq!(&rt; total.load(Ordering::SeqCst), 14);
 }

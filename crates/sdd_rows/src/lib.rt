@@ -13,8 +13,6 @@ mod jobs;
 #[cfg(test)]
 mod limits_and_memory;
 #[cfg(test)]
-mod looks;
-#[cfg(test)]
 mod nested_values;
 #[cfg(test)]
 mod openings;

@@ -1,25 +1,19 @@
 //! Slots that run out, and what an owner shows.
 ghost use Rattle.std.specs.Prelude.{◌≡◌};
 ghost use Rattle.sdd_base.specs.Guard.{reader_of};
-ghost use Rattle.sdd_base.specs.Owned.{slots_home, cells_home};
+ghost use Rattle.sdd_base.specs.Owned.{slots_home};
 ghost use Rattle.sdd_base.specs.Seat.{reader_at};
 ghost use Rattle.sdd_base.specs.World.{IsPlaceOf};
 ghost use Rattle.sdd_world.specs.Place.{index_of};
 ghost use Rattle.sdd_rows.specs.Stays.{Stays};
 
 use crate::steps::{
-    AMPLE, close, closed, has_garbage, joined, made, new_world, opened, pointer, refused,
-    refused_guard, retire, seen, shows,
+    AMPLE, close, closed, joined, made, new_world, opened, pointer, refused, retire, seen, shows,
 };
-use sdd_base::{AtomicOwned, Guard, Limits, Owned, Space};
+use sdd_base::{Guard, Limits, Owned, Space};
 use sdd_core::Refused;
 use sdd_world::{Place, World};
 use std::process::Abort;
-
-#[test]
-fn an_owner_takes_four_bytes(rt: HostRuntime) {
-    assert_eq!(rt; size_of::<Owned<u64>>(), 4);
-}
 
 /// Only the caller's own calls change the space.
 fn is_alone<S: Space<u64>>(_space: &S) -> bool {
@@ -102,81 +96,6 @@ fn a_closure_that_is_refused_comes_back_uncalled(rt: HostRuntime) {
     closed(&rt, world);
 }
 
-/// A cell that holds nothing.
-fn null_cell(rt: &impl Abort, world: &mut World<u64>, place: &Place) -> AtomicOwned<u64>
-    requires place { IsPlaceOf world.old (index_of place.now) }
-    ensures stays { Stays world.old world.new }
-    ensures home { cells_home result ≡ world.new.home.cells }
-{
-    AtomicOwned::null(&mut world.at(place)).expect(rt, "a cell is free")
-}
-
-fn close_cell(world: &mut World<u64>, place: &Place, cell: AtomicOwned<u64>)
-    requires place { IsPlaceOf world.old (index_of place.now) }
-    requires home { cells_home cell ≡ world.old.home.cells }
-    ensures stays { Stays world.old world.new }
-{
-    cell.close(&mut world.at(place));
-}
-
-/// What a cell is refused with.
-fn refused_cell(world: &mut World<u64>, place: &Place) -> Option<Refused>
-    requires place { IsPlaceOf world.old (index_of place.now) }
-    ensures stays { Stays world.old world.new }
-{
-    let mut turn = world.at(place);
-    match AtomicOwned::null(&mut turn) {
-        Ok(second) => {
-            second.close(&mut turn);
-            None
-        }
-        Err(refused) => Some(refused),
-    }
-}
-
-#[test]
-fn a_cell_is_free_again_once_it_was_closed(rt: HostRuntime) {
-    let limits = Limits { cells: 1, ..AMPLE };
-    let mut world: World<u64> = new_world(&rt, limits, 0);
-    let place = joined(&rt, &mut world);
-    let cell = null_cell(&rt, &mut world, &place);
-    assert_eq!(rt; refused_cell(&mut world, &place), Some(Refused::NoCell));
-    close_cell(&mut world, &place, cell);
-    let cell = null_cell(&rt, &mut world, &place);
-    close_cell(&mut world, &place, cell);
-    closed(&rt, world);
-}
-
-/// Has the participant count down to a scan.
-fn set_has_garbage(world: &mut World<u64>, place: &Place, guard: &Guard)
-    requires place { IsPlaceOf world.old (index_of place.now) }
-    ensures stays { Stays world.old world.new }
-{
-    guard.set_has_garbage(&mut world.at(place));
-}
-
-#[test]
-fn a_guard_more_than_may_nest_is_refused(rt: HostRuntime) {
-    let limits = Limits {
-        nesting: 2,
-        ..AMPLE
-    };
-    let mut world: World<u64> = new_world(&rt, limits, 0);
-    let place = joined(&rt, &mut world);
-    let outer = opened(&rt, &mut world, &place);
-    let inner = opened(&rt, &mut world, &place);
-    assert_eq!(rt;
-        refused_guard(&mut world, &place),
-        Some(Refused::TooManyGuards)
-    );
-    assert!(rt; !has_garbage(&mut world, &place, &outer));
-    set_has_garbage(&mut world, &place, &outer);
-    assert!(rt; has_garbage(&mut world, &place, &outer));
-    close(&mut world, &place, inner);
-    close(&mut world, &place, outer);
-    closed(&rt, world);
-}
-
 /// The value that the participant sees by its guard.
 fn value_under(world: &mut World<u64>, place: &Place, owner: &Owned<u64>, guard: &Guard) -> u64
     requires place { IsPlaceOf world.old (index_of place.now) }
@@ -197,6 +116,7 @@ fn a_guarded_pointer_shows_a_retired_item(rt: HostRuntime) {
     let ptr = pointer(&mut world, &place, &owner, &guard);
     retire(&mut world, &place, owner);
     assert_eq!(rt; seen(&mut world, &place, ptr), Some(7));
+    assert_eq!(rt; ptr.as_ref(&world).copied(), Some(7));
     close(&mut world, &place, guard);
     closed(&rt, world);
 }

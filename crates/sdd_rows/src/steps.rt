@@ -187,18 +187,3 @@ pub fn refused(world: &mut World<u64>, place: &Place, value: u64) -> Option<(u64
         Err(back) => Some(back),
     }
 }
-
-/// What a guard is refused with.
-pub fn refused_guard(world: &mut World<u64>, place: &Place) -> Option<Refused>
-    requires place { IsPlaceOf world.old (index_of place.now) }
-    ensures stays { Stays world.old world.new }
-{
-    let mut turn = world.at(place);
-    match Guard::new(&mut turn) {
-        Ok(guard) => {
-            guard.close(&mut turn);
-            None
-        }
-        Err(refused) => Some(refused),
-    }
-}

@@ -51,6 +51,8 @@ fn reply_to(number: u64) -> Reply {
 fn a_run_has_the_greatest_limits_and_the_most_calls(rt: HostRuntime) -> Result<(), Fail> {
     let calls = most_calls(rt.alloc())?;
     let (answers, scene) = run(rt.alloc(), GREATEST, calls.as_slice())?;
+    let shown = scene.world().tally();
+    assert_eq!(rt; (shown.made, shown.reclaimed), (65_535, 0));
     let tally = scene.close();
     assert_eq!(rt; tally.reclaimed, 65_535);
     assert_eq!(rt; answers.len(), 65_536);

@@ -1,17 +1,16 @@
 //! Private collectors.
 ghost use Rattle.std.specs.Prelude.{◌≡◌};
 ghost use Rattle.sdd_base.specs.Collector.{cells_home};
-ghost use Rattle.sdd_base.specs.Holding.{AreOf};
 ghost use Rattle.sdd_base.specs.Seat.{IsSeated};
 ghost use Rattle.sdd_base.specs.Shared as shared;
 
 use crate::steps::{close, opened, owned};
-use sdd_base::{Item, Owned, PrivateCollector, Shared, Space};
+use sdd_base::{Owned, PrivateCollector, Shared, Space};
 use sdd_core::Refused;
 use std::process::Abort;
 
 /// A collector for which nothing waits.
-pub fn made<T: Item<T>, S: Space<T>>(rt: &impl Abort, s: &mut S) -> PrivateCollector<T>
+pub fn made<S: Space<u64>>(rt: &impl Abort, s: &mut S) -> PrivateCollector<u64>
     requires seated { IsSeated (S.seat s.old) }
     ensures seat { S.seat s.new ≡ S.seat s.old }
     ensures home { cells_home result ≡ (S.seat s.new).home.cells }
@@ -19,30 +18,15 @@ pub fn made<T: Item<T>, S: Space<T>>(rt: &impl Abort, s: &mut S) -> PrivateColle
     PrivateCollector::new(s).expect(rt, "a cell is free")
 }
 
-/// What a collector that can't be made is refused with.
-pub fn refused<T: Item<T>, S: Space<T>>(rt: &impl Abort, s: &mut S) -> Option<Refused>
-    requires seated { IsSeated (S.seat s.old) }
-    ensures seat { S.seat s.new ≡ S.seat s.old }
-{
-    match PrivateCollector::<T>::new(s) {
-        Ok(collector) => {
-            closed(rt, s, collector);
-            None
-        }
-        Err(refused) => Some(refused),
-    }
-}
-
 /// A new item is collected.
-pub fn collect<T: Item<T>, S: Space<T>>(
+pub fn collect<S: Space<u64>>(
     rt: &impl Abort,
     s: &mut S,
-    collector: &PrivateCollector<T>,
-    value: T,
+    collector: &PrivateCollector<u64>,
+    value: u64,
 )
     requires seated { IsSeated (S.seat s.old) }
     requires collector { cells_home collector.now ≡ (S.seat s.old).home.cells }
-    requires home { AreOf (S.seat s.old).home (T.holds value) }
     ensures seat { S.seat s.new ≡ S.seat s.old }
 {
     let owner = owned::made(rt, s, value);
@@ -52,11 +36,11 @@ pub fn collect<T: Item<T>, S: Space<T>>(
 }
 
 /// A shared owner is, and it is told whether it was the last.
-pub fn collect_shared<T: Item<T>, S: Space<T>>(
+pub fn collect_shared<S: Space<u64>>(
     rt: &impl Abort,
     s: &mut S,
-    collector: &PrivateCollector<T>,
-    owner: Shared<T>,
+    collector: &PrivateCollector<u64>,
+    owner: Shared<u64>,
 ) -> bool
     requires seated { IsSeated (S.seat s.old) }
     requires collector { cells_home collector.now ≡ (S.seat s.old).home.cells }
@@ -70,7 +54,7 @@ pub fn collect_shared<T: Item<T>, S: Space<T>>(
 }
 
 /// The collector is closed.
-pub fn closed<T: Item<T>, S: Space<T>>(rt: &impl Abort, s: &mut S, collector: PrivateCollector<T>)
+pub fn closed<S: Space<u64>>(rt: &impl Abort, s: &mut S, collector: PrivateCollector<u64>)
     requires seated { IsSeated (S.seat s.old) }
     requires collector { cells_home collector ≡ (S.seat s.old).home.cells }
     ensures seat { S.seat s.new ≡ S.seat s.old }
@@ -82,11 +66,11 @@ pub fn closed<T: Item<T>, S: Space<T>>(rt: &impl Abort, s: &mut S, collector: Pr
 }
 
 /// The collector can't be closed, and comes back.
-pub fn refused_close<T: Item<T>, S: Space<T>>(
+pub fn refused_close<S: Space<u64>>(
     rt: &impl Abort,
     s: &mut S,
-    collector: PrivateCollector<T>,
-) -> (PrivateCollector<T>, Refused)
+    collector: PrivateCollector<u64>,
+) -> (PrivateCollector<u64>, Refused)
     requires seated { IsSeated (S.seat s.old) }
     requires collector { cells_home collector ≡ (S.seat s.old).home.cells }
     ensures seat { S.seat s.new ≡ S.seat s.old }

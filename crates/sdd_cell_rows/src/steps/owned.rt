@@ -69,58 +69,6 @@ pub fn cell<T: Item<T>, S: Space<T>>(rt: &impl Abort, s: &mut S, value: T) -> At
     }
 }
 
-/// A cell that holds nothing.
-pub fn null<S: Space<u64>>(rt: &impl Abort, s: &mut S) -> AtomicOwned<u64>
-    requires seated { IsSeated (S.seat s.old) }
-    ensures seat { S.seat s.new ≡ S.seat s.old }
-    ensures home { cells_home result ≡ (S.seat s.new).home.cells }
-{
-    AtomicOwned::null(s).expect(rt, "a cell is free")
-}
-
-/// What a cell that may not be had is refused with. The number comes back of one that would hold a new item.
-pub fn refused<S: Space<u64>>(s: &mut S, value: u64) -> Option<(u64, Refused)>
-    requires seated { IsSeated (S.seat s.old) }
-    ensures seat { S.seat s.new ≡ S.seat s.old }
-{
-    match AtomicOwned::new(value, s) {
-        Ok(cell) => {
-            cell.close(s);
-            None
-        }
-        Err(back) => Some(back),
-    }
-}
-
-/// The same of one that would hold this owner, whose number comes back. Its item waits from now on.
-pub fn refused_from<S: Space<u64>>(s: &mut S, owner: Owned<u64>) -> Option<(Option<u64>, Refused)>
-    requires seated { IsSeated (S.seat s.old) }
-    requires home { slots_home owner ≡ (S.seat s.old).home.slots }
-    ensures seat { S.seat s.new ≡ S.seat s.old }
-{
-    match AtomicOwned::from(owner, s) {
-        Ok(cell) => {
-            cell.close(s);
-            None
-        }
-        Err((owner, refused)) => Some((spent(s, Some(owner)), refused)),
-    }
-}
-
-/// The same of one that would hold nothing.
-pub fn refused_null<T: Item<T>, S: Space<T>>(s: &mut S) -> Option<Refused>
-    requires seated { IsSeated (S.seat s.old) }
-    ensures seat { S.seat s.new ≡ S.seat s.old }
-{
-    match AtomicOwned::null(s) {
-        Ok(cell) => {
-            cell.close(s);
-            None
-        }
-        Err(refused) => Some(refused),
-    }
-}
-
 /// The cell is free again, and what it held waits.
 pub fn close_cell<S: Space<u64>>(s: &mut S, cell: AtomicOwned<u64>)
     requires seated { IsSeated (S.seat s.old) }
@@ -128,16 +76,6 @@ pub fn close_cell<S: Space<u64>>(s: &mut S, cell: AtomicOwned<u64>)
     ensures seat { S.seat s.new ≡ S.seat s.old }
 {
     cell.close(s);
-}
-
-/// The cell is free again. The number that it held; its item waits from now on.
-pub fn taken<S: Space<u64>>(s: &mut S, cell: AtomicOwned<u64>) -> Option<u64>
-    requires seated { IsSeated (S.seat s.old) }
-    requires home { cells_home cell ≡ (S.seat s.old).home.cells }
-    ensures seat { S.seat s.new ≡ S.seat s.old }
-{
-    let owner = cell.into_owned(s);
-    spent(s, owner)
 }
 
 /// A pointer to what the cell holds.
@@ -148,41 +86,6 @@ pub fn load<'g, S: Space<u64>>(s: &mut S, cell: &AtomicOwned<u64>, guard: &'g Gu
     ensures seat { S.seat s.new ≡ S.seat s.old }
 {
     cell.load(guard, s)
-}
-
-/// The number that the cell holds, and its tag, under a guard of its own.
-pub fn held<S: Space<u64>>(
-    rt: &impl Abort,
-    s: &mut S,
-    cell: &AtomicOwned<u64>,
-) -> (Option<u64>, Tag)
-    requires seated { IsSeated (S.seat s.old) }
-    requires home { cells_home cell.now ≡ (S.seat s.old).home.cells }
-    ensures seat { S.seat s.new ≡ S.seat s.old }
-{
-    let guard = opened(rt, s);
-    let ptr = load(s, cell, &guard);
-    let held = (seen(s, ptr), ptr.tag());
-    close(s, guard);
-    assert_eq!(rt; cell.is_null(s), held.0.is_none());
-    assert_eq!(rt; cell.tag(s), held.1);
-    held
-}
-
-/// Sets the tag if it is this one, and tells whether it was.
-pub fn tag_if<S: Space<u64>>(
-    rt: &impl Abort,
-    s: &mut S,
-    cell: &AtomicOwned<u64>,
-    old: Tag,
-    new: Tag,
-) -> bool
-    requires seated { IsSeated (S.seat s.old) }
-    requires home { cells_home cell.now ≡ (S.seat s.old).home.cells }
-    ensures seat { S.seat s.new ≡ S.seat s.old }
-{
-    cell.update_tag_if(new, |ptr| ptr.tag() == old, s)
-        .expect(rt, "in a world the condition is asked once")
 }
 
 /// The cell holds a new item, or nothing, with this tag. The number that it held, whose item waits from now on, and the tag before.
@@ -202,13 +105,13 @@ pub fn swapped<S: Space<u64>>(
     (spent(s, old), old_tag)
 }
 
-/// The same if the cell holds what the pointer names.
+/// The cell holds a new item with this tag, if it held what the pointer names.
 pub fn exchanged<'g, S: Space<u64>>(
     rt: &impl Abort,
     s: &mut S,
     cell: &AtomicOwned<u64>,
     current: Ptr<'g, u64>,
-    next: Option<u64>,
+    next: u64,
     tag: Tag,
     guard: &'g Guard,
 ) -> Result<Read, Read>
@@ -217,33 +120,55 @@ pub fn exchanged<'g, S: Space<u64>>(
     requires reader { reader_of guard.now ≡ (S.seat s.old).reader }
     ensures seat { S.seat s.new ≡ S.seat s.old }
 {
-    let owner = made_if(rt, s, next);
-    match cell.compare_exchange(current, (owner, tag), guard, s) {
+    let owner = made(rt, s, next);
+    match cell.compare_exchange(current, (Some(owner), tag), guard, s) {
         Ok((old, now)) => Ok((spent(s, old), seen(s, now), now.tag())),
         Err((back, now)) => Err((spent(s, back), seen(s, now), now.tag())),
     }
 }
 
-/// The same by `compare_exchange_weak`.
-pub fn weakly_exchanged<'g, S: Space<u64>>(
+/// The cell holds nothing, with this tag. The number that it held, whose item waits from now on.
+pub fn emptied_weakly<S: Space<u64>>(
     rt: &impl Abort,
     s: &mut S,
     cell: &AtomicOwned<u64>,
-    current: Ptr<'g, u64>,
-    next: Option<u64>,
     tag: Tag,
-    guard: &'g Guard,
-) -> Result<Read, Read>
+) -> Option<u64>
     requires seated { IsSeated (S.seat s.old) }
     requires home { cells_home cell.now ≡ (S.seat s.old).home.cells }
-    requires reader { reader_of guard.now ≡ (S.seat s.old).reader }
     ensures seat { S.seat s.new ≡ S.seat s.old }
 {
-    let owner = made_if(rt, s, next);
-    match cell.compare_exchange_weak(current, (owner, tag), guard, s) {
-        Ok((old, now)) => Ok((spent(s, old), seen(s, now), now.tag())),
-        Err((back, now)) => Err((spent(s, back), seen(s, now), now.tag())),
-    }
+    let guard = opened(rt, s);
+    let ptr = load(s, cell, &guard);
+    let old = match cell.compare_exchange_weak(ptr, (None, tag), &guard, s) {
+        Ok((old, _now)) => old,
+        Err((_back, _now)) => panic!(rt; "in a world nobody comes between"),
+    };
+    close(s, guard);
+    spent(s, old)
+}
+
+/// Sets the tag by a condition that holds. How often that was asked, and what it was shown last.
+pub fn asked<S: Space<u64>>(
+    rt: &impl Abort,
+    s: &mut S,
+    cell: &AtomicOwned<u64>,
+    tag: Tag,
+) -> (u8, RawPtr<u64>)
+    requires seated { IsSeated (S.seat s.old) }
+    requires home { cells_home cell.now ≡ (S.seat s.old).home.cells }
+    ensures seat { S.seat s.new ≡ S.seat s.old }
+{
+    let mut times = 0u8;
+    let mut last = RawPtr::null();
+    let condition = |ptr: RawPtr<u64>| {
+        times = times.wrapping_add(1);
+        last = ptr;
+        true
+    };
+    let was_set = cell.update_tag_if(tag, condition, s);
+    assert_eq!(rt; was_set, Ok(true));
+    (times, last)
 }
 
 /// The item has another number from now on. The one before.
@@ -260,10 +185,10 @@ pub fn put<S: Space<u64>>(s: &mut S, owner: &mut Owned<u64>, value: u64) -> Resu
 }
 
 /// The item is dropped in its place; or the owner comes back.
-pub fn drop_in_place<T: Item<T>, S: Space<T>>(
+pub fn drop_in_place<S: Space<u64>>(
     s: &mut S,
-    owner: Owned<T>,
-) -> Result<(), (Owned<T>, Refused)>
+    owner: Owned<u64>,
+) -> Result<(), (Owned<u64>, Refused)>
     requires seated { IsSeated (S.seat s.old) }
     requires home { slots_home owner ≡ (S.seat s.old).home.slots }
     ensures seat { S.seat s.new ≡ S.seat s.old }
@@ -273,7 +198,7 @@ pub fn drop_in_place<T: Item<T>, S: Space<T>>(
 }
 
 /// The item is out as raw.
-pub fn raw<T: Item<T>, S: Space<T>>(s: &mut S, owner: Owned<T>) -> RawPtr<T>
+pub fn raw<S: Space<u64>>(s: &mut S, owner: Owned<u64>) -> RawPtr<u64>
     requires seated { IsSeated (S.seat s.old) }
     requires home { slots_home owner ≡ (S.seat s.old).home.slots }
     ensures seat { S.seat s.new ≡ S.seat s.old }
@@ -282,34 +207,12 @@ pub fn raw<T: Item<T>, S: Space<T>>(s: &mut S, owner: Owned<T>) -> RawPtr<T>
 }
 
 /// The owner of an item that is out as raw.
-pub fn unraw<T: Item<T>, S: Space<T>>(s: &mut S, ptr: RawPtr<T>) -> Option<Owned<T>>
+pub fn unraw<S: Space<u64>>(s: &mut S, ptr: RawPtr<u64>) -> Option<Owned<u64>>
     requires seated { IsSeated (S.seat s.old) }
     ensures seat { S.seat s.new ≡ S.seat s.old }
     ensures home { IsOfSlots (S.seat s.new).home.slots result }
 {
     Owned::from_raw(ptr, s)
-}
-
-/// Whether the item is out as raw. If so it is owned again, and waits from now on.
-pub fn is_raw<S: Space<u64>>(s: &mut S, ptr: RawPtr<u64>) -> bool
-    requires seated { IsSeated (S.seat s.old) }
-    ensures seat { S.seat s.new ≡ S.seat s.old }
-{
-    let owner = unraw(s, ptr);
-    spent(s, owner).is_some()
-}
-
-/// A pointer to what a raw pointer names, where that is out as raw.
-pub fn pointer_to<'g, T: Item<T>, S: Space<T>>(
-    s: &mut S,
-    ptr: RawPtr<T>,
-    guard: &'g Guard,
-) -> Option<Ptr<'g, T>>
-    requires seated { IsSeated (S.seat s.old) }
-    requires reader { reader_of guard.now ≡ (S.seat s.old).reader }
-    ensures seat { S.seat s.new ≡ S.seat s.old }
-{
-    ptr.into_ptr(s, guard)
 }
 
 /// The number that a raw pointer names, where that is out as raw.
@@ -318,6 +221,6 @@ pub fn see<S: Space<u64>>(s: &mut S, ptr: RawPtr<u64>, guard: &Guard) -> Option<
     requires reader { reader_of guard.now ≡ (S.seat s.old).reader }
     ensures seat { S.seat s.new ≡ S.seat s.old }
 {
-    let ptr = pointer_to(s, ptr, guard)?;
+    let ptr = ptr.into_ptr(s, guard)?;
     seen(s, ptr)
 }

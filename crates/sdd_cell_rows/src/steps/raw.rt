@@ -5,7 +5,7 @@ ghost use Rattle.sdd_base.specs.Seat.{IsSeated};
 
 use crate::steps::{close, opened};
 use sdd_base::{AtomicRaw, Item, RawPtr, Space};
-use sdd_core::{Refused, Tag};
+use sdd_core::Tag;
 use std::process::Abort;
 
 /// A cell with this pointer.
@@ -15,20 +15,6 @@ pub fn cell<T: Item<T>, S: Space<T>>(rt: &impl Abort, s: &mut S, ptr: RawPtr<T>)
     ensures home { cells_home result ≡ (S.seat s.new).home.cells }
 {
     AtomicRaw::new(ptr, s).expect(rt, "a cell is free")
-}
-
-/// What a null cell is refused with, if it is.
-pub fn refused_null<T: Item<T>, S: Space<T>>(s: &mut S) -> Option<Refused>
-    requires seated { IsSeated (S.seat s.old) }
-    ensures seat { S.seat s.new ≡ S.seat s.old }
-{
-    match AtomicRaw::null(s) {
-        Ok(cell) => {
-            cell.close(s);
-            None
-        }
-        Err(refused) => Some(refused),
-    }
 }
 
 /// The cell's pointer, under a guard of its own.
@@ -43,15 +29,6 @@ pub fn held<S: Space<u64>>(rt: &impl Abort, s: &mut S, cell: &AtomicRaw<u64>) ->
     assert_eq!(rt; cell.is_null(s), ptr.is_null());
     assert_eq!(rt; cell.tag(s), ptr.tag());
     ptr
-}
-
-/// The cell has this pointer.
-pub fn store<S: Space<u64>>(s: &mut S, cell: &AtomicRaw<u64>, ptr: RawPtr<u64>)
-    requires seated { IsSeated (S.seat s.old) }
-    requires home { cells_home cell.now ≡ (S.seat s.old).home.cells }
-    ensures seat { S.seat s.new ≡ S.seat s.old }
-{
-    cell.store(ptr, s);
 }
 
 /// The cell has this pointer. The one before.
@@ -121,13 +98,4 @@ pub fn updated<S: Space<u64>>(
     let result = cell.fetch_update(update, &guard, s);
     close(s, guard);
     result.expect(rt, "in a world it is called once")
-}
-
-/// The cell is free again.
-pub fn close_cell<T: Item<T>, S: Space<T>>(s: &mut S, cell: AtomicRaw<T>)
-    requires seated { IsSeated (S.seat s.old) }
-    requires home { cells_home cell ≡ (S.seat s.old).home.cells }
-    ensures seat { S.seat s.new ≡ S.seat s.old }
-{
-    cell.close(s);
 }

@@ -35,48 +35,8 @@ pub fn made_by_closure<S: Space<u64>>(rt: &impl Abort, s: &mut S, value: u64) ->
     }
 }
 
-/// What a closure that is refused would have made.
-pub fn refused_closure<S: Space<u64>>(s: &mut S, value: u64) -> Option<(u64, Refused)>
-    requires seated { IsSeated (S.seat s.old) }
-    ensures seat { S.seat s.new ≡ S.seat s.old }
-{
-    match Shared::new_with(|| value, s) {
-        Ok(owner) => {
-            let _ = owner.release(s);
-            None
-        }
-        Err((make, refused)) => Some((make(), refused)),
-    }
-}
-
-/// What an item is refused with.
-pub fn refused_item<S: Space<u64>>(s: &mut S, value: u64) -> Option<(u64, Refused)>
-    requires seated { IsSeated (S.seat s.old) }
-    ensures seat { S.seat s.new ≡ S.seat s.old }
-{
-    match Shared::new(value, s) {
-        Ok(owner) => {
-            let _ = owner.release(s);
-            None
-        }
-        Err(back) => Some(back),
-    }
-}
-
-/// The owner of a new item, or of none.
-fn made_if<S: Space<u64>>(rt: &impl Abort, s: &mut S, value: Option<u64>) -> Option<Shared<u64>>
-    requires seated { IsSeated (S.seat s.old) }
-    ensures seat { S.seat s.new ≡ S.seat s.old }
-    ensures home { IsOfSlots (S.seat s.new).home.slots result }
-{
-    match value {
-        Some(value) => Some(made(rt, s, value)),
-        None => None,
-    }
-}
-
 /// Gives the owner up, and tells whether it was the last.
-pub fn release<T: Item<T>, S: Space<T>>(s: &mut S, owner: Shared<T>) -> bool
+pub fn release<S: Space<u64>>(s: &mut S, owner: Shared<u64>) -> bool
     requires seated { IsSeated (S.seat s.old) }
     requires home { slots_home owner ≡ (S.seat s.old).home.slots }
     ensures seat { S.seat s.new ≡ S.seat s.old }
@@ -85,7 +45,7 @@ pub fn release<T: Item<T>, S: Space<T>>(s: &mut S, owner: Shared<T>) -> bool
 }
 
 /// One owner more.
-pub fn copied<T: Item<T>, S: Space<T>>(rt: &impl Abort, s: &mut S, owner: &Shared<T>) -> Shared<T>
+pub fn copied<S: Space<u64>>(rt: &impl Abort, s: &mut S, owner: &Shared<u64>) -> Shared<u64>
     requires seated { IsSeated (S.seat s.old) }
     requires home { slots_home owner.now ≡ (S.seat s.old).home.slots }
     ensures seat { S.seat s.new ≡ S.seat s.old }
@@ -184,27 +144,6 @@ pub fn spent<S: Space<u64>>(s: &mut S, owner: Option<Shared<u64>>) -> Option<u64
     Some(value)
 }
 
-/// The number of the owner's item, as it is seen with and without the guard.
-pub fn seen_twice<S: Space<u64>>(s: &mut S, owner: &Shared<u64>, guard: &Guard) -> (u64, u64)
-    requires seated { IsSeated (S.seat s.old) }
-    requires home { slots_home owner.now ≡ (S.seat s.old).home.slots }
-    requires reader { reader_of guard.now ≡ (S.seat s.old).reader }
-    ensures seat { S.seat s.new ≡ S.seat s.old }
-{
-    let guarded = *owner.get_guarded_ref(guard, s);
-    (guarded, *owner.get(s))
-}
-
-/// A pointer to the owner's item.
-pub fn pointer<'g, S: Space<u64>>(s: &mut S, owner: &Shared<u64>, guard: &'g Guard) -> Ptr<'g, u64>
-    requires seated { IsSeated (S.seat s.old) }
-    requires home { slots_home owner.now ≡ (S.seat s.old).home.slots }
-    requires reader { reader_of guard.now ≡ (S.seat s.old).reader }
-    ensures seat { S.seat s.new ≡ S.seat s.old }
-{
-    owner.get_guarded_ptr(guard, s)
-}
-
 /// A cell that holds the owner of a new item.
 pub fn cell<T: Item<T>, S: Space<T>>(rt: &impl Abort, s: &mut S, value: T) -> AtomicShared<T>
     requires seated { IsSeated (S.seat s.old) }
@@ -218,58 +157,6 @@ pub fn cell<T: Item<T>, S: Space<T>>(rt: &impl Abort, s: &mut S, value: T) -> At
     }
 }
 
-/// A cell that holds nothing.
-pub fn null<S: Space<u64>>(rt: &impl Abort, s: &mut S) -> AtomicShared<u64>
-    requires seated { IsSeated (S.seat s.old) }
-    ensures seat { S.seat s.new ≡ S.seat s.old }
-    ensures home { cells_home result ≡ (S.seat s.new).home.cells }
-{
-    AtomicShared::null(s).expect(rt, "a cell is free")
-}
-
-/// What a cell that may not be had is refused with. The number comes back of one that would hold a new item.
-pub fn refused<S: Space<u64>>(s: &mut S, value: u64) -> Option<(u64, Refused)>
-    requires seated { IsSeated (S.seat s.old) }
-    ensures seat { S.seat s.new ≡ S.seat s.old }
-{
-    match AtomicShared::new(value, s) {
-        Ok(cell) => {
-            cell.close(s);
-            None
-        }
-        Err(back) => Some(back),
-    }
-}
-
-/// The same of one that would hold this owner, whose number comes back. It is given up.
-pub fn refused_from<S: Space<u64>>(s: &mut S, owner: Shared<u64>) -> Option<(Option<u64>, Refused)>
-    requires seated { IsSeated (S.seat s.old) }
-    requires home { slots_home owner ≡ (S.seat s.old).home.slots }
-    ensures seat { S.seat s.new ≡ S.seat s.old }
-{
-    match AtomicShared::from(owner, s) {
-        Ok(cell) => {
-            cell.close(s);
-            None
-        }
-        Err((owner, refused)) => Some((spent(s, Some(owner)), refused)),
-    }
-}
-
-/// The same of one that would hold nothing.
-pub fn refused_null<T: Item<T>, S: Space<T>>(s: &mut S) -> Option<Refused>
-    requires seated { IsSeated (S.seat s.old) }
-    ensures seat { S.seat s.new ≡ S.seat s.old }
-{
-    match AtomicShared::null(s) {
-        Ok(cell) => {
-            cell.close(s);
-            None
-        }
-        Err(refused) => Some(refused),
-    }
-}
-
 /// The cell is free again, and what it held is given up.
 pub fn close_cell<S: Space<u64>>(s: &mut S, cell: AtomicShared<u64>)
     requires seated { IsSeated (S.seat s.old) }
@@ -279,124 +166,25 @@ pub fn close_cell<S: Space<u64>>(s: &mut S, cell: AtomicShared<u64>)
     cell.close(s);
 }
 
-/// The cell is free again. The number that it held, whose owner is given up.
-pub fn taken<S: Space<u64>>(s: &mut S, cell: AtomicShared<u64>) -> Option<u64>
-    requires seated { IsSeated (S.seat s.old) }
-    requires home { cells_home cell ≡ (S.seat s.old).home.cells }
-    ensures seat { S.seat s.new ≡ S.seat s.old }
-{
-    let owner = cell.into_shared(s);
-    spent(s, owner)
-}
-
-/// A pointer to what the cell holds.
-pub fn load<'g, S: Space<u64>>(
-    s: &mut S,
-    cell: &AtomicShared<u64>,
-    guard: &'g Guard,
-) -> Ptr<'g, u64>
-    requires seated { IsSeated (S.seat s.old) }
-    requires home { cells_home cell.now ≡ (S.seat s.old).home.cells }
-    requires reader { reader_of guard.now ≡ (S.seat s.old).reader }
-    ensures seat { S.seat s.new ≡ S.seat s.old }
-{
-    cell.load(guard, s)
-}
-
-/// The number that the cell holds, and its tag, under a guard of its own.
-pub fn held<S: Space<u64>>(
+/// The cell holds nothing, with this tag. The number that it held, whose owner is given up.
+pub fn emptied_weakly<S: Space<u64>>(
     rt: &impl Abort,
     s: &mut S,
     cell: &AtomicShared<u64>,
-) -> (Option<u64>, Tag)
+    tag: Tag,
+) -> Option<u64>
     requires seated { IsSeated (S.seat s.old) }
     requires home { cells_home cell.now ≡ (S.seat s.old).home.cells }
     ensures seat { S.seat s.new ≡ S.seat s.old }
 {
     let guard = opened(rt, s);
-    let ptr = load(s, cell, &guard);
-    let held = (seen(s, ptr), ptr.tag());
+    let ptr = cell.load(&guard, s);
+    let old = match cell.compare_exchange_weak(ptr, (None, tag), &guard, s) {
+        Ok((old, _now)) => old,
+        Err((_back, _now)) => panic!(rt; "in a world nobody comes between"),
+    };
     close(s, guard);
-    assert_eq!(rt; cell.is_null(s), held.0.is_none());
-    assert_eq!(rt; cell.tag(s), held.1);
-    held
-}
-
-/// Sets the tag if it is this one, and tells whether it was.
-pub fn tag_if<S: Space<u64>>(
-    rt: &impl Abort,
-    s: &mut S,
-    cell: &AtomicShared<u64>,
-    old: Tag,
-    new: Tag,
-) -> bool
-    requires seated { IsSeated (S.seat s.old) }
-    requires home { cells_home cell.now ≡ (S.seat s.old).home.cells }
-    ensures seat { S.seat s.new ≡ S.seat s.old }
-{
-    cell.update_tag_if(new, |ptr| ptr.tag() == old, s)
-        .expect(rt, "in a world the condition is asked once")
-}
-
-/// The cell holds a new item, or nothing, with this tag. The number that it held, whose owner is given up, and the tag before.
-pub fn swapped<S: Space<u64>>(
-    rt: &impl Abort,
-    s: &mut S,
-    cell: &AtomicShared<u64>,
-    next: Option<u64>,
-    tag: Tag,
-) -> (Option<u64>, Tag)
-    requires seated { IsSeated (S.seat s.old) }
-    requires home { cells_home cell.now ≡ (S.seat s.old).home.cells }
-    ensures seat { S.seat s.new ≡ S.seat s.old }
-{
-    let owner = made_if(rt, s, next);
-    let (old, old_tag) = cell.swap((owner, tag), s);
-    (spent(s, old), old_tag)
-}
-
-/// The same if the cell holds what the pointer names.
-pub fn exchanged<'g, S: Space<u64>>(
-    rt: &impl Abort,
-    s: &mut S,
-    cell: &AtomicShared<u64>,
-    current: Ptr<'g, u64>,
-    next: Option<u64>,
-    tag: Tag,
-    guard: &'g Guard,
-) -> Result<Read, Read>
-    requires seated { IsSeated (S.seat s.old) }
-    requires home { cells_home cell.now ≡ (S.seat s.old).home.cells }
-    requires reader { reader_of guard.now ≡ (S.seat s.old).reader }
-    ensures seat { S.seat s.new ≡ S.seat s.old }
-{
-    let owner = made_if(rt, s, next);
-    match cell.compare_exchange(current, (owner, tag), guard, s) {
-        Ok((old, now)) => Ok((spent(s, old), seen(s, now), now.tag())),
-        Err((back, now)) => Err((spent(s, back), seen(s, now), now.tag())),
-    }
-}
-
-/// The same by `compare_exchange_weak`.
-pub fn weakly_exchanged<'g, S: Space<u64>>(
-    rt: &impl Abort,
-    s: &mut S,
-    cell: &AtomicShared<u64>,
-    current: Ptr<'g, u64>,
-    next: Option<u64>,
-    tag: Tag,
-    guard: &'g Guard,
-) -> Result<Read, Read>
-    requires seated { IsSeated (S.seat s.old) }
-    requires home { cells_home cell.now ≡ (S.seat s.old).home.cells }
-    requires reader { reader_of guard.now ≡ (S.seat s.old).reader }
-    ensures seat { S.seat s.new ≡ S.seat s.old }
-{
-    let owner = made_if(rt, s, next);
-    match cell.compare_exchange_weak(current, (owner, tag), guard, s) {
-        Ok((old, now)) => Ok((spent(s, old), seen(s, now), now.tag())),
-        Err((back, now)) => Err((spent(s, back), seen(s, now), now.tag())),
-    }
+    spent(s, old)
 }
 
 /// Another cell that holds one owner more of the same item, or nothing.
@@ -416,25 +204,6 @@ pub fn copied_cell<S: Space<u64>>(
     copy
 }
 
-/// One owner more of what the cell holds, if it holds anything.
-pub fn owner_of<S: Space<u64>>(
-    rt: &impl Abort,
-    s: &mut S,
-    cell: &AtomicShared<u64>,
-) -> Option<Shared<u64>>
-    requires seated { IsSeated (S.seat s.old) }
-    requires home { cells_home cell.now ≡ (S.seat s.old).home.cells }
-    ensures seat { S.seat s.new ≡ S.seat s.old }
-    ensures home { IsOfSlots (S.seat s.new).home.slots result }
-{
-    let guard = opened(rt, s);
-    let owner = cell
-        .get_shared(&guard, s)
-        .expect(rt, "another owner may be had");
-    close(s, guard);
-    owner
-}
-
 /// The item has another number from now on. The one before.
 pub fn put<S: Space<u64>>(s: &mut S, owner: &mut Shared<u64>, value: u64) -> Result<u64, Refused>
     requires seated { IsSeated (S.seat s.old) }
@@ -449,10 +218,10 @@ pub fn put<S: Space<u64>>(s: &mut S, owner: &mut Shared<u64>, value: u64) -> Res
 }
 
 /// The owner goes in place, and tells whether it was the last; or it comes back.
-pub fn drop_in_place<T: Item<T>, S: Space<T>>(
+pub fn drop_in_place<S: Space<u64>>(
     s: &mut S,
-    owner: Shared<T>,
-) -> Result<bool, (Shared<T>, Refused)>
+    owner: Shared<u64>,
+) -> Result<bool, (Shared<u64>, Refused)>
     requires seated { IsSeated (S.seat s.old) }
     requires home { slots_home owner ≡ (S.seat s.old).home.slots }
     ensures seat { S.seat s.new ≡ S.seat s.old }
