@@ -1,0 +1,29 @@
+-- A place may cross threads where its value may.
+use Rattle.std.proofs.Common.{ℕ, [], ◌∷◌}
+use mathlib.Core.Option.{Option, none, some}
+use base.Shift.{Keyless}
+use denote.RattleType.{RattleType}
+use denote.RawPtr.{Ptr, block_ptr, null_ptr}
+use denote.Param.Send.{IsSend, IsSync}
+use Rattle.std_alloc.proofs.SendSync.{lies, seen}
+use Rattle.sdd_stakes.specs.Spot.{vacancy, state, rule}
+use base.Stored.{Gv}
+use types.Keyed.{entry_keyless}
+use Rattle.atomic_table.specs.Seated.{halved}
+use Rattle.sdd_stakes.specs.Stakes.{part}
+
+part_Keyless : (γ i a : ℕ) (g : Gv) (n : ℕ) → Keyless (part γ i a g n)
+part_Keyless γ i a g n = ((λ q c. entry_keyless halved γ i _), (λ q c. tt))
+
+room : (R : RattleType) (p : Ptr) → Keyless (vacancy R p)
+room R (block_ptr b o) = tt
+room R null_ptr = tt
+
+module _ (R : RattleType) (s : IsSend R) (y : IsSync R) (p : Ptr) (γ i : ℕ) where
+  state_Keyless : (v : Option (Option (ℕ × R.Denot))) → Keyless (state R p γ i v)
+  state_Keyless none = λ a. part_Keyless γ i a _ 1
+  state_Keyless (some none) = λ a. (part_Keyless γ i a _ 1, room R p)
+  state_Keyless (some (some v)) = (part_Keyless γ i v.0 _ 1, (seen R y p v.1 (v.0 ∷ []), lies R s p v.1))
+
+  pub rule_Keyless : Keyless (rule R p γ i)
+  rule_Keyless = state_Keyless

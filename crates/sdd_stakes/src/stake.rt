@@ -1,0 +1,39 @@
+//! Some units of a number, as a value without bytes.
+ghost use Rattle.std.specs.Prelude.{◌≡◌, ◌-◌, ◌<◌};
+ghost use Rattle.sdd_stakes.specs.Stakes.{Lot, lot_coded, holding};
+
+use std::marker::{Model, PhantomData};
+
+const _: () = prove!(size_of::<Stake>() == 0);
+
+/// Some units of a number of a book, which agree with all its other units on a round and on what they show. They may be lent to a tenure.
+pub struct Stake {
+    pub(crate) of: PhantomData<u64>,
+    pub ghost lot: { Lot } by { lot_coded },
+}
+
+impl Model for Stake {
+    ghost also_owns = { λ s. holding s.lot };
+}
+
+impl Stake {
+    /// Some units, as a stake of their own. At least one stays.
+    pub fn split(&mut self, units: u64) -> Stake
+        requires some { 0 < units }
+        requires fewer { units < self.old.lot.units }
+        requires free { self.old.lot.lent ≡ 0 }
+        ensures rest { self.new.lot ≡ record self.old.lot { units = self.old.lot.units - units } }
+        ensures part { result.lot ≡ record self.old.lot { units = units } }
+    {
+        let _ = units;
+        Stake { of: PhantomData }
+    }
+}
+
+impl Drop for Stake {
+    fn drop(self) {
+        let Stake { of: _ } = self;
+    }
+}
+
+unsafe impl Send for Stake {}
