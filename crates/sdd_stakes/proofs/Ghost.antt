@@ -12,7 +12,9 @@ use denote.Sharing.{ShrLaws}
 use denote.Moves.{moves_from}
 use denote.Steps.{nothing}
 use Rattle.sdd_token.specs.Units.{tokens}
-use Rattle.sdd_stakes.specs.Stakes.{Lot, settled, AllTo, lasts_in, lent_out, tokens_of, purse, tenure_shares}
+use Rattle.std.specs.Prelude.{Option}
+use Rattle.sdd_places.specs.Block.{IsFreeFor, lasts_in}
+use Rattle.sdd_stakes.specs.Stakes.{Lot, settled, AllFreeFor, lent_out, tokens_of, purse, tenure_shares}
 
 module _ {M : Type 1} {𝓤 : Ura M} (𝓛 : Logic 𝓤) where
   open 𝓛 use {H, A}
@@ -40,17 +42,17 @@ module _ {M : Type 1} {𝓤 : Ura M} (𝓛 : Logic 𝓤) where
   comes_back t a n = qed 𝓛 (‵ (lent_out t a n) ∷ ‵ (fdead (t ∷ [])) ∷ []) ∵ updating ! $ fsplit ! $ drop ! $ fpick ! (λ e. fpick ! (λ c. move ! (1 ∷ 0 ∷ []) $ lent_back ! tt $
       fpack ! (Counts 63 e n) (λ _. flft (a ∷ []) e) c $ fpack ! Share (λ x. fex (Counts 63 x n) (λ _. flft (a ∷ []) x)) e $ now ! $ done !))
 
-  one_back : (t l a n : ℕ) → (l ≡ 0) ⊎ (l ≡ suc t) → ⟦ tokens_of l a n ⟧ ∗ A.dead (t ∷ []) ⊢ H.⇛ ⟦ tokens a n ⟧
-  one_back t l a n (inl e) = qed 𝓛 (‵ (tokens_of l a n) ∷ ‵ (fdead (t ∷ [])) ∷ []) ∵ updating ! $ rewrite ! 0 (λ (m : ℕ). ‵ (tokens_of m a n)) e refl $ now ! $ keep ! (0 ∷ []) $ done !
-  one_back t l a n (inr e) = qed 𝓛 (‵ (tokens_of l a n) ∷ ‵ (fdead (t ∷ [])) ∷ []) ∵ rewrite ! 0 (λ (m : ℕ). ‵ (tokens_of m a n)) e refl $ by ! (comes_back t a n)
+  one_back : (t : ℕ) (l : Option ℕ) (a n : ℕ) → IsFreeFor t l → ⟦ tokens_of l a n ⟧ ∗ A.dead (t ∷ []) ⊢ H.⇛ ⟦ tokens a n ⟧
+  one_back t l a n (inl e) = qed 𝓛 (‵ (tokens_of l a n) ∷ ‵ (fdead (t ∷ [])) ∷ []) ∵ updating ! $ rewrite ! 0 (λ (m : Option ℕ). ‵ (tokens_of m a n)) e refl $ now ! $ keep ! (0 ∷ []) $ done !
+  one_back t l a n (inr e) = qed 𝓛 (‵ (tokens_of l a n) ∷ ‵ (fdead (t ∷ [])) ∷ []) ∵ rewrite ! 0 (λ (m : Option ℕ). ‵ (tokens_of m a n)) e refl $ by ! (comes_back t a n)
 
-  pub settles : (t : ℕ) (hs : List Lot) → AllTo t hs → ⟦ purse hs ⟧ ∗ A.dead (t ∷ []) ⊢ H.⇛ ⟦ purse (settled hs) ⟧
+  pub settles : (t : ℕ) (hs : List Lot) → AllFreeFor t hs → ⟦ purse hs ⟧ ∗ A.dead (t ∷ []) ⊢ H.⇛ ⟦ purse (settled hs) ⟧
   settles t [] ok = qed 𝓛 (‵ ftrue ∷ ‵ (fdead (t ∷ [])) ∷ []) ∵ updating ! $ now ! $ keep ! (0 ∷ []) $ done !
   settles t (h ∷ hs) ok = qed 𝓛 (‵ (purse (h ∷ hs)) ∷ ‵ (fdead (t ∷ [])) ∷ []) ∵ updating ! $ fsplit ! $ fsplit ! $ move ! (3 ∷ []) $
       use1 𝓛 (‵ (fdead (t ∷ [])) ⊛ ‵ (fdead (t ∷ []))) (𝓛.lfts.dead_dup (t ∷ [])) $ split ! $ move ! (3 ∷ 0 ∷ []) $ use2 𝓛 (later (‵ (tokens h.round h.units))) (one_back t h.lent h.round h.units ok.0) $ await ! tt $
       move ! (2 ∷ 0 ∷ []) $ fjoin ! $ move ! (2 ∷ 1 ∷ []) $ use2 𝓛 (later (‵ (purse (settled hs)))) (settles t hs ok.1) $ await ! tt $ move ! (1 ∷ 0 ∷ []) $ fjoin ! $ now ! $ done !
 
-  pub with_end : (t : ℕ) (hs : List Lot) → AllTo t hs → ⟦ purse hs ⟧ ∗ ⟦ fdead (t ∷ []) ⟧ ⊢ H.⇛ (⟦ purse (settled hs) ⟧ ∗ ⟦ ftrue ⟧)
+  pub with_end : (t : ℕ) (hs : List Lot) → AllFreeFor t hs → ⟦ purse hs ⟧ ∗ ⟦ fdead (t ∷ []) ⟧ ⊢ H.⇛ (⟦ purse (settled hs) ⟧ ∗ ⟦ ftrue ⟧)
   with_end t hs ok = qed 𝓛 (‵ (purse hs) ∷ ‵ (fdead (t ∷ [])) ∷ []) ∵ updating ! $ use2 𝓛 (later (‵ (purse (settled hs)))) (settles t hs ok) $ await ! tt $ nothing ! $ now ! $ move ! (1 ∷ 0 ∷ []) $ done !
 
   -- what is shared for a round is, for as long as a tenure is borrowed to which a token of the round was lent

@@ -1,6 +1,7 @@
 -- A look at a place by units of a purse, which are lent to a tenure. Assumes `Logic`.
 use Rattle.std.proofs.Common.{◌≡◌, ◌⊎◌, inl, inr, ℕ, zero, suc, List, [], ◌∷◌, set, sym, refl, ap, subst}
-use mathlib.Core.Option.{Option, none, some, some-injective, some-ne-none}
+use Rattle.std.specs.Prelude.{Option, None, Some}
+use mathlib.Core.Option.{some, some-injective, some-ne-none}
 use lib.ListN.{get_elem?}
 use seplogic.Ra.Ura.{Ura}
 use base.Stored.{Gv, gnil, gnum, coded×, coded_ℕ}
@@ -16,19 +17,20 @@ use denote.Struct.Lending.{lent_at}
 use Rattle.atomic_table.specs.Seated.{itself}
 use Rattle.sdd_token.specs.Units.{units}
 use Rattle.sdd_token.proofs.Steps.{apart_at, Meets}
-use Rattle.sdd_stakes.specs.Stakes.{Lot, unlent, settled, AllTo, agreed_on, part, lasts_in, lent_out, tokens_of, holding, purse, tenure_shares}
+use Rattle.sdd_places.specs.Block.{IsFreeFor, lasts_in}
+use Rattle.sdd_stakes.specs.Stakes.{Lot, unlent, settled, AllFreeFor, agreed_on, part, lent_out, tokens_of, holding, purse, tenure_shares}
 use Rattle.sdd_stakes.specs.Spot.{full_shown, IsFull, state, rule}
 use Rattle.sdd_stakes.proofs.Ghost.{lends, shows_in}
 
 abbrev pub lent_to : ℕ → Lot → Lot
-lent_to t h = record h { lent = suc t }
+lent_to t h = record h { lent = Some t }
 
 pub keeps_settled : (hs : List Lot) (n t : ℕ) (h : Lot) → get_elem? hs n ≡ some h → settled (set hs n (lent_to t h)) ≡ settled hs
 keeps_settled [] n t h at = absurd (some-ne-none h (sym at))
 keeps_settled (x ∷ hs) zero t h at = ap (λ (y : Lot). unlent y ∷ settled hs) (sym (some-injective x h at))
 keeps_settled (x ∷ hs) (suc n) t h at = ap (λ (ys : List Lot). unlent x ∷ ys) (keeps_settled hs n t h at)
 
-pub keeps_all_to : (hs : List Lot) (n t : ℕ) (h : Lot) → AllTo t hs → AllTo t (set hs n (lent_to t h))
+pub keeps_all_to : (hs : List Lot) (n t : ℕ) (h : Lot) → AllFreeFor t hs → AllFreeFor t (set hs n (lent_to t h))
 keeps_all_to [] n t h ok = tt
 keeps_all_to (x ∷ hs) zero t h ok = (inr refl, ok.1)
 keeps_all_to (x ∷ hs) (suc n) t h ok = (ok.0, keeps_all_to hs n t h ok.1)
@@ -90,28 +92,28 @@ module _ {M : Type 1} {𝓤 : Ura M} (𝓛 : Logic 𝓤) where
         absurd (not_full (subst IsFull (let same = (coded× coded_ℕ itself).inj (b, w) (a, g) met.values in sym (λ j. (same j).1)) full)))
 
     looks_in : (a : ℕ) (g : Gv) (n : ℕ) → IsFull g → (v : Option (Option (ℕ × X))) → ⟦ st v ⟧ ∗ ⟦ U a g n ⟧ ⊢ upd 𝓤 (⟦ I ⟧ ∗ ex 𝓤 (Told a g (U a g n)))
-    looks_in a g n full none = qed 𝓛 (‵ (st none) ∷ ‵ (U a g n) ∷ []) ∵ fpick ! (λ b. by ! (other a b g (gnum 0) n full (λ z. z) _))
-    looks_in a g n full (some none) = qed 𝓛 (‵ (st (some none)) ∷ ‵ (U a g n) ∷ []) ∵ fpick ! (λ b. fsplit ! $ keep ! (0 ∷ 2 ∷ []) $ by ! (other a b g gnil n full (λ z. z) _))
-    looks_in a g n full (some (some v)) = let b : ℕ = v.0 in let x : X = v.1 in let w : Gv = full_shown (R.coded.code x) in let Z : Pr = ⟦ I ⟧ ∗ ex 𝓤 (Told a g (U a g n)) in
-        qed 𝓛 (‵ (st (some (some v))) ∷ ‵ (U a g n) ∷ []) ∵ fsplit ! $ fsplit ! $ move ! (0 ∷ 3 ∷ []) $
+    looks_in a g n full None = qed 𝓛 (‵ (st None) ∷ ‵ (U a g n) ∷ []) ∵ fpick ! (λ b. by ! (other a b g (gnum 0) n full (λ z. z) _))
+    looks_in a g n full (Some None) = qed 𝓛 (‵ (st (Some None)) ∷ ‵ (U a g n) ∷ []) ∵ fpick ! (λ b. fsplit ! $ keep ! (0 ∷ 2 ∷ []) $ by ! (other a b g gnil n full (λ z. z) _))
+    looks_in a g n full (Some (Some v)) = let b : ℕ = v.0 in let x : X = v.1 in let w : Gv = full_shown (R.coded.code x) in let Z : Pr = ⟦ I ⟧ ∗ ex 𝓤 (Told a g (U a g n)) in
+        qed 𝓛 (‵ (st (Some (Some v))) ∷ ‵ (U a g n) ∷ []) ∵ fsplit ! $ fsplit ! $ move ! (0 ∷ 3 ∷ []) $
         use2 𝓛 (given (Meets (agreed_on b w) (agreed_on a g) 1 n) (‵ (U b w 1) ⊛ ‵ (U a g n))) (apart_at 𝓛 γ i (agreed_on b w) (agreed_on a g) 1 n) $ learn ! (λ met.
         let same = (coded× coded_ℕ itself).inj (b, w) (a, g) met.values in split ! $ move ! (3 ∷ []) $ fsplit ! $
         use1 𝓛 (‵ (lent_at R p x (b ∷ [])) ⊛ ‵ (lent_at R p x (b ∷ []))) (contraction 𝓛 (lent_at R p x) (laws x) (b ∷ [])) $ split ! $ move ! (1 ∷ 2 ∷ []) $ fjoin ! $
-        move ! (2 ∷ 4 ∷ []) $ fjoin ! $ move ! (0 ∷ 1 ∷ []) $ fjoin ! $ fpack ! (Option (Option (ℕ × X))) st (some (some v)) $ suffices ! _ (upd_i 𝓤 Z) $ frame ! $
+        move ! (2 ∷ 4 ∷ []) $ fjoin ! $ move ! (0 ∷ 1 ∷ []) $ fjoin ! $ fpack ! (Option (Option (ℕ × X))) st (Some (Some v)) $ suffices ! _ (upd_i 𝓤 Z) $ frame ! $
         show ! (Told a g (U a g n)) x $ check ! (sym (λ j. (same j).1)) $ rewrite ! 0 (λ (m : ℕ). ‵ (lent_at R p x (m ∷ []))) (λ j. (same j).0) refl $ done !)
 
     pub looks : (a : ℕ) (g : Gv) (n : ℕ) → IsFull g → A.inv I ∗ ⟦ U a g n ⟧ ⊢ H.⇛ (ex 𝓤 (Told a g (U a g n)))
     looks a g n full = inside ⟦ U a g n ⟧ (ex 𝓤 (Told a g (U a g n))) (looks_in a g n full)
 
     -- the token of the round is lent now, or was
-    lends_on : (τ l a n : ℕ) → (l ≡ 0) ⊎ (l ≡ suc τ) → ⟦ tokens_of l a n ⟧ ⊢ H.⇛ ⟦ lent_out τ a n ⟧
-    lends_on τ l a n (inl e) = qed 𝓛 (‵ (tokens_of l a n) ∷ []) ∵ rewrite ! 0 (λ (m : ℕ). ‵ (tokens_of m a n)) e refl $ by ! (lends 𝓛 τ a n)
-    lends_on τ l a n (inr e) = qed 𝓛 (‵ (tokens_of l a n) ∷ []) ∵ updating ! $ rewrite ! 0 (λ (m : ℕ). ‵ (tokens_of m a n)) e refl $ now ! $ done !
+    lends_on : (τ : ℕ) (l : Option ℕ) (a n : ℕ) → IsFreeFor τ l → ⟦ tokens_of l a n ⟧ ⊢ H.⇛ ⟦ lent_out τ a n ⟧
+    lends_on τ l a n (inl e) = qed 𝓛 (‵ (tokens_of l a n) ∷ []) ∵ rewrite ! 0 (λ (m : Option ℕ). ‵ (tokens_of m a n)) e refl $ by ! (lends 𝓛 τ a n)
+    lends_on τ l a n (inr e) = qed 𝓛 (‵ (tokens_of l a n) ∷ []) ∵ updating ! $ rewrite ! 0 (λ (m : Option ℕ). ‵ (tokens_of m a n)) e refl $ now ! $ done !
 
     abbrev pub Seen : List Lot → ℕ → ℕ → Lot → Lft → X → Pr
     Seen hs n τ h κ x = guard 𝓤 (h.shown ≡ full_shown (R.coded.code x)) (⟦ lent_at R p x κ ⟧ ∗ ⟦ purse (set hs n (lent_to τ h)) ⟧)
 
-    pub shows_now : (hs : List Lot) (n τ : ℕ) (h : Lot) (κ : Lft) → get_elem? hs n ≡ some h → h.book ≡ γ → h.number ≡ i → IsFull h.shown → (h.lent ≡ 0) ⊎ (h.lent ≡ suc τ)
+    pub shows_now : (hs : List Lot) (n τ : ℕ) (h : Lot) (κ : Lft) → get_elem? hs n ≡ some h → h.book ≡ γ → h.number ≡ i → IsFull h.shown → IsFreeFor τ h.lent
         → A.inv I ∗ ⟦ purse hs ⟧ ∗ ⟦ tenure_shares τ κ ⟧ ⊢ H.⇛ (ex 𝓤 (Seen hs n τ h κ))
     shows_now hs n τ h κ at of is full free = let a : ℕ = h.round in let g : Gv = h.shown in let k : ℕ = h.units in let h' : Lot = lent_to τ h in
         qed 𝓛 (‵ (finv I) ∷ ‵ (purse hs) ∷ ‵ (tenure_shares τ κ) ∷ []) ∵ updating ! $ move ! (1 ∷ []) $
@@ -127,7 +129,7 @@ module _ {M : Type 1} {𝓤 : Ura M} (𝓛 : Logic 𝓤) where
     abbrev pub Shows : Lot → Lft → X → Pr
     Shows h κ x = guard 𝓤 (h.shown ≡ full_shown (R.coded.code x)) ⟦ lent_at R p x κ ⟧
 
-    pub shows_beside : (hs : List Lot) (n τ : ℕ) (h : Lot) (κ : Lft) → get_elem? hs n ≡ some h → h.book ≡ γ → h.number ≡ i → IsFull h.shown → (h.lent ≡ 0) ⊎ (h.lent ≡ suc τ)
+    pub shows_beside : (hs : List Lot) (n τ : ℕ) (h : Lot) (κ : Lft) → get_elem? hs n ≡ some h → h.book ≡ γ → h.number ≡ i → IsFull h.shown → IsFreeFor τ h.lent
         → ⟦ purse hs ⟧ ∗ (A.inv I ∗ ⟦ tenure_shares τ κ ⟧) ⊢ H.⇛ (⟦ purse (set hs n (lent_to τ h)) ⟧ ∗ ex 𝓤 (Shows h κ))
     shows_beside hs n τ h κ at of is full free = qed 𝓛 (‵ (purse hs) ∷ ‵ (finv I) ∷ ‵ (tenure_shares τ κ) ∷ []) ∵ updating ! $ move ! (1 ∷ 0 ∷ 2 ∷ []) $
         use3 𝓛 (later (exists (λ (x : X). given (h.shown ≡ full_shown (R.coded.code x)) (‵ (lent_at R p x κ) ⊛ ‵ (purse (set hs n (lent_to τ h))))))) (shows_now hs n τ h κ at of is full free) $ await ! tt $ pick ! (λ x. learn ! (λ so. split ! $

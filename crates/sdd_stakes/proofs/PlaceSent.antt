@@ -1,6 +1,6 @@
 -- A place may cross threads where its value may.
 use Rattle.std.proofs.Common.{ℕ, [], ◌∷◌}
-use mathlib.Core.Option.{Option, none, some}
+use Rattle.std.specs.Prelude.{Option, None, Some}
 use base.Shift.{Keyless}
 use denote.RattleType.{RattleType}
 use denote.RawPtr.{Ptr, block_ptr, null_ptr}
@@ -21,9 +21,9 @@ room R null_ptr = tt
 
 module _ (R : RattleType) (s : IsSend R) (y : IsSync R) (p : Ptr) (γ i : ℕ) where
   state_Keyless : (v : Option (Option (ℕ × R.Denot))) → Keyless (state R p γ i v)
-  state_Keyless none = λ a. part_Keyless γ i a _ 1
-  state_Keyless (some none) = λ a. (part_Keyless γ i a _ 1, room R p)
-  state_Keyless (some (some v)) = (part_Keyless γ i v.0 _ 1, (seen R y p v.1 (v.0 ∷ []), lies R s p v.1))
+  state_Keyless None = λ a. part_Keyless γ i a _ 1
+  state_Keyless (Some None) = λ a. (part_Keyless γ i a _ 1, room R p)
+  state_Keyless (Some (Some v)) = (part_Keyless γ i v.0 _ 1, (seen R y p v.1 (v.0 ∷ []), lies R s p v.1))
 
   pub rule_Keyless : Keyless (rule R p γ i)
   rule_Keyless = state_Keyless

@@ -1,6 +1,6 @@
 -- A value leaves its place by all units but the place's own, and comes into it. Assumes `Logic`.
 use Rattle.std.proofs.Common.{◌≡◌, ℕ, suc, ◌+◌, ◌^◌, ◌≤◌, [], ◌∷◌, sym, refl, subst, arith}
-use mathlib.Core.Option.{Option, none, some}
+use Rattle.std.specs.Prelude.{Option, None, Some}
 use seplogic.Ra.Ura.{Ura}
 use base.Fraction.{full_share}
 use base.FractionLaws.{Counts-all}
@@ -97,15 +97,15 @@ module _ {M : Type 1} {𝓤 : Ura M} (𝓛 : Logic 𝓤) where
       TakenOut a g b x = guard 𝓤 (g ≡ full_shown (R.coded.code x)) (⟦ U (agreed_on b (gnum 0)) most ⟧ ∗ ⟦ tokens a (2 ^ 63) ⟧ ∗ ⟦ flent (a ∷ []) (lies_at R full_share p x) ⟧)
 
       takes_in : (a : ℕ) (g : Gv) (b : ℕ) → IsFull g → (v : St) → ⟦ st v ⟧ ∗ (⟦ U (agreed_on a g) most ⟧ ∗ ⟦ tokens a most ⟧ ∗ ⟦ tokens b 1 ⟧) ⊢ upd 𝓤 (⟦ I ⟧ ∗ ex 𝓤 (TakenOut a g b))
-      takes_in a g b full none = qed 𝓛 (‵ (st none) ∷ ‵ (U (agreed_on a g) most) ∷ ‵ (tokens a most) ∷ ‵ (tokens b 1) ∷ []) ∵ fpick ! (λ c. keep ! (0 ∷ 1 ∷ []) $ by ! (differ a c g (gnum 0) IsFull full (λ z. z) _))
-      takes_in a g b full (some none) = qed 𝓛 (‵ (st (some none)) ∷ ‵ (U (agreed_on a g) most) ∷ ‵ (tokens a most) ∷ ‵ (tokens b 1) ∷ []) ∵ fpick ! (λ c. fsplit ! $ keep ! (0 ∷ 2 ∷ []) $ by ! (differ a c g gnil IsFull full (λ z. z) _))
-      takes_in a g b full (some (some v)) = let c : ℕ = v.0 in let x : X = v.1 in let w : Gv = full_shown (R.coded.code x) in let Z : Pr = ⟦ I ⟧ ∗ ex 𝓤 (TakenOut a g b) in let h : Gv = agreed_on b (gnum 0) in
-          qed 𝓛 (‵ (st (some (some v))) ∷ ‵ (U (agreed_on a g) most) ∷ ‵ (tokens a most) ∷ ‵ (tokens b 1) ∷ []) ∵ fsplit ! $ fsplit ! $ move ! (0 ∷ 3 ∷ []) $
+      takes_in a g b full None = qed 𝓛 (‵ (st None) ∷ ‵ (U (agreed_on a g) most) ∷ ‵ (tokens a most) ∷ ‵ (tokens b 1) ∷ []) ∵ fpick ! (λ c. keep ! (0 ∷ 1 ∷ []) $ by ! (differ a c g (gnum 0) IsFull full (λ z. z) _))
+      takes_in a g b full (Some None) = qed 𝓛 (‵ (st (Some None)) ∷ ‵ (U (agreed_on a g) most) ∷ ‵ (tokens a most) ∷ ‵ (tokens b 1) ∷ []) ∵ fpick ! (λ c. fsplit ! $ keep ! (0 ∷ 2 ∷ []) $ by ! (differ a c g gnil IsFull full (λ z. z) _))
+      takes_in a g b full (Some (Some v)) = let c : ℕ = v.0 in let x : X = v.1 in let w : Gv = full_shown (R.coded.code x) in let Z : Pr = ⟦ I ⟧ ∗ ex 𝓤 (TakenOut a g b) in let h : Gv = agreed_on b (gnum 0) in
+          qed 𝓛 (‵ (st (Some (Some v))) ∷ ‵ (U (agreed_on a g) most) ∷ ‵ (tokens a most) ∷ ‵ (tokens b 1) ∷ []) ∵ fsplit ! $ fsplit ! $ move ! (0 ∷ 3 ∷ []) $
           use2 𝓛 (given (Meets (agreed_on c w) (agreed_on a g) 1 most) (‵ (U (agreed_on c w) 1) ⊛ ‵ (U (agreed_on a g) most))) (apart_at 𝓛 γ i (agreed_on c w) (agreed_on a g) 1 most) $ learn ! (λ met.
           let same = (coded× coded_ℕ itself).inj (c, w) (a, g) met.values in split ! $
           use2 𝓛 (raw (upd 𝓤 (⟦ U h 1 ⟧ ∗ ⟦ U h most ⟧))) (turns (agreed_on c w) (agreed_on a g) h) $ settle 𝓛 Z (‵ (U h 1) ⊛ ‵ (U h most)) $ split ! $ suffices ! _ (upd_i 𝓤 Z) $
           -- [1; most; the place's token; what is lent; the others' tokens; the new token]
-          move ! (0 ∷ 5 ∷ []) $ fjoin ! $ fpack ! ℕ (λ m. part γ i m (gnum 0) 1) b $ fpack ! St st none $ frame ! $
+          move ! (0 ∷ 5 ∷ []) $ fjoin ! $ fpack ! ℕ (λ m. part γ i m (gnum 0) 1) b $ fpack ! St st None $ frame ! $
           show ! (TakenOut a g b) x $ check ! (sym (λ j. (same j).1)) $ frame ! $
           rewrite ! 0 (λ (m : ℕ). ‵ (tokens m 1)) (λ j. (same j).0) refl $ move ! (1 ∷ []) $ fsplit ! $ drop ! $ rewrite ! 0 (λ (m : ℕ). ‵ (flent (m ∷ []) (lies_at R full_share p x))) (λ j. (same j).0) refl $
           move ! (1 ∷ 2 ∷ []) $ use2 𝓛 (‵ (tokens a (1 + most))) (tokens_glue 𝓛 a 1 most (omega arith) (omega arith)) $ rewrite ! 0 (λ (m : ℕ). ‵ (tokens a m)) (let e : 1 + most ≡ 2 ^ 63 = omega arith in e) refl $ done !)
@@ -115,28 +115,28 @@ module _ {M : Type 1} {𝓤 : Ura M} (𝓛 : Logic 𝓤) where
 
       -- ---- the room comes back
       leaves_in : (b : ℕ) (v : St) → ⟦ st v ⟧ ∗ (⟦ U (agreed_on b (gnum 0)) most ⟧ ∗ ⟦ vacancy R p ⟧) ⊢ upd 𝓤 (⟦ I ⟧ ∗ ⟦ U (agreed_on b gnil) most ⟧)
-      leaves_in b none = let Z : Pr = ⟦ I ⟧ ∗ ⟦ U (agreed_on b gnil) most ⟧ in let h : Gv = agreed_on b gnil in let h' : Gv = agreed_on b (gnum 0) in qed 𝓛 (‵ (st none) ∷ ‵ (U h' most) ∷ ‵ (vacancy R p) ∷ []) ∵ fpick ! (λ c. fsplit ! $ move ! (0 ∷ 2 ∷ []) $
+      leaves_in b None = let Z : Pr = ⟦ I ⟧ ∗ ⟦ U (agreed_on b gnil) most ⟧ in let h : Gv = agreed_on b gnil in let h' : Gv = agreed_on b (gnum 0) in qed 𝓛 (‵ (st None) ∷ ‵ (U h' most) ∷ ‵ (vacancy R p) ∷ []) ∵ fpick ! (λ c. fsplit ! $ move ! (0 ∷ 2 ∷ []) $
           use2 𝓛 (given (Meets (agreed_on c (gnum 0)) h' 1 most) (‵ (U (agreed_on c (gnum 0)) 1) ⊛ ‵ (U h' most))) (apart_at 𝓛 γ i (agreed_on c (gnum 0)) h' 1 most) $ learn ! (λ met.
           let same = (coded× coded_ℕ itself).inj (c, gnum 0) (b, gnum 0) met.values in split ! $
           use2 𝓛 (raw (upd 𝓤 (⟦ U h 1 ⟧ ∗ ⟦ U h most ⟧))) (turns (agreed_on c (gnum 0)) h' h) $ settle 𝓛 Z (‵ (U h 1) ⊛ ‵ (U h most)) $ split ! $ suffices ! _ (upd_i 𝓤 Z) $
           move ! (2 ∷ []) $ rewrite ! 0 (λ (m : ℕ). ‵ (tokens m 1)) (λ j. (same j).0) refl $ move ! (1 ∷ 0 ∷ []) $ fjoin ! $ move ! (0 ∷ 2 ∷ []) $ fjoin ! $
-          fpack ! ℕ (λ m. fsep (part γ i m gnil 1) (vacancy R p)) b $ fpack ! St st (some none) $ done !))
-      leaves_in b (some none) = qed 𝓛 (‵ (st (some none)) ∷ ‵ (U (agreed_on b (gnum 0)) most) ∷ ‵ (vacancy R p) ∷ []) ∵ fpick ! (λ c. fsplit ! $ keep ! (0 ∷ 2 ∷ []) $ by ! (differ b c (gnum 0) gnil IsOut tt (λ z. z) _))
-      leaves_in b (some (some v)) = qed 𝓛 (‵ (st (some (some v))) ∷ ‵ (U (agreed_on b (gnum 0)) most) ∷ ‵ (vacancy R p) ∷ []) ∵ fsplit ! $ keep ! (0 ∷ 2 ∷ []) $ by ! (differ b v.0 (gnum 0) (full_shown (R.coded.code v.1)) IsOut tt (λ z. z) _)
+          fpack ! ℕ (λ m. fsep (part γ i m gnil 1) (vacancy R p)) b $ fpack ! St st (Some None) $ done !))
+      leaves_in b (Some None) = qed 𝓛 (‵ (st (Some None)) ∷ ‵ (U (agreed_on b (gnum 0)) most) ∷ ‵ (vacancy R p) ∷ []) ∵ fpick ! (λ c. fsplit ! $ keep ! (0 ∷ 2 ∷ []) $ by ! (differ b c (gnum 0) gnil IsOut tt (λ z. z) _))
+      leaves_in b (Some (Some v)) = qed 𝓛 (‵ (st (Some (Some v))) ∷ ‵ (U (agreed_on b (gnum 0)) most) ∷ ‵ (vacancy R p) ∷ []) ∵ fsplit ! $ keep ! (0 ∷ 2 ∷ []) $ by ! (differ b v.0 (gnum 0) (full_shown (R.coded.code v.1)) IsOut tt (λ z. z) _)
 
       pub leaves_room : (b : ℕ) → A.inv I ∗ (⟦ U (agreed_on b (gnum 0)) most ⟧ ∗ ⟦ vacancy R p ⟧) ⊢ H.⇛ ⟦ U (agreed_on b gnil) most ⟧
       leaves_room b = inside (⟦ U (agreed_on b (gnum 0)) most ⟧ ∗ ⟦ vacancy R p ⟧) ⟦ U (agreed_on b gnil) most ⟧ (leaves_in b)
 
       -- ---- into a vacant place
       opens_in : (b : ℕ) (v : St) → ⟦ st v ⟧ ∗ ⟦ U (agreed_on b gnil) most ⟧ ⊢ upd 𝓤 (⟦ I ⟧ ∗ (⟦ U (agreed_on b (gnum 0)) most ⟧ ∗ ⟦ vacancy R p ⟧))
-      opens_in b none = qed 𝓛 (‵ (st none) ∷ ‵ (U (agreed_on b gnil) most) ∷ []) ∵ fpick ! (λ c. by ! (differ b c gnil (gnum 0) IsVacant tt (λ z. z) _))
-      opens_in b (some none) = let h : Gv = agreed_on b (gnum 0) in let h' : Gv = agreed_on b gnil in let Z : Pr = ⟦ I ⟧ ∗ (⟦ U h most ⟧ ∗ ⟦ vacancy R p ⟧) in qed 𝓛 (‵ (st (some none)) ∷ ‵ (U h' most) ∷ []) ∵ fpick ! (λ c. fsplit ! $ fsplit ! $ move ! (0 ∷ 3 ∷ []) $
+      opens_in b None = qed 𝓛 (‵ (st None) ∷ ‵ (U (agreed_on b gnil) most) ∷ []) ∵ fpick ! (λ c. by ! (differ b c gnil (gnum 0) IsVacant tt (λ z. z) _))
+      opens_in b (Some None) = let h : Gv = agreed_on b (gnum 0) in let h' : Gv = agreed_on b gnil in let Z : Pr = ⟦ I ⟧ ∗ (⟦ U h most ⟧ ∗ ⟦ vacancy R p ⟧) in qed 𝓛 (‵ (st (Some None)) ∷ ‵ (U h' most) ∷ []) ∵ fpick ! (λ c. fsplit ! $ fsplit ! $ move ! (0 ∷ 3 ∷ []) $
           use2 𝓛 (given (Meets (agreed_on c gnil) h' 1 most) (‵ (U (agreed_on c gnil) 1) ⊛ ‵ (U h' most))) (apart_at 𝓛 γ i (agreed_on c gnil) h' 1 most) $ learn ! (λ met.
           let same = (coded× coded_ℕ itself).inj (c, gnil) (b, gnil) met.values in split ! $
           use2 𝓛 (raw (upd 𝓤 (⟦ U h 1 ⟧ ∗ ⟦ U h most ⟧))) (turns (agreed_on c gnil) h' h) $ settle 𝓛 Z (‵ (U h 1) ⊛ ‵ (U h most)) $ split ! $ suffices ! _ (upd_i 𝓤 Z) $
           move ! (2 ∷ []) $ rewrite ! 0 (λ (m : ℕ). ‵ (tokens m 1)) (λ j. (same j).0) refl $ move ! (1 ∷ 0 ∷ []) $ fjoin ! $
-          fpack ! ℕ (λ m. part γ i m (gnum 0) 1) b $ fpack ! St st none $ frame ! $ done !))
-      opens_in b (some (some v)) = qed 𝓛 (‵ (st (some (some v))) ∷ ‵ (U (agreed_on b gnil) most) ∷ []) ∵ fsplit ! $ keep ! (0 ∷ 2 ∷ []) $ by ! (differ b v.0 gnil (full_shown (R.coded.code v.1)) IsVacant tt (λ z. z) _)
+          fpack ! ℕ (λ m. part γ i m (gnum 0) 1) b $ fpack ! St st None $ frame ! $ done !))
+      opens_in b (Some (Some v)) = qed 𝓛 (‵ (st (Some (Some v))) ∷ ‵ (U (agreed_on b gnil) most) ∷ []) ∵ fsplit ! $ keep ! (0 ∷ 2 ∷ []) $ by ! (differ b v.0 gnil (full_shown (R.coded.code v.1)) IsVacant tt (λ z. z) _)
 
       pub opens_room : (b : ℕ) → A.inv I ∗ ⟦ U (agreed_on b gnil) most ⟧ ⊢ H.⇛ (⟦ U (agreed_on b (gnum 0)) most ⟧ ∗ ⟦ vacancy R p ⟧)
       opens_room b = inside ⟦ U (agreed_on b gnil) most ⟧ (⟦ U (agreed_on b (gnum 0)) most ⟧ ∗ ⟦ vacancy R p ⟧) (opens_in b)
@@ -145,15 +145,15 @@ module _ {M : Type 1} {𝓤 : Ura M} (𝓛 : Logic 𝓤) where
       Whole x = lies_at R full_share p x
 
       fills_in : (b : ℕ) (x : X) (v : St) → ⟦ st v ⟧ ∗ (⟦ U (agreed_on b (gnum 0)) most ⟧ ∗ ⟦ fsep (lent_at R p x (b ∷ [])) (flent (b ∷ []) (Whole x)) ⟧) ⊢ upd 𝓤 (⟦ I ⟧ ∗ ⟦ U (agreed_on b (full_shown (R.coded.code x))) most ⟧)
-      fills_in b x none = let w : Gv = full_shown (R.coded.code x) in let h : Gv = agreed_on b w in let h' : Gv = agreed_on b (gnum 0) in let Z : Pr = ⟦ I ⟧ ∗ ⟦ U h most ⟧ in let Lent : Fml = fsep (lent_at R p x (b ∷ [])) (flent (b ∷ []) (Whole x)) in
-          qed 𝓛 (‵ (st none) ∷ ‵ (U h' most) ∷ ‵ Lent ∷ []) ∵ fpick ! (λ c. fsplit ! $ move ! (0 ∷ 2 ∷ []) $
+      fills_in b x None = let w : Gv = full_shown (R.coded.code x) in let h : Gv = agreed_on b w in let h' : Gv = agreed_on b (gnum 0) in let Z : Pr = ⟦ I ⟧ ∗ ⟦ U h most ⟧ in let Lent : Fml = fsep (lent_at R p x (b ∷ [])) (flent (b ∷ []) (Whole x)) in
+          qed 𝓛 (‵ (st None) ∷ ‵ (U h' most) ∷ ‵ Lent ∷ []) ∵ fpick ! (λ c. fsplit ! $ move ! (0 ∷ 2 ∷ []) $
           use2 𝓛 (given (Meets (agreed_on c (gnum 0)) h' 1 most) (‵ (U (agreed_on c (gnum 0)) 1) ⊛ ‵ (U h' most))) (apart_at 𝓛 γ i (agreed_on c (gnum 0)) h' 1 most) $ learn ! (λ met.
           let same = (coded× coded_ℕ itself).inj (c, gnum 0) (b, gnum 0) met.values in split ! $
           use2 𝓛 (raw (upd 𝓤 (⟦ U h 1 ⟧ ∗ ⟦ U h most ⟧))) (turns (agreed_on c (gnum 0)) h' h) $ settle 𝓛 Z (‵ (U h 1) ⊛ ‵ (U h most)) $ split ! $ suffices ! _ (upd_i 𝓤 Z) $
           move ! (2 ∷ []) $ rewrite ! 0 (λ (m : ℕ). ‵ (tokens m 1)) (λ j. (same j).0) refl $ move ! (1 ∷ 0 ∷ []) $ fjoin ! $ move ! (0 ∷ 2 ∷ []) $ fjoin ! $
-          fpack ! St st (some (some (b, x))) $ done !))
-      fills_in b x (some none) = qed 𝓛 (‵ (st (some none)) ∷ ‵ (U (agreed_on b (gnum 0)) most) ∷ ‵ (fsep (lent_at R p x (b ∷ [])) (flent (b ∷ []) (Whole x))) ∷ []) ∵ fpick ! (λ c. fsplit ! $ keep ! (0 ∷ 2 ∷ []) $ by ! (differ b c (gnum 0) gnil IsOut tt (λ z. z) _))
-      fills_in b x (some (some v)) = qed 𝓛 (‵ (st (some (some v))) ∷ ‵ (U (agreed_on b (gnum 0)) most) ∷ ‵ (fsep (lent_at R p x (b ∷ [])) (flent (b ∷ []) (Whole x))) ∷ []) ∵ fsplit ! $ keep ! (0 ∷ 2 ∷ []) $ by ! (differ b v.0 (gnum 0) (full_shown (R.coded.code v.1)) IsOut tt (λ z. z) _)
+          fpack ! St st (Some (Some (b, x))) $ done !))
+      fills_in b x (Some None) = qed 𝓛 (‵ (st (Some None)) ∷ ‵ (U (agreed_on b (gnum 0)) most) ∷ ‵ (fsep (lent_at R p x (b ∷ [])) (flent (b ∷ []) (Whole x))) ∷ []) ∵ fpick ! (λ c. fsplit ! $ keep ! (0 ∷ 2 ∷ []) $ by ! (differ b c (gnum 0) gnil IsOut tt (λ z. z) _))
+      fills_in b x (Some (Some v)) = qed 𝓛 (‵ (st (Some (Some v))) ∷ ‵ (U (agreed_on b (gnum 0)) most) ∷ ‵ (fsep (lent_at R p x (b ∷ [])) (flent (b ∷ []) (Whole x))) ∷ []) ∵ fsplit ! $ keep ! (0 ∷ 2 ∷ []) $ by ! (differ b v.0 (gnum 0) (full_shown (R.coded.code v.1)) IsOut tt (λ z. z) _)
 
       pub fills : (b : ℕ) (x : X) → A.inv I ∗ (⟦ U (agreed_on b (gnum 0)) most ⟧ ∗ ⟦ fsep (lent_at R p x (b ∷ [])) (flent (b ∷ []) (Whole x)) ⟧) ⊢ H.⇛ ⟦ U (agreed_on b (full_shown (R.coded.code x))) most ⟧
       fills b x = inside (⟦ U (agreed_on b (gnum 0)) most ⟧ ∗ ⟦ fsep (lent_at R p x (b ∷ [])) (flent (b ∷ []) (Whole x)) ⟧) ⟦ U (agreed_on b (full_shown (R.coded.code x))) most ⟧ (fills_in b x)
@@ -178,5 +178,5 @@ module _ {M : Type 1} {𝓤 : Ura M} (𝓛 : Logic 𝓤) where
             use1 𝓛 (‵ (tokens a 1) ⊛ ‵ (tokens a most)) (tokens_cut 𝓛 a (2 ^ 63) 1 most (omega arith) (omega arith) (omega arith) (omega arith)) $ split ! $ move ! (5 ∷ []) $
             use1 𝓛 (given ((2 ^ 63) ≤ 2 ^ 63) (‵ (U h 1) ⊛ ‵ (U h most))) (splits 𝓛 γ i h (2 ^ 63) 1 most (omega arith) (omega arith) (omega arith)) $ learn ! (λ fits. split ! $
             -- [1; most; the place's token; the others; what is lent; the outer token; the book]
-            move ! (0 ∷ 2 ∷ []) $ fjoin ! $ move ! (0 ∷ 3 ∷ []) $ fjoin ! $ fpack ! St st (some (some (a, x))) $ use1 𝓛 (later (‵ (finv I))) (𝓛.invs.inv_new I) $ await ! tt $
+            move ! (0 ∷ 2 ∷ []) $ fjoin ! $ move ! (0 ∷ 3 ∷ []) $ fjoin ! $ fpack ! St st (Some (Some (a, x))) $ use1 𝓛 (later (‵ (finv I))) (𝓛.invs.inv_new I) $ await ! tt $
             move ! (1 ∷ 2 ∷ []) $ fjoin ! $ now ! $ show ! Founded a $ move ! (1 ∷ 0 ∷ 3 ∷ 2 ∷ []) $ done !))

@@ -1,6 +1,6 @@
 -- What a place owns: the rule of its number, in an invariant. And what the calls of a place ask and tell of the lots that a seat carries.
-use Rattle.std.specs.Prelude.{◌≡◌, ◌⊎◌, ◌+◌, ◌-◌, ◌^◌, ◌<◌, ℕ, suc, List, [], ◌∷◌, ◌++◌, take, drop}
-use mathlib.Core.Option.{Option, none, some}
+use Rattle.std.specs.Prelude.{◌≡◌, ◌+◌, ◌-◌, ◌^◌, ◌<◌, ℕ, Option, None, Some, List, [], ◌∷◌, ◌++◌, take, drop}
+use mathlib.Core.Option.{some}
 use lib.ListN.{get_elem?}
 use base.Fraction.{full_share}
 use base.Stored.{Gv, gnil, gnum, gcons}
@@ -11,7 +11,8 @@ use denote.Memory.{lone}
 use denote.RawPtr.{Ptr, lies_at, room_for}
 use denote.Sharing.{always}
 use denote.Struct.Lending.{lent_at}
-use Rattle.sdd_stakes.specs.Stakes.{Lot, part, settled, AllTo}
+use Rattle.sdd_places.specs.Block.{IsFreeFor}
+use Rattle.sdd_stakes.specs.Stakes.{Lot, part, settled, AllFreeFor}
 use Rattle.sdd_stakes.specs.Seats.{lots, with_lots}
 use Rattle.sdd_stakes.specs.declared.stake.Stake.{Stake}
 
@@ -31,9 +32,9 @@ vacancy R p = room_for (raw (lone R.mir)) p
 module _ (R : RattleType) (p : Ptr) (γ i : ℕ) where
   -- the place keeps one unit of its number. It is out of use while a value is moved; vacant; or full: then the value is shared for the round, and comes back after it
   abbrev pub state : Option (Option (ℕ × R.Denot)) → Fml
-  state none = fex ℕ (λ a. part γ i a (gnum 0) 1)
-  state (some none) = fex ℕ (λ a. fsep (part γ i a gnil 1) (vacancy R p))
-  state (some (some v)) = fsep (part γ i v.0 (full_shown (R.coded.code v.1)) 1) (fsep (lent_at R p v.1 (v.0 ∷ [])) (flent (v.0 ∷ []) (lies_at R full_share p v.1)))
+  state None = fex ℕ (λ a. part γ i a (gnum 0) 1)
+  state (Some None) = fex ℕ (λ a. fsep (part γ i a gnil 1) (vacancy R p))
+  state (Some (Some v)) = fsep (part γ i v.0 (full_shown (R.coded.code v.1)) 1) (fsep (lent_at R p v.1 (v.0 ∷ [])) (flent (v.0 ∷ []) (lies_at R full_share p v.1)))
 
   abbrev pub rule : Fml
   rule = fex (Option (Option (ℕ × R.Denot))) state
@@ -46,12 +47,12 @@ module _ (R : RattleType) (p : Ptr) (γ i : ℕ) where
 
 -- k units of the number i of the book γ, which aren't lent
 abbrev pub lot : ℕ → ℕ → ℕ → Gv → ℕ → Lot
-lot γ i a g k = record { book = γ; number = i; round = a; shown = g; units = k; lent = 0 }
+lot γ i a g k = record { book = γ; number = i; round = a; shown = g; units = k; lent = None }
 
 -- ---- a look
 -- the seat has units of the number i, which aren't lent but to the tenure t, and its place is full
 abbrev pub Sees : ℕ → ℕ → ℕ → List Lot → Type 0
-Sees γ i t hs = (n : ℕ) × (h : Lot) × (get_elem? hs n ≡ some h) × (h.book ≡ γ) × (h.number ≡ i) × IsFull h.shown × ((h.lent ≡ 0) ⊎ (h.lent ≡ suc t))
+Sees γ i t hs = (n : ℕ) × (h : Lot) × (get_elem? hs n ≡ some h) × (h.book ≡ γ) × (h.number ≡ i) × IsFull h.shown × (IsFreeFor t h.lent)
 
 -- what a look at the number i tells: the code g is what the units show that the seat has
 abbrev pub Shown : ℕ → ℕ → Gv → List Lot → Type 0
@@ -63,7 +64,7 @@ plain xs = with_lots xs (settled (lots xs))
 
 -- as before, but for what is lent to the tenure t
 abbrev pub LentOn : ℕ → List (ℕ × Stake) → List (ℕ × Stake) → Type 0
-LentOn t xs ys = (plain ys ≡ plain xs) × (AllTo t (lots xs) → AllTo t (lots ys))
+LentOn t xs ys = (plain ys ≡ plain xs) × (AllFreeFor t (lots xs) → AllFreeFor t (lots ys))
 
 -- ---- a move out or in
 -- all units but the place's own

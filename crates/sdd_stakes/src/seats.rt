@@ -1,6 +1,6 @@
 //! What was lent to a tenure is lent no more, once it has ended.
 ghost use Rattle.core.specs.Prelude.{◌≡◌};
-ghost use Rattle.sdd_stakes.specs.Stakes.{AllTo, settled};
+ghost use Rattle.sdd_stakes.specs.Stakes.{AllFreeFor, settled};
 ghost use Rattle.sdd_stakes.specs.Seats.{lots, with_lots};
 
 use crate::stake::Stake;
@@ -13,7 +13,7 @@ pub fn settle<V, K, P: TableRule<Stake, V, K>>(
     table: &Shared<Stake, V, K, P>,
     ended: &Ended,
 )
-    requires { (seat.old.table_id ≡ table.now.table_id) × AllTo ended.now.name (lots seat.old.me.1) }
+    requires { (seat.old.table_id ≡ table.now.table_id) × AllFreeFor ended.now.name (lots seat.old.me.1) }
     ensures { (seat.new.table_id ≡ seat.old.table_id) × (seat.new.id ≡ seat.old.id) × (seat.new.me ≡ (seat.old.me.0, with_lots seat.old.me.1 (settled (lots seat.old.me.1)))) }
 {
     let _ = table;

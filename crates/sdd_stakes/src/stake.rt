@@ -1,5 +1,5 @@
 //! Some units of a number, as a value without bytes.
-ghost use Rattle.std.specs.Prelude.{◌≡◌, ◌-◌, ◌<◌};
+ghost use Rattle.std.specs.Prelude.{◌≡◌, ◌-◌, ◌<◌, None};
 ghost use Rattle.sdd_stakes.specs.Stakes.{Lot, lot_coded, holding};
 
 use std::marker::{Model, PhantomData};
@@ -21,7 +21,7 @@ impl Stake {
     pub fn split(&mut self, units: u64) -> Stake
         requires some { 0 < units }
         requires fewer { units < self.old.lot.units }
-        requires free { self.old.lot.lent ≡ 0 }
+        requires free { self.old.lot.lent ≡ None }
         ensures rest { self.new.lot ≡ record self.old.lot { units = self.old.lot.units - units } }
         ensures part { result.lot ≡ record self.old.lot { units = units } }
     {

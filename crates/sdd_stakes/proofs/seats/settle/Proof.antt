@@ -10,7 +10,7 @@ use Rattle.atomic_table.specs.Seated.{TableId, seen, carried, age, place, names,
 use Rattle.atomic_table.proofs.Fields.{HandData}
 use base.Share.{three_quarters}
 use Rattle.sdd_places.specs.Tenure.{ended_shares}
-use Rattle.sdd_stakes.specs.Stakes.{Lot, AllTo, settled}
+use Rattle.sdd_stakes.specs.Stakes.{Lot, AllFreeFor, settled}
 use Rattle.sdd_stakes.specs.Seats.{lots, with_lots}
 use Rattle.sdd_stakes.proofs.Ghost.{with_end}
 use Rattle.sdd_stakes.proofs.Carried.{with_all, same_length}
@@ -38,7 +38,7 @@ settle_spec 𝓤 𝓛 𝓜 𝓡 wired V K P _ _ _ g d _ =
     let w : Ptr = t.words in let p : Ptr = t.slots in let z : TableId = t.table_id in let α : Lft = age z in let cv : Coded V.Denot = W.coded in
     let xs = h.me.1 in let ls : List Lot = settled (lots xs) in let ys = with_lots xs ls in let half : Fml = seen cv.code h.table_id.views_name h.id three_quarters h.me.0 in
     let others : Fml = fsep (flft κ″ qs.1.1.0) (fsep (flft κs.1.1.1.0 qs.1.1.1.0) (fsep (flft κs.1.1.1.1.0 qs.1.1.1.1.0) (fsep (flft κs.1.1.1.1.1.0 qs.1.1.1.1.1.0) ftrue))) in
-    let h' : Sr.Denot = record h { me = (h.me.0, ys) } in let Asked : Type 0 = (h.table_id ≡ z) × AllTo e.name (lots xs) in
+    let h' : Sr.Denot = record h { me = (h.me.0, ys) } in let Asked : Type 0 = (h.table_id ≡ z) × AllFreeFor e.name (lots xs) in
     let Told : Type 0 = (h'.table_id ≡ h.table_id) × (h'.id ≡ h.id) × (h'.me ≡ (h.me.0, ys)) in let Dead : Fml = fdead (e.name ∷ []) in
     let bag : TableId → List (ℕ × R.Denot) → Fml = λ u us. carried (age u) R (place u) (names u) u.slots us in
     let y : (walk_of 𝓛 En hs c).Ghost = ((κs, qs, bounds, a, (vptr b o ∷ [], (vptr b' o' ∷ [], (vptr b″ o″ ∷ [], tt)))), gh) in let Post : Val → SProp 𝓤 = (walk_of 𝓛 En hs c).post y in
