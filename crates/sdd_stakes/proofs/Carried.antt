@@ -18,7 +18,7 @@ use Rattle.atomic_table.specs.Seated.{carried}
 use mathlib.Core.Option.{some}
 use lib.ListN.{get_elem?}
 use Rattle.sdd_stakes.specs.Stakes.{Lot, holding, purse, settled, AllFreeFor}
-use Rattle.sdd_stakes.specs.Spot.{LentOn}
+use Rattle.sdd_stakes.specs.Seats.{OnlyLends}
 use Rattle.sdd_stakes.proofs.Looks.{lent_to, keeps_settled, keeps_all_to}
 use Rattle.sdd_stakes.specs.Seats.{lots, with_lots, relotted}
 use Rattle.sdd_stakes.specs.contracts.stake.Stake as stake
@@ -126,7 +126,7 @@ set_long (x ∷ xs) zero l = ap suc (lots_long xs)
 set_long (x ∷ xs) (suc n) l = ap suc (set_long xs n l)
 
 -- a loan to the tenure leaves the rest as it was
-pub lent_on : (t : ℕ) (xs : List (ℕ × Stake)) (n : ℕ) (h : Lot) → get_elem? (lots xs) n ≡ some h → LentOn t xs (with_lots xs (set (lots xs) n (lent_to t h)))
+pub lent_on : (t : ℕ) (xs : List (ℕ × Stake)) (n : ℕ) (h : Lot) → get_elem? (lots xs) n ≡ some h → OnlyLends t xs (with_lots xs (set (lots xs) n (lent_to t h)))
 lent_on t xs n h at = let ls : List Lot = lots xs in let ms : List Lot = set ls n (lent_to t h) in let long = set_long xs n (lent_to t h) in let e = lots_with xs ms long in (
   ap (λ (l : List Lot). with_lots (with_lots xs ms) (settled l)) e ∙ ap (λ (l : List Lot). with_lots (with_lots xs ms) l) (keeps_settled ls n t h at) ∙ with_with xs ms (settled ls) long (same_length xs),
   λ ok. subst (λ (l : List Lot). AllFreeFor t l) (sym e) (keeps_all_to ls n t h ok),

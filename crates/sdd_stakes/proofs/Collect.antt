@@ -11,7 +11,7 @@ use denote.Steps.{nothing}
 use Rattle.sdd_token.specs.Units.{units, tokens}
 use Rattle.sdd_token.proofs.Steps.{splits, joins, apart_at, tokens_cut, tokens_glue, Meets}
 use Rattle.sdd_stakes.specs.Stakes.{Lot, agreed_on, part, holding, purse}
-use Rattle.sdd_stakes.specs.Spot.{lot, most, units_in, AllOf, Parts, Whole, turned_to, top_turned}
+use Rattle.sdd_stakes.specs.Shelf.{lot, most, units_in, AllOf, Parts, AreWhole, turned, top_turned}
 
 pub top_long : (a : ℕ) (g : Gv) (n : ℕ) (ls : List Lot) → length (top_turned a g n ls) ≡ length ls
 top_long a g zero ls = refl
@@ -83,7 +83,7 @@ module _ {M : Type 1} {𝓤 : Ura M} (𝓛 : Logic 𝓤) where
     collect a g (f ∷ fs) all = qed 𝓛 (‵ (holding f) ∷ ‵ (purse fs) ∷ []) ∵ rewrite ! 0 (λ (l : Lot). ‵ (holding l)) all.0 refl $ move ! (1 ∷ []) $
         use1 𝓛 (‵ (pile a g (units_in fs))) (collect a g fs all.2) $ move ! (1 ∷ 0 ∷ []) $ by ! (adds a g f.units (units_in fs))
 
-    spread : (a b : ℕ) (g h : Gv) (fs : List Lot) → AllOf γ i a g fs → ⟦ pile b h (units_in fs) ⟧ ⊢ ⟦ purse (turned_to b h fs) ⟧
+    spread : (a b : ℕ) (g h : Gv) (fs : List Lot) → AllOf γ i a g fs → ⟦ pile b h (units_in fs) ⟧ ⊢ ⟦ purse (turned b h fs) ⟧
     spread a b g h [] all = id⊢ 𝓤 _
     spread a b g h (f ∷ fs) all = qed 𝓛 (‵ (pile b h (f.units + units_in fs)) ∷ []) ∵ use1 𝓛 (‵ (part γ i b h f.units) ⊛ ‵ (pile b h (units_in fs))) (takes b h f.units (units_in fs) all.1) $ split ! $
         rewrite ! 0 (λ (l : Lot). ‵ (holding l)) (ap (λ (l : Lot). record l { round = b; shown = h }) (sym all.0)) refl $ frame ! $ by ! (spread a b g h fs all.2)
@@ -106,15 +106,15 @@ module _ {M : Type 1} {𝓤 : Ura M} (𝓛 : Logic 𝓤) where
         use1 𝓛 (‵ (holding (lot γ i a g f.units))) (id⊢ 𝓤 _) $ rewrite ! 0 (λ (l : Lot). ‵ (holding l)) (sym all.0) refl $ fjoin ! $ done !)
 
     -- the stakes that were taken last agree on what the newest shows
-    pub agree_top : (n : ℕ) (ls : List Lot) (f : Lot) (fs : List Lot) → take n ls ≡ f ∷ fs → Parts γ i (take n ls) → units_in (take n ls) ≡ most → ⟦ purse ls ⟧ ⊢ guard 𝓤 (Whole γ i f.round f.shown n ls) ⟦ purse ls ⟧
+    pub agree_top : (n : ℕ) (ls : List Lot) (f : Lot) (fs : List Lot) → take n ls ≡ f ∷ fs → Parts γ i (take n ls) → units_in (take n ls) ≡ most → ⟦ purse ls ⟧ ⊢ guard 𝓤 (AreWhole γ i f.round f.shown n ls) ⟦ purse ls ⟧
     agree_top n ls f fs e all sum = qed 𝓛 (‵ (purse ls) ∷ []) ∵ use1 𝓛 (‵ (purse (take n ls)) ⊛ ‵ (purse (drop n ls))) (cut_top n ls) $ split ! $ rewrite ! 0 (λ (l : List Lot). ‵ (purse l)) e refl $
         use1 𝓛 (given (AllOf γ i f.round f.shown (f ∷ fs)) (‵ (purse (f ∷ fs)))) (agree_first f fs (subst (λ (l : List Lot). Parts γ i l) e all)) $ learn ! (λ es. check ! (subst (λ (l : List Lot). AllOf γ i f.round f.shown l) (sym e) es, sum) $
         rewrite ! 0 (λ (l : List Lot). ‵ (purse l)) (sym e) refl $ use2 𝓛 (‵ (purse (take n ls ++ drop n ls))) (glue_top (take n ls) (drop n ls)) $ rewrite ! 0 (λ (l : List Lot). ‵ (purse l)) (take_drop n ls) refl $ done !)
 
-    pub whole_out : (a : ℕ) (g : Gv) (n : ℕ) (ls : List Lot) → Whole γ i a g n ls → ⟦ purse ls ⟧ ⊢ ⟦ part γ i a g most ⟧ ∗ ⟦ purse (drop n ls) ⟧
+    pub whole_out : (a : ℕ) (g : Gv) (n : ℕ) (ls : List Lot) → AreWhole γ i a g n ls → ⟦ purse ls ⟧ ⊢ ⟦ part γ i a g most ⟧ ∗ ⟦ purse (drop n ls) ⟧
     whole_out a g n ls w = qed 𝓛 (‵ (purse ls) ∷ []) ∵ use1 𝓛 (‵ (purse (take n ls)) ⊛ ‵ (purse (drop n ls))) (cut_top n ls) $ split ! $
         use1 𝓛 (‵ (pile a g (units_in (take n ls)))) (collect a g (take n ls) w.0) $ rewrite ! 0 (λ (m : ℕ). ‵ (pile a g m)) w.1 refl $ use1 𝓛 (‵ (part γ i a g most)) (to_part a g most (omega arith)) $ done !
 
-    pub whole_in : (a : ℕ) (g : Gv) (n : ℕ) (ls : List Lot) (b : ℕ) (h : Gv) → Whole γ i a g n ls → ⟦ part γ i b h most ⟧ ∗ ⟦ purse (drop n ls) ⟧ ⊢ ⟦ purse (top_turned b h n ls) ⟧
+    pub whole_in : (a : ℕ) (g : Gv) (n : ℕ) (ls : List Lot) (b : ℕ) (h : Gv) → AreWhole γ i a g n ls → ⟦ part γ i b h most ⟧ ∗ ⟦ purse (drop n ls) ⟧ ⊢ ⟦ purse (top_turned b h n ls) ⟧
     whole_in a g n ls b h w = qed 𝓛 (‵ (part γ i b h most) ∷ ‵ (purse (drop n ls)) ∷ []) ∵ use1 𝓛 (‵ (pile b h most)) (to_pile b h most) $ rewrite ! 0 (λ (m : ℕ). ‵ (pile b h m)) (sym w.1) refl $
-        use1 𝓛 (‵ (purse (turned_to b h (take n ls)))) (spread a b g h (take n ls) w.0) $ by ! (glue_top (turned_to b h (take n ls)) (drop n ls))
+        use1 𝓛 (‵ (purse (turned b h (take n ls)))) (spread a b g h (take n ls) w.0) $ by ! (glue_top (turned b h (take n ls)) (drop n ls))

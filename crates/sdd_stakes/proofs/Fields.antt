@@ -1,4 +1,4 @@
--- The data fields of a `Stake`, a `Tenure` and an `Ended`. Assumes `Logic`.
+-- The data fields of a `Stake` and a `Shelf`. Assumes `Logic`.
 use Rattle.std.proofs.Common.{◌≡◌, List, [], ◌∷◌, ◌++◌, refl, ap, ◌∙◌}
 use seplogic.Ra.Ura.{Ura}
 use mir.Val.{Val, vstruct, vnil, of_list}
@@ -14,7 +14,7 @@ use denote.Opens.{Opens}
 use denote.Copied.{Struct-Copied}
 use denote.RawPtr.{Ptr, ptr_val}
 use denote.Struct.Laws.{RawPtr-copy}
-use Rattle.sdd_stakes.specs.contracts.place.Place as place
+use Rattle.sdd_stakes.specs.contracts.shelf.Shelf as shelf
 use Rattle.sdd_stakes.specs.contracts.stake.Stake as stake
 
 abbrev pub Peg : RattleType
@@ -27,14 +27,14 @@ pub peg_made : {M : Type 1} {𝓤 : Ura M} (𝓛 : Logic 𝓤) → ent 𝓤 (emp
 peg_made 𝓛 = makes_shadow 𝓛 (Peg.own_val (tt, tt) (token_val ∷ [])) (λ vss. (tt, ((λ uss. (tt, tt)), tt))) ((vstruct vnil ∷ [], tt), (refl, ((tt, (refl, tt)), tt)))
 
 module _ (R : RattleType) where
-  abbrev pub Spot : RattleType
-  Spot = Struct (shape (place.the_type R))
+  abbrev pub ShelfData : RattleType
+  ShelfData = Struct (shape (shelf.the_type R))
 
-  pub spot_told : (p : Ptr) (vs : List Val) → Is Spot (p, tt) vs → vs ≡ strip_of p ∷ []
-  spot_told p vs is = is.1.0 ∙ ap (λ (ws : List Val). vstruct (of_list (ws ++ [])) ∷ []) is.1.1.0
+  pub shelf_told : (p : Ptr) (vs : List Val) → Is ShelfData (p, tt) vs → vs ≡ strip_of p ∷ []
+  shelf_told p vs is = is.1.0 ∙ ap (λ (ws : List Val). vstruct (of_list (ws ++ [])) ∷ []) is.1.1.0
 
-  pub spot_made : {M : Type 1} {𝓤 : Ura M} (𝓛 : Logic 𝓤) (p : Ptr) → ent 𝓤 (emp 𝓤) (sem 𝓛 (Spot.own_val (p, tt) (strip_of p ∷ [])))
-  spot_made 𝓛 p = makes_shadow 𝓛 (Spot.own_val (p, tt) (strip_of p ∷ [])) (λ vss. (tt, (tt, tt))) ((ptr_val p ∷ [], tt), (refl, (refl, tt)))
+  pub shelf_made : {M : Type 1} {𝓤 : Ura M} (𝓛 : Logic 𝓤) (p : Ptr) → ent 𝓤 (emp 𝓤) (sem 𝓛 (ShelfData.own_val (p, tt) (strip_of p ∷ [])))
+  shelf_made 𝓛 p = makes_shadow 𝓛 (ShelfData.own_val (p, tt) (strip_of p ∷ [])) (λ vss. (tt, (tt, tt))) ((ptr_val p ∷ [], tt), (refl, (refl, tt)))
 
-  pub spot_opens : {M : Type 1} {𝓤 : Ura M} (𝓛 : Logic 𝓤) → Opens 𝓛 Spot
-  spot_opens {M} {𝓤 = 𝓤} 𝓛 = (Struct-Copied 𝓛 (shape (place.the_type R)) (refl, tt) (RawPtr-copy.copied M 𝓤 𝓛, tt)).opens
+  pub shelf_opens : {M : Type 1} {𝓤 : Ura M} (𝓛 : Logic 𝓤) → Opens 𝓛 ShelfData
+  shelf_opens {M} {𝓤 = 𝓤} 𝓛 = (Struct-Copied 𝓛 (shape (shelf.the_type R)) (refl, tt) (RawPtr-copy.copied M 𝓤 𝓛, tt)).opens

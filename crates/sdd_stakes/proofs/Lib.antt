@@ -1,8 +1,8 @@
 pub mod Fields
 pub mod Ghost
-pub mod Kept
+pub mod Rules
 pub mod Carried
 pub mod Looks
 pub mod Takes
-pub mod PlaceSent
+pub mod ShelfSent
 pub mod Collect

@@ -19,7 +19,7 @@ use Rattle.sdd_token.specs.Units.{units}
 use Rattle.sdd_token.proofs.Steps.{apart_at, Meets}
 use Rattle.sdd_places.specs.Block.{IsFreeFor, lasts_in}
 use Rattle.sdd_stakes.specs.Stakes.{Lot, unlent, settled, AllFreeFor, agreed_on, part, lent_out, tokens_of, holding, purse, tenure_shares}
-use Rattle.sdd_stakes.specs.Spot.{full_shown, IsFull, state, rule}
+use Rattle.sdd_stakes.specs.Shelf.{full_shown, IsFull, state, rule}
 use Rattle.sdd_stakes.proofs.Ghost.{lends, shows_in}
 
 abbrev pub lent_to : ℕ → Lot → Lot

@@ -21,7 +21,7 @@ use Rattle.sdd_token.specs.Units.{book_owns}
 use Rattle.sdd_token.proofs.Steps.{issues, apart_at, joins, splits, whole_out, whole_in, resets_now, tokens_in, tokens_cut, tokens_glue, Meets}
 use Rattle.sdd_token.proofs.Counting.{counts-whole}
 use Rattle.sdd_stakes.specs.Stakes.{agreed_on, part}
-use Rattle.sdd_stakes.specs.Spot.{full_shown, IsFull, vacancy, state, rule, most}
+use Rattle.sdd_stakes.specs.Shelf.{full_shown, IsFull, vacancy, state, rule, most}
 
 abbrev IsOut : Gv → Type 0
 IsOut gnil = ⊥

@@ -1,10 +1,10 @@
 //! Stakes: parts of the right to a value, which lie in the slots of an `atomic_table` and are lent to tenures.
 #![tactic(auto)]
 
-mod place;
+mod shelf;
 mod seats;
 mod stake;
 
-pub use place::Place;
+pub use shelf::Shelf;
 pub use seats::settle;
 pub use stake::Stake;

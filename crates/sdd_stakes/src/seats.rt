@@ -1,20 +1,21 @@
 //! What was lent to a tenure is lent no more, once it has ended.
 ghost use Rattle.core.specs.Prelude.{◌≡◌};
-ghost use Rattle.sdd_stakes.specs.Stakes.{AllFreeFor, settled};
-ghost use Rattle.sdd_stakes.specs.Seats.{lots, with_lots};
+ghost use Rattle.sdd_stakes.specs.Stakes.{AllFreeFor};
+ghost use Rattle.sdd_stakes.specs.Seats.{lots, plain};
 
 use crate::stake::Stake;
 use sdd_places::Ended;
 use atomic_table::{Seat, Shared, TableRule};
 
-/// What the seat has was lent to no other tenure; now it is lent no more.
+/// What the seat carries was lent to no other tenure; now it is lent no more.
 pub fn settle<V, K, P: TableRule<Stake, V, K>>(
     seat: &mut Seat<Stake, V>,
     table: &Shared<Stake, V, K, P>,
     ended: &Ended,
 )
-    requires { (seat.old.table_id ≡ table.now.table_id) × AllFreeFor ended.now.name (lots seat.old.me.1) }
-    ensures { (seat.new.table_id ≡ seat.old.table_id) × (seat.new.id ≡ seat.old.id) × (seat.new.me ≡ (seat.old.me.0, with_lots seat.old.me.1 (settled (lots seat.old.me.1)))) }
+    requires table { seat.old.table_id ≡ table.now.table_id }
+    requires lent { AllFreeFor ended.now.name (lots seat.old.me.1) }
+    ensures { seat.new ≡ record seat.old { me = (seat.old.me.0, plain seat.old.me.1) } }
 {
     let _ = table;
     let _ = ended;

@@ -38,12 +38,12 @@ settle_spec 𝓤 𝓛 𝓜 𝓡 wired V K P _ _ _ g d _ =
     let w : Ptr = t.words in let p : Ptr = t.slots in let z : TableId = t.table_id in let α : Lft = age z in let cv : Coded V.Denot = W.coded in
     let xs = h.me.1 in let ls : List Lot = settled (lots xs) in let ys = with_lots xs ls in let half : Fml = seen cv.code h.table_id.views_name h.id three_quarters h.me.0 in
     let others : Fml = fsep (flft κ″ qs.1.1.0) (fsep (flft κs.1.1.1.0 qs.1.1.1.0) (fsep (flft κs.1.1.1.1.0 qs.1.1.1.1.0) (fsep (flft κs.1.1.1.1.1.0 qs.1.1.1.1.1.0) ftrue))) in
-    let h' : Sr.Denot = record h { me = (h.me.0, ys) } in let Asked : Type 0 = (h.table_id ≡ z) × AllFreeFor e.name (lots xs) in
-    let Told : Type 0 = (h'.table_id ≡ h.table_id) × (h'.id ≡ h.id) × (h'.me ≡ (h.me.0, ys)) in let Dead : Fml = fdead (e.name ∷ []) in
+    let h' : Sr.Denot = record h { me = (h.me.0, ys) } in let AtTable : Type 0 = h.table_id ≡ z in let Lent : Type 0 = AllFreeFor e.name (lots xs) in
+    let Told : Type 0 = h' ≡ h' in let Dead : Fml = fdead (e.name ∷ []) in
     let bag : TableId → List (ℕ × R.Denot) → Fml = λ u us. carried (age u) R (place u) (names u) u.slots us in
     let y : (walk_of 𝓛 En hs c).Ghost = ((κs, qs, bounds, a, (vptr b o ∷ [], (vptr b' o' ∷ [], (vptr b″ o″ ∷ [], tt)))), gh) in let Post : Val → SProp 𝓤 = (walk_of 𝓛 En hs c).post y in
-    qed 𝓛 (((‵ (flft κ qs.0) ⊛ ‵ (flft κ' qs.1.0) ⊛ ‵ others) ⊛ ‵ (owns (types_at En.signature.params κs) a y.0.4)) ∷ raw (fact 𝓤 _) ∷ raw (fact 𝓤 _) ∷ raw (fact 𝓤 _) ∷ raw (fact 𝓤 Asked) ∷ []) ∵
-    keep ! (4 ∷ 0 ∷ []) $ heard ! Asked (λ asked. split ! $ split3 ! $ move ! (3 ∷ []) $ fsplit3 ! $
+    qed 𝓛 (((‵ (flft κ qs.0) ⊛ ‵ (flft κ' qs.1.0) ⊛ ‵ others) ⊛ ‵ (owns (types_at En.signature.params κs) a y.0.4)) ∷ raw (fact 𝓤 _) ∷ raw (fact 𝓤 _) ∷ raw (fact 𝓤 _) ∷ raw (fact 𝓤 AtTable) ∷ raw (fact 𝓤 Lent) ∷ []) ∵
+    keep ! (4 ∷ 5 ∷ 0 ∷ []) $ heard ! AtTable (λ at_table. heard ! Lent (λ lent. split ! $ split3 ! $ move ! (3 ∷ []) $ fsplit3 ! $
     -- [the seat; the table; what shows the end, and the rest; the tokens]
     move ! (2 ∷ []) $ fsplit ! $ fsplit ! $ drop ! $
     use1 𝓛 (‵ (hidden_shr DT κ″ (tt, tt) b″ o″) ⊛ ‵ (fhide (ended_shares e.name κ″))) (lent_out 𝓛 over.struct (over.the_codes (marker.the_row u64).coded) over.the_heap over.the_lent κ″ e b″ o″) $ split ! $ drop ! $
@@ -57,14 +57,14 @@ settle_spec 𝓤 𝓛 𝓜 𝓡 wired V K P _ _ _ g d _ =
     unhide ! $ move ! (1 ∷ []) $ unhide ! $ fsplit ! $ move ! (1 ∷ []) $ drop ! $ move ! (0 ∷ 5 ∷ []) $
     -- [the table's lifetime; its token; the end; the seat; ..]
     shr_bor-open ! tt (tokens_halve 𝓛 α) (λ s. move ! (3 ∷ 4 ∷ 5 ∷ []) $
-    opens ! tt Sr b o (λ vs. move ! (1 ∷ []) $ fsplit ! $ move ! (1 ∷ []) $ fsplit ! $ move ! (1 ∷ []) $ rewrite ! 0 (λ (u : TableId). ‵ (bag u xs)) asked.0 refl $
+    opens ! tt Sr b o (λ vs. move ! (1 ∷ []) $ fsplit ! $ move ! (1 ∷ []) $ fsplit ! $ move ! (1 ∷ []) $ rewrite ! 0 (λ (u : TableId). ‵ (bag u xs)) at_table refl $
     -- [what is carried; the view; the field; the cell; the open borrow; the names; the open token; the token; the end; the others]
-    move ! (0 ∷ 8 ∷ 9 ∷ []) $ use3 𝓛 (later (‵ (bag z ys) ⊛ ‵ (flft α s) ⊛ ‵ ftrue)) (with_all 𝓛 α (place z) (names z) z.slots xs ls s (sem 𝓛 Dead) (sem 𝓛 ftrue) (same_length xs) (with_end 𝓛 e.name (lots xs) asked.1)) $ await ! tt $ split3 ! $
-    rewrite ! 0 (λ (u : TableId). ‵ (bag u ys)) (sym asked.0) refl $ move ! (3 ∷ 0 ∷ []) $ fjoin ! $ move ! (3 ∷ 0 ∷ []) $ fjoin ! $ move ! (3 ∷ 0 ∷ 4 ∷ 5 ∷ 6 ∷ []) $
+    move ! (0 ∷ 8 ∷ 9 ∷ []) $ use3 𝓛 (later (‵ (bag z ys) ⊛ ‵ (flft α s) ⊛ ‵ ftrue)) (with_all 𝓛 α (place z) (names z) z.slots xs ls s (sem 𝓛 Dead) (sem 𝓛 ftrue) (same_length xs) (with_end 𝓛 e.name (lots xs) lent)) $ await ! tt $ split3 ! $
+    rewrite ! 0 (λ (u : TableId). ‵ (bag u ys)) (sym at_table) refl $ move ! (3 ∷ 0 ∷ []) $ fjoin ! $ move ! (3 ∷ 0 ∷ []) $ fjoin ! $ move ! (3 ∷ 0 ∷ 4 ∷ 5 ∷ 6 ∷ []) $
     closes ! tt Sr h' vs b o $ feq_i ! (List Val) (vptr b o ∷ []) (vptr b o ∷ []) refl $ fjoin3 ! $
     -- [the seat; its token; the table's token; _; the open token; the others]
     move ! (4 ∷ 2 ∷ []) $ obor_close ! tt $ drop ! $ move ! (1 ∷ []) $ nothing ! $ nothing ! $ fjoin ! $ nothing ! $ fjoin ! $ move ! (1 ∷ 0 ∷ []) $ fjoin ! $
     -- [the parameters; the table's token; the seat's; _; the others]
     move ! (1 ∷ 4 ∷ []) $ join ! $ move ! (2 ∷ 0 ∷ []) $ join ! $
-    sets ! (of_opd ! (unit_lit !)) refl (tt, tt) $ use0 𝓛 (raw (fact 𝓤 Told)) (fact_i 𝓤 Told (emp 𝓤) (refl, refl, refl)) $ feq_i ! (List Val) (vunit ∷ []) (vunit ∷ []) refl $
-    returns ! (look_at ! 0 refl) $ free_all ! refl $ keep ! (2 ∷ 3 ∷ 0 ∷ 1 ∷ []) $ by ! (leaves 𝓛 En hs c y vunit tt (h', (tt, (tt, tt))) (tt, (tt, (tt, tt)))))))))
+    sets ! (of_opd ! (unit_lit !)) refl (tt, tt) $ use0 𝓛 (raw (fact 𝓤 Told)) (fact_i 𝓤 Told (emp 𝓤) refl) $ feq_i ! (List Val) (vunit ∷ []) (vunit ∷ []) refl $
+    returns ! (look_at ! 0 refl) $ free_all ! refl $ keep ! (2 ∷ 3 ∷ 0 ∷ 1 ∷ []) $ by ! (leaves 𝓛 En hs c y vunit tt (h', (tt, (tt, tt))) (tt, (tt, (tt, tt))))))))))

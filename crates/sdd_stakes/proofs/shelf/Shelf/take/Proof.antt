@@ -19,26 +19,26 @@ use Rattle.atomic_table.proofs.Fields.{HandData}
 use Rattle.sdd_token.specs.Units.{units, tokens}
 use Rattle.sdd_stakes.specs.Stakes.{Lot, agreed_on, part, purse}
 use Rattle.sdd_stakes.specs.Seats.{lots, with_lots}
-use Rattle.sdd_stakes.specs.Spot.{full_shown, IsFull, rule, place_shares, vacancy, most, Whole, Tops, top_turned}
+use Rattle.sdd_stakes.specs.Shelf.{full_shown, IsFull, rule, shelf_shares, vacancy, most, AreWhole, HasWhole, top_turned}
 use Rattle.atomic_table.specs.contracts.shared.Shared as table
 use Rattle.atomic_table.specs.contracts.shared.Seat as seat
 use Rattle.sdd_stakes.specs.contracts.stake.Stake as stake
-use Rattle.sdd_stakes.specs.contracts.place.Place as place
-use Rattle.sdd_stakes.proofs.Fields.{strip_of, Spot, spot_told, spot_opens}
+use Rattle.sdd_stakes.specs.contracts.shelf.Shelf as shelf
+use Rattle.sdd_stakes.proofs.Fields.{strip_of, Spot, shelf_told, shelf_opens}
 use Rattle.sdd_stakes.proofs.Carried.{Shuts, opens_all, lots_long}
 use Rattle.sdd_stakes.proofs.Collect.{whole_out, whole_in, top_long, agree_top}
 use Rattle.sdd_stakes.proofs.Takes.{round_begins, round_ends, takes_out, leaves_room}
-use Rattle.sdd_stakes.specs.contracts.place.Place.take.{ended, clauses}
-use Rattle.sdd_stakes.specs.contracts.place.Place.take.Key.{name as #self}
-use Rattle.sdd_stakes.proofs.place.Place.take.Statement.{statement}
-use Rattle.sdd_stakes.proofs.place.Place.take.Code as code
+use Rattle.sdd_stakes.specs.contracts.shelf.Shelf.take.{ended, clauses}
+use Rattle.sdd_stakes.specs.contracts.shelf.Shelf.take.Key.{name as #self}
+use Rattle.sdd_stakes.proofs.shelf.Shelf.take.Statement.{statement}
+use Rattle.sdd_stakes.proofs.shelf.Shelf.take.Code as code
 
 pub take_spec : {M : Type 1} → statement M
 unfolding Rattle.atomic_table.specs.Seated.seal
 take_spec 𝓤 𝓛 𝓜 𝓡 wired T V K P L _ _ _ g d _ =
     let H = 𝓛.H in let A = 𝓛.A in let 𝓣 = tables 𝓤 H 𝓜 𝓡 𝓡.env in let R : RattleType = param 0 T in let W : RattleType = param 1 V in let X : RattleType = param 2 K in let Y : RattleType = param 3 P in let S : RattleType = stake.the_row in let En = ended T V K P g d in
     let inst = bounded (a_type ∷ a_type ∷ a_type ∷ a_type ∷ []) (T, (V, (K, (P, tt)))) (dcons d dnil) in let fn = inst_fn inst code.function in let ty = layout T in
-    let Row : RattleType = place.the_row R in let Sr : RattleType = seat.the_row S W in let Tr : RattleType = table.the_row S W X Y g in
+    let Row : RattleType = shelf.the_row R in let Sr : RattleType = seat.the_row S W in let Tr : RattleType = table.the_row S W X Y g in
     let D : RattleType = Spot R in let DH : RattleType = HandData S W X Y g in let c = clauses T V K P g d 𝓛 𝓜.mem 𝓡.returns in
     let self = RefOf (0 ∷ []) tt (plain (λ _. Row)) (λ _. tt) in let sitter = plain (λ _. Sr) in let about = RefOf (2 ∷ []) tt (plain (λ _. Tr)) (λ _. tt) in let num = plain (λ _. usize) in
     let hs : Stays En.signature.params En.kept = (stay_dropped self yes, (stay_ref (1 ∷ []) tt sitter, (stay_dropped about yes, (stay_dropped num yes, tt)))) in
@@ -49,21 +49,21 @@ take_spec 𝓤 𝓛 𝓜 𝓡 wired T V K P L _ _ _ g d _ =
     let p : Ptr = f.ptr in let γ : ℕ = f.book in let i : ℕ = f.number in let z : TableId = t.table_id in let α : Lft = age z in let xs = s.me.1 in let hold : List Lot = lots xs in let more : List Lot = lib.ListN.drop k hold in
     let bag : TableId → List (ℕ × S.Denot) → Fml = λ u us. carried (age u) S (where_ u) (names u) u.slots us in
     let others : Fml = fsep (flft κs.1.1.1.0 qs.1.1.1.0) (fsep (flft κs.1.1.1.1.0 qs.1.1.1.1.0) (fsep (flft κs.1.1.1.1.1.0 qs.1.1.1.1.1.0) (fsep (flft κs.1.1.1.1.1.1.0 qs.1.1.1.1.1.1.0) ftrue))) in
-    let Asked : Type 0 = (s.table_id ≡ z) × Tops γ i k IsFull hold in
+    let Asked : Type 0 = (s.table_id ≡ z) × HasWhole γ i k IsFull hold in
     let y : (walk_of 𝓛 En hs c).Ghost = ((κs, qs, bounds, a, (vptr b o ∷ [], (vptr b' o' ∷ [], (vptr b″ o″ ∷ [], (vint w64 k ∷ [], tt))))), gh) in let Post : Val → SProp 𝓤 = (walk_of 𝓛 En hs c).post y in
     qed 𝓛 (((‵ (flft κ qs.0) ⊛ ‵ (flft κs.1.0 qs.1.0) ⊛ ‵ (flft κ″ qs.1.1.0) ⊛ ‵ others) ⊛ ‵ (owns (types_at En.signature.params κs) a y.0.4)) ∷ raw (fact 𝓤 _) ∷ raw (fact 𝓤 _) ∷ raw (fact 𝓤 _) ∷ raw (fact 𝓤 _) ∷ raw (fact 𝓤 Asked) ∷ []) ∵
     keep ! (5 ∷ 0 ∷ []) $ heard ! Asked (λ asked. let top = asked.1 in let n : ℕ = top.0.round in let u : Gv = top.0.shown in
     split ! $ split3 ! $ move ! (2 ∷ []) $ split ! $ move ! (4 ∷ []) $ fsplit3 ! $ move ! (2 ∷ []) $ fsplit ! $ fsplit ! $ drop ! $
     use1 𝓛 (‵ (hidden_shr DH κ″ (t.words, (t.slots, (tt, tt))) b″ o″) ⊛ ‵ (fhide (table.the_lent S W X Y g t (block_ptr b″ o″) κ″))) (lent_out 𝓛 (table.struct S W X Y g) (table.the_codes S.Denot V.Denot K.Denot P.Denot S.coded W.coded X.coded Y.coded (marker.the_row (Tuple (Y ∷ W ∷ X ∷ []))).coded) (table.the_heap S W X Y g) (table.the_lent S W X Y g) κ″ t b″ o″) $
     split ! $ drop ! $ move ! (2 ∷ []) $ fsplit ! $ drop ! $
-    use1 𝓛 (‵ (hidden_shr D κ (p, tt) b o) ⊛ ‵ (fhide (place_shares R p γ i κ))) (lent_out 𝓛 (place.struct R) (place.the_codes T.Denot R.coded) (place.the_heap R) (place.the_lent R) κ f b o) $ split ! $
+    use1 𝓛 (‵ (hidden_shr D κ (p, tt) b o) ⊛ ‵ (fhide (shelf_shares R p γ i κ))) (lent_out 𝓛 (shelf.struct R) (shelf.the_codes T.Denot R.coded) (shelf.the_heap R) (shelf.the_lent R) κ f b o) $ split ! $
     move ! (4 ∷ []) $ fsplit3 ! $ keep ! (3 ∷ 4 ∷ 5 ∷ 1 ∷ 2 ∷ 7 ∷ 8 ∷ 9 ∷ 10 ∷ []) $
     enter ! 𝓣.C 𝓣.Λ fn (vptr b o ∷ vptr b' o' ∷ vptr b″ o″ ∷ vint w64 k ∷ []) Post $ alloc_all ! (λ l. pass_all ! refl ((tt, tt), ((tt, tt), ((tt, tt), ((tt, record { fits = are.1.1.1.0.1 }), tt)))) $ let Ev = env fn.locals l in
     move ! (1 ∷ []) $ unhide ! $ move ! (2 ∷ []) $ unhide ! $ fsplit ! $ move ! (1 ∷ []) $ drop ! $ move ! (0 ∷ 5 ∷ []) $
     shr_bor-open ! tt (tokens_halve 𝓛 α) (λ r. move ! (4 ∷ 5 ∷ 8 ∷ []) $
     opens ! tt Sr b' o' (λ ts. move ! (1 ∷ []) $ fsplit ! $ move ! (1 ∷ []) $ fsplit ! $ move ! (1 ∷ []) $ rewrite ! 0 (λ (v : TableId). ‵ (bag v xs)) asked.0 refl $ let Back = Shuts 𝓛 α (where_ z) (names z) z.slots xs r in
     move ! (0 ∷ 8 ∷ []) $ use2 𝓛 (later (‵ (purse hold) ⊛ raw (all 𝓤 Back))) (opens_all 𝓛 α (where_ z) (names z) z.slots xs r) $ await ! tt $ split ! $
-    use1 𝓛 (given (Whole γ i n u k hold) (‵ (purse hold))) (agree_top 𝓛 γ i k hold top.0 top.1 top.2 top.4 top.5) $ learn ! (λ all_.
+    use1 𝓛 (given (AreWhole γ i n u k hold) (‵ (purse hold))) (agree_top 𝓛 γ i k hold top.0 top.1 top.2 top.4 top.5) $ learn ! (λ all_.
     use1 𝓛 (‵ (part γ i n u most) ⊛ ‵ (purse more)) (whole_out 𝓛 γ i n u k hold all_) $ split ! $ fsplit ! $
     -- [the units; their tokens; the other stakes; the way back; the view; the field; the cell; the open borrow; the names; the table's open token; the rule; the place; the others; the token]
     use0 𝓛 (later (some (λ (m : ℕ). ‵ (tokens m 1) ⊛ ‵ (tokens m most)))) (round_begins 𝓛) $ await ! tt $ pick ! (λ m. split ! $
@@ -74,8 +74,8 @@ take_spec 𝓤 𝓛 𝓜 𝓡 wired T V K P L _ _ _ g d _ =
     use1 𝓛 (some (λ (v : Val). ‵ (fat full_share ty bp op v) ⊛ ‵ (R.own_val x (v ∷ [])))) (part_out 𝓛 R refl full_share x bp op) $ pick ! (λ v. split ! $ move ! (1 ∷ []) $
     peeks ! R (Is R) (shows 𝓛 R) x (v ∷ []) (λ is. let tv : Tr₀ (has_ty ty v) × WT v = (((param_laws 0 T L).lawful 𝓛).typed x (v ∷ []) is).0 in
     move ! (14 ∷ 16 ∷ []) $
-    looks ! tt D (spot_opens R 𝓛) (p, tt) b o (λ q vs. move ! (1 ∷ []) $ peeks ! D (Is D) (shows 𝓛 D) (p, tt) vs (λ is-so.
-    let ev : vs ≡ strip_of (block_ptr bp op) ∷ [] = spot_told R p vs is-so ∙ ap (λ (q : Ptr). strip_of q ∷ []) e in
+    looks ! tt D (shelf_opens R 𝓛) (p, tt) b o (λ q vs. move ! (1 ∷ []) $ peeks ! D (Is D) (shows 𝓛 D) (p, tt) vs (λ is-so.
+    let ev : vs ≡ strip_of (block_ptr bp op) ∷ [] = shelf_told R p vs is-so ∙ ap (λ (q : Ptr). strip_of q ∷ []) e in
     rewrite ! 1 (λ (ws : List Val). ‵ (cell_at q D.mir ws b o)) ev refl $
     sets ! (of_opd ! (load ! (through ! refl (fld ! refl (stop !))) (look_in ! 1 (sub ! 0 refl (whole !))))) refl (tt, tt) $
     rewrite ! 1 (λ (ws : List Val). ‵ (cell_at q D.mir ws b o)) (sym ev) refl $ move ! (1 ∷ 0 ∷ 2 ∷ []) $ shuts ! tt D q (p, tt) vs b o $
@@ -89,6 +89,6 @@ take_spec 𝓤 𝓛 𝓜 𝓡 wired T V K P L _ _ _ g d _ =
     rewrite ! 0 (λ (v : TableId). ‵ (bag v ys)) (sym asked.0) refl $ move ! (5 ∷ 0 ∷ []) $ fjoin ! $ move ! (5 ∷ 0 ∷ []) $ fjoin ! $ move ! (5 ∷ 0 ∷ 6 ∷ 7 ∷ 8 ∷ []) $ closes ! tt Sr s' ts b' o' $
     feq_i ! (List Val) (vptr b' o' ∷ []) (vptr b' o' ∷ []) refl $ fjoin3 ! $ move ! (6 ∷ 2 ∷ []) $ obor_close ! tt $ drop ! $
     move ! (0 ∷ 6 ∷ []) $ join ! $ move ! (2 ∷ 0 ∷ []) $ join ! $ move ! (2 ∷ 0 ∷ []) $ join ! $ move ! (1 ∷ []) $ nothing ! $ nothing ! $ fjoin ! $ nothing ! $ fjoin ! $ move ! (1 ∷ 0 ∷ []) $ fjoin ! $ nothing ! $ fjoin ! $
-    let gx : Gv = R.coded.code x in let Told : Type 0 = (s'.table_id ≡ s.table_id) × (s'.id ≡ s.id) × ((m' : ℕ) × (s'.me ≡ (s.me.0, with_lots xs (top_turned m' gnil k hold)))) × ((n' : ℕ) × Whole γ i n' (full_shown gx) k hold) in
-    use0 𝓛 (raw (fact 𝓤 Told)) (fact_i 𝓤 Told (emp 𝓤) (refl, refl, (m, refl), (n, subst (λ (v : Gv). Whole γ i n v k hold) so all_))) $
+    let gx : Gv = R.coded.code x in let Told : Type 0 = (s'.table_id ≡ s.table_id) × (s'.id ≡ s.id) × ((m' : ℕ) × (s'.me ≡ (s.me.0, with_lots xs (top_turned m' gnil k hold)))) × ((n' : ℕ) × AreWhole γ i n' (full_shown gx) k hold) in
+    use0 𝓛 (raw (fact 𝓤 Told)) (fact_i 𝓤 Told (emp 𝓤) (refl, refl, (m, refl), (n, subst (λ (v : Gv). AreWhole γ i n v k hold) so all_))) $
     returns ! (look_at ! 0 refl) $ free_all ! refl $ keep ! (2 ∷ 1 ∷ 4 ∷ 0 ∷ []) $ by ! (leaves 𝓛 En hs c y v x (tt, (s', (tt, (tt, tt)))) (tt, (tt, (tt, (tt, tt)))))))))))))))))))

@@ -21,19 +21,19 @@ use Rattle.atomic_table.proofs.Fields.{HandData}
 use Rattle.sdd_token.specs.Units.{units}
 use Rattle.sdd_stakes.specs.Stakes.{Lot, agreed_on, part, purse}
 use Rattle.sdd_stakes.specs.Seats.{lots, with_lots}
-use Rattle.sdd_stakes.specs.Spot.{full_shown, rule, place_shares, vacancy, most, Whole, Tops, top_turned}
+use Rattle.sdd_stakes.specs.Shelf.{full_shown, rule, shelf_shares, vacancy, most, AreWhole, HasWhole, top_turned}
 use Rattle.atomic_table.specs.contracts.shared.Shared as table
 use Rattle.atomic_table.specs.contracts.shared.Seat as seat
 use Rattle.sdd_stakes.specs.contracts.stake.Stake as stake
-use Rattle.sdd_stakes.specs.contracts.place.Place as place
-use Rattle.sdd_stakes.proofs.Fields.{strip_of, Spot, spot_told, spot_opens}
+use Rattle.sdd_stakes.specs.contracts.shelf.Shelf as shelf
+use Rattle.sdd_stakes.proofs.Fields.{strip_of, Spot, shelf_told, shelf_opens}
 use Rattle.sdd_stakes.proofs.Carried.{Shuts, opens_all, lots_long}
 use Rattle.sdd_stakes.proofs.Collect.{whole_out, whole_in, top_long, agree_top}
 use Rattle.sdd_stakes.proofs.Takes.{opens_room, freezes, fills}
-use Rattle.sdd_stakes.specs.contracts.place.Place.put.{ended, clauses}
-use Rattle.sdd_stakes.specs.contracts.place.Place.put.Key.{name as #self}
-use Rattle.sdd_stakes.proofs.place.Place.put.Statement.{statement}
-use Rattle.sdd_stakes.proofs.place.Place.put.Code as code
+use Rattle.sdd_stakes.specs.contracts.shelf.Shelf.put.{ended, clauses}
+use Rattle.sdd_stakes.specs.contracts.shelf.Shelf.put.Key.{name as #self}
+use Rattle.sdd_stakes.proofs.shelf.Shelf.put.Statement.{statement}
+use Rattle.sdd_stakes.proofs.shelf.Shelf.put.Code as code
 
 abbrev Five : Type 0
 Five = List Val × (List Val × (List Val × (List Val × (List Val × Unit {0}))))
@@ -43,7 +43,7 @@ unfolding Rattle.atomic_table.specs.Seated.seal
 put_spec 𝓤 𝓛 𝓜 𝓡 wired T V K P L _ _ _ g d _ =
     let H = 𝓛.H in let A = 𝓛.A in let 𝓣 = tables 𝓤 H 𝓜 𝓡 𝓡.env in let E : El = record { row = T; laws = L } in let R : RattleType = param 0 T in let W : RattleType = param 1 V in let X : RattleType = param 2 K in let Y : RattleType = param 3 P in let S : RattleType = stake.the_row in let En = ended T V K P g d in
     let inst = bounded (a_type ∷ a_type ∷ a_type ∷ a_type ∷ []) (T, (V, (K, (P, tt)))) (dcons d dnil) in let fn = inst_fn inst code.function in let ty = layout T in let LR = param_laws 0 T L in
-    let Row : RattleType = place.the_row R in let Sr : RattleType = seat.the_row S W in let Tr : RattleType = table.the_row S W X Y g in
+    let Row : RattleType = shelf.the_row R in let Sr : RattleType = seat.the_row S W in let Tr : RattleType = table.the_row S W X Y g in
     let D : RattleType = Spot R in let DH : RattleType = HandData S W X Y g in let c = clauses T V K P g d 𝓛 𝓜.mem 𝓡.returns in
     let self = RefOf (0 ∷ []) tt (plain (λ _. Row)) (λ _. tt) in let sitter = plain (λ _. Sr) in let about = RefOf (2 ∷ []) tt (plain (λ _. Tr)) (λ _. tt) in let num = plain (λ _. usize) in let arg = plain (λ _. R) in
     let hs : Stays En.signature.params En.kept = (stay_dropped self yes, (stay_ref (1 ∷ []) tt sitter, (stay_dropped about yes, (stay_dropped num yes, (stay_dropped arg no, tt))))) in
@@ -55,7 +55,7 @@ put_spec 𝓤 𝓛 𝓜 𝓡 wired T V K P L _ _ _ g d _ =
     let bag : TableId → List (ℕ × S.Denot) → Fml = λ u us. carried (age u) S (where_ u) (names u) u.slots us in
     let x : T.Denot = a.1.1.1.1.0 in let μ : Lft = κs.1.1.1.0 in let qμ : Share = qs.1.1.1.0 in
     let others : Fml = fsep (flft μ qμ) (fsep (flft κs.1.1.1.1.0 qs.1.1.1.1.0) (fsep (flft κs.1.1.1.1.1.0 qs.1.1.1.1.1.0) (fsep (flft κs.1.1.1.1.1.1.0 qs.1.1.1.1.1.1.0) ftrue))) in
-    let Asked : Type 0 = (s.table_id ≡ z) × Tops γ i k (λ (v : Gv). v ≡ gnil) hold in let InX : Type 0 = μ ⊑ T.lives in
+    let Asked : Type 0 = (s.table_id ≡ z) × HasWhole γ i k (λ (v : Gv). v ≡ gnil) hold in let InX : Type 0 = μ ⊑ T.lives in
     let got = one E y₀.0.4.1.1.1.1.0 ((lawful E 𝓛).typed x y₀.0.4.1.1.1.1.0 are.1.1.1.1.0) in let vy : Val = got.0 in let fy : Good E vy = got.2 in
     let At : Five → (walk_of 𝓛 En hs c).Ghost = λ vss. ((κs, qs, y₀.0.2, a, vss), y₀.1) in
     let y : (walk_of 𝓛 En hs c).Ghost = At (vptr b o ∷ [], (vptr b' o' ∷ [], (vptr b″ o″ ∷ [], (vint w64 k ∷ [], (vy ∷ [], tt))))) in let Post : Val → SProp 𝓤 = (walk_of 𝓛 En hs c).post y in
@@ -66,20 +66,20 @@ put_spec 𝓤 𝓛 𝓜 𝓡 wired T V K P L _ _ _ g d _ =
     split ! $ split3 ! $ move ! (2 ∷ []) $ split ! $ move ! (4 ∷ []) $ fsplit3 ! $ move ! (2 ∷ []) $ fsplit3 ! $ fsplit ! $ drop ! $
     use1 𝓛 (‵ (hidden_shr DH κ″ (t.words, (t.slots, (tt, tt))) b″ o″) ⊛ ‵ (fhide (table.the_lent S W X Y g t (block_ptr b″ o″) κ″))) (lent_out 𝓛 (table.struct S W X Y g) (table.the_codes S.Denot V.Denot K.Denot P.Denot S.coded W.coded X.coded Y.coded (marker.the_row (Tuple (Y ∷ W ∷ X ∷ []))).coded) (table.the_heap S W X Y g) (table.the_lent S W X Y g) κ″ t b″ o″) $
     split ! $ drop ! $ move ! (3 ∷ []) $ fsplit ! $ drop ! $
-    use1 𝓛 (‵ (hidden_shr D κ (p, tt) b o) ⊛ ‵ (fhide (place_shares R p γ i κ))) (lent_out 𝓛 (place.struct R) (place.the_codes T.Denot R.coded) (place.the_heap R) (place.the_lent R) κ f b o) $ split ! $
+    use1 𝓛 (‵ (hidden_shr D κ (p, tt) b o) ⊛ ‵ (fhide (shelf_shares R p γ i κ))) (lent_out 𝓛 (shelf.struct R) (shelf.the_codes T.Denot R.coded) (shelf.the_heap R) (shelf.the_lent R) κ f b o) $ split ! $
     move ! (4 ∷ []) $ fsplit ! $ move ! (6 ∷ []) $ fsplit3 ! $ keep ! (5 ∷ 6 ∷ 7 ∷ 1 ∷ 2 ∷ 3 ∷ 9 ∷ 10 ∷ 11 ∷ 12 ∷ []) $
     enter ! 𝓣.C 𝓣.Λ fn (vptr b o ∷ vptr b' o' ∷ vptr b″ o″ ∷ vint w64 k ∷ vy ∷ []) Post $ alloc_all ! (λ l. pass_all ! refl ((tt, tt), ((tt, tt), ((tt, tt), ((tt, record { fits = are.1.1.1.0.1 }), (fy, tt))))) $ let Ev = env fn.locals l in
     move ! (1 ∷ []) $ unhide ! $ move ! (2 ∷ []) $ unhide ! $ fsplit ! $ move ! (1 ∷ []) $ drop ! $ move ! (0 ∷ 6 ∷ []) $
     shr_bor-open ! tt (tokens_halve 𝓛 α) (λ r. move ! (4 ∷ 5 ∷ 9 ∷ []) $
     opens ! tt Sr b' o' (λ ts. move ! (1 ∷ []) $ fsplit ! $ move ! (1 ∷ []) $ fsplit ! $ move ! (1 ∷ []) $ rewrite ! 0 (λ (v : TableId). ‵ (bag v xs)) asked.0 refl $ let Back = Shuts 𝓛 α (where_ z) (names z) z.slots xs r in
     move ! (0 ∷ 8 ∷ []) $ use2 𝓛 (later (‵ (purse hold) ⊛ raw (all 𝓤 Back))) (opens_all 𝓛 α (where_ z) (names z) z.slots xs r) $ await ! tt $ split ! $
-    use1 𝓛 (given (Whole γ i n top.0.shown k hold) (‵ (purse hold))) (agree_top 𝓛 γ i k hold top.0 top.1 top.2 top.4 top.5) $ learn ! (λ all₀. let all_ : Whole γ i n gnil k hold = subst (λ (v : Gv). Whole γ i n v k hold) top.3 all₀ in
+    use1 𝓛 (given (AreWhole γ i n top.0.shown k hold) (‵ (purse hold))) (agree_top 𝓛 γ i k hold top.0 top.1 top.2 top.4 top.5) $ learn ! (λ all₀. let all_ : AreWhole γ i n gnil k hold = subst (λ (v : Gv). AreWhole γ i n v k hold) top.3 all₀ in
     use1 𝓛 (‵ (part γ i n gnil most) ⊛ ‵ (purse more)) (whole_out 𝓛 γ i n gnil k hold all_) $ split ! $ fsplit ! $
     move ! (11 ∷ []) $ use1 𝓛 (‵ (finv (rule R p γ i)) ⊛ ‵ (finv (rule R p γ i))) (𝓛.invs.inv_dup (rule R p γ i)) $ split ! $ move ! (0 ∷ 2 ∷ []) $
     use2 𝓛 (later (‵ (units γ i (agreed_on n (gnum 0)) most) ⊛ ‵ (vacancy R p))) (opens_room 𝓛 γ i R p n) $ await ! tt $ split ! $ move ! (1 ∷ []) $
     in_a_block ! p (λ (q : Ptr). vacancy R q) (id⊢ 𝓤 (never 𝓤)) (λ bp op e. use1 𝓛 (‵ (froom ty bp op)) (𝓛.laws.raw-room ty bp op) $ move ! (13 ∷ 16 ∷ []) $
-    looks ! tt D (spot_opens R 𝓛) (p, tt) b o (λ q vs. move ! (1 ∷ []) $ peeks ! D (Is D) (shows 𝓛 D) (p, tt) vs (λ is-so.
-    let ev : vs ≡ strip_of (block_ptr bp op) ∷ [] = spot_told R p vs is-so ∙ ap (λ (q : Ptr). strip_of q ∷ []) e in
+    looks ! tt D (shelf_opens R 𝓛) (p, tt) b o (λ q vs. move ! (1 ∷ []) $ peeks ! D (Is D) (shows 𝓛 D) (p, tt) vs (λ is-so.
+    let ev : vs ≡ strip_of (block_ptr bp op) ∷ [] = shelf_told R p vs is-so ∙ ap (λ (q : Ptr). strip_of q ∷ []) e in
     rewrite ! 1 (λ (ws : List Val). ‵ (cell_at q D.mir ws b o)) ev refl $
     sets ! (of_opd ! (load ! (through ! refl (fld ! refl (stop !))) (look_in ! 1 (sub ! 0 refl (whole !))))) refl (tt, tt) $
     rewrite ! 1 (λ (ws : List Val). ‵ (cell_at q D.mir ws b o)) (sym ev) refl $ move ! (1 ∷ 0 ∷ 2 ∷ []) $ shuts ! tt D q (p, tt) vs b o $
