@@ -136,3 +136,11 @@ top_turned a g n hs = turned a g (take n hs) ++ drop n hs
 -- what a seat carries, once the n stakes that were taken last agree on the round a and show g
 abbrev pub all_turned : ℕ → Gv → ℕ → List (ℕ × Stake) → List (ℕ × Stake)
 all_turned a g n xs = with_lots xs (top_turned a g n (lots xs))
+
+-- ---- stakes in no table's slots
+-- these are of the n numbers from i on, in order: of each, all units but the place's own, which show that it is vacant and aren't lent
+abbrev pub AreVacant : ℕ → ℕ → ℕ → List Lot → Type 0
+AreVacant γ i zero [] = Unit {0}
+AreVacant γ i zero (h ∷ hs) = ⊥
+AreVacant γ i (suc n) [] = ⊥
+AreVacant γ i (suc n) (h ∷ hs) = (h ≡ lot γ i h.round vacant most) × AreVacant γ (suc i) n hs

@@ -4,7 +4,9 @@
 mod shelf;
 mod seats;
 mod stake;
+mod stock;
 
 pub use shelf::Shelf;
 pub use seats::settle;
 pub use stake::Stake;
+pub use stock::Stock;

@@ -1,16 +1,20 @@
 //! Values side by side in memory that threads share.
 ghost use Rattle.std.specs.Prelude.{◌≡◌, ◌<◌, ℕ};
 ghost use Rattle.sdd_stakes.specs.Seats.{lots, OnlyLends};
-ghost use Rattle.sdd_stakes.specs.Shelf.{shelf_owns, shelf_shares, CanShow, Shows, IsFull, IsVacant, HasWhole, AreWhole, showing, vacant, all_turned};
+ghost use Rattle.sdd_stakes.specs.Shelf.{shelf_owns, shelf_shares, CanShow, Shows, IsFull, IsVacant, HasWhole, AreWhole, showing, vacant, all_turned, AreVacant};
+ghost use Rattle.std_alloc.specs.Vec.Ownership.{FitsInBlock};
 
 use crate::stake::Stake;
+use crate::stock::Stock;
 use atomic_table::{Seat, Shared, TableRule};
-use sdd_places::Tenure;
-use std::marker::Model;
+use sdd_places::{Hold, Room, Tenure};
+use std::alloc::Allocator;
+use std::marker::{Model, PhantomData};
+use std::mem::{align_of, size_of};
 
 /// Places for values, side by side, each with a number of one book. A place is vacant or full, as its units show.
 pub struct Shelf<T> {
-    pub(crate) ptr: *mut T,
+    ptr: *mut T,
     pub ghost book: { ℕ },
     pub ghost size: { ℕ },
 }
@@ -22,6 +26,34 @@ impl<T> Model for Shelf<T> {
 }
 
 impl<T> Shelf<T> {
+    /// Vacant places, as many as there is room for, and the stakes in them. The number of a place is where it stands.
+    pub fn of<A: Allocator>(room: Room<T, A>) -> (Shelf<T>, Stock, Hold<T, A>)
+        requires fits { FitsInBlock T.row room.len }
+        ensures shelf { result.0.size ≡ room.len }
+        ensures stock { AreVacant result.0.book 0 room.len result.1.lots }
+        ensures hold { (result.2.ptr ≡ result.0.ptr) × (result.2.len ≡ room.len) × (result.2.alloc ≡ room.alloc) }
+    {
+        let Room { ptr, len, by } = room;
+        (
+            Shelf { ptr },
+            Stock { of: PhantomData },
+            Hold { ptr, len, by },
+        )
+    }
+
+    /// Gives the memory back, by the stakes in all places. They are vacant.
+    pub fn close<A: Allocator>(self, alloc: &A, stock: Stock, hold: Hold<T, A>)
+        requires hold { (hold.ptr ≡ self.ptr) × (hold.len ≡ self.size) × (hold.alloc ≡ alloc.now) }
+        requires stock { AreVacant self.book 0 self.size stock.lots }
+    {
+        let Stock { of: _ } = stock;
+        let Shelf { ptr: _ } = self;
+        let Hold { ptr, len, by: _ } = hold;
+        unsafe {
+            alloc.deallocate(ptr as *mut u8, len * size_of::<T>(), align_of::<T>());
+        }
+    }
+
     /// The value of a full place, for as long as the tenure is borrowed, by any stake in it that the seat carries. It is lent to the tenure.
     pub fn show<'g, V, K, P: TableRule<Stake, V, K>>(
         &self,

@@ -1,7 +1,8 @@
 //! Some units of a number, as a value without bytes.
-ghost use Rattle.std.specs.Prelude.{◌≡◌, ◌-◌, ◌<◌, None};
+ghost use Rattle.std.specs.Prelude.{◌≡◌, ◌+◌, ◌-◌, ◌<◌, ◌≤◌, None};
 ghost use Rattle.sdd_stakes.specs.Stakes.{Lot, lot_coded, holding};
 
+use sdd_token::WHOLE;
 use std::marker::{Model, PhantomData};
 
 const _: () = prove!(size_of::<Stake>() == 0);
@@ -27,6 +28,19 @@ impl Stake {
     {
         let _ = units;
         Stake { of: PhantomData }
+    }
+
+    /// Two stakes of one number become one. They had agreed.
+    pub fn join(&mut self, other: Stake)
+        requires book { other.lot.book ≡ self.old.lot.book }
+        requires number { other.lot.number ≡ self.old.lot.number }
+        requires free { (self.old.lot.lent ≡ None) × (other.lot.lent ≡ None) }
+        ensures joined { self.new.lot ≡ record self.old.lot { units = self.old.lot.units + other.lot.units } }
+        ensures fits { self.new.lot.units ≤ WHOLE }
+        ensures round { other.lot.round ≡ self.old.lot.round }
+        ensures shown { other.lot.shown ≡ self.old.lot.shown }
+    {
+        let Stake { of: _ } = other;
     }
 }
 
