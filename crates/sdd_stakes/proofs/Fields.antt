@@ -16,6 +16,7 @@ use denote.RawPtr.{Ptr, ptr_val}
 use denote.Struct.Laws.{RawPtr-copy}
 use Rattle.sdd_stakes.specs.contracts.shelf.Shelf as shelf
 use Rattle.sdd_stakes.specs.contracts.stake.Stake as stake
+use Rattle.sdd_stakes.specs.contracts.stock.Stock as stock
 
 abbrev pub Peg : RattleType
 Peg = Struct (shape stake.the_type)
@@ -38,3 +39,12 @@ module _ (R : RattleType) where
 
   pub shelf_opens : {M : Type 1} {𝓤 : Ura M} (𝓛 : Logic 𝓤) → Opens 𝓛 ShelfData
   shelf_opens {M} {𝓤 = 𝓤} 𝓛 = (Struct-Copied 𝓛 (shape (shelf.the_type R)) (refl, tt) (RawPtr-copy.copied M 𝓤 𝓛, tt)).opens
+
+abbrev pub StockData : RattleType
+StockData = Struct (shape stock.the_type)
+
+pub stock_told : (vs : List Val) → Is StockData (tt, tt) vs → vs ≡ token_val ∷ []
+stock_told vs is = is.1.0 ∙ ap (λ (ws : List Val). vstruct (of_list (ws ++ [])) ∷ []) is.1.1.0.1.0
+
+pub stock_made : {M : Type 1} {𝓤 : Ura M} (𝓛 : Logic 𝓤) → ent 𝓤 (emp 𝓤) (sem 𝓛 (StockData.own_val (tt, tt) (token_val ∷ [])))
+stock_made 𝓛 = makes_shadow 𝓛 (StockData.own_val (tt, tt) (token_val ∷ [])) (λ vss. (tt, ((λ uss. (tt, tt)), tt))) ((vstruct vnil ∷ [], tt), (refl, ((tt, (refl, tt)), tt)))

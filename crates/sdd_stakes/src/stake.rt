@@ -1,7 +1,8 @@
 //! Some units of a number, as a value without bytes.
-ghost use Rattle.std.specs.Prelude.{◌≡◌, ◌+◌, ◌-◌, ◌<◌, ◌≤◌, None};
+ghost use Rattle.std.specs.Prelude.{◌≡◌, ◌+◌, ◌-◌, ◌<◌, ◌≤◌, ◌∷◌, None};
 ghost use Rattle.sdd_stakes.specs.Stakes.{Lot, lot_coded, holding};
 
+use crate::stock::Stock;
 use sdd_token::WHOLE;
 use std::marker::{Model, PhantomData};
 
@@ -41,6 +42,14 @@ impl Stake {
         ensures shown { other.lot.shown ≡ self.old.lot.shown }
     {
         let Stake { of: _ } = other;
+    }
+
+    /// Puts the stake before the others of a stock.
+    pub fn redeem(self, stock: &mut Stock)
+        ensures { stock.new.lots ≡ self.lot ∷ stock.old.lots }
+    {
+        let Stake { of: _ } = self;
+        let _ = stock;
     }
 }
 

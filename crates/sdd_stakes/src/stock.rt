@@ -33,16 +33,8 @@ impl Stock {
         Stake { of: PhantomData }
     }
 
-    /// Puts a stake before the others.
-    pub fn redeem(&mut self, stake: Stake)
-        ensures { self.new.lots ≡ stake.lot ∷ self.old.lots }
-    {
-        let Stake { of: _ } = stake;
-    }
-}
-
-impl Drop for Stock {
-    fn drop(self) {
+    /// Lets go of the stakes.
+    pub fn discard(self) {
         let Stock { of: _ } = self;
     }
 }
