@@ -6,3 +6,4 @@ pub mod Looks
 pub mod Takes
 pub mod ShelfSent
 pub mod Collect
+pub mod Housing

@@ -6,7 +6,7 @@ use Rattle.atomic_table.specs.Seated.{halved}
 use Rattle.sdd_stakes.specs.Stakes.{tokens_of}
 use Rattle.sdd_stakes.specs.contracts.stake.Stake.{the_row}
 
-pub lent_keyless : (l : Option ℕ) (a n : ℕ) → Keyless (tokens_of l a n)
+lent_keyless : (l : Option ℕ) (a n : ℕ) → Keyless (tokens_of l a n)
 lent_keyless None a n = λ q c. tt
 lent_keyless (Some t) a n = ((λ q. tt), (λ q c. tt))
 

@@ -1,11 +1,14 @@
-use Rattle.std.specs.Prelude.{List, [], ◌∷◌}
+use Rattle.std.specs.Prelude.{ℕ, Option, None, Some, List, [], ◌∷◌}
 use base.Shift.{Keyless}
 use denote.Param.Send.{IsSend}
 use types.Keyed.{entry_keyless}
 use Rattle.atomic_table.specs.Seated.{halved}
-use Rattle.sdd_stakes.specs.Stakes.{Lot, purse}
-use Rattle.sdd_stakes.proofs.stake.Stake.TheSendSync.Send.{lent_keyless}
+use Rattle.sdd_stakes.specs.Stakes.{Lot, tokens_of, purse}
 use Rattle.sdd_stakes.specs.contracts.stock.Stock.{the_row}
+
+lent_keyless : (l : Option ℕ) (a n : ℕ) → Keyless (tokens_of l a n)
+lent_keyless None a n = λ q c. tt
+lent_keyless (Some t) a n = ((λ q. tt), (λ q c. tt))
 
 purse_keyless : (hs : List Lot) → Keyless (purse hs)
 purse_keyless [] = tt
