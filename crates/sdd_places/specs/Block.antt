@@ -23,7 +23,7 @@ abbrev IsNil : List ℕ → Type 0
 IsNil [] = Unit {0}
 IsNil (t ∷ ts) = ⊥
 
-abbrev stake_coded : Coded (Option ℕ)
+abbrev pub stake_coded : Coded (Option ℕ)
 stake_coded = coded_via (coded_list coded_ℕ) listed same
   where
     same : (x y : Option ℕ) → listed x ≡ listed y → x ≡ y

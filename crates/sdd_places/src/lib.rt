@@ -28,6 +28,7 @@ mod tenure;
 mod tenures;
 
 pub use places::Places;
+pub use room::{Hold, Room};
 pub use sight::Sight;
 pub use tenure::{Ended, end_round};
 pub use tenures::{Stage, Tenure, Tenures};

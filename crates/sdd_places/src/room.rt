@@ -11,24 +11,24 @@ use std::alloc::{AllocError, Allocator};
 use std::marker::{Model, PhantomData};
 use std::mem::{align_of, size_of};
 
-/// Room in which nothing is written yet.
-pub(crate) struct Room<T, A: Allocator> {
-    ptr: *mut T,
-    len: usize,
-    by: PhantomData<A>,
-    pub(crate) ghost alloc: { A },
+/// Room in which nothing is written yet. Its fields are for those who prove by hand.
+pub struct Room<T, A: Allocator> {
+    pub ptr: *mut T,
+    pub len: usize,
+    pub by: PhantomData<A>,
+    pub ghost alloc: { A },
 }
 
 impl<T, A: Allocator> Model for Room<T, A> {
     ghost also_owns = { λ r. room_owns (A.dealloc_token r.alloc) T.row r.ptr r.len };
 }
 
-/// The right to free a block.
-pub(crate) struct Hold<T, A: Allocator> {
-    pub(crate) ptr: *mut T,
-    pub(crate) len: usize,
-    by: PhantomData<A>,
-    pub(crate) ghost alloc: { A },
+/// The right to free a block. Its fields are for those who prove by hand.
+pub struct Hold<T, A: Allocator> {
+    pub ptr: *mut T,
+    pub len: usize,
+    pub by: PhantomData<A>,
+    pub ghost alloc: { A },
 }
 
 impl<T, A: Allocator> Model for Hold<T, A> {
@@ -36,7 +36,8 @@ impl<T, A: Allocator> Model for Hold<T, A> {
 }
 
 impl<T, A: Allocator> Room<T, A> {
-    pub(crate) fn new(alloc: &A, len: usize) -> Result<Room<T, A>, AllocError>
+    /// Asks the allocator for room for that many values.
+    pub fn new(alloc: &A, len: usize) -> Result<Room<T, A>, AllocError>
         requires { FitsInBlock T.row len }
         ensures { IfOk result (λ r. (r.len ≡ len) × (r.alloc ≡ alloc.now)) }
     {

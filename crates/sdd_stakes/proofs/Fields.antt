@@ -1,0 +1,50 @@
+-- The data fields of a `Stake` and a `Shelf`. Assumes `Logic`.
+use Rattle.std.proofs.Common.{◌≡◌, List, [], ◌∷◌, ◌++◌, refl, ap, ◌∙◌}
+use seplogic.Ra.Ura.{Ura}
+use mir.Val.{Val, vstruct, vnil, of_list}
+use base.Logic.{ent, emp}
+use types.Logic.{Logic, sem}
+use denote.RattleType.{RattleType}
+use denote.Laws.{Is}
+use denote.Shadow.{makes_shadow}
+use denote.Struct.Struct.{Struct}
+use denote.Struct.Owning.{shape}
+pub use Rattle.atomic_table.proofs.Fields.{token_val, strip_of}
+use denote.Opens.{Opens}
+use denote.Copied.{Struct-Copied}
+use denote.RawPtr.{Ptr, ptr_val}
+use denote.Struct.Laws.{RawPtr-copy}
+use Rattle.sdd_stakes.specs.contracts.shelf.Shelf as shelf
+use Rattle.sdd_stakes.specs.contracts.stake.Stake as stake
+use Rattle.sdd_stakes.specs.contracts.stock.Stock as stock
+
+abbrev pub Peg : RattleType
+Peg = Struct (shape stake.the_type)
+
+pub peg_told : (vs : List Val) → Is Peg (tt, tt) vs → vs ≡ token_val ∷ []
+peg_told vs is = is.1.0 ∙ ap (λ (ws : List Val). vstruct (of_list (ws ++ [])) ∷ []) is.1.1.0.1.0
+
+pub peg_made : {M : Type 1} {𝓤 : Ura M} (𝓛 : Logic 𝓤) → ent 𝓤 (emp 𝓤) (sem 𝓛 (Peg.own_val (tt, tt) (token_val ∷ [])))
+peg_made 𝓛 = makes_shadow 𝓛 (Peg.own_val (tt, tt) (token_val ∷ [])) (λ vss. (tt, ((λ uss. (tt, tt)), tt))) ((vstruct vnil ∷ [], tt), (refl, ((tt, (refl, tt)), tt)))
+
+module _ (R : RattleType) where
+  abbrev pub ShelfData : RattleType
+  ShelfData = Struct (shape (shelf.the_type R))
+
+  pub shelf_told : (p : Ptr) (vs : List Val) → Is ShelfData (p, tt) vs → vs ≡ strip_of p ∷ []
+  shelf_told p vs is = is.1.0 ∙ ap (λ (ws : List Val). vstruct (of_list (ws ++ [])) ∷ []) is.1.1.0
+
+  pub shelf_made : {M : Type 1} {𝓤 : Ura M} (𝓛 : Logic 𝓤) (p : Ptr) → ent 𝓤 (emp 𝓤) (sem 𝓛 (ShelfData.own_val (p, tt) (strip_of p ∷ [])))
+  shelf_made 𝓛 p = makes_shadow 𝓛 (ShelfData.own_val (p, tt) (strip_of p ∷ [])) (λ vss. (tt, (tt, tt))) ((ptr_val p ∷ [], tt), (refl, (refl, tt)))
+
+  pub shelf_opens : {M : Type 1} {𝓤 : Ura M} (𝓛 : Logic 𝓤) → Opens 𝓛 ShelfData
+  shelf_opens {M} {𝓤 = 𝓤} 𝓛 = (Struct-Copied 𝓛 (shape (shelf.the_type R)) (refl, tt) (RawPtr-copy.copied M 𝓤 𝓛, tt)).opens
+
+abbrev pub StockData : RattleType
+StockData = Struct (shape stock.the_type)
+
+pub stock_told : (vs : List Val) → Is StockData (tt, tt) vs → vs ≡ token_val ∷ []
+stock_told vs is = is.1.0 ∙ ap (λ (ws : List Val). vstruct (of_list (ws ++ [])) ∷ []) is.1.1.0.1.0
+
+pub stock_made : {M : Type 1} {𝓤 : Ura M} (𝓛 : Logic 𝓤) → ent 𝓤 (emp 𝓤) (sem 𝓛 (StockData.own_val (tt, tt) (token_val ∷ [])))
+stock_made 𝓛 = makes_shadow 𝓛 (StockData.own_val (tt, tt) (token_val ∷ [])) (λ vss. (tt, ((λ uss. (tt, tt)), tt))) ((vstruct vnil ∷ [], tt), (refl, ((tt, (refl, tt)), tt)))

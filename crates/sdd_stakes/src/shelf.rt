@@ -1,0 +1,123 @@
+//! Values side by side in memory that threads share.
+ghost use Rattle.std.specs.Prelude.{◌≡◌, ◌<◌, ℕ};
+ghost use Rattle.sdd_stakes.specs.Seats.{lots, OnlyLends};
+ghost use Rattle.sdd_stakes.specs.Shelf.{shelf_owns, shelf_shares, CanShow, Shows, IsFull, IsVacant, HasWhole, AreWhole, showing, vacant, all_turned, AreVacant};
+ghost use Rattle.std_alloc.specs.Vec.Ownership.{FitsInBlock};
+
+use crate::stake::Stake;
+use crate::stock::Stock;
+use atomic_table::{Seat, Shared, TableRule};
+use sdd_places::{Hold, Room, Tenure};
+use std::alloc::Allocator;
+use std::marker::{Model, PhantomData};
+use std::mem::{align_of, size_of};
+
+/// Places for values, side by side, each with a number of one book. A place is vacant or full, as its units show.
+pub struct Shelf<T> {
+    ptr: *mut T,
+    pub ghost book: { ℕ },
+    pub ghost size: { ℕ },
+}
+
+impl<T> Model for Shelf<T> {
+    ghost also_owns = { λ s. shelf_owns T.row s.ptr s.book s.size };
+
+    ghost also_shares = { λ s _ κ. shelf_shares T.row s.ptr s.book s.size κ };
+}
+
+impl<T> Shelf<T> {
+    /// Vacant places, as many as there is room for, and the stakes in them. The number of a place is where it stands.
+    pub fn of<A: Allocator>(room: Room<T, A>) -> (Shelf<T>, Stock, Hold<T, A>)
+        requires fits { FitsInBlock T.row room.len }
+        ensures shelf { result.0.size ≡ room.len }
+        ensures stock { AreVacant result.0.book 0 room.len result.1.lots }
+        ensures hold { (result.2.ptr ≡ result.0.ptr) × (result.2.len ≡ room.len) × (result.2.alloc ≡ room.alloc) }
+    {
+        let Room { ptr, len, by } = room;
+        (
+            Shelf { ptr },
+            Stock { of: PhantomData },
+            Hold { ptr, len, by },
+        )
+    }
+
+    /// Gives the memory back, by the stakes in all places. They are vacant.
+    pub fn close<A: Allocator>(self, alloc: &A, stock: Stock, hold: Hold<T, A>)
+        requires hold { (hold.ptr ≡ self.ptr) × (hold.len ≡ self.size) × (hold.alloc ≡ alloc.now) }
+        requires stock { AreVacant self.book 0 self.size stock.lots }
+    {
+        let Stock { of: _ } = stock;
+        let Shelf { ptr: _ } = self;
+        let Hold { ptr, len, by: _ } = hold;
+        unsafe {
+            alloc.deallocate(ptr as *mut u8, len * size_of::<T>(), align_of::<T>());
+        }
+    }
+
+    /// The value of a full place, for as long as the tenure is borrowed, by any stake in it that the seat carries. It is lent to the tenure.
+    pub fn show<'g, V, K, P: TableRule<Stake, V, K>>(
+        &self,
+        at: usize,
+        seat: &mut Seat<Stake, V>,
+        table: &Shared<Stake, V, K, P>,
+        tenure: &'g Tenure,
+    ) -> &'g T
+        requires table { seat.old.table_id ≡ table.now.table_id }
+        requires inside { at < self.now.size }
+        requires stake { CanShow self.now.book at tenure.now.round (lots seat.old.me.1) }
+        ensures seat { seat.new ≡ record seat.old { me = (seat.old.me.0, seat.new.me.1) } }
+        ensures lent { OnlyLends tenure.now.round seat.old.me.1 seat.new.me.1 }
+        ensures value { Shows self.now.book at (showing T.row result.now) (lots seat.old.me.1) }
+    {
+        let _ = seat;
+        let _ = table;
+        let _ = tenure;
+        unsafe { &*self.ptr.add(at) }
+    }
+
+    /// Moves the value out of a full place, by all units of its number but the place's own, which are in the `count` stakes that the seat took last.
+    pub fn take<V, K, P: TableRule<Stake, V, K>>(
+        &self,
+        at: usize,
+        seat: &mut Seat<Stake, V>,
+        table: &Shared<Stake, V, K, P>,
+        count: usize,
+    ) -> T
+        requires table { seat.old.table_id ≡ table.now.table_id }
+        requires inside { at < self.now.size }
+        requires whole { HasWhole self.now.book at count IsFull (lots seat.old.me.1) }
+        ensures seat { (round : ℕ) × (seat.new ≡ record seat.old { me = (seat.old.me.0, all_turned round vacant count seat.old.me.1) }) }
+        ensures value { (round : ℕ) × AreWhole self.now.book at round (showing T.row result) count (lots seat.old.me.1) }
+    {
+        let _ = seat;
+        let _ = table;
+        let _ = count;
+        let p = self.ptr;
+        unsafe { p.add(at).read() }
+    }
+
+    /// Moves a value into a vacant place, by all units of its number but the place's own, which are in the `count` stakes that the seat took last.
+    pub fn put<V, K, P: TableRule<Stake, V, K>>(
+        &self,
+        at: usize,
+        seat: &mut Seat<Stake, V>,
+        table: &Shared<Stake, V, K, P>,
+        count: usize,
+        value: T,
+    )
+        requires table { seat.old.table_id ≡ table.now.table_id }
+        requires inside { at < self.now.size }
+        requires whole { HasWhole self.now.book at count IsVacant (lots seat.old.me.1) }
+        ensures seat { (round : ℕ) × (seat.new ≡ record seat.old { me = (seat.old.me.0, all_turned round (showing T.row value) count seat.old.me.1) }) }
+    {
+        let _ = seat;
+        let _ = table;
+        let _ = count;
+        let p = self.ptr;
+        unsafe { p.add(at).write(value) }
+    }
+}
+
+unsafe impl<T: Send + Sync> Send for Shelf<T> {}
+
+unsafe impl<T: Send + Sync> Sync for Shelf<T> {}

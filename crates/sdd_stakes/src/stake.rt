@@ -1,0 +1,62 @@
+//! Some units of a number, as a value without bytes.
+ghost use Rattle.std.specs.Prelude.{◌≡◌, ◌+◌, ◌-◌, ◌<◌, ◌≤◌, ◌∷◌, None};
+ghost use Rattle.sdd_stakes.specs.Stakes.{Lot, lot_coded, holding};
+
+use crate::stock::Stock;
+use sdd_token::WHOLE;
+use std::marker::{Model, PhantomData};
+
+const _: () = prove!(size_of::<Stake>() == 0);
+
+/// Some units of a number of a book, which agree with all its other units on a round and on what they show. They may be lent to a tenure.
+pub struct Stake {
+    pub(crate) of: PhantomData<u64>,
+    pub ghost lot: { Lot } by { lot_coded },
+}
+
+impl Model for Stake {
+    ghost also_owns = { λ s. holding s.lot };
+}
+
+impl Stake {
+    /// Some units, as a stake of their own. At least one stays.
+    pub fn split(&mut self, units: u64) -> Stake
+        requires some { 0 < units }
+        requires fewer { units < self.old.lot.units }
+        requires free { self.old.lot.lent ≡ None }
+        ensures rest { self.new.lot ≡ record self.old.lot { units = self.old.lot.units - units } }
+        ensures part { result.lot ≡ record self.old.lot { units = units } }
+    {
+        let _ = units;
+        Stake { of: PhantomData }
+    }
+
+    /// Two stakes of one number become one. They had agreed.
+    pub fn join(&mut self, other: Stake)
+        requires book { other.lot.book ≡ self.old.lot.book }
+        requires number { other.lot.number ≡ self.old.lot.number }
+        requires free { (self.old.lot.lent ≡ None) × (other.lot.lent ≡ None) }
+        ensures joined { self.new.lot ≡ record self.old.lot { units = self.old.lot.units + other.lot.units } }
+        ensures fits { self.new.lot.units ≤ WHOLE }
+        ensures round { other.lot.round ≡ self.old.lot.round }
+        ensures shown { other.lot.shown ≡ self.old.lot.shown }
+    {
+        let Stake { of: _ } = other;
+    }
+
+    /// Puts the stake before the others of a stock.
+    pub fn redeem(self, stock: &mut Stock)
+        ensures { stock.new.lots ≡ self.lot ∷ stock.old.lots }
+    {
+        let Stake { of: _ } = self;
+        let _ = stock;
+    }
+}
+
+impl Drop for Stake {
+    fn drop(self) {
+        let Stake { of: _ } = self;
+    }
+}
+
+unsafe impl Send for Stake {}
