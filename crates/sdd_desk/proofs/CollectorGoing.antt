@@ -151,6 +151,9 @@ module _ (d : Desk) (s : IsSound d) (whole : IsWhole d.world) (p c n : ℕ) (liv
   counts : KeepsCounts d.world after_uncollected.world
   counts = all-counts d.world p holdings_of gone start (record { slots = refl; made = refl; in_place = refl; home = refl })
 
+  pub home-uncollected : after_uncollected.world.home ≡ d.world.home
+  home-uncollected = counts.home
+
   no_slot : TakesNoSlot d.world after_uncollected.world
   no_slot = all-no_slot d.world p holdings_of gone start (no_slot-same d.world start refl)
 
