@@ -1,3 +1,4 @@
+pub mod Issuing
 pub mod Fields
 pub mod Shares
 pub mod Rounds

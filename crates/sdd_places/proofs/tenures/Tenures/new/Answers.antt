@@ -1,11 +1,35 @@
-use Rattle.std.proofs.Common.{◌<◌, length, arith, ap, ◌∙◌}
+use Rattle.std.proofs.Common.{ℕ, ◌+◌, ◌<◌, length, arith, ap, ◌∙◌}
 use Rattle.std.proofs.lemmas.List.{get_or-map}
 use Rattle.core.proofs.slice.Lists.{hd}
+use Rattle.sdd_token.specs.Units.{Home}
 use Rattle.sdd_token.specs.declared.part.Part.{Part}
+use Rattle.sdd_token.specs.declared.part.Book.{Book}
 use Rattle.sdd_places.specs.declared.tenures.Stage.{Stage}
 use Rattle.sdd_places.specs.declared.tenures.Stage.TheVariants.{Closed}
 use Rattle.sdd_places.specs.Tenures.{Kept, whole, kept_of}
+use Rattle.sdd_places.proofs.Issuing.{each-issued, closed-issued}
 use Rattle.sdd_places.proofs.tenures.Tenures.new.Goals as goal
+
+pub loop-number-preserved : goal.loop-number-preserved
+loop-number-preserved c =
+    let was = c.loop-number.invariant in
+    let issued = c.issue.ensures in
+    let pushed = c.push_reserved.ensures in
+    let home = ap (λ (b : Book Stage). b.home) issued.book in
+    record {
+      size = ap (λ (h : Home). h.size) home ∙ was.size;
+      next = ap (λ (b : Book Stage). b.next) issued.book ∙ ap (λ (n : ℕ). n + 1) was.next;
+      len = omega (arith, was.len, pushed.len);
+      room = omega (arith, was.room, pushed.capacity);
+      closed = closed-issued _ _ _ _ pushed.items (omega (arith, was.len)) was.closed issued.kind issued.units;
+      each = each-issued _ _ _ _ _ c.loop-number._number pushed.items home (omega (arith, was.len, pushed.len)) (omega (arith, was.len)) was.each issued.home
+          (issued.number ∙ was.next);
+    }
+
+pub invariant_of-result : goal.invariant_of-result
+invariant_of-result c =
+    let was = c.loop-number.invariant in
+    record { size = omega (arith, was.len, was.size, c.loop-number-test.false, c.loop-number.auto._number-end); each = was.each }
 
 pub returns-clause-closed : goal.returns-clause-closed
 returns-clause-closed c k near =
