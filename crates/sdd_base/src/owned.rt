@@ -151,7 +151,10 @@ impl<T: Item<T>> Owned<T> {
             (λ e. IsFull (S.world s.old).standings × (e ≡ (value, Refused.NoSlot)) × (S.world s.new ≡ S.world s.old)) }
         ensures keeps { KeepsShown (S.shows s.old) (S.shows s.new) }
     {
-        Ok(Owned::of_right(s.make(value, Kind::Owned)?))
+        match s.make(value, Kind::Owned) {
+            Ok(right) => Ok(Owned::of_right(right)),
+            Err(refused) => Err(refused),
+        }
     }
 
     /// Puts the value that `f` makes into a free slot.
@@ -175,7 +178,10 @@ impl<T: Item<T>> Owned<T> {
             (λ e. IsFull (S.world s.old).standings × (e ≡ (f, Refused.NoSlot)) × (S.world s.new ≡ S.world s.old)) }
         ensures keeps { KeepsShown (S.shows s.old) (S.shows s.new) }
     {
-        Ok(Owned::of_right(s.make_with(f, Kind::Owned)?))
+        match s.make_with(f, Kind::Owned) {
+            Ok(right) => Ok(Owned::of_right(right)),
+            Err(refused) => Err(refused),
+        }
     }
 
     /// Retires the item: it waits with the calling participant, which reclaims it at its third later outermost opening that finds another epoch.

@@ -150,7 +150,10 @@ impl<T: Item<T>> Shared<T> {
             (λ e. IsFull (S.world s.old).standings × (e ≡ (value, Refused.NoSlot)) × (S.world s.new ≡ S.world s.old)) }
         ensures keeps { KeepsShown (S.shows s.old) (S.shows s.new) }
     {
-        Ok(Shared::of_right(s.make(value, Kind::Shared)?))
+        match s.make(value, Kind::Shared) {
+            Ok(right) => Ok(Shared::of_right(right)),
+            Err(refused) => Err(refused),
+        }
     }
 
     /// Puts the value that `f` makes into a free slot, with one owner.
@@ -174,7 +177,10 @@ impl<T: Item<T>> Shared<T> {
             (λ e. IsFull (S.world s.old).standings × (e ≡ (f, Refused.NoSlot)) × (S.world s.new ≡ S.world s.old)) }
         ensures keeps { KeepsShown (S.shows s.old) (S.shows s.new) }
     {
-        Ok(Shared::of_right(s.make_with(f, Kind::Shared)?))
+        match s.make_with(f, Kind::Shared) {
+            Ok(right) => Ok(Shared::of_right(right)),
+            Err(refused) => Err(refused),
+        }
     }
 
     /// One owner more of the same item.

@@ -1,6 +1,4 @@
-use Rattle.std.proofs.Common.{◌≡◌, ◌<◌, length, arith, refl, ap, ℕ, ◌+◌}
-use Rattle.sdd_token.specs.declared.part.Part.{Part}
-use Rattle.sdd_token.specs.declared.right.Kind.{Kind}
+use Rattle.std.proofs.Common.{◌≡◌, ◌<◌, length, arith, refl}
 use Rattle.sdd_token.proofs.Keeping.{kept-changed}
 use Rattle.sdd_token.proofs.rights.Rights.redeem.Goals as goal
 

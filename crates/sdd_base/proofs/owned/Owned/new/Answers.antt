@@ -1,0 +1,28 @@
+use Rattle.std.proofs.Common.{◌≡◌, ap, subst, sym, ◌∙◌}
+use Rattle.sdd_store.specs.Table.{IsEmptyAt}
+use Rattle.sdd_token.specs.Right.{number_of, home_of}
+use Rattle.sdd_token.specs.declared.right.Right.{Right}
+use Rattle.sdd_base.specs.Steps.{made}
+use Rattle.sdd_base.proofs.owned.Owned.new.Goals as goal
+
+pub returns-in-Ok : goal.returns-in-Ok
+returns-in-Ok g c =
+    let put = c.in-Ok.ensures in
+    let same = c.of_right.ensures in
+    let was = g.S.Guards.world c.args.s.now in
+    let now = g.S.Guards.world c.make.new.self in
+    record {
+      seat = put.seat;
+      own = put.own;
+      known = put.known;
+      home = ap home_of same ∙ put.home;
+      shown = subst (λ (r : Right). g.S.Shows.shows c.make.new.self (number_of r) c.args.value) (sym same) put.shown;
+      exact = λ e.
+          subst (λ (r : Right). IsEmptyAt was.standings (number_of r) × (now ≡ made was (number_of r) c.args.value)) (sym same) (put.exact e);
+      keeps = put.keeps;
+    }
+
+pub returns-in-Err : goal.returns-in-Err
+returns-in-Err g c =
+    let kept = c.in-Err.ensures in
+    record { seat = kept.seat; own = kept.own; known = kept.known; home = kept.home; shown = kept.shown; exact = kept.exact; keeps = kept.keeps }
