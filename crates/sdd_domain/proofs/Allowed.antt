@@ -14,7 +14,7 @@ use Rattle.sdd_rule.specs.Codes.{free_word, owned_word, waiting_word}
 use Rattle.sdd_rule.specs.Epoch.{HasPlace, IsClosed, IsOpen, Scans}
 use Rattle.sdd_rule.specs.Steps.{Steps, Keeps, nobody, passed_by, knowing, IsNext, Registers, Reads, Counts, Publishes, Ends, Locks, LooksAtState, LooksAtCount, Advances, Unlocks}
 use Rattle.sdd_rule.specs.Slots.{owners_at, OwnsAlone, Holds}
-use Rattle.sdd_rule.specs.SlotSteps.{blank, changed, OnEpoch, PublishesAll, ClosesAll, IsDue, Claims, Retires, GivesBack, Watches, TakesHold, LetsGo, Discards, LooksForGuard, AtSlot}
+use Rattle.sdd_rule.specs.SlotSteps.{blank, changed, OnEpoch, PublishesAll, ClosesAll, IsDue, Claims, Retires, GivesBack, LooksAtSlot, Watches, TakesHold, LetsGo, Discards, LooksForGuard, AtSlot}
 use Rattle.sdd_rule.specs.Parts.{idle, Parts, Kept}
 use Rattle.sdd_rule.proofs.Epoch as epochs
 use Rattle.sdd_rule.proofs.EpochSteps as over
@@ -123,6 +123,9 @@ module _ {S : Type 0} (sizes : Sizes) (slots : ℕ) where
       may_claim = may (AtSlot (λ slot. Claims slot (free_word 0) (owned_word 0)) i) i (λ x. either (eqb x (free_word 0)) (owned_word 0) x)
           (at_slot (λ x. either (eqb x (free_word 0)) (owned_word 0) x) (λ j. AtSlot (λ slot. Claims slot (free_word 0) (owned_word 0)) j me.0)
           (steps.claims id me.0 live slot 0 within (omega arith)))
+
+      pub may_look : May i (λ x. x) (Told (AtSlot LooksAtSlot i) me)
+      may_look = may (AtSlot LooksAtSlot i) i (λ x. x) (at_slot (λ x. x) (λ j. AtSlot LooksAtSlot j me.0) (steps.looks_at id me.0 live slot))
 
       pub may_retire : OwnsAlone me.0 slot → ¬ (Holds me.0 slot) → May i (λ _. waiting_word 0) (λ _. Told (AtSlot Retires i) me (waiting_word 0))
       may_retire mine free = may_store (AtSlot Retires i) i (waiting_word 0)

@@ -1,7 +1,7 @@
 //! What each step tells.
 ghost use Rattle.std.specs.Prelude.{[]};
 ghost use Rattle.sdd_rule.specs.Steps.{Registers, Reads, Counts, Ends, Locks, LooksAtState, LooksAtCount, Advances, Unlocks};
-ghost use Rattle.sdd_rule.specs.SlotSteps.{OnEpoch, PublishesAll, ClosesAll, Claims, Retires, GivesBack, Watches, TakesHold, LetsGo, Discards, LooksForGuard, AtSlot, first, parted, joined};
+ghost use Rattle.sdd_rule.specs.SlotSteps.{OnEpoch, PublishesAll, ClosesAll, Claims, Retires, GivesBack, LooksAtSlot, Watches, TakesHold, LetsGo, Discards, LooksForGuard, AtSlot, first, parted, joined};
 ghost use Rattle.sdd_rule.specs.Parts.{owner_token};
 ghost use Rattle.sdd_domain.specs.Token.{Sits, Told};
 
@@ -96,6 +96,12 @@ pub struct GiveBack;
 
 impl Play<(), View> for GiveBack {
     ghost then = { λ step. Told (AtSlot GivesBack step.word) };
+}
+
+pub struct LookAtSlot;
+
+impl Play<(), View> for LookAtSlot {
+    ghost then = { λ step. Told (AtSlot LooksAtSlot step.word) };
 }
 
 pub struct Watch;

@@ -9,6 +9,7 @@ pub mod SlotEpochs
 pub mod Lone
 pub mod Holding
 pub mod Tokens
+pub mod Waits
 pub mod EpochSteps
 pub mod SlotSteps
 pub mod Lift

@@ -14,9 +14,9 @@ use Rattle.sdd_rule.specs.declared.Sizes.{Sizes}
 use Rattle.sdd_rule.specs.Words.{global_word, state_word, slot_word}
 use Rattle.sdd_rule.specs.Codes.{codes, shared_base, free_word, owned_word, waiting_word}
 use Rattle.sdd_rule.specs.Epoch.{HasPlace, IsOpen, EpochPart}
-use Rattle.sdd_rule.specs.Slots.{slot_at, owners_at, OwnsAlone, Holds, SlotsPart}
+use Rattle.sdd_rule.specs.Slots.{slot_at, owners_at, items_at, OwnsAlone, Holds, SlotsPart}
 use Rattle.sdd_rule.specs.Steps.{Steps}
-use Rattle.sdd_rule.specs.SlotSteps.{noted, Knew, claimed, retired, given_back, seeing, Claims, Retires, GivesBack, Watches, AtSlot, held, let_go, looked_past, discarded, TakesHold, LetsGo, Discards, LooksForGuard}
+use Rattle.sdd_rule.specs.SlotSteps.{noted, Knew, claimed, retired, given_back, seeing, Claims, Retires, GivesBack, Watches, AtSlot, held, let_go, looked_past, discarded, TakesHold, LetsGo, Discards, LooksForGuard, LooksAtSlot}
 use Rattle.sdd_rule.specs.Parts.{epoch_of, Parts}
 use Rattle.sdd_rule.proofs.Codes.{sound, free_is, owned_is, waiting_is}
 use Rattle.sdd_rule.proofs.Epoch as epochs
@@ -25,6 +25,7 @@ use Rattle.sdd_rule.proofs.Owning as owning
 use Rattle.sdd_rule.proofs.Seeing as seen
 use Rattle.sdd_rule.proofs.Holding as holding
 use Rattle.sdd_rule.proofs.Lone.{finds, lone_same, lone_noted}
+use Rattle.sdd_rule.proofs.Waits as waits
 
 module _ (id : ℕ) (v : View) (live : HasPlace v.epoch) where
   abbrev sizes : Sizes
@@ -82,6 +83,11 @@ module _ (id : ℕ) (v : View) (live : HasPlace v.epoch) where
       ))
       (λ miss. (v, unmoved ws vs p at i, λ other is. ((λ e. absurd (miss e)), (λ _. refl), knew_too slot other is x told)))
 
+  -- look at the word of a slot
+  pub looks_at : (slot : ℕ) → Steps (Parts sizes) id v (slot_word sizes slot) (λ x. x) (AtSlot LooksAtSlot (slot_word sizes slot) v)
+  looks_at slot ws vs p at small = let i : ℕ = slot_word sizes slot in
+      (v, unmoved ws vs p at i, λ other is. (refl, knew_too slot other is (get_or ws i 0) (knew ws vs p at slot)))
+
   -- retire an item of which it has the only owner
   pub retires : (slot generation : ℕ) → slot < sizes.slots → OwnsAlone v slot → ¬ (Holds v slot) → waiting_word generation < shared_base
       → Steps (Parts sizes) id v (slot_word sizes slot) (λ _. waiting_word generation)
@@ -97,6 +103,8 @@ module _ (id : ℕ) (v : View) (live : HasPlace v.epoch) where
           f.known,
           (λ one. f.lone (sym (f.all (λ z. omega arith)) ∙ one) live),
           ap (λ (k : ℕ). retired k y count v) (same_slot slot other is),
+          (λ open_now. (f.published open_now).once),
+          waits.few_wait codes sound sizes ws vs p.slots id v at slot inside mine,
         ),
       )
 
@@ -104,14 +112,17 @@ module _ (id : ℕ) (v : View) (live : HasPlace v.epoch) where
   pub gives_back : (slot generation k : ℕ) (x : WaitingItem) → get_elem? v.slots.waits k ≡ some x → x.slot ≡ slot → 3 ≤ x.changes
       → slot < sizes.slots → free_word generation < shared_base
       → Steps (Parts sizes) id v (slot_word sizes slot) (λ _. free_word generation) (λ _. AtSlot GivesBack (slot_word sizes slot) v (free_word generation))
-  gives_back slot g k x has is ripe inside low ws vs p at small =
+  gives_back slot g k x has same ripe inside low ws vs p at small =
       let y : ℕ = free_word g in let w : View = given_back slot y v in let word = free_is g low in
       let giving_back = λ (i : ℕ). owning.giving_back codes sound sizes ws vs p.slots id v at p.epoch i (noted slot y v) in (
         w,
         around ws vs p at slot y w live refl (same_epochs ws vs p at)
-            (subst (λ (i : ℕ). SlotsPart codes sizes (set ws (slot_word sizes i) y) (set vs id (giving_back i))) is
+            (subst (λ (i : ℕ). SlotsPart codes sizes (set ws (slot_word sizes i) y) (set vs id (giving_back i))) same
             (owning.gives_back codes sound sizes ws vs p.slots id v at p.epoch k y x (noted slot y v) has ripe (omega arith) word.0 word.1)),
-        λ other is. ap (λ (k : ℕ). given_back k y v) (same_slot slot other is),
+        λ other is. (
+          ap (λ (k : ℕ). given_back k y v) (same_slot slot other is),
+          ap (λ (k : ℕ). items_at k v) (sym (same_slot slot other is)) ∙ waits.waits_once codes sound sizes ws vs p.slots id v at slot k x has same,
+        ),
       )
 
   -- a guard comes to see a slot of its own

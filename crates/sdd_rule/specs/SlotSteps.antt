@@ -1,5 +1,5 @@
 -- What each step makes of what the participant knows of slots, and what it tells
-use Rattle.std.specs.Prelude.{◌≡◌, ◌≢◌, ℕ, ◌+◌, ◌==◌, ◌≤◌, not, if◌then◌else◌, List, [], ◌∷◌, ◌++◌, map, replicate, slice_index, slice_set, Some, None}
+use Rattle.std.specs.Prelude.{◌≡◌, ◌≢◌, ℕ, ◌+◌, ◌==◌, ◌<◌, ◌≤◌, not, if◌then◌else◌, List, [], ◌∷◌, ◌++◌, map, length, replicate, slice_index, slice_set, Some, None}
 use Rattle.std.specs.List.{filter}
 use mathlib.Core.Option.{some}
 use lib.ListN.{get_elem?}
@@ -9,7 +9,8 @@ use Rattle.sdd_rule.specs.declared.WaitingItem.{WaitingItem}
 use Rattle.sdd_rule.specs.declared.View.{View}
 use Rattle.sdd_rule.specs.declared.Sizes.{Sizes}
 use Rattle.sdd_rule.specs.Words.{words_behind, state_word, slot_word}
-use Rattle.sdd_rule.specs.Epoch.{HasPlace, IsLone}
+use Rattle.sdd_rule.specs.Epoch.{HasPlace, IsOpen, IsLone}
+use Rattle.sdd_rule.specs.Slots.{items_at}
 use Rattle.sdd_rule.specs.Steps.{knowing, closed, Publishes}
 
 -- it owns nothing, sees nothing, and no item waits with it
@@ -132,13 +133,19 @@ ClosesAll v x w = w ≡ record v { epoch = closed v.epoch; slots = unseeing v }
 abbrev pub Claims : ℕ → ℕ → ℕ → View → ℕ → View → Type 0
 Claims slot old y v x w = (x ≡ old → w ≡ claimed slot y v) × (x ≢ old → w ≡ v) × Knew slot v x
 
--- an owned item waits from the count of this moment on, which is known after it
+-- an owned item waits from the count of this moment on, which is known after it: under an open guard the one at the publish, or one more.
+-- Fewer items than there are slots waited before
 abbrev pub Retires : ℕ → View → ℕ → View → Type 0
 Retires slot v y w = (count : ℕ) × (v.epoch.known ≤ count) × (IsLone v.epoch → count ≡ v.epoch.known) × (w ≡ retired slot y count v)
+    × (IsOpen v.epoch → count ≤ v.epoch.since + 1) × (length v.slots.waits < v.sizes.slots)
 
--- the slot is free
+-- the slot is free, in which one item waited
 abbrev pub GivesBack : ℕ → View → ℕ → View → Type 0
-GivesBack slot v y w = w ≡ given_back slot y v
+GivesBack slot v y w = (w ≡ given_back slot y v) × (items_at slot v ≡ 1)
+
+-- the word of a slot is looked at
+abbrev pub LooksAtSlot : ℕ → View → ℕ → View → Type 0
+LooksAtSlot slot v x w = (w ≡ v) × Knew slot v x
 
 -- a guard sees a slot of the participant's own
 abbrev pub Watches : ℕ → View → ℕ → View → Type 0

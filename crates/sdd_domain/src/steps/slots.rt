@@ -6,14 +6,14 @@ ghost use Rattle.sdd_rule.specs.Words as words;
 ghost use Rattle.sdd_rule.specs.Codes.{free_word, owned_word, waiting_word};
 ghost use Rattle.sdd_rule.specs.Epoch.{HasPlace, IsOpen};
 ghost use Rattle.sdd_rule.specs.Slots.{owners_at, OwnsAlone, Holds};
-ghost use Rattle.sdd_rule.specs.SlotSteps.{IsDue, Claims, Retires, GivesBack, Watches, TakesHold, LetsGo, Discards, LooksForGuard, first, parted};
+ghost use Rattle.sdd_rule.specs.SlotSteps.{IsDue, Claims, Retires, GivesBack, LooksAtSlot, Watches, TakesHold, LetsGo, Discards, LooksForGuard, first, parted};
 ghost use Rattle.sdd_rule.specs.Parts.{owner_token};
 ghost use Rattle.sdd_domain.specs.Board.{id_of, sizes_of, places_of, slots_of};
 ghost use Rattle.sdd_domain.specs.Token.{view, epoch, slots, Taught, IsTakenIn};
 
 use crate::board::{Board, Token};
 use crate::plays::{
-    Claim, Discard, GiveBack, Hold, LetGo, LookForGuard, Part, Retire, TakeIn, Watch,
+    Claim, Discard, GiveBack, Hold, LetGo, LookAtSlot, LookForGuard, Part, Retire, TakeIn, Watch,
 };
 use crate::words::state_word;
 use atomic_table::Badge;
@@ -25,6 +25,21 @@ pub const FREE: u64 = 0;
 pub const OWNED: u64 = 1;
 /// Its item is retired, and waits.
 pub const WAITING: u64 = 4;
+
+/// Looks at the word of a slot, which was free at this moment where this is `FREE`.
+#[inline]
+pub fn look(board: &Board, token: &mut Token, slot: u32) -> u64
+    requires home { token.old.table_id ≡ id_of board.now }
+    requires sizes { (view token.old).sizes ≡ sizes_of board.now }
+    requires inside { slot < slots_of board.now }
+    requires place { HasPlace (epoch token.old) }
+    ensures { Taught (LooksAtSlot slot) token.old result token.new }
+{
+    board
+        .table
+        .shared
+        .load::<LookAtSlot>(token, board.slot_word(slot))
+}
 
 /// Tries to claim a slot, and answers its word before. It was free where this is `FREE`.
 #[inline]

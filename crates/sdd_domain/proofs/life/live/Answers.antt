@@ -19,4 +19,4 @@ returns-clause-words c = let v : View = c.args.token.now.me.0 in
     let claims = claimed_now c.args.slot (free_word 0) (owned_word 0) v c.claim.result c.claim.new.token.me.0 c.claim.ensures.3 c.requires.between.lone free in
     let retires = c.retire.ensures.3 in
     all_back c.args.slot v c.claim.new.token.me.0 c.retire.new.token.me.0 c.loop.token.me.0 c.give_back.new.token.me.0
-    claims retires.0 retires.3 c.loop.invariant.words c.loop.invariant.same.3 c.give_back.ensures.3 free
+    claims retires.0 retires.3 c.loop.invariant.words c.loop.invariant.same.3 c.give_back.ensures.3.0 free
