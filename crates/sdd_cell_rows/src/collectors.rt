@@ -1,6 +1,6 @@
 //! Private collectors: what they are given goes at its third change, and at their close at latest.
 use crate::example::{AMPLE, Example, in_a_world};
-use crate::steps::{accelerated, close, collectors, opened, shared};
+use crate::steps::{close, collectors, opened, shared, shows};
 use sdd_base::{Limits, Space};
 use sdd_core::Refused;
 use std::process::Abort;
@@ -35,11 +35,9 @@ impl Example<u64> for StaysOpen {
     fn run<R: Abort, S: Space<u64>>(rt: &R, s: &mut S) {
         let collector = collectors::made(rt, s);
         collectors::collect(rt, s, &collector, 37);
-        assert_eq!(rt; accelerated(rt, s), (0, true));
-        assert_eq!(rt; accelerated(rt, s), (1, true));
-        assert_eq!(rt; accelerated(rt, s), (2, true));
+        shows(rt, s, &[(0, true), (1, true), (2, true)]);
         assert!(rt; !collectors::has_slot(s));
-        assert_eq!(rt; accelerated(rt, s), (3, false));
+        shows(rt, s, &[(3, false)]);
         assert!(rt; collectors::has_slot(s));
         collectors::closed(rt, s, collector);
     }

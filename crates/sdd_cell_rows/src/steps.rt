@@ -46,6 +46,16 @@ pub fn accelerated<T: Item<T>, S: Space<T>>(rt: &impl Abort, s: &mut S) -> (u8, 
     (epoch, garbage)
 }
 
+/// The next accelerated guards show these epochs, and whether something might wait.
+pub fn shows<S: Space<u64>>(rt: &impl Abort, s: &mut S, table: &[(u8, bool)])
+    requires seated { IsSeated (S.seat s.old) }
+    ensures seat { S.seat s.new ≡ S.seat s.old }
+{
+    for (epoch, garbage) in table {
+        assert!(rt; accelerated(rt, s) == (*epoch, *garbage));
+    }
+}
+
 /// What a pointer shows.
 pub fn seen<L: Look<u64>>(at: &L, ptr: Ptr<'_, u64>) -> Option<u64> {
     ptr.as_ref(at).copied()

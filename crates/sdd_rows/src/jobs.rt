@@ -37,6 +37,16 @@ fn shown<S: Space<u64>>(rt: &impl Abort, s: &mut S, total: &AtomicU64) -> (u8, u
     (epoch, sum)
 }
 
+/// The accelerated guards show these epochs, and under each the number that jobs add to is this one.
+fn shows<S: Space<u64>>(rt: &impl Abort, s: &mut S, total: &AtomicU64, table: &[(u8, u64)])
+    requires { IsSeated (S.seat s.old) }
+    ensures { S.seat s.new ≡ S.seat s.old }
+{
+    for (epoch, sum) in table {
+        assert_eq!(rt; shown(rt, s, total), (*epoch, *sum));
+    }
+}
+
 /// Defers a job under a guard of its own.
 fn deferred<S: Space<u64>>(rt: &impl Abort, s: &mut S, job: S::Job) -> Result<(), (S::Job, Refused)>
     requires { IsSeated (S.seat s.old) }
@@ -63,11 +73,7 @@ fn defers_two<S: Space<u64>>(
     match deferred(rt, s, second) {
         Ok(()) => panic!(rt; "no place is free"),
         Err((job, refused)) => {
-            assert_eq!(rt; shown(rt, s, total), (0, 0));
-            assert_eq!(rt; shown(rt, s, total), (1, 0));
-            assert_eq!(rt; shown(rt, s, total), (2, 0));
-            assert_eq!(rt; shown(rt, s, total), (3, 7));
-            assert_eq!(rt; shown(rt, s, total), (4, 7));
+            shows(rt, s, total, &[(0, 0), (1, 0), (2, 0), (3, 7), (4, 7)]);
             assert!(rt; deferred(rt, s, job).is_ok());
             refused
         }
