@@ -1,14 +1,14 @@
 -- The places of a shelf begin vacant in room for them, and end. Assumes `Logic`.
-use Rattle.std.proofs.Common.{◌≡◌, ℕ, zero, suc, ◌+◌, ◌^◌, ◌≤◌, List, [], ◌∷◌, sym, refl, subst, arith}
+use Rattle.std.proofs.Common.{ℕ, zero, suc, ◌+◌, ◌^◌, ◌≤◌, List, [], ◌∷◌, refl, arith}
 use Rattle.std.specs.Prelude.{Option, None, Some}
 use seplogic.Ra.Ura.{Ura}
 use base.Fraction.{full_share}
 use base.FractionLaws.{Counts-all}
 use base.Stored.{Gv, gnil, gnum}
 use base.Logic.{SProp, ent, sep, ex, guard}
-use base.Fml.{Fml, ftrue, fsep, fex, flft, finv, froom}
+use base.Fml.{Fml, ftrue, fsep, finv, froom}
 use types.Logic.{Logic, sem}
-use types.Kit.{‵, raw, ◌⊛◌, some as exists, given, later, ◌$◌, ◌∵◌, !, qed, by, move, keep, drop, frame, use1, use2, split, split3, fsplit, fjoin, fpack, pick, learn, check, show, rewrite, updating, await, now, done}
+use types.Kit.{‵, ◌⊛◌, some as exists, given, later, ◌$◌, ◌∵◌, !, qed, move, keep, drop, use1, use2, split, split3, fsplit, fjoin, fpack, pick, learn, check, show, rewrite, updating, await, now, done}
 use types.Tokens.{lft_new}
 use mir.Syntax.{ty_array}
 use denote.RattleType.{RattleType}
@@ -39,7 +39,6 @@ module _ (E : El) {M : Type 1} {𝓤 : Ura M} (𝓛 : Logic 𝓤) (γ : ℕ) whe
 
   infix 26 ◌⊢◌
   infixr 35 ◌∗◌
-
   abbrev R : RattleType
   R = row_of E
 

@@ -3,7 +3,7 @@ use Rattle.std.specs.Prelude.{◌≡◌, ◌+◌, ◌-◌, ◌*◌, ◌^◌, ◌
 use mathlib.Core.Option.{some}
 use lib.ListN.{get_elem?}
 use base.Fraction.{full_share}
-use base.Stored.{Gv, gnil, gnum, gcons, Coded}
+use base.Stored.{Gv, gnil, gnum, gcons}
 use base.Fml.{Lft, Fml, ftrue, fsep, fex, flent, finv}
 use denote.RattleType.{RattleType}
 use mir.Raw.{raw}

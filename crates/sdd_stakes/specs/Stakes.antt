@@ -1,8 +1,8 @@
 -- What a stake and a tenure own.
-use Rattle.std.specs.Prelude.{◌≡◌, ℕ, Option, None, Some, List, [], ◌∷◌}
+use Rattle.std.specs.Prelude.{ℕ, Option, None, Some, List, [], ◌∷◌}
 use base.FractionLaws.{Counts}
 use base.Stored.{Gv, gnum, gcons, Coded, coded×, coded_ℕ, coded_list, coded_via}
-use base.Fml.{Lft, Share, Fml, ftrue, fsep, fex, flent, flft, fshr_bor}
+use base.Fml.{Lft, Share, Fml, ftrue, fsep, fex, flent, flft}
 use denote.Sharing.{one}
 use Rattle.sdd_token.specs.Units.{units, tokens, gv_coded}
 use Rattle.sdd_places.specs.Block.{stake_coded, IsFreeFor, lasts_in}

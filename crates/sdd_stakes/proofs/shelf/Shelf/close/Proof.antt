@@ -25,7 +25,7 @@ use denote.Triple.Clauses.{Clauses, Ended, closing}
 use denote.Triple.Spec.{Meets, triple_of}
 use denote.Triple.Table.{entered}
 use sound.WpLaws.{fm_of, WpFn-mono}
-use types.Kit.{fpick, use2, ‵, raw, ◌⊛◌, later, given, at_ret, ◌$◌, ◌∵◌, !, qed, move, keep, drop, use1, use3, learn, split, join, rewrite, fsplit, fsplit3, fjoin, fjoin3, feq_i, feq_l, suffices, await, done}
+use types.Kit.{fpick, use2, ‵, raw, ◌⊛◌, later, given, at_ret, ◌$◌, ◌∵◌, !, qed, move, keep, drop, use1, use3, learn, split, join, rewrite, fsplit, fjoin, fjoin3, feq_i, feq_l, suffices, await, done}
 use types.Part.{whole, sub}
 use types.Run.{stop, fld, size_word, align_word, unit_lit, no_more, and_then, of_opd, bin, first, blocks, exec, returns, enter}
 use types.ByLocal.{alloc_all, pass_all, free_all, look_at, get, get_in, is, sets, lands_last, env}
@@ -42,12 +42,11 @@ use Rattle.core.proofs.slots.Places.{sz}
 use Rattle.core.proofs.slots.Leases.{uncapped, lease_val, block_ty, block_size, block_align, args, P}
 use denote.RattleType.{RattleType}
 use denote.Laws.{Is, shows}
-use denote.RawPtr.{InBlock, block_of, count_of, at_block}
+use denote.RawPtr.{block_of, count_of, at_block}
 use denote.Steps.{peeks}
 use Rattle.core.proofs.mem.Param.{R}
 use Rattle.sdd_places.proofs.Rooms.{Hd, hold_had, hold_told}
-use Rattle.sdd_stakes.specs.Stakes.{purse}
-use Rattle.sdd_stakes.specs.Shelf.{rules, AreVacant}
+use Rattle.sdd_stakes.specs.Shelf.{AreVacant}
 use Rattle.sdd_stakes.proofs.Fields.{strip_of, token_val, ShelfData, shelf_told, StockData, stock_told}
 use Rattle.sdd_stakes.proofs.Housing.{clears}
 use Rattle.sdd_stakes.specs.contracts.stock.Stock as stock

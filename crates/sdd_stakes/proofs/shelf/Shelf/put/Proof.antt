@@ -1,18 +1,17 @@
 -- `put` opens what the seat carries, moves a value in, and lends it for the round of the number.
-use Rattle.atomic_table.proofs.Names.{◌≡◌, ℕ, [], ◌∷◌, List, sym, refl, ap, ◌∙◌, a_type, Val, vptr, inst_fn, SProp, emp, Lft, Fml, ftrue, fsep, flft, ‵, raw, ◌⊛◌, given, later, at_ret, ◌$◌, ◌∵◌, !, qed, by, move, keep, drop, split, split3, join, fsplit, fsplit3, fjoin, fjoin3, learn, use0, use1, use3, await, rewrite, feq_i, stop, fld, of_opd, first, blocks, exec, returns, enter, alloc_all, pass_all, free_all, look_at, get, through, sets, env, sub, whole, look_in, tables, yes, RattleType, owns, types_at, plain, Ptr, block_ptr, nothing, heard, param, bounded, dcons, dnil, Stays, stay_dropped, stay_ref, walk_of, Goes-dropped, Goes-ref, fact, fact_i, Is, shows, cell_at, peeks, RefOf, opens, closes, unhide, hidden_shr, looks, shuts, lent_out, Tuple, shr_bor-open, obor_close, tokens_halve, sem, all_e, apply∗, use2, load, id⊢, no, vint, w64, usize, ent, subst, fpick, fpack, WpFn, vunit, unit_lit, full_share, Share, bin, uint_vals, uint_Tells, ◌*◌, ◌+◌, ◌^◌, ◌<◌, arith, block_of, count_of, at_block}
+use Rattle.atomic_table.proofs.Names.{◌≡◌, ℕ, [], ◌∷◌, List, sym, refl, ap, ◌∙◌, a_type, Val, vptr, inst_fn, SProp, emp, Lft, Fml, ftrue, fsep, flft, ‵, raw, ◌⊛◌, given, later, at_ret, ◌$◌, ◌∵◌, !, qed, by, move, keep, drop, split, split3, join, fsplit, fsplit3, fjoin, fjoin3, learn, use0, use1, use3, await, rewrite, feq_i, stop, fld, of_opd, first, blocks, exec, returns, enter, alloc_all, pass_all, free_all, look_at, get, through, sets, env, sub, whole, look_in, tables, yes, RattleType, owns, types_at, plain, Ptr, block_ptr, nothing, heard, param, bounded, dcons, dnil, Stays, stay_dropped, stay_ref, walk_of, Goes-dropped, Goes-ref, fact, fact_i, Is, shows, cell_at, peeks, RefOf, opens, closes, unhide, hidden_shr, looks, shuts, lent_out, Tuple, shr_bor-open, obor_close, tokens_halve, sem, all_e, apply∗, use2, load, no, vint, w64, usize, ent, subst, fpick, fpack, WpFn, vunit, unit_lit, full_share, Share, bin, ◌*◌, ◌+◌, ◌^◌, ◌<◌, arith, block_of, count_of, at_block}
 use base.Fml.{fhide, finv, flent, froom, fex}
-use base.Logic.{never, sep, all}
+use base.Logic.{sep, all}
 use base.FractionLaws.{Counts}
 use base.Stored.{Gv, gnil, gnum}
 use types.Run.{init, assigns_last}
 use denote.Param.{layout}
 use denote.Param.Laws.{param_laws}
 use denote.Memory.{part_at}
-use denote.RawPtr.{lies_at, in_a_block}
+use denote.RawPtr.{lies_at}
 use denote.Struct.Lending.{lent_at, Lends-lies}
 use borrow.Table.OneValue.{part_in}
 use contract.BorrowLft.{◌⊑◌}
-use Rattle.core.proofs.atomic.Steps.{tail}
 use Rattle.core.proofs.mem.Param.{El, lawful, Good, one}
 use Rattle.core.specs.contracts.marker.PhantomData as marker
 use Rattle.atomic_table.proofs.Walks.{proved_at, leaves}

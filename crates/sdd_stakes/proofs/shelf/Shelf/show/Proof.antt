@@ -2,16 +2,10 @@
 use Rattle.atomic_table.proofs.Names.{◌≡◌, ℕ, [], ◌∷◌, List, sym, refl, ap, ◌∙◌, a_type, named, Val, vptr, inst_fn, SProp, emp, Lft, Fml, ftrue, fsep, flft, ‵, raw, ◌⊛◌, some, given, later, at_ret, ◌$◌, ◌∵◌, !, qed, by, move, keep, drop, split, split3, join, fsplit, fsplit3, fjoin, fjoin3, pick, learn, use0, use1, use3, await, rewrite, feq_i, stop, fld, addr, of_opd, first, blocks, exec, returns, enter, alloc_all, pass_all, free_all, look_at, get, through, sets, sets_last, env, sub, whole, look_in, tables, yes, RattleType, owns, types_at, plain, Ptr, block_ptr, nothing, heard, param, bounded, dcons, dnil, Stays, stay_dropped, stay_ref, walk_of, Goes-dropped, Goes-ref, fact, fact_i, Is, shows, cell_at, peeks, block_of, count_of, at_block, RefOf, mut_vals, mut_Tells, shr_vals, shr_Tells, opens, closes, unhide, hidden_shr, looks, shuts, lent_out, Tuple, shr_bor-open, obor_close, tokens_halve, sem, sep, load, bin, vint, w64, usize, uint_vals, uint_Tells, fpick, ◌*◌, ◌+◌, ◌^◌, ◌<◌, arith}
 use base.Fml.{fhide, finv}
 use base.Logic.{ex}
-use types.Run.{hop}
 use denote.Param.Laws.{param_laws}
 use denote.Opens.{hide}
-use denote.RawPtr.{InBlock}
-use denote.Struct.Struct.{Struct}
-use denote.Struct.Owning.{shape}
-use denote.Builtin.{u64}
-use denote.Struct.Lending.{lent_at, lent_at_shr_laws, in_block_says}
+use denote.Struct.Lending.{lent_at, lent_at_shr_laws}
 use lib.ListN.{set}
-use Rattle.core.proofs.atomic.Steps.{tail}
 use Rattle.core.specs.contracts.marker.PhantomData as marker
 use Rattle.atomic_table.proofs.Walks.{proved, leaves}
 use Rattle.atomic_table.specs.Seated.{TableId, seen, carried, age, place as where_, names}

@@ -1,7 +1,7 @@
 -- `take` opens what the seat carries, ends the round of the value by all its tokens, and moves the value out.
-use Rattle.atomic_table.proofs.Names.{◌≡◌, ℕ, [], ◌∷◌, List, sym, refl, ap, ◌∙◌, a_type, named, Val, vptr, inst_fn, SProp, emp, Lft, Fml, ftrue, fsep, flft, ‵, raw, ◌⊛◌, some, given, later, at_ret, ◌$◌, ◌∵◌, !, qed, by, move, keep, drop, split, split3, join, fsplit, fsplit3, fjoin, fjoin3, pick, learn, use0, use1, await, rewrite, feq_i, stop, fld, of_opd, first, blocks, exec, returns, enter, alloc_all, pass_all, free_all, look_at, get, through, sets, sets_last, env, sub, whole, look_in, tables, yes, RattleType, owns, types_at, plain, Ptr, block_ptr, nothing, heard, param, bounded, dcons, dnil, Stays, stay_dropped, stay_ref, walk_of, Goes-dropped, Goes-ref, fact, fact_i, Is, shows, cell_at, peeks, RefOf, mut_vals, mut_Tells, shr_vals, shr_Tells, opens, closes, unhide, hidden_shr, looks, shuts, lent_out, Tuple, shr_bor-open, obor_close, tokens_halve, sem, ◌^◌, all_e, apply∗, use2, load, id⊢, vint, w64, usize, uint_vals, uint_Tells, subst, full_share, bin, fpick, ◌*◌, ◌+◌, ◌<◌, arith, block_of, count_of, at_block}
+use Rattle.atomic_table.proofs.Names.{◌≡◌, ℕ, [], ◌∷◌, List, sym, refl, ap, ◌∙◌, a_type, named, Val, vptr, inst_fn, SProp, emp, Lft, Fml, ftrue, fsep, flft, ‵, raw, ◌⊛◌, some, given, later, at_ret, ◌$◌, ◌∵◌, !, qed, by, move, keep, drop, split, split3, join, fsplit, fsplit3, fjoin, fjoin3, pick, learn, use0, use1, await, rewrite, feq_i, stop, fld, of_opd, first, blocks, exec, returns, enter, alloc_all, pass_all, free_all, look_at, get, through, sets, sets_last, env, sub, whole, look_in, tables, yes, RattleType, owns, types_at, plain, Ptr, block_ptr, nothing, heard, param, bounded, dcons, dnil, Stays, stay_dropped, stay_ref, walk_of, Goes-dropped, Goes-ref, fact, fact_i, Is, shows, cell_at, peeks, RefOf, mut_vals, mut_Tells, shr_vals, shr_Tells, opens, closes, unhide, hidden_shr, looks, shuts, lent_out, Tuple, shr_bor-open, obor_close, tokens_halve, sem, ◌^◌, all_e, apply∗, use2, load, vint, w64, usize, uint_vals, uint_Tells, subst, full_share, bin, fpick, ◌*◌, ◌+◌, ◌<◌, arith, block_of, count_of, at_block}
 use base.Fml.{fhide, finv, flent, froom, fat}
-use base.Logic.{never, sep, all}
+use base.Logic.{sep, all}
 use base.Stored.{Gv, gnil, gnum}
 use lib.Dec.{T as Tr₀}
 use mir.Raw.{raw as bare}
@@ -9,9 +9,8 @@ use mir.Val.{WT, has_ty}
 use types.Run.{look}
 use denote.Param.{layout}
 use denote.Param.Laws.{param_laws}
-use denote.RawPtr.{lies_at, in_a_block}
+use denote.RawPtr.{lies_at}
 use borrow.Table.OneValue.{part_out}
-use Rattle.core.proofs.atomic.Steps.{tail}
 use Rattle.core.specs.contracts.marker.PhantomData as marker
 use Rattle.atomic_table.proofs.Walks.{proved, leaves}
 use Rattle.atomic_table.specs.Seated.{TableId, carried, age, place as where_, names}
@@ -24,7 +23,7 @@ use denote.Memory.{mem}
 use types.Run.{size_lit}
 use Rattle.core.proofs.ptr.Rows.{times_below, one_below}
 use Rattle.core.proofs.slots.Bodies.{after}
-use Rattle.sdd_stakes.specs.Shelf.{full_shown, IsFull, rule, shelf_shares, vacancy, most, AreWhole, HasWhole, top_turned}
+use Rattle.sdd_stakes.specs.Shelf.{full_shown, IsFull, rule, shelf_shares, most, AreWhole, HasWhole, top_turned}
 use Rattle.atomic_table.specs.contracts.shared.Shared as table
 use Rattle.atomic_table.specs.contracts.shared.Seat as seat
 use Rattle.sdd_stakes.specs.contracts.stake.Stake as stake
@@ -79,7 +78,6 @@ take_spec 𝓤 𝓛 𝓜 𝓡 wired T V K P L _ _ _ g d _ =
     move ! (3 ∷ 0 ∷ []) $ join ! $ move ! (2 ∷ 0 ∷ []) $ join ! $ move ! (11 ∷ []) $ use1 𝓛 (‵ (finv (rule R here γ i)) ⊛ ‵ (finv (rule R here γ i))) (𝓛.invs.inv_dup (rule R here γ i)) $ split ! $ move ! (0 ∷ 2 ∷ []) $
     use2 𝓛 (later (some (λ (x : T.Denot). given (u ≡ full_shown (R.coded.code x)) (‵ (units γ i (agreed_on m (gnum 0)) most) ⊛ ‵ (tokens n (2 ^ 63)) ⊛ ‵ (flent (n ∷ []) (lies_at R full_share here x))))))
     (takes_out 𝓛 γ i R here n u m top.so) $ await ! tt $ pick ! (λ x. learn ! (λ so. split3 ! $ move ! (1 ∷ 2 ∷ []) $ use2 𝓛 (later (‵ (lies_at R full_share here x))) (round_ends 𝓛 n (lies_at R full_share here x)) $ await ! tt $
-    
     use1 𝓛 (some (λ (v : Val). ‵ (fat full_share ty bp op v) ⊛ ‵ (R.own_val x (v ∷ [])))) (part_out 𝓛 R refl full_share x bp op) $ pick ! (λ v. split ! $ move ! (1 ∷ []) $
     peeks ! R (Is R) (shows 𝓛 R) x (v ∷ []) (λ is. let tv : Tr₀ (has_ty ty v) × WT v = (((param_laws 0 T L).lawful 𝓛).typed x (v ∷ []) is).0 in
     move ! (14 ∷ 16 ∷ []) $

@@ -1,5 +1,5 @@
 -- `join` glues the units and their tokens.
-use Rattle.sdd_token.proofs.Names.{◌≡◌, [], ◌∷◌, refl, List, ℕ, ◌+◌, ◌^◌, ◌≤◌, sym, arith, a_type, named, Val, vptr, vunit, inst_fn, SProp, emp, ‵, raw, ◌⊛◌, given, learn, ◌$◌, ◌∵◌, !, qed, by, keep, drop, split, fjoin, use0, use2, move, fsplit, fsplit3, fjoin3, join, feq_i, rewrite, of_opd, unit_lit, no_more, and_then, get, agg, sets, returns, enter, alloc_all, pass_all, free_all, look_at, tables, RattleType, owns, types_at, plain, nothing, opens, closes, heard, alive, Stays, stay_dropped, stay_ref, walk_of, Goes-dropped, Goes-ref, fact, fact_i, ftrue, Fml, fsep, flft, Lft, yes, mut_vals, mut_Tells, proved, leaves, token_val}
+use Rattle.sdd_token.proofs.Names.{◌≡◌, [], ◌∷◌, refl, List, ℕ, ◌+◌, ◌^◌, ◌≤◌, sym, arith, named, Val, vptr, vunit, SProp, emp, ‵, raw, ◌⊛◌, given, learn, ◌$◌, ◌∵◌, !, qed, by, keep, drop, split, fjoin, use0, use2, move, fsplit, fsplit3, fjoin3, join, feq_i, rewrite, of_opd, unit_lit, sets, returns, enter, alloc_all, pass_all, free_all, look_at, tables, RattleType, owns, types_at, plain, nothing, opens, closes, heard, Stays, stay_dropped, stay_ref, walk_of, Goes-dropped, Goes-ref, fact, fact_i, ftrue, Fml, fsep, flft, Lft, yes, mut_vals, mut_Tells, proved, leaves, token_val}
 use Rattle.std.specs.Prelude.{Option, None}
 use base.Stored.{Gv, coded×, coded_ℕ}
 use Rattle.atomic_table.specs.Seated.{itself}

@@ -1,6 +1,6 @@
 -- `redeem` puts a stake before the others.
-use Rattle.sdd_token.proofs.Names.{◌≡◌, [], ◌∷◌, refl, List, ℕ, ◌+◌, ◌^◌, ◌≤◌, sym, arith, a_type, named, Val, vptr, vunit, inst_fn, SProp, emp, ‵, raw, ◌⊛◌, given, learn, ◌$◌, ◌∵◌, !, qed, by, keep, drop, split, fjoin, use0, use2, move, fsplit, fsplit3, fjoin3, join, feq_i, rewrite, of_opd, unit_lit, no_more, and_then, get, agg, sets, returns, enter, alloc_all, pass_all, free_all, look_at, tables, RattleType, owns, types_at, plain, nothing, opens, closes, heard, alive, Stays, stay_dropped, stay_ref, walk_of, Goes-dropped, Goes-ref, fact, fact_i, ftrue, Fml, fsep, flft, Lft, yes, mut_vals, mut_Tells, proved, leaves, token_val}
-use Rattle.sdd_stakes.specs.Stakes.{Lot, holding, purse}
+use Rattle.sdd_token.proofs.Names.{◌≡◌, [], ◌∷◌, refl, List, ℕ, named, Val, vptr, vunit, SProp, emp, ‵, raw, ◌⊛◌, ◌$◌, ◌∵◌, !, qed, by, keep, drop, split, fjoin, use0, move, fsplit, fsplit3, fjoin3, join, feq_i, of_opd, unit_lit, sets, returns, enter, alloc_all, pass_all, free_all, look_at, tables, RattleType, owns, types_at, plain, nothing, opens, closes, Stays, stay_dropped, stay_ref, walk_of, Goes-dropped, Goes-ref, fact, fact_i, ftrue, Fml, flft, Lft, yes, mut_vals, mut_Tells, proved, leaves, token_val}
+use Rattle.sdd_stakes.specs.Stakes.{Lot}
 use Rattle.sdd_stakes.proofs.Fields.{peg_told}
 use Rattle.sdd_stakes.specs.contracts.stake.Stake as stake
 use Rattle.sdd_stakes.specs.contracts.stock.Stock as stock

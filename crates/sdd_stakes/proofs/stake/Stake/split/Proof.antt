@@ -1,5 +1,5 @@
 -- `split` cuts the units.
-use Rattle.sdd_token.proofs.Names.{◌≡◌, [], ◌∷◌, refl, List, ℕ, ◌-◌, ◌<◌, ◌≤◌, ◌^◌, sym, arith, a_type, named, Val, vptr, vint, SProp, emp, ‵, raw, ◌⊛◌, given, learn, ◌$◌, ◌∵◌, !, qed, by, keep, split, fjoin, use0, use1, move, fsplit, fsplit3, fjoin3, join, feq_i, rewrite, no_more, and_then, returns, enter, alloc_all, pass_all, free_all, look_at, get, sets, agg, tables, RattleType, owns, types_at, plain, nothing, opens, closes, heard, Stays, stay_dropped, stay_ref, walk_of, Goes-dropped, Goes-ref, fact, fact_i, ftrue, Fml, fsep, flft, Lft, yes, w64, u64, uint_vals, uint_Tells, mut_vals, mut_Tells, proved, leaves, token_val, Gv}
+use Rattle.sdd_token.proofs.Names.{◌≡◌, [], ◌∷◌, refl, List, ℕ, ◌-◌, ◌<◌, ◌≤◌, ◌^◌, sym, arith, named, Val, vptr, vint, SProp, emp, ‵, raw, ◌⊛◌, given, learn, ◌$◌, ◌∵◌, !, qed, by, keep, split, fjoin, use0, use1, move, fsplit, fsplit3, fjoin3, join, feq_i, rewrite, no_more, and_then, returns, enter, alloc_all, pass_all, free_all, look_at, get, sets, agg, tables, RattleType, owns, types_at, plain, nothing, opens, closes, heard, Stays, stay_dropped, stay_ref, walk_of, Goes-dropped, Goes-ref, fact, fact_i, ftrue, Fml, flft, Lft, yes, w64, u64, uint_vals, uint_Tells, mut_vals, mut_Tells, proved, leaves, token_val, Gv}
 use Rattle.sdd_token.specs.Units.{units, tokens}
 use Rattle.sdd_token.proofs.Steps.{splits, tokens_cut}
 use Rattle.std.specs.Prelude.{Option, None}
