@@ -72,7 +72,8 @@ turned_units a g [] = refl
 turned_units a g (h ∷ hs) = ap (λ (k : ℕ). h.units + k) (turned_units a g hs)
 
 -- a seat that has all units of a number has them once they show something else
-pub whole-turned : (γ i n a : ℕ) (g : Gv) (Is Js : Gv → Type 0) (xs : Carries) → Js g → HasWhole γ i n Is (lots xs) → HasWhole γ i n Js (lots (all_turned a g n xs))
+pub whole-turned : (γ i n a : ℕ) (g : Gv) (Is Js : Gv → Type 0) (xs : Carries) → Js g → HasWhole γ i n Is (lots xs)
+    → HasWhole γ i n Js (lots (all_turned a g n xs))
 whole-turned γ i n a g Is Js xs so has = let hs : List Lot = lots xs in let e = lots_turned a g n xs in
     let top : take n (lots (all_turned a g n xs)) ≡ turned a g (take n hs) = ap (take n) e ∙ take_turned a g n hs in
     record {
@@ -139,12 +140,14 @@ shown_of (gnum n) = gnil
 shown_of (gcons a b) = b
 
 -- where the units show this value and that, they are the same
-pub same-value : (R : RattleType) (γ i n a : ℕ) (x y : R.Denot) (hs : List Lot) → HasWhole γ i n (λ g. g ≡ showing R x) hs → AreWhole γ i a (showing R y) n hs → y ≡ x
+pub same-value : (R : RattleType) (γ i n a : ℕ) (x y : R.Denot) (hs : List Lot) → HasWhole γ i n (λ g. g ≡ showing R x) hs
+    → AreWhole γ i a (showing R y) n hs → y ≡ x
 same-value R γ i n a x y hs has are = let e = (subst (AllOf γ i a (showing R y)) has.there are.0).0 in
     R.coded.inj y x (ap shown_of (sym (ap (λ (l : Lot). l.shown) e) ∙ has.so))
 
 -- ---- as the calls of a shelf say it
-pub put-whole : (γ i n : ℕ) (w : Gv) (Is Js : Gv → Type 0) (xs ys : Carries) → Js w → HasWhole γ i n Is (lots xs) → (a : ℕ) × (ys ≡ all_turned a w n xs) → HasWhole γ i n Js (lots ys)
+pub put-whole : (γ i n : ℕ) (w : Gv) (Is Js : Gv → Type 0) (xs ys : Carries) → Js w → HasWhole γ i n Is (lots xs) → (a : ℕ) × (ys ≡ all_turned a w n xs)
+    → HasWhole γ i n Js (lots ys)
 put-whole γ i n w Is Js xs ys so has e = subst (λ (zs : Carries). HasWhole γ i n Js (lots zs)) (sym e.1) (whole-turned γ i n e.0 w Is Js xs so has)
 
 pub put-free : (t n : ℕ) (w : Gv) (xs ys : Carries) → AllFreeFor t (lots xs) → (a : ℕ) × (ys ≡ all_turned a w n xs) → AllFreeFor t (lots ys)

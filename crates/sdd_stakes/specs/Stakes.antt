@@ -17,7 +17,8 @@ pub record Lot : Type 0 where
   pub lent : Option ℕ
 
 abbrev pub lot_coded : Coded Lot
-lot_coded = coded_via (coded× coded_ℕ (coded× coded_ℕ (coded× coded_ℕ (coded× gv_coded (coded× coded_ℕ stake_coded))))) (λ (h : Lot). (h.book, (h.number, (h.round, (h.shown, (h.units, h.lent))))))
+lot_coded = coded_via (coded× coded_ℕ (coded× coded_ℕ (coded× coded_ℕ (coded× gv_coded (coded× coded_ℕ stake_coded)))))
+    (λ (h : Lot). (h.book, (h.number, (h.round, (h.shown, (h.units, h.lent))))))
     (λ x y e i. record { book = (e i).0; number = (e i).1.0; round = (e i).1.1.0; shown = (e i).1.1.1.0; units = (e i).1.1.1.1.0; lent = (e i).1.1.1.1.1 })
 
 abbrev pub lots_coded : Coded (List Lot)

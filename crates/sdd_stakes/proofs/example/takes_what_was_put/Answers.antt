@@ -16,7 +16,10 @@ show-shown-requires-clause-stake g c = let put = c.put.ensures.seat in let γ = 
 pub settle-requires-clause-lent : goal.settle-requires-clause-lent
 settle-requires-clause-lent g c = let put = c.put.ensures.seat in let zs = c.show-shown.new.seat.me.1 in
     subst (λ t. AllFreeFor t (lots zs)) (sym c.end_round-ended.ensures.ended) (c.show-shown.ensures.lent.1
-    (put-free c.args.tenure.now.round c.args.count (showing g.row.T c.args.value) c.args.seat.now.me.1 c.put.new.seat.me.1 c.requires.free (put.0, λ j. (put.1 j).me.1)))
+    (put-free c.args.tenure.now.round c.args.count (showing g.row.T c.args.value) c.args.seat.now.me.1 c.put.new.seat.me.1 c.requires.free (
+      put.0,
+      λ j. (put.1 j).me.1,
+    )))
 
 -- src/example.rt:55:5
 pub take-requires-clause-whole : goal.take-requires-clause-whole

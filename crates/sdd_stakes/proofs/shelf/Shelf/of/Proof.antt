@@ -61,7 +61,8 @@ of_spec 𝓤 𝓛 𝓜 𝓡 wired T A L LA g d dd _ _ =
     let new : Row.Denot = record { ptr = q; book = γ; size = n } in let rest : Sr.Denot = record { of = record {}; lots = ls } in
     nothing ! $ move ! (1 ∷ 0 ∷ []) $ fjoin ! $ move ! (1 ∷ 0 ∷ []) $ fjoin ! $ move ! (1 ∷ 0 ∷ []) $ fjoin ! $
     feq_i ! (List Val) (all ∷ []) (all ∷ []) refl $ fjoin ! $
-    fpack ! (Valss (Row ∷ Sr ∷ Hd E Z ∷ [])) (within (Declared.shape (tuple_type (Row ∷ Sr ∷ Hd E Z ∷ []))) (new, (rest, (held E Z h.alloc b o n, tt))) (all ∷ []))
+    fpack ! (Valss (Row ∷ Sr ∷ Hd E Z ∷ [])) (within (Declared.shape (tuple_type (Row ∷ Sr ∷ Hd E Z ∷ []))) (new, (rest, (held E Z h.alloc b o n, tt)))
+    (all ∷ []))
     (strip_of q ∷ [], (token_val ∷ [], (lease_val q n ∷ [], tt))) $
     sets ! (is ! (of_opd ! (get_in ! (fld ! refl (stop !)) (sub ! 0 refl (whole !)))) (ap ptr_val at)) refl (tt, tt) $
     sets ! (of_opd ! (get_in ! (fld ! refl (stop !)) (sub ! 1 refl (whole !)))) refl (tt, record { fits = fk }) $
