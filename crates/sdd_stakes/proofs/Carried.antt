@@ -59,14 +59,17 @@ module _ {M : Type 1} {𝓤 : Ura M} (𝓛 : Logic 𝓤) where
 
     pub with_all : (xs : List (ℕ × Stake)) (ls : List Lot) (q : Share) (K Q : Pr) → length ls ≡ length xs
         → (⟦ purse (lots xs) ⟧ ∗ K ⊢ H.⇛ (⟦ purse ls ⟧ ∗ Q)) → ⟦ out xs ⟧ ∗ (A.lft α q ∗ K) ⊢ H.⇛ (⟦ out (with_lots xs ls) ⟧ ∗ (A.lft α q ∗ Q))
-    with_all [] [] q K Q e k = qed 𝓛 (‵ ftrue ∷ ‵ (flft α q) ∷ raw K ∷ []) ∵ updating ! $ move ! (0 ∷ 2 ∷ []) $ use2 𝓛 (later (‵ ftrue ⊛ raw Q)) k $ await ! tt $ split ! $ now ! $ move ! (0 ∷ 2 ∷ 1 ∷ []) $ done !
+    with_all [] [] q K Q e k = qed 𝓛 (‵ ftrue ∷ ‵ (flft α q) ∷ raw K ∷ []) ∵ updating ! $ move ! (0 ∷ 2 ∷ []) $ use2 𝓛 (later (‵ ftrue ⊛ raw Q)) k $
+        await ! tt $ split ! $ now ! $ move ! (0 ∷ 2 ∷ 1 ∷ []) $ done !
     with_all [] (l ∷ ls) q K Q e k = absurd (omega arith)
     with_all (x ∷ xs) [] q K Q e k = absurd (omega arith)
-    with_all (x ∷ xs) (l ∷ ls) q K Q e k = let s : Stake = x.1 in let h : Lot = s.lot in let b : ℕ = block_of p in let o : ℕ = x.0 * (mem Sr).size + count_of p in let q₁ : Share = Share.left q in let q₂ : Share = Share.right q in
+    with_all (x ∷ xs) (l ∷ ls) q K Q e k = let s : Stake = x.1 in let h : Lot = s.lot in let b : ℕ = block_of p in
+        let o : ℕ = x.0 * (mem Sr).size + count_of p in let q₁ : Share = Share.left q in let q₂ : Share = Share.right q in
         qed 𝓛 (‵ (out (x ∷ xs)) ∷ ‵ (flft α q) ∷ raw K ∷ []) ∵ updating ! $ fsplit3 ! $ move ! (1 ∷ []) $ fsplit ! $ move ! (4 ∷ []) $
         use1 𝓛 (‵ (flft α q₁) ⊛ ‵ (flft α q₂)) (𝓛.lfts.lft_split α q) $ split ! $ move ! (2 ∷ 3 ∷ 0 ∷ []) $
         opens ! tt Sr b o (λ vs. move ! (1 ∷ []) $ fsplit ! $ move ! (1 ∷ 9 ∷ []) $ join ! $ move ! (8 ∷ 6 ∷ 0 ∷ []) $
-        use3 𝓛 (later (‵ (out (with_lots xs ls)) ⊛ ‵ (flft α q₂) ⊛ (‵ (holding l) ⊛ raw Q))) (with_all xs ls q₂ (⟦ holding h ⟧ ∗ K) (⟦ holding l ⟧ ∗ Q) (omega arith) (beside h l (lots xs) ls K Q k)) $ await ! tt $ split3 ! $
+        use3 𝓛 (later (‵ (out (with_lots xs ls)) ⊛ ‵ (flft α q₂) ⊛ (‵ (holding l) ⊛ raw Q))) (with_all xs ls q₂ (⟦ holding h ⟧ ∗ K) (⟦ holding l ⟧ ∗ Q)
+        (omega arith) (beside h l (lots xs) ls K Q k)) $ await ! tt $ split3 ! $
         move ! (2 ∷ []) $ split ! $ move ! (4 ∷ 0 ∷ []) $ fjoin ! $ move ! (4 ∷ 0 ∷ 5 ∷ 6 ∷ 7 ∷ []) $ closes ! tt Sr (relotted s l) vs b o $ fjoin ! $
         move ! (1 ∷ 4 ∷ []) $ use2 𝓛 (‵ (flft α q)) (𝓛.lfts.lft_join α q) $ move ! (4 ∷ 1 ∷ 3 ∷ []) $ fjoin3 ! $ now ! $ move ! (0 ∷ 1 ∷ 2 ∷ []) $ done !)
 
@@ -78,20 +81,28 @@ module _ {M : Type 1} {𝓤 : Ura M} (𝓛 : Logic 𝓤) where
 
     shut_on : (x : ℕ × Stake) (xs : List (ℕ × Stake)) (q : Share) (vs : List Val) (ls : List Lot) → length ls ≡ suc (length xs) → x.0 < n
         → let s = x.1 in let b = block_of p in let o = x.0 * (mem Sr).size + count_of p in
-        ⟦ purse ls ⟧ ∗ (all 𝓤 (Shuts xs (Share.right q)) ∗ (⟦ Peg.own_val (tt, tt) vs ⟧ ∗ (⟦ cell_at full_share Sr.mir vs b o ⟧ ∗ (A.obor α (Share.left q) (Body (mem Sr) b o (δ x.0)) ∗ (A.obs (δ x.0) (Sr.coded.code s) ∗ A.auth (δ x.0) (Sr.coded.code s))))))
+        ⟦ purse ls ⟧ ∗ (all 𝓤 (Shuts xs (Share.right q)) ∗ (⟦ Peg.own_val (tt, tt) vs ⟧ ∗ (⟦ cell_at full_share Sr.mir vs b o ⟧ ∗ (A.obor α (Share.left q)
+        (Body (mem Sr) b o (δ x.0)) ∗ (A.obs (δ x.0) (Sr.coded.code s) ∗ A.auth (δ x.0) (Sr.coded.code s))))))
         ⊢ H.⇛ (⟦ out (with_lots (x ∷ xs) ls) ⟧ ∗ A.lft α q)
     shut_on x xs q vs [] e near = absurd (omega arith)
-    shut_on x xs q vs (l ∷ ls) e near = let s : Stake = x.1 in let b : ℕ = block_of p in let o : ℕ = x.0 * (mem Sr).size + count_of p in let q₂ : Share = Share.right q in
-        qed 𝓛 (‵ (purse (l ∷ ls)) ∷ raw (all 𝓤 (Shuts xs q₂)) ∷ ‵ (Peg.own_val (tt, tt) vs) ∷ ‵ (cell_at full_share Sr.mir vs b o) ∷ ‵ (fobor α (Share.left q) (Body (mem Sr) b o (δ x.0))) ∷ ‵ (fobs (δ x.0) (Sr.coded.code s)) ∷ ‵ (fauth (δ x.0) (Sr.coded.code s)) ∷ []) ∵ updating ! $ fsplit ! $ move ! (2 ∷ []) $
+    shut_on x xs q vs (l ∷ ls) e near = let s : Stake = x.1 in let b : ℕ = block_of p in let o : ℕ = x.0 * (mem Sr).size + count_of p in
+        let q₂ : Share = Share.right q in
+        qed 𝓛 (‵ (purse (l ∷ ls)) ∷ raw (all 𝓤 (Shuts xs q₂)) ∷ ‵ (Peg.own_val (tt, tt) vs) ∷ ‵ (cell_at full_share Sr.mir vs b o) ∷ ‵ (fobor α (Share.left q)
+        (Body (mem Sr) b o (δ x.0))) ∷ ‵ (fobs (δ x.0) (Sr.coded.code s)) ∷ ‵ (fauth (δ x.0) (Sr.coded.code s)) ∷ []) ∵ updating ! $ fsplit ! $
+        move ! (2 ∷ []) $
         use1 𝓛 (raw (Shuts xs q₂ (ls, omega arith))) (all_e 𝓤 (Shuts xs q₂) (ls, omega arith)) $ move ! (2 ∷ 0 ∷ []) $
-        use2 𝓛 (later (‵ (out (with_lots xs ls)) ⊛ ‵ (flft α q₂))) (apply∗ 𝓤 ⟦ purse ls ⟧ (H.⇛ (⟦ out (with_lots xs ls) ⟧ ∗ A.lft α q₂))) $ await ! tt $ split ! $
+        use2 𝓛 (later (‵ (out (with_lots xs ls)) ⊛ ‵ (flft α q₂))) (apply∗ 𝓤 ⟦ purse ls ⟧ (H.⇛ (⟦ out (with_lots xs ls) ⟧ ∗ A.lft α q₂))) $ await ! tt $
+        split ! $
         -- [what is carried; its token; the lot; the field; the cell; the open borrow; the names]
         move ! (3 ∷ 2 ∷ []) $ fjoin ! $ move ! (3 ∷ 0 ∷ 4 ∷ 5 ∷ 6 ∷ []) $ closes ! tt Sr (relotted s l) vs b o $ fjoin ! $
-        move ! (1 ∷ 3 ∷ []) $ use2 𝓛 (‵ (flft α q)) (𝓛.lfts.lft_join α q) $ nothing ! $ fpack ! (x.0 < n) (λ _. ftrue) near $ move ! (0 ∷ 2 ∷ 3 ∷ []) $ fjoin3 ! $ now ! $ done !
+        move ! (1 ∷ 3 ∷ []) $ use2 𝓛 (‵ (flft α q)) (𝓛.lfts.lft_join α q) $ nothing ! $ fpack ! (x.0 < n) (λ _. ftrue) near $ move ! (0 ∷ 2 ∷ 3 ∷ []) $
+        fjoin3 ! $ now ! $ done !
 
     pub opens_all : (xs : List (ℕ × Stake)) (q : Share) → ⟦ out xs ⟧ ∗ A.lft α q ⊢ H.⇛ (⟦ purse (lots xs) ⟧ ∗ all 𝓤 (Shuts xs q))
-    opens_all [] q = qed 𝓛 (‵ ftrue ∷ ‵ (flft α q) ∷ []) ∵ updating ! $ now ! $ frame ! $ each ! (Shuts [] q) (λ l. assume ! (‵ (purse l.0)) $ updating ! $ drop ! $ nothing ! $ now ! $ done !)
-    opens_all (x ∷ xs) q = let s : Stake = x.1 in let h : Lot = s.lot in let b : ℕ = block_of p in let o : ℕ = x.0 * (mem Sr).size + count_of p in let q₁ : Share = Share.left q in let q₂ : Share = Share.right q in
+    opens_all [] q = qed 𝓛 (‵ ftrue ∷ ‵ (flft α q) ∷ []) ∵ updating ! $ now ! $ frame ! $ each ! (Shuts [] q) (λ l. assume ! (‵ (purse l.0)) $ updating ! $
+        drop ! $ nothing ! $ now ! $ done !)
+    opens_all (x ∷ xs) q = let s : Stake = x.1 in let h : Lot = s.lot in let b : ℕ = block_of p in let o : ℕ = x.0 * (mem Sr).size + count_of p in
+        let q₁ : Share = Share.left q in let q₂ : Share = Share.right q in
         qed 𝓛 (‵ (out (x ∷ xs)) ∷ ‵ (flft α q) ∷ []) ∵ updating ! $ fsplit3 ! $ fpick ! (λ near. drop ! $ fsplit ! $ move ! (3 ∷ []) $
         use1 𝓛 (‵ (flft α q₁) ⊛ ‵ (flft α q₂)) (𝓛.lfts.lft_split α q) $ split ! $ move ! (2 ∷ 3 ∷ 0 ∷ []) $
         opens ! tt Sr b o (λ vs. move ! (1 ∷ []) $ fsplit ! $ move ! (7 ∷ 6 ∷ []) $
@@ -127,7 +138,9 @@ set_long (x ∷ xs) (suc n) l = ap suc (set_long xs n l)
 
 -- a loan to the tenure leaves the rest as it was
 pub lent_on : (t : ℕ) (xs : List (ℕ × Stake)) (n : ℕ) (h : Lot) → get_elem? (lots xs) n ≡ some h → OnlyLends t xs (with_lots xs (set (lots xs) n (lent_to t h)))
-lent_on t xs n h at = let ls : List Lot = lots xs in let ms : List Lot = set ls n (lent_to t h) in let long = set_long xs n (lent_to t h) in let e = lots_with xs ms long in (
-  ap (λ (l : List Lot). with_lots (with_lots xs ms) (settled l)) e ∙ ap (λ (l : List Lot). with_lots (with_lots xs ms) l) (keeps_settled ls n t h at) ∙ with_with xs ms (settled ls) long (same_length xs),
-  λ ok. subst (λ (l : List Lot). AllFreeFor t l) (sym e) (keeps_all_to ls n t h ok),
-)
+lent_on t xs n h at = let ls : List Lot = lots xs in let ms : List Lot = set ls n (lent_to t h) in let long = set_long xs n (lent_to t h) in
+    let e = lots_with xs ms long in (
+      ap (λ (l : List Lot). with_lots (with_lots xs ms) (settled l)) e ∙ ap (λ (l : List Lot). with_lots (with_lots xs ms) l)
+          (keeps_settled ls n t h at) ∙ with_with xs ms (settled ls) long (same_length xs),
+      λ ok. subst (λ (l : List Lot). AllFreeFor t l) (sym e) (keeps_all_to ls n t h ok),
+    )

@@ -25,7 +25,8 @@ pub peg_told : (vs : List Val) → Is Peg (tt, tt) vs → vs ≡ token_val ∷ [
 peg_told vs is = is.1.0 ∙ ap (λ (ws : List Val). vstruct (of_list (ws ++ [])) ∷ []) is.1.1.0.1.0
 
 pub peg_made : {M : Type 1} {𝓤 : Ura M} (𝓛 : Logic 𝓤) → ent 𝓤 (emp 𝓤) (sem 𝓛 (Peg.own_val (tt, tt) (token_val ∷ [])))
-peg_made 𝓛 = makes_shadow 𝓛 (Peg.own_val (tt, tt) (token_val ∷ [])) (λ vss. (tt, ((λ uss. (tt, tt)), tt))) ((vstruct vnil ∷ [], tt), (refl, ((tt, (refl, tt)), tt)))
+peg_made 𝓛 = makes_shadow 𝓛 (Peg.own_val (tt, tt) (token_val ∷ [])) (λ vss. (tt, ((λ uss. (tt, tt)), tt)))
+    ((vstruct vnil ∷ [], tt), (refl, ((tt, (refl, tt)), tt)))
 
 module _ (R : RattleType) where
   abbrev pub ShelfData : RattleType
@@ -47,4 +48,5 @@ pub stock_told : (vs : List Val) → Is StockData (tt, tt) vs → vs ≡ token_v
 stock_told vs is = is.1.0 ∙ ap (λ (ws : List Val). vstruct (of_list (ws ++ [])) ∷ []) is.1.1.0.1.0
 
 pub stock_made : {M : Type 1} {𝓤 : Ura M} (𝓛 : Logic 𝓤) → ent 𝓤 (emp 𝓤) (sem 𝓛 (StockData.own_val (tt, tt) (token_val ∷ [])))
-stock_made 𝓛 = makes_shadow 𝓛 (StockData.own_val (tt, tt) (token_val ∷ [])) (λ vss. (tt, ((λ uss. (tt, tt)), tt))) ((vstruct vnil ∷ [], tt), (refl, ((tt, (refl, tt)), tt)))
+stock_made 𝓛 = makes_shadow 𝓛 (StockData.own_val (tt, tt) (token_val ∷ [])) (λ vss. (tt, ((λ uss. (tt, tt)), tt)))
+    ((vstruct vnil ∷ [], tt), (refl, ((tt, (refl, tt)), tt)))

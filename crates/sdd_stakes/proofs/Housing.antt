@@ -1,14 +1,14 @@
 -- The places of a shelf begin vacant in room for them, and end. Assumes `Logic`.
-use Rattle.std.proofs.Common.{◌≡◌, ℕ, zero, suc, ◌+◌, ◌^◌, ◌≤◌, List, [], ◌∷◌, sym, refl, subst, arith}
+use Rattle.std.proofs.Common.{ℕ, zero, suc, ◌+◌, ◌^◌, ◌≤◌, List, [], ◌∷◌, refl, arith}
 use Rattle.std.specs.Prelude.{Option, None, Some}
 use seplogic.Ra.Ura.{Ura}
 use base.Fraction.{full_share}
 use base.FractionLaws.{Counts-all}
 use base.Stored.{Gv, gnil, gnum}
 use base.Logic.{SProp, ent, sep, ex, guard}
-use base.Fml.{Fml, ftrue, fsep, fex, flft, finv, froom}
+use base.Fml.{Fml, ftrue, fsep, finv, froom}
 use types.Logic.{Logic, sem}
-use types.Kit.{‵, raw, ◌⊛◌, some as exists, given, later, ◌$◌, ◌∵◌, !, qed, by, move, keep, drop, frame, use1, use2, split, split3, fsplit, fjoin, fpack, pick, learn, check, show, rewrite, updating, await, now, done}
+use types.Kit.{‵, ◌⊛◌, some as exists, given, later, ◌$◌, ◌∵◌, !, qed, move, keep, drop, use1, use2, split, split3, fsplit, fjoin, fpack, pick, learn, check, show, rewrite, updating, await, now, done}
 use types.Tokens.{lft_new}
 use mir.Syntax.{ty_array}
 use denote.RattleType.{RattleType}
@@ -39,7 +39,6 @@ module _ (E : El) {M : Type 1} {𝓤 : Ura M} (𝓛 : Logic 𝓤) (γ : ℕ) whe
 
   infix 26 ◌⊢◌
   infixr 35 ◌∗◌
-
   abbrev R : RattleType
   R = row_of E
 
@@ -60,7 +59,8 @@ module _ (E : El) {M : Type 1} {𝓤 : Ura M} (𝓛 : Logic 𝓤) (γ : ℕ) whe
       use1 𝓛 (‵ (tokens a 1) ⊛ ‵ (tokens a most)) (tokens_cut 𝓛 a (2 ^ 63) 1 most (omega arith) (omega arith) (omega arith) (omega arith)) $ split ! $
       -- [the place's token; the others; 1; most; the book; the room]
       move ! (2 ∷ 0 ∷ []) $ fjoin ! $ move ! (0 ∷ 4 ∷ []) $ fjoin ! $ fpack ! ℕ (λ m. fsep (part γ i m gnil 1) (vacancy R p)) a $
-      fpack ! (Option (Option (ℕ × R.Denot))) (state R p γ i) (Some None) $ use1 𝓛 (later (‵ (finv (rule R p γ i)))) (𝓛.invs.inv_new (rule R p γ i)) $ await ! tt $
+      fpack ! (Option (Option (ℕ × R.Denot))) (state R p γ i) (Some None) $ use1 𝓛 (later (‵ (finv (rule R p γ i)))) (𝓛.invs.inv_new (rule R p γ i)) $
+      await ! tt $
       -- [the rule; the others' tokens; most; the book]
       move ! (2 ∷ 1 ∷ []) $ fjoin ! $ now ! $ show ! (Housed p i) a $ move ! (1 ∷ 0 ∷ 2 ∷ []) $ done !))
 
@@ -78,8 +78,10 @@ module _ (E : El) {M : Type 1} {𝓤 : Ura M} (𝓛 : Logic 𝓤) (γ : ℕ) whe
     lays (suc n) i o = let p : Ptr = block_ptr b o in qed 𝓛 (‵ (book_owns γ i) ∷ ‵ (space (suc n) o) ∷ []) ∵ updating ! $ move ! (1 ∷ []) $
         use1 𝓛 (‵ (froom (elτ E) b o) ⊛ ‵ (space n (o + size))) (𝓛.laws.room_uncons (elτ E) n b o) $ split ! $
         use1 𝓛 (‵ (vacancy R p)) (𝓛.laws.room-raw (elτ E) b o) $ move ! (2 ∷ 0 ∷ []) $
-        use2 𝓛 (later (exists (λ (a : ℕ). ‵ (finv (rule R p γ i)) ⊛ ‵ (part γ i a gnil most) ⊛ ‵ (book_owns γ (suc i))))) (houses p i) $ await ! tt $ pick ! (λ a. split3 ! $
-        move ! (2 ∷ 3 ∷ []) $ use2 𝓛 (later (exists (λ (ls : List Lot). given (AreVacant γ (suc i) n ls) (‵ (rules R b γ n (suc i) (o + size)) ⊛ ‵ (purse ls)))))
+        use2 𝓛 (later (exists (λ (a : ℕ). ‵ (finv (rule R p γ i)) ⊛ ‵ (part γ i a gnil most) ⊛ ‵ (book_owns γ (suc i))))) (houses p i) $ await ! tt $
+        pick ! (λ a. split3 ! $
+        move ! (2 ∷ 3 ∷ []) $ use2 𝓛 (later (exists (λ (ls : List Lot). given (AreVacant γ (suc i) n ls) (‵ (rules R b γ n (suc i)
+        (o + size)) ⊛ ‵ (purse ls)))))
         (lays n (suc i) (o + size)) $ await ! tt $ pick ! (λ ls. learn ! (λ are. split ! $
         -- [the other rules; the other stakes; the rule; the stake]
         move ! (2 ∷ 0 ∷ []) $ fjoin ! $ move ! (2 ∷ 1 ∷ []) $ fjoin ! $ now ! $ show ! (Laid (suc n) i o) (lot γ i a gnil most ∷ ls) $ check ! (refl, are) $
@@ -93,7 +95,8 @@ module _ (E : El) {M : Type 1} {𝓤 : Ura M} (𝓛 : Logic 𝓤) (γ : ℕ) whe
         qed 𝓛 (‵ (rules R b γ (suc n) i o) ∷ ‵ (purse (l ∷ ls)) ∷ []) ∵ updating ! $ fsplit ! $ move ! (2 ∷ []) $ fsplit ! $
         rewrite ! 0 (λ (h : Lot). ‵ (holding h)) are.0 refl $ fsplit ! $
         -- [the units; their tokens; the other stakes; the rule; the other rules]
-        move ! (3 ∷ 0 ∷ []) $ use2 𝓛 (later (‵ (units γ i (agreed_on a (gnum 0)) most) ⊛ ‵ (vacancy R p))) (opens_room 𝓛 γ i R p a) $ await ! tt $ split ! $ drop ! $
+        move ! (3 ∷ 0 ∷ []) $ use2 𝓛 (later (‵ (units γ i (agreed_on a (gnum 0)) most) ⊛ ‵ (vacancy R p))) (opens_room 𝓛 γ i R p a) $ await ! tt $ split ! $
+        drop ! $
         use1 𝓛 (‵ (froom (elτ E) b o)) (𝓛.laws.raw-room (elτ E) b o) $
         -- [the room; the tokens; the other stakes; the other rules]
         move ! (3 ∷ 2 ∷ []) $ use2 𝓛 (later (‵ (space n (o + size)))) (clears n (suc i) (o + size) ls are.1) $ await ! tt $

@@ -7,3 +7,4 @@ pub mod Takes
 pub mod ShelfSent
 pub mod Collect
 pub mod Housing
+pub mod Turns

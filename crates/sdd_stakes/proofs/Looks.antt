@@ -1,5 +1,5 @@
 -- A look at a place by units of a purse, which are lent to a tenure. Assumes `Logic`.
-use Rattle.std.proofs.Common.{◌≡◌, ◌⊎◌, inl, inr, ℕ, zero, suc, List, [], ◌∷◌, set, sym, refl, ap, subst}
+use Rattle.std.proofs.Common.{◌≡◌, inl, inr, ℕ, zero, suc, List, [], ◌∷◌, set, sym, refl, ap, subst}
 use Rattle.std.specs.Prelude.{Option, None, Some}
 use mathlib.Core.Option.{some, some-injective, some-ne-none}
 use lib.ListN.{get_elem?}
@@ -63,7 +63,8 @@ module _ {M : Type 1} {𝓤 : Ura M} (𝓛 : Logic 𝓤) where
   purse_at [] n h at = absurd (some-ne-none h (sym at))
   purse_at (x ∷ hs) zero h at = qed 𝓛 (‵ (holding x) ∷ ‵ (purse hs) ∷ []) ∵ rewrite ! 0 (λ (y : Lot). ‵ (holding y)) (some-injective x h at) refl $ frame ! $
       each ! (Swapped (x ∷ hs) zero) (λ y. assume ! (‵ (holding y)) $ done !)
-  purse_at (x ∷ hs) (suc n) h at = qed 𝓛 (‵ (holding x) ∷ ‵ (purse hs) ∷ []) ∵ move ! (1 ∷ []) $ use1 𝓛 (‵ (holding h) ⊛ raw (all 𝓤 (Swapped hs n))) (purse_at hs n h at) $ split ! $ frame ! $
+  purse_at (x ∷ hs) (suc n) h at = qed 𝓛 (‵ (holding x) ∷ ‵ (purse hs) ∷ []) ∵ move ! (1 ∷ []) $
+      use1 𝓛 (‵ (holding h) ⊛ raw (all 𝓤 (Swapped hs n))) (purse_at hs n h at) $ split ! $ frame ! $
       each ! (Swapped (x ∷ hs) (suc n)) (λ y. use1 𝓛 (raw (Swapped hs n y)) (all_e 𝓤 (Swapped hs n) y) $ assume ! (‵ (holding y)) $
       use2 𝓛 (‵ (purse (set hs n y))) (apply∗ 𝓤 ⟦ holding y ⟧ ⟦ purse (set hs n y) ⟧) $ move ! (1 ∷ 0 ∷ []) $ done !)
 
@@ -88,18 +89,24 @@ module _ {M : Type 1} {𝓤 : Ura M} (𝓛 : Logic 𝓤) where
 
     other : (a b : ℕ) (g w : Gv) (n : ℕ) → IsFull g → (IsFull w → ⊥) → (Z : Pr) → ⟦ part γ i b w 1 ⟧ ∗ ⟦ U a g n ⟧ ⊢ Z
     other a b g w n full not_full Z = qed 𝓛 (‵ (part γ i b w 1) ∷ ‵ (U a g n) ∷ []) ∵ fsplit ! $ move ! (0 ∷ 2 ∷ []) $
-        use2 𝓛 (given (Meets (agreed_on b w) (agreed_on a g) 1 n) (‵ (U b w 1) ⊛ ‵ (U a g n))) (apart_at 𝓛 γ i (agreed_on b w) (agreed_on a g) 1 n) $ learn ! (λ met.
+        use2 𝓛 (given (Meets (agreed_on b w) (agreed_on a g) 1 n) (‵ (U b w 1) ⊛ ‵ (U a g n))) (apart_at 𝓛 γ i (agreed_on b w) (agreed_on a g) 1 n) $
+        learn ! (λ met.
         absurd (not_full (subst IsFull (let same = (coded× coded_ℕ itself).inj (b, w) (a, g) met.values in sym (λ j. (same j).1)) full)))
 
     looks_in : (a : ℕ) (g : Gv) (n : ℕ) → IsFull g → (v : Option (Option (ℕ × X))) → ⟦ st v ⟧ ∗ ⟦ U a g n ⟧ ⊢ upd 𝓤 (⟦ I ⟧ ∗ ex 𝓤 (Told a g (U a g n)))
     looks_in a g n full None = qed 𝓛 (‵ (st None) ∷ ‵ (U a g n) ∷ []) ∵ fpick ! (λ b. by ! (other a b g (gnum 0) n full (λ z. z) _))
-    looks_in a g n full (Some None) = qed 𝓛 (‵ (st (Some None)) ∷ ‵ (U a g n) ∷ []) ∵ fpick ! (λ b. fsplit ! $ keep ! (0 ∷ 2 ∷ []) $ by ! (other a b g gnil n full (λ z. z) _))
-    looks_in a g n full (Some (Some v)) = let b : ℕ = v.0 in let x : X = v.1 in let w : Gv = full_shown (R.coded.code x) in let Z : Pr = ⟦ I ⟧ ∗ ex 𝓤 (Told a g (U a g n)) in
+    looks_in a g n full (Some None) = qed 𝓛 (‵ (st (Some None)) ∷ ‵ (U a g n) ∷ []) ∵ fpick ! (λ b. fsplit ! $ keep ! (0 ∷ 2 ∷ []) $
+        by ! (other a b g gnil n full (λ z. z) _))
+    looks_in a g n full (Some (Some v)) = let b : ℕ = v.0 in let x : X = v.1 in let w : Gv = full_shown (R.coded.code x) in
+        let Z : Pr = ⟦ I ⟧ ∗ ex 𝓤 (Told a g (U a g n)) in
         qed 𝓛 (‵ (st (Some (Some v))) ∷ ‵ (U a g n) ∷ []) ∵ fsplit ! $ fsplit ! $ move ! (0 ∷ 3 ∷ []) $
-        use2 𝓛 (given (Meets (agreed_on b w) (agreed_on a g) 1 n) (‵ (U b w 1) ⊛ ‵ (U a g n))) (apart_at 𝓛 γ i (agreed_on b w) (agreed_on a g) 1 n) $ learn ! (λ met.
+        use2 𝓛 (given (Meets (agreed_on b w) (agreed_on a g) 1 n) (‵ (U b w 1) ⊛ ‵ (U a g n))) (apart_at 𝓛 γ i (agreed_on b w) (agreed_on a g) 1 n) $
+        learn ! (λ met.
         let same = (coded× coded_ℕ itself).inj (b, w) (a, g) met.values in split ! $ move ! (3 ∷ []) $ fsplit ! $
-        use1 𝓛 (‵ (lent_at R p x (b ∷ [])) ⊛ ‵ (lent_at R p x (b ∷ []))) (contraction 𝓛 (lent_at R p x) (laws x) (b ∷ [])) $ split ! $ move ! (1 ∷ 2 ∷ []) $ fjoin ! $
-        move ! (2 ∷ 4 ∷ []) $ fjoin ! $ move ! (0 ∷ 1 ∷ []) $ fjoin ! $ fpack ! (Option (Option (ℕ × X))) st (Some (Some v)) $ suffices ! _ (upd_i 𝓤 Z) $ frame ! $
+        use1 𝓛 (‵ (lent_at R p x (b ∷ [])) ⊛ ‵ (lent_at R p x (b ∷ []))) (contraction 𝓛 (lent_at R p x) (laws x) (b ∷ [])) $ split ! $ move ! (1 ∷ 2 ∷ []) $
+        fjoin ! $
+        move ! (2 ∷ 4 ∷ []) $ fjoin ! $ move ! (0 ∷ 1 ∷ []) $ fjoin ! $ fpack ! (Option (Option (ℕ × X))) st (Some (Some v)) $ suffices ! _ (upd_i 𝓤 Z) $
+        frame ! $
         show ! (Told a g (U a g n)) x $ check ! (sym (λ j. (same j).1)) $ rewrite ! 0 (λ (m : ℕ). ‵ (lent_at R p x (m ∷ []))) (λ j. (same j).0) refl $ done !)
 
     pub looks : (a : ℕ) (g : Gv) (n : ℕ) → IsFull g → A.inv I ∗ ⟦ U a g n ⟧ ⊢ H.⇛ (ex 𝓤 (Told a g (U a g n)))
@@ -117,13 +124,17 @@ module _ {M : Type 1} {𝓤 : Ura M} (𝓛 : Logic 𝓤) where
         → A.inv I ∗ ⟦ purse hs ⟧ ∗ ⟦ tenure_shares τ κ ⟧ ⊢ H.⇛ (ex 𝓤 (Seen hs n τ h κ))
     shows_now hs n τ h κ at of is full free = let a : ℕ = h.round in let g : Gv = h.shown in let k : ℕ = h.units in let h' : Lot = lent_to τ h in
         qed 𝓛 (‵ (finv I) ∷ ‵ (purse hs) ∷ ‵ (tenure_shares τ κ) ∷ []) ∵ updating ! $ move ! (1 ∷ []) $
-        use1 𝓛 (‵ (holding h) ⊛ raw (all 𝓤 (Swapped hs n))) (purse_at hs n h at) $ split ! $ fsplit ! $ rewrite ! 0 (λ (m : ℕ × ℕ). ‵ (units m.0 m.1 (agreed_on a g) k)) (λ j. (of j, is j)) refl $ move ! (3 ∷ 0 ∷ []) $
-        use2 𝓛 (later (exists (λ (x : X). given (g ≡ full_shown (R.coded.code x)) (‵ (lent_at R p x (a ∷ [])) ⊛ ‵ (U a g k))))) (looks a g k full) $ await ! tt $ pick ! (λ x. learn ! (λ so. split ! $ move ! (2 ∷ []) $
+        use1 𝓛 (‵ (holding h) ⊛ raw (all 𝓤 (Swapped hs n))) (purse_at hs n h at) $ split ! $ fsplit ! $
+        rewrite ! 0 (λ (m : ℕ × ℕ). ‵ (units m.0 m.1 (agreed_on a g) k)) (λ j. (of j, is j)) refl $ move ! (3 ∷ 0 ∷ []) $
+        use2 𝓛 (later (exists (λ (x : X). given (g ≡ full_shown (R.coded.code x)) (‵ (lent_at R p x (a ∷ [])) ⊛ ‵ (U a g k))))) (looks a g k full) $
+        await ! tt $ pick ! (λ x. learn ! (λ so. split ! $ move ! (2 ∷ []) $
         use1 𝓛 (later (‵ (lent_out τ a k))) (lends_on τ h.lent a k free) $ await ! tt $ fsplit ! $
         use1 𝓛 (‵ (lasts_in τ a) ⊛ ‵ (lasts_in τ a)) (contraction 𝓛 (one (λ q. flft (a ∷ []) q)) (one_shr_laws (λ q. flft (a ∷ []) q)) (τ ∷ [])) $ split ! $
         move ! (1 ∷ 2 ∷ []) $ fjoin ! $ move ! (1 ∷ 2 ∷ 5 ∷ []) $ use3 𝓛 (‵ (lent_at R p x κ)) (shows_in 𝓛 (lent_at R p x) (laws x) τ a κ) $
-        move ! (2 ∷ []) $ rewrite ! 0 (λ (m : ℕ × ℕ). ‵ (units m.0 m.1 (agreed_on a g) k)) (λ j. (sym of j, sym is j)) refl $ move ! (0 ∷ 2 ∷ []) $ fjoin ! $ move ! (2 ∷ []) $
-        use1 𝓛 (raw (Swapped hs n h')) (all_e 𝓤 (Swapped hs n) h') $ move ! (1 ∷ 0 ∷ []) $ use2 𝓛 (‵ (purse (set hs n h'))) (apply∗ 𝓤 ⟦ holding h' ⟧ ⟦ purse (set hs n h') ⟧) $
+        move ! (2 ∷ []) $ rewrite ! 0 (λ (m : ℕ × ℕ). ‵ (units m.0 m.1 (agreed_on a g) k)) (λ j. (sym of j, sym is j)) refl $ move ! (0 ∷ 2 ∷ []) $ fjoin ! $
+        move ! (2 ∷ []) $
+        use1 𝓛 (raw (Swapped hs n h')) (all_e 𝓤 (Swapped hs n) h') $ move ! (1 ∷ 0 ∷ []) $
+        use2 𝓛 (‵ (purse (set hs n h'))) (apply∗ 𝓤 ⟦ holding h' ⟧ ⟦ purse (set hs n h') ⟧) $
         now ! $ show ! (Seen hs n τ h κ) x $ check ! so $ move ! (1 ∷ 0 ∷ []) $ done !))
 
     abbrev pub Shows : Lot → Lft → X → Pr
@@ -132,5 +143,6 @@ module _ {M : Type 1} {𝓤 : Ura M} (𝓛 : Logic 𝓤) where
     pub shows_beside : (hs : List Lot) (n τ : ℕ) (h : Lot) (κ : Lft) → get_elem? hs n ≡ some h → h.book ≡ γ → h.number ≡ i → IsFull h.shown → IsFreeFor τ h.lent
         → ⟦ purse hs ⟧ ∗ (A.inv I ∗ ⟦ tenure_shares τ κ ⟧) ⊢ H.⇛ (⟦ purse (set hs n (lent_to τ h)) ⟧ ∗ ex 𝓤 (Shows h κ))
     shows_beside hs n τ h κ at of is full free = qed 𝓛 (‵ (purse hs) ∷ ‵ (finv I) ∷ ‵ (tenure_shares τ κ) ∷ []) ∵ updating ! $ move ! (1 ∷ 0 ∷ 2 ∷ []) $
-        use3 𝓛 (later (exists (λ (x : X). given (h.shown ≡ full_shown (R.coded.code x)) (‵ (lent_at R p x κ) ⊛ ‵ (purse (set hs n (lent_to τ h))))))) (shows_now hs n τ h κ at of is full free) $ await ! tt $ pick ! (λ x. learn ! (λ so. split ! $
+        use3 𝓛 (later (exists (λ (x : X). given (h.shown ≡ full_shown (R.coded.code x)) (‵ (lent_at R p x κ) ⊛ ‵ (purse (set hs n (lent_to τ h)))))))
+        (shows_now hs n τ h κ at of is full free) $ await ! tt $ pick ! (λ x. learn ! (λ so. split ! $
         now ! $ move ! (1 ∷ []) $ frame ! $ show ! (Shows h κ) x $ check ! so $ done !))

@@ -1,10 +1,10 @@
 -- The rules of a shelf's places: each can be had at any time, and all of them twice. Assumes `Logic`.
-use Rattle.std.proofs.Common.{◌≡◌, ℕ, zero, suc, ◌+◌, ◌*◌, ◌<◌, [], ◌∷◌, refl, sym, arith}
+use Rattle.std.proofs.Common.{◌≡◌, ℕ, zero, suc, ◌+◌, ◌*◌, ◌<◌, [], ◌∷◌, refl, arith}
 use seplogic.Ra.Ura.{Ura}
 use base.Logic.{SProp, ent, sep}
-use base.Fml.{Fml, ftrue, fsep, finv}
+use base.Fml.{Fml, ftrue, finv}
 use types.Logic.{Logic, sem}
-use types.Kit.{‵, ◌⊛◌, ◌$◌, ◌∵◌, !, qed, by, move, drop, frame, use1, use2, split, fsplit, fjoin, fpick, fpack, rewrite, done}
+use types.Kit.{‵, ◌⊛◌, ◌$◌, ◌∵◌, !, qed, by, move, drop, use1, split, fsplit, fjoin, fpick, fpack, rewrite, done}
 use denote.RattleType.{RattleType}
 use denote.Memory.{mem}
 use denote.Index.{place, place_is}
@@ -27,7 +27,6 @@ module _ {M : Type 1} {𝓤 : Ura M} (𝓛 : Logic 𝓤) (R : RattleType) where
 
   infix 26 ◌⊢◌
   infixr 35 ◌∗◌
-
   abbrev size : ℕ
   size = (mem R).size
 

@@ -3,7 +3,7 @@ use Rattle.std.specs.Prelude.{◌≡◌, ◌+◌, ◌-◌, ◌*◌, ◌^◌, ◌
 use mathlib.Core.Option.{some}
 use lib.ListN.{get_elem?}
 use base.Fraction.{full_share}
-use base.Stored.{Gv, gnil, gnum, gcons, Coded}
+use base.Stored.{Gv, gnil, gnum, gcons}
 use base.Fml.{Lft, Fml, ftrue, fsep, fex, flent, finv}
 use denote.RattleType.{RattleType}
 use mir.Raw.{raw}
@@ -43,11 +43,13 @@ abbrev pub vacancy : RattleType → Ptr → Fml
 vacancy R p = room_for (raw (lone R.mir)) p
 
 module _ (R : RattleType) (p : Ptr) (γ i : ℕ) where
-  -- the place keeps one unit of its number. It is out of use while a value is moved; vacant; or full: then the value is shared for the round, and comes back after it
+  -- the place keeps one unit of its number. It is out of use while a value is moved; vacant; or full: then the value is shared for the round, and comes back
+  -- after it
   abbrev pub state : Option (Option (ℕ × R.Denot)) → Fml
   state None = fex ℕ (λ a. part γ i a (gnum 0) 1)
   state (Some None) = fex ℕ (λ a. fsep (part γ i a gnil 1) (vacancy R p))
-  state (Some (Some v)) = fsep (part γ i v.0 (full_shown (R.coded.code v.1)) 1) (fsep (lent_at R p v.1 (v.0 ∷ [])) (flent (v.0 ∷ []) (lies_at R full_share p v.1)))
+  state (Some (Some v)) = fsep (part γ i v.0 (full_shown (R.coded.code v.1)) 1) (fsep (lent_at R p v.1 (v.0 ∷ [])) (flent (v.0 ∷ [])
+      (lies_at R full_share p v.1)))
 
   abbrev pub rule : Fml
   rule = fex (Option (Option (ℕ × R.Denot))) state

@@ -1,8 +1,8 @@
 -- What a stake and a tenure own.
-use Rattle.std.specs.Prelude.{◌≡◌, ℕ, Option, None, Some, List, [], ◌∷◌}
+use Rattle.std.specs.Prelude.{ℕ, Option, None, Some, List, [], ◌∷◌}
 use base.FractionLaws.{Counts}
 use base.Stored.{Gv, gnum, gcons, Coded, coded×, coded_ℕ, coded_list, coded_via}
-use base.Fml.{Lft, Share, Fml, ftrue, fsep, fex, flent, flft, fshr_bor}
+use base.Fml.{Lft, Share, Fml, ftrue, fsep, fex, flent, flft}
 use denote.Sharing.{one}
 use Rattle.sdd_token.specs.Units.{units, tokens, gv_coded}
 use Rattle.sdd_places.specs.Block.{stake_coded, IsFreeFor, lasts_in}
@@ -17,7 +17,8 @@ pub record Lot : Type 0 where
   pub lent : Option ℕ
 
 abbrev pub lot_coded : Coded Lot
-lot_coded = coded_via (coded× coded_ℕ (coded× coded_ℕ (coded× coded_ℕ (coded× gv_coded (coded× coded_ℕ stake_coded))))) (λ (h : Lot). (h.book, (h.number, (h.round, (h.shown, (h.units, h.lent))))))
+lot_coded = coded_via (coded× coded_ℕ (coded× coded_ℕ (coded× coded_ℕ (coded× gv_coded (coded× coded_ℕ stake_coded)))))
+    (λ (h : Lot). (h.book, (h.number, (h.round, (h.shown, (h.units, h.lent))))))
     (λ x y e i. record { book = (e i).0; number = (e i).1.0; round = (e i).1.1.0; shown = (e i).1.1.1.0; units = (e i).1.1.1.1.0; lent = (e i).1.1.1.1.1 })
 
 abbrev pub lots_coded : Coded (List Lot)

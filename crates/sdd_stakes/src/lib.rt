@@ -1,12 +1,13 @@
 //! Stakes: parts of the right to a value, which lie in the slots of an `atomic_table` and are lent to tenures.
 #![tactic(auto)]
 
-mod shelf;
+pub mod example;
 mod seats;
+mod shelf;
 mod stake;
 mod stock;
 
-pub use shelf::Shelf;
 pub use seats::settle;
+pub use shelf::Shelf;
 pub use stake::Stake;
 pub use stock::Stock;

@@ -4,8 +4,8 @@ ghost use Rattle.sdd_stakes.specs.Stakes.{AllFreeFor};
 ghost use Rattle.sdd_stakes.specs.Seats.{lots, plain};
 
 use crate::stake::Stake;
-use sdd_places::Ended;
 use atomic_table::{Seat, Shared, TableRule};
+use sdd_places::Ended;
 
 /// What the seat carries was lent to no other tenure; now it is lent no more.
 pub fn settle<V, K, P: TableRule<Stake, V, K>>(

@@ -1,5 +1,5 @@
 //! Values side by side in memory that threads share.
-ghost use Rattle.std.specs.Prelude.{◌≡◌, ◌<◌, ℕ};
+ghost use Rattle.std.specs.Prelude.{◌≡◌, ◌<◌, ℕ, IfOk};
 ghost use Rattle.sdd_stakes.specs.Seats.{lots, OnlyLends};
 ghost use Rattle.sdd_stakes.specs.Shelf.{shelf_owns, shelf_shares, CanShow, Shows, IsFull, IsVacant, HasWhole, AreWhole, showing, vacant, all_turned, AreVacant};
 ghost use Rattle.std_alloc.specs.Vec.Ownership.{FitsInBlock};
@@ -8,7 +8,7 @@ use crate::stake::Stake;
 use crate::stock::Stock;
 use atomic_table::{Seat, Shared, TableRule};
 use sdd_places::{Hold, Room, Tenure};
-use std::alloc::Allocator;
+use std::alloc::{AllocError, Allocator};
 use std::marker::{Model, PhantomData};
 use std::mem::{align_of, size_of};
 
@@ -26,8 +26,22 @@ impl<T> Model for Shelf<T> {
 }
 
 impl<T> Shelf<T> {
-    /// Vacant places, as many as there is room for, and the stakes in them. The number of a place is where it stands.
-    pub fn of<A: Allocator>(room: Room<T, A>) -> (Shelf<T>, Stock, Hold<T, A>)
+    /// That many vacant places, with the stakes in them and the right to free their memory. The number of a place is where it stands.
+    pub fn new<A: Allocator>(
+        alloc: &A,
+        size: usize,
+    ) -> Result<(Shelf<T>, Stock, Hold<T, A>), AllocError>
+        requires fits { FitsInBlock T.row size }
+        ensures size { IfOk result (λ made. made.0.size ≡ size) }
+        ensures stock { IfOk result (λ made. AreVacant made.0.book 0 size made.1.lots) }
+        ensures hold { IfOk result (λ made. (made.2.ptr ≡ made.0.ptr) × (made.2.len ≡ size) × (made.2.alloc ≡ alloc.now)) }
+    {
+        let room = Room::new(alloc, size)?;
+        Ok(Shelf::of(room))
+    }
+
+    /// Vacant places, as many as there is room for.
+    pub(crate) fn of<A: Allocator>(room: Room<T, A>) -> (Shelf<T>, Stock, Hold<T, A>)
         requires fits { FitsInBlock T.row room.len }
         ensures shelf { result.0.size ≡ room.len }
         ensures stock { AreVacant result.0.book 0 room.len result.1.lots }

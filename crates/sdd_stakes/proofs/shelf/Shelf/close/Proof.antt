@@ -25,7 +25,7 @@ use denote.Triple.Clauses.{Clauses, Ended, closing}
 use denote.Triple.Spec.{Meets, triple_of}
 use denote.Triple.Table.{entered}
 use sound.WpLaws.{fm_of, WpFn-mono}
-use types.Kit.{fpick, use2, ‵, raw, ◌⊛◌, later, given, at_ret, ◌$◌, ◌∵◌, !, qed, move, keep, drop, use1, use3, learn, split, join, rewrite, fsplit, fsplit3, fjoin, fjoin3, feq_i, feq_l, suffices, await, done}
+use types.Kit.{fpick, use2, ‵, raw, ◌⊛◌, later, given, at_ret, ◌$◌, ◌∵◌, !, qed, move, keep, drop, use1, use3, learn, split, join, rewrite, fsplit, fjoin, fjoin3, feq_i, feq_l, suffices, await, done}
 use types.Part.{whole, sub}
 use types.Run.{stop, fld, size_word, align_word, unit_lit, no_more, and_then, of_opd, bin, first, blocks, exec, returns, enter}
 use types.ByLocal.{alloc_all, pass_all, free_all, look_at, get, get_in, is, sets, lands_last, env}
@@ -42,12 +42,11 @@ use Rattle.core.proofs.slots.Places.{sz}
 use Rattle.core.proofs.slots.Leases.{uncapped, lease_val, block_ty, block_size, block_align, args, P}
 use denote.RattleType.{RattleType}
 use denote.Laws.{Is, shows}
-use denote.RawPtr.{InBlock, block_of, count_of, at_block}
+use denote.RawPtr.{block_of, count_of, at_block}
 use denote.Steps.{peeks}
 use Rattle.core.proofs.mem.Param.{R}
 use Rattle.sdd_places.proofs.Rooms.{Hd, hold_had, hold_told}
-use Rattle.sdd_stakes.specs.Stakes.{purse}
-use Rattle.sdd_stakes.specs.Shelf.{rules, AreVacant}
+use Rattle.sdd_stakes.specs.Shelf.{AreVacant}
 use Rattle.sdd_stakes.proofs.Fields.{strip_of, token_val, ShelfData, shelf_told, StockData, stock_told}
 use Rattle.sdd_stakes.proofs.Housing.{clears}
 use Rattle.sdd_stakes.specs.contracts.stock.Stock as stock
@@ -94,19 +93,22 @@ module _ (E : El) (Z : Al) where
         let κ = z.0.0.0 in let κ₁ = z.0.0.1.0 in let κ₂ = z.0.0.1.1.0 in let q = z.0.1.0 in let q₁ = z.0.1.1.0 in let q₂ = z.0.1.1.1.0 in
         let f : Row.Denot = z.0.3.0 in let hp : ℕ × ℕ = z.0.3.1.0.ref_ptr in let a : Z.row.Denot = z.0.3.1.0.now in let w : Sr.Denot = z.0.3.1.1.0 in
         let d : (Hd E Z).Denot = z.0.3.1.1.1.0 in let vss = z.0.4 in
-        let p : Ptr = f.ptr in let b : ℕ = block_of p in let o : ℕ = count_of p in let N : ℕ = f.size in let γ : ℕ = f.book in let D : RattleType = ShelfData (R E) in
+        let p : Ptr = f.ptr in let b : ℕ = block_of p in let o : ℕ = count_of p in let N : ℕ = f.size in let γ : ℕ = f.book in
+        let D : RattleType = ShelfData (R E) in
         let Post : Val → SProp 𝓤 = (walk_of 𝓛 ended stayed held).post z in
         let Ok : Type 0 = (d.ptr ≡ p) × (d.len ≡ N) × (d.alloc ≡ a) in let Vacant : Type 0 = AreVacant γ 0 N w.lots in
         let n : ℕ = d.len in let s : ℕ = sz E in let al : ℕ = capped (align (elτ E)) in
         qed 𝓛 (((‵ (flft κ q) ⊛ ‵ (flft κ₁ q₁) ⊛ ‵ (flft κ₂ q₂) ⊛ ‵ ftrue) ⊛ ‵ (owns (types_at ended.signature.params z.0.0) z.0.3 vss))
         ∷ (raw (fact 𝓤 (κ₁ ⊑ E.row.lives)) ⊛ raw (fact 𝓤 (κ₂ ⊑ Z.row.lives)) ⊛ raw (fact 𝓤 Ok) ⊛ raw (fact 𝓤 Vacant)) ∷ []) ∵
         move ! (1 ∷ []) $ split ! $ drop ! $ split ! $ heard ! (κ₂ ⊑ Z.row.lives) (λ inZ. split ! $ heard ! Ok (λ ok. heard ! Vacant (λ vacant.
-        split ! $ split ! $ move ! (2 ∷ []) $ fsplit ! $ fsplit ! $ peeks ! D (Is D) (shows 𝓛 D) (p, tt) vss.0 (λ seen. drop ! $ fsplit ! $ fpick ! (λ fit. drop ! $
+        split ! $ split ! $ move ! (2 ∷ []) $ fsplit ! $ fsplit ! $ peeks ! D (Is D) (shows 𝓛 D) (p, tt) vss.0 (λ seen. drop ! $ fsplit ! $
+        fpick ! (λ fit. drop ! $
         -- [the rules; the other arguments; the handle's token; the others]
         let at : p ≡ block_ptr b o = at_block p fit.0 in let at_d : d.ptr ≡ block_ptr b o = ok.0 ∙ at in
         let e₁ : vss.0 ≡ strip_of (block_ptr b o) ∷ [] = shelf_told (R E) p vss.0 seen ∙ ap (λ (r : Ptr). strip_of r ∷ []) at in
         move ! (1 ∷ []) $ fsplit ! $ fsplit ! $ feq_l ! (λ e₀. move ! (1 ∷ []) $ fsplit ! $ fsplit ! $
-        peeks ! StockData (Is StockData) (shows 𝓛 StockData) (tt, tt) vss.1.1.0 (λ seen_stock. drop ! $ let e_s : vss.1.1.0 ≡ token_val ∷ [] = stock_told vss.1.1.0 seen_stock in
+        peeks ! StockData (Is StockData) (shows 𝓛 StockData) (tt, tt) vss.1.1.0 (λ seen_stock. drop ! $
+        let e_s : vss.1.1.0 ≡ token_val ∷ [] = stock_told vss.1.1.0 seen_stock in
         move ! (1 ∷ []) $ fsplit ! $ peeks ! (Hd E Z) (Is (Hd E Z)) (shows 𝓛 (Hd E Z)) d vss.1.1.1.0 (λ so.
         let told = hold_told E Z d vss.1.1.1.0 so in let fn : n < 2 ^ 64 = told.1 in
         hold_had E Z ! d vss.1.1.1.0 (λ e₂.
@@ -141,7 +143,8 @@ module _ (E : El) (Z : Al) where
         lands_last ! refl (subst (λ (u : Val). T (has_ty ty_unit u) × WT u) (sym e) (tt, tt)) $ exec ! 𝓣.C 𝓣.Λ En (after 3 here.body) (at_ret En Post) $
         sets ! (of_opd ! (unit_lit !)) refl (tt, tt) $ returns ! (look_at ! 0 refl) $ free_all ! refl $
         suffices ! _ (ends_at 𝓛 ended stayed held z vunit tt (tt, (tt, (tt, (tt, tt)))) (tt, (tt, (tt, (tt, tt))))) $
-        join ! $ feq_i ! (List Val) (vunit ∷ []) (vunit ∷ []) refl $ nothing ! $ nothing ! $ fjoin ! $ nothing ! $ nothing ! $ fjoin3 ! $ nothing ! $ fjoin ! $ join ! $
+        join ! $ feq_i ! (List Val) (vunit ∷ []) (vunit ∷ []) refl $ nothing ! $ nothing ! $ fjoin ! $ nothing ! $ nothing ! $ fjoin3 ! $ nothing ! $ fjoin ! $
+        join ! $
         move ! (1 ∷ 0 ∷ []) $ join ! $
         nothing ! $ keep ! (1 ∷ 0 ∷ []) $ done !))))))))))))
 

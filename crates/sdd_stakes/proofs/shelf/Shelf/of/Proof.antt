@@ -1,5 +1,5 @@
 -- `of` makes vacant places of the room, each with its rule, and a stake in each.
-use Rattle.atomic_table.proofs.Names.{◌≡◌, ℕ, ◌^◌, ◌<◌, List, [], ◌∷◌, length, sym, refl, ap, ◌∙◌, named, Val, vptr, vstruct, vcons, vnil, inst_fn, SProp, emp, id⊢, Lft, Share, Fml, ftrue, fsep, flft, ‵, raw, ◌⊛◌, some, given, later, at_ret, ◌$◌, ◌∵◌, !, qed, by, move, keep, split, split3, join, fsplit, fjoin, fjoin3, fpack, pick, learn, use0, use1, use2, await, rewrite, feq_i, stop, fld, of_opd, no_more, and_then, first, blocks, exec, returns, enter, alloc_all, pass_all, free_all, look_at, get, get_in, sets, lands_last, is, env, agg, sub, whole, tables, yes, no, RattleType, Valss, owns, types_at, plain, Ptr, block_ptr, ptr_val, nothing, param, Stays, stay_dropped, walk_of, Goes-dropped, fact, fact_i, heard, WT, mem, alive}
+use Rattle.atomic_table.proofs.Names.{◌≡◌, ℕ, ◌^◌, ◌<◌, List, [], ◌∷◌, refl, ap, Val, vstruct, vcons, vnil, inst_fn, SProp, emp, id⊢, ftrue, ‵, raw, ◌⊛◌, some, given, later, ◌$◌, ◌∵◌, !, qed, by, move, keep, split, join, fsplit, fjoin, fpack, pick, learn, use0, use1, use2, await, rewrite, feq_i, stop, fld, of_opd, no_more, and_then, returns, enter, alloc_all, pass_all, free_all, look_at, get, get_in, sets, is, agg, sub, whole, tables, no, RattleType, Valss, owns, types_at, plain, Ptr, block_ptr, ptr_val, nothing, param, Stays, stay_dropped, walk_of, Goes-dropped, fact, fact_i, heard, WT, alive}
 use base.Fml.{froom}
 use base.Logic.{never}
 use mir.Syntax.{ty_array}
@@ -61,7 +61,8 @@ of_spec 𝓤 𝓛 𝓜 𝓡 wired T A L LA g d dd _ _ =
     let new : Row.Denot = record { ptr = q; book = γ; size = n } in let rest : Sr.Denot = record { of = record {}; lots = ls } in
     nothing ! $ move ! (1 ∷ 0 ∷ []) $ fjoin ! $ move ! (1 ∷ 0 ∷ []) $ fjoin ! $ move ! (1 ∷ 0 ∷ []) $ fjoin ! $
     feq_i ! (List Val) (all ∷ []) (all ∷ []) refl $ fjoin ! $
-    fpack ! (Valss (Row ∷ Sr ∷ Hd E Z ∷ [])) (within (Declared.shape (tuple_type (Row ∷ Sr ∷ Hd E Z ∷ []))) (new, (rest, (held E Z h.alloc b o n, tt))) (all ∷ []))
+    fpack ! (Valss (Row ∷ Sr ∷ Hd E Z ∷ [])) (within (Declared.shape (tuple_type (Row ∷ Sr ∷ Hd E Z ∷ []))) (new, (rest, (held E Z h.alloc b o n, tt)))
+    (all ∷ []))
     (strip_of q ∷ [], (token_val ∷ [], (lease_val q n ∷ [], tt))) $
     sets ! (is ! (of_opd ! (get_in ! (fld ! refl (stop !)) (sub ! 0 refl (whole !)))) (ap ptr_val at)) refl (tt, tt) $
     sets ! (of_opd ! (get_in ! (fld ! refl (stop !)) (sub ! 1 refl (whole !)))) refl (tt, record { fits = fk }) $

@@ -11,4 +11,10 @@ lent_keyless None a n = λ q c. tt
 lent_keyless (Some t) a n = ((λ q. tt), (λ q c. tt))
 
 pub send : IsSend the_row
-send = record { owned = λ d vs. ((λ vss. (tt, ((λ uss. (tt, tt)), tt))), ((λ q c. entry_keyless halved d.lot.book d.lot.number _), lent_keyless d.lot.lent d.lot.round d.lot.units)); leaving = λ k f vs. tt }
+send = record {
+  owned = λ d vs. (
+    (λ vss. (tt, ((λ uss. (tt, tt)), tt))),
+    ((λ q c. entry_keyless halved d.lot.book d.lot.number _), lent_keyless d.lot.lent d.lot.round d.lot.units),
+  );
+  leaving = λ k f vs. tt;
+}

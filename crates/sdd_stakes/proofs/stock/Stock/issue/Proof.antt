@@ -1,6 +1,6 @@
 -- `issue` takes the first stake out.
-use Rattle.sdd_token.proofs.Names.{◌≡◌, [], ◌∷◌, refl, List, ℕ, ◌+◌, ◌^◌, ◌≤◌, sym, arith, a_type, named, Val, vptr, vunit, inst_fn, SProp, emp, ‵, raw, ◌⊛◌, given, learn, ◌$◌, ◌∵◌, !, qed, by, keep, drop, split, fjoin, use0, use2, move, fsplit, fsplit3, fjoin3, join, feq_i, rewrite, of_opd, unit_lit, no_more, and_then, get, agg, sets, returns, enter, alloc_all, pass_all, free_all, look_at, tables, RattleType, owns, types_at, plain, nothing, opens, closes, heard, alive, Stays, stay_dropped, stay_ref, walk_of, Goes-dropped, Goes-ref, fact, fact_i, ftrue, Fml, fsep, flft, Lft, no, mut_vals, mut_Tells, proved, leaves, token_val}
-use Rattle.sdd_stakes.specs.Stakes.{Lot, holding, purse}
+use Rattle.sdd_token.proofs.Names.{◌≡◌, [], ◌∷◌, refl, List, ℕ, named, Val, vptr, SProp, emp, ‵, raw, ◌⊛◌, ◌$◌, ◌∵◌, !, qed, by, keep, split, fjoin, use0, move, fsplit, fsplit3, fjoin3, join, feq_i, rewrite, no_more, and_then, get, agg, sets, returns, enter, alloc_all, pass_all, free_all, look_at, tables, RattleType, owns, types_at, plain, nothing, opens, closes, heard, Stays, stay_ref, walk_of, Goes-ref, fact, fact_i, ftrue, Fml, flft, Lft, mut_vals, mut_Tells, proved, leaves, token_val}
+use Rattle.sdd_stakes.specs.Stakes.{Lot, purse}
 use Rattle.sdd_stakes.proofs.Fields.{Peg, peg_made}
 use Rattle.sdd_stakes.specs.contracts.stake.Stake as stake
 use Rattle.sdd_stakes.specs.contracts.stock.Stock as stock

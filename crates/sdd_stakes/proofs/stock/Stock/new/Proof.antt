@@ -1,8 +1,7 @@
 -- No stake is owned.
-use Rattle.sdd_token.proofs.Names.{◌≡◌, [], ◌∷◌, refl, List, ℕ, ◌+◌, ◌^◌, ◌≤◌, sym, arith, a_type, named, Val, vptr, vunit, inst_fn, SProp, emp, ‵, raw, ◌⊛◌, given, learn, ◌$◌, ◌∵◌, !, qed, by, keep, drop, split, fjoin, use0, use2, move, fsplit, fsplit3, fjoin3, join, feq_i, rewrite, of_opd, unit_lit, no_more, and_then, get, agg, sets, returns, enter, alloc_all, pass_all, free_all, look_at, tables, RattleType, owns, types_at, plain, nothing, opens, closes, heard, alive, Stays, stay_dropped, stay_ref, walk_of, Goes-dropped, Goes-ref, fact, fact_i, ftrue, Fml, fsep, flft, Lft, no, mut_vals, mut_Tells, proved, leaves, token_val}
+use Rattle.sdd_token.proofs.Names.{◌≡◌, [], ◌∷◌, refl, List, Val, SProp, emp, ‵, raw, ◌⊛◌, ◌$◌, ◌∵◌, !, qed, by, keep, split, fjoin, use0, no_more, and_then, get, agg, sets, returns, enter, alloc_all, pass_all, free_all, look_at, tables, owns, types_at, nothing, alive, Stays, walk_of, fact, fact_i, proved, leaves, token_val}
 use Rattle.sdd_stakes.specs.Stakes.{Lot}
 use Rattle.sdd_stakes.proofs.Fields.{StockData, stock_made}
-use Rattle.sdd_stakes.specs.contracts.stock.Stock as stock
 use Rattle.sdd_stakes.specs.contracts.stock.Stock.new.{ended, clauses}
 use Rattle.sdd_stakes.specs.contracts.stock.Stock.new.Key.{name as #self}
 use Rattle.sdd_stakes.proofs.stock.Stock.new.Statement.{statement}
@@ -20,4 +19,5 @@ new_spec 𝓤 𝓛 𝓜 𝓡 wired =
     use0 𝓛 (‵ (StockData.own_val (tt, tt) (token_val ∷ []))) (stock_made 𝓛) $ fjoin ! $
     sets ! (agg ! (no_more !)) refl (tt, tt) $ sets ! (agg ! (and_then ! (get ! refl) (no_more !))) refl (tt, (tt, tt)) $
     use0 𝓛 (raw (fact 𝓤 (none ≡ none))) (fact_i 𝓤 (none ≡ none) (emp 𝓤) refl) $ nothing ! $
-    returns ! (look_at ! 0 refl) $ free_all ! refl $ keep ! (3 ∷ 0 ∷ 2 ∷ 1 ∷ []) $ by ! (leaves 𝓛 ended hs c y token_val (record { of = record {}; lots = none }) tt tt)))
+    returns ! (look_at ! 0 refl) $ free_all ! refl $ keep ! (3 ∷ 0 ∷ 2 ∷ 1 ∷ []) $
+    by ! (leaves 𝓛 ended hs c y token_val (record { of = record {}; lots = none }) tt tt)))

@@ -1,0 +1,56 @@
+//! The calls of a shelf, one after the other, over the rule of any table.
+ghost use Rattle.std.specs.Prelude.{◌≡◌, ◌<◌};
+ghost use Rattle.sdd_stakes.specs.Stakes.{AllFreeFor};
+ghost use Rattle.sdd_stakes.specs.Seats.{lots};
+ghost use Rattle.sdd_stakes.specs.Shelf.{CanShow, Shows, IsVacant, HasWhole, showing};
+
+use crate::seats::settle;
+use crate::shelf::Shelf;
+use crate::stake::Stake;
+use atomic_table::{Seat, Shared, TableRule};
+use sdd_places::{Tenure, end_round};
+use sdd_token::WHOLE;
+
+/// A value that is shown can be shown again under the same tenure, whatever others there are.
+pub fn shows_again<'g, T, V, K, P: TableRule<Stake, V, K>>(
+    shelf: &Shelf<T>,
+    at: usize,
+    seat: &mut Seat<Stake, V>,
+    table: &Shared<Stake, V, K, P>,
+    tenure: &'g Tenure,
+    other: &'g Tenure,
+) -> &'g T
+    requires table { seat.old.table_id ≡ table.now.table_id }
+    requires inside { at < shelf.now.size }
+    requires stake { CanShow shelf.now.book at tenure.now.round (lots seat.old.me.1) }
+    requires free { AllFreeFor tenure.now.round (lots seat.old.me.1) }
+    ensures free { AllFreeFor tenure.now.round (lots seat.new.me.1) }
+{
+    let _first = shelf.show(at, seat, table, tenure);
+    let _ = other;
+    shelf.show(at, seat, table, tenure)
+}
+
+/// What was put is taken, once the tenure has ended under which it was shown.
+pub fn takes_what_was_put<T, V, K, P: TableRule<Stake, V, K>>(
+    shelf: &Shelf<T>,
+    at: usize,
+    seat: &mut Seat<Stake, V>,
+    table: &Shared<Stake, V, K, P>,
+    count: usize,
+    tenure: &mut Tenure,
+    value: T,
+) -> T
+    requires table { seat.old.table_id ≡ table.now.table_id }
+    requires inside { at < shelf.now.size }
+    requires whole { HasWhole shelf.now.book at count IsVacant (lots seat.old.me.1) }
+    requires free { AllFreeFor tenure.old.round (lots seat.old.me.1) }
+    requires all { tenure.old.units ≡ WHOLE }
+    ensures value { result ≡ value }
+{
+    shelf.put(at, seat, table, count, value);
+    let _shown = shelf.show(at, seat, table, tenure);
+    let ended = end_round(tenure);
+    settle(seat, table, &ended);
+    shelf.take(at, seat, table, count)
+}
