@@ -1,4 +1,5 @@
-//! Plays: how they end, and what they write.
+//! Each row of the program: what it is asked for, how its plays end, and what they write.
 
 mod devices;
 mod plays;
+mod words;

@@ -2,7 +2,9 @@
 
 use super::devices::{Page, Trickle};
 use crate::arguments::USUAL_LIMITS;
-use sdd::{Ended, Limits, Reader, Writer, play};
+use sdd::{
+    Action, Call, Ended, Limits, PlaceName, Reader, Refused, Tally, Value, Writer, play, run,
+};
 use std::alloc::{AllocError, Global};
 
 /// The shortest way of an item: it is made and retired, and goes at the third later opening that finds another epoch.
@@ -23,6 +25,84 @@ fn played(alloc: Global, limits: Limits, text: &str) -> Result<(Ended, Page), Al
     let mut writer = Writer::new(&mut page);
     let ended = play(alloc, limits, &mut reader, &mut writer);
     Ok((ended, page))
+}
+
+/// A run that always answers want of memory does not pass this.
+#[test]
+fn each_script_is_answered(rt: HostRuntime) {
+    for (text, ended, written) in [
+        (SHORTEST_WAY, Ended::Played, ITS_ANSWERS),
+        ("", Ended::Played, ""),
+        ("register", Ended::Played, "p0\n"),
+        (
+            "register\np0 open\np0 op\n",
+            Ended::NotACall(3),
+            "line 3: not a call\n",
+        ),
+        ("\n", Ended::NotACall(1), "line 1: not a call\n"),
+    ] {
+        let (end, page) = played(rt.alloc(), USUAL_LIMITS, text).expect(&rt, "memory is there");
+        assert_eq!(rt; end, ended, "{text:?}");
+        assert_eq!(rt; page.written(), written.as_bytes(), "{text:?}");
+    }
+}
+
+#[test]
+fn a_scene_shows_its_world_until_it_is_closed(rt: HostRuntime) -> Result<(), Refused> {
+    let calls = [
+        Call::Register,
+        Call::At(PlaceName(0), Action::Owned(Value::Number(7))),
+    ];
+    let (answers, scene) = run(rt.alloc(), USUAL_LIMITS, &calls)?;
+    let shown = scene.world().tally();
+    let closed = scene.close();
+    let made = Tally {
+        made: 1,
+        reclaimed: 0,
+        in_place: 0,
+    };
+    assert_eq!(rt; answers.len(), 2);
+    assert_eq!(rt; shown, made);
+    assert_eq!(rt;
+        closed,
+        Tally {
+            reclaimed: 1,
+            ..made
+        }
+    );
+    Ok(())
+}
+
+#[test]
+fn limits_out_of_range_are_told_before_anything_is_read(rt: HostRuntime) {
+    for limits in [
+        Limits {
+            participants: 0,
+            ..USUAL_LIMITS
+        },
+        Limits {
+            participants: 1025,
+            ..USUAL_LIMITS
+        },
+        Limits {
+            slots: 16_777_217,
+            ..USUAL_LIMITS
+        },
+        Limits {
+            tries: u64::MAX,
+            ..USUAL_LIMITS
+        },
+    ] {
+        let mut reader = Reader::new(Trickle {
+            rest: b"register",
+            calls: 0,
+        });
+        let mut writer = Writer::new(Page::new(rt.alloc(), 0).expect(&rt, "memory is there"));
+        let ended = play(rt.alloc(), limits, &mut reader, &mut writer);
+        assert_eq!(rt; ended, Ended::LimitsOutOfRange, "{limits:?}");
+        assert_eq!(rt; reader.failures(), 0);
+        assert_eq!(rt; writer.failures(), 0);
+    }
 }
 
 #[test]
@@ -49,22 +129,27 @@ fn each_failed_read_ends_the_play(rt: HostRuntime) {
 
 #[test]
 fn each_failed_write_leaves_a_beginning(rt: HostRuntime) {
-    let whole = ITS_ANSWERS.as_bytes();
-    let needed = whole.len().div_ceil(3);
-    for calls in 0..needed + 2 {
-        let mut page = Page::new(rt.alloc(), calls as u64).expect(&rt, "memory is there");
-        let mut reader = Reader::new(SHORTEST_WAY.as_bytes());
-        let mut writer = Writer::new(&mut page);
-        let ended = play(rt.alloc(), USUAL_LIMITS, &mut reader, &mut writer);
-        let (end, failures, length) = if calls < needed {
-            (Ended::CannotWrite, 1, 3 * calls)
-        } else {
-            (Ended::Played, 0, whole.len())
-        };
-        assert_eq!(rt; ended, end, "{calls}");
-        assert_eq!(rt; reader.failures(), 0, "{calls}");
-        assert_eq!(rt; writer.failures(), failures, "{calls}");
-        assert_eq!(rt; Some(page.written()), whole.get(..length), "{calls}");
+    for (text, end, whole) in [
+        (SHORTEST_WAY, Ended::Played, ITS_ANSWERS),
+        ("register\np0\n", Ended::NotACall(2), "line 2: not a call\n"),
+    ] {
+        let whole = whole.as_bytes();
+        let needed = whole.len().div_ceil(3);
+        for calls in 0..needed + 2 {
+            let mut page = Page::new(rt.alloc(), calls as u64).expect(&rt, "memory is there");
+            let mut reader = Reader::new(text.as_bytes());
+            let mut writer = Writer::new(&mut page);
+            let ended = play(rt.alloc(), USUAL_LIMITS, &mut reader, &mut writer);
+            let (end, failures, length) = if calls < needed {
+                (Ended::CannotWrite, 1, 3 * calls)
+            } else {
+                (end, 0, whole.len())
+            };
+            assert_eq!(rt; ended, end, "{calls}");
+            assert_eq!(rt; reader.failures(), 0, "{calls}");
+            assert_eq!(rt; writer.failures(), failures, "{calls}");
+            assert_eq!(rt; Some(page.written()), whole.get(..length), "{calls}");
+        }
     }
 }
 
@@ -73,13 +158,8 @@ fn each_failed_write_leaves_a_beginning(rt: HostRuntime) {
 #[test]
 fn only_want_of_memory_ends_a_play_early(rt: HostRuntime) {
     for (text, end, written) in [
-        ("", Ended::Played, ""),
         (SHORTEST_WAY, Ended::Played, ITS_ANSWERS),
-        (
-            "register\np0 open\np0 op\n",
-            Ended::NotACall(3),
-            "line 3: not a call\n",
-        ),
+        ("p0\n", Ended::NotACall(1), "line 1: not a call\n"),
     ] {
         let Ok((ended, page)) = played(rt.alloc(), USUAL_LIMITS, text) else {
             continue;
