@@ -1,6 +1,8 @@
 pub mod Sizes
 pub mod Board
 pub mod Token
+pub mod Waits
+pub mod Claims
 pub mod Scan
 pub mod Domain
 pub mod Local

@@ -1,16 +1,24 @@
 -- A participant of a domain as its callers see it, and what each call does to it
-use Rattle.std.specs.Prelude.{◌≡◌, ◌≢◌, ◌⊎◌, ℕ, ◌+◌, ◌^◌, ◌<◌, ◌≤◌, false, []}
+use Rattle.std.specs.Prelude.{◌≡◌, ◌≢◌, ◌⊎◌, ℕ, ◌+◌, ◌^◌, ◌<◌, ◌≤◌, false, List, [], ◌∷◌, ◌++◌, slice_index, slice_set}
 use Rattle.atomic_table.specs.Seated.{TableId}
 use Rattle.sdd_base.specs.declared.limits.Limits.{Limits}
 use Rattle.sdd_store.specs.declared.time.Participant.{Participant}
-use Rattle.sdd_store.specs.Time.{newcomer, nested}
+use Rattle.sdd_store.specs.declared.waiting.What.TheVariants.{Item}
+use Rattle.sdd_store.specs.Time.{newcomer, nested, awaiting}
 use Rattle.sdd_base.specs.Guard.{Reader}
 use Rattle.sdd_base.specs.Own.{opened_at, closed_with}
 use Rattle.sdd_store.specs.declared.tally.Tally.{Tally}
 use Rattle.sdd_store.specs.Tally.{no_items}
+use Rattle.sdd_rule.specs.declared.Sizes.{Sizes}
+use Rattle.sdd_rule.specs.declared.SlotsView.{SlotsView}
+use Rattle.sdd_rule.specs.Codes.{free_word, owned_word, waiting_word}
+use Rattle.sdd_rule.specs.Sums.{times}
+use Rattle.sdd_rule.specs.SlotSteps.{bare, behind, without, retired_now}
+use Rattle.sdd_domain.specs.Waits.{waits_at, due_at, freed}
 
 -- the domain, its limits, the place, whose guards are the participant's, what it keeps of its own, the greatest count that it knows,
--- the global count at its last publish (0 before the first), and what it made and reclaimed
+-- the global count at its last publish (0 before the first), what it made and reclaimed, how many of each its domain has,
+-- what it knows of slots, and the words that it knows if it is lone
 pub record Member : Type 0 where
   pub home : TableId
   pub limits : Limits
@@ -20,6 +28,9 @@ pub record Member : Type 0 where
   pub known : ℕ
   pub since : ℕ
   pub tally : Tally
+  pub sizes : Sizes
+  pub slots : SlotsView
+  pub words : List ℕ
 
 -- no other participant may be
 abbrev pub IsLone : Member → Type 0
@@ -43,13 +54,19 @@ pub record IsNew (domain : TableId) (most : Limits) (m : Member) : Type 0 where
   pub since : m.since ≡ 0
   pub lone : IsLone m → m.known ≡ 0
   pub tally : m.tally ≡ no_items
+  pub sizes : (m.sizes.participants ≡ most.participants) × (m.sizes.slots ≡ most.slots)
+  pub slots : m.slots ≡ bare
+  pub words : (i : ℕ) → slice_index m.words i ≡ 0
 
--- an outermost opening finds a count, which is at least the greatest that was known; where the participant is lone it is that one
+-- an outermost opening finds a count, which is at least the greatest that was known; where the participant is lone it is that one.
+-- What has seen three changes then is given back
 pub record IsOpened (count : ℕ) (old new : Member) : Type 0 where
-  pub member : new ≡ record old { own = opened_at count [] old.own; known = new.since; since = new.since }
+  pub member : new ≡ record old { own = opened_at count [] old.own; known = new.since; since = new.since; slots = new.slots; words = new.words }
   pub knew : old.known ≤ count
   pub knows : count ≤ new.since
   pub lone : IsLone old → (count ≡ old.known) × (new.since ≡ old.known)
+  pub slots : new.slots ≡ record old.slots { waits = waits_at count old.own old.slots.waits }
+  pub words : new.words ≡ freed old.sizes (due_at count old.own) old.words
 
 -- one guard more is open; only an outermost opening looks at the count
 pub record Opens (old new : Member) : Type 0 where
@@ -73,4 +90,36 @@ pub record IsTold (count : ℕ) (old new : Member) : Type 0 where
   pub knew : old.known ≤ count
   pub guarded : IsGuarded old → (old.since ≤ count) × (count ≤ old.since + 1)
   pub near : IsGuarded old → (count ≡ old.known) ⊎ (count ≡ old.known + 1)
+  pub lone : IsLone old → count ≡ old.known
+
+-- it has the only owner of the slot
+abbrev pub Owns : Member → ℕ → Type 0
+Owns m slot = 0 < times slot m.slots.owns
+
+-- by the words that a lone participant knows the slot is free
+abbrev pub IsFree : Member → ℕ → Type 0
+IsFree m slot = slice_index m.words (behind m.sizes slot) ≡ free_word 0
+
+-- it owns a slot more, which was free
+pub record ClaimsSlot (slot : ℕ) (old new : Member) : Type 0 where
+  pub inside : slot < old.limits.slots
+  pub member : new ≡ record old {
+    slots = record old.slots { owns = slot ∷ old.slots.owns };
+    words = slice_set old.words (behind old.sizes slot) (owned_word 0);
+  }
+  pub lone : IsLone old → IsFree old slot
+
+-- no slot is free
+abbrev pub IsUsedUp : Member → Type 0
+IsUsedUp m = (slot : ℕ) → slot < m.limits.slots → ¬ (IsFree m slot)
+
+-- the item of a slot of its own waits from now on, retired at the count of this moment
+pub record RetiresSlot (slot count : ℕ) (old new : Member) : Type 0 where
+  pub member : new ≡ record old {
+    own = awaiting (Item slot) old.own;
+    known = count;
+    slots = record old.slots { owns = without slot old.slots.owns; waits = old.slots.waits ++ retired_now slot count ∷ [] };
+    words = slice_set old.words (behind old.sizes slot) (waiting_word 0);
+  }
+  pub knew : old.known ≤ count
   pub lone : IsLone old → count ≡ old.known

@@ -1,5 +1,5 @@
 -- What holds of a participant between two calls
-use Rattle.std.specs.Prelude.{◌≡◌, ℕ, ◌+◌, ◌^◌, ◌<◌, ◌≤◌, [], if◌then◌else◌}
+use Rattle.std.specs.Prelude.{◌≡◌, ℕ, ◌+◌, ◌^◌, ◌<◌, ◌≤◌, List, [], None, map, if◌then◌else◌}
 use Rattle.atomic_table.specs.declared.shared.Seat.{Seat}
 use Rattle.sdd_store.specs.declared.time.Participant.{Participant}
 use Rattle.sdd_store.specs.Time.{is_open}
@@ -9,9 +9,12 @@ use Rattle.sdd_places.specs.declared.tenures.Stage.TheVariants.{Closed, Open}
 use Rattle.sdd_rule.specs.declared.EpochView.{EpochView}
 use Rattle.sdd_rule.specs.declared.View.{View}
 use Rattle.sdd_rule.specs.Epoch.{IsClosed, IsOpen, Scans, IsLone}
-use Rattle.sdd_rule.specs.SlotSteps.{bare}
+use Rattle.sdd_rule.specs.declared.SlotsView.{SlotsView}
+use Rattle.sdd_rule.specs.Slots.{OwnsAlone, items_at}
 use Rattle.sdd_domain.specs.declared.board.Board.{Board}
-use Rattle.sdd_domain.specs.Board.{id_of, sizes_of, places_of}
+use Rattle.sdd_domain.specs.Board.{id_of, sizes_of, places_of, slots_of}
+use Rattle.sdd_domain.specs.Waits.{waiting_of}
+use Rattle.sdd_store.specs.declared.waiting.What.{What}
 use Rattle.sdd_domain.specs.Token.{view, epoch, slots}
 
 -- it has published its count; what it knows is the count at that publish or the next
@@ -19,6 +22,13 @@ pub record IsNear (v : EpochView) : Type 0 where
   pub count : v.count ≤ v.since
   pub since : v.since ≤ v.known
   pub known : v.known ≤ v.since + 1
+
+-- no guard sees a slot, none is held, and no owner is counted
+pub record IsQuiet (v : SlotsView) : Type 0 where
+  pub shares : v.shares ≡ []
+  pub sees : v.sees ≡ []
+  pub holds : v.holds ≡ None
+  pub looked : v.looked ≡ 0
 
 -- the board, the place, what it keeps of its own, and its token
 module _ {S : Type 0} (b : Board) (p : ℕ) (own : Participant) (token : Seat S View) where
@@ -35,10 +45,22 @@ module _ {S : Type 0} (b : Board) (p : ℕ) (own : Participant) (token : Seat S 
     pub lone : 0 < own.guards → IsLone (epoch token) → (epoch token).known ≡ (epoch token).count
     pub free : ¬ (Scans (epoch token))
     pub sizes : (view token).sizes ≡ sizes_of b
-    pub no_slots : slots token ≡ bare
-    pub bare : own.bags.waiting ≡ []
+    pub found : (epoch token).found ≡ own.found
+    pub quiet : IsQuiet (slots token)
+    pub owned : (i : ℕ) → OwnsAlone (view token) i → i < slots_of b
+    pub waiting : (i : ℕ) → 0 < items_at i (view token) → i < slots_of b
+    pub bags : own.bags.waiting ≡ map waiting_of (slots token).waits
+    pub room : own.bags.room ≡ slots_of b
+    pub pace : own.countdown ≤ 128
+    pub idle : own.countdown ≡ 128 → own.bags.waiting ≡ []
 
 -- the part of a tenure that the participant keeps: each of its open guards has one unit more, and the tenure is open exactly while one is
 pub record IsTenureOf (own : Participant) (part : Part Stage) : Type 0 where
   pub units : part.units + own.guards ≡ 2 ^ 63
   pub kind : part.kind ≡ (if is_open own then Open else Closed)
+
+-- the bag for what is due is empty and large enough, and it looks for slots of the board
+pub record IsReady (b : Board) (own : Participant) (bag : List What) (capacity known_slots : ℕ) : Type 0 where
+  pub empty : bag ≡ []
+  pub large : own.bags.room ≤ capacity
+  pub slots : known_slots ≡ slots_of b

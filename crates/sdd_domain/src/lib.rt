@@ -2,7 +2,10 @@
 #![tactic(auto)]
 
 mod board;
+mod changes;
+mod claims;
 pub mod domain;
+mod known;
 mod life;
 pub mod local;
 mod plays;

@@ -5,12 +5,14 @@ ghost use Rattle.sdd_rule.specs.SlotSteps.{blank};
 ghost use Rattle.sdd_domain.specs.Board.{id_of, sizes_of, places_of};
 ghost use Rattle.sdd_domain.specs.Token.{epoch, words_known, IsSameBut};
 ghost use Rattle.sdd_domain.specs.Domain.{home_of, limits_of};
-ghost use Rattle.sdd_domain.specs.Local.{CanNest, IsGuarded, IsNew, IsOpened, Opens, Closes, IsTold};
+ghost use Rattle.sdd_domain.specs.Local.{CanNest, IsGuarded, IsNew, IsOpened, Opens, Closes, IsTold, IsLone, IsUsedUp, ClaimsSlot, RetiresSlot, Owns};
 ghost use Rattle.sdd_base.specs.Guard.{reader_of};
 ghost use Rattle.sdd_places.specs.declared.tenures.Stage.TheVariants.{Closed as is_closed};
 
 use crate::board::{Board, Token};
+use crate::changes::arrive;
 use crate::domain::Domain;
+use crate::known::Known;
 use crate::receipt::Receipt;
 use crate::scan::scan;
 use crate::steps;
@@ -18,9 +20,12 @@ use sdd_base::Guard;
 use sdd_base::inner::{guard_with, part_of_guard};
 use sdd_core::Refused;
 use sdd_places::{Stage, Tenure, end_round};
-use sdd_store::{Bags, Participant, Tally};
+use sdd_store::{Bags, Participant, Tally, What};
 use sdd_token::{Book, WHOLE};
+use std::alloc::{AllocError, Global};
 use std::marker::Model;
+
+pub mod slots;
 
 /// A participant of a domain.
 ///
@@ -32,15 +37,18 @@ pub struct Local<'d> {
     /// How many of its guards may be open at once, as the domain's limits say.
     nesting: u32,
     own: Participant,
+    /// An empty bag, for what is due.
+    bag: Vec<What>,
+    known: Known,
     /// What its open guards don't have of its tenure: each of them has one unit.
     tenure: Tenure,
     tally: Tally,
 }
 
 impl<'d> Model for Local<'d> {
-    ghost use Rattle.std.specs.Prelude.{◌≡◌};
+    ghost use Rattle.std.specs.Prelude.{◌≡◌, vec_capacity};
     ghost use Rattle.sdd_domain.specs.Local.{Member};
-    ghost use Rattle.sdd_domain.specs.Posed.{IsPosed, IsTenureOf};
+    ghost use Rattle.sdd_domain.specs.Posed.{IsPosed, IsTenureOf, IsReady};
 
     ghost Value = { Member };
 
@@ -53,9 +61,36 @@ impl<'d> Model for Local<'d> {
       known = l.token.me.0.epoch.known;
       since = l.token.me.0.epoch.since;
       tally = l.tally;
+      sizes = l.token.me.0.sizes;
+      slots = l.token.me.0.slots;
+      words = l.token.me.0.words;
     } };
 
-    ghost invariant = { λ l. IsPosed l.domain.now.board l.place l.own l.token × (l.nesting ≡ l.domain.now.limits.nesting) × IsTenureOf l.own l.tenure };
+    ghost invariant = { λ l. IsPosed l.domain.now.board l.place l.own l.token × (l.nesting ≡ l.domain.now.limits.nesting) × IsTenureOf l.own l.tenure
+        × IsReady l.domain.now.board l.own l.bag.items (vec_capacity l.bag) l.known.slots };
+}
+
+/// The memory of a participant.
+struct Room {
+    bags: Bags,
+    bag: Vec<What>,
+    known: Known,
+}
+
+impl Room {
+    ghost use Rattle.std.specs.Prelude.{◌≤◌, vec_capacity, []};
+
+    /// That for so many slots.
+    fn new(alloc: Global, slots: u32) -> Result<Room, AllocError>
+        ensures bags { IfOk result (λ room. room.bags ≡ record { waiting = []; room = slots }) }
+        ensures bag { IfOk result (λ room. (room.bag.items ≡ []) × (slots ≤ vec_capacity room.bag)) }
+        ensures known { IfOk result (λ room. room.known.slots ≡ slots) }
+    {
+        let bags = Bags::with_room(alloc, slots as usize)?;
+        let bag = Vec::with_capacity(alloc, slots as usize)?;
+        let known = Known::new(alloc, slots)?;
+        Ok(Room { bags, bag, known })
+    }
 }
 
 /// Takes a free place.
@@ -98,14 +133,16 @@ fn own_tenure() -> Tenure
 impl<'d> Local<'d> {
     /// Registers a participant.
     ///
-    /// `NoPlace` where all places were found taken; `NoMemory` where the memory for what may wait with it was refused.
+    /// All memory is taken here, and none later: for what may wait with it, and for the slots that it gave back, as many
+    /// as there are slots. `NoPlace` where all places were found taken; `NoMemory` where this memory was refused.
     pub fn register(domain: &'d Domain) -> Result<Local<'d>, Refused>
         ensures registered { IfOk result (IsNew (home_of domain.now) (limits_of domain.now)) }
         ensures refused { IfErr result (λ e. (e ≡ Refused.NoPlace) ⊎ (e ≡ Refused.NoMemory)) }
     {
-        let Ok(bags) = Bags::with_room(domain.alloc, domain.limits.slots as usize) else {
+        let Ok(room) = Room::new(domain.alloc, domain.limits.slots as u32) else {
             return Err(want_of_memory(&domain.board));
         };
+        let Room { bags, bag, known } = room;
         let mut token = steps::sit(&domain.board);
         let Some(place) = take_place(&domain.board, &mut token) else {
             return Err(Refused::NoPlace);
@@ -122,6 +159,8 @@ impl<'d> Local<'d> {
                 guards: 0,
                 bags,
             },
+            bag,
+            known,
             tenure: own_tenure(),
             tally: Tally::new(),
         })
@@ -144,6 +183,8 @@ impl<'d> Local<'d> {
             place,
             nesting: _,
             own: _,
+            bag: _,
+            known: _,
             tenure: _,
             tally,
         } = self;
@@ -177,23 +218,21 @@ impl<'d> Local<'d> {
         }
     }
 
-    /// The outermost opening: reads the count, writes it where it isn't there already, and then publishes it.
+    /// The outermost opening, which is a change where it finds another count than the last one.
     #[inline]
     fn enter(&mut self) -> Guard
         requires { ¬ (IsGuarded self.old) }
         ensures reader { reader_of result ≡ self.old.reader }
         ensures opened { (count : ℕ) × IsOpened count self.old self.new }
     {
-        let board = &self.domain.board;
-        let place = self.place;
-        let count = steps::read(board, &mut self.token);
-        if count != self.own.found {
-            steps::write(board, &mut self.token, place, count);
-            // Nothing waits, so that the change leaves nothing to reclaim.
-            self.own.found = count;
-            self.own.countdown = 128;
-        }
-        steps::publish(board, &mut self.token, place);
+        arrive(
+            &self.domain.board,
+            &mut self.token,
+            self.place,
+            &mut self.own,
+            &mut self.bag,
+            &mut self.known,
+        );
         self.own.guards = 1;
         self.tenure.set(&Stage::Open, &());
         guard_with(self.tenure.split(1))

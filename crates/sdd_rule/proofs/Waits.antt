@@ -40,9 +40,9 @@ few zero (x ∷ xs) once low = let a = low x (omega arith) in let b = is_same x 
 few (suc n) l once low = let s = split n l in let o = once n in
     let rest = few n (without n l)
     (λ i. dite (ℕ_discrete i n) (λ (e : i ≡ n). let z = ap (λ (k : ℕ). times k (without n l)) e ∙ without_same n l in omega arith)
-        (λ ne. let z = without_other n i ne l in let o' = once i in omega arith))
+    (λ ne. let z = without_other n i ne l in let o' = once i in omega arith))
     (λ i high. dite (ℕ_discrete i n) (λ (e : i ≡ n). ap (λ (k : ℕ). times k (without n l)) e ∙ without_same n l)
-        (λ ne. without_other n i ne l ∙ low i (omega arith)))
+    (λ ne. without_other n i ne l ∙ low i (omega arith)))
     in omega arith
 
 slots_of : List WaitingItem → List ℕ
@@ -81,9 +81,9 @@ module _ (z : Code) (sound : IsSound z) (sizes : Sizes) (ws : List ℕ) (vs : Li
       let same : (i : ℕ) → times i l ≡ is i slot + items_at i v = λ i. ap (λ (k : ℕ). is i slot + k) (times_map i v.slots.waits) in
       let count = few sizes.slots l
       (λ i. let s = same i in let o = once i in dite (ℕ_discrete slot i)
-          (λ (e : slot ≡ i). let a = is_same i slot e in let b = most i in
-              let q : z.waiting (slot_at sizes ws i) ≡ 0 = ap (λ (k : ℕ). z.waiting (slot_at sizes ws k)) (sym e) ∙ quiet in omega arith)
-          (λ ne. let a = is_other i slot ne in omega arith))
+      (λ (e : slot ≡ i). let a = is_same i slot e in let b = most i in
+      let q : z.waiting (slot_at sizes ws i) ≡ 0 = ap (λ (k : ℕ). z.waiting (slot_at sizes ws k)) (sym e) ∙ quiet in omega arith)
+      (λ ne. let a = is_other i slot ne in omega arith))
       (λ i high. let s = same i in let a = is_other i slot (λ e. omega arith) in let b = none_past i high in omega arith)
       in let long = length_map v.slots.waits in omega arith
 

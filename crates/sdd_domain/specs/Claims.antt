@@ -1,0 +1,38 @@
+-- What a try at a slot makes of what is known
+use Rattle.std.specs.Prelude.{◌≡◌, ℕ, ◌<◌, slice_index}
+use Rattle.atomic_table.specs.declared.shared.Seat.{Seat}
+use Rattle.sdd_rule.specs.declared.View.{View}
+use Rattle.sdd_rule.specs.Codes.{free_word, owned_word}
+use Rattle.sdd_rule.specs.Epoch.{IsLone}
+use Rattle.sdd_rule.specs.SlotSteps.{behind, claimed}
+
+module _ {S : Type 0} where
+  -- nothing has changed
+  pub record IsUnmoved (s s' : Seat S View) : Type 0 where
+    pub table : s'.table_id ≡ s.table_id
+    pub number : s'.id ≡ s.id
+    pub others : s'.me.1 ≡ s.me.1
+    pub view : s'.me.0 ≡ s.me.0
+
+  -- by the words that are known the slot is free
+  abbrev pub IsKnownFree : Seat S View → ℕ → Type 0
+  IsKnownFree s slot = slice_index s.me.0.words (behind s.me.0.sizes slot) ≡ free_word 0
+
+  -- the participant owns a slot more
+  pub record Gains (slot : ℕ) (s s' : Seat S View) : Type 0 where
+    pub table : s'.table_id ≡ s.table_id
+    pub number : s'.id ≡ s.id
+    pub others : s'.me.1 ≡ s.me.1
+    pub view : s'.me.0 ≡ claimed slot (owned_word 0) s.me.0
+    pub inside : slot < s.me.0.sizes.slots
+    pub free : IsLone s.me.0.epoch → IsKnownFree s slot
+
+  -- none of these slots was found free; a lone participant knows each of them to be taken
+  pub record Misses (P : ℕ → Type 0) (s s' : Seat S View) : Type 0 where
+    pub same : IsUnmoved s s'
+    pub taken : IsLone s.me.0.epoch → (slot : ℕ) → P slot → ¬ (IsKnownFree s slot)
+
+  -- too many exchanges were lost, to others
+  pub record Loses (s s' : Seat S View) : Type 0 where
+    pub same : IsUnmoved s s'
+    pub many : ¬ (IsLone s.me.0.epoch)

@@ -1,0 +1,65 @@
+-- What waits with a participant, as its rule and as its bags have it
+use Rattle.std.specs.Prelude.{◌≡◌, ℕ, ◌≤◌, ◌==◌, Bool, List, [], ◌∷◌, map, filter, not, nat_lt, slice_set, if◌then◌else◌}
+use Rattle.sdd_store.specs.declared.waiting.What.{What}
+use Rattle.sdd_store.specs.declared.waiting.What.TheVariants.{Item, Job}
+use Rattle.sdd_store.specs.declared.time.Participant.{Participant}
+use Rattle.sdd_store.specs.Waiting.{Waiting}
+use Rattle.sdd_store.specs.Time.{due_next, rotated, settled}
+use Rattle.atomic_table.specs.declared.shared.Seat.{Seat}
+use Rattle.sdd_rule.specs.declared.Sizes.{Sizes}
+use Rattle.sdd_rule.specs.declared.WaitingItem.{WaitingItem}
+use Rattle.sdd_rule.specs.declared.View.{View}
+use Rattle.sdd_rule.specs.Codes.{free_word}
+use Rattle.sdd_rule.specs.Epoch.{IsLone}
+use Rattle.sdd_rule.specs.SlotSteps.{behind, older}
+
+-- an item of a slot, in the bags
+abbrev pub what_of : WaitingItem → What
+what_of x = Item x.slot
+
+abbrev pub waiting_of : WaitingItem → Waiting
+waiting_of x = record { what = what_of x; seen = x.changes }
+
+-- it has seen three changes
+abbrev pub is_ripe : WaitingItem → Bool
+is_ripe x = nat_lt 2 x.changes
+
+abbrev pub ripe : List WaitingItem → List WaitingItem
+ripe = filter is_ripe
+
+abbrev pub unripe : List WaitingItem → List WaitingItem
+unripe = filter (λ (x : WaitingItem). not (is_ripe x))
+
+-- what waits after an opening at this count of one that has found another: each item has seen one change more, and what has seen three is gone
+abbrev pub waits_at : ℕ → Participant → List WaitingItem → List WaitingItem
+waits_at count own xs = if own.found == count then xs else unripe (map older xs)
+
+-- what such an opening gives back
+abbrev pub due_at : ℕ → Participant → List What
+due_at count own = if own.found == count then [] else due_next own
+
+-- what the participant keeps of its own after it, but for the guard
+abbrev pub arrived_at : ℕ → Participant → Participant
+arrived_at count own = if own.found == count then own else settled (rotated count own)
+
+-- the words that are known, once the slots of these are free
+abbrev pub freed : Sizes → List What → List ℕ → List ℕ
+freed sizes [] ws = ws
+freed sizes (Item slot ∷ due) ws = freed sizes due (slice_set ws (behind sizes slot) (free_word 0))
+freed sizes (Job place ∷ due) ws = freed sizes due ws
+
+-- each item that has seen three changes was given back
+abbrev pub GivesAllBack : List What → View → ℕ → View → Type 0
+GivesAllBack due v x w = w ≡ record v { slots = record v.slots { waits = unripe v.slots.waits }; words = freed v.sizes due v.words }
+
+-- the token after an outermost opening that found a count
+pub record Arrives {S : Type 0} (count : ℕ) (own : Participant) (s s' : Seat S View) : Type 0 where
+  pub table : s'.table_id ≡ s.table_id
+  pub number : s'.id ≡ s.id
+  pub sizes : s'.me.0.sizes ≡ s.me.0.sizes
+  pub knew : s.me.0.epoch.known ≤ count
+  pub knows : count ≤ s'.me.0.epoch.since
+  pub known : s'.me.0.epoch.known ≡ s'.me.0.epoch.since
+  pub lone : IsLone s.me.0.epoch → (count ≡ s.me.0.epoch.known) × (s'.me.0.epoch.since ≡ s.me.0.epoch.known)
+  pub slots : s'.me.0.slots ≡ record s.me.0.slots { waits = waits_at count own s.me.0.slots.waits }
+  pub words : s'.me.0.words ≡ freed s.me.0.sizes (due_at count own) s.me.0.words

@@ -1,0 +1,130 @@
+//! The search for a free slot.
+ghost use Rattle.std.specs.Prelude.{◌≡◌, ◌⊎◌, ◌<◌, ◌≤◌, ℕ, true, false, IfOk, MatchOption, MatchResult};
+ghost use Rattle.sdd_rule.specs.Epoch.{HasPlace, IsLone};
+ghost use Rattle.sdd_domain.specs.Board.{id_of, sizes_of, slots_of};
+ghost use Rattle.sdd_domain.specs.Token.{view, epoch};
+ghost use Rattle.sdd_domain.specs.Claims.{IsUnmoved, Gains, Misses, Loses};
+
+use crate::board::{Board, Token};
+use crate::known::Known;
+use crate::steps::slots::{FREE, claim, look};
+use sdd_core::Refused;
+
+/// One try at a slot, which is claimed if it is found free. So many exchanges more may be lost.
+fn attempt(board: &Board, token: &mut Token, slot: u32, left: &mut u64) -> Result<bool, Refused>
+    requires home { token.old.table_id ≡ id_of board.now }
+    requires sizes { (view token.old).sizes ≡ sizes_of board.now }
+    requires inside { slot < slots_of board.now }
+    requires place { HasPlace (epoch token.old) }
+    requires left { 0 < left.old }
+    ensures tried { MatchResult result
+        (λ won. (won ≡ true → Gains slot token.old token.new) × (won ≡ false → Misses (λ k. k ≡ slot) token.old token.new))
+        (λ e. (e ≡ Refused.Contended) × Loses token.old token.new) }
+    ensures left { IfOk result (λ _. 0 < left.new) }
+{
+    if look(board, token, slot) != FREE {
+        return Ok(false);
+    }
+    if claim(board, token, slot) == FREE {
+        return Ok(true);
+    }
+    *left -= 1;
+    if *left == 0 {
+        return Err(Refused::Contended);
+    }
+    Ok(false)
+}
+
+/// Tries the slots that were given back.
+fn try_known(
+    board: &Board,
+    token: &mut Token,
+    known: &mut Known,
+    left: &mut u64,
+) -> Result<Option<u32>, Refused>
+    requires home { token.old.table_id ≡ id_of board.now }
+    requires sizes { (view token.old).sizes ≡ sizes_of board.now }
+    requires slots { known.old.slots ≡ slots_of board.now }
+    requires place { HasPlace (epoch token.old) }
+    requires left { 0 < left.old }
+    ensures tried { MatchResult result
+        (λ found. MatchOption found (IsUnmoved token.old token.new) (λ slot. Gains slot token.old token.new))
+        (λ e. (e ≡ Refused.Contended) × Loses token.old token.new) }
+    ensures slots { known.new.slots ≡ known.old.slots }
+    ensures left { IfOk result (λ _. 0 < left.new) }
+{
+    for _ in 0..known.len() {
+        let Some(slot) = known.pop() else {
+            return Ok(None);
+        };
+        if attempt(board, token, slot, left)? {
+            return Ok(Some(slot));
+        }
+    }
+    Ok(None)
+}
+
+/// Tries the slots from one up to another one.
+fn walk(
+    board: &Board,
+    token: &mut Token,
+    from: u32,
+    to: u32,
+    left: &mut u64,
+) -> Result<Option<u32>, Refused>
+    requires home { token.old.table_id ≡ id_of board.now }
+    requires sizes { (view token.old).sizes ≡ sizes_of board.now }
+    requires inside { to ≤ slots_of board.now }
+    requires place { HasPlace (epoch token.old) }
+    requires left { 0 < left.old }
+    ensures tried { MatchResult result
+        (λ found. MatchOption found
+        (Misses (λ k. (from ≤ k) × (k < to)) token.old token.new)
+        (λ slot. Gains slot token.old token.new))
+        (λ e. (e ≡ Refused.Contended) × Loses token.old token.new) }
+    ensures left { IfOk result (λ _. 0 < left.new) }
+{
+    for slot in from..to {
+        if attempt(board, token, slot, left)? {
+            return Ok(Some(slot));
+        }
+    }
+    Ok(None)
+}
+
+/// Claims a free slot: one that was given back, or else the first one of a walk over all slots, once round.
+///
+/// `NoSlot` where none was found free; `Contended` where so many exchanges were lost.
+pub fn claim_free(
+    board: &Board,
+    token: &mut Token,
+    known: &mut Known,
+    slots: u32,
+    tries: u64,
+) -> Result<u32, Refused>
+    requires home { token.old.table_id ≡ id_of board.now }
+    requires sizes { (view token.old).sizes ≡ sizes_of board.now }
+    requires slots { (known.old.slots ≡ slots_of board.now) × (slots ≡ slots_of board.now) }
+    requires place { HasPlace (epoch token.old) }
+    requires tries { 0 < tries }
+    ensures tried { MatchResult result
+        (λ slot. Gains slot token.old token.new)
+        (λ e. ((e ≡ Refused.NoSlot) × Misses (λ k. k < slots_of board.now) token.old token.new)
+        ⊎ ((e ≡ Refused.Contended) × Loses token.old token.new)) }
+    ensures slots { known.new.slots ≡ known.old.slots }
+{
+    let mut left = tries;
+    if let Some(slot) = try_known(board, token, known, &mut left)? {
+        return Ok(slot);
+    }
+    let next = known.next();
+    if let Some(slot) = walk(board, token, next, slots, &mut left)? {
+        known.find(slot);
+        return Ok(slot);
+    }
+    if let Some(slot) = walk(board, token, 0, next, &mut left)? {
+        known.find(slot);
+        return Ok(slot);
+    }
+    Err(Refused::NoSlot)
+}
