@@ -1,15 +1,13 @@
 //! Values that hold owners and cells: what they hold goes three changes after them.
-ghost use Rattle.std.specs.Prelude.{ℕ, ◌≡◌};
-ghost use Rattle.sdd_base.specs.Guard.{reader_of};
+ghost use Rattle.std.specs.Prelude.{◌≡◌};
 ghost use Rattle.sdd_base.specs.Holding.{AreOf};
-ghost use Rattle.sdd_base.specs.Ptr.{KeepsShown};
 ghost use Rattle.sdd_base.specs.Seat.{IsSeated};
 ghost use Rattle.sdd_cell_rows.specs.Value.{holdings_of};
 
 use crate::Value;
 use crate::example::{AMPLE, Example, in_a_world};
-use crate::steps::{close, opened, owned, raw, shared};
-use sdd_base::{Guard, Limits, RawPtr, Space};
+use crate::steps::{owned, raw, shared};
+use sdd_base::{Limits, RawPtr, Space};
 use std::process::Abort;
 
 /// A value with the only owner of another is retired.
@@ -51,35 +49,14 @@ fn with_each<S: Space<Value>>(rt: &impl Abort, s: &mut S) -> Value
     Value::Each(first, second, third, fourth, fifth)
 }
 
-/// The number that the shared cell of such a value holds, as it is now. Some slot shows the value.
-fn number_beyond<S: Space<Value>>(s: &mut S, value: &Value, guard: &Guard) -> Option<u64>
-    requires seated { IsSeated (S.seat s.old) }
-    requires shown { (slot : ℕ) × S.shows s.old slot value.now }
-    requires reader { reader_of guard.now ≡ (S.seat s.old).reader }
-    ensures seat { S.seat s.new ≡ S.seat s.old }
-{
-    s.shown_is_of_home();
-    let Value::Each(_, _, _, cell, _) = value else {
-        return None;
-    };
-    match cell.load(guard, s).as_ref(s) {
-        Some(Value::Number(number)) => Some(*number),
-        _ => None,
-    }
-}
-
-/// It goes, and a reader goes on from it through its cell.
+/// It is retired.
 struct HoldsEach;
 
 impl Example<Value> for HoldsEach {
     fn run<R: Abort, S: Space<Value>>(rt: &R, s: &mut S) {
-        let guard = opened(rt, s);
         let value = with_each(rt, s);
-        let owner = shared::made(rt, s, value);
-        let seen = owner.get_guarded_ref(&guard, s);
-        assert!(rt; owner.release(s));
-        assert_eq!(rt; number_beyond(s, seen, &guard), Some(4));
-        close(s, guard);
+        let outer = owned::made(rt, s, value);
+        owned::retire(s, outer);
     }
 }
 

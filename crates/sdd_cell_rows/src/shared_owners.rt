@@ -15,6 +15,7 @@ impl Example<u64> for Releases {
         let ptr = owner.get_guarded_ptr(&guard, s);
         let other = shared::copied(rt, s, &owner);
         assert_eq!(rt; shared::upgraded(rt, s, ptr), Some(false));
+        assert!(rt; *owner.get_guarded_ref(&guard, s) == 47);
         assert!(rt; !shared::release(s, owner));
         assert!(rt; shared::release(s, other));
         assert_eq!(rt; shared::upgraded(rt, s, ptr), None);
