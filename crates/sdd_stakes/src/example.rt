@@ -1,14 +1,14 @@
 //! The calls of a shelf, one after the other, over the rule of any table.
-ghost use Rattle.std.specs.Prelude.{◌≡◌, ◌<◌};
+ghost use Rattle.std.specs.Prelude.{◌≡◌, ◌<◌, ℕ};
 ghost use Rattle.sdd_stakes.specs.Stakes.{AllFreeFor};
-ghost use Rattle.sdd_stakes.specs.Seats.{lots};
-ghost use Rattle.sdd_stakes.specs.Shelf.{CanShow, Shows, IsVacant, HasWhole, showing};
+ghost use Rattle.sdd_stakes.specs.Seats.{lots, plain};
+ghost use Rattle.sdd_stakes.specs.Shelf.{CanShow, IsFull, IsVacant, HasWhole, vacant, all_turned};
 
 use crate::seats::settle;
 use crate::shelf::Shelf;
 use crate::stake::Stake;
 use atomic_table::{Seat, Shared, TableRule};
-use sdd_places::{Tenure, end_round};
+use sdd_places::{Ended, Tenure, end_round};
 use sdd_token::WHOLE;
 
 /// A value that is shown can be shown again under the same tenure, whatever others there are.
@@ -52,5 +52,24 @@ pub fn takes_what_was_put<T, V, K, P: TableRule<Stake, V, K>>(
     let _shown = shelf.show(at, seat, table, tenure);
     let ended = end_round(tenure);
     settle(seat, table, &ended);
+    shelf.take(at, seat, table, count)
+}
+
+/// A value is taken by stakes that were lent to a tenure, once it has ended.
+pub fn takes_what_was_shown<T, V, K, P: TableRule<Stake, V, K>>(
+    shelf: &Shelf<T>,
+    at: usize,
+    seat: &mut Seat<Stake, V>,
+    table: &Shared<Stake, V, K, P>,
+    count: usize,
+    ended: &Ended,
+) -> T
+    requires table { seat.old.table_id ≡ table.now.table_id }
+    requires inside { at < shelf.now.size }
+    requires free { AllFreeFor ended.now.name (lots seat.old.me.1) }
+    requires whole { HasWhole shelf.now.book at count IsFull (lots (plain seat.old.me.1)) }
+    ensures seat { (round : ℕ) × (seat.new ≡ record seat.old { me = (seat.old.me.0, all_turned round vacant count (plain seat.old.me.1)) }) }
+{
+    settle(seat, table, ended);
     shelf.take(at, seat, table, count)
 }

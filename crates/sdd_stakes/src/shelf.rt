@@ -26,6 +26,8 @@ impl<T> Model for Shelf<T> {
 }
 
 impl<T> Shelf<T> {
+    ghost use Rattle.sdd_stakes.specs.Memory.{IsHoldOf};
+
     /// That many vacant places, with the stakes in them and the right to free their memory. The number of a place is where it stands.
     pub fn new<A: Allocator>(
         alloc: &A,
@@ -34,7 +36,7 @@ impl<T> Shelf<T> {
         requires fits { FitsInBlock T.row size }
         ensures size { IfOk result (λ made. made.0.size ≡ size) }
         ensures stock { IfOk result (λ made. AreVacant made.0.book 0 size made.1.lots) }
-        ensures hold { IfOk result (λ made. (made.2.ptr ≡ made.0.ptr) × (made.2.len ≡ size) × (made.2.alloc ≡ alloc.now)) }
+        ensures hold { IfOk result (λ made. IsHoldOf made.0 alloc.now made.2) }
     {
         let room = Room::new(alloc, size)?;
         Ok(Shelf::of(room))
@@ -45,7 +47,7 @@ impl<T> Shelf<T> {
         requires fits { FitsInBlock T.row room.len }
         ensures shelf { result.0.size ≡ room.len }
         ensures stock { AreVacant result.0.book 0 room.len result.1.lots }
-        ensures hold { (result.2.ptr ≡ result.0.ptr) × (result.2.len ≡ room.len) × (result.2.alloc ≡ room.alloc) }
+        ensures hold { IsHoldOf result.0 room.alloc result.2 }
     {
         let Room { ptr, len, by } = room;
         (
@@ -57,7 +59,7 @@ impl<T> Shelf<T> {
 
     /// Gives the memory back, by the stakes in all places. They are vacant.
     pub fn close<A: Allocator>(self, alloc: &A, stock: Stock, hold: Hold<T, A>)
-        requires hold { (hold.ptr ≡ self.ptr) × (hold.len ≡ self.size) × (hold.alloc ≡ alloc.now) }
+        requires hold { IsHoldOf self alloc.now hold }
         requires stock { AreVacant self.book 0 self.size stock.lots }
     {
         let Stock { of: _ } = stock;

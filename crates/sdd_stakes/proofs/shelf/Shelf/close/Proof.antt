@@ -46,6 +46,7 @@ use denote.RawPtr.{block_of, count_of, at_block}
 use denote.Steps.{peeks}
 use Rattle.core.proofs.mem.Param.{R}
 use Rattle.sdd_places.proofs.Rooms.{Hd, hold_had, hold_told}
+use Rattle.sdd_stakes.specs.Memory.{IsHoldOf}
 use Rattle.sdd_stakes.specs.Shelf.{AreVacant}
 use Rattle.sdd_stakes.proofs.Fields.{strip_of, token_val, ShelfData, shelf_told, StockData, stock_told}
 use Rattle.sdd_stakes.proofs.Housing.{clears}
@@ -96,7 +97,7 @@ module _ (E : El) (Z : Al) where
         let p : Ptr = f.ptr in let b : ℕ = block_of p in let o : ℕ = count_of p in let N : ℕ = f.size in let γ : ℕ = f.book in
         let D : RattleType = ShelfData (R E) in
         let Post : Val → SProp 𝓤 = (walk_of 𝓛 ended stayed held).post z in
-        let Ok : Type 0 = (d.ptr ≡ p) × (d.len ≡ N) × (d.alloc ≡ a) in let Vacant : Type 0 = AreVacant γ 0 N w.lots in
+        let Ok : Type 0 = IsHoldOf f a d in let Vacant : Type 0 = AreVacant γ 0 N w.lots in
         let n : ℕ = d.len in let s : ℕ = sz E in let al : ℕ = capped (align (elτ E)) in
         qed 𝓛 (((‵ (flft κ q) ⊛ ‵ (flft κ₁ q₁) ⊛ ‵ (flft κ₂ q₂) ⊛ ‵ ftrue) ⊛ ‵ (owns (types_at ended.signature.params z.0.0) z.0.3 vss))
         ∷ (raw (fact 𝓤 (κ₁ ⊑ E.row.lives)) ⊛ raw (fact 𝓤 (κ₂ ⊑ Z.row.lives)) ⊛ raw (fact 𝓤 Ok) ⊛ raw (fact 𝓤 Vacant)) ∷ []) ∵
@@ -104,7 +105,7 @@ module _ (E : El) (Z : Al) where
         split ! $ split ! $ move ! (2 ∷ []) $ fsplit ! $ fsplit ! $ peeks ! D (Is D) (shows 𝓛 D) (p, tt) vss.0 (λ seen. drop ! $ fsplit ! $
         fpick ! (λ fit. drop ! $
         -- [the rules; the other arguments; the handle's token; the others]
-        let at : p ≡ block_ptr b o = at_block p fit.0 in let at_d : d.ptr ≡ block_ptr b o = ok.0 ∙ at in
+        let at : p ≡ block_ptr b o = at_block p fit.0 in let at_d : d.ptr ≡ block_ptr b o = ok.place ∙ at in
         let e₁ : vss.0 ≡ strip_of (block_ptr b o) ∷ [] = shelf_told (R E) p vss.0 seen ∙ ap (λ (r : Ptr). strip_of r ∷ []) at in
         move ! (1 ∷ []) $ fsplit ! $ fsplit ! $ feq_l ! (λ e₀. move ! (1 ∷ []) $ fsplit ! $ fsplit ! $
         peeks ! StockData (Is StockData) (shows 𝓛 StockData) (tt, tt) vss.1.1.0 (λ seen_stock. drop ! $
@@ -113,9 +114,9 @@ module _ (E : El) (Z : Al) where
         let told = hold_told E Z d vss.1.1.1.0 so in let fn : n < 2 ^ 64 = told.1 in
         hold_had E Z ! d vss.1.1.1.0 (λ e₂.
         -- [the right to free it; _; the stakes; the handle; the rules; the handle's token; the others]
-        let small : n * s < 2 ^ 63 = subst (λ (k : ℕ). k * s < 2 ^ 63) (sym ok.1) fit.1 in let fm : n * s < 2 ^ 64 = omega arith in
+        let small : n * s < 2 ^ 63 = subst (λ (k : ℕ). k * s < 2 ^ 63) (sym ok.size) fit.1 in let fm : n * s < 2 ^ 64 = omega arith in
         rewrite ! 0 (λ (r : Ptr). ‵ (token Z d.alloc (block_ty E n) r)) at_d refl $
-        rewrite ! 0 (λ (c : Z.row.Denot). ‵ (token Z c (block_ty E n) (block_ptr b o))) ok.2 refl $ keep ! (4 ∷ 2 ∷ 0 ∷ 3 ∷ 5 ∷ 6 ∷ []) $
+        rewrite ! 0 (λ (c : Z.row.Denot). ‵ (token Z c (block_ty E n) (block_ptr b o))) ok.from refl $ keep ! (4 ∷ 2 ∷ 0 ∷ 3 ∷ 5 ∷ 6 ∷ []) $
         -- [the rules; the stakes; the right to free it; the handle; its token; the other tokens]
         let us : List Val = strip_of (block_ptr b o) ∷ vptr hp.0 hp.1 ∷ token_val ∷ lease_val (block_ptr b o) n ∷ [] in
         let e₃ : vss.1.1.1.0 ≡ lease_val (block_ptr b o) n ∷ [] = e₂ ∙ ap (λ (p : Ptr). lease_val p n ∷ []) at_d in
@@ -124,7 +125,7 @@ module _ (E : El) (Z : Al) where
         enter ! 𝓣.C 𝓣.Λ here us Post $
         alloc_all ! (λ l. pass_all ! refl ((tt, (tt, tt)), ((tt, tt), ((tt, (tt, tt)), ((tt, (tt, (record { fits = fn }, (tt, tt)))), tt)))) $
         use2 𝓛 (later (‵ (froom (ty_array (elτ E) N) b o))) (clears E 𝓛 γ b N 0 o w.lots vacant) $ await ! tt $
-        rewrite ! 0 (λ (k : ℕ). ‵ (froom (ty_array (elτ E) k) b o)) (sym ok.1) refl $
+        rewrite ! 0 (λ (k : ℕ). ‵ (froom (ty_array (elτ E) k) b o)) (sym ok.size) refl $
         use1 𝓛 (‵ (froom (block_ty E n) b o)) (𝓛.laws.room-raw (ty_array (elτ E) n) b o) $
         -- [the room; the right to free it; the handle; its token; the other tokens]
         let En : Env 𝓤 H = env here.locals l in

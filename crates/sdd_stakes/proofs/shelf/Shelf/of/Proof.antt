@@ -17,6 +17,7 @@ use Rattle.sdd_token.specs.Units.{book_owns}
 use Rattle.sdd_token.proofs.Steps.{book_new}
 use Rattle.sdd_places.proofs.Rooms.{Rm, Hd, held, room_had, hold_made, room_told}
 use Rattle.sdd_stakes.specs.Stakes.{Lot, purse}
+use Rattle.sdd_stakes.specs.Memory.{IsHoldOf}
 use Rattle.sdd_stakes.specs.Shelf.{Fits, rules, AreVacant}
 use Rattle.sdd_stakes.proofs.Fields.{strip_of, token_val, ShelfData, shelf_made, StockData, stock_made}
 use Rattle.sdd_stakes.proofs.Housing.{lays}
@@ -71,8 +72,8 @@ of_spec 𝓤 𝓛 𝓜 𝓡 wired T A L LA g d dd _ _ =
     sets ! (agg ! (no_more !)) refl (tt, tt) $ sets ! (agg ! (and_then ! (get ! refl) (no_more !))) refl (tt, (tt, tt)) $
     sets ! (agg ! (and_then ! (get ! refl) (and_then ! (get ! refl) (and_then ! (get ! refl) (no_more !))))) refl (tt, lease) $
     sets ! (agg ! (and_then ! (get ! refl) (and_then ! (get ! refl) (and_then ! (get ! refl) (no_more !))))) refl (tt, ((tt, tt), ((tt, tt), (lease, tt)))) $
-    let Told : Type 0 = (q ≡ q) × (n ≡ n) × (h.alloc ≡ h.alloc) in let Vacant : Type 0 = AreVacant γ 0 n ls in
-    use0 𝓛 (raw (fact 𝓤 Told)) (fact_i 𝓤 Told (emp 𝓤) (refl, refl, refl)) $ use0 𝓛 (raw (fact 𝓤 Vacant)) (fact_i 𝓤 Vacant (emp 𝓤) vacant) $ join ! $
+    let Told : Type 0 = IsHoldOf new h.alloc (held E Z h.alloc b o n) in let Vacant : Type 0 = AreVacant γ 0 n ls in
+    use0 𝓛 (raw (fact 𝓤 Told)) (fact_i 𝓤 Told (emp 𝓤) (record { place = refl; size = refl; from = refl })) $ use0 𝓛 (raw (fact 𝓤 Vacant)) (fact_i 𝓤 Vacant (emp 𝓤) vacant) $ join ! $
     use0 𝓛 (raw (fact 𝓤 (n ≡ n))) (fact_i 𝓤 (n ≡ n) (emp 𝓤) refl) $ join ! $ nothing ! $ nothing ! $ fjoin ! $
     returns ! (look_at ! 0 refl) $ free_all ! refl $ keep ! (4 ∷ 0 ∷ 2 ∷ 1 ∷ []) $
     by ! (leaves 𝓛 En hs c z all (new, rest, held E Z h.alloc b o n) (tt, tt) (tt, tt))))))))))
