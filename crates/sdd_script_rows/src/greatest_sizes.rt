@@ -95,6 +95,11 @@ fn a_script_has_a_most_of_calls(rt: HostRuntime) -> Result<(), Fail> {
         Script::Calls(calls) => assert_eq!(rt; calls.len(), 65_536),
         Script::Fault(line) => panic!(rt; "line {line}"),
     }
+    let one_more = lines(alloc, 65_537, "tally\n")?;
+    match parse_all(alloc, one_more.as_bytes())? {
+        Script::Calls(calls) => panic!(rt; "{} calls", calls.len()),
+        Script::Fault(line) => assert_eq!(rt; line, 65_537),
+    }
     Ok(())
 }
 

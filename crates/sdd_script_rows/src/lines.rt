@@ -118,6 +118,8 @@ fn malformed_lines_are_no_calls(rt: HostRuntime) {
         "",
         " ",
         " register",
+        " p0 open",
+        "p0  read o0",
         "register ",
         "Register",
         "register 1",
