@@ -76,8 +76,8 @@ module _ (h : Hand) (t : IsTied h) where
       ap (map (option_map collector_holding)) taken ∙ map-set (option_map collector_holding) h.collectors.entries.items k None
 
   -- the item of an owner that a name stands for has a date
-  pub owner-dated : IsWhole h.world → (o : ℕ) (x : AnOwner) (s : ℕ) → Some x ≡ slice_index_or h.owners.entries.items o None → slot_of (Some (owner_holding x)) ≡ Some s →
-      s < length h.dates.items
+  pub owner-dated : IsWhole h.world → (o : ℕ) (x : AnOwner) (s : ℕ) → Some x ≡ slice_index_or h.owners.entries.items o None →
+      slot_of (Some (owner_holding x)) ≡ Some s → s < length h.dates.items
   owner-dated whole o x s there slot =
       let entry : holding_at d.owners o ≡ Some (owner_holding x) =
       get_or-map (option_map owner_holding) h.owners.entries.items o None ∙ ap (option_map owner_holding) (sym there) in
@@ -123,7 +123,7 @@ module _ (h : Hand) (t : IsTied h) (whole : IsWhole h.world) (name : PlaceName) 
   acts-collecting w collectors x r free world home pushed named =
       let c = collector.collector_of x in
       let more : map (option_map collector_holding) collectors.items
-          ≡ (desk_of h).collectors ++ Some (holding.atomic_raw c h.world.home.cells) ∷ [] =
+      ≡ (desk_of h).collectors ++ Some (holding.atomic_raw c h.world.home.cells) ∷ [] =
       ap (map (option_map collector_holding)) pushed ∙ map_push (option_map collector_holding) h.collectors.entries.items (Some x)
       ∙ ap (λ z. (desk_of h).collectors ++ Some (holding.atomic_raw c z) ∷ []) home in
       does (desk_of h) (At name call.Collector) (reply.Collector r)
@@ -169,10 +169,16 @@ module _ (h : Hand) (t : IsTied h) (whole : IsWhole h.world) (name : PlaceName) 
         by : (x : AnOwner) (given : Reply) → Some x ≡ slice_index_or h.owners.entries.items o.0 None →
             Collects h.world p (collector.collector_of y) (owner_holding x) given w → Meets (desk_of h) (At name (call.Collect o g r)) given
             (after_given (desk_of h) t.sound whole p (collector.collector_of y) k o.0 live w)
-        by (Sole x) reply.Done mine did =
-            (is-valid (Sole x) mine, rw (is h t whole name a there) (collector.collector_of y, owner_holding (Sole x), w, number, entry (Sole x) mine, did, refl))
-        by (Share x) (reply.Truth b) mine did =
-            (is-valid (Share x) mine, rw (is h t whole name a there) (collector.collector_of y, owner_holding (Share x), w, number, entry (Share x) mine, did, refl))
+        by (Sole x) reply.Done mine did = (
+          is-valid (Sole x) mine,
+          rw (is h t whole name a there)
+              (collector.collector_of y, owner_holding (Sole x), w, number, entry (Sole x) mine, did, refl),
+        )
+        by (Share x) (reply.Truth b) mine did = (
+          is-valid (Share x) mine,
+          rw (is h t whole name a there)
+              (collector.collector_of y, owner_holding (Share x), w, number, entry (Share x) mine, did, refl),
+        )
         by x given mine did = absurd did
 
   -- ---- a collector is closed

@@ -1,4 +1,4 @@
-use Rattle.std.proofs.Common.{sym, ap, ◌∙◌}
+use Rattle.std.proofs.Common.{sym, ◌∙◌}
 use Rattle.sdd_desk.proofs.Entry.{spent_twice}
 use Rattle.sdd_lines.specs.declared.call.Action.TheVariants as call
 use Rattle.sdd_stage.specs.Stage.{desk_of}
@@ -38,14 +38,15 @@ give_to-reply-requires-clause-home c =
     owner-home c.self.inside.hand c.self.invariant c.is_whole.ensures c.args.owner.0 _ (sym c.in-Some-take.ensures.taken)
 
 pub date_if_waiting-requires : goal.date_if_waiting-requires
-date_if_waiting-requires c = owner-dated c.self.inside.hand c.self.invariant c.args.owner.0 _ _ c.in-Some-take.ensures.taken c.slot-slot.ensures
+date_if_waiting-requires c =
+    owner-dated c.self.inside.hand c.self.invariant c.is_whole.ensures c.args.owner.0 _ _ c.in-Some-take.ensures.taken c.slot-slot.ensures
 
 pub invariant_of-self-2 : goal.invariant_of-self-2
 invariant_of-self-2 c =
     let found = c.in-Some.ensures.found in
     (acts-collected c.self.inside.hand c.self.invariant c.is_whole.ensures c.args.name _ found.0 c.args.owner c.args.guard c.args.collector _ _ _ _
     c.give_to-reply.new.world c.take.new.self.entries c.date_if_waiting.new.dates c.in-Some.ensures.valid c.in-Some-take.ensures.taken
-    c.in-Some-get.ensures c.slot-slot.ensures c.give_to-reply.ensures c.in-Some-take.ensures.spent c.date_if_waiting.ensures).0
+    c.in-Some-get.ensures c.slot-slot.ensures c.give_to-reply.ensures.collects c.in-Some-take.ensures.spent c.date_if_waiting.ensures).0
 
 pub returns : goal.returns
 returns c =
@@ -53,6 +54,6 @@ returns c =
     record {
       acts = rw (← c.self.view_is) (acts-collected c.self.inside.hand c.self.invariant c.is_whole.ensures c.args.name _ found.0 c.args.owner
           c.args.guard c.args.collector _ _ _ _ c.give_to-reply.new.world c.take.new.self.entries c.date_if_waiting.new.dates
-          c.in-Some.ensures.valid c.in-Some-take.ensures.taken c.in-Some-get.ensures c.slot-slot.ensures c.give_to-reply.ensures
+          c.in-Some.ensures.valid c.in-Some-take.ensures.taken c.in-Some-get.ensures c.slot-slot.ensures c.give_to-reply.ensures.collects
           c.in-Some-take.ensures.spent c.date_if_waiting.ensures).1;
     }

@@ -17,16 +17,16 @@ returns-in-Err c =
           (acts-no_cell h c.self.invariant c.is_whole.ensures c.args.name _ (got h.places c.args.name.0 _ c.in-Some.ensures) refused.0);
     }
 
-pub invariant_of-self-2 : goal.invariant_of-self-2
-invariant_of-self-2 c =
+pub invariant_of-self-in-Ok : goal.invariant_of-self-in-Ok
+invariant_of-self-in-Ok c =
     let h = c.self.inside.hand in
     let made = c.in-Ok.ensures.made in
     (acts-collecting h c.self.invariant c.is_whole.ensures c.args.name _ (got h.places c.args.name.0 _ c.in-Some.ensures) _
     c.give-name.new.self.entries _ (record { 0 = c.give-name.result }) made.0 made.1 c.in-Ok.ensures.home
     (rw c.make_room.ensures.kept at c.give-name.ensures.given) (c.give-name.ensures.name ∙ ap length c.make_room.ensures.kept)).0
 
-pub returns : goal.returns
-returns c =
+pub returns-in-Ok : goal.returns-in-Ok
+returns-in-Ok c =
     let h = c.self.inside.hand in
     let made = c.in-Ok.ensures.made in
     record {

@@ -4,7 +4,7 @@ use Rattle.sdd_stage.proofs.Ending.{spends-collector, tied-spent_collector}
 use Rattle.sdd_stage.proofs.stage.Stage.spend_collector.Goals as goal
 
 pub leave_collector-requires : goal.leave_collector-requires
-leave_collector-requires c = collector-home c.self.inside.hand c.self.invariant c.args.collector _ c.in-Some.ensures.taken
+leave_collector-requires c = record { home = collector-home c.self.inside.hand c.self.invariant c.args.collector _ c.in-Some.ensures.taken }
 
 pub invariant_of-self : goal.invariant_of-self
 invariant_of-self c =
