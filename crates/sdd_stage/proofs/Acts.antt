@@ -30,6 +30,7 @@ use Rattle.sdd_base.specs.Steps.{registered, ended, made_as, nulled, opened, rec
 use Rattle.sdd_base.specs.Under.{Stays}
 use Rattle.sdd_base.specs.Whole.{IsWhole}
 use Rattle.sdd_base.specs.declared.limits.Limits.{Limits}
+use Rattle.sdd_base.specs.Limits.{AreInRange}
 use Rattle.sdd_base.specs.World.{World, IsNew, IsPlaceOf, standing_at, value_at}
 use Rattle.sdd_base.specs.Owned as owned
 use Rattle.sdd_base.specs.Shared as shared
@@ -40,6 +41,7 @@ use Rattle.sdd_lines.specs.declared.name.GuardName.{GuardName}
 use Rattle.sdd_lines.specs.declared.name.OwnerName.{OwnerName}
 use Rattle.sdd_lines.specs.declared.name.ItemName.{ItemName}
 use Rattle.sdd_lines.specs.declared.name.JobName.{JobName}
+use Rattle.sdd_lines.specs.declared.name.CollectorName.{CollectorName}
 use Rattle.sdd_lines.specs.declared.call.Call.{Call}
 use Rattle.sdd_lines.specs.declared.call.Call.TheVariants.{Register, Tally, At}
 use Rattle.sdd_lines.specs.declared.call.Action.TheVariants as call
@@ -68,7 +70,7 @@ use Rattle.sdd_desk.specs.Script.AreCalls.{none as no_call, one_more}
 use Rattle.sdd_desk.specs.Shown.{Shows, item_in, job_in, told_of}
 use Rattle.sdd_desk.specs.Sound.{IsSound}
 use Rattle.sdd_hand.specs.Hand.{attending, guarding, BecomesBody, opened_since}
-use Rattle.sdd_steps.specs.Owners.{owner_holding, cell_holding}
+use Rattle.sdd_steps.specs.Owners.{owner_holding, cell_holding, collector_holding}
 use Rattle.sdd_stage.specs.Stage.{desk_of, IsTied, GuardsIn, making}
 use Rattle.sdd_desk.specs.Held.{owners_in, slots_among, places_among, standing_first, holding_first, waits_among}
 use Rattle.sdd_desk.proofs.Entry.{as-each, at-other, at-pushed, at-end, at-default}
@@ -635,9 +637,9 @@ noted-is h t whole name a there nested new is e =
 
 -- nothing is in hand at the start
 pub tied-start : (h : Hand) (l : Limits) → IsNew l 0 h.world → h.moment ≡ 0 → h.places.entries.items ≡ [] → h.guards.entries.items ≡ [] →
-    h.owners.entries.items ≡ [] → h.cells.entries.items ≡ [] → h.slots.items ≡ [] → length h.names.items ≡ l.slots →
-    h.dates.items ≡ replicate l.slots 0 → h.jobs ≡ 0 → h.deferred.items ≡ replicate l.jobs 0 → IsTied h
-tied-start h l new start places guards owners cells slots names dates jobs deferred = record {
+    h.owners.entries.items ≡ [] → h.cells.entries.items ≡ [] → h.collectors.entries.items ≡ [] → h.slots.items ≡ [] → length h.names.items ≡ l.slots →
+    h.dates.items ≡ replicate l.slots 0 → h.jobs ≡ 0 → h.deferred.items ≡ replicate l.jobs 0 → AreInRange l → IsTied h
+tied-start h l new start places guards owners cells collectors slots names dates jobs deferred ranges = record {
   sound = sound-start l (desk_of h) (record {
     world = new;
     moment = start;
@@ -645,11 +647,12 @@ tied-start h l new start places guards owners cells slots names dates jobs defer
     guards = ap (map guarding) guards;
     owners = ap (map (option_map owner_holding)) owners;
     cells = ap (map (option_map cell_holding)) cells;
+    collectors = ap (map (option_map collector_holding)) collectors;
     slots = slots;
     dates = dates;
     jobs = jobs;
     deferred = deferred;
-  }) names;
+  }) names ranges;
   guards = λ g. subst (λ gs. GuardsIn h.world.home.readers (map attending h.places.entries.items) (slice_index_or gs g None)) (sym guards) tt;
 }
 
@@ -673,11 +676,14 @@ answers-plain call given acts none never = record {
 pub crowded-refused : (h : Hand) → IsCrowded h.world.time → Acts (desk_of h) Register (reply.Refused NoPlace) (desk_of h)
 crowded-refused h crowded = still (desk_of h) Register (reply.Refused NoPlace) (crowded, refl)
 
--- a call that opens no guard reclaims nothing
-pub none-reclaimed : (d : Desk) (line : Call) (given : Reply) → ((name : PlaceName) → line ≢ At name call.Open) → (s : ℕ) → IsReclaimed d line given s → ⊥
-none-reclaimed d Register given other s h = h
-none-reclaimed d Tally given other s h = h
-none-reclaimed d (At n a) given other s h = by a other h where
-  by : (a : Action) → ((name : PlaceName) → At n a ≢ At name call.Open) → IsReclaimed d (At n a) given s → ⊥
-  by call.Open other h = other n refl
-  by other_action other h = h
+-- a call that opens no guard and closes no collector reclaims nothing
+pub none-reclaimed : (d : Desk) (line : Call) (given : Reply) → ((name : PlaceName) → line ≢ At name call.Open) →
+    ((name : PlaceName) (k : CollectorName) → line ≢ At name (call.CloseCollector k)) → (s : ℕ) → IsReclaimed d line given s → ⊥
+none-reclaimed d Register given other no_close s h = h
+none-reclaimed d Tally given other no_close s h = h
+none-reclaimed d (At n a) given other no_close s h = by a other no_close h where
+  by : (a : Action) → ((name : PlaceName) → At n a ≢ At name call.Open) → ((name : PlaceName) (k : CollectorName) → At n a ≢ At name (call.CloseCollector k)) →
+      IsReclaimed d (At n a) given s → ⊥
+  by call.Open other no_close h = other n refl
+  by (call.CloseCollector k) other no_close h = no_close n k refl
+  by other_action other no_close h = h

@@ -16,10 +16,12 @@ use Rattle.sdd_store.specs.declared.tally.Tally.{Tally}
 use Rattle.sdd_store.specs.declared.time.Participant.{Participant}
 use Rattle.sdd_store.specs.declared.waiting.What.TheVariants.{Item}
 use Rattle.sdd_base.specs.Holding.{Holding, Home, IsOf}
-use Rattle.sdd_base.specs.Out.{is_out}
+use Rattle.sdd_base.specs.Out.{IsNullCell, is_out}
+use Rattle.sdd_base.specs.declared.private_collector.PrivateCollector.{PrivateCollector}
+use Rattle.sdd_base.specs.Collector as collector
 use Rattle.sdd_base.specs.Owned as owned
 use Rattle.sdd_base.specs.World.{World, IsGuarded, IsPlaceOf, place_at, standing_at, value_at}
-use Rattle.sdd_base.specs.Steps.{retired, owner_given, with_standing, spilled, cell_closed, held_in}
+use Rattle.sdd_base.specs.Steps.{retired, owner_given, with_standing, spilled, cell_closed, without_cell, held_in}
 use Rattle.sdd_base.specs.Whole.{IsWhole}
 use Rattle.sdd_base.specs.Accounts.{IsAccounted, owner_count}
 use Rattle.sdd_base.proofs.Accounts.{accounted-as}
@@ -29,13 +31,13 @@ use Rattle.sdd_world.proofs.AllGo.{all-go}
 use Rattle.sdd_world.proofs.Sweeping.{all-uncounted}
 use Rattle.sdd_desk.specs.declared.val.Val.{Val, out-Val}
 use Rattle.sdd_desk.specs.Val.{body_of, owner_in, link_of, holdings_of}
-use Rattle.sdd_desk.specs.Desk.{Desk, Opening, holding_at, opening_at, place_in, slot_at, slot_of, cell_of, name_at, in_world, without_owner}
+use Rattle.sdd_desk.specs.Desk.{Desk, Opening, holding_at, opening_at, place_in, slot_at, slot_of, cell_of, collector_of, name_at, in_world, without_owner}
 use Rattle.sdd_desk.specs.Sound.{IsSound, IsAttended, IsStocked, IsLayered, AreKept, AreAtHome, Keeper, Keeps, is_of, owns, named_owners}
-use Rattle.sdd_desk.specs.Sound.Keeper.{value_in, name_of}
+use Rattle.sdd_desk.specs.Sound.Keeper.{value_in, name_of, collector_named}
 use Rattle.sdd_desk.specs.Script.{Acts, HasOpen, Meets}
-use Rattle.sdd_stage.specs.Leaving.{SpendsOwner, SpendsCell, SpendsGuard, LeavesRaw}
+use Rattle.sdd_stage.specs.Leaving.{SpendsOwner, SpendsCell, SpendsCollector, SpendsGuard, LeavesRaw}
 use Rattle.sdd_hand.specs.Hand.{guarding}
-use Rattle.sdd_steps.specs.Owners.{owner_holding, cell_holding}
+use Rattle.sdd_steps.specs.Owners.{owner_holding, cell_holding, collector_holding}
 use Rattle.sdd_stage.specs.Stage.{desk_of, IsTied}
 use Rattle.sdd_steps.specs.declared.holding.AnOwner.{AnOwner}
 use Rattle.sdd_steps.specs.declared.holding.ACell.{ACell}
@@ -48,9 +50,10 @@ use Rattle.sdd_lines.specs.declared.call.Action.TheVariants as call
 use Rattle.sdd_lines.specs.declared.answer.Reply.{Reply}
 use Rattle.sdd_lines.specs.declared.answer.Reply.TheVariants as reply
 use Rattle.sdd_desk.proofs.Entry.{at-same, at-other, at-default, as-each, inside, spent_twice}
-use Rattle.sdd_desk.proofs.Stocked.{stocked-as, no_slot-given, no_slot-retired, no_slot-cell_closed}
-use Rattle.sdd_desk.proofs.Keepers.{keepers-as, keepers-closed}
-use Rattle.sdd_desk.proofs.Counting.{AreCounted, counted-given, counted-cell_closed, owned-out, out-there}
+use Rattle.sdd_desk.proofs.Stocked.{stocked-as, no_slot-given, no_slot-retired, no_slot-same, no_slot-cell_closed}
+use Rattle.sdd_desk.proofs.Keepers.{keepers-as, keepers-closed, keepers-uncollected}
+use Rattle.sdd_desk.proofs.Counting.{AreCounted, counted-given, counted-cell_closed, counted-into_none, owned-out, out-there}
+use Rattle.sdd_stage.proofs.CollectorActs.{collectors-spent, number-is}
 use Rattle.sdd_desk.proofs.Layers.{layered-for, layered-given, layered-closed, keeps-given, keeps-closed, set-either}
 
 -- ---- what letting go leaves
@@ -149,14 +152,16 @@ module _ (d : Desk) (s : IsSound d) (shut : (g : ℕ) → opening_at d.guards g 
           (was.0, rw l.phases was.1));
     }
 
-    pub sound-let : IsStocked new → AreKept new → IsLayered new → AreCounted new new.world → AreAtHome new new.owners → AreAtHome new new.cells → IsSound new
-    sound-let stocked keepers layered counted owners_home cells_home = record {
+    pub sound-let : IsStocked new → AreKept new → IsLayered new → AreCounted new new.world → AreAtHome new new.owners → AreAtHome new new.cells →
+        AreAtHome new new.collectors → IsSound new
+    sound-let stocked keepers layered counted owners_home cells_home collectors_home = record {
       stocked = stocked;
       cells = keepers;
       layered = layered;
       accounts = counted;
       owners_home = owners_home;
       cells_home = cells_home;
+      collectors_home = collectors_home;
       attended = attended-let;
       kept = λ n k x e o waits since.
           absurd (omega (arith, ltb-true 0 (place_at new.world x.place).guards o, l.guards x.place, no-guards x.place));
@@ -180,7 +185,7 @@ module _ (d : Desk) (s : IsSound d) (shut : (g : ℕ) → opening_at d.guards g 
         (keepers-as d without s.cells l.values (cells-given d.world p k stands is) refl refl)
         (layered-for d without without.world refl refl (layered-given d d.world p k stands is s.layered))
         (counted-given d s.accounts o h there k slot p stands is)
-        (at-home-spent without.world.home d.owners o (rw l.home s.owners_home)) (rw l.home s.cells_home)
+        (at-home-spent without.world.home d.owners o (rw l.home s.owners_home)) (rw l.home s.cells_home) (rw l.home s.collectors_home)
 
   -- the cell of this name is spent: it is free, and p is given what it held
   module _ (p n c : ℕ) (named : cell_of (holding_at d.cells n) ≡ Some c) where
@@ -196,7 +201,21 @@ module _ (d : Desk) (s : IsSound d) (shut : (g : ℕ) → opening_at d.guards g 
         (keepers-closed d e n c s.cells named l.values (cells-closed d.world p c) refl refl)
         (layered-for d e e.world refl refl (layered-closed d d.world p c s.layered))
         (counted-cell_closed d s.accounts p c) (rw l.home s.owners_home)
-        (at-home-spent e.world.home d.cells n (rw l.home s.cells_home))
+        (at-home-spent e.world.home d.cells n (rw l.home s.cells_home)) (rw l.home s.collectors_home)
+
+  -- the collector of this name is spent: its cell is free, and what waits for it waits on
+  module _ (n c : ℕ) (named : collector_of (holding_at d.collectors n) ≡ Some c) (bare : held_in (entry_at d.world.cells c) ≡ None) where
+    abbrev pub without_the_collector : Desk
+    without_the_collector = record d { world = without_cell d.world c; collectors = slice_set d.collectors n None }
+
+    pub sound-spent_collector : IsSound without_the_collector
+    sound-spent_collector =
+        let e = without_the_collector in
+        sound-let e (lets-cell d.world d.world c (lets-start d.world)) refl refl refl refl refl refl refl refl
+        (stocked-as d e s.stocked refl refl refl (no_slot-same d.world e.world refl))
+        (keepers-uncollected d e n c s.cells named refl refl refl refl) s.layered
+        (counted-into_none d s.accounts c bare) s.owners_home s.cells_home
+        (at-home-spent d.world.home d.collectors n s.collectors_home)
 
   -- the item in this slot, which is out as raw, waits at p
   module _ (p k : ℕ) (raw : standing_at d.world k ≡ Some Raw) where
@@ -215,7 +234,7 @@ module _ (d : Desk) (s : IsSound d) (shut : (g : ℕ) → opening_at d.guards g 
         let e = with_it_left in
         sound-let e lets-left refl refl refl refl refl refl refl refl
         (stocked-as d e s.stocked refl refl refl (no_slot-retired d.world p k (ap is_some raw)))
-        (keepers-as d e s.cells refl refl refl refl) s.layered counted-left s.owners_home s.cells_home
+        (keepers-as d e s.cells refl refl refl refl) s.layered counted-left s.owners_home s.cells_home s.collectors_home
 
 -- it isn't out as raw then, and no other is that wasn't
 module _ (w : World Val) (p k : ℕ) where
@@ -252,7 +271,7 @@ link-held v = by (owner_in (body_of v)) where
   by (h ∷ hs) = by hs
 
 module _ (d : Desk) (s : IsSound d) (whole : IsWhole d.world) (owners : (o : ℕ) → holding_at d.owners o ≡ None)
-    (cells : (c : ℕ) → holding_at d.cells c ≡ None) where
+    (cells : (c : ℕ) → holding_at d.cells c ≡ None) (collectors : (k : ℕ) → holding_at d.collectors k ≡ None) where
   no-owners : IsAccounted holdings_of (λ _. 0) d.world
   no-owners = accounted-as holdings_of (named_owners d) (λ _. 0) d.world
       (λ k. sym (all-uncounted (owns k) d.owners (λ o. ap (owns k) (owners o)))) s.accounts
@@ -263,6 +282,7 @@ module _ (d : Desk) (s : IsSound d) (whole : IsWhole d.world) (owners : (o : ℕ
     by : (k : Keeper) → Keeps d k c → (j : ℕ) × (v : Val) × (value_at d.world j ≡ Some v) × (link_of v ≡ c)
     by (value_in j) h = (j, h.0, h.1, h.2)
     by (name_of n) h = absurd (let never : None ≡ Some c = sym (ap cell_of (cells n)) ∙ h in cc)
+    by (collector_named n) h = absurd (let never : None ≡ Some c = sym (ap collector_of (collectors n)) ∙ h in cc)
 
   idle : (c : ℕ) → held_in (entry_at d.world.cells c) ≡ None
   idle c = by (entry_at d.world.cells c) refl where
@@ -382,8 +402,36 @@ module _ (h : Hand) (t : IsTied h) where
       spends-cell = record {
         cells = cells-spent cells n taken;
         owners = refl;
+        collectors = refl;
         guards = refl;
         tally = ap (λ (u : World Val). u.tally) world ∙ (lets-closed h.world p c).tally;
+      }
+
+    -- a collector is given up
+    module _ (w : World Val) (collectors : Vec (Option (PrivateCollector Val))) (n : ℕ) (x : PrivateCollector Val)
+        (mine : Some x ≡ slice_index_or h.collectors.entries.items n None) (null : IsNullCell h.world (collector.collector_of x))
+        (world : w ≡ without_cell h.world (collector.collector_of x)) (taken : collectors.items ≡ slice_set h.collectors.entries.items n None) where
+      collector-gone : desk_of (record h { world = w; collectors = record { entries = collectors } })
+          ≡ record d { world = without_cell h.world (collector.collector_of x); collectors = slice_set d.collectors n None }
+      collector-gone =
+          ap (λ (u : World Val). record d { world = u; collectors = map (option_map collector_holding) collectors.items }) world
+          ∙ ap (λ (ks : List (Option Holding)). record d { world = without_cell h.world (collector.collector_of x); collectors = ks })
+          (collectors-spent h t collectors n taken)
+
+      pub tied-spent_collector : IsTied (record h { world = w; collectors = record { entries = collectors } })
+      tied-spent_collector = record {
+        sound = subst (λ (e : Desk). IsSound e) (sym collector-gone)
+            (sound-spent_collector d t.sound shut n (collector.collector_of x) (number-is h t n x mine) (ap held_in null.1 ∙ null.2));
+        guards = λ g. rw (none-held g) tt;
+      }
+
+      pub spends-collector : SpendsCollector n d (desk_of (record h { world = w; collectors = record { entries = collectors } }))
+      spends-collector = record {
+        collectors = collectors-spent h t collectors n taken;
+        owners = refl;
+        cells = refl;
+        guards = refl;
+        tally = ap (λ (u : World Val). u.tally) world;
       }
 
     -- an item that is out as raw is left

@@ -3,6 +3,7 @@ pub mod CellActs
 pub mod Acts
 pub mod ExchangeActs
 pub mod Missing
+pub mod CollectorActs
 pub mod RawActs
 pub mod Unshared
 pub mod Inside

@@ -40,7 +40,7 @@ impl Scene {
         self.stage.world()
     }
 
-    /// Ends the scene: every guard is closed, every owner and every cell spent, every item given up that is out as raw, and all that waits is
+    /// Ends the scene: every guard is closed, every owner, collector and cell spent, every item given up that is out as raw, and all that waits is
     /// reclaimed. Answers how many items were made, reclaimed and dropped in place: those that the script made and dropped, and so each other one
     /// that it made is reclaimed.
     ///

@@ -15,8 +15,8 @@ use sdd_world::inner::{
 };
 
 impl Stage {
-    /// Every guard is closed, every owner and every cell spent, and every item given up that is out as raw; and then the world ends: all that waits
-    /// is reclaimed.
+    /// Every guard is closed, every owner, collector and cell spent, and every item given up that is out as raw; and then the world ends: all that
+    /// waits is reclaimed.
     pub fn close(mut self) -> Tally
         ensures made { result.made ≡ self.world.tally.made }
         ensures in_place { result.in_place ≡ self.world.tally.in_place }

@@ -4,7 +4,7 @@ use Rattle.sdd_stage.proofs.Acts.{still}
 use Rattle.sdd_lines.specs.declared.call.Call.TheVariants.{Tally}
 use Rattle.sdd_lines.specs.declared.answer.Reply.TheVariants as reply
 use Rattle.sdd_stage.proofs.stage.Stage.reply_to.Goals as goal
-use Rattle.sdd_stage.proofs.stage.Stage.reply_to.Goals.{in-Register+in_ok-register-in-Register, in-Tally, in-At-default-End, in-At-default-Epoch, in-At-default-Garbage, in-At-default-Set, in-At-default-Accelerate, in-At-default-Defer, in-At-default-Owned+in_ok-make-in-At-default-Owned, in-At-default-Shared+in_ok-make-in-At-default-Shared, in-At-default-Read, in-At-default-Look, in-At-default-Upgrade+in_ok-upgrade-in-At-default-Upgrade, in-At-default-Clone+in_ok-clone_owner-in-At-default-Clone, in-At-default-Release, in-At-default-Retire, in-At-default-Put, in-At-default-Drop, in-At-default-Raw, in-At-default-Unraw+in_ok-take_back_raw-in-At-default-Unraw, in-At-default-See, in-At-default-Close, in-At-default-CellOwned+in_ok-make_cell-in-At-default-CellOwned, in-At-default-CellShared+in_ok-make_cell-in-At-default-CellShared, in-At-default-Load, in-At-default-Tag, in-At-default-Swap+in_ok-swap-in-At-default-Swap, in-At-default-TagIf, in-At-default-Exchange+in_ok-exchange-in-At-default-Exchange, in-At-default-Into+in_ok-into_owner-in-At-default-Into, in-At-default-Copy+in_ok-copy-in-At-default-Copy, in-At-default-Share+in_ok-share-in-At-default-Share, in-At-default-CloseCell}
+use Rattle.sdd_stage.proofs.stage.Stage.reply_to.Goals.{in-Register+in_ok-register-in-Register, in-Tally, in-At-default-Collector+in_ok-make_collector-in-At-default-Collector, in-At-default-Collect, in-At-default-End, in-At-default-Epoch, in-At-default-Garbage, in-At-default-Set, in-At-default-Accelerate, in-At-default-Defer, in-At-default-Owned+in_ok-make-in-At-default-Owned, in-At-default-Shared+in_ok-make-in-At-default-Shared, in-At-default-Read, in-At-default-Look, in-At-default-Upgrade+in_ok-upgrade-in-At-default-Upgrade, in-At-default-Clone+in_ok-clone_owner-in-At-default-Clone, in-At-default-Release, in-At-default-Retire, in-At-default-Put, in-At-default-Drop, in-At-default-Raw, in-At-default-Unraw+in_ok-take_back_raw-in-At-default-Unraw, in-At-default-See, in-At-default-Close, in-At-default-CellOwned+in_ok-make_cell-in-At-default-CellOwned, in-At-default-CellShared+in_ok-make_cell-in-At-default-CellShared, in-At-default-Load, in-At-default-Tag, in-At-default-Swap+in_ok-swap-in-At-default-Swap, in-At-default-TagIf, in-At-default-Exchange+in_ok-exchange-in-At-default-Exchange, in-At-default-Into+in_ok-into_owner-in-At-default-Into, in-At-default-Copy+in_ok-copy-in-At-default-Copy, in-At-default-Share+in_ok-share-in-At-default-Share, in-At-default-CloseCell}
 
 pub returns : goal.returns
 returns c = record {
@@ -12,6 +12,14 @@ returns c = record {
     | in-Register+in_ok-register-in-Register w ↦ rw (w.in-Register.is, w.self-is, w.result-is) w.in_ok-register-in-Register.ensures.acts
     | in-Tally w ↦ rw (w.in-Tally.is, w.self-is, w.result-is, w.tally.ensures, ← w.self.view_is)
         (still (desk_of w.self.inside.hand) Tally (reply.Tally w.self.inside.hand.world.tally) (refl, refl))
+    | in-At-default-Collector+in_ok-make_collector-in-At-default-Collector w ↦
+        let is = w.in-At-default-Collector.is in
+        let action = rw is at w.in-At-default-Collector.field-1-is in
+        rw (is, action, w.self-is, w.result-is) w.in_ok-make_collector-in-At-default-Collector.ensures.acts
+    | in-At-default-Collect w ↦
+        let is = w.in-At-default-Collect.is in
+        let action = rw is at w.in-At-default-Collect.field-1-is in
+        rw (is, action, w.self-is, w.result-is) (rw (is, action) at w.collect.ensures.acts)
     | in-At-default-End w ↦ rw (w.in-At-default-End.is, rw w.in-At-default-End.is at w.in-At-default-End.field-1-is, w.self-is, w.result-is) w.end.ensures.acts
     | in-At-default-Epoch w ↦
         let is = w.in-At-default-Epoch.is in

@@ -41,6 +41,7 @@ pub returns-in-None : goal.returns-in-None
 returns-in-None c = rw (← c.self.view_is) (record {
   cells = cells-spent c.self.inside.hand c.self.invariant c.take.new.self.entries c.args.cell c.in-None.ensures.spent;
   owners = refl;
+  collectors = refl;
   guards = refl;
   tally = refl;
 })
