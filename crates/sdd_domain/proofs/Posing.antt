@@ -1,5 +1,5 @@
 -- A participant is posed after each step that takes or gives slots.
-use Rattle.std.proofs.Common.{◌≡◌, ℕ, ◌<◌, ◌≤◌, List, [], ◌∷◌, ◌++◌, map, sym, refl, ap, ◌∙◌, subst, false, arith}
+use Rattle.std.proofs.Common.{◌≡◌, ℕ, ◌<◌, ◌≤◌, List, [], ◌∷◌, ◌++◌, map, sym, refl, ap, ◌∙◌, subst, arith}
 use Rattle.std.proofs.lemmas.List.{map-append}
 use mathlib.Core.Logic.{dite}
 use native.Mathlib.Decide.{ℕ_discrete, dec_lt}
@@ -7,22 +7,19 @@ use Rattle.atomic_table.specs.declared.shared.Seat.{Seat}
 use Rattle.sdd_store.specs.declared.waiting.What.TheVariants.{Item}
 use Rattle.sdd_store.specs.declared.time.Participant.{Participant}
 use Rattle.sdd_store.specs.Waiting.{Waiting, fresh}
-use Rattle.sdd_store.specs.Time.{stirred, awaiting, nested, rested, counted_down}
-use Rattle.sdd_rule.specs.declared.SlotsView.{SlotsView}
+use Rattle.sdd_store.specs.Time.{stirred, awaiting, nested}
 use Rattle.sdd_rule.specs.declared.WaitingItem.{WaitingItem}
 use Rattle.sdd_rule.specs.declared.View.{View}
-use Rattle.sdd_rule.specs.declared.Sizes.{Sizes}
-use Rattle.sdd_rule.specs.Epoch.{HasPlace, Scans, IsLone}
-use Rattle.sdd_rule.specs.Steps.{knowing, counted, published, closed}
+use Rattle.sdd_rule.specs.Epoch.{HasPlace, IsLone}
+use Rattle.sdd_rule.specs.Steps.{knowing, counted, published}
 use Rattle.sdd_rule.specs.Sums.{total}
 use Rattle.sdd_rule.specs.Slots.{OwnsAlone, items_at, waits_in}
 use Rattle.sdd_rule.specs.SlotSteps.{retired_now, Retires}
 use Rattle.sdd_rule.proofs.Sums.{is_other, without_other, total_snoc}
 use Rattle.sdd_domain.specs.declared.board.Board.{Board}
 use Rattle.sdd_domain.specs.Board.{slots_of}
-use Rattle.sdd_domain.specs.Token.{view, epoch, slots, Taught, IsSameBut, HasClosed}
+use Rattle.sdd_domain.specs.Token.{view, epoch, slots, Taught}
 use Rattle.sdd_domain.specs.Waits.{waiting_of}
-use Rattle.sdd_domain.specs.Claims.{Gains}
 use Rattle.sdd_domain.specs.Posed.{IsPosed}
 
 stirs : (c : ℕ) → ¬ (stirred c ≡ 128)
@@ -31,42 +28,10 @@ stirs c e = grind arith
 stirs_low : (c : ℕ) → c ≤ 128 → stirred c ≤ 128
 stirs_low c low = grind arith
 
-counts_low : (c : ℕ) → c ≤ 128 → counted_down false c ≤ 128
-counts_low c low = grind arith
-
-counts_idle : (c : ℕ) → c ≤ 128 → counted_down false c ≡ 128 → c ≡ 128
-counts_idle c low e = grind arith
-
 module _ {S : Type 0} (b : Board) (p : ℕ) where
   pub has_place : (own : Participant) (s : Seat S View) → IsPosed b p own s → HasPlace (epoch s)
   has_place own s q = dite (dec_lt 0 own.guards) (λ some_open. let e = q.opened some_open in omega arith)
       (λ none. let e = q.closed (omega arith) in omega arith)
-
-  pub posed_gains : (own : Participant) (slot : ℕ) (s t : Seat S View) → IsPosed b p own s → Gains slot s t → IsPosed b p own t
-  posed_gains own slot s t q g = subst (λ (v : View). IsPosed b p own (record t { me = (v, t.me.1) })) (sym g.view) record {
-    home = g.table ∙ q.home;
-    none_out = g.others ∙ q.none_out;
-    all = q.all;
-    place = q.place;
-    inside = q.inside;
-    count = q.count;
-    closed = q.closed;
-    opened = q.opened;
-    near = q.near;
-    lone = q.lone;
-    free = q.free;
-    sizes = q.sizes;
-    found = q.found;
-    quiet = record { shares = q.quiet.shares; sees = q.quiet.sees; holds = q.quiet.holds; looked = q.quiet.looked };
-    owned = λ i mine. dite (ℕ_discrete slot i)
-        (λ e. subst (λ (k : ℕ). k < slots_of b) e (subst (λ (z : Sizes). slot < z.slots) q.sizes g.inside))
-        (λ ne. q.owned i (let o = is_other i slot ne in omega arith));
-    waiting = q.waiting;
-    bags = q.bags;
-    room = q.room;
-    pace = q.pace;
-    idle = q.idle;
-  }
 
   pub posed_retires : (own : Participant) (slot : ℕ) (s t : Seat S View) → IsPosed b p own s → OwnsAlone (view s) slot → Taught (Retires slot) s 4 t
       → IsPosed b p (awaiting (Item slot) own) t
@@ -126,35 +91,4 @@ module _ {S : Type 0} (b : Board) (p : ℕ) where
         room = room ∙ q.room;
         pace = pace;
         idle = idle;
-      }
-
-  -- after the last close, and the scan before it
-  pub posed_closes : (own : Participant) (s t u : Seat S View) → IsPosed b p own s → IsSameBut s t → (epoch t).all ≡ (epoch s).all
-      → (epoch t).place ≡ (epoch s).place → (epoch t).count ≡ (epoch s).count → (epoch t).found ≡ (epoch s).found → ¬ (Scans (epoch t)) → HasClosed t u
-      → IsPosed b p (rested false own) u
-  posed_closes own s t u q same all place count found free shut =
-      let keeps : slots u ≡ record s.me.0.slots { sees = [] } = shut.2 ∙ ap (λ (l : SlotsView). record l { sees = [] }) same.2 in
-      let is : u.me.0 ≡ record u.me.0 { epoch = closed (epoch t); slots = record s.me.0.slots { sees = [] } }
-      = λ i. record u.me.0 { epoch = shut.4 i; slots = keeps i } in
-      subst (λ (v : View). IsPosed b p (rested false own) (record u { me = (v, u.me.1) })) (sym is) record {
-        home = shut.0.0 ∙ (same.0.0 ∙ q.home);
-        none_out = shut.0.2 ∙ (same.0.2 ∙ q.none_out);
-        all = all ∙ q.all;
-        place = place ∙ q.place;
-        inside = q.inside;
-        count = count ∙ q.count;
-        closed = λ _. refl;
-        opened = λ z. absurd (omega arith);
-        near = λ z. absurd (omega arith);
-        lone = λ z. absurd (omega arith);
-        free = free;
-        sizes = shut.0.3 ∙ (same.0.3 ∙ q.sizes);
-        found = found ∙ q.found;
-        quiet = record { shares = q.quiet.shares; sees = refl; holds = q.quiet.holds; looked = q.quiet.looked };
-        owned = q.owned;
-        waiting = q.waiting;
-        bags = q.bags;
-        room = q.room;
-        pace = counts_low own.countdown q.pace;
-        idle = λ e. q.idle (counts_idle own.countdown q.pace e);
       }

@@ -1,18 +1,16 @@
 -- How many items wait with one participant
-use Rattle.std.proofs.Common.{◌≡◌, ℕ, zero, suc, ◌+◌, ◌<◌, ◌≤◌, ◌==◌, not, List, [], ◌∷◌, map, length, get_or, sym, refl, ap, ◌∙◌, subst, eq-eqb, ne_eqb, arith}
+use Rattle.std.proofs.Common.{◌≡◌, ℕ, zero, suc, ◌+◌, ◌<◌, ◌≤◌, ◌==◌, not, List, [], ◌∷◌, map, length, sym, refl, ap, ◌∙◌, eq-eqb, ne_eqb, arith}
 use Rattle.std.proofs.lemmas.List.{get_or_past}
-use Rattle.std.specs.List.{filter}
 use mathlib.Core.Bool.{Bool, true, false, cond}
 use mathlib.Core.Option.{some}
 use mathlib.Core.Logic.{dite}
 use native.Mathlib.Decide.{ℕ_discrete}
 use native.Mathlib.Decide.{dec_lt}
 use lib.ListN.{get_elem?}
-use borrow.Author.Tests.{eqb-true, eqb-false}
 use Rattle.sdd_rule.specs.declared.WaitingItem.{WaitingItem}
 use Rattle.sdd_rule.specs.declared.View.{View}
 use Rattle.sdd_rule.specs.declared.Sizes.{Sizes}
-use Rattle.sdd_rule.specs.Words.{slot_word, all_words}
+use Rattle.sdd_rule.specs.Words.{slot_word}
 use Rattle.sdd_rule.specs.Codes.{Code, IsSound}
 use Rattle.sdd_rule.specs.Sums.{total, is, times}
 use Rattle.sdd_rule.specs.Slots.{slot_at, items_at, waits_in, OwnsAlone, SlotsPart}
