@@ -675,15 +675,3 @@ answers-plain call given acts none never = record {
 -- no place is vacant
 pub crowded-refused : (h : Hand) → IsCrowded h.world.time → Acts (desk_of h) Register (reply.Refused NoPlace) (desk_of h)
 crowded-refused h crowded = still (desk_of h) Register (reply.Refused NoPlace) (crowded, refl)
-
--- a call that opens no guard and closes no collector reclaims nothing
-pub none-reclaimed : (d : Desk) (line : Call) (given : Reply) → ((name : PlaceName) → line ≢ At name call.Open) →
-    ((name : PlaceName) (k : CollectorName) → line ≢ At name (call.CloseCollector k)) → (s : ℕ) → IsReclaimed d line given s → ⊥
-none-reclaimed d Register given other no_close s h = h
-none-reclaimed d Tally given other no_close s h = h
-none-reclaimed d (At n a) given other no_close s h = by a other no_close h where
-  by : (a : Action) → ((name : PlaceName) → At n a ≢ At name call.Open) → ((name : PlaceName) (k : CollectorName) → At n a ≢ At name (call.CloseCollector k)) →
-      IsReclaimed d (At n a) given s → ⊥
-  by call.Open other no_close h = other n refl
-  by (call.CloseCollector k) other no_close h = no_close n k refl
-  by other_action other no_close h = h
