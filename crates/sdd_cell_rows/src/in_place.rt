@@ -15,16 +15,10 @@ impl Example<u64> for SharedInPlace {
         let other = shared::copied(rt, s, &owner);
         assert_eq!(rt; shared::put(s, &mut owner, 40), Err(Refused::NotAlone));
         let guard = opened(rt, s);
-        match shared::drop_in_place(s, other) {
-            Ok(last) => assert!(rt; !last),
-            Err((_other, refused)) => panic!(rt; "{refused:?}"),
-        }
+        assert!(rt; !shared::dropped_in_place(rt, s, other));
         assert_eq!(rt; shared::put(s, &mut owner, 40), Err(Refused::GuardOpen));
         close(s, guard);
-        match shared::drop_in_place(s, owner) {
-            Ok(last) => assert!(rt; last),
-            Err((_owner, refused)) => panic!(rt; "{refused:?}"),
-        }
+        assert!(rt; shared::dropped_in_place(rt, s, owner));
     }
 }
 

@@ -8,7 +8,7 @@ pub mod owned;
 pub mod raw;
 pub mod shared;
 
-use sdd_base::{Guard, Item, Look, Ptr, Space};
+use sdd_base::{Guard, Guards, Item, Look, Ptr};
 use sdd_core::Tag;
 use std::process::Abort;
 
@@ -16,7 +16,7 @@ use std::process::Abort;
 pub type Read = (Option<u64>, Option<u64>, Tag);
 
 /// One more guard.
-pub fn opened<T: Item<T>, S: Space<T>>(rt: &impl Abort, s: &mut S) -> Guard
+pub fn opened<T: Item<T>, S: Guards<T>>(rt: &impl Abort, s: &mut S) -> Guard
     requires seated { IsSeated (S.seat s.old) }
     ensures seat { S.seat s.new ≡ S.seat s.old }
     ensures reader { reader_of result ≡ (S.seat s.new).reader }
@@ -25,7 +25,7 @@ pub fn opened<T: Item<T>, S: Space<T>>(rt: &impl Abort, s: &mut S) -> Guard
 }
 
 /// Closes a guard.
-pub fn close<T: Item<T>, S: Space<T>>(s: &mut S, guard: Guard)
+pub fn close<T: Item<T>, S: Guards<T>>(s: &mut S, guard: Guard)
     requires seated { IsSeated (S.seat s.old) }
     requires reader { reader_of guard ≡ (S.seat s.old).reader }
     ensures seat { S.seat s.new ≡ S.seat s.old }
@@ -34,7 +34,7 @@ pub fn close<T: Item<T>, S: Space<T>>(s: &mut S, guard: Guard)
 }
 
 /// Opens, accelerates and closes a guard, and tells which epoch it showed, and whether something might wait then.
-pub fn accelerated<T: Item<T>, S: Space<T>>(rt: &impl Abort, s: &mut S) -> (u8, bool)
+pub fn accelerated<T: Item<T>, S: Guards<T>>(rt: &impl Abort, s: &mut S) -> (u8, bool)
     requires seated { IsSeated (S.seat s.old) }
     ensures seat { S.seat s.new ≡ S.seat s.old }
 {
@@ -47,7 +47,7 @@ pub fn accelerated<T: Item<T>, S: Space<T>>(rt: &impl Abort, s: &mut S) -> (u8, 
 }
 
 /// The next accelerated guards show these epochs, and whether something might wait.
-pub fn shows<S: Space<u64>>(rt: &impl Abort, s: &mut S, table: &[(u8, bool)])
+pub fn shows<S: Guards<u64>>(rt: &impl Abort, s: &mut S, table: &[(u8, bool)])
     requires seated { IsSeated (S.seat s.old) }
     ensures seat { S.seat s.new ≡ S.seat s.old }
 {

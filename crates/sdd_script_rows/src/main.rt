@@ -1,19 +1,12 @@
 //! Worked examples of scripts: each example of `data/` is played, and it is told whether each of its lines is answered
 //! by what stands beside it.
 //!
-//! The module `dialogue` says what an example looks like. Functions test what no script shows: which lines are calls,
-//! the texts of all answers, devices, and the greatest sizes.
+//! The module `dialogue` says what an example looks like. Functions test what no file could show: the greatest sizes.
 #![tactic(auto)]
 
-#[cfg(test)]
-mod answers;
-#[cfg(test)]
-mod devices;
 mod dialogue;
 #[cfg(test)]
 mod greatest_sizes;
-#[cfg(test)]
-mod lines;
 mod verdict;
 
 use dialogue::Dialogue;

@@ -1,5 +1,5 @@
 //! Owners that may have others beside them, and cells of them.
-ghost use Rattle.std.specs.Prelude.{◌≡◌, IfErr};
+ghost use Rattle.std.specs.Prelude.{◌≡◌};
 ghost use Rattle.sdd_base.specs.Guard.{reader_of};
 ghost use Rattle.sdd_base.specs.Holding.{AreOf};
 ghost use Rattle.sdd_base.specs.Shared.{slots_home, cells_home, IsOfSlots};
@@ -217,15 +217,14 @@ pub fn put<S: Space<u64>>(s: &mut S, owner: &mut Shared<u64>, value: u64) -> Res
     }
 }
 
-/// The owner goes in place, and tells whether it was the last; or it comes back.
-pub fn drop_in_place<S: Space<u64>>(
-    s: &mut S,
-    owner: Shared<u64>,
-) -> Result<bool, (Shared<u64>, Refused)>
+/// The owner goes in place, and tells whether it was the last.
+pub fn dropped_in_place<S: Space<u64>>(rt: &impl Abort, s: &mut S, owner: Shared<u64>) -> bool
     requires seated { IsSeated (S.seat s.old) }
     requires home { slots_home owner ≡ (S.seat s.old).home.slots }
     ensures seat { S.seat s.new ≡ S.seat s.old }
-    ensures home { IfErr result (λ e. slots_home e.0 ≡ (S.seat s.new).home.slots) }
 {
-    owner.drop_in_place(s)
+    match owner.drop_in_place(s) {
+        Ok(last) => last,
+        Err((_owner, refused)) => panic!(rt; "{refused:?}"),
+    }
 }
