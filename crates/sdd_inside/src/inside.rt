@@ -1,7 +1,7 @@
 ghost use Rattle.std.specs.Prelude.{◌≡◌, ◌+◌, ◌^◌, ◌<◌, [], IfOk, IsTrue, ◌↔◌};
 ghost use Rattle.sdd_store.specs.Time as time;
 ghost use Rattle.sdd_base.specs.Holding.{ValuesAreOf};
-ghost use Rattle.sdd_base.specs.World.{IsBlank};
+ghost use Rattle.sdd_base.specs.World.{IsBlank, IsGuarded};
 ghost use Rattle.sdd_inside.specs.Closing.{NothingIsOut};
 ghost use Rattle.sdd_inside.specs.Lending.{AreLent};
 
@@ -116,6 +116,13 @@ impl<T: Item<T>, J: Job> Core<T, J> {
         ensures { IsTrue result ↔ NothingIsOut self.now.world }
     {
         self.slots.is_unused() && self.cells.is_unused()
+    }
+
+    /// A guard of some place is open.
+    pub fn is_guarded(&self) -> bool
+        ensures { IsTrue result ↔ IsGuarded self.now.world }
+    {
+        self.time.is_any_open()
     }
 
     /// What the values hold is of the world. It does nothing when the program runs.

@@ -1,5 +1,5 @@
 //! Cells hold owners.
-ghost use Rattle.std.specs.Prelude.{◌≡◌, ℕ, ◌+◌, ◌^◌, ◌<◌, Some, IsSome, MatchOption, MatchResult, IfSome, IsTrue, ◌↔◌};
+ghost use Rattle.std.specs.Prelude.{◌≡◌, ◌≢◌, ℕ, ◌+◌, ◌^◌, ◌<◌, ◌⊎◌, Some, IsSome, MatchOption, MatchResult, IfOk, IfSome, IsTrue, ◌↔◌};
 ghost use Rattle.sdd_token.specs.Kind.{IsOwner};
 ghost use Rattle.sdd_token.specs.Right.{number_of, home_of, kind_of};
 ghost use Rattle.sdd_slots.specs.Slots.{IsOwnedBy, IsSharedBy};
@@ -86,7 +86,7 @@ impl<T: Item<T>, J: Job> Core<T, J> {
     /// One owner more of what a cell of shared owners holds, if it holds anything.
     ///
     /// `TooManyOwners` where as many share it as may.
-    pub fn owner_held(&mut self, cell: &Right) -> Result<Option<Right>, Refused>
+    fn owner_held(&mut self, cell: &Right) -> Result<Option<Right>, Refused>
         requires home { home_of cell.now ≡ self.old.world.home.cells }
         requires kind { kind_of cell.now ≡ Kind.Shared }
         ensures held { (old : Cell) × (entry_at self.old.world.cells (number_of cell.now) ≡ Some old) × MatchResult result
@@ -120,6 +120,61 @@ impl<T: Item<T>, J: Job> Core<T, J> {
         ensures lent { IsWhole self.old.world → AreLent self.old → AreLent self.new }
     {
         self.cells.swap(cell, new, tag)
+    }
+
+    /// A swap, if the cell holds what was expected, its tag counted; else the owner handed in comes back.
+    pub fn exchange(
+        &mut self,
+        cell: &Right,
+        current: Cell,
+        new: Option<Right>,
+        tag: Tag,
+    ) -> Result<Option<Right>, Option<Right>>
+        requires home { home_of cell.now ≡ self.old.world.home.cells }
+        requires held { MayHold self.old.world.home.slots (kind_of cell.now) new }
+        ensures exchanged { MatchResult result
+            (λ old. (entry_at self.old.world.cells (number_of cell.now) ≡ Some current) × (slot_held old ≡ current.held)
+            × MayHold self.old.world.home.slots (kind_of cell.now) old
+            × (self.new ≡ record self.old { world = with_cell self.old.world (number_of cell.now) (cell_with new tag) }))
+            (λ back. (entry_at self.old.world.cells (number_of cell.now) ≢ Some current) × (back ≡ new) × (self.new ≡ self.old)) }
+        ensures sizes { KeepsSizes self.old.world self.new.world }
+        ensures whole { IsWhole self.old.world → IsWhole self.new.world }
+        ensures lent { IsWhole self.old.world → AreLent self.old → AreLent self.new }
+    {
+        if self.cell(cell) != current {
+            return Err(new);
+        }
+        Ok(self.swap(cell, new, tag))
+    }
+
+    /// A free cell for shared owners holds one owner more of what such a cell holds, if it holds anything, and has the same tag.
+    ///
+    /// `NoCell` where no cell is free; `TooManyOwners` where as many share the item as may.
+    pub fn copy_cell(&mut self, cell: &Right) -> Result<Right, Refused>
+        requires home { home_of cell.now ≡ self.old.world.home.cells }
+        requires kind { kind_of cell.now ≡ Kind.Shared }
+        ensures home { IfOk result (λ other. home_of other ≡ self.old.world.home.cells) }
+        ensures kind { IfOk result (λ other. kind_of other ≡ Kind.Shared) }
+        ensures copied { (old : Cell) × (entry_at self.old.world.cells (number_of cell.now) ≡ Some old) × MatchResult result
+            (λ other. IsEmptyAt self.old.world.cells (number_of other) × MatchOption old.held
+            (self.new ≡ record self.old { world = with_cell self.old.world (number_of other) old })
+            (λ slot. (owners : ℕ) × IsSharedBy owners (standing_at self.old.world slot) × (owners < 2 ^ 62) × (self.new ≡
+            record self.old { world = with_cell (with_standing self.old.world slot (Standing.Shared (owners + 1))) (number_of other) old })))
+            (λ e. (self.new ≡ self.old) × (IsFull self.old.world.cells × (e ≡ Refused.NoCell) ⊎
+            ¬ (IsFull self.old.world.cells) × (e ≡ Refused.TooManyOwners) × IsSome old.held ×
+            IfSome old.held (λ slot. IsSharedBy (2 ^ 62) (standing_at self.old.world slot)))) }
+        ensures time { self.new.world.time ≡ self.old.world.time }
+        ensures values { self.new.world.values ≡ self.old.world.values }
+        ensures sizes { KeepsSizes self.old.world self.new.world }
+        ensures whole { IsWhole self.old.world → IsWhole self.new.world }
+        ensures lent { IsWhole self.old.world → AreLent self.old → AreLent self.new }
+    {
+        let tag = self.cell(cell).tag;
+        if self.has_no_cell() {
+            return Err(Refused::NoCell);
+        }
+        let owner = self.owner_held(cell)?;
+        Ok(self.fill_cell(owner, tag, Kind::Shared))
     }
 
     /// The cell has this tag.

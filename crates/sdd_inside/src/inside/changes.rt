@@ -76,7 +76,7 @@ impl<T: Item<T>, J: Job> Core<T, J> {
         self.time.rotate(place, bag);
     }
 
-    /// The countdown of a place begins anew.
+    /// After what was due went: whether anything waits with the place still.
     fn settle(&mut self, place: usize)
         requires place { HasPlace self.old.world place }
         ensures settled { self.new ≡ record self.old { world = settled self.old.world place } }

@@ -105,7 +105,7 @@ impl<T: Item<T>, J: Job> Core<T, J> {
         if self.slots.has_others(right, kind) {
             return Some(Refused::NotAlone);
         }
-        if self.time.is_any_open() {
+        if self.is_guarded() {
             return Some(Refused::GuardOpen);
         }
         None

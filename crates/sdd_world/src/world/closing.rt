@@ -29,7 +29,7 @@ impl<T: Item<T>, J: Job> World<T, J> {
         ensures accounts { IfOk result (λ tally. Accounts self.tally tally) }
         ensures swept { IfErr result (λ e. e.1 ≡ Refused.OwnerOut → Sweeps T.holds self e.0) }
     {
-        if self.time().is_any_open() {
+        if self.core.is_guarded() {
             return Err((self, Refused::GuardOpen));
         }
         self.clear();
