@@ -1,5 +1,5 @@
 -- The closing of a world goes on at one participant, and comes to an end
-use Rattle.std.proofs.Common.{◌≡◌, ℕ, ◌+◌, ◌-◌, ◌*◌, ◌<◌, ◌≤◌, List, [], ◌∷◌, ◌++◌, length, Bool, cond, count_by, sum_by, refl, sym, ap, ◌∙◌, arith, true, false, Some, None, map, take, drop, get_or, nat_lt, IsTrue, zero, suc, add-one, slice_index_or, slice_set, Option}
+use Rattle.std.proofs.Common.{◌≡◌, ℕ, ◌+◌, ◌-◌, ◌*◌, ◌<◌, ◌≤◌, List, [], ◌∷◌, ◌++◌, length, Bool, cond, count_by, sum_by, refl, sym, ap, ◌∙◌, arith, true, false, Some, None, map, take, drop, get_or, nat_lt, zero, suc, add-one, slice_index_or, slice_set, Option}
 use Rattle.std.proofs.lemmas.Grind.{common_steps}
 use Rattle.std.proofs.lemmas.List.{length-set, get_or_past, get_or-set_same, set-set, set-get_or}
 use Rattle.std.proofs.lemmas.Bool.Decides.{nat_tests}
@@ -7,7 +7,7 @@ use Rattle.std.proofs.lemmas.List.Sums.{sum_by-set, sum_by_push, sum_by-cons}
 use Rattle.sdd_store.specs.declared.waiting.What.{What}
 use Rattle.sdd_store.specs.Waiting.{Waiting, fresh, aged, left, older, is_due}
 use Rattle.sdd_store.specs.declared.waiting.What.TheVariants.{Item, Job}
-use Rattle.sdd_store.specs.Time.{without_waiting, Time, with_place, nobody, pace_of, due_next, rotated, is_open}
+use Rattle.sdd_store.specs.Time.{without_waiting, Time, with_place, nobody, pace_of, due_next, rotated}
 use Rattle.sdd_store.specs.Time as time
 use Rattle.sdd_store.specs.Table.{entry_at}
 use Rattle.sdd_store.specs.declared.time.Participant.{Participant}
@@ -20,13 +20,9 @@ use Rattle.sdd_base.specs.Steps as steps
 use Rattle.sdd_base.specs.Holding.{Holding, owned, shared, atomic_owned, atomic_shared, atomic_raw}
 use Rattle.sdd_base.specs.Out.{is_out}
 use Rattle.sdd_base.proofs.Standings.{out-inside, owner-given}
-use Rattle.sdd_base.specs.World.{IsGuarded}
-use Rattle.sdd_base.specs.Lending.{Lending}
-use Rattle.sdd_base.proofs.Four.{all-closed, not-guarded}
-use Rattle.sdd_places.specs.Block.{IsHome}
-use Rattle.sdd_world.specs.Closing.{paced, aged_out, all_aged_out}
-use Rattle.sdd_world.specs.Lending.{HasReaders, AreLentOf}
-use Rattle.sdd_world.proofs.Lending.{SameGuards, guards-placed, lent-keeps, all-home-quiet}
+use Rattle.sdd_inside.specs.Closing.{paced}
+use Rattle.sdd_inside.proofs.Lending.{SameGuards, guards-placed}
+use Rattle.sdd_world.specs.Closing.{aged_out, all_aged_out}
 
 -- how many changes it takes until what waits is gone, and one more
 abbrev to_go : Waiting → ℕ
@@ -278,23 +274,8 @@ module _ {T : Type 0} where
       let same = paced-ahead (changed holds w p) p (pace_of (place_at w p)) (Moves-range l (Moves-changed holds w p l)) in
       omega (arith, same, changed-ahead holds w p l, some-waits (place_at w p).bags.waiting h)
 
--- ---- where no guard is open
+-- ---- as many guards are open
 module _ {T : Type 0} where
-  shut : (w : World T) → (IsGuarded w → ⊥) → (p : ℕ) → IsTrue (is_open (place_at w p)) → ⊥
-  shut w quiet p o = let never : false ≡ true = sym (all-closed w quiet p) ∙ o in absurd (cc)
-
-  -- none is, while as many are at each place
-  pub quiet-same : (u v : World T) → SameGuards u v → (IsGuarded u → ⊥) → IsGuarded v → ⊥
-  quiet-same u v same quiet = not-guarded v (λ q. ap (λ (n : ℕ). nat_lt 0 n) (same q) ∙ all-closed u quiet q)
-
-  -- nothing is lent
-  pub home-quiet : (w : World T) (l : Lending) → AreLentOf w l → (IsGuarded w → ⊥) → (k : ℕ) → IsHome l.stakes k
-  home-quiet w l i quiet = all-home-quiet w l i (shut w quiet)
-
-  -- and so it stays, whatever becomes of the items
-  pub lent-quiet : (u v : World T) (l : Lending) → HasReaders v → SameGuards u v → (IsGuarded u → ⊥) → AreLentOf u l → AreLentOf v l
-  lent-quiet u v l readers same quiet i = lent-keeps u v l readers same (λ p k safe o. absurd (shut u quiet p safe.guarded)) i
-
   pub MovesWaiting-guards : {p : ℕ} {u v : World T} → p < length u.time.places → MovesWaiting p u v → SameGuards u v
   MovesWaiting-guards {p} {u} {v} l m q =
       let x : Participant = record (place_at u p) { bags = record (place_at u p).bags { waiting = m.waiting } } in

@@ -1,9 +1,5 @@
 pub mod Shown
-pub mod Lending
 pub mod Closing
-pub mod Collecting
 pub mod Pointers
 pub mod Sweeping
-pub mod Letting
 pub mod AllGo
-pub mod InPlace

@@ -24,7 +24,8 @@ use Rattle.sdd_base.specs.Steps as steps
 use Rattle.sdd_base.specs.Holding.{Holding, owned, shared, atomic_owned, atomic_shared, atomic_raw}
 use Rattle.sdd_base.specs.Whole.{times_with, jobs_with, once_if, taken, IsWhole}
 use Rattle.sdd_base.specs.Accounts.{owner_count}
-use Rattle.sdd_world.specs.Closing.{NothingIsOut, aged_out, all_aged_out, Closes, Owner, Holder, holder, slot_owned, cell_held, with_fewer, held_by, held_at, owns, AreAllOf, Goes, AllGo, with_reclaimed, Stays, Sweeps, Accounts}
+use Rattle.sdd_inside.specs.Closing.{NothingIsOut}
+use Rattle.sdd_world.specs.Closing.{aged_out, all_aged_out, Closes, Owner, Holder, holder, slot_owned, cell_held, with_fewer, held_by, held_at, owns, AreAllOf, Goes, AllGo, with_reclaimed, Stays, Sweeps, Accounts}
 use Rattle.sdd_world.specs.Closing.Owner.{of_value, of_cell}
 use Rattle.sdd_world.specs.Closing.Holder.{the_item, the_cell}
 use Rattle.sdd_world.specs.Closing.Goes.{waits, given as by_giving, held as by_holding}

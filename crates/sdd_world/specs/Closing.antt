@@ -1,7 +1,6 @@
 -- What the closing of a world does
-use Rattle.std.specs.Prelude.{ℕ, zero, suc, ◌+◌, ◌-◌, ◌<◌, ◌≡◌, ◌≢◌, ◌↔◌, All, AllPairs, Contains, IsNone, IsSome, List, [], ◌∷◌, length, map, slice_get, Option, None, Some}
-use Rattle.sdd_store.specs.declared.time.Pace.{Pace}
-use Rattle.sdd_store.specs.Time.{Time, pace_of, paced_at, without_waiting}
+use Rattle.std.specs.Prelude.{ℕ, zero, suc, ◌+◌, ◌-◌, ◌<◌, ◌≡◌, ◌≢◌, ◌↔◌, AllPairs, Contains, IsSome, List, [], ◌∷◌, length, map, slice_get, Option, None, Some}
+use Rattle.sdd_store.specs.Time.{Time, pace_of, without_waiting}
 use Rattle.sdd_store.specs.Table.{entry_at}
 use Rattle.sdd_store.specs.Tally.{one_reclaimed}
 use Rattle.sdd_store.specs.declared.tally.Tally.{Tally}
@@ -13,29 +12,21 @@ use Rattle.sdd_base.specs.World.{World, place_at, standing_at, value_at}
 use Rattle.sdd_base.specs.Steps.{changed, held_in}
 use Rattle.sdd_base.specs.Whole.{taken, IsCounted}
 use Rattle.sdd_base.specs.Accounts.{owner_count}
+use Rattle.sdd_inside.specs.Closing.{paced}
 
 -- nothing waits with anyone, nor at the place of anyone who has ended
 abbrev pub emptied : Time → Time
 emptied t = record t { places = map without_waiting t.places }
 
-module _ {T : Type 0} where
-  -- every slot and every cell is free
-  abbrev pub NothingIsOut : World T → Type 0
-  NothingIsOut w = All (λ slot. IsNone slot) w.standings × All (λ cell. IsNone cell) w.cells
+module _ {T : Type 0} (holds : T → List Holding) where
+  -- a change of p, by which it finds no other count, and doesn't count down
+  abbrev pub aged_out : World T → ℕ → World T
+  aged_out w p = paced (changed holds w p) p (pace_of (place_at w p))
 
-  -- p found this count last, and this is its countdown
-  abbrev pub paced : World T → ℕ → Pace → World T
-  paced w p pace = record w { time = paced_at w.time p pace }
-
-  module _ (holds : T → List Holding) where
-    -- a change of p, by which it finds no other count, and doesn't count down
-    abbrev pub aged_out : World T → ℕ → World T
-    aged_out w p = paced (changed holds w p) p (pace_of (place_at w p))
-
-    -- the same of one participant after another
-    abbrev pub all_aged_out : World T → List ℕ → World T
-    all_aged_out w [] = w
-    all_aged_out w (p ∷ ps) = all_aged_out (aged_out w p) ps
+  -- the same of one participant after another
+  abbrev pub all_aged_out : World T → List ℕ → World T
+  all_aged_out w [] = w
+  all_aged_out w (p ∷ ps) = all_aged_out (aged_out w p) ps
 
 -- by such changes what waited was reclaimed, with what it gave up in turn; time is as before, but nothing waits
 pub record Closes {T : Type 0} (holds : T → List Holding) (old new : World T) : Type 0 where

@@ -2,7 +2,6 @@
 #![tactic(auto)]
 
 pub mod inner;
-mod inside;
 pub mod turn;
 pub mod world;
 

@@ -212,7 +212,7 @@ impl<T: Item<T>, J: Job> Space<T> for Turn<'_, T, J> {
 
     fn close_collector(&mut self, collector: RawRight) -> Result<(), (RawRight, Refused)> {
         let world = &mut *self.world;
-        if world.time().is_any_open() {
+        if world.core.is_guarded() {
             return Err((collector, Refused::GuardOpen));
         }
         world
@@ -313,17 +313,11 @@ impl<T: Item<T>, J: Job> Space<T> for Turn<'_, T, J> {
         guard: &'g Guard,
     ) -> Result<(Option<Right>, Ptr<'g, T>), (Option<Right>, Ptr<'g, T>)> {
         let world = &mut *self.world;
-        if world.core.cell(cell) != current {
-            return Err((
-                new,
-                world.core.load(self.place, cell, inner::tenure_of(guard)),
-            ));
+        let part = inner::tenure_of(guard);
+        match world.core.exchange(cell, current, new, tag) {
+            Ok(old) => Ok((old, world.core.load(self.place, cell, part))),
+            Err(back) => Err((back, world.core.load(self.place, cell, part))),
         }
-        let old = world.core.swap(cell, new, tag);
-        Ok((
-            old,
-            world.core.load(self.place, cell, inner::tenure_of(guard)),
-        ))
     }
 
     fn set_tag_if<F: FnMut(RawPtr<T>) -> bool>(
@@ -343,12 +337,7 @@ impl<T: Item<T>, J: Job> Space<T> for Turn<'_, T, J> {
     fn copy_cell(&mut self, cell: &Right, guard: &Guard) -> Result<Right, Refused> {
         let _ = guard;
         let world = &mut *self.world;
-        let tag = world.core.cell(cell).tag;
-        if world.core.has_no_cell() {
-            return Err(Refused::NoCell);
-        }
-        let owner = world.core.owner_held(cell)?;
-        Ok(world.core.fill_cell(owner, tag, Kind::Shared))
+        world.core.copy_cell(cell)
     }
 
     fn take_cell(&mut self, cell: Right) -> Option<Right> {

@@ -15,9 +15,9 @@ ghost use Rattle.sdd_base.specs.Steps.{made, retired, owner_given, nulled, cell_
 mod closing;
 mod laws;
 
-use crate::inside::Core;
 use sdd_base::{Guard, Item, Limits, inner};
 use sdd_core::Refused;
+use sdd_inside::Core;
 use sdd_store::{Idle, Job, Standing, Tally, Time, What};
 use sdd_token::{Kind, RawRight, Right};
 use std::alloc::Global;
@@ -36,7 +36,7 @@ impl<T: Item<T>, J: Job> Model for World<T, J> {
     ghost use Rattle.std.specs.Prelude.{◌≡◌, ◌≤◌, [], length, vec_capacity};
     ghost use Rattle.sdd_base.specs.World.{World, most};
     ghost use Rattle.sdd_base.specs.Whole.{IsWhole};
-    ghost use Rattle.sdd_world.specs.Lending.{AreLent};
+    ghost use Rattle.sdd_inside.specs.Lending.{AreLent};
 
     ghost Value = { World T };
 

@@ -3,7 +3,8 @@ ghost use Rattle.sdd_store.specs.Time.{without_waiting, place_at, with_place};
 ghost use Rattle.sdd_base.specs.World.{World, IsGuarded, KeepsSizes, HasPlace};
 ghost use Rattle.sdd_base.specs.Whole.{taken};
 ghost use Rattle.sdd_base.specs.Out.{out, HoldsNothing};
-ghost use Rattle.sdd_world.specs.Closing.{NothingIsOut, aged_out, all_aged_out, Closes, AllGo, Accounts, Sweeps, with_reclaimed};
+ghost use Rattle.sdd_inside.specs.Closing.{NothingIsOut};
+ghost use Rattle.sdd_world.specs.Closing.{aged_out, all_aged_out, Closes, AllGo, Accounts, Sweeps, with_reclaimed};
 
 use super::World;
 use sdd_base::Item;
@@ -28,7 +29,7 @@ impl<T: Item<T>, J: Job> World<T, J> {
         ensures accounts { IfOk result (λ tally. Accounts self.tally tally) }
         ensures swept { IfErr result (λ e. e.1 ≡ Refused.OwnerOut → Sweeps T.holds self e.0) }
     {
-        if self.time().is_any_open() {
+        if self.core.is_guarded() {
             return Err((self, Refused::GuardOpen));
         }
         self.clear();

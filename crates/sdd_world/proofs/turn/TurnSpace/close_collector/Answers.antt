@@ -1,7 +1,7 @@
 use Rattle.std.proofs.Common.{ℕ, ◌≡◌, ◌∙◌, arith, false, true, refl, sym}
 use Rattle.sdd_token.specs.Right.{raw_number_of}
 use Rattle.sdd_base.proofs.Own.{collector-own}
-use Rattle.sdd_world.proofs.Collecting.{count-closed}
+use Rattle.sdd_inside.proofs.Collecting.{count-closed}
 use Rattle.sdd_world.proofs.turn.TurnSpace.close_collector.Goals as goal
 
 pub returns-clause-own : goal.returns-clause-own

@@ -2,7 +2,7 @@ use Rattle.std.proofs.Common.{refl, sym, ap, ◌∙◌, subst, Bool, Some, of_ca
 use Rattle.sdd_token.specs.Right.{number_of}
 use Rattle.sdd_base.specs.Steps.{with_cell}
 use Rattle.sdd_store.specs.declared.standing.Cell.{Cell}
-use Rattle.sdd_world.specs.Core.{Core}
+use Rattle.sdd_inside.specs.Core.{Core}
 use Rattle.sdd_world.proofs.turn.TurnSpace.set_tag_if.Goals as goal
 
 pub returns-then-not-condition-clause-exact : goal.returns-then-not-condition-clause-exact

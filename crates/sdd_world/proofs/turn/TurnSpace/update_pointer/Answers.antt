@@ -3,7 +3,7 @@ use Rattle.sdd_token.specs.Right.{raw_number_of}
 use Rattle.sdd_store.specs.declared.standing.Pointer.{Pointer}
 use Rattle.sdd_base.specs.declared.raw_ptr.RawPtr.{RawPtr}
 use Rattle.sdd_base.specs.Steps.{with_pointer}
-use Rattle.sdd_world.specs.Core.{Core}
+use Rattle.sdd_inside.specs.Core.{Core}
 use Rattle.sdd_world.proofs.turn.TurnSpace.update_pointer.Goals as goal
 
 pub returns-clause-exact : goal.returns-clause-exact

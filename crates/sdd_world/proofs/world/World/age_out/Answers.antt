@@ -6,8 +6,9 @@ use Rattle.sdd_base.proofs.Housed.{Whole-changed, Whole-paced, IsTaken, items, t
 use Rattle.sdd_base.proofs.Weights.{KeepsSizes-trans}
 use Rattle.sdd_base.proofs.Whole.{abreast-paced}
 use Rattle.sdd_world.specs.Closing.{aged_out}
-use Rattle.sdd_world.proofs.Closing.{MovesWaiting-aged_out, MovesWaiting-guards, home-quiet, lent-quiet}
-use Rattle.sdd_world.proofs.Lending.{readers-keep}
+use Rattle.sdd_world.proofs.Closing.{MovesWaiting-aged_out, MovesWaiting-guards}
+use Rattle.sdd_inside.proofs.Lending.{readers-keep}
+use Rattle.sdd_inside.proofs.Quiet.{home-quiet, lent-quiet}
 use Rattle.sdd_world.proofs.world.World.age_out.Goals as goal
 
 pub change-requires-clause-home : goal.change-requires-clause-home

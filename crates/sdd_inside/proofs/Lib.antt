@@ -1,0 +1,5 @@
+pub mod Lending
+pub mod Quiet
+pub mod Collecting
+pub mod Letting
+pub mod InPlace

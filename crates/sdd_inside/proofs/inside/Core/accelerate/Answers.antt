@@ -1,0 +1,22 @@
+use Rattle.std.proofs.Common.{ℕ, List, refl}
+use Rattle.sdd_store.specs.Time as time
+use Rattle.sdd_store.specs.declared.time.Participant.{Participant}
+use Rattle.sdd_base.specs.Holding.{Holding}
+use Rattle.sdd_base.specs.Lending.{Lending}
+use Rattle.sdd_base.specs.World.{World, IsPlaceOf, place_at}
+use Rattle.sdd_base.specs.Whole.{IsWhole}
+use Rattle.sdd_base.specs.Steps.{accelerated}
+use Rattle.sdd_inside.specs.Lending.{AreLentOf}
+use Rattle.sdd_base.specs.Calls.Calls.{accelerates}
+use Rattle.sdd_inside.proofs.Lending.{lent-call, guards-placed, readers-placed}
+use Rattle.sdd_inside.proofs.inside.Core.accelerate.Goals as goal
+
+lent-after : {T : Type 0} (holds : T → List Holding) (w : World T) (l : Lending) (p : ℕ) → IsPlaceOf w p → IsWhole w → AreLentOf w l →
+    AreLentOf (accelerated w p) l
+lent-after holds w l p live i k =
+    let x : Participant = time.accelerated (place_at w p) in
+    lent-call holds w (record w { time = time.with_place w.time p x }) l (accelerates w p live) i (λ h. readers-placed w p x h)
+    (guards-placed w p x live.0 refl) k
+
+pub returns-clause-lent : goal.returns-clause-lent
+returns-clause-lent g c = rw (← c.self.view_is, c.accelerate.ensures) (lent-after g.T.Item.holds _ _ c.args.place (rw (← c.self.view_is) at c.requires.place))

@@ -1,0 +1,27 @@
+use Rattle.std.proofs.Common.{ℕ, List, refl}
+use Rattle.sdd_store.specs.Table.{IsEmptyAt}
+use Rattle.sdd_store.specs.Time as time
+use Rattle.sdd_store.specs.declared.time.Participant.{Participant}
+use Rattle.sdd_store.specs.declared.waiting.What.TheVariants.{Job}
+use Rattle.sdd_base.specs.Holding.{Holding}
+use Rattle.sdd_base.specs.Lending.{Lending}
+use Rattle.sdd_base.specs.World.{World, IsPlaceOf, place_at}
+use Rattle.sdd_base.specs.Whole.{IsWhole}
+use Rattle.sdd_base.specs.Steps.{deferred}
+use Rattle.sdd_base.specs.Calls.Calls.{defers}
+use Rattle.sdd_inside.specs.Lending.{AreLentOf}
+use Rattle.sdd_inside.proofs.Lending.{lent-call, guards-placed, readers-placed}
+use Rattle.sdd_inside.proofs.inside.Core.defer.Goals as goal
+
+lent-after : {T : Type 0} (holds : T → List Holding) (w : World T) (l : Lending) (p j : ℕ) → IsPlaceOf w p → IsEmptyAt w.jobs j → IsWhole w →
+    AreLentOf w l → AreLentOf (deferred w p j) l
+lent-after holds w l p j live free i k =
+    let x : Participant = time.awaiting (Job j) (place_at w p) in
+    lent-call holds w (deferred w p j) l (defers w p j live free) i
+    (λ h. let r = readers-placed w p x h in record { places = r.places; nesting = r.nesting }) (guards-placed w p x live.0 refl) k
+
+pub returns-clause-lent : goal.returns-clause-lent
+returns-clause-lent g c =
+    let put = c.in_ok-number.ensures.put in
+    rw (← c.self.view_is, put.1, c.wait.ensures)
+    (lent-after g.T.Item.holds _ _ c.args.place c.in_ok-number.number (rw (← c.self.view_is) at c.requires.place) put.0)

@@ -1,0 +1,36 @@
+use Rattle.std.proofs.Common.{ℕ, refl}
+use Rattle.sdd_token.specs.Right.{number_of}
+use Rattle.sdd_inside.proofs.Letting.{found, none-else, some-else, whole-last, whole-other, lent-last, lent-other}
+use Rattle.sdd_inside.proofs.inside.Core.let_go.Goals as goal
+
+pub returns-then-is_last-clause-whole : goal.returns-then-is_last-clause-whole
+returns-then-is_last-clause-whole g c =
+    let slot : ℕ = number_of c.args.right in
+    let there = rw (← c.self.view_is) at c.requires.place in
+    let e = c.let_go-is_last.ensures in
+    rw (← c.self.view_is, e.gone, c.wait.ensures, c.number-slot.ensures)
+    (λ some i. whole-last _ c.args.place slot _ refl there some i (found _ _ c.args.right.owner e.owned) (none-else _ _ e.last c.if-is_last.true))
+
+pub returns-then-is_last-clause-lent : goal.returns-then-is_last-clause-lent
+returns-then-is_last-clause-lent g c =
+    let slot : ℕ = number_of c.args.right in
+    let there = rw (← c.self.view_is) at c.requires.place in
+    let e = c.let_go-is_last.ensures in
+    rw (← c.self.view_is, e.gone, c.wait.ensures, c.number-slot.ensures)
+    (λ l. lent-last _ c.args.place slot g.T.Item.holds _ _ refl there l (found _ _ c.args.right.owner e.owned) (none-else _ _ e.last c.if-is_last.true))
+
+pub returns-else-is_last-clause-whole : goal.returns-else-is_last-clause-whole
+returns-else-is_last-clause-whole g c =
+    let slot : ℕ = number_of c.args.right in
+    let there = rw (← c.self.view_is) at c.requires.place in
+    let e = c.let_go-is_last.ensures in
+    rw (← c.self.view_is, e.gone)
+    (λ some i. whole-other _ c.args.place slot _ refl there some i (found _ _ c.args.right.owner e.owned) (some-else _ _ e.last c.if-is_last.false))
+
+pub returns-else-is_last-clause-lent : goal.returns-else-is_last-clause-lent
+returns-else-is_last-clause-lent g c =
+    let slot : ℕ = number_of c.args.right in
+    let there = rw (← c.self.view_is) at c.requires.place in
+    let e = c.let_go-is_last.ensures in
+    rw (← c.self.view_is, e.gone)
+    (λ l. lent-other _ c.args.place slot g.T.Item.holds _ _ refl there l (found _ _ c.args.right.owner e.owned) (some-else _ _ e.last c.if-is_last.false))

@@ -1,0 +1,14 @@
+use Rattle.std.proofs.Common.{◌+◌}
+use Rattle.sdd_base.proofs.Housed.{Whole-shared}
+use Rattle.sdd_inside.proofs.Lending.{lent-shared}
+use Rattle.sdd_inside.proofs.inside.Core.upgrade.Goals as goal
+
+pub returns-in-Some-clause-whole : goal.returns-in-Some-clause-whole
+returns-in-Some-clause-whole g c =
+    let owners = c.in-Some.owners in
+    rw (← c.self.view_is, c.add_owner.ensures.added) (λ i. Whole-shared _ c.args.slot owners (owners + 1) c.in-Some.ensures.shared.shared i)
+
+pub returns-in-Some-clause-lent : goal.returns-in-Some-clause-lent
+returns-in-Some-clause-lent g c =
+    let owners = c.in-Some.owners in
+    rw (← c.self.view_is, c.add_owner.ensures.added) (λ _ l. lent-shared _ _ c.args.slot owners (owners + 1) c.in-Some.ensures.shared.shared l)

@@ -1,0 +1,148 @@
+ghost use Rattle.std.specs.Prelude.{◌≡◌, ◌+◌, ◌^◌, ◌<◌, [], IfOk, IsTrue, ◌↔◌};
+ghost use Rattle.sdd_store.specs.Time as time;
+ghost use Rattle.sdd_base.specs.Holding.{ValuesAreOf};
+ghost use Rattle.sdd_base.specs.World.{IsBlank, IsGuarded};
+ghost use Rattle.sdd_inside.specs.Closing.{NothingIsOut};
+ghost use Rattle.sdd_inside.specs.Lending.{AreLent};
+
+mod cells;
+mod changes;
+mod collectors;
+mod giving;
+mod guards;
+mod items;
+mod lending;
+mod owners;
+mod places;
+mod raw_cells;
+mod reclaiming;
+
+use sdd_base::Item;
+use sdd_places::Tenures;
+use sdd_slots::{Cells, Slots};
+use sdd_store::{Job, Jobs, Tally, Time};
+use std::alloc::{AllocError, Global};
+use std::marker::Model;
+
+/// The items and cells of a world, and those who wait with them.
+pub struct Core<T: Item<T>, J: Job> {
+    time: Time,
+    slots: Slots<T>,
+    cells: Cells,
+    jobs: Jobs<J>,
+    tenures: Tenures,
+    tally: Tally,
+}
+
+impl<T: Item<T>, J: Job> Model for Core<T, J> {
+    ghost use Rattle.sdd_inside.specs.Core.{Core, IsSound};
+
+    ghost Value = { Core T };
+
+    ghost view = { λ c. record {
+      world = record {
+        home = record { slots = c.slots.home; cells = c.cells.home; readers = c.tenures.home };
+        time = c.time;
+        standings = c.slots.standings;
+        values = c.slots.values;
+        cells = c.cells.cells;
+        pointers = c.cells.pointers;
+        jobs = c.jobs;
+        tally = c.tally;
+      };
+      lending = record { stakes = c.slots.stakes; tenures = c.tenures };
+    } };
+
+    ghost invariant = { λ c. IsSound T.holds c.time c.slots c.cells c.jobs c.tenures };
+}
+
+impl<T: Item<T>, J: Job> Core<T, J> {
+    /// A core without items, with time as it is.
+    pub fn new(
+        alloc: Global,
+        time: Time,
+        participants: u32,
+        slots: u32,
+        cells: u32,
+        jobs: u32,
+    ) -> Result<Core<T, J>, AllocError>
+        requires idle { time.places ≡ [] }
+        requires room { time.room ≡ slots + jobs }
+        requires participants { time.participants ≡ participants }
+        requires nesting { time.nesting < 2 ^ 32 }
+        ensures blank { IfOk result (λ core. IsBlank time slots cells jobs core.world) }
+        ensures lent { IfOk result AreLent }
+    {
+        let tenures = Tenures::new(alloc, participants as usize)?;
+        let jobs = Jobs::new(alloc, jobs)?;
+        let mut slots = Slots::new(alloc, slots, participants)?;
+        let cells = match Cells::new(alloc, cells, slots.badge()) {
+            Ok(cells) => cells,
+            Err(refused) => {
+                slots.destroy();
+                return Err(refused);
+            }
+        };
+        Ok(Core {
+            time,
+            slots,
+            cells,
+            jobs,
+            tenures,
+            tally: Tally::new(),
+        })
+    }
+
+    /// Lets go of a core whose slots and cells are all free.
+    pub fn destroy(self) -> Tally
+        requires { NothingIsOut self.world }
+        ensures { result ≡ self.world.tally }
+    {
+        let Core {
+            time: _,
+            slots,
+            cells,
+            jobs: _,
+            tenures: _,
+            tally,
+        } = self;
+        slots.destroy();
+        cells.destroy();
+        tally
+    }
+
+    /// Every slot and every cell is free.
+    pub fn is_unused(&self) -> bool
+        ensures { IsTrue result ↔ NothingIsOut self.now.world }
+    {
+        self.slots.is_unused() && self.cells.is_unused()
+    }
+
+    /// A guard of some place is open.
+    pub fn is_guarded(&self) -> bool
+        ensures { IsTrue result ↔ IsGuarded self.now.world }
+    {
+        self.time.is_any_open()
+    }
+
+    /// What the values hold is of the world. It does nothing when the program runs.
+    pub fn values_are_of_home(&self)
+        ensures { ValuesAreOf T.holds self.now.world.home self.now.world.values }
+    {
+        let _slots = &self.slots;
+    }
+
+    /// The count of epochs, with its participants and what waits with them.
+    pub fn time(&self) -> &Time
+        ensures { result.now ≡ self.now.world.time }
+    {
+        &self.time
+    }
+
+    /// How many items were made, reclaimed and dropped in place so far.
+    pub fn tally(&self) -> Tally
+        ensures { result ≡ self.now.world.tally }
+    {
+        self.tally
+    }
+}

@@ -1,0 +1,130 @@
+//! Items are made, looked at and changed in their place.
+ghost use Rattle.std.specs.Fn.{FnOnceReturnsAtMut};
+ghost use Rattle.std.specs.Prelude.{◌≡◌, ℕ, Some, IsSome, MatchOption, MatchResult, IsTrue, ◌↔◌};
+ghost use Rattle.sdd_token.specs.Kind.{IsOwner};
+ghost use Rattle.sdd_token.specs.Right.{number_of, home_of, kind_of};
+ghost use Rattle.sdd_slots.specs.Slots.{IsOwnedBy, first_standing};
+ghost use Rattle.sdd_store.specs.Table.{IsEmptyAt, IsFull};
+ghost use Rattle.sdd_base.specs.Holding.{AreOf};
+ghost use Rattle.sdd_base.specs.World.{KeepsSizes, standing_at, value_at};
+ghost use Rattle.sdd_base.specs.Steps.{made_as, with_value};
+ghost use Rattle.sdd_base.specs.InPlace.{MayInPlace, RefusedInPlace};
+ghost use Rattle.sdd_base.specs.Whole.{IsWhole};
+ghost use Rattle.sdd_inside.specs.Lending.{AreLent};
+
+use super::Core;
+use sdd_base::Item;
+use sdd_core::Refused;
+use sdd_store::{Job, Standing};
+use sdd_token::{Kind, Right};
+
+impl<T: Item<T>, J: Job> Core<T, J> {
+    /// No slot is free.
+    pub fn is_full(&self) -> bool
+        ensures { IsTrue result ↔ IsFull self.now.world.standings }
+    {
+        self.slots.is_full()
+    }
+
+    /// Puts a value into a free slot, for an owner of this kind.
+    pub fn make(&mut self, value: T, kind: Kind) -> Result<Right, T>
+        requires home { AreOf self.old.world.home (T.holds value) }
+        requires owner { IsOwner kind }
+        ensures made { MatchResult result
+            (λ right. (home_of right ≡ self.old.world.home.slots) × (kind_of right ≡ kind) × IsEmptyAt self.old.world.standings (number_of right) ×
+            (self.new ≡ record self.old { world = made_as self.old.world (number_of right) value (first_standing kind) }))
+            (λ back. IsFull self.old.world.standings × (back ≡ value) × (self.new ≡ self.old)) }
+        ensures sizes { KeepsSizes self.old.world self.new.world }
+        ensures whole { IsWhole self.old.world → IsWhole self.new.world }
+        ensures lent { IsWhole self.old.world → AreLent self.old → AreLent self.new }
+        ensures keeps { IsWhole self.old.world → (k : ℕ) (v : T) → value_at self.old.world k ≡ Some v → value_at self.new.world k ≡ Some v }
+    {
+        let right = self.slots.make(value, kind)?;
+        self.tally.count_made();
+        Ok(right)
+    }
+
+    /// Puts a value into a free slot, for an owner of this kind, where one is there.
+    pub fn fill(&mut self, value: T, kind: Kind) -> Right
+        requires home { AreOf self.old.world.home (T.holds value) }
+        requires owner { IsOwner kind }
+        requires room { ¬ (IsFull self.old.world.standings) }
+        ensures home { home_of result ≡ self.old.world.home.slots }
+        ensures kind { kind_of result ≡ kind }
+        ensures empty { IsEmptyAt self.old.world.standings (number_of result) }
+        ensures made { self.new ≡ record self.old { world = made_as self.old.world (number_of result) value (first_standing kind) } }
+        ensures whole { IsWhole self.old.world → IsWhole self.new.world }
+        ensures lent { IsWhole self.old.world → AreLent self.old → AreLent self.new }
+        ensures keeps { IsWhole self.old.world → (k : ℕ) (v : T) → value_at self.old.world k ≡ Some v → value_at self.new.world k ≡ Some v }
+    {
+        match self.make(value, kind) {
+            Ok(right) => right,
+            Err(_) => unreachable!(),
+        }
+    }
+
+    /// The slot of an owner, with how the owner finds it.
+    pub fn slot_of(&self, right: &Right) -> u32
+        requires { home_of right.now ≡ self.now.world.home.slots }
+        ensures slot { result ≡ number_of right.now }
+        ensures owned { IsOwnedBy (kind_of right.now) (standing_at self.now.world result) }
+    {
+        self.slots.slot_of(right)
+    }
+
+    /// The value of an owner's item.
+    pub fn value<'a>(&'a self, right: &Right) -> &'a T
+        requires { home_of right.now ≡ self.now.world.home.slots }
+        ensures { value_at self.now.world (number_of right.now) ≡ Some result.now }
+    {
+        self.slots.value(right)
+    }
+
+    /// The value in a slot that is not free.
+    pub fn value_in(&self, slot: u32) -> &T
+        requires { IsSome (value_at self.now.world slot) }
+        ensures { value_at self.now.world slot ≡ Some result.now }
+    {
+        self.slots.value_in(slot)
+    }
+
+    /// How the item in a slot stands; nothing where the slot is free.
+    pub fn standing(&self, slot: u32) -> Option<Standing>
+        ensures { result ≡ standing_at self.now.world slot }
+    {
+        self.slots.standing(slot)
+    }
+
+    /// Why an owner of this kind may not change or drop its item in its place, if it may not: others own it, or else a guard is open.
+    pub fn refused_in_place(&self, right: &Right, kind: Kind) -> Option<Refused>
+        requires home { home_of right.now ≡ self.now.world.home.slots }
+        requires kind { kind_of right.now ≡ kind }
+        ensures owned { IsOwnedBy (kind_of right.now) (standing_at self.now.world (number_of right.now)) }
+        ensures refused { MatchOption result (MayInPlace self.now.world (number_of right.now)) (RefusedInPlace self.now.world (number_of right.now)) }
+    {
+        if self.slots.has_others(right, kind) {
+            return Some(Refused::NotAlone);
+        }
+        if self.is_guarded() {
+            return Some(Refused::GuardOpen);
+        }
+        None
+    }
+
+    /// Changes the value of an owner's item in its place.
+    pub fn edit<R, F: FnOnce(&mut T) -> R>(&mut self, right: &Right, f: F) -> R
+        requires home { home_of right.now ≡ self.old.world.home.slots }
+        requires may { MayInPlace self.old.world (number_of right.now) }
+        requires lent { AreLent self.old }
+        requires callable { F.IsAlwaysCallable f }
+        requires held { (was now : T) (r : R) → FnOnceReturnsAtMut F.FnOnce f was r now →
+            AreOf self.old.world.home (T.holds was) → AreOf self.old.world.home (T.holds now) }
+        ensures changed { (was : T) × (now : T) × (value_at self.old.world (number_of right.now) ≡ Some was) × FnOnceReturnsAtMut F.FnOnce f was result now ×
+            (self.new ≡ record self.old { world = with_value self.old.world (number_of right.now) now }) }
+        ensures sizes { KeepsSizes self.old.world self.new.world }
+        ensures whole { IsWhole self.old.world → IsWhole self.new.world }
+        ensures lent { AreLent self.new }
+    {
+        self.slots.edit(right, f)
+    }
+}
