@@ -10,7 +10,7 @@ use Rattle.sdd_store.specs.declared.waiting.What.TheVariants.{Item}
 use Rattle.sdd_store.specs.Time.{Time, with_place, nobody, due_next, is_open}
 use Rattle.sdd_store.specs.Time as time
 use Rattle.sdd_store.specs.declared.time.Participant.{Participant}
-use Rattle.sdd_slots.specs.Slots.{is_waiting}
+use Rattle.sdd_standings.specs.Slots.{is_waiting}
 use Rattle.sdd_base.specs.World.{World, standing_at, place_at}
 use Rattle.sdd_base.specs.Steps.{opened}
 use Rattle.sdd_base.specs.Holding.{Holding}

@@ -9,7 +9,7 @@ use Rattle.sdd_store.specs.declared.waiting.What.TheVariants.{Item}
 use Rattle.sdd_store.specs.Time.{Time, with_place, nobody, is_open, passes, last_count, due_next, rested, IsLive}
 use Rattle.sdd_store.specs.Time as time
 use Rattle.sdd_store.specs.declared.time.Participant.{Participant}
-use Rattle.sdd_slots.specs.Slots.{is_waiting}
+use Rattle.sdd_standings.specs.Slots.{is_waiting}
 use Rattle.sdd_base.specs.World.{IsGuarded, World, standing_at, value_at, place_at, IsPlaceOf}
 use Rattle.sdd_base.specs.Steps.{opened, closed, accelerated, reclaims}
 use Rattle.sdd_base.specs.Steps as steps

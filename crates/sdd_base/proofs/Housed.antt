@@ -19,7 +19,7 @@ use Rattle.sdd_store.specs.declared.standing.Standing.{Standing}
 use Rattle.sdd_store.specs.declared.standing.Standing.TheVariants.{Shared, Retired}
 use Rattle.sdd_store.specs.declared.standing.Cell.{Cell}
 use Rattle.sdd_store.specs.declared.standing.Pointer.{Pointer}
-use Rattle.sdd_slots.specs.Slots.{is_waiting}
+use Rattle.sdd_standings.specs.Slots.{is_waiting}
 use Rattle.sdd_store.proofs.Adopting.{Scans, scans-if, scans-there, live-entry, same-or-not}
 use Rattle.sdd_base.specs.World.{World, standing_at, place_at}
 use Rattle.sdd_store.specs.Collecting.{rest_of, time_without, without}
@@ -138,7 +138,8 @@ module _ {T : Type 0} where
         taken-put end.time p (time.settled (place_at end p)) end_taken
 
     pub Whole-changed : (w : World T) (p : ℕ) → IsTaken w.time p → IsWhole w → IsWhole (changed holds w p)
-    Whole-changed w p l i = with-places (whole.Items-changed holds w p l.there (items i)) (jobs.once-changed holds w p l.there i.jobs_once) (housed-changed w p l i.housed)
+    Whole-changed w p l i = with-places (whole.Items-changed holds w p l.there (items i)) (jobs.once-changed holds w p l.there i.jobs_once)
+        (housed-changed w p l i.housed)
 
     housed-nested : (w : World T) (p : ℕ) → IsLive w.time p → AreHoused w.time → AreHoused (steps.nested w p).time
     housed-nested w p l h = housed-live w.time p (time.nested (place_at w p)) l h
@@ -148,14 +149,16 @@ module _ {T : Type 0} where
         housed-changed (steps.nested w p) p (taken-put w.time p (time.nested (place_at w p)) (live-taken w.time p l)) (housed-nested w p l h)
 
     pub Whole-changes_nested : (w : World T) (p : ℕ) → IsLive w.time p → IsWhole w → IsWhole (changed holds (steps.nested w p) p)
-    Whole-changes_nested w p l i = with-places (whole.Items-changes_nested holds w p l.0 (items i)) (jobs.once-changes_nested holds w p l.0 i.jobs_once) (housed-changes w p l i.housed)
+    Whole-changes_nested w p l i = with-places (whole.Items-changes_nested holds w p l.0 (items i)) (jobs.once-changes_nested holds w p l.0 i.jobs_once)
+        (housed-changes w p l i.housed)
 
     housed-opened : (w : World T) (p : ℕ) → IsLive w.time p → AreHoused w.time → Nests holds w p ⊎ IsChange holds w p → AreHoused (steps.opened holds w p).time
     housed-opened w p l h (inl n) = subst (λ (u : World T). AreHoused u.time) (sym n.nests) (housed-nested w p l h)
     housed-opened w p l h (inr c) = subst (λ (u : World T). AreHoused u.time) (sym c.change) (housed-changes w p l h)
 
     pub Whole-opened : (w : World T) (p : ℕ) → IsLive w.time p → IsWhole w → IsWhole (steps.opened holds w p)
-    Whole-opened w p l i = with-places (whole.Items-opened holds w p l.0 (items i)) (jobs.once-opened holds w p l.0 i.jobs_once) (housed-opened w p l i.housed (how holds w p l.0))
+    Whole-opened w p l i = with-places (whole.Items-opened holds w p l.0 (items i)) (jobs.once-opened holds w p l.0 i.jobs_once)
+        (housed-opened w p l i.housed (how holds w p l.0))
 
     -- a collector is closed
     housed-collector_closed : (w : World T) (p c : ℕ) → IsTaken w.time p → AreHoused w.time → AreHoused (collector_closed holds w p c).time
@@ -173,7 +176,8 @@ module _ {T : Type 0} where
     -- an item is dropped in its place
     pub Whole-dropped : (w : World T) (p k : ℕ) → IsTaken w.time p → is_out (standing_at w k) ≡ true → IsWhole w → IsWhole (dropped holds w p k)
     Whole-dropped w p k l out i =
-        with-places (whole.Items-dropped holds w p k l.there out (items i)) (jobs.once-dropped holds w p k l.there i.jobs_once) (housed-gives p l i.housed (Gives-dropped holds w p k l.there)).1
+        with-places (whole.Items-dropped holds w p k l.there out (items i)) (jobs.once-dropped holds w p k l.there i.jobs_once)
+        (housed-gives p l i.housed (Gives-dropped holds w p k l.there)).1
 
   -- an item has another value
   pub Whole-with_value : (w : World T) (k : ℕ) (v : T) → is_out (standing_at w k) ≡ true → IsWhole w → IsWhole (with_value w k v)
@@ -182,11 +186,13 @@ module _ {T : Type 0} where
   pub Whole-paced : (w : World T) (p : ℕ) (pace : Pace) → IsTaken w.time p → IsAbreast w.time.count (time.paced pace (place_at w p)) → IsWhole w →
       IsWhole (record w { time = time.paced_at w.time p pace })
   Whole-paced w p pace l a i =
-      with-places (whole.Items-paced w p pace l.there a (items i)) (jobs.once-place w p (time.paced pace (place_at w p)) l.there refl i.jobs_once) (housed-keeps w.time p (time.paced pace (place_at w p)) l refl i.housed)
+      with-places (whole.Items-paced w p pace l.there a (items i)) (jobs.once-place w p (time.paced pace (place_at w p)) l.there refl i.jobs_once)
+      (housed-keeps w.time p (time.paced pace (place_at w p)) l refl i.housed)
 
   pub Whole-cell_closed : (w : World T) (p c : ℕ) → IsLive w.time p → IsWhole w → IsWhole (cell_closed w p c)
   Whole-cell_closed w p c l i =
-      with-places (whole.Items-cell_closed w p c l.0 (items i)) (jobs.once-cell_closed w p c l.0 i.jobs_once) (housed-gives p (live-taken w.time p l) i.housed (Gives-cell_closed w p c l.0)).1
+      with-places (whole.Items-cell_closed w p c l.0 (items i)) (jobs.once-cell_closed w p c l.0 i.jobs_once)
+      (housed-gives p (live-taken w.time p l) i.housed (Gives-cell_closed w p c l.0)).1
 
   pub Whole-deferred : (w : World T) (p j : ℕ) → IsTaken w.time p → IsEmptyAt w.jobs j → IsWhole w → IsWhole (deferred w p j)
   Whole-deferred w p j l free i =
@@ -213,13 +219,16 @@ module _ {T : Type 0} where
 
   pub Whole-owner_given : (w : World T) (p k : ℕ) → IsTaken w.time p → (s : Option Standing) → standing_at w k ≡ s → IsWhole w → IsWhole (owner_given w p k s)
   Whole-owner_given w p k l s is i =
-      with-places (whole.Items-owner_given w p k l.there s is (items i)) (jobs.once-owner_given w p k l.there s is i.jobs_once) (housed-gives p l i.housed (Gives-owner_given w p k s is)).1
+      with-places (whole.Items-owner_given w p k l.there s is (items i)) (jobs.once-owner_given w p k l.there s is i.jobs_once)
+      (housed-gives p l i.housed (Gives-owner_given w p k s is)).1
 
   pub Whole-stirred : (w : World T) (p : ℕ) → IsLive w.time p → IsWhole w → IsWhole (steps.stirred w p)
-  Whole-stirred w p l i = with-places (whole.Items-stirred w p l.0 (items i)) (jobs.once-place w p (time.with_garbage (place_at w p)) l.0 refl i.jobs_once) (housed-live w.time p (time.with_garbage (place_at w p)) l i.housed)
+  Whole-stirred w p l i = with-places (whole.Items-stirred w p l.0 (items i)) (jobs.once-place w p (time.with_garbage (place_at w p)) l.0 refl i.jobs_once)
+      (housed-live w.time p (time.with_garbage (place_at w p)) l i.housed)
 
   pub Whole-accelerated : (w : World T) (p : ℕ) → IsLive w.time p → IsWhole w → IsWhole (steps.accelerated w p)
-  Whole-accelerated w p l i = with-places (whole.Items-accelerated w p l.0 (items i)) (jobs.once-place w p (time.accelerated (place_at w p)) l.0 refl i.jobs_once) (housed-live w.time p (time.accelerated (place_at w p)) l i.housed)
+  Whole-accelerated w p l i = with-places (whole.Items-accelerated w p l.0 (items i)) (jobs.once-place w p (time.accelerated (place_at w p)) l.0 refl
+      i.jobs_once) (housed-live w.time p (time.accelerated (place_at w p)) l i.housed)
 
   pub Whole-cells : (w : World T) (cells : Entries Cell) → IsWhole w → IsWhole (record w { cells = cells })
   Whole-cells w cells i = with-places (whole.Items-cells w cells (items i)) i.jobs_once i.housed
@@ -374,7 +383,8 @@ housed-registered t p h false e = rw e (housed-more t h)
 
 module _ {T : Type 0} where
   pub Whole-closed : (w : World T) (p : ℕ) → IsLive w.time p → IsWhole w → IsWhole (steps.closed w p)
-  Whole-closed w p l i = with-places (whole.Items-closed w p l (items i)) (λ j. listed-closed (is_of_job j) w.time p l ∙ i.jobs_once j) (housed-closed w.time p l i.housed (nat_lt 1 (place_at w p).guards) refl)
+  Whole-closed w p l i = with-places (whole.Items-closed w p l (items i)) (λ j. listed-closed (is_of_job j) w.time p l ∙ i.jobs_once j)
+      (housed-closed w.time p l i.housed (nat_lt 1 (place_at w p).guards) refl)
 
   pub Whole-registered : (w : World T) (p : ℕ) → IsVacant w.time p → IsWhole w → IsWhole (steps.registered w p)
   Whole-registered w p v i =

@@ -7,7 +7,7 @@ use Rattle.sdd_core.specs.declared.refused.Refused.{Refused}
 use Rattle.sdd_core.specs.declared.refused.Refused.TheVariants.{GuardOpen, NotAlone}
 use Rattle.sdd_store.specs.declared.standing.Standing.{Standing}
 use Rattle.sdd_store.specs.declared.standing.Standing.TheVariants.{Owned, Shared}
-use Rattle.sdd_slots.specs.Slots.{IsSharedBy, has_others, owners_of}
+use Rattle.sdd_standings.specs.Slots.{IsSharedBy, has_others, owners_of}
 use Rattle.sdd_base.specs.World.{World, IsGuarded, standing_at, value_at}
 use Rattle.sdd_base.specs.Holding.{Holding}
 use Rattle.sdd_base.specs.Steps.{given_all, vacated, dropped_out, dropped}

@@ -117,7 +117,12 @@ module _ {T : Type 0} where
 
   once-rotated : (w : World T) (p : ℕ) → p < length w.time.places → JobsOnce w → JobsOnceBut (due_next (place_at w p)) (steps.rotated w p)
   once-rotated w p l i j =
-      omega (arith, i j, listed-place (is_of_job j) w.time p (time.rotated w.time.count (place_at w p)) l, listed-aged (is_of_job j) (place_at w p).bags.waiting)
+      omega (
+        arith,
+        i j,
+        listed-place (is_of_job j) w.time p (time.rotated w.time.count (place_at w p)) l,
+        listed-aged (is_of_job j) (place_at w p).bags.waiting,
+      )
 
   pub once-changed : (holds : T → List Holding) (w : World T) (p : ℕ) → p < length w.time.places → JobsOnce w → JobsOnce (changed holds w p)
   once-changed holds w p l i =
@@ -270,7 +275,8 @@ module _ {T : Type 0} where
         let due = subst (λ (xs : List What). Contains xs (Job j)) c.due among in (
           due-there w p j l i due,
           ap (λ (u : World T). job_at u j) c.change
-              ∙ ran-all (before holds w p) p j (due_next (place_at (steps.nested w p) p)) (subst (λ (xs : List What). Contains xs (Job j)) (sym (due-here holds w p l)) due),
+              ∙ ran-all (before holds w p) p j (due_next (place_at (steps.nested w p) p))
+              (subst (λ (xs : List What). Contains xs (Job j)) (sym (due-here holds w p l)) due),
         )
 
     opened-kept : (w : World T) (p j : ℕ) → p < length w.time.places → ¬ (Contains (reclaims w p) (Job j)) → Nests holds w p ⊎ IsChange holds w p →

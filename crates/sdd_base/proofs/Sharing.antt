@@ -6,7 +6,7 @@ use Rattle.sdd_core.specs.declared.refused.Refused.TheVariants.{TooManyOwners}
 use Rattle.sdd_token.specs.declared.right.Kind.{Kind}
 use Rattle.sdd_token.specs.declared.right.Kind.TheVariants as kind
 use Rattle.sdd_store.specs.declared.standing.Standing.TheVariants.{Shared as shared_by}
-use Rattle.sdd_slots.specs.Slots.{IsOwnedBy, IsSharedBy, owners_of}
+use Rattle.sdd_standings.specs.Slots.{IsOwnedBy, IsSharedBy, owners_of}
 use Rattle.sdd_base.specs.World.{World, standing_at}
 use Rattle.sdd_base.specs.Steps.{with_standing}
 use Rattle.sdd_base.specs.Ptr.{slot_named}

@@ -4,7 +4,7 @@ use Rattle.std.specs.Prelude.{◌-◌, is_some}
 use Rattle.std.proofs.lemmas.Bool.Decides.{nat_tests}
 use Rattle.sdd_store.specs.declared.standing.Standing.{Standing}
 use Rattle.sdd_store.specs.declared.standing.Standing.TheVariants.{Owned, Raw, Shared, Retired, Private as privately}
-use Rattle.sdd_slots.specs.Slots.{is_waiting}
+use Rattle.sdd_standings.specs.Slots.{is_waiting}
 use Rattle.sdd_base.specs.World.{World, standing_at}
 use Rattle.sdd_base.specs.Steps.{retired, with_standing, owner_given}
 use Rattle.sdd_base.specs.InPlace.{IsAlone}

@@ -12,7 +12,7 @@ use Rattle.sdd_store.specs.Time as time
 use Rattle.sdd_store.specs.declared.time.Participant.{Participant}
 use Rattle.sdd_store.specs.declared.standing.Standing.{Standing}
 use Rattle.sdd_store.specs.declared.standing.Standing.TheVariants.{Owned, Raw, Shared, Retired, Private as privately}
-use Rattle.sdd_slots.specs.Slots.{is_waiting, IsWaiting}
+use Rattle.sdd_standings.specs.Slots.{is_waiting, IsWaiting}
 use Rattle.sdd_base.specs.World.{World, standing_at, value_at, place_at, IsPlaceOf}
 use Rattle.sdd_base.specs.Steps.{made_as, with_standing, waiting_as, owner_given, cell_closed, deferred, opened, closed, registered, ended, reclaims}
 use Rattle.sdd_base.specs.Holding.{Holding}
@@ -303,7 +303,8 @@ module _ {T : Type 0} where
     one-call p k (accelerates v r l) i u o =
         (Whole-accelerated v r l i, under-place v p k r (time.accelerated (place_at v r)) l.0 u (record { found = refl; waits = λ w h. h }) o)
     one-call p k (makes v j value s first empty) i u o =
-        let apart : k ≢ j = λ e. let never : true ≡ false = sym u.waiting ∙ ap (λ (n : ℕ). is_waiting (standing_at v n)) e ∙ ap is_waiting empty.1 in absurd (cc) in (
+        let apart : k ≢ j = λ e. let never : true ≡ false = sym u.waiting ∙ ap (λ (n : ℕ). is_waiting (standing_at v n)) e ∙ ap is_waiting empty.1 in absurd
+        (cc) in (
           Whole-made_as v j value s first empty i,
           under-still v (made_as v j value s) p k u refl
               (record {

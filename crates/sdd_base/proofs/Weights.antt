@@ -18,7 +18,7 @@ use Rattle.sdd_store.specs.declared.standing.Standing.{Standing}
 use Rattle.sdd_store.specs.declared.standing.Standing.TheVariants.{Shared, Retired}
 use Rattle.sdd_store.specs.declared.standing.Cell.{Cell}
 use Rattle.sdd_store.specs.declared.standing.Pointer.{Pointer}
-use Rattle.sdd_slots.specs.Slots.{is_waiting}
+use Rattle.sdd_standings.specs.Slots.{is_waiting}
 use Rattle.sdd_base.specs.World.{World, KeepsSizes, weight, is_loose, standing_at, value_at, place_at}
 use Rattle.sdd_base.specs.Steps.{made_as, with_standing, waiting_as, retired, spilled, cell_closed, held_in, owner_given, given, given_all, freed, vacated, dropped_out, dropped, taken_out, waiting_value, slot_reclaimed, reclaimed, all_reclaimed, deferred, ran}
 use Rattle.sdd_base.specs.Holding.{Holding, owned, shared, atomic_owned, atomic_shared, atomic_raw}
@@ -158,15 +158,42 @@ SameSize-made_as w k v s first empty =
 -- the cells weigh nothing
 pub SameSize-cells : {T : Type 0} (w : World T) (cells : Entries Cell) → SameSize w (record w { cells = cells })
 SameSize-cells w cells =
-    record { weight_same = refl; places_same = refl; phases_same = refl; slots_same = refl; jobs_same = refl; home_same = refl; nesting_same = refl; room_same = refl }
+    record {
+      weight_same = refl;
+      places_same = refl;
+      phases_same = refl;
+      slots_same = refl;
+      jobs_same = refl;
+      home_same = refl;
+      nesting_same = refl;
+      room_same = refl;
+    }
 
 pub SameSize-pointers : {T : Type 0} (w : World T) (pointers : List Pointer) → SameSize w (record w { pointers = pointers })
 SameSize-pointers w pointers =
-    record { weight_same = refl; places_same = refl; phases_same = refl; slots_same = refl; jobs_same = refl; home_same = refl; nesting_same = refl; room_same = refl }
+    record {
+      weight_same = refl;
+      places_same = refl;
+      phases_same = refl;
+      slots_same = refl;
+      jobs_same = refl;
+      home_same = refl;
+      nesting_same = refl;
+      room_same = refl;
+    }
 
 pub SameSize-refl : {T : Type 0} (w : World T) → SameSize w w
 SameSize-refl w =
-    record { weight_same = refl; places_same = refl; phases_same = refl; slots_same = refl; jobs_same = refl; home_same = refl; nesting_same = refl; room_same = refl }
+    record {
+      weight_same = refl;
+      places_same = refl;
+      phases_same = refl;
+      slots_same = refl;
+      jobs_same = refl;
+      home_same = refl;
+      nesting_same = refl;
+      room_same = refl;
+    }
 
 pub SameSize-trans : {T : Type 0} {u v w : World T} → SameSize u v → SameSize v w → SameSize u w
 SameSize-trans a b =
@@ -250,7 +277,16 @@ pub record FreesOne {T : Type 0} (old new : World T) : Type 0 where
 
 pub FreesOne-refl : {T : Type 0} (w : World T) → FreesOne w w
 FreesOne-refl w =
-    record { weight_grows = omega arith; places_same = refl; phases_same = refl; slots_same = refl; jobs_same = refl; home_same = refl; nesting_same = refl; room_same = refl }
+    record {
+      weight_grows = omega arith;
+      places_same = refl;
+      phases_same = refl;
+      slots_same = refl;
+      jobs_same = refl;
+      home_same = refl;
+      nesting_same = refl;
+      room_same = refl;
+    }
 
 pub freed-FreesOne : {T : Type 0} (w : World T) (k : ℕ) → k < length w.standings → FreesOne w (freed w k)
 freed-FreesOne w k l =

@@ -24,7 +24,7 @@ use Rattle.sdd_store.specs.declared.standing.Standing.{Standing}
 use Rattle.sdd_store.specs.declared.standing.Standing.TheVariants.{Owned, Raw, Shared, Retired, Private as privately}
 use Rattle.sdd_store.specs.declared.standing.Cell.{Cell}
 use Rattle.sdd_store.specs.declared.standing.Pointer.{Pointer}
-use Rattle.sdd_slots.specs.Slots.{is_waiting, IsWaiting}
+use Rattle.sdd_standings.specs.Slots.{is_waiting, IsWaiting}
 use Rattle.sdd_base.specs.World.{World, standing_at, value_at, place_at}
 use Rattle.sdd_store.specs.Collecting.{rest_of, without}
 use Rattle.sdd_base.specs.Collecting.{collector_closed, is_for, waiting_for, without_collector}

@@ -5,7 +5,7 @@ use Rattle.sdd_store.specs.declared.waiting.What.{What}
 use Rattle.sdd_store.specs.declared.standing.Standing.{Standing}
 use Rattle.sdd_store.specs.declared.standing.Standing.TheVariants.{Owned, Raw, Shared, Retired, Private as privately}
 use Rattle.sdd_base.specs.Holding.{Holding}
-use Rattle.sdd_slots.specs.Slots.{IsWaiting}
+use Rattle.sdd_standings.specs.Slots.{IsWaiting}
 use Rattle.sdd_base.specs.World.{World, HasPlace, standing_at, value_at}
 use Rattle.sdd_base.specs.Steps.{all_reclaimed, waiting_as, with_standing, without_cell}
 

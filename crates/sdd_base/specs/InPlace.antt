@@ -4,7 +4,7 @@ use Rattle.sdd_core.specs.declared.refused.Refused.{Refused}
 use Rattle.sdd_core.specs.declared.refused.Refused.TheVariants.{GuardOpen, NotAlone}
 use Rattle.sdd_store.specs.declared.standing.Standing.{Standing}
 use Rattle.sdd_store.specs.declared.standing.Standing.TheVariants.{Owned, Shared}
-use Rattle.sdd_slots.specs.Slots.{has_others}
+use Rattle.sdd_standings.specs.Slots.{has_others}
 use Rattle.sdd_base.specs.World.{World, IsGuarded, standing_at}
 
 -- the item has one owner

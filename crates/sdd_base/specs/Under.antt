@@ -3,7 +3,7 @@ use Rattle.std.specs.Prelude.{ℕ, ◌+◌, ◌-◌, ◌≤◌, ◌≡◌, ◌�
 use Rattle.sdd_store.specs.Time.{is_open}
 use Rattle.sdd_store.specs.declared.standing.Standing.TheVariants.{Retired, Private as privately}
 use Rattle.sdd_store.specs.declared.standing.Standing.{Standing}
-use Rattle.sdd_slots.specs.Slots.{IsWaiting}
+use Rattle.sdd_standings.specs.Slots.{IsWaiting}
 use Rattle.sdd_base.specs.Holding.{Holding}
 use Rattle.sdd_base.specs.World.{World, place_at, standing_at, value_at, IsPlaceOf}
 use Rattle.sdd_base.specs.Steps.{retired}

@@ -9,7 +9,7 @@ use Rattle.sdd_store.specs.Table.{entry_at}
 use Rattle.sdd_store.specs.declared.phases.Phase.TheVariants.{Live}
 use Rattle.sdd_store.specs.declared.tally.Tally.{Tally}
 use Rattle.sdd_store.specs.declared.time.Participant.{Participant}
-use Rattle.sdd_slots.specs.Slots.{is_waiting}
+use Rattle.sdd_standings.specs.Slots.{is_waiting}
 use Rattle.sdd_base.specs.World.{World, place_at, standing_at}
 
 -- what waits is the slot's item

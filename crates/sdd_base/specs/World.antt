@@ -9,8 +9,8 @@ use Rattle.sdd_store.specs.declared.standing.Pointer.{Pointer}
 use Rattle.sdd_store.specs.declared.tally.Tally.{Tally}
 use Rattle.sdd_store.specs.Tally.{no_items}
 use Rattle.sdd_store.specs.declared.time.Participant.{Participant}
-use Rattle.sdd_slots.specs.Slots.{is_waiting}
-use Rattle.sdd_slots.specs.Cells.{null_pointer}
+use Rattle.sdd_standings.specs.Slots.{is_waiting}
+use Rattle.sdd_standings.specs.Cells.{null_pointer}
 use Rattle.sdd_base.specs.Holding.{Home}
 use Rattle.sdd_base.specs.declared.limits.Limits.{Limits}
 

@@ -1,6 +1,6 @@
 ghost use Rattle.std.specs.Prelude.{ℕ, ◌≡◌, ◌≢◌, ◌+◌, ◌^◌, ◌<◌, ◌⊎◌, ◌↔◌, IfErr, IfOk, IfSome, IsOk, IsSome, IsTrue, MatchOption, MatchResult, None, Some, if◌then◌else◌, option_map};
 ghost use Rattle.sdd_token.specs.Right.{kind_of};
-ghost use Rattle.sdd_slots.specs.Slots.{IsSharedBy};
+ghost use Rattle.sdd_standings.specs.Slots.{IsSharedBy};
 ghost use Rattle.sdd_base.specs.Holding.{AreOf};
 ghost use Rattle.sdd_base.specs.World.{World, standing_at};
 ghost use Rattle.sdd_base.specs.Seat.{IsSeated, IsExact};
@@ -178,7 +178,8 @@ impl<T: Item<T>> AtomicOwned<T> {
         ensures own { S.own s.new ≡ S.own s.old }
         ensures known { KnowsOn (S.known s.old) (S.known s.new) }
         ensures shown { IsShown (S.shows s.new) result }
-        ensures exact { IsExact (S.seat s.old) → (entry_at (S.world s.old).cells (cell_of self.now) ≡ Some (cell_seen result)) × (S.world s.new ≡ S.world s.old) }
+        ensures exact { IsExact (S.seat s.old) → (entry_at (S.world s.old).cells (cell_of self.now) ≡ Some (cell_seen result)) ×
+            (S.world s.new ≡ S.world s.old) }
         ensures keeps { KeepsShown (S.shows s.old) (S.shows s.new) }
     {
         s.load(self.right(), guard)
@@ -251,7 +252,8 @@ impl<T: Item<T>> AtomicOwned<T> {
         ensures exact { IsExact (S.seat s.old) → MatchResult result
             (λ _. (entry_at (S.world s.old).cells (cell_of self.now) ≡ Some (cell_seen current.entry)) ×
             (S.world s.new ≡ with_cell (S.world s.old) (cell_of self.now) (cell_with next.0 next.1)))
-            (λ e. (entry_at (S.world s.old).cells (cell_of self.now) ≡ Some (cell_seen e.1)) × (cell_seen e.1 ≢ cell_seen current.entry) × (S.world s.new ≡ S.world s.old)) }
+            (λ e. (entry_at (S.world s.old).cells (cell_of self.now) ≡ Some (cell_seen e.1)) × (cell_seen e.1 ≢ cell_seen current.entry) ×
+            (S.world s.new ≡ S.world s.old)) }
         ensures keeps { KeepsShown (S.shows s.old) (S.shows s.new) }
     {
         let (owner, tag) = next;
@@ -288,7 +290,8 @@ impl<T: Item<T>> AtomicOwned<T> {
         ensures exact { IsExact (S.seat s.old) → MatchResult result
             (λ _. (entry_at (S.world s.old).cells (cell_of self.now) ≡ Some (cell_seen current.entry)) ×
             (S.world s.new ≡ with_cell (S.world s.old) (cell_of self.now) (cell_with next.0 next.1)))
-            (λ e. (entry_at (S.world s.old).cells (cell_of self.now) ≡ Some (cell_seen e.1)) × (cell_seen e.1 ≢ cell_seen current.entry) × (S.world s.new ≡ S.world s.old)) }
+            (λ e. (entry_at (S.world s.old).cells (cell_of self.now) ≡ Some (cell_seen e.1)) × (cell_seen e.1 ≢ cell_seen current.entry) ×
+            (S.world s.new ≡ S.world s.old)) }
         ensures keeps { KeepsShown (S.shows s.old) (S.shows s.new) }
     {
         self.compare_exchange(current, next, guard, s)

@@ -8,7 +8,7 @@ ghost use Rattle.sdd_base.specs.Guard.{reader_of};
 ghost use Rattle.sdd_base.specs.Out.{IsNullCell};
 ghost use Rattle.sdd_base.specs.Steps.{pointing, with_pointer, without_cell};
 ghost use Rattle.sdd_base.specs.RawCell.{cell_of, cells_home};
-ghost use Rattle.sdd_slots.specs.Cells.{null_pointer};
+ghost use Rattle.sdd_standings.specs.Cells.{null_pointer};
 ghost use Rattle.sdd_store.specs.declared.standing.Pointer.{Pointer};
 ghost use Rattle.sdd_store.specs.Table.{IsEmptyAt, IsFull};
 

@@ -178,7 +178,7 @@ impl<'g, T> Ptr<'g, T> {
 
 impl<'g, T: Item<T>> Ptr<'g, T> {
     ghost use Rattle.std.specs.Prelude.{ℕ, ◌≡◌, ◌↔◌, ◌+◌, ◌^◌, ◌<◌, IfOk, IfSome, IsSome, MatchOption, MatchResult, None, Some, option_copied};
-    ghost use Rattle.sdd_slots.specs.Slots.{IsSharedBy, owners_of};
+    ghost use Rattle.sdd_standings.specs.Slots.{IsSharedBy, owners_of};
     ghost use Rattle.sdd_store.specs.declared.standing.Standing.TheVariants.{Shared as shared_by};
     ghost use Rattle.sdd_base.specs.World.{World, standing_at};
     ghost use Rattle.sdd_base.specs.Seat.{IsSeated, IsExact};

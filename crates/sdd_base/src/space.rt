@@ -14,8 +14,8 @@ ghost use Rattle.sdd_base.specs.Collecting.{owner_collected, collector_closed};
 ghost use Rattle.sdd_base.specs.Known.{Known, KnowsOn, KnowsOpened, KnowsClosed, IsNear, IsRaisedBy};
 ghost use Rattle.sdd_token.specs.Kind.{IsOwner};
 ghost use Rattle.sdd_token.specs.Right.{number_of, home_of, kind_of, raw_number_of, raw_home_of};
-ghost use Rattle.sdd_slots.specs.Slots.{IsOwnedBy, IsSharedBy, first_standing, has_others, owners_of};
-ghost use Rattle.sdd_slots.specs.Cells.{MayHold, cell_with, slot_held};
+ghost use Rattle.sdd_standings.specs.Slots.{IsOwnedBy, IsSharedBy, first_standing, has_others, owners_of};
+ghost use Rattle.sdd_standings.specs.Cells.{MayHold, cell_with, slot_held};
 ghost use Rattle.sdd_base.specs.Guard.{reader_of};
 ghost use Rattle.sdd_base.specs.Ptr.{KeepsShown, KeepsOthers, IsShown, slot_named, tag_of, cell_seen};
 ghost use Rattle.sdd_base.specs.RawPtr as raw;
@@ -518,7 +518,8 @@ pub trait Space<T: Item<T>>: Look<T> + Guards<T> {
         ensures known { KnowsOn (Self.known self.old) (Self.known self.new) }
         ensures home { IfOk result (λ other. home_of other ≡ (Self.seat self.old).home.cells) }
         ensures kind { IfOk result (λ other. kind_of other ≡ Kind.Shared) }
-        ensures exact { IsExact (Self.seat self.old) → (old : Cell) × (entry_at (Self.world self.old).cells (number_of cell.now) ≡ Some old) × MatchResult result
+        ensures exact { IsExact (Self.seat self.old) → (old : Cell) × (entry_at (Self.world self.old).cells (number_of cell.now) ≡ Some old) ×
+            MatchResult result
             (λ other. IsEmptyAt (Self.world self.old).cells (number_of other) × MatchOption old.held
             (Self.world self.new ≡ with_cell (Self.world self.old) (number_of other) old)
             (λ slot. (owners : ℕ) × IsSharedBy owners (standing_at (Self.world self.old) slot) × (owners < 2 ^ 62) ×

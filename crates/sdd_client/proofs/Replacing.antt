@@ -6,14 +6,15 @@ use Rattle.std.proofs.lemmas.List.{get_or-set_same, get_or-set_other}
 use Rattle.sdd_core.specs.declared.tag.Tag.TheVariants.{None as no_tag}
 use Rattle.sdd_store.specs.Table.{IsEmptyAt, entry_at}
 use Rattle.sdd_store.specs.declared.standing.Standing.TheVariants.{Shared, Retired}
-use Rattle.sdd_slots.specs.Slots.{IsSharedBy}
+use Rattle.sdd_standings.specs.Slots.{IsSharedBy}
 use Rattle.sdd_slots.proofs.SlotsKept.{inside-some}
 use Rattle.sdd_base.specs.World.{World, standing_at, value_at}
 use Rattle.sdd_base.specs.Steps.{held_in, made_shared, owner_given, with_cell}
 use Rattle.sdd_base.proofs.Standings.{owner-given}
 use Rattle.sdd_client.specs.Config.{IsSetTo, replaced}
 
-module _ {T : Type 0} (w : World T) (p cell slot owners next : ℕ) (old value : T) (set : IsSetTo w cell slot owners old) (empty : IsEmptyAt w.standings next) where
+module _ {T : Type 0} (w : World T) (p cell slot owners next : ℕ) (old value : T) (set : IsSetTo w cell slot owners old)
+    (empty : IsEmptyAt w.standings next) where
   -- the cell holds the new owner, and the old one is not yet given up
   abbrev filled : World T
   filled = with_cell (made_shared w next value) cell (record { held = Some next; tag = no_tag })

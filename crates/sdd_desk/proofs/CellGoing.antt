@@ -8,7 +8,7 @@ use Rattle.sdd_core.specs.declared.tag.Tag.TheVariants.{None as no_tag}
 use Rattle.sdd_store.specs.Table.{Entries, IsEmptyAt, entry_at, with_entry, without_entry}
 use Rattle.sdd_store.specs.declared.standing.Cell.{Cell}
 use Rattle.sdd_store.specs.declared.standing.Standing.TheVariants.{Shared}
-use Rattle.sdd_slots.specs.Slots.{IsSharedBy, is_waiting}
+use Rattle.sdd_standings.specs.Slots.{IsSharedBy, is_waiting}
 use Rattle.sdd_base.specs.Accounts.{holds_slot, is_of}
 use Rattle.sdd_base.specs.Calls.{Calls}
 use Rattle.sdd_base.specs.Calls.Calls.{changes_cells, closes_cell, shares}

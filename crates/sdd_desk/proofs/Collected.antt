@@ -8,8 +8,8 @@ use Rattle.sdd_store.specs.Time as time
 use Rattle.sdd_store.specs.declared.waiting.What.TheVariants.{Item}
 use Rattle.sdd_store.specs.declared.standing.Standing.{Standing}
 use Rattle.sdd_store.specs.declared.standing.Standing.TheVariants.{Owned, Shared, Retired, Private as privately}
-use Rattle.sdd_slots.specs.Slots.{IsSharedBy, is_waiting}
-use Rattle.sdd_slots.specs.Cells.{null_pointer}
+use Rattle.sdd_standings.specs.Slots.{IsSharedBy, is_waiting}
+use Rattle.sdd_standings.specs.Cells.{null_pointer}
 use Rattle.sdd_base.specs.Calls.{Calls}
 use Rattle.sdd_base.specs.Calls.Calls.{changes_cells, changes_pointers, collects, releases}
 use Rattle.sdd_base.specs.Collecting.{collected, owner_collected}

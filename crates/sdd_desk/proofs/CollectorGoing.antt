@@ -20,7 +20,7 @@ use Rattle.sdd_base.specs.World.{World, IsGuarded, IsPlaceOf, place_at, standing
 use Rattle.sdd_base.proofs.Accounts.{accounted-all_reclaimed}
 use Rattle.sdd_base.proofs.Guarded.{guarded}
 use Rattle.sdd_base.proofs.Standings.{out-waits-not}
-use Rattle.sdd_slots.specs.Slots.{is_waiting}
+use Rattle.sdd_standings.specs.Slots.{is_waiting}
 use Rattle.sdd_lines.specs.declared.name.CollectorName.{CollectorName}
 use Rattle.sdd_lines.specs.declared.name.ItemName.{ItemName}
 use Rattle.sdd_lines.specs.declared.name.PlaceName.{PlaceName}

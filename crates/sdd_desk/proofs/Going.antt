@@ -8,7 +8,7 @@ use Rattle.sdd_store.specs.Table.{IsEmptyAt, entry_at}
 use Rattle.sdd_store.specs.Time.{IsVacant, is_open}
 use Rattle.sdd_store.specs.declared.waiting.What.TheVariants.{Item, Job}
 use Rattle.sdd_store.specs.declared.standing.Standing.TheVariants as standing
-use Rattle.sdd_slots.specs.Slots.{IsSharedBy, is_waiting}
+use Rattle.sdd_standings.specs.Slots.{IsSharedBy, is_waiting}
 use Rattle.sdd_base.specs.Calls.{IsFirst}
 use Rattle.sdd_base.specs.Calls.Calls.{registers, ends, closes, stirs, accelerates, shares, retires, releases, defers}
 use Rattle.sdd_base.specs.Holding.{Holding, Home, IsOf}
@@ -244,7 +244,8 @@ module _ (d : Desk) (s : IsSound d) where
 
     -- ---- owners
 
-    module _ (p k o : ℕ) (live : IsPlaceOf d.world p) (owner : sole_slot (holding_at d.owners o) ≡ Some k) (stands : standing_at d.world k ≡ Some standing.Owned) where
+    module _ (p k o : ℕ) (live : IsPlaceOf d.world p) (owner : sole_slot (holding_at d.owners o) ≡ Some k)
+        (stands : standing_at d.world k ≡ Some standing.Owned) where
       abbrev after_retired : Desk
       after_retired = record (in_world (without_owner d o) (retired d.world p k)) { dates = slice_set d.dates k d.moment }
 
@@ -291,7 +292,8 @@ module _ (d : Desk) (s : IsSound d) where
           let counts = counts-given d.world p k (Some (standing.Shared count)) stands.shared in
           let keeps = keeps-owner_given d.world p k (Some (standing.Shared count)) stands.shared in
           record {
-            stocked = stocked-as d after_released s.stocked refl refl dated-released.long (no_slot-given d.world p k (Some (standing.Shared count)) stands.shared);
+            stocked = stocked-as d after_released s.stocked refl refl dated-released.long (no_slot-given d.world p k (Some (standing.Shared count))
+                stands.shared);
             cells = keepers-as d after_released s.cells same.0 same.1 refl refl;
             layered = layers;
             accounts = counted-released d s.accounts o h.0 h.1 k h.2 p count stands.shared;
@@ -466,7 +468,11 @@ sound-start l d start names ranges = record {
     apart = λ j k c h g. absurd (no-keeper j c h);
     bare = λ k c h. absurd (no-keeper (value_in k) c h);
   };
-  layered = λ j k some. absurd (let none : times_held holdings_of k (value_at d.world j) ≡ 0 = ap (times_held holdings_of k) (values j) in omega (arith, none, some));
+  layered = λ j k some. absurd (let none : times_held holdings_of k (value_at d.world j) ≡ 0 = ap (times_held holdings_of k) (values j) in omega (
+    arith,
+    none,
+    some,
+  ));
   accounts = accounted-as holdings_of (λ _. 0) (named_owners d) d.world (λ k. ap (count_by (owns k)) start.owners)
       (accounted-blank holdings_of d.world _ l.slots l.cells l.jobs start.world);
   owners_home = λ n h e. absurd (let never : None ≡ Some h = sym (ap (λ hs. holding_at hs n) start.owners) ∙ e in cc);

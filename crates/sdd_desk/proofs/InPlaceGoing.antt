@@ -3,7 +3,7 @@ use Rattle.std.proofs.Common.{◌≡◌, ℕ, ◌-◌, ◌<◌, ◌≤◌, Bool,
 use Rattle.std.specs.Prelude.{◌==◌, IsTrue, ◌↔◌}
 use Rattle.std.proofs.lemmas.Bool.{false≢true, cases_eq}
 use Rattle.sdd_store.specs.declared.standing.Standing.TheVariants.{Owned, Raw, Shared}
-use Rattle.sdd_slots.specs.Slots.{IsSharedBy, is_waiting}
+use Rattle.sdd_standings.specs.Slots.{IsSharedBy, is_waiting}
 use Rattle.sdd_base.specs.Accounts.{owner_count, times_held}
 use Rattle.sdd_base.specs.Calls.Calls.{puts_out_raw, takes_back_raw, edits, drops, releases}
 use Rattle.sdd_base.specs.Holding.{Holding}

@@ -9,7 +9,7 @@ pub use Rattle.sdd_store.specs.declared.waiting.What.{What}
 pub use Rattle.sdd_store.specs.declared.waiting.What.TheVariants.{Item, Job}
 pub use Rattle.sdd_store.specs.declared.standing.Standing.{Standing}
 pub use Rattle.sdd_store.specs.declared.standing.Cell.{Cell}
-pub use Rattle.sdd_slots.specs.Slots.{is_waiting}
+pub use Rattle.sdd_standings.specs.Slots.{is_waiting}
 pub use Rattle.sdd_base.specs.Holding.{Holding}
 pub use Rattle.sdd_base.specs.Out.{is_out}
 pub use Rattle.sdd_base.specs.Steps.{held_in, reclaims}

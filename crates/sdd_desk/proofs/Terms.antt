@@ -10,7 +10,7 @@ pub use Rattle.sdd_store.specs.Time.{Time, IsLive, IsVacant, is_open, nobody, ph
 pub use Rattle.sdd_store.specs.declared.time.Participant.{Participant}
 pub use Rattle.sdd_store.specs.declared.standing.Standing.{Standing}
 pub use Rattle.sdd_store.specs.declared.standing.Standing.TheVariants.{Owned, Raw, Shared, Retired, Private as privately}
-pub use Rattle.sdd_slots.specs.Slots.{is_waiting}
+pub use Rattle.sdd_standings.specs.Slots.{is_waiting}
 pub use Rattle.sdd_base.specs.World.{World, IsPlaceOf, place_at, standing_at}
 pub use Rattle.sdd_base.specs.Steps.{retired, owner_given, cell_closed, opened, reclaims}
 pub use Rattle.sdd_base.specs.Whole.{IsWhole}

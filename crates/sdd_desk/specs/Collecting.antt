@@ -1,7 +1,7 @@
 -- That an owner is given to a collector
 use Rattle.std.specs.Prelude.{ℕ, ◌≡◌, ◌↔◌, IsTrue, Some}
 use Rattle.sdd_store.specs.declared.standing.Standing.TheVariants.{Owned, Shared}
-use Rattle.sdd_slots.specs.Slots.{IsSharedBy}
+use Rattle.sdd_standings.specs.Slots.{IsSharedBy}
 use Rattle.sdd_base.specs.Collecting.{collected, owner_collected}
 use Rattle.sdd_base.specs.Holding.{Holding}
 use Rattle.sdd_base.specs.Holding as holding

@@ -2,7 +2,7 @@
 use Rattle.std.specs.Prelude.{ℕ, ◌+◌, ◌<◌, ◌≡◌, List, [], ◌∷◌, ◌++◌, Option, None, Some, IsSome, length, replicate, slice_index, slice_index_or, slice_set, if◌then◌else◌}
 use Rattle.sdd_store.specs.Time.{is_open}
 use Rattle.sdd_store.specs.Table.{entry_at}
-use Rattle.sdd_slots.specs.Slots.{is_waiting}
+use Rattle.sdd_standings.specs.Slots.{is_waiting}
 use Rattle.sdd_base.specs.Holding.{Holding, owned, shared, atomic_owned, atomic_shared, atomic_raw}
 use Rattle.sdd_base.specs.World.{World, IsNew, place_at, standing_at}
 use Rattle.sdd_base.specs.declared.limits.Limits.{Limits}

@@ -7,7 +7,7 @@ use Rattle.sdd_store.specs.declared.standing.Standing.TheVariants as standing
 use Rattle.sdd_store.specs.Collecting.{is_private_to}
 use Rattle.sdd_store.specs.declared.waiting.What.{What}
 use Rattle.sdd_store.specs.declared.waiting.What.TheVariants.{Item, Job}
-use Rattle.sdd_slots.specs.Slots.{is_waiting}
+use Rattle.sdd_standings.specs.Slots.{is_waiting}
 use Rattle.sdd_base.specs.Holding.{Holding}
 use Rattle.sdd_base.specs.Holding as holding
 use Rattle.sdd_base.specs.Owned as owned

@@ -1,7 +1,7 @@
 -- That a number is changed, or an item dropped, in its place, and an item that is out as raw
 use Rattle.std.specs.Prelude.{ℕ, ◌≡◌, ◌-◌, ◌<◌, Some, true, false}
 use Rattle.sdd_store.specs.declared.standing.Standing.TheVariants.{Owned, Raw, Shared}
-use Rattle.sdd_slots.specs.Slots.{IsSharedBy}
+use Rattle.sdd_standings.specs.Slots.{IsSharedBy}
 use Rattle.sdd_base.specs.Holding.{Holding}
 use Rattle.sdd_base.specs.Holding as holding
 use Rattle.sdd_base.specs.InPlace.{IsAlone}

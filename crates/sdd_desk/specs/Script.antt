@@ -10,12 +10,12 @@ use Rattle.sdd_store.specs.Time.{IsCrowded, IsVacant, CanNest, has_garbage, is_o
 use Rattle.sdd_store.specs.Table.{IsEmptyAt, IsFull}
 use Rattle.sdd_store.specs.declared.standing.Cell.{Cell}
 use Rattle.sdd_store.specs.declared.standing.Standing.TheVariants.{Owned, Raw, Shared}
-use Rattle.sdd_slots.specs.Slots.{IsSharedBy, is_waiting}
+use Rattle.sdd_standings.specs.Slots.{IsSharedBy, is_waiting}
 use Rattle.sdd_base.specs.declared.limits.Limits.{Limits}
 use Rattle.sdd_base.specs.Holding.{Holding, owned, shared, atomic_owned, atomic_shared, atomic_raw}
 use Rattle.sdd_base.specs.World.{World, IsGuarded, place_at, standing_at}
 use Rattle.sdd_base.specs.Collecting.{collector_closed, waiting_for}
-use Rattle.sdd_slots.specs.Cells.{null_pointer}
+use Rattle.sdd_standings.specs.Cells.{null_pointer}
 use Rattle.sdd_base.specs.InPlace.{MayInPlace, RefusedInPlace}
 use Rattle.sdd_base.specs.Steps.{registered, ended, retired, opened, closed, stirred, accelerated, deferred, reclaims, owner_given, with_standing, without_cell, cell_closed, pointing}
 use Rattle.sdd_base.specs.Steps as steps
@@ -305,7 +305,8 @@ Does d n p (call.Exchange c g i was x tag) (reply.Exchanged o) new =
     (k : ℕ) × (cell : Cell) × IsCell d c.0 k cell × (cell ≡ record { held = slot_compared d i; tag = was }) × IsNameOf d cell.held o
     × Swaps d c.0 k cell x tag new
 Does d n p (call.Exchange c g i was x tag) (reply.Differs j now) new =
-    ((k : ℕ) × (cell : Cell) × IsCell d c.0 k cell × (cell ≢ record { held = slot_compared d i; tag = was }) × (j ≡ item_held d cell) × (now ≡ cell.tag)) × (new ≡ d)
+    ((k : ℕ) × (cell : Cell) × IsCell d c.0 k cell × (cell ≢ record { held = slot_compared d i; tag = was }) × (j ≡ item_held d cell) × (now ≡ cell.tag)) ×
+    (new ≡ d)
 Does d n p (call.Into c) given new =
     (k : ℕ) × (cell : Cell) × IsCell d c.0 k cell × IsGivenBack d cell.held given
     × Leaves (record d {
@@ -314,7 +315,8 @@ Does d n p (call.Into c) given new =
       cells = slice_set d.cells c.0 None;
     }) new
 Does d n p (call.Copy c g) (reply.Cell r) new =
-    (r.0 ≡ length d.cells) × ((k : ℕ) × (cell : Cell) × IsCell d c.0 k cell × ((owners : ℕ) × (other : ℕ) × MayShare d.world cell.held owners × IsEmptyAt d.world.cells other
+    (r.0 ≡ length d.cells) × ((k : ℕ) × (cell : Cell) × IsCell d c.0 k cell × ((owners : ℕ) × (other : ℕ) × MayShare d.world cell.held owners ×
+    IsEmptyAt d.world.cells other
     × Leaves (record d {
       world = steps.with_cell (shared_once_more d.world cell.held owners) other cell;
       cells = d.cells ++ Some (atomic_shared other d.world.home.cells) ∷ [];

@@ -2,7 +2,7 @@
 use Rattle.std.specs.Prelude.{ℕ, ◌+◌, ◌^◌, ◌<◌, ◌≤◌, ◌≡◌, ◌==◌, Bool, false, IsTrue, IsSome, List, Option, None, Some, count_by, length, slice_index}
 use Rattle.sdd_store.specs.Time.{is_open, phase_at}
 use Rattle.sdd_store.specs.Table.{Entries, entry_at}
-use Rattle.sdd_slots.specs.Slots.{is_waiting}
+use Rattle.sdd_standings.specs.Slots.{is_waiting}
 use Rattle.sdd_base.specs.Holding.{Holding, IsOf}
 use Rattle.sdd_base.specs.World.{IsPlaceOf, place_at, standing_at, value_at}
 use Rattle.sdd_base.specs.Steps.{held_in}

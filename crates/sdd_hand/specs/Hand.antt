@@ -1,7 +1,7 @@
 -- What the names of a script stand for
 use Rattle.std.specs.Prelude.{ℕ, ◌≡◌, ◌<◌, ◌≤◌, IsSome, IsTrue, List, [], ◌∷◌, ◌++◌, Option, Some, None, length, slice_index, slice_index_or, slice_set, if◌then◌else◌}
 use Rattle.std.specs.Option.{option_map}
-use Rattle.sdd_slots.specs.Slots.{is_waiting}
+use Rattle.sdd_standings.specs.Slots.{is_waiting}
 use Rattle.sdd_base.specs.Holding.{Holding}
 use Rattle.sdd_base.specs.World.{World, standing_at}
 use Rattle.sdd_lines.specs.declared.name.ItemName.{ItemName}

@@ -2,7 +2,7 @@
 ghost use Rattle.std.specs.Prelude.{◌≡◌, ◌↔◌, ◌<◌, ◌≤◌, ◌^◌, ℕ, All, IsSome, IsTrue, None, Some, MatchOption, length, slice_index, slice_index_or, IfOk, IfSome, map, if◌then◌else◌};
 ghost use Rattle.std.specs.Option.{option_map};
 ghost use Rattle.sdd_base.specs.World.{World, standing_at, value_at};
-ghost use Rattle.sdd_slots.specs.Slots.{is_waiting};
+ghost use Rattle.sdd_standings.specs.Slots.{is_waiting};
 ghost use Rattle.sdd_desk.specs.declared.val.Val.{Val};
 ghost use Rattle.sdd_desk.specs.Val.{body_of};
 ghost use Rattle.sdd_desk.specs.Shown.{told_of, item_in};
@@ -11,7 +11,7 @@ ghost use Rattle.sdd_desk.specs.Held.{owners_in, slots_among, slots_waiting_for,
 ghost use Rattle.sdd_desk.specs.declared.val.Body.{Body};
 ghost use Rattle.sdd_desk.specs.declared.val.Body.TheVariants.{Number};
 ghost use Rattle.sdd_store.specs.Collecting.{is_private_to};
-ghost use Rattle.sdd_slots.specs.Slots as slots;
+ghost use Rattle.sdd_standings.specs.Slots as slots;
 
 use sdd_base::inner::{slot_of_owner, slot_of_shared};
 use sdd_base::{Owned, Shared};

@@ -93,7 +93,8 @@ pub fn take_filling(
     name: Option<OwnerName>,
 ) -> Filling
     requires { FitsIn (map (option_map owner_holding) owners.old.entries.items) ownership name }
-    ensures filled { Fills (map (option_map owner_holding) owners.old.entries.items) ownership name (map (option_map owner_holding) owners.new.entries.items) result }
+    ensures filled { Fills (map (option_map owner_holding) owners.old.entries.items) ownership name
+        (map (option_map owner_holding) owners.new.entries.items) result }
     ensures room { vec_capacity owners.new.entries ≡ vec_capacity owners.old.entries }
 {
     let Some(name) = name else {
@@ -137,7 +138,8 @@ pub fn body_from(owners: &mut Named<AnOwner>, value: Value) -> Option<Body<Val>>
 /// What came out of a cell gets the next name, if it is an owner.
 pub fn give_filling(owners: &mut Named<AnOwner>, filling: Filling) -> Option<OwnerName>
     requires room { length owners.old.entries.items < vec_capacity owners.old.entries }
-    ensures { IsGiven (map (option_map owner_holding) owners.old.entries.items) (filling_holding filling) (map (option_map owner_holding) owners.new.entries.items) result }
+    ensures { IsGiven (map (option_map owner_holding) owners.old.entries.items) (filling_holding filling)
+        (map (option_map owner_holding) owners.new.entries.items) result }
 {
     match filling {
         Filling::Sole(Some(owner)) => Some(OwnerName(owners.give(AnOwner::Sole(owner)))),
@@ -159,7 +161,8 @@ pub fn told_back(name: Option<OwnerName>) -> Reply
 /// What did not go into a cell stands under its name again, if it is an owner.
 pub fn put_back(owners: &mut Named<AnOwner>, name: Option<OwnerName>, filling: Filling)
     requires spent { CanPutBack (map (option_map owner_holding) owners.old.entries.items) name (filling_holding filling) }
-    ensures { map (option_map owner_holding) owners.new.entries.items ≡ owners_back (map (option_map owner_holding) owners.old.entries.items) name (filling_holding filling) }
+    ensures { map (option_map owner_holding) owners.new.entries.items ≡ owners_back (map (option_map owner_holding) owners.old.entries.items) name
+        (filling_holding filling) }
 {
     let Some(name) = name else {
         return match filling {

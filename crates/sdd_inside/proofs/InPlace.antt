@@ -4,8 +4,8 @@ use Rattle.std.specs.Prelude.{IsSome}
 use Rattle.sdd_store.specs.Time.{Time, phase_at}
 use Rattle.sdd_store.specs.Time as time
 use Rattle.sdd_places.specs.Tenures.{Tenures}
-use Rattle.sdd_slots.specs.Slots.{Slots}
-use Rattle.sdd_slots.specs.Cells.{Cells}
+use Rattle.sdd_standings.specs.Slots.{Slots}
+use Rattle.sdd_standings.specs.Cells.{Cells}
 use Rattle.sdd_store.specs.Table.{Entries}
 use Rattle.sdd_base.specs.Holding.{Holding, Home, AreOf, ValueIsOf, ValuesAreOf}
 use Rattle.sdd_base.specs.Lending.{Lending}

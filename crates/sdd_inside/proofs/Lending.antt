@@ -19,7 +19,7 @@ use Rattle.sdd_base.specs.Holding.{Holding, Home}
 use Rattle.sdd_store.specs.Table.{Entries}
 use Rattle.sdd_store.specs.declared.standing.Cell.{Cell}
 use Rattle.sdd_store.specs.declared.standing.Pointer.{Pointer}
-use Rattle.sdd_slots.specs.Slots.{is_waiting}
+use Rattle.sdd_standings.specs.Slots.{is_waiting}
 use Rattle.sdd_base.specs.Lending.{Lending}
 use Rattle.sdd_base.specs.World.{World, KeepsSizes, IsPlaceOf, place_at, standing_at}
 use Rattle.sdd_base.specs.Steps.{waiting_as, retired, with_standing, owner_given, opened, closed, ended, registered, reclaims}

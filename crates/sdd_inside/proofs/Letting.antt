@@ -10,7 +10,7 @@ use Rattle.sdd_store.specs.Table.{with_entry}
 use Rattle.sdd_store.specs.declared.waiting.What.TheVariants.{Item}
 use Rattle.sdd_store.specs.declared.standing.Standing.{Standing}
 use Rattle.sdd_store.specs.declared.standing.Standing.TheVariants.{Owned, Raw, Shared, Retired, Private as privately}
-use Rattle.sdd_slots.specs.Slots.{IsOwnedBy, has_others, let_go, let_go_to}
+use Rattle.sdd_standings.specs.Slots.{IsOwnedBy, has_others, let_go, let_go_to}
 use Rattle.sdd_base.specs.Holding.{Holding}
 use Rattle.sdd_base.specs.Lending.{Lending}
 use Rattle.sdd_base.specs.World.{World, IsPlaceOf, standing_at}

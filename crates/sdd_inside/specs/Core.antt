@@ -3,8 +3,8 @@ use Rattle.std.specs.Prelude.{◌+◌, ◌≤◌, ◌≡◌, List, length, is_no
 use Rattle.sdd_store.specs.Table.{Entries}
 use Rattle.sdd_store.specs.Time.{Time, waiting_count}
 use Rattle.sdd_places.specs.Tenures.{Tenures}
-use Rattle.sdd_slots.specs.Slots.{Slots}
-use Rattle.sdd_slots.specs.Cells.{Cells}
+use Rattle.sdd_standings.specs.Slots.{Slots}
+use Rattle.sdd_standings.specs.Cells.{Cells}
 use Rattle.sdd_base.specs.Holding.{Holding, ValuesAreOf}
 use Rattle.sdd_base.specs.World.{World, is_loose}
 use Rattle.sdd_base.specs.Lending.{Lending}

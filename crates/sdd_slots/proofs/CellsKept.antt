@@ -13,7 +13,7 @@ use Rattle.sdd_store.specs.Table.{Entries, entry_at}
 use Rattle.sdd_store.specs.declared.standing.Cell.{Cell}
 use Rattle.sdd_store.proofs.Adopting.{same-or-not}
 use Rattle.sdd_slots.proofs.SlotsKept.{none-of, none-at}
-use Rattle.sdd_slots.specs.Cells.{AreKept, Fits, MayHold, right_at, slot_held}
+use Rattle.sdd_standings.specs.Cells.{AreKept, Fits, MayHold, right_at, slot_held}
 
 -- what is kept of a cell's number
 abbrev pub kept_at : List Kept → ℕ → Kept
@@ -47,9 +47,11 @@ module _ {home slots : Home} {kept : List Kept} {cells : Entries Cell} {rights :
   pub held-there : (k : ℕ) (of : Kind) → AreKept home slots kept cells rights → (kept_at kept k).kind ≡ of → IsOwner of →
       IsSome (entry_at cells k) × IfSome (entry_at cells k) (λ cell. slot_held (right_at rights k) ≡ cell.held) × MayHold slots of (right_at rights k)
   held-there k of a e o = held-if (entry_at cells k) refl where
-    held-if : (c : Option Cell) → entry_at cells k ≡ c → IsSome c × IfSome c (λ cell. slot_held (right_at rights k) ≡ cell.held) × MayHold slots of (right_at rights k)
+    held-if : (c : Option Cell) → entry_at cells k ≡ c → IsSome c × IfSome c (λ cell. slot_held (right_at rights k) ≡ cell.held) ×
+        MayHold slots of (right_at rights k)
     held-if None is =
-        let free : (kept_at kept k).kind ≡ kind.Free = ap (λ (x : Kept). x.kind) (subst (λ c. Fits slots (kept_at kept k) c (right_at rights k)) is (a.each k)).0 in
+        let free : (kept_at kept k).kind ≡ kind.Free = ap (λ (x : Kept). x.kind) (subst (λ c. Fits slots (kept_at kept k) c (right_at rights k)) is
+        (a.each k)).0 in
         let never : is_owner kind.Free ≡ true = rw (sym e ∙ free) at o in absurd (cc)
     held-if (Some cell) is =
         let f = subst (λ c. Fits slots (kept_at kept k) c (right_at rights k)) is (a.each k) in
@@ -65,7 +67,8 @@ module _ {home slots : Home} {kept : List Kept} {cells : Entries Cell} {rights :
   whole-again k of a e o le = again-if (entry_at cells k) refl where
     again-if : (c : Option Cell) → entry_at cells k ≡ c → (kept_at kept k).units + right_units of ≡ 2 ^ 63
     again-if None is =
-        let free : (kept_at kept k).kind ≡ kind.Free = ap (λ (x : Kept). x.kind) (subst (λ c. Fits slots (kept_at kept k) c (right_at rights k)) is (a.each k)).0 in
+        let free : (kept_at kept k).kind ≡ kind.Free = ap (λ (x : Kept). x.kind) (subst (λ c. Fits slots (kept_at kept k) c (right_at rights k)) is
+        (a.each k)).0 in
         let never : is_owner kind.Free ≡ true = rw (sym e ∙ free) at o in absurd (cc)
     again-if (Some cell) is =
         let f = subst (λ c. Fits slots (kept_at kept k) c (right_at rights k)) is (a.each k) in

@@ -12,7 +12,7 @@ use Rattle.sdd_token.specs.declared.right.Kind.TheVariants as kind
 use Rattle.sdd_store.specs.Table.{Entries}
 use Rattle.sdd_store.specs.declared.standing.Standing.{Standing}
 use Rattle.sdd_store.specs.declared.standing.Standing.TheVariants.{Owned, Raw, Shared, Retired, Private}
-use Rattle.sdd_slots.specs.Slots.{AreKept, IsWaiting, is_waiting, IsBounded, IsSharedBy, IsOwnedBy, kept_of, first_standing, owners_of}
+use Rattle.sdd_standings.specs.Slots.{AreKept, IsWaiting, is_waiting, IsBounded, IsSharedBy, IsOwnedBy, kept_of, first_standing, owners_of}
 
 -- each of the same, mapped
 pub map-replicate : {X Y : Type 0} (f : X → Y) (n : ℕ) (x : X) → map f (replicate n x) ≡ replicate n (f x)
@@ -265,7 +265,8 @@ keeps-value {T} {home} {kept} {standings} {values} k s e b a = record {
 
 -- the same, where what is kept of it is told otherwise
 pub keeps-so : {T : Type 0} {home : Home} {kept : List Kept} {standings : Entries Standing} {values : List (Option T)} (k : ℕ)
-    (s : Option Standing) (x : Kept) → kept_of s ≡ x → is_some s ≡ is_some (slice_index_or standings k None) → IsBounded s → AreKept home kept standings values →
+    (s : Option Standing) (x : Kept) → kept_of s ≡ x → is_some s ≡ is_some (slice_index_or standings k None) → IsBounded s →
+    AreKept home kept standings values →
     AreKept home (slice_set kept k x) (slice_set standings k s) values
 keeps-so k s x e f b a = rw (← e) (keeps-value k s f b a)
 

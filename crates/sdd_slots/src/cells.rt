@@ -1,7 +1,7 @@
 ghost use Rattle.std.specs.Prelude.{◌≡◌, ◌<◌, ◌↔◌, All, IfErr, IfNone, IfOk, IfSome, IsNone, IsSome, IsTrue, MatchResult, None, OnErr, Some, length, option_copied, replicate, slice_get};
 ghost use Rattle.sdd_token.specs.Kind.{IsOwner};
 ghost use Rattle.sdd_token.specs.Right.{number_of, home_of, kind_of, raw_number_of, raw_home_of, badge_home};
-ghost use Rattle.sdd_slots.specs.Cells.{slot_held, null_cell, null_pointer};
+ghost use Rattle.sdd_standings.specs.Cells.{slot_held, null_cell, null_pointer};
 ghost use Rattle.sdd_store.specs.Table.{IsEmptyAt, IsFull, entry_at};
 
 use sdd_core::Tag;
@@ -30,7 +30,7 @@ pub struct Cells {
 impl Model for Cells {
     ghost use Rattle.std.specs.Prelude.{◌≡◌, length};
     ghost use Rattle.sdd_token.specs.Right.{badge_home};
-    ghost use Rattle.sdd_slots.specs.Cells.{Cells, AreKept};
+    ghost use Rattle.sdd_standings.specs.Cells.{Cells, AreKept};
 
     ghost Value = { Cells };
 
@@ -40,7 +40,7 @@ impl Model for Cells {
 }
 
 impl Cells {
-    ghost use Rattle.sdd_slots.specs.Cells.{cell_with, slot_held, with_cell, without_cell, with_pointer, MayHold};
+    ghost use Rattle.sdd_standings.specs.Cells.{cell_with, slot_held, with_cell, without_cell, with_pointer, MayHold};
 
     /// That many cells, all free, in a home of their own, for owners of these slots.
     pub fn new(alloc: Global, size: u32, slots: Badge) -> Result<Cells, AllocError>

@@ -5,7 +5,7 @@ ghost use Rattle.sdd_token.specs.Kind.{IsOwner};
 ghost use Rattle.sdd_token.specs.Right.{number_of, home_of, kind_of, badge_home};
 ghost use Rattle.sdd_token.specs.Shares as shares;
 ghost use Rattle.sdd_store.specs.Table.{IsEmptyAt, IsFull};
-ghost use Rattle.sdd_slots.specs.Slots.{standing_at, value_at, with_made, with_standing, with_value, without_slot, first_standing, let_go, let_go_to, has_others, owners_of, IsOwnedBy, IsSharedBy, IsWaiting};
+ghost use Rattle.sdd_standings.specs.Slots.{standing_at, value_at, with_made, with_standing, with_value, without_slot, first_standing, let_go, let_go_to, has_others, owners_of, IsOwnedBy, IsSharedBy, IsWaiting};
 
 use sdd_places::{Ended, Places, Tenure};
 use sdd_store::{Standing, Table};
@@ -26,7 +26,7 @@ pub struct Slots<T> {
 }
 
 impl<T> Model for Slots<T> {
-    ghost use Rattle.sdd_slots.specs.Slots.{Slots, AreKept};
+    ghost use Rattle.sdd_standings.specs.Slots.{Slots, AreKept};
 
     ghost Value = { Slots T };
 

@@ -17,7 +17,7 @@ use Rattle.sdd_store.specs.Time as time
 use Rattle.sdd_store.specs.Time.{CanNest, IsCrowded, IsVacant, has_garbage, is_open}
 use Rattle.sdd_store.specs.declared.waiting.What.TheVariants.{Item, Job}
 use Rattle.sdd_store.specs.declared.standing.Standing.TheVariants as standing
-use Rattle.sdd_slots.specs.Slots.{IsSharedBy}
+use Rattle.sdd_standings.specs.Slots.{IsSharedBy}
 use Rattle.sdd_base.specs.declared.owned.Owned.{Owned}
 use Rattle.sdd_base.specs.declared.shared.Shared.{Shared}
 use Rattle.sdd_base.specs.Calls.{IsFirst}

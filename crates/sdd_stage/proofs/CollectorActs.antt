@@ -8,7 +8,7 @@ use Rattle.std.proofs.lemmas.Bool.{false≢true}
 use Rattle.std.proofs.lemmas.List.{length-map, map-set, map_push, set-get_or, set-set}
 use Rattle.sdd_core.specs.declared.refused.Refused.TheVariants.{GuardOpen, NoCell}
 use Rattle.sdd_store.specs.Table.{IsEmptyAt, IsFull, entry_at}
-use Rattle.sdd_slots.specs.Cells.{null_pointer}
+use Rattle.sdd_standings.specs.Cells.{null_pointer}
 use Rattle.sdd_base.specs.declared.private_collector.PrivateCollector.{PrivateCollector}
 use Rattle.sdd_base.specs.Collecting.{collector_closed, waiting_for, without_collector as freed_collector}
 use Rattle.sdd_base.specs.Collector as collector

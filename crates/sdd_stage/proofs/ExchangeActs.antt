@@ -11,7 +11,7 @@ use Rattle.sdd_core.specs.declared.refused.Refused.TheVariants.{NoCell, TooManyO
 use Rattle.sdd_store.specs.Table.{IsEmptyAt, IsFull, entry_at}
 use Rattle.sdd_store.specs.declared.standing.Cell.{Cell}
 use Rattle.sdd_store.specs.declared.standing.Standing.TheVariants as standing
-use Rattle.sdd_slots.specs.Slots.{IsSharedBy}
+use Rattle.sdd_standings.specs.Slots.{IsSharedBy}
 use Rattle.sdd_base.specs.declared.shared.Shared.{Shared}
 use Rattle.sdd_base.specs.declared.atomic_shared.AtomicShared.{AtomicShared}
 use Rattle.sdd_base.specs.Calls.Calls.{shares}

@@ -3,7 +3,7 @@ use Rattle.std.proofs.Common.{◌≡◌, ◌≢◌, ℕ, ◌^◌, Some, None, is
 use Rattle.sdd_core.specs.declared.refused.Refused.{Refused}
 use Rattle.sdd_core.specs.declared.refused.Refused.TheVariants.{TooManyOwners}
 use Rattle.sdd_store.specs.declared.standing.Standing.TheVariants as standing
-use Rattle.sdd_slots.specs.Slots.{IsSharedBy}
+use Rattle.sdd_standings.specs.Slots.{IsSharedBy}
 use Rattle.sdd_base.specs.Whole.{IsWhole}
 use Rattle.sdd_base.specs.World.{standing_at}
 use Rattle.sdd_base.specs.declared.shared.Shared.{Shared}

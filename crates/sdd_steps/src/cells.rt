@@ -29,7 +29,8 @@ impl Step for MakesCell {
 
     ghost asks = { λ step home _ world. ¬ (IsFull world.cells) × IfSome (filling_holding step.filling) (IsOf home) };
 
-    ghost does = { λ step home _ before made after. (k : ℕ) × (cell_holding made ≡ holding_around (filling_kind step.filling) k home.cells) × IsEmptyAt before.cells k
+    ghost does = { λ step home _ before made after. (k : ℕ) × (cell_holding made ≡ holding_around (filling_kind step.filling) k home.cells) ×
+        IsEmptyAt before.cells k
         × (after ≡ with_cell before k (record { held = slot_of (filling_holding step.filling); tag = no_tag })) };
 
     fn done<S: Space<Val, Job = Idle>>(self, s: &mut S) -> ACell {
@@ -91,7 +92,8 @@ impl Step for ReadsTag<'_> {
 
     ghost asks = { λ step home _ _. IsOf home (cell_holding step.cell.now) };
 
-    ghost does = { λ step _ _ before tag after. (held : Cell) × (entry_at before.cells (cell_number step.cell.now) ≡ Some held) × (tag ≡ held.tag) × (after ≡ before) };
+    ghost does = { λ step _ _ before tag after. (held : Cell) × (entry_at before.cells (cell_number step.cell.now) ≡ Some held) × (tag ≡ held.tag) ×
+        (after ≡ before) };
 
     fn done<S: Space<Val, Job = Idle>>(self, s: &mut S) -> Tag {
         let ReadsTag { cell } = self;

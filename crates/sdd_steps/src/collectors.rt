@@ -2,7 +2,7 @@
 ghost use Rattle.std.specs.Prelude.{◌≡◌, IfErr, IfOk, MatchResult};
 ghost use Rattle.sdd_core.specs.declared.refused.Refused.TheVariants as refused;
 ghost use Rattle.sdd_store.specs.Table.{IsEmptyAt, IsFull};
-ghost use Rattle.sdd_slots.specs.Cells.{null_pointer};
+ghost use Rattle.sdd_standings.specs.Cells.{null_pointer};
 ghost use Rattle.sdd_base.specs.Collecting.{collector_closed};
 ghost use Rattle.sdd_base.specs.Collector.{collector_of, cells_home};
 ghost use Rattle.sdd_base.specs.Guard.{reader_of};

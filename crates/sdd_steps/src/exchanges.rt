@@ -3,7 +3,7 @@ ghost use Rattle.std.specs.Prelude.{◌≡◌, ◌≢◌, ◌⊎◌, ◌+◌, �
 ghost use Rattle.sdd_store.specs.Table.{IsEmptyAt, IsFull, entry_at};
 ghost use Rattle.sdd_store.specs.declared.standing.Standing.TheVariants.{Shared as shared_by};
 ghost use Rattle.sdd_store.specs.declared.standing.Cell.{Cell};
-ghost use Rattle.sdd_slots.specs.Slots.{IsSharedBy};
+ghost use Rattle.sdd_standings.specs.Slots.{IsSharedBy};
 ghost use Rattle.sdd_base.specs.Holding.{IsOf};
 ghost use Rattle.sdd_base.specs.Ptr.{cell_seen, slot_named};
 ghost use Rattle.sdd_base.specs.Steps.{with_cell, with_standing, without_cell};

@@ -1,7 +1,7 @@
 //! What participants do with the owners of items.
 ghost use Rattle.std.specs.Prelude.{◌≡◌, ◌≢◌, ◌+◌, ◌^◌, ◌<◌, ℕ, IfOk, IsTrue, ◌↔◌, Some, MatchOption, MatchResult};
 ghost use Rattle.sdd_store.specs.declared.standing.Standing.TheVariants.{Shared as shared_by};
-ghost use Rattle.sdd_slots.specs.Slots.{IsSharedBy};
+ghost use Rattle.sdd_standings.specs.Slots.{IsSharedBy};
 ghost use Rattle.sdd_base.specs.Steps.{retired, owner_given, with_standing};
 ghost use Rattle.sdd_base.specs.World.{standing_at};
 ghost use Rattle.sdd_base.specs.Owned.{slot_of, slots_home};
@@ -27,7 +27,8 @@ impl Step for RetiresItem {
 
     ghost asks = { λ step home _ _. slots_home step.owner ≡ home.slots };
 
-    ghost does = { λ step _ place before _ after. (after ≡ retired before place (slot_of step.owner)) × (standing_at before (slot_of step.owner) ≡ Some standing.Owned) };
+    ghost does = { λ step _ place before _ after. (after ≡ retired before place (slot_of step.owner)) ×
+        (standing_at before (slot_of step.owner) ≡ Some standing.Owned) };
 
     fn done<S: Space<Val, Job = Idle>>(self, s: &mut S) {
         let RetiresItem { owner } = self;
@@ -45,7 +46,8 @@ impl Step for ReleasesOwner {
 
     ghost asks = { λ step home _ _. shared_owner.slots_home step.owner ≡ home.slots };
 
-    ghost does = { λ step _ place before was_last after. (owners : ℕ) × IsSharedBy owners (standing_at before (shared_owner.slot_of step.owner)) × (IsTrue was_last ↔ (owners ≡ 1))
+    ghost does = { λ step _ place before was_last after. (owners : ℕ) × IsSharedBy owners (standing_at before (shared_owner.slot_of step.owner)) ×
+        (IsTrue was_last ↔ (owners ≡ 1))
         × (after ≡ owner_given before place (shared_owner.slot_of step.owner) (Some (shared_by owners))) };
 
     fn done<S: Space<Val, Job = Idle>>(self, s: &mut S) -> bool {

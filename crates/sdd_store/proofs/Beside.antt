@@ -12,7 +12,8 @@ none-row X zero = refl
 none-row X (suc n) = ap (λ (bs : List Bool). false ∷ bs) (none-row X n)
 
 module _ {X : Type 0} where
-  pub beside-none : (n : ℕ) (numbers : Entries (Unit {0})) (jobs : List (Option X)) → numbers ≡ replicate n None → jobs ≡ replicate n None → AreBeside numbers jobs
+  pub beside-none : (n : ℕ) (numbers : Entries (Unit {0})) (jobs : List (Option X)) → numbers ≡ replicate n None → jobs ≡ replicate n None →
+      AreBeside numbers jobs
   beside-none n numbers jobs numbers_are jobs_are = rw (numbers_are, jobs_are) record { filled = none-row X n ∙ sym (none-row (Unit {0}) n) }
 
   -- both change at one place

@@ -33,7 +33,8 @@ module _ {E : Type 0} where
   }
 
   -- the same of lists that are these
-  pub fresh-as : (n room : ℕ) (entries : List (Option E)) (empty : List ℕ) → entries ≡ replicate n None → empty ≡ range_with_len 0 n → n ≤ room → IsListed entries empty room
+  pub fresh-as : (n room : ℕ) (entries : List (Option E)) (empty : List ℕ) → entries ≡ replicate n None → empty ≡ range_with_len 0 n → n ≤ room →
+      IsListed entries empty room
   fresh-as n room entries empty all numbers fits =
       subst (λ xs. IsListed {E = E} xs empty room) (sym all)
       (subst (λ ks. IsListed {E = E} (replicate n None) ks room) (sym numbers) (fresh n room fits))

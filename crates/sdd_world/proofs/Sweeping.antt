@@ -17,7 +17,7 @@ use Rattle.sdd_store.specs.declared.time.Participant.{Participant}
 use Rattle.sdd_store.specs.declared.standing.Cell.{Cell}
 use Rattle.sdd_store.specs.declared.standing.Standing.{Standing}
 use Rattle.sdd_store.specs.declared.standing.Standing.TheVariants.{Owned, Raw, Shared, Retired, Private as privately}
-use Rattle.sdd_slots.specs.Slots.{is_waiting, IsWaiting}
+use Rattle.sdd_standings.specs.Slots.{is_waiting, IsWaiting}
 use Rattle.sdd_base.specs.World.{World, standing_at, value_at, place_at}
 use Rattle.sdd_base.specs.Steps.{without_cell, spilled, cell_closed, held_in, owner_given, given, given_all, freed, taken_out, waiting_value, reclaimed, all_reclaimed, changed}
 use Rattle.sdd_base.specs.Steps as steps

@@ -6,7 +6,7 @@ use Rattle.sdd_store.specs.Tally.{one_reclaimed}
 use Rattle.sdd_store.specs.declared.tally.Tally.{Tally}
 use Rattle.sdd_store.specs.declared.standing.Standing.{Standing}
 use Rattle.sdd_store.specs.declared.standing.Standing.TheVariants.{Owned, Raw, Shared, Retired, Private as privately}
-use Rattle.sdd_slots.specs.Slots.{IsWaiting}
+use Rattle.sdd_standings.specs.Slots.{IsWaiting}
 use Rattle.sdd_base.specs.Holding.{Holding, owned, shared, atomic_owned, atomic_shared, atomic_raw}
 use Rattle.sdd_base.specs.World.{World, place_at, standing_at, value_at}
 use Rattle.sdd_base.specs.Steps.{changed, held_in}

@@ -9,7 +9,7 @@ ghost use Rattle.sdd_base.specs.Under.{Stays};
 ghost use Rattle.sdd_base.specs.Owned.{slot_of, slots_home, cell_of, cells_home};
 ghost use Rattle.sdd_base.specs.Shared as shared;
 ghost use Rattle.sdd_token.specs.Shares as shares;
-ghost use Rattle.sdd_slots.specs.Slots.{IsSharedBy};
+ghost use Rattle.sdd_standings.specs.Slots.{IsSharedBy};
 ghost use Rattle.sdd_store.specs.Table.{IsFull};
 ghost use Rattle.sdd_store.specs.declared.standing.Standing.TheVariants as standing;
 ghost use Rattle.sdd_base.specs.Steps.{reclaims, retired, owner_given, cell_closed, without_cell, with_standing};

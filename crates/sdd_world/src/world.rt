@@ -1,6 +1,6 @@
 ghost use Rattle.std.specs.Prelude.{◌≡◌, ◌≢◌, ℕ, ◌+◌, ◌<◌, ◌≤◌, ◌⊎◌, [], false, map, length, Some, None, Option, IfOk, IfSome, MatchOption, MatchResult, IsSome, IsTrue, ◌↔◌};
 ghost use Rattle.sdd_token.specs.Right.{number_of, home_of, kind_of, raw_number_of, raw_home_of};
-ghost use Rattle.sdd_slots.specs.Slots.{IsOwnedBy};
+ghost use Rattle.sdd_standings.specs.Slots.{IsOwnedBy};
 ghost use Rattle.sdd_store.specs.Time.{CanNest, phase_at, IsVacant, IsCrowded, is_open, due_next};
 ghost use Rattle.sdd_store.specs.Table.{IsEmptyAt, IsFull};
 ghost use Rattle.sdd_base.specs.Holding.{AreOf};

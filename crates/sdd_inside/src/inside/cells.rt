@@ -2,8 +2,8 @@
 ghost use Rattle.std.specs.Prelude.{◌≡◌, ◌≢◌, ℕ, ◌+◌, ◌^◌, ◌<◌, ◌⊎◌, Some, IsSome, MatchOption, MatchResult, IfOk, IfSome, IsTrue, ◌↔◌};
 ghost use Rattle.sdd_token.specs.Kind.{IsOwner};
 ghost use Rattle.sdd_token.specs.Right.{number_of, home_of, kind_of};
-ghost use Rattle.sdd_slots.specs.Slots.{IsOwnedBy, IsSharedBy};
-ghost use Rattle.sdd_slots.specs.Cells.{MayHold, cell_with, slot_held};
+ghost use Rattle.sdd_standings.specs.Slots.{IsOwnedBy, IsSharedBy};
+ghost use Rattle.sdd_standings.specs.Cells.{MayHold, cell_with, slot_held};
 ghost use Rattle.sdd_store.specs.Time as time;
 ghost use Rattle.sdd_store.specs.Table.{entry_at, IsEmptyAt, IsFull};
 ghost use Rattle.sdd_base.specs.World.{KeepsSizes, standing_at, HasPlace};

@@ -1,7 +1,7 @@
 //! Items are collected for a private collector, and go with it.
 ghost use Rattle.std.specs.Prelude.{◌≡◌, ◌+◌, ◌≤◌, if◌then◌else◌, [], length, vec_capacity, IsTrue, ◌↔◌};
 ghost use Rattle.sdd_token.specs.Right.{number_of, home_of, kind_of, raw_number_of, raw_home_of};
-ghost use Rattle.sdd_slots.specs.Slots.{IsOwnedBy, has_others, let_go_to};
+ghost use Rattle.sdd_standings.specs.Slots.{IsOwnedBy, has_others, let_go_to};
 ghost use Rattle.sdd_base.specs.World.{most, weight, IsGuarded, KeepsSizes, standing_at, IsPlaceOf};
 ghost use Rattle.sdd_base.specs.Steps.{with_standing};
 ghost use Rattle.sdd_base.specs.Out.{IsNullCell};

@@ -3,7 +3,7 @@ ghost use Rattle.std.specs.Fn.{FnOnceReturnsAtMut};
 ghost use Rattle.std.specs.Prelude.{◌≡◌, ℕ, Some, IsSome, MatchOption, MatchResult, IsTrue, ◌↔◌};
 ghost use Rattle.sdd_token.specs.Kind.{IsOwner};
 ghost use Rattle.sdd_token.specs.Right.{number_of, home_of, kind_of};
-ghost use Rattle.sdd_slots.specs.Slots.{IsOwnedBy, first_standing};
+ghost use Rattle.sdd_standings.specs.Slots.{IsOwnedBy, first_standing};
 ghost use Rattle.sdd_store.specs.Table.{IsEmptyAt, IsFull};
 ghost use Rattle.sdd_base.specs.Holding.{AreOf};
 ghost use Rattle.sdd_base.specs.World.{KeepsSizes, standing_at, value_at};

@@ -1,7 +1,7 @@
 //! Values are lent to guards.
 ghost use Rattle.std.specs.Prelude.{◌≡◌, Some, IsSome, IfSome, ◌↔◌};
 ghost use Rattle.sdd_token.specs.Right.{number_of, home_of, kind_of};
-ghost use Rattle.sdd_slots.specs.Slots.{IsOwnedBy};
+ghost use Rattle.sdd_standings.specs.Slots.{IsOwnedBy};
 ghost use Rattle.sdd_base.specs.Ptr.{IsShown, cell_seen, slot_named};
 ghost use Rattle.sdd_store.specs.Table.{entry_at};
 ghost use Rattle.sdd_base.specs.World.{standing_at, value_at, HasPlace};

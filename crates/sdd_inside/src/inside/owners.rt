@@ -2,7 +2,7 @@
 ghost use Rattle.std.specs.Prelude.{◌≡◌, ◌≢◌, ℕ, ◌+◌, ◌^◌, ◌<◌, ◌≤◌, if◌then◌else◌, Some, None, IsSome, MatchOption, MatchResult, IfOk, IfSome, IsTrue, ◌↔◌};
 ghost use Rattle.sdd_token.specs.Right.{number_of, home_of, kind_of};
 ghost use Rattle.sdd_token.specs.Shares as shares;
-ghost use Rattle.sdd_slots.specs.Slots.{IsOwnedBy, IsSharedBy, has_others, let_go, owners_of};
+ghost use Rattle.sdd_standings.specs.Slots.{IsOwnedBy, IsSharedBy, has_others, let_go, owners_of};
 ghost use Rattle.sdd_store.specs.Time as time;
 ghost use Rattle.sdd_base.specs.World.{KeepsSizes, standing_at, HasPlace};
 ghost use Rattle.sdd_base.specs.Steps.{with_standing, retired, owner_given};

@@ -3,7 +3,7 @@
 
 ghost use Rattle.std.specs.Prelude.{◌≡◌, ◌≢◌, ◌+◌, ◌^◌, ◌<◌, ℕ, IfOk, IsTrue, ◌↔◌, None, Some, MatchOption, MatchResult};
 ghost use Rattle.sdd_store.specs.declared.standing.Standing.TheVariants.{Shared as shared_by};
-ghost use Rattle.sdd_slots.specs.Slots.{IsSharedBy};
+ghost use Rattle.sdd_standings.specs.Slots.{IsSharedBy};
 ghost use Rattle.sdd_base.specs.Steps.{retired, owner_given, with_standing};
 ghost use Rattle.sdd_base.specs.World.{World, IsPlaceOf, standing_at};
 ghost use Rattle.sdd_base.specs.Owned.{slot_of, slots_home};

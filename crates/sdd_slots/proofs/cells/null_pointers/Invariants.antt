@@ -1,5 +1,5 @@
 use Rattle.std.proofs.Common.{◌≡◌, ◌≤◌, vec_len, vec_capacity, replicate}
-use Rattle.sdd_slots.specs.Cells.{null_pointer}
+use Rattle.sdd_standings.specs.Cells.{null_pointer}
 use Rattle.sdd_slots.proofs.cells.null_pointers.Given as goal
 
 abbrev pub invariant-loop-cell : goal.invariant-loop-cell

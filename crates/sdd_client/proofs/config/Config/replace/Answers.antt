@@ -16,7 +16,8 @@ returns-clause-exact g c = λ exact slot owners old set.
     let second : IsExact (seat c.swap-before.new.s) = rw swap.seat first in
     let gone = rw (swap.seat, make.seat) at (release.exact second) in
     let third : IsExact (seat c.release.new.s) = rw release.seat second in
-    let shown = (g.met.S.Guards.shows_is_value c.release.new.s third next c.args.value).0 (release.keeps next c.args.value (swap.keeps next c.args.value make.shown)) in
+    let shown = (g.met.S.Guards.shows_is_value c.release.new.s third next c.args.value).0
+    (release.keeps next c.args.value (swap.keeps next c.args.value make.shown)) in
     let done =
     replaces (world c.args.s.now) (seat c.args.s.now).place (cell_of c.args.self.now) slot owners next old c.args.value set made.0
     (world c.new.new.s) (world c.swap-before.new.s) (world c.release.new.s) (slot_of c.in-Some.owner) gone.0 c.swap-before.result.1

@@ -2,7 +2,7 @@ use Rattle.std.proofs.Common.{inl, inr, ℕ, refl}
 use Rattle.sdd_token.specs.Right.{number_of}
 use Rattle.sdd_token.specs.declared.right.Kind.{Kind}
 use Rattle.sdd_token.specs.declared.right.Kind.TheVariants as kind
-use Rattle.sdd_slots.specs.Slots.{first_standing}
+use Rattle.sdd_standings.specs.Slots.{first_standing}
 use Rattle.sdd_base.specs.Calls.{IsFirst}
 use Rattle.sdd_base.specs.Calls.Calls.{makes}
 use Rattle.sdd_base.proofs.Housed.{Whole-made_as, items}

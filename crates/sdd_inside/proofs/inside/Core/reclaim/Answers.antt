@@ -4,8 +4,8 @@ use Rattle.std.proofs.lemmas.List.{length-set}
 use Rattle.sdd_store.specs.Table.{Entries, without_entry}
 use Rattle.sdd_store.specs.Time.{Time, waiting_count}
 use Rattle.sdd_places.specs.Tenures.{Tenures}
-use Rattle.sdd_slots.specs.Slots.{Slots}
-use Rattle.sdd_slots.specs.Cells.{Cells}
+use Rattle.sdd_standings.specs.Slots.{Slots}
+use Rattle.sdd_standings.specs.Cells.{Cells}
 use Rattle.sdd_base.specs.Holding.{Holding}
 use Rattle.sdd_base.specs.World.{is_loose}
 use Rattle.sdd_base.proofs.Weights.{one-freed}

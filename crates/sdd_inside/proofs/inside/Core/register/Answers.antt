@@ -4,8 +4,8 @@ use Rattle.sdd_core.specs.declared.refused.Refused.{Refused}
 use Rattle.sdd_store.specs.Time.{Time, IsVacant}
 use Rattle.sdd_store.specs.Time as time
 use Rattle.sdd_places.specs.Tenures.{Tenures}
-use Rattle.sdd_slots.specs.Slots.{Slots}
-use Rattle.sdd_slots.specs.Cells.{Cells}
+use Rattle.sdd_standings.specs.Slots.{Slots}
+use Rattle.sdd_standings.specs.Cells.{Cells}
 use Rattle.sdd_store.specs.Table.{Entries}
 use Rattle.sdd_base.specs.Holding.{Holding}
 use Rattle.sdd_base.specs.Lending.{Lending}

@@ -6,8 +6,8 @@ use Rattle.sdd_store.specs.Time.{Time}
 use Rattle.sdd_store.specs.declared.standing.Standing.TheVariants.{Owned, Raw}
 use Rattle.sdd_store.specs.declared.tally.Tally.{Tally}
 use Rattle.sdd_places.specs.Tenures.{Tenures}
-use Rattle.sdd_slots.specs.Cells.{Cells}
-use Rattle.sdd_slots.specs.Slots.{Slots, standing_at, with_standing}
+use Rattle.sdd_standings.specs.Cells.{Cells}
+use Rattle.sdd_standings.specs.Slots.{Slots, standing_at, with_standing}
 use Rattle.sdd_base.specs.Out.{is_out}
 use Rattle.sdd_base.specs.Calls.Calls.{takes_back_raw}
 use Rattle.sdd_base.specs.Whole.{IsWhole}

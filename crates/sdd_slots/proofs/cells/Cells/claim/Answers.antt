@@ -1,6 +1,6 @@
 use Rattle.std.proofs.Common.{refl, arith, Some}
 use Rattle.sdd_token.specs.Rights.{granted}
-use Rattle.sdd_slots.specs.Cells.{cell_with}
+use Rattle.sdd_standings.specs.Cells.{cell_with}
 use Rattle.sdd_slots.proofs.CellsKept.{cells-keep}
 use Rattle.sdd_slots.proofs.cells.Cells.claim.Goals as goal
 

@@ -1,6 +1,6 @@
 use Rattle.std.proofs.Common.{sym, ◌∙◌}
 use Rattle.std.proofs.lemmas.List.{length-replicate}
-use Rattle.sdd_slots.specs.Cells.{null_pointer}
+use Rattle.sdd_standings.specs.Cells.{null_pointer}
 use Rattle.sdd_token.specs.Right.{badge_home}
 use Rattle.sdd_slots.proofs.CellsKept.{all-cells-free}
 use Rattle.sdd_slots.proofs.cells.Cells.new.Goals as goal

@@ -6,7 +6,7 @@ use Rattle.sdd_store.specs.declared.standing.Standing.TheVariants.{Shared}
 use Rattle.sdd_token.specs.Rights.{Kept, whole}
 use Rattle.sdd_token.specs.declared.right.Kind.TheVariants.{Free}
 use Rattle.sdd_token.specs.Shares.{count_of}
-use Rattle.sdd_slots.specs.Slots.{kept_of}
+use Rattle.sdd_standings.specs.Slots.{kept_of}
 use Rattle.sdd_slots.proofs.SlotsKept.{keeps-so, kept-there, but-one-kept, no-more-than, shared-bounded}
 use Rattle.sdd_slots.proofs.slots.Slots.let_go_but_one.Goals as goal
 

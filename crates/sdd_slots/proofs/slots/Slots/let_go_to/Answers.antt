@@ -20,7 +20,8 @@ invariant_of-self g c =
     more-owners s (omega (arith, same, c.if-owners-gt1.true)) ∙ ap (λ (n : ℕ). Some (Shared n)) (sym same) in
     let there = kept-there slot c.self.invariant in
     let most : owners ≤ 2 ^ 62 = (c.self.invariant.bounded slot owners is).most in
-    let kind = sym (ap (λ (x : Kept). x.kind) there) ∙ ap (λ (k : ℕ). (slice_index_or c.self.inside.rights.kept k (whole Free)).kind) (sym here) ∙ c.redeem.ensures.kind in
+    let kind = sym (ap (λ (x : Kept). x.kind) there) ∙ ap (λ (k : ℕ). (slice_index_or c.self.inside.rights.kept k (whole Free)).kind) (sym here) ∙
+    c.redeem.ensures.kind in
     rw (c.redeem.ensures.home, c.redeem.ensures.kept, c.replace.ensures, here)
     (keeps-so slot (Some (Shared (owners - 1))) _
     (fewer-kept s _ owners is c.if-owners-gt1.true most kind ∙ ap (λ (x : Kept). record x { units = x.units + right_units (kind_of c.args.right) }) (sym there))
@@ -31,6 +32,14 @@ invariant_of-self-2 g c =
     let slot = c.slot_of-slot.result in
     let s = slice_index_or c.self.inside.standings slot None in
     let here : c.redeem.result ≡ slot = c.redeem.ensures.number ∙ sym c.slot_of-slot.ensures.slot in
-    rw (c.set.ensures.home, c.set.ensures.kept, c.redeem.ensures.home, c.redeem.ensures.kept, c.replace-2.ensures, here, set-set c.self.inside.rights.kept slot _ _)
+    rw (
+      c.set.ensures.home,
+      c.set.ensures.kept,
+      c.redeem.ensures.home,
+      c.redeem.ensures.kept,
+      c.replace-2.ensures,
+      here,
+      set-set c.self.inside.rights.kept slot _ _,
+    )
     (keeps-so slot (Some c.args.last) (whole KindRetired) (waiting-kept c.args.last c.requires.waits)
     (sym (rw (← c.self.view_is) at c.slot_of-slot.ensures.taken)) (waiting-bounded c.args.last c.requires.waits) c.self.invariant)

@@ -9,4 +9,9 @@ take-requires-clause-filled g c =
     filled-there c.args.slot c.self.invariant ∙ some
 
 pub invariant_of-self : goal.invariant_of-self
-invariant_of-self g c = rw (c.set.ensures.home, c.set.ensures.kept, c.release.ensures, c.take.ensures.taken) (keeps c.args.slot None None refl (λ n e. absurd (cc)) c.self.invariant)
+invariant_of-self g c = rw (
+  c.set.ensures.home,
+  c.set.ensures.kept,
+  c.release.ensures,
+  c.take.ensures.taken,
+) (keeps c.args.slot None None refl (λ n e. absurd (cc)) c.self.invariant)

@@ -61,5 +61,11 @@ pub returns-clause-taken : goal.returns-clause-taken
 returns-clause-taken c =
     let chosen = is_kept_for c.args.collector c.args.standings.now in
     let own = c.self.inside in
-    rw (← c.self.view_is, c.pick-3.ensures.picked, c.pick-2.ensures.picked, c.pick.ensures.picked, chosen-waiting chosen own.next.items own.previous.items own.current.items)
+    rw (
+      ← c.self.view_is,
+      c.pick-3.ensures.picked,
+      c.pick-2.ensures.picked,
+      c.pick.ensures.picked,
+      chosen-waiting chosen own.next.items own.previous.items own.current.items,
+    )
     (simp (append_assoc))

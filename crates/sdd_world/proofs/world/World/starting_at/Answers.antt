@@ -2,7 +2,7 @@ use Rattle.std.proofs.Common.{ap, sym, ◌∙◌, arith, Option, sum_by}
 use Rattle.std.specs.Prelude.{is_some}
 use Rattle.sdd_store.specs.Table.{Entries, entry_at}
 use Rattle.sdd_store.specs.declared.standing.Standing.{Standing}
-use Rattle.sdd_slots.specs.Slots.{is_waiting}
+use Rattle.sdd_standings.specs.Slots.{is_waiting}
 use Rattle.sdd_base.specs.Whole.{times_with, jobs_with, once_if}
 use Rattle.sdd_base.proofs.Accounts.{blank-at}
 use Rattle.std.proofs.lemmas.Grind.{common_steps}
