@@ -2,4 +2,5 @@ pub mod Lending
 pub mod Quiet
 pub mod Collecting
 pub mod Letting
+pub mod Sound
 pub mod InPlace
