@@ -34,6 +34,15 @@ found kind.Raw s h o = absurd (cc)
 found kind.Shared s h o = let n = o.together refl in rw n.1.shared (several n.0)
 found kind.Retired s h o = absurd (cc)
 
+-- its item is out
+pub found-out : (s : Option Standing) → Found s → is_out s ≡ true
+found-out None f = elim f [ ]
+found-out (Some Raw) f = elim f [ ]
+found-out (Some Retired) f = elim f [ ]
+found-out (Some (privately d)) f = elim f [ ]
+found-out (Some Owned) f = refl
+found-out (Some (Shared n)) f = refl
+
 -- what a test that answered tells of others
 pub none-else : (r b : Bool) → (IsTrue r ↔ ¬ (IsTrue b)) → IsTrue r → b ≡ false
 none-else r true e h = absurd (e.0 h refl)
@@ -84,14 +93,6 @@ module _ {T : Type 0} (w : World T) (p c k : ℕ) where
   other-given (Some (privately d)) f h = elim f [ ]
   other-given (Some Owned) sole others = absurd (cc)
   other-given (Some (Shared n)) (several _) others = rw others refl
-
-  found-out : (s : Option Standing) → Found s → is_out s ≡ true
-  found-out None f = elim f [ ]
-  found-out (Some Raw) f = elim f [ ]
-  found-out (Some Retired) f = elim f [ ]
-  found-out (Some (privately d)) f = elim f [ ]
-  found-out (Some Owned) f = refl
-  found-out (Some (Shared n)) f = refl
 
   module _ (there : IsPlaceOf w p) (s : Option Standing) (is : standing_at w k ≡ s) (f : Found s) where
     out : is_out (standing_at w k) ≡ true

@@ -1,5 +1,7 @@
 pub mod Lending
 pub mod Quiet
 pub mod Collecting
+pub mod Copying
 pub mod Letting
+pub mod Sound
 pub mod InPlace

@@ -1,4 +1,6 @@
-ghost use Rattle.std.specs.Prelude.{◌≡◌, ◌+◌, ◌^◌, ◌<◌, [], IfOk, IsTrue, ◌↔◌};
+ghost use Rattle.std.specs.Prelude.{◌≡◌, ◌+◌, ◌^◌, ◌<◌, [], None, replicate, IfOk, IsTrue, ◌↔◌};
+ghost use Rattle.sdd_places.specs.Block.{unlent};
+ghost use Rattle.sdd_standings.specs.Cells.{null_pointer};
 ghost use Rattle.sdd_store.specs.Time as time;
 ghost use Rattle.sdd_base.specs.Holding.{ValuesAreOf};
 ghost use Rattle.sdd_base.specs.World.{IsBlank, IsGuarded};
@@ -75,14 +77,7 @@ impl<T: Item<T>, J: Job> Core<T, J> {
     {
         let tenures = Tenures::new(alloc, participants as usize)?;
         let jobs = Jobs::new(alloc, jobs)?;
-        let mut slots = Slots::new(alloc, slots, participants)?;
-        let cells = match Cells::new(alloc, cells, slots.badge()) {
-            Ok(cells) => cells,
-            Err(refused) => {
-                slots.destroy();
-                return Err(refused);
-            }
-        };
+        let (slots, cells) = free_tables(alloc, slots, cells, participants)?;
         Ok(Core {
             time,
             slots,
@@ -144,5 +139,30 @@ impl<T: Item<T>, J: Job> Core<T, J> {
         ensures { result ≡ self.now.world.tally }
     {
         self.tally
+    }
+}
+
+/// Slots, and cells for their owners, all free.
+fn free_tables<T>(
+    alloc: Global,
+    slots: u32,
+    cells: u32,
+    readers: u32,
+) -> Result<(Slots<T>, Cells), AllocError>
+    ensures standings { IfOk result (λ both. both.0.standings ≡ replicate slots None) }
+    ensures values { IfOk result (λ both. both.0.values ≡ replicate slots None) }
+    ensures stakes { IfOk result (λ both. both.0.stakes ≡ unlent slots readers) }
+    ensures readers { IfOk result (λ both. both.0.readers ≡ readers) }
+    ensures cells { IfOk result (λ both. both.1.cells ≡ replicate cells None) }
+    ensures pointers { IfOk result (λ both. both.1.pointers ≡ replicate cells null_pointer) }
+    ensures held { IfOk result (λ both. both.1.slots ≡ both.0.home) }
+{
+    let mut slots = Slots::new(alloc, slots, readers)?;
+    match Cells::new(alloc, cells, slots.badge()) {
+        Ok(cells) => Ok((slots, cells)),
+        Err(refused) => {
+            slots.destroy();
+            Err(refused)
+        }
     }
 }

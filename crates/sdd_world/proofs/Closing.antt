@@ -1,13 +1,14 @@
 -- The closing of a world goes on at one participant, and comes to an end
 use Rattle.std.proofs.Common.{◌≡◌, ℕ, ◌+◌, ◌-◌, ◌*◌, ◌<◌, ◌≤◌, List, [], ◌∷◌, ◌++◌, length, Bool, cond, count_by, sum_by, refl, sym, ap, ◌∙◌, arith, true, false, Some, None, map, take, drop, get_or, nat_lt, zero, suc, add-one, slice_index_or, slice_set, Option}
+use Rattle.std.specs.Prelude.{◌↔◌}
 use Rattle.std.proofs.lemmas.Grind.{common_steps}
-use Rattle.std.proofs.lemmas.List.{length-set, get_or_past, get_or-set_same, set-set, set-get_or}
+use Rattle.std.proofs.lemmas.List.{length-map, length-set, get_or_past, get_or-set_same, set-set, set-get_or}
 use Rattle.std.proofs.lemmas.Bool.Decides.{nat_tests}
 use Rattle.std.proofs.lemmas.List.Sums.{sum_by-set, sum_by_push, sum_by-cons}
 use Rattle.sdd_store.specs.declared.waiting.What.{What}
 use Rattle.sdd_store.specs.Waiting.{Waiting, fresh, aged, left, older, is_due}
 use Rattle.sdd_store.specs.declared.waiting.What.TheVariants.{Item, Job}
-use Rattle.sdd_store.specs.Time.{without_waiting, Time, with_place, nobody, pace_of, due_next, rotated}
+use Rattle.sdd_store.specs.Time.{without_waiting, Time, IsLive, with_place, nobody, pace_of, due_next, rotated}
 use Rattle.sdd_store.specs.Time as time
 use Rattle.sdd_store.specs.Table.{entry_at}
 use Rattle.sdd_store.specs.declared.time.Participant.{Participant}
@@ -22,7 +23,7 @@ use Rattle.sdd_base.specs.Out.{is_out}
 use Rattle.sdd_base.proofs.Standings.{out-inside, owner-given}
 use Rattle.sdd_inside.specs.Closing.{paced}
 use Rattle.sdd_inside.proofs.Lending.{SameGuards, guards-placed}
-use Rattle.sdd_world.specs.Closing.{aged_out, all_aged_out}
+use Rattle.sdd_world.specs.Closing.{aged_out, all_aged_out, emptied}
 
 -- how many changes it takes until what waits is gone, and one more
 abbrev to_go : Waiting → ℕ
@@ -299,3 +300,9 @@ emptied_next (x ∷ xs) (suc i) l = ap (λ (r : List Participant). without_waiti
 pub emptied_to-more : (t : Time) (i : ℕ) → i < length t.places →
     with_place (emptied_to t i) i (without_waiting (time.place_at (emptied_to t i) i)) ≡ emptied_to t (i + 1)
 emptied_to-more t i l = rw add-one (ap (λ (ps : List Participant). record t { places = ps }) (emptied_next t.places i l))
+
+-- the same places are live where nothing waits with anyone
+pub emptied-live : (t : Time) (p : ℕ) → IsLive t p ↔ IsLive (emptied t) p
+emptied-live t p =
+    let long = length-map t.places without_waiting in
+    (λ live. (omega (arith, long, live.0), live.1), λ live. (omega (arith, long, live.0), live.1))

@@ -212,7 +212,7 @@ impl<T: Item<T>, J: Job> Space<T> for Turn<'_, T, J> {
 
     fn close_collector(&mut self, collector: RawRight) -> Result<(), (RawRight, Refused)> {
         let world = &mut *self.world;
-        if world.core.is_guarded() {
+        if world.is_guarded() {
             return Err((collector, Refused::GuardOpen));
         }
         world

@@ -216,6 +216,13 @@ impl<T: Item<T>, J: Job> World<T, J> {
         self.core.standing(slot)
     }
 
+    /// A guard of some participant is open.
+    pub(crate) fn is_guarded(&self) -> bool
+        ensures { IsTrue result ↔ IsGuarded self.now }
+    {
+        self.core.is_guarded()
+    }
+
     pub(crate) fn time(&self) -> &Time
         ensures { result.now ≡ self.now.time }
     {

@@ -1,6 +1,6 @@
 ghost use Rattle.std.specs.Prelude.{◌≡◌, ◌≢◌, [], ◌↔◌, ℕ, ◌⊎◌, IfErr, IfOk, IsOk, List, MatchResult};
 ghost use Rattle.sdd_store.specs.Time.{without_waiting, place_at, with_place};
-ghost use Rattle.sdd_base.specs.World.{World, IsGuarded, KeepsSizes, HasPlace};
+ghost use Rattle.sdd_base.specs.World.{World, IsGuarded, KeepsSizes, HasPlace, IsPlaceOf};
 ghost use Rattle.sdd_base.specs.Whole.{taken};
 ghost use Rattle.sdd_base.specs.Out.{out, HoldsNothing};
 ghost use Rattle.sdd_inside.specs.Closing.{NothingIsOut};
@@ -16,7 +16,7 @@ impl<T: Item<T>, J: Job> World<T, J> {
     /// What ended ones left is reclaimed too.
     ///
     /// `GuardOpen` where a guard of some participant is open: nothing has changed. `OwnerOut` where an owner or a cell is still out: what waited
-    /// has been reclaimed. With either the world comes back.
+    /// has been reclaimed. With either the world comes back, with the same participants.
     pub fn close(mut self) -> Result<Tally, (World<T, J>, Refused)>
         ensures closed { MatchResult result
             (λ tally. ¬ (IsGuarded self) × ((end : World T J) × Closes T.holds self end × NothingIsOut end × (tally ≡ end.tally)))
@@ -28,8 +28,9 @@ impl<T: Item<T>, J: Job> World<T, J> {
         ensures tally { IfOk result (λ tally. tally ≡ with_reclaimed (taken self) self.tally) }
         ensures accounts { IfOk result (λ tally. Accounts self.tally tally) }
         ensures swept { IfErr result (λ e. e.1 ≡ Refused.OwnerOut → Sweeps T.holds self e.0) }
+        ensures places { IfErr result (λ e. (p : ℕ) → (IsPlaceOf self p ↔ IsPlaceOf e.0 p)) }
     {
-        if self.core.is_guarded() {
+        if self.is_guarded() {
             return Err((self, Refused::GuardOpen));
         }
         self.clear();

@@ -1,7 +1,5 @@
-use Rattle.std.proofs.Common.{◌≡◌, ℕ, ◌<◌, false, length, List, Bool, ⊎_elim, subst, sym, arith}
+use Rattle.std.proofs.Common.{ℕ, false, List, Bool, subst, sym, arith}
 use Rattle.std.specs.Prelude.{IsTrue, slice_index_or}
-use Rattle.std.proofs.lemmas.List.{length-map}
-use Rattle.sdd_store.specs.Time.{lives, without_waiting}
 use Rattle.sdd_base.specs.World.{World, IsPlaceOf}
 use Rattle.sdd_world.specs.Place.{index_of}
 use Rattle.sdd_rows.specs.Stays.{Stays}
@@ -17,9 +15,4 @@ retire-requires-in-Err-clause-place g c =
     let first = still _ _ p c.made-first.ensures.stays c.joined-place.ensures.place in
     let second = still _ _ p c.made-second.ensures.stays first in
     let before = still _ _ p c.retire.ensures.stays second in
-    ⊎_elim
-    (λ guarded. subst (λ w. IsPlaceOf w p) (sym guarded.2) before)
-    (λ out. let time = (c.in-Err.ensures.swept out.0).time in
-    subst (λ t. (p < length t.places) × IsTrue (slice_index_or (lives t) p false)) (sym time)
-    (rw (length-map _ without_waiting) before.0, before.1))
-    c.in-Err.ensures.closed
+    (c.in-Err.ensures.places p).0 before

@@ -11,6 +11,7 @@ use Rattle.sdd_base.specs.Steps.{deferred}
 use Rattle.sdd_base.specs.Calls.Calls.{defers}
 use Rattle.sdd_inside.specs.Lending.{AreLentOf}
 use Rattle.sdd_inside.proofs.Lending.{lent-call, guards-placed, readers-placed}
+use Rattle.sdd_inside.proofs.Sound.{job-room, sound-job}
 use Rattle.sdd_inside.proofs.inside.Core.defer.Goals as goal
 
 lent-after : {T : Type 0} (holds : T → List Holding) (w : World T) (l : Lending) (p j : ℕ) → IsPlaceOf w p → IsEmptyAt w.jobs j → IsWhole w →
@@ -25,3 +26,17 @@ returns-clause-lent g c =
     let put = c.in_ok-number.ensures.put in
     rw (← c.self.view_is, put.1, c.wait.ensures)
     (lent-after g.T.Item.holds _ _ c.args.place c.in_ok-number.number (rw (← c.self.view_is) at c.requires.place) put.0)
+
+pub wait-requires-clause-room : goal.wait-requires-clause-room
+wait-requires-clause-room g c =
+    let there = rw (← c.self.view_is) at c.requires.place in
+    let i = c.self.inside in
+    job-room g.T.Item.holds i.time i.slots i.cells i.jobs i.tenures c.args.place there.0 c.self.invariant c.in_ok-number.number c.in_ok-number.ensures.put.0
+
+pub invariant_of-self-2 : goal.invariant_of-self-2
+invariant_of-self-2 g c =
+    let there = rw (← c.self.view_is) at c.requires.place in
+    let i = c.self.inside in
+    let put = c.in_ok-number.ensures.put in
+    rw (put.1, c.wait.ensures)
+    (sound-job g.T.Item.holds i.time i.slots i.cells i.jobs i.tenures c.args.place there.0 c.self.invariant c.in_ok-number.number put.0)

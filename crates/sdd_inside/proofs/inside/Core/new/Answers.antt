@@ -12,7 +12,7 @@ use Rattle.sdd_inside.proofs.inside.Core.new.Goals as goal
 pub invariant_of-result : goal.invariant_of-result
 invariant_of-result g c =
     let none : sum_by waiting_count c.args.time.places ≡ 0 = ap (λ ps. sum_by waiting_count ps) c.requires.idle in
-    rw (c.badge.ensures.same) (record {
+    record {
       counted = omega (arith, none, count_by-le-length is_loose c.in_ok-slots.slots.standings, count_by-le-length is_none c.in_ok-jobs.jobs);
       reserved = omega (
         arith,
@@ -25,9 +25,9 @@ invariant_of-result g c =
       participants = grind (arith, common_steps);
       tenures = grind (arith, common_steps);
       readers = grind (arith, common_steps);
-    })
+    }
 
 pub returns-clause-lent : goal.returns-clause-lent
 returns-clause-lent g c =
-    rw (c.badge.ensures.same) (lent-blank _ _ c.args.slots c.args.participants c.requires.idle c.requires.nesting c.in_ok-slots.ensures.stakes.0 c.in_ok-tenures.ensures.size
-    (c.in_ok-tenures.ensures.count ∙ sym c.in_ok-tenures.ensures.size) c.in_ok-tenures.ensures.closed)
+    lent-blank _ _ c.args.slots c.args.participants c.requires.idle c.requires.nesting c.in_ok-slots.ensures.stakes c.in_ok-tenures.ensures.size
+    (c.in_ok-tenures.ensures.count ∙ sym c.in_ok-tenures.ensures.size) c.in_ok-tenures.ensures.closed

@@ -20,9 +20,8 @@ returns-clause-known g c =
     rw (c.close_collector.ensures.closed, c.world.view_is) (record { told = omega (arith, count); since = count })
 
 pub returns-clause-exact : goal.returns-clause-exact
-returns-clause-exact g c exact =
-    let asked = rw c.time.ensures at c.is_any_open.ensures in (
-      λ guarded. let never : false ≡ true = sym c.if-is_any_open.false ∙ asked.1 guarded in absurd (cc),
-      rw c.world.view_is at c.close_collector.ensures.null,
-      rw (c.close_collector.ensures.closed, c.world.view_is) refl,
-    )
+returns-clause-exact g c exact = (
+  λ guarded. let never : false ≡ true = sym c.if-is_guarded.false ∙ c.is_guarded.ensures.1 guarded in absurd (cc),
+  rw c.world.view_is at c.close_collector.ensures.null,
+  rw (c.close_collector.ensures.closed, c.world.view_is) refl,
+)

@@ -3,12 +3,13 @@ use Rattle.sdd_base.specs.World.{World, IsGuarded}
 use Rattle.sdd_base.specs.Whole.{IsCounted, IsWhole, taken}
 use Rattle.sdd_store.specs.declared.tally.Tally.{Tally}
 use Rattle.sdd_inside.specs.Closing.{NothingIsOut}
+use Rattle.sdd_world.proofs.Closing.{emptied-live}
 use Rattle.sdd_world.proofs.Sweeping.{sweeps, nothing-out, all-went, all-counted, none-out-goes, plain-goes, none-taken-at-end, tally-accounts}
 use Rattle.sdd_world.proofs.world.World.close.Goals as goal
 
-pub returns-then-is_any_open : goal.returns-then-is_any_open
-returns-then-is_any_open g c =
-    let guarded : IsGuarded c.args.self = rw c.time.ensures at (c.is_any_open.ensures.0 c.if-is_any_open.true) in
+pub returns-then-is_guarded : goal.returns-then-is_guarded
+returns-then-is_guarded g c =
+    let guarded : IsGuarded c.args.self = c.is_guarded.ensures.0 c.if-is_guarded.true in
     record {
       closed = inl (refl, guarded, refl);
       exactly = (λ ok. cc, λ h. absurd (h.0 guarded));
@@ -17,11 +18,12 @@ returns-then-is_any_open g c =
       tally = record {};
       accounts = record {};
       swept = λ e. cc;
+      places = λ p. (λ l. l, λ l. l);
     }
 
 pub clear-requires : goal.clear-requires
 clear-requires g c = record {
-  quiet = λ some. let any : IsTrue c.is_any_open.result = c.is_any_open.ensures.1 (rw c.time.ensures some) in absurd (cc);
+  quiet = λ some. let any : IsTrue c.is_guarded.result = c.is_guarded.ensures.1 some in absurd (cc);
 }
 
 pub returns-then-not-is_unused : goal.returns-then-not-is_unused
@@ -30,7 +32,7 @@ returns-then-not-is_unused g c =
     let old = c.args.self in
     let end = c.clear.new.self in
     let whole : IsWhole end = rw (← c.self.view_is) c.self.invariant.2 in
-    let quiet : IsGuarded old → ⊥ = λ some. let any : IsTrue c.is_any_open.result = c.is_any_open.ensures.1 (rw c.time.ensures some) in absurd (cc) in
+    let quiet : IsGuarded old → ⊥ = λ some. let any : IsTrue c.is_guarded.result = c.is_guarded.ensures.1 some in absurd (cc) in
     let out : NothingIsOut end → ⊥ = λ none. let unused : IsTrue c.is_unused.result = c.is_unused.ensures.1 (rw (← c.self.view_is) at none) in absurd (cc) in
     record {
       closed = inr (refl, quiet, c.clear.ensures, out);
@@ -40,6 +42,7 @@ returns-then-not-is_unused g c =
       tally = record {};
       accounts = record {};
       swept = λ _. sweeps holds old end c.clear.ensures whole;
+      places = λ p. rw c.clear.ensures.time (emptied-live old.time p);
     }
 
 pub destroy-requires : goal.destroy-requires
@@ -50,7 +53,7 @@ returns g c =
     let holds = g.T.Item.holds in
     let old = c.args.self in
     let end = c.clear.new.self in
-    let quiet : IsGuarded old → ⊥ = λ some. let any : IsTrue c.is_any_open.result = c.is_any_open.ensures.1 (rw c.time.ensures some) in absurd (cc) in
+    let quiet : IsGuarded old → ⊥ = λ some. let any : IsTrue c.is_guarded.result = c.is_guarded.ensures.1 some in absurd (cc) in
     let none : NothingIsOut end = rw (← c.self.view_is) (c.is_unused.ensures.0 c.if-not-is_unused.false) in
     let told : c.destroy.result ≡ end.tally = c.destroy.ensures ∙ ap (λ (w : World g.row.T.Denot). w.tally) c.self.view_is in
     let whole : IsWhole end = rw (← c.self.view_is) c.self.invariant.2 in
@@ -64,4 +67,5 @@ returns g c =
       accounts = tally-accounts (taken old) old.tally c.destroy.result counted at_end;
       tally = counted;
       swept = record {};
+      places = record {};
     }
