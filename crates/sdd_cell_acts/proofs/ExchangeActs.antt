@@ -93,7 +93,6 @@ pub same-cells : (h : Hand) (w : World Val) (cells : Vec (Option ACell)) → w �
     desk_of (record h { world = w; cells = record { entries = cells } }) ≡ desk_of h
 same-cells h w cells world same = let named = ap (map (option_map cell_holding)) same in cc
 
-
 -- ---- a cell of either kind
 
 pub number-is : (x : ACell) → cell_of (Some (cell_holding x)) ≡ Some (cell_number x)

@@ -66,6 +66,7 @@ given P xs x here all j =
       | inl e ↦ subst P (sym (rw e (at-end xs (Some x) None))) here
       | inr ne ↦ subst P (sym (at-pushed xs (Some x) None j ne)) (all j)
     ]
+
 -- a guard is its participant's, where that is at the same place
 pub guards-on : (home : token.Home) (ps qs : List (Option Opening)) →
     ((n k : ℕ) → option_map place (opening_at ps n) ≡ Some k → option_map place (opening_at qs n) ≡ Some k) →
@@ -236,9 +237,9 @@ module _ (h : Hand) (t : IsTied h) (whole : IsWhole h.world) where
     place-kept true m = refl
     place-kept false m = as-each (option_map place) d.places n (Some now) None (ap (option_map place) there) m
 
-    -- an opening, which found these slots, and these names
+    -- an opening, which found these slots
     module _ (w : World Val) (places : Vec (Option Attending)) (guards : Vec (Option Guarding)) (dates : Vec ℕ) (held : Guarding)
-        (slots : List ℕ) (found sorted : List ItemName) (are : slots ≡ slots_among (reclaims h.world p)) (names_are : found ≡ map (item_in h.names.items) slots)
+        (slots : List ℕ) (are : slots ≡ slots_among (reclaims h.world p))
         (entries : map attending places.items ≡ noted (is_open (time.place_at h.world.time p)))
         (pushed : guards.items ≡ h.guards.entries.items ++ Some held ∷ []) (own : held.place ≡ p)
         (reader : reader_of held.guard ≡ reader_at h.world p) (since : held.since ≡ h.moment) (participant : held.participant ≡ n)
@@ -251,7 +252,7 @@ module _ (h : Hand) (t : IsTied h) (whole : IsWhole h.world) where
       abbrev opened_desk : Desk
       opened_desk = record (in_world (with_guard d n p) (opened holdings_of h.world p)) { dates = dates.items }
 
-      pub opens-to : Goes after_opening opened_desk
+      opens-to : Goes after_opening opened_desk
       opens-to =
           let entry : guarding (Some held) ≡ Some now = cc (own, since) in
           let more_guards : map guarding guards.items ≡ d.guards ++ Some now ∷ [] =
@@ -269,13 +270,17 @@ module _ (h : Hand) (t : IsTied h) (whole : IsWhole h.world) where
           (λ j. guards-on h.world.home.readers d.places (noted b) (λ m k e. place-kept b m ∙ e) (slice_index_or h.guards.entries.items j None)
           (t.guards j)) k))
 
-      pub answers-opened : (g : GuardName) (epoch : Epoch) → IsPermutation found sorted → IsNonDecreasingBy (λ (i : ItemName). i.0) sorted →
+      pub tied-opened : IsTied after_opening
+      tied-opened = opens-to.tied
+
+      pub answers-opened : (sorted : List ItemName) (g : GuardName) (epoch : Epoch) → IsPermutation (map (item_in h.names.items) slots) sorted →
+          IsNonDecreasingBy (λ (i : ItemName). i.0) sorted →
           CanNest h.world.time p → g.0 ≡ length h.guards.entries.items → epoch ≡ epoch_of w.time.count →
           (ran : List JobName) → IsPermutation (map (job_in h.deferred.items) (places_among (reclaims h.world p))) ran →
           IsNonDecreasingBy (λ (j : JobName). j.0) ran →
           Answers d (At name call.Open) (record { reply = reply.Guard g epoch; reclaimed = sorted; ran = ran }) (desk_of after_opening)
-      answers-opened g epoch moved up nests given_name now_is ran jobs_moved jobs_up =
-          let all = names-go d t.sound whole p slots found sorted are names_are moved up in
+      answers-opened sorted g epoch moved up nests given_name now_is ran jobs_moved jobs_up =
+          let all = names-go d t.sound whole p slots (map (item_in h.names.items) slots) sorted are refl moved up in
           let all_at : (i : ItemName) → Contains sorted i ↔ (IsThere d i.0 × Contains (reclaims d.world (place_of d n)) (Item (slot_at d i.0))) = rw is all.1 in
           let run = names-run d t.sound whole p in_range ran jobs_moved jobs_up in
           let run_at : (j : JobName) → Contains ran j ↔ ((k : ℕ) × WaitsAt d j.0 k × Contains (reclaims d.world (place_of d n)) (Job k)) = rw is run.1 in

@@ -206,16 +206,19 @@ module _ (h : Hand) (t : IsTied h) (whole : IsWhole h.world) (name : PlaceName) 
         (all-counts h.world p holdings_of (waiting_for h.world c) (freed_collector h.world c)
         (record { slots = refl; made = refl; in_place = refl; home = refl })).home
 
-    pub closes-to : Goes after_close closed
+    closes-to : Goes after_close closed
     closes-to =
         let spent = collectors-spent h t collectors r.0 taken in
         goes (cc (world, spent)) (sound-uncollected (desk_of h) t.sound whole p c r.0 live number bare quiet dates.items is-dated)
         (λ g. rw home (t.guards g))
 
-    pub answers-closed : (found sorted : List ItemName) → found ≡ map (item_in h.names.items) slots → IsPermutation found sorted →
+    pub tied-closed : IsTied after_close
+    tied-closed = closes-to.tied
+
+    pub answers-closed : (sorted : List ItemName) → IsPermutation (map (item_in h.names.items) slots) sorted →
         IsNonDecreasingBy (λ (i : ItemName). i.0) sorted →
         Answers (desk_of h) (At name (call.CloseCollector r)) (record { reply = reply.Done; reclaimed = sorted; ran = [] }) (desk_of after_close)
-    answers-closed found sorted named moved up =
+    answers-closed sorted moved up =
         let d = desk_of h in
         subst (Answers d (At name (call.CloseCollector r)) (record { reply = reply.Done; reclaimed = sorted; ran = [] })) (sym closes-to.desk) (record {
           acts = record {
@@ -224,6 +227,6 @@ module _ (h : Hand) (t : IsTied h) (whole : IsWhole h.world) (name : PlaceName) 
             line = refl;
             calls = calls-uncollected d t.sound whole p c r.0 live number bare quiet dates.items;
           };
-          goes = goes-uncollected d t.sound whole c name r number quiet found sorted named moved up;
+          goes = goes-uncollected d t.sound whole c name r number quiet (map (item_in h.names.items) slots) sorted refl moved up;
           runs = runs-uncollected d t.sound whole c name r number quiet;
         })

@@ -1,39 +1,26 @@
 //! What participants do with collectors.
 #![tactic(auto, using(sdd_stage::proofs::Taken::in_hand))]
 
-ghost use Rattle.std.specs.Prelude.{◌≡◌, IfErr, IfOk, MatchResult};
-ghost use Rattle.sdd_store.specs.Table.{IsEmptyAt, IsFull};
-ghost use Rattle.sdd_slots.specs.Cells.{null_pointer};
-ghost use Rattle.sdd_base.specs.Collecting.{collector_closed};
-ghost use Rattle.sdd_base.specs.Collector.{collector_of, cells_home};
-ghost use Rattle.sdd_base.specs.Guard.{reader_of};
-ghost use Rattle.sdd_base.specs.Holding.{IsOf};
-ghost use Rattle.sdd_base.specs.Out.{IsNullCell};
-ghost use Rattle.sdd_base.specs.Seat.{reader_at};
-ghost use Rattle.sdd_base.specs.Steps.{pointing};
-ghost use Rattle.sdd_base.specs.World.{World, IsGuarded, IsPlaceOf};
-ghost use Rattle.sdd_world.specs.Place.{index_of};
-ghost use Rattle.sdd_desk.specs.declared.val.Val.{Val};
-ghost use Rattle.sdd_desk.specs.Collecting.{Collects};
-ghost use Rattle.sdd_desk.specs.Val.{holdings_of};
-ghost use Rattle.sdd_steps.specs.Owners.{owner_holding};
+ghost use Rattle.std.specs.Prelude.{◌≡◌, ◌<◌, ◌≤◌, ◌^◌, All, IsSome, IfOk, MatchResult, length, map};
+ghost use Rattle.std.specs.List.Sorted.{IsPermutation, IsNonDecreasingBy};
+ghost use Rattle.sdd_base.specs.World.{value_at};
+ghost use Rattle.sdd_lines.specs.declared.name.ItemName.{ItemName as Named};
+ghost use Rattle.sdd_desk.specs.Held.{owners_in, slots_waiting_for};
+ghost use Rattle.sdd_desk.specs.Shown.{item_in};
 ghost use Rattle.sdd_desk.specs.Script.{Acts, Answers};
 
 use sdd_base::inner::number_of_collector;
-use sdd_base::{Guard, PrivateCollector};
 use sdd_core::Refused;
 use sdd_desk::Val;
 use sdd_hand::items::{date_if_waiting, date_waiting, names_of, owners_in, slots_for};
 use sdd_hand::participants::under;
 use sdd_lines::{
-    Action, Answer, Call, CollectorName, GuardName, Names, OwnerName, PlaceName, Reply,
+    Action, Answer, Call, CollectorName, GuardName, ItemName, Names, OwnerName, PlaceName, Reply,
 };
-use sdd_steps::collectors::{ClosesCollector, GivesToCollector, MakesCollector};
-use sdd_steps::holding::AnOwner;
 use sdd_stage::Stage;
-use sdd_turns::step_at;
-use sdd_world::{Place, World};
-use std::alloc::AllocError;
+use sdd_turns::collectors::{close_at, collector_at, give_to};
+use sdd_world::World;
+use std::alloc::{AllocError, Global};
 
 pub fn make_collector(stage: &mut Stage, name: PlaceName) -> Result<Reply, AllocError>
     ensures acts { MatchResult result (λ reply. Acts stage.old (Call.At name Action.Collector) reply stage.new) (λ _. stage.new ≡ stage.old) }
@@ -61,8 +48,7 @@ pub fn collect(
 ) -> Reply
     ensures acts { Acts stage.old (Call.At name (Action.Collect owner guard collector)) result stage.new }
 {
-    let Some((attending, held)) = under(&stage.hand.places, &stage.hand.guards, name, guard)
-    else {
+    let Some((attending, held)) = under(&stage.hand.places, &stage.hand.guards, name, guard) else {
         return Reply::Invalid;
     };
     let Some(collector) = stage.hand.collectors.get(collector.0) else {
@@ -102,15 +88,8 @@ pub fn close_collector(
     };
     stage.hand.world.is_whole();
     let names = stage.hand.names.as_slice();
-    let slots = slots_for(
-        stage.hand.alloc,
-        &stage.hand.world,
-        number_of_collector(held),
-        names.len(),
-    )?;
-    let slots = slots.as_slice();
-    let mut gone = names_of(stage.hand.alloc, slots, names)?;
-    let given = owners_in(stage.hand.alloc, &stage.hand.world, slots)?;
+    let collected = number_of_collector(held);
+    let (gone, given) = found_for(stage.hand.alloc, &stage.hand.world, names, collected)?;
     let Some(held) = stage.hand.collectors.take(collector.0) else {
         unreachable!()
     };
@@ -125,7 +104,6 @@ pub fn close_collector(
         given.as_slice(),
         line,
     );
-    gone.sort_unstable();
     Ok(Answer {
         reply: Reply::Done,
         reclaimed: Names::of(gone),
@@ -133,55 +111,25 @@ pub fn close_collector(
     })
 }
 
-/// A new collector.
-fn collector_at(world: &mut World<Val>, place: &Place) -> Result<PrivateCollector<Val>, Refused>
-    requires place { IsPlaceOf world.old (index_of place.now) }
-    ensures home { IfOk result (λ collector. cells_home collector ≡ world.old.home.cells) }
-    ensures made { MatchResult result
-        (λ collector. IsEmptyAt world.old.cells (collector_of collector) × (world.new ≡ pointing world.old (collector_of collector) null_pointer))
-        (λ e. IsFull world.old.cells × (e ≡ Refused.NoCell) × (world.new ≡ world.old)) }
+/// The items that wait for a collector, in ascending order, and the slots whose owners they hold.
+fn found_for(
+    alloc: Global,
+    world: &World<Val>,
+    names: &[u64],
+    collector: u32,
+) -> Result<(Vec<ItemName>, Vec<u32>), AllocError>
+    requires small { length names.now ≤ 2 ^ 32 }
+    requires named { All (λ slot. slot < length names.now) (slots_waiting_for world.now collector (length names.now)) }
+    requires taken { All (λ slot. IsSome (value_at world.now slot)) (slots_waiting_for world.now collector (length names.now)) }
+    ensures items { IfOk result (λ found.
+        IsPermutation (map (item_in names.now) (slots_waiting_for world.now collector (length names.now))) found.0.items) }
+    ensures ascending { IfOk result (λ found. IsNonDecreasingBy (λ (i : Named). i.0) found.0.items) }
+    ensures owners { IfOk result (λ found. found.1.items ≡ owners_in world.now (slots_waiting_for world.now collector (length names.now))) }
 {
-    step_at(world, place, MakesCollector)
-}
-
-/// An owner is given to a collector, under a guard of the participant.
-fn give_to(
-    world: &mut World<Val>,
-    place: &Place,
-    collector: &PrivateCollector<Val>,
-    owner: AnOwner,
-    guard: &Guard,
-) -> Reply
-    requires place { IsPlaceOf world.old (index_of place.now) }
-    requires collector { cells_home collector.now ≡ world.old.home.cells }
-    requires home { IsOf world.old.home (owner_holding owner) }
-    requires reader { reader_of guard.now ≡ reader_at world.old (index_of place.now) }
-    ensures collects { Collects world.old (index_of place.now) (collector_of collector.now) (owner_holding owner) result world.new }
-{
-    step_at(
-        world,
-        place,
-        GivesToCollector {
-            collector,
-            owner,
-            guard,
-        },
-    )
-}
-
-/// A collector is closed, or comes back where a guard is open.
-fn close_at(
-    world: &mut World<Val>,
-    place: &Place,
-    collector: PrivateCollector<Val>,
-) -> Result<(), (PrivateCollector<Val>, Refused)>
-    requires place { IsPlaceOf world.old (index_of place.now) }
-    requires collector { cells_home collector ≡ world.old.home.cells }
-    ensures back { IfErr result (λ e. e.0 ≡ collector) }
-    ensures closed { MatchResult result
-        (λ _. ¬ (IsGuarded world.old) × IsNullCell world.old (collector_of collector)
-        × (world.new ≡ collector_closed holdings_of world.old (index_of place.now) (collector_of collector)))
-        (λ e. IsGuarded world.old × (e.1 ≡ Refused.GuardOpen) × (world.new ≡ world.old)) }
-{
-    step_at(world, place, ClosesCollector { collector })
+    let slots = slots_for(alloc, world, collector, names.len())?;
+    let slots = slots.as_slice();
+    let mut items = names_of(alloc, slots, names)?;
+    let owners = owners_in(alloc, world, slots)?;
+    items.sort_unstable();
+    Ok((items, owners))
 }

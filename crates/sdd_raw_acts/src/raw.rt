@@ -2,7 +2,6 @@
 #![tactic(auto, using(sdd_stage::proofs::Taken::in_hand))]
 
 ghost use Rattle.std.specs.Prelude.{◌≡◌, Some, MatchResult};
-ghost use Rattle.sdd_core.specs.declared.refused.Refused.TheVariants as refused;
 ghost use Rattle.sdd_desk.specs.Script.{Acts};
 
 use sdd_base::inner::slot_of_owner;
@@ -11,9 +10,9 @@ use sdd_hand::items::{date_if_waiting, is_number, slot_given, slot_since, told};
 use sdd_hand::owners::{take_sole, value_of};
 use sdd_hand::participants::under;
 use sdd_lines::{Action, Call, GuardName, ItemName, OwnerName, PlaceName, Reply};
+use sdd_stage::Stage;
 use sdd_steps::holding::AnOwner;
 use sdd_steps::raw::{ComesBack, DropsOwner, GoesRaw, PutsNumber, SeesRaw};
-use sdd_stage::Stage;
 use sdd_turns::step_at;
 use std::alloc::AllocError;
 
@@ -87,7 +86,11 @@ pub fn put_out_raw(stage: &mut Stage, name: PlaceName, owner: OwnerName) -> Repl
     Reply::Raw(ItemName(stage.hand.names[slot as usize]))
 }
 
-pub fn take_back_raw(stage: &mut Stage, name: PlaceName, item: ItemName) -> Result<Reply, AllocError>
+pub fn take_back_raw(
+    stage: &mut Stage,
+    name: PlaceName,
+    item: ItemName,
+) -> Result<Reply, AllocError>
     ensures acts { MatchResult result (λ reply. Acts stage.old (Call.At name (Action.Unraw item)) reply stage.new) (λ _. stage.new ≡ stage.old) }
 {
     let Some(attending) = stage.hand.places.get(name.0) else {
@@ -113,8 +116,7 @@ pub fn take_back_raw(stage: &mut Stage, name: PlaceName, item: ItemName) -> Resu
 pub fn see(stage: &mut Stage, name: PlaceName, item: ItemName, guard: GuardName) -> Reply
     ensures acts { Acts stage.old (Call.At name (Action.See item guard)) result stage.new }
 {
-    let Some((attending, held)) = under(&stage.hand.places, &stage.hand.guards, name, guard)
-    else {
+    let Some((attending, held)) = under(&stage.hand.places, &stage.hand.guards, name, guard) else {
         return Reply::Invalid;
     };
     stage.hand.world.is_whole();

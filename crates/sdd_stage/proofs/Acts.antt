@@ -71,7 +71,6 @@ pub still-as : (h new : Hand) (call : Call) (given : Reply) → desk_of new ≡ 
     Acts (desk_of h) call given (desk_of new)
 still-as h new call given same meets = subst (Acts (desk_of h) call given) (sym same) (still (desk_of h) call given meets)
 
-
 abbrev pub place : Opening → ℕ
 place x = x.place
 
@@ -123,6 +122,7 @@ module _ (h : Hand) (t : IsTied h) (whole : IsWhole h.world) where
     open-here g held here own =
         lt-ltb 0 (time.place_at h.world.time p).guards (rw (sym own) (open-guard d t.sound g
         (record { place = held.place; since = held.since }) (get_or-map guarding h.guards.entries.items g None ∙ ap guarding here)))
+
     -- one owner more of the item in slot k
     module _ (w : World Val) (owners : Vec (Option AnOwner)) (x : Shared Val) (count : ℕ)
         (pushed : owners.items ≡ h.owners.entries.items ++ Some (Share x) ∷ []) (home : shared.slots_home x ≡ h.world.home.slots)
@@ -146,7 +146,6 @@ module _ (h : Hand) (t : IsTied h) (whole : IsWhole h.world) where
         let since : since_of d n ≡ a.since = ap since_in (sym there) in
         can-point d t.sound n (slot_at d i) (record { place = p; since = a.since }) (sym there) (open-here g held here own) can.0.taken
         (λ waits. rw (← since) (can.1 waits))
-
 
 -- what a name stands for, as the desk has it
 pub got : (places : Named Attending) (n : ℕ) (a : Attending) → Some a ≡ slice_index_or places.entries.items n None →

@@ -1,12 +1,12 @@
 //! The world of a script in the middle of a run, with what its names stand for.
-ghost use Rattle.std.specs.Prelude.{◌≡◌, ◌≢◌, ◌+◌, ◌^◌, ◌<◌, ◌⊎◌, [], IfOk, MatchResult};
+ghost use Rattle.std.specs.Prelude.{◌≡◌, ◌<◌, ◌⊎◌, [], IfOk, MatchResult};
 
 use sdd_base::{Limits, PrivateCollector};
 use sdd_core::Refused;
-use sdd_desk::{Ownership, Val};
+use sdd_desk::Val;
 use sdd_hand::named::Named;
 use sdd_hand::participants::{Attending, Guarding};
-use sdd_lines::{Action, Answer, Call, CollectorName, Names, PlaceName, Reply};
+use sdd_lines::{Answer, Names, Reply};
 use sdd_steps::holding::{ACell, AnOwner};
 use sdd_world::World;
 use std::alloc::Global;
@@ -57,10 +57,7 @@ impl Model for Stage {
 
 impl Stage {
     ghost use Rattle.sdd_base.specs.Limits.{AreInRange};
-    ghost use Rattle.sdd_base.specs.Left.{GoesInTime};
-    ghost use Rattle.sdd_desk.specs.Val.{holdings_of};
-    ghost use Rattle.sdd_desk.specs.Desk.{BeginsLine, IsStart, later};
-    ghost use Rattle.sdd_desk.specs.Script.{Acts, Answers, Step};
+    ghost use Rattle.sdd_desk.specs.Desk.{IsStart};
 
     /// A new world, of which nothing has a name.
     pub fn new(alloc: Global, limits: Limits) -> Result<Stage, Refused>

@@ -1,4 +1,4 @@
-//! What a participant does at its place of a world.
+//! The turn that a participant takes for a step.
 ghost use Rattle.sdd_base.specs.Seat.{reader_at};
 ghost use Rattle.sdd_base.specs.World.{World, IsPlaceOf};
 ghost use Rattle.sdd_world.specs.Place.{index_of};

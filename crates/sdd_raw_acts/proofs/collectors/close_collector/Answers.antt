@@ -1,20 +1,18 @@
-use Rattle.std.proofs.lemmas.List.Sorted.{IsNonDecreasingBy-from_sort}
 use Rattle.std.proofs.Common.{◌≡◌, Option, Some, sym, ◌∙◌}
 use Rattle.sdd_base.specs.Collector.{collector_of}
 use Rattle.sdd_base.specs.declared.private_collector.PrivateCollector.{PrivateCollector}
 use Rattle.sdd_desk.specs.declared.val.Val.{Val}
 use Rattle.sdd_desk.proofs.Gone.{given-inside}
 use Rattle.sdd_desk.proofs.WaitingFor.{found-filled, found-inside}
-use Rattle.sdd_lines.specs.declared.name.ItemName.{ItemName}
 use Rattle.sdd_lines.specs.declared.call.Action.TheVariants as call
 use Rattle.sdd_lines.specs.declared.call.Call.TheVariants.{At}
 use Rattle.sdd_stage.specs.Stage.{desk_of}
 use Rattle.sdd_stage.proofs.Acts.{answers-plain, goes, got}
-use Rattle.sdd_raw_acts.proofs.CollectorActs.{answers-closed, back-again, close-refused, closes-to, no-collector}
+use Rattle.sdd_raw_acts.proofs.CollectorActs.{answers-closed, back-again, close-refused, no-collector, tied-closed}
 use Rattle.sdd_stage.proofs.Collectors.{collector-home}
 use Rattle.sdd_stage.proofs.Acts.{still-as}
 use Rattle.sdd_stage.proofs.Missing.{invalid, nobody}
-use Rattle.sdd_stage.proofs.Taken.{inside, tied}
+use Rattle.sdd_stage.proofs.Taken.{inside}
 use Rattle.sdd_raw_acts.proofs.collectors.close_collector.Goals as goal
 
 pub returns-in_default : goal.returns-in_default
@@ -36,23 +34,16 @@ returns-in_default-get c =
 one : (x y : PrivateCollector Val) (o : Option (PrivateCollector Val)) → Some x ≡ o → Some y ≡ o → x ≡ y
 one x y o e f = let both : Some x ≡ Some y = e ∙ sym f in cc
 
-pub slots_for-requires : goal.slots_for-requires
-slots_for-requires c = record { small = rw c.as_slice-names.ensures.value c.stage.invariant.sound.stocked.few }
-
-pub names_of-requires : goal.names_of-requires
-names_of-requires c =
-    let found = rw (c.number_of_collector.ensures, c.as_slice-names.ensures.value) at c.in_ok-slots.ensures in
+pub found_for-requires : goal.found_for-requires
+found_for-requires c =
+    let d = desk_of c.stage.inside.hand in
+    let s = c.stage.invariant.sound.stocked in
     record {
-      inside = rw (c.as_slice-names.ensures.value, c.as_slice-slots.ensures.value, found)
-          (found-inside (desk_of c.stage.inside.hand) c.stage.invariant.sound.stocked c.is_whole.ensures (collector_of c.in-Some-get.held.now));
-    }
-
-pub owners_in-requires : goal.owners_in-requires
-owners_in-requires c =
-    let found = rw (c.number_of_collector.ensures, c.as_slice-names.ensures.value) at c.in_ok-slots.ensures in
-    record {
-      taken = rw (c.as_slice-slots.ensures.value, found)
-          (found-filled (desk_of c.stage.inside.hand) c.stage.invariant.sound.stocked c.is_whole.ensures (collector_of c.in-Some-get.held.now));
+      small = rw c.as_slice-names.ensures.value s.few;
+      named = rw (c.as_slice-names.ensures.value, c.number_of_collector-collected.ensures)
+          (found-inside d s c.is_whole.ensures (collector_of c.in-Some-get.held.now));
+      taken = rw (c.as_slice-names.ensures.value, c.number_of_collector-collected.ensures)
+          (found-filled d s c.is_whole.ensures (collector_of c.in-Some-get.held.now));
     }
 
 pub close_at-requires-clause-collector : goal.close_at-requires-clause-collector
@@ -94,26 +85,25 @@ invariant_of-stage-2 c =
     let h = c.stage.inside.hand in
     let x = c.in-Some-take.held in
     let same = one c.in-Some-get.held.now x _ c.in-Some-get.ensures c.in-Some-take.ensures.taken in
-    let found = rw (c.number_of_collector.ensures, c.as_slice-names.ensures.value, same) at c.in_ok-slots.ensures in
-    let dated = rw (c.as_slice.ensures.value, c.in_ok-given.ensures, c.as_slice-slots.ensures.value, found) at c.date_waiting.ensures.dated in
+    let given = rw (c.as_slice-names.ensures.value, c.number_of_collector-collected.ensures, same) at c.in_ok-found_for.ensures.owners in
+    let dated = rw (c.as_slice.ensures.value, given) at c.date_waiting.ensures.dated in
     let closed = c.in_default-close_at.ensures.closed in
-    tied (closes-to h c.stage.invariant c.is_whole.ensures c.args.name _ (got h.places c.args.name.0 _ c.in-Some.ensures) c.args.collector x
+    tied-closed h c.stage.invariant c.is_whole.ensures c.args.name _ (got h.places c.args.name.0 _ c.in-Some.ensures) c.args.collector x
     c.in-Some-take.ensures.taken closed.0 closed.1 c.close_at.new.world c.take.new.self.entries c.date_waiting.new.dates closed.2
-    c.in-Some-take.ensures.spent c.date_waiting.ensures.long dated)
+    c.in-Some-take.ensures.spent c.date_waiting.ensures.long dated
 
 pub returns : goal.returns
 returns c =
     let h = c.stage.inside.hand in
     let x = c.in-Some-take.held in
     let same = one c.in-Some-get.held.now x _ c.in-Some-get.ensures c.in-Some-take.ensures.taken in
-    let found = rw (c.number_of_collector.ensures, c.as_slice-names.ensures.value, same) at c.in_ok-slots.ensures in
-    let dated = rw (c.as_slice.ensures.value, c.in_ok-given.ensures, c.as_slice-slots.ensures.value, found) at c.date_waiting.ensures.dated in
-    let named = rw (c.as_slice-names.ensures.value, c.as_slice-slots.ensures.value, found) at c.in_ok-gone.ensures in
+    let given = rw (c.as_slice-names.ensures.value, c.number_of_collector-collected.ensures, same) at c.in_ok-found_for.ensures.owners in
+    let dated = rw (c.as_slice.ensures.value, given) at c.date_waiting.ensures.dated in
+    let moved = rw (c.as_slice-names.ensures.value, c.number_of_collector-collected.ensures, same) at c.in_ok-found_for.ensures.items in
     let closed = c.in_default-close_at.ensures.closed in
-    let up = IsNonDecreasingBy-from_sort (λ (i : ItemName). i.0) c.sort_unstable.new.self.items c.sort_unstable.ensures.sorted in
     record {
       answers = rw (← c.stage.view_is, c.of.ensures, c.new.ensures) (answers-closed h c.stage.invariant c.is_whole.ensures c.args.name _
           (got h.places c.args.name.0 _ c.in-Some.ensures) c.args.collector x c.in-Some-take.ensures.taken closed.0 closed.1 c.close_at.new.world
           c.take.new.self.entries c.date_waiting.new.dates closed.2 c.in-Some-take.ensures.spent c.date_waiting.ensures.long dated
-          c.in_ok-gone.gone.items c.sort_unstable.new.self.items named c.sort_unstable.ensures.permutation up);
+          c.in_ok-found_for.gone.items moved c.in_ok-found_for.ensures.ascending);
     }

@@ -1,4 +1,4 @@
-use Rattle.sdd_item_acts.proofs.owners.share_item.Goals as goal
+use Rattle.sdd_turns.proofs.owners.share_item.Goals as goal
 
 pub returns-clause-owner : goal.returns-clause-owner
 returns-clause-owner c = (rw c.ptr_at-ptr.ensures.world at (c.step_at.ensures.done c.args.slot c.ptr_at-ptr.ensures.slot)).0
