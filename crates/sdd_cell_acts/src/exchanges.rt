@@ -13,7 +13,7 @@ use sdd_lines::{Action, Call, CellName, GuardName, ItemName, OwnerName, PlaceNam
 use sdd_stage::Stage;
 use sdd_steps::holding::{ACell, AnOwner};
 use sdd_store::Cell;
-use sdd_turns::exchanges::{copy_held, exchange_in, ptr_compared, share_held, swap_in, take_out};
+use sdd_turns::exchanges::{copy_held, exchange_at, share_held, swap_in, take_out};
 use std::alloc::AllocError;
 
 pub fn swap(
@@ -81,13 +81,16 @@ pub fn exchange(
     stage.hand.world.is_whole();
     let next = take_filling(&mut stage.hand.owners, holder.ownership(), owner);
     let place = &attending.place;
-    let current = ptr_compared(&mut stage.hand.world, place, &held.guard, slot, was);
-    match exchange_in(
+    let compared = Cell {
+        held: slot,
+        tag: was,
+    };
+    match exchange_at(
         &mut stage.hand.world,
         place,
         &held.guard,
         holder,
-        current,
+        compared,
         next,
         tag,
     ) {

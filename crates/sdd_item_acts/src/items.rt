@@ -1,18 +1,21 @@
 //! How items of a script are made, and how they are seen.
 #![tactic(auto, using(sdd_stage::proofs::Taken::in_hand))]
 
-ghost use Rattle.std.specs.Prelude.{◌≡◌, ◌<◌, Some, MatchResult};
+ghost use Rattle.std.specs.Prelude.{◌≡◌, MatchOption, MatchResult};
+ghost use Rattle.sdd_store.specs.Table.{IsFull};
+ghost use Rattle.sdd_desk.specs.Made.{RefusesItem};
 ghost use Rattle.sdd_item_acts.specs.Lines.{making};
 ghost use Rattle.sdd_desk.specs.Script.{Acts};
 
 use sdd_core::Refused;
-use sdd_desk::Ownership;
+use sdd_desk::{Ownership, Val};
 use sdd_hand::items::{slot_since, told};
 use sdd_hand::owners::{body_from, is_missing, value_of};
 use sdd_hand::participants::under;
 use sdd_lines::{Action, Call, GuardName, ItemName, OwnerName, PlaceName, Reply, Value};
 use sdd_stage::Stage;
 use sdd_turns::items::{make_item, value_shown};
+use sdd_world::World;
 use sdd_world::inner::{has_no_cell, has_no_slot};
 use std::alloc::AllocError;
 
@@ -33,11 +36,8 @@ pub fn make(
     stage.hand.owners.make_room()?;
     stage.hand.slots.reserve(1)?;
     stage.hand.world.is_whole();
-    if has_no_cell(&stage.hand.world) {
-        return Ok(Reply::Refused(Refused::NoCell));
-    }
-    if has_no_slot(&stage.hand.world) {
-        return Ok(Reply::Refused(Refused::NoSlot));
+    if let Some(refused) = refuses_item(&stage.hand.world) {
+        return Ok(Reply::Refused(refused));
     }
     let Some(body) = body_from(&mut stage.hand.owners, value) else {
         unreachable!()
@@ -92,4 +92,17 @@ pub fn look(stage: &mut Stage, name: PlaceName, item: ItemName, guard: GuardName
         value_shown(&mut stage.hand.world, place, &held.guard, slot),
         names,
     )
+}
+
+/// Why the world has no room for an item, if it has none.
+fn refuses_item(world: &World<Val>) -> Option<Refused>
+    ensures { MatchOption result (¬ (IsFull world.now.cells) × ¬ (IsFull world.now.standings)) (RefusesItem world.now) }
+{
+    if has_no_cell(world) {
+        return Some(Refused::NoCell);
+    }
+    if has_no_slot(world) {
+        return Some(Refused::NoSlot);
+    }
+    None
 }

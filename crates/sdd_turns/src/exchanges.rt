@@ -29,7 +29,7 @@ use sdd_world::inner::ptr_at;
 use sdd_world::{Place, World};
 
 /// A pointer to the item in a slot, or to none, with this tag, under a guard of the participant.
-pub fn ptr_compared<'g>(
+fn ptr_compared<'g>(
     world: &mut World<Val>,
     place: &Place,
     guard: &'g Guard,
@@ -67,9 +67,36 @@ pub fn swap_in(
     step_at(world, place, SwapsIn { cell, next, tag })
 }
 
+/// The cell holds this from now on, with this tag, if it held that: then what it held comes back. Else what was to go in, and what the cell holds.
+pub fn exchange_at(
+    world: &mut World<Val>,
+    place: &Place,
+    guard: &Guard,
+    cell: &ACell,
+    was: Cell,
+    next: Filling,
+    tag: Tag,
+) -> Result<Filling, (Filling, Cell)>
+    requires place { IsPlaceOf world.old (index_of place.now) }
+    requires reader { reader_of guard.now ≡ reader_at world.old (index_of place.now) }
+    requires stays { IfSome was.held (Stays world.old (index_of place.now)) }
+    requires home { IsOf world.old.home (cell_holding cell.now) }
+    requires of_kind { filling_kind next ≡ cell_kind cell.now }
+    requires owner { IfSome (filling_holding next) (IsOf world.old.home) }
+    ensures exchanged { MatchResult result
+        (λ old. (entry_at world.old.cells (cell_number cell.now) ≡ Some was)
+        × (filling_holding old ≡ held_as (cell_kind cell.now) was.held world.old.home.slots)
+        × (world.new ≡ with_cell world.old (cell_number cell.now) (record { held = slot_of (filling_holding next); tag = tag })))
+        (λ e. (filling_holding e.0 ≡ filling_holding next) × (entry_at world.old.cells (cell_number cell.now) ≡ Some e.1)
+        × (e.1 ≢ was) × (world.new ≡ world.old)) }
+{
+    let current = ptr_compared(world, place, guard, was.held, was.tag);
+    exchange_in(world, place, guard, cell, current, next, tag)
+}
+
 /// The cell holds this from now on, with this tag, if it held what the pointer names, with its tag: then what it held comes back. Else what was to go in,
 /// and what the cell holds.
-pub fn exchange_in<'g>(
+fn exchange_in<'g>(
     world: &mut World<Val>,
     place: &Place,
     guard: &'g Guard,

@@ -1,7 +1,6 @@
 use Rattle.std.proofs.Common.{◌≡◌, ◌<◌, ℕ, List, length, refl, sym, ◌∙◌, subst}
 use Rattle.std.specs.Prelude.{IfSome}
 use Rattle.std.proofs.lemmas.Bool.{false≢true}
-use Rattle.sdd_base.specs.Ptr.{cell_seen}
 use Rattle.sdd_lines.specs.declared.call.Call.TheVariants.{At}
 use Rattle.sdd_lines.specs.declared.call.Action.TheVariants as call
 use Rattle.sdd_lines.specs.declared.answer.Reply.TheVariants as reply
@@ -35,22 +34,21 @@ returns-in_default-slot_compared c =
     let not = compares-not c.stage.inside.hand c.args.name.0 _ c.in-Some.ensures.found.0 c.args.item cannot in
     record { acts = rw (← c.stage.view_is) (invalid _ _ _ (λ valid. not valid.1)) }
 
-pub ptr_compared-current-requires-clause-stays : goal.ptr_compared-current-requires-clause-stays
-ptr_compared-current-requires-clause-stays c =
+pub exchange_at-requires-clause-stays : goal.exchange_at-requires-clause-stays
+exchange_at-requires-clause-stays c =
     let h = c.stage.inside.hand in
     let found = c.in-Some.ensures.found in
     let compared = rw (c.as_slice-slots.ensures.value, c.as_slice-names.ensures.value, c.as_slice-dates.ensures.value) at c.in-Some-slot_compared.ensures in
     rw (compared.1 ∙ slot-compared h c.args.item) (compared-stays h c.stage.invariant c.is_whole.ensures c.args.name _ found.0 c.args.guard.0 _ found.1 found.2
     c.args.item (compares h c.args.name.0 _ found.0 c.args.item compared.0))
 
-pub exchange_in-requires-clause-home : goal.exchange_in-requires-clause-home
-exchange_in-requires-clause-home c =
-    rw c.ptr_compared-current.ensures.world (cell-home c.stage.inside.hand c.stage.invariant c.args.cell.0 _ (sym c.in-Some-get.ensures))
+pub exchange_at-requires-clause-home : goal.exchange_at-requires-clause-home
+exchange_at-requires-clause-home c = cell-home c.stage.inside.hand c.stage.invariant c.args.cell.0 _ (sym c.in-Some-get.ensures)
 
-pub exchange_in-requires-clause-owner : goal.exchange_in-requires-clause-owner
-exchange_in-requires-clause-owner c =
+pub exchange_at-requires-clause-owner : goal.exchange_at-requires-clause-owner
+exchange_at-requires-clause-owner c =
     let fills = rw c.make_room.ensures.kept at c.take_filling-next.ensures.filled in
-    rw (c.ptr_compared-current.ensures.world, fills.holding) (put-home c.stage.inside.hand c.stage.invariant c.args.owner)
+    rw fills.holding (put-home c.stage.inside.hand c.stage.invariant c.args.owner)
 
 pub give_filling-name-requires : goal.give_filling-name-requires
 give_filling-name-requires c =
@@ -64,17 +62,17 @@ give_filling-name-requires c =
 
 exchanged : (c : goal.After-give_filling-name) → Does (desk_of c.stage.inside.hand)
     (At c.args.name (call.Exchange c.args.cell c.args.guard c.args.item c.args.was c.args.owner c.args.tag)) (reply.Exchanged c.give_filling-name.result)
-    (record c.stage.inside.hand { world = c.exchange_in.new.world; owners = c.give_filling-name.new.owners })
+    (record c.stage.inside.hand { world = c.exchange_at.new.world; owners = c.give_filling-name.new.owners })
 exchanged c =
     let h = c.stage.inside.hand in
     let found = c.in-Some.ensures.found in
     let compared = rw (c.as_slice-slots.ensures.value, c.as_slice-names.ensures.value, c.as_slice-dates.ensures.value) at c.in-Some-slot_compared.ensures in
-    let same = seen-as _ _ _ c.args.was c.ptr_compared-current.ensures.seen (compared.1 ∙ slot-compared h c.args.item) in
-    let out = rw c.ptr_compared-current.ensures.world at c.in-Ok.ensures.exchanged in
+    let same = seen-as _ _ _ c.args.was refl (compared.1 ∙ slot-compared h c.args.item) in
+    let out = c.in-Ok.ensures.exchanged in
     let fits = rw c.ownership.ensures at c.if-not-fits.ensures in
     let fills = rw (c.make_room.ensures.kept, c.ownership-2.ensures) at c.take_filling-next.ensures.filled in
     acts-exchanged h c.stage.invariant c.is_whole.ensures c.args.name _ found.0 c.args.cell c.in-Some-get.holder.now
-    (cell_seen c.ptr_compared-current.result) (sym c.in-Some-get.ensures) out.0 c.args.owner c.args.tag (fits.0 refl) _
+    _ (sym c.in-Some-get.ensures) out.0 c.args.owner c.args.tag (fits.0 refl) _
     c.give_filling-name.new.owners.entries _ c.take_filling-next.result _ c.give_filling-name.result fills out.1 c.give_filling-name.ensures out.2
     c.args.guard c.args.item c.args.was c.in-Some.ensures.valid (compares h c.args.name.0 _ found.0 c.args.item compared.0) same
 
@@ -91,18 +89,18 @@ put_back-requires c =
 pub item_seen-requires : goal.item_seen-requires
 item_seen-requires c =
     let h = c.stage.inside.hand in
-    let out = rw c.ptr_compared-current.ensures.world at c.in-Err.ensures.exchanged in
+    let out = c.in-Err.ensures.exchanged in
     let all = seen-inside h c.stage.invariant c.is_whole.ensures c.args.name _ c.in-Some.ensures.found.0 c.args.cell c.in-Some-get.holder.now c.in-Err.seen
     (sym c.in-Some-get.ensures) out.1 c.in-Err.seen.held refl in
     record { inside = subst (λ (names : List ℕ). IfSome c.in-Err.seen.held (λ s. s < length names)) (sym c.as_slice-names.ensures.value) all }
 
 -- where it differs, the desk is as it was
-back : (c : goal.After-item_seen) → desk_of (record c.stage.inside.hand { world = c.exchange_in.new.world; owners = c.put_back.new.owners })
+back : (c : goal.After-item_seen) → desk_of (record c.stage.inside.hand { world = c.exchange_at.new.world; owners = c.put_back.new.owners })
     ≡ desk_of c.stage.inside.hand
 back c =
-    let out = rw c.ptr_compared-current.ensures.world at c.in-Err.ensures.exchanged in
+    let out = c.in-Err.ensures.exchanged in
     let fills = rw (c.make_room.ensures.kept, c.ownership-2.ensures) at c.take_filling-next.ensures.filled in
-    same-back c.stage.inside.hand c.exchange_in.new.world c.put_back.new.owners.entries (cell_kind c.in-Some-get.holder.now) c.args.owner _
+    same-back c.stage.inside.hand c.exchange_at.new.world c.put_back.new.owners.entries (cell_kind c.in-Some-get.holder.now) c.args.owner _
     c.take_filling-next.result _ out.3 fills out.0 c.put_back.ensures
 
 pub invariant_of-stage-in-Err : goal.invariant_of-stage-in-Err
@@ -116,11 +114,11 @@ returns-in-Err c =
     let h = c.stage.inside.hand in
     let found = c.in-Some.ensures.found in
     let compared = rw (c.as_slice-slots.ensures.value, c.as_slice-names.ensures.value, c.as_slice-dates.ensures.value) at c.in-Some-slot_compared.ensures in
-    let same = seen-as _ _ _ c.args.was c.ptr_compared-current.ensures.seen (compared.1 ∙ slot-compared h c.args.item) in
-    let out = rw c.ptr_compared-current.ensures.world at c.in-Err.ensures.exchanged in
+    let same = seen-as _ _ _ c.args.was refl (compared.1 ∙ slot-compared h c.args.item) in
+    let out = c.in-Err.ensures.exchanged in
     let fits = rw c.ownership.ensures at c.if-not-fits.ensures in
     record {
-      acts = rw (← c.stage.view_is) (still-as h (record h { world = c.exchange_in.new.world; owners = c.put_back.new.owners }) _ _ (back c)
+      acts = rw (← c.stage.view_is) (still-as h (record h { world = c.exchange_at.new.world; owners = c.put_back.new.owners }) _ _ (back c)
           (differs h c.stage.invariant c.is_whole.ensures c.args.name _ found.0 c.args.cell c.in-Some-get.holder.now c.in-Err.seen
           (sym c.in-Some-get.ensures) out.1 c.args.owner c.args.tag (fits.0 refl) c.args.guard c.args.item c.args.was c.item_seen.result
           c.in-Some.ensures.valid (compares h c.args.name.0 _ found.0 c.args.item compared.0) (λ e. out.2 (e ∙ sym same))

@@ -19,8 +19,8 @@ returns-in-Err c =
           c.in-Some.ensures.found.0 c.args.guard c.in-Some.ensures.valid refused.0);
     }
 
-pub overflow_add-self : goal.overflow_add-self
-overflow_add-self c = let line = rw (← c.stage.view_is) at c.requires.line in omega (arith, line.jobs)
+pub overflow_add-stage : goal.overflow_add-stage
+overflow_add-stage c = let line = rw (← c.stage.view_is) at c.requires.line in omega (arith, line.jobs)
 
 pub invariant_of-stage-2 : goal.invariant_of-stage-2
 invariant_of-stage-2 c =

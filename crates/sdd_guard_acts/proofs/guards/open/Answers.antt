@@ -49,7 +49,7 @@ pub date_waiting-requires : goal.date_waiting-requires
 date_waiting-requires c =
     let s = c.stage.invariant.sound in
     record {
-      inside = rw (c.as_slice.ensures.value, c.in_ok-items_among.ensures.owners) (given-inside (desk_of c.stage.inside.hand) _
+      inside = rw (c.as_slice.ensures.value, c.in_ok-due.ensures.owners) (given-inside (desk_of c.stage.inside.hand) _
           (inside c.stage.inside.hand c.args.name.0 _ c.stage.invariant c.in-Some.ensures) s.stocked s.cells c.is_whole.ensures s.accounts _);
     }
 
@@ -58,7 +58,7 @@ invariant_of-stage-2 c =
     let there = got c.stage.inside.hand.places c.args.name.0 _ c.in-Some.ensures in
     let noted = noted-is _ c.stage.invariant c.is_whole.ensures c.args.name _ there _ _ c.is_open-is_nested.ensures c.note_opening.ensures in
     let given = rw c.make_room.ensures.kept at c.give-name.ensures.given in
-    let dated = rw (c.as_slice.ensures.value, c.in_ok-items_among.ensures.owners, c.in-Ok.ensures.opened.1) at c.date_waiting.ensures.dated in
+    let dated = rw (c.as_slice.ensures.value, c.in_ok-due.ensures.owners, c.in-Ok.ensures.opened.1) at c.date_waiting.ensures.dated in
     let found = ap slots_among c.reclaims_next-waiting.ensures in
     tied-opened _ c.stage.invariant c.is_whole.ensures c.args.name _ there _ _ _ _ _ _ found
     noted given c.index-place.ensures c.in-Ok.ensures.reader refl refl c.in-Ok.ensures.opened.1 (rw (← c.stage.view_is) at c.requires.line)
@@ -69,15 +69,15 @@ returns c =
     let there = got c.stage.inside.hand.places c.args.name.0 _ c.in-Some.ensures in
     let noted = noted-is _ c.stage.invariant c.is_whole.ensures c.args.name _ there _ _ c.is_open-is_nested.ensures c.note_opening.ensures in
     let given = rw c.make_room.ensures.kept at c.give-name.ensures.given in
-    let dated = rw (c.as_slice.ensures.value, c.in_ok-items_among.ensures.owners, c.in-Ok.ensures.opened.1) at c.date_waiting.ensures.dated in
+    let dated = rw (c.as_slice.ensures.value, c.in_ok-due.ensures.owners, c.in-Ok.ensures.opened.1) at c.date_waiting.ensures.dated in
     let found = ap slots_among c.reclaims_next-waiting.ensures in
-    let moved = rw c.as_slice-names.ensures.value at c.in_ok-items_among.ensures.items in
+    let moved = rw c.as_slice-names.ensures.value at c.in_ok-due.ensures.items in
     let jobs = rw (c.as_slice-deferred.ensures.value, c.reclaims_next-waiting.ensures) at c.in_ok-ran.ensures.named in
     record {
       answers = rw (← c.stage.view_is, c.of.ensures, c.of-2.ensures) (answers-opened _ c.stage.invariant c.is_whole.ensures c.args.name _ there _
           c.note_opening.new.places.entries c.give-name.new.self.entries c.date_waiting.new.dates _ _ found noted given
           c.index-place.ensures c.in-Ok.ensures.reader refl refl c.in-Ok.ensures.opened.1 (rw (← c.stage.view_is) at c.requires.line)
-          c.date_waiting.ensures.long dated c.in_ok-items_among.due.items _ _ moved c.in_ok-items_among.ensures.ascending c.in-Ok.ensures.opened.0
+          c.date_waiting.ensures.long dated c.in_ok-due.due.items _ _ moved c.in_ok-due.ensures.ascending c.in-Ok.ensures.opened.0
           (c.give-name.ensures.name ∙ ap length c.make_room.ensures.kept) c.in-Ok.ensures.opened.2 _ jobs
           c.in_ok-ran.ensures.ascending);
     }

@@ -4,7 +4,6 @@ use Rattle.std.proofs.lemmas.Bool.{false≢true}
 use Rattle.sdd_desk.specs.Desk.{slot_of}
 use Rattle.sdd_lines.specs.declared.call.Call.TheVariants.{At}
 use Rattle.sdd_lines.specs.declared.answer.Reply.TheVariants as reply
-use Rattle.sdd_core.specs.declared.refused.Refused.TheVariants.{NoCell, NoSlot}
 use Rattle.sdd_stage.specs.declared.stage.Hand.{Hand}
 use Rattle.sdd_desk.specs.Script.{Acts, IsThereToPut}
 use Rattle.sdd_stage.specs.Stage.{desk_of, IsTied}
@@ -24,23 +23,13 @@ returns-then-is_missing c = record {
   acts = rw (← c.stage.view_is) (none-made c.stage.inside.hand c.args.name c.args.ownership c.args.value (c.if-is_missing.ensures.0 refl));
 }
 
-pub returns-then-has_no_cell : goal.returns-then-has_no_cell
-returns-then-has_no_cell c =
+pub returns-in-Some-refuses_item : goal.returns-in-Some-refuses_item
+returns-in-Some-refuses_item c =
     let put : IsThereToPut (desk_of c.stage.inside.hand) c.args.value =
     there-to-put c.stage.inside.hand c.args.value (λ missing. false≢true (c.if-is_missing.ensures.1 missing)) in
     record {
       acts = rw (← c.stage.view_is, c.make_room.ensures.kept, c.reserve.ensures.items) (acts-refused _ c.stage.invariant c.is_whole.ensures c.args.name _
-          (got c.stage.inside.hand.places c.args.name.0 _ c.in-Some.ensures) c.args.ownership c.args.value NoCell put (c.if-has_no_cell.ensures.0 refl));
-    }
-
-pub returns-then-has_no_slot : goal.returns-then-has_no_slot
-returns-then-has_no_slot c =
-    let put : IsThereToPut (desk_of c.stage.inside.hand) c.args.value =
-    there-to-put c.stage.inside.hand c.args.value (λ missing. false≢true (c.if-is_missing.ensures.1 missing)) in
-    record {
-      acts = rw (← c.stage.view_is, c.make_room.ensures.kept, c.reserve.ensures.items) (acts-refused _ c.stage.invariant c.is_whole.ensures c.args.name _
-          (got c.stage.inside.hand.places c.args.name.0 _ c.in-Some.ensures) c.args.ownership c.args.value NoSlot put
-          (λ full. false≢true (c.if-has_no_cell.ensures.1 full), c.if-has_no_slot.ensures.0 refl));
+          (got c.stage.inside.hand.places c.args.name.0 _ c.in-Some.ensures) c.args.ownership c.args.value _ put c.in-Some-refuses_item.ensures);
     }
 
 pub make_item-owner-requires-clause-home : goal.make_item-owner-requires-clause-home

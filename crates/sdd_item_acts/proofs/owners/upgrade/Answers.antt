@@ -11,6 +11,7 @@ use Rattle.sdd_item_acts.proofs.MissingItems.{gone-upgraded, shut-upgraded}
 use Rattle.sdd_stage.proofs.Missing.{points}
 use Rattle.sdd_item_acts.proofs.Unshared.{alone-upgraded, full-upgraded}
 use Rattle.sdd_item_acts.proofs.owners.upgrade.Goals as goal
+use Rattle.sdd_item_acts.proofs.owners.upgrade.Goals.{In-Some-slot_since}
 
 pub returns-in_default : goal.returns-in_default
 returns-in_default c = record {
@@ -26,12 +27,12 @@ returns-in_default-slot_since c =
     }
 
 -- the participant can point to the item, whose slot this is
-can-point : (c : goal.In-Some-slot_since) → CanPointTo (desk_of c.stage.inside.hand) c.args.name.0 c.args.item.0
+can-point : (c : In-Some-slot_since) → CanPointTo (desk_of c.stage.inside.hand) c.args.name.0 c.args.item.0
 can-point c =
     points c.stage.inside.hand c.args.name.0 _ c.in-Some.ensures.found.0 c.args.item.0
     (rw (c.as_slice-slots.ensures.value, c.as_slice-names.ensures.value, c.as_slice-dates.ensures.value) at c.in-Some-slot_since.ensures.0)
 
-slot-is : (c : goal.In-Some-slot_since) → c.in-Some-slot_since.slot ≡ slot_at (desk_of c.stage.inside.hand) c.args.item.0
+slot-is : (c : In-Some-slot_since) → c.in-Some-slot_since.slot ≡ slot_at (desk_of c.stage.inside.hand) c.args.item.0
 slot-is c = c.in-Some-slot_since.ensures.1 ∙ ap (λ slots. slice_index_or slots c.args.item.0 0) c.as_slice-slots.ensures.value
 
 pub share_item-requires-clause-stays : goal.share_item-requires-clause-stays

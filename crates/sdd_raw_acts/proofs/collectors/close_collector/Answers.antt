@@ -76,7 +76,7 @@ pub date_waiting-requires : goal.date_waiting-requires
 date_waiting-requires c =
     let s = c.stage.invariant.sound in
     record {
-      inside = rw (c.as_slice.ensures.value, c.in_ok-given.ensures) (given-inside (desk_of c.stage.inside.hand) _
+      inside = rw (c.as_slice.ensures.value, c.in_ok-gone.ensures.owners) (given-inside (desk_of c.stage.inside.hand) _
           (inside c.stage.inside.hand c.args.name.0 _ c.stage.invariant c.in-Some.ensures) s.stocked s.cells c.is_whole.ensures s.accounts _);
     }
 
@@ -85,7 +85,7 @@ invariant_of-stage-2 c =
     let h = c.stage.inside.hand in
     let x = c.in-Some-take.held in
     let same = one c.in-Some-get.held.now x _ c.in-Some-get.ensures c.in-Some-take.ensures.taken in
-    let given = rw (c.as_slice-names.ensures.value, c.number_of_collector-collected.ensures, same) at c.in_ok-found_for.ensures.owners in
+    let given = rw (c.as_slice-names.ensures.value, c.number_of_collector-collected.ensures, same) at c.in_ok-gone.ensures.owners in
     let dated = rw (c.as_slice.ensures.value, given) at c.date_waiting.ensures.dated in
     let closed = c.in_default-close_at.ensures.closed in
     tied-closed h c.stage.invariant c.is_whole.ensures c.args.name _ (got h.places c.args.name.0 _ c.in-Some.ensures) c.args.collector x
@@ -97,13 +97,13 @@ returns c =
     let h = c.stage.inside.hand in
     let x = c.in-Some-take.held in
     let same = one c.in-Some-get.held.now x _ c.in-Some-get.ensures c.in-Some-take.ensures.taken in
-    let given = rw (c.as_slice-names.ensures.value, c.number_of_collector-collected.ensures, same) at c.in_ok-found_for.ensures.owners in
+    let given = rw (c.as_slice-names.ensures.value, c.number_of_collector-collected.ensures, same) at c.in_ok-gone.ensures.owners in
     let dated = rw (c.as_slice.ensures.value, given) at c.date_waiting.ensures.dated in
-    let moved = rw (c.as_slice-names.ensures.value, c.number_of_collector-collected.ensures, same) at c.in_ok-found_for.ensures.items in
+    let moved = rw (c.as_slice-names.ensures.value, c.number_of_collector-collected.ensures, same) at c.in_ok-gone.ensures.items in
     let closed = c.in_default-close_at.ensures.closed in
     record {
       answers = rw (← c.stage.view_is, c.of.ensures, c.new.ensures) (answers-closed h c.stage.invariant c.is_whole.ensures c.args.name _
           (got h.places c.args.name.0 _ c.in-Some.ensures) c.args.collector x c.in-Some-take.ensures.taken closed.0 closed.1 c.close_at.new.world
           c.take.new.self.entries c.date_waiting.new.dates closed.2 c.in-Some-take.ensures.spent c.date_waiting.ensures.long dated
-          c.in_ok-found_for.gone.items moved c.in_ok-found_for.ensures.ascending);
+          c.in_ok-gone.gone.items moved c.in_ok-gone.ensures.ascending);
     }
