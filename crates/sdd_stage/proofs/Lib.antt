@@ -1,12 +1,5 @@
-pub mod Words
-pub mod CellActs
 pub mod Acts
-pub mod ExchangeActs
 pub mod Missing
-pub mod CollectorActs
-pub mod RawActs
-pub mod Unshared
 pub mod Inside
-pub mod Making
 pub mod Taken
-pub mod Ending
+pub mod Collectors

@@ -6,27 +6,20 @@ use Rattle.std.proofs.lemmas.Bool.{false≢true}
 use Rattle.sdd_base.specs.declared.owned.Owned.{Owned}
 use Rattle.sdd_base.specs.declared.shared.Shared.{Shared}
 use Rattle.sdd_lines.specs.declared.name.PlaceName.{PlaceName}
-use Rattle.sdd_lines.specs.declared.name.GuardName.{GuardName}
-use Rattle.sdd_lines.specs.declared.name.OwnerName.{OwnerName}
-use Rattle.sdd_lines.specs.declared.name.ItemName.{ItemName}
 use Rattle.sdd_lines.specs.declared.call.Call.TheVariants.{At}
 use Rattle.sdd_lines.specs.declared.call.Action.TheVariants as call
 use Rattle.sdd_lines.specs.declared.call.Action.{Action}
-use Rattle.sdd_lines.specs.declared.call.Value.{Value}
-use Rattle.sdd_lines.specs.declared.call.Value.TheVariants.{Number, Of}
 use Rattle.sdd_lines.specs.declared.answer.Reply.TheVariants as reply
 use Rattle.sdd_desk.specs.declared.val.Val.{Val}
-use Rattle.sdd_desk.specs.declared.ownership.Ownership.{Ownership}
-use Rattle.sdd_desk.specs.declared.ownership.Ownership.TheVariants as ownership
 use Rattle.sdd_steps.specs.declared.holding.AnOwner.{AnOwner}
 use Rattle.sdd_steps.specs.declared.holding.AnOwner.TheVariants.{Sole, Share}
 use Rattle.sdd_stage.specs.declared.stage.Hand.{Hand}
 use Rattle.sdd_hand.specs.declared.participants.Attending.{Attending}
 use Rattle.sdd_desk.specs.Desk.{Desk, opening_at, holding_at, since_of, since_in}
-use Rattle.sdd_desk.specs.Script.{Acts, HasOpen, IsParticipant, IsOwner, IsSole, IsShared, IsCellName, IsThereToPut, IsValid, CanPointTo}
-use Rattle.sdd_hand.specs.Hand.{attending, IsMissing, CanPointAt}
+use Rattle.sdd_desk.specs.Script.{Acts, IsParticipant, IsOwner, IsSole, IsShared, IsCellName, IsValid, CanPointTo}
+use Rattle.sdd_hand.specs.Hand.{attending, CanPointAt}
 use Rattle.sdd_steps.specs.Owners.{owner_holding, cell_holding}
-use Rattle.sdd_stage.specs.Stage.{desk_of, making}
+use Rattle.sdd_stage.specs.Stage.{desk_of}
 use Rattle.sdd_stage.proofs.Acts.{still}
 
 -- what isn't valid is answered so, and changes nothing
@@ -107,46 +100,12 @@ module _ (h : Hand) where
     by (Some (Sole x)) e = let entry = owner-entry o (Some (Sole x)) e in false≢true (rw entry at there)
     by (Some (Share x)) e = none x e
 
-  pub none-read : (name : PlaceName) (o : OwnerName) → None ≡ slice_index_or h.owners.entries.items o.0 None → Acts d (At name (call.Read o)) reply.Invalid d
-  none-read name o none = invalid d name (call.Read o) (λ valid. no-owner o.0 none valid.1)
-
-  pub none-retired : (name : PlaceName) (o : OwnerName) → ((owner : Owned Val) → slice_index_or h.owners.entries.items o.0 None ≢ Some (Sole owner)) →
-      Acts d (At name (call.Retire o)) reply.Invalid d
-  none-retired name o none = invalid d name (call.Retire o) (λ valid. no-sole o.0 none valid.1)
-
-  pub none-released : (name : PlaceName) (o : OwnerName) → ((owner : Shared Val) → slice_index_or h.owners.entries.items o.0 None ≢ Some (Share owner)) →
-      Acts d (At name (call.Release o)) reply.Invalid d
-  none-released name o none = invalid d name (call.Release o) (λ valid. no-shared o.0 none valid.1)
-
-  pub none-cloned : (name : PlaceName) (o : OwnerName) → ((owner : Shared Val) → slice_index_or h.owners.entries.items o.0 None ≢ Some (Share owner)) →
-      Acts d (At name (call.Clone o)) reply.Invalid d
-  none-cloned name o none = invalid d name (call.Clone o) (λ valid. no-shared o.0 none valid.1)
-
   -- ---- no cell has this name
 
   pub no-cell : (c : ℕ) → None ≡ slice_index_or h.cells.entries.items c None → ¬ (IsCellName d c)
   no-cell c none there =
       let entry : holding_at d.cells c ≡ None = get_or-map (option_map cell_holding) h.cells.entries.items c None ∙ ap (option_map cell_holding) (sym none) in
       false≢true (rw entry at there)
-
-  -- ---- what a line puts into an item is not there
-
-  none-to-put : (value : Value) → IsMissing h.owners.entries.items value → ¬ (IsThereToPut d value)
-  none-to-put (Number n) missing there = missing
-  none-to-put (Of o) missing there = no-owner o.0 (sym missing) there
-
-  pub none-made : (name : PlaceName) (own : Ownership) (value : Value) → IsMissing h.owners.entries.items value →
-      Acts d (At name (making own value)) reply.Invalid d
-  none-made name ownership.Sole value missing = invalid d name (call.Owned value) (λ valid. none-to-put value missing valid.1)
-  none-made name ownership.Shared value missing = invalid d name (call.Shared value) (λ valid. none-to-put value missing valid.1)
-
-  -- ---- no guard of this name is open
-
-  pub shut-looked : (name : PlaceName) (i : ItemName) (g : GuardName) → ¬ (HasOpen d name.0 g.0) → Acts d (At name (call.Look i g)) reply.Invalid d
-  shut-looked name i g shut = invalid d name (call.Look i g) (λ valid. shut valid.0)
-
-  pub shut-upgraded : (name : PlaceName) (i : ItemName) (g : GuardName) → ¬ (HasOpen d name.0 g.0) → Acts d (At name (call.Upgrade i g)) reply.Invalid d
-  shut-upgraded name i g shut = invalid d name (call.Upgrade i g) (λ valid. shut valid.0)
 
   -- ---- the participant can't point to this item
 
@@ -160,12 +119,3 @@ module _ (h : Hand) where
 
     pub points-not : (i : ℕ) → ¬ (CanPointAt h.world h.slots.items h.names.items h.dates.items i a.since) → ¬ (CanPointTo d n i)
     points-not i cannot can = cannot (record { last = can.0.last; taken = can.0.taken; fresh = λ waits. rw (← since-is) (can.1 waits) })
-
-  module _ (name : PlaceName) (a : Attending) (there : attending (Some a) ≡ opening_at d.places name.0) where
-    pub gone-looked : (i : ItemName) (g : GuardName) → ¬ (CanPointAt h.world h.slots.items h.names.items h.dates.items i.0 a.since) →
-        Acts d (At name (call.Look i g)) reply.Invalid d
-    gone-looked i g cannot = invalid d name (call.Look i g) (λ valid. points-not name.0 a there i.0 cannot valid.1)
-
-    pub gone-upgraded : (i : ItemName) (g : GuardName) → ¬ (CanPointAt h.world h.slots.items h.names.items h.dates.items i.0 a.since) →
-        Acts d (At name (call.Upgrade i g)) reply.Invalid d
-    gone-upgraded i g cannot = invalid d name (call.Upgrade i g) (λ valid. points-not name.0 a there i.0 cannot valid.1)

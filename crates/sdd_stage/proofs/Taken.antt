@@ -5,13 +5,9 @@ use Rattle.sdd_store.specs.Time.{lives}
 use Rattle.sdd_world.specs.Place.{index_of}
 use Rattle.sdd_hand.specs.declared.participants.Attending.{Attending}
 use Rattle.sdd_stage.specs.declared.stage.Hand.{Hand}
-use Rattle.sdd_desk.specs.Desk.{Desk}
 use Rattle.sdd_hand.specs.Hand.{attending}
 use Rattle.sdd_stage.specs.Stage.{IsTied}
-use Rattle.sdd_stage.proofs.Acts.{Goes, got, still}
-
-pub tied : {new : Hand} {d : Desk} → Goes new d → IsTied new
-tied goes = goes.tied
+use Rattle.sdd_stage.proofs.Acts.{got, still}
 
 -- the participant of a name is one of the world's
 module _ (h : Hand) (n : ℕ) (a : Attending) (t : IsTied h)

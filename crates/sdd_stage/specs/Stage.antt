@@ -2,19 +2,13 @@
 use Rattle.std.specs.Prelude.{ℕ, ◌≡◌, List, Option, Some, None, map, slice_index_or}
 use Rattle.std.specs.Option.{option_map}
 use Rattle.sdd_base.specs.Guard.{reader_of}
-use Rattle.sdd_lines.specs.declared.call.Action.{Action}
-use Rattle.sdd_lines.specs.declared.name.OwnerName.{OwnerName}
-use Rattle.sdd_lines.specs.declared.call.Value.{Value}
 use Rattle.sdd_desk.specs.Desk.{Desk, Opening, opening_at}
 use Rattle.sdd_desk.specs.Sound.{IsSound}
-use Rattle.sdd_desk.specs.declared.ownership.Ownership.{Ownership}
 use Rattle.sdd_hand.specs.declared.participants.Guarding.{Guarding}
 use Rattle.sdd_stage.specs.declared.stage.Hand.{Hand}
 use Rattle.sdd_steps.specs.Owners.{owner_holding, cell_holding, collector_holding}
 use Rattle.sdd_hand.specs.Hand.{attending, guarding}
 use Rattle.sdd_token.specs.Units as token
-use Rattle.sdd_lines.specs.declared.call.Action.TheVariants as call
-use Rattle.sdd_desk.specs.declared.ownership.Ownership.TheVariants as ownership
 
 abbrev pub desk_of : Hand → Desk
 desk_of s =
@@ -46,12 +40,3 @@ GuardsIn home places (Some held) = IsGuardIn home places held
 pub record IsTied (s : Hand) : Type 0 where
   pub sound : IsSound (desk_of s)
   pub guards : (g : ℕ) → GuardsIn s.world.home.readers (map attending s.places.entries.items) (slice_index_or s.guards.entries.items g None)
-
--- the line that makes an item that is so owned
-abbrev pub making : Ownership → Value → Action
-making ownership.Sole value = call.Owned value
-making ownership.Shared value = call.Shared value
-
-abbrev pub making_cell : Ownership → Option OwnerName → Action
-making_cell ownership.Sole x = call.CellOwned x
-making_cell ownership.Shared x = call.CellShared x

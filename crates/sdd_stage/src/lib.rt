@@ -1,7 +1,6 @@
-//! A script in the middle of a run: what each of its lines answers, and what it leaves in hand.
+//! A script in the middle of a run: what its names stand for, and the world that it plays on.
 #![tactic(auto)]
 
 pub mod stage;
-mod turns;
 
-pub use stage::Stage;
+pub use stage::{Hand, Stage};

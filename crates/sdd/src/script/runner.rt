@@ -4,8 +4,10 @@ ghost use Rattle.sdd_base.specs.Limits.{AreInRange};
 ghost use Rattle.sdd_desk.specs.Script.{IsRun};
 
 use crate::script::scene::Scene;
+use sdd_acts::step;
 use sdd_base::Limits;
 use sdd_core::Refused;
+use sdd_guard_acts::leaving::close;
 use sdd_lines::{Answer, Call};
 use sdd_stage::Stage;
 use std::alloc::Global;
@@ -23,15 +25,15 @@ pub fn run(alloc: Global, limits: Limits, calls: &[Call]) -> Result<(Vec<Answer>
     let mut answers = match Vec::with_capacity(alloc, calls.len()) {
         Ok(answers) => answers,
         Err(_) => {
-            stage.close();
+            close(stage);
             return Err(Refused::NoMemory);
         }
     };
     for call in calls {
-        match stage.step(call) {
+        match step(&mut stage, call) {
             Ok(answer) => answers.push_reserved(answer),
             Err(refused) => {
-                stage.close();
+                close(stage);
                 return Err(refused);
             }
         }

@@ -2,6 +2,7 @@
 ghost use Rattle.std.specs.Prelude.{◌≡◌, ◌+◌};
 
 use sdd_desk::Val;
+use sdd_guard_acts::leaving::close;
 use sdd_stage::Stage;
 use sdd_store::Tally;
 use sdd_world::World;
@@ -51,6 +52,6 @@ impl Scene {
         ensures balance { result.reclaimed + result.in_place ≡ result.made }
     {
         let Scene { stage } = self;
-        stage.close()
+        close(stage)
     }
 }

@@ -1,4 +1,4 @@
-use Rattle.sdd_stage.proofs.Words.{refl, arith}
+use Rattle.std.proofs.Common.{refl, arith}
 use Rattle.sdd_stage.proofs.Acts.{tied-start}
 use Rattle.sdd_stage.proofs.stage.Stage.new.Goals as goal
 

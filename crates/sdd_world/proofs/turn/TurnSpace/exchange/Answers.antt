@@ -3,7 +3,7 @@ use Rattle.std.specs.Prelude.{is_some, unwrap_or}
 use Rattle.std.proofs.lemmas.List.{get_or-set_same}
 use Rattle.sdd_token.specs.Right.{number_of}
 use Rattle.sdd_store.specs.declared.standing.Cell.{Cell}
-use Rattle.sdd_slots.specs.Cells.{cell_with}
+use Rattle.sdd_standings.specs.Cells.{cell_with}
 use Rattle.sdd_slots.proofs.SlotsKept.{inside-some}
 use Rattle.sdd_base.specs.Ptr.{cell_seen}
 use Rattle.sdd_world.proofs.turn.TurnSpace.exchange.Goals as goal

@@ -1,0 +1,2 @@
+pub mod CellActs
+pub mod ExchangeActs

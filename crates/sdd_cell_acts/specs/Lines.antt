@@ -1,0 +1,27 @@
+-- The lines on cells
+use Rattle.sdd_desk.specs.declared.ownership.Ownership.TheVariants as ownership
+use Rattle.sdd_desk.specs.declared.ownership.Ownership.{Ownership}
+use Rattle.sdd_lines.specs.declared.name.OwnerName.{OwnerName}
+use Rattle.std.specs.Prelude.{Option}
+use Rattle.sdd_lines.specs.declared.call.Action.{Action}
+use Rattle.sdd_lines.specs.declared.call.Action.TheVariants as call
+
+-- an action on a cell
+abbrev pub IsCellAct : Action → Type 0
+IsCellAct (call.CellOwned owner) = Unit {0}
+IsCellAct (call.CellShared owner) = Unit {0}
+IsCellAct (call.Load cell guard) = Unit {0}
+IsCellAct (call.Tag cell) = Unit {0}
+IsCellAct (call.TagIf cell tag was) = Unit {0}
+IsCellAct (call.CloseCell cell) = Unit {0}
+IsCellAct (call.Swap cell owner tag) = Unit {0}
+IsCellAct (call.Exchange cell guard item was owner tag) = Unit {0}
+IsCellAct (call.Into cell) = Unit {0}
+IsCellAct (call.Copy cell guard) = Unit {0}
+IsCellAct (call.Share cell guard) = Unit {0}
+IsCellAct other = ⊥
+
+-- the line that makes a cell that holds owners of this kind
+abbrev pub making_cell : Ownership → Option OwnerName → Action
+making_cell ownership.Sole x = call.CellOwned x
+making_cell ownership.Shared x = call.CellShared x

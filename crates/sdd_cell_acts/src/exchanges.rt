@@ -1,0 +1,179 @@
+//! What participants do with the owners that cells hold.
+#![tactic(auto, using(sdd_stage::proofs::Taken::in_hand))]
+
+ghost use Rattle.std.specs.Prelude.{◌≡◌, ◌<◌, None, Some, MatchResult};
+ghost use Rattle.sdd_store.specs.declared.standing.Cell.{Cell};
+ghost use Rattle.sdd_desk.specs.Script.{Acts};
+
+use sdd_core::{Refused, Tag};
+use sdd_hand::items::{item_seen, slot_compared};
+use sdd_hand::owners::{fits, give_filling, put_back, shared_cell_of, take_filling, told_back};
+use sdd_hand::participants::under;
+use sdd_lines::{Action, Call, CellName, GuardName, ItemName, OwnerName, PlaceName, Reply};
+use sdd_stage::Stage;
+use sdd_steps::holding::{ACell, AnOwner};
+use sdd_store::Cell;
+use sdd_turns::exchanges::{copy_held, exchange_at, share_held, swap_in, take_out};
+use std::alloc::AllocError;
+
+pub fn swap(
+    stage: &mut Stage,
+    name: PlaceName,
+    cell: CellName,
+    owner: Option<OwnerName>,
+    tag: Tag,
+) -> Result<Reply, AllocError>
+    ensures acts { MatchResult result (λ reply. Acts stage.old (Call.At name (Action.Swap cell owner tag)) reply stage.new) (λ _. stage.new ≡ stage.old) }
+{
+    let Some(attending) = stage.hand.places.get(name.0) else {
+        return Ok(Reply::Invalid);
+    };
+    let Some(holder) = stage.hand.cells.get(cell.0) else {
+        return Ok(Reply::Invalid);
+    };
+    if !fits(&stage.hand.owners, holder.ownership(), owner) {
+        return Ok(Reply::Invalid);
+    }
+    stage.hand.owners.make_room()?;
+    stage.hand.world.is_whole();
+    let next = take_filling(&mut stage.hand.owners, holder.ownership(), owner);
+    let (old, was) = swap_in(&mut stage.hand.world, &attending.place, holder, next, tag);
+    let name = give_filling(&mut stage.hand.owners, old);
+    Ok(Reply::Swapped(name, was))
+}
+
+pub fn exchange(
+    stage: &mut Stage,
+    name: PlaceName,
+    cell: CellName,
+    guard: GuardName,
+    item: Option<ItemName>,
+    was: Tag,
+    owner: Option<OwnerName>,
+    tag: Tag,
+) -> Result<Reply, AllocError>
+    ensures acts { MatchResult result (λ reply. Acts stage.old (Call.At name (Action.Exchange cell guard item was owner tag)) reply stage.new)
+        (λ _. stage.new ≡ stage.old) }
+{
+    let Some((attending, held)) = under(&stage.hand.places, &stage.hand.guards, name, guard) else {
+        return Ok(Reply::Invalid);
+    };
+    let Some(holder) = stage.hand.cells.get(cell.0) else {
+        return Ok(Reply::Invalid);
+    };
+    if !fits(&stage.hand.owners, holder.ownership(), owner) {
+        return Ok(Reply::Invalid);
+    }
+    let slots = stage.hand.slots.as_slice();
+    let names = stage.hand.names.as_slice();
+    let dates = stage.hand.dates.as_slice();
+    let Some(slot) = slot_compared(
+        &stage.hand.world,
+        slots,
+        names,
+        dates,
+        item,
+        attending.since,
+    ) else {
+        return Ok(Reply::Invalid);
+    };
+    stage.hand.owners.make_room()?;
+    stage.hand.world.is_whole();
+    let next = take_filling(&mut stage.hand.owners, holder.ownership(), owner);
+    let place = &attending.place;
+    let compared = Cell {
+        held: slot,
+        tag: was,
+    };
+    match exchange_at(
+        &mut stage.hand.world,
+        place,
+        &held.guard,
+        holder,
+        compared,
+        next,
+        tag,
+    ) {
+        Ok(old) => {
+            let name = give_filling(&mut stage.hand.owners, old);
+            Ok(Reply::Exchanged(name))
+        }
+        Err((back, seen)) => {
+            put_back(&mut stage.hand.owners, owner, back);
+            Ok(Reply::Differs(item_seen(names, seen.held), seen.tag))
+        }
+    }
+}
+
+pub fn into_owner(stage: &mut Stage, name: PlaceName, cell: CellName) -> Result<Reply, AllocError>
+    ensures acts { MatchResult result (λ reply. Acts stage.old (Call.At name (Action.Into cell)) reply stage.new) (λ _. stage.new ≡ stage.old) }
+{
+    let Some(attending) = stage.hand.places.get(name.0) else {
+        return Ok(Reply::Invalid);
+    };
+    if stage.hand.cells.get(cell.0).is_none() {
+        return Ok(Reply::Invalid);
+    }
+    stage.hand.owners.make_room()?;
+    stage.hand.world.is_whole();
+    let Some(holder) = stage.hand.cells.take(cell.0) else {
+        unreachable!()
+    };
+    let held = take_out(&mut stage.hand.world, &attending.place, holder);
+    let name = give_filling(&mut stage.hand.owners, held);
+    Ok(told_back(name))
+}
+
+pub fn copy(
+    stage: &mut Stage,
+    name: PlaceName,
+    cell: CellName,
+    guard: GuardName,
+) -> Result<Reply, AllocError>
+    ensures acts { MatchResult result (λ reply. Acts stage.old (Call.At name (Action.Copy cell guard)) reply stage.new) (λ _. stage.new ≡ stage.old) }
+{
+    let Some((attending, held)) = under(&stage.hand.places, &stage.hand.guards, name, guard) else {
+        return Ok(Reply::Invalid);
+    };
+    if shared_cell_of(&stage.hand.cells, cell.0).is_none() {
+        return Ok(Reply::Invalid);
+    }
+    stage.hand.cells.make_room()?;
+    stage.hand.world.is_whole();
+    let Some(holder) = shared_cell_of(&stage.hand.cells, cell.0) else {
+        unreachable!()
+    };
+    match copy_held(&mut stage.hand.world, &attending.place, &held.guard, holder) {
+        Ok(other) => {
+            let name = stage.hand.cells.give(ACell::Share(other));
+            Ok(Reply::Cell(CellName(name)))
+        }
+        Err(refused) => Ok(Reply::Refused(refused)),
+    }
+}
+
+pub fn share(
+    stage: &mut Stage,
+    name: PlaceName,
+    cell: CellName,
+    guard: GuardName,
+) -> Result<Reply, AllocError>
+    ensures acts { MatchResult result (λ reply. Acts stage.old (Call.At name (Action.Share cell guard)) reply stage.new) (λ _. stage.new ≡ stage.old) }
+{
+    let Some((attending, held)) = under(&stage.hand.places, &stage.hand.guards, name, guard) else {
+        return Ok(Reply::Invalid);
+    };
+    let Some(holder) = shared_cell_of(&stage.hand.cells, cell.0) else {
+        return Ok(Reply::Invalid);
+    };
+    stage.hand.owners.make_room()?;
+    stage.hand.world.is_whole();
+    match share_held(&mut stage.hand.world, &attending.place, &held.guard, holder) {
+        Ok(Some(owner)) => {
+            let name = stage.hand.owners.give(AnOwner::Share(owner));
+            Ok(Reply::Owner(OwnerName(name)))
+        }
+        Ok(None) => Ok(Reply::Nothing),
+        Err(refused) => Ok(Reply::Refused(refused)),
+    }
+}

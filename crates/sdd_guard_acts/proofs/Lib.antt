@@ -1,0 +1,2 @@
+pub mod GuardActs
+pub mod Ending

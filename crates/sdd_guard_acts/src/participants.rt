@@ -1,0 +1,46 @@
+//! How participants come and go.
+#![tactic(auto, using(sdd_stage::proofs::Taken::in_hand))]
+
+ghost use Rattle.std.specs.Prelude.{◌≡◌, MatchResult};
+ghost use Rattle.sdd_desk.specs.Script.{Acts};
+
+use sdd_core::Refused;
+use sdd_hand::participants::Attending;
+use sdd_lines::{Action, Call, PlaceName, Reply};
+use sdd_stage::Stage;
+use sdd_world::inner::is_open;
+
+pub fn register(stage: &mut Stage) -> Result<Reply, Refused>
+    ensures acts { MatchResult result (λ reply. Acts stage.old Call.Register reply stage.new)
+        (λ refused. (refused ≡ Refused.NoMemory) × (stage.new ≡ stage.old)) }
+{
+    stage.hand.places.make_room()?;
+    stage.hand.world.is_whole();
+    match stage.hand.world.register() {
+        Ok(place) => {
+            let name = stage.hand.places.give(Attending { place, since: 0 });
+            Ok(Reply::Place(PlaceName(name)))
+        }
+        Err(Refused::NoPlace) => Ok(Reply::Refused(Refused::NoPlace)),
+        Err(_) => Err(Refused::NoMemory),
+    }
+}
+
+pub fn end(stage: &mut Stage, name: PlaceName) -> Reply
+    ensures acts { Acts stage.old (Call.At name Action.End) result stage.new }
+{
+    let Some(attending) = stage.hand.places.get(name.0) else {
+        return Reply::Invalid;
+    };
+    stage.hand.world.is_whole();
+    if is_open(&stage.hand.world, &attending.place) {
+        return Reply::Refused(Refused::GuardOpen);
+    }
+    let Some(Attending { place, since: _ }) = stage.hand.places.take(name.0) else {
+        return Reply::Invalid;
+    };
+    match stage.hand.world.end(place) {
+        Ok(()) => Reply::Done,
+        Err(_) => unreachable!(),
+    }
+}

@@ -1,0 +1,29 @@
+//! The actions of this crate, and what each answers.
+ghost use Rattle.std.specs.Prelude.{◌≡◌, MatchOption, MatchResult};
+ghost use Rattle.sdd_desk.specs.Script.{Acts};
+ghost use Rattle.sdd_item_acts.specs.Lines.{IsItemAct};
+
+use crate::{items, owners};
+use sdd_core::Refused;
+use sdd_desk::Ownership;
+use sdd_lines::{Action, Call, PlaceName, Reply};
+use sdd_stage::Stage;
+
+/// An action on an item or an owner. None where the action is another.
+pub fn act(stage: &mut Stage, name: PlaceName, action: Action) -> Result<Option<Reply>, Refused>
+    ensures acts { MatchResult result
+        (λ o. MatchOption o (¬ (IsItemAct action) × (stage.new ≡ stage.old)) (λ reply. Acts stage.old (Call.At name action) reply stage.new))
+        (λ refused. (refused ≡ Refused.NoMemory) × (stage.new ≡ stage.old)) }
+{
+    Ok(Some(match action {
+        Action::Owned(value) => items::make(stage, name, value, Ownership::Sole)?,
+        Action::Shared(value) => items::make(stage, name, value, Ownership::Shared)?,
+        Action::Read(owner) => items::read(stage, name, owner),
+        Action::Look(item, guard) => items::look(stage, name, item, guard),
+        Action::Retire(owner) => owners::retire(stage, name, owner),
+        Action::Release(owner) => owners::release(stage, name, owner),
+        Action::Clone(owner) => owners::clone_owner(stage, name, owner)?,
+        Action::Upgrade(item, guard) => owners::upgrade(stage, name, item, guard)?,
+        _ => return Ok(None),
+    }))
+}

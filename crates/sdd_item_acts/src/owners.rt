@@ -1,0 +1,110 @@
+//! What participants do with the owners of items.
+#![tactic(auto, using(sdd_stage::proofs::Taken::in_hand))]
+
+ghost use Rattle.std.specs.Prelude.{◌≡◌, ◌<◌, None, Some, MatchResult};
+ghost use Rattle.sdd_desk.specs.Script.{Acts};
+
+use sdd_base::inner::{slot_of_owner, slot_of_shared};
+use sdd_core::Refused;
+use sdd_hand::items::slot_since;
+use sdd_hand::owners::{shared_of, take_shared, take_sole};
+use sdd_hand::participants::under;
+use sdd_lines::{Action, Call, GuardName, ItemName, OwnerName, PlaceName, Reply};
+use sdd_stage::Stage;
+use sdd_steps::holding::AnOwner;
+use sdd_turns::owners::{clone_held, release_owner, retire_item, share_item};
+use std::alloc::AllocError;
+
+pub fn retire(stage: &mut Stage, name: PlaceName, owner: OwnerName) -> Reply
+    ensures acts { Acts stage.old (Call.At name (Action.Retire owner)) result stage.new }
+{
+    let Some(attending) = stage.hand.places.get(name.0) else {
+        return Reply::Invalid;
+    };
+    let Some(owner) = take_sole(&mut stage.hand.owners, owner.0) else {
+        return Reply::Invalid;
+    };
+    stage.hand.world.is_whole();
+    let slot = slot_of_owner(&owner);
+    retire_item(&mut stage.hand.world, &attending.place, owner);
+    stage.hand.dates[slot as usize] = stage.hand.moment;
+    Reply::Done
+}
+
+pub fn release(stage: &mut Stage, name: PlaceName, owner: OwnerName) -> Reply
+    ensures acts { Acts stage.old (Call.At name (Action.Release owner)) result stage.new }
+{
+    let Some(attending) = stage.hand.places.get(name.0) else {
+        return Reply::Invalid;
+    };
+    let Some(owner) = take_shared(&mut stage.hand.owners, owner.0) else {
+        return Reply::Invalid;
+    };
+    stage.hand.world.is_whole();
+    let slot = slot_of_shared(&owner);
+    let was_last = release_owner(&mut stage.hand.world, &attending.place, owner);
+    if was_last {
+        stage.hand.dates[slot as usize] = stage.hand.moment;
+    }
+    Reply::Truth(was_last)
+}
+
+pub fn clone_owner(
+    stage: &mut Stage,
+    name: PlaceName,
+    owner: OwnerName,
+) -> Result<Reply, AllocError>
+    ensures acts { MatchResult result (λ reply. Acts stage.old (Call.At name (Action.Clone owner)) reply stage.new) (λ _. stage.new ≡ stage.old) }
+{
+    let Some(attending) = stage.hand.places.get(name.0) else {
+        return Ok(Reply::Invalid);
+    };
+    stage.hand.owners.make_room()?;
+    let Some(held) = shared_of(&stage.hand.owners, owner.0) else {
+        return Ok(Reply::Invalid);
+    };
+    stage.hand.world.is_whole();
+    match clone_held(&mut stage.hand.world, &attending.place, held) {
+        Ok(owner) => {
+            let name = stage.hand.owners.give(AnOwner::Share(owner));
+            Ok(Reply::Owner(OwnerName(name)))
+        }
+        Err(refused) => Ok(Reply::Refused(refused)),
+    }
+}
+
+pub fn upgrade(
+    stage: &mut Stage,
+    name: PlaceName,
+    item: ItemName,
+    guard: GuardName,
+) -> Result<Reply, AllocError>
+    ensures acts { MatchResult result (λ reply. Acts stage.old (Call.At name (Action.Upgrade item guard)) reply stage.new) (λ _. stage.new ≡ stage.old) }
+{
+    let Some((attending, held)) = under(&stage.hand.places, &stage.hand.guards, name, guard) else {
+        return Ok(Reply::Invalid);
+    };
+    stage.hand.owners.make_room()?;
+    stage.hand.world.is_whole();
+    let slots = stage.hand.slots.as_slice();
+    let names = stage.hand.names.as_slice();
+    let dates = stage.hand.dates.as_slice();
+    let Some(slot) = slot_since(
+        &stage.hand.world,
+        slots,
+        names,
+        dates,
+        item,
+        attending.since,
+    ) else {
+        return Ok(Reply::Invalid);
+    };
+    match share_item(&mut stage.hand.world, &attending.place, &held.guard, slot) {
+        Ok(Some(owner)) => {
+            let name = stage.hand.owners.give(AnOwner::Share(owner));
+            Ok(Reply::Owner(OwnerName(name)))
+        }
+        Ok(None) => Ok(Reply::Nothing),
+        Err(refused) => Ok(Reply::Refused(refused)),
+    }
+}

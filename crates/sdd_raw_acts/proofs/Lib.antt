@@ -1,0 +1,2 @@
+pub mod RawActs
+pub mod CollectorActs

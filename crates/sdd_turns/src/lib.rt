@@ -1,0 +1,12 @@
+//! What a participant of a script does at its place of a world, when it is its turn.
+#![tactic(auto)]
+
+pub mod cells;
+pub mod collectors;
+pub mod exchanges;
+pub mod guards;
+pub mod items;
+pub mod owners;
+mod turn;
+
+pub use turn::step_at;
