@@ -8,6 +8,7 @@ use sdd_lines::{
 use std::alloc::Global;
 use std::test::Fail;
 
+/// The other forms of lines are played, each with its answer, by `sdd_script_rows`.
 #[test]
 fn lines_are_calls(rt: HostRuntime) {
     let place = PlaceName(0);
@@ -19,15 +20,10 @@ fn lines_are_calls(rt: HostRuntime) {
         ("register", Call::Register),
         ("tally", Call::Tally),
         ("p7 open", Call::At(PlaceName(7), Action::Open)),
-        ("p0 end", Call::At(place, Action::End)),
-        ("p0 epoch g1", Call::At(place, Action::Epoch(guard))),
-        ("p0 garbage g1", Call::At(place, Action::Garbage(guard))),
-        ("p0 set g1", Call::At(place, Action::Set(guard))),
         (
-            "p0 accelerate g1",
-            Call::At(place, Action::Accelerate(guard)),
+            "p18446744073709551615 open",
+            Call::At(PlaceName(u64::MAX), Action::Open),
         ),
-        ("p0 defer g1", Call::At(place, Action::Defer(guard))),
         (
             "p0 owned 0",
             Call::At(place, Action::Owned(Value::Number(0))),
@@ -36,49 +32,11 @@ fn lines_are_calls(rt: HostRuntime) {
             "p0 owned 18446744073709551615",
             Call::At(place, Action::Owned(Value::Number(u64::MAX))),
         ),
-        ("p0 read o2", Call::At(place, Action::Read(owner))),
         ("p0 look i10 g1", Call::At(place, Action::Look(item, guard))),
-        ("p0 retire o2", Call::At(place, Action::Retire(owner))),
-        ("p0 close g1", Call::At(place, Action::Close(guard))),
-        (
-            "p0 shared of o2",
-            Call::At(place, Action::Shared(Value::Of(owner))),
-        ),
-        (
-            "p0 upgrade i10 g1",
-            Call::At(place, Action::Upgrade(item, guard)),
-        ),
-        ("p0 release o2", Call::At(place, Action::Release(owner))),
-        ("p0 clone o2", Call::At(place, Action::Clone(owner))),
-        ("p0 put o2 7", Call::At(place, Action::Put(owner, 7))),
-        ("p0 drop o2", Call::At(place, Action::Drop(owner))),
-        ("p0 raw o2", Call::At(place, Action::Raw(owner))),
-        ("p0 unraw i10", Call::At(place, Action::Unraw(item))),
-        ("p0 see i10 g1", Call::At(place, Action::See(item, guard))),
-        (
-            "p0 cell owned none",
-            Call::At(place, Action::CellOwned(None)),
-        ),
-        (
-            "p0 cell shared o2",
-            Call::At(place, Action::CellShared(Some(owner))),
-        ),
-        ("p0 load c3 g1", Call::At(place, Action::Load(cell, guard))),
-        ("p0 tag c3", Call::At(place, Action::Tag(cell))),
+        ("p0 set g1", Call::At(place, Action::Set(guard))),
         (
             "p0 swap c3 o2 First",
             Call::At(place, Action::Swap(cell, Some(owner), Tag::First)),
-        ),
-        (
-            "p0 tagif c3 Both if None",
-            Call::At(place, Action::TagIf(cell, Tag::Both, Tag::None)),
-        ),
-        (
-            "p0 cas c3 g1 was i10 None now o2 First",
-            Call::At(
-                place,
-                Action::Exchange(cell, guard, Some(item), Tag::None, Some(owner), Tag::First),
-            ),
         ),
         (
             "p0 cas c3 g1 was null Second now none Both",
@@ -87,115 +45,105 @@ fn lines_are_calls(rt: HostRuntime) {
                 Action::Exchange(cell, guard, None, Tag::Second, None, Tag::Both),
             ),
         ),
-        ("p0 copy c3 g1", Call::At(place, Action::Copy(cell, guard))),
-        (
-            "p0 share c3 g1",
-            Call::At(place, Action::Share(cell, guard)),
-        ),
-        ("p0 into c3", Call::At(place, Action::Into(cell))),
-        ("p0 close c3", Call::At(place, Action::CloseCell(cell))),
-        ("p0 collector", Call::At(place, Action::Collector)),
         (
             "p0 collect o2 g1 k4",
             Call::At(place, Action::Collect(owner, guard, CollectorName(4))),
-        ),
-        (
-            "p0 close k4",
-            Call::At(place, Action::CloseCollector(CollectorName(4))),
-        ),
-        (
-            "p18446744073709551615 open",
-            Call::At(PlaceName(u64::MAX), Action::Open),
         ),
     ] {
         assert_eq!(rt; Call::parse(line.as_bytes()), Some(call), "{line:?}");
     }
 }
 
+/// Lines that are no calls, though each is nearly one.
+const NO_CALLS: &str = "\
+p0  read o0
+Register
+register 1
+p0  open
+p00 open
+P0 open
+p open
+p-1 open
+p0
+open
+p0 op
+p0 open g0
+p0 owned
+p0 owned +1
+p0 owned 01
+p0 owned 18446744073709551616
+p0 look i0
+p0 look g0 i0
+p18446744073709551616 open
+close p0
+p0 close o0
+p0 close p0
+p0 collector k0
+p0 collect o0 k0 g0
+p0 collect o0 g0
+p0 collect none g0 k0
+p0 retire i0
+p0 defer
+p0 defer o0
+p0 defer g0 g0
+p0 owned none
+p0 owned of none
+p0 cell o0
+p0 cell shared null
+p0 swap c0 o0
+p0 swap c0 o0 first
+p0 cas c0 g0 was none None now o0 None
+p0 cas c0 g0 was i0 None now o0 None None
+p0 look null g0
+p0 shared
+p0 shared of i0
+p0 release i0
+p0 upgrade o0 g0
+p0 put o0
+p0 put o0 of o1
+p0 put i0 1
+p0 drop i0
+p0 drop none
+p0 raw i0
+p0 unraw o0
+p0 unraw null
+p0 unraw i0 g0
+p0 see i0
+p0 see o0 g0
+p0 see null g0
+p0 cell none
+p0 cell owned
+p0 load c0
+p0 copy o0 g0
+p0 share c0
+p0 into o0
+p0 swap c0 null None
+p0 tagif c0 First None
+p0 tagif c0 First if none
+p0 cas c0 g0 was o0 None now o0 None
+p0 cas c0 g0 was i0 None now null None
+p0 cas c0 g0 was i0 now o0 None
+p0 cas c0 was i0 None now o0 None
+end
+p0 end g0";
+
 #[test]
 fn malformed_lines_are_no_calls(rt: HostRuntime) {
+    for line in NO_CALLS.lines() {
+        assert_eq!(rt; Call::parse(line.as_bytes()), None, "{line:?}");
+    }
     for line in [
         "",
         " ",
         " register",
         " p0 open",
-        "p0  read o0",
         "register ",
-        "Register",
-        "register 1",
-        "p0  open",
         "p0\topen",
         "register\r",
         "register\n",
         "p0 open\u{e9}",
-        "p00 open",
-        "P0 open",
-        "p open",
-        "p-1 open",
-        "p0",
         "p0 ",
-        "open",
-        "p0 op",
-        "p0 open g0",
-        "p0 owned",
-        "p0 owned +1",
-        "p0 owned 01",
-        "p0 owned 18446744073709551616",
-        "p0 look i0",
-        "p0 look g0 i0",
         "p0 look i0 g0 ",
-        "p18446744073709551616 open",
-        "close p0",
-        "p0 close o0",
-        "p0 close p0",
-        "p0 collector k0",
-        "p0 collect o0 k0 g0",
-        "p0 collect o0 g0",
-        "p0 collect none g0 k0",
-        "p0 retire i0",
-        "p0 defer",
-        "p0 defer o0",
-        "p0 defer g0 g0",
-        "p0 owned none",
-        "p0 owned of none",
-        "p0 cell o0",
-        "p0 cell shared null",
-        "p0 swap c0 o0",
-        "p0 swap c0 o0 first",
-        "p0 cas c0 g0 was none None now o0 None",
-        "p0 cas c0 g0 was i0 None now o0 None None",
-        "p0 look null g0",
-        "p0 shared",
-        "p0 shared of i0",
-        "p0 release i0",
-        "p0 upgrade o0 g0",
-        "p0 put o0",
-        "p0 put o0 of o1",
-        "p0 put i0 1",
-        "p0 drop i0",
-        "p0 drop none",
-        "p0 raw i0",
-        "p0 unraw o0",
-        "p0 unraw null",
-        "p0 unraw i0 g0",
-        "p0 see i0",
-        "p0 see o0 g0",
-        "p0 see null g0",
-        "p0 cell none",
-        "p0 cell owned",
-        "p0 load c0",
-        "p0 copy o0 g0",
-        "p0 share c0",
-        "p0 into o0",
-        "p0 swap c0 null None",
-        "p0 tagif c0 First None",
-        "p0 tagif c0 First if none",
-        "p0 cas c0 g0 was o0 None now o0 None",
-        "p0 cas c0 g0 was i0 None now null None",
-        "p0 cas c0 g0 was i0 now o0 None",
-        "p0 cas c0 was i0 None now o0 None",
-        "end",
-        "p0 end g0",
         "p0 end ",
     ] {
         assert_eq!(rt; Call::parse(line.as_bytes()), None, "{line:?}");
