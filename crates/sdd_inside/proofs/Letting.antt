@@ -149,11 +149,11 @@ module _ {T : Type 0} (w : World T) (p k : ℕ) where
     pub whole-other : Found s → has_others s ≡ true → IsWhole (with_standing w k (let_go s))
     whole-other f others = subst (λ (u : World T). IsWhole u) (sym (let-other s f others)) (Whole-owner_given w p k (taken-place w.time p there some) s is i)
 
-  module _ (holds : T → List Holding) (l : Lending) (s : Option Standing) (is : standing_at w k ≡ s) (there : p < length w.time.places) (i : AreLentOf w l)
-    where
-      pub lent-last : Found s → has_others s ≡ false →
-          AreLentOf (record w { time = time.awaiting_at w.time p (Item k); standings = with_entry w.standings k (let_go s) }) l
-      lent-last f last = subst (λ (u : World T). AreLentOf u l) (sym (let-last s f last)) (lent-owner_given holds w l p k there s is i)
+  module _ (holds : T → List Holding) (l : Lending) (s : Option Standing) (is : standing_at w k ≡ s) (there : p < length w.time.places)
+      (i : AreLentOf w l) where
+    pub lent-last : Found s → has_others s ≡ false →
+        AreLentOf (record w { time = time.awaiting_at w.time p (Item k); standings = with_entry w.standings k (let_go s) }) l
+    lent-last f last = subst (λ (u : World T). AreLentOf u l) (sym (let-last s f last)) (lent-owner_given holds w l p k there s is i)
 
-      pub lent-other : Found s → has_others s ≡ true → AreLentOf (with_standing w k (let_go s)) l
-      lent-other f others = subst (λ (u : World T). AreLentOf u l) (sym (let-other s f others)) (lent-owner_given holds w l p k there s is i)
+    pub lent-other : Found s → has_others s ≡ true → AreLentOf (with_standing w k (let_go s)) l
+    lent-other f others = subst (λ (u : World T). AreLentOf u l) (sym (let-other s f others)) (lent-owner_given holds w l p k there s is i)

@@ -858,8 +858,8 @@ module _ {T : Type 0} (holds : T → List Holding) (old : World T) where
         cells_gone = λ d g. all-gone new e (the_cell d) g;
         cells_kept = λ d h. cell-kept new d h (e.swept.cell d);
         pointers = ap (λ (u : World T). u.pointers) c.changes.1 ∙ all_aged_out-pointers holds c.changes.0 old;
-        ran = λ j. free-place (entry_at new.jobs j) (sym (i.jobs_once j) ∙ ap (λ (t : Time). sum_by (jobs_with j) t.places) c.time ∙ nobody-defers j
-            old.time.places);
+        ran = λ j. free-place (entry_at new.jobs j)
+            (sym (i.jobs_once j) ∙ ap (λ (t : Time). sum_by (jobs_with j) t.places) c.time ∙ nobody-defers j old.time.places);
         reclaimed = e.swept.count;
         time = c.time;
         home = c.home;

@@ -20,8 +20,8 @@ invariant_of-self g c =
     let held = (rw (← c.self.view_is) at c.requires.held) e.0 e.1 c.edit.result e.3 in
     let home : Home = record { slots = slots.home; cells = c.self.inside.cells.home; readers = c.self.inside.tenures.home } in
     let was = value-of_home g.T.Item.holds home slots.values slot e.0 c.self.invariant.homes e.2 in
-    rw e.4 (sound-edited g.T.Item.holds c.self.inside.time slots c.self.inside.cells c.self.inside.jobs c.self.inside.tenures slot e.1 c.self.invariant
-    (held was))
+    let i = c.self.inside in
+    rw e.4 (sound-edited g.T.Item.holds i.time slots i.cells i.jobs i.tenures slot e.1 c.self.invariant (held was))
 
 pub returns-clause-whole : goal.returns-clause-whole
 returns-clause-whole g c =

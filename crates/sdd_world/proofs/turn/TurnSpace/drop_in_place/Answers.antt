@@ -18,12 +18,9 @@ pub invariant_of-world-in-None : goal.invariant_of-world-in-None
 invariant_of-world-in-None g c =
     let i = c.world.invariant in
     let seated = rw (← c.world.view_is) at c.requires.seated in
-    let some = ap is_some (live-is c.world.inside.core.world.time c.args.self.now.place seated) in (
-      i.0,
-      omega (arith, i.1, c.drop_in_place.ensures.sizes.slots, c.drop_in_place.ensures.sizes.jobs),
-      c.drop_in_place.ensures.whole some i.2,
-      c.drop_in_place.ensures.lent,
-    )
+    let some = ap is_some (live-is c.world.inside.core.world.time c.args.self.now.place seated) in
+    let e = c.drop_in_place.ensures in
+    (i.0, omega (arith, i.1, e.sizes.slots, e.sizes.jobs), e.whole some i.2, e.lent)
 
 pub returns-in-None-clause-own : goal.returns-in-None-clause-own
 returns-in-None-clause-own g c =
