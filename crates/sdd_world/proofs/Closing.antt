@@ -1,5 +1,5 @@
 -- The closing of a world goes on at one participant, and comes to an end
-use Rattle.std.proofs.Common.{◌≡◌, ℕ, ◌+◌, ◌-◌, ◌*◌, ◌<◌, ◌≤◌, List, [], ◌∷◌, ◌++◌, length, Bool, cond, count_by, sum_by, refl, sym, ap, ◌∙◌, arith, true, false, Some, None, map, take, drop, get_or, nat_lt, zero, suc, add-one, slice_index_or, slice_set, Option}
+use Rattle.std.proofs.Common.{◌≡◌, ℕ, ◌+◌, ◌-◌, ◌*◌, ◌<◌, ◌≤◌, List, [], ◌∷◌, ◌++◌, length, Bool, cond, count_by, sum_by, refl, sym, ap, ◌∙◌, arith, true, false, Some, None, map, take, drop, get_or, zero, suc, add-one, slice_index_or, slice_set, Option}
 use Rattle.std.specs.Prelude.{◌↔◌}
 use Rattle.std.proofs.lemmas.Grind.{common_steps}
 use Rattle.std.proofs.lemmas.List.{length-map, length-set, get_or_past, get_or-set_same, set-set, set-get_or}
