@@ -1,0 +1,10 @@
+use Rattle.std.proofs.Common.{refl}
+use Rattle.sdd_lines.specs.declared.call.Call.TheVariants.{Tally}
+use Rattle.sdd_lines.specs.declared.answer.Reply.TheVariants as reply
+use Rattle.sdd_stage.proofs.Acts.{still}
+use Rattle.sdd_acts.proofs.line.reply_to.Goals as goal
+
+pub returns-in-Tally : goal.returns-in-Tally
+returns-in-Tally c =
+    let d = c.args.stage.now in
+    record { acts = rw (c.in-Tally.is, c.tally.ensures, c.world.ensures) (still d Tally (reply.Tally d.world.tally) (refl, refl)) }
