@@ -17,30 +17,6 @@ const NOT_PASSED: Did = Did::Looked { passed: false };
 
 const RAISED: Did = Did::Advanced { raised: true };
 
-const CHANGED_TO_1: Did = Did::Opened {
-    count: 1,
-    changed: true,
-    reclaimed: 0,
-};
-
-const CHANGED_TO_2: Did = Did::Opened {
-    count: 2,
-    changed: true,
-    reclaimed: 0,
-};
-
-const OPENED_AT_0: Did = Did::Opened {
-    count: 0,
-    changed: false,
-    reclaimed: 0,
-};
-
-const OPENED_AT_1: Did = Did::Opened {
-    count: 1,
-    changed: false,
-    reclaimed: 0,
-};
-
 const fn opened(count: u64, changed: bool, reclaimed: u32) -> Did {
     Did::Opened {
         count,
@@ -62,33 +38,35 @@ fn raising(place: u32, found: Did) -> [(Step, Did); 7] {
     ]
 }
 
-const BEHIND_A_LOOK: [(Step, Did); 20] = [
-    (Step::Register(0), Did::Done),
-    (Step::Register(1), Did::Done),
-    (Step::Read(1), Did::Done),
-    (Step::Read(0), Did::Done),
-    (Step::Publish(0), OPENED_AT_0),
-    (Step::Lock(0), Did::Done),
-    (Step::Look(0), PASSED),
-    (Step::Publish(1), OPENED_AT_0),
-    (Step::Advance(0), RAISED),
-    (Step::Unlock(0), Did::Done),
-    (Step::Close(0), Did::Done),
-    (Step::Read(0), Did::Done),
-    (Step::Publish(0), CHANGED_TO_1),
-    (Step::Lock(0), Did::Done),
-    (Step::Look(0), NOT_PASSED),
-    (Step::Advance(0), Did::NotPossible),
-    (Step::Unlock(0), Did::Done),
-    (Step::Close(0), Did::Done),
-    (Step::Read(0), Did::Done),
-    (Step::Publish(0), OPENED_AT_1),
-];
-
 #[test]
 fn a_guard_published_behind_a_look_holds_the_count(rt: HostRuntime) -> Result<(), Fail> {
     let mut machine = Machine::new(rt.alloc(), 2, 1)?;
-    take_all(&rt, &mut machine, &BEHIND_A_LOOK);
+    take_all(
+        &rt,
+        &mut machine,
+        &[
+            (Step::Register(0), Did::Done),
+            (Step::Register(1), Did::Done),
+            (Step::Read(1), Did::Done),
+            (Step::Read(0), Did::Done),
+            (Step::Publish(0), opened(0, false, 0)),
+            (Step::Lock(0), Did::Done),
+            (Step::Look(0), PASSED),
+            (Step::Publish(1), opened(0, false, 0)),
+            (Step::Advance(0), RAISED),
+            (Step::Unlock(0), Did::Done),
+            (Step::Close(0), Did::Done),
+            (Step::Read(0), Did::Done),
+            (Step::Publish(0), opened(1, true, 0)),
+            (Step::Lock(0), Did::Done),
+            (Step::Look(0), NOT_PASSED),
+            (Step::Advance(0), Did::NotPossible),
+            (Step::Unlock(0), Did::Done),
+            (Step::Close(0), Did::Done),
+            (Step::Read(0), Did::Done),
+            (Step::Publish(0), opened(1, false, 0)),
+        ],
+    );
     Ok(())
 }
 
@@ -148,27 +126,29 @@ fn an_item_is_retired_once(rt: HostRuntime) -> Result<(), Fail> {
     Ok(())
 }
 
-const ENDED_AND_ADOPTED: [(Step, Did); 12] = [
-    (Step::Register(0), Did::Done),
-    (Step::Retire(0, 0), Did::Done),
-    (Step::End(0), Did::Done),
-    (Step::Register(0), Did::NotPossible),
-    (Step::Register(1), Did::Done),
-    (Step::Read(1), Did::Done),
-    (Step::Publish(1), OPENED_AT_0),
-    (Step::Lock(1), Did::Done),
-    (Step::Adopt(1), Did::Done),
-    (Step::Unlock(1), Did::Done),
-    (Step::Close(1), Did::Done),
-    (Step::Register(0), Did::Done),
-];
-
 #[test]
 fn an_ended_place_is_free_once_adopted_and_what_it_left_starts_again(
     rt: HostRuntime,
 ) -> Result<(), Fail> {
     let mut machine = Machine::new(rt.alloc(), 2, 1)?;
-    take_all(&rt, &mut machine, &ENDED_AND_ADOPTED);
+    take_all(
+        &rt,
+        &mut machine,
+        &[
+            (Step::Register(0), Did::Done),
+            (Step::Retire(0, 0), Did::Done),
+            (Step::End(0), Did::Done),
+            (Step::Register(0), Did::NotPossible),
+            (Step::Register(1), Did::Done),
+            (Step::Read(1), Did::Done),
+            (Step::Publish(1), opened(0, false, 0)),
+            (Step::Lock(1), Did::Done),
+            (Step::Adopt(1), Did::Done),
+            (Step::Unlock(1), Did::Done),
+            (Step::Close(1), Did::Done),
+            (Step::Register(0), Did::Done),
+        ],
+    );
     take_all(&rt, &mut machine, &raising(1, opened(0, false, 0)));
     take_all(&rt, &mut machine, &raising(1, opened(1, true, 0)));
     take_all(&rt, &mut machine, &raising(1, opened(2, true, 0)));
@@ -192,17 +172,6 @@ fn no_steps_need_one_place_and_one_item(rt: HostRuntime) -> Result<(), Fail> {
     Ok(())
 }
 
-const BETWEEN_READ_AND_PUBLISH: [(Step, Did); 8] = [
-    (Step::Read(1), Did::Done),
-    (Step::Publish(1), CHANGED_TO_2),
-    (Step::Retire(0, 0), Did::NotPossible),
-    (Step::Publish(0), CHANGED_TO_1),
-    (Step::Retire(0, 0), Did::Done),
-    (Step::Lock(1), Did::Done),
-    (Step::Look(1), NOT_PASSED),
-    (Step::Advance(1), Did::NotPossible),
-];
-
 #[test]
 fn nothing_is_retired_between_a_read_and_its_publish(rt: HostRuntime) -> Result<(), Fail> {
     let mut machine = Machine::new(rt.alloc(), 2, 1)?;
@@ -217,61 +186,78 @@ fn nothing_is_retired_between_a_read_and_its_publish(rt: HostRuntime) -> Result<
     take_all(&rt, &mut machine, &raising(1, opened(0, false, 0)));
     take_all(&rt, &mut machine, &[(Step::Read(0), Did::Done)]);
     take_all(&rt, &mut machine, &raising(1, opened(1, true, 0)));
-    take_all(&rt, &mut machine, &BETWEEN_READ_AND_PUBLISH);
+    take_all(
+        &rt,
+        &mut machine,
+        &[
+            (Step::Read(1), Did::Done),
+            (Step::Publish(1), opened(2, true, 0)),
+            (Step::Retire(0, 0), Did::NotPossible),
+            (Step::Publish(0), opened(1, true, 0)),
+            (Step::Retire(0, 0), Did::Done),
+            (Step::Lock(1), Did::Done),
+            (Step::Look(1), NOT_PASSED),
+            (Step::Advance(1), Did::NotPossible),
+        ],
+    );
     Ok(())
 }
-
-const OPENS_BEHIND_THE_LOOKS: [(Step, Did); 19] = [
-    (Step::Register(0), Did::Done),
-    (Step::Register(1), Did::Done),
-    (Step::Read(0), Did::Done),
-    (Step::Publish(0), OPENED_AT_0),
-    (Step::Lock(0), Did::Done),
-    (Step::Look(0), PASSED),
-    (Step::Look(0), PASSED),
-    (Step::Register(2), Did::Done),
-    (Step::Read(2), Did::Done),
-    (Step::Publish(2), OPENED_AT_0),
-    (Step::Advance(0), RAISED),
-    (Step::Unlock(0), Did::Done),
-    (Step::Close(0), Did::Done),
-    (Step::Read(0), Did::Done),
-    (Step::Publish(0), CHANGED_TO_1),
-    (Step::Lock(0), Did::Done),
-    (Step::Look(0), PASSED),
-    (Step::Look(0), NOT_PASSED),
-    (Step::Advance(0), Did::NotPossible),
-];
 
 #[test]
 fn a_place_that_opens_behind_the_looks_is_seen_by_the_next_scan(
     rt: HostRuntime,
 ) -> Result<(), Fail> {
     let mut machine = Machine::new(rt.alloc(), 3, 1)?;
-    take_all(&rt, &mut machine, &OPENS_BEHIND_THE_LOOKS);
+    take_all(
+        &rt,
+        &mut machine,
+        &[
+            (Step::Register(0), Did::Done),
+            (Step::Register(1), Did::Done),
+            (Step::Read(0), Did::Done),
+            (Step::Publish(0), opened(0, false, 0)),
+            (Step::Lock(0), Did::Done),
+            (Step::Look(0), PASSED),
+            (Step::Look(0), PASSED),
+            (Step::Register(2), Did::Done),
+            (Step::Read(2), Did::Done),
+            (Step::Publish(2), opened(0, false, 0)),
+            (Step::Advance(0), RAISED),
+            (Step::Unlock(0), Did::Done),
+            (Step::Close(0), Did::Done),
+            (Step::Read(0), Did::Done),
+            (Step::Publish(0), opened(1, true, 0)),
+            (Step::Lock(0), Did::Done),
+            (Step::Look(0), PASSED),
+            (Step::Look(0), NOT_PASSED),
+            (Step::Advance(0), Did::NotPossible),
+        ],
+    );
     Ok(())
 }
-
-const LEFT_BEHIND_AN_ADOPT: [(Step, Did); 13] = [
-    (Step::Register(0), Did::Done),
-    (Step::Register(1), Did::Done),
-    (Step::Retire(1, 0), Did::Done),
-    (Step::Read(0), Did::Done),
-    (Step::Publish(0), OPENED_AT_0),
-    (Step::Lock(0), Did::Done),
-    (Step::Adopt(0), Did::Done),
-    (Step::End(1), Did::Done),
-    (Step::Look(0), PASSED),
-    (Step::Advance(0), RAISED),
-    (Step::Unlock(0), Did::Done),
-    (Step::Close(0), Did::Done),
-    (Step::Register(1), Did::NotPossible),
-];
 
 #[test]
 fn what_is_left_behind_an_adopt_waits_for_the_next_one(rt: HostRuntime) -> Result<(), Fail> {
     let mut machine = Machine::new(rt.alloc(), 2, 1)?;
-    take_all(&rt, &mut machine, &LEFT_BEHIND_AN_ADOPT);
+    take_all(
+        &rt,
+        &mut machine,
+        &[
+            (Step::Register(0), Did::Done),
+            (Step::Register(1), Did::Done),
+            (Step::Retire(1, 0), Did::Done),
+            (Step::Read(0), Did::Done),
+            (Step::Publish(0), opened(0, false, 0)),
+            (Step::Lock(0), Did::Done),
+            (Step::Adopt(0), Did::Done),
+            (Step::End(1), Did::Done),
+            (Step::Look(0), PASSED),
+            (Step::Advance(0), RAISED),
+            (Step::Unlock(0), Did::Done),
+            (Step::Close(0), Did::Done),
+            (Step::Register(1), Did::NotPossible),
+        ],
+    );
     for count in 1..5 {
         let reclaimed = if count == 4 { 1 } else { 0 };
         take_all(
@@ -292,15 +278,6 @@ fn what_is_left_behind_an_adopt_waits_for_the_next_one(rt: HostRuntime) -> Resul
     Ok(())
 }
 
-const AFTER_THE_STEPS: [(Step, Did); 6] = [
-    (Step::Close(2), Did::Done),
-    (Step::Retire(2, 5), Did::NotPossible),
-    (Step::Retire(2, 6), Did::NotPossible),
-    (Step::Retire(2, 4), Did::Done),
-    (Step::Register(1023), Did::Done),
-    (Step::Register(1024), Did::NotPossible),
-];
-
 #[test]
 fn a_machine_is_as_large_as_the_steps_need_and_goes_on_after_them(
     rt: HostRuntime,
@@ -315,7 +292,18 @@ fn a_machine_is_as_large_as_the_steps_need_and_goes_on_after_them(
             Step::Register(1024),
         ],
     )?;
-    take_all(&rt, &mut machine, &AFTER_THE_STEPS);
+    take_all(
+        &rt,
+        &mut machine,
+        &[
+            (Step::Close(2), Did::Done),
+            (Step::Retire(2, 5), Did::NotPossible),
+            (Step::Retire(2, 6), Did::NotPossible),
+            (Step::Retire(2, 4), Did::Done),
+            (Step::Register(1023), Did::Done),
+            (Step::Register(1024), Did::NotPossible),
+        ],
+    );
     Ok(())
 }
 
