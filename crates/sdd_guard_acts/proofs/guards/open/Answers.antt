@@ -19,10 +19,11 @@ returns-in_default c = record {
 
 pub jobs_among-requires : goal.jobs_among-requires
 jobs_among-requires c =
-    let there = got c.stage.inside.hand.places c.args.name.0 _ c.in-Some.ensures in
+    let h = c.stage.inside.hand in
+    let live = in_range h c.stage.invariant c.is_whole.ensures c.args.name _ (got h.places c.args.name.0 _ c.in-Some.ensures) in
     record {
       inside = rw (c.as_slice-deferred.ensures.value, c.reclaims_next-waiting.ensures)
-          (places-inside (desk_of c.stage.inside.hand) c.stage.invariant.sound c.is_whole.ensures _ (in_range c.stage.inside.hand c.stage.invariant c.is_whole.ensures c.args.name _ there));
+          (places-inside (desk_of h) c.stage.invariant.sound c.is_whole.ensures _ live);
     }
 
 pub items_among-requires : goal.items_among-requires

@@ -49,7 +49,8 @@ pub returns : goal.returns
 returns c = record { acts = rw (← c.stage.view_is) (went c).1 }
 
 -- where it is refused, the desk is as it was
-back : (c : goal.After-put_back) → desk_of (record c.stage.inside.hand { world = c.step_at.new.world; owners = c.put_back.new.self }) ≡ desk_of c.stage.inside.hand
+back : (c : goal.After-put_back) → desk_of (record c.stage.inside.hand { world = c.step_at.new.world; owners = c.put_back.new.self })
+    ≡ desk_of c.stage.inside.hand
 back c =
     let h = c.stage.inside.hand in
     same-desk h c.step_at.new.world c.put_back.new.self.entries c.in-Err.ensures.done.3
