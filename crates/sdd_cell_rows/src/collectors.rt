@@ -16,7 +16,7 @@ impl Example<u64> for BothKinds {
         assert!(rt; collectors::collect_shared(rt, s, &collector, owner));
         let guard = opened(rt, s);
         let (collector, refused) = collectors::refused_close(rt, s, collector);
-        assert_eq!(rt; refused, Refused::GuardOpen);
+        assert!(rt; refused == Refused::GuardOpen);
         close(s, guard);
         collectors::closed(rt, s, collector);
     }

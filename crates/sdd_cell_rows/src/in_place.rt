@@ -11,12 +11,12 @@ struct SharedInPlace;
 impl Example<u64> for SharedInPlace {
     fn run<R: Abort, S: Space<u64>>(rt: &R, s: &mut S) {
         let mut owner = shared::made(rt, s, 38);
-        assert_eq!(rt; shared::put(s, &mut owner, 39), Ok(38));
+        assert!(rt; shared::put(s, &mut owner, 39) == Ok(38));
         let other = shared::copied(rt, s, &owner);
-        assert_eq!(rt; shared::put(s, &mut owner, 40), Err(Refused::NotAlone));
+        assert!(rt; shared::put(s, &mut owner, 40) == Err(Refused::NotAlone));
         let guard = opened(rt, s);
         assert!(rt; !shared::dropped_in_place(rt, s, other));
-        assert_eq!(rt; shared::put(s, &mut owner, 40), Err(Refused::GuardOpen));
+        assert!(rt; shared::put(s, &mut owner, 40) == Err(Refused::GuardOpen));
         close(s, guard);
         assert!(rt; shared::dropped_in_place(rt, s, owner));
     }

@@ -217,7 +217,7 @@ fn refusals_of<S: Space<u64>>(
         owner: shared::refused_owner(s, cell, &guard),
         cell: shared::refused_cell(s, cell, &guard),
     };
-    assert_eq!(rt; seen(s, ptr), Some(7));
+    assert!(rt; seen(s, ptr) == Some(7));
     close(s, guard);
     refusals
 }
@@ -226,9 +226,9 @@ fn refusals_of<S: Space<u64>>(
 fn where_2_62_own_an_item_nobody_more_may(rt: HostRuntime) {
     let mut crowd = Crowd::new(&rt, AMPLE, MOST - 2);
     assert_eq!(rt; crowd.refusals(&rt), (TOO_MANY, None));
-    assert_eq!(rt; crowd.refused_more(&rt, 1), Refused::TooManyOwners);
-    assert_eq!(rt; crowd.refused_more(&rt, u64::MAX), Refused::TooManyOwners);
-    assert_eq!(rt; crowd.standing(), Some(Standing::Shared(MOST)));
+    assert!(rt; crowd.refused_more(&rt, 1) == Refused::TooManyOwners);
+    assert!(rt; crowd.refused_more(&rt, u64::MAX) == Refused::TooManyOwners);
+    assert!(rt; crowd.standing() == Some(Standing::Shared(MOST)));
     crowd.closed(&rt);
 }
 
@@ -236,7 +236,7 @@ fn where_2_62_own_an_item_nobody_more_may(rt: HostRuntime) {
 fn where_one_fewer_own_it_one_more_may(rt: HostRuntime) {
     let mut crowd = Crowd::new(&rt, AMPLE, MOST - 3);
     assert_eq!(rt; crowd.refusals(&rt), (NONE, Some(TOO_MANY)));
-    assert_eq!(rt; crowd.refused_more(&rt, 2), Refused::TooManyOwners);
-    assert_eq!(rt; crowd.standing(), Some(Standing::Shared(MOST - 1)));
+    assert!(rt; crowd.refused_more(&rt, 2) == Refused::TooManyOwners);
+    assert!(rt; crowd.standing() == Some(Standing::Shared(MOST - 1)));
     crowd.closed(&rt);
 }

@@ -25,7 +25,7 @@ impl Example<u64> for RawCells {
         assert!(rt; raw::held(rt, s, &cell) == tagged);
         cell.close(s);
         let owner = owned::unraw(s, ptr);
-        assert_eq!(rt; owned::spent(s, owner), Some(17));
+        assert!(rt; owned::spent(s, owner) == Some(17));
         let null = AtomicRaw::<u64>::null(s).expect(rt, "a cell is free");
         assert!(rt; null.is_null(s));
         null.close(s);

@@ -12,22 +12,22 @@ impl Example<u64> for GoesRaw {
         let owner = owned::made(rt, s, 7);
         let raw = owned::raw(s, owner);
         assert!(rt; !raw.is_null());
-        assert_eq!(rt; raw.tag(), Tag::None);
+        assert!(rt; raw.tag() == Tag::None);
         let Some(owner) = owned::unraw(s, raw) else {
             panic!(rt; "the item is out as raw")
         };
         let guard = opened(rt, s);
-        assert_eq!(rt; owned::see(s, raw, &guard), None);
+        assert!(rt; owned::see(s, raw, &guard) == None);
         let again = owned::raw(s, owner);
         assert!(rt; raw == again);
-        assert_eq!(rt; owned::see(s, raw, &guard), Some(7));
+        assert!(rt; owned::see(s, raw, &guard) == Some(7));
         // the tag is ignored
         let Some(mut owner) = owned::unraw(s, raw.with_tag(Tag::Both)) else {
             panic!(rt; "the item is out as raw")
         };
-        assert_eq!(rt; owned::put(s, &mut owner, 8), Err(Refused::GuardOpen));
+        assert!(rt; owned::put(s, &mut owner, 8) == Err(Refused::GuardOpen));
         close(s, guard);
-        assert_eq!(rt; owned::put(s, &mut owner, 8), Ok(7));
+        assert!(rt; owned::put(s, &mut owner, 8) == Ok(7));
         match owned::drop_in_place(s, owner) {
             Ok(()) => {}
             Err((_owner, refused)) => panic!(rt; "{refused:?}"),

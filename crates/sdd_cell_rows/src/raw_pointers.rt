@@ -7,7 +7,7 @@ use std::test::Fail;
 fn a_raw_pointer_has_a_text(rt: HostRuntime) -> Result<(), Fail> {
     let null: RawPtr<u64> = RawPtr::null().with_tag(Tag::Second);
     let shown = format!(in rt.alloc(); "{null:?}")?;
-    assert_eq!(rt; shown.as_str(), "RawPtr { slot: None, tag: Second }");
+    assert!(rt; shown.as_str() == "RawPtr { slot: None, tag: Second }");
     Ok(())
 }
 
@@ -15,16 +15,16 @@ fn a_raw_pointer_has_a_text(rt: HostRuntime) -> Result<(), Fail> {
 fn a_default_pointer_is_null_and_has_no_tag(rt: HostRuntime) {
     let mut raw: RawPtr<u64> = RawPtr::default();
     assert!(rt; raw.is_null());
-    assert_eq!(rt; raw.set_tag(Tag::First), Tag::None);
+    assert!(rt; raw.set_tag(Tag::First) == Tag::None);
     assert!(rt; raw.is_null());
     assert!(rt; raw != RawPtr::null());
-    assert_eq!(rt; raw.without_tag().tag(), Tag::None);
-    assert_eq!(rt; raw.unset_tag(), Tag::First);
+    assert!(rt; raw.without_tag().tag() == Tag::None);
+    assert!(rt; raw.unset_tag() == Tag::First);
     assert!(rt; raw == RawPtr::null());
     let mut ptr: Ptr<'_, u64> = Ptr::default();
     assert!(rt; ptr.is_null());
-    assert_eq!(rt; ptr.set_tag(Tag::Both), Tag::None);
-    assert_eq!(rt; ptr.without_tag().tag(), Tag::None);
-    assert_eq!(rt; ptr.unset_tag(), Tag::Both);
+    assert!(rt; ptr.set_tag(Tag::Both) == Tag::None);
+    assert!(rt; ptr.without_tag().tag() == Tag::None);
+    assert!(rt; ptr.unset_tag() == Tag::Both);
     assert!(rt; ptr == Ptr::null());
 }

@@ -14,12 +14,12 @@ impl Example<u64> for Releases {
         let guard = opened(rt, s);
         let ptr = owner.get_guarded_ptr(&guard, s);
         let other = shared::copied(rt, s, &owner);
-        assert_eq!(rt; shared::upgraded(rt, s, ptr), Some(false));
+        assert!(rt; shared::upgraded(rt, s, ptr) == Some(false));
         assert!(rt; *owner.get_guarded_ref(&guard, s) == 47);
         assert!(rt; !shared::release(s, owner));
         assert!(rt; shared::release(s, other));
-        assert_eq!(rt; shared::upgraded(rt, s, ptr), None);
-        assert_eq!(rt; seen(s, ptr), Some(47));
+        assert!(rt; shared::upgraded(rt, s, ptr) == None);
+        assert!(rt; seen(s, ptr) == Some(47));
         close(s, guard);
     }
 }
@@ -30,7 +30,7 @@ struct Copies;
 impl Example<u64> for Copies {
     fn run<R: Abort, S: Space<u64>>(rt: &R, s: &mut S) {
         let cell = shared::cell(rt, s, 7);
-        assert_eq!(rt; shared::emptied_weakly(rt, s, &cell, Tag::Second), Some(7));
+        assert!(rt; shared::emptied_weakly(rt, s, &cell, Tag::Second) == Some(7));
         let copy = shared::copied_cell(rt, s, &cell);
         assert_eq!(rt; (copy.is_null(s), copy.tag(s)), (true, Tag::Second));
         shared::close_cell(s, cell);

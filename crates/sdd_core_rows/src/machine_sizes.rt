@@ -38,26 +38,26 @@ fn up_to_the_third_change(alloc: Global) -> Result<Vec<Step>, AllocError> {
 fn a_machine_of_the_greatest_size_is_made(rt: HostRuntime) -> Result<(), Fail> {
     assert_eq!(rt; (MAX_PLACES, MAX_ITEMS), (1024, 16_777_216));
     let mut machine = Machine::new(rt.alloc(), 1024, 16_777_216)?;
-    assert_eq!(rt; machine.step(Step::Register(PLACE + 1)), Did::NotPossible);
-    assert_eq!(rt; machine.step(Step::Register(PLACE)), Did::Done);
+    assert!(rt; machine.step(Step::Register(PLACE + 1)) == Did::NotPossible);
+    assert!(rt; machine.step(Step::Register(PLACE)) == Did::Done);
     assert_eq!(rt;
         machine.step(Step::Retire(PLACE, ITEM + 1)),
         Did::NotPossible
     );
-    assert_eq!(rt; machine.step(Step::Retire(PLACE, ITEM)), Did::Done);
+    assert!(rt; machine.step(Step::Retire(PLACE, ITEM)) == Did::Done);
     Ok(())
 }
 
 #[test]
 fn thousands_of_steps_are_taken(rt: HostRuntime) -> Result<(), Fail> {
     let steps = up_to_the_third_change(rt.alloc())?;
-    assert_eq!(rt; steps.len(), 3_090);
+    assert!(rt; steps.len() == 3_090);
     let mut machine = safety(rt.alloc(), &steps)?;
     let third = Did::Opened {
         count: 3,
         changed: true,
         reclaimed: 1,
     };
-    assert_eq!(rt; machine.step(Step::Publish(PLACE)), third);
+    assert!(rt; machine.step(Step::Publish(PLACE)) == third);
     Ok(())
 }

@@ -28,10 +28,10 @@ fn is_same(tag: Tag, other: Tag) -> bool
 fn tags_have_the_numbers_0_to_3(rt: HostRuntime) {
     let tags = [Tag::None, Tag::First, Tag::Second, Tag::Both];
     for (number, tag) in (0..4).zip(tags) {
-        assert_eq!(rt; u8::from(tag), number);
-        assert_eq!(rt; by_number(tag), Ok(tag));
-        assert_eq!(rt; is_before(tag, Tag::Both), number < 3);
-        assert_eq!(rt; is_same(tag, Tag::First), number == 1);
+        assert!(rt; u8::from(tag) == number);
+        assert!(rt; by_number(tag) == Ok(tag));
+        assert!(rt; is_before(tag, Tag::Both) == (number < 3));
+        assert!(rt; is_same(tag, Tag::First) == (number == 1));
     }
-    assert_eq!(rt; Tag::try_from(4), Err(4));
+    assert!(rt; Tag::try_from(4) == Err(4));
 }

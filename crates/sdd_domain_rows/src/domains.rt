@@ -40,7 +40,7 @@ fn registered_at_last<'d>(rt: &impl Abort, domain: &'d Domain) -> Local<'d> {
     match Local::register(domain) {
         Ok(local) => local,
         Err(refused) => {
-            assert_eq!(rt; refused, Refused::NoMemory);
+            assert!(rt; refused == Refused::NoMemory);
             registered(rt, domain)
         }
     }
@@ -88,7 +88,7 @@ fn shows(rt: &impl Abort, local: &mut Local<'_>, epochs: &[u8])
     ensures { seat_of local.new ≡ seat_of local.old }
 {
     for epoch in epochs {
-        assert_eq!(rt; accelerated(rt, local), *epoch);
+        assert!(rt; accelerated(rt, local) == *epoch);
     }
 }
 
@@ -121,9 +121,9 @@ fn ended(rt: &impl Abort, local: Local<'_>) -> Receipt {
 fn closed(rt: &impl Abort, domain: Domain, receipts: Vec<Receipt>) {
     match domain.close(receipts) {
         Ok(tally) => {
-            assert_eq!(rt; tally.made, 0);
-            assert_eq!(rt; tally.reclaimed, 0);
-            assert_eq!(rt; tally.in_place, 0);
+            assert!(rt; tally.made == 0);
+            assert!(rt; tally.reclaimed == 0);
+            assert!(rt; tally.in_place == 0);
         }
         Err((_domain, _receipts, refused)) => panic!(rt; "refused: {refused:?}"),
     }
@@ -150,7 +150,7 @@ fn two_threads_and_then_one(rt: HostRuntime) {
     let start = accelerated(&rt, &mut local);
     assert!(rt; (1..=40).contains(&start));
     for further in 1..4 {
-        assert_eq!(rt; accelerated(&rt, &mut local), start.wrapping_add(further));
+        assert!(rt; accelerated(&rt, &mut local) == start.wrapping_add(further));
     }
     let last = ended(&rt, local);
     let receipts = vec![in rt.alloc(); first, second, last].expect(&rt, "there is memory");
@@ -186,10 +186,10 @@ fn limits_out_of_range_are_refused(rt: HostRuntime) {
 fn an_ended_place_is_not_free_again(rt: HostRuntime) {
     let domain = new_domain(&rt, ONE);
     let local = registered(&rt, &domain);
-    assert_eq!(rt; local.tally().made, 0);
+    assert!(rt; local.tally().made == 0);
     let receipt = ended(&rt, local);
-    assert_eq!(rt; receipt.tally().made, 0);
-    assert_eq!(rt; refusal(&rt, &domain), Refused::NoPlace);
+    assert!(rt; receipt.tally().made == 0);
+    assert!(rt; refusal(&rt, &domain) == Refused::NoPlace);
     let receipts = vec![in rt.alloc(); receipt].expect(&rt, "there is memory");
     closed(&rt, domain, receipts);
 }
@@ -200,7 +200,7 @@ fn a_participant_with_a_guard_open_does_not_end(rt: HostRuntime) {
     let mut local = registered(&rt, &domain);
     let outer = opened(&rt, &mut local);
     let inner = opened(&rt, &mut local);
-    assert_eq!(rt; refused_guard(&rt, &mut local), Refused::TooManyGuards);
+    assert!(rt; refused_guard(&rt, &mut local) == Refused::TooManyGuards);
     close(inner, &mut local);
     let Err(mut local) = local.end() else {
         panic!(rt; "a guard is open")
@@ -220,7 +220,7 @@ fn an_open_guard_holds_the_count(rt: HostRuntime) {
     let mut busy = registered(&rt, &domain);
     let guard = opened(&rt, &mut still);
     shows(&rt, &mut busy, &[0, 1, 1, 1]);
-    assert_eq!(rt; shown(&guard, &mut still), 1);
+    assert!(rt; shown(&guard, &mut still) == 1);
     close(guard, &mut still);
     shows(&rt, &mut busy, &[1, 2, 3]);
     let receipts = vec![in rt.alloc(); ended(&rt, still), ended(&rt, busy)].expect(
@@ -236,9 +236,9 @@ fn a_guard_shows_the_next_epoch_where_another_participant_raised_the_count(rt: H
     let mut still = registered(&rt, &domain);
     let mut busy = registered(&rt, &domain);
     let guard = opened(&rt, &mut still);
-    assert_eq!(rt; shown(&guard, &mut still), 0);
-    assert_eq!(rt; accelerated(&rt, &mut busy), 0);
-    assert_eq!(rt; shown(&guard, &mut still), 1);
+    assert!(rt; shown(&guard, &mut still) == 0);
+    assert!(rt; accelerated(&rt, &mut busy) == 0);
+    assert!(rt; shown(&guard, &mut still) == 1);
     close(guard, &mut still);
     ended(&rt, still);
     ended(&rt, busy);
@@ -251,7 +251,7 @@ fn only_want_of_memory_refuses(rt: HostRuntime) {
     match Domain::new(rt.alloc(), ONE) {
         Ok(domain) => {
             let local = registered_at_last(&rt, &domain);
-            assert_eq!(rt; refusal(&rt, &domain), Refused::NoPlace);
+            assert!(rt; refusal(&rt, &domain) == Refused::NoPlace);
             ended(&rt, local);
             closed(&rt, domain, Vec::new(rt.alloc()));
         }

@@ -11,7 +11,7 @@ fn bytes_are_written_whole(rt: HostRuntime) -> Result<(), Fail> {
     write_all(&mut sink, b"g0 epoch 3\n")?;
     write_all(&mut sink, b"")?;
     write_all(&mut sink, b"ok\n")?;
-    assert_eq!(rt; sink.failures(), 0);
-    assert_eq!(rt; written.as_slice(), b"g0 epoch 3\nok\n".as_slice());
+    assert!(rt; sink.failures() == 0);
+    assert!(rt; written.as_slice() == b"g0 epoch 3\nok\n".as_slice());
     Ok(())
 }

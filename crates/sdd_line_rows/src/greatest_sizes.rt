@@ -44,7 +44,7 @@ fn the_bytes_of_the_longest_script_are_read(rt: HostRuntime) -> Result<(), Fail>
     let read = read_to_end(alloc, &mut source)?;
     assert!(rt; read.as_slice() == text.as_slice());
     assert!(rt; read_to_end(alloc, &mut source)?.is_empty());
-    assert_eq!(rt; source.failures(), 0);
+    assert!(rt; source.failures() == 0);
     Ok(())
 }
 
@@ -86,6 +86,6 @@ fn an_answer_names_the_most_items(rt: HostRuntime) -> Result<(), Fail> {
     let printed = print_all(alloc, &[done(alloc, 65_536)?])?;
     assert!(rt; printed.starts_with(b"ok reclaimed i0 i1 i2 "));
     assert!(rt; printed.ends_with(b" i65534 i65535\n"));
-    assert_eq!(rt; printed.len(), 447_655);
+    assert!(rt; printed.len() == 447_655);
     Ok(())
 }

@@ -152,7 +152,7 @@ fn malformed_lines_are_no_calls(rt: HostRuntime) {
         Call::parse(&[b'p', b'0', b' ', b'o', b'p', b'e', b'n', 0xff]),
         None
     );
-    assert_eq!(rt; Call::parse(&[b'1'; 201]), None);
+    assert!(rt; Call::parse(&[b'1'; 201]) == None);
 }
 
 /// How many calls a script is, or its first fault.

@@ -16,12 +16,12 @@ fn a_guard_keeps_what_its_owner_gave_up(rt: HostRuntime) {
         Err((_value, refused)) => panic!(rt; "{refused:?}"),
     };
     let mut ptr = owned.get_guarded_ptr(&guard, &mut turn);
-    assert_eq!(rt; ptr.as_ref(&turn).copied(), Some(19));
-    assert_eq!(rt; ptr.set_tag(Tag::First), Tag::None);
+    assert!(rt; ptr.as_ref(&turn).copied() == Some(19));
+    assert!(rt; ptr.set_tag(Tag::First) == Tag::None);
     owned.retire(&mut turn);
-    assert_eq!(rt; ptr.as_ref(&turn).copied(), Some(19));
-    assert_eq!(rt; ptr.tag(), Tag::First);
+    assert!(rt; ptr.as_ref(&turn).copied() == Some(19));
+    assert!(rt; ptr.tag() == Tag::First);
     guard.close(&mut turn);
     drop(turn);
-    assert_eq!(rt; closed(&rt, world).reclaimed, 1);
+    assert!(rt; closed(&rt, world).reclaimed == 1);
 }

@@ -15,11 +15,11 @@ fn an_inner_item_goes_three_epochs_after_the_outer_one(rt: HostRuntime) {
     retire(&mut world, &place, outer);
     shows(&rt, &mut world, &place, &[(0, 0), (1, 0), (2, 0)]);
     let guard = opened(&rt, &mut world, &place);
-    assert_eq!(rt; epoch(&mut world, &place, &guard), 3);
+    assert!(rt; epoch(&mut world, &place, &guard) == 3);
     assert!(rt; has_garbage(&mut world, &place, &guard));
     accelerate(&mut world, &place, &guard);
     close(&mut world, &place, guard);
-    assert_eq!(rt; world.tally().reclaimed, 1);
+    assert!(rt; world.tally().reclaimed == 1);
     shows(&rt, &mut world, &place, &[(4, 1), (5, 1), (6, 2)]);
     closed(&rt, world);
 }

@@ -44,14 +44,14 @@ fn shows_128_times(rt: &impl Abort, world: &mut World<u64>, place: &Place, epoch
 fn without_acceleration_an_item_goes_at_guard_385(rt: HostRuntime) {
     let mut world: World<u64> = new_world(&rt, AMPLE, 0);
     let place = joined(&rt, &mut world);
-    assert_eq!(rt; plain(&rt, &mut world, &place), 0);
+    assert!(rt; plain(&rt, &mut world, &place) == 0);
     let owner = made(&rt, &mut world, &place, 7);
     retire(&mut world, &place, owner);
     shows_128_times(&rt, &mut world, &place, 0);
     shows_128_times(&rt, &mut world, &place, 1);
     shows_128_times(&rt, &mut world, &place, 2);
-    assert_eq!(rt; plain(&rt, &mut world, &place), 3);
-    assert_eq!(rt; world.tally().reclaimed, 1);
+    assert!(rt; plain(&rt, &mut world, &place) == 3);
+    assert!(rt; world.tally().reclaimed == 1);
     closed(&rt, world);
 }
 
@@ -61,7 +61,7 @@ fn an_open_guard_of_another_participant_keeps_an_item(rt: HostRuntime) {
     let first = joined(&rt, &mut world);
     let second = joined(&rt, &mut world);
     let guard = opened(&rt, &mut world, &first);
-    assert_eq!(rt; epoch(&mut world, &first, &guard), 0);
+    assert!(rt; epoch(&mut world, &first, &guard) == 0);
     let owner = made(&rt, &mut world, &second, 7);
     retire(&mut world, &second, owner);
     shows(&rt, &mut world, &second, &[(0, 0), (1, 0), (1, 0), (1, 0)]);
@@ -74,9 +74,9 @@ fn an_open_guard_of_another_participant_keeps_an_item(rt: HostRuntime) {
 fn at_the_last_count_an_item_stays_until_the_world_is_closed(rt: HostRuntime) {
     let mut world: World<u64> = new_world(&rt, AMPLE, u64::MAX - 1);
     let place = joined(&rt, &mut world);
-    assert_eq!(rt; accelerated(&rt, &mut world, &place), 62);
+    assert!(rt; accelerated(&rt, &mut world, &place) == 62);
     let guard = opened(&rt, &mut world, &place);
-    assert_eq!(rt; epoch(&mut world, &place, &guard), 63);
+    assert!(rt; epoch(&mut world, &place, &guard) == 63);
     let owner = made(&rt, &mut world, &place, 7);
     retire(&mut world, &place, owner);
     accelerate(&mut world, &place, &guard);

@@ -15,10 +15,10 @@ fn guards_and_pointers_have_texts(rt: HostRuntime) -> Result<(), Fail> {
     let shown = format!(in alloc; "{guard:?}");
     close(&mut world, &place, guard);
     closed(&rt, world);
-    assert_eq!(rt; shown?.as_str(), "Guard { .. }");
+    assert!(rt; shown?.as_str() == "Guard { .. }");
     let null: Ptr<'_, u64> = Ptr::null().with_tag(Tag::Both);
     let shown = format!(in alloc; "{null:?}")?;
-    assert_eq!(rt; shown.as_str(), "Ptr { slot: None, tag: Both, .. }");
+    assert!(rt; shown.as_str() == "Ptr { slot: None, tag: Both, .. }");
     Ok(())
 }
 

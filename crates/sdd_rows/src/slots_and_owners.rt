@@ -37,11 +37,11 @@ fn a_slot_is_free_again_once_its_item_was_reclaimed(rt: HostRuntime) {
     let place = joined(&rt, &mut world);
     let first = made(&rt, &mut world, &place, 1);
     let second = made(&rt, &mut world, &place, 2);
-    assert_eq!(rt; refused(&mut world, &place, 3), Some((3, Refused::NoSlot)));
+    assert!(rt; refused(&mut world, &place, 3) == Some((3, Refused::NoSlot)));
     retire(&mut world, &place, first);
-    assert_eq!(rt; refused(&mut world, &place, 3), Some((3, Refused::NoSlot)));
+    assert!(rt; refused(&mut world, &place, 3) == Some((3, Refused::NoSlot)));
     shows(&rt, &mut world, &place, &[(0, 0), (1, 0), (2, 0), (3, 1)]);
-    assert_eq!(rt; refused(&mut world, &place, 3), None);
+    assert!(rt; refused(&mut world, &place, 3) == None);
     retire(&mut world, &place, second);
     closed(&rt, world);
 }
@@ -89,9 +89,9 @@ fn a_closure_that_is_refused_comes_back_uncalled(rt: HostRuntime) {
     let mut world: World<u64> = new_world(&rt, limits, 0);
     let place = joined(&rt, &mut world);
     let owner = made_by_closure(&rt, &mut world, &place);
-    assert_eq!(rt; value(&mut world, &place, &owner), 7);
+    assert!(rt; value(&mut world, &place, &owner) == 7);
     let back = refused_closure(&mut world, &place);
-    assert_eq!(rt; back, Some((8, Refused::NoSlot)));
+    assert!(rt; back == Some((8, Refused::NoSlot)));
     retire(&mut world, &place, owner);
     closed(&rt, world);
 }
@@ -112,11 +112,11 @@ fn a_guarded_pointer_shows_a_retired_item(rt: HostRuntime) {
     let place = joined(&rt, &mut world);
     let guard = opened(&rt, &mut world, &place);
     let owner = made(&rt, &mut world, &place, 7);
-    assert_eq!(rt; value_under(&mut world, &place, &owner, &guard), 7);
+    assert!(rt; value_under(&mut world, &place, &owner, &guard) == 7);
     let ptr = pointer(&mut world, &place, &owner, &guard);
     retire(&mut world, &place, owner);
-    assert_eq!(rt; seen(&mut world, &place, ptr), Some(7));
-    assert_eq!(rt; ptr.as_ref(&world).copied(), Some(7));
+    assert!(rt; seen(&mut world, &place, ptr) == Some(7));
+    assert!(rt; ptr.as_ref(&world).copied() == Some(7));
     close(&mut world, &place, guard);
     closed(&rt, world);
 }

@@ -18,7 +18,7 @@ const GREATEST: Limits = Limits {
 fn a_world_has_the_greatest_limits(rt: HostRuntime) -> Result<(), Refused> {
     let mut world: World<u64> = World::new(rt.alloc(), GREATEST)?;
     let place = joined(&rt, &mut world);
-    assert_eq!(rt; place.index(), 0);
+    assert!(rt; place.index() == 0);
     closed(&rt, world);
     Ok(())
 }
@@ -34,9 +34,9 @@ fn a_world_has_the_most_participants(rt: HostRuntime) -> Result<(), Refused> {
     let mut world: World<u64> = World::new(rt.alloc(), limits)?;
     for index in 0usize..1024 {
         let place = joined(&rt, &mut world);
-        assert_eq!(rt; place.index(), index);
+        assert!(rt; place.index() == index);
     }
-    assert_eq!(rt; world.register().err(), Some(Refused::NoPlace));
+    assert!(rt; world.register().err() == Some(Refused::NoPlace));
     closed(&rt, world);
     Ok(())
 }

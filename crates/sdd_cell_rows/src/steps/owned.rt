@@ -167,7 +167,7 @@ pub fn asked<S: Space<u64>>(
         true
     };
     let was_set = cell.update_tag_if(tag, condition, s);
-    assert_eq!(rt; was_set, Ok(true));
+    assert!(rt; was_set == Ok(true));
     (times, last)
 }
 

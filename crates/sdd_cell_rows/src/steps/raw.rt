@@ -26,8 +26,8 @@ pub fn held<S: Space<u64>>(rt: &impl Abort, s: &mut S, cell: &AtomicRaw<u64>) ->
     let guard = opened(rt, s);
     let ptr = cell.load(&guard, s);
     close(s, guard);
-    assert_eq!(rt; cell.is_null(s), ptr.is_null());
-    assert_eq!(rt; cell.tag(s), ptr.tag());
+    assert!(rt; cell.is_null(s) == ptr.is_null());
+    assert!(rt; cell.tag(s) == ptr.tag());
     ptr
 }
 
