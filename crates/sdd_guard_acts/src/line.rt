@@ -11,7 +11,8 @@ use sdd_stage::Stage;
 /// A participant's end, or an action on a guard but its opening. None where the action is another.
 pub fn act(stage: &mut Stage, name: PlaceName, action: Action) -> Option<Reply>
     requires line { BeginsLine stage.old }
-    ensures acts { MatchOption result (¬ (IsGuardAct action) × (stage.new ≡ stage.old)) (λ reply. Acts stage.old (Call.At name action) reply stage.new) }
+    ensures acts { MatchOption result (¬ (IsGuardAct action) × (stage.new ≡ stage.old))
+        (λ reply. IsGuardAct action × Acts stage.old (Call.At name action) reply stage.new) }
 {
     Some(match action {
         Action::End => participants::end(stage, name),

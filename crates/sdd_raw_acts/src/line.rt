@@ -11,7 +11,8 @@ use sdd_stage::Stage;
 /// An action on an item in its place or out as raw, or with a collector, but for its close. None where the action is another.
 pub fn act(stage: &mut Stage, name: PlaceName, action: Action) -> Result<Option<Reply>, Refused>
     ensures acts { MatchResult result
-        (λ o. MatchOption o (¬ (IsRawAct action) × (stage.new ≡ stage.old)) (λ reply. Acts stage.old (Call.At name action) reply stage.new))
+        (λ o. MatchOption o (¬ (IsRawAct action) × (stage.new ≡ stage.old))
+        (λ reply. IsRawAct action × Acts stage.old (Call.At name action) reply stage.new))
         (λ refused. (refused ≡ Refused.NoMemory) × (stage.new ≡ stage.old)) }
 {
     Ok(Some(match action {
