@@ -27,8 +27,8 @@ had : (v a b w : EpochView) (x c : ℕ) → (x ≡ c → w ≡ a) → (x ≢ c �
 had v a b w x c hit miss one two z = dite (ℕ_discrete x c) (λ e. one (subst HasPlace (hit e) z)) (λ ne. two (subst HasPlace (miss ne) z))
 
 module _ {S : Type 0} (sizes : Sizes) (slots : ℕ) where
-  pub may_sit : (i : ℕ) → Enters (Kept {S = S} sizes) slots i (λ r w. Sits (step {S = S} slots i 0 0 none) (idle sizes, []) r (w, []))
-  may_sit i = enters sizes slots i (λ r w. Sits (step {S = S} slots i 0 0 none) (idle sizes, []) r (w, [])) (λ r. refl)
+  pub may_sit : (i : ℕ) → Enters (Kept {S = S} sizes) slots i (λ r w. Sits (step {S = S} slots i 0 0 none) (idle sizes 0, []) r (w, []))
+  may_sit i = enters sizes 0 slots i (λ r w. Sits (step {S = S} slots i 0 0 none) (idle sizes 0, []) r (w, [])) (λ r. refl)
 
   module _ (id : ℕ) (me : Me S View) where
     abbrev v : EpochView

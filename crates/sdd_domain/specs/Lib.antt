@@ -9,4 +9,3 @@ pub mod Local
 pub mod Posed
 pub mod Receipt
 pub mod Space
-pub mod Life

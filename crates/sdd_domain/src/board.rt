@@ -17,7 +17,7 @@ impl TableRule<(), View, Sizes> for Rule {
 
     ghost holds = { λ sizes s. Kept sizes s };
 
-    ghost first = { idle };
+    ghost first = { λ sizes. idle sizes 0 };
 }
 
 /// What a participant knows of the words.

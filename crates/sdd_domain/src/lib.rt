@@ -6,7 +6,6 @@ mod changes;
 mod claims;
 pub mod domain;
 mod known;
-mod life;
 pub mod local;
 mod plays;
 pub mod receipt;

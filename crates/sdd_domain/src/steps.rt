@@ -28,7 +28,7 @@ pub const ENDED: u64 = 3;
 
 /// A token without a place.
 pub fn sit(board: &Board) -> Token
-    ensures { (result.table_id ≡ id_of board.now) × (result.me ≡ (idle (sizes_of board.now), [])) }
+    ensures { (result.table_id ≡ id_of board.now) × (result.me ≡ (idle (sizes_of board.now) 0, [])) }
 {
     board.table.shared.load_new_seat::<Sit>(GLOBAL).1
 }

@@ -5,8 +5,9 @@ use mathlib.Core.List.{map-append}
 use lib.ListN.{get_elem?}
 use lib.Seq.{map-set}
 use Rattle.atomic_table.specs.Table.{State, Me, Act, keeps, Valid, carried_after, stepped, Allows, Enters, Splits, Joins, opening}
-use Rattle.atomic_table.proofs.Lists.{at_map, at_snoc, set_again, set_else}
+use Rattle.atomic_table.proofs.Lists.{at_map, at_snoc, set_again, set_else, set_here}
 use Rattle.sdd_rule.specs.declared.EpochView.{EpochView}
+use Rattle.sdd_rule.specs.declared.StakesView.{StakesView}
 use Rattle.sdd_rule.specs.declared.View.{View}
 use Rattle.sdd_rule.specs.declared.Sizes.{Sizes}
 use Rattle.sdd_rule.specs.Codes.{codes}
@@ -23,6 +24,7 @@ use Rattle.sdd_rule.proofs.Codes.{sound}
 use Rattle.sdd_rule.proofs.Epoch.{seated}
 use Rattle.sdd_rule.proofs.Epoch as epochs
 use Rattle.sdd_rule.proofs.Owning.{owning}
+use Rattle.sdd_rule.proofs.SlotWords.{view_step}
 use Rattle.sdd_rule.proofs.Tokens.{sits, starts}
 use Rattle.sdd_rule.proofs.Tokens as tokens
 use Rattle.sdd_rule.proofs.Lone.{lone_same}
@@ -31,6 +33,26 @@ use Rattle.sdd_rule.proofs.Lone.{lone_same}
 same_epochs : (vs : List View) (id : ℕ) (v w : View) → get_elem? vs id ≡ some v → w.epoch ≡ v.epoch → map epoch_of (set vs id w) ≡ map epoch_of vs
 same_epochs vs id v w at same = map-set epoch_of vs id w
     ∙ (ap (set (map epoch_of vs) id) same ∙ set_again (map epoch_of vs) id v.epoch (at_map epoch_of vs id v at))
+
+set_twice : {X : Type 0} (l : List X) (i : ℕ) (a b : X) → set (set l i a) i b ≡ set l i b
+set_twice [] i a b = refl
+set_twice (x ∷ xs) zero a b = refl
+set_twice (x ∷ xs) (suc i) a b = ap (λ (l : List _). x ∷ l) (set_twice xs i a b)
+
+-- no part reads what is known of stakes
+pub blind : (sizes : Sizes) (ws : List ℕ) (vs : List View) (id : ℕ) (u v : View) → get_elem? vs id ≡ some u → Parts sizes ws (set vs id v)
+    → (t : StakesView) → Parts sizes ws (set vs id (record v { stakes = t }))
+blind sizes ws vs id u v was p t = let us : List View = set vs id v in let w : View = record v { stakes = t } in
+    let at : get_elem? us id ≡ some v = set_here vs id v (epochs.at_length vs id u was) in let f = p.slots.each id v at in
+    subst (Parts sizes ws) (set_twice vs id v w) record {
+      epoch = subst (λ (l : List EpochView). EpochPart sizes.participants ws l) (sym (same_epochs us id v w at refl)) p.epoch;
+      slots = view_step codes sound sizes ws us p.slots id v at w (λ _. refl) (λ _. refl)
+          record { timed = f.timed; guarded = f.guarded; full = f.full; alone = f.alone; held = f.held }
+          (let x = p.slots.two id id v v at at in record { since = x.since; looked = x.looked })
+          (λ j x apart e. let a = p.slots.two id j v x at e in let b = p.slots.two j id x v e at in
+          (record { since = a.since; looked = a.looked }, record { since = b.since; looked = b.looked }));
+      lone = lone_same sizes ws us p.lone id v at w refl (λ z. z);
+    }
 
 -- one token more, which has no place
 snoc_lone : (sizes : Sizes) (ws : List ℕ) (vs : List View) (t : View) → ¬ (HasPlace t.epoch) → LonePart sizes ws vs → LonePart sizes ws (vs ++ t ∷ [])
@@ -64,8 +86,8 @@ module _ {S : Type 0} (sizes : Sizes) where
         ))
 
   -- a new token, which knows nothing
-  pub enters : (slots i : ℕ) (told : ℕ → View → Type 0) → ((r : ℕ) → told r (idle sizes)) → Enters (Kept {S = S} sizes) slots i told
-  enters slots i told tells s k _ small = let n : ℕ = sizes.participants in let w : View = idle sizes in (
+  pub enters : (book slots i : ℕ) (told : ℕ → View → Type 0) → ((r : ℕ) → told r (idle sizes book)) → Enters (Kept {S = S} sizes) slots i told
+  enters book slots i told tells s k _ small = let n : ℕ = sizes.participants in let w : View = idle sizes book in (
     w,
     record {
       parts = record {
@@ -80,12 +102,13 @@ module _ {S : Type 0} (sizes : Sizes) where
   )
 
   -- the table at the start
-  pub begins : (ws : List ℕ) (xs : List S) → length ws ≡ all_words sizes → ((i : ℕ) → get_or ws i 0 ≡ 0) → Kept sizes (opening ws xs (idle sizes))
-  begins ws xs long none = record {
+  pub begins : (book : ℕ) (ws : List ℕ) (xs : List S) → length ws ≡ all_words sizes → ((i : ℕ) → get_or ws i 0 ≡ 0)
+      → Kept sizes (opening ws xs (idle sizes book))
+  begins book ws xs long none = record {
     parts = record {
       epoch = epochs.begins sizes.participants ws (omega arith) none;
-      slots = starts codes sound sizes ws (idle sizes) long none refl;
-      lone = record { knows = λ one j v e z. let e' = ap (λ (x : View). x.epoch.state) (only (idle sizes) j v e) in absurd (omega arith) };
+      slots = starts codes sound sizes ws (idle sizes book) long none refl;
+      lone = record { knows = λ one j v e z. let e' = ap (λ (x : View). x.epoch.state) (only (idle sizes book) j v e) in absurd (omega arith) };
     };
     places = record { wide = omega arith };
   }

@@ -1,8 +1,9 @@
 -- The rule of a domain: a record of its parts
-use Rattle.std.specs.Prelude.{ℕ, ◌<◌, List, [], map, length}
+use Rattle.std.specs.Prelude.{ℕ, ◌<◌, List, [], None, map, length}
 use Rattle.atomic_table.specs.Table.{State}
 use Rattle.sdd_rule.specs.declared.EpochView.{EpochView}
 use Rattle.sdd_rule.specs.declared.SlotsView.{SlotsView}
+use Rattle.sdd_rule.specs.declared.StakesView.{StakesView}
 use Rattle.sdd_rule.specs.declared.View.{View}
 use Rattle.sdd_rule.specs.declared.Sizes.{Sizes}
 use Rattle.sdd_rule.specs.Words.{mark_word}
@@ -21,16 +22,20 @@ with_epoch v w = record v { epoch = w }
 abbrev pub with_both : View → EpochView → SlotsView → View
 with_both v w s = record v { epoch = w; slots = s }
 
--- a token that knows nothing
-abbrev pub idle : Sizes → View
-idle sizes = record { sizes = sizes; epoch = nobody sizes.participants; places = record {}; slots = bare; words = blank sizes }
+-- it moves no value, and the values' places are of this book
+abbrev pub at_rest : ℕ → StakesView
+at_rest book = record { book = book; moves = None }
+
+-- a token that knows nothing, but how many of each there are and which book
+abbrev pub idle : Sizes → ℕ → View
+idle sizes book = record { sizes = sizes; epoch = nobody sizes.participants; places = record {}; slots = bare; stakes = at_rest book; words = blank sizes }
 
 abbrev pub no_sizes : Sizes
 no_sizes = record { participants = 0; slots = 0; jobs = 0; cells = 0 }
 
 -- a token that knows its owners alone
 abbrev pub owner_token : List ℕ → List ℕ → View
-owner_token owns shares = record { sizes = no_sizes; epoch = nobody 0; places = record {}; slots = owning_only owns shares; words = [] }
+owner_token owns shares = record { sizes = no_sizes; epoch = nobody 0; places = record {}; slots = owning_only owns shares; stakes = at_rest 0; words = [] }
 
 -- the parts that speak of words and of what each participant knows
 pub record Parts (sizes : Sizes) (ws : List ℕ) (vs : List View) : Type 0 where

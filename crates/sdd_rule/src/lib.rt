@@ -54,6 +54,14 @@ pub struct SlotsView {
     pub looked: u64,
 }
 
+/// What a participant knows of the stakes in the values of slots.
+pub struct StakesView {
+    /// The book of the values' places.
+    pub book: u64,
+    /// The slot whose value it moves in or out: it has all stakes in it.
+    pub moves: Option<u64>,
+}
+
 /// What a participant knows.
 pub struct View {
     /// How many of each its domain has; none where it isn't a participant's token.
@@ -61,6 +69,7 @@ pub struct View {
     pub epoch: EpochView,
     pub places: PlacesView,
     pub slots: SlotsView,
+    pub stakes: StakesView,
     /// Where it is a lone participant: all words behind the places'.
     pub words: [u64; 0],
 }

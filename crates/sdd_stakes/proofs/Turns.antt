@@ -7,7 +7,7 @@ use denote.RattleType.{RattleType}
 use Rattle.sdd_places.specs.Block.{IsFreeFor}
 use Rattle.sdd_stakes.specs.Stakes.{Lot, unlent, settled, AllFreeFor}
 use Rattle.sdd_stakes.specs.Seats.{lots, plain, OnlyLends}
-use Rattle.sdd_stakes.specs.Shelf.{units_in, showing, IsFull, CanShow, Parts, AllOf, AreWhole, HasWhole, turned, top_turned, all_turned}
+use Rattle.sdd_stakes.specs.Shelf.{units_in, showing, IsFull, CanShow, Shows, Parts, AllOf, AreWhole, HasWhole, turned, top_turned, all_turned}
 use Rattle.sdd_stakes.specs.declared.stake.Stake.{Stake}
 use Rattle.sdd_stakes.proofs.Carried.{lots_with, lots_long, same_length}
 use Rattle.sdd_stakes.proofs.Collect.{top_long}
@@ -56,6 +56,34 @@ shows-again γ i t xs ys can free only = let h : Lot = can.one in let k : ℕ = 
       full = subst IsFull (sym (ap (λ (l : Lot). l.shown) e)) can.full;
       free = free_at t (lots ys) k u.one (only.1 free) u.there;
     }
+
+abbrev shown_of : Gv → Gv
+shown_of gnil = gnil
+shown_of (gnum n) = gnil
+shown_of (gcons a b) = b
+
+-- two looks by the same one stake show the same value
+pub same-look : (R : RattleType) (γ i t : ℕ) (x y : R.Denot) (xs ys : Carries) → length xs ≡ 1 → OnlyLends t xs ys → Shows γ i (showing R x) (lots xs)
+    → Shows γ i (showing R y) (lots ys) → y ≡ x
+same-look R γ i t x y xs ys one only before after =
+    let same : settled (lots ys) ≡ settled (lots xs) = sym (lots_plain ys) ∙ ap lots only.0 ∙ lots_plain xs in
+    let a = settled_at (lots xs) before.place before.one before.there in
+    let b = settled_at (lots ys) after.place after.one after.there in
+    let long : length (settled (lots xs)) ≡ 1 = settled_long (lots xs) ∙ lots_long xs ∙ one in
+    let e = only_one (settled (lots xs)) long before.place after.place (unlent before.one) (unlent after.one) a
+    (ap (λ (l : List Lot). get_elem? l after.place) (sym same) ∙ b) in
+    R.coded.inj y x (ap shown_of (sym after.shows ∙ ap (λ (l : Lot). l.shown) e ∙ before.shows))
+  where
+    settled_long : (hs : List Lot) → length (settled hs) ≡ length hs
+    settled_long [] = refl
+    settled_long (h ∷ hs) = ap suc (settled_long hs)
+
+    only_one : (hs : List Lot) → length hs ≡ 1 → (j k : ℕ) (h l : Lot) → get_elem? hs j ≡ some h → get_elem? hs k ≡ some l → l ≡ h
+    only_one [] long j k h l a b = absurd (some-ne-none h (sym a))
+    only_one (x ∷ []) long zero zero h l a b = some-injective l h (sym b ∙ a)
+    only_one (x ∷ []) long (suc j) k h l a b = absurd (some-ne-none h (sym a))
+    only_one (x ∷ []) long zero (suc k) h l a b = absurd (some-ne-none l (sym b))
+    only_one (x ∷ z ∷ hs) long j k h l a b = absurd (omega arith)
 
 -- ---- after a move in
 take_turned : (a : ℕ) (g : Gv) (n : ℕ) (hs : List Lot) → take n (top_turned a g n hs) ≡ turned a g (take n hs)
@@ -133,11 +161,6 @@ turned_free t a g (suc n) (h ∷ hs) free = (free.0, turned_free t a g n hs free
 
 pub free-turned : (t a : ℕ) (g : Gv) (n : ℕ) (xs : Carries) → AllFreeFor t (lots xs) → AllFreeFor t (lots (all_turned a g n xs))
 free-turned t a g n xs free = subst (AllFreeFor t) (sym (lots_turned a g n xs)) (turned_free t a g n (lots xs) free)
-
-abbrev shown_of : Gv → Gv
-shown_of gnil = gnil
-shown_of (gnum n) = gnil
-shown_of (gcons a b) = b
 
 -- where the units show this value and that, they are the same
 pub same-value : (R : RattleType) (γ i n a : ℕ) (x y : R.Denot) (hs : List Lot) → HasWhole γ i n (λ g. g ≡ showing R x) hs

@@ -1,8 +1,8 @@
 //! The calls of a shelf, one after the other, over the rule of any table.
-ghost use Rattle.std.specs.Prelude.{◌≡◌, ◌<◌, ℕ};
+ghost use Rattle.std.specs.Prelude.{◌≡◌, ◌<◌, ℕ, length};
 ghost use Rattle.sdd_stakes.specs.Stakes.{AllFreeFor};
 ghost use Rattle.sdd_stakes.specs.Seats.{lots, plain};
-ghost use Rattle.sdd_stakes.specs.Shelf.{CanShow, IsFull, IsVacant, HasWhole, vacant, all_turned};
+ghost use Rattle.sdd_stakes.specs.Shelf.{CanShow, Shows, showing, IsFull, IsVacant, HasWhole, vacant, all_turned};
 
 use crate::seats::settle;
 use crate::shelf::Shelf;
@@ -11,24 +11,25 @@ use atomic_table::{Seat, Shared, TableRule};
 use sdd_places::{Ended, Tenure, end_round};
 use sdd_token::WHOLE;
 
-/// A value that is shown can be shown again under the same tenure, whatever others there are.
+/// A value that is shown can be shown again under the same tenure: by one stake, both are the same value.
 pub fn shows_again<'g, T, V, K, P: TableRule<Stake, V, K>>(
     shelf: &Shelf<T>,
     at: usize,
     seat: &mut Seat<Stake, V>,
     table: &Shared<Stake, V, K, P>,
     tenure: &'g Tenure,
-    other: &'g Tenure,
-) -> &'g T
+) -> (&'g T, &'g T)
     requires table { seat.old.table_id ≡ table.now.table_id }
     requires inside { at < shelf.now.size }
+    requires single { length seat.old.me.1 ≡ 1 }
     requires stake { CanShow shelf.now.book at tenure.now.round (lots seat.old.me.1) }
     requires free { AllFreeFor tenure.now.round (lots seat.old.me.1) }
+    ensures same { result.1.now ≡ result.0.now }
     ensures free { AllFreeFor tenure.now.round (lots seat.new.me.1) }
 {
-    let _first = shelf.show(at, seat, table, tenure);
-    let _ = other;
-    shelf.show(at, seat, table, tenure)
+    let first = shelf.show(at, seat, table, tenure);
+    let second = shelf.show(at, seat, table, tenure);
+    (first, second)
 }
 
 /// What was put is taken, once the tenure has ended under which it was shown.
@@ -72,4 +73,23 @@ pub fn takes_what_was_shown<T, V, K, P: TableRule<Stake, V, K>>(
 {
     settle(seat, table, ended);
     shelf.take(at, seat, table, count)
+}
+
+/// What was shown under one tenure is shown under the next one, once the first has ended.
+pub fn shows_what_was_shown<'g, T, V, K, P: TableRule<Stake, V, K>>(
+    shelf: &Shelf<T>,
+    at: usize,
+    seat: &mut Seat<Stake, V>,
+    table: &Shared<Stake, V, K, P>,
+    first: &Ended,
+    next: &'g Tenure,
+) -> &'g T
+    requires table { seat.old.table_id ≡ table.now.table_id }
+    requires inside { at < shelf.now.size }
+    requires free { AllFreeFor first.now.name (lots seat.old.me.1) }
+    requires stake { CanShow shelf.now.book at next.now.round (lots (plain seat.old.me.1)) }
+    ensures value { Shows shelf.now.book at (showing T.row result.now) (lots (plain seat.old.me.1)) }
+{
+    settle(seat, table, first);
+    shelf.show(at, seat, table, next)
 }

@@ -9,4 +9,4 @@ use Rattle.sdd_domain.proofs.board.Board.new.Goals as goal
 pub of_words-requires : goal.of_words-requires
 of_words-requires c = let n : ℕ = all_words c.args.sizes.now in
     let blank : c.as_slice.result.now ≡ replicate n 0 = grind (arith, common_steps, c.in_ok-words.ensures.items_if_clones_equal) in
-    begins c.args.sizes.now c.as_slice.result.now [] (ap length blank ∙ length-replicate {A = ℕ} n 0) (λ i. ap (λ (l : List ℕ). get_or l i 0) blank ∙ zeros n i)
+    begins c.args.sizes.now 0 c.as_slice.result.now [] (ap length blank ∙ length-replicate {A = ℕ} n 0) (λ i. ap (λ (l : List ℕ). get_or l i 0) blank ∙ zeros n i)

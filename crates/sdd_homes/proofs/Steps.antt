@@ -1,0 +1,383 @@
+-- The steps that take stakes from home or give them, and the other steps on slots
+use Rattle.std.proofs.Common.{◌≡◌, ◌≢◌, inl, inr, ℕ, suc, ◌<◌, ◌≤◌, eqb, List, ◌∷◌, length, get_or, set, sym, refl, ap, ◌∙◌, subst, ⊎_elim, arith, get_or-set_same}
+use mathlib.Core.Option.{none, some, some-injective}
+use mathlib.Core.Logic.{dite}
+use native.Mathlib.Decide.{ℕ_discrete, dec_lt}
+use Rattle.std.specs.Prelude.{Some, None}
+use lib.ListN.{get_elem?}
+use lib.Seq.{set-get_or}
+use prog.Atomic.{either}
+use base.Stored.{Gv}
+use Rattle.std.proofs.lemmas.List.{get_or_past}
+use Rattle.atomic_table.specs.Table.{State, keeps, takes, Allows, carried_after}
+use Rattle.atomic_table.proofs.Lists.{at_map, exchanged}
+use Rattle.sdd_stakes.specs.Shelf.{IsFull, IsVacant}
+use Rattle.sdd_stakes.specs.declared.stake.Stake.{Stake}
+use Rattle.sdd_rule.specs.declared.WaitingItem.{WaitingItem}
+use Rattle.sdd_rule.specs.declared.View.{View}
+use Rattle.sdd_rule.specs.declared.Sizes.{Sizes}
+use Rattle.sdd_rule.specs.Words.{slot_word, state_word}
+use Rattle.sdd_rule.specs.Codes.{codes, alive, waiting, full, free_word, owned_word, waiting_word}
+use Rattle.sdd_rule.specs.Epoch.{HasPlace, IsOpen, Scans}
+use Rattle.sdd_rule.specs.Steps.{Steps}
+use Rattle.sdd_rule.specs.Sums.{times}
+use Rattle.sdd_rule.specs.Slots.{slot_at, owners_at, items_at, OwnsAlone, Sees, Holds}
+use Rattle.sdd_rule.specs.SlotSteps.{claimed, given_back, discarded, seeing, AtSlot, Claims, Retires, GivesBack, LooksAtSlot, Watches, TakesHold, LetsGo, Discards, LooksForGuard, ClosesAll, IsDue}
+use Rattle.sdd_rule.specs.Parts.{Parts}
+use Rattle.sdd_rule.proofs.Codes.{sound, free_is, waiting_is}
+use Rattle.sdd_rule.proofs.EpochSteps as over
+use Rattle.sdd_rule.proofs.SlotSteps as steps
+use Rattle.sdd_rule.proofs.Owning as owning
+use Rattle.sdd_rule.proofs.Holding as holding
+use Rattle.sdd_rule.proofs.SlotWords.{owner_in, owners_in}
+use Rattle.sdd_rule.proofs.Sums.{is_same, total_has, total_two}
+use Rattle.sdd_rule.proofs.Waits.{waits_once}
+use Rattle.sdd_homes.specs.Homes.{Carries, stake_at, Has, IsShown, Moves, NoneOut, HomesPart, Housed}
+use Rattle.sdd_homes.specs.HomeSteps.{Mine, HasAll, Purse, moving, resting, ClaimsAll, Houses, TakesOut, GivesAll, DiscardsAll, WatchesBy, ClosesHome, OfSlot}
+use Rattle.sdd_homes.proofs.Part.{IsMover, of_another, before_slots}
+use Rattle.sdd_homes.proofs.Part as part
+use Rattle.sdd_homes.proofs.Rows.{Taken, takes_row, gives_row, gives_purse}
+use Rattle.sdd_homes.proofs.Tops.{rest_is, share_one}
+use Rattle.sdd_homes.proofs.Lift.{Follows, IsCalm, lift_homes, lift_calm}
+
+one_moved : (v : View) (i j : ℕ) → Moves v i → Moves v j → j ≡ i
+one_moved v i j m m' = let e : Some i ≡ Some j = sym m ∙ m' in cc
+
+pub none_moved : (v : View) (i : ℕ) → v.stakes.moves ≡ None → ¬ (Moves v i)
+none_moved v i rests m = let e : None ≡ Some i = sym rests ∙ m in cc
+
+full_owned : (x : ℕ) → 0 < alive x → full x ≡ 1
+full_owned x h = (sound.lives x h).1
+
+-- a word that has an owner, or waits, isn't both, nor free
+module _ (γ : ℕ) (sizes : Sizes) (s : State Stake View) (h : Housed γ sizes s) (i : ℕ) where
+  x : ℕ
+  x = slot_at sizes s.words i
+
+  -- nobody moves the value of a slot without owners in which none waits
+  pub still_free : (j : ℕ) (u : View) → get_elem? s.views j ≡ some u → alive (slot_at sizes s.words i) ≡ 0
+      → waiting (slot_at sizes s.words i) ≡ 0 → ¬ (Moves u i)
+  still_free j u e dead quiet m = ⊎_elim
+      (λ (o : OwnsAlone u i). let g = ((h.kept.parts.slots.each j u e).alone i o).0 in absurd (omega arith))
+      (λ (o : 0 < items_at i u). let t = total_has (items_at i) s.views j u e in let w = h.kept.parts.slots.waited i in absurd (omega arith))
+      (h.homes.moving j u i e m)
+
+  -- where a participant has an owner, or an item that waits, none else moves the value
+  still_owned : (id j : ℕ) (v u : View) → get_elem? s.views id ≡ some v → get_elem? s.views j ≡ some u → id ≢ j → 0 < owners_at i v → ¬ (Moves u i)
+  still_owned id j v u at e ne own m = let mine = owner_in codes sound sizes s.words s.views h.kept.parts.slots id i v at in
+      let l = (sound.lives (slot_at sizes s.words i) (omega arith)).0 in ⊎_elim
+      (λ (o : OwnsAlone u i). let g = ((h.kept.parts.slots.each j u e).alone i o).0 in
+      let both = owners_in codes sound sizes s.words s.views h.kept.parts.slots id j i v u ne at e in absurd (omega arith))
+      (λ (o : 0 < items_at i u). let t = total_has (items_at i) s.views j u e in let w = h.kept.parts.slots.waited i in absurd (omega arith))
+      (h.homes.moving j u i e m)
+
+  still_waiting : (id j : ℕ) (v u : View) → get_elem? s.views id ≡ some v → get_elem? s.views j ≡ some u → id ≢ j → 0 < items_at i v → ¬ (Moves u i)
+  still_waiting id j v u at e ne waits m = let t = total_has (items_at i) s.views id v at in let w = h.kept.parts.slots.waited i in
+      let one = (sound.waits (slot_at sizes s.words i) (omega arith)).0 in ⊎_elim
+      (λ (o : OwnsAlone u i). let g = ((h.kept.parts.slots.each j u e).alone i o).0 in let l = (sound.lives (slot_at sizes s.words i) (omega arith)).0 in
+      absurd (omega arith))
+      (λ (o : 0 < items_at i u). let both = total_two (items_at i) s.views id j v u ne at e in absurd (omega arith))
+      (h.homes.moving j u i e m)
+
+module _ (slots id : ℕ) (me : Mine) (live : HasPlace me.0.epoch) where
+  abbrev v : View
+  v = me.0
+
+  abbrev γ : ℕ
+  γ = me.0.stakes.book
+
+  abbrev sizes : Sizes
+  sizes = me.0.sizes
+
+  abbrev n : ℕ
+  n = me.0.sizes.participants
+
+  abbrev pub May : ℕ → (ℕ → ℕ) → (ℕ → Mine → Type 0) → Type 0
+  May = Allows (Housed γ sizes) slots id me
+
+  module _ (slot : ℕ) (inside : slot < sizes.slots) where
+    abbrev i : ℕ
+    i = slot_word sizes slot
+
+    -- the word tells which slot it is
+    at_once : (R : ℕ → Mine → ℕ → Mine → Type 0) (x : ℕ) (me' : Mine) → R slot me x me' → OfSlot R i me x me'
+    at_once R x me' r other is = let same : slot ≡ other = omega arith in subst (λ (k : ℕ). R k me x me') same r
+
+    -- the other slots' words are as before
+    others : (ws : List ℕ) (y j : ℕ) → j < sizes.slots → j ≢ slot → full (slot_at sizes (set ws i y) j) ≡ full (slot_at sizes ws j)
+    others ws y j _ ne = ap full (of_another sizes ws slot y j ne)
+
+    here : (ws : List ℕ) (y : ℕ) → i < length ws → slot_at sizes (set ws i y) slot ≡ y
+    here ws y low = get_or-set_same ws i y 0 low
+
+    module _ (s : State Stake View) (h : Housed γ sizes s) where
+      within : i < length s.words
+      within = let l = h.kept.parts.slots.long in omega arith
+
+      -- where nobody sees the slot or moves its value, all stakes in it may be taken, which show what its word says
+      pub all_taken : (Is : Gv → Type 0) → ((g : Gv) → IsShown (slot_at sizes s.words slot) g → Is g)
+          → ((j : ℕ) (u : View) → get_elem? s.views j ≡ some u → ¬ (Sees u slot) × ¬ (Moves u slot)) → Taken γ n slot Is s.homes me.1 (suc n)
+      all_taken Is shown unseen = takes_row γ n slot Is s.homes me.1 (suc n) (λ p l.
+          let b = h.homes.back slot p inside (omega arith) (λ j u e out. ⊎_elim (λ (m : Moves u slot). (unseen j u e).1 m)
+          (λ (o : Sees u slot × (u.epoch.place ≡ p)). (unseen j u e).0 o.0) out) in
+          let has = h.homes.home slot p b.0 inside (omega arith) b.1 in (b.0, b.1, (has.0, shown b.0.lot.shown has.1)))
+
+      -- a load leaves the words
+      same_words : (j : ℕ) → full (slot_at sizes (set s.words i (get_or s.words i 0)) j) ≡ full (slot_at sizes s.words j)
+      same_words j = ap (λ (l : List ℕ). full (slot_at sizes l j)) (set-get_or s.words i 0)
+
+    -- claim a free slot
+    pub claims : v.stakes.moves ≡ None → May i (λ x. either (eqb x (free_word 0)) (owned_word 0) x)
+        (OfSlot (λ slot. ClaimsAll slot (free_word 0) (owned_word 0)) i me)
+    claims rests = let told : ℕ → Mine → Type 0 = OfSlot (λ slot. ClaimsAll slot (free_word 0) (owned_word 0)) i me in
+        let step = steps.claims id v live slot 0 inside (omega arith) in
+        lift_homes γ sizes slots id me i (λ x. either (eqb x (free_word 0)) (owned_word 0) x)
+        (AtSlot (λ slot. Claims slot (free_word 0) (owned_word 0)) i v) told step
+        (λ s w h at t. let x : ℕ = get_or s.words i 0 in let c = t slot refl in
+        exchanged x (free_word 0) (owned_word 0) (λ y. Follows γ sizes id i me told s y w)
+        (λ hit. let free = free_is 0 (omega arith) in let dead : alive x ≡ 0 = ap alive hit ∙ free.0 in let quiet : waiting x ≡ 0 = ap waiting hit ∙ free.1 in
+        let empty : full x ≡ 0 = ap full hit ∙ free.2 in
+        let tk = all_taken s h IsVacant (λ g sh. sh.1 empty) (λ j u e. (
+          owning.fresh codes sound sizes s.words s.views h.kept.parts.slots id v at slot empty j u e,
+          still_free γ sizes s h slot j u e dead quiet,
+        )) in let now : View = claimed slot (owned_word 0) v in
+        subst (Follows γ sizes id i me told s (owned_word 0)) (sym (c.0 hit)) record {
+          stakes = record v.stakes { moves = Some slot };
+          act = tk.act;
+          valid = tk.valid;
+          homes = part.takes γ sizes s.words s.views s.homes h.homes id v at slot IsVacant me.1 tk (set s.words i (owned_word 0)) (moving slot now) refl
+              (λ j p ne out. ⊎_elim (λ (m : Moves v j). absurd (none_moved v j rests m)) (λ (o : Sees v j × (v.epoch.place ≡ p)). inr o) out)
+              (others s.words (owned_word 0))
+              (λ j m. let e : j ≡ slot = one_moved (moving slot now) slot j refl m in let one = is_same slot slot refl in
+              inl (subst (λ (k : ℕ). 0 < times k (slot ∷ v.slots.owns)) (sym e) (omega arith)));
+          tells = at_once (λ slot. ClaimsAll slot (free_word 0) (owned_word 0)) x (moving slot now, carried_after me.1 tk.act)
+              ((λ _. (refl, tk.row)), (λ no. absurd (no hit)), c.2);
+        })
+        (λ miss. subst (Follows γ sizes id i me told s x) (sym (c.1 miss)) record {
+          stakes = v.stakes;
+          act = keeps;
+          valid = tt;
+          homes = part.calm γ sizes s.words s.views s.homes h.homes id v at (set s.words i x) v (λ j p out. out) (λ j _. same_words s h j)
+              (λ j m. h.homes.moving id v j at m);
+          tells = at_once (λ slot. ClaimsAll slot (free_word 0) (owned_word 0)) x me ((λ hit. absurd (miss hit)), (λ _. refl), c.2);
+        }))
+
+    -- a value was moved in
+    pub houses : Moves v slot → OwnsAlone v slot → (rest : Carries) → HasAll γ slot n IsFull rest me.1 → May i (λ x. x) (OfSlot Houses i me)
+    houses mine own rest row = let told : ℕ → Mine → Type 0 = OfSlot Houses i me in
+        lift_homes γ sizes slots id me i (λ x. x) (AtSlot LooksAtSlot i v) told (steps.looks_at id v live slot)
+        (λ s w h at t. let x : ℕ = get_or s.words i 0 in let c = t slot refl in
+        let g = gives_row γ n slot IsFull sizes.slots inside (suc n) (omega arith) s.homes rest me.1 h.homes.deep row in
+        let one = ((h.kept.parts.slots.each id v at).alone slot own).0 in let filled = full_owned x (omega arith) in
+        subst (Follows γ sizes id i me told s x) (sym c.0) record {
+          stakes = record v.stakes { moves = None };
+          act = g.act;
+          valid = g.valid;
+          homes = part.gives γ sizes s.words s.views s.homes h.homes id v at slot IsFull rest me.1 g (set s.words i x) (resting v)
+              (λ g full. (λ _. full, λ e. let f = same_words s h slot in absurd (omega arith)))
+              (λ j p ne out. ⊎_elim (λ (m : Moves v j). absurd (ne (one_moved v slot j mine m))) (λ (o : Sees v j × (v.epoch.place ≡ p)). inr o) out)
+              (λ j _ _. same_words s h j)
+              (λ j m. absurd (none_moved (resting v) j refl m));
+          tells = at_once Houses x (resting v, carried_after me.1 g.act)
+              (refl, g.carried ∙ sym (rest_is γ slot n IsFull rest (suc n) me.1 row), c.1);
+        })
+
+    -- the value of an item that is due is to be moved out
+    pub takes_out : v.stakes.moves ≡ None → IsDue v slot → May i (λ x. x) (OfSlot TakesOut i me)
+    takes_out rests due = let told : ℕ → Mine → Type 0 = OfSlot TakesOut i me in let k : ℕ = due.0 in let item : WaitingItem = due.1 in
+        lift_homes γ sizes slots id me i (λ x. x) (AtSlot LooksAtSlot i v) told (steps.looks_at id v live slot)
+        (λ s w h at t. let x : ℕ = get_or s.words i 0 in let c = t slot refl in let p = h.kept.parts in
+        let once = waits_once codes sound sizes s.words s.views p.slots id v at slot k item due.2 due.3 in
+        let here_waits = total_has (items_at slot) s.views id v at in let sum = p.slots.waited slot in
+        let filled = (sound.waits x (omega arith)).1 in
+        let tk = all_taken s h IsFull (λ g sh. sh.0 filled) (λ j u e. (
+          (λ sees. owning.unseen codes sound sizes s.words s.views p.slots id v at p.epoch k item due.2 due.4 j u e (subst (Sees u) (sym due.3) sees)),
+          (λ m. dite (ℕ_discrete id j)
+              (λ same. none_moved v slot rests (subst (λ (z : View). Moves z slot) (some-injective u v (sym e ∙ (ap (get_elem? s.views) (sym same) ∙ at))) m))
+              (λ ne. still_waiting γ sizes s h slot id j v u at e ne (omega arith) m)),
+        )) in
+        subst (Follows γ sizes id i me told s x) (sym c.0) record {
+          stakes = record v.stakes { moves = Some slot };
+          act = tk.act;
+          valid = tk.valid;
+          homes = part.takes γ sizes s.words s.views s.homes h.homes id v at slot IsFull me.1 tk (set s.words i x) (moving slot v) refl
+              (λ j p ne out. ⊎_elim (λ (m : Moves v j). absurd (none_moved v j rests m)) (λ (o : Sees v j × (v.epoch.place ≡ p)). inr o) out)
+              (λ j _ _. same_words s h j)
+              (λ j m. let e : j ≡ slot = one_moved (moving slot v) slot j refl m in inr (subst (λ (k : ℕ). 0 < items_at k v) (sym e) (omega arith)));
+          tells = at_once TakesOut x (moving slot v, carried_after me.1 tk.act) (refl, tk.row, c.1);
+        })
+
+    -- it was moved out
+    pub gives_all : Moves v slot → IsDue v slot → (rest : Carries) → HasAll γ slot n IsVacant rest me.1
+        → May i (λ _. free_word 0) (λ _. OfSlot GivesAll i me (free_word 0))
+    gives_all mine due rest row = let told : ℕ → Mine → Type 0 = λ _. OfSlot GivesAll i me (free_word 0) in let y : ℕ = free_word 0 in
+        lift_homes γ sizes slots id me i (λ _. y) (λ _. AtSlot GivesBack i v y) told
+        (steps.gives_back id v live slot 0 due.0 due.1 due.2 due.3 due.4 inside (omega arith))
+        (λ s w h at t. let c = t slot refl in let now : View = given_back slot y v in
+        let g = gives_row γ n slot IsVacant sizes.slots inside (suc n) (omega arith) s.homes rest me.1 h.homes.deep row in
+        let empty = (free_is 0 (omega arith)).2 in
+        subst (Follows γ sizes id i me told s y) (sym c.0) record {
+          stakes = record v.stakes { moves = None };
+          act = g.act;
+          valid = g.valid;
+          homes = part.gives γ sizes s.words s.views s.homes h.homes id v at slot IsVacant rest me.1 g (set s.words i y) (resting now)
+              (λ g vacant. (λ e. let f = ap full (here s.words y (within s h)) in absurd (omega arith), λ _. vacant))
+              (λ j p ne out. ⊎_elim (λ (m : Moves v j). absurd (ne (one_moved v slot j mine m))) (λ (o : Sees v j × (v.epoch.place ≡ p)). inr o) out)
+              (others s.words y)
+              (λ j m. absurd (none_moved (resting now) j refl m));
+          tells = at_once GivesAll y (resting now, carried_after me.1 g.act)
+              (now, (refl, c.1), refl, g.carried ∙ sym (rest_is γ slot n IsVacant rest (suc n) me.1 row));
+        })
+
+    -- the value of an item whose slot is held is to be moved out, after a look at each place
+    pub takes_held : v.stakes.moves ≡ None → Holds v slot → n ≤ v.slots.looked → May i (λ x. x) (OfSlot TakesOut i me)
+    takes_held rests held all = let told : ℕ → Mine → Type 0 = OfSlot TakesOut i me in
+        lift_homes γ sizes slots id me i (λ x. x) (AtSlot LooksAtSlot i v) told (steps.looks_at id v live slot)
+        (λ s w h at t. let x : ℕ = get_or s.words i 0 in let c = t slot refl in let p = h.kept.parts in let f = p.slots.each id v at in
+        let own = f.held slot held in let one = (f.alone slot own).0 in let filled = full_owned x (omega arith) in
+        let tk = all_taken s h IsFull (λ g sh. sh.0 filled) (λ j u e. (
+          holding.unseen_held codes sound sizes s.words s.views p.slots id v at p.epoch slot held all j u e,
+          (λ m. dite (ℕ_discrete id j)
+              (λ same. none_moved v slot rests (subst (λ (z : View). Moves z slot) (some-injective u v (sym e ∙ (ap (get_elem? s.views) (sym same) ∙ at))) m))
+              (λ ne. still_owned γ sizes s h slot id j v u at e ne (omega arith) m)),
+        )) in
+        subst (Follows γ sizes id i me told s x) (sym c.0) record {
+          stakes = record v.stakes { moves = Some slot };
+          act = tk.act;
+          valid = tk.valid;
+          homes = part.takes γ sizes s.words s.views s.homes h.homes id v at slot IsFull me.1 tk (set s.words i x) (moving slot v) refl
+              (λ j p ne out. ⊎_elim (λ (m : Moves v j). absurd (none_moved v j rests m)) (λ (o : Sees v j × (v.epoch.place ≡ p)). inr o) out)
+              (λ j _ _. same_words s h j)
+              (λ j m. let e : j ≡ slot = one_moved (moving slot v) slot j refl m in inl (subst (OwnsAlone v) (sym e) own));
+          tells = at_once TakesOut x (moving slot v, carried_after me.1 tk.act) (refl, tk.row, c.1);
+        })
+
+    -- it has gone
+    pub discards : Moves v slot → Holds v slot → n ≤ v.slots.looked → (rest : Carries) → HasAll γ slot n IsVacant rest me.1
+        → May i (λ _. free_word 0) (λ _. OfSlot DiscardsAll i me (free_word 0))
+    discards mine held all rest row = let y : ℕ = free_word 0 in let told : ℕ → Mine → Type 0 = λ _. OfSlot DiscardsAll i me y in
+        lift_homes γ sizes slots id me i (λ _. y) (λ _. AtSlot Discards i v y) told (steps.discards id v live slot 0 inside held all (omega arith))
+        (λ s w h at t. let now : View = discarded slot y v in
+        let g = gives_row γ n slot IsVacant sizes.slots inside (suc n) (omega arith) s.homes rest me.1 h.homes.deep row in
+        let empty = (free_is 0 (omega arith)).2 in
+        subst (Follows γ sizes id i me told s y) (sym (t slot refl)) record {
+          stakes = record v.stakes { moves = None };
+          act = g.act;
+          valid = g.valid;
+          homes = part.gives γ sizes s.words s.views s.homes h.homes id v at slot IsVacant rest me.1 g (set s.words i y) (resting now)
+              (λ g vacant. (λ e. let f = ap full (here s.words y (within s h)) in absurd (omega arith), λ _. vacant))
+              (λ j p ne out. ⊎_elim (λ (m : Moves v j). absurd (ne (one_moved v slot j mine m))) (λ (o : Sees v j × (v.epoch.place ≡ p)). inr o) out)
+              (others s.words y)
+              (λ j m. absurd (none_moved (resting now) j refl m));
+          tells = at_once DiscardsAll y (resting now, carried_after me.1 g.act)
+              (refl, g.carried ∙ sym (rest_is γ slot n IsVacant rest (suc n) me.1 row));
+        })
+
+    -- look at the word
+    pub looks : May i (λ x. x) (λ r me'. (me'.1 ≡ me.1) × AtSlot LooksAtSlot i v r me'.0)
+    looks = lift_calm γ sizes slots id me i (λ x. x) (AtSlot LooksAtSlot i v) (λ r me'. (me'.1 ≡ me.1) × AtSlot LooksAtSlot i v r me'.0)
+        (steps.looks_at id v live slot) (λ r w t. (refl, t))
+        (λ s w h at t. subst (IsCalm γ sizes slots id me i (λ x. x) s (get_or s.words i 0)) (sym (t slot refl).0)
+        record { more = λ j p out. out; same = λ j _. same_words s h j; mover = λ j m. h.homes.moving id v j at m })
+
+    -- retire the item
+    pub retires : OwnsAlone v slot → ¬ (Holds v slot) → v.stakes.moves ≡ None
+        → May i (λ _. waiting_word 0) (λ _ me'. (me'.1 ≡ me.1) × AtSlot Retires i v (waiting_word 0) me'.0)
+    retires own free rests = let y : ℕ = waiting_word 0 in
+        lift_calm γ sizes slots id me i (λ _. y) (λ _. AtSlot Retires i v y) (λ _ me'. (me'.1 ≡ me.1) × AtSlot Retires i v y me'.0)
+        (steps.retires id v live slot 0 inside own free (omega arith)) (λ r w t. (refl, t))
+        (λ s w h at t. let c = t slot refl in let one = ((h.kept.parts.slots.each id v at).alone slot own).0 in
+        let was = full_owned (slot_at sizes s.words slot) (omega arith) in
+        let will = (sound.waits y (let q = (waiting_is 0 (omega arith)).1 in omega arith)).1 in
+        subst (IsCalm γ sizes slots id me i (λ _. y) s y) (sym c.3) record {
+          more = λ j p out. out;
+          same = λ j low. dite (ℕ_discrete j slot)
+              (λ e. subst (λ (k : ℕ). full (slot_at sizes (set s.words i y) k) ≡ full (slot_at sizes s.words k)) (sym e)
+              (ap full (here s.words y (within s h)) ∙ (will ∙ sym was)))
+              (λ ne. others s.words y j low ne);
+          mover = λ j m. absurd (none_moved v j rests m);
+        })
+
+    -- a guard comes to see it
+    pub watches : IsOpen v.epoch → v.epoch.place < n → 0 < owners_at slot v → ¬ (Holds v slot) → v.stakes.moves ≡ None → May i (λ x. x) (OfSlot WatchesBy i me)
+    watches is_open near own free rests = let told : ℕ → Mine → Type 0 = OfSlot WatchesBy i me in dite (dec_lt 0 (times slot v.slots.sees))
+        (λ sees. lift_homes γ sizes slots id me i (λ x. x) (AtSlot LooksAtSlot i v) told (steps.looks_at id v live slot)
+        (λ s w h at t. let x : ℕ = get_or s.words i 0 in let c = t slot refl in subst (Follows γ sizes id i me told s x) (sym c.0) record {
+          stakes = v.stakes;
+          act = keeps;
+          valid = tt;
+          homes = part.calm γ sizes s.words s.views s.homes h.homes id v at (set s.words i x) v (λ j p out. out) (λ j _. same_words s h j)
+              (λ j m. h.homes.moving id v j at m);
+          tells = at_once WatchesBy x me ((λ _. refl), (λ blind. absurd (blind sees)), c.1);
+        }))
+        (λ blind. lift_homes γ sizes slots id me i (λ x. x) (AtSlot Watches i v) told (steps.watches id v live slot is_open own free)
+        (λ s w h at t. let x : ℕ = get_or s.words i 0 in let c = t slot refl in let q : ℕ = v.epoch.place in let p = h.kept.parts in
+        let now : View = seeing slot v in let one = is_same slot slot refl in
+        let filled = full_owned x (let o = owner_in codes sound sizes s.words s.views p.slots id slot v at in omega arith) in
+        let away : NoneOut s.views slot q = λ j u e out. dite (ℕ_discrete id j)
+        (λ same. let is : u ≡ v = some-injective u v (sym e ∙ (ap (get_elem? s.views) (sym same) ∙ at)) in ⊎_elim
+        (λ (m : Moves u slot). none_moved v slot rests (subst (λ (z : View). Moves z slot) is m))
+        (λ (o : Sees u slot × (u.epoch.place ≡ q)). blind (subst (λ (z : View). Sees z slot) is o.0)) out)
+        (λ ne. ⊎_elim (λ (m : Moves u slot). still_owned γ sizes s h slot id j v u at e ne own m)
+        (λ (o : Sees u slot × (u.epoch.place ≡ q)). let theirs = (p.slots.each j u e).guarded slot o.0 in
+        let apart = (p.epoch.two id j v.epoch u.epoch ne (at_map Rattle.sdd_rule.specs.Parts.epoch_of s.views id v at)
+        (at_map Rattle.sdd_rule.specs.Parts.epoch_of s.views j u e)).places live (omega arith) in apart (sym o.1)) out) in
+        let b = h.homes.back slot q inside (omega arith) away in let y : Stake = b.0 in let spot : ℕ = stake_at n slot q in
+        let has = h.homes.home slot q y inside (omega arith) b.1 in
+        let mine : Has γ slot 1 IsFull y = subst (λ (k : ℕ). Has γ slot k IsFull y) (share_one n q near) (has.0, has.1.0 filled) in
+        subst (Follows γ sizes id i me told s x) (sym c.0) record {
+          stakes = v.stakes;
+          act = takes spot y;
+          valid = b.1;
+          homes = subst (λ (ws : List ℕ). HomesPart γ sizes ws (set s.views id now) (set s.homes spot none)) (sym (set-get_or s.words i 0))
+              (part.takes_one γ sizes s.words s.views s.homes h.homes id v at slot q (omega arith) now (inr (omega arith, refl))
+              (λ j p out. ⊎_elim (λ (m : Moves v j). inl m) (λ (o : Sees v j × (v.epoch.place ≡ p)). inr (let a = o.0 in omega arith, o.1)) out)
+              (λ j m. h.homes.moving id v j at m));
+          tells = at_once WatchesBy x (now, (spot, y) ∷ me.1) ((λ sees. absurd (blind sees)), (λ _. (y, mine, refl)), c.1);
+        }))
+
+    -- hold a slot, and let go of it
+    pub takes_hold : OwnsAlone v slot → v.slots.holds ≡ None → May i (λ x. x) (λ r me'. (me'.1 ≡ me.1) × AtSlot TakesHold i v r me'.0)
+    takes_hold own free = lift_calm γ sizes slots id me i (λ x. x) (AtSlot TakesHold i v) (λ r me'. (me'.1 ≡ me.1) × AtSlot TakesHold i v r me'.0)
+        (steps.takes_hold id v live slot inside own free) (λ r w t. (refl, t))
+        (λ s w h at t. subst (IsCalm γ sizes slots id me i (λ x. x) s (get_or s.words i 0)) (sym (t slot refl).0)
+        record { more = λ j p out. out; same = λ j _. same_words s h j; mover = λ j m. h.homes.moving id v j at m })
+
+    pub lets_go : Holds v slot → May i (λ x. x) (λ r me'. (me'.1 ≡ me.1) × AtSlot LetsGo i v r me'.0)
+    lets_go held = lift_calm γ sizes slots id me i (λ x. x) (AtSlot LetsGo i v) (λ r me'. (me'.1 ≡ me.1) × AtSlot LetsGo i v r me'.0)
+        (steps.lets_go id v live slot inside held) (λ r w t. (refl, t))
+        (λ s w h at t. subst (IsCalm γ sizes slots id me i (λ x. x) s (get_or s.words i 0)) (sym (t slot refl).0)
+        record { more = λ j p out. out; same = λ j _. same_words s h j; mover = λ j m. h.homes.moving id v j at m })
+
+  -- look at the next place for a guard
+  pub looks_for_guard : (place : ℕ) → place < n → place ≡ v.slots.looked
+      → May (state_word place) (λ x. x) (λ r me'. (me'.1 ≡ me.1) × LooksForGuard (state_word place) v r me'.0)
+  looks_for_guard place low next = let j : ℕ = state_word place in
+      lift_calm γ sizes slots id me j (λ x. x) (LooksForGuard j v) (λ r me'. (me'.1 ≡ me.1) × LooksForGuard j v r me'.0) (steps.looks id v live place next)
+      (λ r w t. (refl, t))
+      (λ s w h at t. let c = t place refl in let x : ℕ = get_or s.words j 0 in
+      let same = λ (k : ℕ) (_ : k < sizes.slots). ap (λ (l : List ℕ). full (slot_at sizes l k)) (set-get_or s.words j 0) in
+      let calm = λ (w : View). IsCalm γ sizes slots id me j (λ x. x) s x w in dite (ℕ_discrete x 2)
+      (λ e. subst calm (sym (c.1 e)) record { more = λ k p out. out; same = same; mover = λ k m. h.homes.moving id v k at m })
+      (λ ne. subst calm (sym (c.0 ne)) record { more = λ k p out. out; same = same; mover = λ k m. h.homes.moving id v k at m }))
+
+  -- the last guard is closed, whose stakes go home
+  pub closes : IsOpen v.epoch → ¬ (Scans v.epoch) → v.epoch.place < n → v.stakes.moves ≡ None → Purse γ n v.epoch.place v.slots.sees me.1
+      → May (state_word v.epoch.place) (λ _. 1) (λ _. ClosesHome me 1)
+  closes is_open free near rests purse = let j : ℕ = state_word v.epoch.place in let q : ℕ = v.epoch.place in let le : q ≤ n = omega arith in
+      lift_homes γ sizes slots id me j (λ _. 1) (λ _. ClosesAll v 1) (λ _. ClosesHome me 1) (over.closes sizes id v is_open free near)
+      (λ s w h at t. let f = h.kept.parts.slots.each id v at in let long = h.kept.parts.slots.long in
+      let low : (k : ℕ) → 0 < times k v.slots.sees → k < sizes.slots = λ k sees. dite (dec_lt k sizes.slots) (λ l. l) (λ past. absurd
+      (let a = f.full k sees in let z : slot_at sizes s.words k ≡ 0 = get_or_past s.words (slot_word sizes k) 0 (omega arith) in
+      let b = ap full z ∙ sound.free.2 in omega arith)) in
+      let g = gives_purse γ n q sizes.slots le v.slots.sees low s.homes me.1 h.homes.deep purse in
+      let same = λ (k : ℕ). ap full (before_slots sizes s.words j 1 k (omega arith)) in
+      subst (Follows γ sizes id j me (λ _. ClosesHome me 1) s 1) (sym t) record {
+        stakes = v.stakes;
+        act = g.act;
+        valid = g.valid;
+        homes = part.closes γ sizes s.words s.views s.homes h.homes id v at q le near me.1 g (set s.words j 1)
+            (record v { epoch = Rattle.sdd_rule.specs.Steps.closed v.epoch; slots = Rattle.sdd_rule.specs.SlotSteps.unseeing v }) refl
+            (λ k m. none_moved v k rests m) (λ k sees. same k ∙ f.full k sees) (λ k _. same k) (λ k m. absurd (none_moved v k rests m));
+        tells = (refl, g.carried);
+      })

@@ -1,0 +1,81 @@
+-- The homes' part of the rule. The slots of the table are the homes of stakes: for the value of each slot of the domain, one stake for each place,
+-- and one with all other units. What a guard sees, it may look at by the stake of its place; who moves the value in or out has all stakes in it.
+use Rattle.std.specs.Prelude.{◌≡◌, ◌⊎◌, ℕ, suc, ◌+◌, ◌-◌, ◌*◌, ◌<◌, ◌≤◌, List, length, Some, eqb}
+use mathlib.Core.Option.{Option, some}
+use lib.ListN.{get_elem?}
+use prog.Atomic.{either}
+use base.Stored.{Gv}
+use Rattle.atomic_table.specs.Table.{State}
+use Rattle.sdd_stakes.specs.Shelf.{IsFull, IsVacant, most, lot}
+use Rattle.sdd_stakes.specs.declared.stake.Stake.{Stake}
+use Rattle.sdd_rule.specs.declared.View.{View}
+use Rattle.sdd_rule.specs.declared.Sizes.{Sizes}
+use Rattle.sdd_rule.specs.Codes.{full}
+use Rattle.sdd_rule.specs.Slots.{slot_at, items_at, OwnsAlone, Sees}
+use Rattle.sdd_rule.specs.Parts.{Kept}
+
+-- what lies in the table's slots, where it is at home
+abbrev pub Homes : Type 0
+Homes = List (Option Stake)
+
+-- what a seat carries: each stake with the slot of the table that is its home
+abbrev pub Carries : Type 0
+Carries = List (ℕ × Stake)
+
+-- the home of the p-th stake in the value of the slot i, where there are n places
+unfoldable pub stake_at : ℕ → ℕ → ℕ → ℕ
+stake_at n i p = i * suc n + p
+
+-- how many homes there are for m slots
+unfoldable pub homes_for : ℕ → ℕ → ℕ
+homes_for n m = m * suc n
+
+-- its units: one for each place, and all others in the last stake
+abbrev pub share : ℕ → ℕ → ℕ
+share n p = either (eqb p n) (most - n) 1
+
+-- so many units of the place i of the book γ, which aren't lent and show this
+abbrev pub Has : ℕ → ℕ → ℕ → (Gv → Type 0) → Stake → Type 0
+Has γ i units Is y = (y.lot ≡ lot γ i y.lot.round y.lot.shown units) × Is y.lot.shown
+
+-- what units at home show, by the word of their slot: a value, but where it is free
+abbrev pub IsShown : ℕ → Gv → Type 0
+IsShown x g = (full x ≡ 1 → IsFull g) × (full x ≡ 0 → IsVacant g)
+
+-- it moves the value of the slot i, in or out
+abbrev pub Moves : View → ℕ → Type 0
+Moves v i = v.stakes.moves ≡ Some i
+
+-- the p-th stake in the slot i is out with it: a guard of the place p sees the slot, or all are out, as its value is moved
+abbrev pub IsOut : View → ℕ → ℕ → Type 0
+IsOut v i p = Moves v i ⊎ (Sees v i × (v.epoch.place ≡ p))
+
+abbrev pub NoneOut : List View → ℕ → ℕ → Type 0
+NoneOut vs i p = (j : ℕ) (v : View) → get_elem? vs j ≡ some v → ¬ (IsOut v i p)
+
+-- the p-th stake in the slot i is at home, and it is this one
+abbrev pub LiesAt : ℕ → Homes → ℕ → ℕ → Stake → Type 0
+LiesAt n hs i p y = get_elem? hs (stake_at n i p) ≡ some (some y)
+
+abbrev pub IsAtHome : ℕ → Homes → ℕ → ℕ → Type 0
+IsAtHome n hs i p = (y : Stake) × LiesAt n hs i p y
+
+-- the book of the values' places, the words, what all participants know, and what lies at home. A stake is at home unless someone has it out;
+-- and who moves a value owns it alone, or its item waits with it
+pub record HomesPart (γ : ℕ) (sizes : Sizes) (ws : List ℕ) (vs : List View) (hs : Homes) : Type 0 where
+  pub few : sizes.participants < most
+  pub deep : length hs ≡ homes_for sizes.participants sizes.slots
+  pub home : (i p : ℕ) (y : Stake) → i < sizes.slots → p ≤ sizes.participants → LiesAt sizes.participants hs i p y
+      → Has γ i (share sizes.participants p) (IsShown (slot_at sizes ws i)) y
+  pub back : (i p : ℕ) → i < sizes.slots → p ≤ sizes.participants → NoneOut vs i p → IsAtHome sizes.participants hs i p
+  pub moving : (j : ℕ) (v : View) (i : ℕ) → get_elem? vs j ≡ some v → Moves v i → OwnsAlone v i ⊎ (0 < items_at i v)
+
+-- the whole rule
+pub record Housed (γ : ℕ) (sizes : Sizes) (s : State Stake View) : Type 0 where
+  pub kept : Kept sizes s
+  pub homes : HomesPart γ sizes s.words s.views s.homes
+
+-- before anybody takes part: in each home its stake, which shows that the place is vacant
+pub record AreLaid (γ n m : ℕ) (stakes : List Stake) : Type 0 where
+  pub long : length stakes ≡ homes_for n m
+  pub each : (i p : ℕ) → i < m → p ≤ n → (y : Stake) × (get_elem? stakes (stake_at n i p) ≡ some y) × Has γ i (share n p) IsVacant y
