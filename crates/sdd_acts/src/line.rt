@@ -73,7 +73,10 @@ fn act(stage: &mut Stage, name: PlaceName, action: Action) -> Result<Reply, Refu
     if let Some(reply) = sdd_raw_acts::act(stage, name, action)? {
         return Ok(reply);
     }
-    let Some(reply) = sdd_cell_acts::act(stage, name, action)? else {
+    if let Some(reply) = sdd_cell_acts::act(stage, name, action)? {
+        return Ok(reply);
+    }
+    let Some(reply) = sdd_cell_acts::act_on_held(stage, name, action)? else {
         unreachable!()
     };
     Ok(reply)

@@ -6,7 +6,7 @@ use Rattle.std.specs.Prelude.{Option}
 use Rattle.sdd_lines.specs.declared.call.Action.{Action}
 use Rattle.sdd_lines.specs.declared.call.Action.TheVariants as call
 
--- an action on a cell
+-- an action on a cell as a whole
 abbrev pub IsCellAct : Action → Type 0
 IsCellAct (call.CellOwned owner) = Unit {0}
 IsCellAct (call.CellShared owner) = Unit {0}
@@ -14,12 +14,16 @@ IsCellAct (call.Load cell guard) = Unit {0}
 IsCellAct (call.Tag cell) = Unit {0}
 IsCellAct (call.TagIf cell tag was) = Unit {0}
 IsCellAct (call.CloseCell cell) = Unit {0}
-IsCellAct (call.Swap cell owner tag) = Unit {0}
-IsCellAct (call.Exchange cell guard item was owner tag) = Unit {0}
-IsCellAct (call.Into cell) = Unit {0}
-IsCellAct (call.Copy cell guard) = Unit {0}
-IsCellAct (call.Share cell guard) = Unit {0}
 IsCellAct other = ⊥
+
+-- an action on the owner that a cell holds
+abbrev pub IsHeldAct : Action → Type 0
+IsHeldAct (call.Swap cell owner tag) = Unit {0}
+IsHeldAct (call.Exchange cell guard item was owner tag) = Unit {0}
+IsHeldAct (call.Into cell) = Unit {0}
+IsHeldAct (call.Copy cell guard) = Unit {0}
+IsHeldAct (call.Share cell guard) = Unit {0}
+IsHeldAct other = ⊥
 
 -- the line that makes a cell that holds owners of this kind
 abbrev pub making_cell : Ownership → Option OwnerName → Action

@@ -5,4 +5,4 @@ pub mod cells;
 pub mod exchanges;
 mod line;
 
-pub use line::act;
+pub use line::{act, act_on_held};

@@ -1,7 +1,7 @@
 //! The actions of this crate, and what each answers.
 ghost use Rattle.std.specs.Prelude.{◌≡◌, MatchOption, MatchResult};
 ghost use Rattle.sdd_desk.specs.Script.{Acts};
-ghost use Rattle.sdd_cell_acts.specs.Lines.{IsCellAct};
+ghost use Rattle.sdd_cell_acts.specs.Lines.{IsCellAct, IsHeldAct};
 
 use crate::{cells, exchanges};
 use sdd_core::Refused;
@@ -9,7 +9,7 @@ use sdd_desk::Ownership;
 use sdd_lines::{Action, Call, PlaceName, Reply};
 use sdd_stage::Stage;
 
-/// An action on a cell. None where the action is another.
+/// An action on a cell as a whole. None where the action is another.
 pub fn act(stage: &mut Stage, name: PlaceName, action: Action) -> Result<Option<Reply>, Refused>
     ensures acts { MatchResult result
         (λ o. MatchOption o (¬ (IsCellAct action) × (stage.new ≡ stage.old))
@@ -23,6 +23,22 @@ pub fn act(stage: &mut Stage, name: PlaceName, action: Action) -> Result<Option<
         Action::Tag(cell) => cells::tag(stage, name, cell),
         Action::TagIf(cell, tag, was) => cells::set_tag_if(stage, name, cell, tag, was),
         Action::CloseCell(cell) => cells::close_cell(stage, name, cell),
+        _ => return Ok(None),
+    }))
+}
+
+/// An action on the owner that a cell holds. None where the action is another.
+pub fn act_on_held(
+    stage: &mut Stage,
+    name: PlaceName,
+    action: Action,
+) -> Result<Option<Reply>, Refused>
+    ensures acts { MatchResult result
+        (λ o. MatchOption o (¬ (IsHeldAct action) × (stage.new ≡ stage.old))
+        (λ reply. IsHeldAct action × Acts stage.old (Call.At name action) reply stage.new))
+        (λ refused. (refused ≡ Refused.NoMemory) × (stage.new ≡ stage.old)) }
+{
+    Ok(Some(match action {
         Action::Swap(cell, owner, tag) => exchanges::swap(stage, name, cell, owner, tag)?,
         Action::Exchange(cell, guard, item, was, owner, tag) => {
             exchanges::exchange(stage, name, cell, guard, item, was, owner, tag)?
