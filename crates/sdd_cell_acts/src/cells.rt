@@ -18,6 +18,8 @@ use sdd_turns::cells::{cell_around, cell_loaded, close_at, slot_in, tag_if, tag_
 use sdd_world::inner::has_no_cell;
 use std::alloc::AllocError;
 
+/// `P cell owned X`, `P cell shared X`: a cell for owners of that kind, with this one or none in it. `NoCell` is a reply, and then the owner keeps its
+/// name. Refused where memory for the cell's name is, and then nothing has changed.
 pub fn make_cell(
     stage: &mut Stage,
     name: PlaceName,
@@ -43,6 +45,7 @@ pub fn make_cell(
     Ok(Reply::Cell(CellName(name)))
 }
 
+/// `P load C G`: the item that a cell points to, or null, and its tag.
 pub fn load(stage: &mut Stage, name: PlaceName, cell: CellName, guard: GuardName) -> Reply
     ensures acts { Acts stage.old (Call.At name (Action.Load cell guard)) result stage.new }
 {
@@ -61,6 +64,7 @@ pub fn load(stage: &mut Stage, name: PlaceName, cell: CellName, guard: GuardName
     Reply::Pointer(item, loaded.tag)
 }
 
+/// `P tag C`: the tag of a cell.
 pub fn tag(stage: &mut Stage, name: PlaceName, cell: CellName) -> Reply
     ensures acts { Acts stage.old (Call.At name (Action.Tag cell)) result stage.new }
 {
@@ -74,6 +78,7 @@ pub fn tag(stage: &mut Stage, name: PlaceName, cell: CellName) -> Reply
     Reply::Tag(tag_of(&mut stage.hand.world, &attending.place, cell))
 }
 
+/// `P tagif C T if T`: a cell has the first tag where it had the second, and whether it had is told.
 pub fn set_tag_if(stage: &mut Stage, name: PlaceName, cell: CellName, tag: Tag, was: Tag) -> Reply
     ensures acts { Acts stage.old (Call.At name (Action.TagIf cell tag was)) result stage.new }
 {
@@ -87,6 +92,7 @@ pub fn set_tag_if(stage: &mut Stage, name: PlaceName, cell: CellName, tag: Tag, 
     Reply::Truth(tag_if(&mut stage.hand.world, &attending.place, cell, tag, was))
 }
 
+/// `P close C`: the cell is closed, and the participant given what it held.
 pub fn close_cell(stage: &mut Stage, name: PlaceName, cell: CellName) -> Reply
     ensures acts { Acts stage.old (Call.At name (Action.CloseCell cell)) result stage.new }
 {

@@ -16,6 +16,8 @@ use sdd_store::Cell;
 use sdd_turns::exchanges::{copy_held, exchange_at, share_held, swap_in, take_out};
 use std::alloc::AllocError;
 
+/// `P swap C X T`: an owner, or none, goes into a cell with a tag, and what was there comes out. Refused where memory for a name is, and then nothing has
+/// changed.
 pub fn swap(
     stage: &mut Stage,
     name: PlaceName,
@@ -42,6 +44,8 @@ pub fn swap(
     Ok(Reply::Swapped(name, was))
 }
 
+/// `P cas C G was Y T now X T`: a swap, where the cell points to that, its tag counted; else what it points to is told. Refused where memory for a name
+/// is, and then nothing has changed.
 pub fn exchange(
     stage: &mut Stage,
     name: PlaceName,
@@ -105,6 +109,7 @@ pub fn exchange(
     }
 }
 
+/// `P into C`: the cell is spent, and the owner in it, if there is one, comes out. Refused where memory for its name is, and then nothing has changed.
 pub fn into_owner(stage: &mut Stage, name: PlaceName, cell: CellName) -> Result<Reply, AllocError>
     ensures acts { MatchResult result (λ reply. Acts stage.old (Call.At name (Action.Into cell)) reply stage.new) (λ _. stage.new ≡ stage.old) }
 {
@@ -124,6 +129,8 @@ pub fn into_owner(stage: &mut Stage, name: PlaceName, cell: CellName) -> Result<
     Ok(told_back(name))
 }
 
+/// `P copy C G`: a cell with one owner more of what a cell of counted owners holds. `NoCell` and `TooManyOwners` are replies. Refused where memory for
+/// the name is, and then nothing has changed.
 pub fn copy(
     stage: &mut Stage,
     name: PlaceName,
@@ -152,6 +159,8 @@ pub fn copy(
     }
 }
 
+/// `P share C G`: one owner more of what a cell of counted owners holds, or none. `TooManyOwners` is a reply. Refused where memory for the name is, and
+/// then nothing has changed.
 pub fn share(
     stage: &mut Stage,
     name: PlaceName,

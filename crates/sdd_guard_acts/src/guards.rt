@@ -24,6 +24,8 @@ use sdd_world::World;
 use sdd_world::inner::{is_open, reclaims_next};
 use std::alloc::{AllocError, Global};
 
+/// `P open`: a guard of the participant, named with its epoch, and what went or ran by its opening, each in ascending order. `TooManyGuards` is a reply.
+/// Refused where memory for names is, and then nothing has changed.
 pub fn open(stage: &mut Stage, name: PlaceName) -> Result<Answer, AllocError>
     requires line { BeginsLine stage.old }
     ensures answers { MatchResult result (λ answer. Answers stage.old (Call.At name Action.Open) answer stage.new) (λ _. stage.new ≡ stage.old) }
@@ -66,6 +68,7 @@ pub fn open(stage: &mut Stage, name: PlaceName) -> Result<Answer, AllocError>
     })
 }
 
+/// `P epoch G`: the epoch that a guard of the participant shows.
 pub fn epoch(stage: &mut Stage, name: PlaceName, guard: GuardName) -> Reply
     ensures acts { Acts stage.old (Call.At name (Action.Epoch guard)) result stage.new }
 {
@@ -76,6 +79,7 @@ pub fn epoch(stage: &mut Stage, name: PlaceName, guard: GuardName) -> Reply
     Reply::Epoch(epoch_at(&mut stage.hand.world, &attending.place, &held.guard))
 }
 
+/// `P garbage G`: whether something may wait with the participant.
 pub fn garbage(stage: &mut Stage, name: PlaceName, guard: GuardName) -> Reply
     ensures acts { Acts stage.old (Call.At name (Action.Garbage guard)) result stage.new }
 {
@@ -86,6 +90,7 @@ pub fn garbage(stage: &mut Stage, name: PlaceName, guard: GuardName) -> Reply
     Reply::Truth(garbage_at(&mut stage.hand.world, &attending.place, &held.guard))
 }
 
+/// `P set G`: the participant has garbage from now on.
 pub fn set(stage: &mut Stage, name: PlaceName, guard: GuardName) -> Reply
     ensures acts { Acts stage.old (Call.At name (Action.Set guard)) result stage.new }
 {
@@ -97,6 +102,7 @@ pub fn set(stage: &mut Stage, name: PlaceName, guard: GuardName) -> Reply
     Reply::Done
 }
 
+/// `P accelerate G`: the participant's next outermost close scans.
 pub fn accelerate(stage: &mut Stage, name: PlaceName, guard: GuardName) -> Reply
     ensures acts { Acts stage.old (Call.At name (Action.Accelerate guard)) result stage.new }
 {
@@ -108,6 +114,7 @@ pub fn accelerate(stage: &mut Stage, name: PlaceName, guard: GuardName) -> Reply
     Reply::Done
 }
 
+/// `P defer G`: a job that does nothing waits, and is named. `NoJob` is a reply.
 pub fn defer(stage: &mut Stage, name: PlaceName, guard: GuardName) -> Reply
     requires line { BeginsLine stage.old }
     ensures acts { Acts stage.old (Call.At name (Action.Defer guard)) result stage.new }
@@ -127,6 +134,7 @@ pub fn defer(stage: &mut Stage, name: PlaceName, guard: GuardName) -> Reply
     Reply::Job(JobName(job))
 }
 
+/// `P close G`: the guard is closed, and its name spent.
 pub fn close_guard(stage: &mut Stage, name: PlaceName, guard: GuardName) -> Reply
     ensures acts { Acts stage.old (Call.At name (Action.Close guard)) result stage.new }
 {

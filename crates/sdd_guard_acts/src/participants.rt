@@ -10,6 +10,7 @@ use sdd_lines::{Action, Call, PlaceName, Reply};
 use sdd_stage::Stage;
 use sdd_world::inner::is_open;
 
+/// `register`: a participant at a place that was vacant. `NoPlace` is a reply; `NoMemory` where memory is refused, and then nobody is registered.
 pub fn register(stage: &mut Stage) -> Result<Reply, Refused>
     ensures acts { MatchResult result (λ reply. Acts stage.old Call.Register reply stage.new)
         (λ refused. (refused ≡ Refused.NoMemory) × (stage.new ≡ stage.old)) }
@@ -26,6 +27,7 @@ pub fn register(stage: &mut Stage) -> Result<Reply, Refused>
     }
 }
 
+/// `P end`: the participant takes part no more, and its name is spent. `GuardOpen` is a reply, and then it takes part still.
 pub fn end(stage: &mut Stage, name: PlaceName) -> Reply
     ensures acts { Acts stage.old (Call.At name Action.End) result stage.new }
 {

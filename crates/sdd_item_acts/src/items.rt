@@ -19,6 +19,8 @@ use sdd_world::World;
 use sdd_world::inner::{has_no_cell, has_no_slot};
 use std::alloc::AllocError;
 
+/// `P owned V`, `P shared V`: an item with an owner of that kind, both named. `NoSlot` is a reply. Refused where memory for the names is, and then
+/// nothing has changed.
 pub fn make(
     stage: &mut Stage,
     name: PlaceName,
@@ -51,6 +53,7 @@ pub fn make(
     Ok(Reply::Item(OwnerName(name), ItemName(item)))
 }
 
+/// `P read O`: the value of an owner's item.
 pub fn read(stage: &mut Stage, name: PlaceName, owner: OwnerName) -> Reply
     ensures acts { Acts stage.old (Call.At name (Action.Read owner)) result stage.new }
 {
@@ -67,6 +70,7 @@ pub fn read(stage: &mut Stage, name: PlaceName, owner: OwnerName) -> Reply
     )
 }
 
+/// `P look I G`: the value of an item that the participant can point to.
 pub fn look(stage: &mut Stage, name: PlaceName, item: ItemName, guard: GuardName) -> Reply
     ensures acts { Acts stage.old (Call.At name (Action.Look item guard)) result stage.new }
 {

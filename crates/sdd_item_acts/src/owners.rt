@@ -15,6 +15,7 @@ use sdd_steps::holding::AnOwner;
 use sdd_turns::owners::{clone_held, release_owner, retire_item, share_item};
 use std::alloc::AllocError;
 
+/// `P retire O`: the item of its one owner waits, and the owner's name is spent.
 pub fn retire(stage: &mut Stage, name: PlaceName, owner: OwnerName) -> Reply
     ensures acts { Acts stage.old (Call.At name (Action.Retire owner)) result stage.new }
 {
@@ -31,6 +32,7 @@ pub fn retire(stage: &mut Stage, name: PlaceName, owner: OwnerName) -> Reply
     Reply::Done
 }
 
+/// `P release O`: one of the counted owners goes, and tells whether it was the last, whose item waits.
 pub fn release(stage: &mut Stage, name: PlaceName, owner: OwnerName) -> Reply
     ensures acts { Acts stage.old (Call.At name (Action.Release owner)) result stage.new }
 {
@@ -49,6 +51,7 @@ pub fn release(stage: &mut Stage, name: PlaceName, owner: OwnerName) -> Reply
     Reply::Truth(was_last)
 }
 
+/// `P clone O`: an owner more beside a counted one. `TooManyOwners` is a reply. Refused where memory for the name is, and then nothing has changed.
 pub fn clone_owner(
     stage: &mut Stage,
     name: PlaceName,
@@ -73,6 +76,8 @@ pub fn clone_owner(
     }
 }
 
+/// `P upgrade I G`: an owner more of an item that a pointer names, or none where its last owner went. `TooManyOwners` is a reply. Refused where memory
+/// for the name is, and then nothing has changed.
 pub fn upgrade(
     stage: &mut Stage,
     name: PlaceName,

@@ -22,6 +22,7 @@ use sdd_turns::collectors::{close_at, collector_at, give_to};
 use sdd_world::World;
 use std::alloc::{AllocError, Global};
 
+/// `P collector`: a collector, named. `NoCell` is a reply. Refused where memory for the name is, and then nothing has changed.
 pub fn make_collector(stage: &mut Stage, name: PlaceName) -> Result<Reply, AllocError>
     ensures acts { MatchResult result (λ reply. Acts stage.old (Call.At name Action.Collector) reply stage.new) (λ _. stage.new ≡ stage.old) }
 {
@@ -39,6 +40,7 @@ pub fn make_collector(stage: &mut Stage, name: PlaceName) -> Result<Reply, Alloc
     }
 }
 
+/// `P collect O G K`: an owner is given to a collector, and its name spent; the item of the last one waits for the collector.
 pub fn collect(
     stage: &mut Stage,
     name: PlaceName,

@@ -16,6 +16,7 @@ use sdd_steps::raw::{ComesBack, DropsOwner, GoesRaw, PutsNumber, SeesRaw};
 use sdd_turns::step_at;
 use std::alloc::AllocError;
 
+/// `P put O n`: the number that an owner's item holds becomes this one, in its place. `NotAlone` and `GuardOpen` are replies.
 pub fn put(stage: &mut Stage, name: PlaceName, owner: OwnerName, number: u64) -> Reply
     ensures acts { Acts stage.old (Call.At name (Action.Put owner number)) result stage.new }
 {
@@ -47,6 +48,7 @@ pub fn put(stage: &mut Stage, name: PlaceName, owner: OwnerName, number: u64) ->
     Reply::Done
 }
 
+/// `P drop O`: an owner is given up, and the item of one that is alone dropped in its place. `GuardOpen` is a reply, and then the owner keeps its name.
 pub fn drop_owner(stage: &mut Stage, name: PlaceName, owner: OwnerName) -> Reply
     ensures acts { Acts stage.old (Call.At name (Action.Drop owner)) result stage.new }
 {
@@ -71,6 +73,7 @@ pub fn drop_owner(stage: &mut Stage, name: PlaceName, owner: OwnerName) -> Reply
     reply
 }
 
+/// `P raw O`: the item of its one owner is out as raw, and the owner's name spent.
 pub fn put_out_raw(stage: &mut Stage, name: PlaceName, owner: OwnerName) -> Reply
     ensures acts { Acts stage.old (Call.At name (Action.Raw owner)) result stage.new }
 {
@@ -86,6 +89,7 @@ pub fn put_out_raw(stage: &mut Stage, name: PlaceName, owner: OwnerName) -> Repl
     Reply::Raw(ItemName(stage.hand.names[slot as usize]))
 }
 
+/// `P unraw I`: the owner of an item that is out as raw, or none. Refused where memory for its name is, and then nothing has changed.
 pub fn take_back_raw(
     stage: &mut Stage,
     name: PlaceName,
@@ -113,6 +117,7 @@ pub fn take_back_raw(
     }
 }
 
+/// `P see I G`: the value of an item that is out as raw, or none.
 pub fn see(stage: &mut Stage, name: PlaceName, item: ItemName, guard: GuardName) -> Reply
     ensures acts { Acts stage.old (Call.At name (Action.See item guard)) result stage.new }
 {
