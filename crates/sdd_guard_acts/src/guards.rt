@@ -11,7 +11,7 @@ ghost use Rattle.sdd_desk.specs.Desk.{BeginsLine};
 ghost use Rattle.sdd_desk.specs.Script.{Acts, Answers};
 
 use sdd_desk::Val;
-use sdd_hand::items::{date_waiting, names_of, owners_in, slots_among};
+use sdd_hand::items::{date_waiting, items_in, slots_among};
 use sdd_hand::jobs::jobs_among;
 use sdd_hand::participants::{Guarding, note_opening, under};
 use sdd_lines::{Action, Answer, Call, GuardName, ItemName, JobName, Names, PlaceName, Reply};
@@ -171,9 +171,5 @@ fn items_among(
     ensures owners { IfOk result (λ found. found.1.items ≡ owners_in world.now (slots_among waiting.now)) }
 {
     let slots = slots_among(alloc, waiting)?;
-    let slots = slots.as_slice();
-    let mut items = names_of(alloc, slots, names)?;
-    let owners = owners_in(alloc, world, slots)?;
-    items.sort_unstable();
-    Ok((items, owners))
+    items_in(alloc, world, slots.as_slice(), names)
 }

@@ -1,5 +1,6 @@
 //! Names of items: the slots that they have, and since when an item waits.
 ghost use Rattle.std.specs.Prelude.{◌≡◌, ◌↔◌, ◌<◌, ◌≤◌, ◌^◌, ℕ, All, IsSome, IsTrue, None, Some, MatchOption, length, slice_index, slice_index_or, IfOk, IfSome, map, if◌then◌else◌};
+ghost use Rattle.std.specs.List.Sorted.{IsPermutation, IsNonDecreasingBy};
 ghost use Rattle.std.specs.Option.{option_map};
 ghost use Rattle.sdd_base.specs.World.{World, standing_at, value_at};
 ghost use Rattle.sdd_standings.specs.Slots.{is_waiting};
@@ -10,6 +11,7 @@ ghost use Rattle.sdd_hand.specs.Hand.{SlotInside, CanPointAt, CanCompareAt, date
 ghost use Rattle.sdd_desk.specs.Held.{owners_in, slots_among, slots_waiting_for, waits_among, slot_held};
 ghost use Rattle.sdd_desk.specs.declared.val.Body.{Body};
 ghost use Rattle.sdd_desk.specs.declared.val.Body.TheVariants.{Number};
+ghost use Rattle.sdd_lines.specs.declared.name.ItemName.{ItemName as Named};
 ghost use Rattle.sdd_store.specs.Collecting.{is_private_to};
 ghost use Rattle.sdd_standings.specs.Slots as slots;
 
@@ -169,8 +171,27 @@ fn waits_for(world: &World<Val>, slot: u32, collector: u32) -> bool
     }
 }
 
+/// The items that these slots had last, in ascending order, and the slots whose owners their values hold.
+pub fn items_in(
+    alloc: Global,
+    world: &World<Val>,
+    slots: &[u32],
+    names: &[u64],
+) -> Result<(Vec<ItemName>, Vec<u32>), AllocError>
+    requires named { All (λ slot. slot < length names.now) slots.now }
+    requires taken { All (λ slot. IsSome (value_at world.now slot)) slots.now }
+    ensures items { IfOk result (λ found. IsPermutation (map (item_in names.now) slots.now) found.0.items) }
+    ensures ascending { IfOk result (λ found. IsNonDecreasingBy (λ (i : Named). i.0) found.0.items) }
+    ensures owners { IfOk result (λ found. found.1.items ≡ owners_in world.now slots.now) }
+{
+    let mut items = names_of(alloc, slots, names)?;
+    let owners = owners_in(alloc, world, slots)?;
+    items.sort_unstable();
+    Ok((items, owners))
+}
+
 /// The names of the items that these slots had last.
-pub fn names_of(alloc: Global, slots: &[u32], names: &[u64]) -> Result<Vec<ItemName>, AllocError>
+fn names_of(alloc: Global, slots: &[u32], names: &[u64]) -> Result<Vec<ItemName>, AllocError>
     requires inside { All (λ slot. slot < length names.now) slots.now }
     ensures { IfOk result (λ found. found.items ≡ map (item_in names.now) slots.now) }
 {
@@ -182,7 +203,7 @@ pub fn names_of(alloc: Global, slots: &[u32], names: &[u64]) -> Result<Vec<ItemN
 }
 
 /// The slots whose owners the values in these slots hold.
-pub fn owners_in(alloc: Global, world: &World<Val>, slots: &[u32]) -> Result<Vec<u32>, AllocError>
+fn owners_in(alloc: Global, world: &World<Val>, slots: &[u32]) -> Result<Vec<u32>, AllocError>
     requires taken { All (λ slot. IsSome (value_at world.now slot)) slots.now }
     ensures { IfOk result (λ found. found.items ≡ owners_in world.now slots.now) }
 {

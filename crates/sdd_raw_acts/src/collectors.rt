@@ -12,7 +12,7 @@ ghost use Rattle.sdd_desk.specs.Script.{Acts, Answers};
 use sdd_base::inner::number_of_collector;
 use sdd_core::Refused;
 use sdd_desk::Val;
-use sdd_hand::items::{date_if_waiting, date_waiting, names_of, owners_in, slots_for};
+use sdd_hand::items::{date_if_waiting, date_waiting, items_in, slots_for};
 use sdd_hand::participants::under;
 use sdd_lines::{
     Action, Answer, Call, CollectorName, GuardName, ItemName, Names, OwnerName, PlaceName, Reply,
@@ -129,9 +129,5 @@ fn found_for(
     ensures owners { IfOk result (λ found. found.1.items ≡ owners_in world.now (slots_waiting_for world.now collector (length names.now))) }
 {
     let slots = slots_for(alloc, world, collector, names.len())?;
-    let slots = slots.as_slice();
-    let mut items = names_of(alloc, slots, names)?;
-    let owners = owners_in(alloc, world, slots)?;
-    items.sort_unstable();
-    Ok((items, owners))
+    items_in(alloc, world, slots.as_slice(), names)
 }

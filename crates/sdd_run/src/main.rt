@@ -1,20 +1,14 @@
 //! The program `sdd-run`: plays the script of standard input, and prints a line for each call.
 //!
-//! Here the host's arguments, input and printing meet the program's decisions, which stand under clauses: `program`
-//! says what the arguments ask for, `sdd::play` what a play reads and writes, and `outcome` what is printed besides, on
-//! which stream, and the status. No clause says what the host gives or prints.
+//! Here the host's arguments, input and printing meet the program's decisions, which stand under clauses: `sdd_command`
+//! says what the arguments ask for, what is printed besides a play, on which stream, and the status, and `sdd::play`
+//! what a play reads and writes. No clause says what the host gives or prints.
 #![tactic(auto)]
 
-mod arguments;
-mod outcome;
-mod program;
-#[cfg(test)]
-mod tests;
-
-use arguments::Choice;
-use outcome::{Outcome, after_printing, failure, line, status, without_arguments};
-use program::asked;
 use sdd::{Reader, Writer, play};
+use sdd_command::{
+    Choice, Outcome, after_printing, asked, failure, line, status, without_arguments,
+};
 use std::process::ExitCode;
 use std::rt::Env;
 use std::{env, io};

@@ -6,23 +6,15 @@
 //! |---|---|
 //! | `p0 read o0 \| 17` | a line of the script, and its answer |
 //! | `at the close \| made 2 reclaimed 2 in place 0` | the tally with which the scene closes that the script leaves |
-//! | `with slots 2` | one of the limits, by its name in `Limits`; the others are ample |
+//! | `with slots 2` | one of the limits, by its name in `Limits`; the others are the usual ones |
 //! | `# A cell is one of the owners.` | a remark |
 
+use crate::plays::played;
 use crate::verdict::Verdict;
-use sdd::{Ended, Limits, Reader, Reply, Tally, Writer, play, run};
+use sdd::{Ended, Limits, Reply, Tally, run};
+use sdd_command::USUAL_LIMITS;
 use sdd_lines::{Script, parse_all};
 use std::alloc::{AllocError, Global};
-
-/// Enough of everything.
-pub const AMPLE: Limits = Limits {
-    participants: 8,
-    slots: 64,
-    cells: 64,
-    jobs: 8,
-    nesting: 8,
-    tries: 1,
-};
 
 /// The lines of a script, and the answers that are expected of them.
 #[derive(Drop)]
@@ -39,7 +31,7 @@ pub struct Dialogue<'a> {
 impl<'a> Dialogue<'a> {
     pub fn new(alloc: Global) -> Dialogue<'a> {
         Dialogue {
-            limits: AMPLE,
+            limits: USUAL_LIMITS,
             script: String::new(alloc),
             answers: String::new(alloc),
             lines: 0,
@@ -95,12 +87,9 @@ impl<'a> Dialogue<'a> {
 
     /// The script is played, and each line is answered as expected; and its scene closes with the tally that is expected.
     pub fn verdict(&self, alloc: Global) -> Result<Verdict, AllocError> {
-        let mut written = Vec::new(alloc);
-        let mut reader = Reader::new(self.script.as_bytes());
-        let mut writer = Writer::new(&mut written);
-        match play(alloc, self.limits, &mut reader, &mut writer) {
-            Ended::Played => {}
-            ended => return Ok(Verdict::Ended(ended)),
+        let (ended, written) = played(alloc, self.limits, self.script.as_bytes());
+        if ended != Ended::Played {
+            return Ok(Verdict::Ended(ended));
         }
         if written.as_slice() != self.answers.as_bytes() {
             return Ok(Verdict::Answered(written));

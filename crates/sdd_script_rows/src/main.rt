@@ -1,15 +1,15 @@
 //! Worked examples of scripts: each example of `data/` is played, and it is told whether each of its lines is answered
-//! by what stands beside it.
+//! by what stands beside it; and so is each script of `examples/`, with the file of what it writes.
 //!
-//! The module `dialogue` says what an example looks like. Functions test what no file could show: the greatest sizes.
+//! The module `dialogue` says what an example looks like.
 #![tactic(auto)]
 
 mod dialogue;
-#[cfg(test)]
-mod greatest_sizes;
+mod plays;
 mod verdict;
 
 use dialogue::Dialogue;
+use plays::compared;
 use std::alloc::{AllocError, Global};
 use std::rt::Files;
 use std::{fs, io};
@@ -43,27 +43,35 @@ const GROUPS: [&str; 12] = [
     "invalid_lines",
 ];
 
+/// The folder of scripts.
+const SCRIPTS: &str = "examples";
+
 fn main(rt: HostRuntime) -> io::Result<()> {
     for group in GROUPS {
-        for name in examples(&rt, group)? {
-            let path = format!(in rt.alloc(); "{group}/{name}.play")?;
-            let example = fs::read_to_string(&rt, path)?;
+        for name in names(&rt, group, ".play")? {
+            let example = fs::read_to_string(&rt, format!(in rt.alloc(); "{group}/{name}.play")?)?;
             let verdict = judged(rt.alloc(), example.as_str())?;
             println!(rt; "{group}/{name}: {verdict}")?;
         }
     }
+    for name in names(&rt, SCRIPTS, ".sdd")? {
+        let script = fs::read_to_string(&rt, format!(in rt.alloc(); "{SCRIPTS}/{name}.sdd")?)?;
+        let expected = fs::read_to_string(&rt, format!(in rt.alloc(); "{SCRIPTS}/{name}.out")?)?;
+        let verdict = compared(rt.alloc(), script.as_str(), expected.as_str());
+        println!(rt; "{SCRIPTS}/{name}: {verdict}")?;
+    }
     Ok(())
 }
 
-/// The names of the examples in a folder, in their order.
-fn examples<R>(rt: &R, group: &str) -> io::Result<Vec<String>>
+/// The names of the files of a folder that end so, without that ending, in their order.
+fn names<R>(rt: &R, folder: &str, ending: &str) -> io::Result<Vec<String>>
 where
     R: Files + AllocGlobal + Clone + Drop,
 {
     let mut names = Vec::new(rt.alloc());
-    for entry in fs::read_dir(rt, group)? {
+    for entry in fs::read_dir(rt, folder)? {
         let entry = entry?;
-        if let Some(name) = entry.file_name().strip_suffix(".play") {
+        if let Some(name) = entry.file_name().strip_suffix(ending) {
             names.push(String::from_str(rt.alloc(), name)?)?;
         }
     }

@@ -1,10 +1,10 @@
 //! Plays: how they end, and what they write.
 
-use super::devices::{Page, Trickle};
-use crate::arguments::USUAL_LIMITS;
+use crate::devices::{Page, Trickle};
 use sdd::{
     Action, Call, Ended, Limits, PlaceName, Reader, Refused, Tally, Value, Writer, play, run,
 };
+use sdd_command::USUAL_LIMITS;
 use std::alloc::{AllocError, Global};
 
 /// The shortest way of an item: it is made and retired, and goes at the third later opening that finds another epoch.

@@ -1,10 +1,10 @@
 //! Ample memory at the greatest sizes. A body that refuses with `NoMemory` beyond some size meets every contract.
 
-use crate::dialogue::AMPLE;
 use sdd::{
     Action, Call, Ended, ItemName, Limits, OwnerName, PlaceName, Reader, Reply, Value, Writer,
     play, run,
 };
+use sdd_command::USUAL_LIMITS;
 use std::alloc::{AllocError, Global};
 use std::test::Fail;
 
@@ -71,7 +71,7 @@ fn a_play_has_the_most_lines(rt: HostRuntime) -> Result<(), Fail> {
     let mut written = Vec::new(alloc);
     let mut reader = Reader::new(text.as_bytes());
     let mut writer = Writer::new(&mut written);
-    let ended = play(alloc, AMPLE, &mut reader, &mut writer);
+    let ended = play(alloc, USUAL_LIMITS, &mut reader, &mut writer);
     assert!(rt; ended == Ended::Played);
     assert!(rt; written.len() == 1_966_053);
     assert!(rt; written.as_slice() == answers.as_bytes());

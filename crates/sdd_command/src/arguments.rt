@@ -1,11 +1,29 @@
 //! What the program's arguments ask for.
 ghost use Rattle.std.specs.Prelude.{drop, map, MatchOption, string_bytes};
 ghost use Rattle.sdd_base.specs.declared.limits.Limits.{Limits};
-ghost use Rattle.sdd_run.specs.Choice.{AreLimits, Chooses};
+ghost use Rattle.sdd_command.specs.Choice.{AreLimits, Chooses};
 
-use crate::arguments::{Choice, USUAL_LIMITS};
-use sdd::Limits;
+use sdd_base::Limits;
 use sdd_lines::inner::number;
+
+/// What the arguments ask for.
+#[derive(Clone, Copy, Debug, PartialEq, Eq)]
+pub enum Choice {
+    /// To play the script of standard input on a world within these limits, which may be out of their ranges.
+    Script(Limits),
+    /// Nothing that the program does: it tells how it is used.
+    Usage,
+}
+
+/// The limits of a script where none are given.
+pub const USUAL_LIMITS: Limits = Limits {
+    participants: 8,
+    slots: 64,
+    cells: 128,
+    jobs: 8,
+    nesting: 8,
+    tries: 1,
+};
 
 /// What the arguments ask for, the first of which is the program's name.
 pub fn asked(arguments: &[String]) -> Choice

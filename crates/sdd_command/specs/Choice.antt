@@ -2,8 +2,8 @@
 use Rattle.std.specs.Prelude.{◌≡◌, ℕ, List, [], ◌∷◌}
 use Rattle.sdd_base.specs.declared.limits.Limits.{Limits}
 use Rattle.sdd_lines.specs.Call.{IsWordOf}
-use Rattle.sdd_run.specs.declared.arguments.Choice.{Choice}
-use Rattle.sdd_run.specs.declared.arguments.Choice.TheVariants.{Script, Usage}
+use Rattle.sdd_command.specs.declared.arguments.Choice.{Choice}
+use Rattle.sdd_command.specs.declared.arguments.Choice.TheVariants.{Script, Usage}
 
 -- the limits of a script where none are given
 abbrev pub usual_limits : Limits

@@ -3,8 +3,8 @@ use Rattle.std.specs.Prelude.{ℕ, Bool, true, false, List, Option, Some, None, 
 use Rattle.std.specs.declared.io.ErrorKind.{ErrorKind}
 use Rattle.std.specs.declared.io.ErrorKind.TheVariants.{InvalidData}
 use Rattle.sdd_lines.specs.declared.ended.Ended.TheVariants.{Played, NotACall, LimitsOutOfRange, CannotRead, CannotWrite, NoMemory}
-use Rattle.sdd_run.specs.declared.outcome.Outcome.{Outcome}
-use Rattle.sdd_run.specs.declared.outcome.Outcome.TheVariants.{Usage, Play}
+use Rattle.sdd_command.specs.declared.outcome.Outcome.{Outcome}
+use Rattle.sdd_command.specs.declared.outcome.Outcome.TheVariants.{Usage, Play}
 
 -- where the arguments can't be had, for this reason: one may be no text
 abbrev pub without_arguments_of : ErrorKind → Outcome

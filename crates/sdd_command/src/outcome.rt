@@ -1,9 +1,9 @@
 //! What the program comes to: the line that it prints itself, on standard output or on standard error, and its status.
 ghost use Rattle.std.specs.Prelude.{◌≡◌};
 ghost use Rattle.std.specs.Option.{option_map};
-ghost use Rattle.sdd_run.specs.Outcome.{line_of, failure_of, status_of, after_printing_of, without_arguments_of};
+ghost use Rattle.sdd_command.specs.Outcome.{line_of, failure_of, status_of, after_printing_of, without_arguments_of};
 
-use sdd::Ended;
+use sdd_lines::Ended;
 use std::io::ErrorKind;
 
 /// What the program came to.

@@ -1,9 +1,7 @@
 //! What the arguments choose, and the status of each end.
 
-use crate::arguments::{Choice, USUAL_LIMITS};
-use crate::outcome::{Outcome, status};
-use crate::program::choice;
 use sdd::{Ended, Limits};
+use sdd_command::{Choice, Outcome, USUAL_LIMITS, choice, status};
 use std::alloc::{AllocError, Global};
 use std::test::Fail;
 

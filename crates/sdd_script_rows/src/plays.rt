@@ -1,0 +1,31 @@
+//! Plays of scripts.
+
+use crate::verdict::Verdict;
+use sdd::{Ended, Limits, Reader, Writer, play};
+use sdd_command::USUAL_LIMITS;
+use std::alloc::{AllocError, Global};
+
+/// How a play of a script within these limits ends, and what it writes.
+pub fn played(alloc: Global, limits: Limits, script: &[u8]) -> (Ended, Vec<u8>) {
+    let mut written = Vec::new(alloc);
+    let mut reader = Reader::new(script);
+    let mut writer = Writer::new(&mut written);
+    let ended = play(alloc, limits, &mut reader, &mut writer);
+    (ended, written)
+}
+
+/// A play of a script within the usual limits writes what is expected, however it ends.
+pub fn compared(alloc: Global, script: &str, expected: &str) -> Verdict {
+    let (ended, written) = played(alloc, USUAL_LIMITS, script.as_bytes());
+    if ended == Ended::NoMemory {
+        return Verdict::Ended(ended);
+    }
+    if written.as_slice() != expected.as_bytes() {
+        return Verdict::Answered(written);
+    }
+    let mut lines = 0u64;
+    for _line in expected.lines() {
+        lines = lines.saturating_add(1);
+    }
+    Verdict::AsExpected(lines)
+}
