@@ -30,14 +30,14 @@ pub fn asked(arguments: &[String]) -> Choice
     ensures { Chooses (map string_bytes (drop 1 arguments.now)) result }
 {
     match arguments {
-        [_name, words @ ..] => choice(words),
-        [] => choice(&[]),
+        [_name, words @ ..] => chosen(words),
+        [] => chosen(&[]),
     }
 }
 
 /// What the words behind the program's name ask for: no word for the usual limits, or six numbers in the order of
 /// `Limits`, written as in a script.
-pub fn choice(words: &[String]) -> Choice
+pub fn chosen(words: &[String]) -> Choice
     ensures { Chooses (map string_bytes words.now) result }
 {
     if words.is_empty() {

@@ -4,5 +4,5 @@
 mod arguments;
 mod outcome;
 
-pub use arguments::{Choice, USUAL_LIMITS, asked, choice};
+pub use arguments::{Choice, USUAL_LIMITS, asked, chosen};
 pub use outcome::{Outcome, after_printing, failure, line, status, without_arguments};

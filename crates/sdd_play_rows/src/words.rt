@@ -1,7 +1,7 @@
 //! What the arguments choose, and the status of each end.
 
 use sdd::{Ended, Limits};
-use sdd_command::{Choice, Outcome, USUAL_LIMITS, choice, status};
+use sdd_command::{Choice, Outcome, USUAL_LIMITS, chosen, status};
 use std::alloc::{AllocError, Global};
 use std::test::Fail;
 
@@ -15,14 +15,14 @@ fn words(alloc: Global, line: &str) -> Result<Vec<String>, AllocError> {
 
 #[test]
 fn no_word_chooses_the_usual_limits(rt: HostRuntime) -> Result<(), Fail> {
-    let chosen = choice(words(rt.alloc(), "")?.as_slice());
-    assert_eq!(rt; chosen, Choice::Script(USUAL_LIMITS));
+    let choice = chosen(words(rt.alloc(), "")?.as_slice());
+    assert_eq!(rt; choice, Choice::Script(USUAL_LIMITS));
     Ok(())
 }
 
 #[test]
 fn six_numbers_choose_limits_in_their_order(rt: HostRuntime) -> Result<(), Fail> {
-    let chosen = choice(words(rt.alloc(), "2 10 0 65537 1 18446744073709551615")?.as_slice());
+    let choice = chosen(words(rt.alloc(), "2 10 0 65537 1 18446744073709551615")?.as_slice());
     let limits = Limits {
         participants: 2,
         slots: 10,
@@ -31,7 +31,7 @@ fn six_numbers_choose_limits_in_their_order(rt: HostRuntime) -> Result<(), Fail>
         nesting: 1,
         tries: u64::MAX,
     };
-    assert_eq!(rt; chosen, Choice::Script(limits));
+    assert_eq!(rt; choice, Choice::Script(limits));
     Ok(())
 }
 
@@ -49,8 +49,8 @@ fn other_words_choose_the_usage(rt: HostRuntime) -> Result<(), Fail> {
         "0x8 64 128 8 8 1",
         "8 64 18446744073709551616 8 8 1",
     ] {
-        let chosen = choice(words(rt.alloc(), line)?.as_slice());
-        assert_eq!(rt; chosen, Choice::Usage, "{line:?}");
+        let choice = chosen(words(rt.alloc(), line)?.as_slice());
+        assert_eq!(rt; choice, Choice::Usage, "{line:?}");
     }
     Ok(())
 }
