@@ -2,8 +2,8 @@
 
 use sdd_core::Tag;
 use sdd_lines::{
-    Action, Call, CellName, CollectorName, GuardName, ItemName, OwnerName, PlaceName, Script,
-    Value, parse_all,
+    Action, Call, CellName, CollectorName, GuardName, OwnerName, PlaceName, Script, Value,
+    parse_all,
 };
 use std::alloc::Global;
 use std::test::Fail;
@@ -14,26 +14,16 @@ fn lines_are_calls(rt: HostRuntime) {
     let place = PlaceName(0);
     let guard = GuardName(1);
     let owner = OwnerName(2);
-    let item = ItemName(10);
     let cell = CellName(3);
     for (line, call) in [
-        ("register", Call::Register),
-        ("tally", Call::Tally),
-        ("p7 open", Call::At(PlaceName(7), Action::Open)),
         (
             "p18446744073709551615 open",
             Call::At(PlaceName(u64::MAX), Action::Open),
         ),
         (
-            "p0 owned 0",
-            Call::At(place, Action::Owned(Value::Number(0))),
-        ),
-        (
             "p0 owned 18446744073709551615",
             Call::At(place, Action::Owned(Value::Number(u64::MAX))),
         ),
-        ("p0 look i10 g1", Call::At(place, Action::Look(item, guard))),
-        ("p0 set g1", Call::At(place, Action::Set(guard))),
         (
             "p0 swap c3 o2 First",
             Call::At(place, Action::Swap(cell, Some(owner), Tag::First)),
