@@ -8,8 +8,9 @@ pub use script::{
     Names, OwnerName, PlaceName, Reader, Reply, Scene, Sink, Source, Value, Writer, play, run,
 };
 pub use sdd_base::{
-    AtomicOwned, AtomicRaw, AtomicShared, Giver, Guard, Guards, Item, Limits, Look, Owned,
-    OwnedPtrPair, PrivateCollector, Ptr, RawPtr, Shared, SharedPtrPair, Shows, Space,
+    AtomicOwned, AtomicRaw, AtomicShared, Caller, Cells, Collectors, Deferrals, Edits, Giver,
+    Guard, Guards, Item, Items, Limits, Look, Owned, OwnedPtrPair, PrivateCollector, Ptr, RawCells,
+    RawItems, RawPtr, Shared, SharedItems, SharedPtrPair, Shows, Space,
 };
 pub use sdd_core::{Epoch, Refused, Tag};
 pub use sdd_domain::{Domain, Local, Receipt};

@@ -19,7 +19,7 @@ use crate::item::Item;
 use crate::owned::Owned;
 use crate::ptr::Ptr;
 use crate::raw_ptr::RawPtr;
-use crate::space::Space;
+use crate::space::{Cells, Items};
 use sdd_core::{Refused, Tag};
 use sdd_store::{Cell, Standing};
 use sdd_token::{Kind, Right, Sole};
@@ -69,7 +69,7 @@ impl<T: Item<T>> AtomicOwned<T> {
     /// A cell that holds the owner of a new item, with tag None.
     ///
     /// `NoSlot` where no slot is free, else `NoCell` where no cell is; the value comes back.
-    pub fn new<S: Space<T>>(value: T, s: &mut S) -> Result<AtomicOwned<T>, (T, Refused)>
+    pub fn new<S: Cells<T>>(value: T, s: &mut S) -> Result<AtomicOwned<T>, (T, Refused)>
         requires seated { IsSeated (S.seat s.old) }
         requires home { AreOf (S.seat s.old).home (T.holds value) }
         ensures seat { S.seat s.new ≡ S.seat s.old }
@@ -91,7 +91,7 @@ impl<T: Item<T>> AtomicOwned<T> {
     /// A cell that holds this owner, with tag None.
     ///
     /// `NoCell` where no cell is free; the owner comes back.
-    pub fn from<S: Space<T>>(
+    pub fn from<S: Cells<T>>(
         owner: Owned<T>,
         s: &mut S,
     ) -> Result<AtomicOwned<T>, (Owned<T>, Refused)>
@@ -120,7 +120,7 @@ impl<T: Item<T>> AtomicOwned<T> {
     /// A cell that holds nothing.
     ///
     /// `NoCell` where no cell is free.
-    pub fn null<S: Space<T>>(s: &mut S) -> Result<AtomicOwned<T>, Refused>
+    pub fn null<S: Cells<T>>(s: &mut S) -> Result<AtomicOwned<T>, Refused>
         requires seated { IsSeated (S.seat s.old) }
         ensures seat { S.seat s.new ≡ S.seat s.old }
         ensures own { S.own s.new ≡ S.own s.old }
@@ -141,7 +141,7 @@ impl<T: Item<T>> AtomicOwned<T> {
     }
 
     /// The cell holds nothing.
-    pub fn is_null<S: Space<T>>(&self, s: &mut S) -> bool
+    pub fn is_null<S: Cells<T>>(&self, s: &mut S) -> bool
         requires seated { IsSeated (S.seat s.old) }
         requires home { cells_home self.now ≡ (S.seat s.old).home.cells }
         ensures seat { S.seat s.new ≡ S.seat s.old }
@@ -155,7 +155,7 @@ impl<T: Item<T>> AtomicOwned<T> {
     }
 
     /// The cell's tag.
-    pub fn tag<S: Space<T>>(&self, s: &mut S) -> Tag
+    pub fn tag<S: Cells<T>>(&self, s: &mut S) -> Tag
         requires seated { IsSeated (S.seat s.old) }
         requires home { cells_home self.now ≡ (S.seat s.old).home.cells }
         ensures seat { S.seat s.new ≡ S.seat s.old }
@@ -170,7 +170,7 @@ impl<T: Item<T>> AtomicOwned<T> {
 
     /// A pointer to the item that the cell holds, with the cell's tag. It shows the item's value for as long as the guard is borrowed, whatever becomes of
     /// the cell and the item. The guard is one of the participant that calls.
-    pub fn load<'g, S: Space<T>>(&self, guard: &'g Guard, s: &mut S) -> Ptr<'g, T>
+    pub fn load<'g, S: Cells<T>>(&self, guard: &'g Guard, s: &mut S) -> Ptr<'g, T>
         requires seated { IsSeated (S.seat s.old) }
         requires home { cells_home self.now ≡ (S.seat s.old).home.cells }
         requires reader { reader_of guard.now ≡ (S.seat s.old).reader }
@@ -186,7 +186,7 @@ impl<T: Item<T>> AtomicOwned<T> {
     }
 
     /// The cell holds this owner, or nothing, with this tag. Answers what it held, and the tag before.
-    pub fn swap<S: Space<T>>(
+    pub fn swap<S: Cells<T>>(
         &self,
         next: (Option<Owned<T>>, Tag),
         s: &mut S,
@@ -208,7 +208,7 @@ impl<T: Item<T>> AtomicOwned<T> {
     }
 
     /// Sets the tag, if the condition holds of what the cell holds, and answers whether it did. In a world the condition is asked once.
-    pub fn update_tag_if<S: Space<T>, F: FnMut(RawPtr<T>) -> bool>(
+    pub fn update_tag_if<S: Cells<T>, F: FnMut(RawPtr<T>) -> bool>(
         &self,
         tag: Tag,
         condition: F,
@@ -230,7 +230,7 @@ impl<T: Item<T>> AtomicOwned<T> {
 
     /// The cell holds this owner, or nothing, with this tag, if it held the item that the pointer names, or nothing where it is null, with the pointer's tag.
     /// Then what it held comes back, with a pointer to what it holds now; else the owner handed in, with a pointer to what it holds.
-    pub fn compare_exchange<'g, S: Space<T>>(
+    pub fn compare_exchange<'g, S: Cells<T>>(
         &self,
         current: Ptr<'g, T>,
         next: (Option<Owned<T>>, Tag),
@@ -268,7 +268,7 @@ impl<T: Item<T>> AtomicOwned<T> {
     }
 
     /// The same as `compare_exchange`: it never fails where the pointers are equal.
-    pub fn compare_exchange_weak<'g, S: Space<T>>(
+    pub fn compare_exchange_weak<'g, S: Cells<T>>(
         &self,
         current: Ptr<'g, T>,
         next: (Option<Owned<T>>, Tag),
@@ -298,7 +298,7 @@ impl<T: Item<T>> AtomicOwned<T> {
     }
 
     /// Frees the cell. What it held comes back.
-    pub fn into_owned<S: Space<T>>(self, s: &mut S) -> Option<Owned<T>>
+    pub fn into_owned<S: Cells<T>>(self, s: &mut S) -> Option<Owned<T>>
         requires seated { IsSeated (S.seat s.old) }
         requires home { cells_home self ≡ (S.seat s.old).home.cells }
         ensures seat { S.seat s.new ≡ S.seat s.old }
@@ -313,7 +313,7 @@ impl<T: Item<T>> AtomicOwned<T> {
     }
 
     /// Frees the cell, and retires what it holds.
-    pub fn close<S: Space<T>>(self, s: &mut S)
+    pub fn close<S: Items<T> + Cells<T>>(self, s: &mut S)
         requires seated { IsSeated (S.seat s.old) }
         requires home { cells_home self ≡ (S.seat s.old).home.cells }
         ensures seat { S.seat s.new ≡ S.seat s.old }

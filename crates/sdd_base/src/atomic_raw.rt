@@ -15,7 +15,7 @@ ghost use Rattle.sdd_store.specs.Table.{IsEmptyAt, IsFull};
 use crate::guard::Guard;
 use crate::item::Item;
 use crate::raw_ptr::RawPtr;
-use crate::space::Space;
+use crate::space::RawCells;
 use sdd_core::{Refused, Tag};
 use sdd_token::RawRight;
 use std::marker::PhantomData;
@@ -52,7 +52,7 @@ impl<T: Item<T>> AtomicRaw<T> {
     /// A cell with this pointer.
     ///
     /// `NoCell` where no cell is free.
-    pub fn new<S: Space<T>>(ptr: RawPtr<T>, s: &mut S) -> Result<AtomicRaw<T>, Refused>
+    pub fn new<S: RawCells<T>>(ptr: RawPtr<T>, s: &mut S) -> Result<AtomicRaw<T>, Refused>
         requires seated { IsSeated (S.seat s.old) }
         ensures seat { S.seat s.new ≡ S.seat s.old }
         ensures own { S.own s.new ≡ S.own s.old }
@@ -69,7 +69,7 @@ impl<T: Item<T>> AtomicRaw<T> {
     /// A cell with the null pointer, without a tag.
     ///
     /// `NoCell` where no cell is free.
-    pub fn null<S: Space<T>>(s: &mut S) -> Result<AtomicRaw<T>, Refused>
+    pub fn null<S: RawCells<T>>(s: &mut S) -> Result<AtomicRaw<T>, Refused>
         requires seated { IsSeated (S.seat s.old) }
         ensures seat { S.seat s.new ≡ S.seat s.old }
         ensures own { S.own s.new ≡ S.own s.old }
@@ -84,7 +84,7 @@ impl<T: Item<T>> AtomicRaw<T> {
     }
 
     /// The cell's pointer is null, whatever its tag is.
-    pub fn is_null<S: Space<T>>(&self, s: &mut S) -> bool
+    pub fn is_null<S: RawCells<T>>(&self, s: &mut S) -> bool
         requires seated { IsSeated (S.seat s.old) }
         requires home { cells_home self.now ≡ (S.seat s.old).home.cells }
         ensures seat { S.seat s.new ≡ S.seat s.old }
@@ -98,7 +98,7 @@ impl<T: Item<T>> AtomicRaw<T> {
     }
 
     /// The tag of the cell's pointer.
-    pub fn tag<S: Space<T>>(&self, s: &mut S) -> Tag
+    pub fn tag<S: RawCells<T>>(&self, s: &mut S) -> Tag
         requires seated { IsSeated (S.seat s.old) }
         requires home { cells_home self.now ≡ (S.seat s.old).home.cells }
         ensures seat { S.seat s.new ≡ S.seat s.old }
@@ -112,7 +112,7 @@ impl<T: Item<T>> AtomicRaw<T> {
     }
 
     /// The cell's pointer.
-    pub fn load<S: Space<T>>(&self, guard: &Guard, s: &mut S) -> RawPtr<T>
+    pub fn load<S: RawCells<T>>(&self, guard: &Guard, s: &mut S) -> RawPtr<T>
         requires seated { IsSeated (S.seat s.old) }
         requires home { cells_home self.now ≡ (S.seat s.old).home.cells }
         requires reader { reader_of guard.now ≡ (S.seat s.old).reader }
@@ -128,7 +128,7 @@ impl<T: Item<T>> AtomicRaw<T> {
     }
 
     /// The cell has this pointer.
-    pub fn store<S: Space<T>>(&self, ptr: RawPtr<T>, s: &mut S)
+    pub fn store<S: RawCells<T>>(&self, ptr: RawPtr<T>, s: &mut S)
         requires seated { IsSeated (S.seat s.old) }
         requires home { cells_home self.now ≡ (S.seat s.old).home.cells }
         ensures seat { S.seat s.new ≡ S.seat s.old }
@@ -141,7 +141,7 @@ impl<T: Item<T>> AtomicRaw<T> {
     }
 
     /// The cell has this pointer. The one before comes back.
-    pub fn swap<S: Space<T>>(&self, ptr: RawPtr<T>, guard: &Guard, s: &mut S) -> RawPtr<T>
+    pub fn swap<S: RawCells<T>>(&self, ptr: RawPtr<T>, guard: &Guard, s: &mut S) -> RawPtr<T>
         requires seated { IsSeated (S.seat s.old) }
         requires home { cells_home self.now ≡ (S.seat s.old).home.cells }
         requires reader { reader_of guard.now ≡ (S.seat s.old).reader }
@@ -158,7 +158,7 @@ impl<T: Item<T>> AtomicRaw<T> {
     }
 
     /// Sets the tag of the cell's pointer, if the condition holds of it, and answers whether it did. In a world the condition is asked once.
-    pub fn update_tag_if<S: Space<T>, F: FnMut(RawPtr<T>) -> bool>(
+    pub fn update_tag_if<S: RawCells<T>, F: FnMut(RawPtr<T>) -> bool>(
         &self,
         tag: Tag,
         condition: F,
@@ -181,7 +181,7 @@ impl<T: Item<T>> AtomicRaw<T> {
 
     /// The cell has the pointer that `f` makes of its own, if it makes one: the one before comes back as `Ok`. Else its pointer does as `Err`. In a world
     /// `f` is called once.
-    pub fn fetch_update<S: Space<T>, F: FnMut(RawPtr<T>) -> Option<RawPtr<T>>>(
+    pub fn fetch_update<S: RawCells<T>, F: FnMut(RawPtr<T>) -> Option<RawPtr<T>>>(
         &self,
         f: F,
         guard: &Guard,
@@ -205,7 +205,7 @@ impl<T: Item<T>> AtomicRaw<T> {
     }
 
     /// The cell has another pointer, if it had this one, place and tag: then that comes back as `Ok`. Else the cell's pointer does as `Err`.
-    pub fn compare_exchange<S: Space<T>>(
+    pub fn compare_exchange<S: RawCells<T>>(
         &self,
         current: RawPtr<T>,
         new: RawPtr<T>,
@@ -234,7 +234,7 @@ impl<T: Item<T>> AtomicRaw<T> {
     }
 
     /// Frees the cell. What it points to is as before.
-    pub fn close<S: Space<T>>(self, s: &mut S)
+    pub fn close<S: RawCells<T>>(self, s: &mut S)
         requires seated { IsSeated (S.seat s.old) }
         requires home { cells_home self ≡ (S.seat s.old).home.cells }
         ensures seat { S.seat s.new ≡ S.seat s.old }

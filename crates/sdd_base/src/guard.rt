@@ -2,7 +2,7 @@ ghost use Rattle.std.specs.Prelude.{◌≡◌};
 ghost use Rattle.sdd_places.specs.declared.tenures.Stage.{Stage};
 
 use crate::item::Item;
-use crate::space::{Guards, Space};
+use crate::space::{Deferrals, Guards};
 use sdd_core::inner::epoch_of_count;
 use sdd_core::{Epoch, Refused};
 use sdd_places::{Stage, Tenure};
@@ -140,7 +140,7 @@ impl Guard {
     /// adopted what it left. A job that still waits as its world is closed runs then. Its place is free as soon as it ran.
     ///
     /// `NoJob` where as many jobs wait as the limits say: the job comes back, and hasn't run.
-    pub fn defer_execute<T: Item<T>, S: Space<T>>(
+    pub fn defer_execute<T: Item<T>, S: Deferrals<T>>(
         &self,
         job: S::Job,
         s: &mut S,

@@ -9,7 +9,7 @@ ghost use Rattle.sdd_store.specs.Time.{is_open};
 use crate::guard::Guard;
 use crate::item::Item;
 use crate::owned::Owned;
-use crate::space::{Guards, Space};
+use crate::space::{Guards, RawItems};
 use sdd_core::Epoch;
 
 /// The epoch, asked twice under one open guard: the second answer is the first one or its `next`.
@@ -27,7 +27,7 @@ pub fn epoch_moves_by_one<T: Item<T>, S: Guards<T>>(guard: &Guard, s: &mut S) ->
 }
 
 /// An owner whose item goes raw and comes back owns the same item, and all else is as before.
-pub fn comes_back<T: Item<T>, S: Space<T>>(owner: Owned<T>, s: &mut S) -> Owned<T>
+pub fn comes_back<T: Item<T>, S: RawItems<T>>(owner: Owned<T>, s: &mut S) -> Owned<T>
     requires seated { IsSeated (S.seat s.old) }
     requires home { slots_home owner ≡ (S.seat s.old).home.slots }
     requires exact { IsExact (S.seat s.old) }

@@ -30,4 +30,7 @@ pub use private_collector::PrivateCollector;
 pub use ptr::Ptr;
 pub use raw_ptr::RawPtr;
 pub use shared::Shared;
-pub use space::{Guards, Space};
+pub use space::{
+    Caller, Cells, Collectors, Deferrals, Edits, Guards, Items, RawCells, RawItems, SharedItems,
+    Space,
+};

@@ -21,7 +21,7 @@ use crate::item::Item;
 use crate::look::Look;
 use crate::ptr::Ptr;
 use crate::raw_ptr::RawPtr;
-use crate::space::Space;
+use crate::space::{Edits, Items, RawItems};
 use sdd_core::{Refused, Tag};
 use sdd_store::Standing;
 use sdd_token::{Kind, Right, Sole};
@@ -101,7 +101,7 @@ impl<T: Item<T>> Owned<T> {
     }
 
     /// The item's value, for as long as the guard is borrowed, also after the item was retired. The guard is one of the participant that calls.
-    pub fn get_guarded_ref<'g, S: Space<T>>(&self, guard: &'g Guard, s: &mut S) -> &'g T
+    pub fn get_guarded_ref<'g, S: Items<T>>(&self, guard: &'g Guard, s: &mut S) -> &'g T
         requires seated { IsSeated (S.seat s.old) }
         requires home { slots_home self.now ≡ (S.seat s.old).home.slots }
         requires reader { reader_of guard.now ≡ (S.seat s.old).reader }
@@ -117,7 +117,7 @@ impl<T: Item<T>> Owned<T> {
 
     /// A pointer to the item, which shows its value for as long as the guard is borrowed, also after the item was retired. The guard is one of the
     /// participant that calls.
-    pub fn get_guarded_ptr<'g, S: Space<T>>(&self, guard: &'g Guard, s: &mut S) -> Ptr<'g, T>
+    pub fn get_guarded_ptr<'g, S: Items<T>>(&self, guard: &'g Guard, s: &mut S) -> Ptr<'g, T>
         requires seated { IsSeated (S.seat s.old) }
         requires home { slots_home self.now ≡ (S.seat s.old).home.slots }
         requires reader { reader_of guard.now ≡ (S.seat s.old).reader }
@@ -138,7 +138,7 @@ impl<T: Item<T>> Owned<T> {
     /// Puts a value into a free slot.
     ///
     /// `NoSlot` where none is free; the value comes back.
-    pub fn new<S: Space<T>>(value: T, s: &mut S) -> Result<Owned<T>, (T, Refused)>
+    pub fn new<S: Items<T>>(value: T, s: &mut S) -> Result<Owned<T>, (T, Refused)>
         requires seated { IsSeated (S.seat s.old) }
         requires home { AreOf (S.seat s.old).home (T.holds value) }
         ensures seat { S.seat s.new ≡ S.seat s.old }
@@ -160,7 +160,7 @@ impl<T: Item<T>> Owned<T> {
     /// Puts the value that `f` makes into a free slot.
     ///
     /// `NoSlot` where none is free; `f` comes back uncalled.
-    pub fn new_with<S: Space<T>, F: FnOnce() -> T>(
+    pub fn new_with<S: Items<T>, F: FnOnce() -> T>(
         f: F,
         s: &mut S,
     ) -> Result<Owned<T>, (F, Refused)>
@@ -185,7 +185,7 @@ impl<T: Item<T>> Owned<T> {
     }
 
     /// Retires the item: it waits with the calling participant, which reclaims it at its third later outermost opening that finds another epoch.
-    pub fn retire<S: Space<T>>(self, s: &mut S)
+    pub fn retire<S: Items<T>>(self, s: &mut S)
         requires seated { IsSeated (S.seat s.old) }
         requires home { slots_home self ≡ (S.seat s.old).home.slots }
         ensures seat { S.seat s.new ≡ S.seat s.old }
@@ -202,7 +202,7 @@ impl<T: Item<T>> Owned<T> {
     ///
     /// `GuardOpen` where one is: `f` comes back uncalled. A `&mut` to the value can't be answered, since what a value holds has to stay of this
     /// world or domain.
-    pub fn get_mut<R, F: FnOnce(&mut T) -> R, S: Space<T>>(
+    pub fn get_mut<R, F: FnOnce(&mut T) -> R, S: Edits<T>>(
         &mut self,
         f: F,
         s: &mut S,
@@ -234,7 +234,7 @@ impl<T: Item<T>> Owned<T> {
     /// Drops the item in its place, where no guard of any participant is open: its value gives up at once what it holds, and its slot is free.
     ///
     /// `GuardOpen` where one is: the owner comes back.
-    pub fn drop_in_place<S: Space<T>>(self, s: &mut S) -> Result<(), (Owned<T>, Refused)>
+    pub fn drop_in_place<S: Edits<T>>(self, s: &mut S) -> Result<(), (Owned<T>, Refused)>
         requires seated { IsSeated (S.seat s.old) }
         requires home { slots_home self ≡ (S.seat s.old).home.slots }
         ensures seat { S.seat s.new ≡ S.seat s.old }
@@ -255,7 +255,7 @@ impl<T: Item<T>> Owned<T> {
     }
 
     /// Puts the item out as raw: nobody owns it, until `from_raw` makes an owner of a pointer to it again.
-    pub fn into_raw<S: Space<T>>(self, s: &mut S) -> RawPtr<T>
+    pub fn into_raw<S: RawItems<T>>(self, s: &mut S) -> RawPtr<T>
         requires seated { IsSeated (S.seat s.old) }
         requires home { slots_home self ≡ (S.seat s.old).home.slots }
         ensures seat { S.seat s.new ≡ S.seat s.old }
@@ -272,7 +272,7 @@ impl<T: Item<T>> Owned<T> {
     }
 
     /// The owner of an item that is out as raw: none for null, and for a slot whose item isn't out as raw. The pointer's tag is ignored.
-    pub fn from_raw<S: Space<T>>(ptr: RawPtr<T>, s: &mut S) -> Option<Owned<T>>
+    pub fn from_raw<S: RawItems<T>>(ptr: RawPtr<T>, s: &mut S) -> Option<Owned<T>>
         requires seated { IsSeated (S.seat s.old) }
         ensures seat { S.seat s.new ≡ S.seat s.old }
         ensures own { S.own s.new ≡ S.own s.old }

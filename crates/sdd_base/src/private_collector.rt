@@ -23,7 +23,7 @@ use crate::item::Item;
 use crate::owned::Owned;
 use crate::raw_ptr::RawPtr;
 use crate::shared::Shared;
-use crate::space::Space;
+use crate::space::{Collectors, RawCells};
 use sdd_core::Refused;
 use sdd_store::Standing;
 use sdd_token::{Kind, RawRight};
@@ -70,7 +70,7 @@ impl<T: Item<T>> PrivateCollector<T> {
     /// A collector for which nothing waits.
     ///
     /// `NoCell` where no cell is free.
-    pub fn new<S: Space<T>>(s: &mut S) -> Result<PrivateCollector<T>, Refused>
+    pub fn new<S: RawCells<T>>(s: &mut S) -> Result<PrivateCollector<T>, Refused>
         requires seated { IsSeated (S.seat s.old) }
         ensures seat { S.seat s.new ≡ S.seat s.old }
         ensures own { S.own s.new ≡ S.own s.old }
@@ -86,7 +86,7 @@ impl<T: Item<T>> PrivateCollector<T> {
     }
 
     /// The item waits for the collector, with the calling participant. The guard is one of that participant.
-    pub fn collect_owned<S: Space<T>>(&self, owner: Owned<T>, guard: &Guard, s: &mut S)
+    pub fn collect_owned<S: Collectors<T>>(&self, owner: Owned<T>, guard: &Guard, s: &mut S)
         requires seated { IsSeated (S.seat s.old) }
         requires collector { cells_home self.now ≡ (S.seat s.old).home.cells }
         requires home { owned.slots_home owner ≡ (S.seat s.old).home.slots }
@@ -105,7 +105,12 @@ impl<T: Item<T>> PrivateCollector<T> {
 
     /// Gives this owner up, and answers whether it was the last, cells counted. The last one's item waits for the collector, with the calling participant.
     /// The guard is one of that participant.
-    pub fn collect_shared<S: Space<T>>(&self, owner: Shared<T>, guard: &Guard, s: &mut S) -> bool
+    pub fn collect_shared<S: Collectors<T>>(
+        &self,
+        owner: Shared<T>,
+        guard: &Guard,
+        s: &mut S,
+    ) -> bool
         requires seated { IsSeated (S.seat s.old) }
         requires collector { cells_home self.now ≡ (S.seat s.old).home.cells }
         requires home { shared.slots_home owner ≡ (S.seat s.old).home.slots }
@@ -127,7 +132,7 @@ impl<T: Item<T>> PrivateCollector<T> {
     /// its values give up waits with the calling participant.
     ///
     /// `GuardOpen` where a guard of any participant is open: the collector comes back, and nothing has changed.
-    pub fn close<S: Space<T>>(self, s: &mut S) -> Result<(), (PrivateCollector<T>, Refused)>
+    pub fn close<S: Collectors<T>>(self, s: &mut S) -> Result<(), (PrivateCollector<T>, Refused)>
         requires seated { IsSeated (S.seat s.old) }
         requires collector { cells_home self ≡ (S.seat s.old).home.cells }
         ensures seat { S.seat s.new ≡ S.seat s.old }

@@ -3,7 +3,7 @@ ghost use Rattle.std.specs.Prelude.{◌≡◌, ◌↔◌, IsSome, IsTrue};
 use crate::item::Item;
 use crate::look::Look;
 use crate::shared::Shared;
-use crate::space::Space;
+use crate::space::SharedItems;
 use sdd_core::{Refused, Tag};
 use sdd_places::Sight;
 use std::alloc::AllocError;
@@ -200,7 +200,7 @@ impl<'g, T: Item<T>> Ptr<'g, T> {
     /// One owner more of the item, if it is shared: None for null, for an item with one owner that can't be shared, and after the last owner went.
     ///
     /// `TooManyOwners` where 2^62 own it, cells counted.
-    pub fn get_shared<S: Space<T>>(&self, s: &mut S) -> Result<Option<Shared<T>>, Refused>
+    pub fn get_shared<S: SharedItems<T>>(&self, s: &mut S) -> Result<Option<Shared<T>>, Refused>
         requires seated { IsSeated (S.seat s.old) }
         ensures seat { S.seat s.new ≡ S.seat s.old }
         ensures own { S.own s.new ≡ S.own s.old }

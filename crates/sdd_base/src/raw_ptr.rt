@@ -3,7 +3,7 @@ ghost use Rattle.std.specs.Prelude.{◌≡◌, ◌↔◌, IsTrue};
 use crate::guard::Guard;
 use crate::item::Item;
 use crate::ptr::Ptr;
-use crate::space::Space;
+use crate::space::RawItems;
 use sdd_core::Tag;
 use sdd_store::Pointer;
 use std::alloc::AllocError;
@@ -183,7 +183,7 @@ impl<T: Item<T>> RawPtr<T> {
 
     /// A pointer to the item, with the same tag, where it is out as raw; it shows its value for as long as the guard is borrowed, whatever becomes of the
     /// item. A null pointer is one to nothing. None for a slot whose item isn't out as raw. The guard is one of the participant that calls.
-    pub fn into_ptr<'g, S: Space<T>>(self, s: &mut S, guard: &'g Guard) -> Option<Ptr<'g, T>>
+    pub fn into_ptr<'g, S: RawItems<T>>(self, s: &mut S, guard: &'g Guard) -> Option<Ptr<'g, T>>
         requires seated { IsSeated (S.seat s.old) }
         requires reader { reader_of guard.now ≡ (S.seat s.old).reader }
         ensures seat { S.seat s.new ≡ S.seat s.old }

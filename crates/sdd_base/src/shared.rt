@@ -20,7 +20,7 @@ use crate::guard::Guard;
 use crate::item::Item;
 use crate::look::Look;
 use crate::ptr::Ptr;
-use crate::space::Space;
+use crate::space::{Edits, Items, SharedItems};
 use sdd_core::Refused;
 use sdd_store::Standing;
 use sdd_token::{Kind, Right, Share};
@@ -100,7 +100,7 @@ impl<T: Item<T>> Shared<T> {
     }
 
     /// The item's value, for as long as the guard is borrowed, also after the item was retired. The guard is one of the participant that calls.
-    pub fn get_guarded_ref<'g, S: Space<T>>(&self, guard: &'g Guard, s: &mut S) -> &'g T
+    pub fn get_guarded_ref<'g, S: Items<T>>(&self, guard: &'g Guard, s: &mut S) -> &'g T
         requires seated { IsSeated (S.seat s.old) }
         requires home { slots_home self.now ≡ (S.seat s.old).home.slots }
         requires reader { reader_of guard.now ≡ (S.seat s.old).reader }
@@ -116,7 +116,7 @@ impl<T: Item<T>> Shared<T> {
 
     /// A pointer to the item, which shows its value for as long as the guard is borrowed, also after the item was retired. The guard is one of the
     /// participant that calls.
-    pub fn get_guarded_ptr<'g, S: Space<T>>(&self, guard: &'g Guard, s: &mut S) -> Ptr<'g, T>
+    pub fn get_guarded_ptr<'g, S: Items<T>>(&self, guard: &'g Guard, s: &mut S) -> Ptr<'g, T>
         requires seated { IsSeated (S.seat s.old) }
         requires home { slots_home self.now ≡ (S.seat s.old).home.slots }
         requires reader { reader_of guard.now ≡ (S.seat s.old).reader }
@@ -137,7 +137,7 @@ impl<T: Item<T>> Shared<T> {
     /// Puts a value into a free slot, with one owner.
     ///
     /// `NoSlot` where none is free; the value comes back.
-    pub fn new<S: Space<T>>(value: T, s: &mut S) -> Result<Shared<T>, (T, Refused)>
+    pub fn new<S: Items<T>>(value: T, s: &mut S) -> Result<Shared<T>, (T, Refused)>
         requires seated { IsSeated (S.seat s.old) }
         requires home { AreOf (S.seat s.old).home (T.holds value) }
         ensures seat { S.seat s.new ≡ S.seat s.old }
@@ -159,7 +159,7 @@ impl<T: Item<T>> Shared<T> {
     /// Puts the value that `f` makes into a free slot, with one owner.
     ///
     /// `NoSlot` where none is free; `f` comes back uncalled.
-    pub fn new_with<S: Space<T>, F: FnOnce() -> T>(
+    pub fn new_with<S: Items<T>, F: FnOnce() -> T>(
         f: F,
         s: &mut S,
     ) -> Result<Shared<T>, (F, Refused)>
@@ -186,7 +186,7 @@ impl<T: Item<T>> Shared<T> {
     /// One owner more of the same item.
     ///
     /// `TooManyOwners` where 2^62 own it, cells counted.
-    pub fn clone<S: Space<T>>(&self, s: &mut S) -> Result<Shared<T>, Refused>
+    pub fn clone<S: SharedItems<T>>(&self, s: &mut S) -> Result<Shared<T>, Refused>
         requires seated { IsSeated (S.seat s.old) }
         requires home { slots_home self.now ≡ (S.seat s.old).home.slots }
         ensures seat { S.seat s.new ≡ S.seat s.old }
@@ -203,7 +203,7 @@ impl<T: Item<T>> Shared<T> {
     }
 
     /// Gives this owner up, and answers whether it was the last, cells counted. The last one's item is retired: it waits with the calling participant.
-    pub fn release<S: Space<T>>(self, s: &mut S) -> bool
+    pub fn release<S: Items<T>>(self, s: &mut S) -> bool
         requires seated { IsSeated (S.seat s.old) }
         requires home { slots_home self ≡ (S.seat s.old).home.slots }
         ensures seat { S.seat s.new ≡ S.seat s.old }
@@ -220,7 +220,7 @@ impl<T: Item<T>> Shared<T> {
     /// Changes the value by `f`, where this owner is alone, cells counted, and no guard of any participant is open.
     ///
     /// `NotAlone` where others own the item, and else `GuardOpen` where a guard is open: `f` comes back uncalled.
-    pub fn get_mut<R, F: FnOnce(&mut T) -> R, S: Space<T>>(
+    pub fn get_mut<R, F: FnOnce(&mut T) -> R, S: Edits<T>>(
         &mut self,
         f: F,
         s: &mut S,
@@ -253,7 +253,7 @@ impl<T: Item<T>> Shared<T> {
     /// participant is open: its value gives up at once what it holds, and its slot is free.
     ///
     /// `GuardOpen` where this is the last owner and a guard is open: it comes back.
-    pub fn drop_in_place<S: Space<T>>(self, s: &mut S) -> Result<bool, (Shared<T>, Refused)>
+    pub fn drop_in_place<S: Edits<T>>(self, s: &mut S) -> Result<bool, (Shared<T>, Refused)>
         requires seated { IsSeated (S.seat s.old) }
         requires home { slots_home self ≡ (S.seat s.old).home.slots }
         ensures seat { S.seat s.new ≡ S.seat s.old }

@@ -7,7 +7,7 @@ ghost use Rattle.sdd_base.specs.Owned.{cell_of, cells_home};
 ghost use Rattle.sdd_base.specs.Seat.{IsExact, IsSeated};
 ghost use Rattle.sdd_bench.specs.Leaves.{IsFilled, Leaves};
 
-use sdd_base::{AtomicOwned, Guard, Owned, Space};
+use sdd_base::{AtomicOwned, Cells, Guard, Guards, Items, Look, Owned, Space};
 use sdd_core::{Refused, Tag};
 
 /// Opens a guard, puts two items into cells, loads from them that often, and gives all back.
@@ -23,7 +23,11 @@ pub fn loads<S: Space<u64>>(space: &mut S, turns: u64) -> Result<u64, Refused>
 }
 
 #[inline(always)]
-fn loads_under<S: Space<u64>>(space: &mut S, guard: &Guard, turns: u64) -> Result<u64, Refused>
+fn loads_under<S: Look<u64> + Items<u64> + Cells<u64>>(
+    space: &mut S,
+    guard: &Guard,
+    turns: u64,
+) -> Result<u64, Refused>
     requires seated { IsSeated (S.seat space.old) }
     requires reader { reader_of guard.now ≡ (S.seat space.old).reader }
     ensures { Leaves (S.seat space.old) (S.own space.old) (S.world space.old) (S.seat space.new) (S.own space.new) (S.world space.new) }
@@ -50,7 +54,7 @@ fn loads_under<S: Space<u64>>(space: &mut S, guard: &Guard, turns: u64) -> Resul
 ///
 /// What was found so far decides which cell is loaded from, so that no load can be left out.
 #[inline(always)]
-fn sum_loaded<S: Space<u64>>(
+fn sum_loaded<S: Look<u64> + Cells<u64>>(
     space: &mut S,
     one: &AtomicOwned<u64>,
     other: &AtomicOwned<u64>,
@@ -77,7 +81,7 @@ fn sum_loaded<S: Space<u64>>(
 
 /// Frees a cell that holds an owner, and retires the item.
 #[inline(always)]
-fn empties<S: Space<u64>>(space: &mut S, cell: AtomicOwned<u64>)
+fn empties<S: Items<u64> + Cells<u64>>(space: &mut S, cell: AtomicOwned<u64>)
     requires seated { IsSeated (S.seat space.old) }
     requires home { cells_home cell ≡ (S.seat space.old).home.cells }
     requires filled { IsExact (S.seat space.old) → IsFilled (S.world space.old) (cell_of cell) }
@@ -93,7 +97,10 @@ fn empties<S: Space<u64>>(space: &mut S, cell: AtomicOwned<u64>)
 
 /// Puts an item into a cell, puts another one there and retires the one before that often, and gives all back.
 #[inline(always)]
-pub fn swaps<S: Space<u64>>(space: &mut S, turns: u64) -> Result<(), Refused>
+pub fn swaps<S: Guards<u64> + Items<u64> + Cells<u64>>(
+    space: &mut S,
+    turns: u64,
+) -> Result<(), Refused>
     requires { IsSeated (S.seat space.old) }
     ensures { Leaves (S.seat space.old) (S.own space.old) (S.world space.old) (S.seat space.new) (S.own space.new) (S.world space.new) }
 {
@@ -108,7 +115,7 @@ pub fn swaps<S: Space<u64>>(space: &mut S, turns: u64) -> Result<(), Refused>
 }
 
 #[inline(always)]
-fn swaps_in<S: Space<u64>>(
+fn swaps_in<S: Guards<u64> + Items<u64> + Cells<u64>>(
     space: &mut S,
     cell: &AtomicOwned<u64>,
     turns: u64,
@@ -130,7 +137,11 @@ fn swaps_in<S: Space<u64>>(
 
 /// The cell holds a new item, and the one that it held is retired.
 #[inline(always)]
-fn swap<S: Space<u64>>(space: &mut S, cell: &AtomicOwned<u64>, value: u64) -> Result<(), Refused>
+fn swap<S: Items<u64> + Cells<u64>>(
+    space: &mut S,
+    cell: &AtomicOwned<u64>,
+    value: u64,
+) -> Result<(), Refused>
     requires seated { IsSeated (S.seat space.old) }
     requires home { cells_home cell.now ≡ (S.seat space.old).home.cells }
     requires filled { IsExact (S.seat space.old) → IsFilled (S.world space.old) (cell_of cell.now) }

@@ -9,7 +9,7 @@ ghost use Rattle.sdd_bench.specs.Leaves.{Leaves};
 
 use crate::operation::Guarding;
 use sdd_base::laws::comes_back;
-use sdd_base::{Guard, Guards, Look, Owned, Shared, Space};
+use sdd_base::{Deferrals, Guard, Guards, Items, Look, Owned, RawItems, Shared, SharedItems};
 use sdd_core::Refused;
 use sdd_store::Idle;
 
@@ -64,7 +64,7 @@ fn accelerated<S: Guards<u64>>(space: &mut S, turns: u64) -> Result<(), Refused>
 
 /// Makes and retires an item under a guard that often.
 #[inline(always)]
-pub fn items<S: Space<u64>>(space: &mut S, turns: u64) -> Result<(), Refused>
+pub fn items<S: Guards<u64> + Items<u64>>(space: &mut S, turns: u64) -> Result<(), Refused>
     requires { IsSeated (S.seat space.old) }
     ensures { Leaves (S.seat space.old) (S.own space.old) (S.world space.old) (S.seat space.new) (S.own space.new) (S.world space.new) }
 {
@@ -84,7 +84,10 @@ pub fn items<S: Space<u64>>(space: &mut S, turns: u64) -> Result<(), Refused>
 
 /// Opens a guard that often, and defers a job under each. What is due runs.
 #[inline(always)]
-pub fn jobs<S: Space<u64, Job = Idle>>(space: &mut S, turns: u64) -> Result<(), Refused>
+pub fn jobs<S: Guards<u64> + Deferrals<u64, Job = Idle>>(
+    space: &mut S,
+    turns: u64,
+) -> Result<(), Refused>
     requires { IsSeated (S.seat space.old) }
     ensures { Leaves (S.seat space.old) (S.own space.old) (S.world space.old) (S.seat space.new) (S.own space.new) (S.world space.new) }
 {
@@ -101,7 +104,7 @@ pub fn jobs<S: Space<u64, Job = Idle>>(space: &mut S, turns: u64) -> Result<(), 
 
 /// Makes two items, has their owners look that often, and retires both.
 #[inline(always)]
-pub fn looks<S: Space<u64>>(space: &mut S, turns: u64) -> Result<u64, Refused>
+pub fn looks<S: Look<u64> + Items<u64>>(space: &mut S, turns: u64) -> Result<u64, Refused>
     requires { IsSeated (S.seat space.old) }
     ensures { Leaves (S.seat space.old) (S.own space.old) (S.world space.old) (S.seat space.new) (S.own space.new) (S.world space.new) }
 {
@@ -145,7 +148,7 @@ fn reads<L: Look<u64>>(space: &L, one: &Owned<u64>, other: &Owned<u64>, turns: u
 
 /// Makes an item with a shared owner, clones the owner and releases the clone that often, and releases the owner.
 #[inline(always)]
-pub fn shares<S: Space<u64>>(space: &mut S, turns: u64) -> Result<(), Refused>
+pub fn shares<S: Items<u64> + SharedItems<u64>>(space: &mut S, turns: u64) -> Result<(), Refused>
     requires { IsSeated (S.seat space.old) }
     ensures { Leaves (S.seat space.old) (S.own space.old) (S.world space.old) (S.seat space.new) (S.own space.new) (S.world space.new) }
 {
@@ -161,7 +164,11 @@ pub fn shares<S: Space<u64>>(space: &mut S, turns: u64) -> Result<(), Refused>
 
 /// Clones the only owner of an item, and releases the clone, that often.
 #[inline(always)]
-fn clones<S: Space<u64>>(space: &mut S, owner: &Shared<u64>, turns: u64) -> Result<(), Refused>
+fn clones<S: Items<u64> + SharedItems<u64>>(
+    space: &mut S,
+    owner: &Shared<u64>,
+    turns: u64,
+) -> Result<(), Refused>
     requires seated { IsSeated (S.seat space.old) }
     requires home { shared.slots_home owner.now ≡ (S.seat space.old).home.slots }
     requires alone { IsExact (S.seat space.old) → standing_at (S.world space.old) (shared.slot_of owner.now) ≡ Some (shared_by 1) }
@@ -177,7 +184,7 @@ fn clones<S: Space<u64>>(space: &mut S, owner: &Shared<u64>, turns: u64) -> Resu
 
 /// Makes an item, which goes raw and comes back that often, and retires it.
 #[inline(always)]
-pub fn raws<S: Space<u64>>(space: &mut S, turns: u64) -> Result<(), Refused>
+pub fn raws<S: Items<u64> + RawItems<u64>>(space: &mut S, turns: u64) -> Result<(), Refused>
     requires seated { IsSeated (S.seat space.old) }
     requires exact { IsExact (S.seat space.old) }
     ensures { Leaves (S.seat space.old) (S.own space.old) (S.world space.old) (S.seat space.new) (S.own space.new) (S.world space.new) }
@@ -194,7 +201,7 @@ pub fn raws<S: Space<u64>>(space: &mut S, turns: u64) -> Result<(), Refused>
 
 /// An item goes raw and comes back that often.
 #[inline(always)]
-fn round_trips<S: Space<u64>>(space: &mut S, owner: Owned<u64>, turns: u64) -> Owned<u64>
+fn round_trips<S: RawItems<u64>>(space: &mut S, owner: Owned<u64>, turns: u64) -> Owned<u64>
     requires seated { IsSeated (S.seat space.old) }
     requires exact { IsExact (S.seat space.old) }
     requires home { slots_home owner ≡ (S.seat space.old).home.slots }
@@ -213,7 +220,7 @@ fn round_trips<S: Space<u64>>(space: &mut S, owner: Owned<u64>, turns: u64) -> O
 
 /// An item goes raw and comes back.
 #[inline(always)]
-fn round_trip<S: Space<u64>>(space: &mut S, owner: Owned<u64>) -> Owned<u64>
+fn round_trip<S: RawItems<u64>>(space: &mut S, owner: Owned<u64>) -> Owned<u64>
     requires seated { IsSeated (S.seat space.old) }
     requires exact { IsExact (S.seat space.old) }
     requires home { slots_home owner ≡ (S.seat space.old).home.slots }

@@ -7,7 +7,7 @@ ghost use Rattle.sdd_cell_rows.specs.Value.{holdings_of};
 use crate::Value;
 use crate::example::{AMPLE, Example, in_a_world};
 use crate::steps::{owned, raw, shared};
-use sdd_base::{Limits, RawPtr, Space};
+use sdd_base::{Cells, Items, Limits, RawCells, RawPtr, Space};
 use std::process::Abort;
 
 /// A value with the only owner of another is retired.
@@ -36,7 +36,7 @@ fn what_a_value_held_goes_three_changes_later(rt: HostRuntime) {
 }
 
 /// A value that holds one item by each kind of owner and of cell that owns, and a raw cell.
-fn with_each<S: Space<Value>>(rt: &impl Abort, s: &mut S) -> Value
+fn with_each<S: Items<Value> + Cells<Value> + RawCells<Value>>(rt: &impl Abort, s: &mut S) -> Value
     requires seated { IsSeated (S.seat s.old) }
     ensures seat { S.seat s.new ≡ S.seat s.old }
     ensures home { AreOf (S.seat s.new).home (holdings_of result) }

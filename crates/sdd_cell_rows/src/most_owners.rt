@@ -7,7 +7,7 @@ ghost use Rattle.sdd_base.specs.Shared.{slots_home, cells_home};
 
 use crate::example::AMPLE;
 use crate::steps::{close, opened, seen, shared};
-use sdd_base::{AtomicShared, Limits, Shared, Space, inner};
+use sdd_base::{AtomicShared, Cells, Items, Limits, Shared, SharedItems, Space, inner};
 use sdd_core::Refused;
 use sdd_store::Standing;
 use sdd_token::Shares;
@@ -141,7 +141,10 @@ fn first_owners_at(
 }
 
 /// An owner of a new item, and a cell that holds another.
-fn first_owners<S: Space<u64>>(rt: &impl Abort, s: &mut S) -> (Shared<u64>, AtomicShared<u64>)
+fn first_owners<S: Items<u64> + SharedItems<u64> + Cells<u64>>(
+    rt: &impl Abort,
+    s: &mut S,
+) -> (Shared<u64>, AtomicShared<u64>)
     requires seated { IsSeated (S.seat s.old) }
     ensures seat { S.seat s.new ≡ S.seat s.old }
     ensures owner { slots_home result.0 ≡ (S.seat s.new).home.slots }
@@ -156,7 +159,7 @@ fn first_owners<S: Space<u64>>(rt: &impl Abort, s: &mut S) -> (Shared<u64>, Atom
 }
 
 /// The owner and the cell go, and then the last owner.
-fn all_go<S: Space<u64>>(
+fn all_go<S: Items<u64> + Cells<u64>>(
     rt: &impl Abort,
     s: &mut S,
     owner: Shared<u64>,

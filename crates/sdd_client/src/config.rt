@@ -10,7 +10,7 @@ ghost use Rattle.sdd_base.specs.World.{World, IsPlaceOf};
 ghost use Rattle.sdd_world.specs.Place.{index_of};
 ghost use Rattle.sdd_client.specs.Config.{IsSetTo, cell_of, cells_home, replaced};
 
-use sdd_base::{AtomicShared, Guard, Item, Shared, Space};
+use sdd_base::{AtomicShared, Cells, Guard, Item, Items, Look, Shared};
 use sdd_core::{Refused, Tag};
 use sdd_world::{Place, World};
 
@@ -25,7 +25,7 @@ impl<T: Item<T>> Config<T> {
     /// A configuration with this value.
     ///
     /// `NoSlot` where no slot is free, else `NoCell` where no cell is; the value comes back.
-    pub fn new<S: Space<T>>(value: T, s: &mut S) -> Result<Config<T>, (T, Refused)>
+    pub fn new<S: Cells<T>>(value: T, s: &mut S) -> Result<Config<T>, (T, Refused)>
         requires seated { IsSeated (S.seat s.old) }
         requires home { AreOf (S.seat s.old).home (T.holds value) }
         ensures seat { S.seat s.new ≡ S.seat s.old }
@@ -39,7 +39,7 @@ impl<T: Item<T>> Config<T> {
     }
 
     /// The value as it is now, for as long as the guard is borrowed, whatever it is replaced by meanwhile.
-    pub fn read<'g, S: Space<T>>(&self, guard: &'g Guard, s: &mut S) -> Option<&'g T>
+    pub fn read<'g, S: Look<T> + Cells<T>>(&self, guard: &'g Guard, s: &mut S) -> Option<&'g T>
         requires seated { IsSeated (S.seat s.old) }
         requires home { cells_home self.now ≡ (S.seat s.old).home.cells }
         requires reader { reader_of guard.now ≡ (S.seat s.old).reader }
@@ -56,7 +56,7 @@ impl<T: Item<T>> Config<T> {
     /// Replaces the value. The owner of the one before is released: it is reclaimed once nobody reads it.
     ///
     /// `NoSlot` where no slot is free; the value comes back.
-    pub fn replace<S: Space<T>>(&self, value: T, s: &mut S) -> Result<(), (T, Refused)>
+    pub fn replace<S: Items<T> + Cells<T>>(&self, value: T, s: &mut S) -> Result<(), (T, Refused)>
         requires seated { IsSeated (S.seat s.old) }
         requires home { cells_home self.now ≡ (S.seat s.old).home.cells }
         requires value { AreOf (S.seat s.old).home (T.holds value) }
@@ -77,7 +77,7 @@ impl<T: Item<T>> Config<T> {
     }
 
     /// Ends the configuration.
-    pub fn close<S: Space<T>>(self, s: &mut S)
+    pub fn close<S: Items<T> + Cells<T>>(self, s: &mut S)
         requires seated { IsSeated (S.seat s.old) }
         requires home { cells_home self ≡ (S.seat s.old).home.cells }
         ensures seat { S.seat s.new ≡ S.seat s.old }

@@ -4,7 +4,7 @@ ghost use Rattle.sdd_base.specs.Guard.{reader_of};
 ghost use Rattle.sdd_base.specs.Ptr.{KeepsShown};
 ghost use Rattle.sdd_base.specs.Seat.{IsExact, IsSeated};
 
-use sdd_base::{AtomicShared, Giver, Guard, Item, Space};
+use sdd_base::{AtomicShared, Cells, Giver, Guard, Item, Look};
 
 /// A value, and a cell with the owner of the next node, or with nothing.
 pub struct Node {
@@ -24,7 +24,11 @@ impl Item<Node> for Node {
 }
 
 /// The node after one that some slot shows, as it is now. That its cell may be loaded from is a law of the space.
-pub fn next_of<'g, S: Space<Node>>(node: &'g Node, guard: &'g Guard, s: &mut S) -> Option<&'g Node>
+pub fn next_of<'g, S: Look<Node> + Cells<Node>>(
+    node: &'g Node,
+    guard: &'g Guard,
+    s: &mut S,
+) -> Option<&'g Node>
     requires seated { IsSeated (S.seat s.old) }
     requires shown { (slot : ℕ) × S.shows s.old slot node.now }
     requires reader { reader_of guard.now ≡ (S.seat s.old).reader }

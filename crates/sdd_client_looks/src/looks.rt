@@ -8,7 +8,7 @@ ghost use Rattle.sdd_base.specs.Steps.{opened};
 ghost use Rattle.sdd_base.specs.World.{World, IsPlaceOf, value_at};
 ghost use Rattle.sdd_world.specs.Place.{index_of};
 
-use sdd_base::{Guard, Guards, Item, Owned, Space};
+use sdd_base::{Guard, Guards, Item, Items, Look, Owned};
 use sdd_core::Refused;
 use sdd_world::{Place, World};
 
@@ -66,7 +66,10 @@ pub fn reader_and_writer(
 /// Retires an item and goes on: the count of epochs is raised where it can be, and what is due is reclaimed.
 ///
 /// `TooManyGuards` where the participant can open no guard; the item is retired all the same.
-fn retires_and_goes_on<S: Space<u64>>(s: &mut S, owner: Owned<u64>) -> Result<(), Refused>
+fn retires_and_goes_on<S: Guards<u64> + Items<u64>>(
+    s: &mut S,
+    owner: Owned<u64>,
+) -> Result<(), Refused>
     requires seated { IsSeated (S.seat s.old) }
     requires home { slots_home owner ≡ (S.seat s.old).home.slots }
     ensures seat { S.seat s.new ≡ S.seat s.old }
@@ -92,7 +95,7 @@ fn goes_on<T: Item<T>, S: Guards<T>>(s: &mut S) -> Result<(), Refused>
 /// Looks under two guards of one participant, of which the outer is closed first: answers what the inner one's pointer shows before that and after.
 ///
 /// `TooManyGuards` where not both can be opened.
-pub fn nested_guards_outer_first<S: Space<u64>>(
+pub fn nested_guards_outer_first<S: Look<u64> + Guards<u64> + Items<u64>>(
     one: &Owned<u64>,
     other: &Owned<u64>,
     s: &mut S,

@@ -1,6 +1,6 @@
 //! A participant as the generic calls of guards have it.
 use crate::local::Local;
-use sdd_base::{Guard, Guards, Item, Shows};
+use sdd_base::{Caller, Guard, Guards, Item, Shows};
 use sdd_core::Refused;
 
 impl<T: Item<T>> Shows<T> for Local<'_> {
@@ -13,7 +13,7 @@ impl<T: Item<T>> Shows<T> for Local<'_> {
     fn shown_is_of_home(&self) {}
 }
 
-impl<T: Item<T>> Guards<T> for Local<'_> {
+impl<T: Item<T>> Caller<T> for Local<'_> {
     ghost use Rattle.std.specs.Prelude.{refl};
     ghost use Rattle.sdd_domain.specs.Space.{seat_of, known_of, no_world, never_exact};
 
@@ -25,6 +25,14 @@ impl<T: Item<T>> Guards<T> for Local<'_> {
 
     ghost world = { λ _. no_world };
 
+    ghost home_is_seat = { λ _. refl };
+
+    ghost own_is_place = { λ l exact. absurd (never_exact l exact) };
+
+    ghost shows_is_value = { λ l exact _ _. absurd (never_exact l exact) };
+}
+
+impl<T: Item<T>> Guards<T> for Local<'_> {
     #[inline]
     fn open_guard(&mut self) -> Result<Guard, Refused> {
         Local::open_guard(self)
@@ -54,10 +62,4 @@ impl<T: Item<T>> Guards<T> for Local<'_> {
     fn accelerate(&mut self) {
         Local::accelerate(self);
     }
-
-    ghost home_is_seat = { λ _. refl };
-
-    ghost own_is_place = { λ l exact. absurd (never_exact l exact) };
-
-    ghost shows_is_value = { λ l exact _ _. absurd (never_exact l exact) };
 }

@@ -3,7 +3,7 @@ ghost use Rattle.std.specs.Prelude.{◌≡◌};
 ghost use Rattle.sdd_base.specs.Seat.{IsSeated};
 
 use crate::steps::AMPLE;
-use sdd_base::{Guard, Limits, Space};
+use sdd_base::{Deferrals, Guard, Guards, Limits};
 use sdd_core::Refused;
 use sdd_store::{Deferred, Job};
 use sdd_world::World;
@@ -25,7 +25,7 @@ impl Job for Adds {
 }
 
 /// Opens, accelerates and closes a guard, and tells which epoch it showed, and the number that jobs add to, as it was under the guard.
-fn shown<S: Space<u64>>(rt: &impl Abort, s: &mut S, total: &AtomicU64) -> (u8, u64)
+fn shown<S: Guards<u64>>(rt: &impl Abort, s: &mut S, total: &AtomicU64) -> (u8, u64)
     requires { IsSeated (S.seat s.old) }
     ensures { S.seat s.new ≡ S.seat s.old }
 {
@@ -38,7 +38,7 @@ fn shown<S: Space<u64>>(rt: &impl Abort, s: &mut S, total: &AtomicU64) -> (u8, u
 }
 
 /// The accelerated guards show these epochs, and under each the number that jobs add to is this one.
-fn shows<S: Space<u64>>(rt: &impl Abort, s: &mut S, total: &AtomicU64, table: &[(u8, u64)])
+fn shows<S: Guards<u64>>(rt: &impl Abort, s: &mut S, total: &AtomicU64, table: &[(u8, u64)])
     requires { IsSeated (S.seat s.old) }
     ensures { S.seat s.new ≡ S.seat s.old }
 {
@@ -48,7 +48,11 @@ fn shows<S: Space<u64>>(rt: &impl Abort, s: &mut S, total: &AtomicU64, table: &[
 }
 
 /// Defers a job under a guard of its own.
-fn deferred<S: Space<u64>>(rt: &impl Abort, s: &mut S, job: S::Job) -> Result<(), (S::Job, Refused)>
+fn deferred<S: Guards<u64> + Deferrals<u64>>(
+    rt: &impl Abort,
+    s: &mut S,
+    job: S::Job,
+) -> Result<(), (S::Job, Refused)>
     requires { IsSeated (S.seat s.old) }
     ensures { S.seat s.new ≡ S.seat s.old }
 {
@@ -59,7 +63,7 @@ fn deferred<S: Space<u64>>(rt: &impl Abort, s: &mut S, job: S::Job) -> Result<()
 }
 
 /// Defers two jobs where one may wait. The second one comes back, and once the first one ran it waits. What it was refused with.
-fn defers_two<S: Space<u64>>(
+fn defers_two<S: Guards<u64> + Deferrals<u64>>(
     rt: &impl Abort,
     s: &mut S,
     first: S::Job,

@@ -5,7 +5,10 @@ ghost use Rattle.sdd_world.specs.Shown.{one_value};
 ghost use Rattle.sdd_base.specs.Ptr.{shown_by};
 
 use crate::world::{Place, World};
-use sdd_base::{Guard, Guards, Item, Look, Ptr, RawPtr, Shows, Space, inner};
+use sdd_base::{
+    Caller, Cells, Collectors, Deferrals, Edits, Guard, Guards, Item, Items, Look, Ptr, RawCells,
+    RawItems, RawPtr, SharedItems, Shows, Space, inner,
+};
 use sdd_core::{Refused, Tag};
 use sdd_store::{Cell, Idle, Job, Pointer};
 use sdd_token::{Kind, RawRight, Right};
@@ -95,7 +98,7 @@ impl<T: Item<T>, J: Job> Look<T> for Turn<'_, T, J> {
     ghost one_value = { λ t k u v a b. one_value t.world.now k u v a b };
 }
 
-impl<T: Item<T>, J: Job> Guards<T> for Turn<'_, T, J> {
+impl<T: Item<T>, J: Job> Caller<T> for Turn<'_, T, J> {
     ghost use Rattle.std.specs.Prelude.{refl};
     ghost use Rattle.sdd_base.specs.Seat.{seat_on};
     ghost use Rattle.sdd_base.specs.World.{place_at};
@@ -108,6 +111,14 @@ impl<T: Item<T>, J: Job> Guards<T> for Turn<'_, T, J> {
 
     ghost world = { λ t. t.world.now };
 
+    ghost home_is_seat = { λ _. refl };
+
+    ghost own_is_place = { λ _ _. refl };
+
+    ghost shows_is_value = { λ _ _ _ _. (λ h. h, λ h. h) };
+}
+
+impl<T: Item<T>, J: Job> Guards<T> for Turn<'_, T, J> {
     fn open_guard(&mut self) -> Result<Guard, Refused> {
         if !self.world.time().can_nest(self.place) {
             return Err(Refused::TooManyGuards);
@@ -139,23 +150,9 @@ impl<T: Item<T>, J: Job> Guards<T> for Turn<'_, T, J> {
         let world = &mut *self.world;
         world.core.accelerate(self.place);
     }
-
-    ghost home_is_seat = { λ _. refl };
-
-    ghost own_is_place = { λ _ _. refl };
-
-    ghost shows_is_value = { λ _ _ _ _. (λ h. h, λ h. h) };
 }
 
-impl<T: Item<T>, J: Job> Space<T> for Turn<'_, T, J> {
-    ghost use Rattle.std.specs.Prelude.{true};
-
-    const ALONE: bool = true;
-
-    ghost is_alone = { true };
-
-    type Job = J;
-
+impl<T: Item<T>, J: Job> Items<T> for Turn<'_, T, J> {
     fn make(&mut self, value: T, kind: Kind) -> Result<Right, (T, Refused)> {
         let world = &mut *self.world;
         match world.core.make(value, kind) {
@@ -177,50 +174,13 @@ impl<T: Item<T>, J: Job> Space<T> for Turn<'_, T, J> {
         world.core.lend(self.place, right, inner::tenure_of(guard))
     }
 
-    fn add_owner(&mut self, right: &Right) -> Result<Right, Refused> {
-        let world = &mut *self.world;
-        let slot = world.core.slot_of(right);
-        match world.core.upgrade(slot)? {
-            Some(right) => Ok(right),
-            None => unreachable!(),
-        }
-    }
-
-    fn upgrade(&mut self, slot: u32) -> Result<Option<Right>, Refused> {
-        let world = &mut *self.world;
-        world.core.upgrade(slot)
-    }
-
-    fn defer(&mut self, job: J) -> Result<u32, (J, Refused)> {
-        let world = &mut *self.world;
-        match world.core.defer(self.place, job) {
-            Ok(number) => Ok(number),
-            Err(job) => Err((job, Refused::NoJob)),
-        }
-    }
-
     fn let_go(&mut self, right: Right, kind: Kind) -> bool {
         let world = &mut *self.world;
         world.core.let_go(self.place, right, kind)
     }
+}
 
-    fn collect(&mut self, collector: &RawRight, right: Right, kind: Kind) -> bool {
-        let world = &mut *self.world;
-        let number = collector.number();
-        world.core.collect(self.place, number, right, kind)
-    }
-
-    fn close_collector(&mut self, collector: RawRight) -> Result<(), (RawRight, Refused)> {
-        let world = &mut *self.world;
-        if world.is_guarded() {
-            return Err((collector, Refused::GuardOpen));
-        }
-        world
-            .core
-            .close_collector(self.place, collector, &mut world.spare);
-        Ok(())
-    }
-
+impl<T: Item<T>, J: Job> Edits<T> for Turn<'_, T, J> {
     fn edit<R, F: FnOnce(&mut T) -> R>(
         &mut self,
         right: &Right,
@@ -245,7 +205,25 @@ impl<T: Item<T>, J: Job> Space<T> for Turn<'_, T, J> {
             }
         }
     }
+}
 
+impl<T: Item<T>, J: Job> SharedItems<T> for Turn<'_, T, J> {
+    fn add_owner(&mut self, right: &Right) -> Result<Right, Refused> {
+        let world = &mut *self.world;
+        let slot = world.core.slot_of(right);
+        match world.core.upgrade(slot)? {
+            Some(right) => Ok(right),
+            None => unreachable!(),
+        }
+    }
+
+    fn upgrade(&mut self, slot: u32) -> Result<Option<Right>, Refused> {
+        let world = &mut *self.world;
+        world.core.upgrade(slot)
+    }
+}
+
+impl<T: Item<T>, J: Job> RawItems<T> for Turn<'_, T, J> {
     fn put_out_raw(&mut self, right: Right) -> u32 {
         let world = &mut *self.world;
         world.core.put_out_raw(right)
@@ -262,7 +240,9 @@ impl<T: Item<T>, J: Job> Space<T> for Turn<'_, T, J> {
             .core
             .lend_raw(self.place, slot, inner::tenure_of(guard))
     }
+}
 
+impl<T: Item<T>, J: Job> Cells<T> for Turn<'_, T, J> {
     fn make_cell(
         &mut self,
         held: Option<Right>,
@@ -344,7 +324,9 @@ impl<T: Item<T>, J: Job> Space<T> for Turn<'_, T, J> {
         let world = &mut *self.world;
         world.core.take_cell(cell)
     }
+}
 
+impl<T: Item<T>, J: Job> RawCells<T> for Turn<'_, T, J> {
     fn make_raw_cell(&mut self, pointer: Pointer) -> Result<RawRight, Refused> {
         let world = &mut *self.world;
         match world.core.make_raw_cell(pointer) {
@@ -415,6 +397,45 @@ impl<T: Item<T>, J: Job> Space<T> for Turn<'_, T, J> {
         let world = &mut *self.world;
         world.core.close_raw_cell(cell);
     }
+}
+
+impl<T: Item<T>, J: Job> Collectors<T> for Turn<'_, T, J> {
+    fn collect(&mut self, collector: &RawRight, right: Right, kind: Kind) -> bool {
+        let world = &mut *self.world;
+        let number = collector.number();
+        world.core.collect(self.place, number, right, kind)
+    }
+
+    fn close_collector(&mut self, collector: RawRight) -> Result<(), (RawRight, Refused)> {
+        let world = &mut *self.world;
+        if world.is_guarded() {
+            return Err((collector, Refused::GuardOpen));
+        }
+        world
+            .core
+            .close_collector(self.place, collector, &mut world.spare);
+        Ok(())
+    }
+}
+
+impl<T: Item<T>, J: Job> Deferrals<T> for Turn<'_, T, J> {
+    type Job = J;
+
+    fn defer(&mut self, job: J) -> Result<u32, (J, Refused)> {
+        let world = &mut *self.world;
+        match world.core.defer(self.place, job) {
+            Ok(number) => Ok(number),
+            Err(job) => Err((job, Refused::NoJob)),
+        }
+    }
+}
+
+impl<T: Item<T>, J: Job> Space<T> for Turn<'_, T, J> {
+    ghost use Rattle.std.specs.Prelude.{true};
+
+    const ALONE: bool = true;
+
+    ghost is_alone = { true };
 
     ghost alone_is_exact = { λ _ alone. alone };
 }

@@ -5,12 +5,12 @@ ghost use Rattle.sdd_base.specs.Seat.{IsSeated};
 ghost use Rattle.sdd_base.specs.Shared as shared;
 
 use crate::steps::{close, opened, owned};
-use sdd_base::{Owned, PrivateCollector, Shared, Space};
+use sdd_base::{Collectors, Guards, Items, Owned, PrivateCollector, RawCells, Shared};
 use sdd_core::Refused;
 use std::process::Abort;
 
 /// A collector for which nothing waits.
-pub fn made<S: Space<u64>>(rt: &impl Abort, s: &mut S) -> PrivateCollector<u64>
+pub fn made<S: RawCells<u64>>(rt: &impl Abort, s: &mut S) -> PrivateCollector<u64>
     requires seated { IsSeated (S.seat s.old) }
     ensures seat { S.seat s.new ≡ S.seat s.old }
     ensures home { cells_home result ≡ (S.seat s.new).home.cells }
@@ -19,7 +19,7 @@ pub fn made<S: Space<u64>>(rt: &impl Abort, s: &mut S) -> PrivateCollector<u64>
 }
 
 /// A new item is collected.
-pub fn collect<S: Space<u64>>(
+pub fn collect<S: Guards<u64> + Items<u64> + Collectors<u64>>(
     rt: &impl Abort,
     s: &mut S,
     collector: &PrivateCollector<u64>,
@@ -36,7 +36,7 @@ pub fn collect<S: Space<u64>>(
 }
 
 /// A shared owner is, and it is told whether it was the last.
-pub fn collect_shared<S: Space<u64>>(
+pub fn collect_shared<S: Guards<u64> + Collectors<u64>>(
     rt: &impl Abort,
     s: &mut S,
     collector: &PrivateCollector<u64>,
@@ -54,7 +54,7 @@ pub fn collect_shared<S: Space<u64>>(
 }
 
 /// The collector is closed.
-pub fn closed<S: Space<u64>>(rt: &impl Abort, s: &mut S, collector: PrivateCollector<u64>)
+pub fn closed<S: Collectors<u64>>(rt: &impl Abort, s: &mut S, collector: PrivateCollector<u64>)
     requires seated { IsSeated (S.seat s.old) }
     requires collector { cells_home collector ≡ (S.seat s.old).home.cells }
     ensures seat { S.seat s.new ≡ S.seat s.old }
@@ -66,7 +66,7 @@ pub fn closed<S: Space<u64>>(rt: &impl Abort, s: &mut S, collector: PrivateColle
 }
 
 /// The collector can't be closed, and comes back.
-pub fn refused_close<S: Space<u64>>(
+pub fn refused_close<S: Collectors<u64>>(
     rt: &impl Abort,
     s: &mut S,
     collector: PrivateCollector<u64>,
@@ -83,7 +83,7 @@ pub fn refused_close<S: Space<u64>>(
 }
 
 /// A slot is free: one more item is made, and retired.
-pub fn has_slot<S: Space<u64>>(s: &mut S) -> bool
+pub fn has_slot<S: Items<u64>>(s: &mut S) -> bool
     requires seated { IsSeated (S.seat s.old) }
     ensures seat { S.seat s.new ≡ S.seat s.old }
 {

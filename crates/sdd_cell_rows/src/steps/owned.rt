@@ -6,12 +6,14 @@ ghost use Rattle.sdd_base.specs.Owned.{slots_home, cells_home, IsOfSlots};
 ghost use Rattle.sdd_base.specs.Seat.{IsSeated};
 
 use crate::steps::{Read, close, opened, seen};
-use sdd_base::{AtomicOwned, Guard, Item, Owned, Ptr, RawPtr, Space};
+use sdd_base::{
+    AtomicOwned, Cells, Edits, Guard, Item, Items, Look, Owned, Ptr, RawItems, RawPtr, Space,
+};
 use sdd_core::{Refused, Tag};
 use std::process::Abort;
 
 /// The owner of a new item.
-pub fn made<T: Item<T>, S: Space<T>>(rt: &impl Abort, s: &mut S, value: T) -> Owned<T>
+pub fn made<T: Item<T>, S: Items<T>>(rt: &impl Abort, s: &mut S, value: T) -> Owned<T>
     requires seated { IsSeated (S.seat s.old) }
     requires home { AreOf (S.seat s.old).home (T.holds value) }
     ensures seat { S.seat s.new ≡ S.seat s.old }
@@ -24,7 +26,7 @@ pub fn made<T: Item<T>, S: Space<T>>(rt: &impl Abort, s: &mut S, value: T) -> Ow
 }
 
 /// The owner of a new item, or of none.
-fn made_if<S: Space<u64>>(rt: &impl Abort, s: &mut S, value: Option<u64>) -> Option<Owned<u64>>
+fn made_if<S: Items<u64>>(rt: &impl Abort, s: &mut S, value: Option<u64>) -> Option<Owned<u64>>
     requires seated { IsSeated (S.seat s.old) }
     ensures seat { S.seat s.new ≡ S.seat s.old }
     ensures home { IsOfSlots (S.seat s.new).home.slots result }
@@ -36,7 +38,7 @@ fn made_if<S: Space<u64>>(rt: &impl Abort, s: &mut S, value: Option<u64>) -> Opt
 }
 
 /// The item waits from now on.
-pub fn retire<T: Item<T>, S: Space<T>>(s: &mut S, owner: Owned<T>)
+pub fn retire<T: Item<T>, S: Items<T>>(s: &mut S, owner: Owned<T>)
     requires seated { IsSeated (S.seat s.old) }
     requires home { slots_home owner ≡ (S.seat s.old).home.slots }
     ensures seat { S.seat s.new ≡ S.seat s.old }
@@ -45,7 +47,7 @@ pub fn retire<T: Item<T>, S: Space<T>>(s: &mut S, owner: Owned<T>)
 }
 
 /// The number of the owner's item, which waits from now on.
-pub fn spent<S: Space<u64>>(s: &mut S, owner: Option<Owned<u64>>) -> Option<u64>
+pub fn spent<S: Look<u64> + Items<u64>>(s: &mut S, owner: Option<Owned<u64>>) -> Option<u64>
     requires seated { IsSeated (S.seat s.old) }
     requires home { IsOfSlots (S.seat s.old).home.slots owner }
     ensures seat { S.seat s.new ≡ S.seat s.old }
@@ -57,7 +59,7 @@ pub fn spent<S: Space<u64>>(s: &mut S, owner: Option<Owned<u64>>) -> Option<u64>
 }
 
 /// A cell that holds the owner of a new item.
-pub fn cell<T: Item<T>, S: Space<T>>(rt: &impl Abort, s: &mut S, value: T) -> AtomicOwned<T>
+pub fn cell<T: Item<T>, S: Cells<T>>(rt: &impl Abort, s: &mut S, value: T) -> AtomicOwned<T>
     requires seated { IsSeated (S.seat s.old) }
     requires home { AreOf (S.seat s.old).home (T.holds value) }
     ensures seat { S.seat s.new ≡ S.seat s.old }
@@ -70,7 +72,7 @@ pub fn cell<T: Item<T>, S: Space<T>>(rt: &impl Abort, s: &mut S, value: T) -> At
 }
 
 /// The cell is free again, and what it held waits.
-pub fn close_cell<S: Space<u64>>(s: &mut S, cell: AtomicOwned<u64>)
+pub fn close_cell<S: Items<u64> + Cells<u64>>(s: &mut S, cell: AtomicOwned<u64>)
     requires seated { IsSeated (S.seat s.old) }
     requires home { cells_home cell ≡ (S.seat s.old).home.cells }
     ensures seat { S.seat s.new ≡ S.seat s.old }
@@ -79,7 +81,7 @@ pub fn close_cell<S: Space<u64>>(s: &mut S, cell: AtomicOwned<u64>)
 }
 
 /// A pointer to what the cell holds.
-pub fn load<'g, S: Space<u64>>(s: &mut S, cell: &AtomicOwned<u64>, guard: &'g Guard) -> Ptr<'g, u64>
+pub fn load<'g, S: Cells<u64>>(s: &mut S, cell: &AtomicOwned<u64>, guard: &'g Guard) -> Ptr<'g, u64>
     requires seated { IsSeated (S.seat s.old) }
     requires home { cells_home cell.now ≡ (S.seat s.old).home.cells }
     requires reader { reader_of guard.now ≡ (S.seat s.old).reader }
@@ -89,7 +91,7 @@ pub fn load<'g, S: Space<u64>>(s: &mut S, cell: &AtomicOwned<u64>, guard: &'g Gu
 }
 
 /// The cell holds a new item, or nothing, with this tag. The number that it held, whose item waits from now on, and the tag before.
-pub fn swapped<S: Space<u64>>(
+pub fn swapped<S: Look<u64> + Items<u64> + Cells<u64>>(
     rt: &impl Abort,
     s: &mut S,
     cell: &AtomicOwned<u64>,
@@ -106,7 +108,7 @@ pub fn swapped<S: Space<u64>>(
 }
 
 /// The cell holds a new item with this tag, if it held what the pointer names.
-pub fn exchanged<'g, S: Space<u64>>(
+pub fn exchanged<'g, S: Look<u64> + Items<u64> + Cells<u64>>(
     rt: &impl Abort,
     s: &mut S,
     cell: &AtomicOwned<u64>,
@@ -149,7 +151,7 @@ pub fn emptied_weakly<S: Space<u64>>(
 }
 
 /// Sets the tag by a condition that holds. How often that was asked, and what it was shown last.
-pub fn asked<S: Space<u64>>(
+pub fn asked<S: Cells<u64>>(
     rt: &impl Abort,
     s: &mut S,
     cell: &AtomicOwned<u64>,
@@ -172,7 +174,7 @@ pub fn asked<S: Space<u64>>(
 }
 
 /// The item has another number from now on. The one before.
-pub fn put<S: Space<u64>>(s: &mut S, owner: &mut Owned<u64>, value: u64) -> Result<u64, Refused>
+pub fn put<S: Edits<u64>>(s: &mut S, owner: &mut Owned<u64>, value: u64) -> Result<u64, Refused>
     requires seated { IsSeated (S.seat s.old) }
     requires home { slots_home owner.old ≡ (S.seat s.old).home.slots }
     ensures seat { S.seat s.new ≡ S.seat s.old }
@@ -185,7 +187,7 @@ pub fn put<S: Space<u64>>(s: &mut S, owner: &mut Owned<u64>, value: u64) -> Resu
 }
 
 /// The item is dropped in its place; or the owner comes back.
-pub fn drop_in_place<S: Space<u64>>(
+pub fn drop_in_place<S: Edits<u64>>(
     s: &mut S,
     owner: Owned<u64>,
 ) -> Result<(), (Owned<u64>, Refused)>
@@ -198,7 +200,7 @@ pub fn drop_in_place<S: Space<u64>>(
 }
 
 /// The item is out as raw.
-pub fn raw<S: Space<u64>>(s: &mut S, owner: Owned<u64>) -> RawPtr<u64>
+pub fn raw<S: RawItems<u64>>(s: &mut S, owner: Owned<u64>) -> RawPtr<u64>
     requires seated { IsSeated (S.seat s.old) }
     requires home { slots_home owner ≡ (S.seat s.old).home.slots }
     ensures seat { S.seat s.new ≡ S.seat s.old }
@@ -207,7 +209,7 @@ pub fn raw<S: Space<u64>>(s: &mut S, owner: Owned<u64>) -> RawPtr<u64>
 }
 
 /// The owner of an item that is out as raw.
-pub fn unraw<S: Space<u64>>(s: &mut S, ptr: RawPtr<u64>) -> Option<Owned<u64>>
+pub fn unraw<S: RawItems<u64>>(s: &mut S, ptr: RawPtr<u64>) -> Option<Owned<u64>>
     requires seated { IsSeated (S.seat s.old) }
     ensures seat { S.seat s.new ≡ S.seat s.old }
     ensures home { IsOfSlots (S.seat s.new).home.slots result }
@@ -216,7 +218,7 @@ pub fn unraw<S: Space<u64>>(s: &mut S, ptr: RawPtr<u64>) -> Option<Owned<u64>>
 }
 
 /// The number that a raw pointer names, where that is out as raw.
-pub fn see<S: Space<u64>>(s: &mut S, ptr: RawPtr<u64>, guard: &Guard) -> Option<u64>
+pub fn see<S: Look<u64> + RawItems<u64>>(s: &mut S, ptr: RawPtr<u64>, guard: &Guard) -> Option<u64>
     requires seated { IsSeated (S.seat s.old) }
     requires reader { reader_of guard.now ≡ (S.seat s.old).reader }
     ensures seat { S.seat s.new ≡ S.seat s.old }

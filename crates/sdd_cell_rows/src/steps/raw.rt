@@ -4,12 +4,12 @@ ghost use Rattle.sdd_base.specs.RawCell.{cells_home};
 ghost use Rattle.sdd_base.specs.Seat.{IsSeated};
 
 use crate::steps::{close, opened};
-use sdd_base::{AtomicRaw, Item, RawPtr, Space};
+use sdd_base::{AtomicRaw, Guards, Item, RawCells, RawPtr};
 use sdd_core::Tag;
 use std::process::Abort;
 
 /// A cell with this pointer.
-pub fn cell<T: Item<T>, S: Space<T>>(rt: &impl Abort, s: &mut S, ptr: RawPtr<T>) -> AtomicRaw<T>
+pub fn cell<T: Item<T>, S: RawCells<T>>(rt: &impl Abort, s: &mut S, ptr: RawPtr<T>) -> AtomicRaw<T>
     requires seated { IsSeated (S.seat s.old) }
     ensures seat { S.seat s.new ≡ S.seat s.old }
     ensures home { cells_home result ≡ (S.seat s.new).home.cells }
@@ -18,7 +18,11 @@ pub fn cell<T: Item<T>, S: Space<T>>(rt: &impl Abort, s: &mut S, ptr: RawPtr<T>)
 }
 
 /// The cell's pointer, under a guard of its own.
-pub fn held<S: Space<u64>>(rt: &impl Abort, s: &mut S, cell: &AtomicRaw<u64>) -> RawPtr<u64>
+pub fn held<S: Guards<u64> + RawCells<u64>>(
+    rt: &impl Abort,
+    s: &mut S,
+    cell: &AtomicRaw<u64>,
+) -> RawPtr<u64>
     requires seated { IsSeated (S.seat s.old) }
     requires home { cells_home cell.now ≡ (S.seat s.old).home.cells }
     ensures seat { S.seat s.new ≡ S.seat s.old }
@@ -32,7 +36,7 @@ pub fn held<S: Space<u64>>(rt: &impl Abort, s: &mut S, cell: &AtomicRaw<u64>) ->
 }
 
 /// The cell has this pointer. The one before.
-pub fn swapped<S: Space<u64>>(
+pub fn swapped<S: Guards<u64> + RawCells<u64>>(
     rt: &impl Abort,
     s: &mut S,
     cell: &AtomicRaw<u64>,
@@ -49,7 +53,7 @@ pub fn swapped<S: Space<u64>>(
 }
 
 /// Sets the tag if it is this one, and tells whether it was.
-pub fn tag_if<S: Space<u64>>(
+pub fn tag_if<S: RawCells<u64>>(
     rt: &impl Abort,
     s: &mut S,
     cell: &AtomicRaw<u64>,
@@ -65,7 +69,7 @@ pub fn tag_if<S: Space<u64>>(
 }
 
 /// The cell has another pointer, if it had this one.
-pub fn exchanged<S: Space<u64>>(
+pub fn exchanged<S: Guards<u64> + RawCells<u64>>(
     rt: &impl Abort,
     s: &mut S,
     cell: &AtomicRaw<u64>,
@@ -83,7 +87,7 @@ pub fn exchanged<S: Space<u64>>(
 }
 
 /// The cell has this pointer, if it was not null. The one before, or the one that it has still.
-pub fn updated<S: Space<u64>>(
+pub fn updated<S: Guards<u64> + RawCells<u64>>(
     rt: &impl Abort,
     s: &mut S,
     cell: &AtomicRaw<u64>,

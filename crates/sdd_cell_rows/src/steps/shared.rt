@@ -6,12 +6,14 @@ ghost use Rattle.sdd_base.specs.Shared.{slots_home, cells_home, IsOfSlots};
 ghost use Rattle.sdd_base.specs.Seat.{IsSeated};
 
 use crate::steps::{Read, close, opened, seen};
-use sdd_base::{AtomicShared, Guard, Item, Ptr, Shared, Space};
+use sdd_base::{
+    AtomicShared, Cells, Edits, Guard, Guards, Item, Items, Look, Ptr, Shared, SharedItems, Space,
+};
 use sdd_core::{Refused, Tag};
 use std::process::Abort;
 
 /// The owner of a new item.
-pub fn made<T: Item<T>, S: Space<T>>(rt: &impl Abort, s: &mut S, value: T) -> Shared<T>
+pub fn made<T: Item<T>, S: Items<T>>(rt: &impl Abort, s: &mut S, value: T) -> Shared<T>
     requires seated { IsSeated (S.seat s.old) }
     requires home { AreOf (S.seat s.old).home (T.holds value) }
     ensures seat { S.seat s.new ≡ S.seat s.old }
@@ -24,7 +26,7 @@ pub fn made<T: Item<T>, S: Space<T>>(rt: &impl Abort, s: &mut S, value: T) -> Sh
 }
 
 /// The owner of an item that a closure makes.
-pub fn made_by_closure<S: Space<u64>>(rt: &impl Abort, s: &mut S, value: u64) -> Shared<u64>
+pub fn made_by_closure<S: Items<u64>>(rt: &impl Abort, s: &mut S, value: u64) -> Shared<u64>
     requires seated { IsSeated (S.seat s.old) }
     ensures seat { S.seat s.new ≡ S.seat s.old }
     ensures home { slots_home result ≡ (S.seat s.new).home.slots }
@@ -36,7 +38,7 @@ pub fn made_by_closure<S: Space<u64>>(rt: &impl Abort, s: &mut S, value: u64) ->
 }
 
 /// Gives the owner up, and tells whether it was the last.
-pub fn release<S: Space<u64>>(s: &mut S, owner: Shared<u64>) -> bool
+pub fn release<S: Items<u64>>(s: &mut S, owner: Shared<u64>) -> bool
     requires seated { IsSeated (S.seat s.old) }
     requires home { slots_home owner ≡ (S.seat s.old).home.slots }
     ensures seat { S.seat s.new ≡ S.seat s.old }
@@ -45,7 +47,7 @@ pub fn release<S: Space<u64>>(s: &mut S, owner: Shared<u64>) -> bool
 }
 
 /// One owner more.
-pub fn copied<S: Space<u64>>(rt: &impl Abort, s: &mut S, owner: &Shared<u64>) -> Shared<u64>
+pub fn copied<S: SharedItems<u64>>(rt: &impl Abort, s: &mut S, owner: &Shared<u64>) -> Shared<u64>
     requires seated { IsSeated (S.seat s.old) }
     requires home { slots_home owner.now ≡ (S.seat s.old).home.slots }
     ensures seat { S.seat s.new ≡ S.seat s.old }
@@ -55,7 +57,11 @@ pub fn copied<S: Space<u64>>(rt: &impl Abort, s: &mut S, owner: &Shared<u64>) ->
 }
 
 /// Whether one owner more can be had of the pointer's item; if so it is given up again, and tells whether it was the last.
-pub fn upgraded<S: Space<u64>>(rt: &impl Abort, s: &mut S, ptr: Ptr<'_, u64>) -> Option<bool>
+pub fn upgraded<S: Items<u64> + SharedItems<u64>>(
+    rt: &impl Abort,
+    s: &mut S,
+    ptr: Ptr<'_, u64>,
+) -> Option<bool>
     requires seated { IsSeated (S.seat s.old) }
     ensures seat { S.seat s.new ≡ S.seat s.old }
 {
@@ -64,7 +70,10 @@ pub fn upgraded<S: Space<u64>>(rt: &impl Abort, s: &mut S, ptr: Ptr<'_, u64>) ->
 }
 
 /// What another owner is refused with. If it is had, it is given up again.
-pub fn refused_copy<S: Space<u64>>(s: &mut S, owner: &Shared<u64>) -> Option<Refused>
+pub fn refused_copy<S: Items<u64> + SharedItems<u64>>(
+    s: &mut S,
+    owner: &Shared<u64>,
+) -> Option<Refused>
     requires seated { IsSeated (S.seat s.old) }
     requires home { slots_home owner.now ≡ (S.seat s.old).home.slots }
     ensures seat { S.seat s.new ≡ S.seat s.old }
@@ -79,7 +88,10 @@ pub fn refused_copy<S: Space<u64>>(s: &mut S, owner: &Shared<u64>) -> Option<Ref
 }
 
 /// The same of an owner of the pointer's item.
-pub fn refused_upgrade<S: Space<u64>>(s: &mut S, ptr: Ptr<'_, u64>) -> Option<Refused>
+pub fn refused_upgrade<S: Look<u64> + Items<u64> + SharedItems<u64>>(
+    s: &mut S,
+    ptr: Ptr<'_, u64>,
+) -> Option<Refused>
     requires seated { IsSeated (S.seat s.old) }
     ensures seat { S.seat s.new ≡ S.seat s.old }
 {
@@ -113,7 +125,7 @@ pub fn refused_owner<S: Space<u64>>(
 }
 
 /// The same of another cell that holds one.
-pub fn refused_cell<S: Space<u64>>(
+pub fn refused_cell<S: Items<u64> + Cells<u64>>(
     s: &mut S,
     cell: &AtomicShared<u64>,
     guard: &Guard,
@@ -133,7 +145,7 @@ pub fn refused_cell<S: Space<u64>>(
 }
 
 /// The number of the owner's item. The owner is given up.
-pub fn spent<S: Space<u64>>(s: &mut S, owner: Option<Shared<u64>>) -> Option<u64>
+pub fn spent<S: Look<u64> + Items<u64>>(s: &mut S, owner: Option<Shared<u64>>) -> Option<u64>
     requires seated { IsSeated (S.seat s.old) }
     requires home { IsOfSlots (S.seat s.old).home.slots owner }
     ensures seat { S.seat s.new ≡ S.seat s.old }
@@ -145,7 +157,7 @@ pub fn spent<S: Space<u64>>(s: &mut S, owner: Option<Shared<u64>>) -> Option<u64
 }
 
 /// A cell that holds the owner of a new item.
-pub fn cell<T: Item<T>, S: Space<T>>(rt: &impl Abort, s: &mut S, value: T) -> AtomicShared<T>
+pub fn cell<T: Item<T>, S: Cells<T>>(rt: &impl Abort, s: &mut S, value: T) -> AtomicShared<T>
     requires seated { IsSeated (S.seat s.old) }
     requires home { AreOf (S.seat s.old).home (T.holds value) }
     ensures seat { S.seat s.new ≡ S.seat s.old }
@@ -158,7 +170,7 @@ pub fn cell<T: Item<T>, S: Space<T>>(rt: &impl Abort, s: &mut S, value: T) -> At
 }
 
 /// The cell is free again, and what it held is given up.
-pub fn close_cell<S: Space<u64>>(s: &mut S, cell: AtomicShared<u64>)
+pub fn close_cell<S: Items<u64> + Cells<u64>>(s: &mut S, cell: AtomicShared<u64>)
     requires seated { IsSeated (S.seat s.old) }
     requires home { cells_home cell ≡ (S.seat s.old).home.cells }
     ensures seat { S.seat s.new ≡ S.seat s.old }
@@ -188,7 +200,7 @@ pub fn emptied_weakly<S: Space<u64>>(
 }
 
 /// Another cell that holds one owner more of the same item, or nothing.
-pub fn copied_cell<S: Space<u64>>(
+pub fn copied_cell<S: Guards<u64> + Cells<u64>>(
     rt: &impl Abort,
     s: &mut S,
     cell: &AtomicShared<u64>,
@@ -205,7 +217,7 @@ pub fn copied_cell<S: Space<u64>>(
 }
 
 /// The item has another number from now on. The one before.
-pub fn put<S: Space<u64>>(s: &mut S, owner: &mut Shared<u64>, value: u64) -> Result<u64, Refused>
+pub fn put<S: Edits<u64>>(s: &mut S, owner: &mut Shared<u64>, value: u64) -> Result<u64, Refused>
     requires seated { IsSeated (S.seat s.old) }
     requires home { slots_home owner.old ≡ (S.seat s.old).home.slots }
     ensures seat { S.seat s.new ≡ S.seat s.old }
@@ -218,7 +230,7 @@ pub fn put<S: Space<u64>>(s: &mut S, owner: &mut Shared<u64>, value: u64) -> Res
 }
 
 /// The owner goes in place, and tells whether it was the last.
-pub fn dropped_in_place<S: Space<u64>>(rt: &impl Abort, s: &mut S, owner: Shared<u64>) -> bool
+pub fn dropped_in_place<S: Edits<u64>>(rt: &impl Abort, s: &mut S, owner: Shared<u64>) -> bool
     requires seated { IsSeated (S.seat s.old) }
     requires home { slots_home owner ≡ (S.seat s.old).home.slots }
     ensures seat { S.seat s.new ≡ S.seat s.old }

@@ -16,13 +16,13 @@ back w k is =
 
 pub returns-clause-world : goal.returns-clause-world
 returns-clause-world g c =
-    let w = g.S.Guards.world c.args.s.now in
+    let w = g.S.Caller.world c.args.s.now in
     let slot : ℕ = slot_of c.args.owner in
     let here : slot_of c.in-Some.owner ≡ slot =
     ap (λ (o : Option ℕ). unwrap_or o 0) (sym c.in-Some.ensures.slot ∙ c.into_raw-ptr.ensures.slot) in
     let out = c.into_raw-ptr.ensures.exact c.requires.exact in
     let there = (c.in-Some.ensures.exact (rw c.into_raw-ptr.ensures.seat c.requires.exact)).1 in
     there
-    ∙ ap (λ (k : ℕ). with_standing (g.S.Guards.world c.into_raw-ptr.new.s) k Owned) here
+    ∙ ap (λ (k : ℕ). with_standing (g.S.Caller.world c.into_raw-ptr.new.s) k Owned) here
     ∙ ap (λ (u : World _). with_standing u slot Owned) out
     ∙ back w slot (c.into_raw-ptr.ensures.owned c.requires.exact)

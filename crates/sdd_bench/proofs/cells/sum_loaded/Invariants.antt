@@ -4,7 +4,7 @@ use Rattle.sdd_bench.proofs.cells.sum_loaded.Given as goal
 
 abbrev pub invariant-loop-turn : goal.invariant-loop-turn
 invariant-loop-turn g l =
-    let s = g.S.Guards.seat in let o = g.S.Guards.own in let w = g.S.Guards.world in
+    let s = g.S.Caller.seat in let o = g.S.Caller.own in let w = g.S.Caller.world in
     record {
       seat : s l.space ≡ s l.fn.space;
       own : o l.space ≡ o l.fn.space;

@@ -13,7 +13,7 @@ pub swap-done-requires-clause-filled : goal.swap-done-requires-clause-filled
 swap-done-requires-clause-filled g c = λ exact.
     let was = c.loop-turn.invariant in
     let first = rw c.in_ok-guard.ensures.seat at exact in
-    let world = g.S.Guards.world in
+    let world = g.S.Caller.world in
     opened-filled (world c.loop-turn.space) (world c.new.new.s) _ (cell_of c.args.cell.now)
     (c.in_ok-guard.ensures.exact first).1 (was.filled (rw was.leaves.seat at first))
 

@@ -6,7 +6,7 @@ use Rattle.sdd_bench.proofs.turns.jobs.Goals as goal
 pub returns-in-Err : goal.returns-in-Err
 returns-in-Err g c =
     let opening = c.in_ok-guard.ensures in let none = c.in-Err.ensures in let closing = c.close.ensures in
-    let own = g.S.Guards.own in let world = g.S.Guards.world in
+    let own = g.S.Caller.own in let world = g.S.Caller.world in
     in-turn _ _ _ _ _ _ _ _ _ c.loop.invariant
     (under-guard _ _ _ _ _ (own c.new.new.s) (own c.defer_execute-deferred.new.s) _ _ (world c.new.new.s) (world c.defer_execute-deferred.new.s) _
     opening.seat opening.own.1 (λ exact. (opening.exact exact).1)
@@ -21,7 +21,7 @@ returns-in-Err g c =
 pub loop-preserved : goal.loop-preserved
 loop-preserved g c =
     let opening = c.in_ok-guard.ensures in let deferring = c.in_default.ensures in let closing = c.close.ensures in
-    let own = g.S.Guards.own in let world = g.S.Guards.world in
+    let own = g.S.Caller.own in let world = g.S.Caller.world in
     in-turn _ _ _ _ _ _ _ _ _ c.loop.invariant
     (under-guard _ _ _ _ _ (own c.new.new.s) (own c.defer_execute-deferred.new.s) _ _ (world c.new.new.s) (world c.defer_execute-deferred.new.s) _
     opening.seat opening.own.1 (λ exact. (opening.exact exact).1)

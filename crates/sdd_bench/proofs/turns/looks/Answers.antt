@@ -7,7 +7,7 @@ use Rattle.sdd_bench.proofs.turns.looks.Goals as goal
 pub returns-in-Ok-new : goal.returns-in-Ok-new
 returns-in-Ok-new g c =
     let one = c.in-Ok.ensures in let other = c.in-Ok-new.ensures in let first = c.retire.ensures in let second = c.retire-in-Ok-new.ensures in
-    let world = g.S.Guards.world in
+    let world = g.S.Caller.world in
     two-leave _ _ _ _ _ _ _ _ _ _
     (world c.args.space.now) (world c.new.new.s) (world c.new-2.new.s) (world c.retire.new.s) (world c.retire-in-Ok-new.new.s)
     (slot_of c.in-Ok.one) (slot_of c.in-Ok-new.other) 1 3
@@ -16,7 +16,7 @@ returns-in-Ok-new g c =
 pub returns-in-Err-new : goal.returns-in-Err-new
 returns-in-Err-new g c =
     let one = c.in-Ok.ensures in let none = c.in-Err-new.ensures in let last = c.retire-in-Err-new.ensures in
-    let world = g.S.Guards.world in
+    let world = g.S.Caller.world in
     item-leaves _ _ _ _ _ _ (world c.args.space.now) (world c.new-2.new.s) (world c.retire-in-Err-new.new.s) (slot_of c.in-Ok.one) 1
     (none.seat ∙ one.seat) (none.own ∙ one.own)
     (λ exact.

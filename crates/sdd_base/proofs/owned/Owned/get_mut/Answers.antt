@@ -9,7 +9,7 @@ use Rattle.sdd_base.proofs.owned.Owned.get_mut.Goals as goal
 pub returns-clause-exact : goal.returns-clause-exact
 returns-clause-exact g c = λ is_exact.
     let slot : ℕ = slot_of c.args.self.now in
-    let w = g.S.Guards.world c.args.s.now in
+    let w = g.S.Caller.world c.args.s.now in
     let found = rw (c.right.ensures.right) at (c.edit.ensures.owned is_exact) in
     let sole : standing_at w slot ≡ Some Owned = found.alone (rw (c.right.ensures.right) at c.right.ensures.kind) in
     let said = rw (c.right.ensures.right) at (c.edit.ensures.exact is_exact) in

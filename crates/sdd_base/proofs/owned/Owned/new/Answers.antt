@@ -9,8 +9,8 @@ pub returns-in-Ok : goal.returns-in-Ok
 returns-in-Ok g c =
     let put = c.in-Ok.ensures in
     let same = c.of_right.ensures in
-    let was = g.S.Guards.world c.args.s.now in
-    let now = g.S.Guards.world c.make.new.self in
+    let was = g.S.Caller.world c.args.s.now in
+    let now = g.S.Caller.world c.make.new.self in
     record {
       seat = put.seat;
       own = put.own;

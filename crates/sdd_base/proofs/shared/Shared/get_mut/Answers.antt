@@ -8,7 +8,7 @@ use Rattle.sdd_base.proofs.shared.Shared.get_mut.Goals as goal
 pub returns-clause-exact : goal.returns-clause-exact
 returns-clause-exact g c = λ is_exact.
     let slot : ℕ = slot_of c.args.self.now in
-    let w = g.S.Guards.world c.args.s.now in
+    let w = g.S.Caller.world c.args.s.now in
     let found = rw (c.right.ensures.right) at (c.edit.ensures.owned is_exact) in
     let several = found.together (rw (c.right.ensures.right) at c.right.ensures.kind) in
     let said = rw (c.right.ensures.right) at (c.edit.ensures.exact is_exact) in (

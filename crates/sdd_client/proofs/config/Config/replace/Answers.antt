@@ -7,7 +7,7 @@ use Rattle.sdd_client.proofs.config.Config.replace.Goals as goal
 
 pub returns-clause-exact : goal.returns-clause-exact
 returns-clause-exact g c = λ exact slot owners old set.
-    let seat = g.S.Guards.seat in let world = g.S.Guards.world in
+    let seat = g.S.Caller.seat in let world = g.S.Caller.world in
     let next : ℕ = slot_of c.in_ok-next.next in
     let make = c.in_ok-next.ensures in let swap = c.swap-before.ensures in let release = c.release.ensures in
     let made = make.exact exact in
@@ -16,7 +16,7 @@ returns-clause-exact g c = λ exact slot owners old set.
     let second : IsExact (seat c.swap-before.new.s) = rw swap.seat first in
     let gone = rw (swap.seat, make.seat) at (release.exact second) in
     let third : IsExact (seat c.release.new.s) = rw release.seat second in
-    let shown = (g.met.S.Guards.shows_is_value c.release.new.s third next c.args.value).0
+    let shown = (g.met.S.Caller.shows_is_value c.release.new.s third next c.args.value).0
     (release.keeps next c.args.value (swap.keeps next c.args.value make.shown)) in
     let done =
     replaces (world c.args.s.now) (seat c.args.s.now).place (cell_of c.args.self.now) slot owners next old c.args.value set made.0

@@ -3,7 +3,7 @@ use Rattle.sdd_token.specs.Right.{number_of}
 use Rattle.sdd_base.specs.Steps.{with_cell}
 use Rattle.sdd_store.specs.declared.standing.Cell.{Cell}
 use Rattle.sdd_inside.specs.Core.{Core}
-use Rattle.sdd_world.proofs.turn.TurnSpace.set_tag_if.Goals as goal
+use Rattle.sdd_world.proofs.turn.TurnCells.set_tag_if.Goals as goal
 
 pub returns-then-not-condition-clause-exact : goal.returns-then-not-condition-clause-exact
 returns-then-not-condition-clause-exact g c = λ _.

@@ -5,7 +5,7 @@ use Rattle.sdd_token.specs.Right.{number_of}
 use Rattle.sdd_base.proofs.Housed.{live-is}
 use Rattle.sdd_base.proofs.InPlace.{dropped-others}
 use Rattle.sdd_base.proofs.Own.{gives-grows, Gives-dropped}
-use Rattle.sdd_world.proofs.turn.TurnSpace.drop_in_place.Goals as goal
+use Rattle.sdd_world.proofs.turn.TurnEdits.drop_in_place.Goals as goal
 
 pub invariant_of-world : goal.invariant_of-world
 invariant_of-world g c =

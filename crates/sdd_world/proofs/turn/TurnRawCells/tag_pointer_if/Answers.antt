@@ -4,7 +4,7 @@ use Rattle.sdd_store.specs.declared.standing.Pointer.{Pointer}
 use Rattle.sdd_base.specs.RawPtr.{pointer_of}
 use Rattle.sdd_base.specs.Steps.{with_pointer}
 use Rattle.sdd_inside.specs.Core.{Core}
-use Rattle.sdd_world.proofs.turn.TurnSpace.tag_pointer_if.Goals as goal
+use Rattle.sdd_world.proofs.turn.TurnRawCells.tag_pointer_if.Goals as goal
 
 pub returns-then-not-condition-clause-exact : goal.returns-then-not-condition-clause-exact
 returns-then-not-condition-clause-exact g c = λ _.

@@ -2,7 +2,7 @@ use Rattle.std.proofs.Common.{ℕ, ◌≡◌, ◌∙◌, arith, false, true, ref
 use Rattle.sdd_token.specs.Right.{raw_number_of}
 use Rattle.sdd_base.proofs.Own.{collector-own}
 use Rattle.sdd_inside.proofs.Collecting.{count-closed}
-use Rattle.sdd_world.proofs.turn.TurnSpace.close_collector.Goals as goal
+use Rattle.sdd_world.proofs.turn.TurnCollectors.close_collector.Goals as goal
 
 pub returns-clause-own : goal.returns-clause-own
 returns-clause-own g c =

@@ -6,7 +6,7 @@ use Rattle.sdd_store.specs.declared.standing.Cell.{Cell}
 use Rattle.sdd_standings.specs.Cells.{cell_with}
 use Rattle.sdd_slots.proofs.SlotsKept.{inside-some}
 use Rattle.sdd_base.specs.Ptr.{cell_seen}
-use Rattle.sdd_world.proofs.turn.TurnSpace.exchange.Goals as goal
+use Rattle.sdd_world.proofs.turn.TurnCells.exchange.Goals as goal
 
 -- after a swap the pointer is to what the cell was given
 pub returns-in-Ok-clause-now : goal.returns-in-Ok-clause-now

@@ -4,7 +4,7 @@ use Rattle.sdd_store.specs.declared.standing.Pointer.{Pointer}
 use Rattle.sdd_base.specs.declared.raw_ptr.RawPtr.{RawPtr}
 use Rattle.sdd_base.specs.Steps.{with_pointer}
 use Rattle.sdd_inside.specs.Core.{Core}
-use Rattle.sdd_world.proofs.turn.TurnSpace.update_pointer.Goals as goal
+use Rattle.sdd_world.proofs.turn.TurnRawCells.update_pointer.Goals as goal
 
 pub returns-clause-exact : goal.returns-clause-exact
 returns-clause-exact g c = λ _.

@@ -4,7 +4,7 @@ use Rattle.std.proofs.lemmas.List.{get_or-set_same, length-map}
 use Rattle.std.proofs.lemmas.Bool.{false≢true}
 use Rattle.sdd_store.specs.Table.{IsFull}
 use Rattle.sdd_token.specs.Right.{number_of}
-use Rattle.sdd_world.proofs.turn.TurnSpace.make_in_cell.Goals as goal
+use Rattle.sdd_world.proofs.turn.TurnCells.make_in_cell.Goals as goal
 
 -- what is made takes no cell
 pub fill_cell-requires-clause-room : goal.fill_cell-requires-clause-room

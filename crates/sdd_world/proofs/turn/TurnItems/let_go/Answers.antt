@@ -1,7 +1,7 @@
 use Rattle.std.proofs.Common.{ap, arith}
 use Rattle.std.specs.Prelude.{is_some}
 use Rattle.sdd_base.proofs.Housed.{live-is}
-use Rattle.sdd_world.proofs.turn.TurnSpace.let_go.Goals as goal
+use Rattle.sdd_world.proofs.turn.TurnItems.let_go.Goals as goal
 
 pub invariant_of-world : goal.invariant_of-world
 invariant_of-world g c =

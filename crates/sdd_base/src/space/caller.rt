@@ -1,0 +1,29 @@
+ghost use Rattle.std.specs.Prelude.{◌≡◌, ◌↔◌, ℕ, Some};
+ghost use Rattle.sdd_store.specs.declared.time.Participant.{Participant};
+ghost use Rattle.sdd_base.specs.World.{World, place_at, value_at};
+ghost use Rattle.sdd_base.specs.Seat.{Seat, IsExact};
+ghost use Rattle.sdd_base.specs.Known.{Known};
+
+use crate::item::Item;
+use crate::look::Shows;
+
+/// One participant of a world or domain, who calls.
+pub trait Caller<T: Item<T>>: Shows<T> {
+    /// Who calls, and on which loan of which world: no call changes it.
+    ghost seat: { Self → Seat };
+    /// What the participant keeps of its own.
+    ghost own: { Self → Participant };
+    /// What it knows of the count of epochs.
+    ghost known: { Self → Known };
+    /// What the calls change.
+    ghost world: { Self → World T };
+
+    /// The space is where the participant sits.
+    ghost home_is_seat: { (s : Self) → Self.home s ≡ (seat s).home };
+
+    /// In an exact space what the participant keeps of its own is what the world keeps of it.
+    ghost own_is_place: { (s : Self) → IsExact (seat s) → own s ≡ place_at (world s) (seat s).place };
+
+    /// In an exact space a slot shows the value that is in it.
+    ghost shows_is_value: { (s : Self) → IsExact (seat s) → (k : ℕ) (value : T) → Self.shows s k value ↔ (value_at (world s) k ≡ Some value) };
+}

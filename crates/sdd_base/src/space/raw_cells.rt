@@ -1,0 +1,123 @@
+ghost use Rattle.std.specs.Prelude.{◌≡◌, ◌≢◌, IfOk, IsOk, MatchResult, None, Some, if◌then◌else◌};
+ghost use Rattle.sdd_store.specs.Table.{IsEmptyAt, IsFull};
+ghost use Rattle.sdd_base.specs.World.{pointer_at};
+ghost use Rattle.sdd_base.specs.Seat.{IsSeated, IsExact};
+ghost use Rattle.sdd_base.specs.Known.{KnowsOn};
+ghost use Rattle.sdd_token.specs.Right.{raw_number_of, raw_home_of};
+ghost use Rattle.sdd_base.specs.Ptr.{KeepsShown};
+ghost use Rattle.sdd_base.specs.RawPtr as raw;
+ghost use Rattle.sdd_base.specs.Out.{IsNullCell};
+ghost use Rattle.sdd_base.specs.Steps.{with_pointer, pointing, without_cell};
+
+use crate::item::Item;
+use crate::raw_ptr::RawPtr;
+use crate::space::caller::Caller;
+use sdd_core::{Refused, Tag};
+use sdd_store::Pointer;
+use sdd_token::RawRight;
+
+/// The cells of a world or domain that hold raw pointers.
+pub trait RawCells<T: Item<T>>: Caller<T> {
+    /// A free cell that points to this.
+    fn make_raw_cell(&mut self, pointer: Pointer) -> Result<RawRight, Refused>
+        requires seated { IsSeated (Self.seat self.old) }
+        ensures seat { Self.seat self.new ≡ Self.seat self.old }
+        ensures own { Self.own self.new ≡ Self.own self.old }
+        ensures known { KnowsOn (Self.known self.old) (Self.known self.new) }
+        ensures home { IfOk result (λ cell. raw_home_of cell ≡ (Self.seat self.old).home.cells) }
+        ensures exact { IsExact (Self.seat self.old) → MatchResult result
+            (λ cell. IsEmptyAt (Self.world self.old).cells (raw_number_of cell) ×
+            (Self.world self.new ≡ pointing (Self.world self.old) (raw_number_of cell) pointer))
+            (λ e. IsFull (Self.world self.old).cells × (e ≡ Refused.NoCell) × (Self.world self.new ≡ Self.world self.old)) }
+        ensures keeps { KeepsShown (Self.shows self.old) (Self.shows self.new) };
+
+    /// What a raw cell points to at this moment.
+    fn pointer(&mut self, cell: &RawRight) -> Pointer
+        requires seated { IsSeated (Self.seat self.old) }
+        requires home { raw_home_of cell.now ≡ (Self.seat self.old).home.cells }
+        ensures seat { Self.seat self.new ≡ Self.seat self.old }
+        ensures own { Self.own self.new ≡ Self.own self.old }
+        ensures known { KnowsOn (Self.known self.old) (Self.known self.new) }
+        ensures exact { IsExact (Self.seat self.old) →
+            (pointer_at (Self.world self.old) (raw_number_of cell.now) ≡ Some result) × (Self.world self.new ≡ Self.world self.old) }
+        ensures keeps { KeepsShown (Self.shows self.old) (Self.shows self.new) };
+
+    /// A raw cell points to this. What it pointed to.
+    fn swap_pointer(&mut self, cell: &RawRight, new: Pointer) -> Pointer
+        requires seated { IsSeated (Self.seat self.old) }
+        requires home { raw_home_of cell.now ≡ (Self.seat self.old).home.cells }
+        ensures seat { Self.seat self.new ≡ Self.seat self.old }
+        ensures own { Self.own self.new ≡ Self.own self.old }
+        ensures known { KnowsOn (Self.known self.old) (Self.known self.new) }
+        ensures exact { IsExact (Self.seat self.old) →
+            (pointer_at (Self.world self.old) (raw_number_of cell.now) ≡ Some result) ×
+            (Self.world self.new ≡ with_pointer (Self.world self.old) (raw_number_of cell.now) new) }
+        ensures keeps { KeepsShown (Self.shows self.old) (Self.shows self.new) };
+
+    /// The same, if it points to what was expected; else what it points to comes back.
+    fn exchange_pointer(
+        &mut self,
+        cell: &RawRight,
+        current: Pointer,
+        new: Pointer,
+    ) -> Result<(), Pointer>
+        requires seated { IsSeated (Self.seat self.old) }
+        requires home { raw_home_of cell.now ≡ (Self.seat self.old).home.cells }
+        ensures seat { Self.seat self.new ≡ Self.seat self.old }
+        ensures own { Self.own self.new ≡ Self.own self.old }
+        ensures known { KnowsOn (Self.known self.old) (Self.known self.new) }
+        ensures exact { IsExact (Self.seat self.old) → MatchResult result
+            (λ _. (pointer_at (Self.world self.old) (raw_number_of cell.now) ≡ Some current) ×
+            (Self.world self.new ≡ with_pointer (Self.world self.old) (raw_number_of cell.now) new))
+            (λ now. (pointer_at (Self.world self.old) (raw_number_of cell.now) ≡ Some now) × (now ≢ current) × (Self.world self.new ≡ Self.world self.old)) }
+        ensures keeps { KeepsShown (Self.shows self.old) (Self.shows self.new) };
+
+    /// A raw cell's pointer has another tag, if the condition holds of it.
+    fn tag_pointer_if<F: FnMut(RawPtr<T>) -> bool>(
+        &mut self,
+        cell: &RawRight,
+        tag: Tag,
+        condition: F,
+    ) -> Result<bool, Refused>
+        requires seated { IsSeated (Self.seat self.old) }
+        requires home { raw_home_of cell.now ≡ (Self.seat self.old).home.cells }
+        requires callable { F.IsAlwaysCallable condition }
+        ensures seat { Self.seat self.new ≡ Self.seat self.old }
+        ensures own { Self.own self.new ≡ Self.own self.old }
+        ensures known { KnowsOn (Self.known self.old) (Self.known self.new) }
+        ensures exact { IsExact (Self.seat self.old) → IsOk result × IfOk result (λ changed. (ptr : RawPtr T) ×
+            (pointer_at (Self.world self.old) (raw_number_of cell.now) ≡ Some (raw.pointer_of ptr)) × F.post condition ptr changed ×
+            (Self.world self.new ≡ (if changed
+            then with_pointer (Self.world self.old) (raw_number_of cell.now) (record (raw.pointer_of ptr) { tag = tag }) else Self.world self.old))) }
+        ensures keeps { KeepsShown (Self.shows self.old) (Self.shows self.new) };
+
+    /// A raw cell points to what `f` makes of its pointer, if that is anything. What it pointed to, or points to still.
+    fn update_pointer<F: FnMut(RawPtr<T>) -> Option<RawPtr<T>>>(
+        &mut self,
+        cell: &RawRight,
+        f: F,
+    ) -> Result<Result<RawPtr<T>, RawPtr<T>>, Refused>
+        requires seated { IsSeated (Self.seat self.old) }
+        requires home { raw_home_of cell.now ≡ (Self.seat self.old).home.cells }
+        requires callable { F.IsAlwaysCallable f }
+        ensures seat { Self.seat self.new ≡ Self.seat self.old }
+        ensures own { Self.own self.new ≡ Self.own self.old }
+        ensures known { KnowsOn (Self.known self.old) (Self.known self.new) }
+        ensures exact { IsExact (Self.seat self.old) → IsOk result × IfOk result (λ updated. MatchResult updated
+            (λ was. (next : RawPtr T) × (pointer_at (Self.world self.old) (raw_number_of cell.now) ≡ Some (raw.pointer_of was)) × F.post f was (Some next) ×
+            (Self.world self.new ≡ with_pointer (Self.world self.old) (raw_number_of cell.now) (raw.pointer_of next)))
+            (λ now. (pointer_at (Self.world self.old) (raw_number_of cell.now) ≡ Some (raw.pointer_of now)) × F.post f now None ×
+            (Self.world self.new ≡ Self.world self.old))) }
+        ensures keeps { KeepsShown (Self.shows self.old) (Self.shows self.new) };
+
+    /// Gives a raw cell up. It holds nothing.
+    fn close_raw_cell(&mut self, cell: RawRight)
+        requires seated { IsSeated (Self.seat self.old) }
+        requires home { raw_home_of cell ≡ (Self.seat self.old).home.cells }
+        ensures seat { Self.seat self.new ≡ Self.seat self.old }
+        ensures own { Self.own self.new ≡ Self.own self.old }
+        ensures known { KnowsOn (Self.known self.old) (Self.known self.new) }
+        ensures exact { IsExact (Self.seat self.old) → IsNullCell (Self.world self.old) (raw_number_of cell) ×
+            (Self.world self.new ≡ without_cell (Self.world self.old) (raw_number_of cell)) }
+        ensures keeps { KeepsShown (Self.shows self.old) (Self.shows self.new) };
+}
