@@ -23,6 +23,5 @@ mod raw_pointers;
 mod shared_owners;
 #[cfg(test)]
 mod steps;
-pub mod value;
-
-pub use value::Value;
+#[cfg(test)]
+mod value;

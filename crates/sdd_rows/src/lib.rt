@@ -22,8 +22,7 @@ mod shown;
 mod slots_and_owners;
 #[cfg(test)]
 mod steps;
-pub mod value;
+#[cfg(test)]
+mod value;
 #[cfg(test)]
 mod world_sizes;
-
-pub use value::Value;
