@@ -1,5 +1,6 @@
 //! Scripts: calls on a world, and what they answer.
 
+mod line;
 pub mod player;
 pub mod runner;
 pub mod scene;

@@ -33,15 +33,15 @@ use Rattle.sdd_steps.specs.declared.holding.ACell.{ACell}
 use Rattle.sdd_steps.specs.declared.holding.ACell.TheVariants.{Sole, Share}
 use Rattle.sdd_steps.specs.declared.holding.Filling.{Filling}
 use Rattle.sdd_hand.specs.declared.participants.Attending.{Attending}
-use Rattle.sdd_stage.specs.declared.stage.Hand.{Hand}
+use Rattle.sdd_hand.specs.declared.stage.Hand.{Hand}
 use Rattle.sdd_desk.specs.Desk.{Desk, opening_at, holding_at, cell_of, in_world, slot_of}
 use Rattle.sdd_desk.specs.Script.{Acts, Meets, HasOpen, IsParticipant, IsCellName, IsValid, slot_put, cell_as}
 use Rattle.sdd_desk.specs.Shown.{IsCell, item_held, item_in}
 use Rattle.sdd_hand.specs.Hand.{attending, FitsIn, Fills, named_owner, dated_if_waiting}
 use Rattle.sdd_steps.specs.Owners.{owner_holding, cell_holding, cell_number, holding_around, filling_holding, filling_kind}
-use Rattle.sdd_stage.specs.Stage.{desk_of, IsTied}
+use Rattle.sdd_hand.specs.Stage.{desk_of, IsTied}
 use Rattle.sdd_cell_acts.specs.Lines.{making_cell}
-use Rattle.sdd_stage.proofs.Acts.{Does, does, goes, still, is, is-there, in_range}
+use Rattle.sdd_hand.proofs.Acts.{Does, does, goes, still, is, is-there, in_range}
 use Rattle.sdd_desk.proofs.Entry.{not-free}
 use Rattle.sdd_desk.proofs.Gone.{counts-cell_closed}
 use Rattle.sdd_desk.proofs.CellGoing.{after_celled, IsPut, put-sole, put-shared, cell-there, held-inside, dates_spilled, calls-celled, dated-celled, sound-celled, calls-tagged, dated-tagged, sound-tagged, calls-cell_closed, dated-cell_closed, sound-cell_closed}

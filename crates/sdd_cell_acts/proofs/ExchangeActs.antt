@@ -41,20 +41,20 @@ use Rattle.sdd_steps.specs.declared.holding.ACell.TheVariants as cell
 use Rattle.sdd_steps.specs.declared.holding.Filling.{Filling}
 use Rattle.sdd_hand.specs.declared.participants.Attending.{Attending}
 use Rattle.sdd_hand.specs.declared.participants.Guarding.{Guarding}
-use Rattle.sdd_stage.specs.declared.stage.Hand.{Hand}
+use Rattle.sdd_hand.specs.declared.stage.Hand.{Hand}
 use Rattle.sdd_desk.specs.Desk.{Desk, holding_at, cell_of, slot_of, sole_slot, shared_slot, shared_cell, opening_at}
 use Rattle.sdd_desk.specs.Script.{Meets, HasOpen, IsCellName, IsSharedCell, CanCompare, Fits, IsNameOf, IsGivenBack, IsShareFull, MayShare, shared_once_more, slot_compared, slot_put, owner_as, owners_put, owners_taken}
 use Rattle.sdd_desk.specs.Script.AreCalls.{none as no_call, one_more}
 use Rattle.sdd_desk.specs.Shown.{IsCell, item_held}
 use Rattle.sdd_hand.specs.Hand.{attending, named_owner, Fills, FitsIn, IsGiven, given_back, CanPutBack, owners_back, CanCompareAt}
 use Rattle.sdd_steps.specs.Owners.{owner_holding, cell_holding, cell_kind, cell_number, filling_holding, held_as}
-use Rattle.sdd_stage.specs.Stage.{desk_of, IsTied}
+use Rattle.sdd_hand.specs.Stage.{desk_of, IsTied}
 use Rattle.sdd_desk.specs.Held.{holding_first}
 use Rattle.sdd_desk.proofs.Going.{dated-shared}
 use Rattle.sdd_desk.proofs.CellGoing.{put-fits, held-inside, calls-swapped, dated-swapped, sound-swapped, calls-taken, dated-taken, sound-taken, calls-copied, dated-copied, sound-copied}
 use Rattle.sdd_desk.proofs.Entry.{at-default, inside}
-use Rattle.sdd_stage.proofs.Missing.{points, points-not}
-use Rattle.sdd_stage.proofs.Acts.{Goes, Does, does, goes, goes-shared, is-there, in_range, stays-here}
+use Rattle.sdd_hand.proofs.Missing.{points, points-not}
+use Rattle.sdd_hand.proofs.Acts.{Goes, Does, does, goes, goes-shared, is-there, in_range, stays-here}
 
 -- what a name of a cell stands for
 pub named-cell : (h : Hand) (c : ℕ) (x : ACell) → slice_index_or h.cells.entries.items c None ≡ Some x →

@@ -1,5 +1,5 @@
 //! What participants do with cells.
-#![tactic(auto, using(sdd_stage::proofs::Taken::in_hand))]
+#![tactic(auto, using(sdd_hand::proofs::Taken::in_hand))]
 
 ghost use Rattle.std.specs.Prelude.{◌≡◌, ◌<◌, MatchResult, Some};
 ghost use Rattle.sdd_store.specs.declared.standing.Cell.{Cell};
@@ -8,11 +8,11 @@ ghost use Rattle.sdd_desk.specs.Script.{Acts};
 
 use sdd_core::{Refused, Tag};
 use sdd_desk::Ownership;
+use sdd_hand::Stage;
 use sdd_hand::items::date_if_waiting;
 use sdd_hand::owners::{fits, take_filling};
 use sdd_hand::participants::under;
 use sdd_lines::{Action, Call, CellName, GuardName, ItemName, OwnerName, PlaceName, Reply};
-use sdd_stage::Stage;
 use sdd_store::Cell;
 use sdd_turns::cells::{cell_around, cell_loaded, close_at, slot_in, tag_if, tag_of};
 use sdd_world::inner::has_no_cell;

@@ -1,16 +1,16 @@
 //! What participants do with the owners that cells hold.
-#![tactic(auto, using(sdd_stage::proofs::Taken::in_hand))]
+#![tactic(auto, using(sdd_hand::proofs::Taken::in_hand))]
 
 ghost use Rattle.std.specs.Prelude.{◌≡◌, ◌<◌, None, Some, MatchResult};
 ghost use Rattle.sdd_store.specs.declared.standing.Cell.{Cell};
 ghost use Rattle.sdd_desk.specs.Script.{Acts};
 
 use sdd_core::{Refused, Tag};
+use sdd_hand::Stage;
 use sdd_hand::items::{item_seen, slot_compared};
 use sdd_hand::owners::{fits, give_filling, put_back, shared_cell_of, take_filling, told_back};
 use sdd_hand::participants::under;
 use sdd_lines::{Action, Call, CellName, GuardName, ItemName, OwnerName, PlaceName, Reply};
-use sdd_stage::Stage;
 use sdd_steps::holding::{ACell, AnOwner};
 use sdd_store::Cell;
 use sdd_turns::exchanges::{copy_held, exchange_at, share_held, swap_in, take_out};

@@ -6,8 +6,8 @@ ghost use Rattle.sdd_cell_acts.specs.Lines.{IsCellAct, IsHeldAct};
 use crate::{cells, exchanges};
 use sdd_core::Refused;
 use sdd_desk::Ownership;
+use sdd_hand::Stage;
 use sdd_lines::{Action, Call, PlaceName, Reply};
-use sdd_stage::Stage;
 
 /// An action on a cell as a whole. None where the action is another.
 pub fn act(stage: &mut Stage, name: PlaceName, action: Action) -> Result<Option<Reply>, Refused>

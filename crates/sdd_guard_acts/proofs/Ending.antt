@@ -38,11 +38,11 @@ use Rattle.sdd_desk.specs.Script.{Acts, HasOpen, Meets}
 use Rattle.sdd_guard_acts.specs.Leaving.{SpendsOwner, SpendsCell, SpendsCollector, SpendsGuard, LeavesRaw}
 use Rattle.sdd_hand.specs.Hand.{guarding}
 use Rattle.sdd_steps.specs.Owners.{owner_holding, cell_holding, collector_holding}
-use Rattle.sdd_stage.specs.Stage.{desk_of, IsTied}
+use Rattle.sdd_hand.specs.Stage.{desk_of, IsTied}
 use Rattle.sdd_steps.specs.declared.holding.AnOwner.{AnOwner}
 use Rattle.sdd_steps.specs.declared.holding.ACell.{ACell}
 use Rattle.sdd_hand.specs.declared.participants.Guarding.{Guarding}
-use Rattle.sdd_stage.specs.declared.stage.Hand.{Hand}
+use Rattle.sdd_hand.specs.declared.stage.Hand.{Hand}
 use Rattle.sdd_lines.specs.declared.name.PlaceName.{PlaceName}
 use Rattle.sdd_lines.specs.declared.name.GuardName.{GuardName}
 use Rattle.sdd_lines.specs.declared.call.Call.TheVariants.{At}
@@ -53,7 +53,7 @@ use Rattle.sdd_desk.proofs.Entry.{at-same, at-other, at-default, as-each, inside
 use Rattle.sdd_desk.proofs.Stocked.{stocked-as, no_slot-given, no_slot-retired, no_slot-same, no_slot-cell_closed}
 use Rattle.sdd_desk.proofs.Keepers.{keepers-as, keepers-closed, keepers-uncollected}
 use Rattle.sdd_desk.proofs.Counting.{AreCounted, counted-given, counted-cell_closed, counted-into_none, owned-out, out-there}
-use Rattle.sdd_stage.proofs.Collectors.{collectors-spent, number-is}
+use Rattle.sdd_hand.proofs.Collectors.{collectors-spent, number-is}
 use Rattle.sdd_desk.proofs.Layers.{layered-for, layered-given, layered-closed, keeps-given, keeps-closed, set-either}
 
 -- ---- what letting go leaves

@@ -34,20 +34,20 @@ use Rattle.sdd_lines.specs.declared.answer.Reply.TheVariants as reply
 use Rattle.sdd_desk.specs.declared.val.Val.{Val}
 use Rattle.sdd_hand.specs.declared.participants.Attending.{Attending}
 use Rattle.sdd_hand.specs.declared.participants.Guarding.{Guarding}
-use Rattle.sdd_stage.specs.declared.stage.Hand.{Hand}
+use Rattle.sdd_hand.specs.declared.stage.Hand.{Hand}
 use Rattle.sdd_desk.specs.Val.{holdings_of}
 use Rattle.sdd_desk.specs.Desk.{Desk, Opening, BeginsLine, IsThere, WaitsAt, with_guard, opening_at, place_of, slot_at, in_world, with_newcomer, without_participant, without_guard}
 use Rattle.sdd_desk.specs.Script.{Acts, Answers, HasOpen, IsParticipant}
 use Rattle.sdd_desk.specs.Script.AreCalls.{none as no_call, one_more}
 use Rattle.sdd_desk.specs.Shown.{item_in, job_in}
 use Rattle.sdd_hand.specs.Hand.{attending, guarding, opened_since}
-use Rattle.sdd_stage.specs.Stage.{desk_of, IsTied, GuardsIn}
+use Rattle.sdd_hand.specs.Stage.{desk_of, IsTied, GuardsIn}
 use Rattle.sdd_desk.specs.Held.{owners_in, slots_among, places_among, waits_among}
 use Rattle.sdd_desk.proofs.Entry.{as-each, at-other, at-pushed, at-end, at-default}
 use Rattle.sdd_desk.proofs.Dates.{dated-same}
 use Rattle.sdd_desk.proofs.Going.{sound-opened, dated-opened, home-opened, names-go, names-run, not-under, sound-deferred, dated-deferred, sound-stirred, sound-accelerated, sound-registered, sound-ended, sound-closed}
-use Rattle.sdd_stage.proofs.Acts as stage
-use Rattle.sdd_stage.proofs.Acts.{Goes, Does, does, goes, still, place}
+use Rattle.sdd_hand.proofs.Acts as stage
+use Rattle.sdd_hand.proofs.Acts.{Goes, Does, does, goes, still, place}
 
 -- of what is spent nothing is in hand
 spent : {X : Type 0} (P : Option X → Type 0) → P None → (xs : List (Option X)) (k : ℕ) → ((j : ℕ) → P (slice_index_or xs j None)) → (j : ℕ) →

@@ -1,5 +1,5 @@
 //! What participants do with guards.
-#![tactic(auto, using(sdd_stage::proofs::Taken::in_hand))]
+#![tactic(auto, using(sdd_hand::proofs::Taken::in_hand))]
 
 ghost use Rattle.std.specs.Prelude.{◌≡◌, ◌<◌, All, IsSome, IfOk, MatchResult, length, map};
 ghost use Rattle.std.specs.List.Sorted.{IsPermutation, IsNonDecreasingBy};
@@ -11,11 +11,11 @@ ghost use Rattle.sdd_desk.specs.Desk.{BeginsLine};
 ghost use Rattle.sdd_desk.specs.Script.{Acts, Answers};
 
 use sdd_desk::Val;
+use sdd_hand::Stage;
 use sdd_hand::items::{date_waiting, items_in, slots_among};
 use sdd_hand::jobs::jobs_among;
 use sdd_hand::participants::{Guarding, note_opening, under};
 use sdd_lines::{Action, Answer, Call, GuardName, ItemName, JobName, Names, PlaceName, Reply};
-use sdd_stage::Stage;
 use sdd_store::What;
 use sdd_turns::guards::{
     accelerate_at, close_at, defer_at, epoch_at, garbage_at, open_at, stir_at,

@@ -6,8 +6,8 @@ ghost use Rattle.sdd_guard_acts.specs.Leaving.{SpendsOwner, SpendsCell, SpendsCo
 
 use crate::guards::close_guard;
 use sdd_desk::Val;
+use sdd_hand::{Hand, Stage};
 use sdd_lines::{GuardName, PlaceName};
-use sdd_stage::{Hand, Stage};
 use sdd_steps::holding::{ACell, AnOwner};
 use sdd_store::{Standing, Tally};
 use sdd_world::World;

@@ -5,8 +5,8 @@ ghost use Rattle.sdd_desk.specs.Script.{Acts};
 ghost use Rattle.sdd_guard_acts.specs.Lines.{IsGuardAct};
 
 use crate::{guards, participants};
+use sdd_hand::Stage;
 use sdd_lines::{Action, Call, PlaceName, Reply};
-use sdd_stage::Stage;
 
 /// A participant's end, or an action on a guard but its opening. None where the action is another.
 pub fn act(stage: &mut Stage, name: PlaceName, action: Action) -> Option<Reply>

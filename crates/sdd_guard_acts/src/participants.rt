@@ -1,13 +1,13 @@
 //! How participants come and go.
-#![tactic(auto, using(sdd_stage::proofs::Taken::in_hand))]
+#![tactic(auto, using(sdd_hand::proofs::Taken::in_hand))]
 
 ghost use Rattle.std.specs.Prelude.{◌≡◌, MatchResult};
 ghost use Rattle.sdd_desk.specs.Script.{Acts};
 
 use sdd_core::Refused;
+use sdd_hand::Stage;
 use sdd_hand::participants::Attending;
 use sdd_lines::{Action, Call, PlaceName, Reply};
-use sdd_stage::Stage;
 use sdd_world::inner::is_open;
 
 /// `register`: a participant at a place that was vacant. `NoPlace` is a reply; `NoMemory` where memory is refused, and then nobody is registered.

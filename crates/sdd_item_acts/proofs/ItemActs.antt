@@ -34,7 +34,7 @@ use Rattle.sdd_desk.specs.declared.ownership.Ownership.TheVariants as ownership
 use Rattle.sdd_steps.specs.declared.holding.AnOwner.{AnOwner}
 use Rattle.sdd_steps.specs.declared.holding.AnOwner.TheVariants.{Sole, Share}
 use Rattle.sdd_hand.specs.declared.participants.Attending.{Attending}
-use Rattle.sdd_stage.specs.declared.stage.Hand.{Hand}
+use Rattle.sdd_hand.specs.declared.stage.Hand.{Hand}
 use Rattle.sdd_desk.specs.Val.{body_of, link_of, link_home}
 use Rattle.sdd_desk.specs.Desk.{Desk, opening_at, holding_at, place_of, slot_at, slot_of, in_world, with_owner, with_item}
 use Rattle.sdd_desk.specs.Script.{Acts, Meets, HasOpen, IsParticipant, IsThereToPut, IsValid, CanPointTo}
@@ -44,12 +44,12 @@ use Rattle.sdd_desk.specs.Script.AreCalls.{none as no_call, one_more}
 use Rattle.sdd_desk.specs.Shown.{Shows, told_of}
 use Rattle.sdd_hand.specs.Hand.{attending, BecomesBody}
 use Rattle.sdd_steps.specs.Owners.{owner_holding}
-use Rattle.sdd_stage.specs.Stage.{desk_of, IsTied}
+use Rattle.sdd_hand.specs.Stage.{desk_of, IsTied}
 use Rattle.sdd_item_acts.specs.Lines.{making}
 use Rattle.sdd_desk.specs.Held.{standing_first, holding_first}
 use Rattle.sdd_desk.proofs.Going.{sound-made, dated-made}
-use Rattle.sdd_stage.proofs.Acts as stage
-use Rattle.sdd_stage.proofs.Acts.{Does, does, goes, still, place}
+use Rattle.sdd_hand.proofs.Acts as stage
+use Rattle.sdd_hand.proofs.Acts.{Does, does, goes, still, place}
 
 module _ (h : Hand) (t : IsTied h) (whole : IsWhole h.world) where
   abbrev d : Desk

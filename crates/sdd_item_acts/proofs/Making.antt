@@ -15,14 +15,14 @@ use Rattle.sdd_desk.specs.declared.ownership.Ownership.{Ownership}
 use Rattle.sdd_desk.specs.declared.ownership.Ownership.TheVariants as ownership
 use Rattle.sdd_steps.specs.declared.holding.AnOwner.{AnOwner}
 use Rattle.sdd_steps.specs.declared.holding.AnOwner.TheVariants.{Sole, Share}
-use Rattle.sdd_stage.specs.declared.stage.Hand.{Hand}
+use Rattle.sdd_hand.specs.declared.stage.Hand.{Hand}
 use Rattle.sdd_desk.specs.Desk.{holding_at, slot_of}
 use Rattle.sdd_desk.specs.Script.{IsOwner, IsThereToPut}
 use Rattle.sdd_steps.specs.Owners.{owner_holding}
-use Rattle.sdd_stage.specs.Stage.{desk_of, IsTied}
+use Rattle.sdd_hand.specs.Stage.{desk_of, IsTied}
 use Rattle.sdd_hand.specs.Hand.{BecomesBody, IsMissing}
 use Rattle.sdd_desk.specs.Held.{holding_first}
-use Rattle.sdd_stage.proofs.Acts.{owner-home}
+use Rattle.sdd_hand.proofs.Acts.{owner-home}
 
 -- the slot of the first owner of an item
 pub first-slot : (own : Ownership) (k : ℕ) (home : Home) (s : ℕ) → slot_of (Some (holding_first own k home)) ≡ Some s → k ≡ s

@@ -15,14 +15,14 @@ use Rattle.sdd_desk.specs.declared.val.Val.{Val}
 use Rattle.sdd_desk.specs.declared.ownership.Ownership.{Ownership}
 use Rattle.sdd_desk.specs.declared.ownership.Ownership.TheVariants as ownership
 use Rattle.sdd_steps.specs.declared.holding.AnOwner.TheVariants.{Sole, Share}
-use Rattle.sdd_stage.specs.declared.stage.Hand.{Hand}
+use Rattle.sdd_hand.specs.declared.stage.Hand.{Hand}
 use Rattle.sdd_hand.specs.declared.participants.Attending.{Attending}
 use Rattle.sdd_desk.specs.Desk.{Desk, opening_at}
 use Rattle.sdd_desk.specs.Script.{Acts, HasOpen, IsThereToPut}
 use Rattle.sdd_hand.specs.Hand.{attending, IsMissing, CanPointAt}
-use Rattle.sdd_stage.specs.Stage.{desk_of}
+use Rattle.sdd_hand.specs.Stage.{desk_of}
 use Rattle.sdd_item_acts.specs.Lines.{making}
-use Rattle.sdd_stage.proofs.Missing.{invalid, no-owner, no-sole, no-shared, points-not}
+use Rattle.sdd_hand.proofs.Missing.{invalid, no-owner, no-sole, no-shared, points-not}
 
 module _ (h : Hand) where
   abbrev d : Desk

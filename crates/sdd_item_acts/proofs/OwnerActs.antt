@@ -27,16 +27,16 @@ use Rattle.sdd_desk.specs.declared.val.Val.{Val}
 use Rattle.sdd_steps.specs.declared.holding.AnOwner.{AnOwner}
 use Rattle.sdd_steps.specs.declared.holding.AnOwner.TheVariants.{Sole, Share}
 use Rattle.sdd_hand.specs.declared.participants.Attending.{Attending}
-use Rattle.sdd_stage.specs.declared.stage.Hand.{Hand}
+use Rattle.sdd_hand.specs.declared.stage.Hand.{Hand}
 use Rattle.sdd_desk.specs.Desk.{Desk, opening_at, place_of, slot_at, slot_of, sole_slot, shared_slot, in_world, with_owner, without_owner}
 use Rattle.sdd_desk.specs.Script.{HasOpen, IsParticipant, CanPointTo}
 use Rattle.sdd_desk.specs.Script.AreCalls.{none as no_call, one_more}
 use Rattle.sdd_hand.specs.Hand.{attending}
 use Rattle.sdd_steps.specs.Owners.{owner_holding}
-use Rattle.sdd_stage.specs.Stage.{desk_of, IsTied}
+use Rattle.sdd_hand.specs.Stage.{desk_of, IsTied}
 use Rattle.sdd_desk.proofs.Going.{sound-retired, sound-released, dated-retired, dated-released, dated-shared}
-use Rattle.sdd_stage.proofs.Acts as stage
-use Rattle.sdd_stage.proofs.Acts.{Goes, Does, does, goes, place}
+use Rattle.sdd_hand.proofs.Acts as stage
+use Rattle.sdd_hand.proofs.Acts.{Goes, Does, does, goes, place}
 
 home-given : (w : World Val) (p k count : ℕ) → (owner_given w p k (Some (standing.Shared count))).home ≡ w.home
 home-given w p k count = by (nat_lt 1 count) where

@@ -17,13 +17,13 @@ use Rattle.sdd_lines.specs.declared.call.Action.TheVariants as call
 use Rattle.sdd_lines.specs.declared.answer.Reply.TheVariants as reply
 use Rattle.sdd_desk.specs.declared.val.Val.{Val}
 use Rattle.sdd_steps.specs.declared.holding.AnOwner.TheVariants.{Share}
-use Rattle.sdd_stage.specs.declared.stage.Hand.{Hand}
+use Rattle.sdd_hand.specs.declared.stage.Hand.{Hand}
 use Rattle.sdd_hand.specs.declared.participants.Attending.{Attending}
 use Rattle.sdd_desk.specs.Desk.{Desk, opening_at, shared_slot, slot_at}
 use Rattle.sdd_desk.specs.Script.{Acts, HasOpen, CanPointTo}
 use Rattle.sdd_hand.specs.Hand.{attending}
-use Rattle.sdd_stage.specs.Stage.{desk_of, IsTied}
-use Rattle.sdd_stage.proofs.Acts.{is-there, named-owner, still}
+use Rattle.sdd_hand.specs.Stage.{desk_of, IsTied}
+use Rattle.sdd_hand.proofs.Acts.{is-there, named-owner, still}
 
 module _ (h : Hand) (t : IsTied h) (whole : IsWhole h.world) (name : PlaceName) where
   abbrev d : Desk

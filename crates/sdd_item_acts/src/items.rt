@@ -1,5 +1,5 @@
 //! How items of a script are made, and how they are seen.
-#![tactic(auto, using(sdd_stage::proofs::Taken::in_hand))]
+#![tactic(auto, using(sdd_hand::proofs::Taken::in_hand))]
 
 ghost use Rattle.std.specs.Prelude.{◌≡◌, MatchOption, MatchResult};
 ghost use Rattle.sdd_store.specs.Table.{IsFull};
@@ -9,11 +9,11 @@ ghost use Rattle.sdd_desk.specs.Script.{Acts};
 
 use sdd_core::Refused;
 use sdd_desk::{Ownership, Val};
+use sdd_hand::Stage;
 use sdd_hand::items::{slot_since, told};
 use sdd_hand::owners::{body_from, is_missing, value_of};
 use sdd_hand::participants::under;
 use sdd_lines::{Action, Call, GuardName, ItemName, OwnerName, PlaceName, Reply, Value};
-use sdd_stage::Stage;
 use sdd_turns::items::{make_item, value_shown};
 use sdd_world::World;
 use sdd_world::inner::{has_no_cell, has_no_slot};

@@ -6,8 +6,8 @@ ghost use Rattle.sdd_item_acts.specs.Lines.{IsItemAct};
 use crate::{items, owners};
 use sdd_core::Refused;
 use sdd_desk::Ownership;
+use sdd_hand::Stage;
 use sdd_lines::{Action, Call, PlaceName, Reply};
-use sdd_stage::Stage;
 
 /// An action on an item or an owner. None where the action is another.
 pub fn act(stage: &mut Stage, name: PlaceName, action: Action) -> Result<Option<Reply>, Refused>

@@ -1,16 +1,16 @@
 //! What participants do with the owners of items.
-#![tactic(auto, using(sdd_stage::proofs::Taken::in_hand))]
+#![tactic(auto, using(sdd_hand::proofs::Taken::in_hand))]
 
 ghost use Rattle.std.specs.Prelude.{◌≡◌, ◌<◌, None, Some, MatchResult};
 ghost use Rattle.sdd_desk.specs.Script.{Acts};
 
 use sdd_base::inner::{slot_of_owner, slot_of_shared};
 use sdd_core::Refused;
+use sdd_hand::Stage;
 use sdd_hand::items::slot_since;
 use sdd_hand::owners::{shared_of, take_shared, take_sole};
 use sdd_hand::participants::under;
 use sdd_lines::{Action, Call, GuardName, ItemName, OwnerName, PlaceName, Reply};
-use sdd_stage::Stage;
 use sdd_steps::holding::AnOwner;
 use sdd_turns::owners::{clone_held, release_owner, retire_item, share_item};
 use std::alloc::AllocError;

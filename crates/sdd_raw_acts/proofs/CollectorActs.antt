@@ -39,13 +39,13 @@ use Rattle.sdd_steps.specs.declared.holding.AnOwner.TheVariants.{Sole, Share}
 use Rattle.sdd_steps.specs.Owners.{collector_holding, owner_holding}
 use Rattle.sdd_hand.specs.declared.participants.Attending.{Attending}
 use Rattle.sdd_hand.specs.Hand.{attending, dated_if_waiting}
-use Rattle.sdd_stage.specs.declared.stage.Hand.{Hand}
-use Rattle.sdd_stage.specs.Stage.{GuardsIn, IsTied, desk_of}
+use Rattle.sdd_hand.specs.declared.stage.Hand.{Hand}
+use Rattle.sdd_hand.specs.Stage.{GuardsIn, IsTied, desk_of}
 use Rattle.sdd_desk.proofs.Collected.{after_given, calls-collecting, dated-collecting, owner-inside, sound-collecting, sound-given}
 use Rattle.sdd_desk.proofs.CollectorGoing.{calls-uncollected, dated-uncollected, goes-uncollected, runs-uncollected, sound-uncollected}
 use Rattle.sdd_desk.proofs.Gone.{all-counts}
-use Rattle.sdd_stage.proofs.Collectors.{number-is, collectors-spent}
-use Rattle.sdd_stage.proofs.Acts.{Does, Goes, does, goes, in_range, is, is-there, named-owner, owner-spent, still}
+use Rattle.sdd_hand.proofs.Collectors.{number-is, collectors-spent}
+use Rattle.sdd_hand.proofs.Acts.{Does, Goes, does, goes, in_range, is, is-there, named-owner, owner-spent, still}
 
 -- what a collector names, of its own home, and what a name of one stands for
 module _ (h : Hand) (t : IsTied h) where

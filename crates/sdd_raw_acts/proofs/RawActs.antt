@@ -36,17 +36,17 @@ use Rattle.sdd_desk.specs.Shown.{told_of}
 use Rattle.sdd_steps.specs.declared.holding.AnOwner.{AnOwner}
 use Rattle.sdd_steps.specs.declared.holding.AnOwner.TheVariants.{Sole, Share}
 use Rattle.sdd_hand.specs.declared.participants.Attending.{Attending}
-use Rattle.sdd_stage.specs.declared.stage.Hand.{Hand}
+use Rattle.sdd_hand.specs.declared.stage.Hand.{Hand}
 use Rattle.sdd_hand.specs.Hand.{attending, dated_if_waiting, CanPointAt}
 use Rattle.sdd_steps.specs.Owners.{owner_holding}
-use Rattle.sdd_stage.specs.Stage.{desk_of, GuardsIn, IsTied}
+use Rattle.sdd_hand.specs.Stage.{desk_of, GuardsIn, IsTied}
 use Rattle.sdd_desk.proofs.CellGoing.{dates_spilled}
 use Rattle.sdd_desk.proofs.InPlaceGoing.{calls-raw, dated-raw, sound-raw, calls-back, dated-back, sound-back, calls-put, dated-put, sound-put, after_drop, drop-leaves, value-held-out}
 use Rattle.sdd_desk.proofs.Stocked.{slot-inside}
 use Rattle.sdd_desk.proofs.Counting.{out-there}
 use Rattle.std.specs.Prelude.{IfSome, ◌<◌}
-use Rattle.sdd_stage.proofs.Acts.{Does, does, goes, still, is, is-there, in_range, named-owner, owner-spent, owner-more}
-use Rattle.sdd_stage.proofs.Missing.{invalid}
+use Rattle.sdd_hand.proofs.Acts.{Does, does, goes, still, is, is-there, in_range, named-owner, owner-spent, owner-more}
+use Rattle.sdd_hand.proofs.Missing.{invalid}
 
 -- what is told of a slot's dates is the same
 dated-spilled : (d : Desk) (w : World Val) (held : Option ℕ) → dated_if_waiting w held d.moment d.dates ≡ dates_spilled d w held

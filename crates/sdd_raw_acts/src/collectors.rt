@@ -1,5 +1,5 @@
 //! What participants do with collectors.
-#![tactic(auto, using(sdd_stage::proofs::Taken::in_hand))]
+#![tactic(auto, using(sdd_hand::proofs::Taken::in_hand))]
 
 ghost use Rattle.std.specs.Prelude.{◌≡◌, ◌<◌, ◌≤◌, ◌^◌, All, IsSome, IfOk, MatchResult, length, map};
 ghost use Rattle.std.specs.List.Sorted.{IsPermutation, IsNonDecreasingBy};
@@ -12,12 +12,12 @@ ghost use Rattle.sdd_desk.specs.Script.{Acts, Answers};
 use sdd_base::inner::number_of_collector;
 use sdd_core::Refused;
 use sdd_desk::Val;
+use sdd_hand::Stage;
 use sdd_hand::items::{date_if_waiting, date_waiting, items_in, slots_for};
 use sdd_hand::participants::under;
 use sdd_lines::{
     Action, Answer, Call, CollectorName, GuardName, ItemName, Names, OwnerName, PlaceName, Reply,
 };
-use sdd_stage::Stage;
 use sdd_turns::collectors::{close_at, collector_at, give_to};
 use sdd_world::World;
 use std::alloc::{AllocError, Global};

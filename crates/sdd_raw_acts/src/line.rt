@@ -5,8 +5,8 @@ ghost use Rattle.sdd_raw_acts.specs.Lines.{IsRawAct};
 
 use crate::{collectors, raw};
 use sdd_core::Refused;
+use sdd_hand::Stage;
 use sdd_lines::{Action, Call, PlaceName, Reply};
-use sdd_stage::Stage;
 
 /// An action on an item in its place or out as raw, or with a collector, but for its close. None where the action is another.
 pub fn act(stage: &mut Stage, name: PlaceName, action: Action) -> Result<Option<Reply>, Refused>

@@ -1,16 +1,16 @@
 //! What participants do with items in their place, and with those that are out as raw.
-#![tactic(auto, using(sdd_stage::proofs::Taken::in_hand))]
+#![tactic(auto, using(sdd_hand::proofs::Taken::in_hand))]
 
 ghost use Rattle.std.specs.Prelude.{◌≡◌, Some, MatchResult};
 ghost use Rattle.sdd_desk.specs.Script.{Acts};
 
 use sdd_base::inner::slot_of_owner;
 use sdd_core::Refused;
+use sdd_hand::Stage;
 use sdd_hand::items::{date_if_waiting, is_number, slot_given, slot_since, told};
 use sdd_hand::owners::{take_sole, value_of};
 use sdd_hand::participants::under;
 use sdd_lines::{Action, Call, GuardName, ItemName, OwnerName, PlaceName, Reply};
-use sdd_stage::Stage;
 use sdd_steps::holding::AnOwner;
 use sdd_steps::raw::{ComesBack, DropsOwner, GoesRaw, PutsNumber, SeesRaw};
 use sdd_turns::step_at;

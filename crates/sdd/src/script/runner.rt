@@ -3,13 +3,13 @@ ghost use Rattle.std.specs.Prelude.{◌≡◌, ◌⊎◌, IfOk, MatchResult};
 ghost use Rattle.sdd_base.specs.Limits.{AreInRange};
 ghost use Rattle.sdd_desk.specs.Script.{IsRun};
 
+use crate::script::line::step;
 use crate::script::scene::Scene;
-use sdd_acts::step;
 use sdd_base::Limits;
 use sdd_core::Refused;
 use sdd_guard_acts::leaving::close;
+use sdd_hand::Stage;
 use sdd_lines::{Answer, Call};
-use sdd_stage::Stage;
 use std::alloc::Global;
 
 /// Runs calls on a new world, one after another, and answers each.

@@ -3,7 +3,7 @@ ghost use Rattle.std.specs.Prelude.{◌≡◌, ◌+◌};
 
 use sdd_desk::Val;
 use sdd_guard_acts::leaving::close;
-use sdd_stage::Stage;
+use sdd_hand::Stage;
 use sdd_store::Tally;
 use sdd_world::World;
 use std::marker::Model;

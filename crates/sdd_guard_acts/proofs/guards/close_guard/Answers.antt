@@ -1,6 +1,6 @@
 use Rattle.std.proofs.Common.{refl, sym}
 use Rattle.sdd_guard_acts.proofs.GuardActs.{acts-closed}
-use Rattle.sdd_stage.proofs.Acts.{still}
+use Rattle.sdd_hand.proofs.Acts.{still}
 use Rattle.sdd_guard_acts.proofs.guards.close_guard.Goals as goal
 
 pub returns-in_default : goal.returns-in_default

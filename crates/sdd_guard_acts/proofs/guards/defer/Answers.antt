@@ -1,9 +1,9 @@
 use Rattle.std.specs.Vec.{with_item}
 use Rattle.std.proofs.Common.{refl, arith}
 use Rattle.sdd_lines.specs.declared.call.Action.TheVariants as call
-use Rattle.sdd_stage.specs.Stage.{desk_of}
+use Rattle.sdd_hand.specs.Stage.{desk_of}
 use Rattle.sdd_guard_acts.proofs.GuardActs.{acts-deferred, deferral-refused}
-use Rattle.sdd_stage.proofs.Missing.{invalid}
+use Rattle.sdd_hand.proofs.Missing.{invalid}
 use Rattle.sdd_guard_acts.proofs.guards.defer.Goals as goal
 
 pub returns-in_default : goal.returns-in_default

@@ -1,7 +1,7 @@
 use Rattle.sdd_lines.specs.declared.call.Action.TheVariants as call
-use Rattle.sdd_stage.specs.Stage.{desk_of}
+use Rattle.sdd_hand.specs.Stage.{desk_of}
 use Rattle.sdd_guard_acts.proofs.GuardActs.{epoch-shown}
-use Rattle.sdd_stage.proofs.Missing.{invalid}
+use Rattle.sdd_hand.proofs.Missing.{invalid}
 use Rattle.sdd_guard_acts.proofs.guards.epoch.Goals as goal
 
 pub returns-in_default : goal.returns-in_default

@@ -1,14 +1,14 @@
 use Rattle.std.proofs.Common.{length, refl, ap, ◌∙◌}
 use Rattle.sdd_lines.specs.declared.call.Action.TheVariants as call
 use Rattle.sdd_lines.specs.declared.call.Call.TheVariants.{At}
-use Rattle.sdd_stage.specs.Stage.{desk_of}
+use Rattle.sdd_hand.specs.Stage.{desk_of}
 use Rattle.sdd_desk.specs.Held.{slots_among}
 use Rattle.sdd_desk.proofs.Going.{places-inside}
 use Rattle.sdd_desk.proofs.Gone.{slots-inside, slots-filled, given-inside}
-use Rattle.sdd_stage.proofs.Acts.{got, in_range, answers-plain}
+use Rattle.sdd_hand.proofs.Acts.{got, in_range, answers-plain}
 use Rattle.sdd_guard_acts.proofs.GuardActs.{noted-is, opening-refused, answers-opened, tied-opened}
-use Rattle.sdd_stage.proofs.Missing.{nobody}
-use Rattle.sdd_stage.proofs.Taken.{inside}
+use Rattle.sdd_hand.proofs.Missing.{nobody}
+use Rattle.sdd_hand.proofs.Taken.{inside}
 use Rattle.sdd_guard_acts.proofs.guards.open.Goals as goal
 
 pub returns-in_default : goal.returns-in_default

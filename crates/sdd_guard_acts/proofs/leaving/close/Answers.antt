@@ -1,7 +1,7 @@
 use Rattle.std.specs.Option.{option_map}
 use Rattle.sdd_hand.specs.Hand.{guarding}
 use Rattle.sdd_steps.specs.Owners.{owner_holding, cell_holding, collector_holding}
-use Rattle.sdd_stage.specs.Stage.{desk_of}
+use Rattle.sdd_hand.specs.Stage.{desk_of}
 use Rattle.sdd_guard_acts.proofs.Ending.{unguarded, goes-all, none-in}
 use Rattle.sdd_guard_acts.proofs.leaving.close.Goals as goal
 

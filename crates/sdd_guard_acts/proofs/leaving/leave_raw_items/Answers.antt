@@ -1,5 +1,5 @@
 use Rattle.std.proofs.Common.{◌≤◌, length, arith}
-use Rattle.sdd_stage.specs.Stage.{desk_of}
+use Rattle.sdd_hand.specs.Stage.{desk_of}
 use Rattle.sdd_guard_acts.proofs.Ending.{none-raw}
 use Rattle.sdd_guard_acts.proofs.leaving.leave_raw_items.Goals as goal
 

@@ -1,5 +1,5 @@
 use Rattle.std.proofs.Common.{refl}
-use Rattle.sdd_stage.proofs.Collectors.{collector-home, collectors-spent}
+use Rattle.sdd_hand.proofs.Collectors.{collector-home, collectors-spent}
 use Rattle.sdd_guard_acts.proofs.Ending.{spends-collector, tied-spent_collector}
 use Rattle.sdd_guard_acts.proofs.leaving.spend_collector.Goals as goal
 

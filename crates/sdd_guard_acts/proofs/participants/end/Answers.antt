@@ -1,8 +1,8 @@
 use Rattle.sdd_lines.specs.declared.call.Action.TheVariants as call
 use Rattle.std.proofs.Common.{sym, ◌∙◌}
-use Rattle.sdd_stage.proofs.Acts.{got}
+use Rattle.sdd_hand.proofs.Acts.{got}
 use Rattle.sdd_guard_acts.proofs.GuardActs.{acts-ended, end-refused}
-use Rattle.sdd_stage.proofs.Missing.{nobody}
+use Rattle.sdd_hand.proofs.Missing.{nobody}
 use Rattle.sdd_guard_acts.proofs.participants.end.Goals as goal
 
 pub invariant_of-stage-2 : goal.invariant_of-stage-2

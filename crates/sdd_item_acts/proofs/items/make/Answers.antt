@@ -4,13 +4,13 @@ use Rattle.std.proofs.lemmas.Bool.{false≢true}
 use Rattle.sdd_desk.specs.Desk.{slot_of}
 use Rattle.sdd_lines.specs.declared.call.Call.TheVariants.{At}
 use Rattle.sdd_lines.specs.declared.answer.Reply.TheVariants as reply
-use Rattle.sdd_stage.specs.declared.stage.Hand.{Hand}
+use Rattle.sdd_hand.specs.declared.stage.Hand.{Hand}
 use Rattle.sdd_desk.specs.Script.{Acts, IsThereToPut}
-use Rattle.sdd_stage.specs.Stage.{desk_of, IsTied}
+use Rattle.sdd_hand.specs.Stage.{desk_of, IsTied}
 use Rattle.sdd_item_acts.specs.Lines.{making}
-use Rattle.sdd_stage.proofs.Acts.{got}
+use Rattle.sdd_hand.proofs.Acts.{got}
 use Rattle.sdd_item_acts.proofs.ItemActs.{acts-refused, acts-made}
-use Rattle.sdd_stage.proofs.Missing.{nobody}
+use Rattle.sdd_hand.proofs.Missing.{nobody}
 use Rattle.sdd_item_acts.proofs.MissingItems.{none-made}
 use Rattle.sdd_item_acts.proofs.Making.{first-slot, becomes-long, there-to-put, body-home}
 use Rattle.sdd_item_acts.proofs.items.make.Goals as goal

@@ -1,8 +1,8 @@
-use Rattle.sdd_stage.proofs.Acts.{got, owner-home}
+use Rattle.sdd_hand.proofs.Acts.{got, owner-home}
 use Rattle.sdd_item_acts.proofs.ItemActs.{acts-read}
-use Rattle.sdd_stage.proofs.Missing.{nobody}
+use Rattle.sdd_hand.proofs.Missing.{nobody}
 use Rattle.sdd_item_acts.proofs.MissingItems.{none-read}
-use Rattle.sdd_stage.proofs.Inside.{value-inside}
+use Rattle.sdd_hand.proofs.Inside.{value-inside}
 use Rattle.std.proofs.Common.{◌≡◌, sym}
 use Rattle.sdd_desk.specs.Shown.{told_of}
 use Rattle.sdd_desk.specs.Val.{body_of}

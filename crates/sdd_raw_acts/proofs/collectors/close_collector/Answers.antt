@@ -6,13 +6,13 @@ use Rattle.sdd_desk.proofs.Gone.{given-inside}
 use Rattle.sdd_desk.proofs.WaitingFor.{found-filled, found-inside}
 use Rattle.sdd_lines.specs.declared.call.Action.TheVariants as call
 use Rattle.sdd_lines.specs.declared.call.Call.TheVariants.{At}
-use Rattle.sdd_stage.specs.Stage.{desk_of}
-use Rattle.sdd_stage.proofs.Acts.{answers-plain, goes, got}
+use Rattle.sdd_hand.specs.Stage.{desk_of}
+use Rattle.sdd_hand.proofs.Acts.{answers-plain, goes, got}
 use Rattle.sdd_raw_acts.proofs.CollectorActs.{answers-closed, back-again, close-refused, no-collector, tied-closed}
-use Rattle.sdd_stage.proofs.Collectors.{collector-home}
-use Rattle.sdd_stage.proofs.Acts.{still-as}
-use Rattle.sdd_stage.proofs.Missing.{invalid, nobody}
-use Rattle.sdd_stage.proofs.Taken.{inside}
+use Rattle.sdd_hand.proofs.Collectors.{collector-home}
+use Rattle.sdd_hand.proofs.Acts.{still-as}
+use Rattle.sdd_hand.proofs.Missing.{invalid, nobody}
+use Rattle.sdd_hand.proofs.Taken.{inside}
 use Rattle.sdd_raw_acts.proofs.collectors.close_collector.Goals as goal
 
 pub returns-in_default : goal.returns-in_default

@@ -1,15 +1,15 @@
 use Rattle.sdd_store.specs.declared.standing.Standing.TheVariants.{Owned}
 use Rattle.sdd_base.specs.World.{standing_at}
-use Rattle.sdd_stage.specs.declared.stage.Hand.{Hand}
+use Rattle.sdd_hand.specs.declared.stage.Hand.{Hand}
 use Rattle.std.proofs.Common.{◌≡◌, ℕ, Some, ◌<◌, length, is_some, slice_index, ap, ◌∙◌}
 use Rattle.std.proofs.lemmas.List.{get_or_read}
 use Rattle.sdd_desk.proofs.Stocked.{slot-inside}
 use Rattle.sdd_lines.specs.declared.call.Action.TheVariants as call
 use Rattle.sdd_lines.specs.declared.call.Call.TheVariants.{At}
 use Rattle.sdd_lines.specs.declared.answer.Reply.TheVariants as reply
-use Rattle.sdd_stage.specs.Stage.{desk_of, IsTied}
-use Rattle.sdd_stage.proofs.Acts.{Does, got, owner-home}
-use Rattle.sdd_stage.proofs.Missing.{invalid, nobody, no-sole}
+use Rattle.sdd_hand.specs.Stage.{desk_of, IsTied}
+use Rattle.sdd_hand.proofs.Acts.{Does, got, owner-home}
+use Rattle.sdd_hand.proofs.Missing.{invalid, nobody, no-sole}
 use Rattle.sdd_raw_acts.proofs.RawActs.{acts-raw}
 use Rattle.sdd_raw_acts.proofs.raw.put_out_raw.Goals as goal
 

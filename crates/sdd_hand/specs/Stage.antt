@@ -5,7 +5,7 @@ use Rattle.sdd_base.specs.Guard.{reader_of}
 use Rattle.sdd_desk.specs.Desk.{Desk, Opening, opening_at}
 use Rattle.sdd_desk.specs.Sound.{IsSound}
 use Rattle.sdd_hand.specs.declared.participants.Guarding.{Guarding}
-use Rattle.sdd_stage.specs.declared.stage.Hand.{Hand}
+use Rattle.sdd_hand.specs.declared.stage.Hand.{Hand}
 use Rattle.sdd_steps.specs.Owners.{owner_holding, cell_holding, collector_holding}
 use Rattle.sdd_hand.specs.Hand.{attending, guarding}
 use Rattle.sdd_token.specs.Units as token

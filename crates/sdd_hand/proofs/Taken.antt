@@ -4,10 +4,10 @@ use Rattle.std.specs.Prelude.{IsTrue}
 use Rattle.sdd_store.specs.Time.{lives}
 use Rattle.sdd_world.specs.Place.{index_of}
 use Rattle.sdd_hand.specs.declared.participants.Attending.{Attending}
-use Rattle.sdd_stage.specs.declared.stage.Hand.{Hand}
+use Rattle.sdd_hand.specs.declared.stage.Hand.{Hand}
 use Rattle.sdd_hand.specs.Hand.{attending}
-use Rattle.sdd_stage.specs.Stage.{IsTied}
-use Rattle.sdd_stage.proofs.Acts.{got, still}
+use Rattle.sdd_hand.specs.Stage.{IsTied}
+use Rattle.sdd_hand.proofs.Acts.{got, still}
 
 -- the participant of a name is one of the world's
 module _ (h : Hand) (n : ℕ) (a : Attending) (t : IsTied h)

@@ -13,14 +13,14 @@ use Rattle.sdd_lines.specs.declared.answer.Reply.TheVariants as reply
 use Rattle.sdd_desk.specs.declared.val.Val.{Val}
 use Rattle.sdd_steps.specs.declared.holding.AnOwner.{AnOwner}
 use Rattle.sdd_steps.specs.declared.holding.AnOwner.TheVariants.{Sole, Share}
-use Rattle.sdd_stage.specs.declared.stage.Hand.{Hand}
+use Rattle.sdd_hand.specs.declared.stage.Hand.{Hand}
 use Rattle.sdd_hand.specs.declared.participants.Attending.{Attending}
 use Rattle.sdd_desk.specs.Desk.{Desk, opening_at, holding_at, since_of, since_in}
 use Rattle.sdd_desk.specs.Script.{Acts, IsParticipant, IsOwner, IsSole, IsShared, IsCellName, IsValid, CanPointTo}
 use Rattle.sdd_hand.specs.Hand.{attending, CanPointAt}
 use Rattle.sdd_steps.specs.Owners.{owner_holding, cell_holding}
-use Rattle.sdd_stage.specs.Stage.{desk_of}
-use Rattle.sdd_stage.proofs.Acts.{still}
+use Rattle.sdd_hand.specs.Stage.{desk_of}
+use Rattle.sdd_hand.proofs.Acts.{still}
 
 -- what isn't valid is answered so, and changes nothing
 pub invalid : (d : Desk) (n : PlaceName) (a : Action) → ¬ (IsValid d n.0 a) → Acts d (At n a) reply.Invalid d

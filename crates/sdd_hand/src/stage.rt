@@ -1,11 +1,11 @@
 //! The world of a script in the middle of a run, with what its names stand for.
 ghost use Rattle.std.specs.Prelude.{◌≡◌, ◌<◌, ◌⊎◌, [], IfOk, MatchResult};
 
+use crate::named::Named;
+use crate::participants::{Attending, Guarding};
 use sdd_base::{Limits, PrivateCollector};
 use sdd_core::Refused;
 use sdd_desk::Val;
-use sdd_hand::named::Named;
-use sdd_hand::participants::{Attending, Guarding};
 use sdd_lines::{Answer, Names, Reply};
 use sdd_steps::holding::{ACell, AnOwner};
 use sdd_world::World;
@@ -44,7 +44,7 @@ impl Model for Stage {
     ghost use Rattle.std.specs.Coded.{codes};
     ghost use Rattle.sdd_desk.specs.contracts.val.Val as val;
     ghost use Rattle.sdd_desk.specs.Desk.{Desk};
-    ghost use Rattle.sdd_stage.specs.Stage.{desk_of, IsTied};
+    ghost use Rattle.sdd_hand.specs.Stage.{desk_of, IsTied};
 
     ghost Value = { Desk };
 

@@ -7,9 +7,9 @@ ghost use Rattle.sdd_desk.specs.Script.{Acts, Answers, Step};
 
 use sdd_core::Refused;
 use sdd_guard_acts::{guards, participants};
+use sdd_hand::Stage;
 use sdd_lines::{Action, Answer, Call, CollectorName, PlaceName, Reply};
 use sdd_raw_acts::collectors;
-use sdd_stage::Stage;
 
 /// One line. `NoMemory` alone refuses it.
 pub fn step(stage: &mut Stage, call: &Call) -> Result<Answer, Refused>

@@ -1,6 +1,6 @@
 use Rattle.std.proofs.Common.{refl, arith}
-use Rattle.sdd_stage.proofs.Acts.{tied-start}
-use Rattle.sdd_stage.proofs.stage.Stage.new.Goals as goal
+use Rattle.sdd_hand.proofs.Acts.{tied-start}
+use Rattle.sdd_hand.proofs.stage.Stage.new.Goals as goal
 
 pub invariant_of-result : goal.invariant_of-result
 invariant_of-result c =

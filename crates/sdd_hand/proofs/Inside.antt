@@ -9,8 +9,8 @@ use Rattle.sdd_desk.specs.declared.val.Body.TheVariants as body
 use Rattle.sdd_desk.specs.declared.val.Val.{Val}
 use Rattle.sdd_desk.specs.Val.{body_of, owner_in}
 use Rattle.sdd_desk.specs.Desk.{slot_of}
-use Rattle.sdd_stage.specs.declared.stage.Hand.{Hand}
-use Rattle.sdd_stage.specs.Stage.{desk_of, IsTied}
+use Rattle.sdd_hand.specs.declared.stage.Hand.{Hand}
+use Rattle.sdd_hand.specs.Stage.{desk_of, IsTied}
 use Rattle.sdd_hand.specs.Hand.{SlotInside}
 use Rattle.sdd_desk.proofs.Counting.{value-owner-out, out-there}
 use Rattle.sdd_desk.proofs.Stocked.{slot-inside}

@@ -28,7 +28,7 @@ use Rattle.sdd_steps.specs.declared.holding.AnOwner.TheVariants.{Share}
 use Rattle.sdd_hand.specs.declared.named.Named.{Named}
 use Rattle.sdd_hand.specs.declared.participants.Attending.{Attending}
 use Rattle.sdd_hand.specs.declared.participants.Guarding.{Guarding}
-use Rattle.sdd_stage.specs.declared.stage.Hand.{Hand}
+use Rattle.sdd_hand.specs.declared.stage.Hand.{Hand}
 use Rattle.sdd_desk.specs.Desk.{Desk, Opening, opening_at, holding_at, place_in, since_in, place_of, since_of, slot_at, in_world, with_owner}
 use Rattle.sdd_desk.specs.Script.{Acts, Answers, IsReclaimed, IsRunBy, Meets, HasOpen, IsParticipant, CanPointTo}
 use Rattle.sdd_desk.specs.Script as script
@@ -36,7 +36,7 @@ use Rattle.sdd_desk.specs.Script.AreCalls.{none as no_call}
 use Rattle.sdd_desk.specs.Sound.{IsSound}
 use Rattle.sdd_hand.specs.Hand.{attending, guarding}
 use Rattle.sdd_steps.specs.Owners.{owner_holding, cell_holding, collector_holding}
-use Rattle.sdd_stage.specs.Stage.{desk_of, IsTied, GuardsIn}
+use Rattle.sdd_hand.specs.Stage.{desk_of, IsTied, GuardsIn}
 use Rattle.sdd_desk.proofs.Dates.{dated-same}
 use Rattle.sdd_desk.proofs.Going.{open-guard, can-point, sound-start, sound-shared}
 

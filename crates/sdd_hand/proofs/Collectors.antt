@@ -9,8 +9,8 @@ use Rattle.sdd_base.specs.Collector as collector
 use Rattle.sdd_desk.specs.declared.val.Val.{Val}
 use Rattle.sdd_desk.specs.Desk.{Desk, collector_of, holding_at}
 use Rattle.sdd_steps.specs.Owners.{collector_holding}
-use Rattle.sdd_stage.specs.declared.stage.Hand.{Hand}
-use Rattle.sdd_stage.specs.Stage.{IsTied, desk_of}
+use Rattle.sdd_hand.specs.declared.stage.Hand.{Hand}
+use Rattle.sdd_hand.specs.Stage.{IsTied, desk_of}
 
 module _ (h : Hand) (t : IsTied h) where
   abbrev d : Desk

@@ -1,5 +1,0 @@
-pub mod Acts
-pub mod Missing
-pub mod Inside
-pub mod Taken
-pub mod Collectors
