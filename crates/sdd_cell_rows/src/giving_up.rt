@@ -4,9 +4,9 @@ ghost use Rattle.sdd_base.specs.Holding.{AreOf};
 ghost use Rattle.sdd_base.specs.Seat.{IsSeated};
 ghost use Rattle.sdd_cell_rows.specs.Value.{holdings_of};
 
+use crate::Value;
 use crate::example::{AMPLE, Example, in_a_world};
 use crate::steps::{owned, raw, shared};
-use crate::value::Value;
 use sdd_base::{Cells, Items, Limits, RawCells, RawPtr, Space};
 use std::process::Abort;
 

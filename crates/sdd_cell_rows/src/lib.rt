@@ -23,5 +23,6 @@ mod raw_pointers;
 mod shared_owners;
 #[cfg(test)]
 mod steps;
-#[cfg(test)]
-mod value;
+pub mod value;
+
+pub use value::Value;

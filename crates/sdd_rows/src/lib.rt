@@ -22,7 +22,8 @@ mod shown;
 mod slots_and_owners;
 #[cfg(test)]
 mod steps;
-#[cfg(test)]
-mod value;
+pub mod value;
 #[cfg(test)]
 mod world_sizes;
+
+pub use value::Value;
