@@ -11,6 +11,6 @@ use Rattle.sdd_cell_rows.specs.declared.value.Value.TheOpen.{Number, Of, Each}
 abbrev pub holdings_of : Value → List Holding
 holdings_of v = elim (out-Value v) [
   | Number n ↦ []
-  | Of owner ↦ shared.holding_of owner ∷ []
+  | Of owner ↦ owned.holding_of owner ∷ []
   | Each a b c d e ↦ owned.holding_of a ∷ shared.holding_of b ∷ owned.cell_holding c ∷ shared.cell_holding d ∷ raw_cell.cell_holding e ∷ []
 ]

@@ -8,7 +8,7 @@ use std::process::Abort;
 /// A swap answers what the cell held and its tag. It is left with nothing, which the weak exchange gives back.
 struct Swaps;
 
-impl Example<u64> for Swaps {
+impl Example for Swaps {
     fn run<R: Abort, S: Space<u64>>(rt: &R, s: &mut S) {
         let cell = owned::cell(rt, s, 14);
         assert!(rt; owned::swapped(rt, s, &cell, Some(15), Tag::Second) == (Some(14), Tag::None));
@@ -22,7 +22,7 @@ impl Example<u64> for Swaps {
 
 struct Exchanges;
 
-impl Example<u64> for Exchanges {
+impl Example for Exchanges {
     fn run<R: Abort, S: Space<u64>>(rt: &R, s: &mut S) {
         let cell = owned::cell(rt, s, 17);
         let guard = opened(rt, s);

@@ -8,7 +8,7 @@ use std::process::Abort;
 /// An owned and a shared item are collected, and both go at the close.
 struct BothKinds;
 
-impl Example<u64> for BothKinds {
+impl Example for BothKinds {
     fn run<R: Abort, S: Space<u64>>(rt: &R, s: &mut S) {
         let collector = collectors::made(rt, s);
         collectors::collect(rt, s, &collector, 37);
@@ -25,13 +25,13 @@ impl Example<u64> for BothKinds {
 #[test]
 fn all_that_waits_for_a_collector_goes_when_it_is_closed(rt: HostRuntime) {
     let table = [(0, 2, true), (1, 2, false)];
-    in_a_world::<u64, BothKinds, _>(&rt, AMPLE, &table, 0);
+    in_a_world::<BothKinds, _>(&rt, AMPLE, &table, 0);
 }
 
 /// The one slot is free at the third change of an item that was collected, and not before.
 struct StaysOpen;
 
-impl Example<u64> for StaysOpen {
+impl Example for StaysOpen {
     fn run<R: Abort, S: Space<u64>>(rt: &R, s: &mut S) {
         let collector = collectors::made(rt, s);
         collectors::collect(rt, s, &collector, 37);
@@ -46,5 +46,5 @@ impl Example<u64> for StaysOpen {
 #[test]
 fn an_item_goes_at_its_third_change_while_its_collector_stays_open(rt: HostRuntime) {
     let limits = Limits { slots: 1, ..AMPLE };
-    in_a_world::<u64, StaysOpen, _>(&rt, limits, &[], 0);
+    in_a_world::<StaysOpen, _>(&rt, limits, &[], 0);
 }

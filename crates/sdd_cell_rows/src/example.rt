@@ -21,17 +21,17 @@ pub const AMPLE: Limits = Limits {
 /// Of an opening: the epoch that its guard shows, how many items are reclaimed by then, and whether something may wait with the participant.
 pub type Shown = (u8, u128, bool);
 
-/// What one participant does in some space. It asserts what it is answered.
-pub trait Example<T: Item<T>> {
-    fn run<R: Abort, S: Space<T>>(rt: &R, s: &mut S)
+/// What one participant does in some space of numbers. It asserts what it is answered.
+pub trait Example {
+    fn run<R: Abort, S: Space<u64>>(rt: &R, s: &mut S)
         requires seated { IsSeated (S.seat s.old) }
         ensures seat { S.seat s.new ≡ S.seat s.old };
 }
 
 /// A world, and the participant that makes the calls.
 pub struct Setting<T: Item<T>> {
-    world: World<T>,
-    place: Place,
+    pub world: World<T>,
+    pub place: Place,
 }
 
 impl<T: Item<T>> Model for Setting<T> {
@@ -51,11 +51,6 @@ impl<T: Item<T>> Setting<T> {
         let mut world = World::new(rt.alloc(), limits).expect(rt, "the limits are in range");
         let place = world.register().expect(rt, "a place is free");
         Setting { world, place }
-    }
-
-    /// The participant does this.
-    pub fn run<E: Example<T>>(&mut self, rt: &impl Abort) {
-        E::run(rt, &mut self.world.at(&self.place));
     }
 
     /// Opens, accelerates and closes a guard.
@@ -88,15 +83,22 @@ impl<T: Item<T>> Setting<T> {
     }
 }
 
+impl Setting<u64> {
+    /// The participant does this. Here a turn is taken for the whole of a space, which takes most of the time that the examples' proof takes.
+    pub fn run<E: Example>(&mut self, rt: &impl Abort) {
+        E::run(rt, &mut self.world.at(&self.place));
+    }
+}
+
 /// A participant of a world with these limits does this, and its guards show this afterwards. So many items were dropped in their place, and all others that
 /// were made are reclaimed at the end.
-pub fn in_a_world<T: Item<T>, E: Example<T>, R: Abort + AllocGlobal>(
+pub fn in_a_world<E: Example, R: Abort + AllocGlobal>(
     rt: &R,
     limits: Limits,
     table: &[Shown],
     in_place: u128,
 ) {
-    let mut setting: Setting<T> = Setting::new(rt, limits);
+    let mut setting: Setting<u64> = Setting::new(rt, limits);
     setting.run::<E>(rt);
     setting.shows(rt, table);
     setting.closed(rt, in_place);

@@ -5,20 +5,19 @@ ghost use Rattle.sdd_base.specs.Seat.{IsSeated};
 ghost use Rattle.sdd_cell_rows.specs.Value.{holdings_of};
 
 use crate::Value;
-use crate::example::{AMPLE, Example, in_a_world};
+use crate::example::{AMPLE, Setting};
 use crate::steps::{owned, raw, shared};
-use sdd_base::{Cells, Items, Limits, RawCells, RawPtr, Space};
+use sdd_base::{Cells, Items, Limits, RawCells, RawPtr};
 use std::process::Abort;
 
-/// A value with the only owner of another is retired.
-struct Nests;
-
-impl Example<Value> for Nests {
-    fn run<R: Abort, S: Space<Value>>(rt: &R, s: &mut S) {
-        let inner = shared::made(rt, s, Value::Number(7));
-        let outer = owned::made(rt, s, Value::Of(inner));
-        owned::retire(s, outer);
-    }
+/// A value with the owner of another is retired.
+fn nests<S: Items<Value>>(rt: &impl Abort, s: &mut S)
+    requires seated { IsSeated (S.seat s.old) }
+    ensures seat { S.seat s.new ≡ S.seat s.old }
+{
+    let inner = owned::made(rt, s, Value::Number(7));
+    let outer = owned::made(rt, s, Value::Of(inner));
+    owned::retire(s, outer);
 }
 
 #[test]
@@ -32,7 +31,10 @@ fn what_a_value_held_goes_three_changes_later(rt: HostRuntime) {
         (5, 1, true),
         (6, 2, false),
     ];
-    in_a_world::<Value, Nests, _>(&rt, AMPLE, &table, 0);
+    let mut setting: Setting<Value> = Setting::new(&rt, AMPLE);
+    nests(&rt, &mut setting.world.at(&setting.place));
+    setting.shows(&rt, &table);
+    setting.closed(&rt, 0);
 }
 
 /// A value that holds one item by each kind of owner and of cell that owns, and a raw cell.
@@ -50,14 +52,13 @@ fn with_each<S: Items<Value> + Cells<Value> + RawCells<Value>>(rt: &impl Abort, 
 }
 
 /// It is retired.
-struct HoldsEach;
-
-impl Example<Value> for HoldsEach {
-    fn run<R: Abort, S: Space<Value>>(rt: &R, s: &mut S) {
-        let value = with_each(rt, s);
-        let outer = owned::made(rt, s, value);
-        owned::retire(s, outer);
-    }
+fn holds_each<S: Items<Value> + Cells<Value> + RawCells<Value>>(rt: &impl Abort, s: &mut S)
+    requires seated { IsSeated (S.seat s.old) }
+    ensures seat { S.seat s.new ≡ S.seat s.old }
+{
+    let value = with_each(rt, s);
+    let outer = owned::made(rt, s, value);
+    owned::retire(s, outer);
 }
 
 /// The greatest sizes, with an eighth of the most slots and cells, as more take a minute. A body that refuses beyond some size with `NoMemory` meets
@@ -82,5 +83,8 @@ fn a_value_gives_up_each_kind_of_owner_and_cell_in_a_world_of_the_greatest_size(
         (5, 1, true),
         (6, 5, false),
     ];
-    in_a_world::<Value, HoldsEach, _>(&rt, GREATEST, &table, 0);
+    let mut setting: Setting<Value> = Setting::new(&rt, GREATEST);
+    holds_each(&rt, &mut setting.world.at(&setting.place));
+    setting.shows(&rt, &table);
+    setting.closed(&rt, 0);
 }

@@ -8,7 +8,7 @@ use std::process::Abort;
 /// An owner that may have others beside it.
 struct SharedInPlace;
 
-impl Example<u64> for SharedInPlace {
+impl Example for SharedInPlace {
     fn run<R: Abort, S: Space<u64>>(rt: &R, s: &mut S) {
         let mut owner = shared::made(rt, s, 38);
         assert!(rt; shared::put(s, &mut owner, 39) == Ok(38));
@@ -24,5 +24,5 @@ impl Example<u64> for SharedInPlace {
 
 #[test]
 fn a_shared_item_is_changed_and_dropped_in_its_place_by_an_owner_that_is_alone(rt: HostRuntime) {
-    in_a_world::<u64, SharedInPlace, _>(&rt, AMPLE, &[(0, 0, false)], 1);
+    in_a_world::<SharedInPlace, _>(&rt, AMPLE, &[(0, 0, false)], 1);
 }

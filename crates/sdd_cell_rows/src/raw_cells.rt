@@ -59,7 +59,7 @@ fn has_none<S: RawCells<u64>>(rt: &impl Abort, s: &mut S)
 
 struct HasPointers;
 
-impl Example<u64> for HasPointers {
+impl Example for HasPointers {
     fn run<R: Abort, S: Space<u64>>(rt: &R, s: &mut S) {
         let owner = owned::made(rt, s, 17);
         let ptr = owned::raw(s, owner);
@@ -75,5 +75,5 @@ impl Example<u64> for HasPointers {
 
 #[test]
 fn a_raw_cell_has_a_pointer_and_owns_nothing(rt: HostRuntime) {
-    in_a_world::<u64, HasPointers, _>(&rt, AMPLE, &[], 0);
+    in_a_world::<HasPointers, _>(&rt, AMPLE, &[], 0);
 }

@@ -7,7 +7,7 @@ use std::process::Abort;
 
 struct GoesRaw;
 
-impl Example<u64> for GoesRaw {
+impl Example for GoesRaw {
     fn run<R: Abort, S: Space<u64>>(rt: &R, s: &mut S) {
         let owner = owned::made(rt, s, 7);
         let raw = owned::raw(s, owner);
@@ -37,5 +37,5 @@ impl Example<u64> for GoesRaw {
 
 #[test]
 fn an_item_goes_raw_and_comes_back(rt: HostRuntime) {
-    in_a_world::<u64, GoesRaw, _>(&rt, AMPLE, &[], 1);
+    in_a_world::<GoesRaw, _>(&rt, AMPLE, &[], 1);
 }

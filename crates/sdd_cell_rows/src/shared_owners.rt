@@ -8,7 +8,7 @@ use std::process::Abort;
 /// The last owner is told, and a guard sees the value still.
 struct Releases;
 
-impl Example<u64> for Releases {
+impl Example for Releases {
     fn run<R: Abort, S: Space<u64>>(rt: &R, s: &mut S) {
         let owner = shared::made_by_closure(rt, s, 47);
         let guard = opened(rt, s);
@@ -27,7 +27,7 @@ impl Example<u64> for Releases {
 /// A copy of a cell has its tag. It is left with nothing, which the weak exchange gives back.
 struct Copies;
 
-impl Example<u64> for Copies {
+impl Example for Copies {
     fn run<R: Abort, S: Space<u64>>(rt: &R, s: &mut S) {
         let cell = shared::cell(rt, s, 7);
         assert!(rt; shared::emptied_weakly(rt, s, &cell, Tag::Second) == Some(7));

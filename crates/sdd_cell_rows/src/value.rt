@@ -3,8 +3,8 @@ use sdd_base::{AtomicOwned, AtomicRaw, AtomicShared, Giver, Item, Owned, Shared}
 /// A number, or what holds other items.
 pub enum Value {
     Number(u64),
-    /// One owner of an item that others may own too.
-    Of(Shared<Value>),
+    /// The owner of an item.
+    Of(Owned<Value>),
     /// One of each kind of owner, and of cell.
     Each(Owned<Value>, Shared<Value>, AtomicOwned<Value>, AtomicShared<Value>, AtomicRaw<Value>),
 }
@@ -17,7 +17,7 @@ impl Item<Value> for Value {
     fn give_up<G: Giver<Value>>(self, giver: &mut G) {
         match self {
             Value::Number(_) => {}
-            Value::Of(owner) => giver.shared(owner),
+            Value::Of(owner) => giver.owned(owner),
             Value::Each(owned, shared, owned_cell, shared_cell, raw_cell) => {
                 giver.owned(owned);
                 giver.shared(shared);

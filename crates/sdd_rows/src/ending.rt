@@ -4,7 +4,7 @@ ghost use Rattle.sdd_base.specs.World.{IsPlaceOf};
 ghost use Rattle.sdd_world.specs.Place.{index_of};
 
 use crate::steps::{AMPLE, closed, joined, made, new_world, retire, shows};
-use sdd_base::{Item, Limits};
+use sdd_base::Limits;
 use sdd_core::Refused;
 use sdd_world::{Place, World};
 use std::process::Abort;
@@ -16,7 +16,7 @@ const ALONE: Limits = Limits {
 };
 
 /// The participant ends, with no guard open.
-fn ends<T: Item<T>>(rt: &impl Abort, world: &mut World<T>, place: Place)
+fn ends(rt: &impl Abort, world: &mut World<u64>, place: Place)
     requires place { IsPlaceOf world.old (index_of place) }
     ensures others { (p : ℕ) → p ≢ index_of place → IsPlaceOf world.old p → IsPlaceOf world.new p }
     ensures home { world.new.home ≡ world.old.home }

@@ -13,8 +13,6 @@ mod jobs;
 #[cfg(test)]
 mod limits_and_memory;
 #[cfg(test)]
-mod nested_values;
-#[cfg(test)]
 mod openings;
 #[cfg(test)]
 mod shown;
@@ -22,8 +20,5 @@ mod shown;
 mod slots_and_owners;
 #[cfg(test)]
 mod steps;
-pub mod value;
 #[cfg(test)]
 mod world_sizes;
-
-pub use value::Value;

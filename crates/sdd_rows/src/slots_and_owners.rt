@@ -12,22 +12,12 @@ use crate::steps::{
 };
 use sdd_base::{Guard, Limits, Owned, Space};
 use sdd_core::Refused;
-use sdd_world::{Place, World};
+use sdd_world::{Place, Turn, World};
 use std::process::Abort;
-
-/// Only the caller's own calls change the space.
-fn is_alone<S: Space<u64>>(_space: &S) -> bool {
-    S::ALONE
-}
 
 #[test]
 fn a_turn_is_alone_with_its_world(rt: HostRuntime) {
-    let mut world: World<u64> = new_world(&rt, AMPLE, 0);
-    let place = joined(&rt, &mut world);
-    let turn = world.at(&place);
-    assert!(rt; is_alone(&turn));
-    drop(turn);
-    closed(&rt, world);
+    assert!(rt; <Turn<'_, u64> as Space<u64>>::ALONE);
 }
 
 #[test]

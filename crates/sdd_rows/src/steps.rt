@@ -1,6 +1,5 @@
 //! Steps that the tests share.
 ghost use Rattle.std.specs.Prelude.{◌≡◌, ◌≢◌, ℕ};
-ghost use Rattle.sdd_base.specs.Holding.{AreOf};
 ghost use Rattle.sdd_base.specs.Owned.{slots_home};
 ghost use Rattle.sdd_base.specs.Guard.{reader_of};
 ghost use Rattle.sdd_base.specs.Seat.{reader_at};
@@ -8,7 +7,7 @@ ghost use Rattle.sdd_base.specs.World.{IsPlaceOf};
 ghost use Rattle.sdd_world.specs.Place.{index_of};
 ghost use Rattle.sdd_rows.specs.Stays.{Stays};
 
-use sdd_base::{Guard, Item, Limits, Owned, Ptr};
+use sdd_base::{Guard, Limits, Owned, Ptr};
 use sdd_core::Refused;
 use sdd_store::Tally;
 use sdd_world::{Place, World};
@@ -25,16 +24,12 @@ pub const AMPLE: Limits = Limits {
 };
 
 /// A world that starts at a count of epochs.
-pub fn new_world<R: Abort + AllocGlobal, T: Item<T>>(
-    rt: &R,
-    limits: Limits,
-    count: u64,
-) -> World<T> {
+pub fn new_world<R: Abort + AllocGlobal>(rt: &R, limits: Limits, count: u64) -> World<u64> {
     World::starting_at(rt.alloc(), limits, count).expect(rt, "the limits are in range")
 }
 
 /// One more participant.
-pub fn joined<T: Item<T>>(rt: &impl Abort, world: &mut World<T>) -> Place
+pub fn joined(rt: &impl Abort, world: &mut World<u64>) -> Place
     ensures place { IsPlaceOf world.new (index_of result) }
     ensures home { world.new.home ≡ world.old.home }
     ensures others { (p : ℕ) → IsPlaceOf world.old p → (p ≢ index_of result) × IsPlaceOf world.new p }
@@ -43,7 +38,7 @@ pub fn joined<T: Item<T>>(rt: &impl Abort, world: &mut World<T>) -> Place
 }
 
 /// The tally of a world that a test is done with.
-pub fn closed<T: Item<T>>(rt: &impl Abort, world: World<T>) -> Tally {
+pub fn closed(rt: &impl Abort, world: World<u64>) -> Tally {
     match world.close() {
         Ok(tally) => tally,
         Err((_world, refused)) => panic!(rt; "{refused:?}"),
@@ -51,7 +46,7 @@ pub fn closed<T: Item<T>>(rt: &impl Abort, world: World<T>) -> Tally {
 }
 
 /// One more guard of the participant.
-pub fn opened<T: Item<T>>(rt: &impl Abort, world: &mut World<T>, place: &Place) -> Guard
+pub fn opened(rt: &impl Abort, world: &mut World<u64>, place: &Place) -> Guard
     requires place { IsPlaceOf world.old (index_of place.now) }
     ensures stays { Stays world.old world.new }
     ensures reader { reader_of result ≡ reader_at world.new (index_of place.now) }
@@ -60,7 +55,7 @@ pub fn opened<T: Item<T>>(rt: &impl Abort, world: &mut World<T>, place: &Place) 
 }
 
 /// Closes a guard of the participant.
-pub fn close<T: Item<T>>(world: &mut World<T>, place: &Place, guard: Guard)
+pub fn close(world: &mut World<u64>, place: &Place, guard: Guard)
     requires place { IsPlaceOf world.old (index_of place.now) }
     requires reader { reader_of guard ≡ reader_at world.old (index_of place.now) }
     ensures stays { Stays world.old world.new }
@@ -69,7 +64,7 @@ pub fn close<T: Item<T>>(world: &mut World<T>, place: &Place, guard: Guard)
 }
 
 /// Which epoch the guard shows now.
-pub fn epoch<T: Item<T>>(world: &mut World<T>, place: &Place, guard: &Guard) -> u8
+pub fn epoch(world: &mut World<u64>, place: &Place, guard: &Guard) -> u8
     requires place { IsPlaceOf world.old (index_of place.now) }
     ensures stays { Stays world.old world.new }
 {
@@ -77,7 +72,7 @@ pub fn epoch<T: Item<T>>(world: &mut World<T>, place: &Place, guard: &Guard) -> 
 }
 
 /// Has the participant's next outermost close scan.
-pub fn accelerate<T: Item<T>>(world: &mut World<T>, place: &Place, guard: &Guard)
+pub fn accelerate(world: &mut World<u64>, place: &Place, guard: &Guard)
     requires place { IsPlaceOf world.old (index_of place.now) }
     ensures stays { Stays world.old world.new }
 {
@@ -85,7 +80,7 @@ pub fn accelerate<T: Item<T>>(world: &mut World<T>, place: &Place, guard: &Guard
 }
 
 /// Something may wait with the participant.
-pub fn has_garbage<T: Item<T>>(world: &mut World<T>, place: &Place, guard: &Guard) -> bool
+pub fn has_garbage(world: &mut World<u64>, place: &Place, guard: &Guard) -> bool
     requires place { IsPlaceOf world.old (index_of place.now) }
     ensures stays { Stays world.old world.new }
 {
@@ -116,7 +111,7 @@ pub fn seen(world: &mut World<u64>, place: &Place, ptr: Ptr<'_, u64>) -> Option<
 }
 
 /// Opens and closes a guard, and tells which epoch it showed.
-pub fn plain<T: Item<T>>(rt: &impl Abort, world: &mut World<T>, place: &Place) -> u8
+pub fn plain(rt: &impl Abort, world: &mut World<u64>, place: &Place) -> u8
     requires place { IsPlaceOf world.old (index_of place.now) }
     ensures stays { Stays world.old world.new }
 {
@@ -127,7 +122,7 @@ pub fn plain<T: Item<T>>(rt: &impl Abort, world: &mut World<T>, place: &Place) -
 }
 
 /// Opens, accelerates and closes a guard, and tells which epoch it showed.
-pub fn accelerated<T: Item<T>>(rt: &impl Abort, world: &mut World<T>, place: &Place) -> u8
+pub fn accelerated(rt: &impl Abort, world: &mut World<u64>, place: &Place) -> u8
     requires place { IsPlaceOf world.old (index_of place.now) }
     ensures stays { Stays world.old world.new }
 {
@@ -139,7 +134,7 @@ pub fn accelerated<T: Item<T>>(rt: &impl Abort, world: &mut World<T>, place: &Pl
 }
 
 /// The accelerated guards of a participant show these epochs, and at each so many items are reclaimed in all.
-pub fn shows<T: Item<T>>(rt: &impl Abort, world: &mut World<T>, place: &Place, table: &[(u8, u128)])
+pub fn shows(rt: &impl Abort, world: &mut World<u64>, place: &Place, table: &[(u8, u128)])
     requires place { IsPlaceOf world.old (index_of place.now) }
     ensures stays { Stays world.old world.new }
 {
@@ -150,9 +145,8 @@ pub fn shows<T: Item<T>>(rt: &impl Abort, world: &mut World<T>, place: &Place, t
 }
 
 /// The owner of a new item.
-pub fn made<T: Item<T>>(rt: &impl Abort, world: &mut World<T>, place: &Place, value: T) -> Owned<T>
+pub fn made(rt: &impl Abort, world: &mut World<u64>, place: &Place, value: u64) -> Owned<u64>
     requires place { IsPlaceOf world.old (index_of place.now) }
-    requires home { AreOf world.old.home (T.holds value) }
     ensures stays { Stays world.old world.new }
     ensures home { slots_home result ≡ world.new.home.slots }
 {
@@ -164,7 +158,7 @@ pub fn made<T: Item<T>>(rt: &impl Abort, world: &mut World<T>, place: &Place, va
 }
 
 /// The item waits with the participant.
-pub fn retire<T: Item<T>>(world: &mut World<T>, place: &Place, owner: Owned<T>)
+pub fn retire(world: &mut World<u64>, place: &Place, owner: Owned<u64>)
     requires place { IsPlaceOf world.old (index_of place.now) }
     requires home { slots_home owner ≡ world.old.home.slots }
     ensures stays { Stays world.old world.new }
