@@ -11,6 +11,7 @@ use Rattle.sdd_stakes.specs.declared.stake.Stake.{Stake}
 use Rattle.sdd_rule.specs.declared.View.{View}
 use Rattle.sdd_rule.specs.declared.Sizes.{Sizes}
 use Rattle.sdd_rule.specs.Codes.{full}
+use Rattle.sdd_rule.specs.Epoch.{HasPlace}
 use Rattle.sdd_rule.specs.Slots.{slot_at, items_at, OwnsAlone, Sees}
 use Rattle.sdd_rule.specs.Parts.{Kept}
 
@@ -61,14 +62,14 @@ abbrev pub IsAtHome : ℕ → Homes → ℕ → ℕ → Type 0
 IsAtHome n hs i p = (y : Stake) × LiesAt n hs i p y
 
 -- the book of the values' places, the words, what all participants know, and what lies at home. A stake is at home unless someone has it out;
--- and who moves a value owns it alone, or its item waits with it
+-- and who moves a value has a place, and owns it alone, or its item waits with it
 pub record HomesPart (γ : ℕ) (sizes : Sizes) (ws : List ℕ) (vs : List View) (hs : Homes) : Type 0 where
   pub few : sizes.participants < most
   pub deep : length hs ≡ homes_for sizes.participants sizes.slots
   pub home : (i p : ℕ) (y : Stake) → i < sizes.slots → p ≤ sizes.participants → LiesAt sizes.participants hs i p y
       → Has γ i (share sizes.participants p) (IsShown (slot_at sizes ws i)) y
   pub back : (i p : ℕ) → i < sizes.slots → p ≤ sizes.participants → NoneOut vs i p → IsAtHome sizes.participants hs i p
-  pub moving : (j : ℕ) (v : View) (i : ℕ) → get_elem? vs j ≡ some v → Moves v i → OwnsAlone v i ⊎ (0 < items_at i v)
+  pub moving : (j : ℕ) (v : View) (i : ℕ) → get_elem? vs j ≡ some v → Moves v i → HasPlace v.epoch × (OwnsAlone v i ⊎ (0 < items_at i v))
 
 -- the whole rule
 pub record Housed (γ : ℕ) (sizes : Sizes) (s : State Stake View) : Type 0 where
