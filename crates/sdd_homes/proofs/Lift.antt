@@ -132,6 +132,9 @@ module _ (γ : ℕ) (sizes : Sizes) (slots : ℕ) where
       record {
         more = more;
         same = same;
-        mover = λ j m. ((stays e t.2).0, ⊎_elim (λ (o : OwnsAlone v j). inl o)
-            (λ (o : 0 < items_at j v). inr (let k = total_map (waits_in j) older (λ x. refl) v.slots.waits in omega arith)) (movers j m).1);
+        mover = λ j m. (
+          (stays e t.2).0,
+          ⊎_elim (λ (o : OwnsAlone v j). inl o)
+              (λ (o : 0 < items_at j v). inr (let k = total_map (waits_in j) older (λ x. refl) v.slots.waits in omega arith)) (movers j m).1,
+        );
       }))

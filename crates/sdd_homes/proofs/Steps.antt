@@ -456,8 +456,8 @@ module _ (γ : ℕ) (sizes : Sizes) (slots id : ℕ) (me : Mine) (p : ℕ) (insi
       (λ s w h at t. let x : ℕ = get_or s.words spot 0 in let y : ℕ = free_no_more x in (
         left_over s h at,
         ⊎_elim (λ (c : ((x ≡ 0) ⊎ (x ≡ 3)) × (w ≡ past p me.0)). subst (AreEnded sizes (set s.words spot y)) (sym c.1)
-        (now_over s h at (⊎_elim (λ (e : x ≡ 0). ap free_no_more e) (λ (e : x ≡ 3). ap free_no_more e) c.0)))
-        (λ (e : w ≡ me.0). subst (AreEnded sizes (set s.words spot y)) (sym e) (still_over s h at)) (which_of x w t),
+            (now_over s h at (⊎_elim (λ (e : x ≡ 0). ap free_no_more e) (λ (e : x ≡ 3). ap free_no_more e) c.0)))
+            (λ (e : w ≡ me.0). subst (AreEnded sizes (set s.words spot y)) (sym e) (still_over s h at)) (which_of x w t),
       ))
       (ended.bars sizes id p me.0 inside) (λ r w t. (refl, t))
       (λ s w h at t. bars_calm s h at w (⊎_elim (λ (c : ((get_or s.words spot 0 ≡ 0) ⊎ (get_or s.words spot 0 ≡ 3)) × (w ≡ past p me.0)). inl c.1)

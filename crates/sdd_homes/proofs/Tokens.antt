@@ -21,6 +21,7 @@ use Rattle.sdd_rule.proofs.Codes.{sound}
 use Rattle.sdd_rule.proofs.Lift as kept
 use Rattle.sdd_rule.proofs.Sums.{total_append}
 use Rattle.sdd_homes.specs.Homes.{stake_at, share, Has, IsShown, Moves, IsOut, LiesAt, AreLaid, HomesPart, Housed}
+use Rattle.sdd_homes.proofs.Places.{inside}
 use Rattle.sdd_homes.proofs.Part.{IsMover}
 use Rattle.sdd_homes.proofs.Part as part
 use Rattle.sdd_homes.proofs.Steps.{none_moved, still_free}
@@ -51,12 +52,12 @@ module _ (γ : ℕ) (sizes : Sizes) where
     homes = record {
       few = few;
       deep = length-map xs some ∙ laid.long;
-      home = λ i p y low near lies. let l = laid.each i p low near in
+      home = λ i p y low near lies. let l = laid.each i p near (inside n sizes.slots i p low near) in
           let same : l.0 ≡ y = some-injective l.0 y (some-injective (some l.0) (some y) (sym (at_map some xs (stake_at n i p) l.0 l.1) ∙ lies)) in
           let has = subst (Has γ i (share n p) IsVacant) same l.2 in
           let empty : full (slot_at sizes ws i) ≡ 0 = ap full (none (Rattle.sdd_rule.specs.Words.slot_word sizes i)) ∙ sound.free.2 in
           (has.0, (λ e. absurd (omega arith), λ _. has.1));
-      back = λ i p low near away. let l = laid.each i p low near in (l.0, at_map some xs (stake_at n i p) l.0 l.1);
+      back = λ i p low near away. let l = laid.each i p near (inside n sizes.slots i p low near) in (l.0, at_map some xs (stake_at n i p) l.0 l.1);
       moving = λ j v i e m. absurd (none_moved v i (subst (λ (u : View). u.stakes.moves ≡ None) (only j v e) refl) m);
     };
   }
@@ -83,8 +84,11 @@ module _ (γ : ℕ) (sizes : Sizes) where
         kept = kept.joins_owners sizes id v other os ss s h.kept at apart there;
         homes = part.calm γ sizes s.words vs s.homes
             (part.calm γ sizes s.words s.views s.homes h.homes id v at s.words w (λ i p out. out) (λ i _. refl)
-            (λ i m. let mover = h.homes.moving id v i at m in (mover.0, ⊎_elim
-            (λ (o : OwnsAlone v i). inl (let e = total_append (is i) os v.slots.owns in omega arith)) (λ (o : 0 < items_at i v). inr o) mover.1)))
+            (λ i m. let mover = h.homes.moving id v i at m in (
+              mover.0,
+              ⊎_elim
+                  (λ (o : OwnsAlone v i). inl (let e = total_append (is i) os v.slots.owns in omega arith)) (λ (o : 0 < items_at i v). inr o) mover.1,
+            )))
             other t there s.words t' (λ i p out. absurd (nothing_out t refl refl i p out)) (λ i _. refl) (λ i m. absurd (none_moved t' i refl m));
       }
 

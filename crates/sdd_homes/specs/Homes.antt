@@ -1,11 +1,13 @@
 -- The homes' part of the rule. The slots of the table are the homes of stakes: for the value of each slot of the domain, one stake for each place,
 -- and one with all other units. What a guard sees, it may look at by the stake of its place; who moves the value in or out has all stakes in it.
-use Rattle.std.specs.Prelude.{◌≡◌, ◌⊎◌, ℕ, suc, ◌+◌, ◌-◌, ◌*◌, ◌<◌, ◌≤◌, List, length, Some, eqb}
+use Rattle.std.specs.Prelude.{◌≡◌, ◌⊎◌, ℕ, suc, ◌+◌, ◌-◌, ◌*◌, ◌<◌, ◌≤◌, List, length, slice_index_or, Some, eqb, true, false}
 use mathlib.Core.Option.{Option, some}
 use lib.ListN.{get_elem?}
 use prog.Atomic.{either}
 use base.Stored.{Gv}
+use Rattle.core.specs.Mem.Slots.{slots_items, slots_filled, slots_len}
 use Rattle.atomic_table.specs.Table.{State}
+use Rattle.atomic_table.specs.declared.owned.Closed.{Closed}
 use Rattle.sdd_stakes.specs.Shelf.{IsFull, IsVacant, most, lot}
 use Rattle.sdd_stakes.specs.declared.stake.Stake.{Stake}
 use Rattle.sdd_rule.specs.declared.View.{View}
@@ -76,7 +78,22 @@ pub record Housed (γ : ℕ) (sizes : Sizes) (s : State Stake View) : Type 0 whe
   pub kept : Kept sizes s
   pub homes : HomesPart γ sizes s.words s.views s.homes
 
+-- the first k homes' stakes in a row, where what those in the slot i show is so
+pub record AreLaidTo (γ n k : ℕ) (Is : ℕ → Gv → Type 0) (stakes : List Stake) : Type 0 where
+  pub long : length stakes ≡ k
+  pub each : (i p : ℕ) → p ≤ n → stake_at n i p < k → (y : Stake) × (get_elem? stakes (stake_at n i p) ≡ some y) × Has γ i (share n p) (Is i) y
+
 -- before anybody takes part: in each home its stake, which shows that the place is vacant
-pub record AreLaid (γ n m : ℕ) (stakes : List Stake) : Type 0 where
-  pub long : length stakes ≡ homes_for n m
-  pub each : (i p : ℕ) → i < m → p ≤ n → (y : Stake) × (get_elem? stakes (stake_at n i p) ≡ some y) × Has γ i (share n p) IsVacant y
+abbrev pub all_vacant : ℕ → Gv → Type 0
+all_vacant i = IsVacant
+
+abbrev pub AreLaid : ℕ → ℕ → ℕ → List Stake → Type 0
+AreLaid γ n m stakes = AreLaidTo γ n (homes_for n m) all_vacant stakes
+
+-- of a closed table: in the first k homes their stakes lie still, the others are empty; what those in a slot show is as the slot's word says
+pub record AreHome {A : Type 0} (γ : ℕ) (sizes : Sizes) (k : ℕ) (closed : Closed Stake A) : Type 0 where
+  pub laid : AreLaidTo γ sizes.participants (homes_for sizes.participants sizes.slots) (λ i. IsShown (slot_at sizes (slots_items closed.words) i))
+      (slots_items closed.slots)
+  pub low : k ≤ slots_len closed.slots
+  pub here : (j : ℕ) → j < k → slice_index_or (slots_filled closed.slots) j false ≡ true
+  pub gone : (j : ℕ) → k ≤ j → slice_index_or (slots_filled closed.slots) j false ≡ false
