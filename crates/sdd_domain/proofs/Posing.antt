@@ -8,6 +8,8 @@ use Rattle.sdd_store.specs.declared.waiting.What.TheVariants.{Item}
 use Rattle.sdd_store.specs.declared.time.Participant.{Participant}
 use Rattle.sdd_store.specs.Waiting.{Waiting, fresh}
 use Rattle.sdd_store.specs.Time.{stirred, awaiting, nested}
+use Rattle.sdd_stakes.specs.declared.stake.Stake.{Stake}
+use Rattle.sdd_rule.specs.declared.StakesView.{StakesView}
 use Rattle.sdd_rule.specs.declared.WaitingItem.{WaitingItem}
 use Rattle.sdd_rule.specs.declared.View.{View}
 use Rattle.sdd_rule.specs.Epoch.{HasPlace, IsLone}
@@ -17,10 +19,11 @@ use Rattle.sdd_rule.specs.Slots.{OwnsAlone, items_at, waits_in}
 use Rattle.sdd_rule.specs.SlotSteps.{retired_now, Retires}
 use Rattle.sdd_rule.proofs.Sums.{is_other, without_other, total_snoc}
 use Rattle.sdd_domain.specs.declared.board.Board.{Board}
-use Rattle.sdd_domain.specs.Board.{slots_of}
+use Rattle.sdd_homes.specs.Homes.{Carries}
+use Rattle.sdd_domain.specs.Board.{book_of, places_of, slots_of}
 use Rattle.sdd_domain.specs.Token.{view, epoch, slots, Taught}
 use Rattle.sdd_domain.specs.Waits.{waiting_of}
-use Rattle.sdd_domain.specs.Posed.{IsPosed}
+use Rattle.sdd_domain.specs.Posed.{IsPurse, IsPosed}
 
 stirs : (c : ℕ) → ¬ (stirred c ≡ 128)
 stirs c e = grind arith
@@ -28,16 +31,18 @@ stirs c e = grind arith
 stirs_low : (c : ℕ) → c ≤ 128 → stirred c ≤ 128
 stirs_low c low = grind arith
 
-module _ {S : Type 0} (b : Board) (p : ℕ) where
-  pub has_place : (own : Participant) (s : Seat S View) → IsPosed b p own s → HasPlace (epoch s)
+module _ (b : Board) (p : ℕ) where
+  pub has_place : (own : Participant) (s : Seat Stake View) → IsPosed b p own s → HasPlace (epoch s)
   has_place own s q = dite (dec_lt 0 own.guards) (λ some_open. let e = q.opened some_open in omega arith)
       (λ none. let e = q.closed (omega arith) in omega arith)
 
-  pub posed_retires : (own : Participant) (slot : ℕ) (s t : Seat S View) → IsPosed b p own s → OwnsAlone (view s) slot → Taught (Retires slot) s 4 t
+  pub posed_retires : (own : Participant) (slot : ℕ) (s t : Seat Stake View) → IsPosed b p own s → OwnsAlone (view s) slot → Taught (Retires slot) s 4 t
       → IsPosed b p (awaiting (Item slot) own) t
   posed_retires own slot s t q mine e = let r = e.3 in subst (λ (v : View). IsPosed b p (awaiting (Item slot) own) (record t { me = (v, t.me.1) })) (sym r.3) record {
     home = e.0 ∙ q.home;
-    none_out = e.2 ∙ q.none_out;
+    purse = subst (λ (xs : Carries). IsPurse (book_of b) (places_of b) p s.me.0.slots.sees xs) (sym e.2) q.purse;
+    unseen = q.unseen;
+    rests = q.rests;
     all = q.all;
     place = q.place;
     inside = q.inside;
@@ -48,9 +53,9 @@ module _ {S : Type 0} (b : Board) (p : ℕ) where
         record { count = n.count; since = (let since = n.since in let more = r.1 in omega arith); known = r.4 (q.opened some_open) };
     lone = λ some_open one. r.2 one ∙ q.lone some_open one;
     free = q.free;
-    sizes = q.sizes;
+    knows = q.knows;
     found = q.found;
-    quiet = record { shares = q.quiet.shares; sees = q.quiet.sees; holds = q.quiet.holds; looked = q.quiet.looked };
+    quiet = record { shares = q.quiet.shares; holds = q.quiet.holds; looked = q.quiet.looked };
     owned = λ i others. dite (ℕ_discrete i slot)
         (λ e. subst (λ (k : ℕ). k < slots_of b) (sym e) (q.owned slot mine))
         (λ ne. q.owned i (let o = without_other slot i ne s.me.0.slots.owns in omega arith));
@@ -62,17 +67,19 @@ module _ {S : Type 0} (b : Board) (p : ℕ) where
     idle = λ e. absurd (stirs own.countdown e);
   }
 
-  pub posed_arrived : (own new : Participant) (c g : ℕ) (xs : List WaitingItem) (s t : Seat S View) → IsPosed b p own s → t.table_id ≡ s.table_id
-      → t.me.1 ≡ s.me.1 → t.me.0.sizes ≡ s.me.0.sizes → epoch t ≡ published (counted (knowing (epoch s) c) c) g → c ≤ g → (IsLone (epoch s) → g ≡ c)
+  pub posed_arrived : (own new : Participant) (c g : ℕ) (xs : List WaitingItem) (s t : Seat Stake View) → IsPosed b p own s → t.table_id ≡ s.table_id
+      → t.me.1 ≡ s.me.1 → t.me.0.sizes ≡ s.me.0.sizes → t.me.0.stakes ≡ s.me.0.stakes → epoch t ≡ published (counted (knowing (epoch s) c) c) g → c ≤ g → (IsLone (epoch s) → g ≡ c)
       → slots t ≡ record s.me.0.slots { waits = xs } → ((i : ℕ) → total (waits_in i) xs ≤ items_at i (view s))
       → new.found ≡ c → new.guards ≡ 0 → new.bags.waiting ≡ map waiting_of xs → new.bags.room ≡ own.bags.room
       → new.countdown ≤ 128 → (new.countdown ≡ 128 → new.bags.waiting ≡ []) → IsPosed b p (nested new) t
-  posed_arrived own new c g xs s t q table others sizes epochs low one_only keeps fewer found none bags room pace idle =
+  posed_arrived own new c g xs s t q table others sizes stakes epochs low one_only keeps fewer found none bags room pace idle =
       let is : t.me.0 ≡ record t.me.0 { epoch = published (counted (knowing (epoch s) c) c) g; slots = record s.me.0.slots { waits = xs } }
       = λ i. record t.me.0 { epoch = epochs i; slots = keeps i } in
       subst (λ (v : View). IsPosed b p (nested new) (record t { me = (v, t.me.1) })) (sym is) record {
         home = table ∙ q.home;
-        none_out = others ∙ q.none_out;
+        purse = subst (λ (xs : Carries). IsPurse (book_of b) (places_of b) p s.me.0.slots.sees xs) (sym others) q.purse;
+        unseen = λ z. absurd (omega arith);
+        rests = ap (λ (k : StakesView). k.moves) stakes ∙ q.rests;
         all = q.all;
         place = q.place;
         inside = q.inside;
@@ -82,9 +89,9 @@ module _ {S : Type 0} (b : Board) (p : ℕ) where
         near = λ _. record { count = low; since = omega arith; known = omega arith };
         lone = λ _ one. one_only one;
         free = q.free;
-        sizes = sizes ∙ q.sizes;
+        knows = (sizes ∙ q.knows.0, ap (λ (k : StakesView). k.book) stakes ∙ q.knows.1);
         found = sym found;
-        quiet = record { shares = q.quiet.shares; sees = q.quiet.sees; holds = q.quiet.holds; looked = q.quiet.looked };
+        quiet = record { shares = q.quiet.shares; holds = q.quiet.holds; looked = q.quiet.looked };
         owned = q.owned;
         waiting = λ i some_wait. q.waiting i (let f = fewer i in omega arith);
         bags = bags;

@@ -1,9 +1,10 @@
-//! A domain: what participants in several threads share, with guards over it, and no items yet.
+//! A domain: what participants in several threads share, values and guards over them.
 #![tactic(auto)]
 
 mod board;
 mod changes;
 mod claims;
+mod closing;
 pub mod domain;
 mod known;
 pub mod local;
@@ -12,6 +13,7 @@ pub mod receipt;
 mod scan;
 mod space;
 mod steps;
+mod values;
 mod words;
 
 pub use domain::Domain;
