@@ -1,11 +1,11 @@
 -- What each call of the table asks for
 use Rattle.std.proofs.Common.{None, ◌≤◌, ◌≡◌, ◌≢◌, ℕ, ◌+◌, ◌<◌, eqb, [], get_or, sym, refl, ap, ◌∙◌, subst, arith}
-use mathlib.Core.Option.{some}
+use mathlib.Core.Option.{none, some}
 use mathlib.Core.Logic.{dite}
 use native.Mathlib.Decide.{ℕ_discrete}
 use lib.ListN.{get_elem?}
 use prog.Atomic.{either}
-use Rattle.atomic_table.specs.Table.{State, Allows}
+use Rattle.atomic_table.specs.Table.{State, step, Allows, Enters}
 use Rattle.atomic_table.specs.declared.shared.Seat.{Seat}
 use Rattle.sdd_stakes.specs.declared.stake.Stake.{Stake}
 use Rattle.sdd_stakes.specs.Shelf.{IsFull, IsVacant}
@@ -27,7 +27,9 @@ use Rattle.sdd_homes.specs.HomeSteps.{Mine, HasAll, Purse, ClaimsAll, Houses, Ta
 use Rattle.sdd_homes.proofs.Lift.{lift_epoch, lift_publish}
 use Rattle.sdd_homes.proofs.Steps.{none_moved, own_place}
 use Rattle.sdd_homes.proofs.Steps as steps
-use Rattle.sdd_domain.specs.Token.{Told, IsSame, IsSameBut, Stepped, Taught, Moved, HasPublished}
+use Rattle.sdd_homes.proofs.Tokens.{enters}
+use Rattle.sdd_rule.specs.Parts.{idle}
+use Rattle.sdd_domain.specs.Token.{Sits, Told, IsSame, IsSameBut, Stepped, Taught, Moved, HasPublished}
 
 -- which of two it is now a number tells, and what holds of both holds of it
 which : (P : EpochView → Type 0) (a b w : EpochView) (x c : ℕ) → (x ≡ c → w ≡ a) → (x ≢ c → w ≡ b) → P a → P b → P w
@@ -36,6 +38,11 @@ which P a b w x c hit miss one two = dite (ℕ_discrete x c) (λ e. subst P (sym
 -- the same, where it had a place before if it has one in either
 had : (v a b w : EpochView) (x c : ℕ) → (x ≡ c → w ≡ a) → (x ≢ c → w ≡ b) → (HasPlace a → HasPlace v) → (HasPlace b → HasPlace v) → HasPlace w → HasPlace v
 had v a b w x c hit miss one two z = dite (ℕ_discrete x c) (λ e. one (subst HasPlace (hit e) z)) (λ ne. two (subst HasPlace (miss ne) z))
+
+-- a new token
+pub may_sit : (γ : ℕ) (sizes : Sizes) (slots i : ℕ)
+    → Enters (Housed γ sizes) slots i (λ r w. Sits (step {S = Stake} slots i 0 0 none) (idle sizes γ, []) r (w, []))
+may_sit γ sizes slots i = enters γ sizes slots i (λ r w. Sits (step {S = Stake} slots i 0 0 none) (idle sizes γ, []) r (w, [])) (λ r. refl)
 
 module _ (γ : ℕ) (sizes : Sizes) (slots id : ℕ) (me : Mine) where
   abbrev v : EpochView

@@ -111,6 +111,7 @@ module _ (b : Board) (p : ℕ) (own : Participant) (count : ℕ) where
         record {
           table = pub_.0.0 ∙ read.0.0.0;
           number = pub_.0.1 ∙ read.0.0.1;
+          others = pub_.0.2 ∙ read.0.0.2;
           sizes = pub_.0.3 ∙ read.0.0.3;
           knew = read.1.1;
           knows = (let f = ap (λ (x : EpochView). x.since) epochs in omega arith);
@@ -165,6 +166,7 @@ module _ (b : Board) (p : ℕ) (own : Participant) (count : ℕ) where
           record {
             table = table;
             number = number;
+            others = others;
             sizes = sizes;
             knew = read.1.1;
             knows = (let f = ap (λ (x : EpochView). x.since) epochs in omega arith);

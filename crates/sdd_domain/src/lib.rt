@@ -11,6 +11,7 @@ pub mod local;
 mod plays;
 pub mod receipt;
 mod scan;
+mod shut;
 mod space;
 mod steps;
 mod values;

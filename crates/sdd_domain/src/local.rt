@@ -15,12 +15,12 @@ use crate::domain::Domain;
 use crate::known::Known;
 use crate::receipt::Receipt;
 use crate::scan::scan;
+use crate::shut::shut;
 use crate::steps;
 use sdd_base::Guard;
 use sdd_base::inner::{guard_with, part_of_guard};
 use sdd_core::Refused;
-use sdd_places::{Stage, Tenure, end_round};
-use sdd_stakes::settle;
+use sdd_places::{Stage, Tenure};
 use sdd_store::{Bags, Participant, Tally, What};
 use sdd_token::{Book, WHOLE};
 use std::alloc::{AllocError, Global};
@@ -136,6 +136,7 @@ impl<'d, T> Local<'d, T> {
     ///
     /// All memory is taken here, and none later: for what may wait with it, and for the slots that it gave back, as many
     /// as there are slots. `NoPlace` where all places were found taken; `NoMemory` where this memory was refused.
+    #[tactic(auto, using(crate::proofs::Moving::no_purse, crate::proofs::Moving::none_lent))]
     pub fn register(domain: &'d Domain<T>) -> Result<Local<'d, T>, Refused>
         ensures registered { IfOk result (IsNew (home_of domain.now) (limits_of domain.now)) }
         ensures refused { IfErr result (λ e. (e ≡ Refused.NoPlace) ⊎ (e ≡ Refused.NoMemory)) }
@@ -276,11 +277,7 @@ impl<'d, T> Local<'d, T> {
         if scans {
             scan(board, &mut self.token, place, self.own.found);
         }
-        self.tenure.join(part);
-        self.tenure.set(&Stage::Closed, &());
-        let ended = end_round(&mut self.tenure);
-        settle(&mut self.token, &board.table.shared, &ended);
-        steps::close(board, &mut self.token, place);
+        shut(board, &mut self.token, place, &mut self.tenure, part);
     }
 
     /// The count of epochs at this moment.
