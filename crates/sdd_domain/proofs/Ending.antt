@@ -1,16 +1,19 @@
 -- Once all places have ended, all stakes lie in their homes.
-use Rattle.std.proofs.Common.{◌≡◌, ℕ, suc, ◌+◌, ◌*◌, ◌<◌, ◌≤◌, List, length, false, refl, sym, ap, ◌∙◌, subst, mul-le-mul_right, arith}
+use Rattle.std.proofs.Common.{◌≡◌, ℕ, zero, suc, ◌+◌, ◌*◌, ◌<◌, ◌≤◌, List, [], ◌∷◌, length, get_or, false, refl, sym, ap, ◌∙◌, subst, mul-le-mul_right, arith}
 use Rattle.std.proofs.lemmas.List.{get_or_past}
-use mathlib.Core.Option.{some}
+use mathlib.Core.Option.{some, some-injective, some-ne-none}
 use mathlib.Core.Logic.{dite}
 use native.Mathlib.Decide.{dec_lt}
 use lib.ListN.{get_elem?}
 use Rattle.core.specs.Mem.Slots.{slots_items, slots_filled, slots_len, slots_counts, IsFull}
 use Rattle.atomic_table.specs.Table.{State, Final, Seen}
 use Rattle.atomic_table.specs.declared.owned.Closed.{Closed}
+use Rattle.sdd_stakes.specs.Stakes.{Lot}
+use Rattle.sdd_stakes.specs.Shelf.{most, lot, vacant, IsWhole, IsVacant}
 use Rattle.sdd_stakes.specs.declared.stake.Stake.{Stake}
 use Rattle.sdd_rule.specs.declared.View.{View}
 use Rattle.sdd_rule.specs.declared.Sizes.{Sizes}
+use Rattle.sdd_rule.specs.Words.{slot_word}
 use Rattle.sdd_rule.specs.Slots.{slot_at}
 use Rattle.sdd_homes.specs.Homes.{stake_at, homes_for, share, Has, IsShown, AreHome, Housed}
 use Rattle.sdd_homes.proofs.Tokens.{all_home}
@@ -38,3 +41,17 @@ home_at_end γ sizes closed id v all fin full = let n : ℕ = sizes.participants
       here = λ j low. full j (omega arith) low;
       gone = λ j past. get_or_past (slots_filled closed.slots) j false (let c = (slots_counts closed.slots).1 in omega arith);
     }
+
+-- ---- what the word of a slot says
+at_get : (l : List ℕ) (i x : ℕ) → get_elem? l i ≡ some x → get_or l i 0 ≡ x
+at_get [] i x e = absurd (some-ne-none x (sym e))
+at_get (y ∷ ys) zero x e = some-injective y x e
+at_get (y ∷ ys) (suc i) x e = at_get ys i x e
+
+pub word_says : (sizes : Sizes) (ws : List ℕ) (slot i x : ℕ) → i ≡ slot_word sizes slot → get_elem? ws i ≡ some x → slot_at sizes ws slot ≡ x
+word_says sizes ws slot i x at e = ap (λ (k : ℕ). get_or ws k 0) (sym at) ∙ at_get ws i x e
+
+-- the stake in a place whose value was moved out
+pub empty_whole : (γ γ' i a : ℕ) (h : Lot) → γ' ≡ γ → h ≡ lot γ' i a vacant most → IsWhole γ i h × IsVacant h.shown
+empty_whole γ γ' i a h same is = let e : h ≡ lot γ i a vacant most = is ∙ ap (λ (k : ℕ). lot k i a vacant most) same in
+    (e ∙ (λ d. lot γ i (sym (ap (λ (h : Lot). h.round) e) d) (sym (ap (λ (h : Lot). h.shown) e) d) most), ap (λ (h : Lot). h.shown) e)

@@ -81,6 +81,17 @@ fn add(sum: Tally, tally: Tally) -> Tally
     }
 }
 
+/// The tallies of all receipts together.
+fn tally_of(receipts: &Vec<Receipt>) -> Tally
+    ensures { result ≡ sum_of receipts.now.items }
+{
+    let mut sum = Tally::new();
+    for receipt in receipts {
+        sum = add(sum, receipt.tally());
+    }
+    sum
+}
+
 impl<T> Domain<T> {
     ghost use Rattle.sdd_domain.specs.Domain.{limits_of};
 
@@ -150,10 +161,6 @@ impl<T> Domain<T> {
         let stock = take_all(&mut closed, &shelf, &title, &sizes_for(&limits));
         closed.free();
         shelf.close(&alloc, stock, hold);
-        let mut sum = Tally::new();
-        for receipt in &receipts {
-            sum = add(sum, receipt.tally());
-        }
-        Ok(sum)
+        Ok(tally_of(&receipts))
     }
 }
