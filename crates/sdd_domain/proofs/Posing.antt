@@ -115,32 +115,34 @@ module _ (b : Board) (p : ℕ) where
       let others : u.me.1 ≡ s.me.1 = rest_out (book_of b) slot (places_of b) (places_of b) IsVacant s.me.1 t.me.1 u.me.1 refl row given in
       let now : view u ≡ claimed slot (owned_word 0) v = is ∙ (ap resting gains.view
       ∙ (λ d. record (claimed slot (owned_word 0) v) { stakes = record v.stakes { moves = sym q.rests d } })) in
-      let inside : slot < slots_of b = (let a = gains.inside in let e = ap (λ (z : Sizes). z.slots) q.knows.0 in omega arith) in
-      (subst (λ (w : View). IsPosed b p own (record u { me = (w, u.me.1) })) (sym now) record {
-        home = table ∙ (gains.table ∙ q.home);
-        purse = subst (λ (xs : Carries). IsPurse (book_of b) (places_of b) p s.me.0.slots.sees xs) (sym others) q.purse;
-        unseen = q.unseen;
-        rests = q.rests;
-        all = q.all;
-        place = q.place;
-        inside = q.inside;
-        count = q.count;
-        closed = q.closed;
-        opened = q.opened;
-        near = q.near;
-        lone = q.lone;
-        free = q.free;
-        knows = q.knows;
-        found = q.found;
-        quiet = record { shares = q.quiet.shares; holds = q.quiet.holds; looked = q.quiet.looked };
-        owned = λ i mine. dite (ℕ_discrete i slot) (λ e. subst (λ (k : ℕ). k < slots_of b) (sym e) inside)
-            (λ ne. q.owned i (let o = is_other i slot (λ e. ne (sym e)) in omega arith));
-        waiting = q.waiting;
-        bags = q.bags;
-        room = q.room;
-        pace = q.pace;
-        idle = q.idle;
-      }, others)
+      let inside : slot < slots_of b = (let a = gains.inside in let e = ap (λ (z : Sizes). z.slots) q.knows.0 in omega arith) in (
+        subst (λ (w : View). IsPosed b p own (record u { me = (w, u.me.1) })) (sym now) record {
+          home = table ∙ (gains.table ∙ q.home);
+          purse = subst (λ (xs : Carries). IsPurse (book_of b) (places_of b) p s.me.0.slots.sees xs) (sym others) q.purse;
+          unseen = q.unseen;
+          rests = q.rests;
+          all = q.all;
+          place = q.place;
+          inside = q.inside;
+          count = q.count;
+          closed = q.closed;
+          opened = q.opened;
+          near = q.near;
+          lone = q.lone;
+          free = q.free;
+          knows = q.knows;
+          found = q.found;
+          quiet = record { shares = q.quiet.shares; holds = q.quiet.holds; looked = q.quiet.looked };
+          owned = λ i mine. dite (ℕ_discrete i slot) (λ e. subst (λ (k : ℕ). k < slots_of b) (sym e) inside)
+              (λ ne. q.owned i (let o = is_other i slot (λ e. ne (sym e)) in omega arith));
+          waiting = q.waiting;
+          bags = q.bags;
+          room = q.room;
+          pace = q.pace;
+          idle = q.idle;
+        },
+        others,
+      )
 
   -- its guards see these
   posed_seeing : (own : Participant) (sees : List ℕ) (s u : Seat Stake View) → IsPosed b p own s → 0 < own.guards → u.table_id ≡ s.table_id
@@ -203,6 +205,8 @@ module _ (b : Board) (p : ℕ) where
   pub posed_shows : (own : Participant) (t slot : ℕ) (s u z : Seat Stake View) → IsPosed b p own s → 0 < own.guards → u.table_id ≡ s.table_id → HasSeen t slot s u
       → z ≡ record u { me = (u.me.0, z.me.1) } → OnlyLends t u.me.1 z.me.1 → IsPosed b p own z × AreLentTo t z.me.1
   posed_shows own t slot s u z q some_open table seen is lends =
-      let still = still_seen (book_of b) (places_of b) p t seen.sees u.me.1 z.me.1 lends seen.purse seen.lent in
-      (posed_seeing own seen.sees s z q some_open (ap (λ (x : Seat Stake View). x.table_id) is ∙ table) (ap (λ (x : Seat Stake View). x.me.0) is ∙ seen.view)
-      still.0, still.1)
+      let still = still_seen (book_of b) (places_of b) p t seen.sees u.me.1 z.me.1 lends seen.purse seen.lent in (
+        posed_seeing own seen.sees s z q some_open (ap (λ (x : Seat Stake View). x.table_id) is ∙ table) (ap (λ (x : Seat Stake View). x.me.0) is ∙ seen.view)
+            still.0,
+        still.1,
+      )

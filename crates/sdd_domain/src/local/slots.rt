@@ -57,12 +57,7 @@ impl<'d, T> Local<'d, T> {
         self.tenure.agree(tenure);
         let board = &self.domain.board;
         watch(board, &mut self.token, slot);
-        self.domain.shelf.show(
-            slot as usize,
-            &mut self.token,
-            &board.table.shared,
-            tenure,
-        )
+        self.domain.shelf.show(slot as usize, &mut self.token, &board.table.shared, tenure)
     }
 
     /// Retires the value in a slot of its own: it waits until three changes were seen. No memory is taken.

@@ -4,6 +4,9 @@ use Rattle.sdd_domain.proofs.Allowed.{may_close}
 use Rattle.sdd_domain.proofs.steps.close.Goals as goal
 
 pub store-requires : goal.store-requires
-store-requires c = let sized = c.args.board.now.sized in let r = c.requires in let key = c.args.board.now.table.shared.key in
-    (r.home, omega arith, may_close _ _ _ _ _ r.knows.0 r.knows.1 (omega (arith, r.open)) _ (omega (arith, r.own)) r.open.0 r.open.1 (omega (arith, r.own)) r.rests
-    (subst (λ (p : ℕ). Purse key.title.book key.sizes.participants p c.args.token.now.me.0.slots.sees c.args.token.now.me.1) r.own.0 r.purse))
+store-requires c = let sized = c.args.board.now.sized in let r = c.requires in let key = c.args.board.now.table.shared.key in (
+  r.home,
+  omega arith,
+  may_close _ _ _ _ _ r.knows.0 r.knows.1 (omega (arith, r.open)) _ (omega (arith, r.own)) r.open.0 r.open.1 (omega (arith, r.own)) r.rests
+      (subst (λ (p : ℕ). Purse key.title.book key.sizes.participants p c.args.token.now.me.0.slots.sees c.args.token.now.me.1) r.own.0 r.purse),
+)

@@ -14,9 +14,11 @@ put-requires-clause-whole g c = let b = c.args.board.now in let sized = b.sized.
     c.args.shelf.now.book r.shelf.book (omega arith) r.row.0 c.args.token.now.me.1 r.row.1
 
 pub house-requires-clause-row : goal.house-requires-clause-row
-house-requires-clause-row g c = let b = c.args.board.now in let r = c.requires in let put = c.put.ensures.seat in
-    (r.row.0, row_after (book_of b) c.args.slot (places_of b) (c.places-count.result + 1) (ap (λ (k : ℕ). k + 1) c.places-count.ensures) IsVacant IsFull _ put.0
-    r.row.0 c.args.token.now.me.1 c.put.new.seat.me.1 tt r.row.1 (ap (λ (s : Seat Stake View). s.me.1) put.1))
+house-requires-clause-row g c = let b = c.args.board.now in let r = c.requires in let put = c.put.ensures.seat in (
+  r.row.0,
+  row_after (book_of b) c.args.slot (places_of b) (c.places-count.result + 1) (ap (λ (k : ℕ). k + 1) c.places-count.ensures) IsVacant IsFull _ put.0
+      r.row.0 c.args.token.now.me.1 c.put.new.seat.me.1 tt r.row.1 (ap (λ (s : Seat Stake View). s.me.1) put.1),
+)
 
 pub returns-clause-given : goal.returns-clause-given
 returns-clause-given g c = let b = c.args.board.now in let n : ℕ = places_of b in let r = c.requires in let put = c.put.ensures.seat in

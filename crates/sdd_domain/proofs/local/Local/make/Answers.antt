@@ -7,9 +7,11 @@ use Rattle.sdd_domain.proofs.Posing.{posed_claims}
 use Rattle.sdd_domain.proofs.local.Local.make.Goals as goal
 
 pub put_value-requires-clause-row : goal.put_value-requires-clause-row
-put_value-requires-clause-row g c = let l = c.self.inside in let b = l.domain.now.board in let q = c.self.invariant.0 in
-    (l.token.me.1, row_out (book_of b) (places_of b) c.in-Ok.slot l.token.me c.claim_free.new.token.me.1 q.knows.1 (ap (λ (z : Sizes). z.participants) q.knows.0)
-    c.in-Ok.ensures.tried.row)
+put_value-requires-clause-row g c = let l = c.self.inside in let b = l.domain.now.board in let q = c.self.invariant.0 in (
+  l.token.me.1,
+  row_out (book_of b) (places_of b) c.in-Ok.slot l.token.me c.claim_free.new.token.me.1 q.knows.1 (ap (λ (z : Sizes). z.participants) q.knows.0)
+      c.in-Ok.ensures.tried.row,
+)
 
 pub invariant_of-self : goal.invariant_of-self
 invariant_of-self g c = let l = c.self.inside in let b = l.domain.now.board in let inv = c.self.invariant in let put = c.put_value.ensures in

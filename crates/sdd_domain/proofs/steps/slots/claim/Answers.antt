@@ -5,7 +5,7 @@ use Rattle.sdd_domain.proofs.Allowed.{moved_at, may_claim}
 use Rattle.sdd_domain.proofs.steps.slots.claim.Goals as goal
 
 pub compare_exchange-requires : goal.compare_exchange-requires
-compare_exchange-requires c = let r = c.requires in 
+compare_exchange-requires c = let r = c.requires in
     (r.home, omega arith, may_claim _ _ _ _ _ r.knows.0 r.knows.1 r.place _ c.args.slot c.slot_word.ensures r.inside r.rests)
 
 pub returns : goal.returns

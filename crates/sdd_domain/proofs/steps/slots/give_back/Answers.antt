@@ -5,7 +5,7 @@ use Rattle.sdd_domain.proofs.Allowed.{moved_at, may_give_back}
 use Rattle.sdd_domain.proofs.steps.slots.give_back.Goals as goal
 
 pub store-requires : goal.store-requires
-store-requires c = let r = c.requires in 
+store-requires c = let r = c.requires in
     (r.home, omega arith, may_give_back _ _ _ _ _ r.knows.0 r.knows.1 r.place _ c.args.slot c.slot_word.ensures r.inside r.due.0 r.due.1 r.row.0 r.row.1)
 
 pub returns : goal.returns

@@ -4,7 +4,7 @@ use Rattle.sdd_domain.proofs.Allowed.{taught_at, may_hold}
 use Rattle.sdd_domain.proofs.steps.slots.hold.Goals as goal
 
 pub load-requires : goal.load-requires
-load-requires c = let r = c.requires in 
+load-requires c = let r = c.requires in
     (r.home, omega arith, may_hold _ _ _ _ _ r.knows.0 r.knows.1 r.place _ c.args.slot c.slot_word.ensures r.inside r.own.0 r.own.1)
 
 pub returns : goal.returns

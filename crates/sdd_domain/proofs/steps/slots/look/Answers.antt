@@ -4,8 +4,8 @@ use Rattle.sdd_domain.proofs.Allowed.{taught_at, may_look}
 use Rattle.sdd_domain.proofs.steps.slots.look.Goals as goal
 
 pub load-requires : goal.load-requires
-load-requires c = let r = c.requires in 
-    (r.home, omega arith, may_look _ _ _ _ _ r.knows.0 r.knows.1 r.place _ c.args.slot c.slot_word.ensures r.inside )
+load-requires c = let r = c.requires in
+    (r.home, omega arith, may_look _ _ _ _ _ r.knows.0 r.knows.1 r.place _ c.args.slot c.slot_word.ensures r.inside)
 
 pub returns : goal.returns
 returns c = let e = c.load.ensures in

@@ -5,7 +5,7 @@ use Rattle.sdd_domain.proofs.Allowed.{taught_at, may_retire}
 use Rattle.sdd_domain.proofs.steps.slots.retire.Goals as goal
 
 pub store-requires : goal.store-requires
-store-requires c = let r = c.requires in 
+store-requires c = let r = c.requires in
     (r.home, omega arith, may_retire _ _ _ _ _ r.knows.0 r.knows.1 r.place _ c.args.slot c.slot_word.ensures r.inside r.own.0 r.own.1 r.rests)
 
 pub returns : goal.returns

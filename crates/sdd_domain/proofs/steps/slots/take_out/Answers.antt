@@ -4,7 +4,7 @@ use Rattle.sdd_domain.proofs.Allowed.{moved_at, may_take_out}
 use Rattle.sdd_domain.proofs.steps.slots.take_out.Goals as goal
 
 pub load-requires : goal.load-requires
-load-requires c = let r = c.requires in 
+load-requires c = let r = c.requires in
     (r.home, omega arith, may_take_out _ _ _ _ _ r.knows.0 r.knows.1 r.place _ c.args.slot c.slot_word.ensures r.inside r.rests r.due)
 
 pub returns : goal.returns
