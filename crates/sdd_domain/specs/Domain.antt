@@ -1,12 +1,16 @@
 -- A domain as its callers see it
+use Rattle.std.specs.Prelude.{◌≡◌}
 use Rattle.sdd_base.specs.declared.limits.Limits.{Limits}
 use Rattle.atomic_table.specs.Seated.{TableId}
-use Rattle.sdd_domain.specs.Board.{id_of}
+use Rattle.sdd_stakes.specs.declared.shelf.Shelf.{Shelf}
+use Rattle.sdd_rule.specs.declared.Sizes.{Sizes}
+use Rattle.sdd_domain.specs.declared.board.Board.{Board}
+use Rattle.sdd_domain.specs.Board.{id_of, book_of, slots_of}
 use Rattle.sdd_domain.specs.declared.domain.Domain.{Domain}
 
 -- which domain it is
-abbrev pub home_of : Domain → TableId
+abbrev pub home_of : {T : Type 0} → Domain T → TableId
 home_of d = id_of d.board
 
-abbrev pub limits_of : Domain → Limits
+abbrev pub limits_of : {T : Type 0} → Domain T → Limits
 limits_of d = d.limits

@@ -3,7 +3,7 @@ use crate::local::Local;
 use sdd_base::{Caller, Guard, Guards, Item, Shows};
 use sdd_core::Refused;
 
-impl<T: Item<T>> Shows<T> for Local<'_> {
+impl<T: Item<T> + Drop> Shows<T> for Local<'_, T> {
     ghost use Rattle.sdd_domain.specs.Space.{nowhere};
 
     ghost home = { λ _. nowhere };
@@ -13,7 +13,7 @@ impl<T: Item<T>> Shows<T> for Local<'_> {
     fn shown_is_of_home(&self) {}
 }
 
-impl<T: Item<T>> Caller<T> for Local<'_> {
+impl<T: Item<T> + Drop> Caller<T> for Local<'_, T> {
     ghost use Rattle.std.specs.Prelude.{refl};
     ghost use Rattle.sdd_domain.specs.Space.{seat_of, known_of, no_world, never_exact};
 
@@ -32,7 +32,7 @@ impl<T: Item<T>> Caller<T> for Local<'_> {
     ghost shows_is_value = { λ l exact _ _. absurd (never_exact l exact) };
 }
 
-impl<T: Item<T>> Guards<T> for Local<'_> {
+impl<T: Item<T> + Drop> Guards<T> for Local<'_, T> {
     #[inline]
     fn open_guard(&mut self) -> Result<Guard, Refused> {
         Local::open_guard(self)

@@ -17,6 +17,7 @@ use denote.Struct.Laws.{RawPtr-copy}
 use Rattle.sdd_stakes.specs.contracts.shelf.Shelf as shelf
 use Rattle.sdd_stakes.specs.contracts.stake.Stake as stake
 use Rattle.sdd_stakes.specs.contracts.stock.Stock as stock
+use Rattle.sdd_stakes.specs.contracts.title.Title as title
 
 abbrev pub Peg : RattleType
 Peg = Struct (shape stake.the_type)
@@ -49,4 +50,11 @@ stock_told vs is = is.1.0 ∙ ap (λ (ws : List Val). vstruct (of_list (ws ++ []
 
 pub stock_made : {M : Type 1} {𝓤 : Ura M} (𝓛 : Logic 𝓤) → ent 𝓤 (emp 𝓤) (sem 𝓛 (StockData.own_val (tt, tt) (token_val ∷ [])))
 stock_made 𝓛 = makes_shadow 𝓛 (StockData.own_val (tt, tt) (token_val ∷ [])) (λ vss. (tt, ((λ uss. (tt, tt)), tt)))
+    ((vstruct vnil ∷ [], tt), (refl, ((tt, (refl, tt)), tt)))
+
+abbrev pub TitleData : RattleType
+TitleData = Struct (shape title.the_type)
+
+pub title_made : {M : Type 1} {𝓤 : Ura M} (𝓛 : Logic 𝓤) → ent 𝓤 (emp 𝓤) (sem 𝓛 (TitleData.own_val (tt, tt) (token_val ∷ [])))
+title_made 𝓛 = makes_shadow 𝓛 (TitleData.own_val (tt, tt) (token_val ∷ [])) (λ vss. (tt, ((λ uss. (tt, tt)), tt)))
     ((vstruct vnil ∷ [], tt), (refl, ((tt, (refl, tt)), tt)))

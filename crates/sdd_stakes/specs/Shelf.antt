@@ -79,6 +79,10 @@ lot γ i a g k = record { book = γ; number = i; round = a; shown = g; units = k
 abbrev pub most : ℕ
 most = 2 ^ 63 - 1
 
+-- it has all units of the number i but the place's own, and isn't lent
+abbrev pub IsWhole : ℕ → ℕ → Lot → Type 0
+IsWhole γ i h = h ≡ lot γ i h.round h.shown most
+
 -- ---- a look
 -- one of these stakes is in a full place's number, and may be lent to the tenure t, or is
 pub record CanShow (γ i t : ℕ) (hs : List Lot) : Type 0 where

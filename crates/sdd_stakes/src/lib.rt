@@ -6,8 +6,10 @@ mod seats;
 mod shelf;
 mod stake;
 mod stock;
+mod title;
 
 pub use seats::settle;
 pub use shelf::Shelf;
 pub use stake::Stake;
 pub use stock::Stock;
+pub use title::Title;

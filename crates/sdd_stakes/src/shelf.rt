@@ -1,11 +1,12 @@
 //! Values side by side in memory that threads share.
 ghost use Rattle.std.specs.Prelude.{◌≡◌, ◌<◌, ℕ, IfOk};
 ghost use Rattle.sdd_stakes.specs.Seats.{lots, OnlyLends};
-ghost use Rattle.sdd_stakes.specs.Shelf.{shelf_owns, shelf_shares, CanShow, Shows, IsFull, IsVacant, HasWhole, AreWhole, showing, vacant, all_turned, AreVacant};
+ghost use Rattle.sdd_stakes.specs.Shelf.{shelf_owns, shelf_shares, CanShow, Shows, IsFull, IsVacant, HasWhole, AreWhole, IsWhole, lot, most, showing, vacant, all_turned, AreVacant};
 ghost use Rattle.std_alloc.specs.Vec.Ownership.{FitsInBlock};
 
 use crate::stake::Stake;
 use crate::stock::Stock;
+use crate::title::Title;
 use atomic_table::{Seat, Shared, TableRule};
 use sdd_places::{Hold, Room, Tenure};
 use std::alloc::{AllocError, Allocator};
@@ -55,6 +56,13 @@ impl<T> Shelf<T> {
             Stock { of: PhantomData },
             Hold { ptr, len, by },
         )
+    }
+
+    /// Which book its places are of.
+    pub fn title(&self) -> Title
+        ensures { result.book ≡ self.now.book }
+    {
+        Title { of: PhantomData }
     }
 
     /// Gives the memory back, by the stakes in all places. They are vacant.
@@ -108,6 +116,19 @@ impl<T> Shelf<T> {
         let _ = seat;
         let _ = table;
         let _ = count;
+        let p = self.ptr;
+        unsafe { p.add(at).read() }
+    }
+
+    /// Moves the value out of a full place, by a stake with all units of its number but the place's own, which shows then that it is vacant.
+    pub fn take_by(&self, at: usize, stake: &mut Stake) -> T
+        requires inside { at < self.now.size }
+        requires whole { IsWhole self.now.book at stake.old.lot }
+        requires full { IsFull stake.old.lot.shown }
+        ensures vacant { (round : ℕ) × (stake.new.lot ≡ lot self.now.book at round vacant most) }
+        ensures value { stake.old.lot.shown ≡ showing T.row result }
+    {
+        let _ = stake;
         let p = self.ptr;
         unsafe { p.add(at).read() }
     }
