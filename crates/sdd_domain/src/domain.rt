@@ -163,4 +163,15 @@ impl<T> Domain<T> {
         shelf.close(&alloc, stock, hold);
         Ok(tally_of(&receipts))
     }
+    /// Lets go of a domain in which something is out for ever. Its memory, and the values in it, stay where they are.
+    pub fn leak(self) {
+        let Domain {
+            board: _,
+            shelf,
+            hold,
+            limits: _,
+            alloc: _,
+        } = self;
+        shelf.leak(hold);
+    }
 }

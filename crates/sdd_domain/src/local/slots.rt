@@ -1,5 +1,5 @@
 //! Values in slots, by number: a participant makes one, looks at it under a guard, and retires it.
-ghost use Rattle.std.specs.Prelude.{◌≡◌, ◌⊎◌, ℕ, MatchResult};
+ghost use Rattle.std.specs.Prelude.{◌≡◌, ◌⊎◌, ℕ, IfOk, MatchResult};
 ghost use Rattle.sdd_base.specs.Guard.{reader_of};
 ghost use Rattle.sdd_domain.specs.Local.{IsLone, IsUsedUp, ClaimsSlot, LooksAt, RetiresSlot, Owns};
 
@@ -18,10 +18,11 @@ impl<'d, T> Local<'d, T> {
     /// The value comes back where it is refused: `NoSlot` where a walk over all slots found none free; `Contended` where as many exchanges
     /// were lost as the limits allow.
     pub fn make(&mut self, value: T) -> Result<u32, (T, Refused)>
-        ensures { MatchResult result
+        ensures made { MatchResult result
             (λ slot. ClaimsSlot slot self.old self.new)
             (λ e. (e.0 ≡ value) × (self.new ≡ self.old) × ((e.1 ≡ Refused.NoSlot) ⊎ (e.1 ≡ Refused.Contended))
             × (IsLone self.old → (e.1 ≡ Refused.NoSlot) × IsUsedUp self.old)) }
+        ensures owned { IfOk result (λ slot. Owns self.new slot) }
     {
         let slots = self.domain.limits.slots as u32;
         let tries = self.domain.limits.tries;
