@@ -194,7 +194,7 @@ impl<'d, T> Local<'d, T> {
         Ok(Receipt::new(token, tally))
     }
 
-    /// How many items it made, reclaimed and dropped in place.
+    /// How many items it made, reclaimed and dropped in place. Values that are made by number aren't counted.
     pub fn tally(&self) -> Tally
         ensures { result ≡ self.now.tally }
     {
