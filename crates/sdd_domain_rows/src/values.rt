@@ -135,11 +135,7 @@ fn two(rt: &(impl Abort + Threads + Sync), domain: &Domain<u64>, first: u64) -> 
 }
 
 fn four(rt: &(impl Abort + Threads + Sync), domain: &Domain<u64>, first: u64) {
-    join(
-        rt,
-        || two(rt, domain, first),
-        || two(rt, domain, first + 2),
-    );
+    join(rt, || two(rt, domain, first), || two(rt, domain, first + 2));
 }
 
 #[test]
