@@ -8,7 +8,6 @@ use Rattle.sdd_store.specs.Waiting.{Waiting, aged, due, left}
 use Rattle.sdd_store.specs.Time.{nested, rotated, settled, due_next}
 use Rattle.sdd_stakes.specs.declared.stake.Stake.{Stake}
 use Rattle.sdd_rule.specs.declared.EpochView.{EpochView}
-use Rattle.sdd_rule.specs.declared.StakesView.{StakesView}
 use Rattle.sdd_rule.specs.declared.SlotsView.{SlotsView}
 use Rattle.sdd_rule.specs.declared.WaitingItem.{WaitingItem}
 use Rattle.sdd_rule.specs.declared.View.{View}

@@ -1,14 +1,13 @@
 -- A value comes into the place of a slot, and leaves it; and what the guards see is shown.
-use Rattle.std.proofs.Common.{◌≡◌, ℕ, suc, ◌+◌, ◌<◌, List, [], ◌∷◌, drop, sym, refl, ap, ◌∙◌, subst, inl, inr, ⊎_elim, arith}
-use Rattle.std.specs.Prelude.{None, Some}
+use Rattle.std.proofs.Common.{◌≡◌, ℕ, suc, ◌+◌, ◌<◌, List, [], ◌∷◌, drop, sym, refl, ap, ◌∙◌, subst, inl, arith}
+use Rattle.std.specs.Prelude.{None}
 use mathlib.Core.Logic.{dite}
 use native.Mathlib.Decide.{ℕ_discrete}
 use base.Stored.{Gv}
-use Rattle.sdd_places.specs.Block.{IsFreeFor}
 use Rattle.sdd_stakes.specs.Stakes.{Lot, AllFreeFor, unlent}
 use Rattle.sdd_stakes.specs.Seats.{lots, plain, OnlyLends}
 use Rattle.sdd_stakes.specs.declared.stake.Stake.{Stake}
-use Rattle.sdd_stakes.specs.Shelf.{most, lot, IsFull, IsVacant, CanShow, HasWhole, all_turned}
+use Rattle.sdd_stakes.specs.Shelf.{most, IsFull, IsVacant, CanShow, HasWhole, all_turned}
 use Rattle.sdd_rule.specs.declared.View.{View}
 use Rattle.sdd_rule.specs.SlotSteps.{given_back, claimed, Knew, LooksAtSlot}
 use Rattle.sdd_rule.specs.Codes.{free_word, owned_word}

@@ -1,11 +1,7 @@
 -- A domain as its callers see it
-use Rattle.std.specs.Prelude.{◌≡◌}
 use Rattle.sdd_base.specs.declared.limits.Limits.{Limits}
 use Rattle.atomic_table.specs.Seated.{TableId}
-use Rattle.sdd_stakes.specs.declared.shelf.Shelf.{Shelf}
-use Rattle.sdd_rule.specs.declared.Sizes.{Sizes}
-use Rattle.sdd_domain.specs.declared.board.Board.{Board}
-use Rattle.sdd_domain.specs.Board.{id_of, book_of, slots_of}
+use Rattle.sdd_domain.specs.Board.{id_of}
 use Rattle.sdd_domain.specs.declared.domain.Domain.{Domain}
 
 -- which domain it is

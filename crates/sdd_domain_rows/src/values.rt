@@ -118,38 +118,27 @@ fn a_domain_is_not_closed_while_an_item_has_an_owner(rt: HostRuntime) {
 }
 
 /// What a thread does: it registers, uses values, and ends.
-fn takes_part(rt: &impl Abort, domain: &Domain<u64>, first: u64) -> Receipt {
+fn takes_part(rt: &impl Abort, domain: &Domain<u64>) -> Receipt {
     let mut local = registered(rt, domain);
-    for turn in 0..200 {
-        uses(rt, &mut local, first * 1000 + turn);
+    for value in 0..200 {
+        uses(rt, &mut local, value);
     }
     ended(rt, local)
 }
 
-fn two(rt: &(impl Abort + Threads + Sync), domain: &Domain<u64>, first: u64) -> (Receipt, Receipt) {
-    join(
-        rt,
-        || takes_part(rt, domain, first),
-        || takes_part(rt, domain, first + 1),
-    )
+fn two(rt: &(impl Abort + Threads + Sync), domain: &Domain<u64>) {
+    join(rt, || takes_part(rt, domain), || takes_part(rt, domain));
 }
 
-fn four(rt: &(impl Abort + Threads + Sync), domain: &Domain<u64>, first: u64) {
-    join(rt, || two(rt, domain, first), || two(rt, domain, first + 2));
+fn four(rt: &(impl Abort + Threads + Sync), domain: &Domain<u64>) {
+    join(rt, || two(rt, domain), || two(rt, domain));
 }
 
 #[test]
 fn eight_threads_share_four_slots(rt: HostRuntime) {
     let domain = new_domain(&rt, FEW_SLOTS);
-    join(&rt, || four(&rt, &domain, 0), || four(&rt, &domain, 4));
-    let mut local = registered(&rt, &domain);
-    let mut made = 0;
-    for turn in 0..8 {
-        if uses(&rt, &mut local, turn) {
-            made += 1;
-        }
-    }
-    assert!(rt; made <= 8);
+    join(&rt, || four(&rt, &domain), || four(&rt, &domain));
+    let local = registered(&rt, &domain);
     ended(&rt, local);
     closed(&rt, domain, Vec::new(rt.alloc()));
 }

@@ -23,7 +23,7 @@ use Rattle.sdd_rule.specs.Steps.{Steps}
 use Rattle.sdd_rule.specs.Sums.{times}
 use Rattle.sdd_rule.specs.Slots.{slot_at, owners_at, items_at, OwnsAlone, Sees, Holds}
 use Rattle.sdd_rule.specs.SlotSteps.{claimed, given_back, discarded, seeing, AtSlot, Claims, Retires, GivesBack, LooksAtSlot, Watches, TakesHold, LetsGo, Discards, LooksForGuard, ClosesAll, IsDue}
-use Rattle.sdd_rule.specs.Parts.{epoch_of, Parts}
+use Rattle.sdd_rule.specs.Parts.{epoch_of}
 use Rattle.sdd_rule.specs.Ended.{AreEnded, past, Bars}
 use Rattle.sdd_rule.proofs.Ended.{Spares, one_spared}
 use Rattle.sdd_rule.proofs.Ended as ended

@@ -4,7 +4,7 @@ use mathlib.Core.Option.{some, some-injective, some-ne-none}
 use mathlib.Core.List.{map-append}
 use lib.ListN.{get_elem?}
 use lib.Seq.{map-set}
-use Rattle.atomic_table.specs.Table.{State, Enters, Splits, Joins, opening}
+use Rattle.atomic_table.specs.Table.{Enters, Splits, Joins, opening}
 use Rattle.atomic_table.proofs.Lists.{at_map, at_snoc, set_again, set_else, set_here}
 use Rattle.sdd_rule.specs.declared.EpochView.{EpochView}
 use Rattle.sdd_rule.specs.declared.PlacesView.{PlacesView}

@@ -1,10 +1,9 @@
-use Rattle.std.proofs.Common.{◌≡◌, ℕ, ◌+◌, ◌-◌, ◌<◌, ◌≤◌, List, [], ◌∷◌, sym, refl, ap, ◌∙◌, subst, arith}
-use Rattle.core.specs.Mem.Slots.{slots_items, slots_len, slots_counts}
+use Rattle.std.proofs.Common.{◌≡◌, ℕ, ◌-◌, List, sym, refl, ap, ◌∙◌, subst, arith}
+use Rattle.core.specs.Mem.Slots.{slots_items, slots_counts}
 use Rattle.sdd_stakes.specs.Stakes.{Lot}
 use Rattle.sdd_stakes.specs.Shelf.{AreVacant, IsWhole, IsVacant}
 use Rattle.sdd_stakes.specs.declared.stake.Stake.{Stake}
 use Rattle.sdd_rule.specs.Codes.{full}
-use Rattle.sdd_rule.specs.Slots.{slot_at}
 use Rattle.sdd_homes.specs.Homes.{stake_at, AreHome}
 use Rattle.sdd_homes.proofs.Laid.{all_homes, first_home, vacant_more}
 use Rattle.sdd_domain.proofs.Ending.{word_says, empty_whole}

@@ -1,4 +1,4 @@
-use Rattle.std.proofs.Common.{◌≡◌, ℕ, arith, subst}
+use Rattle.std.proofs.Common.{ℕ, arith, subst}
 use Rattle.sdd_homes.specs.HomeSteps.{Purse}
 use Rattle.sdd_domain.proofs.Allowed.{may_close}
 use Rattle.sdd_domain.proofs.steps.close.Goals as goal

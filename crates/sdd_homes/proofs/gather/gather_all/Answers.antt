@@ -1,4 +1,4 @@
-use Rattle.std.proofs.Common.{◌≡◌, ℕ, ◌+◌, ◌-◌, List, [], ◌∷◌, length, sym, refl, ap, ◌∙◌, subst, vec_len, arith}
+use Rattle.std.proofs.Common.{◌≡◌, ℕ, ◌-◌, List, length, sym, ap, subst, vec_len, arith}
 use Rattle.sdd_stakes.specs.Stakes.{Lot}
 use Rattle.sdd_stakes.specs.Shelf.{AreVacant}
 use Rattle.sdd_homes.specs.Homes.{stake_at, all_vacant, AreLaidTo}

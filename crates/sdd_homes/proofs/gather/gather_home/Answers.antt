@@ -1,4 +1,4 @@
-use Rattle.std.proofs.Common.{◌≡◌, ℕ, ◌+◌, ◌-◌, ◌<◌, List, refl, sym, ap, ◌∙◌, subst, arith}
+use Rattle.std.proofs.Common.{◌≡◌, ℕ, ◌+◌, ◌-◌, refl, sym, ap, ◌∙◌, subst, arith}
 use base.Stored.{Gv}
 use Rattle.core.specs.Mem.Slots.{slots_items}
 use Rattle.sdd_stakes.specs.Stakes.{Lot}

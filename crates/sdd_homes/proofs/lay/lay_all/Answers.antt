@@ -1,7 +1,6 @@
-use Rattle.std.proofs.Common.{◌≡◌, ℕ, ◌+◌, ◌-◌, List, length, sym, refl, ap, ◌∙◌, subst, vec_len, arith}
+use Rattle.std.proofs.Common.{◌≡◌, ℕ, ◌+◌, ◌-◌, length, sym, refl, ap, ◌∙◌, subst, vec_len, arith}
 use Rattle.sdd_stakes.specs.Stakes.{Lot}
 use Rattle.sdd_stakes.specs.Shelf.{AreVacant}
-use Rattle.sdd_stakes.specs.declared.stake.Stake.{Stake}
 use Rattle.sdd_homes.specs.Homes.{stake_at, all_vacant, AreLaidTo}
 use Rattle.sdd_homes.proofs.Places.{inside}
 use Rattle.sdd_homes.proofs.Laid.{row_ends, all_homes, none_laid, vacant_first}

@@ -1,7 +1,6 @@
-use Rattle.std.proofs.Common.{◌≡◌, ℕ, ◌<◌, rules, sym, subst, arith}
+use Rattle.std.proofs.Common.{ℕ, ◌<◌, rules, sym, subst}
 use Rattle.sdd_stakes.specs.Seats.{lots}
 use Rattle.sdd_stakes.specs.Shelf.{CanShow}
-use Rattle.sdd_homes.specs.Homes.{Carries}
 use Rattle.sdd_domain.specs.Board.{book_of, places_of}
 use Rattle.sdd_domain.specs.Posed.{AreLentTo}
 use Rattle.sdd_domain.proofs.Moving.{can_show}
