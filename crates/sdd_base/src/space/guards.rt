@@ -29,8 +29,10 @@ pub trait Guards<T: Item<T>>: Caller<T> {
             (λ _. KnowsOn (Self.known self.old) (Self.known self.new)) }
         ensures lone { IsLone (Self.seat self.old) → (Self.known self.new).told ≡ (Self.known self.old).told }
         ensures exact { IsExact (Self.seat self.old) → MatchResult result
-            (λ _. CanNest (Self.world self.old).time (Self.seat self.old).place × (Self.world self.new ≡ opened T.holds (Self.world self.old) (Self.seat self.old).place))
-            (λ e. (e ≡ Refused.TooManyGuards) × ¬ (CanNest (Self.world self.old).time (Self.seat self.old).place) × (Self.world self.new ≡ Self.world self.old)) }
+            (λ _. CanNest (Self.world self.old).time (Self.seat self.old).place ×
+            (Self.world self.new ≡ opened T.holds (Self.world self.old) (Self.seat self.old).place))
+            (λ e. (e ≡ Refused.TooManyGuards) × ¬ (CanNest (Self.world self.old).time (Self.seat self.old).place) ×
+            (Self.world self.new ≡ Self.world self.old)) }
         ensures keeps { IsTrue (is_open (Self.own self.old)) →
             KeepsShown (Self.shows self.old) (Self.shows self.new) };
 
