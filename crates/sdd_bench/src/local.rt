@@ -16,17 +16,20 @@ use std::alloc::Global;
 pub fn run(alloc: Global, limits: Limits, guarding: Guarding, turns: u64) -> Result<Tally, Refused>
     ensures limits { ¬ (AreInRange limits) → result ≡ Err Refused.BadLimits }
 {
-    let domain = Domain::new(alloc, limits)?;
+    let domain: Domain<u64> = Domain::new(alloc, limits)?;
     let tally = in_domain(&domain, guarding, turns);
     match domain.close(Vec::new(alloc)) {
         Ok(_nobody) => tally,
-        Err(_) => unreachable!(),
+        Err((domain, _receipts, refused)) => {
+            domain.leak();
+            Err(refused)
+        }
     }
 }
 
-fn in_domain(domain: &Domain, guarding: Guarding, turns: u64) -> Result<Tally, Refused> {
+fn in_domain(domain: &Domain<u64>, guarding: Guarding, turns: u64) -> Result<Tally, Refused> {
     let mut local = Local::register(domain)?;
-    let done = turns::guards::<Local<'_>>(&mut local, guarding, turns);
+    let done = turns::guards::<Local<'_, u64>>(&mut local, guarding, turns);
     match local.end() {
         Ok(receipt) => {
             done?;

@@ -6,6 +6,7 @@ use Rattle.sdd_store.specs.declared.waiting.What.{What}
 use Rattle.sdd_store.specs.declared.time.Participant.{Participant}
 use Rattle.sdd_store.specs.Waiting.{Waiting, aged, due, left}
 use Rattle.sdd_store.specs.Time.{nested, rotated, settled, due_next}
+use Rattle.sdd_stakes.specs.declared.stake.Stake.{Stake}
 use Rattle.sdd_rule.specs.declared.EpochView.{EpochView}
 use Rattle.sdd_rule.specs.declared.SlotsView.{SlotsView}
 use Rattle.sdd_rule.specs.declared.WaitingItem.{WaitingItem}
@@ -88,9 +89,9 @@ module _ (count : ℕ) (own : Participant) where
   due_moved : own.found ≢ count → due_at count own ≡ due_next own
   due_moved ne = ap (λ (b : Bool). if b then [] else due_next own) (ne_eqb own.found count ne)
 
-module _ {S : Type 0} (b : Board) (p : ℕ) (own : Participant) (count : ℕ) where
+module _ (b : Board) (p : ℕ) (own : Participant) (count : ℕ) where
   -- the same count is found again
-  pub arrived_same : (s t u : Seat S View) → IsPosed b p own s → own.guards ≡ 0 → Stepped Reads s count t → own.found ≡ count → HasPublished t u
+  pub arrived_same : (s t u : Seat Stake View) → IsPosed b p own s → own.guards ≡ 0 → Stepped Reads s count t → own.found ≡ count → HasPublished t u
       → IsPosed b p (nested own) u × Arrives count own s u
   arrived_same s t u q shut read same pub_ =
       let g : ℕ = pub_.4.0 in let e : EpochView = epoch s in
@@ -103,11 +104,13 @@ module _ {S : Type 0} (b : Board) (p : ℕ) (own : Participant) (count : ℕ) wh
       let keeps : slots u ≡ slots s = pub_.2 ∙ (unchanged (view t) found ∙ read.0.2) in
       let lone : IsLone e → g ≡ count
       = λ one. pub_.4.3 (ap (λ (x : EpochView). x.all) read.1.0 ∙ one) ∙ ap (λ (x : EpochView). x.known) read.1.0 in (
-        posed_arrived b p own own count g s.me.0.slots.waits s u q (pub_.0.0 ∙ read.0.0.0) (pub_.0.2 ∙ read.0.0.2) (pub_.0.3 ∙ read.0.0.3) epochs low lone keeps
+        posed_arrived b p own own count g s.me.0.slots.waits s u q (pub_.0.0 ∙ read.0.0.0) (pub_.0.2 ∙ read.0.0.2) (pub_.0.3 ∙ read.0.0.3)
+            (pub_.0.4 ∙ read.0.0.4) epochs low lone keeps
             (λ i. omega arith) same shut q.bags refl q.pace q.idle,
         record {
           table = pub_.0.0 ∙ read.0.0.0;
           number = pub_.0.1 ∙ read.0.0.1;
+          others = pub_.0.2 ∙ read.0.0.2;
           sizes = pub_.0.3 ∙ read.0.0.3;
           knew = read.1.1;
           knows = (let f = ap (λ (x : EpochView). x.since) epochs in omega arith);
@@ -118,7 +121,7 @@ module _ {S : Type 0} (b : Board) (p : ℕ) (own : Participant) (count : ℕ) wh
         },
       )
 
-  module _ (s t u w : Seat S View) (q : IsPosed b p own s) (read : Stepped Reads s count t) (apart : own.found ≢ count)
+  module _ (s t u w : Seat Stake View) (q : IsPosed b p own s) (read : Stepped Reads s count t) (apart : own.found ≢ count)
       (write : Stepped Counts t count u) (pub_ : HasPublished u w) where
     known_now : epoch u ≡ counted (knowing (epoch s) count) count
     known_now = write.1 ∙ ap (λ (x : EpochView). counted x count) read.1.0
@@ -136,7 +139,7 @@ module _ {S : Type 0} (b : Board) (p : ℕ) (own : Participant) (count : ℕ) wh
         let m = same_items i s.me.0.slots.waits in omega arith)
 
     -- another count is found: what waits has seen one change more, and what is due is given back
-    pub arrived_moved : (z : Seat S View) → own.guards ≡ 0 → Taught (GivesAllBack (due_next own)) w 0 z
+    pub arrived_moved : (z : Seat Stake View) → own.guards ≡ 0 → Taught (GivesAllBack (due_next own)) w 0 z
         → IsPosed b p (nested (settled (rotated count own))) z × Arrives count own s z
     arrived_moved z shut gives =
         let g : ℕ = pub_.4.0 in let e : EpochView = epoch s in let xs : List WaitingItem = s.me.0.slots.waits in
@@ -151,16 +154,18 @@ module _ {S : Type 0} (b : Board) (p : ℕ) (own : Participant) (count : ℕ) wh
         let number : z.id ≡ s.id = gives.1 ∙ (pub_.0.1 ∙ (write.0.0.1 ∙ read.0.0.1)) in
         let others : z.me.1 ≡ s.me.1 = gives.2 ∙ (pub_.0.2 ∙ (write.0.0.2 ∙ read.0.0.2)) in
         let before : w.me.0.sizes ≡ s.me.0.sizes = pub_.0.3 ∙ (write.0.0.3 ∙ read.0.0.3) in
+        let stakes : z.me.0.stakes ≡ s.me.0.stakes = ap (λ (v : View). v.stakes) gives.3 ∙ (pub_.0.4 ∙ (write.0.0.4 ∙ read.0.0.4)) in
         let words : w.me.0.words ≡ s.me.0.words = pub_.3 ∙ (write.0.3 ∙ read.0.3) in
         let sizes : z.me.0.sizes ≡ s.me.0.sizes = ap (λ (v : View). v.sizes) gives.3 ∙ before in
         let bags : left (aged own.bags.waiting) ≡ map waiting_of (unripe (map older xs))
         = ap (λ (ws : List Waiting). left (aged ws)) q.bags ∙ (ap left (aged_alike xs) ∙ left_alike (map older xs)) in (
-          posed_arrived b p own (settled (rotated count own)) count g (unripe (map older xs)) s z q table others sizes epochs low lone keeps
+          posed_arrived b p own (settled (rotated count own)) count g (unripe (map older xs)) s z q table others sizes stakes epochs low lone keeps
               (λ i. let a = fewer_left i (map older xs) in let m = same_items i xs in omega arith)
               refl shut bags refl (settled_low (left (aged own.bags.waiting))) (settled_idle (left (aged own.bags.waiting))),
           record {
             table = table;
             number = number;
+            others = others;
             sizes = sizes;
             knew = read.1.1;
             knows = (let f = ap (λ (x : EpochView). x.since) epochs in omega arith);

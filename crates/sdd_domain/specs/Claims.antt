@@ -1,10 +1,14 @@
 -- What a try at a slot makes of what is known
 use Rattle.std.specs.Prelude.{◌≡◌, ℕ, ◌<◌, slice_index}
 use Rattle.atomic_table.specs.declared.shared.Seat.{Seat}
+use Rattle.sdd_stakes.specs.Shelf.{IsVacant}
+use Rattle.sdd_stakes.specs.declared.stake.Stake.{Stake}
 use Rattle.sdd_rule.specs.declared.View.{View}
 use Rattle.sdd_rule.specs.Codes.{free_word, owned_word}
 use Rattle.sdd_rule.specs.Epoch.{IsLone}
 use Rattle.sdd_rule.specs.SlotSteps.{behind, claimed}
+use Rattle.sdd_homes.specs.Homes.{Carries}
+use Rattle.sdd_homes.specs.HomeSteps.{Mine, HasAll, book_of, places_of, moving}
 
 module _ {S : Type 0} where
   -- nothing has changed
@@ -18,15 +22,6 @@ module _ {S : Type 0} where
   abbrev pub IsKnownFree : Seat S View → ℕ → Type 0
   IsKnownFree s slot = slice_index s.me.0.words (behind s.me.0.sizes slot) ≡ free_word 0
 
-  -- the participant owns a slot more
-  pub record Gains (slot : ℕ) (s s' : Seat S View) : Type 0 where
-    pub table : s'.table_id ≡ s.table_id
-    pub number : s'.id ≡ s.id
-    pub others : s'.me.1 ≡ s.me.1
-    pub view : s'.me.0 ≡ claimed slot (owned_word 0) s.me.0
-    pub inside : slot < s.me.0.sizes.slots
-    pub free : IsLone s.me.0.epoch → IsKnownFree s slot
-
   -- none of these slots was found free; a lone participant knows each of them to be taken
   pub record Misses (P : ℕ → Type 0) (s s' : Seat S View) : Type 0 where
     pub same : IsUnmoved s s'
@@ -36,3 +31,16 @@ module _ {S : Type 0} where
   pub record Loses (s s' : Seat S View) : Type 0 where
     pub same : IsUnmoved s s'
     pub many : ¬ (IsLone s.me.0.epoch)
+
+-- all stakes in the slot are out, and those that were out before
+unfoldable pub AllOut : ℕ → Mine → Carries → Type 0
+AllOut slot me xs = HasAll (book_of me) slot (places_of me) IsVacant me.1 xs
+
+-- the participant owns a slot more, whose value it is to move in
+pub record Gains (slot : ℕ) (s s' : Seat Stake View) : Type 0 where
+  pub table : s'.table_id ≡ s.table_id
+  pub number : s'.id ≡ s.id
+  pub row : AllOut slot s.me s'.me.1
+  pub view : s'.me.0 ≡ moving slot (claimed slot (owned_word 0) s.me.0)
+  pub inside : slot < s.me.0.sizes.slots
+  pub free : IsLone s.me.0.epoch → IsKnownFree s slot

@@ -5,8 +5,8 @@ use Rattle.sdd_domain.specs.Board.{id_of}
 use Rattle.sdd_domain.specs.declared.domain.Domain.{Domain}
 
 -- which domain it is
-abbrev pub home_of : Domain → TableId
+abbrev pub home_of : {T : Type 0} → Domain T → TableId
 home_of d = id_of d.board
 
-abbrev pub limits_of : Domain → Limits
+abbrev pub limits_of : {T : Type 0} → Domain T → Limits
 limits_of d = d.limits

@@ -1,5 +1,6 @@
 pub mod Sizes
 pub mod Board
+pub mod Shelf
 pub mod Token
 pub mod Waits
 pub mod Claims

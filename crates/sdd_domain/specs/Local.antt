@@ -73,10 +73,12 @@ pub record Opens (old new : Member) : Type 0 where
   pub nested : IsGuarded old → new ≡ record old { own = nested old.own }
   pub outermost : ¬ (IsGuarded old) → (count : ℕ) × IsOpened count old new
 
--- a guard is closed; without an open one nothing happens. The last close at countdown 0 scans, which may raise the count, to one more
--- than it was at the publish at most; where the participant is lone the scan does, but at the last count
+-- a guard is closed; without an open one nothing happens. The last close shows nothing any more, and at countdown 0 scans, which may
+-- raise the count, to one more than it was at the publish at most; where the participant is lone the scan does, but at the last count
 pub record Closes (old new : Member) : Type 0 where
-  pub member : new ≡ record old { own = closed_with false old.own; known = new.known }
+  pub member : new ≡ record old { own = closed_with false old.own; known = new.known; slots = new.slots }
+  pub unseen : old.own.guards ≡ 1 → new.slots ≡ record old.slots { sees = [] }
+  pub seen : old.own.guards ≢ 1 → new.slots ≡ old.slots
   pub knows : old.known ≤ new.known
   pub near : IsGuarded old → new.known ≤ old.since + 1
   pub quiet : (old.own.guards ≢ 1) ⊎ (old.own.countdown ≢ 0) → new.known ≡ old.known
@@ -108,6 +110,15 @@ pub record ClaimsSlot (slot : ℕ) (old new : Member) : Type 0 where
     words = slice_set old.words (behind old.sizes slot) (owned_word 0);
   }
   pub lone : IsLone old → IsFree old slot
+
+-- its guards see the slot
+abbrev pub Sees : Member → ℕ → Type 0
+Sees m slot = 0 < times slot m.slots.sees
+
+-- its guards see a slot, if they didn't before
+pub record LooksAt (slot : ℕ) (old new : Member) : Type 0 where
+  pub seen : Sees old slot → new ≡ old
+  pub unseen : ¬ (Sees old slot) → new ≡ record old { slots = record old.slots { sees = slot ∷ old.slots.sees } }
 
 -- no slot is free
 abbrev pub IsUsedUp : Member → Type 0

@@ -11,11 +11,16 @@ use Rattle.sdd_rule.specs.declared.View.{View}
 use Rattle.sdd_rule.specs.Epoch.{IsClosed, IsOpen, Scans, IsLone}
 use Rattle.sdd_rule.specs.declared.SlotsView.{SlotsView}
 use Rattle.sdd_rule.specs.Slots.{OwnsAlone, items_at}
+use Rattle.sdd_stakes.specs.declared.stake.Stake.{Stake}
+use Rattle.sdd_stakes.specs.Stakes.{AllFreeFor}
+use Rattle.sdd_stakes.specs.Seats.{lots, plain}
+use Rattle.sdd_homes.specs.Homes.{Carries}
+use Rattle.sdd_homes.specs.HomeSteps.{Purse}
 use Rattle.sdd_domain.specs.declared.board.Board.{Board}
-use Rattle.sdd_domain.specs.Board.{id_of, sizes_of, places_of, slots_of}
+use Rattle.sdd_domain.specs.Board.{id_of, book_of, places_of, slots_of}
 use Rattle.sdd_domain.specs.Waits.{waiting_of}
 use Rattle.sdd_store.specs.declared.waiting.What.{What}
-use Rattle.sdd_domain.specs.Token.{view, epoch, slots}
+use Rattle.sdd_domain.specs.Token.{view, epoch, slots, Knows}
 
 -- it has published its count; what it knows is the count at that publish or the next
 pub record IsNear (v : EpochView) : Type 0 where
@@ -23,18 +28,27 @@ pub record IsNear (v : EpochView) : Type 0 where
   pub since : v.since ≤ v.known
   pub known : v.known ≤ v.since + 1
 
--- no guard sees a slot, none is held, and no owner is counted
+-- no slot is held, and no owner is counted
 pub record IsQuiet (v : SlotsView) : Type 0 where
   pub shares : v.shares ≡ []
-  pub sees : v.sees ≡ []
   pub holds : v.holds ≡ None
   pub looked : v.looked ≡ 0
 
+-- the stakes that are out: one in each slot that the guards see
+unfoldable pub IsPurse : ℕ → ℕ → ℕ → List ℕ → Carries → Type 0
+IsPurse γ n p sees xs = Purse γ n p sees (plain xs)
+
+-- those are lent to the tenure t at most
+unfoldable pub AreLentTo : ℕ → Carries → Type 0
+AreLentTo t xs = AllFreeFor t (lots xs)
+
 -- the board, the place, what it keeps of its own, and its token
-module _ {S : Type 0} (b : Board) (p : ℕ) (own : Participant) (token : Seat S View) where
+module _ (b : Board) (p : ℕ) (own : Participant) (token : Seat Stake View) where
   pub record IsPosed : Type 0 where
     pub home : token.table_id ≡ id_of b
-    pub none_out : token.me.1 ≡ []
+    pub purse : IsPurse (book_of b) (places_of b) p (slots token).sees token.me.1
+    pub unseen : own.guards ≡ 0 → (slots token).sees ≡ []
+    pub rests : (view token).stakes.moves ≡ None
     pub all : (epoch token).all ≡ places_of b
     pub place : (epoch token).place ≡ p
     pub inside : p < places_of b
@@ -44,7 +58,7 @@ module _ {S : Type 0} (b : Board) (p : ℕ) (own : Participant) (token : Seat S 
     pub near : 0 < own.guards → IsNear (epoch token)
     pub lone : 0 < own.guards → IsLone (epoch token) → (epoch token).known ≡ (epoch token).count
     pub free : ¬ (Scans (epoch token))
-    pub sizes : (view token).sizes ≡ sizes_of b
+    pub knows : Knows b token
     pub found : (epoch token).found ≡ own.found
     pub quiet : IsQuiet (slots token)
     pub owned : (i : ℕ) → OwnsAlone (view token) i → i < slots_of b

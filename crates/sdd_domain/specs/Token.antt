@@ -5,8 +5,12 @@ use Rattle.atomic_table.specs.declared.shared.Seat.{Seat}
 use Rattle.sdd_rule.specs.declared.EpochView.{EpochView}
 use Rattle.sdd_rule.specs.declared.SlotsView.{SlotsView}
 use Rattle.sdd_rule.specs.declared.View.{View}
-use Rattle.sdd_rule.specs.Steps.{Publishes, Closes}
-use Rattle.sdd_rule.specs.SlotSteps.{changed, unseeing, joined}
+use Rattle.sdd_rule.specs.Steps.{Publishes}
+use Rattle.sdd_rule.specs.SlotSteps.{changed, joined}
+use Rattle.sdd_stakes.specs.declared.stake.Stake.{Stake}
+use Rattle.sdd_homes.specs.HomeSteps.{Mine, ClosesHome}
+use Rattle.sdd_domain.specs.declared.board.Board.{Board}
+use Rattle.sdd_domain.specs.Board.{sizes_of, book_of}
 
 module _ {S : Type 0} where
   -- what the token knows
@@ -30,9 +34,9 @@ module _ {S : Type 0} where
   abbrev pub Told : (View → ℕ → View → Type 0) → Me S View → ℕ → Me S View → Type 0
   Told R m r m' = (m'.1 ≡ m.1) × R m.0 r m'.0
 
-  -- it is the same token, and knows the same sizes
+  -- it is the same token, and knows the same of sizes and stakes
   abbrev pub IsSame : Seat S View → Seat S View → Type 0
-  IsSame s s' = (s'.table_id ≡ s.table_id) × (s'.id ≡ s.id) × (s'.me.1 ≡ s.me.1) × (s'.me.0.sizes ≡ s.me.0.sizes)
+  IsSame s s' = (s'.table_id ≡ s.table_id) × (s'.id ≡ s.id) × (s'.me.1 ≡ s.me.1) × (s'.me.0.sizes ≡ s.me.0.sizes) × (s'.me.0.stakes ≡ s.me.0.stakes)
 
   -- the token is as it was, but for what it knows of the epoch
   abbrev pub IsSameBut : Seat S View → Seat S View → Type 0
@@ -51,11 +55,18 @@ module _ {S : Type 0} where
   HasPublished s s' = IsSame s s' × (s'.me.0.places ≡ s.me.0.places) × (slots s' ≡ changed (view s)) × (words_known s' ≡ words_known s)
       × Publishes (epoch s) 2 (epoch s')
 
-  -- no guard is open, and nothing is seen
-  abbrev pub HasClosed : Seat S View → Seat S View → Type 0
-  HasClosed s s' = IsSame s s' × (s'.me.0.places ≡ s.me.0.places) × (slots s' ≡ unseeing (view s)) × (words_known s' ≡ words_known s)
-      × Closes (epoch s) 1 (epoch s')
-
   -- the owners that another token knew are the participant's own
   abbrev pub IsTakenIn : List View → Seat S View → Seat S View → Type 0
   IsTakenIn owners s s' = (w : View) → owners ≡ w ∷ [] → Taught (λ v _ v'. v' ≡ joined v w) s 0 s'
+
+-- a step that may take stakes or give them, which tells R
+abbrev pub Moved : (Mine → ℕ → Mine → Type 0) → Seat Stake View → ℕ → Seat Stake View → Type 0
+Moved R s r s' = (s'.table_id ≡ s.table_id) × (s'.id ≡ s.id) × R s.me r s'.me
+
+-- no guard is open, nothing is seen, and all stakes are at home
+abbrev pub HasClosed : Seat Stake View → Seat Stake View → Type 0
+HasClosed = λ s. Moved ClosesHome s 1
+
+-- it knows how many of each there are, and of which book the values' places are
+abbrev pub Knows : Board → Seat Stake View → Type 0
+Knows b s = (s.me.0.sizes ≡ sizes_of b) × (s.me.0.stakes.book ≡ book_of b)

@@ -56,6 +56,7 @@ GivesAllBack due v x w = w ≡ record v { slots = record v.slots { waits = unrip
 pub record Arrives {S : Type 0} (count : ℕ) (own : Participant) (s s' : Seat S View) : Type 0 where
   pub table : s'.table_id ≡ s.table_id
   pub number : s'.id ≡ s.id
+  pub others : s'.me.1 ≡ s.me.1
   pub sizes : s'.me.0.sizes ≡ s.me.0.sizes
   pub knew : s.me.0.epoch.known ≤ count
   pub knows : count ≤ s'.me.0.epoch.since

@@ -1,24 +1,34 @@
-//! An outermost opening: the count is published, and where that is a change what is due is given back.
-ghost use Rattle.std.specs.Prelude.{◌≡◌, ◌<◌, ◌≤◌, ℕ, [], map, vec_capacity};
+//! An outermost opening: the count is published, and where that is a change what is due is moved out and given back.
+ghost use Rattle.std.specs.Prelude.{◌≡◌, ◌<◌, ◌≤◌, ℕ, [], None, map, vec_capacity};
 ghost use Rattle.sdd_store.specs.Waiting.{aged};
 ghost use Rattle.sdd_store.specs.Time.{nested, rotated, settled, due_next};
 ghost use Rattle.sdd_rule.specs.Epoch.{HasPlace};
 ghost use Rattle.sdd_rule.specs.Slots.{items_at};
-ghost use Rattle.sdd_domain.specs.Board.{id_of, sizes_of, slots_of};
-ghost use Rattle.sdd_domain.specs.Token.{view, epoch, slots, Taught};
+ghost use Rattle.sdd_domain.specs.Board.{id_of, slots_of};
+ghost use Rattle.sdd_domain.specs.Shelf.{IsShelfOf};
+ghost use Rattle.sdd_domain.specs.Token.{view, epoch, slots, Knows, Taught};
 ghost use Rattle.sdd_domain.specs.Waits.{what_of, waiting_of, ripe, arrived_at, GivesAllBack, Arrives};
 ghost use Rattle.sdd_domain.specs.Posed.{IsPosed};
 
 use crate::board::{Board, Token};
 use crate::known::Known;
 use crate::steps;
-use crate::steps::slots::give_back;
+use crate::values::take_value;
+use sdd_stakes::Shelf;
 use sdd_store::{Participant, What};
 
-/// Gives back the slot of each item that has seen three changes.
-fn give_all_back(board: &Board, token: &mut Token, due: &[What], known: &mut Known)
+/// Moves out and drops the value of each item that has seen three changes, and gives back its slot.
+fn give_all_back<T: Drop>(
+    board: &Board,
+    shelf: &Shelf<T>,
+    token: &mut Token,
+    due: &[What],
+    known: &mut Known,
+)
     requires home { token.old.table_id ≡ id_of board.now }
-    requires sizes { (view token.old).sizes ≡ sizes_of board.now }
+    requires shelf { IsShelfOf board.now shelf.now }
+    requires knows { Knows board.now token.old }
+    requires rests { (view token.old).stakes.moves ≡ None }
     requires place { HasPlace (epoch token.old) }
     requires inside { (i : ℕ) → 0 < items_at i (view token.old) → i < slots_of board.now }
     requires slots { known.old.slots ≡ slots_of board.now }
@@ -28,15 +38,16 @@ fn give_all_back(board: &Board, token: &mut Token, due: &[What], known: &mut Kno
 {
     for what in due {
         if let What::Item(slot) = *what {
-            give_back(board, token, slot);
+            drop(take_value(board, shelf, token, slot));
             known.remember(slot);
         }
     }
 }
 
-/// A change at this count, which was published: what has then seen three changes is given back.
-fn change(
+/// A change at this count, which was published: what has then seen three changes is moved out and given back.
+fn change<T: Drop>(
     board: &Board,
+    shelf: &Shelf<T>,
     token: &mut Token,
     own: &mut Participant,
     bag: &mut Vec<What>,
@@ -44,7 +55,9 @@ fn change(
     count: u64,
 )
     requires home { token.old.table_id ≡ id_of board.now }
-    requires sizes { (view token.old).sizes ≡ sizes_of board.now }
+    requires shelf { IsShelfOf board.now shelf.now }
+    requires knows { Knows board.now token.old }
+    requires rests { (view token.old).stakes.moves ≡ None }
     requires place { HasPlace (epoch token.old) }
     requires inside { (i : ℕ) → 0 < items_at i (view token.old) → i < slots_of board.now }
     requires slots { known.old.slots ≡ slots_of board.now }
@@ -61,14 +74,15 @@ fn change(
         return;
     }
     own.bags.rotate(bag);
-    give_all_back(board, token, bag.as_slice(), known);
+    give_all_back(board, shelf, token, bag.as_slice(), known);
     bag.clear();
     own.countdown = if own.bags.is_empty() { 128 } else { 127 };
 }
 
 /// Reads the count, writes it where it isn't there already, and then publishes it.
-pub fn arrive(
+pub fn arrive<T: Drop>(
     board: &Board,
+    shelf: &Shelf<T>,
     token: &mut Token,
     place: usize,
     own: &mut Participant,
@@ -76,6 +90,7 @@ pub fn arrive(
     known: &mut Known,
 ) -> u64
     requires posed { IsPosed board.now place own.old token.old }
+    requires shelf { IsShelfOf board.now shelf.now }
     requires closed { own.old.guards ≡ 0 }
     requires slots { known.old.slots ≡ slots_of board.now }
     requires bag { (bag.old.items ≡ []) × (own.old.bags.room ≤ vec_capacity bag.old) }
@@ -92,6 +107,6 @@ pub fn arrive(
     }
     steps::write(board, token, place, count);
     steps::publish(board, token, place);
-    change(board, token, own, bag, known, count);
+    change(board, shelf, token, own, bag, known, count);
     count
 }

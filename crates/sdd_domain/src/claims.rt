@@ -1,8 +1,8 @@
 //! The search for a free slot.
-ghost use Rattle.std.specs.Prelude.{◌≡◌, ◌⊎◌, ◌<◌, ◌≤◌, ℕ, true, false, IfOk, MatchOption, MatchResult};
+ghost use Rattle.std.specs.Prelude.{◌≡◌, ◌⊎◌, ◌<◌, ◌≤◌, ℕ, true, false, None, IfOk, MatchOption, MatchResult};
 ghost use Rattle.sdd_rule.specs.Epoch.{HasPlace, IsLone};
-ghost use Rattle.sdd_domain.specs.Board.{id_of, sizes_of, slots_of};
-ghost use Rattle.sdd_domain.specs.Token.{view, epoch};
+ghost use Rattle.sdd_domain.specs.Board.{id_of, slots_of};
+ghost use Rattle.sdd_domain.specs.Token.{view, epoch, Knows};
 ghost use Rattle.sdd_domain.specs.Claims.{IsUnmoved, Gains, Misses, Loses};
 
 use crate::board::{Board, Token};
@@ -13,7 +13,8 @@ use sdd_core::Refused;
 /// One try at a slot, which is claimed if it is found free. So many exchanges more may be lost.
 fn attempt(board: &Board, token: &mut Token, slot: u32, left: &mut u64) -> Result<bool, Refused>
     requires home { token.old.table_id ≡ id_of board.now }
-    requires sizes { (view token.old).sizes ≡ sizes_of board.now }
+    requires knows { Knows board.now token.old }
+    requires rests { (view token.old).stakes.moves ≡ None }
     requires inside { slot < slots_of board.now }
     requires place { HasPlace (epoch token.old) }
     requires left { 0 < left.old }
@@ -43,7 +44,8 @@ fn try_known(
     left: &mut u64,
 ) -> Result<Option<u32>, Refused>
     requires home { token.old.table_id ≡ id_of board.now }
-    requires sizes { (view token.old).sizes ≡ sizes_of board.now }
+    requires knows { Knows board.now token.old }
+    requires rests { (view token.old).stakes.moves ≡ None }
     requires slots { known.old.slots ≡ slots_of board.now }
     requires place { HasPlace (epoch token.old) }
     requires left { 0 < left.old }
@@ -73,7 +75,8 @@ fn walk(
     left: &mut u64,
 ) -> Result<Option<u32>, Refused>
     requires home { token.old.table_id ≡ id_of board.now }
-    requires sizes { (view token.old).sizes ≡ sizes_of board.now }
+    requires knows { Knows board.now token.old }
+    requires rests { (view token.old).stakes.moves ≡ None }
     requires inside { to ≤ slots_of board.now }
     requires place { HasPlace (epoch token.old) }
     requires left { 0 < left.old }
@@ -92,7 +95,7 @@ fn walk(
     Ok(None)
 }
 
-/// Claims a free slot: one that was given back, or else the first one of a walk over all slots, once round.
+/// Claims a free slot: one that was given back, or else the first one of a walk over all slots, once round. All stakes in it are out then.
 ///
 /// `NoSlot` where none was found free; `Contended` where so many exchanges were lost.
 pub fn claim_free(
@@ -103,7 +106,8 @@ pub fn claim_free(
     tries: u64,
 ) -> Result<u32, Refused>
     requires home { token.old.table_id ≡ id_of board.now }
-    requires sizes { (view token.old).sizes ≡ sizes_of board.now }
+    requires knows { Knows board.now token.old }
+    requires rests { (view token.old).stakes.moves ≡ None }
     requires slots { (known.old.slots ≡ slots_of board.now) × (slots ≡ slots_of board.now) }
     requires place { HasPlace (epoch token.old) }
     requires tries { 0 < tries }

@@ -1,24 +1,72 @@
-ghost use Rattle.std.specs.Prelude.{◌≡◌, ◌+◌, ◌⊎◌, Ok, IfOk, MatchResult};
+ghost use Rattle.std.specs.Prelude.{◌≡◌, ◌+◌, ◌^◌, ◌≤◌, ◌⊎◌, [], IfOk, MatchResult, vec_capacity};
 ghost use Rattle.sdd_base.specs.Limits.{AreInRange};
-ghost use Rattle.sdd_domain.specs.Board.{places_of, slots_of};
+ghost use Rattle.sdd_stakes.specs.Memory.{IsHoldOf};
+ghost use Rattle.sdd_stakes.specs.Shelf.{AreVacant};
+ghost use Rattle.sdd_homes.specs.Homes.{homes_for};
+ghost use Rattle.sdd_domain.specs.Board.{sizes_of};
+ghost use Rattle.sdd_domain.specs.Shelf.{sizes_in, IsShelfOf};
 ghost use Rattle.sdd_domain.specs.Receipt.{capped, sum_of};
 
-use crate::board::Board;
+use crate::board::{Board, Plan};
+use crate::closing::{settled, take_all};
 use crate::receipt::Receipt;
 use sdd_base::Limits;
 use sdd_core::Refused;
+use sdd_homes::{gather_all, lay_all};
+use sdd_places::Hold;
 use sdd_rule::Sizes;
+use sdd_stakes::{Shelf, Stake, Stock};
 use sdd_store::Tally;
-use std::alloc::Global;
+use std::alloc::{AllocError, Global};
+use std_alloc::room::may_hold;
 
-/// What participants in several threads share.
+/// What participants in several threads share: values of one type, in slots.
 ///
 /// Each has a [`Local`](crate::Local) of its own. A domain must be spent by `close`.
-pub struct Domain {
+pub struct Domain<T> {
     pub(crate) board: Board,
+    pub(crate) shelf: Shelf<T>,
+    hold: Hold<T, Global>,
     pub(crate) limits: Limits,
     pub(crate) alloc: Global,
-    ghost limited: { AreInRange limits × (places_of board ≡ limits.participants) × (slots_of board ≡ limits.slots) },
+    ghost limited: { AreInRange limits × (sizes_of board ≡ sizes_in limits) },
+    ghost shelved: { IsShelfOf board shelf × IsHoldOf shelf alloc hold },
+}
+
+fn sizes_for(limits: &Limits) -> Sizes
+    ensures { result ≡ sizes_in limits.now }
+{
+    Sizes {
+        participants: limits.participants,
+        slots: limits.slots,
+        jobs: limits.jobs,
+        cells: limits.cells,
+    }
+}
+
+/// Room for so many values, none of which is there.
+fn new_shelf<T>(
+    alloc: Global,
+    slots: usize,
+) -> Result<(Shelf<T>, Stock, Hold<T, Global>), AllocError>
+    ensures size { IfOk result (λ made. made.0.size ≡ slots) }
+    ensures stock { IfOk result (λ made. AreVacant made.0.book 0 slots made.1.lots) }
+    ensures hold { IfOk result (λ made. IsHoldOf made.0 alloc made.2) }
+{
+    if !may_hold::<T>(slots) {
+        return Err(AllocError);
+    }
+    Shelf::new(&alloc, slots)
+}
+
+/// Room for the stakes of so many places in so many slots. They have no bytes.
+fn new_homes(alloc: Global, participants: usize, slots: usize) -> Result<Vec<Stake>, AllocError>
+    requires few { participants ≤ 1024 }
+    requires small { slots ≤ 2 ^ 24 }
+    ensures empty { IfOk result (λ laid. laid.items ≡ []) }
+    ensures room { IfOk result (λ laid. homes_for participants slots ≤ vec_capacity laid) }
+{
+    Vec::with_capacity(alloc, slots * (participants + 1))
 }
 
 fn add(sum: Tally, tally: Tally) -> Tally
@@ -33,13 +81,24 @@ fn add(sum: Tally, tally: Tally) -> Tally
     }
 }
 
-impl Domain {
+/// The tallies of all receipts together.
+fn tally_of(receipts: &Vec<Receipt>) -> Tally
+    ensures { result ≡ sum_of receipts.now.items }
+{
+    let mut sum = Tally::new();
+    for receipt in receipts {
+        sum = add(sum, receipt.tally());
+    }
+    sum
+}
+
+impl<T> Domain<T> {
     ghost use Rattle.sdd_domain.specs.Domain.{limits_of};
 
-    /// A domain without participants, at epoch 0.
+    /// A domain without participants, at epoch 0. All memory is taken here: for its words, and for as many values as there are slots.
     ///
-    /// `BadLimits` where a limit is out of its range; `NoMemory` where the memory for its words was refused.
-    pub fn new(alloc: Global, limits: Limits) -> Result<Domain, Refused>
+    /// `BadLimits` where a limit is out of its range; `NoMemory` where this memory was refused.
+    pub fn new(alloc: Global, limits: Limits) -> Result<Domain<T>, Refused>
         ensures new { IfOk result (λ domain. limits_of domain ≡ limits) }
         ensures limits { MatchResult result (λ _. AreInRange limits)
             (λ e. ((e ≡ Refused.BadLimits) × ¬ (AreInRange limits)) ⊎ ((e ≡ Refused.NoMemory) × AreInRange limits)) }
@@ -47,36 +106,72 @@ impl Domain {
         if !limits.are_in_range() {
             return Err(Refused::BadLimits);
         }
-        let sizes = Sizes {
-            participants: limits.participants,
-            slots: limits.slots,
-            jobs: limits.jobs,
-            cells: limits.cells,
+        let participants = limits.participants as u32;
+        let slots = limits.slots as u32;
+        let Ok(mut laid) = new_homes(alloc, participants as usize, slots as usize) else {
+            return Err(Refused::NoMemory);
         };
-        let board = Board::new(alloc, &sizes)?;
-        Ok(Domain {
-            board,
-            limits,
-            alloc,
-        })
+        let Ok((shelf, stock, hold)) = new_shelf(alloc, slots as usize) else {
+            return Err(Refused::NoMemory);
+        };
+        let plan = Plan {
+            sizes: sizes_for(&limits),
+            title: shelf.title(),
+        };
+        lay_all(&mut laid, stock, &plan.title, participants, slots);
+        match Board::new(alloc, &plan, laid) {
+            Ok(board) => Ok(Domain {
+                board,
+                shelf,
+                hold,
+                limits,
+                alloc,
+            }),
+            Err(laid) => {
+                let stock = gather_all(laid, &plan.title, participants, slots);
+                shelf.close(&alloc, stock, hold);
+                Err(Refused::NoMemory)
+            }
+        }
     }
 
-    /// Closes a domain, with the receipts of all its participants, and answers their tallies together.
+    /// Closes a domain, with the receipts of its participants, and answers their tallies together. What waits still is moved out and dropped,
+    /// and all memory is given back.
     ///
-    /// `OwnerOut` where something is still out; the domain and the receipts come back. There are no items yet, so that
-    /// it isn't answered.
-    pub fn close(self, receipts: Vec<Receipt>) -> Result<Tally, (Domain, Vec<Receipt>, Refused)>
-        ensures { result ≡ Ok (sum_of receipts.items) }
+    /// `OwnerOut` where something is still out: an item that has an owner, or a participant that hasn't ended. The domain and the receipts come back.
+    pub fn close(self, receipts: Vec<Receipt>) -> Result<Tally, (Domain<T>, Vec<Receipt>, Refused)>
+    where
+        T: Drop,
+        ensures { MatchResult result
+            (λ tally. tally ≡ sum_of receipts.items)
+            (λ back. (back.0 ≡ self) × (back.1 ≡ receipts) × (back.2 ≡ Refused.OwnerOut)) }
     {
+        let Some(token) = settled(&self.board, self.limits.slots as u32) else {
+            return Err((self, receipts, Refused::OwnerOut));
+        };
+        let Domain {
+            board,
+            shelf,
+            hold,
+            limits,
+            alloc,
+        } = self;
+        let title = shelf.title();
+        let mut closed = board.close(token);
+        let stock = take_all(&mut closed, &shelf, &title, &sizes_for(&limits));
+        closed.free();
+        shelf.close(&alloc, stock, hold);
+        Ok(tally_of(&receipts))
+    }
+    /// Lets go of a domain in which something is out for ever. Its memory, and the values in it, stay where they are.
+    pub fn leak(self) {
         let Domain {
             board: _,
+            shelf,
+            hold,
             limits: _,
             alloc: _,
         } = self;
-        let mut sum = Tally::new();
-        for receipt in &receipts {
-            sum = add(sum, receipt.tally());
-        }
-        Ok(sum)
+        shelf.leak(hold);
     }
 }

@@ -15,11 +15,12 @@ use crate::domain::Domain;
 use crate::known::Known;
 use crate::receipt::Receipt;
 use crate::scan::scan;
+use crate::shut::shut;
 use crate::steps;
 use sdd_base::Guard;
 use sdd_base::inner::{guard_with, part_of_guard};
 use sdd_core::Refused;
-use sdd_places::{Stage, Tenure, end_round};
+use sdd_places::{Stage, Tenure};
 use sdd_store::{Bags, Participant, Tally, What};
 use sdd_token::{Book, WHOLE};
 use std::alloc::{AllocError, Global};
@@ -30,8 +31,8 @@ pub mod slots;
 /// A participant of a domain.
 ///
 /// It must be spent by `end`.
-pub struct Local<'d> {
-    domain: &'d Domain,
+pub struct Local<'d, T> {
+    domain: &'d Domain<T>,
     token: Token,
     place: usize,
     /// How many of its guards may be open at once, as the domain's limits say.
@@ -45,10 +46,10 @@ pub struct Local<'d> {
     tally: Tally,
 }
 
-impl<'d> Model for Local<'d> {
+impl<'d, T> Model for Local<'d, T> {
     ghost use Rattle.std.specs.Prelude.{◌≡◌, vec_capacity};
     ghost use Rattle.sdd_domain.specs.Local.{Member};
-    ghost use Rattle.sdd_domain.specs.Posed.{IsPosed, IsTenureOf, IsReady};
+    ghost use Rattle.sdd_domain.specs.Posed.{IsPosed, AreLentTo, IsTenureOf, IsReady};
 
     ghost Value = { Member };
 
@@ -66,7 +67,7 @@ impl<'d> Model for Local<'d> {
       words = l.token.me.0.words;
     } };
 
-    ghost invariant = { λ l. IsPosed l.domain.now.board l.place l.own l.token × (l.nesting ≡ l.domain.now.limits.nesting) × IsTenureOf l.own l.tenure
+    ghost invariant = { λ l. IsPosed l.domain.now.board l.place l.own l.token × (l.nesting ≡ l.domain.now.limits.nesting) × IsTenureOf l.own l.tenure × AreLentTo l.tenure.round l.token.me.1
         × IsReady l.domain.now.board l.own l.bag.items (vec_capacity l.bag) l.known.slots };
 }
 
@@ -130,12 +131,13 @@ fn own_tenure() -> Tenure
     book.issue(&Stage::Closed)
 }
 
-impl<'d> Local<'d> {
+impl<'d, T> Local<'d, T> {
     /// Registers a participant.
     ///
     /// All memory is taken here, and none later: for what may wait with it, and for the slots that it gave back, as many
     /// as there are slots. `NoPlace` where all places were found taken; `NoMemory` where this memory was refused.
-    pub fn register(domain: &'d Domain) -> Result<Local<'d>, Refused>
+    #[tactic(auto, using(crate::proofs::Moving::no_purse, crate::proofs::Moving::none_lent))]
+    pub fn register(domain: &'d Domain<T>) -> Result<Local<'d, T>, Refused>
         ensures registered { IfOk result (IsNew (home_of domain.now) (limits_of domain.now)) }
         ensures refused { IfErr result (λ e. (e ≡ Refused.NoPlace) ⊎ (e ≡ Refused.NoMemory)) }
     {
@@ -166,10 +168,10 @@ impl<'d> Local<'d> {
         })
     }
 
-    /// Ends the participant, whose place isn't free again.
+    /// Ends the participant, whose place isn't free again. What waits with it goes on waiting, and is reclaimed at the close of the domain.
     ///
     /// Where one of its guards is open it comes back.
-    pub fn end(self) -> Result<Receipt, Local<'d>>
+    pub fn end(self) -> Result<Receipt, Local<'d, T>>
         ensures { MatchResult result
             (λ receipt. ¬ (IsGuarded self.entry) × (receipt ≡ record { home = self.entry.home; tally = self.entry.tally }))
             (λ local. IsGuarded self.entry × (local ≡ self.entry)) }
@@ -192,7 +194,7 @@ impl<'d> Local<'d> {
         Ok(Receipt::new(token, tally))
     }
 
-    /// How many items it made, reclaimed and dropped in place.
+    /// How many items it made, reclaimed and dropped in place. Values that are made by number aren't counted.
     pub fn tally(&self) -> Tally
         ensures { result ≡ self.now.tally }
     {
@@ -204,6 +206,8 @@ impl<'d> Local<'d> {
     /// `TooManyGuards` where as many are open as may nest.
     #[inline]
     pub(crate) fn open_guard(&mut self) -> Result<Guard, Refused>
+    where
+        T: Drop,
         ensures { MatchResult result
             (λ guard. (reader_of guard ≡ self.old.reader) × CanNest self.old × Opens self.old self.new)
             (λ e. (e ≡ Refused.TooManyGuards) × ¬ (CanNest self.old) × (self.new ≡ self.old)) }
@@ -221,12 +225,15 @@ impl<'d> Local<'d> {
     /// The outermost opening, which is a change where it finds another count than the last one.
     #[inline]
     fn enter(&mut self) -> Guard
+    where
+        T: Drop,
         requires { ¬ (IsGuarded self.old) }
         ensures reader { reader_of result ≡ self.old.reader }
         ensures opened { (count : ℕ) × IsOpened count self.old self.new }
     {
         arrive(
             &self.domain.board,
+            &self.domain.shelf,
             &mut self.token,
             self.place,
             &mut self.own,
@@ -270,11 +277,7 @@ impl<'d> Local<'d> {
         if scans {
             scan(board, &mut self.token, place, self.own.found);
         }
-        steps::close(board, &mut self.token, place);
-        self.tenure.join(part);
-        self.tenure.set(&Stage::Closed, &());
-        // Nothing was lent to the tenure, so that nothing has to know that it has ended.
-        end_round(&mut self.tenure);
+        shut(board, &mut self.token, place, &mut self.tenure, part);
     }
 
     /// The count of epochs at this moment.

@@ -1,137 +1,158 @@
 //! What each step tells.
 ghost use Rattle.std.specs.Prelude.{[]};
 ghost use Rattle.sdd_rule.specs.Steps.{Registers, Reads, Counts, Ends, Locks, LooksAtState, LooksAtCount, Advances, Unlocks};
-ghost use Rattle.sdd_rule.specs.SlotSteps.{OnEpoch, PublishesAll, ClosesAll, Claims, Retires, GivesBack, LooksAtSlot, Watches, TakesHold, LetsGo, Discards, LooksForGuard, AtSlot, first, parted, joined};
+ghost use Rattle.sdd_rule.specs.SlotSteps.{OnEpoch, PublishesAll, Retires, LooksAtSlot, TakesHold, LetsGo, LooksForGuard, AtSlot, first, parted, joined};
+ghost use Rattle.sdd_rule.specs.Ended.{Bars};
 ghost use Rattle.sdd_rule.specs.Parts.{owner_token};
+ghost use Rattle.sdd_homes.specs.HomeSteps.{ClaimsAll, Houses, TakesOut, GivesAll, DiscardsAll, WatchesBy, ClosesHome, OfSlot};
 ghost use Rattle.sdd_domain.specs.Token.{Sits, Told};
 
 use atomic_table::{Join, Play, Split};
 use sdd_rule::View;
+use sdd_stakes::Stake;
 
 pub struct Sit;
 
-impl Play<(), View> for Sit {
+impl Play<Stake, View> for Sit {
     ghost then = { Sits };
 }
 
 pub struct Register;
 
-impl Play<(), View> for Register {
+impl Play<Stake, View> for Register {
     ghost then = { λ step. Told (OnEpoch (Registers step.word)) };
 }
 
 pub struct Read;
 
-impl Play<(), View> for Read {
+impl Play<Stake, View> for Read {
     ghost then = { λ _. Told (OnEpoch Reads) };
 }
 
 pub struct Write;
 
-impl Play<(), View> for Write {
+impl Play<Stake, View> for Write {
     ghost then = { λ _. Told (OnEpoch Counts) };
 }
 
 pub struct Publish;
 
-impl Play<(), View> for Publish {
+impl Play<Stake, View> for Publish {
     ghost then = { λ _. Told PublishesAll };
 }
 
 pub struct Close;
 
-impl Play<(), View> for Close {
-    ghost then = { λ _. Told ClosesAll };
+impl Play<Stake, View> for Close {
+    ghost then = { λ _. ClosesHome };
 }
 
 pub struct End;
 
-impl Play<(), View> for End {
+impl Play<Stake, View> for End {
     ghost then = { λ _. Told (OnEpoch Ends) };
+}
+
+pub struct Bar;
+
+impl Play<Stake, View> for Bar {
+    ghost then = { λ step. Told (Bars step.word) };
 }
 
 pub struct Lock;
 
-impl Play<(), View> for Lock {
+impl Play<Stake, View> for Lock {
     ghost then = { λ _. Told (OnEpoch Locks) };
 }
 
 pub struct LookAtState;
 
-impl Play<(), View> for LookAtState {
+impl Play<Stake, View> for LookAtState {
     ghost then = { λ step. Told (OnEpoch (LooksAtState step.word)) };
 }
 
 pub struct LookAtCount;
 
-impl Play<(), View> for LookAtCount {
+impl Play<Stake, View> for LookAtCount {
     ghost then = { λ step. Told (OnEpoch (LooksAtCount step.word)) };
 }
 
 pub struct Advance;
 
-impl Play<(), View> for Advance {
+impl Play<Stake, View> for Advance {
     ghost then = { λ _. Told (OnEpoch Advances) };
 }
 
 pub struct Unlock;
 
-impl Play<(), View> for Unlock {
+impl Play<Stake, View> for Unlock {
     ghost then = { λ _. Told (OnEpoch Unlocks) };
 }
 
 pub struct Claim;
 
-impl Play<(), View> for Claim {
-    ghost then = { λ step. Told (AtSlot (λ slot. Claims slot step.first step.second) step.word) };
+impl Play<Stake, View> for Claim {
+    ghost then = { λ step. OfSlot (λ slot. ClaimsAll slot step.first step.second) step.word };
+}
+
+pub struct House;
+
+impl Play<Stake, View> for House {
+    ghost then = { λ step. OfSlot Houses step.word };
 }
 
 pub struct Retire;
 
-impl Play<(), View> for Retire {
+impl Play<Stake, View> for Retire {
     ghost then = { λ step. Told (AtSlot Retires step.word) };
+}
+
+pub struct TakeOut;
+
+impl Play<Stake, View> for TakeOut {
+    ghost then = { λ step. OfSlot TakesOut step.word };
 }
 
 pub struct GiveBack;
 
-impl Play<(), View> for GiveBack {
-    ghost then = { λ step. Told (AtSlot GivesBack step.word) };
+impl Play<Stake, View> for GiveBack {
+    ghost then = { λ step. OfSlot GivesAll step.word };
 }
 
 pub struct LookAtSlot;
 
-impl Play<(), View> for LookAtSlot {
+impl Play<Stake, View> for LookAtSlot {
     ghost then = { λ step. Told (AtSlot LooksAtSlot step.word) };
 }
 
 pub struct Watch;
 
-impl Play<(), View> for Watch {
-    ghost then = { λ step. Told (AtSlot Watches step.word) };
+impl Play<Stake, View> for Watch {
+    ghost then = { λ step. OfSlot WatchesBy step.word };
 }
 
 pub struct Hold;
 
-impl Play<(), View> for Hold {
+impl Play<Stake, View> for Hold {
     ghost then = { λ step. Told (AtSlot TakesHold step.word) };
 }
 
 pub struct LookForGuard;
 
-impl Play<(), View> for LookForGuard {
+impl Play<Stake, View> for LookForGuard {
     ghost then = { λ step. Told (LooksForGuard step.word) };
 }
 
 pub struct LetGo;
 
-impl Play<(), View> for LetGo {
+impl Play<Stake, View> for LetGo {
     ghost then = { λ step. Told (AtSlot LetsGo step.word) };
 }
 
 pub struct Discard;
 
-impl Play<(), View> for Discard {
-    ghost then = { λ step. Told (AtSlot Discards step.word) };
+impl Play<Stake, View> for Discard {
+    ghost then = { λ step. OfSlot DiscardsAll step.word };
 }
 
 pub struct Part;

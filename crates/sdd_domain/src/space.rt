@@ -3,7 +3,7 @@ use crate::local::Local;
 use sdd_base::{Guard, Guards, Item, Shows};
 use sdd_core::Refused;
 
-impl<T: Item<T>> Shows<T> for Local<'_> {
+impl<T: Item<T> + Drop> Shows<T> for Local<'_, T> {
     ghost use Rattle.sdd_domain.specs.Space.{nowhere};
 
     ghost home = { λ _. nowhere };
@@ -13,7 +13,7 @@ impl<T: Item<T>> Shows<T> for Local<'_> {
     fn shown_is_of_home(&self) {}
 }
 
-impl<T: Item<T>> Guards<T> for Local<'_> {
+impl<T: Item<T> + Drop> Guards<T> for Local<'_, T> {
     ghost use Rattle.std.specs.Prelude.{refl};
     ghost use Rattle.sdd_domain.specs.Space.{seat_of, known_of, no_world, never_exact};
 

@@ -1,18 +1,20 @@
 //! The atomic steps of the epoch, one function each. With those on slots nothing else changes a word of a domain.
-ghost use Rattle.std.specs.Prelude.{◌≡◌, ◌+◌, ◌^◌, ◌<◌, []};
+ghost use Rattle.std.specs.Prelude.{◌≡◌, ◌+◌, ◌^◌, ◌<◌, [], None};
 ghost use Rattle.sdd_rule.specs.Words as words;
 ghost use Rattle.sdd_rule.specs.Epoch.{IsClosed, IsOpen, Scans};
 ghost use Rattle.sdd_rule.specs.Steps.{nobody, IsNext, Registers, Reads, Counts, Ends, Locks, LooksAtState, LooksAtCount, Advances, Unlocks};
 ghost use Rattle.sdd_rule.specs.Parts.{idle};
-ghost use Rattle.sdd_domain.specs.Board.{id_of, sizes_of, places_of};
+ghost use Rattle.sdd_domain.specs.Board.{id_of, sizes_of, book_of, places_of};
 ghost use Rattle.sdd_rule.specs.SlotSteps.{blank};
-ghost use Rattle.sdd_domain.specs.Token.{epoch, words_known, Stepped, HasPublished, HasClosed};
+ghost use Rattle.sdd_rule.specs.Ended.{Bars};
+ghost use Rattle.sdd_homes.specs.HomeSteps.{Purse};
+ghost use Rattle.sdd_domain.specs.Token.{view, epoch, slots, words_known, Stepped, Taught, HasPublished, HasClosed, Knows};
 
 pub mod slots;
 
 use crate::board::{Board, Token};
 use crate::plays::{
-    Advance, Close, End, Lock, LookAtCount, LookAtState, Publish, Read, Register, Sit, Unlock,
+    Advance, Bar, Close, End, Lock, LookAtCount, LookAtState, Publish, Read, Register, Sit, Unlock,
     Write,
 };
 use crate::words::{GLOBAL, LOCK, count_word, state_word};
@@ -28,7 +30,7 @@ pub const ENDED: u64 = 3;
 
 /// A token without a place.
 pub fn sit(board: &Board) -> Token
-    ensures { (result.table_id ≡ id_of board.now) × (result.me ≡ (idle (sizes_of board.now) 0, [])) }
+    ensures { (result.table_id ≡ id_of board.now) × (result.me ≡ (idle (sizes_of board.now) (book_of board.now), [])) }
 {
     board.table.shared.load_new_seat::<Sit>(GLOBAL).1
 }
@@ -91,10 +93,13 @@ pub fn publish(board: &Board, token: &mut Token, place: usize)
         .store::<Publish>(token, state_word(place), OPEN);
 }
 
-/// Publishes that no guard is open, so that none sees anything.
+/// Publishes that no guard is open, so that none sees anything: all stakes go home.
 #[inline]
 pub fn close(board: &Board, token: &mut Token, place: usize)
     requires home { token.old.table_id ≡ id_of board.now }
+    requires knows { Knows board.now token.old }
+    requires rests { (view token.old).stakes.moves ≡ None }
+    requires purse { Purse (book_of board.now) (places_of board.now) place (slots token.old).sees token.old.me.1 }
     requires own { (place ≡ (epoch token.old).place) × (place < places_of board.now) }
     requires open { IsOpen (epoch token.old) × ¬ (Scans (epoch token.old)) }
     ensures { HasClosed token.old token.new }
@@ -108,6 +113,7 @@ pub fn close(board: &Board, token: &mut Token, place: usize)
 /// Ends the own place.
 pub fn end(board: &Board, token: &mut Token, place: usize)
     requires home { token.old.table_id ≡ id_of board.now }
+    requires rests { (view token.old).stakes.moves ≡ None }
     requires own { (place ≡ (epoch token.old).place) × (place < places_of board.now) }
     requires closed { IsClosed (epoch token.old) }
     ensures { Stepped Ends token.old 3 token.new }
@@ -116,6 +122,18 @@ pub fn end(board: &Board, token: &mut Token, place: usize)
         .table
         .shared
         .store::<End>(token, state_word(place), ENDED);
+}
+
+/// Ends a place as long as it is free, by a token without a place. Answers its state before: it hasn't ended then where this is a participant's.
+pub fn bar(board: &Board, token: &mut Token, place: usize) -> u64
+    requires home { token.old.table_id ≡ id_of board.now }
+    requires next { (place < places_of board.now) × (place ≡ (view token.old).places.ended) }
+    ensures { Taught (Bars (words.state_word place)) token.old result token.new }
+{
+    board
+        .table
+        .shared
+        .compare_exchange::<Bar>(token, state_word(place), FREE, ENDED)
 }
 
 /// Tries to take the lock of a scan. Someone else had it where this isn't 0.

@@ -25,18 +25,18 @@ const ONE: Limits = Limits {
     ..SMALL
 };
 
-fn new_domain(rt: &(impl Abort + AllocGlobal), limits: Limits) -> Domain {
+fn new_domain(rt: &(impl Abort + AllocGlobal), limits: Limits) -> Domain<u64> {
     Domain::new(rt.alloc(), limits).expect(rt, "the limits are in range")
 }
 
-fn registered<'d>(rt: &impl Abort, domain: &'d Domain) -> Local<'d>
+fn registered<'d>(rt: &impl Abort, domain: &'d Domain<u64>) -> Local<'d, u64>
     ensures { IsSeated (seat_of result) }
 {
     Local::register(domain).expect(rt, "a place is free")
 }
 
 /// Where memory is wanting the place stays free, so that a second try takes it.
-fn registered_at_last<'d>(rt: &impl Abort, domain: &'d Domain) -> Local<'d> {
+fn registered_at_last<'d>(rt: &impl Abort, domain: &'d Domain<u64>) -> Local<'d, u64> {
     match Local::register(domain) {
         Ok(local) => local,
         Err(refused) => {
@@ -46,44 +46,44 @@ fn registered_at_last<'d>(rt: &impl Abort, domain: &'d Domain) -> Local<'d> {
     }
 }
 
-fn opened(rt: &impl Abort, local: &mut Local<'_>) -> Guard
+fn opened(rt: &impl Abort, local: &mut Local<'_, u64>) -> Guard
     requires { IsSeated (seat_of local.old) }
     ensures seat { seat_of local.new ≡ seat_of local.old }
     ensures reader { reader_of result ≡ local.old.reader }
 {
-    Guard::new::<u64, Local<'_>>(local).expect(rt, "a guard may be opened")
+    Guard::new::<u64, Local<'_, u64>>(local).expect(rt, "a guard may be opened")
 }
 
-fn close(guard: Guard, local: &mut Local<'_>)
+fn close(guard: Guard, local: &mut Local<'_, u64>)
     requires seat { IsSeated (seat_of local.old) }
     requires reader { reader_of guard ≡ local.old.reader }
     ensures { seat_of local.new ≡ seat_of local.old }
 {
-    guard.close::<u64, Local<'_>>(local);
+    guard.close::<u64, Local<'_, u64>>(local);
 }
 
 /// The epoch that a guard shows now.
-fn shown(guard: &Guard, local: &mut Local<'_>) -> u8
+fn shown(guard: &Guard, local: &mut Local<'_, u64>) -> u8
     requires { IsSeated (seat_of local.old) }
     ensures { seat_of local.new ≡ seat_of local.old }
 {
-    u8::from(guard.epoch::<u64, Local<'_>>(local))
+    u8::from(guard.epoch::<u64, Local<'_, u64>>(local))
 }
 
 /// Opens, accelerates and closes a guard, and tells which epoch it showed.
-fn accelerated(rt: &impl Abort, local: &mut Local<'_>) -> u8
+fn accelerated(rt: &impl Abort, local: &mut Local<'_, u64>) -> u8
     requires { IsSeated (seat_of local.old) }
     ensures { seat_of local.new ≡ seat_of local.old }
 {
     let guard = opened(rt, local);
     let epoch = shown(&guard, local);
-    guard.accelerate::<u64, Local<'_>>(local);
+    guard.accelerate::<u64, Local<'_, u64>>(local);
     close(guard, local);
     epoch
 }
 
 /// The accelerated guards of a participant show these epochs.
-fn shows(rt: &impl Abort, local: &mut Local<'_>, epochs: &[u8])
+fn shows(rt: &impl Abort, local: &mut Local<'_, u64>, epochs: &[u8])
     requires { IsSeated (seat_of local.old) }
     ensures { seat_of local.new ≡ seat_of local.old }
 {
@@ -93,32 +93,32 @@ fn shows(rt: &impl Abort, local: &mut Local<'_>, epochs: &[u8])
 }
 
 /// What one more guard is refused with.
-fn refused_guard(rt: &impl Abort, local: &mut Local<'_>) -> Refused
+fn refused_guard(rt: &impl Abort, local: &mut Local<'_, u64>) -> Refused
     requires { IsSeated (seat_of local.old) }
     ensures { seat_of local.new ≡ seat_of local.old }
 {
-    match Guard::new::<u64, Local<'_>>(local) {
+    match Guard::new::<u64, Local<'_, u64>>(local) {
         Ok(_guard) => panic!(rt; "two guards are open"),
         Err(refused) => refused,
     }
 }
 
 /// What one more participant is refused with.
-fn refusal(rt: &impl Abort, domain: &Domain) -> Refused {
+fn refusal(rt: &impl Abort, domain: &Domain<u64>) -> Refused {
     match Local::register(domain) {
         Ok(_local) => panic!(rt; "a place is free"),
         Err(refused) => refused,
     }
 }
 
-fn ended(rt: &impl Abort, local: Local<'_>) -> Receipt {
+fn ended(rt: &impl Abort, local: Local<'_, u64>) -> Receipt {
     match local.end() {
         Ok(receipt) => receipt,
         Err(_local) => panic!(rt; "a guard is open"),
     }
 }
 
-fn closed(rt: &impl Abort, domain: Domain, receipts: Vec<Receipt>) {
+fn closed(rt: &impl Abort, domain: Domain<u64>, receipts: Vec<Receipt>) {
     match domain.close(receipts) {
         Ok(tally) => {
             assert!(rt; tally.made == 0);
@@ -130,7 +130,7 @@ fn closed(rt: &impl Abort, domain: Domain, receipts: Vec<Receipt>) {
 }
 
 /// What a thread does: it registers, runs twenty accelerated guards, and ends.
-fn takes_part(rt: &impl Abort, domain: &Domain) -> Receipt {
+fn takes_part(rt: &impl Abort, domain: &Domain<u64>) -> Receipt {
     let mut local = registered(rt, domain);
     for _ in 0..20 {
         accelerated(rt, &mut local);
@@ -175,7 +175,7 @@ fn limits_out_of_range_are_refused(rt: HostRuntime) {
         Limits { tries: 0, ..SMALL },
     ];
     for limits in out_of_range {
-        match Domain::new(rt.alloc(), limits) {
+        match Domain::<u64>::new(rt.alloc(), limits) {
             Ok(_domain) => panic!(rt; "a limit is out of range"),
             Err(refused) => assert_eq!(rt; refused, Refused::BadLimits),
         }
@@ -205,9 +205,9 @@ fn a_participant_with_a_guard_open_does_not_end(rt: HostRuntime) {
     let Err(mut local) = local.end() else {
         panic!(rt; "a guard is open")
     };
-    assert!(rt; !outer.has_garbage::<u64, Local<'_>>(&local));
-    outer.set_has_garbage::<u64, Local<'_>>(&mut local);
-    assert!(rt; outer.has_garbage::<u64, Local<'_>>(&local));
+    assert!(rt; !outer.has_garbage::<u64, Local<'_, u64>>(&local));
+    outer.set_has_garbage::<u64, Local<'_, u64>>(&mut local);
+    assert!(rt; outer.has_garbage::<u64, Local<'_, u64>>(&local));
     close(outer, &mut local);
     let receipts = vec![in rt.alloc(); ended(&rt, local)].expect(&rt, "there is memory");
     closed(&rt, domain, receipts);
@@ -248,7 +248,7 @@ fn a_guard_shows_the_next_epoch_where_another_participant_raised_the_count(rt: H
 /// With ample memory all are there. Under `rt try --test --fail-alloc N` one of them is refused, and takes no place.
 #[test]
 fn only_want_of_memory_refuses(rt: HostRuntime) {
-    match Domain::new(rt.alloc(), ONE) {
+    match Domain::<u64>::new(rt.alloc(), ONE) {
         Ok(domain) => {
             let local = registered_at_last(&rt, &domain);
             assert!(rt; refusal(&rt, &domain) == Refused::NoPlace);

@@ -5,3 +5,4 @@ pub mod Part
 pub mod Lift
 pub mod Steps
 pub mod Tokens
+pub mod Laid

@@ -1,5 +1,5 @@
 -- A step that keeps the words' parts and the homes' part is a step of the table.
-use Rattle.std.proofs.Common.{◌≡◌, inl, inr, ℕ, ◌<◌, map, get_or, set, sym, refl, ap, ◌∙◌, subst, ⊎_elim, arith, length-set, eq-eqb, ne_eqb}
+use Rattle.std.proofs.Common.{◌≡◌, ◌⊎◌, inl, inr, ℕ, ◌<◌, map, get_or, set, sym, refl, ap, ◌∙◌, subst, ⊎_elim, arith, length-set, eq-eqb, ne_eqb}
 use mathlib.Core.Bool.{cond}
 use mathlib.Core.Option.{some}
 use mathlib.Core.Logic.{dite}
@@ -14,13 +14,15 @@ use Rattle.sdd_rule.specs.declared.View.{View}
 use Rattle.sdd_rule.specs.declared.Sizes.{Sizes}
 use Rattle.sdd_rule.specs.Words.{first_slot}
 use Rattle.sdd_rule.specs.Codes.{full}
-use Rattle.sdd_rule.specs.Epoch.{IsOpen}
+use Rattle.sdd_rule.specs.Epoch.{HasPlace, IsOpen}
 use Rattle.sdd_rule.specs.Steps.{Steps, Publishes}
 use Rattle.sdd_rule.specs.Slots.{slot_at, items_at, waits_in, OwnsAlone, Sees}
 use Rattle.sdd_rule.specs.SlotSteps.{older, changed, OnEpoch, PublishesAll}
 use Rattle.sdd_rule.specs.Parts.{Parts}
 use Rattle.sdd_rule.proofs.Sums.{total_map}
 use Rattle.sdd_rule.proofs.Lift.{blind}
+use Rattle.sdd_rule.specs.Ended.{AreEnded}
+use Rattle.sdd_rule.proofs.Ended.{Spares, one_spared, all_spared}
 use Rattle.sdd_homes.specs.Homes.{Moves, IsOut, HomesPart, Housed}
 use Rattle.sdd_homes.specs.HomeSteps.{Mine}
 use Rattle.sdd_homes.proofs.Part.{IsMover, before_slots}
@@ -35,18 +37,33 @@ pub record Follows (γ : ℕ) (sizes : Sizes) (id i : ℕ) (me : Mine) (told : �
   pub tells : told (get_or s.words i 0) (record w { stakes = stakes }, carried_after me.1 act)
 
 module _ (γ : ℕ) (sizes : Sizes) (slots id : ℕ) (me : Mine) (i : ℕ) (f : ℕ → ℕ) where
-  pub lift_homes : (then : ℕ → View → Type 0) (told : ℕ → Mine → Type 0) → Steps (Parts sizes) id me.0 i f then
+  -- the places that have ended stay so, and those that are known of after the step have ended
+  abbrev pub Keeps : (ℕ → View → Type 0) → Type 0
+  Keeps then = (s : State Stake View) (w : View) → Housed γ sizes s → get_elem? s.views id ≡ some me.0 → then (get_or s.words i 0) w
+      → Spares sizes s.words i (f (get_or s.words i 0)) × AreEnded sizes (set s.words i (f (get_or s.words i 0))) w
+
+  -- what is known of them stays
+  pub keeps_ended : (then : ℕ → View → Type 0) → ((r : ℕ) (w : View) → then r w → w.places ≡ me.0.places)
+      → ((s : State Stake View) → Housed γ sizes s → get_elem? s.views id ≡ some me.0 → Spares sizes s.words i (f (get_or s.words i 0))) → Keeps then
+  keeps_ended then places words s w h at t = let e = words s h at in
+      (e, one_spared sizes s.words i (f (get_or s.words i 0)) me.0 w e (places (get_or s.words i 0) w t) (h.kept.places.ended id me.0 at))
+
+  pub lift_homes : (then : ℕ → View → Type 0) (told : ℕ → Mine → Type 0) → Keeps then → Steps (Parts sizes) id me.0 i f then
       → ((s : State Stake View) (w : View) → Housed γ sizes s → get_elem? s.views id ≡ some me.0 → then (get_or s.words i 0) w
       → Follows γ sizes id i me told s (f (get_or s.words i 0)) w) → Allows (Housed γ sizes) slots id me i f told
-  lift_homes then told step follow s h full at small =
-      let e = step s.words s.views h.kept.parts at small in let w : View = e.0 in let b = follow s w h at e.2 in let y : ℕ = f (get_or s.words i 0) in (
+  lift_homes then told ends step follow s h full at small =
+      let e = step s.words s.views h.kept.parts at small in let w : View = e.0 in let b = follow s w h at e.2 in let y : ℕ = f (get_or s.words i 0) in
+      let k = ends s w h at e.2 in (
         record w { stakes = b.stakes },
         b.act,
         b.valid,
         record {
           kept = record {
             parts = blind sizes (set s.words i y) s.views id me.0 w at e.1 b.stakes;
-            places = record { wide = let l = h.kept.places.wide in omega (arith, length-set s.words i y) };
+            places = record {
+              wide = let l = h.kept.places.wide in omega (arith, length-set s.words i y);
+              ended = all_spared sizes s.words i y s.views id (record w { stakes = b.stakes }) k.0 h.kept.places.ended k.1;
+            };
           };
           homes = b.homes;
         },
@@ -59,30 +76,34 @@ module _ (γ : ℕ) (sizes : Sizes) (slots id : ℕ) (me : Mine) (i : ℕ) (f : 
     pub same : (j : ℕ) → j < sizes.slots → full (slot_at sizes (set s.words i y) j) ≡ full (slot_at sizes s.words j)
     pub mover : IsMover w
 
-  pub lift_calm : (then : ℕ → View → Type 0) (told : ℕ → Mine → Type 0) → Steps (Parts sizes) id me.0 i f then
+  pub lift_calm : (then : ℕ → View → Type 0) (told : ℕ → Mine → Type 0) → Keeps then → Steps (Parts sizes) id me.0 i f then
       → ((r : ℕ) (w : View) → then r w → told r (w, me.1))
       → ((s : State Stake View) (w : View) → Housed γ sizes s → get_elem? s.views id ≡ some me.0 → then (get_or s.words i 0) w
       → IsCalm s (f (get_or s.words i 0)) w) → Allows (Housed γ sizes) slots id me i f told
-  lift_calm then told step tells calm = lift_homes then told step (λ s w h at t. let y : ℕ = f (get_or s.words i 0) in let c = calm s w h at t in record {
-    stakes = w.stakes;
-    act = keeps;
-    valid = tt;
-    homes = part.calm γ sizes s.words s.views s.homes h.homes id me.0 at (set s.words i y) w c.more c.same c.mover;
-    tells = tells (get_or s.words i 0) w t;
-  })
+  lift_calm then told ends step tells calm = lift_homes then told ends step (λ s w h at t. let y : ℕ = f (get_or s.words i 0) in
+      let c = calm s w h at t in record {
+        stakes = w.stakes;
+        act = keeps;
+        valid = tt;
+        homes = part.calm γ sizes s.words s.views s.homes h.homes id me.0 at (set s.words i y) w c.more c.same c.mover;
+        tells = tells (get_or s.words i 0) w t;
+      })
 
   -- one of the epoch's part, under which an open guard keeps its place
   pub lift_epoch : (R : EpochView → ℕ → EpochView → Type 0) (told : ℕ → Mine → Type 0) → i < first_slot sizes
       → ((r : ℕ) (e : EpochView) → R me.0.epoch r e → IsOpen me.0.epoch → e.place ≡ me.0.epoch.place)
+      → ((r : ℕ) (e : EpochView) → R me.0.epoch r e → HasPlace me.0.epoch → (j : ℕ) → Moves me.0 j → HasPlace e)
+      → ((s : State Stake View) → Housed γ sizes s → get_elem? s.views id ≡ some me.0 → Spares sizes s.words i (f (get_or s.words i 0)))
       → Steps (Parts sizes) id me.0 i f (OnEpoch R me.0)
       → ((r : ℕ) (w : View) → OnEpoch R me.0 r w → told r (w, me.1)) → Allows (Housed γ sizes) slots id me i f told
-  lift_epoch R told low stays step tells = lift_calm (OnEpoch R me.0) told step tells (λ s w h at t.
+  lift_epoch R told low stays lives spares step tells = lift_calm (OnEpoch R me.0) told
+      (keeps_ended (OnEpoch R me.0) (λ r w t. ap (λ (u : View). u.places) t.1) spares) step tells (λ s w h at t.
       let y : ℕ = f (get_or s.words i 0) in let e : EpochView = t.0 in let own = h.kept.parts.slots.each id me.0 at in
       subst (IsCalm s y) (sym t.1) record {
         more = λ j p out. ⊎_elim (λ (m : Moves me.0 j). inl m)
             (λ (o : Sees me.0 j × (me.0.epoch.place ≡ p)). inr (o.0, stays (get_or s.words i 0) e t.2 (own.guarded j o.0) ∙ o.1)) out;
         same = λ j _. ap full (before_slots sizes s.words i y j low);
-        mover = λ j m. h.homes.moving id me.0 j at m;
+        mover = λ j m. let o = h.homes.moving id me.0 j at m in (lives (get_or s.words i 0) e t.2 o.0 j m, o.1);
       })
 
 -- a publish may make each item that waits a change older, and leaves all else of slots
@@ -95,20 +116,26 @@ module _ (γ : ℕ) (sizes : Sizes) (slots : ℕ) where
   -- a publish
   pub lift_publish : (id : ℕ) (me : Mine) (i y : ℕ) (told : ℕ → Mine → Type 0) → i < first_slot sizes
       → Steps (Parts sizes) id me.0 i (λ _. y) (λ _. PublishesAll me.0 y)
-      → ((e : EpochView) → Publishes me.0.epoch y e → e.place ≡ me.0.epoch.place)
+      → ((e : EpochView) → Publishes me.0.epoch y e → HasPlace e × (e.place ≡ me.0.epoch.place))
+      → ((s : State Stake View) → Housed γ sizes s → get_elem? s.views id ≡ some me.0 → Spares sizes s.words i y)
       → ((w : View) → PublishesAll me.0 y w → told y (w, me.1)) → Allows (Housed γ sizes) slots id me i (λ _. y) (λ _. told y)
-  lift_publish id me i y told low step stays tells = lift_calm γ sizes slots id me i (λ _. y) (λ _. PublishesAll me.0 y) (λ _. told y) step (λ _ w t. tells w t)
+  lift_publish id me i y told low step stays spares tells = lift_calm γ sizes slots id me i (λ _. y) (λ _. PublishesAll me.0 y) (λ _. told y)
+      (keeps_ended γ sizes slots id me i (λ _. y) (λ _. PublishesAll me.0 y) (λ r w t. ap (λ (u : View). u.places) t.1) spares) step (λ _ w t. tells w t)
       (λ s w h at t. let v : View = me.0 in let e : EpochView = t.0 in
       let calm : SlotsView → Type 0 = λ x. IsCalm γ sizes slots id me i (λ _. y) s y (record v { epoch = e; slots = x }) in
       let same = λ (j : ℕ) (_ : j < sizes.slots). ap full (before_slots sizes s.words i y j low) in
       let more : (j p : ℕ) → IsOut v j p → IsOut (record v { epoch = e }) j p
-      = λ j p out. ⊎_elim (λ (m : Moves v j). inl m) (λ (o : Sees v j × (v.epoch.place ≡ p)). inr (o.0, stays e t.2 ∙ o.1)) out in
-      let movers = λ (j : ℕ) (m : Moves v j). h.homes.moving id v j at m in
+      = λ j p out. ⊎_elim (λ (m : Moves v j). inl m) (λ (o : Sees v j × (v.epoch.place ≡ p)). inr (o.0, (stays e t.2).1 ∙ o.1)) out in
+      let movers : (j : ℕ) → Moves v j → HasPlace e × (OwnsAlone v j ⊎ (0 < items_at j v))
+      = λ j m. ((stays e t.2).0, (h.homes.moving id v j at m).1) in
       subst (IsCalm γ sizes slots id me i (λ _. y) s y) (sym t.1) (changed_or_not v calm
       record { more = more; same = same; mover = movers }
       record {
         more = more;
         same = same;
-        mover = λ j m. ⊎_elim (λ (o : OwnsAlone v j). inl o)
-            (λ (o : 0 < items_at j v). inr (let k = total_map (waits_in j) older (λ x. refl) v.slots.waits in omega arith)) (movers j m);
+        mover = λ j m. (
+          (stays e t.2).0,
+          ⊎_elim (λ (o : OwnsAlone v j). inl o)
+              (λ (o : 0 < items_at j v). inr (let k = total_map (waits_in j) older (λ x. refl) v.slots.waits in omega arith)) (movers j m).1,
+        );
       }))

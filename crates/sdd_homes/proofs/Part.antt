@@ -13,6 +13,7 @@ use Rattle.sdd_rule.specs.declared.View.{View}
 use Rattle.sdd_rule.specs.declared.Sizes.{Sizes}
 use Rattle.sdd_rule.specs.Words.{slot_word, first_slot}
 use Rattle.sdd_rule.specs.Codes.{full}
+use Rattle.sdd_rule.specs.Epoch.{HasPlace}
 use Rattle.sdd_rule.specs.Slots.{slot_at, items_at, OwnsAlone, Sees}
 use Rattle.sdd_rule.specs.Sums.{times}
 use Rattle.sdd_rule.proofs.Frame.{each_set, each_snoc}
@@ -22,9 +23,9 @@ use Rattle.sdd_homes.proofs.Places.{one_slot, one_stake}
 use Rattle.sdd_homes.proofs.Rows.{Taken, Given, AllGiven}
 use Rattle.sdd_homes.proofs.Tops.{share_one}
 
--- who moves a value owns it, or its item waits with it
+-- who moves a value has a place, and owns it, or its item waits with it
 abbrev pub IsMover : View → Type 0
-IsMover v = (i : ℕ) → Moves v i → OwnsAlone v i ⊎ (0 < items_at i v)
+IsMover v = (i : ℕ) → Moves v i → HasPlace v.epoch × (OwnsAlone v i ⊎ (0 < items_at i v))
 
 shown_as : (γ i k x x' : ℕ) (y : Stake) → full x' ≡ full x → Has γ i k (IsShown x) y → Has γ i k (IsShown x') y
 shown_as γ i k x x' y e h = (h.0, (λ f. h.1.0 (sym e ∙ f), λ f. h.1.1 (sym e ∙ f)))
@@ -62,7 +63,8 @@ module _ (γ : ℕ) (sizes : Sizes) (ws : List ℕ) (vs : List View) (hs : Homes
         away id w (here w) (more (subst (λ (x : View). IsOut x i p) is out)))
         (λ other. away j u (set_else vs id j w other ∙ e) out)
 
-    movers : (w : View) → IsMover w → (j : ℕ) (u : View) (i : ℕ) → get_elem? (set vs id w) j ≡ some u → Moves u i → OwnsAlone u i ⊎ (0 < items_at i u)
+    movers : (w : View) → IsMover w → (j : ℕ) (u : View) (i : ℕ) → get_elem? (set vs id w) j ≡ some u → Moves u i
+        → HasPlace u.epoch × (OwnsAlone u i ⊎ (0 < items_at i u))
     movers w mover j u i e = each_set IsMover IsMover vs id w mover (λ j u _ e i. part.moving j u i e) j u e i
 
     -- it takes and gives none

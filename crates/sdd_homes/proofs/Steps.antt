@@ -1,5 +1,5 @@
 -- The steps that take stakes from home or give them, and the other steps on slots
-use Rattle.std.proofs.Common.{◌≡◌, ◌≢◌, inl, inr, ℕ, suc, ◌<◌, ◌≤◌, eqb, List, ◌∷◌, length, get_or, set, sym, refl, ap, ◌∙◌, subst, ⊎_elim, arith, get_or-set_same}
+use Rattle.std.proofs.Common.{◌≡◌, ◌≢◌, ◌⊎◌, inl, inr, ℕ, suc, ◌<◌, ◌≤◌, eqb, List, ◌∷◌, length, get_or, set, sym, refl, ap, ◌∙◌, subst, ⊎_elim, arith, get_or-set_same}
 use mathlib.Core.Option.{none, some, some-injective}
 use mathlib.Core.Logic.{dite}
 use native.Mathlib.Decide.{ℕ_discrete, dec_lt}
@@ -23,7 +23,10 @@ use Rattle.sdd_rule.specs.Steps.{Steps}
 use Rattle.sdd_rule.specs.Sums.{times}
 use Rattle.sdd_rule.specs.Slots.{slot_at, owners_at, items_at, OwnsAlone, Sees, Holds}
 use Rattle.sdd_rule.specs.SlotSteps.{claimed, given_back, discarded, seeing, AtSlot, Claims, Retires, GivesBack, LooksAtSlot, Watches, TakesHold, LetsGo, Discards, LooksForGuard, ClosesAll, IsDue}
-use Rattle.sdd_rule.specs.Parts.{Parts}
+use Rattle.sdd_rule.specs.Parts.{epoch_of}
+use Rattle.sdd_rule.specs.Ended.{AreEnded, past, Bars}
+use Rattle.sdd_rule.proofs.Ended.{Spares, one_spared}
+use Rattle.sdd_rule.proofs.Ended as ended
 use Rattle.sdd_rule.proofs.Codes.{sound, free_is, waiting_is}
 use Rattle.sdd_rule.proofs.EpochSteps as over
 use Rattle.sdd_rule.proofs.SlotSteps as steps
@@ -38,7 +41,7 @@ use Rattle.sdd_homes.proofs.Part.{IsMover, of_another, before_slots}
 use Rattle.sdd_homes.proofs.Part as part
 use Rattle.sdd_homes.proofs.Rows.{Taken, takes_row, gives_row, gives_purse}
 use Rattle.sdd_homes.proofs.Tops.{rest_is, share_one}
-use Rattle.sdd_homes.proofs.Lift.{Follows, IsCalm, lift_homes, lift_calm}
+use Rattle.sdd_homes.proofs.Lift.{Keeps, Follows, IsCalm, keeps_ended, lift_homes, lift_calm}
 
 one_moved : (v : View) (i j : ℕ) → Moves v i → Moves v j → j ≡ i
 one_moved v i j m m' = let e : Some i ≡ Some j = sym m ∙ m' in cc
@@ -60,7 +63,7 @@ module _ (γ : ℕ) (sizes : Sizes) (s : State Stake View) (h : Housed γ sizes 
   still_free j u e dead quiet m = ⊎_elim
       (λ (o : OwnsAlone u i). let g = ((h.kept.parts.slots.each j u e).alone i o).0 in absurd (omega arith))
       (λ (o : 0 < items_at i u). let t = total_has (items_at i) s.views j u e in let w = h.kept.parts.slots.waited i in absurd (omega arith))
-      (h.homes.moving j u i e m)
+      (h.homes.moving j u i e m).1
 
   -- where a participant has an owner, or an item that waits, none else moves the value
   still_owned : (id j : ℕ) (v u : View) → get_elem? s.views id ≡ some v → get_elem? s.views j ≡ some u → id ≢ j → 0 < owners_at i v → ¬ (Moves u i)
@@ -69,7 +72,7 @@ module _ (γ : ℕ) (sizes : Sizes) (s : State Stake View) (h : Housed γ sizes 
       (λ (o : OwnsAlone u i). let g = ((h.kept.parts.slots.each j u e).alone i o).0 in
       let both = owners_in codes sound sizes s.words s.views h.kept.parts.slots id j i v u ne at e in absurd (omega arith))
       (λ (o : 0 < items_at i u). let t = total_has (items_at i) s.views j u e in let w = h.kept.parts.slots.waited i in absurd (omega arith))
-      (h.homes.moving j u i e m)
+      (h.homes.moving j u i e m).1
 
   still_waiting : (id j : ℕ) (v u : View) → get_elem? s.views id ≡ some v → get_elem? s.views j ≡ some u → id ≢ j → 0 < items_at i v → ¬ (Moves u i)
   still_waiting id j v u at e ne waits m = let t = total_has (items_at i) s.views id v at in let w = h.kept.parts.slots.waited i in
@@ -77,7 +80,13 @@ module _ (γ : ℕ) (sizes : Sizes) (s : State Stake View) (h : Housed γ sizes 
       (λ (o : OwnsAlone u i). let g = ((h.kept.parts.slots.each j u e).alone i o).0 in let l = (sound.lives (slot_at sizes s.words i) (omega arith)).0 in
       absurd (omega arith))
       (λ (o : 0 < items_at i u). let both = total_two (items_at i) s.views id j v u ne at e in absurd (omega arith))
-      (h.homes.moving j u i e m)
+      (h.homes.moving j u i e m).1
+
+-- the own place hasn't ended
+pub own_place : (γ : ℕ) (sizes : Sizes) (id : ℕ) (v : View) → HasPlace v.epoch → (y : ℕ) (s : State Stake View) → Housed γ sizes s
+    → get_elem? s.views id ≡ some v → Spares sizes s.words (state_word v.epoch.place) y
+own_place γ sizes id v live y s h at p low e was = let f = h.kept.parts.epoch.each id v.epoch (at_map epoch_of s.views id v at) in
+    let is = f.state live in let few = f.states in absurd (omega arith)
 
 module _ (slots id : ℕ) (me : Mine) (live : HasPlace me.0.epoch) where
   abbrev v : View
@@ -110,6 +119,19 @@ module _ (slots id : ℕ) (me : Mine) (live : HasPlace me.0.epoch) where
     here : (ws : List ℕ) (y : ℕ) → i < length ws → slot_at sizes (set ws i y) slot ≡ y
     here ws y low = get_or-set_same ws i y 0 low
 
+    -- a slot's word is none of a place's
+    spares : (f : ℕ → ℕ) (then : ℕ → View → Type 0) → ((r : ℕ) (w : View) → then r w → w.places ≡ v.places) → Keeps γ sizes slots id me i f then
+    spares f then places = keeps_ended γ sizes slots id me i f then places (λ s h at p low e was. absurd (omega arith))
+
+    claim_keeps : Keeps γ sizes slots id me i (λ x. either (eqb x (free_word 0)) (owned_word 0) x)
+        (AtSlot (λ slot. Claims slot (free_word 0) (owned_word 0)) i v)
+    claim_keeps = spares (λ x. either (eqb x (free_word 0)) (owned_word 0) x) (AtSlot (λ slot. Claims slot (free_word 0) (owned_word 0)) i v)
+        (λ r w t. let c = t slot refl in dite (ℕ_discrete r (free_word 0)) (λ e. ap (λ (u : View). u.places) (c.0 e))
+        (λ ne. ap (λ (u : View). u.places) (c.1 ne)))
+
+    look_keeps : Keeps γ sizes slots id me i (λ x. x) (AtSlot LooksAtSlot i v)
+    look_keeps = spares (λ x. x) (AtSlot LooksAtSlot i v) (λ r w t. ap (λ (u : View). u.places) (t slot refl).0)
+
     module _ (s : State Stake View) (h : Housed γ sizes s) where
       within : i < length s.words
       within = let l = h.kept.parts.slots.long in omega arith
@@ -132,7 +154,7 @@ module _ (slots id : ℕ) (me : Mine) (live : HasPlace me.0.epoch) where
     claims rests = let told : ℕ → Mine → Type 0 = OfSlot (λ slot. ClaimsAll slot (free_word 0) (owned_word 0)) i me in
         let step = steps.claims id v live slot 0 inside (omega arith) in
         lift_homes γ sizes slots id me i (λ x. either (eqb x (free_word 0)) (owned_word 0) x)
-        (AtSlot (λ slot. Claims slot (free_word 0) (owned_word 0)) i v) told step
+        (AtSlot (λ slot. Claims slot (free_word 0) (owned_word 0)) i v) told claim_keeps step
         (λ s w h at t. let x : ℕ = get_or s.words i 0 in let c = t slot refl in
         exchanged x (free_word 0) (owned_word 0) (λ y. Follows γ sizes id i me told s y w)
         (λ hit. let free = free_is 0 (omega arith) in let dead : alive x ≡ 0 = ap alive hit ∙ free.0 in let quiet : waiting x ≡ 0 = ap waiting hit ∙ free.1 in
@@ -149,7 +171,7 @@ module _ (slots id : ℕ) (me : Mine) (live : HasPlace me.0.epoch) where
               (λ j p ne out. ⊎_elim (λ (m : Moves v j). absurd (none_moved v j rests m)) (λ (o : Sees v j × (v.epoch.place ≡ p)). inr o) out)
               (others s.words (owned_word 0))
               (λ j m. let e : j ≡ slot = one_moved (moving slot now) slot j refl m in let one = is_same slot slot refl in
-              inl (subst (λ (k : ℕ). 0 < times k (slot ∷ v.slots.owns)) (sym e) (omega arith)));
+              (live, inl (subst (λ (k : ℕ). 0 < times k (slot ∷ v.slots.owns)) (sym e) (omega arith))));
           tells = at_once (λ slot. ClaimsAll slot (free_word 0) (owned_word 0)) x (moving slot now, carried_after me.1 tk.act)
               ((λ _. (refl, tk.row)), (λ no. absurd (no hit)), c.2);
         })
@@ -165,7 +187,7 @@ module _ (slots id : ℕ) (me : Mine) (live : HasPlace me.0.epoch) where
     -- a value was moved in
     pub houses : Moves v slot → OwnsAlone v slot → (rest : Carries) → HasAll γ slot n IsFull rest me.1 → May i (λ x. x) (OfSlot Houses i me)
     houses mine own rest row = let told : ℕ → Mine → Type 0 = OfSlot Houses i me in
-        lift_homes γ sizes slots id me i (λ x. x) (AtSlot LooksAtSlot i v) told (steps.looks_at id v live slot)
+        lift_homes γ sizes slots id me i (λ x. x) (AtSlot LooksAtSlot i v) told look_keeps (steps.looks_at id v live slot)
         (λ s w h at t. let x : ℕ = get_or s.words i 0 in let c = t slot refl in
         let g = gives_row γ n slot IsFull sizes.slots inside (suc n) (omega arith) s.homes rest me.1 h.homes.deep row in
         let one = ((h.kept.parts.slots.each id v at).alone slot own).0 in let filled = full_owned x (omega arith) in
@@ -185,7 +207,7 @@ module _ (slots id : ℕ) (me : Mine) (live : HasPlace me.0.epoch) where
     -- the value of an item that is due is to be moved out
     pub takes_out : v.stakes.moves ≡ None → IsDue v slot → May i (λ x. x) (OfSlot TakesOut i me)
     takes_out rests due = let told : ℕ → Mine → Type 0 = OfSlot TakesOut i me in let k : ℕ = due.0 in let item : WaitingItem = due.1 in
-        lift_homes γ sizes slots id me i (λ x. x) (AtSlot LooksAtSlot i v) told (steps.looks_at id v live slot)
+        lift_homes γ sizes slots id me i (λ x. x) (AtSlot LooksAtSlot i v) told look_keeps (steps.looks_at id v live slot)
         (λ s w h at t. let x : ℕ = get_or s.words i 0 in let c = t slot refl in let p = h.kept.parts in
         let once = waits_once codes sound sizes s.words s.views p.slots id v at slot k item due.2 due.3 in
         let here_waits = total_has (items_at slot) s.views id v at in let sum = p.slots.waited slot in
@@ -203,7 +225,7 @@ module _ (slots id : ℕ) (me : Mine) (live : HasPlace me.0.epoch) where
           homes = part.takes γ sizes s.words s.views s.homes h.homes id v at slot IsFull me.1 tk (set s.words i x) (moving slot v) refl
               (λ j p ne out. ⊎_elim (λ (m : Moves v j). absurd (none_moved v j rests m)) (λ (o : Sees v j × (v.epoch.place ≡ p)). inr o) out)
               (λ j _ _. same_words s h j)
-              (λ j m. let e : j ≡ slot = one_moved (moving slot v) slot j refl m in inr (subst (λ (k : ℕ). 0 < items_at k v) (sym e) (omega arith)));
+              (λ j m. let e : j ≡ slot = one_moved (moving slot v) slot j refl m in (live, inr (subst (λ (k : ℕ). 0 < items_at k v) (sym e) (omega arith))));
           tells = at_once TakesOut x (moving slot v, carried_after me.1 tk.act) (refl, tk.row, c.1);
         })
 
@@ -212,6 +234,7 @@ module _ (slots id : ℕ) (me : Mine) (live : HasPlace me.0.epoch) where
         → May i (λ _. free_word 0) (λ _. OfSlot GivesAll i me (free_word 0))
     gives_all mine due rest row = let told : ℕ → Mine → Type 0 = λ _. OfSlot GivesAll i me (free_word 0) in let y : ℕ = free_word 0 in
         lift_homes γ sizes slots id me i (λ _. y) (λ _. AtSlot GivesBack i v y) told
+        (spares (λ _. y) (λ _. AtSlot GivesBack i v y) (λ r w t. ap (λ (u : View). u.places) (t slot refl).0))
         (steps.gives_back id v live slot 0 due.0 due.1 due.2 due.3 due.4 inside (omega arith))
         (λ s w h at t. let c = t slot refl in let now : View = given_back slot y v in
         let g = gives_row γ n slot IsVacant sizes.slots inside (suc n) (omega arith) s.homes rest me.1 h.homes.deep row in
@@ -232,7 +255,7 @@ module _ (slots id : ℕ) (me : Mine) (live : HasPlace me.0.epoch) where
     -- the value of an item whose slot is held is to be moved out, after a look at each place
     pub takes_held : v.stakes.moves ≡ None → Holds v slot → n ≤ v.slots.looked → May i (λ x. x) (OfSlot TakesOut i me)
     takes_held rests held all = let told : ℕ → Mine → Type 0 = OfSlot TakesOut i me in
-        lift_homes γ sizes slots id me i (λ x. x) (AtSlot LooksAtSlot i v) told (steps.looks_at id v live slot)
+        lift_homes γ sizes slots id me i (λ x. x) (AtSlot LooksAtSlot i v) told look_keeps (steps.looks_at id v live slot)
         (λ s w h at t. let x : ℕ = get_or s.words i 0 in let c = t slot refl in let p = h.kept.parts in let f = p.slots.each id v at in
         let own = f.held slot held in let one = (f.alone slot own).0 in let filled = full_owned x (omega arith) in
         let tk = all_taken s h IsFull (λ g sh. sh.0 filled) (λ j u e. (
@@ -248,7 +271,7 @@ module _ (slots id : ℕ) (me : Mine) (live : HasPlace me.0.epoch) where
           homes = part.takes γ sizes s.words s.views s.homes h.homes id v at slot IsFull me.1 tk (set s.words i x) (moving slot v) refl
               (λ j p ne out. ⊎_elim (λ (m : Moves v j). absurd (none_moved v j rests m)) (λ (o : Sees v j × (v.epoch.place ≡ p)). inr o) out)
               (λ j _ _. same_words s h j)
-              (λ j m. let e : j ≡ slot = one_moved (moving slot v) slot j refl m in inl (subst (OwnsAlone v) (sym e) own));
+              (λ j m. let e : j ≡ slot = one_moved (moving slot v) slot j refl m in (live, inl (subst (OwnsAlone v) (sym e) own)));
           tells = at_once TakesOut x (moving slot v, carried_after me.1 tk.act) (refl, tk.row, c.1);
         })
 
@@ -256,7 +279,9 @@ module _ (slots id : ℕ) (me : Mine) (live : HasPlace me.0.epoch) where
     pub discards : Moves v slot → Holds v slot → n ≤ v.slots.looked → (rest : Carries) → HasAll γ slot n IsVacant rest me.1
         → May i (λ _. free_word 0) (λ _. OfSlot DiscardsAll i me (free_word 0))
     discards mine held all rest row = let y : ℕ = free_word 0 in let told : ℕ → Mine → Type 0 = λ _. OfSlot DiscardsAll i me y in
-        lift_homes γ sizes slots id me i (λ _. y) (λ _. AtSlot Discards i v y) told (steps.discards id v live slot 0 inside held all (omega arith))
+        lift_homes γ sizes slots id me i (λ _. y) (λ _. AtSlot Discards i v y) told (spares (λ _. y) (λ _. AtSlot Discards i v y) (λ r w t. ap (λ (u
+        : View). u.places) (t slot refl)))
+        (steps.discards id v live slot 0 inside held all (omega arith))
         (λ s w h at t. let now : View = discarded slot y v in
         let g = gives_row γ n slot IsVacant sizes.slots inside (suc n) (omega arith) s.homes rest me.1 h.homes.deep row in
         let empty = (free_is 0 (omega arith)).2 in
@@ -276,7 +301,7 @@ module _ (slots id : ℕ) (me : Mine) (live : HasPlace me.0.epoch) where
     -- look at the word
     pub looks : May i (λ x. x) (λ r me'. (me'.1 ≡ me.1) × AtSlot LooksAtSlot i v r me'.0)
     looks = lift_calm γ sizes slots id me i (λ x. x) (AtSlot LooksAtSlot i v) (λ r me'. (me'.1 ≡ me.1) × AtSlot LooksAtSlot i v r me'.0)
-        (steps.looks_at id v live slot) (λ r w t. (refl, t))
+        look_keeps (steps.looks_at id v live slot) (λ r w t. (refl, t))
         (λ s w h at t. subst (IsCalm γ sizes slots id me i (λ x. x) s (get_or s.words i 0)) (sym (t slot refl).0)
         record { more = λ j p out. out; same = λ j _. same_words s h j; mover = λ j m. h.homes.moving id v j at m })
 
@@ -285,6 +310,7 @@ module _ (slots id : ℕ) (me : Mine) (live : HasPlace me.0.epoch) where
         → May i (λ _. waiting_word 0) (λ _ me'. (me'.1 ≡ me.1) × AtSlot Retires i v (waiting_word 0) me'.0)
     retires own free rests = let y : ℕ = waiting_word 0 in
         lift_calm γ sizes slots id me i (λ _. y) (λ _. AtSlot Retires i v y) (λ _ me'. (me'.1 ≡ me.1) × AtSlot Retires i v y me'.0)
+        (spares (λ _. y) (λ _. AtSlot Retires i v y) (λ r w t. ap (λ (u : View). u.places) (t slot refl).3))
         (steps.retires id v live slot 0 inside own free (omega arith)) (λ r w t. (refl, t))
         (λ s w h at t. let c = t slot refl in let one = ((h.kept.parts.slots.each id v at).alone slot own).0 in
         let was = full_owned (slot_at sizes s.words slot) (omega arith) in
@@ -301,7 +327,7 @@ module _ (slots id : ℕ) (me : Mine) (live : HasPlace me.0.epoch) where
     -- a guard comes to see it
     pub watches : IsOpen v.epoch → v.epoch.place < n → 0 < owners_at slot v → ¬ (Holds v slot) → v.stakes.moves ≡ None → May i (λ x. x) (OfSlot WatchesBy i me)
     watches is_open near own free rests = let told : ℕ → Mine → Type 0 = OfSlot WatchesBy i me in dite (dec_lt 0 (times slot v.slots.sees))
-        (λ sees. lift_homes γ sizes slots id me i (λ x. x) (AtSlot LooksAtSlot i v) told (steps.looks_at id v live slot)
+        (λ sees. lift_homes γ sizes slots id me i (λ x. x) (AtSlot LooksAtSlot i v) told look_keeps (steps.looks_at id v live slot)
         (λ s w h at t. let x : ℕ = get_or s.words i 0 in let c = t slot refl in subst (Follows γ sizes id i me told s x) (sym c.0) record {
           stakes = v.stakes;
           act = keeps;
@@ -310,7 +336,9 @@ module _ (slots id : ℕ) (me : Mine) (live : HasPlace me.0.epoch) where
               (λ j m. h.homes.moving id v j at m);
           tells = at_once WatchesBy x me ((λ _. refl), (λ blind. absurd (blind sees)), c.1);
         }))
-        (λ blind. lift_homes γ sizes slots id me i (λ x. x) (AtSlot Watches i v) told (steps.watches id v live slot is_open own free)
+        (λ blind. lift_homes γ sizes slots id me i (λ x. x) (AtSlot Watches i v) told (spares (λ x. x) (AtSlot Watches i v) (λ r w t. ap (λ (u :
+        View). u.places) (t slot refl).0))
+        (steps.watches id v live slot is_open own free)
         (λ s w h at t. let x : ℕ = get_or s.words i 0 in let c = t slot refl in let q : ℕ = v.epoch.place in let p = h.kept.parts in
         let now : View = seeing slot v in let one = is_same slot slot refl in
         let filled = full_owned x (let o = owner_in codes sound sizes s.words s.views p.slots id slot v at in omega arith) in
@@ -320,8 +348,8 @@ module _ (slots id : ℕ) (me : Mine) (live : HasPlace me.0.epoch) where
         (λ (o : Sees u slot × (u.epoch.place ≡ q)). blind (subst (λ (z : View). Sees z slot) is o.0)) out)
         (λ ne. ⊎_elim (λ (m : Moves u slot). still_owned γ sizes s h slot id j v u at e ne own m)
         (λ (o : Sees u slot × (u.epoch.place ≡ q)). let theirs = (p.slots.each j u e).guarded slot o.0 in
-        let apart = (p.epoch.two id j v.epoch u.epoch ne (at_map Rattle.sdd_rule.specs.Parts.epoch_of s.views id v at)
-        (at_map Rattle.sdd_rule.specs.Parts.epoch_of s.views j u e)).places live (omega arith) in apart (sym o.1)) out) in
+        let apart = (p.epoch.two id j v.epoch u.epoch ne (at_map epoch_of s.views id v at)
+        (at_map epoch_of s.views j u e)).places live (omega arith) in apart (sym o.1)) out) in
         let b = h.homes.back slot q inside (omega arith) away in let y : Stake = b.0 in let spot : ℕ = stake_at n slot q in
         let has = h.homes.home slot q y inside (omega arith) b.1 in
         let mine : Has γ slot 1 IsFull y = subst (λ (k : ℕ). Has γ slot k IsFull y) (share_one n q near) (has.0, has.1.0 filled) in
@@ -339,12 +367,14 @@ module _ (slots id : ℕ) (me : Mine) (live : HasPlace me.0.epoch) where
     -- hold a slot, and let go of it
     pub takes_hold : OwnsAlone v slot → v.slots.holds ≡ None → May i (λ x. x) (λ r me'. (me'.1 ≡ me.1) × AtSlot TakesHold i v r me'.0)
     takes_hold own free = lift_calm γ sizes slots id me i (λ x. x) (AtSlot TakesHold i v) (λ r me'. (me'.1 ≡ me.1) × AtSlot TakesHold i v r me'.0)
+        (spares (λ x. x) (AtSlot TakesHold i v) (λ r w t. ap (λ (u : View). u.places) (t slot refl).0))
         (steps.takes_hold id v live slot inside own free) (λ r w t. (refl, t))
         (λ s w h at t. subst (IsCalm γ sizes slots id me i (λ x. x) s (get_or s.words i 0)) (sym (t slot refl).0)
         record { more = λ j p out. out; same = λ j _. same_words s h j; mover = λ j m. h.homes.moving id v j at m })
 
     pub lets_go : Holds v slot → May i (λ x. x) (λ r me'. (me'.1 ≡ me.1) × AtSlot LetsGo i v r me'.0)
     lets_go held = lift_calm γ sizes slots id me i (λ x. x) (AtSlot LetsGo i v) (λ r me'. (me'.1 ≡ me.1) × AtSlot LetsGo i v r me'.0)
+        (spares (λ x. x) (AtSlot LetsGo i v) (λ r w t. ap (λ (u : View). u.places) (t slot refl).0))
         (steps.lets_go id v live slot inside held) (λ r w t. (refl, t))
         (λ s w h at t. subst (IsCalm γ sizes slots id me i (λ x. x) s (get_or s.words i 0)) (sym (t slot refl).0)
         record { more = λ j p out. out; same = λ j _. same_words s h j; mover = λ j m. h.homes.moving id v j at m })
@@ -353,7 +383,9 @@ module _ (slots id : ℕ) (me : Mine) (live : HasPlace me.0.epoch) where
   pub looks_for_guard : (place : ℕ) → place < n → place ≡ v.slots.looked
       → May (state_word place) (λ x. x) (λ r me'. (me'.1 ≡ me.1) × LooksForGuard (state_word place) v r me'.0)
   looks_for_guard place low next = let j : ℕ = state_word place in
-      lift_calm γ sizes slots id me j (λ x. x) (LooksForGuard j v) (λ r me'. (me'.1 ≡ me.1) × LooksForGuard j v r me'.0) (steps.looks id v live place next)
+      lift_calm γ sizes slots id me j (λ x. x) (LooksForGuard j v) (λ r me'. (me'.1 ≡ me.1) × LooksForGuard j v r me'.0)
+      (keeps_ended γ sizes slots id me j (λ x. x) (LooksForGuard j v) (λ r w t. let c = t place refl in dite (ℕ_discrete r 2)
+      (λ e. ap (λ (u : View). u.places) (c.1 e)) (λ ne. ap (λ (u : View). u.places) (c.0 ne))) (λ s h at p low e was. was)) (steps.looks id v live place next)
       (λ r w t. (refl, t))
       (λ s w h at t. let c = t place refl in let x : ℕ = get_or s.words j 0 in
       let same = λ (k : ℕ) (_ : k < sizes.slots). ap (λ (l : List ℕ). full (slot_at sizes l k)) (set-get_or s.words j 0) in
@@ -365,7 +397,9 @@ module _ (slots id : ℕ) (me : Mine) (live : HasPlace me.0.epoch) where
   pub closes : IsOpen v.epoch → ¬ (Scans v.epoch) → v.epoch.place < n → v.stakes.moves ≡ None → Purse γ n v.epoch.place v.slots.sees me.1
       → May (state_word v.epoch.place) (λ _. 1) (λ _. ClosesHome me 1)
   closes is_open free near rests purse = let j : ℕ = state_word v.epoch.place in let q : ℕ = v.epoch.place in let le : q ≤ n = omega arith in
-      lift_homes γ sizes slots id me j (λ _. 1) (λ _. ClosesAll v 1) (λ _. ClosesHome me 1) (over.closes sizes id v is_open free near)
+      lift_homes γ sizes slots id me j (λ _. 1) (λ _. ClosesAll v 1) (λ _. ClosesHome me 1)
+      (keeps_ended γ sizes slots id me j (λ _. 1) (λ _. ClosesAll v 1) (λ r w t. ap (λ (u : View). u.places) t) (own_place γ sizes id v live 1))
+      (over.closes sizes id v is_open free near)
       (λ s w h at t. let f = h.kept.parts.slots.each id v at in let long = h.kept.parts.slots.long in
       let low : (k : ℕ) → 0 < times k v.slots.sees → k < sizes.slots = λ k sees. dite (dec_lt k sizes.slots) (λ l. l) (λ past. absurd
       (let a = f.full k sees in let z : slot_at sizes s.words k ≡ 0 = get_or_past s.words (slot_word sizes k) 0 (omega arith) in
@@ -381,3 +415,52 @@ module _ (slots id : ℕ) (me : Mine) (live : HasPlace me.0.epoch) where
             (λ k m. none_moved v k rests m) (λ k sees. same k ∙ f.full k sees) (λ k _. same k) (λ k m. absurd (none_moved v k rests m));
         tells = (refl, g.carried);
       })
+
+-- a place is ended, as long as it is free, by a token without a place
+module _ (γ : ℕ) (sizes : Sizes) (slots id : ℕ) (me : Mine) (p : ℕ) (inside : p < sizes.participants) (next : p ≡ me.0.places.ended) where
+  abbrev spot : ℕ
+  spot = state_word p
+
+  abbrev free_no_more : ℕ → ℕ
+  free_no_more x = either (eqb x 0) 3 x
+
+  module _ (s : State Stake View) (h : Housed γ sizes s) (at : get_elem? s.views id ≡ some me.0) where
+    abbrev found : ℕ
+    found = get_or s.words spot 0
+
+    abbrev left : ℕ
+    left = free_no_more found
+
+    left_over : Spares sizes s.words spot left
+    left_over q low e was = ap free_no_more was
+
+    still_over : AreEnded sizes (set s.words spot left) me.0
+    still_over = one_spared sizes s.words spot left me.0 me.0 left_over refl (h.kept.places.ended id me.0 at)
+
+    now_over : left ≡ 3 → AreEnded sizes (set s.words spot left) (past p me.0)
+    now_over over q low l = dite (ℕ_discrete q p)
+        (λ e. ap (λ (k : ℕ). get_or (set s.words spot left) (state_word k) 0) e
+        ∙ (get_or-set_same s.words spot left 0 (let wide = h.kept.parts.epoch.wide in omega arith) ∙ over))
+        (λ ne. still_over q low (omega arith))
+
+    bars_calm : (w : View) → (w ≡ past p me.0) ⊎ (w ≡ me.0) → IsCalm γ sizes slots id me spot free_no_more s left w
+    bars_calm w which = let same = λ (j : ℕ) (_ : j < sizes.slots). ap full (before_slots sizes s.words spot left j (omega arith)) in
+        let calm = IsCalm γ sizes slots id me spot free_no_more s left in
+        ⊎_elim (λ (e : w ≡ past p me.0). subst calm (sym e) record { more = λ j q out. out; same = same; mover = λ j m. h.homes.moving id me.0 j at m })
+        (λ (e : w ≡ me.0). subst calm (sym e) record { more = λ j q out. out; same = same; mover = λ j m. h.homes.moving id me.0 j at m }) which
+
+  which_of : (r : ℕ) (w : View) → Bars spot me.0 r w → ((r ≡ 0) ⊎ (r ≡ 3)) × (w ≡ past p me.0) ⊎ (w ≡ me.0)
+  which_of r w t = let c = t p refl in dite (ℕ_discrete r 0) (λ e. inl (inl e, c.0 (inl e)))
+      (λ ne. dite (ℕ_discrete r 3) (λ e. inl (inr e, c.0 (inr e))) (λ ne'. inr (c.1 ne ne')))
+
+  pub bars : Allows (Housed γ sizes) slots id me spot free_no_more (λ r me'. (me'.1 ≡ me.1) × Bars spot me.0 r me'.0)
+  bars = lift_calm γ sizes slots id me spot free_no_more (Bars spot me.0) (λ r me'. (me'.1 ≡ me.1) × Bars spot me.0 r me'.0)
+      (λ s w h at t. let x : ℕ = get_or s.words spot 0 in let y : ℕ = free_no_more x in (
+        left_over s h at,
+        ⊎_elim (λ (c : ((x ≡ 0) ⊎ (x ≡ 3)) × (w ≡ past p me.0)). subst (AreEnded sizes (set s.words spot y)) (sym c.1)
+            (now_over s h at (⊎_elim (λ (e : x ≡ 0). ap free_no_more e) (λ (e : x ≡ 3). ap free_no_more e) c.0)))
+            (λ (e : w ≡ me.0). subst (AreEnded sizes (set s.words spot y)) (sym e) (still_over s h at)) (which_of x w t),
+      ))
+      (ended.bars sizes id p me.0 inside) (λ r w t. (refl, t))
+      (λ s w h at t. bars_calm s h at w (⊎_elim (λ (c : ((get_or s.words spot 0 ≡ 0) ⊎ (get_or s.words spot 0 ≡ 3)) × (w ≡ past p me.0)). inl c.1)
+      (λ (e : w ≡ me.0). inr e) (which_of (get_or s.words spot 0) w t)))

@@ -15,11 +15,13 @@ use Rattle.sdd_rule.specs.Codes.{alive, waiting, full}
 use Rattle.sdd_rule.specs.Sums.{is, times}
 use Rattle.sdd_rule.specs.Slots.{slot_at, items_at, OwnsAlone, Sees}
 use Rattle.sdd_rule.specs.SlotSteps.{first, parted, joined}
-use Rattle.sdd_rule.specs.Parts.{idle, owner_token}
+use Rattle.sdd_rule.specs.Epoch.{HasPlace}
+use Rattle.sdd_rule.specs.Parts.{epoch_of, idle, owner_token}
 use Rattle.sdd_rule.proofs.Codes.{sound}
 use Rattle.sdd_rule.proofs.Lift as kept
 use Rattle.sdd_rule.proofs.Sums.{total_append}
-use Rattle.sdd_homes.specs.Homes.{stake_at, share, Has, Moves, IsOut, LiesAt, AreLaid, HomesPart, Housed}
+use Rattle.sdd_homes.specs.Homes.{stake_at, share, Has, IsShown, Moves, IsOut, LiesAt, AreLaid, HomesPart, Housed}
+use Rattle.sdd_homes.proofs.Places.{inside}
 use Rattle.sdd_homes.proofs.Part.{IsMover}
 use Rattle.sdd_homes.proofs.Part as part
 use Rattle.sdd_homes.proofs.Steps.{none_moved, still_free}
@@ -50,12 +52,12 @@ module _ (γ : ℕ) (sizes : Sizes) where
     homes = record {
       few = few;
       deep = length-map xs some ∙ laid.long;
-      home = λ i p y low near lies. let l = laid.each i p low near in
+      home = λ i p y low near lies. let l = laid.each i p near (inside n sizes.slots i p low near) in
           let same : l.0 ≡ y = some-injective l.0 y (some-injective (some l.0) (some y) (sym (at_map some xs (stake_at n i p) l.0 l.1) ∙ lies)) in
           let has = subst (Has γ i (share n p) IsVacant) same l.2 in
           let empty : full (slot_at sizes ws i) ≡ 0 = ap full (none (Rattle.sdd_rule.specs.Words.slot_word sizes i)) ∙ sound.free.2 in
           (has.0, (λ e. absurd (omega arith), λ _. has.1));
-      back = λ i p low near away. let l = laid.each i p low near in (l.0, at_map some xs (stake_at n i p) l.0 l.1);
+      back = λ i p low near away. let l = laid.each i p near (inside n sizes.slots i p low near) in (l.0, at_map some xs (stake_at n i p) l.0 l.1);
       moving = λ j v i e m. absurd (none_moved v i (subst (λ (u : View). u.stakes.moves ≡ None) (only j v e) refl) m);
     };
   }
@@ -82,8 +84,11 @@ module _ (γ : ℕ) (sizes : Sizes) where
         kept = kept.joins_owners sizes id v other os ss s h.kept at apart there;
         homes = part.calm γ sizes s.words vs s.homes
             (part.calm γ sizes s.words s.views s.homes h.homes id v at s.words w (λ i p out. out) (λ i _. refl)
-            (λ i m. ⊎_elim (λ (o : OwnsAlone v i). inl (let e = total_append (is i) os v.slots.owns in omega arith)) (λ (o : 0 < items_at i v). inr o)
-            (h.homes.moving id v i at m)))
+            (λ i m. let mover = h.homes.moving id v i at m in (
+              mover.0,
+              ⊎_elim
+                  (λ (o : OwnsAlone v i). inl (let e = total_append (is i) os v.slots.owns in omega arith)) (λ (o : 0 < items_at i v). inr o) mover.1,
+            )))
             other t there s.words t' (λ i p out. absurd (nothing_out t refl refl i p out)) (λ i _. refl) (λ i m. absurd (none_moved t' i refl m));
       }
 
@@ -95,3 +100,19 @@ module _ (γ : ℕ) (sizes : Sizes) where
       (λ (m : Moves u i). still_free γ sizes s h i j u e dead quiet m)
       (λ (o : Sees u i × (u.epoch.place ≡ p)). let f = (h.kept.parts.slots.each j u e).full i o.0 in absurd (omega arith)) out) in
       let has = h.homes.home i p b.0 low near b.1 in (b.0, b.1, (has.0, has.1.1 empty))
+
+  -- once a token knows that all places have ended, nobody has one
+  no_place : (s : State Stake View) → Housed γ sizes s → (id : ℕ) (v : View) → get_elem? s.views id ≡ some v → sizes.participants ≤ v.places.ended
+      → (j : ℕ) (u : View) → get_elem? s.views j ≡ some u → ¬ (HasPlace u.epoch)
+  no_place s h id v at all j u e z = let f = h.kept.parts.epoch.each j u.epoch (at_map epoch_of s.views j u e) in let is = f.state z in let few = f.states in
+      let in' = f.inside z in let over = h.kept.places.ended id v at u.epoch.place in' (omega arith) in omega arith
+
+  -- and all stakes are at home, and show what their slots' words say
+  pub all_home : (s : State Stake View) → Housed γ sizes s → (id : ℕ) (v : View) → get_elem? s.views id ≡ some v → sizes.participants ≤ v.places.ended
+      → (i p : ℕ) → i < sizes.slots → p ≤ sizes.participants
+      → (y : Stake) × LiesAt sizes.participants s.homes i p y × Has γ i (share sizes.participants p) (IsShown (slot_at sizes s.words i)) y
+  all_home s h id v at all i p low near = let b = h.homes.back i p low near (λ j u e out. no_place s h id v at all j u e (⊎_elim
+      (λ (m : Moves u i). (h.homes.moving j u i e m).0)
+      (λ (o : Sees u i × (u.epoch.place ≡ p)). let open_guard = (h.kept.parts.slots.each j u e).guarded i o.0 in
+      let live : HasPlace u.epoch = omega arith in live) out)) in
+      (b.0, b.1, h.homes.home i p b.0 low near b.1)

@@ -1,16 +1,19 @@
 -- The homes' part of the rule. The slots of the table are the homes of stakes: for the value of each slot of the domain, one stake for each place,
 -- and one with all other units. What a guard sees, it may look at by the stake of its place; who moves the value in or out has all stakes in it.
-use Rattle.std.specs.Prelude.{◌≡◌, ◌⊎◌, ℕ, suc, ◌+◌, ◌-◌, ◌*◌, ◌<◌, ◌≤◌, List, length, Some, eqb}
+use Rattle.std.specs.Prelude.{◌≡◌, ◌⊎◌, ℕ, suc, ◌+◌, ◌-◌, ◌*◌, ◌<◌, ◌≤◌, List, length, slice_index_or, Some, eqb, true, false}
 use mathlib.Core.Option.{Option, some}
 use lib.ListN.{get_elem?}
 use prog.Atomic.{either}
 use base.Stored.{Gv}
+use Rattle.core.specs.Mem.Slots.{slots_items, slots_filled, slots_len}
 use Rattle.atomic_table.specs.Table.{State}
+use Rattle.atomic_table.specs.declared.owned.Closed.{Closed}
 use Rattle.sdd_stakes.specs.Shelf.{IsFull, IsVacant, most, lot}
 use Rattle.sdd_stakes.specs.declared.stake.Stake.{Stake}
 use Rattle.sdd_rule.specs.declared.View.{View}
 use Rattle.sdd_rule.specs.declared.Sizes.{Sizes}
 use Rattle.sdd_rule.specs.Codes.{full}
+use Rattle.sdd_rule.specs.Epoch.{HasPlace}
 use Rattle.sdd_rule.specs.Slots.{slot_at, items_at, OwnsAlone, Sees}
 use Rattle.sdd_rule.specs.Parts.{Kept}
 
@@ -61,21 +64,36 @@ abbrev pub IsAtHome : ℕ → Homes → ℕ → ℕ → Type 0
 IsAtHome n hs i p = (y : Stake) × LiesAt n hs i p y
 
 -- the book of the values' places, the words, what all participants know, and what lies at home. A stake is at home unless someone has it out;
--- and who moves a value owns it alone, or its item waits with it
+-- and who moves a value has a place, and owns it alone, or its item waits with it
 pub record HomesPart (γ : ℕ) (sizes : Sizes) (ws : List ℕ) (vs : List View) (hs : Homes) : Type 0 where
   pub few : sizes.participants < most
   pub deep : length hs ≡ homes_for sizes.participants sizes.slots
   pub home : (i p : ℕ) (y : Stake) → i < sizes.slots → p ≤ sizes.participants → LiesAt sizes.participants hs i p y
       → Has γ i (share sizes.participants p) (IsShown (slot_at sizes ws i)) y
   pub back : (i p : ℕ) → i < sizes.slots → p ≤ sizes.participants → NoneOut vs i p → IsAtHome sizes.participants hs i p
-  pub moving : (j : ℕ) (v : View) (i : ℕ) → get_elem? vs j ≡ some v → Moves v i → OwnsAlone v i ⊎ (0 < items_at i v)
+  pub moving : (j : ℕ) (v : View) (i : ℕ) → get_elem? vs j ≡ some v → Moves v i → HasPlace v.epoch × (OwnsAlone v i ⊎ (0 < items_at i v))
 
 -- the whole rule
 pub record Housed (γ : ℕ) (sizes : Sizes) (s : State Stake View) : Type 0 where
   pub kept : Kept sizes s
   pub homes : HomesPart γ sizes s.words s.views s.homes
 
+-- the first k homes' stakes in a row, where what those in the slot i show is so
+pub record AreLaidTo (γ n k : ℕ) (Is : ℕ → Gv → Type 0) (stakes : List Stake) : Type 0 where
+  pub long : length stakes ≡ k
+  pub each : (i p : ℕ) → p ≤ n → stake_at n i p < k → (y : Stake) × (get_elem? stakes (stake_at n i p) ≡ some y) × Has γ i (share n p) (Is i) y
+
 -- before anybody takes part: in each home its stake, which shows that the place is vacant
-pub record AreLaid (γ n m : ℕ) (stakes : List Stake) : Type 0 where
-  pub long : length stakes ≡ homes_for n m
-  pub each : (i p : ℕ) → i < m → p ≤ n → (y : Stake) × (get_elem? stakes (stake_at n i p) ≡ some y) × Has γ i (share n p) IsVacant y
+abbrev pub all_vacant : ℕ → Gv → Type 0
+all_vacant i = IsVacant
+
+abbrev pub AreLaid : ℕ → ℕ → ℕ → List Stake → Type 0
+AreLaid γ n m stakes = AreLaidTo γ n (homes_for n m) all_vacant stakes
+
+-- of a closed table: in the first k homes their stakes lie still, the others are empty; what those in a slot show is as the slot's word says
+pub record AreHome {A : Type 0} (γ : ℕ) (sizes : Sizes) (k : ℕ) (closed : Closed Stake A) : Type 0 where
+  pub laid : AreLaidTo γ sizes.participants (homes_for sizes.participants sizes.slots) (λ i. IsShown (slot_at sizes (slots_items closed.words) i))
+      (slots_items closed.slots)
+  pub low : k ≤ slots_len closed.slots
+  pub here : (j : ℕ) → j < k → slice_index_or (slots_filled closed.slots) j false ≡ true
+  pub gone : (j : ℕ) → k ≤ j → slice_index_or (slots_filled closed.slots) j false ≡ false

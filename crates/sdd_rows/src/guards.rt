@@ -97,18 +97,18 @@ fn at_world(rt: &impl Abort, world: &mut World<u64>, place: &Place, under: Under
     two_guards(rt, &mut turn, under)
 }
 
-fn at_domain(rt: &impl Abort, local: &mut Local<'_>, under: Under) -> Shown
+fn at_domain(rt: &impl Abort, local: &mut Local<'_, u64>, under: Under) -> Shown
     requires { IsSeated (seat_of local.old) }
     ensures { seat_of local.new ≡ seat_of local.old }
 {
-    two_guards::<u64, Local<'_>>(rt, local, under)
+    two_guards::<u64, Local<'_, u64>>(rt, local, under)
 }
 
 #[test]
 fn the_only_participant_of_a_domain_is_answered_as_a_turn_is(rt: HostRuntime) {
     let mut world: World<u64> = new_world(&rt, LONE, 0);
     let place = joined(&rt, &mut world);
-    let domain = Domain::new(rt.alloc(), LONE).expect(&rt, "the limits are in range");
+    let domain: Domain<u64> = Domain::new(rt.alloc(), LONE).expect(&rt, "the limits are in range");
     let mut local = Local::register(&domain).expect(&rt, "a place is free");
     for call in 0u32..600 {
         let under = match call % 200 {

@@ -1,12 +1,13 @@
--- A step that keeps the parts is a step of the table.
-use Rattle.std.proofs.Common.{◌≡◌, ℕ, zero, suc, ◌+◌, ◌<◌, List, [], ◌∷◌, ◌++◌, map, length, get_or, set, sym, refl, ap, ◌∙◌, subst, ⊎_elim, arith, length-set}
+-- No part reads what is known of stakes and of ended places; and tokens begin, come, and are cut and joined.
+use Rattle.std.proofs.Common.{◌≡◌, ℕ, zero, suc, ◌+◌, ◌<◌, List, [], ◌∷◌, ◌++◌, map, length, get_or, set, sym, refl, ap, ◌∙◌, subst, ⊎_elim, arith}
 use mathlib.Core.Option.{some, some-injective, some-ne-none}
 use mathlib.Core.List.{map-append}
 use lib.ListN.{get_elem?}
 use lib.Seq.{map-set}
-use Rattle.atomic_table.specs.Table.{State, Me, Act, keeps, Valid, carried_after, stepped, Allows, Enters, Splits, Joins, opening}
+use Rattle.atomic_table.specs.Table.{Enters, Splits, Joins, opening}
 use Rattle.atomic_table.proofs.Lists.{at_map, at_snoc, set_again, set_else, set_here}
 use Rattle.sdd_rule.specs.declared.EpochView.{EpochView}
+use Rattle.sdd_rule.specs.declared.PlacesView.{PlacesView}
 use Rattle.sdd_rule.specs.declared.StakesView.{StakesView}
 use Rattle.sdd_rule.specs.declared.View.{View}
 use Rattle.sdd_rule.specs.declared.Sizes.{Sizes}
@@ -18,8 +19,10 @@ use Rattle.sdd_rule.proofs.Sums.{total_append}
 use Rattle.std.specs.Prelude.{Some, None}
 use Rattle.sdd_rule.specs.Epoch.{HasPlace, EpochPart}
 use Rattle.sdd_rule.specs.Slots.{Holds, LonePart}
-use Rattle.sdd_rule.specs.Steps.{Steps, nobody}
-use Rattle.sdd_rule.specs.Parts.{epoch_of, idle, owner_token, Parts, PlacesPart, Kept}
+use Rattle.sdd_rule.specs.Steps.{nobody}
+use Rattle.sdd_rule.specs.Parts.{epoch_of, idle, owner_token, Parts, Kept}
+use Rattle.sdd_rule.specs.Ended.{AreEnded}
+use Rattle.sdd_rule.proofs.Frame.{Each, each_set, each_snoc}
 use Rattle.sdd_rule.proofs.Codes.{sound}
 use Rattle.sdd_rule.proofs.Epoch.{seated}
 use Rattle.sdd_rule.proofs.Epoch as epochs
@@ -30,7 +33,7 @@ use Rattle.sdd_rule.proofs.Tokens as tokens
 use Rattle.sdd_rule.proofs.Lone.{lone_same}
 
 -- a step that leaves what is known of the epoch
-same_epochs : (vs : List View) (id : ℕ) (v w : View) → get_elem? vs id ≡ some v → w.epoch ≡ v.epoch → map epoch_of (set vs id w) ≡ map epoch_of vs
+pub same_epochs : (vs : List View) (id : ℕ) (v w : View) → get_elem? vs id ≡ some v → w.epoch ≡ v.epoch → map epoch_of (set vs id w) ≡ map epoch_of vs
 same_epochs vs id v w at same = map-set epoch_of vs id w
     ∙ (ap (set (map epoch_of vs) id) same ∙ set_again (map epoch_of vs) id v.epoch (at_map epoch_of vs id v at))
 
@@ -54,6 +57,19 @@ blind sizes ws vs id u v was p t = let us : List View = set vs id v in let w : V
       lone = lone_same sizes ws us p.lone id v at w refl (λ z. z);
     }
 
+-- nor of ended places
+pub blind_places : (sizes : Sizes) (ws : List ℕ) (vs : List View) (id : ℕ) (v : View) → get_elem? vs id ≡ some v → Parts sizes ws vs
+    → (t : PlacesView) → Parts sizes ws (set vs id (record v { places = t }))
+blind_places sizes ws vs id v at p t = let w : View = record v { places = t } in let f = p.slots.each id v at in record {
+  epoch = subst (λ (l : List EpochView). EpochPart sizes.participants ws l) (sym (same_epochs vs id v w at refl)) p.epoch;
+  slots = view_step codes sound sizes ws vs p.slots id v at w (λ _. refl) (λ _. refl)
+      record { timed = f.timed; guarded = f.guarded; full = f.full; alone = f.alone; held = f.held }
+      (let x = p.slots.two id id v v at at in record { since = x.since; looked = x.looked })
+      (λ j x apart e. let a = p.slots.two id j v x at e in let b = p.slots.two j id x v e at in
+      (record { since = a.since; looked = a.looked }, record { since = b.since; looked = b.looked }));
+  lone = lone_same sizes ws vs p.lone id v at w refl (λ z. z);
+}
+
 -- one token more, which has no place
 snoc_lone : (sizes : Sizes) (ws : List ℕ) (vs : List View) (t : View) → ¬ (HasPlace t.epoch) → LonePart sizes ws vs → LonePart sizes ws (vs ++ t ∷ [])
 snoc_lone sizes ws vs t none l = record {
@@ -61,30 +77,13 @@ snoc_lone sizes ws vs t none l = record {
       (λ (a : t ≡ u). absurd (none (subst (λ (x : View). HasPlace x.epoch) (sym a) z))) (at_snoc vs t u j e);
 }
 
+-- the words and what is known of ended places stay
+moved : (sizes : Sizes) (ws : List ℕ) (vs : List View) (id : ℕ) (v w : View) → get_elem? vs id ≡ some v → Each (AreEnded sizes ws) vs → w.places ≡ v.places
+    → Each (AreEnded sizes ws) (set vs id w)
+moved sizes ws vs id v w at old same = each_set (AreEnded sizes ws) (AreEnded sizes ws) vs id w
+    (λ p low past. let e = ap (λ (x : PlacesView). x.ended) same in old id v at p low (omega arith)) (λ j u _ e. old j u e)
+
 module _ {S : Type 0} (sizes : Sizes) where
-  module _ (slots id : ℕ) (me : Me S View) (i : ℕ) (f : ℕ → ℕ) where
-    -- with it the participant may take or give slots of the table
-    pub lift_with : (then : ℕ → View → Type 0) (told : ℕ → Me S View → Type 0) → Steps (Parts sizes) id me.0 i f then
-        → ((s : State S View) (w : View) → Kept sizes s → length s.homes ≡ slots → get_elem? s.views id ≡ some me.0
-        → Parts sizes (set s.words i (f (get_or s.words i 0))) (set s.views id w) → then (get_or s.words i 0) w
-        → (a : Act S) × Valid s.homes me.1 a × PlacesPart sizes (stepped s i (f (get_or s.words i 0)) id me.1 w a)
-        × told (get_or s.words i 0) (w, carried_after me.1 a))
-        → Allows (Kept sizes) slots id me i f told
-    lift_with then told step follow s k full at small =
-        let e = step s.words s.views k.parts at small in let w : View = e.0 in let b = follow s w k full at e.1 e.2 in
-        (w, b.0, b.1, record { parts = e.1; places = b.2 }, b.3)
-
-    -- it takes and gives none
-    pub lift : (then : ℕ → View → Type 0) (told : ℕ → Me S View → Type 0) → Steps (Parts sizes) id me.0 i f then
-        → ((r : ℕ) (w : View) → then r w → told r (w, me.1)) → Allows (Kept sizes) slots id me i f told
-    lift then told step tells = lift_with then told step
-        (λ s w k _ _ _ t. (
-          keeps,
-          tt,
-          record { wide = let l = k.places.wide in omega (arith, length-set s.words i (f (get_or s.words i 0))) },
-          tells (get_or s.words i 0) w t,
-        ))
-
   -- a new token, which knows nothing
   pub enters : (book slots i : ℕ) (told : ℕ → View → Type 0) → ((r : ℕ) → told r (idle sizes book)) → Enters (Kept {S = S} sizes) slots i told
   enters book slots i told tells s k _ small = let n : ℕ = sizes.participants in let w : View = idle sizes book in (
@@ -96,7 +95,10 @@ module _ {S : Type 0} (sizes : Sizes) where
         slots = sits codes sizes s.words s.views k.parts.slots w refl;
         lone = snoc_lone sizes s.words s.views w (λ z. absurd (omega arith)) k.parts.lone;
       };
-      places = record { wide = k.places.wide };
+      places = record {
+        wide = k.places.wide;
+        ended = each_snoc (AreEnded sizes s.words) s.views w k.places.ended (λ p _ l. absurd (omega arith));
+      };
     },
     tells (get_or s.words i 0),
   )
@@ -110,7 +112,10 @@ module _ {S : Type 0} (sizes : Sizes) where
       slots = starts codes sound sizes ws (idle sizes book) long none refl;
       lone = record { knows = λ one j v e z. let e' = ap (λ (x : View). x.epoch.state) (only (idle sizes book) j v e) in absurd (omega arith) };
     };
-    places = record { wide = omega arith };
+    places = record {
+      wide = omega arith;
+      ended = λ j v e p _ l. let e' = ap (λ (x : View). x.places.ended) (only (idle sizes book) j v e) in absurd (omega arith);
+    };
   }
     where
       only : (t : View) (j : ℕ) (v : View) → get_elem? (t ∷ []) j ≡ some v → t ≡ v
@@ -130,7 +135,10 @@ module _ {S : Type 0} (sizes : Sizes) where
           slots = tokens.cuts codes sizes s.words s.views k.parts.slots id v at os ss t os' ss' refl parts held;
           lone = snoc_lone sizes s.words vs t (λ z. absurd (omega arith)) (lone_same sizes s.words s.views k.parts.lone id v at w refl (λ z. z));
         };
-        places = record { wide = k.places.wide };
+        places = record {
+          wide = k.places.wide;
+          ended = each_snoc (AreEnded sizes s.words) vs t (moved sizes s.words s.views id v w at k.places.ended refl) (λ p _ l. absurd (omega arith));
+        };
       }
 
   -- and taken in again
@@ -146,7 +154,10 @@ module _ {S : Type 0} (sizes : Sizes) where
           slots = tokens.takes_in codes sizes s.words s.views k.parts.slots id v at os ss other t t' os' ss' refl refl parts apart was;
           lone = lone_same sizes s.words vs (lone_same sizes s.words s.views k.parts.lone id v at w refl (λ z. z)) other t there t' refl (λ z. z);
         };
-        places = record { wide = k.places.wide };
+        places = record {
+          wide = k.places.wide;
+          ended = moved sizes s.words vs other t t' there (moved sizes s.words s.views id v w at k.places.ended refl) refl;
+        };
       }
 
   -- the only owner of the first slot goes to a token of its own, where none is held

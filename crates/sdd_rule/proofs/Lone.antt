@@ -25,6 +25,11 @@ pub still_blank : (sizes : Sizes) (ws : List ℕ) → length ws ≡ all_words si
 still_blank sizes ws long none = let n : ℕ = after_places sizes.participants in
     all_zero (drop n ws) (words_behind sizes) (omega (arith, length-drop n ws)) (λ i. get_or-drop n ws i 0 ∙ none (n + i))
 
+-- a word of the places' changes, by a token that knows nothing of the others
+pub lone_beside : (sizes : Sizes) (ws : List ℕ) (vs : List View) → LonePart sizes ws vs → (j y : ℕ) → j < after_places sizes.participants
+    → LonePart sizes (set ws j y) vs
+lone_beside sizes ws vs l j y low = record { knows = λ one k u e z. l.knows one k u e z ∙ sym (drop-set-lt (after_places sizes.participants) ws j y low) }
+
 module _ (sizes : Sizes) (ws : List ℕ) (vs : List View) (l : LonePart sizes ws vs) (id : ℕ) (v : View) (at : get_elem? vs id ≡ some v) where
   -- what a lone participant finds is what it knew
   pub finds : sizes.participants ≡ 1 → HasPlace v.epoch → (i : ℕ) → slot_at sizes ws i ≡ get_or v.words (behind sizes i) 0

@@ -1,5 +1,7 @@
 -- The rule of a domain: a record of its parts
-use Rattle.std.specs.Prelude.{ℕ, ◌<◌, List, [], None, map, length}
+use Rattle.std.specs.Prelude.{◌≡◌, ℕ, ◌<◌, List, [], None, map, length}
+use mathlib.Core.Option.{some}
+use lib.ListN.{get_elem?}
 use Rattle.atomic_table.specs.Table.{State}
 use Rattle.sdd_rule.specs.declared.EpochView.{EpochView}
 use Rattle.sdd_rule.specs.declared.SlotsView.{SlotsView}
@@ -12,6 +14,7 @@ use Rattle.sdd_rule.specs.Epoch.{EpochPart}
 use Rattle.sdd_rule.specs.Slots.{SlotsPart, LonePart}
 use Rattle.sdd_rule.specs.Steps.{nobody}
 use Rattle.sdd_rule.specs.SlotSteps.{bare, owning_only, blank}
+use Rattle.sdd_rule.specs.Ended.{AreEnded}
 
 abbrev pub epoch_of : View → EpochView
 epoch_of v = v.epoch
@@ -28,14 +31,29 @@ at_rest book = record { book = book; moves = None }
 
 -- a token that knows nothing, but how many of each there are and which book
 abbrev pub idle : Sizes → ℕ → View
-idle sizes book = record { sizes = sizes; epoch = nobody sizes.participants; places = record {}; slots = bare; stakes = at_rest book; words = blank sizes }
+idle sizes book = record {
+  sizes = sizes;
+  epoch = nobody sizes.participants;
+  places = record { ended = 0 };
+  slots = bare;
+  stakes = at_rest book;
+  words = blank sizes;
+}
 
 abbrev pub no_sizes : Sizes
 no_sizes = record { participants = 0; slots = 0; jobs = 0; cells = 0 }
 
 -- a token that knows its owners alone
 abbrev pub owner_token : List ℕ → List ℕ → View
-owner_token owns shares = record { sizes = no_sizes; epoch = nobody 0; places = record {}; slots = owning_only owns shares; stakes = at_rest 0; words = [] }
+owner_token owns shares = record {
+  sizes = no_sizes;
+  epoch = nobody 0;
+  places = record { ended = 0 };
+  slots = owning_only owns shares;
+  stakes =
+      at_rest 0;
+  words = [];
+}
 
 -- the parts that speak of words and of what each participant knows
 pub record Parts (sizes : Sizes) (ws : List ℕ) (vs : List View) : Type 0 where
@@ -44,9 +62,10 @@ pub record Parts (sizes : Sizes) (ws : List ℕ) (vs : List View) : Type 0 where
   pub lone : LonePart sizes ws vs
 
 module _ {S : Type 0} (sizes : Sizes) (s : State S View) where
-  -- what ended places left, and the mark: the word is there
+  -- what ended places left, and the mark: the word is there; and a place that has ended stays so
   pub record PlacesPart : Type 0 where
     pub wide : mark_word < length s.words
+    pub ended : (j : ℕ) (v : View) → get_elem? s.views j ≡ some v → AreEnded sizes s.words v
 
   pub record Kept : Type 0 where
     pub parts : Parts sizes s.words s.views

@@ -26,8 +26,11 @@ pub struct EpochView {
     pub ended: u64,
 }
 
-/// What a participant knows of ended places: nothing yet.
-pub struct PlacesView {}
+/// What is known of ended places.
+pub struct PlacesView {
+    /// Each place below this one has ended.
+    pub ended: u64,
+}
 
 /// An item that waits with a participant.
 pub struct WaitingItem {

@@ -78,6 +78,16 @@ impl<T> Shelf<T> {
         }
     }
 
+    /// Lets go of the places. Their memory, and the values in it, stay where they are.
+    pub fn leak<A: Allocator>(self, hold: Hold<T, A>) {
+        let Shelf { ptr: _ } = self;
+        let Hold {
+            ptr: _,
+            len: _,
+            by: _,
+        } = hold;
+    }
+
     /// The value of a full place, for as long as the tenure is borrowed, by any stake in it that the seat carries. It is lent to the tenure.
     pub fn show<'g, V, K, P: TableRule<Stake, V, K>>(
         &self,

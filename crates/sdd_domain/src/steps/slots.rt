@@ -6,14 +6,18 @@ ghost use Rattle.sdd_rule.specs.Words as words;
 ghost use Rattle.sdd_rule.specs.Codes.{free_word, owned_word, waiting_word};
 ghost use Rattle.sdd_rule.specs.Epoch.{HasPlace, IsOpen};
 ghost use Rattle.sdd_rule.specs.Slots.{owners_at, OwnsAlone, Holds};
-ghost use Rattle.sdd_rule.specs.SlotSteps.{IsDue, Claims, Retires, GivesBack, LooksAtSlot, Watches, TakesHold, LetsGo, Discards, LooksForGuard, first, parted};
+ghost use Rattle.sdd_rule.specs.SlotSteps.{IsDue, Retires, LooksAtSlot, TakesHold, LetsGo, LooksForGuard, first, parted};
 ghost use Rattle.sdd_rule.specs.Parts.{owner_token};
-ghost use Rattle.sdd_domain.specs.Board.{id_of, sizes_of, places_of, slots_of};
-ghost use Rattle.sdd_domain.specs.Token.{view, epoch, slots, Taught, IsTakenIn};
+ghost use Rattle.sdd_stakes.specs.Shelf.{IsFull, IsVacant};
+ghost use Rattle.sdd_homes.specs.Homes.{Carries, Moves};
+ghost use Rattle.sdd_homes.specs.HomeSteps.{HasAll, ClaimsAll, Houses, TakesOut, GivesAll, DiscardsAll, WatchesBy};
+ghost use Rattle.sdd_domain.specs.Board.{id_of, book_of, places_of, slots_of};
+ghost use Rattle.sdd_domain.specs.Token.{view, epoch, slots, Taught, Moved, Knows, IsTakenIn};
 
 use crate::board::{Board, Token};
 use crate::plays::{
-    Claim, Discard, GiveBack, Hold, LetGo, LookAtSlot, LookForGuard, Part, Retire, TakeIn, Watch,
+    Claim, Discard, GiveBack, Hold, House, LetGo, LookAtSlot, LookForGuard, Part, Retire, TakeIn,
+    TakeOut, Watch,
 };
 use crate::words::state_word;
 use atomic_table::Badge;
@@ -30,7 +34,7 @@ pub const WAITING: u64 = 4;
 #[inline]
 pub fn look(board: &Board, token: &mut Token, slot: u32) -> u64
     requires home { token.old.table_id ≡ id_of board.now }
-    requires sizes { (view token.old).sizes ≡ sizes_of board.now }
+    requires knows { Knows board.now token.old }
     requires inside { slot < slots_of board.now }
     requires place { HasPlace (epoch token.old) }
     ensures { Taught (LooksAtSlot slot) token.old result token.new }
@@ -41,14 +45,15 @@ pub fn look(board: &Board, token: &mut Token, slot: u32) -> u64
         .load::<LookAtSlot>(token, board.slot_word(slot))
 }
 
-/// Tries to claim a slot, and answers its word before. It was free where this is `FREE`.
+/// Tries to claim a slot, and answers its word before. It was free where this is `FREE`: then all stakes in it are out.
 #[inline]
 pub fn claim(board: &Board, token: &mut Token, slot: u32) -> u64
     requires home { token.old.table_id ≡ id_of board.now }
-    requires sizes { (view token.old).sizes ≡ sizes_of board.now }
+    requires knows { Knows board.now token.old }
     requires inside { slot < slots_of board.now }
     requires place { HasPlace (epoch token.old) }
-    ensures { Taught (Claims slot (free_word 0) (owned_word 0)) token.old result token.new }
+    requires rests { (view token.old).stakes.moves ≡ None }
+    ensures { Moved (ClaimsAll slot (free_word 0) (owned_word 0)) token.old result token.new }
 {
     board
         .table
@@ -56,14 +61,32 @@ pub fn claim(board: &Board, token: &mut Token, slot: u32) -> u64
         .compare_exchange::<Claim>(token, board.slot_word(slot), FREE, OWNED)
 }
 
+/// The value of a slot was moved in: all stakes in it go home. Answers the slot's word.
+#[inline]
+pub fn house(board: &Board, token: &mut Token, slot: u32) -> u64
+    requires home { token.old.table_id ≡ id_of board.now }
+    requires knows { Knows board.now token.old }
+    requires inside { slot < slots_of board.now }
+    requires place { HasPlace (epoch token.old) }
+    requires own { Moves (view token.old) slot × OwnsAlone (view token.old) slot }
+    requires row { (rest : Carries) × HasAll (book_of board.now) slot (places_of board.now) IsFull rest token.old.me.1 }
+    ensures { Moved (Houses slot) token.old result token.new }
+{
+    board
+        .table
+        .shared
+        .load::<House>(token, board.slot_word(slot))
+}
+
 /// Retires the item of a slot of its own, which waits with the participant from now on.
 #[inline]
 pub fn retire(board: &Board, token: &mut Token, slot: u32)
     requires home { token.old.table_id ≡ id_of board.now }
-    requires sizes { (view token.old).sizes ≡ sizes_of board.now }
+    requires knows { Knows board.now token.old }
     requires inside { slot < slots_of board.now }
     requires place { HasPlace (epoch token.old) }
     requires own { OwnsAlone (view token.old) slot × ¬ (Holds (view token.old) slot) }
+    requires rests { (view token.old).stakes.moves ≡ None }
     ensures { Taught (Retires slot) token.old (waiting_word 0) token.new }
 {
     board
@@ -72,15 +95,33 @@ pub fn retire(board: &Board, token: &mut Token, slot: u32)
         .store::<Retire>(token, board.slot_word(slot), WAITING);
 }
 
-/// Gives back the slot of an item that has seen three changes, so that nobody sees it any more.
+/// Takes all stakes in the slot of an item that has seen three changes, so that nobody sees it any more. Answers the slot's word.
+#[inline]
+pub fn take_out(board: &Board, token: &mut Token, slot: u32) -> u64
+    requires home { token.old.table_id ≡ id_of board.now }
+    requires knows { Knows board.now token.old }
+    requires inside { slot < slots_of board.now }
+    requires place { HasPlace (epoch token.old) }
+    requires rests { (view token.old).stakes.moves ≡ None }
+    requires due { IsDue (view token.old) slot }
+    ensures { Moved (TakesOut slot) token.old result token.new }
+{
+    board
+        .table
+        .shared
+        .load::<TakeOut>(token, board.slot_word(slot))
+}
+
+/// Gives back the slot of an item whose value was moved out: all stakes in it go home.
 #[inline]
 pub fn give_back(board: &Board, token: &mut Token, slot: u32)
     requires home { token.old.table_id ≡ id_of board.now }
-    requires sizes { (view token.old).sizes ≡ sizes_of board.now }
+    requires knows { Knows board.now token.old }
     requires inside { slot < slots_of board.now }
     requires place { HasPlace (epoch token.old) }
-    requires due { IsDue (view token.old) slot }
-    ensures { Taught (GivesBack slot) token.old (free_word 0) token.new }
+    requires due { Moves (view token.old) slot × IsDue (view token.old) slot }
+    requires row { (rest : Carries) × HasAll (book_of board.now) slot (places_of board.now) IsVacant rest token.old.me.1 }
+    ensures { Moved (GivesAll slot) token.old (free_word 0) token.new }
 {
     board
         .table
@@ -88,15 +129,17 @@ pub fn give_back(board: &Board, token: &mut Token, slot: u32)
         .store::<GiveBack>(token, board.slot_word(slot), FREE);
 }
 
-/// The open guard sees a slot of the participant's own from now on. Answers the slot's word.
+/// The open guard sees a slot of the participant's own from now on, and has the stake of its place out. Answers the slot's word.
 #[inline]
 pub fn watch(board: &Board, token: &mut Token, slot: u32) -> u64
     requires home { token.old.table_id ≡ id_of board.now }
-    requires sizes { (view token.old).sizes ≡ sizes_of board.now }
+    requires knows { Knows board.now token.old }
     requires inside { slot < slots_of board.now }
     requires open { IsOpen (epoch token.old) }
+    requires near { (epoch token.old).place < places_of board.now }
+    requires rests { (view token.old).stakes.moves ≡ None }
     requires own { (0 < owners_at slot (view token.old)) × ¬ (Holds (view token.old) slot) }
-    ensures { Taught (Watches slot) token.old result token.new }
+    ensures { Moved (WatchesBy slot) token.old result token.new }
 {
     board
         .table
@@ -108,7 +151,7 @@ pub fn watch(board: &Board, token: &mut Token, slot: u32) -> u64
 #[inline]
 pub fn hold(board: &Board, token: &mut Token, slot: u32) -> u64
     requires home { token.old.table_id ≡ id_of board.now }
-    requires sizes { (view token.old).sizes ≡ sizes_of board.now }
+    requires knows { Knows board.now token.old }
     requires inside { slot < slots_of board.now }
     requires place { HasPlace (epoch token.old) }
     requires own { OwnsAlone (view token.old) slot × ((slots token.old).holds ≡ None) }
@@ -124,7 +167,7 @@ pub fn hold(board: &Board, token: &mut Token, slot: u32) -> u64
 #[inline]
 pub fn look_for_guard(board: &Board, token: &mut Token, place: usize) -> u64
     requires home { token.old.table_id ≡ id_of board.now }
-    requires sizes { (view token.old).sizes ≡ sizes_of board.now }
+    requires knows { Knows board.now token.old }
     requires inside { place < places_of board.now }
     requires place { HasPlace (epoch token.old) }
     requires next { place ≡ (slots token.old).looked }
@@ -140,7 +183,7 @@ pub fn look_for_guard(board: &Board, token: &mut Token, place: usize) -> u64
 #[inline]
 pub fn let_go(board: &Board, token: &mut Token, slot: u32) -> u64
     requires home { token.old.table_id ≡ id_of board.now }
-    requires sizes { (view token.old).sizes ≡ sizes_of board.now }
+    requires knows { Knows board.now token.old }
     requires inside { slot < slots_of board.now }
     requires place { HasPlace (epoch token.old) }
     requires held { Holds (view token.old) slot }
@@ -152,16 +195,35 @@ pub fn let_go(board: &Board, token: &mut Token, slot: u32) -> u64
         .load::<LetGo>(token, board.slot_word(slot))
 }
 
-/// Frees the slot that is held, once every place was looked at: its item goes at once.
+/// Takes all stakes in the slot that is held, once every place was looked at. Answers the slot's word.
+#[inline]
+pub fn take_held(board: &Board, token: &mut Token, slot: u32) -> u64
+    requires home { token.old.table_id ≡ id_of board.now }
+    requires knows { Knows board.now token.old }
+    requires inside { slot < slots_of board.now }
+    requires place { HasPlace (epoch token.old) }
+    requires rests { (view token.old).stakes.moves ≡ None }
+    requires held { Holds (view token.old) slot }
+    requires looked { places_of board.now ≤ (slots token.old).looked }
+    ensures { Moved (TakesOut slot) token.old result token.new }
+{
+    board
+        .table
+        .shared
+        .load::<TakeOut>(token, board.slot_word(slot))
+}
+
+/// Frees the slot that is held, whose value was moved out: its item has gone at once, and all stakes in it go home.
 #[inline]
 pub fn discard(board: &Board, token: &mut Token, slot: u32)
     requires home { token.old.table_id ≡ id_of board.now }
-    requires sizes { (view token.old).sizes ≡ sizes_of board.now }
+    requires knows { Knows board.now token.old }
     requires inside { slot < slots_of board.now }
     requires place { HasPlace (epoch token.old) }
-    requires held { Holds (view token.old) slot }
+    requires held { Moves (view token.old) slot × Holds (view token.old) slot }
     requires looked { places_of board.now ≤ (slots token.old).looked }
-    ensures { Taught (Discards slot) token.old (free_word 0) token.new }
+    requires row { (rest : Carries) × HasAll (book_of board.now) slot (places_of board.now) IsVacant rest token.old.me.1 }
+    ensures { Moved (DiscardsAll slot) token.old (free_word 0) token.new }
 {
     board
         .table
@@ -174,6 +236,7 @@ pub fn discard(board: &Board, token: &mut Token, slot: u32)
 pub fn cut(board: &Board, token: &mut Token) -> Badge<View>
     requires home { token.old.table_id ≡ id_of board.now }
     requires free { (slots token.old).holds ≡ None }
+    requires rests { (view token.old).stakes.moves ≡ None }
     ensures participant { Taught (λ v _ w. w ≡ parted v) token.old 0 token.new }
     ensures owner { (result.table_id ≡ id_of board.now) × (result.views ≡ owner_token (first (slots token.old).owns) [] ∷ []) }
 {

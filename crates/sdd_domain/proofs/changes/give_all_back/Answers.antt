@@ -1,5 +1,6 @@
 use Rattle.std.proofs.Common.{ℕ, ◌+◌, drop, sym, ap, ◌∙◌, subst}
 use Rattle.atomic_table.specs.declared.shared.Seat.{Seat}
+use Rattle.sdd_stakes.specs.declared.stake.Stake.{Stake}
 use Rattle.sdd_rule.specs.declared.View.{View}
 use Rattle.sdd_domain.specs.declared.known.Known.{Known}
 use Rattle.sdd_domain.specs.Board.{slots_of}
@@ -7,28 +8,28 @@ use Rattle.sdd_domain.proofs.Reclaims.{Going, going_at, going_item, going_due, g
 use Rattle.sdd_domain.proofs.changes.give_all_back.Goals.{in-Item, in_default}
 use Rattle.sdd_domain.proofs.changes.give_all_back.Goals as goal
 
-pub give_back-requires-clause-inside : goal.give_back-requires-clause-inside
-give_back-requires-clause-inside c = let n : ℕ = slots_of c.args.board.now in let i : ℕ = c.loop-what.what-index in
+pub take_value-requires-clause-inside : goal.take_value-requires-clause-inside
+take_value-requires-clause-inside g c = let n : ℕ = slots_of c.args.board.now in let i : ℕ = c.loop-what.what-index in
     let first : View = c.args.token.now.me.0 in let all = c.args.due.now in let v : View = c.loop-what.token.me.0 in
     going_inside n first all (drop (i + 1) all) c.in-Item.slot v
     (going_at n first all i c.in-Item.slot v c.loop-what.invariant.going c.loop-what-test.true c.in-Item.is)
 
-pub give_back-requires-clause-due : goal.give_back-requires-clause-due
-give_back-requires-clause-due c = let n : ℕ = slots_of c.args.board.now in let i : ℕ = c.loop-what.what-index in
+pub take_value-requires-clause-due : goal.take_value-requires-clause-due
+take_value-requires-clause-due g c = let n : ℕ = slots_of c.args.board.now in let i : ℕ = c.loop-what.what-index in
     let first : View = c.args.token.now.me.0 in let all = c.args.due.now in let v : View = c.loop-what.token.me.0 in
     going_due n first all (drop (i + 1) all) c.in-Item.slot v
     (going_at n first all i c.in-Item.slot v c.loop-what.invariant.going c.loop-what-test.true c.in-Item.is)
 
 pub loop-what-preserved : goal.loop-what-preserved
-loop-what-preserved c = let n : ℕ = slots_of c.args.board.now in let i : ℕ = c.loop-what.what-index in
+loop-what-preserved g c = let n : ℕ = slots_of c.args.board.now in let i : ℕ = c.loop-what.what-index in
     let first : View = c.args.token.now.me.0 in let all = c.args.due.now in let v : View = c.loop-what.token.me.0 in let inv = c.loop-what.invariant in
     elim c.match-what.branch [
-      | in-Item w ↦ let e = w.give_back.ensures in record {
-        table = ap (λ (z : Seat (Unit {0}) View). z.table_id) w.token-is ∙ (e.0 ∙ inv.table);
-        number = ap (λ (z : Seat (Unit {0}) View). z.id) w.token-is ∙ (e.1 ∙ inv.number);
-        others = ap (λ (z : Seat (Unit {0}) View). z.me.1) w.token-is ∙ (e.2 ∙ inv.others);
-        going = subst (λ (z : Seat (Unit {0}) View). Going n first all (drop (i + 1) all) z.me.0) (sym w.token-is)
-            (going_on n first all (drop (i + 1) all) w.in-Item.slot v w.give_back.new.token.me.0
+      | in-Item w ↦ let e = w.take_value.ensures in record {
+        table = ap (λ (z : Seat Stake View). z.table_id) w.token-is ∙ (e.0 ∙ inv.table);
+        number = ap (λ (z : Seat Stake View). z.id) w.token-is ∙ (e.1 ∙ inv.number);
+        others = ap (λ (z : Seat Stake View). z.me.1) w.token-is ∙ (e.2 ∙ inv.others);
+        going = subst (λ (z : Seat Stake View). Going n first all (drop (i + 1) all) z.me.0) (sym w.token-is)
+            (going_on n first all (drop (i + 1) all) w.in-Item.slot v w.take_value.new.token.me.0
             (going_at n first all i w.in-Item.slot v inv.going c.loop-what-test.true w.in-Item.is) e.3);
         slots = ap (λ (k : Known). k.slots) w.known-is ∙ (w.remember.ensures ∙ inv.slots);
       }
@@ -36,7 +37,7 @@ loop-what-preserved c = let n : ℕ = slots_of c.args.board.now in let i : ℕ =
     ]
 
 pub returns-clause-given_back : goal.returns-clause-given_back
-returns-clause-given_back c = let inv = c.loop-what.invariant in (
+returns-clause-given_back g c = let inv = c.loop-what.invariant in (
   inv.table,
   inv.number,
   inv.others,

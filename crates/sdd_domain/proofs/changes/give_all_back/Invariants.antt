@@ -5,7 +5,7 @@ use Rattle.sdd_domain.proofs.Reclaims.{Going}
 use Rattle.sdd_domain.proofs.changes.give_all_back.Given as goal
 
 abbrev pub invariant-loop-what : goal.invariant-loop-what
-invariant-loop-what l = record {
+invariant-loop-what g l = record {
   table : l.token.table_id ≡ l.fn.token.table_id;
   number : l.token.id ≡ l.fn.token.id;
   others : l.token.me.1 ≡ l.fn.token.me.1;

@@ -6,7 +6,7 @@ use Rattle.sdd_domain.proofs.steps.look_at_state.Goals as goal
 
 pub load-requires : goal.load-requires
 load-requires c = let sized = c.args.board.now.sized in let r = c.requires in
-    (r.home, omega arith, may_look_at_state _ _ _ _ _ _ c.state_word.ensures (omega arith) r.next.1)
+    (r.home, omega arith, may_look_at_state _ _ _ _ _ _ _ c.state_word.ensures (omega arith) r.next.1)
 
 pub returns : goal.returns
 returns c = let e = c.load.ensures in

@@ -6,7 +6,7 @@ use Rattle.sdd_domain.proofs.steps.register.Goals as goal
 
 pub compare_exchange-requires : goal.compare_exchange-requires
 compare_exchange-requires c = let sized = c.args.board.now.sized in let r = c.requires in
-    (r.home, omega arith, may_register _ _ _ _ _ _ c.state_word.ensures (omega arith) r.idle.0 r.idle.1)
+    (r.home, omega arith, may_register _ _ _ _ _ _ _ c.state_word.ensures (omega arith) r.idle.0 r.idle.1)
 
 pub returns : goal.returns
 returns c = let e = c.compare_exchange.ensures in

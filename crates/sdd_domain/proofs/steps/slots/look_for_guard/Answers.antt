@@ -6,7 +6,7 @@ use Rattle.sdd_domain.proofs.steps.slots.look_for_guard.Goals as goal
 
 pub load-requires : goal.load-requires
 load-requires c = let sized = c.args.board.now.sized in let r = c.requires in
-    (r.home, omega arith, may_look_for_guard _ _ _ _ r.sizes r.place _ c.args.place c.state_word.ensures r.next)
+    (r.home, omega arith, may_look_for_guard _ _ _ _ _ r.knows.0 r.knows.1 r.place _ c.args.place c.state_word.ensures r.inside r.next)
 
 pub returns : goal.returns
 returns c = let e = c.load.ensures in

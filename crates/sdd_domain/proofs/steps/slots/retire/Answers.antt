@@ -6,8 +6,8 @@ use Rattle.sdd_domain.proofs.steps.slots.retire.Goals as goal
 
 pub store-requires : goal.store-requires
 store-requires c = let r = c.requires in
-    (r.home, omega arith, may_retire _ _ _ _ r.sizes r.place _ c.args.slot c.slot_word.ensures r.inside r.own.0 r.own.1)
+    (r.home, omega arith, may_retire _ _ _ _ _ r.knows.0 r.knows.1 r.place _ c.args.slot c.slot_word.ensures r.inside r.own.0 r.own.1 r.rests)
 
 pub returns : goal.returns
 returns c = let e = c.store.ensures in
-    taught_at c.args.token.now _ (waiting_word 0) e.0 e.1 Retires _ c.args.slot _ c.slot_word.ensures c.requires.sizes e.2
+    taught_at c.args.token.now _ (waiting_word 0) e.0 e.1 Retires _ c.args.slot _ c.slot_word.ensures c.requires.knows.0 e.2

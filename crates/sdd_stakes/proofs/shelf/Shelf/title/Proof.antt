@@ -1,5 +1,5 @@
 -- A title owns nothing.
-use Rattle.atomic_table.proofs.Names.{◌≡◌, [], ◌∷◌, refl, List, a_type, named, Val, vptr, inst_fn, SProp, emp, ‵, raw, ◌⊛◌, ◌$◌, ◌∵◌, !, qed, by, keep, split, fjoin, use0, no_more, and_then, returns, enter, alloc_all, pass_all, free_all, look_at, get, sets, agg, tables, yes, RattleType, owns, types_at, plain, nothing, param, layouts, alive, Stays, stay_dropped, walk_of, Goes-dropped, fact, fact_i, RefOf, shr_vals, shr_Tells}
+use Rattle.atomic_table.proofs.Names.{◌≡◌, [], ◌∷◌, refl, a_type, named, Val, vptr, inst_fn, SProp, emp, ‵, raw, ◌⊛◌, ◌$◌, ◌∵◌, !, qed, by, keep, split, fjoin, use0, no_more, and_then, returns, enter, alloc_all, pass_all, free_all, look_at, get, sets, agg, tables, yes, RattleType, owns, types_at, plain, nothing, param, layouts, alive, Stays, stay_dropped, walk_of, Goes-dropped, fact, fact_i, RefOf, shr_vals, shr_Tells}
 use Rattle.atomic_table.proofs.Walks.{proved, leaves}
 use Rattle.sdd_stakes.specs.contracts.shelf.Shelf as shelf
 use Rattle.sdd_stakes.specs.contracts.title.Title as title

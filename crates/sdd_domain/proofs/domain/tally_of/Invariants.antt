@@ -1,6 +1,6 @@
 use Rattle.std.proofs.Common.{◌≡◌, take}
 use Rattle.sdd_domain.specs.Receipt.{sum_of}
-use Rattle.sdd_domain.proofs.domain.Domain.close.Given as goal
+use Rattle.sdd_domain.proofs.domain.tally_of.Given as goal
 
 abbrev pub invariant-loop-receipt : goal.invariant-loop-receipt
-invariant-loop-receipt l = l.sum ≡ sum_of (take l.receipt-index l.receipt-items)
+invariant-loop-receipt l = l.sum ≡ sum_of (take l.receipt-index l.receipts.items)

@@ -1,0 +1,132 @@
+-- A value comes into the place of a slot, and leaves it; and what the guards see is shown.
+use Rattle.std.proofs.Common.{◌≡◌, ℕ, suc, ◌+◌, ◌<◌, List, [], ◌∷◌, drop, sym, refl, ap, ◌∙◌, subst, inl, arith}
+use Rattle.std.specs.Prelude.{None}
+use mathlib.Core.Logic.{dite}
+use native.Mathlib.Decide.{ℕ_discrete}
+use base.Stored.{Gv}
+use Rattle.sdd_stakes.specs.Stakes.{Lot, AllFreeFor, unlent}
+use Rattle.sdd_stakes.specs.Seats.{lots, plain, OnlyLends}
+use Rattle.sdd_stakes.specs.declared.stake.Stake.{Stake}
+use Rattle.sdd_stakes.specs.Shelf.{most, IsFull, IsVacant, CanShow, HasWhole, all_turned}
+use Rattle.sdd_rule.specs.declared.View.{View}
+use Rattle.sdd_rule.specs.SlotSteps.{given_back, claimed, Knew, LooksAtSlot}
+use Rattle.sdd_rule.specs.Codes.{free_word, owned_word}
+use Rattle.sdd_rule.specs.Sums.{times}
+use Rattle.sdd_rule.proofs.Sums.{is_other}
+use Rattle.sdd_homes.specs.Homes.{Carries, Has, stake_at}
+use Rattle.sdd_homes.specs.HomeSteps.{Mine, HasAll, Purse, ClaimsAll, book_of, places_of, moving, resting}
+use Rattle.sdd_homes.proofs.Tops.{whole, all_after, rest_is}
+use Rattle.atomic_table.specs.declared.shared.Seat.{Seat}
+use Rattle.sdd_domain.specs.Token.{Taught, Moved}
+use Rattle.sdd_domain.specs.Claims.{AllOut, Gains}
+use Rattle.sdd_domain.specs.Posed.{IsPurse, AreLentTo}
+
+module _ (γ i n k : ℕ) (count : k ≡ n + 1) where
+  as_many : k ≡ suc n
+  as_many = let e : k ≡ suc n = omega arith in e
+
+  -- who has all stakes in a slot may move its value
+  pub may_move : (Is : Gv → Type 0) (γ' : ℕ) → γ' ≡ γ → n < most → (rest xs : Carries) → HasAll γ i n Is rest xs → HasWhole γ' i k Is (lots xs)
+  may_move Is γ' same few rest xs row = subst (λ (t : ℕ × ℕ). HasWhole t.0 i t.1 Is (lots xs)) (λ d. (sym same d, sym as_many d))
+      (whole γ i n Is few rest xs row)
+
+  -- and has them still
+  pub row_after : (Is Js : Gv → Type 0) (g : Gv) (a : ℕ) (rest xs ys : Carries) → Js g → HasAll γ i n Is rest xs → ys ≡ all_turned a g k xs
+      → HasAll γ i n Js rest ys
+  row_after Is Js g a rest xs ys so row e = all_after γ i n Is Js g rest xs ys so row (a, e ∙ ap (λ (k : ℕ). all_turned a g k xs) as_many)
+
+-- all go home, and what was out before is out still
+pub rest_out : (γ i n n' : ℕ) (Is : Gv → Type 0) (rest xs zs : Carries) → n' ≡ n → HasAll γ i n Is rest xs → zs ≡ drop (suc n') xs → zs ≡ rest
+rest_out γ i n n' Is rest xs zs same row e = e ∙ (ap (λ (k : ℕ). drop (suc k) xs) same ∙ rest_is γ i n Is rest (suc n) xs row)
+
+-- a slot that was given back by who moved its value
+pub rests_again : (slot y : ℕ) (v w : View) → v.stakes.moves ≡ None → w ≡ resting (given_back slot y (moving slot v)) → w ≡ given_back slot y v
+rests_again slot y v w rests e = e ∙ (λ d. record (given_back slot y v) { stakes = record v.stakes { moves = sym rests d } })
+
+-- ---- what the guards see
+pub nothing_out : (γ n p : ℕ) (sees : List ℕ) (xs : Carries) → sees ≡ [] → IsPurse γ n p sees xs → xs ≡ []
+unfolding IsPurse
+nothing_out γ n p sees xs none purse = empty xs (subst (λ (l : List ℕ). Purse γ n p l (plain xs)) none purse)
+  where
+    empty : (xs : Carries) → Purse γ n p [] (plain xs) → xs ≡ []
+    empty [] h = refl
+    empty (x ∷ xs) h = absurd h
+
+pub no_purse : (γ n p : ℕ) (sees : List ℕ) (xs : Carries) → sees ≡ [] → xs ≡ [] → IsPurse γ n p sees xs
+unfolding IsPurse
+no_purse γ n p sees xs e e' = subst (λ (t : List ℕ × Carries). Purse γ n p t.0 (plain t.1)) (λ d. (sym e d, sym e' d)) tt
+
+pub none_lent : (t : ℕ) (xs : Carries) → xs ≡ [] → AreLentTo t xs
+unfolding AreLentTo
+none_lent t xs e = subst (λ (l : Carries). AllFreeFor t (lots l)) (sym e) tt
+
+-- what they see can be shown
+there : (γ n p t slot : ℕ) (sees : List ℕ) (xs : Carries) → Purse γ n p sees (plain xs) → AllFreeFor t (lots xs) → 0 < times slot sees
+    → CanShow γ slot t (lots xs)
+there γ n p t slot [] xs purse lent some = absurd (omega arith)
+there γ n p t slot (i ∷ sees) [] purse lent some = absurd purse
+there γ n p t slot (i ∷ sees) (x ∷ xs) purse lent some = let is = purse.1.0 in dite (ℕ_discrete i slot)
+    (λ e. record {
+      place = 0;
+      one = x.1.lot;
+      there = refl;
+      of_book = ap (λ (h : Lot). h.book) is;
+      of_number = ap (λ (h : Lot). h.number) is ∙ e;
+      full = purse.1.1;
+      free = lent.0;
+    })
+    (λ ne. let o = is_other slot i ne in let r = there γ n p t slot sees xs purse.2 lent.1 (omega arith) in record {
+      place = suc r.place;
+      one = r.one;
+      there = r.there;
+      of_book = r.of_book;
+      of_number = r.of_number;
+      full = r.full;
+      free = r.free;
+    })
+
+pub can_show : (γ n p t slot : ℕ) (sees : List ℕ) (xs : Carries) → IsPurse γ n p sees xs → AreLentTo t xs → 0 < times slot sees → CanShow γ slot t (lots xs)
+unfolding IsPurse AreLentTo
+can_show γ n p t slot sees xs purse lent some = there γ n p t slot sees xs purse lent some
+
+-- a guard has come to see a slot
+pub now_seen : (γ n p t slot spot : ℕ) (y : Stake) (sees : List ℕ) (xs : Carries) → IsPurse γ n p sees xs → AreLentTo t xs → spot ≡ stake_at n slot p
+    → Has γ slot 1 IsFull y → IsPurse γ n p (slot ∷ sees) ((spot, y) ∷ xs) × AreLentTo t ((spot, y) ∷ xs)
+unfolding IsPurse AreLentTo
+now_seen γ n p t slot spot y sees xs purse lent at has = ((at, (ap unlent has.0, has.1), purse), (inl (ap (λ (h : Lot). h.lent) has.0), lent))
+
+-- and is shown
+pub still_seen : (γ n p t : ℕ) (sees : List ℕ) (xs ys : Carries) → OnlyLends t xs ys → IsPurse γ n p sees xs → AreLentTo t xs
+    → IsPurse γ n p sees ys × AreLentTo t ys
+unfolding IsPurse AreLentTo
+still_seen γ n p t sees xs ys lends purse lent = (subst (Purse γ n p sees) (sym lends.0) purse, lends.1 lent)
+
+-- ---- the last close
+pub all_settled : (γ n p : ℕ) (sees : List ℕ) (xs ys : Carries) → ys ≡ plain xs → IsPurse γ n p sees xs → Purse γ n p sees ys
+unfolding IsPurse
+all_settled γ n p sees xs ys e purse = subst (Purse γ n p sees) (sym e) purse
+
+pub may_settle : (t t' : ℕ) (xs : Carries) → t' ≡ t → AreLentTo t xs → AllFreeFor t' (lots xs)
+unfolding AreLentTo
+may_settle t t' xs e lent = subst (λ (t : ℕ). AllFreeFor t (lots xs)) (sym e) lent
+
+-- ---- a slot that was claimed
+pub row_out : (γ n slot : ℕ) (me : Mine) (xs : Carries) → me.0.stakes.book ≡ γ → me.0.sizes.participants ≡ n → AllOut slot me xs
+    → HasAll γ slot n IsVacant me.1 xs
+unfolding AllOut
+row_out γ n slot me xs e e' row = subst (λ (t : ℕ × ℕ). HasAll t.0 slot t.1 IsVacant me.1 xs) (λ d. (e d, e' d)) row
+
+pub gains : (slot : ℕ) (s t u : Seat Stake View) (r r' : ℕ) → Taught (LooksAtSlot slot) s r t → Moved (ClaimsAll slot (free_word 0) (owned_word 0)) t r' u
+    → r' ≡ free_word 0 → slot < s.me.0.sizes.slots → Gains slot s u
+unfolding AllOut
+gains slot s t u r r' look claim hit inside = let me : t.me ≡ s.me = λ d. (look.3.0 d, look.2 d) in
+    let out = subst (λ (m : Mine). (u.me.0 ≡ moving slot (claimed slot (owned_word 0) m.0)) × HasAll (book_of m) slot (places_of m) IsVacant m.1 u.me.1)
+    me (claim.2.0 hit) in
+    let knew = subst (λ (m : Mine). Knew slot m.0 r') me claim.2.2 in record {
+      table = claim.0 ∙ look.0;
+      number = claim.1 ∙ look.1;
+      row = out.1;
+      view = out.0;
+      inside = inside;
+      free = λ one. sym (knew one) ∙ hit;
+    }

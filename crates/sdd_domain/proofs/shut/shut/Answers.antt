@@ -1,0 +1,29 @@
+use Rattle.std.proofs.Common.{ℕ, List, ap, sym, ◌∙◌, subst}
+use Rattle.atomic_table.specs.declared.shared.Seat.{Seat}
+use Rattle.sdd_token.specs.declared.part.Part.{Part}
+use Rattle.sdd_places.specs.declared.tenures.Stage.{Stage}
+use Rattle.sdd_stakes.specs.declared.stake.Stake.{Stake}
+use Rattle.sdd_rule.specs.declared.View.{View}
+use Rattle.sdd_homes.specs.HomeSteps.{Purse}
+use Rattle.sdd_domain.specs.Board.{book_of, places_of}
+use Rattle.sdd_domain.proofs.Moving.{all_settled, may_settle, no_purse, none_lent}
+use Rattle.sdd_domain.proofs.shut.shut.Goals as goal
+
+pub settle-requires-clause-lent : goal.settle-requires-clause-lent
+settle-requires-clause-lent c = may_settle c.args.tenure.now.round c.end_round-ended.result.name c.args.token.now.me.1
+    (c.end_round-ended.ensures.ended ∙ (ap (λ (t : Part Stage). t.round) c.set.ensures ∙ ap (λ (t : Part Stage). t.round) c.join.ensures.joined))
+    c.requires.lent
+
+pub close-requires-clause-purse : goal.close-requires-clause-purse
+close-requires-clause-purse c = let b = c.args.board.now in let settled = c.settle.ensures in
+    subst (λ (sees : List ℕ). Purse (book_of b) (places_of b) c.args.place sees c.settle.new.seat.me.1)
+    (sym (ap (λ (s : Seat Stake View). s.me.0.slots.sees) settled))
+    (all_settled (book_of b) (places_of b) c.args.place c.args.token.now.me.0.slots.sees c.args.token.now.me.1 c.settle.new.seat.me.1
+    (ap (λ (s : Seat Stake View). s.me.1) settled) c.requires.purse)
+
+pub returns-clause-purse : goal.returns-clause-purse
+returns-clause-purse c = let b = c.args.board.now in let e = c.close.ensures.2 in
+    no_purse (book_of b) (places_of b) c.args.place c.close.new.token.me.0.slots.sees c.close.new.token.me.1 (ap (λ (v : View). v.slots.sees) e.0) e.1
+
+pub returns-clause-lent : goal.returns-clause-lent
+returns-clause-lent c = none_lent c.end_round-ended.new.tenure.round c.close.new.token.me.1 c.close.ensures.2.1

@@ -1,0 +1,96 @@
+//! The close of a domain: once nobody takes part any more, all values are moved out, and all stakes gathered.
+ghost use Rattle.std.specs.Prelude.{◌≡◌, ◌≤◌, ◌<◌, ℕ, true, false, IfSome, slice_index_or};
+ghost use Rattle.core.specs.Mem.Slots.{slots_filled, slots_len, IsFull};
+ghost use Rattle.sdd_stakes.specs.Shelf.{AreVacant};
+ghost use Rattle.sdd_rule.specs.Codes as codes;
+ghost use Rattle.sdd_rule.specs.Words.{all_words};
+ghost use Rattle.sdd_homes.specs.Homes.{AreHome};
+ghost use Rattle.sdd_domain.specs.Board.{id_of, sizes_of, places_of};
+ghost use Rattle.sdd_domain.specs.Sizes.{AreSmall};
+ghost use Rattle.sdd_domain.specs.Token.{view};
+
+use crate::board::{Board, Token};
+use crate::steps;
+use crate::steps::slots::{FREE, WAITING};
+use crate::words::{first_slot, state_word};
+use atomic_table::Closed;
+use sdd_homes::gather_home;
+use sdd_rule::Sizes;
+use sdd_stakes::{Shelf, Stake, Stock, Title};
+use std::alloc::Global;
+
+/// The word of a slot with a value in it.
+fn is_full(word: u64) -> bool
+    ensures full { result ≡ true → codes.full word ≡ 1 }
+    ensures free { result ≡ false → codes.full word ≡ 0 }
+{
+    word >= 1 << 63 || word % 8 != 0
+}
+
+/// At this moment no place is a participant's, and no item has an owner.
+fn is_quiet(board: &Board, slots: u32) -> bool
+    requires { slots ≡ (sizes_of board.now).slots }
+{
+    (0..board.places()).all(|place| {
+        let state = board.table.shared.peek(state_word(place));
+        state == steps::FREE || state == steps::ENDED
+    }) && (0..slots).all(|slot| {
+        let word = board.table.shared.peek(board.slot_word(slot));
+        word == FREE || word == WAITING
+    })
+}
+
+/// Ends each place that is free. A token that knows that all have ended, unless one is a participant's.
+fn end_all(board: &Board) -> Option<Token>
+    ensures { IfSome result (λ token. (token.table_id ≡ id_of board.now) × (places_of board.now ≤ (view token).places.ended)) }
+{
+    let mut token = steps::sit(board);
+    for place in 0..board.places() {
+        let state = steps::bar(board, &mut token, place);
+        if state != steps::FREE && state != steps::ENDED {
+            return None;
+        }
+    }
+    Some(token)
+}
+
+/// A token that knows that all places have ended, where nothing is out any more.
+pub fn settled(board: &Board, slots: u32) -> Option<Token>
+    requires { slots ≡ (sizes_of board.now).slots }
+    ensures { IfSome result (λ token. (token.table_id ≡ id_of board.now) × (places_of board.now ≤ (view token).places.ended)) }
+{
+    if is_quiet(board, slots) {
+        end_all(board)
+    } else {
+        None
+    }
+}
+
+/// Moves out and drops the value of each slot that has one, and gathers all stakes.
+pub fn take_all<T: Drop>(
+    closed: &mut Closed<Stake, Global>,
+    shelf: &Shelf<T>,
+    title: &Title,
+    sizes: &Sizes,
+) -> Stock
+    requires small { AreSmall sizes.now }
+    requires shelf { (shelf.now.book ≡ title.now.book) × (shelf.now.size ≡ sizes.now.slots) }
+    requires home { AreHome title.now.book sizes.now (slots_len closed.old.slots) closed.old }
+    requires words { (slots_len closed.old.words ≡ all_words sizes.now) × IsFull closed.old.words }
+    ensures stock { AreVacant title.now.book 0 sizes.now.slots result.lots }
+    ensures emptied { (k : ℕ) → k < slots_len closed.new.slots → slice_index_or (slots_filled closed.new.slots) k false ≡ false }
+{
+    let first = first_slot(sizes) as usize;
+    let mut stock = Stock::new();
+    let mut left = closed.slot_count();
+    let mut slot = sizes.slots as u32;
+    while slot > 0 {
+        slot -= 1;
+        let mut whole = gather_home(closed, title, sizes, slot, &mut left);
+        if is_full(closed.word(first + slot as usize)) {
+            drop(shelf.take_by(slot as usize, &mut whole));
+        }
+        whole.redeem(&mut stock);
+    }
+    stock
+}

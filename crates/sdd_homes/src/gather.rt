@@ -1,0 +1,92 @@
+//! The stakes of all homes, gathered again.
+ghost use Rattle.std.specs.Prelude.{◌≡◌, ◌+◌, ◌<◌};
+ghost use mathlib.Core.Option.{some};
+ghost use lib.ListN.{get_elem?};
+ghost use Rattle.core.specs.Mem.Slots.{slots_items};
+ghost use Rattle.sdd_stakes.specs.Shelf.{most, IsWhole, IsVacant, AreVacant};
+ghost use Rattle.sdd_rule.specs.Slots.{slot_at};
+ghost use Rattle.sdd_homes.specs.Homes.{stake_at, homes_for, all_vacant, IsShown, AreLaidTo, AreLaid, AreHome};
+
+use atomic_table::Closed;
+use sdd_rule::Sizes;
+use sdd_stakes::{Stake, Stock, Title};
+use std::alloc::Allocator;
+
+/// The stakes in the last slot, as one.
+fn gather_slot(laid: &mut Vec<Stake>, title: &Title, slot: u32, participants: u32) -> Stake
+    requires laid { AreLaidTo title.now.book participants (stake_at participants (slot + 1) 0) all_vacant laid.old.items }
+    requires few { participants < most }
+    ensures whole { IsWhole title.now.book slot result.lot }
+    ensures vacant { IsVacant result.lot.shown }
+    ensures laid { AreLaidTo title.now.book participants (stake_at participants slot 0) all_vacant laid.new.items }
+{
+    let _ = title;
+    let _ = slot;
+    let mut whole = laid.take_last();
+    for _place in 0..participants {
+        whole.join(laid.take_last());
+    }
+    whole
+}
+
+/// All stakes that were laid for a table which couldn't be made, as they were in the stock.
+pub fn gather_all(mut laid: Vec<Stake>, title: &Title, participants: u32, slots: u32) -> Stock
+    requires laid { AreLaid title.now.book participants slots laid.items }
+    requires few { participants < most }
+    ensures { AreVacant title.now.book 0 slots result.lots }
+{
+    let mut stock = Stock::new();
+    let mut slot = slots;
+    while slot > 0 {
+        slot -= 1;
+        gather_slot(&mut laid, title, slot, participants).redeem(&mut stock);
+    }
+    laid.destroy_empty();
+    stock
+}
+
+/// The last stake that lies in a closed table.
+fn take_last_home<A: Allocator>(
+    closed: &mut Closed<Stake, A>,
+    title: &Title,
+    sizes: &Sizes,
+    left: &mut usize,
+) -> Stake
+    requires home { AreHome title.now.book sizes.now left.old closed.old }
+    requires some { 0 < left.old }
+    ensures home { AreHome title.now.book sizes.now left.new closed.new }
+    ensures one { left.new + 1 ≡ left.old }
+    ensures stake { get_elem? (slots_items closed.old.slots) left.new ≡ some result }
+    ensures same { (closed.new.words ≡ closed.old.words) × (slots_items closed.new.slots ≡ slots_items closed.old.slots) }
+{
+    let _ = title;
+    let _ = sizes;
+    *left -= 1;
+    closed.take(*left)
+}
+
+/// The stakes in the last slot of a closed table, as one.
+pub fn gather_home<A: Allocator>(
+    closed: &mut Closed<Stake, A>,
+    title: &Title,
+    sizes: &Sizes,
+    slot: u32,
+    left: &mut usize,
+) -> Stake
+    requires inside { slot < sizes.now.slots }
+    requires few { sizes.now.participants < most }
+    requires left { left.old ≡ stake_at sizes.now.participants (slot + 1) 0 }
+    requires home { AreHome title.now.book sizes.now left.old closed.old }
+    ensures whole { IsWhole title.now.book slot result.lot }
+    ensures shown { IsShown (slot_at sizes.now (slots_items closed.new.words) slot) result.lot.shown }
+    ensures home { AreHome title.now.book sizes.now left.new closed.new }
+    ensures left { left.new ≡ stake_at sizes.now.participants slot 0 }
+    ensures words { closed.new.words ≡ closed.old.words }
+{
+    let _ = slot;
+    let mut whole = take_last_home(closed, title, sizes, left);
+    for _place in 0..sizes.participants {
+        whole.join(take_last_home(closed, title, sizes, left));
+    }
+    whole
+}

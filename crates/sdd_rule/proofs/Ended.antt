@@ -1,0 +1,68 @@
+-- Places that have ended stay so, and one that is free may be ended by a token without a place.
+use Rattle.std.proofs.Common.{◌≡◌, ℕ, ◌+◌, ◌<◌, eqb, List, length, map, get_or, set, sym, refl, ap, ◌∙◌, subst, ⊎_elim, arith, get_or-set_other, get_or-set_same}
+use Rattle.std.proofs.lemmas.List.{get_or_past}
+use mathlib.Core.Logic.{dite}
+use native.Mathlib.Decide.{ℕ_discrete, dec_lt}
+use lib.Seq.{set-get_or}
+use prog.Atomic.{either}
+use Rattle.atomic_table.proofs.Lists.{exchanged, set_again}
+use Rattle.sdd_rule.specs.declared.PlacesView.{PlacesView}
+use Rattle.sdd_rule.specs.declared.View.{View}
+use Rattle.sdd_rule.specs.declared.Sizes.{Sizes}
+use Rattle.sdd_rule.specs.Words.{state_word}
+use Rattle.sdd_rule.specs.Codes.{codes}
+use Rattle.sdd_rule.specs.Steps.{Steps}
+use Rattle.sdd_rule.specs.Ended.{AreEnded, past, Bars}
+use Rattle.sdd_rule.specs.Parts.{epoch_of, Parts}
+use Rattle.sdd_rule.proofs.Frame.{Each, each_set}
+use Rattle.sdd_rule.proofs.Epoch as epochs
+use Rattle.sdd_rule.proofs.SlotWords.{below}
+use Rattle.sdd_rule.proofs.Lone.{lone_beside}
+use Rattle.sdd_rule.proofs.Lift.{blind_places}
+
+module _ (sizes : Sizes) (ws : List ℕ) (i y : ℕ) where
+  -- a step that stores y in the word i spares the places that have ended
+  abbrev pub Spares : Type 0
+  Spares = (p : ℕ) → p < sizes.participants → i ≡ state_word p → get_or ws i 0 ≡ 3 → y ≡ 3
+
+  pub one_spared : (v w : View) → Spares → w.places ≡ v.places → AreEnded sizes ws v → AreEnded sizes (set ws i y) w
+  one_spared v w spares same old p low below = let k = ap (λ (x : PlacesView). x.ended) same in let was = old p low (omega arith) in
+      dite (ℕ_discrete (state_word p) i)
+      (λ e. let here : get_or ws i 0 ≡ 3 = ap (λ (k : ℕ). get_or ws k 0) (sym e) ∙ was in
+      let within : i < length ws = dite (dec_lt i (length ws)) (λ l. l)
+      (λ far. absurd (let z = get_or_past ws i 0 (omega arith) in omega arith)) in
+      ap (λ (k : ℕ). get_or (set ws i y) k 0) e ∙ (get_or-set_same ws i y 0 within ∙ spares p low (sym e) here))
+      (λ ne. get_or-set_other ws i (state_word p) y 0 ne ∙ was)
+
+  pub all_spared : (vs : List View) (id : ℕ) (w : View) → Spares → Each (AreEnded sizes ws) vs → AreEnded sizes (set ws i y) w
+      → Each (AreEnded sizes (set ws i y)) (set vs id w)
+  all_spared vs id w spares old mine = each_set (AreEnded sizes ws) (AreEnded sizes (set ws i y)) vs id w mine
+      (λ j u _ e. one_spared u u spares refl (old j u e))
+
+module _ (sizes : Sizes) where
+  barred : (ws : List ℕ) (vs : List View) (p : ℕ) → Parts sizes ws vs → p < sizes.participants → get_or ws (state_word p) 0 ≡ 0
+      → Parts sizes (set ws (state_word p) 3) vs
+  barred ws vs p k inside free = record {
+    epoch = epochs.barred sizes.participants ws (map epoch_of vs) p k.epoch inside free;
+    slots = below codes sizes ws vs (state_word p) 3 (omega arith) k.slots;
+    lone = lone_beside sizes ws vs k.lone (state_word p) 3 (omega arith);
+  }
+
+  -- the next place has ended, or is ended now, unless it is a participant's
+  pub bars : (id p : ℕ) (v : View) → p < sizes.participants → Steps (Parts sizes) id v (state_word p) (λ x. either (eqb x 0) 3 x) (Bars (state_word p) v)
+  bars id p v inside ws vs k at small = let i : ℕ = state_word p in let x : ℕ = get_or ws i 0 in let t : PlacesView = record { ended = p + 1 } in
+      let same = λ (q : ℕ) (is : i ≡ state_word q). let e : p ≡ q = omega arith in ap (λ (q : ℕ). past q v) e in
+      let here : Parts sizes (set ws i x) vs = subst (λ (l : List ℕ). Parts sizes l vs) (sym (set-get_or ws i 0)) k in
+      exchanged x 0 3 (λ y. (w : View) × Parts sizes (set ws i y) (set vs id w) × Bars i v x w)
+      (λ hit. (
+        past p v,
+        blind_places sizes (set ws i 3) vs id v at (barred ws vs p k inside hit) t,
+        λ q is. ((λ _. same q is), (λ no. absurd (no hit))),
+      ))
+      (λ miss. dite (ℕ_discrete x 3)
+      (λ over. (past p v, blind_places sizes (set ws i x) vs id v at here t, λ q is. ((λ _. same q is), (λ _ no. absurd (no over)))))
+      (λ not_over. (
+        v,
+        subst (λ (l : List View). Parts sizes (set ws i x) l) (sym (set_again vs id v at)) here,
+        λ q is. ((λ t. absurd (⊎_elim (λ (e : x ≡ 0). miss e) (λ (e : x ≡ 3). not_over e) t)), (λ _ _. refl)),
+      )))
