@@ -244,7 +244,13 @@ module _ {S : Type 0} (s t : Seat S View) (r : ℕ) (home : t.table_id ≡ s.tab
   -- after a step of the epoch's part
   pub told : (R : EpochView → ℕ → EpochView → Type 0) → Told (OnEpoch R) s.me r t.me → Stepped R s r t
   told R e = let w : EpochView = e.1.0 in let is : t.me.0 ≡ record s.me.0 { epoch = w } = e.1.1 in (
-    ((home, number, e.0, ap (λ (v : View). v.sizes) is, ap (λ (v : View). v.stakes) is), ap (λ (v : View). v.places) is, ap (λ (v : View). v.slots) is, ap (λ (v : View). v.words) is),
+    (
+      (home, number, e.0, ap (λ (v : View). v.sizes) is, ap (λ (v : View). v.stakes) is),
+      ap (λ (v : View). v.places) is,
+      ap (λ (v : View). v.slots)
+          is,
+      ap (λ (v : View). v.words) is,
+    ),
     subst (λ (u : EpochView). R s.me.0.epoch r u) (sym (ap (λ (v : View). v.epoch) is)) e.1.2,
   )
 

@@ -75,7 +75,8 @@ module _ (b : Board) (p : ℕ) where
   }
 
   pub posed_arrived : (own new : Participant) (c g : ℕ) (xs : List WaitingItem) (s t : Seat Stake View) → IsPosed b p own s → t.table_id ≡ s.table_id
-      → t.me.1 ≡ s.me.1 → t.me.0.sizes ≡ s.me.0.sizes → t.me.0.stakes ≡ s.me.0.stakes → epoch t ≡ published (counted (knowing (epoch s) c) c) g → c ≤ g → (IsLone (epoch s) → g ≡ c)
+      → t.me.1 ≡ s.me.1 → t.me.0.sizes ≡ s.me.0.sizes → t.me.0.stakes ≡ s.me.0.stakes → epoch t ≡ published (counted (knowing (epoch s) c) c) g → c ≤
+      g → (IsLone (epoch s) → g ≡ c)
       → slots t ≡ record s.me.0.slots { waits = xs } → ((i : ℕ) → total (waits_in i) xs ≤ items_at i (view s))
       → new.found ≡ c → new.guards ≡ 0 → new.bags.waiting ≡ map waiting_of xs → new.bags.room ≡ own.bags.room
       → new.countdown ≤ 128 → (new.countdown ≡ 128 → new.bags.waiting ≡ []) → IsPosed b p (nested new) t
@@ -191,10 +192,12 @@ module _ (b : Board) (p : ℕ) where
         lent = subst (AreLentTo t) (sym (ap (λ (m : Mine). m.1) same)) lent;
         there = sees;
       })
-      (λ blind. let o = w.1 blind in let y : Stake = o.0 in let spot : ℕ = stake_at (s.me.0.sizes.participants) slot s.me.0.epoch.place in let one = is_same slot slot refl in
+      (λ blind. let o = w.1 blind in let y : Stake = o.0 in let spot : ℕ = stake_at (s.me.0.sizes.participants) slot s.me.0.epoch.place in
+      let one = is_same slot slot refl in
       let at : spot ≡ stake_at n slot p = λ d. stake_at ((q.knows.0 d).participants) slot (q.place d) in
       let has = subst (λ (k : ℕ). Has k slot 1 IsFull y) q.knows.1 o.1 in
-      let both = now_seen γ n p t slot spot y s.me.0.slots.sees xs q.purse lent at has in let ys : u.me.1 ≡ (spot, y) ∷ xs = ap (λ (m : Mine). m.1) o.2 in record {
+      let both = now_seen γ n p t slot spot y s.me.0.slots.sees xs q.purse lent at has in
+      let ys : u.me.1 ≡ (spot, y) ∷ xs = ap (λ (m : Mine). m.1) o.2 in record {
         sees = slot ∷ s.me.0.slots.sees;
         view = ap (λ (m : Mine). m.0) o.2;
         purse = subst (λ (ys : Carries). IsPurse γ n p (slot ∷ s.me.0.slots.sees) ys) (sym ys) both.0;
@@ -202,7 +205,8 @@ module _ (b : Board) (p : ℕ) where
         there = omega arith;
       })
 
-  pub posed_shows : (own : Participant) (t slot : ℕ) (s u z : Seat Stake View) → IsPosed b p own s → 0 < own.guards → u.table_id ≡ s.table_id → HasSeen t slot s u
+  pub posed_shows : (own : Participant) (t slot : ℕ) (s u z : Seat Stake View) → IsPosed b p own s → 0 < own.guards → u.table_id ≡ s.table_id →
+      HasSeen t slot s u
       → z ≡ record u { me = (u.me.0, z.me.1) } → OnlyLends t u.me.1 z.me.1 → IsPosed b p own z × AreLentTo t z.me.1
   posed_shows own t slot s u z q some_open table seen is lends =
       let still = still_seen (book_of b) (places_of b) p t seen.sees u.me.1 z.me.1 lends seen.purse seen.lent in (

@@ -73,8 +73,8 @@ pub record Opens (old new : Member) : Type 0 where
   pub nested : IsGuarded old → new ≡ record old { own = nested old.own }
   pub outermost : ¬ (IsGuarded old) → (count : ℕ) × IsOpened count old new
 
--- a guard is closed; without an open one nothing happens. The last close shows nothing any more, and at countdown 0 scans, which may raise the count, to one more
--- than it was at the publish at most; where the participant is lone the scan does, but at the last count
+-- a guard is closed; without an open one nothing happens. The last close shows nothing any more, and at countdown 0 scans, which may
+-- raise the count, to one more than it was at the publish at most; where the participant is lone the scan does, but at the last count
 pub record Closes (old new : Member) : Type 0 where
   pub member : new ≡ record old { own = closed_with false old.own; known = new.known; slots = new.slots }
   pub unseen : old.own.guards ≡ 1 → new.slots ≡ record old.slots { sees = [] }

@@ -80,13 +80,14 @@ module _ (γ : ℕ) (sizes : Sizes) (slots id : ℕ) (me : Mine) (i : ℕ) (f : 
       → ((r : ℕ) (w : View) → then r w → told r (w, me.1))
       → ((s : State Stake View) (w : View) → Housed γ sizes s → get_elem? s.views id ≡ some me.0 → then (get_or s.words i 0) w
       → IsCalm s (f (get_or s.words i 0)) w) → Allows (Housed γ sizes) slots id me i f told
-  lift_calm then told ends step tells calm = lift_homes then told ends step (λ s w h at t. let y : ℕ = f (get_or s.words i 0) in let c = calm s w h at t in record {
-    stakes = w.stakes;
-    act = keeps;
-    valid = tt;
-    homes = part.calm γ sizes s.words s.views s.homes h.homes id me.0 at (set s.words i y) w c.more c.same c.mover;
-    tells = tells (get_or s.words i 0) w t;
-  })
+  lift_calm then told ends step tells calm = lift_homes then told ends step (λ s w h at t. let y : ℕ = f (get_or s.words i 0) in
+      let c = calm s w h at t in record {
+        stakes = w.stakes;
+        act = keeps;
+        valid = tt;
+        homes = part.calm γ sizes s.words s.views s.homes h.homes id me.0 at (set s.words i y) w c.more c.same c.mover;
+        tells = tells (get_or s.words i 0) w t;
+      })
 
   -- one of the epoch's part, under which an open guard keeps its place
   pub lift_epoch : (R : EpochView → ℕ → EpochView → Type 0) (told : ℕ → Mine → Type 0) → i < first_slot sizes

@@ -279,7 +279,8 @@ module _ (slots id : ℕ) (me : Mine) (live : HasPlace me.0.epoch) where
     pub discards : Moves v slot → Holds v slot → n ≤ v.slots.looked → (rest : Carries) → HasAll γ slot n IsVacant rest me.1
         → May i (λ _. free_word 0) (λ _. OfSlot DiscardsAll i me (free_word 0))
     discards mine held all rest row = let y : ℕ = free_word 0 in let told : ℕ → Mine → Type 0 = λ _. OfSlot DiscardsAll i me y in
-        lift_homes γ sizes slots id me i (λ _. y) (λ _. AtSlot Discards i v y) told (spares (λ _. y) (λ _. AtSlot Discards i v y) (λ r w t. ap (λ (u : View). u.places) (t slot refl)))
+        lift_homes γ sizes slots id me i (λ _. y) (λ _. AtSlot Discards i v y) told (spares (λ _. y) (λ _. AtSlot Discards i v y) (λ r w t. ap (λ (u
+        : View). u.places) (t slot refl)))
         (steps.discards id v live slot 0 inside held all (omega arith))
         (λ s w h at t. let now : View = discarded slot y v in
         let g = gives_row γ n slot IsVacant sizes.slots inside (suc n) (omega arith) s.homes rest me.1 h.homes.deep row in
@@ -335,7 +336,8 @@ module _ (slots id : ℕ) (me : Mine) (live : HasPlace me.0.epoch) where
               (λ j m. h.homes.moving id v j at m);
           tells = at_once WatchesBy x me ((λ _. refl), (λ blind. absurd (blind sees)), c.1);
         }))
-        (λ blind. lift_homes γ sizes slots id me i (λ x. x) (AtSlot Watches i v) told (spares (λ x. x) (AtSlot Watches i v) (λ r w t. ap (λ (u : View). u.places) (t slot refl).0))
+        (λ blind. lift_homes γ sizes slots id me i (λ x. x) (AtSlot Watches i v) told (spares (λ x. x) (AtSlot Watches i v) (λ r w t. ap (λ (u :
+        View). u.places) (t slot refl).0))
         (steps.watches id v live slot is_open own free)
         (λ s w h at t. let x : ℕ = get_or s.words i 0 in let c = t slot refl in let q : ℕ = v.epoch.place in let p = h.kept.parts in
         let now : View = seeing slot v in let one = is_same slot slot refl in

@@ -31,14 +31,29 @@ at_rest book = record { book = book; moves = None }
 
 -- a token that knows nothing, but how many of each there are and which book
 abbrev pub idle : Sizes → ℕ → View
-idle sizes book = record { sizes = sizes; epoch = nobody sizes.participants; places = record { ended = 0 }; slots = bare; stakes = at_rest book; words = blank sizes }
+idle sizes book = record {
+  sizes = sizes;
+  epoch = nobody sizes.participants;
+  places = record { ended = 0 };
+  slots = bare;
+  stakes = at_rest book;
+  words = blank sizes;
+}
 
 abbrev pub no_sizes : Sizes
 no_sizes = record { participants = 0; slots = 0; jobs = 0; cells = 0 }
 
 -- a token that knows its owners alone
 abbrev pub owner_token : List ℕ → List ℕ → View
-owner_token owns shares = record { sizes = no_sizes; epoch = nobody 0; places = record { ended = 0 }; slots = owning_only owns shares; stakes = at_rest 0; words = [] }
+owner_token owns shares = record {
+  sizes = no_sizes;
+  epoch = nobody 0;
+  places = record { ended = 0 };
+  slots = owning_only owns shares;
+  stakes =
+      at_rest 0;
+  words = [];
+}
 
 -- the parts that speak of words and of what each participant knows
 pub record Parts (sizes : Sizes) (ws : List ℕ) (vs : List View) : Type 0 where

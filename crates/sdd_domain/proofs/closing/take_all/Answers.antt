@@ -11,13 +11,14 @@ use Rattle.sdd_domain.proofs.closing.take_all.Goals.{then-is_full, else-is_full}
 use Rattle.sdd_domain.proofs.closing.take_all.Goals as goal
 
 pub loop-slot-init : goal.loop-slot-init
-loop-slot-init g c = let z = c.args.sizes.now in let γ : ℕ = c.args.title.now.book in let m : ℕ = z.slots in let home = c.requires.home in let count = c.slot_count-left.ensures in record {
-  home = subst (λ (k : ℕ). AreHome γ z k c.args.closed.now) (sym count) home;
-  left = count ∙ ((slots_counts c.args.closed.now.slots).0 ∙ (home.laid.long ∙ all_homes z.participants m));
-  low = omega arith;
-  stock = subst (λ (t : ℕ × List Lot). AreVacant γ m t.0 t.1) (λ d. (let e : 0 ≡ m - m = omega arith in e d, sym c.new-stock.ensures d)) tt;
-  words = refl;
-}
+loop-slot-init g c = let z = c.args.sizes.now in let γ : ℕ = c.args.title.now.book in let m : ℕ = z.slots in let home = c.requires.home in
+    let count = c.slot_count-left.ensures in record {
+      home = subst (λ (k : ℕ). AreHome γ z k c.args.closed.now) (sym count) home;
+      left = count ∙ ((slots_counts c.args.closed.now.slots).0 ∙ (home.laid.long ∙ all_homes z.participants m));
+      low = omega arith;
+      stock = subst (λ (t : ℕ × List Lot). AreVacant γ m t.0 t.1) (λ d. (let e : 0 ≡ m - m = omega arith in e d, sym c.new-stock.ensures d)) tt;
+      words = refl;
+    }
 
 pub take_by-requires-clause-full : goal.take_by-requires-clause-full
 take_by-requires-clause-full g c = let z = c.args.sizes.now in let i : ℕ = c.loop-slot.slot - 1 in let first = c.first_slot-first.ensures in
@@ -25,7 +26,8 @@ take_by-requires-clause-full g c = let z = c.args.sizes.now in let i : ℕ = c.l
     c.gather_home-whole.ensures.shown.0 (ap full says ∙ c.is_full.ensures.full c.if-is_full.true)
 
 pub loop-slot-preserved : goal.loop-slot-preserved
-loop-slot-preserved g c = let z = c.args.sizes.now in let γ : ℕ = c.args.title.now.book in let i : ℕ = c.loop-slot.slot - 1 in let inv = c.loop-slot.invariant in
+loop-slot-preserved g c = let z = c.args.sizes.now in let γ : ℕ = c.args.title.now.book in let i : ℕ = c.loop-slot.slot - 1 in
+    let inv = c.loop-slot.invariant in
     let low = inv.low in let first = c.first_slot-first.ensures in let gather = c.gather_home-whole in
     let says = word_says z (slots_items gather.new.closed.words) i _ c.word.result (omega arith) c.word.ensures in
     let empty : IsWhole γ i c.if-is_full.whole.lot × IsVacant c.if-is_full.whole.lot.shown = elim c.if-is_full.branch [

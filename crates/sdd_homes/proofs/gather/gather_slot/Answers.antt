@@ -25,20 +25,23 @@ take_last-requires c = let n : ℕ = c.args.participants in let p : ℕ = c.loop
 
 pub join-requires-clause-book : goal.join-requires-clause-book
 join-requires-clause-book c = let n : ℕ = c.args.participants in let p : ℕ = c.loop-place._place in let inv = c.loop-place.invariant in let t = c.take_last in
-    let pop = popped c.args.title.now.book n all_vacant c.args.slot (n - (p + 1)) _ c.loop-place.laid.items t.new.self.items t.result t.ensures.items (omega arith)
+    let pop = popped c.args.title.now.book n all_vacant c.args.slot (n - (p + 1)) _ c.loop-place.laid.items t.new.self.items t.result t.ensures.items
+    (omega arith)
     (next_stake n c.args.slot (n - (p + 1)) (n - p) (omega arith)) inv.laid in
     ap (λ (h : Lot). h.book) pop.1.0 ∙ sym (ap (λ (h : Lot). h.book) inv.whole)
 
 pub join-requires-clause-number : goal.join-requires-clause-number
 join-requires-clause-number c = let n : ℕ = c.args.participants in let p : ℕ = c.loop-place._place in let inv = c.loop-place.invariant in
     let t = c.take_last in
-    let pop = popped c.args.title.now.book n all_vacant c.args.slot (n - (p + 1)) _ c.loop-place.laid.items t.new.self.items t.result t.ensures.items (omega arith)
+    let pop = popped c.args.title.now.book n all_vacant c.args.slot (n - (p + 1)) _ c.loop-place.laid.items t.new.self.items t.result t.ensures.items
+    (omega arith)
     (next_stake n c.args.slot (n - (p + 1)) (n - p) (omega arith)) inv.laid in
     ap (λ (h : Lot). h.number) pop.1.0 ∙ sym (ap (λ (h : Lot). h.number) inv.whole)
 
 pub join-requires-clause-free : goal.join-requires-clause-free
 join-requires-clause-free c = let n : ℕ = c.args.participants in let p : ℕ = c.loop-place._place in let inv = c.loop-place.invariant in let t = c.take_last in
-    let pop = popped c.args.title.now.book n all_vacant c.args.slot (n - (p + 1)) _ c.loop-place.laid.items t.new.self.items t.result t.ensures.items (omega arith)
+    let pop = popped c.args.title.now.book n all_vacant c.args.slot (n - (p + 1)) _ c.loop-place.laid.items t.new.self.items t.result t.ensures.items
+    (omega arith)
     (next_stake n c.args.slot (n - (p + 1)) (n - p) (omega arith)) inv.laid in
     (ap (λ (h : Lot). h.lent) inv.whole, ap (λ (h : Lot). h.lent) pop.1.0)
 

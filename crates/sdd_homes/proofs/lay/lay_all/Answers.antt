@@ -10,7 +10,8 @@ pub loop-slot-init : goal.loop-slot-init
 loop-slot-init c = record {
   laid = subst (AreLaidTo c.args.title.now.book c.args.participants (stake_at c.args.participants 0 0) all_vacant) (sym c.requires.empty)
       (none_laid c.args.title.now.book c.args.participants all_vacant);
-  stock = subst (λ (k : ℕ). AreVacant c.args.title.now.book 0 k c.args.stock.lots) (let e : c.args.slots ≡ c.args.slots - 0 = omega arith in e) c.requires.stock;
+  stock = subst (λ (k : ℕ). AreVacant c.args.title.now.book 0 k c.args.stock.lots) (let e : c.args.slots ≡ c.args.slots - 0 = omega arith in e)
+      c.requires.stock;
   capacity = refl;
 }
 

@@ -8,7 +8,8 @@ use Rattle.sdd_domain.proofs.Posing.{watched, posed_shows}
 use Rattle.sdd_domain.proofs.local.Local.look.Goals as goal
 
 pub show-requires-clause-stake : goal.show-requires-clause-stake
-show-requires-clause-stake g c = let l = c.self.inside in let b = l.domain.now.board in let t : ℕ = c.tenure_of-tenure.result.now.round in let inv = c.self.invariant in
+show-requires-clause-stake g c = let l = c.self.inside in let b = l.domain.now.board in let t : ℕ = c.tenure_of-tenure.result.now.round in
+    let inv = c.self.invariant in
     let slot : ℕ = c.args.slot in
     let seen = watched b l.place l.own t slot c.watch.result l.token c.watch.new.token inv.0
     (subst (λ (t : ℕ). AreLentTo t l.token.me.1) (sym c.agree.ensures.round) inv.3) c.watch.ensures in

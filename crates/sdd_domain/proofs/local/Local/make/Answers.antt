@@ -15,7 +15,8 @@ put_value-requires-clause-row g c = let l = c.self.inside in let b = l.domain.no
 
 pub invariant_of-self : goal.invariant_of-self
 invariant_of-self g c = let l = c.self.inside in let b = l.domain.now.board in let inv = c.self.invariant in let put = c.put_value.ensures in
-    let posed = posed_claims b l.place l.own c.in-Ok.slot l.token c.claim_free.new.token c.put_value.new.token inv.0 c.in-Ok.ensures.tried put.home.0 put.view put.given in (
+    let posed = posed_claims b l.place l.own c.in-Ok.slot l.token c.claim_free.new.token c.put_value.new.token inv.0 c.in-Ok.ensures.tried put.home.0
+    put.view put.given in (
       posed.0,
       inv.1,
       inv.2,

@@ -14,7 +14,8 @@ invariant_of-self g c = let own = c.self.inside.own in let board = c.self.inside
     = c.stir.ensures ∙ ap (λ (bags : Bags). with_garbage (record own { bags = bags })) c.push.ensures in
     let mine = subst (λ (m : Member). Owns m c.args.slot) (sym c.self.view_is) c.requires in
     subst (λ (o : Participant). IsPosed board c.self.inside.place o c.retire.new.token
-    × c.self.inside.nesting ≡ c.self.inside.domain.now.limits.nesting × IsTenureOf o c.self.inside.tenure × AreLentTo c.self.inside.tenure.round c.retire.new.token.me.1
+    × c.self.inside.nesting ≡ c.self.inside.domain.now.limits.nesting × IsTenureOf o c.self.inside.tenure × AreLentTo c.self.inside.tenure.round
+    c.retire.new.token.me.1
     × IsReady board o c.self.inside.bag.items (vec_capacity c.self.inside.bag) c.self.inside.known.slots) (sym own_is) (
       posed_retires board c.self.inside.place own c.args.slot c.self.inside.token c.retire.new.token i.0 mine c.retire.ensures,
       i.1,

@@ -10,4 +10,5 @@ compare_exchange-requires c = let r = c.requires in
 
 pub returns : goal.returns
 returns c = let e = c.compare_exchange.ensures in
-    moved_at c.args.token.now _ c.compare_exchange.result e.0 e.1 (λ slot. ClaimsAll slot (free_word 0) (owned_word 0)) _ c.args.slot _ c.slot_word.ensures c.requires.knows.0 e.2
+    moved_at c.args.token.now _ c.compare_exchange.result e.0 e.1 (λ slot. ClaimsAll slot (free_word 0) (owned_word 0)) _ c.args.slot _
+    c.slot_word.ensures c.requires.knows.0 e.2

@@ -5,8 +5,12 @@ use Rattle.sdd_domain.proofs.Allowed.{moved_at, may_discard}
 use Rattle.sdd_domain.proofs.steps.slots.discard.Goals as goal
 
 pub store-requires : goal.store-requires
-store-requires c = let r = c.requires in
-    (r.home, omega arith, may_discard _ _ _ _ _ r.knows.0 r.knows.1 r.place _ c.args.slot c.slot_word.ensures r.inside r.held.0 r.held.1 r.looked r.row.0 r.row.1)
+store-requires c = let r = c.requires in (
+  r.home,
+  omega arith,
+  may_discard _ _ _ _ _ r.knows.0 r.knows.1 r.place _ c.args.slot c.slot_word.ensures r.inside r.held.0 r.held.1 r.looked
+      r.row.0 r.row.1,
+)
 
 pub returns : goal.returns
 returns c = let e = c.store.ensures in

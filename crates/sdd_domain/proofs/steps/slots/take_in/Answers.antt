@@ -16,5 +16,6 @@ join_seat-requires c = let sized = c.args.board.now.sized in let e = c.into_seat
       e.0 ∙ r.owner.0,
       e.3,
       omega arith,
-      subst (λ (w : View). Joins (Housed γ sizes) id v other w (joined v w) (owner_token [] [])) (sym same) (joins_owners γ sizes id v other (r.owner.1 ∷ []) []),
+      subst (λ (w : View). Joins (Housed γ sizes) id v other w (joined v w) (owner_token [] [])) (sym same) (joins_owners γ sizes id v other
+          (r.owner.1 ∷ []) []),
     )

@@ -4,8 +4,12 @@ use Rattle.sdd_domain.proofs.Allowed.{moved_at, may_watch}
 use Rattle.sdd_domain.proofs.steps.slots.watch.Goals as goal
 
 pub load-requires : goal.load-requires
-load-requires c = let r = c.requires in
-    (r.home, omega arith, may_watch _ _ _ _ _ r.knows.0 r.knows.1 (omega (arith, r.open)) _ c.args.slot c.slot_word.ensures r.inside r.open r.near r.own.0 r.own.1 r.rests)
+load-requires c = let r = c.requires in (
+  r.home,
+  omega arith,
+  may_watch _ _ _ _ _ r.knows.0 r.knows.1 (omega (arith, r.open)) _ c.args.slot c.slot_word.ensures r.inside r.open r.near
+      r.own.0 r.own.1 r.rests,
+)
 
 pub returns : goal.returns
 returns c = let e = c.load.ensures in
