@@ -45,6 +45,7 @@ fn give_all_back<T: Drop>(
 }
 
 /// A change at this count, which was published: what has then seen three changes is moved out and given back.
+#[inline(never)]
 fn change<T: Drop>(
     board: &Board,
     shelf: &Shelf<T>,
