@@ -1,7 +1,8 @@
 -- The rule of a domain: a record of its parts
-use Rattle.std.specs.Prelude.{◌≡◌, ℕ, ◌<◌, List, [], None, map, length}
+use Rattle.std.specs.Prelude.{◌≡◌, ℕ, ◌<◌, List, [], ◌∷◌, None, map, length}
 use mathlib.Core.Option.{some}
 use lib.ListN.{get_elem?}
+use base.Stored.{Gv}
 use Rattle.atomic_table.specs.Table.{State}
 use Rattle.sdd_rule.specs.declared.EpochView.{EpochView}
 use Rattle.sdd_rule.specs.declared.SlotsView.{SlotsView}
@@ -25,9 +26,9 @@ with_epoch v w = record v { epoch = w }
 abbrev pub with_both : View → EpochView → SlotsView → View
 with_both v w s = record v { epoch = w; slots = s }
 
--- it moves no value, and the values' places are of this book
+-- it moves no value and knows of none, and the values' places are of this book
 abbrev pub at_rest : ℕ → StakesView
-at_rest book = record { book = book; moves = None }
+at_rest book = record { book = book; moves = None; owns = []; sees = [] }
 
 -- a token that knows nothing, but how many of each there are and which book
 abbrev pub idle : Sizes → ℕ → View
@@ -54,6 +55,10 @@ owner_token owns shares = record {
       at_rest 0;
   words = [];
 }
+
+-- the token of the owner of a slot, which shows this
+abbrev pub owner_of : ℕ → Gv → View
+owner_of slot value = record (owner_token (slot ∷ []) []) { stakes = record (at_rest 0) { owns = record { slot = slot; value = value } ∷ [] } }
 
 -- the parts that speak of words and of what each participant knows
 pub record Parts (sizes : Sizes) (ws : List ℕ) (vs : List View) : Type 0 where

@@ -3,6 +3,12 @@
 //! No value of these types is made: a participant's token carries one for the proofs alone.
 #![tactic(auto)]
 
+ghost use base.Stored.{Gv};
+ghost use base.Fml.{ftrue};
+ghost use Rattle.atomic_table.specs.Seated.{itself};
+
+use std::marker::Model;
+
 /// What a participant knows of the epoch.
 pub struct EpochView {
     /// How many places there are; 0 where it isn't a participant's token.
@@ -57,12 +63,26 @@ pub struct SlotsView {
     pub looked: u64,
 }
 
+/// What a slot shows, as the code of its value.
+pub struct Showing {
+    pub slot: u64,
+    pub ghost value: { Gv } by { itself },
+}
+
+impl Model for Showing {
+    ghost also_owns = { λ _. ftrue };
+}
+
 /// What a participant knows of the stakes in the values of slots.
 pub struct StakesView {
     /// The book of the values' places.
     pub book: u64,
     /// The slot whose value it moves in or out: it has all stakes in it.
     pub moves: Option<u64>,
+    /// What the slots show whose only owner it has, once the value was moved in.
+    pub owns: [Showing; 0],
+    /// What the slots show that it sees under its guards, one entry for each time.
+    pub sees: [Showing; 0],
 }
 
 /// What a participant knows.
