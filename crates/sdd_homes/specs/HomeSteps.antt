@@ -1,14 +1,17 @@
 -- What a seat carries, and what each step that takes or gives stakes makes of it
-use Rattle.std.specs.Prelude.{◌≡◌, ◌≢◌, ℕ, zero, suc, List, [], ◌∷◌, drop, Some, None}
+use Rattle.std.specs.Prelude.{◌≡◌, ◌≢◌, ℕ, zero, suc, List, [], ◌∷◌, ◌++◌, drop, Some, None}
 use base.Stored.{Gv}
 use Rattle.atomic_table.specs.Table.{Me}
 use Rattle.sdd_stakes.specs.Shelf.{IsFull, IsVacant}
 use Rattle.sdd_stakes.specs.declared.stake.Stake.{Stake}
+use Rattle.sdd_rule.specs.declared.Showing.{Showing}
 use Rattle.sdd_rule.specs.declared.View.{View}
-use Rattle.sdd_rule.specs.SlotSteps.{Knew, claimed, discarded, seeing, ClosesAll, GivesBack}
+use Rattle.sdd_rule.specs.SlotSteps.{Knew, claimed, discarded, seeing, first, parted, joined, Retires, ClosesAll, GivesBack}
+use Rattle.sdd_rule.specs.Parts.{owner_token, at_rest}
 use Rattle.sdd_rule.specs.Words.{slot_word}
 use Rattle.sdd_rule.specs.Slots.{Sees}
 use Rattle.sdd_homes.specs.Homes.{Carries, stake_at, share, Has}
+use Rattle.sdd_homes.specs.Records.{IsIn}
 
 abbrev pub Mine : Type 0
 Mine = Me Stake View
@@ -23,12 +26,16 @@ HasRow γ i n Is rest (suc m) (x ∷ xs) = (x.0 ≡ stake_at n i m) × Has γ i 
 abbrev pub HasAll : ℕ → ℕ → ℕ → (Gv → Type 0) → Carries → Carries → Type 0
 HasAll γ i n Is rest xs = HasRow γ i n Is rest (suc n) xs
 
--- the stakes of the place q in these full slots, in this order
-abbrev pub Purse : ℕ → ℕ → ℕ → List ℕ → Carries → Type 0
+-- a value that is shown, and it is this one
+abbrev pub Is : Gv → Gv → Type 0
+Is value g = IsFull g × (g ≡ value)
+
+-- the stakes of the place q in the slots of these records, in this order, each of which shows what its record says
+abbrev pub Purse : ℕ → ℕ → ℕ → List Showing → Carries → Type 0
 Purse γ n q [] [] = Unit {0}
 Purse γ n q [] (x ∷ xs) = ⊥
-Purse γ n q (i ∷ slots) [] = ⊥
-Purse γ n q (i ∷ slots) (x ∷ xs) = (x.0 ≡ stake_at n i q) × Has γ i 1 IsFull x.1 × Purse γ n q slots xs
+Purse γ n q (r ∷ records) [] = ⊥
+Purse γ n q (r ∷ records) (x ∷ xs) = (x.0 ≡ stake_at n r.slot q) × Has γ r.slot 1 (Is r.value) x.1 × Purse γ n q records xs
 
 -- it moves the value of the slot from now on
 abbrev pub moving : ℕ → View → View
@@ -37,6 +44,33 @@ moving slot v = record v { stakes = record v.stakes { moves = Some slot } }
 -- it moves none
 abbrev pub resting : View → View
 resting v = record v { stakes = record v.stakes { moves = None } }
+
+-- it knows what a slot of its own shows
+abbrev pub telling : ℕ → Gv → View → View
+telling slot value v = record v { stakes = record v.stakes { owns = record { slot = slot; value = value } ∷ v.stakes.owns } }
+
+-- it knows of no slot of its own any more
+abbrev pub untold : View → View
+untold v = record v { stakes = record v.stakes { owns = [] } }
+
+-- a guard sees a slot, and what it shows
+abbrev pub sighting : ℕ → Gv → View → View
+sighting slot value v = record (seeing slot v) { stakes = record v.stakes { sees = record { slot = slot; value = value } ∷ v.stakes.sees } }
+
+-- nothing is seen any more
+abbrev pub unsighted : View → View
+unsighted v = record v { stakes = record v.stakes { sees = [] } }
+
+-- the only owner that it has goes, to a token of its own, with what is known of it
+abbrev pub parting : View → View
+parting v = untold (parted v)
+
+abbrev pub departing : View → View
+departing v = record (owner_token (first v.slots.owns) []) { stakes = record (at_rest 0) { owns = v.stakes.owns } }
+
+-- the owners that another token knows come, with what it knows of them
+abbrev pub regained : View → View → View
+regained v w = record (joined v w) { stakes = record v.stakes { owns = w.stakes.owns ++ v.stakes.owns } }
 
 -- what the participant knew of stakes and how many there are of each place
 abbrev pub book_of : Mine → ℕ
@@ -52,13 +86,21 @@ ClaimsAll slot old y me x me' =
     (x ≡ old → (me'.0 ≡ moving slot (claimed slot y me.0)) × HasAll (book_of me) slot (places_of me) IsVacant me.1 me'.1)
     × (x ≢ old → me' ≡ me) × Knew slot me.0 x
 
--- the value of an owned slot was moved in, and all stakes in it go home
-abbrev pub Houses : ℕ → Mine → ℕ → Mine → Type 0
-Houses slot me x me' = (me'.0 ≡ resting me.0) × (me'.1 ≡ drop (suc (places_of me)) me.1) × Knew slot me.0 x
+-- the value of an owned slot was moved in, and all stakes in it, which show it, go home
+abbrev pub Houses : ℕ → Gv → Mine → Mine → Type 0
+Houses slot value me me' = (me'.0 ≡ resting (telling slot value me.0)) × (me'.1 ≡ drop (suc (places_of me)) me.1)
 
 -- the value of an item that nobody sees is to be moved out, so that all stakes in it are out
-abbrev pub TakesOut : ℕ → Mine → ℕ → Mine → Type 0
-TakesOut slot me x me' = (me'.0 ≡ moving slot me.0) × HasAll (book_of me) slot (places_of me) IsFull me.1 me'.1 × Knew slot me.0 x
+abbrev pub TakesOut : ℕ → Mine → Mine → Type 0
+TakesOut slot me me' = (me'.0 ≡ moving slot me.0) × HasAll (book_of me) slot (places_of me) IsFull me.1 me'.1
+
+-- the same of an item whose slot is held: its owner knows no more what it shows
+abbrev pub TakesHeld : ℕ → Mine → Mine → Type 0
+TakesHeld slot me me' = (me'.0 ≡ moving slot (untold me.0)) × HasAll (book_of me) slot (places_of me) IsFull me.1 me'.1
+
+-- an owned item waits from now on, of which no owner knows any more
+abbrev pub RetiresOne : ℕ → Mine → ℕ → Mine → Type 0
+RetiresOne slot me y me' = (v : View) × Retires slot me.0 y v × (me'.0 ≡ untold v) × (me'.1 ≡ me.1)
 
 -- it was moved out: the slot is free, and all stakes in it go home
 abbrev pub GivesAll : ℕ → Mine → ℕ → Mine → Type 0
@@ -68,16 +110,15 @@ GivesAll slot me y me' = (v : View) × GivesBack slot me.0 y v × (me'.0 ≡ res
 abbrev pub DiscardsAll : ℕ → Mine → ℕ → Mine → Type 0
 DiscardsAll slot me y me' = (me'.0 ≡ resting (discarded slot y me.0)) × (me'.1 ≡ drop (suc (places_of me)) me.1)
 
--- a guard sees a slot of the participant's own: it has the stake of its place out, if it didn't before
-abbrev pub WatchesBy : ℕ → Mine → ℕ → Mine → Type 0
-WatchesBy slot me x me' = (Sees me.0 slot → me' ≡ me)
-    × (¬ (Sees me.0 slot) → (y : Stake) × Has (book_of me) slot 1 IsFull y
-    × (me' ≡ (seeing slot me.0, (stake_at (places_of me) slot me.0.epoch.place, y) ∷ me.1)))
-    × Knew slot me.0 x
+-- a guard sees a slot beside its owner, who knows what it shows: it has the stake of its place out, if it didn't before
+abbrev pub Watches : ℕ → Gv → Mine → Mine → Type 0
+Watches slot value me me' = (Sees me.0 slot → (me' ≡ me) × IsIn me.0.stakes.sees slot value)
+    × (¬ (Sees me.0 slot) → (y : Stake) × Has (book_of me) slot 1 (Is value) y
+    × (me' ≡ (sighting slot value me.0, (stake_at (places_of me) slot me.0.epoch.place, y) ∷ me.1)))
 
 -- the last guard is closed: all that it had goes home
 abbrev pub ClosesHome : Mine → ℕ → Mine → Type 0
-ClosesHome me x me' = ClosesAll me.0 x me'.0 × (me'.1 ≡ [])
+ClosesHome me x me' = (v : View) × ClosesAll me.0 x v × (me'.0 ≡ unsighted v) × (me'.1 ≡ [])
 
 -- a step on the word i tells R of the slot whose word it is
 abbrev pub OfSlot : (ℕ → Mine → ℕ → Mine → Type 0) → ℕ → Mine → ℕ → Mine → Type 0

@@ -6,7 +6,6 @@ use lib.ListN.{get_elem?}
 use prog.Atomic.{either}
 use base.Stored.{Gv}
 use Rattle.core.specs.Mem.Slots.{slots_items, slots_filled, slots_len}
-use Rattle.atomic_table.specs.Table.{State}
 use Rattle.atomic_table.specs.declared.owned.Closed.{Closed}
 use Rattle.sdd_stakes.specs.Shelf.{IsFull, IsVacant, most, lot}
 use Rattle.sdd_stakes.specs.declared.stake.Stake.{Stake}
@@ -15,7 +14,6 @@ use Rattle.sdd_rule.specs.declared.Sizes.{Sizes}
 use Rattle.sdd_rule.specs.Codes.{full}
 use Rattle.sdd_rule.specs.Epoch.{HasPlace}
 use Rattle.sdd_rule.specs.Slots.{slot_at, items_at, OwnsAlone, Sees}
-use Rattle.sdd_rule.specs.Parts.{Kept}
 
 -- what lies in the table's slots, where it is at home
 abbrev pub Homes : Type 0
@@ -72,11 +70,6 @@ pub record HomesPart (γ : ℕ) (sizes : Sizes) (ws : List ℕ) (vs : List View)
       → Has γ i (share sizes.participants p) (IsShown (slot_at sizes ws i)) y
   pub back : (i p : ℕ) → i < sizes.slots → p ≤ sizes.participants → NoneOut vs i p → IsAtHome sizes.participants hs i p
   pub moving : (j : ℕ) (v : View) (i : ℕ) → get_elem? vs j ≡ some v → Moves v i → HasPlace v.epoch × (OwnsAlone v i ⊎ (0 < items_at i v))
-
--- the whole rule
-pub record Housed (γ : ℕ) (sizes : Sizes) (s : State Stake View) : Type 0 where
-  pub kept : Kept sizes s
-  pub homes : HomesPart γ sizes s.words s.views s.homes
 
 -- the first k homes' stakes in a row, where what those in the slot i show is so
 pub record AreLaidTo (γ n k : ℕ) (Is : ℕ → Gv → Type 0) (stakes : List Stake) : Type 0 where

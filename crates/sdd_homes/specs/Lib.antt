@@ -1,2 +1,4 @@
 pub mod Homes
+pub mod Records
+pub mod Housed
 pub mod HomeSteps
