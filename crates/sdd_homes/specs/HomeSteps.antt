@@ -27,15 +27,15 @@ abbrev pub HasAll : ℕ → ℕ → ℕ → (Gv → Type 0) → Carries → Carr
 HasAll γ i n Is rest xs = HasRow γ i n Is rest (suc n) xs
 
 -- a value that is shown, and it is this one
-abbrev pub Is : Gv → Gv → Type 0
-Is value g = IsFull g × (g ≡ value)
+abbrev pub IsValue : Gv → Gv → Type 0
+IsValue value g = IsFull g × (g ≡ value)
 
 -- the stakes of the place q in the slots of these records, in this order, each of which shows what its record says
 abbrev pub Purse : ℕ → ℕ → ℕ → List Showing → Carries → Type 0
 Purse γ n q [] [] = Unit {0}
 Purse γ n q [] (x ∷ xs) = ⊥
 Purse γ n q (r ∷ records) [] = ⊥
-Purse γ n q (r ∷ records) (x ∷ xs) = (x.0 ≡ stake_at n r.slot q) × Has γ r.slot 1 (Is r.value) x.1 × Purse γ n q records xs
+Purse γ n q (r ∷ records) (x ∷ xs) = (x.0 ≡ stake_at n r.slot q) × Has γ r.slot 1 (IsValue r.value) x.1 × Purse γ n q records xs
 
 -- it moves the value of the slot from now on
 abbrev pub moving : ℕ → View → View
@@ -113,7 +113,7 @@ DiscardsAll slot me y me' = (me'.0 ≡ resting (discarded slot y me.0)) × (me'.
 -- a guard sees a slot beside its owner, who knows what it shows: it has the stake of its place out, if it didn't before
 abbrev pub Watches : ℕ → Gv → Mine → Mine → Type 0
 Watches slot value me me' = (Sees me.0 slot → (me' ≡ me) × IsIn me.0.stakes.sees slot value)
-    × (¬ (Sees me.0 slot) → (y : Stake) × Has (book_of me) slot 1 (Is value) y
+    × (¬ (Sees me.0 slot) → (y : Stake) × Has (book_of me) slot 1 (IsValue value) y
     × (me' ≡ (sighting slot value me.0, (stake_at (places_of me) slot me.0.epoch.place, y) ∷ me.1)))
 
 -- the last guard is closed: all that it had goes home
