@@ -1,4 +1,4 @@
--- No part reads what is known of stakes and of ended places; and tokens begin, come, and are cut and joined.
+-- No part reads what is known of stakes and of ended places; and tokens begin, come, and are cut and joined, whatever is known of stakes then.
 use Rattle.std.proofs.Common.{◌≡◌, ℕ, zero, suc, ◌+◌, ◌<◌, List, [], ◌∷◌, ◌++◌, map, length, get_or, set, sym, refl, ap, ◌∙◌, subst, ⊎_elim, arith}
 use mathlib.Core.Option.{some, some-injective, some-ne-none}
 use mathlib.Core.List.{map-append}
@@ -123,16 +123,18 @@ module _ {S : Type 0} (sizes : Sizes) where
       only t (suc j) v e = absurd (some-ne-none v (sym e))
 
   -- owners are cut off as a token, but for the one of a slot that is held
-  pub cuts : (id : ℕ) (v : View) (os ss os' ss' : List ℕ)
+  pub cuts : (id : ℕ) (v : View) (os ss os' ss' : List ℕ) (mine theirs : StakesView)
       → ((i : ℕ) → (times i v.slots.owns ≡ times i os + times i os') × (times i v.slots.shares ≡ times i ss + times i ss'))
-      → ((i : ℕ) → Holds v i → 0 < times i os) → Splits (Kept {S = S} sizes) id v (owning v os ss v.words) (owner_token os' ss')
-  cuts id v os ss os' ss' parts held s k at = let n : ℕ = sizes.participants in let w : View = owning v os ss v.words in let t : View = owner_token os' ss' in
+      → ((i : ℕ) → Holds v i → 0 < times i os) → Splits (Kept {S = S} sizes) id v
+      (record (owning v os ss v.words) { stakes = mine }) (record (owner_token os' ss') { stakes = theirs })
+  cuts id v os ss os' ss' mine theirs parts held s k at = let n : ℕ = sizes.participants in
+      let w : View = record (owning v os ss v.words) { stakes = mine } in let t : View = record (owner_token os' ss') { stakes = theirs } in
       let vs : List View = set s.views id w in record {
         parts = record {
           epoch = subst (λ (l : List EpochView). EpochPart n s.words l)
               (sym (map-append epoch_of vs (t ∷ []) ∙ ap (λ (l : List EpochView). l ++ nobody 0 ∷ []) (same_epochs s.views id v w at refl)))
               (seated n 0 (λ z. absurd (z refl)) s.words (map epoch_of s.views) k.parts.epoch);
-          slots = tokens.cuts codes sizes s.words s.views k.parts.slots id v at os ss t os' ss' refl parts held;
+          slots = tokens.cuts codes sizes s.words s.views k.parts.slots id v at os ss mine t os' ss' refl parts held;
           lone = snoc_lone sizes s.words vs t (λ z. absurd (omega arith)) (lone_same sizes s.words s.views k.parts.lone id v at w refl (λ z. z));
         };
         places = record {
@@ -142,16 +144,18 @@ module _ {S : Type 0} (sizes : Sizes) where
       }
 
   -- and taken in again
-  pub takes_in : (id : ℕ) (v : View) (other : ℕ) (os ss os' ss' : List ℕ)
+  pub takes_in : (id : ℕ) (v : View) (other : ℕ) (os ss os' ss' : List ℕ) (mine theirs : StakesView)
       → ((i : ℕ) → (times i os ≡ times i v.slots.owns + times i os') × (times i ss ≡ times i v.slots.shares + times i ss'))
-      → Joins (Kept {S = S} sizes) id v other (owner_token os' ss') (owning v os ss v.words) (owner_token [] [])
-  takes_in id v other os ss os' ss' parts s k at apart there = let n : ℕ = sizes.participants in let w : View = owning v os ss v.words in
-      let t : View = owner_token os' ss' in let t' : View = owner_token [] [] in let vs : List View = set s.views id w in
+      → Joins (Kept {S = S} sizes) id v other (record (owner_token os' ss') { stakes = theirs })
+      (record (owning v os ss v.words) { stakes = mine }) (owner_token [] [])
+  takes_in id v other os ss os' ss' mine theirs parts s k at apart there = let n : ℕ = sizes.participants in
+      let w : View = record (owning v os ss v.words) { stakes = mine } in let t : View = record (owner_token os' ss') { stakes = theirs } in
+      let t' : View = owner_token [] [] in let vs : List View = set s.views id w in
       let was : get_elem? s.views other ≡ some t = sym (set_else s.views id other w apart) ∙ there in record {
         parts = record {
           epoch = subst (λ (l : List EpochView). EpochPart n s.words l)
               (sym (same_epochs vs other t t' there refl ∙ same_epochs s.views id v w at refl)) k.parts.epoch;
-          slots = tokens.takes_in codes sizes s.words s.views k.parts.slots id v at os ss other t t' os' ss' refl refl parts apart was;
+          slots = tokens.takes_in codes sizes s.words s.views k.parts.slots id v at os ss mine other t t' os' ss' refl refl parts apart was;
           lone = lone_same sizes s.words vs (lone_same sizes s.words s.views k.parts.lone id v at w refl (λ z. z)) other t there t' refl (λ z. z);
         };
         places = record {
@@ -161,8 +165,9 @@ module _ {S : Type 0} (sizes : Sizes) where
       }
 
   -- the only owner of the first slot goes to a token of its own, where none is held
-  pub parts_owner : (id : ℕ) (v : View) → v.slots.holds ≡ None → Splits (Kept {S = S} sizes) id v (parted v) (owner_token (first v.slots.owns) [])
-  parts_owner id v free = cuts id v (others v.slots.owns) v.slots.shares (first v.slots.owns) []
+  pub parts_owner : (id : ℕ) (v : View) (mine theirs : StakesView) → v.slots.holds ≡ None → Splits (Kept {S = S} sizes) id v
+      (record (parted v) { stakes = mine }) (record (owner_token (first v.slots.owns) []) { stakes = theirs })
+  parts_owner id v mine theirs free = cuts id v (others v.slots.owns) v.slots.shares (first v.slots.owns) [] mine theirs
       (λ i. (both i v.slots.owns, omega arith)) (λ i h. let c : None ≡ Some i = sym free ∙ h in cc)
     where
       both : (i : ℕ) (os : List ℕ) → times i os ≡ times i (others os) + times i (first os)
@@ -170,7 +175,8 @@ module _ {S : Type 0} (sizes : Sizes) where
       both i (x ∷ xs) = omega arith
 
   -- and comes back
-  pub joins_owners : (id : ℕ) (v : View) (other : ℕ) (os ss : List ℕ)
-      → Joins (Kept {S = S} sizes) id v other (owner_token os ss) (joined v (owner_token os ss)) (owner_token [] [])
-  joins_owners id v other os ss = takes_in id v other (os ++ v.slots.owns) (ss ++ v.slots.shares) os ss
+  pub joins_owners : (id : ℕ) (v : View) (other : ℕ) (os ss : List ℕ) (mine theirs : StakesView)
+      → Joins (Kept {S = S} sizes) id v other (record (owner_token os ss) { stakes = theirs })
+      (record (joined v (owner_token os ss)) { stakes = mine }) (owner_token [] [])
+  joins_owners id v other os ss mine theirs = takes_in id v other (os ++ v.slots.owns) (ss ++ v.slots.shares) os ss mine theirs
       (λ i. (let e = total_append (is i) os v.slots.owns in omega arith, let e = total_append (is i) ss v.slots.shares in omega arith))

@@ -50,13 +50,18 @@ module _ (z : Code) (sound : IsSound z) (sizes : Sizes) (ws : List ℕ) (vs : Li
       (λ j u apart e. let o = s.two j id u v e at in
       (safe j u u e refl refl refl (s.two id j v u at e), record { since = o.since; looked = o.looked }))
 
-  -- that of an owner of its own, which it doesn't hold
-  pub watches : (i : ℕ) → IsOpen v.epoch → 0 < owners_at i v → ¬ (Holds v i) → SlotsPart z sizes ws (set vs id (seeing i v))
-  watches i is_open mine free = let o = owner_in z sound sizes ws vs s id i v at in let live : 0 < z.alive (slot_at sizes ws i) = omega arith in
+  -- that of an owner, who may be another, and who doesn't hold it
+  pub watches_beside : (k : ℕ) (u : View) → get_elem? vs k ≡ some u → (i : ℕ) → IsOpen v.epoch → 0 < owners_at i u → ¬ (Holds u i)
+      → SlotsPart z sizes ws (set vs id (seeing i v))
+  watches_beside k u there i is_open mine free = let o = owner_in z sound sizes ws vs s k i u there in let live : 0 < z.alive (slot_at sizes ws i) = omega arith in
       sees_step i is_open (sound.lives (slot_at sizes ws i) live).1 (none_waits z sound sizes ws vs s i live)
-      (λ j u e h. let f = s.each j u e in let own = f.held i h in let g = (f.alone i own).0 in dite (ℕ_discrete j id)
-      (λ same. free (subst (λ (t : View). Holds t i) (some-injective _ _ (sym e ∙ (ap (get_elem? vs) same ∙ at))) h))
-      (λ ne. let t = owners_in z sound sizes ws vs s j id i u v ne e at in omega arith))
+      (λ j x e h. let f = s.each j x e in let own = f.held i h in let g = (f.alone i own).0 in dite (ℕ_discrete j k)
+      (λ same. free (subst (λ (t : View). Holds t i) (some-injective _ _ (sym e ∙ (ap (get_elem? vs) same ∙ there))) h))
+      (λ ne. let t = owners_in z sound sizes ws vs s j k i x u ne e there in omega arith))
+
+  -- that of an owner of its own
+  pub watches : (i : ℕ) → IsOpen v.epoch → 0 < owners_at i v → ¬ (Holds v i) → SlotsPart z sizes ws (set vs id (seeing i v))
+  watches = watches_beside id v at
 
   -- that which a cell owns
   pub loads : (d i : ℕ) → d < sizes.cells → IsOpen v.epoch → 0 < z.names i (get_or ws (cell_word sizes d) 0) → SlotsPart z sizes ws (set vs id (seeing i v))

@@ -125,16 +125,21 @@ module _ (id : ℕ) (v : View) (live : HasPlace v.epoch) where
         ),
       )
 
-  -- a guard comes to see a slot of its own
+  -- a guard comes to see a slot beside its owner, who may be another: no word is looked at
+  pub watches_beside : (slot : ℕ) → IsOpen v.epoch → (k : ℕ) (u : View) → 0 < owners_at slot u → ¬ (Holds u slot) → (ws : List ℕ) (vs : List View)
+      → Parts sizes ws vs → get_elem? vs id ≡ some v → get_elem? vs k ≡ some u → Parts sizes ws (set vs id (seeing slot v))
+  watches_beside slot is_open k u mine free ws vs p at there = let w : View = seeing slot v in record {
+    epoch = seen_after sizes ws vs id w (same_epochs ws vs p at);
+    slots = seen.watches_beside codes sound sizes ws vs p.slots id v at k u there slot is_open mine free;
+    lone = lone_same sizes ws vs p.lone id v at w refl (λ z. z);
+  }
+
+  -- or one of its own, by its word
   pub watches : (slot : ℕ) → IsOpen v.epoch → 0 < owners_at slot v → ¬ (Holds v slot)
       → Steps (Parts sizes) id v (slot_word sizes slot) (λ x. x) (AtSlot Watches (slot_word sizes slot) v)
   watches slot is_open mine free ws vs p at small = let i : ℕ = slot_word sizes slot in let w : View = seeing slot v in (
     w,
-    subst (λ (l : List ℕ). Parts sizes l (set vs id w)) (sym (set-get_or ws i 0)) record {
-      epoch = seen_after sizes ws vs id w (same_epochs ws vs p at);
-      slots = seen.watches codes sound sizes ws vs p.slots id v at slot is_open mine free;
-      lone = lone_same sizes ws vs p.lone id v at w refl (λ z. z);
-    },
+    subst (λ (l : List ℕ). Parts sizes l (set vs id w)) (sym (set-get_or ws i 0)) (watches_beside slot is_open id v mine free ws vs p at at),
     λ other is. (ap (λ (k : ℕ). seeing k v) (same_slot slot other is), knew_too slot other is (get_or ws i 0) (knew ws vs p at slot)),
   )
 

@@ -7,6 +7,7 @@ use native.Mathlib.Decide.{ℕ_discrete}
 use lib.ListN.{get_elem?}
 use Rattle.atomic_table.proofs.Lists.{at_snoc, set_else}
 use Rattle.sdd_rule.specs.declared.SlotsView.{SlotsView}
+use Rattle.sdd_rule.specs.declared.StakesView.{StakesView}
 use Rattle.sdd_rule.specs.declared.View.{View}
 use Rattle.sdd_rule.specs.declared.Sizes.{Sizes}
 use Rattle.sdd_rule.specs.Words.{first_cell, cell_word, slot_word, all_words}
@@ -74,12 +75,16 @@ module _ (z : Code) (sizes : Sizes) (ws : List ℕ) (vs : List View) (s : SlotsP
   pub sits : (t : View) → t.slots ≡ bare → SlotsPart z sizes ws (vs ++ t ∷ [])
   sits t is = joined t [] [] is vs (λ i. omega arith) (λ i. refl) (λ i own. absurd (omega arith)) s.each s.two
 
-  module _ (id : ℕ) (v : View) (at : get_elem? vs id ≡ some v) (os ss : List ℕ) where
+  -- what is known of stakes may be anything after it
+  module _ (id : ℕ) (v : View) (at : get_elem? vs id ≡ some v) (os ss : List ℕ) (known : StakesView) where
+    abbrev after : View
+    after = record (owning v os ss v.words) { stakes = known }
+
     -- some owners go to a new token, but for the one of a slot that is held
     pub cuts : (t : View) (os' ss' : List ℕ) → t.slots ≡ owning_only os' ss'
         → ((i : ℕ) → (times i v.slots.owns ≡ times i os + times i os') × (times i v.slots.shares ≡ times i ss + times i ss'))
-        → ((i : ℕ) → Holds v i → 0 < times i os) → SlotsPart z sizes ws (set vs id (owning v os ss v.words) ++ t ∷ [])
-    cuts t os' ss' is parts held = let w : View = owning v os ss v.words in let f = s.each id v at in
+        → ((i : ℕ) → Holds v i → 0 < times i os) → SlotsPart z sizes ws (set vs id after ++ t ∷ [])
+    cuts t os' ss' is parts held = let w : View = after in let f = s.each id v at in
         joined t os' ss' is (set vs id w)
         (λ j. let a = total_set (owners_at j) vs id v w at in let b = parts j in omega arith)
         (λ j. let a = total_set (items_at j) vs id v w at in omega arith)
@@ -95,8 +100,8 @@ module _ (z : Code) (sizes : Sizes) (ws : List ℕ) (vs : List View) (s : SlotsP
     -- the owners of a token are taken in
     pub takes_in : (other : ℕ) (t t' : View) (os' ss' : List ℕ) → t.slots ≡ owning_only os' ss' → t'.slots ≡ bare
         → ((i : ℕ) → (times i os ≡ times i v.slots.owns + times i os') × (times i ss ≡ times i v.slots.shares + times i ss'))
-        → other ≢ id → get_elem? vs other ≡ some t → SlotsPart z sizes ws (set (set vs id (owning v os ss v.words)) other t')
-    takes_in other t t' os' ss' is is' parts apart from = let w : View = owning v os ss v.words in let f = s.each id v at in let g = s.each other t from in
+        → other ≢ id → get_elem? vs other ≡ some t → SlotsPart z sizes ws (set (set vs id after) other t')
+    takes_in other t t' os' ss' is is' parts apart from = let w : View = after in let f = s.each id v at in let g = s.each other t from in
         let vs' : List View = set vs id w in
         let from' : get_elem? vs' other ≡ some t = set_else vs id other w apart ∙ from in
         let each' = each_set (Tallies z sizes ws) (Tallies z sizes ws) vs id w
