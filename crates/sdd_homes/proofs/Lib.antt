@@ -2,6 +2,7 @@ pub mod Places
 pub mod Rows
 pub mod Tops
 pub mod Part
+pub mod Records
 pub mod Lift
 pub mod Steps
 pub mod Tokens

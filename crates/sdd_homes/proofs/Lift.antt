@@ -1,4 +1,4 @@
--- A step that keeps the words' parts and the homes' part is a step of the table.
+-- A step that keeps the words' parts, the homes' part and what is known of what slots show is a step of the table.
 use Rattle.std.proofs.Common.{◌≡◌, ◌⊎◌, inl, inr, ℕ, ◌<◌, map, get_or, set, sym, refl, ap, ◌∙◌, subst, ⊎_elim, arith, length-set, eq-eqb, ne_eqb}
 use mathlib.Core.Bool.{cond}
 use mathlib.Core.Option.{some}
@@ -8,6 +8,7 @@ use lib.ListN.{get_elem?}
 use Rattle.atomic_table.specs.Table.{State, Act, keeps, Valid, carried_after, homes_after, Allows}
 use Rattle.sdd_stakes.specs.declared.stake.Stake.{Stake}
 use Rattle.sdd_rule.specs.declared.EpochView.{EpochView}
+use Rattle.sdd_rule.specs.declared.PlacesView.{PlacesView}
 use Rattle.sdd_rule.specs.declared.SlotsView.{SlotsView}
 use Rattle.sdd_rule.specs.declared.StakesView.{StakesView}
 use Rattle.sdd_rule.specs.declared.View.{View}
@@ -19,14 +20,20 @@ use Rattle.sdd_rule.specs.Steps.{Steps, Publishes}
 use Rattle.sdd_rule.specs.Slots.{slot_at, items_at, waits_in, OwnsAlone, Sees}
 use Rattle.sdd_rule.specs.SlotSteps.{older, changed, OnEpoch, PublishesAll}
 use Rattle.sdd_rule.specs.Parts.{Parts}
+use Rattle.atomic_table.proofs.Lists.{set_again}
+use Rattle.sdd_rule.proofs.Frame.{each_set}
 use Rattle.sdd_rule.proofs.Sums.{total_map}
 use Rattle.sdd_rule.proofs.Lift.{blind}
 use Rattle.sdd_rule.specs.Ended.{AreEnded}
 use Rattle.sdd_rule.proofs.Ended.{Spares, one_spared, all_spared}
-use Rattle.sdd_homes.specs.Homes.{Moves, IsOut, HomesPart, Housed}
+use Rattle.sdd_homes.specs.Homes.{Homes, Moves, IsOut, HomesPart}
+use Rattle.sdd_homes.specs.Records.{RecordsPart}
+use Rattle.sdd_homes.specs.Housed.{Housed}
 use Rattle.sdd_homes.specs.HomeSteps.{Mine}
 use Rattle.sdd_homes.proofs.Part.{IsMover, before_slots}
 use Rattle.sdd_homes.proofs.Part as part
+use Rattle.sdd_homes.proofs.Records.{IsAlike}
+use Rattle.sdd_homes.proofs.Records as records
 
 -- what a step on the word i makes of the state, where y is in it then: what its participant knows of stakes, and what it takes or gives
 pub record Follows (γ : ℕ) (sizes : Sizes) (id i : ℕ) (me : Mine) (told : ℕ → Mine → Type 0) (s : State Stake View) (y : ℕ) (w : View) : Type 0 where
@@ -34,6 +41,7 @@ pub record Follows (γ : ℕ) (sizes : Sizes) (id i : ℕ) (me : Mine) (told : �
   pub act : Act Stake
   pub valid : Valid s.homes me.1 act
   pub homes : HomesPart γ sizes (set s.words i y) (set s.views id (record w { stakes = stakes })) (homes_after s.homes me.1 act)
+  pub records : RecordsPart sizes (set s.views id (record w { stakes = stakes })) (homes_after s.homes me.1 act)
   pub tells : told (get_or s.words i 0) (record w { stakes = stakes }, carried_after me.1 act)
 
 module _ (γ : ℕ) (sizes : Sizes) (slots id : ℕ) (me : Mine) (i : ℕ) (f : ℕ → ℕ) where
@@ -66,6 +74,7 @@ module _ (γ : ℕ) (sizes : Sizes) (slots id : ℕ) (me : Mine) (i : ℕ) (f : 
             };
           };
           homes = b.homes;
+          records = b.records;
         },
         b.tells,
       )
@@ -75,6 +84,7 @@ module _ (γ : ℕ) (sizes : Sizes) (slots id : ℕ) (me : Mine) (i : ℕ) (f : 
     pub more : (j p : ℕ) → IsOut me.0 j p → IsOut w j p
     pub same : (j : ℕ) → j < sizes.slots → full (slot_at sizes (set s.words i y) j) ≡ full (slot_at sizes s.words j)
     pub mover : IsMover w
+    pub alike : IsAlike me.0 w
 
   pub lift_calm : (then : ℕ → View → Type 0) (told : ℕ → Mine → Type 0) → Keeps then → Steps (Parts sizes) id me.0 i f then
       → ((r : ℕ) (w : View) → then r w → told r (w, me.1))
@@ -86,6 +96,7 @@ module _ (γ : ℕ) (sizes : Sizes) (slots id : ℕ) (me : Mine) (i : ℕ) (f : 
         act = keeps;
         valid = tt;
         homes = part.calm γ sizes s.words s.views s.homes h.homes id me.0 at (set s.words i y) w c.more c.same c.mover;
+        records = records.calm sizes s.views s.homes h.records id me.0 at w c.alike;
         tells = tells (get_or s.words i 0) w t;
       })
 
@@ -104,6 +115,7 @@ module _ (γ : ℕ) (sizes : Sizes) (slots id : ℕ) (me : Mine) (i : ℕ) (f : 
             (λ (o : Sees me.0 j × (me.0.epoch.place ≡ p)). inr (o.0, stays (get_or s.words i 0) e t.2 (own.guarded j o.0) ∙ o.1)) out;
         same = λ j _. ap full (before_slots sizes s.words i y j low);
         mover = λ j m. let o = h.homes.moving id me.0 j at m in (lives (get_or s.words i 0) e t.2 o.0 j m, o.1);
+        alike = (refl, refl, refl);
       })
 
 -- a publish may make each item that waits a change older, and leaves all else of slots
@@ -129,7 +141,7 @@ module _ (γ : ℕ) (sizes : Sizes) (slots : ℕ) where
       let movers : (j : ℕ) → Moves v j → HasPlace e × (OwnsAlone v j ⊎ (0 < items_at j v))
       = λ j m. ((stays e t.2).0, (h.homes.moving id v j at m).1) in
       subst (IsCalm γ sizes slots id me i (λ _. y) s y) (sym t.1) (changed_or_not v calm
-      record { more = more; same = same; mover = movers }
+      record { more = more; same = same; mover = movers; alike = (refl, refl, refl) }
       record {
         more = more;
         same = same;
@@ -138,4 +150,30 @@ module _ (γ : ℕ) (sizes : Sizes) (slots : ℕ) where
           ⊎_elim (λ (o : OwnsAlone v j). inl o)
               (λ (o : 0 < items_at j v). inr (let k = total_map (waits_in j) older (λ x. refl) v.slots.waits in omega arith)) (movers j m).1,
         );
+        alike = (refl, refl, refl);
       }))
+
+-- a step on no word
+module _ (γ : ℕ) (sizes : Sizes) (id : ℕ) (v : View) (s : State Stake View) (h : Housed γ sizes s) (at : get_elem? s.views id ≡ some v) where
+  pub stands : (w : View) → w.places ≡ v.places → Parts sizes s.words (set s.views id w) → (hs : Homes)
+      → HomesPart γ sizes s.words (set s.views id w) hs → RecordsPart sizes (set s.views id w) hs
+      → Housed γ sizes record { words = s.words; homes = hs; views = set s.views id w }
+  stands w same parts hs homes records = record {
+    kept = record {
+      parts = parts;
+      places = record {
+        wide = h.kept.places.wide;
+        ended = each_set (AreEnded sizes s.words) (AreEnded sizes s.words) s.views id w
+            (λ p low l. h.kept.places.ended id v at p low (subst (λ (x : PlacesView). p < x.ended) same l)) (λ j u _ e. h.kept.places.ended j u e);
+      };
+    };
+    homes = homes;
+    records = records;
+  }
+
+  -- which changes only what is known of stakes
+  pub stands_by : (t : StakesView) (hs : Homes) → HomesPart γ sizes s.words (set s.views id (record v { stakes = t })) hs
+      → RecordsPart sizes (set s.views id (record v { stakes = t })) hs
+      → Housed γ sizes record { words = s.words; homes = hs; views = set s.views id (record v { stakes = t }) }
+  stands_by t = stands (record v { stakes = t }) refl
+      (blind sizes s.words s.views id v v at (subst (Parts sizes s.words) (sym (set_again s.views id v at)) h.kept.parts) t)

@@ -1,5 +1,5 @@
 -- All stakes in a slot are taken from home in one step, and given home in one step.
-use Rattle.std.proofs.Common.{◌≡◌, ◌≢◌, ◌⊎◌, inl, inr, ℕ, zero, suc, ◌<◌, ◌≤◌, List, [], ◌∷◌, length, set, sym, refl, ap, ◌∙◌, subst, ⊎_elim, arith, length-set}
+use Rattle.std.proofs.Common.{◌≡◌, ◌≢◌, ◌⊎◌, inl, inr, ℕ, zero, suc, ◌<◌, ◌≤◌, List, [], ◌∷◌, map, length, set, sym, refl, ap, ◌∙◌, subst, ⊎_elim, arith, length-set}
 use mathlib.Core.Option.{none, some, some-injective, some-ne-none}
 use mathlib.Core.Logic.{dite}
 use native.Mathlib.Decide.{ℕ_discrete}
@@ -7,13 +7,15 @@ use lib.ListN.{get_elem?}
 use base.Stored.{Gv}
 use Rattle.atomic_table.proofs.Lists.{at_set, set_else, set_here}
 use Rattle.atomic_table.specs.Table.{Act, keeps, takes, gives, chain, homes_after, carried_after, Valid}
-use Rattle.sdd_stakes.specs.Shelf.{IsFull}
 use Rattle.sdd_stakes.specs.declared.stake.Stake.{Stake}
+use Rattle.sdd_rule.specs.declared.Showing.{Showing}
 use Rattle.sdd_rule.specs.Sums.{times}
-use Rattle.sdd_rule.proofs.Sums.{is_same}
+use Rattle.sdd_rule.proofs.Sums.{is_same, is_other}
 use Rattle.sdd_homes.specs.Homes.{Homes, Carries, stake_at, homes_for, share, Has, LiesAt, IsAtHome}
-use Rattle.sdd_homes.specs.HomeSteps.{HasRow, Purse}
-use Rattle.sdd_homes.proofs.Places.{inside, one_stake}
+use Rattle.sdd_homes.specs.HomeSteps.{HasRow, IsValue, Purse}
+use Rattle.sdd_homes.specs.Records.{slot_shown, IsIn}
+use Rattle.sdd_homes.proofs.Places.{inside, one_slot, one_stake}
+use Rattle.sdd_homes.proofs.Records.{in_head, in_tail}
 
 -- what lies somewhere lies there, or something else does, after it was put somewhere
 pub stays : (hs : Homes) (j k : ℕ) (y : Stake) → k < length hs → (z : Stake) × (get_elem? hs j ≡ some (some z))
@@ -47,6 +49,13 @@ module _ (γ n i : ℕ) (Is : Gv → Type 0) where
             dite (ℕ_discrete p k) (λ e. h.0 (ap (stake_at n i) e)) (λ ne. t.gone p z (omega arith) h.1))
             (at_set hs' spot (stake_at n i p) none (some z) at);
       }
+
+  -- once all are, what lies at home lay there before, and in another slot
+  pub taken_lies : (hs : Homes) (c : Carries) (t : Taken hs c (suc n)) (j p : ℕ) (y : Stake) → p ≤ n → LiesAt n (homes_after hs c t.act) j p y
+      → (j ≢ i) × LiesAt n hs j p y
+  taken_lies hs c t j p y near lies = dite (ℕ_discrete j i)
+      (λ e. absurd (t.gone p y (omega arith) (subst (λ (k : ℕ). LiesAt n (homes_after hs c t.act) k p y) e lies)))
+      (λ ne. (ne, sym (t.else (stake_at n j p) (λ q l e. ne (one_slot n j i p q near (omega arith) e))) ∙ lies))
 
   -- the first k of what a seat has go home, and it has the rest
   pub record Given (hs : Homes) (rest xs : Carries) (k : ℕ) : Type 0 where
@@ -94,20 +103,27 @@ module _ (γ n i : ℕ) (Is : Gv → Type 0) where
             ∙ set_else hs x.0 j (some x.1) (λ e. away k (omega arith) (e ∙ at_spot));
       }
 
+  -- once all have, what lies at home is one of these, or lay there before, in another slot
+  pub given_lies : (hs : Homes) (rest xs : Carries) (g : Given hs rest xs (suc n)) (j p : ℕ) (y : Stake) → p ≤ n
+      → LiesAt n (homes_after hs xs g.act) j p y → ((j ≡ i) × Has γ i (share n p) Is y) ⊎ ((j ≢ i) × LiesAt n hs j p y)
+  given_lies hs rest xs g j p y near lies = dite (ℕ_discrete j i)
+      (λ e. inl (e, g.home p y (omega arith) (subst (λ (k : ℕ). LiesAt n (homes_after hs xs g.act) k p y) e lies)))
+      (λ ne. inr (ne, sym (g.else (stake_at n j p) (λ q l e. ne (one_slot n j i p q near (omega arith) e))) ∙ lies))
+
 -- all that a guard has goes home
 module _ (γ n q m : ℕ) (near : q ≤ n) where
-  pub record AllGiven (slots : List ℕ) (hs : Homes) (xs : Carries) : Type 0 where
+  pub record AllGiven (records : List Showing) (hs : Homes) (xs : Carries) : Type 0 where
     pub act : Act Stake
     pub valid : Valid hs xs act
     pub carried : carried_after xs act ≡ []
     pub long : length (homes_after hs xs act) ≡ length hs
-    pub there : (i : ℕ) → 0 < times i slots → IsAtHome n (homes_after hs xs act) i q
+    pub there : (i : ℕ) → 0 < times i (map slot_shown records) → IsAtHome n (homes_after hs xs act) i q
     pub stay : (j : ℕ) → (y : Stake) × (get_elem? hs j ≡ some (some y)) → (y : Stake) × (get_elem? (homes_after hs xs act) j ≡ some (some y))
     pub home : (j : ℕ) (y : Stake) → get_elem? (homes_after hs xs act) j ≡ some (some y)
-        → ((i : ℕ) × (0 < times i slots) × (j ≡ stake_at n i q) × Has γ i 1 IsFull y) ⊎ (get_elem? hs j ≡ some (some y))
+        → ((i : ℕ) × (g : Gv) × IsIn records i g × (j ≡ stake_at n i q) × Has γ i 1 (IsValue g) y) ⊎ (get_elem? hs j ≡ some (some y))
 
-  pub gives_purse : (slots : List ℕ) → ((i : ℕ) → 0 < times i slots → i < m) → (hs : Homes) (xs : Carries) → length hs ≡ homes_for n m → Purse γ n q slots xs
-      → AllGiven slots hs xs
+  pub gives_purse : (records : List Showing) → ((i : ℕ) → 0 < times i (map slot_shown records) → i < m) → (hs : Homes) (xs : Carries)
+      → length hs ≡ homes_for n m → Purse γ n q records xs → AllGiven records hs xs
   gives_purse [] low hs [] deep purse = record {
     act = keeps;
     valid = tt;
@@ -118,11 +134,11 @@ module _ (γ n q m : ℕ) (near : q ≤ n) where
     home = λ j y at. inr at;
   }
   gives_purse [] low hs (x ∷ xs) deep purse = absurd purse
-  gives_purse (i ∷ slots) low hs [] deep purse = absurd purse
-  gives_purse (i ∷ slots) low hs (x ∷ xs) deep purse =
+  gives_purse (r ∷ records) low hs [] deep purse = absurd purse
+  gives_purse (r ∷ records) low hs (x ∷ xs) deep purse = let i : ℕ = r.slot in
       let hs' : Homes = set hs x.0 (some x.1) in let one = is_same i i refl in let at_spot : x.0 ≡ stake_at n i q = purse.0 in
       let within : x.0 < length hs = (let b = inside n m i q (low i (omega arith)) near in omega arith) in
-      let g = gives_purse slots (λ j has. low j (omega arith)) hs' xs (length-set hs x.0 (some x.1) ∙ deep) purse.2 in record {
+      let g = gives_purse records (λ j has. low j (omega arith)) hs' xs (length-set hs x.0 (some x.1) ∙ deep) purse.2 in record {
         act = chain gives g.act;
         valid = (tt, g.valid);
         carried = g.carried;
@@ -130,13 +146,19 @@ module _ (γ n q m : ℕ) (near : q ≤ n) where
         there = λ j has. dite (ℕ_discrete j i)
             (λ e. subst (λ (j : ℕ). IsAtHome n (homes_after hs' xs g.act) j q) (sym e)
             (g.stay (stake_at n i q) (x.1, ap (get_elem? hs') (sym at_spot) ∙ set_here hs x.0 (some x.1) within)))
-            (λ ne. g.there j (let o = Rattle.sdd_rule.proofs.Sums.is_other j i (λ e. ne (sym e)) in omega arith));
+            (λ ne. g.there j (let o = is_other j i (λ e. ne (sym e)) in omega arith));
         stay = λ j y. g.stay j (stays hs j x.0 x.1 within y);
         home = λ j y at. ⊎_elim
-            (λ (t : (k : ℕ) × (0 < times k slots) × (j ≡ stake_at n k q) × Has γ k 1 IsFull y). inl (t.0, (let h = t.1 in omega arith), t.2, t.3))
+            (λ (t : (k : ℕ) × (h : Gv) × IsIn records k h × (j ≡ stake_at n k q) × Has γ k 1 (IsValue h) y).
+            inl (t.0, t.1, in_tail r records t.0 t.1 t.2, t.3, t.4))
             (λ (t : get_elem? hs' j ≡ some (some y)). ⊎_elim
-            (λ (h : (j ≡ x.0) × (some x.1 ≡ some y)).
-            inl (i, (let a = one in omega arith), h.0 ∙ at_spot, subst (Has γ i 1 IsFull) (some-injective x.1 y h.1) purse.1))
+            (λ (h : (j ≡ x.0) × (some x.1 ≡ some y)). inl (
+              i,
+              r.value,
+              in_head r records i r.value refl refl,
+              h.0 ∙ at_spot,
+              subst (Has γ i 1 (IsValue r.value)) (some-injective x.1 y h.1) purse.1,
+            ))
             (λ (h : (j ≢ x.0) × (get_elem? hs j ≡ some (some y))). inr h.1)
             (at_set hs x.0 j (some x.1) (some y) t))
             (g.home j y at);

@@ -1,5 +1,5 @@
 -- The steps that take stakes from home or give them, and the other steps on slots
-use Rattle.std.proofs.Common.{◌≡◌, ◌≢◌, ◌⊎◌, inl, inr, ℕ, suc, ◌<◌, ◌≤◌, eqb, List, ◌∷◌, length, get_or, set, sym, refl, ap, ◌∙◌, subst, ⊎_elim, arith, get_or-set_same}
+use Rattle.std.proofs.Common.{◌≡◌, ◌≢◌, ◌⊎◌, inl, inr, ℕ, suc, ◌<◌, ◌≤◌, eqb, List, [], ◌∷◌, map, length, get_or, set, sym, refl, ap, ◌∙◌, subst, ⊎_elim, arith, get_or-set_same}
 use mathlib.Core.Option.{none, some, some-injective}
 use mathlib.Core.Logic.{dite}
 use native.Mathlib.Decide.{ℕ_discrete, dec_lt}
@@ -9,10 +9,12 @@ use lib.Seq.{set-get_or}
 use prog.Atomic.{either}
 use base.Stored.{Gv}
 use Rattle.std.proofs.lemmas.List.{get_or_past}
-use Rattle.atomic_table.specs.Table.{State, keeps, takes, Allows, carried_after}
+use Rattle.atomic_table.specs.Table.{State, Act, keeps, takes, Valid, Allows, carried_after, homes_after}
 use Rattle.atomic_table.proofs.Lists.{at_map, exchanged}
 use Rattle.sdd_stakes.specs.Shelf.{IsFull, IsVacant}
 use Rattle.sdd_stakes.specs.declared.stake.Stake.{Stake}
+use Rattle.sdd_rule.specs.declared.Showing.{Showing}
+use Rattle.sdd_rule.specs.declared.StakesView.{StakesView}
 use Rattle.sdd_rule.specs.declared.WaitingItem.{WaitingItem}
 use Rattle.sdd_rule.specs.declared.View.{View}
 use Rattle.sdd_rule.specs.declared.Sizes.{Sizes}
@@ -22,7 +24,7 @@ use Rattle.sdd_rule.specs.Epoch.{HasPlace, IsOpen, Scans}
 use Rattle.sdd_rule.specs.Steps.{Steps}
 use Rattle.sdd_rule.specs.Sums.{times}
 use Rattle.sdd_rule.specs.Slots.{slot_at, owners_at, items_at, OwnsAlone, Sees, Holds}
-use Rattle.sdd_rule.specs.SlotSteps.{claimed, given_back, discarded, seeing, AtSlot, Claims, Retires, GivesBack, LooksAtSlot, Watches, TakesHold, LetsGo, Discards, LooksForGuard, ClosesAll, IsDue}
+use Rattle.sdd_rule.specs.SlotSteps.{without, claimed, retired, given_back, discarded, seeing, AtSlot, Claims, Retires, GivesBack, LooksAtSlot, TakesHold, LetsGo, Discards, LooksForGuard, ClosesAll, IsDue}
 use Rattle.sdd_rule.specs.Parts.{epoch_of}
 use Rattle.sdd_rule.specs.Ended.{AreEnded, past, Bars}
 use Rattle.sdd_rule.proofs.Ended.{Spares, one_spared}
@@ -32,16 +34,23 @@ use Rattle.sdd_rule.proofs.EpochSteps as over
 use Rattle.sdd_rule.proofs.SlotSteps as steps
 use Rattle.sdd_rule.proofs.Owning as owning
 use Rattle.sdd_rule.proofs.Holding as holding
+use Rattle.sdd_rule.proofs.Lift.{blind}
 use Rattle.sdd_rule.proofs.SlotWords.{owner_in, owners_in}
-use Rattle.sdd_rule.proofs.Sums.{is_same, total_has, total_two}
+use Rattle.sdd_rule.proofs.Sums.{is_same, is_other, without_same, without_other, total_has, total_two}
 use Rattle.sdd_rule.proofs.Waits.{waits_once}
-use Rattle.sdd_homes.specs.Homes.{Carries, stake_at, Has, IsShown, Moves, NoneOut, HomesPart, Housed}
-use Rattle.sdd_homes.specs.HomeSteps.{Mine, HasAll, Purse, moving, resting, ClaimsAll, Houses, TakesOut, GivesAll, DiscardsAll, WatchesBy, ClosesHome, OfSlot}
-use Rattle.sdd_homes.proofs.Part.{IsMover, of_another, before_slots}
+use Rattle.sdd_homes.specs.Alone.{AllowsAlone, AllowsBeside, moved}
+use Rattle.sdd_homes.specs.Homes.{Carries, stake_at, share, Has, IsShown, Moves, NoneOut, LiesAt, HomesPart}
+use Rattle.sdd_homes.specs.Housed.{Housed}
+use Rattle.sdd_homes.specs.HomeSteps.{Mine, HasAll, IsValue, Purse, moving, resting, telling, untold, sighting, unsighted, ClaimsAll, Houses, TakesOut, TakesHeld, RetiresOne, GivesAll, DiscardsAll, Watches, ClosesHome, OfSlot}
+use Rattle.sdd_homes.specs.Records.{slot_shown, IsIn, KnowsShown, IsKnown, IsTelling, RecordsPart}
+use Rattle.sdd_homes.proofs.Part.{IsMover, of_another, before_slots, one_taken}
 use Rattle.sdd_homes.proofs.Part as part
-use Rattle.sdd_homes.proofs.Rows.{Taken, takes_row, gives_row, gives_purse}
+use Rattle.sdd_homes.proofs.Places.{one_slot}
+use Rattle.sdd_homes.proofs.Records.{in_head, in_tail, in_either, in_none, told_seen}
+use Rattle.sdd_homes.proofs.Records as records
+use Rattle.sdd_homes.proofs.Rows.{Taken, Given, takes_row, gives_row, gives_purse, taken_lies, given_lies}
 use Rattle.sdd_homes.proofs.Tops.{rest_is, share_one}
-use Rattle.sdd_homes.proofs.Lift.{Keeps, Follows, IsCalm, keeps_ended, lift_homes, lift_calm}
+use Rattle.sdd_homes.proofs.Lift.{Keeps, Follows, IsCalm, keeps_ended, lift_homes, lift_calm, stands, stands_by}
 
 one_moved : (v : View) (i j : ℕ) → Moves v i → Moves v j → j ≡ i
 one_moved v i j m m' = let e : Some i ≡ Some j = sym m ∙ m' in cc
@@ -82,6 +91,121 @@ module _ (γ : ℕ) (sizes : Sizes) (s : State Stake View) (h : Housed γ sizes 
       (λ (o : 0 < items_at i u). let both = total_two (items_at i) s.views id j v u ne at e in absurd (omega arith))
       (h.homes.moving j u i e m).1
 
+-- one seat has one view
+pub one_view : (vs : List View) (id j : ℕ) (u v : View) → get_elem? vs j ≡ some u → get_elem? vs id ≡ some v → j ≡ id → u ≡ v
+one_view vs id j u v e at same = some-injective u v (sym e ∙ (ap (get_elem? vs) same ∙ at))
+
+-- ---- what a participant that takes a step knows of what slots show
+module _ (v : View) (t : IsTelling v) (slot : ℕ) where
+  -- it claims a slot
+  claimed_tells : v.stakes.moves ≡ None → ¬ (OwnsAlone v slot) → (y : ℕ) → IsTelling (moving slot (claimed slot y v))
+  claimed_tells rests none y = let w : View = moving slot (claimed slot y v) in record {
+    owns = λ i g h. let o = (t.owns i g h).0 in (
+      let l : OwnsAlone w i = omega arith in l,
+      λ m. none (subst (OwnsAlone v) (one_moved w slot i refl m) o),
+    );
+    owned = λ i o still. dite (ℕ_discrete i slot) (λ e. absurd (still (ap Some (sym e))))
+        (λ ne. t.owned i (let q = is_other i slot (λ e. ne (sym e)) in omega arith) (none_moved v i rests));
+    sees = t.sees;
+  }
+
+  -- it moves the value of a slot whose only owner it hasn't
+  moving_tells : v.stakes.moves ≡ None → ¬ (OwnsAlone v slot) → IsTelling (moving slot v)
+  moving_tells rests none = record {
+    owns = λ i g h. let o = (t.owns i g h).0 in (o, λ m. none (subst (OwnsAlone v) (one_moved (moving slot v) slot i refl m) o));
+    owned = λ i o still. t.owned i o (none_moved v i rests);
+    sees = t.sees;
+  }
+
+  -- it owns this one alone, and no other
+  module _ (owns : v.slots.owns ≡ slot ∷ []) where
+    pub owns_it : OwnsAlone v slot
+    owns_it = let e = ap (times slot) owns in let o = is_same slot slot refl in omega arith
+
+    pub owns_no_more : (i : ℕ) → i ≢ slot → times i v.slots.owns ≡ 0
+    owns_no_more i ne = let e = ap (times i) owns in let o = is_other i slot (λ e. ne (sym e)) in omega arith
+
+    held_tells : IsTelling (moving slot (untold v))
+    held_tells = record {
+      owns = λ i g h. absurd (in_none i g h);
+      owned = λ i o still. dite (ℕ_discrete i slot) (λ e. absurd (still (ap Some (sym e)))) (λ ne. absurd (let z = owns_no_more i ne in omega arith));
+      sees = t.sees;
+    }
+
+    retired_tells : (y count : ℕ) → IsTelling (untold (retired slot y count v))
+    retired_tells y count = record {
+      owns = λ i g h. absurd (in_none i g h);
+      owned = λ i o still. dite (ℕ_discrete i slot)
+          (λ e. absurd (let z = without_same slot v.slots.owns in let c = ap (λ (k : ℕ). times k (without slot v.slots.owns)) e in omega arith))
+          (λ ne. absurd (let z = owns_no_more i ne in let c = without_other slot i ne v.slots.owns in omega arith));
+      sees = t.sees;
+    }
+
+  module _ (mine : Moves v slot) where
+    -- a value was moved in
+    housed_tells : OwnsAlone v slot → (value : Gv) → IsTelling (resting (telling slot value v))
+    housed_tells own value = let r : Showing = record { slot = slot; value = value } in let w : View = resting (telling slot value v) in record {
+      owns = λ i g h. (
+        ⊎_elim (λ (e : (slot ≡ i) × (value ≡ g)). subst (OwnsAlone v) e.0 own) (λ (k : IsIn v.stakes.owns i g). (t.owns i g k).0) (in_either r v.stakes.owns i g h),
+        none_moved w i refl,
+      );
+      owned = λ i o still. dite (ℕ_discrete slot i) (λ e. (value, in_head r v.stakes.owns i value e refl))
+          (λ ne. let b = t.owned i o (λ m. ne (sym (one_moved v slot i mine m))) in (b.0, in_tail r v.stakes.owns i b.0 b.1));
+      sees = t.sees;
+    }
+
+    -- a value was moved out
+    rested_tells : (w : View) → w.stakes ≡ record v.stakes { moves = None } → ((i : ℕ) → i ≢ slot → times i w.slots.owns ≡ times i v.slots.owns)
+        → ¬ (OwnsAlone w slot) → w.slots.sees ≡ v.slots.sees → IsTelling w
+    rested_tells w is same none seen = record {
+      owns = λ i g h. let o = t.owns i g (subst (λ (k : StakesView). IsIn k.owns i g) is h) in let b = o.0 in
+          let e = same i (λ e. o.1 (mine ∙ ap Some (sym e))) in (
+            let l : OwnsAlone w i = omega arith in l,
+            none_moved w i (ap (λ (k : StakesView). k.moves) is),
+          );
+      owned = λ i o still. dite (ℕ_discrete i slot) (λ e. absurd (none (subst (OwnsAlone w) e o)))
+          (λ ne. let e = same i ne in let b = t.owned i (omega arith) (λ m. ne (one_moved v slot i mine m)) in
+          (b.0, subst (λ (k : StakesView). IsIn k.owns i b.0) (sym is) b.1));
+      sees = ap (λ (k : StakesView). map slot_shown k.sees) is ∙ (t.sees ∙ sym seen);
+    }
+
+-- ---- all of them
+module _ (γ : ℕ) (sizes : Sizes) (s : State Stake View) (h : Housed γ sizes s) (i id : ℕ) (v : View) (at : get_elem? s.views id ≡ some v) where
+  -- where one has the only owner of a slot, none else has
+  sole : OwnsAlone v i → (j : ℕ) (u : View) → get_elem? s.views j ≡ some u → OwnsAlone u i → j ≡ id
+  sole own j u e o = dite (ℕ_discrete j id) (λ same. same)
+      (λ ne. let a = ((h.kept.parts.slots.each id v at).alone i own).0 in
+      let both = owners_in codes sound sizes s.words s.views h.kept.parts.slots j id i u v ne e at in absurd (omega arith))
+
+  -- while an item waits, none has
+  none_owns : 0 < items_at i v → (j : ℕ) (u : View) → get_elem? s.views j ≡ some u → ¬ (OwnsAlone u i)
+  none_owns waits j u e o = let t = total_has (items_at i) s.views id v at in let w = h.kept.parts.slots.waited i in
+      let a = ((h.kept.parts.slots.each j u e).alone i o).0 in let l = (sound.lives (slot_at sizes s.words i) (omega arith)).0 in absurd (omega arith)
+
+  -- nobody knows what a slot shows whose value is moved
+  unknown_owned : Moves v i → OwnsAlone v i → (g : Gv) → ¬ (IsKnown s.views i g)
+  unknown_owned mine own = records.unknown sizes s.views s.homes h.records i (λ j u e. h.records.apart id j v u i at e mine)
+      (λ j u e o. subst (λ (x : View). Moves x i) (sym (one_view s.views id j u v e at (sole own j u e o))) mine)
+
+  unknown_waiting : Moves v i → 0 < items_at i v → (g : Gv) → ¬ (IsKnown s.views i g)
+  unknown_waiting mine waits = records.unknown sizes s.views s.homes h.records i (λ j u e. h.records.apart id j v u i at e mine)
+      (λ j u e o. absurd (none_owns waits j u e o))
+
+  -- all stakes in a slot of which nobody knows come home
+  pub comes_home : (Is : Gv → Type 0) (rest xs : Carries) (g : Given γ sizes.participants i Is s.homes rest xs (suc sizes.participants))
+      → ((g : Gv) → ¬ (IsKnown s.views i g)) → (w : View) → IsTelling w → w.stakes ≡ record v.stakes { moves = None } → w.slots.sees ≡ v.slots.sees
+      → RecordsPart sizes (set s.views id w) (homes_after s.homes xs g.act)
+  comes_home Is rest xs g none w tells is seen = let n : ℕ = sizes.participants in
+      records.no_more sizes s.views s.homes h.records id v at w (homes_after s.homes xs g.act) tells
+      (λ k g' a. records.mine sizes s.views s.homes h.records id v at k g' (⊎_elim
+      (λ (b : IsIn w.stakes.owns k g'). inl (subst (λ (x : StakesView). IsIn x.owns k g') is b))
+      (λ (b : IsIn w.stakes.sees k g'). inr (subst (λ (x : StakesView). IsIn x.sees k g') is b)) a))
+      (λ j p y low near lies. ⊎_elim
+      (λ (b : (j ≡ i) × Has γ i (share n p) Is y). inr (λ g' a. absurd (none g' (subst (λ (k : ℕ). IsKnown s.views k g') b.0 a))))
+      (λ (b : (j ≢ i) × LiesAt n s.homes j p y). inl b.1) (given_lies γ n i Is s.homes rest xs g j p y near lies))
+      (λ k m. absurd (none_moved w k (ap (λ (x : StakesView). x.moves) is) m))
+      (λ k a. subst (λ (l : List ℕ). 0 < times k l) seen a)
+
 -- the own place hasn't ended
 pub own_place : (γ : ℕ) (sizes : Sizes) (id : ℕ) (v : View) → HasPlace v.epoch → (y : ℕ) (s : State Stake View) → Housed γ sizes s
     → get_elem? s.views id ≡ some v → Spares sizes s.words (state_word v.epoch.place) y
@@ -103,6 +227,9 @@ module _ (slots id : ℕ) (me : Mine) (live : HasPlace me.0.epoch) where
 
   abbrev pub May : ℕ → (ℕ → ℕ) → (ℕ → Mine → Type 0) → Type 0
   May = Allows (Housed γ sizes) slots id me
+
+  abbrev pub MayAlone : (Mine → Type 0) → Type 0
+  MayAlone = AllowsAlone (Housed γ sizes) slots id me
 
   module _ (slot : ℕ) (inside : slot < sizes.slots) where
     abbrev i : ℕ
@@ -172,6 +299,12 @@ module _ (slots id : ℕ) (me : Mine) (live : HasPlace me.0.epoch) where
               (others s.words (owned_word 0))
               (λ j m. let e : j ≡ slot = one_moved (moving slot now) slot j refl m in let one = is_same slot slot refl in
               (live, inl (subst (λ (k : ℕ). 0 < times k (slot ∷ v.slots.owns)) (sym e) (omega arith))));
+          records = records.comes_to_move sizes s.views s.homes h.records id v at slot (moving slot now) (homes_after s.homes me.1 tk.act)
+              (claimed_tells v (h.records.each id v at) slot rests
+              (λ o. let a = ((h.kept.parts.slots.each id v at).alone slot o).0 in omega arith) (owned_word 0))
+              (records.mine sizes s.views s.homes h.records id v at)
+              (λ j p y _ near l. (taken_lies γ n slot IsVacant s.homes me.1 tk j p y near l).1) refl (λ j m. one_moved (moving slot now) slot j refl m)
+              (owning.fresh codes sound sizes s.words s.views h.kept.parts.slots id v at slot empty);
           tells = at_once (λ slot. ClaimsAll slot (free_word 0) (owned_word 0)) x (moving slot now, carried_after me.1 tk.act)
               ((λ _. (refl, tk.row)), (λ no. absurd (no hit)), c.2);
         })
@@ -181,53 +314,81 @@ module _ (slots id : ℕ) (me : Mine) (live : HasPlace me.0.epoch) where
           valid = tt;
           homes = part.calm γ sizes s.words s.views s.homes h.homes id v at (set s.words i x) v (λ j p out. out) (λ j _. same_words s h j)
               (λ j m. h.homes.moving id v j at m);
+          records = records.calm sizes s.views s.homes h.records id v at v (refl, refl, refl);
           tells = at_once (λ slot. ClaimsAll slot (free_word 0) (owned_word 0)) x me ((λ hit. absurd (miss hit)), (λ _. refl), c.2);
         }))
 
     -- a value was moved in
-    pub houses : Moves v slot → OwnsAlone v slot → (rest : Carries) → HasAll γ slot n IsFull rest me.1 → May i (λ x. x) (OfSlot Houses i me)
-    houses mine own rest row = let told : ℕ → Mine → Type 0 = OfSlot Houses i me in
-        lift_homes γ sizes slots id me i (λ x. x) (AtSlot LooksAtSlot i v) told look_keeps (steps.looks_at id v live slot)
-        (λ s w h at t. let x : ℕ = get_or s.words i 0 in let c = t slot refl in
-        let g = gives_row γ n slot IsFull sizes.slots inside (suc n) (omega arith) s.homes rest me.1 h.homes.deep row in
-        let one = ((h.kept.parts.slots.each id v at).alone slot own).0 in let filled = full_owned x (omega arith) in
-        subst (Follows γ sizes id i me told s x) (sym c.0) record {
-          stakes = record v.stakes { moves = None };
-          act = g.act;
-          valid = g.valid;
-          homes = part.gives γ sizes s.words s.views s.homes h.homes id v at slot IsFull rest me.1 g (set s.words i x) (resting v)
-              (λ g full. (λ _. full, λ e. let f = same_words s h slot in absurd (omega arith)))
+    pub houses : Moves v slot → OwnsAlone v slot → (value : Gv) (rest : Carries) → HasAll γ slot n (IsValue value) rest me.1 → MayAlone (Houses slot value me)
+    houses mine own value rest row s h _ at = let w : View = resting (telling slot value v) in let r : Showing = record { slot = slot; value = value } in
+        let g = gives_row γ n slot (IsValue value) sizes.slots inside (suc n) (omega arith) s.homes rest me.1 h.homes.deep row in
+        let one = ((h.kept.parts.slots.each id v at).alone slot own).0 in let filled = full_owned (slot_at sizes s.words slot) (omega arith) in
+        let known = records.mine sizes s.views s.homes h.records id v at in (
+          w,
+          g.act,
+          g.valid,
+          stands_by γ sizes id v s h at w.stakes (homes_after s.homes me.1 g.act)
+              (part.gives γ sizes s.words s.views s.homes h.homes id v at slot (IsValue value) rest me.1 g s.words w
+              (λ g so. (λ _. so.0, λ e. absurd (omega arith)))
               (λ j p ne out. ⊎_elim (λ (m : Moves v j). absurd (ne (one_moved v slot j mine m))) (λ (o : Sees v j × (v.epoch.place ≡ p)). inr o) out)
-              (λ j _ _. same_words s h j)
-              (λ j m. absurd (none_moved (resting v) j refl m));
-          tells = at_once Houses x (resting v, carried_after me.1 g.act)
-              (refl, g.carried ∙ sym (rest_is γ slot n IsFull rest (suc n) me.1 row), c.1);
-        })
+              (λ j _ _. refl) (λ j m. absurd (none_moved w j refl m)))
+              (records.comes_to_know sizes s.views s.homes h.records id v at slot value w (homes_after s.homes me.1 g.act)
+              (housed_tells v (h.records.each id v at) slot mine own value) (unknown_owned γ sizes s h slot id v at mine own)
+              (λ i g k. ⊎_elim
+              (λ (a : IsIn (r ∷ v.stakes.owns) i g). ⊎_elim (λ (e : (slot ≡ i) × (value ≡ g)). inl (sym e.0, sym e.1))
+              (λ (b : IsIn v.stakes.owns i g). inr (known i g (inl b))) (in_either r v.stakes.owns i g a))
+              (λ (a : IsIn v.stakes.sees i g). inr (known i g (inr a))) k)
+              (λ j p y _ near lies. ⊎_elim (λ (b : (j ≡ slot) × Has γ slot (share n p) (IsValue value) y). inl (b.0, b.1.1.1))
+              (λ (b : (j ≢ slot) × LiesAt n s.homes j p y). inr b) (given_lies γ n slot (IsValue value) s.homes rest me.1 g j p y near lies))
+              (λ j. none_moved w j refl) (λ j a. a)),
+          (refl, g.carried ∙ sym (rest_is γ slot n (IsValue value) rest (suc n) me.1 row)),
+        )
+
+    -- where nobody sees a slot, and its value may be moved out by this one alone, all stakes in it are taken
+    moves_out : (s : State Stake View) (h : Housed γ sizes s) → get_elem? s.views id ≡ some v → v.stakes.moves ≡ None
+        → full (slot_at sizes s.words slot) ≡ 1 → OwnsAlone v slot ⊎ (0 < items_at slot v)
+        → ((j : ℕ) (u : View) → get_elem? s.views j ≡ some u → ¬ (Sees u slot))
+        → ((j : ℕ) (u : View) → get_elem? s.views j ≡ some u → id ≢ j → ¬ (Moves u slot))
+        → (t : StakesView) → t.moves ≡ Some slot → IsTelling (record v { stakes = t })
+        → ((j : ℕ) (g : Gv) → KnowsShown (record v { stakes = t }) j g → KnowsShown v j g)
+        → (w : View) × (a : Act Stake) × Valid s.homes me.1 a
+        × Housed γ sizes (moved s id me.1 w a) × (w ≡ record v { stakes = t }) × HasAll γ slot n IsFull me.1 (carried_after me.1 a)
+    moves_out s h at rests filled may unseen still t is tells known = let w : View = record v { stakes = t } in
+        let tk = all_taken s h IsFull (λ g sh. sh.0 filled) (λ j u e. (
+          unseen j u e,
+          (λ m. dite (ℕ_discrete id j)
+              (λ same. none_moved v slot rests (subst (λ (z : View). Moves z slot) (one_view s.views id j u v e at (sym same)) m))
+              (λ ne. still j u e ne m)),
+        )) in (
+          w,
+          tk.act,
+          tk.valid,
+          stands_by γ sizes id v s h at t (homes_after s.homes me.1 tk.act)
+              (part.takes γ sizes s.words s.views s.homes h.homes id v at slot IsFull me.1 tk s.words w is
+              (λ j p ne out. ⊎_elim (λ (m : Moves v j). absurd (none_moved v j rests m)) (λ (o : Sees v j × (v.epoch.place ≡ p)). inr o) out)
+              (λ j _ _. refl)
+              (λ j m. let e : slot ≡ j = sym (one_moved w slot j is m) in
+              (live, subst (λ (k : ℕ). OwnsAlone v k ⊎ (0 < items_at k v)) e may)))
+              (records.comes_to_move sizes s.views s.homes h.records id v at slot w (homes_after s.homes me.1 tk.act) tells
+              (λ j g k. records.mine sizes s.views s.homes h.records id v at j g (known j g k))
+              (λ j p y _ near l. (taken_lies γ n slot IsFull s.homes me.1 tk j p y near l).1) refl (λ j m. one_moved w slot j is m) unseen),
+          refl,
+          tk.row,
+        )
 
     -- the value of an item that is due is to be moved out
-    pub takes_out : v.stakes.moves ≡ None → IsDue v slot → May i (λ x. x) (OfSlot TakesOut i me)
-    takes_out rests due = let told : ℕ → Mine → Type 0 = OfSlot TakesOut i me in let k : ℕ = due.0 in let item : WaitingItem = due.1 in
-        lift_homes γ sizes slots id me i (λ x. x) (AtSlot LooksAtSlot i v) told look_keeps (steps.looks_at id v live slot)
-        (λ s w h at t. let x : ℕ = get_or s.words i 0 in let c = t slot refl in let p = h.kept.parts in
+    pub takes_out : v.stakes.moves ≡ None → IsDue v slot → MayAlone (TakesOut slot me)
+    takes_out rests due s h _ at = let k : ℕ = due.0 in let item : WaitingItem = due.1 in let p = h.kept.parts in
         let once = waits_once codes sound sizes s.words s.views p.slots id v at slot k item due.2 due.3 in
+        let waits : 0 < items_at slot v = omega arith in
         let here_waits = total_has (items_at slot) s.views id v at in let sum = p.slots.waited slot in
-        let filled = (sound.waits x (omega arith)).1 in
-        let tk = all_taken s h IsFull (λ g sh. sh.0 filled) (λ j u e. (
-          (λ sees. owning.unseen codes sound sizes s.words s.views p.slots id v at p.epoch k item due.2 due.4 j u e (subst (Sees u) (sym due.3) sees)),
-          (λ m. dite (ℕ_discrete id j)
-              (λ same. none_moved v slot rests (subst (λ (z : View). Moves z slot) (some-injective u v (sym e ∙ (ap (get_elem? s.views) (sym same) ∙ at))) m))
-              (λ ne. still_waiting γ sizes s h slot id j v u at e ne (omega arith) m)),
-        )) in
-        subst (Follows γ sizes id i me told s x) (sym c.0) record {
-          stakes = record v.stakes { moves = Some slot };
-          act = tk.act;
-          valid = tk.valid;
-          homes = part.takes γ sizes s.words s.views s.homes h.homes id v at slot IsFull me.1 tk (set s.words i x) (moving slot v) refl
-              (λ j p ne out. ⊎_elim (λ (m : Moves v j). absurd (none_moved v j rests m)) (λ (o : Sees v j × (v.epoch.place ≡ p)). inr o) out)
-              (λ j _ _. same_words s h j)
-              (λ j m. let e : j ≡ slot = one_moved (moving slot v) slot j refl m in (live, inr (subst (λ (k : ℕ). 0 < items_at k v) (sym e) (omega arith))));
-          tells = at_once TakesOut x (moving slot v, carried_after me.1 tk.act) (refl, tk.row, c.1);
-        })
+        let filled = (sound.waits (slot_at sizes s.words slot) (omega arith)).1 in
+        let m = moves_out s h at rests filled (inr waits)
+        (λ j u e sees. owning.unseen codes sound sizes s.words s.views p.slots id v at p.epoch k item due.2 due.4 j u e (subst (Sees u) (sym due.3) sees))
+        (λ j u e ne m. still_waiting γ sizes s h slot id j v u at e ne waits m)
+        (record v.stakes { moves = Some slot }) refl
+        (moving_tells v (h.records.each id v at) slot rests (none_owns γ sizes s h slot id v at waits id v at)) (λ j g k. k) in
+        (m.0, m.1, m.2, m.3, (m.4, m.5))
 
     -- it was moved out
     pub gives_all : Moves v slot → IsDue v slot → (rest : Carries) → HasAll γ slot n IsVacant rest me.1
@@ -248,32 +409,24 @@ module _ (slots id : ℕ) (me : Mine) (live : HasPlace me.0.epoch) where
               (λ j p ne out. ⊎_elim (λ (m : Moves v j). absurd (ne (one_moved v slot j mine m))) (λ (o : Sees v j × (v.epoch.place ≡ p)). inr o) out)
               (others s.words y)
               (λ j m. absurd (none_moved (resting now) j refl m));
+          records = let waits : 0 < items_at slot v = (let once = c.1 in omega arith) in
+              comes_home γ sizes s h slot id v at IsVacant rest me.1 g (unknown_waiting γ sizes s h slot id v at mine waits) (resting now)
+              (rested_tells v (h.records.each id v at) slot mine (resting now) refl (λ _ _. refl) (none_owns γ sizes s h slot id v at waits id v at) refl)
+              refl refl;
           tells = at_once GivesAll y (resting now, carried_after me.1 g.act)
               (now, (refl, c.1), refl, g.carried ∙ sym (rest_is γ slot n IsVacant rest (suc n) me.1 row));
         })
 
     -- the value of an item whose slot is held is to be moved out, after a look at each place
-    pub takes_held : v.stakes.moves ≡ None → Holds v slot → n ≤ v.slots.looked → May i (λ x. x) (OfSlot TakesOut i me)
-    takes_held rests held all = let told : ℕ → Mine → Type 0 = OfSlot TakesOut i me in
-        lift_homes γ sizes slots id me i (λ x. x) (AtSlot LooksAtSlot i v) told look_keeps (steps.looks_at id v live slot)
-        (λ s w h at t. let x : ℕ = get_or s.words i 0 in let c = t slot refl in let p = h.kept.parts in let f = p.slots.each id v at in
-        let own = f.held slot held in let one = (f.alone slot own).0 in let filled = full_owned x (omega arith) in
-        let tk = all_taken s h IsFull (λ g sh. sh.0 filled) (λ j u e. (
-          holding.unseen_held codes sound sizes s.words s.views p.slots id v at p.epoch slot held all j u e,
-          (λ m. dite (ℕ_discrete id j)
-              (λ same. none_moved v slot rests (subst (λ (z : View). Moves z slot) (some-injective u v (sym e ∙ (ap (get_elem? s.views) (sym same) ∙ at))) m))
-              (λ ne. still_owned γ sizes s h slot id j v u at e ne (omega arith) m)),
-        )) in
-        subst (Follows γ sizes id i me told s x) (sym c.0) record {
-          stakes = record v.stakes { moves = Some slot };
-          act = tk.act;
-          valid = tk.valid;
-          homes = part.takes γ sizes s.words s.views s.homes h.homes id v at slot IsFull me.1 tk (set s.words i x) (moving slot v) refl
-              (λ j p ne out. ⊎_elim (λ (m : Moves v j). absurd (none_moved v j rests m)) (λ (o : Sees v j × (v.epoch.place ≡ p)). inr o) out)
-              (λ j _ _. same_words s h j)
-              (λ j m. let e : j ≡ slot = one_moved (moving slot v) slot j refl m in (live, inl (subst (OwnsAlone v) (sym e) own)));
-          tells = at_once TakesOut x (moving slot v, carried_after me.1 tk.act) (refl, tk.row, c.1);
-        })
+    pub takes_held : v.stakes.moves ≡ None → v.slots.owns ≡ slot ∷ [] → Holds v slot → n ≤ v.slots.looked → MayAlone (TakesHeld slot me)
+    takes_held rests owns held all s h _ at = let p = h.kept.parts in let tells = h.records.each id v at in
+        let own = owns_it v tells slot owns in let one = ((p.slots.each id v at).alone slot own).0 in
+        let m = moves_out s h at rests (full_owned (slot_at sizes s.words slot) (omega arith)) (inl own)
+        (holding.unseen_held codes sound sizes s.words s.views p.slots id v at p.epoch slot held all)
+        (λ j u e ne m. still_owned γ sizes s h slot id j v u at e ne (omega arith) m)
+        (record v.stakes { moves = Some slot; owns = [] }) refl (held_tells v tells slot owns)
+        (λ j g k. ⊎_elim (λ (a : IsIn [] j g). absurd (in_none j g a)) (λ (a : IsIn v.stakes.sees j g). inr a) k) in
+        (m.0, m.1, m.2, m.3, (m.4, m.5))
 
     -- it has gone
     pub discards : Moves v slot → Holds v slot → n ≤ v.slots.looked → (rest : Carries) → HasAll γ slot n IsVacant rest me.1
@@ -294,6 +447,11 @@ module _ (slots id : ℕ) (me : Mine) (live : HasPlace me.0.epoch) where
               (λ j p ne out. ⊎_elim (λ (m : Moves v j). absurd (ne (one_moved v slot j mine m))) (λ (o : Sees v j × (v.epoch.place ≡ p)). inr o) out)
               (others s.words y)
               (λ j m. absurd (none_moved (resting now) j refl m));
+          records = let own = (h.kept.parts.slots.each id v at).held slot held in
+              comes_home γ sizes s h slot id v at IsVacant rest me.1 g (unknown_owned γ sizes s h slot id v at mine own) (resting now)
+              (rested_tells v (h.records.each id v at) slot mine (resting now) refl (λ i ne. without_other slot i ne v.slots.owns)
+              (λ o. let z = without_same slot v.slots.owns in omega arith) refl)
+              refl refl;
           tells = at_once DiscardsAll y (resting now, carried_after me.1 g.act)
               (refl, g.carried ∙ sym (rest_is γ slot n IsVacant rest (suc n) me.1 row));
         })
@@ -303,66 +461,97 @@ module _ (slots id : ℕ) (me : Mine) (live : HasPlace me.0.epoch) where
     looks = lift_calm γ sizes slots id me i (λ x. x) (AtSlot LooksAtSlot i v) (λ r me'. (me'.1 ≡ me.1) × AtSlot LooksAtSlot i v r me'.0)
         look_keeps (steps.looks_at id v live slot) (λ r w t. (refl, t))
         (λ s w h at t. subst (IsCalm γ sizes slots id me i (λ x. x) s (get_or s.words i 0)) (sym (t slot refl).0)
-        record { more = λ j p out. out; same = λ j _. same_words s h j; mover = λ j m. h.homes.moving id v j at m })
+        record { more = λ j p out. out; same = λ j _. same_words s h j; mover = λ j m. h.homes.moving id v j at m; alike = (refl, refl, refl) })
 
     -- retire the item
-    pub retires : OwnsAlone v slot → ¬ (Holds v slot) → v.stakes.moves ≡ None
-        → May i (λ _. waiting_word 0) (λ _ me'. (me'.1 ≡ me.1) × AtSlot Retires i v (waiting_word 0) me'.0)
-    retires own free rests = let y : ℕ = waiting_word 0 in
-        lift_calm γ sizes slots id me i (λ _. y) (λ _. AtSlot Retires i v y) (λ _ me'. (me'.1 ≡ me.1) × AtSlot Retires i v y me'.0)
+    pub retires : v.slots.owns ≡ slot ∷ [] → ¬ (Holds v slot) → v.stakes.moves ≡ None
+        → May i (λ _. waiting_word 0) (λ _. OfSlot RetiresOne i me (waiting_word 0))
+    retires owns free rests = let y : ℕ = waiting_word 0 in let told : ℕ → Mine → Type 0 = λ _. OfSlot RetiresOne i me y in
+        let own : OwnsAlone v slot = (let e = ap (times slot) owns in let o = is_same slot slot refl in omega arith) in
+        lift_homes γ sizes slots id me i (λ _. y) (λ _. AtSlot Retires i v y) told
         (spares (λ _. y) (λ _. AtSlot Retires i v y) (λ r w t. ap (λ (u : View). u.places) (t slot refl).3))
-        (steps.retires id v live slot 0 inside own free (omega arith)) (λ r w t. (refl, t))
+        (steps.retires id v live slot 0 inside own free (omega arith))
         (λ s w h at t. let c = t slot refl in let one = ((h.kept.parts.slots.each id v at).alone slot own).0 in
-        let was = full_owned (slot_at sizes s.words slot) (omega arith) in
+        let was = full_owned (slot_at sizes s.words slot) (omega arith) in let now : View = retired slot y c.0 v in
         let will = (sound.waits y (let q = (waiting_is 0 (omega arith)).1 in omega arith)).1 in
-        subst (IsCalm γ sizes slots id me i (λ _. y) s y) (sym c.3) record {
-          more = λ j p out. out;
-          same = λ j low. dite (ℕ_discrete j slot)
-              (λ e. subst (λ (k : ℕ). full (slot_at sizes (set s.words i y) k) ≡ full (slot_at sizes s.words k)) (sym e)
-              (ap full (here s.words y (within s h)) ∙ (will ∙ sym was)))
-              (λ ne. others s.words y j low ne);
-          mover = λ j m. absurd (none_moved v j rests m);
-        })
-
-    -- a guard comes to see it
-    pub watches : IsOpen v.epoch → v.epoch.place < n → 0 < owners_at slot v → ¬ (Holds v slot) → v.stakes.moves ≡ None → May i (λ x. x) (OfSlot WatchesBy i me)
-    watches is_open near own free rests = let told : ℕ → Mine → Type 0 = OfSlot WatchesBy i me in dite (dec_lt 0 (times slot v.slots.sees))
-        (λ sees. lift_homes γ sizes slots id me i (λ x. x) (AtSlot LooksAtSlot i v) told look_keeps (steps.looks_at id v live slot)
-        (λ s w h at t. let x : ℕ = get_or s.words i 0 in let c = t slot refl in subst (Follows γ sizes id i me told s x) (sym c.0) record {
-          stakes = v.stakes;
+        subst (Follows γ sizes id i me told s y) (sym c.3) record {
+          stakes = record v.stakes { owns = [] };
           act = keeps;
           valid = tt;
-          homes = part.calm γ sizes s.words s.views s.homes h.homes id v at (set s.words i x) v (λ j p out. out) (λ j _. same_words s h j)
-              (λ j m. h.homes.moving id v j at m);
-          tells = at_once WatchesBy x me ((λ _. refl), (λ blind. absurd (blind sees)), c.1);
-        }))
-        (λ blind. lift_homes γ sizes slots id me i (λ x. x) (AtSlot Watches i v) told (spares (λ x. x) (AtSlot Watches i v) (λ r w t. ap (λ (u :
-        View). u.places) (t slot refl).0))
-        (steps.watches id v live slot is_open own free)
-        (λ s w h at t. let x : ℕ = get_or s.words i 0 in let c = t slot refl in let q : ℕ = v.epoch.place in let p = h.kept.parts in
-        let now : View = seeing slot v in let one = is_same slot slot refl in
-        let filled = full_owned x (let o = owner_in codes sound sizes s.words s.views p.slots id slot v at in omega arith) in
-        let away : NoneOut s.views slot q = λ j u e out. dite (ℕ_discrete id j)
-        (λ same. let is : u ≡ v = some-injective u v (sym e ∙ (ap (get_elem? s.views) (sym same) ∙ at)) in ⊎_elim
-        (λ (m : Moves u slot). none_moved v slot rests (subst (λ (z : View). Moves z slot) is m))
-        (λ (o : Sees u slot × (u.epoch.place ≡ q)). blind (subst (λ (z : View). Sees z slot) is o.0)) out)
-        (λ ne. ⊎_elim (λ (m : Moves u slot). still_owned γ sizes s h slot id j v u at e ne own m)
-        (λ (o : Sees u slot × (u.epoch.place ≡ q)). let theirs = (p.slots.each j u e).guarded slot o.0 in
-        let apart = (p.epoch.two id j v.epoch u.epoch ne (at_map epoch_of s.views id v at)
-        (at_map epoch_of s.views j u e)).places live (omega arith) in apart (sym o.1)) out) in
+          homes = part.calm γ sizes s.words s.views s.homes h.homes id v at (set s.words i y) (untold now) (λ j p out. out)
+              (λ j low. dite (ℕ_discrete j slot)
+              (λ e. subst (λ (k : ℕ). full (slot_at sizes (set s.words i y) k) ≡ full (slot_at sizes s.words k)) (sym e)
+              (ap full (here s.words y (within s h)) ∙ (will ∙ sym was)))
+              (λ ne. others s.words y j low ne))
+              (λ j m. absurd (none_moved v j rests m));
+          records = records.no_more sizes s.views s.homes h.records id v at (untold now) s.homes
+              (retired_tells v (h.records.each id v at) slot owns y c.0)
+              (λ j g k. ⊎_elim (λ (a : IsIn [] j g). absurd (in_none j g a))
+              (λ (a : IsIn v.stakes.sees j g). records.mine sizes s.views s.homes h.records id v at j g (inr a)) k)
+              (λ j p g _ _ l. inl l) (λ j m. m) (λ j a. a);
+          tells = at_once RetiresOne y (untold now, me.1) (now, (c.0, c.1, c.2, refl, c.4, c.5), refl, refl);
+        })
+
+    -- a guard comes to see it beside its owner, who knows what it shows
+    pub watches : IsOpen v.epoch → v.epoch.place < n → v.stakes.moves ≡ None → (jd : ℕ) (u : View) (value : Gv) → OwnsAlone u slot → ¬ (Holds u slot)
+        → IsIn u.stakes.owns slot value → AllowsBeside (Housed γ sizes) slots id me jd u (Watches slot value me)
+    watches is_open near rests jd u value own free told s h _ at there = let p = h.kept.parts in let r = h.records in
+        let tells = r.each id v at in let mine = records.mine sizes s.views s.homes r id v at in
+        let known : IsKnown s.views slot value = (jd, u, there, inl told) in dite (dec_lt 0 (times slot v.slots.sees))
+        (λ sees. let is = told_seen v tells slot sees in (
+          v,
+          keeps,
+          tt,
+          stands_by γ sizes id v s h at v.stakes s.homes
+              (part.calm γ sizes s.words s.views s.homes h.homes id v at s.words v (λ j p out. out) (λ j _. refl) (λ j m. h.homes.moving id v j at m))
+              (records.calm sizes s.views s.homes r id v at v (refl, refl, refl)),
+          (
+            (λ _. (refl, subst (IsIn v.stakes.sees slot) (r.agree slot is.0 value (mine slot is.0 (inr is.1)) known) is.1)),
+            (λ unseen. absurd (unseen sees)),
+          ),
+        ))
+        (λ unseen. let q : ℕ = v.epoch.place in let now : View = sighting slot value v in let one = is_same slot slot refl in
+        let record_now : Showing = record { slot = slot; value = value } in
+        let alone = ((p.slots.each jd u there).alone slot own).0 in let filled = full_owned (slot_at sizes s.words slot) (omega arith) in
+        let owners : 0 < owners_at slot u = (let o = own in omega arith) in
+        let still : (j : ℕ) (x : View) → get_elem? s.views j ≡ some x → ¬ (Moves x slot)
+        = λ j x e m. dite (ℕ_discrete jd j)
+        (λ same. ((r.each jd u there).owns slot value told).1 (subst (λ (z : View). Moves z slot) (one_view s.views jd j x u e there (sym same)) m))
+        (λ ne. still_owned γ sizes s h slot jd j u x there e ne owners m) in
+        let away : NoneOut s.views slot q = λ j x e out. ⊎_elim (λ (m : Moves x slot). still j x e m)
+        (λ (o : Sees x slot × (x.epoch.place ≡ q)). dite (ℕ_discrete id j)
+        (λ same. unseen (subst (λ (z : View). Sees z slot) (one_view s.views id j x v e at (sym same)) o.0))
+        (λ ne. let theirs = (p.slots.each j x e).guarded slot o.0 in
+        let apart = (p.epoch.two id j v.epoch x.epoch ne (at_map epoch_of s.views id v at)
+        (at_map epoch_of s.views j x e)).places live (omega arith) in apart (sym o.1))) out in
         let b = h.homes.back slot q inside (omega arith) away in let y : Stake = b.0 in let spot : ℕ = stake_at n slot q in
-        let has = h.homes.home slot q y inside (omega arith) b.1 in
-        let mine : Has γ slot 1 IsFull y = subst (λ (k : ℕ). Has γ slot k IsFull y) (share_one n q near) (has.0, has.1.0 filled) in
-        subst (Follows γ sizes id i me told s x) (sym c.0) record {
-          stakes = v.stakes;
-          act = takes spot y;
-          valid = b.1;
-          homes = subst (λ (ws : List ℕ). HomesPart γ sizes ws (set s.views id now) (set s.homes spot none)) (sym (set-get_or s.words i 0))
+        let has = h.homes.home slot q y inside (omega arith) b.1 in let shows = r.home slot q value y inside (omega arith) known b.1 in
+        let it : Has γ slot 1 (IsValue value) y
+        = subst (λ (k : ℕ). Has γ slot k (IsValue value) y) (share_one n q near) (has.0, (has.1.0 filled, shows)) in (
+          now,
+          takes spot y,
+          b.1,
+          stands γ sizes id v s h at now refl (blind sizes s.words s.views id v (seeing slot v) at
+              (steps.watches_beside id v live slot is_open jd u owners free s.words s.views p at there) now.stakes)
+              (set s.homes spot none)
               (part.takes_one γ sizes s.words s.views s.homes h.homes id v at slot q (omega arith) now (inr (omega arith, refl))
               (λ j p out. ⊎_elim (λ (m : Moves v j). inl m) (λ (o : Sees v j × (v.epoch.place ≡ p)). inr (let a = o.0 in omega arith, o.1)) out)
-              (λ j m. h.homes.moving id v j at m));
-          tells = at_once WatchesBy x (now, (spot, y) ∷ me.1) ((λ sees. absurd (blind sees)), (λ _. (y, mine, refl)), c.1);
-        }))
+              (λ j m. h.homes.moving id v j at m))
+              (records.kept sizes s.views s.homes r id v at now (set s.homes spot none)
+              record { owns = tells.owns; owned = tells.owned; sees = ap (λ (l : List ℕ). slot ∷ l) tells.sees }
+              (λ j g k. ⊎_elim (λ (a : IsIn v.stakes.owns j g). mine j g (inl a))
+              (λ (a : IsIn (record_now ∷ v.stakes.sees) j g). ⊎_elim
+              (λ (e : (slot ≡ j) × (value ≡ g)). subst (λ (z : ℕ × Gv). IsKnown s.views z.0 z.1) (λ d. (e.0 d, e.1 d)) known)
+              (λ (c : IsIn v.stakes.sees j g). mine j g (inr c)) (in_either record_now v.stakes.sees j g a)) k)
+              (λ j p z _ _ lies. inl (one_taken s.homes spot (stake_at n j p) z lies))
+              (λ j m. absurd (none_moved v j rests m))
+              (λ j x _ e. (
+                (λ k m. absurd (none_moved v k rests m)),
+                (λ k m sees. dite (ℕ_discrete k slot) (λ same. still j x e (subst (Moves x) same m))
+                    (λ ne. r.apart j id x v k e at m (let o = is_other k slot (λ e. ne (sym e)) in omega arith))),
+              ))),
+          ((λ sees. absurd (unseen sees)), (λ _. (y, it, refl))),
+        ))
 
     -- hold a slot, and let go of it
     pub takes_hold : OwnsAlone v slot → v.slots.holds ≡ None → May i (λ x. x) (λ r me'. (me'.1 ≡ me.1) × AtSlot TakesHold i v r me'.0)
@@ -370,14 +559,14 @@ module _ (slots id : ℕ) (me : Mine) (live : HasPlace me.0.epoch) where
         (spares (λ x. x) (AtSlot TakesHold i v) (λ r w t. ap (λ (u : View). u.places) (t slot refl).0))
         (steps.takes_hold id v live slot inside own free) (λ r w t. (refl, t))
         (λ s w h at t. subst (IsCalm γ sizes slots id me i (λ x. x) s (get_or s.words i 0)) (sym (t slot refl).0)
-        record { more = λ j p out. out; same = λ j _. same_words s h j; mover = λ j m. h.homes.moving id v j at m })
+        record { more = λ j p out. out; same = λ j _. same_words s h j; mover = λ j m. h.homes.moving id v j at m; alike = (refl, refl, refl) })
 
     pub lets_go : Holds v slot → May i (λ x. x) (λ r me'. (me'.1 ≡ me.1) × AtSlot LetsGo i v r me'.0)
     lets_go held = lift_calm γ sizes slots id me i (λ x. x) (AtSlot LetsGo i v) (λ r me'. (me'.1 ≡ me.1) × AtSlot LetsGo i v r me'.0)
         (spares (λ x. x) (AtSlot LetsGo i v) (λ r w t. ap (λ (u : View). u.places) (t slot refl).0))
         (steps.lets_go id v live slot inside held) (λ r w t. (refl, t))
         (λ s w h at t. subst (IsCalm γ sizes slots id me i (λ x. x) s (get_or s.words i 0)) (sym (t slot refl).0)
-        record { more = λ j p out. out; same = λ j _. same_words s h j; mover = λ j m. h.homes.moving id v j at m })
+        record { more = λ j p out. out; same = λ j _. same_words s h j; mover = λ j m. h.homes.moving id v j at m; alike = (refl, refl, refl) })
 
   -- look at the next place for a guard
   pub looks_for_guard : (place : ℕ) → place < n → place ≡ v.slots.looked
@@ -390,11 +579,11 @@ module _ (slots id : ℕ) (me : Mine) (live : HasPlace me.0.epoch) where
       (λ s w h at t. let c = t place refl in let x : ℕ = get_or s.words j 0 in
       let same = λ (k : ℕ) (_ : k < sizes.slots). ap (λ (l : List ℕ). full (slot_at sizes l k)) (set-get_or s.words j 0) in
       let calm = λ (w : View). IsCalm γ sizes slots id me j (λ x. x) s x w in dite (ℕ_discrete x 2)
-      (λ e. subst calm (sym (c.1 e)) record { more = λ k p out. out; same = same; mover = λ k m. h.homes.moving id v k at m })
-      (λ ne. subst calm (sym (c.0 ne)) record { more = λ k p out. out; same = same; mover = λ k m. h.homes.moving id v k at m }))
+      (λ e. subst calm (sym (c.1 e)) record { more = λ k p out. out; same = same; mover = λ k m. h.homes.moving id v k at m; alike = (refl, refl, refl) })
+      (λ ne. subst calm (sym (c.0 ne)) record { more = λ k p out. out; same = same; mover = λ k m. h.homes.moving id v k at m; alike = (refl, refl, refl) }))
 
   -- the last guard is closed, whose stakes go home
-  pub closes : IsOpen v.epoch → ¬ (Scans v.epoch) → v.epoch.place < n → v.stakes.moves ≡ None → Purse γ n v.epoch.place v.slots.sees me.1
+  pub closes : IsOpen v.epoch → ¬ (Scans v.epoch) → v.epoch.place < n → v.stakes.moves ≡ None → Purse γ n v.epoch.place v.stakes.sees me.1
       → May (state_word v.epoch.place) (λ _. 1) (λ _. ClosesHome me 1)
   closes is_open free near rests purse = let j : ℕ = state_word v.epoch.place in let q : ℕ = v.epoch.place in let le : q ≤ n = omega arith in
       lift_homes γ sizes slots id me j (λ _. 1) (λ _. ClosesAll v 1) (λ _. ClosesHome me 1)
@@ -404,16 +593,27 @@ module _ (slots id : ℕ) (me : Mine) (live : HasPlace me.0.epoch) where
       let low : (k : ℕ) → 0 < times k v.slots.sees → k < sizes.slots = λ k sees. dite (dec_lt k sizes.slots) (λ l. l) (λ past. absurd
       (let a = f.full k sees in let z : slot_at sizes s.words k ≡ 0 = get_or_past s.words (slot_word sizes k) 0 (omega arith) in
       let b = ap full z ∙ sound.free.2 in omega arith)) in
-      let g = gives_purse γ n q sizes.slots le v.slots.sees low s.homes me.1 h.homes.deep purse in
+      let r = h.records in let told = r.each id v at in let mine = records.mine sizes s.views s.homes r id v at in
+      let g = gives_purse γ n q sizes.slots le v.stakes.sees (λ k a. low k (subst (λ (l : List ℕ). 0 < times k l) told.sees a))
+      s.homes me.1 h.homes.deep purse in
+      let now : View = record v { epoch = Rattle.sdd_rule.specs.Steps.closed v.epoch; slots = Rattle.sdd_rule.specs.SlotSteps.unseeing v } in
       let same = λ (k : ℕ). ap full (before_slots sizes s.words j 1 k (omega arith)) in
       subst (Follows γ sizes id j me (λ _. ClosesHome me 1) s 1) (sym t) record {
-        stakes = v.stakes;
+        stakes = record v.stakes { sees = [] };
         act = g.act;
         valid = g.valid;
-        homes = part.closes γ sizes s.words s.views s.homes h.homes id v at q le near me.1 g (set s.words j 1)
-            (record v { epoch = Rattle.sdd_rule.specs.Steps.closed v.epoch; slots = Rattle.sdd_rule.specs.SlotSteps.unseeing v }) refl
+        homes = part.closes γ sizes s.words s.views s.homes h.homes id v at q le near me.1 g (set s.words j 1) (unsighted now) told.sees refl
             (λ k m. none_moved v k rests m) (λ k sees. same k ∙ f.full k sees) (λ k _. same k) (λ k m. absurd (none_moved v k rests m));
-        tells = (refl, g.carried);
+        records = records.no_more sizes s.views s.homes r id v at (unsighted now) (homes_after s.homes me.1 g.act)
+            record { owns = told.owns; owned = told.owned; sees = refl }
+            (λ k a c. ⊎_elim (λ (d : IsIn v.stakes.owns k a). mine k a (inl d)) (λ (d : IsIn [] k a). absurd (in_none k a d)) c)
+            (λ k p y _ near' lies. ⊎_elim
+            (λ (d : (k' : ℕ) × (a : Gv) × IsIn v.stakes.sees k' a × (stake_at n k p ≡ stake_at n k' q) × Has γ k' 1 (IsValue a) y).
+            inr (λ a c. d.4.1.1 ∙ r.agree d.0 d.1 a (mine d.0 d.1 (inr d.2))
+            (subst (λ (l : ℕ). IsKnown s.views l a) (one_slot n k d.0 p q near' le d.3) c)))
+            (λ (d : LiesAt n s.homes k p y). inl d) (g.home (stake_at n k p) y lies))
+            (λ k m. m) (λ k sees. absurd (omega arith));
+        tells = (now, refl, refl, g.carried);
       })
 
 -- a place is ended, as long as it is free, by a token without a place
@@ -446,8 +646,8 @@ module _ (γ : ℕ) (sizes : Sizes) (slots id : ℕ) (me : Mine) (p : ℕ) (insi
     bars_calm : (w : View) → (w ≡ past p me.0) ⊎ (w ≡ me.0) → IsCalm γ sizes slots id me spot free_no_more s left w
     bars_calm w which = let same = λ (j : ℕ) (_ : j < sizes.slots). ap full (before_slots sizes s.words spot left j (omega arith)) in
         let calm = IsCalm γ sizes slots id me spot free_no_more s left in
-        ⊎_elim (λ (e : w ≡ past p me.0). subst calm (sym e) record { more = λ j q out. out; same = same; mover = λ j m. h.homes.moving id me.0 j at m })
-        (λ (e : w ≡ me.0). subst calm (sym e) record { more = λ j q out. out; same = same; mover = λ j m. h.homes.moving id me.0 j at m }) which
+        ⊎_elim (λ (e : w ≡ past p me.0). subst calm (sym e) record { more = λ j q out. out; same = same; mover = λ j m. h.homes.moving id me.0 j at m; alike = (refl, refl, refl) })
+        (λ (e : w ≡ me.0). subst calm (sym e) record { more = λ j q out. out; same = same; mover = λ j m. h.homes.moving id me.0 j at m; alike = (refl, refl, refl) }) which
 
   which_of : (r : ℕ) (w : View) → Bars spot me.0 r w → ((r ≡ 0) ⊎ (r ≡ 3)) × (w ≡ past p me.0) ⊎ (w ≡ me.0)
   which_of r w t = let c = t p refl in dite (ℕ_discrete r 0) (λ e. inl (inl e, c.0 (inl e)))

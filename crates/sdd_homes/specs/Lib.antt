@@ -1,3 +1,4 @@
+pub mod Alone
 pub mod Homes
 pub mod Records
 pub mod Housed

@@ -1,0 +1,178 @@
+-- What is known of what slots show, after one step of one participant
+use Rattle.std.proofs.Common.{◌≡◌, ◌≢◌, ◌⊎◌, inl, inr, ℕ, zero, suc, ◌<◌, ◌≤◌, List, [], ◌∷◌, ◌++◌, map, set, sym, refl, ap, ◌∙◌, subst, ⊎_elim, arith}
+use mathlib.Core.Option.{some, some-injective, some-ne-none}
+use mathlib.Core.Logic.{dite}
+use native.Mathlib.Decide.{ℕ_discrete}
+use lib.ListN.{get_elem?}
+use base.Stored.{Gv}
+use Rattle.std.specs.Prelude.{None}
+use Rattle.atomic_table.proofs.Lists.{at_set}
+use Rattle.sdd_stakes.specs.declared.stake.Stake.{Stake}
+use Rattle.sdd_rule.specs.declared.Showing.{Showing}
+use Rattle.sdd_rule.specs.declared.StakesView.{StakesView}
+use Rattle.sdd_rule.specs.declared.View.{View}
+use Rattle.sdd_rule.specs.declared.Sizes.{Sizes}
+use Rattle.sdd_rule.specs.Slots.{OwnsAlone, Sees}
+use Rattle.sdd_rule.specs.Sums.{times}
+use Rattle.sdd_rule.proofs.Frame.{each_set}
+use Rattle.sdd_rule.proofs.Sums.{is_same, is_other, both_set}
+use Rattle.sdd_homes.specs.Homes.{Homes, LiesAt, Moves}
+use Rattle.sdd_homes.specs.Records.{slot_shown, IsIn, KnowsShown, IsKnown, IsTelling, RecordsPart}
+
+-- ---- records in a list
+in_pick : (r : Showing) (rs : List Showing) (i : ℕ) (g : Gv) (k : ℕ) (s : Showing) → get_elem? (r ∷ rs) k ≡ some s → s.slot ≡ i → s.value ≡ g
+    → ((r.slot ≡ i) × (r.value ≡ g)) ⊎ IsIn rs i g
+in_pick r rs i g zero s e a b = let c = some-injective r s e in inl (ap slot_shown c ∙ a, ap (λ (x : Showing). x.value) c ∙ b)
+in_pick r rs i g (suc k) s e a b = inr (k, s, e, a, b)
+
+module _ (r : Showing) (rs : List Showing) (i : ℕ) (g : Gv) where
+  pub in_head : r.slot ≡ i → r.value ≡ g → IsIn (r ∷ rs) i g
+  in_head e e' = (0, r, refl, e, e')
+
+  pub in_tail : IsIn rs i g → IsIn (r ∷ rs) i g
+  in_tail h = (suc h.0, h.1, h.2, h.3, h.4)
+
+  pub in_either : IsIn (r ∷ rs) i g → ((r.slot ≡ i) × (r.value ≡ g)) ⊎ IsIn rs i g
+  in_either h = in_pick r rs i g h.0 h.1 h.2 h.3 h.4
+
+pub in_none : (i : ℕ) (g : Gv) → ¬ (IsIn [] i g)
+in_none i g h = some-ne-none h.1 (sym h.2)
+
+-- a slot of theirs has a record, and the other way round
+pub in_some : (rs : List Showing) (i : ℕ) → 0 < times i (map slot_shown rs) → (g : Gv) × IsIn rs i g
+in_some [] i h = absurd (omega arith)
+in_some (r ∷ rs) i h = dite (ℕ_discrete r.slot i) (λ e. (r.value, in_head r rs i r.value e refl))
+    (λ ne. let o = is_other i r.slot ne in let t = in_some rs i (omega arith) in (t.0, in_tail r rs i t.0 t.1))
+
+pub in_times : (rs : List Showing) (i : ℕ) (g : Gv) → IsIn rs i g → 0 < times i (map slot_shown rs)
+in_times [] i g h = absurd (in_none i g h)
+in_times (r ∷ rs) i g h = ⊎_elim (λ (t : (r.slot ≡ i) × (r.value ≡ g)). let o = is_same i r.slot t.0 in omega arith)
+    (λ (t : IsIn rs i g). let o = in_times rs i g t in omega arith) (in_either r rs i g h)
+
+-- ---- one participant
+pub sees_told : (v : View) → IsTelling v → (i : ℕ) (g : Gv) → IsIn v.stakes.sees i g → Sees v i
+sees_told v t i g h = subst (λ (l : List ℕ). 0 < times i l) t.sees (in_times v.stakes.sees i g h)
+
+pub told_seen : (v : View) → IsTelling v → (i : ℕ) → Sees v i → (g : Gv) × IsIn v.stakes.sees i g
+told_seen v t i h = in_some v.stakes.sees i (subst (λ (l : List ℕ). 0 < times i l) (sym t.sees) h)
+
+-- what it knows of slots and of stakes is as before
+abbrev pub IsAlike : View → View → Type 0
+IsAlike v w = (w.stakes ≡ v.stakes) × (w.slots.owns ≡ v.slots.owns) × (w.slots.sees ≡ v.slots.sees)
+
+pub telling_alike : (v w : View) → IsAlike v w → IsTelling v → IsTelling w
+telling_alike v w same t = record {
+  owns = λ i g h. let b = t.owns i g (subst (λ (s : StakesView). IsIn s.owns i g) same.0 h) in
+      (subst (λ (l : List ℕ). 0 < times i l) (sym same.1) b.0, λ m. b.1 (ap (λ (s : StakesView). s.moves) (sym same.0) ∙ m));
+  owned = λ i o still. let b = t.owned i (subst (λ (l : List ℕ). 0 < times i l) same.1 o) (λ m. still (ap (λ (s : StakesView). s.moves) same.0 ∙ m)) in
+      (b.0, subst (λ (s : StakesView). IsIn s.owns i b.0) (sym same.0) b.1);
+  sees = ap (λ (s : StakesView). map slot_shown s.sees) same.0 ∙ (t.sees ∙ sym same.2);
+}
+
+-- one that owns nothing, and sees nothing
+pub telling_none : (w : View) → w.stakes.owns ≡ [] → w.slots.owns ≡ [] → w.stakes.sees ≡ [] → w.slots.sees ≡ [] → IsTelling w
+telling_none w e e' f f' = record {
+  owns = λ i g h. absurd (in_none i g (subst (λ (l : List Showing). IsIn l i g) e h));
+  owned = λ i o still. let t = ap (times i) e' in absurd (omega arith);
+  sees = ap (map slot_shown) f ∙ sym f';
+}
+
+pub knows_none : (w : View) → w.stakes.owns ≡ [] → w.stakes.sees ≡ [] → (i : ℕ) (g : Gv) → ¬ (KnowsShown w i g)
+knows_none w e f i g k = ⊎_elim (λ (h : IsIn w.stakes.owns i g). in_none i g (subst (λ (l : List Showing). IsIn l i g) e h))
+    (λ (h : IsIn w.stakes.sees i g). in_none i g (subst (λ (l : List Showing). IsIn l i g) f h)) k
+
+-- what the one moves the other doesn't see
+abbrev pub NotSeen : View → View → Type 0
+NotSeen v w = (i : ℕ) → Moves v i → ¬ (Sees w i)
+
+-- ---- all of them
+pub known_after : (vs : List View) (id : ℕ) (w : View) (i : ℕ) (g : Gv) → IsKnown (set vs id w) i g → KnowsShown w i g ⊎ IsKnown vs i g
+known_after vs id w i g k = ⊎_elim (λ (t : (k.0 ≡ id) × (w ≡ k.1)). inl (subst (λ (u : View). KnowsShown u i g) (sym t.1) k.3))
+    (λ (t : (k.0 ≢ id) × (get_elem? vs k.0 ≡ some k.1)). inr (k.0, k.1, t.1, k.3)) (at_set vs id k.0 w k.1 k.2)
+
+module _ (sizes : Sizes) (vs : List View) (hs : Homes) (part : RecordsPart sizes vs hs) where
+  abbrev n : ℕ
+  n = sizes.participants
+
+  -- all that is known was known before; and what comes home shows it
+  pub kept_by : (vs' : List View) (hs' : Homes) → ((j : ℕ) (v : View) → get_elem? vs' j ≡ some v → IsTelling v)
+      → ((i : ℕ) (g : Gv) → IsKnown vs' i g → IsKnown vs i g)
+      → ((i p : ℕ) (y : Stake) → i < sizes.slots → p ≤ n → LiesAt n hs' i p y → LiesAt n hs i p y ⊎ ((g : Gv) → IsKnown vs i g → y.lot.shown ≡ g))
+      → ((j k : ℕ) (v w : View) → get_elem? vs' j ≡ some v → get_elem? vs' k ≡ some w → NotSeen v w) → RecordsPart sizes vs' hs'
+  kept_by vs' hs' each known lies apart = record {
+    each = each;
+    agree = λ i g h a b. part.agree i g h (known i g a) (known i h b);
+    home = λ i p g y low near k l. ⊎_elim (λ (t : LiesAt n hs i p y). part.home i p g y low near (known i g k) t)
+        (λ (t : (g : Gv) → IsKnown vs i g → y.lot.shown ≡ g). t g (known i g k)) (lies i p y low near l);
+    apart = λ j k v w i e e' m. apart j k v w e e' i m;
+  }
+
+  -- nobody knows what a slot shows that nobody sees, and that no one owns but who moves its value
+  pub unknown : (i : ℕ) → ((j : ℕ) (u : View) → get_elem? vs j ≡ some u → ¬ (Sees u i))
+      → ((j : ℕ) (u : View) → get_elem? vs j ≡ some u → OwnsAlone u i → Moves u i) → (g : Gv) → ¬ (IsKnown vs i g)
+  unknown i blind owners g k = let t = part.each k.0 k.1 k.2 in ⊎_elim
+      (λ (h : IsIn k.1.stakes.owns i g). let o = t.owns i g h in o.1 (owners k.0 k.1 k.2 o.0))
+      (λ (h : IsIn k.1.stakes.sees i g). blind k.0 k.1 k.2 (sees_told k.1 t i g h)) k.3
+
+  module _ (id : ℕ) (v : View) (at : get_elem? vs id ≡ some v) where
+    pub mine : (i : ℕ) (g : Gv) → KnowsShown v i g → IsKnown vs i g
+    mine i g k = (id, v, at, k)
+
+    -- the same of one participant's step
+    pub kept : (w : View) (hs' : Homes) → IsTelling w → ((i : ℕ) (g : Gv) → KnowsShown w i g → IsKnown vs i g)
+        → ((i p : ℕ) (y : Stake) → i < sizes.slots → p ≤ n → LiesAt n hs' i p y → LiesAt n hs i p y ⊎ ((g : Gv) → IsKnown vs i g → y.lot.shown ≡ g))
+        → NotSeen w w → ((j : ℕ) (u : View) → j ≢ id → get_elem? vs j ≡ some u → NotSeen w u × NotSeen u w) → RecordsPart sizes (set vs id w) hs'
+    kept w hs' tells known lies self others = kept_by (set vs id w) hs'
+        (each_set IsTelling IsTelling vs id w tells (λ j u _ e. part.each j u e))
+        (λ i g k. ⊎_elim (λ (t : KnowsShown w i g). known i g t) (λ (t : IsKnown vs i g). t) (known_after vs id w i g k))
+        lies (both_set NotSeen vs id w (λ j k a b e e' i. part.apart j k a b i e e') self others)
+
+    -- as long as it moves no more than before, and sees no more
+    pub no_more : (w : View) (hs' : Homes) → IsTelling w → ((i : ℕ) (g : Gv) → KnowsShown w i g → IsKnown vs i g)
+        → ((i p : ℕ) (y : Stake) → i < sizes.slots → p ≤ n → LiesAt n hs' i p y → LiesAt n hs i p y ⊎ ((g : Gv) → IsKnown vs i g → y.lot.shown ≡ g))
+        → ((i : ℕ) → Moves w i → Moves v i) → ((i : ℕ) → Sees w i → Sees v i) → RecordsPart sizes (set vs id w) hs'
+    no_more w hs' tells known lies moves sees = kept w hs' tells known lies
+        (λ i m s. part.apart id id v v i at at (moves i m) (sees i s))
+        (λ j u _ e. ((λ i m. part.apart id j v u i at e (moves i m)), (λ i m s. part.apart j id u v i e at m (sees i s))))
+
+    pub calm : (w : View) → IsAlike v w → RecordsPart sizes (set vs id w) hs
+    calm w same = no_more w hs (telling_alike v w same (part.each id v at))
+        (λ i g k. mine i g (⊎_elim (λ (h : IsIn w.stakes.owns i g). inl (subst (λ (s : StakesView). IsIn s.owns i g) same.0 h))
+        (λ (h : IsIn w.stakes.sees i g). inr (subst (λ (s : StakesView). IsIn s.sees i g) same.0 h)) k))
+        (λ i p y _ _ l. inl l) (λ i m. ap (λ (s : StakesView). s.moves) (sym same.0) ∙ m)
+        (λ i s. subst (λ (l : List ℕ). 0 < times i l) same.2 s)
+
+    -- it comes to move the value of a slot that nobody sees, and takes stakes
+    pub comes_to_move : (slot : ℕ) (w : View) (hs' : Homes) → IsTelling w → ((i : ℕ) (g : Gv) → KnowsShown w i g → IsKnown vs i g)
+        → ((i p : ℕ) (y : Stake) → i < sizes.slots → p ≤ n → LiesAt n hs' i p y → LiesAt n hs i p y) → w.slots.sees ≡ v.slots.sees
+        → ((i : ℕ) → Moves w i → i ≡ slot) → ((j : ℕ) (u : View) → get_elem? vs j ≡ some u → ¬ (Sees u slot)) → RecordsPart sizes (set vs id w) hs'
+    comes_to_move slot w hs' tells known lies same moves blind = let sees : (i : ℕ) → Sees w i → Sees v i
+        = λ i s. subst (λ (l : List ℕ). 0 < times i l) same s in
+        kept w hs' tells known (λ i p y low near l. inl (lies i p y low near l))
+        (λ i m s. blind id v at (subst (Sees v) (moves i m) (sees i s)))
+        (λ j u _ e. ((λ i m s. blind j u e (subst (Sees u) (moves i m) s)), (λ i m s. part.apart j id u v i e at m (sees i s))))
+
+    -- it comes to know what a slot shows, of which nobody knew; and all stakes in it come home, and show it
+    pub comes_to_know : (slot : ℕ) (value : Gv) (w : View) (hs' : Homes) → IsTelling w → ((g : Gv) → ¬ (IsKnown vs slot g))
+        → ((i : ℕ) (g : Gv) → KnowsShown w i g → ((i ≡ slot) × (g ≡ value)) ⊎ IsKnown vs i g)
+        → ((i p : ℕ) (y : Stake) → i < sizes.slots → p ≤ n → LiesAt n hs' i p y
+        → ((i ≡ slot) × (y.lot.shown ≡ value)) ⊎ ((i ≢ slot) × LiesAt n hs i p y))
+        → ((i : ℕ) → ¬ (Moves w i)) → ((i : ℕ) → Sees w i → Sees v i) → RecordsPart sizes (set vs id w) hs'
+    comes_to_know slot value w hs' tells none knows lies still sees = let now : (i : ℕ) (g : Gv) → IsKnown (set vs id w) i g
+        → ((i ≡ slot) × (g ≡ value)) ⊎ IsKnown vs i g
+        = λ i g k. ⊎_elim (λ (t : KnowsShown w i g). knows i g t) (λ (t : IsKnown vs i g). inr t) (known_after vs id w i g k) in
+        let never : (i : ℕ) (g : Gv) → i ≡ slot → ¬ (IsKnown vs i g) = λ i g e k. none g (subst (λ (j : ℕ). IsKnown vs j g) e k) in record {
+          each = each_set IsTelling IsTelling vs id w tells (λ j u _ e. part.each j u e);
+          agree = λ i g h a b. ⊎_elim
+              (λ (s : (i ≡ slot) × (g ≡ value)). ⊎_elim (λ (t : (i ≡ slot) × (h ≡ value)). s.1 ∙ sym t.1)
+              (λ (t : IsKnown vs i h). absurd (never i h s.0 t)) (now i h b))
+              (λ (s : IsKnown vs i g). ⊎_elim (λ (t : (i ≡ slot) × (h ≡ value)). absurd (never i g t.0 s))
+              (λ (t : IsKnown vs i h). part.agree i g h s t) (now i h b)) (now i g a);
+          home = λ i p g y low near k l. ⊎_elim
+              (λ (s : (i ≡ slot) × (y.lot.shown ≡ value)). ⊎_elim (λ (t : (i ≡ slot) × (g ≡ value)). s.1 ∙ sym t.1)
+              (λ (t : IsKnown vs i g). absurd (never i g s.0 t)) (now i g k))
+              (λ (s : (i ≢ slot) × LiesAt n hs i p y). ⊎_elim (λ (t : (i ≡ slot) × (g ≡ value)). absurd (s.0 t.0))
+              (λ (t : IsKnown vs i g). part.home i p g y low near t s.1) (now i g k)) (lies i p y low near l);
+          apart = λ j k a b i e e' m. both_set NotSeen vs id w (λ j k a b e e' i. part.apart j k a b i e e') (λ i m. absurd (still i m))
+              (λ j u _ e. ((λ i m. absurd (still i m)), (λ i m s. part.apart j id u v i e at m (sees i s)))) j k a b e e' i m;
+        }
