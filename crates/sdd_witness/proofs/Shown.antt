@@ -1,7 +1,6 @@
 -- A `&` to a witness has a share of its view, and two shares of one view agree. Assumes `Logic`.
 use Rattle.std.proofs.Common.{◌≡◌, ℕ, List, [], ◌∷◌, refl, subst}
-use mathlib.Mathlib.Data.Part.{◌∈◌}
-use seplogic.Ra.Pcs.{get, mem_unique}
+use mathlib.Mathlib.Data.Part.{◌∈◌, mem_unique, get}
 use seplogic.Ra.Ura.{Ura}
 use seplogic.Ra.Constructions.Prod
 use seplogic.Ra.Instances.Ag
@@ -54,7 +53,7 @@ module _ {M : Type 1} {𝓤 : Ura M} (𝓛 : Logic 𝓤) where
   infixr 35 ◌∗◌
   pub lends_shown : (z : TableId) (id : ℕ) (gs : List Gv) (l : Lft) → Lends 𝓛 (witness_owns z id gs) (witness_shares z id gs) l
   lends_shown z id [] l = Lends-nothing 𝓛 (witness_owns z id []) l
-  lends_shown z id (g ∷ gs) l κ ts inc sp = let Φ : Share → Fml = view_of z.views_name id g in
+  lends_shown z id (g ∷ gs) l = λ κ ts inc sp. let Φ : Share → Fml = view_of z.views_name id g in
       qed 𝓛 (‵ (fbor κ (Φ three_quarters)) ∷ raw (lfts 𝓛 ts) ∷ []) {P = H.⇛ (⟦ fshr_bor κ Φ ⟧ ∗ lfts 𝓛 ts)} (
       updating ! $ bor_fracture ! tt Φ three_quarters $ now ! $ done !)
 

@@ -1,5 +1,5 @@
 -- A blank witness owns nothing.
-use Rattle.atomic_table.proofs.Names.{◌≡◌, [], ◌∷◌, refl, Val, inst_fn, SProp, emp, ‵, raw, ◌⊛◌, ◌$◌, ◌∵◌, !, qed, by, keep, split, fjoin, use0, no_more, and_then, returns, enter, alloc_all, pass_all, free_all, look_at, get, sets, agg, tables, RattleType, owns, types_at, nothing, layouts, alive, Stays, walk_of, fact, fact_i}
+use Rattle.atomic_table.proofs.Names.{◌≡◌, [], ◌∷◌, refl, Val, SProp, emp, ‵, raw, ◌⊛◌, ◌$◌, ◌∵◌, !, qed, by, keep, split, fjoin, use0, no_more, and_then, returns, enter, alloc_all, pass_all, free_all, look_at, get, sets, agg, tables, RattleType, owns, types_at, nothing, alive, Stays, walk_of, fact, fact_i}
 use Rattle.atomic_table.proofs.Walks.{proved, leaves}
 use Rattle.sdd_witness.specs.contracts.witness.Witness as witness
 use Rattle.sdd_witness.proofs.Fields.{token_val, Pin, pin_made}
@@ -11,9 +11,9 @@ use Rattle.sdd_witness.proofs.witness.Witness.blank.Code as code
 pub blank_spec : {M : Type 1} → statement M
 blank_spec 𝓤 𝓛 𝓜 𝓡 wired =
     let H = 𝓛.H in let 𝓣 = tables 𝓤 H 𝓜 𝓡 𝓡.env in let En = ended in let c = clauses 𝓛 𝓜.mem 𝓡.returns in
-    let inst = layouts [] tt in let fn = inst_fn inst code.function in let closed = code.unfolded 𝓤 H 𝓜 𝓡 wired tt in
+    let fn = code.function in let closed = code.unfolded 𝓤 H 𝓜 𝓡 wired in
     let Wr : RattleType = witness.the_row in let hs : Stays En.signature.params En.kept = tt in
-    proved 𝓛 En hs c 𝓜 𝓡 tt (#self inst) fn closed (λ κs. tt) (λ κs. tt) (λ κs qs bounds a gh are.
+    proved 𝓛 En hs c 𝓜 𝓡 tt #self fn closed (λ κs. tt) (λ κs. tt) (λ κs qs bounds a gh are.
     let r : Wr.Denot = record {
       marker = record {};
       table_id = record { words = 0; slots = 0; views_name = 0; atom = 0; block = 0; offset = 0; slot_names = [] };
