@@ -57,4 +57,17 @@ step_alone_spec 𝓤 𝓛 𝓜 𝓡 wired T U Q P Mv _ _ _ _ _ g d g' d' _ _ =
     -- [the table's lifetime; its token; what all know of the table; the seat's value; its borrow; the tokens of the seat and of the others]
     shr_bor-open ! tt (tokens_halve 𝓛 α) (λ s. move ! (3 ∷ 4 ∷ 5 ∷ []) $
     opens ! tt Sr b' o' (λ vs. move ! (1 ∷ []) $ fsplit ! $ rewrite ! 1 (λ (u : TableId). ‵ (mine R cv.code u id v)) at_table refl $
-    done !)))))
+    -- [the field; the seat's content; the cell; its open borrow, in three entries; the open token; the token; what all know of the table; the others]
+    move ! (8 ∷ 7 ∷ 1 ∷ []) $ use3 𝓛 (later (‵ (after 𝓛 R cv (g.holds t.key) w p z s id v then) ⊛ ‵ (flft α s)))
+    (alone 𝓛 R cv (g.holds t.key) w p z s id v then allowed) $ await ! tt $ split ! $ fpick ! (λ u. fsplit ! $ fpick ! (λ told. drop ! $
+    let h' : Sr.Denot = record h { me = u } in let Told : Type 0 = (h.table_id ≡ h.table_id) × (id ≡ id) in
+    rewrite ! 0 (λ (x : TableId). ‵ (mine R cv.code x id u)) (sym at_table) refl $ move ! (2 ∷ 0 ∷ []) $ fjoin ! $ move ! (2 ∷ 0 ∷ 3 ∷ 4 ∷ 5 ∷ []) $
+    closes ! tt Sr h' vs b' o' $ feq_i ! (List Val) (vptr b' o' ∷ []) (vptr b' o' ∷ []) refl $ fjoin3 ! $
+    -- [the seat; its token; the table's token; the open token; the others]
+    move ! (3 ∷ 2 ∷ []) $ obor_close ! tt $ drop ! $ move ! (1 ∷ []) $ nothing ! $ move ! (1 ∷ 0 ∷ []) $ fjoin ! $ nothing ! $ fjoin ! $
+    -- [the parameters; the table's token; the seat's; the others]
+    move ! (2 ∷ 3 ∷ []) $ join ! $ move ! (2 ∷ 0 ∷ []) $ join ! $
+    sets ! (of_opd ! (unit_lit !)) refl (tt, tt) $ use0 𝓛 (raw (fact 𝓤 (then u))) (fact_i 𝓤 (then u) (emp 𝓤) told) $
+    use0 𝓛 (raw (fact 𝓤 Told)) (fact_i 𝓤 Told (emp 𝓤) (refl, refl)) $ join ! $ feq_i ! (List Val) (vunit ∷ []) (vunit ∷ []) refl $
+    returns ! (look_at ! 0 refl) $ free_all ! refl $ keep ! (2 ∷ 3 ∷ 0 ∷ 1 ∷ []) $
+    by ! (leaves 𝓛 En hs c y vunit tt (tt, (h', tt)) (tt, (tt, tt)))))))))))
