@@ -1,5 +1,5 @@
 -- `enter` opens the seat, and the table's invariant by a token of the table's lifetime.
-use Rattle.atomic_table.proofs.Names.{◌≡◌, [], ◌∷◌, refl, sym, List, ℕ, a_type, named, Val, vptr, vunit, inst_fn, SProp, emp, later, await, ‵, raw, ◌⊛◌, ◌$◌, ◌∵◌, !, qed, by, keep, drop, split, split3, fjoin, use0, use1, use3, move, fsplit, fsplit3, fjoin3, join, feq_i, of_opd, unit_lit, returns, enter, alloc_all, pass_all, free_all, look_at, sets, tables, RattleType, RefOf, owns, types_at, plain, nothing, opens, closes, heard, param, bounded, dcons, dnil, Stays, stay_dropped, stay_ref, walk_of, Goes-dropped, Goes-ref, fact, fact_i, ftrue, Fml, fsep, flft, Lft, no, yes, mut_vals, mut_Tells, shr_vals, shr_Tells, unhide, lent_out, hidden_shr, Ptr, block_ptr, Coded, Tuple, rewrite, shr_bor-open, obor_close, tokens_halve}
+use Rattle.atomic_table.proofs.Names.{◌≡◌, [], ◌∷◌, refl, sym, List, ℕ, a_type, named, Val, vptr, vunit, inst_fn, SProp, emp, later, await, ‵, raw, ◌⊛◌, ◌$◌, ◌∵◌, !, qed, by, keep, drop, split, split3, fjoin, use0, use1, use3, move, fsplit, fsplit3, fjoin3, join, feq_i, of_opd, unit_lit, returns, enter, alloc_all, pass_all, free_all, look_at, sets, tables, RattleType, RefOf, owns, types_at, plain, nothing, opens, closes, heard, param, bounded, dcons, dnil, Stays, stay_dropped, stay_ref, walk_of, Goes-dropped, Goes-ref, fact, fact_i, ftrue, Fml, fsep, flft, Lft, yes, mut_vals, mut_Tells, shr_vals, shr_Tells, unhide, lent_out, hidden_shr, Ptr, block_ptr, Coded, Tuple, rewrite, shr_bor-open, obor_close, tokens_halve}
 use base.Fml.{fhide}
 use base.Stored.{Gv}
 use Rattle.core.specs.contracts.marker.PhantomData as marker
@@ -28,9 +28,9 @@ enter_spec 𝓤 𝓛 𝓜 𝓡 wired T U Q P Mv _ _ _ _ _ g d g' d' _ _ =
     let Row : RattleType = table.the_row R W X Y g in let Sr : RattleType = seat.the_row R W in let Wr : RattleType = wit.the_row in
     let D : RattleType = HandData R W X Y g in let self = plain (λ _. Wr) in
     let about = RefOf (0 ∷ []) tt (plain (λ _. Row)) (λ _. tt) in let sitter = plain (λ _. Sr) in
-    let hs : Stays En.signature.params En.kept = (stay_dropped self no, (stay_dropped about yes, (stay_ref (1 ∷ []) tt sitter, tt))) in
+    let hs : Stays En.signature.params En.kept = (stay_dropped self yes, (stay_dropped about yes, (stay_ref (1 ∷ []) tt sitter, tt))) in
     let c = clauses T U Q P Mv g d g' d' 𝓛 𝓜.mem 𝓡.returns in
-    proved 𝓛 En hs c 𝓜 𝓡 (Goes-dropped 𝓛 7 self no (λ κs x f. refl), (Goes-dropped 𝓛 7 about yes (λ κs x f. refl), (Goes-ref 𝓛 7 1 tt sitter, tt)))
+    proved 𝓛 En hs c 𝓜 𝓡 (Goes-dropped 𝓛 7 self yes (λ κs x f. refl), (Goes-dropped 𝓛 7 about yes (λ κs x f. refl), (Goes-ref 𝓛 7 1 tt sitter, tt)))
     (#self inst) fn (code.unfolded 𝓤 H 𝓜 𝓡 wired (T, (U, (Q, (P, (Mv, tt))))) d d')
     (λ κs. ((λ _. token_val ∷ []), (shr_vals, (mut_vals, tt))))
     (λ κs. ((λ e vs so. pin_told vs so.0), (shr_Tells (named 0) κs.0 Row, (mut_Tells (named 1) κs.1.0 Sr, tt)))) (λ κs qs bounds a gh are.
