@@ -1,16 +1,19 @@
 //! Laws of every space, as functions that callers can cite by calling them.
-ghost use Rattle.std.specs.Prelude.{◌≡◌, ◌⊎◌, IsTrue};
+ghost use Rattle.std.specs.Prelude.{◌≡◌, ◌⊎◌, IfOk, IsTrue};
 ghost use Rattle.sdd_core.specs.Epoch.{epoch_after};
+ghost use Rattle.sdd_base.specs.Guard.{reader_of};
+ghost use Rattle.sdd_base.specs.Holding.{AreOf};
 ghost use Rattle.sdd_base.specs.Seat.{IsSeated, IsExact};
 ghost use Rattle.sdd_base.specs.Known.{KnowsOn};
-ghost use Rattle.sdd_base.specs.Owned.{slot_of, slots_home};
+ghost use Rattle.sdd_base.specs.Owned.{right_of, slot_of, slots_home};
+ghost use Rattle.sdd_base.specs.Ptr.{KeepsShown};
 ghost use Rattle.sdd_store.specs.Time.{is_open};
 
 use crate::guard::Guard;
 use crate::item::Item;
 use crate::owned::Owned;
-use crate::space::{Guards, RawItems};
-use sdd_core::Epoch;
+use crate::space::{Guards, Items, RawItems};
+use sdd_core::{Epoch, Refused};
 
 /// The epoch, asked twice under one open guard: the second answer is the first one or its `next`.
 pub fn epoch_moves_by_one<T: Item<T>, S: Guards<T>>(guard: &Guard, s: &mut S) -> (Epoch, Epoch)
@@ -41,4 +44,28 @@ pub fn comes_back<T: Item<T>, S: RawItems<T>>(owner: Owned<T>, s: &mut S) -> Own
         unreachable!()
     };
     owner
+}
+
+/// An item is made, and its owner looks at it under the guard: it has the value that it was made with, whatever other participants do meanwhile.
+///
+/// `NoSlot` where none is free; the value comes back.
+pub fn shows_what_was_made<'g, T: Item<T>, S: Items<T>>(
+    value: T,
+    guard: &'g Guard,
+    s: &mut S,
+) -> Result<(Owned<T>, &'g T), (T, Refused)>
+    requires seated { IsSeated (S.seat s.old) }
+    requires home { AreOf (S.seat s.old).home (T.holds value) }
+    requires reader { reader_of guard.now ≡ (S.seat s.old).reader }
+    ensures seat { S.seat s.new ≡ S.seat s.old }
+    ensures own { S.own s.new ≡ S.own s.old }
+    ensures known { KnowsOn (S.known s.old) (S.known s.new) }
+    ensures home { IfOk result (λ made. slots_home made.0 ≡ (S.seat s.old).home.slots) }
+    ensures value { IfOk result (λ made. S.owns_value s.new (right_of made.0) value) }
+    ensures seen { IfOk result (λ made. made.1.now ≡ value) }
+    ensures keeps { KeepsShown (S.shows s.old) (S.shows s.new) }
+{
+    let owner = Owned::new(value, s)?;
+    let seen = owner.get_guarded_ref(guard, s);
+    Ok((owner, seen))
 }

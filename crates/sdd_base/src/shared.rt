@@ -108,6 +108,7 @@ impl<T: Item<T>> Shared<T> {
         ensures own { S.own s.new ≡ S.own s.old }
         ensures known { KnowsOn (S.known s.old) (S.known s.new) }
         ensures shown { S.shows s.new (slot_of self.now) result.now }
+        ensures value { S.owns_value s.new (right_of self.now) result.now }
         ensures exact { IsExact (S.seat s.old) → S.world s.new ≡ S.world s.old }
         ensures keeps { KeepsShown (S.shows s.old) (S.shows s.new) }
     {
@@ -126,6 +127,7 @@ impl<T: Item<T>> Shared<T> {
         ensures slot { slot_named result ≡ Some (slot_of self.now) }
         ensures tag { tag_of result ≡ no_tag }
         ensures shown { IfSome (shown_by result) (S.shows s.new (slot_of self.now)) }
+        ensures value { IfSome (shown_by result) (S.owns_value s.new (right_of self.now)) }
         ensures full { IsSome (shown_by result) }
         ensures exact { IsExact (S.seat s.old) → S.world s.new ≡ S.world s.old }
         ensures keeps { KeepsShown (S.shows s.old) (S.shows s.new) }
@@ -144,7 +146,7 @@ impl<T: Item<T>> Shared<T> {
         ensures own { S.own s.new ≡ S.own s.old }
         ensures known { KnowsOn (S.known s.old) (S.known s.new) }
         ensures home { IfOk result (λ owner. slots_home owner ≡ (S.seat s.old).home.slots) }
-        ensures shown { IfOk result (λ owner. S.shows s.new (slot_of owner) value) }
+        ensures shown { IfOk result (λ owner. S.owns_value s.new (right_of owner) value) }
         ensures exact { IsExact (S.seat s.old) → MatchResult result
             (λ owner. IsEmptyAt (S.world s.old).standings (slot_of owner) × (S.world s.new ≡ made_shared (S.world s.old) (slot_of owner) value))
             (λ e. IsFull (S.world s.old).standings × (e ≡ (value, Refused.NoSlot)) × (S.world s.new ≡ S.world s.old)) }
@@ -170,7 +172,7 @@ impl<T: Item<T>> Shared<T> {
         ensures own { S.own s.new ≡ S.own s.old }
         ensures known { KnowsOn (S.known s.old) (S.known s.new) }
         ensures home { IfOk result (λ owner. slots_home owner ≡ (S.seat s.old).home.slots) }
-        ensures shown { IfOk result (λ owner. (value : T) × F.post f value × S.shows s.new (slot_of owner) value) }
+        ensures shown { IfOk result (λ owner. (value : T) × F.post f value × S.owns_value s.new (right_of owner) value) }
         ensures exact { IsExact (S.seat s.old) → MatchResult result
             (λ owner. IsEmptyAt (S.world s.old).standings (slot_of owner) ×
             ((value : T) × F.post f value × (S.world s.new ≡ made_shared (S.world s.old) (slot_of owner) value)))

@@ -2,6 +2,7 @@
 ghost use Rattle.std.specs.Prelude.{◌≡◌, ◌≢◌, [], IfErr, IfOk, IsSome, MatchResult, Some};
 ghost use Rattle.sdd_store.specs.Time.{CanNest};
 ghost use Rattle.sdd_base.specs.Guard.{reader_of};
+ghost use Rattle.sdd_base.specs.Holding.{AreOf};
 ghost use Rattle.sdd_base.specs.Owned.{slot_of, slots_home};
 ghost use Rattle.sdd_base.specs.Seat.{IsSeated};
 ghost use Rattle.sdd_base.specs.Steps.{opened};
@@ -124,4 +125,27 @@ pub fn nested_guards_outer_first<S: Look<u64> + Guards<u64> + Items<u64>>(
     let after = under_inner.as_ref(s).copied();
     inner.close(s);
     Ok((before, after))
+}
+
+/// Makes an item, looks at it under a guard, and again under a guard within that one, and retires it: answers what was seen, which is both times the
+/// value that it was made with, whatever other participants do meanwhile.
+///
+/// `TooManyGuards` where not both guards can be opened, and `NoSlot` where no slot is free.
+pub fn made_and_seen<T: Item<T> + Copy, S: Guards<T> + Items<T>>(
+    value: T,
+    s: &mut S,
+) -> Result<(T, T), Refused>
+    requires seated { IsSeated (S.seat s.old) }
+    requires home { AreOf (S.seat s.old).home (T.holds value) }
+    ensures seat { S.seat s.new ≡ S.seat s.old }
+    ensures first { IfOk result (λ seen. seen.0 ≡ value) }
+    ensures second { IfOk result (λ seen. seen.1 ≡ value) }
+{
+    let owner = match Owned::new(value, s) {
+        Ok(owner) => owner,
+        Err((_, refused)) => return Err(refused),
+    };
+    let seen = seen_twice(&owner, s);
+    owner.retire(s);
+    seen
 }

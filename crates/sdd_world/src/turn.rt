@@ -153,6 +153,12 @@ impl<T: Item<T>, J: Job> Guards<T> for Turn<'_, T, J> {
 }
 
 impl<T: Item<T>, J: Job> Items<T> for Turn<'_, T, J> {
+    ghost use Rattle.std.specs.Prelude.{◌≡◌, Some};
+    ghost use Rattle.sdd_token.specs.Right.{number_of};
+    ghost use Rattle.sdd_base.specs.World.{value_at};
+
+    ghost owns_value = { λ t right value. value_at t.world.now (number_of right) ≡ Some value };
+
     fn make(&mut self, value: T, kind: Kind) -> Result<Right, (T, Refused)> {
         let world = &mut *self.world;
         match world.core.make(value, kind) {
@@ -178,6 +184,12 @@ impl<T: Item<T>, J: Job> Items<T> for Turn<'_, T, J> {
         let world = &mut *self.world;
         world.core.let_go(self.place, right, kind)
     }
+
+    ghost one_owned = { λ t right u v a b. one_value t.world.now (number_of right) u v a b };
+
+    ghost keeps_owned = { λ _ _ kept right value owned. kept (number_of right) value owned };
+
+    ghost owned_is_shown = { λ _ _ _ _. (λ h. h, λ h. h) };
 }
 
 impl<T: Item<T>, J: Job> Edits<T> for Turn<'_, T, J> {
