@@ -5,8 +5,8 @@ use mathlib.Core.Logic.{dite}
 use native.Mathlib.Decide.{ℕ_discrete}
 use lib.ListN.{get_elem?}
 use base.Stored.{Gv}
-use Rattle.std.specs.Prelude.{None}
-use Rattle.atomic_table.proofs.Lists.{at_set}
+use Rattle.std.specs.Prelude.{Some, None}
+use Rattle.atomic_table.proofs.Lists.{at_set, at_snoc}
 use Rattle.sdd_stakes.specs.declared.stake.Stake.{Stake}
 use Rattle.sdd_rule.specs.declared.Showing.{Showing}
 use Rattle.sdd_rule.specs.declared.StakesView.{StakesView}
@@ -14,7 +14,7 @@ use Rattle.sdd_rule.specs.declared.View.{View}
 use Rattle.sdd_rule.specs.declared.Sizes.{Sizes}
 use Rattle.sdd_rule.specs.Slots.{OwnsAlone, Sees}
 use Rattle.sdd_rule.specs.Sums.{times}
-use Rattle.sdd_rule.proofs.Frame.{each_set}
+use Rattle.sdd_rule.proofs.Frame.{each_set, each_snoc}
 use Rattle.sdd_rule.proofs.Sums.{is_same, is_other, both_set}
 use Rattle.sdd_homes.specs.Homes.{Homes, LiesAt, Moves}
 use Rattle.sdd_homes.specs.Records.{slot_shown, IsIn, KnowsShown, IsKnown, IsTelling, RecordsPart}
@@ -113,6 +113,19 @@ module _ (sizes : Sizes) (vs : List View) (hs : Homes) (part : RecordsPart sizes
   unknown i blind owners g k = let t = part.each k.0 k.1 k.2 in ⊎_elim
       (λ (h : IsIn k.1.stakes.owns i g). let o = t.owns i g h in o.1 (owners k.0 k.1 k.2 o.0))
       (λ (h : IsIn k.1.stakes.sees i g). blind k.0 k.1 k.2 (sees_told k.1 t i g h)) k.3
+
+  -- a new token, which moves none, and sees none
+  pub arrives : (t : View) → IsTelling t → ((i : ℕ) (g : Gv) → KnowsShown t i g → IsKnown vs i g) → t.stakes.moves ≡ None → t.slots.sees ≡ []
+      → RecordsPart sizes (vs ++ t ∷ []) hs
+  arrives t tells known rests blind = let still : (i : ℕ) → ¬ (Moves t i) = λ i m. let e : None ≡ Some i = sym rests ∙ m in cc in
+      kept_by (vs ++ t ∷ []) hs (each_snoc IsTelling vs t part.each tells)
+      (λ i g k. ⊎_elim (λ (a : get_elem? vs k.0 ≡ some k.1). (k.0, k.1, a, k.3))
+      (λ (e : t ≡ k.1). known i g (subst (λ (u : View). KnowsShown u i g) (sym e) k.3)) (at_snoc vs t k.1 k.0 k.2))
+      (λ i p y _ _ l. inl l)
+      (λ j k a b e e'. ⊎_elim
+      (λ (x : get_elem? vs j ≡ some a). ⊎_elim (λ (y : get_elem? vs k ≡ some b) (i : ℕ). part.apart j k a b i x y)
+      (λ (y : t ≡ b). subst (NotSeen a) y (λ i m s. let z = ap (times i) blind in absurd (omega arith))) (at_snoc vs t b k e'))
+      (λ (x : t ≡ a). subst (λ (u : View). NotSeen u b) x (λ i m. absurd (still i m))) (at_snoc vs t a j e))
 
   module _ (id : ℕ) (v : View) (at : get_elem? vs id ≡ some v) where
     pub mine : (i : ℕ) (g : Gv) → KnowsShown v i g → IsKnown vs i g

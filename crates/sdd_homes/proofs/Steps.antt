@@ -39,7 +39,7 @@ use Rattle.sdd_rule.proofs.SlotWords.{owner_in, owners_in}
 use Rattle.sdd_rule.proofs.Sums.{is_same, is_other, without_same, without_other, total_has, total_two}
 use Rattle.sdd_rule.proofs.Waits.{waits_once}
 use Rattle.sdd_homes.specs.Alone.{AllowsAlone, AllowsBeside, moved}
-use Rattle.sdd_homes.specs.Homes.{Carries, stake_at, share, Has, IsShown, Moves, NoneOut, LiesAt, HomesPart}
+use Rattle.sdd_homes.specs.Homes.{Carries, stake_at, share, Has, IsShown, Moves, NoneOut, LiesAt}
 use Rattle.sdd_homes.specs.Housed.{Housed}
 use Rattle.sdd_homes.specs.HomeSteps.{Mine, HasAll, IsValue, Purse, moving, resting, telling, untold, sighting, unsighted, ClaimsAll, Houses, TakesOut, TakesHeld, RetiresOne, GivesAll, DiscardsAll, Watches, ClosesHome, OfSlot}
 use Rattle.sdd_homes.specs.Records.{slot_shown, IsIn, KnowsShown, IsKnown, IsTelling, RecordsPart}
@@ -99,10 +99,10 @@ one_view vs id j u v e at same = some-injective u v (sym e ∙ (ap (get_elem? vs
 module _ (v : View) (t : IsTelling v) (slot : ℕ) where
   -- it claims a slot
   claimed_tells : v.stakes.moves ≡ None → ¬ (OwnsAlone v slot) → (y : ℕ) → IsTelling (moving slot (claimed slot y v))
-  claimed_tells rests none y = let w : View = moving slot (claimed slot y v) in record {
+  claimed_tells rests never y = let w : View = moving slot (claimed slot y v) in record {
     owns = λ i g h. let o = (t.owns i g h).0 in (
       let l : OwnsAlone w i = omega arith in l,
-      λ m. none (subst (OwnsAlone v) (one_moved w slot i refl m) o),
+      λ m. never (subst (OwnsAlone v) (one_moved w slot i refl m) o),
     );
     owned = λ i o still. dite (ℕ_discrete i slot) (λ e. absurd (still (ap Some (sym e))))
         (λ ne. t.owned i (let q = is_other i slot (λ e. ne (sym e)) in omega arith) (none_moved v i rests));
@@ -111,8 +111,8 @@ module _ (v : View) (t : IsTelling v) (slot : ℕ) where
 
   -- it moves the value of a slot whose only owner it hasn't
   moving_tells : v.stakes.moves ≡ None → ¬ (OwnsAlone v slot) → IsTelling (moving slot v)
-  moving_tells rests none = record {
-    owns = λ i g h. let o = (t.owns i g h).0 in (o, λ m. none (subst (OwnsAlone v) (one_moved (moving slot v) slot i refl m) o));
+  moving_tells rests never = record {
+    owns = λ i g h. let o = (t.owns i g h).0 in (o, λ m. never (subst (OwnsAlone v) (one_moved (moving slot v) slot i refl m) o));
     owned = λ i o still. t.owned i o (none_moved v i rests);
     sees = t.sees;
   }
@@ -157,13 +157,13 @@ module _ (v : View) (t : IsTelling v) (slot : ℕ) where
     -- a value was moved out
     rested_tells : (w : View) → w.stakes ≡ record v.stakes { moves = None } → ((i : ℕ) → i ≢ slot → times i w.slots.owns ≡ times i v.slots.owns)
         → ¬ (OwnsAlone w slot) → w.slots.sees ≡ v.slots.sees → IsTelling w
-    rested_tells w is same none seen = record {
+    rested_tells w is same never seen = record {
       owns = λ i g h. let o = t.owns i g (subst (λ (k : StakesView). IsIn k.owns i g) is h) in let b = o.0 in
           let e = same i (λ e. o.1 (mine ∙ ap Some (sym e))) in (
             let l : OwnsAlone w i = omega arith in l,
             none_moved w i (ap (λ (k : StakesView). k.moves) is),
           );
-      owned = λ i o still. dite (ℕ_discrete i slot) (λ e. absurd (none (subst (OwnsAlone w) e o)))
+      owned = λ i o still. dite (ℕ_discrete i slot) (λ e. absurd (never (subst (OwnsAlone w) e o)))
           (λ ne. let e = same i ne in let b = t.owned i (omega arith) (λ m. ne (one_moved v slot i mine m)) in
           (b.0, subst (λ (k : StakesView). IsIn k.owns i b.0) (sym is) b.1));
       sees = ap (λ (k : StakesView). map slot_shown k.sees) is ∙ (t.sees ∙ sym seen);
@@ -195,13 +195,13 @@ module _ (γ : ℕ) (sizes : Sizes) (s : State Stake View) (h : Housed γ sizes 
   pub comes_home : (Is : Gv → Type 0) (rest xs : Carries) (g : Given γ sizes.participants i Is s.homes rest xs (suc sizes.participants))
       → ((g : Gv) → ¬ (IsKnown s.views i g)) → (w : View) → IsTelling w → w.stakes ≡ record v.stakes { moves = None } → w.slots.sees ≡ v.slots.sees
       → RecordsPart sizes (set s.views id w) (homes_after s.homes xs g.act)
-  comes_home Is rest xs g none w tells is seen = let n : ℕ = sizes.participants in
+  comes_home Is rest xs g never w tells is seen = let n : ℕ = sizes.participants in
       records.no_more sizes s.views s.homes h.records id v at w (homes_after s.homes xs g.act) tells
       (λ k g' a. records.mine sizes s.views s.homes h.records id v at k g' (⊎_elim
       (λ (b : IsIn w.stakes.owns k g'). inl (subst (λ (x : StakesView). IsIn x.owns k g') is b))
       (λ (b : IsIn w.stakes.sees k g'). inr (subst (λ (x : StakesView). IsIn x.sees k g') is b)) a))
       (λ j p y low near lies. ⊎_elim
-      (λ (b : (j ≡ i) × Has γ i (share n p) Is y). inr (λ g' a. absurd (none g' (subst (λ (k : ℕ). IsKnown s.views k g') b.0 a))))
+      (λ (b : (j ≡ i) × Has γ i (share n p) Is y). inr (λ g' a. absurd (never g' (subst (λ (k : ℕ). IsKnown s.views k g') b.0 a))))
       (λ (b : (j ≢ i) × LiesAt n s.homes j p y). inl b.1) (given_lies γ n i Is s.homes rest xs g j p y near lies))
       (λ k m. absurd (none_moved w k (ap (λ (x : StakesView). x.moves) is) m))
       (λ k a. subst (λ (l : List ℕ). 0 < times k l) seen a)

@@ -2,33 +2,47 @@
 use Rattle.std.proofs.Common.{◌≡◌, inl, inr, ℕ, zero, suc, ◌<◌, ◌≤◌, List, [], ◌∷◌, ◌++◌, length, get_or, set, sym, refl, ap, ◌∙◌, subst, ⊎_elim, arith}
 use Rattle.std.proofs.lemmas.List.{length-map}
 use mathlib.Core.Option.{some, some-injective, some-ne-none}
+use mathlib.Core.Logic.{dite}
+use native.Mathlib.Decide.{ℕ_discrete}
 use Rattle.std.specs.Prelude.{None}
 use lib.ListN.{get_elem?}
+use base.Stored.{Gv}
 use Rattle.atomic_table.specs.Table.{State, Enters, Splits, Joins, opening}
-use Rattle.atomic_table.proofs.Lists.{at_map}
+use Rattle.atomic_table.proofs.Lists.{at_map, at_longer, set_else}
 use Rattle.sdd_stakes.specs.Shelf.{IsVacant, most}
 use Rattle.sdd_stakes.specs.declared.stake.Stake.{Stake}
+use Rattle.sdd_rule.specs.declared.Showing.{Showing}
 use Rattle.sdd_rule.specs.declared.View.{View}
 use Rattle.sdd_rule.specs.declared.Sizes.{Sizes}
 use Rattle.sdd_rule.specs.Words.{all_words}
 use Rattle.sdd_rule.specs.Codes.{alive, waiting, full}
-use Rattle.sdd_rule.specs.Sums.{is, times}
-use Rattle.sdd_rule.specs.Slots.{slot_at, items_at, OwnsAlone, Sees}
-use Rattle.sdd_rule.specs.SlotSteps.{first, parted, joined}
+use Rattle.sdd_rule.specs.Sums.{times}
+use Rattle.sdd_rule.specs.Slots.{slot_at, OwnsAlone, Sees}
+use Rattle.sdd_rule.specs.SlotSteps.{first, others}
 use Rattle.sdd_rule.specs.Epoch.{HasPlace}
-use Rattle.sdd_rule.specs.Parts.{epoch_of, idle, owner_token}
+use Rattle.sdd_rule.specs.Parts.{epoch_of, idle, owner_token, owner_of}
 use Rattle.sdd_rule.proofs.Codes.{sound}
 use Rattle.sdd_rule.proofs.Lift as kept
-use Rattle.sdd_rule.proofs.Sums.{total_append}
-use Rattle.sdd_homes.specs.Homes.{stake_at, share, Has, IsShown, Moves, IsOut, LiesAt, AreLaid, HomesPart, Housed}
+use Rattle.sdd_rule.proofs.Sums.{is_same, is_other}
+use Rattle.sdd_homes.specs.Homes.{stake_at, share, Has, IsShown, Moves, IsOut, LiesAt, AreLaid, HomesPart}
+use Rattle.sdd_homes.specs.Housed.{Housed}
+use Rattle.sdd_homes.specs.HomeSteps.{parting, departing, regained}
+use Rattle.sdd_homes.specs.Records.{IsIn, KnowsShown, IsKnown, IsTelling, RecordsPart}
 use Rattle.sdd_homes.proofs.Places.{inside}
 use Rattle.sdd_homes.proofs.Part.{IsMover}
 use Rattle.sdd_homes.proofs.Part as part
+use Rattle.sdd_homes.proofs.Records.{in_head, in_tail, in_either, in_none, telling_none, knows_none}
+use Rattle.sdd_homes.proofs.Records as records
 use Rattle.sdd_homes.proofs.Steps.{none_moved, still_free}
 
 nothing_out : (v : View) → v.stakes.moves ≡ None → v.slots.sees ≡ [] → (i p : ℕ) → ¬ (IsOut v i p)
 nothing_out v rests blind i p out = ⊎_elim (λ (m : Moves v i). none_moved v i rests m)
     (λ (o : Sees v i × (v.epoch.place ≡ p)). let a = ap (times i) blind in let b = o.0 in absurd (omega arith)) out
+
+set_front : {A : Type 0} (l m : List A) (i : ℕ) (a b : A) → get_elem? l i ≡ some a → set (l ++ m) i b ≡ set l i b ++ m
+set_front [] m i a b e = absurd (some-ne-none a (sym e))
+set_front (x ∷ xs) m zero a b e = refl
+set_front (x ∷ xs) m (suc i) a b e = ap (λ (l : List _). x ∷ l) (set_front xs m i a b e)
 
 module _ (γ : ℕ) (sizes : Sizes) where
   -- a new token, which knows nothing
@@ -40,6 +54,9 @@ module _ (γ : ℕ) (sizes : Sizes) where
           kept = r.1;
           homes = subst (λ (w : View). HomesPart γ sizes s.words (s.views ++ w ∷ []) s.homes) (sym r.2.0)
               (part.arrives γ sizes s.words s.views s.homes h.homes t (nothing_out t refl refl) (λ i m. absurd (none_moved t i refl m)));
+          records = subst (λ (w : View). RecordsPart sizes (s.views ++ w ∷ []) s.homes) (sym r.2.0)
+              (records.arrives sizes s.views s.homes h.records t (telling_none t refl refl refl refl) (λ i g k. absurd (knows_none t refl refl i g k))
+              refl refl);
         },
         r.2.1,
       )
@@ -60,36 +77,83 @@ module _ (γ : ℕ) (sizes : Sizes) where
       back = λ i p low near away. let l = laid.each i p near (inside n sizes.slots i p low near) in (l.0, at_map some xs (stake_at n i p) l.0 l.1);
       moving = λ j v i e m. absurd (none_moved v i (subst (λ (u : View). u.stakes.moves ≡ None) (only j v e) refl) m);
     };
+    records = record {
+      each = λ j v e. subst IsTelling (only j v e) (telling_none (idle sizes γ) refl refl refl refl);
+      agree = λ i g h a b. absurd (none_known i g a);
+      home = λ i p g y low near a l. absurd (none_known i g a);
+      apart = λ j k v w i e e' m. absurd (none_moved v i (subst (λ (u : View). u.stakes.moves ≡ None) (only j v e) refl) m);
+    };
   }
     where
       only : (j : ℕ) (v : View) → get_elem? (idle sizes γ ∷ []) j ≡ some v → idle sizes γ ≡ v
       only zero v e = some-injective _ _ e
       only (suc j) v e = absurd (some-ne-none v (sym e))
 
-  -- the only owner of the first slot goes to a token of its own, where none is held and no value is moved
-  pub parts_owner : (id : ℕ) (v : View) → v.slots.holds ≡ None → v.stakes.moves ≡ None
-      → Splits (Housed γ sizes) id v (parted v) (owner_token (first v.slots.owns) [])
-  parts_owner id v free rests s h at = let t : View = owner_token (first v.slots.owns) [] in let w : View = parted v in record {
-    kept = kept.parts_owner sizes id v free s h.kept at;
-    homes = part.arrives γ sizes s.words (set s.views id w) s.homes
-        (part.calm γ sizes s.words s.views s.homes h.homes id v at s.words w (λ i p out. out) (λ i _. refl) (λ i m. absurd (none_moved w i rests m)))
-        t (nothing_out t refl refl) (λ i m. absurd (none_moved t i refl m));
-  }
+      none_known : (i : ℕ) (g : Gv) → ¬ (IsKnown (idle sizes γ ∷ []) i g)
+      none_known i g k = knows_none (idle sizes γ) refl refl i g (subst (λ (u : View). KnowsShown u i g) (sym (only k.0 k.1 k.2)) k.3)
+
+  -- the only owner that it has goes to a token of its own, with what is known of its slot, where none is held and no value is moved
+  pub parts_owner : (id : ℕ) (v : View) (slot : ℕ) → v.slots.owns ≡ slot ∷ [] → v.slots.holds ≡ None → v.stakes.moves ≡ None
+      → Splits (Housed γ sizes) id v (parting v) (departing v)
+  parts_owner id v slot owns free rests s h at = let t : View = departing v in let w : View = parting v in let r = h.records in let told = r.each id v at in
+      let vs : List View = s.views ++ t ∷ [] in let mine = records.mine sizes s.views s.homes r id v at in
+      let came = records.arrives sizes s.views s.homes r t
+      record {
+        owns = λ i g k. let o = (told.owns i g k).0 in (
+          let e = ap (times i) owns in let e' = ap (λ (l : List ℕ). times i (first l)) owns in let l : OwnsAlone t i = omega arith in l,
+          none_moved t i refl,
+        );
+        owned = λ i o still. told.owned i
+            (let e = ap (times i) owns in let e' = ap (λ (l : List ℕ). times i (first l)) owns in omega arith) (none_moved v i rests);
+        sees = refl;
+      }
+      (λ i g k. ⊎_elim (λ (a : IsIn v.stakes.owns i g). mine i g (inl a)) (λ (a : IsIn [] i g). absurd (in_none i g a)) k) refl refl in record {
+        kept = kept.parts_owner sizes id v w.stakes t.stakes free s h.kept at;
+        homes = part.arrives γ sizes s.words (set s.views id w) s.homes
+            (part.calm γ sizes s.words s.views s.homes h.homes id v at s.words w (λ i p out. out) (λ i _. refl) (λ i m. absurd (none_moved w i rests m)))
+            t (nothing_out t refl refl) (λ i m. absurd (none_moved t i refl m));
+        records = subst (λ (us : List View). RecordsPart sizes us s.homes) (set_front s.views (t ∷ []) id v w at)
+            (records.no_more sizes vs s.homes came id v (at_longer s.views (t ∷ []) id v at) w s.homes
+            record {
+              owns = λ i g k. absurd (in_none i g k);
+              owned = λ i o still. absurd (let e = ap (λ (l : List ℕ). times i (others l)) owns in omega arith);
+              sees = told.sees;
+            }
+            (λ i g k. ⊎_elim (λ (a : IsIn [] i g). absurd (in_none i g a))
+            (λ (a : IsIn v.stakes.sees i g). (id, v, at_longer s.views (t ∷ []) id v at, inr a)) k)
+            (λ i p y _ _ l. inl l) (λ i m. m) (λ i a. a));
+      }
 
   -- and comes back
-  pub joins_owners : (id : ℕ) (v : View) (other : ℕ) (os ss : List ℕ)
-      → Joins (Housed γ sizes) id v other (owner_token os ss) (joined v (owner_token os ss)) (owner_token [] [])
-  joins_owners id v other os ss s h at apart there = let t : View = owner_token os ss in let t' : View = owner_token [] [] in let w : View = joined v t in
-      let vs : List View = set s.views id w in record {
-        kept = kept.joins_owners sizes id v other os ss s h.kept at apart there;
+  pub joins_owner : (id : ℕ) (v : View) (other slot : ℕ) (value : Gv) → v.stakes.moves ≡ None
+      → Joins (Housed γ sizes) id v other (owner_of slot value) (regained v (owner_of slot value)) (owner_token [] [])
+  joins_owner id v other slot value rests s h at apart there = let t : View = owner_of slot value in let t' : View = owner_token [] [] in
+      let w : View = regained v t in let vs : List View = set s.views id w in let r = h.records in let told = r.each id v at in
+      let now : Showing = record { slot = slot; value = value } in let mine = records.mine sizes s.views s.homes r id v at in
+      let was : get_elem? s.views other ≡ some t = sym (set_else s.views id other w apart) ∙ there in
+      let came = records.no_more sizes s.views s.homes r id v at w s.homes
+      record {
+        owns = λ i g k. ⊎_elim
+            (λ (e : (slot ≡ i) × (value ≡ g)). (let o = is_same i slot e.0 in let l : OwnsAlone w i = omega arith in l, none_moved w i rests))
+            (λ (a : IsIn v.stakes.owns i g). let o = (told.owns i g a).0 in (let l : OwnsAlone w i = omega arith in l, none_moved w i rests))
+            (in_either now v.stakes.owns i g k);
+        owned = λ i o still. dite (ℕ_discrete slot i) (λ e. (value, in_head now v.stakes.owns i value e refl))
+            (λ ne. let b = told.owned i (let q = is_other i slot ne in omega arith) (none_moved v i rests) in
+            (b.0, in_tail now v.stakes.owns i b.0 b.1));
+        sees = told.sees;
+      }
+      (λ i g k. ⊎_elim
+      (λ (a : IsIn (now ∷ v.stakes.owns) i g). ⊎_elim (λ (e : (slot ≡ i) × (value ≡ g)). (other, t, was, inl (in_head now [] i g e.0 e.1)))
+      (λ (b : IsIn v.stakes.owns i g). mine i g (inl b)) (in_either now v.stakes.owns i g a))
+      (λ (a : IsIn v.stakes.sees i g). mine i g (inr a)) k)
+      (λ i p y _ _ l. inl l) (λ i m. m) (λ i a. a) in record {
+        kept = kept.joins_owners sizes id v other (slot ∷ []) [] w.stakes t.stakes s h.kept at apart there;
         homes = part.calm γ sizes s.words vs s.homes
-            (part.calm γ sizes s.words s.views s.homes h.homes id v at s.words w (λ i p out. out) (λ i _. refl)
-            (λ i m. let mover = h.homes.moving id v i at m in (
-              mover.0,
-              ⊎_elim
-                  (λ (o : OwnsAlone v i). inl (let e = total_append (is i) os v.slots.owns in omega arith)) (λ (o : 0 < items_at i v). inr o) mover.1,
-            )))
+            (part.calm γ sizes s.words s.views s.homes h.homes id v at s.words w (λ i p out. out) (λ i _. refl) (λ i m. absurd (none_moved w i rests m)))
             other t there s.words t' (λ i p out. absurd (nothing_out t refl refl i p out)) (λ i _. refl) (λ i m. absurd (none_moved t' i refl m));
+        records = records.no_more sizes vs s.homes came other t there t' s.homes (telling_none t' refl refl refl refl)
+            (λ i g k. absurd (knows_none t' refl refl i g k)) (λ i p y _ _ l. inl l) (λ i m. absurd (none_moved t' i refl m))
+            (λ i a. absurd (omega arith));
       }
 
   -- all stakes in a slot that is free are at home, and show that it is vacant

@@ -9,20 +9,19 @@ use seplogic.Ra.Ura.{Ura}
 use base.Fraction.{full_share}
 use base.FractionLaws.{not-OpDef-full_share}
 use base.Share.{quarter, three_quarters}
-use base.Share
-use base.Stored.{Gv, Coded}
+use base.Stored.{Coded}
 use base.Algebras.{pcs, shares}
-use base.Several.{invs, bodies}
-use base.Logic.{SProp, ent, sep, ex, all, guard, upd, all_e, upd_i, id⊢, guard_i}
+use base.Several.{bodies}
+use base.Logic.{SProp, ent, sep, ex, all, guard, upd, all_e, upd_i, guard_i}
 use base.Fml.{Lft, Share, Fml, ftrue, fsep, fex, fbor, fnamed, flft}
 use types.Logic.{Logic, sem}
 use types.Keyed.{entries_beside}
-use types.Kit.{‵, raw, ◌⊛◌, some, given, later, ◌$◌, ◌∵◌, !, qed, by, move, keep, drop, split, split3, join, fsplit, fsplit3, fjoin, fjoin3, fpick, fpack, pick, learn, show, check, frame, each, assume, suffices, settle, updating, await, now, done, use1, use2, rewrite}
+use types.Kit.{‵, raw, ◌⊛◌, some, given, ◌$◌, ◌∵◌, !, qed, by, move, keep, drop, split, join, fsplit, fsplit3, fjoin, fjoin3, fpick, fpack, pick, learn, show, check, frame, assume, suffices, settle, done, use1, use2, rewrite}
 use denote.RattleType.{RattleType}
 use denote.RawPtr.{Ptr, block_of, count_of}
 use denote.Steps.{nothing}
 use Rattle.atomic_table.specs.Table.{State, Me, Act, keeps, takes, gives, chain, homes_after, carried_after, Valid, Splits, Joins}
-use Rattle.atomic_table.specs.Seated.{word, fact, row, halved, seen, unused, roster, tracked, shelf, carried, TableId, age, place, names, standing, inner, common, mine}
+use Rattle.atomic_table.specs.Seated.{fact, row, halved, seen, unused, roster, tracked, shelf, carried, TableId, age, place, names, standing, inner, common, mine}
 use Rattle.atomic_table.proofs.Roster.{Moved, moves, Joined, joins, apart, taken, returned}
 use Rattle.sdd_witness.specs.Witness.{view_of}
 use Rattle.sdd_witness.specs.Steps.{moved, AllowsAlone, AllowsBeside}

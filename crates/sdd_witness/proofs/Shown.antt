@@ -14,7 +14,7 @@ use base.Fml.{Lft, Share, Fml, fbor, fshr_bor}
 use ghost.Rules.{Halves}
 use types.Logic.{Logic, sem, lfts}
 use types.Keyed.{entry, entry_keyless, entry_cut, entry_glue}
-use types.Kit.{‵, raw, ◌⊛◌, ◌$◌, ◌∵◌, !, qed, updating, now, done}
+use types.Kit.{‵, raw, ◌$◌, !, qed, updating, now, done}
 use types.Tokens.{bor_fracture}
 use denote.Sharing.{ShrLaws}
 use denote.SharingLaws.{nothing_shr_laws, one_shr_laws}

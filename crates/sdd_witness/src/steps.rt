@@ -38,8 +38,13 @@ pub fn step_beside<S, V, K, P: TableRule<S, V, K>, M: Beside<S, V>>(
     seat: &mut Seat<S, V>,
     witness: &Witness,
 )
-    requires { (seat.old.table_id ≡ table.now.table_id) × (witness.now.table_id ≡ table.now.table_id) × ((w : V) × (witness.now.views ≡ V.row.coded.code w ∷ []) × AllowsBeside (P.holds table.now.key) table.now.table_id.slots seat.old.id seat.old.me witness.now.id w (M.then w seat.old.me)) }
-    ensures { (seat.new.table_id ≡ seat.old.table_id) × (seat.new.id ≡ seat.old.id) × ((w : V) × (witness.now.views ≡ V.row.coded.code w ∷ []) × M.then w seat.old.me seat.new.me) }
+    requires { (seat.old.table_id ≡ table.now.table_id)
+        × (witness.now.table_id ≡ table.now.table_id)
+        × ((w : V) × (witness.now.views ≡ V.row.coded.code w ∷ [])
+        × AllowsBeside (P.holds table.now.key) table.now.table_id.slots seat.old.id seat.old.me witness.now.id w
+        (M.then w seat.old.me)) }
+    ensures { (seat.new.table_id ≡ seat.old.table_id) × (seat.new.id ≡ seat.old.id)
+        × ((w : V) × (witness.now.views ≡ V.row.coded.code w ∷ []) × M.then w seat.old.me seat.new.me) }
 {
     let _ = table;
     let _ = witness;
@@ -50,7 +55,8 @@ pub fn part<S, V, K, P: TableRule<S, V, K>, M: Split<V>>(
     table: &Shared<S, V, K, P>,
     seat: &mut Seat<S, V>,
 ) -> Witness
-    requires { (seat.old.table_id ≡ table.now.table_id) × Splits (P.holds table.now.key) seat.old.id seat.old.me.0 (M.left seat.old.me.0) (M.right seat.old.me.0) }
+    requires { (seat.old.table_id ≡ table.now.table_id)
+        × Splits (P.holds table.now.key) seat.old.id seat.old.me.0 (M.left seat.old.me.0) (M.right seat.old.me.0) }
     ensures seat { (seat.new.table_id ≡ seat.old.table_id) × (seat.new.id ≡ seat.old.id) × (seat.new.me ≡ (M.left seat.old.me.0, seat.old.me.1)) }
     ensures witness { (result.table_id ≡ seat.old.table_id) × (result.views ≡ V.row.coded.code (M.right seat.old.me.0) ∷ []) }
 {
@@ -66,8 +72,12 @@ pub fn rejoin<S, V, K, P: TableRule<S, V, K>, M: Join<V>>(
     seat: &mut Seat<S, V>,
     witness: Witness,
 )
-    requires { (seat.old.table_id ≡ table.now.table_id) × (witness.table_id ≡ table.now.table_id) × ((w : V) × (witness.views ≡ V.row.coded.code w ∷ []) × Joins (P.holds table.now.key) seat.old.id seat.old.me.0 witness.id w (M.both seat.old.me.0 w) M.spent) }
-    ensures { (seat.new.table_id ≡ seat.old.table_id) × (seat.new.id ≡ seat.old.id) × ((w : V) × (witness.views ≡ V.row.coded.code w ∷ []) × (seat.new.me ≡ (M.both seat.old.me.0 w, seat.old.me.1))) }
+    requires { (seat.old.table_id ≡ table.now.table_id)
+        × (witness.table_id ≡ table.now.table_id)
+        × ((w : V) × (witness.views ≡ V.row.coded.code w ∷ [])
+        × Joins (P.holds table.now.key) seat.old.id seat.old.me.0 witness.id w (M.both seat.old.me.0 w) M.spent) }
+    ensures { (seat.new.table_id ≡ seat.old.table_id) × (seat.new.id ≡ seat.old.id)
+        × ((w : V) × (witness.views ≡ V.row.coded.code w ∷ []) × (seat.new.me ≡ (M.both seat.old.me.0 w, seat.old.me.1))) }
 {
     witness.enter::<S, V, K, P, M>(table, seat);
 }

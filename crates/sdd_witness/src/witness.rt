@@ -41,8 +41,12 @@ impl Witness {
         table: &Shared<S, V, K, P>,
         seat: &mut Seat<S, V>,
     )
-        requires { (seat.old.table_id ≡ table.now.table_id) × (self.table_id ≡ table.now.table_id) × ((w : V) × (self.views ≡ V.row.coded.code w ∷ []) × Joins (P.holds table.now.key) seat.old.id seat.old.me.0 self.id w (M.both seat.old.me.0 w) M.spent) }
-        ensures { (seat.new.table_id ≡ seat.old.table_id) × (seat.new.id ≡ seat.old.id) × ((w : V) × (self.views ≡ V.row.coded.code w ∷ []) × (seat.new.me ≡ (M.both seat.old.me.0 w, seat.old.me.1))) }
+        requires { (seat.old.table_id ≡ table.now.table_id)
+            × (self.table_id ≡ table.now.table_id)
+            × ((w : V) × (self.views ≡ V.row.coded.code w ∷ [])
+            × Joins (P.holds table.now.key) seat.old.id seat.old.me.0 self.id w (M.both seat.old.me.0 w) M.spent) }
+        ensures { (seat.new.table_id ≡ seat.old.table_id) × (seat.new.id ≡ seat.old.id)
+            × ((w : V) × (self.views ≡ V.row.coded.code w ∷ []) × (seat.new.me ≡ (M.both seat.old.me.0 w, seat.old.me.1))) }
     {
         let _ = table;
         let Witness { marker: _ } = self;
