@@ -2,11 +2,14 @@ pub mod Sizes
 pub mod Board
 pub mod Shelf
 pub mod Token
+pub mod Sight
+pub mod Owner
 pub mod Waits
 pub mod Claims
 pub mod Scan
 pub mod Domain
-pub mod Local
-pub mod Posed
 pub mod Receipt
+pub mod Local
+pub mod Items
+pub mod Posed
 pub mod Space

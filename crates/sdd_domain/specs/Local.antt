@@ -1,5 +1,6 @@
 -- A participant of a domain as its callers see it, and what each call does to it
-use Rattle.std.specs.Prelude.{◌≡◌, ◌≢◌, ◌⊎◌, ℕ, ◌+◌, ◌^◌, ◌<◌, ◌≤◌, false, List, [], ◌∷◌, ◌++◌, slice_index, slice_set}
+use Rattle.std.specs.Prelude.{◌≡◌, ◌≢◌, ◌⊎◌, ℕ, ◌+◌, ◌^◌, ◌<◌, ◌≤◌, false, List, [], ◌∷◌, ◌++◌, length, slice_index, slice_set}
+use base.Stored.{Gv}
 use Rattle.atomic_table.specs.Seated.{TableId}
 use Rattle.sdd_base.specs.declared.limits.Limits.{Limits}
 use Rattle.sdd_store.specs.declared.time.Participant.{Participant}
@@ -8,17 +9,20 @@ use Rattle.sdd_store.specs.Time.{newcomer, nested, awaiting}
 use Rattle.sdd_base.specs.Guard.{Reader}
 use Rattle.sdd_base.specs.Own.{opened_at, closed_with}
 use Rattle.sdd_store.specs.declared.tally.Tally.{Tally}
-use Rattle.sdd_store.specs.Tally.{no_items}
+use Rattle.sdd_store.specs.Tally.{no_items, one_made}
 use Rattle.sdd_rule.specs.declared.Sizes.{Sizes}
+use Rattle.sdd_rule.specs.declared.Showing.{Showing}
 use Rattle.sdd_rule.specs.declared.SlotsView.{SlotsView}
 use Rattle.sdd_rule.specs.Codes.{free_word, owned_word, waiting_word}
 use Rattle.sdd_rule.specs.Sums.{times}
-use Rattle.sdd_rule.specs.SlotSteps.{bare, behind, without, retired_now}
+use Rattle.sdd_rule.specs.SlotSteps.{bare, behind, retired_now}
+use Rattle.sdd_homes.specs.Records.{IsIn}
+use Rattle.sdd_domain.specs.Receipt.{with_reclaimed}
 use Rattle.sdd_domain.specs.Waits.{waits_at, due_at, freed}
 
 -- the domain, its limits, the place, whose guards are the participant's, what it keeps of its own, the greatest count that it knows,
 -- the global count at its last publish (0 before the first), what it made and reclaimed, how many of each its domain has,
--- what it knows of slots, and the words that it knows if it is lone
+-- what it knows of slots, what those show that its guards see, and the words that it knows if it is lone
 pub record Member : Type 0 where
   pub home : TableId
   pub limits : Limits
@@ -30,6 +34,7 @@ pub record Member : Type 0 where
   pub tally : Tally
   pub sizes : Sizes
   pub slots : SlotsView
+  pub shown : List Showing
   pub words : List ℕ
 
 -- no other participant may be
@@ -56,12 +61,20 @@ pub record IsNew (domain : TableId) (most : Limits) (m : Member) : Type 0 where
   pub tally : m.tally ≡ no_items
   pub sizes : (m.sizes.participants ≡ most.participants) × (m.sizes.slots ≡ most.slots)
   pub slots : m.slots ≡ bare
+  pub shown : m.shown ≡ []
   pub words : (i : ℕ) → slice_index m.words i ≡ 0
 
 -- an outermost opening finds a count, which is at least the greatest that was known; where the participant is lone it is that one.
 -- What has seen three changes then is given back
 pub record IsOpened (count : ℕ) (old new : Member) : Type 0 where
-  pub member : new ≡ record old { own = opened_at count [] old.own; known = new.since; since = new.since; slots = new.slots; words = new.words }
+  pub member : new ≡ record old {
+    own = opened_at count [] old.own;
+    known = new.since;
+    since = new.since;
+    tally = with_reclaimed (length (due_at count old.own)) old.tally;
+    slots = new.slots;
+    words = new.words;
+  }
   pub knew : old.known ≤ count
   pub knows : count ≤ new.since
   pub lone : IsLone old → (count ≡ old.known) × (new.since ≡ old.known)
@@ -76,9 +89,9 @@ pub record Opens (old new : Member) : Type 0 where
 -- a guard is closed; without an open one nothing happens. The last close shows nothing any more, and at countdown 0 scans, which may
 -- raise the count, to one more than it was at the publish at most; where the participant is lone the scan does, but at the last count
 pub record Closes (old new : Member) : Type 0 where
-  pub member : new ≡ record old { own = closed_with false old.own; known = new.known; slots = new.slots }
-  pub unseen : old.own.guards ≡ 1 → new.slots ≡ record old.slots { sees = [] }
-  pub seen : old.own.guards ≢ 1 → new.slots ≡ old.slots
+  pub member : new ≡ record old { own = closed_with false old.own; known = new.known; slots = new.slots; shown = new.shown }
+  pub unseen : old.own.guards ≡ 1 → (new.slots ≡ record old.slots { sees = [] }) × (new.shown ≡ [])
+  pub seen : old.own.guards ≢ 1 → (new.slots ≡ old.slots) × (new.shown ≡ old.shown)
   pub knows : old.known ≤ new.known
   pub near : IsGuarded old → new.known ≤ old.since + 1
   pub quiet : (old.own.guards ≢ 1) ⊎ (old.own.countdown ≢ 0) → new.known ≡ old.known
@@ -94,42 +107,38 @@ pub record IsTold (count : ℕ) (old new : Member) : Type 0 where
   pub near : IsGuarded old → (count ≡ old.known) ⊎ (count ≡ old.known + 1)
   pub lone : IsLone old → count ≡ old.known
 
--- it has the only owner of the slot
-abbrev pub Owns : Member → ℕ → Type 0
-Owns m slot = 0 < times slot m.slots.owns
-
 -- by the words that a lone participant knows the slot is free
 abbrev pub IsFree : Member → ℕ → Type 0
 IsFree m slot = slice_index m.words (behind m.sizes slot) ≡ free_word 0
 
--- it owns a slot more, which was free
-pub record ClaimsSlot (slot : ℕ) (old new : Member) : Type 0 where
+-- a slot that was free has an item, made by it
+pub record MakesAt (slot : ℕ) (old new : Member) : Type 0 where
   pub inside : slot < old.limits.slots
-  pub member : new ≡ record old {
-    slots = record old.slots { owns = slot ∷ old.slots.owns };
-    words = slice_set old.words (behind old.sizes slot) (owned_word 0);
-  }
+  pub member : new ≡ record old { tally = one_made old.tally; words = slice_set old.words (behind old.sizes slot) (owned_word 0) }
   pub lone : IsLone old → IsFree old slot
 
 -- its guards see the slot
 abbrev pub Sees : Member → ℕ → Type 0
 Sees m slot = 0 < times slot m.slots.sees
 
--- its guards see a slot, if they didn't before
-pub record LooksAt (slot : ℕ) (old new : Member) : Type 0 where
-  pub seen : Sees old slot → new ≡ old
-  pub unseen : ¬ (Sees old slot) → new ≡ record old { slots = record old.slots { sees = slot ∷ old.slots.sees } }
+-- its guards see a slot, if they didn't before, which shows this
+pub record LooksAt (slot : ℕ) (value : Gv) (old new : Member) : Type 0 where
+  pub seen : Sees old slot → (new ≡ old) × IsIn old.shown slot value
+  pub unseen : ¬ (Sees old slot) → new ≡ record old {
+    slots = record old.slots { sees = slot ∷ old.slots.sees };
+    shown = record { slot = slot; value = value } ∷ old.shown;
+  }
 
 -- no slot is free
 abbrev pub IsUsedUp : Member → Type 0
 IsUsedUp m = (slot : ℕ) → slot < m.limits.slots → ¬ (IsFree m slot)
 
--- the item of a slot of its own waits from now on, retired at the count of this moment
-pub record RetiresSlot (slot count : ℕ) (old new : Member) : Type 0 where
+-- the item of a slot waits with it from now on, retired at the count of this moment
+pub record RetiresAt (slot count : ℕ) (old new : Member) : Type 0 where
   pub member : new ≡ record old {
     own = awaiting (Item slot) old.own;
     known = count;
-    slots = record old.slots { owns = without slot old.slots.owns; waits = old.slots.waits ++ retired_now slot count ∷ [] };
+    slots = record old.slots { waits = old.slots.waits ++ retired_now slot count ∷ [] };
     words = slice_set old.words (behind old.sizes slot) (waiting_word 0);
   }
   pub knew : old.known ≤ count

@@ -9,13 +9,16 @@ use Rattle.sdd_places.specs.declared.tenures.Stage.TheVariants.{Closed, Open}
 use Rattle.sdd_rule.specs.declared.EpochView.{EpochView}
 use Rattle.sdd_rule.specs.declared.View.{View}
 use Rattle.sdd_rule.specs.Epoch.{IsClosed, IsOpen, Scans, IsLone}
+use Rattle.sdd_rule.specs.declared.Showing.{Showing}
 use Rattle.sdd_rule.specs.declared.SlotsView.{SlotsView}
-use Rattle.sdd_rule.specs.Slots.{OwnsAlone, items_at}
+use Rattle.sdd_rule.specs.Slots.{items_at}
 use Rattle.sdd_stakes.specs.declared.stake.Stake.{Stake}
 use Rattle.sdd_stakes.specs.Stakes.{AllFreeFor}
 use Rattle.sdd_stakes.specs.Seats.{lots, plain}
 use Rattle.sdd_homes.specs.Homes.{Carries}
+use Rattle.sdd_homes.specs.Records.{slot_shown}
 use Rattle.sdd_homes.specs.HomeSteps.{Purse}
+use Rattle.sdd_domain.specs.Sight.{IsOnce}
 use Rattle.sdd_domain.specs.declared.board.Board.{Board}
 use Rattle.sdd_domain.specs.Board.{id_of, book_of, places_of, slots_of}
 use Rattle.sdd_domain.specs.Waits.{waiting_of}
@@ -28,14 +31,21 @@ pub record IsNear (v : EpochView) : Type 0 where
   pub since : v.since ≤ v.known
   pub known : v.known ≤ v.since + 1
 
--- no slot is held, and no owner is counted
+-- no slot is held, and no owner is with the participant itself: each is a token of its own
 pub record IsQuiet (v : SlotsView) : Type 0 where
+  pub owns : v.owns ≡ []
   pub shares : v.shares ≡ []
   pub holds : v.holds ≡ None
   pub looked : v.looked ≡ 0
 
--- the stakes that are out: one in each slot that the guards see
-unfoldable pub IsPurse : ℕ → ℕ → ℕ → List ℕ → Carries → Type 0
+-- what is known of what slots show: of those that the guards see, one value for each
+pub record IsSight (v : View) : Type 0 where
+  pub owns : v.stakes.owns ≡ []
+  pub sees : map slot_shown v.stakes.sees ≡ v.slots.sees
+  pub once : IsOnce v.stakes.sees
+
+-- the stakes that are out: one in each slot that the guards see, which shows what is known
+unfoldable pub IsPurse : ℕ → ℕ → ℕ → List Showing → Carries → Type 0
 IsPurse γ n p sees xs = Purse γ n p sees (plain xs)
 
 -- those are lent to the tenure t at most
@@ -46,8 +56,9 @@ AreLentTo t xs = AllFreeFor t (lots xs)
 module _ (b : Board) (p : ℕ) (own : Participant) (token : Seat Stake View) where
   pub record IsPosed : Type 0 where
     pub home : token.table_id ≡ id_of b
-    pub purse : IsPurse (book_of b) (places_of b) p (slots token).sees token.me.1
-    pub unseen : own.guards ≡ 0 → (slots token).sees ≡ []
+    pub purse : IsPurse (book_of b) (places_of b) p (view token).stakes.sees token.me.1
+    pub sight : IsSight (view token)
+    pub unseen : own.guards ≡ 0 → (view token).stakes.sees ≡ []
     pub rests : (view token).stakes.moves ≡ None
     pub all : (epoch token).all ≡ places_of b
     pub place : (epoch token).place ≡ p
@@ -61,7 +72,6 @@ module _ (b : Board) (p : ℕ) (own : Participant) (token : Seat Stake View) whe
     pub knows : Knows b token
     pub found : (epoch token).found ≡ own.found
     pub quiet : IsQuiet (slots token)
-    pub owned : (i : ℕ) → OwnsAlone (view token) i → i < slots_of b
     pub waiting : (i : ℕ) → 0 < items_at i (view token) → i < slots_of b
     pub bags : own.bags.waiting ≡ map waiting_of (slots token).waits
     pub room : own.bags.room ≡ slots_of b

@@ -1,5 +1,5 @@
 -- What an ended participant made and reclaimed
-use Rattle.std.specs.Prelude.{◌≡◌, ℕ, ◌-◌, ◌^◌, min, List, [], ◌∷◌, map, sum}
+use Rattle.std.specs.Prelude.{◌≡◌, ℕ, ◌+◌, ◌-◌, ◌^◌, min, List, [], ◌∷◌, All, map, sum}
 use Rattle.atomic_table.specs.Seated.{TableId}
 use Rattle.sdd_rule.specs.declared.View.{View}
 use Rattle.sdd_rule.specs.Epoch.{HasEnded}
@@ -10,6 +10,10 @@ pub record Receipt : Type 0 where
   pub home : TableId
   pub tally : Tally
 
+-- each is of this domain
+abbrev pub AreFrom : TableId → List Receipt → Type 0
+AreFrom domain rs = All (λ (r : Receipt). r.home ≡ domain) rs
+
 -- what its token knows: it had a place, which has ended
 abbrev pub HasLeft : List View → Type 0
 HasLeft views = (v : View) × (views ≡ v ∷ []) × HasEnded v.epoch
@@ -17,6 +21,10 @@ HasLeft views = (v : View) × (views ≡ v ∷ []) × HasEnded v.epoch
 -- a number no longer grows at 2^128 - 1
 abbrev pub capped : ℕ → ℕ
 capped n = min n (2 ^ 128 - 1)
+
+-- so many items more were reclaimed
+abbrev pub with_reclaimed : ℕ → Tally → Tally
+with_reclaimed n t = record t { reclaimed = capped (t.reclaimed + n) }
 
 -- all of them together
 abbrev pub sum_of : List Receipt → Tally

@@ -1,17 +1,29 @@
 -- A participant of a domain as the generic calls see it
-use Rattle.std.specs.Prelude.{◌==◌, [], true, false}
+use Rattle.std.specs.Prelude.{ℕ, ◌==◌, List, [], true, false}
+use base.Stored.{Gv}
 use Rattle.std.proofs.Common.{sym}
 use Rattle.std.proofs.lemmas.Bool.{true≢false}
 use Rattle.sdd_store.specs.Tally.{no_items}
-use Rattle.sdd_base.specs.Holding.{Home}
+use Rattle.sdd_token.specs.Units as token
+use Rattle.sdd_base.specs.Holding.{Home, Holding, AreOf}
 use Rattle.sdd_base.specs.Known.{Known}
 use Rattle.sdd_base.specs.Seat.{Seat, IsExact}
 use Rattle.sdd_base.specs.World.{World}
+use Rattle.sdd_homes.specs.Records.{IsIn}
 use Rattle.sdd_domain.specs.Local.{Member}
+use Rattle.sdd_domain.specs.Items.{slots_home}
 
--- where there are no slots and no cells; each reader is numbered in a home of its own
-abbrev pub nowhere : Home
-nowhere = record { slots = record { name = 0; size = 0 }; cells = record { name = 0; size = 0 }; readers = record { name = 0; size = 0 } }
+-- where nothing is numbered
+abbrev pub nowhere : token.Home
+nowhere = record { name = 0; size = 0; tables = [] }
+
+-- the slots of its domain, and no cells; each reader is numbered in a home of its own
+abbrev pub home_in : Member → Home
+home_in m = record { slots = slots_home m; cells = nowhere; readers = nowhere }
+
+-- one of its guards sees the slot, which shows this value; and what a shown value holds is of its home
+abbrev pub Shows : {T : Type 0} → (T → Gv) → (T → List Holding) → Member → ℕ → T → Type 0
+Shows shown holds m slot value = IsIn m.shown slot (shown value) × AreOf (home_in m) (holds value)
 
 abbrev pub seat_of : Member → Seat
 seat_of m = record {
@@ -20,7 +32,7 @@ seat_of m = record {
   lives = [];
   live = true;
   loan = 0;
-  home = nowhere;
+  home = home_in m;
   reader = m.reader;
   nesting = m.limits.nesting;
   exact = false;
@@ -33,7 +45,7 @@ known_of m = record { told = m.known; since = m.since }
 -- nothing is said of the world of a participant that isn't lone
 abbrev pub no_world : {T : Type 0} → World T
 no_world = record {
-  home = nowhere;
+  home = record { slots = nowhere; cells = nowhere; readers = nowhere };
   time = record { count = 0; marked = false; places = []; phases = []; participants = 0; nesting = 0; room = 0 };
   standings = [];
   values = [];

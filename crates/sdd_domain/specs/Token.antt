@@ -1,14 +1,17 @@
 -- A participant's token over a step
 use Rattle.std.specs.Prelude.{◌≡◌, ℕ, List, [], ◌∷◌}
+use base.Stored.{Gv, gnil}
 use Rattle.atomic_table.specs.Table.{Me, Step}
 use Rattle.atomic_table.specs.declared.shared.Seat.{Seat}
 use Rattle.sdd_rule.specs.declared.EpochView.{EpochView}
 use Rattle.sdd_rule.specs.declared.SlotsView.{SlotsView}
 use Rattle.sdd_rule.specs.declared.View.{View}
 use Rattle.sdd_rule.specs.Steps.{Publishes}
-use Rattle.sdd_rule.specs.SlotSteps.{changed, joined}
+use Rattle.sdd_rule.specs.SlotSteps.{changed}
 use Rattle.sdd_stakes.specs.declared.stake.Stake.{Stake}
-use Rattle.sdd_homes.specs.HomeSteps.{Mine, ClosesHome}
+use Rattle.sdd_rule.specs.Parts.{owner_of}
+use Rattle.sdd_homes.specs.Homes.{Carries, Moves}
+use Rattle.sdd_homes.specs.HomeSteps.{Mine, Houses, Watches, ClosesHome}
 use Rattle.sdd_domain.specs.declared.board.Board.{Board}
 use Rattle.sdd_domain.specs.Board.{sizes_of, book_of}
 
@@ -55,13 +58,26 @@ module _ {S : Type 0} where
   HasPublished s s' = IsSame s s' × (s'.me.0.places ≡ s.me.0.places) × (slots s' ≡ changed (view s)) × (words_known s' ≡ words_known s)
       × Publishes (epoch s) 2 (epoch s')
 
-  -- the owners that another token knew are the participant's own
-  abbrev pub IsTakenIn : List View → Seat S View → Seat S View → Type 0
-  IsTakenIn owners s s' = (w : View) → owners ≡ w ∷ [] → Taught (λ v _ v'. v' ≡ joined v w) s 0 s'
-
 -- a step that may take stakes or give them, which tells R
 abbrev pub Moved : (Mine → ℕ → Mine → Type 0) → Seat Stake View → ℕ → Seat Stake View → Type 0
 Moved R s r s' = (s'.table_id ≡ s.table_id) × (s'.id ≡ s.id) × R s.me r s'.me
+
+-- the same on no word
+abbrev pub MovedAlone : (Mine → Mine → Type 0) → Seat Stake View → Seat Stake View → Type 0
+MovedAlone R s s' = (s'.table_id ≡ s.table_id) × (s'.id ≡ s.id) × R s.me s'.me
+
+-- what the stake shows that was taken last
+abbrev pub shown_last : Carries → Gv
+shown_last [] = gnil
+shown_last (x ∷ xs) = x.1.lot.shown
+
+-- the value of the slot that it moves was moved in
+abbrev pub HousesMoved : Mine → Mine → Type 0
+HousesMoved me me' = (slot : ℕ) → Moves me.0 slot → Houses slot (shown_last me.1) me me'
+
+-- a guard sees a slot beside the token of its owner
+abbrev pub WatchesOwned : View → Mine → Mine → Type 0
+WatchesOwned w me me' = (slot : ℕ) (value : Gv) → w ≡ owner_of slot value → Watches slot value me me'
 
 -- no guard is open, nothing is seen, and all stakes are at home
 abbrev pub HasClosed : Seat Stake View → Seat Stake View → Type 0

@@ -1,5 +1,5 @@
 //! An outermost opening: the count is published, and where that is a change what is due is moved out and given back.
-ghost use Rattle.std.specs.Prelude.{◌≡◌, ◌<◌, ◌≤◌, ℕ, [], None, map, vec_capacity};
+ghost use Rattle.std.specs.Prelude.{◌≡◌, ◌<◌, ◌≤◌, ℕ, [], None, length, map, vec_capacity};
 ghost use Rattle.sdd_store.specs.Waiting.{aged};
 ghost use Rattle.sdd_store.specs.Time.{nested, rotated, settled, due_next};
 ghost use Rattle.sdd_rule.specs.Epoch.{HasPlace};
@@ -7,15 +7,17 @@ ghost use Rattle.sdd_rule.specs.Slots.{items_at};
 ghost use Rattle.sdd_domain.specs.Board.{id_of, slots_of};
 ghost use Rattle.sdd_domain.specs.Shelf.{IsShelfOf};
 ghost use Rattle.sdd_domain.specs.Token.{view, epoch, slots, Knows, Taught};
-ghost use Rattle.sdd_domain.specs.Waits.{what_of, waiting_of, ripe, arrived_at, GivesAllBack, Arrives};
+ghost use Rattle.sdd_domain.specs.Waits.{what_of, waiting_of, ripe, arrived_at, due_at, GivesAllBack, Arrives};
+ghost use Rattle.sdd_domain.specs.Receipt.{with_reclaimed};
 ghost use Rattle.sdd_domain.specs.Posed.{IsPosed};
 
 use crate::board::{Board, Token};
+use crate::receipt::count_reclaimed;
 use crate::known::Known;
 use crate::steps;
 use crate::values::take_value;
 use sdd_stakes::Shelf;
-use sdd_store::{Participant, What};
+use sdd_store::{Participant, Tally, What};
 
 /// Moves out and drops the value of each item that has seen three changes, and gives back its slot.
 fn give_all_back<T: Drop>(
@@ -53,6 +55,7 @@ fn change<T: Drop>(
     own: &mut Participant,
     bag: &mut Vec<What>,
     known: &mut Known,
+    tally: &mut Tally,
     count: u64,
 )
     requires home { token.old.table_id ≡ id_of board.now }
@@ -68,6 +71,7 @@ fn change<T: Drop>(
     ensures own { own.new ≡ settled (rotated count own.old) }
     ensures given_back { Taught (GivesAllBack (due_next own.old)) token.old 0 token.new }
     ensures slots { known.new.slots ≡ known.old.slots }
+    ensures tally { tally.new ≡ with_reclaimed (length (due_next own.old)) tally.old }
     ensures bag { (bag.new.items ≡ []) × (own.old.bags.room ≤ vec_capacity bag.new) }
 {
     own.found = count;
@@ -76,6 +80,7 @@ fn change<T: Drop>(
     }
     own.bags.rotate(bag);
     give_all_back(board, shelf, token, bag.as_slice(), known);
+    count_reclaimed(tally, bag.len());
     bag.clear();
     own.countdown = if own.bags.is_empty() { 128 } else { 127 };
 }
@@ -89,6 +94,7 @@ pub fn arrive<T: Drop>(
     own: &mut Participant,
     bag: &mut Vec<What>,
     known: &mut Known,
+    tally: &mut Tally,
 ) -> u64
     requires posed { IsPosed board.now place own.old token.old }
     requires shelf { IsShelfOf board.now shelf.now }
@@ -99,6 +105,7 @@ pub fn arrive<T: Drop>(
     ensures own { own.new ≡ arrived_at result own.old }
     ensures arrives { Arrives result own.old token.old token.new }
     ensures slots { known.new.slots ≡ known.old.slots }
+    ensures tally { tally.new ≡ with_reclaimed (length (due_at result own.old)) tally.old }
     ensures bag { (bag.new.items ≡ []) × (own.old.bags.room ≤ vec_capacity bag.new) }
 {
     let count = steps::read(board, token);
@@ -108,6 +115,6 @@ pub fn arrive<T: Drop>(
     }
     steps::write(board, token, place, count);
     steps::publish(board, token, place);
-    change(board, shelf, token, own, bag, known, count);
+    change(board, shelf, token, own, bag, known, tally, count);
     count
 }

@@ -5,7 +5,7 @@ ghost use Rattle.sdd_rule.specs.SlotSteps.{blank};
 ghost use Rattle.sdd_domain.specs.Board.{id_of, sizes_of, places_of};
 ghost use Rattle.sdd_domain.specs.Token.{epoch, words_known, IsSameBut};
 ghost use Rattle.sdd_domain.specs.Domain.{home_of, limits_of};
-ghost use Rattle.sdd_domain.specs.Local.{CanNest, IsGuarded, IsNew, IsOpened, Opens, Closes, IsTold, IsLone, IsUsedUp, ClaimsSlot, RetiresSlot, Owns};
+ghost use Rattle.sdd_domain.specs.Local.{CanNest, IsGuarded, IsNew, IsOpened, Opens, Closes, IsTold};
 ghost use Rattle.sdd_base.specs.Guard.{reader_of};
 ghost use Rattle.sdd_places.specs.declared.tenures.Stage.TheVariants.{Closed as is_closed};
 
@@ -26,7 +26,7 @@ use sdd_token::{Book, WHOLE};
 use std::alloc::{AllocError, Global};
 use std::marker::Model;
 
-pub mod slots;
+mod items;
 
 /// A participant of a domain.
 ///
@@ -64,6 +64,7 @@ impl<'d, T> Model for Local<'d, T> {
       tally = l.tally;
       sizes = l.token.me.0.sizes;
       slots = l.token.me.0.slots;
+      shown = l.token.me.0.stakes.sees;
       words = l.token.me.0.words;
     } };
 
@@ -194,7 +195,7 @@ impl<'d, T> Local<'d, T> {
         Ok(Receipt::new(token, tally))
     }
 
-    /// How many items it made, reclaimed and dropped in place. Values that are made by number aren't counted.
+    /// How many items it made, reclaimed and dropped in place.
     pub fn tally(&self) -> Tally
         ensures { result ≡ self.now.tally }
     {
@@ -239,6 +240,7 @@ impl<'d, T> Local<'d, T> {
             &mut self.own,
             &mut self.bag,
             &mut self.known,
+            &mut self.tally,
         );
         self.own.guards = 1;
         self.tenure.set(&Stage::Open, &());

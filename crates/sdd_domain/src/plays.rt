@@ -1,15 +1,16 @@
 //! What each step tells.
 ghost use Rattle.std.specs.Prelude.{[]};
 ghost use Rattle.sdd_rule.specs.Steps.{Registers, Reads, Counts, Ends, Locks, LooksAtState, LooksAtCount, Advances, Unlocks};
-ghost use Rattle.sdd_rule.specs.SlotSteps.{OnEpoch, PublishesAll, Retires, LooksAtSlot, TakesHold, LetsGo, LooksForGuard, AtSlot, first, parted, joined};
+ghost use Rattle.sdd_rule.specs.SlotSteps.{OnEpoch, PublishesAll, LooksAtSlot, TakesHold, LetsGo, LooksForGuard, AtSlot};
 ghost use Rattle.sdd_rule.specs.Ended.{Bars};
 ghost use Rattle.sdd_rule.specs.Parts.{owner_token};
-ghost use Rattle.sdd_homes.specs.HomeSteps.{ClaimsAll, Houses, TakesOut, GivesAll, DiscardsAll, WatchesBy, ClosesHome, OfSlot};
-ghost use Rattle.sdd_domain.specs.Token.{Sits, Told};
+ghost use Rattle.sdd_homes.specs.HomeSteps.{ClaimsAll, TakesOut, TakesHeld, RetiresOne, GivesAll, DiscardsAll, ClosesHome, OfSlot, parting, departing, regained};
+ghost use Rattle.sdd_domain.specs.Token.{Sits, Told, HousesMoved, WatchesOwned};
 
 use atomic_table::{Join, Play, Split};
 use sdd_rule::View;
 use sdd_stakes::Stake;
+use sdd_witness::{Alone, Beside};
 
 pub struct Sit;
 
@@ -97,20 +98,26 @@ impl Play<Stake, View> for Claim {
 
 pub struct House;
 
-impl Play<Stake, View> for House {
-    ghost then = { λ step. OfSlot Houses step.word };
+impl Alone<Stake, View> for House {
+    ghost then = { HousesMoved };
 }
 
 pub struct Retire;
 
 impl Play<Stake, View> for Retire {
-    ghost then = { λ step. Told (AtSlot Retires step.word) };
+    ghost then = { λ step. OfSlot RetiresOne step.word };
 }
 
 pub struct TakeOut;
 
 impl Play<Stake, View> for TakeOut {
-    ghost then = { λ step. OfSlot TakesOut step.word };
+    ghost then = { λ step. OfSlot (λ slot me _. TakesOut slot me) step.word };
+}
+
+pub struct TakeHeld;
+
+impl Play<Stake, View> for TakeHeld {
+    ghost then = { λ step. OfSlot (λ slot me _. TakesHeld slot me) step.word };
 }
 
 pub struct GiveBack;
@@ -127,8 +134,8 @@ impl Play<Stake, View> for LookAtSlot {
 
 pub struct Watch;
 
-impl Play<Stake, View> for Watch {
-    ghost then = { λ step. OfSlot WatchesBy step.word };
+impl Beside<Stake, View> for Watch {
+    ghost then = { WatchesOwned };
 }
 
 pub struct Hold;
@@ -158,15 +165,15 @@ impl Play<Stake, View> for Discard {
 pub struct Part;
 
 impl Split<View> for Part {
-    ghost left = { parted };
+    ghost left = { parting };
 
-    ghost right = { λ v. owner_token (first v.slots.owns) [] };
+    ghost right = { departing };
 }
 
 pub struct TakeIn;
 
 impl Join<View> for TakeIn {
-    ghost both = { joined };
+    ghost both = { regained };
 
     ghost spent = { owner_token [] [] };
 }

@@ -1,5 +1,6 @@
 ghost use Rattle.std.specs.Prelude.{◌≡◌, []};
 ghost use Rattle.sdd_rule.specs.Epoch.{HasEnded};
+ghost use Rattle.sdd_domain.specs.Receipt.{with_reclaimed};
 ghost use Rattle.sdd_domain.specs.Token.{epoch};
 
 use crate::board::Token;
@@ -7,6 +8,13 @@ use atomic_table::Badge;
 use sdd_rule::View;
 use sdd_store::Tally;
 use std::marker::Model;
+
+/// So many items more were reclaimed.
+pub fn count_reclaimed(tally: &mut Tally, items: usize)
+    ensures { tally.new ≡ with_reclaimed items tally.old }
+{
+    tally.reclaimed = tally.reclaimed.saturating_add(items as u128);
+}
 
 /// What a participant that has ended made and reclaimed, for the close of its domain.
 #[derive(Drop)]

@@ -1,10 +1,12 @@
 //! The last close of a participant's guards.
 ghost use Rattle.std.specs.Prelude.{◌≡◌, ◌+◌, ◌<◌, None};
 ghost use Rattle.sdd_places.specs.declared.tenures.Stage.TheVariants.{Closed as is_closed};
+ghost use Rattle.sdd_rule.specs.declared.View.{View};
 ghost use Rattle.sdd_rule.specs.SlotSteps.{ClosesAll};
 ghost use Rattle.sdd_rule.specs.Epoch.{IsOpen, Scans};
 ghost use Rattle.sdd_domain.specs.Board.{id_of, book_of, places_of};
-ghost use Rattle.sdd_domain.specs.Token.{view, epoch, slots, Knows};
+ghost use Rattle.sdd_homes.specs.HomeSteps.{unsighted};
+ghost use Rattle.sdd_domain.specs.Token.{view, epoch, Knows};
 ghost use Rattle.sdd_domain.specs.Posed.{IsPurse, AreLentTo};
 
 use crate::board::{Board, Token};
@@ -20,13 +22,13 @@ pub fn shut(board: &Board, token: &mut Token, place: usize, tenure: &mut Tenure,
     requires rests { (view token.old).stakes.moves ≡ None }
     requires own { (place ≡ (epoch token.old).place) × (place < places_of board.now) }
     requires open { IsOpen (epoch token.old) × ¬ (Scans (epoch token.old)) }
-    requires purse { IsPurse (book_of board.now) (places_of board.now) place (slots token.old).sees token.old.me.1 }
+    requires purse { IsPurse (book_of board.now) (places_of board.now) place (view token.old).stakes.sees token.old.me.1 }
     requires lent { AreLentTo tenure.old.round token.old.me.1 }
     requires reader { (part.home ≡ tenure.old.home) × (part.number ≡ tenure.old.number) }
     requires whole { tenure.old.units + part.units ≡ WHOLE }
     ensures home { (token.new.table_id ≡ token.old.table_id) × (token.new.id ≡ token.old.id) }
-    ensures closed { ClosesAll (view token.old) 1 (view token.new) }
-    ensures purse { IsPurse (book_of board.now) (places_of board.now) place (slots token.new).sees token.new.me.1 }
+    ensures closed { (v : View) × ClosesAll (view token.old) 1 v × (view token.new ≡ unsighted v) }
+    ensures purse { IsPurse (book_of board.now) (places_of board.now) place (view token.new).stakes.sees token.new.me.1 }
     ensures lent { AreLentTo tenure.new.round token.new.me.1 }
     ensures reader { (tenure.new.home ≡ tenure.old.home) × (tenure.new.number ≡ tenure.old.number) }
     ensures whole { (tenure.new.units ≡ WHOLE) × (tenure.new.kind ≡ is_closed) }

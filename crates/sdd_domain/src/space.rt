@@ -1,14 +1,17 @@
-//! A participant as the generic calls of guards have it.
+//! A participant as the generic calls of guards and items have it.
+ghost use Rattle.sdd_stakes.specs.Shelf.{showing};
+
 use crate::local::Local;
-use sdd_base::{Caller, Guard, Guards, Item, Shows};
+use sdd_base::{Caller, Guard, Guards, Item, Items, Plain, Shows};
 use sdd_core::Refused;
+use sdd_token::{Kind, Right};
 
 impl<T: Item<T> + Drop> Shows<T> for Local<'_, T> {
-    ghost use Rattle.sdd_domain.specs.Space.{nowhere};
+    ghost use Rattle.sdd_domain.specs.Space.{home_in, Shows};
 
-    ghost home = { λ _. nowhere };
+    ghost home = { λ l. home_in l };
 
-    ghost shows = { λ _ _ _. ⊥ };
+    ghost shows = { λ l slot value. Shows (showing T.row) T.holds l slot value };
 
     fn shown_is_of_home(&self) {}
 }
@@ -61,5 +64,38 @@ impl<T: Item<T> + Drop> Guards<T> for Local<'_, T> {
     #[inline]
     fn accelerate(&mut self) {
         Local::accelerate(self);
+    }
+}
+
+/// Values that hold owners or cells aren't taken yet: a participant drops what it reclaims.
+impl<T: Plain<T> + Drop> Items<T> for Local<'_, T> {
+    ghost use Rattle.sdd_domain.specs.Items.{HasValue};
+    ghost use Rattle.sdd_domain.specs.Space.{never_exact};
+    ghost use Rattle.sdd_domain.proofs.Shown.{one_value};
+
+    ghost owns_value = { λ _ right value. HasValue (showing T.row value) right };
+
+    ghost one_owned = { λ _ right u v a b. one_value T.row right u v a b };
+
+    ghost keeps_owned = { λ _ _ _ _ _ owns. owns };
+
+    ghost owned_is_shown = { λ l exact _ _. absurd (never_exact l exact) };
+
+    fn make(&mut self, value: T, kind: Kind) -> Result<Right, (T, Refused)> {
+        Local::make(self, value, kind)
+    }
+
+    fn make_with<F: FnOnce() -> T>(&mut self, make: F, kind: Kind) -> Result<Right, (F, Refused)> {
+        Local::make_with(self, make, kind)
+    }
+
+    #[inline]
+    fn guarded<'g>(&mut self, right: &Right, guard: &'g Guard) -> &'g T {
+        Local::guarded(self, right, guard)
+    }
+
+    fn let_go(&mut self, right: Right, _kind: Kind) -> bool {
+        Local::let_go(self, right);
+        true
     }
 }

@@ -8,7 +8,7 @@ ghost use Rattle.sdd_domain.specs.Board.{id_of, sizes_of, book_of, places_of};
 ghost use Rattle.sdd_rule.specs.SlotSteps.{blank};
 ghost use Rattle.sdd_rule.specs.Ended.{Bars};
 ghost use Rattle.sdd_homes.specs.HomeSteps.{Purse};
-ghost use Rattle.sdd_domain.specs.Token.{view, epoch, slots, words_known, Stepped, Taught, HasPublished, HasClosed, Knows};
+ghost use Rattle.sdd_domain.specs.Token.{view, epoch, words_known, Stepped, Taught, HasPublished, HasClosed, Knows};
 
 pub mod slots;
 
@@ -99,7 +99,7 @@ pub fn close(board: &Board, token: &mut Token, place: usize)
     requires home { token.old.table_id ≡ id_of board.now }
     requires knows { Knows board.now token.old }
     requires rests { (view token.old).stakes.moves ≡ None }
-    requires purse { Purse (book_of board.now) (places_of board.now) place (slots token.old).sees token.old.me.1 }
+    requires purse { Purse (book_of board.now) (places_of board.now) place (view token.old).stakes.sees token.old.me.1 }
     requires own { (place ≡ (epoch token.old).place) × (place < places_of board.now) }
     requires open { IsOpen (epoch token.old) × ¬ (Scans (epoch token.old)) }
     ensures { HasClosed token.old token.new }

@@ -1,36 +1,47 @@
 //! A value comes into the place of a slot, and leaves it.
-ghost use Rattle.std.specs.Prelude.{◌≡◌, ◌<◌, suc, drop, None};
-ghost use Rattle.sdd_stakes.specs.Shelf.{IsVacant};
+ghost use Rattle.std.specs.Prelude.{◌≡◌, ◌<◌, suc, drop, [], ◌∷◌, None};
+ghost use Rattle.sdd_stakes.specs.Shelf.{IsVacant, showing};
 ghost use Rattle.sdd_rule.specs.Codes.{free_word};
 ghost use Rattle.sdd_rule.specs.Epoch.{HasPlace};
-ghost use Rattle.sdd_rule.specs.Slots.{OwnsAlone};
 ghost use Rattle.sdd_rule.specs.SlotSteps.{IsDue, GivesBack};
 ghost use Rattle.sdd_homes.specs.Homes.{Carries, Moves};
 ghost use Rattle.sdd_homes.specs.HomeSteps.{HasAll, resting};
 ghost use Rattle.sdd_domain.specs.Board.{id_of, book_of, places_of, slots_of};
 ghost use Rattle.sdd_domain.specs.Shelf.{IsShelfOf};
-ghost use Rattle.sdd_domain.specs.Token.{view, epoch, Knows, Taught};
+ghost use Rattle.sdd_token.specs.Owner.{witness_of_owner};
+ghost use Rattle.sdd_domain.specs.Owner.{disowned};
+ghost use Rattle.sdd_domain.specs.Token.{view, epoch, slots, Knows, Taught};
 
 use crate::board::{Board, Token};
-use crate::steps::slots::{give_back, house, take_out};
+use crate::steps::slots::{cut, give_back, house, take_out};
 use sdd_stakes::Shelf;
+use sdd_witness::Witness;
 
-/// Moves a value into the place of a slot that was claimed.
-pub fn put_value<T>(board: &Board, shelf: &Shelf<T>, token: &mut Token, slot: u32, value: T)
+/// Moves a value into the place of a slot that was claimed, whose owner is a token of its own then, which shows the value.
+pub fn put_value<T>(
+    board: &Board,
+    shelf: &Shelf<T>,
+    token: &mut Token,
+    slot: u32,
+    value: T,
+) -> Witness
     requires home { token.old.table_id ≡ id_of board.now }
     requires shelf { IsShelfOf board.now shelf.now }
     requires knows { Knows board.now token.old }
     requires inside { slot < slots_of board.now }
     requires place { HasPlace (epoch token.old) }
-    requires own { Moves (view token.old) slot × OwnsAlone (view token.old) slot }
+    requires own { Moves (view token.old) slot × ((slots token.old).owns ≡ slot ∷ []) × ((view token.old).stakes.owns ≡ []) }
+    requires free { (slots token.old).holds ≡ None }
     requires row { (rest : Carries) × HasAll (book_of board.now) slot (places_of board.now) IsVacant rest token.old.me.1 }
     ensures home { (token.new.table_id ≡ token.old.table_id) × (token.new.id ≡ token.old.id) }
-    ensures view { view token.new ≡ resting (view token.old) }
+    ensures view { view token.new ≡ disowned (resting (view token.old)) }
     ensures given { token.new.me.1 ≡ drop (suc (places_of board.now)) token.old.me.1 }
+    ensures owner { (result.table_id ≡ id_of board.now) × (result.views ≡ witness_of_owner slot (showing T.row value)) }
 {
     let count = board.places() + 1;
     shelf.put(slot as usize, token, &board.table.shared, count, value);
-    house(board, token, slot);
+    house(board, token);
+    cut(board, token)
 }
 
 /// Moves the value of an item out that has seen three changes, and gives back its slot.

@@ -2,26 +2,28 @@
 //!
 //! A slot is free, owned by one owner, or its item waits. A lone participant knows each word beforehand.
 ghost use Rattle.std.specs.Prelude.{◌≡◌, ◌<◌, ◌≤◌, ℕ, [], ◌∷◌, None};
+ghost use base.Stored.{Gv};
 ghost use Rattle.sdd_rule.specs.Words as words;
 ghost use Rattle.sdd_rule.specs.Codes.{free_word, owned_word, waiting_word};
 ghost use Rattle.sdd_rule.specs.Epoch.{HasPlace, IsOpen};
-ghost use Rattle.sdd_rule.specs.Slots.{owners_at, OwnsAlone, Holds};
-ghost use Rattle.sdd_rule.specs.SlotSteps.{IsDue, Retires, LooksAtSlot, TakesHold, LetsGo, LooksForGuard, first, parted};
-ghost use Rattle.sdd_rule.specs.Parts.{owner_token};
-ghost use Rattle.sdd_stakes.specs.Shelf.{IsFull, IsVacant};
+ghost use Rattle.sdd_rule.specs.Slots.{OwnsAlone, Holds};
+ghost use Rattle.sdd_rule.specs.SlotSteps.{IsDue, LooksAtSlot, TakesHold, LetsGo, LooksForGuard};
+ghost use Rattle.sdd_rule.specs.Parts.{owner_of};
+ghost use Rattle.sdd_stakes.specs.Shelf.{IsVacant};
 ghost use Rattle.sdd_homes.specs.Homes.{Carries, Moves};
-ghost use Rattle.sdd_homes.specs.HomeSteps.{HasAll, ClaimsAll, Houses, TakesOut, GivesAll, DiscardsAll, WatchesBy};
+ghost use Rattle.sdd_homes.specs.HomeSteps.{HasAll, IsValue, ClaimsAll, Houses, TakesOut, TakesHeld, GivesAll, DiscardsAll, RetiresOne, Watches, parting, regained};
 ghost use Rattle.sdd_domain.specs.Board.{id_of, book_of, places_of, slots_of};
-ghost use Rattle.sdd_domain.specs.Token.{view, epoch, slots, Taught, Moved, Knows, IsTakenIn};
+ghost use Rattle.sdd_token.specs.Owner.{witness_of_owner};
+ghost use Rattle.sdd_domain.specs.Owner.{IsCutOff};
+ghost use Rattle.sdd_domain.specs.Token.{view, epoch, slots, Taught, Moved, MovedAlone, Knows};
 
 use crate::board::{Board, Token};
 use crate::plays::{
-    Claim, Discard, GiveBack, Hold, House, LetGo, LookAtSlot, LookForGuard, Part, Retire, TakeIn,
-    TakeOut, Watch,
+    Claim, Discard, GiveBack, Hold, House, LetGo, LookAtSlot, LookForGuard, Part, Retire, TakeHeld,
+    TakeIn, TakeOut, Watch,
 };
 use crate::words::state_word;
-use atomic_table::Badge;
-use sdd_rule::View;
+use sdd_witness::{Witness, part, rejoin, step_alone, step_beside};
 
 /// Nobody's slot.
 pub const FREE: u64 = 0;
@@ -61,21 +63,18 @@ pub fn claim(board: &Board, token: &mut Token, slot: u32) -> u64
         .compare_exchange::<Claim>(token, board.slot_word(slot), FREE, OWNED)
 }
 
-/// The value of a slot was moved in: all stakes in it go home. Answers the slot's word.
+/// The value of the slot that it moves was moved in, and the stakes in it show that: all go home. No word is touched.
 #[inline]
-pub fn house(board: &Board, token: &mut Token, slot: u32) -> u64
+pub fn house(board: &Board, token: &mut Token)
     requires home { token.old.table_id ≡ id_of board.now }
     requires knows { Knows board.now token.old }
-    requires inside { slot < slots_of board.now }
     requires place { HasPlace (epoch token.old) }
-    requires own { Moves (view token.old) slot × OwnsAlone (view token.old) slot }
-    requires row { (rest : Carries) × HasAll (book_of board.now) slot (places_of board.now) IsFull rest token.old.me.1 }
-    ensures { Moved (Houses slot) token.old result token.new }
+    requires row { (slot : ℕ) × (value : Gv) × (slot < slots_of board.now) × Moves (view token.old) slot × OwnsAlone (view token.old) slot
+        × ((rest : Carries) × HasAll (book_of board.now) slot (places_of board.now) (IsValue value) rest token.old.me.1) }
+    ensures { (slot : ℕ) (value : Gv) (rest : Carries) → Moves (view token.old) slot
+        → HasAll (book_of board.now) slot (places_of board.now) (IsValue value) rest token.old.me.1 → MovedAlone (Houses slot value) token.old token.new }
 {
-    board
-        .table
-        .shared
-        .load::<House>(token, board.slot_word(slot))
+    step_alone::<_, _, _, _, House>(&board.table.shared, token);
 }
 
 /// Retires the item of a slot of its own, which waits with the participant from now on.
@@ -85,9 +84,9 @@ pub fn retire(board: &Board, token: &mut Token, slot: u32)
     requires knows { Knows board.now token.old }
     requires inside { slot < slots_of board.now }
     requires place { HasPlace (epoch token.old) }
-    requires own { OwnsAlone (view token.old) slot × ¬ (Holds (view token.old) slot) }
+    requires own { ((slots token.old).owns ≡ slot ∷ []) × ¬ (Holds (view token.old) slot) }
     requires rests { (view token.old).stakes.moves ≡ None }
-    ensures { Taught (Retires slot) token.old (waiting_word 0) token.new }
+    ensures { Moved (RetiresOne slot) token.old (waiting_word 0) token.new }
 {
     board
         .table
@@ -104,7 +103,7 @@ pub fn take_out(board: &Board, token: &mut Token, slot: u32) -> u64
     requires place { HasPlace (epoch token.old) }
     requires rests { (view token.old).stakes.moves ≡ None }
     requires due { IsDue (view token.old) slot }
-    ensures { Moved (TakesOut slot) token.old result token.new }
+    ensures { Moved (λ me _. TakesOut slot me) token.old result token.new }
 {
     board
         .table
@@ -129,22 +128,20 @@ pub fn give_back(board: &Board, token: &mut Token, slot: u32)
         .store::<GiveBack>(token, board.slot_word(slot), FREE);
 }
 
-/// The open guard sees a slot of the participant's own from now on, and has the stake of its place out. Answers the slot's word.
+/// The open guard sees a slot from now on beside its owner, which may be with another participant, and has the stake of its place out. No word is
+/// touched.
 #[inline]
-pub fn watch(board: &Board, token: &mut Token, slot: u32) -> u64
+pub fn watch(board: &Board, token: &mut Token, owner: &Witness)
     requires home { token.old.table_id ≡ id_of board.now }
     requires knows { Knows board.now token.old }
-    requires inside { slot < slots_of board.now }
     requires open { IsOpen (epoch token.old) }
     requires near { (epoch token.old).place < places_of board.now }
     requires rests { (view token.old).stakes.moves ≡ None }
-    requires own { (0 < owners_at slot (view token.old)) × ¬ (Holds (view token.old) slot) }
-    ensures { Moved (WatchesBy slot) token.old result token.new }
+    requires owner { (owner.now.table_id ≡ id_of board.now)
+        × ((slot : ℕ) × (value : Gv) × (slot < slots_of board.now) × (owner.now.views ≡ witness_of_owner slot value)) }
+    ensures { (slot : ℕ) (value : Gv) → owner.now.views ≡ witness_of_owner slot value → MovedAlone (Watches slot value) token.old token.new }
 {
-    board
-        .table
-        .shared
-        .load::<Watch>(token, board.slot_word(slot))
+    step_beside::<_, _, _, _, Watch>(&board.table.shared, token, owner);
 }
 
 /// Holds a slot of the participant's own, to find out whether a guard sees it. Answers its word.
@@ -203,14 +200,14 @@ pub fn take_held(board: &Board, token: &mut Token, slot: u32) -> u64
     requires inside { slot < slots_of board.now }
     requires place { HasPlace (epoch token.old) }
     requires rests { (view token.old).stakes.moves ≡ None }
-    requires held { Holds (view token.old) slot }
+    requires held { Holds (view token.old) slot × ((slots token.old).owns ≡ slot ∷ []) }
     requires looked { places_of board.now ≤ (slots token.old).looked }
-    ensures { Moved (TakesOut slot) token.old result token.new }
+    ensures { Moved (λ me _. TakesHeld slot me) token.old result token.new }
 {
     board
         .table
         .shared
-        .load::<TakeOut>(token, board.slot_word(slot))
+        .load::<TakeHeld>(token, board.slot_word(slot))
 }
 
 /// Frees the slot that is held, whose value was moved out: its item has gone at once, and all stakes in it go home.
@@ -231,27 +228,26 @@ pub fn discard(board: &Board, token: &mut Token, slot: u32)
         .store::<Discard>(token, board.slot_word(slot), FREE);
 }
 
-/// Cuts the owner of the slot that was claimed last off the participant, as a token of its own.
+/// Cuts the only owner that the participant has off, as a token of its own. No word is touched.
 #[inline]
-pub fn cut(board: &Board, token: &mut Token) -> Badge<View>
+pub fn cut(board: &Board, token: &mut Token) -> Witness
     requires home { token.old.table_id ≡ id_of board.now }
+    requires one { (slot : ℕ) × ((slots token.old).owns ≡ slot ∷ []) }
     requires free { (slots token.old).holds ≡ None }
     requires rests { (view token.old).stakes.moves ≡ None }
-    ensures participant { Taught (λ v _ w. w ≡ parted v) token.old 0 token.new }
-    ensures owner { (result.table_id ≡ id_of board.now) × (result.views ≡ owner_token (first (slots token.old).owns) [] ∷ []) }
+    ensures participant { Taught (λ v _ w. w ≡ parting v) token.old 0 token.new }
+    ensures owner { (result.table_id ≡ id_of board.now) × IsCutOff (view token.old) result.views }
 {
-    board.table.shared.split_seat::<Part>(token).into_badge()
+    part::<_, _, _, _, Part>(&board.table.shared, token)
 }
 
-/// Takes the owner of a slot in again.
+/// Takes the owner of a slot in. No word is touched.
 #[inline]
-pub fn take_in(board: &Board, token: &mut Token, owner: Badge<View>)
+pub fn take_in(board: &Board, token: &mut Token, owner: Witness)
     requires home { token.old.table_id ≡ id_of board.now }
-    requires owner { (owner.table_id ≡ id_of board.now) × (slot : ℕ) × (owner.views ≡ owner_token (slot ∷ []) [] ∷ []) }
-    ensures { IsTakenIn owner.views token.old token.new }
+    requires rests { (view token.old).stakes.moves ≡ None }
+    requires owner { (owner.table_id ≡ id_of board.now) × ((slot : ℕ) × (value : Gv) × (owner.views ≡ witness_of_owner slot value)) }
+    ensures { (slot : ℕ) (value : Gv) → owner.views ≡ witness_of_owner slot value → Taught (λ v _ w. w ≡ regained v (owner_of slot value)) token.old 0 token.new }
 {
-    board
-        .table
-        .shared
-        .join_seat::<TakeIn>(token, owner.into_seat());
+    rejoin::<_, _, _, _, TakeIn>(&board.table.shared, token, owner);
 }
