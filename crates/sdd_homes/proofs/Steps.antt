@@ -38,7 +38,7 @@ use Rattle.sdd_rule.proofs.Lift.{blind}
 use Rattle.sdd_rule.proofs.SlotWords.{owner_in, owners_in}
 use Rattle.sdd_rule.proofs.Sums.{is_same, is_other, without_same, without_other, total_has, total_two}
 use Rattle.sdd_rule.proofs.Waits.{waits_once}
-use Rattle.sdd_homes.specs.Alone.{AllowsAlone, AllowsBeside, moved}
+use Rattle.sdd_witness.specs.Steps.{AllowsAlone, AllowsBeside, moved}
 use Rattle.sdd_homes.specs.Homes.{Carries, stake_at, share, Has, IsShown, Moves, NoneOut, LiesAt}
 use Rattle.sdd_homes.specs.Housed.{Housed}
 use Rattle.sdd_homes.specs.HomeSteps.{Mine, HasAll, IsValue, Purse, moving, resting, telling, untold, sighting, unsighted, ClaimsAll, Houses, TakesOut, TakesHeld, RetiresOne, GivesAll, DiscardsAll, Watches, ClosesHome, OfSlot}
