@@ -3,6 +3,7 @@ pub mod Rows
 pub mod Tops
 pub mod Part
 pub mod Records
+pub mod Telling
 pub mod Lift
 pub mod Steps
 pub mod Tokens

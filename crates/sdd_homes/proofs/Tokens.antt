@@ -33,7 +33,8 @@ use Rattle.sdd_homes.proofs.Part.{IsMover}
 use Rattle.sdd_homes.proofs.Part as part
 use Rattle.sdd_homes.proofs.Records.{in_head, in_tail, in_either, in_none, telling_none, knows_none}
 use Rattle.sdd_homes.proofs.Records as records
-use Rattle.sdd_homes.proofs.Steps.{none_moved, still_free}
+use Rattle.sdd_homes.proofs.Steps.{still_free}
+use Rattle.sdd_homes.proofs.Telling.{none_moved}
 
 nothing_out : (v : View) → v.stakes.moves ≡ None → v.slots.sees ≡ [] → (i p : ℕ) → ¬ (IsOut v i p)
 nothing_out v rests blind i p out = ⊎_elim (λ (m : Moves v i). none_moved v i rests m)

@@ -1,4 +1,3 @@
-pub mod Alone
 pub mod Homes
 pub mod Records
 pub mod Housed

@@ -53,7 +53,8 @@ module _ (z : Code) (sound : IsSound z) (sizes : Sizes) (ws : List ℕ) (vs : Li
   -- that of an owner, who may be another, and who doesn't hold it
   pub watches_beside : (k : ℕ) (u : View) → get_elem? vs k ≡ some u → (i : ℕ) → IsOpen v.epoch → 0 < owners_at i u → ¬ (Holds u i)
       → SlotsPart z sizes ws (set vs id (seeing i v))
-  watches_beside k u there i is_open mine free = let o = owner_in z sound sizes ws vs s k i u there in let live : 0 < z.alive (slot_at sizes ws i) = omega arith in
+  watches_beside k u there i is_open mine free = let o = owner_in z sound sizes ws vs s k i u there in
+      let live : 0 < z.alive (slot_at sizes ws i) = omega arith in
       sees_step i is_open (sound.lives (slot_at sizes ws i) live).1 (none_waits z sound sizes ws vs s i live)
       (λ j x e h. let f = s.each j x e in let own = f.held i h in let g = (f.alone i own).0 in dite (ℕ_discrete j k)
       (λ same. free (subst (λ (t : View). Holds t i) (some-injective _ _ (sym e ∙ (ap (get_elem? vs) same ∙ there))) h))

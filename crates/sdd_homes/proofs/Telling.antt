@@ -1,0 +1,151 @@
+-- What a participant knows of what slots show, after each of its steps that may change it
+use Rattle.std.proofs.Common.{◌≡◌, ◌≢◌, inl, inr, ℕ, suc, ◌<◌, List, [], ◌∷◌, map, set, sym, refl, ap, ◌∙◌, subst, ⊎_elim, arith}
+use mathlib.Core.Option.{some, some-injective}
+use mathlib.Core.Logic.{dite}
+use native.Mathlib.Decide.{ℕ_discrete}
+use Rattle.std.specs.Prelude.{Some, None}
+use lib.ListN.{get_elem?}
+use base.Stored.{Gv}
+use Rattle.atomic_table.specs.Table.{State, homes_after}
+use Rattle.sdd_stakes.specs.declared.stake.Stake.{Stake}
+use Rattle.sdd_rule.specs.declared.Showing.{Showing}
+use Rattle.sdd_rule.specs.declared.StakesView.{StakesView}
+use Rattle.sdd_rule.specs.declared.View.{View}
+use Rattle.sdd_rule.specs.declared.Sizes.{Sizes}
+use Rattle.sdd_rule.specs.Codes.{codes}
+use Rattle.sdd_rule.specs.Sums.{times}
+use Rattle.sdd_rule.specs.Slots.{slot_at, items_at, OwnsAlone}
+use Rattle.sdd_rule.specs.SlotSteps.{without, claimed, retired}
+use Rattle.sdd_rule.proofs.Codes.{sound}
+use Rattle.sdd_rule.proofs.SlotWords.{owners_in}
+use Rattle.sdd_rule.proofs.Sums.{is_same, is_other, without_same, without_other, total_has}
+use Rattle.sdd_homes.specs.Homes.{Carries, share, Has, Moves, LiesAt}
+use Rattle.sdd_homes.specs.Housed.{Housed}
+use Rattle.sdd_homes.specs.HomeSteps.{moving, resting, telling, untold}
+use Rattle.sdd_homes.specs.Records.{slot_shown, IsIn, IsKnown, IsTelling, RecordsPart}
+use Rattle.sdd_homes.proofs.Records.{in_head, in_tail, in_either, in_none}
+use Rattle.sdd_homes.proofs.Records as records
+use Rattle.sdd_homes.proofs.Rows.{Given, given_lies}
+
+pub one_moved : (v : View) (i j : ℕ) → Moves v i → Moves v j → j ≡ i
+one_moved v i j m m' = let e : Some i ≡ Some j = sym m ∙ m' in cc
+
+pub none_moved : (v : View) (i : ℕ) → v.stakes.moves ≡ None → ¬ (Moves v i)
+none_moved v i rests m = let e : None ≡ Some i = sym rests ∙ m in cc
+
+-- one seat has one view
+pub one_view : (vs : List View) (id j : ℕ) (u v : View) → get_elem? vs j ≡ some u → get_elem? vs id ≡ some v → j ≡ id → u ≡ v
+one_view vs id j u v e at same = some-injective u v (sym e ∙ (ap (get_elem? vs) same ∙ at))
+
+-- it owns this one alone, and no other
+module _ (v : View) (slot : ℕ) (owns : v.slots.owns ≡ slot ∷ []) where
+  pub owns_it : OwnsAlone v slot
+  owns_it = let e = ap (times slot) owns in let o = is_same slot slot refl in omega arith
+
+  owns_no_more : (i : ℕ) → i ≢ slot → times i v.slots.owns ≡ 0
+  owns_no_more i ne = let e = ap (times i) owns in let o = is_other i slot (λ e. ne (sym e)) in omega arith
+
+-- ---- what a participant that takes a step knows of what slots show
+module _ (v : View) (t : IsTelling v) (slot : ℕ) where
+  -- it claims a slot
+  pub claimed_tells : v.stakes.moves ≡ None → ¬ (OwnsAlone v slot) → (y : ℕ) → IsTelling (moving slot (claimed slot y v))
+  claimed_tells rests never y = let w : View = moving slot (claimed slot y v) in record {
+    owns = λ i g h. let o = (t.owns i g h).0 in (
+      let l : OwnsAlone w i = omega arith in l,
+      λ m. never (subst (OwnsAlone v) (one_moved w slot i refl m) o),
+    );
+    owned = λ i o still. dite (ℕ_discrete i slot) (λ e. absurd (still (ap Some (sym e))))
+        (λ ne. t.owned i (let q = is_other i slot (λ e. ne (sym e)) in omega arith) (none_moved v i rests));
+    sees = t.sees;
+  }
+
+  -- it moves the value of a slot whose only owner it hasn't
+  pub moving_tells : v.stakes.moves ≡ None → ¬ (OwnsAlone v slot) → IsTelling (moving slot v)
+  moving_tells rests never = record {
+    owns = λ i g h. let o = (t.owns i g h).0 in (o, λ m. never (subst (OwnsAlone v) (one_moved (moving slot v) slot i refl m) o));
+    owned = λ i o still. t.owned i o (none_moved v i rests);
+    sees = t.sees;
+  }
+
+  module _ (owns : v.slots.owns ≡ slot ∷ []) where
+    pub held_tells : IsTelling (moving slot (untold v))
+    held_tells = record {
+      owns = λ i g h. absurd (in_none i g h);
+      owned = λ i o still. dite (ℕ_discrete i slot) (λ e. absurd (still (ap Some (sym e)))) (λ ne. absurd (let z = owns_no_more v slot owns i ne in omega arith));
+      sees = t.sees;
+    }
+
+    pub retired_tells : (y count : ℕ) → IsTelling (untold (retired slot y count v))
+    retired_tells y count = record {
+      owns = λ i g h. absurd (in_none i g h);
+      owned = λ i o still. dite (ℕ_discrete i slot)
+          (λ e. absurd (let z = without_same slot v.slots.owns in let c = ap (λ (k : ℕ). times k (without slot v.slots.owns)) e in omega arith))
+          (λ ne. absurd (let z = owns_no_more v slot owns i ne in let c = without_other slot i ne v.slots.owns in omega arith));
+      sees = t.sees;
+    }
+
+  module _ (mine : Moves v slot) where
+    -- a value was moved in
+    pub housed_tells : OwnsAlone v slot → (value : Gv) → IsTelling (resting (telling slot value v))
+    housed_tells own value = let r : Showing = record { slot = slot; value = value } in let w : View = resting (telling slot value v) in record {
+      owns = λ i g h. (
+        ⊎_elim (λ (e : (slot ≡ i) × (value ≡ g)). subst (OwnsAlone v) e.0 own) (λ (k : IsIn v.stakes.owns i g). (t.owns i g k).0)
+            (in_either r v.stakes.owns i g h),
+        none_moved w i refl,
+      );
+      owned = λ i o still. dite (ℕ_discrete slot i) (λ e. (value, in_head r v.stakes.owns i value e refl))
+          (λ ne. let b = t.owned i o (λ m. ne (sym (one_moved v slot i mine m))) in (b.0, in_tail r v.stakes.owns i b.0 b.1));
+      sees = t.sees;
+    }
+
+    -- a value was moved out
+    pub rested_tells : (w : View) → w.stakes ≡ record v.stakes { moves = None } → ((i : ℕ) → i ≢ slot → times i w.slots.owns ≡ times i v.slots.owns)
+        → ¬ (OwnsAlone w slot) → w.slots.sees ≡ v.slots.sees → IsTelling w
+    rested_tells w is same never seen = record {
+      owns = λ i g h. let o = t.owns i g (subst (λ (k : StakesView). IsIn k.owns i g) is h) in let b = o.0 in
+          let e = same i (λ e. o.1 (mine ∙ ap Some (sym e))) in (
+            let l : OwnsAlone w i = omega arith in l,
+            none_moved w i (ap (λ (k : StakesView). k.moves) is),
+          );
+      owned = λ i o still. dite (ℕ_discrete i slot) (λ e. absurd (never (subst (OwnsAlone w) e o)))
+          (λ ne. let e = same i ne in let b = t.owned i (omega arith) (λ m. ne (one_moved v slot i mine m)) in
+          (b.0, subst (λ (k : StakesView). IsIn k.owns i b.0) (sym is) b.1));
+      sees = ap (λ (k : StakesView). map slot_shown k.sees) is ∙ (t.sees ∙ sym seen);
+    }
+
+-- ---- all of them
+module _ (γ : ℕ) (sizes : Sizes) (s : State Stake View) (h : Housed γ sizes s) (i id : ℕ) (v : View) (at : get_elem? s.views id ≡ some v) where
+  -- where one has the only owner of a slot, none else has
+  sole : OwnsAlone v i → (j : ℕ) (u : View) → get_elem? s.views j ≡ some u → OwnsAlone u i → j ≡ id
+  sole own j u e o = dite (ℕ_discrete j id) (λ same. same)
+      (λ ne. let a = ((h.kept.parts.slots.each id v at).alone i own).0 in
+      let both = owners_in codes sound sizes s.words s.views h.kept.parts.slots j id i u v ne e at in absurd (omega arith))
+
+  -- while an item waits, none has
+  pub none_owns : 0 < items_at i v → (j : ℕ) (u : View) → get_elem? s.views j ≡ some u → ¬ (OwnsAlone u i)
+  none_owns waits j u e o = let t = total_has (items_at i) s.views id v at in let w = h.kept.parts.slots.waited i in
+      let a = ((h.kept.parts.slots.each j u e).alone i o).0 in let l = (sound.lives (slot_at sizes s.words i) (omega arith)).0 in absurd (omega arith)
+
+  -- nobody knows what a slot shows whose value is moved
+  pub unknown_owned : Moves v i → OwnsAlone v i → (g : Gv) → ¬ (IsKnown s.views i g)
+  unknown_owned mine own = records.unknown sizes s.views s.homes h.records i (λ j u e. h.records.apart id j v u i at e mine)
+      (λ j u e o. subst (λ (x : View). Moves x i) (sym (one_view s.views id j u v e at (sole own j u e o))) mine)
+
+  pub unknown_waiting : Moves v i → 0 < items_at i v → (g : Gv) → ¬ (IsKnown s.views i g)
+  unknown_waiting mine waits = records.unknown sizes s.views s.homes h.records i (λ j u e. h.records.apart id j v u i at e mine)
+      (λ j u e o. absurd (none_owns waits j u e o))
+
+  -- all stakes in a slot of which nobody knows come home
+  pub comes_home : (Is : Gv → Type 0) (rest xs : Carries) (g : Given γ sizes.participants i Is s.homes rest xs (suc sizes.participants))
+      → ((g : Gv) → ¬ (IsKnown s.views i g)) → (w : View) → IsTelling w → w.stakes ≡ record v.stakes { moves = None } → w.slots.sees ≡ v.slots.sees
+      → RecordsPart sizes (set s.views id w) (homes_after s.homes xs g.act)
+  comes_home Is rest xs g never w tells is seen = let n : ℕ = sizes.participants in
+      records.no_more sizes s.views s.homes h.records id v at w (homes_after s.homes xs g.act) tells
+      (λ k g' a. records.mine sizes s.views s.homes h.records id v at k g' (⊎_elim
+      (λ (b : IsIn w.stakes.owns k g'). inl (subst (λ (x : StakesView). IsIn x.owns k g') is b))
+      (λ (b : IsIn w.stakes.sees k g'). inr (subst (λ (x : StakesView). IsIn x.sees k g') is b)) a))
+      (λ j p y low near lies. ⊎_elim
+      (λ (b : (j ≡ i) × Has γ i (share n p) Is y). inr (λ g' a. absurd (never g' (subst (λ (k : ℕ). IsKnown s.views k g') b.0 a))))
+      (λ (b : (j ≢ i) × LiesAt n s.homes j p y). inl b.1) (given_lies γ n i Is s.homes rest xs g j p y near lies))
+      (λ k m. absurd (none_moved w k (ap (λ (x : StakesView). x.moves) is) m))
+      (λ k a. subst (λ (l : List ℕ). 0 < times k l) seen a)
