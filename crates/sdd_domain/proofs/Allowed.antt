@@ -1,14 +1,18 @@
 -- What each call of the table asks for
-use Rattle.std.proofs.Common.{None, ◌≤◌, ◌≡◌, ◌≢◌, ℕ, ◌+◌, ◌<◌, eqb, [], get_or, sym, refl, ap, ◌∙◌, subst, arith}
+use Rattle.std.proofs.Common.{None, ◌≤◌, ◌≡◌, ◌≢◌, ℕ, ◌+◌, ◌<◌, eqb, List, [], ◌∷◌, get_or, set, sym, refl, ap, ◌∙◌, subst, arith}
+use Rattle.std.specs.Prelude.{Some}
+use lib.Seq.{set-get_or}
+use base.Stored.{Gv, gnil}
 use mathlib.Core.Option.{none, some}
 use mathlib.Core.Logic.{dite}
 use native.Mathlib.Decide.{ℕ_discrete}
 use lib.ListN.{get_elem?}
 use prog.Atomic.{either}
-use Rattle.atomic_table.specs.Table.{State, step, Allows, Enters}
+use Rattle.atomic_table.specs.Table.{State, step, Allows, Enters, homes_after, carried_after}
+use Rattle.sdd_witness.specs.Steps.{AllowsAlone, AllowsBeside}
 use Rattle.atomic_table.specs.declared.shared.Seat.{Seat}
 use Rattle.sdd_stakes.specs.declared.stake.Stake.{Stake}
-use Rattle.sdd_stakes.specs.Shelf.{IsFull, IsVacant}
+use Rattle.sdd_stakes.specs.Shelf.{IsVacant}
 use Rattle.sdd_rule.specs.declared.EpochView.{EpochView}
 use Rattle.sdd_rule.specs.declared.View.{View}
 use Rattle.sdd_rule.specs.declared.Sizes.{Sizes}
@@ -16,20 +20,22 @@ use Rattle.sdd_rule.specs.Words.{global_word, lock_word, state_word, count_word,
 use Rattle.sdd_rule.specs.Codes.{free_word, owned_word, waiting_word}
 use Rattle.sdd_rule.specs.Epoch.{HasPlace, IsClosed, IsOpen, Scans}
 use Rattle.sdd_rule.specs.Steps.{Keeps, nobody, passed_by, knowing, scanning, IsNext, Registers, Reads, Counts, Publishes, Ends, Locks, LooksAtState, LooksAtCount, Advances, Unlocks}
-use Rattle.sdd_rule.specs.Slots.{owners_at, OwnsAlone, Holds}
-use Rattle.sdd_rule.specs.SlotSteps.{blank, changed, OnEpoch, PublishesAll, IsDue, Retires, LooksAtSlot, TakesHold, LetsGo, LooksForGuard, AtSlot}
+use Rattle.sdd_rule.specs.Slots.{OwnsAlone, Holds}
+use Rattle.sdd_rule.specs.SlotSteps.{blank, changed, OnEpoch, PublishesAll, IsDue, LooksAtSlot, TakesHold, LetsGo, LooksForGuard, AtSlot}
 use Rattle.sdd_rule.specs.Ended.{Bars}
 use Rattle.sdd_rule.proofs.Epoch as epochs
 use Rattle.sdd_rule.proofs.EpochSteps as over
 use Rattle.sdd_rule.proofs.Ended.{Spares}
-use Rattle.sdd_homes.specs.Homes.{Carries, Moves, Housed}
-use Rattle.sdd_homes.specs.HomeSteps.{Mine, HasAll, Purse, ClaimsAll, Houses, TakesOut, GivesAll, DiscardsAll, WatchesBy, ClosesHome, OfSlot}
+use Rattle.sdd_rule.proofs.Sums.{is_same}
+use Rattle.sdd_homes.specs.Homes.{Carries, Moves}
+use Rattle.sdd_homes.specs.Housed.{Housed}
+use Rattle.sdd_homes.specs.HomeSteps.{Mine, HasAll, IsValue, Purse, ClaimsAll, Houses, TakesOut, TakesHeld, RetiresOne, GivesAll, DiscardsAll, Watches, ClosesHome, OfSlot}
 use Rattle.sdd_homes.proofs.Lift.{lift_epoch, lift_publish}
 use Rattle.sdd_homes.proofs.Steps.{none_moved, own_place}
 use Rattle.sdd_homes.proofs.Steps as steps
 use Rattle.sdd_homes.proofs.Tokens.{enters}
-use Rattle.sdd_rule.specs.Parts.{idle}
-use Rattle.sdd_domain.specs.Token.{Sits, Told, IsSame, IsSameBut, Stepped, Taught, Moved, HasPublished}
+use Rattle.sdd_rule.specs.Parts.{idle, owner_of}
+use Rattle.sdd_domain.specs.Token.{Sits, Told, IsSame, IsSameBut, Stepped, Taught, Moved, HousesMoved, WatchesOwned, HasPublished, shown_last}
 
 -- which of two it is now a number tells, and what holds of both holds of it
 which : (P : EpochView → Type 0) (a b w : EpochView) (x c : ℕ) → (x ≡ c → w ≡ a) → (x ≢ c → w ≡ b) → P a → P b → P w
@@ -38,6 +44,29 @@ which P a b w x c hit miss one two = dite (ℕ_discrete x c) (λ e. subst P (sym
 -- the same, where it had a place before if it has one in either
 had : (v a b w : EpochView) (x c : ℕ) → (x ≡ c → w ≡ a) → (x ≢ c → w ≡ b) → (HasPlace a → HasPlace v) → (HasPlace b → HasPlace v) → HasPlace w → HasPlace v
 had v a b w x c hit miss one two z = dite (ℕ_discrete x c) (λ e. one (subst HasPlace (hit e) z)) (λ ne. two (subst HasPlace (miss ne) z))
+
+-- the slot whose value is moved
+one_slot_moved : (w : View) (i j : ℕ) → Moves w i → Moves w j → i ≡ j
+one_slot_moved w i j m m' = let e : Some i ≡ Some j = sym m ∙ m' in cc
+
+-- who has all stakes in a slot sees by the last what it shows
+last_shown : (γ i n : ℕ) (value : Gv) (rest xs : Carries) → HasAll γ i n (IsValue value) rest xs → shown_last xs ≡ value
+last_shown γ i n value rest [] row = absurd row
+last_shown γ i n value rest (x ∷ xs) row = row.1.1.1
+
+first_owned : View → ℕ
+first_owned w = elim w.slots.owns [ [] ↦ 0 | i ∷ is ↦ i ]
+
+first_value : View → Gv
+first_value w = elim w.stakes.owns [ [] ↦ gnil | r ∷ rs ↦ r.value ]
+
+pub owner_slot : (i j : ℕ) (g h : Gv) → owner_of i g ≡ owner_of j h → i ≡ j
+unfolding first_owned
+owner_slot i j g h e = ap first_owned e
+
+pub owner_value : (i j : ℕ) (g h : Gv) → owner_of i g ≡ owner_of j h → g ≡ h
+unfolding first_value
+owner_value i j g h e = ap first_value e
 
 -- a new token
 pub may_sit : (γ : ℕ) (sizes : Sizes) (slots i : ℕ)
@@ -151,15 +180,52 @@ module _ (γ : ℕ) (sizes : Sizes) (slots id : ℕ) (me : Mine) where
     near_place near = let e = ap (λ (z : Sizes). z.participants) same in omega arith
 
     pub may_close : (i : ℕ) → i ≡ state_word v.place → IsOpen v → ¬ (Scans v) → v.place < sizes.participants → me.0.stakes.moves ≡ None
-        → Purse γ sizes.participants v.place me.0.slots.sees me.1 → May i (λ _. 1) (λ _. ClosesHome me 1)
+        → Purse γ sizes.participants v.place me.0.stakes.sees me.1 → May i (λ _. 1) (λ _. ClosesHome me 1)
     may_close i is is_open free near rests purse = as_known i (state_word v.place) (λ _. 1) (λ _ _. ClosesHome me 1) is
         (steps.closes slots id me live is_open free (near_place near) rests
-        (subst (λ (t : ℕ × Sizes). Purse t.0 t.1.participants v.place me.0.slots.sees me.1) (λ d. (sym book d, sym same d)) purse))
+        (subst (λ (t : ℕ × Sizes). Purse t.0 t.1.participants v.place me.0.stakes.sees me.1) (λ d. (sym book d, sym same d)) purse))
 
     pub may_look_for_guard : (i place : ℕ) → i ≡ state_word place → place < sizes.participants → place ≡ me.0.slots.looked
         → May i (λ x. x) (Told (LooksForGuard i) me)
     may_look_for_guard i place is low next = as_known i (state_word place) (λ x. x) (λ j. Told (LooksForGuard j) me) is
         (steps.looks_for_guard slots id me live place (let e = ap (λ (z : Sizes). z.participants) same in omega arith) next)
+
+    -- on no word
+    alone_known : (told : Mine → Type 0) → AllowsAlone (Housed me.0.stakes.book me.0.sizes) slots id me told → AllowsAlone (Housed γ sizes) slots id me told
+    alone_known told = subst (λ (t : ℕ × Sizes). AllowsAlone (Housed t.0 t.1) slots id me told) (λ d. (book d, same d))
+
+    row_as_known : (slot : ℕ) (Is : Gv → Type 0) (rest : Carries) → HasAll γ slot sizes.participants Is rest me.1
+        → HasAll me.0.stakes.book slot me.0.sizes.participants Is rest me.1
+    row_as_known slot Is rest = subst (λ (t : ℕ × Sizes). HasAll t.0 slot t.1.participants Is rest me.1) (λ d. (sym book d, sym same d))
+
+    pub may_house : (slot : ℕ) → slot < sizes.slots → Moves me.0 slot → OwnsAlone me.0 slot → (value : Gv) (rest : Carries)
+        → HasAll γ slot sizes.participants (IsValue value) rest me.1 → AllowsAlone (Housed γ sizes) slots id me (HousesMoved me)
+    may_house slot inside moves mine value rest row = let within : slot < me.0.sizes.slots = (let e = ap (λ (z : Sizes). z.slots) same in omega arith) in
+        alone_known (HousesMoved me) (λ s h long at.
+        let a = steps.houses slots id me live slot within moves mine value rest (row_as_known slot (IsValue value) rest row) s h long at in (
+          a.0,
+          a.1,
+          a.2,
+          a.3,
+          (λ other m. subst (λ (t : ℕ × Gv). Houses t.0 t.1 me (a.0, carried_after me.1 a.1))
+              (λ d. (one_slot_moved me.0 slot other moves m d, sym (last_shown γ slot sizes.participants value rest me.1 row) d)) a.4),
+        ))
+
+    pub may_watch : (slot : ℕ) → slot < sizes.slots → IsOpen v → v.place < sizes.participants → me.0.stakes.moves ≡ None → (jd : ℕ) (value : Gv)
+        → AllowsBeside (Housed γ sizes) slots id me jd (owner_of slot value) (WatchesOwned (owner_of slot value) me)
+    may_watch slot inside is_open near rests jd value = let within : slot < me.0.sizes.slots = (let e = ap (λ (z : Sizes). z.slots) same in omega arith) in
+        subst (λ (t : ℕ × Sizes). AllowsBeside (Housed t.0 t.1) slots id me jd (owner_of slot value) (WatchesOwned (owner_of slot value) me))
+        (λ d. (book d, same d)) (λ s h long at there.
+        let one = is_same slot slot refl in
+        let a = steps.watches slots id me live slot within is_open (near_place near) rests jd (owner_of slot value) value (omega arith) (λ held. cc)
+        (0, record { slot = slot; value = value }, refl, refl, refl) s h long at there in (
+          a.0,
+          a.1,
+          a.2,
+          a.3,
+          (λ other g e. subst (λ (t : ℕ × Gv). Watches t.0 t.1 me (a.0, carried_after me.1 a.1)) (λ d. (owner_slot slot other value g e d, owner_value slot
+              other value g e d)) a.4),
+        ))
 
     -- of a slot
     module _ (i slot : ℕ) (is : i ≡ slot_word sizes slot) (inside : slot < sizes.slots) where
@@ -185,31 +251,33 @@ module _ (γ : ℕ) (sizes : Sizes) (slots id : ℕ) (me : Mine) where
       may_claim rests = at_slot (λ x. either (eqb x (free_word 0)) (owned_word 0) x) (λ j. OfSlot (λ slot. ClaimsAll slot (free_word 0) (owned_word 0)) j me)
           (steps.claims slots id me live slot within rests)
 
-      pub may_house : Moves me.0 slot → OwnsAlone me.0 slot → (rest : Carries) → HasAll γ slot sizes.participants IsFull rest me.1
-          → May i (λ x. x) (OfSlot Houses i me)
-      may_house moves mine rest row = at_slot (λ x. x) (λ j. OfSlot Houses j me)
-          (steps.houses slots id me live slot within moves mine rest (row_known IsFull rest row))
-
       pub may_look : May i (λ x. x) (Told (AtSlot LooksAtSlot i) me)
       may_look = at_slot (λ x. x) (λ j. Told (AtSlot LooksAtSlot j) me) (steps.looks slots id me live slot within)
 
-      pub may_retire : OwnsAlone me.0 slot → ¬ (Holds me.0 slot) → me.0.stakes.moves ≡ None
-          → May i (λ _. waiting_word 0) (λ _. Told (AtSlot Retires i) me (waiting_word 0))
-      may_retire mine free rests = at_slot (λ _. waiting_word 0) (λ j _. Told (AtSlot Retires j) me (waiting_word 0))
+      pub may_retire : me.0.slots.owns ≡ slot ∷ [] → ¬ (Holds me.0 slot) → me.0.stakes.moves ≡ None
+          → May i (λ _. waiting_word 0) (λ _. OfSlot RetiresOne i me (waiting_word 0))
+      may_retire mine free rests = at_slot (λ _. waiting_word 0) (λ j _. OfSlot RetiresOne j me (waiting_word 0))
           (steps.retires slots id me live slot within mine free rests)
 
-      pub may_take_out : me.0.stakes.moves ≡ None → IsDue me.0 slot → May i (λ x. x) (OfSlot TakesOut i me)
-      may_take_out rests due = at_slot (λ x. x) (λ j. OfSlot TakesOut j me) (steps.takes_out slots id me live slot within rests due)
+      -- a step on no word, taken with a load of the slot's
+      by_load : (R : ℕ → Mine → Mine → Type 0) → AllowsAlone (Housed me.0.stakes.book me.0.sizes) slots id me (R slot me)
+          → May i (λ x. x) (OfSlot (λ slot me _. R slot me) i me)
+      by_load R step = at_slot (λ x. x) (λ j. OfSlot (λ slot me _. R slot me) j me) (λ s h long at small. let a = step s h long at in (
+        a.0,
+        a.1,
+        a.2,
+        subst (λ (ws : List ℕ). Housed me.0.stakes.book me.0.sizes record { words = ws; homes = homes_after s.homes me.1 a.1; views = set s.views id a.0 })
+            (sym (set-get_or s.words (slot_word me.0.sizes slot) 0)) a.3,
+        (λ other is. let same : slot ≡ other = omega arith in subst (λ (k : ℕ). R k me (a.0, carried_after me.1 a.1)) same a.4),
+      ))
+
+      pub may_take_out : me.0.stakes.moves ≡ None → IsDue me.0 slot → May i (λ x. x) (OfSlot (λ slot me _. TakesOut slot me) i me)
+      may_take_out rests due = by_load TakesOut (steps.takes_out slots id me live slot within rests due)
 
       pub may_give_back : Moves me.0 slot → IsDue me.0 slot → (rest : Carries) → HasAll γ slot sizes.participants IsVacant rest me.1
           → May i (λ _. free_word 0) (λ _. OfSlot GivesAll i me (free_word 0))
       may_give_back moves due rest row = at_slot (λ _. free_word 0) (λ j _. OfSlot GivesAll j me (free_word 0))
           (steps.gives_all slots id me live slot within moves due rest (row_known IsVacant rest row))
-
-      pub may_watch : IsOpen v → v.place < sizes.participants → 0 < owners_at slot me.0 → ¬ (Holds me.0 slot) → me.0.stakes.moves ≡ None
-          → May i (λ x. x) (OfSlot WatchesBy i me)
-      may_watch is_open near mine free rests = at_slot (λ x. x) (λ j. OfSlot WatchesBy j me)
-          (steps.watches slots id me live slot within is_open (near_place near) mine free rests)
 
       pub may_hold : OwnsAlone me.0 slot → me.0.slots.holds ≡ None → May i (λ x. x) (Told (AtSlot TakesHold i) me)
       may_hold mine free = at_slot (λ x. x) (λ j. Told (AtSlot TakesHold j) me) (steps.takes_hold slots id me live slot within mine free)
@@ -217,9 +285,9 @@ module _ (γ : ℕ) (sizes : Sizes) (slots id : ℕ) (me : Mine) where
       pub may_let_go : Holds me.0 slot → May i (λ x. x) (Told (AtSlot LetsGo i) me)
       may_let_go held = at_slot (λ x. x) (λ j. Told (AtSlot LetsGo j) me) (steps.lets_go slots id me live slot within held)
 
-      pub may_take_held : me.0.stakes.moves ≡ None → Holds me.0 slot → sizes.participants ≤ me.0.slots.looked → May i (λ x. x) (OfSlot TakesOut i me)
-      may_take_held rests held all = at_slot (λ x. x) (λ j. OfSlot TakesOut j me)
-          (steps.takes_held slots id me live slot within rests held (all_looked all))
+      pub may_take_held : me.0.stakes.moves ≡ None → me.0.slots.owns ≡ slot ∷ [] → Holds me.0 slot → sizes.participants ≤ me.0.slots.looked
+          → May i (λ x. x) (OfSlot (λ slot me _. TakesHeld slot me) i me)
+      may_take_held rests mine held all = by_load TakesHeld (steps.takes_held slots id me live slot within rests mine held (all_looked all))
 
       pub may_discard : Moves me.0 slot → Holds me.0 slot → sizes.participants ≤ me.0.slots.looked → (rest : Carries)
           → HasAll γ slot sizes.participants IsVacant rest me.1 → May i (λ _. free_word 0) (λ _. OfSlot DiscardsAll i me (free_word 0))
