@@ -71,7 +71,8 @@ module _ (v : View) (t : IsTelling v) (slot : ℕ) where
     pub held_tells : IsTelling (moving slot (untold v))
     held_tells = record {
       owns = λ i g h. absurd (in_none i g h);
-      owned = λ i o still. dite (ℕ_discrete i slot) (λ e. absurd (still (ap Some (sym e)))) (λ ne. absurd (let z = owns_no_more v slot owns i ne in omega arith));
+      owned = λ i o still. dite (ℕ_discrete i slot) (λ e. absurd (still (ap Some (sym e))))
+          (λ ne. absurd (let z = owns_no_more v slot owns i ne in omega arith));
       sees = t.sees;
     }
 
