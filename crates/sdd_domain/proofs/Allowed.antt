@@ -31,7 +31,8 @@ use Rattle.sdd_homes.specs.Homes.{Carries, Moves}
 use Rattle.sdd_homes.specs.Housed.{Housed}
 use Rattle.sdd_homes.specs.HomeSteps.{Mine, HasAll, IsValue, Purse, ClaimsAll, Houses, TakesOut, TakesHeld, RetiresOne, GivesAll, DiscardsAll, Watches, ClosesHome, OfSlot}
 use Rattle.sdd_homes.proofs.Lift.{lift_epoch, lift_publish}
-use Rattle.sdd_homes.proofs.Steps.{none_moved, own_place}
+use Rattle.sdd_homes.proofs.Steps.{own_place}
+use Rattle.sdd_homes.proofs.Telling.{none_moved}
 use Rattle.sdd_homes.proofs.Steps as steps
 use Rattle.sdd_homes.proofs.Tokens.{enters}
 use Rattle.sdd_rule.specs.Parts.{idle, owner_of}

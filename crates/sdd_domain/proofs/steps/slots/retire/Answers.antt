@@ -1,7 +1,7 @@
 use Rattle.std.proofs.Common.{arith}
 use Rattle.sdd_rule.specs.Codes.{waiting_word}
-use Rattle.sdd_rule.specs.SlotSteps.{Retires}
-use Rattle.sdd_domain.proofs.Allowed.{taught_at, may_retire}
+use Rattle.sdd_homes.specs.HomeSteps.{RetiresOne}
+use Rattle.sdd_domain.proofs.Allowed.{moved_at, may_retire}
 use Rattle.sdd_domain.proofs.steps.slots.retire.Goals as goal
 
 pub store-requires : goal.store-requires
@@ -10,4 +10,4 @@ store-requires c = let r = c.requires in
 
 pub returns : goal.returns
 returns c = let e = c.store.ensures in
-    taught_at c.args.token.now _ (waiting_word 0) e.0 e.1 Retires _ c.args.slot _ c.slot_word.ensures c.requires.knows.0 e.2
+    moved_at c.args.token.now _ (waiting_word 0) e.0 e.1 RetiresOne _ c.args.slot _ c.slot_word.ensures c.requires.knows.0 e.2

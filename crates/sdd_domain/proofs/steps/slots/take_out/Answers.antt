@@ -1,5 +1,5 @@
-use Rattle.std.proofs.Common.{arith}
-use Rattle.sdd_homes.specs.HomeSteps.{TakesOut}
+use Rattle.std.proofs.Common.{ℕ, arith}
+use Rattle.sdd_homes.specs.HomeSteps.{Mine, TakesOut}
 use Rattle.sdd_domain.proofs.Allowed.{moved_at, may_take_out}
 use Rattle.sdd_domain.proofs.steps.slots.take_out.Goals as goal
 
@@ -9,4 +9,5 @@ load-requires c = let r = c.requires in
 
 pub returns : goal.returns
 returns c = let e = c.load.ensures in
-    moved_at c.args.token.now _ c.load.result e.0 e.1 TakesOut _ c.args.slot _ c.slot_word.ensures c.requires.knows.0 e.2
+    moved_at c.args.token.now _ c.load.result e.0 e.1 (λ (slot : ℕ) (me : Mine) (_ : ℕ). TakesOut slot me) _ c.args.slot _ c.slot_word.ensures
+    c.requires.knows.0 e.2
