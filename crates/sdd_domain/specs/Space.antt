@@ -4,14 +4,18 @@ use Rattle.std.proofs.Common.{sym}
 use Rattle.std.proofs.lemmas.Bool.{true≢false}
 use Rattle.sdd_store.specs.Tally.{no_items}
 use Rattle.sdd_base.specs.Holding.{Home}
+use Rattle.sdd_token.specs.Units as token
 use Rattle.sdd_base.specs.Known.{Known}
 use Rattle.sdd_base.specs.Seat.{Seat, IsExact}
 use Rattle.sdd_base.specs.World.{World}
 use Rattle.sdd_domain.specs.Local.{Member}
 
+abbrev no_home : token.Home
+no_home = record { name = 0; size = 0; tables = [] }
+
 -- where there are no slots and no cells; each reader is numbered in a home of its own
 abbrev pub nowhere : Home
-nowhere = record { slots = record { name = 0; size = 0 }; cells = record { name = 0; size = 0 }; readers = record { name = 0; size = 0 } }
+nowhere = record { slots = no_home; cells = no_home; readers = no_home }
 
 abbrev pub seat_of : Member → Seat
 seat_of m = record {
