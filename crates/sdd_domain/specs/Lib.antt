@@ -11,5 +11,6 @@ pub mod Domain
 pub mod Receipt
 pub mod Local
 pub mod Items
+pub mod Values
 pub mod Posed
 pub mod Space

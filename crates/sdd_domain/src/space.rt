@@ -71,7 +71,7 @@ impl<T: Item<T> + Drop> Guards<T> for Local<'_, T> {
 impl<T: Plain<T> + Drop> Items<T> for Local<'_, T> {
     ghost use Rattle.sdd_domain.specs.Items.{HasValue};
     ghost use Rattle.sdd_domain.specs.Space.{never_exact};
-    ghost use Rattle.sdd_domain.proofs.Shown.{one_value};
+    ghost use Rattle.sdd_domain.specs.Values.{one_value};
 
     ghost owns_value = { λ _ right value. HasValue (showing T.row value) right };
 

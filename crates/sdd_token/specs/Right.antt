@@ -1,5 +1,9 @@
 -- The right to a number
-use Rattle.std.specs.Prelude.{ℕ}
+use Rattle.std.specs.Prelude.{ℕ, ◌≡◌, List, [], ◌∷◌}
+use base.Stored.{Gv}
+use Rattle.atomic_table.specs.Seated.{TableId}
+use Rattle.sdd_witness.specs.declared.witness.Witness.{Witness}
+use Rattle.sdd_token.specs.Owner.{IsOwners}
 use Rattle.sdd_token.specs.Units.{Home}
 use Rattle.sdd_token.specs.declared.right.Kind.{Kind}
 use Rattle.sdd_token.specs.declared.right.Right.{Right}
@@ -10,9 +14,27 @@ use Rattle.sdd_token.specs.declared.right.Badge.{Badge}
 abbrev pub number_of : Right → ℕ
 number_of right = right.number
 
+-- the home of the slots of a domain, which are those of its table
+abbrev pub home_of_table : TableId → ℕ → Home
+home_of_table table size = record { name = 0; size = size; tables = table ∷ [] }
+
+-- with a witness it is the home of its table, and else the one of the part
+abbrev pub home_by : List Gv → TableId → Home → Home
+home_by [] table home = home
+home_by (g ∷ gs) table home = home_of_table table home.size
+
 -- the home whose number it is
 abbrev pub home_of : Right → Home
-home_of right = right.part.home
+home_of right = home_by right.witness.views right.witness.table_id right.part.home
+
+-- in a domain: the token of the owner of the slot
+abbrev pub witness_of : Right → Witness
+witness_of right = right.witness
+
+-- the witness is the token of the owner of this slot of the home's table
+pub record IsWitnessOf (home : Home) (slot : ℕ) (witness : Witness) : Type 0 where
+  pub table : home.tables ≡ witness.table_id ∷ []
+  pub owner : IsOwners slot witness.views
 
 -- whether its owner is the only one that there may be
 abbrev pub kind_of : Right → Kind

@@ -1,5 +1,5 @@
 -- What a space keeps of the numbers of one home
-use Rattle.std.specs.Prelude.{ℕ, ◌-◌, ◌^◌, ◌≡◌, ◌<◌, List, length, slice_index_or}
+use Rattle.std.specs.Prelude.{ℕ, ◌-◌, ◌^◌, ◌≡◌, ◌<◌, List, [], length, slice_index_or}
 use Rattle.sdd_token.specs.Units.{Home}
 use Rattle.sdd_token.specs.declared.part.Part.{Part}
 use Rattle.sdd_token.specs.declared.right.Kind.{Kind}
@@ -40,7 +40,8 @@ pub record IsPartOf (home : Home) (k : ℕ) (part : Part Kind) : Type 0 where
 abbrev pub ArePartsUpTo : Home → List (Part Kind) → Type 0
 ArePartsUpTo home parts = (k : ℕ) (d : Part Kind) → k < length parts → IsPartOf home k (slice_index_or parts k d)
 
--- a part of each number of the home, in order
+-- a part of each number of the home, which is a book's, in order
 pub record ArePartsOf (home : Home) (parts : List (Part Kind)) : Type 0 where
+  pub tables : home.tables ≡ []
   pub size : length parts ≡ home.size
   pub each : ArePartsUpTo home parts

@@ -1,5 +1,5 @@
 //! The book of a space, and the parts of its numbers.
-ghost use Rattle.std.specs.Prelude.{◌≡◌, ℕ, ◌+◌, ◌-◌, ◌<◌, ◌≤◌};
+ghost use Rattle.std.specs.Prelude.{◌≡◌, ℕ, ◌+◌, ◌-◌, ◌<◌, ◌≤◌, []};
 ghost use base.Stored.{Gv};
 ghost use Rattle.sdd_token.specs.Units.{Home, home_coded, book_owns, part_owns, part_shares, gv_coded};
 
@@ -45,6 +45,7 @@ impl<K> Book<K> {
     pub fn new(size: usize) -> Book<K>
         ensures size { result.home.size ≡ size }
         ensures first { result.next ≡ 0 }
+        ensures tables { result.home.tables ≡ [] }
     {
         let _ = size;
         Book { of: PhantomData }

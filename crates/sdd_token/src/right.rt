@@ -1,8 +1,10 @@
-ghost use Rattle.std.specs.Prelude.{◌≡◌, ◌<◌, ◌≤◌};
+ghost use Rattle.std.specs.Prelude.{◌≡◌, ◌≢◌, ◌<◌, ◌≤◌, []};
 ghost use Rattle.sdd_token.specs.declared.right.Kind.{Kind};
 ghost use Rattle.sdd_token.specs.Kind.{right_units, IsOwner};
+ghost use Rattle.sdd_token.specs.Owner.{IsOwners, AreOwners, AreOwners-prop};
 
-use crate::part::{Part, WHOLE};
+use crate::part::{Book, Part, WHOLE};
+use sdd_witness::Witness;
 
 /// How a number of slots or cells stands, as all its units agree.
 #[derive(Clone, Copy, Debug, PartialEq, Eq)]
@@ -33,26 +35,72 @@ impl Kind {
 
 /// The right of an owner to a number: all its units but the one that its space keeps, where nobody else may be an owner, and a single one else.
 ///
+/// In a domain there is no book of the slots. Its witness is then the token of the slot's owner, and its part, of a book of its own, says the kind
+/// alone.
+///
 /// It can be neither copied nor let go, only redeemed where it was granted.
 pub struct Right {
     pub(crate) number: u32,
     pub(crate) part: Part<Kind>,
-    pub ghost named: { part.number ≡ number },
+    pub(crate) witness: Witness,
+    pub ghost named: { witness.views ≡ [] → part.number ≡ number },
     pub ghost inside: { number < part.home.size },
     pub ghost owner: { IsOwner part.kind },
-    pub ghost due: { part.units ≡ right_units part.kind },
+    pub ghost due: { witness.views ≡ [] → part.units ≡ right_units part.kind },
+    pub ghost books: { part.home.tables ≡ [] },
+    pub ghost owns: { AreOwners number witness.views } by { AreOwners-prop number witness.views },
 }
 
 const _: () = prove!(size_of::<Right>() == 4);
 
 impl Right {
-    ghost use Rattle.sdd_token.specs.Right.{number_of};
+    ghost use Rattle.sdd_token.specs.Right.{number_of, home_of, kind_of, home_of_table, witness_of, IsWitnessOf};
 
     /// The number that the right is to.
     pub fn number(&self) -> u32
         ensures { result ≡ number_of self.now }
     {
         self.number
+    }
+
+    /// The right to a slot of a domain, by the token of its owner. The domain has so many slots.
+    pub fn of_witness(number: u32, size: usize, kind: Kind, witness: Witness) -> Right
+        requires owner { IsOwners number witness.views }
+        requires inside { number < size }
+        requires kind { IsOwner kind }
+        ensures number { number_of result ≡ number }
+        ensures home { home_of result ≡ home_of_table witness.table_id size }
+        ensures kind { kind_of result ≡ kind }
+        ensures witness { witness_of result ≡ witness }
+    {
+        let mut book = Book::new(size);
+        let part = book.issue(&kind);
+        Right {
+            number,
+            part,
+            witness,
+        }
+    }
+
+    /// The token of the owner of the slot, in a domain; a blank one else.
+    pub fn into_witness(self) -> Witness
+        ensures witness { result ≡ witness_of self }
+        ensures owner { (home_of self).tables ≢ [] → IsWitnessOf (home_of self) (number_of self) result }
+    {
+        let Right {
+            number: _,
+            part: _,
+            witness,
+        } = self;
+        witness
+    }
+
+    /// The token of the owner of the slot, in a domain; a blank one else.
+    pub fn witness(&self) -> &Witness
+        ensures witness { result.now ≡ witness_of self.now }
+        ensures owner { (home_of self.now).tables ≢ [] → IsWitnessOf (home_of self.now) (number_of self.now) result.now }
+    {
+        &self.witness
     }
 }
 

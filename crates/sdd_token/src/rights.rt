@@ -7,6 +7,7 @@ ghost use Rattle.sdd_token.specs.Shares as shares;
 
 use crate::part::{Book, Part, WHOLE};
 use crate::right::{Badge, Kind, RawRight, Right, Shares};
+use sdd_witness::Witness;
 use std::alloc::{AllocError, Global};
 use std::marker::Model;
 
@@ -120,7 +121,11 @@ impl Rights {
         let kept = &mut self.parts[number as usize];
         kept.set(&kind, &());
         let part = kept.split(kind.units());
-        Right { number, part }
+        Right {
+            number,
+            part,
+            witness: Witness::blank(),
+        }
     }
 
     /// Grants one right more to a number that several may own. At least one unit stays.
@@ -135,7 +140,11 @@ impl Rights {
         ensures kept { self.new.kept ≡ slice_set self.old.kept number (record (kept_at self.old number) { units = (kept_at self.old number).units - 1 }) }
     {
         let part = self.parts[number as usize].split(1);
-        Right { number, part }
+        Right {
+            number,
+            part,
+            witness: Witness::blank(),
+        }
     }
 
     /// Takes a right back. What is kept of its number had agreed with it on the kind.
@@ -150,7 +159,11 @@ impl Rights {
         ensures kept { self.new.kept ≡ slice_set self.old.kept result
             (record (kept_at self.old result) { units = (kept_at self.old result).units + right_units (kind_of right) }) }
     {
-        let Right { number, mut part } = right;
+        let Right {
+            number,
+            mut part,
+            witness: _,
+        } = right;
         let kept = &mut self.parts[number as usize];
         kept.apart(&mut part);
         kept.join(part);
@@ -207,7 +220,7 @@ impl Rights {
         ensures inside { number_of right.now < self.now.home.size }
         ensures kind { (kept_at self.now (number_of right.now)).kind ≡ kind_of right.now }
     {
-        self.agree(right.number as usize, &right.part);
+        self.parts[right.number as usize].agree(&right.part);
     }
 
     /// Grants a right to a number that is kept whole, which is out as raw from then on.

@@ -14,6 +14,7 @@ loop-number-preserved c =
     let home = ap (λ (b : Book Kind). b.home) issued.book in
     record {
       size = ap (λ (h : Home). h.size) home ∙ was.size;
+      tables = ap (λ (h : Home). h.tables) home ∙ was.tables;
       next = ap (λ (b : Book Kind). b.next) issued.book ∙ ap (λ (n : ℕ). n + 1) was.next;
       len = omega (arith, was.len, pushed.len);
       room = omega (arith, was.room, pushed.capacity);
@@ -25,7 +26,7 @@ loop-number-preserved c =
 pub invariant_of-result : goal.invariant_of-result
 invariant_of-result c =
     let was = c.loop-number.invariant in
-    record { size = omega (arith, was.len, was.size, c.loop-number-test.false, c.loop-number.auto._number-end); each = was.each }
+    record { tables = was.tables; size = omega (arith, was.len, was.size, c.loop-number-test.false, c.loop-number.auto._number-end); each = was.each }
 
 pub returns : goal.returns
 returns c =
