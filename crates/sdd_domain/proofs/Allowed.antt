@@ -51,7 +51,7 @@ one_slot_moved : (w : View) (i j : ℕ) → Moves w i → Moves w j → i ≡ j
 one_slot_moved w i j m m' = let e : Some i ≡ Some j = sym m ∙ m' in cc
 
 -- who has all stakes in a slot sees by the last what it shows
-last_shown : (γ i n : ℕ) (value : Gv) (rest xs : Carries) → HasAll γ i n (IsValue value) rest xs → shown_last xs ≡ value
+pub last_shown : (γ i n : ℕ) (value : Gv) (rest xs : Carries) → HasAll γ i n (IsValue value) rest xs → shown_last xs ≡ value
 last_shown γ i n value rest [] row = absurd row
 last_shown γ i n value rest (x ∷ xs) row = row.1.1.1
 

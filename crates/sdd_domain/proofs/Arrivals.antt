@@ -112,6 +112,7 @@ module _ (b : Board) (p : ℕ) (own : Participant) (count : ℕ) where
           number = pub_.0.1 ∙ read.0.0.1;
           others = pub_.0.2 ∙ read.0.0.2;
           sizes = pub_.0.3 ∙ read.0.0.3;
+          stakes = pub_.0.4 ∙ read.0.0.4;
           knew = read.1.1;
           knows = (let f = ap (λ (x : EpochView). x.since) epochs in omega arith);
           known = ap (λ (x : EpochView). x.known) epochs ∙ sym (ap (λ (x : EpochView). x.since) epochs);
@@ -167,6 +168,7 @@ module _ (b : Board) (p : ℕ) (own : Participant) (count : ℕ) where
             number = number;
             others = others;
             sizes = sizes;
+            stakes = stakes;
             knew = read.1.1;
             knows = (let f = ap (λ (x : EpochView). x.since) epochs in omega arith);
             known = ap (λ (x : EpochView). x.known) epochs ∙ sym (ap (λ (x : EpochView). x.since) epochs);

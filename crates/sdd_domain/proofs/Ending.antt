@@ -15,7 +15,8 @@ use Rattle.sdd_rule.specs.declared.View.{View}
 use Rattle.sdd_rule.specs.declared.Sizes.{Sizes}
 use Rattle.sdd_rule.specs.Words.{slot_word}
 use Rattle.sdd_rule.specs.Slots.{slot_at}
-use Rattle.sdd_homes.specs.Homes.{stake_at, homes_for, share, Has, IsShown, AreHome, Housed}
+use Rattle.sdd_homes.specs.Homes.{stake_at, homes_for, share, Has, IsShown, AreHome}
+use Rattle.sdd_homes.specs.Housed.{Housed}
 use Rattle.sdd_homes.proofs.Tokens.{all_home}
 
 pub many : (n m : ℕ) → m * (n + 1) ≡ homes_for n m

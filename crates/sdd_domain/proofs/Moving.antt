@@ -1,20 +1,25 @@
 -- A value comes into the place of a slot, and leaves it; and what the guards see is shown.
-use Rattle.std.proofs.Common.{◌≡◌, ℕ, suc, ◌+◌, ◌<◌, List, [], ◌∷◌, drop, sym, refl, ap, ◌∙◌, subst, inl, arith}
+use Rattle.std.proofs.Common.{◌≡◌, ℕ, zero, suc, ◌+◌, ◌<◌, List, [], ◌∷◌, map, drop, sym, refl, ap, ◌∙◌, subst, inl, arith}
 use Rattle.std.specs.Prelude.{None}
+use mathlib.Core.Option.{some, some-injective, some-ne-none}
 use mathlib.Core.Logic.{dite}
+use lib.ListN.{get_elem?}
 use native.Mathlib.Decide.{ℕ_discrete}
 use base.Stored.{Gv}
 use Rattle.sdd_stakes.specs.Stakes.{Lot, AllFreeFor, unlent}
 use Rattle.sdd_stakes.specs.Seats.{lots, plain, OnlyLends}
 use Rattle.sdd_stakes.specs.declared.stake.Stake.{Stake}
-use Rattle.sdd_stakes.specs.Shelf.{most, IsFull, IsVacant, CanShow, HasWhole, all_turned}
+use Rattle.sdd_stakes.specs.Shelf.{most, IsFull, IsVacant, CanShow, Shows, HasWhole, all_turned}
+use Rattle.sdd_rule.specs.declared.Showing.{Showing}
 use Rattle.sdd_rule.specs.declared.View.{View}
 use Rattle.sdd_rule.specs.SlotSteps.{given_back, claimed, Knew, LooksAtSlot}
 use Rattle.sdd_rule.specs.Codes.{free_word, owned_word}
 use Rattle.sdd_rule.specs.Sums.{times}
 use Rattle.sdd_rule.proofs.Sums.{is_other}
 use Rattle.sdd_homes.specs.Homes.{Carries, Has, stake_at}
-use Rattle.sdd_homes.specs.HomeSteps.{Mine, HasAll, Purse, ClaimsAll, book_of, places_of, moving, resting}
+use Rattle.sdd_homes.specs.Records.{slot_shown, IsIn}
+use Rattle.sdd_homes.proofs.Records.{in_head, in_tail}
+use Rattle.sdd_homes.specs.HomeSteps.{Mine, HasAll, IsValue, Purse, ClaimsAll, book_of, places_of, moving, resting}
 use Rattle.sdd_homes.proofs.Tops.{whole, all_after, rest_is}
 use Rattle.atomic_table.specs.declared.shared.Seat.{Seat}
 use Rattle.sdd_domain.specs.Token.{Taught, Moved}
@@ -44,65 +49,83 @@ pub rests_again : (slot y : ℕ) (v w : View) → v.stakes.moves ≡ None → w 
 rests_again slot y v w rests e = e ∙ (λ d. record (given_back slot y v) { stakes = record v.stakes { moves = sym rests d } })
 
 -- ---- what the guards see
-pub nothing_out : (γ n p : ℕ) (sees : List ℕ) (xs : Carries) → sees ≡ [] → IsPurse γ n p sees xs → xs ≡ []
+pub nothing_out : (γ n p : ℕ) (sees : List Showing) (xs : Carries) → sees ≡ [] → IsPurse γ n p sees xs → xs ≡ []
 unfolding IsPurse
-nothing_out γ n p sees xs none purse = empty xs (subst (λ (l : List ℕ). Purse γ n p l (plain xs)) none purse)
+nothing_out γ n p sees xs none purse = empty xs (subst (λ (l : List Showing). Purse γ n p l (plain xs)) none purse)
   where
     empty : (xs : Carries) → Purse γ n p [] (plain xs) → xs ≡ []
     empty [] h = refl
     empty (x ∷ xs) h = absurd h
 
-pub no_purse : (γ n p : ℕ) (sees : List ℕ) (xs : Carries) → sees ≡ [] → xs ≡ [] → IsPurse γ n p sees xs
+pub no_purse : (γ n p : ℕ) (sees : List Showing) (xs : Carries) → sees ≡ [] → xs ≡ [] → IsPurse γ n p sees xs
 unfolding IsPurse
-no_purse γ n p sees xs e e' = subst (λ (t : List ℕ × Carries). Purse γ n p t.0 (plain t.1)) (λ d. (sym e d, sym e' d)) tt
+no_purse γ n p sees xs e e' = subst (λ (t : List Showing × Carries). Purse γ n p t.0 (plain t.1)) (λ d. (sym e d, sym e' d)) tt
 
 pub none_lent : (t : ℕ) (xs : Carries) → xs ≡ [] → AreLentTo t xs
 unfolding AreLentTo
 none_lent t xs e = subst (λ (l : Carries). AllFreeFor t (lots l)) (sym e) tt
 
 -- what they see can be shown
-there : (γ n p t slot : ℕ) (sees : List ℕ) (xs : Carries) → Purse γ n p sees (plain xs) → AllFreeFor t (lots xs) → 0 < times slot sees
+there : (γ n p t slot : ℕ) (sees : List Showing) (xs : Carries) → Purse γ n p sees (plain xs) → AllFreeFor t (lots xs) → 0 < times slot (map slot_shown sees)
     → CanShow γ slot t (lots xs)
-there γ n p t slot [] xs purse lent some = absurd (omega arith)
-there γ n p t slot (i ∷ sees) [] purse lent some = absurd purse
-there γ n p t slot (i ∷ sees) (x ∷ xs) purse lent some = let is = purse.1.0 in dite (ℕ_discrete i slot)
+there γ n p t slot [] xs purse lent seen = absurd (omega arith)
+there γ n p t slot (r ∷ sees) [] purse lent seen = absurd purse
+there γ n p t slot (r ∷ sees) (x ∷ xs) purse lent seen = let is = purse.1.0 in dite (ℕ_discrete r.slot slot)
     (λ e. record {
       place = 0;
       one = x.1.lot;
       there = refl;
       of_book = ap (λ (h : Lot). h.book) is;
       of_number = ap (λ (h : Lot). h.number) is ∙ e;
-      full = purse.1.1;
+      full = purse.1.1.0;
       free = lent.0;
     })
-    (λ ne. let o = is_other slot i ne in let r = there γ n p t slot sees xs purse.2 lent.1 (omega arith) in record {
-      place = suc r.place;
-      one = r.one;
-      there = r.there;
-      of_book = r.of_book;
-      of_number = r.of_number;
-      full = r.full;
-      free = r.free;
+    (λ ne. let o = is_other slot r.slot ne in let c = there γ n p t slot sees xs purse.2 lent.1 (omega arith) in record {
+      place = suc c.place;
+      one = c.one;
+      there = c.there;
+      of_book = c.of_book;
+      of_number = c.of_number;
+      full = c.full;
+      free = c.free;
     })
 
-pub can_show : (γ n p t slot : ℕ) (sees : List ℕ) (xs : Carries) → IsPurse γ n p sees xs → AreLentTo t xs → 0 < times slot sees → CanShow γ slot t (lots xs)
+pub can_show : (γ n p t slot : ℕ) (sees : List Showing) (xs : Carries) → IsPurse γ n p sees xs → AreLentTo t xs → 0 < times slot (map slot_shown sees)
+    → CanShow γ slot t (lots xs)
 unfolding IsPurse AreLentTo
-can_show γ n p t slot sees xs purse lent some = there γ n p t slot sees xs purse lent some
+can_show γ n p t slot sees xs purse lent seen = there γ n p t slot sees xs purse lent seen
+
+-- and what is shown of it is what is known
+shown_in : (γ n p slot γ' : ℕ) (g : Gv) (sees : List Showing) (xs : Carries) (place : ℕ) (one : Lot) → Purse γ n p sees (plain xs)
+    → get_elem? (lots xs) place ≡ some one → one.number ≡ slot → one.shown ≡ g → IsIn sees slot g
+shown_in γ n p slot γ' g [] [] place one purse at number shows = absurd (some-ne-none one (sym at))
+shown_in γ n p slot γ' g [] (x ∷ xs) place one purse at number shows = absurd purse
+shown_in γ n p slot γ' g (r ∷ sees) [] place one purse at number shows = absurd purse
+shown_in γ n p slot γ' g (r ∷ sees) (x ∷ xs) zero one purse at number shows = let is : x.1.lot ≡ one = some-injective x.1.lot one at in
+    in_head r sees slot g (sym (ap (λ (h : Lot). h.number) purse.1.0) ∙ (ap (λ (h : Lot). h.number) is ∙ number))
+    (sym purse.1.1.1 ∙ (ap (λ (h : Lot). h.shown) is ∙ shows))
+shown_in γ n p slot γ' g (r ∷ sees) (x ∷ xs) (suc place) one purse at number shows =
+    in_tail r sees slot g (shown_in γ n p slot γ' g sees xs place one purse.2 at number shows)
+
+pub shows_known : (γ n p slot γ' : ℕ) (g : Gv) (sees : List Showing) (xs : Carries) → IsPurse γ n p sees xs → Shows γ' slot g (lots xs) → IsIn sees slot g
+unfolding IsPurse
+shows_known γ n p slot γ' g sees xs purse s = shown_in γ n p slot γ' g sees xs s.place s.one purse s.there s.of_number s.shows
 
 -- a guard has come to see a slot
-pub now_seen : (γ n p t slot spot : ℕ) (y : Stake) (sees : List ℕ) (xs : Carries) → IsPurse γ n p sees xs → AreLentTo t xs → spot ≡ stake_at n slot p
-    → Has γ slot 1 IsFull y → IsPurse γ n p (slot ∷ sees) ((spot, y) ∷ xs) × AreLentTo t ((spot, y) ∷ xs)
+pub now_seen : (γ n p t slot spot : ℕ) (y : Stake) (sees : List Showing) (xs : Carries) → IsPurse γ n p sees xs → AreLentTo t xs → spot ≡ stake_at n slot p
+    → (value : Gv) → Has γ slot 1 (IsValue value) y
+    → IsPurse γ n p (record { slot = slot; value = value } ∷ sees) ((spot, y) ∷ xs) × AreLentTo t ((spot, y) ∷ xs)
 unfolding IsPurse AreLentTo
-now_seen γ n p t slot spot y sees xs purse lent at has = ((at, (ap unlent has.0, has.1), purse), (inl (ap (λ (h : Lot). h.lent) has.0), lent))
+now_seen γ n p t slot spot y sees xs purse lent at value has = ((at, (ap unlent has.0, has.1), purse), (inl (ap (λ (h : Lot). h.lent) has.0), lent))
 
 -- and is shown
-pub still_seen : (γ n p t : ℕ) (sees : List ℕ) (xs ys : Carries) → OnlyLends t xs ys → IsPurse γ n p sees xs → AreLentTo t xs
+pub still_seen : (γ n p t : ℕ) (sees : List Showing) (xs ys : Carries) → OnlyLends t xs ys → IsPurse γ n p sees xs → AreLentTo t xs
     → IsPurse γ n p sees ys × AreLentTo t ys
 unfolding IsPurse AreLentTo
 still_seen γ n p t sees xs ys lends purse lent = (subst (Purse γ n p sees) (sym lends.0) purse, lends.1 lent)
 
 -- ---- the last close
-pub all_settled : (γ n p : ℕ) (sees : List ℕ) (xs ys : Carries) → ys ≡ plain xs → IsPurse γ n p sees xs → Purse γ n p sees ys
+pub all_settled : (γ n p : ℕ) (sees : List Showing) (xs ys : Carries) → ys ≡ plain xs → IsPurse γ n p sees xs → Purse γ n p sees ys
 unfolding IsPurse
 all_settled γ n p sees xs ys e purse = subst (Purse γ n p sees) (sym e) purse
 

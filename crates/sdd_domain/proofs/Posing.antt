@@ -1,5 +1,7 @@
 -- A participant is posed after each step that takes or gives slots.
-use Rattle.std.proofs.Common.{◌≡◌, ℕ, ◌<◌, ◌≤◌, List, [], ◌∷◌, ◌++◌, map, drop, suc, sym, refl, ap, ◌∙◌, subst, arith}
+use Rattle.std.proofs.Common.{◌≡◌, ◌⊎◌, ⊎_elim, ℕ, ◌+◌, ◌<◌, ◌≤◌, not, List, [], ◌∷◌, ◌++◌, map, drop, suc, sym, refl, ap, ◌∙◌, subst, eq-eqb, arith}
+use mathlib.Core.Bool.{Bool, cond}
+use base.Stored.{Gv}
 use Rattle.std.proofs.lemmas.List.{map-append}
 use mathlib.Core.Logic.{dite}
 use native.Mathlib.Decide.{ℕ_discrete, dec_lt}
@@ -9,24 +11,31 @@ use Rattle.sdd_store.specs.declared.time.Participant.{Participant}
 use Rattle.sdd_store.specs.Waiting.{Waiting, fresh}
 use Rattle.sdd_store.specs.Time.{stirred, awaiting, nested}
 use Rattle.sdd_stakes.specs.declared.stake.Stake.{Stake}
+use Rattle.sdd_rule.specs.declared.EpochView.{EpochView}
+use Rattle.sdd_rule.specs.declared.Showing.{Showing}
 use Rattle.sdd_rule.specs.declared.StakesView.{StakesView}
 use Rattle.sdd_rule.specs.declared.WaitingItem.{WaitingItem}
 use Rattle.sdd_rule.specs.declared.View.{View}
-use Rattle.sdd_rule.specs.Epoch.{HasPlace, IsLone}
+use Rattle.sdd_rule.specs.Epoch.{HasPlace, IsLone, IsOpen}
 use Rattle.sdd_rule.specs.Steps.{knowing, counted, published}
 use Rattle.sdd_rule.specs.Sums.{total, times}
-use Rattle.sdd_rule.specs.Slots.{OwnsAlone, items_at, waits_in}
-use Rattle.sdd_rule.specs.SlotSteps.{retired_now, claimed, Retires}
-use Rattle.sdd_rule.proofs.Sums.{is_same, is_other, without_other, total_snoc}
+use Rattle.sdd_rule.specs.Slots.{items_at, waits_in}
+use Rattle.sdd_rule.specs.SlotSteps.{retired_now, retired, noted, without}
+use Rattle.sdd_rule.specs.Parts.{owner_of}
+use Rattle.sdd_rule.proofs.Sums.{is_other, total_snoc}
 use Rattle.sdd_domain.specs.declared.board.Board.{Board}
 use Rattle.sdd_stakes.specs.Seats.{OnlyLends}
-use Rattle.sdd_stakes.specs.Shelf.{IsFull, IsVacant}
+use Rattle.sdd_stakes.specs.Shelf.{IsVacant}
 use Rattle.sdd_rule.specs.declared.Sizes.{Sizes}
 use Rattle.sdd_rule.specs.Codes.{owned_word}
 use Rattle.sdd_homes.specs.Homes.{Carries, Has, stake_at}
-use Rattle.sdd_homes.specs.HomeSteps.{Mine, WatchesBy, resting}
+use Rattle.sdd_homes.specs.Records.{slot_shown, IsIn}
+use Rattle.sdd_homes.proofs.Records.{in_head, in_either, in_times}
+use Rattle.sdd_homes.specs.HomeSteps.{Mine, IsValue, Watches, RetiresOne, regained, resting, untold}
 use Rattle.sdd_domain.specs.Board.{book_of, places_of, slots_of}
-use Rattle.sdd_domain.specs.Token.{view, epoch, slots, Taught, Moved}
+use Rattle.sdd_domain.specs.Token.{view, epoch, slots, Taught, Moved, MovedAlone}
+use Rattle.sdd_domain.specs.Owner.{disowned}
+use Rattle.sdd_domain.specs.Sight.{IsOnce}
 use Rattle.sdd_domain.specs.Waits.{waiting_of}
 use Rattle.sdd_domain.specs.Claims.{Gains}
 use Rattle.sdd_domain.specs.Posed.{IsPurse, AreLentTo, IsPosed}
@@ -38,41 +47,76 @@ stirs c e = grind arith
 stirs_low : (c : ℕ) → c ≤ 128 → stirred c ≤ 128
 stirs_low c low = grind arith
 
+-- an item of the slot waits too
+abbrev pub waiting_too : ℕ → ℕ → ℕ → View → View
+waiting_too slot y count v = record v {
+  epoch = knowing v.epoch count;
+  slots = record v.slots { waits = v.slots.waits ++ retired_now slot count ∷ [] };
+  words = noted slot y v;
+}
+
 module _ (b : Board) (p : ℕ) where
   pub has_place : (own : Participant) (s : Seat Stake View) → IsPosed b p own s → HasPlace (epoch s)
   has_place own s q = dite (dec_lt 0 own.guards) (λ some_open. let e = q.opened some_open in omega arith)
       (λ none. let e = q.closed (omega arith) in omega arith)
 
-  pub posed_retires : (own : Participant) (slot : ℕ) (s t : Seat Stake View) → IsPosed b p own s → OwnsAlone (view s) slot → Taught (Retires slot) s 4 t
-      → IsPosed b p (awaiting (Item slot) own) t
-  posed_retires own slot s t q mine e = let r = e.3 in subst (λ (v : View). IsPosed b p (awaiting (Item slot) own) (record t { me = (v, t.me.1) })) (sym r.3) record {
-    home = e.0 ∙ q.home;
-    purse = subst (λ (xs : Carries). IsPurse (book_of b) (places_of b) p s.me.0.slots.sees xs) (sym e.2) q.purse;
-    unseen = q.unseen;
-    rests = q.rests;
-    all = q.all;
-    place = q.place;
-    inside = q.inside;
-    count = q.count;
-    closed = q.closed;
-    opened = q.opened;
-    near = λ some_open. let n = q.near some_open in
-        record { count = n.count; since = (let since = n.since in let more = r.1 in omega arith); known = r.4 (q.opened some_open) };
-    lone = λ some_open one. r.2 one ∙ q.lone some_open one;
-    free = q.free;
-    knows = q.knows;
-    found = q.found;
-    quiet = record { shares = q.quiet.shares; holds = q.quiet.holds; looked = q.quiet.looked };
-    owned = λ i others. dite (ℕ_discrete i slot)
-        (λ e. subst (λ (k : ℕ). k < slots_of b) (sym e) (q.owned slot mine))
-        (λ ne. q.owned i (let o = without_other slot i ne s.me.0.slots.owns in omega arith));
-    waiting = λ i some_wait. dite (ℕ_discrete slot i) (λ e. subst (λ (k : ℕ). k < slots_of b) e (q.owned slot mine))
-        (λ ne. q.waiting i (let o = is_other i slot ne in let t = total_snoc (waits_in i) s.me.0.slots.waits (retired_now slot r.0) in omega arith));
-    bags = ap (λ (l : List Waiting). l ++ fresh (Item slot) ∷ []) q.bags ∙ sym (map-append waiting_of s.me.0.slots.waits (retired_now slot r.0 ∷ []));
-    room = q.room;
-    pace = stirs_low own.countdown q.pace;
-    idle = λ e. absurd (stirs own.countdown e);
-  }
+  -- what is known once the item of an owner that was taken in waits
+  retired_view : (slot y count : ℕ) (value : Gv) (v : View) → v.slots.owns ≡ [] → v.stakes.owns ≡ []
+      → untold (retired slot y count (regained v (owner_of slot value))) ≡ waiting_too slot y count v
+  retired_view slot y count value v owns told =
+      let none : without slot (slot ∷ v.slots.owns) ≡ v.slots.owns = ap (λ (l : List ℕ). without slot (slot ∷ l)) owns
+      ∙ (ap (λ (c : Bool). cond (not c) (slot ∷ []) []) (eq-eqb slot slot refl) ∙ sym owns) in
+      λ d. record v {
+        epoch = knowing v.epoch count;
+        slots = record v.slots { owns = none d; waits = v.slots.waits ++ retired_now slot count ∷ [] };
+        stakes = record v.stakes { owns = sym told d };
+        words = noted slot y v;
+      }
+
+  -- the token after an owner was taken in and its item retired
+  pub retires_to : (own : Participant) (slot : ℕ) (value : Gv) (s t u : Seat Stake View) → IsPosed b p own s
+      → Taught (λ v _ w. w ≡ regained v (owner_of slot value)) s 0 t → Moved (RetiresOne slot) t 4 u
+      → (count : ℕ) × (u.me.0 ≡ waiting_too slot 4 count (view s)) × ((epoch s).known ≤ count) × (IsLone (epoch s) → count ≡ (epoch s).known)
+      × (IsOpen (epoch s) → count ≤ (epoch s).since + 1)
+  retires_to own slot value s t u q took e = let r = e.2.1 in let v : View = view s in let v' : View = regained v (owner_of slot value) in
+      let epochs : epoch t ≡ epoch s = ap (λ (w : View). w.epoch) took.3 in (
+        r.0,
+        e.2.2 ∙ (ap untold (r.3 ∙ ap (retired slot 4 r.0) took.3) ∙ retired_view slot 4 r.0 value v q.quiet.owns q.sight.owns),
+        subst (λ (x : EpochView). x.known ≤ r.0) epochs r.1,
+        subst (λ (x : EpochView). IsLone x → r.0 ≡ x.known) epochs r.2,
+        subst (λ (x : EpochView). IsOpen x → r.0 ≤ x.since + 1) epochs r.4,
+      )
+
+  pub posed_retires : (own : Participant) (slot : ℕ) (value : Gv) (s t u : Seat Stake View) → IsPosed b p own s → slot < slots_of b
+      → Taught (λ v _ w. w ≡ regained v (owner_of slot value)) s 0 t → Moved (RetiresOne slot) t 4 u → IsPosed b p (awaiting (Item slot) own) u
+  posed_retires own slot value s t u q low took e = let r = retires_to own slot value s t u q took e in
+      let others : u.me.1 ≡ s.me.1 = e.2.3 ∙ took.2 in
+      subst (λ (v : View). IsPosed b p (awaiting (Item slot) own) (record u { me = (v, u.me.1) })) (sym r.1) record {
+        home = e.0 ∙ (took.0 ∙ q.home);
+        purse = subst (λ (xs : Carries). IsPurse (book_of b) (places_of b) p s.me.0.stakes.sees xs) (sym others) q.purse;
+        sight = record { owns = q.sight.owns; sees = q.sight.sees; once = q.sight.once };
+        unseen = q.unseen;
+        rests = q.rests;
+        all = q.all;
+        place = q.place;
+        inside = q.inside;
+        count = q.count;
+        closed = q.closed;
+        opened = q.opened;
+        near = λ some_open. let n = q.near some_open in
+            record { count = n.count; since = (let since = n.since in let more = r.2 in omega arith); known = r.4 (q.opened some_open) };
+        lone = λ some_open one. r.3 one ∙ q.lone some_open one;
+        free = q.free;
+        knows = q.knows;
+        found = q.found;
+        quiet = record { owns = q.quiet.owns; shares = q.quiet.shares; holds = q.quiet.holds; looked = q.quiet.looked };
+        waiting = λ i some_wait. dite (ℕ_discrete slot i) (λ e. subst (λ (k : ℕ). k < slots_of b) e low)
+            (λ ne. q.waiting i (let o = is_other i slot ne in let t = total_snoc (waits_in i) s.me.0.slots.waits (retired_now slot r.0) in omega arith));
+        bags = ap (λ (l : List Waiting). l ++ fresh (Item slot) ∷ []) q.bags ∙ sym (map-append waiting_of s.me.0.slots.waits (retired_now slot r.0 ∷ []));
+        room = q.room;
+        pace = stirs_low own.countdown q.pace;
+        idle = λ e. absurd (stirs own.countdown e);
+      }
 
   pub posed_arrived : (own new : Participant) (c g : ℕ) (xs : List WaitingItem) (s t : Seat Stake View) → IsPosed b p own s → t.table_id ≡ s.table_id
       → t.me.1 ≡ s.me.1 → t.me.0.sizes ≡ s.me.0.sizes → t.me.0.stakes ≡ s.me.0.stakes → epoch t ≡ published (counted (knowing (epoch s) c) c) g → c ≤
@@ -85,7 +129,13 @@ module _ (b : Board) (p : ℕ) where
       = λ i. record t.me.0 { epoch = epochs i; slots = keeps i } in
       subst (λ (v : View). IsPosed b p (nested new) (record t { me = (v, t.me.1) })) (sym is) record {
         home = table ∙ q.home;
-        purse = subst (λ (xs : Carries). IsPurse (book_of b) (places_of b) p s.me.0.slots.sees xs) (sym others) q.purse;
+        purse = subst (λ (k : List Showing × Carries). IsPurse (book_of b) (places_of b) p k.0 k.1)
+            (λ d. (sym (ap (λ (k : StakesView). k.sees) stakes) d, sym others d)) q.purse;
+        sight = record {
+          owns = ap (λ (k : StakesView). k.owns) stakes ∙ q.sight.owns;
+          sees = ap (λ (k : StakesView). map slot_shown k.sees) stakes ∙ q.sight.sees;
+          once = subst (λ (k : StakesView). IsOnce k.sees) (sym stakes) q.sight.once;
+        };
         unseen = λ z. absurd (omega arith);
         rests = ap (λ (k : StakesView). k.moves) stakes ∙ q.rests;
         all = q.all;
@@ -99,8 +149,7 @@ module _ (b : Board) (p : ℕ) where
         free = q.free;
         knows = (sizes ∙ q.knows.0, ap (λ (k : StakesView). k.book) stakes ∙ q.knows.1);
         found = sym found;
-        quiet = record { shares = q.quiet.shares; holds = q.quiet.holds; looked = q.quiet.looked };
-        owned = q.owned;
+        quiet = record { owns = q.quiet.owns; shares = q.quiet.shares; holds = q.quiet.holds; looked = q.quiet.looked };
         waiting = λ i some_wait. q.waiting i (let f = fewer i in omega arith);
         bags = bags;
         room = room ∙ q.room;
@@ -108,18 +157,25 @@ module _ (b : Board) (p : ℕ) where
         idle = idle;
       }
 
-  -- it owns a slot more, whose value was moved in
-  pub posed_claims : (own : Participant) (slot : ℕ) (s t u : Seat Stake View) → IsPosed b p own s → Gains slot s t → u.table_id ≡ t.table_id
-      → view u ≡ resting (view t) → u.me.1 ≡ drop (suc (places_of b)) t.me.1 → IsPosed b p own u × (u.me.1 ≡ s.me.1)
-  posed_claims own slot s t u q gains table is given = let v : View = view s in
+  -- a slot that it claimed has an item, whose owner left it
+  pub made_view : (own : Participant) (slot : ℕ) (s t u : Seat Stake View) → IsPosed b p own s → Gains slot s t → view u ≡ disowned (resting (view t))
+      → view u ≡ record (view s) { words = noted slot (owned_word 0) (view s) }
+  made_view own slot s t u q gains is = let v : View = view s in is ∙ (ap (λ (w : View). disowned (resting w)) gains.view
+      ∙ (λ d. record v {
+        slots = record v.slots { owns = sym q.quiet.owns d };
+        stakes = record v.stakes { moves = sym q.rests d };
+        words = noted slot (owned_word 0) v;
+      }))
+
+  pub posed_makes : (own : Participant) (slot : ℕ) (s t u : Seat Stake View) → IsPosed b p own s → Gains slot s t → u.table_id ≡ t.table_id
+      → view u ≡ disowned (resting (view t)) → u.me.1 ≡ drop (suc (places_of b)) t.me.1 → IsPosed b p own u × (u.me.1 ≡ s.me.1)
+  posed_makes own slot s t u q gains table is given =
       let row = row_out (book_of b) (places_of b) slot s.me t.me.1 q.knows.1 (ap (λ (z : Sizes). z.participants) q.knows.0) gains.row in
-      let others : u.me.1 ≡ s.me.1 = rest_out (book_of b) slot (places_of b) (places_of b) IsVacant s.me.1 t.me.1 u.me.1 refl row given in
-      let now : view u ≡ claimed slot (owned_word 0) v = is ∙ (ap resting gains.view
-      ∙ (λ d. record (claimed slot (owned_word 0) v) { stakes = record v.stakes { moves = sym q.rests d } })) in
-      let inside : slot < slots_of b = (let a = gains.inside in let e = ap (λ (z : Sizes). z.slots) q.knows.0 in omega arith) in (
-        subst (λ (w : View). IsPosed b p own (record u { me = (w, u.me.1) })) (sym now) record {
+      let others : u.me.1 ≡ s.me.1 = rest_out (book_of b) slot (places_of b) (places_of b) IsVacant s.me.1 t.me.1 u.me.1 refl row given in (
+        subst (λ (w : View). IsPosed b p own (record u { me = (w, u.me.1) })) (sym (made_view own slot s t u q gains is)) record {
           home = table ∙ (gains.table ∙ q.home);
-          purse = subst (λ (xs : Carries). IsPurse (book_of b) (places_of b) p s.me.0.slots.sees xs) (sym others) q.purse;
+          purse = subst (λ (xs : Carries). IsPurse (book_of b) (places_of b) p s.me.0.stakes.sees xs) (sym others) q.purse;
+          sight = record { owns = q.sight.owns; sees = q.sight.sees; once = q.sight.once };
           unseen = q.unseen;
           rests = q.rests;
           all = q.all;
@@ -133,9 +189,7 @@ module _ (b : Board) (p : ℕ) where
           free = q.free;
           knows = q.knows;
           found = q.found;
-          quiet = record { shares = q.quiet.shares; holds = q.quiet.holds; looked = q.quiet.looked };
-          owned = λ i mine. dite (ℕ_discrete i slot) (λ e. subst (λ (k : ℕ). k < slots_of b) (sym e) inside)
-              (λ ne. q.owned i (let o = is_other i slot (λ e. ne (sym e)) in omega arith));
+          quiet = record { owns = q.quiet.owns; shares = q.quiet.shares; holds = q.quiet.holds; looked = q.quiet.looked };
           waiting = q.waiting;
           bags = q.bags;
           room = q.room;
@@ -145,72 +199,94 @@ module _ (b : Board) (p : ℕ) where
         others,
       )
 
-  -- its guards see these
-  posed_seeing : (own : Participant) (sees : List ℕ) (s u : Seat Stake View) → IsPosed b p own s → 0 < own.guards → u.table_id ≡ s.table_id
-      → view u ≡ record (view s) { slots = record (slots s) { sees = sees } } → IsPurse (book_of b) (places_of b) p sees u.me.1 → IsPosed b p own u
-  posed_seeing own sees s u q some_open table is purse = subst (λ (w : View). IsPosed b p own (record u { me = (w, u.me.1) })) (sym is) record {
-    home = table ∙ q.home;
-    purse = purse;
-    unseen = λ z. absurd (omega arith);
-    rests = q.rests;
-    all = q.all;
-    place = q.place;
-    inside = q.inside;
-    count = q.count;
-    closed = q.closed;
-    opened = q.opened;
-    near = q.near;
-    lone = q.lone;
-    free = q.free;
-    knows = q.knows;
-    found = q.found;
-    quiet = record { shares = q.quiet.shares; holds = q.quiet.holds; looked = q.quiet.looked };
-    owned = q.owned;
-    waiting = q.waiting;
-    bags = q.bags;
-    room = q.room;
-    pace = q.pace;
-    idle = q.idle;
-  }
+  -- what its guards see, and what is known of that
+  abbrev pub with_sight : List ℕ → List Showing → View → View
+  with_sight sees records v = record v { slots = record v.slots { sees = sees }; stakes = record v.stakes { sees = records } }
 
-  -- what a participant has out after a look at a slot: the stake in it among others
-  pub record HasSeen (t slot : ℕ) (s u : Seat Stake View) : Type 0 where
+  posed_seeing : (own : Participant) (sees : List ℕ) (records : List Showing) (s u : Seat Stake View) → IsPosed b p own s → 0 < own.guards
+      → u.table_id ≡ s.table_id → view u ≡ with_sight sees records (view s) → map slot_shown records ≡ sees → IsOnce records
+      → IsPurse (book_of b) (places_of b) p records u.me.1 → IsPosed b p own u
+  posed_seeing own sees records s u q some_open table is told once purse =
+      subst (λ (w : View). IsPosed b p own (record u { me = (w, u.me.1) })) (sym is) record {
+        home = table ∙ q.home;
+        purse = purse;
+        sight = record { owns = q.sight.owns; sees = told; once = once };
+        unseen = λ z. absurd (omega arith);
+        rests = q.rests;
+        all = q.all;
+        place = q.place;
+        inside = q.inside;
+        count = q.count;
+        closed = q.closed;
+        opened = q.opened;
+        near = q.near;
+        lone = q.lone;
+        free = q.free;
+        knows = q.knows;
+        found = q.found;
+        quiet = record { owns = q.quiet.owns; shares = q.quiet.shares; holds = q.quiet.holds; looked = q.quiet.looked };
+        waiting = q.waiting;
+        bags = q.bags;
+        room = q.room;
+        pace = q.pace;
+        idle = q.idle;
+      }
+
+  -- what a participant has out after a look at a slot that shows this: the stake in it among others
+  pub record HasSeen (t slot : ℕ) (value : Gv) (s u : Seat Stake View) : Type 0 where
     pub sees : List ℕ
-    pub view : u.me.0 ≡ record s.me.0 { slots = record s.me.0.slots { sees = sees } }
-    pub purse : IsPurse (book_of b) (places_of b) p sees u.me.1
+    pub records : List Showing
+    pub view : u.me.0 ≡ with_sight sees records s.me.0
+    pub told : map slot_shown records ≡ sees
+    pub once : IsOnce records
+    pub purse : IsPurse (book_of b) (places_of b) p records u.me.1
     pub lent : AreLentTo t u.me.1
-    pub there : 0 < times slot sees
+    pub there : IsIn records slot value
 
-  pub watched : (own : Participant) (t slot r : ℕ) (s u : Seat Stake View) → IsPosed b p own s → AreLentTo t s.me.1 → Moved (WatchesBy slot) s r u
-      → HasSeen t slot s u
-  watched own t slot r s u q lent e = let w = e.2 in let γ : ℕ = book_of b in let n : ℕ = places_of b in let xs : Carries = s.me.1 in
-      dite (dec_lt 0 (times slot s.me.0.slots.sees))
-      (λ sees. let same = w.0 sees in record {
+  once_more : (slot : ℕ) (value : Gv) (records : List Showing) → IsOnce records → ¬ (0 < times slot (map slot_shown records))
+      → IsOnce (record { slot = slot; value = value } ∷ records)
+  once_more slot value records once blind i g h a c = let r : Showing = record { slot = slot; value = value } in
+      let unknown : (k : Gv) → slot ≡ i → ¬ (IsIn records i k)
+      = λ k e there. blind (subst (λ (j : ℕ). 0 < times j (map slot_shown records)) (sym e) (in_times records i k there)) in ⊎_elim
+      (λ (x : (slot ≡ i) × (value ≡ g)). ⊎_elim (λ (y : (slot ≡ i) × (value ≡ h)). sym x.1 ∙ y.1)
+      (λ (y : IsIn records i h). absurd (unknown h x.0 y)) (in_either r records i h c))
+      (λ (x : IsIn records i g). ⊎_elim (λ (y : (slot ≡ i) × (value ≡ h)). absurd (unknown g y.0 x))
+      (λ (y : IsIn records i h). once i g h x y) (in_either r records i h c)) (in_either r records i g a)
+
+  pub watched : (own : Participant) (t slot : ℕ) (value : Gv) (s u : Seat Stake View) → IsPosed b p own s → AreLentTo t s.me.1
+      → MovedAlone (Watches slot value) s u → HasSeen t slot value s u
+  watched own t slot value s u q lent e = let w = e.2 in let γ : ℕ = book_of b in let n : ℕ = places_of b in let xs : Carries = s.me.1 in
+      let known : List Showing = s.me.0.stakes.sees in dite (dec_lt 0 (times slot s.me.0.slots.sees))
+      (λ sees. let same = (w.0 sees).0 in record {
         sees = s.me.0.slots.sees;
+        records = known;
         view = ap (λ (m : Mine). m.0) same;
-        purse = subst (λ (ys : Carries). IsPurse γ n p s.me.0.slots.sees ys) (sym (ap (λ (m : Mine). m.1) same)) q.purse;
+        told = q.sight.sees;
+        once = q.sight.once;
+        purse = subst (λ (ys : Carries). IsPurse γ n p known ys) (sym (ap (λ (m : Mine). m.1) same)) q.purse;
         lent = subst (AreLentTo t) (sym (ap (λ (m : Mine). m.1) same)) lent;
-        there = sees;
+        there = (w.0 sees).1;
       })
       (λ blind. let o = w.1 blind in let y : Stake = o.0 in let spot : ℕ = stake_at (s.me.0.sizes.participants) slot s.me.0.epoch.place in
-      let one = is_same slot slot refl in
       let at : spot ≡ stake_at n slot p = λ d. stake_at ((q.knows.0 d).participants) slot (q.place d) in
-      let has = subst (λ (k : ℕ). Has k slot 1 IsFull y) q.knows.1 o.1 in
-      let both = now_seen γ n p t slot spot y s.me.0.slots.sees xs q.purse lent at has in
-      let ys : u.me.1 ≡ (spot, y) ∷ xs = ap (λ (m : Mine). m.1) o.2 in record {
+      let has = subst (λ (k : ℕ). Has k slot 1 (IsValue value) y) q.knows.1 o.1 in
+      let both = now_seen γ n p t slot spot y known xs q.purse lent at value has in
+      let ys : u.me.1 ≡ (spot, y) ∷ xs = ap (λ (m : Mine). m.1) o.2 in let r : Showing = record { slot = slot; value = value } in record {
         sees = slot ∷ s.me.0.slots.sees;
+        records = r ∷ known;
         view = ap (λ (m : Mine). m.0) o.2;
-        purse = subst (λ (ys : Carries). IsPurse γ n p (slot ∷ s.me.0.slots.sees) ys) (sym ys) both.0;
+        told = ap (λ (l : List ℕ). slot ∷ l) q.sight.sees;
+        once = once_more slot value known q.sight.once (λ c. blind (subst (λ (l : List ℕ). 0 < times slot l) q.sight.sees c));
+        purse = subst (λ (ys : Carries). IsPurse γ n p (r ∷ known) ys) (sym ys) both.0;
         lent = subst (AreLentTo t) (sym ys) both.1;
-        there = omega arith;
+        there = in_head r known slot value refl refl;
       })
 
-  pub posed_shows : (own : Participant) (t slot : ℕ) (s u z : Seat Stake View) → IsPosed b p own s → 0 < own.guards → u.table_id ≡ s.table_id →
-      HasSeen t slot s u
-      → z ≡ record u { me = (u.me.0, z.me.1) } → OnlyLends t u.me.1 z.me.1 → IsPosed b p own z × AreLentTo t z.me.1
-  posed_shows own t slot s u z q some_open table seen is lends =
-      let still = still_seen (book_of b) (places_of b) p t seen.sees u.me.1 z.me.1 lends seen.purse seen.lent in (
-        posed_seeing own seen.sees s z q some_open (ap (λ (x : Seat Stake View). x.table_id) is ∙ table) (ap (λ (x : Seat Stake View). x.me.0) is ∙ seen.view)
-            still.0,
+  pub posed_shows : (own : Participant) (t slot : ℕ) (value : Gv) (s u z : Seat Stake View) → IsPosed b p own s → 0 < own.guards → u.table_id ≡ s.table_id
+      → HasSeen t slot value s u → z ≡ record u { me = (u.me.0, z.me.1) } → OnlyLends t u.me.1 z.me.1 → IsPosed b p own z × AreLentTo t z.me.1
+  posed_shows own t slot value s u z q some_open table seen is lends =
+      let still = still_seen (book_of b) (places_of b) p t seen.records u.me.1 z.me.1 lends seen.purse seen.lent in (
+        posed_seeing own seen.sees seen.records s z q some_open (ap (λ (x : Seat Stake View). x.table_id) is ∙ table)
+            (ap (λ (x : Seat Stake View). x.me.0) is ∙ seen.view) seen.told seen.once still.0,
         still.1,
       )

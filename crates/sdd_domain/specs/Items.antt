@@ -17,7 +17,7 @@ abbrev pub HasValue : Gv → Right → Type 0
 HasValue value right = (witness_of right).views ≡ witness_of_owner (number_of right) value
 
 -- an owner of this kind of an item of its domain, which shows this value
-pub record IsRightTo (m : Member) (kind : Kind) (value : Gv) (right : Right) : Type 0 where
+pub record IsRightTo (m : Member) (k : Kind) (shown : Gv) (right : Right) : Type 0 where
   pub home : home_of right ≡ slots_home m
-  pub kind : kind_of right ≡ kind
-  pub value : HasValue value right
+  pub kind : kind_of right ≡ k
+  pub value : HasValue shown right

@@ -11,6 +11,7 @@ use Rattle.sdd_rule.specs.declared.View.{View}
 use Rattle.sdd_rule.specs.Epoch.{IsClosed, IsOpen, Scans, IsLone}
 use Rattle.sdd_rule.specs.declared.Showing.{Showing}
 use Rattle.sdd_rule.specs.declared.SlotsView.{SlotsView}
+use Rattle.sdd_rule.specs.declared.StakesView.{StakesView}
 use Rattle.sdd_rule.specs.Slots.{items_at}
 use Rattle.sdd_stakes.specs.declared.stake.Stake.{Stake}
 use Rattle.sdd_stakes.specs.Stakes.{AllFreeFor}
@@ -39,10 +40,10 @@ pub record IsQuiet (v : SlotsView) : Type 0 where
   pub looked : v.looked ≡ 0
 
 -- what is known of what slots show: of those that the guards see, one value for each
-pub record IsSight (v : View) : Type 0 where
-  pub owns : v.stakes.owns ≡ []
-  pub sees : map slot_shown v.stakes.sees ≡ v.slots.sees
-  pub once : IsOnce v.stakes.sees
+pub record IsSight (stakes : StakesView) (slots : SlotsView) : Type 0 where
+  pub owns : stakes.owns ≡ []
+  pub sees : map slot_shown stakes.sees ≡ slots.sees
+  pub once : IsOnce stakes.sees
 
 -- the stakes that are out: one in each slot that the guards see, which shows what is known
 unfoldable pub IsPurse : ℕ → ℕ → ℕ → List Showing → Carries → Type 0
@@ -57,7 +58,7 @@ module _ (b : Board) (p : ℕ) (own : Participant) (token : Seat Stake View) whe
   pub record IsPosed : Type 0 where
     pub home : token.table_id ≡ id_of b
     pub purse : IsPurse (book_of b) (places_of b) p (view token).stakes.sees token.me.1
-    pub sight : IsSight (view token)
+    pub sight : IsSight (view token).stakes (slots token)
     pub unseen : own.guards ≡ 0 → (view token).stakes.sees ≡ []
     pub rests : (view token).stakes.moves ≡ None
     pub all : (epoch token).all ≡ places_of b

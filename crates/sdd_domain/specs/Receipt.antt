@@ -1,5 +1,5 @@
 -- What an ended participant made and reclaimed
-use Rattle.std.specs.Prelude.{◌≡◌, ℕ, ◌+◌, ◌-◌, ◌^◌, min, List, [], ◌∷◌, All, map, sum}
+use Rattle.std.specs.Prelude.{◌≡◌, ℕ, zero, suc, ◌+◌, ◌-◌, ◌^◌, min, List, [], ◌∷◌, All, map, sum}
 use Rattle.atomic_table.specs.Seated.{TableId}
 use Rattle.sdd_rule.specs.declared.View.{View}
 use Rattle.sdd_rule.specs.Epoch.{HasEnded}
@@ -24,7 +24,8 @@ capped n = min n (2 ^ 128 - 1)
 
 -- so many items more were reclaimed
 abbrev pub with_reclaimed : ℕ → Tally → Tally
-with_reclaimed n t = record t { reclaimed = capped (t.reclaimed + n) }
+with_reclaimed zero t = t
+with_reclaimed (suc n) t = record t { reclaimed = capped (t.reclaimed + suc n) }
 
 -- all of them together
 abbrev pub sum_of : List Receipt → Tally

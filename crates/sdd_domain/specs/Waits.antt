@@ -58,6 +58,7 @@ pub record Arrives {S : Type 0} (count : ℕ) (own : Participant) (s s' : Seat S
   pub number : s'.id ≡ s.id
   pub others : s'.me.1 ≡ s.me.1
   pub sizes : s'.me.0.sizes ≡ s.me.0.sizes
+  pub stakes : s'.me.0.stakes ≡ s.me.0.stakes
   pub knew : s.me.0.epoch.known ≤ count
   pub knows : count ≤ s'.me.0.epoch.since
   pub known : s'.me.0.epoch.known ≡ s'.me.0.epoch.since

@@ -24,7 +24,7 @@ pub struct Rule;
 
 impl TableRule<Stake, View, Plan> for Rule {
     ghost use Rattle.sdd_rule.specs.Parts.{idle};
-    ghost use Rattle.sdd_homes.specs.Homes.{Housed};
+    ghost use Rattle.sdd_homes.specs.Housed.{Housed};
 
     ghost holds = { λ plan s. Housed plan.title.book plan.sizes s };
 

@@ -13,7 +13,9 @@ use std::marker::Model;
 pub fn count_reclaimed(tally: &mut Tally, items: usize)
     ensures { tally.new ≡ with_reclaimed items tally.old }
 {
-    tally.reclaimed = tally.reclaimed.saturating_add(items as u128);
+    if items > 0 {
+        tally.reclaimed = tally.reclaimed.saturating_add(items as u128);
+    }
 }
 
 /// What a participant that has ended made and reclaimed, for the close of its domain.

@@ -3,6 +3,7 @@ use Rattle.atomic_table.specs.declared.shared.Seat.{Seat}
 use Rattle.sdd_token.specs.declared.part.Part.{Part}
 use Rattle.sdd_places.specs.declared.tenures.Stage.{Stage}
 use Rattle.sdd_stakes.specs.declared.stake.Stake.{Stake}
+use Rattle.sdd_rule.specs.declared.Showing.{Showing}
 use Rattle.sdd_rule.specs.declared.View.{View}
 use Rattle.sdd_homes.specs.HomeSteps.{Purse}
 use Rattle.sdd_domain.specs.Board.{book_of, places_of}
@@ -16,14 +17,14 @@ settle-requires-clause-lent c = may_settle c.args.tenure.now.round c.end_round-e
 
 pub close-requires-clause-purse : goal.close-requires-clause-purse
 close-requires-clause-purse c = let b = c.args.board.now in let settled = c.settle.ensures in
-    subst (λ (sees : List ℕ). Purse (book_of b) (places_of b) c.args.place sees c.settle.new.seat.me.1)
-    (sym (ap (λ (s : Seat Stake View). s.me.0.slots.sees) settled))
-    (all_settled (book_of b) (places_of b) c.args.place c.args.token.now.me.0.slots.sees c.args.token.now.me.1 c.settle.new.seat.me.1
+    subst (λ (sees : List Showing). Purse (book_of b) (places_of b) c.args.place sees c.settle.new.seat.me.1)
+    (sym (ap (λ (s : Seat Stake View). s.me.0.stakes.sees) settled))
+    (all_settled (book_of b) (places_of b) c.args.place c.args.token.now.me.0.stakes.sees c.args.token.now.me.1 c.settle.new.seat.me.1
     (ap (λ (s : Seat Stake View). s.me.1) settled) c.requires.purse)
 
 pub returns-clause-purse : goal.returns-clause-purse
 returns-clause-purse c = let b = c.args.board.now in let e = c.close.ensures.2 in
-    no_purse (book_of b) (places_of b) c.args.place c.close.new.token.me.0.slots.sees c.close.new.token.me.1 (ap (λ (v : View). v.slots.sees) e.0) e.1
+    no_purse (book_of b) (places_of b) c.args.place c.close.new.token.me.0.stakes.sees c.close.new.token.me.1 (ap (λ (v : View). v.stakes.sees) e.2) e.3
 
 pub returns-clause-lent : goal.returns-clause-lent
-returns-clause-lent c = none_lent c.end_round-ended.new.tenure.round c.close.new.token.me.1 c.close.ensures.2.1
+returns-clause-lent c = none_lent c.end_round-ended.new.tenure.round c.close.new.token.me.1 c.close.ensures.2.3

@@ -3,19 +3,19 @@ use Rattle.sdd_rule.specs.declared.Sizes.{Sizes}
 use Rattle.sdd_domain.specs.Board.{book_of, places_of}
 use Rattle.sdd_domain.specs.Posed.{AreLentTo}
 use Rattle.sdd_domain.proofs.Moving.{row_out}
-use Rattle.sdd_domain.proofs.Posing.{posed_claims}
+use Rattle.sdd_domain.proofs.Posing.{posed_makes}
 use Rattle.sdd_domain.proofs.local.Local.make.Goals as goal
 
-pub put_value-requires-clause-row : goal.put_value-requires-clause-row
-put_value-requires-clause-row g c = let l = c.self.inside in let b = l.domain.now.board in let q = c.self.invariant.0 in (
+pub put_value-owner-requires-clause-row : goal.put_value-owner-requires-clause-row
+put_value-owner-requires-clause-row g c = let l = c.self.inside in let b = l.domain.now.board in let q = c.self.invariant.0 in (
   l.token.me.1,
   row_out (book_of b) (places_of b) c.in-Ok.slot l.token.me c.claim_free.new.token.me.1 q.knows.1 (ap (λ (z : Sizes). z.participants) q.knows.0)
       c.in-Ok.ensures.tried.row,
 )
 
 pub invariant_of-self : goal.invariant_of-self
-invariant_of-self g c = let l = c.self.inside in let b = l.domain.now.board in let inv = c.self.invariant in let put = c.put_value.ensures in
-    let posed = posed_claims b l.place l.own c.in-Ok.slot l.token c.claim_free.new.token c.put_value.new.token inv.0 c.in-Ok.ensures.tried put.home.0
+invariant_of-self g c = let l = c.self.inside in let b = l.domain.now.board in let inv = c.self.invariant in let put = c.put_value-owner.ensures in
+    let posed = posed_makes b l.place l.own c.in-Ok.slot l.token c.claim_free.new.token c.put_value-owner.new.token inv.0 c.in-Ok.ensures.tried put.home.0
     put.view put.given in (
       posed.0,
       inv.1,

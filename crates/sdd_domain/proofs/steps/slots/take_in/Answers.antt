@@ -8,12 +8,12 @@ use Rattle.sdd_domain.proofs.steps.slots.take_in.Goals as goal
 
 pub rejoin-requires : goal.rejoin-requires
 rejoin-requires c = let r = c.requires in let o = r.owner in
-    (r.home, o.0, owner_of o.1 o.2, o.3, joins_owner _ _ _ _ _ o.1 o.2 r.rests)
+    (r.home, o.0, (owner_of o.1.0 o.1.1, o.1.2, joins_owner _ _ _ _ _ o.1.0 o.1.1 r.rests))
 
 pub returns : goal.returns
-returns c = λ slot value views. let e = c.rejoin.ensures in let is = view_is e.2 (owner_of slot value) (sym e.3 ∙ views) in (
+returns c = λ slot value views. let e = c.rejoin.ensures in let is = view_is e.2.0 (owner_of slot value) (sym e.2.1 ∙ views) in (
   e.0,
   e.1,
-  ap (λ (m : Mine). m.1) e.4,
-  ap (λ (m : Mine). m.0) e.4 ∙ ap (λ (w : View). regained c.args.token.now.me.0 w) is,
+  ap (λ (m : Mine). m.1) e.2.2,
+  ap (λ (m : Mine). m.0) e.2.2 ∙ ap (λ (w : View). regained c.args.token.now.me.0 w) is,
 )

@@ -1,0 +1,1 @@
+use Rattle.sdd_domain.proofs.local.Local.let_go.Goals as goal

@@ -1,0 +1,25 @@
+use Rattle.std.proofs.Common.{ap, sym, ◌∙◌, subst}
+use Rattle.sdd_rule.specs.declared.Sizes.{Sizes}
+use Rattle.sdd_domain.specs.Board.{book_of, places_of}
+use Rattle.sdd_domain.specs.Posed.{AreLentTo}
+use Rattle.sdd_domain.proofs.Moving.{row_out}
+use Rattle.sdd_domain.proofs.Posing.{posed_makes}
+use Rattle.sdd_domain.proofs.local.Local.make_with.Goals as goal
+
+pub put_value-owner-requires-clause-row : goal.put_value-owner-requires-clause-row
+put_value-owner-requires-clause-row g c = let l = c.self.inside in let b = l.domain.now.board in let q = c.self.invariant.0 in (
+  l.token.me.1,
+  row_out (book_of b) (places_of b) c.in-Ok.slot l.token.me c.claim_free.new.token.me.1 q.knows.1 (ap (λ (z : Sizes). z.participants) q.knows.0)
+      c.in-Ok.ensures.tried.row,
+)
+
+pub invariant_of-self : goal.invariant_of-self
+invariant_of-self g c = let l = c.self.inside in let b = l.domain.now.board in let inv = c.self.invariant in let put = c.put_value-owner.ensures in
+    let posed = posed_makes b l.place l.own c.in-Ok.slot l.token c.claim_free.new.token c.put_value-owner.new.token inv.0 c.in-Ok.ensures.tried put.home.0
+    put.view put.given in (
+      posed.0,
+      inv.1,
+      inv.2,
+      subst (AreLentTo l.tenure.round) (sym posed.1) inv.3,
+      record { empty = inv.4.empty; large = inv.4.large; slots = c.claim_free.ensures.slots ∙ inv.4.slots },
+    )
