@@ -1,6 +1,6 @@
 //! Looks through a pointer while others go on.
-ghost use Rattle.std.specs.Prelude.{◌≡◌, ◌≢◌, [], IfErr, IfOk, IsSome, MatchResult, Some};
-ghost use Rattle.sdd_store.specs.Time.{CanNest};
+ghost use Rattle.std.specs.Prelude.{◌≡◌, ◌≢◌, [], IfErr, IfOk, IsSome, IsTrue, MatchResult, Some};
+ghost use Rattle.sdd_store.specs.Time.{CanNest, is_open};
 ghost use Rattle.sdd_base.specs.Guard.{reader_of};
 ghost use Rattle.sdd_base.specs.Holding.{AreOf};
 ghost use Rattle.sdd_base.specs.Owned.{slot_of, slots_home};
@@ -127,8 +127,8 @@ pub fn nested_guards_outer_first<S: Look<u64> + Guards<u64> + Items<u64>>(
     Ok((before, after))
 }
 
-/// Makes an item, looks at it under a guard, and again under a guard within that one, and retires it: answers what was seen, which is both times the
-/// value that it was made with, whatever other participants do meanwhile.
+/// Makes an item under a guard, looks at it, looks again under a guard within that one, and retires it: answers what was seen, which is both times
+/// the value that it was made with, whatever other participants do meanwhile.
 ///
 /// `TooManyGuards` where not both guards can be opened, and `NoSlot` where no slot is free.
 pub fn made_and_seen<T: Item<T> + Copy, S: Guards<T> + Items<T>>(
@@ -141,11 +141,40 @@ pub fn made_and_seen<T: Item<T> + Copy, S: Guards<T> + Items<T>>(
     ensures first { IfOk result (λ seen. seen.0 ≡ value) }
     ensures second { IfOk result (λ seen. seen.1 ≡ value) }
 {
+    let guard = Guard::new(s)?;
+    let seen = made_and_seen_under(value, &guard, s);
+    guard.close(s);
+    seen
+}
+
+/// The same under a guard that is open.
+fn made_and_seen_under<T: Item<T> + Copy, S: Guards<T> + Items<T>>(
+    value: T,
+    outer: &Guard,
+    s: &mut S,
+) -> Result<(T, T), Refused>
+    requires seated { IsSeated (S.seat s.old) }
+    requires home { AreOf (S.seat s.old).home (T.holds value) }
+    requires reader { reader_of outer.now ≡ (S.seat s.old).reader }
+    requires open { IsTrue (is_open (S.own s.old)) }
+    ensures seat { S.seat s.new ≡ S.seat s.old }
+    ensures first { IfOk result (λ seen. seen.0 ≡ value) }
+    ensures second { IfOk result (λ seen. seen.1 ≡ value) }
+{
     let owner = match Owned::new(value, s) {
         Ok(owner) => owner,
         Err((_, refused)) => return Err(refused),
     };
-    let seen = seen_twice(&owner, s);
+    let first = *owner.get_guarded_ref(outer, s);
+    let inner = match Guard::new(s) {
+        Ok(inner) => inner,
+        Err(refused) => {
+            owner.retire(s);
+            return Err(refused);
+        }
+    };
+    let second = *owner.get_guarded_ref(&inner, s);
+    inner.close(s);
     owner.retire(s);
-    seen
+    Ok((first, second))
 }

@@ -1,6 +1,6 @@
 use Rattle.std.proofs.Common.{ℕ}
 use Rattle.sdd_base.specs.Seat.{IsExact}
-use Rattle.sdd_base.specs.Shared.{slot_of}
+use Rattle.sdd_base.specs.Shared.{right_of, slot_of}
 use Rattle.sdd_client.specs.Config.{cell_of}
 use Rattle.sdd_client.proofs.Replacing.{replaces}
 use Rattle.sdd_client.proofs.config.Config.replace.Goals as goal
@@ -16,8 +16,9 @@ returns-clause-exact g c = λ exact slot owners old set.
     let second : IsExact (seat c.swap-before.new.s) = rw swap.seat first in
     let gone = rw (swap.seat, make.seat) at (release.exact second) in
     let third : IsExact (seat c.release.new.s) = rw release.seat second in
+    let put = (g.met.S.Items.owned_is_shown c.new.new.s first (right_of c.in_ok-next.next) c.args.value).0 make.shown in
     let shown = (g.met.S.Caller.shows_is_value c.release.new.s third next c.args.value).0
-    (release.keeps next c.args.value (swap.keeps next c.args.value make.shown)) in
+    (release.keeps next c.args.value (swap.keeps next c.args.value put)) in
     let done =
     replaces (world c.args.s.now) (seat c.args.s.now).place (cell_of c.args.self.now) slot owners next old c.args.value set made.0
     (world c.new.new.s) (world c.swap-before.new.s) (world c.release.new.s) (slot_of c.in-Some.owner) gone.0 c.swap-before.result.1
