@@ -24,7 +24,7 @@ pub use atomic_shared::{AtomicShared, SharedPtrPair};
 pub use guard::Guard;
 pub use item::{Giver, Item, Plain};
 pub use limits::Limits;
-pub use look::{Look, Shows};
+pub use look::{Look, LookThrough, Shows};
 pub use owned::Owned;
 pub use private_collector::PrivateCollector;
 pub use ptr::Ptr;

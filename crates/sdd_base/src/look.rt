@@ -19,17 +19,20 @@ pub trait Shows<T: Item<T>> {
         ensures { (k : ℕ) (value : T) → shows self.now k value → AreOf (home self.now) (T.holds value) };
 }
 
-/// Where items can be looked at: a world, a turn at it, a domain, a participant of it.
-pub trait Look<T: Item<T>>: Shows<T> {
-    /// The value of an owner's item.
-    fn value<'a>(&'a self, right: &'a Right) -> &'a T
-        requires home { home_of right.now ≡ (Self.home self.now).slots }
-        ensures shown { Self.shows self.now (number_of right.now) result.now };
-
+/// Where pointers can be looked through: a world, a turn at it, a domain, a participant of it.
+pub trait LookThrough<T: Item<T>>: Shows<T> {
     /// The value that a pointer was made with, whatever was called since; None for null.
     fn look<'g>(&self, ptr: Ptr<'g, T>) -> Option<&'g T>
         ensures { option_copied result ≡ shown_by ptr.entry };
 
     /// A slot shows one value.
     ghost one_value: { (s : Self) (k : ℕ) (u v : T) → Self.shows s k u → Self.shows s k v → u ≡ v };
+}
+
+/// Where items can be looked at by their owners too, without a guard: a world, and a turn at it.
+pub trait Look<T: Item<T>>: LookThrough<T> {
+    /// The value of an owner's item.
+    fn value<'a>(&'a self, right: &'a Right) -> &'a T
+        requires home { home_of right.now ≡ (Self.home self.now).slots }
+        ensures shown { Self.shows self.now (number_of right.now) result.now };
 }

@@ -1,7 +1,7 @@
 ghost use Rattle.std.specs.Prelude.{◌≡◌, ◌↔◌, IsSome, IsTrue};
 
 use crate::item::Item;
-use crate::look::Look;
+use crate::look::LookThrough;
 use crate::shared::Shared;
 use crate::space::SharedItems;
 use sdd_core::{Refused, Tag};
@@ -190,7 +190,7 @@ impl<'g, T: Item<T>> Ptr<'g, T> {
     /// The value of the item, which is the one that the pointer was made with, whatever was called since; None for null.
     ///
     /// Nothing is read of the space.
-    pub fn as_ref<L: Look<T>>(&self, at: &L) -> Option<&'g T>
+    pub fn as_ref<L: LookThrough<T>>(&self, at: &L) -> Option<&'g T>
         ensures shown { option_copied result ≡ shown_by self.now }
         ensures null { IsSome result ↔ ¬ (IsNull self.now) }
     {

@@ -12,9 +12,11 @@ use Rattle.sdd_rule.specs.Sums.{times}
 use Rattle.sdd_homes.specs.Records.{IsIn}
 use Rattle.sdd_homes.specs.HomeSteps.{Mine, Watches, sighting}
 use Rattle.sdd_homes.proofs.Records.{in_head, in_tail}
-use Rattle.sdd_base.specs.Holding.{Holding}
-use Rattle.sdd_domain.specs.Local.{Member, Sees, LooksAt}
-use Rattle.sdd_domain.specs.Space.{Shows}
+use Rattle.sdd_base.specs.Holding.{Holding, AreOf}
+use Rattle.std.specs.Prelude.{Result, Ok, Err, MatchResult}
+use Rattle.sdd_domain.specs.Local.{Member, LooksAt, MakesAt}
+use Rattle.sdd_domain.specs.Sight.{IsOnce}
+use Rattle.sdd_domain.specs.Space.{Shows, home_in}
 use Rattle.sdd_domain.specs.Token.{MovedAlone}
 
 -- a participant with this token
@@ -60,8 +62,20 @@ module _ (slot : ℕ) (value : Gv) (old new : Member) (looks : LooksAt slot valu
       (λ blind. subst (λ (m : Member). IsIn m.shown slot value) (sym (looks.unseen blind))
       (in_head (record { slot = slot; value = value }) old.shown slot value refl refl))
 
-  pub keeps_looks : {T : Type 0} (shown : T → Gv) (holds : T → List Holding) (k : ℕ) (v : T) → Shows shown holds old k v → Shows shown holds new k v
-  keeps_looks shown holds k v h = dite (dec_lt 0 (times slot old.slots.sees))
+  pub keeps_looks : {T : Type 0} (shown : T → Gv) (holds : T → List Holding) → IsOnce new.shown → (k : ℕ) (v : T)
+      → Shows shown holds old k v → Shows shown holds new k v
+  keeps_looks shown holds once k v h = dite (dec_lt 0 (times slot old.slots.sees))
       (λ sees. subst (λ (m : Member). Shows shown holds m k v) (sym (looks.seen sees).0) h)
-      (λ blind. subst (λ (m : Member). Shows shown holds m k v) (sym (looks.unseen blind))
-      (in_tail (record { slot = slot; value = value }) old.shown k (shown v) h.0, h.1))
+      (λ blind. let is = looks.unseen blind in let there : IsIn new.shown k (shown v) = subst (λ (m : Member). IsIn m.shown k (shown v)) (sym is)
+      (in_tail (record { slot = slot; value = value }) old.shown k (shown v) h.known) in record {
+        known = there;
+        only = λ g other. once k g (shown v) other there;
+        home = subst (λ (m : Member). AreOf (home_in m) (holds v)) (sym is) h.home;
+      })
+
+-- what is shown stays shown where an item is made, or is refused
+pub keeps_made : {T A E : Type 0} (shown : T → Gv) (holds : T → List Holding) (old new : Member) (slot_of : A → ℕ) (Done : A → Type 0) (Back Why Lone : E → Type 0)
+    (r : Result A E) → MatchResult r (λ a. MakesAt (slot_of a) old new × Done a) (λ e. Back e × (new ≡ old) × Why e × Lone e) → (k : ℕ) (v : T)
+    → Shows shown holds old k v → Shows shown holds new k v
+keeps_made shown holds old new slot_of Done Back Why Lone (Ok a) made k v h = subst (λ (m : Member). Shows shown holds m k v) (sym made.0.member) h
+keeps_made shown holds old new slot_of Done Back Why Lone (Err e) made k v h = subst (λ (m : Member). Shows shown holds m k v) (sym made.1) h

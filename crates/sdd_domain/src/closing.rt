@@ -66,31 +66,34 @@ pub fn settled(board: &Board, slots: u32) -> Option<Token>
     }
 }
 
-/// Moves out and drops the value of each slot that has one, and gathers all stakes.
+/// Moves out and drops the value of each slot that has one, and gathers all stakes. How many values there were.
 pub fn take_all<T: Drop>(
     closed: &mut Closed<Stake, Global>,
     shelf: &Shelf<T>,
     title: &Title,
     sizes: &Sizes,
-) -> Stock
+) -> (Stock, usize)
     requires small { AreSmall sizes.now }
     requires shelf { (shelf.now.book ≡ title.now.book) × (shelf.now.size ≡ sizes.now.slots) }
     requires home { AreHome title.now.book sizes.now (slots_len closed.old.slots) closed.old }
     requires words { (slots_len closed.old.words ≡ all_words sizes.now) × IsFull closed.old.words }
-    ensures stock { AreVacant title.now.book 0 sizes.now.slots result.lots }
+    ensures stock { AreVacant title.now.book 0 sizes.now.slots result.0.lots }
+    ensures few { result.1 ≤ sizes.now.slots }
     ensures emptied { (k : ℕ) → k < slots_len closed.new.slots → slice_index_or (slots_filled closed.new.slots) k false ≡ false }
 {
     let first = first_slot(sizes) as usize;
     let mut stock = Stock::new();
     let mut left = closed.slot_count();
+    let mut taken = 0;
     let mut slot = sizes.slots as u32;
     while slot > 0 {
         slot -= 1;
         let mut whole = gather_home(closed, title, sizes, slot, &mut left);
         if is_full(closed.word(first + slot as usize)) {
             drop(shelf.take_by(slot as usize, &mut whole));
+            taken += 1;
         }
         whole.redeem(&mut stock);
     }
-    stock
+    (stock, taken)
 }

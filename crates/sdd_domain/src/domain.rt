@@ -1,15 +1,15 @@
-ghost use Rattle.std.specs.Prelude.{◌≡◌, ◌+◌, ◌^◌, ◌≤◌, ◌⊎◌, [], IfOk, MatchResult, vec_capacity};
+ghost use Rattle.std.specs.Prelude.{◌≡◌, ℕ, ◌+◌, ◌^◌, ◌≤◌, ◌⊎◌, [], IfOk, MatchResult, vec_capacity};
 ghost use Rattle.sdd_base.specs.Limits.{AreInRange};
 ghost use Rattle.sdd_stakes.specs.Memory.{IsHoldOf};
 ghost use Rattle.sdd_stakes.specs.Shelf.{AreVacant};
 ghost use Rattle.sdd_homes.specs.Homes.{homes_for};
 ghost use Rattle.sdd_domain.specs.Board.{sizes_of};
 ghost use Rattle.sdd_domain.specs.Shelf.{sizes_in, IsShelfOf};
-ghost use Rattle.sdd_domain.specs.Receipt.{capped, sum_of};
+ghost use Rattle.sdd_domain.specs.Receipt.{capped, sum_of, with_reclaimed, AreFrom};
 
 use crate::board::{Board, Plan};
 use crate::closing::{settled, take_all};
-use crate::receipt::Receipt;
+use crate::receipt::{Receipt, count_reclaimed};
 use sdd_base::Limits;
 use sdd_core::Refused;
 use sdd_homes::{gather_all, lay_all};
@@ -93,7 +93,7 @@ fn tally_of(receipts: &Vec<Receipt>) -> Tally
 }
 
 impl<T> Domain<T> {
-    ghost use Rattle.sdd_domain.specs.Domain.{limits_of};
+    ghost use Rattle.sdd_domain.specs.Domain.{home_of, limits_of};
 
     /// A domain without participants, at epoch 0. All memory is taken here: for its words, and for as many values as there are slots.
     ///
@@ -135,15 +135,16 @@ impl<T> Domain<T> {
         }
     }
 
-    /// Closes a domain, with the receipts of its participants, and answers their tallies together. What waits still is moved out and dropped,
-    /// and all memory is given back.
+    /// Closes a domain, with receipts of its participants, and answers their tallies together. What waits still is moved out and dropped, and
+    /// counts as reclaimed; all memory is given back.
     ///
     /// `OwnerOut` where something is still out: an item that has an owner, or a participant that hasn't ended. The domain and the receipts come back.
     pub fn close(self, receipts: Vec<Receipt>) -> Result<Tally, (Domain<T>, Vec<Receipt>, Refused)>
     where
         T: Drop,
+        requires { AreFrom (home_of self) receipts.items }
         ensures { MatchResult result
-            (λ tally. tally ≡ sum_of receipts.items)
+            (λ tally. (waiting : ℕ) × (waiting ≤ (limits_of self).slots) × (tally ≡ with_reclaimed waiting (sum_of receipts.items)))
             (λ back. (back.0 ≡ self) × (back.1 ≡ receipts) × (back.2 ≡ Refused.OwnerOut)) }
     {
         let Some(token) = settled(&self.board, self.limits.slots as u32) else {
@@ -158,11 +159,14 @@ impl<T> Domain<T> {
         } = self;
         let title = shelf.title();
         let mut closed = board.close(token);
-        let stock = take_all(&mut closed, &shelf, &title, &sizes_for(&limits));
+        let (stock, waiting) = take_all(&mut closed, &shelf, &title, &sizes_for(&limits));
         closed.free();
         shelf.close(&alloc, stock, hold);
-        Ok(tally_of(&receipts))
+        let mut tally = tally_of(&receipts);
+        count_reclaimed(&mut tally, waiting);
+        Ok(tally)
     }
+
     /// Lets go of a domain in which something is out for ever. Its memory, and the values in it, stay where they are.
     pub fn leak(self) {
         let Domain {

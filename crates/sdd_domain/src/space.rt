@@ -1,8 +1,10 @@
 //! A participant as the generic calls of guards and items have it.
 ghost use Rattle.sdd_stakes.specs.Shelf.{showing};
 
+use crate::domain::Domain;
 use crate::local::Local;
-use sdd_base::{Caller, Guard, Guards, Item, Items, Plain, Shows};
+use sdd_base::inner::value_of_ptr;
+use sdd_base::{Caller, Guard, Guards, Item, Items, LookThrough, Plain, Ptr, Shows};
 use sdd_core::Refused;
 use sdd_token::{Kind, Right};
 
@@ -14,6 +16,47 @@ impl<T: Item<T> + Drop> Shows<T> for Local<'_, T> {
     ghost shows = { λ l slot value. Shows (showing T.row) T.holds l slot value };
 
     fn shown_is_of_home(&self) {}
+}
+
+impl<T: Item<T> + Drop> LookThrough<T> for Local<'_, T> {
+    ghost use Rattle.std.specs.Prelude.{◌≡◌, option_copied};
+    ghost use Rattle.sdd_base.specs.Ptr.{shown_by};
+    ghost use Rattle.sdd_domain.specs.Values.{one_showing};
+
+    #[inline]
+    fn look<'g>(&self, ptr: Ptr<'g, T>) -> Option<&'g T>
+        ensures { option_copied result ≡ shown_by ptr.entry }
+    {
+        value_of_ptr(ptr)
+    }
+
+    ghost one_value = { λ _ _ u v a b. one_showing T.row u v (b.only (showing T.row u) a.known) };
+}
+
+impl<T: Item<T> + Drop> Shows<T> for Domain<T> {
+    ghost use Rattle.sdd_domain.specs.Space.{home_at};
+    ghost use Rattle.sdd_domain.specs.Domain.{home_of, limits_of};
+
+    ghost home = { λ d. home_at (home_of d) (limits_of d).slots };
+
+    ghost shows = { λ _ _ _. ⊥ };
+
+    fn shown_is_of_home(&self) {}
+}
+
+/// A pointer that was loaded under a guard of a participant, where that participant isn't at hand.
+impl<T: Item<T> + Drop> LookThrough<T> for Domain<T> {
+    ghost use Rattle.std.specs.Prelude.{◌≡◌, option_copied};
+    ghost use Rattle.sdd_base.specs.Ptr.{shown_by};
+
+    #[inline]
+    fn look<'g>(&self, ptr: Ptr<'g, T>) -> Option<&'g T>
+        ensures { option_copied result ≡ shown_by ptr.entry }
+    {
+        value_of_ptr(ptr)
+    }
+
+    ghost one_value = { λ _ _ _ _ none. absurd none };
 }
 
 impl<T: Item<T> + Drop> Caller<T> for Local<'_, T> {

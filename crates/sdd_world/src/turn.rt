@@ -6,7 +6,7 @@ ghost use Rattle.sdd_base.specs.Ptr.{shown_by};
 
 use crate::world::{Place, World};
 use sdd_base::{
-    Caller, Cells, Collectors, Deferrals, Edits, Guard, Guards, Item, Items, Look, Ptr, RawCells,
+    Caller, Cells, Collectors, Deferrals, Edits, Guard, Guards, Item, Items, Look, LookThrough, Ptr, RawCells,
     RawItems, RawPtr, SharedItems, Shows, Space, inner,
 };
 use sdd_core::{Refused, Tag};
@@ -59,7 +59,9 @@ impl<T: Item<T>, J: Job> Look<T> for World<T, J> {
     fn value<'a>(&'a self, right: &'a Right) -> &'a T {
         self.core.value(right)
     }
+}
 
+impl<T: Item<T>, J: Job> LookThrough<T> for World<T, J> {
     fn look<'g>(&self, ptr: Ptr<'g, T>) -> Option<&'g T>
         ensures { option_copied result ≡ shown_by ptr.entry }
     {
@@ -88,7 +90,9 @@ impl<T: Item<T>, J: Job> Look<T> for Turn<'_, T, J> {
         let world: &World<T, J> = self.world;
         world.core.value(right)
     }
+}
 
+impl<T: Item<T>, J: Job> LookThrough<T> for Turn<'_, T, J> {
     fn look<'g>(&self, ptr: Ptr<'g, T>) -> Option<&'g T>
         ensures { option_copied result ≡ shown_by ptr.entry }
     {

@@ -6,6 +6,7 @@ ghost use Rattle.sdd_base.specs.Guard.{reader_of};
 ghost use Rattle.sdd_stakes.specs.Shelf.{showing};
 ghost use Rattle.sdd_domain.specs.Local.{IsLone, IsUsedUp, MakesAt, LooksAt, RetiresAt};
 ghost use Rattle.sdd_domain.specs.Items.{slots_home, HasValue, IsRightTo};
+ghost use Rattle.sdd_domain.specs.Sight.{IsOnce};
 
 use crate::claims::claim_free;
 use crate::local::Local;
@@ -88,6 +89,7 @@ impl<'d, T> Local<'d, T> {
         requires home { home_of right.now ≡ slots_home self.old }
         requires reader { reader_of guard.now ≡ self.old.reader }
         ensures looks { LooksAt (number_of right.now) (showing T.row result.now) self.old self.new }
+        ensures once { IsOnce self.new.shown }
         ensures value { HasValue (showing T.row result.now) right.now }
     {
         let tenure = tenure_of(guard);

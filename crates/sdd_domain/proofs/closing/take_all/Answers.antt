@@ -1,4 +1,4 @@
-use Rattle.std.proofs.Common.{◌≡◌, ℕ, ◌-◌, List, sym, refl, ap, ◌∙◌, subst, arith}
+use Rattle.std.proofs.Common.{◌≡◌, ℕ, ◌+◌, ◌-◌, ◌≤◌, List, sym, refl, ap, ◌∙◌, subst, arith}
 use Rattle.core.specs.Mem.Slots.{slots_items, slots_counts}
 use Rattle.sdd_stakes.specs.Stakes.{Lot}
 use Rattle.sdd_stakes.specs.Shelf.{AreVacant, IsWhole, IsVacant}
@@ -18,6 +18,7 @@ loop-slot-init g c = let z = c.args.sizes.now in let γ : ℕ = c.args.title.now
       low = omega arith;
       stock = subst (λ (t : ℕ × List Lot). AreVacant γ m t.0 t.1) (λ d. (let e : 0 ≡ m - m = omega arith in e d, sym c.new-stock.ensures d)) tt;
       words = refl;
+      taken = omega arith;
     }
 
 pub take_by-requires-clause-full : goal.take_by-requires-clause-full
@@ -35,6 +36,10 @@ loop-slot-preserved g c = let z = c.args.sizes.now in let γ : ℕ = c.args.titl
           (ap (λ (s : Stake). s.lot) w.whole-is ∙ e.1)
       | else-is_full w ↦ subst (λ (s : Stake). IsWhole γ i s.lot × IsVacant s.lot.shown) (sym w.whole-is)
           (gather.ensures.whole, gather.ensures.shown.1 (ap full says ∙ c.is_full.ensures.free w.if-is_full.false))
+    ] in let more = inv.taken in
+    let few : c.if-is_full.taken + i ≤ z.slots = elim c.if-is_full.branch [
+      | then-is_full w ↦ let e = w.taken-is in omega arith
+      | else-is_full w ↦ let e = w.taken-is in omega arith
     ] in record {
       home = gather.ensures.home;
       left = gather.ensures.left;
@@ -43,6 +48,7 @@ loop-slot-preserved g c = let z = c.args.sizes.now in let γ : ℕ = c.args.titl
           (vacant_more γ i c.loop-slot.slot (z.slots - c.loop-slot.slot) (z.slots - i) c.if-is_full.whole.lot c.loop-slot.stock.lots (omega arith) (omega arith)
           empty.0 empty.1 inv.stock);
       words = gather.ensures.words ∙ inv.words;
+      taken = few;
     }
 
 pub returns-clause-emptied : goal.returns-clause-emptied

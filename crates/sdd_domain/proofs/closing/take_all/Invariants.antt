@@ -1,4 +1,4 @@
-use Rattle.std.proofs.Common.{◌≡◌, ◌-◌, ◌≤◌}
+use Rattle.std.proofs.Common.{◌≡◌, ◌+◌, ◌-◌, ◌≤◌}
 use Rattle.sdd_stakes.specs.Shelf.{AreVacant}
 use Rattle.sdd_homes.specs.Homes.{stake_at, AreHome}
 use Rattle.sdd_domain.proofs.closing.take_all.Given as goal
@@ -10,6 +10,7 @@ invariant-loop-slot g l = record {
   low : l.slot ≤ l.sizes.slots;
   stock : AreVacant l.title.book l.slot (l.sizes.slots - l.slot) l.stock.lots;
   words : l.closed.words ≡ l.fn.closed.words;
+  taken : l.taken + l.slot ≤ l.sizes.slots;
 }
 
 abbrev pub decreases-loop-slot : goal.decreases-loop-slot

@@ -8,6 +8,10 @@ use Rattle.sdd_stakes.specs.Seats.{lots}
 use Rattle.sdd_stakes.specs.Shelf.{CanShow, Shows, showing}
 use Rattle.sdd_homes.proofs.Records.{in_times}
 use Rattle.sdd_domain.specs.Board.{book_of, places_of}
+use Rattle.atomic_table.specs.declared.shared.Seat.{Seat}
+use Rattle.sdd_stakes.specs.declared.stake.Stake.{Stake}
+use Rattle.sdd_rule.specs.declared.View.{View}
+use Rattle.sdd_domain.specs.Sight.{IsOnce}
 use Rattle.sdd_domain.specs.Posed.{AreLentTo}
 use Rattle.sdd_domain.proofs.Moving.{can_show, shows_known}
 use Rattle.sdd_domain.proofs.Posing.{watched, posed_shows}
@@ -60,3 +64,12 @@ returns-clause-looks g c = let l = c.self.inside in let b = l.domain.now.board i
     subst (λ (m : Member). LooksAt slot (showing g.row.T c.show.result.now) m (with_token (c.self.view_is 0) c.show.new.seat)) c.self.view_is
     (subst (λ (v : Gv). LooksAt slot v (c.self.view_is 0) (with_token (c.self.view_is 0) c.show.new.seat)) is
     (looks_at (c.self.view_is 0) slot own.owner.0 l.token c.watch.new.token c.show.new.seat (c.watch.ensures slot own.owner.0 own.owner.1) c.show.ensures.seat))
+
+pub returns-clause-once : goal.returns-clause-once
+returns-clause-once g c = let l = c.self.inside in let b = l.domain.now.board in let t : ℕ = c.tenure_of-tenure.result.now.round in
+    let inv = c.self.invariant in let slot : ℕ = number_of c.args.right.now in let own = c.witness.ensures.owner (λ e. cc) in
+    let seen = watched b l.place l.own t slot own.owner.0 l.token c.watch.new.token inv.0
+    (subst (λ (t : ℕ). AreLentTo t l.token.me.1) (sym c.agree.ensures.round) inv.3) (c.watch.ensures slot own.owner.0 own.owner.1) in
+    let is : c.show.new.seat.me.0.stakes.sees ≡ seen.records = ap (λ (x : Seat Stake View). x.me.0.stakes.sees) c.show.ensures.seat
+    ∙ ap (λ (v : View). v.stakes.sees) seen.view in
+    subst IsOnce (sym is) seen.once
