@@ -6,8 +6,8 @@ ghost use Rattle.sdd_base.specs.Ptr.{shown_by};
 
 use crate::world::{Place, World};
 use sdd_base::{
-    Caller, Cells, Collectors, Deferrals, Edits, Guard, Guards, Item, Items, Look, LookThrough, Ptr, RawCells,
-    RawItems, RawPtr, SharedItems, Shows, Space, inner,
+    Caller, Cells, Collectors, Deferrals, Edits, Guard, Guards, Item, Items, Look, LookThrough,
+    Ptr, RawCells, RawItems, RawPtr, SharedItems, Shows, Space, inner,
 };
 use sdd_core::{Refused, Tag};
 use sdd_store::{Cell, Idle, Job, Pointer};
