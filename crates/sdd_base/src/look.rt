@@ -1,7 +1,8 @@
 ghost use Rattle.std.specs.Prelude.{◌≡◌, ℕ, option_copied};
 ghost use Rattle.sdd_token.specs.Right.{number_of, home_of};
 ghost use Rattle.sdd_base.specs.Holding.{Home, AreOf};
-ghost use Rattle.sdd_base.specs.Ptr.{shown_by};
+ghost use Rattle.sdd_token.specs.declared.right.Right.{Right};
+ghost use Rattle.sdd_base.specs.Ptr.{shown_by, KeepsShown};
 
 use crate::item::Item;
 use crate::ptr::Ptr;
@@ -13,10 +14,18 @@ pub trait Shows<T: Item<T>> {
     ghost home: { Self → Home };
     /// The slot shows this value.
     ghost shows: { Self → ℕ → T → Type 0 };
+    /// The owner's item has this value. The owner knows it, whatever others do meanwhile.
+    ghost owns_value: { Self → Right → T → Type 0 };
 
     /// A law, which does nothing when the program runs: what a shown value holds is of this home. So a cell that stands in it can be loaded from.
     fn shown_is_of_home(&self)
         ensures { (k : ℕ) (value : T) → shows self.now k value → AreOf (home self.now) (T.holds value) };
+
+    /// An owner's item has one value.
+    ghost one_owned: { (s : Self) (right : Right) (u v : T) → owns_value s right u → owns_value s right v → u ≡ v };
+
+    /// Where each slot shows what it showed, an owner's item has the value that it had.
+    ghost keeps_owned: { (s t : Self) → KeepsShown (shows s) (shows t) → (right : Right) (v : T) → owns_value s right v → owns_value t right v };
 }
 
 /// Where pointers can be looked through: a world, a turn at it, a domain, a participant of it.
@@ -34,5 +43,6 @@ pub trait Look<T: Item<T>>: LookThrough<T> {
     /// The value of an owner's item.
     fn value<'a>(&'a self, right: &'a Right) -> &'a T
         requires home { home_of right.now ≡ (Self.home self.now).slots }
-        ensures shown { Self.shows self.now (number_of right.now) result.now };
+        ensures shown { Self.shows self.now (number_of right.now) result.now }
+        ensures value { Self.owns_value self.now right.now result.now };
 }

@@ -96,6 +96,7 @@ impl<T: Item<T>> Owned<T> {
     pub fn get<'a, L: Look<T>>(&'a self, at: &'a L) -> &'a T
         requires home { slots_home self.now ≡ (L.home at.now).slots }
         ensures shown { L.shows at.now (slot_of self.now) result.now }
+        ensures value { L.owns_value at.now (right_of self.now) result.now }
     {
         at.value(self.right())
     }

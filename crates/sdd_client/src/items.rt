@@ -11,14 +11,14 @@ use sdd_base::laws::comes_back;
 use sdd_base::{Caller, Guard, Guards, Items, Look, Owned, RawItems};
 use sdd_core::Refused;
 
-/// Makes an item, reads it and retires it; answers what was read, which in an exact space is what was put in.
+/// Makes an item, reads it and retires it; answers what was read, which is what was put in.
 pub fn made_and_read<S: Look<u64> + Items<u64>>(
     value: u64,
     s: &mut S,
 ) -> Result<u64, (u64, Refused)>
     requires seated { IsSeated (S.seat s.old) }
     ensures seat { S.seat s.new ≡ S.seat s.old }
-    ensures read { IsExact (S.seat s.old) → IfOk result (λ read. read ≡ value) }
+    ensures read { IfOk result (λ read. read ≡ value) }
     ensures exact { IsExact (S.seat s.old) → MatchResult result
         (λ _. (k : ℕ) × IsEmptyAt (S.world s.old).standings k × (S.world s.new ≡ retired (made (S.world s.old) k value) (S.seat s.old).place k))
         (λ e. IsFull (S.world s.old).standings × (e ≡ (value, Refused.NoSlot)) × (S.world s.new ≡ S.world s.old)) }

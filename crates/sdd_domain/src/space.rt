@@ -9,13 +9,21 @@ use sdd_core::Refused;
 use sdd_token::{Kind, Right};
 
 impl<T: Item<T> + Drop> Shows<T> for Local<'_, T> {
+    ghost use Rattle.sdd_domain.specs.Items.{HasValue};
     ghost use Rattle.sdd_domain.specs.Space.{home_in, Shows};
+    ghost use Rattle.sdd_domain.specs.Values.{one_value};
 
     ghost home = { λ l. home_in l };
 
     ghost shows = { λ l slot value. Shows (showing T.row) T.holds l slot value };
 
+    ghost owns_value = { λ _ right value. HasValue (showing T.row value) right };
+
     fn shown_is_of_home(&self) {}
+
+    ghost one_owned = { λ _ right u v a b. one_value T.row right u v a b };
+
+    ghost keeps_owned = { λ _ _ _ _ _ owns. owns };
 }
 
 impl<T: Item<T> + Drop> LookThrough<T> for Local<'_, T> {
@@ -34,14 +42,22 @@ impl<T: Item<T> + Drop> LookThrough<T> for Local<'_, T> {
 }
 
 impl<T: Item<T> + Drop> Shows<T> for Domain<T> {
-    ghost use Rattle.sdd_domain.specs.Space.{home_at};
     ghost use Rattle.sdd_domain.specs.Domain.{home_of, limits_of};
+    ghost use Rattle.sdd_domain.specs.Items.{HasValue};
+    ghost use Rattle.sdd_domain.specs.Space.{home_at};
+    ghost use Rattle.sdd_domain.specs.Values.{one_value};
 
     ghost home = { λ d. home_at (home_of d) (limits_of d).slots };
 
     ghost shows = { λ _ _ _. ⊥ };
 
+    ghost owns_value = { λ _ right value. HasValue (showing T.row value) right };
+
     fn shown_is_of_home(&self) {}
+
+    ghost one_owned = { λ _ right u v a b. one_value T.row right u v a b };
+
+    ghost keeps_owned = { λ _ _ _ _ _ owns. owns };
 }
 
 /// A pointer that was loaded under a guard of a participant, where that participant isn't at hand.
@@ -112,15 +128,7 @@ impl<T: Item<T> + Drop> Guards<T> for Local<'_, T> {
 
 /// Values that hold owners or cells aren't taken yet: a participant drops what it reclaims.
 impl<T: Plain<T> + Drop> Items<T> for Local<'_, T> {
-    ghost use Rattle.sdd_domain.specs.Items.{HasValue};
     ghost use Rattle.sdd_domain.specs.Space.{never_exact};
-    ghost use Rattle.sdd_domain.specs.Values.{one_value};
-
-    ghost owns_value = { λ _ right value. HasValue (showing T.row value) right };
-
-    ghost one_owned = { λ _ right u v a b. one_value T.row right u v a b };
-
-    ghost keeps_owned = { λ _ _ _ _ _ owns. owns };
 
     ghost owned_is_shown = { λ l exact _ _. absurd (never_exact l exact) };
 

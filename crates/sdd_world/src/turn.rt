@@ -2,6 +2,7 @@ ghost use Rattle.std.specs.Prelude.{◌≡◌, option_copied};
 ghost use Rattle.sdd_base.specs.World.{World, IsPlaceOf};
 ghost use Rattle.sdd_world.specs.Place.{index_of};
 ghost use Rattle.sdd_world.specs.Shown.{one_value};
+ghost use Rattle.sdd_token.specs.Right.{number_of};
 ghost use Rattle.sdd_base.specs.Ptr.{shown_by};
 
 use crate::world::{Place, World};
@@ -50,9 +51,15 @@ impl<T: Item<T>, J: Job> Shows<T> for World<T, J> {
 
     ghost shows = { λ w k value. value_at w k ≡ Some value };
 
+    ghost owns_value = { λ w right value. value_at w (number_of right) ≡ Some value };
+
     fn shown_is_of_home(&self) {
         self.core.values_are_of_home();
     }
+
+    ghost one_owned = { λ w right u v a b. one_value w (number_of right) u v a b };
+
+    ghost keeps_owned = { λ _ _ kept right value owned. kept (number_of right) value owned };
 }
 
 impl<T: Item<T>, J: Job> Look<T> for World<T, J> {
@@ -79,10 +86,16 @@ impl<T: Item<T>, J: Job> Shows<T> for Turn<'_, T, J> {
 
     ghost shows = { λ t k value. value_at t.world.now k ≡ Some value };
 
+    ghost owns_value = { λ t right value. value_at t.world.now (number_of right) ≡ Some value };
+
     fn shown_is_of_home(&self) {
         let world: &World<T, J> = self.world;
         world.core.values_are_of_home();
     }
+
+    ghost one_owned = { λ t right u v a b. one_value t.world.now (number_of right) u v a b };
+
+    ghost keeps_owned = { λ _ _ kept right value owned. kept (number_of right) value owned };
 }
 
 impl<T: Item<T>, J: Job> Look<T> for Turn<'_, T, J> {
@@ -157,12 +170,6 @@ impl<T: Item<T>, J: Job> Guards<T> for Turn<'_, T, J> {
 }
 
 impl<T: Item<T>, J: Job> Items<T> for Turn<'_, T, J> {
-    ghost use Rattle.std.specs.Prelude.{◌≡◌, Some};
-    ghost use Rattle.sdd_token.specs.Right.{number_of};
-    ghost use Rattle.sdd_base.specs.World.{value_at};
-
-    ghost owns_value = { λ t right value. value_at t.world.now (number_of right) ≡ Some value };
-
     fn make(&mut self, value: T, kind: Kind) -> Result<Right, (T, Refused)> {
         let world = &mut *self.world;
         match world.core.make(value, kind) {
@@ -188,10 +195,6 @@ impl<T: Item<T>, J: Job> Items<T> for Turn<'_, T, J> {
         let world = &mut *self.world;
         world.core.let_go(self.place, right, kind)
     }
-
-    ghost one_owned = { λ t right u v a b. one_value t.world.now (number_of right) u v a b };
-
-    ghost keeps_owned = { λ _ _ kept right value owned. kept (number_of right) value owned };
 
     ghost owned_is_shown = { λ _ _ _ _. (λ h. h, λ h. h) };
 }

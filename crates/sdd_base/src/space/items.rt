@@ -22,11 +22,8 @@ use sdd_token::{Kind, Right};
 
 /// The items of a world or domain, as one participant makes them, looks at them and lets them go.
 ///
-/// An owner is here the right that it has to its slot. What its item's value is, the owner knows, whatever others do meanwhile.
+/// An owner is here the right that it has to its slot.
 pub trait Items<T: Item<T>>: Caller<T> {
-    /// The owner's item has this value.
-    ghost owns_value: { Self → Right → T → Type 0 };
-
     /// Puts a value into a free slot, for an owner of this kind.
     fn make(&mut self, value: T, kind: Kind) -> Result<Right, (T, Refused)>
         requires seated { IsSeated (Self.seat self.old) }
@@ -37,7 +34,7 @@ pub trait Items<T: Item<T>>: Caller<T> {
         ensures known { KnowsOn (Self.known self.old) (Self.known self.new) }
         ensures home { IfOk result (λ right. home_of right ≡ (Self.seat self.old).home.slots) }
         ensures kind { IfOk result (λ right. kind_of right ≡ kind) }
-        ensures shown { IfOk result (λ right. owns_value self.new right value) }
+        ensures shown { IfOk result (λ right. Self.owns_value self.new right value) }
         ensures exact { IsExact (Self.seat self.old) → MatchResult result
             (λ right. IsEmptyAt (Self.world self.old).standings (number_of right) ×
             (Self.world self.new ≡ made_as (Self.world self.old) (number_of right) value (first_standing kind)))
@@ -55,7 +52,7 @@ pub trait Items<T: Item<T>>: Caller<T> {
         ensures known { KnowsOn (Self.known self.old) (Self.known self.new) }
         ensures home { IfOk result (λ right. home_of right ≡ (Self.seat self.old).home.slots) }
         ensures kind { IfOk result (λ right. kind_of right ≡ kind) }
-        ensures shown { IfOk result (λ right. (value : T) × F.post make value × owns_value self.new right value) }
+        ensures shown { IfOk result (λ right. (value : T) × F.post make value × Self.owns_value self.new right value) }
         ensures exact { IsExact (Self.seat self.old) → MatchResult result
             (λ right. IsEmptyAt (Self.world self.old).standings (number_of right) ×
             ((value : T) × F.post make value × (Self.world self.new ≡ made_as (Self.world self.old) (number_of right) value (first_standing kind))))
@@ -71,7 +68,7 @@ pub trait Items<T: Item<T>>: Caller<T> {
         ensures own { Self.own self.new ≡ Self.own self.old }
         ensures known { KnowsOn (Self.known self.old) (Self.known self.new) }
         ensures shown { Self.shows self.new (number_of right.now) result.now }
-        ensures value { owns_value self.new right.now result.now }
+        ensures value { Self.owns_value self.new right.now result.now }
         ensures exact { IsExact (Self.seat self.old) → Self.world self.new ≡ Self.world self.old }
         ensures keeps { KeepsShown (Self.shows self.old) (Self.shows self.new) };
 
@@ -93,13 +90,6 @@ pub trait Items<T: Item<T>>: Caller<T> {
             owner_given (Self.world self.old) (Self.seat self.old).place (number_of right) (standing_at (Self.world self.old) (number_of right)) }
         ensures keeps { KeepsShown (Self.shows self.old) (Self.shows self.new) };
 
-    /// An owner's item has one value.
-    ghost one_owned: { (s : Self) (right : Right) (u v : T) → owns_value s right u → owns_value s right v → u ≡ v };
-
-    /// Where each slot shows what it showed, an owner's item has the value that it had.
-    ghost keeps_owned: { (s t : Self) → KeepsShown (Self.shows s) (Self.shows t) →
-        (right : Right) (v : T) → owns_value s right v → owns_value t right v };
-
     /// In an exact space an owner's item has the value that its slot shows.
-    ghost owned_is_shown: { (s : Self) → IsExact (Self.seat s) → (right : Right) (v : T) → owns_value s right v ↔ Self.shows s (number_of right) v };
+    ghost owned_is_shown: { (s : Self) → IsExact (Self.seat s) → (right : Right) (v : T) → Self.owns_value s right v ↔ Self.shows s (number_of right) v };
 }

@@ -4,7 +4,7 @@ use Rattle.sdd_base.proofs.laws.shows_what_was_made.Goals as goal
 -- the owner's item kept the value that it was made with, and has no other
 pub returns-clause-seen : goal.returns-clause-seen
 returns-clause-seen g c =
-    let items = g.met.S.Items in
+    let items = g.met.S.Shows in
     let seen = c.get_guarded_ref-seen in
     let made = c.in_ok-owner in
     let kept = items.keeps_owned c.new.new.s seen.new.s seen.ensures.keeps (right_of made.owner) c.args.value made.ensures.shown in

@@ -6,7 +6,7 @@ use Rattle.sdd_client_looks.proofs.looks.made_and_seen_under.Goals as goal
 -- the owner's item kept the value that it was made with, and has no other
 pub returns-clause-first : goal.returns-clause-first
 returns-clause-first g c =
-    let items = g.met.S.Items in
+    let items = g.met.S.Shows in
     let right = right_of c.in-Ok.owner in
     let first = c.get_guarded_ref-first in
     let kept = items.keeps_owned c.new.new.s first.new.s first.ensures.keeps right c.args.value c.in-Ok.ensures.shown in
@@ -14,7 +14,7 @@ returns-clause-first g c =
 
 pub returns-clause-second : goal.returns-clause-second
 returns-clause-second g c =
-    let items = g.met.S.Items in
+    let items = g.met.S.Shows in
     let right = right_of c.in-Ok.owner in
     let first = c.get_guarded_ref-first in
     let inner = c.new-2 in

@@ -16,7 +16,7 @@ returns-in-Ok g c =
       own = put.own;
       known = put.known;
       home = ap home_of same ∙ put.home;
-      shown = subst (λ (r : Right). g.S.Items.owns_value c.make.new.self r c.args.value) (sym same) put.shown;
+      shown = subst (λ (r : Right). g.S.Shows.owns_value c.make.new.self r c.args.value) (sym same) put.shown;
       exact = λ e.
           subst (λ (r : Right). IsEmptyAt was.standings (number_of r) × (now ≡ made_shared was (number_of r) c.args.value)) (sym same) (put.exact e);
       keeps = put.keeps;
