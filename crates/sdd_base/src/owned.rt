@@ -1,5 +1,5 @@
 ghost use Rattle.std.specs.Fn.{FnOnceReturnsAtMut};
-ghost use Rattle.std.specs.Prelude.{◌≡◌, ◌≢◌, IfErr, IfOk, IfSome, IsSome, MatchOption, MatchResult, Some, None, option_map};
+ghost use Rattle.std.specs.Prelude.{◌≡◌, ◌≢◌, ◌⊎◌, IfErr, IfOk, IfSome, IsSome, MatchOption, MatchResult, Some, None, option_map};
 ghost use Rattle.sdd_token.specs.Right.{kind_of};
 ghost use Rattle.sdd_base.specs.Holding.{AreOf};
 ghost use Rattle.sdd_base.specs.World.{World, IsGuarded, standing_at, value_at};
@@ -149,6 +149,7 @@ impl<T: Item<T>> Owned<T> {
         ensures known { KnowsOn (S.known s.old) (S.known s.new) }
         ensures home { IfOk result (λ owner. slots_home owner ≡ (S.seat s.old).home.slots) }
         ensures shown { IfOk result (λ owner. S.owns_value s.new (right_of owner) value) }
+        ensures back { IfErr result (λ e. (e.0 ≡ value) × ((e.1 ≡ Refused.NoSlot) ⊎ (e.1 ≡ Refused.Contended))) }
         ensures exact { IsExact (S.seat s.old) → MatchResult result
             (λ owner. IsEmptyAt (S.world s.old).standings (slot_of owner) × (S.world s.new ≡ made (S.world s.old) (slot_of owner) value))
             (λ e. IsFull (S.world s.old).standings × (e ≡ (value, Refused.NoSlot)) × (S.world s.new ≡ S.world s.old)) }
@@ -175,6 +176,7 @@ impl<T: Item<T>> Owned<T> {
         ensures known { KnowsOn (S.known s.old) (S.known s.new) }
         ensures home { IfOk result (λ owner. slots_home owner ≡ (S.seat s.old).home.slots) }
         ensures shown { IfOk result (λ owner. (value : T) × F.post f value × S.owns_value s.new (right_of owner) value) }
+        ensures back { IfErr result (λ e. (e.0 ≡ f) × ((e.1 ≡ Refused.NoSlot) ⊎ (e.1 ≡ Refused.Contended))) }
         ensures exact { IsExact (S.seat s.old) → MatchResult result
             (λ owner. IsEmptyAt (S.world s.old).standings (slot_of owner) ×
             ((value : T) × F.post f value × (S.world s.new ≡ made (S.world s.old) (slot_of owner) value)))

@@ -1,4 +1,4 @@
-ghost use Rattle.std.specs.Prelude.{◌≡◌, ◌↔◌, IfOk, IsTrue, MatchResult, if◌then◌else◌};
+ghost use Rattle.std.specs.Prelude.{◌≡◌, ◌↔◌, ◌⊎◌, IfErr, IfOk, IsTrue, MatchResult, if◌then◌else◌};
 ghost use Rattle.sdd_store.specs.declared.waiting.What.TheVariants.{Item};
 ghost use Rattle.sdd_store.specs.Time as time;
 ghost use Rattle.sdd_store.specs.Table.{IsEmptyAt, IsFull};
@@ -35,6 +35,7 @@ pub trait Items<T: Item<T>>: Caller<T> {
         ensures home { IfOk result (λ right. home_of right ≡ (Self.seat self.old).home.slots) }
         ensures kind { IfOk result (λ right. kind_of right ≡ kind) }
         ensures shown { IfOk result (λ right. Self.owns_value self.new right value) }
+        ensures back { IfErr result (λ e. (e.0 ≡ value) × ((e.1 ≡ Refused.NoSlot) ⊎ (e.1 ≡ Refused.Contended))) }
         ensures exact { IsExact (Self.seat self.old) → MatchResult result
             (λ right. IsEmptyAt (Self.world self.old).standings (number_of right) ×
             (Self.world self.new ≡ made_as (Self.world self.old) (number_of right) value (first_standing kind)))
@@ -53,6 +54,7 @@ pub trait Items<T: Item<T>>: Caller<T> {
         ensures home { IfOk result (λ right. home_of right ≡ (Self.seat self.old).home.slots) }
         ensures kind { IfOk result (λ right. kind_of right ≡ kind) }
         ensures shown { IfOk result (λ right. (value : T) × F.post make value × Self.owns_value self.new right value) }
+        ensures back { IfErr result (λ e. (e.0 ≡ make) × ((e.1 ≡ Refused.NoSlot) ⊎ (e.1 ≡ Refused.Contended))) }
         ensures exact { IsExact (Self.seat self.old) → MatchResult result
             (λ right. IsEmptyAt (Self.world self.old).standings (number_of right) ×
             ((value : T) × F.post make value × (Self.world self.new ≡ made_as (Self.world self.old) (number_of right) value (first_standing kind))))
