@@ -10,10 +10,10 @@ ghost use Rattle.sdd_domain.specs.Sight.{IsOnce};
 
 use crate::claims::claim_free;
 use crate::local::Local;
-use crate::steps::slots::{retire, take_in, watch};
 use crate::values::put_value;
 use sdd_base::Guard;
 use sdd_base::inner::tenure_of;
+use sdd_board::steps::slots::{retire, take_in, watch};
 use sdd_core::Refused;
 use sdd_store::What;
 use sdd_token::{Kind, Right};
@@ -33,13 +33,7 @@ impl<'d, T> Local<'d, T> {
         let slots = self.domain.limits.slots;
         let tries = self.domain.limits.tries;
         let board = &self.domain.board;
-        match claim_free(
-            board,
-            &mut self.token,
-            &mut self.known,
-            slots as u32,
-            tries,
-        ) {
+        match claim_free(board, &mut self.token, &mut self.known, slots as u32, tries) {
             Ok(slot) => {
                 let owner = put_value(board, &self.domain.shelf, &mut self.token, slot, value);
                 self.tally.count_made();
@@ -66,13 +60,7 @@ impl<'d, T> Local<'d, T> {
         let slots = self.domain.limits.slots;
         let tries = self.domain.limits.tries;
         let board = &self.domain.board;
-        match claim_free(
-            board,
-            &mut self.token,
-            &mut self.known,
-            slots as u32,
-            tries,
-        ) {
+        match claim_free(board, &mut self.token, &mut self.known, slots as u32, tries) {
             Ok(slot) => {
                 let value = make();
                 let owner = put_value(board, &self.domain.shelf, &mut self.token, slot, value);
