@@ -17,9 +17,9 @@ use Rattle.sdd_rule.specs.Sums.{total}
 use Rattle.sdd_rule.specs.Slots.{items_at, waits_in}
 use Rattle.sdd_rule.specs.SlotSteps.{older, changed}
 use Rattle.sdd_rule.proofs.Sums.{total_map}
-use Rattle.sdd_domain.specs.declared.board.Board.{Board}
-use Rattle.sdd_domain.specs.Board.{slots_of}
-use Rattle.sdd_domain.specs.Token.{view, epoch, slots, Taught, Stepped, HasPublished}
+use Rattle.sdd_board.specs.declared.board.Board.{Board}
+use Rattle.sdd_board.specs.Board.{slots_of}
+use Rattle.sdd_board.specs.Token.{view, epoch, slots, Taught, Stepped, HasPublished}
 use Rattle.sdd_domain.specs.Waits.{waiting_of, is_ripe, unripe, waits_at, due_at, arrived_at, freed, GivesAllBack, Arrives}
 use Rattle.sdd_domain.specs.Posed.{IsPosed}
 use Rattle.sdd_domain.proofs.Reclaims.{aged_alike, left_alike}

@@ -1,23 +1,22 @@
 -- What a look makes of a participant, as its callers see it
-use Rattle.std.proofs.Common.{◌≡◌, ℕ, ◌<◌, List, [], ◌∷◌, refl, sym, ap, ◌∙◌, subst}
+use Rattle.std.proofs.Common.{◌≡◌, ℕ, List, refl, sym, ap, ◌∙◌, subst}
 use mathlib.Core.Logic.{dite}
 use native.Mathlib.Decide.{dec_lt}
 use base.Stored.{Gv}
 use Rattle.atomic_table.specs.Seated.{TableId}
 use Rattle.atomic_table.specs.declared.shared.Seat.{Seat}
 use Rattle.sdd_stakes.specs.declared.stake.Stake.{Stake}
-use Rattle.sdd_rule.specs.declared.Showing.{Showing}
 use Rattle.sdd_rule.specs.declared.View.{View}
 use Rattle.sdd_rule.specs.Sums.{times}
 use Rattle.sdd_homes.specs.Records.{IsIn}
-use Rattle.sdd_homes.specs.HomeSteps.{Mine, Watches, sighting}
+use Rattle.sdd_homes.specs.HomeSteps.{Mine, Watches}
 use Rattle.sdd_homes.proofs.Records.{in_head, in_tail}
 use Rattle.sdd_base.specs.Holding.{Holding, AreOf}
 use Rattle.std.specs.Prelude.{Result, Ok, Err, MatchResult}
 use Rattle.sdd_domain.specs.Local.{Member, LooksAt, MakesAt}
 use Rattle.sdd_domain.specs.Sight.{IsOnce}
 use Rattle.sdd_domain.specs.Space.{Shows, home_in}
-use Rattle.sdd_domain.specs.Token.{MovedAlone}
+use Rattle.sdd_board.specs.Token.{MovedAlone}
 
 -- a participant with this token
 abbrev pub with_token : Member → Seat Stake View → Member

@@ -9,7 +9,7 @@ use base.Stored.{Gv}
 use Rattle.sdd_stakes.specs.Stakes.{Lot, AllFreeFor, unlent}
 use Rattle.sdd_stakes.specs.Seats.{lots, plain, OnlyLends}
 use Rattle.sdd_stakes.specs.declared.stake.Stake.{Stake}
-use Rattle.sdd_stakes.specs.Shelf.{most, IsFull, IsVacant, CanShow, Shows, HasWhole, all_turned}
+use Rattle.sdd_stakes.specs.Shelf.{most, IsVacant, CanShow, Shows, HasWhole, all_turned}
 use Rattle.sdd_rule.specs.declared.Showing.{Showing}
 use Rattle.sdd_rule.specs.declared.View.{View}
 use Rattle.sdd_rule.specs.SlotSteps.{given_back, claimed, Knew, LooksAtSlot}
@@ -22,7 +22,7 @@ use Rattle.sdd_homes.proofs.Records.{in_head, in_tail}
 use Rattle.sdd_homes.specs.HomeSteps.{Mine, HasAll, IsValue, Purse, ClaimsAll, book_of, places_of, moving, resting}
 use Rattle.sdd_homes.proofs.Tops.{whole, all_after, rest_is}
 use Rattle.atomic_table.specs.declared.shared.Seat.{Seat}
-use Rattle.sdd_domain.specs.Token.{Taught, Moved}
+use Rattle.sdd_board.specs.Token.{Taught, Moved}
 use Rattle.sdd_domain.specs.Claims.{AllOut, Gains}
 use Rattle.sdd_domain.specs.Posed.{IsPurse, AreLentTo}
 

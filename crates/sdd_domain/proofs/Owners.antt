@@ -1,5 +1,5 @@
 -- What is known once a value was moved into a slot, and the slot's owner has left its participant
-use Rattle.std.proofs.Common.{◌≡◌, ℕ, suc, ◌+◌, List, [], ◌∷◌, drop, refl, sym, ap, ◌∙◌}
+use Rattle.std.proofs.Common.{◌≡◌, ℕ, suc, ◌+◌, [], ◌∷◌, drop, refl, sym, ap, ◌∙◌}
 use Rattle.std.specs.Prelude.{None}
 use base.Stored.{Gv}
 use Rattle.atomic_table.specs.declared.shared.Seat.{Seat}
@@ -11,10 +11,10 @@ use Rattle.sdd_rule.specs.SlotSteps.{first, others}
 use Rattle.sdd_rule.specs.Parts.{owner_of, owner_token, at_rest}
 use Rattle.sdd_homes.specs.Homes.{Carries, Moves}
 use Rattle.sdd_homes.specs.HomeSteps.{HasAll, IsValue, Houses, parting, departing, resting, telling}
-use Rattle.sdd_domain.specs.declared.board.Board.{Board}
-use Rattle.sdd_domain.specs.Board.{book_of, places_of}
-use Rattle.sdd_domain.specs.Owner.{disowned}
-use Rattle.sdd_domain.specs.Token.{view, Knows, MovedAlone}
+use Rattle.sdd_board.specs.declared.board.Board.{Board}
+use Rattle.sdd_board.specs.Board.{book_of, places_of}
+use Rattle.sdd_board.specs.Owner.{disowned}
+use Rattle.sdd_board.specs.Token.{view, Knows, MovedAlone}
 use Rattle.sdd_domain.proofs.Moving.{row_after, rest_out}
 
 module _ (slot : ℕ) (value : Gv) (v : View) (owns : v.slots.owns ≡ slot ∷ []) (told : v.stakes.owns ≡ []) where

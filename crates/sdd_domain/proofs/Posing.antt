@@ -1,5 +1,5 @@
 -- A participant is posed after each step that takes or gives slots.
-use Rattle.std.proofs.Common.{◌≡◌, ◌⊎◌, ⊎_elim, ℕ, ◌+◌, ◌<◌, ◌≤◌, not, List, [], ◌∷◌, ◌++◌, map, drop, suc, sym, refl, ap, ◌∙◌, subst, eq-eqb, arith}
+use Rattle.std.proofs.Common.{◌≡◌, ⊎_elim, ℕ, ◌+◌, ◌<◌, ◌≤◌, not, List, [], ◌∷◌, ◌++◌, map, drop, suc, sym, refl, ap, ◌∙◌, subst, eq-eqb, arith}
 use mathlib.Core.Bool.{Bool, cond}
 use base.Stored.{Gv}
 use Rattle.std.proofs.lemmas.List.{map-append}
@@ -23,7 +23,7 @@ use Rattle.sdd_rule.specs.Slots.{items_at, waits_in}
 use Rattle.sdd_rule.specs.SlotSteps.{retired_now, retired, noted, without}
 use Rattle.sdd_rule.specs.Parts.{owner_of}
 use Rattle.sdd_rule.proofs.Sums.{is_other, total_snoc}
-use Rattle.sdd_domain.specs.declared.board.Board.{Board}
+use Rattle.sdd_board.specs.declared.board.Board.{Board}
 use Rattle.sdd_stakes.specs.Seats.{OnlyLends}
 use Rattle.sdd_stakes.specs.Shelf.{IsVacant}
 use Rattle.sdd_rule.specs.declared.Sizes.{Sizes}
@@ -32,9 +32,9 @@ use Rattle.sdd_homes.specs.Homes.{Carries, Has, stake_at}
 use Rattle.sdd_homes.specs.Records.{slot_shown, IsIn}
 use Rattle.sdd_homes.proofs.Records.{in_head, in_either, in_times}
 use Rattle.sdd_homes.specs.HomeSteps.{Mine, IsValue, Watches, RetiresOne, regained, resting, untold}
-use Rattle.sdd_domain.specs.Board.{book_of, places_of, slots_of}
-use Rattle.sdd_domain.specs.Token.{view, epoch, slots, Taught, Moved, MovedAlone}
-use Rattle.sdd_domain.specs.Owner.{disowned}
+use Rattle.sdd_board.specs.Board.{book_of, places_of, slots_of}
+use Rattle.sdd_board.specs.Token.{view, epoch, slots, Taught, Moved, MovedAlone}
+use Rattle.sdd_board.specs.Owner.{disowned}
 use Rattle.sdd_domain.specs.Sight.{IsOnce}
 use Rattle.sdd_domain.specs.Waits.{waiting_of}
 use Rattle.sdd_domain.specs.Claims.{Gains}

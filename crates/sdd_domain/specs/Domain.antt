@@ -1,7 +1,7 @@
 -- A domain as its callers see it
 use Rattle.sdd_base.specs.declared.limits.Limits.{Limits}
 use Rattle.atomic_table.specs.Seated.{TableId}
-use Rattle.sdd_domain.specs.Board.{id_of}
+use Rattle.sdd_board.specs.Board.{id_of}
 use Rattle.sdd_domain.specs.declared.domain.Domain.{Domain}
 
 -- which domain it is

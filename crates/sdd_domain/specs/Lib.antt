@@ -1,9 +1,5 @@
-pub mod Sizes
-pub mod Board
 pub mod Shelf
-pub mod Token
 pub mod Sight
-pub mod Owner
 pub mod Waits
 pub mod Claims
 pub mod Scan

@@ -20,11 +20,11 @@ use Rattle.sdd_homes.specs.Homes.{Carries}
 use Rattle.sdd_homes.specs.Records.{slot_shown}
 use Rattle.sdd_homes.specs.HomeSteps.{Purse}
 use Rattle.sdd_domain.specs.Sight.{IsOnce}
-use Rattle.sdd_domain.specs.declared.board.Board.{Board}
-use Rattle.sdd_domain.specs.Board.{id_of, book_of, places_of, slots_of}
+use Rattle.sdd_board.specs.declared.board.Board.{Board}
+use Rattle.sdd_board.specs.Board.{id_of, book_of, places_of, slots_of}
 use Rattle.sdd_domain.specs.Waits.{waiting_of}
 use Rattle.sdd_store.specs.declared.waiting.What.{What}
-use Rattle.sdd_domain.specs.Token.{view, epoch, slots, Knows}
+use Rattle.sdd_board.specs.Token.{view, epoch, slots, Knows}
 
 -- it has published its count; what it knows is the count at that publish or the next
 pub record IsNear (v : EpochView) : Type 0 where

@@ -3,8 +3,8 @@ use Rattle.std.specs.Prelude.{◌≡◌}
 use Rattle.sdd_base.specs.declared.limits.Limits.{Limits}
 use Rattle.sdd_stakes.specs.declared.shelf.Shelf.{Shelf}
 use Rattle.sdd_rule.specs.declared.Sizes.{Sizes}
-use Rattle.sdd_domain.specs.declared.board.Board.{Board}
-use Rattle.sdd_domain.specs.Board.{book_of, slots_of}
+use Rattle.sdd_board.specs.declared.board.Board.{Board}
+use Rattle.sdd_board.specs.Board.{book_of, slots_of}
 
 -- how many of each there are within these limits
 abbrev pub sizes_in : Limits → Sizes

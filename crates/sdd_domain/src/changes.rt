@@ -4,18 +4,17 @@ ghost use Rattle.sdd_store.specs.Waiting.{aged};
 ghost use Rattle.sdd_store.specs.Time.{nested, rotated, settled, due_next};
 ghost use Rattle.sdd_rule.specs.Epoch.{HasPlace};
 ghost use Rattle.sdd_rule.specs.Slots.{items_at};
-ghost use Rattle.sdd_domain.specs.Board.{id_of, slots_of};
+ghost use Rattle.sdd_board.specs.Board.{id_of, slots_of};
 ghost use Rattle.sdd_domain.specs.Shelf.{IsShelfOf};
-ghost use Rattle.sdd_domain.specs.Token.{view, epoch, slots, Knows, Taught};
+ghost use Rattle.sdd_board.specs.Token.{view, epoch, slots, Knows, Taught};
 ghost use Rattle.sdd_domain.specs.Waits.{what_of, waiting_of, ripe, arrived_at, due_at, GivesAllBack, Arrives};
 ghost use Rattle.sdd_domain.specs.Receipt.{with_reclaimed};
 ghost use Rattle.sdd_domain.specs.Posed.{IsPosed};
 
-use crate::board::{Board, Token};
 use crate::known::Known;
 use crate::receipt::count_reclaimed;
-use crate::steps;
 use crate::values::take_value;
+use sdd_board::{Board, Token, steps};
 use sdd_stakes::Shelf;
 use sdd_store::{Participant, Tally, What};
 

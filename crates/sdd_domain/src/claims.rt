@@ -1,13 +1,13 @@
 //! The search for a free slot.
 ghost use Rattle.std.specs.Prelude.{◌≡◌, ◌⊎◌, ◌<◌, ◌≤◌, ℕ, true, false, None, IfOk, MatchOption, MatchResult};
 ghost use Rattle.sdd_rule.specs.Epoch.{HasPlace, IsLone};
-ghost use Rattle.sdd_domain.specs.Board.{id_of, slots_of};
-ghost use Rattle.sdd_domain.specs.Token.{view, epoch, Knows};
+ghost use Rattle.sdd_board.specs.Board.{id_of, slots_of};
+ghost use Rattle.sdd_board.specs.Token.{view, epoch, Knows};
 ghost use Rattle.sdd_domain.specs.Claims.{IsUnmoved, Gains, Misses, Loses};
 
-use crate::board::{Board, Token};
 use crate::known::Known;
-use crate::steps::slots::{FREE, claim, look};
+use sdd_board::steps::slots::{FREE, claim, look};
+use sdd_board::{Board, Token};
 use sdd_core::Refused;
 
 /// One try at a slot, which is claimed if it is found free. So many exchanges more may be lost.

@@ -3,14 +3,14 @@ ghost use Rattle.sdd_base.specs.Limits.{AreInRange};
 ghost use Rattle.sdd_stakes.specs.Memory.{IsHoldOf};
 ghost use Rattle.sdd_stakes.specs.Shelf.{AreVacant};
 ghost use Rattle.sdd_homes.specs.Homes.{homes_for};
-ghost use Rattle.sdd_domain.specs.Board.{sizes_of};
+ghost use Rattle.sdd_board.specs.Board.{sizes_of};
 ghost use Rattle.sdd_domain.specs.Shelf.{sizes_in, IsShelfOf};
 ghost use Rattle.sdd_domain.specs.Receipt.{capped, sum_of, with_reclaimed, AreFrom};
 
-use crate::board::{Board, Plan};
 use crate::closing::{settled, take_all};
 use crate::receipt::{Receipt, count_reclaimed};
 use sdd_base::Limits;
+use sdd_board::{Board, Plan};
 use sdd_core::Refused;
 use sdd_homes::{gather_all, lay_all};
 use sdd_places::Hold;

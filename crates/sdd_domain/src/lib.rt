@@ -1,21 +1,17 @@
 //! A domain: what participants in several threads share, values and guards over them.
 #![tactic(auto)]
 
-mod board;
 mod changes;
 mod claims;
 mod closing;
 pub mod domain;
 mod known;
 pub mod local;
-mod plays;
 pub mod receipt;
 mod scan;
 mod shut;
 mod space;
-mod steps;
 mod values;
-mod words;
 
 pub use domain::Domain;
 pub use local::Local;

@@ -2,23 +2,22 @@ ghost use Rattle.std.specs.Prelude.{◌≡◌, ◌⊎◌, ◌<◌, ℕ, IfSome, 
 ghost use Rattle.sdd_store.specs.Time.{accelerated, has_garbage, with_garbage};
 ghost use Rattle.sdd_rule.specs.Steps.{nobody, Takes};
 ghost use Rattle.sdd_rule.specs.SlotSteps.{blank};
-ghost use Rattle.sdd_domain.specs.Board.{id_of, sizes_of, places_of};
-ghost use Rattle.sdd_domain.specs.Token.{epoch, words_known, IsSameBut};
+ghost use Rattle.sdd_board.specs.Board.{id_of, sizes_of, places_of};
+ghost use Rattle.sdd_board.specs.Token.{epoch, words_known, IsSameBut};
 ghost use Rattle.sdd_domain.specs.Domain.{home_of, limits_of};
 ghost use Rattle.sdd_domain.specs.Local.{CanNest, IsGuarded, IsNew, IsOpened, Opens, Closes, IsTold};
 ghost use Rattle.sdd_base.specs.Guard.{reader_of};
 ghost use Rattle.sdd_places.specs.declared.tenures.Stage.TheVariants.{Closed as is_closed};
 
-use crate::board::{Board, Token};
 use crate::changes::arrive;
 use crate::domain::Domain;
 use crate::known::Known;
 use crate::receipt::Receipt;
 use crate::scan::scan;
 use crate::shut::shut;
-use crate::steps;
 use sdd_base::Guard;
 use sdd_base::inner::{guard_with, part_of_guard};
+use sdd_board::{Board, Token, steps};
 use sdd_core::Refused;
 use sdd_places::{Stage, Tenure};
 use sdd_store::{Bags, Participant, Tally, What};

@@ -1,10 +1,10 @@
 ghost use Rattle.std.specs.Prelude.{◌≡◌, []};
 ghost use Rattle.sdd_rule.specs.Epoch.{HasEnded};
 ghost use Rattle.sdd_domain.specs.Receipt.{with_reclaimed};
-ghost use Rattle.sdd_domain.specs.Token.{epoch};
+ghost use Rattle.sdd_board.specs.Token.{epoch};
 
-use crate::board::Token;
 use atomic_table::Badge;
+use sdd_board::Token;
 use sdd_rule::View;
 use sdd_store::Tally;
 use std::marker::Model;

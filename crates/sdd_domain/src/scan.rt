@@ -2,12 +2,11 @@
 ghost use Rattle.std.specs.Prelude.{◌≡◌, ℕ, ◌<◌, true, false};
 ghost use Rattle.sdd_rule.specs.Epoch.{IsOpen, Scans};
 ghost use Rattle.sdd_rule.specs.Steps.{IsNext, passed_by};
-ghost use Rattle.sdd_domain.specs.Board.{id_of, places_of};
-ghost use Rattle.sdd_domain.specs.Token.{epoch, IsSameBut};
+ghost use Rattle.sdd_board.specs.Board.{id_of, places_of};
+ghost use Rattle.sdd_board.specs.Token.{epoch, IsSameBut};
 ghost use Rattle.sdd_domain.specs.Scan.{looked_to, Raises, Scanned};
 
-use crate::board::{Board, Token};
-use crate::steps;
+use sdd_board::{Board, Token, steps};
 
 /// The next place has no guard open, or has published this count.
 fn passes(board: &Board, token: &mut Token, place: usize, count: u64) -> bool

@@ -4,13 +4,12 @@ ghost use Rattle.sdd_places.specs.declared.tenures.Stage.TheVariants.{Closed as 
 ghost use Rattle.sdd_rule.specs.declared.View.{View};
 ghost use Rattle.sdd_rule.specs.SlotSteps.{ClosesAll};
 ghost use Rattle.sdd_rule.specs.Epoch.{IsOpen, Scans};
-ghost use Rattle.sdd_domain.specs.Board.{id_of, book_of, places_of};
+ghost use Rattle.sdd_board.specs.Board.{id_of, book_of, places_of};
 ghost use Rattle.sdd_homes.specs.HomeSteps.{unsighted};
-ghost use Rattle.sdd_domain.specs.Token.{view, epoch, Knows};
+ghost use Rattle.sdd_board.specs.Token.{view, epoch, Knows};
 ghost use Rattle.sdd_domain.specs.Posed.{IsPurse, AreLentTo};
 
-use crate::board::{Board, Token};
-use crate::steps;
+use sdd_board::{Board, Token, steps};
 use sdd_places::{Stage, Tenure, end_round};
 use sdd_stakes::settle;
 use sdd_token::WHOLE;

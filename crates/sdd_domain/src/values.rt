@@ -6,14 +6,14 @@ ghost use Rattle.sdd_rule.specs.Epoch.{HasPlace};
 ghost use Rattle.sdd_rule.specs.SlotSteps.{IsDue, GivesBack};
 ghost use Rattle.sdd_homes.specs.Homes.{Carries, Moves};
 ghost use Rattle.sdd_homes.specs.HomeSteps.{HasAll, resting};
-ghost use Rattle.sdd_domain.specs.Board.{id_of, book_of, places_of, slots_of};
+ghost use Rattle.sdd_board.specs.Board.{id_of, book_of, places_of, slots_of};
 ghost use Rattle.sdd_domain.specs.Shelf.{IsShelfOf};
 ghost use Rattle.sdd_token.specs.Owner.{witness_of_owner};
-ghost use Rattle.sdd_domain.specs.Owner.{disowned};
-ghost use Rattle.sdd_domain.specs.Token.{view, epoch, slots, Knows, Taught};
+ghost use Rattle.sdd_board.specs.Owner.{disowned};
+ghost use Rattle.sdd_board.specs.Token.{view, epoch, slots, Knows, Taught};
 
-use crate::board::{Board, Token};
-use crate::steps::slots::{cut, give_back, house, take_out};
+use sdd_board::steps::slots::{cut, give_back, house, take_out};
+use sdd_board::{Board, Token};
 use sdd_stakes::Shelf;
 use sdd_witness::Witness;
 

@@ -10,10 +10,10 @@ ghost use Rattle.sdd_domain.specs.Sight.{IsOnce};
 
 use crate::claims::claim_free;
 use crate::local::Local;
-use crate::steps::slots::{retire, take_in, watch};
 use crate::values::put_value;
 use sdd_base::Guard;
 use sdd_base::inner::tenure_of;
+use sdd_board::steps::slots::{retire, take_in, watch};
 use sdd_core::Refused;
 use sdd_store::What;
 use sdd_token::{Kind, Right};

@@ -3,7 +3,7 @@ use Rattle.atomic_table.specs.declared.shared.Seat.{Seat}
 use Rattle.sdd_stakes.specs.declared.stake.Stake.{Stake}
 use Rattle.sdd_rule.specs.declared.View.{View}
 use Rattle.sdd_domain.specs.declared.known.Known.{Known}
-use Rattle.sdd_domain.specs.Board.{slots_of}
+use Rattle.sdd_board.specs.Board.{slots_of}
 use Rattle.sdd_domain.proofs.Reclaims.{Going, going_at, going_item, going_due, going_inside, going_on, going_done}
 use Rattle.sdd_domain.proofs.changes.give_all_back.Goals.{in-Item, in_default}
 use Rattle.sdd_domain.proofs.changes.give_all_back.Goals as goal

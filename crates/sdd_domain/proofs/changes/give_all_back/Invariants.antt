@@ -1,6 +1,6 @@
 use Rattle.std.proofs.Common.{◌≡◌, drop}
-use Rattle.sdd_domain.specs.Board.{slots_of}
-use Rattle.sdd_domain.specs.Token.{view}
+use Rattle.sdd_board.specs.Board.{slots_of}
+use Rattle.sdd_board.specs.Token.{view}
 use Rattle.sdd_domain.proofs.Reclaims.{Going}
 use Rattle.sdd_domain.proofs.changes.give_all_back.Given as goal
 

@@ -1,5 +1,5 @@
 use Rattle.std.proofs.Common.{◌≡◌}
-use Rattle.sdd_domain.specs.Board.{id_of}
+use Rattle.sdd_board.specs.Board.{id_of}
 use Rattle.sdd_domain.proofs.closing.end_all.Given as goal
 
 abbrev pub invariant-loop-place : goal.invariant-loop-place

@@ -1,7 +1,7 @@
 use Rattle.std.proofs.Common.{refl, ◌∙◌, subst, arith}
 use Rattle.sdd_rule.specs.declared.EpochView.{EpochView}
 use Rattle.sdd_rule.specs.Steps.{Takes}
-use Rattle.sdd_domain.proofs.Allowed.{same_but_on}
+use Rattle.sdd_board.proofs.Allowed.{same_but_on}
 use Rattle.sdd_domain.proofs.local.take_place.Goals as goal
 
 pub returns-then-register-eq-FREE-clause-taken : goal.returns-then-register-eq-FREE-clause-taken

@@ -1,8 +1,8 @@
 use Rattle.std.proofs.Common.{◌≡◌}
 use Rattle.sdd_rule.specs.Steps.{nobody}
 use Rattle.sdd_rule.specs.SlotSteps.{blank}
-use Rattle.sdd_domain.specs.Token.{epoch, words_known, IsSameBut}
-use Rattle.sdd_domain.specs.Board.{sizes_of, places_of}
+use Rattle.sdd_board.specs.Token.{epoch, words_known, IsSameBut}
+use Rattle.sdd_board.specs.Board.{sizes_of, places_of}
 use Rattle.sdd_domain.proofs.local.take_place.Given as goal
 
 abbrev pub invariant-loop-place : goal.invariant-loop-place

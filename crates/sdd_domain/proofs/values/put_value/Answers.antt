@@ -1,4 +1,4 @@
-use Rattle.std.proofs.Common.{◌≡◌, ℕ, ◌+◌, List, [], ◌∷◌, ap, sym, refl, ◌∙◌, arith}
+use Rattle.std.proofs.Common.{ℕ, ◌+◌, [], ◌∷◌, ap, refl, ◌∙◌, arith}
 use base.Stored.{Gv}
 use Rattle.atomic_table.specs.declared.shared.Seat.{Seat}
 use Rattle.sdd_stakes.specs.declared.stake.Stake.{Stake}
@@ -8,7 +8,7 @@ use Rattle.sdd_rule.specs.contracts.View.{the_row}
 use Rattle.sdd_rule.specs.Sums.{times}
 use Rattle.sdd_rule.proofs.Sums.{is_same}
 use Rattle.sdd_homes.specs.HomeSteps.{parting, departing}
-use Rattle.sdd_domain.specs.Board.{book_of, places_of}
+use Rattle.sdd_board.specs.Board.{book_of, places_of}
 use Rattle.sdd_domain.proofs.Moving.{may_move}
 use Rattle.sdd_domain.proofs.Owners.{row_put, moves_put, furnished, parted_view, departed_view}
 use Rattle.sdd_domain.proofs.values.put_value.Goals as goal

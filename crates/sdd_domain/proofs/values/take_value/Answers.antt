@@ -7,7 +7,7 @@ use Rattle.sdd_rule.specs.declared.View.{View}
 use Rattle.sdd_rule.specs.Slots.{items_at}
 use Rattle.sdd_rule.specs.SlotSteps.{given_back}
 use Rattle.sdd_homes.specs.HomeSteps.{HasAll, resting}
-use Rattle.sdd_domain.specs.Board.{book_of, places_of}
+use Rattle.sdd_board.specs.Board.{book_of, places_of}
 use Rattle.sdd_domain.proofs.Moving.{may_move, row_after, rest_out, rests_again}
 use Rattle.sdd_domain.proofs.values.take_value.Goals as goal
 

@@ -1,5 +1,5 @@
 use Rattle.std.proofs.Common.{◌≡◌, ◌∙◌, arith}
-use Rattle.sdd_domain.specs.Board.{book_of, places_of}
+use Rattle.sdd_board.specs.Board.{book_of, places_of}
 use Rattle.sdd_domain.proofs.Moving.{nothing_out}
 use Rattle.sdd_domain.proofs.local.Local.end.Goals as goal
 

@@ -1,13 +1,11 @@
-use Rattle.std.proofs.Common.{◌≡◌, ℕ, ◌<◌, List, [], ◌∷◌, rules, refl, sym, ap, ◌∙◌, subst, arith}
+use Rattle.std.proofs.Common.{◌≡◌, ℕ, ◌<◌, rules, sym, ap, ◌∙◌, subst}
 use base.Stored.{Gv}
-use Rattle.atomic_table.specs.Seated.{TableId}
-use Rattle.sdd_token.specs.Units.{Home}
 use Rattle.sdd_token.specs.Owner.{witness_of_owner}
 use Rattle.sdd_token.specs.Right.{number_of}
 use Rattle.sdd_stakes.specs.Seats.{lots}
 use Rattle.sdd_stakes.specs.Shelf.{CanShow, Shows, showing}
 use Rattle.sdd_homes.proofs.Records.{in_times}
-use Rattle.sdd_domain.specs.Board.{book_of, places_of}
+use Rattle.sdd_board.specs.Board.{book_of, places_of}
 use Rattle.atomic_table.specs.declared.shared.Seat.{Seat}
 use Rattle.sdd_stakes.specs.declared.stake.Stake.{Stake}
 use Rattle.sdd_rule.specs.declared.View.{View}

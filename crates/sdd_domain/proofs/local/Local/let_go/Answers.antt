@@ -1,6 +1,6 @@
 use Rattle.std.proofs.Common.{◌≡◌, ℕ, ◌<◌, rules, sym, ap, ◌∙◌, subst, vec_capacity}
 use Rattle.sdd_token.specs.Owner.{witness_of_owner}
-use Rattle.sdd_domain.specs.Board.{slots_of}
+use Rattle.sdd_board.specs.Board.{slots_of}
 use Rattle.sdd_store.specs.declared.waiting.What.TheVariants.{Item}
 use Rattle.sdd_store.specs.declared.time.Participant.{Participant}
 use Rattle.sdd_store.specs.Bags.{Bags}

@@ -1,6 +1,6 @@
 use Rattle.std.proofs.Common.{ap, sym, ◌∙◌, subst}
 use Rattle.sdd_rule.specs.declared.Sizes.{Sizes}
-use Rattle.sdd_domain.specs.Board.{book_of, places_of}
+use Rattle.sdd_board.specs.Board.{book_of, places_of}
 use Rattle.sdd_domain.specs.Posed.{AreLentTo}
 use Rattle.sdd_domain.proofs.Moving.{row_out}
 use Rattle.sdd_domain.proofs.Posing.{posed_makes}

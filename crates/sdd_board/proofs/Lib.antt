@@ -1,0 +1,4 @@
+pub mod Allowed
+pub mod Zeros
+pub mod Shown
+pub mod Ending

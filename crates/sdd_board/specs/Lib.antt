@@ -1,0 +1,4 @@
+pub mod Sizes
+pub mod Board
+pub mod Token
+pub mod Owner

@@ -1,0 +1,88 @@
+-- A participant's token over a step
+use Rattle.std.specs.Prelude.{◌≡◌, ℕ, List, [], ◌∷◌}
+use base.Stored.{Gv, gnil}
+use Rattle.atomic_table.specs.Table.{Me, Step}
+use Rattle.atomic_table.specs.declared.shared.Seat.{Seat}
+use Rattle.sdd_rule.specs.declared.EpochView.{EpochView}
+use Rattle.sdd_rule.specs.declared.SlotsView.{SlotsView}
+use Rattle.sdd_rule.specs.declared.View.{View}
+use Rattle.sdd_rule.specs.Steps.{Publishes}
+use Rattle.sdd_rule.specs.SlotSteps.{changed}
+use Rattle.sdd_stakes.specs.declared.stake.Stake.{Stake}
+use Rattle.sdd_rule.specs.Parts.{owner_of}
+use Rattle.sdd_homes.specs.Homes.{Carries, Moves}
+use Rattle.sdd_homes.specs.HomeSteps.{Mine, Houses, Watches, ClosesHome}
+use Rattle.sdd_board.specs.declared.board.Board.{Board}
+use Rattle.sdd_board.specs.Board.{sizes_of, book_of}
+
+module _ {S : Type 0} where
+  -- what the token knows
+  abbrev pub view : Seat S View → View
+  view s = s.me.0
+
+  abbrev pub epoch : Seat S View → EpochView
+  epoch s = s.me.0.epoch
+
+  abbrev pub slots : Seat S View → SlotsView
+  slots s = s.me.0.slots
+
+  abbrev pub words_known : Seat S View → List ℕ
+  words_known s = s.me.0.words
+
+  -- a new token, which is as the first one
+  abbrev pub Sits : Step S → Me S View → ℕ → Me S View → Type 0
+  Sits st m r m' = m' ≡ m
+
+  -- a step that tells R: of what was known before, the number found and what is known after
+  abbrev pub Told : (View → ℕ → View → Type 0) → Me S View → ℕ → Me S View → Type 0
+  Told R m r m' = (m'.1 ≡ m.1) × R m.0 r m'.0
+
+  -- it is the same token, and knows the same of sizes and stakes
+  abbrev pub IsSame : Seat S View → Seat S View → Type 0
+  IsSame s s' = (s'.table_id ≡ s.table_id) × (s'.id ≡ s.id) × (s'.me.1 ≡ s.me.1) × (s'.me.0.sizes ≡ s.me.0.sizes) × (s'.me.0.stakes ≡ s.me.0.stakes)
+
+  -- the token is as it was, but for what it knows of the epoch
+  abbrev pub IsSameBut : Seat S View → Seat S View → Type 0
+  IsSameBut s s' = IsSame s s' × (s'.me.0.places ≡ s.me.0.places) × (slots s' ≡ slots s) × (words_known s' ≡ words_known s)
+
+  -- a step of the epoch's part
+  abbrev pub Stepped : (EpochView → ℕ → EpochView → Type 0) → Seat S View → ℕ → Seat S View → Type 0
+  Stepped R s r s' = IsSameBut s s' × R (epoch s) r (epoch s')
+
+  -- any step, which tells R
+  abbrev pub Taught : (View → ℕ → View → Type 0) → Seat S View → ℕ → Seat S View → Type 0
+  Taught R s r s' = (s'.table_id ≡ s.table_id) × (s'.id ≡ s.id) × (s'.me.1 ≡ s.me.1) × R (view s) r (view s')
+
+  -- its count is published, and is a change for what waits if it is another one than before
+  abbrev pub HasPublished : Seat S View → Seat S View → Type 0
+  HasPublished s s' = IsSame s s' × (s'.me.0.places ≡ s.me.0.places) × (slots s' ≡ changed (view s)) × (words_known s' ≡ words_known s)
+      × Publishes (epoch s) 2 (epoch s')
+
+-- a step that may take stakes or give them, which tells R
+abbrev pub Moved : (Mine → ℕ → Mine → Type 0) → Seat Stake View → ℕ → Seat Stake View → Type 0
+Moved R s r s' = (s'.table_id ≡ s.table_id) × (s'.id ≡ s.id) × R s.me r s'.me
+
+-- the same on no word
+abbrev pub MovedAlone : (Mine → Mine → Type 0) → Seat Stake View → Seat Stake View → Type 0
+MovedAlone R s s' = (s'.table_id ≡ s.table_id) × (s'.id ≡ s.id) × R s.me s'.me
+
+-- what the stake shows that was taken last
+abbrev pub shown_last : Carries → Gv
+shown_last [] = gnil
+shown_last (x ∷ xs) = x.1.lot.shown
+
+-- the value of the slot that it moves was moved in
+abbrev pub HousesMoved : Mine → Mine → Type 0
+HousesMoved me me' = (slot : ℕ) → Moves me.0 slot → Houses slot (shown_last me.1) me me'
+
+-- a guard sees a slot beside the token of its owner
+abbrev pub WatchesOwned : View → Mine → Mine → Type 0
+WatchesOwned w me me' = (slot : ℕ) (value : Gv) → w ≡ owner_of slot value → Watches slot value me me'
+
+-- no guard is open, nothing is seen, and all stakes are at home
+abbrev pub HasClosed : Seat Stake View → Seat Stake View → Type 0
+HasClosed = λ s. Moved ClosesHome s 1
+
+-- it knows how many of each there are, and of which book the values' places are
+abbrev pub Knows : Board → Seat Stake View → Type 0
+Knows b s = (s.me.0.sizes ≡ sizes_of b) × (s.me.0.stakes.book ≡ book_of b)

@@ -1,0 +1,103 @@
+//! The words of a domain and the stakes in its values, under their rule, and the token that a participant steps with.
+ghost use Rattle.std.specs.Prelude.{◌≡◌, ◌<◌, ◌≤◌, MatchResult};
+ghost use Rattle.sdd_rule.specs.Words as words;
+ghost use Rattle.sdd_rule.specs.Words.{all_words};
+ghost use Rattle.core.specs.Mem.Slots.{slots_len, IsFull};
+ghost use Rattle.sdd_homes.specs.Homes.{AreLaid, AreHome};
+ghost use Rattle.sdd_board.specs.Sizes.{AreSmall};
+
+use crate::words::{first_slot, word_count};
+use atomic_table::{Closed, Refused, Seat, Table, TableRule};
+use sdd_rule::{Sizes, View};
+use sdd_stakes::{Stake, Title};
+use std::alloc::Global;
+
+/// How many of each a domain has, and of which book its values' places are.
+#[derive(Drop)]
+pub struct Plan {
+    pub sizes: Sizes,
+    pub title: Title,
+}
+
+/// The rule that the words and the stakes keep.
+pub struct Rule;
+
+impl TableRule<Stake, View, Plan> for Rule {
+    ghost use Rattle.sdd_rule.specs.Parts.{idle};
+    ghost use Rattle.sdd_homes.specs.Housed.{Housed};
+
+    ghost holds = { λ plan s. Housed plan.title.book plan.sizes s };
+
+    ghost first = { λ plan. idle plan.sizes plan.title.book };
+}
+
+/// What a participant knows of the words, and the stakes that it has out.
+pub type Token = Seat<Stake, View>;
+
+/// The words of a domain, and the homes of the stakes in its values.
+#[derive(Drop)]
+pub struct Board {
+    pub table: Table<Stake, View, Plan, Rule, Global>,
+    places: usize,
+    /// Where the slots' words begin.
+    first_slot: usize,
+    ghost sized: { AreSmall table.shared.key.sizes × (table.shared.table_id.words ≡ all_words table.shared.key.sizes) },
+    ghost placed: { (places ≡ table.shared.key.sizes.participants) × (first_slot ≡ words.first_slot table.shared.key.sizes) },
+}
+
+impl Board {
+    ghost use Rattle.sdd_board.specs.Board.{id_of, plan_of, sizes_of, book_of, places_of};
+
+    /// The words of a domain of these sizes, as they are before anybody takes part, with all stakes at home.
+    ///
+    /// Where memory is wanting the stakes come back.
+    pub fn new(alloc: Global, plan: &Plan, laid: Vec<Stake>) -> Result<Board, Vec<Stake>>
+        requires small { AreSmall plan.now.sizes }
+        requires laid { AreLaid plan.now.title.book plan.now.sizes.participants plan.now.sizes.slots laid.items }
+        ensures { MatchResult result (λ board. plan_of board ≡ plan.now) (λ back. back.items ≡ laid.items) }
+    {
+        let Ok(words) = vec![in alloc; 0u64; word_count(&plan.sizes) as usize] else {
+            return Err(laid);
+        };
+        match Table::new(alloc, words.as_slice(), laid, plan) {
+            Ok((table, _)) => Ok(Board {
+                table,
+                places: plan.sizes.participants as usize,
+                first_slot: first_slot(&plan.sizes) as usize,
+            }),
+            Err(Refused { slots }) => Err(slots),
+        }
+    }
+
+    /// Where the word of a slot is.
+    #[inline]
+    pub fn slot_word(&self, slot: u32) -> usize
+        requires { slot < (sizes_of self.now).slots }
+        ensures { result ≡ words.slot_word (sizes_of self.now) slot }
+    {
+        self.first_slot + slot as usize
+    }
+
+    /// How many places there are.
+    #[inline]
+    pub fn places(&self) -> usize
+        ensures { result ≡ places_of self.now }
+    {
+        self.places
+    }
+
+    /// The words and the stakes, by a token that knows that all places have ended: all stakes lie in their homes.
+    pub fn close(self, token: Token) -> Closed<Stake, Global>
+        requires home { token.table_id ≡ id_of self }
+        requires ended { places_of self ≤ token.me.0.places.ended }
+        ensures home { AreHome (book_of self) (sizes_of self) (slots_len result.slots) result }
+        ensures words { (slots_len result.words ≡ all_words (sizes_of self)) × IsFull result.words }
+    {
+        let Board {
+            table,
+            places: _,
+            first_slot: _,
+        } = self;
+        table.close_with(token)
+    }
+}

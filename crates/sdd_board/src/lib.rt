@@ -1,0 +1,9 @@
+//! The words of a domain and the stakes in its values under their rule, and each atomic step on them as one function.
+#![tactic(auto)]
+
+pub mod board;
+mod plays;
+pub mod steps;
+pub mod words;
+
+pub use board::{Board, Plan, Token};

@@ -1,0 +1,195 @@
+//! The atomic steps of the epoch, one function each. With those on slots nothing else changes a word of a domain.
+ghost use Rattle.std.specs.Prelude.{◌≡◌, ◌+◌, ◌^◌, ◌<◌, [], None};
+ghost use Rattle.sdd_rule.specs.Words as words;
+ghost use Rattle.sdd_rule.specs.Epoch.{IsClosed, IsOpen, Scans};
+ghost use Rattle.sdd_rule.specs.Steps.{nobody, IsNext, Registers, Reads, Counts, Ends, Locks, LooksAtState, LooksAtCount, Advances, Unlocks};
+ghost use Rattle.sdd_rule.specs.Parts.{idle};
+ghost use Rattle.sdd_board.specs.Board.{id_of, sizes_of, book_of, places_of};
+ghost use Rattle.sdd_rule.specs.SlotSteps.{blank};
+ghost use Rattle.sdd_rule.specs.Ended.{Bars};
+ghost use Rattle.sdd_homes.specs.HomeSteps.{Purse};
+ghost use Rattle.sdd_board.specs.Token.{view, epoch, words_known, Stepped, Taught, HasPublished, HasClosed, Knows};
+
+pub mod slots;
+
+use crate::board::{Board, Token};
+use crate::plays::{
+    Advance, Bar, Close, End, Lock, LookAtCount, LookAtState, Publish, Read, Register, Sit, Unlock,
+    Write,
+};
+use crate::words::{GLOBAL, LOCK, count_word, state_word};
+
+/// Nobody's place.
+pub const FREE: u64 = 0;
+/// A participant's, with no guard open.
+pub const CLOSED: u64 = 1;
+/// A participant's, with a guard open.
+pub const OPEN: u64 = 2;
+/// Its participant has ended.
+pub const ENDED: u64 = 3;
+
+/// A token without a place.
+pub fn sit(board: &Board) -> Token
+    ensures { (result.table_id ≡ id_of board.now) × (result.me ≡ (idle (sizes_of board.now) (book_of board.now), [])) }
+{
+    board.table.shared.load_new_seat::<Sit>(GLOBAL).1
+}
+
+/// The place is free at the moment of this call.
+pub fn is_free(board: &Board, place: usize) -> bool
+    requires { place < places_of board.now }
+{
+    board.table.shared.peek(state_word(place)) == FREE
+}
+
+/// Tries to take a place, and answers its state before.
+pub fn register(board: &Board, token: &mut Token, place: usize) -> u64
+    requires home { token.old.table_id ≡ id_of board.now }
+    requires inside { place < places_of board.now }
+    requires idle { (epoch token.old ≡ nobody (places_of board.now)) × (words_known token.old ≡ blank (sizes_of board.now)) }
+    ensures { Stepped (Registers (words.state_word place)) token.old result token.new }
+{
+    board
+        .table
+        .shared
+        .compare_exchange::<Register>(token, state_word(place), FREE, CLOSED)
+}
+
+/// Reads the global count.
+#[inline]
+pub fn read(board: &Board, token: &mut Token) -> u64
+    requires home { token.old.table_id ≡ id_of board.now }
+    ensures { Stepped Reads token.old result token.new }
+{
+    board.table.shared.load::<Read>(token, GLOBAL)
+}
+
+/// Writes the own count word, while no guard is open.
+#[inline]
+pub fn write(board: &Board, token: &mut Token, place: usize, count: u64)
+    requires home { token.old.table_id ≡ id_of board.now }
+    requires own { (place ≡ (epoch token.old).place) × (place < places_of board.now) }
+    requires closed { IsClosed (epoch token.old) }
+    ensures { Stepped Counts token.old count token.new }
+{
+    board
+        .table
+        .shared
+        .store::<Write>(token, count_word(place), count);
+}
+
+/// Publishes the count that stands in the own count word. Another one than before is a change for each item that waits.
+#[inline]
+pub fn publish(board: &Board, token: &mut Token, place: usize)
+    requires home { token.old.table_id ≡ id_of board.now }
+    requires own { (place ≡ (epoch token.old).place) × (place < places_of board.now) }
+    requires closed { IsClosed (epoch token.old) }
+    requires count { (epoch token.old).count ≡ (epoch token.old).known }
+    ensures { HasPublished token.old token.new }
+{
+    board
+        .table
+        .shared
+        .store::<Publish>(token, state_word(place), OPEN);
+}
+
+/// Publishes that no guard is open, so that none sees anything: all stakes go home.
+#[inline]
+pub fn close(board: &Board, token: &mut Token, place: usize)
+    requires home { token.old.table_id ≡ id_of board.now }
+    requires knows { Knows board.now token.old }
+    requires rests { (view token.old).stakes.moves ≡ None }
+    requires purse { Purse (book_of board.now) (places_of board.now) place (view token.old).stakes.sees token.old.me.1 }
+    requires own { (place ≡ (epoch token.old).place) × (place < places_of board.now) }
+    requires open { IsOpen (epoch token.old) × ¬ (Scans (epoch token.old)) }
+    ensures { HasClosed token.old token.new }
+{
+    board
+        .table
+        .shared
+        .store::<Close>(token, state_word(place), CLOSED);
+}
+
+/// Ends the own place.
+pub fn end(board: &Board, token: &mut Token, place: usize)
+    requires home { token.old.table_id ≡ id_of board.now }
+    requires rests { (view token.old).stakes.moves ≡ None }
+    requires own { (place ≡ (epoch token.old).place) × (place < places_of board.now) }
+    requires closed { IsClosed (epoch token.old) }
+    ensures { Stepped Ends token.old 3 token.new }
+{
+    board
+        .table
+        .shared
+        .store::<End>(token, state_word(place), ENDED);
+}
+
+/// Ends a place as long as it is free, by a token without a place. Answers its state before: it hasn't ended then where this is a participant's.
+pub fn bar(board: &Board, token: &mut Token, place: usize) -> u64
+    requires home { token.old.table_id ≡ id_of board.now }
+    requires next { (place < places_of board.now) × (place ≡ (view token.old).places.ended) }
+    ensures { Taught (Bars (words.state_word place)) token.old result token.new }
+{
+    board
+        .table
+        .shared
+        .compare_exchange::<Bar>(token, state_word(place), FREE, ENDED)
+}
+
+/// Tries to take the lock of a scan. Someone else had it where this isn't 0.
+pub fn lock(board: &Board, token: &mut Token) -> u64
+    requires home { token.old.table_id ≡ id_of board.now }
+    requires open { IsOpen (epoch token.old) × ¬ (Scans (epoch token.old)) }
+    ensures { Stepped Locks token.old result token.new }
+{
+    board
+        .table
+        .shared
+        .compare_exchange::<Lock>(token, LOCK, 0, 1)
+}
+
+/// Looks at the state of the next place.
+pub fn look_at_state(board: &Board, token: &mut Token, place: usize) -> u64
+    requires home { token.old.table_id ≡ id_of board.now }
+    requires next { (place < places_of board.now) × IsNext (epoch token.old) place }
+    ensures { Stepped (LooksAtState (words.state_word place)) token.old result token.new }
+{
+    board
+        .table
+        .shared
+        .load::<LookAtState>(token, state_word(place))
+}
+
+/// Looks at the count of the next place.
+pub fn look_at_count(board: &Board, token: &mut Token, place: usize) -> u64
+    requires home { token.old.table_id ≡ id_of board.now }
+    requires next { (place < places_of board.now) × IsNext (epoch token.old) place }
+    ensures { Stepped (LooksAtCount (words.count_word place)) token.old result token.new }
+{
+    board
+        .table
+        .shared
+        .load::<LookAtCount>(token, count_word(place))
+}
+
+/// Raises the global count, if it is the own one still, once all other places were looked at and passed.
+pub fn advance(board: &Board, token: &mut Token, count: u64) -> u64
+    requires home { token.old.table_id ≡ id_of board.now }
+    requires count { (count ≡ (epoch token.old).count) × (count + 1 < 2 ^ 64) }
+    requires passed { IsNext (epoch token.old) (places_of board.now) }
+    ensures { Stepped Advances token.old result token.new }
+{
+    board
+        .table
+        .shared
+        .compare_exchange::<Advance>(token, GLOBAL, count, count + 1)
+}
+
+/// Frees the lock.
+pub fn unlock(board: &Board, token: &mut Token)
+    requires home { token.old.table_id ≡ id_of board.now }
+    requires scans { Scans (epoch token.old) }
+    ensures { Stepped Unlocks token.old 0 token.new }
+{
+    board.table.shared.store::<Unlock>(token, LOCK, 0);
+}

@@ -1,0 +1,253 @@
+//! The atomic steps on slots, by a participant.
+//!
+//! A slot is free, owned by one owner, or its item waits. A lone participant knows each word beforehand.
+ghost use Rattle.std.specs.Prelude.{◌≡◌, ◌<◌, ◌≤◌, ℕ, [], ◌∷◌, None};
+ghost use base.Stored.{Gv};
+ghost use Rattle.sdd_rule.specs.Words as words;
+ghost use Rattle.sdd_rule.specs.Codes.{free_word, owned_word, waiting_word};
+ghost use Rattle.sdd_rule.specs.Epoch.{HasPlace, IsOpen};
+ghost use Rattle.sdd_rule.specs.Slots.{OwnsAlone, Holds};
+ghost use Rattle.sdd_rule.specs.SlotSteps.{IsDue, LooksAtSlot, TakesHold, LetsGo, LooksForGuard};
+ghost use Rattle.sdd_rule.specs.Parts.{owner_of};
+ghost use Rattle.sdd_stakes.specs.Shelf.{IsVacant};
+ghost use Rattle.sdd_homes.specs.Homes.{Carries, Moves};
+ghost use Rattle.sdd_homes.specs.HomeSteps.{HasAll, IsValue, ClaimsAll, Houses, TakesOut, TakesHeld, GivesAll, DiscardsAll, RetiresOne, Watches, parting, regained};
+ghost use Rattle.sdd_board.specs.Board.{id_of, book_of, places_of, slots_of};
+ghost use Rattle.sdd_token.specs.Owner.{witness_of_owner};
+ghost use Rattle.sdd_board.specs.Owner.{IsCutOff};
+ghost use Rattle.sdd_board.specs.Token.{view, epoch, slots, Taught, Moved, MovedAlone, Knows};
+
+use crate::board::{Board, Token};
+use crate::plays::{
+    Claim, Discard, GiveBack, Hold, House, LetGo, LookAtSlot, LookForGuard, Part, Retire, TakeHeld,
+    TakeIn, TakeOut, Watch,
+};
+use crate::words::state_word;
+use sdd_witness::{Witness, part, rejoin, step_alone, step_beside};
+
+/// Nobody's slot.
+pub const FREE: u64 = 0;
+/// Its item has one owner, which isn't counted.
+pub const OWNED: u64 = 1;
+/// Its item is retired, and waits.
+pub const WAITING: u64 = 4;
+
+/// Looks at the word of a slot, which was free at this moment where this is `FREE`.
+#[inline]
+pub fn look(board: &Board, token: &mut Token, slot: u32) -> u64
+    requires home { token.old.table_id ≡ id_of board.now }
+    requires knows { Knows board.now token.old }
+    requires inside { slot < slots_of board.now }
+    requires place { HasPlace (epoch token.old) }
+    ensures { Taught (LooksAtSlot slot) token.old result token.new }
+{
+    board
+        .table
+        .shared
+        .load::<LookAtSlot>(token, board.slot_word(slot))
+}
+
+/// Tries to claim a slot, and answers its word before. It was free where this is `FREE`: then all stakes in it are out.
+#[inline]
+pub fn claim(board: &Board, token: &mut Token, slot: u32) -> u64
+    requires home { token.old.table_id ≡ id_of board.now }
+    requires knows { Knows board.now token.old }
+    requires inside { slot < slots_of board.now }
+    requires place { HasPlace (epoch token.old) }
+    requires rests { (view token.old).stakes.moves ≡ None }
+    ensures { Moved (ClaimsAll slot (free_word 0) (owned_word 0)) token.old result token.new }
+{
+    board
+        .table
+        .shared
+        .compare_exchange::<Claim>(token, board.slot_word(slot), FREE, OWNED)
+}
+
+/// The value of the slot that it moves was moved in, and the stakes in it show that: all go home. No word is touched.
+#[inline]
+pub fn house(board: &Board, token: &mut Token)
+    requires home { token.old.table_id ≡ id_of board.now }
+    requires knows { Knows board.now token.old }
+    requires place { HasPlace (epoch token.old) }
+    requires row { (slot : ℕ) × (value : Gv) × (slot < slots_of board.now) × Moves (view token.old) slot × OwnsAlone (view token.old) slot
+        × ((rest : Carries) × HasAll (book_of board.now) slot (places_of board.now) (IsValue value) rest token.old.me.1) }
+    ensures { (slot : ℕ) (value : Gv) (rest : Carries) → Moves (view token.old) slot
+        → HasAll (book_of board.now) slot (places_of board.now) (IsValue value) rest token.old.me.1 → MovedAlone (Houses slot value) token.old token.new }
+{
+    step_alone::<_, _, _, _, House>(&board.table.shared, token);
+}
+
+/// Retires the item of a slot of its own, which waits with the participant from now on.
+#[inline]
+pub fn retire(board: &Board, token: &mut Token, slot: u32)
+    requires home { token.old.table_id ≡ id_of board.now }
+    requires knows { Knows board.now token.old }
+    requires inside { slot < slots_of board.now }
+    requires place { HasPlace (epoch token.old) }
+    requires own { ((slots token.old).owns ≡ slot ∷ []) × ¬ (Holds (view token.old) slot) }
+    requires rests { (view token.old).stakes.moves ≡ None }
+    ensures { Moved (RetiresOne slot) token.old (waiting_word 0) token.new }
+{
+    board
+        .table
+        .shared
+        .store::<Retire>(token, board.slot_word(slot), WAITING);
+}
+
+/// Takes all stakes in the slot of an item that has seen three changes, so that nobody sees it any more. Answers the slot's word.
+#[inline]
+pub fn take_out(board: &Board, token: &mut Token, slot: u32) -> u64
+    requires home { token.old.table_id ≡ id_of board.now }
+    requires knows { Knows board.now token.old }
+    requires inside { slot < slots_of board.now }
+    requires place { HasPlace (epoch token.old) }
+    requires rests { (view token.old).stakes.moves ≡ None }
+    requires due { IsDue (view token.old) slot }
+    ensures { Moved (λ me _. TakesOut slot me) token.old result token.new }
+{
+    board
+        .table
+        .shared
+        .load::<TakeOut>(token, board.slot_word(slot))
+}
+
+/// Gives back the slot of an item whose value was moved out: all stakes in it go home.
+#[inline]
+pub fn give_back(board: &Board, token: &mut Token, slot: u32)
+    requires home { token.old.table_id ≡ id_of board.now }
+    requires knows { Knows board.now token.old }
+    requires inside { slot < slots_of board.now }
+    requires place { HasPlace (epoch token.old) }
+    requires due { Moves (view token.old) slot × IsDue (view token.old) slot }
+    requires row { (rest : Carries) × HasAll (book_of board.now) slot (places_of board.now) IsVacant rest token.old.me.1 }
+    ensures { Moved (GivesAll slot) token.old (free_word 0) token.new }
+{
+    board
+        .table
+        .shared
+        .store::<GiveBack>(token, board.slot_word(slot), FREE);
+}
+
+/// The open guard sees a slot from now on beside its owner, which may be with another participant, and has the stake of its place out. No word is
+/// touched.
+#[inline]
+pub fn watch(board: &Board, token: &mut Token, owner: &Witness)
+    requires home { token.old.table_id ≡ id_of board.now }
+    requires knows { Knows board.now token.old }
+    requires open { IsOpen (epoch token.old) }
+    requires near { (epoch token.old).place < places_of board.now }
+    requires rests { (view token.old).stakes.moves ≡ None }
+    requires owner { (owner.now.table_id ≡ id_of board.now)
+        × ((slot : ℕ) × (value : Gv) × (slot < slots_of board.now) × (owner.now.views ≡ witness_of_owner slot value)) }
+    ensures { (slot : ℕ) (value : Gv) → owner.now.views ≡ witness_of_owner slot value → MovedAlone (Watches slot value) token.old token.new }
+{
+    step_beside::<_, _, _, _, Watch>(&board.table.shared, token, owner);
+}
+
+/// Holds a slot of the participant's own, to find out whether a guard sees it. Answers its word.
+#[inline]
+pub fn hold(board: &Board, token: &mut Token, slot: u32) -> u64
+    requires home { token.old.table_id ≡ id_of board.now }
+    requires knows { Knows board.now token.old }
+    requires inside { slot < slots_of board.now }
+    requires place { HasPlace (epoch token.old) }
+    requires own { OwnsAlone (view token.old) slot × ((slots token.old).holds ≡ None) }
+    ensures { Taught (TakesHold slot) token.old result token.new }
+{
+    board
+        .table
+        .shared
+        .load::<Hold>(token, board.slot_word(slot))
+}
+
+/// Looks at the state of the next place, while a slot is held: no guard there sees it where this isn't `OPEN`.
+#[inline]
+pub fn look_for_guard(board: &Board, token: &mut Token, place: usize) -> u64
+    requires home { token.old.table_id ≡ id_of board.now }
+    requires knows { Knows board.now token.old }
+    requires inside { place < places_of board.now }
+    requires place { HasPlace (epoch token.old) }
+    requires next { place ≡ (slots token.old).looked }
+    ensures { Taught (LooksForGuard (words.state_word place)) token.old result token.new }
+{
+    board
+        .table
+        .shared
+        .load::<LookForGuard>(token, state_word(place))
+}
+
+/// Lets go of the slot that is held. Answers its word.
+#[inline]
+pub fn let_go(board: &Board, token: &mut Token, slot: u32) -> u64
+    requires home { token.old.table_id ≡ id_of board.now }
+    requires knows { Knows board.now token.old }
+    requires inside { slot < slots_of board.now }
+    requires place { HasPlace (epoch token.old) }
+    requires held { Holds (view token.old) slot }
+    ensures { Taught (LetsGo slot) token.old result token.new }
+{
+    board
+        .table
+        .shared
+        .load::<LetGo>(token, board.slot_word(slot))
+}
+
+/// Takes all stakes in the slot that is held, once every place was looked at. Answers the slot's word.
+#[inline]
+pub fn take_held(board: &Board, token: &mut Token, slot: u32) -> u64
+    requires home { token.old.table_id ≡ id_of board.now }
+    requires knows { Knows board.now token.old }
+    requires inside { slot < slots_of board.now }
+    requires place { HasPlace (epoch token.old) }
+    requires rests { (view token.old).stakes.moves ≡ None }
+    requires held { Holds (view token.old) slot × ((slots token.old).owns ≡ slot ∷ []) }
+    requires looked { places_of board.now ≤ (slots token.old).looked }
+    ensures { Moved (λ me _. TakesHeld slot me) token.old result token.new }
+{
+    board
+        .table
+        .shared
+        .load::<TakeHeld>(token, board.slot_word(slot))
+}
+
+/// Frees the slot that is held, whose value was moved out: its item has gone at once, and all stakes in it go home.
+#[inline]
+pub fn discard(board: &Board, token: &mut Token, slot: u32)
+    requires home { token.old.table_id ≡ id_of board.now }
+    requires knows { Knows board.now token.old }
+    requires inside { slot < slots_of board.now }
+    requires place { HasPlace (epoch token.old) }
+    requires held { Moves (view token.old) slot × Holds (view token.old) slot }
+    requires looked { places_of board.now ≤ (slots token.old).looked }
+    requires row { (rest : Carries) × HasAll (book_of board.now) slot (places_of board.now) IsVacant rest token.old.me.1 }
+    ensures { Moved (DiscardsAll slot) token.old (free_word 0) token.new }
+{
+    board
+        .table
+        .shared
+        .store::<Discard>(token, board.slot_word(slot), FREE);
+}
+
+/// Cuts the only owner that the participant has off, as a token of its own. No word is touched.
+#[inline]
+pub fn cut(board: &Board, token: &mut Token) -> Witness
+    requires home { token.old.table_id ≡ id_of board.now }
+    requires one { (slot : ℕ) × ((slots token.old).owns ≡ slot ∷ []) }
+    requires free { (slots token.old).holds ≡ None }
+    requires rests { (view token.old).stakes.moves ≡ None }
+    ensures participant { Taught (λ v _ w. w ≡ parting v) token.old 0 token.new }
+    ensures owner { (result.table_id ≡ id_of board.now) × IsCutOff (view token.old) result.views }
+{
+    part::<_, _, _, _, Part>(&board.table.shared, token)
+}
+
+/// Takes the owner of a slot in. No word is touched.
+#[inline]
+pub fn take_in(board: &Board, token: &mut Token, owner: Witness)
+    requires home { token.old.table_id ≡ id_of board.now }
+    requires rests { (view token.old).stakes.moves ≡ None }
+    requires owner { (owner.table_id ≡ id_of board.now) × ((slot : ℕ) × (value : Gv) × (owner.views ≡ witness_of_owner slot value)) }
+    ensures { (slot : ℕ) (value : Gv) → owner.views ≡ witness_of_owner slot value → Taught (λ v _ w. w ≡ regained v (owner_of slot value)) token.old 0 token.new }
+{
+    rejoin::<_, _, _, _, TakeIn>(&board.table.shared, token, owner);
+}
