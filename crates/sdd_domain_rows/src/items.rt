@@ -88,22 +88,22 @@ fn an_item_is_reclaimed_at_the_third_opening_that_finds_another_epoch(rt: HostRu
 fn where_no_slot_is_free_a_closure_comes_back_uncalled(rt: HostRuntime) {
     let domain = new_domain::<u64>(&rt, ONE_SLOT);
     let mut local = registered(&rt, &domain);
-    let calls = Cell::new(0);
-    let counts = || {
-        calls.set(calls.get() + 1);
+    let is_called = Cell::new(false);
+    let makes = || {
+        is_called.set(true);
         70
     };
     let guard = opened(&rt, &mut local);
-    let Ok(owner) = Owned::new_with(counts, &mut local) else {
+    let Ok(owner) = Owned::new_with(makes, &mut local) else {
         panic!(rt; "a slot is free")
     };
-    assert_eq!(rt; calls.get(), 1);
+    assert!(rt; is_called.replace(false));
     shows(&rt, &mut local, &guard, &owner, 70);
-    match Owned::new_with(counts, &mut local) {
+    match Owned::new_with(makes, &mut local) {
         Ok(_owner) => panic!(rt; "no slot is free"),
         Err((_back, refused)) => assert_eq!(rt; refused, Refused::NoSlot),
     }
-    assert_eq!(rt; calls.get(), 1);
+    assert!(rt; !is_called.get());
     retire(owner, &mut local);
     close(guard, &mut local);
     let receipts = vec![in rt.alloc(); ended(&rt, local)].expect(&rt, "there is memory");

@@ -1,5 +1,5 @@
 //! What the tests of items share: domains, participants, guards, and what becomes of an item.
-ghost use Rattle.std.specs.Prelude.{◌≡◌, MatchResult};
+ghost use Rattle.std.specs.Prelude.{◌≡◌, IfErr};
 ghost use Rattle.sdd_token.specs.Right.{home_of_table};
 ghost use Rattle.sdd_base.specs.Seat.{IsSeated};
 ghost use Rattle.sdd_base.specs.Guard.{reader_of};
@@ -53,7 +53,7 @@ fn close_of<T: Drop>(
     domain: Domain<T>,
     receipts: Vec<Receipt>,
 ) -> Result<Tally, (Domain<T>, Vec<Receipt>, Refused)>
-    ensures { MatchResult result (λ _. ⊤) (λ back. back.0 ≡ domain) }
+    ensures { IfErr result (λ back. back.0 ≡ domain) }
 {
     domain.close(receipts)
 }
