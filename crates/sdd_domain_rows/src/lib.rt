@@ -1,7 +1,15 @@
-//! Worked examples of domains, as tests: which epoch each guard of a participant shows, alone, beside another one and in threads; and what values do.
+//! Worked examples of domains, as tests: which epoch each guard of a participant shows, alone, beside another one and in threads; and what items do there.
 #![tactic(auto)]
 
 #[cfg(test)]
 mod domains;
 #[cfg(test)]
-mod values;
+mod drops;
+#[cfg(test)]
+mod items;
+#[cfg(test)]
+mod sharing;
+#[cfg(test)]
+mod steps;
+#[cfg(test)]
+mod threads;
