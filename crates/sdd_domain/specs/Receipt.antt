@@ -1,5 +1,5 @@
 -- What an ended participant made and reclaimed
-use Rattle.std.specs.Prelude.{◌≡◌, ℕ, zero, suc, ◌+◌, ◌-◌, ◌^◌, min, List, [], ◌∷◌, All, map, sum}
+use Rattle.std.specs.Prelude.{◌≡◌, ℕ, zero, suc, ◌+◌, ◌-◌, ◌^◌, min, List, [], ◌∷◌, map, sum}
 use Rattle.atomic_table.specs.Seated.{TableId}
 use Rattle.sdd_rule.specs.declared.View.{View}
 use Rattle.sdd_rule.specs.Epoch.{HasEnded}
@@ -9,10 +9,6 @@ use Rattle.sdd_store.specs.declared.tally.Tally.{Tally}
 pub record Receipt : Type 0 where
   pub home : TableId
   pub tally : Tally
-
--- each is of this domain
-abbrev pub AreFrom : TableId → List Receipt → Type 0
-AreFrom domain rs = All (λ (r : Receipt). r.home ≡ domain) rs
 
 -- what its token knows: it had a place, which has ended
 abbrev pub HasLeft : List View → Type 0

@@ -5,7 +5,7 @@ ghost use Rattle.sdd_stakes.specs.Shelf.{AreVacant};
 ghost use Rattle.sdd_homes.specs.Homes.{homes_for};
 ghost use Rattle.sdd_board.specs.Board.{sizes_of};
 ghost use Rattle.sdd_domain.specs.Shelf.{sizes_in, IsShelfOf};
-ghost use Rattle.sdd_domain.specs.Receipt.{capped, sum_of, with_reclaimed, AreFrom};
+ghost use Rattle.sdd_domain.specs.Receipt.{capped, sum_of, with_reclaimed};
 
 use crate::closing::{settled, take_all};
 use crate::receipt::{Receipt, count_reclaimed};
@@ -93,7 +93,7 @@ fn tally_of(receipts: &Vec<Receipt>) -> Tally
 }
 
 impl<T> Domain<T> {
-    ghost use Rattle.sdd_domain.specs.Domain.{home_of, limits_of};
+    ghost use Rattle.sdd_domain.specs.Domain.{limits_of};
 
     /// A domain without participants, at epoch 0. All memory is taken here: for its words, and for as many values as there are slots.
     ///
@@ -142,7 +142,6 @@ impl<T> Domain<T> {
     pub fn close(self, receipts: Vec<Receipt>) -> Result<Tally, (Domain<T>, Vec<Receipt>, Refused)>
     where
         T: Drop,
-        requires { AreFrom (home_of self) receipts.items }
         ensures { MatchResult result
             (λ tally. (waiting : ℕ) × (waiting ≤ (limits_of self).slots) × (tally ≡ with_reclaimed waiting (sum_of receipts.items)))
             (λ back. (back.0 ≡ self) × (back.1 ≡ receipts) × (back.2 ≡ Refused.OwnerOut)) }
