@@ -245,7 +245,8 @@ fn a_guard_shows_the_next_epoch_where_another_participant_raised_the_count(rt: H
     closed(&rt, domain, Vec::new(rt.alloc()));
 }
 
-/// With ample memory all are there. Under `rt try --test --fail-alloc N` one of them is refused, and takes no place.
+/// With ample memory all are there. Under `rt try --test --fail-alloc N` one of them is refused,
+/// and takes no place.
 #[test]
 fn only_want_of_memory_refuses(rt: HostRuntime) {
     match Domain::<u64>::new(rt.alloc(), ONE) {

@@ -48,7 +48,8 @@ fn makes_and_retires(rt: &impl Abort, local: &mut Local<'_, Counted>, alive: &Ar
     }
 }
 
-/// The first one is dropped by its participant, at the fourth opening. The second one was retired after the first change, and is dropped by the close.
+/// The first one is dropped by its participant, at the fourth opening. The second one was retired
+/// after the first change, and is dropped by the close.
 #[test]
 fn each_value_is_dropped_once(rt: HostRuntime) {
     let alive = Arc::new(rt.alloc(), ()).expect(&rt, "there is memory");

@@ -23,7 +23,8 @@ fn turn_without_slot(rt: &impl Abort, local: &mut Local<'_, u64>)
     close_and_scan(guard, local);
 }
 
-/// Once a guard is opened so many items were reclaimed, and something waits or not. Its close scans or doesn't.
+/// Once a guard is opened so many items were reclaimed, and something waits or not. Its close scans
+/// or doesn't.
 fn opening_has(
     rt: &impl Abort,
     local: &mut Local<'_, u64>,
@@ -63,7 +64,8 @@ fn a_slot_is_free_again_after_three_changes(rt: HostRuntime) {
     is_tally(&rt, closed(&rt, domain, receipts), 2, 1);
 }
 
-/// The openings that find another epoch are the first, the fourth and the fifth after the retirement.
+/// The openings that find another epoch are the first, the fourth and the fifth after the
+/// retirement.
 #[test]
 fn an_item_is_reclaimed_at_the_third_opening_that_finds_another_epoch(rt: HostRuntime) {
     let domain = new_domain::<u64>(&rt, ONE_SLOT);
@@ -110,7 +112,8 @@ fn where_no_slot_is_free_a_closure_comes_back_uncalled(rt: HostRuntime) {
     is_tally(&rt, closed(&rt, domain, receipts), 1, 0);
 }
 
-/// The inner guard keeps what was seen under it, after the item was retired and the outer guard closed.
+/// The inner guard keeps what was seen under it, after the item was retired and the outer guard
+/// closed.
 #[test]
 fn looks_under_nested_guards_show_one_value(rt: HostRuntime) {
     let domain = new_domain::<u64>(&rt, ONE_SLOT);

@@ -1,4 +1,5 @@
-//! Worked examples of domains, as tests: which epoch each guard of a participant shows, alone, beside another one and in threads; and what items do there.
+//! Worked examples of domains, as tests: which epoch each guard of a participant shows, alone,
+//! beside another one and in threads; and what items do there.
 #![tactic(auto)]
 
 #[cfg(test)]

@@ -10,7 +10,8 @@ use crate::steps::{
 use sdd_domain::Local;
 use std::process::Abort;
 
-/// An accelerated guard is opened and closed, after which the participant has made one item, and reclaimed so many.
+/// An accelerated guard is opened and closed, after which the participant has made one item, and
+/// reclaimed so many.
 fn turn_leaves(rt: &impl Abort, local: &mut Local<'_, u64>, reclaimed: u128)
     requires { IsSeated (seat_of local.old) }
     ensures { seat_of local.new ≡ seat_of local.old }
@@ -40,7 +41,8 @@ fn an_idle_participant_holds_nothing_back(rt: HostRuntime) {
     is_tally(&rt, closed(&rt, domain, receipts), 2, 1);
 }
 
-/// The count is raised once, and then stays. Once the guard is closed three openings more reclaim the item: the first of them finds no other epoch.
+/// The count is raised once, and then stays. Once the guard is closed three openings more reclaim
+/// the item: the first of them finds no other epoch.
 #[test]
 fn an_open_guard_keeps_what_was_seen_under_it(rt: HostRuntime) {
     let domain = new_domain::<u64>(&rt, TWO_AND_ONE_SLOT);
@@ -85,7 +87,8 @@ fn any_open_guard_keeps_what_is_retired(rt: HostRuntime) {
     is_tally(&rt, closed(&rt, domain, receipts), 1, 0);
 }
 
-/// The other participant raises the count, twice before the first opening. What a nested guard finds counts for nothing.
+/// The other participant raises the count, twice before the first opening. What a nested guard
+/// finds counts for nothing.
 #[test]
 fn only_outermost_openings_of_the_retiring_participant_count(rt: HostRuntime) {
     let domain = new_domain::<u64>(&rt, TWO_AND_ONE_SLOT);

@@ -1,12 +1,11 @@
 //! What the tests of items share: domains, participants, guards, and what becomes of an item.
 ghost use Rattle.std.specs.Prelude.{◌≡◌, IfErr};
-ghost use Rattle.sdd_token.specs.Right.{home_of_table};
 ghost use Rattle.sdd_base.specs.Seat.{IsSeated};
 ghost use Rattle.sdd_base.specs.Guard.{reader_of};
 ghost use Rattle.sdd_base.specs.Owned as owned;
-ghost use Rattle.sdd_domain.specs.Domain.{home_of, limits_of};
 ghost use Rattle.sdd_domain.specs.Items.{slots_home};
 ghost use Rattle.sdd_domain.specs.Space.{seat_of};
+ghost use Rattle.sdd_domain_rows.specs.Slots.{slots_in};
 
 use sdd_base::{Guard, Item, Limits, Owned};
 use sdd_core::Refused;
@@ -36,7 +35,7 @@ pub fn new_domain<T>(rt: &(impl Abort + AllocGlobal), limits: Limits) -> Domain<
 
 pub fn registered<'d, T>(rt: &impl Abort, domain: &'d Domain<T>) -> Local<'d, T>
     ensures seated { IsSeated (seat_of result) }
-    ensures home { slots_home result ≡ home_of_table (home_of domain.now) (limits_of domain.now).slots }
+    ensures home { slots_home result ≡ slots_in domain.now }
 {
     Local::register(domain).expect(rt, "a place is free")
 }
@@ -134,7 +133,8 @@ pub fn turns<T: Item<T> + Drop>(rt: &impl Abort, local: &mut Local<'_, T>, times
     }
 }
 
-/// Under the guard so many items were reclaimed by the participant, and whether something may wait with it.
+/// Under the guard so many items were reclaimed by the participant, and whether something may wait
+/// with it.
 pub fn has(rt: &impl Abort, local: &Local<'_, u64>, guard: &Guard, reclaimed: u128, waits: bool)
     requires { IsSeated (seat_of local.now) }
 {

@@ -1,11 +1,10 @@
 //! Items that several threads share.
 ghost use Rattle.std.specs.Prelude.{◌≡◌};
-ghost use Rattle.sdd_token.specs.Right.{home_of_table};
 ghost use Rattle.sdd_base.specs.Seat.{IsSeated};
 ghost use Rattle.sdd_base.specs.Owned as owned;
-ghost use Rattle.sdd_domain.specs.Domain.{home_of, limits_of};
 ghost use Rattle.sdd_domain.specs.Items.{slots_home};
 ghost use Rattle.sdd_domain.specs.Space.{seat_of};
+ghost use Rattle.sdd_domain_rows.specs.Slots.{slots_in};
 
 use crate::steps::{
     ONE_SLOT, close, close_and_scan, closed, ended, has_no_slot, is_tally, made, new_domain,
@@ -134,7 +133,7 @@ fn looks_often(rt: &impl Abort, local: &mut Local<'_, u64>, owner: &Owned<u64>, 
 
 /// What a reader's thread does: it registers, looks at an item of another participant, and ends.
 fn reads(rt: &impl Abort, domain: &Domain<u64>, owner: &Owned<u64>, value: u64) -> Receipt
-    requires { owned.slots_home owner.now ≡ home_of_table (home_of domain.now) (limits_of domain.now).slots }
+    requires { owned.slots_home owner.now ≡ slots_in domain.now }
 {
     let mut local = registered(rt, domain);
     looks_often(rt, &mut local, owner, value);
@@ -148,8 +147,8 @@ fn two_read(
     one: &Owned<u64>,
     other: &Owned<u64>,
 )
-    requires one { owned.slots_home one.now ≡ home_of_table (home_of domain.now) (limits_of domain.now).slots }
-    requires other { owned.slots_home other.now ≡ home_of_table (home_of domain.now) (limits_of domain.now).slots }
+    requires one { owned.slots_home one.now ≡ slots_in domain.now }
+    requires other { owned.slots_home other.now ≡ slots_in domain.now }
 {
     join(
         rt,
@@ -158,7 +157,8 @@ fn two_read(
     );
 }
 
-/// A writer makes two items, at which readers look, while another writer works on items of its own. Then it retires them.
+/// A writer makes two items, at which readers look, while another writer works on items of its own.
+/// Then it retires them.
 #[test]
 fn readers_look_at_what_writers_share(rt: HostRuntime) {
     let domain = new_domain::<u64>(&rt, FEW_SLOTS);
@@ -178,9 +178,10 @@ fn readers_look_at_what_writers_share(rt: HostRuntime) {
     assert_eq!(rt; tally.made, made_by_worker.saturating_add(2));
 }
 
-/// What the thread of a new owner does: it takes and retires the item, and makes what it can. While another guard is open it reclaims nothing.
+/// What the thread of a new owner does: it takes and retires the item, and makes what it can. While
+/// another guard is open it reclaims nothing.
 fn retires(rt: &impl Abort, domain: &Domain<u64>, given: &mut Option<Owned<u64>>) -> Receipt
-    requires { owned.IsOfSlots (home_of_table (home_of domain.now) (limits_of domain.now).slots) given.old }
+    requires { owned.IsOfSlots (slots_in domain.now) given.old }
 {
     let owner = given.take().expect(rt, "an owner was given");
     let mut local = registered(rt, domain);
@@ -198,7 +199,8 @@ fn stays(rt: &impl Abort, seen: &u64, value: u64) {
     }
 }
 
-/// A participant keeps its guard open, while another thread retires what was seen under it, and fills all other slots.
+/// A participant keeps its guard open, while another thread retires what was seen under it, and
+/// fills all other slots.
 #[test]
 fn what_another_thread_retires_is_seen_under_an_open_guard(rt: HostRuntime) {
     let domain = new_domain::<u64>(&rt, FEW_SLOTS);
