@@ -65,7 +65,7 @@ fn each_value_is_dropped_once(rt: HostRuntime) {
     assert_eq!(rt; Arc::strong_count(&alive), 2);
     let receipts = vec![in rt.alloc(); ended(&rt, local)].expect(&rt, "there is memory");
     assert_eq!(rt; Arc::strong_count(&alive), 2);
-    is_tally(&rt, closed(&rt, domain, receipts), 2, 1);
+    is_tally(&rt, closed(&rt, domain, receipts), 2, 2);
     assert_eq!(rt; Arc::strong_count(&alive), 1);
 }
 

@@ -61,7 +61,7 @@ fn a_slot_is_free_again_after_three_changes(rt: HostRuntime) {
     has_no_slot(&rt, &mut local, 10);
     retire(owner, &mut local);
     let receipts = vec![in rt.alloc(); ended(&rt, local)].expect(&rt, "there is memory");
-    is_tally(&rt, closed(&rt, domain, receipts), 2, 1);
+    is_tally(&rt, closed(&rt, domain, receipts), 2, 2);
 }
 
 /// The openings that find another epoch are the first, the fourth and the fifth after the
@@ -109,7 +109,7 @@ fn where_no_slot_is_free_a_closure_comes_back_uncalled(rt: HostRuntime) {
     retire(owner, &mut local);
     close(guard, &mut local);
     let receipts = vec![in rt.alloc(); ended(&rt, local)].expect(&rt, "there is memory");
-    is_tally(&rt, closed(&rt, domain, receipts), 1, 0);
+    is_tally(&rt, closed(&rt, domain, receipts), 1, 1);
 }
 
 /// The inner guard keeps what was seen under it, after the item was retired and the outer guard
@@ -131,5 +131,5 @@ fn looks_under_nested_guards_show_one_value(rt: HostRuntime) {
     assert!(rt; !third.is_null());
     close(inner, &mut local);
     let receipts = vec![in rt.alloc(); ended(&rt, local)].expect(&rt, "there is memory");
-    is_tally(&rt, closed(&rt, domain, receipts), 1, 0);
+    is_tally(&rt, closed(&rt, domain, receipts), 1, 1);
 }

@@ -38,7 +38,7 @@ fn an_idle_participant_holds_nothing_back(rt: HostRuntime) {
         &rt,
         "there is memory",
     );
-    is_tally(&rt, closed(&rt, domain, receipts), 2, 1);
+    is_tally(&rt, closed(&rt, domain, receipts), 2, 2);
 }
 
 /// The count is raised once, and then stays. Once the guard is closed three openings more reclaim
@@ -84,7 +84,7 @@ fn any_open_guard_keeps_what_is_retired(rt: HostRuntime) {
         &rt,
         "there is memory",
     );
-    is_tally(&rt, closed(&rt, domain, receipts), 1, 0);
+    is_tally(&rt, closed(&rt, domain, receipts), 1, 1);
 }
 
 /// The other participant raises the count, twice before the first opening. What a nested guard
@@ -153,5 +153,5 @@ fn a_domain_is_not_closed_while_an_item_has_an_owner(rt: HostRuntime) {
     receipts
         .push(ended(&rt, other))
         .expect(&rt, "there is memory");
-    is_tally(&rt, closed(&rt, domain, receipts), 1, 0);
+    is_tally(&rt, closed(&rt, domain, receipts), 1, 1);
 }

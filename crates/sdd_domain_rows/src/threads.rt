@@ -104,7 +104,7 @@ fn two_threads_make_and_retire_a_thousand_items_each(rt: HostRuntime) {
     let receipts = vec![in rt.alloc(); first, second].expect(&rt, "there is memory");
     let tally = closed(&rt, domain, receipts);
     assert_eq!(rt; tally.made, 2000);
-    assert!(rt; tally.reclaimed <= 2000);
+    assert_eq!(rt; tally.reclaimed, 2000);
 }
 
 /// Looks twice at an item under a guard of its own.
@@ -176,6 +176,7 @@ fn readers_look_at_what_writers_share(rt: HostRuntime) {
     let receipts = vec![in rt.alloc(); ended(&rt, writer), worked].expect(&rt, "there is memory");
     let tally = closed(&rt, domain, receipts);
     assert_eq!(rt; tally.made, made_by_worker.saturating_add(2));
+    assert_eq!(rt; tally.reclaimed, tally.made);
 }
 
 /// What the thread of a new owner does: it takes and retires the item, and makes what it can. While
@@ -220,5 +221,5 @@ fn what_another_thread_retires_is_seen_under_an_open_guard(rt: HostRuntime) {
     assert_eq!(rt; *seen, 7);
     close(guard, &mut local);
     let receipts = vec![in rt.alloc(); ended(&rt, local), other].expect(&rt, "there is memory");
-    is_tally(&rt, closed(&rt, domain, receipts), 4, 0);
+    is_tally(&rt, closed(&rt, domain, receipts), 4, 4);
 }
