@@ -1,19 +1,32 @@
 -- The names of the operations
 use Rattle.std.specs.Prelude.{ℕ, List, codes}
 use Rattle.sdd_bench.specs.declared.operation.Guarding.TheVariants.{Outermost, Nested, Accelerated}
+use Rattle.sdd_bench.specs.declared.operation.Task.TheVariants.{Guards, Items, HalfFull, Looks, Reads}
 use Rattle.sdd_bench.specs.declared.operation.Operation.{Operation}
-use Rattle.sdd_bench.specs.declared.operation.Operation.TheVariants.{World, Local, Item, Job, Read, Load, Share, Raw, Swap}
+use Rattle.sdd_bench.specs.declared.operation.Operation.TheVariants.{World, Local, Beside, Item, Job, Read, Look, Load, Share, Raw, Swap}
 
 abbrev pub name_of : Operation → List ℕ
 name_of (World Outermost) = codes "world-outermost"
 name_of (World Nested) = codes "world-nested"
 name_of (World Accelerated) = codes "world-accelerated"
-name_of (Local Outermost) = codes "local-outermost"
-name_of (Local Nested) = codes "local-nested"
-name_of (Local Accelerated) = codes "local-accelerated"
+name_of (Local (Guards Outermost)) = codes "local-outermost"
+name_of (Local (Guards Nested)) = codes "local-nested"
+name_of (Local (Guards Accelerated)) = codes "local-accelerated"
+name_of (Local Items) = codes "local-item"
+name_of (Local HalfFull) = codes "local-half-full"
+name_of (Local Looks) = codes "local-look"
+name_of (Local Reads) = codes "local-read"
+name_of (Beside (Guards Outermost)) = codes "beside-outermost"
+name_of (Beside (Guards Nested)) = codes "beside-nested"
+name_of (Beside (Guards Accelerated)) = codes "beside-accelerated"
+name_of (Beside Items) = codes "beside-item"
+name_of (Beside HalfFull) = codes "beside-half-full"
+name_of (Beside Looks) = codes "beside-look"
+name_of (Beside Reads) = codes "beside-read"
 name_of Item = codes "world-item"
 name_of Job = codes "world-job"
 name_of Read = codes "world-read"
+name_of Look = codes "world-look"
 name_of Load = codes "world-load"
 name_of Share = codes "world-share"
 name_of Raw = codes "world-raw"

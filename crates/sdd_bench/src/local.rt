@@ -1,8 +1,9 @@
-//! The operations by the only participant of a domain.
+//! The operations by a participant of a domain.
 ghost use Rattle.std.specs.Prelude.{◌≡◌, Err};
 ghost use Rattle.sdd_base.specs.Limits.{AreInRange};
+ghost use Rattle.sdd_domain.specs.Space.{seat_of};
 
-use crate::operation::Guarding;
+use crate::operation::Task;
 use crate::turns;
 use sdd_base::Limits;
 use sdd_core::Refused;
@@ -10,16 +11,25 @@ use sdd_domain::{Domain, Local};
 use sdd_store::Tally;
 use std::alloc::Global;
 
-/// Does something with guards that often, and answers the participant's tally.
+/// Half of the slots.
+const HALF: u64 = 512;
+
+/// Does the task that often, and answers the participant's tally, and the sum of what was seen. Where `beside` is set there is a participant more, which does nothing.
 ///
 /// No clause says that tally, or when a guard is refused: the loops are written for every space, and a space does not tell a participant's own tally.
-pub fn run(alloc: Global, limits: Limits, guarding: Guarding, turns: u64) -> Result<Tally, Refused>
+pub fn run(
+    alloc: Global,
+    limits: Limits,
+    beside: bool,
+    task: Task,
+    turns: u64,
+) -> Result<(Tally, u64), Refused>
     ensures limits { ¬ (AreInRange limits) → result ≡ Err Refused.BadLimits }
 {
     let domain: Domain<u64> = Domain::new(alloc, limits)?;
-    let tally = in_domain(&domain, guarding, turns);
+    let done = in_domain(&domain, beside, task, turns);
     match domain.close(Vec::new(alloc)) {
-        Ok(_nobody) => tally,
+        Ok(_nobody) => done,
         Err((domain, _receipts, refused)) => {
             domain.leak();
             Err(refused)
@@ -27,14 +37,42 @@ pub fn run(alloc: Global, limits: Limits, guarding: Guarding, turns: u64) -> Res
     }
 }
 
-fn in_domain(domain: &Domain<u64>, guarding: Guarding, turns: u64) -> Result<Tally, Refused> {
-    let mut local = Local::register(domain)?;
-    let done = turns::guards::<Local<'_, u64>>(&mut local, guarding, turns);
-    match local.end() {
-        Ok(receipt) => {
-            done?;
-            Ok(receipt.tally())
-        }
+fn in_domain(
+    domain: &Domain<u64>,
+    beside: bool,
+    task: Task,
+    turns: u64,
+) -> Result<(Tally, u64), Refused> {
+    if !beside {
+        return by_one(domain, task, turns);
+    }
+    let idle = Local::register(domain)?;
+    let done = by_one(domain, task, turns);
+    match idle.end() {
+        Ok(_receipt) => done,
         Err(_) => unreachable!(),
     }
+}
+
+fn by_one(domain: &Domain<u64>, task: Task, turns: u64) -> Result<(Tally, u64), Refused> {
+    let mut local = Local::register(domain)?;
+    let done = worked(&mut local, task, turns);
+    match local.end() {
+        Ok(receipt) => Ok((receipt.tally(), done?)),
+        Err(_) => unreachable!(),
+    }
+}
+
+#[inline(always)]
+fn worked(local: &mut Local<'_, u64>, task: Task, turns: u64) -> Result<u64, Refused>
+    ensures { (seat_of local.new ≡ seat_of local.old) × (local.new.own.guards ≡ local.old.own.guards) }
+{
+    match task {
+        Task::Guards(guarding) => turns::guards::<Local<'_, u64>>(local, guarding, turns)?,
+        Task::Items => turns::items::<Local<'_, u64>>(local, turns)?,
+        Task::HalfFull => turns::items_beside::<Local<'_, u64>>(local, HALF, turns)?,
+        Task::Looks => return turns::sights::<Local<'_, u64>>(local, false, turns),
+        Task::Reads => return turns::sights::<Local<'_, u64>>(local, true, turns),
+    }
+    Ok(0)
 }

@@ -29,6 +29,15 @@ const LIMITS: Limits = Limits {
     tries: 1,
 };
 
+const FOR_TWO: Limits = Limits {
+    participants: 2,
+    slots: 1024,
+    cells: 2,
+    jobs: 1024,
+    nesting: 2,
+    tries: 1,
+};
+
 fn main(rt: HostRuntime) -> io::Result<ExitCode> {
     let words = env::args(&rt)?.skip(1).collect::<Vec<String>>(rt.alloc())?;
     let Some((operation, turns)) = asked(words.as_slice()) else {
@@ -66,10 +75,12 @@ fn done(alloc: Global, operation: Operation, turns: u64) -> Result<(Tally, u64),
         Operation::Item => world::run(alloc, LIMITS, Work::Items, turns),
         Operation::Job => world::run(alloc, LIMITS, Work::Jobs, turns),
         Operation::Read => world::run(alloc, LIMITS, Work::Reads, turns),
+        Operation::Look => world::run(alloc, LIMITS, Work::Looks, turns),
         Operation::Load => world::run(alloc, LIMITS, Work::Loads, turns),
         Operation::Share => world::run(alloc, LIMITS, Work::Shares, turns),
         Operation::Raw => world::run(alloc, LIMITS, Work::Raws, turns),
         Operation::Swap => world::run(alloc, LIMITS, Work::Swaps, turns),
-        Operation::Local(guarding) => Ok((local::run(alloc, LIMITS, guarding, turns)?, 0)),
+        Operation::Local(task) => local::run(alloc, LIMITS, false, task, turns),
+        Operation::Beside(task) => local::run(alloc, FOR_TWO, true, task, turns),
     }
 }

@@ -13,19 +13,37 @@ pub enum Guarding {
     Accelerated,
 }
 
+/// What a participant of a domain does in each turn.
+#[derive(Clone, Copy, Debug, PartialEq, Eq)]
+pub enum Task {
+    Guards(Guarding),
+    /// An item is made and retired under a guard, and what is due is reclaimed.
+    Items,
+    /// The same while half of the slots are taken.
+    HalfFull,
+    /// A look at an owner's item under a guard.
+    Looks,
+    /// A read through the reference that such a look gave.
+    Reads,
+}
+
 /// What is done in each turn, and where.
 #[derive(Clone, Copy, Debug, PartialEq, Eq)]
 pub enum Operation {
     /// In a world.
     World(Guarding),
-    /// By a participant of a domain.
-    Local(Guarding),
+    /// By the only participant of a domain.
+    Local(Task),
+    /// By a participant of a domain, beside one that does nothing.
+    Beside(Task),
     /// In a world, an item is made and retired under a guard, and what is due is reclaimed.
     Item,
     /// In a world, a job is deferred under a guard, and what is due runs.
     Job,
     /// In a world, an owner looks at its item.
     Read,
+    /// In a world, a look at an owner's item under a guard.
+    Look,
     /// In a world, a cell is loaded from under a guard, and the pointer looked through.
     Load,
     /// In a world, a shared owner is cloned, and the clone released.
@@ -47,13 +65,25 @@ pub fn named(word: &str) -> Option<Operation>
         "world-item" => Some(Operation::Item),
         "world-job" => Some(Operation::Job),
         "world-read" => Some(Operation::Read),
+        "world-look" => Some(Operation::Look),
         "world-load" => Some(Operation::Load),
         "world-share" => Some(Operation::Share),
         "world-raw" => Some(Operation::Raw),
         "world-swap" => Some(Operation::Swap),
-        "local-outermost" => Some(Operation::Local(Guarding::Outermost)),
-        "local-nested" => Some(Operation::Local(Guarding::Nested)),
-        "local-accelerated" => Some(Operation::Local(Guarding::Accelerated)),
+        "local-outermost" => Some(Operation::Local(Task::Guards(Guarding::Outermost))),
+        "local-nested" => Some(Operation::Local(Task::Guards(Guarding::Nested))),
+        "local-accelerated" => Some(Operation::Local(Task::Guards(Guarding::Accelerated))),
+        "local-item" => Some(Operation::Local(Task::Items)),
+        "local-half-full" => Some(Operation::Local(Task::HalfFull)),
+        "local-look" => Some(Operation::Local(Task::Looks)),
+        "local-read" => Some(Operation::Local(Task::Reads)),
+        "beside-outermost" => Some(Operation::Beside(Task::Guards(Guarding::Outermost))),
+        "beside-nested" => Some(Operation::Beside(Task::Guards(Guarding::Nested))),
+        "beside-accelerated" => Some(Operation::Beside(Task::Guards(Guarding::Accelerated))),
+        "beside-item" => Some(Operation::Beside(Task::Items)),
+        "beside-half-full" => Some(Operation::Beside(Task::HalfFull)),
+        "beside-look" => Some(Operation::Beside(Task::Looks)),
+        "beside-read" => Some(Operation::Beside(Task::Reads)),
         _ => None,
     }
 }

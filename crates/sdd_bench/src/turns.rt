@@ -2,6 +2,7 @@
 ghost use Rattle.std.specs.Prelude.{◌≡◌, Some};
 ghost use Rattle.sdd_store.specs.declared.standing.Standing.TheVariants.{Shared as shared_by};
 ghost use Rattle.sdd_base.specs.Seat.{IsExact, IsSeated};
+ghost use Rattle.sdd_base.specs.Guard.{reader_of};
 ghost use Rattle.sdd_base.specs.World.{standing_at};
 ghost use Rattle.sdd_base.specs.Owned.{slot_of, slots_home};
 ghost use Rattle.sdd_base.specs.Shared as shared;
@@ -142,6 +143,152 @@ fn reads<L: Look<u64>>(space: &L, one: &Owned<u64>, other: &Owned<u64>, turns: u
             *other.get(space)
         };
         sum = sum.wrapping_add(value);
+    }
+    sum
+}
+
+/// Makes and retires an item under a guard that often, while so many others have owners.
+///
+/// For a space that isn't exact: for such a one `Leaves` says nothing of what is out.
+pub fn items_beside<S: Guards<u64> + Items<u64>>(
+    space: &mut S,
+    others: u64,
+    turns: u64,
+) -> Result<(), Refused>
+    requires seated { IsSeated (S.seat space.old) }
+    requires inexact { ¬ (IsExact (S.seat space.old)) }
+    ensures { Leaves (S.seat space.old) (S.own space.old) (S.world space.old) (S.seat space.new) (S.own space.new) (S.world space.new) }
+{
+    if others == 0 {
+        return items(space, turns);
+    }
+    match Owned::new(others, space) {
+        Ok(owner) => {
+            let done = items_beside(space, others - 1, turns);
+            owner.retire(space);
+            done
+        }
+        Err((_value, refused)) => Err(refused),
+    }
+}
+
+/// Makes two items, looks at them that often under a guard, and retires both. Where `once` is set each is looked at once, and then read.
+#[inline(always)]
+pub fn sights<S: Guards<u64> + Items<u64>>(
+    space: &mut S,
+    once: bool,
+    turns: u64,
+) -> Result<u64, Refused>
+    requires { IsSeated (S.seat space.old) }
+    ensures { Leaves (S.seat space.old) (S.own space.old) (S.world space.old) (S.seat space.new) (S.own space.new) (S.world space.new) }
+{
+    let guard = Guard::new(space)?;
+    let sum = sights_under(space, &guard, once, turns);
+    guard.close(space);
+    sum
+}
+
+#[inline(always)]
+fn sights_under<S: Items<u64>>(
+    space: &mut S,
+    guard: &Guard,
+    once: bool,
+    turns: u64,
+) -> Result<u64, Refused>
+    requires seated { IsSeated (S.seat space.old) }
+    requires reader { reader_of guard.now ≡ (S.seat space.old).reader }
+    ensures { Leaves (S.seat space.old) (S.own space.old) (S.world space.old) (S.seat space.new) (S.own space.new) (S.world space.new) }
+{
+    let one = match Owned::new(1, space) {
+        Ok(one) => one,
+        Err((_value, refused)) => return Err(refused),
+    };
+    match Owned::new(3, space) {
+        Ok(other) => {
+            let sum = sum_found(space, &one, &other, guard, once, turns);
+            one.retire(space);
+            other.retire(space);
+            Ok(sum)
+        }
+        Err((_value, refused)) => {
+            one.retire(space);
+            Err(refused)
+        }
+    }
+}
+
+#[inline(always)]
+fn sum_found<S: Items<u64>>(
+    space: &mut S,
+    one: &Owned<u64>,
+    other: &Owned<u64>,
+    guard: &Guard,
+    once: bool,
+    turns: u64,
+) -> u64
+    requires seated { IsSeated (S.seat space.old) }
+    requires one { slots_home one.now ≡ (S.seat space.old).home.slots }
+    requires other { slots_home other.now ≡ (S.seat space.old).home.slots }
+    requires reader { reader_of guard.now ≡ (S.seat space.old).reader }
+    ensures seat { S.seat space.new ≡ S.seat space.old }
+    ensures own { S.own space.new ≡ S.own space.old }
+    ensures exact { IsExact (S.seat space.old) → S.world space.new ≡ S.world space.old }
+{
+    if once {
+        sum_read(space, one, other, guard, turns)
+    } else {
+        sum_seen(space, one, other, guard, turns)
+    }
+}
+
+/// The sum of what was seen at two owners in turn. What was found so far decides which one is looked at.
+#[inline(always)]
+fn sum_seen<S: Items<u64>>(
+    space: &mut S,
+    one: &Owned<u64>,
+    other: &Owned<u64>,
+    guard: &Guard,
+    turns: u64,
+) -> u64
+    requires seated { IsSeated (S.seat space.old) }
+    requires one { slots_home one.now ≡ (S.seat space.old).home.slots }
+    requires other { slots_home other.now ≡ (S.seat space.old).home.slots }
+    requires reader { reader_of guard.now ≡ (S.seat space.old).reader }
+    ensures seat { S.seat space.new ≡ S.seat space.old }
+    ensures own { S.own space.new ≡ S.own space.old }
+    ensures exact { IsExact (S.seat space.old) → S.world space.new ≡ S.world space.old }
+{
+    let mut sum = 0u64;
+    for _turn in 0..turns {
+        let owner = if sum % 2 == 0 { one } else { other };
+        sum = sum.wrapping_add(*owner.get_guarded_ref(guard, space));
+    }
+    sum
+}
+
+/// The same by references that were got once.
+#[inline(always)]
+fn sum_read<S: Items<u64>>(
+    space: &mut S,
+    one: &Owned<u64>,
+    other: &Owned<u64>,
+    guard: &Guard,
+    turns: u64,
+) -> u64
+    requires seated { IsSeated (S.seat space.old) }
+    requires one { slots_home one.now ≡ (S.seat space.old).home.slots }
+    requires other { slots_home other.now ≡ (S.seat space.old).home.slots }
+    requires reader { reader_of guard.now ≡ (S.seat space.old).reader }
+    ensures seat { S.seat space.new ≡ S.seat space.old }
+    ensures own { S.own space.new ≡ S.own space.old }
+    ensures exact { IsExact (S.seat space.old) → S.world space.new ≡ S.world space.old }
+{
+    let one = one.get_guarded_ref(guard, space);
+    let other = other.get_guarded_ref(guard, space);
+    let mut sum = 0u64;
+    for _turn in 0..turns {
+        let value = if sum % 2 == 0 { one } else { other };
+        sum = sum.wrapping_add(*value);
     }
     sum
 }

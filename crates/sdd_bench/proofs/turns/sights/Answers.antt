@@ -1,0 +1,8 @@
+use Rattle.sdd_bench.proofs.Leaving.{under-guard}
+use Rattle.sdd_bench.proofs.turns.sights.Goals as goal
+
+pub returns : goal.returns
+returns g c =
+    let opening = c.in_ok-guard.ensures in let closing = c.close.ensures in
+    under-guard _ _ _ _ _ _ _ _ _ _ _ _ opening.seat opening.own.1 (λ exact. (opening.exact exact).1)
+    c.sights_under-sum.ensures closing.seat closing.own closing.exact
