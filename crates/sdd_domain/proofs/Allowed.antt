@@ -224,8 +224,11 @@ module _ (γ : ℕ) (sizes : Sizes) (slots id : ℕ) (me : Mine) where
           a.1,
           a.2,
           a.3,
-          (λ other g e. subst (λ (t : ℕ × Gv). Watches t.0 t.1 me (a.0, carried_after me.1 a.1)) (λ d. (owner_slot slot other value g e d, owner_value slot
-              other value g e d)) a.4),
+          (λ other g e. subst (λ (t : ℕ × Gv). Watches t.0 t.1 me (a.0, carried_after me.1 a.1)) (λ d. (
+            owner_slot slot other value g e d,
+            owner_value slot
+                other value g e d,
+          )) a.4),
         ))
 
     -- of a slot

@@ -12,8 +12,8 @@ ghost use Rattle.sdd_domain.specs.Receipt.{with_reclaimed};
 ghost use Rattle.sdd_domain.specs.Posed.{IsPosed};
 
 use crate::board::{Board, Token};
-use crate::receipt::count_reclaimed;
 use crate::known::Known;
+use crate::receipt::count_reclaimed;
 use crate::steps;
 use crate::values::take_value;
 use sdd_stakes::Shelf;

@@ -32,13 +32,7 @@ impl<'d, T> Local<'d, T> {
         let slots = self.domain.limits.slots;
         let tries = self.domain.limits.tries;
         let board = &self.domain.board;
-        match claim_free(
-            board,
-            &mut self.token,
-            &mut self.known,
-            slots as u32,
-            tries,
-        ) {
+        match claim_free(board, &mut self.token, &mut self.known, slots as u32, tries) {
             Ok(slot) => {
                 let owner = put_value(board, &self.domain.shelf, &mut self.token, slot, value);
                 self.tally.count_made();
@@ -65,13 +59,7 @@ impl<'d, T> Local<'d, T> {
         let slots = self.domain.limits.slots;
         let tries = self.domain.limits.tries;
         let board = &self.domain.board;
-        match claim_free(
-            board,
-            &mut self.token,
-            &mut self.known,
-            slots as u32,
-            tries,
-        ) {
+        match claim_free(board, &mut self.token, &mut self.known, slots as u32, tries) {
             Ok(slot) => {
                 let value = make();
                 let owner = put_value(board, &self.domain.shelf, &mut self.token, slot, value);
