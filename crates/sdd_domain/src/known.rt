@@ -1,4 +1,4 @@
-ghost use Rattle.std.specs.Prelude.{◌≡◌, ◌<◌, ◌≤◌, All, IfOk, IfSome};
+ghost use Rattle.std.specs.Prelude.{◌≡◌, ◌↔◌, ◌+◌, ◌<◌, ◌≤◌, [], ◌∷◌, ◌++◌, length, option_to_list, All, IsSome, IfOk, IfSome, vec_capacity};
 
 use std::alloc::{AllocError, Global};
 
@@ -14,7 +14,9 @@ pub struct Known {
 impl Known {
     /// One that has given none back. Memory for all slots is taken here, and none later.
     pub fn new(alloc: Global, slots: u32) -> Result<Known, AllocError>
-        ensures { IfOk result (λ known. known.slots ≡ slots) }
+        ensures slots { IfOk result (λ known. known.slots ≡ slots) }
+        ensures first { IfOk result (λ known. (known.given_back.items ≡ []) × (known.next ≡ 0)) }
+        ensures room { IfOk result (λ known. slots ≤ vec_capacity known.given_back) }
     {
         Ok(Known {
             given_back: Vec::with_capacity(alloc, slots as usize)?,
@@ -24,7 +26,9 @@ impl Known {
     }
 
     /// How many it remembers.
-    pub fn len(&self) -> usize {
+    pub fn len(&self) -> usize
+        ensures { result ≡ length self.now.given_back.items }
+    {
         self.given_back.len()
     }
 
@@ -38,7 +42,9 @@ impl Known {
     /// A slot was found: the next walk begins behind it.
     pub fn find(&mut self, slot: u32)
         requires { slot < self.old.slots }
-        ensures { self.new.slots ≡ self.old.slots }
+        ensures slots { self.new.slots ≡ self.old.slots }
+        ensures next { self.new.next ≡ slot + 1 }
+        ensures given_back { self.new.given_back ≡ self.old.given_back }
     {
         self.next = slot + 1;
     }
@@ -47,6 +53,10 @@ impl Known {
     pub fn pop(&mut self) -> Option<u32>
         ensures inside { IfSome result (λ slot. slot < self.old.slots) }
         ensures slots { self.new.slots ≡ self.old.slots }
+        ensures next { self.new.next ≡ self.old.next }
+        ensures last { self.old.given_back.items ≡ self.new.given_back.items ++ option_to_list result }
+        ensures some { IsSome result ↔ (0 < length self.old.given_back.items) }
+        ensures room { vec_capacity self.new.given_back ≡ vec_capacity self.old.given_back }
     {
         self.given_back.pop()
     }
@@ -54,7 +64,12 @@ impl Known {
     /// Remembers a slot that was given back, as long as there is room.
     pub fn remember(&mut self, slot: u32)
         requires { slot < self.old.slots }
-        ensures { self.new.slots ≡ self.old.slots }
+        ensures slots { self.new.slots ≡ self.old.slots }
+        ensures next { self.new.next ≡ self.old.next }
+        ensures remembered { length self.old.given_back.items < vec_capacity self.old.given_back
+            → self.new.given_back.items ≡ self.old.given_back.items ++ slot ∷ [] }
+        ensures full { ¬ (length self.old.given_back.items < vec_capacity self.old.given_back) → self.new.given_back ≡ self.old.given_back }
+        ensures room { vec_capacity self.new.given_back ≡ vec_capacity self.old.given_back }
     {
         if self.given_back.len() < self.given_back.capacity() {
             self.given_back.push_reserved(slot);

@@ -31,7 +31,7 @@ loop-what-preserved g c = let n : ℕ = slots_of c.args.board.now in let i : ℕ
         going = subst (λ (z : Seat Stake View). Going n first all (drop (i + 1) all) z.me.0) (sym w.token-is)
             (going_on n first all (drop (i + 1) all) w.in-Item.slot v w.take_value.new.token.me.0
             (going_at n first all i w.in-Item.slot v inv.going c.loop-what-test.true w.in-Item.is) e.3);
-        slots = ap (λ (k : Known). k.slots) w.known-is ∙ (w.remember.ensures ∙ inv.slots);
+        slots = ap (λ (k : Known). k.slots) w.known-is ∙ (w.remember.ensures.slots ∙ inv.slots);
       }
       | in_default w ↦ let item = going_item n first all i v inv.going c.loop-what-test.true in absurd (w.in_default.not-Item item.0 item.1)
     ]
