@@ -128,7 +128,7 @@ fn looks_under_nested_guards_show_one_value(rt: HostRuntime) {
     assert_eq!(rt; *first, 7);
     close_and_scan(outer, &mut local);
     assert_eq!(rt; *second, 7);
-    assert!(rt; !third.is_null());
+    assert!(rt; third.as_ref(&local) == Some(&7));
     close(inner, &mut local);
     let receipts = vec![in rt.alloc(); ended(&rt, local)].expect(&rt, "there is memory");
     is_tally(&rt, closed(&rt, domain, receipts), 1, 1);

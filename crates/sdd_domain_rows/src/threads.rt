@@ -81,30 +81,35 @@ fn four(rt: &(impl Abort + Threads + Sync), domain: &Domain<u64>) {
     join(rt, || two(rt, domain), || two(rt, domain));
 }
 
+/// Many rounds, since few of them have two threads exchange a word at one moment.
 #[test]
 fn eight_threads_share_four_slots(rt: HostRuntime) {
-    let domain = new_domain::<u64>(&rt, FEW_SLOTS);
-    join(&rt, || four(&rt, &domain), || four(&rt, &domain));
-    let local = registered(&rt, &domain);
-    ended(&rt, local);
-    closed(&rt, domain, Vec::new(rt.alloc()));
+    for _ in 0..50 {
+        let domain = new_domain::<u64>(&rt, FEW_SLOTS);
+        join(&rt, || four(&rt, &domain), || four(&rt, &domain));
+        let local = registered(&rt, &domain);
+        ended(&rt, local);
+        closed(&rt, domain, Vec::new(rt.alloc()));
+    }
 }
 
-/// No thousand of them is refused, since there are more slots than items.
+/// None of them is refused, since there are more slots than items.
 #[test]
 fn two_threads_make_and_retire_a_thousand_items_each(rt: HostRuntime) {
-    let domain = new_domain::<u64>(&rt, MANY_SLOTS);
-    let (first, second) = join(
-        &rt,
-        || works(&rt, &domain, 1000),
-        || works(&rt, &domain, 1000),
-    );
-    assert_eq!(rt; first.tally().made, 1000);
-    assert_eq!(rt; second.tally().made, 1000);
-    let receipts = vec![in rt.alloc(); first, second].expect(&rt, "there is memory");
-    let tally = closed(&rt, domain, receipts);
-    assert_eq!(rt; tally.made, 2000);
-    assert_eq!(rt; tally.reclaimed, 2000);
+    for _ in 0..50 {
+        let domain = new_domain::<u64>(&rt, MANY_SLOTS);
+        let (first, second) = join(
+            &rt,
+            || works(&rt, &domain, 1000),
+            || works(&rt, &domain, 1000),
+        );
+        assert_eq!(rt; first.tally().made, 1000);
+        assert_eq!(rt; second.tally().made, 1000);
+        let receipts = vec![in rt.alloc(); first, second].expect(&rt, "there is memory");
+        let tally = closed(&rt, domain, receipts);
+        assert_eq!(rt; tally.made, 2000);
+        assert_eq!(rt; tally.reclaimed, 2000);
+    }
 }
 
 /// Looks twice at an item under a guard of its own.
