@@ -1,6 +1,7 @@
 //! The operations by a participant of a domain.
 ghost use Rattle.std.specs.Prelude.{◌≡◌, Err};
 ghost use Rattle.sdd_base.specs.Limits.{AreInRange};
+ghost use Rattle.sdd_base.specs.Seat.{IsSeated};
 ghost use Rattle.sdd_domain.specs.Space.{seat_of};
 
 use crate::operation::Task;
@@ -65,6 +66,7 @@ fn by_one(domain: &Domain<u64>, task: Task, turns: u64) -> Result<(Tally, u64), 
 
 #[inline(always)]
 fn worked(local: &mut Local<'_, u64>, task: Task, turns: u64) -> Result<u64, Refused>
+    requires { IsSeated (seat_of local.old) }
     ensures { (seat_of local.new ≡ seat_of local.old) × (local.new.own.guards ≡ local.old.own.guards) }
 {
     match task {
