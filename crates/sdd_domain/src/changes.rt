@@ -74,7 +74,8 @@ fn change<T: Drop>(
     ensures bag { (bag.new.items ≡ []) × (own.old.bags.room ≤ vec_capacity bag.new) }
 {
     own.found = count;
-    if own.countdown == 128 {
+    if own.bags.is_empty() {
+        own.countdown = 128;
         return;
     }
     own.bags.rotate(bag);
