@@ -1,9 +1,9 @@
 //! Laws of every space, as functions that callers can cite by calling them.
-ghost use Rattle.std.specs.Prelude.{◌≡◌, ◌⊎◌, IfOk, IsTrue};
+ghost use Rattle.std.specs.Prelude.{◌≡◌, ◌⊎◌, IfErr, IfOk, IsTrue};
 ghost use Rattle.sdd_core.specs.Epoch.{epoch_after};
 ghost use Rattle.sdd_base.specs.Guard.{reader_of};
 ghost use Rattle.sdd_base.specs.Holding.{AreOf};
-ghost use Rattle.sdd_base.specs.Seat.{IsSeated, IsExact};
+ghost use Rattle.sdd_base.specs.Seat.{IsSeated, IsExact, IsLone};
 ghost use Rattle.sdd_base.specs.Known.{KnowsOn};
 ghost use Rattle.sdd_base.specs.Owned.{right_of, slot_of, slots_home};
 ghost use Rattle.sdd_base.specs.Ptr.{KeepsShown};
@@ -48,7 +48,7 @@ pub fn comes_back<T: Item<T>, S: RawItems<T>>(owner: Owned<T>, s: &mut S) -> Own
 
 /// An item is made, and its owner looks at it under the guard: it has the value that it was made with, whatever other participants do meanwhile.
 ///
-/// `NoSlot` where none is free; the value comes back.
+/// `NoSlot` or `Contended` where `Owned::new` is refused so; the value comes back.
 pub fn shows_what_was_made<'g, T: Item<T>, S: Items<T>>(
     value: T,
     guard: &'g Guard,
@@ -63,6 +63,8 @@ pub fn shows_what_was_made<'g, T: Item<T>, S: Items<T>>(
     ensures home { IfOk result (λ made. slots_home made.0 ≡ (S.seat s.old).home.slots) }
     ensures value { IfOk result (λ made. S.owns_value s.new (right_of made.0) value) }
     ensures seen { IfOk result (λ made. made.1.now ≡ value) }
+    ensures back { IfErr result (λ e. (e.0 ≡ value) × ((e.1 ≡ Refused.NoSlot) ⊎ (e.1 ≡ Refused.Contended))) }
+    ensures lone { IsLone (S.seat s.old) → IfErr result (λ e. (e.1 ≡ Refused.NoSlot) × S.is_used_up s.old) }
     ensures keeps { KeepsShown (S.shows s.old) (S.shows s.new) }
 {
     let owner = Owned::new(value, s)?;

@@ -95,10 +95,9 @@ fn walk(
     Ok(None)
 }
 
-/// Claims a free slot: one that was given back, or else the first one of a walk over all slots, once round. All stakes in it are out then.
-///
-/// `NoSlot` where none was found free; `Contended` where so many exchanges were lost.
-pub fn claim_free(
+/// Tries the slots that were given back, and then all slots in a walk, once round. So many exchanges may be lost.
+#[inline(never)]
+fn search(
     board: &Board,
     token: &mut Token,
     known: &mut Known,
@@ -131,4 +130,36 @@ pub fn claim_free(
         return Ok(slot);
     }
     Err(Refused::NoSlot)
+}
+
+/// Claims a free slot: one that was given back, or else the first one of a walk over all slots, once round. All stakes in it are out then.
+///
+/// `NoSlot` where none was found free; `Contended` where so many exchanges were lost.
+#[inline]
+pub fn claim_free(
+    board: &Board,
+    token: &mut Token,
+    known: &mut Known,
+    slots: u32,
+    tries: u64,
+) -> Result<u32, Refused>
+    requires home { token.old.table_id ≡ id_of board.now }
+    requires knows { Knows board.now token.old }
+    requires rests { (view token.old).stakes.moves ≡ None }
+    requires slots { (known.old.slots ≡ slots_of board.now) × (slots ≡ slots_of board.now) }
+    requires place { HasPlace (epoch token.old) }
+    requires tries { 0 < tries }
+    ensures tried { MatchResult result
+        (λ slot. Gains slot token.old token.new)
+        (λ e. ((e ≡ Refused.NoSlot) × Misses (λ k. k < slots_of board.now) token.old token.new)
+        ⊎ ((e ≡ Refused.Contended) × Loses token.old token.new)) }
+    ensures slots { known.new.slots ≡ known.old.slots }
+{
+    let mut left = tries;
+    if let Some(slot) = known.pop()
+        && attempt(board, token, slot, &mut left)?
+    {
+        return Ok(slot);
+    }
+    search(board, token, known, slots, left)
 }

@@ -128,10 +128,16 @@ impl<T: Item<T> + Drop> Guards<T> for Local<'_, T> {
 
 /// Values that hold owners or cells aren't taken yet: a participant drops what it reclaims.
 impl<T: Plain<T> + Drop> Items<T> for Local<'_, T> {
+    ghost use Rattle.sdd_domain.specs.Local.{IsUsedUp};
     ghost use Rattle.sdd_domain.specs.Space.{never_exact};
+
+    ghost is_used_up = { λ l. IsUsedUp l };
+
+    ghost used_up_is_full = { λ l exact. absurd (never_exact l exact) };
 
     ghost owned_is_shown = { λ l exact _ _. absurd (never_exact l exact) };
 
+    #[inline]
     fn make(&mut self, value: T, kind: Kind) -> Result<Right, (T, Refused)> {
         Local::make(self, value, kind)
     }
@@ -145,6 +151,7 @@ impl<T: Plain<T> + Drop> Items<T> for Local<'_, T> {
         Local::guarded(self, right, guard)
     }
 
+    #[inline]
     fn let_go(&mut self, right: Right, _kind: Kind) -> bool {
         Local::let_go(self, right);
         true

@@ -18,6 +18,7 @@ use sdd_stakes::Shelf;
 use sdd_witness::Witness;
 
 /// Moves a value into the place of a slot that was claimed, whose owner is a token of its own then, which shows the value.
+#[inline]
 pub fn put_value<T>(
     board: &Board,
     shelf: &Shelf<T>,

@@ -170,6 +170,12 @@ impl<T: Item<T>, J: Job> Guards<T> for Turn<'_, T, J> {
 }
 
 impl<T: Item<T>, J: Job> Items<T> for Turn<'_, T, J> {
+    ghost use Rattle.sdd_store.specs.Table.{IsFull};
+
+    ghost is_used_up = { λ t. IsFull t.world.now.standings };
+
+    ghost used_up_is_full = { λ _ _. (λ h. h, λ h. h) };
+
     fn make(&mut self, value: T, kind: Kind) -> Result<Right, (T, Refused)> {
         let world = &mut *self.world;
         match world.core.make(value, kind) {

@@ -4,7 +4,7 @@ ghost use Rattle.sdd_store.specs.Time as time;
 ghost use Rattle.sdd_store.specs.Table.{IsEmptyAt, IsFull};
 ghost use Rattle.sdd_base.specs.Holding.{AreOf};
 ghost use Rattle.sdd_base.specs.World.{standing_at};
-ghost use Rattle.sdd_base.specs.Seat.{IsSeated, IsExact};
+ghost use Rattle.sdd_base.specs.Seat.{IsSeated, IsExact, IsLone};
 ghost use Rattle.sdd_base.specs.Known.{KnowsOn};
 ghost use Rattle.sdd_token.specs.Kind.{IsOwner};
 ghost use Rattle.sdd_token.specs.Right.{number_of, home_of, kind_of};
@@ -24,6 +24,9 @@ use sdd_token::{Kind, Right};
 ///
 /// An owner is here the right that it has to its slot.
 pub trait Items<T: Item<T>>: Caller<T> {
+    /// By what the participant knows no slot is free.
+    ghost is_used_up: { Self → Type 0 };
+
     /// Puts a value into a free slot, for an owner of this kind.
     fn make(&mut self, value: T, kind: Kind) -> Result<Right, (T, Refused)>
         requires seated { IsSeated (Self.seat self.old) }
@@ -36,6 +39,7 @@ pub trait Items<T: Item<T>>: Caller<T> {
         ensures kind { IfOk result (λ right. kind_of right ≡ kind) }
         ensures shown { IfOk result (λ right. Self.owns_value self.new right value) }
         ensures back { IfErr result (λ e. (e.0 ≡ value) × ((e.1 ≡ Refused.NoSlot) ⊎ (e.1 ≡ Refused.Contended))) }
+        ensures lone { IsLone (Self.seat self.old) → IfErr result (λ e. (e.1 ≡ Refused.NoSlot) × is_used_up self.old) }
         ensures exact { IsExact (Self.seat self.old) → MatchResult result
             (λ right. IsEmptyAt (Self.world self.old).standings (number_of right) ×
             (Self.world self.new ≡ made_as (Self.world self.old) (number_of right) value (first_standing kind)))
@@ -55,6 +59,7 @@ pub trait Items<T: Item<T>>: Caller<T> {
         ensures kind { IfOk result (λ right. kind_of right ≡ kind) }
         ensures shown { IfOk result (λ right. (value : T) × F.post make value × Self.owns_value self.new right value) }
         ensures back { IfErr result (λ e. (e.0 ≡ make) × ((e.1 ≡ Refused.NoSlot) ⊎ (e.1 ≡ Refused.Contended))) }
+        ensures lone { IsLone (Self.seat self.old) → IfErr result (λ e. (e.1 ≡ Refused.NoSlot) × is_used_up self.old) }
         ensures exact { IsExact (Self.seat self.old) → MatchResult result
             (λ right. IsEmptyAt (Self.world self.old).standings (number_of right) ×
             ((value : T) × F.post make value × (Self.world self.new ≡ made_as (Self.world self.old) (number_of right) value (first_standing kind))))
@@ -91,6 +96,9 @@ pub trait Items<T: Item<T>>: Caller<T> {
         ensures exact { IsExact (Self.seat self.old) → Self.world self.new ≡
             owner_given (Self.world self.old) (Self.seat self.old).place (number_of right) (standing_at (Self.world self.old) (number_of right)) }
         ensures keeps { KeepsShown (Self.shows self.old) (Self.shows self.new) };
+
+    /// In an exact space that is as the world says.
+    ghost used_up_is_full: { (s : Self) → IsExact (Self.seat s) → is_used_up s ↔ IsFull (Self.world s).standings };
 
     /// In an exact space an owner's item has the value that its slot shows.
     ghost owned_is_shown: { (s : Self) → IsExact (Self.seat s) → (right : Right) (v : T) → Self.owns_value s right v ↔ Self.shows s (number_of right) v };

@@ -23,6 +23,7 @@ impl<'d, T> Local<'d, T> {
     ///
     /// The value comes back where it is refused: `NoSlot` where a walk over all slots found none free; `Contended` where as many exchanges
     /// were lost as the limits allow.
+    #[inline]
     pub(crate) fn make(&mut self, value: T, kind: Kind) -> Result<Right, (T, Refused)>
         requires { IsOwner kind }
         ensures { MatchResult result
@@ -93,6 +94,7 @@ impl<'d, T> Local<'d, T> {
     }
 
     /// Retires an owner's item: it waits until three changes were seen. No memory is taken.
+    #[inline]
     pub(crate) fn let_go(&mut self, right: Right)
         requires { home_of right ≡ slots_home self.old }
         ensures { (count : ℕ) × RetiresAt (number_of right) count self.old self.new }
