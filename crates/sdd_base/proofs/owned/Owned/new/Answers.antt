@@ -18,6 +18,7 @@ returns-in-Ok g c =
       home = ap home_of same ∙ put.home;
       shown = subst (λ (r : Right). g.S.Shows.owns_value c.make.new.self r c.args.value) (sym same) put.shown;
       back = put.back;
+      lone = put.lone;
       exact = λ e.
           subst (λ (r : Right). IsEmptyAt was.standings (number_of r) × (now ≡ made was (number_of r) c.args.value)) (sym same) (put.exact e);
       keeps = put.keeps;
@@ -26,4 +27,14 @@ returns-in-Ok g c =
 pub returns-in-Err : goal.returns-in-Err
 returns-in-Err g c =
     let kept = c.in-Err.ensures in
-    record { seat = kept.seat; own = kept.own; known = kept.known; home = kept.home; shown = kept.shown; back = kept.back; exact = kept.exact; keeps = kept.keeps }
+    record {
+      seat = kept.seat;
+      own = kept.own;
+      known = kept.known;
+      home = kept.home;
+      shown = kept.shown;
+      back = kept.back;
+      lone = kept.lone;
+      exact = kept.exact;
+      keeps = kept.keeps;
+    }
