@@ -1,5 +1,5 @@
 -- The words of a line, the numbers that they are, and the calls: each call is read of its line
-use Rattle.std.proofs.Common.{◌≡◌, ℕ, ◌+◌, ◌<◌, ◌≤◌, ◌≢◌, Bool, true, false, eqb, List, [], ◌∷◌, ◌++◌, length, length-append, get_or, take, drop, take-append-drop, map, Option, Some, None, IfSome, OnSome, MatchOption, Result, Ok, Err, refl, sym, ap, subst, ◌∙◌, lit<, arith, rules}
+use Rattle.std.proofs.Common.{◌≡◌, ℕ, ◌+◌, ◌<◌, ◌≤◌, ◌≢◌, Bool, true, false, eqb, leb, ◌&&◌, List, [], ◌∷◌, ◌++◌, length, length-append, get_or, take, drop, take-append-drop, map, Option, Some, None, IfSome, OnSome, MatchOption, Result, Ok, Err, refl, sym, ap, subst, ◌∙◌, lit<, arith, rules}
 use Rattle.std.specs.Result.{result_ok}
 use Rattle.std.specs.Int.{IsInRange}
 use Rattle.std.specs.List.{All, AllByRecursion}
@@ -7,7 +7,7 @@ use Rattle.std.specs.Fmt.{decimal}
 use Rattle.std.specs.Str.{IsAscii, IsUtf8, bytes_eq}
 use Rattle.std.specs.Str.Parse.{AllDigits, digits_value, ParsesUnsigned}
 use Rattle.std.specs.Str.Pattern.{FindsCharPrefix, HasCharAt}
-use Rattle.std.proofs.lemmas.Bool.{ne_eqb, eq-eqb, cond-false}
+use Rattle.std.proofs.lemmas.Bool.{ne_eqb, eq-eqb, cond-false, leb-true}
 use Rattle.std.proofs.lemmas.List.{length-map, drop_more, get_or-take, length-take-le}
 use Rattle.std.proofs.lemmas.List.Elements.{All-from_get_or, All-cons, All-weaker, All-from_recursion}
 use Rattle.std.proofs.lemmas.List.Splits.{slice_split_none, slice_split_at, join_with_byte-slice_split}
@@ -204,6 +204,18 @@ name_word letter n l h = record {
   short = omega (arith, (number_word n h).short);
 }
 
+-- each byte is one that may stand in a word: a test, which a written word computes
+abbrev is_plain : List ℕ → Bool
+is_plain [] = true
+is_plain (b ∷ bs) = leb 33 b && leb b 126 && is_plain bs
+
+all_plain : (bs : List ℕ) → is_plain bs ≡ true → AllByRecursion (IsInRange 33 126) bs
+all_plain [] e = tt
+all_plain (b ∷ bs) e = grind (arith, nat_tests, all_plain bs)
+
+written_word : (most : ℕ) (word : List ℕ) → is_plain word ≡ true → leb (length word) most ≡ true → IsWord most word
+written_word most word plain short = literal_word most word (all_plain word plain) (leb-true (length word) most short)
+
 ruleset as_words = (rules, literal_word, number_word, name_word)
 
 -- the bytes of an argument, and of arguments with a space before each, at most
@@ -310,7 +322,7 @@ said : (action : Action) → IsSaid action
 said action.Open = (search as_words, omega arith, omega arith, refl)
 said (action.Owned (value.Number n)) = (search as_words, omega arith, omega arith, refl)
 said (action.Shared (value.Number n)) = (search as_words, omega arith, omega arith, refl)
-said action = (search as_words, omega arith, omega arith, refl)
+said action = (written_word 10 _ refl refl, omega arith, omega arith, refl)
 
 -- ---- both
 

@@ -128,42 +128,70 @@ fn spoken(verb: &str, arguments: &[Argument]) -> Option<Action>
     }
 }
 
+/// The verbs with a number.
+fn with_number(verb: &str, number: u64) -> Option<Action>
+    ensures { result ≡ called verb.now (with_arguments (Argument.Number number ∷ [])) }
+{
+    match verb {
+        "owned" => Some(Action::Owned(Value::Number(number))),
+        "shared" => Some(Action::Shared(Value::Number(number))),
+        _ => None,
+    }
+}
+
+/// The verbs with a guard.
+fn with_guard(verb: &str, guard: GuardName) -> Option<Action>
+    ensures { result ≡ called verb.now (with_arguments (Argument.Guard guard ∷ [])) }
+{
+    match verb {
+        "epoch" => Some(Action::Epoch(guard)),
+        "garbage" => Some(Action::Garbage(guard)),
+        "set" => Some(Action::Set(guard)),
+        "accelerate" => Some(Action::Accelerate(guard)),
+        "defer" => Some(Action::Defer(guard)),
+        "close" => Some(Action::Close(guard)),
+        _ => None,
+    }
+}
+
+/// The verbs with an owner.
+fn with_owner(verb: &str, owner: OwnerName) -> Option<Action>
+    ensures { result ≡ called verb.now (with_arguments (Argument.Owner (Some owner) ∷ [])) }
+{
+    match verb {
+        "read" => Some(Action::Read(owner)),
+        "retire" => Some(Action::Retire(owner)),
+        "release" => Some(Action::Release(owner)),
+        "clone" => Some(Action::Clone(owner)),
+        "drop" => Some(Action::Drop(owner)),
+        "raw" => Some(Action::Raw(owner)),
+        _ => None,
+    }
+}
+
+/// The verbs with a cell.
+fn with_cell(verb: &str, cell: CellName) -> Option<Action>
+    ensures { result ≡ called verb.now (with_arguments (Argument.Cell cell ∷ [])) }
+{
+    match verb {
+        "tag" => Some(Action::Tag(cell)),
+        "into" => Some(Action::Into(cell)),
+        "close" => Some(Action::CloseCell(cell)),
+        _ => None,
+    }
+}
+
 /// The verbs with one argument.
 fn with_one(verb: &str, argument: Argument) -> Option<Action>
     ensures { result ≡ called verb.now (with_arguments (argument ∷ [])) }
 {
     match argument {
-        Argument::Number(number) => match verb {
-            "owned" => Some(Action::Owned(Value::Number(number))),
-            "shared" => Some(Action::Shared(Value::Number(number))),
-            _ => None,
-        },
-        Argument::Guard(guard) => match verb {
-            "epoch" => Some(Action::Epoch(guard)),
-            "garbage" => Some(Action::Garbage(guard)),
-            "set" => Some(Action::Set(guard)),
-            "accelerate" => Some(Action::Accelerate(guard)),
-            "defer" => Some(Action::Defer(guard)),
-            "close" => Some(Action::Close(guard)),
-            _ => None,
-        },
-        Argument::Owner(Some(owner)) => match verb {
-            "read" => Some(Action::Read(owner)),
-            "retire" => Some(Action::Retire(owner)),
-            "release" => Some(Action::Release(owner)),
-            "clone" => Some(Action::Clone(owner)),
-            "drop" => Some(Action::Drop(owner)),
-            "raw" => Some(Action::Raw(owner)),
-            _ => None,
-        },
+        Argument::Number(number) => with_number(verb, number),
+        Argument::Guard(guard) => with_guard(verb, guard),
+        Argument::Owner(Some(owner)) => with_owner(verb, owner),
+        Argument::Cell(cell) => with_cell(verb, cell),
         Argument::Item(Some(item)) => match verb {
             "unraw" => Some(Action::Unraw(item)),
-            _ => None,
-        },
-        Argument::Cell(cell) => match verb {
-            "tag" => Some(Action::Tag(cell)),
-            "into" => Some(Action::Into(cell)),
-            "close" => Some(Action::CloseCell(cell)),
             _ => None,
         },
         Argument::Collector(collector) => match verb {
