@@ -50,7 +50,11 @@ impl Cells {
         ensures pointers { IfOk result (λ cells. cells.pointers ≡ replicate size null_pointer) }
     {
         let rights = Rights::new(alloc, size as usize, Kind::Free)?;
-        let cells = Table::new(alloc, size)?;
+        let nothing = Cell {
+            held: None,
+            tag: Tag::None,
+        };
+        let cells = Table::new(alloc, size, nothing)?;
         let pointers = null_pointers(alloc, size)?;
         let held = no_owners(alloc, size)?;
         Ok(Cells {

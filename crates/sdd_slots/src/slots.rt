@@ -8,7 +8,7 @@ ghost use Rattle.sdd_store.specs.Table.{IsEmptyAt, IsFull};
 ghost use Rattle.sdd_standings.specs.Slots.{standing_at, value_at, with_made, with_standing, with_value, without_slot, first_standing, let_go, let_go_to, has_others, owners_of, IsOwnedBy, IsSharedBy, IsWaiting};
 
 use sdd_places::{Ended, Places, Tenure};
-use sdd_store::{Standing, Table};
+use sdd_store::{Standing, Standings, Table};
 use sdd_token::{Badge, Kind, Right, Rights, Shares};
 use std::alloc::{AllocError, Global};
 use std::marker::Model;
@@ -50,7 +50,7 @@ impl<T> Slots<T> {
         ensures stakes { IfOk result (λ slots. (slots.stakes ≡ unlent size readers) × (slots.readers ≡ readers)) }
     {
         let rights = Rights::new(alloc, size as usize, Kind::Free)?;
-        let standings = Table::new(alloc, size)?;
+        let standings = Table::new(alloc, size, Standing::Owned)?;
         let places = Places::new(alloc, size as usize, readers)?;
         Ok(Slots {
             rights,
@@ -140,14 +140,10 @@ impl<T> Slots<T> {
     pub fn standing(&self, slot: u32) -> Option<Standing>
         ensures { result ≡ standing_at self.now slot }
     {
-        self.standings.get(slot)
-    }
-
-    /// How each slot stands.
-    pub fn standings(&self) -> &Table<Standing>
-        ensures { result.now ≡ self.now.standings }
-    {
-        &self.standings
+        if !self.is_taken(slot) {
+            return None;
+        }
+        Some(self.standings.at(slot))
     }
 
     /// How many owners share the item in a slot; of one that is not shared nothing.
@@ -155,9 +151,22 @@ impl<T> Slots<T> {
         ensures owners { result ≡ owners_of (standing_at self.now slot) }
         ensures shared { IfSome result (λ owners. IsSharedBy owners (standing_at self.now slot)) }
     {
-        match self.standings.get(slot) {
+        let _ = &self.standings;
+        match self.standing(slot) {
             Some(Standing::Shared(owners)) => Some(owners),
             _ => None,
+        }
+    }
+
+    /// How many owners share the item of an owner that may have others beside it.
+    pub fn owners_with(&self, right: &Right) -> u64
+        requires home { home_of right.now ≡ self.now.home }
+        requires kind { kind_of right.now ≡ Kind.Shared }
+        ensures { IsSharedBy result (standing_at self.now (number_of right.now)) }
+    {
+        match self.standings.at(self.slot_of(right)) {
+            Standing::Shared(owners) => owners,
+            _ => unreachable!(),
         }
     }
 
@@ -276,7 +285,7 @@ impl<T> Slots<T> {
             ((standing_at self.old slot ≢ Some Standing.Raw) × (self.new ≡ self.old))
             (λ _. (standing_at self.old slot ≡ Some Standing.Raw) × (self.new ≡ with_standing self.old slot Standing.Owned)) }
     {
-        let Some(Standing::Raw) = self.standings.get(slot) else {
+        let Some(Standing::Raw) = self.standing(slot) else {
             return None;
         };
         self.standings.replace(slot, Standing::Owned);
@@ -294,9 +303,10 @@ impl<T> Slots<T> {
         if !self.is_waiting(slot) {
             return None;
         }
+        let value = self.places.take(slot as usize);
         self.standings.release(slot);
         self.rights.set(slot as usize, Kind::Free);
-        Some(self.places.take(slot as usize))
+        Some(value)
     }
 
     /// Others share the item of an owner. For the owner of an item that is not shared nothing is looked up.
@@ -375,12 +385,9 @@ impl<T> Slots<T> {
         requires kind { kind_of right.now ≡ kind }
         ensures { result ≡ unwrap_or (owners_of (standing_at self.now (number_of right.now))) 1 }
     {
-        let slot = self.slot_of(right);
+        let _ = self.slot_of(right);
         match kind {
-            Kind::Shared => match self.standings.at(slot) {
-                Standing::Shared(owners) => owners,
-                _ => unreachable!(),
-            },
+            Kind::Shared => self.owners_with(right),
             Kind::Free | Kind::Owned | Kind::Raw | Kind::Retired => 1,
         }
     }
@@ -389,9 +396,29 @@ impl<T> Slots<T> {
         ensures { IsTrue result ↔ IsWaiting (standing_at self.now slot) }
     {
         matches!(
-            self.standings.get(slot),
+            self.standing(slot),
             Some(Standing::Retired | Standing::Private(_))
         )
+    }
+
+    /// The slot isn't free: a value is there.
+    fn is_taken(&self, slot: u32) -> bool
+        ensures { IsTrue result ↔ IsSome (standing_at self.now slot) }
+    {
+        match self.places.get(slot as usize) {
+            Some(_) => true,
+            None => false,
+        }
+    }
+}
+
+impl<T> Standings for Slots<T> {
+    ghost use Rattle.sdd_standings.specs.Slots.{Slots};
+
+    ghost standings = { λ s. s.standings };
+
+    fn stands(&self, slot: u32) -> Option<Standing> {
+        self.standing(slot)
     }
 }
 

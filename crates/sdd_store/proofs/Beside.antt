@@ -39,3 +39,10 @@ module _ {X : Type 0} where
       IsSome (entry_at numbers k) → found ≡ slice_index_or jobs k found → IsSome found
   not-nothing numbers jobs k found h some is =
       ap is_some (is ∙ get_or_default jobs k found None (beside-bound numbers jobs k h some)) ∙ beside-there numbers jobs k h some
+
+  -- a job was found exactly where a place is taken
+  pub found-there : (numbers : Entries (Unit {0})) (jobs : List (Option X)) (k : ℕ) (found : Option X) → AreBeside numbers jobs → k < length jobs →
+      found ≡ slice_index_or jobs k found → is_some found ≡ is_some (entry_at numbers k)
+  found-there numbers jobs k found h inside is =
+      ap is_some (is ∙ get_or_default jobs k found None inside) ∙ sym (get_or-map is_some jobs k None)
+      ∙ ap (λ (bs : List Bool). slice_index_or bs k false) h.filled ∙ get_or-map is_some numbers k None

@@ -4,4 +4,5 @@ pub mod Listed
 pub mod Adopting
 pub mod Renaming
 pub mod Beside
+pub mod Shown
 pub mod Collecting

@@ -108,21 +108,30 @@ module _ {E : Type 0} where
       let listed : IsListed t (rest ++ k ∷ []) room = rw split at h in
       rw last at (listed.each (length rest) (omega arith))
 
+  -- the last one listed isn't listed before
+  pub not-last : {t : Entries E} (rest empty : List ℕ) (room i k : ℕ) → IsListed t empty room → empty ≡ rest ++ k ∷ [] → i < length rest →
+      slice_index rest i ≢ k
+  not-last {t} rest empty room i k was split lt e =
+      let h : IsListed t (rest ++ k ∷ []) room = rw split at was in
+      let longer : length (rest ++ k ∷ []) ≡ length rest + 1 = length-append rest (k ∷ []) in
+      let last : slice_index (rest ++ k ∷ []) (length rest) ≡ k = get_or_push rest k 0 (length rest) refl in
+      let same : slice_index (rest ++ k ∷ []) i ≡ slice_index rest i = get_or_append_left rest (k ∷ []) 0 i lt in
+      h.once i (length rest) lt (omega arith) (same ∙ e ∙ sym last)
+
   -- the last one listed gets an entry
   pub listed-claimed : (t : Entries E) (k : ℕ) (e : E) (next : Option E) (empty rest : List ℕ) (room later : ℕ) → IsListed t empty room →
       empty ≡ rest ++ k ∷ [] → next ≡ Some e → later ≡ room → IsListed (slice_set t k next) rest later
   listed-claimed t k e next empty rest room later was split next_is later_is =
       let h : IsListed t (rest ++ k ∷ []) room = rw split at was in
       let longer : length (rest ++ k ∷ []) ≡ length rest + 1 = length-append rest (k ∷ []) in
-      let last : slice_index (rest ++ k ∷ []) (length rest) ≡ k = get_or_push rest k 0 (length rest) refl in
       let was_empty : IsEmptyAt t k = listed-last t k empty rest room was split in
       let same = λ (i : ℕ) (lt : i < length rest). get_or_append_left rest (k ∷ []) 0 i lt in
       rw (next_is, later_is)
       record {
         each = λ i lt.
-            let empty : IsEmptyAt t (slice_index rest i) = rw (same i lt) at (h.each i (omega arith)) in
-            let other : slice_index rest i ≢ k = λ e. h.once i (length rest) lt (omega arith) (same i lt ∙ e ∙ sym last) in
-            (rw (length-set t k (Some e)) empty.0, get_or-set_other t k (slice_index rest i) (Some e) None other ∙ empty.1);
+            let before : IsEmptyAt t (slice_index rest i) = rw (same i lt) at (h.each i (omega arith)) in
+            let other : slice_index rest i ≢ k = not-last rest empty room i k was split lt in
+            (rw (length-set t k (Some e)) before.0, get_or-set_other t k (slice_index rest i) (Some e) None other ∙ before.1);
         once = λ i j lt lt_j. λ e. h.once i j lt (omega arith) (same i (omega arith) ∙ e ∙ sym (same j lt_j));
         all = omega (arith, h.all, count-claimed t k e was_empty);
         reserved = rw (length-set t k (Some e)) h.reserved;

@@ -1,5 +1,5 @@
 -- A table of a fixed number of places, each empty or with an entry
-use Rattle.std.specs.Prelude.{ℕ, ◌<◌, ◌≤◌, ◌≡◌, ◌≢◌, count_by, is_none, slice_index, List, length, Option, Some, None, IsSome, All, slice_index_or, slice_set}
+use Rattle.std.specs.Prelude.{ℕ, ◌<◌, ◌≤◌, ◌≡◌, ◌≢◌, count_by, is_none, map, slice_index, List, [], ◌∷◌, length, Option, Some, None, IsSome, All, slice_index_or, slice_set}
 
 abbrev pub Entries : Type 0 → Type 0
 Entries E = List (Option E)
@@ -13,6 +13,15 @@ module _ {E : Type 0} where
 
   abbrev pub without_entry : Entries E → ℕ → Entries E
   without_entry t k = slice_set t k None
+
+  -- each place of a list is empty
+  abbrev pub without_entries : Entries E → List ℕ → Entries E
+  without_entries t [] = t
+  without_entries t (k ∷ ks) = without_entries (without_entry t k) ks
+
+  -- what lies in the places are entries, but in the empty ones
+  unfoldable pub but_empty : List E → List ℕ → Entries E
+  but_empty entries empty = without_entries (map Some entries) empty
 
   -- the place is there, and empty
   abbrev pub IsEmptyAt : Entries E → ℕ → Type 0

@@ -4,8 +4,7 @@ ghost use Rattle.sdd_store.specs.Bags.{Bags};
 ghost use Rattle.sdd_store.specs.Collecting.{is_kept_for, chosen_of, rest_of};
 ghost use Rattle.std.specs.Prelude.{filter, not};
 
-use crate::standing::Standing;
-use crate::table::Table;
+use crate::standing::{Standing, Standings};
 use crate::waiting::What;
 use std::alloc::{AllocError, Global};
 use std::marker::Model;
@@ -117,10 +116,10 @@ impl Bags {
     }
 
     /// What waits for a collector comes out, into the bag that is handed in, the oldest first.
-    pub fn take_for(&mut self, collector: u32, standings: &Table<Standing>, bag: &mut Vec<What>)
+    pub fn take_for<S: Standings>(&mut self, collector: u32, standings: &S, bag: &mut Vec<What>)
         requires { length bag.old.items + length self.old.waiting ≤ vec_capacity bag.old }
-        ensures left { self.new ≡ record self.old { waiting = rest_of (is_kept_for collector standings.now) self.old.waiting } }
-        ensures taken { bag.new.items ≡ bag.old.items ++ chosen_of (is_kept_for collector standings.now) self.old.waiting }
+        ensures left { self.new ≡ record self.old { waiting = rest_of (is_kept_for collector (S.standings standings.now)) self.old.waiting } }
+        ensures taken { bag.new.items ≡ bag.old.items ++ chosen_of (is_kept_for collector (S.standings standings.now)) self.old.waiting }
         ensures reserved { vec_capacity bag.new ≡ vec_capacity bag.old }
     {
         pick(&mut self.next, collector, standings, bag);
@@ -130,11 +129,11 @@ impl Bags {
 }
 
 /// It is an item that waits for the collector.
-fn is_kept_for(what: What, collector: u32, standings: &Table<Standing>) -> bool
-    ensures { result ≡ is_kept_for collector standings.now what }
+fn is_kept_for<S: Standings>(what: What, collector: u32, standings: &S) -> bool
+    ensures { result ≡ is_kept_for collector (S.standings standings.now) what }
 {
     match what {
-        What::Item(slot) => match standings.get(slot) {
+        What::Item(slot) => match standings.stands(slot) {
             Some(Standing::Private(number)) => number == collector,
             _ => false,
         },
@@ -143,10 +142,10 @@ fn is_kept_for(what: What, collector: u32, standings: &Table<Standing>) -> bool
 }
 
 /// Moves what waits for a collector from a bag to another one.
-fn pick(from: &mut Vec<What>, collector: u32, standings: &Table<Standing>, to: &mut Vec<What>)
+fn pick<S: Standings>(from: &mut Vec<What>, collector: u32, standings: &S, to: &mut Vec<What>)
     requires { length to.old.items + length from.old.items ≤ vec_capacity to.old }
-    ensures picked { to.new.items ≡ to.old.items ++ filter (is_kept_for collector standings.now) from.old.items }
-    ensures left { from.new.items ≡ filter (λ what. not (is_kept_for collector standings.now what)) from.old.items }
+    ensures picked { to.new.items ≡ to.old.items ++ filter (is_kept_for collector (S.standings standings.now)) from.old.items }
+    ensures left { from.new.items ≡ filter (λ what. not (is_kept_for collector (S.standings standings.now) what)) from.old.items }
     ensures reserved { (vec_capacity to.new ≡ vec_capacity to.old) × (vec_capacity from.new ≡ vec_capacity from.old) }
 {
     copy_kept(from.as_slice(), collector, standings, to);
@@ -154,9 +153,9 @@ fn pick(from: &mut Vec<What>, collector: u32, standings: &Table<Standing>, to: &
 }
 
 /// Adds what waits for a collector to a bag.
-fn copy_kept(from: &[What], collector: u32, standings: &Table<Standing>, to: &mut Vec<What>)
+fn copy_kept<S: Standings>(from: &[What], collector: u32, standings: &S, to: &mut Vec<What>)
     requires { length to.old.items + length from.now ≤ vec_capacity to.old }
-    ensures copied { to.new.items ≡ to.old.items ++ filter (is_kept_for collector standings.now) from.now }
+    ensures copied { to.new.items ≡ to.old.items ++ filter (is_kept_for collector (S.standings standings.now)) from.now }
     ensures reserved { vec_capacity to.new ≡ vec_capacity to.old }
 {
     for what in from {

@@ -1,7 +1,7 @@
 ghost use Rattle.std.specs.Prelude.{◌≡◌, IsSome, IsTrue, ◌↔◌, IfOk, MatchResult, None, replicate};
 ghost use Rattle.sdd_store.specs.Table.{entry_at, with_entry, without_entry, IsEmptyAt, IsFull};
 
-use crate::table::{Table, empty_places};
+use crate::table::Table;
 use std::alloc::{AllocError, Global};
 use std::marker::Model;
 
@@ -61,8 +61,8 @@ impl<J: Job> Jobs<J> {
     pub fn new(alloc: Global, size: u32) -> Result<Jobs<J>, AllocError>
         ensures { IfOk result (λ t. t ≡ replicate size None) }
     {
-        let numbers = Table::new(alloc, size)?;
-        let jobs = empty_places(alloc, size)?;
+        let numbers = Table::new(alloc, size, ())?;
+        let jobs = no_jobs(alloc, size)?;
         Ok(Jobs { numbers, jobs })
     }
 
@@ -90,13 +90,34 @@ impl<J: Job> Jobs<J> {
     pub fn run(&mut self, place: u32)
         ensures { self.new ≡ without_entry self.old place }
     {
-        let Some(()) = self.numbers.get(place) else {
+        if !self.is_taken(place) {
             return;
-        };
-        self.numbers.release(place);
+        }
         let Some(mut job) = self.jobs[place as usize].take() else {
             unreachable!()
         };
+        self.numbers.release(place);
         job.run();
     }
+
+    /// A job waits in a place.
+    fn is_taken(&self, place: u32) -> bool
+        ensures { IsTrue result ↔ IsSome (entry_at self.now place) }
+    {
+        match self.jobs.get(place as usize) {
+            Some(job) => job.is_some(),
+            None => false,
+        }
+    }
+}
+
+/// So many places without a job.
+fn no_jobs<J>(alloc: Global, size: u32) -> Result<Vec<Option<J>>, AllocError>
+    ensures { IfOk result (λ jobs. jobs.items ≡ replicate size None) }
+{
+    let mut jobs = Vec::with_capacity(alloc, size as usize)?;
+    for _place in 0..size {
+        jobs.push_reserved(None);
+    }
+    Ok(jobs)
 }

@@ -13,7 +13,7 @@ pub mod waiting;
 pub use bags::Bags;
 pub use jobs::{Deferred, Idle, Job, Jobs};
 pub use phases::{Phase, Phases};
-pub use standing::{Cell, Pointer, Standing};
+pub use standing::{Cell, Pointer, Standing, Standings};
 pub use table::Table;
 pub use tally::Tally;
 pub use time::{Pace, Participant, Time};

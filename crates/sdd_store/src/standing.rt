@@ -1,3 +1,7 @@
+ghost use Rattle.std.specs.Prelude.{◌≡◌};
+ghost use Rattle.sdd_store.specs.Table.{Entries, entry_at};
+ghost use Rattle.sdd_store.specs.declared.standing.Standing.{Standing};
+
 use sdd_core::Tag;
 
 /// How an item stands. A slot without an item is free.
@@ -27,4 +31,13 @@ pub struct Cell {
 pub struct Pointer {
     pub named: Option<u32>,
     pub tag: Tag,
+}
+
+/// Who knows how each slot stands.
+pub trait Standings {
+    ghost standings: { Self → Entries Standing };
+
+    /// How the item in a slot stands; nothing where the slot is free.
+    fn stands(&self, slot: u32) -> Option<Standing>
+        ensures { result ≡ entry_at (standings self.now) slot };
 }

@@ -7,22 +7,24 @@ use std::marker::Model;
 
 /// A table of a fixed number of places, each empty or with an entry.
 ///
-/// An empty place is found at once, by a list of the empty ones. Memory is taken when the table is made, and never again.
+/// An empty place is found at once, by a list of the empty ones. The list alone tells that a place is empty, so who asks for an entry has to know that
+/// one is there. Memory is taken when the table is made, and never again.
 #[derive(Drop)]
 pub struct Table<E> {
-    entries: Vec<Option<E>>,
+    /// Each entry, and in an empty place one that counts for nothing.
+    entries: Vec<E>,
     empty: Vec<u32>,
 }
 
 impl<E> Model for Table<E> {
-    ghost use Rattle.sdd_store.specs.Table.{Entries, IsListed};
-    ghost use Rattle.std.specs.Prelude.{◌≤◌, length, vec_capacity};
+    ghost use Rattle.sdd_store.specs.Table.{Entries, IsListed, but_empty};
+    ghost use Rattle.std.specs.Prelude.{vec_capacity};
 
     ghost Value = { Entries E };
 
-    ghost view = { λ t. t.entries.items };
+    ghost view = { λ t. but_empty t.entries.items t.empty.items };
 
-    ghost invariant = { λ t. IsListed t.entries.items t.empty.items (vec_capacity t.empty) };
+    ghost invariant = { λ t. IsListed (but_empty t.entries.items t.empty.items) t.empty.items (vec_capacity t.empty) };
 }
 
 /// The numbers from 0 on, so many.
@@ -37,23 +39,23 @@ fn numbers_below(alloc: Global, size: u32) -> Result<Vec<u32>, AllocError>
     Ok(numbers)
 }
 
-/// So many places, all empty.
-pub(crate) fn empty_places<E>(alloc: Global, size: u32) -> Result<Vec<Option<E>>, AllocError>
-    ensures { IfOk result (λ places. places.items ≡ replicate size None) }
+/// So many of the same.
+fn copies<E: Copy>(alloc: Global, size: u32, entry: E) -> Result<Vec<E>, AllocError>
+    ensures { IfOk result (λ entries. entries.items ≡ replicate size entry) }
 {
-    let mut places = Vec::with_capacity(alloc, size as usize)?;
+    let mut entries = Vec::with_capacity(alloc, size as usize)?;
     for _place in 0..size {
-        places.push_reserved(None);
+        entries.push_reserved(entry);
     }
-    Ok(places)
+    Ok(entries)
 }
 
 impl<E: Copy> Table<E> {
-    /// A table of that many places, all empty.
-    pub fn new(alloc: Global, size: u32) -> Result<Table<E>, AllocError>
+    /// A table of that many places, all empty. The blank is what lies in a place that never had an entry; it shows nowhere.
+    pub fn new(alloc: Global, size: u32, blank: E) -> Result<Table<E>, AllocError>
         ensures { IfOk result (λ t. t ≡ replicate size None) }
     {
-        let entries = empty_places(alloc, size)?;
+        let entries = copies(alloc, size, blank)?;
         let empty = numbers_below(alloc, size)?;
         Ok(Table { entries, empty })
     }
@@ -74,7 +76,7 @@ impl<E: Copy> Table<E> {
         let Some(place) = self.empty.pop() else {
             return Err(entry);
         };
-        self.entries[place as usize] = Some(entry);
+        self.entries[place as usize] = entry;
         Ok(place)
     }
 
@@ -83,7 +85,6 @@ impl<E: Copy> Table<E> {
         requires { IsSome (entry_at self.old place) }
         ensures { self.new ≡ without_entry self.old place }
     {
-        self.entries[place as usize] = None;
         self.empty.push_reserved(place);
     }
 
@@ -92,14 +93,7 @@ impl<E: Copy> Table<E> {
         requires { IsSome (entry_at self.old place) }
         ensures { self.new ≡ with_entry self.old place entry }
     {
-        self.entries[place as usize] = Some(entry);
-    }
-
-    /// The entry in a place, if one is there.
-    pub fn get(&self, place: u32) -> Option<E>
-        ensures { result ≡ entry_at self.now place }
-    {
-        *self.entries.get(place as usize)?
+        self.entries[place as usize] = entry;
     }
 
     /// The entry in a place that is not empty.
@@ -107,10 +101,7 @@ impl<E: Copy> Table<E> {
         requires { IsSome (entry_at self.now place) }
         ensures { entry_at self.now place ≡ Some result }
     {
-        let Some(entry) = self.entries[place as usize] else {
-            unreachable!()
-        };
-        entry
+        self.entries[place as usize]
     }
 
     /// Every place is empty.

@@ -8,8 +8,7 @@ ghost use Rattle.sdd_store.specs.Time.{Time, IsLive, KeepsPlaces, adopted, adopt
 
 use crate::bags::Bags;
 use crate::phases::{Phase, Phases};
-use crate::standing::Standing;
-use crate::table::Table;
+use crate::standing::Standings;
 use crate::waiting::What;
 use sdd_core::Refused;
 use std::alloc::{AllocError, Global};
@@ -326,11 +325,11 @@ impl Time {
     }
 
     /// What waits for a collector, with whomever, comes out, into the empty bag that is handed in.
-    pub fn take_for(&mut self, collector: u32, standings: &Table<Standing>, bag: &mut Vec<What>)
+    pub fn take_for<S: Standings>(&mut self, collector: u32, standings: &S, bag: &mut Vec<What>)
         requires empty { bag.old.items ≡ [] }
         requires reserved { sum_by waiting_count self.old.places ≤ vec_capacity bag.old }
-        ensures left { self.new ≡ time_without (is_kept_for collector standings.now) self.old }
-        ensures taken { bag.new.items ≡ chosen_among (is_kept_for collector standings.now) self.old.places }
+        ensures left { self.new ≡ time_without (is_kept_for collector (S.standings standings.now)) self.old }
+        ensures taken { bag.new.items ≡ chosen_among (is_kept_for collector (S.standings standings.now)) self.old.places }
         ensures reserved { vec_capacity bag.new ≡ vec_capacity bag.old }
         ensures count { sum_by waiting_count self.new.places + length bag.new.items ≡ sum_by waiting_count self.old.places }
     {
@@ -340,17 +339,17 @@ impl Time {
     }
 
     /// What waits for a collector with a place comes out.
-    fn take_from(
+    fn take_from<S: Standings>(
         &mut self,
         place: usize,
         collector: u32,
-        standings: &Table<Standing>,
+        standings: &S,
         bag: &mut Vec<What>,
     )
         requires place { place < length self.old.places }
         requires room { length bag.old.items + waiting_count (place_at self.old place) ≤ vec_capacity bag.old }
-        ensures left { self.new ≡ with_place self.old place (without (is_kept_for collector standings.now) (place_at self.old place)) }
-        ensures taken { bag.new.items ≡ bag.old.items ++ chosen_of (is_kept_for collector standings.now) (place_at self.old place).bags.waiting }
+        ensures left { self.new ≡ with_place self.old place (without (is_kept_for collector (S.standings standings.now)) (place_at self.old place)) }
+        ensures taken { bag.new.items ≡ bag.old.items ++ chosen_of (is_kept_for collector (S.standings standings.now)) (place_at self.old place).bags.waiting }
         ensures reserved { vec_capacity bag.new ≡ vec_capacity bag.old }
     {
         self.places[place].bags.take_for(collector, standings, bag);

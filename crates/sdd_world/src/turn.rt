@@ -235,11 +235,7 @@ impl<T: Item<T>, J: Job> Edits<T> for Turn<'_, T, J> {
 impl<T: Item<T>, J: Job> SharedItems<T> for Turn<'_, T, J> {
     fn add_owner(&mut self, right: &Right) -> Result<Right, Refused> {
         let world = &mut *self.world;
-        let slot = world.core.slot_of(right);
-        match world.core.upgrade(slot)? {
-            Some(right) => Ok(right),
-            None => unreachable!(),
-        }
+        world.core.add_owner(right)
     }
 
     fn upgrade(&mut self, slot: u32) -> Result<Option<Right>, Refused> {

@@ -75,6 +75,6 @@ impl<T: Item<T>, J: Job> Core<T, J> {
         ensures room { weight self.new.world + length bag.new.items ≤ most self.new.world }
         ensures sizes { KeepsSizes self.old.world self.new.world }
     {
-        self.time.take_for(collector, self.slots.standings(), bag);
+        self.time.take_for(collector, &self.slots, bag);
     }
 }

@@ -63,15 +63,6 @@ impl<T: Item<T>, J: Job> Core<T, J> {
         }
     }
 
-    /// The slot of an owner, with how the owner finds it.
-    pub fn slot_of(&self, right: &Right) -> u32
-        requires { home_of right.now ≡ self.now.world.home.slots }
-        ensures slot { result ≡ number_of right.now }
-        ensures owned { IsOwnedBy (kind_of right.now) (standing_at self.now.world result) }
-    {
-        self.slots.slot_of(right)
-    }
-
     /// The value of an owner's item.
     pub fn value<'a>(&'a self, right: &Right) -> &'a T
         requires { home_of right.now ≡ self.now.world.home.slots }

@@ -40,6 +40,31 @@ impl<T: Item<T>, J: Job> Core<T, J> {
         }
     }
 
+    /// One owner more beside an owner that may have others.
+    ///
+    /// `TooManyOwners` where as many share the item as may.
+    pub fn add_owner(&mut self, right: &Right) -> Result<Right, Refused>
+        requires home { home_of right.now ≡ self.old.world.home.slots }
+        requires kind { kind_of right.now ≡ Kind.Shared }
+        ensures home { IfOk result (λ other. home_of other ≡ self.old.world.home.slots) }
+        ensures slot { IfOk result (λ other. number_of other ≡ number_of right.now) }
+        ensures kind { IfOk result (λ other. kind_of other ≡ Kind.Shared) }
+        ensures added { (owners : ℕ) × IsSharedBy owners (standing_at self.old.world (number_of right.now)) × MatchResult result
+            (λ _. (owners < 2 ^ 62) ×
+            (self.new ≡ record self.old { world = with_standing self.old.world (number_of right.now) (Standing.Shared (owners + 1)) }))
+            (λ e. (owners ≡ 2 ^ 62) × (e ≡ Refused.TooManyOwners) × (self.new ≡ self.old)) }
+        ensures sizes { KeepsSizes self.old.world self.new.world }
+        ensures whole { IsWhole self.old.world → IsWhole self.new.world }
+        ensures lent { IsWhole self.old.world → AreLent self.old → AreLent self.new }
+    {
+        let owners = self.slots.owners_with(right);
+        if owners < MOST_OWNERS {
+            Ok(self.slots.add_owner(right.number(), owners))
+        } else {
+            Err(Refused::TooManyOwners)
+        }
+    }
+
     /// So many owners more at once, in one piece, of the item of an owner that may have others beside it.
     ///
     /// `TooManyOwners` where with them more would share it than may.
@@ -58,13 +83,11 @@ impl<T: Item<T>, J: Job> Core<T, J> {
         ensures whole { IsWhole self.old.world → IsWhole self.new.world }
         ensures lent { IsWhole self.old.world → AreLent self.old → AreLent self.new }
     {
-        let slot = self.slots.slot_of(right);
-        match self.slots.owners(slot) {
-            Some(owners) if more <= MOST_OWNERS - owners => {
-                Ok(self.slots.add_owners(slot, owners, more))
-            }
-            Some(_) => Err(Refused::TooManyOwners),
-            None => unreachable!(),
+        let owners = self.slots.owners_with(right);
+        if more <= MOST_OWNERS - owners {
+            Ok(self.slots.add_owners(right.number(), owners, more))
+        } else {
+            Err(Refused::TooManyOwners)
         }
     }
 

@@ -5,8 +5,8 @@ use Rattle.sdd_store.proofs.Collecting.{filter-within}
 use Rattle.sdd_store.proofs.bags.copy_kept.Goals as goal
 
 pub push_reserved-requires : goal.push_reserved-requires
-push_reserved-requires c =
-    let chosen = is_kept_for c.args.collector c.args.standings.now in
+push_reserved-requires g c =
+    let chosen = is_kept_for c.args.collector (g.S.Standings.standings c.args.standings.now) in
     let so_far = take c.loop-what.what-index c.args.from.now in
     let copied = ap length c.loop-what.invariant.0 in
     let both = length-append c.args.to.now.items (filter chosen so_far) in

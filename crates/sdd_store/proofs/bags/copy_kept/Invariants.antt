@@ -4,5 +4,6 @@ use Rattle.sdd_store.specs.Collecting.{is_kept_for}
 use Rattle.sdd_store.proofs.bags.copy_kept.Given as goal
 
 abbrev pub invariant-loop-what : goal.invariant-loop-what
-invariant-loop-what l =
-    (l.to.items ≡ l.fn.to.items ++ filter (is_kept_for l.collector l.standings) (take l.what-index l.from)) × (vec_capacity l.to ≡ vec_capacity l.fn.to)
+invariant-loop-what g l =
+    (l.to.items ≡ l.fn.to.items ++ filter (is_kept_for l.collector (g.S.Standings.standings l.standings)) (take l.what-index l.from))
+    × (vec_capacity l.to ≡ vec_capacity l.fn.to)

@@ -2,8 +2,8 @@ use Rattle.std.proofs.Common.{slice_index_or, ◌∙◌, refl, None, IsSome}
 use Rattle.sdd_slots.proofs.SlotsKept.{filled-there, keeps, some-waiting}
 use Rattle.sdd_slots.proofs.slots.Slots.reclaim.Goals as goal
 
-pub take-requires-clause-filled : goal.take-requires-clause-filled
-take-requires-clause-filled g c =
+pub take-value-requires-clause-filled : goal.take-value-requires-clause-filled
+take-value-requires-clause-filled g c =
     let some : IsSome (slice_index_or c.self.inside.standings c.args.slot None) =
     some-waiting _ (rw (← c.self.view_is) at (c.is_waiting.ensures.0 c.if-not-is_waiting.false)) in
     filled-there c.args.slot c.self.invariant ∙ some
@@ -13,5 +13,5 @@ invariant_of-self g c = rw (
   c.set.ensures.home,
   c.set.ensures.kept,
   c.release.ensures,
-  c.take.ensures.taken,
+  c.take-value.ensures.taken,
 ) (keeps c.args.slot None None refl (λ n e. absurd (cc)) c.self.invariant)

@@ -7,4 +7,4 @@ use Rattle.sdd_slots.proofs.slots.Slots.take_back_raw.Goals as goal
 pub invariant_of-self : goal.invariant_of-self
 invariant_of-self g c =
     rw (c.grant.ensures.home, c.grant.ensures.kept, c.replace.ensures)
-    (keeps-value c.args.slot (Some Owned) (ap is_some c.in-Some-Raw.ensures) (λ n e. absurd (cc)) c.self.invariant)
+    (keeps-value c.args.slot (Some Owned) (ap is_some (rw (← c.self.view_is) at c.in-Some-Raw.ensures)) (λ n e. absurd (cc)) c.self.invariant)

@@ -7,8 +7,8 @@ use Rattle.sdd_store.proofs.Collecting.{chosen-waiting, filter-within, length-wa
 use Rattle.sdd_store.proofs.bags.Bags.take_for.Goals as goal
 
 pub pick-requires-2 : goal.pick-requires-2
-pick-requires-2 c =
-    let chosen = is_kept_for c.args.collector c.args.standings.now in
+pick-requires-2 g c =
+    let chosen = is_kept_for c.args.collector (g.S.Standings.standings c.args.standings.now) in
     let own = c.self.inside in
     let all : length c.args.self.now.waiting ≡ length (waiting_of own.next.items own.previous.items own.current.items) =
     ap (λ (b : Bags). length b.waiting) (sym c.self.view_is) in
@@ -26,8 +26,8 @@ pick-requires-2 c =
     )
 
 pub pick-requires-3 : goal.pick-requires-3
-pick-requires-3 c =
-    let chosen = is_kept_for c.args.collector c.args.standings.now in
+pick-requires-3 g c =
+    let chosen = is_kept_for c.args.collector (g.S.Standings.standings c.args.standings.now) in
     let own = c.self.inside in
     let all : length c.args.self.now.waiting ≡ length (waiting_of own.next.items own.previous.items own.current.items) =
     ap (λ (b : Bags). length b.waiting) (sym c.self.view_is) in
@@ -51,15 +51,15 @@ pick-requires-3 c =
     )
 
 pub returns-clause-left : goal.returns-clause-left
-returns-clause-left c =
-    let chosen = is_kept_for c.args.collector c.args.standings.now in
+returns-clause-left g c =
+    let chosen = is_kept_for c.args.collector (g.S.Standings.standings c.args.standings.now) in
     let own = c.self.inside in
     rw (← c.self.view_is, c.pick-3.ensures.left, c.pick-2.ensures.left, c.pick.ensures.left)
     (ap (λ w. record { waiting = w; room = own.room }) (sym (rest-waiting chosen own.next.items own.previous.items own.current.items)))
 
 pub returns-clause-taken : goal.returns-clause-taken
-returns-clause-taken c =
-    let chosen = is_kept_for c.args.collector c.args.standings.now in
+returns-clause-taken g c =
+    let chosen = is_kept_for c.args.collector (g.S.Standings.standings c.args.standings.now) in
     let own = c.self.inside in
     rw (
       ← c.self.view_is,

@@ -6,9 +6,9 @@ use Rattle.sdd_store.proofs.jobs.Jobs.run.Goals as goal
 
 pub unreachable-requires : goal.unreachable-requires
 unreachable-requires g c =
-    let taken : IsSome (entry_at c.self.inside.numbers c.args.place) = ap is_some (sym c.get.ensures ∙ c.in-Some.is) in
+    let taken : IsSome (entry_at c.self.inside.numbers c.args.place) = rw c.self.view_is (c.is_taken.ensures.0 c.if-not-is_taken.false) in
     let there = not-nothing _ _ c.args.place c.index_mut.result.now c.self.invariant taken c.index_mut.ensures.value in
-    let none = sym c.take.ensures.value ∙ c.in_default-take.is in
+    let none = sym c.take.ensures.value ∙ c.in_default.is in
     let clash = sym (ap is_some none) ∙ there in cc
 
 pub invariant_of-self : goal.invariant_of-self

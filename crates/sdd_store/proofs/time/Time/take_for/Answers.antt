@@ -8,8 +8,8 @@ use Rattle.sdd_store.proofs.Collecting.{among-more, among-or-left, place-below, 
 use Rattle.sdd_store.proofs.time.Time.take_for.Goals as goal
 
 pub take_from-requires-clause-room : goal.take_from-requires-clause-room
-take_from-requires-clause-room c =
-    let chosen = is_kept_for c.args.collector c.args.standings.now in
+take_from-requires-clause-room g c =
+    let chosen = is_kept_for c.args.collector (g.S.Standings.standings c.args.standings.now) in
     let t = c.args.self.now in
     let i = c.loop-place.place in
     let inside : i < length t.places = omega (arith, c.loop-place.invariant.end, c.loop-place-test.true) in
@@ -17,8 +17,8 @@ take_from-requires-clause-room c =
     omega (arith, same, ap length c.loop-place.invariant.taken, room-below chosen t.places i inside, c.requires.reserved, c.loop-place.invariant.reserved)
 
 pub loop-place-preserved : goal.loop-place-preserved
-loop-place-preserved c =
-    let chosen = is_kept_for c.args.collector c.args.standings.now in
+loop-place-preserved g c =
+    let chosen = is_kept_for c.args.collector (g.S.Standings.standings c.args.standings.now) in
     let t = c.args.self.now in
     let u = c.loop-place.self in
     let i = c.loop-place.place in
@@ -34,8 +34,8 @@ loop-place-preserved c =
     }
 
 pub returns-clause-count : goal.returns-clause-count
-returns-clause-count c =
-    let chosen = is_kept_for c.args.collector c.args.standings.now in
+returns-clause-count g c =
+    let chosen = is_kept_for c.args.collector (g.S.Standings.standings c.args.standings.now) in
     let t = c.args.self.now in
     let i = c.loop-place.place in
     let all : length t.places ≤ i = omega (arith, c.loop-place.invariant.end, c.loop-place-test.false) in

@@ -1,0 +1,19 @@
+use Rattle.std.proofs.Common.{◌+◌}
+use Rattle.sdd_token.specs.Right.{number_of}
+use Rattle.sdd_base.proofs.Housed.{Whole-shared}
+use Rattle.sdd_inside.proofs.Lending.{lent-shared}
+use Rattle.sdd_inside.proofs.inside.Core.add_owner.Goals as goal
+
+pub returns-then-owners-lt-MOST_OWNERS-clause-whole :
+    goal.returns-then-owners-lt-MOST_OWNERS-clause-whole
+returns-then-owners-lt-MOST_OWNERS-clause-whole g c =
+    let owners = c.owners_with-owners.result in
+    rw (← c.self.view_is, c.add_owner.ensures.added, c.number.ensures)
+    (λ i. Whole-shared _ (number_of c.args.right.now) owners (owners + 1) c.owners_with-owners.ensures.shared i)
+
+pub returns-then-owners-lt-MOST_OWNERS-clause-lent :
+    goal.returns-then-owners-lt-MOST_OWNERS-clause-lent
+returns-then-owners-lt-MOST_OWNERS-clause-lent g c =
+    let owners = c.owners_with-owners.result in
+    rw (← c.self.view_is, c.add_owner.ensures.added, c.number.ensures)
+    (λ _ l. lent-shared _ _ (number_of c.args.right.now) owners (owners + 1) c.owners_with-owners.ensures.shared l)
