@@ -29,10 +29,9 @@ use Rattle.sdd_rule.proofs.Ended.{Spares}
 use Rattle.sdd_rule.proofs.Sums.{is_same}
 use Rattle.sdd_homes.specs.Homes.{Carries, Moves}
 use Rattle.sdd_homes.specs.Housed.{Housed}
-use Rattle.sdd_homes.specs.HomeSteps.{Mine, HasAll, IsValue, Purse, ClaimsAll, Houses, TakesOut, TakesHeld, RetiresOne, GivesAll, DiscardsAll, Watches, ClosesHome, OfSlot}
-use Rattle.sdd_homes.proofs.Lift.{lift_epoch, lift_publish}
+use Rattle.sdd_homes.specs.HomeSteps.{Mine, HasAll, IsValue, Purse, ClaimsAll, Houses, TakesOut, TakesHeld, RetiresOne, GivesAll, DiscardsAll, Watches, ClosesHome, EndsAll, OfSlot}
+use Rattle.sdd_homes.proofs.Lift.{lift_epoch, lift_publish, lift_end}
 use Rattle.sdd_homes.proofs.Steps.{own_place}
-use Rattle.sdd_homes.proofs.Telling.{none_moved}
 use Rattle.sdd_homes.proofs.Steps as steps
 use Rattle.sdd_homes.proofs.Tokens.{enters}
 use Rattle.sdd_rule.specs.Parts.{idle, owner_of}
@@ -84,7 +83,7 @@ module _ (γ : ℕ) (sizes : Sizes) (slots id : ℕ) (me : Mine) where
   -- of the epoch's part, with which no place is taken or ended
   may_epoch : (R : EpochView → ℕ → EpochView → Type 0) (i : ℕ) (f : ℕ → ℕ) → i < after_places sizes.participants
       → ((x : ℕ) (w : EpochView) → R v x w → HasPlace w → HasPlace v) → ((x : ℕ) (w : EpochView) → R v x w → IsOpen v → w.place ≡ v.place)
-      → ((x : ℕ) (w : EpochView) → R v x w → HasPlace v → (j : ℕ) → Moves me.0 j → HasPlace w)
+      → ((x : ℕ) (w : EpochView) → R v x w → HasPlace v → HasPlace w)
       → ((s : State Stake View) → Housed γ sizes s → get_elem? s.views id ≡ some me.0 → Spares sizes s.words i (f (get_or s.words i 0)))
       → Keeps sizes.participants id v i f (R v) → May i f (Told (OnEpoch R) me)
   may_epoch R i f low had stays lives spares keeps = lift_epoch γ sizes slots id me i f R (Told (OnEpoch R) me) (omega arith) stays lives spares
@@ -92,7 +91,7 @@ module _ (γ : ℕ) (sizes : Sizes) (slots id : ℕ) (me : Mine) where
 
   may_store_epoch : (R : EpochView → ℕ → EpochView → Type 0) (i c : ℕ) → i < after_places sizes.participants
       → ((w : EpochView) → R v c w → HasPlace w → HasPlace v) → ((w : EpochView) → R v c w → IsOpen v → w.place ≡ v.place)
-      → ((w : EpochView) → R v c w → HasPlace v → (j : ℕ) → Moves me.0 j → HasPlace w)
+      → ((w : EpochView) → R v c w → HasPlace v → HasPlace w)
       → ((s : State Stake View) → Housed γ sizes s → get_elem? s.views id ≡ some me.0 → Spares sizes s.words i c)
       → Keeps sizes.participants id v i (λ _. c) (λ _. R v c) → May i (λ _. c) (λ _. Told (OnEpoch R) me c)
   may_store_epoch R i c low had stays lives spares keeps = lift_epoch γ sizes slots id me i (λ _. c) (λ u _ w. R u c w) (λ _. Told (OnEpoch R) me c)
@@ -108,12 +107,12 @@ module _ (γ : ℕ) (sizes : Sizes) (slots id : ℕ) (me : Mine) where
 
   pub may_read : May global_word (λ x. x) (Told (OnEpoch Reads) me)
   may_read = may_epoch Reads global_word (λ x. x) (omega arith) (λ _ w t z. subst HasPlace t.0 z) (λ _ w t _. ap (λ (u : EpochView). u.place) t.0)
-      (λ _ w t z _ _. subst HasPlace (sym t.0) z) (λ s h at p low e was. was) (epochs.reads sizes.participants id v)
+      (λ _ w t z. subst HasPlace (sym t.0) z) (λ s h at p low e was. was) (epochs.reads sizes.participants id v)
 
   pub may_write : (i c : ℕ) → IsClosed v → i ≡ count_word v.place → v.place < sizes.participants → May i (λ _. c) (λ _. Told (OnEpoch Counts) me c)
   may_write i c shut is inside = subst (λ (i : ℕ). May i (λ _. c) (λ _. Told (OnEpoch Counts) me c)) (sym is)
       (may_store_epoch Counts (count_word v.place) c (omega arith) (λ _ _ _. omega arith) (λ w t _. ap (λ (u : EpochView). u.place) t)
-      (λ w t z _ _. subst HasPlace (sym t) z) (λ s h at p low e was. absurd (omega arith)) (epochs.counts sizes.participants id v c shut))
+      (λ w t z. subst HasPlace (sym t) z) (λ s h at p low e was. absurd (omega arith)) (epochs.counts sizes.participants id v c shut))
 
   pub may_publish : (i : ℕ) → IsClosed v → v.count ≡ v.known → i ≡ state_word v.place → v.place < sizes.participants
       → May i (λ _. 2) (λ _. Told PublishesAll me 2)
@@ -123,10 +122,12 @@ module _ (γ : ℕ) (sizes : Sizes) (slots id : ℕ) (me : Mine) where
       (own_place γ sizes id me.0 (omega arith) 2) (λ w t. (refl, t)))
 
   pub may_end : (i : ℕ) → IsClosed v → i ≡ state_word v.place → v.place < sizes.participants → me.0.stakes.moves ≡ None
-      → May i (λ _. 3) (λ _. Told (OnEpoch Ends) me 3)
-  may_end i shut is inside rests = subst (λ (i : ℕ). May i (λ _. 3) (λ _. Told (OnEpoch Ends) me 3)) (sym is)
-      (may_store_epoch Ends (state_word v.place) 3 (omega arith) (λ _ _ _. omega arith) (λ w t _. ap (λ (u : EpochView). u.place) t)
-      (λ w t z j m. absurd (none_moved me.0 j rests m)) (own_place γ sizes id me.0 (omega arith) 3) (epochs.ends sizes.participants id v shut))
+      → May i (λ _. 3) (λ _. Told EndsAll me 3)
+  may_end i shut is inside rests = subst (λ (i : ℕ). May i (λ _. 3) (λ _. Told EndsAll me 3)) (sym is)
+      (lift_end γ sizes slots id me (Told EndsAll me 3) inside shut rests
+      (over.mild sizes id me.0 (state_word v.place) (λ _. 3) (omega arith) (λ u _ w. Ends u 3 w) (λ _ w t z. let e = ap (λ (u : EpochView). u.state) t in omega arith)
+      (epochs.ends sizes.participants id v shut))
+      (own_place γ sizes id me.0 (omega arith) 3) (refl, refl))
 
   pub may_bar : (i p : ℕ) → i ≡ state_word p → p < sizes.participants → p ≡ me.0.places.ended
       → May i (λ x. either (eqb x 0) 3 x) (Told (Bars i) me)
@@ -136,7 +137,7 @@ module _ (γ : ℕ) (sizes : Sizes) (slots id : ℕ) (me : Mine) where
   pub may_lock : IsOpen v → ¬ (Scans v) → May lock_word (λ x. either (eqb x 0) 1 x) (Told (OnEpoch Locks) me)
   may_lock is_open free = may_epoch Locks lock_word (λ x. either (eqb x 0) 1 x) (omega arith) (λ _ _ _ _. omega arith)
       (λ x w t _. which (λ (u : EpochView). u.place ≡ v.place) (scanning v) v w x 0 t.0 t.1 refl refl)
-      (λ x w t z _ _. which HasPlace (scanning v) v w x 0 t.0 t.1 z z) (λ s h at p low e was. absurd (omega arith))
+      (λ x w t z. which HasPlace (scanning v) v w x 0 t.0 t.1 z z) (λ s h at p low e was. absurd (omega arith))
       (epochs.locks sizes.participants id v is_open free)
 
   pub may_look_at_state : (i q : ℕ) → i ≡ state_word q → q < sizes.participants → IsNext v q → May i (λ x. x) (Told (OnEpoch (LooksAtState i)) me)
@@ -144,7 +145,7 @@ module _ (γ : ℕ) (sizes : Sizes) (slots id : ℕ) (me : Mine) where
       (may_epoch (LooksAtState (state_word q)) (state_word q) (λ x. x) (omega arith)
       (λ x w t. had v v (passed_by v q) w x 2 (t q refl).1 (t q refl).0 (λ z. z) (λ z. z))
       (λ x w t _. which (λ (u : EpochView). u.place ≡ v.place) v (passed_by v q) w x 2 (t q refl).1 (t q refl).0 refl refl)
-      (λ x w t z _ _. which HasPlace v (passed_by v q) w x 2 (t q refl).1 (t q refl).0 z z) (λ s h at p low e was. was)
+      (λ x w t z. which HasPlace v (passed_by v q) w x 2 (t q refl).1 (t q refl).0 z z) (λ s h at p low e was. was)
       (epochs.looks_at_state sizes.participants id v q next))
 
   pub may_look_at_count : (i q : ℕ) → i ≡ count_word q → q < sizes.participants → IsNext v q → May i (λ x. x) (Told (OnEpoch (LooksAtCount i)) me)
@@ -152,7 +153,7 @@ module _ (γ : ℕ) (sizes : Sizes) (slots id : ℕ) (me : Mine) where
       (may_epoch (LooksAtCount (count_word q)) (count_word q) (λ x. x) (omega arith)
       (λ x w t. had v (passed_by v q) v w x v.count (t q refl).0 (t q refl).1 (λ z. z) (λ z. z))
       (λ x w t _. which (λ (u : EpochView). u.place ≡ v.place) (passed_by v q) v w x v.count (t q refl).0 (t q refl).1 refl refl)
-      (λ x w t z _ _. which HasPlace (passed_by v q) v w x v.count (t q refl).0 (t q refl).1 z z) (λ s h at p low e was. was)
+      (λ x w t z. which HasPlace (passed_by v q) v w x v.count (t q refl).0 (t q refl).1 z z) (λ s h at p low e was. was)
       (epochs.looks_at_count sizes.participants id v q next))
 
   pub may_advance : (c d : ℕ) → c ≡ v.count → d ≡ v.count + 1 → IsNext v sizes.participants
@@ -162,12 +163,12 @@ module _ (γ : ℕ) (sizes : Sizes) (slots id : ℕ) (me : Mine) where
       (may_epoch Advances global_word (λ x. either (eqb x v.count) (v.count + 1) x) (omega arith)
       (λ x w t. had v (knowing v (v.count + 1)) v w x v.count t.0 t.1 (λ z. z) (λ z. z))
       (λ x w t _. which (λ (u : EpochView). u.place ≡ v.place) (knowing v (v.count + 1)) v w x v.count t.0 t.1 refl refl)
-      (λ x w t z _ _. which HasPlace (knowing v (v.count + 1)) v w x v.count t.0 t.1 z z) (λ s h at p low e was. absurd (omega arith))
+      (λ x w t z. which HasPlace (knowing v (v.count + 1)) v w x v.count t.0 t.1 z z) (λ s h at p low e was. absurd (omega arith))
       (epochs.advances sizes.participants id v next))
 
   pub may_unlock : Scans v → May lock_word (λ _. 0) (λ _. Told (OnEpoch Unlocks) me 0)
   may_unlock mine = may_store_epoch Unlocks lock_word 0 (omega arith) (λ w t z. subst HasPlace t z) (λ w t _. ap (λ (u : EpochView). u.place) t)
-      (λ w t z _ _. subst HasPlace (sym t) z) (λ s h at p low e was. absurd (omega arith)) (epochs.unlocks sizes.participants id v mine)
+      (λ w t z. subst HasPlace (sym t) z) (λ s h at p low e was. absurd (omega arith)) (epochs.unlocks sizes.participants id v mine)
 
   -- by a participant, which knows the table's sizes and its book
   module _ (same : me.0.sizes ≡ sizes) (book : me.0.stakes.book ≡ γ) (live : HasPlace v) where

@@ -2,3 +2,4 @@ pub mod Sizes
 pub mod Board
 pub mod Token
 pub mod Owner
+pub mod Counts

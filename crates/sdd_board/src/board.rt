@@ -1,9 +1,10 @@
 //! The words of a domain and the stakes in its values, under their rule, and the token that a participant steps with.
-ghost use Rattle.std.specs.Prelude.{◌≡◌, ◌<◌, ◌≤◌, MatchResult};
+ghost use Rattle.std.specs.Prelude.{◌≡◌, ◌+◌, ◌<◌, ◌≤◌, MatchResult};
 ghost use Rattle.sdd_rule.specs.Words as words;
 ghost use Rattle.sdd_rule.specs.Words.{all_words};
-ghost use Rattle.core.specs.Mem.Slots.{slots_len, IsFull};
+ghost use Rattle.core.specs.Mem.Slots.{slots_items, slots_len, IsFull};
 ghost use Rattle.sdd_homes.specs.Homes.{AreLaid, AreHome};
+ghost use Rattle.sdd_homes.specs.Counts.{made_by, gone_by, over_by, full_slots};
 ghost use Rattle.sdd_board.specs.Sizes.{AreSmall};
 
 use crate::words::{first_slot, word_count};
@@ -87,10 +88,14 @@ impl Board {
     }
 
     /// The words and the stakes, by a token that knows that all places have ended: all stakes lie in their homes.
+    /// Where it has the counts of all places, what was made has gone or lies in a slot.
     pub fn close(self, token: Token) -> Closed<Stake, Global>
         requires home { token.table_id ≡ id_of self }
         requires ended { places_of self ≤ token.me.0.places.ended }
         ensures home { AreHome (book_of self) (sizes_of self) (slots_len result.slots) result }
+        ensures places { over_by token.me.0 ≤ places_of self }
+        ensures counted { over_by token.me.0 ≡ places_of self
+            → made_by token.me.0 ≡ gone_by token.me.0 + full_slots (sizes_of self) (slots_items result.words) }
         ensures words { (slots_len result.words ≡ all_words (sizes_of self)) × IsFull result.words }
     {
         let Board {

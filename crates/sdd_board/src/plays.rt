@@ -1,10 +1,10 @@
 //! What each step tells.
 ghost use Rattle.std.specs.Prelude.{[]};
-ghost use Rattle.sdd_rule.specs.Steps.{Registers, Reads, Counts, Ends, Locks, LooksAtState, LooksAtCount, Advances, Unlocks};
+ghost use Rattle.sdd_rule.specs.Steps.{Registers, Reads, Counts, Locks, LooksAtState, LooksAtCount, Advances, Unlocks};
 ghost use Rattle.sdd_rule.specs.SlotSteps.{OnEpoch, PublishesAll, LooksAtSlot, TakesHold, LetsGo, LooksForGuard, AtSlot};
 ghost use Rattle.sdd_rule.specs.Ended.{Bars};
 ghost use Rattle.sdd_rule.specs.Parts.{owner_token};
-ghost use Rattle.sdd_homes.specs.HomeSteps.{ClaimsAll, TakesOut, TakesHeld, RetiresOne, GivesAll, DiscardsAll, ClosesHome, OfSlot, parting, departing, regained};
+ghost use Rattle.sdd_homes.specs.HomeSteps.{ClaimsAll, TakesOut, TakesHeld, RetiresOne, GivesAll, DiscardsAll, ClosesHome, EndsAll, OfSlot, parting, departing, regained, uncounting, counts_of, counting};
 ghost use Rattle.sdd_board.specs.Token.{Sits, Told, HousesMoved, WatchesOwned};
 
 use atomic_table::{Join, Play, Split};
@@ -51,7 +51,7 @@ impl Play<Stake, View> for Close {
 pub struct End;
 
 impl Play<Stake, View> for End {
-    ghost then = { λ _. Told (OnEpoch Ends) };
+    ghost then = { λ _. Told EndsAll };
 }
 
 pub struct Bar;
@@ -174,6 +174,22 @@ pub struct TakeIn;
 
 impl Join<View> for TakeIn {
     ghost both = { regained };
+
+    ghost spent = { owner_token [] [] };
+}
+
+pub struct CutCounts;
+
+impl Split<View> for CutCounts {
+    ghost left = { uncounting };
+
+    ghost right = { counts_of };
+}
+
+pub struct TakeCounts;
+
+impl Join<View> for TakeCounts {
+    ghost both = { counting };
 
     ghost spent = { owner_token [] [] };
 }

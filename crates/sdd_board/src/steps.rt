@@ -2,14 +2,15 @@
 ghost use Rattle.std.specs.Prelude.{◌≡◌, ◌+◌, ◌^◌, ◌<◌, [], None};
 ghost use Rattle.sdd_rule.specs.Words as words;
 ghost use Rattle.sdd_rule.specs.Epoch.{IsClosed, IsOpen, Scans};
-ghost use Rattle.sdd_rule.specs.Steps.{nobody, IsNext, Registers, Reads, Counts, Ends, Locks, LooksAtState, LooksAtCount, Advances, Unlocks};
+ghost use Rattle.sdd_rule.specs.Steps.{nobody, IsNext, Registers, Reads, Counts, Locks, LooksAtState, LooksAtCount, Advances, Unlocks};
 ghost use Rattle.sdd_rule.specs.Parts.{idle};
 ghost use Rattle.sdd_board.specs.Board.{id_of, sizes_of, book_of, places_of};
 ghost use Rattle.sdd_rule.specs.SlotSteps.{blank};
 ghost use Rattle.sdd_rule.specs.Ended.{Bars};
-ghost use Rattle.sdd_homes.specs.HomeSteps.{Purse};
+ghost use Rattle.sdd_homes.specs.HomeSteps.{Purse, EndsAll};
 ghost use Rattle.sdd_board.specs.Token.{view, epoch, words_known, Stepped, Taught, HasPublished, HasClosed, Knows};
 
+pub mod counts;
 pub mod slots;
 
 use crate::board::{Board, Token};
@@ -110,13 +111,13 @@ pub fn close(board: &Board, token: &mut Token, place: usize)
         .store::<Close>(token, state_word(place), CLOSED);
 }
 
-/// Ends the own place.
+/// Ends the own place, which the token counts from then on.
 pub fn end(board: &Board, token: &mut Token, place: usize)
     requires home { token.old.table_id ≡ id_of board.now }
     requires rests { (view token.old).stakes.moves ≡ None }
     requires own { (place ≡ (epoch token.old).place) × (place < places_of board.now) }
     requires closed { IsClosed (epoch token.old) }
-    ensures { Stepped Ends token.old 3 token.new }
+    ensures { Taught EndsAll token.old 3 token.new }
 {
     board
         .table

@@ -1,5 +1,5 @@
 -- What an outermost opening leaves, with a change and without one
-use Rattle.std.proofs.Common.{◌≡◌, ◌≢◌, ℕ, ◌+◌, ◌<◌, ◌≤◌, if◌then◌else◌, not, List, [], ◌∷◌, map, sym, refl, ap, ◌∙◌, eq-eqb, ne_eqb, arith}
+use Rattle.std.proofs.Common.{◌≡◌, ◌≢◌, ℕ, ◌+◌, ◌<◌, ◌≤◌, if◌then◌else◌, not, List, [], ◌∷◌, length, map, sym, refl, ap, ◌∙◌, eq-eqb, ne_eqb, arith}
 use mathlib.Core.Bool.{Bool, true, false, cond}
 use Rattle.atomic_table.specs.declared.shared.Seat.{Seat}
 use Rattle.sdd_store.specs.declared.waiting.What.{What}
@@ -20,9 +20,9 @@ use Rattle.sdd_rule.proofs.Sums.{total_map}
 use Rattle.sdd_board.specs.declared.board.Board.{Board}
 use Rattle.sdd_board.specs.Board.{slots_of}
 use Rattle.sdd_board.specs.Token.{view, epoch, slots, Taught, Stepped, HasPublished}
-use Rattle.sdd_domain.specs.Waits.{waiting_of, is_ripe, unripe, waits_at, due_at, arrived_at, freed, GivesAllBack, Arrives}
+use Rattle.sdd_domain.specs.Waits.{waiting_of, is_ripe, unripe, waits_at, due_at, arrived_at, freed, gone_more, GivesAllBack, Arrives}
 use Rattle.sdd_domain.specs.Posed.{IsPosed}
-use Rattle.sdd_domain.proofs.Reclaims.{aged_alike, left_alike}
+use Rattle.sdd_domain.proofs.Reclaims.{aged_alike, left_alike, none_more}
 use Rattle.sdd_domain.proofs.Posing.{posed_arrived, has_place}
 
 -- where nothing waits a change only finds the count
@@ -43,7 +43,9 @@ none_given v own none bags =
     let e : v.slots.waits ≡ [] = no_items v.slots.waits (sym bags ∙ ap aged none) in
     let waits : v.slots.waits ≡ unripe v.slots.waits = e ∙ sym (ap unripe e) in
     let words : v.words ≡ freed v.sizes (due_next own) v.words = sym (ap (λ (ws : List Waiting). freed v.sizes (due (aged ws)) v.words) none) in
-    λ i. record v { slots = record v.slots { waits = waits i }; words = words i }
+    let stakes : v.stakes ≡ gone_more (length (due_next own)) v.stakes
+    = sym (ap (λ (ws : List Waiting). gone_more (length (due (aged ws))) v.stakes) none ∙ none_more v.stakes) in
+    λ i. record v { slots = record v.slots { waits = waits i }; stakes = stakes i; words = words i }
 
 settled_idle : (ws : List Waiting) → ◌≡◌ {A = ℕ} (elim ws [ [] ↦ 128 | x ∷ xs ↦ 127 ]) 128 → ws ≡ []
 settled_idle [] e = refl
@@ -105,14 +107,15 @@ module _ (b : Board) (p : ℕ) (own : Participant) (count : ℕ) where
       let lone : IsLone e → g ≡ count
       = λ one. pub_.4.3 (ap (λ (x : EpochView). x.all) read.1.0 ∙ one) ∙ ap (λ (x : EpochView). x.known) read.1.0 in (
         posed_arrived b p own own count g s.me.0.slots.waits s u q (pub_.0.0 ∙ read.0.0.0) (pub_.0.2 ∙ read.0.0.2) (pub_.0.3 ∙ read.0.0.3)
-            (pub_.0.4 ∙ read.0.0.4) epochs low lone keeps
+            (λ i. record ((pub_.0.4 ∙ read.0.0.4) i) { counts = s.me.0.stakes.counts }) epochs low lone keeps
             (λ i. omega arith) same shut q.bags refl q.pace q.idle,
         record {
           table = pub_.0.0 ∙ read.0.0.0;
           number = pub_.0.1 ∙ read.0.0.1;
           others = pub_.0.2 ∙ read.0.0.2;
           sizes = pub_.0.3 ∙ read.0.0.3;
-          stakes = pub_.0.4 ∙ read.0.0.4;
+          stakes = pub_.0.4 ∙ (read.0.0.4 ∙ sym (ap (λ (l : List What). gone_more (length l) s.me.0.stakes) (due_stayed count own same)
+              ∙ none_more s.me.0.stakes));
           knew = read.1.1;
           knows = (let f = ap (λ (x : EpochView). x.since) epochs in omega arith);
           known = ap (λ (x : EpochView). x.known) epochs ∙ sym (ap (λ (x : EpochView). x.since) epochs);
@@ -155,12 +158,14 @@ module _ (b : Board) (p : ℕ) (own : Participant) (count : ℕ) where
         let number : z.id ≡ s.id = gives.1 ∙ (pub_.0.1 ∙ (write.0.0.1 ∙ read.0.0.1)) in
         let others : z.me.1 ≡ s.me.1 = gives.2 ∙ (pub_.0.2 ∙ (write.0.0.2 ∙ read.0.0.2)) in
         let before : w.me.0.sizes ≡ s.me.0.sizes = pub_.0.3 ∙ (write.0.0.3 ∙ read.0.0.3) in
-        let stakes : z.me.0.stakes ≡ s.me.0.stakes = ap (λ (v : View). v.stakes) gives.3 ∙ (pub_.0.4 ∙ (write.0.0.4 ∙ read.0.0.4)) in
+        let stakes : z.me.0.stakes ≡ gone_more (length (due_next own)) s.me.0.stakes
+        = ap (λ (v : View). v.stakes) gives.3 ∙ ap (gone_more (length (due_next own))) (pub_.0.4 ∙ (write.0.0.4 ∙ read.0.0.4)) in
         let words : w.me.0.words ≡ s.me.0.words = pub_.3 ∙ (write.0.3 ∙ read.0.3) in
         let sizes : z.me.0.sizes ≡ s.me.0.sizes = ap (λ (v : View). v.sizes) gives.3 ∙ before in
         let bags : left (aged own.bags.waiting) ≡ map waiting_of (unripe (map older xs))
         = ap (λ (ws : List Waiting). left (aged ws)) q.bags ∙ (ap left (aged_alike xs) ∙ left_alike (map older xs)) in (
-          posed_arrived b p own (settled (rotated count own)) count g (unripe (map older xs)) s z q table others sizes stakes epochs low lone keeps
+          posed_arrived b p own (settled (rotated count own)) count g (unripe (map older xs)) s z q table others sizes
+              (λ i. record (stakes i) { counts = s.me.0.stakes.counts }) epochs low lone keeps
               (λ i. let a = fewer_left i (map older xs) in let m = same_items i xs in omega arith)
               refl shut bags refl (settled_low (left (aged own.bags.waiting))) (settled_idle (left (aged own.bags.waiting))),
           record {
@@ -168,7 +173,7 @@ module _ (b : Board) (p : ℕ) (own : Participant) (count : ℕ) where
             number = number;
             others = others;
             sizes = sizes;
-            stakes = stakes;
+            stakes = stakes ∙ sym (ap (λ (l : List What). gone_more (length l) s.me.0.stakes) (due_moved count own apart));
             knew = read.1.1;
             knows = (let f = ap (λ (x : EpochView). x.since) epochs in omega arith);
             known = ap (λ (x : EpochView). x.known) epochs ∙ sym (ap (λ (x : EpochView). x.since) epochs);

@@ -6,6 +6,7 @@ use Rattle.sdd_stakes.specs.Stakes.{Lot}
 use Rattle.sdd_stakes.specs.Shelf.{most, lot, vacant, IsWhole, IsVacant}
 use Rattle.sdd_rule.specs.declared.Sizes.{Sizes}
 use Rattle.sdd_rule.specs.Words.{slot_word}
+use Rattle.sdd_rule.specs.Sums.{span}
 use Rattle.sdd_rule.specs.Slots.{slot_at}
 use Rattle.sdd_homes.specs.Homes.{homes_for}
 
@@ -26,3 +27,7 @@ word_says sizes ws slot i x at e = ap (λ (k : ℕ). get_or ws k 0) (sym at) ∙
 pub empty_whole : (γ γ' i a : ℕ) (h : Lot) → γ' ≡ γ → h ≡ lot γ' i a vacant most → IsWhole γ i h × IsVacant h.shown
 empty_whole γ γ' i a h same is = let e : h ≡ lot γ i a vacant most = is ∙ ap (λ (k : ℕ). lot k i a vacant most) same in
     (e ∙ (λ d. lot γ i (sym (ap (λ (h : Lot). h.round) e) d) (sym (ap (λ (h : Lot). h.shown) e) d) most), ap (λ (h : Lot). h.shown) e)
+
+-- the last of the words that are counted
+pub span_last : (f : ℕ → ℕ) (ws : List ℕ) (b n i : ℕ) → n ≡ i + 1 → span f ws b n ≡ f (get_or ws (b + i) 0) + span f ws b i
+span_last f ws b n i e = ap (span f ws b) (let h : n ≡ suc i = omega arith in h)

@@ -12,14 +12,14 @@ use Rattle.sdd_stakes.specs.declared.stake.Stake.{Stake}
 use Rattle.sdd_stakes.specs.Shelf.{most, IsVacant, CanShow, Shows, HasWhole, all_turned}
 use Rattle.sdd_rule.specs.declared.Showing.{Showing}
 use Rattle.sdd_rule.specs.declared.View.{View}
-use Rattle.sdd_rule.specs.SlotSteps.{given_back, claimed, Knew, LooksAtSlot}
+use Rattle.sdd_rule.specs.SlotSteps.{given_back, Knew, LooksAtSlot}
 use Rattle.sdd_rule.specs.Codes.{free_word, owned_word}
 use Rattle.sdd_rule.specs.Sums.{times}
 use Rattle.sdd_rule.proofs.Sums.{is_other}
 use Rattle.sdd_homes.specs.Homes.{Carries, Has, stake_at}
 use Rattle.sdd_homes.specs.Records.{slot_shown, IsIn}
 use Rattle.sdd_homes.proofs.Records.{in_head, in_tail}
-use Rattle.sdd_homes.specs.HomeSteps.{Mine, HasAll, IsValue, Purse, ClaimsAll, book_of, places_of, moving, resting}
+use Rattle.sdd_homes.specs.HomeSteps.{Mine, HasAll, IsValue, Purse, ClaimsAll, book_of, places_of, moving, making, giving, with_gone}
 use Rattle.sdd_homes.proofs.Tops.{whole, all_after, rest_is}
 use Rattle.atomic_table.specs.declared.shared.Seat.{Seat}
 use Rattle.sdd_board.specs.Token.{Taught, Moved}
@@ -45,8 +45,8 @@ pub rest_out : (γ i n n' : ℕ) (Is : Gv → Type 0) (rest xs zs : Carries) →
 rest_out γ i n n' Is rest xs zs same row e = e ∙ (ap (λ (k : ℕ). drop (suc k) xs) same ∙ rest_is γ i n Is rest (suc n) xs row)
 
 -- a slot that was given back by who moved its value
-pub rests_again : (slot y : ℕ) (v w : View) → v.stakes.moves ≡ None → w ≡ resting (given_back slot y (moving slot v)) → w ≡ given_back slot y v
-rests_again slot y v w rests e = e ∙ (λ d. record (given_back slot y v) { stakes = record v.stakes { moves = sym rests d } })
+pub rests_again : (slot y : ℕ) (v w : View) → v.stakes.moves ≡ None → w ≡ giving (given_back slot y (moving slot v)) → w ≡ with_gone (given_back slot y v)
+rests_again slot y v w rests e = e ∙ (λ d. record (with_gone (given_back slot y v)) { stakes = record (with_gone v).stakes { moves = sym rests d } })
 
 -- ---- what the guards see
 pub nothing_out : (γ n p : ℕ) (sees : List Showing) (xs : Carries) → sees ≡ [] → IsPurse γ n p sees xs → xs ≡ []
@@ -143,7 +143,7 @@ pub gains : (slot : ℕ) (s t u : Seat Stake View) (r r' : ℕ) → Taught (Look
     → r' ≡ free_word 0 → slot < s.me.0.sizes.slots → Gains slot s u
 unfolding AllOut
 gains slot s t u r r' look claim hit inside = let me : t.me ≡ s.me = λ d. (look.3.0 d, look.2 d) in
-    let out = subst (λ (m : Mine). (u.me.0 ≡ moving slot (claimed slot (owned_word 0) m.0)) × HasAll (book_of m) slot (places_of m) IsVacant m.1 u.me.1)
+    let out = subst (λ (m : Mine). (u.me.0 ≡ making slot (owned_word 0) m.0) × HasAll (book_of m) slot (places_of m) IsVacant m.1 u.me.1)
     me (claim.2.0 hit) in
     let knew = subst (λ (m : Mine). Knew slot m.0 r') me claim.2.2 in record {
       table = claim.0 ∙ look.0;

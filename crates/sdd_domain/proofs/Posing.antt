@@ -31,7 +31,7 @@ use Rattle.sdd_rule.specs.Codes.{owned_word}
 use Rattle.sdd_homes.specs.Homes.{Carries, Has, stake_at}
 use Rattle.sdd_homes.specs.Records.{slot_shown, IsIn}
 use Rattle.sdd_homes.proofs.Records.{in_head, in_either, in_times}
-use Rattle.sdd_homes.specs.HomeSteps.{Mine, IsValue, Watches, RetiresOne, regained, resting, untold}
+use Rattle.sdd_homes.specs.HomeSteps.{Mine, IsValue, Watches, RetiresOne, regained, resting, untold, with_made}
 use Rattle.sdd_board.specs.Board.{book_of, places_of, slots_of}
 use Rattle.sdd_board.specs.Token.{view, epoch, slots, Taught, Moved, MovedAlone}
 use Rattle.sdd_board.specs.Owner.{disowned}
@@ -119,7 +119,8 @@ module _ (b : Board) (p : ℕ) where
       }
 
   pub posed_arrived : (own new : Participant) (c g : ℕ) (xs : List WaitingItem) (s t : Seat Stake View) → IsPosed b p own s → t.table_id ≡ s.table_id
-      → t.me.1 ≡ s.me.1 → t.me.0.sizes ≡ s.me.0.sizes → t.me.0.stakes ≡ s.me.0.stakes → epoch t ≡ published (counted (knowing (epoch s) c) c) g → c ≤
+      → t.me.1 ≡ s.me.1 → t.me.0.sizes ≡ s.me.0.sizes
+      → record t.me.0.stakes { counts = s.me.0.stakes.counts } ≡ s.me.0.stakes → epoch t ≡ published (counted (knowing (epoch s) c) c) g → c ≤
       g → (IsLone (epoch s) → g ≡ c)
       → slots t ≡ record s.me.0.slots { waits = xs } → ((i : ℕ) → total (waits_in i) xs ≤ items_at i (view s))
       → new.found ≡ c → new.guards ≡ 0 → new.bags.waiting ≡ map waiting_of xs → new.bags.room ≡ own.bags.room
@@ -159,11 +160,11 @@ module _ (b : Board) (p : ℕ) where
 
   -- a slot that it claimed has an item, whose owner left it
   pub made_view : (own : Participant) (slot : ℕ) (s t u : Seat Stake View) → IsPosed b p own s → Gains slot s t → view u ≡ disowned (resting (view t))
-      → view u ≡ record (view s) { words = noted slot (owned_word 0) (view s) }
+      → view u ≡ with_made (record (view s) { words = noted slot (owned_word 0) (view s) })
   made_view own slot s t u q gains is = let v : View = view s in is ∙ (ap (λ (w : View). disowned (resting w)) gains.view
       ∙ (λ d. record v {
         slots = record v.slots { owns = sym q.quiet.owns d };
-        stakes = record v.stakes { moves = sym q.rests d };
+        stakes = record (with_made v).stakes { moves = sym q.rests d };
         words = noted slot (owned_word 0) v;
       }))
 

@@ -8,14 +8,15 @@ use Rattle.sdd_store.specs.declared.waiting.What.{What}
 use Rattle.sdd_store.specs.declared.waiting.What.TheVariants.{Item, Job}
 use Rattle.sdd_store.specs.Waiting.{Waiting, aged, due, left}
 use Rattle.sdd_rule.specs.declared.WaitingItem.{WaitingItem}
+use Rattle.sdd_rule.specs.declared.StakesView.{StakesView}
 use Rattle.sdd_rule.specs.declared.View.{View}
 use Rattle.sdd_rule.specs.declared.Sizes.{Sizes}
 use Rattle.sdd_rule.specs.Codes.{free_word}
 use Rattle.sdd_rule.specs.Sums.{total}
 use Rattle.sdd_rule.specs.Slots.{waits_in, items_at}
-use Rattle.sdd_rule.specs.SlotSteps.{older, behind, without_item, GivesBack, IsDue}
+use Rattle.sdd_rule.specs.SlotSteps.{older, behind, without_item, IsDue}
 use Rattle.sdd_rule.proofs.Sums.{is_same, is_other, total_has}
-use Rattle.sdd_domain.specs.Waits.{what_of, waiting_of, is_ripe, ripe, unripe, freed, GivesAllBack}
+use Rattle.sdd_domain.specs.Waits.{what_of, waiting_of, is_ripe, ripe, unripe, freed, gone_more, GivesOneBack, GivesAllBack}
 
 either_way : (b : Bool) → (b ≡ true) ⊎ (b ≡ false)
 either_way true = inl refl
@@ -116,14 +117,24 @@ all_left (x ∷ xs) e = ⊎_elim
 
 -- what was there first, all that is due, what of it is still to be given back, and what is known now
 pub record Going (n : ℕ) (first : View) (all rest : List What) (v : View) : Type 0 where
-  pub view : v ≡ record first { slots = record first.slots { waits = v.slots.waits }; words = v.words }
+  pub view : v ≡ record first { slots = record first.slots { waits = v.slots.waits }; stakes = v.stakes; words = v.words }
+  pub gone : (k : ℕ) × (k + length rest ≡ length all) × (v.stakes ≡ gone_more k first.stakes)
   pub due : map what_of (ripe v.slots.waits) ≡ rest
   pub left : unripe v.slots.waits ≡ unripe first.slots.waits
   pub words : freed first.sizes rest v.words ≡ freed first.sizes all first.words
   pub inside : (i : ℕ) → 0 < items_at i v → i < n
 
+counts_path : (t : StakesView) (k m : ℕ) → t.counts.gone + k ≡ m → gone_more k t ≡ record t { counts = record t.counts { gone = m } }
+counts_path t k m e = ap (λ (x : ℕ). record t { counts = record t.counts { gone = x } }) e
+
+pub none_more : (t : StakesView) → gone_more 0 t ≡ t
+none_more t = counts_path t 0 t.counts.gone (omega arith)
+
+one_more : (t : StakesView) (k : ℕ) → gone_more 1 (gone_more k t) ≡ gone_more (k + 1) t
+one_more t k = counts_path (gone_more k t) 1 (t.counts.gone + (k + 1)) (omega arith)
+
 pub going_begins : (n : ℕ) (v : View) (all : List What) → map what_of (ripe v.slots.waits) ≡ all → ((i : ℕ) → 0 < items_at i v → i < n) → Going n v all all v
-going_begins n v all e inside = record { view = refl; due = e; left = refl; words = refl; inside = inside }
+going_begins n v all e inside = record { view = refl; gone = (0, omega arith, sym (none_more v.stakes)); due = e; left = refl; words = refl; inside = inside }
 
 pub going_due : (n : ℕ) (first : View) (all rest : List What) (slot : ℕ) (v : View) → Going n first all (Item slot ∷ rest) v → IsDue v slot
 going_due n first all rest slot v g = first_is_due slot rest v.slots.waits g.due
@@ -142,11 +153,16 @@ no_more slot i (x ∷ xs) = let r = no_more slot i xs in ⊎_elim
     (either_way (x.slot == slot))
 
 pub going_on : (n : ℕ) (first : View) (all rest : List What) (slot : ℕ) (v w : View) → Going n first all (Item slot ∷ rest) v
-    → GivesBack slot v (free_word 0) w → Going n first all rest w
+    → GivesOneBack slot v (free_word 0) w → Going n first all rest w
 going_on n first all rest slot v w g gives = let goes = first_goes slot rest v.slots.waits g.due gives.1 in
     let sizes : v.sizes ≡ first.sizes = ap (λ (u : View). u.sizes) g.view in
     subst (Going n first all rest) (sym gives.0) record {
-      view = ap (λ (u : View). record u { slots = record u.slots { waits = without_item slot v.slots.waits }; words = set v.words (behind v.sizes slot) 0 }) g.view;
+      view = ap (λ (u : View). record u {
+        slots = record u.slots { waits = without_item slot v.slots.waits };
+        stakes = gone_more 1 v.stakes;
+        words = set v.words (behind v.sizes slot) 0;
+      }) g.view;
+      gone = let k : ℕ = g.gone.0 in let many = g.gone.1 in (k + 1, omega arith, ap (gone_more 1) g.gone.2 ∙ one_more first.stakes k);
       due = goes.0;
       left = goes.1 ∙ g.left;
       words = ap (λ (z : Sizes). freed first.sizes rest (set v.words (behind z slot) 0)) sizes ∙ g.words;
@@ -154,8 +170,10 @@ going_on n first all rest slot v w g gives = let goes = first_goes slot rest v.s
     }
 
 pub going_ends : (n : ℕ) (first : View) (all : List What) (v : View) → Going n first all [] v → GivesAllBack all first 0 v
-going_ends n first all v g = g.view ∙ ap (λ (p : List WaitingItem × List ℕ). record first { slots = record first.slots { waits = p.0 }; words = p.1 })
-    (let a : v.slots.waits ≡ unripe first.slots.waits = sym (all_left v.slots.waits g.due) ∙ g.left in λ i. (a i, g.words i))
+going_ends n first all v g = let a : v.slots.waits ≡ unripe first.slots.waits = sym (all_left v.slots.waits g.due) ∙ g.left in let many = g.gone.1 in
+    let many : g.gone.0 ≡ length all = omega arith in let t : v.stakes ≡ gone_more (length all) first.stakes
+    = g.gone.2 ∙ ap (λ (k : ℕ). gone_more k first.stakes) many in
+    g.view ∙ (λ i. record first { slots = record first.slots { waits = a i }; stakes = t i; words = g.words i })
 
 head_item : (x : What) (rest : List What) (ys : List WaitingItem) → map what_of ys ≡ x ∷ rest → (slot : ℕ) × (x ≡ Item slot)
 head_item x rest [] e = absurd cc

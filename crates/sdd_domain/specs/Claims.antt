@@ -6,9 +6,9 @@ use Rattle.sdd_stakes.specs.declared.stake.Stake.{Stake}
 use Rattle.sdd_rule.specs.declared.View.{View}
 use Rattle.sdd_rule.specs.Codes.{free_word, owned_word}
 use Rattle.sdd_rule.specs.Epoch.{IsLone}
-use Rattle.sdd_rule.specs.SlotSteps.{behind, claimed}
+use Rattle.sdd_rule.specs.SlotSteps.{behind}
 use Rattle.sdd_homes.specs.Homes.{Carries}
-use Rattle.sdd_homes.specs.HomeSteps.{Mine, HasAll, book_of, places_of, moving}
+use Rattle.sdd_homes.specs.HomeSteps.{Mine, HasAll, book_of, places_of, making}
 
 module _ {S : Type 0} where
   -- nothing has changed
@@ -36,11 +36,11 @@ module _ {S : Type 0} where
 unfoldable pub AllOut : ℕ → Mine → Carries → Type 0
 AllOut slot me xs = HasAll (book_of me) slot (places_of me) IsVacant me.1 xs
 
--- the participant owns a slot more, whose value it is to move in
+-- the participant owns a slot more, for an item that it makes, whose value it is to move in
 pub record Gains (slot : ℕ) (s s' : Seat Stake View) : Type 0 where
   pub table : s'.table_id ≡ s.table_id
   pub number : s'.id ≡ s.id
   pub row : AllOut slot s.me s'.me.1
-  pub view : s'.me.0 ≡ moving slot (claimed slot (owned_word 0) s.me.0)
+  pub view : s'.me.0 ≡ making slot (owned_word 0) s.me.0
   pub inside : slot < s.me.0.sizes.slots
   pub free : IsLone s.me.0.epoch → IsKnownFree s slot

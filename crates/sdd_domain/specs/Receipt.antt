@@ -1,8 +1,9 @@
 -- What an ended participant made and reclaimed
-use Rattle.std.specs.Prelude.{◌≡◌, ℕ, zero, suc, ◌+◌, ◌-◌, ◌^◌, min, List, [], ◌∷◌, map, sum}
+use Rattle.std.specs.Prelude.{◌≡◌, ℕ, zero, suc, ◌+◌, ◌-◌, ◌^◌, ◌<◌, min, List, length, map, sum}
 use Rattle.atomic_table.specs.Seated.{TableId}
-use Rattle.sdd_rule.specs.declared.View.{View}
-use Rattle.sdd_rule.specs.Epoch.{HasEnded}
+use base.Stored.{Gv}
+use Rattle.sdd_rule.specs.declared.CountsView.{CountsView}
+use Rattle.sdd_board.specs.Counts.{witness_of_counts}
 use Rattle.sdd_store.specs.declared.tally.Tally.{Tally}
 
 -- of which domain it is, and the tally
@@ -10,13 +11,27 @@ pub record Receipt : Type 0 where
   pub home : TableId
   pub tally : Tally
 
--- what its token knows: it had a place, which has ended
-abbrev pub HasLeft : List View → Type 0
-HasLeft views = (v : View) × (views ≡ v ∷ []) × HasEnded v.epoch
-
 -- a number no longer grows at 2^128 - 1
+abbrev pub most_counted : ℕ
+most_counted = 2 ^ 128 - 1
+
 abbrev pub capped : ℕ → ℕ
-capped n = min n (2 ^ 128 - 1)
+capped n = min n most_counted
+
+-- what is known of so many places that have ended is what the tally tells; nothing was dropped in its place
+pub record IsTallied (places : ℕ) (tally : Tally) (counts : CountsView) : Type 0 where
+  pub over : counts.over ≡ places
+  pub made : tally.made ≡ capped counts.made
+  pub reclaimed : tally.reclaimed ≡ capped counts.gone
+  pub in_place : tally.in_place ≡ 0
+
+-- what its witness knows: the counts of a place that has ended
+abbrev pub HasLeft : List Gv → Tally → Type 0
+HasLeft views tally = (counts : CountsView) × (views ≡ witness_of_counts counts) × IsTallied 1 tally counts
+
+-- unless it was no longer counted, what was made was reclaimed, or dropped in its place
+abbrev pub AddsUp : Tally → Type 0
+AddsUp t = t.made < most_counted → t.made ≡ t.reclaimed + t.in_place
 
 -- so many items more were reclaimed
 abbrev pub with_reclaimed : ℕ → Tally → Tally
@@ -30,3 +45,19 @@ sum_of rs = record {
   reclaimed = capped (sum (map (λ (r : Receipt). r.tally.reclaimed) rs));
   in_place = capped (sum (map (λ (r : Receipt). r.tally.in_place) rs));
 }
+
+abbrev pub made_in : Receipt → ℕ
+made_in r = r.tally.made
+
+abbrev pub reclaimed_in : Receipt → ℕ
+reclaimed_in r = r.tally.reclaimed
+
+abbrev pub in_place_in : Receipt → ℕ
+in_place_in r = r.tally.in_place
+
+-- the counts of these receipts together: as many places, and what the tallies tell, as far as they count
+pub record HasTaken (rs : List Receipt) (counts : CountsView) : Type 0 where
+  pub over : counts.over ≡ length rs
+  pub made : sum (map made_in rs) < most_counted → counts.made ≡ sum (map made_in rs)
+  pub reclaimed : counts.gone < most_counted → counts.gone ≡ sum (map reclaimed_in rs)
+  pub in_place : sum (map in_place_in rs) ≡ 0

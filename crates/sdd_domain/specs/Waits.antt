@@ -1,5 +1,5 @@
 -- What waits with a participant, as its rule and as its bags have it
-use Rattle.std.specs.Prelude.{◌≡◌, ℕ, ◌≤◌, ◌==◌, Bool, List, [], ◌∷◌, map, filter, not, nat_lt, slice_set, if◌then◌else◌}
+use Rattle.std.specs.Prelude.{◌≡◌, ℕ, ◌+◌, ◌≤◌, ◌==◌, Bool, List, [], ◌∷◌, length, map, filter, not, nat_lt, slice_set, if◌then◌else◌}
 use Rattle.sdd_store.specs.declared.waiting.What.{What}
 use Rattle.sdd_store.specs.declared.waiting.What.TheVariants.{Item, Job}
 use Rattle.sdd_store.specs.declared.time.Participant.{Participant}
@@ -8,10 +8,13 @@ use Rattle.sdd_store.specs.Time.{due_next, rotated, settled}
 use Rattle.atomic_table.specs.declared.shared.Seat.{Seat}
 use Rattle.sdd_rule.specs.declared.Sizes.{Sizes}
 use Rattle.sdd_rule.specs.declared.WaitingItem.{WaitingItem}
+use Rattle.sdd_rule.specs.declared.StakesView.{StakesView}
 use Rattle.sdd_rule.specs.declared.View.{View}
 use Rattle.sdd_rule.specs.Codes.{free_word}
 use Rattle.sdd_rule.specs.Epoch.{IsLone}
-use Rattle.sdd_rule.specs.SlotSteps.{behind, older}
+use Rattle.sdd_rule.specs.Slots.{items_at}
+use Rattle.sdd_homes.specs.HomeSteps.{with_gone}
+use Rattle.sdd_rule.specs.SlotSteps.{behind, given_back, older}
 
 -- an item of a slot, in the bags
 abbrev pub what_of : WaitingItem → What
@@ -48,9 +51,21 @@ freed sizes [] ws = ws
 freed sizes (Item slot ∷ due) ws = freed sizes due (slice_set ws (behind sizes slot) (free_word 0))
 freed sizes (Job place ∷ due) ws = freed sizes due ws
 
+-- the slot is free, in which one item waited, and is counted as gone
+abbrev pub GivesOneBack : ℕ → View → ℕ → View → Type 0
+GivesOneBack slot v y w = (w ≡ with_gone (given_back slot y v)) × (items_at slot v ≡ 1)
+
+-- so many items more have gone
+abbrev pub gone_more : ℕ → StakesView → StakesView
+gone_more k t = record t { counts = record t.counts { gone = t.counts.gone + k } }
+
 -- each item that has seen three changes was given back
 abbrev pub GivesAllBack : List What → View → ℕ → View → Type 0
-GivesAllBack due v x w = w ≡ record v { slots = record v.slots { waits = unripe v.slots.waits }; words = freed v.sizes due v.words }
+GivesAllBack due v x w = w ≡ record v {
+  slots = record v.slots { waits = unripe v.slots.waits };
+  stakes = gone_more (length due) v.stakes;
+  words = freed v.sizes due v.words;
+}
 
 -- the token after an outermost opening that found a count
 pub record Arrives {S : Type 0} (count : ℕ) (own : Participant) (s s' : Seat S View) : Type 0 where
@@ -58,7 +73,7 @@ pub record Arrives {S : Type 0} (count : ℕ) (own : Participant) (s s' : Seat S
   pub number : s'.id ≡ s.id
   pub others : s'.me.1 ≡ s.me.1
   pub sizes : s'.me.0.sizes ≡ s.me.0.sizes
-  pub stakes : s'.me.0.stakes ≡ s.me.0.stakes
+  pub stakes : s'.me.0.stakes ≡ gone_more (length (due_at count own)) s.me.0.stakes
   pub knew : s.me.0.epoch.known ≤ count
   pub knows : count ≤ s'.me.0.epoch.since
   pub known : s'.me.0.epoch.known ≡ s'.me.0.epoch.since

@@ -1,15 +1,20 @@
 //! The close of a domain: once nobody takes part any more, all values are moved out, and all stakes gathered.
-ghost use Rattle.std.specs.Prelude.{◌≡◌, ◌≤◌, ◌<◌, ℕ, true, false, IfSome, slice_index_or};
-ghost use Rattle.core.specs.Mem.Slots.{slots_filled, slots_len, IsFull};
+ghost use Rattle.std.specs.Prelude.{◌≡◌, ◌≤◌, ◌<◌, ℕ, true, false, All, IfSome, slice_index_or};
+ghost use Rattle.core.specs.Mem.Slots.{slots_items, slots_filled, slots_len, IsFull};
 ghost use Rattle.sdd_stakes.specs.Shelf.{AreVacant};
 ghost use Rattle.sdd_rule.specs.Codes as codes;
 ghost use Rattle.sdd_rule.specs.Words.{all_words};
+ghost use Rattle.sdd_rule.specs.Parts.{no_counts};
 ghost use Rattle.sdd_homes.specs.Homes.{AreHome};
+ghost use Rattle.sdd_homes.specs.Counts.{full_slots};
 ghost use Rattle.sdd_board.specs.Board.{id_of, sizes_of, places_of};
 ghost use Rattle.sdd_board.specs.Sizes.{AreSmall};
 ghost use Rattle.sdd_board.specs.Token.{view};
+ghost use Rattle.sdd_domain.specs.Receipt.{Receipt as Ended, HasTaken};
 
+use crate::receipt::Receipt;
 use atomic_table::Closed;
+use sdd_board::steps::counts::take_counts;
 use sdd_board::steps::slots::{FREE, WAITING};
 use sdd_board::words::{first_slot, state_word};
 use sdd_board::{Board, Token, steps};
@@ -41,7 +46,8 @@ fn is_quiet(board: &Board, slots: u32) -> bool
 
 /// Ends each place that is free. A token that knows that all have ended, unless one is a participant's.
 fn end_all(board: &Board) -> Option<Token>
-    ensures { IfSome result (λ token. (token.table_id ≡ id_of board.now) × (places_of board.now ≤ (view token).places.ended)) }
+    ensures { IfSome result (λ token. (token.table_id ≡ id_of board.now) × (places_of board.now ≤ (view token).places.ended)
+        × ((view token).stakes.counts ≡ no_counts)) }
 {
     let mut token = steps::sit(board);
     for place in 0..board.places() {
@@ -56,12 +62,27 @@ fn end_all(board: &Board) -> Option<Token>
 /// A token that knows that all places have ended, where nothing is out any more.
 pub fn settled(board: &Board, slots: u32) -> Option<Token>
     requires { slots ≡ (sizes_of board.now).slots }
-    ensures { IfSome result (λ token. (token.table_id ≡ id_of board.now) × (places_of board.now ≤ (view token).places.ended)) }
+    ensures { IfSome result (λ token. (token.table_id ≡ id_of board.now) × (places_of board.now ≤ (view token).places.ended)
+        × ((view token).stakes.counts ≡ no_counts)) }
 {
     if is_quiet(board, slots) {
         end_all(board)
     } else {
         None
+    }
+}
+
+/// Takes the counts of all receipts in.
+pub fn take_all_counts(board: &Board, token: &mut Token, mut receipts: Vec<Receipt>)
+    requires home { token.old.table_id ≡ id_of board.now }
+    requires homes { All (λ (r : Ended). r.home ≡ id_of board.now) receipts.items }
+    requires none { (view token.old).stakes.counts ≡ no_counts }
+    ensures home { token.new.table_id ≡ id_of board.now }
+    ensures places { (view token.new).places ≡ (view token.old).places }
+    ensures counts { HasTaken receipts.items (view token.new).stakes.counts }
+{
+    while let Some(receipt) = receipts.pop() {
+        take_counts(board, token, receipt.into_counts());
     }
 }
 
@@ -78,6 +99,7 @@ pub fn take_all<T: Drop>(
     requires words { (slots_len closed.old.words ≡ all_words sizes.now) × IsFull closed.old.words }
     ensures stock { AreVacant title.now.book 0 sizes.now.slots result.0.lots }
     ensures few { result.1 ≤ sizes.now.slots }
+    ensures all { result.1 ≡ full_slots sizes.now (slots_items closed.old.words) }
     ensures emptied { (k : ℕ) → k < slots_len closed.new.slots → slice_index_or (slots_filled closed.new.slots) k false ≡ false }
 {
     let first = first_slot(sizes) as usize;

@@ -1,13 +1,13 @@
-ghost use Rattle.std.specs.Prelude.{◌≡◌, ℕ, ◌+◌, ◌^◌, ◌≤◌, ◌⊎◌, [], IfOk, MatchResult, vec_capacity};
+ghost use Rattle.std.specs.Prelude.{◌≡◌, ℕ, ◌+◌, ◌^◌, ◌≤◌, ◌⊎◌, [], All, IfOk, MatchResult, length, vec_capacity};
 ghost use Rattle.sdd_base.specs.Limits.{AreInRange};
 ghost use Rattle.sdd_stakes.specs.Memory.{IsHoldOf};
 ghost use Rattle.sdd_stakes.specs.Shelf.{AreVacant};
 ghost use Rattle.sdd_homes.specs.Homes.{homes_for};
 ghost use Rattle.sdd_board.specs.Board.{sizes_of};
 ghost use Rattle.sdd_domain.specs.Shelf.{sizes_in, IsShelfOf};
-ghost use Rattle.sdd_domain.specs.Receipt.{capped, sum_of, with_reclaimed};
+ghost use Rattle.sdd_domain.specs.Receipt.{Receipt as Ended, AddsUp, capped, sum_of, with_reclaimed};
 
-use crate::closing::{settled, take_all};
+use crate::closing::{settled, take_all, take_all_counts};
 use crate::receipt::{Receipt, count_reclaimed};
 use sdd_base::Limits;
 use sdd_board::{Board, Plan};
@@ -93,7 +93,7 @@ fn tally_of(receipts: &Vec<Receipt>) -> Tally
 }
 
 impl<T> Domain<T> {
-    ghost use Rattle.sdd_domain.specs.Domain.{limits_of};
+    ghost use Rattle.sdd_domain.specs.Domain.{home_of, limits_of};
 
     /// A domain without participants, at epoch 0. All memory is taken here: for its words, and for as many values as there are slots.
     ///
@@ -136,17 +136,20 @@ impl<T> Domain<T> {
     }
 
     /// Closes a domain, with receipts of its participants, and answers their tallies together. What waits still is moved out and dropped, and
-    /// counts as reclaimed; all memory is given back.
+    /// counts as reclaimed; all memory is given back. Where there is a receipt for each place, what was made was reclaimed.
     ///
     /// `OwnerOut` where something is still out: an item that has an owner, or a participant that hasn't ended. The domain and the receipts come back.
     pub fn close(self, receipts: Vec<Receipt>) -> Result<Tally, (Domain<T>, Vec<Receipt>, Refused)>
     where
         T: Drop,
-        ensures { MatchResult result
+        requires homes { All (λ (r : Ended). r.home ≡ home_of self) receipts.items }
+        ensures closed { MatchResult result
             (λ tally. (waiting : ℕ) × (waiting ≤ (limits_of self).slots) × (tally ≡ with_reclaimed waiting (sum_of receipts.items)))
             (λ back. (back.0 ≡ self) × (back.1 ≡ receipts) × (back.2 ≡ Refused.OwnerOut)) }
+        ensures whole { IfOk result (λ tally. (length receipts.items ≤ (limits_of self).participants)
+            × (length receipts.items ≡ (limits_of self).participants → AddsUp tally)) }
     {
-        let Some(token) = settled(&self.board, self.limits.slots as u32) else {
+        let Some(mut token) = settled(&self.board, self.limits.slots as u32) else {
             return Err((self, receipts, Refused::OwnerOut));
         };
         let Domain {
@@ -157,11 +160,12 @@ impl<T> Domain<T> {
             alloc,
         } = self;
         let title = shelf.title();
+        let mut tally = tally_of(&receipts);
+        take_all_counts(&board, &mut token, receipts);
         let mut closed = board.close(token);
         let (stock, waiting) = take_all(&mut closed, &shelf, &title, &sizes_for(&limits));
         closed.free();
         shelf.close(&alloc, stock, hold);
-        let mut tally = tally_of(&receipts);
         count_reclaimed(&mut tally, waiting);
         Ok(tally)
     }

@@ -17,6 +17,7 @@ use crate::scan::scan;
 use crate::shut::shut;
 use sdd_base::Guard;
 use sdd_base::inner::{guard_with, part_of_guard};
+use sdd_board::steps::counts::cut_counts;
 use sdd_board::{Board, Token, steps};
 use sdd_core::Refused;
 use sdd_places::{Stage, Tenure};
@@ -49,6 +50,7 @@ impl<'d, T> Model for Local<'d, T> {
     ghost use Rattle.std.specs.Prelude.{◌≡◌, vec_capacity};
     ghost use Rattle.sdd_domain.specs.Local.{Member};
     ghost use Rattle.sdd_domain.specs.Posed.{IsPosed, AreLentTo, IsTenureOf, IsReady};
+    ghost use Rattle.sdd_domain.specs.Receipt.{IsTallied};
 
     ghost Value = { Member };
 
@@ -68,7 +70,8 @@ impl<'d, T> Model for Local<'d, T> {
     } };
 
     ghost invariant = { λ l. IsPosed l.domain.now.board l.place l.own l.token × (l.nesting ≡ l.domain.now.limits.nesting) × IsTenureOf l.own l.tenure × AreLentTo l.tenure.round l.token.me.1
-        × IsReady l.domain.now.board l.own l.bag.items (vec_capacity l.bag) l.known.slots };
+        × IsReady l.domain.now.board l.own l.bag.items (vec_capacity l.bag) l.known.slots
+        × IsTallied 0 l.tally l.token.me.0.stakes.counts };
 }
 
 /// The memory of a participant.
@@ -191,7 +194,7 @@ impl<'d, T> Local<'d, T> {
             tally,
         } = self;
         steps::end(&domain.board, &mut token, place);
-        Ok(Receipt::new(token, tally))
+        Ok(Receipt::new(cut_counts(&domain.board, token), tally))
     }
 
     /// How many items it made, reclaimed and dropped in place.

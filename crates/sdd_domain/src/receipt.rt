@@ -1,12 +1,8 @@
-ghost use Rattle.std.specs.Prelude.{◌≡◌, []};
-ghost use Rattle.sdd_rule.specs.Epoch.{HasEnded};
-ghost use Rattle.sdd_domain.specs.Receipt.{with_reclaimed};
-ghost use Rattle.sdd_board.specs.Token.{epoch};
+ghost use Rattle.std.specs.Prelude.{◌≡◌};
+ghost use Rattle.sdd_domain.specs.Receipt.{HasLeft, with_reclaimed};
 
-use atomic_table::Badge;
-use sdd_board::Token;
-use sdd_rule::View;
 use sdd_store::Tally;
+use sdd_witness::Witness;
 use std::marker::Model;
 
 /// So many items more were reclaimed.
@@ -21,7 +17,7 @@ pub fn count_reclaimed(tally: &mut Tally, items: usize)
 /// What a participant that has ended made and reclaimed, for the close of its domain.
 #[derive(Drop)]
 pub struct Receipt {
-    token: Badge<View>,
+    counts: Witness,
     tally: Tally,
 }
 
@@ -30,21 +26,17 @@ impl Model for Receipt {
 
     ghost Value = { Receipt };
 
-    ghost view = { λ r. record { home = r.token.table_id; tally = r.tally } };
+    ghost view = { λ r. record { home = r.counts.table_id; tally = r.tally } };
 
-    ghost invariant = { λ r. HasLeft r.token.views };
+    ghost invariant = { λ r. HasLeft r.counts.views r.tally };
 }
 
 impl Receipt {
-    pub(crate) fn new(token: Token, tally: Tally) -> Receipt
-        requires bare { token.me.1 ≡ [] }
-        requires ended { HasEnded (epoch token) }
-        ensures { result ≡ record { home = token.table_id; tally = tally } }
+    pub(crate) fn new(counts: Witness, tally: Tally) -> Receipt
+        requires { HasLeft counts.views tally }
+        ensures { result ≡ record { home = counts.table_id; tally = tally } }
     {
-        Receipt {
-            token: token.into_badge(),
-            tally,
-        }
+        Receipt { counts, tally }
     }
 
     /// How many items its participant made, reclaimed and dropped in place.
@@ -52,5 +44,14 @@ impl Receipt {
         ensures { result ≡ self.now.tally }
     {
         self.tally
+    }
+
+    /// The counts behind the tally.
+    pub(crate) fn into_counts(self) -> Witness
+        ensures home { result.table_id ≡ self.home }
+        ensures counts { HasLeft result.views self.tally }
+    {
+        let Receipt { counts, tally: _ } = self;
+        counts
     }
 }

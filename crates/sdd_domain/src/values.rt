@@ -3,11 +3,12 @@ ghost use Rattle.std.specs.Prelude.{◌≡◌, ◌<◌, suc, drop, [], ◌∷◌
 ghost use Rattle.sdd_stakes.specs.Shelf.{IsVacant, showing};
 ghost use Rattle.sdd_rule.specs.Codes.{free_word};
 ghost use Rattle.sdd_rule.specs.Epoch.{HasPlace};
-ghost use Rattle.sdd_rule.specs.SlotSteps.{IsDue, GivesBack};
+ghost use Rattle.sdd_rule.specs.SlotSteps.{IsDue};
 ghost use Rattle.sdd_homes.specs.Homes.{Carries, Moves};
 ghost use Rattle.sdd_homes.specs.HomeSteps.{HasAll, resting};
 ghost use Rattle.sdd_board.specs.Board.{id_of, book_of, places_of, slots_of};
 ghost use Rattle.sdd_domain.specs.Shelf.{IsShelfOf};
+ghost use Rattle.sdd_domain.specs.Waits.{GivesOneBack};
 ghost use Rattle.sdd_token.specs.Owner.{witness_of_owner};
 ghost use Rattle.sdd_board.specs.Owner.{disowned};
 ghost use Rattle.sdd_board.specs.Token.{view, epoch, slots, Knows, Taught};
@@ -54,7 +55,7 @@ pub fn take_value<T>(board: &Board, shelf: &Shelf<T>, token: &mut Token, slot: u
     requires place { HasPlace (epoch token.old) }
     requires rests { (view token.old).stakes.moves ≡ None }
     requires due { IsDue (view token.old) slot }
-    ensures { Taught (GivesBack slot) token.old (free_word 0) token.new }
+    ensures { Taught (GivesOneBack slot) token.old (free_word 0) token.new }
 {
     take_out(board, token, slot);
     let count = board.places() + 1;

@@ -1,6 +1,7 @@
 pub mod Places
 pub mod Rows
 pub mod Tops
+pub mod Counts
 pub mod Part
 pub mod Records
 pub mod Telling

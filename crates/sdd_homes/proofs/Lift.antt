@@ -1,5 +1,6 @@
--- A step that keeps the words' parts, the homes' part and what is known of what slots show is a step of the table.
+-- A step that keeps the words' parts, the homes' part, what is known of what slots show and the counts is a step of the table.
 use Rattle.std.proofs.Common.{◌≡◌, ◌⊎◌, inl, inr, ℕ, ◌<◌, map, get_or, set, sym, refl, ap, ◌∙◌, subst, ⊎_elim, arith, length-set, eq-eqb, ne_eqb}
+use Rattle.std.specs.Prelude.{None}
 use mathlib.Core.Bool.{cond}
 use mathlib.Core.Option.{some}
 use mathlib.Core.Logic.{dite}
@@ -13,14 +14,14 @@ use Rattle.sdd_rule.specs.declared.SlotsView.{SlotsView}
 use Rattle.sdd_rule.specs.declared.StakesView.{StakesView}
 use Rattle.sdd_rule.specs.declared.View.{View}
 use Rattle.sdd_rule.specs.declared.Sizes.{Sizes}
-use Rattle.sdd_rule.specs.Words.{first_slot}
+use Rattle.sdd_rule.specs.Words.{first_slot, state_word}
 use Rattle.sdd_rule.specs.Codes.{full}
-use Rattle.sdd_rule.specs.Epoch.{HasPlace, IsOpen}
-use Rattle.sdd_rule.specs.Steps.{Steps, Publishes}
+use Rattle.sdd_rule.specs.Epoch.{HasPlace, IsClosed, IsOpen}
+use Rattle.sdd_rule.specs.Steps.{Steps, Publishes, Ends}
 use Rattle.sdd_rule.specs.Slots.{slot_at, items_at, waits_in, OwnsAlone, Sees}
 use Rattle.sdd_rule.specs.SlotSteps.{older, changed, OnEpoch, PublishesAll}
-use Rattle.sdd_rule.specs.Parts.{Parts}
-use Rattle.atomic_table.proofs.Lists.{set_again}
+use Rattle.sdd_rule.specs.Parts.{epoch_of, Parts}
+use Rattle.atomic_table.proofs.Lists.{at_map, set_again}
 use Rattle.sdd_rule.proofs.Frame.{each_set}
 use Rattle.sdd_rule.proofs.Sums.{total_map}
 use Rattle.sdd_rule.proofs.Lift.{blind}
@@ -28,12 +29,15 @@ use Rattle.sdd_rule.specs.Ended.{AreEnded}
 use Rattle.sdd_rule.proofs.Ended.{Spares, one_spared, all_spared}
 use Rattle.sdd_homes.specs.Homes.{Homes, Moves, IsOut, HomesPart}
 use Rattle.sdd_homes.specs.Records.{RecordsPart}
+use Rattle.sdd_homes.specs.Counts.{CountsPart}
 use Rattle.sdd_homes.specs.Housed.{Housed}
-use Rattle.sdd_homes.specs.HomeSteps.{Mine}
+use Rattle.sdd_homes.specs.HomeSteps.{Mine, leaving}
 use Rattle.sdd_homes.proofs.Part.{IsMover, before_slots}
 use Rattle.sdd_homes.proofs.Part as part
+use Rattle.sdd_homes.proofs.Counts.{ended_spared, ended_more, as_full, counted, uncounted, uncounted_alone}
 use Rattle.sdd_homes.proofs.Records.{IsAlike}
 use Rattle.sdd_homes.proofs.Records as records
+use Rattle.sdd_homes.proofs.Telling.{none_moved}
 
 -- what a step on the word i makes of the state, where y is in it then: what its participant knows of stakes, and what it takes or gives
 pub record Follows (γ : ℕ) (sizes : Sizes) (id i : ℕ) (me : Mine) (told : ℕ → Mine → Type 0) (s : State Stake View) (y : ℕ) (w : View) : Type 0 where
@@ -42,6 +46,7 @@ pub record Follows (γ : ℕ) (sizes : Sizes) (id i : ℕ) (me : Mine) (told : �
   pub valid : Valid s.homes me.1 act
   pub homes : HomesPart γ sizes (set s.words i y) (set s.views id (record w { stakes = stakes })) (homes_after s.homes me.1 act)
   pub records : RecordsPart sizes (set s.views id (record w { stakes = stakes })) (homes_after s.homes me.1 act)
+  pub counts : CountsPart sizes (set s.words i y) (set s.views id (record w { stakes = stakes }))
   pub tells : told (get_or s.words i 0) (record w { stakes = stakes }, carried_after me.1 act)
 
 module _ (γ : ℕ) (sizes : Sizes) (slots id : ℕ) (me : Mine) (i : ℕ) (f : ℕ → ℕ) where
@@ -75,16 +80,19 @@ module _ (γ : ℕ) (sizes : Sizes) (slots id : ℕ) (me : Mine) (i : ℕ) (f : 
           };
           homes = b.homes;
           records = b.records;
+          counts = b.counts;
         },
         b.tells,
       )
 
-  -- a step that takes and gives none
+  -- a step that takes and gives none, and has a place still if it had one
   pub record IsCalm (s : State Stake View) (y : ℕ) (w : View) : Type 0 where
     pub more : (j p : ℕ) → IsOut me.0 j p → IsOut w j p
     pub same : (j : ℕ) → j < sizes.slots → full (slot_at sizes (set s.words i y) j) ≡ full (slot_at sizes s.words j)
     pub mover : IsMover w
     pub alike : IsAlike me.0 w
+    pub counts : w.stakes.counts ≡ me.0.stakes.counts
+    pub lives : HasPlace me.0.epoch → HasPlace w.epoch
 
   pub lift_calm : (then : ℕ → View → Type 0) (told : ℕ → Mine → Type 0) → Keeps then → Steps (Parts sizes) id me.0 i f then
       → ((r : ℕ) (w : View) → then r w → told r (w, me.1))
@@ -97,13 +105,15 @@ module _ (γ : ℕ) (sizes : Sizes) (slots id : ℕ) (me : Mine) (i : ℕ) (f : 
         valid = tt;
         homes = part.calm γ sizes s.words s.views s.homes h.homes id me.0 at (set s.words i y) w c.more c.same c.mover;
         records = records.calm sizes s.views s.homes h.records id me.0 at w c.alike;
+        counts = uncounted sizes s.words s.views h.counts id me.0 at (set s.words i y) w c.counts c.lives
+            (as_full sizes s.words (set s.words i y) c.same) (ended_spared sizes s.words i y (ends s w h at t).0 sizes.participants (omega arith));
         tells = tells (get_or s.words i 0) w t;
       })
 
   -- one of the epoch's part, under which an open guard keeps its place
   pub lift_epoch : (R : EpochView → ℕ → EpochView → Type 0) (told : ℕ → Mine → Type 0) → i < first_slot sizes
       → ((r : ℕ) (e : EpochView) → R me.0.epoch r e → IsOpen me.0.epoch → e.place ≡ me.0.epoch.place)
-      → ((r : ℕ) (e : EpochView) → R me.0.epoch r e → HasPlace me.0.epoch → (j : ℕ) → Moves me.0 j → HasPlace e)
+      → ((r : ℕ) (e : EpochView) → R me.0.epoch r e → HasPlace me.0.epoch → HasPlace e)
       → ((s : State Stake View) → Housed γ sizes s → get_elem? s.views id ≡ some me.0 → Spares sizes s.words i (f (get_or s.words i 0)))
       → Steps (Parts sizes) id me.0 i f (OnEpoch R me.0)
       → ((r : ℕ) (w : View) → OnEpoch R me.0 r w → told r (w, me.1)) → Allows (Housed γ sizes) slots id me i f told
@@ -114,8 +124,10 @@ module _ (γ : ℕ) (sizes : Sizes) (slots id : ℕ) (me : Mine) (i : ℕ) (f : 
         more = λ j p out. ⊎_elim (λ (m : Moves me.0 j). inl m)
             (λ (o : Sees me.0 j × (me.0.epoch.place ≡ p)). inr (o.0, stays (get_or s.words i 0) e t.2 (own.guarded j o.0) ∙ o.1)) out;
         same = λ j _. ap full (before_slots sizes s.words i y j low);
-        mover = λ j m. let o = h.homes.moving id me.0 j at m in (lives (get_or s.words i 0) e t.2 o.0 j m, o.1);
+        mover = λ j m. let o = h.homes.moving id me.0 j at m in (lives (get_or s.words i 0) e t.2 o.0, o.1);
         alike = (refl, refl, refl);
+        counts = refl;
+        lives = lives (get_or s.words i 0) e t.2;
       })
 
 -- a publish may make each item that waits a change older, and leaves all else of slots
@@ -141,7 +153,7 @@ module _ (γ : ℕ) (sizes : Sizes) (slots : ℕ) where
       let movers : (j : ℕ) → Moves v j → HasPlace e × (OwnsAlone v j ⊎ (0 < items_at j v))
       = λ j m. ((stays e t.2).0, (h.homes.moving id v j at m).1) in
       subst (IsCalm γ sizes slots id me i (λ _. y) s y) (sym t.1) (changed_or_not v calm
-      record { more = more; same = same; mover = movers; alike = (refl, refl, refl) }
+      record { more = more; same = same; mover = movers; alike = (refl, refl, refl); counts = refl; lives = λ _. (stays e t.2).0 }
       record {
         more = more;
         same = same;
@@ -151,14 +163,42 @@ module _ (γ : ℕ) (sizes : Sizes) (slots : ℕ) where
               (λ (o : 0 < items_at j v). inr (let k = total_map (waits_in j) older (λ x. refl) v.slots.waits in omega arith)) (movers j m).1,
         );
         alike = (refl, refl, refl);
+        counts = refl;
+        lives = λ _. (stays e t.2).0;
       }))
+
+  -- the end of a place, which is counted
+  pub lift_end : (id : ℕ) (me : Mine) (told : Mine → Type 0) → me.0.epoch.place < sizes.participants → IsClosed me.0.epoch → me.0.stakes.moves ≡ None
+      → Steps (Parts sizes) id me.0 (state_word me.0.epoch.place) (λ _. 3) (λ _. OnEpoch (λ u _ e. Ends u 3 e) me.0 3)
+      → ((s : State Stake View) → Housed γ sizes s → get_elem? s.views id ≡ some me.0 → Spares sizes s.words (state_word me.0.epoch.place) 3)
+      → told (leaving me.0, me.1) → Allows (Housed γ sizes) slots id me (state_word me.0.epoch.place) (λ _. 3) (λ _. told)
+  lift_end id me told inside shut rests step spares tells = let v : View = me.0 in let i : ℕ = state_word v.epoch.place in
+      lift_homes γ sizes slots id me i (λ _. 3) (λ _. OnEpoch (λ u _ e. Ends u 3 e) v 3) (λ _. told)
+      (keeps_ended γ sizes slots id me i (λ _. 3) (λ _. OnEpoch (λ u _ e. Ends u 3 e) v 3) (λ r w t. ap (λ (u : View). u.places) t.1) spares) step
+      (λ s w h at t. let now : View = leaving v in let fits = h.kept.parts.epoch.each id v.epoch (at_map epoch_of s.views id v at) in
+      let was = fits.state (omega arith) in let same = λ (j : ℕ) (_ : j < sizes.slots). ap full (before_slots sizes s.words i 3 j (omega arith)) in
+      let wide = h.kept.parts.epoch.wide in
+      let is : w ≡ record v { epoch = Rattle.sdd_rule.specs.Steps.ended v.epoch } = t.1 ∙ ap (λ (e : EpochView). record v { epoch = e }) t.2 in
+      subst (Follows γ sizes id i me (λ _. told) s 3) (sym is) record {
+        stakes = now.stakes;
+        act = keeps;
+        valid = tt;
+        homes = part.calm γ sizes s.words s.views s.homes h.homes id v at (set s.words i 3) now (λ j p out. out) same
+            (λ j m. absurd (none_moved v j rests m));
+        records = records.calm sizes s.views s.homes h.records id v at now (refl, refl, refl);
+        counts = counted sizes s.words s.views h.counts id v at (set s.words i 3) now
+            (let f = as_full sizes s.words (set s.words i 3) same in omega arith)
+            (let more = ended_more s.words v.epoch.place (omega arith) (λ e. omega arith) sizes.participants inside in omega arith)
+            (λ _ none. absurd (omega arith));
+        tells = tells;
+      })
 
 -- a step on no word
 module _ (γ : ℕ) (sizes : Sizes) (id : ℕ) (v : View) (s : State Stake View) (h : Housed γ sizes s) (at : get_elem? s.views id ≡ some v) where
   pub stands : (w : View) → w.places ≡ v.places → Parts sizes s.words (set s.views id w) → (hs : Homes)
-      → HomesPart γ sizes s.words (set s.views id w) hs → RecordsPart sizes (set s.views id w) hs
+      → HomesPart γ sizes s.words (set s.views id w) hs → RecordsPart sizes (set s.views id w) hs → CountsPart sizes s.words (set s.views id w)
       → Housed γ sizes record { words = s.words; homes = hs; views = set s.views id w }
-  stands w same parts hs homes records = record {
+  stands w same parts hs homes records counts = record {
     kept = record {
       parts = parts;
       places = record {
@@ -169,11 +209,13 @@ module _ (γ : ℕ) (sizes : Sizes) (id : ℕ) (v : View) (s : State Stake View)
     };
     homes = homes;
     records = records;
+    counts = counts;
   }
 
-  -- which changes only what is known of stakes
-  pub stands_by : (t : StakesView) (hs : Homes) → HomesPart γ sizes s.words (set s.views id (record v { stakes = t })) hs
+  -- which changes only what is known of stakes, but for what was made
+  pub stands_by : (t : StakesView) → t.counts ≡ v.stakes.counts → (hs : Homes) → HomesPart γ sizes s.words (set s.views id (record v { stakes = t })) hs
       → RecordsPart sizes (set s.views id (record v { stakes = t })) hs
       → Housed γ sizes record { words = s.words; homes = hs; views = set s.views id (record v { stakes = t }) }
-  stands_by t = stands (record v { stakes = t }) refl
-      (blind sizes s.words s.views id v v at (subst (Parts sizes s.words) (sym (set_again s.views id v at)) h.kept.parts) t)
+  stands_by t same hs homes records = stands (record v { stakes = t }) refl
+      (blind sizes s.words s.views id v v at (subst (Parts sizes s.words) (sym (set_again s.views id v at)) h.kept.parts) t) hs homes records
+      (uncounted_alone sizes s.words s.views h.counts id v at (record v { stakes = t }) same refl)

@@ -29,7 +29,7 @@ use Rattle.sdd_rule.specs.Parts.{epoch_of}
 use Rattle.sdd_rule.specs.Ended.{AreEnded, past, Bars}
 use Rattle.sdd_rule.proofs.Ended.{Spares, one_spared}
 use Rattle.sdd_rule.proofs.Ended as ended
-use Rattle.sdd_rule.proofs.Codes.{sound, free_is, waiting_is}
+use Rattle.sdd_rule.proofs.Codes.{sound, free_is, owned_is, waiting_is}
 use Rattle.sdd_rule.proofs.EpochSteps as over
 use Rattle.sdd_rule.proofs.SlotSteps as steps
 use Rattle.sdd_rule.proofs.Owning as owning
@@ -41,11 +41,13 @@ use Rattle.sdd_rule.proofs.Waits.{waits_once}
 use Rattle.sdd_witness.specs.Steps.{AllowsAlone, AllowsBeside, moved}
 use Rattle.sdd_homes.specs.Homes.{Carries, stake_at, share, Has, IsShown, Moves, NoneOut, LiesAt}
 use Rattle.sdd_homes.specs.Housed.{Housed}
-use Rattle.sdd_homes.specs.HomeSteps.{Mine, HasAll, IsValue, Purse, moving, resting, telling, untold, sighting, unsighted, ClaimsAll, Houses, TakesOut, TakesHeld, RetiresOne, GivesAll, DiscardsAll, Watches, ClosesHome, OfSlot}
+use Rattle.sdd_homes.specs.HomeSteps.{Mine, HasAll, IsValue, Purse, making, giving, resting, telling, untold, sighting, unsighted, ClaimsAll, Houses, TakesOut, TakesHeld, RetiresOne, GivesAll, DiscardsAll, Watches, ClosesHome, OfSlot}
 use Rattle.sdd_homes.specs.Records.{IsIn, KnowsShown, IsKnown, IsTelling}
+use Rattle.sdd_homes.specs.Counts.{ended_places}
 use Rattle.sdd_homes.proofs.Part.{IsMover, of_another, before_slots, one_taken}
 use Rattle.sdd_homes.proofs.Part as part
 use Rattle.sdd_homes.proofs.Places.{one_slot}
+use Rattle.sdd_homes.proofs.Counts.{ended_spared, as_full, one_full, counted, uncounted, uncounted_alone}
 use Rattle.sdd_homes.proofs.Records.{in_head, in_tail, in_either, in_none, told_seen}
 use Rattle.sdd_homes.proofs.Records as records
 use Rattle.sdd_homes.proofs.Rows.{Taken, takes_row, gives_row, gives_purse, taken_lies, given_lies}
@@ -151,6 +153,10 @@ module _ (slots id : ℕ) (me : Mine) (live : HasPlace me.0.epoch) where
           (λ (o : Sees u slot × (u.epoch.place ≡ p)). (unseen j u e).0 o.0) out) in
           let has = h.homes.home slot p b.0 inside (omega arith) b.1 in (b.0, b.1, (has.0, shown b.0.lot.shown has.1)))
 
+      -- no place ends by a step on a slot
+      over_slot : (y : ℕ) → ended_places s.words n ≤ ended_places (set s.words i y) n
+      over_slot y = ended_spared sizes s.words i y (λ p low e was. absurd (omega arith)) n (omega arith)
+
       -- a load leaves the words
       same_words : (j : ℕ) → full (slot_at sizes (set s.words i (get_or s.words i 0)) j) ≡ full (slot_at sizes s.words j)
       same_words j = ap (λ (l : List ℕ). full (slot_at sizes l j)) (set-get_or s.words i 0)
@@ -169,23 +175,26 @@ module _ (slots id : ℕ) (me : Mine) (live : HasPlace me.0.epoch) where
         let tk = all_taken s h IsVacant (λ g sh. sh.1 empty) (λ j u e. (
           owning.fresh codes sound sizes s.words s.views h.kept.parts.slots id v at slot empty j u e,
           still_free γ sizes s h slot j u e dead quiet,
-        )) in let now : View = claimed slot (owned_word 0) v in
+        )) in let now : View = making slot (owned_word 0) v in
         subst (Follows γ sizes id i me told s (owned_word 0)) (sym (c.0 hit)) record {
-          stakes = record v.stakes { moves = Some slot };
+          stakes = now.stakes;
           act = tk.act;
           valid = tk.valid;
-          homes = part.takes γ sizes s.words s.views s.homes h.homes id v at slot IsVacant me.1 tk (set s.words i (owned_word 0)) (moving slot now) refl
+          homes = part.takes γ sizes s.words s.views s.homes h.homes id v at slot IsVacant me.1 tk (set s.words i (owned_word 0)) now refl
               (λ j p ne out. ⊎_elim (λ (m : Moves v j). absurd (none_moved v j rests m)) (λ (o : Sees v j × (v.epoch.place ≡ p)). inr o) out)
               (others s.words (owned_word 0))
-              (λ j m. let e : j ≡ slot = one_moved (moving slot now) slot j refl m in let one = is_same slot slot refl in
+              (λ j m. let e : j ≡ slot = one_moved now slot j refl m in let one = is_same slot slot refl in
               (live, inl (subst (λ (k : ℕ). 0 < times k (slot ∷ v.slots.owns)) (sym e) (omega arith))));
-          records = records.comes_to_move sizes s.views s.homes h.records id v at slot (moving slot now) (homes_after s.homes me.1 tk.act)
+          records = records.comes_to_move sizes s.views s.homes h.records id v at slot now (homes_after s.homes me.1 tk.act)
               (claimed_tells v (h.records.each id v at) slot rests
               (λ o. let a = ((h.kept.parts.slots.each id v at).alone slot o).0 in omega arith) (owned_word 0))
               (records.mine sizes s.views s.homes h.records id v at)
-              (λ j p y _ near l. (taken_lies γ n slot IsVacant s.homes me.1 tk j p y near l).1) refl (λ j m. one_moved (moving slot now) slot j refl m)
+              (λ j p y _ near l. (taken_lies γ n slot IsVacant s.homes me.1 tk j p y near l).1) refl (λ j m. one_moved now slot j refl m)
               (owning.fresh codes sound sizes s.words s.views h.kept.parts.slots id v at slot empty);
-          tells = at_once (λ slot. ClaimsAll slot (free_word 0) (owned_word 0)) x (moving slot now, carried_after me.1 tk.act)
+          counts = counted sizes s.words s.views h.counts id v at (set s.words i (owned_word 0)) now
+              (let f = one_full sizes s.words slot (owned_word 0) inside h.kept.parts.slots.long in let y = full_owned (owned_word 0) (let q = (owned_is 0 (omega arith)).0 in omega arith) in omega arith)
+              (let o = over_slot s h (owned_word 0) in omega arith) (λ none. absurd (omega arith));
+          tells = at_once (λ slot. ClaimsAll slot (free_word 0) (owned_word 0)) x (now, carried_after me.1 tk.act)
               ((λ _. (refl, tk.row)), (λ no. absurd (no hit)), c.2);
         })
         (λ miss. subst (Follows γ sizes id i me told s x) (sym (c.1 miss)) record {
@@ -195,6 +204,8 @@ module _ (slots id : ℕ) (me : Mine) (live : HasPlace me.0.epoch) where
           homes = part.calm γ sizes s.words s.views s.homes h.homes id v at (set s.words i x) v (λ j p out. out) (λ j _. same_words s h j)
               (λ j m. h.homes.moving id v j at m);
           records = records.calm sizes s.views s.homes h.records id v at v (refl, refl, refl);
+          counts = uncounted sizes s.words s.views h.counts id v at (set s.words i x) v refl (λ l. l)
+              (as_full sizes s.words (set s.words i x) (λ j _. same_words s h j)) (over_slot s h x);
           tells = at_once (λ slot. ClaimsAll slot (free_word 0) (owned_word 0)) x me ((λ hit. absurd (miss hit)), (λ _. refl), c.2);
         }))
 
@@ -207,7 +218,7 @@ module _ (slots id : ℕ) (me : Mine) (live : HasPlace me.0.epoch) where
           w,
           g.act,
           g.valid,
-          stands_by γ sizes id v s h at w.stakes (homes_after s.homes me.1 g.act)
+          stands_by γ sizes id v s h at w.stakes refl (homes_after s.homes me.1 g.act)
               (part.gives γ sizes s.words s.views s.homes h.homes id v at slot (IsValue value) rest me.1 g s.words w
               (λ g so. (λ _. so.0, λ e. absurd (omega arith)))
               (λ j p ne out. ⊎_elim (λ (m : Moves v j). absurd (ne (one_moved v slot j mine m))) (λ (o : Sees v j × (v.epoch.place ≡ p)). inr o) out)
@@ -229,21 +240,21 @@ module _ (slots id : ℕ) (me : Mine) (live : HasPlace me.0.epoch) where
         → full (slot_at sizes s.words slot) ≡ 1 → OwnsAlone v slot ⊎ (0 < items_at slot v)
         → ((j : ℕ) (u : View) → get_elem? s.views j ≡ some u → ¬ (Sees u slot))
         → ((j : ℕ) (u : View) → get_elem? s.views j ≡ some u → id ≢ j → ¬ (Moves u slot))
-        → (t : StakesView) → t.moves ≡ Some slot → IsTelling (record v { stakes = t })
+        → (t : StakesView) → t.counts ≡ v.stakes.counts → t.moves ≡ Some slot → IsTelling (record v { stakes = t })
         → ((j : ℕ) (g : Gv) → KnowsShown (record v { stakes = t }) j g → KnowsShown v j g)
         → (w : View) × (a : Act Stake) × Valid s.homes me.1 a
         × Housed γ sizes (moved s id me.1 w a) × (w ≡ record v { stakes = t }) × HasAll γ slot n IsFull me.1 (carried_after me.1 a)
-    moves_out s h at rests filled may unseen still t is tells known = let w : View = record v { stakes = t } in
+    moves_out s h at rests filled may unseen still t same is tells known = let w : View = record v { stakes = t } in
         let tk = all_taken s h IsFull (λ g sh. sh.0 filled) (λ j u e. (
           unseen j u e,
           (λ m. dite (ℕ_discrete id j)
-              (λ same. none_moved v slot rests (subst (λ (z : View). Moves z slot) (one_view s.views id j u v e at (sym same)) m))
+              (λ one. none_moved v slot rests (subst (λ (z : View). Moves z slot) (one_view s.views id j u v e at (sym one)) m))
               (λ ne. still j u e ne m)),
         )) in (
           w,
           tk.act,
           tk.valid,
-          stands_by γ sizes id v s h at t (homes_after s.homes me.1 tk.act)
+          stands_by γ sizes id v s h at t same (homes_after s.homes me.1 tk.act)
               (part.takes γ sizes s.words s.views s.homes h.homes id v at slot IsFull me.1 tk s.words w is
               (λ j p ne out. ⊎_elim (λ (m : Moves v j). absurd (none_moved v j rests m)) (λ (o : Sees v j × (v.epoch.place ≡ p)). inr o) out)
               (λ j _ _. refl)
@@ -266,7 +277,7 @@ module _ (slots id : ℕ) (me : Mine) (live : HasPlace me.0.epoch) where
         let m = moves_out s h at rests filled (inr waits)
         (λ j u e sees. owning.unseen codes sound sizes s.words s.views p.slots id v at p.epoch k item due.2 due.4 j u e (subst (Sees u) (sym due.3) sees))
         (λ j u e ne m. still_waiting γ sizes s h slot id j v u at e ne waits m)
-        (record v.stakes { moves = Some slot }) refl
+        (record v.stakes { moves = Some slot }) refl refl
         (moving_tells v (h.records.each id v at) slot rests (none_owns γ sizes s h slot id v at waits id v at)) (λ j g k. k) in
         (m.0, m.1, m.2, m.3, (m.4, m.5))
 
@@ -281,19 +292,24 @@ module _ (slots id : ℕ) (me : Mine) (live : HasPlace me.0.epoch) where
         let g = gives_row γ n slot IsVacant sizes.slots inside (suc n) (omega arith) s.homes rest me.1 h.homes.deep row in
         let empty = (free_is 0 (omega arith)).2 in
         subst (Follows γ sizes id i me told s y) (sym c.0) record {
-          stakes = record v.stakes { moves = None };
+          stakes = (giving now).stakes;
           act = g.act;
           valid = g.valid;
-          homes = part.gives γ sizes s.words s.views s.homes h.homes id v at slot IsVacant rest me.1 g (set s.words i y) (resting now)
+          homes = part.gives γ sizes s.words s.views s.homes h.homes id v at slot IsVacant rest me.1 g (set s.words i y) (giving now)
               (λ g vacant. (λ e. let f = ap full (here s.words y (within s h)) in absurd (omega arith), λ _. vacant))
               (λ j p ne out. ⊎_elim (λ (m : Moves v j). absurd (ne (one_moved v slot j mine m))) (λ (o : Sees v j × (v.epoch.place ≡ p)). inr o) out)
               (others s.words y)
-              (λ j m. absurd (none_moved (resting now) j refl m));
+              (λ j m. absurd (none_moved (giving now) j refl m));
           records = let waits : 0 < items_at slot v = (let once = c.1 in omega arith) in
-              comes_home γ sizes s h slot id v at IsVacant rest me.1 g (unknown_waiting γ sizes s h slot id v at mine waits) (resting now)
-              (rested_tells v (h.records.each id v at) slot mine (resting now) refl (λ _ _. refl) (none_owns γ sizes s h slot id v at waits id v at) refl)
+              comes_home γ sizes s h slot id v at IsVacant rest me.1 g (unknown_waiting γ sizes s h slot id v at mine waits) (giving now)
+              (rested_tells v (h.records.each id v at) slot mine (giving now) refl (λ _ _. refl) (none_owns γ sizes s h slot id v at waits id v at) refl)
               refl refl;
-          tells = at_once GivesAll y (resting now, carried_after me.1 g.act)
+          counts = let once = c.1 in let here = total_has (items_at slot) s.views id v at in let sum = h.kept.parts.slots.waited slot in
+              let was = (sound.waits (slot_at sizes s.words slot) (omega arith)).1 in
+              counted sizes s.words s.views h.counts id v at (set s.words i y) (giving now)
+              (let f = one_full sizes s.words slot y inside h.kept.parts.slots.long in omega arith)
+              (let o = over_slot s h y in omega arith) (λ none. absurd (omega arith));
+          tells = at_once GivesAll y (giving now, carried_after me.1 g.act)
               (now, (refl, c.1), refl, g.carried ∙ sym (rest_is γ slot n IsVacant rest (suc n) me.1 row));
         })
 
@@ -304,7 +320,7 @@ module _ (slots id : ℕ) (me : Mine) (live : HasPlace me.0.epoch) where
         let m = moves_out s h at rests (full_owned (slot_at sizes s.words slot) (omega arith)) (inl own)
         (holding.unseen_held codes sound sizes s.words s.views p.slots id v at p.epoch slot held all)
         (λ j u e ne m. still_owned γ sizes s h slot id j v u at e ne (omega arith) m)
-        (record v.stakes { moves = Some slot; owns = [] }) refl (held_tells v tells slot owns)
+        (record v.stakes { moves = Some slot; owns = [] }) refl refl (held_tells v tells slot owns)
         (λ j g k. ⊎_elim (λ (a : IsIn [] j g). absurd (in_none j g a)) (λ (a : IsIn v.stakes.sees j g). inr a) k) in
         (m.0, m.1, m.2, m.3, (m.4, m.5))
 
@@ -319,20 +335,25 @@ module _ (slots id : ℕ) (me : Mine) (live : HasPlace me.0.epoch) where
         let g = gives_row γ n slot IsVacant sizes.slots inside (suc n) (omega arith) s.homes rest me.1 h.homes.deep row in
         let empty = (free_is 0 (omega arith)).2 in
         subst (Follows γ sizes id i me told s y) (sym (t slot refl)) record {
-          stakes = record v.stakes { moves = None };
+          stakes = (giving now).stakes;
           act = g.act;
           valid = g.valid;
-          homes = part.gives γ sizes s.words s.views s.homes h.homes id v at slot IsVacant rest me.1 g (set s.words i y) (resting now)
+          homes = part.gives γ sizes s.words s.views s.homes h.homes id v at slot IsVacant rest me.1 g (set s.words i y) (giving now)
               (λ g vacant. (λ e. let f = ap full (here s.words y (within s h)) in absurd (omega arith), λ _. vacant))
               (λ j p ne out. ⊎_elim (λ (m : Moves v j). absurd (ne (one_moved v slot j mine m))) (λ (o : Sees v j × (v.epoch.place ≡ p)). inr o) out)
               (others s.words y)
-              (λ j m. absurd (none_moved (resting now) j refl m));
+              (λ j m. absurd (none_moved (giving now) j refl m));
           records = let own = (h.kept.parts.slots.each id v at).held slot held in
-              comes_home γ sizes s h slot id v at IsVacant rest me.1 g (unknown_owned γ sizes s h slot id v at mine own) (resting now)
-              (rested_tells v (h.records.each id v at) slot mine (resting now) refl (λ i ne. without_other slot i ne v.slots.owns)
+              comes_home γ sizes s h slot id v at IsVacant rest me.1 g (unknown_owned γ sizes s h slot id v at mine own) (giving now)
+              (rested_tells v (h.records.each id v at) slot mine (giving now) refl (λ i ne. without_other slot i ne v.slots.owns)
               (λ o. let z = without_same slot v.slots.owns in omega arith) refl)
               refl refl;
-          tells = at_once DiscardsAll y (resting now, carried_after me.1 g.act)
+          counts = let one = ((h.kept.parts.slots.each id v at).alone slot ((h.kept.parts.slots.each id v at).held slot held)).0 in
+              let was = full_owned (slot_at sizes s.words slot) (omega arith) in
+              counted sizes s.words s.views h.counts id v at (set s.words i y) (giving now)
+              (let f = one_full sizes s.words slot y inside h.kept.parts.slots.long in omega arith)
+              (let o = over_slot s h y in omega arith) (λ none. absurd (omega arith));
+          tells = at_once DiscardsAll y (giving now, carried_after me.1 g.act)
               (refl, g.carried ∙ sym (rest_is γ slot n IsVacant rest (suc n) me.1 row));
         })
 
@@ -341,7 +362,8 @@ module _ (slots id : ℕ) (me : Mine) (live : HasPlace me.0.epoch) where
     looks = lift_calm γ sizes slots id me i (λ x. x) (AtSlot LooksAtSlot i v) (λ r me'. (me'.1 ≡ me.1) × AtSlot LooksAtSlot i v r me'.0)
         look_keeps (steps.looks_at id v live slot) (λ r w t. (refl, t))
         (λ s w h at t. subst (IsCalm γ sizes slots id me i (λ x. x) s (get_or s.words i 0)) (sym (t slot refl).0)
-        record { more = λ j p out. out; same = λ j _. same_words s h j; mover = λ j m. h.homes.moving id v j at m; alike = (refl, refl, refl) })
+        record { more = λ j p out. out; same = λ j _. same_words s h j; mover = λ j m. h.homes.moving id v j at m; alike = (refl, refl, refl);
+          counts = refl; lives = λ l. l })
 
     -- retire the item
     pub retires : v.slots.owns ≡ slot ∷ [] → ¬ (Holds v slot) → v.stakes.moves ≡ None
@@ -354,21 +376,23 @@ module _ (slots id : ℕ) (me : Mine) (live : HasPlace me.0.epoch) where
         (λ s w h at t. let c = t slot refl in let one = ((h.kept.parts.slots.each id v at).alone slot own).0 in
         let was = full_owned (slot_at sizes s.words slot) (omega arith) in let now : View = retired slot y c.0 v in
         let will = (sound.waits y (let q = (waiting_is 0 (omega arith)).1 in omega arith)).1 in
+        let same : (j : ℕ) → j < sizes.slots → full (slot_at sizes (set s.words i y) j) ≡ full (slot_at sizes s.words j) = λ j low. dite (ℕ_discrete j slot)
+        (λ e. subst (λ (k : ℕ). full (slot_at sizes (set s.words i y) k) ≡ full (slot_at sizes s.words k)) (sym e)
+        (ap full (here s.words y (within s h)) ∙ (will ∙ sym was)))
+        (λ ne. others s.words y j low ne) in
         subst (Follows γ sizes id i me told s y) (sym c.3) record {
           stakes = record v.stakes { owns = [] };
           act = keeps;
           valid = tt;
-          homes = part.calm γ sizes s.words s.views s.homes h.homes id v at (set s.words i y) (untold now) (λ j p out. out)
-              (λ j low. dite (ℕ_discrete j slot)
-              (λ e. subst (λ (k : ℕ). full (slot_at sizes (set s.words i y) k) ≡ full (slot_at sizes s.words k)) (sym e)
-              (ap full (here s.words y (within s h)) ∙ (will ∙ sym was)))
-              (λ ne. others s.words y j low ne))
+          homes = part.calm γ sizes s.words s.views s.homes h.homes id v at (set s.words i y) (untold now) (λ j p out. out) same
               (λ j m. absurd (none_moved v j rests m));
           records = records.no_more sizes s.views s.homes h.records id v at (untold now) s.homes
               (retired_tells v (h.records.each id v at) slot owns y c.0)
               (λ j g k. ⊎_elim (λ (a : IsIn [] j g). absurd (in_none j g a))
               (λ (a : IsIn v.stakes.sees j g). records.mine sizes s.views s.homes h.records id v at j g (inr a)) k)
               (λ j p g _ _ l. inl l) (λ j m. m) (λ j a. a);
+          counts = uncounted sizes s.words s.views h.counts id v at (set s.words i y) (untold now) refl (λ l. l)
+              (as_full sizes s.words (set s.words i y) same) (over_slot s h y);
           tells = at_once RetiresOne y (untold now, me.1) (now, (c.0, c.1, c.2, refl, c.4, c.5), refl, refl);
         })
 
@@ -382,7 +406,7 @@ module _ (slots id : ℕ) (me : Mine) (live : HasPlace me.0.epoch) where
           v,
           keeps,
           tt,
-          stands_by γ sizes id v s h at v.stakes s.homes
+          stands_by γ sizes id v s h at v.stakes refl s.homes
               (part.calm γ sizes s.words s.views s.homes h.homes id v at s.words v (λ j p out. out) (λ j _. refl) (λ j m. h.homes.moving id v j at m))
               (records.calm sizes s.views s.homes r id v at v (refl, refl, refl)),
           (
@@ -429,7 +453,8 @@ module _ (slots id : ℕ) (me : Mine) (live : HasPlace me.0.epoch) where
                 (λ k m. absurd (none_moved v k rests m)),
                 (λ k m sees. dite (ℕ_discrete k slot) (λ same. still j x e (subst (Moves x) same m))
                     (λ ne. r.apart j id x v k e at m (let o = is_other k slot (λ e. ne (sym e)) in omega arith))),
-              ))),
+              )))
+              (uncounted_alone sizes s.words s.views h.counts id v at now refl refl),
           ((λ sees. absurd (unseen sees)), (λ _. (y, it, refl))),
         ))
 
@@ -439,14 +464,16 @@ module _ (slots id : ℕ) (me : Mine) (live : HasPlace me.0.epoch) where
         (spares (λ x. x) (AtSlot TakesHold i v) (λ r w t. ap (λ (u : View). u.places) (t slot refl).0))
         (steps.takes_hold id v live slot inside own free) (λ r w t. (refl, t))
         (λ s w h at t. subst (IsCalm γ sizes slots id me i (λ x. x) s (get_or s.words i 0)) (sym (t slot refl).0)
-        record { more = λ j p out. out; same = λ j _. same_words s h j; mover = λ j m. h.homes.moving id v j at m; alike = (refl, refl, refl) })
+        record { more = λ j p out. out; same = λ j _. same_words s h j; mover = λ j m. h.homes.moving id v j at m; alike = (refl, refl, refl);
+          counts = refl; lives = λ l. l })
 
     pub lets_go : Holds v slot → May i (λ x. x) (λ r me'. (me'.1 ≡ me.1) × AtSlot LetsGo i v r me'.0)
     lets_go held = lift_calm γ sizes slots id me i (λ x. x) (AtSlot LetsGo i v) (λ r me'. (me'.1 ≡ me.1) × AtSlot LetsGo i v r me'.0)
         (spares (λ x. x) (AtSlot LetsGo i v) (λ r w t. ap (λ (u : View). u.places) (t slot refl).0))
         (steps.lets_go id v live slot inside held) (λ r w t. (refl, t))
         (λ s w h at t. subst (IsCalm γ sizes slots id me i (λ x. x) s (get_or s.words i 0)) (sym (t slot refl).0)
-        record { more = λ j p out. out; same = λ j _. same_words s h j; mover = λ j m. h.homes.moving id v j at m; alike = (refl, refl, refl) })
+        record { more = λ j p out. out; same = λ j _. same_words s h j; mover = λ j m. h.homes.moving id v j at m; alike = (refl, refl, refl);
+          counts = refl; lives = λ l. l })
 
   -- look at the next place for a guard
   pub looks_for_guard : (place : ℕ) → place < n → place ≡ v.slots.looked
@@ -459,8 +486,10 @@ module _ (slots id : ℕ) (me : Mine) (live : HasPlace me.0.epoch) where
       (λ s w h at t. let c = t place refl in let x : ℕ = get_or s.words j 0 in
       let same = λ (k : ℕ) (_ : k < sizes.slots). ap (λ (l : List ℕ). full (slot_at sizes l k)) (set-get_or s.words j 0) in
       let calm = λ (w : View). IsCalm γ sizes slots id me j (λ x. x) s x w in dite (ℕ_discrete x 2)
-      (λ e. subst calm (sym (c.1 e)) record { more = λ k p out. out; same = same; mover = λ k m. h.homes.moving id v k at m; alike = (refl, refl, refl) })
-      (λ ne. subst calm (sym (c.0 ne)) record { more = λ k p out. out; same = same; mover = λ k m. h.homes.moving id v k at m; alike = (refl, refl, refl) }))
+      (λ e. subst calm (sym (c.1 e)) record { more = λ k p out. out; same = same; mover = λ k m. h.homes.moving id v k at m; alike = (refl, refl, refl);
+          counts = refl; lives = λ l. l })
+      (λ ne. subst calm (sym (c.0 ne)) record { more = λ k p out. out; same = same; mover = λ k m. h.homes.moving id v k at m; alike = (refl, refl, refl);
+          counts = refl; lives = λ l. l }))
 
   -- the last guard is closed, whose stakes go home
   pub closes : IsOpen v.epoch → ¬ (Scans v.epoch) → v.epoch.place < n → v.stakes.moves ≡ None → Purse γ n v.epoch.place v.stakes.sees me.1
@@ -493,6 +522,9 @@ module _ (slots id : ℕ) (me : Mine) (live : HasPlace me.0.epoch) where
             (subst (λ (l : ℕ). IsKnown s.views l a) (one_slot n k d.0 p q near' le d.3) c)))
             (λ (d : LiesAt n s.homes k p y). inl d) (g.home (stake_at n k p) y lies))
             (λ k m. m) (λ k sees. absurd (omega arith));
+        counts = uncounted sizes s.words s.views h.counts id v at (set s.words j 1) (unsighted now) refl (λ _. omega arith)
+            (as_full sizes s.words (set s.words j 1) (λ k _. same k))
+            (ended_spared sizes s.words j 1 (own_place γ sizes id v live 1 s h at) n (omega arith));
         tells = (now, refl, refl, g.carried);
       })
 
@@ -527,8 +559,10 @@ module _ (γ : ℕ) (sizes : Sizes) (slots id : ℕ) (me : Mine) (p : ℕ) (insi
     bars_calm w which = let same = λ (j : ℕ) (_ : j < sizes.slots). ap full (before_slots sizes s.words spot left j (omega arith)) in
         let calm = IsCalm γ sizes slots id me spot free_no_more s left in
         let mover = λ (j : ℕ) (m : Moves me.0 j). h.homes.moving id me.0 j at m in
-        ⊎_elim (λ (e : w ≡ past p me.0). subst calm (sym e) record { more = λ j q out. out; same = same; mover = mover; alike = (refl, refl, refl) })
-        (λ (e : w ≡ me.0). subst calm (sym e) record { more = λ j q out. out; same = same; mover = mover; alike = (refl, refl, refl) }) which
+        ⊎_elim (λ (e : w ≡ past p me.0). subst calm (sym e) record { more = λ j q out. out; same = same; mover = mover; alike = (refl, refl, refl);
+          counts = refl; lives = λ l. l })
+        (λ (e : w ≡ me.0). subst calm (sym e) record { more = λ j q out. out; same = same; mover = mover; alike = (refl, refl, refl);
+          counts = refl; lives = λ l. l }) which
 
   which_of : (r : ℕ) (w : View) → Bars spot me.0 r w → ((r ≡ 0) ⊎ (r ≡ 3)) × (w ≡ past p me.0) ⊎ (w ≡ me.0)
   which_of r w t = let c = t p refl in dite (ℕ_discrete r 0) (λ e. inl (inl e, c.0 (inl e)))

@@ -15,13 +15,13 @@ use Rattle.sdd_rule.specs.declared.Sizes.{Sizes}
 use Rattle.sdd_rule.specs.Codes.{codes}
 use Rattle.sdd_rule.specs.Sums.{times}
 use Rattle.sdd_rule.specs.Slots.{slot_at, items_at, OwnsAlone}
-use Rattle.sdd_rule.specs.SlotSteps.{without, claimed, retired}
+use Rattle.sdd_rule.specs.SlotSteps.{without, retired}
 use Rattle.sdd_rule.proofs.Codes.{sound}
 use Rattle.sdd_rule.proofs.SlotWords.{owners_in}
 use Rattle.sdd_rule.proofs.Sums.{is_same, is_other, without_same, without_other, total_has}
 use Rattle.sdd_homes.specs.Homes.{Carries, share, Has, Moves, LiesAt}
 use Rattle.sdd_homes.specs.Housed.{Housed}
-use Rattle.sdd_homes.specs.HomeSteps.{moving, resting, telling, untold}
+use Rattle.sdd_homes.specs.HomeSteps.{moving, making, resting, telling, untold}
 use Rattle.sdd_homes.specs.Records.{slot_shown, IsIn, IsKnown, IsTelling, RecordsPart}
 use Rattle.sdd_homes.proofs.Records.{in_head, in_tail, in_either, in_none}
 use Rattle.sdd_homes.proofs.Records as records
@@ -48,8 +48,8 @@ module _ (v : View) (slot : ℕ) (owns : v.slots.owns ≡ slot ∷ []) where
 -- ---- what a participant that takes a step knows of what slots show
 module _ (v : View) (t : IsTelling v) (slot : ℕ) where
   -- it claims a slot
-  pub claimed_tells : v.stakes.moves ≡ None → ¬ (OwnsAlone v slot) → (y : ℕ) → IsTelling (moving slot (claimed slot y v))
-  claimed_tells rests never y = let w : View = moving slot (claimed slot y v) in record {
+  pub claimed_tells : v.stakes.moves ≡ None → ¬ (OwnsAlone v slot) → (y : ℕ) → IsTelling (making slot y v)
+  claimed_tells rests never y = let w : View = making slot y v in record {
     owns = λ i g h. let o = (t.owns i g h).0 in (
       let l : OwnsAlone w i = omega arith in l,
       λ m. never (subst (OwnsAlone v) (one_moved w slot i refl m) o),
@@ -100,7 +100,7 @@ module _ (v : View) (t : IsTelling v) (slot : ℕ) where
     }
 
     -- a value was moved out
-    pub rested_tells : (w : View) → w.stakes ≡ record v.stakes { moves = None } → ((i : ℕ) → i ≢ slot → times i w.slots.owns ≡ times i v.slots.owns)
+    pub rested_tells : (w : View) → record w.stakes { counts = v.stakes.counts } ≡ record v.stakes { moves = None } → ((i : ℕ) → i ≢ slot → times i w.slots.owns ≡ times i v.slots.owns)
         → ¬ (OwnsAlone w slot) → w.slots.sees ≡ v.slots.sees → IsTelling w
     rested_tells w is same never seen = record {
       owns = λ i g h. let o = t.owns i g (subst (λ (k : StakesView). IsIn k.owns i g) is h) in let b = o.0 in
@@ -138,7 +138,8 @@ module _ (γ : ℕ) (sizes : Sizes) (s : State Stake View) (h : Housed γ sizes 
 
   -- all stakes in a slot of which nobody knows come home
   pub comes_home : (Is : Gv → Type 0) (rest xs : Carries) (g : Given γ sizes.participants i Is s.homes rest xs (suc sizes.participants))
-      → ((g : Gv) → ¬ (IsKnown s.views i g)) → (w : View) → IsTelling w → w.stakes ≡ record v.stakes { moves = None } → w.slots.sees ≡ v.slots.sees
+      → ((g : Gv) → ¬ (IsKnown s.views i g)) → (w : View) → IsTelling w
+      → record w.stakes { counts = v.stakes.counts } ≡ record v.stakes { moves = None } → w.slots.sees ≡ v.slots.sees
       → RecordsPart sizes (set s.views id w) (homes_after s.homes xs g.act)
   comes_home Is rest xs g never w tells is seen = let n : ℕ = sizes.participants in
       records.no_more sizes s.views s.homes h.records id v at w (homes_after s.homes xs g.act) tells

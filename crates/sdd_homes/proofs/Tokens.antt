@@ -1,9 +1,9 @@
 -- The start, a new token, owners that are cut off as a token and taken in again, and what is at home at the end
-use Rattle.std.proofs.Common.{◌≡◌, inl, inr, ℕ, zero, suc, ◌<◌, ◌≤◌, List, [], ◌∷◌, ◌++◌, length, get_or, set, sym, refl, ap, ◌∙◌, subst, ⊎_elim, arith}
+use Rattle.std.proofs.Common.{◌≡◌, ◌≢◌, inl, inr, ℕ, zero, suc, ◌+◌, ◌<◌, ◌≤◌, List, [], ◌∷◌, ◌++◌, length, get_or, set, sym, refl, ap, ◌∙◌, subst, ⊎_elim, arith}
 use Rattle.std.proofs.lemmas.List.{length-map}
 use mathlib.Core.Option.{some, some-injective, some-ne-none}
 use mathlib.Core.Logic.{dite}
-use native.Mathlib.Decide.{ℕ_discrete}
+use native.Mathlib.Decide.{ℕ_discrete, dec_lt}
 use Rattle.std.specs.Prelude.{None}
 use lib.ListN.{get_elem?}
 use base.Stored.{Gv}
@@ -12,9 +12,10 @@ use Rattle.atomic_table.proofs.Lists.{at_map, at_longer, set_else}
 use Rattle.sdd_stakes.specs.Shelf.{IsVacant, most}
 use Rattle.sdd_stakes.specs.declared.stake.Stake.{Stake}
 use Rattle.sdd_rule.specs.declared.Showing.{Showing}
+use Rattle.sdd_rule.specs.declared.CountsView.{CountsView}
 use Rattle.sdd_rule.specs.declared.View.{View}
 use Rattle.sdd_rule.specs.declared.Sizes.{Sizes}
-use Rattle.sdd_rule.specs.Words.{all_words}
+use Rattle.sdd_rule.specs.Words.{first_slot, all_words}
 use Rattle.sdd_rule.specs.Codes.{alive, waiting, full}
 use Rattle.sdd_rule.specs.Sums.{times}
 use Rattle.sdd_rule.specs.Slots.{slot_at, OwnsAlone, Sees}
@@ -23,11 +24,14 @@ use Rattle.sdd_rule.specs.Epoch.{HasPlace}
 use Rattle.sdd_rule.specs.Parts.{epoch_of, idle, owner_token, owner_of}
 use Rattle.sdd_rule.proofs.Codes.{sound}
 use Rattle.sdd_rule.proofs.Lift as kept
-use Rattle.sdd_rule.proofs.Sums.{is_same, is_other}
+use Rattle.sdd_rule.proofs.Frame.{each_set, each_snoc}
+use Rattle.sdd_rule.proofs.Sums.{is_same, is_other, total_set, total_snoc, total_has, total_two, total_only, span_zero}
 use Rattle.sdd_homes.specs.Homes.{stake_at, share, Has, IsShown, Moves, IsOut, LiesAt, AreLaid, HomesPart}
 use Rattle.sdd_homes.specs.Housed.{Housed}
-use Rattle.sdd_homes.specs.HomeSteps.{parting, departing, regained}
+use Rattle.sdd_homes.specs.HomeSteps.{parting, departing, regained, uncounting, counts_of, counts_token, counting}
 use Rattle.sdd_homes.specs.Records.{IsIn, KnowsShown, IsKnown, IsTelling, RecordsPart}
+use Rattle.sdd_homes.specs.Counts.{made_by, gone_by, over_by, full_slots, HasNoCounts, CountsByPlace, CountsPart}
+use Rattle.sdd_homes.proofs.Counts.{ended_few, uncounted_alone, more_counts}
 use Rattle.sdd_homes.proofs.Places.{inside}
 use Rattle.sdd_homes.proofs.Part.{IsMover}
 use Rattle.sdd_homes.proofs.Part as part
@@ -58,6 +62,8 @@ module _ (γ : ℕ) (sizes : Sizes) where
           records = subst (λ (w : View). RecordsPart sizes (s.views ++ w ∷ []) s.homes) (sym r.2.0)
               (records.arrives sizes s.views s.homes h.records t (telling_none t refl refl refl refl) (λ i g k. absurd (knows_none t refl refl i g k))
               refl refl);
+          counts = subst (λ (w : View). CountsPart sizes s.words (s.views ++ w ∷ [])) (sym r.2.0)
+              (more_counts sizes s.words s.views h.counts t refl refl refl);
         },
         r.2.1,
       )
@@ -77,6 +83,11 @@ module _ (γ : ℕ) (sizes : Sizes) where
           (has.0, (λ e. absurd (omega arith), λ _. has.1));
       back = λ i p low near away. let l = laid.each i p near (inside n sizes.slots i p low near) in (l.0, at_map some xs (stake_at n i p) l.0 l.1);
       moving = λ j v i e m. absurd (none_moved v i (subst (λ (u : View). u.stakes.moves ≡ None) (only j v e) refl) m);
+    };
+    counts = record {
+      items = let z = span_zero full ws (first_slot sizes) sizes.slots (λ d l. ap full (none (first_slot sizes + d)) ∙ sound.free.2) in omega arith;
+      places = omega arith;
+      each = λ j v e. subst CountsByPlace (only j v e) (λ _ _. (refl, refl));
     };
     records = record {
       each = λ j v e. subst IsTelling (only j v e) (telling_none (idle sizes γ) refl refl refl refl);
@@ -123,6 +134,7 @@ module _ (γ : ℕ) (sizes : Sizes) where
             (λ i g k. ⊎_elim (λ (a : IsIn [] i g). absurd (in_none i g a))
             (λ (a : IsIn v.stakes.sees i g). (id, v, at_longer s.views (t ∷ []) id v at, inr a)) k)
             (λ i p y _ _ l. inl l) (λ i m. m) (λ i a. a));
+        counts = more_counts sizes s.words (set s.views id w) (uncounted_alone sizes s.words s.views h.counts id v at w refl refl) t refl refl refl;
       }
 
   -- and comes back
@@ -155,7 +167,55 @@ module _ (γ : ℕ) (sizes : Sizes) where
         records = records.no_more sizes vs s.homes came other t there t' s.homes (telling_none t' refl refl refl refl)
             (λ i g k. absurd (knows_none t' refl refl i g k)) (λ i p y _ _ l. inl l) (λ i m. absurd (none_moved t' i refl m))
             (λ i a. absurd (omega arith));
+        counts = uncounted_alone sizes s.words vs (uncounted_alone sizes s.words s.views h.counts id v at w refl refl) other t there t' refl refl;
       }
+
+  -- the counts of ended places go to a token of their own
+  pub parts_counts : (id : ℕ) (v : View) → 0 < over_by v → Splits (Housed γ sizes) id v (uncounting v) (counts_of v)
+  parts_counts id v over s h at = let t : View = counts_of v in let w : View = uncounting v in let c = h.counts in let p = h.kept.parts.slots in record {
+    kept = kept.cuts sizes id v v.slots.owns v.slots.shares [] [] w.stakes t.stakes (λ i. (omega arith, omega arith))
+        (λ i held. (p.each id v at).held i held) s h.kept at;
+    homes = part.arrives γ sizes s.words (set s.views id w) s.homes
+        (part.calm γ sizes s.words s.views s.homes h.homes id v at s.words w (λ i p out. out) (λ i _. refl) (λ i m. h.homes.moving id v i at m))
+        t (nothing_out t refl refl) (λ i m. absurd (none_moved t i refl m));
+    records = records.arrives sizes (set s.views id w) s.homes (records.calm sizes s.views s.homes h.records id v at w (refl, refl, refl)) t
+        (telling_none t refl refl refl refl) (λ i g k. absurd (knows_none t refl refl i g k)) refl refl;
+    counts = record {
+      items = let a = total_set made_by s.views id v w at in let a' = total_snoc made_by (set s.views id w) t in
+          let b = total_set gone_by s.views id v w at in let b' = total_snoc gone_by (set s.views id w) t in let d = c.items in omega arith;
+      places = let a = total_set over_by s.views id v w at in let a' = total_snoc over_by (set s.views id w) t in let d = c.places in omega arith;
+      each = each_snoc CountsByPlace (set s.views id w) t
+          (each_set CountsByPlace CountsByPlace s.views id w (λ _ _. (refl, refl)) (λ j u _ e. c.each j u e)) (λ _ none. absurd (omega arith));
+    };
+  }
+
+  -- and come to another
+  pub joins_counts : (id : ℕ) (v : View) (other : ℕ) (d : CountsView)
+      → Joins (Housed γ sizes) id v other (counts_token d) (counting v (counts_token d)) (owner_token [] [])
+  joins_counts id v other d s h at apart there = let t : View = counts_token d in let t' : View = owner_token [] [] in let w : View = counting v t in
+      let vs : List View = set s.views id w in let c = h.counts in
+      let was : get_elem? s.views other ≡ some t = sym (set_else s.views id other w apart) ∙ there in record {
+        kept = kept.takes_in sizes id v other v.slots.owns v.slots.shares [] [] w.stakes t.stakes (λ i. (omega arith, omega arith)) s h.kept at apart there;
+        homes = part.calm γ sizes s.words vs s.homes
+            (part.calm γ sizes s.words s.views s.homes h.homes id v at s.words w (λ i p out. out) (λ i _. refl) (λ i m. h.homes.moving id v i at m))
+            other t there s.words t' (λ i p out. absurd (nothing_out t refl refl i p out)) (λ i _. refl) (λ i m. absurd (none_moved t' i refl m));
+        records = records.calm sizes vs s.homes (records.calm sizes s.views s.homes h.records id v at w (refl, refl, refl)) other t there t'
+            (refl, refl, refl);
+        counts = record {
+          items = let a = total_set made_by s.views id v w at in let a' = total_set made_by vs other t t' there in
+              let b = total_set gone_by s.views id v w at in let b' = total_set gone_by vs other t t' there in let e = c.items in omega arith;
+          places = let a = total_set over_by s.views id v w at in let a' = total_set over_by vs other t t' there in let e = c.places in omega arith;
+          each = each_set CountsByPlace CountsByPlace vs other t' (λ _ _. (refl, refl))
+              (λ j u _ e. each_set CountsByPlace CountsByPlace s.views id w
+              (λ state over. let mine = c.each id v at state (omega arith) in let theirs = c.each other t was refl (omega arith) in
+              (let a = mine.0 in let b = theirs.0 in omega arith, let a = mine.1 in let b = theirs.1 in omega arith))
+              (λ j u _ e. c.each j u e) j u e);
+        };
+      }
+
+  -- a token counts no more places than there are
+  pub few_over : (s : State Stake View) → Housed γ sizes s → (id : ℕ) (v : View) → get_elem? s.views id ≡ some v → over_by v ≤ sizes.participants
+  few_over s h id v at = let a = total_has over_by s.views id v at in let b = h.counts.places in let c = ended_few s.words sizes.participants in omega arith
 
   -- all stakes in a slot that is free are at home, and show that it is vacant
   pub free_at_home : (s : State Stake View) → Housed γ sizes s → (i p : ℕ) → i < sizes.slots → p ≤ sizes.participants
@@ -181,3 +241,13 @@ module _ (γ : ℕ) (sizes : Sizes) where
       (λ (o : Sees u i × (u.epoch.place ≡ p)). let open_guard = (h.kept.parts.slots.each j u e).guarded i o.0 in
       let live : HasPlace u.epoch = omega arith in live) out)) in
       (b.0, b.1, h.homes.home i p b.0 low near b.1)
+
+  -- where a token counts all places, what was made has gone, or lies in a slot
+  pub all_counted : (s : State Stake View) → Housed γ sizes s → (id : ℕ) (v : View) → get_elem? s.views id ≡ some v → sizes.participants ≤ v.places.ended
+      → over_by v ≡ sizes.participants → made_by v ≡ gone_by v + full_slots sizes s.words
+  all_counted s h id v at all over = let c = h.counts in let few = ended_few s.words sizes.participants in let places = c.places in
+      let none : (j : ℕ) (u : View) → j ≢ id → get_elem? s.views j ≡ some u → HasNoCounts u
+      = λ j u ne e. let two = total_two over_by s.views id j v u (λ d. ne (sym d)) at e in
+      c.each j u e (dite (dec_lt 0 u.epoch.state) (λ live. absurd (no_place s h id v at all j u e live)) (λ z. omega arith)) (omega arith) in
+      let made = total_only made_by s.views id v at (λ j u ne e. (none j u ne e).0) in
+      let gone = total_only gone_by s.views id v at (λ j u ne e. (none j u ne e).1) in let items = c.items in omega arith

@@ -1,13 +1,15 @@
 -- What a seat carries, and what each step that takes or gives stakes makes of it
-use Rattle.std.specs.Prelude.{◌≡◌, ◌≢◌, ℕ, zero, suc, List, [], ◌∷◌, ◌++◌, drop, Some, None}
+use Rattle.std.specs.Prelude.{◌≡◌, ◌≢◌, ℕ, zero, suc, ◌+◌, List, [], ◌∷◌, ◌++◌, drop, Some, None}
 use base.Stored.{Gv}
 use Rattle.atomic_table.specs.Table.{Me}
 use Rattle.sdd_stakes.specs.Shelf.{IsFull, IsVacant}
 use Rattle.sdd_stakes.specs.declared.stake.Stake.{Stake}
 use Rattle.sdd_rule.specs.declared.Showing.{Showing}
+use Rattle.sdd_rule.specs.declared.CountsView.{CountsView}
 use Rattle.sdd_rule.specs.declared.View.{View}
 use Rattle.sdd_rule.specs.SlotSteps.{Knew, claimed, discarded, seeing, first, parted, joined, Retires, ClosesAll, GivesBack}
-use Rattle.sdd_rule.specs.Parts.{owner_token, at_rest}
+use Rattle.sdd_rule.specs.Parts.{owner_token, at_rest, no_counts}
+use Rattle.sdd_rule.specs.Steps.{ended}
 use Rattle.sdd_rule.specs.Words.{slot_word}
 use Rattle.sdd_rule.specs.Slots.{Sees}
 use Rattle.sdd_homes.specs.Homes.{Carries, stake_at, share, Has}
@@ -44,6 +46,29 @@ moving slot v = record v { stakes = record v.stakes { moves = Some slot } }
 -- it moves none
 abbrev pub resting : View → View
 resting v = record v { stakes = record v.stakes { moves = None } }
+
+-- it made an item more
+abbrev pub with_made : View → View
+with_made v = record v { stakes = record v.stakes { counts = record v.stakes.counts { made = v.stakes.counts.made + 1 } } }
+
+-- it gave one more back
+abbrev pub with_gone : View → View
+with_gone v = record v { stakes = record v.stakes { counts = record v.stakes.counts { gone = v.stakes.counts.gone + 1 } } }
+
+-- it claims a slot, for an item that it makes
+abbrev pub making : ℕ → ℕ → View → View
+making slot y v = with_made (moving slot (claimed slot y v))
+
+-- it gives one back, and moves no value any more
+abbrev pub giving : View → View
+giving v = with_gone (resting v)
+
+-- its place has ended, and is counted
+abbrev pub leaving : View → View
+leaving v = record v {
+  epoch = ended v.epoch;
+  stakes = record v.stakes { counts = record v.stakes.counts { over = v.stakes.counts.over + 1 } };
+}
 
 -- it knows what a slot of its own shows
 abbrev pub telling : ℕ → Gv → View → View
@@ -83,7 +108,7 @@ places_of me = me.0.sizes.participants
 -- the claim of a slot whose word is old as long as it is free: then all stakes in it are out, and show that it is vacant
 abbrev pub ClaimsAll : ℕ → ℕ → ℕ → Mine → ℕ → Mine → Type 0
 ClaimsAll slot old y me x me' =
-    (x ≡ old → (me'.0 ≡ moving slot (claimed slot y me.0)) × HasAll (book_of me) slot (places_of me) IsVacant me.1 me'.1)
+    (x ≡ old → (me'.0 ≡ making slot y me.0) × HasAll (book_of me) slot (places_of me) IsVacant me.1 me'.1)
     × (x ≢ old → me' ≡ me) × Knew slot me.0 x
 
 -- the value of an owned slot was moved in, and all stakes in it, which show it, go home
@@ -104,11 +129,11 @@ RetiresOne slot me y me' = (v : View) × Retires slot me.0 y v × (me'.0 ≡ unt
 
 -- it was moved out: the slot is free, and all stakes in it go home
 abbrev pub GivesAll : ℕ → Mine → ℕ → Mine → Type 0
-GivesAll slot me y me' = (v : View) × GivesBack slot me.0 y v × (me'.0 ≡ resting v) × (me'.1 ≡ drop (suc (places_of me)) me.1)
+GivesAll slot me y me' = (v : View) × GivesBack slot me.0 y v × (me'.0 ≡ giving v) × (me'.1 ≡ drop (suc (places_of me)) me.1)
 
 -- the item of a slot that was held has gone at once: the slot is free, and all stakes in it go home
 abbrev pub DiscardsAll : ℕ → Mine → ℕ → Mine → Type 0
-DiscardsAll slot me y me' = (me'.0 ≡ resting (discarded slot y me.0)) × (me'.1 ≡ drop (suc (places_of me)) me.1)
+DiscardsAll slot me y me' = (me'.0 ≡ giving (discarded slot y me.0)) × (me'.1 ≡ drop (suc (places_of me)) me.1)
 
 -- a guard sees a slot beside its owner, who knows what it shows: it has the stake of its place out, if it didn't before
 abbrev pub Watches : ℕ → Gv → Mine → Mine → Type 0
@@ -119,6 +144,27 @@ Watches slot value me me' = (Sees me.0 slot → (me' ≡ me) × IsIn me.0.stakes
 -- the last guard is closed: all that it had goes home
 abbrev pub ClosesHome : Mine → ℕ → Mine → Type 0
 ClosesHome me x me' = (v : View) × ClosesAll me.0 x v × (me'.0 ≡ unsighted v) × (me'.1 ≡ [])
+
+-- its place ends
+abbrev pub EndsAll : View → ℕ → View → Type 0
+EndsAll v x w = w ≡ leaving v
+
+-- the counts go to a token of their own, once the place has ended
+abbrev pub uncounting : View → View
+uncounting v = record v { stakes = record v.stakes { counts = no_counts } }
+
+abbrev pub counts_token : CountsView → View
+counts_token c = record (owner_token [] []) { stakes = record (at_rest 0) { counts = c } }
+
+abbrev pub counts_of : View → View
+counts_of v = counts_token v.stakes.counts
+
+-- the counts of another token come
+abbrev pub counts_added : CountsView → CountsView → CountsView
+counts_added a b = record { made = a.made + b.made; gone = a.gone + b.gone; over = a.over + b.over }
+
+abbrev pub counting : View → View → View
+counting v w = record v { stakes = record v.stakes { counts = counts_added v.stakes.counts w.stakes.counts } }
 
 -- a step on the word i tells R of the slot whose word it is
 abbrev pub OfSlot : (ℕ → Mine → ℕ → Mine → Type 0) → ℕ → Mine → ℕ → Mine → Type 0

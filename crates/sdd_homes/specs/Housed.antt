@@ -7,9 +7,11 @@ use Rattle.sdd_rule.specs.declared.Sizes.{Sizes}
 use Rattle.sdd_rule.specs.Parts.{Kept}
 use Rattle.sdd_homes.specs.Homes.{HomesPart}
 use Rattle.sdd_homes.specs.Records.{RecordsPart}
+use Rattle.sdd_homes.specs.Counts.{CountsPart}
 
--- the words and what all participants know, the stakes at home, and what is known of what slots show
+-- the words and what all participants know, the stakes at home, what is known of what slots show, and what was made
 pub record Housed (γ : ℕ) (sizes : Sizes) (s : State Stake View) : Type 0 where
   pub kept : Kept sizes s
   pub homes : HomesPart γ sizes s.words s.views s.homes
   pub records : RecordsPart sizes s.views s.homes
+  pub counts : CountsPart sizes s.words s.views

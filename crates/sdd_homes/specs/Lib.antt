@@ -1,4 +1,5 @@
 pub mod Homes
 pub mod Records
+pub mod Counts
 pub mod Housed
 pub mod HomeSteps

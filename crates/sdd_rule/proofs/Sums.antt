@@ -42,6 +42,14 @@ module _ {X : Type 0} (f : X → ℕ) where
   total_zero [] none = refl
   total_zero (x ∷ xs) none = let a = none 0 x refl in let b = total_zero xs (λ j. none (suc j)) in omega arith
 
+  -- where it is 0 for all others, the sum is that of one
+  pub total_only : (vs : List X) (id : ℕ) (v : X) → get_elem? vs id ≡ some v → ((j : ℕ) (u : X) → j ≢ id → get_elem? vs j ≡ some u → f u ≡ 0)
+      → total f vs ≡ f v
+  total_only [] id v e none = absurd (some-ne-none v (sym e))
+  total_only (x ∷ xs) zero v e none = let s = ap f (some-injective _ _ e) in let z = total_zero xs (λ j u a. none (suc j) u (λ d. omega arith) a) in omega arith
+  total_only (x ∷ xs) (suc id) v e none = let a = none 0 x (λ d. omega arith) refl in
+      let s = total_only xs id v e (λ j u ne b. none (suc j) u (λ d. ne (omega arith)) b) in omega arith
+
   pub total_map : (g : X → X) → ((x : X) → f (g x) ≡ f x) → (xs : List X) → total f (map g xs) ≡ total f xs
   total_map g same [] = refl
   total_map g same (x ∷ xs) = let a = same x in let b = total_map g same xs in omega arith
@@ -120,6 +128,12 @@ module _ (f : ℕ → ℕ) (ws : List ℕ) (b : ℕ) where
   pub span_zero : (n : ℕ) → ((d : ℕ) → d < n → f (get_or ws (b + d) 0) ≡ 0) → span f ws b n ≡ 0
   span_zero zero none = refl
   span_zero (suc n) none = let a = none n (omega arith) in let r = span_zero n (λ d l. none d (omega arith)) in omega arith
+
+-- each of the words counts as before
+pub span_same : (f : ℕ → ℕ) (ws ws' : List ℕ) (b n : ℕ) → ((d : ℕ) → d < n → f (get_or ws' (b + d) 0) ≡ f (get_or ws (b + d) 0))
+    → span f ws' b n ≡ span f ws b n
+span_same f ws ws' b zero same = refl
+span_same f ws ws' b (suc n) same = let a = same n (omega arith) in let r = span_same f ws ws' b n (λ d l. same d (omega arith)) in omega arith
 
 -- a fact of any two, and of one with itself
 pub both_set : {X : Type 0} (R : X → X → Type 0) (vs : List X) (id : ℕ) (w : X)

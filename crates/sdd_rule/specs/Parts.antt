@@ -6,6 +6,7 @@ use base.Stored.{Gv}
 use Rattle.atomic_table.specs.Table.{State}
 use Rattle.sdd_rule.specs.declared.EpochView.{EpochView}
 use Rattle.sdd_rule.specs.declared.SlotsView.{SlotsView}
+use Rattle.sdd_rule.specs.declared.CountsView.{CountsView}
 use Rattle.sdd_rule.specs.declared.StakesView.{StakesView}
 use Rattle.sdd_rule.specs.declared.View.{View}
 use Rattle.sdd_rule.specs.declared.Sizes.{Sizes}
@@ -26,9 +27,13 @@ with_epoch v w = record v { epoch = w }
 abbrev pub with_both : View → EpochView → SlotsView → View
 with_both v w s = record v { epoch = w; slots = s }
 
+-- nothing was made
+abbrev pub no_counts : CountsView
+no_counts = record { made = 0; gone = 0; over = 0 }
+
 -- it moves no value and knows of none, and the values' places are of this book
 abbrev pub at_rest : ℕ → StakesView
-at_rest book = record { book = book; moves = None; owns = []; sees = [] }
+at_rest book = record { book = book; moves = None; owns = []; sees = []; counts = no_counts }
 
 -- a token that knows nothing, but how many of each there are and which book
 abbrev pub idle : Sizes → ℕ → View

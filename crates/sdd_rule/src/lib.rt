@@ -73,7 +73,17 @@ impl Model for Showing {
     ghost also_owns = { λ _. ftrue };
 }
 
-/// What a participant knows of the stakes in the values of slots.
+/// How many items were made and have gone again.
+pub struct CountsView {
+    /// How many it made.
+    pub made: u64,
+    /// How many it gave back, whose values it had moved out.
+    pub gone: u64,
+    /// How many places these counts are of that have ended.
+    pub over: u64,
+}
+
+/// What a participant knows of the stakes in the values of slots, and of how many values it moved in and out.
 pub struct StakesView {
     /// The book of the values' places.
     pub book: u64,
@@ -83,6 +93,7 @@ pub struct StakesView {
     pub owns: [Showing; 0],
     /// What the slots show that it sees under its guards, one entry for each time.
     pub sees: [Showing; 0],
+    pub counts: CountsView,
 }
 
 /// What a participant knows.

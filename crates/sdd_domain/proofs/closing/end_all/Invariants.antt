@@ -1,6 +1,11 @@
 use Rattle.std.proofs.Common.{◌≡◌}
+use Rattle.sdd_rule.specs.Parts.{no_counts}
 use Rattle.sdd_board.specs.Board.{id_of}
 use Rattle.sdd_domain.proofs.closing.end_all.Given as goal
 
 abbrev pub invariant-loop-place : goal.invariant-loop-place
-invariant-loop-place l = record { home : l.token.table_id ≡ id_of l.board; ended : l.token.me.0.places.ended ≡ l.place }
+invariant-loop-place l = record {
+  home : l.token.table_id ≡ id_of l.board;
+  ended : l.token.me.0.places.ended ≡ l.place;
+  none : l.token.me.0.stakes.counts ≡ no_counts;
+}

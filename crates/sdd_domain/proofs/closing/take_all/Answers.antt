@@ -3,10 +3,14 @@ use Rattle.core.specs.Mem.Slots.{slots_items, slots_counts}
 use Rattle.sdd_stakes.specs.Stakes.{Lot}
 use Rattle.sdd_stakes.specs.Shelf.{AreVacant, IsWhole, IsVacant}
 use Rattle.sdd_stakes.specs.declared.stake.Stake.{Stake}
+use Rattle.sdd_rule.specs.Sums.{span}
+use Rattle.sdd_rule.specs.Words.{first_slot}
+use Rattle.sdd_rule.specs.Slots.{slot_at}
 use Rattle.sdd_rule.specs.Codes.{full}
+use Rattle.sdd_homes.specs.Counts.{full_slots}
 use Rattle.sdd_homes.specs.Homes.{stake_at, AreHome}
 use Rattle.sdd_homes.proofs.Laid.{all_homes, first_home, vacant_more}
-use Rattle.sdd_domain.proofs.Ending.{word_says, empty_whole}
+use Rattle.sdd_domain.proofs.Ending.{word_says, empty_whole, span_last}
 use Rattle.sdd_domain.proofs.closing.take_all.Goals.{then-is_full, else-is_full}
 use Rattle.sdd_domain.proofs.closing.take_all.Goals as goal
 
@@ -19,6 +23,7 @@ loop-slot-init g c = let z = c.args.sizes.now in let γ : ℕ = c.args.title.now
       stock = subst (λ (t : ℕ × List Lot). AreVacant γ m t.0 t.1) (λ d. (let e : 0 ≡ m - m = omega arith in e d, sym c.new-stock.ensures d)) tt;
       words = refl;
       taken = omega arith;
+      all = omega arith;
     }
 
 pub take_by-requires-clause-full : goal.take_by-requires-clause-full
@@ -40,6 +45,13 @@ loop-slot-preserved g c = let z = c.args.sizes.now in let γ : ℕ = c.args.titl
     let few : c.if-is_full.taken + i ≤ z.slots = elim c.if-is_full.branch [
       | then-is_full w ↦ let e = w.taken-is in omega arith
       | else-is_full w ↦ let e = w.taken-is in omega arith
+    ] in
+    let words = gather.ensures.words ∙ inv.words in let ws : List ℕ = slots_items c.args.closed.now.words in
+    let says' : full (slot_at z ws i) ≡ full c.word.result = ap (λ (w : _). full (slot_at z (slots_items w) i)) (sym words) ∙ ap full says in
+    let last = span_last full ws (first_slot z) c.loop-slot.slot i (omega arith) in let all = inv.all in
+    let still : c.if-is_full.taken + span full ws (first_slot z) i ≡ full_slots z ws = elim c.if-is_full.branch [
+      | then-is_full w ↦ let e = w.taken-is in let f = c.is_full.ensures.full w.if-is_full.true in omega arith
+      | else-is_full w ↦ let e = w.taken-is in let f = c.is_full.ensures.free w.if-is_full.false in omega arith
     ] in record {
       home = gather.ensures.home;
       left = gather.ensures.left;
@@ -47,11 +59,16 @@ loop-slot-preserved g c = let z = c.args.sizes.now in let γ : ℕ = c.args.titl
       stock = subst (AreVacant γ i (z.slots - i)) (sym c.redeem.ensures)
           (vacant_more γ i c.loop-slot.slot (z.slots - c.loop-slot.slot) (z.slots - i) c.if-is_full.whole.lot c.loop-slot.stock.lots (omega arith) (omega arith)
           empty.0 empty.1 inv.stock);
-      words = gather.ensures.words ∙ inv.words;
+      words = words;
       taken = few;
+      all = still;
     }
 
 pub returns-clause-emptied : goal.returns-clause-emptied
 returns-clause-emptied g c k low = let n : ℕ = c.args.sizes.now.participants in let inv = c.loop-slot.invariant in let left = inv.left in
     let none : c.loop-slot.slot ≡ 0 = omega arith in let e = ap (λ (i : ℕ). stake_at n i 0) none in let f = first_home n in
     inv.home.gone k (omega arith)
+
+pub returns-clause-all : goal.returns-clause-all
+returns-clause-all g c = let inv = c.loop-slot.invariant in let z = c.args.sizes.now in let ws : List ℕ = slots_items c.args.closed.now.words in
+    let none : c.loop-slot.slot ≡ 0 = omega arith in let e = ap (λ (k : ℕ). span full ws (first_slot z) k) none in let all = inv.all in omega arith

@@ -6,7 +6,7 @@ use Rattle.sdd_rule.specs.declared.Sizes.{Sizes}
 use Rattle.sdd_rule.specs.declared.View.{View}
 use Rattle.sdd_rule.specs.Slots.{items_at}
 use Rattle.sdd_rule.specs.SlotSteps.{given_back}
-use Rattle.sdd_homes.specs.HomeSteps.{HasAll, resting}
+use Rattle.sdd_homes.specs.HomeSteps.{HasAll, giving}
 use Rattle.sdd_board.specs.Board.{book_of, places_of}
 use Rattle.sdd_domain.proofs.Moving.{may_move, row_after, rest_out, rests_again}
 use Rattle.sdd_domain.proofs.values.take_value.Goals as goal
@@ -46,7 +46,7 @@ returns g c = let b = c.args.board.now in let n : ℕ = places_of b in let r = c
           c.give_back.new.token.me.1
           same empty back.2.3,
       (
-        rests_again slot 0 v c.give_back.new.token.me.0 r.rests (back.2.2 ∙ ap resting (back.2.1.0 ∙ ap (given_back slot 0) moved)),
+        rests_again slot 0 v c.give_back.new.token.me.0 r.rests (back.2.2 ∙ ap giving (back.2.1.0 ∙ ap (given_back slot 0) moved)),
         sym (ap (items_at slot) moved) ∙ back.2.1.1,
       ),
     )

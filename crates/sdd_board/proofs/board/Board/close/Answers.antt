@@ -1,7 +1,19 @@
 use Rattle.sdd_board.specs.Board.{book_of, sizes_of}
+use Rattle.std.proofs.Common.{ℕ, List, ◌+◌, ap, ◌∙◌}
+use Rattle.sdd_homes.specs.Counts.{gone_by, full_slots}
+use Rattle.sdd_homes.proofs.Tokens.{few_over, all_counted}
 use Rattle.sdd_board.proofs.Ending.{home_at_end}
 use Rattle.sdd_board.proofs.board.Board.close.Goals as goal
 
 pub returns-clause-home : goal.returns-clause-home
 returns-clause-home c = let v = c.close_with.ensures.values in
     home_at_end (book_of c.args.self) (sizes_of c.args.self) c.close_with.result c.args.token.id c.args.token.me.0 c.requires.ended v.2 v.1
+
+pub returns-clause-places : goal.returns-clause-places
+returns-clause-places c = let fin = c.close_with.ensures.values.2 in
+    few_over (book_of c.args.self) (sizes_of c.args.self) fin.0 fin.1.0 c.args.token.id c.args.token.me.0 fin.1.1
+
+pub returns-clause-counted : goal.returns-clause-counted
+returns-clause-counted c all = let fin = c.close_with.ensures.values.2 in let v = c.args.token.me.0 in let z = sizes_of c.args.self in
+    all_counted (book_of c.args.self) z fin.0 fin.1.0 c.args.token.id v fin.1.1 c.requires.ended all
+    ∙ ap (λ (ws : List ℕ). gone_by v + full_slots z ws) fin.2

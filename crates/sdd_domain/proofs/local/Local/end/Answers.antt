@@ -1,9 +1,17 @@
-use Rattle.std.proofs.Common.{◌≡◌, ◌∙◌, arith}
-use Rattle.sdd_board.specs.Board.{book_of, places_of}
-use Rattle.sdd_domain.proofs.Moving.{nothing_out}
+use Rattle.std.proofs.Common.{sym, ap, subst, arith}
+use Rattle.sdd_rule.specs.declared.CountsView.{CountsView}
+use Rattle.sdd_rule.specs.declared.View.{View}
+use Rattle.sdd_domain.specs.Receipt.{IsTallied}
+use Rattle.sdd_domain.proofs.Tallies.{tallied_ended}
 use Rattle.sdd_domain.proofs.local.Local.end.Goals as goal
 
-pub new-requires-clause-bare : goal.new-requires-clause-bare
-new-requires-clause-bare g c = let l = c.self.inside in let b = l.domain.now.board in let q = c.self.invariant.0 in let shut = c.if-self-gt0.false in
-    let none : l.own.guards ≡ 0 = omega arith in
-    c.end.ensures.0.0.2 ∙ nothing_out (book_of b) (places_of b) l.place l.token.me.0.stakes.sees l.token.me.1 (q.unseen none) q.purse
+pub cut_counts-requires-clause-over : goal.cut_counts-requires-clause-over
+cut_counts-requires-clause-over g c = let e = ap (λ (v : View). v.stakes.counts.over) c.end.ensures.3 in omega arith
+
+pub new-requires : goal.new-requires
+new-requires g c = let l = c.self.inside in (
+  c.end.new.token.me.0.stakes.counts,
+  c.cut_counts.ensures.counts,
+  subst (λ (k : CountsView). IsTallied 1 l.tally k) (sym (ap (λ (v : View). v.stakes.counts) c.end.ensures.3))
+      (tallied_ended l.tally l.token.me.0.stakes.counts c.self.invariant.5),
+)

@@ -11,6 +11,7 @@ use Rattle.sdd_stakes.specs.declared.stake.Stake.{Stake}
 use Rattle.sdd_rule.specs.declared.View.{View}
 use Rattle.sdd_domain.specs.Sight.{IsOnce}
 use Rattle.sdd_domain.specs.Posed.{AreLentTo}
+use Rattle.sdd_domain.specs.Receipt.{IsTallied}
 use Rattle.sdd_domain.proofs.Moving.{can_show, shows_known}
 use Rattle.sdd_domain.proofs.Posing.{watched, posed_shows}
 use Rattle.sdd_domain.proofs.Members.{with_token, looks_at}
@@ -35,7 +36,15 @@ invariant_of-self g c = let l = c.self.inside in let b = l.domain.now.board in l
     (subst (λ (t : ℕ). AreLentTo t l.token.me.1) (sym c.agree.ensures.round) inv.3) (c.watch.ensures slot own.owner.0 own.owner.1) in
     let posed = posed_shows b l.place l.own t slot own.owner.0 l.token c.watch.new.token c.show.new.seat inv.0 some_open
     (c.watch.ensures slot own.owner.0 own.owner.1).0 seen c.show.ensures.seat c.show.ensures.lent in
-    (posed.0, inv.1, inv.2, subst (λ (t : ℕ). AreLentTo t c.show.new.seat.me.1) c.agree.ensures.round posed.1, inv.4)
+    (
+      posed.0,
+      inv.1,
+      inv.2,
+      subst (λ (t : ℕ). AreLentTo t c.show.new.seat.me.1) c.agree.ensures.round posed.1,
+      inv.4,
+      subst (IsTallied 0 l.tally) (sym (ap (λ (x : Seat Stake View). x.me.0.stakes.counts) c.show.ensures.seat
+          ∙ ap (λ (v : View). v.stakes.counts) seen.view)) inv.5,
+    )
 
 pub returns-clause-value : goal.returns-clause-value
 returns-clause-value g c = let l = c.self.inside in let b = l.domain.now.board in let t : ℕ = c.tenure_of-tenure.result.now.round in

@@ -6,7 +6,9 @@ use Rattle.sdd_store.specs.declared.time.Participant.{Participant}
 use Rattle.sdd_store.specs.Bags.{Bags}
 use Rattle.sdd_store.specs.Time.{awaiting, with_garbage}
 use Rattle.sdd_domain.specs.Posed.{IsPosed, AreLentTo, IsTenureOf, IsReady}
-use Rattle.sdd_domain.proofs.Posing.{posed_retires}
+use Rattle.sdd_domain.specs.Receipt.{IsTallied}
+use Rattle.sdd_rule.specs.declared.View.{View}
+use Rattle.sdd_domain.proofs.Posing.{posed_retires, retires_to}
 use Rattle.sdd_domain.proofs.local.Local.let_go.Goals as goal
 
 pub invariant_of-self : goal.invariant_of-self
@@ -16,13 +18,15 @@ invariant_of-self g c = let l = c.self.inside in let board = l.domain.now.board 
     let owner = (c.into_witness.ensures.owner (λ e. cc)).owner in
     let slot : ℕ = c.number-slot.result in
     let took = c.take_in.ensures slot owner.0 (owner.1 ∙ ap (λ (k : ℕ). witness_of_owner k owner.0) (sym c.number-slot.ensures)) in
+    let retired = retires_to board l.place l.own slot owner.0 l.token c.take_in.new.token c.retire.new.token i.0 took c.retire.ensures in
     let inside : slot < slots_of board = search rules in
     subst (λ (o : Participant). IsPosed board l.place o c.retire.new.token
     × l.nesting ≡ l.domain.now.limits.nesting × IsTenureOf o l.tenure × AreLentTo l.tenure.round c.retire.new.token.me.1
-    × IsReady board o l.bag.items (vec_capacity l.bag) l.known.slots) (sym own_is) (
+    × IsReady board o l.bag.items (vec_capacity l.bag) l.known.slots × IsTallied 0 l.tally c.retire.new.token.me.0.stakes.counts) (sym own_is) (
       posed_retires board l.place l.own slot owner.0 l.token c.take_in.new.token c.retire.new.token i.0 inside took c.retire.ensures,
       i.1,
       record { units = i.2.units; kind = i.2.kind },
       subst (AreLentTo l.tenure.round) (sym (c.retire.ensures.2.3 ∙ took.2)) i.3,
       record { empty = i.4.empty; large = i.4.large; slots = i.4.slots },
+      subst (IsTallied 0 l.tally) (sym (ap (λ (v : View). v.stakes.counts) retired.1)) i.5,
     )

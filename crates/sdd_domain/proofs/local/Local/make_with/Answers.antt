@@ -1,9 +1,14 @@
 use Rattle.std.proofs.Common.{ap, sym, ◌∙◌, subst}
 use Rattle.sdd_rule.specs.declared.Sizes.{Sizes}
+use Rattle.sdd_rule.specs.declared.View.{View}
+use Rattle.sdd_store.specs.declared.tally.Tally.{Tally}
+use Rattle.sdd_store.specs.Tally.{one_made}
 use Rattle.sdd_board.specs.Board.{book_of, places_of}
 use Rattle.sdd_domain.specs.Posed.{AreLentTo}
+use Rattle.sdd_domain.specs.Receipt.{IsTallied}
 use Rattle.sdd_domain.proofs.Moving.{row_out}
-use Rattle.sdd_domain.proofs.Posing.{posed_makes}
+use Rattle.sdd_domain.proofs.Posing.{posed_makes, made_view}
+use Rattle.sdd_domain.proofs.Tallies.{tallied_made}
 use Rattle.sdd_domain.proofs.local.Local.make_with.Goals as goal
 
 pub put_value-owner-requires-clause-row : goal.put_value-owner-requires-clause-row
@@ -22,4 +27,8 @@ invariant_of-self g c = let l = c.self.inside in let b = l.domain.now.board in l
       inv.2,
       subst (AreLentTo l.tenure.round) (sym posed.1) inv.3,
       record { empty = inv.4.empty; large = inv.4.large; slots = c.claim_free.ensures.slots ∙ inv.4.slots },
+      subst (λ (t : Tally). IsTallied 0 t c.put_value-owner.new.token.me.0.stakes.counts) (sym c.count_made.ensures)
+          (subst (IsTallied 0 (one_made l.tally)) (sym (ap (λ (v : View). v.stakes.counts)
+          (made_view b l.place l.own c.in-Ok.slot l.token c.claim_free.new.token c.put_value-owner.new.token inv.0 c.in-Ok.ensures.tried put.view)))
+          (tallied_made l.tally l.token.me.0.stakes.counts inv.5)),
     )

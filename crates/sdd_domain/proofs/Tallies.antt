@@ -1,0 +1,44 @@
+-- Tallies of what a participant knows, and of all receipts together
+use Rattle.std.proofs.Common.{◌≡◌, ℕ, zero, suc, ◌+◌, List, [], ◌∷◌, ◌++◌, All, map, sum, refl, arith}
+use Rattle.std.proofs.lemmas.List.Sums.{sum_by-cons}
+use Rattle.sdd_store.specs.declared.tally.Tally.{Tally}
+use Rattle.sdd_store.specs.Tally.{one_made}
+use Rattle.sdd_rule.specs.declared.CountsView.{CountsView}
+use Rattle.sdd_rule.specs.Parts.{no_counts}
+use Rattle.sdd_homes.specs.HomeSteps.{counts_added}
+use Rattle.sdd_domain.specs.Receipt.{Receipt, sum_of, with_reclaimed, IsTallied, AddsUp, HasTaken, made_in, reclaimed_in, in_place_in}
+
+-- an item more
+pub tallied_made : (t : Tally) (c : CountsView) → IsTallied 0 t c → IsTallied 0 (one_made t) (record c { made = c.made + 1 })
+tallied_made t c i = let m = i.made in record { over = i.over; made = omega arith; reclaimed = i.reclaimed; in_place = i.in_place }
+
+-- its place has ended
+pub tallied_ended : (t : Tally) (c : CountsView) → IsTallied 0 t c → IsTallied 1 t (record c { over = c.over + 1 })
+tallied_ended t c i = let o = i.over in record { over = omega arith; made = i.made; reclaimed = i.reclaimed; in_place = i.in_place }
+
+pub none_taken : HasTaken [] no_counts
+none_taken = record { over = refl; made = λ _. refl; reclaimed = λ _. refl; in_place = refl }
+
+one_summed : (f : Receipt → ℕ) (r : Receipt) (rs : List Receipt) → sum (map f (r ∷ rs)) ≡ f r + sum (map f rs)
+one_summed f r rs = sum_by-cons (λ (x : ℕ). x) (f r) (map f rs)
+
+-- one receipt more
+pub one_taken : (r : Receipt) (rs : List Receipt) (c d : CountsView) → HasTaken rs c → IsTallied 1 r.tally d → HasTaken (r ∷ rs) (counts_added c d)
+one_taken r rs c d h i = let over = h.over in let one = i.over in let made = i.made in let gone = i.reclaimed in let none = i.in_place in let all = h.in_place in
+    let more = λ (f : Receipt → ℕ). one_summed f r rs in let m = more made_in in let g = more reclaimed_in in let p = more in_place_in in record {
+  over = omega arith;
+  made = λ few. let a = h.made (omega arith) in omega arith;
+  reclaimed = λ few. let a = h.reclaimed (omega arith) in omega arith;
+  in_place = omega arith;
+}
+
+-- what is so of each of them is so of each of the first ones
+pub front_all : {X : Type 0} (P : X → Type 0) (xs ys : List X) → All P (xs ++ ys) → All P xs
+front_all P [] ys h k d l = absurd (omega arith)
+front_all P (x ∷ xs) ys h zero d l = h 0 d (omega arith)
+front_all P (x ∷ xs) ys h (suc k) d l = front_all P xs ys (λ j d l. h (suc j) d (omega arith)) k d (omega arith)
+
+-- so many that wait still go at the close
+pub adds_up : (rs : List Receipt) (c : CountsView) (waiting : ℕ) → HasTaken rs c → c.made ≡ c.gone + waiting → AddsUp (with_reclaimed waiting (sum_of rs))
+adds_up rs c zero h e few = let m = h.made (omega arith) in let g = h.reclaimed (omega arith) in let p = h.in_place in omega arith
+adds_up rs c (suc waiting) h e few = let m = h.made (omega arith) in let g = h.reclaimed (omega arith) in let p = h.in_place in omega arith
