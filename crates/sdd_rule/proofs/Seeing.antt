@@ -60,10 +60,6 @@ module _ (z : Code) (sound : IsSound z) (sizes : Sizes) (ws : List ℕ) (vs : Li
       (λ same. free (subst (λ (t : View). Holds t i) (some-injective _ _ (sym e ∙ (ap (get_elem? vs) same ∙ there))) h))
       (λ ne. let t = owners_in z sound sizes ws vs s j k i x u ne e there in omega arith))
 
-  -- that of an owner of its own
-  pub watches : (i : ℕ) → IsOpen v.epoch → 0 < owners_at i v → ¬ (Holds v i) → SlotsPart z sizes ws (set vs id (seeing i v))
-  watches = watches_beside id v at
-
   -- that which a cell owns
   pub loads : (d i : ℕ) → d < sizes.cells → IsOpen v.epoch → 0 < z.names i (get_or ws (cell_word sizes d) 0) → SlotsPart z sizes ws (set vs id (seeing i v))
   loads d i inside is_open names = let n = named_in z sound sizes ws vs s id d i v at inside in

@@ -16,7 +16,7 @@ use Rattle.sdd_rule.specs.Codes.{codes, shared_base, free_word, owned_word, wait
 use Rattle.sdd_rule.specs.Epoch.{HasPlace, IsOpen, EpochPart}
 use Rattle.sdd_rule.specs.Slots.{slot_at, owners_at, items_at, OwnsAlone, Holds, SlotsPart}
 use Rattle.sdd_rule.specs.Steps.{Steps}
-use Rattle.sdd_rule.specs.SlotSteps.{noted, Knew, claimed, retired, given_back, seeing, Claims, Retires, GivesBack, Watches, AtSlot, held, let_go, looked_past, discarded, TakesHold, LetsGo, Discards, LooksForGuard, LooksAtSlot}
+use Rattle.sdd_rule.specs.SlotSteps.{noted, Knew, claimed, retired, given_back, seeing, Claims, Retires, GivesBack, AtSlot, held, let_go, looked_past, discarded, TakesHold, LetsGo, Discards, LooksForGuard, LooksAtSlot}
 use Rattle.sdd_rule.specs.Parts.{epoch_of, Parts}
 use Rattle.sdd_rule.proofs.Codes.{sound, free_is, owned_is, waiting_is}
 use Rattle.sdd_rule.proofs.Epoch as epochs
@@ -133,15 +133,6 @@ module _ (id : ℕ) (v : View) (live : HasPlace v.epoch) where
     slots = seen.watches_beside codes sound sizes ws vs p.slots id v at k u there slot is_open mine free;
     lone = lone_same sizes ws vs p.lone id v at w refl (λ z. z);
   }
-
-  -- or one of its own, by its word
-  pub watches : (slot : ℕ) → IsOpen v.epoch → 0 < owners_at slot v → ¬ (Holds v slot)
-      → Steps (Parts sizes) id v (slot_word sizes slot) (λ x. x) (AtSlot Watches (slot_word sizes slot) v)
-  watches slot is_open mine free ws vs p at small = let i : ℕ = slot_word sizes slot in let w : View = seeing slot v in (
-    w,
-    subst (λ (l : List ℕ). Parts sizes l (set vs id w)) (sym (set-get_or ws i 0)) (watches_beside slot is_open id v mine free ws vs p at at),
-    λ other is. (ap (λ (k : ℕ). seeing k v) (same_slot slot other is), knew_too slot other is (get_or ws i 0) (knew ws vs p at slot)),
-  )
 
   -- a load leaves the other parts
   module _ (ws : List ℕ) (vs : List View) (p : Parts sizes ws vs) (at : get_elem? vs id ≡ some v) where

@@ -147,10 +147,6 @@ GivesBack slot v y w = (w ≡ given_back slot y v) × (items_at slot v ≡ 1)
 abbrev pub LooksAtSlot : ℕ → View → ℕ → View → Type 0
 LooksAtSlot slot v x w = (w ≡ v) × Knew slot v x
 
--- a guard sees a slot of the participant's own
-abbrev pub Watches : ℕ → View → ℕ → View → Type 0
-Watches slot v x w = (w ≡ seeing slot v) × Knew slot v x
-
 -- a slot of the participant's own is held
 abbrev pub TakesHold : ℕ → View → ℕ → View → Type 0
 TakesHold slot v x w = (w ≡ held slot v) × Knew slot v x
