@@ -1,11 +1,11 @@
 //! Domains: participants in several threads, the places that they take, and what their guards show.
 ghost use Rattle.std.specs.Prelude.{◌≡◌};
 ghost use Rattle.sdd_base.specs.Seat.{IsSeated};
-ghost use Rattle.sdd_base.specs.Guard.{reader_of};
 ghost use Rattle.sdd_domain.specs.Items.{slots_home};
 ghost use Rattle.sdd_domain.specs.Space.{seat_of};
 ghost use Rattle.sdd_domain_rows.specs.Slots.{slots_in, IsReceiptIn, AreReceiptsIn};
 
+use crate::steps::{close, closed, ended, is_tally, new_domain, opened, registered};
 use sdd_base::{Guard, Limits};
 use sdd_core::Refused;
 use sdd_domain::{Domain, Local, Receipt};
@@ -27,17 +27,6 @@ const ONE: Limits = Limits {
     ..SMALL
 };
 
-fn new_domain(rt: &(impl Abort + AllocGlobal), limits: Limits) -> Domain<u64> {
-    Domain::new(rt.alloc(), limits).expect(rt, "the limits are in range")
-}
-
-fn registered<'d>(rt: &impl Abort, domain: &'d Domain<u64>) -> Local<'d, u64>
-    ensures seated { IsSeated (seat_of result) }
-    ensures home { slots_home result ≡ slots_in domain.now }
-{
-    Local::register(domain).expect(rt, "a place is free")
-}
-
 /// Where memory is wanting the place stays free, so that a second try takes it.
 fn registered_at_last<'d>(rt: &impl Abort, domain: &'d Domain<u64>) -> Local<'d, u64>
     ensures { slots_home result ≡ slots_in domain.now }
@@ -49,22 +38,6 @@ fn registered_at_last<'d>(rt: &impl Abort, domain: &'d Domain<u64>) -> Local<'d,
             registered(rt, domain)
         }
     }
-}
-
-fn opened(rt: &impl Abort, local: &mut Local<'_, u64>) -> Guard
-    requires { IsSeated (seat_of local.old) }
-    ensures seat { seat_of local.new ≡ seat_of local.old }
-    ensures reader { reader_of result ≡ local.old.reader }
-{
-    Guard::new::<u64, Local<'_, u64>>(local).expect(rt, "a guard may be opened")
-}
-
-fn close(guard: Guard, local: &mut Local<'_, u64>)
-    requires seat { IsSeated (seat_of local.old) }
-    requires reader { reader_of guard ≡ local.old.reader }
-    ensures { seat_of local.new ≡ seat_of local.old }
-{
-    guard.close::<u64, Local<'_, u64>>(local);
 }
 
 /// The epoch that a guard shows now.
@@ -116,26 +89,11 @@ fn refusal(rt: &impl Abort, domain: &Domain<u64>) -> Refused {
     }
 }
 
-fn ended(rt: &impl Abort, local: Local<'_, u64>) -> Receipt
-    ensures { IsReceiptIn (slots_home local.entry) result }
-{
-    match local.end() {
-        Ok(receipt) => receipt,
-        Err(_local) => panic!(rt; "a guard is open"),
-    }
-}
-
-fn closed(rt: &impl Abort, domain: Domain<u64>, receipts: Vec<Receipt>)
+/// The domain closes, in which nothing was made.
+fn closed_unused(rt: &impl Abort, domain: Domain<u64>, receipts: Vec<Receipt>)
     requires { AreReceiptsIn (slots_in domain) receipts.items }
 {
-    match domain.close(receipts) {
-        Ok(tally) => {
-            assert!(rt; tally.made == 0);
-            assert!(rt; tally.reclaimed == 0);
-            assert!(rt; tally.in_place == 0);
-        }
-        Err((_domain, _receipts, refused)) => panic!(rt; "refused: {refused:?}"),
-    }
+    is_tally(rt, closed(rt, domain, receipts), 0, 0);
 }
 
 /// What a thread does: it registers, runs twenty accelerated guards, and ends.
@@ -151,7 +109,7 @@ fn takes_part(rt: &impl Abort, domain: &Domain<u64>) -> Receipt
 
 #[test]
 fn two_threads_and_then_one(rt: HostRuntime) {
-    let domain = new_domain(&rt, SMALL);
+    let domain = new_domain::<u64>(&rt, SMALL);
     let (first, second) = join(
         &rt,
         || takes_part(&rt, &domain),
@@ -165,7 +123,7 @@ fn two_threads_and_then_one(rt: HostRuntime) {
     }
     let last = ended(&rt, local);
     let receipts = vec![in rt.alloc(); first, second, last].expect(&rt, "there is memory");
-    closed(&rt, domain, receipts);
+    closed_unused(&rt, domain, receipts);
 }
 
 #[test]
@@ -195,19 +153,19 @@ fn limits_out_of_range_are_refused(rt: HostRuntime) {
 
 #[test]
 fn an_ended_place_is_not_free_again(rt: HostRuntime) {
-    let domain = new_domain(&rt, ONE);
+    let domain = new_domain::<u64>(&rt, ONE);
     let local = registered(&rt, &domain);
     assert!(rt; local.tally().made == 0);
     let receipt = ended(&rt, local);
     assert!(rt; receipt.tally().made == 0);
     assert!(rt; refusal(&rt, &domain) == Refused::NoPlace);
     let receipts = vec![in rt.alloc(); receipt].expect(&rt, "there is memory");
-    closed(&rt, domain, receipts);
+    closed_unused(&rt, domain, receipts);
 }
 
 #[test]
 fn a_participant_with_a_guard_open_does_not_end(rt: HostRuntime) {
-    let domain = new_domain(&rt, SMALL);
+    let domain = new_domain::<u64>(&rt, SMALL);
     let mut local = registered(&rt, &domain);
     let outer = opened(&rt, &mut local);
     let inner = opened(&rt, &mut local);
@@ -221,12 +179,12 @@ fn a_participant_with_a_guard_open_does_not_end(rt: HostRuntime) {
     assert!(rt; outer.has_garbage::<u64, Local<'_, u64>>(&local));
     close(outer, &mut local);
     let receipts = vec![in rt.alloc(); ended(&rt, local)].expect(&rt, "there is memory");
-    closed(&rt, domain, receipts);
+    closed_unused(&rt, domain, receipts);
 }
 
 #[test]
 fn an_open_guard_holds_the_count(rt: HostRuntime) {
-    let domain = new_domain(&rt, SMALL);
+    let domain = new_domain::<u64>(&rt, SMALL);
     let mut still = registered(&rt, &domain);
     let mut busy = registered(&rt, &domain);
     let guard = opened(&rt, &mut still);
@@ -238,12 +196,12 @@ fn an_open_guard_holds_the_count(rt: HostRuntime) {
         &rt,
         "there is memory",
     );
-    closed(&rt, domain, receipts);
+    closed_unused(&rt, domain, receipts);
 }
 
 #[test]
 fn a_guard_shows_the_next_epoch_where_another_participant_raised_the_count(rt: HostRuntime) {
-    let domain = new_domain(&rt, SMALL);
+    let domain = new_domain::<u64>(&rt, SMALL);
     let mut still = registered(&rt, &domain);
     let mut busy = registered(&rt, &domain);
     let guard = opened(&rt, &mut still);
@@ -253,7 +211,7 @@ fn a_guard_shows_the_next_epoch_where_another_participant_raised_the_count(rt: H
     close(guard, &mut still);
     ended(&rt, still);
     ended(&rt, busy);
-    closed(&rt, domain, Vec::new(rt.alloc()));
+    closed_unused(&rt, domain, Vec::new(rt.alloc()));
 }
 
 /// With ample memory all are there. Under `rt try --test --fail-alloc N` one of them is refused,
@@ -265,7 +223,7 @@ fn only_want_of_memory_refuses(rt: HostRuntime) {
             let local = registered_at_last(&rt, &domain);
             assert!(rt; refusal(&rt, &domain) == Refused::NoPlace);
             ended(&rt, local);
-            closed(&rt, domain, Vec::new(rt.alloc()));
+            closed_unused(&rt, domain, Vec::new(rt.alloc()));
         }
         Err(refused) => assert_eq!(rt; refused, Refused::NoMemory),
     }
