@@ -125,7 +125,8 @@ module _ (γ : ℕ) (sizes : Sizes) (slots id : ℕ) (me : Mine) where
       → May i (λ _. 3) (λ _. Told EndsAll me 3)
   may_end i shut is inside rests = subst (λ (i : ℕ). May i (λ _. 3) (λ _. Told EndsAll me 3)) (sym is)
       (lift_end γ sizes slots id me (Told EndsAll me 3) inside shut rests
-      (over.mild sizes id me.0 (state_word v.place) (λ _. 3) (omega arith) (λ u _ w. Ends u 3 w) (λ _ w t z. let e = ap (λ (u : EpochView). u.state) t in omega arith)
+      (over.mild sizes id me.0 (state_word v.place) (λ _. 3) (omega arith) (λ u _ w. Ends u 3 w)
+      (λ _ w t z. let e = ap (λ (u : EpochView). u.state) t in omega arith)
       (epochs.ends sizes.participants id v shut))
       (own_place γ sizes id me.0 (omega arith) 3) (refl, refl))
 

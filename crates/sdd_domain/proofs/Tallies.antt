@@ -24,13 +24,14 @@ one_summed f r rs = sum_by-cons (λ (x : ℕ). x) (f r) (map f rs)
 
 -- one receipt more
 pub one_taken : (r : Receipt) (rs : List Receipt) (c d : CountsView) → HasTaken rs c → IsTallied 1 r.tally d → HasTaken (r ∷ rs) (counts_added c d)
-one_taken r rs c d h i = let over = h.over in let one = i.over in let made = i.made in let gone = i.reclaimed in let none = i.in_place in let all = h.in_place in
+one_taken r rs c d h i = let over = h.over in let one = i.over in let made = i.made in let gone = i.reclaimed in
+    let none = i.in_place in let all = h.in_place in
     let more = λ (f : Receipt → ℕ). one_summed f r rs in let m = more made_in in let g = more reclaimed_in in let p = more in_place_in in record {
-  over = omega arith;
-  made = λ few. let a = h.made (omega arith) in omega arith;
-  reclaimed = λ few. let a = h.reclaimed (omega arith) in omega arith;
-  in_place = omega arith;
-}
+      over = omega arith;
+      made = λ few. let a = h.made (omega arith) in omega arith;
+      reclaimed = λ few. let a = h.reclaimed (omega arith) in omega arith;
+      in_place = omega arith;
+    }
 
 -- what is so of each of them is so of each of the first ones
 pub front_all : {X : Type 0} (P : X → Type 0) (xs ys : List X) → All P (xs ++ ys) → All P xs

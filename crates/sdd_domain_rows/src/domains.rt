@@ -2,7 +2,9 @@
 ghost use Rattle.std.specs.Prelude.{◌≡◌};
 ghost use Rattle.sdd_base.specs.Seat.{IsSeated};
 ghost use Rattle.sdd_base.specs.Guard.{reader_of};
+ghost use Rattle.sdd_domain.specs.Items.{slots_home};
 ghost use Rattle.sdd_domain.specs.Space.{seat_of};
+ghost use Rattle.sdd_domain_rows.specs.Slots.{slots_in, IsReceiptIn, AreReceiptsIn};
 
 use sdd_base::{Guard, Limits};
 use sdd_core::Refused;
@@ -30,13 +32,16 @@ fn new_domain(rt: &(impl Abort + AllocGlobal), limits: Limits) -> Domain<u64> {
 }
 
 fn registered<'d>(rt: &impl Abort, domain: &'d Domain<u64>) -> Local<'d, u64>
-    ensures { IsSeated (seat_of result) }
+    ensures seated { IsSeated (seat_of result) }
+    ensures home { slots_home result ≡ slots_in domain.now }
 {
     Local::register(domain).expect(rt, "a place is free")
 }
 
 /// Where memory is wanting the place stays free, so that a second try takes it.
-fn registered_at_last<'d>(rt: &impl Abort, domain: &'d Domain<u64>) -> Local<'d, u64> {
+fn registered_at_last<'d>(rt: &impl Abort, domain: &'d Domain<u64>) -> Local<'d, u64>
+    ensures { slots_home result ≡ slots_in domain.now }
+{
     match Local::register(domain) {
         Ok(local) => local,
         Err(refused) => {
@@ -111,14 +116,18 @@ fn refusal(rt: &impl Abort, domain: &Domain<u64>) -> Refused {
     }
 }
 
-fn ended(rt: &impl Abort, local: Local<'_, u64>) -> Receipt {
+fn ended(rt: &impl Abort, local: Local<'_, u64>) -> Receipt
+    ensures { IsReceiptIn (slots_home local.entry) result }
+{
     match local.end() {
         Ok(receipt) => receipt,
         Err(_local) => panic!(rt; "a guard is open"),
     }
 }
 
-fn closed(rt: &impl Abort, domain: Domain<u64>, receipts: Vec<Receipt>) {
+fn closed(rt: &impl Abort, domain: Domain<u64>, receipts: Vec<Receipt>)
+    requires { AreReceiptsIn (slots_in domain) receipts.items }
+{
     match domain.close(receipts) {
         Ok(tally) => {
             assert!(rt; tally.made == 0);
@@ -130,7 +139,9 @@ fn closed(rt: &impl Abort, domain: Domain<u64>, receipts: Vec<Receipt>) {
 }
 
 /// What a thread does: it registers, runs twenty accelerated guards, and ends.
-fn takes_part(rt: &impl Abort, domain: &Domain<u64>) -> Receipt {
+fn takes_part(rt: &impl Abort, domain: &Domain<u64>) -> Receipt
+    ensures { IsReceiptIn (slots_in domain.now) result }
+{
     let mut local = registered(rt, domain);
     for _ in 0..20 {
         accelerated(rt, &mut local);

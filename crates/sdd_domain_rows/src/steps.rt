@@ -1,11 +1,12 @@
 //! What the tests of items share: domains, participants, guards, and what becomes of an item.
-ghost use Rattle.std.specs.Prelude.{◌≡◌, IfErr};
+ghost use Rattle.std.specs.Prelude.{◌≡◌, IfErr, IfOk};
 ghost use Rattle.sdd_base.specs.Seat.{IsSeated};
 ghost use Rattle.sdd_base.specs.Guard.{reader_of};
 ghost use Rattle.sdd_base.specs.Owned as owned;
 ghost use Rattle.sdd_domain.specs.Items.{slots_home};
 ghost use Rattle.sdd_domain.specs.Space.{seat_of};
-ghost use Rattle.sdd_domain_rows.specs.Slots.{slots_in};
+ghost use Rattle.sdd_domain.specs.Receipt.{AddsUp};
+ghost use Rattle.sdd_domain_rows.specs.Slots.{slots_in, IsReceiptIn, AreReceiptsIn, AreOfAll};
 
 use sdd_base::{Guard, Item, Limits, Owned};
 use sdd_core::Refused;
@@ -40,7 +41,9 @@ pub fn registered<'d, T>(rt: &impl Abort, domain: &'d Domain<T>) -> Local<'d, T>
     Local::register(domain).expect(rt, "a place is free")
 }
 
-pub fn ended<T>(rt: &impl Abort, local: Local<'_, T>) -> Receipt {
+pub fn ended<T>(rt: &impl Abort, local: Local<'_, T>) -> Receipt
+    ensures { IsReceiptIn (slots_home local.entry) result }
+{
     match local.end() {
         Ok(receipt) => receipt,
         Err(_local) => panic!(rt; "a guard is open"),
@@ -52,13 +55,18 @@ fn close_of<T: Drop>(
     domain: Domain<T>,
     receipts: Vec<Receipt>,
 ) -> Result<Tally, (Domain<T>, Vec<Receipt>, Refused)>
-    ensures { IfErr result (λ back. back.0 ≡ domain) }
+    requires { AreReceiptsIn (slots_in domain) receipts.items }
+    ensures back { IfErr result (λ back. (back.0 ≡ domain) × (back.1 ≡ receipts)) }
+    ensures whole { IfOk result (λ tally. AreOfAll domain receipts.items → AddsUp tally) }
 {
     domain.close(receipts)
 }
 
-/// The tally of the whole domain.
-pub fn closed<T: Drop>(rt: &impl Abort, domain: Domain<T>, receipts: Vec<Receipt>) -> Tally {
+/// The tally of the whole domain. It adds up where there is a receipt for each place.
+pub fn closed<T: Drop>(rt: &impl Abort, domain: Domain<T>, receipts: Vec<Receipt>) -> Tally
+    requires { AreReceiptsIn (slots_in domain) receipts.items }
+    ensures { AreOfAll domain receipts.items → AddsUp result }
+{
     match close_of(domain, receipts) {
         Ok(tally) => tally,
         Err((_domain, _receipts, refused)) => panic!(rt; "refused: {refused:?}"),
@@ -71,7 +79,8 @@ pub fn not_closed(
     domain: Domain<u64>,
     receipts: Vec<Receipt>,
 ) -> (Domain<u64>, Vec<Receipt>)
-    ensures { result.0 ≡ domain }
+    requires { AreReceiptsIn (slots_in domain) receipts.items }
+    ensures { (result.0 ≡ domain) × (result.1 ≡ receipts) }
 {
     match close_of(domain, receipts) {
         Ok(_tally) => panic!(rt; "an item has an owner"),

@@ -4,7 +4,7 @@ ghost use Rattle.sdd_base.specs.Seat.{IsSeated};
 ghost use Rattle.sdd_base.specs.Owned as owned;
 ghost use Rattle.sdd_domain.specs.Items.{slots_home};
 ghost use Rattle.sdd_domain.specs.Space.{seat_of};
-ghost use Rattle.sdd_domain_rows.specs.Slots.{slots_in};
+ghost use Rattle.sdd_domain_rows.specs.Slots.{slots_in, IsReceiptIn};
 
 use crate::steps::{
     ONE_SLOT, close, close_and_scan, closed, ended, has_no_slot, is_tally, made, new_domain,
@@ -65,7 +65,9 @@ fn uses_many(rt: &impl Abort, local: &mut Local<'_, u64>, values: u64) -> u64
 }
 
 /// What a thread does: it registers, uses so many values, and ends.
-fn works(rt: &impl Abort, domain: &Domain<u64>, values: u64) -> Receipt {
+fn works(rt: &impl Abort, domain: &Domain<u64>, values: u64) -> Receipt
+    ensures { IsReceiptIn (slots_in domain.now) result }
+{
     let mut local = registered(rt, domain);
     let count = uses_many(rt, &mut local, values);
     let receipt = ended(rt, local);
@@ -188,6 +190,7 @@ fn readers_look_at_what_writers_share(rt: HostRuntime) {
 /// another guard is open it reclaims nothing.
 fn retires(rt: &impl Abort, domain: &Domain<u64>, given: &mut Option<Owned<u64>>) -> Receipt
     requires { owned.IsOfSlots (slots_in domain.now) given.old }
+    ensures { IsReceiptIn (slots_in domain.now) result }
 {
     let owner = given.take().expect(rt, "an owner was given");
     let mut local = registered(rt, domain);

@@ -192,7 +192,8 @@ module _ (slots id : ℕ) (me : Mine) (live : HasPlace me.0.epoch) where
               (λ j p y _ near l. (taken_lies γ n slot IsVacant s.homes me.1 tk j p y near l).1) refl (λ j m. one_moved now slot j refl m)
               (owning.fresh codes sound sizes s.words s.views h.kept.parts.slots id v at slot empty);
           counts = counted sizes s.words s.views h.counts id v at (set s.words i (owned_word 0)) now
-              (let f = one_full sizes s.words slot (owned_word 0) inside h.kept.parts.slots.long in let y = full_owned (owned_word 0) (let q = (owned_is 0 (omega arith)).0 in omega arith) in omega arith)
+              (let f = one_full sizes s.words slot (owned_word 0) inside h.kept.parts.slots.long in
+              let y = full_owned (owned_word 0) (let q = (owned_is 0 (omega arith)).0 in omega arith) in omega arith)
               (let o = over_slot s h (owned_word 0) in omega arith) (λ none. absurd (omega arith));
           tells = at_once (λ slot. ClaimsAll slot (free_word 0) (owned_word 0)) x (now, carried_after me.1 tk.act)
               ((λ _. (refl, tk.row)), (λ no. absurd (no hit)), c.2);
@@ -362,8 +363,14 @@ module _ (slots id : ℕ) (me : Mine) (live : HasPlace me.0.epoch) where
     looks = lift_calm γ sizes slots id me i (λ x. x) (AtSlot LooksAtSlot i v) (λ r me'. (me'.1 ≡ me.1) × AtSlot LooksAtSlot i v r me'.0)
         look_keeps (steps.looks_at id v live slot) (λ r w t. (refl, t))
         (λ s w h at t. subst (IsCalm γ sizes slots id me i (λ x. x) s (get_or s.words i 0)) (sym (t slot refl).0)
-        record { more = λ j p out. out; same = λ j _. same_words s h j; mover = λ j m. h.homes.moving id v j at m; alike = (refl, refl, refl);
-          counts = refl; lives = λ l. l })
+        record {
+          more = λ j p out. out;
+          same = λ j _. same_words s h j;
+          mover = λ j m. h.homes.moving id v j at m;
+          alike = (refl, refl, refl);
+          counts = refl;
+          lives = λ l. l;
+        })
 
     -- retire the item
     pub retires : v.slots.owns ≡ slot ∷ [] → ¬ (Holds v slot) → v.stakes.moves ≡ None
@@ -464,16 +471,28 @@ module _ (slots id : ℕ) (me : Mine) (live : HasPlace me.0.epoch) where
         (spares (λ x. x) (AtSlot TakesHold i v) (λ r w t. ap (λ (u : View). u.places) (t slot refl).0))
         (steps.takes_hold id v live slot inside own free) (λ r w t. (refl, t))
         (λ s w h at t. subst (IsCalm γ sizes slots id me i (λ x. x) s (get_or s.words i 0)) (sym (t slot refl).0)
-        record { more = λ j p out. out; same = λ j _. same_words s h j; mover = λ j m. h.homes.moving id v j at m; alike = (refl, refl, refl);
-          counts = refl; lives = λ l. l })
+        record {
+          more = λ j p out. out;
+          same = λ j _. same_words s h j;
+          mover = λ j m. h.homes.moving id v j at m;
+          alike = (refl, refl, refl);
+          counts = refl;
+          lives = λ l. l;
+        })
 
     pub lets_go : Holds v slot → May i (λ x. x) (λ r me'. (me'.1 ≡ me.1) × AtSlot LetsGo i v r me'.0)
     lets_go held = lift_calm γ sizes slots id me i (λ x. x) (AtSlot LetsGo i v) (λ r me'. (me'.1 ≡ me.1) × AtSlot LetsGo i v r me'.0)
         (spares (λ x. x) (AtSlot LetsGo i v) (λ r w t. ap (λ (u : View). u.places) (t slot refl).0))
         (steps.lets_go id v live slot inside held) (λ r w t. (refl, t))
         (λ s w h at t. subst (IsCalm γ sizes slots id me i (λ x. x) s (get_or s.words i 0)) (sym (t slot refl).0)
-        record { more = λ j p out. out; same = λ j _. same_words s h j; mover = λ j m. h.homes.moving id v j at m; alike = (refl, refl, refl);
-          counts = refl; lives = λ l. l })
+        record {
+          more = λ j p out. out;
+          same = λ j _. same_words s h j;
+          mover = λ j m. h.homes.moving id v j at m;
+          alike = (refl, refl, refl);
+          counts = refl;
+          lives = λ l. l;
+        })
 
   -- look at the next place for a guard
   pub looks_for_guard : (place : ℕ) → place < n → place ≡ v.slots.looked
@@ -486,10 +505,22 @@ module _ (slots id : ℕ) (me : Mine) (live : HasPlace me.0.epoch) where
       (λ s w h at t. let c = t place refl in let x : ℕ = get_or s.words j 0 in
       let same = λ (k : ℕ) (_ : k < sizes.slots). ap (λ (l : List ℕ). full (slot_at sizes l k)) (set-get_or s.words j 0) in
       let calm = λ (w : View). IsCalm γ sizes slots id me j (λ x. x) s x w in dite (ℕ_discrete x 2)
-      (λ e. subst calm (sym (c.1 e)) record { more = λ k p out. out; same = same; mover = λ k m. h.homes.moving id v k at m; alike = (refl, refl, refl);
-          counts = refl; lives = λ l. l })
-      (λ ne. subst calm (sym (c.0 ne)) record { more = λ k p out. out; same = same; mover = λ k m. h.homes.moving id v k at m; alike = (refl, refl, refl);
-          counts = refl; lives = λ l. l }))
+      (λ e. subst calm (sym (c.1 e)) record {
+        more = λ k p out. out;
+        same = same;
+        mover = λ k m. h.homes.moving id v k at m;
+        alike = (refl, refl, refl);
+        counts = refl;
+        lives = λ l. l;
+      })
+      (λ ne. subst calm (sym (c.0 ne)) record {
+        more = λ k p out. out;
+        same = same;
+        mover = λ k m. h.homes.moving id v k at m;
+        alike = (refl, refl, refl);
+        counts = refl;
+        lives = λ l. l;
+      }))
 
   -- the last guard is closed, whose stakes go home
   pub closes : IsOpen v.epoch → ¬ (Scans v.epoch) → v.epoch.place < n → v.stakes.moves ≡ None → Purse γ n v.epoch.place v.stakes.sees me.1
@@ -559,10 +590,22 @@ module _ (γ : ℕ) (sizes : Sizes) (slots id : ℕ) (me : Mine) (p : ℕ) (insi
     bars_calm w which = let same = λ (j : ℕ) (_ : j < sizes.slots). ap full (before_slots sizes s.words spot left j (omega arith)) in
         let calm = IsCalm γ sizes slots id me spot free_no_more s left in
         let mover = λ (j : ℕ) (m : Moves me.0 j). h.homes.moving id me.0 j at m in
-        ⊎_elim (λ (e : w ≡ past p me.0). subst calm (sym e) record { more = λ j q out. out; same = same; mover = mover; alike = (refl, refl, refl);
-          counts = refl; lives = λ l. l })
-        (λ (e : w ≡ me.0). subst calm (sym e) record { more = λ j q out. out; same = same; mover = mover; alike = (refl, refl, refl);
-          counts = refl; lives = λ l. l }) which
+        ⊎_elim (λ (e : w ≡ past p me.0). subst calm (sym e) record {
+          more = λ j q out. out;
+          same = same;
+          mover = mover;
+          alike = (refl, refl, refl);
+          counts = refl;
+          lives = λ l. l;
+        })
+        (λ (e : w ≡ me.0). subst calm (sym e) record {
+          more = λ j q out. out;
+          same = same;
+          mover = mover;
+          alike = (refl, refl, refl);
+          counts = refl;
+          lives = λ l. l;
+        }) which
 
   which_of : (r : ℕ) (w : View) → Bars spot me.0 r w → ((r ≡ 0) ⊎ (r ≡ 3)) × (w ≡ past p me.0) ⊎ (w ≡ me.0)
   which_of r w t = let c = t p refl in dite (ℕ_discrete r 0) (λ e. inl (inl e, c.0 (inl e)))

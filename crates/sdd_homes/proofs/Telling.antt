@@ -100,7 +100,8 @@ module _ (v : View) (t : IsTelling v) (slot : ℕ) where
     }
 
     -- a value was moved out
-    pub rested_tells : (w : View) → record w.stakes { counts = v.stakes.counts } ≡ record v.stakes { moves = None } → ((i : ℕ) → i ≢ slot → times i w.slots.owns ≡ times i v.slots.owns)
+    pub rested_tells : (w : View) → record w.stakes { counts = v.stakes.counts } ≡ record v.stakes { moves = None }
+        → ((i : ℕ) → i ≢ slot → times i w.slots.owns ≡ times i v.slots.owns)
         → ¬ (OwnsAlone w slot) → w.slots.sees ≡ v.slots.sees → IsTelling w
     rested_tells w is same never seen = record {
       owns = λ i g h. let o = t.owns i g (subst (λ (k : StakesView). IsIn k.owns i g) is h) in let b = o.0 in

@@ -1,6 +1,9 @@
+use Rattle.std.specs.Prelude.{◌≡◌}
 use Rattle.sdd_base.specs.Seat.{IsSeated}
+use Rattle.sdd_domain.specs.Items.{slots_home}
 use Rattle.sdd_domain.specs.Space.{seat_of}
+use Rattle.sdd_domain_rows.specs.Slots.{slots_in}
 use Rattle.sdd_domain_rows.proofs.domains.takes_part.Given as goal
 
 abbrev pub invariant-loop : goal.invariant-loop
-invariant-loop g l = IsSeated (seat_of l.local)
+invariant-loop g l = record { seated : IsSeated (seat_of l.local); home : slots_home l.local ≡ slots_in l.domain }

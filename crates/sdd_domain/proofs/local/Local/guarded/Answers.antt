@@ -35,8 +35,7 @@ invariant_of-self g c = let l = c.self.inside in let b = l.domain.now.board in l
     let seen = watched b l.place l.own t slot own.owner.0 l.token c.watch.new.token inv.0
     (subst (λ (t : ℕ). AreLentTo t l.token.me.1) (sym c.agree.ensures.round) inv.3) (c.watch.ensures slot own.owner.0 own.owner.1) in
     let posed = posed_shows b l.place l.own t slot own.owner.0 l.token c.watch.new.token c.show.new.seat inv.0 some_open
-    (c.watch.ensures slot own.owner.0 own.owner.1).0 seen c.show.ensures.seat c.show.ensures.lent in
-    (
+    (c.watch.ensures slot own.owner.0 own.owner.1).0 seen c.show.ensures.seat c.show.ensures.lent in (
       posed.0,
       inv.1,
       inv.2,
