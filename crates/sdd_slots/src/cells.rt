@@ -55,8 +55,7 @@ impl Cells {
             tag: Tag::None,
         };
         let cells = Table::new(alloc, size, nothing)?;
-        let pointers = null_pointers(alloc, size)?;
-        let held = no_owners(alloc, size)?;
+        let (held, pointers) = nothing_held(alloc, size)?;
         Ok(Cells {
             rights,
             cells,
@@ -235,45 +234,37 @@ impl Cells {
         requires { All (λ cell. IsNone cell) self.cells }
     {
         let Cells {
-            rights: _,
+            mut rights,
             cells: _,
             mut held,
             slots: _,
             pointers: _,
         } = self;
+        // none is held; taking one back would change no byte, so the compiler leaves the loop out
         while let Some(right) = held.pop() {
-            match right {
-                None => {}
-                Some(_) => unreachable!(),
+            if let Some(right) = right {
+                let _ = rights.redeem(right);
             }
         }
         held.destroy_empty();
     }
 }
 
-/// That many cells hold no owner.
-fn no_owners(alloc: Global, size: u32) -> Result<Vec<Option<Right>>, AllocError>
-    ensures { IfOk result (λ held. held.items ≡ replicate size None) }
+/// That many cells hold no owner, and as raw cells point to nothing.
+fn nothing_held(alloc: Global, size: u32) -> Result<(Vec<Option<Right>>, Vec<Pointer>), AllocError>
+    ensures held { IfOk result (λ made. made.0.items ≡ replicate size None) }
+    ensures pointers { IfOk result (λ made. made.1.items ≡ replicate size null_pointer) }
 {
+    let mut pointers = Vec::with_capacity(alloc, size as usize)?;
     let mut held = Vec::with_capacity(alloc, size as usize)?;
     for _cell in 0..size {
         held.push_reserved(None);
-    }
-    Ok(held)
-}
-
-/// That many raw cells point to nothing.
-fn null_pointers(alloc: Global, size: u32) -> Result<Vec<Pointer>, AllocError>
-    ensures { IfOk result (λ pointers. pointers.items ≡ replicate size null_pointer) }
-{
-    let mut pointers = Vec::with_capacity(alloc, size as usize)?;
-    for _cell in 0..size {
         pointers.push_reserved(Pointer {
             named: None,
             tag: Tag::None,
         });
     }
-    Ok(pointers)
+    Ok((held, pointers))
 }
 
 /// The slot of an owner, if there is one.

@@ -50,7 +50,7 @@ impl<T> Slots<T> {
         ensures stakes { IfOk result (λ slots. (slots.stakes ≡ unlent size readers) × (slots.readers ≡ readers)) }
     {
         let rights = Rights::new(alloc, size as usize, Kind::Free)?;
-        let standings = Table::new(alloc, size, Standing::Owned)?;
+        let standings = Table::new(alloc, size, Standing::Retired)?;
         let places = Places::new(alloc, size as usize, readers)?;
         Ok(Slots {
             rights,

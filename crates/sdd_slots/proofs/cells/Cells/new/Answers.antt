@@ -7,7 +7,7 @@ use Rattle.sdd_slots.proofs.cells.Cells.new.Goals as goal
 
 pub invariant_of-result : goal.invariant_of-result
 invariant_of-result c =
-    rw (c.in_ok-rights.ensures.kept, c.in_ok-cells.ensures, c.in_ok-held.ensures, c.in_ok-pointers.ensures) (
+    rw (c.in_ok-rights.ensures.kept, c.in_ok-cells.ensures, c.in_ok-held.ensures.held, c.in_ok-held.ensures.pointers) (
       all-cells-free c.in_ok-rights.rights.home (badge_home c.args.slots) c.args.size c.in_ok-rights.ensures.size,
       length-replicate c.args.size null_pointer ∙ sym c.in_ok-rights.ensures.size,
     )
