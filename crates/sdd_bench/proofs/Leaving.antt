@@ -161,3 +161,20 @@ two-leave s0 s1 s2 s3 s4 o0 o1 o2 o3 o4 w0 w1 w2 w3 w4 k j a b e1 p1 m1 e2 p2 m2
           ∙ ap (λ (w : World ℕ). out (retired (retired (made w j b) s2.place k) s3.place j)) one.1
           ∙ two-out nothing (λ n. refl) w0 s2.place s3.place k j a b one.0 empty;
     }
+
+-- an item made, what leaves all, and the item retired
+pub item-around : (s0 s1 s2 s3 : Seat) (o0 o1 o2 o3 : Participant) (w0 w1 w2 w3 : World ℕ) (k value : ℕ) →
+    s1 ≡ s0 → o1 ≡ o0 → (IsExact s0 → IsEmptyAt w0.standings k × (w1 ≡ made w0 k value)) → Leaves s1 o1 w1 s2 o2 w2 →
+    s3 ≡ s2 → o3 ≡ awaiting (Item k) o2 → (IsExact s2 → standing_at w2 k ≡ Some Owned) → (IsExact s2 → w3 ≡ retired w2 s2.place k) →
+    Leaves s0 o0 w0 s3 o3 w3
+item-around s0 s1 s2 s3 o0 o1 o2 o3 w0 w1 w2 w3 k value first own is_made l last own_after is_owned is_retired =
+    record {
+      seat = last ∙ l.seat ∙ first;
+      guards = as-many own_after ∙ l.guards ∙ as-many own;
+      kept = λ exact.
+          let still = exact-on s0 s2 (l.seat ∙ first) exact in
+          let there = is_made exact in
+          let more = (out-laws nothing w0).making k value there.0 in
+          let less = (out-laws nothing w2).retiring s2.place k (ap is_out (is_owned still)) in
+          omega (arith, more, less, as-much there.1, l.kept (exact-on s0 s1 first exact), as-much (is_retired still));
+    }

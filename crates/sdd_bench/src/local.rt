@@ -2,11 +2,10 @@
 ghost use Rattle.std.specs.Prelude.{◌≡◌, Err};
 ghost use Rattle.sdd_base.specs.Limits.{AreInRange};
 ghost use Rattle.sdd_base.specs.Seat.{IsSeated};
-ghost use Rattle.sdd_domain.specs.Space.{seat_of};
 
 use crate::operation::Task;
 use crate::turns;
-use sdd_base::Limits;
+use sdd_base::{Guards, Items, Limits};
 use sdd_core::Refused;
 use sdd_domain::{Domain, Local};
 use sdd_store::Tally;
@@ -57,7 +56,7 @@ fn in_domain(
 
 fn by_one(domain: &Domain<u64>, task: Task, turns: u64) -> Result<(Tally, u64), Refused> {
     let mut local = Local::register(domain)?;
-    let done = worked(&mut local, task, turns);
+    let done = worked::<Local<'_, u64>>(&mut local, task, turns);
     match local.end() {
         Ok(receipt) => Ok((receipt.tally(), done?)),
         Err(_) => unreachable!(),
@@ -65,16 +64,20 @@ fn by_one(domain: &Domain<u64>, task: Task, turns: u64) -> Result<(Tally, u64), 
 }
 
 #[inline(always)]
-fn worked(local: &mut Local<'_, u64>, task: Task, turns: u64) -> Result<u64, Refused>
-    requires { IsSeated (seat_of local.old) }
-    ensures { (seat_of local.new ≡ seat_of local.old) × (local.new.own.guards ≡ local.old.own.guards) }
+fn worked<S: Guards<u64> + Items<u64>>(
+    space: &mut S,
+    task: Task,
+    turns: u64,
+) -> Result<u64, Refused>
+    requires { IsSeated (S.seat space.old) }
+    ensures { (S.seat space.new ≡ S.seat space.old) × ((S.own space.new).guards ≡ (S.own space.old).guards) }
 {
     match task {
-        Task::Guards(guarding) => turns::guards::<Local<'_, u64>>(local, guarding, turns)?,
-        Task::Items => turns::items::<Local<'_, u64>>(local, turns)?,
-        Task::HalfFull => turns::items_beside::<Local<'_, u64>>(local, HALF, turns)?,
-        Task::Looks => return turns::sights::<Local<'_, u64>>(local, false, turns),
-        Task::Reads => return turns::sights::<Local<'_, u64>>(local, true, turns),
+        Task::Guards(guarding) => turns::guards(space, guarding, turns)?,
+        Task::Items => turns::items(space, turns)?,
+        Task::HalfFull => turns::items_beside(space, HALF, turns)?,
+        Task::Looks => return turns::sights(space, false, turns),
+        Task::Reads => return turns::sights(space, true, turns),
     }
     Ok(0)
 }

@@ -148,15 +148,12 @@ fn reads<L: Look<u64>>(space: &L, one: &Owned<u64>, other: &Owned<u64>, turns: u
 }
 
 /// Makes and retires an item under a guard that often, while so many others have owners.
-///
-/// For a space that isn't exact: for such a one `Leaves` says nothing of what is out.
 pub fn items_beside<S: Guards<u64> + Items<u64>>(
     space: &mut S,
     others: u64,
     turns: u64,
 ) -> Result<(), Refused>
-    requires seated { IsSeated (S.seat space.old) }
-    requires inexact { ¬ (IsExact (S.seat space.old)) }
+    requires { IsSeated (S.seat space.old) }
     ensures { Leaves (S.seat space.old) (S.own space.old) (S.world space.old) (S.seat space.new) (S.own space.new) (S.world space.new) }
 {
     if others == 0 {

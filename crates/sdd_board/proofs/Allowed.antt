@@ -1,5 +1,5 @@
 -- What each call of the table asks for
-use Rattle.std.proofs.Common.{None, ◌≤◌, ◌≡◌, ◌≢◌, ℕ, ◌+◌, ◌<◌, eqb, List, [], ◌∷◌, get_or, set, sym, refl, ap, ◌∙◌, subst, arith}
+use Rattle.std.proofs.Common.{None, ◌≤◌, ◌≡◌, ◌≢◌, ◌⊎◌, inl, inr, ℕ, ◌+◌, ◌<◌, Bool, false, eqb, List, [], ◌∷◌, get_or, set, sym, refl, ap, ◌∙◌, subst, arith}
 use Rattle.std.specs.Prelude.{Some}
 use lib.Seq.{set-get_or}
 use base.Stored.{Gv, gnil}
@@ -29,13 +29,15 @@ use Rattle.sdd_rule.proofs.Ended.{Spares}
 use Rattle.sdd_rule.proofs.Sums.{is_same}
 use Rattle.sdd_homes.specs.Homes.{Carries, Moves}
 use Rattle.sdd_homes.specs.Housed.{Housed}
-use Rattle.sdd_homes.specs.HomeSteps.{Mine, HasAll, IsValue, Purse, ClaimsAll, Houses, TakesOut, TakesHeld, RetiresOne, GivesAll, DiscardsAll, Watches, ClosesHome, EndsAll, OfSlot}
+use Rattle.sdd_homes.specs.HomeSteps.{Mine, HasAll, IsValue, Purse, ClaimsAll, Houses, TakesOut, TakesHeld, RetiresOne, GivesAll, DiscardsAll, Watches, Recalls, ClosesHome, EndsAll, OfSlot}
 use Rattle.sdd_homes.proofs.Lift.{lift_epoch, lift_publish, lift_end}
 use Rattle.sdd_homes.proofs.Steps.{own_place}
 use Rattle.sdd_homes.proofs.Steps as steps
+use Rattle.sdd_homes.proofs.Fillings.{NoneTold}
+use Rattle.sdd_homes.proofs.Telling.{none_told}
 use Rattle.sdd_homes.proofs.Tokens.{enters}
 use Rattle.sdd_rule.specs.Parts.{idle, owner_of}
-use Rattle.sdd_board.specs.Token.{Sits, Told, IsSame, IsSameBut, Stepped, Taught, Moved, HousesMoved, WatchesOwned, HasPublished, shown_last}
+use Rattle.sdd_board.specs.Token.{Sits, Told, IsSame, IsSameBut, Stepped, Taught, Moved, HousesMoved, WatchesOwned, RecallsOwned, HasPublished, shown_last}
 
 -- which of two it is now a number tells, and what holds of both holds of it
 which : (P : EpochView → Type 0) (a b w : EpochView) (x c : ℕ) → (x ≡ c → w ≡ a) → (x ≢ c → w ≡ b) → P a → P b → P w
@@ -50,9 +52,15 @@ one_slot_moved : (w : View) (i j : ℕ) → Moves w i → Moves w j → i ≡ j
 one_slot_moved w i j m m' = let e : Some i ≡ Some j = sym m ∙ m' in cc
 
 -- who has all stakes in a slot sees by the last what it shows
-pub last_shown : (γ i n : ℕ) (value : Gv) (rest xs : Carries) → HasAll γ i n (IsValue value) rest xs → shown_last xs ≡ value
+last_shown : (γ i n : ℕ) (value : Gv) (rest xs : Carries) → HasAll γ i n (IsValue value) rest xs → shown_last xs ≡ value
 last_shown γ i n value rest [] row = absurd row
 last_shown γ i n value rest (x ∷ xs) row = row.1.1.1
+
+-- so it knows what the step told that moved this value in
+pub as_housed : (γ slot n : ℕ) (a b : Bool) (value : Gv) (rest : Carries) (me me' : Mine) → b ≡ a → Moves me.0 slot → HasAll γ slot n (IsValue value) rest me.1
+    → HousesMoved a me me' → Houses slot b value me me'
+as_housed γ slot n a b value rest me me' is moves row e =
+    subst (λ (t : Bool × Gv). Houses slot t.0 t.1 me me') (λ d. (sym is d, last_shown γ slot n value rest me.1 row d)) (e slot moves)
 
 first_owned : View → ℕ
 first_owned w = elim w.slots.owns [ [] ↦ 0 | i ∷ is ↦ i ]
@@ -60,13 +68,26 @@ first_owned w = elim w.slots.owns [ [] ↦ 0 | i ∷ is ↦ i ]
 first_value : View → Gv
 first_value w = elim w.stakes.owns [ [] ↦ gnil | r ∷ rs ↦ r.value ]
 
-pub owner_slot : (i j : ℕ) (g h : Gv) → owner_of i g ≡ owner_of j h → i ≡ j
-unfolding first_owned
-owner_slot i j g h e = ap first_owned e
+first_shared : View → Bool
+first_shared w = elim w.stakes.owns [ [] ↦ false | r ∷ rs ↦ r.shared ]
 
-pub owner_value : (i j : ℕ) (g h : Gv) → owner_of i g ≡ owner_of j h → g ≡ h
-unfolding first_value
-owner_value i j g h e = ap first_value e
+-- an owner's token tells of one slot, how many its owners may be and one value
+module _ (i j : ℕ) (a b : Bool) (g h : Gv) (e : owner_of i a g ≡ owner_of j b h) where
+  owner_slot : i ≡ j
+  unfolding first_owned
+  owner_slot = ap first_owned e
+
+  owner_shared : a ≡ b
+  unfolding first_shared
+  owner_shared = ap first_shared e
+
+  owner_value : g ≡ h
+  unfolding first_value
+  owner_value = ap first_value e
+
+  -- so what a step tells of these it tells of those
+  pub owner_told : (R : ℕ → Bool → Gv → Type 0) → R i a g → R j b h
+  owner_told R = subst (λ (t : ℕ × Bool × Gv). R t.0 t.1 t.2) (λ d. (owner_slot d, owner_shared d, owner_value d))
 
 -- a new token
 pub may_sit : (γ : ℕ) (sizes : Sizes) (slots i : ℕ)
@@ -86,7 +107,8 @@ module _ (γ : ℕ) (sizes : Sizes) (slots id : ℕ) (me : Mine) where
       → ((x : ℕ) (w : EpochView) → R v x w → HasPlace v → HasPlace w)
       → ((s : State Stake View) → Housed γ sizes s → get_elem? s.views id ≡ some me.0 → Spares sizes s.words i (f (get_or s.words i 0)))
       → Keeps sizes.participants id v i f (R v) → May i f (Told (OnEpoch R) me)
-  may_epoch R i f low had stays lives spares keeps = lift_epoch γ sizes slots id me i f R (Told (OnEpoch R) me) (omega arith) stays lives spares
+  may_epoch R i f low had stays lives spares keeps = lift_epoch γ sizes slots id me i f R (Told (OnEpoch R) me) (omega arith) stays lives
+      (λ s _ e t _ z. inl (had (get_or s.words i 0) e t z)) spares
       (over.mild sizes id me.0 i f low R had keeps) (λ r w t. (refl, t))
 
   may_store_epoch : (R : EpochView → ℕ → EpochView → Type 0) (i c : ℕ) → i < after_places sizes.participants
@@ -95,14 +117,24 @@ module _ (γ : ℕ) (sizes : Sizes) (slots id : ℕ) (me : Mine) where
       → ((s : State Stake View) → Housed γ sizes s → get_elem? s.views id ≡ some me.0 → Spares sizes s.words i c)
       → Keeps sizes.participants id v i (λ _. c) (λ _. R v c) → May i (λ _. c) (λ _. Told (OnEpoch R) me c)
   may_store_epoch R i c low had stays lives spares keeps = lift_epoch γ sizes slots id me i (λ _. c) (λ u _ w. R u c w) (λ _. Told (OnEpoch R) me c)
-      (omega arith) (λ _. stays) (λ _. lives) spares (over.mild sizes id me.0 i (λ _. c) low (λ u _ w. R u c w) (λ _. had) keeps) (λ r w t. (refl, t))
+      (omega arith) (λ _. stays) (λ _. lives) (λ _ _ e t _ z. inl (had e t z)) spares
+      (over.mild sizes id me.0 i (λ _. c) low (λ u _ w. R u c w) (λ _. had) keeps) (λ r w t. (refl, t))
+
+  -- while its only place was free a lone domain has no owner
+  taken : (p : ℕ) → p < sizes.participants → (s : State Stake View) → Housed γ sizes s → (e : EpochView)
+      → Registers (state_word p) v (get_or s.words (state_word p) 0) e → sizes.participants ≡ 1 → HasPlace e → HasPlace v ⊎ NoneTold s.views
+  taken p inside s h e t one placed = let x : ℕ = get_or s.words (state_word p) 0 in dite (ℕ_discrete x 0)
+      (λ free. let first : 0 ≡ p = omega arith in
+      inr (none_told γ sizes s h (h.kept.parts.epoch.unused one (ap (λ (q : ℕ). get_or s.words (state_word q) 0) first ∙ free))))
+      (λ ne. inl (subst HasPlace ((t p refl).1 ne) placed))
 
   pub may_register : (i p : ℕ) → i ≡ state_word p → p < sizes.participants → v ≡ nobody sizes.participants → me.0.words ≡ blank sizes
       → May i (λ x. either (eqb x 0) 1 x) (Told (OnEpoch (Registers i)) me)
   may_register i p is inside none_yet clean = let closed = ap (λ (u : EpochView). u.state) none_yet in
       subst (λ (i : ℕ). May i (λ x. either (eqb x 0) 1 x) (Told (OnEpoch (Registers i)) me)) (sym is)
       (lift_epoch γ sizes slots id me (state_word p) (λ x. either (eqb x 0) 1 x) (Registers (state_word p)) (Told (OnEpoch (Registers (state_word p))) me)
-      (omega arith) (λ r w t o. absurd (omega arith)) (λ r w t z. absurd (omega arith)) (λ s h at q low e was. ap (λ (x : ℕ). either (eqb x 0) 1 x) was)
+      (omega arith) (λ r w t o. absurd (omega arith)) (λ r w t z. absurd (omega arith)) (taken p inside)
+      (λ s h at q low e was. ap (λ (x : ℕ). either (eqb x 0) 1 x) was)
       (over.registers sizes id p me.0 none_yet clean inside) (λ r w t. (refl, t)))
 
   pub may_read : May global_word (λ x. x) (Told (OnEpoch Reads) me)
@@ -117,7 +149,7 @@ module _ (γ : ℕ) (sizes : Sizes) (slots id : ℕ) (me : Mine) where
   pub may_publish : (i : ℕ) → IsClosed v → v.count ≡ v.known → i ≡ state_word v.place → v.place < sizes.participants
       → May i (λ _. 2) (λ _. Told PublishesAll me 2)
   may_publish i shut low is inside = subst (λ (i : ℕ). May i (λ _. 2) (λ _. Told PublishesAll me 2)) (sym is)
-      (lift_publish γ sizes slots id me (state_word v.place) 2 (Told PublishesAll me) (omega arith) (over.publishes sizes id me.0 shut low inside)
+      (lift_publish γ sizes slots id me (state_word v.place) 2 (Told PublishesAll me) (omega arith) (omega arith) (over.publishes sizes id me.0 shut low inside)
       (λ w t. ((let live : 0 < w.state = (let e = ap (λ (u : EpochView). u.state) t.1 in omega arith) in live), ap (λ (u : EpochView). u.place) t.1))
       (own_place γ sizes id me.0 (omega arith) 2) (λ w t. (refl, t)))
 
@@ -201,36 +233,49 @@ module _ (γ : ℕ) (sizes : Sizes) (slots id : ℕ) (me : Mine) where
         → HasAll me.0.stakes.book slot me.0.sizes.participants Is rest me.1
     row_as_known slot Is rest = subst (λ (t : ℕ × Sizes). HasAll t.0 slot t.1.participants Is rest me.1) (λ d. (sym book d, sym same d))
 
-    pub may_house : (slot : ℕ) → slot < sizes.slots → Moves me.0 slot → OwnsAlone me.0 slot → (value : Gv) (rest : Carries)
-        → HasAll γ slot sizes.participants (IsValue value) rest me.1 → AllowsAlone (Housed γ sizes) slots id me (HousesMoved me)
-    may_house slot inside moves mine value rest row = let within : slot < me.0.sizes.slots = (let e = ap (λ (z : Sizes). z.slots) same in omega arith) in
-        alone_known (HousesMoved me) (λ s h long at.
-        let a = steps.houses slots id me live slot within moves mine value rest (row_as_known slot (IsValue value) rest row) s h long at in (
+    pub may_house : (slot : ℕ) → slot < sizes.slots → Moves me.0 slot → OwnsAlone me.0 slot → (shared : Bool) (value : Gv) (rest : Carries)
+        → HasAll γ slot sizes.participants (IsValue value) rest me.1 → AllowsAlone (Housed γ sizes) slots id me (HousesMoved shared me)
+    may_house slot inside moves mine shared value rest row = let within : slot < me.0.sizes.slots = (let e = ap (λ (z : Sizes). z.slots) same in omega arith) in
+        alone_known (HousesMoved shared me) (λ s h long at.
+        let a = steps.houses slots id me live slot within moves mine shared value rest (row_as_known slot (IsValue value) rest row) s h long at in (
           a.0,
           a.1,
           a.2,
           a.3,
-          (λ other m. subst (λ (t : ℕ × Gv). Houses t.0 t.1 me (a.0, carried_after me.1 a.1))
+          (λ other m. subst (λ (t : ℕ × Gv). Houses t.0 shared t.1 me (a.0, carried_after me.1 a.1))
               (λ d. (one_slot_moved me.0 slot other moves m d, sym (last_shown γ slot sizes.participants value rest me.1 row) d)) a.4),
         ))
 
-    pub may_watch : (slot : ℕ) → slot < sizes.slots → IsOpen v → v.place < sizes.participants → me.0.stakes.moves ≡ None → (jd : ℕ) (value : Gv)
-        → AllowsBeside (Housed γ sizes) slots id me jd (owner_of slot value) (WatchesOwned (owner_of slot value) me)
-    may_watch slot inside is_open near rests jd value = let within : slot < me.0.sizes.slots = (let e = ap (λ (z : Sizes). z.slots) same in omega arith) in
-        subst (λ (t : ℕ × Sizes). AllowsBeside (Housed t.0 t.1) slots id me jd (owner_of slot value) (WatchesOwned (owner_of slot value) me))
-        (λ d. (book d, same d)) (λ s h long at there.
+    -- beside an owner's token
+    beside_known : (jd : ℕ) (w : View) (told : Mine → Type 0) → AllowsBeside (Housed me.0.stakes.book me.0.sizes) slots id me jd w told
+        → AllowsBeside (Housed γ sizes) slots id me jd w told
+    beside_known jd w told = subst (λ (t : ℕ × Sizes). AllowsBeside (Housed t.0 t.1) slots id me jd w told) (λ d. (book d, same d))
+
+    pub may_watch : (slot : ℕ) → slot < sizes.slots → IsOpen v → v.place < sizes.participants → me.0.stakes.moves ≡ None → (jd : ℕ) (shared : Bool) (value : Gv)
+        → AllowsBeside (Housed γ sizes) slots id me jd (owner_of slot shared value) (WatchesOwned (owner_of slot shared value) me)
+    may_watch slot inside is_open near rests jd shared value =
+        let within : slot < me.0.sizes.slots = (let e = ap (λ (z : Sizes). z.slots) same in omega arith) in
+        beside_known jd (owner_of slot shared value) (WatchesOwned (owner_of slot shared value) me) (λ s h long at there.
         let one = is_same slot slot refl in
-        let a = steps.watches slots id me live slot within is_open (near_place near) rests jd (owner_of slot value) value (omega arith) (λ held. cc)
-        (0, record { slot = slot; value = value }, refl, refl, refl) s h long at there in (
+        let a = steps.watches slots id me live slot within is_open (near_place near) rests jd (owner_of slot shared value) shared value (omega arith)
+        (λ held. cc) refl s h long at there in (
           a.0,
           a.1,
           a.2,
           a.3,
-          (λ other g e. subst (λ (t : ℕ × Gv). Watches t.0 t.1 me (a.0, carried_after me.1 a.1)) (λ d. (
-            owner_slot slot other value g e d,
-            owner_value slot
-                other value g e d,
-          )) a.4),
+          (λ other b g e. owner_told slot other shared b value g e (λ k c x. Watches k c x me (a.0, carried_after me.1 a.1)) a.4),
+        ))
+
+    pub may_recall : (slot jd : ℕ) (shared : Bool) (value : Gv)
+        → AllowsBeside (Housed γ sizes) slots id me jd (owner_of slot shared value) (RecallsOwned (owner_of slot shared value) me)
+    may_recall slot jd shared value = beside_known jd (owner_of slot shared value) (RecallsOwned (owner_of slot shared value) me) (λ s h long at there.
+        let one = is_same slot slot refl in
+        let a = steps.recalls slots id me live jd (owner_of slot shared value) slot shared value (omega arith) refl s h long at there in (
+          a.0,
+          a.1,
+          a.2,
+          a.3,
+          (λ other b g e. owner_told slot other shared b value g e (λ k c x. Recalls k c x me (a.0, carried_after me.1 a.1)) a.4),
         ))
 
     -- of a slot

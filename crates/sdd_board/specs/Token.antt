@@ -1,5 +1,5 @@
 -- A participant's token over a step
-use Rattle.std.specs.Prelude.{◌≡◌, ℕ, List, [], ◌∷◌}
+use Rattle.std.specs.Prelude.{◌≡◌, ℕ, Bool, List, [], ◌∷◌}
 use base.Stored.{Gv, gnil}
 use Rattle.atomic_table.specs.Table.{Me, Step}
 use Rattle.atomic_table.specs.declared.shared.Seat.{Seat}
@@ -11,7 +11,7 @@ use Rattle.sdd_rule.specs.SlotSteps.{changed}
 use Rattle.sdd_stakes.specs.declared.stake.Stake.{Stake}
 use Rattle.sdd_rule.specs.Parts.{owner_of}
 use Rattle.sdd_homes.specs.Homes.{Carries, Moves}
-use Rattle.sdd_homes.specs.HomeSteps.{Mine, Houses, Watches, ClosesHome}
+use Rattle.sdd_homes.specs.HomeSteps.{Mine, Houses, Watches, Recalls, ClosesHome}
 use Rattle.sdd_board.specs.declared.board.Board.{Board}
 use Rattle.sdd_board.specs.Board.{sizes_of, book_of}
 
@@ -71,13 +71,17 @@ abbrev pub shown_last : Carries → Gv
 shown_last [] = gnil
 shown_last (x ∷ xs) = x.1.lot.shown
 
--- the value of the slot that it moves was moved in
-abbrev pub HousesMoved : Mine → Mine → Type 0
-HousesMoved me me' = (slot : ℕ) → Moves me.0 slot → Houses slot (shown_last me.1) me me'
+-- the value of the slot that it moves was moved in, for an owner that may be one of several
+abbrev pub HousesMoved : Bool → Mine → Mine → Type 0
+HousesMoved shared me me' = (slot : ℕ) → Moves me.0 slot → Houses slot shared (shown_last me.1) me me'
 
 -- a guard sees a slot beside the token of its owner
 abbrev pub WatchesOwned : View → Mine → Mine → Type 0
-WatchesOwned w me me' = (slot : ℕ) (value : Gv) → w ≡ owner_of slot value → Watches slot value me me'
+WatchesOwned w me me' = (slot : ℕ) (shared : Bool) (value : Gv) → w ≡ owner_of slot shared value → Watches slot shared value me me'
+
+-- a participant learns beside the token of a slot's owner what it knows of the slot
+abbrev pub RecallsOwned : View → Mine → Mine → Type 0
+RecallsOwned w me me' = (slot : ℕ) (shared : Bool) (value : Gv) → w ≡ owner_of slot shared value → Recalls slot shared value me me'
 
 -- no guard is open, nothing is seen, and all stakes are at home
 abbrev pub HasClosed : Seat Stake View → Seat Stake View → Type 0

@@ -1,11 +1,11 @@
 //! What each step tells.
-ghost use Rattle.std.specs.Prelude.{[]};
+ghost use Rattle.std.specs.Prelude.{[], true, false};
 ghost use Rattle.sdd_rule.specs.Steps.{Registers, Reads, Counts, Locks, LooksAtState, LooksAtCount, Advances, Unlocks};
 ghost use Rattle.sdd_rule.specs.SlotSteps.{OnEpoch, PublishesAll, LooksAtSlot, TakesHold, LetsGo, LooksForGuard, AtSlot};
 ghost use Rattle.sdd_rule.specs.Ended.{Bars};
 ghost use Rattle.sdd_rule.specs.Parts.{owner_token};
 ghost use Rattle.sdd_homes.specs.HomeSteps.{ClaimsAll, TakesOut, TakesHeld, RetiresOne, GivesAll, DiscardsAll, ClosesHome, EndsAll, OfSlot, parting, departing, regained, uncounting, counts_of, counting};
-ghost use Rattle.sdd_board.specs.Token.{Sits, Told, HousesMoved, WatchesOwned};
+ghost use Rattle.sdd_board.specs.Token.{Sits, Told, HousesMoved, WatchesOwned, RecallsOwned};
 
 use atomic_table::{Join, Play, Split};
 use sdd_rule::View;
@@ -99,7 +99,13 @@ impl Play<Stake, View> for Claim {
 pub struct House;
 
 impl Alone<Stake, View> for House {
-    ghost then = { HousesMoved };
+    ghost then = { HousesMoved false };
+}
+
+pub struct HouseShared;
+
+impl Alone<Stake, View> for HouseShared {
+    ghost then = { HousesMoved true };
 }
 
 pub struct Retire;
@@ -136,6 +142,12 @@ pub struct Watch;
 
 impl Beside<Stake, View> for Watch {
     ghost then = { WatchesOwned };
+}
+
+pub struct Recall;
+
+impl Beside<Stake, View> for Recall {
+    ghost then = { RecallsOwned };
 }
 
 pub struct Hold;

@@ -1,8 +1,9 @@
-//! Programs over a world, in ordinary code, that rest on its contracts and laws alone.
+//! Programs over a world, or over a domain of one participant, in ordinary code, that rest on its contracts and laws alone.
 #![tactic(auto)]
 
 pub mod config;
 pub mod guards;
 pub mod items;
+pub mod lone;
 pub mod nodes;
 pub mod programs;

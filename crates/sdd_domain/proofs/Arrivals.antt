@@ -55,11 +55,11 @@ settled_low : (ws : List Waiting) → ◌≤◌ (elim ws as (λ _. ℕ) [ [] ↦
 settled_low [] = omega arith
 settled_low (x ∷ xs) = omega arith
 
-one_fewer : (f : WaitingItem → ℕ) (b : Bool) (x : WaitingItem) (xs : List WaitingItem) → total f (cond b (x ∷ xs) xs) ≤ f x + total f xs
+pub one_fewer : (f : WaitingItem → ℕ) (b : Bool) (x : WaitingItem) (xs : List WaitingItem) → total f (cond b (x ∷ xs) xs) ≤ f x + total f xs
 one_fewer f true x xs = omega arith
 one_fewer f false x xs = omega arith
 
-fewer_left : (i : ℕ) (xs : List WaitingItem) → total (waits_in i) (unripe xs) ≤ total (waits_in i) xs
+pub fewer_left : (i : ℕ) (xs : List WaitingItem) → total (waits_in i) (unripe xs) ≤ total (waits_in i) xs
 fewer_left i [] = omega arith
 fewer_left i (x ∷ xs) = let a = one_fewer (waits_in i) (not (is_ripe x)) x (unripe xs) in let b = fewer_left i xs in omega arith
 

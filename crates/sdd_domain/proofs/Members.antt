@@ -1,5 +1,5 @@
 -- What a look makes of a participant, as its callers see it
-use Rattle.std.proofs.Common.{◌≡◌, ℕ, List, refl, sym, ap, ◌∙◌, subst}
+use Rattle.std.proofs.Common.{◌≡◌, ℕ, refl, sym, ap, ◌∙◌, subst}
 use mathlib.Core.Logic.{dite}
 use native.Mathlib.Decide.{dec_lt}
 use base.Stored.{Gv}
@@ -9,13 +9,14 @@ use Rattle.sdd_stakes.specs.declared.stake.Stake.{Stake}
 use Rattle.sdd_rule.specs.declared.View.{View}
 use Rattle.sdd_rule.specs.Sums.{times}
 use Rattle.sdd_homes.specs.Records.{IsIn}
-use Rattle.sdd_homes.specs.HomeSteps.{Mine, Watches}
-use Rattle.sdd_homes.proofs.Records.{in_head, in_tail}
-use Rattle.sdd_base.specs.Holding.{Holding, AreOf}
-use Rattle.std.specs.Prelude.{Result, Ok, Err, MatchResult}
-use Rattle.sdd_domain.specs.Local.{Member, LooksAt, MakesAt}
-use Rattle.sdd_domain.specs.Sight.{IsOnce}
-use Rattle.sdd_domain.specs.Space.{Shows, home_in}
+use Rattle.sdd_homes.specs.HomeSteps.{Mine, Watches, Recalls}
+use Rattle.sdd_homes.proofs.Records.{in_head}
+use Rattle.std.specs.Prelude.{◌≢◌, Bool, [], ◌∷◌}
+use Rattle.sdd_token.specs.declared.right.Right.{Right}
+use Rattle.sdd_token.specs.Units.{Home}
+use Rattle.sdd_token.specs.Right.{home_of}
+use Rattle.sdd_domain.specs.Items.{slots_home}
+use Rattle.sdd_domain.specs.Member.{Member, IsLone, LooksAt, KnowsOwner}
 use Rattle.sdd_board.specs.Token.{MovedAlone}
 
 -- a participant with this token
@@ -27,6 +28,7 @@ with_token m s = record m {
   sizes = s.me.0.sizes;
   slots = s.me.0.slots;
   shown = s.me.0.stakes.sees;
+  filled = s.me.0.stakes.filled;
   words = s.me.0.words;
 }
 
@@ -38,12 +40,13 @@ with_view m id v = record m {
   sizes = v.sizes;
   slots = v.slots;
   shown = v.stakes.sees;
+  filled = v.stakes.filled;
   words = v.words;
 }
 
-pub looks_at : (m : Member) (slot : ℕ) (value : Gv) (s u z : Seat Stake View) → MovedAlone (Watches slot value) s u
-    → z ≡ record u { me = (u.me.0, z.me.1) } → LooksAt slot value (with_token m s) (with_token m z)
-looks_at m slot value s u z watched is = let w = watched.2 in
+pub looks_at : (m : Member) (slot : ℕ) (shared : Bool) (value : Gv) (s u z : Seat Stake View) → MovedAlone (Watches slot shared value) s u
+    → z ≡ record u { me = (u.me.0, z.me.1) } → LooksAt slot shared value (with_token m s) (with_token m z)
+looks_at m slot shared value s u z watched is = let w = watched.2 in
     let table : z.table_id ≡ s.table_id = ap (λ (x : Seat Stake View). x.table_id) is ∙ watched.0 in
     let view : z.me.0 ≡ u.me.0 = ap (λ (x : Seat Stake View). x.me.0) is in record {
       seen = λ sees. let same = w.0 sees in (
@@ -54,27 +57,18 @@ looks_at m slot value s u z watched is = let w = watched.2 in
     }
 
 -- after a look what is shown is known, and what was known before
-module _ (slot : ℕ) (value : Gv) (old new : Member) (looks : LooksAt slot value old new) where
+module _ (slot : ℕ) (shared : Bool) (value : Gv) (old new : Member) (looks : LooksAt slot shared value old new) where
   pub shown_now : IsIn new.shown slot value
   shown_now = dite (dec_lt 0 (times slot old.slots.sees))
       (λ sees. let s = looks.seen sees in subst (λ (m : Member). IsIn m.shown slot value) (sym s.0) s.1)
       (λ blind. subst (λ (m : Member). IsIn m.shown slot value) (sym (looks.unseen blind))
-      (in_head (record { slot = slot; value = value }) old.shown slot value refl refl))
+      (in_head (record { slot = slot; shared = shared; value = value }) old.shown slot value refl refl))
 
-  pub keeps_looks : {T : Type 0} (shown : T → Gv) (holds : T → List Holding) → IsOnce new.shown → (k : ℕ) (v : T)
-      → Shows shown holds old k v → Shows shown holds new k v
-  keeps_looks shown holds once k v h = dite (dec_lt 0 (times slot old.slots.sees))
-      (λ sees. subst (λ (m : Member). Shows shown holds m k v) (sym (looks.seen sees).0) h)
-      (λ blind. let is = looks.unseen blind in let there : IsIn new.shown k (shown v) = subst (λ (m : Member). IsIn m.shown k (shown v)) (sym is)
-      (in_tail (record { slot = slot; value = value }) old.shown k (shown v) h.known) in record {
-        known = there;
-        only = λ g other. once k g (shown v) other there;
-        home = subst (λ (m : Member). AreOf (home_in m) (holds v)) (sym is) h.home;
-      })
+-- beside a slot's owner a lone participant knows it
+pub recalls_to : (m : Member) (slot : ℕ) (shared : Bool) (value : Gv) (s t : Seat Stake View) → MovedAlone (Recalls slot shared value) s t
+    → s.me.0.epoch.all ≡ m.limits.participants → IsLone m → KnowsOwner (with_token m s) slot shared value
+recalls_to m slot shared value s t recalled all lone = let r = recalled.2.1 (all ∙ lone) in record { newest = r.newest; alive = r.alive }
 
--- what is shown stays shown where an item is made, or is refused
-pub keeps_made : {T A E : Type 0} (shown : T → Gv) (holds : T → List Holding) (old new : Member) (slot_of : A → ℕ) (Done : A → Type 0) (Back Why Lone : E → Type 0)
-    (r : Result A E) → MatchResult r (λ a. MakesAt (slot_of a) old new × Done a) (λ e. Back e × (new ≡ old) × Why e × Lone e) → (k : ℕ) (v : T)
-    → Shows shown holds old k v → Shows shown holds new k v
-keeps_made shown holds old new slot_of Done Back Why Lone (Ok a) made k v h = subst (λ (m : Member). Shows shown holds m k v) (sym made.0.member) h
-keeps_made shown holds old new slot_of Done Back Why Lone (Err e) made k v h = subst (λ (m : Member). Shows shown holds m k v) (sym made.1) h
+-- an owner of its domain has a token
+pub has_tables : (m : Member) (right : Right) → home_of right ≡ slots_home m → (home_of right).tables ≢ []
+has_tables m right e none = let apart : m.home ∷ [] ≡ [] = sym (ap (λ (h : Home). h.tables) e) ∙ none in cc

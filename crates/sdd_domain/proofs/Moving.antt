@@ -1,6 +1,6 @@
 -- A value comes into the place of a slot, and leaves it; and what the guards see is shown.
 use Rattle.std.proofs.Common.{◌≡◌, ℕ, zero, suc, ◌+◌, ◌<◌, List, [], ◌∷◌, map, drop, sym, refl, ap, ◌∙◌, subst, inl, arith}
-use Rattle.std.specs.Prelude.{None}
+use Rattle.std.specs.Prelude.{Bool, None}
 use mathlib.Core.Option.{some, some-injective, some-ne-none}
 use mathlib.Core.Logic.{dite}
 use lib.ListN.{get_elem?}
@@ -113,10 +113,10 @@ shows_known γ n p slot γ' g sees xs purse s = shown_in γ n p slot γ' g sees 
 
 -- a guard has come to see a slot
 pub now_seen : (γ n p t slot spot : ℕ) (y : Stake) (sees : List Showing) (xs : Carries) → IsPurse γ n p sees xs → AreLentTo t xs → spot ≡ stake_at n slot p
-    → (value : Gv) → Has γ slot 1 (IsValue value) y
-    → IsPurse γ n p (record { slot = slot; value = value } ∷ sees) ((spot, y) ∷ xs) × AreLentTo t ((spot, y) ∷ xs)
+    → (shared : Bool) (value : Gv) → Has γ slot 1 (IsValue value) y
+    → IsPurse γ n p (record { slot = slot; shared = shared; value = value } ∷ sees) ((spot, y) ∷ xs) × AreLentTo t ((spot, y) ∷ xs)
 unfolding IsPurse AreLentTo
-now_seen γ n p t slot spot y sees xs purse lent at value has = ((at, (ap unlent has.0, has.1), purse), (inl (ap (λ (h : Lot). h.lent) has.0), lent))
+now_seen γ n p t slot spot y sees xs purse lent at shared value has = ((at, (ap unlent has.0, has.1), purse), (inl (ap (λ (h : Lot). h.lent) has.0), lent))
 
 -- and is shown
 pub still_seen : (γ n p t : ℕ) (sees : List Showing) (xs ys : Carries) → OnlyLends t xs ys → IsPurse γ n p sees xs → AreLentTo t xs

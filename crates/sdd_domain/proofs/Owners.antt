@@ -1,6 +1,6 @@
 -- What is known once a value was moved into a slot, and the slot's owner has left its participant
 use Rattle.std.proofs.Common.{◌≡◌, ℕ, suc, ◌+◌, [], ◌∷◌, drop, refl, sym, ap, ◌∙◌}
-use Rattle.std.specs.Prelude.{None}
+use Rattle.std.specs.Prelude.{Bool, None}
 use base.Stored.{Gv}
 use Rattle.atomic_table.specs.declared.shared.Seat.{Seat}
 use Rattle.sdd_stakes.specs.declared.stake.Stake.{Stake}
@@ -15,29 +15,30 @@ use Rattle.sdd_board.specs.declared.board.Board.{Board}
 use Rattle.sdd_board.specs.Board.{book_of, places_of}
 use Rattle.sdd_board.specs.Owner.{disowned}
 use Rattle.sdd_board.specs.Token.{view, Knows, MovedAlone}
+use Rattle.sdd_domain.specs.Values.{with_filled}
 use Rattle.sdd_domain.proofs.Moving.{row_after, rest_out}
 
-module _ (slot : ℕ) (value : Gv) (v : View) (owns : v.slots.owns ≡ slot ∷ []) (told : v.stakes.owns ≡ []) where
-  pub parted_view : parting (resting (telling slot value v)) ≡ disowned (resting v)
+module _ (slot : ℕ) (shared : Bool) (value : Gv) (v : View) (owns : v.slots.owns ≡ slot ∷ []) (told : v.stakes.owns ≡ []) where
+  pub parted_view : parting (resting (telling slot shared value v)) ≡ disowned (resting (with_filled slot shared value v))
   parted_view = λ d. record v {
     slots = record v.slots { owns = ap others owns d };
-    stakes = record v.stakes { moves = None; owns = sym told d };
+    stakes = record v.stakes { moves = None; owns = sym told d; filled = record { slot = slot; shared = shared; value = value } ∷ v.stakes.filled };
   }
 
-  pub departed_view : departing (resting (telling slot value v)) ≡ owner_of slot value
+  pub departed_view : departing (resting (telling slot shared value v)) ≡ owner_of slot shared value
   departed_view = λ d. record (owner_token (ap first owns d) []) {
-    stakes = record (at_rest 0) { owns = record { slot = slot; value = value } ∷ told d };
+    stakes = record (at_rest 0) { owns = record { slot = slot; shared = shared; value = value } ∷ told d };
   }
 
 -- the value lies in its place, and the stakes in it are at home
-pub record IsFurnished (n slot : ℕ) (value : Gv) (s t : Seat Stake View) : Type 0 where
+pub record IsFurnished (n slot : ℕ) (shared : Bool) (value : Gv) (s t : Seat Stake View) : Type 0 where
   pub table : t.table_id ≡ s.table_id
   pub number : t.id ≡ s.id
-  pub view : t.me.0 ≡ resting (telling slot value s.me.0)
+  pub view : t.me.0 ≡ resting (telling slot shared value s.me.0)
   pub given : t.me.1 ≡ drop (suc n) s.me.1
 
 -- so it is after the value was moved in and the step that tells of it
-module _ (b : Board) (slot count : ℕ) (value : Gv) (s p t : Seat Stake View) (knows : Knows b s) (all : count ≡ places_of b + 1) (moves : Moves (view s) slot)
+module _ (b : Board) (slot count : ℕ) (shared : Bool) (value : Gv) (s p t : Seat Stake View) (knows : Knows b s) (all : count ≡ places_of b + 1) (moves : Moves (view s) slot)
     (rest : Carries) (row : HasAll (book_of b) slot (places_of b) IsVacant rest s.me.1) (a : ℕ) (full : IsFull value)
     (put : p ≡ record s { me = (s.me.0, all_turned a value count s.me.1) }) where
   pub row_put : HasAll (book_of b) slot (places_of b) (IsValue value) rest p.me.1
@@ -48,11 +49,11 @@ module _ (b : Board) (slot count : ℕ) (value : Gv) (s p t : Seat Stake View) (
   moves_put = ap (λ (s : Seat Stake View). s.me.0.stakes.moves) put ∙ moves
 
   pub furnished : ((slot : ℕ) (g : Gv) (rest : Carries) → Moves (view p) slot → HasAll (book_of b) slot (places_of b) (IsValue g) rest p.me.1
-      → MovedAlone (Houses slot g) p t) → IsFurnished (places_of b) slot value s t
+      → MovedAlone (Houses slot shared g) p t) → IsFurnished (places_of b) slot shared value s t
   furnished housed = let h = housed slot value rest moves_put row_put in record {
     table = h.0 ∙ ap (λ (s : Seat Stake View). s.table_id) put;
     number = h.1 ∙ ap (λ (s : Seat Stake View). s.id) put;
-    view = h.2.0 ∙ ap (λ (s : Seat Stake View). resting (telling slot value s.me.0)) put;
+    view = h.2.0 ∙ ap (λ (s : Seat Stake View). resting (telling slot shared value s.me.0)) put;
     given = rest_out (book_of b) slot (places_of b) p.me.0.sizes.participants (IsValue value) rest p.me.1 t.me.1
         (ap (λ (s : Seat Stake View). s.me.0.sizes.participants) put ∙ ap (λ (z : Sizes). z.participants) knows.0) row_put h.2.1
         ∙ sym (rest_out (book_of b) slot (places_of b) (places_of b) IsVacant rest s.me.1 (drop (suc (places_of b)) s.me.1) refl row refl);

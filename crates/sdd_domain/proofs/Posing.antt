@@ -1,5 +1,5 @@
 -- A participant is posed after each step that takes or gives slots.
-use Rattle.std.proofs.Common.{◌≡◌, ⊎_elim, ℕ, ◌+◌, ◌<◌, ◌≤◌, not, List, [], ◌∷◌, ◌++◌, map, drop, suc, sym, refl, ap, ◌∙◌, subst, eq-eqb, arith}
+use Rattle.std.proofs.Common.{◌≡◌, ⊎_elim, ℕ, ◌+◌, ◌^◌, ◌<◌, ◌≤◌, not, List, [], ◌∷◌, ◌++◌, map, drop, suc, sym, refl, ap, ◌∙◌, subst, eq-eqb, arith}
 use mathlib.Core.Bool.{Bool, cond}
 use base.Stored.{Gv}
 use Rattle.std.proofs.lemmas.List.{map-append}
@@ -31,13 +31,14 @@ use Rattle.sdd_rule.specs.Codes.{owned_word}
 use Rattle.sdd_homes.specs.Homes.{Carries, Has, stake_at}
 use Rattle.sdd_homes.specs.Records.{slot_shown, IsIn}
 use Rattle.sdd_homes.proofs.Records.{in_head, in_either, in_times}
-use Rattle.sdd_homes.specs.HomeSteps.{Mine, IsValue, Watches, RetiresOne, regained, resting, untold, with_made}
+use Rattle.sdd_homes.specs.HomeSteps.{Mine, IsValue, Watches, Recalls, RetiresOne, regained, resting, untold, with_made}
 use Rattle.sdd_board.specs.Board.{book_of, places_of, slots_of}
 use Rattle.sdd_board.specs.Token.{view, epoch, slots, Taught, Moved, MovedAlone}
 use Rattle.sdd_board.specs.Owner.{disowned}
 use Rattle.sdd_domain.specs.Sight.{IsOnce}
 use Rattle.sdd_domain.specs.Waits.{waiting_of}
 use Rattle.sdd_domain.specs.Claims.{Gains}
+use Rattle.sdd_domain.specs.Values.{with_filled}
 use Rattle.sdd_domain.specs.Posed.{IsPurse, AreLentTo, IsPosed}
 use Rattle.sdd_domain.proofs.Moving.{row_out, rest_out, now_seen, still_seen}
 
@@ -60,10 +61,19 @@ module _ (b : Board) (p : ℕ) where
   has_place own s q = dite (dec_lt 0 own.guards) (λ some_open. let e = q.opened some_open in omega arith)
       (λ none. let e = q.closed (omega arith) in omega arith)
 
+  -- while a guard is open a lone participant knows the count that it found, which fits its type
+  pub known_fits : (own : Participant) (s : Seat Stake View) → IsPosed b p own s → 0 < own.guards → own.found < 2 ^ 64 → IsLone (epoch s)
+      → (epoch s).known < 2 ^ 64
+  known_fits own s q some_open fits one = let known = q.lone some_open one in let count = q.count in omega arith
+
+  -- beside an owner nothing changes
+  pub same_recalled : (slot : ℕ) (shared : Bool) (value : Gv) (s t : Seat Stake View) → MovedAlone (Recalls slot shared value) s t → t ≡ s
+  same_recalled slot shared value s t e = λ d. record t { table_id = e.0 d; id = e.1 d; me = e.2.0 d }
+
   -- what is known once the item of an owner that was taken in waits
-  retired_view : (slot y count : ℕ) (value : Gv) (v : View) → v.slots.owns ≡ [] → v.stakes.owns ≡ []
-      → untold (retired slot y count (regained v (owner_of slot value))) ≡ waiting_too slot y count v
-  retired_view slot y count value v owns told =
+  retired_view : (slot y count : ℕ) (shared : Bool) (value : Gv) (v : View) → v.slots.owns ≡ [] → v.stakes.owns ≡ []
+      → untold (retired slot y count (regained v (owner_of slot shared value))) ≡ waiting_too slot y count v
+  retired_view slot y count shared value v owns told =
       let none : without slot (slot ∷ v.slots.owns) ≡ v.slots.owns = ap (λ (l : List ℕ). without slot (slot ∷ l)) owns
       ∙ (ap (λ (c : Bool). cond (not c) (slot ∷ []) []) (eq-eqb slot slot refl) ∙ sym owns) in
       λ d. record v {
@@ -74,22 +84,22 @@ module _ (b : Board) (p : ℕ) where
       }
 
   -- the token after an owner was taken in and its item retired
-  pub retires_to : (own : Participant) (slot : ℕ) (value : Gv) (s t u : Seat Stake View) → IsPosed b p own s
-      → Taught (λ v _ w. w ≡ regained v (owner_of slot value)) s 0 t → Moved (RetiresOne slot) t 4 u
+  pub retires_to : (own : Participant) (slot : ℕ) (shared : Bool) (value : Gv) (s t u : Seat Stake View) → IsPosed b p own s
+      → Taught (λ v _ w. w ≡ regained v (owner_of slot shared value)) s 0 t → Moved (RetiresOne slot) t 4 u
       → (count : ℕ) × (u.me.0 ≡ waiting_too slot 4 count (view s)) × ((epoch s).known ≤ count) × (IsLone (epoch s) → count ≡ (epoch s).known)
       × (IsOpen (epoch s) → count ≤ (epoch s).since + 1)
-  retires_to own slot value s t u q took e = let r = e.2.1 in let v : View = view s in let v' : View = regained v (owner_of slot value) in
+  retires_to own slot shared value s t u q took e = let r = e.2.1 in let v : View = view s in let v' : View = regained v (owner_of slot shared value) in
       let epochs : epoch t ≡ epoch s = ap (λ (w : View). w.epoch) took.3 in (
         r.0,
-        e.2.2 ∙ (ap untold (r.3 ∙ ap (retired slot 4 r.0) took.3) ∙ retired_view slot 4 r.0 value v q.quiet.owns q.sight.owns),
+        e.2.2 ∙ (ap untold (r.3 ∙ ap (retired slot 4 r.0) took.3) ∙ retired_view slot 4 r.0 shared value v q.quiet.owns q.sight.owns),
         subst (λ (x : EpochView). x.known ≤ r.0) epochs r.1,
         subst (λ (x : EpochView). IsLone x → r.0 ≡ x.known) epochs r.2,
         subst (λ (x : EpochView). IsOpen x → r.0 ≤ x.since + 1) epochs r.4,
       )
 
-  pub posed_retires : (own : Participant) (slot : ℕ) (value : Gv) (s t u : Seat Stake View) → IsPosed b p own s → slot < slots_of b
-      → Taught (λ v _ w. w ≡ regained v (owner_of slot value)) s 0 t → Moved (RetiresOne slot) t 4 u → IsPosed b p (awaiting (Item slot) own) u
-  posed_retires own slot value s t u q low took e = let r = retires_to own slot value s t u q took e in
+  pub posed_retires : (own : Participant) (slot : ℕ) (shared : Bool) (value : Gv) (s t u : Seat Stake View) → IsPosed b p own s → slot < slots_of b
+      → Taught (λ v _ w. w ≡ regained v (owner_of slot shared value)) s 0 t → Moved (RetiresOne slot) t 4 u → IsPosed b p (awaiting (Item slot) own) u
+  posed_retires own slot shared value s t u q low took e = let r = retires_to own slot shared value s t u q took e in
       let others : u.me.1 ≡ s.me.1 = e.2.3 ∙ took.2 in
       subst (λ (v : View). IsPosed b p (awaiting (Item slot) own) (record u { me = (v, u.me.1) })) (sym r.1) record {
         home = e.0 ∙ (took.0 ∙ q.home);
@@ -159,21 +169,22 @@ module _ (b : Board) (p : ℕ) where
       }
 
   -- a slot that it claimed has an item, whose owner left it
-  pub made_view : (own : Participant) (slot : ℕ) (s t u : Seat Stake View) → IsPosed b p own s → Gains slot s t → view u ≡ disowned (resting (view t))
-      → view u ≡ with_made (record (view s) { words = noted slot (owned_word 0) (view s) })
-  made_view own slot s t u q gains is = let v : View = view s in is ∙ (ap (λ (w : View). disowned (resting w)) gains.view
+  pub made_view : (own : Participant) (slot : ℕ) (shared : Bool) (value : Gv) (s t u : Seat Stake View) → IsPosed b p own s → Gains slot s t
+      → view u ≡ disowned (resting (with_filled slot shared value (view t)))
+      → view u ≡ with_filled slot shared value (with_made (record (view s) { words = noted slot (owned_word 0) (view s) }))
+  made_view own slot shared value s t u q gains is = let v : View = view s in is ∙ (ap (λ (w : View). disowned (resting (with_filled slot shared value w))) gains.view
       ∙ (λ d. record v {
         slots = record v.slots { owns = sym q.quiet.owns d };
-        stakes = record (with_made v).stakes { moves = sym q.rests d };
+        stakes = record (with_filled slot shared value (with_made v)).stakes { moves = sym q.rests d };
         words = noted slot (owned_word 0) v;
       }))
 
-  pub posed_makes : (own : Participant) (slot : ℕ) (s t u : Seat Stake View) → IsPosed b p own s → Gains slot s t → u.table_id ≡ t.table_id
-      → view u ≡ disowned (resting (view t)) → u.me.1 ≡ drop (suc (places_of b)) t.me.1 → IsPosed b p own u × (u.me.1 ≡ s.me.1)
-  posed_makes own slot s t u q gains table is given =
+  pub posed_makes : (own : Participant) (slot : ℕ) (shared : Bool) (value : Gv) (s t u : Seat Stake View) → IsPosed b p own s → Gains slot s t
+      → u.table_id ≡ t.table_id → view u ≡ disowned (resting (with_filled slot shared value (view t))) → u.me.1 ≡ drop (suc (places_of b)) t.me.1 → IsPosed b p own u × (u.me.1 ≡ s.me.1)
+  posed_makes own slot shared value s t u q gains table is given =
       let row = row_out (book_of b) (places_of b) slot s.me t.me.1 q.knows.1 (ap (λ (z : Sizes). z.participants) q.knows.0) gains.row in
       let others : u.me.1 ≡ s.me.1 = rest_out (book_of b) slot (places_of b) (places_of b) IsVacant s.me.1 t.me.1 u.me.1 refl row given in (
-        subst (λ (w : View). IsPosed b p own (record u { me = (w, u.me.1) })) (sym (made_view own slot s t u q gains is)) record {
+        subst (λ (w : View). IsPosed b p own (record u { me = (w, u.me.1) })) (sym (made_view own slot shared value s t u q gains is)) record {
           home = table ∙ (gains.table ∙ q.home);
           purse = subst (λ (xs : Carries). IsPurse (book_of b) (places_of b) p s.me.0.stakes.sees xs) (sym others) q.purse;
           sight = record { owns = q.sight.owns; sees = q.sight.sees; once = q.sight.once };
@@ -244,9 +255,9 @@ module _ (b : Board) (p : ℕ) where
     pub lent : AreLentTo t u.me.1
     pub there : IsIn records slot value
 
-  once_more : (slot : ℕ) (value : Gv) (records : List Showing) → IsOnce records → ¬ (0 < times slot (map slot_shown records))
-      → IsOnce (record { slot = slot; value = value } ∷ records)
-  once_more slot value records once blind i g h a c = let r : Showing = record { slot = slot; value = value } in
+  once_more : (slot : ℕ) (shared : Bool) (value : Gv) (records : List Showing) → IsOnce records → ¬ (0 < times slot (map slot_shown records))
+      → IsOnce (record { slot = slot; shared = shared; value = value } ∷ records)
+  once_more slot shared value records once blind i g h a c = let r : Showing = record { slot = slot; shared = shared; value = value } in
       let unknown : (k : Gv) → slot ≡ i → ¬ (IsIn records i k)
       = λ k e there. blind (subst (λ (j : ℕ). 0 < times j (map slot_shown records)) (sym e) (in_times records i k there)) in ⊎_elim
       (λ (x : (slot ≡ i) × (value ≡ g)). ⊎_elim (λ (y : (slot ≡ i) × (value ≡ h)). sym x.1 ∙ y.1)
@@ -254,9 +265,9 @@ module _ (b : Board) (p : ℕ) where
       (λ (x : IsIn records i g). ⊎_elim (λ (y : (slot ≡ i) × (value ≡ h)). absurd (unknown g y.0 x))
       (λ (y : IsIn records i h). once i g h x y) (in_either r records i h c)) (in_either r records i g a)
 
-  pub watched : (own : Participant) (t slot : ℕ) (value : Gv) (s u : Seat Stake View) → IsPosed b p own s → AreLentTo t s.me.1
-      → MovedAlone (Watches slot value) s u → HasSeen t slot value s u
-  watched own t slot value s u q lent e = let w = e.2 in let γ : ℕ = book_of b in let n : ℕ = places_of b in let xs : Carries = s.me.1 in
+  pub watched : (own : Participant) (t slot : ℕ) (shared : Bool) (value : Gv) (s u : Seat Stake View) → IsPosed b p own s → AreLentTo t s.me.1
+      → MovedAlone (Watches slot shared value) s u → HasSeen t slot value s u
+  watched own t slot shared value s u q lent e = let w = e.2 in let γ : ℕ = book_of b in let n : ℕ = places_of b in let xs : Carries = s.me.1 in
       let known : List Showing = s.me.0.stakes.sees in dite (dec_lt 0 (times slot s.me.0.slots.sees))
       (λ sees. let same = (w.0 sees).0 in record {
         sees = s.me.0.slots.sees;
@@ -271,13 +282,13 @@ module _ (b : Board) (p : ℕ) where
       (λ blind. let o = w.1 blind in let y : Stake = o.0 in let spot : ℕ = stake_at (s.me.0.sizes.participants) slot s.me.0.epoch.place in
       let at : spot ≡ stake_at n slot p = λ d. stake_at ((q.knows.0 d).participants) slot (q.place d) in
       let has = subst (λ (k : ℕ). Has k slot 1 (IsValue value) y) q.knows.1 o.1 in
-      let both = now_seen γ n p t slot spot y known xs q.purse lent at value has in
-      let ys : u.me.1 ≡ (spot, y) ∷ xs = ap (λ (m : Mine). m.1) o.2 in let r : Showing = record { slot = slot; value = value } in record {
+      let both = now_seen γ n p t slot spot y known xs q.purse lent at shared value has in
+      let ys : u.me.1 ≡ (spot, y) ∷ xs = ap (λ (m : Mine). m.1) o.2 in let r : Showing = record { slot = slot; shared = shared; value = value } in record {
         sees = slot ∷ s.me.0.slots.sees;
         records = r ∷ known;
         view = ap (λ (m : Mine). m.0) o.2;
         told = ap (λ (l : List ℕ). slot ∷ l) q.sight.sees;
-        once = once_more slot value known q.sight.once (λ c. blind (subst (λ (l : List ℕ). 0 < times slot l) q.sight.sees c));
+        once = once_more slot shared value known q.sight.once (λ c. blind (subst (λ (l : List ℕ). 0 < times slot l) q.sight.sees c));
         purse = subst (λ (ys : Carries). IsPurse γ n p (r ∷ known) ys) (sym ys) both.0;
         lent = subst (AreLentTo t) (sym ys) both.1;
         there = in_head r known slot value refl refl;

@@ -4,9 +4,10 @@ use base.Stored.{Gv}
 use Rattle.sdd_token.specs.declared.right.Kind.{Kind}
 use Rattle.sdd_token.specs.declared.right.Right.{Right}
 use Rattle.sdd_token.specs.Units as token
+use Rattle.sdd_token.specs.Kind.{is_shared}
 use Rattle.sdd_token.specs.Owner.{witness_of_owner}
 use Rattle.sdd_token.specs.Right.{number_of, home_of, kind_of, witness_of, home_of_table}
-use Rattle.sdd_domain.specs.Local.{Member}
+use Rattle.sdd_domain.specs.Member.{Member}
 
 -- where the slots of its domain are numbered
 abbrev pub slots_home : Member → token.Home
@@ -14,7 +15,7 @@ slots_home m = home_of_table m.home m.limits.slots
 
 -- the owner's item shows this value
 abbrev pub HasValue : Gv → Right → Type 0
-HasValue value right = (witness_of right).views ≡ witness_of_owner (number_of right) value
+HasValue value right = (witness_of right).views ≡ witness_of_owner (number_of right) (is_shared (kind_of right)) value
 
 -- an owner of this kind of an item of its domain, which shows this value
 pub record IsRightTo (m : Member) (k : Kind) (shown : Gv) (right : Right) : Type 0 where

@@ -5,8 +5,13 @@ pub mod Claims
 pub mod Scan
 pub mod Domain
 pub mod Receipt
-pub mod Local
+pub mod Member
+pub mod Homes
 pub mod Items
 pub mod Values
 pub mod Posed
+pub mod Tied
+pub mod Local
+pub mod Sound
 pub mod Space
+pub mod Laws

@@ -1,145 +1,83 @@
--- A participant of a domain as its callers see it, and what each call does to it
-use Rattle.std.specs.Prelude.{◌≡◌, ◌≢◌, ◌⊎◌, ℕ, ◌+◌, ◌^◌, ◌<◌, ◌≤◌, false, List, [], ◌∷◌, ◌++◌, length, slice_index, slice_set}
+-- A participant of a domain as its callers see it, and the world of a lone one: nobody else changes its domain
+use Rattle.std.specs.Prelude.{ℕ, zero, suc, ◌==◌, List, [], ◌∷◌, Option, Some, None, replicate, slice_index_or, option_map, if◌then◌else◌, false}
 use base.Stored.{Gv}
-use Rattle.atomic_table.specs.Seated.{TableId}
-use Rattle.sdd_base.specs.declared.limits.Limits.{Limits}
-use Rattle.sdd_store.specs.declared.time.Participant.{Participant}
-use Rattle.sdd_store.specs.declared.waiting.What.TheVariants.{Item}
-use Rattle.sdd_store.specs.Time.{newcomer, nested, awaiting}
-use Rattle.sdd_base.specs.Guard.{Reader}
-use Rattle.sdd_base.specs.Own.{opened_at, closed_with}
-use Rattle.sdd_store.specs.declared.tally.Tally.{Tally}
-use Rattle.sdd_store.specs.Tally.{no_items, one_made}
-use Rattle.sdd_rule.specs.declared.Sizes.{Sizes}
+use Rattle.sdd_store.specs.Time.{Time, newcomer}
+use Rattle.sdd_store.specs.declared.phases.Phase.TheVariants.{Live}
+use Rattle.sdd_store.specs.declared.standing.Standing.{Standing}
+use Rattle.sdd_store.specs.declared.standing.Standing.TheVariants.{Owned, Shared, Retired}
 use Rattle.sdd_rule.specs.declared.Showing.{Showing}
-use Rattle.sdd_rule.specs.declared.SlotsView.{SlotsView}
-use Rattle.sdd_rule.specs.Codes.{free_word, owned_word, waiting_word}
-use Rattle.sdd_rule.specs.Sums.{times}
-use Rattle.sdd_rule.specs.SlotSteps.{bare, behind, retired_now}
-use Rattle.sdd_homes.specs.Records.{IsIn}
-use Rattle.sdd_domain.specs.Receipt.{with_reclaimed}
-use Rattle.sdd_domain.specs.Waits.{waits_at, due_at, freed}
+use Rattle.sdd_rule.specs.Codes.{free_word, waiting_word}
+use Rattle.sdd_homes.specs.Fillings.{newest}
+use Rattle.sdd_standings.specs.Cells.{null_pointer}
+use Rattle.sdd_base.specs.declared.limits.Limits.{Limits}
+use Rattle.sdd_base.specs.World.{World, IsBlank}
+use Rattle.sdd_domain.specs.Member.{Member, word_of}
+use Rattle.sdd_domain.specs.Tied.{Entries}
+use Rattle.sdd_domain.specs.Homes.{home_in}
 
--- the domain, its limits, the place, whose guards are the participant's, what it keeps of its own, the greatest count that it knows,
--- the global count at its last publish (0 before the first), what it made and reclaimed, how many of each its domain has,
--- what it knows of slots, what those show that its guards see, and the words that it knows if it is lone
-pub record Member : Type 0 where
-  pub home : TableId
-  pub limits : Limits
-  pub place : ℕ
-  pub reader : Reader
-  pub own : Participant
-  pub known : ℕ
-  pub since : ℕ
-  pub tally : Tally
-  pub sizes : Sizes
-  pub slots : SlotsView
-  pub shown : List Showing
-  pub words : List ℕ
+-- its membership, and the ledger of what it moved into slots
+pub record Partaker (T : Type 0) : Type 0 where
+  pub member : Member
+  pub entries : Entries T
 
--- no other participant may be
-abbrev pub IsLone : Member → Type 0
-IsLone m = m.limits.participants ≡ 1
+-- so many things, each by its number
+abbrev pub listing : {A : Type 0} → ℕ → (ℕ → A) → List A
+listing zero f = []
+listing (suc n) f = f 0 ∷ listing n (λ i. f (suc i))
 
--- a guard is open
-abbrev pub IsGuarded : Member → Type 0
-IsGuarded m = 0 < m.own.guards
+-- an item that is out stands as its owner: one of several, or the only one
+abbrev pub owner_standing : Option Showing → Standing
+owner_standing None = Owned
+owner_standing (Some r) = if r.shared then Shared 1 else Owned
 
--- one guard more is within the limit
-abbrev pub CanNest : Member → Type 0
-CanNest m = m.own.guards < m.limits.nesting
+-- how a slot stands by its word, and by what was moved in last
+abbrev pub standing_by : ℕ → Option Showing → Option Standing
+standing_by word filled =
+    if word == free_word 0 then None else (if word == waiting_word 0 then Some Retired else Some (owner_standing filled))
 
--- it has just registered with this domain, as the only reader of a home of its own; where it is lone, the count is 0 then
-pub record IsNew (domain : TableId) (most : Limits) (m : Member) : Type 0 where
-  pub home : m.home ≡ domain
-  pub limits : m.limits ≡ most
-  pub place : m.place < most.participants
-  pub reader : (m.reader.home.size ≡ 1) × (m.reader.number ≡ 0)
-  pub own : m.own ≡ newcomer most.slots
-  pub since : m.since ≡ 0
-  pub lone : IsLone m → m.known ≡ 0
-  pub tally : m.tally ≡ no_items
-  pub sizes : (m.sizes.participants ≡ most.participants) × (m.sizes.slots ≡ most.slots)
-  pub slots : m.slots ≡ bare
-  pub shown : m.shown ≡ []
-  pub words : (i : ℕ) → slice_index m.words i ≡ 0
+abbrev pub value_by : {T : Type 0} → ℕ → Option (T × Gv) → Option T
+value_by word entry = if word == free_word 0 then None else option_map (λ e. e.0) entry
 
--- an outermost opening finds a count, which is at least the greatest that was known; where the participant is lone it is that one.
--- What has seen three changes then is given back
-pub record IsOpened (count : ℕ) (old new : Member) : Type 0 where
-  pub member : new ≡ record old {
-    own = opened_at count [] old.own;
-    known = new.since;
-    since = new.since;
-    tally = with_reclaimed (length (due_at count old.own)) old.tally;
-    slots = new.slots;
-    words = new.words;
-  }
-  pub knew : old.known ≤ count
-  pub knows : count ≤ new.since
-  pub lone : IsLone old → (count ≡ old.known) × (new.since ≡ old.known)
-  pub slots : new.slots ≡ record old.slots { waits = waits_at count old.own old.slots.waits }
-  pub words : new.words ≡ freed old.sizes (due_at count old.own) old.words
+-- the count that it knows, and itself, alone
+abbrev pub time_of : Member → Time
+time_of m = record {
+  count = m.known;
+  marked = false;
+  places = replicate (suc m.place) m.own;
+  phases = replicate (suc m.place) (Some Live);
+  participants = m.limits.participants;
+  nesting = m.limits.nesting;
+  room = m.limits.slots;
+}
 
--- one guard more is open; only an outermost opening looks at the count
-pub record Opens (old new : Member) : Type 0 where
-  pub nested : IsGuarded old → new ≡ record old { own = nested old.own }
-  pub outermost : ¬ (IsGuarded old) → (count : ℕ) × IsOpened count old new
+module _ {T : Type 0} where
+  abbrev pub standing_in : Partaker T → ℕ → Option Standing
+  standing_in p slot = standing_by (word_of p.member slot) (newest slot p.member.filled)
 
--- a guard is closed; without an open one nothing happens. The last close shows nothing any more, and at countdown 0 scans, which may
--- raise the count, to one more than it was at the publish at most; where the participant is lone the scan does, but at the last count
-pub record Closes (old new : Member) : Type 0 where
-  pub member : new ≡ record old { own = closed_with false old.own; known = new.known; slots = new.slots; shown = new.shown }
-  pub unseen : old.own.guards ≡ 1 → (new.slots ≡ record old.slots { sees = [] }) × (new.shown ≡ [])
-  pub seen : old.own.guards ≢ 1 → (new.slots ≡ old.slots) × (new.shown ≡ old.shown)
-  pub knows : old.known ≤ new.known
-  pub near : IsGuarded old → new.known ≤ old.since + 1
-  pub quiet : (old.own.guards ≢ 1) ⊎ (old.own.countdown ≢ 0) → new.known ≡ old.known
-  pub raised : IsLone old → old.own.guards ≡ 1 → old.own.countdown ≡ 0 → old.known + 1 < 2 ^ 64 → new.known ≡ old.known + 1
-  pub last : IsLone old → old.own.guards ≡ 1 → old.own.countdown ≡ 0 → old.known + 1 ≡ 2 ^ 64 → new.known ≡ old.known
+  abbrev pub value_in : Partaker T → ℕ → Option T
+  value_in p slot = value_by (word_of p.member slot) (slice_index_or p.entries slot None)
 
--- a count that is told is at least the greatest that was known, and known from then on;
--- under a guard it is the one at the guard's publish or the next, and the greatest that was known or the next
-pub record IsTold (count : ℕ) (old new : Member) : Type 0 where
-  pub member : new ≡ record old { known = count }
-  pub knew : old.known ≤ count
-  pub guarded : IsGuarded old → (old.since ≤ count) × (count ≤ old.since + 1)
-  pub near : IsGuarded old → (count ≡ old.known) ⊎ (count ≡ old.known + 1)
-  pub lone : IsLone old → count ≡ old.known
-
--- by the words that a lone participant knows the slot is free
-abbrev pub IsFree : Member → ℕ → Type 0
-IsFree m slot = slice_index m.words (behind m.sizes slot) ≡ free_word 0
-
--- a slot that was free has an item, made by it
-pub record MakesAt (slot : ℕ) (old new : Member) : Type 0 where
-  pub inside : slot < old.limits.slots
-  pub member : new ≡ record old { tally = one_made old.tally; words = slice_set old.words (behind old.sizes slot) (owned_word 0) }
-  pub lone : IsLone old → IsFree old slot
-
--- its guards see the slot
-abbrev pub Sees : Member → ℕ → Type 0
-Sees m slot = 0 < times slot m.slots.sees
-
--- its guards see a slot, if they didn't before, which shows this
-pub record LooksAt (slot : ℕ) (value : Gv) (old new : Member) : Type 0 where
-  pub seen : Sees old slot → (new ≡ old) × IsIn old.shown slot value
-  pub unseen : ¬ (Sees old slot) → new ≡ record old {
-    slots = record old.slots { sees = slot ∷ old.slots.sees };
-    shown = record { slot = slot; value = value } ∷ old.shown;
+  -- its domain as a world: all cells and all places of jobs are free
+  abbrev pub world_of : Partaker T → World T
+  world_of p = record {
+    home = home_in p.member;
+    time = time_of p.member;
+    standings = listing p.member.limits.slots (standing_in p);
+    values = listing p.member.limits.slots (value_in p);
+    cells = replicate p.member.limits.cells None;
+    pointers = replicate p.member.limits.cells null_pointer;
+    jobs = replicate p.member.limits.jobs None;
+    tally = p.member.tally;
   }
 
--- no slot is free
-abbrev pub IsUsedUp : Member → Type 0
-IsUsedUp m = (slot : ℕ) → slot < m.limits.slots → ¬ (IsFree m slot)
-
--- the item of a slot waits with it from now on, retired at the count of this moment
-pub record RetiresAt (slot count : ℕ) (old new : Member) : Type 0 where
-  pub member : new ≡ record old {
-    own = awaiting (Item slot) old.own;
-    known = count;
-    slots = record old.slots { waits = old.slots.waits ++ retired_now slot count ∷ [] };
-    words = slice_set old.words (behind old.sizes slot) (waiting_word 0);
-  }
-  pub knew : old.known ≤ count
-  pub lone : IsLone old → count ≡ old.known
+-- a world with these limits, at count 0, in which all is free and one participant has just registered
+abbrev pub IsBlankAlone : {T : Type 0} → Limits → World T → Type 0
+IsBlankAlone l = IsBlank (record {
+  count = 0;
+  marked = false;
+  places = newcomer l.slots ∷ [];
+  phases = Some Live ∷ [];
+  participants = l.participants;
+  nesting = l.nesting;
+  room = l.slots;
+}) l.slots l.cells l.jobs

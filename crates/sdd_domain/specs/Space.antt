@@ -1,30 +1,20 @@
 -- A participant of a domain as the generic calls see it
-use Rattle.std.specs.Prelude.{ℕ, ◌≡◌, ◌==◌, List, [], true, false}
+use Rattle.std.specs.Prelude.{ℕ, ◌≡◌, ◌==◌, Bool, List, [], Some, true, false}
 use base.Stored.{Gv}
-use Rattle.std.proofs.Common.{sym}
-use Rattle.std.proofs.lemmas.Bool.{true≢false}
-use Rattle.sdd_store.specs.Tally.{no_items}
-use Rattle.atomic_table.specs.Seated.{TableId}
 use Rattle.sdd_token.specs.Units as token
-use Rattle.sdd_token.specs.Right.{home_of_table}
-use Rattle.sdd_base.specs.Holding.{Home, Holding, AreOf}
+use Rattle.sdd_token.specs.declared.right.Right.{Right}
+use Rattle.sdd_token.specs.Right.{number_of}
+use Rattle.sdd_base.specs.Holding.{Holding, AreOf}
 use Rattle.sdd_base.specs.Known.{Known}
-use Rattle.sdd_base.specs.Seat.{Seat, IsExact}
-use Rattle.sdd_base.specs.World.{World}
+use Rattle.sdd_base.specs.Seat.{Seat}
+use Rattle.sdd_base.specs.World.{value_at}
 use Rattle.sdd_rule.specs.declared.Showing.{Showing}
 use Rattle.sdd_homes.specs.Records.{IsIn}
-use Rattle.sdd_domain.specs.Local.{Member}
-
--- where nothing is numbered
-abbrev pub nowhere : token.Home
-nowhere = record { name = 0; size = 0; tables = [] }
-
--- the slots of its domain, and no cells; each reader is numbered in a home of its own
-abbrev pub home_at : TableId → ℕ → Home
-home_at table slots = record { slots = home_of_table table slots; cells = nowhere; readers = nowhere }
-
-abbrev pub home_in : Member → Home
-home_in m = home_at m.home m.limits.slots
+use Rattle.sdd_domain.specs.Member.{Member}
+use Rattle.sdd_domain.specs.Homes.{Home, home_in}
+use Rattle.sdd_domain.specs.Items.{HasValue}
+use Rattle.sdd_domain.specs.Items as items
+use Rattle.sdd_domain.specs.Local.{Partaker, world_of}
 
 -- by these records the slot shows this value and no other; and what the value holds is of this home
 pub record IsShown {T : Type 0} (shown : T → Gv) (holds : T → List Holding) (at : Home) (records : List Showing) (slot : ℕ) (value : T) : Type 0 where
@@ -33,39 +23,47 @@ pub record IsShown {T : Type 0} (shown : T → Gv) (holds : T → List Holding) 
   pub home : AreOf at (holds value)
 
 -- one of its guards sees the slot, which shows this value
-abbrev pub Shows : {T : Type 0} → (T → Gv) → (T → List Holding) → Member → ℕ → T → Type 0
-Shows shown holds m = IsShown shown holds (home_in m) m.shown
+abbrev pub Sees : {T : Type 0} → (T → Gv) → (T → List Holding) → Member → ℕ → T → Type 0
+Sees shown holds m = IsShown shown holds (home_in m) m.shown
 
-abbrev pub seat_of : Member → Seat
-seat_of m = record {
-  place = m.place;
-  places = m.limits.participants;
-  lives = [];
-  live = true;
-  loan = 0;
-  home = home_in m;
-  reader = m.reader;
-  nesting = m.limits.nesting;
-  exact = false;
-  lone = m.limits.participants == 1;
-}
+-- no other participant may be
+abbrev pub is_lone : Member → Bool
+is_lone m = m.limits.participants == 1
 
-abbrev pub known_of : Member → Known
-known_of m = record { told = m.known; since = m.since }
+module _ {T : Type 0} where
+  -- what a slot shows: to a lone participant the value that is in it, and else what one of its guards sees there
+  abbrev pub ShowsBy : Bool → (T → Gv) → (T → List Holding) → Partaker T → ℕ → T → Type 0
+  ShowsBy true shown holds p slot value = value_at (world_of p) slot ≡ Some value
+  ShowsBy false shown holds p slot value = Sees shown holds p.member slot value
 
--- nothing is said of the world of a participant that isn't lone
-abbrev pub no_world : {T : Type 0} → World T
-no_world = record {
-  home = record { slots = nowhere; cells = nowhere; readers = nowhere };
-  time = record { count = 0; marked = false; places = []; phases = []; participants = 0; nesting = 0; room = 0 };
-  standings = [];
-  values = [];
-  cells = [];
-  pointers = [];
-  jobs = [];
-  tally = no_items;
-}
+  abbrev pub Shows : (T → Gv) → (T → List Holding) → Partaker T → ℕ → T → Type 0
+  Shows shown holds p = ShowsBy (is_lone p.member) shown holds p
 
--- no participant of a domain is an exact space
-pub never_exact : (m : Member) → IsExact (seat_of m) → ⊥
-never_exact m e = true≢false (sym e)
+  -- the value of an owner's item: to a lone participant the one in its slot, and else the one that the owner's token tells
+  abbrev pub OwnsBy : Bool → (T → Gv) → Partaker T → Right → T → Type 0
+  OwnsBy true shown p right value = value_at (world_of p) (number_of right) ≡ Some value
+  OwnsBy false shown p right value = HasValue (shown value) right
+
+  abbrev pub Owns : (T → Gv) → Partaker T → Right → T → Type 0
+  Owns shown p = OwnsBy (is_lone p.member) shown p
+
+  abbrev pub seat_of : Partaker T → Seat
+  seat_of p = record {
+    place = p.member.place;
+    places = p.member.limits.participants;
+    lives = [];
+    live = true;
+    loan = 0;
+    home = home_in p.member;
+    reader = p.member.reader;
+    nesting = p.member.limits.nesting;
+    exact = is_lone p.member;
+    lone = is_lone p.member;
+  }
+
+  abbrev pub known_of : Partaker T → Known
+  known_of p = record { told = p.member.known; since = p.member.since }
+
+  -- where the slots of its domain are numbered
+  abbrev pub slots_home : Partaker T → token.Home
+  slots_home p = items.slots_home p.member

@@ -1,12 +1,14 @@
--- An owner's item has one value.
-use Rattle.std.specs.Prelude.{◌≡◌}
+-- Values of a domain's items: what an owner shows is one value, and what was moved into a slot last
+use Rattle.std.specs.Prelude.{◌≡◌, ℕ, Bool, ◌∷◌}
 use Rattle.std.proofs.Common.{sym, ap, ◌∙◌}
 use base.Stored.{Gv, gnil, gnum, gcons}
 use denote.RattleType.{RattleType}
+use Rattle.sdd_rule.specs.declared.View.{View}
 use Rattle.sdd_stakes.specs.Shelf.{showing}
 use Rattle.sdd_token.specs.declared.right.Right.{Right}
 use Rattle.sdd_token.specs.Owner.{one-shown}
-use Rattle.sdd_token.specs.Right.{number_of}
+use Rattle.sdd_token.specs.Kind.{is_shared}
+use Rattle.sdd_token.specs.Right.{number_of, kind_of}
 use Rattle.sdd_domain.specs.Items.{HasValue}
 
 abbrev rest_of : Gv → Gv
@@ -19,4 +21,9 @@ pub one_showing : (R : RattleType) (u v : R.Denot) → showing R u ≡ showing R
 one_showing R u v e = R.coded.inj u v (ap rest_of e)
 
 pub one_value : (R : RattleType) (right : Right) (u v : R.Denot) → HasValue (showing R u) right → HasValue (showing R v) right → u ≡ v
-one_value R right u v a b = one_showing R u v (one-shown (number_of right) (showing R u) (showing R v) (sym a ∙ b))
+one_value R right u v a b = one_showing R u v (one-shown (number_of right) (is_shared (kind_of right)) (showing R u) (showing R v) (sym a ∙ b))
+
+-- it moved this into a slot last, for an owner that may be one of several
+abbrev pub with_filled : ℕ → Bool → Gv → View → View
+with_filled slot shared value v =
+    record v { stakes = record v.stakes { filled = record { slot = slot; shared = shared; value = value } ∷ v.stakes.filled } }

@@ -7,6 +7,7 @@ mod closing;
 pub mod domain;
 mod known;
 pub mod local;
+mod membership;
 pub mod receipt;
 mod scan;
 mod shut;

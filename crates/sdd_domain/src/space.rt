@@ -8,28 +8,29 @@ use sdd_base::{Caller, Guard, Guards, Item, Items, LookThrough, Plain, Ptr, Show
 use sdd_core::Refused;
 use sdd_token::{Kind, Right};
 
-impl<T: Item<T> + Drop> Shows<T> for Local<'_, T> {
-    ghost use Rattle.sdd_domain.specs.Items.{HasValue};
-    ghost use Rattle.sdd_domain.specs.Space.{home_in, Shows};
-    ghost use Rattle.sdd_domain.specs.Values.{one_value};
+impl<T: Plain<T> + Drop> Shows<T> for Local<'_, T> {
+    ghost use Rattle.sdd_domain.specs.Homes.{home_in};
+    ghost use Rattle.sdd_domain.specs.Space.{Shows, Owns, is_lone};
+    ghost use Rattle.sdd_domain.specs.Laws.{one_owned, keeps_owned};
 
-    ghost home = { λ l. home_in l };
+    ghost home = { λ p. home_in p.member };
 
-    ghost shows = { λ l slot value. Shows (showing T.row) T.holds l slot value };
+    ghost shows = { λ p slot value. Shows (showing T.row) T.holds p slot value };
 
-    ghost owns_value = { λ _ right value. HasValue (showing T.row value) right };
+    ghost owns_value = { λ p right value. Owns (showing T.row) p right value };
 
     fn shown_is_of_home(&self) {}
 
-    ghost one_owned = { λ _ right u v a b. one_value T.row right u v a b };
+    ghost one_owned = { λ p right u v a b. one_owned T.row p right u v (is_lone p.member) a b };
 
-    ghost keeps_owned = { λ _ _ _ _ _ owns. owns };
+    ghost keeps_owned = { λ p q home kept right v owns. keeps_owned (showing T.row) T.holds p q home kept right v owns };
 }
 
-impl<T: Item<T> + Drop> LookThrough<T> for Local<'_, T> {
+impl<T: Plain<T> + Drop> LookThrough<T> for Local<'_, T> {
     ghost use Rattle.std.specs.Prelude.{◌≡◌, option_copied};
     ghost use Rattle.sdd_base.specs.Ptr.{shown_by};
-    ghost use Rattle.sdd_domain.specs.Values.{one_showing};
+    ghost use Rattle.sdd_domain.specs.Space.{is_lone};
+    ghost use Rattle.sdd_domain.specs.Laws.{one_shown};
 
     #[inline]
     fn look<'g>(&self, ptr: Ptr<'g, T>) -> Option<&'g T>
@@ -38,16 +39,16 @@ impl<T: Item<T> + Drop> LookThrough<T> for Local<'_, T> {
         value_of_ptr(ptr)
     }
 
-    ghost one_value = { λ _ _ u v a b. one_showing T.row u v (b.only (showing T.row u) a.known) };
+    ghost one_value = { λ p slot u v a b. one_shown T.row p T.holds slot u v (is_lone p.member) a b };
 }
 
 impl<T: Item<T> + Drop> Shows<T> for Domain<T> {
     ghost use Rattle.sdd_domain.specs.Domain.{home_of, limits_of};
     ghost use Rattle.sdd_domain.specs.Items.{HasValue};
-    ghost use Rattle.sdd_domain.specs.Space.{home_at};
+    ghost use Rattle.sdd_domain.specs.Homes.{home_at};
     ghost use Rattle.sdd_domain.specs.Values.{one_value};
 
-    ghost home = { λ d. home_at (home_of d) (limits_of d).slots };
+    ghost home = { λ d. home_at (home_of d) (limits_of d) };
 
     ghost shows = { λ _ _ _. ⊥ };
 
@@ -57,7 +58,7 @@ impl<T: Item<T> + Drop> Shows<T> for Domain<T> {
 
     ghost one_owned = { λ _ right u v a b. one_value T.row right u v a b };
 
-    ghost keeps_owned = { λ _ _ _ _ _ owns. owns };
+    ghost keeps_owned = { λ _ _ _ _ _ _ owns. owns };
 }
 
 /// A pointer that was loaded under a guard of a participant, where that participant isn't at hand.
@@ -75,85 +76,89 @@ impl<T: Item<T> + Drop> LookThrough<T> for Domain<T> {
     ghost one_value = { λ _ _ _ _ none. absurd none };
 }
 
-impl<T: Item<T> + Drop> Caller<T> for Local<'_, T> {
+impl<T: Plain<T> + Drop> Caller<T> for Local<'_, T> {
     ghost use Rattle.std.specs.Prelude.{refl};
-    ghost use Rattle.sdd_domain.specs.Space.{seat_of, known_of, no_world, never_exact};
+    ghost use Rattle.sdd_domain.specs.Local.{world_of};
+    ghost use Rattle.sdd_domain.specs.Space.{seat_of, known_of, is_lone};
+    ghost use Rattle.sdd_domain.specs.Laws.{own_is_place, shows_is_value};
 
-    ghost seat = { λ l. seat_of l };
+    ghost seat = { λ p. seat_of p };
 
-    ghost own = { λ l. l.own };
+    ghost own = { λ p. p.member.own };
 
-    ghost known = { λ l. known_of l };
+    ghost known = { λ p. known_of p };
 
-    ghost world = { λ _. no_world };
+    ghost world = { λ p. world_of p };
 
     ghost home_is_seat = { λ _. refl };
 
-    ghost own_is_place = { λ l exact. absurd (never_exact l exact) };
+    ghost own_is_place = { λ p _. own_is_place p };
 
-    ghost shows_is_value = { λ l exact _ _. absurd (never_exact l exact) };
+    ghost shows_is_value = { λ p exact slot value. shows_is_value (showing T.row) T.holds p (is_lone p.member) exact slot value };
 }
 
-impl<T: Item<T> + Drop> Guards<T> for Local<'_, T> {
+impl<T: Plain<T> + Drop> Guards<T> for Local<'_, T> {
     #[inline]
     fn open_guard(&mut self) -> Result<Guard, Refused> {
-        Local::open_guard(self)
+        self.membership.open_guard()
     }
 
     #[inline]
     fn close_guard(&mut self, guard: Guard) {
-        Local::close_guard(self, guard);
+        self.membership.close_guard(guard);
     }
 
     #[inline]
     fn count(&mut self) -> u64 {
-        Local::count(self)
+        self.membership.count()
     }
 
     #[inline]
     fn has_garbage(&self) -> bool {
-        Local::has_garbage(self)
+        self.membership.has_garbage()
     }
 
     #[inline]
     fn stir(&mut self) {
-        Local::stir(self);
+        self.membership.stir();
     }
 
     #[inline]
     fn accelerate(&mut self) {
-        Local::accelerate(self);
+        self.membership.accelerate();
     }
 }
 
 /// Values that hold owners or cells aren't taken yet: a participant drops what it reclaims.
 impl<T: Plain<T> + Drop> Items<T> for Local<'_, T> {
-    ghost use Rattle.sdd_domain.specs.Local.{IsUsedUp};
-    ghost use Rattle.sdd_domain.specs.Space.{never_exact};
+    ghost use Rattle.sdd_store.specs.Table.{IsFull};
+    ghost use Rattle.sdd_domain.specs.Local.{world_of};
+    ghost use Rattle.sdd_domain.specs.Laws.{owned_is_shown};
 
-    ghost is_used_up = { λ l. IsUsedUp l };
+    ghost is_used_up = { λ p. IsFull (world_of p).standings };
 
-    ghost used_up_is_full = { λ l exact. absurd (never_exact l exact) };
+    ghost used_up_is_full = { λ _ _. (λ full. full, λ full. full) };
 
-    ghost owned_is_shown = { λ l exact _ _. absurd (never_exact l exact) };
+    ghost owned_is_shown = { λ p exact right value. owned_is_shown (showing T.row) T.holds p exact right value };
 
     #[inline]
     fn make(&mut self, value: T, kind: Kind) -> Result<Right, (T, Refused)> {
-        Local::make(self, value, kind)
+        self.membership.make(value, kind, &mut self.ledger)
     }
 
     fn make_with<F: FnOnce() -> T>(&mut self, make: F, kind: Kind) -> Result<Right, (F, Refused)> {
-        Local::make_with(self, make, kind)
+        self.membership.make_with(make, kind, &mut self.ledger)
     }
 
     #[inline]
     fn guarded<'g>(&mut self, right: &Right, guard: &'g Guard) -> &'g T {
-        Local::guarded(self, right, guard)
+        self.ledger.codes();
+        self.membership.guarded(right, guard)
     }
 
     #[inline]
     fn let_go(&mut self, right: Right, _kind: Kind) -> bool {
-        Local::let_go(self, right);
+        self.membership.let_go(right);
         true
     }
 }

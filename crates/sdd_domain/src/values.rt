@@ -11,6 +11,7 @@ ghost use Rattle.sdd_domain.specs.Shelf.{IsShelfOf};
 ghost use Rattle.sdd_domain.specs.Waits.{GivesOneBack};
 ghost use Rattle.sdd_token.specs.Owner.{witness_of_owner};
 ghost use Rattle.sdd_board.specs.Owner.{disowned};
+ghost use Rattle.sdd_domain.specs.Values.{with_filled};
 ghost use Rattle.sdd_board.specs.Token.{view, epoch, slots, Knows, Taught};
 
 use sdd_board::steps::slots::{cut, give_back, house, take_out};
@@ -18,13 +19,15 @@ use sdd_board::{Board, Token};
 use sdd_stakes::Shelf;
 use sdd_witness::Witness;
 
-/// Moves a value into the place of a slot that was claimed, whose owner is a token of its own then, which shows the value.
+/// Moves a value into the place of a slot that was claimed, whose owner is a token of its own then, which shows the value. The owner may be one of
+/// several.
 #[inline]
 pub fn put_value<T>(
     board: &Board,
     shelf: &Shelf<T>,
     token: &mut Token,
     slot: u32,
+    shared: bool,
     value: T,
 ) -> Witness
     requires home { token.old.table_id ≡ id_of board.now }
@@ -36,13 +39,13 @@ pub fn put_value<T>(
     requires free { (slots token.old).holds ≡ None }
     requires row { (rest : Carries) × HasAll (book_of board.now) slot (places_of board.now) IsVacant rest token.old.me.1 }
     ensures home { (token.new.table_id ≡ token.old.table_id) × (token.new.id ≡ token.old.id) }
-    ensures view { view token.new ≡ disowned (resting (view token.old)) }
+    ensures view { view token.new ≡ disowned (resting (with_filled slot shared (showing T.row value) (view token.old))) }
     ensures given { token.new.me.1 ≡ drop (suc (places_of board.now)) token.old.me.1 }
-    ensures owner { (result.table_id ≡ id_of board.now) × (result.views ≡ witness_of_owner slot (showing T.row value)) }
+    ensures owner { (result.table_id ≡ id_of board.now) × (result.views ≡ witness_of_owner slot shared (showing T.row value)) }
 {
     let count = board.places() + 1;
     shelf.put(slot as usize, token, &board.table.shared, count, value);
-    house(board, token);
+    house(board, token, shared);
     cut(board, token)
 }
 

@@ -1,8 +1,7 @@
 //! Domains: participants in several threads, the places that they take, and what their guards show.
 ghost use Rattle.std.specs.Prelude.{◌≡◌};
 ghost use Rattle.sdd_base.specs.Seat.{IsSeated};
-ghost use Rattle.sdd_domain.specs.Items.{slots_home};
-ghost use Rattle.sdd_domain.specs.Space.{seat_of};
+ghost use Rattle.sdd_domain.specs.Space.{seat_of, slots_home};
 ghost use Rattle.sdd_domain_rows.specs.Slots.{slots_in, IsReceiptIn, AreReceiptsIn};
 
 use crate::steps::{close, closed, ended, is_tally, new_domain, opened, registered};

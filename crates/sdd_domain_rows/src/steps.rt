@@ -3,12 +3,11 @@ ghost use Rattle.std.specs.Prelude.{◌≡◌, IfErr, IfOk};
 ghost use Rattle.sdd_base.specs.Seat.{IsSeated};
 ghost use Rattle.sdd_base.specs.Guard.{reader_of};
 ghost use Rattle.sdd_base.specs.Owned as owned;
-ghost use Rattle.sdd_domain.specs.Items.{slots_home};
-ghost use Rattle.sdd_domain.specs.Space.{seat_of};
+ghost use Rattle.sdd_domain.specs.Space.{seat_of, slots_home};
 ghost use Rattle.sdd_domain.specs.Receipt.{AddsUp};
 ghost use Rattle.sdd_domain_rows.specs.Slots.{slots_in, IsReceiptIn, AreReceiptsIn, AreOfAll};
 
-use sdd_base::{Guard, Item, Limits, Owned};
+use sdd_base::{Guard, Limits, Owned, Plain};
 use sdd_core::Refused;
 use sdd_domain::{Domain, Local, Receipt};
 use sdd_store::Tally;
@@ -98,26 +97,26 @@ pub fn is_tally(rt: &impl Abort, tally: Tally, made: u128, reclaimed: u128) {
     assert_eq!(rt; tally.in_place, 0);
 }
 
-pub fn opened<T: Item<T> + Drop>(rt: &impl Abort, local: &mut Local<'_, T>) -> Guard
+pub fn opened<T: Plain<T> + Drop>(rt: &impl Abort, local: &mut Local<'_, T>) -> Guard
     requires { IsSeated (seat_of local.old) }
     ensures seat { seat_of local.new ≡ seat_of local.old }
-    ensures reader { reader_of result ≡ local.old.reader }
+    ensures reader { reader_of result ≡ (seat_of local.old).reader }
 {
     Guard::new::<T, Local<'_, T>>(local).expect(rt, "a guard may be opened")
 }
 
-pub fn close<T: Item<T> + Drop>(guard: Guard, local: &mut Local<'_, T>)
+pub fn close<T: Plain<T> + Drop>(guard: Guard, local: &mut Local<'_, T>)
     requires seated { IsSeated (seat_of local.old) }
-    requires reader { reader_of guard ≡ local.old.reader }
+    requires reader { reader_of guard ≡ (seat_of local.old).reader }
     ensures { seat_of local.new ≡ seat_of local.old }
 {
     guard.close::<T, Local<'_, T>>(local);
 }
 
 /// Closes a guard that scans then, if it is the last one.
-pub fn close_and_scan<T: Item<T> + Drop>(guard: Guard, local: &mut Local<'_, T>)
+pub fn close_and_scan<T: Plain<T> + Drop>(guard: Guard, local: &mut Local<'_, T>)
     requires seated { IsSeated (seat_of local.old) }
-    requires reader { reader_of guard ≡ local.old.reader }
+    requires reader { reader_of guard ≡ (seat_of local.old).reader }
     ensures { seat_of local.new ≡ seat_of local.old }
 {
     guard.accelerate::<T, Local<'_, T>>(local);
@@ -125,7 +124,7 @@ pub fn close_and_scan<T: Item<T> + Drop>(guard: Guard, local: &mut Local<'_, T>)
 }
 
 /// Opens an accelerated guard, and closes it.
-pub fn turn<T: Item<T> + Drop>(rt: &impl Abort, local: &mut Local<'_, T>)
+pub fn turn<T: Plain<T> + Drop>(rt: &impl Abort, local: &mut Local<'_, T>)
     requires { IsSeated (seat_of local.old) }
     ensures { seat_of local.new ≡ seat_of local.old }
 {
@@ -133,7 +132,7 @@ pub fn turn<T: Item<T> + Drop>(rt: &impl Abort, local: &mut Local<'_, T>)
     close_and_scan(guard, local);
 }
 
-pub fn turns<T: Item<T> + Drop>(rt: &impl Abort, local: &mut Local<'_, T>, times: u32)
+pub fn turns<T: Plain<T> + Drop>(rt: &impl Abort, local: &mut Local<'_, T>, times: u32)
     requires { IsSeated (seat_of local.old) }
     ensures { seat_of local.new ≡ seat_of local.old }
 {
@@ -186,7 +185,7 @@ pub fn shows<'g>(
     value: u64,
 ) -> &'g u64
     requires seated { IsSeated (seat_of local.old) }
-    requires reader { reader_of guard.now ≡ local.old.reader }
+    requires reader { reader_of guard.now ≡ (seat_of local.old).reader }
     requires home { owned.slots_home owner.now ≡ slots_home local.old }
     ensures { seat_of local.new ≡ seat_of local.old }
 {

@@ -2,8 +2,7 @@
 ghost use Rattle.std.specs.Prelude.{◌≡◌};
 ghost use Rattle.sdd_base.specs.Seat.{IsSeated};
 ghost use Rattle.sdd_base.specs.Owned as owned;
-ghost use Rattle.sdd_domain.specs.Items.{slots_home};
-ghost use Rattle.sdd_domain.specs.Space.{seat_of};
+ghost use Rattle.sdd_domain.specs.Space.{seat_of, slots_home};
 ghost use Rattle.sdd_domain_rows.specs.Slots.{slots_in, IsReceiptIn};
 
 use crate::steps::{

@@ -4,6 +4,7 @@ pub mod Tops
 pub mod Counts
 pub mod Part
 pub mod Records
+pub mod Fillings
 pub mod Telling
 pub mod Lift
 pub mod Steps

@@ -1,4 +1,4 @@
--- A step that keeps the words' parts, the homes' part, what is known of what slots show and the counts is a step of the table.
+-- A step that keeps the words' parts, the homes' part, what is known of what slots show and of owners, and the counts is a step of the table.
 use Rattle.std.proofs.Common.{◌≡◌, ◌⊎◌, inl, inr, ℕ, ◌<◌, map, get_or, set, sym, refl, ap, ◌∙◌, subst, ⊎_elim, arith, length-set, eq-eqb, ne_eqb}
 use Rattle.std.specs.Prelude.{None}
 use mathlib.Core.Bool.{cond}
@@ -30,6 +30,7 @@ use Rattle.sdd_rule.proofs.Ended.{Spares, one_spared, all_spared}
 use Rattle.sdd_homes.specs.Homes.{Homes, Moves, IsOut, HomesPart}
 use Rattle.sdd_homes.specs.Records.{RecordsPart}
 use Rattle.sdd_homes.specs.Counts.{CountsPart}
+use Rattle.sdd_homes.specs.Fillings.{FilledPart}
 use Rattle.sdd_homes.specs.Housed.{Housed}
 use Rattle.sdd_homes.specs.HomeSteps.{Mine, leaving}
 use Rattle.sdd_homes.proofs.Part.{IsMover, before_slots}
@@ -37,6 +38,7 @@ use Rattle.sdd_homes.proofs.Part as part
 use Rattle.sdd_homes.proofs.Counts.{ended_spared, ended_more, as_full, counted, uncounted, uncounted_alone}
 use Rattle.sdd_homes.proofs.Records.{IsAlike}
 use Rattle.sdd_homes.proofs.Records as records
+use Rattle.sdd_homes.proofs.Fillings.{NoneTold, filled_same, filled_alike}
 use Rattle.sdd_homes.proofs.Telling.{none_moved}
 
 -- what a step on the word i makes of the state, where y is in it then: what its participant knows of stakes, and what it takes or gives
@@ -47,6 +49,7 @@ pub record Follows (γ : ℕ) (sizes : Sizes) (id i : ℕ) (me : Mine) (told : �
   pub homes : HomesPart γ sizes (set s.words i y) (set s.views id (record w { stakes = stakes })) (homes_after s.homes me.1 act)
   pub records : RecordsPart sizes (set s.views id (record w { stakes = stakes })) (homes_after s.homes me.1 act)
   pub counts : CountsPart sizes (set s.words i y) (set s.views id (record w { stakes = stakes }))
+  pub filled : FilledPart sizes (set s.views id (record w { stakes = stakes }))
   pub tells : told (get_or s.words i 0) (record w { stakes = stakes }, carried_after me.1 act)
 
 module _ (γ : ℕ) (sizes : Sizes) (slots id : ℕ) (me : Mine) (i : ℕ) (f : ℕ → ℕ) where
@@ -81,11 +84,12 @@ module _ (γ : ℕ) (sizes : Sizes) (slots id : ℕ) (me : Mine) (i : ℕ) (f : 
           homes = b.homes;
           records = b.records;
           counts = b.counts;
+          filled = b.filled;
         },
         b.tells,
       )
 
-  -- a step that takes and gives none, and has a place still if it had one
+  -- a step that takes and gives none, and has a place still if it had one; and had one if it has one, or there is no owner yet
   pub record IsCalm (s : State Stake View) (y : ℕ) (w : View) : Type 0 where
     pub more : (j p : ℕ) → IsOut me.0 j p → IsOut w j p
     pub same : (j : ℕ) → j < sizes.slots → full (slot_at sizes (set s.words i y) j) ≡ full (slot_at sizes s.words j)
@@ -93,6 +97,7 @@ module _ (γ : ℕ) (sizes : Sizes) (slots id : ℕ) (me : Mine) (i : ℕ) (f : 
     pub alike : IsAlike me.0 w
     pub counts : w.stakes.counts ≡ me.0.stakes.counts
     pub lives : HasPlace me.0.epoch → HasPlace w.epoch
+    pub had : sizes.participants ≡ 1 → HasPlace w.epoch → HasPlace me.0.epoch ⊎ NoneTold s.views
 
   pub lift_calm : (then : ℕ → View → Type 0) (told : ℕ → Mine → Type 0) → Keeps then → Steps (Parts sizes) id me.0 i f then
       → ((r : ℕ) (w : View) → then r w → told r (w, me.1))
@@ -107,6 +112,7 @@ module _ (γ : ℕ) (sizes : Sizes) (slots id : ℕ) (me : Mine) (i : ℕ) (f : 
         records = records.calm sizes s.views s.homes h.records id me.0 at w c.alike;
         counts = uncounted sizes s.words s.views h.counts id me.0 at (set s.words i y) w c.counts c.lives
             (as_full sizes s.words (set s.words i y) c.same) (ended_spared sizes s.words i y (ends s w h at t).0 sizes.participants (omega arith));
+        filled = filled_alike sizes s.views h.filled id me.0 at w c.alike c.had;
         tells = tells (get_or s.words i 0) w t;
       })
 
@@ -114,10 +120,12 @@ module _ (γ : ℕ) (sizes : Sizes) (slots id : ℕ) (me : Mine) (i : ℕ) (f : 
   pub lift_epoch : (R : EpochView → ℕ → EpochView → Type 0) (told : ℕ → Mine → Type 0) → i < first_slot sizes
       → ((r : ℕ) (e : EpochView) → R me.0.epoch r e → IsOpen me.0.epoch → e.place ≡ me.0.epoch.place)
       → ((r : ℕ) (e : EpochView) → R me.0.epoch r e → HasPlace me.0.epoch → HasPlace e)
+      → ((s : State Stake View) → Housed γ sizes s → (e : EpochView) → R me.0.epoch (get_or s.words i 0) e → sizes.participants ≡ 1 → HasPlace e
+      → HasPlace me.0.epoch ⊎ NoneTold s.views)
       → ((s : State Stake View) → Housed γ sizes s → get_elem? s.views id ≡ some me.0 → Spares sizes s.words i (f (get_or s.words i 0)))
       → Steps (Parts sizes) id me.0 i f (OnEpoch R me.0)
       → ((r : ℕ) (w : View) → OnEpoch R me.0 r w → told r (w, me.1)) → Allows (Housed γ sizes) slots id me i f told
-  lift_epoch R told low stays lives spares step tells = lift_calm (OnEpoch R me.0) told
+  lift_epoch R told low stays lives had spares step tells = lift_calm (OnEpoch R me.0) told
       (keeps_ended (OnEpoch R me.0) (λ r w t. ap (λ (u : View). u.places) t.1) spares) step tells (λ s w h at t.
       let y : ℕ = f (get_or s.words i 0) in let e : EpochView = t.0 in let own = h.kept.parts.slots.each id me.0 at in
       subst (IsCalm s y) (sym t.1) record {
@@ -128,6 +136,7 @@ module _ (γ : ℕ) (sizes : Sizes) (slots id : ℕ) (me : Mine) (i : ℕ) (f : 
         alike = (refl, refl, refl);
         counts = refl;
         lives = lives (get_or s.words i 0) e t.2;
+        had = had s h e t.2;
       })
 
 -- a publish may make each item that waits a change older, and leaves all else of slots
@@ -138,12 +147,12 @@ changed_or_not v P same aged = let older_slots : SlotsView = record v.slots { wa
 
 module _ (γ : ℕ) (sizes : Sizes) (slots : ℕ) where
   -- a publish
-  pub lift_publish : (id : ℕ) (me : Mine) (i y : ℕ) (told : ℕ → Mine → Type 0) → i < first_slot sizes
+  pub lift_publish : (id : ℕ) (me : Mine) (i y : ℕ) (told : ℕ → Mine → Type 0) → i < first_slot sizes → HasPlace me.0.epoch
       → Steps (Parts sizes) id me.0 i (λ _. y) (λ _. PublishesAll me.0 y)
       → ((e : EpochView) → Publishes me.0.epoch y e → HasPlace e × (e.place ≡ me.0.epoch.place))
       → ((s : State Stake View) → Housed γ sizes s → get_elem? s.views id ≡ some me.0 → Spares sizes s.words i y)
       → ((w : View) → PublishesAll me.0 y w → told y (w, me.1)) → Allows (Housed γ sizes) slots id me i (λ _. y) (λ _. told y)
-  lift_publish id me i y told low step stays spares tells = lift_calm γ sizes slots id me i (λ _. y) (λ _. PublishesAll me.0 y) (λ _. told y)
+  lift_publish id me i y told low live step stays spares tells = lift_calm γ sizes slots id me i (λ _. y) (λ _. PublishesAll me.0 y) (λ _. told y)
       (keeps_ended γ sizes slots id me i (λ _. y) (λ _. PublishesAll me.0 y) (λ r w t. ap (λ (u : View). u.places) t.1) spares) step (λ _ w t. tells w t)
       (λ s w h at t. let v : View = me.0 in let e : EpochView = t.0 in
       let calm : SlotsView → Type 0 = λ x. IsCalm γ sizes slots id me i (λ _. y) s y (record v { epoch = e; slots = x }) in
@@ -153,7 +162,7 @@ module _ (γ : ℕ) (sizes : Sizes) (slots : ℕ) where
       let movers : (j : ℕ) → Moves v j → HasPlace e × (OwnsAlone v j ⊎ (0 < items_at j v))
       = λ j m. ((stays e t.2).0, (h.homes.moving id v j at m).1) in
       subst (IsCalm γ sizes slots id me i (λ _. y) s y) (sym t.1) (changed_or_not v calm
-      record { more = more; same = same; mover = movers; alike = (refl, refl, refl); counts = refl; lives = λ _. (stays e t.2).0 }
+      record { more = more; same = same; mover = movers; alike = (refl, refl, refl); counts = refl; lives = λ _. (stays e t.2).0; had = λ _ _. inl live }
       record {
         more = more;
         same = same;
@@ -165,6 +174,7 @@ module _ (γ : ℕ) (sizes : Sizes) (slots : ℕ) where
         alike = (refl, refl, refl);
         counts = refl;
         lives = λ _. (stays e t.2).0;
+        had = λ _ _. inl live;
       }))
 
   -- the end of a place, which is counted
@@ -190,6 +200,7 @@ module _ (γ : ℕ) (sizes : Sizes) (slots : ℕ) where
             (let f = as_full sizes s.words (set s.words i 3) same in omega arith)
             (let more = ended_more s.words v.epoch.place (omega arith) (λ e. omega arith) sizes.participants inside in omega arith)
             (λ _ none. absurd (omega arith));
+        filled = filled_same sizes s.views h.filled id v at now refl refl (λ z. absurd (omega arith));
         tells = tells;
       })
 
@@ -197,8 +208,9 @@ module _ (γ : ℕ) (sizes : Sizes) (slots : ℕ) where
 module _ (γ : ℕ) (sizes : Sizes) (id : ℕ) (v : View) (s : State Stake View) (h : Housed γ sizes s) (at : get_elem? s.views id ≡ some v) where
   pub stands : (w : View) → w.places ≡ v.places → Parts sizes s.words (set s.views id w) → (hs : Homes)
       → HomesPart γ sizes s.words (set s.views id w) hs → RecordsPart sizes (set s.views id w) hs → CountsPart sizes s.words (set s.views id w)
+      → FilledPart sizes (set s.views id w)
       → Housed γ sizes record { words = s.words; homes = hs; views = set s.views id w }
-  stands w same parts hs homes records counts = record {
+  stands w same parts hs homes records counts filled = record {
     kept = record {
       parts = parts;
       places = record {
@@ -210,12 +222,13 @@ module _ (γ : ℕ) (sizes : Sizes) (id : ℕ) (v : View) (s : State Stake View)
     homes = homes;
     records = records;
     counts = counts;
+    filled = filled;
   }
 
   -- which changes only what is known of stakes, but for what was made
   pub stands_by : (t : StakesView) → t.counts ≡ v.stakes.counts → (hs : Homes) → HomesPart γ sizes s.words (set s.views id (record v { stakes = t })) hs
-      → RecordsPart sizes (set s.views id (record v { stakes = t })) hs
+      → RecordsPart sizes (set s.views id (record v { stakes = t })) hs → FilledPart sizes (set s.views id (record v { stakes = t }))
       → Housed γ sizes record { words = s.words; homes = hs; views = set s.views id (record v { stakes = t }) }
-  stands_by t same hs homes records = stands (record v { stakes = t }) refl
+  stands_by t same hs homes records filled = stands (record v { stakes = t }) refl
       (blind sizes s.words s.views id v v at (subst (Parts sizes s.words) (sym (set_again s.views id v at)) h.kept.parts) t) hs homes records
-      (uncounted_alone sizes s.words s.views h.counts id v at (record v { stakes = t }) same refl)
+      (uncounted_alone sizes s.words s.views h.counts id v at (record v { stakes = t }) same refl) filled

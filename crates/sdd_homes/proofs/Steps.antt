@@ -1,5 +1,5 @@
 -- The steps that take stakes from home or give them, and the other steps on slots
-use Rattle.std.proofs.Common.{◌≡◌, ◌≢◌, ◌⊎◌, inl, inr, ℕ, suc, ◌<◌, ◌≤◌, eqb, List, [], ◌∷◌, length, get_or, set, sym, refl, ap, ◌∙◌, subst, ⊎_elim, arith, get_or-set_same}
+use Rattle.std.proofs.Common.{◌≡◌, ◌≢◌, ◌⊎◌, inl, inr, ℕ, suc, ◌<◌, ◌≤◌, Bool, eqb, List, [], ◌∷◌, length, get_or, set, sym, refl, ap, ◌∙◌, subst, ⊎_elim, arith, get_or-set_same}
 use mathlib.Core.Option.{none, some}
 use mathlib.Core.Logic.{dite}
 use native.Mathlib.Decide.{ℕ_discrete, dec_lt}
@@ -10,7 +10,7 @@ use prog.Atomic.{either}
 use base.Stored.{Gv}
 use Rattle.std.proofs.lemmas.List.{get_or_past}
 use Rattle.atomic_table.specs.Table.{State, Act, keeps, takes, Valid, Allows, carried_after, homes_after}
-use Rattle.atomic_table.proofs.Lists.{at_map, exchanged}
+use Rattle.atomic_table.proofs.Lists.{at_map, exchanged, set_again}
 use Rattle.sdd_stakes.specs.Shelf.{IsFull, IsVacant}
 use Rattle.sdd_stakes.specs.declared.stake.Stake.{Stake}
 use Rattle.sdd_rule.specs.declared.Showing.{Showing}
@@ -20,7 +20,7 @@ use Rattle.sdd_rule.specs.declared.View.{View}
 use Rattle.sdd_rule.specs.declared.Sizes.{Sizes}
 use Rattle.sdd_rule.specs.Words.{slot_word, state_word}
 use Rattle.sdd_rule.specs.Codes.{codes, alive, waiting, full, free_word, owned_word, waiting_word}
-use Rattle.sdd_rule.specs.Epoch.{HasPlace, IsOpen, Scans}
+use Rattle.sdd_rule.specs.Epoch.{HasPlace, IsOpen, Scans, IsLone}
 use Rattle.sdd_rule.specs.Steps.{Steps}
 use Rattle.sdd_rule.specs.Sums.{times}
 use Rattle.sdd_rule.specs.Slots.{slot_at, owners_at, items_at, OwnsAlone, Sees, Holds}
@@ -35,21 +35,24 @@ use Rattle.sdd_rule.proofs.SlotSteps as steps
 use Rattle.sdd_rule.proofs.Owning as owning
 use Rattle.sdd_rule.proofs.Holding as holding
 use Rattle.sdd_rule.proofs.Lift.{blind}
+use Rattle.sdd_rule.proofs.Lone.{finds}
 use Rattle.sdd_rule.proofs.SlotWords.{owner_in, owners_in}
 use Rattle.sdd_rule.proofs.Sums.{is_same, is_other, without_same, without_other, total_has, total_two}
 use Rattle.sdd_rule.proofs.Waits.{waits_once}
 use Rattle.sdd_witness.specs.Steps.{AllowsAlone, AllowsBeside, moved}
 use Rattle.sdd_homes.specs.Homes.{Carries, stake_at, share, Has, IsShown, Moves, NoneOut, LiesAt}
 use Rattle.sdd_homes.specs.Housed.{Housed}
-use Rattle.sdd_homes.specs.HomeSteps.{Mine, HasAll, IsValue, Purse, making, giving, resting, telling, untold, sighting, unsighted, ClaimsAll, Houses, TakesOut, TakesHeld, RetiresOne, GivesAll, DiscardsAll, Watches, ClosesHome, OfSlot}
+use Rattle.sdd_homes.specs.HomeSteps.{Mine, HasAll, IsValue, Purse, moving, making, giving, resting, telling, untold, sighting, unsighted, ClaimsAll, Houses, TakesOut, TakesHeld, RetiresOne, GivesAll, DiscardsAll, Watches, IsRecalled, Recalls, ClosesHome, OfSlot}
 use Rattle.sdd_homes.specs.Records.{IsIn, KnowsShown, IsKnown, IsTelling}
 use Rattle.sdd_homes.specs.Counts.{ended_places}
+use Rattle.sdd_homes.specs.Fillings.{FilledPart}
 use Rattle.sdd_homes.proofs.Part.{IsMover, of_another, before_slots, one_taken}
 use Rattle.sdd_homes.proofs.Part as part
 use Rattle.sdd_homes.proofs.Places.{one_slot}
 use Rattle.sdd_homes.proofs.Counts.{ended_spared, as_full, one_full, counted, uncounted, uncounted_alone}
 use Rattle.sdd_homes.proofs.Records.{in_head, in_tail, in_either, in_none, told_seen}
 use Rattle.sdd_homes.proofs.Records as records
+use Rattle.sdd_homes.proofs.Fillings.{TellsNoMore, tells_none, filled_after, filled_same, filled_housed}
 use Rattle.sdd_homes.proofs.Rows.{Taken, takes_row, gives_row, gives_purse, taken_lies, given_lies}
 use Rattle.sdd_homes.proofs.Telling.{one_moved, none_moved, one_view, owns_it, claimed_tells, moving_tells, held_tells, retired_tells, housed_tells, rested_tells, none_owns, unknown_owned, unknown_waiting, comes_home}
 use Rattle.sdd_homes.proofs.Tops.{rest_is, share_one}
@@ -94,6 +97,11 @@ pub own_place : (γ : ℕ) (sizes : Sizes) (id : ℕ) (v : View) → HasPlace v.
 own_place γ sizes id v live y s h at p low e was = let f = h.kept.parts.epoch.each id v.epoch (at_map epoch_of s.views id v at) in
     let is = f.state live in let few = f.states in absurd (omega arith)
 
+-- a lone participant is the only one of its domain
+one_place : (γ : ℕ) (sizes : Sizes) (s : State Stake View) → Housed γ sizes s → (id : ℕ) (v : View) → get_elem? s.views id ≡ some v → IsLone v.epoch
+    → sizes.participants ≡ 1
+one_place γ sizes s h id v at one = let f = h.kept.parts.epoch.each id v.epoch (at_map epoch_of s.views id v at) in sym (f.all (λ z. omega arith)) ∙ one
+
 module _ (slots id : ℕ) (me : Mine) (live : HasPlace me.0.epoch) where
   abbrev v : View
   v = me.0
@@ -112,6 +120,14 @@ module _ (slots id : ℕ) (me : Mine) (live : HasPlace me.0.epoch) where
 
   abbrev pub MayAlone : (Mine → Type 0) → Type 0
   MayAlone = AllowsAlone (Housed γ sizes) slots id me
+
+  -- it moves nothing in, and tells of as many owners as before, or of none
+  module _ (s : State Stake View) (h : Housed γ sizes s) (at : get_elem? s.views id ≡ some v) where
+    filled_by : (w : View) → w.stakes.filled ≡ v.stakes.filled → TellsNoMore w s.views → FilledPart sizes (set s.views id w)
+    filled_by w same tells = filled_after sizes s.views h.filled id v at w same tells (λ _ _. inl live)
+
+    still_filled : (w : View) → w.stakes.filled ≡ v.stakes.filled → w.stakes.owns ≡ v.stakes.owns → FilledPart sizes (set s.views id w)
+    still_filled w same owns = filled_same sizes s.views h.filled id v at w same owns (λ _. live)
 
   module _ (slot : ℕ) (inside : slot < sizes.slots) where
     abbrev i : ℕ
@@ -195,6 +211,7 @@ module _ (slots id : ℕ) (me : Mine) (live : HasPlace me.0.epoch) where
               (let f = one_full sizes s.words slot (owned_word 0) inside h.kept.parts.slots.long in
               let y = full_owned (owned_word 0) (let q = (owned_is 0 (omega arith)).0 in omega arith) in omega arith)
               (let o = over_slot s h (owned_word 0) in omega arith) (λ none. absurd (omega arith));
+          filled = still_filled s h at now refl refl;
           tells = at_once (λ slot. ClaimsAll slot (free_word 0) (owned_word 0)) x (now, carried_after me.1 tk.act)
               ((λ _. (refl, tk.row)), (λ no. absurd (no hit)), c.2);
         })
@@ -207,12 +224,15 @@ module _ (slots id : ℕ) (me : Mine) (live : HasPlace me.0.epoch) where
           records = records.calm sizes s.views s.homes h.records id v at v (refl, refl, refl);
           counts = uncounted sizes s.words s.views h.counts id v at (set s.words i x) v refl (λ l. l)
               (as_full sizes s.words (set s.words i x) (λ j _. same_words s h j)) (over_slot s h x);
+          filled = still_filled s h at v refl refl;
           tells = at_once (λ slot. ClaimsAll slot (free_word 0) (owned_word 0)) x me ((λ hit. absurd (miss hit)), (λ _. refl), c.2);
         }))
 
     -- a value was moved in
-    pub houses : Moves v slot → OwnsAlone v slot → (value : Gv) (rest : Carries) → HasAll γ slot n (IsValue value) rest me.1 → MayAlone (Houses slot value me)
-    houses mine own value rest row s h _ at = let w : View = resting (telling slot value v) in let r : Showing = record { slot = slot; value = value } in
+    pub houses : Moves v slot → OwnsAlone v slot → (shared : Bool) (value : Gv) (rest : Carries) → HasAll γ slot n (IsValue value) rest me.1
+        → MayAlone (Houses slot shared value me)
+    houses mine own shared value rest row s h _ at = let w : View = resting (telling slot shared value v) in
+        let r : Showing = record { slot = slot; shared = shared; value = value } in let unknown = unknown_owned γ sizes s h slot id v at mine own in
         let g = gives_row γ n slot (IsValue value) sizes.slots inside (suc n) (omega arith) s.homes rest me.1 h.homes.deep row in
         let one = ((h.kept.parts.slots.each id v at).alone slot own).0 in let filled = full_owned (slot_at sizes s.words slot) (omega arith) in
         let known = records.mine sizes s.views s.homes h.records id v at in (
@@ -225,14 +245,16 @@ module _ (slots id : ℕ) (me : Mine) (live : HasPlace me.0.epoch) where
               (λ j p ne out. ⊎_elim (λ (m : Moves v j). absurd (ne (one_moved v slot j mine m))) (λ (o : Sees v j × (v.epoch.place ≡ p)). inr o) out)
               (λ j _ _. refl) (λ j m. absurd (none_moved w j refl m)))
               (records.comes_to_know sizes s.views s.homes h.records id v at slot value w (homes_after s.homes me.1 g.act)
-              (housed_tells v (h.records.each id v at) slot mine own value) (unknown_owned γ sizes s h slot id v at mine own)
+              (housed_tells v (h.records.each id v at) slot mine own shared value) unknown
               (λ i g k. ⊎_elim
               (λ (a : IsIn (r ∷ v.stakes.owns) i g). ⊎_elim (λ (e : (slot ≡ i) × (value ≡ g)). inl (sym e.0, sym e.1))
               (λ (b : IsIn v.stakes.owns i g). inr (known i g (inl b))) (in_either r v.stakes.owns i g a))
               (λ (a : IsIn v.stakes.sees i g). inr (known i g (inr a))) k)
               (λ j p y _ near lies. ⊎_elim (λ (b : (j ≡ slot) × Has γ slot (share n p) (IsValue value) y). inl (b.0, b.1.1.1))
               (λ (b : (j ≢ slot) × LiesAt n s.homes j p y). inr b) (given_lies γ n slot (IsValue value) s.homes rest me.1 g j p y near lies))
-              (λ j. none_moved w j refl) (λ j a. a)),
+              (λ j. none_moved w j refl) (λ j a. a))
+              (filled_housed sizes s.views h.filled id v at s.words h.kept.parts.epoch live r
+              (λ x t e. unknown x.value (t.0, t.2, t.3, inl (t.1, x, t.4, sym e, refl))) w refl refl),
           (refl, g.carried ∙ sym (rest_is γ slot n (IsValue value) rest (suc n) me.1 row)),
         )
 
@@ -243,9 +265,10 @@ module _ (slots id : ℕ) (me : Mine) (live : HasPlace me.0.epoch) where
         → ((j : ℕ) (u : View) → get_elem? s.views j ≡ some u → id ≢ j → ¬ (Moves u slot))
         → (t : StakesView) → t.counts ≡ v.stakes.counts → t.moves ≡ Some slot → IsTelling (record v { stakes = t })
         → ((j : ℕ) (g : Gv) → KnowsShown (record v { stakes = t }) j g → KnowsShown v j g)
+        → t.filled ≡ v.stakes.filled → TellsNoMore (record v { stakes = t }) s.views
         → (w : View) × (a : Act Stake) × Valid s.homes me.1 a
         × Housed γ sizes (moved s id me.1 w a) × (w ≡ record v { stakes = t }) × HasAll γ slot n IsFull me.1 (carried_after me.1 a)
-    moves_out s h at rests filled may unseen still t same is tells known = let w : View = record v { stakes = t } in
+    moves_out s h at rests filled may unseen still t same is tells known kept no_more = let w : View = record v { stakes = t } in
         let tk = all_taken s h IsFull (λ g sh. sh.0 filled) (λ j u e. (
           unseen j u e,
           (λ m. dite (ℕ_discrete id j)
@@ -263,7 +286,8 @@ module _ (slots id : ℕ) (me : Mine) (live : HasPlace me.0.epoch) where
               (live, subst (λ (k : ℕ). OwnsAlone v k ⊎ (0 < items_at k v)) e may)))
               (records.comes_to_move sizes s.views s.homes h.records id v at slot w (homes_after s.homes me.1 tk.act) tells
               (λ j g k. records.mine sizes s.views s.homes h.records id v at j g (known j g k))
-              (λ j p y _ near l. (taken_lies γ n slot IsFull s.homes me.1 tk j p y near l).1) refl (λ j m. one_moved w slot j is m) unseen),
+              (λ j p y _ near l. (taken_lies γ n slot IsFull s.homes me.1 tk j p y near l).1) refl (λ j m. one_moved w slot j is m) unseen)
+              (filled_by s h at w kept no_more),
           refl,
           tk.row,
         )
@@ -279,7 +303,8 @@ module _ (slots id : ℕ) (me : Mine) (live : HasPlace me.0.epoch) where
         (λ j u e sees. owning.unseen codes sound sizes s.words s.views p.slots id v at p.epoch k item due.2 due.4 j u e (subst (Sees u) (sym due.3) sees))
         (λ j u e ne m. still_waiting γ sizes s h slot id j v u at e ne waits m)
         (record v.stakes { moves = Some slot }) refl refl
-        (moving_tells v (h.records.each id v at) slot rests (none_owns γ sizes s h slot id v at waits id v at)) (λ j g k. k) in
+        (moving_tells v (h.records.each id v at) slot rests (none_owns γ sizes s h slot id v at waits id v at)) (λ j g k. k) refl
+        (λ m r e. (id, m, v, at, e)) in
         (m.0, m.1, m.2, m.3, (m.4, m.5))
 
     -- it was moved out
@@ -310,6 +335,7 @@ module _ (slots id : ℕ) (me : Mine) (live : HasPlace me.0.epoch) where
               counted sizes s.words s.views h.counts id v at (set s.words i y) (giving now)
               (let f = one_full sizes s.words slot y inside h.kept.parts.slots.long in omega arith)
               (let o = over_slot s h y in omega arith) (λ none. absurd (omega arith));
+          filled = still_filled s h at (giving now) refl refl;
           tells = at_once GivesAll y (giving now, carried_after me.1 g.act)
               (now, (refl, c.1), refl, g.carried ∙ sym (rest_is γ slot n IsVacant rest (suc n) me.1 row));
         })
@@ -322,7 +348,8 @@ module _ (slots id : ℕ) (me : Mine) (live : HasPlace me.0.epoch) where
         (holding.unseen_held codes sound sizes s.words s.views p.slots id v at p.epoch slot held all)
         (λ j u e ne m. still_owned γ sizes s h slot id j v u at e ne (omega arith) m)
         (record v.stakes { moves = Some slot; owns = [] }) refl refl (held_tells v tells slot owns)
-        (λ j g k. ⊎_elim (λ (a : IsIn [] j g). absurd (in_none j g a)) (λ (a : IsIn v.stakes.sees j g). inr a) k) in
+        (λ j g k. ⊎_elim (λ (a : IsIn [] j g). absurd (in_none j g a)) (λ (a : IsIn v.stakes.sees j g). inr a) k) refl
+        (tells_none (moving slot (untold v)) s.views refl) in
         (m.0, m.1, m.2, m.3, (m.4, m.5))
 
     -- it has gone
@@ -354,6 +381,7 @@ module _ (slots id : ℕ) (me : Mine) (live : HasPlace me.0.epoch) where
               counted sizes s.words s.views h.counts id v at (set s.words i y) (giving now)
               (let f = one_full sizes s.words slot y inside h.kept.parts.slots.long in omega arith)
               (let o = over_slot s h y in omega arith) (λ none. absurd (omega arith));
+          filled = still_filled s h at (giving now) refl refl;
           tells = at_once DiscardsAll y (giving now, carried_after me.1 g.act)
               (refl, g.carried ∙ sym (rest_is γ slot n IsVacant rest (suc n) me.1 row));
         })
@@ -370,6 +398,7 @@ module _ (slots id : ℕ) (me : Mine) (live : HasPlace me.0.epoch) where
           alike = (refl, refl, refl);
           counts = refl;
           lives = λ l. l;
+          had = λ _ l. inl l;
         })
 
     -- retire the item
@@ -400,13 +429,22 @@ module _ (slots id : ℕ) (me : Mine) (live : HasPlace me.0.epoch) where
               (λ j p g _ _ l. inl l) (λ j m. m) (λ j a. a);
           counts = uncounted sizes s.words s.views h.counts id v at (set s.words i y) (untold now) refl (λ l. l)
               (as_full sizes s.words (set s.words i y) same) (over_slot s h y);
-          tells = at_once RetiresOne y (untold now, me.1) (now, (c.0, c.1, c.2, refl, c.4, c.5), refl, refl);
+          filled = filled_by s h at (untold now) refl (tells_none (untold now) s.views refl);
+          tells = at_once RetiresOne y (untold now, me.1) (
+            now,
+            (c.0, c.1, c.2, refl, c.4, c.5),
+            refl,
+            refl,
+          );
         })
 
     -- a guard comes to see it beside its owner, who knows what it shows
-    pub watches : IsOpen v.epoch → v.epoch.place < n → v.stakes.moves ≡ None → (jd : ℕ) (u : View) (value : Gv) → OwnsAlone u slot → ¬ (Holds u slot)
-        → IsIn u.stakes.owns slot value → AllowsBeside (Housed γ sizes) slots id me jd u (Watches slot value me)
-    watches is_open near rests jd u value own free told s h _ at there = let p = h.kept.parts in let r = h.records in
+    pub watches : IsOpen v.epoch → v.epoch.place < n → v.stakes.moves ≡ None → (jd : ℕ) (u : View) (shared : Bool) (value : Gv) → OwnsAlone u slot
+        → ¬ (Holds u slot) → get_elem? u.stakes.owns 0 ≡ some (record { slot = slot; shared = shared; value = value })
+        → AllowsBeside (Housed γ sizes) slots id me jd u (Watches slot shared value me)
+    watches is_open near rests jd u shared value own free first s h _ at there = let p = h.kept.parts in let r = h.records in
+        let record_now : Showing = record { slot = slot; shared = shared; value = value } in
+        let told : IsIn u.stakes.owns slot value = (0, record_now, first, refl, refl) in
         let tells = r.each id v at in let mine = records.mine sizes s.views s.homes r id v at in
         let known : IsKnown s.views slot value = (jd, u, there, inl told) in dite (dec_lt 0 (times slot v.slots.sees))
         (λ sees. let is = told_seen v tells slot sees in (
@@ -415,14 +453,13 @@ module _ (slots id : ℕ) (me : Mine) (live : HasPlace me.0.epoch) where
           tt,
           stands_by γ sizes id v s h at v.stakes refl s.homes
               (part.calm γ sizes s.words s.views s.homes h.homes id v at s.words v (λ j p out. out) (λ j _. refl) (λ j m. h.homes.moving id v j at m))
-              (records.calm sizes s.views s.homes r id v at v (refl, refl, refl)),
+              (records.calm sizes s.views s.homes r id v at v (refl, refl, refl)) (still_filled s h at v refl refl),
           (
             (λ _. (refl, subst (IsIn v.stakes.sees slot) (r.agree slot is.0 value (mine slot is.0 (inr is.1)) known) is.1)),
             (λ unseen. absurd (unseen sees)),
           ),
         ))
-        (λ unseen. let q : ℕ = v.epoch.place in let now : View = sighting slot value v in let one = is_same slot slot refl in
-        let record_now : Showing = record { slot = slot; value = value } in
+        (λ unseen. let q : ℕ = v.epoch.place in let now : View = sighting slot shared value v in let one = is_same slot slot refl in
         let alone = ((p.slots.each jd u there).alone slot own).0 in let filled = full_owned (slot_at sizes s.words slot) (omega arith) in
         let owners : 0 < owners_at slot u = (let o = own in omega arith) in
         let still : (j : ℕ) (x : View) → get_elem? s.views j ≡ some x → ¬ (Moves x slot)
@@ -461,7 +498,7 @@ module _ (slots id : ℕ) (me : Mine) (live : HasPlace me.0.epoch) where
                 (λ k m sees. dite (ℕ_discrete k slot) (λ same. still j x e (subst (Moves x) same m))
                     (λ ne. r.apart j id x v k e at m (let o = is_other k slot (λ e. ne (sym e)) in omega arith))),
               )))
-              (uncounted_alone sizes s.words s.views h.counts id v at now refl refl),
+              (uncounted_alone sizes s.words s.views h.counts id v at now refl refl) (still_filled s h at now refl refl),
           ((λ sees. absurd (unseen sees)), (λ _. (y, it, refl))),
         ))
 
@@ -478,6 +515,7 @@ module _ (slots id : ℕ) (me : Mine) (live : HasPlace me.0.epoch) where
           alike = (refl, refl, refl);
           counts = refl;
           lives = λ l. l;
+          had = λ _ l. inl l;
         })
 
     pub lets_go : Holds v slot → May i (λ x. x) (λ r me'. (me'.1 ≡ me.1) × AtSlot LetsGo i v r me'.0)
@@ -492,7 +530,27 @@ module _ (slots id : ℕ) (me : Mine) (live : HasPlace me.0.epoch) where
           alike = (refl, refl, refl);
           counts = refl;
           lives = λ l. l;
+          had = λ _ l. inl l;
         })
+
+  -- beside a slot's owner it learns what it knows of the slot, and nothing changes
+  pub recalls : (jd : ℕ) (u : View) (slot : ℕ) (shared : Bool) (value : Gv) → OwnsAlone u slot
+      → get_elem? u.stakes.owns 0 ≡ some (record { slot = slot; shared = shared; value = value })
+      → AllowsBeside (Housed γ sizes) slots id me jd u (Recalls slot shared value me)
+  recalls jd u slot shared value own first s h _ at there = (
+    v,
+    keeps,
+    tt,
+    subst (λ (vs : List View). Housed γ sizes record { words = s.words; homes = s.homes; views = vs }) (sym (set_again s.views id v at)) h,
+    (
+      refl,
+      λ lone. let one = one_place γ sizes s h id v at lone in record {
+        newest = h.filled.knows one id jd 0 v u (record { slot = slot; shared = shared; value = value }) at live there first;
+        alive = ap alive (sym (finds sizes s.words s.views h.kept.parts.lone id v at one live slot))
+            ∙ ((h.kept.parts.slots.each jd u there).alone slot own).0;
+      },
+    ),
+  )
 
   -- look at the next place for a guard
   pub looks_for_guard : (place : ℕ) → place < n → place ≡ v.slots.looked
@@ -512,6 +570,7 @@ module _ (slots id : ℕ) (me : Mine) (live : HasPlace me.0.epoch) where
         alike = (refl, refl, refl);
         counts = refl;
         lives = λ l. l;
+        had = λ _ l. inl l;
       })
       (λ ne. subst calm (sym (c.0 ne)) record {
         more = λ k p out. out;
@@ -520,6 +579,7 @@ module _ (slots id : ℕ) (me : Mine) (live : HasPlace me.0.epoch) where
         alike = (refl, refl, refl);
         counts = refl;
         lives = λ l. l;
+        had = λ _ l. inl l;
       }))
 
   -- the last guard is closed, whose stakes go home
@@ -556,6 +616,7 @@ module _ (slots id : ℕ) (me : Mine) (live : HasPlace me.0.epoch) where
         counts = uncounted sizes s.words s.views h.counts id v at (set s.words j 1) (unsighted now) refl (λ _. omega arith)
             (as_full sizes s.words (set s.words j 1) (λ k _. same k))
             (ended_spared sizes s.words j 1 (own_place γ sizes id v live 1 s h at) n (omega arith));
+        filled = still_filled s h at (unsighted now) refl refl;
         tells = (now, refl, refl, g.carried);
       })
 
@@ -597,6 +658,7 @@ module _ (γ : ℕ) (sizes : Sizes) (slots id : ℕ) (me : Mine) (p : ℕ) (insi
           alike = (refl, refl, refl);
           counts = refl;
           lives = λ l. l;
+          had = λ _ l. inl l;
         })
         (λ (e : w ≡ me.0). subst calm (sym e) record {
           more = λ j q out. out;
@@ -605,6 +667,7 @@ module _ (γ : ℕ) (sizes : Sizes) (slots id : ℕ) (me : Mine) (p : ℕ) (insi
           alike = (refl, refl, refl);
           counts = refl;
           lives = λ l. l;
+          had = λ _ l. inl l;
         }) which
 
   which_of : (r : ℕ) (w : View) → Bars spot me.0 r w → ((r ≡ 0) ⊎ (r ≡ 3)) × (w ≡ past p me.0) ⊎ (w ≡ me.0)

@@ -1,5 +1,5 @@
 -- What a participant knows of what slots show, after each of its steps that may change it
-use Rattle.std.proofs.Common.{◌≡◌, ◌≢◌, inl, inr, ℕ, suc, ◌<◌, List, [], ◌∷◌, map, set, sym, refl, ap, ◌∙◌, subst, ⊎_elim, arith}
+use Rattle.std.proofs.Common.{◌≡◌, ◌≢◌, inl, inr, ℕ, suc, ◌<◌, Bool, List, [], ◌∷◌, map, get_or, set, sym, refl, ap, ◌∙◌, subst, ⊎_elim, arith}
 use mathlib.Core.Option.{some, some-injective}
 use mathlib.Core.Logic.{dite}
 use native.Mathlib.Decide.{ℕ_discrete}
@@ -12,7 +12,8 @@ use Rattle.sdd_rule.specs.declared.Showing.{Showing}
 use Rattle.sdd_rule.specs.declared.StakesView.{StakesView}
 use Rattle.sdd_rule.specs.declared.View.{View}
 use Rattle.sdd_rule.specs.declared.Sizes.{Sizes}
-use Rattle.sdd_rule.specs.Codes.{codes}
+use Rattle.sdd_rule.specs.Words.{slot_word}
+use Rattle.sdd_rule.specs.Codes.{codes, alive}
 use Rattle.sdd_rule.specs.Sums.{times}
 use Rattle.sdd_rule.specs.Slots.{slot_at, items_at, OwnsAlone}
 use Rattle.sdd_rule.specs.SlotSteps.{without, retired}
@@ -25,6 +26,7 @@ use Rattle.sdd_homes.specs.HomeSteps.{moving, making, resting, telling, untold}
 use Rattle.sdd_homes.specs.Records.{slot_shown, IsIn, IsKnown, IsTelling, RecordsPart}
 use Rattle.sdd_homes.proofs.Records.{in_head, in_tail, in_either, in_none}
 use Rattle.sdd_homes.proofs.Records as records
+use Rattle.sdd_homes.proofs.Fillings.{NoneTold}
 use Rattle.sdd_homes.proofs.Rows.{Given, given_lies}
 
 pub one_moved : (v : View) (i j : ℕ) → Moves v i → Moves v j → j ≡ i
@@ -87,17 +89,18 @@ module _ (v : View) (t : IsTelling v) (slot : ℕ) where
 
   module _ (mine : Moves v slot) where
     -- a value was moved in
-    pub housed_tells : OwnsAlone v slot → (value : Gv) → IsTelling (resting (telling slot value v))
-    housed_tells own value = let r : Showing = record { slot = slot; value = value } in let w : View = resting (telling slot value v) in record {
-      owns = λ i g h. (
-        ⊎_elim (λ (e : (slot ≡ i) × (value ≡ g)). subst (OwnsAlone v) e.0 own) (λ (k : IsIn v.stakes.owns i g). (t.owns i g k).0)
-            (in_either r v.stakes.owns i g h),
-        none_moved w i refl,
-      );
-      owned = λ i o still. dite (ℕ_discrete slot i) (λ e. (value, in_head r v.stakes.owns i value e refl))
-          (λ ne. let b = t.owned i o (λ m. ne (sym (one_moved v slot i mine m))) in (b.0, in_tail r v.stakes.owns i b.0 b.1));
-      sees = t.sees;
-    }
+    pub housed_tells : OwnsAlone v slot → (shared : Bool) (value : Gv) → IsTelling (resting (telling slot shared value v))
+    housed_tells own shared value = let r : Showing = record { slot = slot; shared = shared; value = value } in
+        let w : View = resting (telling slot shared value v) in record {
+          owns = λ i g h. (
+            ⊎_elim (λ (e : (slot ≡ i) × (value ≡ g)). subst (OwnsAlone v) e.0 own) (λ (k : IsIn v.stakes.owns i g). (t.owns i g k).0)
+                (in_either r v.stakes.owns i g h),
+            none_moved w i refl,
+          );
+          owned = λ i o still. dite (ℕ_discrete slot i) (λ e. (value, in_head r v.stakes.owns i value e refl))
+              (λ ne. let b = t.owned i o (λ m. ne (sym (one_moved v slot i mine m))) in (b.0, in_tail r v.stakes.owns i b.0 b.1));
+          sees = t.sees;
+        }
 
     -- a value was moved out
     pub rested_tells : (w : View) → record w.stakes { counts = v.stakes.counts } ≡ record v.stakes { moves = None }
@@ -116,6 +119,12 @@ module _ (v : View) (t : IsTelling v) (slot : ℕ) where
     }
 
 -- ---- all of them
+-- while all words are 0 no token tells of an owner
+pub none_told : (γ : ℕ) (sizes : Sizes) (s : State Stake View) → Housed γ sizes s → ((i : ℕ) → get_or s.words i 0 ≡ 0) → NoneTold s.views
+none_told γ sizes s h zeros r t = let own = (h.records.each t.0 t.2 t.3).owns r.slot r.value (t.1, r, t.4, refl, refl) in
+    let one = ((h.kept.parts.slots.each t.0 t.2 t.3).alone r.slot own.0).0 in
+    let none = ap alive (zeros (slot_word sizes r.slot)) ∙ sound.free.0 in absurd (omega arith)
+
 module _ (γ : ℕ) (sizes : Sizes) (s : State Stake View) (h : Housed γ sizes s) (i id : ℕ) (v : View) (at : get_elem? s.views id ≡ some v) where
   -- where one has the only owner of a slot, none else has
   sole : OwnsAlone v i → (j : ℕ) (u : View) → get_elem? s.views j ≡ some u → OwnsAlone u i → j ≡ id

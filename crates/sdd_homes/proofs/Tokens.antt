@@ -1,5 +1,5 @@
 -- The start, a new token, owners that are cut off as a token and taken in again, and what is at home at the end
-use Rattle.std.proofs.Common.{◌≡◌, ◌≢◌, inl, inr, ℕ, zero, suc, ◌+◌, ◌<◌, ◌≤◌, List, [], ◌∷◌, ◌++◌, length, get_or, set, sym, refl, ap, ◌∙◌, subst, ⊎_elim, arith}
+use Rattle.std.proofs.Common.{◌≡◌, ◌≢◌, inl, inr, ℕ, zero, suc, ◌+◌, ◌<◌, ◌≤◌, Bool, List, [], ◌∷◌, ◌++◌, length, get_or, set, sym, refl, ap, ◌∙◌, subst, ⊎_elim, arith}
 use Rattle.std.proofs.lemmas.List.{length-map}
 use mathlib.Core.Option.{some, some-injective, some-ne-none}
 use mathlib.Core.Logic.{dite}
@@ -31,12 +31,14 @@ use Rattle.sdd_homes.specs.Housed.{Housed}
 use Rattle.sdd_homes.specs.HomeSteps.{parting, departing, regained, uncounting, counts_of, counts_token, counting}
 use Rattle.sdd_homes.specs.Records.{IsIn, KnowsShown, IsKnown, IsTelling, RecordsPart}
 use Rattle.sdd_homes.specs.Counts.{made_by, gone_by, over_by, full_slots, HasNoCounts, CountsByPlace, CountsPart}
+use Rattle.sdd_homes.specs.Fillings.{FilledPart}
 use Rattle.sdd_homes.proofs.Counts.{ended_few, uncounted_alone, more_counts}
 use Rattle.sdd_homes.proofs.Places.{inside}
 use Rattle.sdd_homes.proofs.Part.{IsMover}
 use Rattle.sdd_homes.proofs.Part as part
 use Rattle.sdd_homes.proofs.Records.{in_head, in_tail, in_either, in_none, telling_none, knows_none}
 use Rattle.sdd_homes.proofs.Records as records
+use Rattle.sdd_homes.proofs.Fillings.{IsTold, tells_none, filled_more, filled_after, filled_same}
 use Rattle.sdd_homes.proofs.Steps.{still_free}
 use Rattle.sdd_homes.proofs.Telling.{none_moved}
 
@@ -64,6 +66,8 @@ module _ (γ : ℕ) (sizes : Sizes) where
               refl refl);
           counts = subst (λ (w : View). CountsPart sizes s.words (s.views ++ w ∷ [])) (sym r.2.0)
               (more_counts sizes s.words s.views h.counts t refl refl refl);
+          filled = subst (λ (w : View). FilledPart sizes (s.views ++ w ∷ [])) (sym r.2.0)
+              (filled_more sizes s.views h.filled t (tells_none t s.views refl) (λ z. absurd (omega arith)));
         },
         r.2.1,
       )
@@ -94,6 +98,9 @@ module _ (γ : ℕ) (sizes : Sizes) where
       agree = λ i g h a b. absurd (none_known i g a);
       home = λ i p g y low near a l. absurd (none_known i g a);
       apart = λ j k v w i e e' m. absurd (none_moved v i (subst (λ (u : View). u.stakes.moves ≡ None) (only j v e) refl) m);
+    };
+    filled = record {
+      knows = λ one j k m v u r e live. absurd (let f = ap (λ (w : View). w.epoch.state) (only j v e) in omega arith);
     };
   }
     where
@@ -135,14 +142,23 @@ module _ (γ : ℕ) (sizes : Sizes) where
             (λ (a : IsIn v.stakes.sees i g). (id, v, at_longer s.views (t ∷ []) id v at, inr a)) k)
             (λ i p y _ _ l. inl l) (λ i m. m) (λ i a. a));
         counts = more_counts sizes s.words (set s.views id w) (uncounted_alone sizes s.words s.views h.counts id v at w refl refl) t refl refl refl;
+        filled = subst (FilledPart sizes) (set_front s.views (t ∷ []) id v w at)
+            (filled_after sizes vs (filled_more sizes s.views h.filled t (λ m x e. (id, m, v, at, e)) (λ z. absurd (omega arith)))
+            id v (at_longer s.views (t ∷ []) id v at) w refl (tells_none w vs refl) (λ _ live. inl live));
       }
 
+  -- the first record is of the owner's token, and the others were known
+  come_in : (vs : List View) (now : Showing) (other id : ℕ) (t v : View) → get_elem? vs other ≡ some t → get_elem? vs id ≡ some v
+      → t.stakes.owns ≡ now ∷ [] → (m : ℕ) (r : Showing) → get_elem? (now ∷ v.stakes.owns) m ≡ some r → IsTold vs r
+  come_in vs now other id t v was at one zero r e = (other, 0, t, was, ap (λ (l : List Showing). get_elem? l 0) one ∙ e)
+  come_in vs now other id t v was at one (suc m) r e = (id, m, v, at, e)
+
   -- and comes back
-  pub joins_owner : (id : ℕ) (v : View) (other slot : ℕ) (value : Gv) → v.stakes.moves ≡ None
-      → Joins (Housed γ sizes) id v other (owner_of slot value) (regained v (owner_of slot value)) (owner_token [] [])
-  joins_owner id v other slot value rests s h at apart there = let t : View = owner_of slot value in let t' : View = owner_token [] [] in
+  pub joins_owner : (id : ℕ) (v : View) (other slot : ℕ) (shared : Bool) (value : Gv) → v.stakes.moves ≡ None
+      → Joins (Housed γ sizes) id v other (owner_of slot shared value) (regained v (owner_of slot shared value)) (owner_token [] [])
+  joins_owner id v other slot shared value rests s h at apart there = let t : View = owner_of slot shared value in let t' : View = owner_token [] [] in
       let w : View = regained v t in let vs : List View = set s.views id w in let r = h.records in let told = r.each id v at in
-      let now : Showing = record { slot = slot; value = value } in let mine = records.mine sizes s.views s.homes r id v at in
+      let now : Showing = record { slot = slot; shared = shared; value = value } in let mine = records.mine sizes s.views s.homes r id v at in
       let was : get_elem? s.views other ≡ some t = sym (set_else s.views id other w apart) ∙ there in
       let came = records.no_more sizes s.views s.homes r id v at w s.homes
       record {
@@ -168,6 +184,8 @@ module _ (γ : ℕ) (sizes : Sizes) where
             (λ i g k. absurd (knows_none t' refl refl i g k)) (λ i p y _ _ l. inl l) (λ i m. absurd (none_moved t' i refl m))
             (λ i a. absurd (omega arith));
         counts = uncounted_alone sizes s.words vs (uncounted_alone sizes s.words s.views h.counts id v at w refl refl) other t there t' refl refl;
+        filled = filled_after sizes vs (filled_after sizes s.views h.filled id v at w refl (come_in s.views now other id t v was at refl) (λ _ live. inl live))
+            other t there t' refl (tells_none t' vs refl) (λ _ live. inl live);
       }
 
   -- the counts of ended places go to a token of their own
@@ -187,6 +205,9 @@ module _ (γ : ℕ) (sizes : Sizes) where
       each = each_snoc CountsByPlace (set s.views id w) t
           (each_set CountsByPlace CountsByPlace s.views id w (λ _ _. (refl, refl)) (λ j u _ e. c.each j u e)) (λ _ none. absurd (omega arith));
     };
+    filled = let us : List View = set s.views id w in
+        filled_more sizes us (filled_same sizes s.views h.filled id v at w refl refl (λ live. live))
+        t (tells_none t us refl) (λ z. absurd (omega arith));
   }
 
   -- and come to another
@@ -211,6 +232,9 @@ module _ (γ : ℕ) (sizes : Sizes) where
               (let a = mine.0 in let b = theirs.0 in omega arith, let a = mine.1 in let b = theirs.1 in omega arith))
               (λ j u _ e. c.each j u e) j u e);
         };
+        filled = filled_after sizes vs
+            (filled_same sizes s.views h.filled id v at w refl refl (λ live. live))
+            other t there t' refl (tells_none t' vs refl) (λ _ live. inl live);
       }
 
   -- a token counts no more places than there are

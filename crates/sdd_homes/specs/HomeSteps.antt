@@ -1,5 +1,5 @@
 -- What a seat carries, and what each step that takes or gives stakes makes of it
-use Rattle.std.specs.Prelude.{◌≡◌, ◌≢◌, ℕ, zero, suc, ◌+◌, List, [], ◌∷◌, ◌++◌, drop, Some, None}
+use Rattle.std.specs.Prelude.{◌≡◌, ◌≢◌, ℕ, zero, suc, ◌+◌, Bool, List, [], ◌∷◌, ◌++◌, drop, slice_index, Some, None}
 use base.Stored.{Gv}
 use Rattle.atomic_table.specs.Table.{Me}
 use Rattle.sdd_stakes.specs.Shelf.{IsFull, IsVacant}
@@ -7,13 +7,16 @@ use Rattle.sdd_stakes.specs.declared.stake.Stake.{Stake}
 use Rattle.sdd_rule.specs.declared.Showing.{Showing}
 use Rattle.sdd_rule.specs.declared.CountsView.{CountsView}
 use Rattle.sdd_rule.specs.declared.View.{View}
-use Rattle.sdd_rule.specs.SlotSteps.{Knew, claimed, discarded, seeing, first, parted, joined, Retires, ClosesAll, GivesBack}
+use Rattle.sdd_rule.specs.SlotSteps.{behind, Knew, claimed, discarded, seeing, first, parted, joined, Retires, ClosesAll, GivesBack}
 use Rattle.sdd_rule.specs.Parts.{owner_token, at_rest, no_counts}
 use Rattle.sdd_rule.specs.Steps.{ended}
 use Rattle.sdd_rule.specs.Words.{slot_word}
+use Rattle.sdd_rule.specs.Codes.{alive}
+use Rattle.sdd_rule.specs.Epoch.{IsLone}
 use Rattle.sdd_rule.specs.Slots.{Sees}
 use Rattle.sdd_homes.specs.Homes.{Carries, stake_at, share, Has}
 use Rattle.sdd_homes.specs.Records.{IsIn}
+use Rattle.sdd_homes.specs.Fillings.{newest}
 
 abbrev pub Mine : Type 0
 Mine = Me Stake View
@@ -70,17 +73,24 @@ leaving v = record v {
   stakes = record v.stakes { counts = record v.stakes.counts { over = v.stakes.counts.over + 1 } };
 }
 
--- it knows what a slot of its own shows
-abbrev pub telling : ℕ → Gv → View → View
-telling slot value v = record v { stakes = record v.stakes { owns = record { slot = slot; value = value } ∷ v.stakes.owns } }
+-- it moved a value into a slot of its own, and knows what the slot shows; its owner may be one of several
+abbrev pub telling : ℕ → Bool → Gv → View → View
+telling slot shared value v = record v {
+  stakes = record v.stakes {
+    owns = record { slot = slot; shared = shared; value = value } ∷ v.stakes.owns;
+    filled = record { slot = slot; shared = shared; value = value } ∷ v.stakes.filled;
+  };
+}
 
 -- it knows of no slot of its own any more
 abbrev pub untold : View → View
 untold v = record v { stakes = record v.stakes { owns = [] } }
 
 -- a guard sees a slot, and what it shows
-abbrev pub sighting : ℕ → Gv → View → View
-sighting slot value v = record (seeing slot v) { stakes = record v.stakes { sees = record { slot = slot; value = value } ∷ v.stakes.sees } }
+abbrev pub sighting : ℕ → Bool → Gv → View → View
+sighting slot shared value v = record (seeing slot v) {
+  stakes = record v.stakes { sees = record { slot = slot; shared = shared; value = value } ∷ v.stakes.sees };
+}
 
 -- nothing is seen any more
 abbrev pub unsighted : View → View
@@ -112,8 +122,8 @@ ClaimsAll slot old y me x me' =
     × (x ≢ old → me' ≡ me) × Knew slot me.0 x
 
 -- the value of an owned slot was moved in, and all stakes in it, which show it, go home
-abbrev pub Houses : ℕ → Gv → Mine → Mine → Type 0
-Houses slot value me me' = (me'.0 ≡ resting (telling slot value me.0)) × (me'.1 ≡ drop (suc (places_of me)) me.1)
+abbrev pub Houses : ℕ → Bool → Gv → Mine → Mine → Type 0
+Houses slot shared value me me' = (me'.0 ≡ resting (telling slot shared value me.0)) × (me'.1 ≡ drop (suc (places_of me)) me.1)
 
 -- the value of an item that nobody sees is to be moved out, so that all stakes in it are out
 abbrev pub TakesOut : ℕ → Mine → Mine → Type 0
@@ -136,10 +146,19 @@ abbrev pub DiscardsAll : ℕ → Mine → ℕ → Mine → Type 0
 DiscardsAll slot me y me' = (me'.0 ≡ giving (discarded slot y me.0)) × (me'.1 ≡ drop (suc (places_of me)) me.1)
 
 -- a guard sees a slot beside its owner, who knows what it shows: it has the stake of its place out, if it didn't before
-abbrev pub Watches : ℕ → Gv → Mine → Mine → Type 0
-Watches slot value me me' = (Sees me.0 slot → (me' ≡ me) × IsIn me.0.stakes.sees slot value)
+abbrev pub Watches : ℕ → Bool → Gv → Mine → Mine → Type 0
+Watches slot shared value me me' = (Sees me.0 slot → (me' ≡ me) × IsIn me.0.stakes.sees slot value)
     × (¬ (Sees me.0 slot) → (y : Stake) × Has (book_of me) slot 1 (IsValue value) y
-    × (me' ≡ (sighting slot value me.0, (stake_at (places_of me) slot me.0.epoch.place, y) ∷ me.1)))
+    × (me' ≡ (sighting slot shared value me.0, (stake_at (places_of me) slot me.0.epoch.place, y) ∷ me.1)))
+
+-- what the token of a slot's owner tells is what this one moved into the slot last, and by the words that it knows the slot has an owner
+pub record IsRecalled (slot : ℕ) (shared : Bool) (value : Gv) (v : View) : Type 0 where
+  pub newest : newest slot v.stakes.filled ≡ Some (record { slot = slot; shared = shared; value = value })
+  pub alive : alive (slice_index v.words (behind v.sizes slot)) ≡ 1
+
+-- beside a slot's owner a lone participant learns what it knows of the slot, and nothing changes
+abbrev pub Recalls : ℕ → Bool → Gv → Mine → Mine → Type 0
+Recalls slot shared value me me' = (me' ≡ me) × (IsLone me.0.epoch → IsRecalled slot shared value me.0)
 
 -- the last guard is closed: all that it had goes home
 abbrev pub ClosesHome : Mine → ℕ → Mine → Type 0

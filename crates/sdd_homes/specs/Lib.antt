@@ -1,5 +1,6 @@
 pub mod Homes
 pub mod Records
 pub mod Counts
+pub mod Fillings
 pub mod Housed
 pub mod HomeSteps

@@ -1,5 +1,5 @@
 -- The rule of a domain: a record of its parts
-use Rattle.std.specs.Prelude.{◌≡◌, ℕ, ◌<◌, List, [], ◌∷◌, None, map, length}
+use Rattle.std.specs.Prelude.{◌≡◌, ℕ, ◌<◌, Bool, List, [], ◌∷◌, None, map, length}
 use mathlib.Core.Option.{some}
 use lib.ListN.{get_elem?}
 use base.Stored.{Gv}
@@ -33,7 +33,7 @@ no_counts = record { made = 0; gone = 0; over = 0 }
 
 -- it moves no value and knows of none, and the values' places are of this book
 abbrev pub at_rest : ℕ → StakesView
-at_rest book = record { book = book; moves = None; owns = []; sees = []; counts = no_counts }
+at_rest book = record { book = book; moves = None; owns = []; sees = []; filled = []; counts = no_counts }
 
 -- a token that knows nothing, but how many of each there are and which book
 abbrev pub idle : Sizes → ℕ → View
@@ -61,9 +61,11 @@ owner_token owns shares = record {
   words = [];
 }
 
--- the token of the owner of a slot, which shows this
-abbrev pub owner_of : ℕ → Gv → View
-owner_of slot value = record (owner_token (slot ∷ []) []) { stakes = record (at_rest 0) { owns = record { slot = slot; value = value } ∷ [] } }
+-- the token of the owner of a slot, which shows this; it may be one of several
+abbrev pub owner_of : ℕ → Bool → Gv → View
+owner_of slot shared value = record (owner_token (slot ∷ []) []) {
+  stakes = record (at_rest 0) { owns = record { slot = slot; shared = shared; value = value } ∷ [] };
+}
 
 -- the parts that speak of words and of what each participant knows
 pub record Parts (sizes : Sizes) (ws : List ℕ) (vs : List View) : Type 0 where

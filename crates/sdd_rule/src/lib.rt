@@ -66,6 +66,8 @@ pub struct SlotsView {
 /// What a slot shows, as the code of its value.
 pub struct Showing {
     pub slot: u64,
+    /// Whether its owner is one of several that there may be.
+    pub shared: bool,
     pub ghost value: { Gv } by { itself },
 }
 
@@ -93,6 +95,8 @@ pub struct StakesView {
     pub owns: [Showing; 0],
     /// What the slots show that it sees under its guards, one entry for each time.
     pub sees: [Showing; 0],
+    /// What it moved into slots, the newest first.
+    pub filled: [Showing; 0],
     pub counts: CountsView,
 }
 

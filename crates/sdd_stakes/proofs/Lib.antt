@@ -8,3 +8,4 @@ pub mod ShelfSent
 pub mod Collect
 pub mod Housing
 pub mod Turns
+pub mod Ledgers

@@ -2,12 +2,14 @@
 #![tactic(auto)]
 
 pub mod example;
+mod ledger;
 mod seats;
 mod shelf;
 mod stake;
 mod stock;
 mod title;
 
+pub use ledger::Ledger;
 pub use seats::settle;
 pub use shelf::Shelf;
 pub use stake::Stake;

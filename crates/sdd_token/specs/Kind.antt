@@ -18,6 +18,14 @@ is_owner Raw = false
 is_owner Shared = true
 is_owner Retired = false
 
+-- the owner is one of several that there may be
+abbrev pub is_shared : Kind → Bool
+is_shared Free = false
+is_shared Owned = false
+is_shared Raw = false
+is_shared Shared = true
+is_shared Retired = false
+
 -- an owner's number is of this kind: it is the only one, or one of several
 abbrev pub IsOwner : Kind → Type 0
 IsOwner kind = IsTrue (is_owner kind)

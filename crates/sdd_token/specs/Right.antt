@@ -1,5 +1,5 @@
 -- The right to a number
-use Rattle.std.specs.Prelude.{ℕ, ◌≡◌, List, [], ◌∷◌}
+use Rattle.std.specs.Prelude.{ℕ, ◌≡◌, Bool, List, [], ◌∷◌}
 use base.Stored.{Gv}
 use Rattle.atomic_table.specs.Seated.{TableId}
 use Rattle.sdd_witness.specs.declared.witness.Witness.{Witness}
@@ -31,10 +31,10 @@ home_of right = home_by right.witness.views right.witness.table_id right.part.ho
 abbrev pub witness_of : Right → Witness
 witness_of right = right.witness
 
--- the witness is the token of the owner of this slot of the home's table
-pub record IsWitnessOf (home : Home) (slot : ℕ) (witness : Witness) : Type 0 where
+-- the witness is the token of the owner of this slot of the home's table, which may be one of several
+pub record IsWitnessOf (home : Home) (slot : ℕ) (shared : Bool) (witness : Witness) : Type 0 where
   pub table : home.tables ≡ witness.table_id ∷ []
-  pub owner : IsOwners slot witness.views
+  pub owner : IsOwners slot shared witness.views
 
 -- whether its owner is the only one that there may be
 abbrev pub kind_of : Right → Kind

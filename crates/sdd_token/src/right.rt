@@ -1,6 +1,6 @@
 ghost use Rattle.std.specs.Prelude.{◌≡◌, ◌≢◌, ◌<◌, ◌≤◌, []};
 ghost use Rattle.sdd_token.specs.declared.right.Kind.{Kind};
-ghost use Rattle.sdd_token.specs.Kind.{right_units, IsOwner};
+ghost use Rattle.sdd_token.specs.Kind.{right_units, is_shared, IsOwner};
 ghost use Rattle.sdd_token.specs.Owner.{IsOwners, AreOwners, AreOwners-prop};
 
 use crate::part::{Book, Part, WHOLE};
@@ -48,7 +48,7 @@ pub struct Right {
     pub ghost owner: { IsOwner part.kind },
     pub ghost due: { witness.views ≡ [] → part.units ≡ right_units part.kind },
     pub ghost books: { part.home.tables ≡ [] },
-    pub ghost owns: { AreOwners number witness.views } by { AreOwners-prop number witness.views },
+    pub ghost owns: { AreOwners number (is_shared part.kind) witness.views } by { AreOwners-prop number (is_shared part.kind) witness.views },
 }
 
 const _: () = prove!(size_of::<Right>() == 4);
@@ -65,7 +65,7 @@ impl Right {
 
     /// The right to a slot of a domain, by the token of its owner. The domain has so many slots.
     pub fn of_witness(number: u32, size: usize, kind: Kind, witness: Witness) -> Right
-        requires owner { IsOwners number witness.views }
+        requires owner { IsOwners number (is_shared kind) witness.views }
         requires inside { number < size }
         requires kind { IsOwner kind }
         ensures number { number_of result ≡ number }
@@ -85,7 +85,7 @@ impl Right {
     /// The token of the owner of the slot, in a domain; a blank one else.
     pub fn into_witness(self) -> Witness
         ensures witness { result ≡ witness_of self }
-        ensures owner { (home_of self).tables ≢ [] → IsWitnessOf (home_of self) (number_of self) result }
+        ensures owner { (home_of self).tables ≢ [] → IsWitnessOf (home_of self) (number_of self) (is_shared (kind_of self)) result }
     {
         let Right {
             number: _,
@@ -98,7 +98,7 @@ impl Right {
     /// The token of the owner of the slot, in a domain; a blank one else.
     pub fn witness(&self) -> &Witness
         ensures witness { result.now ≡ witness_of self.now }
-        ensures owner { (home_of self.now).tables ≢ [] → IsWitnessOf (home_of self.now) (number_of self.now) result.now }
+        ensures owner { (home_of self.now).tables ≢ [] → IsWitnessOf (home_of self.now) (number_of self.now) (is_shared (kind_of self.now)) result.now }
     {
         &self.witness
     }

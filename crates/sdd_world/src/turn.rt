@@ -59,7 +59,7 @@ impl<T: Item<T>, J: Job> Shows<T> for World<T, J> {
 
     ghost one_owned = { λ w right u v a b. one_value w (number_of right) u v a b };
 
-    ghost keeps_owned = { λ _ _ kept right value owned. kept (number_of right) value owned };
+    ghost keeps_owned = { λ _ _ _ kept right value owned. kept (number_of right) value owned };
 }
 
 impl<T: Item<T>, J: Job> Look<T> for World<T, J> {
@@ -95,7 +95,7 @@ impl<T: Item<T>, J: Job> Shows<T> for Turn<'_, T, J> {
 
     ghost one_owned = { λ t right u v a b. one_value t.world.now (number_of right) u v a b };
 
-    ghost keeps_owned = { λ _ _ kept right value owned. kept (number_of right) value owned };
+    ghost keeps_owned = { λ _ _ _ kept right value owned. kept (number_of right) value owned };
 }
 
 impl<T: Item<T>, J: Job> Look<T> for Turn<'_, T, J> {

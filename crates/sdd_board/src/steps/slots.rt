@@ -1,7 +1,7 @@
 //! The atomic steps on slots, by a participant.
 //!
 //! A slot is free, owned by one owner, or its item waits. A lone participant knows each word beforehand.
-ghost use Rattle.std.specs.Prelude.{◌≡◌, ◌<◌, ◌≤◌, ℕ, [], ◌∷◌, None};
+ghost use Rattle.std.specs.Prelude.{◌≡◌, ◌<◌, ◌≤◌, ℕ, Bool, [], ◌∷◌, None};
 ghost use base.Stored.{Gv};
 ghost use Rattle.sdd_rule.specs.Words as words;
 ghost use Rattle.sdd_rule.specs.Codes.{free_word, owned_word, waiting_word};
@@ -11,7 +11,7 @@ ghost use Rattle.sdd_rule.specs.SlotSteps.{IsDue, LooksAtSlot, TakesHold, LetsGo
 ghost use Rattle.sdd_rule.specs.Parts.{owner_of};
 ghost use Rattle.sdd_stakes.specs.Shelf.{IsVacant};
 ghost use Rattle.sdd_homes.specs.Homes.{Carries, Moves};
-ghost use Rattle.sdd_homes.specs.HomeSteps.{HasAll, IsValue, ClaimsAll, Houses, TakesOut, TakesHeld, GivesAll, DiscardsAll, RetiresOne, Watches, parting, regained};
+ghost use Rattle.sdd_homes.specs.HomeSteps.{HasAll, IsValue, ClaimsAll, Houses, TakesOut, TakesHeld, GivesAll, DiscardsAll, RetiresOne, Watches, Recalls, parting, regained};
 ghost use Rattle.sdd_board.specs.Board.{id_of, book_of, places_of, slots_of};
 ghost use Rattle.sdd_token.specs.Owner.{witness_of_owner};
 ghost use Rattle.sdd_board.specs.Owner.{IsCutOff};
@@ -19,8 +19,8 @@ ghost use Rattle.sdd_board.specs.Token.{view, epoch, slots, Taught, Moved, Moved
 
 use crate::board::{Board, Token};
 use crate::plays::{
-    Claim, Discard, GiveBack, Hold, House, LetGo, LookAtSlot, LookForGuard, Part, Retire, TakeHeld,
-    TakeIn, TakeOut, Watch,
+    Claim, Discard, GiveBack, Hold, House, HouseShared, LetGo, LookAtSlot, LookForGuard, Part,
+    Recall, Retire, TakeHeld, TakeIn, TakeOut, Watch,
 };
 use crate::words::state_word;
 use sdd_witness::{Witness, part, rejoin, step_alone, step_beside};
@@ -63,18 +63,23 @@ pub fn claim(board: &Board, token: &mut Token, slot: u32) -> u64
         .compare_exchange::<Claim>(token, board.slot_word(slot), FREE, OWNED)
 }
 
-/// The value of the slot that it moves was moved in, and the stakes in it show that: all go home. No word is touched.
+/// The value of the slot that it moves was moved in, and the stakes in it show that: all go home. Its owner may be one of several. No word is touched.
 #[inline]
-pub fn house(board: &Board, token: &mut Token)
+pub fn house(board: &Board, token: &mut Token, shared: bool)
     requires home { token.old.table_id ≡ id_of board.now }
     requires knows { Knows board.now token.old }
     requires place { HasPlace (epoch token.old) }
     requires row { (slot : ℕ) × (value : Gv) × (slot < slots_of board.now) × Moves (view token.old) slot × OwnsAlone (view token.old) slot
         × ((rest : Carries) × HasAll (book_of board.now) slot (places_of board.now) (IsValue value) rest token.old.me.1) }
     ensures { (slot : ℕ) (value : Gv) (rest : Carries) → Moves (view token.old) slot
-        → HasAll (book_of board.now) slot (places_of board.now) (IsValue value) rest token.old.me.1 → MovedAlone (Houses slot value) token.old token.new }
+        → HasAll (book_of board.now) slot (places_of board.now) (IsValue value) rest token.old.me.1
+        → MovedAlone (Houses slot shared value) token.old token.new }
 {
-    step_alone::<_, _, _, _, House>(&board.table.shared, token);
+    if shared {
+        step_alone::<_, _, _, _, HouseShared>(&board.table.shared, token);
+    } else {
+        step_alone::<_, _, _, _, House>(&board.table.shared, token);
+    }
 }
 
 /// Retires the item of a slot of its own, which waits with the participant from now on.
@@ -138,10 +143,26 @@ pub fn watch(board: &Board, token: &mut Token, owner: &Witness)
     requires near { (epoch token.old).place < places_of board.now }
     requires rests { (view token.old).stakes.moves ≡ None }
     requires owner { (owner.now.table_id ≡ id_of board.now)
-        × ((slot : ℕ) × (value : Gv) × (slot < slots_of board.now) × (owner.now.views ≡ witness_of_owner slot value)) }
-    ensures { (slot : ℕ) (value : Gv) → owner.now.views ≡ witness_of_owner slot value → MovedAlone (Watches slot value) token.old token.new }
+        × ((slot : ℕ) × (shared : Bool) × (value : Gv) × (slot < slots_of board.now) × (owner.now.views ≡ witness_of_owner slot shared value)) }
+    ensures { (slot : ℕ) (shared : Bool) (value : Gv) → owner.now.views ≡ witness_of_owner slot shared value
+        → MovedAlone (Watches slot shared value) token.old token.new }
 {
     step_beside::<_, _, _, _, Watch>(&board.table.shared, token, owner);
+}
+
+/// A lone participant learns beside the owner of a slot, which may be with another, that it moved into the slot last what the owner tells.
+/// Nothing changes, and no word is touched.
+#[inline]
+pub fn recall(board: &Board, token: &mut Token, owner: &Witness)
+    requires home { token.old.table_id ≡ id_of board.now }
+    requires knows { Knows board.now token.old }
+    requires place { HasPlace (epoch token.old) }
+    requires owner { (owner.now.table_id ≡ id_of board.now)
+        × ((slot : ℕ) × (shared : Bool) × (value : Gv) × (slot < slots_of board.now) × (owner.now.views ≡ witness_of_owner slot shared value)) }
+    ensures { (slot : ℕ) (shared : Bool) (value : Gv) → owner.now.views ≡ witness_of_owner slot shared value
+        → MovedAlone (Recalls slot shared value) token.old token.new }
+{
+    step_beside::<_, _, _, _, Recall>(&board.table.shared, token, owner);
 }
 
 /// Holds a slot of the participant's own, to find out whether a guard sees it. Answers its word.
@@ -246,8 +267,9 @@ pub fn cut(board: &Board, token: &mut Token) -> Witness
 pub fn take_in(board: &Board, token: &mut Token, owner: Witness)
     requires home { token.old.table_id ≡ id_of board.now }
     requires rests { (view token.old).stakes.moves ≡ None }
-    requires owner { (owner.table_id ≡ id_of board.now) × ((slot : ℕ) × (value : Gv) × (owner.views ≡ witness_of_owner slot value)) }
-    ensures { (slot : ℕ) (value : Gv) → owner.views ≡ witness_of_owner slot value → Taught (λ v _ w. w ≡ regained v (owner_of slot value)) token.old 0 token.new }
+    requires owner { (owner.table_id ≡ id_of board.now) × ((slot : ℕ) × (shared : Bool) × (value : Gv) × (owner.views ≡ witness_of_owner slot shared value)) }
+    ensures { (slot : ℕ) (shared : Bool) (value : Gv) → owner.views ≡ witness_of_owner slot shared value
+        → Taught (λ v _ w. w ≡ regained v (owner_of slot shared value)) token.old 0 token.new }
 {
     rejoin::<_, _, _, _, TakeIn>(&board.table.shared, token, owner);
 }

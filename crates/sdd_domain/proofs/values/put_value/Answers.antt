@@ -25,61 +25,61 @@ house-requires-clause-row g c = let b = c.args.board.now in let r = c.requires i
       slot,
       value,
       r.inside,
-      moves_put b slot (c.places-count.result + 1) value c.args.token.now c.put.new.seat c.put.new.seat r.knows all r.own.0 r.row.0 r.row.1 put.0 tt put.1,
+      moves_put b slot (c.places-count.result + 1) c.args.shared value c.args.token.now c.put.new.seat c.put.new.seat r.knows all r.own.0 r.row.0 r.row.1 put.0 tt put.1,
       (let e = ap (λ (v : View). times slot v.slots.owns) same in let e' = ap (times slot) r.own.1 in omega arith),
       (
         r.row.0,
-        row_put b slot (c.places-count.result + 1) value c.args.token.now c.put.new.seat c.put.new.seat r.knows all r.own.0 r.row.0 r.row.1 put.0 tt put.1,
+        row_put b slot (c.places-count.result + 1) c.args.shared value c.args.token.now c.put.new.seat c.put.new.seat r.knows all r.own.0 r.row.0 r.row.1 put.0 tt put.1,
       ),
     )
 
 pub cut-requires-clause-one : goal.cut-requires-clause-one
 cut-requires-clause-one g c = let b = c.args.board.now in let r = c.requires in let put = c.put.ensures.seat in
-    let f = furnished b c.args.slot (c.places-count.result + 1) (showing g.row.T c.args.value) c.args.token.now c.put.new.seat c.house.new.token r.knows
+    let f = furnished b c.args.slot (c.places-count.result + 1) c.args.shared (showing g.row.T c.args.value) c.args.token.now c.put.new.seat c.house.new.token r.knows
     (ap (λ (k : ℕ). k + 1) c.places-count.ensures) r.own.0 r.row.0 r.row.1 put.0 tt put.1 c.house.ensures in
     (c.args.slot, ap (λ (v : View). v.slots.owns) f.view ∙ r.own.1)
 
 pub cut-requires-clause-home : goal.cut-requires-clause-home
 cut-requires-clause-home g c = let b = c.args.board.now in let r = c.requires in let put = c.put.ensures.seat in
-    let f = furnished b c.args.slot (c.places-count.result + 1) (showing g.row.T c.args.value) c.args.token.now c.put.new.seat c.house.new.token r.knows
+    let f = furnished b c.args.slot (c.places-count.result + 1) c.args.shared (showing g.row.T c.args.value) c.args.token.now c.put.new.seat c.house.new.token r.knows
     (ap (λ (k : ℕ). k + 1) c.places-count.ensures) r.own.0 r.row.0 r.row.1 put.0 tt put.1 c.house.ensures in
     f.table ∙ r.home
 
 pub cut-requires-clause-free : goal.cut-requires-clause-free
 cut-requires-clause-free g c = let b = c.args.board.now in let r = c.requires in let put = c.put.ensures.seat in
-    let f = furnished b c.args.slot (c.places-count.result + 1) (showing g.row.T c.args.value) c.args.token.now c.put.new.seat c.house.new.token r.knows
+    let f = furnished b c.args.slot (c.places-count.result + 1) c.args.shared (showing g.row.T c.args.value) c.args.token.now c.put.new.seat c.house.new.token r.knows
     (ap (λ (k : ℕ). k + 1) c.places-count.ensures) r.own.0 r.row.0 r.row.1 put.0 tt put.1 c.house.ensures in
     ap (λ (v : View). v.slots.holds) f.view ∙ r.free
 
 pub cut-requires-clause-rests : goal.cut-requires-clause-rests
 cut-requires-clause-rests g c = let b = c.args.board.now in let r = c.requires in let put = c.put.ensures.seat in
-    let f = furnished b c.args.slot (c.places-count.result + 1) (showing g.row.T c.args.value) c.args.token.now c.put.new.seat c.house.new.token r.knows
+    let f = furnished b c.args.slot (c.places-count.result + 1) c.args.shared (showing g.row.T c.args.value) c.args.token.now c.put.new.seat c.house.new.token r.knows
     (ap (λ (k : ℕ). k + 1) c.places-count.ensures) r.own.0 r.row.0 r.row.1 put.0 tt put.1 c.house.ensures in
     ap (λ (v : View). v.stakes.moves) f.view
 
 pub returns-clause-home : goal.returns-clause-home
 returns-clause-home g c = let b = c.args.board.now in let r = c.requires in let put = c.put.ensures.seat in
-    let f = furnished b c.args.slot (c.places-count.result + 1) (showing g.row.T c.args.value) c.args.token.now c.put.new.seat c.house.new.token r.knows
+    let f = furnished b c.args.slot (c.places-count.result + 1) c.args.shared (showing g.row.T c.args.value) c.args.token.now c.put.new.seat c.house.new.token r.knows
     (ap (λ (k : ℕ). k + 1) c.places-count.ensures) r.own.0 r.row.0 r.row.1 put.0 tt put.1 c.house.ensures in
     (c.cut.ensures.participant.0 ∙ f.table, c.cut.ensures.participant.1 ∙ f.number)
 
 pub returns-clause-view : goal.returns-clause-view
 returns-clause-view g c = let b = c.args.board.now in let r = c.requires in let put = c.put.ensures.seat in
-    let f = furnished b c.args.slot (c.places-count.result + 1) (showing g.row.T c.args.value) c.args.token.now c.put.new.seat c.house.new.token r.knows
+    let f = furnished b c.args.slot (c.places-count.result + 1) c.args.shared (showing g.row.T c.args.value) c.args.token.now c.put.new.seat c.house.new.token r.knows
     (ap (λ (k : ℕ). k + 1) c.places-count.ensures) r.own.0 r.row.0 r.row.1 put.0 tt put.1 c.house.ensures in
-    c.cut.ensures.participant.3 ∙ (ap parting f.view ∙ parted_view c.args.slot (showing g.row.T c.args.value) c.args.token.now.me.0 r.own.1 r.own.2)
+    c.cut.ensures.participant.3 ∙ (ap parting f.view ∙ parted_view c.args.slot c.args.shared (showing g.row.T c.args.value) c.args.token.now.me.0 r.own.1 r.own.2)
 
 pub returns-clause-given : goal.returns-clause-given
 returns-clause-given g c = let b = c.args.board.now in let r = c.requires in let put = c.put.ensures.seat in
-    let f = furnished b c.args.slot (c.places-count.result + 1) (showing g.row.T c.args.value) c.args.token.now c.put.new.seat c.house.new.token r.knows
+    let f = furnished b c.args.slot (c.places-count.result + 1) c.args.shared (showing g.row.T c.args.value) c.args.token.now c.put.new.seat c.house.new.token r.knows
     (ap (λ (k : ℕ). k + 1) c.places-count.ensures) r.own.0 r.row.0 r.row.1 put.0 tt put.1 c.house.ensures in
     c.cut.ensures.participant.2 ∙ f.given
 
 pub returns-clause-owner : goal.returns-clause-owner
 returns-clause-owner g c = let b = c.args.board.now in let r = c.requires in let put = c.put.ensures.seat in
-    let f = furnished b c.args.slot (c.places-count.result + 1) (showing g.row.T c.args.value) c.args.token.now c.put.new.seat c.house.new.token r.knows
+    let f = furnished b c.args.slot (c.places-count.result + 1) c.args.shared (showing g.row.T c.args.value) c.args.token.now c.put.new.seat c.house.new.token r.knows
     (ap (λ (k : ℕ). k + 1) c.places-count.ensures) r.own.0 r.row.0 r.row.1 put.0 tt put.1 c.house.ensures in (
       c.cut.ensures.owner.0,
       c.cut.ensures.owner.1 ∙ ap (λ (v : View). the_row.coded.code v ∷ [])
-          (ap departing f.view ∙ departed_view c.args.slot (showing g.row.T c.args.value) c.args.token.now.me.0 r.own.1 r.own.2),
+          (ap departing f.view ∙ departed_view c.args.slot c.args.shared (showing g.row.T c.args.value) c.args.token.now.me.0 r.own.1 r.own.2),
     )

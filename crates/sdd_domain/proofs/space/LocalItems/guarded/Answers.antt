@@ -1,18 +1,23 @@
-use Rattle.std.proofs.Common.{List, sym, subst}
-use Rattle.sdd_base.specs.Holding.{Holding, AreOf}
-use Rattle.sdd_token.specs.Right.{number_of}
-use Rattle.sdd_stakes.specs.Shelf.{showing}
-use Rattle.sdd_domain.specs.Space.{home_in}
-use Rattle.sdd_domain.proofs.Members.{shown_now, keeps_looks}
+use Rattle.std.proofs.Common.{ap, rules}
+use Rattle.sdd_domain.proofs.Owning.{only_looks, same_world, shows_it, owns_it, keeps_it}
+use Rattle.sdd_domain.specs.Member.{Member}
+use Rattle.sdd_domain.proofs.Sound.{sound_step}
 use Rattle.sdd_domain.proofs.space.LocalItems.guarded.Goals as goal
 
+pub invariant_of-self : goal.invariant_of-self
+invariant_of-self g c = let looks = c.guarded.ensures.looks in
+    sound_step (c.self.view_is 0) c.guarded.new.self c.self.invariant (λ w _. w) (λ w _ _ whole. whole)
+    (ap (λ (m : Member). m.limits) (only_looks g.row.T (c.self.view_is 0) c.guarded.new.self c.args.right.now c.guarded.result.now looks)) (search rules)
+    (λ _. same_world g.row.T (c.self.view_is 0) c.guarded.new.self c.args.right.now c.guarded.result.now looks)
+
 pub returns-clause-shown : goal.returns-clause-shown
-returns-clause-shown g c = let there = shown_now (number_of c.args.right.now) (showing g.row.T c.guarded.result.now) _ _ c.guarded.ensures.looks in record {
-  known = there;
-  only = λ other is. c.guarded.ensures.once (number_of c.args.right.now) other (showing g.row.T c.guarded.result.now) is there;
-  home = subst (λ (hs : List Holding). AreOf (home_in c.guarded.new.self) hs) (sym (g.met.T.Plain.holds_nothing c.guarded.result.now)) tt;
-}
+returns-clause-shown g c = shows_it g.row.T (c.self.view_is 0) c.guarded.new.self c.args.right.now c.guarded.result.now c.guarded.ensures.looks c.self.invariant.tied
+    c.codes.ensures c.guarded.ensures.recalled g.T.Item.holds (g.met.T.Plain.holds_nothing c.guarded.result.now) c.guarded.ensures.once
+
+pub returns-clause-value : goal.returns-clause-value
+returns-clause-value g c = owns_it g.row.T (c.self.view_is 0) c.guarded.new.self c.args.right.now c.guarded.result.now c.guarded.ensures.looks c.self.invariant.tied
+    c.codes.ensures c.guarded.ensures.recalled c.guarded.ensures.value
 
 pub returns-clause-keeps : goal.returns-clause-keeps
-returns-clause-keeps g c = keeps_looks (number_of c.args.right.now) (showing g.row.T c.guarded.result.now) _ _ c.guarded.ensures.looks (showing g.row.T)
-    g.T.Item.holds c.guarded.ensures.once
+returns-clause-keeps g c = keeps_it g.row.T (c.self.view_is 0) c.guarded.new.self c.args.right.now c.guarded.result.now c.guarded.ensures.looks
+    g.T.Item.holds c.guarded.ensures.once c.args.self.now c.self.view_is

@@ -1,7 +1,37 @@
-use Rattle.sdd_token.specs.Right.{number_of}
-use Rattle.sdd_stakes.specs.Shelf.{showing}
-use Rattle.sdd_domain.proofs.Members.{keeps_made}
+use Rattle.std.proofs.Common.{◌≡◌, ◌⊎◌}
+use Rattle.sdd_core.specs.declared.refused.Refused.{Refused}
+use Rattle.sdd_domain.proofs.Sound.{sound_made}
+use Rattle.sdd_domain.proofs.Makes.{answered_owns, answered_lone, answered_keeps, answered_exact, as_answered, value_owns, value_exact}
 use Rattle.sdd_domain.proofs.space.LocalItems.make.Goals as goal
 
+pub invariant_of-self : goal.invariant_of-self
+invariant_of-self g c = sound_made g.row.T (c.self.view_is 0) c.make.new.self c.make.new.ledger.entries c.args.kind
+    (λ y. y ≡ c.args.value) (λ e. e.0 ≡ c.args.value) (λ e. (e.1 ≡ Refused.NoSlot) ⊎ (e.1 ≡ Refused.Contended)) c.make.result
+    (as_answered g.row.T (c.self.view_is 0) c.make.new.self c.make.new.ledger.entries c.args.kind c.args.value
+    (λ e. (e.1 ≡ Refused.NoSlot) ⊎ (e.1 ≡ Refused.Contended)) c.make.result c.make.ensures.made c.make.ensures.entry) c.self.invariant
+
+pub returns-clause-shown : goal.returns-clause-shown
+returns-clause-shown g c = value_owns g.row.T (c.self.view_is 0) c.make.new.self c.make.new.ledger.entries c.args.kind c.args.value c.make.result
+    (answered_owns g.row.T (c.self.view_is 0) c.make.new.self c.make.new.ledger.entries c.args.kind
+    (λ y. y ≡ c.args.value) (λ e. e.0 ≡ c.args.value) (λ e. (e.1 ≡ Refused.NoSlot) ⊎ (e.1 ≡ Refused.Contended)) c.make.result
+    (as_answered g.row.T (c.self.view_is 0) c.make.new.self c.make.new.ledger.entries c.args.kind c.args.value
+    (λ e. (e.1 ≡ Refused.NoSlot) ⊎ (e.1 ≡ Refused.Contended)) c.make.result c.make.ensures.made c.make.ensures.entry) c.self.invariant.tied)
+
+pub returns-clause-lone : goal.returns-clause-lone
+returns-clause-lone g c = answered_lone g.row.T (c.self.view_is 0) c.make.new.self c.make.new.ledger.entries c.args.kind
+    (λ y. y ≡ c.args.value) (λ e. e.0 ≡ c.args.value) (λ e. (e.1 ≡ Refused.NoSlot) ⊎ (e.1 ≡ Refused.Contended)) c.make.result c.args.self.now c.self.view_is
+    (as_answered g.row.T (c.self.view_is 0) c.make.new.self c.make.new.ledger.entries c.args.kind c.args.value
+    (λ e. (e.1 ≡ Refused.NoSlot) ⊎ (e.1 ≡ Refused.Contended)) c.make.result c.make.ensures.made c.make.ensures.entry)
+
+pub returns-clause-exact : goal.returns-clause-exact
+returns-clause-exact g c = λ exact. value_exact g.row.T (c.self.view_is 0) c.make.new.self c.make.new.ledger.entries c.args.kind c.args.value c.make.result c.args.self.now
+    (answered_exact g.row.T (c.self.view_is 0) c.make.new.self c.make.new.ledger.entries c.args.kind
+    (λ y. y ≡ c.args.value) c.args.value (λ e. (e.1 ≡ Refused.NoSlot) ⊎ (e.1 ≡ Refused.Contended)) c.make.result c.args.self.now c.self.view_is
+    (as_answered g.row.T (c.self.view_is 0) c.make.new.self c.make.new.ledger.entries c.args.kind c.args.value
+    (λ e. (e.1 ≡ Refused.NoSlot) ⊎ (e.1 ≡ Refused.Contended)) c.make.result c.make.ensures.made c.make.ensures.entry) c.self.invariant.tied exact)
+
 pub returns-clause-keeps : goal.returns-clause-keeps
-returns-clause-keeps g c = keeps_made (showing g.row.T) g.T.Item.holds _ _ number_of _ _ _ _ c.make.result c.make.ensures
+returns-clause-keeps g c = answered_keeps g.row.T (c.self.view_is 0) c.make.new.self c.make.new.ledger.entries c.args.kind
+    (λ y. y ≡ c.args.value) (λ e. e.0 ≡ c.args.value) (λ e. (e.1 ≡ Refused.NoSlot) ⊎ (e.1 ≡ Refused.Contended)) g.T.Item.holds c.make.result c.args.self.now c.self.view_is
+    (as_answered g.row.T (c.self.view_is 0) c.make.new.self c.make.new.ledger.entries c.args.kind c.args.value
+    (λ e. (e.1 ≡ Refused.NoSlot) ⊎ (e.1 ≡ Refused.Contended)) c.make.result c.make.ensures.made c.make.ensures.entry) c.self.invariant.tied

@@ -1,0 +1,11 @@
+use Rattle.std.proofs.Common.{rules}
+use Rattle.sdd_base.specs.Seat.{IsExact}
+use Rattle.sdd_domain.specs.Member.{IsLone}
+use Rattle.sdd_domain.specs.Space.{seat_of}
+use Rattle.sdd_client.proofs.Emptiness.{full_is_not_blank}
+use Rattle.sdd_client.proofs.lone.first_item.Goals as goal
+
+pub unreachable-requires : goal.unreachable-requires
+unreachable-requires c = let lone : IsLone c.in_ok-local.local.member = search rules in
+    let exact : IsExact (seat_of c.in_ok-local.local) = search rules in
+    full_is_not_blank _ _ _ (c.in_ok-local.ensures.blank lone).standings c.requires.slots (c.in_default.ensures.exact exact).0

@@ -1,0 +1,289 @@
+-- What a lone participant's making of an item is for its world
+use Rattle.std.proofs.Common.{◌≡◌, ◌≢◌, ℕ, ◌<◌, Bool, true, false, IsTrue, List, ◌∷◌, Some, None, length, set, slice_index_or, sym, refl, ap, ◌∙◌, subst, arith, length-set, get_or-set_same, get_or-set_other}
+use Rattle.std.specs.Prelude.{Option, Result, Ok, Err, MatchResult, IfOk, IfErr, IsSome, if◌then◌else◌}
+use mathlib.Core.Logic.{dite}
+use native.Mathlib.Decide.{ℕ_discrete, dec_lt}
+use base.Stored.{Gv}
+use denote.RattleType.{RattleType}
+use Rattle.sdd_core.specs.declared.refused.Refused.{Refused}
+use Rattle.sdd_store.specs.declared.standing.Standing.{Standing}
+use Rattle.sdd_store.specs.declared.standing.Standing.TheVariants.{Owned, Shared}
+use Rattle.sdd_store.specs.Table.{IsEmptyAt, IsFull}
+use Rattle.sdd_store.specs.Tally.{one_made}
+use Rattle.sdd_stakes.specs.Shelf.{showing}
+use Rattle.sdd_token.specs.declared.right.Kind.{Kind}
+use Rattle.sdd_token.specs.declared.right.Kind.TheVariants as kinds
+use Rattle.sdd_token.specs.declared.right.Right.{Right}
+use Rattle.sdd_token.specs.Kind.{is_shared}
+use Rattle.sdd_token.specs.Right.{number_of}
+use Rattle.sdd_standings.specs.Slots.{first_standing}
+use Rattle.sdd_rule.specs.declared.Showing.{Showing}
+use Rattle.sdd_rule.specs.Codes.{waiting, full}
+use Rattle.sdd_rule.specs.SlotSteps.{behind}
+use Rattle.sdd_rule.proofs.Codes.{free_is, owned_is}
+use Rattle.sdd_homes.specs.Fillings.{newest}
+use Rattle.sdd_homes.proofs.Fillings.{newest_now, newest_before}
+use Rattle.sdd_base.specs.Holding.{Holding}
+use Rattle.sdd_base.specs.Ptr.{KeepsShown}
+use Rattle.sdd_base.specs.World.{value_at}
+use Rattle.sdd_base.specs.Steps.{made_as}
+use Rattle.sdd_domain.specs.Member.{Member, IsLone, IsUsedUp, MakesAt, word_of}
+use Rattle.sdd_domain.specs.Items.{HasValue, IsRightTo}
+use Rattle.sdd_domain.specs.Tied.{Entries, Agrees, AreTied, IsTied, is_plain_word}
+use Rattle.sdd_domain.specs.Local.{Partaker, listing, standing_by, value_by, owner_standing, standing_in, value_in, world_of}
+use Rattle.sdd_domain.specs.Space.{ShowsBy, Shows, OwnsBy, Owns, is_lone}
+use Rattle.sdd_domain.proofs.Listings.{listing_at, listing_long, listing_past, listing_set, listing_all}
+use Rattle.sdd_domain.proofs.Words.{word_same, word_other}
+use Rattle.sdd_domain.proofs.Exact.{lone_is}
+
+first_by : (kind : Kind) → first_standing kind ≡ (if is_shared kind then Shared 1 else Owned)
+first_by kinds.Free = refl
+first_by kinds.Owned = refl
+first_by kinds.Raw = refl
+first_by kinds.Shared = refl
+first_by kinds.Retired = refl
+
+-- a slot that isn't free has a standing
+some_standing : (word : ℕ) (r : Option Showing) → word ≢ 0 → (s : Standing) × (standing_by word r ≡ Some s)
+some_standing word r taken = dite (ℕ_discrete word 4) (λ e. (_, ap (λ (x : ℕ). standing_by x r) e))
+    (λ ne. (owner_standing r, not_either word r taken ne))
+  where
+    not_either : (word : ℕ) (r : Option Showing) → word ≢ 0 → word ≢ 4 → standing_by word r ≡ Some (owner_standing r)
+    not_either word r a b = grind arith
+
+is_there : (s : Standing) → IsSome (Some s)
+is_there s = refl
+
+pub used_up : {T : Type 0} (p : Partaker T) → IsUsedUp p.member → IsFull (world_of p).standings
+used_up p used = listing_all (λ (e : Option Standing). IsSome e) p.member.limits.slots (standing_in p)
+    (λ i low. let s = some_standing (word_of p.member i) (newest i p.member.filled) (used i low) in
+    subst (λ (e : Option Standing). IsSome e) (sym s.1) (is_there s.0))
+
+module _ {T : Type 0} (v : Partaker T) (k : ℕ) (shared : Bool) (x : T) (g : Gv) where
+  abbrev r : Showing
+  r = record { slot = k; shared = shared; value = g }
+
+  -- what it is once the item was made
+  abbrev pub made_member : Member
+  made_member = record v.member {
+    tally = one_made v.member.tally;
+    filled = record { slot = k; shared = shared; value = g } ∷ v.member.filled;
+    words = set v.member.words (behind v.member.sizes k) 1;
+  }
+
+  abbrev pub made_partaker : Partaker T
+  made_partaker = record { member = made_member; entries = set v.entries k (Some (x, g)) }
+
+  module _ (t : AreTied v.member v.entries) (low : k < v.member.limits.slots) (free : word_of v.member k ≡ 0) where
+    here : k < v.member.sizes.slots
+    here = let s = t.slots in omega arith
+
+    wide : k < length v.entries
+    wide = let w = t.wide in omega arith
+
+    word_now : word_of made_member k ≡ 1
+    word_now = word_same v.member.sizes v.member.words t.long k 1 here
+
+    word_then : (i : ℕ) → i ≢ k → word_of made_member i ≡ word_of v.member i
+    word_then i ne = word_other v.member.sizes v.member.words t.long k 1 i ne
+
+    filled_then : (i : ℕ) → i ≢ k → newest i made_member.filled ≡ newest i v.member.filled
+    filled_then i ne = newest_before r v.member.filled i (λ e. ne (sym e))
+
+    entry_now : slice_index_or made_partaker.entries k None ≡ Some (x, g)
+    entry_now = get_or-set_same v.entries k (Some (x, g)) None wide
+
+    entry_then : (i : ℕ) → i ≢ k → slice_index_or made_partaker.entries i None ≡ slice_index_or v.entries i None
+    entry_then i ne = get_or-set_other v.entries k i (Some (x, g)) None ne
+
+    agrees_now : Agrees (newest k made_member.filled) (slice_index_or made_partaker.entries k None)
+    agrees_now = subst (λ (z : Option Showing × Option (T × Gv)). Agrees z.0 z.1) (λ d. (sym (newest_now r v.member.filled) d, sym entry_now d)) refl
+
+    pub tied_made : AreTied made_member made_partaker.entries
+    tied_made = record {
+      place = t.place;
+      slots = t.slots;
+      long = length-set v.member.words (behind v.member.sizes k) 1 ∙ t.long;
+      wide = length-set v.entries k (Some (x, g)) ∙ t.wide;
+      plain = λ i l. dite (ℕ_discrete i k)
+          (λ e. subst (λ (y : ℕ). IsTrue (is_plain_word y)) (sym (ap (word_of made_member) e ∙ word_now)) refl)
+          (λ ne. subst (λ (y : ℕ). IsTrue (is_plain_word y)) (sym (word_then i ne)) (t.plain i l));
+      waits = λ i l. dite (ℕ_discrete i k)
+          (λ e. let w = t.waits i l in let f = (free_is 0 (omega arith)).1 in let o = (owned_is 0 (omega arith)).1 in
+          let a = ap waiting (ap (word_of v.member) e ∙ free) in let b = ap waiting (ap (word_of made_member) e ∙ word_now) in omega arith)
+          (λ ne. t.waits i l ∙ ap waiting (sym (word_then i ne)));
+      inside = t.inside;
+      kept = λ i l filled. dite (ℕ_discrete i k)
+          (λ e. subst (λ (j : ℕ). Agrees (newest j made_member.filled) (slice_index_or made_partaker.entries j None)) (sym e) agrees_now)
+          (λ ne. subst (λ (z : Option Showing × Option (T × Gv)). Agrees z.0 z.1) (λ d. (sym (filled_then i ne) d, sym (entry_then i ne) d))
+          (t.kept i l (sym (ap full (word_then i ne)) ∙ filled)));
+      bags = t.bags;
+      now = t.now;
+    }
+
+    standing_now : standing_in made_partaker k ≡ Some (if shared then Shared 1 else Owned)
+    standing_now = λ d. standing_by (word_now d) (newest_now r v.member.filled d)
+
+    value_now : value_in made_partaker k ≡ Some x
+    value_now = λ d. value_by (word_now d) (entry_now d)
+
+    pub empty_then : IsEmptyAt (world_of v).standings k
+    empty_then = (
+      (let e = listing_long v.member.limits.slots (standing_in v) in omega arith),
+      listing_at v.member.limits.slots (standing_in v) k None low ∙ ap (λ (w : ℕ). standing_by w (newest k v.member.filled)) free,
+    )
+
+    pub made_world : world_of made_partaker ≡ made_as (world_of v) k x (if shared then Shared 1 else Owned)
+    made_world =
+        let standings : listing v.member.limits.slots (standing_in made_partaker)
+        ≡ set (listing v.member.limits.slots (standing_in v)) k (Some (if shared then Shared 1 else Owned))
+        = listing_set v.member.limits.slots (standing_in v) (standing_in made_partaker) k
+        (λ i l ne. λ d. standing_by (word_then i ne d) (filled_then i ne d))
+        ∙ ap (set (listing v.member.limits.slots (standing_in v)) k) standing_now in
+        let values : listing v.member.limits.slots (value_in made_partaker) ≡ set (listing v.member.limits.slots (value_in v)) k (Some x)
+        = listing_set v.member.limits.slots (value_in v) (value_in made_partaker) k (λ i l ne. λ d. value_by (word_then i ne d) (entry_then i ne d))
+        ∙ ap (set (listing v.member.limits.slots (value_in v)) k) value_now in
+        λ d. record (world_of made_partaker) { standings = standings d; values = values d }
+
+    pub value_made : value_at (world_of made_partaker) k ≡ Some x
+    value_made = listing_at v.member.limits.slots (value_in made_partaker) k None low ∙ value_now
+
+    -- each slot shows what it showed
+    pub value_kept : (i : ℕ) (u : T) → value_at (world_of v) i ≡ Some u → value_at (world_of made_partaker) i ≡ Some u
+    value_kept i u was = dite (ℕ_discrete i k)
+        (λ e. absurd (no_value (sym (ap (value_at (world_of v)) e ∙ (listing_at v.member.limits.slots (value_in v) k None low
+        ∙ ap (λ (w : ℕ). value_by w (slice_index_or v.entries k None)) free)) ∙ was)))
+        (λ ne. dite (dec_lt i v.member.limits.slots)
+        (λ l. listing_at v.member.limits.slots (value_in made_partaker) i None l ∙ ((λ d. value_by (word_then i ne d) (entry_then i ne d))
+        ∙ (sym (listing_at v.member.limits.slots (value_in v) i None l) ∙ was)))
+        (λ far. absurd (no_value (sym (listing_past v.member.limits.slots (value_in v) i None (omega arith)) ∙ was))))
+      where
+        no_value : {u : T} → ¬ (◌≡◌ {A = Option T} None (Some u))
+        no_value e = absurd cc
+
+-- ---- for an answer
+module _ (R : RattleType) (v : Partaker R.Denot) (m : Member) (es : Entries R.Denot) (kind : Kind) where
+  abbrev after : Partaker R.Denot
+  after = record { member = m; entries = es }
+
+  -- it made this, for this owner
+  abbrev pub Did : R.Denot → Right → Type 0
+  Did x right = MakesAt (number_of right) (is_shared kind) (showing R x) v.member m × IsRightTo v.member kind (showing R x) right
+      × (es ≡ set v.entries (number_of right) (Some (x, showing R x)))
+
+  -- or it was refused
+  abbrev pub Was : {B : Type 0} → (B × Refused → Type 0) → (B × Refused → Type 0) → B × Refused → Type 0
+  Was Back Why e = Back e × (m ≡ v.member) × Why e × (IsLone v.member → (e.1 ≡ Refused.NoSlot) × IsUsedUp v.member) × (es ≡ v.entries)
+
+  module _ (x : R.Denot) (right : Right) (did : Did x right) where
+    abbrev k : ℕ
+    k = number_of right
+
+    is_made : after ≡ made_partaker v (number_of right) (is_shared kind) x (showing R x)
+    is_made = λ d. record { member = did.0.member d; entries = did.2 d }
+
+    did_tied : IsTied v.member v.entries → IsTied m es
+    did_tied tied one = let lone : IsLone v.member = sym (ap (λ (z : Member). z.limits.participants) did.0.member) ∙ one in
+        subst (λ (p : Partaker R.Denot). AreTied p.member p.entries) (sym is_made)
+        (tied_made v (number_of right) (is_shared kind) x (showing R x) (tied lone) did.0.inside (did.0.lone lone))
+
+    pub did_world : IsTied v.member v.entries → IsLone v.member → IsEmptyAt (world_of v).standings (number_of right)
+        × (world_of after ≡ made_as (world_of v) (number_of right) x (first_standing kind))
+    did_world tied lone = (
+      empty_then v (number_of right) (is_shared kind) x (showing R x) (tied lone) did.0.inside (did.0.lone lone),
+      ap world_of is_made ∙ (made_world v (number_of right) (is_shared kind) x (showing R x) (tied lone) did.0.inside (did.0.lone lone)
+          ∙ ap (made_as (world_of v) (number_of right) x) (sym (first_by kind))),
+    )
+
+    owns_by : (b : Bool) → (IsTrue b → value_at (world_of after) (number_of right) ≡ Some x) → HasValue (showing R x) right → OwnsBy b (showing R) after right x
+    owns_by true there has = there refl
+    owns_by false there has = has
+
+    did_own : IsTied v.member v.entries → Owns (showing R) after right x
+    did_own tied = owns_by (is_lone m) (λ exact. let lone : IsLone v.member = sym (ap (λ (z : Member). z.limits.participants) did.0.member) ∙ lone_is m exact in
+        ap (λ (p : Partaker R.Denot). value_at (world_of p) (number_of right)) is_made
+        ∙ value_made v (number_of right) (is_shared kind) x (showing R x) (tied lone) did.0.inside (did.0.lone lone)) did.1.value
+
+    keeps_by : (holds : R.Denot → List Holding) (b : Bool) → (IsTrue b → IsLone v.member) → IsTied v.member v.entries → (i : ℕ) (u : R.Denot)
+        → ShowsBy b (showing R) holds v i u → ShowsBy b (showing R) holds (made_partaker v (number_of right) (is_shared kind) x (showing R x)) i u
+    keeps_by holds true lone tied i u h = value_kept v (number_of right) (is_shared kind) x (showing R x) (tied (lone refl)) did.0.inside (did.0.lone (lone refl)) i u h
+    keeps_by holds false lone tied i u h = h
+
+    did_keep : (holds : R.Denot → List Holding) → IsTied v.member v.entries → KeepsShown (Shows (showing R) holds v) (Shows (showing R) holds after)
+    did_keep holds tied i u h = subst (λ (p : Partaker R.Denot). Shows (showing R) holds p i u) (sym is_made)
+        (keeps_by holds (is_lone v.member) (λ exact. lone_is v.member exact) tied i u h)
+
+  module _ {B : Type 0} (P : R.Denot → Type 0) (Back Why : B × Refused → Type 0) where
+    abbrev pub Answers : Result Right (B × Refused) → Type 0
+    Answers r = MatchResult r (λ right. (x : R.Denot) × P x × MakesAt (number_of right) (is_shared kind) (showing R x) v.member m
+        × IsRightTo v.member kind (showing R x) right × (es ≡ set v.entries (number_of right) (Some (x, showing R x)))) (Was Back Why)
+
+    pub answered_tied : (r : Result Right (B × Refused)) → Answers r → IsTied v.member v.entries → IsTied m es
+    answered_tied (Ok right) a tied = did_tied a.0 right (a.2, a.3, a.4) tied
+    answered_tied (Err e) a tied = subst (λ (p : Partaker R.Denot). IsTied p.member p.entries) (λ d. record { member = sym a.1 d; entries = sym a.4 d }) tied
+
+    pub answered_owns : (r : Result Right (B × Refused)) → Answers r → IsTied v.member v.entries
+        → IfOk r (λ right. (x : R.Denot) × P x × Owns (showing R) after right x)
+    answered_owns (Ok right) a tied = (a.0, a.1, did_own a.0 right (a.2, a.3, a.4) tied)
+    answered_owns (Err e) a tied = tt
+
+    pub answered_lone : (r : Result Right (B × Refused)) (p : Partaker R.Denot) → v ≡ p → Answers r → IsTrue (is_lone p.member)
+        → IfErr r (λ e. (e.1 ≡ Refused.NoSlot) × IsFull (world_of p).standings)
+    answered_lone (Ok right) p is a exact = tt
+    answered_lone (Err e) p is a exact = let n = a.3 (lone_is v.member (subst (λ (q : Partaker R.Denot). IsTrue (is_lone q.member)) (sym is) exact)) in
+        (n.0, subst (λ (q : Partaker R.Denot). IsFull (world_of q).standings) is (used_up v n.1))
+
+    pub answered_keeps : (holds : R.Denot → List Holding) (r : Result Right (B × Refused)) (p : Partaker R.Denot) → v ≡ p → Answers r
+        → IsTied v.member v.entries → KeepsShown (Shows (showing R) holds p) (Shows (showing R) holds after)
+    answered_keeps holds (Ok right) p is a tied i u h = did_keep a.0 right (a.2, a.3, a.4) holds tied i u (subst (λ (q : Partaker R.Denot). Shows (showing R) holds q i u) (sym is) h)
+    answered_keeps holds (Err e) p is a tied i u h = subst (λ (q : Partaker R.Denot). Shows (showing R) holds q i u)
+        (sym is ∙ (λ d. record { member = sym a.1 d; entries = sym a.4 d })) h
+
+    pub answered_world : (r : Result Right (B × Refused)) (p : Partaker R.Denot) → v ≡ p → Answers r → IsTied v.member v.entries → IsTrue (is_lone p.member)
+        → MatchResult r (λ right. IsEmptyAt (world_of p).standings (number_of right)
+        × ((x : R.Denot) × P x × (world_of after ≡ made_as (world_of p) (number_of right) x (first_standing kind))))
+        (λ e. IsFull (world_of p).standings × (Back e × (e.1 ≡ Refused.NoSlot)) × (world_of after ≡ world_of p))
+    answered_world (Ok right) p is a tied exact = let lone = lone_is v.member (subst (λ (q : Partaker R.Denot). IsTrue (is_lone q.member)) (sym is) exact) in
+        let w = did_world a.0 right (a.2, a.3, a.4) tied lone in (
+          subst (λ (q : Partaker R.Denot). IsEmptyAt (world_of q).standings (number_of right)) is w.0,
+          (a.0, a.1, w.1 ∙ ap (λ (q : Partaker R.Denot). made_as (world_of q) (number_of right) a.0 (first_standing kind)) is),
+        )
+    answered_world (Err e) p is a tied exact = let n = answered_lone (Err e) p is a exact in (
+      n.1,
+      (a.0, n.0),
+      ap world_of ((λ d. record { member = a.1 d; entries = a.4 d }) ∙ is),
+    )
+
+  pub answered_exact : {B : Type 0} (P : R.Denot → Type 0) (back : B) (Why : B × Refused
+      → Type 0) (r : Result Right (B × Refused)) (p : Partaker R.Denot) → v ≡ p
+      → Answers P (λ e. e.0 ≡ back) Why r → IsTied v.member v.entries → IsTrue (is_lone p.member)
+      → MatchResult r (λ right. IsEmptyAt (world_of p).standings (number_of right)
+      × ((x : R.Denot) × P x × (world_of after ≡ made_as (world_of p) (number_of right) x (first_standing kind))))
+      (λ e. IsFull (world_of p).standings × (e ≡ (back, Refused.NoSlot)) × (world_of after ≡ world_of p))
+  answered_exact P back Why (Ok right) p is a tied exact = answered_world P (λ e. e.0 ≡ back) Why (Ok right) p is a tied exact
+  answered_exact P back Why (Err e) p is a tied exact = let w = answered_world P (λ e. e.0 ≡ back) Why (Err e) p is a tied exact in
+      (w.0, (λ d. (w.1.0 d, w.1.1 d)), w.2)
+
+  -- of a value that is at hand
+  pub as_answered : (x : R.Denot) (Why : R.Denot × Refused → Type 0) (r : Result Right (R.Denot × Refused))
+      → MatchResult r (λ right. MakesAt (number_of right) (is_shared kind) (showing R x) v.member m × IsRightTo v.member kind (showing R x) right)
+      (λ e. (e.0 ≡ x) × (m ≡ v.member) × Why e × (IsLone v.member → (e.1 ≡ Refused.NoSlot) × IsUsedUp v.member))
+      → MatchResult r (λ right. es ≡ set v.entries (number_of right) (Some (x, showing R x))) (λ _. es ≡ v.entries)
+      → Answers (λ y. y ≡ x) (λ e. e.0 ≡ x) Why r
+  as_answered x Why (Ok right) a b = (x, refl, a.0, a.1, b)
+  as_answered x Why (Err e) a b = (a.0, a.1, a.2, a.3, b)
+
+  pub value_owns : (x : R.Denot) (r : Result Right (R.Denot × Refused)) → IfOk r (λ right. (y : R.Denot) × (y ≡ x) × Owns (showing R) after right y)
+      → IfOk r (λ right. Owns (showing R) after right x)
+  value_owns x (Ok right) a = subst (λ (y : R.Denot). Owns (showing R) after right y) a.1 a.2
+  value_owns x (Err e) a = tt
+
+  pub value_exact : (x : R.Denot) (r : Result Right (R.Denot × Refused)) (p : Partaker R.Denot)
+      → MatchResult r (λ right. IsEmptyAt (world_of p).standings (number_of right)
+      × ((y : R.Denot) × (y ≡ x) × (world_of after ≡ made_as (world_of p) (number_of right) y (first_standing kind))))
+      (λ e. IsFull (world_of p).standings × (e ≡ (x, Refused.NoSlot)) × (world_of after ≡ world_of p))
+      → MatchResult r (λ right. IsEmptyAt (world_of p).standings (number_of right)
+      × (world_of after ≡ made_as (world_of p) (number_of right) x (first_standing kind)))
+      (λ e. IsFull (world_of p).standings × (e ≡ (x, Refused.NoSlot)) × (world_of after ≡ world_of p))
+  value_exact x (Ok right) p a = (a.0, a.1.2 ∙ ap (λ (y : R.Denot). made_as (world_of p) (number_of right) y (first_standing kind)) a.1.1)
+  value_exact x (Err e) p a = a

@@ -1,0 +1,83 @@
+-- A lone participant that has just registered
+use Rattle.std.proofs.Common.{◌≡◌, ℕ, zero, suc, ◌+◌, ◌<◌, ◌≤◌, IsTrue, List, [], ◌∷◌, None, Some, length, get_or, replicate, slice_index_or, sym, refl, ap, ◌∙◌, subst, arith}
+use Rattle.std.proofs.lemmas.List.{length-replicate}
+use Rattle.std.specs.Prelude.{Option}
+use Rattle.atomic_table.specs.Seated.{TableId}
+use Rattle.sdd_store.specs.Waiting.{Waiting}
+use Rattle.sdd_store.specs.declared.time.Participant.{Participant}
+use Rattle.sdd_store.specs.declared.phases.Phase.TheVariants.{Live}
+use Rattle.sdd_base.specs.declared.limits.Limits.{Limits}
+use Rattle.sdd_rule.specs.declared.SlotsView.{SlotsView}
+use Rattle.sdd_rule.specs.declared.WaitingItem.{WaitingItem}
+use Rattle.sdd_rule.specs.Codes.{waiting, full}
+use Rattle.sdd_rule.specs.Words.{words_behind}
+use Rattle.sdd_rule.specs.SlotSteps.{behind}
+use Rattle.sdd_rule.specs.Sums.{total}
+use Rattle.sdd_rule.specs.Slots.{waits_in}
+use Rattle.sdd_rule.proofs.Codes.{free_is}
+use Rattle.sdd_homes.specs.Fillings.{newest}
+use Rattle.sdd_domain.specs.Member.{Member, IsLone, IsNew, word_of}
+use Rattle.sdd_domain.specs.Waits.{waiting_of}
+use Rattle.sdd_domain.specs.Tied.{Entries, IsTied, is_plain_word}
+use Rattle.sdd_domain.specs.Local.{Partaker, IsBlankAlone, listing, standing_by, value_by, standing_in, value_in, world_of}
+use Rattle.sdd_domain.proofs.Listings.{listing_same}
+
+zeros : (n i : ℕ) → ◌≡◌ {A = ℕ} (get_or (replicate n 0) i 0) 0
+zeros zero i = refl
+zeros (suc n) zero = refl
+zeros (suc n) (suc i) = zeros n i
+
+listing_none : {A : Type 0} (n : ℕ) → ◌≡◌ {A = List (Option A)} (listing n (λ (i : ℕ). None)) (replicate n None)
+listing_none zero = refl
+listing_none (suc n) = ap (λ l. None ∷ l) (listing_none n)
+
+module _ {T : Type 0} (home : TableId) (most : Limits) (m : Member) (es : Entries T) (is : IsNew home most m) (none : es ≡ replicate most.slots None) where
+  word_free : (i : ℕ) → word_of m i ≡ 0
+  word_free i = ap (λ (ws : List ℕ). get_or ws (behind m.sizes i) 0) is.words ∙ zeros (words_behind m.sizes) (behind m.sizes i)
+
+  slots_are : m.limits.slots ≡ most.slots
+  slots_are = ap (λ (l : Limits). l.slots) is.limits
+
+  nothing_waits : (i : ℕ) → total (waits_in i) m.slots.waits ≡ 0
+  nothing_waits i = ap (λ (s : SlotsView). total (waits_in i) s.waits) is.slots
+
+  place_first : IsLone m → m.place ≡ 0
+  place_first one = let p = is.place in let l = ap (λ (x : Limits). x.participants) is.limits in omega arith
+
+  pub tied_new : IsTied m es
+  tied_new one = record {
+    place = place_first one;
+    slots = is.sizes.1 ∙ sym slots_are;
+    long = ap length is.words ∙ length-replicate (words_behind m.sizes) 0;
+    wide = ap length none ∙ (length-replicate most.slots None ∙ sym slots_are);
+    plain = λ i l. subst (λ (y : ℕ). IsTrue (is_plain_word y)) (sym (word_free i)) refl;
+    waits = λ i l. nothing_waits i ∙ (sym ((free_is 0 (omega arith)).1) ∙ ap waiting (sym (word_free i)));
+    inside = λ i some_wait. absurd (let n = nothing_waits i in omega arith);
+    kept = λ i l filled. absurd (let f = (free_is 0 (omega arith)).2 in let g = ap full (word_free i) in omega arith);
+    bags = ap (λ (p : Participant). p.bags.waiting) is.own ∙ sym (ap (λ (s : SlotsView). map_waits s.waits) is.slots);
+    now = λ some_open. absurd (let g = ap (λ (p : Participant). p.guards) is.own in omega arith);
+  }
+    where
+      map_waits : List WaitingItem → List Waiting
+      map_waits = Rattle.std.proofs.Common.map waiting_of
+
+  pub blank_new : IsLone m → IsBlankAlone most (world_of (record { member = m; entries = es }))
+  blank_new one = let q : Partaker T = record { member = m; entries = es } in record {
+    time = λ d. record {
+      count = is.lone one d;
+      marked = Rattle.std.proofs.Common.false;
+      places = replicate (suc (place_first one d)) (is.own d);
+      phases = replicate (suc (place_first one d)) (Some Live);
+      participants = (is.limits d).participants;
+      nesting = (is.limits d).nesting;
+      room = (is.limits d).slots;
+    };
+    standings = listing_same m.limits.slots (λ (i : ℕ). None) (standing_in q) (λ i l. ap (λ (w : ℕ). standing_by w (newest i m.filled)) (word_free i))
+        ∙ (listing_none m.limits.slots ∙ ap (λ (n : ℕ). replicate n None) slots_are);
+    values = listing_same m.limits.slots (λ (i : ℕ). None) (value_in q) (λ i l. ap (λ (w : ℕ). value_by w (slice_index_or es i None)) (word_free i))
+        ∙ (listing_none m.limits.slots ∙ ap (λ (n : ℕ). replicate n None) slots_are);
+    cells = ap (λ (l : Limits). replicate l.cells None) is.limits;
+    pointers = ap (λ (l : Limits). replicate l.cells Rattle.sdd_standings.specs.Cells.null_pointer) is.limits;
+    jobs = ap (λ (l : Limits). replicate l.jobs None) is.limits;
+    tally = is.tally;
+  }

@@ -1,0 +1,183 @@
+-- The world of a lone participant is whole, and each call leaves it so
+use Rattle.std.proofs.Common.{◌≡◌, inl, inr, ℕ, zero, suc, true, false, IsTrue, List, [], ◌∷◌, None, Some, map, replicate, slice_index_or, sym, refl, ap, ◌∙◌, subst, eq-eqb, arith, ◌⊎◌, ◌↔◌, ⊎_elim, nat_lt}
+use Rattle.std.specs.Prelude.{Option, Result, Ok, Err, MatchResult, is_some, sum_by, count_by}
+use Rattle.std.proofs.lemmas.List.{length-replicate}
+use Rattle.std.proofs.lemmas.Bool.Decides.{nat_tests}
+use base.Stored.{Gv}
+use denote.RattleType.{RattleType}
+use Rattle.atomic_table.specs.Seated.{TableId}
+use Rattle.sdd_core.specs.declared.refused.Refused.{Refused}
+use Rattle.sdd_token.specs.declared.right.Kind.{Kind}
+use Rattle.sdd_token.specs.declared.right.Kind.TheVariants as kinds
+use Rattle.sdd_token.specs.declared.right.Right.{Right}
+use Rattle.sdd_token.specs.Kind.{is_shared}
+use Rattle.sdd_token.specs.Right.{number_of, kind_of}
+use Rattle.sdd_standings.specs.Slots.{first_standing, is_waiting}
+use Rattle.sdd_store.specs.Phases.{is_live}
+use Rattle.sdd_store.specs.Time.{Time, IsLive, newcomer}
+use Rattle.sdd_store.specs.Time as time
+use Rattle.sdd_store.specs.declared.phases.Phase.TheVariants.{Live}
+use Rattle.sdd_store.specs.declared.standing.Standing.{Standing}
+use Rattle.sdd_store.specs.declared.tally.Tally.{Tally}
+use Rattle.sdd_store.specs.declared.time.Participant.{Participant}
+use Rattle.sdd_base.specs.declared.limits.Limits.{Limits}
+use Rattle.sdd_base.specs.Holding.{Holding}
+use Rattle.sdd_base.specs.World.{World, IsGuarded, standing_at}
+use Rattle.sdd_base.specs.Calls.{IsFirst}
+use Rattle.sdd_base.specs.Steps.{opened}
+use Rattle.sdd_base.specs.Whole.{IsWhole, IsAbreast, AreHoused, times_with, jobs_with, once_if}
+use Rattle.sdd_base.proofs.Accounts.{blank-at}
+use Rattle.sdd_base.proofs.Four.{AllClosed, all-closed, not-guarded}
+use Rattle.sdd_base.proofs.Housed.{Whole-opened, Whole-made_as, Whole-owner_given, live-taken}
+use Rattle.sdd_domain.specs.Member.{Member, IsLone, IsNew, CanNest, Opens, RetiresAt, KnowsOwner}
+use Rattle.sdd_domain.specs.Tied.{Entries, IsTied}
+use Rattle.sdd_domain.specs.Local.{Partaker, IsBlankAlone, world_of}
+use Rattle.sdd_domain.specs.Space.{is_lone}
+use Rattle.sdd_domain.specs.Laws.{own_is_place}
+use Rattle.sdd_domain.specs.Sound.{IsSound}
+use Rattle.sdd_domain.proofs.Exact.{limits_stay, tied_answered, opens_world}
+use Rattle.sdd_domain.proofs.Makes.{Answers, answered_tied, did_world}
+use Rattle.sdd_domain.proofs.Owning.{let_go_tied, let_go_world}
+use Rattle.sdd_domain.proofs.Registered.{tied_new, blank_new}
+
+no_guards : (own : Participant) → time.is_open own ≡ false → own.guards ≡ 0
+no_guards own shut = grind (arith, nat_tests, shut)
+
+-- each place of so many alike is one of them
+alike : {A : Type 0} (n q : ℕ) (x d : A) → (slice_index_or (replicate n x) q d ≡ x) ⊎ (slice_index_or (replicate n x) q d ≡ d)
+alike zero q x d = inr refl
+alike (suc n) zero x d = inl refl
+alike (suc n) (suc q) x d = alike n q x d
+
+live_at : (n : ℕ) → slice_index_or (map is_live (replicate (suc n) (Some Live))) n false ≡ true
+live_at zero = refl
+live_at (suc n) = live_at n
+
+none_there : (A : Type 0) (n : ℕ) → map is_some (replicate {A = Option A} n None) ≡ replicate n false
+none_there A zero = refl
+none_there A (suc n) = ap (λ l. false ∷ l) (none_there A n)
+
+none_taken : (A : Type 0) (n : ℕ) → count_by is_some (replicate {A = Option A} n None) ≡ 0
+none_taken A zero = refl
+none_taken A (suc n) = none_taken A n
+
+first_is : (kind : Kind) → IsFirst (first_standing kind)
+first_is kinds.Free = inl refl
+first_is kinds.Owned = inl refl
+first_is kinds.Raw = inl refl
+first_is kinds.Shared = inr refl
+first_is kinds.Retired = inl refl
+
+pub lone_true : (m : Member) → IsLone m → IsTrue (is_lone m)
+lone_true m one = eq-eqb m.limits.participants 1 one
+
+-- a participant that is the first and only one
+abbrev alone_time : Limits → Time
+alone_time most = record {
+  count = 0;
+  marked = false;
+  places = newcomer most.slots ∷ [];
+  phases = Some Live ∷ [];
+  participants = most.participants;
+  nesting = most.nesting;
+  room = most.slots;
+}
+
+alone_abreast : (most : Limits) (p : ℕ) → IsAbreast 0 (time.place_at (alone_time most) p)
+alone_abreast most zero = record { found = omega arith; near = λ opens. absurd cc; young = λ k d l. absurd (omega arith); countdown = omega arith; quiet = λ _. refl }
+alone_abreast most (suc p) = record { found = omega arith; near = λ opens. absurd cc; young = λ k d l. absurd (omega arith); countdown = omega arith; quiet = λ _. refl }
+
+alone_shut : (most : Limits) (p : ℕ) → IsTrue (time.is_open (time.place_at (alone_time most) p)) → time.phase_at (alone_time most) p ≡ Some Live
+alone_shut most zero opens = absurd cc
+alone_shut most (suc p) opens = absurd cc
+
+alone_bare : (most : Limits) (p : ℕ) → time.phase_at (alone_time most) p ≡ None → (time.place_at (alone_time most) p).bags.waiting ≡ []
+alone_bare most zero none = refl
+alone_bare most (suc p) none = refl
+
+module _ {T : Type 0} where
+  pub lives : (p : Partaker T) → IsLive (world_of p).time p.member.place
+  lives p = ((let e = length-replicate (suc p.member.place) p.member.own in omega arith), live_at p.member.place)
+
+  all_shut : (p : Partaker T) → p.member.own.guards ≡ 0 → AllClosed (world_of p)
+  all_shut p shut q = ⊎_elim (λ (e : time.place_at (world_of p).time q ≡ p.member.own). ap time.is_open e ∙ ap (nat_lt 0) shut)
+      (λ (e : time.place_at (world_of p).time q ≡ time.nobody). ap time.is_open e) (alike (suc p.member.place) q p.member.own time.nobody)
+
+  -- a guard is open in its world exactly while one of its own is
+  pub shut_there : (p : Partaker T) → (p.member.own.guards ≡ 0) ↔ ¬ (IsGuarded (world_of p))
+  shut_there p = (
+    (λ shut. not-guarded (world_of p) (all_shut p shut)),
+    (λ quiet. no_guards p.member.own (ap time.is_open (own_is_place p) ∙ all-closed (world_of p) quiet p.member.place)),
+  )
+
+  -- after a step that leaves each world whole
+  pub whole_by : (p q : Partaker T) (step : World T → ℕ → World T) → ((w : World T) (k : ℕ) → IsLive w.time k → IsWhole w → IsWhole (step w k))
+      → world_of q ≡ step (world_of p) p.member.place → IsWhole (world_of p) → IsWhole (world_of q)
+  whole_by p q step keeps same whole = subst (λ (w : World T). IsWhole w) (sym same) (keeps (world_of p) p.member.place (lives p) whole)
+
+  whole_blank : (most : Limits) (w : World T) → IsBlankAlone most w → IsWhole w
+  whole_blank most w is = record {
+    filled = ap (λ (vs : List (Option T)). map is_some vs) is.values ∙ (none_there T most.slots
+        ∙ sym (ap (λ (ss : List (Option Standing)). map is_some ss) is.standings ∙ none_there Standing most.slots));
+    once = λ k. ap (λ (t : Time). sum_by (times_with k) t.places) is.time
+        ∙ sym (ap (λ (ss : List (Option Standing)). once_if (is_waiting (slice_index_or ss k None))) is.standings
+        ∙ ap (λ (s : Option Standing). once_if (is_waiting s)) (blank-at most.slots k));
+    jobs_once = λ j. ap (λ (t : Time). sum_by (jobs_with j) t.places) is.time
+        ∙ sym (ap (λ js. once_if (is_some (slice_index_or js j None))) is.jobs ∙ ap (λ s. once_if (is_some s)) (blank-at most.jobs j));
+    abreast = λ p. subst (λ (t : Time). IsAbreast t.count (time.place_at t p)) (sym is.time) (alone_abreast most p);
+    housed = subst (λ (t : Time). AreHoused t) (sym is.time) (record { lengths = refl; shut = alone_shut most; bare = alone_bare most });
+    counted = λ _. let a = ap (λ (t : Tally). t.made) is.tally in let b = ap (λ (t : Tally). t.reclaimed) is.tally in
+        let c = ap (λ (t : Tally). t.in_place) is.tally in
+        let d = ap (λ (ss : List (Option Standing)). count_by is_some ss) is.standings ∙ none_taken Standing most.slots in omega arith;
+  }
+
+  pub sound_new : (home : TableId) (most : Limits) (m : Member) (es : Entries T) → IsNew home most m → es ≡ replicate most.slots None → IsSound m es
+  sound_new home most m es is none = record {
+    tied = tied_new home most m es is none;
+    whole = λ one. whole_blank most (world_of (record { member = m; entries = es })) (blank_new home most m es is none one);
+  }
+
+  module _ (v : Partaker T) (m : Member) (sound : IsSound v.member v.entries) where
+    pub sound_opened : {A : Type 0} (IsReader : A → Type 0) (r : Result A Refused) (holds : T → List Holding) → ((x : T) → holds x ≡ [])
+        → MatchResult r (λ a. IsReader a × CanNest v.member × Opens v.member m) (λ e. (e ≡ Refused.TooManyGuards) × ¬ (CanNest v.member) × (m ≡ v.member))
+        → IsSound m v.entries
+    sound_opened IsReader (Ok a) holds nothing did = record {
+      tied = tied_answered v m IsReader (Ok a) sound.tied did;
+      whole = λ one. let lone : IsLone v.member = sym (limits_stay v m did.2) ∙ one in
+          whole_by v (record v { member = m }) (opened holds) (Whole-opened holds) (opens_world v m sound.tied did.2 lone holds nothing) (sound.whole lone);
+    }
+    sound_opened IsReader (Err e) holds nothing did = subst (λ (x : Member). IsSound x v.entries) (sym did.2) sound
+
+    -- a call that changes the world by one step
+    pub sound_step : (step : World T → ℕ → World T) → ((w : World T) (k : ℕ) → IsLive w.time k → IsWhole w → IsWhole (step w k))
+        → m.limits ≡ v.member.limits → IsTied m v.entries
+        → (IsLone v.member → world_of (record v { member = m }) ≡ step (world_of v) v.member.place) → IsSound m v.entries
+    sound_step step keeps limits tied same = record {
+      tied = tied;
+      whole = λ one. let lone : IsLone v.member = sym (ap (λ (l : Limits). l.participants) limits) ∙ one in
+          whole_by v (record v { member = m }) step keeps (same lone) (sound.whole lone);
+    }
+
+    pub sound_let_go : (right : Right) (count : ℕ) → RetiresAt (number_of right) count v.member m
+        → (IsLone v.member → (g : Gv) × KnowsOwner v.member (number_of right) (is_shared (kind_of right)) g) → IsSound m v.entries
+    sound_let_go right count is knows = record {
+      tied = let_go_tied v m right count is sound.tied knows v refl;
+      whole = λ one. let lone : IsLone v.member = sym (ap (λ (y : Member). y.limits.participants) is.member) ∙ one in
+          let w : World T = world_of v in
+          subst (λ (u : World T). IsWhole u) (sym (let_go_world v m right count is sound.tied knows v refl (lone_true v.member lone)))
+          (Whole-owner_given w v.member.place (number_of right) (live-taken w.time v.member.place (lives v)) (standing_at w (number_of right)) refl
+          (sound.whole lone));
+    }
+
+-- for an answer of `make`
+module _ (R : RattleType) (v : Partaker R.Denot) (m : Member) (es : Entries R.Denot) (kind : Kind) {B : Type 0} (P : R.Denot → Type 0)
+    (Back Why : B × Refused → Type 0) where
+  pub sound_made : (r : Result Right (B × Refused)) → Answers R v m es kind P Back Why r → IsSound v.member v.entries → IsSound m es
+  sound_made (Ok right) a sound = record {
+    tied = answered_tied R v m es kind P Back Why (Ok right) a sound.tied;
+    whole = λ one. let lone : IsLone v.member = sym (ap (λ (z : Member). z.limits.participants) a.2.member) ∙ one in
+        let w = did_world R v m es kind a.0 right (a.2, a.3, a.4) sound.tied lone in
+        subst (λ (u : World R.Denot). IsWhole u) (sym w.1)
+        (Whole-made_as (world_of v) (number_of right) a.0 (first_standing kind) (first_is kind) w.0 (sound.whole lone));
+  }
+  sound_made (Err e) a sound = subst (λ (p : Partaker R.Denot). IsSound p.member p.entries) (λ d. record { member = sym a.1 d; entries = sym a.4 d }) sound

@@ -1,0 +1,51 @@
+-- The words that a lone participant knows of slots
+use Rattle.std.proofs.Common.{◌≡◌, ◌≢◌, ◌⊎◌, ℕ, ◌<◌, ◌≤◌, IsTrue, List, length, get_or, set, ap, ⊎_elim, arith, get_or-set_other, get_or-set_same}
+use mathlib.Core.Logic.{dite}
+use native.Mathlib.Decide.{dec_lt}
+use Rattle.std.proofs.lemmas.List.{get_or_past}
+use Rattle.sdd_rule.specs.declared.Sizes.{Sizes}
+use Rattle.sdd_rule.specs.Words.{words_behind}
+use Rattle.sdd_rule.specs.Codes.{alive, waiting, full}
+use Rattle.sdd_rule.specs.SlotSteps.{behind}
+use Rattle.sdd_rule.proofs.Codes.{sound, free_is, owned_is, waiting_is}
+use Rattle.sdd_domain.specs.Tied.{is_plain_word}
+
+pub plain_is : (x : ℕ) → IsTrue (is_plain_word x) → (x ≡ 0) ⊎ ((x ≡ 1) ⊎ (x ≡ 4))
+plain_is x plain = grind arith
+
+-- a word that says that the slot has an owner is that of an owned one
+pub owned_alive : (x : ℕ) → IsTrue (is_plain_word x) → alive x ≡ 1 → x ≡ 1
+owned_alive x plain one = ⊎_elim (λ (e : x ≡ 0). let z = (free_is 0 (omega arith)).0 in let a = ap alive e in absurd (omega arith))
+    (λ (t : (x ≡ 1) ⊎ (x ≡ 4)). ⊎_elim (λ (e : x ≡ 1). e)
+    (λ (e : x ≡ 4). let z = (waiting_is 0 (omega arith)).0 in let a = ap alive e in absurd (omega arith)) t) (plain_is x plain)
+
+-- one that says that its item waits is that of a waiting one
+pub waiting_waits : (x : ℕ) → IsTrue (is_plain_word x) → 0 < waiting x → x ≡ 4
+waiting_waits x plain some_wait = ⊎_elim (λ (e : x ≡ 0). let z = (free_is 0 (omega arith)).1 in let a = ap waiting e in absurd (omega arith))
+    (λ (t : (x ≡ 1) ⊎ (x ≡ 4)). ⊎_elim (λ (e : x ≡ 1). let z = (owned_is 0 (omega arith)).1 in let a = ap waiting e in absurd (omega arith))
+    (λ (e : x ≡ 4). e) t) (plain_is x plain)
+
+pub few_waiting : (x : ℕ) → IsTrue (is_plain_word x) → waiting x ≤ 1
+few_waiting x plain = dite (dec_lt 0 (waiting x)) (λ some_wait. let one = (sound.waits x some_wait).0 in omega arith) (λ none. omega arith)
+
+-- one that isn't that of a free slot says that there is an item
+pub taken_full : (x : ℕ) → IsTrue (is_plain_word x) → x ≢ 0 → full x ≡ 1
+taken_full x plain ne = ⊎_elim (λ (e : x ≡ 0). absurd (ne e))
+    (λ (t : (x ≡ 1) ⊎ (x ≡ 4)). ⊎_elim
+    (λ (e : x ≡ 1). let z = (owned_is 0 (omega arith)).0 in let a = ap alive e in (sound.lives x (omega arith)).1)
+    (λ (e : x ≡ 4). let z = (waiting_is 0 (omega arith)).1 in let a = ap waiting e in (sound.waits x (omega arith)).1) t) (plain_is x plain)
+
+-- a slot whose word says so is one of the slots
+module _ (z : Sizes) (ws : List ℕ) (long : length ws ≡ words_behind z) where
+  pub within : (slot : ℕ) → slot < z.slots → behind z slot < length ws
+  within slot low = omega arith
+
+  pub inside : (slot : ℕ) → alive (get_or ws (behind z slot) 0) ≡ 1 → slot < z.slots
+  inside slot one = dite (dec_lt slot z.slots) (λ l. l) (λ far. absurd (let p = get_or_past ws (behind z slot) 0 (omega arith) in
+      let a = ap alive p in let z = (free_is 0 (omega arith)).0 in omega arith))
+
+  pub word_same : (slot y : ℕ) → slot < z.slots → get_or (set ws (behind z slot) y) (behind z slot) 0 ≡ y
+  word_same slot y low = get_or-set_same ws (behind z slot) y 0 (within slot low)
+
+  pub word_other : (slot y i : ℕ) → i ≢ slot → get_or (set ws (behind z slot) y) (behind z i) 0 ≡ get_or ws (behind z i) 0
+  word_other slot y i ne = get_or-set_other ws (behind z slot) (behind z i) y 0 (λ e. ne (omega arith))

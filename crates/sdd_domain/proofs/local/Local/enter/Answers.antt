@@ -1,5 +1,0 @@
-use Rattle.std.proofs.Common.{rules}
-use Rattle.sdd_domain.proofs.local.Local.enter.Goals as goal
-
-pub returns-clause-opened : goal.returns-clause-opened
-returns-clause-opened g c = (c.arrive.result, search rules)

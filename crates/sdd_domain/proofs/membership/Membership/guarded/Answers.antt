@@ -1,0 +1,125 @@
+use Rattle.std.specs.Prelude.{Bool}
+use Rattle.std.proofs.Common.{◌≡◌, ℕ, ◌<◌, rules, sym, ap, ◌∙◌, subst}
+use base.Stored.{Gv}
+use Rattle.sdd_token.specs.Owner.{witness_of_owner}
+use Rattle.sdd_token.specs.Right.{number_of, kind_of}
+use Rattle.sdd_token.specs.Kind.{is_shared}
+use Rattle.sdd_homes.specs.HomeSteps.{Watches}
+use Rattle.sdd_board.specs.Token.{MovedAlone}
+use Rattle.sdd_stakes.specs.Seats.{lots}
+use Rattle.sdd_stakes.specs.Shelf.{CanShow, Shows, showing}
+use Rattle.sdd_homes.proofs.Records.{in_times}
+use Rattle.sdd_board.specs.Board.{book_of, places_of}
+use Rattle.atomic_table.specs.declared.shared.Seat.{Seat}
+use Rattle.sdd_stakes.specs.declared.stake.Stake.{Stake}
+use Rattle.sdd_rule.specs.declared.View.{View}
+use Rattle.sdd_rule.specs.declared.Sizes.{Sizes}
+use Rattle.sdd_domain.specs.Sight.{IsOnce}
+use Rattle.sdd_domain.specs.Posed.{AreLentTo}
+use Rattle.sdd_domain.specs.Receipt.{IsTallied}
+use Rattle.sdd_domain.proofs.Moving.{can_show, shows_known}
+use Rattle.sdd_domain.proofs.Posing.{watched, posed_shows, same_recalled}
+use Rattle.sdd_domain.proofs.Members.{with_token, looks_at, recalls_to, has_tables}
+use Rattle.sdd_domain.specs.Member.{Member, LooksAt, IsLone, KnowsOwner}
+use Rattle.sdd_witness.specs.declared.witness.Witness.{Witness}
+use Rattle.sdd_domain.proofs.membership.Membership.guarded.Goals as goal
+
+pub show-requires-clause-stake : goal.show-requires-clause-stake
+show-requires-clause-stake g c = let l = c.self.inside in let b = l.domain.now.board in let t : ℕ = c.tenure_of-tenure.result.now.round in
+    let inv = c.self.invariant in let slot : ℕ = number_of c.args.right.now in
+    let own = c.witness-owner.ensures.owner (has_tables c.args.self.now c.args.right.now c.requires.home) in let shared : Bool = is_shared (kind_of c.args.right.now) in
+    let recalled = c.recall.ensures slot shared own.owner.0 own.owner.1 in
+    let watch = subst (λ (x : Seat Stake View). MovedAlone (Watches slot shared own.owner.0) x c.watch.new.token)
+    (same_recalled b l.place slot shared own.owner.0 l.token c.recall.new.token recalled) (c.watch.ensures slot shared own.owner.0 own.owner.1) in
+    let seen = watched b l.place l.own t slot shared own.owner.0 l.token c.watch.new.token inv.0
+    (subst (λ (t : ℕ). AreLentTo t l.token.me.1) (sym c.agree.ensures.round) inv.3) watch in
+    subst (λ (k : ℕ × ℕ). CanShow k.0 k.1 t (lots c.watch.new.token.me.1)) (λ d. (sym l.domain.now.shelved.0.book d, sym c.number.ensures d))
+    (can_show (book_of b) (places_of b) l.place t slot seen.records c.watch.new.token.me.1 seen.purse seen.lent
+    (in_times seen.records slot own.owner.0 seen.there))
+
+pub invariant_of-self : goal.invariant_of-self
+invariant_of-self g c = let l = c.self.inside in let b = l.domain.now.board in let t : ℕ = c.tenure_of-tenure.result.now.round in
+    let inv = c.self.invariant in let slot : ℕ = number_of c.args.right.now in
+    let own = c.witness-owner.ensures.owner (has_tables c.args.self.now c.args.right.now c.requires.home) in let shared : Bool = is_shared (kind_of c.args.right.now) in
+    let recalled = c.recall.ensures slot shared own.owner.0 own.owner.1 in
+    let watch = subst (λ (x : Seat Stake View). MovedAlone (Watches slot shared own.owner.0) x c.watch.new.token)
+    (same_recalled b l.place slot shared own.owner.0 l.token c.recall.new.token recalled) (c.watch.ensures slot shared own.owner.0 own.owner.1) in
+    let some_open : 0 < l.own.guards = search rules in
+    let seen = watched b l.place l.own t slot shared own.owner.0 l.token c.watch.new.token inv.0
+    (subst (λ (t : ℕ). AreLentTo t l.token.me.1) (sym c.agree.ensures.round) inv.3) watch in
+    let posed = posed_shows b l.place l.own t slot own.owner.0 l.token c.watch.new.token c.show.new.seat inv.0 some_open
+    watch.0 seen c.show.ensures.seat c.show.ensures.lent in (
+      posed.0,
+      inv.1,
+      inv.2,
+      subst (λ (t : ℕ). AreLentTo t c.show.new.seat.me.1) c.agree.ensures.round posed.1,
+      inv.4,
+      subst (IsTallied 0 l.tally) (sym (ap (λ (x : Seat Stake View). x.me.0.stakes.counts) c.show.ensures.seat
+          ∙ ap (λ (v : View). v.stakes.counts) seen.view)) inv.5,
+    )
+
+pub returns-clause-value : goal.returns-clause-value
+returns-clause-value g c = let l = c.self.inside in let b = l.domain.now.board in let t : ℕ = c.tenure_of-tenure.result.now.round in
+    let inv = c.self.invariant in let slot : ℕ = number_of c.args.right.now in
+    let own = c.witness-owner.ensures.owner (has_tables c.args.self.now c.args.right.now c.requires.home) in let shared : Bool = is_shared (kind_of c.args.right.now) in
+    let recalled = c.recall.ensures slot shared own.owner.0 own.owner.1 in
+    let watch = subst (λ (x : Seat Stake View). MovedAlone (Watches slot shared own.owner.0) x c.watch.new.token)
+    (same_recalled b l.place slot shared own.owner.0 l.token c.recall.new.token recalled) (c.watch.ensures slot shared own.owner.0 own.owner.1) in
+    let seen = watched b l.place l.own t slot shared own.owner.0 l.token c.watch.new.token inv.0
+    (subst (λ (t : ℕ). AreLentTo t l.token.me.1) (sym c.agree.ensures.round) inv.3) watch in
+    let shows = subst (λ (k : ℕ). Shows l.domain.now.shelf.book k (showing g.row.T c.show.result.now) (lots c.watch.new.token.me.1)) c.number.ensures
+    c.show.ensures.value in
+    let is = seen.once slot own.owner.0 (showing g.row.T c.show.result.now) seen.there
+    (shows_known (book_of b) (places_of b) l.place slot l.domain.now.shelf.book (showing g.row.T c.show.result.now) seen.records
+    c.watch.new.token.me.1 seen.purse shows) in
+    ap (λ (w : Witness). w.views) (sym c.witness-owner.ensures.witness) ∙ (own.owner.1 ∙ ap (witness_of_owner slot shared) is)
+
+pub returns-clause-looks : goal.returns-clause-looks
+returns-clause-looks g c = let l = c.self.inside in let b = l.domain.now.board in let t : ℕ = c.tenure_of-tenure.result.now.round in
+    let inv = c.self.invariant in let slot : ℕ = number_of c.args.right.now in
+    let own = c.witness-owner.ensures.owner (has_tables c.args.self.now c.args.right.now c.requires.home) in let shared : Bool = is_shared (kind_of c.args.right.now) in
+    let recalled = c.recall.ensures slot shared own.owner.0 own.owner.1 in
+    let watch = subst (λ (x : Seat Stake View). MovedAlone (Watches slot shared own.owner.0) x c.watch.new.token)
+    (same_recalled b l.place slot shared own.owner.0 l.token c.recall.new.token recalled) (c.watch.ensures slot shared own.owner.0 own.owner.1) in
+    let seen = watched b l.place l.own t slot shared own.owner.0 l.token c.watch.new.token inv.0
+    (subst (λ (t : ℕ). AreLentTo t l.token.me.1) (sym c.agree.ensures.round) inv.3) watch in
+    let shows = subst (λ (k : ℕ). Shows l.domain.now.shelf.book k (showing g.row.T c.show.result.now) (lots c.watch.new.token.me.1)) c.number.ensures
+    c.show.ensures.value in
+    let is = seen.once slot own.owner.0 (showing g.row.T c.show.result.now) seen.there
+    (shows_known (book_of b) (places_of b) l.place slot l.domain.now.shelf.book (showing g.row.T c.show.result.now) seen.records
+    c.watch.new.token.me.1 seen.purse shows) in
+    subst (λ (m : Member). LooksAt slot shared (showing g.row.T c.show.result.now) m (with_token (c.self.view_is 0) c.show.new.seat)) c.self.view_is
+    (subst (λ (v : Gv). LooksAt slot shared v (c.self.view_is 0) (with_token (c.self.view_is 0) c.show.new.seat)) is
+    (looks_at (c.self.view_is 0) slot shared own.owner.0 l.token c.watch.new.token c.show.new.seat watch c.show.ensures.seat))
+
+pub returns-clause-once : goal.returns-clause-once
+returns-clause-once g c = let l = c.self.inside in let b = l.domain.now.board in let t : ℕ = c.tenure_of-tenure.result.now.round in
+    let inv = c.self.invariant in let slot : ℕ = number_of c.args.right.now in
+    let own = c.witness-owner.ensures.owner (has_tables c.args.self.now c.args.right.now c.requires.home) in let shared : Bool = is_shared (kind_of c.args.right.now) in
+    let recalled = c.recall.ensures slot shared own.owner.0 own.owner.1 in
+    let watch = subst (λ (x : Seat Stake View). MovedAlone (Watches slot shared own.owner.0) x c.watch.new.token)
+    (same_recalled b l.place slot shared own.owner.0 l.token c.recall.new.token recalled) (c.watch.ensures slot shared own.owner.0 own.owner.1) in
+    let seen = watched b l.place l.own t slot shared own.owner.0 l.token c.watch.new.token inv.0
+    (subst (λ (t : ℕ). AreLentTo t l.token.me.1) (sym c.agree.ensures.round) inv.3) watch in
+    let is : c.show.new.seat.me.0.stakes.sees ≡ seen.records = ap (λ (x : Seat Stake View). x.me.0.stakes.sees) c.show.ensures.seat
+    ∙ ap (λ (v : View). v.stakes.sees) seen.view in
+    subst IsOnce (sym is) seen.once
+
+pub returns-clause-recalled : goal.returns-clause-recalled
+returns-clause-recalled g c = let l = c.self.inside in let b = l.domain.now.board in let t : ℕ = c.tenure_of-tenure.result.now.round in
+    let inv = c.self.invariant in let slot : ℕ = number_of c.args.right.now in
+    let own = c.witness-owner.ensures.owner (has_tables c.args.self.now c.args.right.now c.requires.home) in
+    let shared : Bool = is_shared (kind_of c.args.right.now) in let recalled = c.recall.ensures slot shared own.owner.0 own.owner.1 in
+    let watch = subst (λ (x : Seat Stake View). MovedAlone (Watches slot shared own.owner.0) x c.watch.new.token)
+    (same_recalled b l.place slot shared own.owner.0 l.token c.recall.new.token recalled) (c.watch.ensures slot shared own.owner.0 own.owner.1) in
+    let seen = watched b l.place l.own t slot shared own.owner.0 l.token c.watch.new.token inv.0
+    (subst (λ (t : ℕ). AreLentTo t l.token.me.1) (sym c.agree.ensures.round) inv.3) watch in
+    let shows = subst (λ (k : ℕ). Shows l.domain.now.shelf.book k (showing g.row.T c.show.result.now) (lots c.watch.new.token.me.1)) c.number.ensures
+    c.show.ensures.value in
+    let is = seen.once slot own.owner.0 (showing g.row.T c.show.result.now) seen.there
+    (shows_known (book_of b) (places_of b) l.place slot l.domain.now.shelf.book (showing g.row.T c.show.result.now) seen.records
+    c.watch.new.token.me.1 seen.purse shows) in
+    subst (λ (m : Member). IsLone m → KnowsOwner m slot shared (showing g.row.T c.show.result.now)) c.self.view_is
+    (subst (λ (v : Gv). IsLone (c.self.view_is 0) → KnowsOwner (c.self.view_is 0) slot shared v) is
+    (recalls_to (c.self.view_is 0) slot shared own.owner.0 l.token c.recall.new.token recalled
+    (inv.0.all ∙ ap (λ (z : Sizes). z.participants) l.domain.now.limited.1)))

@@ -1,0 +1,26 @@
+-- Where the slots and the participants of a domain are numbered
+use Rattle.std.specs.Prelude.{[]}
+use Rattle.atomic_table.specs.Seated.{TableId}
+use Rattle.sdd_token.specs.Units as token
+use Rattle.sdd_token.specs.Right.{home_of_table}
+use Rattle.sdd_base.specs.Holding as holding
+use Rattle.sdd_base.specs.declared.limits.Limits.{Limits}
+use Rattle.sdd_domain.specs.Member.{Member}
+
+abbrev pub Home : Type 0
+Home = holding.Home
+
+-- where nothing is numbered
+abbrev pub nowhere : token.Home
+nowhere = record { name = 0; size = 0; tables = [] }
+
+-- the slots of its domain, and no cells. Each reader is numbered in a home of its own, and there may be so many
+abbrev pub home_at : TableId → Limits → Home
+home_at table limits = record {
+  slots = home_of_table table limits.slots;
+  cells = nowhere;
+  readers = record nowhere { size = limits.participants };
+}
+
+abbrev pub home_in : Member → Home
+home_in m = home_at m.home m.limits

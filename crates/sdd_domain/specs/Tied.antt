@@ -1,0 +1,41 @@
+-- What a lone participant's words, its bags and its ledger have to do with one another
+use Rattle.std.specs.Prelude.{◌≡◌, ℕ, ◌<◌, ◌==◌, ◌||◌, Bool, IsTrue, List, Option, Some, None, length, map, slice_index_or}
+use base.Stored.{Gv}
+use Rattle.sdd_rule.specs.declared.Showing.{Showing}
+use Rattle.sdd_rule.specs.Words.{words_behind}
+use Rattle.sdd_rule.specs.Codes.{free_word, owned_word, waiting_word, waiting, full}
+use Rattle.sdd_rule.specs.Sums.{total}
+use Rattle.sdd_rule.specs.Slots.{waits_in}
+use Rattle.sdd_homes.specs.Fillings.{newest}
+use Rattle.sdd_domain.specs.Waits.{waiting_of}
+use Rattle.sdd_domain.specs.Member.{Member, IsLone, word_of}
+
+-- which values are in slots, with their codes
+abbrev pub Entries : Type 0 → Type 0
+Entries T = List (Option (T × Gv))
+
+-- a word that a lone participant knows of a slot: it is free, owned, or its item waits
+abbrev pub is_plain_word : ℕ → Bool
+is_plain_word x = x == free_word 0 || (x == owned_word 0 || x == waiting_word 0)
+
+-- the ledger has the value whose code the record tells
+abbrev pub Agrees : {T : Type 0} → Option Showing → Option (T × Gv) → Type 0
+Agrees None e = ⊥
+Agrees (Some r) None = ⊥
+Agrees (Some r) (Some e) = e.1 ≡ r.value
+
+-- of a lone participant: what it knows of words and of what it moved in is what its bags and its ledger have
+pub record AreTied {T : Type 0} (m : Member) (entries : Entries T) : Type 0 where
+  pub place : m.place ≡ 0
+  pub slots : m.sizes.slots ≡ m.limits.slots
+  pub long : length m.words ≡ words_behind m.sizes
+  pub wide : length entries ≡ m.limits.slots
+  pub plain : (slot : ℕ) → slot < m.limits.slots → IsTrue (is_plain_word (word_of m slot))
+  pub waits : (slot : ℕ) → slot < m.limits.slots → total (waits_in slot) m.slots.waits ≡ waiting (word_of m slot)
+  pub inside : (slot : ℕ) → 0 < total (waits_in slot) m.slots.waits → slot < m.limits.slots
+  pub kept : (slot : ℕ) → slot < m.limits.slots → full (word_of m slot) ≡ 1 → Agrees (newest slot m.filled) (slice_index_or entries slot None)
+  pub bags : m.own.bags.waiting ≡ map waiting_of m.slots.waits
+  pub now : 0 < m.own.guards → m.known ≡ m.own.found
+
+abbrev pub IsTied : {T : Type 0} → Member → Entries T → Type 0
+IsTied m entries = IsLone m → AreTied m entries

@@ -1,0 +1,48 @@
+//! What is always true of a lone participant's world, as calls that give it out. They do nothing when the program runs.
+ghost use Rattle.std.specs.Prelude.{◌≡◌, ◌↔◌};
+ghost use Rattle.sdd_base.specs.Whole.{IsWhole};
+ghost use Rattle.sdd_base.specs.Left.{FourGuardsReclaim, GoesAtLatest, GoesInTime};
+ghost use Rattle.sdd_base.specs.Under.{KeepsUnderGuards};
+ghost use Rattle.sdd_base.specs.World.{IsGuarded, IsPlaceOf};
+ghost use Rattle.sdd_domain.specs.Local.{world_of};
+ghost use Rattle.sdd_domain.specs.Member.{IsLone};
+
+use super::Local;
+use sdd_base::Item;
+
+impl<T> Local<'_, T> {
+    /// What the parts of its world keep true of each other: a value where a slot is taken, each item that waits once, the participant abreast of the
+    /// count, each item accounted for. It has its place there, and a guard is open there
+    /// exactly while one of its own is.
+    pub fn is_whole(&self)
+        ensures whole { IsLone self.now.member → IsWhole (world_of self.now) }
+        ensures place { IsPlaceOf (world_of self.now) self.now.member.place }
+        ensures shut { (self.now.member.own.guards ≡ 0) ↔ ¬ (IsGuarded (world_of self.now)) }
+    {
+        let _ledger = &self.ledger;
+    }
+}
+
+impl<T: Item<T>> Local<'_, T> {
+    /// After how many openings an item that waits is reclaimed at latest.
+    pub fn reclaims_in_time(&self)
+        ensures latest { IsLone self.now.member → GoesAtLatest T.holds (world_of self.now) }
+        ensures in_time { IsLone self.now.member → GoesInTime T.holds (world_of self.now) }
+    {
+        self.is_whole();
+    }
+
+    /// Four accelerated guards, one after another, reclaim all that waits, where no guard is open.
+    pub fn four_guards_reclaim(&self)
+        ensures { IsLone self.now.member → FourGuardsReclaim T.holds (world_of self.now) }
+    {
+        self.is_whole();
+    }
+
+    /// No item is reclaimed while a guard that was open when it was retired is open.
+    pub fn keeps_under_guards(&self)
+        ensures { IsLone self.now.member → KeepsUnderGuards T.holds (world_of self.now) }
+    {
+        self.is_whole();
+    }
+}

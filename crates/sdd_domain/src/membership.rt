@@ -1,0 +1,328 @@
+ghost use Rattle.std.specs.Prelude.{◌≡◌, ◌⊎◌, ◌^◌, ◌<◌, ℕ, IfSome, IfOk, IfErr, MatchResult};
+ghost use Rattle.sdd_store.specs.Time.{accelerated, has_garbage, with_garbage};
+ghost use Rattle.sdd_rule.specs.Steps.{nobody, Takes};
+ghost use Rattle.sdd_rule.specs.SlotSteps.{blank};
+ghost use Rattle.sdd_board.specs.Board.{id_of, sizes_of, places_of};
+ghost use Rattle.sdd_board.specs.Token.{epoch, words_known, IsSameBut};
+ghost use Rattle.sdd_domain.specs.Domain.{home_of, limits_of};
+ghost use Rattle.sdd_domain.specs.Member.{CanNest, IsGuarded, IsNew, IsOpened, Opens, Closes, IsTold};
+ghost use Rattle.sdd_base.specs.Guard.{reader_of};
+ghost use Rattle.sdd_places.specs.declared.tenures.Stage.TheVariants.{Closed as is_closed};
+
+use crate::changes::arrive;
+use crate::domain::Domain;
+use crate::known::Known;
+use crate::receipt::Receipt;
+use crate::scan::scan;
+use crate::shut::shut;
+use sdd_base::Guard;
+use sdd_base::inner::{guard_with, part_of_guard};
+use sdd_board::steps::counts::cut_counts;
+use sdd_board::{Board, Token, steps};
+use sdd_core::Refused;
+use sdd_places::{Stage, Tenure};
+use sdd_store::{Bags, Participant, Tally, What};
+use sdd_token::{Book, WHOLE};
+use std::alloc::{AllocError, Global};
+use std::marker::Model;
+
+mod items;
+
+/// A participant's membership of a domain: its place, its bags, and what it knows of the words.
+///
+/// It must be spent by `end`.
+pub struct Membership<'d, T> {
+    domain: &'d Domain<T>,
+    token: Token,
+    place: usize,
+    /// How many of its guards may be open at once, as the domain's limits say.
+    nesting: u32,
+    own: Participant,
+    /// An empty bag, for what is due.
+    bag: Vec<What>,
+    known: Known,
+    /// What its open guards don't have of its tenure: each of them has one unit.
+    tenure: Tenure,
+    tally: Tally,
+}
+
+impl<'d, T> Model for Membership<'d, T> {
+    ghost use Rattle.std.specs.Prelude.{◌≡◌, vec_capacity};
+    ghost use Rattle.sdd_domain.specs.Member.{Member};
+    ghost use Rattle.sdd_domain.specs.Posed.{IsPosed, AreLentTo, IsTenureOf, IsReady};
+    ghost use Rattle.sdd_domain.specs.Receipt.{IsTallied};
+
+    ghost Value = { Member };
+
+    ghost view = { λ l. record {
+      home = l.token.table_id;
+      limits = l.domain.now.limits;
+      place = l.place;
+      reader = record { home = l.tenure.home; number = l.tenure.number };
+      own = l.own;
+      known = l.token.me.0.epoch.known;
+      since = l.token.me.0.epoch.since;
+      tally = l.tally;
+      sizes = l.token.me.0.sizes;
+      slots = l.token.me.0.slots;
+      shown = l.token.me.0.stakes.sees;
+      filled = l.token.me.0.stakes.filled;
+      words = l.token.me.0.words;
+    } };
+
+    ghost invariant = { λ l. IsPosed l.domain.now.board l.place l.own l.token × (l.nesting ≡ l.domain.now.limits.nesting) × IsTenureOf l.own l.tenure × AreLentTo l.tenure.round l.token.me.1
+        × IsReady l.domain.now.board l.own l.bag.items (vec_capacity l.bag) l.known.slots
+        × IsTallied 0 l.tally l.token.me.0.stakes.counts };
+}
+
+/// The memory of a participant.
+struct Room {
+    bags: Bags,
+    bag: Vec<What>,
+    known: Known,
+}
+
+impl Room {
+    ghost use Rattle.std.specs.Prelude.{◌≤◌, vec_capacity, []};
+
+    /// That for so many slots.
+    fn new(alloc: Global, slots: u32) -> Result<Room, AllocError>
+        ensures bags { IfOk result (λ room. room.bags ≡ record { waiting = []; room = slots }) }
+        ensures bag { IfOk result (λ room. (room.bag.items ≡ []) × (slots ≤ vec_capacity room.bag)) }
+        ensures known { IfOk result (λ room. room.known.slots ≡ slots) }
+    {
+        let bags = Bags::with_room(alloc, slots as usize)?;
+        let bag = Vec::with_capacity(alloc, slots as usize)?;
+        let known = Known::new(alloc, slots)?;
+        Ok(Room { bags, bag, known })
+    }
+}
+
+/// Takes a free place.
+fn take_place(board: &Board, token: &mut Token) -> Option<usize>
+    requires home { token.old.table_id ≡ id_of board.now }
+    requires idle { epoch token.old ≡ nobody (places_of board.now) }
+    requires blank { words_known token.old ≡ blank (sizes_of board.now) }
+    ensures same { IsSameBut token.old token.new }
+    ensures taken { IfSome result (λ place. (place < places_of board.now) × Takes (nobody (places_of board.now)) place (epoch token.new)) }
+{
+    for place in 0..board.places() {
+        if steps::register(board, token, place) == steps::FREE {
+            return Some(place);
+        }
+    }
+    None
+}
+
+/// What a registering without memory is refused with: where no place is free either, that goes before.
+fn want_of_memory(board: &Board) -> Refused
+    ensures { (result ≡ Refused.NoPlace) ⊎ (result ≡ Refused.NoMemory) }
+{
+    if (0..board.places()).any(|place| steps::is_free(board, place)) {
+        Refused::NoMemory
+    } else {
+        Refused::NoPlace
+    }
+}
+
+/// A law, which does nothing when the program runs: a count that was found fits its type.
+#[inline]
+fn is_a_count(count: u64)
+    ensures { count < 2 ^ 64 }
+{
+    let _ = count;
+}
+
+/// The tenure of a new participant, whole and with no guard open: the only one of its home.
+fn own_tenure() -> Tenure
+    ensures reader { (result.home.size ≡ 1) × (result.number ≡ 0) }
+    ensures closed { result.kind ≡ is_closed }
+    ensures whole { result.units ≡ WHOLE }
+{
+    let mut book = Book::new(1);
+    book.issue(&Stage::Closed)
+}
+
+impl<'d, T> Membership<'d, T> {
+    /// Registers a participant.
+    ///
+    /// All memory is taken here, and none later: for what may wait with it, and for the slots that it gave back, as many
+    /// as there are slots. `NoPlace` where all places were found taken; `NoMemory` where this memory was refused.
+    #[tactic(auto, using(crate::proofs::Moving::no_purse, crate::proofs::Moving::none_lent))]
+    pub fn register(domain: &'d Domain<T>) -> Result<Membership<'d, T>, Refused>
+        ensures registered { IfOk result (IsNew (home_of domain.now) (limits_of domain.now)) }
+        ensures refused { IfErr result (λ e. (e ≡ Refused.NoPlace) ⊎ (e ≡ Refused.NoMemory)) }
+    {
+        let Ok(room) = Room::new(domain.alloc, domain.limits.slots as u32) else {
+            return Err(want_of_memory(&domain.board));
+        };
+        let Room { bags, bag, known } = room;
+        let mut token = steps::sit(&domain.board);
+        let Some(place) = take_place(&domain.board, &mut token) else {
+            return Err(Refused::NoPlace);
+        };
+        steps::write(&domain.board, &mut token, place, 0);
+        Ok(Membership {
+            domain,
+            token,
+            place,
+            nesting: domain.limits.nesting as u32,
+            own: Participant {
+                found: 0,
+                countdown: 128,
+                guards: 0,
+                bags,
+            },
+            bag,
+            known,
+            tenure: own_tenure(),
+            tally: Tally::new(),
+        })
+    }
+
+    /// Ends the participant, whose place isn't free again. What waits with it goes on waiting, and is reclaimed at the close of the domain.
+    ///
+    /// Where one of its guards is open it comes back.
+    pub fn end(self) -> Result<Receipt, Membership<'d, T>>
+        ensures { MatchResult result
+            (λ receipt. ¬ (IsGuarded self.entry) × (receipt ≡ record { home = self.entry.home; tally = self.entry.tally }))
+            (λ local. IsGuarded self.entry × (local ≡ self.entry)) }
+    {
+        if self.own.guards > 0 {
+            return Err(self);
+        }
+        let Membership {
+            domain,
+            mut token,
+            place,
+            nesting: _,
+            own: _,
+            bag: _,
+            known: _,
+            tenure: _,
+            tally,
+        } = self;
+        steps::end(&domain.board, &mut token, place);
+        Ok(Receipt::new(cut_counts(&domain.board, token), tally))
+    }
+
+    /// How many items it made, reclaimed and dropped in place.
+    pub fn tally(&self) -> Tally
+        ensures { result ≡ self.now.tally }
+    {
+        self.tally
+    }
+
+    /// Opens one more guard; an outermost one looks at the count.
+    ///
+    /// `TooManyGuards` where as many are open as may nest.
+    #[inline]
+    pub(crate) fn open_guard(&mut self) -> Result<Guard, Refused>
+    where
+        T: Drop,
+        ensures { MatchResult result
+            (λ guard. (reader_of guard ≡ self.old.reader) × CanNest self.old × Opens self.old self.new)
+            (λ e. (e ≡ Refused.TooManyGuards) × ¬ (CanNest self.old) × (self.new ≡ self.old)) }
+    {
+        if self.own.guards == 0 {
+            Ok(self.enter())
+        } else if self.own.guards < self.nesting {
+            self.own.guards += 1;
+            Ok(guard_with(self.tenure.split(1)))
+        } else {
+            Err(Refused::TooManyGuards)
+        }
+    }
+
+    /// The outermost opening, which is a change where it finds another count than the last one.
+    #[inline]
+    fn enter(&mut self) -> Guard
+    where
+        T: Drop,
+        requires { ¬ (IsGuarded self.old) }
+        ensures reader { reader_of result ≡ self.old.reader }
+        ensures opened { (count : ℕ) × IsOpened count self.old self.new }
+    {
+        arrive(
+            &self.domain.board,
+            &self.domain.shelf,
+            &mut self.token,
+            self.place,
+            &mut self.own,
+            &mut self.bag,
+            &mut self.known,
+            &mut self.tally,
+        );
+        self.own.guards = 1;
+        self.tenure.set(&Stage::Open, &());
+        guard_with(self.tenure.split(1))
+    }
+
+    /// Closes a guard; the last one publishes the end, after a scan at countdown 0. Since the guard is here, one is open.
+    #[inline]
+    pub(crate) fn close_guard(&mut self, guard: Guard)
+        requires { reader_of guard ≡ self.old.reader }
+        ensures { Closes self.old self.new }
+    {
+        let mut part = part_of_guard(guard);
+        self.tenure.apart(&mut part);
+        if self.own.guards > 1 {
+            self.own.guards -= 1;
+            self.tenure.join(part);
+        } else {
+            self.leave(part);
+        }
+    }
+
+    /// The last close, which gives back the one part of the tenure that was out: the tenure ends.
+    #[inline]
+    fn leave(&mut self, part: Tenure)
+        requires last { self.old.own.guards ≡ 1 }
+        requires reader { (part.home ≡ self.old.reader.home) × (part.number ≡ self.old.reader.number) }
+        requires single { part.units ≡ 1 }
+        ensures { Closes self.old self.new }
+    {
+        let board = &self.domain.board;
+        let place = self.place;
+        let scans = self.own.countdown == 0;
+        is_a_count(self.own.found);
+        // No place is marked as ended yet.
+        self.own.leave(false);
+        if scans {
+            scan(board, &mut self.token, place, self.own.found);
+        }
+        shut(board, &mut self.token, place, &mut self.tenure, part);
+    }
+
+    /// The count of epochs at this moment.
+    #[inline]
+    pub(crate) fn count(&mut self) -> u64
+        ensures { IsTold result self.old self.new }
+    {
+        steps::read(&self.domain.board, &mut self.token)
+    }
+
+    /// Something may wait with the participant.
+    #[inline]
+    pub(crate) fn has_garbage(&self) -> bool
+        ensures { result ≡ has_garbage self.now.own }
+    {
+        self.own.countdown != 128
+    }
+
+    /// Has the participant count down to a scan, as a retirement does.
+    #[inline]
+    pub(crate) fn stir(&mut self)
+        ensures { self.new ≡ record self.old { own = with_garbage self.old.own } }
+    {
+        self.own.stir();
+    }
+
+    /// Has the last close of the participant scan.
+    #[inline]
+    pub(crate) fn accelerate(&mut self)
+        ensures { self.new ≡ record self.old { own = accelerated self.old.own } }
+    {
+        self.own.countdown = 0;
+    }
+}

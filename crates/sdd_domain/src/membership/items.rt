@@ -1,0 +1,155 @@
+//! Items in slots: a participant makes one, looks at it beside its owner, and lets it go.
+ghost use Rattle.std.specs.Prelude.{◌≡◌, ◌⊎◌, ℕ, MatchResult, Some, slice_set};
+ghost use base.Stored.{Gv};
+ghost use Rattle.sdd_token.specs.Kind.{IsOwner, is_shared};
+ghost use Rattle.sdd_token.specs.Right.{number_of, home_of, kind_of};
+ghost use Rattle.sdd_base.specs.Guard.{reader_of};
+ghost use Rattle.sdd_stakes.specs.Shelf.{showing};
+ghost use Rattle.sdd_domain.specs.Member.{IsLone, IsUsedUp, KnowsOwner, MakesAt, LooksAt, RetiresAt};
+ghost use Rattle.sdd_domain.specs.Items.{slots_home, HasValue, IsRightTo};
+ghost use Rattle.sdd_domain.specs.Sight.{IsOnce};
+
+use crate::claims::claim_free;
+use crate::membership::Membership;
+use crate::values::put_value;
+use sdd_base::Guard;
+use sdd_base::inner::tenure_of;
+use sdd_board::steps::slots::{recall, retire, take_in, watch};
+use sdd_core::Refused;
+use sdd_stakes::Ledger;
+use sdd_store::What;
+use sdd_token::{Kind, Right};
+
+/// An owner of this kind may be one of several.
+#[inline]
+fn is_one_of_several(kind: Kind) -> bool
+    ensures { result ≡ is_shared kind }
+{
+    match kind {
+        Kind::Shared => true,
+        Kind::Free | Kind::Owned | Kind::Raw | Kind::Retired => false,
+    }
+}
+
+impl<'d, T> Membership<'d, T> {
+    /// Puts a value into a free slot, for an owner of this kind, and enters it in the ledger. No memory is taken.
+    ///
+    /// The value comes back where it is refused: `NoSlot` where a walk over all slots found none free; `Contended` where as many exchanges
+    /// were lost as the limits allow.
+    #[inline]
+    pub(crate) fn make(
+        &mut self,
+        value: T,
+        kind: Kind,
+        ledger: &mut Ledger<T>,
+    ) -> Result<Right, (T, Refused)>
+        requires { IsOwner kind }
+        ensures made { MatchResult result
+            (λ right. MakesAt (number_of right) (is_shared kind) (showing T.row value) self.old self.new × IsRightTo self.old kind (showing T.row value) right)
+            (λ e. (e.0 ≡ value) × (self.new ≡ self.old) × ((e.1 ≡ Refused.NoSlot) ⊎ (e.1 ≡ Refused.Contended))
+            × (IsLone self.old → (e.1 ≡ Refused.NoSlot) × IsUsedUp self.old)) }
+        ensures entry { MatchResult result
+            (λ right. ledger.new.entries ≡ slice_set ledger.old.entries (number_of right) (Some (value, showing T.row value)))
+            (λ _. ledger.new.entries ≡ ledger.old.entries) }
+    {
+        let slots = self.domain.limits.slots;
+        let tries = self.domain.limits.tries;
+        let board = &self.domain.board;
+        match claim_free(board, &mut self.token, &mut self.known, slots as u32, tries) {
+            Ok(slot) => {
+                ledger.fill(slot as usize, &value);
+                let shared = is_one_of_several(kind);
+                let owner = put_value(
+                    board,
+                    &self.domain.shelf,
+                    &mut self.token,
+                    slot,
+                    shared,
+                    value,
+                );
+                self.tally.count_made();
+                Ok(Right::of_witness(slot, slots as usize, kind, owner))
+            }
+            Err(refused) => Err((value, refused)),
+        }
+    }
+
+    /// Makes a value and puts it into a free slot; where it is refused, as `make` is, it isn't made.
+    pub(crate) fn make_with<F: FnOnce() -> T>(
+        &mut self,
+        make: F,
+        kind: Kind,
+        ledger: &mut Ledger<T>,
+    ) -> Result<Right, (F, Refused)>
+        requires callable { F.pre make }
+        requires owner { IsOwner kind }
+        ensures { MatchResult result
+            (λ right. (value : T) × F.post make value × MakesAt (number_of right) (is_shared kind) (showing T.row value) self.old self.new
+            × IsRightTo self.old kind (showing T.row value) right
+            × (ledger.new.entries ≡ slice_set ledger.old.entries (number_of right) (Some (value, showing T.row value))))
+            (λ e. (e.0 ≡ make) × (self.new ≡ self.old) × ((e.1 ≡ Refused.NoSlot) ⊎ (e.1 ≡ Refused.Contended))
+            × (IsLone self.old → (e.1 ≡ Refused.NoSlot) × IsUsedUp self.old) × (ledger.new.entries ≡ ledger.old.entries)) }
+    {
+        let slots = self.domain.limits.slots;
+        let tries = self.domain.limits.tries;
+        let board = &self.domain.board;
+        match claim_free(board, &mut self.token, &mut self.known, slots as u32, tries) {
+            Ok(slot) => {
+                let value = make();
+                ledger.fill(slot as usize, &value);
+                let shared = is_one_of_several(kind);
+                let owner = put_value(
+                    board,
+                    &self.domain.shelf,
+                    &mut self.token,
+                    slot,
+                    shared,
+                    value,
+                );
+                self.tally.count_made();
+                Ok(Right::of_witness(slot, slots as usize, kind, owner))
+            }
+            Err(refused) => Err((make, refused)),
+        }
+    }
+
+    /// The value of an owner's item, for as long as the guard is borrowed. The owner may be with another participant of the domain.
+    #[inline]
+    pub(crate) fn guarded<'g>(&mut self, right: &Right, guard: &'g Guard) -> &'g T
+        requires home { home_of right.now ≡ slots_home self.old }
+        requires reader { reader_of guard.now ≡ self.old.reader }
+        ensures looks { LooksAt (number_of right.now) (is_shared (kind_of right.now)) (showing T.row result.now) self.old self.new }
+        ensures once { IsOnce self.new.shown }
+        ensures value { HasValue (showing T.row result.now) right.now }
+        ensures recalled { IsLone self.old → KnowsOwner self.old (number_of right.now) (is_shared (kind_of right.now)) (showing T.row result.now) }
+    {
+        let tenure = tenure_of(guard);
+        self.tenure.agree(tenure);
+        let board = &self.domain.board;
+        let owner = right.witness();
+        recall(board, &mut self.token, owner);
+        watch(board, &mut self.token, owner);
+        self.domain.shelf.show(
+            right.number() as usize,
+            &mut self.token,
+            &board.table.shared,
+            tenure,
+        )
+    }
+
+    /// Retires an owner's item: it waits until three changes were seen. No memory is taken.
+    #[inline]
+    pub(crate) fn let_go(&mut self, right: Right)
+        requires { home_of right ≡ slots_home self.old }
+        ensures retired { (count : ℕ) × RetiresAt (number_of right) count self.old self.new }
+        ensures recalled { IsLone self.old → (value : Gv) × KnowsOwner self.old (number_of right) (is_shared (kind_of right)) value }
+    {
+        let slot = right.number();
+        let board = &self.domain.board;
+        recall(board, &mut self.token, right.witness());
+        take_in(board, &mut self.token, right.into_witness());
+        retire(board, &mut self.token, slot);
+        self.own.bags.push(What::Item(slot));
+        self.own.stir();
+    }
+}

@@ -1,0 +1,18 @@
+-- The fillings' part of the rule: what a lone participant knows of owners, by what it moved into slots
+use Rattle.std.specs.Prelude.{◌≡◌, ℕ, ◌==◌, if◌then◌else◌, List, [], ◌∷◌, Option, Some, None}
+use mathlib.Core.Option.{some}
+use lib.ListN.{get_elem?}
+use Rattle.sdd_rule.specs.declared.Showing.{Showing}
+use Rattle.sdd_rule.specs.declared.View.{View}
+use Rattle.sdd_rule.specs.declared.Sizes.{Sizes}
+use Rattle.sdd_rule.specs.Epoch.{HasPlace}
+
+-- the newest of these records of a slot
+abbrev pub newest : ℕ → List Showing → Option Showing
+newest slot [] = None
+newest slot (r ∷ rs) = if r.slot == slot then Some r else newest slot rs
+
+-- where there is one place, its participant knows what the token of each owner tells
+pub record FilledPart (sizes : Sizes) (vs : List View) : Type 0 where
+  pub knows : sizes.participants ≡ 1 → (j k m : ℕ) (v u : View) (r : Showing) → get_elem? vs j ≡ some v → HasPlace v.epoch → get_elem? vs k ≡ some u
+      → get_elem? u.stakes.owns m ≡ some r → newest r.slot v.stakes.filled ≡ Some r
