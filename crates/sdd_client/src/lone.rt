@@ -1,17 +1,18 @@
 //! The only participant of a domain is answered as a participant of a world is: one function does for both.
-ghost use Rattle.std.specs.Prelude.{◌≡◌, ◌⊎◌, ◌<◌, ℕ, MatchResult};
+ghost use Rattle.std.specs.Prelude.{◌≡◌, ◌⊎◌, ◌+◌, ◌^◌, ◌<◌, ◌≤◌, ℕ, MatchResult, None};
 ghost use Rattle.sdd_store.specs.Table.{IsEmptyAt, IsFull};
+ghost use Rattle.sdd_base.specs.Left.{Waits, accelerated_guard, four_guards};
 ghost use Rattle.sdd_base.specs.Owned.{slots_home};
-ghost use Rattle.sdd_base.specs.Seat.{IsSeated, IsExact};
+ghost use Rattle.sdd_base.specs.Seat.{IsSeated, IsExact, MayNest};
 ghost use Rattle.sdd_base.specs.Steps.{made, retired};
-ghost use Rattle.sdd_base.specs.World.{World, IsPlaceOf};
+ghost use Rattle.sdd_base.specs.World.{World, IsPlaceOf, standing_at};
 ghost use Rattle.sdd_world.specs.Place.{index_of};
 ghost use Rattle.sdd_domain.specs.Domain.{limits_of};
 ghost use Rattle.sdd_domain.specs.Local.{world_of};
 ghost use Rattle.sdd_domain.specs.Member.{IsLone};
 ghost use Rattle.sdd_domain.specs.Space.{seat_of};
 
-use sdd_base::{Guard, Items, Owned};
+use sdd_base::{Guard, Guards, Item, Items, Owned, Plain};
 use sdd_core::Refused;
 use sdd_domain::{Domain, Local};
 use sdd_world::{Place, World};
@@ -77,4 +78,52 @@ pub fn first_item(domain: &Domain<u64>) -> Result<u64, Refused>
         Ok(_receipt) => Ok(seen),
         Err(_) => unreachable!(),
     }
+}
+
+/// Opens a guard, accelerates it and closes it, in an exact space in which one more may be opened.
+pub fn accelerated_guard<T: Item<T>, S: Guards<T>>(s: &mut S)
+    requires seated { IsSeated (S.seat s.old) }
+    requires exact { IsExact (S.seat s.old) }
+    requires may { MayNest (S.seat s.old) (S.own s.old) }
+    ensures seat { S.seat s.new ≡ S.seat s.old }
+    ensures passed { S.world s.new ≡ accelerated_guard T.holds (S.world s.old) (S.seat s.old).place }
+{
+    let Ok(guard) = Guard::new(s) else {
+        unreachable!()
+    };
+    guard.accelerate(s);
+    guard.close(s);
+}
+
+/// Four accelerated guards of the only participant of a domain, one after another: what waited is reclaimed.
+pub fn four_guards<T: Plain<T> + Drop>(local: &mut Local<'_, T>)
+    requires seated { IsSeated (seat_of local.old) }
+    requires lone { IsLone local.old.member }
+    requires shut { local.old.member.own.guards ≡ 0 }
+    requires nesting { 0 < local.old.member.limits.nesting }
+    requires early { local.old.member.known + 4 ≤ 2 ^ 64 }
+    ensures passed { world_of local.new ≡ four_guards T.holds (world_of local.old) local.old.member.place }
+    ensures reclaimed { (slot seen : ℕ) → Waits (world_of local.old) local.old.member.place slot seen → standing_at (world_of local.new) slot ≡ None }
+{
+    local.is_whole();
+    local.four_guards_reclaim();
+    goes_on(local);
+    goes_on(local);
+    goes_on(local);
+    goes_on(local);
+}
+
+/// An accelerated guard of the only participant of a domain, which has none open.
+fn goes_on<T: Plain<T> + Drop>(local: &mut Local<'_, T>)
+    requires seated { IsSeated (seat_of local.old) }
+    requires lone { IsLone local.old.member }
+    requires shut { local.old.member.own.guards ≡ 0 }
+    requires nesting { 0 < local.old.member.limits.nesting }
+    ensures seat { seat_of local.new ≡ seat_of local.old }
+    ensures shut { local.new.member.own.guards ≡ 0 }
+    ensures passed { world_of local.new ≡ accelerated_guard T.holds (world_of local.old) local.old.member.place }
+{
+    local.is_whole();
+    accelerated_guard::<T, Local<'_, T>>(local);
+    local.is_whole();
 }
