@@ -9,7 +9,7 @@ ghost use Rattle.sdd_base.specs.Left.{left};
 ghost use Rattle.sdd_base.specs.Adopting.{AdoptsWhatIsLeft};
 ghost use Rattle.sdd_base.specs.Under.{CallsUnder};
 ghost use Rattle.sdd_base.specs.Owned.{slot_of, slots_home};
-ghost use Rattle.sdd_base.specs.Seat.{IsSeated};
+ghost use Rattle.sdd_base.specs.Seat.{IsSeated, IsExact, MayNest};
 ghost use Rattle.sdd_store.specs.Time.{is_open};
 ghost use Rattle.sdd_world.specs.Place.{index_of};
 
@@ -27,12 +27,22 @@ pub fn accelerated_guard<T: Item<T>>(world: &mut World<T>, place: &Place)
     ensures passes { Passes T.holds world.old (index_of place.now) }
 {
     world.accelerated_guards_pass();
-    let mut turn = world.at(place);
-    let Ok(guard) = Guard::new(&mut turn) else {
+    accelerated(&mut world.at(place));
+}
+
+/// Opens a guard, accelerates it and closes it, in any exact space in which one more may be opened.
+pub fn accelerated<T: Item<T>, S: Guards<T>>(s: &mut S)
+    requires seated { IsSeated (S.seat s.old) }
+    requires exact { IsExact (S.seat s.old) }
+    requires may { MayNest (S.seat s.old) (S.own s.old) }
+    ensures seat { S.seat s.new ≡ S.seat s.old }
+    ensures passed { S.world s.new ≡ accelerated_guard T.holds (S.world s.old) (S.seat s.old).place }
+{
+    let Ok(guard) = Guard::new(s) else {
         unreachable!()
     };
-    guard.accelerate(&mut turn);
-    guard.close(&mut turn);
+    guard.accelerate(s);
+    guard.close(s);
 }
 
 /// Four accelerated guards, one after another: what waited with the participant is reclaimed.

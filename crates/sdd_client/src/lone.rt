@@ -3,7 +3,7 @@ ghost use Rattle.std.specs.Prelude.{◌≡◌, ◌⊎◌, ◌+◌, ◌^◌, ◌<
 ghost use Rattle.sdd_store.specs.Table.{IsEmptyAt, IsFull};
 ghost use Rattle.sdd_base.specs.Left.{Waits, accelerated_guard, four_guards};
 ghost use Rattle.sdd_base.specs.Owned.{slots_home};
-ghost use Rattle.sdd_base.specs.Seat.{IsSeated, IsExact, MayNest};
+ghost use Rattle.sdd_base.specs.Seat.{IsSeated, IsExact};
 ghost use Rattle.sdd_base.specs.Steps.{made, retired};
 ghost use Rattle.sdd_base.specs.World.{World, IsPlaceOf, standing_at};
 ghost use Rattle.sdd_world.specs.Place.{index_of};
@@ -12,10 +12,12 @@ ghost use Rattle.sdd_domain.specs.Local.{world_of};
 ghost use Rattle.sdd_domain.specs.Member.{IsLone};
 ghost use Rattle.sdd_domain.specs.Space.{seat_of};
 
-use sdd_base::{Guard, Guards, Item, Items, Owned, Plain};
+use sdd_base::{Guard, Items, Owned, Plain};
 use sdd_core::Refused;
 use sdd_domain::{Domain, Local};
 use sdd_world::{Place, World};
+
+use crate::guards::accelerated;
 
 /// Makes an item and retires it: it waits with the participant.
 ///
@@ -80,21 +82,6 @@ pub fn first_item(domain: &Domain<u64>) -> Result<u64, Refused>
     }
 }
 
-/// Opens a guard, accelerates it and closes it, in an exact space in which one more may be opened.
-pub fn accelerated_guard<T: Item<T>, S: Guards<T>>(s: &mut S)
-    requires seated { IsSeated (S.seat s.old) }
-    requires exact { IsExact (S.seat s.old) }
-    requires may { MayNest (S.seat s.old) (S.own s.old) }
-    ensures seat { S.seat s.new ≡ S.seat s.old }
-    ensures passed { S.world s.new ≡ accelerated_guard T.holds (S.world s.old) (S.seat s.old).place }
-{
-    let Ok(guard) = Guard::new(s) else {
-        unreachable!()
-    };
-    guard.accelerate(s);
-    guard.close(s);
-}
-
 /// Four accelerated guards of the only participant of a domain, one after another: what waited is reclaimed.
 pub fn four_guards<T: Plain<T> + Drop>(local: &mut Local<'_, T>)
     requires seated { IsSeated (seat_of local.old) }
@@ -124,6 +111,6 @@ fn goes_on<T: Plain<T> + Drop>(local: &mut Local<'_, T>)
     ensures passed { world_of local.new ≡ accelerated_guard T.holds (world_of local.old) local.old.member.place }
 {
     local.is_whole();
-    accelerated_guard::<T, Local<'_, T>>(local);
+    accelerated::<T, Local<'_, T>>(local);
     local.is_whole();
 }
