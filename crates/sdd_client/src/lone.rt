@@ -12,12 +12,11 @@ ghost use Rattle.sdd_domain.specs.Local.{world_of};
 ghost use Rattle.sdd_domain.specs.Member.{IsLone};
 ghost use Rattle.sdd_domain.specs.Space.{seat_of};
 
+use crate::guards::accelerated;
 use sdd_base::{Guard, Items, Owned, Plain};
 use sdd_core::Refused;
 use sdd_domain::{Domain, Local};
 use sdd_world::{Place, World};
-
-use crate::guards::accelerated;
 
 /// Makes an item and retires it: it waits with the participant.
 ///
