@@ -27,17 +27,18 @@ use Rattle.sdd_rule.proofs.Epoch as epochs
 use Rattle.sdd_rule.proofs.EpochSteps as over
 use Rattle.sdd_rule.proofs.Ended.{Spares}
 use Rattle.sdd_rule.proofs.Sums.{is_same}
-use Rattle.sdd_homes.specs.Homes.{Carries, Moves}
+use Rattle.sdd_homes.specs.Homes.{Carries, Moves, Settles}
+use Rattle.sdd_homes.specs.Records.{IsIn}
 use Rattle.sdd_homes.specs.Housed.{Housed}
-use Rattle.sdd_homes.specs.HomeSteps.{Mine, HasAll, IsValue, Purse, ClaimsAll, Houses, TakesOut, TakesHeld, RetiresOne, GivesAll, DiscardsAll, Watches, Recalls, ClosesHome, EndsAll, OfSlot}
+use Rattle.sdd_homes.specs.HomeSteps.{Mine, HasAll, HasLast, IsValue, Purse, ClaimsAll, Houses, TakesOut, TakesHeld, TakesLast, RetiresOne, GivesAll, DiscardsAll, Watches, Recalls, ClosesHome, EndsAll, OfSlot}
 use Rattle.sdd_homes.proofs.Lift.{lift_epoch, lift_publish, lift_end}
 use Rattle.sdd_homes.proofs.Steps.{own_place}
 use Rattle.sdd_homes.proofs.Steps as steps
 use Rattle.sdd_homes.proofs.Fillings.{NoneTold}
-use Rattle.sdd_homes.proofs.Telling.{none_told}
+use Rattle.sdd_homes.proofs.Telling.{one_moved, owns_it, none_told}
 use Rattle.sdd_homes.proofs.Tokens.{enters}
 use Rattle.sdd_rule.specs.Parts.{idle, owner_of}
-use Rattle.sdd_board.specs.Token.{Sits, Told, IsSame, IsSameBut, Stepped, Taught, Moved, HousesMoved, WatchesOwned, RecallsOwned, HasPublished, shown_last}
+use Rattle.sdd_board.specs.Token.{Sits, Told, IsSame, IsSameBut, Stepped, Taught, Moved, HousesMoved, TakesOwned, WatchesOwned, RecallsOwned, HasPublished, shown_last}
 
 -- which of two it is now a number tells, and what holds of both holds of it
 which : (P : EpochView → Type 0) (a b w : EpochView) (x c : ℕ) → (x ≡ c → w ≡ a) → (x ≢ c → w ≡ b) → P a → P b → P w
@@ -49,15 +50,15 @@ had v a b w x c hit miss one two z = dite (ℕ_discrete x c) (λ e. one (subst H
 
 -- the slot whose value is moved
 one_slot_moved : (w : View) (i j : ℕ) → Moves w i → Moves w j → i ≡ j
-one_slot_moved w i j m m' = let e : Some i ≡ Some j = sym m ∙ m' in cc
+one_slot_moved w i j m m' = one_moved w j i m' m
 
 -- who has all stakes in a slot sees by the last what it shows
-last_shown : (γ i n : ℕ) (value : Gv) (rest xs : Carries) → HasAll γ i n (IsValue value) rest xs → shown_last xs ≡ value
+last_shown : (γ i n : ℕ) (value : Gv) (rest xs : Carries) → HasAll γ i n 1 (IsValue value) rest xs → shown_last xs ≡ value
 last_shown γ i n value rest [] row = absurd row
 last_shown γ i n value rest (x ∷ xs) row = row.1.1.1
 
 -- so it knows what the step told that moved this value in
-pub as_housed : (γ slot n : ℕ) (a b : Bool) (value : Gv) (rest : Carries) (me me' : Mine) → b ≡ a → Moves me.0 slot → HasAll γ slot n (IsValue value) rest me.1
+pub as_housed : (γ slot n : ℕ) (a b : Bool) (value : Gv) (rest : Carries) (me me' : Mine) → b ≡ a → Moves me.0 slot → HasAll γ slot n 1 (IsValue value) rest me.1
     → HousesMoved a me me' → Houses slot b value me me'
 as_housed γ slot n a b value rest me me' is moves row e =
     subst (λ (t : Bool × Gv). Houses slot t.0 t.1 me me') (λ d. (sym is d, last_shown γ slot n value rest me.1 row d)) (e slot moves)
@@ -229,15 +230,15 @@ module _ (γ : ℕ) (sizes : Sizes) (slots id : ℕ) (me : Mine) where
     alone_known : (told : Mine → Type 0) → AllowsAlone (Housed me.0.stakes.book me.0.sizes) slots id me told → AllowsAlone (Housed γ sizes) slots id me told
     alone_known told = subst (λ (t : ℕ × Sizes). AllowsAlone (Housed t.0 t.1) slots id me told) (λ d. (book d, same d))
 
-    row_as_known : (slot : ℕ) (Is : Gv → Type 0) (rest : Carries) → HasAll γ slot sizes.participants Is rest me.1
-        → HasAll me.0.stakes.book slot me.0.sizes.participants Is rest me.1
-    row_as_known slot Is rest = subst (λ (t : ℕ × Sizes). HasAll t.0 slot t.1.participants Is rest me.1) (λ d. (sym book d, sym same d))
+    row_as_known : (slot o : ℕ) (Is : Gv → Type 0) (rest : Carries) → HasAll γ slot sizes.participants o Is rest me.1
+        → HasAll me.0.stakes.book slot me.0.sizes.participants o Is rest me.1
+    row_as_known slot o Is rest = subst (λ (t : ℕ × Sizes). HasAll t.0 slot t.1.participants o Is rest me.1) (λ d. (sym book d, sym same d))
 
     pub may_house : (slot : ℕ) → slot < sizes.slots → Moves me.0 slot → OwnsAlone me.0 slot → (shared : Bool) (value : Gv) (rest : Carries)
-        → HasAll γ slot sizes.participants (IsValue value) rest me.1 → AllowsAlone (Housed γ sizes) slots id me (HousesMoved shared me)
+        → HasAll γ slot sizes.participants 1 (IsValue value) rest me.1 → AllowsAlone (Housed γ sizes) slots id me (HousesMoved shared me)
     may_house slot inside moves mine shared value rest row = let within : slot < me.0.sizes.slots = (let e = ap (λ (z : Sizes). z.slots) same in omega arith) in
         alone_known (HousesMoved shared me) (λ s h long at.
-        let a = steps.houses slots id me live slot within moves mine shared value rest (row_as_known slot (IsValue value) rest row) s h long at in (
+        let a = steps.houses slots id me live slot within moves mine shared value rest (row_as_known slot 1 (IsValue value) rest row) s h long at in (
           a.0,
           a.1,
           a.2,
@@ -245,6 +246,22 @@ module _ (γ : ℕ) (sizes : Sizes) (slots id : ℕ) (me : Mine) where
           (λ other m. subst (λ (t : ℕ × Gv). Houses t.0 shared t.1 me (a.0, carried_after me.1 a.1))
               (λ d. (one_slot_moved me.0 slot other moves m d, sym (last_shown γ slot sizes.participants value rest me.1 row) d)) a.4),
         ))
+
+    pub may_take_last : (slot : ℕ) → slot < sizes.slots → me.0.slots.owns ≡ slot ∷ [] → me.0.stakes.moves ≡ None
+        → AllowsAlone (Housed γ sizes) slots id me (TakesOwned me)
+    may_take_last slot inside owns rests = let within : slot < me.0.sizes.slots = (let e = ap (λ (z : Sizes). z.slots) same in omega arith) in
+        alone_known (TakesOwned me) (λ s h long at. let a = steps.takes_last slots id me live slot within rests (owns_it me.0 slot owns) s h long at in (
+          a.0,
+          a.1,
+          a.2,
+          a.3,
+          (λ other is. let one : slot ≡ other = ap first_slot (sym owns ∙ is) in
+              subst (λ (k : ℕ). (value : Gv) → IsIn me.0.stakes.owns k value → TakesLast k value me (a.0, carried_after me.1 a.1)) one a.4),
+        ))
+      where
+        first_slot : List ℕ → ℕ
+        first_slot [] = 0
+        first_slot (k ∷ ks) = k
 
     -- beside an owner's token
     beside_known : (jd : ℕ) (w : View) (told : Mine → Type 0) → AllowsBeside (Housed me.0.stakes.book me.0.sizes) slots id me jd w told
@@ -290,9 +307,9 @@ module _ (γ : ℕ) (sizes : Sizes) (slots id : ℕ) (me : Mine) where
       at_slot : (f : ℕ → ℕ) (told : ℕ → ℕ → Mine → Type 0) → Own (slot_word me.0.sizes slot) f (told (slot_word me.0.sizes slot)) → May i f (told i)
       at_slot f told = as_known i (slot_word me.0.sizes slot) f told there
 
-      row_known : (Is : _ → Type 0) (rest : Carries) → HasAll γ slot sizes.participants Is rest me.1
-          → HasAll me.0.stakes.book slot me.0.sizes.participants Is rest me.1
-      row_known Is rest = subst (λ (t : ℕ × Sizes). HasAll t.0 slot t.1.participants Is rest me.1) (λ d. (sym book d, sym same d))
+      row_known : (Is : _ → Type 0) (rest : Carries) → HasAll γ slot sizes.participants 0 Is rest me.1
+          → HasAll me.0.stakes.book slot me.0.sizes.participants 0 Is rest me.1
+      row_known Is rest = row_as_known slot 0 Is rest
 
       all_looked : sizes.participants ≤ me.0.slots.looked → me.0.sizes.participants ≤ me.0.slots.looked
       all_looked all = let e = ap (λ (z : Sizes). z.participants) same in omega arith
@@ -305,10 +322,12 @@ module _ (γ : ℕ) (sizes : Sizes) (slots id : ℕ) (me : Mine) where
       pub may_look : May i (λ x. x) (Told (AtSlot LooksAtSlot i) me)
       may_look = at_slot (λ x. x) (λ j. Told (AtSlot LooksAtSlot j) me) (steps.looks slots id me live slot within)
 
-      pub may_retire : me.0.slots.owns ≡ slot ∷ [] → ¬ (Holds me.0 slot) → me.0.stakes.moves ≡ None
+      pub may_retire : me.0.slots.owns ≡ slot ∷ [] → ¬ (Holds me.0 slot) → Settles me.0 slot → (value : Gv) → IsIn me.0.stakes.owns slot value
+          → (rest : Carries) → HasLast γ slot sizes.participants 0 (IsValue value) rest me.1
           → May i (λ _. waiting_word 0) (λ _. OfSlot RetiresOne i me (waiting_word 0))
-      may_retire mine free rests = at_slot (λ _. waiting_word 0) (λ j _. OfSlot RetiresOne j me (waiting_word 0))
-          (steps.retires slots id me live slot within mine free rests)
+      may_retire mine free settles value told rest row = at_slot (λ _. waiting_word 0) (λ j _. OfSlot RetiresOne j me (waiting_word 0))
+          (steps.retires slots id me live slot within mine free settles value told rest
+          (subst (λ (t : ℕ × Sizes). HasLast t.0 slot t.1.participants 0 (IsValue value) rest me.1) (λ d. (sym book d, sym same d)) row))
 
       -- a step on no word, taken with a load of the slot's
       by_load : (R : ℕ → Mine → Mine → Type 0) → AllowsAlone (Housed me.0.stakes.book me.0.sizes) slots id me (R slot me)
@@ -325,7 +344,7 @@ module _ (γ : ℕ) (sizes : Sizes) (slots id : ℕ) (me : Mine) where
       pub may_take_out : me.0.stakes.moves ≡ None → IsDue me.0 slot → May i (λ x. x) (OfSlot (λ slot me _. TakesOut slot me) i me)
       may_take_out rests due = by_load TakesOut (steps.takes_out slots id me live slot within rests due)
 
-      pub may_give_back : Moves me.0 slot → IsDue me.0 slot → (rest : Carries) → HasAll γ slot sizes.participants IsVacant rest me.1
+      pub may_give_back : Moves me.0 slot → IsDue me.0 slot → (rest : Carries) → HasAll γ slot sizes.participants 0 IsVacant rest me.1
           → May i (λ _. free_word 0) (λ _. OfSlot GivesAll i me (free_word 0))
       may_give_back moves due rest row = at_slot (λ _. free_word 0) (λ j _. OfSlot GivesAll j me (free_word 0))
           (steps.gives_all slots id me live slot within moves due rest (row_known IsVacant rest row))
@@ -341,7 +360,7 @@ module _ (γ : ℕ) (sizes : Sizes) (slots id : ℕ) (me : Mine) where
       may_take_held rests mine held all = by_load TakesHeld (steps.takes_held slots id me live slot within rests mine held (all_looked all))
 
       pub may_discard : Moves me.0 slot → Holds me.0 slot → sizes.participants ≤ me.0.slots.looked → (rest : Carries)
-          → HasAll γ slot sizes.participants IsVacant rest me.1 → May i (λ _. free_word 0) (λ _. OfSlot DiscardsAll i me (free_word 0))
+          → HasAll γ slot sizes.participants 0 IsVacant rest me.1 → May i (λ _. free_word 0) (λ _. OfSlot DiscardsAll i me (free_word 0))
       may_discard moves held all rest row = at_slot (λ _. free_word 0) (λ j _. OfSlot DiscardsAll j me (free_word 0))
           (steps.discards slots id me live slot within moves held (all_looked all) rest (row_known IsVacant rest row))
 

@@ -3,3 +3,4 @@ pub mod Board
 pub mod Token
 pub mod Owner
 pub mod Counts
+pub mod Grips

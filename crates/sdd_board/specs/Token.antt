@@ -11,7 +11,8 @@ use Rattle.sdd_rule.specs.SlotSteps.{changed}
 use Rattle.sdd_stakes.specs.declared.stake.Stake.{Stake}
 use Rattle.sdd_rule.specs.Parts.{owner_of}
 use Rattle.sdd_homes.specs.Homes.{Carries, Moves}
-use Rattle.sdd_homes.specs.HomeSteps.{Mine, Houses, Watches, Recalls, ClosesHome}
+use Rattle.sdd_homes.specs.Records.{IsIn}
+use Rattle.sdd_homes.specs.HomeSteps.{Mine, Houses, TakesLast, Watches, Recalls, ClosesHome}
 use Rattle.sdd_board.specs.declared.board.Board.{Board}
 use Rattle.sdd_board.specs.Board.{sizes_of, book_of}
 
@@ -74,6 +75,10 @@ shown_last (x ∷ xs) = x.1.lot.shown
 -- the value of the slot that it moves was moved in, for an owner that may be one of several
 abbrev pub HousesMoved : Bool → Mine → Mine → Type 0
 HousesMoved shared me me' = (slot : ℕ) → Moves me.0 slot → Houses slot shared (shown_last me.1) me me'
+
+-- the last stake in the one slot that it owns is out
+abbrev pub TakesOwned : Mine → Mine → Type 0
+TakesOwned me me' = (slot : ℕ) → me.0.slots.owns ≡ slot ∷ [] → (value : Gv) → IsIn me.0.stakes.owns slot value → TakesLast slot value me me'
 
 -- a guard sees a slot beside the token of its owner
 abbrev pub WatchesOwned : View → Mine → Mine → Type 0

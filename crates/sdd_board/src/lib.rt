@@ -2,6 +2,7 @@
 #![tactic(auto)]
 
 pub mod board;
+pub mod grips;
 mod plays;
 pub mod steps;
 pub mod words;

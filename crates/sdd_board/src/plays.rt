@@ -5,7 +5,7 @@ ghost use Rattle.sdd_rule.specs.SlotSteps.{OnEpoch, PublishesAll, LooksAtSlot, T
 ghost use Rattle.sdd_rule.specs.Ended.{Bars};
 ghost use Rattle.sdd_rule.specs.Parts.{owner_token};
 ghost use Rattle.sdd_homes.specs.HomeSteps.{ClaimsAll, TakesOut, TakesHeld, RetiresOne, GivesAll, DiscardsAll, ClosesHome, EndsAll, OfSlot, parting, departing, regained, uncounting, counts_of, counting};
-ghost use Rattle.sdd_board.specs.Token.{Sits, Told, HousesMoved, WatchesOwned, RecallsOwned};
+ghost use Rattle.sdd_board.specs.Token.{Sits, Told, HousesMoved, TakesOwned, WatchesOwned, RecallsOwned};
 
 use atomic_table::{Join, Play, Split};
 use sdd_rule::View;
@@ -106,6 +106,12 @@ pub struct HouseShared;
 
 impl Alone<Stake, View> for HouseShared {
     ghost then = { HousesMoved true };
+}
+
+pub struct TakeLast;
+
+impl Alone<Stake, View> for TakeLast {
+    ghost then = { TakesOwned };
 }
 
 pub struct Retire;

@@ -27,13 +27,13 @@ use Rattle.sdd_rule.proofs.Sums.{total_map}
 use Rattle.sdd_rule.proofs.Lift.{blind}
 use Rattle.sdd_rule.specs.Ended.{AreEnded}
 use Rattle.sdd_rule.proofs.Ended.{Spares, one_spared, all_spared}
-use Rattle.sdd_homes.specs.Homes.{Homes, Moves, IsOut, HomesPart}
+use Rattle.sdd_homes.specs.Homes.{Homes, Moves, Settles, IsOneOut, IsOut, IsMover, HomesPart}
 use Rattle.sdd_homes.specs.Records.{RecordsPart}
 use Rattle.sdd_homes.specs.Counts.{CountsPart}
 use Rattle.sdd_homes.specs.Fillings.{FilledPart}
 use Rattle.sdd_homes.specs.Housed.{Housed}
 use Rattle.sdd_homes.specs.HomeSteps.{Mine, leaving}
-use Rattle.sdd_homes.proofs.Part.{IsMover, before_slots}
+use Rattle.sdd_homes.proofs.Part.{none_out, still_mover, before_slots}
 use Rattle.sdd_homes.proofs.Part as part
 use Rattle.sdd_homes.proofs.Counts.{ended_spared, ended_more, as_full, counted, uncounted, uncounted_alone}
 use Rattle.sdd_homes.proofs.Records.{IsAlike}
@@ -91,8 +91,8 @@ module _ (γ : ℕ) (sizes : Sizes) (slots id : ℕ) (me : Mine) (i : ℕ) (f : 
 
   -- a step that takes and gives none, and has a place still if it had one; and had one if it has one, or there is no owner yet
   pub record IsCalm (s : State Stake View) (y : ℕ) (w : View) : Type 0 where
-    pub more : (j p : ℕ) → IsOut me.0 j p → IsOut w j p
-    pub same : (j : ℕ) → j < sizes.slots → full (slot_at sizes (set s.words i y) j) ≡ full (slot_at sizes s.words j)
+    pub more : (j p : ℕ) → IsOut sizes.participants me.0 j p → IsOut sizes.participants w j p
+    pub same : (j : ℕ) → j < sizes.slots → slot_at sizes (set s.words i y) j ≡ slot_at sizes s.words j
     pub mover : IsMover w
     pub alike : IsAlike me.0 w
     pub counts : w.stakes.counts ≡ me.0.stakes.counts
@@ -111,7 +111,7 @@ module _ (γ : ℕ) (sizes : Sizes) (slots id : ℕ) (me : Mine) (i : ℕ) (f : 
         homes = part.calm γ sizes s.words s.views s.homes h.homes id me.0 at (set s.words i y) w c.more c.same c.mover;
         records = records.calm sizes s.views s.homes h.records id me.0 at w c.alike;
         counts = uncounted sizes s.words s.views h.counts id me.0 at (set s.words i y) w c.counts c.lives
-            (as_full sizes s.words (set s.words i y) c.same) (ended_spared sizes s.words i y (ends s w h at t).0 sizes.participants (omega arith));
+            (as_full sizes s.words (set s.words i y) (λ j low. ap full (c.same j low))) (ended_spared sizes s.words i y (ends s w h at t).0 sizes.participants (omega arith));
         filled = filled_alike sizes s.views h.filled id me.0 at w c.alike c.had;
         tells = tells (get_or s.words i 0) w t;
       })
@@ -130,9 +130,11 @@ module _ (γ : ℕ) (sizes : Sizes) (slots id : ℕ) (me : Mine) (i : ℕ) (f : 
       let y : ℕ = f (get_or s.words i 0) in let e : EpochView = t.0 in let own = h.kept.parts.slots.each id me.0 at in
       subst (IsCalm s y) (sym t.1) record {
         more = λ j p out. ⊎_elim (λ (m : Moves me.0 j). inl m)
-            (λ (o : Sees me.0 j × (me.0.epoch.place ≡ p)). inr (o.0, stays (get_or s.words i 0) e t.2 (own.guarded j o.0) ∙ o.1)) out;
-        same = λ j _. ap full (before_slots sizes s.words i y j low);
-        mover = λ j m. let o = h.homes.moving id me.0 j at m in (lives (get_or s.words i 0) e t.2 o.0, o.1);
+            (λ (o : IsOneOut sizes.participants me.0 j p). inr (⊎_elim
+            (λ (s' : Sees me.0 j × (me.0.epoch.place ≡ p)). inl (s'.0, stays (get_or s.words i 0) e t.2 (own.guarded j s'.0) ∙ s'.1))
+            (λ (l : Settles me.0 j × (p ≡ sizes.participants)). inr l) o)) out;
+        same = λ j _. before_slots sizes s.words i y j low;
+        mover = still_mover me.0 (record me.0 { epoch = e }) refl (lives (get_or s.words i 0) e t.2) (λ _ o. o) (λ _ o. o) (h.homes.moving id me.0 at);
         alike = (refl, refl, refl);
         counts = refl;
         lives = lives (get_or s.words i 0) e t.2;
@@ -156,21 +158,18 @@ module _ (γ : ℕ) (sizes : Sizes) (slots : ℕ) where
       (keeps_ended γ sizes slots id me i (λ _. y) (λ _. PublishesAll me.0 y) (λ r w t. ap (λ (u : View). u.places) t.1) spares) step (λ _ w t. tells w t)
       (λ s w h at t. let v : View = me.0 in let e : EpochView = t.0 in
       let calm : SlotsView → Type 0 = λ x. IsCalm γ sizes slots id me i (λ _. y) s y (record v { epoch = e; slots = x }) in
-      let same = λ (j : ℕ) (_ : j < sizes.slots). ap full (before_slots sizes s.words i y j low) in
-      let more : (j p : ℕ) → IsOut v j p → IsOut (record v { epoch = e }) j p
-      = λ j p out. ⊎_elim (λ (m : Moves v j). inl m) (λ (o : Sees v j × (v.epoch.place ≡ p)). inr (o.0, (stays e t.2).1 ∙ o.1)) out in
-      let movers : (j : ℕ) → Moves v j → HasPlace e × (OwnsAlone v j ⊎ (0 < items_at j v))
-      = λ j m. ((stays e t.2).0, (h.homes.moving id v j at m).1) in
+      let same = λ (j : ℕ) (_ : j < sizes.slots). before_slots sizes s.words i y j low in let n : ℕ = sizes.participants in
+      let more : (j p : ℕ) → IsOut n v j p → IsOut n (record v { epoch = e }) j p
+      = λ j p out. ⊎_elim (λ (m : Moves v j). inl m) (λ (o : IsOneOut n v j p). inr (⊎_elim
+      (λ (s' : Sees v j × (v.epoch.place ≡ p)). inl (s'.0, (stays e t.2).1 ∙ s'.1)) (λ (l : Settles v j × (p ≡ n)). inr l) o)) out in
+      let movers = still_mover v (record v { epoch = e }) refl (λ _. (stays e t.2).0) (λ _ o. o) (λ _ o. o) (h.homes.moving id v at) in
       subst (IsCalm γ sizes slots id me i (λ _. y) s y) (sym t.1) (changed_or_not v calm
       record { more = more; same = same; mover = movers; alike = (refl, refl, refl); counts = refl; lives = λ _. (stays e t.2).0; had = λ _ _. inl live }
       record {
         more = more;
         same = same;
-        mover = λ j m. (
-          (stays e t.2).0,
-          ⊎_elim (λ (o : OwnsAlone v j). inl o)
-              (λ (o : 0 < items_at j v). inr (let k = total_map (waits_in j) older (λ x. refl) v.slots.waits in omega arith)) (movers j m).1,
-        );
+        mover = still_mover v (record v { epoch = e; slots = record v.slots { waits = map older v.slots.waits } }) refl (λ _. (stays e t.2).0) (λ _ o. o)
+            (λ j o. let k = total_map (waits_in j) older (λ x. refl) v.slots.waits in omega arith) (h.homes.moving id v at);
         alike = (refl, refl, refl);
         counts = refl;
         lives = λ _. (stays e t.2).0;
@@ -186,18 +185,17 @@ module _ (γ : ℕ) (sizes : Sizes) (slots : ℕ) where
       lift_homes γ sizes slots id me i (λ _. 3) (λ _. OnEpoch (λ u _ e. Ends u 3 e) v 3) (λ _. told)
       (keeps_ended γ sizes slots id me i (λ _. 3) (λ _. OnEpoch (λ u _ e. Ends u 3 e) v 3) (λ r w t. ap (λ (u : View). u.places) t.1) spares) step
       (λ s w h at t. let now : View = leaving v in let fits = h.kept.parts.epoch.each id v.epoch (at_map epoch_of s.views id v at) in
-      let was = fits.state (omega arith) in let same = λ (j : ℕ) (_ : j < sizes.slots). ap full (before_slots sizes s.words i 3 j (omega arith)) in
+      let was = fits.state (omega arith) in let same = λ (j : ℕ) (_ : j < sizes.slots). before_slots sizes s.words i 3 j (omega arith) in
       let wide = h.kept.parts.epoch.wide in
       let is : w ≡ record v { epoch = Rattle.sdd_rule.specs.Steps.ended v.epoch } = t.1 ∙ ap (λ (e : EpochView). record v { epoch = e }) t.2 in
       subst (Follows γ sizes id i me (λ _. told) s 3) (sym is) record {
         stakes = now.stakes;
         act = keeps;
         valid = tt;
-        homes = part.calm γ sizes s.words s.views s.homes h.homes id v at (set s.words i 3) now (λ j p out. out) same
-            (λ j m. absurd (none_moved v j rests m));
+        homes = part.calm γ sizes s.words s.views s.homes h.homes id v at (set s.words i 3) now (λ j p out. out) same (none_out now rests);
         records = records.calm sizes s.views s.homes h.records id v at now (refl, refl, refl);
         counts = counted sizes s.words s.views h.counts id v at (set s.words i 3) now
-            (let f = as_full sizes s.words (set s.words i 3) same in omega arith)
+            (let f = as_full sizes s.words (set s.words i 3) (λ j low. ap full (same j low)) in omega arith)
             (let more = ended_more s.words v.epoch.place (omega arith) (λ e. omega arith) sizes.participants inside in omega arith)
             (λ _ none. absurd (omega arith));
         filled = filled_same sizes s.views h.filled id v at now refl refl (λ z. absurd (omega arith));

@@ -1,5 +1,5 @@
 -- All stakes in a slot are taken from home in one step, and given home in one step.
-use Rattle.std.proofs.Common.{◌≡◌, ◌≢◌, ◌⊎◌, inl, inr, ℕ, zero, suc, ◌<◌, ◌≤◌, List, [], ◌∷◌, map, length, set, sym, refl, ap, ◌∙◌, subst, ⊎_elim, arith, length-set}
+use Rattle.std.proofs.Common.{◌≡◌, ◌≢◌, ◌⊎◌, inl, inr, ℕ, zero, suc, ◌<◌, ◌≤◌, List, [], ◌∷◌, drop, map, length, set, sym, refl, ap, ◌∙◌, subst, ⊎_elim, arith, length-set}
 use mathlib.Core.Option.{none, some, some-injective, some-ne-none}
 use mathlib.Core.Logic.{dite}
 use native.Mathlib.Decide.{ℕ_discrete}
@@ -12,7 +12,7 @@ use Rattle.sdd_rule.specs.declared.Showing.{Showing}
 use Rattle.sdd_rule.specs.Sums.{times}
 use Rattle.sdd_rule.proofs.Sums.{is_same, is_other}
 use Rattle.sdd_homes.specs.Homes.{Homes, Carries, stake_at, homes_for, share, Has, LiesAt, IsAtHome}
-use Rattle.sdd_homes.specs.HomeSteps.{HasRow, IsValue, Purse}
+use Rattle.sdd_homes.specs.HomeSteps.{HasRow, HasLast, IsValue, Purse}
 use Rattle.sdd_homes.specs.Records.{slot_shown, IsIn}
 use Rattle.sdd_homes.proofs.Places.{inside, one_slot, one_stake}
 use Rattle.sdd_homes.proofs.Records.{in_head, in_tail}
@@ -23,17 +23,17 @@ pub stays : (hs : Homes) (j k : ℕ) (y : Stake) → k < length hs → (z : Stak
 stays hs j k y low old = dite (ℕ_discrete j k) (λ e. (y, ap (get_elem? (set hs k (some y))) e ∙ set_here hs k (some y) low))
     (λ ne. (old.0, set_else hs k j (some y) ne ∙ old.1))
 
-module _ (γ n i : ℕ) (Is : Gv → Type 0) where
+module _ (γ n i o : ℕ) (Is : Gv → Type 0) where
   -- the first k stakes are taken
   pub record Taken (hs : Homes) (c : Carries) (k : ℕ) : Type 0 where
     pub act : Act Stake
     pub valid : Valid hs c act
-    pub row : HasRow γ i n Is c k (carried_after c act)
+    pub row : HasRow γ i n o Is c k (carried_after c act)
     pub long : length (homes_after hs c act) ≡ length hs
     pub else : (j : ℕ) → ((p : ℕ) → p < k → j ≢ stake_at n i p) → get_elem? (homes_after hs c act) j ≡ get_elem? hs j
     pub gone : (p : ℕ) (y : Stake) → p < k → ¬ (LiesAt n (homes_after hs c act) i p y)
 
-  pub takes_row : (hs : Homes) (c : Carries) (k : ℕ) → ((p : ℕ) → p < k → (y : Stake) × LiesAt n hs i p y × Has γ i (share n p) Is y) → Taken hs c k
+  pub takes_row : (hs : Homes) (c : Carries) (k : ℕ) → ((p : ℕ) → p < k → (y : Stake) × LiesAt n hs i p y × Has γ i (share n o p) Is y) → Taken hs c k
   takes_row hs c zero there = record { act = keeps; valid = tt; row = refl; long = refl; else = λ j other. refl; gone = λ p y l. absurd (omega arith) }
   takes_row hs c (suc k) there =
       let t = takes_row hs c k (λ p l. there p (omega arith)) in let a = there k (omega arith) in let y : Stake = a.0 in let spot : ℕ = stake_at n i k in
@@ -65,10 +65,10 @@ module _ (γ n i : ℕ) (Is : Gv → Type 0) where
     pub long : length (homes_after hs xs act) ≡ length hs
     pub there : (p : ℕ) → p < k → (y : Stake) × LiesAt n (homes_after hs xs act) i p y
     pub stay : (j : ℕ) → (y : Stake) × (get_elem? hs j ≡ some (some y)) → (y : Stake) × (get_elem? (homes_after hs xs act) j ≡ some (some y))
-    pub home : (p : ℕ) (y : Stake) → p < k → LiesAt n (homes_after hs xs act) i p y → Has γ i (share n p) Is y
+    pub home : (p : ℕ) (y : Stake) → p < k → LiesAt n (homes_after hs xs act) i p y → Has γ i (share n o p) Is y
     pub else : (j : ℕ) → ((p : ℕ) → p < k → j ≢ stake_at n i p) → get_elem? (homes_after hs xs act) j ≡ get_elem? hs j
 
-  pub gives_row : (m : ℕ) → i < m → (k : ℕ) → k ≤ suc n → (hs : Homes) (rest xs : Carries) → length hs ≡ homes_for n m → HasRow γ i n Is rest k xs
+  pub gives_row : (m : ℕ) → i < m → (k : ℕ) → k ≤ suc n → (hs : Homes) (rest xs : Carries) → length hs ≡ homes_for n m → HasRow γ i n o Is rest k xs
       → Given hs rest xs k
   gives_row m low zero near hs rest xs deep row = record {
     act = keeps;
@@ -97,7 +97,7 @@ module _ (γ n i : ℕ) (Is : Gv → Type 0) where
         home = λ p y l at. dite (ℕ_discrete p k)
             (λ e. let here : LiesAt n (homes_after hs' xs g.act) i k y = subst (λ (p : ℕ). LiesAt n (homes_after hs' xs g.act) i p y) e at in
             let same : x.1 ≡ y = some-injective x.1 y (some-injective (some x.1) (some y) (sym put ∙ (sym (g.else spot other) ∙ here))) in
-            subst (λ (p : ℕ). Has γ i (share n p) Is y) (sym e) (subst (Has γ i (share n k) Is) same row.1))
+            subst (λ (p : ℕ). Has γ i (share n o p) Is y) (sym e) (subst (Has γ i (share n o k) Is) same row.1))
             (λ ne. g.home p y (omega arith) at);
         else = λ j away. g.else j (λ p l. away p (omega arith))
             ∙ set_else hs x.0 j (some x.1) (λ e. away k (omega arith) (e ∙ at_spot));
@@ -105,10 +105,28 @@ module _ (γ n i : ℕ) (Is : Gv → Type 0) where
 
   -- once all have, what lies at home is one of these, or lay there before, in another slot
   pub given_lies : (hs : Homes) (rest xs : Carries) (g : Given hs rest xs (suc n)) (j p : ℕ) (y : Stake) → p ≤ n
-      → LiesAt n (homes_after hs xs g.act) j p y → ((j ≡ i) × Has γ i (share n p) Is y) ⊎ ((j ≢ i) × LiesAt n hs j p y)
+      → LiesAt n (homes_after hs xs g.act) j p y → ((j ≡ i) × Has γ i (share n o p) Is y) ⊎ ((j ≢ i) × LiesAt n hs j p y)
   given_lies hs rest xs g j p y near lies = dite (ℕ_discrete j i)
       (λ e. inl (e, g.home p y (omega arith) (subst (λ (k : ℕ). LiesAt n (homes_after hs xs g.act) k p y) e lies)))
       (λ ne. inr (ne, sym (g.else (stake_at n j p) (λ q l e. ne (one_slot n j i p q near (omega arith) e))) ∙ lies))
+
+-- the last stake in a slot goes home
+pub record LastGiven (γ n i o : ℕ) (Is : Gv → Type 0) (hs : Homes) (rest xs : Carries) : Type 0 where
+  pub last : Stake
+  pub has : Has γ i (share n o n) Is last
+  pub given : homes_after hs xs gives ≡ set hs (stake_at n i n) (some last)
+  pub carried : carried_after xs gives ≡ drop 1 xs
+  pub others : drop 1 xs ≡ rest
+
+pub last_given : (γ n i o : ℕ) (Is : Gv → Type 0) (hs : Homes) (rest xs : Carries) → HasLast γ i n o Is rest xs → LastGiven γ n i o Is hs rest xs
+last_given γ n i o Is hs rest [] row = absurd row
+last_given γ n i o Is hs rest (x ∷ xs) row = record {
+  last = x.1;
+  has = row.1;
+  given = ap (λ (k : ℕ). set hs k (some x.1)) row.0;
+  carried = refl;
+  others = row.2;
+}
 
 -- all that a guard has goes home
 module _ (γ n q m : ℕ) (near : q ≤ n) where

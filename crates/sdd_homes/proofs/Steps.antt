@@ -1,6 +1,6 @@
 -- The steps that take stakes from home or give them, and the other steps on slots
 use Rattle.std.proofs.Common.{◌≡◌, ◌≢◌, ◌⊎◌, inl, inr, ℕ, suc, ◌<◌, ◌≤◌, Bool, eqb, List, [], ◌∷◌, length, get_or, set, sym, refl, ap, ◌∙◌, subst, ⊎_elim, arith, get_or-set_same}
-use mathlib.Core.Option.{none, some}
+use mathlib.Core.Option.{none, some, some-injective}
 use mathlib.Core.Logic.{dite}
 use native.Mathlib.Decide.{ℕ_discrete, dec_lt}
 use Rattle.std.specs.Prelude.{Some, None}
@@ -9,8 +9,8 @@ use lib.Seq.{set-get_or}
 use prog.Atomic.{either}
 use base.Stored.{Gv}
 use Rattle.std.proofs.lemmas.List.{get_or_past}
-use Rattle.atomic_table.specs.Table.{State, Act, keeps, takes, Valid, Allows, carried_after, homes_after}
-use Rattle.atomic_table.proofs.Lists.{at_map, exchanged, set_again}
+use Rattle.atomic_table.specs.Table.{State, Act, keeps, takes, gives, Valid, Allows, carried_after, homes_after}
+use Rattle.atomic_table.proofs.Lists.{at_map, at_set, exchanged, set_again}
 use Rattle.sdd_stakes.specs.Shelf.{IsFull, IsVacant}
 use Rattle.sdd_stakes.specs.declared.stake.Stake.{Stake}
 use Rattle.sdd_rule.specs.declared.Showing.{Showing}
@@ -40,21 +40,21 @@ use Rattle.sdd_rule.proofs.SlotWords.{owner_in, owners_in}
 use Rattle.sdd_rule.proofs.Sums.{is_same, is_other, without_same, without_other, total_has, total_two}
 use Rattle.sdd_rule.proofs.Waits.{waits_once}
 use Rattle.sdd_witness.specs.Steps.{AllowsAlone, AllowsBeside, moved}
-use Rattle.sdd_homes.specs.Homes.{Carries, stake_at, share, Has, IsShown, Moves, NoneOut, LiesAt}
+use Rattle.sdd_homes.specs.Homes.{Carries, stake_at, share, Has, all_in, IsShown, Moves, Settles, IsOneOut, IsOut, NoneOut, LiesAt, HomesPart}
 use Rattle.sdd_homes.specs.Housed.{Housed}
-use Rattle.sdd_homes.specs.HomeSteps.{Mine, HasAll, IsValue, Purse, moving, making, giving, resting, telling, untold, sighting, unsighted, ClaimsAll, Houses, TakesOut, TakesHeld, RetiresOne, GivesAll, DiscardsAll, Watches, IsRecalled, Recalls, ClosesHome, OfSlot}
-use Rattle.sdd_homes.specs.Records.{IsIn, KnowsShown, IsKnown, IsTelling}
+use Rattle.sdd_homes.specs.HomeSteps.{Mine, HasAll, HasLast, IsValue, Purse, moving, settling, making, giving, resting, telling, untold, sighting, unsighted, ClaimsAll, Houses, TakesOut, TakesHeld, TakesLast, RetiresOne, GivesAll, DiscardsAll, Watches, IsRecalled, Recalls, ClosesHome, OfSlot}
+use Rattle.sdd_homes.specs.Records.{IsIn, KnowsShown, IsKnown, IsTelling, RecordsPart}
 use Rattle.sdd_homes.specs.Counts.{ended_places}
 use Rattle.sdd_homes.specs.Fillings.{FilledPart}
-use Rattle.sdd_homes.proofs.Part.{IsMover, of_another, before_slots, one_taken}
+use Rattle.sdd_homes.proofs.Part.{none_out, only_seen, of_another, before_slots, one_taken}
 use Rattle.sdd_homes.proofs.Part as part
 use Rattle.sdd_homes.proofs.Places.{one_slot}
 use Rattle.sdd_homes.proofs.Counts.{ended_spared, as_full, one_full, counted, uncounted, uncounted_alone}
 use Rattle.sdd_homes.proofs.Records.{in_head, in_tail, in_either, in_none, told_seen}
 use Rattle.sdd_homes.proofs.Records as records
 use Rattle.sdd_homes.proofs.Fillings.{TellsNoMore, tells_none, filled_after, filled_same, filled_housed}
-use Rattle.sdd_homes.proofs.Rows.{Taken, takes_row, gives_row, gives_purse, taken_lies, given_lies}
-use Rattle.sdd_homes.proofs.Telling.{one_moved, none_moved, one_view, owns_it, claimed_tells, moving_tells, held_tells, retired_tells, housed_tells, rested_tells, none_owns, unknown_owned, unknown_waiting, comes_home}
+use Rattle.sdd_homes.proofs.Rows.{Taken, takes_row, gives_row, gives_purse, last_given, taken_lies, given_lies}
+use Rattle.sdd_homes.proofs.Telling.{one_moved, none_moved, none_settled, settles_only, one_settled, settling_tells, one_view, owns_it, claimed_tells, moving_tells, held_tells, retired_tells, housed_tells, rested_tells, none_owns, unknown_owned, unknown_waiting, comes_home}
 use Rattle.sdd_homes.proofs.Tops.{rest_is, share_one}
 use Rattle.sdd_homes.proofs.Lift.{Keeps, Follows, IsCalm, keeps_ended, lift_homes, lift_calm, stands, stands_by}
 
@@ -72,7 +72,16 @@ module _ (γ : ℕ) (sizes : Sizes) (s : State Stake View) (h : Housed γ sizes 
   still_free j u e dead quiet m = ⊎_elim
       (λ (o : OwnsAlone u i). let g = ((h.kept.parts.slots.each j u e).alone i o).0 in absurd (omega arith))
       (λ (o : 0 < items_at i u). let t = total_has (items_at i) s.views j u e in let w = h.kept.parts.slots.waited i in absurd (omega arith))
-      (h.homes.moving j u i e m).1
+      ((h.homes.moving j u e).moves i m).1
+
+  -- nobody takes an owner's unit home to a slot without owners
+  pub unsettled : (j : ℕ) (u : View) → get_elem? s.views j ≡ some u → alive (slot_at sizes s.words i) ≡ 0 → ¬ (Settles u i)
+  unsettled j u e dead l = let o = ((h.homes.moving j u e).settles i l).1 in let g = ((h.kept.parts.slots.each j u e).alone i o).0 in omega arith
+
+  -- where a participant has the only owner, none else does
+  unsettled_owned : (id j : ℕ) (v u : View) → get_elem? s.views id ≡ some v → get_elem? s.views j ≡ some u → id ≢ j → OwnsAlone v i → ¬ (Settles u i)
+  unsettled_owned id j v u at e ne own l = let o = ((h.homes.moving j u e).settles i l).1 in let a = ((h.kept.parts.slots.each id v at).alone i own).0 in
+      let both = owners_in codes sound sizes s.words s.views h.kept.parts.slots id j i v u ne at e in omega arith
 
   -- where a participant has an owner, or an item that waits, none else moves the value
   still_owned : (id j : ℕ) (v u : View) → get_elem? s.views id ≡ some v → get_elem? s.views j ≡ some u → id ≢ j → 0 < owners_at i v → ¬ (Moves u i)
@@ -81,7 +90,7 @@ module _ (γ : ℕ) (sizes : Sizes) (s : State Stake View) (h : Housed γ sizes 
       (λ (o : OwnsAlone u i). let g = ((h.kept.parts.slots.each j u e).alone i o).0 in
       let both = owners_in codes sound sizes s.words s.views h.kept.parts.slots id j i v u ne at e in absurd (omega arith))
       (λ (o : 0 < items_at i u). let t = total_has (items_at i) s.views j u e in let w = h.kept.parts.slots.waited i in absurd (omega arith))
-      (h.homes.moving j u i e m).1
+      ((h.homes.moving j u e).moves i m).1
 
   still_waiting : (id j : ℕ) (v u : View) → get_elem? s.views id ≡ some v → get_elem? s.views j ≡ some u → id ≢ j → 0 < items_at i v → ¬ (Moves u i)
   still_waiting id j v u at e ne waits m = let t = total_has (items_at i) s.views id v at in let w = h.kept.parts.slots.waited i in
@@ -89,7 +98,7 @@ module _ (γ : ℕ) (sizes : Sizes) (s : State Stake View) (h : Housed γ sizes 
       (λ (o : OwnsAlone u i). let g = ((h.kept.parts.slots.each j u e).alone i o).0 in let l = (sound.lives (slot_at sizes s.words i) (omega arith)).0 in
       absurd (omega arith))
       (λ (o : 0 < items_at i u). let both = total_two (items_at i) s.views id j v u ne at e in absurd (omega arith))
-      (h.homes.moving j u i e m).1
+      ((h.homes.moving j u e).moves i m).1
 
 -- the own place hasn't ended
 pub own_place : (γ : ℕ) (sizes : Sizes) (id : ℕ) (v : View) → HasPlace v.epoch → (y : ℕ) (s : State Stake View) → Housed γ sizes s
@@ -129,6 +138,19 @@ module _ (slots id : ℕ) (me : Mine) (live : HasPlace me.0.epoch) where
     still_filled : (w : View) → w.stakes.filled ≡ v.stakes.filled → w.stakes.owns ≡ v.stakes.owns → FilledPart sizes (set s.views id w)
     still_filled w same owns = filled_same sizes s.views h.filled id v at w same owns (λ _. live)
 
+  -- what it has out but for the stakes that it may take is out still: what its guards see
+  still_seen : (w : View) → v.stakes.moves ≡ None → w.slots.sees ≡ v.slots.sees → w.epoch.place ≡ v.epoch.place → (j p : ℕ) → IsOut n v j p → IsOut n w j p
+  still_seen w rests sees place j p out = let o = only_seen n v rests j p out in
+      inr (inl (subst (λ (l : List ℕ). 0 < times j l) (sym sees) o.0, place ∙ o.1))
+
+  -- the same of one that moves the value of a slot, but for this slot
+  seen_but : (w : View) (slot : ℕ) → Moves v slot → w.slots.sees ≡ v.slots.sees → w.epoch.place ≡ v.epoch.place → (j p : ℕ) → j ≢ slot → IsOut n v j p
+      → IsOut n w j p
+  seen_but w slot mine sees place j p ne out = ⊎_elim (λ (m : Moves v j). absurd (ne (one_moved v slot j mine m)))
+      (λ (a : IsOneOut n v j p). ⊎_elim
+      (λ (o : Sees v j × (v.epoch.place ≡ p)). inr (inl (subst (λ (l : List ℕ). 0 < times j l) (sym sees) o.0, place ∙ o.1)))
+      (λ (l : Settles v j × (p ≡ n)). absurd (settles_only v j slot l.0 mine)) a) out
+
   module _ (slot : ℕ) (inside : slot < sizes.slots) where
     abbrev i : ℕ
     i = slot_word sizes slot
@@ -138,8 +160,8 @@ module _ (slots id : ℕ) (me : Mine) (live : HasPlace me.0.epoch) where
     at_once R x me' r other is = let same : slot ≡ other = omega arith in subst (λ (k : ℕ). R k me x me') same r
 
     -- the other slots' words are as before
-    others : (ws : List ℕ) (y j : ℕ) → j < sizes.slots → j ≢ slot → full (slot_at sizes (set ws i y) j) ≡ full (slot_at sizes ws j)
-    others ws y j _ ne = ap full (of_another sizes ws slot y j ne)
+    others : (ws : List ℕ) (y j : ℕ) → j < sizes.slots → j ≢ slot → slot_at sizes (set ws i y) j ≡ slot_at sizes ws j
+    others ws y j _ ne = of_another sizes ws slot y j ne
 
     here : (ws : List ℕ) (y : ℕ) → i < length ws → slot_at sizes (set ws i y) slot ≡ y
     here ws y low = get_or-set_same ws i y 0 low
@@ -161,21 +183,24 @@ module _ (slots id : ℕ) (me : Mine) (live : HasPlace me.0.epoch) where
       within : i < length s.words
       within = let l = h.kept.parts.slots.long in omega arith
 
-      -- where nobody sees the slot or moves its value, all stakes in it may be taken, which show what its word says
-      pub all_taken : (Is : Gv → Type 0) → ((g : Gv) → IsShown (slot_at sizes s.words slot) g → Is g)
-          → ((j : ℕ) (u : View) → get_elem? s.views j ≡ some u → ¬ (Sees u slot) × ¬ (Moves u slot)) → Taken γ n slot Is s.homes me.1 (suc n)
-      all_taken Is shown unseen = takes_row γ n slot Is s.homes me.1 (suc n) (λ p l.
+      -- where nobody sees the slot or has stakes in it out, all may be taken, which show what its word says
+      pub all_taken : (o : ℕ) → alive (slot_at sizes s.words slot) ≡ o → (Is : Gv → Type 0) → ((g : Gv) → IsShown (slot_at sizes s.words slot) g → Is g)
+          → ((j : ℕ) (u : View) → get_elem? s.views j ≡ some u → ¬ (Sees u slot) × ¬ (Moves u slot) × ¬ (Settles u slot))
+          → Taken γ n slot o Is s.homes me.1 (suc n)
+      all_taken o owners Is shown unseen = takes_row γ n slot o Is s.homes me.1 (suc n) (λ p l.
           let b = h.homes.back slot p inside (omega arith) (λ j u e out. ⊎_elim (λ (m : Moves u slot). (unseen j u e).1 m)
-          (λ (o : Sees u slot × (u.epoch.place ≡ p)). (unseen j u e).0 o.0) out) in
-          let has = h.homes.home slot p b.0 inside (omega arith) b.1 in (b.0, b.1, (has.0, shown b.0.lot.shown has.1)))
+          (λ (a : IsOneOut n u slot p). ⊎_elim (λ (o : Sees u slot × (u.epoch.place ≡ p)). (unseen j u e).0 o.0)
+          (λ (l : Settles u slot × (p ≡ n)). (unseen j u e).2 l.0) a) out) in
+          let has = subst (λ (k : ℕ). Has γ slot (share n k p) (IsShown (slot_at sizes s.words slot)) b.0) owners
+              (h.homes.home slot p b.0 inside (omega arith) b.1) in (b.0, b.1, (has.0, shown b.0.lot.shown has.1)))
 
       -- no place ends by a step on a slot
       over_slot : (y : ℕ) → ended_places s.words n ≤ ended_places (set s.words i y) n
       over_slot y = ended_spared sizes s.words i y (λ p low e was. absurd (omega arith)) n (omega arith)
 
       -- a load leaves the words
-      same_words : (j : ℕ) → full (slot_at sizes (set s.words i (get_or s.words i 0)) j) ≡ full (slot_at sizes s.words j)
-      same_words j = ap (λ (l : List ℕ). full (slot_at sizes l j)) (set-get_or s.words i 0)
+      same_words : (j : ℕ) → slot_at sizes (set s.words i (get_or s.words i 0)) j ≡ slot_at sizes s.words j
+      same_words j = ap (λ (l : List ℕ). slot_at sizes l j) (set-get_or s.words i 0)
 
     -- claim a free slot
     pub claims : v.stakes.moves ≡ None → May i (λ x. either (eqb x (free_word 0)) (owned_word 0) x)
@@ -188,24 +213,27 @@ module _ (slots id : ℕ) (me : Mine) (live : HasPlace me.0.epoch) where
         exchanged x (free_word 0) (owned_word 0) (λ y. Follows γ sizes id i me told s y w)
         (λ hit. let free = free_is 0 (omega arith) in let dead : alive x ≡ 0 = ap alive hit ∙ free.0 in let quiet : waiting x ≡ 0 = ap waiting hit ∙ free.1 in
         let empty : full x ≡ 0 = ap full hit ∙ free.2 in
-        let tk = all_taken s h IsVacant (λ g sh. sh.1 empty) (λ j u e. (
+        let tk = all_taken s h 0 dead IsVacant (λ g sh. sh.1 empty) (λ j u e. (
           owning.fresh codes sound sizes s.words s.views h.kept.parts.slots id v at slot empty j u e,
           still_free γ sizes s h slot j u e dead quiet,
+          unsettled γ sizes s h slot j u e dead,
         )) in let now : View = making slot (owned_word 0) v in
         subst (Follows γ sizes id i me told s (owned_word 0)) (sym (c.0 hit)) record {
           stakes = now.stakes;
           act = tk.act;
           valid = tk.valid;
-          homes = part.takes γ sizes s.words s.views s.homes h.homes id v at slot IsVacant me.1 tk (set s.words i (owned_word 0)) now refl
-              (λ j p ne out. ⊎_elim (λ (m : Moves v j). absurd (none_moved v j rests m)) (λ (o : Sees v j × (v.epoch.place ≡ p)). inr o) out)
-              (others s.words (owned_word 0))
-              (λ j m. let e : j ≡ slot = one_moved now slot j refl m in let one = is_same slot slot refl in
-              (live, inl (subst (λ (k : ℕ). 0 < times k (slot ∷ v.slots.owns)) (sym e) (omega arith))));
+          homes = part.takes γ sizes s.words s.views s.homes h.homes id v at slot 0 IsVacant me.1 tk (set s.words i (owned_word 0)) now refl
+              (λ j p _. still_seen now rests refl refl j p) (others s.words (owned_word 0))
+              record {
+                moves = λ j m. let e : j ≡ slot = one_moved now slot j refl m in let one = is_same slot slot refl in
+                    (live, inl (subst (λ (k : ℕ). 0 < times k (slot ∷ v.slots.owns)) (sym e) (omega arith)));
+                settles = λ j l. absurd (settles_only now j slot l refl);
+              };
           records = records.comes_to_move sizes s.views s.homes h.records id v at slot now (homes_after s.homes me.1 tk.act)
               (claimed_tells v (h.records.each id v at) slot rests
               (λ o. let a = ((h.kept.parts.slots.each id v at).alone slot o).0 in omega arith) (owned_word 0))
               (records.mine sizes s.views s.homes h.records id v at)
-              (λ j p y _ near l. (taken_lies γ n slot IsVacant s.homes me.1 tk j p y near l).1) refl (λ j m. one_moved now slot j refl m)
+              (λ j p y _ near l. (taken_lies γ n slot 0 IsVacant s.homes me.1 tk j p y near l).1) refl (λ j m. one_moved now slot j refl m)
               (owning.fresh codes sound sizes s.words s.views h.kept.parts.slots id v at slot empty);
           counts = counted sizes s.words s.views h.counts id v at (set s.words i (owned_word 0)) now
               (let f = one_full sizes s.words slot (owned_word 0) inside h.kept.parts.slots.long in
@@ -220,73 +248,76 @@ module _ (slots id : ℕ) (me : Mine) (live : HasPlace me.0.epoch) where
           act = keeps;
           valid = tt;
           homes = part.calm γ sizes s.words s.views s.homes h.homes id v at (set s.words i x) v (λ j p out. out) (λ j _. same_words s h j)
-              (λ j m. h.homes.moving id v j at m);
+              (h.homes.moving id v at);
           records = records.calm sizes s.views s.homes h.records id v at v (refl, refl, refl);
           counts = uncounted sizes s.words s.views h.counts id v at (set s.words i x) v refl (λ l. l)
-              (as_full sizes s.words (set s.words i x) (λ j _. same_words s h j)) (over_slot s h x);
+              (as_full sizes s.words (set s.words i x) (λ j _. ap full (same_words s h j))) (over_slot s h x);
           filled = still_filled s h at v refl refl;
           tells = at_once (λ slot. ClaimsAll slot (free_word 0) (owned_word 0)) x me ((λ hit. absurd (miss hit)), (λ _. refl), c.2);
         }))
 
     -- a value was moved in
-    pub houses : Moves v slot → OwnsAlone v slot → (shared : Bool) (value : Gv) (rest : Carries) → HasAll γ slot n (IsValue value) rest me.1
+    pub houses : Moves v slot → OwnsAlone v slot → (shared : Bool) (value : Gv) (rest : Carries) → HasAll γ slot n 1 (IsValue value) rest me.1
         → MayAlone (Houses slot shared value me)
     houses mine own shared value rest row s h _ at = let w : View = resting (telling slot shared value v) in
         let r : Showing = record { slot = slot; shared = shared; value = value } in let unknown = unknown_owned γ sizes s h slot id v at mine own in
-        let g = gives_row γ n slot (IsValue value) sizes.slots inside (suc n) (omega arith) s.homes rest me.1 h.homes.deep row in
+        let g = gives_row γ n slot 1 (IsValue value) sizes.slots inside (suc n) (omega arith) s.homes rest me.1 h.homes.deep row in
         let one = ((h.kept.parts.slots.each id v at).alone slot own).0 in let filled = full_owned (slot_at sizes s.words slot) (omega arith) in
         let known = records.mine sizes s.views s.homes h.records id v at in (
           w,
           g.act,
           g.valid,
           stands_by γ sizes id v s h at w.stakes refl (homes_after s.homes me.1 g.act)
-              (part.gives γ sizes s.words s.views s.homes h.homes id v at slot (IsValue value) rest me.1 g s.words w
-              (λ g so. (λ _. so.0, λ e. absurd (omega arith)))
-              (λ j p ne out. ⊎_elim (λ (m : Moves v j). absurd (ne (one_moved v slot j mine m))) (λ (o : Sees v j × (v.epoch.place ≡ p)). inr o) out)
-              (λ j _ _. refl) (λ j m. absurd (none_moved w j refl m)))
+              (part.gives γ sizes s.words s.views s.homes h.homes id v at slot 1 (IsValue value) rest me.1 g s.words w one
+              (λ g so. (λ _. so.0, λ e. absurd (omega arith))) (seen_but w slot mine refl refl) (λ j _ _. refl) (none_out w refl))
               (records.comes_to_know sizes s.views s.homes h.records id v at slot value w (homes_after s.homes me.1 g.act)
               (housed_tells v (h.records.each id v at) slot mine own shared value) unknown
               (λ i g k. ⊎_elim
               (λ (a : IsIn (r ∷ v.stakes.owns) i g). ⊎_elim (λ (e : (slot ≡ i) × (value ≡ g)). inl (sym e.0, sym e.1))
               (λ (b : IsIn v.stakes.owns i g). inr (known i g (inl b))) (in_either r v.stakes.owns i g a))
               (λ (a : IsIn v.stakes.sees i g). inr (known i g (inr a))) k)
-              (λ j p y _ near lies. ⊎_elim (λ (b : (j ≡ slot) × Has γ slot (share n p) (IsValue value) y). inl (b.0, b.1.1.1))
-              (λ (b : (j ≢ slot) × LiesAt n s.homes j p y). inr b) (given_lies γ n slot (IsValue value) s.homes rest me.1 g j p y near lies))
+              (λ j p y _ near lies. ⊎_elim (λ (b : (j ≡ slot) × Has γ slot (share n 1 p) (IsValue value) y). inl (b.0, b.1.1.1))
+              (λ (b : (j ≢ slot) × LiesAt n s.homes j p y). inr b) (given_lies γ n slot 1 (IsValue value) s.homes rest me.1 g j p y near lies))
               (λ j. none_moved w j refl) (λ j a. a))
               (filled_housed sizes s.views h.filled id v at s.words h.kept.parts.epoch live r
               (λ x t e. unknown x.value (t.0, t.2, t.3, inl (t.1, x, t.4, sym e, refl))) w refl refl),
-          (refl, g.carried ∙ sym (rest_is γ slot n (IsValue value) rest (suc n) me.1 row)),
+          (refl, g.carried ∙ sym (rest_is γ slot n 1 (IsValue value) rest (suc n) me.1 row)),
         )
 
     -- where nobody sees a slot, and its value may be moved out by this one alone, all stakes in it are taken
-    moves_out : (s : State Stake View) (h : Housed γ sizes s) → get_elem? s.views id ≡ some v → v.stakes.moves ≡ None
-        → full (slot_at sizes s.words slot) ≡ 1 → OwnsAlone v slot ⊎ (0 < items_at slot v)
+    moves_out : (o : ℕ) (s : State Stake View) (h : Housed γ sizes s) → get_elem? s.views id ≡ some v → v.stakes.moves ≡ None
+        → alive (slot_at sizes s.words slot) ≡ o → full (slot_at sizes s.words slot) ≡ 1 → OwnsAlone v slot ⊎ (0 < items_at slot v)
         → ((j : ℕ) (u : View) → get_elem? s.views j ≡ some u → ¬ (Sees u slot))
-        → ((j : ℕ) (u : View) → get_elem? s.views j ≡ some u → id ≢ j → ¬ (Moves u slot))
-        → (t : StakesView) → t.counts ≡ v.stakes.counts → t.moves ≡ Some slot → IsTelling (record v { stakes = t })
+        → ((j : ℕ) (u : View) → get_elem? s.views j ≡ some u → id ≢ j → ¬ (Moves u slot) × ¬ (Settles u slot))
+        → (t : StakesView) → t.counts ≡ v.stakes.counts → t.moves ≡ Some (all_in slot) → IsTelling (record v { stakes = t })
         → ((j : ℕ) (g : Gv) → KnowsShown (record v { stakes = t }) j g → KnowsShown v j g)
         → t.filled ≡ v.stakes.filled → TellsNoMore (record v { stakes = t }) s.views
         → (w : View) × (a : Act Stake) × Valid s.homes me.1 a
-        × Housed γ sizes (moved s id me.1 w a) × (w ≡ record v { stakes = t }) × HasAll γ slot n IsFull me.1 (carried_after me.1 a)
-    moves_out s h at rests filled may unseen still t same is tells known kept no_more = let w : View = record v { stakes = t } in
-        let tk = all_taken s h IsFull (λ g sh. sh.0 filled) (λ j u e. (
+        × Housed γ sizes (moved s id me.1 w a) × (w ≡ record v { stakes = t }) × HasAll γ slot n o IsFull me.1 (carried_after me.1 a)
+    moves_out o s h at rests owners filled may unseen still t same is tells known kept no_more = let w : View = record v { stakes = t } in
+        let tk = all_taken s h o owners IsFull (λ g sh. sh.0 filled) (λ j u e. (
           unseen j u e,
           (λ m. dite (ℕ_discrete id j)
               (λ one. none_moved v slot rests (subst (λ (z : View). Moves z slot) (one_view s.views id j u v e at (sym one)) m))
-              (λ ne. still j u e ne m)),
+              (λ ne. (still j u e ne).0 m)),
+          (λ l. dite (ℕ_discrete id j)
+              (λ one. none_settled v slot rests (subst (λ (z : View). Settles z slot) (one_view s.views id j u v e at (sym one)) l))
+              (λ ne. (still j u e ne).1 l)),
         )) in (
           w,
           tk.act,
           tk.valid,
           stands_by γ sizes id v s h at t same (homes_after s.homes me.1 tk.act)
-              (part.takes γ sizes s.words s.views s.homes h.homes id v at slot IsFull me.1 tk s.words w is
-              (λ j p ne out. ⊎_elim (λ (m : Moves v j). absurd (none_moved v j rests m)) (λ (o : Sees v j × (v.epoch.place ≡ p)). inr o) out)
-              (λ j _ _. refl)
-              (λ j m. let e : slot ≡ j = sym (one_moved w slot j is m) in
-              (live, subst (λ (k : ℕ). OwnsAlone v k ⊎ (0 < items_at k v)) e may)))
+              (part.takes γ sizes s.words s.views s.homes h.homes id v at slot o IsFull me.1 tk s.words w is
+              (λ j p _. still_seen w rests refl refl j p) (λ j _ _. refl)
+              record {
+                moves = λ j m. let e : slot ≡ j = sym (one_moved w slot j is m) in
+                    (live, subst (λ (k : ℕ). OwnsAlone v k ⊎ (0 < items_at k v)) e may);
+                settles = λ j l. absurd (settles_only w j slot l is);
+              })
               (records.comes_to_move sizes s.views s.homes h.records id v at slot w (homes_after s.homes me.1 tk.act) tells
               (λ j g k. records.mine sizes s.views s.homes h.records id v at j g (known j g k))
-              (λ j p y _ near l. (taken_lies γ n slot IsFull s.homes me.1 tk j p y near l).1) refl (λ j m. one_moved w slot j is m) unseen)
+              (λ j p y _ near l. (taken_lies γ n slot o IsFull s.homes me.1 tk j p y near l).1) refl (λ j m. one_moved w slot j is m) unseen)
               (filled_by s h at w kept no_more),
           refl,
           tk.row,
@@ -299,35 +330,35 @@ module _ (slots id : ℕ) (me : Mine) (live : HasPlace me.0.epoch) where
         let waits : 0 < items_at slot v = omega arith in
         let here_waits = total_has (items_at slot) s.views id v at in let sum = p.slots.waited slot in
         let filled = (sound.waits (slot_at sizes s.words slot) (omega arith)).1 in
-        let m = moves_out s h at rests filled (inr waits)
+        let dead : alive (slot_at sizes s.words slot) ≡ 0 = dite (dec_lt 0 (alive (slot_at sizes s.words slot)))
+        (λ l. absurd (let w = (sound.lives (slot_at sizes s.words slot) l).0 in omega arith)) (λ none. omega arith) in
+        let m = moves_out 0 s h at rests dead filled (inr waits)
         (λ j u e sees. owning.unseen codes sound sizes s.words s.views p.slots id v at p.epoch k item due.2 due.4 j u e (subst (Sees u) (sym due.3) sees))
-        (λ j u e ne m. still_waiting γ sizes s h slot id j v u at e ne waits m)
-        (record v.stakes { moves = Some slot }) refl refl
+        (λ j u e ne. (still_waiting γ sizes s h slot id j v u at e ne waits, unsettled γ sizes s h slot j u e dead))
+        (record v.stakes { moves = Some (all_in slot) }) refl refl
         (moving_tells v (h.records.each id v at) slot rests (none_owns γ sizes s h slot id v at waits id v at)) (λ j g k. k) refl
         (λ m r e. (id, m, v, at, e)) in
         (m.0, m.1, m.2, m.3, (m.4, m.5))
 
     -- it was moved out
-    pub gives_all : Moves v slot → IsDue v slot → (rest : Carries) → HasAll γ slot n IsVacant rest me.1
+    pub gives_all : Moves v slot → IsDue v slot → (rest : Carries) → HasAll γ slot n 0 IsVacant rest me.1
         → May i (λ _. free_word 0) (λ _. OfSlot GivesAll i me (free_word 0))
     gives_all mine due rest row = let told : ℕ → Mine → Type 0 = λ _. OfSlot GivesAll i me (free_word 0) in let y : ℕ = free_word 0 in
         lift_homes γ sizes slots id me i (λ _. y) (λ _. AtSlot GivesBack i v y) told
         (spares (λ _. y) (λ _. AtSlot GivesBack i v y) (λ r w t. ap (λ (u : View). u.places) (t slot refl).0))
         (steps.gives_back id v live slot 0 due.0 due.1 due.2 due.3 due.4 inside (omega arith))
         (λ s w h at t. let c = t slot refl in let now : View = given_back slot y v in
-        let g = gives_row γ n slot IsVacant sizes.slots inside (suc n) (omega arith) s.homes rest me.1 h.homes.deep row in
+        let g = gives_row γ n slot 0 IsVacant sizes.slots inside (suc n) (omega arith) s.homes rest me.1 h.homes.deep row in
         let empty = (free_is 0 (omega arith)).2 in
         subst (Follows γ sizes id i me told s y) (sym c.0) record {
           stakes = (giving now).stakes;
           act = g.act;
           valid = g.valid;
-          homes = part.gives γ sizes s.words s.views s.homes h.homes id v at slot IsVacant rest me.1 g (set s.words i y) (giving now)
-              (λ g vacant. (λ e. let f = ap full (here s.words y (within s h)) in absurd (omega arith), λ _. vacant))
-              (λ j p ne out. ⊎_elim (λ (m : Moves v j). absurd (ne (one_moved v slot j mine m))) (λ (o : Sees v j × (v.epoch.place ≡ p)). inr o) out)
-              (others s.words y)
-              (λ j m. absurd (none_moved (giving now) j refl m));
+          homes = part.gives γ sizes s.words s.views s.homes h.homes id v at slot 0 IsVacant rest me.1 g (set s.words i y) (giving now)
+              (ap alive (here s.words y (within s h)) ∙ (free_is 0 (omega arith)).0) (λ g vacant. (λ e. let f = ap full (here s.words y (within s h)) in absurd (omega arith), λ _. vacant))
+              (seen_but (giving now) slot mine refl refl) (others s.words y) (none_out (giving now) refl);
           records = let waits : 0 < items_at slot v = (let once = c.1 in omega arith) in
-              comes_home γ sizes s h slot id v at IsVacant rest me.1 g (unknown_waiting γ sizes s h slot id v at mine waits) (giving now)
+              comes_home γ sizes s h slot id v at 0 IsVacant rest me.1 g (unknown_waiting γ sizes s h slot id v at mine waits) (giving now)
               (rested_tells v (h.records.each id v at) slot mine (giving now) refl (λ _ _. refl) (none_owns γ sizes s h slot id v at waits id v at) refl)
               refl refl;
           counts = let once = c.1 in let here = total_has (items_at slot) s.views id v at in let sum = h.kept.parts.slots.waited slot in
@@ -337,42 +368,40 @@ module _ (slots id : ℕ) (me : Mine) (live : HasPlace me.0.epoch) where
               (let o = over_slot s h y in omega arith) (λ none. absurd (omega arith));
           filled = still_filled s h at (giving now) refl refl;
           tells = at_once GivesAll y (giving now, carried_after me.1 g.act)
-              (now, (refl, c.1), refl, g.carried ∙ sym (rest_is γ slot n IsVacant rest (suc n) me.1 row));
+              (now, (refl, c.1), refl, g.carried ∙ sym (rest_is γ slot n 0 IsVacant rest (suc n) me.1 row));
         })
 
     -- the value of an item whose slot is held is to be moved out, after a look at each place
     pub takes_held : v.stakes.moves ≡ None → v.slots.owns ≡ slot ∷ [] → Holds v slot → n ≤ v.slots.looked → MayAlone (TakesHeld slot me)
     takes_held rests owns held all s h _ at = let p = h.kept.parts in let tells = h.records.each id v at in
         let own = owns_it v slot owns in let one = ((p.slots.each id v at).alone slot own).0 in
-        let m = moves_out s h at rests (full_owned (slot_at sizes s.words slot) (omega arith)) (inl own)
+        let m = moves_out 1 s h at rests one (full_owned (slot_at sizes s.words slot) (omega arith)) (inl own)
         (holding.unseen_held codes sound sizes s.words s.views p.slots id v at p.epoch slot held all)
-        (λ j u e ne m. still_owned γ sizes s h slot id j v u at e ne (omega arith) m)
-        (record v.stakes { moves = Some slot; owns = [] }) refl refl (held_tells v tells slot owns)
+        (λ j u e ne. (still_owned γ sizes s h slot id j v u at e ne (omega arith), unsettled_owned γ sizes s h slot id j v u at e ne own))
+        (record v.stakes { moves = Some (all_in slot); owns = [] }) refl refl (held_tells v tells slot owns)
         (λ j g k. ⊎_elim (λ (a : IsIn [] j g). absurd (in_none j g a)) (λ (a : IsIn v.stakes.sees j g). inr a) k) refl
         (tells_none (moving slot (untold v)) s.views refl) in
         (m.0, m.1, m.2, m.3, (m.4, m.5))
 
     -- it has gone
-    pub discards : Moves v slot → Holds v slot → n ≤ v.slots.looked → (rest : Carries) → HasAll γ slot n IsVacant rest me.1
+    pub discards : Moves v slot → Holds v slot → n ≤ v.slots.looked → (rest : Carries) → HasAll γ slot n 0 IsVacant rest me.1
         → May i (λ _. free_word 0) (λ _. OfSlot DiscardsAll i me (free_word 0))
     discards mine held all rest row = let y : ℕ = free_word 0 in let told : ℕ → Mine → Type 0 = λ _. OfSlot DiscardsAll i me y in
         lift_homes γ sizes slots id me i (λ _. y) (λ _. AtSlot Discards i v y) told (spares (λ _. y) (λ _. AtSlot Discards i v y) (λ r w t. ap (λ (u
         : View). u.places) (t slot refl)))
         (steps.discards id v live slot 0 inside held all (omega arith))
         (λ s w h at t. let now : View = discarded slot y v in
-        let g = gives_row γ n slot IsVacant sizes.slots inside (suc n) (omega arith) s.homes rest me.1 h.homes.deep row in
+        let g = gives_row γ n slot 0 IsVacant sizes.slots inside (suc n) (omega arith) s.homes rest me.1 h.homes.deep row in
         let empty = (free_is 0 (omega arith)).2 in
         subst (Follows γ sizes id i me told s y) (sym (t slot refl)) record {
           stakes = (giving now).stakes;
           act = g.act;
           valid = g.valid;
-          homes = part.gives γ sizes s.words s.views s.homes h.homes id v at slot IsVacant rest me.1 g (set s.words i y) (giving now)
-              (λ g vacant. (λ e. let f = ap full (here s.words y (within s h)) in absurd (omega arith), λ _. vacant))
-              (λ j p ne out. ⊎_elim (λ (m : Moves v j). absurd (ne (one_moved v slot j mine m))) (λ (o : Sees v j × (v.epoch.place ≡ p)). inr o) out)
-              (others s.words y)
-              (λ j m. absurd (none_moved (giving now) j refl m));
+          homes = part.gives γ sizes s.words s.views s.homes h.homes id v at slot 0 IsVacant rest me.1 g (set s.words i y) (giving now)
+              (ap alive (here s.words y (within s h)) ∙ (free_is 0 (omega arith)).0) (λ g vacant. (λ e. let f = ap full (here s.words y (within s h)) in absurd (omega arith), λ _. vacant))
+              (seen_but (giving now) slot mine refl refl) (others s.words y) (none_out (giving now) refl);
           records = let own = (h.kept.parts.slots.each id v at).held slot held in
-              comes_home γ sizes s h slot id v at IsVacant rest me.1 g (unknown_owned γ sizes s h slot id v at mine own) (giving now)
+              comes_home γ sizes s h slot id v at 0 IsVacant rest me.1 g (unknown_owned γ sizes s h slot id v at mine own) (giving now)
               (rested_tells v (h.records.each id v at) slot mine (giving now) refl (λ i ne. without_other slot i ne v.slots.owns)
               (λ o. let z = without_same slot v.slots.owns in omega arith) refl)
               refl refl;
@@ -383,7 +412,7 @@ module _ (slots id : ℕ) (me : Mine) (live : HasPlace me.0.epoch) where
               (let o = over_slot s h y in omega arith) (λ none. absurd (omega arith));
           filled = still_filled s h at (giving now) refl refl;
           tells = at_once DiscardsAll y (giving now, carried_after me.1 g.act)
-              (refl, g.carried ∙ sym (rest_is γ slot n IsVacant rest (suc n) me.1 row));
+              (refl, g.carried ∙ sym (rest_is γ slot n 0 IsVacant rest (suc n) me.1 row));
         })
 
     -- look at the word
@@ -394,48 +423,95 @@ module _ (slots id : ℕ) (me : Mine) (live : HasPlace me.0.epoch) where
         record {
           more = λ j p out. out;
           same = λ j _. same_words s h j;
-          mover = λ j m. h.homes.moving id v j at m;
+          mover = h.homes.moving id v at;
           alike = (refl, refl, refl);
           counts = refl;
           lives = λ l. l;
           had = λ _ l. inl l;
         })
 
-    -- retire the item
-    pub retires : v.slots.owns ≡ slot ∷ [] → ¬ (Holds v slot) → v.stakes.moves ≡ None
-        → May i (λ _. waiting_word 0) (λ _. OfSlot RetiresOne i me (waiting_word 0))
-    retires owns free rests = let y : ℕ = waiting_word 0 in let told : ℕ → Mine → Type 0 = λ _. OfSlot RetiresOne i me y in
+    -- the last stake in a slot of its own is taken, to which its unit comes home
+    pub takes_last : v.stakes.moves ≡ None → OwnsAlone v slot → MayAlone (λ me'. (value : Gv) → IsIn v.stakes.owns slot value → TakesLast slot value me me')
+    takes_last rests own s h _ at = let p = h.kept.parts in let r = h.records in let w : View = settling slot v in
+        let one = ((p.slots.each id v at).alone slot own).0 in let filled = full_owned (slot_at sizes s.words slot) (omega arith) in
+        let mine = records.mine sizes s.views s.homes r id v at in
+        let away : NoneOut n s.views slot n = λ j u e out. ⊎_elim
+        (λ (m : Moves u slot). dite (ℕ_discrete id j)
+        (λ same. none_moved v slot rests (subst (λ (z : View). Moves z slot) (one_view s.views id j u v e at (sym same)) m))
+        (λ ne. still_owned γ sizes s h slot id j v u at e ne (omega arith) m))
+        (λ (a : IsOneOut n u slot n). ⊎_elim
+        (λ (o : Sees u slot × (u.epoch.place ≡ n)). let open_guard = (p.slots.each j u e).guarded slot o.0 in
+        let in' = (p.epoch.each j u.epoch (at_map epoch_of s.views j u e)).inside (omega arith) in let e' = o.1 in omega arith)
+        (λ (l : Settles u slot × (n ≡ n)). dite (ℕ_discrete id j)
+        (λ same. none_settled v slot rests (subst (λ (z : View). Settles z slot) (one_view s.views id j u v e at (sym same)) l.0))
+        (λ ne. unsettled_owned γ sizes s h slot id j v u at e ne own l.0)) a) out in
+        let b = h.homes.back slot n inside (omega arith) away in let y : Stake = b.0 in let spot : ℕ = stake_at n slot n in
+        let has = h.homes.home slot n y inside (omega arith) b.1 in
+        let it : (value : Gv) → IsIn v.stakes.owns slot value → Has γ slot (share n 1 n) (IsValue value) y
+        = λ value told. subst (λ (k : ℕ). Has γ slot (share n k n) (IsValue value) y) one
+        (has.0, (has.1.0 filled, r.home slot n value y inside (omega arith) (mine slot value (inl told)) b.1)) in (
+          w,
+          takes spot y,
+          b.1,
+          stands_by γ sizes id v s h at w.stakes refl (set s.homes spot none)
+              (part.takes_one γ sizes s.words s.views s.homes h.homes id v at slot n (omega arith) w (inr (inr (refl, refl)))
+              (still_seen w rests refl refl)
+              record {
+                moves = λ j m. absurd (settles_only w slot j refl m);
+                settles = λ j l. (live, subst (OwnsAlone v) (sym (one_settled w slot j refl l)) own);
+              })
+              (records.no_more sizes s.views s.homes r id v at w (set s.homes spot none) (settling_tells v (r.each id v at) slot rests)
+              mine (λ j p z _ _ lies. inl (one_taken s.homes spot (stake_at n j p) z lies))
+              (λ j m. absurd (settles_only w slot j refl m)) (λ j a. a))
+              (still_filled s h at w refl refl),
+          (λ value told. (refl, refl, it value told, refl)),
+        )
+
+    -- retire the item, whose last stake goes home with its owner's unit
+    pub retires : v.slots.owns ≡ slot ∷ [] → ¬ (Holds v slot) → Settles v slot → (value : Gv) → IsIn v.stakes.owns slot value → (rest : Carries)
+        → HasLast γ slot n 0 (IsValue value) rest me.1 → May i (λ _. waiting_word 0) (λ _. OfSlot RetiresOne i me (waiting_word 0))
+    retires owns free mine value told_it rest row = let y : ℕ = waiting_word 0 in let told : ℕ → Mine → Type 0 = λ _. OfSlot RetiresOne i me y in
         let own = owns_it v slot owns in
         lift_homes γ sizes slots id me i (λ _. y) (λ _. AtSlot Retires i v y) told
         (spares (λ _. y) (λ _. AtSlot Retires i v y) (λ r w t. ap (λ (u : View). u.places) (t slot refl).3))
         (steps.retires id v live slot 0 inside own free (omega arith))
-        (λ s w h at t. let c = t slot refl in let one = ((h.kept.parts.slots.each id v at).alone slot own).0 in
-        let was = full_owned (slot_at sizes s.words slot) (omega arith) in let now : View = retired slot y c.0 v in
-        let will = (sound.waits y (let q = (waiting_is 0 (omega arith)).1 in omega arith)).1 in
-        let same : (j : ℕ) → j < sizes.slots → full (slot_at sizes (set s.words i y) j) ≡ full (slot_at sizes s.words j) = λ j low. dite (ℕ_discrete j slot)
-        (λ e. subst (λ (k : ℕ). full (slot_at sizes (set s.words i y) k) ≡ full (slot_at sizes s.words k)) (sym e)
-        (ap full (here s.words y (within s h)) ∙ (will ∙ sym was)))
-        (λ ne. others s.words y j low ne) in
+        (λ s w h at t. let c = t slot refl in let one = ((h.kept.parts.slots.each id v at).alone slot own).0 in let r = h.records in
+        let was = full_owned (slot_at sizes s.words slot) (omega arith) in let now : View = resting (untold (retired slot y c.0 v)) in
+        let word : slot_at sizes (set s.words i y) slot ≡ y = here s.words y (within s h) in let is = waiting_is 0 (omega arith) in
+        let will = (sound.waits y (let q = is.1 in omega arith)).1 in
+        let same : full (slot_at sizes (set s.words i y) slot) ≡ full (slot_at sizes s.words slot) = ap full word ∙ (will ∙ sym was) in
+        let g = last_given γ n slot 0 (IsValue value) s.homes rest me.1 row in let spot : ℕ = stake_at n slot n in
+        let has : Has γ slot (share n (alive (slot_at sizes (set s.words i y) slot)) n) (IsShown (slot_at sizes (set s.words i y) slot)) g.last
+        = subst (λ (k : ℕ). Has γ slot (share n k n) (IsShown (slot_at sizes (set s.words i y) slot)) g.last) (sym (ap alive word ∙ is.0))
+        (g.has.0, (λ _. g.has.1.0, λ none. absurd (omega arith))) in
+        let mine_known = records.mine sizes s.views s.homes r id v at in
         subst (Follows γ sizes id i me told s y) (sym c.3) record {
-          stakes = record v.stakes { owns = [] };
-          act = keeps;
+          stakes = now.stakes;
+          act = gives;
           valid = tt;
-          homes = part.calm γ sizes s.words s.views s.homes h.homes id v at (set s.words i y) (untold now) (λ j p out. out) same
-              (λ j m. absurd (none_moved v j rests m));
-          records = records.no_more sizes s.views s.homes h.records id v at (untold now) s.homes
-              (retired_tells v (h.records.each id v at) slot owns y c.0)
-              (λ j g k. ⊎_elim (λ (a : IsIn [] j g). absurd (in_none j g a))
-              (λ (a : IsIn v.stakes.sees j g). records.mine sizes s.views s.homes h.records id v at j g (inr a)) k)
-              (λ j p g _ _ l. inl l) (λ j m. m) (λ j a. a);
-          counts = uncounted sizes s.words s.views h.counts id v at (set s.words i y) (untold now) refl (λ l. l)
-              (as_full sizes s.words (set s.words i y) same) (over_slot s h y);
-          filled = filled_by s h at (untold now) refl (tells_none (untold now) s.views refl);
-          tells = at_once RetiresOne y (untold now, me.1) (
-            now,
-            (c.0, c.1, c.2, refl, c.4, c.5),
-            refl,
-            refl,
-          );
+          homes = subst (HomesPart γ sizes (set s.words i y) (set s.views id now)) (sym g.given)
+              (part.gives_last γ sizes s.words s.views s.homes h.homes id v at slot inside g.last (set s.words i y) now has same
+              (λ j p out. ⊎_elim (λ (m : Moves v j). absurd (settles_only v slot j mine m))
+              (λ (a : IsOneOut n v j p). ⊎_elim (λ (o : Sees v j × (v.epoch.place ≡ p)). inl (inr (inl o)))
+              (λ (l : Settles v j × (p ≡ n)). inr (one_settled v slot j mine l.0, l.1)) a) out)
+              (others s.words y) (none_out now refl));
+          records = subst (RecordsPart sizes (set s.views id now)) (sym g.given)
+              (records.no_more sizes s.views s.homes r id v at now (set s.homes spot (some g.last)) (retired_tells v (r.each id v at) slot owns y c.0)
+              (λ j g k. ⊎_elim (λ (a : IsIn [] j g). absurd (in_none j g a)) (λ (a : IsIn v.stakes.sees j g). mine_known j g (inr a)) k)
+              (λ j p z _ near lies. ⊎_elim
+              (λ (e : (stake_at n j p ≡ spot) × (some g.last ≡ some z)). inr (λ a known.
+              ap (λ (x : Stake). x.lot.shown) (sym (some-injective g.last z e.1)) ∙ (g.has.1.1
+              ∙ r.agree slot value a (mine_known slot value (inl told_it))
+              (subst (λ (k : ℕ). IsKnown s.views k a) (one_slot n j slot p n near (omega arith) e.0) known))))
+              (λ (e : (stake_at n j p ≢ spot) × (get_elem? s.homes (stake_at n j p) ≡ some (some z))). inl e.1)
+              (at_set s.homes spot (stake_at n j p) (some g.last) (some z) lies))
+              (λ j m. absurd (none_moved now j refl m)) (λ j a. a));
+          counts = uncounted sizes s.words s.views h.counts id v at (set s.words i y) now refl (λ l. l)
+              (as_full sizes s.words (set s.words i y) (λ j low. dite (ℕ_discrete j slot)
+              (λ e. subst (λ (k : ℕ). full (slot_at sizes (set s.words i y) k) ≡ full (slot_at sizes s.words k)) (sym e) same)
+              (λ ne. ap full (others s.words y j low ne)))) (over_slot s h y);
+          filled = filled_by s h at now refl (tells_none now s.views refl);
+          tells = at_once RetiresOne y (now, carried_after me.1 gives) (retired slot y c.0 v, (c.0, c.1, c.2, refl, c.4, c.5), refl, g.carried);
         })
 
     -- a guard comes to see it beside its owner, who knows what it shows
@@ -452,7 +528,7 @@ module _ (slots id : ℕ) (me : Mine) (live : HasPlace me.0.epoch) where
           keeps,
           tt,
           stands_by γ sizes id v s h at v.stakes refl s.homes
-              (part.calm γ sizes s.words s.views s.homes h.homes id v at s.words v (λ j p out. out) (λ j _. refl) (λ j m. h.homes.moving id v j at m))
+              (part.calm γ sizes s.words s.views s.homes h.homes id v at s.words v (λ j p out. out) (λ j _. refl) (h.homes.moving id v at))
               (records.calm sizes s.views s.homes r id v at v (refl, refl, refl)) (still_filled s h at v refl refl),
           (
             (λ _. (refl, subst (IsIn v.stakes.sees slot) (r.agree slot is.0 value (mine slot is.0 (inr is.1)) known) is.1)),
@@ -466,25 +542,26 @@ module _ (slots id : ℕ) (me : Mine) (live : HasPlace me.0.epoch) where
         = λ j x e m. dite (ℕ_discrete jd j)
         (λ same. ((r.each jd u there).owns slot value told).1 (subst (λ (z : View). Moves z slot) (one_view s.views jd j x u e there (sym same)) m))
         (λ ne. still_owned γ sizes s h slot jd j u x there e ne owners m) in
-        let away : NoneOut s.views slot q = λ j x e out. ⊎_elim (λ (m : Moves x slot). still j x e m)
-        (λ (o : Sees x slot × (x.epoch.place ≡ q)). dite (ℕ_discrete id j)
+        let away : NoneOut n s.views slot q = λ j x e out. ⊎_elim (λ (m : Moves x slot). still j x e m)
+        (λ (a : IsOneOut n x slot q). ⊎_elim (λ (o : Sees x slot × (x.epoch.place ≡ q)). dite (ℕ_discrete id j)
         (λ same. unseen (subst (λ (z : View). Sees z slot) (one_view s.views id j x v e at (sym same)) o.0))
         (λ ne. let theirs = (p.slots.each j x e).guarded slot o.0 in
         let apart = (p.epoch.two id j v.epoch x.epoch ne (at_map epoch_of s.views id v at)
-        (at_map epoch_of s.views j x e)).places live (omega arith) in apart (sym o.1))) out in
+        (at_map epoch_of s.views j x e)).places live (omega arith) in apart (sym o.1)))
+        (λ (l : Settles x slot × (q ≡ n)). let e = l.1 in omega arith) a) out in
         let b = h.homes.back slot q inside (omega arith) away in let y : Stake = b.0 in let spot : ℕ = stake_at n slot q in
         let has = h.homes.home slot q y inside (omega arith) b.1 in let shows = r.home slot q value y inside (omega arith) known b.1 in
         let it : Has γ slot 1 (IsValue value) y
-        = subst (λ (k : ℕ). Has γ slot k (IsValue value) y) (share_one n q near) (has.0, (has.1.0 filled, shows)) in (
+        = subst (λ (k : ℕ). Has γ slot k (IsValue value) y) (share_one n (alive (slot_at sizes s.words slot)) q near) (has.0, (has.1.0 filled, shows)) in (
           now,
           takes spot y,
           b.1,
           stands γ sizes id v s h at now refl (blind sizes s.words s.views id v (seeing slot v) at
               (steps.watches_beside id v live slot is_open jd u owners free s.words s.views p at there) now.stakes)
               (set s.homes spot none)
-              (part.takes_one γ sizes s.words s.views s.homes h.homes id v at slot q (omega arith) now (inr (omega arith, refl))
-              (λ j p out. ⊎_elim (λ (m : Moves v j). inl m) (λ (o : Sees v j × (v.epoch.place ≡ p)). inr (let a = o.0 in omega arith, o.1)) out)
-              (λ j m. h.homes.moving id v j at m))
+              (part.takes_one γ sizes s.words s.views s.homes h.homes id v at slot q (omega arith) now (inr (inl (omega arith, refl)))
+              (λ j p out. let o = only_seen n v rests j p out in inr (inl (let a = o.0 in omega arith, o.1)))
+              (none_out now rests))
               (records.kept sizes s.views s.homes r id v at now (set s.homes spot none)
               record { owns = tells.owns; owned = tells.owned; sees = ap (λ (l : List ℕ). slot ∷ l) tells.sees }
               (λ j g k. ⊎_elim (λ (a : IsIn v.stakes.owns j g). mine j g (inl a))
@@ -511,7 +588,7 @@ module _ (slots id : ℕ) (me : Mine) (live : HasPlace me.0.epoch) where
         record {
           more = λ j p out. out;
           same = λ j _. same_words s h j;
-          mover = λ j m. h.homes.moving id v j at m;
+          mover = h.homes.moving id v at;
           alike = (refl, refl, refl);
           counts = refl;
           lives = λ l. l;
@@ -526,7 +603,7 @@ module _ (slots id : ℕ) (me : Mine) (live : HasPlace me.0.epoch) where
         record {
           more = λ j p out. out;
           same = λ j _. same_words s h j;
-          mover = λ j m. h.homes.moving id v j at m;
+          mover = h.homes.moving id v at;
           alike = (refl, refl, refl);
           counts = refl;
           lives = λ l. l;
@@ -561,12 +638,12 @@ module _ (slots id : ℕ) (me : Mine) (live : HasPlace me.0.epoch) where
       (λ e. ap (λ (u : View). u.places) (c.1 e)) (λ ne. ap (λ (u : View). u.places) (c.0 ne))) (λ s h at p low e was. was)) (steps.looks id v live place next)
       (λ r w t. (refl, t))
       (λ s w h at t. let c = t place refl in let x : ℕ = get_or s.words j 0 in
-      let same = λ (k : ℕ) (_ : k < sizes.slots). ap (λ (l : List ℕ). full (slot_at sizes l k)) (set-get_or s.words j 0) in
+      let same = λ (k : ℕ) (_ : k < sizes.slots). ap (λ (l : List ℕ). slot_at sizes l k) (set-get_or s.words j 0) in
       let calm = λ (w : View). IsCalm γ sizes slots id me j (λ x. x) s x w in dite (ℕ_discrete x 2)
       (λ e. subst calm (sym (c.1 e)) record {
         more = λ k p out. out;
         same = same;
-        mover = λ k m. h.homes.moving id v k at m;
+        mover = h.homes.moving id v at;
         alike = (refl, refl, refl);
         counts = refl;
         lives = λ l. l;
@@ -575,7 +652,7 @@ module _ (slots id : ℕ) (me : Mine) (live : HasPlace me.0.epoch) where
       (λ ne. subst calm (sym (c.0 ne)) record {
         more = λ k p out. out;
         same = same;
-        mover = λ k m. h.homes.moving id v k at m;
+        mover = h.homes.moving id v at;
         alike = (refl, refl, refl);
         counts = refl;
         lives = λ l. l;
@@ -597,13 +674,13 @@ module _ (slots id : ℕ) (me : Mine) (live : HasPlace me.0.epoch) where
       let g = gives_purse γ n q sizes.slots le v.stakes.sees (λ k a. low k (subst (λ (l : List ℕ). 0 < times k l) told.sees a))
       s.homes me.1 h.homes.deep purse in
       let now : View = record v { epoch = Rattle.sdd_rule.specs.Steps.closed v.epoch; slots = Rattle.sdd_rule.specs.SlotSteps.unseeing v } in
-      let same = λ (k : ℕ). ap full (before_slots sizes s.words j 1 k (omega arith)) in
+      let same = λ (k : ℕ). before_slots sizes s.words j 1 k (omega arith) in
       subst (Follows γ sizes id j me (λ _. ClosesHome me 1) s 1) (sym t) record {
         stakes = record v.stakes { sees = [] };
         act = g.act;
         valid = g.valid;
         homes = part.closes γ sizes s.words s.views s.homes h.homes id v at q le near me.1 g (set s.words j 1) (unsighted now) told.sees refl
-            (λ k m. none_moved v k rests m) (λ k sees. same k ∙ f.full k sees) (λ k _. same k) (λ k m. absurd (none_moved v k rests m));
+            rests (λ k sees. ap full (same k) ∙ f.full k sees) (λ k _. same k) (none_out (unsighted now) rests);
         records = records.no_more sizes s.views s.homes r id v at (unsighted now) (homes_after s.homes me.1 g.act)
             record { owns = told.owns; owned = told.owned; sees = refl }
             (λ k a c. ⊎_elim (λ (d : IsIn v.stakes.owns k a). mine k a (inl d)) (λ (d : IsIn [] k a). absurd (in_none k a d)) c)
@@ -614,7 +691,7 @@ module _ (slots id : ℕ) (me : Mine) (live : HasPlace me.0.epoch) where
             (λ (d : LiesAt n s.homes k p y). inl d) (g.home (stake_at n k p) y lies))
             (λ k m. m) (λ k sees. absurd (omega arith));
         counts = uncounted sizes s.words s.views h.counts id v at (set s.words j 1) (unsighted now) refl (λ _. omega arith)
-            (as_full sizes s.words (set s.words j 1) (λ k _. same k))
+            (as_full sizes s.words (set s.words j 1) (λ k _. ap full (same k)))
             (ended_spared sizes s.words j 1 (own_place γ sizes id v live 1 s h at) n (omega arith));
         filled = still_filled s h at (unsighted now) refl refl;
         tells = (now, refl, refl, g.carried);
@@ -648,9 +725,9 @@ module _ (γ : ℕ) (sizes : Sizes) (slots id : ℕ) (me : Mine) (p : ℕ) (insi
         (λ ne. still_over q low (omega arith))
 
     bars_calm : (w : View) → (w ≡ past p me.0) ⊎ (w ≡ me.0) → IsCalm γ sizes slots id me spot free_no_more s left w
-    bars_calm w which = let same = λ (j : ℕ) (_ : j < sizes.slots). ap full (before_slots sizes s.words spot left j (omega arith)) in
+    bars_calm w which = let same = λ (j : ℕ) (_ : j < sizes.slots). before_slots sizes s.words spot left j (omega arith) in
         let calm = IsCalm γ sizes slots id me spot free_no_more s left in
-        let mover = λ (j : ℕ) (m : Moves me.0 j). h.homes.moving id me.0 j at m in
+        let mover = h.homes.moving id me.0 at in
         ⊎_elim (λ (e : w ≡ past p me.0). subst calm (sym e) record {
           more = λ j q out. out;
           same = same;

@@ -1,9 +1,10 @@
 -- What a participant knows of what slots show, after each of its steps that may change it
-use Rattle.std.proofs.Common.{◌≡◌, ◌≢◌, inl, inr, ℕ, suc, ◌<◌, Bool, List, [], ◌∷◌, map, get_or, set, sym, refl, ap, ◌∙◌, subst, ⊎_elim, arith}
+use Rattle.std.proofs.Common.{◌≡◌, ◌≢◌, inl, inr, ℕ, suc, ◌<◌, Bool, true, false, List, [], ◌∷◌, map, get_or, set, sym, refl, ap, ◌∙◌, subst, ⊎_elim, arith}
 use mathlib.Core.Option.{some, some-injective}
 use mathlib.Core.Logic.{dite}
 use native.Mathlib.Decide.{ℕ_discrete}
-use Rattle.std.specs.Prelude.{Some, None}
+use Rattle.std.specs.Prelude.{Option, Some, None}
+use Rattle.std.proofs.lemmas.Bool.{true≢false}
 use lib.ListN.{get_elem?}
 use base.Stored.{Gv}
 use Rattle.atomic_table.specs.Table.{State, homes_after}
@@ -20,20 +21,39 @@ use Rattle.sdd_rule.specs.SlotSteps.{without, retired}
 use Rattle.sdd_rule.proofs.Codes.{sound}
 use Rattle.sdd_rule.proofs.SlotWords.{owners_in}
 use Rattle.sdd_rule.proofs.Sums.{is_same, is_other, without_same, without_other, total_has}
-use Rattle.sdd_homes.specs.Homes.{Carries, share, Has, Moves, LiesAt}
+use Rattle.sdd_rule.specs.declared.Move.{Move}
+use Rattle.sdd_homes.specs.Homes.{Carries, share, Has, all_in, last_in, Moves, Settles, LiesAt}
 use Rattle.sdd_homes.specs.Housed.{Housed}
-use Rattle.sdd_homes.specs.HomeSteps.{moving, making, resting, telling, untold}
+use Rattle.sdd_homes.specs.HomeSteps.{moving, settling, making, resting, telling, untold}
 use Rattle.sdd_homes.specs.Records.{slot_shown, IsIn, IsKnown, IsTelling, RecordsPart}
 use Rattle.sdd_homes.proofs.Records.{in_head, in_tail, in_either, in_none}
 use Rattle.sdd_homes.proofs.Records as records
 use Rattle.sdd_homes.proofs.Fillings.{NoneTold}
 use Rattle.sdd_homes.proofs.Rows.{Given, given_lies}
 
+abbrev slot_moved : Option Move → ℕ
+slot_moved None = 0
+slot_moved (Some m) = m.slot
+
 pub one_moved : (v : View) (i j : ℕ) → Moves v i → Moves v j → j ≡ i
-one_moved v i j m m' = let e : Some i ≡ Some j = sym m ∙ m' in cc
+one_moved v i j m m' = ap slot_moved (sym m' ∙ m)
 
 pub none_moved : (v : View) (i : ℕ) → v.stakes.moves ≡ None → ¬ (Moves v i)
-none_moved v i rests m = let e : None ≡ Some i = sym rests ∙ m in cc
+none_moved v i rests m = let e : None ≡ Some (all_in i) = sym rests ∙ m in cc
+
+pub none_settled : (v : View) (i : ℕ) → v.stakes.moves ≡ None → ¬ (Settles v i)
+none_settled v i rests m = let e : None ≡ Some (last_in i) = sym rests ∙ m in cc
+
+abbrev whole_moved : Option Move → Bool
+whole_moved None = true
+whole_moved (Some m) = m.whole
+
+-- who takes an owner's unit home moves no value
+pub settles_only : (v : View) (i j : ℕ) → Settles v i → ¬ (Moves v j)
+settles_only v i j l m = let e : false ≡ true = ap whole_moved (sym l ∙ m) in true≢false (sym e)
+
+pub one_settled : (v : View) (i j : ℕ) → Settles v i → Settles v j → j ≡ i
+one_settled v i j m m' = ap slot_moved (sym m' ∙ m)
 
 -- one seat has one view
 pub one_view : (vs : List View) (id j : ℕ) (u v : View) → get_elem? vs j ≡ some u → get_elem? vs id ≡ some v → j ≡ id → u ≡ v
@@ -56,7 +76,7 @@ module _ (v : View) (t : IsTelling v) (slot : ℕ) where
       let l : OwnsAlone w i = omega arith in l,
       λ m. never (subst (OwnsAlone v) (one_moved w slot i refl m) o),
     );
-    owned = λ i o still. dite (ℕ_discrete i slot) (λ e. absurd (still (ap Some (sym e))))
+    owned = λ i o still. dite (ℕ_discrete i slot) (λ e. absurd (still (ap (λ (k : ℕ). Some (all_in k)) (sym e))))
         (λ ne. t.owned i (let q = is_other i slot (λ e. ne (sym e)) in omega arith) (none_moved v i rests));
     sees = t.sees;
   }
@@ -69,16 +89,24 @@ module _ (v : View) (t : IsTelling v) (slot : ℕ) where
     sees = t.sees;
   }
 
+  -- it takes its owner's unit home
+  pub settling_tells : v.stakes.moves ≡ None → IsTelling (settling slot v)
+  settling_tells rests = record {
+    owns = λ i g h. ((t.owns i g h).0, settles_only (settling slot v) slot i refl);
+    owned = λ i o still. t.owned i o (none_moved v i rests);
+    sees = t.sees;
+  }
+
   module _ (owns : v.slots.owns ≡ slot ∷ []) where
     pub held_tells : IsTelling (moving slot (untold v))
     held_tells = record {
       owns = λ i g h. absurd (in_none i g h);
-      owned = λ i o still. dite (ℕ_discrete i slot) (λ e. absurd (still (ap Some (sym e))))
+      owned = λ i o still. dite (ℕ_discrete i slot) (λ e. absurd (still (ap (λ (k : ℕ). Some (all_in k)) (sym e))))
           (λ ne. absurd (let z = owns_no_more v slot owns i ne in omega arith));
       sees = t.sees;
     }
 
-    pub retired_tells : (y count : ℕ) → IsTelling (untold (retired slot y count v))
+    pub retired_tells : (y count : ℕ) → IsTelling (resting (untold (retired slot y count v)))
     retired_tells y count = record {
       owns = λ i g h. absurd (in_none i g h);
       owned = λ i o still. dite (ℕ_discrete i slot)
@@ -147,17 +175,17 @@ module _ (γ : ℕ) (sizes : Sizes) (s : State Stake View) (h : Housed γ sizes 
       (λ j u e o. absurd (none_owns waits j u e o))
 
   -- all stakes in a slot of which nobody knows come home
-  pub comes_home : (Is : Gv → Type 0) (rest xs : Carries) (g : Given γ sizes.participants i Is s.homes rest xs (suc sizes.participants))
+  pub comes_home : (o : ℕ) (Is : Gv → Type 0) (rest xs : Carries) (g : Given γ sizes.participants i o Is s.homes rest xs (suc sizes.participants))
       → ((g : Gv) → ¬ (IsKnown s.views i g)) → (w : View) → IsTelling w
       → record w.stakes { counts = v.stakes.counts } ≡ record v.stakes { moves = None } → w.slots.sees ≡ v.slots.sees
       → RecordsPart sizes (set s.views id w) (homes_after s.homes xs g.act)
-  comes_home Is rest xs g never w tells is seen = let n : ℕ = sizes.participants in
+  comes_home o Is rest xs g never w tells is seen = let n : ℕ = sizes.participants in
       records.no_more sizes s.views s.homes h.records id v at w (homes_after s.homes xs g.act) tells
       (λ k g' a. records.mine sizes s.views s.homes h.records id v at k g' (⊎_elim
       (λ (b : IsIn w.stakes.owns k g'). inl (subst (λ (x : StakesView). IsIn x.owns k g') is b))
       (λ (b : IsIn w.stakes.sees k g'). inr (subst (λ (x : StakesView). IsIn x.sees k g') is b)) a))
       (λ j p y low near lies. ⊎_elim
-      (λ (b : (j ≡ i) × Has γ i (share n p) Is y). inr (λ g' a. absurd (never g' (subst (λ (k : ℕ). IsKnown s.views k g') b.0 a))))
-      (λ (b : (j ≢ i) × LiesAt n s.homes j p y). inl b.1) (given_lies γ n i Is s.homes rest xs g j p y near lies))
+      (λ (b : (j ≡ i) × Has γ i (share n o p) Is y). inr (λ g' a. absurd (never g' (subst (λ (k : ℕ). IsKnown s.views k g') b.0 a))))
+      (λ (b : (j ≢ i) × LiesAt n s.homes j p y). inl b.1) (given_lies γ n i o Is s.homes rest xs g j p y near lies))
       (λ k m. absurd (none_moved w k (ap (λ (x : StakesView). x.moves) is) m))
       (λ k a. subst (λ (l : List ℕ). 0 < times k l) seen a)

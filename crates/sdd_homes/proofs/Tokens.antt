@@ -26,7 +26,7 @@ use Rattle.sdd_rule.proofs.Codes.{sound}
 use Rattle.sdd_rule.proofs.Lift as kept
 use Rattle.sdd_rule.proofs.Frame.{each_set, each_snoc}
 use Rattle.sdd_rule.proofs.Sums.{is_same, is_other, total_set, total_snoc, total_has, total_two, total_only, span_zero}
-use Rattle.sdd_homes.specs.Homes.{stake_at, share, Has, IsShown, Moves, IsOut, LiesAt, AreLaid, HomesPart}
+use Rattle.sdd_homes.specs.Homes.{stake_at, share, Has, IsShown, Moves, Settles, IsOneOut, IsOut, LiesAt, AreLaid, HomesPart}
 use Rattle.sdd_homes.specs.Housed.{Housed}
 use Rattle.sdd_homes.specs.HomeSteps.{parting, departing, regained, uncounting, counts_of, counts_token, counting}
 use Rattle.sdd_homes.specs.Records.{IsIn, KnowsShown, IsKnown, IsTelling, RecordsPart}
@@ -34,17 +34,16 @@ use Rattle.sdd_homes.specs.Counts.{made_by, gone_by, over_by, full_slots, HasNoC
 use Rattle.sdd_homes.specs.Fillings.{FilledPart}
 use Rattle.sdd_homes.proofs.Counts.{ended_few, uncounted_alone, more_counts}
 use Rattle.sdd_homes.proofs.Places.{inside}
-use Rattle.sdd_homes.proofs.Part.{IsMover}
+use Rattle.sdd_homes.proofs.Part.{none_out, only_seen}
 use Rattle.sdd_homes.proofs.Part as part
 use Rattle.sdd_homes.proofs.Records.{in_head, in_tail, in_either, in_none, telling_none, knows_none}
 use Rattle.sdd_homes.proofs.Records as records
 use Rattle.sdd_homes.proofs.Fillings.{IsTold, tells_none, filled_more, filled_after, filled_same}
-use Rattle.sdd_homes.proofs.Steps.{still_free}
+use Rattle.sdd_homes.proofs.Steps.{still_free, unsettled}
 use Rattle.sdd_homes.proofs.Telling.{none_moved}
 
-nothing_out : (v : View) → v.stakes.moves ≡ None → v.slots.sees ≡ [] → (i p : ℕ) → ¬ (IsOut v i p)
-nothing_out v rests blind i p out = ⊎_elim (λ (m : Moves v i). none_moved v i rests m)
-    (λ (o : Sees v i × (v.epoch.place ≡ p)). let a = ap (times i) blind in let b = o.0 in absurd (omega arith)) out
+nothing_out : (n : ℕ) (v : View) → v.stakes.moves ≡ None → v.slots.sees ≡ [] → (i p : ℕ) → ¬ (IsOut n v i p)
+nothing_out n v rests blind i p out = let o = only_seen n v rests i p out in let a = ap (times i) blind in let b = o.0 in absurd (omega arith)
 
 set_front : {A : Type 0} (l m : List A) (i : ℕ) (a b : A) → get_elem? l i ≡ some a → set (l ++ m) i b ≡ set l i b ++ m
 set_front [] m i a b e = absurd (some-ne-none a (sym e))
@@ -60,7 +59,7 @@ module _ (γ : ℕ) (sizes : Sizes) where
         record {
           kept = r.1;
           homes = subst (λ (w : View). HomesPart γ sizes s.words (s.views ++ w ∷ []) s.homes) (sym r.2.0)
-              (part.arrives γ sizes s.words s.views s.homes h.homes t (nothing_out t refl refl) (λ i m. absurd (none_moved t i refl m)));
+              (part.arrives γ sizes s.words s.views s.homes h.homes t (nothing_out sizes.participants t refl refl) (none_out t refl));
           records = subst (λ (w : View). RecordsPart sizes (s.views ++ w ∷ []) s.homes) (sym r.2.0)
               (records.arrives sizes s.views s.homes h.records t (telling_none t refl refl refl refl) (λ i g k. absurd (knows_none t refl refl i g k))
               refl refl);
@@ -73,7 +72,7 @@ module _ (γ : ℕ) (sizes : Sizes) where
       )
 
   -- the table at the start
-  pub begins : (ws : List ℕ) (xs : List Stake) → length ws ≡ all_words sizes → ((i : ℕ) → get_or ws i 0 ≡ 0) → sizes.participants < most
+  pub begins : (ws : List ℕ) (xs : List Stake) → length ws ≡ all_words sizes → ((i : ℕ) → get_or ws i 0 ≡ 0) → suc sizes.participants < most
       → AreLaid γ sizes.participants sizes.slots xs → Housed γ sizes (opening ws xs (idle sizes γ))
   begins ws xs long none few laid = let n : ℕ = sizes.participants in record {
     kept = kept.begins sizes γ ws xs long none;
@@ -82,11 +81,12 @@ module _ (γ : ℕ) (sizes : Sizes) where
       deep = length-map xs some ∙ laid.long;
       home = λ i p y low near lies. let l = laid.each i p near (inside n sizes.slots i p low near) in
           let same : l.0 ≡ y = some-injective l.0 y (some-injective (some l.0) (some y) (sym (at_map some xs (stake_at n i p) l.0 l.1) ∙ lies)) in
-          let has = subst (Has γ i (share n p) IsVacant) same l.2 in
-          let empty : full (slot_at sizes ws i) ≡ 0 = ap full (none (Rattle.sdd_rule.specs.Words.slot_word sizes i)) ∙ sound.free.2 in
-          (has.0, (λ e. absurd (omega arith), λ _. has.1));
+          let has = subst (Has γ i (share n 0 p) IsVacant) same l.2 in let word = none (Rattle.sdd_rule.specs.Words.slot_word sizes i) in
+          let dead : alive (slot_at sizes ws i) ≡ 0 = ap alive word ∙ sound.free.0 in
+          let empty : full (slot_at sizes ws i) ≡ 0 = ap full word ∙ sound.free.2 in
+          subst (λ (k : ℕ). Has γ i (share n k p) (IsShown (slot_at sizes ws i)) y) (sym dead) (has.0, (λ e. absurd (omega arith), λ _. has.1));
       back = λ i p low near away. let l = laid.each i p near (inside n sizes.slots i p low near) in (l.0, at_map some xs (stake_at n i p) l.0 l.1);
-      moving = λ j v i e m. absurd (none_moved v i (subst (λ (u : View). u.stakes.moves ≡ None) (only j v e) refl) m);
+      moving = λ j v e. none_out v (subst (λ (u : View). u.stakes.moves ≡ None) (only j v e) refl);
     };
     counts = record {
       items = let z = span_zero full ws (first_slot sizes) sizes.slots (λ d l. ap full (none (first_slot sizes + d)) ∙ sound.free.2) in omega arith;
@@ -129,8 +129,8 @@ module _ (γ : ℕ) (sizes : Sizes) where
       (λ i g k. ⊎_elim (λ (a : IsIn v.stakes.owns i g). mine i g (inl a)) (λ (a : IsIn [] i g). absurd (in_none i g a)) k) refl refl in record {
         kept = kept.parts_owner sizes id v w.stakes t.stakes free s h.kept at;
         homes = part.arrives γ sizes s.words (set s.views id w) s.homes
-            (part.calm γ sizes s.words s.views s.homes h.homes id v at s.words w (λ i p out. out) (λ i _. refl) (λ i m. absurd (none_moved w i rests m)))
-            t (nothing_out t refl refl) (λ i m. absurd (none_moved t i refl m));
+            (part.calm γ sizes s.words s.views s.homes h.homes id v at s.words w (λ i p out. out) (λ i _. refl) (none_out w rests))
+            t (nothing_out sizes.participants t refl refl) (none_out t refl);
         records = subst (λ (us : List View). RecordsPart sizes us s.homes) (set_front s.views (t ∷ []) id v w at)
             (records.no_more sizes vs s.homes came id v (at_longer s.views (t ∷ []) id v at) w s.homes
             record {
@@ -178,10 +178,10 @@ module _ (γ : ℕ) (sizes : Sizes) where
       (λ i p y _ _ l. inl l) (λ i m. m) (λ i a. a) in record {
         kept = kept.joins_owners sizes id v other (slot ∷ []) [] w.stakes t.stakes s h.kept at apart there;
         homes = part.calm γ sizes s.words vs s.homes
-            (part.calm γ sizes s.words s.views s.homes h.homes id v at s.words w (λ i p out. out) (λ i _. refl) (λ i m. absurd (none_moved w i rests m)))
-            other t there s.words t' (λ i p out. absurd (nothing_out t refl refl i p out)) (λ i _. refl) (λ i m. absurd (none_moved t' i refl m));
+            (part.calm γ sizes s.words s.views s.homes h.homes id v at s.words w (λ i p out. out) (λ i _. refl) (none_out w rests))
+            other t there s.words t' (λ i p out. absurd (nothing_out sizes.participants t refl refl i p out)) (λ i _. refl) (none_out t' refl);
         records = records.no_more sizes vs s.homes came other t there t' s.homes (telling_none t' refl refl refl refl)
-            (λ i g k. absurd (knows_none t' refl refl i g k)) (λ i p y _ _ l. inl l) (λ i m. absurd (none_moved t' i refl m))
+            (λ i g k. absurd (knows_none t' refl refl i g k)) (λ i p y _ _ l. inl l) (none_out t' refl)
             (λ i a. absurd (omega arith));
         counts = uncounted_alone sizes s.words vs (uncounted_alone sizes s.words s.views h.counts id v at w refl refl) other t there t' refl refl;
         filled = filled_after sizes vs (filled_after sizes s.views h.filled id v at w refl (come_in s.views now other id t v was at refl) (λ _ live. inl live))
@@ -194,8 +194,8 @@ module _ (γ : ℕ) (sizes : Sizes) where
     kept = kept.cuts sizes id v v.slots.owns v.slots.shares [] [] w.stakes t.stakes (λ i. (omega arith, omega arith))
         (λ i held. (p.each id v at).held i held) s h.kept at;
     homes = part.arrives γ sizes s.words (set s.views id w) s.homes
-        (part.calm γ sizes s.words s.views s.homes h.homes id v at s.words w (λ i p out. out) (λ i _. refl) (λ i m. h.homes.moving id v i at m))
-        t (nothing_out t refl refl) (λ i m. absurd (none_moved t i refl m));
+        (part.calm γ sizes s.words s.views s.homes h.homes id v at s.words w (λ i p out. out) (λ i _. refl) (h.homes.moving id v at))
+        t (nothing_out sizes.participants t refl refl) (none_out t refl);
     records = records.arrives sizes (set s.views id w) s.homes (records.calm sizes s.views s.homes h.records id v at w (refl, refl, refl)) t
         (telling_none t refl refl refl refl) (λ i g k. absurd (knows_none t refl refl i g k)) refl refl;
     counts = record {
@@ -218,8 +218,8 @@ module _ (γ : ℕ) (sizes : Sizes) where
       let was : get_elem? s.views other ≡ some t = sym (set_else s.views id other w apart) ∙ there in record {
         kept = kept.takes_in sizes id v other v.slots.owns v.slots.shares [] [] w.stakes t.stakes (λ i. (omega arith, omega arith)) s h.kept at apart there;
         homes = part.calm γ sizes s.words vs s.homes
-            (part.calm γ sizes s.words s.views s.homes h.homes id v at s.words w (λ i p out. out) (λ i _. refl) (λ i m. h.homes.moving id v i at m))
-            other t there s.words t' (λ i p out. absurd (nothing_out t refl refl i p out)) (λ i _. refl) (λ i m. absurd (none_moved t' i refl m));
+            (part.calm γ sizes s.words s.views s.homes h.homes id v at s.words w (λ i p out. out) (λ i _. refl) (h.homes.moving id v at))
+            other t there s.words t' (λ i p out. absurd (nothing_out sizes.participants t refl refl i p out)) (λ i _. refl) (none_out t' refl);
         records = records.calm sizes vs s.homes (records.calm sizes s.views s.homes h.records id v at w (refl, refl, refl)) other t there t'
             (refl, refl, refl);
         counts = record {
@@ -244,11 +244,14 @@ module _ (γ : ℕ) (sizes : Sizes) where
   -- all stakes in a slot that is free are at home, and show that it is vacant
   pub free_at_home : (s : State Stake View) → Housed γ sizes s → (i p : ℕ) → i < sizes.slots → p ≤ sizes.participants
       → alive (slot_at sizes s.words i) ≡ 0 → waiting (slot_at sizes s.words i) ≡ 0 → full (slot_at sizes s.words i) ≡ 0
-      → (y : Stake) × LiesAt sizes.participants s.homes i p y × Has γ i (share sizes.participants p) IsVacant y
+      → (y : Stake) × LiesAt sizes.participants s.homes i p y × Has γ i (share sizes.participants 0 p) IsVacant y
   free_at_home s h i p low near dead quiet empty = let b = h.homes.back i p low near (λ j u e out. ⊎_elim
       (λ (m : Moves u i). still_free γ sizes s h i j u e dead quiet m)
-      (λ (o : Sees u i × (u.epoch.place ≡ p)). let f = (h.kept.parts.slots.each j u e).full i o.0 in absurd (omega arith)) out) in
-      let has = h.homes.home i p b.0 low near b.1 in (b.0, b.1, (has.0, has.1.1 empty))
+      (λ (a : IsOneOut sizes.participants u i p). ⊎_elim
+      (λ (o : Sees u i × (u.epoch.place ≡ p)). let f = (h.kept.parts.slots.each j u e).full i o.0 in absurd (omega arith))
+      (λ (l : Settles u i × (p ≡ sizes.participants)). unsettled γ sizes s h i j u e dead l.0) a) out) in
+      let has = subst (λ (k : ℕ). Has γ i (share sizes.participants k p) (IsShown (slot_at sizes s.words i)) b.0) dead (h.homes.home i p b.0 low near b.1) in
+      (b.0, b.1, (has.0, has.1.1 empty))
 
   -- once a token knows that all places have ended, nobody has one
   no_place : (s : State Stake View) → Housed γ sizes s → (id : ℕ) (v : View) → get_elem? s.views id ≡ some v → sizes.participants ≤ v.places.ended
@@ -259,11 +262,14 @@ module _ (γ : ℕ) (sizes : Sizes) where
   -- and all stakes are at home, and show what their slots' words say
   pub all_home : (s : State Stake View) → Housed γ sizes s → (id : ℕ) (v : View) → get_elem? s.views id ≡ some v → sizes.participants ≤ v.places.ended
       → (i p : ℕ) → i < sizes.slots → p ≤ sizes.participants
-      → (y : Stake) × LiesAt sizes.participants s.homes i p y × Has γ i (share sizes.participants p) (IsShown (slot_at sizes s.words i)) y
+      → (y : Stake) × LiesAt sizes.participants s.homes i p y
+      × Has γ i (share sizes.participants (alive (slot_at sizes s.words i)) p) (IsShown (slot_at sizes s.words i)) y
   all_home s h id v at all i p low near = let b = h.homes.back i p low near (λ j u e out. no_place s h id v at all j u e (⊎_elim
-      (λ (m : Moves u i). (h.homes.moving j u i e m).0)
+      (λ (m : Moves u i). ((h.homes.moving j u e).moves i m).0)
+      (λ (a : IsOneOut sizes.participants u i p). ⊎_elim
       (λ (o : Sees u i × (u.epoch.place ≡ p)). let open_guard = (h.kept.parts.slots.each j u e).guarded i o.0 in
-      let live : HasPlace u.epoch = omega arith in live) out)) in
+      let live : HasPlace u.epoch = omega arith in live)
+      (λ (l : Settles u i × (p ≡ sizes.participants)). ((h.homes.moving j u e).settles i l.0).0) a) out)) in
       (b.0, b.1, h.homes.home i p b.0 low near b.1)
 
   -- where a token counts all places, what was made has gone, or lies in a slot

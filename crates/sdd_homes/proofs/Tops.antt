@@ -1,5 +1,5 @@
 -- A seat that has all stakes in a slot may take its value, or put one in.
-use Rattle.std.proofs.Common.{◌≡◌, ℕ, zero, suc, ◌-◌, ◌<◌, ◌≤◌, [], ◌∷◌, take, drop, sym, refl, ap, ◌∙◌, subst, eq-eqb, ne_eqb, arith}
+use Rattle.std.proofs.Common.{◌≡◌, ℕ, zero, suc, ◌+◌, ◌-◌, ◌<◌, ◌≤◌, [], ◌∷◌, take, drop, sym, refl, ap, ◌∙◌, subst, eq-eqb, ne_eqb, arith}
 use mathlib.Core.Logic.{dite}
 use native.Mathlib.Decide.{ℕ_discrete}
 use prog.Atomic.{either}
@@ -7,69 +7,108 @@ use base.Stored.{Gv}
 use Rattle.sdd_stakes.specs.Stakes.{Lot}
 use Rattle.sdd_stakes.specs.Seats.{lots, with_lots}
 use Rattle.sdd_stakes.specs.Shelf.{most, lot, units_in, Parts, HasWhole, top_turned, all_turned}
-use Rattle.sdd_homes.specs.Homes.{Carries, share}
-use Rattle.sdd_homes.specs.HomeSteps.{HasRow, HasAll}
+use Rattle.sdd_stakes.specs.declared.stake.Stake.{Stake}
+use Rattle.sdd_homes.specs.Homes.{Carries, share, Has}
+use Rattle.sdd_homes.specs.HomeSteps.{HasRow, HasAll, HasLast}
 
-pub share_one : (n p : ℕ) → p < n → share n p ≡ 1
-share_one n p l = ap (λ b. either b (most - n) 1) (ne_eqb p n (λ e. omega arith))
+pub share_one : (n o p : ℕ) → p < n → share n o p ≡ 1
+share_one n o p l = ap (λ b. either b (most - n - o) 1) (ne_eqb p n (λ e. omega arith))
 
-pub share_last : (n : ℕ) → share n n ≡ most - n
-share_last n = ap (λ b. either b (most - n) 1) (eq-eqb n n refl)
+pub share_last : (n o : ℕ) → share n o n ≡ most - n - o
+share_last n o = ap (λ b. either b (most - n - o) 1) (eq-eqb n n refl)
 
-share_some : (n p : ℕ) → n < most → 0 < share n p
-share_some n p few = dite (ℕ_discrete p n) (λ e. subst (λ (k : ℕ). 0 < k) (sym (ap (share n) e ∙ share_last n)) (omega arith))
-    (λ ne. subst (λ (k : ℕ). 0 < k) (sym (ap (λ b. either b (most - n) 1) (ne_eqb p n ne))) (omega arith))
+share_some : (n o p : ℕ) → n + o < most → 0 < share n o p
+share_some n o p few = dite (ℕ_discrete p n) (λ e. subst (λ (k : ℕ). 0 < k) (sym (ap (share n o) e ∙ share_last n o)) (omega arith))
+    (λ ne. subst (λ (k : ℕ). 0 < k) (sym (ap (λ b. either b (most - n - o) 1) (ne_eqb p n ne))) (omega arith))
 
 same_lots : (xs : Carries) → with_lots xs (lots xs) ≡ xs
 same_lots [] = refl
 same_lots (x ∷ xs) = ap (λ (l : Carries). x ∷ l) (same_lots xs)
 
 module _ (γ i n : ℕ) where
-  parts : (Is : Gv → Type 0) (few : n < most) (rest : Carries) (m : ℕ) (xs : Carries) → HasRow γ i n Is rest m xs → Parts γ i (take m (lots xs))
-  parts Is few rest zero xs row = tt
-  parts Is few rest (suc m) [] row = absurd row
-  parts Is few rest (suc m) (x ∷ xs) row = let h : Lot = x.1.lot in let e = row.1.0 in let u : h.units ≡ share n m = ap (λ (l : Lot). l.units) e in (
+  parts : (o : ℕ) (Is : Gv → Type 0) (few : n + o < most) (rest : Carries) (m : ℕ) (xs : Carries) → HasRow γ i n o Is rest m xs
+      → Parts γ i (take m (lots xs))
+  parts o Is few rest zero xs row = tt
+  parts o Is few rest (suc m) [] row = absurd row
+  parts o Is few rest (suc m) (x ∷ xs) row = let h : Lot = x.1.lot in let e = row.1.0 in let u : h.units ≡ share n o m = ap (λ (l : Lot). l.units) e in (
     e ∙ ap (λ (k : ℕ). lot γ i h.round h.shown k) (sym u),
-    subst (λ (k : ℕ). 0 < k) (sym u) (share_some n m few),
-    parts Is few rest m xs row.2,
+    subst (λ (k : ℕ). 0 < k) (sym u) (share_some n o m few),
+    parts o Is few rest m xs row.2,
   )
 
-  sum : (Is : Gv → Type 0) (rest : Carries) (m : ℕ) → m ≤ n → (xs : Carries) → HasRow γ i n Is rest m xs → units_in (take m (lots xs)) ≡ m
-  sum Is rest zero le xs row = refl
-  sum Is rest (suc m) le [] row = absurd row
-  sum Is rest (suc m) le (x ∷ xs) row = let u : x.1.lot.units ≡ 1 = ap (λ (l : Lot). l.units) row.1.0 ∙ share_one n m (omega arith) in
-      let s = sum Is rest m (omega arith) xs row.2 in omega arith
+  sum : (o : ℕ) (Is : Gv → Type 0) (rest : Carries) (m : ℕ) → m ≤ n → (xs : Carries) → HasRow γ i n o Is rest m xs → units_in (take m (lots xs)) ≡ m
+  sum o Is rest zero le xs row = refl
+  sum o Is rest (suc m) le [] row = absurd row
+  sum o Is rest (suc m) le (x ∷ xs) row = let u : x.1.lot.units ≡ 1 = ap (λ (l : Lot). l.units) row.1.0 ∙ share_one n o m (omega arith) in
+      let s = sum o Is rest m (omega arith) xs row.2 in omega arith
 
-  -- all units but the place's own
-  pub whole : (Is : Gv → Type 0) → n < most → (rest xs : Carries) → HasAll γ i n Is rest xs → HasWhole γ i (suc n) Is (lots xs)
+  -- all units but the place's own, where there is no owner
+  pub whole : (Is : Gv → Type 0) → n < most → (rest xs : Carries) → HasAll γ i n 0 Is rest xs → HasWhole γ i (suc n) Is (lots xs)
   whole Is few rest [] row = absurd row
-  whole Is few rest (x ∷ xs) row = let u : x.1.lot.units ≡ most - n = ap (λ (l : Lot). l.units) row.1.0 ∙ share_last n in
-      let s = sum Is rest n (omega arith) xs row.2 in record {
+  whole Is few rest (x ∷ xs) row = let u : x.1.lot.units ≡ most - n - 0 = ap (λ (l : Lot). l.units) row.1.0 ∙ share_last n 0 in
+      let s = sum 0 Is rest n (omega arith) xs row.2 in record {
         newest = x.1.lot;
         others = take n (lots xs);
         there = refl;
         so = row.1.1;
-        parts = parts Is few rest (suc n) (x ∷ xs) row;
+        parts = parts 0 Is (omega arith) rest (suc n) (x ∷ xs) row;
         whole = omega arith;
       }
 
-  rows_turned : (Is Js : Gv → Type 0) (a : ℕ) (g : Gv) → Js g → (rest : Carries) (m : ℕ) (xs : Carries) → HasRow γ i n Is rest m xs
-      → HasRow γ i n Js rest m (with_lots xs (top_turned a g m (lots xs)))
-  rows_turned Is Js a g so rest zero xs row = same_lots xs ∙ row
-  rows_turned Is Js a g so rest (suc m) [] row = absurd row
-  rows_turned Is Js a g so rest (suc m) (x ∷ xs) row = (
+  rows_turned : (o : ℕ) (Is Js : Gv → Type 0) (a : ℕ) (g : Gv) → Js g → (rest : Carries) (m : ℕ) (xs : Carries) → HasRow γ i n o Is rest m xs
+      → HasRow γ i n o Js rest m (with_lots xs (top_turned a g m (lots xs)))
+  rows_turned o Is Js a g so rest zero xs row = same_lots xs ∙ row
+  rows_turned o Is Js a g so rest (suc m) [] row = absurd row
+  rows_turned o Is Js a g so rest (suc m) (x ∷ xs) row = (
     row.0,
     (ap (λ (l : Lot). record l { round = a; shown = g }) row.1.0, so),
-    rows_turned Is Js a g so rest m xs row.2,
+    rows_turned o Is Js a g so rest m xs row.2,
   )
 
   -- and still once they show something else
-  pub all_after : (Is Js : Gv → Type 0) (g : Gv) (rest xs ys : Carries) → Js g → HasAll γ i n Is rest xs → (a : ℕ) × (ys ≡ all_turned a g (suc n) xs)
-      → HasAll γ i n Js rest ys
-  all_after Is Js g rest xs ys so row e = subst (HasAll γ i n Js rest) (sym e.1) (rows_turned Is Js e.0 g so rest (suc n) xs row)
+  pub all_after : (o : ℕ) (Is Js : Gv → Type 0) (g : Gv) (rest xs ys : Carries) → Js g → HasAll γ i n o Is rest xs → (a : ℕ) × (ys ≡ all_turned a g (suc n) xs)
+      → HasAll γ i n o Js rest ys
+  all_after o Is Js g rest xs ys so row e = subst (HasAll γ i n o Js rest) (sym e.1) (rows_turned o Is Js e.0 g so rest (suc n) xs row)
 
   -- what is behind them
-  pub rest_is : (Is : Gv → Type 0) (rest : Carries) (m : ℕ) (xs : Carries) → HasRow γ i n Is rest m xs → drop m xs ≡ rest
-  rest_is Is rest zero xs row = row
-  rest_is Is rest (suc m) [] row = absurd row
-  rest_is Is rest (suc m) (x ∷ xs) row = rest_is Is rest m xs row.2
+  pub rest_is : (o : ℕ) (Is : Gv → Type 0) (rest : Carries) (m : ℕ) (xs : Carries) → HasRow γ i n o Is rest m xs → drop m xs ≡ rest
+  rest_is o Is rest zero xs row = row
+  rest_is o Is rest (suc m) [] row = absurd row
+  rest_is o Is rest (suc m) (x ∷ xs) row = rest_is o Is rest m xs row.2
+
+  -- ---- an owner's unit
+  -- the last stake after one of its units went, or came
+  last_with : (o o' : ℕ) (Is : Gv → Type 0) (x y : Stake) (u : ℕ) → u ≡ most - n - o' → Has γ i (share n o n) Is x → y.lot ≡ record x.lot { units = u }
+      → Has γ i (share n o' n) Is y
+  last_with o o' Is x y u units has is = let round = ap (λ (l : Lot). l.round) is in let shown = ap (λ (l : Lot). l.shown) is in (
+    is ∙ (ap (λ (l : Lot). record l { units = u }) has.0
+        ∙ (λ d. lot γ i (sym round d) (sym shown d) ((units ∙ sym (share_last n o')) d))),
+    subst Is (sym shown) has.1,
+  )
+
+  -- the stakes of the places are the same
+  row_alike : (o o' : ℕ) (Is : Gv → Type 0) (rest : Carries) (m : ℕ) → m ≤ n → (zs : Carries) → HasRow γ i n o Is rest m zs → HasRow γ i n o' Is rest m zs
+  row_alike o o' Is rest zero le zs row = row
+  row_alike o o' Is rest (suc m) le [] row = absurd row
+  row_alike o o' Is rest (suc m) le (z ∷ zs) row = (
+    row.0,
+    subst (λ (k : ℕ). Has γ i k Is z.1) (share_one n o m (omega arith) ∙ sym (share_one n o' m (omega arith))) row.1,
+    row_alike o o' Is rest m (omega arith) zs row.2,
+  )
+
+  module _ (Is : Gv → Type 0) (rest : Carries) (k : ℕ) (x y : Stake) (xs : Carries) where
+    -- a unit of the last stake goes with an owner
+    pub unit_out : HasAll γ i n 0 Is rest ((k, x) ∷ xs) → y.lot ≡ record x.lot { units = x.lot.units - 1 } → HasAll γ i n 1 Is rest ((k, y) ∷ xs)
+    unit_out row is = let u : x.lot.units ≡ most - n - 0 = ap (λ (l : Lot). l.units) row.1.0 ∙ share_last n 0 in
+        (row.0, last_with 0 1 Is x y (x.lot.units - 1) (omega arith) row.1 is, row_alike 0 1 Is rest n (omega arith) xs row.2)
+
+    -- and comes back
+    pub unit_in : n < most → HasAll γ i n 1 Is rest ((k, x) ∷ xs) → y.lot ≡ record x.lot { units = x.lot.units + 1 } → HasAll γ i n 0 Is rest ((k, y) ∷ xs)
+    unit_in few row is = let u : x.lot.units ≡ most - n - 1 = ap (λ (l : Lot). l.units) row.1.0 ∙ share_last n 1 in
+        (row.0, last_with 1 0 Is x y (x.lot.units + 1) (omega arith) row.1 is, row_alike 1 0 Is rest n (omega arith) xs row.2)
+
+    -- the same where the last stake alone is out
+    pub unit_in_last : n < most → HasLast γ i n 1 Is rest ((k, x) ∷ xs) → y.lot ≡ record x.lot { units = x.lot.units + 1 }
+        → HasLast γ i n 0 Is rest ((k, y) ∷ xs)
+    unit_in_last few row is = let u : x.lot.units ≡ most - n - 1 = ap (λ (l : Lot). l.units) row.1.0 ∙ share_last n 1 in
+        (row.0, last_with 1 0 Is x y (x.lot.units + 1) (omega arith) row.1 is, row.2)

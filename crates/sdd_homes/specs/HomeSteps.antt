@@ -14,22 +14,27 @@ use Rattle.sdd_rule.specs.Words.{slot_word}
 use Rattle.sdd_rule.specs.Codes.{alive}
 use Rattle.sdd_rule.specs.Epoch.{IsLone}
 use Rattle.sdd_rule.specs.Slots.{Sees}
-use Rattle.sdd_homes.specs.Homes.{Carries, stake_at, share, Has}
+use Rattle.sdd_homes.specs.Homes.{Carries, stake_at, share, Has, all_in, last_in}
 use Rattle.sdd_homes.specs.Records.{IsIn}
 use Rattle.sdd_homes.specs.Fillings.{newest}
 
 abbrev pub Mine : Type 0
 Mine = Me Stake View
 
--- the first m stakes in the slot i, the last of them taken last, and then the rest
-abbrev pub HasRow : ℕ → ℕ → ℕ → (Gv → Type 0) → Carries → ℕ → Carries → Type 0
-HasRow γ i n Is rest zero xs = xs ≡ rest
-HasRow γ i n Is rest (suc m) [] = ⊥
-HasRow γ i n Is rest (suc m) (x ∷ xs) = (x.0 ≡ stake_at n i m) × Has γ i (share n m) Is x.1 × HasRow γ i n Is rest m xs
+-- the first m stakes in the slot i, which has so many owners, the last of them taken last, and then the rest
+abbrev pub HasRow : ℕ → ℕ → ℕ → ℕ → (Gv → Type 0) → Carries → ℕ → Carries → Type 0
+HasRow γ i n o Is rest zero xs = xs ≡ rest
+HasRow γ i n o Is rest (suc m) [] = ⊥
+HasRow γ i n o Is rest (suc m) (x ∷ xs) = (x.0 ≡ stake_at n i m) × Has γ i (share n o m) Is x.1 × HasRow γ i n o Is rest m xs
 
 -- all stakes in the slot i, and then the rest
-abbrev pub HasAll : ℕ → ℕ → ℕ → (Gv → Type 0) → Carries → Carries → Type 0
-HasAll γ i n Is rest xs = HasRow γ i n Is rest (suc n) xs
+abbrev pub HasAll : ℕ → ℕ → ℕ → ℕ → (Gv → Type 0) → Carries → Carries → Type 0
+HasAll γ i n o Is rest xs = HasRow γ i n o Is rest (suc n) xs
+
+-- the last stake in the slot i, and then the rest
+abbrev pub HasLast : ℕ → ℕ → ℕ → ℕ → (Gv → Type 0) → Carries → Carries → Type 0
+HasLast γ i n o Is rest [] = ⊥
+HasLast γ i n o Is rest (x ∷ xs) = (x.0 ≡ stake_at n i n) × Has γ i (share n o n) Is x.1 × (xs ≡ rest)
 
 -- a value that is shown, and it is this one
 abbrev pub IsValue : Gv → Gv → Type 0
@@ -44,9 +49,13 @@ Purse γ n q (r ∷ records) (x ∷ xs) = (x.0 ≡ stake_at n r.slot q) × Has �
 
 -- it moves the value of the slot from now on
 abbrev pub moving : ℕ → View → View
-moving slot v = record v { stakes = record v.stakes { moves = Some slot } }
+moving slot v = record v { stakes = record v.stakes { moves = Some (all_in slot) } }
 
--- it moves none
+-- it takes its owner's unit home to the slot
+abbrev pub settling : ℕ → View → View
+settling slot v = record v { stakes = record v.stakes { moves = Some (last_in slot) } }
+
+-- it does neither
 abbrev pub resting : View → View
 resting v = record v { stakes = record v.stakes { moves = None } }
 
@@ -118,24 +127,28 @@ places_of me = me.0.sizes.participants
 -- the claim of a slot whose word is old as long as it is free: then all stakes in it are out, and show that it is vacant
 abbrev pub ClaimsAll : ℕ → ℕ → ℕ → Mine → ℕ → Mine → Type 0
 ClaimsAll slot old y me x me' =
-    (x ≡ old → (me'.0 ≡ making slot y me.0) × HasAll (book_of me) slot (places_of me) IsVacant me.1 me'.1)
+    (x ≡ old → (me'.0 ≡ making slot y me.0) × HasAll (book_of me) slot (places_of me) 0 IsVacant me.1 me'.1)
     × (x ≢ old → me' ≡ me) × Knew slot me.0 x
 
--- the value of an owned slot was moved in, and all stakes in it, which show it, go home
+-- the value of an owned slot was moved in, and all stakes in it, which show it, go home, but for the owner's unit
 abbrev pub Houses : ℕ → Bool → Gv → Mine → Mine → Type 0
 Houses slot shared value me me' = (me'.0 ≡ resting (telling slot shared value me.0)) × (me'.1 ≡ drop (suc (places_of me)) me.1)
 
 -- the value of an item that nobody sees is to be moved out, so that all stakes in it are out
 abbrev pub TakesOut : ℕ → Mine → Mine → Type 0
-TakesOut slot me me' = (me'.0 ≡ moving slot me.0) × HasAll (book_of me) slot (places_of me) IsFull me.1 me'.1
+TakesOut slot me me' = (me'.0 ≡ moving slot me.0) × HasAll (book_of me) slot (places_of me) 0 IsFull me.1 me'.1
 
--- the same of an item whose slot is held: its owner knows no more what it shows
+-- the same of an item whose slot is held: its owner, whose unit is out, knows no more what it shows
 abbrev pub TakesHeld : ℕ → Mine → Mine → Type 0
-TakesHeld slot me me' = (me'.0 ≡ moving slot (untold me.0)) × HasAll (book_of me) slot (places_of me) IsFull me.1 me'.1
+TakesHeld slot me me' = (me'.0 ≡ moving slot (untold me.0)) × HasAll (book_of me) slot (places_of me) 1 IsFull me.1 me'.1
 
--- an owned item waits from now on, of which no owner knows any more
+-- the last stake in a slot of its own is out, to which the owner's unit comes home; it shows what the owner knows
+abbrev pub TakesLast : ℕ → Gv → Mine → Mine → Type 0
+TakesLast slot value me me' = (me'.0 ≡ settling slot me.0) × HasLast (book_of me) slot (places_of me) 1 (IsValue value) me.1 me'.1
+
+-- an owned item waits from now on, of which no owner knows any more, and the last stake goes home, with the owner's unit
 abbrev pub RetiresOne : ℕ → Mine → ℕ → Mine → Type 0
-RetiresOne slot me y me' = (v : View) × Retires slot me.0 y v × (me'.0 ≡ untold v) × (me'.1 ≡ me.1)
+RetiresOne slot me y me' = (v : View) × Retires slot me.0 y v × (me'.0 ≡ resting (untold v)) × (me'.1 ≡ drop 1 me.1)
 
 -- it was moved out: the slot is free, and all stakes in it go home
 abbrev pub GivesAll : ℕ → Mine → ℕ → Mine → Type 0

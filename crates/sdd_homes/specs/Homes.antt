@@ -1,5 +1,6 @@
 -- The homes' part of the rule. The slots of the table are the homes of stakes: for the value of each slot of the domain, one stake for each place,
--- and one with all other units. What a guard sees, it may look at by the stake of its place; who moves the value in or out has all stakes in it.
+-- and one with all other units, but one unit for each owner, who has it with him. What a guard sees, it may look at by the stake of its place; who
+-- moves the value in or out has all stakes in it.
 use Rattle.std.specs.Prelude.{◌≡◌, ◌⊎◌, ℕ, suc, ◌+◌, ◌-◌, ◌*◌, ◌<◌, ◌≤◌, List, length, slice_index_or, Some, eqb, true, false}
 use mathlib.Core.Option.{Option, some}
 use lib.ListN.{get_elem?}
@@ -9,9 +10,10 @@ use Rattle.core.specs.Mem.Slots.{slots_items, slots_filled, slots_len}
 use Rattle.atomic_table.specs.declared.owned.Closed.{Closed}
 use Rattle.sdd_stakes.specs.Shelf.{IsFull, IsVacant, most, lot}
 use Rattle.sdd_stakes.specs.declared.stake.Stake.{Stake}
+use Rattle.sdd_rule.specs.declared.Move.{Move}
 use Rattle.sdd_rule.specs.declared.View.{View}
 use Rattle.sdd_rule.specs.declared.Sizes.{Sizes}
-use Rattle.sdd_rule.specs.Codes.{full}
+use Rattle.sdd_rule.specs.Codes.{alive, full}
 use Rattle.sdd_rule.specs.Epoch.{HasPlace}
 use Rattle.sdd_rule.specs.Slots.{slot_at, items_at, OwnsAlone, Sees}
 
@@ -31,9 +33,9 @@ stake_at n i p = i * suc n + p
 unfoldable pub homes_for : ℕ → ℕ → ℕ
 homes_for n m = m * suc n
 
--- its units: one for each place, and all others in the last stake
-abbrev pub share : ℕ → ℕ → ℕ
-share n p = either (eqb p n) (most - n) 1
+-- its units, where there are o owners: one for each place, and all others in the last stake, but the owners'
+abbrev pub share : ℕ → ℕ → ℕ → ℕ
+share n o p = either (eqb p n) (most - n - o) 1
 
 -- so many units of the place i of the book γ, which aren't lent and show this
 abbrev pub Has : ℕ → ℕ → ℕ → (Gv → Type 0) → Stake → Type 0
@@ -43,16 +45,37 @@ Has γ i units Is y = (y.lot ≡ lot γ i y.lot.round y.lot.shown units) × Is y
 abbrev pub IsShown : ℕ → Gv → Type 0
 IsShown x g = (full x ≡ 1 → IsFull g) × (full x ≡ 0 → IsVacant g)
 
+-- all stakes in the slot i, and the last one alone
+abbrev pub all_in : ℕ → Move
+all_in i = record { slot = i; whole = true }
+
+abbrev pub last_in : ℕ → Move
+last_in i = record { slot = i; whole = false }
+
 -- it moves the value of the slot i, in or out
 abbrev pub Moves : View → ℕ → Type 0
-Moves v i = v.stakes.moves ≡ Some i
+Moves v i = v.stakes.moves ≡ Some (all_in i)
 
--- the p-th stake in the slot i is out with it: a guard of the place p sees the slot, or all are out, as its value is moved
-abbrev pub IsOut : View → ℕ → ℕ → Type 0
-IsOut v i p = Moves v i ⊎ (Sees v i × (v.epoch.place ≡ p))
+-- it takes an owner's unit home to the slot i
+abbrev pub Settles : View → ℕ → Type 0
+Settles v i = v.stakes.moves ≡ Some (last_in i)
 
-abbrev pub NoneOut : List View → ℕ → ℕ → Type 0
-NoneOut vs i p = (j : ℕ) (v : View) → get_elem? vs j ≡ some v → ¬ (IsOut v i p)
+-- the p-th stake of n + 1 in the slot i is out with it, and not all: a guard of the place p sees the slot; or it is the last, to which an owner's
+-- unit comes home
+abbrev pub IsOneOut : ℕ → View → ℕ → ℕ → Type 0
+IsOneOut n v i p = (Sees v i × (v.epoch.place ≡ p)) ⊎ (Settles v i × (p ≡ n))
+
+-- it is out with it: alone, or with all others, as the value is moved
+abbrev pub IsOut : ℕ → View → ℕ → ℕ → Type 0
+IsOut n v i p = Moves v i ⊎ IsOneOut n v i p
+
+abbrev pub NoneOut : ℕ → List View → ℕ → ℕ → Type 0
+NoneOut n vs i p = (j : ℕ) (v : View) → get_elem? vs j ≡ some v → ¬ (IsOut n v i p)
+
+-- who moves a value has a place, and owns it alone, or its item waits with it; who takes an owner's unit home has a place and is the owner
+pub record IsMover (v : View) : Type 0 where
+  pub moves : (i : ℕ) → Moves v i → HasPlace v.epoch × (OwnsAlone v i ⊎ (0 < items_at i v))
+  pub settles : (i : ℕ) → Settles v i → HasPlace v.epoch × OwnsAlone v i
 
 -- the p-th stake in the slot i is at home, and it is this one
 abbrev pub LiesAt : ℕ → Homes → ℕ → ℕ → Stake → Type 0
@@ -61,32 +84,34 @@ LiesAt n hs i p y = get_elem? hs (stake_at n i p) ≡ some (some y)
 abbrev pub IsAtHome : ℕ → Homes → ℕ → ℕ → Type 0
 IsAtHome n hs i p = (y : Stake) × LiesAt n hs i p y
 
--- the book of the values' places, the words, what all participants know, and what lies at home. A stake is at home unless someone has it out;
--- and who moves a value has a place, and owns it alone, or its item waits with it
+-- the book of the values' places, the words, what all participants know, and what lies at home: a stake is there unless someone has it out
 pub record HomesPart (γ : ℕ) (sizes : Sizes) (ws : List ℕ) (vs : List View) (hs : Homes) : Type 0 where
-  pub few : sizes.participants < most
+  pub few : suc sizes.participants < most
   pub deep : length hs ≡ homes_for sizes.participants sizes.slots
   pub home : (i p : ℕ) (y : Stake) → i < sizes.slots → p ≤ sizes.participants → LiesAt sizes.participants hs i p y
-      → Has γ i (share sizes.participants p) (IsShown (slot_at sizes ws i)) y
-  pub back : (i p : ℕ) → i < sizes.slots → p ≤ sizes.participants → NoneOut vs i p → IsAtHome sizes.participants hs i p
-  pub moving : (j : ℕ) (v : View) (i : ℕ) → get_elem? vs j ≡ some v → Moves v i → HasPlace v.epoch × (OwnsAlone v i ⊎ (0 < items_at i v))
+      → Has γ i (share sizes.participants (alive (slot_at sizes ws i)) p) (IsShown (slot_at sizes ws i)) y
+  pub back : (i p : ℕ) → i < sizes.slots → p ≤ sizes.participants → NoneOut sizes.participants vs i p → IsAtHome sizes.participants hs i p
+  pub moving : (j : ℕ) (v : View) → get_elem? vs j ≡ some v → IsMover v
 
--- the first k homes' stakes in a row, where what those in the slot i show is so
-pub record AreLaidTo (γ n k : ℕ) (Is : ℕ → Gv → Type 0) (stakes : List Stake) : Type 0 where
+-- the first k homes' stakes in a row, where the slot i has so many owners, and what those in it show is so
+pub record AreLaidTo (γ n k : ℕ) (owners : ℕ → ℕ) (Is : ℕ → Gv → Type 0) (stakes : List Stake) : Type 0 where
   pub long : length stakes ≡ k
-  pub each : (i p : ℕ) → p ≤ n → stake_at n i p < k → (y : Stake) × (get_elem? stakes (stake_at n i p) ≡ some y) × Has γ i (share n p) (Is i) y
+  pub each : (i p : ℕ) → p ≤ n → stake_at n i p < k → (y : Stake) × (get_elem? stakes (stake_at n i p) ≡ some y) × Has γ i (share n (owners i) p) (Is i) y
 
 -- before anybody takes part: in each home its stake, which shows that the place is vacant
 abbrev pub all_vacant : ℕ → Gv → Type 0
 all_vacant i = IsVacant
 
+abbrev pub no_owners : ℕ → ℕ
+no_owners i = 0
+
 abbrev pub AreLaid : ℕ → ℕ → ℕ → List Stake → Type 0
-AreLaid γ n m stakes = AreLaidTo γ n (homes_for n m) all_vacant stakes
+AreLaid γ n m stakes = AreLaidTo γ n (homes_for n m) no_owners all_vacant stakes
 
 -- of a closed table: in the first k homes their stakes lie still, the others are empty; what those in a slot show is as the slot's word says
 pub record AreHome {A : Type 0} (γ : ℕ) (sizes : Sizes) (k : ℕ) (closed : Closed Stake A) : Type 0 where
-  pub laid : AreLaidTo γ sizes.participants (homes_for sizes.participants sizes.slots) (λ i. IsShown (slot_at sizes (slots_items closed.words) i))
-      (slots_items closed.slots)
+  pub laid : AreLaidTo γ sizes.participants (homes_for sizes.participants sizes.slots) (λ i. alive (slot_at sizes (slots_items closed.words) i))
+      (λ i. IsShown (slot_at sizes (slots_items closed.words) i)) (slots_items closed.slots)
   pub low : k ≤ slots_len closed.slots
   pub here : (j : ℕ) → j < k → slice_index_or (slots_filled closed.slots) j false ≡ true
   pub gone : (j : ℕ) → k ≤ j → slice_index_or (slots_filled closed.slots) j false ≡ false

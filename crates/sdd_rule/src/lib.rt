@@ -85,12 +85,19 @@ pub struct CountsView {
     pub over: u64,
 }
 
+/// The stakes in a slot that a participant has out, beside those of the slots that its guards see.
+pub struct Move {
+    pub slot: u64,
+    /// All of them, as the value is moved in or out; else the last one alone, to which the owner's unit comes back.
+    pub whole: bool,
+}
+
 /// What a participant knows of the stakes in the values of slots, and of how many values it moved in and out.
 pub struct StakesView {
     /// The book of the values' places.
     pub book: u64,
-    /// The slot whose value it moves in or out: it has all stakes in it.
-    pub moves: Option<u64>,
+    /// What it has out to move a value, or to take an owner's unit home.
+    pub moves: Option<Move>,
     /// What the slots show whose only owner it has, once the value was moved in.
     pub owns: [Showing; 0],
     /// What the slots show that it sees under its guards, one entry for each time.

@@ -10,17 +10,18 @@ ghost use Rattle.sdd_rule.specs.Slots.{OwnsAlone, Holds};
 ghost use Rattle.sdd_rule.specs.SlotSteps.{IsDue, LooksAtSlot, TakesHold, LetsGo, LooksForGuard};
 ghost use Rattle.sdd_rule.specs.Parts.{owner_of};
 ghost use Rattle.sdd_stakes.specs.Shelf.{IsVacant};
-ghost use Rattle.sdd_homes.specs.Homes.{Carries, Moves};
-ghost use Rattle.sdd_homes.specs.HomeSteps.{HasAll, IsValue, ClaimsAll, Houses, TakesOut, TakesHeld, GivesAll, DiscardsAll, RetiresOne, Watches, Recalls, parting, regained};
+ghost use Rattle.sdd_homes.specs.Homes.{Carries, Moves, Settles};
+ghost use Rattle.sdd_homes.specs.Records.{IsIn};
+ghost use Rattle.sdd_homes.specs.HomeSteps.{HasAll, HasLast, IsValue, ClaimsAll, Houses, TakesOut, TakesHeld, GivesAll, DiscardsAll, RetiresOne, Watches, Recalls, parting, regained};
 ghost use Rattle.sdd_board.specs.Board.{id_of, book_of, places_of, slots_of};
 ghost use Rattle.sdd_token.specs.Owner.{witness_of_owner};
 ghost use Rattle.sdd_board.specs.Owner.{IsCutOff};
-ghost use Rattle.sdd_board.specs.Token.{view, epoch, slots, Taught, Moved, MovedAlone, Knows};
+ghost use Rattle.sdd_board.specs.Token.{view, epoch, slots, Taught, Moved, MovedAlone, TakesOwned, Knows};
 
 use crate::board::{Board, Token};
 use crate::plays::{
     Claim, Discard, GiveBack, Hold, House, HouseShared, LetGo, LookAtSlot, LookForGuard, Part,
-    Recall, Retire, TakeHeld, TakeIn, TakeOut, Watch,
+    Recall, Retire, TakeHeld, TakeIn, TakeLast, TakeOut, Watch,
 };
 use crate::words::state_word;
 use sdd_witness::{Witness, part, rejoin, step_alone, step_beside};
@@ -63,16 +64,17 @@ pub fn claim(board: &Board, token: &mut Token, slot: u32) -> u64
         .compare_exchange::<Claim>(token, board.slot_word(slot), FREE, OWNED)
 }
 
-/// The value of the slot that it moves was moved in, and the stakes in it show that: all go home. Its owner may be one of several. No word is touched.
+/// The value of the slot that it moves was moved in, and the stakes in it show that: all go home, but the unit that goes with its owner, who may be
+/// one of several. No word is touched.
 #[inline]
 pub fn house(board: &Board, token: &mut Token, shared: bool)
     requires home { token.old.table_id ≡ id_of board.now }
     requires knows { Knows board.now token.old }
     requires place { HasPlace (epoch token.old) }
     requires row { (slot : ℕ) × (value : Gv) × (slot < slots_of board.now) × Moves (view token.old) slot × OwnsAlone (view token.old) slot
-        × ((rest : Carries) × HasAll (book_of board.now) slot (places_of board.now) (IsValue value) rest token.old.me.1) }
+        × ((rest : Carries) × HasAll (book_of board.now) slot (places_of board.now) 1 (IsValue value) rest token.old.me.1) }
     ensures { (slot : ℕ) (value : Gv) (rest : Carries) → Moves (view token.old) slot
-        → HasAll (book_of board.now) slot (places_of board.now) (IsValue value) rest token.old.me.1
+        → HasAll (book_of board.now) slot (places_of board.now) 1 (IsValue value) rest token.old.me.1
         → MovedAlone (Houses slot shared value) token.old token.new }
 {
     if shared {
@@ -82,7 +84,20 @@ pub fn house(board: &Board, token: &mut Token, shared: bool)
     }
 }
 
-/// Retires the item of a slot of its own, which waits with the participant from now on.
+/// Takes the last stake in the one slot that the participant owns, to which its owner's unit comes home. No word is touched.
+#[inline]
+pub fn take_last(board: &Board, token: &mut Token)
+    requires home { token.old.table_id ≡ id_of board.now }
+    requires knows { Knows board.now token.old }
+    requires place { HasPlace (epoch token.old) }
+    requires own { (slot : ℕ) × (slot < slots_of board.now) × ((slots token.old).owns ≡ slot ∷ []) }
+    requires rests { (view token.old).stakes.moves ≡ None }
+    ensures { MovedAlone TakesOwned token.old token.new }
+{
+    step_alone::<_, _, _, _, TakeLast>(&board.table.shared, token);
+}
+
+/// Retires the item of a slot of its own, which waits with the participant from now on. The last stake in it goes home, with the owner's unit.
 #[inline]
 pub fn retire(board: &Board, token: &mut Token, slot: u32)
     requires home { token.old.table_id ≡ id_of board.now }
@@ -90,7 +105,9 @@ pub fn retire(board: &Board, token: &mut Token, slot: u32)
     requires inside { slot < slots_of board.now }
     requires place { HasPlace (epoch token.old) }
     requires own { ((slots token.old).owns ≡ slot ∷ []) × ¬ (Holds (view token.old) slot) }
-    requires rests { (view token.old).stakes.moves ≡ None }
+    requires last { Settles (view token.old) slot
+        × ((value : Gv) × IsIn (view token.old).stakes.owns slot value
+        × ((rest : Carries) × HasLast (book_of board.now) slot (places_of board.now) 0 (IsValue value) rest token.old.me.1)) }
     ensures { Moved (RetiresOne slot) token.old (waiting_word 0) token.new }
 {
     board
@@ -124,7 +141,7 @@ pub fn give_back(board: &Board, token: &mut Token, slot: u32)
     requires inside { slot < slots_of board.now }
     requires place { HasPlace (epoch token.old) }
     requires due { Moves (view token.old) slot × IsDue (view token.old) slot }
-    requires row { (rest : Carries) × HasAll (book_of board.now) slot (places_of board.now) IsVacant rest token.old.me.1 }
+    requires row { (rest : Carries) × HasAll (book_of board.now) slot (places_of board.now) 0 IsVacant rest token.old.me.1 }
     ensures { Moved (GivesAll slot) token.old (free_word 0) token.new }
 {
     board
@@ -240,7 +257,7 @@ pub fn discard(board: &Board, token: &mut Token, slot: u32)
     requires place { HasPlace (epoch token.old) }
     requires held { Moves (view token.old) slot × Holds (view token.old) slot }
     requires looked { places_of board.now ≤ (slots token.old).looked }
-    requires row { (rest : Carries) × HasAll (book_of board.now) slot (places_of board.now) IsVacant rest token.old.me.1 }
+    requires row { (rest : Carries) × HasAll (book_of board.now) slot (places_of board.now) 0 IsVacant rest token.old.me.1 }
     ensures { Moved (DiscardsAll slot) token.old (free_word 0) token.new }
 {
     board

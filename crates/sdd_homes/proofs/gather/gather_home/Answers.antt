@@ -3,6 +3,7 @@ use base.Stored.{Gv}
 use Rattle.core.specs.Mem.Slots.{slots_items}
 use Rattle.sdd_stakes.specs.Stakes.{Lot}
 use Rattle.sdd_stakes.specs.Shelf.{most}
+use Rattle.sdd_rule.specs.Codes.{alive}
 use Rattle.sdd_rule.specs.Slots.{slot_at}
 use Rattle.sdd_homes.specs.Homes.{stake_at, homes_for, IsShown}
 use Rattle.sdd_homes.proofs.Places.{inside}
@@ -19,11 +20,12 @@ loop-place-init g c = let γ : ℕ = c.args.title.now.book in let z = c.args.siz
     let e = next_slot n i (i + 1) (n - 0) refl (omega arith) in let left : t.new.left ≡ stake_at n i (n - 0) = omega arith in
     let words = t.ensures.same.0 in
     let Is : ℕ → Gv → Type 0 = λ j. IsShown (slot_at z (slots_items c.args.closed.now.words) j) in
-    let has = found γ n Is i (n - 0) (homes_for n z.slots) t.new.left (slots_items c.args.closed.now.slots) t.result (omega arith)
+    let own : ℕ → ℕ = λ j. alive (slot_at z (slots_items c.args.closed.now.words) j) in let quiet = c.requires.quiet in
+    let has = found γ n own Is i (n - 0) (homes_for n z.slots) t.new.left (slots_items c.args.closed.now.slots) t.result (omega arith)
     (inside n z.slots i (n - 0) c.requires.inside (omega arith)) left t.ensures.stake c.requires.home.laid in record {
       home = t.ensures.home;
       left = left;
-      whole = rest_of γ i n (Is i) (n - 0) (most - n + 0) t.result (omega arith) (omega arith) has;
+      whole = rest_of γ i n (own i) (Is i) (n - 0) (most - n + 0) t.result (omega arith) (omega arith) has;
       shown = subst (λ (w : _). IsShown (slot_at z (slots_items w) i) t.result.lot.shown) (sym words) has.1;
       words = words;
     }
@@ -37,7 +39,8 @@ join-requires-clause-book g c = let γ : ℕ = c.args.title.now.book in let z = 
     let p : ℕ = c.loop-place._place in let inv = c.loop-place.invariant in let t = c.take_last_home in let before = inv.left in let one = t.ensures.one in
     let e = next_stake n i (n - (p + 1)) (n - p) (omega arith) in let left : t.new.left ≡ stake_at n i (n - (p + 1)) = omega arith in
     let Is : ℕ → Gv → Type 0 = λ j. IsShown (slot_at z (slots_items c.loop-place.closed.words) j) in
-    let unit = unit_of γ i n (Is i) (n - (p + 1)) t.result (omega arith) (found γ n Is i (n - (p + 1)) (homes_for n z.slots) t.new.left
+    let own : ℕ → ℕ = λ j. alive (slot_at z (slots_items c.loop-place.closed.words) j) in
+    let unit = unit_of γ i n (own i) (Is i) (n - (p + 1)) t.result (omega arith) (found γ n own Is i (n - (p + 1)) (homes_for n z.slots) t.new.left
     (slots_items c.loop-place.closed.slots) t.result (omega arith) (inside n z.slots i (n - (p + 1)) c.requires.inside (omega arith)) left t.ensures.stake
     inv.home.laid) in
     ap (λ (h : Lot). h.book) unit ∙ sym (ap (λ (h : Lot). h.book) inv.whole)
@@ -47,7 +50,8 @@ join-requires-clause-number g c = let γ : ℕ = c.args.title.now.book in let z 
     let p : ℕ = c.loop-place._place in let inv = c.loop-place.invariant in let t = c.take_last_home in let before = inv.left in let one = t.ensures.one in
     let e = next_stake n i (n - (p + 1)) (n - p) (omega arith) in let left : t.new.left ≡ stake_at n i (n - (p + 1)) = omega arith in
     let Is : ℕ → Gv → Type 0 = λ j. IsShown (slot_at z (slots_items c.loop-place.closed.words) j) in
-    let unit = unit_of γ i n (Is i) (n - (p + 1)) t.result (omega arith) (found γ n Is i (n - (p + 1)) (homes_for n z.slots) t.new.left
+    let own : ℕ → ℕ = λ j. alive (slot_at z (slots_items c.loop-place.closed.words) j) in
+    let unit = unit_of γ i n (own i) (Is i) (n - (p + 1)) t.result (omega arith) (found γ n own Is i (n - (p + 1)) (homes_for n z.slots) t.new.left
     (slots_items c.loop-place.closed.slots) t.result (omega arith) (inside n z.slots i (n - (p + 1)) c.requires.inside (omega arith)) left t.ensures.stake
     inv.home.laid) in
     ap (λ (h : Lot). h.number) unit ∙ sym (ap (λ (h : Lot). h.number) inv.whole)
@@ -57,7 +61,8 @@ join-requires-clause-free g c = let γ : ℕ = c.args.title.now.book in let z = 
     let p : ℕ = c.loop-place._place in let inv = c.loop-place.invariant in let t = c.take_last_home in let before = inv.left in let one = t.ensures.one in
     let e = next_stake n i (n - (p + 1)) (n - p) (omega arith) in let left : t.new.left ≡ stake_at n i (n - (p + 1)) = omega arith in
     let Is : ℕ → Gv → Type 0 = λ j. IsShown (slot_at z (slots_items c.loop-place.closed.words) j) in
-    let unit = unit_of γ i n (Is i) (n - (p + 1)) t.result (omega arith) (found γ n Is i (n - (p + 1)) (homes_for n z.slots) t.new.left
+    let own : ℕ → ℕ = λ j. alive (slot_at z (slots_items c.loop-place.closed.words) j) in
+    let unit = unit_of γ i n (own i) (Is i) (n - (p + 1)) t.result (omega arith) (found γ n own Is i (n - (p + 1)) (homes_for n z.slots) t.new.left
     (slots_items c.loop-place.closed.slots) t.result (omega arith) (inside n z.slots i (n - (p + 1)) c.requires.inside (omega arith)) left t.ensures.stake
     inv.home.laid) in
     (ap (λ (h : Lot). h.lent) inv.whole, ap (λ (h : Lot). h.lent) unit)
@@ -67,7 +72,8 @@ loop-place-preserved g c = let γ : ℕ = c.args.title.now.book in let z = c.arg
     let p : ℕ = c.loop-place._place in let inv = c.loop-place.invariant in let t = c.take_last_home in let before = inv.left in let one = t.ensures.one in
     let e = next_stake n i (n - (p + 1)) (n - p) (omega arith) in let left : t.new.left ≡ stake_at n i (n - (p + 1)) = omega arith in
     let Is : ℕ → Gv → Type 0 = λ j. IsShown (slot_at z (slots_items c.loop-place.closed.words) j) in
-    let unit = unit_of γ i n (Is i) (n - (p + 1)) t.result (omega arith) (found γ n Is i (n - (p + 1)) (homes_for n z.slots) t.new.left
+    let own : ℕ → ℕ = λ j. alive (slot_at z (slots_items c.loop-place.closed.words) j) in
+    let unit = unit_of γ i n (own i) (Is i) (n - (p + 1)) t.result (omega arith) (found γ n own Is i (n - (p + 1)) (homes_for n z.slots) t.new.left
     (slots_items c.loop-place.closed.slots) t.result (omega arith) (inside n z.slots i (n - (p + 1)) c.requires.inside (omega arith)) left t.ensures.stake
     inv.home.laid) in
     let words = t.ensures.same.0 in record {
