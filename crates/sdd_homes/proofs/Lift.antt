@@ -18,7 +18,7 @@ use Rattle.sdd_rule.specs.Words.{first_slot, state_word}
 use Rattle.sdd_rule.specs.Codes.{full}
 use Rattle.sdd_rule.specs.Epoch.{HasPlace, IsClosed, IsOpen}
 use Rattle.sdd_rule.specs.Steps.{Steps, Publishes, Ends}
-use Rattle.sdd_rule.specs.Slots.{slot_at, items_at, waits_in, OwnsAlone, Sees}
+use Rattle.sdd_rule.specs.Slots.{slot_at, waits_in, Sees}
 use Rattle.sdd_rule.specs.SlotSteps.{older, changed, OnEpoch, PublishesAll}
 use Rattle.sdd_rule.specs.Parts.{epoch_of, Parts}
 use Rattle.atomic_table.proofs.Lists.{at_map, set_again}
@@ -39,7 +39,6 @@ use Rattle.sdd_homes.proofs.Counts.{ended_spared, ended_more, as_full, counted, 
 use Rattle.sdd_homes.proofs.Records.{IsAlike}
 use Rattle.sdd_homes.proofs.Records as records
 use Rattle.sdd_homes.proofs.Fillings.{NoneTold, filled_same, filled_alike}
-use Rattle.sdd_homes.proofs.Telling.{none_moved}
 
 -- what a step on the word i makes of the state, where y is in it then: what its participant knows of stakes, and what it takes or gives
 pub record Follows (γ : ℕ) (sizes : Sizes) (id i : ℕ) (me : Mine) (told : ℕ → Mine → Type 0) (s : State Stake View) (y : ℕ) (w : View) : Type 0 where

@@ -1,5 +1,6 @@
 -- The homes' part after one step of one participant, from what the step takes from home or gives
-use Rattle.std.proofs.Common.{◌≡◌, ◌≢◌, ◌⊎◌, inl, ℕ, suc, ◌<◌, ◌≤◌, List, [], ◌∷◌, ◌++◌, map, set, sym, ap, ◌∙◌, subst, ⊎_elim, arith, length-set, get_or-set_other}
+use Rattle.std.proofs.Common.{◌≡◌, ◌≢◌, ◌⊎◌, inl, inr, None, length, ℕ, suc, ◌<◌, ◌≤◌, List, [], ◌∷◌, ◌++◌, map, set, sym, ap, ◌∙◌, subst, ⊎_elim, arith, length-set, get_or-set_other}
+use Rattle.std.specs.Prelude.{Some}
 use mathlib.Core.Option.{none, some, some-injective, some-ne-none}
 use mathlib.Core.Logic.{dite}
 use native.Mathlib.Decide.{ℕ_discrete, dec_lt}
@@ -17,7 +18,8 @@ use Rattle.sdd_rule.specs.Slots.{slot_at, items_at, OwnsAlone, Sees}
 use Rattle.sdd_rule.specs.Sums.{times}
 use Rattle.sdd_rule.proofs.Frame.{each_set, each_snoc}
 use Rattle.sdd_rule.proofs.Epoch.{at_length}
-use Rattle.sdd_homes.specs.Homes.{Homes, Carries, stake_at, homes_for, share, Has, IsShown, all_in, last_in, Moves, Settles, IsOneOut, IsOut, NoneOut, LiesAt, IsAtHome, IsMover, HomesPart}
+use Rattle.sdd_rule.specs.Moves.{all_in, last_in}
+use Rattle.sdd_homes.specs.Homes.{Homes, Carries, stake_at, share, Has, IsShown, Moves, Settles, IsOneOut, IsOut, NoneOut, LiesAt, IsAtHome, IsMover, HomesPart}
 use Rattle.sdd_homes.specs.Records.{slot_shown, IsIn}
 use Rattle.sdd_homes.specs.HomeSteps.{IsValue}
 use Rattle.sdd_homes.proofs.Places.{inside, one_slot, one_stake}
@@ -27,10 +29,7 @@ use Rattle.sdd_homes.proofs.Tops.{share_one}
 
 -- who has no stakes out but those of its guards
 pub none_out : (v : View) → v.stakes.moves ≡ None → IsMover v
-none_out v rests = record {
-  moves = λ i m. let e : None ≡ Some (all_in i) = sym rests ∙ m in cc;
-  settles = λ i m. let e : None ≡ Some (last_in i) = sym rests ∙ m in cc;
-}
+none_out v rests = (λ i m. let e : None ≡ Some (all_in i) = sym rests ∙ m in cc, λ i m. let e : None ≡ Some (last_in i) = sym rests ∙ m in cc)
 
 pub only_seen : (n : ℕ) (v : View) → v.stakes.moves ≡ None → (i p : ℕ) → IsOut n v i p → Sees v i × (v.epoch.place ≡ p)
 only_seen n v rests i p out = ⊎_elim (λ (m : Moves v i). let e : None ≡ Some (all_in i) = sym rests ∙ m in absurd cc)
@@ -40,11 +39,11 @@ only_seen n v rests i p out = ⊎_elim (λ (m : Moves v i). let e : None ≡ Som
 -- a participant that keeps its place and its owners, and has the same out
 pub still_mover : (v w : View) → w.stakes.moves ≡ v.stakes.moves → (HasPlace v.epoch → HasPlace w.epoch) → ((i : ℕ) → OwnsAlone v i → OwnsAlone w i)
     → ((i : ℕ) → 0 < items_at i v → 0 < items_at i w) → IsMover v → IsMover w
-still_mover v w same lives owns waits is = record {
-  moves = λ i m. let o = is.moves i (sym same ∙ m) in
-      (lives o.0, ⊎_elim (λ (a : OwnsAlone v i). inl (owns i a)) (λ (a : 0 < items_at i v). inr (waits i a)) o.1);
-  settles = λ i m. let o = is.settles i (sym same ∙ m) in (lives o.0, owns i o.1);
-}
+still_mover v w same lives owns waits is = (
+  (λ i m. let o = is.0 i (sym same ∙ m) in
+      (lives o.0, ⊎_elim (λ (a : OwnsAlone v i). inl (owns i a)) (λ (a : 0 < items_at i v). inr (waits i a)) o.1)),
+  (λ i m. let o = is.1 i (sym same ∙ m) in (lives o.0, owns i o.1)),
+)
 
 -- what lies at home as the slot's word says, whatever the word is called
 shown_as : (γ i n p x x' : ℕ) (y : Stake) → x' ≡ x → Has γ i (share n (alive x) p) (IsShown x) y → Has γ i (share n (alive x') p) (IsShown x') y

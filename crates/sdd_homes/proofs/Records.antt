@@ -16,6 +16,7 @@ use Rattle.sdd_rule.specs.Slots.{OwnsAlone, Sees}
 use Rattle.sdd_rule.specs.Sums.{times}
 use Rattle.sdd_rule.proofs.Frame.{each_set, each_snoc}
 use Rattle.sdd_rule.proofs.Sums.{is_same, is_other, both_set}
+use Rattle.sdd_rule.specs.Moves.{all_in}
 use Rattle.sdd_homes.specs.Homes.{Homes, LiesAt, Moves}
 use Rattle.sdd_homes.specs.Records.{slot_shown, IsIn, KnowsShown, IsKnown, IsTelling, RecordsPart}
 
@@ -117,7 +118,7 @@ module _ (sizes : Sizes) (vs : List View) (hs : Homes) (part : RecordsPart sizes
   -- a new token, which moves none, and sees none
   pub arrives : (t : View) → IsTelling t → ((i : ℕ) (g : Gv) → KnowsShown t i g → IsKnown vs i g) → t.stakes.moves ≡ None → t.slots.sees ≡ []
       → RecordsPart sizes (vs ++ t ∷ []) hs
-  arrives t tells known rests blind = let still : (i : ℕ) → ¬ (Moves t i) = λ i m. let e : None ≡ Some i = sym rests ∙ m in cc in
+  arrives t tells known rests blind = let still : (i : ℕ) → ¬ (Moves t i) = λ i m. let e : None ≡ Some (all_in i) = sym rests ∙ m in cc in
       kept_by (vs ++ t ∷ []) hs (each_snoc IsTelling vs t part.each tells)
       (λ i g k. ⊎_elim (λ (a : get_elem? vs k.0 ≡ some k.1). (k.0, k.1, a, k.3))
       (λ (e : t ≡ k.1). known i g (subst (λ (u : View). KnowsShown u i g) (sym e) k.3)) (at_snoc vs t k.1 k.0 k.2))

@@ -40,9 +40,10 @@ use Rattle.sdd_rule.proofs.SlotWords.{owner_in, owners_in}
 use Rattle.sdd_rule.proofs.Sums.{is_same, is_other, without_same, without_other, total_has, total_two}
 use Rattle.sdd_rule.proofs.Waits.{waits_once}
 use Rattle.sdd_witness.specs.Steps.{AllowsAlone, AllowsBeside, moved}
-use Rattle.sdd_homes.specs.Homes.{Carries, stake_at, share, Has, all_in, IsShown, Moves, Settles, IsOneOut, IsOut, NoneOut, LiesAt, HomesPart}
+use Rattle.sdd_rule.specs.Moves.{all_in}
+use Rattle.sdd_homes.specs.Homes.{Carries, stake_at, share, Has, IsShown, Moves, Settles, IsOneOut, IsOut, NoneOut, LiesAt, HomesPart}
 use Rattle.sdd_homes.specs.Housed.{Housed}
-use Rattle.sdd_homes.specs.HomeSteps.{Mine, HasAll, HasLast, IsValue, Purse, moving, settling, making, giving, resting, telling, untold, sighting, unsighted, ClaimsAll, Houses, TakesOut, TakesHeld, TakesLast, RetiresOne, GivesAll, DiscardsAll, Watches, IsRecalled, Recalls, ClosesHome, OfSlot}
+use Rattle.sdd_homes.specs.HomeSteps.{Mine, HasAll, HasLast, IsValue, Purse, moving, settling, making, giving, resting, telling, untold, sighting, unsighted, ClaimsAll, Houses, TakesOut, TakesHeld, TakesLast, RetiresOne, GivesAll, DiscardsAll, Watches, Recalls, ClosesHome, OfSlot}
 use Rattle.sdd_homes.specs.Records.{IsIn, KnowsShown, IsKnown, IsTelling, RecordsPart}
 use Rattle.sdd_homes.specs.Counts.{ended_places}
 use Rattle.sdd_homes.specs.Fillings.{FilledPart}
@@ -72,15 +73,15 @@ module _ (γ : ℕ) (sizes : Sizes) (s : State Stake View) (h : Housed γ sizes 
   still_free j u e dead quiet m = ⊎_elim
       (λ (o : OwnsAlone u i). let g = ((h.kept.parts.slots.each j u e).alone i o).0 in absurd (omega arith))
       (λ (o : 0 < items_at i u). let t = total_has (items_at i) s.views j u e in let w = h.kept.parts.slots.waited i in absurd (omega arith))
-      ((h.homes.moving j u e).moves i m).1
+      ((h.homes.moving j u e).0 i m).1
 
   -- nobody takes an owner's unit home to a slot without owners
   pub unsettled : (j : ℕ) (u : View) → get_elem? s.views j ≡ some u → alive (slot_at sizes s.words i) ≡ 0 → ¬ (Settles u i)
-  unsettled j u e dead l = let o = ((h.homes.moving j u e).settles i l).1 in let g = ((h.kept.parts.slots.each j u e).alone i o).0 in omega arith
+  unsettled j u e dead l = let o = ((h.homes.moving j u e).1 i l).1 in let g = ((h.kept.parts.slots.each j u e).alone i o).0 in omega arith
 
   -- where a participant has the only owner, none else does
   unsettled_owned : (id j : ℕ) (v u : View) → get_elem? s.views id ≡ some v → get_elem? s.views j ≡ some u → id ≢ j → OwnsAlone v i → ¬ (Settles u i)
-  unsettled_owned id j v u at e ne own l = let o = ((h.homes.moving j u e).settles i l).1 in let a = ((h.kept.parts.slots.each id v at).alone i own).0 in
+  unsettled_owned id j v u at e ne own l = let o = ((h.homes.moving j u e).1 i l).1 in let a = ((h.kept.parts.slots.each id v at).alone i own).0 in
       let both = owners_in codes sound sizes s.words s.views h.kept.parts.slots id j i v u ne at e in omega arith
 
   -- where a participant has an owner, or an item that waits, none else moves the value
@@ -90,7 +91,7 @@ module _ (γ : ℕ) (sizes : Sizes) (s : State Stake View) (h : Housed γ sizes 
       (λ (o : OwnsAlone u i). let g = ((h.kept.parts.slots.each j u e).alone i o).0 in
       let both = owners_in codes sound sizes s.words s.views h.kept.parts.slots id j i v u ne at e in absurd (omega arith))
       (λ (o : 0 < items_at i u). let t = total_has (items_at i) s.views j u e in let w = h.kept.parts.slots.waited i in absurd (omega arith))
-      ((h.homes.moving j u e).moves i m).1
+      ((h.homes.moving j u e).0 i m).1
 
   still_waiting : (id j : ℕ) (v u : View) → get_elem? s.views id ≡ some v → get_elem? s.views j ≡ some u → id ≢ j → 0 < items_at i v → ¬ (Moves u i)
   still_waiting id j v u at e ne waits m = let t = total_has (items_at i) s.views id v at in let w = h.kept.parts.slots.waited i in
@@ -98,7 +99,7 @@ module _ (γ : ℕ) (sizes : Sizes) (s : State Stake View) (h : Housed γ sizes 
       (λ (o : OwnsAlone u i). let g = ((h.kept.parts.slots.each j u e).alone i o).0 in let l = (sound.lives (slot_at sizes s.words i) (omega arith)).0 in
       absurd (omega arith))
       (λ (o : 0 < items_at i u). let both = total_two (items_at i) s.views id j v u ne at e in absurd (omega arith))
-      ((h.homes.moving j u e).moves i m).1
+      ((h.homes.moving j u e).0 i m).1
 
 -- the own place hasn't ended
 pub own_place : (γ : ℕ) (sizes : Sizes) (id : ℕ) (v : View) → HasPlace v.epoch → (y : ℕ) (s : State Stake View) → Housed γ sizes s
@@ -224,11 +225,11 @@ module _ (slots id : ℕ) (me : Mine) (live : HasPlace me.0.epoch) where
           valid = tk.valid;
           homes = part.takes γ sizes s.words s.views s.homes h.homes id v at slot 0 IsVacant me.1 tk (set s.words i (owned_word 0)) now refl
               (λ j p _. still_seen now rests refl refl j p) (others s.words (owned_word 0))
-              record {
-                moves = λ j m. let e : j ≡ slot = one_moved now slot j refl m in let one = is_same slot slot refl in
-                    (live, inl (subst (λ (k : ℕ). 0 < times k (slot ∷ v.slots.owns)) (sym e) (omega arith)));
-                settles = λ j l. absurd (settles_only now j slot l refl);
-              };
+              (
+                (λ j m. let e : j ≡ slot = one_moved now slot j refl m in let one = is_same slot slot refl in
+                    (live, inl (subst (λ (k : ℕ). 0 < times k (slot ∷ v.slots.owns)) (sym e) (omega arith)))),
+                (λ j l. absurd (settles_only now j slot l refl)),
+              );
           records = records.comes_to_move sizes s.views s.homes h.records id v at slot now (homes_after s.homes me.1 tk.act)
               (claimed_tells v (h.records.each id v at) slot rests
               (λ o. let a = ((h.kept.parts.slots.each id v at).alone slot o).0 in omega arith) (owned_word 0))
@@ -310,11 +311,11 @@ module _ (slots id : ℕ) (me : Mine) (live : HasPlace me.0.epoch) where
           stands_by γ sizes id v s h at t same (homes_after s.homes me.1 tk.act)
               (part.takes γ sizes s.words s.views s.homes h.homes id v at slot o IsFull me.1 tk s.words w is
               (λ j p _. still_seen w rests refl refl j p) (λ j _ _. refl)
-              record {
-                moves = λ j m. let e : slot ≡ j = sym (one_moved w slot j is m) in
-                    (live, subst (λ (k : ℕ). OwnsAlone v k ⊎ (0 < items_at k v)) e may);
-                settles = λ j l. absurd (settles_only w j slot l is);
-              })
+              (
+                (λ j m. let e : slot ≡ j = sym (one_moved w slot j is m) in
+                    (live, subst (λ (k : ℕ). OwnsAlone v k ⊎ (0 < items_at k v)) e may)),
+                (λ j l. absurd (settles_only w j slot l is)),
+              ))
               (records.comes_to_move sizes s.views s.homes h.records id v at slot w (homes_after s.homes me.1 tk.act) tells
               (λ j g k. records.mine sizes s.views s.homes h.records id v at j g (known j g k))
               (λ j p y _ near l. (taken_lies γ n slot o IsFull s.homes me.1 tk j p y near l).1) refl (λ j m. one_moved w slot j is m) unseen)
@@ -456,15 +457,15 @@ module _ (slots id : ℕ) (me : Mine) (live : HasPlace me.0.epoch) where
           stands_by γ sizes id v s h at w.stakes refl (set s.homes spot none)
               (part.takes_one γ sizes s.words s.views s.homes h.homes id v at slot n (omega arith) w (inr (inr (refl, refl)))
               (still_seen w rests refl refl)
-              record {
-                moves = λ j m. absurd (settles_only w slot j refl m);
-                settles = λ j l. (live, subst (OwnsAlone v) (sym (one_settled w slot j refl l)) own);
-              })
+              (
+                (λ j m. absurd (settles_only w slot j refl m)),
+                (λ j l. (live, subst (OwnsAlone v) (sym (one_settled w slot j refl l)) own)),
+              ))
               (records.no_more sizes s.views s.homes r id v at w (set s.homes spot none) (settling_tells v (r.each id v at) slot rests)
               mine (λ j p z _ _ lies. inl (one_taken s.homes spot (stake_at n j p) z lies))
               (λ j m. absurd (settles_only w slot j refl m)) (λ j a. a))
               (still_filled s h at w refl refl),
-          (λ value told. (refl, refl, it value told, refl)),
+          (λ value told. (refl, (refl, it value told, refl))),
         )
 
     -- retire the item, whose last stake goes home with its owner's unit

@@ -22,7 +22,8 @@ use Rattle.sdd_rule.proofs.Codes.{sound}
 use Rattle.sdd_rule.proofs.SlotWords.{owners_in}
 use Rattle.sdd_rule.proofs.Sums.{is_same, is_other, without_same, without_other, total_has}
 use Rattle.sdd_rule.specs.declared.Move.{Move}
-use Rattle.sdd_homes.specs.Homes.{Carries, share, Has, all_in, last_in, Moves, Settles, LiesAt}
+use Rattle.sdd_rule.specs.Moves.{all_in, last_in}
+use Rattle.sdd_homes.specs.Homes.{Carries, share, Has, Moves, Settles, LiesAt}
 use Rattle.sdd_homes.specs.Housed.{Housed}
 use Rattle.sdd_homes.specs.HomeSteps.{moving, settling, making, resting, telling, untold}
 use Rattle.sdd_homes.specs.Records.{slot_shown, IsIn, IsKnown, IsTelling, RecordsPart}
@@ -136,7 +137,7 @@ module _ (v : View) (t : IsTelling v) (slot : ℕ) where
         → ¬ (OwnsAlone w slot) → w.slots.sees ≡ v.slots.sees → IsTelling w
     rested_tells w is same never seen = record {
       owns = λ i g h. let o = t.owns i g (subst (λ (k : StakesView). IsIn k.owns i g) is h) in let b = o.0 in
-          let e = same i (λ e. o.1 (mine ∙ ap Some (sym e))) in (
+          let e = same i (λ e. o.1 (mine ∙ ap (λ (k : ℕ). Some (all_in k)) (sym e))) in (
             let l : OwnsAlone w i = omega arith in l,
             none_moved w i (ap (λ (k : StakesView). k.moves) is),
           );

@@ -181,7 +181,7 @@ module _ (γ : ℕ) (sizes : Sizes) where
             (part.calm γ sizes s.words s.views s.homes h.homes id v at s.words w (λ i p out. out) (λ i _. refl) (none_out w rests))
             other t there s.words t' (λ i p out. absurd (nothing_out sizes.participants t refl refl i p out)) (λ i _. refl) (none_out t' refl);
         records = records.no_more sizes vs s.homes came other t there t' s.homes (telling_none t' refl refl refl refl)
-            (λ i g k. absurd (knows_none t' refl refl i g k)) (λ i p y _ _ l. inl l) (none_out t' refl)
+            (λ i g k. absurd (knows_none t' refl refl i g k)) (λ i p y _ _ l. inl l) (λ i m. absurd (none_moved t' i refl m))
             (λ i a. absurd (omega arith));
         counts = uncounted_alone sizes s.words vs (uncounted_alone sizes s.words s.views h.counts id v at w refl refl) other t there t' refl refl;
         filled = filled_after sizes vs (filled_after sizes s.views h.filled id v at w refl (come_in s.views now other id t v was at refl) (λ _ live. inl live))
@@ -265,11 +265,11 @@ module _ (γ : ℕ) (sizes : Sizes) where
       → (y : Stake) × LiesAt sizes.participants s.homes i p y
       × Has γ i (share sizes.participants (alive (slot_at sizes s.words i)) p) (IsShown (slot_at sizes s.words i)) y
   all_home s h id v at all i p low near = let b = h.homes.back i p low near (λ j u e out. no_place s h id v at all j u e (⊎_elim
-      (λ (m : Moves u i). ((h.homes.moving j u e).moves i m).0)
+      (λ (m : Moves u i). ((h.homes.moving j u e).0 i m).0)
       (λ (a : IsOneOut sizes.participants u i p). ⊎_elim
       (λ (o : Sees u i × (u.epoch.place ≡ p)). let open_guard = (h.kept.parts.slots.each j u e).guarded i o.0 in
       let live : HasPlace u.epoch = omega arith in live)
-      (λ (l : Settles u i × (p ≡ sizes.participants)). ((h.homes.moving j u e).settles i l.0).0) a) out)) in
+      (λ (l : Settles u i × (p ≡ sizes.participants)). ((h.homes.moving j u e).1 i l.0).0) a) out)) in
       (b.0, b.1, h.homes.home i p b.0 low near b.1)
 
   -- where a token counts all places, what was made has gone, or lies in a slot

@@ -8,13 +8,14 @@ use Rattle.sdd_rule.specs.declared.Showing.{Showing}
 use Rattle.sdd_rule.specs.declared.CountsView.{CountsView}
 use Rattle.sdd_rule.specs.declared.View.{View}
 use Rattle.sdd_rule.specs.SlotSteps.{behind, Knew, claimed, discarded, seeing, first, parted, joined, Retires, ClosesAll, GivesBack}
+use Rattle.sdd_rule.specs.Moves.{all_in, last_in}
 use Rattle.sdd_rule.specs.Parts.{owner_token, at_rest, no_counts}
 use Rattle.sdd_rule.specs.Steps.{ended}
 use Rattle.sdd_rule.specs.Words.{slot_word}
 use Rattle.sdd_rule.specs.Codes.{alive}
 use Rattle.sdd_rule.specs.Epoch.{IsLone}
 use Rattle.sdd_rule.specs.Slots.{Sees}
-use Rattle.sdd_homes.specs.Homes.{Carries, stake_at, share, Has, all_in, last_in}
+use Rattle.sdd_homes.specs.Homes.{Carries, stake_at, share, Has}
 use Rattle.sdd_homes.specs.Records.{IsIn}
 use Rattle.sdd_homes.specs.Fillings.{newest}
 

@@ -10,10 +10,10 @@ use Rattle.core.specs.Mem.Slots.{slots_items, slots_filled, slots_len}
 use Rattle.atomic_table.specs.declared.owned.Closed.{Closed}
 use Rattle.sdd_stakes.specs.Shelf.{IsFull, IsVacant, most, lot}
 use Rattle.sdd_stakes.specs.declared.stake.Stake.{Stake}
-use Rattle.sdd_rule.specs.declared.Move.{Move}
 use Rattle.sdd_rule.specs.declared.View.{View}
 use Rattle.sdd_rule.specs.declared.Sizes.{Sizes}
 use Rattle.sdd_rule.specs.Codes.{alive, full}
+use Rattle.sdd_rule.specs.Moves.{all_in, last_in}
 use Rattle.sdd_rule.specs.Epoch.{HasPlace}
 use Rattle.sdd_rule.specs.Slots.{slot_at, items_at, OwnsAlone, Sees}
 
@@ -45,13 +45,6 @@ Has γ i units Is y = (y.lot ≡ lot γ i y.lot.round y.lot.shown units) × Is y
 abbrev pub IsShown : ℕ → Gv → Type 0
 IsShown x g = (full x ≡ 1 → IsFull g) × (full x ≡ 0 → IsVacant g)
 
--- all stakes in the slot i, and the last one alone
-abbrev pub all_in : ℕ → Move
-all_in i = record { slot = i; whole = true }
-
-abbrev pub last_in : ℕ → Move
-last_in i = record { slot = i; whole = false }
-
 -- it moves the value of the slot i, in or out
 abbrev pub Moves : View → ℕ → Type 0
 Moves v i = v.stakes.moves ≡ Some (all_in i)
@@ -73,9 +66,9 @@ abbrev pub NoneOut : ℕ → List View → ℕ → ℕ → Type 0
 NoneOut n vs i p = (j : ℕ) (v : View) → get_elem? vs j ≡ some v → ¬ (IsOut n v i p)
 
 -- who moves a value has a place, and owns it alone, or its item waits with it; who takes an owner's unit home has a place and is the owner
-pub record IsMover (v : View) : Type 0 where
-  pub moves : (i : ℕ) → Moves v i → HasPlace v.epoch × (OwnsAlone v i ⊎ (0 < items_at i v))
-  pub settles : (i : ℕ) → Settles v i → HasPlace v.epoch × OwnsAlone v i
+abbrev pub IsMover : View → Type 0
+IsMover v = ((i : ℕ) → Moves v i → HasPlace v.epoch × (OwnsAlone v i ⊎ (0 < items_at i v)))
+    × ((i : ℕ) → Settles v i → HasPlace v.epoch × OwnsAlone v i)
 
 -- the p-th stake in the slot i is at home, and it is this one
 abbrev pub LiesAt : ℕ → Homes → ℕ → ℕ → Stake → Type 0

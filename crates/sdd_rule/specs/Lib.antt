@@ -6,4 +6,5 @@ pub mod Slots
 pub mod Steps
 pub mod SlotSteps
 pub mod Ended
+pub mod Moves
 pub mod Parts
