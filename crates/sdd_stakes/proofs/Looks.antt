@@ -6,7 +6,7 @@ use lib.ListN.{get_elem?}
 use seplogic.Ra.Ura.{Ura}
 use base.Stored.{Gv, gnil, gnum, coded×, coded_ℕ}
 use base.Logic.{SProp, ent, sep, wand, ex, all, guard, upd, upd_i, apply∗, all_e}
-use base.Fml.{Lft, Fml, flft, finv}
+use base.Fml.{Lft, Share, Fml, flft, finv}
 use types.Logic.{Logic, sem}
 use types.Kit.{‵, raw, ◌⊛◌, some as exists, given, later, ◌$◌, ◌∵◌, !, qed, by, move, keep, frame, each, assume, use1, use2, use3, split, fsplit, fjoin, fpick, fpack, pick, learn, check, show, suffices, rewrite, updating, await, now, done}
 use denote.RattleType.{RattleType}
@@ -15,8 +15,8 @@ use denote.Sharing.{ShrLaws, one}
 use denote.SharingLaws.{contraction, one_shr_laws}
 use denote.Struct.Lending.{lent_at}
 use Rattle.atomic_table.specs.Seated.{itself}
-use Rattle.sdd_token.specs.Units.{units}
-use Rattle.sdd_token.proofs.Steps.{apart_at, Meets}
+use Rattle.sdd_token.specs.Units.{share_of, units}
+use Rattle.sdd_token.proofs.Steps.{agreed, packs, apart_at, Meets}
 use Rattle.sdd_places.specs.Block.{IsFreeFor, lasts_in}
 use Rattle.sdd_stakes.specs.Stakes.{Lot, unlent, settled, AllFreeFor, agreed_on, part, lent_out, tokens_of, holding, purse, tenure_shares}
 use Rattle.sdd_stakes.specs.Shelf.{full_shown, IsFull, state, rule}
@@ -87,30 +87,50 @@ module _ {M : Type 1} {𝓤 : Ura M} (𝓛 : Logic 𝓤) where
     abbrev pub Told : ℕ → Gv → Fml → X → Pr
     Told a g S x = guard 𝓤 (g ≡ full_shown (R.coded.code x)) (⟦ lent_at R p x (a ∷ []) ⟧ ∗ ⟦ S ⟧)
 
-    other : (a b : ℕ) (g w : Gv) (n : ℕ) → IsFull g → (IsFull w → ⊥) → (Z : Pr) → ⟦ part γ i b w 1 ⟧ ∗ ⟦ U a g n ⟧ ⊢ Z
-    other a b g w n full not_full Z = qed 𝓛 (‵ (part γ i b w 1) ∷ ‵ (U a g n) ∷ []) ∵ fsplit ! $ move ! (0 ∷ 2 ∷ []) $
-        use2 𝓛 (given (Meets (agreed_on b w) (agreed_on a g) 1 n) (‵ (U b w 1) ⊛ ‵ (U a g n))) (apart_at 𝓛 γ i (agreed_on b w) (agreed_on a g) 1 n) $
-        learn ! (λ met.
-        absurd (not_full (subst IsFull (let same = (coded× coded_ℕ itself).inj (b, w) (a, g) met.values in sym (λ j. (same j).1)) full)))
+    -- what has part in the place's number agrees with the place on what they show, and is kept
+    abbrev Agrees : ℕ → Gv → Fml → Type 1
+    Agrees a g S = (b : ℕ) (w : Gv) → ⟦ U b w 1 ⟧ ∗ ⟦ S ⟧ ⊢ guard 𝓤 (agreed_on b w ≡ agreed_on a g) (⟦ U b w 1 ⟧ ∗ ⟦ S ⟧)
 
-    looks_in : (a : ℕ) (g : Gv) (n : ℕ) → IsFull g → (v : Option (Option (ℕ × X))) → ⟦ st v ⟧ ∗ ⟦ U a g n ⟧ ⊢ upd 𝓤 (⟦ I ⟧ ∗ ex 𝓤 (Told a g (U a g n)))
-    looks_in a g n full None = qed 𝓛 (‵ (st None) ∷ ‵ (U a g n) ∷ []) ∵ fpick ! (λ b. by ! (other a b g (gnum 0) n full (λ z. z) _))
-    looks_in a g n full (Some None) = qed 𝓛 (‵ (st (Some None)) ∷ ‵ (U a g n) ∷ []) ∵ fpick ! (λ b. fsplit ! $ keep ! (0 ∷ 2 ∷ []) $
-        by ! (other a b g gnil n full (λ z. z) _))
-    looks_in a g n full (Some (Some v)) = let b : ℕ = v.0 in let x : X = v.1 in let w : Gv = full_shown (R.coded.code x) in
-        let Z : Pr = ⟦ I ⟧ ∗ ex 𝓤 (Told a g (U a g n)) in
-        qed 𝓛 (‵ (st (Some (Some v))) ∷ ‵ (U a g n) ∷ []) ∵ fsplit ! $ fsplit ! $ move ! (0 ∷ 3 ∷ []) $
+    units_agree : (a : ℕ) (g : Gv) (n : ℕ) → Agrees a g (U a g n)
+    units_agree a g n b w = qed 𝓛 (‵ (U b w 1) ∷ ‵ (U a g n) ∷ []) ∵
         use2 𝓛 (given (Meets (agreed_on b w) (agreed_on a g) 1 n) (‵ (U b w 1) ⊛ ‵ (U a g n))) (apart_at 𝓛 γ i (agreed_on b w) (agreed_on a g) 1 n) $
-        learn ! (λ met.
-        let same = (coded× coded_ℕ itself).inj (b, w) (a, g) met.values in split ! $ move ! (3 ∷ []) $ fsplit ! $
-        use1 𝓛 (‵ (lent_at R p x (b ∷ [])) ⊛ ‵ (lent_at R p x (b ∷ []))) (contraction 𝓛 (lent_at R p x) (laws x) (b ∷ [])) $ split ! $ move ! (1 ∷ 2 ∷ []) $
-        fjoin ! $
-        move ! (2 ∷ 4 ∷ []) $ fjoin ! $ move ! (0 ∷ 1 ∷ []) $ fjoin ! $ fpack ! (Option (Option (ℕ × X))) st (Some (Some v)) $ suffices ! _ (upd_i 𝓤 Z) $
-        frame ! $
-        show ! (Told a g (U a g n)) x $ check ! (sym (λ j. (same j).1)) $ rewrite ! 0 (λ (m : ℕ). ‵ (lent_at R p x (m ∷ []))) (λ j. (same j).0) refl $ done !)
+        learn ! (λ met. check ! met.values $ split ! $ done !)
+
+    share_agrees : (a : ℕ) (g : Gv) (q : Share) → Agrees a g (share_of γ i (agreed_on a g) q)
+    share_agrees a g q b w = let s : Gv → Share → Fml = share_of γ i in qed 𝓛 (‵ (U b w 1) ∷ ‵ (s (agreed_on a g) q) ∷ []) ∵ fpick ! (λ r. fpick ! (λ c.
+        use2 𝓛 (given (agreed_on b w ≡ agreed_on a g) (‵ (s (agreed_on b w) r) ⊛ ‵ (s (agreed_on a g) q)))
+        (agreed 𝓛 γ i (agreed_on b w) (agreed_on a g) r q) $ learn ! (λ same. check ! same $ split ! $
+        use1 𝓛 (‵ (U b w 1)) (packs 𝓛 γ i (agreed_on b w) 1 r c) $ done !)))
+
+    module _ (a : ℕ) (g : Gv) (S : Fml) (full : IsFull g) (agrees : Agrees a g S) where
+      other : (b : ℕ) (w : Gv) → (IsFull w → ⊥) → (Z : Pr) → ⟦ part γ i b w 1 ⟧ ∗ ⟦ S ⟧ ⊢ Z
+      other b w not_full Z = qed 𝓛 (‵ (part γ i b w 1) ∷ ‵ S ∷ []) ∵ fsplit ! $ move ! (0 ∷ 2 ∷ []) $
+          use2 𝓛 (given (agreed_on b w ≡ agreed_on a g) (‵ (U b w 1) ⊛ ‵ S)) (agrees b w) $ learn ! (λ met.
+          absurd (not_full (subst IsFull (let same = (coded× coded_ℕ itself).inj (b, w) (a, g) met in sym (λ j. (same j).1)) full)))
+
+      looks_in : (v : Option (Option (ℕ × X))) → ⟦ st v ⟧ ∗ ⟦ S ⟧ ⊢ upd 𝓤 (⟦ I ⟧ ∗ ex 𝓤 (Told a g S))
+      looks_in None = qed 𝓛 (‵ (st None) ∷ ‵ S ∷ []) ∵ fpick ! (λ b. by ! (other b (gnum 0) (λ z. z) _))
+      looks_in (Some None) = qed 𝓛 (‵ (st (Some None)) ∷ ‵ S ∷ []) ∵ fpick ! (λ b. fsplit ! $ keep ! (0 ∷ 2 ∷ []) $ by ! (other b gnil (λ z. z) _))
+      looks_in (Some (Some v)) = let b : ℕ = v.0 in let x : X = v.1 in let w : Gv = full_shown (R.coded.code x) in
+          let Z : Pr = ⟦ I ⟧ ∗ ex 𝓤 (Told a g S) in
+          qed 𝓛 (‵ (st (Some (Some v))) ∷ ‵ S ∷ []) ∵ fsplit ! $ fsplit ! $ move ! (0 ∷ 3 ∷ []) $
+          use2 𝓛 (given (agreed_on b w ≡ agreed_on a g) (‵ (U b w 1) ⊛ ‵ S)) (agrees b w) $ learn ! (λ met.
+          let same = (coded× coded_ℕ itself).inj (b, w) (a, g) met in split ! $ move ! (3 ∷ []) $ fsplit ! $
+          use1 𝓛 (‵ (lent_at R p x (b ∷ [])) ⊛ ‵ (lent_at R p x (b ∷ []))) (contraction 𝓛 (lent_at R p x) (laws x) (b ∷ [])) $ split ! $
+          move ! (1 ∷ 2 ∷ []) $ fjoin ! $
+          move ! (2 ∷ 4 ∷ []) $ fjoin ! $ move ! (0 ∷ 1 ∷ []) $ fjoin ! $ fpack ! (Option (Option (ℕ × X))) st (Some (Some v)) $ suffices ! _ (upd_i 𝓤 Z) $
+          frame ! $
+          show ! (Told a g S) x $ check ! (sym (λ j. (same j).1)) $ rewrite ! 0 (λ (m : ℕ). ‵ (lent_at R p x (m ∷ []))) (λ j. (same j).0) refl $ done !)
+
+      looks_by : A.inv I ∗ ⟦ S ⟧ ⊢ H.⇛ (ex 𝓤 (Told a g S))
+      looks_by = inside ⟦ S ⟧ (ex 𝓤 (Told a g S)) looks_in
 
     pub looks : (a : ℕ) (g : Gv) (n : ℕ) → IsFull g → A.inv I ∗ ⟦ U a g n ⟧ ⊢ H.⇛ (ex 𝓤 (Told a g (U a g n)))
-    looks a g n full = inside ⟦ U a g n ⟧ (ex 𝓤 (Told a g (U a g n))) (looks_in a g n full)
+    looks a g n full = looks_by a g (U a g n) full (units_agree a g n)
+
+    pub looks_at_share : (a : ℕ) (g : Gv) (q : Share) → IsFull g →
+        A.inv I ∗ ⟦ share_of γ i (agreed_on a g) q ⟧ ⊢ H.⇛ (ex 𝓤 (Told a g (share_of γ i (agreed_on a g) q)))
+    looks_at_share a g q full = looks_by a g (share_of γ i (agreed_on a g) q) full (share_agrees a g q)
 
     -- the token of the round is lent now, or was
     lends_on : (τ : ℕ) (l : Option ℕ) (a n : ℕ) → IsFreeFor τ l → ⟦ tokens_of l a n ⟧ ⊢ H.⇛ ⟦ lent_out τ a n ⟧

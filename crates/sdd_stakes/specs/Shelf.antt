@@ -12,6 +12,7 @@ use denote.RawPtr.{Ptr, block_ptr, block_of, count_of, InBlock, lies_at, room_fo
 use denote.Sharing.{said}
 use denote.Struct.Lending.{lent_at}
 use Rattle.atomic_table.specs.Seated.{fact}
+pub use Rattle.sdd_token.specs.Grip.{IsFull}
 use Rattle.sdd_places.specs.Block.{IsFreeFor}
 use Rattle.sdd_stakes.specs.Stakes.{Lot, part}
 use Rattle.sdd_stakes.specs.Seats.{lots, with_lots}
@@ -28,11 +29,6 @@ full_shown g = gcons gnil g
 -- the code of a value: it lies in the place
 abbrev pub showing : (R : RattleType) → R.Denot → Gv
 showing R x = full_shown (R.coded.code x)
-
-abbrev pub IsFull : Gv → Type 0
-IsFull gnil = ⊥
-IsFull (gnum n) = ⊥
-IsFull (gcons a b) = Unit {0}
 
 abbrev pub IsVacant : Gv → Type 0
 IsVacant g = g ≡ vacant

@@ -1,10 +1,11 @@
 -- What a stake and a tenure own.
 use Rattle.std.specs.Prelude.{ℕ, Option, None, Some, List, [], ◌∷◌}
 use base.FractionLaws.{Counts}
-use base.Stored.{Gv, gnum, gcons, Coded, coded×, coded_ℕ, coded_list, coded_via}
+use base.Stored.{Gv, Coded, coded×, coded_ℕ, coded_list, coded_via}
 use base.Fml.{Lft, Share, Fml, ftrue, fsep, fex, flent, flft}
 use denote.Sharing.{one}
 use Rattle.sdd_token.specs.Units.{units, tokens, gv_coded}
+pub use Rattle.sdd_token.specs.Grip.{agreed_on}
 use Rattle.sdd_places.specs.Block.{stake_coded, IsFreeFor, lasts_in}
 
 -- what a stake is: units of a number of a book, the round that they agree on, what they show, and the tenure that they are lent to, if any
@@ -23,10 +24,6 @@ lot_coded = coded_via (coded× coded_ℕ (coded× coded_ℕ (coded× coded_ℕ (
 
 abbrev pub lots_coded : Coded (List Lot)
 lots_coded = coded_list lot_coded
-
--- the units of a number agree on a round and on what they show
-abbrev pub agreed_on : ℕ → Gv → Gv
-agreed_on a g = gcons (gnum a) g
 
 -- n units of the number i of the book γ, with as many of the round's token
 abbrev pub part : ℕ → ℕ → ℕ → Gv → ℕ → Fml

@@ -9,6 +9,7 @@ use crate::stock::Stock;
 use crate::title::Title;
 use atomic_table::{Seat, Shared, TableRule};
 use sdd_places::{Hold, Room, Tenure};
+use sdd_token::Grip;
 use std::alloc::{AllocError, Allocator};
 use std::marker::{Model, PhantomData};
 use std::mem::{align_of, size_of};
@@ -106,6 +107,17 @@ impl<T> Shelf<T> {
         let _ = seat;
         let _ = table;
         let _ = tenure;
+        unsafe { &*self.ptr.add(at) }
+    }
+
+    /// The value of a full place, for as long as the grip of its owner is borrowed. No guard is asked for.
+    pub fn view<'a>(&'a self, at: usize, grip: &'a Grip) -> &'a T
+        requires inside { at < self.now.size }
+        requires book { grip.now.book ≡ self.now.book }
+        requires number { grip.now.number ≡ at }
+        ensures value { grip.now.shown ≡ showing T.row result.now }
+    {
+        let _ = grip;
         unsafe { &*self.ptr.add(at) }
     }
 

@@ -3,7 +3,7 @@ ghost use Rattle.std.specs.Prelude.{◌≡◌, ◌+◌, ◌-◌, ◌<◌, ◌≤
 ghost use Rattle.sdd_stakes.specs.Stakes.{Lot, lot_coded, holding};
 
 use crate::stock::Stock;
-use sdd_token::WHOLE;
+use sdd_token::{Grip, WHOLE};
 use std::marker::{Model, PhantomData};
 
 const _: () = prove!(size_of::<Stake>() == 0);
@@ -19,6 +19,9 @@ impl Model for Stake {
 }
 
 impl Stake {
+    ghost use Rattle.sdd_stakes.specs.Shelf.{IsFull};
+    ghost use Rattle.sdd_stakes.specs.Grips.{lot_of};
+
     /// Some units, as a stake of their own. At least one stays.
     pub fn split(&mut self, units: u64) -> Stake
         requires some { 0 < units }
@@ -50,6 +53,25 @@ impl Stake {
     {
         let Stake { of: _ } = self;
         let _ = stock;
+    }
+
+    /// One unit of a full place's number, as its owner's grip.
+    pub fn into_grip(self) -> Grip
+        requires full { IsFull self.lot.shown }
+        requires one { self.lot.units ≡ 1 }
+        requires free { self.lot.lent ≡ None }
+        ensures { lot_of result ≡ self.lot }
+    {
+        let Stake { of: _ } = self;
+        Grip { of: PhantomData }
+    }
+
+    /// An owner's grip, as the unit that it is.
+    pub fn of_grip(grip: Grip) -> Stake
+        ensures { result.lot ≡ lot_of grip }
+    {
+        let Grip { of: _ } = grip;
+        Stake { of: PhantomData }
     }
 }
 

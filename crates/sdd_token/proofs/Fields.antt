@@ -1,4 +1,4 @@
--- The data fields of a `Book` and a `Part`. Assumes `Logic`.
+-- The data fields of a `Book`, a `Part` and a `Grip`. Assumes `Logic`.
 use Rattle.std.proofs.Common.{◌≡◌, List, [], ◌∷◌, ◌++◌, refl, ap, ◌∙◌}
 use seplogic.Ra.Ura.{Ura}
 use mir.Val.{Val, vstruct, vnil, of_list}
@@ -12,6 +12,7 @@ use denote.Struct.Owning.{shape}
 use Rattle.atomic_table.proofs.Fields.{token_val}
 use Rattle.sdd_token.specs.contracts.part.Part as part
 use Rattle.sdd_token.specs.contracts.part.Book as book
+use Rattle.sdd_token.specs.contracts.grip.Grip as grip
 
 module _ (U : RattleType) where
   abbrev pub Pin : RattleType
@@ -30,3 +31,13 @@ module _ (U : RattleType) where
   pub cover_made : {M : Type 1} {𝓤 : Ura M} (𝓛 : Logic 𝓤) → ent 𝓤 (emp 𝓤) (sem 𝓛 (Cover.own_val (tt, tt) (token_val ∷ [])))
   cover_made 𝓛 = makes_shadow 𝓛 (Cover.own_val (tt, tt) (token_val ∷ [])) (λ vss. (tt, ((λ uss. (tt, tt)), tt)))
       ((vstruct vnil ∷ [], tt), (refl, ((tt, (refl, tt)), tt)))
+
+abbrev pub Hilt : RattleType
+Hilt = Struct (shape grip.the_type)
+
+pub hilt_made : {M : Type 1} {𝓤 : Ura M} (𝓛 : Logic 𝓤) → ent 𝓤 (emp 𝓤) (sem 𝓛 (Hilt.own_val (tt, tt) (token_val ∷ [])))
+hilt_made 𝓛 = makes_shadow 𝓛 (Hilt.own_val (tt, tt) (token_val ∷ [])) (λ vss. (tt, ((λ uss. (tt, tt)), tt)))
+    ((vstruct vnil ∷ [], tt), (refl, ((tt, (refl, tt)), tt)))
+
+pub hilt_told : (vs : List Val) → Is Hilt (tt, tt) vs → vs ≡ token_val ∷ []
+hilt_told vs is = is.1.0 ∙ ap (λ (ws : List Val). vstruct (of_list (ws ++ [])) ∷ []) is.1.1.0.1.0

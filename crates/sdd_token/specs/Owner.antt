@@ -1,7 +1,7 @@
 -- What a right to a slot of a domain shows: the token of the slot's owner
 use Rattle.std.specs.Prelude.{ℕ, ◌≡◌, ◌≢◌, Bool, List, [], ◌∷◌}
-use Rattle.std.proofs.Common.{sym, ◌∙◌, ap}
-use mathlib.Core.HLevel.{Σ_prop_path, →_prop}
+use Rattle.std.proofs.Common.{ap}
+use mathlib.Core.HLevel.{→_prop}
 use base.Stored.{Gv, gnil, Coded-set, coded_list}
 use Rattle.atomic_table.specs.Seated.{itself}
 use Rattle.sdd_rule.specs.declared.View.{View}
@@ -13,13 +13,9 @@ use Rattle.sdd_rule.specs.Parts.{owner_of}
 abbrev pub witness_of_owner : ℕ → Bool → Gv → List Gv
 witness_of_owner slot shared shown = the_row.coded.code (owner_of slot shared shown) ∷ []
 
--- they are those of some owner of the slot
-abbrev pub IsOwners : ℕ → Bool → List Gv → Type 0
-IsOwners slot shared views = (shown : Gv) × (views ≡ witness_of_owner slot shared shown)
-
--- where there are any, they are
-abbrev pub AreOwners : ℕ → Bool → List Gv → Type 0
-AreOwners slot shared views = views ≢ [] → IsOwners slot shared views
+-- where there are any, they are those
+abbrev pub AreOf : ℕ → Bool → Gv → List Gv → Type 0
+AreOf slot shared shown views = views ≢ [] → views ≡ witness_of_owner slot shared shown
 
 abbrev first_code : List Gv → Gv
 first_code [] = gnil
@@ -34,9 +30,5 @@ pub one-shown : (slot : ℕ) (shared : Bool) (g h : Gv) → witness_of_owner slo
 one-shown slot shared g h e =
     ap (λ (v : View). first_shown v.stakes.owns) (the_row.coded.inj (owner_of slot shared g) (owner_of slot shared h) (ap first_code e))
 
-pub IsOwners-prop : (slot : ℕ) (shared : Bool) (views : List Gv) → IsProp (IsOwners slot shared views)
-IsOwners-prop slot shared views a b =
-    Σ_prop_path (λ g. Coded-set (coded_list itself) views (witness_of_owner slot shared g)) (one-shown slot shared a.0 b.0 (sym a.1 ∙ b.1))
-
-pub AreOwners-prop : (slot : ℕ) (shared : Bool) (views : List Gv) → IsProp (AreOwners slot shared views)
-AreOwners-prop slot shared views = →_prop (IsOwners-prop slot shared views)
+pub AreOf-prop : (slot : ℕ) (shared : Bool) (shown : Gv) (views : List Gv) → IsProp (AreOf slot shared shown views)
+AreOf-prop slot shared shown views = →_prop (Coded-set (coded_list itself) views (witness_of_owner slot shared shown))

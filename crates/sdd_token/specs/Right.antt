@@ -3,8 +3,9 @@ use Rattle.std.specs.Prelude.{ℕ, ◌≡◌, Bool, List, [], ◌∷◌}
 use base.Stored.{Gv}
 use Rattle.atomic_table.specs.Seated.{TableId}
 use Rattle.sdd_witness.specs.declared.witness.Witness.{Witness}
-use Rattle.sdd_token.specs.Owner.{IsOwners}
+use Rattle.sdd_token.specs.Owner.{witness_of_owner}
 use Rattle.sdd_token.specs.Units.{Home}
+use Rattle.sdd_token.specs.declared.grip.Grip.{Grip}
 use Rattle.sdd_token.specs.declared.right.Kind.{Kind}
 use Rattle.sdd_token.specs.declared.right.Right.{Right}
 use Rattle.sdd_token.specs.declared.right.RawRight.{RawRight}
@@ -14,27 +15,34 @@ use Rattle.sdd_token.specs.declared.right.Badge.{Badge}
 abbrev pub number_of : Right → ℕ
 number_of right = right.number
 
--- the home of the slots of a domain, which are those of its table
-abbrev pub home_of_table : TableId → ℕ → Home
-home_of_table table size = record { name = 0; size = size; tables = table ∷ [] }
+-- the home of the slots of a domain, which are those of its table; the places of their values are of this book
+abbrev pub home_of_table : TableId → ℕ → ℕ → Home
+home_of_table table book size = record { name = book; size = size; tables = table ∷ [] }
 
 -- with a witness it is the home of its table, and else the one of the part
-abbrev pub home_by : List Gv → TableId → Home → Home
-home_by [] table home = home
-home_by (g ∷ gs) table home = home_of_table table home.size
+abbrev pub home_by : List Gv → TableId → ℕ → Home → Home
+home_by [] table book home = home
+home_by (g ∷ gs) table book home = home_of_table table book home.size
 
 -- the home whose number it is
 abbrev pub home_of : Right → Home
-home_of right = home_by right.witness.views right.witness.table_id right.part.home
+home_of right = home_by right.witness.views right.witness.table_id right.grip.book right.part.home
 
 -- in a domain: the token of the owner of the slot
 abbrev pub witness_of : Right → Witness
 witness_of right = right.witness
 
--- the witness is the token of the owner of this slot of the home's table, which may be one of several
-pub record IsWitnessOf (home : Home) (slot : ℕ) (shared : Bool) (witness : Witness) : Type 0 where
+-- in a domain: one unit of the number of the slot's place
+abbrev pub grip_of : Right → Grip
+grip_of right = right.grip
+
+-- the witness is the token of the owner of this slot of the home's table, which may be one of several; the grip is of the slot's number in the home's book,
+-- and shows what the token does
+pub record IsOwnerBy (home : Home) (slot : ℕ) (shared : Bool) (witness : Witness) (grip : Grip) : Type 0 where
   pub table : home.tables ≡ witness.table_id ∷ []
-  pub owner : IsOwners slot shared witness.views
+  pub book : home.name ≡ grip.book
+  pub number : grip.number ≡ slot
+  pub owner : witness.views ≡ witness_of_owner slot shared grip.shown
 
 -- whether its owner is the only one that there may be
 abbrev pub kind_of : Right → Kind

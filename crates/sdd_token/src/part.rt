@@ -3,6 +3,7 @@ ghost use Rattle.std.specs.Prelude.{◌≡◌, ℕ, ◌+◌, ◌-◌, ◌<◌, �
 ghost use base.Stored.{Gv};
 ghost use Rattle.sdd_token.specs.Units.{Home, home_coded, book_owns, part_owns, part_shares, gv_coded};
 
+use crate::grip::Grip;
 use std::marker::{Model, PhantomData};
 
 /// How many units a number has.
@@ -87,6 +88,15 @@ impl<K> Part<K> {
         ensures shown { other.shown ≡ self.old.shown }
     {
         let Part { of: _ } = other;
+    }
+
+    /// A part of one unit, as a grip of its number.
+    pub(crate) fn into_grip(self) -> Grip
+        requires { self.units ≡ 1 }
+        ensures { (result.book ≡ self.home.name) × (result.number ≡ self.number) }
+    {
+        let Part { of: _ } = self;
+        Grip { of: PhantomData }
     }
 
     /// Two parts of one number have the same round and kind, and show the same.

@@ -1,8 +1,9 @@
 ghost use Rattle.std.specs.Prelude.{◌≡◌, ◌≢◌, ◌<◌, ◌≤◌, []};
 ghost use Rattle.sdd_token.specs.declared.right.Kind.{Kind};
 ghost use Rattle.sdd_token.specs.Kind.{right_units, is_shared, IsOwner};
-ghost use Rattle.sdd_token.specs.Owner.{IsOwners, AreOwners, AreOwners-prop};
+ghost use Rattle.sdd_token.specs.Owner.{witness_of_owner, AreOf, AreOf-prop};
 
+use crate::grip::Grip;
 use crate::part::{Book, Part, WHOLE};
 use sdd_witness::Witness;
 
@@ -35,26 +36,28 @@ impl Kind {
 
 /// The right of an owner to a number: all its units but the one that its space keeps, where nobody else may be an owner, and a single one else.
 ///
-/// In a domain there is no book of the slots. Its witness is then the token of the slot's owner, and its part, of a book of its own, says the kind
-/// alone.
+/// In a domain there is no book of the slots. Its witness is then the token of the slot's owner, its grip is of the slot's number and shows what the
+/// token does, and its part, of a book of its own, says the kind alone.
 ///
 /// It can be neither copied nor let go, only redeemed where it was granted.
 pub struct Right {
     pub(crate) number: u32,
     pub(crate) part: Part<Kind>,
     pub(crate) witness: Witness,
+    pub(crate) grip: Grip,
     pub ghost named: { witness.views ≡ [] → part.number ≡ number },
     pub ghost inside: { number < part.home.size },
     pub ghost owner: { IsOwner part.kind },
     pub ghost due: { witness.views ≡ [] → part.units ≡ right_units part.kind },
     pub ghost books: { part.home.tables ≡ [] },
-    pub ghost owns: { AreOwners number (is_shared part.kind) witness.views } by { AreOwners-prop number (is_shared part.kind) witness.views },
+    pub ghost placed: { witness.views ≢ [] → grip.number ≡ number },
+    pub ghost owns: { AreOf number (is_shared part.kind) grip.shown witness.views } by { AreOf-prop number (is_shared part.kind) grip.shown witness.views },
 }
 
 const _: () = prove!(size_of::<Right>() == 4);
 
 impl Right {
-    ghost use Rattle.sdd_token.specs.Right.{number_of, home_of, kind_of, home_of_table, witness_of, IsWitnessOf};
+    ghost use Rattle.sdd_token.specs.Right.{number_of, home_of, kind_of, home_of_table, witness_of, grip_of, IsOwnerBy};
 
     /// The number that the right is to.
     pub fn number(&self) -> u32
@@ -63,15 +66,17 @@ impl Right {
         self.number
     }
 
-    /// The right to a slot of a domain, by the token of its owner. The domain has so many slots.
-    pub fn of_witness(number: u32, size: usize, kind: Kind, witness: Witness) -> Right
-        requires owner { IsOwners number (is_shared kind) witness.views }
+    /// The right to a slot of a domain, by the token of its owner and a unit of the number of the slot's place. The domain has so many slots.
+    pub fn of_witness(number: u32, size: usize, kind: Kind, witness: Witness, grip: Grip) -> Right
+        requires owner { witness.views ≡ witness_of_owner number (is_shared kind) grip.shown }
+        requires place { grip.number ≡ number }
         requires inside { number < size }
         requires kind { IsOwner kind }
         ensures number { number_of result ≡ number }
-        ensures home { home_of result ≡ home_of_table witness.table_id size }
+        ensures home { home_of result ≡ home_of_table witness.table_id grip.book size }
         ensures kind { kind_of result ≡ kind }
         ensures witness { witness_of result ≡ witness }
+        ensures grip { grip_of result ≡ grip }
     {
         let mut book = Book::new(size);
         let part = book.issue(&kind);
@@ -79,28 +84,41 @@ impl Right {
             number,
             part,
             witness,
+            grip,
         }
     }
 
-    /// The token of the owner of the slot, in a domain; a blank one else.
-    pub fn into_witness(self) -> Witness
-        ensures witness { result ≡ witness_of self }
-        ensures owner { (home_of self).tables ≢ [] → IsWitnessOf (home_of self) (number_of self) (is_shared (kind_of self)) result }
+    /// The token of the owner of the slot, and the unit of the number of its place, in a domain; blank ones else.
+    pub fn into_owner(self) -> (Witness, Grip)
+        ensures witness { result.0 ≡ witness_of self }
+        ensures grip { result.1 ≡ grip_of self }
+        ensures owner { (home_of self).tables ≢ [] → IsOwnerBy (home_of self) (number_of self) (is_shared (kind_of self)) result.0 result.1 }
     {
         let Right {
             number: _,
             part: _,
             witness,
+            grip,
         } = self;
-        witness
+        (witness, grip)
     }
 
     /// The token of the owner of the slot, in a domain; a blank one else.
     pub fn witness(&self) -> &Witness
         ensures witness { result.now ≡ witness_of self.now }
-        ensures owner { (home_of self.now).tables ≢ [] → IsWitnessOf (home_of self.now) (number_of self.now) (is_shared (kind_of self.now)) result.now }
+        ensures owner { (home_of self.now).tables ≢ [] →
+            IsOwnerBy (home_of self.now) (number_of self.now) (is_shared (kind_of self.now)) result.now (grip_of self.now) }
     {
         &self.witness
+    }
+
+    /// The unit of the number of the slot's place, in a domain; a blank one else.
+    pub fn grip(&self) -> &Grip
+        ensures grip { result.now ≡ grip_of self.now }
+        ensures owner { (home_of self.now).tables ≢ [] →
+            IsOwnerBy (home_of self.now) (number_of self.now) (is_shared (kind_of self.now)) (witness_of self.now) result.now }
+    {
+        &self.grip
     }
 }
 

@@ -5,6 +5,7 @@ ghost use Rattle.sdd_token.specs.Right.{number_of, home_of, kind_of, raw_number_
 ghost use Rattle.sdd_token.specs.Rights.{kept_at, whole, granted};
 ghost use Rattle.sdd_token.specs.Shares as shares;
 
+use crate::grip::Grip;
 use crate::part::{Book, Part, WHOLE};
 use crate::right::{Badge, Kind, RawRight, Right, Shares};
 use sdd_witness::Witness;
@@ -125,6 +126,7 @@ impl Rights {
             number,
             part,
             witness: Witness::blank(),
+            grip: Grip::blank(),
         }
     }
 
@@ -144,6 +146,7 @@ impl Rights {
             number,
             part,
             witness: Witness::blank(),
+            grip: Grip::blank(),
         }
     }
 
@@ -163,7 +166,9 @@ impl Rights {
             number,
             mut part,
             witness: _,
+            grip,
         } = right;
+        grip.discard();
         let kept = &mut self.parts[number as usize];
         kept.apart(&mut part);
         kept.join(part);
