@@ -1,6 +1,5 @@
 -- What each call of the table asks for
 use Rattle.std.proofs.Common.{None, ◌≤◌, ◌≡◌, ◌≢◌, ◌⊎◌, inl, inr, ℕ, ◌+◌, ◌<◌, Bool, false, eqb, List, [], ◌∷◌, get_or, set, sym, refl, ap, ◌∙◌, subst, arith}
-use Rattle.std.specs.Prelude.{Some}
 use lib.Seq.{set-get_or}
 use base.Stored.{Gv, gnil}
 use mathlib.Core.Option.{none, some}

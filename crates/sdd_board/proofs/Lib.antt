@@ -2,3 +2,4 @@ pub mod Allowed
 pub mod Zeros
 pub mod Shown
 pub mod Ending
+pub mod Lasts

@@ -102,12 +102,7 @@ module _ (γ i n : ℕ) where
     unit_out row is = let u : x.lot.units ≡ most - n - 0 = ap (λ (l : Lot). l.units) row.1.0 ∙ share_last n 0 in
         (row.0, last_with 0 1 Is x y (x.lot.units - 1) (omega arith) row.1 is, row_alike 0 1 Is rest n (omega arith) xs row.2)
 
-    -- and comes back
-    pub unit_in : n < most → HasAll γ i n 1 Is rest ((k, x) ∷ xs) → y.lot ≡ record x.lot { units = x.lot.units + 1 } → HasAll γ i n 0 Is rest ((k, y) ∷ xs)
-    unit_in few row is = let u : x.lot.units ≡ most - n - 1 = ap (λ (l : Lot). l.units) row.1.0 ∙ share_last n 1 in
-        (row.0, last_with 1 0 Is x y (x.lot.units + 1) (omega arith) row.1 is, row_alike 1 0 Is rest n (omega arith) xs row.2)
-
-    -- the same where the last stake alone is out
+    -- and comes back, where the last stake alone is out
     pub unit_in_last : n < most → HasLast γ i n 1 Is rest ((k, x) ∷ xs) → y.lot ≡ record x.lot { units = x.lot.units + 1 }
         → HasLast γ i n 0 Is rest ((k, y) ∷ xs)
     unit_in_last few row is = let u : x.lot.units ≡ most - n - 1 = ap (λ (l : Lot). l.units) row.1.0 ∙ share_last n 1 in
