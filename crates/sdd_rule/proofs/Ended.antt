@@ -1,5 +1,5 @@
 -- Places that have ended stay so, and one that is free may be ended by a token without a place. Once all have, a slot without an owner stays quiet.
-use Rattle.std.proofs.Common.{◌≡◌, ◌⊎◌, ℕ, ◌+◌, ◌<◌, eqb, List, length, map, get_or, set, sym, refl, ap, ◌∙◌, subst, ⊎_elim, inl, inr, arith, length-set, get_or-set_other, get_or-set_same}
+use Rattle.std.proofs.Common.{◌≡◌, ◌⊎◌, ℕ, ◌+◌, ◌<◌, eqb, List, length, map, get_or, set, sym, refl, ap, ◌∙◌, subst, ⊎_elim, arith, length-set, get_or-set_other, get_or-set_same}
 use Rattle.std.proofs.lemmas.List.{get_or_past}
 use mathlib.Core.Option.{some}
 use mathlib.Core.Logic.{dite}
@@ -59,12 +59,13 @@ module _ (sizes : Sizes) (ws : List ℕ) (i y : ℕ) where
   abbrev pub Hushes : Type 0
   Hushes = (k : ℕ) → i ≡ slot_word sizes k → alive (get_or ws i 0) ≡ 0 → alive y ≡ 0
 
-  pub one_hushed : (v w : View) → (v.places.quiet ≡ 0) ⊎ Hushes → w.places ≡ v.places → AreQuiet sizes ws v → AreQuiet sizes (set ws i y) w
-  one_hushed v w hushes same old k low = let q = ap (λ (x : PlacesView). x.quiet) same in let e = ap (λ (x : PlacesView). x.ended) same in
+  pub one_hushed : (vs : List View) (j : ℕ) (v w : View) → get_elem? vs j ≡ some v → NoneQuiet vs ⊎ Hushes → w.places ≡ v.places → AreQuiet sizes ws v
+      → AreQuiet sizes (set ws i y) w
+  one_hushed vs j v w at hushes same old k low = let q = ap (λ (x : PlacesView). x.quiet) same in let e = ap (λ (x : PlacesView). x.ended) same in
       let was = old k (omega arith) in let word : ℕ = slot_word sizes k in (
         dite (ℕ_discrete word i)
             (λ is. let here : alive (get_or ws i 0) ≡ 0 = ap (λ (d : ℕ). alive (get_or ws d 0)) (sym is) ∙ was.0 in
-            let silent : alive y ≡ 0 = ⊎_elim (λ (none : v.places.quiet ≡ 0). absurd (omega arith)) (λ (hush : Hushes). hush k (sym is) here) hushes in
+            let silent : alive y ≡ 0 = ⊎_elim (λ (none : NoneQuiet vs). absurd (let z = none j v at in omega arith)) (λ (hush : Hushes). hush k (sym is) here) hushes in
             ap (λ (d : ℕ). alive (get_or (set ws i y) d 0)) is ∙ dite (dec_lt i (length ws))
             (λ l. ap alive (get_or-set_same ws i y 0 l) ∙ silent)
             (λ far. ap alive (get_or_past (set ws i y) i 0 (omega (arith, length-set ws i y))) ∙ sound.free.0))
@@ -75,7 +76,7 @@ module _ (sizes : Sizes) (ws : List ℕ) (i y : ℕ) where
   pub all_hushed : (vs : List View) (id : ℕ) (w : View) → NoneQuiet vs ⊎ Hushes → Each (AreQuiet sizes ws) vs → AreQuiet sizes (set ws i y) w
       → Each (AreQuiet sizes (set ws i y)) (set vs id w)
   all_hushed vs id w hushes old mine = each_set (AreQuiet sizes ws) (AreQuiet sizes (set ws i y)) vs id w mine
-      (λ j u _ e. one_hushed u u (⊎_elim (λ (none : NoneQuiet vs). inl (none j u e)) (λ (hush : Hushes). inr hush) hushes) refl (old j u e))
+      (λ j u _ e. one_hushed vs j u u e hushes refl (old j u e))
 
 module _ (sizes : Sizes) where
   barred : (ws : List ℕ) (vs : List View) (p : ℕ) → Parts sizes ws vs → p < sizes.participants → get_or ws (state_word p) 0 ≡ 0
