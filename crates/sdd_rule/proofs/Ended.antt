@@ -65,7 +65,8 @@ module _ (sizes : Sizes) (ws : List ℕ) (i y : ℕ) where
       let was = old k (omega arith) in let word : ℕ = slot_word sizes k in (
         dite (ℕ_discrete word i)
             (λ is. let here : alive (get_or ws i 0) ≡ 0 = ap (λ (d : ℕ). alive (get_or ws d 0)) (sym is) ∙ was.0 in
-            let silent : alive y ≡ 0 = ⊎_elim (λ (none : NoneQuiet vs). absurd (let z = none j v at in omega arith)) (λ (hush : Hushes). hush k (sym is) here) hushes in
+            let silent : alive y ≡ 0 = ⊎_elim (λ (none : NoneQuiet vs). absurd (let z = none j v at in omega arith))
+            (λ (hush : Hushes). hush k (sym is) here) hushes in
             ap (λ (d : ℕ). alive (get_or (set ws i y) d 0)) is ∙ dite (dec_lt i (length ws))
             (λ l. ap alive (get_or-set_same ws i y 0 l) ∙ silent)
             (λ far. ap alive (get_or_past (set ws i y) i 0 (omega (arith, length-set ws i y))) ∙ sound.free.0))
