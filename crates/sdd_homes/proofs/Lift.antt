@@ -25,8 +25,8 @@ use Rattle.atomic_table.proofs.Lists.{at_map, set_again}
 use Rattle.sdd_rule.proofs.Frame.{each_set}
 use Rattle.sdd_rule.proofs.Sums.{total_map}
 use Rattle.sdd_rule.proofs.Lift.{blind}
-use Rattle.sdd_rule.specs.Ended.{AreEnded}
-use Rattle.sdd_rule.proofs.Ended.{Spares, one_spared, all_spared}
+use Rattle.sdd_rule.specs.Ended.{AreEnded, AreQuiet}
+use Rattle.sdd_rule.proofs.Ended.{Spares, one_spared, all_spared, NoneQuiet, none_quiet, Hushes, one_hushed, all_hushed}
 use Rattle.sdd_homes.specs.Homes.{Homes, Moves, Settles, IsOneOut, IsOut, IsMover, HomesPart}
 use Rattle.sdd_homes.specs.Records.{RecordsPart}
 use Rattle.sdd_homes.specs.Counts.{CountsPart}
@@ -52,16 +52,31 @@ pub record Follows (γ : ℕ) (sizes : Sizes) (id i : ℕ) (me : Mine) (told : �
   pub tells : told (get_or s.words i 0) (record w { stakes = stakes }, carried_after me.1 act)
 
 module _ (γ : ℕ) (sizes : Sizes) (slots id : ℕ) (me : Mine) (i : ℕ) (f : ℕ → ℕ) where
-  -- the places that have ended stay so, and those that are known of after the step have ended
+  -- the places that have ended stay so, and those that are known of after the step have ended; and the same of quiet slots
   abbrev pub Keeps : (ℕ → View → Type 0) → Type 0
   Keeps then = (s : State Stake View) (w : View) → Housed γ sizes s → get_elem? s.views id ≡ some me.0 → then (get_or s.words i 0) w
       → Spares sizes s.words i (f (get_or s.words i 0)) × AreEnded sizes (set s.words i (f (get_or s.words i 0))) w
+      × (NoneQuiet s.views ⊎ Hushes sizes s.words i (f (get_or s.words i 0))) × AreQuiet sizes (set s.words i (f (get_or s.words i 0))) w
+
+  -- while somebody has a place nobody knows of a quiet slot; and a step on a word before the slots' leaves theirs
+  hushes : HasPlace me.0.epoch ⊎ (i < first_slot sizes) → (s : State Stake View) → Housed γ sizes s → get_elem? s.views id ≡ some me.0
+      → NoneQuiet s.views ⊎ Hushes sizes s.words i (f (get_or s.words i 0))
+  hushes mild s h at = ⊎_elim
+      (λ (live : HasPlace me.0.epoch).
+      inl (none_quiet sizes s.words s.views h.kept.parts.epoch h.kept.places.ended h.kept.places.quiet id me.0 at live))
+      (λ (low : i < first_slot sizes). inr (λ k is _. absurd (omega arith))) mild
 
   -- what is known of them stays
   pub keeps_ended : (then : ℕ → View → Type 0) → ((r : ℕ) (w : View) → then r w → w.places ≡ me.0.places)
-      → ((s : State Stake View) → Housed γ sizes s → get_elem? s.views id ≡ some me.0 → Spares sizes s.words i (f (get_or s.words i 0))) → Keeps then
-  keeps_ended then places words s w h at t = let e = words s h at in
-      (e, one_spared sizes s.words i (f (get_or s.words i 0)) me.0 w e (places (get_or s.words i 0) w t) (h.kept.places.ended id me.0 at))
+      → ((s : State Stake View) → Housed γ sizes s → get_elem? s.views id ≡ some me.0 → Spares sizes s.words i (f (get_or s.words i 0)))
+      → HasPlace me.0.epoch ⊎ (i < first_slot sizes) → Keeps then
+  keeps_ended then places words mild s w h at t = let x : ℕ = get_or s.words i 0 in let y : ℕ = f x in let e = words s h at in
+      let q = hushes mild s h at in (
+        e,
+        one_spared sizes s.words i y me.0 w e (places x w t) (h.kept.places.ended id me.0 at),
+        q,
+        one_hushed sizes s.words i y s.views id me.0 w at q (places x w t) (h.kept.places.quiet id me.0 at),
+      )
 
   pub lift_homes : (then : ℕ → View → Type 0) (told : ℕ → Mine → Type 0) → Keeps then → Steps (Parts sizes) id me.0 i f then
       → ((s : State Stake View) (w : View) → Housed γ sizes s → get_elem? s.views id ≡ some me.0 → then (get_or s.words i 0) w
@@ -78,6 +93,7 @@ module _ (γ : ℕ) (sizes : Sizes) (slots id : ℕ) (me : Mine) (i : ℕ) (f : 
             places = record {
               wide = let l = h.kept.places.wide in omega (arith, length-set s.words i y);
               ended = all_spared sizes s.words i y s.views id (record w { stakes = b.stakes }) k.0 h.kept.places.ended k.1;
+              quiet = all_hushed sizes s.words i y s.views id (record w { stakes = b.stakes }) k.2 h.kept.places.quiet k.3;
             };
           };
           homes = b.homes;
@@ -125,7 +141,7 @@ module _ (γ : ℕ) (sizes : Sizes) (slots id : ℕ) (me : Mine) (i : ℕ) (f : 
       → Steps (Parts sizes) id me.0 i f (OnEpoch R me.0)
       → ((r : ℕ) (w : View) → OnEpoch R me.0 r w → told r (w, me.1)) → Allows (Housed γ sizes) slots id me i f told
   lift_epoch R told low stays lives had spares step tells = lift_calm (OnEpoch R me.0) told
-      (keeps_ended (OnEpoch R me.0) (λ r w t. ap (λ (u : View). u.places) t.1) spares) step tells (λ s w h at t.
+      (keeps_ended (OnEpoch R me.0) (λ r w t. ap (λ (u : View). u.places) t.1) spares (inr low)) step tells (λ s w h at t.
       let y : ℕ = f (get_or s.words i 0) in let e : EpochView = t.0 in let own = h.kept.parts.slots.each id me.0 at in
       subst (IsCalm s y) (sym t.1) record {
         more = λ j p out. ⊎_elim (λ (m : Moves me.0 j). inl m)
@@ -154,7 +170,8 @@ module _ (γ : ℕ) (sizes : Sizes) (slots : ℕ) where
       → ((s : State Stake View) → Housed γ sizes s → get_elem? s.views id ≡ some me.0 → Spares sizes s.words i y)
       → ((w : View) → PublishesAll me.0 y w → told y (w, me.1)) → Allows (Housed γ sizes) slots id me i (λ _. y) (λ _. told y)
   lift_publish id me i y told low live step stays spares tells = lift_calm γ sizes slots id me i (λ _. y) (λ _. PublishesAll me.0 y) (λ _. told y)
-      (keeps_ended γ sizes slots id me i (λ _. y) (λ _. PublishesAll me.0 y) (λ r w t. ap (λ (u : View). u.places) t.1) spares) step (λ _ w t. tells w t)
+      (keeps_ended γ sizes slots id me i (λ _. y) (λ _. PublishesAll me.0 y) (λ r w t. ap (λ (u : View). u.places) t.1) spares
+      (inr low)) step (λ _ w t. tells w t)
       (λ s w h at t. let v : View = me.0 in let e : EpochView = t.0 in
       let calm : SlotsView → Type 0 = λ x. IsCalm γ sizes slots id me i (λ _. y) s y (record v { epoch = e; slots = x }) in
       let same = λ (j : ℕ) (_ : j < sizes.slots). before_slots sizes s.words i y j low in let n : ℕ = sizes.participants in
@@ -182,7 +199,8 @@ module _ (γ : ℕ) (sizes : Sizes) (slots : ℕ) where
       → told (leaving me.0, me.1) → Allows (Housed γ sizes) slots id me (state_word me.0.epoch.place) (λ _. 3) (λ _. told)
   lift_end id me told inside shut rests step spares tells = let v : View = me.0 in let i : ℕ = state_word v.epoch.place in
       lift_homes γ sizes slots id me i (λ _. 3) (λ _. OnEpoch (λ u _ e. Ends u 3 e) v 3) (λ _. told)
-      (keeps_ended γ sizes slots id me i (λ _. 3) (λ _. OnEpoch (λ u _ e. Ends u 3 e) v 3) (λ r w t. ap (λ (u : View). u.places) t.1) spares) step
+      (keeps_ended γ sizes slots id me i (λ _. 3) (λ _. OnEpoch (λ u _ e. Ends u 3 e) v 3) (λ r w t. ap (λ (u : View). u.places) t.1) spares
+      (inr (omega arith))) step
       (λ s w h at t. let now : View = leaving v in let fits = h.kept.parts.epoch.each id v.epoch (at_map epoch_of s.views id v at) in
       let was = fits.state (omega arith) in let same = λ (j : ℕ) (_ : j < sizes.slots). before_slots sizes s.words i 3 j (omega arith) in
       let wide = h.kept.parts.epoch.wide in
@@ -214,6 +232,9 @@ module _ (γ : ℕ) (sizes : Sizes) (id : ℕ) (v : View) (s : State Stake View)
         wide = h.kept.places.wide;
         ended = each_set (AreEnded sizes s.words) (AreEnded sizes s.words) s.views id w
             (λ p low l. h.kept.places.ended id v at p low (subst (λ (x : PlacesView). p < x.ended) same l)) (λ j u _ e. h.kept.places.ended j u e);
+        quiet = each_set (AreQuiet sizes s.words) (AreQuiet sizes s.words) s.views id w
+            (subst (λ (x : PlacesView). AreQuiet sizes s.words (record v { places = x })) (sym same) (h.kept.places.quiet id v at))
+            (λ j u _ e. h.kept.places.quiet j u e);
       };
     };
     homes = homes;

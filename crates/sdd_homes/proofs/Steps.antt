@@ -14,6 +14,7 @@ use Rattle.atomic_table.proofs.Lists.{at_map, at_set, exchanged, set_again}
 use Rattle.sdd_stakes.specs.Shelf.{IsFull, IsVacant}
 use Rattle.sdd_stakes.specs.declared.stake.Stake.{Stake}
 use Rattle.sdd_rule.specs.declared.Showing.{Showing}
+use Rattle.sdd_rule.specs.declared.PlacesView.{PlacesView}
 use Rattle.sdd_rule.specs.declared.StakesView.{StakesView}
 use Rattle.sdd_rule.specs.declared.WaitingItem.{WaitingItem}
 use Rattle.sdd_rule.specs.declared.View.{View}
@@ -26,8 +27,8 @@ use Rattle.sdd_rule.specs.Sums.{times}
 use Rattle.sdd_rule.specs.Slots.{slot_at, owners_at, items_at, OwnsAlone, Sees, Holds}
 use Rattle.sdd_rule.specs.SlotSteps.{without, claimed, retired, given_back, discarded, seeing, AtSlot, Claims, Retires, GivesBack, LooksAtSlot, TakesHold, LetsGo, Discards, LooksForGuard, ClosesAll, IsDue}
 use Rattle.sdd_rule.specs.Parts.{epoch_of}
-use Rattle.sdd_rule.specs.Ended.{AreEnded, past, Bars}
-use Rattle.sdd_rule.proofs.Ended.{Spares, one_spared}
+use Rattle.sdd_rule.specs.Ended.{AreEnded, AreQuiet, past, past_quiet, Bars, LooksForOwner}
+use Rattle.sdd_rule.proofs.Ended.{Spares, one_spared, Hushes, one_hushed}
 use Rattle.sdd_rule.proofs.Ended as ended
 use Rattle.sdd_rule.proofs.Codes.{sound, free_is, owned_is, waiting_is}
 use Rattle.sdd_rule.proofs.EpochSteps as over
@@ -169,7 +170,7 @@ module _ (slots id : ℕ) (me : Mine) (live : HasPlace me.0.epoch) where
 
     -- a slot's word is none of a place's
     spares : (f : ℕ → ℕ) (then : ℕ → View → Type 0) → ((r : ℕ) (w : View) → then r w → w.places ≡ v.places) → Keeps γ sizes slots id me i f then
-    spares f then places = keeps_ended γ sizes slots id me i f then places (λ s h at p low e was. absurd (omega arith))
+    spares f then places = keeps_ended γ sizes slots id me i f then places (λ s h at p low e was. absurd (omega arith)) (inl live)
 
     claim_keeps : Keeps γ sizes slots id me i (λ x. either (eqb x (free_word 0)) (owned_word 0) x)
         (AtSlot (λ slot. Claims slot (free_word 0) (owned_word 0)) i v)
@@ -636,7 +637,8 @@ module _ (slots id : ℕ) (me : Mine) (live : HasPlace me.0.epoch) where
   looks_for_guard place low next = let j : ℕ = state_word place in
       lift_calm γ sizes slots id me j (λ x. x) (LooksForGuard j v) (λ r me'. (me'.1 ≡ me.1) × LooksForGuard j v r me'.0)
       (keeps_ended γ sizes slots id me j (λ x. x) (LooksForGuard j v) (λ r w t. let c = t place refl in dite (ℕ_discrete r 2)
-      (λ e. ap (λ (u : View). u.places) (c.1 e)) (λ ne. ap (λ (u : View). u.places) (c.0 ne))) (λ s h at p low e was. was)) (steps.looks id v live place next)
+      (λ e. ap (λ (u : View). u.places) (c.1 e)) (λ ne. ap (λ (u : View). u.places) (c.0 ne))) (λ s h at p low e was. was) (inl live))
+      (steps.looks id v live place next)
       (λ r w t. (refl, t))
       (λ s w h at t. let c = t place refl in let x : ℕ = get_or s.words j 0 in
       let same = λ (k : ℕ) (_ : k < sizes.slots). ap (λ (l : List ℕ). slot_at sizes l k) (set-get_or s.words j 0) in
@@ -665,7 +667,7 @@ module _ (slots id : ℕ) (me : Mine) (live : HasPlace me.0.epoch) where
       → May (state_word v.epoch.place) (λ _. 1) (λ _. ClosesHome me 1)
   closes is_open free near rests purse = let j : ℕ = state_word v.epoch.place in let q : ℕ = v.epoch.place in let le : q ≤ n = omega arith in
       lift_homes γ sizes slots id me j (λ _. 1) (λ _. ClosesAll v 1) (λ _. ClosesHome me 1)
-      (keeps_ended γ sizes slots id me j (λ _. 1) (λ _. ClosesAll v 1) (λ r w t. ap (λ (u : View). u.places) t) (own_place γ sizes id v live 1))
+      (keeps_ended γ sizes slots id me j (λ _. 1) (λ _. ClosesAll v 1) (λ r w t. ap (λ (u : View). u.places) t) (own_place γ sizes id v live 1) (inl live))
       (over.closes sizes id v is_open free near)
       (λ s w h at t. let f = h.kept.parts.slots.each id v at in let long = h.kept.parts.slots.long in
       let low : (k : ℕ) → 0 < times k v.slots.sees → k < sizes.slots = λ k sees. dite (dec_lt k sizes.slots) (λ l. l) (λ past. absurd
@@ -725,6 +727,16 @@ module _ (γ : ℕ) (sizes : Sizes) (slots id : ℕ) (me : Mine) (p : ℕ) (insi
         ∙ (get_or-set_same s.words spot left 0 (let wide = h.kept.parts.epoch.wide in omega arith) ∙ over))
         (λ ne. still_over q low (omega arith))
 
+    hushed : Hushes sizes s.words spot left
+    hushed k e was = absurd (omega arith)
+
+    still_quiet : AreQuiet sizes (set s.words spot left) me.0
+    still_quiet = one_hushed sizes s.words spot left s.views id me.0 me.0 at (inr hushed) refl (h.kept.places.quiet id me.0 at)
+
+    -- as long as a place is left to end, no slot is known to be quiet
+    now_quiet : AreQuiet sizes (set s.words spot left) (past p me.0)
+    now_quiet k low = absurd (let all = (still_quiet k low).1 in omega arith)
+
     bars_calm : (w : View) → (w ≡ past p me.0) ⊎ (w ≡ me.0) → IsCalm γ sizes slots id me spot free_no_more s left w
     bars_calm w which = let same = λ (j : ℕ) (_ : j < sizes.slots). before_slots sizes s.words spot left j (omega arith) in
         let calm = IsCalm γ sizes slots id me spot free_no_more s left in
@@ -759,7 +771,63 @@ module _ (γ : ℕ) (sizes : Sizes) (slots id : ℕ) (me : Mine) (p : ℕ) (insi
         ⊎_elim (λ (c : ((x ≡ 0) ⊎ (x ≡ 3)) × (w ≡ past p me.0)). subst (AreEnded sizes (set s.words spot y)) (sym c.1)
             (now_over s h at (⊎_elim (λ (e : x ≡ 0). ap free_no_more e) (λ (e : x ≡ 3). ap free_no_more e) c.0)))
             (λ (e : w ≡ me.0). subst (AreEnded sizes (set s.words spot y)) (sym e) (still_over s h at)) (which_of x w t),
+        inr (hushed s h at),
+        ⊎_elim (λ (c : ((x ≡ 0) ⊎ (x ≡ 3)) × (w ≡ past p me.0)). subst (AreQuiet sizes (set s.words spot y)) (sym c.1) (now_quiet s h at))
+            (λ (e : w ≡ me.0). subst (AreQuiet sizes (set s.words spot y)) (sym e) (still_quiet s h at)) (which_of x w t),
       ))
       (ended.bars sizes id p me.0 inside) (λ r w t. (refl, t))
       (λ s w h at t. bars_calm s h at w (⊎_elim (λ (c : ((get_or s.words spot 0 ≡ 0) ⊎ (get_or s.words spot 0 ≡ 3)) × (w ≡ past p me.0)). inl c.1)
       (λ (e : w ≡ me.0). inr e) (which_of (get_or s.words spot 0) w t)))
+
+-- the word of the next slot is looked at, whether it has an owner, by a token that knows that all places have ended
+module _ (γ : ℕ) (sizes : Sizes) (slots id : ℕ) (me : Mine) (slot : ℕ) (next : slot ≡ me.0.places.quiet)
+    (all : sizes.participants ≤ me.0.places.ended) where
+  abbrev word : ℕ
+  word = slot_word sizes slot
+
+  module _ (s : State Stake View) (h : Housed γ sizes s) (at : get_elem? s.views id ≡ some me.0) where
+    -- a look leaves the words
+    abbrev after : List ℕ
+    after = set s.words word (get_or s.words word 0)
+
+    as_before : after ≡ s.words
+    as_before = set-get_or s.words word 0
+
+    quiet_before : AreQuiet sizes s.words me.0
+    quiet_before = h.kept.places.quiet id me.0 at
+
+    quiet_now : alive (get_or s.words word 0) ≡ 0 → AreQuiet sizes s.words (past_quiet me.0)
+    quiet_now dead k low = (
+      dite (ℕ_discrete k slot) (λ e. ap (λ (j : ℕ). alive (slot_at sizes s.words j)) e ∙ dead) (λ ne. (quiet_before k (omega arith)).0),
+      all,
+    )
+
+  look_keeps_all : Keeps γ sizes slots id me word (λ x. x) (LooksForOwner me.0)
+  look_keeps_all s w h at t = let x : ℕ = get_or s.words word 0 in let ended = h.kept.places.ended id me.0 at in (
+    (λ p low e was. was),
+    subst (λ (ws : List ℕ). AreEnded sizes ws w) (sym (as_before s h at))
+        (dite (ℕ_discrete (alive x) 0) (λ dead. subst (AreEnded sizes s.words) (sym (t.0 dead)) ended)
+        (λ has. subst (AreEnded sizes s.words) (sym (t.1 has)) ended)),
+    inr (λ k e dead. dead),
+    subst (λ (ws : List ℕ). AreQuiet sizes ws w) (sym (as_before s h at))
+        (dite (ℕ_discrete (alive x) 0) (λ dead. subst (AreQuiet sizes s.words) (sym (t.0 dead)) (quiet_now s h at dead))
+        (λ has. subst (AreQuiet sizes s.words) (sym (t.1 has)) (quiet_before s h at))),
+  )
+
+  -- it knows no more but of places and of what is quiet
+  looked_for : (r : ℕ) (w : View) → LooksForOwner me.0 r w → (t : PlacesView) × (w ≡ record me.0 { places = t })
+  looked_for r w t = dite (ℕ_discrete (alive r) 0) (λ dead. ((past_quiet me.0).places, t.0 dead)) (λ has. (me.0.places, t.1 has))
+
+  pub looks_for_owner : Allows (Housed γ sizes) slots id me word (λ x. x) (λ r me'. (me'.1 ≡ me.1) × LooksForOwner me.0 r me'.0)
+  looks_for_owner = lift_calm γ sizes slots id me word (λ x. x) (LooksForOwner me.0) (λ r me'. (me'.1 ≡ me.1) × LooksForOwner me.0 r me'.0)
+      look_keeps_all (ended.looks_for_owner sizes id word me.0) (λ r w t. (refl, t))
+      (λ s w h at t. let x : ℕ = get_or s.words word 0 in
+      subst (IsCalm γ sizes slots id me word (λ x. x) s x) (sym (looked_for x w t).1) record {
+        more = λ j q out. out;
+        same = λ j _. ap (λ (l : List ℕ). full (slot_at sizes l j)) (as_before s h at);
+        mover = λ j m. h.homes.moving id me.0 j at m;
+        alike = (refl, refl, refl);
+        counts = refl;
+        lives = λ l. l;
+        had = λ _ l. inl l;
+      })

@@ -1,20 +1,24 @@
--- Places that have ended stay so, and one that is free may be ended by a token without a place.
-use Rattle.std.proofs.Common.{◌≡◌, ℕ, ◌+◌, ◌<◌, eqb, List, length, map, get_or, set, sym, refl, ap, ◌∙◌, subst, ⊎_elim, arith, get_or-set_other, get_or-set_same}
+-- Places that have ended stay so, and one that is free may be ended by a token without a place. Once all have, a slot without an owner stays quiet.
+use Rattle.std.proofs.Common.{◌≡◌, ◌⊎◌, ℕ, ◌+◌, ◌<◌, eqb, List, length, map, get_or, set, sym, refl, ap, ◌∙◌, subst, ⊎_elim, arith, length-set, get_or-set_other, get_or-set_same}
 use Rattle.std.proofs.lemmas.List.{get_or_past}
+use mathlib.Core.Option.{some}
 use mathlib.Core.Logic.{dite}
 use native.Mathlib.Decide.{ℕ_discrete, dec_lt}
+use lib.ListN.{get_elem?}
 use lib.Seq.{set-get_or}
 use prog.Atomic.{either}
-use Rattle.atomic_table.proofs.Lists.{exchanged, set_again}
+use Rattle.atomic_table.proofs.Lists.{at_map, exchanged, set_again}
 use Rattle.sdd_rule.specs.declared.PlacesView.{PlacesView}
 use Rattle.sdd_rule.specs.declared.View.{View}
 use Rattle.sdd_rule.specs.declared.Sizes.{Sizes}
-use Rattle.sdd_rule.specs.Words.{state_word}
-use Rattle.sdd_rule.specs.Codes.{codes}
+use Rattle.sdd_rule.specs.Words.{state_word, slot_word}
+use Rattle.sdd_rule.specs.Codes.{codes, alive}
+use Rattle.sdd_rule.specs.Epoch.{HasPlace, EpochPart}
 use Rattle.sdd_rule.specs.Steps.{Steps}
-use Rattle.sdd_rule.specs.Ended.{AreEnded, past, Bars}
+use Rattle.sdd_rule.specs.Ended.{AreEnded, AreQuiet, past, past_quiet, Bars, LooksForOwner}
 use Rattle.sdd_rule.specs.Parts.{epoch_of, Parts}
 use Rattle.sdd_rule.proofs.Frame.{Each, each_set}
+use Rattle.sdd_rule.proofs.Codes.{sound}
 use Rattle.sdd_rule.proofs.Epoch as epochs
 use Rattle.sdd_rule.proofs.SlotWords.{below}
 use Rattle.sdd_rule.proofs.Lone.{lone_beside}
@@ -39,6 +43,42 @@ module _ (sizes : Sizes) (ws : List ℕ) (i y : ℕ) where
   all_spared vs id w spares old mine = each_set (AreEnded sizes ws) (AreEnded sizes (set ws i y)) vs id w mine
       (λ j u _ e. one_spared u u spares refl (old j u e))
 
+-- nobody knows of a slot that is quiet
+abbrev pub NoneQuiet : List View → Type 0
+NoneQuiet = Each (λ v. v.places.quiet ≡ 0)
+
+-- as long as somebody has a place
+pub none_quiet : (sizes : Sizes) (ws : List ℕ) (vs : List View) → EpochPart sizes.participants ws (map epoch_of vs) → Each (AreEnded sizes ws) vs
+    → Each (AreQuiet sizes ws) vs → (id : ℕ) (v : View) → get_elem? vs id ≡ some v → HasPlace v.epoch → NoneQuiet vs
+none_quiet sizes ws vs epochs ended quiet id v at live j u e = let f = epochs.each id v.epoch (at_map epoch_of vs id v at) in
+    let is = f.state live in let few = f.states in let low = f.inside live in dite (dec_lt 0 u.places.quiet)
+    (λ l. let all = (quiet j u e 0 l).1 in let over = ended j u e v.epoch.place low (omega arith) in absurd (omega arith)) (λ none. omega arith)
+
+module _ (sizes : Sizes) (ws : List ℕ) (i y : ℕ) where
+  -- a step that stores y in the word i gives no slot an owner that has none
+  abbrev pub Hushes : Type 0
+  Hushes = (k : ℕ) → i ≡ slot_word sizes k → alive (get_or ws i 0) ≡ 0 → alive y ≡ 0
+
+  pub one_hushed : (vs : List View) (j : ℕ) (v w : View) → get_elem? vs j ≡ some v → NoneQuiet vs ⊎ Hushes → w.places ≡ v.places → AreQuiet sizes ws v
+      → AreQuiet sizes (set ws i y) w
+  one_hushed vs j v w at hushes same old k low = let q = ap (λ (x : PlacesView). x.quiet) same in let e = ap (λ (x : PlacesView). x.ended) same in
+      let was = old k (omega arith) in let word : ℕ = slot_word sizes k in (
+        dite (ℕ_discrete word i)
+            (λ is. let here : alive (get_or ws i 0) ≡ 0 = ap (λ (d : ℕ). alive (get_or ws d 0)) (sym is) ∙ was.0 in
+            let silent : alive y ≡ 0 = ⊎_elim (λ (none : NoneQuiet vs). absurd (let z = none j v at in omega arith))
+            (λ (hush : Hushes). hush k (sym is) here) hushes in
+            ap (λ (d : ℕ). alive (get_or (set ws i y) d 0)) is ∙ dite (dec_lt i (length ws))
+            (λ l. ap alive (get_or-set_same ws i y 0 l) ∙ silent)
+            (λ far. ap alive (get_or_past (set ws i y) i 0 (omega (arith, length-set ws i y))) ∙ sound.free.0))
+            (λ ne. ap alive (get_or-set_other ws i word y 0 ne) ∙ was.0),
+        (let all = was.1 in omega arith),
+      )
+
+  pub all_hushed : (vs : List View) (id : ℕ) (w : View) → NoneQuiet vs ⊎ Hushes → Each (AreQuiet sizes ws) vs → AreQuiet sizes (set ws i y) w
+      → Each (AreQuiet sizes (set ws i y)) (set vs id w)
+  all_hushed vs id w hushes old mine = each_set (AreQuiet sizes ws) (AreQuiet sizes (set ws i y)) vs id w mine
+      (λ j u _ e. one_hushed vs j u u e hushes refl (old j u e))
+
 module _ (sizes : Sizes) where
   barred : (ws : List ℕ) (vs : List View) (p : ℕ) → Parts sizes ws vs → p < sizes.participants → get_or ws (state_word p) 0 ≡ 0
       → Parts sizes (set ws (state_word p) 3) vs
@@ -50,7 +90,7 @@ module _ (sizes : Sizes) where
 
   -- the next place has ended, or is ended now, unless it is a participant's
   pub bars : (id p : ℕ) (v : View) → p < sizes.participants → Steps (Parts sizes) id v (state_word p) (λ x. either (eqb x 0) 3 x) (Bars (state_word p) v)
-  bars id p v inside ws vs k at small = let i : ℕ = state_word p in let x : ℕ = get_or ws i 0 in let t : PlacesView = record { ended = p + 1 } in
+  bars id p v inside ws vs k at small = let i : ℕ = state_word p in let x : ℕ = get_or ws i 0 in let t : PlacesView = record v.places { ended = p + 1 } in
       let same = λ (q : ℕ) (is : i ≡ state_word q). let e : p ≡ q = omega arith in ap (λ (q : ℕ). past q v) e in
       let here : Parts sizes (set ws i x) vs = subst (λ (l : List ℕ). Parts sizes l vs) (sym (set-get_or ws i 0)) k in
       exchanged x 0 3 (λ y. (w : View) × Parts sizes (set ws i y) (set vs id w) × Bars i v x w)
@@ -66,3 +106,10 @@ module _ (sizes : Sizes) where
         subst (λ (l : List View). Parts sizes (set ws i x) l) (sym (set_again vs id v at)) here,
         λ q is. ((λ t. absurd (⊎_elim (λ (e : x ≡ 0). miss e) (λ (e : x ≡ 3). not_over e) t)), (λ _ _. refl)),
       )))
+
+  -- a look whether a slot has an owner changes no word
+  pub looks_for_owner : (id i : ℕ) (v : View) → Steps (Parts sizes) id v i (λ x. x) (LooksForOwner v)
+  looks_for_owner id i v ws vs k at small = let x : ℕ = get_or ws i 0 in
+      let here : Parts sizes (set ws i x) vs = subst (λ (l : List ℕ). Parts sizes l vs) (sym (set-get_or ws i 0)) k in dite (ℕ_discrete (alive x) 0)
+      (λ none. (past_quiet v, blind_places sizes (set ws i x) vs id v at here (past_quiet v).places, ((λ _. refl), (λ has. absurd (has none)))))
+      (λ has. (v, subst (λ (l : List View). Parts sizes (set ws i x) l) (sym (set_again vs id v at)) here, ((λ none. absurd (has none)), (λ _. refl))))

@@ -21,7 +21,7 @@ use Rattle.sdd_rule.specs.Epoch.{HasPlace, EpochPart}
 use Rattle.sdd_rule.specs.Slots.{Holds, LonePart}
 use Rattle.sdd_rule.specs.Steps.{nobody}
 use Rattle.sdd_rule.specs.Parts.{epoch_of, idle, owner_token, Parts, Kept}
-use Rattle.sdd_rule.specs.Ended.{AreEnded}
+use Rattle.sdd_rule.specs.Ended.{AreEnded, AreQuiet}
 use Rattle.sdd_rule.proofs.Frame.{Each, each_set, each_snoc}
 use Rattle.sdd_rule.proofs.Codes.{sound}
 use Rattle.sdd_rule.proofs.Epoch.{seated}
@@ -78,10 +78,8 @@ snoc_lone sizes ws vs t none l = record {
 }
 
 -- the words and what is known of ended places stay
-moved : (sizes : Sizes) (ws : List ℕ) (vs : List View) (id : ℕ) (v w : View) → get_elem? vs id ≡ some v → Each (AreEnded sizes ws) vs → w.places ≡ v.places
-    → Each (AreEnded sizes ws) (set vs id w)
-moved sizes ws vs id v w at old same = each_set (AreEnded sizes ws) (AreEnded sizes ws) vs id w
-    (λ p low past. let e = ap (λ (x : PlacesView). x.ended) same in old id v at p low (omega arith)) (λ j u _ e. old j u e)
+moved : (F : View → Type 0) (vs : List View) (id : ℕ) (v w : View) → get_elem? vs id ≡ some v → Each F vs → (F v → F w) → Each F (set vs id w)
+moved F vs id v w at old same = each_set F F vs id w (same (old id v at)) (λ j u _ e. old j u e)
 
 module _ {S : Type 0} (sizes : Sizes) where
   -- a new token, which knows nothing
@@ -98,6 +96,7 @@ module _ {S : Type 0} (sizes : Sizes) where
       places = record {
         wide = k.places.wide;
         ended = each_snoc (AreEnded sizes s.words) s.views w k.places.ended (λ p _ l. absurd (omega arith));
+        quiet = each_snoc (AreQuiet sizes s.words) s.views w k.places.quiet (λ i l. absurd (omega arith));
       };
     },
     tells (get_or s.words i 0),
@@ -115,6 +114,7 @@ module _ {S : Type 0} (sizes : Sizes) where
     places = record {
       wide = omega arith;
       ended = λ j v e p _ l. let e' = ap (λ (x : View). x.places.ended) (only (idle sizes book) j v e) in absurd (omega arith);
+      quiet = λ j v e i l. let e' = ap (λ (x : View). x.places.quiet) (only (idle sizes book) j v e) in absurd (omega arith);
     };
   }
     where
@@ -139,7 +139,10 @@ module _ {S : Type 0} (sizes : Sizes) where
         };
         places = record {
           wide = k.places.wide;
-          ended = each_snoc (AreEnded sizes s.words) vs t (moved sizes s.words s.views id v w at k.places.ended refl) (λ p _ l. absurd (omega arith));
+          ended = each_snoc (AreEnded sizes s.words) vs t (moved (AreEnded sizes s.words) s.views id v w at k.places.ended (λ e. e))
+              (λ p _ l. absurd (omega arith));
+          quiet = each_snoc (AreQuiet sizes s.words) vs t (moved (AreQuiet sizes s.words) s.views id v w at k.places.quiet (λ q. q))
+              (λ i l. absurd (omega arith));
         };
       }
 
@@ -160,7 +163,8 @@ module _ {S : Type 0} (sizes : Sizes) where
         };
         places = record {
           wide = k.places.wide;
-          ended = moved sizes s.words vs other t t' there (moved sizes s.words s.views id v w at k.places.ended refl) refl;
+          ended = moved (AreEnded sizes s.words) vs other t t' there (moved (AreEnded sizes s.words) s.views id v w at k.places.ended (λ e. e)) (λ e. e);
+          quiet = moved (AreQuiet sizes s.words) vs other t t' there (moved (AreQuiet sizes s.words) s.views id v w at k.places.quiet (λ q. q)) (λ q. q);
         };
       }
 

@@ -16,7 +16,7 @@ use Rattle.sdd_rule.specs.Epoch.{EpochPart}
 use Rattle.sdd_rule.specs.Slots.{SlotsPart, LonePart}
 use Rattle.sdd_rule.specs.Steps.{nobody}
 use Rattle.sdd_rule.specs.SlotSteps.{bare, owning_only, blank}
-use Rattle.sdd_rule.specs.Ended.{AreEnded}
+use Rattle.sdd_rule.specs.Ended.{AreEnded, AreQuiet}
 
 abbrev pub epoch_of : View → EpochView
 epoch_of v = v.epoch
@@ -40,7 +40,7 @@ abbrev pub idle : Sizes → ℕ → View
 idle sizes book = record {
   sizes = sizes;
   epoch = nobody sizes.participants;
-  places = record { ended = 0 };
+  places = record { ended = 0; quiet = 0 };
   slots = bare;
   stakes = at_rest book;
   words = blank sizes;
@@ -54,7 +54,7 @@ abbrev pub owner_token : List ℕ → List ℕ → View
 owner_token owns shares = record {
   sizes = no_sizes;
   epoch = nobody 0;
-  places = record { ended = 0 };
+  places = record { ended = 0; quiet = 0 };
   slots = owning_only owns shares;
   stakes =
       at_rest 0;
@@ -74,10 +74,11 @@ pub record Parts (sizes : Sizes) (ws : List ℕ) (vs : List View) : Type 0 where
   pub lone : LonePart sizes ws vs
 
 module _ {S : Type 0} (sizes : Sizes) (s : State S View) where
-  -- what ended places left, and the mark: the word is there; and a place that has ended stays so
+  -- what ended places left, and the mark: the word is there; a place that has ended stays so, and a slot that is quiet then
   pub record PlacesPart : Type 0 where
     pub wide : mark_word < length s.words
     pub ended : (j : ℕ) (v : View) → get_elem? s.views j ≡ some v → AreEnded sizes s.words v
+    pub quiet : (j : ℕ) (v : View) → get_elem? s.views j ≡ some v → AreQuiet sizes s.words v
 
   pub record Kept : Type 0 where
     pub parts : Parts sizes s.words s.views

@@ -32,10 +32,12 @@ pub struct EpochView {
     pub ended: u64,
 }
 
-/// What is known of ended places.
+/// What is known of ended places, and of slots once all have ended.
 pub struct PlacesView {
     /// Each place below this one has ended.
     pub ended: u64,
+    /// No slot below this one has an owner, and none will: all places have ended.
+    pub quiet: u64,
 }
 
 /// An item that waits with a participant.

@@ -1,5 +1,7 @@
 use Rattle.sdd_board.specs.Board.{book_of, sizes_of}
-use Rattle.std.proofs.Common.{ℕ, List, ◌+◌, ap, ◌∙◌}
+use Rattle.std.proofs.Common.{ℕ, List, ◌+◌, sym, ap, ◌∙◌}
+use Rattle.sdd_rule.specs.Codes.{alive}
+use Rattle.sdd_rule.specs.Slots.{slot_at}
 use Rattle.sdd_homes.specs.Counts.{gone_by, full_slots}
 use Rattle.sdd_homes.proofs.Tokens.{few_over, all_counted}
 use Rattle.sdd_board.proofs.Ending.{home_at_end}
@@ -17,3 +19,7 @@ pub returns-clause-counted : goal.returns-clause-counted
 returns-clause-counted c all = let fin = c.close_with.ensures.values.2 in let v = c.args.token.me.0 in let z = sizes_of c.args.self in
     all_counted (book_of c.args.self) z fin.0 fin.1.0 c.args.token.id v fin.1.1 c.requires.ended all
     ∙ ap (λ (ws : List ℕ). gone_by v + full_slots z ws) fin.2
+
+pub returns-clause-quiet : goal.returns-clause-quiet
+returns-clause-quiet c i low = let fin = c.close_with.ensures.values.2 in let z = sizes_of c.args.self in
+    ap (λ (ws : List ℕ). alive (slot_at z ws i)) (sym fin.2) ∙ (fin.1.0.kept.places.quiet c.args.token.id c.args.token.me.0 fin.1.1 i low).0
