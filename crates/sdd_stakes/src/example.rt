@@ -1,5 +1,5 @@
 //! The calls of a shelf, one after the other, over the rule of any table.
-ghost use Rattle.std.specs.Prelude.{◌≡◌, ◌<◌, ℕ, length};
+ghost use Rattle.std.specs.Prelude.{◌≡◌, ◌<◌, ℕ, None, length};
 ghost use Rattle.sdd_stakes.specs.Stakes.{AllFreeFor};
 ghost use Rattle.sdd_stakes.specs.Seats.{lots, plain};
 ghost use Rattle.sdd_stakes.specs.Shelf.{CanShow, Shows, showing, IsFull, IsVacant, HasWhole, vacant, all_turned};
@@ -92,4 +92,23 @@ pub fn shows_what_was_shown<'g, T, V, K, P: TableRule<Stake, V, K>>(
 {
     settle(seat, table, first);
     shelf.show(at, seat, table, next)
+}
+
+/// By a unit that is cut off a stake in a full place, the same value is viewed each time. The stake has the unit back in the end.
+pub fn views_by_a_grip<T: Copy>(shelf: &Shelf<T>, at: usize, stake: &mut Stake) -> (T, T)
+    requires inside { at < shelf.now.size }
+    requires book { stake.old.lot.book ≡ shelf.now.book }
+    requires number { stake.old.lot.number ≡ at }
+    requires full { IsFull stake.old.lot.shown }
+    requires more { 1 < stake.old.lot.units }
+    requires free { stake.old.lot.lent ≡ None }
+    ensures value { stake.old.lot.shown ≡ showing T.row result.0 }
+    ensures same { result.1 ≡ result.0 }
+    ensures stake { stake.new.lot ≡ stake.old.lot }
+{
+    let grip = stake.split(1).into_grip();
+    let first = *shelf.view(at, &grip);
+    let second = *shelf.view(at, &grip);
+    stake.join(Stake::of_grip(grip));
+    (first, second)
 }

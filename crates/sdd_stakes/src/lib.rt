@@ -1,4 +1,5 @@
-//! Stakes: parts of the right to a value, which lie in the slots of an `atomic_table` and are lent to tenures.
+//! Stakes: parts of the right to a value, which lie in the slots of an `atomic_table` and are lent to tenures. A value's owner has a unit of its own, a
+//! grip, and looks at the value by that alone.
 #![tactic(auto)]
 
 pub mod example;

@@ -23,7 +23,8 @@ pub part-in-book : (views : List Gv) (table : TableId) (name : ℕ) (home book :
 part-in-book views table name home book e none = sym (home-blank views table name home (blank-in-book views table name home book e none)) ∙ e
 
 -- with a witness it is the table's
-pub home-witnessed : (views : List Gv) (table : TableId) (name : ℕ) (home : Home) → views ≢ [] → home_by views table name home ≡ home_of_table table name home.size
+pub home-witnessed : (views : List Gv) (table : TableId) (name : ℕ) (home : Home) → views ≢ [] →
+    home_by views table name home ≡ home_of_table table name home.size
 home-witnessed [] table name home some = absurd (some refl)
 home-witnessed (g ∷ gs) table name home some = refl
 

@@ -1,5 +1,5 @@
 -- What a right to a slot of a domain shows: the token of the slot's owner
-use Rattle.std.specs.Prelude.{ℕ, ◌≡◌, ◌≢◌, Bool, List, [], ◌∷◌}
+use Rattle.std.specs.Prelude.{ℕ, ◌≡◌, Bool, List, [], ◌∷◌}
 use Rattle.std.proofs.Common.{ap}
 use mathlib.Core.HLevel.{→_prop}
 use base.Stored.{Gv, gnil, Coded-set, coded_list}
@@ -12,10 +12,6 @@ use Rattle.sdd_rule.specs.Parts.{owner_of}
 -- the views of a witness that is the token of the owner of a slot, which shows this; it may be one of several
 abbrev pub witness_of_owner : ℕ → Bool → Gv → List Gv
 witness_of_owner slot shared shown = the_row.coded.code (owner_of slot shared shown) ∷ []
-
--- where there are any, they are those
-abbrev pub AreOf : ℕ → Bool → Gv → List Gv → Type 0
-AreOf slot shared shown views = views ≢ [] → views ≡ witness_of_owner slot shared shown
 
 abbrev first_code : List Gv → Gv
 first_code [] = gnil
@@ -30,5 +26,5 @@ pub one-shown : (slot : ℕ) (shared : Bool) (g h : Gv) → witness_of_owner slo
 one-shown slot shared g h e =
     ap (λ (v : View). first_shown v.stakes.owns) (the_row.coded.inj (owner_of slot shared g) (owner_of slot shared h) (ap first_code e))
 
-pub AreOf-prop : (slot : ℕ) (shared : Bool) (shown : Gv) (views : List Gv) → IsProp (AreOf slot shared shown views)
-AreOf-prop slot shared shown views = →_prop (Coded-set (coded_list itself) views (witness_of_owner slot shared shown))
+pub codes-prop : {A : Type 0} {views others : List Gv} → IsProp (A → views ≡ others)
+codes-prop {views = views} {others = others} = →_prop (Coded-set (coded_list itself) views others)

@@ -1,7 +1,7 @@
 ghost use Rattle.std.specs.Prelude.{◌≡◌, ◌≢◌, ◌<◌, ◌≤◌, []};
 ghost use Rattle.sdd_token.specs.declared.right.Kind.{Kind};
 ghost use Rattle.sdd_token.specs.Kind.{right_units, is_shared, IsOwner};
-ghost use Rattle.sdd_token.specs.Owner.{witness_of_owner, AreOf, AreOf-prop};
+ghost use Rattle.sdd_token.specs.Owner.{witness_of_owner, codes-prop};
 
 use crate::grip::Grip;
 use crate::part::{Book, Part, WHOLE};
@@ -51,7 +51,7 @@ pub struct Right {
     pub ghost due: { witness.views ≡ [] → part.units ≡ right_units part.kind },
     pub ghost books: { part.home.tables ≡ [] },
     pub ghost placed: { witness.views ≢ [] → grip.number ≡ number },
-    pub ghost owns: { AreOf number (is_shared part.kind) grip.shown witness.views } by { AreOf-prop number (is_shared part.kind) grip.shown witness.views },
+    pub ghost owns: { witness.views ≢ [] → witness.views ≡ witness_of_owner number (is_shared part.kind) grip.shown } by { codes-prop },
 }
 
 const _: () = prove!(size_of::<Right>() == 4);
