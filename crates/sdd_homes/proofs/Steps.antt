@@ -824,8 +824,8 @@ module _ (γ : ℕ) (sizes : Sizes) (slots id : ℕ) (me : Mine) (slot : ℕ) (n
       (λ s w h at t. let x : ℕ = get_or s.words word 0 in
       subst (IsCalm γ sizes slots id me word (λ x. x) s x) (sym (looked_for x w t).1) record {
         more = λ j q out. out;
-        same = λ j _. ap (λ (l : List ℕ). full (slot_at sizes l j)) (as_before s h at);
-        mover = λ j m. h.homes.moving id me.0 j at m;
+        same = λ j _. ap (λ (l : List ℕ). slot_at sizes l j) (as_before s h at);
+        mover = h.homes.moving id me.0 at;
         alike = (refl, refl, refl);
         counts = refl;
         lives = λ l. l;
