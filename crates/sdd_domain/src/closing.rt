@@ -4,6 +4,7 @@ ghost use Rattle.core.specs.Mem.Slots.{slots_items, slots_filled, slots_len, IsF
 ghost use Rattle.sdd_stakes.specs.Shelf.{AreVacant};
 ghost use Rattle.sdd_rule.specs.Codes as codes;
 ghost use Rattle.sdd_rule.specs.Words.{all_words};
+ghost use Rattle.sdd_rule.specs.Slots.{slot_at};
 ghost use Rattle.sdd_rule.specs.Parts.{no_counts};
 ghost use Rattle.sdd_homes.specs.Homes.{AreHome};
 ghost use Rattle.sdd_homes.specs.Counts.{full_slots};
@@ -15,7 +16,7 @@ ghost use Rattle.sdd_domain.specs.Receipt.{Receipt as Ended, HasTaken};
 use crate::receipt::Receipt;
 use atomic_table::Closed;
 use sdd_board::steps::counts::take_counts;
-use sdd_board::steps::slots::{FREE, WAITING};
+use sdd_board::steps::slots::{FREE, WAITING, look_for_owner};
 use sdd_board::words::{first_slot, state_word};
 use sdd_board::{Board, Token, steps};
 use sdd_homes::gather_home;
@@ -31,23 +32,30 @@ fn is_full(word: u64) -> bool
     word >= 1 << 63 || word % 8 != 0
 }
 
-/// At this moment no place is a participant's, and no item has an owner.
+/// The word of a slot without an owner: it is free, or its item waits.
+fn is_unowned(word: u64) -> bool
+    ensures { result ≡ true → codes.alive word ≡ 0 }
+{
+    word == FREE || word == WAITING
+}
+
+/// At this moment no place is a participant's, and no item has an owner. A peek changes nothing, so that a close that is refused here leaves the
+/// domain as it was.
 fn is_quiet(board: &Board, slots: u32) -> bool
     requires { slots ≡ (sizes_of board.now).slots }
 {
     (0..board.places()).all(|place| {
         let state = board.table.shared.peek(state_word(place));
         state == steps::FREE || state == steps::ENDED
-    }) && (0..slots).all(|slot| {
-        let word = board.table.shared.peek(board.slot_word(slot));
-        word == FREE || word == WAITING
-    })
+    }) && (0..slots).all(|slot| is_unowned(board.table.shared.peek(board.slot_word(slot))))
 }
 
 /// Ends each place that is free. A token that knows that all have ended, unless one is a participant's.
 fn end_all(board: &Board) -> Option<Token>
-    ensures { IfSome result (λ token. (token.table_id ≡ id_of board.now) × (places_of board.now ≤ (view token).places.ended)
-        × ((view token).stakes.counts ≡ no_counts)) }
+    ensures home { IfSome result (λ token. token.table_id ≡ id_of board.now) }
+    ensures ended { IfSome result (λ token. places_of board.now ≤ (view token).places.ended) }
+    ensures counts { IfSome result (λ token. (view token).stakes.counts ≡ no_counts) }
+    ensures quiet { IfSome result (λ token. (view token).places.quiet ≡ 0) }
 {
     let mut token = steps::sit(board);
     for place in 0..board.places() {
@@ -59,14 +67,40 @@ fn end_all(board: &Board) -> Option<Token>
     Some(token)
 }
 
-/// A token that knows that all places have ended, where nothing is out any more.
+/// Looks at each slot in turn, once all places have ended. No slot has an owner, nor will have, which the token knows then; unless one is found
+/// that has.
+fn are_unowned(board: &Board, token: &mut Token, slots: u32) -> bool
+    requires home { token.old.table_id ≡ id_of board.now }
+    requires slots { slots ≡ (sizes_of board.now).slots }
+    requires ended { places_of board.now ≤ (view token.old).places.ended }
+    requires quiet { (view token.old).places.quiet ≡ 0 }
+    ensures home { token.new.table_id ≡ id_of board.now }
+    ensures ended { (view token.new).places.ended ≡ (view token.old).places.ended }
+    ensures counts { (view token.new).stakes.counts ≡ (view token.old).stakes.counts }
+    ensures quiet { result ≡ true → slots ≤ (view token.new).places.quiet }
+{
+    for slot in 0..slots {
+        if !is_unowned(look_for_owner(board, token, slot)) {
+            return false;
+        }
+    }
+    true
+}
+
+/// A token that knows that all places have ended, where nothing is out any more: no slot has an owner, and none will.
 pub fn settled(board: &Board, slots: u32) -> Option<Token>
     requires { slots ≡ (sizes_of board.now).slots }
-    ensures { IfSome result (λ token. (token.table_id ≡ id_of board.now) × (places_of board.now ≤ (view token).places.ended)
-        × ((view token).stakes.counts ≡ no_counts)) }
+    ensures home { IfSome result (λ token. token.table_id ≡ id_of board.now) }
+    ensures ended { IfSome result (λ token. places_of board.now ≤ (view token).places.ended) }
+    ensures counts { IfSome result (λ token. (view token).stakes.counts ≡ no_counts) }
+    ensures quiet { IfSome result (λ token. slots ≤ (view token).places.quiet) }
 {
-    if is_quiet(board, slots) {
-        end_all(board)
+    if !is_quiet(board, slots) {
+        return None;
+    }
+    let mut token = end_all(board)?;
+    if are_unowned(board, &mut token, slots) {
+        Some(token)
     } else {
         None
     }
@@ -97,6 +131,7 @@ pub fn take_all<T: Drop>(
     requires shelf { (shelf.now.book ≡ title.now.book) × (shelf.now.size ≡ sizes.now.slots) }
     requires home { AreHome title.now.book sizes.now (slots_len closed.old.slots) closed.old }
     requires words { (slots_len closed.old.words ≡ all_words sizes.now) × IsFull closed.old.words }
+    requires quiet { (i : ℕ) → i < sizes.now.slots → codes.alive (slot_at sizes.now (slots_items closed.old.words) i) ≡ 0 }
     ensures stock { AreVacant title.now.book 0 sizes.now.slots result.0.lots }
     ensures few { result.1 ≤ sizes.now.slots }
     ensures all { result.1 ≡ full_slots sizes.now (slots_items closed.old.words) }

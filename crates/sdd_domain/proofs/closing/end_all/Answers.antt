@@ -11,5 +11,6 @@ loop-place-preserved c = let e = c.bar-state.ensures in let x = c.bar-state.resu
     ] in record {
       home = e.0 ∙ c.loop-place.invariant.home;
       ended = ap (λ (v : View). v.places.ended) ((e.3 c.loop-place.place refl).0 over);
+      quiet = ap (λ (v : View). v.places.quiet) ((e.3 c.loop-place.place refl).0 over) ∙ c.loop-place.invariant.quiet;
       none = ap (λ (v : View). v.stakes.counts) ((e.3 c.loop-place.place refl).0 over) ∙ c.loop-place.invariant.none;
     }

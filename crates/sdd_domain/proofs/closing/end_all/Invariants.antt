@@ -7,5 +7,6 @@ abbrev pub invariant-loop-place : goal.invariant-loop-place
 invariant-loop-place l = record {
   home : l.token.table_id ≡ id_of l.board;
   ended : l.token.me.0.places.ended ≡ l.place;
+  quiet : l.token.me.0.places.quiet ≡ 0;
   none : l.token.me.0.stakes.counts ≡ no_counts;
 }

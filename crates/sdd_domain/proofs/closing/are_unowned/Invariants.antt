@@ -1,0 +1,11 @@
+use Rattle.std.proofs.Common.{◌≡◌}
+use Rattle.sdd_board.specs.Board.{id_of}
+use Rattle.sdd_domain.proofs.closing.are_unowned.Given as goal
+
+abbrev pub invariant-loop-slot : goal.invariant-loop-slot
+invariant-loop-slot l = record {
+  home : l.token.table_id ≡ id_of l.board;
+  ended : l.token.me.0.places.ended ≡ l.fn.token.me.0.places.ended;
+  counts : l.token.me.0.stakes.counts ≡ l.fn.token.me.0.stakes.counts;
+  quiet : l.token.me.0.places.quiet ≡ l.slot;
+}
