@@ -31,18 +31,18 @@ module _ (γ i n k : ℕ) (count : k ≡ n + 1) where
   as_many = let e : k ≡ suc n = omega arith in e
 
   -- who has all stakes in a slot may move its value
-  pub may_move : (Is : Gv → Type 0) (γ' : ℕ) → γ' ≡ γ → n < most → (rest xs : Carries) → HasAll γ i n Is rest xs → HasWhole γ' i k Is (lots xs)
+  pub may_move : (Is : Gv → Type 0) (γ' : ℕ) → γ' ≡ γ → n < most → (rest xs : Carries) → HasAll γ i n 0 Is rest xs → HasWhole γ' i k Is (lots xs)
   may_move Is γ' same few rest xs row = subst (λ (t : ℕ × ℕ). HasWhole t.0 i t.1 Is (lots xs)) (λ d. (sym same d, sym as_many d))
       (whole γ i n Is few rest xs row)
 
   -- and has them still
-  pub row_after : (Is Js : Gv → Type 0) (g : Gv) (a : ℕ) (rest xs ys : Carries) → Js g → HasAll γ i n Is rest xs → ys ≡ all_turned a g k xs
-      → HasAll γ i n Js rest ys
-  row_after Is Js g a rest xs ys so row e = all_after γ i n Is Js g rest xs ys so row (a, e ∙ ap (λ (k : ℕ). all_turned a g k xs) as_many)
+  pub row_after : (Is Js : Gv → Type 0) (g : Gv) (a : ℕ) (rest xs ys : Carries) → Js g → HasAll γ i n 0 Is rest xs → ys ≡ all_turned a g k xs
+      → HasAll γ i n 0 Js rest ys
+  row_after Is Js g a rest xs ys so row e = all_after γ i n 0 Is Js g rest xs ys so row (a, e ∙ ap (λ (k : ℕ). all_turned a g k xs) as_many)
 
 -- all go home, and what was out before is out still
-pub rest_out : (γ i n n' : ℕ) (Is : Gv → Type 0) (rest xs zs : Carries) → n' ≡ n → HasAll γ i n Is rest xs → zs ≡ drop (suc n') xs → zs ≡ rest
-rest_out γ i n n' Is rest xs zs same row e = e ∙ (ap (λ (k : ℕ). drop (suc k) xs) same ∙ rest_is γ i n Is rest (suc n) xs row)
+pub rest_out : (γ i n n' o : ℕ) (Is : Gv → Type 0) (rest xs zs : Carries) → n' ≡ n → HasAll γ i n o Is rest xs → zs ≡ drop (suc n') xs → zs ≡ rest
+rest_out γ i n n' o Is rest xs zs same row e = e ∙ (ap (λ (k : ℕ). drop (suc k) xs) same ∙ rest_is γ i n o Is rest (suc n) xs row)
 
 -- a slot that was given back by who moved its value
 pub rests_again : (slot y : ℕ) (v w : View) → v.stakes.moves ≡ None → w ≡ giving (given_back slot y (moving slot v)) → w ≡ with_gone (given_back slot y v)
@@ -135,15 +135,15 @@ may_settle t t' xs e lent = subst (λ (t : ℕ). AllFreeFor t (lots xs)) (sym e)
 
 -- ---- a slot that was claimed
 pub row_out : (γ n slot : ℕ) (me : Mine) (xs : Carries) → me.0.stakes.book ≡ γ → me.0.sizes.participants ≡ n → AllOut slot me xs
-    → HasAll γ slot n IsVacant me.1 xs
+    → HasAll γ slot n 0 IsVacant me.1 xs
 unfolding AllOut
-row_out γ n slot me xs e e' row = subst (λ (t : ℕ × ℕ). HasAll t.0 slot t.1 IsVacant me.1 xs) (λ d. (e d, e' d)) row
+row_out γ n slot me xs e e' row = subst (λ (t : ℕ × ℕ). HasAll t.0 slot t.1 0 IsVacant me.1 xs) (λ d. (e d, e' d)) row
 
 pub gains : (slot : ℕ) (s t u : Seat Stake View) (r r' : ℕ) → Taught (LooksAtSlot slot) s r t → Moved (ClaimsAll slot (free_word 0) (owned_word 0)) t r' u
     → r' ≡ free_word 0 → slot < s.me.0.sizes.slots → Gains slot s u
 unfolding AllOut
 gains slot s t u r r' look claim hit inside = let me : t.me ≡ s.me = λ d. (look.3.0 d, look.2 d) in
-    let out = subst (λ (m : Mine). (u.me.0 ≡ making slot (owned_word 0) m.0) × HasAll (book_of m) slot (places_of m) IsVacant m.1 u.me.1)
+    let out = subst (λ (m : Mine). (u.me.0 ≡ making slot (owned_word 0) m.0) × HasAll (book_of m) slot (places_of m) 0 IsVacant m.1 u.me.1)
     me (claim.2.0 hit) in
     let knew = subst (λ (m : Mine). Knew slot m.0 r') me claim.2.2 in record {
       table = claim.0 ∙ look.0;

@@ -37,24 +37,29 @@ pub record IsFurnished (n slot : ℕ) (shared : Bool) (value : Gv) (s t : Seat S
   pub view : t.me.0 ≡ resting (telling slot shared value s.me.0)
   pub given : t.me.1 ≡ drop (suc n) s.me.1
 
--- so it is after the value was moved in and the step that tells of it
-module _ (b : Board) (slot count : ℕ) (shared : Bool) (value : Gv) (s p t : Seat Stake View) (knows : Knows b s) (all : count ≡ places_of b + 1) (moves : Moves (view s) slot)
-    (rest : Carries) (row : HasAll (book_of b) slot (places_of b) IsVacant rest s.me.1) (a : ℕ) (full : IsFull value)
+-- so it is after the value was moved in, the owner's unit was cut off, and the step that tells of it
+module _ (b : Board) (slot count : ℕ) (shared : Bool) (value : Gv) (s p c t : Seat Stake View) (knows : Knows b s) (all : count ≡ places_of b + 1) (moves : Moves (view s) slot)
+    (rest : Carries) (row : HasAll (book_of b) slot (places_of b) 0 IsVacant rest s.me.1) (a : ℕ) (full : IsFull value)
     (put : p ≡ record s { me = (s.me.0, all_turned a value count s.me.1) }) where
-  pub row_put : HasAll (book_of b) slot (places_of b) (IsValue value) rest p.me.1
+  pub row_put : HasAll (book_of b) slot (places_of b) 0 (IsValue value) rest p.me.1
   row_put = row_after (book_of b) slot (places_of b) count all IsVacant (IsValue value) value a rest s.me.1 p.me.1 (full, refl) row
       (ap (λ (s : Seat Stake View). s.me.1) put)
 
-  pub moves_put : Moves (view p) slot
-  moves_put = ap (λ (s : Seat Stake View). s.me.0.stakes.moves) put ∙ moves
+  module _ (cut : (c.table_id ≡ p.table_id) × (c.id ≡ p.id) × (view c ≡ view p)) where
+    pub view_cut : view c ≡ view s
+    view_cut = cut.2 ∙ ap (λ (s : Seat Stake View). s.me.0) put
 
-  pub furnished : ((slot : ℕ) (g : Gv) (rest : Carries) → Moves (view p) slot → HasAll (book_of b) slot (places_of b) (IsValue g) rest p.me.1
-      → MovedAlone (Houses slot shared g) p t) → IsFurnished (places_of b) slot shared value s t
-  furnished housed = let h = housed slot value rest moves_put row_put in record {
-    table = h.0 ∙ ap (λ (s : Seat Stake View). s.table_id) put;
-    number = h.1 ∙ ap (λ (s : Seat Stake View). s.id) put;
-    view = h.2.0 ∙ ap (λ (s : Seat Stake View). resting (telling slot shared value s.me.0)) put;
-    given = rest_out (book_of b) slot (places_of b) p.me.0.sizes.participants (IsValue value) rest p.me.1 t.me.1
-        (ap (λ (s : Seat Stake View). s.me.0.sizes.participants) put ∙ ap (λ (z : Sizes). z.participants) knows.0) row_put h.2.1
-        ∙ sym (rest_out (book_of b) slot (places_of b) (places_of b) IsVacant rest s.me.1 (drop (suc (places_of b)) s.me.1) refl row refl);
-  }
+    pub moves_cut : Moves (view c) slot
+    moves_cut = ap (λ (v : View). v.stakes.moves) view_cut ∙ moves
+
+    module _ (left : HasAll (book_of b) slot (places_of b) 1 (IsValue value) rest c.me.1) where
+      pub furnished : ((slot : ℕ) (g : Gv) (rest : Carries) → Moves (view c) slot → HasAll (book_of b) slot (places_of b) 1 (IsValue g) rest c.me.1
+          → MovedAlone (Houses slot shared g) c t) → IsFurnished (places_of b) slot shared value s t
+      furnished housed = let h = housed slot value rest moves_cut left in record {
+        table = h.0 ∙ (cut.0 ∙ ap (λ (s : Seat Stake View). s.table_id) put);
+        number = h.1 ∙ (cut.1 ∙ ap (λ (s : Seat Stake View). s.id) put);
+        view = h.2.0 ∙ ap (λ (v : View). resting (telling slot shared value v)) view_cut;
+        given = rest_out (book_of b) slot (places_of b) c.me.0.sizes.participants 1 (IsValue value) rest c.me.1 t.me.1
+            (ap (λ (v : View). v.sizes.participants) view_cut ∙ ap (λ (z : Sizes). z.participants) knows.0) left h.2.1
+            ∙ sym (rest_out (book_of b) slot (places_of b) (places_of b) 0 IsVacant rest s.me.1 (drop (suc (places_of b)) s.me.1) refl row refl);
+      }

@@ -31,14 +31,14 @@ use Rattle.sdd_rule.specs.Codes.{owned_word}
 use Rattle.sdd_homes.specs.Homes.{Carries, Has, stake_at}
 use Rattle.sdd_homes.specs.Records.{slot_shown, IsIn}
 use Rattle.sdd_homes.proofs.Records.{in_head, in_either, in_times}
-use Rattle.sdd_homes.specs.HomeSteps.{Mine, IsValue, Watches, Recalls, RetiresOne, regained, resting, untold, with_made}
+use Rattle.sdd_homes.specs.HomeSteps.{Mine, IsValue, Watches, Recalls, regained, resting, untold, with_made}
 use Rattle.sdd_board.specs.Board.{book_of, places_of, slots_of}
 use Rattle.sdd_board.specs.Token.{view, epoch, slots, Taught, Moved, MovedAlone}
 use Rattle.sdd_board.specs.Owner.{disowned}
 use Rattle.sdd_domain.specs.Sight.{IsOnce}
 use Rattle.sdd_domain.specs.Waits.{waiting_of}
 use Rattle.sdd_domain.specs.Claims.{Gains}
-use Rattle.sdd_domain.specs.Values.{with_filled}
+use Rattle.sdd_domain.specs.Values.{with_filled, LetsWait}
 use Rattle.sdd_domain.specs.Posed.{IsPurse, AreLentTo, IsPosed}
 use Rattle.sdd_domain.proofs.Moving.{row_out, rest_out, now_seen, still_seen}
 
@@ -85,7 +85,7 @@ module _ (b : Board) (p : ℕ) where
 
   -- the token after an owner was taken in and its item retired
   pub retires_to : (own : Participant) (slot : ℕ) (shared : Bool) (value : Gv) (s t u : Seat Stake View) → IsPosed b p own s
-      → Taught (λ v _ w. w ≡ regained v (owner_of slot shared value)) s 0 t → Moved (RetiresOne slot) t 4 u
+      → Taught (λ v _ w. w ≡ regained v (owner_of slot shared value)) s 0 t → Moved (LetsWait slot) t 4 u
       → (count : ℕ) × (u.me.0 ≡ waiting_too slot 4 count (view s)) × ((epoch s).known ≤ count) × (IsLone (epoch s) → count ≡ (epoch s).known)
       × (IsOpen (epoch s) → count ≤ (epoch s).since + 1)
   retires_to own slot shared value s t u q took e = let r = e.2.1 in let v : View = view s in let v' : View = regained v (owner_of slot shared value) in
@@ -98,7 +98,7 @@ module _ (b : Board) (p : ℕ) where
       )
 
   pub posed_retires : (own : Participant) (slot : ℕ) (shared : Bool) (value : Gv) (s t u : Seat Stake View) → IsPosed b p own s → slot < slots_of b
-      → Taught (λ v _ w. w ≡ regained v (owner_of slot shared value)) s 0 t → Moved (RetiresOne slot) t 4 u → IsPosed b p (awaiting (Item slot) own) u
+      → Taught (λ v _ w. w ≡ regained v (owner_of slot shared value)) s 0 t → Moved (LetsWait slot) t 4 u → IsPosed b p (awaiting (Item slot) own) u
   posed_retires own slot shared value s t u q low took e = let r = retires_to own slot shared value s t u q took e in
       let others : u.me.1 ≡ s.me.1 = e.2.3 ∙ took.2 in
       subst (λ (v : View). IsPosed b p (awaiting (Item slot) own) (record u { me = (v, u.me.1) })) (sym r.1) record {
@@ -183,7 +183,7 @@ module _ (b : Board) (p : ℕ) where
       → u.table_id ≡ t.table_id → view u ≡ disowned (resting (with_filled slot shared value (view t))) → u.me.1 ≡ drop (suc (places_of b)) t.me.1 → IsPosed b p own u × (u.me.1 ≡ s.me.1)
   posed_makes own slot shared value s t u q gains table is given =
       let row = row_out (book_of b) (places_of b) slot s.me t.me.1 q.knows.1 (ap (λ (z : Sizes). z.participants) q.knows.0) gains.row in
-      let others : u.me.1 ≡ s.me.1 = rest_out (book_of b) slot (places_of b) (places_of b) IsVacant s.me.1 t.me.1 u.me.1 refl row given in (
+      let others : u.me.1 ≡ s.me.1 = rest_out (book_of b) slot (places_of b) (places_of b) 0 IsVacant s.me.1 t.me.1 u.me.1 refl row given in (
         subst (λ (w : View). IsPosed b p own (record u { me = (w, u.me.1) })) (sym (made_view own slot shared value s t u q gains is)) record {
           home = table ∙ (gains.table ∙ q.home);
           purse = subst (λ (xs : Carries). IsPurse (book_of b) (places_of b) p s.me.0.stakes.sees xs) (sym others) q.purse;

@@ -31,7 +31,7 @@ listing_none : {A : Type 0} (n : ℕ) → ◌≡◌ {A = List (Option A)} (listi
 listing_none zero = refl
 listing_none (suc n) = ap (λ l. None ∷ l) (listing_none n)
 
-module _ {T : Type 0} (home : TableId) (most : Limits) (m : Member) (es : Entries T) (is : IsNew home most m) (none : es ≡ replicate most.slots None) where
+module _ {T : Type 0} (home : TableId) (book : ℕ) (most : Limits) (m : Member) (es : Entries T) (is : IsNew home book most m) (none : es ≡ replicate most.slots None) where
   word_free : (i : ℕ) → word_of m i ≡ 0
   word_free i = ap (λ (ws : List ℕ). get_or ws (behind m.sizes i) 0) is.words ∙ zeros (words_behind m.sizes) (behind m.sizes i)
 

@@ -131,10 +131,10 @@ module _ {T : Type 0} where
         let d = ap (λ (ss : List (Option Standing)). count_by is_some ss) is.standings ∙ none_taken Standing most.slots in omega arith;
   }
 
-  pub sound_new : (home : TableId) (most : Limits) (m : Member) (es : Entries T) → IsNew home most m → es ≡ replicate most.slots None → IsSound m es
-  sound_new home most m es is none = record {
-    tied = tied_new home most m es is none;
-    whole = λ one. whole_blank most (world_of (record { member = m; entries = es })) (blank_new home most m es is none one);
+  pub sound_new : (home : TableId) (book : ℕ) (most : Limits) (m : Member) (es : Entries T) → IsNew home book most m → es ≡ replicate most.slots None → IsSound m es
+  sound_new home book most m es is none = record {
+    tied = tied_new home book most m es is none;
+    whole = λ one. whole_blank most (world_of (record { member = m; entries = es })) (blank_new home book most m es is none one);
   }
 
   module _ (v : Partaker T) (m : Member) (sound : IsSound v.member v.entries) where

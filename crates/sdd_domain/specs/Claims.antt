@@ -34,7 +34,7 @@ module _ {S : Type 0} where
 
 -- all stakes in the slot are out, and those that were out before
 unfoldable pub AllOut : ℕ → Mine → Carries → Type 0
-AllOut slot me xs = HasAll (book_of me) slot (places_of me) IsVacant me.1 xs
+AllOut slot me xs = HasAll (book_of me) slot (places_of me) 0 IsVacant me.1 xs
 
 -- the participant owns a slot more, for an item that it makes, whose value it is to move in
 pub record Gains (slot : ℕ) (s s' : Seat Stake View) : Type 0 where

@@ -1,7 +1,9 @@
 -- A domain as its callers see it
 use Rattle.sdd_base.specs.declared.limits.Limits.{Limits}
 use Rattle.atomic_table.specs.Seated.{TableId}
+use Rattle.std.specs.Prelude.{ℕ}
 use Rattle.sdd_board.specs.Board.{id_of}
+use Rattle.sdd_board.specs.Board as board
 use Rattle.sdd_domain.specs.declared.domain.Domain.{Domain}
 
 -- which domain it is
@@ -10,3 +12,7 @@ home_of d = id_of d.board
 
 abbrev pub limits_of : {T : Type 0} → Domain T → Limits
 limits_of d = d.limits
+
+-- the book of its values' places
+abbrev pub book_of : {T : Type 0} → Domain T → ℕ
+book_of d = board.book_of d.board

@@ -1,5 +1,5 @@
 -- Where the slots and the participants of a domain are numbered
-use Rattle.std.specs.Prelude.{[]}
+use Rattle.std.specs.Prelude.{ℕ, []}
 use Rattle.atomic_table.specs.Seated.{TableId}
 use Rattle.sdd_token.specs.Units as token
 use Rattle.sdd_token.specs.Right.{home_of_table}
@@ -15,12 +15,12 @@ abbrev pub nowhere : token.Home
 nowhere = record { name = 0; size = 0; tables = [] }
 
 -- the slots of its domain, and no cells. Each reader is numbered in a home of its own, and there may be so many
-abbrev pub home_at : TableId → Limits → Home
-home_at table limits = record {
-  slots = home_of_table table limits.slots;
+abbrev pub home_at : TableId → ℕ → Limits → Home
+home_at table book limits = record {
+  slots = home_of_table table book limits.slots;
   cells = nowhere;
   readers = record nowhere { size = limits.participants };
 }
 
 abbrev pub home_in : Member → Home
-home_in m = home_at m.home m.limits
+home_in m = home_at m.home m.book m.limits

@@ -11,7 +11,7 @@ use Rattle.sdd_domain.specs.Member.{Member}
 
 -- where the slots of its domain are numbered
 abbrev pub slots_home : Member → token.Home
-slots_home m = home_of_table m.home m.limits.slots
+slots_home m = home_of_table m.home m.book m.limits.slots
 
 -- the owner's item shows this value
 abbrev pub HasValue : Gv → Right → Type 0

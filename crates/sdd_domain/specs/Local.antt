@@ -1,4 +1,4 @@
--- A participant of a domain as its callers see it, and the world of a lone one: nobody else changes its domain
+-- A participant of a domain with what it moved into slots, and the world of a lone one: nobody else changes its domain
 use Rattle.std.specs.Prelude.{ℕ, zero, suc, ◌==◌, List, [], ◌∷◌, Option, Some, None, replicate, slice_index_or, option_map, if◌then◌else◌, false}
 use base.Stored.{Gv}
 use Rattle.sdd_store.specs.Time.{Time, newcomer}

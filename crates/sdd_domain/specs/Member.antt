@@ -1,4 +1,4 @@
--- A participant of a domain as its callers see it, and what each call does to it
+-- A participant's membership of a domain as its callers see it, and what each call does to it
 use Rattle.std.specs.Prelude.{◌≡◌, ◌≢◌, ◌⊎◌, ℕ, ◌+◌, ◌^◌, ◌<◌, ◌≤◌, Bool, Some, false, List, [], ◌∷◌, ◌++◌, length, slice_index, slice_set}
 use base.Stored.{Gv}
 use Rattle.atomic_table.specs.Seated.{TableId}
@@ -21,11 +21,12 @@ use Rattle.sdd_homes.specs.Fillings.{newest}
 use Rattle.sdd_domain.specs.Receipt.{with_reclaimed}
 use Rattle.sdd_domain.specs.Waits.{waits_at, due_at, freed}
 
--- the domain, its limits, the place, whose guards are the participant's, what it keeps of its own, the greatest count that it knows,
+-- the domain, the book of its values' places, its limits, the place, whose guards are the participant's, what it keeps of its own, the greatest count that it knows,
 -- the global count at its last publish (0 before the first), what it made and reclaimed, how many of each its domain has,
 -- what it knows of slots, what those show that its guards see, what it moved into slots, the newest first, and the words that it knows if it is lone
 pub record Member : Type 0 where
   pub home : TableId
+  pub book : ℕ
   pub limits : Limits
   pub place : ℕ
   pub reader : Reader
@@ -52,8 +53,9 @@ abbrev pub CanNest : Member → Type 0
 CanNest m = m.own.guards < m.limits.nesting
 
 -- it has just registered with this domain, as the only reader of a home of its own; where it is lone, the count is 0 then, and all is free
-pub record IsNew (domain : TableId) (most : Limits) (m : Member) : Type 0 where
+pub record IsNew (domain : TableId) (book : ℕ) (most : Limits) (m : Member) : Type 0 where
   pub home : m.home ≡ domain
+  pub book_is : m.book ≡ book
   pub limits : m.limits ≡ most
   pub place : m.place < most.participants
   pub reader : (m.reader.home.size ≡ 1) × (m.reader.number ≡ 0)

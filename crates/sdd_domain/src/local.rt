@@ -1,6 +1,6 @@
 //! A participant of a domain. Where it is lone, it shows the world that its domain is then.
 ghost use Rattle.std.specs.Prelude.{◌≡◌, ◌⊎◌, IfErr, IfOk, MatchResult};
-ghost use Rattle.sdd_domain.specs.Domain.{home_of, limits_of};
+ghost use Rattle.sdd_domain.specs.Domain.{home_of, book_of, limits_of};
 ghost use Rattle.sdd_domain.specs.Member.{IsGuarded, IsLone, IsNew};
 
 use crate::domain::Domain;
@@ -41,7 +41,7 @@ impl<'d, T> Local<'d, T> {
     /// All memory is taken here, and none later: for what may wait with it, and for the slots that it gave back, as many
     /// as there are slots. `NoPlace` where all places were found taken; `NoMemory` where this memory was refused.
     pub fn register(domain: &'d Domain<T>) -> Result<Local<'d, T>, Refused>
-        ensures registered { IfOk result (λ local. IsNew (home_of domain.now) (limits_of domain.now) local.member) }
+        ensures registered { IfOk result (λ local. IsNew (home_of domain.now) (book_of domain.now) (limits_of domain.now) local.member) }
         ensures blank { IfOk result (λ local. IsLone local.member → IsBlankAlone (limits_of domain.now) (world_of local)) }
         ensures refused { IfErr result (λ e. (e ≡ Refused.NoPlace) ⊎ (e ≡ Refused.NoMemory)) }
     {

@@ -1,10 +1,11 @@
+//! A participant's part in a domain: its guards, what waits with it, and the items that it makes and lets go.
 ghost use Rattle.std.specs.Prelude.{◌≡◌, ◌⊎◌, ◌^◌, ◌<◌, ℕ, IfSome, IfOk, IfErr, MatchResult};
 ghost use Rattle.sdd_store.specs.Time.{accelerated, has_garbage, with_garbage};
 ghost use Rattle.sdd_rule.specs.Steps.{nobody, Takes};
 ghost use Rattle.sdd_rule.specs.SlotSteps.{blank};
 ghost use Rattle.sdd_board.specs.Board.{id_of, sizes_of, places_of};
 ghost use Rattle.sdd_board.specs.Token.{epoch, words_known, IsSameBut};
-ghost use Rattle.sdd_domain.specs.Domain.{home_of, limits_of};
+ghost use Rattle.sdd_domain.specs.Domain.{home_of, book_of, limits_of};
 ghost use Rattle.sdd_domain.specs.Member.{CanNest, IsGuarded, IsNew, IsOpened, Opens, Closes, IsTold};
 ghost use Rattle.sdd_base.specs.Guard.{reader_of};
 ghost use Rattle.sdd_places.specs.declared.tenures.Stage.TheVariants.{Closed as is_closed};
@@ -48,6 +49,7 @@ pub struct Membership<'d, T> {
 
 impl<'d, T> Model for Membership<'d, T> {
     ghost use Rattle.std.specs.Prelude.{◌≡◌, vec_capacity};
+    ghost use Rattle.sdd_domain.specs.Domain.{book_of};
     ghost use Rattle.sdd_domain.specs.Member.{Member};
     ghost use Rattle.sdd_domain.specs.Posed.{IsPosed, AreLentTo, IsTenureOf, IsReady};
     ghost use Rattle.sdd_domain.specs.Receipt.{IsTallied};
@@ -56,6 +58,7 @@ impl<'d, T> Model for Membership<'d, T> {
 
     ghost view = { λ l. record {
       home = l.token.table_id;
+      book = book_of l.domain.now;
       limits = l.domain.now.limits;
       place = l.place;
       reader = record { home = l.tenure.home; number = l.tenure.number };
@@ -150,7 +153,7 @@ impl<'d, T> Membership<'d, T> {
     /// as there are slots. `NoPlace` where all places were found taken; `NoMemory` where this memory was refused.
     #[tactic(auto, using(crate::proofs::Moving::no_purse, crate::proofs::Moving::none_lent))]
     pub fn register(domain: &'d Domain<T>) -> Result<Membership<'d, T>, Refused>
-        ensures registered { IfOk result (IsNew (home_of domain.now) (limits_of domain.now)) }
+        ensures registered { IfOk result (IsNew (home_of domain.now) (book_of domain.now) (limits_of domain.now)) }
         ensures refused { IfErr result (λ e. (e ≡ Refused.NoPlace) ⊎ (e ≡ Refused.NoMemory)) }
     {
         let Ok(room) = Room::new(domain.alloc, domain.limits.slots as u32) else {

@@ -4,7 +4,7 @@ ghost use Rattle.sdd_stakes.specs.Shelf.{showing};
 use crate::domain::Domain;
 use crate::local::Local;
 use sdd_base::inner::value_of_ptr;
-use sdd_base::{Caller, Guard, Guards, Item, Items, LookThrough, Plain, Ptr, Shows};
+use sdd_base::{Caller, Guard, Guards, Item, Items, Look, LookThrough, Plain, Ptr, Shows};
 use sdd_core::Refused;
 use sdd_token::{Kind, Right};
 
@@ -43,12 +43,12 @@ impl<T: Plain<T> + Drop> LookThrough<T> for Local<'_, T> {
 }
 
 impl<T: Item<T> + Drop> Shows<T> for Domain<T> {
-    ghost use Rattle.sdd_domain.specs.Domain.{home_of, limits_of};
+    ghost use Rattle.sdd_domain.specs.Domain.{home_of, book_of, limits_of};
     ghost use Rattle.sdd_domain.specs.Items.{HasValue};
     ghost use Rattle.sdd_domain.specs.Homes.{home_at};
     ghost use Rattle.sdd_domain.specs.Values.{one_value};
 
-    ghost home = { λ d. home_at (home_of d) (limits_of d) };
+    ghost home = { λ d. home_at (home_of d) (book_of d) (limits_of d) };
 
     ghost shows = { λ _ _ _. ⊥ };
 
@@ -59,6 +59,16 @@ impl<T: Item<T> + Drop> Shows<T> for Domain<T> {
     ghost one_owned = { λ _ right u v a b. one_value T.row right u v a b };
 
     ghost keeps_owned = { λ _ _ _ _ _ _ owns. owns };
+}
+
+/// An owner looks at its item without a guard, wherever it is: also where no participant is at hand.
+impl<T: Item<T> + Drop> Look<T> for Domain<T> {
+    ghost knows_slots = { λ _. ⊥ };
+
+    #[inline]
+    fn value<'a>(&'a self, right: &'a Right) -> &'a T {
+        self.shelf.view(right.number() as usize, right.grip())
+    }
 }
 
 /// A pointer that was loaded under a guard of a participant, where that participant isn't at hand.

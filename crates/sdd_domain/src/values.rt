@@ -1,26 +1,32 @@
 //! A value comes into the place of a slot, and leaves it.
 ghost use Rattle.std.specs.Prelude.{◌≡◌, ◌<◌, suc, drop, [], ◌∷◌, None};
+ghost use base.Stored.{Gv};
 ghost use Rattle.sdd_stakes.specs.Shelf.{IsVacant, showing};
-ghost use Rattle.sdd_rule.specs.Codes.{free_word};
+ghost use Rattle.sdd_rule.specs.Codes.{free_word, waiting_word};
 ghost use Rattle.sdd_rule.specs.Epoch.{HasPlace};
+ghost use Rattle.sdd_rule.specs.Slots.{Holds};
 ghost use Rattle.sdd_rule.specs.SlotSteps.{IsDue};
 ghost use Rattle.sdd_homes.specs.Homes.{Carries, Moves};
 ghost use Rattle.sdd_homes.specs.HomeSteps.{HasAll, resting};
+ghost use Rattle.sdd_homes.specs.Records.{IsIn};
 ghost use Rattle.sdd_board.specs.Board.{id_of, book_of, places_of, slots_of};
 ghost use Rattle.sdd_domain.specs.Shelf.{IsShelfOf};
 ghost use Rattle.sdd_domain.specs.Waits.{GivesOneBack};
 ghost use Rattle.sdd_token.specs.Owner.{witness_of_owner};
 ghost use Rattle.sdd_board.specs.Owner.{disowned};
-ghost use Rattle.sdd_domain.specs.Values.{with_filled};
-ghost use Rattle.sdd_board.specs.Token.{view, epoch, slots, Knows, Taught};
+ghost use Rattle.sdd_board.specs.Grips.{IsGripOf, IsUnitOf};
+ghost use Rattle.sdd_domain.specs.Values.{with_filled, LetsWait};
+ghost use Rattle.sdd_board.specs.Token.{view, epoch, slots, Knows, Taught, Moved};
 
-use sdd_board::steps::slots::{cut, give_back, house, take_out};
+use sdd_board::grips::{cut_grip, join_grip};
+use sdd_board::steps::slots::{cut, give_back, house, retire, take_last, take_out};
 use sdd_board::{Board, Token};
 use sdd_stakes::Shelf;
+use sdd_token::Grip;
 use sdd_witness::Witness;
 
-/// Moves a value into the place of a slot that was claimed, whose owner is a token of its own then, which shows the value. The owner may be one of
-/// several.
+/// Moves a value into the place of a slot that was claimed, whose owner is a token of its own then, which shows the value, with a unit of the place's
+/// number. The owner may be one of several.
 #[inline]
 pub fn put_value<T>(
     board: &Board,
@@ -29,7 +35,7 @@ pub fn put_value<T>(
     slot: u32,
     shared: bool,
     value: T,
-) -> Witness
+) -> (Witness, Grip)
     requires home { token.old.table_id ≡ id_of board.now }
     requires shelf { IsShelfOf board.now shelf.now }
     requires knows { Knows board.now token.old }
@@ -37,16 +43,36 @@ pub fn put_value<T>(
     requires place { HasPlace (epoch token.old) }
     requires own { Moves (view token.old) slot × ((slots token.old).owns ≡ slot ∷ []) × ((view token.old).stakes.owns ≡ []) }
     requires free { (slots token.old).holds ≡ None }
-    requires row { (rest : Carries) × HasAll (book_of board.now) slot (places_of board.now) IsVacant rest token.old.me.1 }
+    requires row { (rest : Carries) × HasAll (book_of board.now) slot (places_of board.now) 0 IsVacant rest token.old.me.1 }
     ensures home { (token.new.table_id ≡ token.old.table_id) × (token.new.id ≡ token.old.id) }
     ensures view { view token.new ≡ disowned (resting (with_filled slot shared (showing T.row value) (view token.old))) }
     ensures given { token.new.me.1 ≡ drop (suc (places_of board.now)) token.old.me.1 }
-    ensures owner { (result.table_id ≡ id_of board.now) × (result.views ≡ witness_of_owner slot shared (showing T.row value)) }
+    ensures owner { (result.0.table_id ≡ id_of board.now) × (result.0.views ≡ witness_of_owner slot shared (showing T.row value)) }
+    ensures grip { IsGripOf (book_of board.now) slot (showing T.row value) result.1 }
 {
     let count = board.places() + 1;
     shelf.put(slot as usize, token, &board.table.shared, count, value);
+    let grip = cut_grip(board, token, slot);
     house(board, token, shared);
-    cut(board, token)
+    (cut(board, token), grip)
+}
+
+/// Retires the item of an owner that was taken in, whose unit comes back to the last stake in its slot.
+#[inline]
+pub fn let_wait(board: &Board, token: &mut Token, slot: u32, grip: Grip)
+    requires home { token.old.table_id ≡ id_of board.now }
+    requires knows { Knows board.now token.old }
+    requires inside { slot < slots_of board.now }
+    requires place { HasPlace (epoch token.old) }
+    requires own { ((slots token.old).owns ≡ slot ∷ []) × ¬ (Holds (view token.old) slot) }
+    requires told { (value : Gv) × IsIn (view token.old).stakes.owns slot value }
+    requires unit { IsUnitOf (book_of board.now) slot grip }
+    requires rests { (view token.old).stakes.moves ≡ None }
+    ensures { Moved (LetsWait slot) token.old (waiting_word 0) token.new }
+{
+    take_last(board, token);
+    join_grip(board, token, slot, grip);
+    retire(board, token, slot);
 }
 
 /// Moves the value of an item out that has seen three changes, and gives back its slot.

@@ -11,10 +11,10 @@ ghost use Rattle.sdd_domain.specs.Sight.{IsOnce};
 
 use crate::claims::claim_free;
 use crate::membership::Membership;
-use crate::values::put_value;
+use crate::values::{let_wait, put_value};
 use sdd_base::Guard;
 use sdd_base::inner::tenure_of;
-use sdd_board::steps::slots::{recall, retire, take_in, watch};
+use sdd_board::steps::slots::{recall, take_in, watch};
 use sdd_core::Refused;
 use sdd_stakes::Ledger;
 use sdd_store::What;
@@ -59,7 +59,7 @@ impl<'d, T> Membership<'d, T> {
             Ok(slot) => {
                 ledger.fill(slot as usize, &value);
                 let shared = is_one_of_several(kind);
-                let owner = put_value(
+                let (owner, grip) = put_value(
                     board,
                     &self.domain.shelf,
                     &mut self.token,
@@ -68,7 +68,7 @@ impl<'d, T> Membership<'d, T> {
                     value,
                 );
                 self.tally.count_made();
-                Ok(Right::of_witness(slot, slots as usize, kind, owner))
+                Ok(Right::of_witness(slot, slots as usize, kind, owner, grip))
             }
             Err(refused) => Err((value, refused)),
         }
@@ -98,7 +98,7 @@ impl<'d, T> Membership<'d, T> {
                 let value = make();
                 ledger.fill(slot as usize, &value);
                 let shared = is_one_of_several(kind);
-                let owner = put_value(
+                let (owner, grip) = put_value(
                     board,
                     &self.domain.shelf,
                     &mut self.token,
@@ -107,7 +107,7 @@ impl<'d, T> Membership<'d, T> {
                     value,
                 );
                 self.tally.count_made();
-                Ok(Right::of_witness(slot, slots as usize, kind, owner))
+                Ok(Right::of_witness(slot, slots as usize, kind, owner, grip))
             }
             Err(refused) => Err((make, refused)),
         }
@@ -146,9 +146,10 @@ impl<'d, T> Membership<'d, T> {
     {
         let slot = right.number();
         let board = &self.domain.board;
-        recall(board, &mut self.token, right.witness());
-        take_in(board, &mut self.token, right.into_witness());
-        retire(board, &mut self.token, slot);
+        let (owner, grip) = right.into_owner();
+        recall(board, &mut self.token, &owner);
+        take_in(board, &mut self.token, owner);
+        let_wait(board, &mut self.token, slot, grip);
         self.own.bags.push(What::Item(slot));
         self.own.stir();
     }

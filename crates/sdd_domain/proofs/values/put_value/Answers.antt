@@ -1,4 +1,4 @@
-use Rattle.std.proofs.Common.{ℕ, ◌+◌, [], ◌∷◌, ap, refl, ◌∙◌, arith}
+use Rattle.std.proofs.Common.{ℕ, ◌+◌, [], ◌∷◌, ap, sym, refl, ◌∙◌, arith}
 use base.Stored.{Gv}
 use Rattle.atomic_table.specs.declared.shared.Seat.{Seat}
 use Rattle.sdd_stakes.specs.declared.stake.Stake.{Stake}
@@ -10,7 +10,7 @@ use Rattle.sdd_rule.proofs.Sums.{is_same}
 use Rattle.sdd_homes.specs.HomeSteps.{parting, departing}
 use Rattle.sdd_board.specs.Board.{book_of, places_of}
 use Rattle.sdd_domain.proofs.Moving.{may_move}
-use Rattle.sdd_domain.proofs.Owners.{row_put, moves_put, furnished, parted_view, departed_view}
+use Rattle.sdd_domain.proofs.Owners.{row_put, view_cut, moves_cut, furnished, parted_view, departed_view}
 use Rattle.sdd_domain.proofs.values.put_value.Goals as goal
 
 pub put-requires-clause-whole : goal.put-requires-clause-whole
@@ -18,68 +18,108 @@ put-requires-clause-whole g c = let b = c.args.board.now in let sized = b.sized.
     may_move (book_of b) c.args.slot (places_of b) (c.places-count.result + 1) (ap (λ (k : ℕ). k + 1) c.places-count.ensures) IsVacant
     c.args.shelf.now.book r.shelf.book (omega arith) r.row.0 c.args.token.now.me.1 r.row.1
 
+pub cut_grip-grip-requires-clause-row : goal.cut_grip-grip-requires-clause-row
+cut_grip-grip-requires-clause-row g c = let b = c.args.board.now in let r = c.requires in let put = c.put.ensures.seat in (
+  showing g.row.T c.args.value,
+  r.row.0,
+  row_put b c.args.slot (c.places-count.result + 1) c.args.shared (showing g.row.T c.args.value) c.args.token.now c.put.new.seat c.put.new.seat c.put.new.seat
+      r.knows (ap (λ (k : ℕ). k + 1) c.places-count.ensures) r.own.0 r.row.0 r.row.1 put.0 tt put.1,
+)
+
 pub house-requires-clause-row : goal.house-requires-clause-row
 house-requires-clause-row g c = let b = c.args.board.now in let r = c.requires in let put = c.put.ensures.seat in let slot : ℕ = c.args.slot in
-    let value : Gv = showing g.row.T c.args.value in let same = ap (λ (s : Seat Stake View). s.me.0) put.1 in let one = is_same slot slot refl in
-    let all = ap (λ (k : ℕ). k + 1) c.places-count.ensures in (
+    let value : Gv = showing g.row.T c.args.value in let one = is_same slot slot refl in let all = ap (λ (k : ℕ). k + 1) c.places-count.ensures in
+    let cut = c.cut_grip-grip in let row = row_put b slot (c.places-count.result + 1) c.args.shared value c.args.token.now c.put.new.seat c.put.new.seat c.put.new.seat r.knows
+    all r.own.0 r.row.0 r.row.1 put.0 tt put.1 in
+    let same = view_cut b slot (c.places-count.result + 1) c.args.shared value c.args.token.now c.put.new.seat cut.new.token cut.new.token r.knows all r.own.0
+    r.row.0 r.row.1 put.0 tt put.1 cut.ensures.token in (
       slot,
       value,
       r.inside,
-      moves_put b slot (c.places-count.result + 1) c.args.shared value c.args.token.now c.put.new.seat c.put.new.seat r.knows all r.own.0 r.row.0 r.row.1 put.0 tt put.1,
+      moves_cut b slot (c.places-count.result + 1) c.args.shared value c.args.token.now c.put.new.seat cut.new.token cut.new.token r.knows all r.own.0 r.row.0 r.row.1
+          put.0 tt put.1 cut.ensures.token,
       (let e = ap (λ (v : View). times slot v.slots.owns) same in let e' = ap (times slot) r.own.1 in omega arith),
-      (
-        r.row.0,
-        row_put b slot (c.places-count.result + 1) c.args.shared value c.args.token.now c.put.new.seat c.put.new.seat r.knows all r.own.0 r.row.0 r.row.1 put.0 tt put.1,
-      ),
+      (r.row.0, (cut.ensures.row value r.row.0 row).0),
     )
 
 pub cut-requires-clause-one : goal.cut-requires-clause-one
 cut-requires-clause-one g c = let b = c.args.board.now in let r = c.requires in let put = c.put.ensures.seat in
-    let f = furnished b c.args.slot (c.places-count.result + 1) c.args.shared (showing g.row.T c.args.value) c.args.token.now c.put.new.seat c.house.new.token r.knows
-    (ap (λ (k : ℕ). k + 1) c.places-count.ensures) r.own.0 r.row.0 r.row.1 put.0 tt put.1 c.house.ensures in
+    let f = furnished b c.args.slot (c.places-count.result + 1) c.args.shared (showing g.row.T c.args.value) c.args.token.now c.put.new.seat
+    c.cut_grip-grip.new.token c.house.new.token r.knows (ap (λ (k : ℕ). k + 1) c.places-count.ensures) r.own.0 r.row.0 r.row.1 put.0 tt put.1
+    c.cut_grip-grip.ensures.token (c.cut_grip-grip.ensures.row (showing g.row.T c.args.value) r.row.0
+    (row_put b c.args.slot (c.places-count.result + 1) c.args.shared (showing g.row.T c.args.value) c.args.token.now c.put.new.seat c.put.new.seat c.put.new.seat
+    r.knows (ap (λ (k : ℕ). k + 1) c.places-count.ensures) r.own.0 r.row.0 r.row.1 put.0 tt put.1)).0 c.house.ensures in
     (c.args.slot, ap (λ (v : View). v.slots.owns) f.view ∙ r.own.1)
 
 pub cut-requires-clause-home : goal.cut-requires-clause-home
 cut-requires-clause-home g c = let b = c.args.board.now in let r = c.requires in let put = c.put.ensures.seat in
-    let f = furnished b c.args.slot (c.places-count.result + 1) c.args.shared (showing g.row.T c.args.value) c.args.token.now c.put.new.seat c.house.new.token r.knows
-    (ap (λ (k : ℕ). k + 1) c.places-count.ensures) r.own.0 r.row.0 r.row.1 put.0 tt put.1 c.house.ensures in
+    let f = furnished b c.args.slot (c.places-count.result + 1) c.args.shared (showing g.row.T c.args.value) c.args.token.now c.put.new.seat
+    c.cut_grip-grip.new.token c.house.new.token r.knows (ap (λ (k : ℕ). k + 1) c.places-count.ensures) r.own.0 r.row.0 r.row.1 put.0 tt put.1
+    c.cut_grip-grip.ensures.token (c.cut_grip-grip.ensures.row (showing g.row.T c.args.value) r.row.0
+    (row_put b c.args.slot (c.places-count.result + 1) c.args.shared (showing g.row.T c.args.value) c.args.token.now c.put.new.seat c.put.new.seat c.put.new.seat
+    r.knows (ap (λ (k : ℕ). k + 1) c.places-count.ensures) r.own.0 r.row.0 r.row.1 put.0 tt put.1)).0 c.house.ensures in
     f.table ∙ r.home
 
 pub cut-requires-clause-free : goal.cut-requires-clause-free
 cut-requires-clause-free g c = let b = c.args.board.now in let r = c.requires in let put = c.put.ensures.seat in
-    let f = furnished b c.args.slot (c.places-count.result + 1) c.args.shared (showing g.row.T c.args.value) c.args.token.now c.put.new.seat c.house.new.token r.knows
-    (ap (λ (k : ℕ). k + 1) c.places-count.ensures) r.own.0 r.row.0 r.row.1 put.0 tt put.1 c.house.ensures in
+    let f = furnished b c.args.slot (c.places-count.result + 1) c.args.shared (showing g.row.T c.args.value) c.args.token.now c.put.new.seat
+    c.cut_grip-grip.new.token c.house.new.token r.knows (ap (λ (k : ℕ). k + 1) c.places-count.ensures) r.own.0 r.row.0 r.row.1 put.0 tt put.1
+    c.cut_grip-grip.ensures.token (c.cut_grip-grip.ensures.row (showing g.row.T c.args.value) r.row.0
+    (row_put b c.args.slot (c.places-count.result + 1) c.args.shared (showing g.row.T c.args.value) c.args.token.now c.put.new.seat c.put.new.seat c.put.new.seat
+    r.knows (ap (λ (k : ℕ). k + 1) c.places-count.ensures) r.own.0 r.row.0 r.row.1 put.0 tt put.1)).0 c.house.ensures in
     ap (λ (v : View). v.slots.holds) f.view ∙ r.free
 
 pub cut-requires-clause-rests : goal.cut-requires-clause-rests
 cut-requires-clause-rests g c = let b = c.args.board.now in let r = c.requires in let put = c.put.ensures.seat in
-    let f = furnished b c.args.slot (c.places-count.result + 1) c.args.shared (showing g.row.T c.args.value) c.args.token.now c.put.new.seat c.house.new.token r.knows
-    (ap (λ (k : ℕ). k + 1) c.places-count.ensures) r.own.0 r.row.0 r.row.1 put.0 tt put.1 c.house.ensures in
+    let f = furnished b c.args.slot (c.places-count.result + 1) c.args.shared (showing g.row.T c.args.value) c.args.token.now c.put.new.seat
+    c.cut_grip-grip.new.token c.house.new.token r.knows (ap (λ (k : ℕ). k + 1) c.places-count.ensures) r.own.0 r.row.0 r.row.1 put.0 tt put.1
+    c.cut_grip-grip.ensures.token (c.cut_grip-grip.ensures.row (showing g.row.T c.args.value) r.row.0
+    (row_put b c.args.slot (c.places-count.result + 1) c.args.shared (showing g.row.T c.args.value) c.args.token.now c.put.new.seat c.put.new.seat c.put.new.seat
+    r.knows (ap (λ (k : ℕ). k + 1) c.places-count.ensures) r.own.0 r.row.0 r.row.1 put.0 tt put.1)).0 c.house.ensures in
     ap (λ (v : View). v.stakes.moves) f.view
 
 pub returns-clause-home : goal.returns-clause-home
 returns-clause-home g c = let b = c.args.board.now in let r = c.requires in let put = c.put.ensures.seat in
-    let f = furnished b c.args.slot (c.places-count.result + 1) c.args.shared (showing g.row.T c.args.value) c.args.token.now c.put.new.seat c.house.new.token r.knows
-    (ap (λ (k : ℕ). k + 1) c.places-count.ensures) r.own.0 r.row.0 r.row.1 put.0 tt put.1 c.house.ensures in
+    let f = furnished b c.args.slot (c.places-count.result + 1) c.args.shared (showing g.row.T c.args.value) c.args.token.now c.put.new.seat
+    c.cut_grip-grip.new.token c.house.new.token r.knows (ap (λ (k : ℕ). k + 1) c.places-count.ensures) r.own.0 r.row.0 r.row.1 put.0 tt put.1
+    c.cut_grip-grip.ensures.token (c.cut_grip-grip.ensures.row (showing g.row.T c.args.value) r.row.0
+    (row_put b c.args.slot (c.places-count.result + 1) c.args.shared (showing g.row.T c.args.value) c.args.token.now c.put.new.seat c.put.new.seat c.put.new.seat
+    r.knows (ap (λ (k : ℕ). k + 1) c.places-count.ensures) r.own.0 r.row.0 r.row.1 put.0 tt put.1)).0 c.house.ensures in
     (c.cut.ensures.participant.0 ∙ f.table, c.cut.ensures.participant.1 ∙ f.number)
 
 pub returns-clause-view : goal.returns-clause-view
 returns-clause-view g c = let b = c.args.board.now in let r = c.requires in let put = c.put.ensures.seat in
-    let f = furnished b c.args.slot (c.places-count.result + 1) c.args.shared (showing g.row.T c.args.value) c.args.token.now c.put.new.seat c.house.new.token r.knows
-    (ap (λ (k : ℕ). k + 1) c.places-count.ensures) r.own.0 r.row.0 r.row.1 put.0 tt put.1 c.house.ensures in
+    let f = furnished b c.args.slot (c.places-count.result + 1) c.args.shared (showing g.row.T c.args.value) c.args.token.now c.put.new.seat
+    c.cut_grip-grip.new.token c.house.new.token r.knows (ap (λ (k : ℕ). k + 1) c.places-count.ensures) r.own.0 r.row.0 r.row.1 put.0 tt put.1
+    c.cut_grip-grip.ensures.token (c.cut_grip-grip.ensures.row (showing g.row.T c.args.value) r.row.0
+    (row_put b c.args.slot (c.places-count.result + 1) c.args.shared (showing g.row.T c.args.value) c.args.token.now c.put.new.seat c.put.new.seat c.put.new.seat
+    r.knows (ap (λ (k : ℕ). k + 1) c.places-count.ensures) r.own.0 r.row.0 r.row.1 put.0 tt put.1)).0 c.house.ensures in
     c.cut.ensures.participant.3 ∙ (ap parting f.view ∙ parted_view c.args.slot c.args.shared (showing g.row.T c.args.value) c.args.token.now.me.0 r.own.1 r.own.2)
 
 pub returns-clause-given : goal.returns-clause-given
 returns-clause-given g c = let b = c.args.board.now in let r = c.requires in let put = c.put.ensures.seat in
-    let f = furnished b c.args.slot (c.places-count.result + 1) c.args.shared (showing g.row.T c.args.value) c.args.token.now c.put.new.seat c.house.new.token r.knows
-    (ap (λ (k : ℕ). k + 1) c.places-count.ensures) r.own.0 r.row.0 r.row.1 put.0 tt put.1 c.house.ensures in
+    let f = furnished b c.args.slot (c.places-count.result + 1) c.args.shared (showing g.row.T c.args.value) c.args.token.now c.put.new.seat
+    c.cut_grip-grip.new.token c.house.new.token r.knows (ap (λ (k : ℕ). k + 1) c.places-count.ensures) r.own.0 r.row.0 r.row.1 put.0 tt put.1
+    c.cut_grip-grip.ensures.token (c.cut_grip-grip.ensures.row (showing g.row.T c.args.value) r.row.0
+    (row_put b c.args.slot (c.places-count.result + 1) c.args.shared (showing g.row.T c.args.value) c.args.token.now c.put.new.seat c.put.new.seat c.put.new.seat
+    r.knows (ap (λ (k : ℕ). k + 1) c.places-count.ensures) r.own.0 r.row.0 r.row.1 put.0 tt put.1)).0 c.house.ensures in
     c.cut.ensures.participant.2 ∙ f.given
 
 pub returns-clause-owner : goal.returns-clause-owner
 returns-clause-owner g c = let b = c.args.board.now in let r = c.requires in let put = c.put.ensures.seat in
-    let f = furnished b c.args.slot (c.places-count.result + 1) c.args.shared (showing g.row.T c.args.value) c.args.token.now c.put.new.seat c.house.new.token r.knows
-    (ap (λ (k : ℕ). k + 1) c.places-count.ensures) r.own.0 r.row.0 r.row.1 put.0 tt put.1 c.house.ensures in (
+    let f = furnished b c.args.slot (c.places-count.result + 1) c.args.shared (showing g.row.T c.args.value) c.args.token.now c.put.new.seat
+    c.cut_grip-grip.new.token c.house.new.token r.knows (ap (λ (k : ℕ). k + 1) c.places-count.ensures) r.own.0 r.row.0 r.row.1 put.0 tt put.1
+    c.cut_grip-grip.ensures.token (c.cut_grip-grip.ensures.row (showing g.row.T c.args.value) r.row.0
+    (row_put b c.args.slot (c.places-count.result + 1) c.args.shared (showing g.row.T c.args.value) c.args.token.now c.put.new.seat c.put.new.seat c.put.new.seat
+    r.knows (ap (λ (k : ℕ). k + 1) c.places-count.ensures) r.own.0 r.row.0 r.row.1 put.0 tt put.1)).0 c.house.ensures in
+    (
       c.cut.ensures.owner.0,
       c.cut.ensures.owner.1 ∙ ap (λ (v : View). the_row.coded.code v ∷ [])
           (ap departing f.view ∙ departed_view c.args.slot c.args.shared (showing g.row.T c.args.value) c.args.token.now.me.0 r.own.1 r.own.2),
     )
+
+pub returns-clause-grip : goal.returns-clause-grip
+returns-clause-grip g c = let b = c.args.board.now in let r = c.requires in let put = c.put.ensures.seat in
+    (c.cut_grip-grip.ensures.row (showing g.row.T c.args.value) r.row.0
+    (row_put b c.args.slot (c.places-count.result + 1) c.args.shared (showing g.row.T c.args.value) c.args.token.now c.put.new.seat c.put.new.seat c.put.new.seat
+    r.knows (ap (λ (k : ℕ). k + 1) c.places-count.ensures) r.own.0 r.row.0 r.row.1 put.0 tt put.1)).1

@@ -13,14 +13,14 @@ use Rattle.sdd_domain.proofs.values.take_value.Goals as goal
 
 pub take-value-requires-clause-whole : goal.take-value-requires-clause-whole
 take-value-requires-clause-whole g c = let b = c.args.board.now in let sized = b.sized.0 in let few = sized.participants in let r = c.requires in
-    let row = subst (λ (t : ℕ × Sizes). HasAll t.0 c.args.slot t.1.participants IsFull c.args.token.now.me.1 c.take_out.new.token.me.1)
+    let row = subst (λ (t : ℕ × Sizes). HasAll t.0 c.args.slot t.1.participants 0 IsFull c.args.token.now.me.1 c.take_out.new.token.me.1)
     (λ d. (r.knows.1 d, r.knows.0 d)) c.take_out.ensures.2.1 in
     may_move (book_of b) c.args.slot (places_of b) (c.places-count.result + 1) (ap (λ (k : ℕ). k + 1) c.places-count.ensures) IsFull
     c.args.shelf.now.book r.shelf.book (omega arith) c.args.token.now.me.1 c.take_out.new.token.me.1 row
 
 pub give_back-requires-clause-row : goal.give_back-requires-clause-row
 give_back-requires-clause-row g c = let b = c.args.board.now in let r = c.requires in let take = c.take-value.ensures.seat in
-    let row = subst (λ (t : ℕ × Sizes). HasAll t.0 c.args.slot t.1.participants IsFull c.args.token.now.me.1 c.take_out.new.token.me.1)
+    let row = subst (λ (t : ℕ × Sizes). HasAll t.0 c.args.slot t.1.participants 0 IsFull c.args.token.now.me.1 c.take_out.new.token.me.1)
     (λ d. (r.knows.1 d, r.knows.0 d)) c.take_out.ensures.2.1 in (
       c.args.token.now.me.1,
       row_after (book_of b) c.args.slot (places_of b) (c.places-count.result + 1) (ap (λ (k : ℕ). k + 1) c.places-count.ensures)
@@ -32,7 +32,7 @@ pub returns : goal.returns
 returns g c = let b = c.args.board.now in let n : ℕ = places_of b in let r = c.requires in let take = c.take-value.ensures.seat in
     let out = c.take_out.ensures in
     let back = c.give_back.ensures in let v : View = c.args.token.now.me.0 in let slot : ℕ = c.args.slot in
-    let row = subst (λ (t : ℕ × Sizes). HasAll t.0 slot t.1.participants IsFull c.args.token.now.me.1 c.take_out.new.token.me.1)
+    let row = subst (λ (t : ℕ × Sizes). HasAll t.0 slot t.1.participants 0 IsFull c.args.token.now.me.1 c.take_out.new.token.me.1)
     (λ d. (r.knows.1 d, r.knows.0 d)) out.2.1 in
     let empty = row_after (book_of b) slot n (c.places-count.result + 1) (ap (λ (k : ℕ). k + 1) c.places-count.ensures)
     IsFull IsVacant vacant take.0 c.args.token.now.me.1 c.take_out.new.token.me.1 c.take-value.new.seat.me.1 refl row (ap (λ (s : Seat Stake View).
@@ -42,7 +42,7 @@ returns g c = let b = c.args.board.now in let n : ℕ = places_of b in let r = c
     z.participants) r.knows.0) in (
       back.0 ∙ (ap (λ (s : Seat Stake View). s.table_id) take.1 ∙ out.0),
       back.1 ∙ (ap (λ (s : Seat Stake View). s.id) take.1 ∙ out.1),
-      rest_out (book_of b) slot n c.take-value.new.seat.me.0.sizes.participants IsVacant c.args.token.now.me.1 c.take-value.new.seat.me.1
+      rest_out (book_of b) slot n c.take-value.new.seat.me.0.sizes.participants 0 IsVacant c.args.token.now.me.1 c.take-value.new.seat.me.1
           c.give_back.new.token.me.1
           same empty back.2.3,
       (

@@ -3,7 +3,7 @@ use Rattle.sdd_domain.proofs.Sound.{sound_new}
 use Rattle.sdd_domain.proofs.local.Local.register.Goals as goal
 
 pub invariant_of-result : goal.invariant_of-result
-invariant_of-result g c = sound_new _ _ c.in_ok-membership.membership c.new-ledger.result.entries c.in_ok-membership.ensures.registered c.new-ledger.ensures
+invariant_of-result g c = sound_new _ _ _ c.in_ok-membership.membership c.new-ledger.result.entries c.in_ok-membership.ensures.registered c.new-ledger.ensures
 
 pub returns-clause-blank : goal.returns-clause-blank
-returns-clause-blank g c = blank_new _ _ c.in_ok-membership.membership c.new-ledger.result.entries c.in_ok-membership.ensures.registered c.new-ledger.ensures
+returns-clause-blank g c = blank_new _ _ _ c.in_ok-membership.membership c.new-ledger.result.entries c.in_ok-membership.ensures.registered c.new-ledger.ensures

@@ -2,7 +2,7 @@ use Rattle.std.specs.Prelude.{Bool}
 use Rattle.std.proofs.Common.{◌≡◌, ℕ, ◌<◌, rules, sym, ap, ◌∙◌, subst}
 use base.Stored.{Gv}
 use Rattle.sdd_token.specs.Owner.{witness_of_owner}
-use Rattle.sdd_token.specs.Right.{number_of, kind_of}
+use Rattle.sdd_token.specs.Right.{number_of, kind_of, grip_of}
 use Rattle.sdd_token.specs.Kind.{is_shared}
 use Rattle.sdd_homes.specs.HomeSteps.{Watches}
 use Rattle.sdd_board.specs.Token.{MovedAlone}
@@ -27,27 +27,29 @@ use Rattle.sdd_domain.proofs.membership.Membership.guarded.Goals as goal
 pub show-requires-clause-stake : goal.show-requires-clause-stake
 show-requires-clause-stake g c = let l = c.self.inside in let b = l.domain.now.board in let t : ℕ = c.tenure_of-tenure.result.now.round in
     let inv = c.self.invariant in let slot : ℕ = number_of c.args.right.now in
-    let own = c.witness-owner.ensures.owner (has_tables c.args.self.now c.args.right.now c.requires.home) in let shared : Bool = is_shared (kind_of c.args.right.now) in
-    let recalled = c.recall.ensures slot shared own.owner.0 own.owner.1 in
-    let watch = subst (λ (x : Seat Stake View). MovedAlone (Watches slot shared own.owner.0) x c.watch.new.token)
-    (same_recalled b l.place slot shared own.owner.0 l.token c.recall.new.token recalled) (c.watch.ensures slot shared own.owner.0 own.owner.1) in
-    let seen = watched b l.place l.own t slot shared own.owner.0 l.token c.watch.new.token inv.0
+    let own = c.witness-owner.ensures.owner (has_tables c.args.self.now c.args.right.now c.requires.home) in
+    let shared : Bool = is_shared (kind_of c.args.right.now) in let shown : Gv = (grip_of c.args.right.now).shown in
+    let recalled = c.recall.ensures slot shared shown own.owner in
+    let watch = subst (λ (x : Seat Stake View). MovedAlone (Watches slot shared shown) x c.watch.new.token)
+    (same_recalled b l.place slot shared shown l.token c.recall.new.token recalled) (c.watch.ensures slot shared shown own.owner) in
+    let seen = watched b l.place l.own t slot shared shown l.token c.watch.new.token inv.0
     (subst (λ (t : ℕ). AreLentTo t l.token.me.1) (sym c.agree.ensures.round) inv.3) watch in
     subst (λ (k : ℕ × ℕ). CanShow k.0 k.1 t (lots c.watch.new.token.me.1)) (λ d. (sym l.domain.now.shelved.0.book d, sym c.number.ensures d))
     (can_show (book_of b) (places_of b) l.place t slot seen.records c.watch.new.token.me.1 seen.purse seen.lent
-    (in_times seen.records slot own.owner.0 seen.there))
+    (in_times seen.records slot shown seen.there))
 
 pub invariant_of-self : goal.invariant_of-self
 invariant_of-self g c = let l = c.self.inside in let b = l.domain.now.board in let t : ℕ = c.tenure_of-tenure.result.now.round in
     let inv = c.self.invariant in let slot : ℕ = number_of c.args.right.now in
-    let own = c.witness-owner.ensures.owner (has_tables c.args.self.now c.args.right.now c.requires.home) in let shared : Bool = is_shared (kind_of c.args.right.now) in
-    let recalled = c.recall.ensures slot shared own.owner.0 own.owner.1 in
-    let watch = subst (λ (x : Seat Stake View). MovedAlone (Watches slot shared own.owner.0) x c.watch.new.token)
-    (same_recalled b l.place slot shared own.owner.0 l.token c.recall.new.token recalled) (c.watch.ensures slot shared own.owner.0 own.owner.1) in
+    let own = c.witness-owner.ensures.owner (has_tables c.args.self.now c.args.right.now c.requires.home) in
+    let shared : Bool = is_shared (kind_of c.args.right.now) in let shown : Gv = (grip_of c.args.right.now).shown in
+    let recalled = c.recall.ensures slot shared shown own.owner in
+    let watch = subst (λ (x : Seat Stake View). MovedAlone (Watches slot shared shown) x c.watch.new.token)
+    (same_recalled b l.place slot shared shown l.token c.recall.new.token recalled) (c.watch.ensures slot shared shown own.owner) in
     let some_open : 0 < l.own.guards = search rules in
-    let seen = watched b l.place l.own t slot shared own.owner.0 l.token c.watch.new.token inv.0
+    let seen = watched b l.place l.own t slot shared shown l.token c.watch.new.token inv.0
     (subst (λ (t : ℕ). AreLentTo t l.token.me.1) (sym c.agree.ensures.round) inv.3) watch in
-    let posed = posed_shows b l.place l.own t slot own.owner.0 l.token c.watch.new.token c.show.new.seat inv.0 some_open
+    let posed = posed_shows b l.place l.own t slot shown l.token c.watch.new.token c.show.new.seat inv.0 some_open
     watch.0 seen c.show.ensures.seat c.show.ensures.lent in (
       posed.0,
       inv.1,
@@ -61,45 +63,48 @@ invariant_of-self g c = let l = c.self.inside in let b = l.domain.now.board in l
 pub returns-clause-value : goal.returns-clause-value
 returns-clause-value g c = let l = c.self.inside in let b = l.domain.now.board in let t : ℕ = c.tenure_of-tenure.result.now.round in
     let inv = c.self.invariant in let slot : ℕ = number_of c.args.right.now in
-    let own = c.witness-owner.ensures.owner (has_tables c.args.self.now c.args.right.now c.requires.home) in let shared : Bool = is_shared (kind_of c.args.right.now) in
-    let recalled = c.recall.ensures slot shared own.owner.0 own.owner.1 in
-    let watch = subst (λ (x : Seat Stake View). MovedAlone (Watches slot shared own.owner.0) x c.watch.new.token)
-    (same_recalled b l.place slot shared own.owner.0 l.token c.recall.new.token recalled) (c.watch.ensures slot shared own.owner.0 own.owner.1) in
-    let seen = watched b l.place l.own t slot shared own.owner.0 l.token c.watch.new.token inv.0
+    let own = c.witness-owner.ensures.owner (has_tables c.args.self.now c.args.right.now c.requires.home) in
+    let shared : Bool = is_shared (kind_of c.args.right.now) in let shown : Gv = (grip_of c.args.right.now).shown in
+    let recalled = c.recall.ensures slot shared shown own.owner in
+    let watch = subst (λ (x : Seat Stake View). MovedAlone (Watches slot shared shown) x c.watch.new.token)
+    (same_recalled b l.place slot shared shown l.token c.recall.new.token recalled) (c.watch.ensures slot shared shown own.owner) in
+    let seen = watched b l.place l.own t slot shared shown l.token c.watch.new.token inv.0
     (subst (λ (t : ℕ). AreLentTo t l.token.me.1) (sym c.agree.ensures.round) inv.3) watch in
     let shows = subst (λ (k : ℕ). Shows l.domain.now.shelf.book k (showing g.row.T c.show.result.now) (lots c.watch.new.token.me.1)) c.number.ensures
     c.show.ensures.value in
-    let is = seen.once slot own.owner.0 (showing g.row.T c.show.result.now) seen.there
+    let is = seen.once slot shown (showing g.row.T c.show.result.now) seen.there
     (shows_known (book_of b) (places_of b) l.place slot l.domain.now.shelf.book (showing g.row.T c.show.result.now) seen.records
     c.watch.new.token.me.1 seen.purse shows) in
-    ap (λ (w : Witness). w.views) (sym c.witness-owner.ensures.witness) ∙ (own.owner.1 ∙ ap (witness_of_owner slot shared) is)
+    ap (λ (w : Witness). w.views) (sym c.witness-owner.ensures.witness) ∙ (own.owner ∙ ap (witness_of_owner slot shared) is)
 
 pub returns-clause-looks : goal.returns-clause-looks
 returns-clause-looks g c = let l = c.self.inside in let b = l.domain.now.board in let t : ℕ = c.tenure_of-tenure.result.now.round in
     let inv = c.self.invariant in let slot : ℕ = number_of c.args.right.now in
-    let own = c.witness-owner.ensures.owner (has_tables c.args.self.now c.args.right.now c.requires.home) in let shared : Bool = is_shared (kind_of c.args.right.now) in
-    let recalled = c.recall.ensures slot shared own.owner.0 own.owner.1 in
-    let watch = subst (λ (x : Seat Stake View). MovedAlone (Watches slot shared own.owner.0) x c.watch.new.token)
-    (same_recalled b l.place slot shared own.owner.0 l.token c.recall.new.token recalled) (c.watch.ensures slot shared own.owner.0 own.owner.1) in
-    let seen = watched b l.place l.own t slot shared own.owner.0 l.token c.watch.new.token inv.0
+    let own = c.witness-owner.ensures.owner (has_tables c.args.self.now c.args.right.now c.requires.home) in
+    let shared : Bool = is_shared (kind_of c.args.right.now) in let shown : Gv = (grip_of c.args.right.now).shown in
+    let recalled = c.recall.ensures slot shared shown own.owner in
+    let watch = subst (λ (x : Seat Stake View). MovedAlone (Watches slot shared shown) x c.watch.new.token)
+    (same_recalled b l.place slot shared shown l.token c.recall.new.token recalled) (c.watch.ensures slot shared shown own.owner) in
+    let seen = watched b l.place l.own t slot shared shown l.token c.watch.new.token inv.0
     (subst (λ (t : ℕ). AreLentTo t l.token.me.1) (sym c.agree.ensures.round) inv.3) watch in
     let shows = subst (λ (k : ℕ). Shows l.domain.now.shelf.book k (showing g.row.T c.show.result.now) (lots c.watch.new.token.me.1)) c.number.ensures
     c.show.ensures.value in
-    let is = seen.once slot own.owner.0 (showing g.row.T c.show.result.now) seen.there
+    let is = seen.once slot shown (showing g.row.T c.show.result.now) seen.there
     (shows_known (book_of b) (places_of b) l.place slot l.domain.now.shelf.book (showing g.row.T c.show.result.now) seen.records
     c.watch.new.token.me.1 seen.purse shows) in
     subst (λ (m : Member). LooksAt slot shared (showing g.row.T c.show.result.now) m (with_token (c.self.view_is 0) c.show.new.seat)) c.self.view_is
     (subst (λ (v : Gv). LooksAt slot shared v (c.self.view_is 0) (with_token (c.self.view_is 0) c.show.new.seat)) is
-    (looks_at (c.self.view_is 0) slot shared own.owner.0 l.token c.watch.new.token c.show.new.seat watch c.show.ensures.seat))
+    (looks_at (c.self.view_is 0) slot shared shown l.token c.watch.new.token c.show.new.seat watch c.show.ensures.seat))
 
 pub returns-clause-once : goal.returns-clause-once
 returns-clause-once g c = let l = c.self.inside in let b = l.domain.now.board in let t : ℕ = c.tenure_of-tenure.result.now.round in
     let inv = c.self.invariant in let slot : ℕ = number_of c.args.right.now in
-    let own = c.witness-owner.ensures.owner (has_tables c.args.self.now c.args.right.now c.requires.home) in let shared : Bool = is_shared (kind_of c.args.right.now) in
-    let recalled = c.recall.ensures slot shared own.owner.0 own.owner.1 in
-    let watch = subst (λ (x : Seat Stake View). MovedAlone (Watches slot shared own.owner.0) x c.watch.new.token)
-    (same_recalled b l.place slot shared own.owner.0 l.token c.recall.new.token recalled) (c.watch.ensures slot shared own.owner.0 own.owner.1) in
-    let seen = watched b l.place l.own t slot shared own.owner.0 l.token c.watch.new.token inv.0
+    let own = c.witness-owner.ensures.owner (has_tables c.args.self.now c.args.right.now c.requires.home) in
+    let shared : Bool = is_shared (kind_of c.args.right.now) in let shown : Gv = (grip_of c.args.right.now).shown in
+    let recalled = c.recall.ensures slot shared shown own.owner in
+    let watch = subst (λ (x : Seat Stake View). MovedAlone (Watches slot shared shown) x c.watch.new.token)
+    (same_recalled b l.place slot shared shown l.token c.recall.new.token recalled) (c.watch.ensures slot shared shown own.owner) in
+    let seen = watched b l.place l.own t slot shared shown l.token c.watch.new.token inv.0
     (subst (λ (t : ℕ). AreLentTo t l.token.me.1) (sym c.agree.ensures.round) inv.3) watch in
     let is : c.show.new.seat.me.0.stakes.sees ≡ seen.records = ap (λ (x : Seat Stake View). x.me.0.stakes.sees) c.show.ensures.seat
     ∙ ap (λ (v : View). v.stakes.sees) seen.view in
@@ -109,17 +114,18 @@ pub returns-clause-recalled : goal.returns-clause-recalled
 returns-clause-recalled g c = let l = c.self.inside in let b = l.domain.now.board in let t : ℕ = c.tenure_of-tenure.result.now.round in
     let inv = c.self.invariant in let slot : ℕ = number_of c.args.right.now in
     let own = c.witness-owner.ensures.owner (has_tables c.args.self.now c.args.right.now c.requires.home) in
-    let shared : Bool = is_shared (kind_of c.args.right.now) in let recalled = c.recall.ensures slot shared own.owner.0 own.owner.1 in
-    let watch = subst (λ (x : Seat Stake View). MovedAlone (Watches slot shared own.owner.0) x c.watch.new.token)
-    (same_recalled b l.place slot shared own.owner.0 l.token c.recall.new.token recalled) (c.watch.ensures slot shared own.owner.0 own.owner.1) in
-    let seen = watched b l.place l.own t slot shared own.owner.0 l.token c.watch.new.token inv.0
+    let shared : Bool = is_shared (kind_of c.args.right.now) in let shown : Gv = (grip_of c.args.right.now).shown in
+    let recalled = c.recall.ensures slot shared shown own.owner in
+    let watch = subst (λ (x : Seat Stake View). MovedAlone (Watches slot shared shown) x c.watch.new.token)
+    (same_recalled b l.place slot shared shown l.token c.recall.new.token recalled) (c.watch.ensures slot shared shown own.owner) in
+    let seen = watched b l.place l.own t slot shared shown l.token c.watch.new.token inv.0
     (subst (λ (t : ℕ). AreLentTo t l.token.me.1) (sym c.agree.ensures.round) inv.3) watch in
     let shows = subst (λ (k : ℕ). Shows l.domain.now.shelf.book k (showing g.row.T c.show.result.now) (lots c.watch.new.token.me.1)) c.number.ensures
     c.show.ensures.value in
-    let is = seen.once slot own.owner.0 (showing g.row.T c.show.result.now) seen.there
+    let is = seen.once slot shown (showing g.row.T c.show.result.now) seen.there
     (shows_known (book_of b) (places_of b) l.place slot l.domain.now.shelf.book (showing g.row.T c.show.result.now) seen.records
     c.watch.new.token.me.1 seen.purse shows) in
     subst (λ (m : Member). IsLone m → KnowsOwner m slot shared (showing g.row.T c.show.result.now)) c.self.view_is
     (subst (λ (v : Gv). IsLone (c.self.view_is 0) → KnowsOwner (c.self.view_is 0) slot shared v) is
-    (recalls_to (c.self.view_is 0) slot shared own.owner.0 l.token c.recall.new.token recalled
+    (recalls_to (c.self.view_is 0) slot shared shown l.token c.recall.new.token recalled
     (inv.0.all ∙ ap (λ (z : Sizes). z.participants) l.domain.now.limited.1)))

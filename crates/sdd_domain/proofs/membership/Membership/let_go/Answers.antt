@@ -1,4 +1,5 @@
-use Rattle.std.proofs.Common.{◌≡◌, ℕ, ◌<◌, rules, sym, ap, ◌∙◌, subst, vec_capacity}
+use lib.ListN.{get_elem?}
+use Rattle.std.proofs.Common.{◌≡◌, ℕ, ◌<◌, rules, refl, sym, ap, ◌∙◌, subst, vec_capacity}
 use Rattle.sdd_token.specs.Owner.{witness_of_owner}
 use Rattle.sdd_board.specs.Board.{slots_of}
 use Rattle.sdd_store.specs.declared.waiting.What.TheVariants.{Item}
@@ -27,24 +28,23 @@ pub invariant_of-self : goal.invariant_of-self
 invariant_of-self g c = let l = c.self.inside in let board = l.domain.now.board in let i = c.self.invariant in
     let own_is : c.stir.new.self ≡ awaiting (Item c.number-slot.result) l.own
     = c.stir.ensures ∙ ap (λ (bags : Bags). with_garbage (record l.own { bags = bags })) c.push.ensures in
-    let owner = (c.into_witness.ensures.owner (has_tables c.args.self.now c.args.right c.requires)).owner in
+    let by = c.into_owner-owner.ensures.owner (has_tables c.args.self.now c.args.right c.requires) in let shown : Gv = c.into_owner-owner.result.1.shown in
     let slot : ℕ = c.number-slot.result in
     let shared : Bool = is_shared (kind_of c.args.right) in
-    let views = owner.1 ∙ ap (λ (k : ℕ). witness_of_owner k shared owner.0) (sym c.number-slot.ensures) in
-    let beside = (c.witness.ensures.owner (has_tables c.args.self.now c.args.right c.requires)).owner in
-    let recalled = c.recall.ensures slot shared beside.0 (beside.1 ∙ ap (λ (k : ℕ). witness_of_owner k shared beside.0) (sym c.number-slot.ensures)) in
-    let same = same_recalled board l.place slot shared beside.0 l.token c.recall.new.token recalled in
-    let took = subst (λ (x : Seat Stake View). Taught (λ v _ w. w ≡ regained v (owner_of slot shared owner.0)) x 0 c.take_in.new.token) same
-    (c.take_in.ensures slot shared owner.0 views) in
-    let retired = retires_to board l.place l.own slot shared owner.0 l.token c.take_in.new.token c.retire.new.token i.0 took c.retire.ensures in
+    let views = by.owner ∙ ap (λ (k : ℕ). witness_of_owner k shared shown) (sym c.number-slot.ensures) in
+    let recalled = c.recall.ensures slot shared shown views in
+    let same = same_recalled board l.place slot shared shown l.token c.recall.new.token recalled in
+    let took = subst (λ (x : Seat Stake View). Taught (λ v _ w. w ≡ regained v (owner_of slot shared shown)) x 0 c.take_in.new.token) same
+    (c.take_in.ensures slot shared shown views) in
+    let retired = retires_to board l.place l.own slot shared shown l.token c.take_in.new.token c.let_wait.new.token i.0 took c.let_wait.ensures in
     let inside : slot < slots_of board = search rules in
-    subst (λ (o : Participant). IsPosed board l.place o c.retire.new.token
-    × l.nesting ≡ l.domain.now.limits.nesting × IsTenureOf o l.tenure × AreLentTo l.tenure.round c.retire.new.token.me.1
-    × IsReady board o l.bag.items (vec_capacity l.bag) l.known.slots × IsTallied 0 l.tally c.retire.new.token.me.0.stakes.counts) (sym own_is) (
-      posed_retires board l.place l.own slot shared owner.0 l.token c.take_in.new.token c.retire.new.token i.0 inside took c.retire.ensures,
+    subst (λ (o : Participant). IsPosed board l.place o c.let_wait.new.token
+    × l.nesting ≡ l.domain.now.limits.nesting × IsTenureOf o l.tenure × AreLentTo l.tenure.round c.let_wait.new.token.me.1
+    × IsReady board o l.bag.items (vec_capacity l.bag) l.known.slots × IsTallied 0 l.tally c.let_wait.new.token.me.0.stakes.counts) (sym own_is) (
+      posed_retires board l.place l.own slot shared shown l.token c.take_in.new.token c.let_wait.new.token i.0 inside took c.let_wait.ensures,
       i.1,
       record { units = i.2.units; kind = i.2.kind },
-      subst (AreLentTo l.tenure.round) (sym (c.retire.ensures.2.3 ∙ took.2)) i.3,
+      subst (AreLentTo l.tenure.round) (sym (c.let_wait.ensures.2.3 ∙ took.2)) i.3,
       record { empty = i.4.empty; large = i.4.large; slots = i.4.slots },
       subst (IsTallied 0 l.tally) (sym (ap (λ (v : View). v.stakes.counts) retired.1)) i.5,
     )
@@ -52,9 +52,16 @@ invariant_of-self g c = let l = c.self.inside in let board = l.domain.now.board 
 pub returns-clause-recalled : goal.returns-clause-recalled
 returns-clause-recalled g c = let l = c.self.inside in let board = l.domain.now.board in let i = c.self.invariant in
     let slot : ℕ = number_of c.args.right in let shared : Bool = is_shared (kind_of c.args.right) in
-    let beside = (c.witness.ensures.owner (has_tables c.args.self.now c.args.right c.requires)).owner in let recalled = c.recall.ensures slot shared beside.0 beside.1 in
+    let by = c.into_owner-owner.ensures.owner (has_tables c.args.self.now c.args.right c.requires) in let shown : Gv = c.into_owner-owner.result.1.shown in
+    let recalled = c.recall.ensures slot shared shown by.owner in
     subst (λ (m : Member). IsLone m → (value : Gv) × KnowsOwner m slot shared value) c.self.view_is (λ lone. (
-      beside.0,
-      recalls_to (c.self.view_is 0) slot shared beside.0 l.token c.recall.new.token recalled
+      shown,
+      recalls_to (c.self.view_is 0) slot shared shown l.token c.recall.new.token recalled
           (i.0.all ∙ ap (λ (z : Sizes). z.participants) l.domain.now.limited.1) lone,
     ))
+
+pub let_wait-requires-clause-told : goal.let_wait-requires-clause-told
+let_wait-requires-clause-told g c = let by = c.into_owner-owner.ensures.owner (has_tables c.args.self.now c.args.right c.requires) in
+    let shown : Gv = c.into_owner-owner.result.1.shown in let slot : ℕ = c.number-slot.result in let shared : Bool = is_shared (kind_of c.args.right) in
+    let took = c.take_in.ensures slot shared shown (by.owner ∙ ap (λ (k : ℕ). witness_of_owner k shared shown) (sym c.number-slot.ensures)) in
+    (shown, (0, record { slot = slot; shared = shared; value = shown }, ap (λ (v : View). get_elem? v.stakes.owns 0) took.3, refl, refl))
