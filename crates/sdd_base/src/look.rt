@@ -38,11 +38,14 @@ pub trait LookThrough<T: Item<T>>: Shows<T> {
     ghost one_value: { (s : Self) (k : ℕ) (u v : T) → Self.shows s k u → Self.shows s k v → u ≡ v };
 }
 
-/// Where items can be looked at by their owners too, without a guard: a world, and a turn at it.
+/// Where items can be looked at by their owners too, without a guard: a world, a turn at it, and a domain.
 pub trait Look<T: Item<T>>: LookThrough<T> {
+    /// It knows what each slot shows. A world does; a domain, whose slots others fill and free, knows an owner's item alone.
+    ghost knows_slots: { Self → Type 0 };
+
     /// The value of an owner's item.
     fn value<'a>(&'a self, right: &'a Right) -> &'a T
         requires home { home_of right.now ≡ (Self.home self.now).slots }
-        ensures shown { Self.shows self.now (number_of right.now) result.now }
+        ensures shown { Self.knows_slots self.now → Self.shows self.now (number_of right.now) result.now }
         ensures value { Self.owns_value self.now right.now result.now };
 }

@@ -94,7 +94,7 @@ impl<T: Item<T>> Shared<T> {
     /// The item's value. Its owners can look at it without a guard.
     pub fn get<'a, L: Look<T>>(&'a self, at: &'a L) -> &'a T
         requires home { slots_home self.now ≡ (L.home at.now).slots }
-        ensures shown { L.shows at.now (slot_of self.now) result.now }
+        ensures shown { L.knows_slots at.now → L.shows at.now (slot_of self.now) result.now }
         ensures value { L.owns_value at.now (right_of self.now) result.now }
     {
         at.value(self.right())

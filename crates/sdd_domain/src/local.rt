@@ -1,6 +1,7 @@
 //! A participant of a domain. Where it is lone, it shows the world that its domain is then.
 ghost use Rattle.std.specs.Prelude.{◌≡◌, ◌⊎◌, IfErr, IfOk, MatchResult};
 ghost use Rattle.sdd_domain.specs.Domain.{home_of, book_of, limits_of};
+ghost use Rattle.sdd_domain.specs.Homes.{home_at, home_in};
 ghost use Rattle.sdd_domain.specs.Member.{IsGuarded, IsLone, IsNew};
 
 use crate::domain::Domain;
@@ -63,6 +64,13 @@ impl<'d, T> Local<'d, T> {
             Ok(receipt) => Ok(receipt),
             Err(membership) => Err(Local { membership, ledger }),
         }
+    }
+
+    /// Its domain, through which owners look at their items without a guard.
+    pub fn domain(&self) -> &'d Domain<T>
+        ensures { home_at (home_of result.now) (book_of result.now) (limits_of result.now) ≡ home_in self.now.member }
+    {
+        self.membership.domain()
     }
 
     /// How many items it made, reclaimed and dropped in place.

@@ -6,6 +6,7 @@ ghost use Rattle.sdd_rule.specs.SlotSteps.{blank};
 ghost use Rattle.sdd_board.specs.Board.{id_of, sizes_of, places_of};
 ghost use Rattle.sdd_board.specs.Token.{epoch, words_known, IsSameBut};
 ghost use Rattle.sdd_domain.specs.Domain.{home_of, book_of, limits_of};
+ghost use Rattle.sdd_domain.specs.Homes.{home_at, home_in};
 ghost use Rattle.sdd_domain.specs.Member.{CanNest, IsGuarded, IsNew, IsOpened, Opens, Closes, IsTold};
 ghost use Rattle.sdd_base.specs.Guard.{reader_of};
 ghost use Rattle.sdd_places.specs.declared.tenures.Stage.TheVariants.{Closed as is_closed};
@@ -207,6 +208,13 @@ impl<'d, T> Membership<'d, T> {
         } = self;
         steps::end(&domain.board, &mut token, place);
         Ok(Receipt::new(cut_counts(&domain.board, token), tally))
+    }
+
+    /// Its domain.
+    pub fn domain(&self) -> &'d Domain<T>
+        ensures { home_at (home_of result.now) (book_of result.now) (limits_of result.now) ≡ home_in self.now }
+    {
+        self.domain
     }
 
     /// How many items it made, reclaimed and dropped in place.

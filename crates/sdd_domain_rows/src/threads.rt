@@ -137,12 +137,13 @@ fn looks_often(rt: &impl Abort, local: &mut Local<'_, u64>, owner: &Owned<u64>, 
     }
 }
 
-/// What a reader's thread does: it registers, looks at an item of another participant, and ends.
+/// What a reader's thread does: it registers, looks at an item of another participant, under guards and without one, and ends.
 fn reads(rt: &impl Abort, domain: &Domain<u64>, owner: &Owned<u64>, value: u64) -> Receipt
     requires { owned.slots_home owner.now ≡ slots_in domain.now }
 {
     let mut local = registered(rt, domain);
     looks_often(rt, &mut local, owner, value);
+    assert_eq!(rt; *owner.get(domain), value);
     ended(rt, local)
 }
 

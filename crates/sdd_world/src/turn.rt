@@ -63,6 +63,8 @@ impl<T: Item<T>, J: Job> Shows<T> for World<T, J> {
 }
 
 impl<T: Item<T>, J: Job> Look<T> for World<T, J> {
+    ghost knows_slots = { λ _. Unit {0} };
+
     fn value<'a>(&'a self, right: &'a Right) -> &'a T {
         self.core.value(right)
     }
@@ -99,6 +101,8 @@ impl<T: Item<T>, J: Job> Shows<T> for Turn<'_, T, J> {
 }
 
 impl<T: Item<T>, J: Job> Look<T> for Turn<'_, T, J> {
+    ghost knows_slots = { λ _. Unit {0} };
+
     fn value<'a>(&'a self, right: &'a Right) -> &'a T {
         let world: &World<T, J> = self.world;
         world.core.value(right)
