@@ -16,6 +16,7 @@ use Rattle.sdd_token.specs.declared.right.Kind.{Kind}
 use Rattle.sdd_token.specs.declared.right.Kind.TheVariants as kinds
 use Rattle.sdd_token.specs.declared.right.Right.{Right}
 use Rattle.sdd_token.specs.Kind.{is_shared}
+use Rattle.sdd_token.specs.Owner.{one-shown}
 use Rattle.sdd_token.specs.Right.{number_of, kind_of}
 use Rattle.sdd_standings.specs.Slots.{IsOwnedBy, has_others}
 use Rattle.sdd_rule.specs.declared.Showing.{Showing}
@@ -146,6 +147,21 @@ module _ (R : RattleType) (v : Partaker R.Denot) (m : Member) (right : Right) (x
         → KeepsShown (Shows (showing R) holds p) (Shows (showing R) holds after)
     keeps_it holds once p is i u h = let before : Shows (showing R) holds v i u = subst (λ (q : Partaker R.Denot). Shows (showing R) holds q i u) (sym is) h in
         subst (λ (b : Bool). ShowsBy b (showing R) holds after i u) (ap is_lone (sym only_looks)) (keeps_by holds once (is_lone v.member) i u before)
+
+-- ---- what an owner tells, a participant knows
+module _ (R : RattleType) (v : Partaker R.Denot) (right : Right) (tied : IsTied v.member v.entries)
+    (codes : (place : ℕ) (y : R.Denot) (g : Gv) → slice_index_or v.entries place None ≡ Some (y, g) → g ≡ showing R y)
+    (recalled : IsLone v.member → (g : Gv) × HasValue g right × KnowsOwner v.member (number_of right) (is_shared (kind_of right)) g) where
+  known_by : (x : R.Denot) → HasValue (showing R x) right → (b : Bool) → (IsTrue b → IsLone v.member) → OwnsBy b (showing R) v right x
+  known_by x has true lone = let r = recalled (lone refl) in let k : ℕ = number_of right in let shared : Bool = is_shared (kind_of right) in
+      let told : r.0 ≡ showing R x = one-shown k shared r.0 (showing R x) (sym r.1 ∙ has) in
+      let e = entry v (tied (lone refl)) k shared r.0 r.2 in
+      let same : e.0.0 ≡ x = one_showing R e.0.0 x (sym (codes k e.0.0 e.0.1 e.1) ∙ (e.2 ∙ told)) in
+      has_value v (tied (lone refl)) k shared r.0 r.2 ∙ ap Some same
+  known_by x has false lone = has
+
+  pub known_it : (x : R.Denot) → HasValue (showing R x) right → Owns (showing R) v right x
+  known_it x has = known_by x has (is_lone v.member) (λ exact. lone_is v.member exact)
 
 -- ---- an owner lets its item go
 retires_by : {T : Type 0} (w : World T) (p k : ℕ) (shared : Bool) → owner_given w p k (Some (if shared then Shared 1 else Owned)) ≡ retired w p k

@@ -1,14 +1,20 @@
-//! What is always true of a lone participant's world, as calls that give it out. They do nothing when the program runs.
+//! What is always true of a participant, and of a lone one's world, as calls that give it out. They do nothing when the program runs.
 ghost use Rattle.std.specs.Prelude.{◌≡◌, ◌↔◌};
+ghost use Rattle.sdd_stakes.specs.Shelf.{showing};
 ghost use Rattle.sdd_base.specs.Whole.{IsWhole};
 ghost use Rattle.sdd_base.specs.Left.{FourGuardsReclaim, GoesAtLatest, GoesInTime};
-ghost use Rattle.sdd_base.specs.Under.{KeepsUnderGuards};
+ghost use Rattle.sdd_base.specs.Owned as owned;
+ghost use Rattle.sdd_base.specs.Passing.{GuardsPass};
+ghost use Rattle.sdd_base.specs.Under.{KeepsFreshUnderGuards, KeepsUnderGuards};
 ghost use Rattle.sdd_base.specs.World.{IsGuarded, IsPlaceOf};
+ghost use Rattle.sdd_domain.specs.Items.{HasValue};
 ghost use Rattle.sdd_domain.specs.Local.{world_of};
 ghost use Rattle.sdd_domain.specs.Member.{IsLone};
+ghost use Rattle.sdd_domain.specs.Space.{Owns, slots_home};
 
 use super::Local;
-use sdd_base::Item;
+use sdd_base::inner::right_in_owner;
+use sdd_base::{Item, Owned};
 
 impl<T> Local<'_, T> {
     /// What the parts of its world keep true of each other: a value where a slot is taken, each item that waits once, the participant abreast of the
@@ -21,6 +27,17 @@ impl<T> Local<'_, T> {
     {
         let _ledger = &self.ledger;
     }
+
+    /// What the domain shows of an owner's item, without a guard, is what the participant knows of it. To a lone one that is the value in its slot.
+    pub fn recalls(&mut self, owner: &Owned<T>)
+        requires { owned.slots_home owner.now ≡ slots_home self.old }
+        ensures same { self.new ≡ self.old }
+        ensures recalled { (value : T) → HasValue (showing T.row value) (owned.right_of owner.now)
+            → Owns (showing T.row) self.old (owned.right_of owner.now) value }
+    {
+        self.ledger.codes();
+        self.membership.recall_owner(right_in_owner(owner));
+    }
 }
 
 impl<T: Item<T>> Local<'_, T> {
@@ -32,6 +49,11 @@ impl<T: Item<T>> Local<'_, T> {
         self.is_whole();
     }
 
+    /// An accelerated guard leaves none open, and no more out than was, where no guard is open.
+    pub fn accelerated_guards_pass(&self)
+        ensures { GuardsPass T.holds (world_of self.now) }
+    {}
+
     /// Four accelerated guards, one after another, reclaim all that waits, where no guard is open.
     pub fn four_guards_reclaim(&self)
         ensures { IsLone self.now.member → FourGuardsReclaim T.holds (world_of self.now) }
@@ -39,9 +61,10 @@ impl<T: Item<T>> Local<'_, T> {
         self.is_whole();
     }
 
-    /// No item is reclaimed while a guard that was open when it was retired is open.
+    /// No item is reclaimed while a guard that was open when it began to wait is open.
     pub fn keeps_under_guards(&self)
-        ensures { IsLone self.now.member → KeepsUnderGuards T.holds (world_of self.now) }
+        ensures retired { IsLone self.now.member → KeepsUnderGuards T.holds (world_of self.now) }
+        ensures fresh { IsLone self.now.member → KeepsFreshUnderGuards T.holds (world_of self.now) }
     {
         self.is_whole();
     }

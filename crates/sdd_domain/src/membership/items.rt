@@ -137,6 +137,16 @@ impl<'d, T> Membership<'d, T> {
         )
     }
 
+    /// Beside an owner a lone participant knows that it moved into the slot last what the owner tells. Nothing changes.
+    pub(crate) fn recall_owner(&mut self, right: &Right)
+        requires { home_of right.now ≡ slots_home self.old }
+        ensures same { self.new ≡ self.old }
+        ensures recalled { IsLone self.old → (value : Gv) × HasValue value right.now
+            × KnowsOwner self.old (number_of right.now) (is_shared (kind_of right.now)) value }
+    {
+        recall(&self.domain.board, &mut self.token, right.witness());
+    }
+
     /// Retires an owner's item: it waits until three changes were seen. No memory is taken.
     #[inline]
     pub(crate) fn let_go(&mut self, right: Right)

@@ -1,12 +1,10 @@
-use Rattle.std.proofs.Common.{◌≡◌, ℕ, ap, sym, ◌∙◌, subst, arith}
+use Rattle.std.proofs.Common.{ℕ, ap, sym, ◌∙◌, subst, arith}
 use Rattle.sdd_rule.specs.Codes.{waiting_word}
 use Rattle.sdd_rule.specs.declared.Sizes.{Sizes}
 use Rattle.sdd_rule.specs.declared.View.{View}
-use Rattle.sdd_rule.specs.Slots.{Holds}
-use Rattle.sdd_homes.specs.HomeSteps.{HasLast, IsValue, settling}
+use Rattle.sdd_homes.specs.HomeSteps.{HasLast, IsValue}
 use Rattle.sdd_homes.specs.Records.{IsIn}
 use Rattle.sdd_board.specs.Board.{book_of, places_of}
-use Rattle.sdd_board.specs.Token.{view}
 use Rattle.sdd_domain.proofs.Retiring.{waits_on}
 use Rattle.sdd_domain.proofs.values.let_wait.Goals as goal
 

@@ -1,7 +1,5 @@
-use Rattle.std.proofs.Common.{ℕ, ◌+◌, [], ◌∷◌, ap, sym, refl, ◌∙◌, arith}
+use Rattle.std.proofs.Common.{ℕ, ◌+◌, [], ◌∷◌, ap, refl, ◌∙◌, arith}
 use base.Stored.{Gv}
-use Rattle.atomic_table.specs.declared.shared.Seat.{Seat}
-use Rattle.sdd_stakes.specs.declared.stake.Stake.{Stake}
 use Rattle.sdd_stakes.specs.Shelf.{IsVacant, showing}
 use Rattle.sdd_rule.specs.declared.View.{View}
 use Rattle.sdd_rule.specs.contracts.View.{the_row}
