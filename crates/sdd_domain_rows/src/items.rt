@@ -133,3 +133,20 @@ fn looks_under_nested_guards_show_one_value(rt: HostRuntime) {
     let receipts = vec![in rt.alloc(); ended(&rt, local)].expect(&rt, "there is memory");
     is_tally(&rt, closed(&rt, domain, receipts), 1, 1);
 }
+
+/// It looks through the domain, whoever opens guards meanwhile; the participant leads to the domain.
+#[test]
+fn an_owner_looks_without_a_guard(rt: HostRuntime) {
+    let domain = new_domain::<u64>(&rt, ONE_SLOT);
+    let mut local = registered(&rt, &domain);
+    let owner = made(&rt, &mut local, 7);
+    let seen = owner.get(&domain);
+    turn(&rt, &mut local);
+    turn(&rt, &mut local);
+    assert_eq!(rt; *seen, 7);
+    local.recalls(&owner);
+    assert_eq!(rt; *owner.get(local.domain()), 7);
+    retire(owner, &mut local);
+    let receipts = vec![in rt.alloc(); ended(&rt, local)].expect(&rt, "there is memory");
+    is_tally(&rt, closed(&rt, domain, receipts), 1, 1);
+}
