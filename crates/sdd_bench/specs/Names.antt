@@ -1,7 +1,7 @@
 -- The names of the operations
 use Rattle.std.specs.Prelude.{ℕ, List, codes}
 use Rattle.sdd_bench.specs.declared.operation.Guarding.TheVariants.{Outermost, Nested, Accelerated}
-use Rattle.sdd_bench.specs.declared.operation.Task.TheVariants.{Guards, Items, HalfFull, Looks, Reads}
+use Rattle.sdd_bench.specs.declared.operation.Task.TheVariants.{Guards, Items, HalfFull, Looks, Reads, Gets}
 use Rattle.sdd_bench.specs.declared.operation.Operation.{Operation}
 use Rattle.sdd_bench.specs.declared.operation.Operation.TheVariants.{World, Local, Beside, Item, Job, Read, Look, Load, Share, Raw, Swap}
 
@@ -16,6 +16,7 @@ name_of (Local Items) = codes "local-item"
 name_of (Local HalfFull) = codes "local-half-full"
 name_of (Local Looks) = codes "local-look"
 name_of (Local Reads) = codes "local-read"
+name_of (Local Gets) = codes "local-get"
 name_of (Beside (Guards Outermost)) = codes "beside-outermost"
 name_of (Beside (Guards Nested)) = codes "beside-nested"
 name_of (Beside (Guards Accelerated)) = codes "beside-accelerated"
@@ -23,6 +24,7 @@ name_of (Beside Items) = codes "beside-item"
 name_of (Beside HalfFull) = codes "beside-half-full"
 name_of (Beside Looks) = codes "beside-look"
 name_of (Beside Reads) = codes "beside-read"
+name_of (Beside Gets) = codes "beside-get"
 name_of Item = codes "world-item"
 name_of Job = codes "world-job"
 name_of Read = codes "world-read"

@@ -2,10 +2,11 @@
 ghost use Rattle.std.specs.Prelude.{◌≡◌, Err};
 ghost use Rattle.sdd_base.specs.Limits.{AreInRange};
 ghost use Rattle.sdd_base.specs.Seat.{IsSeated};
+ghost use Rattle.sdd_domain.specs.Space.{seat_of};
 
 use crate::operation::Task;
 use crate::turns;
-use sdd_base::{Guards, Items, Limits};
+use sdd_base::{Limits, Owned};
 use sdd_core::Refused;
 use sdd_domain::{Domain, Local};
 use sdd_store::Tally;
@@ -56,7 +57,7 @@ fn in_domain(
 
 fn by_one(domain: &Domain<u64>, task: Task, turns: u64) -> Result<(Tally, u64), Refused> {
     let mut local = Local::register(domain)?;
-    let done = worked::<Local<'_, u64>>(&mut local, task, turns);
+    let done = worked(&mut local, task, turns);
     match local.end() {
         Ok(receipt) => Ok((receipt.tally(), done?)),
         Err(_) => unreachable!(),
@@ -64,20 +65,41 @@ fn by_one(domain: &Domain<u64>, task: Task, turns: u64) -> Result<(Tally, u64), 
 }
 
 #[inline(always)]
-fn worked<S: Guards<u64> + Items<u64>>(
-    space: &mut S,
-    task: Task,
-    turns: u64,
-) -> Result<u64, Refused>
-    requires { IsSeated (S.seat space.old) }
-    ensures { (S.seat space.new ≡ S.seat space.old) × ((S.own space.new).guards ≡ (S.own space.old).guards) }
+fn worked(local: &mut Local<'_, u64>, task: Task, turns: u64) -> Result<u64, Refused>
+    requires { IsSeated (seat_of local.old) }
+    ensures { (seat_of local.new ≡ seat_of local.old) × (local.new.member.own.guards ≡ local.old.member.own.guards) }
 {
     match task {
-        Task::Guards(guarding) => turns::guards(space, guarding, turns)?,
-        Task::Items => turns::items(space, turns)?,
-        Task::HalfFull => turns::items_beside(space, HALF, turns)?,
-        Task::Looks => return turns::sights(space, false, turns),
-        Task::Reads => return turns::sights(space, true, turns),
+        Task::Guards(guarding) => turns::guards(local, guarding, turns)?,
+        Task::Items => turns::items(local, turns)?,
+        Task::HalfFull => turns::items_beside(local, HALF, turns)?,
+        Task::Looks => return turns::sights(local, false, turns),
+        Task::Reads => return turns::sights(local, true, turns),
+        Task::Gets => return gets(local, turns),
     }
     Ok(0)
+}
+
+/// Makes two items, has their owners look that often through the domain, and retires both.
+#[inline(always)]
+fn gets(local: &mut Local<'_, u64>, turns: u64) -> Result<u64, Refused>
+    requires { IsSeated (seat_of local.old) }
+    ensures { (seat_of local.new ≡ seat_of local.old) × (local.new.member.own.guards ≡ local.old.member.own.guards) }
+{
+    let one = match Owned::new(1, local) {
+        Ok(one) => one,
+        Err((_value, refused)) => return Err(refused),
+    };
+    match Owned::new(3, local) {
+        Ok(other) => {
+            let sum = turns::reads(local.domain(), &one, &other, turns);
+            one.retire(local);
+            other.retire(local);
+            Ok(sum)
+        }
+        Err((_value, refused)) => {
+            one.retire(local);
+            Err(refused)
+        }
+    }
 }

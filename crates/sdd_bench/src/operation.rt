@@ -25,6 +25,8 @@ pub enum Task {
     Looks,
     /// A read through the reference that such a look gave.
     Reads,
+    /// A look by an item's owner, without a guard.
+    Gets,
 }
 
 /// What is done in each turn, and where.
@@ -77,6 +79,7 @@ pub fn named(word: &str) -> Option<Operation>
         "local-half-full" => Some(Operation::Local(Task::HalfFull)),
         "local-look" => Some(Operation::Local(Task::Looks)),
         "local-read" => Some(Operation::Local(Task::Reads)),
+        "local-get" => Some(Operation::Local(Task::Gets)),
         "beside-outermost" => Some(Operation::Beside(Task::Guards(Guarding::Outermost))),
         "beside-nested" => Some(Operation::Beside(Task::Guards(Guarding::Nested))),
         "beside-accelerated" => Some(Operation::Beside(Task::Guards(Guarding::Accelerated))),
@@ -84,6 +87,7 @@ pub fn named(word: &str) -> Option<Operation>
         "beside-half-full" => Some(Operation::Beside(Task::HalfFull)),
         "beside-look" => Some(Operation::Beside(Task::Looks)),
         "beside-read" => Some(Operation::Beside(Task::Reads)),
+        "beside-get" => Some(Operation::Beside(Task::Gets)),
         _ => None,
     }
 }

@@ -131,7 +131,7 @@ pub fn looks<S: Look<u64> + Items<u64>>(space: &mut S, turns: u64) -> Result<u64
 ///
 /// What was found so far decides which one looks, so that no look can be left out.
 #[inline(always)]
-fn reads<L: Look<u64>>(space: &L, one: &Owned<u64>, other: &Owned<u64>, turns: u64) -> u64
+pub fn reads<L: Look<u64>>(space: &L, one: &Owned<u64>, other: &Owned<u64>, turns: u64) -> u64
     requires one { slots_home one.now ≡ (L.home space.now).slots }
     requires other { slots_home other.now ≡ (L.home space.now).slots }
 {

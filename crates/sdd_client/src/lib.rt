@@ -1,4 +1,4 @@
-//! Programs over a world, or over a domain of one participant, in ordinary code, that rest on its contracts and laws alone.
+//! Programs over a world, or over a domain, in ordinary code, that rest on its contracts and laws alone.
 #![tactic(auto)]
 
 pub mod config;
@@ -6,4 +6,5 @@ pub mod guards;
 pub mod items;
 pub mod lone;
 pub mod nodes;
+pub mod owners;
 pub mod programs;

@@ -110,6 +110,7 @@ fn goes_on<T: Plain<T> + Drop>(local: &mut Local<'_, T>)
     ensures passed { world_of local.new ≡ accelerated_guard T.holds (world_of local.old) local.old.member.place }
 {
     local.is_whole();
+    local.accelerated_guards_pass();
     accelerated::<T, Local<'_, T>>(local);
     local.is_whole();
 }
