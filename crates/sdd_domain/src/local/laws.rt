@@ -34,6 +34,8 @@ impl<T> Local<'_, T> {
         ensures same { self.new ≡ self.old }
         ensures recalled { (value : T) → HasValue (showing T.row value) (owned.right_of owner.now)
             → Owns (showing T.row) self.old (owned.right_of owner.now) value }
+        ensures agreed { (known shown : T) → Owns (showing T.row) self.old (owned.right_of owner.now) known
+            → HasValue (showing T.row shown) (owned.right_of owner.now) → shown ≡ known }
     {
         self.ledger.codes();
         self.membership.recall_owner(right_in_owner(owner));
