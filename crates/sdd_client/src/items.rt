@@ -8,7 +8,7 @@ ghost use Rattle.sdd_base.specs.Owned.{slot_of, slots_home};
 ghost use Rattle.sdd_store.specs.Time.{has_garbage};
 
 use sdd_base::laws::comes_back;
-use sdd_base::{Caller, Guard, Guards, Items, Look, Owned, RawItems};
+use sdd_base::{Guard, Guards, Items, Look, Owned, RawItems};
 use sdd_core::Refused;
 
 /// Makes an item, reads it and retires it; answers what was read, which is what was put in.
@@ -30,7 +30,7 @@ pub fn made_and_read<S: Look<u64> + Items<u64>>(
 }
 
 /// The value of an owner's item, in an exact space: the one in its slot.
-pub fn value_in_its_slot<S: Caller<u64> + Look<u64>>(owner: &Owned<u64>, s: &S) -> u64
+pub fn value_in_its_slot<S: Look<u64> + Items<u64>>(owner: &Owned<u64>, s: &S) -> u64
     requires home { slots_home owner.now ≡ (S.seat s.now).home.slots }
     requires exact { IsExact (S.seat s.now) }
     ensures { value_at (S.world s.now) (slot_of owner.now) ≡ Some result }
@@ -39,7 +39,7 @@ pub fn value_in_its_slot<S: Caller<u64> + Look<u64>>(owner: &Owned<u64>, s: &S) 
 }
 
 /// Puts an item out as raw and takes it back; answers what is read then, which is what was in its slot.
-pub fn raw_and_back<S: Look<u64> + RawItems<u64>>(owner: Owned<u64>, s: &mut S) -> (Owned<u64>, u64)
+pub fn raw_and_back<S: Look<u64> + Items<u64> + RawItems<u64>>(owner: Owned<u64>, s: &mut S) -> (Owned<u64>, u64)
     requires seated { IsSeated (S.seat s.old) }
     requires home { slots_home owner ≡ (S.seat s.old).home.slots }
     requires exact { IsExact (S.seat s.old) }

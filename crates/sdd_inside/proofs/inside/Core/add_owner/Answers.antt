@@ -1,8 +1,14 @@
-use Rattle.std.proofs.Common.{◌+◌}
+use Rattle.std.proofs.Common.{◌+◌, refl}
 use Rattle.sdd_token.specs.Right.{number_of}
 use Rattle.sdd_base.proofs.Housed.{Whole-shared}
 use Rattle.sdd_inside.proofs.Lending.{lent-shared}
 use Rattle.sdd_inside.proofs.inside.Core.add_owner.Goals as goal
+
+pub returns-then-owners-lt-MOST_OWNERS-clause-added :
+    goal.returns-then-owners-lt-MOST_OWNERS-clause-added
+returns-then-owners-lt-MOST_OWNERS-clause-added g c =
+    rw (← c.self.view_is, c.add_owner.ensures.added, c.number.ensures)
+    (c.owners_with-owners.result, c.owners_with-owners.ensures, (c.if-owners-lt-MOST_OWNERS.true, refl))
 
 pub returns-then-owners-lt-MOST_OWNERS-clause-whole :
     goal.returns-then-owners-lt-MOST_OWNERS-clause-whole

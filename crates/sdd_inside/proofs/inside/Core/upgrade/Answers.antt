@@ -1,7 +1,11 @@
-use Rattle.std.proofs.Common.{◌+◌}
+use Rattle.std.proofs.Common.{◌+◌, refl}
 use Rattle.sdd_base.proofs.Housed.{Whole-shared}
 use Rattle.sdd_inside.proofs.Lending.{lent-shared}
 use Rattle.sdd_inside.proofs.inside.Core.upgrade.Goals as goal
+
+pub returns-in-Some-clause-upgraded : goal.returns-in-Some-clause-upgraded
+returns-in-Some-clause-upgraded g c =
+    rw (← c.self.view_is, c.add_owner.ensures.added) (c.in-Some.owners, c.in-Some.ensures.shared, c.if-owners-lt-MOST_OWNERS.true, refl)
 
 pub returns-in-Some-clause-whole : goal.returns-in-Some-clause-whole
 returns-in-Some-clause-whole g c =
