@@ -39,7 +39,10 @@ pub fn value_in_its_slot<S: Look<u64> + Items<u64>>(owner: &Owned<u64>, s: &S) -
 }
 
 /// Puts an item out as raw and takes it back; answers what is read then, which is what was in its slot.
-pub fn raw_and_back<S: Look<u64> + Items<u64> + RawItems<u64>>(owner: Owned<u64>, s: &mut S) -> (Owned<u64>, u64)
+pub fn raw_and_back<S: Look<u64> + Items<u64> + RawItems<u64>>(
+    owner: Owned<u64>,
+    s: &mut S,
+) -> (Owned<u64>, u64)
     requires seated { IsSeated (S.seat s.old) }
     requires home { slots_home owner ≡ (S.seat s.old).home.slots }
     requires exact { IsExact (S.seat s.old) }

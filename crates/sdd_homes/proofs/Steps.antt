@@ -194,7 +194,7 @@ module _ (slots id : ℕ) (me : Mine) (live : HasPlace me.0.epoch) where
           (λ (a : IsOneOut n u slot p). ⊎_elim (λ (o : Sees u slot × (u.epoch.place ≡ p)). (unseen j u e).0 o.0)
           (λ (l : Settles u slot × (p ≡ n)). (unseen j u e).2 l.0) a) out) in
           let has = subst (λ (k : ℕ). Has γ slot (share n k p) (IsShown (slot_at sizes s.words slot)) b.0) owners
-              (h.homes.home slot p b.0 inside (omega arith) b.1) in (b.0, b.1, (has.0, shown b.0.lot.shown has.1)))
+          (h.homes.home slot p b.0 inside (omega arith) b.1) in (b.0, b.1, (has.0, shown b.0.lot.shown has.1)))
 
       -- no place ends by a step on a slot
       over_slot : (y : ℕ) → ended_places s.words n ≤ ended_places (set s.words i y) n
@@ -225,8 +225,7 @@ module _ (slots id : ℕ) (me : Mine) (live : HasPlace me.0.epoch) where
           act = tk.act;
           valid = tk.valid;
           homes = part.takes γ sizes s.words s.views s.homes h.homes id v at slot 0 IsVacant me.1 tk (set s.words i (owned_word 0)) now refl
-              (λ j p _. still_seen now rests refl refl j p) (others s.words (owned_word 0))
-              (
+              (λ j p _. still_seen now rests refl refl j p) (others s.words (owned_word 0)) (
                 (λ j m. let e : j ≡ slot = one_moved now slot j refl m in let one = is_same slot slot refl in
                     (live, inl (subst (λ (k : ℕ). 0 < times k (slot ∷ v.slots.owns)) (sym e) (omega arith)))),
                 (λ j l. absurd (settles_only now j slot l refl)),
@@ -311,8 +310,7 @@ module _ (slots id : ℕ) (me : Mine) (live : HasPlace me.0.epoch) where
           tk.valid,
           stands_by γ sizes id v s h at t same (homes_after s.homes me.1 tk.act)
               (part.takes γ sizes s.words s.views s.homes h.homes id v at slot o IsFull me.1 tk s.words w is
-              (λ j p _. still_seen w rests refl refl j p) (λ j _ _. refl)
-              (
+              (λ j p _. still_seen w rests refl refl j p) (λ j _ _. refl) (
                 (λ j m. let e : slot ≡ j = sym (one_moved w slot j is m) in
                     (live, subst (λ (k : ℕ). OwnsAlone v k ⊎ (0 < items_at k v)) e may)),
                 (λ j l. absurd (settles_only w j slot l is)),
@@ -457,8 +455,7 @@ module _ (slots id : ℕ) (me : Mine) (live : HasPlace me.0.epoch) where
           b.1,
           stands_by γ sizes id v s h at w.stakes refl (set s.homes spot none)
               (part.takes_one γ sizes s.words s.views s.homes h.homes id v at slot n (omega arith) w (inr (inr (refl, refl)))
-              (still_seen w rests refl refl)
-              (
+              (still_seen w rests refl refl) (
                 (λ j m. absurd (settles_only w slot j refl m)),
                 (λ j l. (live, subst (OwnsAlone v) (sym (one_settled w slot j refl l)) own)),
               ))

@@ -109,8 +109,7 @@ returns-clause-owner g c = let b = c.args.board.now in let r = c.requires in let
     c.cut_grip-grip.new.token c.house.new.token r.knows (ap (λ (k : ℕ). k + 1) c.places-count.ensures) r.own.0 r.row.0 r.row.1 put.0 tt put.1
     c.cut_grip-grip.ensures.token (c.cut_grip-grip.ensures.row (showing g.row.T c.args.value) r.row.0
     (row_put b c.args.slot (c.places-count.result + 1) c.args.shared (showing g.row.T c.args.value) c.args.token.now c.put.new.seat c.put.new.seat c.put.new.seat
-    r.knows (ap (λ (k : ℕ). k + 1) c.places-count.ensures) r.own.0 r.row.0 r.row.1 put.0 tt put.1)).0 c.house.ensures in
-    (
+    r.knows (ap (λ (k : ℕ). k + 1) c.places-count.ensures) r.own.0 r.row.0 r.row.1 put.0 tt put.1)).0 c.house.ensures in (
       c.cut.ensures.owner.0,
       c.cut.ensures.owner.1 ∙ ap (λ (v : View). the_row.coded.code v ∷ [])
           (ap departing f.view ∙ departed_view c.args.slot c.args.shared (showing g.row.T c.args.value) c.args.token.now.me.0 r.own.1 r.own.2),
