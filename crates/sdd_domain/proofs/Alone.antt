@@ -136,7 +136,9 @@ module _ {T : Type 0} (holds : T → List Holding) (nothing : (v : T) → holds 
     pub fits_on : Fits p (set ws (behind p.member.sizes x.slot) 0) xs
     fits_on = record {
       long = length_set ∙ fits.long;
-      plain = λ i l. dite (ℕ_discrete i x.slot) (λ e. subst (λ (w : ℕ). IsTrue (is_plain_word w)) (sym (ap (λ (j : ℕ). get_or (set ws (behind p.member.sizes x.slot) 0) (behind p.member.sizes j) 0) e ∙ same)) refl)
+      plain = λ i l. dite (ℕ_discrete i x.slot)
+          (λ e. subst (λ (w : ℕ). IsTrue (is_plain_word w))
+          (sym (ap (λ (j : ℕ). get_or (set ws (behind p.member.sizes x.slot) 0) (behind p.member.sizes j) 0) e ∙ same)) refl)
           (λ ne. subst (λ (w : ℕ). IsTrue (is_plain_word w)) (sym (other i ne)) (fits.plain i l));
       waits = λ i l. dite (ℕ_discrete i x.slot)
           (λ e. let t = one in let o = is_same x.slot x.slot refl in let u = ap (λ (j : ℕ). total (waits_in j) xs) e in omega arith)

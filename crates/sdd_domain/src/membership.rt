@@ -212,7 +212,8 @@ impl<'d, T> Membership<'d, T> {
 
     /// Its domain.
     pub fn domain(&self) -> &'d Domain<T>
-        ensures { home_at (home_of result.now) (book_of result.now) (limits_of result.now) ≡ home_in self.now }
+        ensures home { home_at (home_of result.now) (book_of result.now) (limits_of result.now) ≡ home_in self.now }
+        ensures limits { limits_of result.now ≡ self.now.limits }
     {
         self.domain
     }

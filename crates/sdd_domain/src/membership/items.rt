@@ -43,6 +43,8 @@ impl<'d, T> Membership<'d, T> {
         kind: Kind,
         ledger: &mut Ledger<T>,
     ) -> Result<Right, (T, Refused)>
+    where
+        T: Drop,
         requires { IsOwner kind }
         ensures made { MatchResult result
             (λ right. MakesAt (number_of right) (is_shared kind) (showing T.row value) self.old self.new × IsRightTo self.old kind (showing T.row value) right)
@@ -52,29 +54,14 @@ impl<'d, T> Membership<'d, T> {
             (λ right. ledger.new.entries ≡ slice_set ledger.old.entries (number_of right) (Some (value, showing T.row value)))
             (λ _. ledger.new.entries ≡ ledger.old.entries) }
     {
-        let slots = self.domain.limits.slots;
-        let tries = self.domain.limits.tries;
-        let board = &self.domain.board;
-        match claim_free(board, &mut self.token, &mut self.known, slots as u32, tries) {
-            Ok(slot) => {
-                ledger.fill(slot as usize, &value);
-                let shared = is_one_of_several(kind);
-                let (owner, grip) = put_value(
-                    board,
-                    &self.domain.shelf,
-                    &mut self.token,
-                    slot,
-                    shared,
-                    value,
-                );
-                self.tally.count_made();
-                Ok(Right::of_witness(slot, slots as usize, kind, owner, grip))
-            }
-            Err(refused) => Err((value, refused)),
+        match self.make_with(|| value, kind, ledger) {
+            Ok(right) => Ok(right),
+            Err((make, refused)) => Err((make(), refused)),
         }
     }
 
     /// Makes a value and puts it into a free slot; where it is refused, as `make` is, it isn't made.
+    #[inline]
     pub(crate) fn make_with<F: FnOnce() -> T>(
         &mut self,
         make: F,

@@ -21,15 +21,16 @@ put_value-owner-requires-clause-row g c = let l = c.self.inside in let b = l.dom
 
 pub invariant_of-self : goal.invariant_of-self
 invariant_of-self g c = let l = c.self.inside in let b = l.domain.now.board in let inv = c.self.invariant in let put = c.put_value-owner.ensures in
-    let posed = posed_makes b l.place l.own c.in-Ok.slot c.is_one_of_several-shared.result (showing g.row.T c.make-value.result) l.token c.claim_free.new.token c.put_value-owner.new.token inv.0 c.in-Ok.ensures.tried put.home.0
-    put.view put.given in (
+    let made = showing g.row.T c.make-value.result in let shared = c.is_one_of_several-shared.result in let slot = c.in-Ok.slot in
+    let claimed = c.claim_free.new.token in let token = c.put_value-owner.new.token in
+    let posed = posed_makes b l.place l.own slot shared made l.token claimed token inv.0 c.in-Ok.ensures.tried put.home.0 put.view put.given in (
       posed.0,
       inv.1,
       inv.2,
       subst (AreLentTo l.tenure.round) (sym posed.1) inv.3,
       record { empty = inv.4.empty; large = inv.4.large; slots = c.claim_free.ensures.slots ∙ inv.4.slots },
-      subst (λ (t : Tally). IsTallied 0 t c.put_value-owner.new.token.me.0.stakes.counts) (sym c.count_made.ensures)
+      subst (λ (t : Tally). IsTallied 0 t token.me.0.stakes.counts) (sym c.count_made.ensures)
           (subst (IsTallied 0 (one_made l.tally)) (sym (ap (λ (v : View). v.stakes.counts)
-          (made_view b l.place l.own c.in-Ok.slot c.is_one_of_several-shared.result (showing g.row.T c.make-value.result) l.token c.claim_free.new.token c.put_value-owner.new.token inv.0 c.in-Ok.ensures.tried put.view)))
+          (made_view b l.place l.own slot shared made l.token claimed token inv.0 c.in-Ok.ensures.tried put.view)))
           (tallied_made l.tally l.token.me.0.stakes.counts inv.5)),
     )
