@@ -1,5 +1,6 @@
 //! Owners of a domain's items, who look at them without a guard.
-ghost use Rattle.std.specs.Prelude.{◌≡◌, IfOk};
+ghost use Rattle.std.specs.Prelude.{◌≡◌, ◌⊎◌, IfErr, IfOk};
+ghost use Rattle.sdd_base.specs.Owned.{slots_home};
 ghost use Rattle.sdd_base.specs.Seat.{IsSeated};
 ghost use Rattle.sdd_domain.specs.Space.{seat_of};
 
@@ -16,7 +17,9 @@ pub fn made_and_seen(
 ) -> Result<(Owned<u64>, u64), (u64, Refused)>
     requires { IsSeated (seat_of local.old) }
     ensures seat { seat_of local.new ≡ seat_of local.old }
+    ensures home { IfOk result (λ made. slots_home made.0 ≡ (seat_of local.new).home.slots) }
     ensures seen { IfOk result (λ made. made.1 ≡ value) }
+    ensures back { IfErr result (λ e. (e.0 ≡ value) × ((e.1 ≡ Refused.NoSlot) ⊎ (e.1 ≡ Refused.Contended))) }
 {
     let owner = Owned::new(value, local)?;
     local.recalls(&owner);

@@ -12,7 +12,7 @@ use Rattle.std.proofs.lemmas.Bool.{true≢false}
 use Rattle.sdd_store.specs.Time as time
 use Rattle.sdd_base.specs.Holding.{Holding}
 use Rattle.sdd_base.specs.Ptr.{KeepsShown}
-use Rattle.sdd_base.specs.Steps.{opened, closed, nested}
+use Rattle.sdd_base.specs.Steps.{opened, nested}
 use Rattle.sdd_domain.specs.Member.{Member, IsLone, IsGuarded, CanNest, Opens, Closes}
 use Rattle.sdd_domain.specs.Tied.{AreTied, IsTied}
 use Rattle.sdd_domain.specs.Local.{Partaker, world_of}

@@ -25,7 +25,7 @@ use Rattle.sdd_rule.specs.Epoch.{HasPlace, IsOpen, Scans, IsLone}
 use Rattle.sdd_rule.specs.Steps.{Steps}
 use Rattle.sdd_rule.specs.Sums.{times}
 use Rattle.sdd_rule.specs.Slots.{slot_at, owners_at, items_at, OwnsAlone, Sees, Holds}
-use Rattle.sdd_rule.specs.SlotSteps.{without, claimed, retired, given_back, discarded, seeing, AtSlot, Claims, Retires, GivesBack, LooksAtSlot, TakesHold, LetsGo, Discards, LooksForGuard, ClosesAll, IsDue}
+use Rattle.sdd_rule.specs.SlotSteps.{without, retired, given_back, discarded, seeing, AtSlot, Claims, Retires, GivesBack, LooksAtSlot, TakesHold, LetsGo, Discards, LooksForGuard, ClosesAll, IsDue}
 use Rattle.sdd_rule.specs.Parts.{epoch_of}
 use Rattle.sdd_rule.specs.Ended.{AreEnded, AreQuiet, past, past_quiet, Bars, LooksForOwner}
 use Rattle.sdd_rule.proofs.Ended.{Spares, one_spared, Hushes, one_hushed}
@@ -52,7 +52,7 @@ use Rattle.sdd_homes.proofs.Part.{none_out, only_seen, of_another, before_slots,
 use Rattle.sdd_homes.proofs.Part as part
 use Rattle.sdd_homes.proofs.Places.{one_slot}
 use Rattle.sdd_homes.proofs.Counts.{ended_spared, as_full, one_full, counted, uncounted, uncounted_alone}
-use Rattle.sdd_homes.proofs.Records.{in_head, in_tail, in_either, in_none, told_seen}
+use Rattle.sdd_homes.proofs.Records.{in_either, in_none, told_seen}
 use Rattle.sdd_homes.proofs.Records as records
 use Rattle.sdd_homes.proofs.Fillings.{TellsNoMore, tells_none, filled_after, filled_same, filled_housed}
 use Rattle.sdd_homes.proofs.Rows.{Taken, takes_row, gives_row, gives_purse, last_given, taken_lies, given_lies}

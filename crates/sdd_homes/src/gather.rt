@@ -6,7 +6,7 @@ ghost use Rattle.core.specs.Mem.Slots.{slots_items};
 ghost use Rattle.sdd_stakes.specs.Shelf.{most, IsWhole, IsVacant, AreVacant};
 ghost use Rattle.sdd_rule.specs.Codes.{alive};
 ghost use Rattle.sdd_rule.specs.Slots.{slot_at};
-ghost use Rattle.sdd_homes.specs.Homes.{stake_at, homes_for, no_owners, all_vacant, IsShown, AreLaidTo, AreLaid, AreHome};
+ghost use Rattle.sdd_homes.specs.Homes.{stake_at, no_owners, all_vacant, IsShown, AreLaidTo, AreLaid, AreHome};
 
 use atomic_table::Closed;
 use sdd_rule::Sizes;
