@@ -2,8 +2,8 @@ ghost use Rattle.std.specs.Prelude.{◌≡◌, List, []};
 ghost use Rattle.sdd_store.specs.declared.time.Participant.{Participant};
 ghost use Rattle.sdd_base.specs.Holding.{Holding, AreOf};
 ghost use Rattle.sdd_base.specs.World.{World};
-ghost use Rattle.sdd_base.specs.Lending.{Lending};
 ghost use Rattle.sdd_base.specs.Seat.{Seat, IsSeated, IsExact};
+ghost use Rattle.sdd_base.specs.Known.{Known, KnowsOn};
 ghost use Rattle.sdd_base.specs.Own.{GrowsOn};
 ghost use Rattle.sdd_base.specs.Steps.{given, given_all};
 ghost use Rattle.sdd_base.specs.Owned.{slots_home, cells_home, holding_of, cell_holding};
@@ -24,8 +24,11 @@ pub trait Giver<I> {
     ghost seat: { Self → Seat };
     /// What the participant that reclaims keeps of its own.
     ghost own: { Self → Participant };
-    /// What is lent of the values: no call changes it.
-    ghost lending: { Self → Lending };
+    /// What the participant that reclaims knows of the count of epochs.
+    ghost known: { Self → Known };
+    ghost Kept: { Type 0 };
+    /// What no call changes beside: what is lent of the values, say.
+    ghost kept: { Self → Kept };
 
     /// Retires the owner's item.
     fn owned(&mut self, owner: Owned<I>)
@@ -33,7 +36,8 @@ pub trait Giver<I> {
         requires home { slots_home owner ≡ (seat self.old).home.slots }
         ensures seat { seat self.new ≡ seat self.old }
         ensures own { GrowsOn (own self.old) (own self.new) }
-        ensures lending { lending self.new ≡ lending self.old }
+        ensures known { KnowsOn (known self.old) (known self.new) }
+        ensures kept { kept self.new ≡ kept self.old }
         ensures exact { IsExact (seat self.old) → world self.new ≡ given (world self.old) (seat self.old).place (holding_of owner) };
 
     /// Gives a shared owner up; the last one's item is retired.
@@ -42,7 +46,8 @@ pub trait Giver<I> {
         requires home { shared.slots_home owner ≡ (seat self.old).home.slots }
         ensures seat { seat self.new ≡ seat self.old }
         ensures own { GrowsOn (own self.old) (own self.new) }
-        ensures lending { lending self.new ≡ lending self.old }
+        ensures known { KnowsOn (known self.old) (known self.new) }
+        ensures kept { kept self.new ≡ kept self.old }
         ensures exact { IsExact (seat self.old) → world self.new ≡ given (world self.old) (seat self.old).place (shared.holding_of owner) };
 
     /// Frees the cell, and retires what it held.
@@ -51,7 +56,8 @@ pub trait Giver<I> {
         requires home { cells_home cell ≡ (seat self.old).home.cells }
         ensures seat { seat self.new ≡ seat self.old }
         ensures own { GrowsOn (own self.old) (own self.new) }
-        ensures lending { lending self.new ≡ lending self.old }
+        ensures known { KnowsOn (known self.old) (known self.new) }
+        ensures kept { kept self.new ≡ kept self.old }
         ensures exact { IsExact (seat self.old) → world self.new ≡ given (world self.old) (seat self.old).place (cell_holding cell) };
 
     /// Frees the cell, and gives up what it held.
@@ -60,7 +66,8 @@ pub trait Giver<I> {
         requires home { shared.cells_home cell ≡ (seat self.old).home.cells }
         ensures seat { seat self.new ≡ seat self.old }
         ensures own { GrowsOn (own self.old) (own self.new) }
-        ensures lending { lending self.new ≡ lending self.old }
+        ensures known { KnowsOn (known self.old) (known self.new) }
+        ensures kept { kept self.new ≡ kept self.old }
         ensures exact { IsExact (seat self.old) → world self.new ≡ given (world self.old) (seat self.old).place (shared.cell_holding cell) };
 
     /// Frees the cell.
@@ -69,7 +76,8 @@ pub trait Giver<I> {
         requires home { raw_cell.cells_home cell ≡ (seat self.old).home.cells }
         ensures seat { seat self.new ≡ seat self.old }
         ensures own { GrowsOn (own self.old) (own self.new) }
-        ensures lending { lending self.new ≡ lending self.old }
+        ensures known { KnowsOn (known self.old) (known self.new) }
+        ensures kept { kept self.new ≡ kept self.old }
         ensures exact { IsExact (seat self.old) → world self.new ≡ given (world self.old) (seat self.old).place (raw_cell.cell_holding cell) };
 }
 
@@ -86,7 +94,8 @@ pub trait Item<I>: Sized {
         requires home { AreOf (G.seat giver.old).home (holds self) }
         ensures seat { G.seat giver.new ≡ G.seat giver.old }
         ensures own { GrowsOn (G.own giver.old) (G.own giver.new) }
-        ensures lending { G.lending giver.new ≡ G.lending giver.old }
+        ensures known { KnowsOn (G.known giver.old) (G.known giver.new) }
+        ensures kept { G.kept giver.new ≡ G.kept giver.old }
         ensures exact { IsExact (G.seat giver.old) → G.world giver.new ≡ given_all (G.world giver.old) (G.seat giver.old).place (holds self) };
 }
 

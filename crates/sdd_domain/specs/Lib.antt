@@ -1,4 +1,5 @@
 pub mod Shelf
+pub mod Due
 pub mod Sight
 pub mod Waits
 pub mod Claims
@@ -12,6 +13,7 @@ pub mod Values
 pub mod Posed
 pub mod Tied
 pub mod Local
+pub mod Reclaiming
 pub mod Sound
 pub mod Space
 pub mod Laws

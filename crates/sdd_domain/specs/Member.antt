@@ -4,26 +4,28 @@ use base.Stored.{Gv}
 use Rattle.atomic_table.specs.Seated.{TableId}
 use Rattle.sdd_base.specs.declared.limits.Limits.{Limits}
 use Rattle.sdd_store.specs.declared.time.Participant.{Participant}
+use Rattle.sdd_store.specs.declared.waiting.What.{What}
 use Rattle.sdd_store.specs.declared.waiting.What.TheVariants.{Item}
 use Rattle.sdd_store.specs.Time.{newcomer, nested, awaiting}
 use Rattle.sdd_base.specs.Guard.{Reader}
-use Rattle.sdd_base.specs.Own.{opened_at, closed_with}
+use Rattle.sdd_base.specs.Own.{closed_with}
 use Rattle.sdd_store.specs.declared.tally.Tally.{Tally}
-use Rattle.sdd_store.specs.Tally.{no_items, one_made}
+use Rattle.sdd_store.specs.Tally.{no_items, one_made, one_reclaimed}
 use Rattle.sdd_rule.specs.declared.Sizes.{Sizes}
 use Rattle.sdd_rule.specs.declared.Showing.{Showing}
 use Rattle.sdd_rule.specs.declared.SlotsView.{SlotsView}
 use Rattle.sdd_rule.specs.Codes.{free_word, owned_word, waiting_word, alive}
-use Rattle.sdd_rule.specs.Sums.{times}
-use Rattle.sdd_rule.specs.SlotSteps.{bare, blank, behind, retired_now}
+use Rattle.sdd_rule.specs.Sums.{times, total}
+use Rattle.sdd_rule.specs.Slots.{waits_in}
+use Rattle.sdd_rule.specs.SlotSteps.{bare, blank, behind, retired_now, without_item}
 use Rattle.sdd_homes.specs.Records.{IsIn}
 use Rattle.sdd_homes.specs.Fillings.{newest}
-use Rattle.sdd_domain.specs.Receipt.{with_reclaimed}
-use Rattle.sdd_domain.specs.Waits.{waits_at, due_at, freed}
+use Rattle.sdd_domain.specs.Waits.{aged_at, due_at, arrived_at}
 
 -- the domain, the book of its values' places, its limits, the place, whose guards are the participant's, what it keeps of its own, the greatest count that it knows,
 -- the global count at its last publish (0 before the first), what it made and reclaimed, how many of each its domain has,
--- what it knows of slots, what those show that its guards see, what it moved into slots, the newest first, and the words that it knows if it is lone
+-- what it knows of slots, what those show that its guards see, what it moved into slots, the newest first, the words that it knows if it is lone,
+-- and what the opening of a guard has still to reclaim
 pub record Member : Type 0 where
   pub home : TableId
   pub book : ℕ
@@ -39,6 +41,7 @@ pub record Member : Type 0 where
   pub shown : List Showing
   pub filled : List Showing
   pub words : List ℕ
+  pub due : List What
 
 -- no other participant may be
 abbrev pub IsLone : Member → Type 0
@@ -68,28 +71,35 @@ pub record IsNew (domain : TableId) (book : ℕ) (most : Limits) (m : Member) : 
   pub shown : m.shown ≡ []
   pub filled : m.filled ≡ []
   pub words : m.words ≡ blank m.sizes
+  pub due : m.due ≡ []
 
 -- an outermost opening finds a count, which is at least the greatest that was known; where the participant is lone it is that one.
--- What has seen three changes then is given back
-pub record IsOpened (count : ℕ) (old new : Member) : Type 0 where
+-- What has seen three changes then is due
+pub record IsEntered (count : ℕ) (old new : Member) : Type 0 where
   pub member : new ≡ record old {
-    own = opened_at count [] old.own;
+    own = nested (arrived_at count old.own);
     known = new.since;
     since = new.since;
-    tally = with_reclaimed (length (due_at count old.own)) old.tally;
-    slots = new.slots;
-    words = new.words;
+    slots = record old.slots { waits = aged_at count old.own old.slots.waits };
+    due = due_at count old.own;
   }
   pub knew : old.known ≤ count
   pub knows : count ≤ new.since
   pub lone : IsLone old → (count ≡ old.known) × (new.since ≡ old.known)
-  pub slots : new.slots ≡ record old.slots { waits = waits_at count old.own old.slots.waits }
-  pub words : new.words ≡ freed old.sizes (due_at count old.own) old.words
 
--- one guard more is open; only an outermost opening looks at the count
-pub record Opens (old new : Member) : Type 0 where
-  pub nested : IsGuarded old → new ≡ record old { own = nested old.own }
-  pub outermost : ¬ (IsGuarded old) → (count : ℕ) × IsOpened count old new
+-- the item of the slot was due before all others, and its value, which shows this, was moved out; the slot is free. A lone participant moved that
+-- value in
+pub record Reclaims (slot : ℕ) (value : Gv) (old new : Member) : Type 0 where
+  pub inside : slot < old.limits.slots
+  pub first : old.due ≡ Item slot ∷ new.due
+  pub member : new ≡ record old {
+    tally = one_reclaimed old.tally;
+    slots = record old.slots { waits = without_item slot old.slots.waits };
+    words = slice_set old.words (behind old.sizes slot) (free_word 0);
+    due = new.due;
+  }
+  pub once : total (waits_in slot) old.slots.waits ≡ 1
+  pub lone : IsLone old → (shared : Bool) × (newest slot old.filled ≡ Some (record { slot = slot; shared = shared; value = value }))
 
 -- a guard is closed; without an open one nothing happens. The last close shows nothing any more, and at countdown 0 scans, which may
 -- raise the count, to one more than it was at the publish at most; where the participant is lone the scan does, but at the last count

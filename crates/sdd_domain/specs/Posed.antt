@@ -22,8 +22,9 @@ use Rattle.sdd_homes.specs.HomeSteps.{Purse}
 use Rattle.sdd_domain.specs.Sight.{IsOnce}
 use Rattle.sdd_board.specs.declared.board.Board.{Board}
 use Rattle.sdd_board.specs.Board.{id_of, book_of, places_of, slots_of}
-use Rattle.sdd_domain.specs.Waits.{waiting_of}
-use Rattle.sdd_store.specs.declared.waiting.What.{What}
+use Rattle.sdd_rule.specs.declared.WaitingItem.{WaitingItem}
+use Rattle.sdd_domain.specs.Due.{Pending}
+use Rattle.sdd_domain.specs.Waits.{what_of, waiting_of, ripe, unripe}
 use Rattle.sdd_board.specs.Token.{view, epoch, slots, Knows}
 
 -- it has published its count; what it knows is the count at that publish or the next
@@ -74,7 +75,7 @@ module _ (b : Board) (p : ℕ) (own : Participant) (token : Seat Stake View) whe
     pub found : (epoch token).found ≡ own.found
     pub quiet : IsQuiet (slots token)
     pub waiting : (i : ℕ) → 0 < items_at i (view token) → i < slots_of b
-    pub bags : own.bags.waiting ≡ map waiting_of (slots token).waits
+    pub bags : own.bags.waiting ≡ map waiting_of (unripe (slots token).waits)
     pub room : own.bags.room ≡ slots_of b
     pub pace : own.countdown ≤ 128
     pub idle : own.countdown ≡ 128 → own.bags.waiting ≡ []
@@ -84,8 +85,8 @@ pub record IsTenureOf (own : Participant) (part : Part Stage) : Type 0 where
   pub units : part.units + own.guards ≡ 2 ^ 63
   pub kind : part.kind ≡ (if is_open own then Open else Closed)
 
--- the bag for what is due is empty and large enough, and it looks for slots of the board
-pub record IsReady (b : Board) (own : Participant) (bag : List What) (capacity known_slots : ℕ) : Type 0 where
-  pub empty : bag ≡ []
-  pub large : own.bags.room ≤ capacity
+-- what was taken out of the bags is what has seen three changes; there is room for as much as waits, and it looks for slots of the board
+pub record IsReady (b : Board) (own : Participant) (due : Pending) (known_slots : ℕ) (waits : List WaitingItem) : Type 0 where
+  pub due : due.items ≡ map what_of (ripe waits)
+  pub large : own.bags.room ≤ due.room
   pub slots : known_slots ≡ slots_of b

@@ -1,10 +1,11 @@
 -- Values of a domain's items: what an owner shows is one value, what was moved into a slot last, and an owner that goes
-use Rattle.std.specs.Prelude.{◌≡◌, ℕ, Bool, ◌∷◌}
+use Rattle.std.specs.Prelude.{◌≡◌, ℕ, Bool, ◌∷◌, Some}
 use Rattle.std.proofs.Common.{sym, ap, ◌∙◌}
 use base.Stored.{Gv, gnil, gnum, gcons}
 use denote.RattleType.{RattleType}
 use Rattle.sdd_rule.specs.declared.View.{View}
 use Rattle.sdd_rule.specs.SlotSteps.{Retires}
+use Rattle.sdd_homes.specs.Fillings.{newest}
 use Rattle.sdd_homes.specs.HomeSteps.{Mine, untold}
 use Rattle.sdd_stakes.specs.Shelf.{showing}
 use Rattle.sdd_token.specs.declared.right.Right.{Right}
@@ -29,6 +30,10 @@ one_value R right u v a b = one_showing R u v (one-shown (number_of right) (is_s
 abbrev pub with_filled : ℕ → Bool → Gv → View → View
 with_filled slot shared value v =
     record v { stakes = record v.stakes { filled = record { slot = slot; shared = shared; value = value } ∷ v.stakes.filled } }
+
+-- what it moved into the slot last shows this
+abbrev pub WasFilled : ℕ → Gv → View → Type 0
+WasFilled slot value v = (shared : Bool) × (newest slot v.stakes.filled ≡ Some (record { slot = slot; shared = shared; value = value }))
 
 -- an owned item waits from now on, of which no owner knows any more; its owner's unit has come home
 abbrev pub LetsWait : ℕ → Mine → ℕ → Mine → Type 0

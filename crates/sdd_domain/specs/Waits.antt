@@ -33,39 +33,21 @@ ripe = filter is_ripe
 abbrev pub unripe : List WaitingItem → List WaitingItem
 unripe = filter (λ (x : WaitingItem). not (is_ripe x))
 
--- what waits after an opening at this count of one that has found another: each item has seen one change more, and what has seen three is gone
-abbrev pub waits_at : ℕ → Participant → List WaitingItem → List WaitingItem
-waits_at count own xs = if own.found == count then xs else unripe (map older xs)
+-- what waits by the rule after an opening at this count: if the participant had found another before, each item has seen one change more
+abbrev pub aged_at : ℕ → Participant → List WaitingItem → List WaitingItem
+aged_at count own xs = if own.found == count then xs else map older xs
 
--- what such an opening gives back
+-- what such an opening takes out of the bags
 abbrev pub due_at : ℕ → Participant → List What
 due_at count own = if own.found == count then [] else due_next own
 
--- what the participant keeps of its own after it, but for the guard
+-- what the participant keeps of its own then, but for the guard
 abbrev pub arrived_at : ℕ → Participant → Participant
-arrived_at count own = if own.found == count then own else settled (rotated count own)
-
--- the words that are known, once the slots of these are free
-abbrev pub freed : Sizes → List What → List ℕ → List ℕ
-freed sizes [] ws = ws
-freed sizes (Item slot ∷ due) ws = freed sizes due (slice_set ws (behind sizes slot) (free_word 0))
-freed sizes (Job place ∷ due) ws = freed sizes due ws
+arrived_at count own = if own.found == count then own else rotated count own
 
 -- the slot is free, in which one item waited, and is counted as gone
 abbrev pub GivesOneBack : ℕ → View → ℕ → View → Type 0
 GivesOneBack slot v y w = (w ≡ with_gone (given_back slot y v)) × (items_at slot v ≡ 1)
-
--- so many items more have gone
-abbrev pub gone_more : ℕ → StakesView → StakesView
-gone_more k t = record t { counts = record t.counts { gone = t.counts.gone + k } }
-
--- each item that has seen three changes was given back
-abbrev pub GivesAllBack : List What → View → ℕ → View → Type 0
-GivesAllBack due v x w = w ≡ record v {
-  slots = record v.slots { waits = unripe v.slots.waits };
-  stakes = gone_more (length due) v.stakes;
-  words = freed v.sizes due v.words;
-}
 
 -- the token after an outermost opening that found a count
 pub record Arrives {S : Type 0} (count : ℕ) (own : Participant) (s s' : Seat S View) : Type 0 where
@@ -73,10 +55,10 @@ pub record Arrives {S : Type 0} (count : ℕ) (own : Participant) (s s' : Seat S
   pub number : s'.id ≡ s.id
   pub others : s'.me.1 ≡ s.me.1
   pub sizes : s'.me.0.sizes ≡ s.me.0.sizes
-  pub stakes : s'.me.0.stakes ≡ gone_more (length (due_at count own)) s.me.0.stakes
+  pub stakes : s'.me.0.stakes ≡ s.me.0.stakes
   pub knew : s.me.0.epoch.known ≤ count
   pub knows : count ≤ s'.me.0.epoch.since
   pub known : s'.me.0.epoch.known ≡ s'.me.0.epoch.since
   pub lone : IsLone s.me.0.epoch → (count ≡ s.me.0.epoch.known) × (s'.me.0.epoch.since ≡ s.me.0.epoch.known)
-  pub slots : s'.me.0.slots ≡ record s.me.0.slots { waits = waits_at count own s.me.0.slots.waits }
-  pub words : s'.me.0.words ≡ freed s.me.0.sizes (due_at count own) s.me.0.words
+  pub slots : s'.me.0.slots ≡ record s.me.0.slots { waits = aged_at count own s.me.0.slots.waits }
+  pub words : s'.me.0.words ≡ s.me.0.words

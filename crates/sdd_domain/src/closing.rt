@@ -6,6 +6,8 @@ ghost use Rattle.sdd_rule.specs.Codes as codes;
 ghost use Rattle.sdd_rule.specs.Words.{all_words};
 ghost use Rattle.sdd_rule.specs.Slots.{slot_at};
 ghost use Rattle.sdd_rule.specs.Parts.{no_counts};
+ghost use Rattle.sdd_base.specs.Holding.{AreOf};
+ghost use Rattle.sdd_domain.specs.Shelf.{home_of_shelf};
 ghost use Rattle.sdd_homes.specs.Homes.{AreHome};
 ghost use Rattle.sdd_homes.specs.Counts.{full_slots};
 ghost use Rattle.sdd_board.specs.Board.{id_of, sizes_of, places_of};
@@ -15,6 +17,10 @@ ghost use Rattle.sdd_domain.specs.Receipt.{Receipt as Ended, HasTaken};
 
 use crate::receipt::Receipt;
 use atomic_table::Closed;
+use sdd_base::inner::{
+    right_of_cell, right_of_owner, right_of_raw_cell, right_of_shared, right_of_shared_cell,
+};
+use sdd_base::{AtomicOwned, AtomicRaw, AtomicShared, Giver, Item, Owned, Shared};
 use sdd_board::steps::counts::take_counts;
 use sdd_board::steps::slots::{FREE, WAITING, look_for_owner};
 use sdd_board::words::{first_slot, state_word};
@@ -22,6 +28,7 @@ use sdd_board::{Board, Token, steps};
 use sdd_homes::gather_home;
 use sdd_rule::Sizes;
 use sdd_stakes::{Shelf, Stake, Stock, Title};
+use sdd_token::Right;
 use std::alloc::Global;
 
 /// The word of a slot with a value in it.
@@ -120,8 +127,70 @@ pub fn take_all_counts(board: &Board, token: &mut Token, mut receipts: Vec<Recei
     }
 }
 
+/// Lets go of a right, without a word of it.
+fn let_be(right: Right) {
+    let (_owner, grip) = right.into_owner();
+    grip.discard();
+}
+
+/// What a value holds is let go of where nothing is out any more: no owner is there then, nor a cell.
+struct Discard<'s, T: Item<T>> {
+    shelf: &'s Shelf<T>,
+}
+
+impl<T: Item<T>> Drop for Discard<'_, T> {
+    fn drop(self) {
+        let Discard { shelf: _ } = self;
+    }
+}
+
+impl<T: Item<T>> Giver<T> for Discard<'_, T> {
+    ghost use Rattle.std.specs.Prelude.{tt};
+    ghost use Rattle.sdd_domain.specs.Closing.{nothing, nobody, seat_at};
+
+    ghost world = { λ d. nothing };
+
+    ghost seat = { λ d. seat_at d.shelf.now };
+
+    ghost own = { λ _. nobody };
+
+    ghost known = { λ _. record { told = 0; since = 0 } };
+
+    ghost Kept = { ℕ };
+
+    ghost kept = { λ _. 0 };
+
+    fn owned(&mut self, owner: Owned<T>) {
+        let_be(right_of_owner(owner));
+    }
+
+    fn shared(&mut self, owner: Shared<T>) {
+        let_be(right_of_shared(owner));
+    }
+
+    fn atomic_owned(&mut self, cell: AtomicOwned<T>) {
+        let_be(right_of_cell(cell));
+    }
+
+    fn atomic_shared(&mut self, cell: AtomicShared<T>) {
+        let_be(right_of_shared_cell(cell));
+    }
+
+    fn atomic_raw(&mut self, cell: AtomicRaw<T>) {
+        let _ = right_of_raw_cell(cell);
+    }
+}
+
+/// A value of a domain that is closed gives up what it holds.
+fn discard<T: Item<T>>(value: T, shelf: &Shelf<T>)
+    requires { AreOf (home_of_shelf shelf.now) (T.holds value) }
+{
+    let mut giver = Discard { shelf };
+    value.give_up(&mut giver);
+}
+
 /// Moves out and drops the value of each slot that has one, and gathers all stakes. How many values there were.
-pub fn take_all<T: Drop>(
+pub fn take_all<T: Item<T>>(
     closed: &mut Closed<Stake, Global>,
     shelf: &Shelf<T>,
     title: &Title,
@@ -146,7 +215,7 @@ pub fn take_all<T: Drop>(
         slot -= 1;
         let mut whole = gather_home(closed, title, sizes, slot, &mut left);
         if is_full(closed.word(first + slot as usize)) {
-            drop(shelf.take_by(slot as usize, &mut whole));
+            discard(shelf.take_by(slot as usize, &mut whole), shelf);
             taken += 1;
         }
         whole.redeem(&mut stock);

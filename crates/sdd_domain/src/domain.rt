@@ -9,7 +9,7 @@ ghost use Rattle.sdd_domain.specs.Receipt.{Receipt as Ended, AddsUp, capped, sum
 
 use crate::closing::{settled, take_all, take_all_counts};
 use crate::receipt::{Receipt, count_reclaimed};
-use sdd_base::Limits;
+use sdd_base::{Item, Limits};
 use sdd_board::{Board, Plan};
 use sdd_core::Refused;
 use sdd_homes::{gather_all, lay_all};
@@ -23,7 +23,7 @@ use std_alloc::room::may_hold;
 /// What participants in several threads share: values of one type, in slots.
 ///
 /// Each has a [`Local`](crate::Local) of its own. A domain must be spent by `close`.
-pub struct Domain<T> {
+pub struct Domain<T: Item<T>> {
     pub(crate) board: Board,
     pub(crate) shelf: Shelf<T>,
     hold: Hold<T, Global>,
@@ -92,7 +92,7 @@ fn tally_of(receipts: &Vec<Receipt>) -> Tally
     sum
 }
 
-impl<T> Domain<T> {
+impl<T: Item<T>> Domain<T> {
     ghost use Rattle.sdd_domain.specs.Domain.{home_of, limits_of};
 
     /// A domain without participants, at epoch 0. All memory is taken here: for its words, and for as many values as there are slots.
@@ -140,8 +140,6 @@ impl<T> Domain<T> {
     ///
     /// `OwnerOut` where something is still out: an item that has an owner, or a participant that hasn't ended. The domain and the receipts come back.
     pub fn close(self, receipts: Vec<Receipt>) -> Result<Tally, (Domain<T>, Vec<Receipt>, Refused)>
-    where
-        T: Drop,
         requires homes { All (λ (r : Ended). r.home ≡ home_of self) receipts.items }
         ensures closed { MatchResult result
             (λ tally. (waiting : ℕ) × (waiting ≤ (limits_of self).slots) × (tally ≡ with_reclaimed waiting (sum_of receipts.items)))

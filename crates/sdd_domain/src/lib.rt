@@ -5,6 +5,7 @@ mod changes;
 mod claims;
 mod closing;
 pub mod domain;
+mod due;
 mod known;
 pub mod local;
 mod membership;

@@ -7,23 +7,25 @@ ghost use Rattle.sdd_domain.specs.Member.{IsGuarded, IsLone, IsNew};
 use crate::domain::Domain;
 use crate::membership::Membership;
 use crate::receipt::Receipt;
+use sdd_base::Item;
 use sdd_core::Refused;
 use sdd_stakes::Ledger;
 use sdd_store::Tally;
 use std::marker::Model;
 
 mod laws;
+mod reclaiming;
 
 /// A participant of a domain.
 ///
 /// It must be spent by `end`. It is *lone* where its domain has one place: then nobody else changes the domain, and what its calls do is said exactly.
-pub struct Local<'d, T> {
+pub struct Local<'d, T: Item<T>> {
     pub(crate) membership: Membership<'d, T>,
     /// Which value it moved into each slot, for clauses.
     pub(crate) ledger: Ledger<T>,
 }
 
-impl<'d, T> Model for Local<'d, T> {
+impl<'d, T: Item<T>> Model for Local<'d, T> {
     ghost use Rattle.sdd_domain.specs.Local.{Partaker};
     ghost use Rattle.sdd_domain.specs.Sound.{IsSound};
 
@@ -31,10 +33,10 @@ impl<'d, T> Model for Local<'d, T> {
 
     ghost view = { λ l. record { member = l.membership; entries = l.ledger.entries } };
 
-    ghost invariant = { λ l. IsSound l.membership l.ledger.entries };
+    ghost invariant = { λ l. IsSound T.holds l.membership l.ledger.entries };
 }
 
-impl<'d, T> Local<'d, T> {
+impl<'d, T: Item<T>> Local<'d, T> {
     ghost use Rattle.sdd_domain.specs.Local.{world_of, IsBlankAlone};
 
     /// Registers a participant.

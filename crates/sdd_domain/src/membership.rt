@@ -1,23 +1,26 @@
 //! A participant's part in a domain: its guards, what waits with it, and the items that it makes and lets go.
-ghost use Rattle.std.specs.Prelude.{◌≡◌, ◌⊎◌, ◌^◌, ◌<◌, ℕ, IfSome, IfOk, IfErr, MatchResult};
-ghost use Rattle.sdd_store.specs.Time.{accelerated, has_garbage, with_garbage};
+ghost use Rattle.std.specs.Prelude.{◌≡◌, ◌↔◌, ◌⊎◌, ◌+◌, ◌^◌, ◌<◌, ◌≤◌, ◌==◌, ℕ, [], IsTrue, not, IfSome, IfOk, IfErr, MatchOption, MatchResult};
+ghost use Rattle.sdd_stakes.specs.Shelf.{showing};
+ghost use Rattle.sdd_store.specs.Time.{accelerated, has_garbage, nested, settled, with_garbage};
 ghost use Rattle.sdd_rule.specs.Steps.{nobody, Takes};
 ghost use Rattle.sdd_rule.specs.SlotSteps.{blank};
 ghost use Rattle.sdd_board.specs.Board.{id_of, sizes_of, places_of};
 ghost use Rattle.sdd_board.specs.Token.{epoch, words_known, IsSameBut};
 ghost use Rattle.sdd_domain.specs.Domain.{home_of, book_of, limits_of};
 ghost use Rattle.sdd_domain.specs.Homes.{home_at, home_in};
-ghost use Rattle.sdd_domain.specs.Member.{CanNest, IsGuarded, IsNew, IsOpened, Opens, Closes, IsTold};
+ghost use Rattle.sdd_domain.specs.Member.{CanNest, IsGuarded, IsNew, IsEntered, Reclaims, Closes, IsTold};
 ghost use Rattle.sdd_base.specs.Guard.{reader_of};
 ghost use Rattle.sdd_places.specs.declared.tenures.Stage.TheVariants.{Closed as is_closed};
 
 use crate::changes::arrive;
 use crate::domain::Domain;
+use crate::due::Due;
 use crate::known::Known;
 use crate::receipt::Receipt;
 use crate::scan::scan;
 use crate::shut::shut;
-use sdd_base::Guard;
+use crate::values::take_value;
+use sdd_base::{Guard, Item};
 use sdd_base::inner::{guard_with, part_of_guard};
 use sdd_board::steps::counts::cut_counts;
 use sdd_board::{Board, Token, steps};
@@ -33,23 +36,23 @@ mod items;
 /// A participant's membership of a domain: its place, its bags, and what it knows of the words.
 ///
 /// It must be spent by `end`.
-pub struct Membership<'d, T> {
+pub struct Membership<'d, T: Item<T>> {
     domain: &'d Domain<T>,
     token: Token,
     place: usize,
     /// How many of its guards may be open at once, as the domain's limits say.
     nesting: u32,
     own: Participant,
-    /// An empty bag, for what is due.
-    bag: Vec<What>,
+    /// What an opening took out of the bags, and has still to reclaim.
+    due: Due,
     known: Known,
     /// What its open guards don't have of its tenure: each of them has one unit.
     tenure: Tenure,
     tally: Tally,
 }
 
-impl<'d, T> Model for Membership<'d, T> {
-    ghost use Rattle.std.specs.Prelude.{◌≡◌, vec_capacity};
+impl<'d, T: Item<T>> Model for Membership<'d, T> {
+    ghost use Rattle.std.specs.Prelude.{◌≡◌};
     ghost use Rattle.sdd_domain.specs.Domain.{book_of};
     ghost use Rattle.sdd_domain.specs.Member.{Member};
     ghost use Rattle.sdd_domain.specs.Posed.{IsPosed, AreLentTo, IsTenureOf, IsReady};
@@ -72,33 +75,34 @@ impl<'d, T> Model for Membership<'d, T> {
       shown = l.token.me.0.stakes.sees;
       filled = l.token.me.0.stakes.filled;
       words = l.token.me.0.words;
+      due = l.due.items;
     } };
 
     ghost invariant = { λ l. IsPosed l.domain.now.board l.place l.own l.token × (l.nesting ≡ l.domain.now.limits.nesting) × IsTenureOf l.own l.tenure × AreLentTo l.tenure.round l.token.me.1
-        × IsReady l.domain.now.board l.own l.bag.items (vec_capacity l.bag) l.known.slots
+        × IsReady l.domain.now.board l.own l.due l.known.slots l.token.me.0.slots.waits
         × IsTallied 0 l.tally l.token.me.0.stakes.counts };
 }
 
 /// The memory of a participant.
 struct Room {
     bags: Bags,
-    bag: Vec<What>,
+    due: Due,
     known: Known,
 }
 
 impl Room {
-    ghost use Rattle.std.specs.Prelude.{◌≤◌, vec_capacity, []};
+    ghost use Rattle.std.specs.Prelude.{◌≤◌, []};
 
     /// That for so many slots.
     fn new(alloc: Global, slots: u32) -> Result<Room, AllocError>
         ensures bags { IfOk result (λ room. room.bags ≡ record { waiting = []; room = slots }) }
-        ensures bag { IfOk result (λ room. (room.bag.items ≡ []) × (slots ≤ vec_capacity room.bag)) }
+        ensures due { IfOk result (λ room. (room.due.items ≡ []) × (slots ≤ room.due.room)) }
         ensures known { IfOk result (λ room. room.known.slots ≡ slots) }
     {
         let bags = Bags::with_room(alloc, slots as usize)?;
-        let bag = Vec::with_capacity(alloc, slots as usize)?;
+        let due = Due::with_room(alloc, slots as usize)?;
         let known = Known::new(alloc, slots)?;
-        Ok(Room { bags, bag, known })
+        Ok(Room { bags, due, known })
     }
 }
 
@@ -147,7 +151,7 @@ fn own_tenure() -> Tenure
     book.issue(&Stage::Closed)
 }
 
-impl<'d, T> Membership<'d, T> {
+impl<'d, T: Item<T>> Membership<'d, T> {
     /// Registers a participant.
     ///
     /// All memory is taken here, and none later: for what may wait with it, and for the slots that it gave back, as many
@@ -160,7 +164,7 @@ impl<'d, T> Membership<'d, T> {
         let Ok(room) = Room::new(domain.alloc, domain.limits.slots as u32) else {
             return Err(want_of_memory(&domain.board));
         };
-        let Room { bags, bag, known } = room;
+        let Room { bags, due, known } = room;
         let mut token = steps::sit(&domain.board);
         let Some(place) = take_place(&domain.board, &mut token) else {
             return Err(Refused::NoPlace);
@@ -177,7 +181,7 @@ impl<'d, T> Membership<'d, T> {
                 guards: 0,
                 bags,
             },
-            bag,
+            due,
             known,
             tenure: own_tenure(),
             tally: Tally::new(),
@@ -201,7 +205,7 @@ impl<'d, T> Membership<'d, T> {
             place,
             nesting: _,
             own: _,
-            bag: _,
+            due: _,
             known: _,
             tenure: _,
             tally,
@@ -225,20 +229,25 @@ impl<'d, T> Membership<'d, T> {
         self.tally
     }
 
-    /// Opens one more guard; an outermost one looks at the count.
+    /// A guard is open.
+    #[inline]
+    pub(crate) fn is_guarded(&self) -> bool
+        ensures { IsTrue result ↔ IsGuarded self.now }
+    {
+        self.own.guards > 0
+    }
+
+    /// Opens one more guard beside others.
     ///
     /// `TooManyGuards` where as many are open as may nest.
     #[inline]
-    pub(crate) fn open_guard(&mut self) -> Result<Guard, Refused>
-    where
-        T: Drop,
+    pub(crate) fn nest(&mut self) -> Result<Guard, Refused>
+        requires { IsGuarded self.old }
         ensures { MatchResult result
-            (λ guard. (reader_of guard ≡ self.old.reader) × CanNest self.old × Opens self.old self.new)
+            (λ guard. (reader_of guard ≡ self.old.reader) × CanNest self.old × (self.new ≡ record self.old { own = nested self.old.own }))
             (λ e. (e ≡ Refused.TooManyGuards) × ¬ (CanNest self.old) × (self.new ≡ self.old)) }
     {
-        if self.own.guards == 0 {
-            Ok(self.enter())
-        } else if self.own.guards < self.nesting {
+        if self.own.guards < self.nesting {
             self.own.guards += 1;
             Ok(guard_with(self.tenure.split(1)))
         } else {
@@ -246,28 +255,56 @@ impl<'d, T> Membership<'d, T> {
         }
     }
 
-    /// The outermost opening, which is a change where it finds another count than the last one.
+    /// The outermost opening, and whether it is a change: it is where it finds another count than the last one. What is due then is to be reclaimed.
     #[inline]
-    fn enter(&mut self) -> Guard
-    where
-        T: Drop,
-        requires { ¬ (IsGuarded self.old) }
-        ensures reader { reader_of result ≡ self.old.reader }
-        ensures opened { (count : ℕ) × IsOpened count self.old self.new }
+    pub(crate) fn enter(&mut self) -> (Guard, bool)
+        requires shut { ¬ (IsGuarded self.old) }
+        requires settled { self.old.due ≡ [] }
+        ensures reader { reader_of result.0 ≡ self.old.reader }
+        ensures nests { CanNest self.old }
+        ensures entered { (count : ℕ) × IsEntered count self.old self.new × (result.1 ≡ not (self.old.own.found == count)) }
     {
-        arrive(
+        let changed = arrive(
             &self.domain.board,
-            &self.domain.shelf,
             &mut self.token,
             self.place,
             &mut self.own,
-            &mut self.bag,
-            &mut self.known,
-            &mut self.tally,
+            &mut self.due,
         );
         self.own.guards = 1;
         self.tenure.set(&Stage::Open, &());
-        guard_with(self.tenure.split(1))
+        (guard_with(self.tenure.split(1)), changed)
+    }
+
+    /// Moves the value out of the next item that is due, and gives back its slot.
+    #[inline]
+    pub(crate) fn reclaim_next(&mut self) -> Option<T>
+        ensures { MatchOption result ((self.old.due ≡ []) × (self.new ≡ self.old))
+            (λ value. (slot : ℕ) × Reclaims slot (showing T.row value) self.old self.new) }
+    {
+        let Some(What::Item(slot)) = self.due.next() else {
+            return None;
+        };
+        let value = take_value(&self.domain.board, &self.domain.shelf, &mut self.token, slot);
+        self.known.remember(slot);
+        self.tally.count_reclaimed();
+        Some(value)
+    }
+
+    /// It is decided whether anything waits.
+    #[inline]
+    pub(crate) fn settle(&mut self)
+        ensures { self.new ≡ record self.old { own = settled self.old.own } }
+    {
+        self.own.countdown = if self.own.bags.is_empty() { 128 } else { 127 };
+    }
+
+    /// A law, which does nothing when the program runs: while a guard is open, the count that is known is the one at its publish or the next.
+    #[inline]
+    pub(crate) fn is_near(&self)
+        ensures { IsGuarded self.now → (self.now.since ≤ self.now.known) × (self.now.known ≤ self.now.since + 1) }
+    {
+        let _token = &self.token;
     }
 
     /// Closes a guard; the last one publishes the end, after a scan at countdown 0. Since the guard is here, one is open.

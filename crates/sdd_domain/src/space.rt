@@ -8,7 +8,7 @@ use sdd_base::{Caller, Guard, Guards, Item, Items, Look, LookThrough, Plain, Ptr
 use sdd_core::Refused;
 use sdd_token::{Kind, Right};
 
-impl<T: Plain<T> + Drop> Shows<T> for Local<'_, T> {
+impl<T: Item<T>> Shows<T> for Local<'_, T> {
     ghost use Rattle.sdd_domain.specs.Homes.{home_in};
     ghost use Rattle.sdd_domain.specs.Space.{Shows, Owns, is_lone};
     ghost use Rattle.sdd_domain.specs.Laws.{one_owned, keeps_owned};
@@ -26,7 +26,7 @@ impl<T: Plain<T> + Drop> Shows<T> for Local<'_, T> {
     ghost keeps_owned = { λ p q home kept right v owns. keeps_owned (showing T.row) T.holds p q home kept right v owns };
 }
 
-impl<T: Plain<T> + Drop> LookThrough<T> for Local<'_, T> {
+impl<T: Item<T>> LookThrough<T> for Local<'_, T> {
     ghost use Rattle.std.specs.Prelude.{◌≡◌, option_copied};
     ghost use Rattle.sdd_base.specs.Ptr.{shown_by};
     ghost use Rattle.sdd_domain.specs.Space.{is_lone};
@@ -42,7 +42,7 @@ impl<T: Plain<T> + Drop> LookThrough<T> for Local<'_, T> {
     ghost one_value = { λ p slot u v a b. one_shown T.row p T.holds slot u v (is_lone p.member) a b };
 }
 
-impl<T: Item<T> + Drop> Shows<T> for Domain<T> {
+impl<T: Item<T>> Shows<T> for Domain<T> {
     ghost use Rattle.sdd_domain.specs.Domain.{home_of, book_of, limits_of};
     ghost use Rattle.sdd_domain.specs.Items.{HasValue};
     ghost use Rattle.sdd_domain.specs.Homes.{home_at};
@@ -62,7 +62,7 @@ impl<T: Item<T> + Drop> Shows<T> for Domain<T> {
 }
 
 /// An owner looks at its item without a guard, wherever it is: also where no participant is at hand.
-impl<T: Item<T> + Drop> Look<T> for Domain<T> {
+impl<T: Item<T>> Look<T> for Domain<T> {
     ghost knows_slots = { λ _. ⊥ };
 
     #[inline]
@@ -72,7 +72,7 @@ impl<T: Item<T> + Drop> Look<T> for Domain<T> {
 }
 
 /// A pointer that was loaded under a guard of a participant, where that participant isn't at hand.
-impl<T: Item<T> + Drop> LookThrough<T> for Domain<T> {
+impl<T: Item<T>> LookThrough<T> for Domain<T> {
     ghost use Rattle.std.specs.Prelude.{◌≡◌, option_copied};
     ghost use Rattle.sdd_base.specs.Ptr.{shown_by};
 
@@ -86,7 +86,7 @@ impl<T: Item<T> + Drop> LookThrough<T> for Domain<T> {
     ghost one_value = { λ _ _ _ _ none. absurd none };
 }
 
-impl<T: Plain<T> + Drop> Caller<T> for Local<'_, T> {
+impl<T: Item<T>> Caller<T> for Local<'_, T> {
     ghost use Rattle.std.specs.Prelude.{refl};
     ghost use Rattle.sdd_domain.specs.Local.{world_of};
     ghost use Rattle.sdd_domain.specs.Space.{seat_of, known_of, is_lone};
@@ -107,7 +107,7 @@ impl<T: Plain<T> + Drop> Caller<T> for Local<'_, T> {
     ghost shows_is_value = { λ p exact slot value. shows_is_value (showing T.row) T.holds p (is_lone p.member) exact slot value };
 }
 
-impl<T: Plain<T> + Drop> Guards<T> for Local<'_, T> {
+impl<T: Item<T>> Guards<T> for Local<'_, T> {
     #[inline]
     fn open_guard(&mut self) -> Result<Guard, Refused> {
         self.membership.open_guard()
@@ -140,7 +140,7 @@ impl<T: Plain<T> + Drop> Guards<T> for Local<'_, T> {
 }
 
 /// Values that hold owners or cells aren't taken yet: a participant drops what it reclaims.
-impl<T: Plain<T> + Drop> Items<T> for Local<'_, T> {
+impl<T: Item<T>> Items<T> for Local<'_, T> {
     ghost use Rattle.sdd_store.specs.Table.{IsFull};
     ghost use Rattle.sdd_domain.specs.Local.{world_of};
     ghost use Rattle.sdd_domain.specs.Laws.{owned_is_shown};

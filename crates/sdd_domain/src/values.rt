@@ -3,7 +3,7 @@ ghost use Rattle.std.specs.Prelude.{◌≡◌, ◌<◌, suc, drop, [], ◌∷◌
 ghost use base.Stored.{Gv};
 ghost use Rattle.sdd_stakes.specs.Shelf.{IsVacant, showing};
 ghost use Rattle.sdd_rule.specs.Codes.{free_word, waiting_word};
-ghost use Rattle.sdd_rule.specs.Epoch.{HasPlace};
+ghost use Rattle.sdd_rule.specs.Epoch.{HasPlace, IsLone};
 ghost use Rattle.sdd_rule.specs.Slots.{Holds};
 ghost use Rattle.sdd_rule.specs.SlotSteps.{IsDue};
 ghost use Rattle.sdd_homes.specs.Homes.{Carries, Moves};
@@ -15,7 +15,7 @@ ghost use Rattle.sdd_domain.specs.Waits.{GivesOneBack};
 ghost use Rattle.sdd_token.specs.Owner.{witness_of_owner};
 ghost use Rattle.sdd_board.specs.Owner.{disowned};
 ghost use Rattle.sdd_board.specs.Grips.{IsGripOf, IsUnitOf};
-ghost use Rattle.sdd_domain.specs.Values.{with_filled, LetsWait};
+ghost use Rattle.sdd_domain.specs.Values.{with_filled, LetsWait, WasFilled};
 ghost use Rattle.sdd_board.specs.Token.{view, epoch, slots, Knows, Taught, Moved};
 
 use sdd_board::grips::{cut_grip, join_grip};
@@ -75,7 +75,7 @@ pub fn let_wait(board: &Board, token: &mut Token, slot: u32, grip: Grip)
     retire(board, token, slot);
 }
 
-/// Moves the value of an item out that has seen three changes, and gives back its slot.
+/// Moves the value of an item out that has seen three changes, and gives back its slot. A lone participant moved that value in.
 pub fn take_value<T>(board: &Board, shelf: &Shelf<T>, token: &mut Token, slot: u32) -> T
     requires home { token.old.table_id ≡ id_of board.now }
     requires shelf { IsShelfOf board.now shelf.now }
@@ -84,7 +84,8 @@ pub fn take_value<T>(board: &Board, shelf: &Shelf<T>, token: &mut Token, slot: u
     requires place { HasPlace (epoch token.old) }
     requires rests { (view token.old).stakes.moves ≡ None }
     requires due { IsDue (view token.old) slot }
-    ensures { Taught (GivesOneBack slot) token.old (free_word 0) token.new }
+    ensures given_back { Taught (GivesOneBack slot) token.old (free_word 0) token.new }
+    ensures lone { IsLone (epoch token.old) → WasFilled slot (showing T.row result) (view token.old) }
 {
     take_out(board, token, slot);
     let count = board.places() + 1;

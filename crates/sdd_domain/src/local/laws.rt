@@ -16,7 +16,7 @@ use super::Local;
 use sdd_base::inner::right_in_owner;
 use sdd_base::{Item, Owned};
 
-impl<T> Local<'_, T> {
+impl<T: Item<T>> Local<'_, T> {
     /// What the parts of its world keep true of each other: a value where a slot is taken, each item that waits once, the participant abreast of the
     /// count, each item accounted for. It has its place there, and a guard is open there
     /// exactly while one of its own is.

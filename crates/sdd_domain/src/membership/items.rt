@@ -12,7 +12,7 @@ ghost use Rattle.sdd_domain.specs.Sight.{IsOnce};
 use crate::claims::claim_free;
 use crate::membership::Membership;
 use crate::values::{let_wait, put_value};
-use sdd_base::Guard;
+use sdd_base::{Guard, Item};
 use sdd_base::inner::tenure_of;
 use sdd_board::steps::slots::{recall, take_in, watch};
 use sdd_core::Refused;
@@ -31,7 +31,7 @@ fn is_one_of_several(kind: Kind) -> bool
     }
 }
 
-impl<'d, T> Membership<'d, T> {
+impl<'d, T: Item<T>> Membership<'d, T> {
     /// Puts a value into a free slot, for an owner of this kind, and enters it in the ledger. No memory is taken.
     ///
     /// The value comes back where it is refused: `NoSlot` where a walk over all slots found none free; `Contended` where as many exchanges
@@ -43,8 +43,6 @@ impl<'d, T> Membership<'d, T> {
         kind: Kind,
         ledger: &mut Ledger<T>,
     ) -> Result<Right, (T, Refused)>
-    where
-        T: Drop,
         requires { IsOwner kind }
         ensures made { MatchResult result
             (λ right. MakesAt (number_of right) (is_shared kind) (showing T.row value) self.old self.new × IsRightTo self.old kind (showing T.row value) right)
@@ -54,9 +52,25 @@ impl<'d, T> Membership<'d, T> {
             (λ right. ledger.new.entries ≡ slice_set ledger.old.entries (number_of right) (Some (value, showing T.row value)))
             (λ _. ledger.new.entries ≡ ledger.old.entries) }
     {
-        match self.make_with(|| value, kind, ledger) {
-            Ok(right) => Ok(right),
-            Err((make, refused)) => Err((make(), refused)),
+        let slots = self.domain.limits.slots;
+        let tries = self.domain.limits.tries;
+        let board = &self.domain.board;
+        match claim_free(board, &mut self.token, &mut self.known, slots as u32, tries) {
+            Ok(slot) => {
+                ledger.fill(slot as usize, &value);
+                let shared = is_one_of_several(kind);
+                let (owner, grip) = put_value(
+                    board,
+                    &self.domain.shelf,
+                    &mut self.token,
+                    slot,
+                    shared,
+                    value,
+                );
+                self.tally.count_made();
+                Ok(Right::of_witness(slot, slots as usize, kind, owner, grip))
+            }
+            Err(refused) => Err((value, refused)),
         }
     }
 

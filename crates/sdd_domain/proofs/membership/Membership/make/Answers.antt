@@ -1,0 +1,35 @@
+use Rattle.std.proofs.Common.{ap, sym, ◌∙◌, subst}
+use Rattle.sdd_rule.specs.declared.Sizes.{Sizes}
+use Rattle.sdd_rule.specs.declared.View.{View}
+use Rattle.sdd_store.specs.declared.tally.Tally.{Tally}
+use Rattle.sdd_store.specs.Tally.{one_made}
+use Rattle.sdd_stakes.specs.Shelf.{showing}
+use Rattle.sdd_board.specs.Board.{book_of, places_of}
+use Rattle.sdd_domain.specs.Posed.{AreLentTo}
+use Rattle.sdd_domain.specs.Receipt.{IsTallied}
+use Rattle.sdd_domain.proofs.Moving.{row_out}
+use Rattle.sdd_domain.proofs.Posing.{posed_makes, made_view}
+use Rattle.sdd_domain.proofs.Tallies.{tallied_made}
+use Rattle.sdd_domain.proofs.membership.Membership.make.Goals as goal
+
+pub put_value-owner-requires-clause-row : goal.put_value-owner-requires-clause-row
+put_value-owner-requires-clause-row g c = let l = c.self.inside in let b = l.domain.now.board in let q = c.self.invariant.0 in (
+  l.token.me.1,
+  row_out (book_of b) (places_of b) c.in-Ok.slot l.token.me c.claim_free.new.token.me.1 q.knows.1 (ap (λ (z : Sizes). z.participants) q.knows.0)
+      c.in-Ok.ensures.tried.row,
+)
+
+pub invariant_of-self : goal.invariant_of-self
+invariant_of-self g c = let l = c.self.inside in let b = l.domain.now.board in let inv = c.self.invariant in let put = c.put_value-owner.ensures in
+    let posed = posed_makes b l.place l.own c.in-Ok.slot c.is_one_of_several-shared.result (showing g.row.T c.args.value) l.token c.claim_free.new.token c.put_value-owner.new.token inv.0 c.in-Ok.ensures.tried put.home.0
+    put.view put.given in (
+      posed.0,
+      inv.1,
+      inv.2,
+      subst (AreLentTo l.tenure.round) (sym posed.1) inv.3,
+      record { empty = inv.4.empty; large = inv.4.large; slots = c.claim_free.ensures.slots ∙ inv.4.slots },
+      subst (λ (t : Tally). IsTallied 0 t c.put_value-owner.new.token.me.0.stakes.counts) (sym c.count_made.ensures)
+          (subst (IsTallied 0 (one_made l.tally)) (sym (ap (λ (v : View). v.stakes.counts)
+          (made_view b l.place l.own c.in-Ok.slot c.is_one_of_several-shared.result (showing g.row.T c.args.value) l.token c.claim_free.new.token c.put_value-owner.new.token inv.0 c.in-Ok.ensures.tried put.view)))
+          (tallied_made l.tally l.token.me.0.stakes.counts inv.5)),
+    )

@@ -1,0 +1,65 @@
+//! What an opening took out of the bags.
+ghost use Rattle.std.specs.Prelude.{◌≡◌, ◌≤◌, [], ◌∷◌, MatchOption, IfOk};
+ghost use Rattle.sdd_store.specs.Waiting.{aged, due, left};
+
+use sdd_store::{Bags, What};
+use std::alloc::{AllocError, Global};
+use std::marker::Model;
+
+/// What is due, one after another: the oldest first. It is gone through once.
+#[derive(Drop)]
+pub struct Due {
+    bag: Vec<What>,
+    /// How many of the bag were given out.
+    taken: usize,
+}
+
+impl Model for Due {
+    ghost use Rattle.std.specs.Prelude.{◌≤◌, drop, length, vec_capacity};
+    ghost use Rattle.sdd_domain.specs.Due.{Pending};
+
+    ghost Value = { Pending };
+
+    ghost view = { λ d. record { items = drop d.taken d.bag.items; room = vec_capacity d.bag } };
+
+    ghost invariant = { λ d. d.taken ≤ length d.bag.items };
+}
+
+impl Due {
+    /// Nothing, with room for so much.
+    pub fn with_room(alloc: Global, room: usize) -> Result<Due, AllocError>
+        ensures none { IfOk result (λ made. made.items ≡ []) }
+        ensures room { IfOk result (λ made. room ≤ made.room) }
+    {
+        let bag = Vec::with_capacity(alloc, room)?;
+        Ok(Due { bag, taken: 0 })
+    }
+
+    /// The bags rotate, and what is due comes out of them.
+    pub fn rotate(&mut self, bags: &mut Bags)
+        requires none { self.old.items ≡ [] }
+        requires room { bags.old.room ≤ self.old.room }
+        ensures taken { self.new.items ≡ due (aged bags.old.waiting) }
+        ensures kept { bags.new ≡ record bags.old { waiting = left (aged bags.old.waiting) } }
+        ensures room { bags.old.room ≤ self.new.room }
+    {
+        self.bag.clear();
+        self.taken = 0;
+        bags.rotate(&mut self.bag);
+    }
+
+    /// The next of it.
+    #[inline]
+    pub fn next(&mut self) -> Option<What>
+        ensures next { MatchOption result ((self.old.items ≡ []) × (self.new ≡ self.old)) (λ what. self.old.items ≡ what ∷ self.new.items) }
+        ensures room { self.new.room ≡ self.old.room }
+    {
+        if self.taken < self.bag.len() {
+            let what = self.bag[self.taken];
+            self.taken += 1;
+            Some(what)
+        } else {
+            None
+        }
+    }
+}
