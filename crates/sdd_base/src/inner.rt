@@ -39,13 +39,6 @@ pub fn right_of_owner<T>(owner: Owned<T>) -> Right
     owner.into_right()
 }
 
-/// The same right, for as long as the owner is borrowed.
-pub fn right_in_owner<T>(owner: &Owned<T>) -> &Right
-    ensures { result.now ≡ right_of owner.now }
-{
-    owner.right()
-}
-
 /// The shared owner whose right this is.
 pub fn shared_of<T>(right: Right) -> Shared<T>
     requires { kind_of right ≡ Kind.Shared }

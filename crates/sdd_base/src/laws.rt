@@ -1,5 +1,5 @@
 //! Laws of every space, as functions that callers can cite by calling them.
-ghost use Rattle.std.specs.Prelude.{◌≡◌, ◌⊎◌, IfErr, IfOk, IsTrue};
+ghost use Rattle.std.specs.Prelude.{◌≡◌, ◌↔◌, ◌⊎◌, IfErr, IfOk, IsTrue};
 ghost use Rattle.sdd_core.specs.Epoch.{epoch_after};
 ghost use Rattle.sdd_base.specs.Guard.{reader_of};
 ghost use Rattle.sdd_base.specs.Holding.{AreOf};
@@ -7,11 +7,13 @@ ghost use Rattle.sdd_base.specs.Seat.{IsSeated, IsExact, IsLone};
 ghost use Rattle.sdd_base.specs.Known.{KnowsOn};
 ghost use Rattle.sdd_base.specs.Owned.{right_of, slot_of, slots_home};
 ghost use Rattle.sdd_base.specs.Ptr.{KeepsShown};
+ghost use Rattle.sdd_base.specs.Shared as shared;
 ghost use Rattle.sdd_store.specs.Time.{is_open};
 
 use crate::guard::Guard;
 use crate::item::Item;
 use crate::owned::Owned;
+use crate::shared::Shared;
 use crate::space::{Guards, Items, RawItems};
 use sdd_core::{Epoch, Refused};
 
@@ -70,4 +72,23 @@ pub fn shows_what_was_made<'g, T: Item<T>, S: Items<T>>(
     let owner = Owned::new(value, s)?;
     let seen = owner.get_guarded_ref(guard, s);
     Ok((owner, seen))
+}
+
+/// In an exact space an owner's item has the value that its slot shows. Nothing changes.
+pub fn owned_is_shown<T: Item<T>, S: Items<T>>(owner: &Owned<T>, s: &mut S)
+    requires home { slots_home owner.now ≡ (S.seat s.old).home.slots }
+    ensures same { s.new ≡ s.old }
+    ensures shown { IsExact (S.seat s.old) → (value : T) → S.owns_value s.old (right_of owner.now) value ↔ S.shows s.old (slot_of owner.now) value }
+{
+    s.owned_is_shown(owner.right());
+}
+
+/// The same of an owner that may be one of several.
+pub fn shared_is_shown<T: Item<T>, S: Items<T>>(owner: &Shared<T>, s: &mut S)
+    requires home { shared.slots_home owner.now ≡ (S.seat s.old).home.slots }
+    ensures same { s.new ≡ s.old }
+    ensures shown { IsExact (S.seat s.old) → (value : T) →
+        S.owns_value s.old (shared.right_of owner.now) value ↔ S.shows s.old (shared.slot_of owner.now) value }
+{
+    s.owned_is_shown(owner.right());
 }

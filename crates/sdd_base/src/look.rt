@@ -38,7 +38,7 @@ pub trait LookThrough<T: Item<T>>: Shows<T> {
     ghost one_value: { (s : Self) (k : ℕ) (u v : T) → Self.shows s k u → Self.shows s k v → u ≡ v };
 }
 
-/// Where items can be looked at by their owners too, without a guard: a world, a turn at it, and a domain.
+/// Where items can be looked at by their owners too, without a guard: a world, a turn at it, a domain, a participant of it.
 pub trait Look<T: Item<T>>: LookThrough<T> {
     /// It knows what each slot shows. A world does; a domain, whose slots others fill and free, knows an owner's item alone.
     ghost knows_slots: { Self → Type 0 };

@@ -10,6 +10,7 @@ ghost use Rattle.sdd_base.specs.World.{World, IsPlaceOf};
 ghost use Rattle.sdd_world.specs.Place.{index_of};
 ghost use Rattle.sdd_client.specs.Config.{IsSetTo, cell_of, cells_home, replaced};
 
+use sdd_base::laws::shared_is_shown;
 use sdd_base::{AtomicShared, Cells, Guard, Item, Items, Look, Shared};
 use sdd_core::{Refused, Tag};
 use sdd_world::{Place, World};
@@ -68,6 +69,7 @@ impl<T: Item<T>> Config<T> {
         ensures keeps { KeepsShown (S.shows s.old) (S.shows s.new) }
     {
         let next = Shared::new(value, s)?;
+        shared_is_shown(&next, s);
         let (before, _tag) = self.cell.swap((Some(next), Tag::None), s);
         let Some(owner) = before else {
             return Ok(());

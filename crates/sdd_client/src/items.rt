@@ -7,7 +7,7 @@ ghost use Rattle.sdd_base.specs.World.{place_at, value_at};
 ghost use Rattle.sdd_base.specs.Owned.{slot_of, slots_home};
 ghost use Rattle.sdd_store.specs.Time.{has_garbage};
 
-use sdd_base::laws::comes_back;
+use sdd_base::laws::{comes_back, owned_is_shown};
 use sdd_base::{Guard, Guards, Items, Look, Owned, RawItems};
 use sdd_core::Refused;
 
@@ -30,11 +30,13 @@ pub fn made_and_read<S: Look<u64> + Items<u64>>(
 }
 
 /// The value of an owner's item, in an exact space: the one in its slot.
-pub fn value_in_its_slot<S: Look<u64> + Items<u64>>(owner: &Owned<u64>, s: &S) -> u64
-    requires home { slots_home owner.now ≡ (S.seat s.now).home.slots }
-    requires exact { IsExact (S.seat s.now) }
-    ensures { value_at (S.world s.now) (slot_of owner.now) ≡ Some result }
+pub fn value_in_its_slot<S: Look<u64> + Items<u64>>(owner: &Owned<u64>, s: &mut S) -> u64
+    requires home { slots_home owner.now ≡ (S.seat s.old).home.slots }
+    requires exact { IsExact (S.seat s.old) }
+    ensures same { s.new ≡ s.old }
+    ensures value { value_at (S.world s.new) (slot_of owner.now) ≡ Some result }
 {
+    owned_is_shown(owner, s);
     *owner.get(s)
 }
 

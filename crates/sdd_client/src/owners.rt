@@ -1,17 +1,50 @@
-//! Owners of a domain's items, who look at them without a guard.
+//! Owners look at their items without a guard: over a turn at a world, and over a participant of a domain.
 ghost use Rattle.std.specs.Prelude.{◌≡◌, ◌⊎◌, IfErr, IfOk};
 ghost use Rattle.sdd_base.specs.Owned.{slots_home};
 ghost use Rattle.sdd_base.specs.Seat.{IsSeated};
+ghost use Rattle.sdd_base.specs.World.{World, IsPlaceOf};
+ghost use Rattle.sdd_world.specs.Place.{index_of};
 ghost use Rattle.sdd_domain.specs.Space.{seat_of};
 
-use sdd_base::Owned;
+use sdd_base::{Items, Look, Owned};
 use sdd_core::Refused;
 use sdd_domain::Local;
+use sdd_world::{Place, World};
 
-/// Makes an item in a domain and looks at it without a guard: answers what is seen, which is what was put in.
+/// Makes an item and looks at it without a guard: answers what is seen, which is what was put in.
 ///
-/// `NoSlot` or `Contended` where no slot is free, or exchanges were lost; the value comes back.
-pub fn made_and_seen(
+/// `NoSlot` or `Contended` where `Owned::new` is refused so; the value comes back.
+pub fn made_and_seen<S: Look<u64> + Items<u64>>(
+    value: u64,
+    s: &mut S,
+) -> Result<(Owned<u64>, u64), (u64, Refused)>
+    requires { IsSeated (S.seat s.old) }
+    ensures seat { S.seat s.new ≡ S.seat s.old }
+    ensures home { IfOk result (λ made. slots_home made.0 ≡ (S.seat s.new).home.slots) }
+    ensures seen { IfOk result (λ made. made.1 ≡ value) }
+    ensures back { IfErr result (λ e. (e.0 ≡ value) × ((e.1 ≡ Refused.NoSlot) ⊎ (e.1 ≡ Refused.Contended))) }
+{
+    let owner = Owned::new(value, s)?;
+    let seen = *owner.get(s);
+    Ok((owner, seen))
+}
+
+/// The same by a participant of a world.
+pub fn seen_in_a_world(
+    value: u64,
+    world: &mut World<u64>,
+    place: &Place,
+) -> Result<(Owned<u64>, u64), (u64, Refused)>
+    requires { IsPlaceOf world.old (index_of place.now) }
+    ensures home { IfOk result (λ made. slots_home made.0 ≡ world.old.home.slots) }
+    ensures seen { IfOk result (λ made. made.1 ≡ value) }
+    ensures back { IfErr result (λ e. (e.0 ≡ value) × ((e.1 ≡ Refused.NoSlot) ⊎ (e.1 ≡ Refused.Contended))) }
+{
+    made_and_seen(value, &mut world.at(place))
+}
+
+/// The same by a participant of a domain, whatever the others do.
+pub fn seen_in_a_domain(
     value: u64,
     local: &mut Local<'_, u64>,
 ) -> Result<(Owned<u64>, u64), (u64, Refused)>
@@ -21,8 +54,5 @@ pub fn made_and_seen(
     ensures seen { IfOk result (λ made. made.1 ≡ value) }
     ensures back { IfErr result (λ e. (e.0 ≡ value) × ((e.1 ≡ Refused.NoSlot) ⊎ (e.1 ≡ Refused.Contended))) }
 {
-    let owner = Owned::new(value, local)?;
-    local.recalls(&owner);
-    let seen = *owner.get(local.domain());
-    Ok((owner, seen))
+    made_and_seen(value, local)
 }

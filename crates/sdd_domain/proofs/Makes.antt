@@ -31,7 +31,7 @@ use Rattle.sdd_domain.specs.Member.{Member, IsLone, IsUsedUp, MakesAt, word_of}
 use Rattle.sdd_domain.specs.Items.{HasValue, IsRightTo}
 use Rattle.sdd_domain.specs.Tied.{Entries, Agrees, AreTied, IsTied, is_plain_word}
 use Rattle.sdd_domain.specs.Local.{Partaker, listing, standing_by, value_by, owner_standing, standing_in, value_in, world_of}
-use Rattle.sdd_domain.specs.Space.{ShowsBy, Shows, OwnsBy, Owns, is_lone}
+use Rattle.sdd_domain.specs.Space.{ShowsBy, Shows, is_lone}
 use Rattle.sdd_domain.proofs.Listings.{listing_at, listing_long, listing_past, listing_set, listing_all}
 use Rattle.sdd_domain.proofs.Words.{word_same, word_other}
 use Rattle.sdd_domain.proofs.Exact.{lone_is}
@@ -145,9 +145,6 @@ module _ {T : Type 0} (v : Partaker T) (k : ℕ) (shared : Bool) (x : T) (g : Gv
         ∙ ap (set (listing v.member.limits.slots (value_in v)) k) value_now in
         λ d. record (world_of made_partaker) { standings = standings d; values = values d }
 
-    pub value_made : value_at (world_of made_partaker) k ≡ Some x
-    value_made = listing_at v.member.limits.slots (value_in made_partaker) k None low ∙ value_now
-
     -- each slot shows what it showed
     pub value_kept : (i : ℕ) (u : T) → value_at (world_of v) i ≡ Some u → value_at (world_of made_partaker) i ≡ Some u
     value_kept i u was = dite (ℕ_discrete i k)
@@ -195,15 +192,6 @@ module _ (R : RattleType) (v : Partaker R.Denot) (m : Member) (es : Entries R.De
           ∙ ap (made_as (world_of v) (number_of right) x) (sym (first_by kind))),
     )
 
-    owns_by : (b : Bool) → (IsTrue b → value_at (world_of after) (number_of right) ≡ Some x) → HasValue (showing R x) right → OwnsBy b (showing R) after right x
-    owns_by true there has = there refl
-    owns_by false there has = has
-
-    did_own : IsTied v.member v.entries → Owns (showing R) after right x
-    did_own tied = owns_by (is_lone m) (λ exact. let lone : IsLone v.member = sym (ap (λ (z : Member). z.limits.participants) did.0.member) ∙ lone_is m exact in
-        ap (λ (p : Partaker R.Denot). value_at (world_of p) (number_of right)) is_made
-        ∙ value_made v (number_of right) (is_shared kind) x (showing R x) (tied lone) did.0.inside (did.0.lone lone)) did.1.value
-
     keeps_by : (holds : R.Denot → List Holding) (b : Bool) → (IsTrue b → IsLone v.member) → IsTied v.member v.entries → (i : ℕ) (u : R.Denot)
         → ShowsBy b (showing R) holds v i u → ShowsBy b (showing R) holds (made_partaker v (number_of right) (is_shared kind) x (showing R x)) i u
     keeps_by holds true lone tied i u h = value_kept v (number_of right) (is_shared kind) x (showing R x) (tied (lone refl)) did.0.inside (did.0.lone (lone refl)) i u h
@@ -222,10 +210,9 @@ module _ (R : RattleType) (v : Partaker R.Denot) (m : Member) (es : Entries R.De
     answered_tied (Ok right) a tied = did_tied a.0 right (a.2, a.3, a.4) tied
     answered_tied (Err e) a tied = subst (λ (p : Partaker R.Denot). IsTied p.member p.entries) (λ d. record { member = sym a.1 d; entries = sym a.4 d }) tied
 
-    pub answered_owns : (r : Result Right (B × Refused)) → Answers r → IsTied v.member v.entries
-        → IfOk r (λ right. (x : R.Denot) × P x × Owns (showing R) after right x)
-    answered_owns (Ok right) a tied = (a.0, a.1, did_own a.0 right (a.2, a.3, a.4) tied)
-    answered_owns (Err e) a tied = tt
+    pub answered_owns : (r : Result Right (B × Refused)) → Answers r → IfOk r (λ right. (x : R.Denot) × P x × HasValue (showing R x) right)
+    answered_owns (Ok right) a = (a.0, a.1, a.3.value)
+    answered_owns (Err e) a = tt
 
     pub answered_lone : (r : Result Right (B × Refused)) (p : Partaker R.Denot) → v ≡ p → Answers r → IsTrue (is_lone p.member)
         → IfErr r (λ e. (e.1 ≡ Refused.NoSlot) × IsFull (world_of p).standings)
@@ -273,9 +260,9 @@ module _ (R : RattleType) (v : Partaker R.Denot) (m : Member) (es : Entries R.De
   as_answered x Why (Ok right) a b = (x, refl, a.0, a.1, b)
   as_answered x Why (Err e) a b = (a.0, a.1, a.2, a.3, b)
 
-  pub value_owns : (x : R.Denot) (r : Result Right (R.Denot × Refused)) → IfOk r (λ right. (y : R.Denot) × (y ≡ x) × Owns (showing R) after right y)
-      → IfOk r (λ right. Owns (showing R) after right x)
-  value_owns x (Ok right) a = subst (λ (y : R.Denot). Owns (showing R) after right y) a.1 a.2
+  pub value_owns : (x : R.Denot) (r : Result Right (R.Denot × Refused)) → IfOk r (λ right. (y : R.Denot) × (y ≡ x) × HasValue (showing R y) right)
+      → IfOk r (λ right. HasValue (showing R x) right)
+  value_owns x (Ok right) a = subst (λ (y : R.Denot). HasValue (showing R y) right) a.1 a.2
   value_owns x (Err e) a = tt
 
   pub value_exact : (x : R.Denot) (r : Result Right (R.Denot × Refused)) (p : Partaker R.Denot)

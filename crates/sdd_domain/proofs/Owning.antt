@@ -16,7 +16,6 @@ use Rattle.sdd_token.specs.declared.right.Kind.{Kind}
 use Rattle.sdd_token.specs.declared.right.Kind.TheVariants as kinds
 use Rattle.sdd_token.specs.declared.right.Right.{Right}
 use Rattle.sdd_token.specs.Kind.{is_shared}
-use Rattle.sdd_token.specs.Owner.{one-shown}
 use Rattle.sdd_token.specs.Right.{number_of, kind_of}
 use Rattle.sdd_standings.specs.Slots.{IsOwnedBy, has_others}
 use Rattle.sdd_rule.specs.declared.Showing.{Showing}
@@ -38,11 +37,12 @@ use Rattle.sdd_domain.specs.Member.{Member, IsLone, KnowsOwner, LooksAt, Retires
 use Rattle.sdd_domain.specs.Homes.{home_in}
 use Rattle.sdd_domain.specs.Items.{HasValue}
 use Rattle.sdd_domain.specs.Sight.{IsOnce}
-use Rattle.sdd_domain.specs.Values.{one_showing}
+use Rattle.sdd_domain.specs.Values.{one_showing, one_value}
+use Rattle.sdd_domain.specs.Laws.{same_value, shows_is_value}
 use Rattle.sdd_domain.specs.Waits.{waiting_of}
 use Rattle.sdd_domain.specs.Tied.{Agrees, AreTied, IsTied, is_plain_word}
 use Rattle.sdd_domain.specs.Local.{Partaker, listing, standing_by, value_by, standing_in, value_in, world_of}
-use Rattle.sdd_domain.specs.Space.{ShowsBy, Shows, OwnsBy, Owns, is_lone}
+use Rattle.sdd_domain.specs.Space.{ShowsBy, Shows, is_lone}
 use Rattle.sdd_domain.specs.Space as space
 use Rattle.sdd_domain.proofs.Listings.{listing_at, listing_set, listing_same}
 use Rattle.sdd_domain.proofs.Words.{owned_alive, inside, word_same, word_other}
@@ -124,13 +124,6 @@ module _ (R : RattleType) (v : Partaker R.Denot) (m : Member) (right : Right) (x
       pub shows_it : (holds : R.Denot → List Holding) → holds x ≡ [] → IsOnce m.shown → Shows (showing R) holds after (number_of right) x
       shows_it holds none once = shows_by holds none once (is_lone m) lone_then
 
-      owns_by : HasValue (showing R x) right → (b : Bool) → (IsTrue b → IsLone v.member) → OwnsBy b (showing R) after right x
-      owns_by has true lone = is_value (lone refl)
-      owns_by has false lone = has
-
-      pub owns_it : HasValue (showing R x) right → Owns (showing R) after right x
-      owns_it has = owns_by has (is_lone m) lone_then
-
     keeps_by : (holds : R.Denot → List Holding) → IsOnce m.shown → (b : Bool) (i : ℕ) (u : R.Denot) → ShowsBy b (showing R) holds v i u
         → ShowsBy b (showing R) holds after i u
     keeps_by holds once true i u h = ap (λ (w : World R.Denot). value_at w i) same_world ∙ h
@@ -148,20 +141,33 @@ module _ (R : RattleType) (v : Partaker R.Denot) (m : Member) (right : Right) (x
     keeps_it holds once p is i u h = let before : Shows (showing R) holds v i u = subst (λ (q : Partaker R.Denot). Shows (showing R) holds q i u) (sym is) h in
         subst (λ (b : Bool). ShowsBy b (showing R) holds after i u) (ap is_lone (sym only_looks)) (keeps_by holds once (is_lone v.member) i u before)
 
--- ---- what an owner tells, a participant knows
+-- ---- what an owner tells is what its slot shows to a lone participant
 module _ (R : RattleType) (v : Partaker R.Denot) (right : Right) (tied : IsTied v.member v.entries)
     (codes : (place : ℕ) (y : R.Denot) (g : Gv) → slice_index_or v.entries place None ≡ Some (y, g) → g ≡ showing R y)
     (recalled : IsLone v.member → (g : Gv) × HasValue g right × KnowsOwner v.member (number_of right) (is_shared (kind_of right)) g) where
-  known_by : (x : R.Denot) → HasValue (showing R x) right → (b : Bool) → (IsTrue b → IsLone v.member) → OwnsBy b (showing R) v right x
-  known_by x has true lone = let r = recalled (lone refl) in let k : ℕ = number_of right in let shared : Bool = is_shared (kind_of right) in
-      let told : r.0 ≡ showing R x = one-shown k shared r.0 (showing R x) (sym r.1 ∙ has) in
-      let e = entry v (tied (lone refl)) k shared r.0 r.2 in
-      let same : e.0.0 ≡ x = one_showing R e.0.0 x (sym (codes k e.0.0 e.0.1 e.1) ∙ (e.2 ∙ told)) in
-      has_value v (tied (lone refl)) k shared r.0 r.2 ∙ ap Some same
-  known_by x has false lone = has
+  -- the value that it moved into the slot last is in it, and is what the owner tells
+  filled_here : IsLone v.member → (y : R.Denot) × (value_at (world_of v) (number_of right) ≡ Some y) × HasValue (showing R y) right
+  filled_here lone = let r = recalled lone in let k : ℕ = number_of right in let shared : Bool = is_shared (kind_of right) in
+      let e = entry v (tied lone) k shared r.0 r.2 in (
+        e.0.0,
+        has_value v (tied lone) k shared r.0 r.2,
+        subst (λ (g : Gv). HasValue g right) (sym e.2 ∙ codes k e.0.0 e.0.1 e.1) r.1,
+      )
 
-  pub known_it : (x : R.Denot) → HasValue (showing R x) right → Owns (showing R) v right x
-  known_it x has = known_by x has (is_lone v.member) (λ exact. lone_is v.member exact)
+  has_there : (x : R.Denot) → IsLone v.member → HasValue (showing R x) right ↔ (value_at (world_of v) (number_of right) ≡ Some x)
+  has_there x lone = let f = filled_here lone in (
+    (λ has. f.1 ∙ ap Some (one_value R right f.0 x f.2 has)),
+    (λ there. subst (λ (y : R.Denot). HasValue (showing R y) right) (same_value f.0 x (sym f.1 ∙ there)) f.2),
+  )
+
+  pub has_shown : (holds : R.Denot → List Holding) (p : Partaker R.Denot) → v ≡ p → IsTrue (is_lone p.member) → (x : R.Denot)
+      → HasValue (showing R x) right ↔ Shows (showing R) holds p (number_of right) x
+  has_shown holds p same exact x =
+      let here = has_there x (lone_is v.member (subst (λ (q : Partaker R.Denot). IsTrue (is_lone q.member)) (sym same) exact)) in
+      let shows = shows_is_value (showing R) holds p (is_lone p.member) exact (number_of right) x in (
+        (λ has. shows.1 (subst (λ (q : Partaker R.Denot). value_at (world_of q) (number_of right) ≡ Some x) same (here.0 has))),
+        (λ shown. here.1 (subst (λ (q : Partaker R.Denot). value_at (world_of q) (number_of right) ≡ Some x) (sym same) (shows.0 shown))),
+      )
 
 -- ---- an owner lets its item go
 retires_by : {T : Type 0} (w : World T) (p k : ℕ) (shared : Bool) → owner_given w p k (Some (if shared then Shared 1 else Owned)) ≡ retired w p k

@@ -2,8 +2,6 @@
 use Rattle.std.specs.Prelude.{ℕ, ◌≡◌, ◌==◌, Bool, List, [], Some, true, false}
 use base.Stored.{Gv}
 use Rattle.sdd_token.specs.Units as token
-use Rattle.sdd_token.specs.declared.right.Right.{Right}
-use Rattle.sdd_token.specs.Right.{number_of}
 use Rattle.sdd_base.specs.Holding.{Holding, AreOf}
 use Rattle.sdd_base.specs.Known.{Known}
 use Rattle.sdd_base.specs.Seat.{Seat}
@@ -12,7 +10,6 @@ use Rattle.sdd_rule.specs.declared.Showing.{Showing}
 use Rattle.sdd_homes.specs.Records.{IsIn}
 use Rattle.sdd_domain.specs.Member.{Member}
 use Rattle.sdd_domain.specs.Homes.{Home, home_in}
-use Rattle.sdd_domain.specs.Items.{HasValue}
 use Rattle.sdd_domain.specs.Items as items
 use Rattle.sdd_domain.specs.Local.{Partaker, world_of}
 
@@ -38,14 +35,6 @@ module _ {T : Type 0} where
 
   abbrev pub Shows : (T → Gv) → (T → List Holding) → Partaker T → ℕ → T → Type 0
   Shows shown holds p = ShowsBy (is_lone p.member) shown holds p
-
-  -- the value of an owner's item: to a lone participant the one in its slot, and else the one that the owner's token tells
-  abbrev pub OwnsBy : Bool → (T → Gv) → Partaker T → Right → T → Type 0
-  OwnsBy true shown p right value = value_at (world_of p) (number_of right) ≡ Some value
-  OwnsBy false shown p right value = HasValue (shown value) right
-
-  abbrev pub Owns : (T → Gv) → Partaker T → Right → T → Type 0
-  Owns shown p = OwnsBy (is_lone p.member) shown p
 
   abbrev pub seat_of : Partaker T → Seat
   seat_of p = record {

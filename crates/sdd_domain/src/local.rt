@@ -68,7 +68,7 @@ impl<'d, T: Item<T>> Local<'d, T> {
         }
     }
 
-    /// Its domain, through which owners look at their items without a guard.
+    /// Its domain, through which owners look at their items also while the participant goes on.
     pub fn domain(&self) -> &'d Domain<T>
         ensures home { home_at (home_of result.now) (book_of result.now) (limits_of result.now) ≡ home_in self.now.member }
         ensures limits { limits_of result.now ≡ self.now.member.limits }

@@ -10,20 +10,31 @@ use sdd_token::{Kind, Right};
 
 impl<T: Item<T>> Shows<T> for Local<'_, T> {
     ghost use Rattle.sdd_domain.specs.Homes.{home_in};
-    ghost use Rattle.sdd_domain.specs.Space.{Shows, Owns, is_lone};
-    ghost use Rattle.sdd_domain.specs.Laws.{one_owned, keeps_owned};
+    ghost use Rattle.sdd_domain.specs.Items.{HasValue};
+    ghost use Rattle.sdd_domain.specs.Space.{Shows};
+    ghost use Rattle.sdd_domain.specs.Values.{one_value};
 
     ghost home = { λ p. home_in p.member };
 
     ghost shows = { λ p slot value. Shows (showing T.row) T.holds p slot value };
 
-    ghost owns_value = { λ p right value. Owns (showing T.row) p right value };
+    ghost owns_value = { λ _ right value. HasValue (showing T.row value) right };
 
     fn shown_is_of_home(&self) {}
 
-    ghost one_owned = { λ p right u v a b. one_owned T.row p right u v (is_lone p.member) a b };
+    ghost one_owned = { λ _ right u v a b. one_value T.row right u v a b };
 
-    ghost keeps_owned = { λ p q home kept right v owns. keeps_owned (showing T.row) T.holds p q home kept right v owns };
+    ghost keeps_owned = { λ _ _ _ _ _ _ owns. owns };
+}
+
+/// An owner looks at its item without a guard. Its token tells the value, so that no step is needed.
+impl<T: Item<T>> Look<T> for Local<'_, T> {
+    ghost knows_slots = { λ _. ⊥ };
+
+    #[inline]
+    fn value<'a>(&'a self, right: &'a Right) -> &'a T {
+        self.membership.domain().shelf.view(right.number() as usize, right.grip())
+    }
 }
 
 impl<T: Item<T>> LookThrough<T> for Local<'_, T> {
@@ -61,7 +72,7 @@ impl<T: Item<T>> Shows<T> for Domain<T> {
     ghost keeps_owned = { λ _ _ _ _ _ _ owns. owns };
 }
 
-/// An owner looks at its item without a guard, wherever it is: also where no participant is at hand.
+/// The same where no participant is at hand.
 impl<T: Item<T>> Look<T> for Domain<T> {
     ghost knows_slots = { λ _. ⊥ };
 
@@ -143,13 +154,10 @@ impl<T: Item<T>> Guards<T> for Local<'_, T> {
 impl<T: Item<T>> Items<T> for Local<'_, T> {
     ghost use Rattle.sdd_store.specs.Table.{IsFull};
     ghost use Rattle.sdd_domain.specs.Local.{world_of};
-    ghost use Rattle.sdd_domain.specs.Laws.{owned_is_shown};
 
     ghost is_used_up = { λ p. IsFull (world_of p).standings };
 
     ghost used_up_is_full = { λ _ _. (λ full. full, λ full. full) };
-
-    ghost owned_is_shown = { λ p exact right value. owned_is_shown (showing T.row) T.holds p exact right value };
 
     #[inline]
     fn make(&mut self, value: T, kind: Kind) -> Result<Right, (T, Refused)> {
@@ -170,5 +178,10 @@ impl<T: Item<T>> Items<T> for Local<'_, T> {
     fn let_go(&mut self, right: Right, _kind: Kind) -> bool {
         self.membership.let_go(right);
         true
+    }
+
+    fn owned_is_shown(&mut self, right: &Right) {
+        self.ledger.codes();
+        self.membership.recall_owner(right);
     }
 }

@@ -134,7 +134,7 @@ fn looks_under_nested_guards_show_one_value(rt: HostRuntime) {
     is_tally(&rt, closed(&rt, domain, receipts), 1, 1);
 }
 
-/// It looks through the domain, whoever opens guards meanwhile; the participant leads to the domain.
+/// Through the domain it looks whoever opens guards meanwhile; it looks through the participant too, which leads to the domain.
 #[test]
 fn an_owner_looks_without_a_guard(rt: HostRuntime) {
     let domain = new_domain::<u64>(&rt, ONE_SLOT);
@@ -144,7 +144,7 @@ fn an_owner_looks_without_a_guard(rt: HostRuntime) {
     turn(&rt, &mut local);
     turn(&rt, &mut local);
     assert_eq!(rt; *seen, 7);
-    local.recalls(&owner);
+    assert_eq!(rt; *owner.get(&local), 7);
     assert_eq!(rt; *owner.get(local.domain()), 7);
     retire(owner, &mut local);
     let receipts = vec![in rt.alloc(); ended(&rt, local)].expect(&rt, "there is memory");

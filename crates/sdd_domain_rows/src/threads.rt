@@ -144,6 +144,7 @@ fn reads(rt: &impl Abort, domain: &Domain<u64>, owner: &Owned<u64>, value: u64) 
     let mut local = registered(rt, domain);
     looks_often(rt, &mut local, owner, value);
     assert_eq!(rt; *owner.get(domain), value);
+    assert_eq!(rt; *owner.get(&local), value);
     ended(rt, local)
 }
 

@@ -8,7 +8,6 @@ ghost use Rattle.sdd_base.specs.Seat.{IsSeated, IsExact, IsLone};
 ghost use Rattle.sdd_base.specs.Known.{KnowsOn};
 ghost use Rattle.sdd_token.specs.Kind.{IsOwner};
 ghost use Rattle.sdd_token.specs.Right.{number_of, home_of, kind_of};
-ghost use Rattle.sdd_token.specs.declared.right.Right.{Right};
 ghost use Rattle.sdd_standings.specs.Slots.{IsOwnedBy, first_standing, has_others};
 ghost use Rattle.sdd_base.specs.Guard.{reader_of};
 ghost use Rattle.sdd_base.specs.Ptr.{KeepsShown};
@@ -97,9 +96,13 @@ pub trait Items<T: Item<T>>: Caller<T> {
             owner_given (Self.world self.old) (Self.seat self.old).place (number_of right) (standing_at (Self.world self.old) (number_of right)) }
         ensures keeps { KeepsShown (Self.shows self.old) (Self.shows self.new) };
 
+    /// A law, which changes nothing: in an exact space an owner's item has the value that its slot shows.
+    fn owned_is_shown(&mut self, right: &Right)
+        requires home { home_of right.now ≡ (Self.seat self.old).home.slots }
+        ensures same { self.new ≡ self.old }
+        ensures shown { IsExact (Self.seat self.old) → (value : T) →
+            Self.owns_value self.old right.now value ↔ Self.shows self.old (number_of right.now) value };
+
     /// In an exact space that is as the world says.
     ghost used_up_is_full: { (s : Self) → IsExact (Self.seat s) → is_used_up s ↔ IsFull (Self.world s).standings };
-
-    /// In an exact space an owner's item has the value that its slot shows.
-    ghost owned_is_shown: { (s : Self) → IsExact (Self.seat s) → (right : Right) (v : T) → Self.owns_value s right v ↔ Self.shows s (number_of right) v };
 }

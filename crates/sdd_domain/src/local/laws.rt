@@ -1,20 +1,15 @@
 //! What is always true of a participant, and of a lone one's world, as calls that give it out. They do nothing when the program runs.
 ghost use Rattle.std.specs.Prelude.{◌≡◌, ◌↔◌};
-ghost use Rattle.sdd_stakes.specs.Shelf.{showing};
 ghost use Rattle.sdd_base.specs.Whole.{IsWhole};
 ghost use Rattle.sdd_base.specs.Left.{FourGuardsReclaim, GoesAtLatest, GoesInTime};
-ghost use Rattle.sdd_base.specs.Owned as owned;
 ghost use Rattle.sdd_base.specs.Passing.{GuardsPass};
 ghost use Rattle.sdd_base.specs.Under.{KeepsFreshUnderGuards, KeepsUnderGuards};
 ghost use Rattle.sdd_base.specs.World.{IsGuarded, IsPlaceOf};
-ghost use Rattle.sdd_domain.specs.Items.{HasValue};
 ghost use Rattle.sdd_domain.specs.Local.{world_of};
 ghost use Rattle.sdd_domain.specs.Member.{IsLone};
-ghost use Rattle.sdd_domain.specs.Space.{Owns, slots_home};
 
 use super::Local;
-use sdd_base::inner::right_in_owner;
-use sdd_base::{Item, Owned};
+use sdd_base::Item;
 
 impl<T: Item<T>> Local<'_, T> {
     /// What the parts of its world keep true of each other: a value where a slot is taken, each item that waits once, the participant abreast of the
@@ -26,19 +21,6 @@ impl<T: Item<T>> Local<'_, T> {
         ensures shut { (self.now.member.own.guards ≡ 0) ↔ ¬ (IsGuarded (world_of self.now)) }
     {
         let _ledger = &self.ledger;
-    }
-
-    /// What the domain shows of an owner's item, without a guard, is what the participant knows of it. To a lone one that is the value in its slot.
-    pub fn recalls(&mut self, owner: &Owned<T>)
-        requires { owned.slots_home owner.now ≡ slots_home self.old }
-        ensures same { self.new ≡ self.old }
-        ensures recalled { (value : T) → HasValue (showing T.row value) (owned.right_of owner.now)
-            → Owns (showing T.row) self.old (owned.right_of owner.now) value }
-        ensures agreed { (known shown : T) → Owns (showing T.row) self.old (owned.right_of owner.now) known
-            → HasValue (showing T.row shown) (owned.right_of owner.now) → shown ≡ known }
-    {
-        self.ledger.codes();
-        self.membership.recall_owner(right_in_owner(owner));
     }
 }
 

@@ -15,7 +15,7 @@ returns-clause-shown g c = value_owns g.row.T (c.self.view_is 0) c.make.new.self
     (answered_owns g.row.T (c.self.view_is 0) c.make.new.self c.make.new.ledger.entries c.args.kind
     (λ y. y ≡ c.args.value) (λ e. e.0 ≡ c.args.value) (λ e. (e.1 ≡ Refused.NoSlot) ⊎ (e.1 ≡ Refused.Contended)) c.make.result
     (as_answered g.row.T (c.self.view_is 0) c.make.new.self c.make.new.ledger.entries c.args.kind c.args.value
-    (λ e. (e.1 ≡ Refused.NoSlot) ⊎ (e.1 ≡ Refused.Contended)) c.make.result c.make.ensures.made c.make.ensures.entry) c.self.invariant.tied)
+    (λ e. (e.1 ≡ Refused.NoSlot) ⊎ (e.1 ≡ Refused.Contended)) c.make.result c.make.ensures.made c.make.ensures.entry))
 
 pub returns-clause-lone : goal.returns-clause-lone
 returns-clause-lone g c = answered_lone g.row.T (c.self.view_is 0) c.make.new.self c.make.new.ledger.entries c.args.kind

@@ -12,7 +12,7 @@ invariant_of-self g c = sound_made g.row.T (c.self.view_is 0) c.make_with.new.se
 pub returns-clause-shown : goal.returns-clause-shown
 returns-clause-shown g c = answered_owns g.row.T (c.self.view_is 0) c.make_with.new.self c.make_with.new.ledger.entries c.args.kind
     (λ x. g.F.FnOnce.post c.args.make tt x) (λ e. e.0 ≡ c.args.make) (λ e. (e.1 ≡ Refused.NoSlot) ⊎ (e.1 ≡ Refused.Contended))
-    c.make_with.result c.make_with.ensures c.self.invariant.tied
+    c.make_with.result c.make_with.ensures
 
 pub returns-clause-lone : goal.returns-clause-lone
 returns-clause-lone g c = answered_lone g.row.T (c.self.view_is 0) c.make_with.new.self c.make_with.new.ledger.entries c.args.kind
