@@ -1,7 +1,7 @@
--- The data fields of a `Stake` and a `Shelf`. Assumes `Logic`.
+-- The data fields of a `Stake`, a `Plot` and a `Shelf`. Assumes `Logic`.
 use Rattle.std.proofs.Common.{◌≡◌, List, [], ◌∷◌, ◌++◌, refl, ap, ◌∙◌}
 use seplogic.Ra.Ura.{Ura}
-use mir.Val.{Val, vstruct, vnil, of_list}
+use mir.Val.{Val, vstruct, vcons, vnil, of_list}
 use base.Logic.{ent, emp}
 use types.Logic.{Logic, sem}
 use denote.RattleType.{RattleType}
@@ -13,7 +13,10 @@ pub use Rattle.atomic_table.proofs.Fields.{token_val, strip_of}
 use denote.Opens.{Opens}
 use denote.Copied.{Struct-Copied}
 use denote.RawPtr.{Ptr, ptr_val}
-use denote.Struct.Laws.{RawPtr-copy}
+use denote.Struct.Laws.{RawPtr-copy, field_copy}
+use Rattle.core.specs.contracts.marker.PhantomData as marker
+use Rattle.sdd_stakes.specs.declared.shelf.Fits.{Ghosts}
+use Rattle.sdd_stakes.specs.contracts.plot.Plot as plot
 use Rattle.sdd_stakes.specs.contracts.shelf.Shelf as shelf
 use Rattle.sdd_stakes.specs.contracts.stake.Stake as stake
 use Rattle.sdd_stakes.specs.contracts.stock.Stock as stock
@@ -30,17 +33,33 @@ peg_made 𝓛 = makes_shadow 𝓛 (Peg.own_val (tt, tt) (token_val ∷ [])) (λ 
     ((vstruct vnil ∷ [], tt), (refl, ((tt, (refl, tt)), tt)))
 
 module _ (R : RattleType) where
+  abbrev pub PlotData : RattleType
+  PlotData = Struct (shape (plot.the_type R))
+
+  pub plot_told : (p : Ptr) (vs : List Val) → Is PlotData (p, tt) vs → vs ≡ strip_of p ∷ []
+  plot_told p vs is = is.1.0 ∙ ap (λ (ws : List Val). vstruct (of_list (ws ++ [])) ∷ []) is.1.1.0
+
+  pub plot_made : {M : Type 1} {𝓤 : Ura M} (𝓛 : Logic 𝓤) (p : Ptr) → ent 𝓤 (emp 𝓤) (sem 𝓛 (PlotData.own_val (p, tt) (strip_of p ∷ [])))
+  plot_made 𝓛 p = makes_shadow 𝓛 (PlotData.own_val (p, tt) (strip_of p ∷ [])) (λ vss. (tt, (tt, tt))) ((ptr_val p ∷ [], tt), (refl, (refl, tt)))
+
+abbrev pub shelf_of : Ptr → Val
+shelf_of p = vstruct (vcons (ptr_val p) (vcons (vstruct vnil) vnil))
+
+module _ (R Y : RattleType) (g : Ghosts Y.Denot R.Denot) where
   abbrev pub ShelfData : RattleType
-  ShelfData = Struct (shape (shelf.the_type R))
+  ShelfData = Struct (shape (shelf.the_type R Y g))
 
-  pub shelf_told : (p : Ptr) (vs : List Val) → Is ShelfData (p, tt) vs → vs ≡ strip_of p ∷ []
-  shelf_told p vs is = is.1.0 ∙ ap (λ (ws : List Val). vstruct (of_list (ws ++ [])) ∷ []) is.1.1.0
+  pub shelf_told : (p : Ptr) (vs : List Val) → Is ShelfData (p, (tt, tt)) vs → vs ≡ shelf_of p ∷ []
+  shelf_told p vs is = is.1.0 ∙ ap (λ (ws : List Val). vstruct (of_list (ws ++ (is.0.1.0 ++ []))) ∷ []) is.1.1.0
+      ∙ ap (λ (ws : List Val). vstruct (of_list (ptr_val p ∷ (ws ++ []))) ∷ []) is.1.1.1.0.1.0
 
-  pub shelf_made : {M : Type 1} {𝓤 : Ura M} (𝓛 : Logic 𝓤) (p : Ptr) → ent 𝓤 (emp 𝓤) (sem 𝓛 (ShelfData.own_val (p, tt) (strip_of p ∷ [])))
-  shelf_made 𝓛 p = makes_shadow 𝓛 (ShelfData.own_val (p, tt) (strip_of p ∷ [])) (λ vss. (tt, (tt, tt))) ((ptr_val p ∷ [], tt), (refl, (refl, tt)))
+  pub shelf_made : {M : Type 1} {𝓤 : Ura M} (𝓛 : Logic 𝓤) (p : Ptr) → ent 𝓤 (emp 𝓤) (sem 𝓛 (ShelfData.own_val (p, (tt, tt)) (shelf_of p ∷ [])))
+  shelf_made 𝓛 p = makes_shadow 𝓛 (ShelfData.own_val (p, (tt, tt)) (shelf_of p ∷ [])) (λ vss. (tt, (tt, ((λ uss. (tt, tt)), tt))))
+      ((ptr_val p ∷ [], (vstruct vnil ∷ [], tt)), (refl, (refl, ((tt, (refl, tt)), tt))))
 
   pub shelf_opens : {M : Type 1} {𝓤 : Ura M} (𝓛 : Logic 𝓤) → Opens 𝓛 ShelfData
-  shelf_opens {M} {𝓤 = 𝓤} 𝓛 = (Struct-Copied 𝓛 (shape (shelf.the_type R)) (refl, tt) (RawPtr-copy.copied M 𝓤 𝓛, tt)).opens
+  shelf_opens {M} {𝓤 = 𝓤} 𝓛 = (Struct-Copied 𝓛 (shape (shelf.the_type R Y g)) (refl, (refl, tt))
+      (RawPtr-copy.copied M 𝓤 𝓛, ((field_copy (marker.the_type Y) tt).copied M 𝓤 𝓛, tt))).opens
 
 abbrev pub StockData : RattleType
 StockData = Struct (shape stock.the_type)

@@ -7,5 +7,6 @@ pub mod Takes
 pub mod ShelfSent
 pub mod Collect
 pub mod Housing
+pub mod Holds
 pub mod Turns
 pub mod Ledgers

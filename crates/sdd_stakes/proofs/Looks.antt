@@ -6,13 +6,14 @@ use lib.ListN.{get_elem?}
 use seplogic.Ra.Ura.{Ura}
 use base.Stored.{Gv, gnil, gnum, coded×, coded_ℕ}
 use base.Logic.{SProp, ent, sep, wand, ex, all, guard, upd, upd_i, apply∗, all_e}
-use base.Fml.{Lft, Share, Fml, flft, finv}
+use base.Fml.{Lft, Share, Fml, ftrue, flft, finv}
 use types.Logic.{Logic, sem}
-use types.Kit.{‵, raw, ◌⊛◌, some as exists, given, later, ◌$◌, ◌∵◌, !, qed, by, move, keep, frame, each, assume, use1, use2, use3, split, fsplit, fjoin, fpick, fpack, pick, learn, check, show, suffices, rewrite, updating, await, now, done}
+use types.Kit.{‵, raw, ◌⊛◌, some as exists, given, later, ◌$◌, ◌∵◌, !, qed, by, move, keep, drop, frame, each, assume, use1, use2, use3, split, fsplit, fjoin, fpick, fpack, pick, learn, check, show, suffices, rewrite, updating, await, now, done}
 use denote.RattleType.{RattleType}
 use denote.RawPtr.{Ptr}
 use denote.Sharing.{ShrLaws, one}
 use denote.SharingLaws.{contraction, one_shr_laws}
+use denote.Steps.{nothing}
 use denote.Struct.Lending.{lent_at}
 use Rattle.atomic_table.specs.Seated.{itself}
 use Rattle.sdd_token.specs.Units.{share_of, units}
@@ -68,15 +69,15 @@ module _ {M : Type 1} {𝓤 : Ura M} (𝓛 : Logic 𝓤) where
       each ! (Swapped (x ∷ hs) (suc n)) (λ y. use1 𝓛 (raw (Swapped hs n y)) (all_e 𝓤 (Swapped hs n) y) $ assume ! (‵ (holding y)) $
       use2 𝓛 (‵ (purse (set hs n y))) (apply∗ 𝓤 ⟦ holding y ⟧ ⟦ purse (set hs n y) ⟧) $ move ! (1 ∷ 0 ∷ []) $ done !)
 
-  module _ (R : RattleType) (p : Ptr) (γ i : ℕ) (laws : (x : R.Denot) → ShrLaws (lent_at R p x)) where
+  module _ (R : RattleType) (FitsIn : R.Denot → Type 0) (p : Ptr) (γ i : ℕ) (laws : (x : R.Denot) → ShrLaws (lent_at R p x)) where
     abbrev X : Type 0
     X = R.Denot
 
     abbrev I : Fml
-    I = rule R p γ i
+    I = rule R p γ i FitsIn
 
     abbrev st : Option (Option (ℕ × X)) → Fml
-    st v = state R p γ i v
+    st v = state R p γ i FitsIn v
 
     abbrev U : ℕ → Gv → ℕ → Fml
     U a g n = units γ i (agreed_on a g) n
@@ -84,8 +85,12 @@ module _ {M : Type 1} {𝓤 : Ura M} (𝓛 : Logic 𝓤) where
     inside : (P Q : Pr) → ((v : Option (Option (ℕ × X))) → ⟦ st v ⟧ ∗ P ⊢ upd 𝓤 (⟦ I ⟧ ∗ Q)) → A.inv I ∗ P ⊢ H.⇛ Q
     inside P Q k = qed 𝓛 (‵ (finv I) ∷ raw P ∷ []) ∵ suffices ! _ (𝓛.invs.inv_acc I Q) $ frame ! $ assume ! (‵ I) $ fpick ! (λ v. by ! (k v))
 
+    -- the value is what units show, and fits
+    abbrev pub Tells : Gv → X → Type 0
+    Tells g x = (g ≡ full_shown (R.coded.code x)) × FitsIn x
+
     abbrev pub Told : ℕ → Gv → Fml → X → Pr
-    Told a g S x = guard 𝓤 (g ≡ full_shown (R.coded.code x)) (⟦ lent_at R p x (a ∷ []) ⟧ ∗ ⟦ S ⟧)
+    Told a g S x = guard 𝓤 (Tells g x) (⟦ lent_at R p x (a ∷ []) ⟧ ∗ ⟦ S ⟧)
 
     -- what has part in the place's number agrees with the place on what they show, and is kept
     abbrev Agrees : ℕ → Gv → Fml → Type 1
@@ -113,14 +118,15 @@ module _ {M : Type 1} {𝓤 : Ura M} (𝓛 : Logic 𝓤) where
       looks_in (Some None) = qed 𝓛 (‵ (st (Some None)) ∷ ‵ S ∷ []) ∵ fpick ! (λ b. fsplit ! $ keep ! (0 ∷ 2 ∷ []) $ by ! (other b gnil (λ z. z) _))
       looks_in (Some (Some v)) = let b : ℕ = v.0 in let x : X = v.1 in let w : Gv = full_shown (R.coded.code x) in
           let Z : Pr = ⟦ I ⟧ ∗ ex 𝓤 (Told a g S) in
-          qed 𝓛 (‵ (st (Some (Some v))) ∷ ‵ S ∷ []) ∵ fsplit ! $ fsplit ! $ move ! (0 ∷ 3 ∷ []) $
+          qed 𝓛 (‵ (st (Some (Some v))) ∷ ‵ S ∷ []) ∵ fsplit ! $ fpick ! (λ fits. drop ! $ fsplit ! $ fsplit ! $ move ! (0 ∷ 3 ∷ []) $
           use2 𝓛 (given (agreed_on b w ≡ agreed_on a g) (‵ (U b w 1) ⊛ ‵ S)) (agrees b w) $ learn ! (λ met.
           let same = (coded× coded_ℕ itself).inj (b, w) (a, g) met in split ! $ move ! (3 ∷ []) $ fsplit ! $
           use1 𝓛 (‵ (lent_at R p x (b ∷ [])) ⊛ ‵ (lent_at R p x (b ∷ []))) (contraction 𝓛 (lent_at R p x) (laws x) (b ∷ [])) $ split ! $
           move ! (1 ∷ 2 ∷ []) $ fjoin ! $
-          move ! (2 ∷ 4 ∷ []) $ fjoin ! $ move ! (0 ∷ 1 ∷ []) $ fjoin ! $ fpack ! (Option (Option (ℕ × X))) st (Some (Some v)) $ suffices ! _ (upd_i 𝓤 Z) $
+          move ! (2 ∷ 4 ∷ []) $ fjoin ! $ move ! (0 ∷ 1 ∷ []) $ fjoin ! $ nothing ! $ fpack ! (FitsIn x) (λ _. ftrue) fits $ fjoin ! $ fpack ! (Option (Option (ℕ × X))) st (Some (Some v)) $ suffices ! _ (upd_i 𝓤 Z) $
           frame ! $
-          show ! (Told a g S) x $ check ! (sym (λ j. (same j).1)) $ rewrite ! 0 (λ (m : ℕ). ‵ (lent_at R p x (m ∷ []))) (λ j. (same j).0) refl $ done !)
+          show ! (Told a g S) x $ check ! (sym (λ j. (same j).1), fits) $ rewrite ! 0 (λ (m : ℕ). ‵ (lent_at R p x (m ∷ []))) (λ j. (same j).0) refl $
+          done !))
 
       looks_by : A.inv I ∗ ⟦ S ⟧ ⊢ H.⇛ (ex 𝓤 (Told a g S))
       looks_by = inside ⟦ S ⟧ (ex 𝓤 (Told a g S)) looks_in
@@ -138,7 +144,7 @@ module _ {M : Type 1} {𝓤 : Ura M} (𝓛 : Logic 𝓤) where
     lends_on τ l a n (inr e) = qed 𝓛 (‵ (tokens_of l a n) ∷ []) ∵ updating ! $ rewrite ! 0 (λ (m : Option ℕ). ‵ (tokens_of m a n)) e refl $ now ! $ done !
 
     abbrev pub Seen : List Lot → ℕ → ℕ → Lot → Lft → X → Pr
-    Seen hs n τ h κ x = guard 𝓤 (h.shown ≡ full_shown (R.coded.code x)) (⟦ lent_at R p x κ ⟧ ∗ ⟦ purse (set hs n (lent_to τ h)) ⟧)
+    Seen hs n τ h κ x = guard 𝓤 (Tells h.shown x) (⟦ lent_at R p x κ ⟧ ∗ ⟦ purse (set hs n (lent_to τ h)) ⟧)
 
     pub shows_now : (hs : List Lot) (n τ : ℕ) (h : Lot) (κ : Lft) → get_elem? hs n ≡ some h → h.book ≡ γ → h.number ≡ i → IsFull h.shown → IsFreeFor τ h.lent
         → A.inv I ∗ ⟦ purse hs ⟧ ∗ ⟦ tenure_shares τ κ ⟧ ⊢ H.⇛ (ex 𝓤 (Seen hs n τ h κ))
@@ -146,7 +152,7 @@ module _ {M : Type 1} {𝓤 : Ura M} (𝓛 : Logic 𝓤) where
         qed 𝓛 (‵ (finv I) ∷ ‵ (purse hs) ∷ ‵ (tenure_shares τ κ) ∷ []) ∵ updating ! $ move ! (1 ∷ []) $
         use1 𝓛 (‵ (holding h) ⊛ raw (all 𝓤 (Swapped hs n))) (purse_at hs n h at) $ split ! $ fsplit ! $
         rewrite ! 0 (λ (m : ℕ × ℕ). ‵ (units m.0 m.1 (agreed_on a g) k)) (λ j. (of j, is j)) refl $ move ! (3 ∷ 0 ∷ []) $
-        use2 𝓛 (later (exists (λ (x : X). given (g ≡ full_shown (R.coded.code x)) (‵ (lent_at R p x (a ∷ [])) ⊛ ‵ (U a g k))))) (looks a g k full) $
+        use2 𝓛 (later (exists (λ (x : X). given (Tells g x) (‵ (lent_at R p x (a ∷ [])) ⊛ ‵ (U a g k))))) (looks a g k full) $
         await ! tt $ pick ! (λ x. learn ! (λ so. split ! $ move ! (2 ∷ []) $
         use1 𝓛 (later (‵ (lent_out τ a k))) (lends_on τ h.lent a k free) $ await ! tt $ fsplit ! $
         use1 𝓛 (‵ (lasts_in τ a) ⊛ ‵ (lasts_in τ a)) (contraction 𝓛 (one (λ q. flft (a ∷ []) q)) (one_shr_laws (λ q. flft (a ∷ []) q)) (τ ∷ [])) $ split ! $
@@ -158,11 +164,11 @@ module _ {M : Type 1} {𝓤 : Ura M} (𝓛 : Logic 𝓤) where
         now ! $ show ! (Seen hs n τ h κ) x $ check ! so $ move ! (1 ∷ 0 ∷ []) $ done !))
 
     abbrev pub Shows : Lot → Lft → X → Pr
-    Shows h κ x = guard 𝓤 (h.shown ≡ full_shown (R.coded.code x)) ⟦ lent_at R p x κ ⟧
+    Shows h κ x = guard 𝓤 (Tells h.shown x) ⟦ lent_at R p x κ ⟧
 
     pub shows_beside : (hs : List Lot) (n τ : ℕ) (h : Lot) (κ : Lft) → get_elem? hs n ≡ some h → h.book ≡ γ → h.number ≡ i → IsFull h.shown → IsFreeFor τ h.lent
         → ⟦ purse hs ⟧ ∗ (A.inv I ∗ ⟦ tenure_shares τ κ ⟧) ⊢ H.⇛ (⟦ purse (set hs n (lent_to τ h)) ⟧ ∗ ex 𝓤 (Shows h κ))
     shows_beside hs n τ h κ at of is full free = qed 𝓛 (‵ (purse hs) ∷ ‵ (finv I) ∷ ‵ (tenure_shares τ κ) ∷ []) ∵ updating ! $ move ! (1 ∷ 0 ∷ 2 ∷ []) $
-        use3 𝓛 (later (exists (λ (x : X). given (h.shown ≡ full_shown (R.coded.code x)) (‵ (lent_at R p x κ) ⊛ ‵ (purse (set hs n (lent_to τ h)))))))
+        use3 𝓛 (later (exists (λ (x : X). given (Tells h.shown x) (‵ (lent_at R p x κ) ⊛ ‵ (purse (set hs n (lent_to τ h)))))))
         (shows_now hs n τ h κ at of is full free) $ await ! tt $ pick ! (λ x. learn ! (λ so. split ! $
         now ! $ move ! (1 ∷ []) $ frame ! $ show ! (Shows h κ) x $ check ! so $ done !))

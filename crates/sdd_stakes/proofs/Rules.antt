@@ -10,9 +10,9 @@ use denote.Memory.{mem}
 use denote.Index.{place, place_is}
 use denote.RawPtr.{Ptr, block_ptr, block_of, count_of}
 use denote.Steps.{nothing}
-use Rattle.sdd_stakes.specs.Shelf.{rule, rules, Fits, shelf_owns}
+use Rattle.sdd_stakes.specs.Shelf.{rule, rules, Spans, shelf_owns}
 
-module _ {M : Type 1} {𝓤 : Ura M} (𝓛 : Logic 𝓤) (R : RattleType) where
+module _ {M : Type 1} {𝓤 : Ura M} (𝓛 : Logic 𝓤) (R : RattleType) (FitsIn : R.Denot → Type 0) where
   abbrev Pr : Type 2
   Pr = SProp 𝓤
 
@@ -32,15 +32,15 @@ module _ {M : Type 1} {𝓤 : Ura M} (𝓛 : Logic 𝓤) (R : RattleType) where
 
   module _ (b γ : ℕ) where
     abbrev all : ℕ → ℕ → ℕ → Fml
-    all n i o = rules R b γ n i o
+    all n i o = rules R b γ FitsIn n i o
 
     abbrev one : ℕ → ℕ → Fml
-    one i o = finv (rule R (block_ptr b o) γ i)
+    one i o = finv (rule R (block_ptr b o) γ i FitsIn)
 
     rules_twice : (n i o : ℕ) → ⟦ all n i o ⟧ ⊢ ⟦ all n i o ⟧ ∗ ⟦ all n i o ⟧
     rules_twice zero i o = qed 𝓛 (‵ ftrue ∷ []) ∵ nothing ! $ done !
     rules_twice (suc n) i o = qed 𝓛 (‵ (one i o) ∷ ‵ (all n (suc i) (o + size)) ∷ []) ∵
-        use1 𝓛 (‵ (one i o) ⊛ ‵ (one i o)) (𝓛.invs.inv_dup (rule R (block_ptr b o) γ i)) $ split ! $ move ! (2 ∷ []) $
+        use1 𝓛 (‵ (one i o) ⊛ ‵ (one i o)) (𝓛.invs.inv_dup (rule R (block_ptr b o) γ i FitsIn)) $ split ! $ move ! (2 ∷ []) $
         use1 𝓛 (‵ (all n (suc i) (o + size)) ⊛ ‵ (all n (suc i) (o + size))) (rules_twice n (suc i) (o + size)) $ split ! $
         move ! (2 ∷ 0 ∷ []) $ fjoin ! $ move ! (2 ∷ 1 ∷ []) $ fjoin ! $ move ! (1 ∷ 0 ∷ []) $ done !
 
@@ -55,8 +55,8 @@ module _ {M : Type 1} {𝓤 : Ura M} (𝓛 : Logic 𝓤) (R : RattleType) where
     rule_at n o k near = qed 𝓛 (‵ (all n 0 o) ∷ []) ∵ use1 𝓛 (‵ (one k (place size o k))) (rule_in n 0 o k k near (omega arith)) $
         rewrite ! 0 (λ (m : ℕ). ‵ (one k m)) (place_is size o k) refl $ done !
 
-  pub shelf_twice : (p : Ptr) (γ n : ℕ) → ⟦ shelf_owns R p γ n ⟧ ⊢ ⟦ shelf_owns R p γ n ⟧ ∗ ⟦ shelf_owns R p γ n ⟧
-  shelf_twice p γ n = let every : Fml = rules R (block_of p) γ n 0 (count_of p) in qed 𝓛 (‵ (shelf_owns R p γ n) ∷ []) ∵ fsplit ! $ fpick ! (λ fit. drop ! $
+  pub shelf_twice : (p : Ptr) (γ n : ℕ) → ⟦ shelf_owns R FitsIn p γ n ⟧ ⊢ ⟦ shelf_owns R FitsIn p γ n ⟧ ∗ ⟦ shelf_owns R FitsIn p γ n ⟧
+  shelf_twice p γ n = let every : Fml = rules R (block_of p) γ FitsIn n 0 (count_of p) in qed 𝓛 (‵ (shelf_owns R FitsIn p γ n) ∷ []) ∵ fsplit ! $ fpick ! (λ fit. drop ! $
       use1 𝓛 (‵ every ⊛ ‵ every) (rules_twice (block_of p) γ n 0 (count_of p)) $ split ! $
-      nothing ! $ fpack ! (Fits R p n) (λ _. ftrue) fit $ move ! (0 ∷ 1 ∷ []) $ fjoin ! $
-      nothing ! $ fpack ! (Fits R p n) (λ _. ftrue) fit $ move ! (0 ∷ 2 ∷ []) $ fjoin ! $ move ! (1 ∷ 0 ∷ []) $ done !)
+      nothing ! $ fpack ! (Spans R p n) (λ _. ftrue) fit $ move ! (0 ∷ 1 ∷ []) $ fjoin ! $
+      nothing ! $ fpack ! (Spans R p n) (λ _. ftrue) fit $ move ! (0 ∷ 2 ∷ []) $ fjoin ! $ move ! (1 ∷ 0 ∷ []) $ done !)

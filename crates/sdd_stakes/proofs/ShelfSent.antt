@@ -20,19 +20,19 @@ room : (R : RattleType) (p : Ptr) → Keyless (vacancy R p)
 room R (block_ptr b o) = tt
 room R null_ptr = tt
 
-module _ (R : RattleType) (s : IsSend R) (y : IsSync R) (p : Ptr) (γ i : ℕ) where
-  state_Keyless : (v : Option (Option (ℕ × R.Denot))) → Keyless (state R p γ i v)
+module _ (R : RattleType) (FitsIn : R.Denot → Type 0) (s : IsSend R) (y : IsSync R) (p : Ptr) (γ i : ℕ) where
+  state_Keyless : (v : Option (Option (ℕ × R.Denot))) → Keyless (state R p γ i FitsIn v)
   state_Keyless None = λ a. part_Keyless γ i a _ 1
   state_Keyless (Some None) = λ a. (part_Keyless γ i a _ 1, room R p)
-  state_Keyless (Some (Some v)) = (part_Keyless γ i v.0 _ 1, (seen R y p v.1 (v.0 ∷ []), lies R s p v.1))
+  state_Keyless (Some (Some v)) = ((λ _. tt), (part_Keyless γ i v.0 _ 1, (seen R y p v.1 (v.0 ∷ []), lies R s p v.1)))
 
-  rule_Keyless : Keyless (rule R p γ i)
+  rule_Keyless : Keyless (rule R p γ i FitsIn)
   rule_Keyless = state_Keyless
 
-module _ (R : RattleType) (s : IsSend R) (y : IsSync R) where
-  rules_Keyless : (b γ n i o : ℕ) → Keyless (rules R b γ n i o)
+module _ (R : RattleType) (FitsIn : R.Denot → Type 0) (s : IsSend R) (y : IsSync R) where
+  rules_Keyless : (b γ n i o : ℕ) → Keyless (rules R b γ FitsIn n i o)
   rules_Keyless b γ zero i o = tt
-  rules_Keyless b γ (suc n) i o = (rule_Keyless R s y (block_ptr b o) γ i, rules_Keyless b γ n (suc i) (o + (mem R).size))
+  rules_Keyless b γ (suc n) i o = (rule_Keyless R FitsIn s y (block_ptr b o) γ i, rules_Keyless b γ n (suc i) (o + (mem R).size))
 
-  pub shelf_Keyless : (p : Ptr) (γ n : ℕ) → Keyless (shelf_owns R p γ n)
+  pub shelf_Keyless : (p : Ptr) (γ n : ℕ) → Keyless (shelf_owns R FitsIn p γ n)
   shelf_Keyless p γ n = ((λ _. tt), rules_Keyless (block_of p) γ n 0 (count_of p))

@@ -8,17 +8,17 @@ use base.Stored.{Gv, gnil, gnum, gcons, coded×, coded_ℕ}
 use base.Logic.{SProp, ent, sep, ex, guard, upd, upd_i, emp, id⊢}
 use contract.BorrowLft.{meet_⊑_left, meet_⊑_right}
 use denote.Struct.Lending.{Lends}
-use base.Fml.{Incl, Incl-trans, Lft, Share, Fml, fsep, flft, flent, finv}
+use base.Fml.{Incl, Incl-trans, Lft, Share, Fml, ftrue, fsep, flft, flent, finv}
 use types.Logic.{Logic, sem}
 use types.Kit.{‵, raw, ◌⊛◌, given, later, ◌$◌, ◌∵◌, !, qed, by, move, keep, drop, frame, assume, use1, use2, use3, split, split3, join, fsplit, fjoin, fpick, fpack, learn, check, show, suffices, settle, rewrite, updating, await, now, done}
 use types.Tokens.{lft_new, lft_end, lent_back, bor_new}
 use denote.RattleType.{RattleType}
 use denote.RawPtr.{Ptr, lies_at}
+use denote.Steps.{nothing}
 use denote.Struct.Lending.{lent_at}
 use Rattle.atomic_table.specs.Seated.{itself}
 use Rattle.sdd_token.specs.Units.{units, tokens, share_of}
-use Rattle.sdd_token.specs.Units.{book_owns}
-use Rattle.sdd_token.proofs.Steps.{issues, apart_at, joins, splits, whole_out, whole_in, resets_now, tokens_in, tokens_cut, tokens_glue, Meets}
+use Rattle.sdd_token.proofs.Steps.{apart_at, joins, splits, whole_out, whole_in, resets_now, tokens_in, tokens_cut, tokens_glue, Meets}
 use Rattle.sdd_token.proofs.Counting.{counts-whole}
 use Rattle.sdd_stakes.specs.Stakes.{agreed_on, part}
 use Rattle.sdd_stakes.specs.Shelf.{full_shown, IsFull, vacancy, state, rule, most}
@@ -83,25 +83,25 @@ module _ {M : Type 1} {𝓤 : Ura M} (𝓛 : Logic 𝓤) where
         (agreed_on a g) 1 most) $ learn ! (λ met.
         absurd (no_ (subst Is (let same = (coded× coded_ℕ itself).inj (b, w) (a, g) met.values in sym (λ j. (same j).1)) yes_)))
 
-    module _ (R : RattleType) (p : Ptr) where
+    module _ (R : RattleType) (FitsIn : R.Denot → Type 0) (p : Ptr) where
       abbrev X : Type 0
       X = R.Denot
 
       abbrev I : Fml
-      I = rule R p γ i
+      I = rule R p γ i FitsIn
 
       abbrev St : Type 0
       St = Option (Option (ℕ × X))
 
       abbrev st : St → Fml
-      st v = state R p γ i v
+      st v = state R p γ i FitsIn v
 
       inside : (P Q : Pr) → ((v : St) → ⟦ st v ⟧ ∗ P ⊢ upd 𝓤 (⟦ I ⟧ ∗ Q)) → A.inv I ∗ P ⊢ H.⇛ Q
       inside P Q k = qed 𝓛 (‵ (finv I) ∷ raw P ∷ []) ∵ suffices ! _ (𝓛.invs.inv_acc I Q) $ frame ! $ assume ! (‵ I) $ fpick ! (λ v. by ! (k v))
 
       -- ---- out of a full place
       abbrev pub TakenOut : ℕ → Gv → ℕ → X → Pr
-      TakenOut a g b x = guard 𝓤 (g ≡ full_shown (R.coded.code x)) (⟦ U (agreed_on b (gnum 0)) most ⟧ ∗ ⟦ tokens a (2 ^ 63) ⟧ ∗ ⟦ flent (a ∷ [])
+      TakenOut a g b x = guard 𝓤 ((g ≡ full_shown (R.coded.code x)) × FitsIn x) (⟦ U (agreed_on b (gnum 0)) most ⟧ ∗ ⟦ tokens a (2 ^ 63) ⟧ ∗ ⟦ flent (a ∷ [])
           (lies_at R full_share p x) ⟧)
 
       takes_in : (a : ℕ) (g : Gv) (b : ℕ) → IsFull g → (v : St)
@@ -112,7 +112,8 @@ module _ {M : Type 1} {𝓤 : Ura M} (𝓛 : Logic 𝓤) where
           fpick ! (λ c. fsplit ! $ keep ! (0 ∷ 2 ∷ []) $ by ! (differ a c g gnil IsFull full (λ z. z) _))
       takes_in a g b full (Some (Some v)) = let c : ℕ = v.0 in let x : X = v.1 in let w : Gv = full_shown (R.coded.code x) in
           let Z : Pr = ⟦ I ⟧ ∗ ex 𝓤 (TakenOut a g b) in let h : Gv = agreed_on b (gnum 0) in
-          qed 𝓛 (‵ (st (Some (Some v))) ∷ ‵ (U (agreed_on a g) most) ∷ ‵ (tokens a most) ∷ ‵ (tokens b 1) ∷ []) ∵ fsplit ! $ fsplit ! $ move ! (0 ∷ 3 ∷ []) $
+          qed 𝓛 (‵ (st (Some (Some v))) ∷ ‵ (U (agreed_on a g) most) ∷ ‵ (tokens a most) ∷ ‵ (tokens b 1) ∷ []) ∵ fsplit ! $ fpick ! (λ fits. drop ! $ fsplit ! $ fsplit ! $
+          move ! (0 ∷ 3 ∷ []) $
           use2 𝓛 (given (Meets (agreed_on c w) (agreed_on a g) 1 most) (‵ (U (agreed_on c w) 1) ⊛ ‵ (U (agreed_on a g) most))) (apart_at 𝓛 γ i (agreed_on c w)
           (agreed_on a g) 1 most) $ learn ! (λ met.
           let same = (coded× coded_ℕ itself).inj (c, w) (a, g) met.values in split ! $
@@ -120,11 +121,11 @@ module _ {M : Type 1} {𝓤 : Ura M} (𝓛 : Logic 𝓤) where
           suffices ! _ (upd_i 𝓤 Z) $
           -- [1; most; the place's token; what is lent; the others' tokens; the new token]
           move ! (0 ∷ 5 ∷ []) $ fjoin ! $ fpack ! ℕ (λ m. part γ i m (gnum 0) 1) b $ fpack ! St st None $ frame ! $
-          show ! (TakenOut a g b) x $ check ! (sym (λ j. (same j).1)) $ frame ! $
+          show ! (TakenOut a g b) x $ check ! (sym (λ j. (same j).1), fits) $ frame ! $
           rewrite ! 0 (λ (m : ℕ). ‵ (tokens m 1)) (λ j. (same j).0) refl $ move ! (1 ∷ []) $ fsplit ! $ drop ! $
           rewrite ! 0 (λ (m : ℕ). ‵ (flent (m ∷ []) (lies_at R full_share p x))) (λ j. (same j).0) refl $
           move ! (1 ∷ 2 ∷ []) $ use2 𝓛 (‵ (tokens a (1 + most))) (tokens_glue 𝓛 a 1 most (omega arith) (omega arith)) $
-          rewrite ! 0 (λ (m : ℕ). ‵ (tokens a m)) (let e : 1 + most ≡ 2 ^ 63 = omega arith in e) refl $ done !)
+          rewrite ! 0 (λ (m : ℕ). ‵ (tokens a m)) (let e : 1 + most ≡ 2 ^ 63 = omega arith in e) refl $ done !))
 
       pub takes_out : (a : ℕ) (g : Gv) (b : ℕ) → IsFull g
           → A.inv I ∗ (⟦ U (agreed_on a g) most ⟧ ∗ ⟦ tokens a most ⟧ ∗ ⟦ tokens b 1 ⟧) ⊢ H.⇛ (ex 𝓤 (TakenOut a g b))
@@ -144,7 +145,7 @@ module _ {M : Type 1} {𝓤 : Ura M} (𝓛 : Logic 𝓤) where
       leaves_in b (Some None) = qed 𝓛 (‵ (st (Some None)) ∷ ‵ (U (agreed_on b (gnum 0)) most) ∷ ‵ (vacancy R p) ∷ []) ∵ fpick ! (λ c. fsplit ! $
           keep ! (0 ∷ 2 ∷ []) $ by ! (differ b c (gnum 0) gnil IsOut tt (λ z. z) _))
       leaves_in b (Some (Some v)) = qed 𝓛 (‵ (st (Some (Some v))) ∷ ‵ (U (agreed_on b (gnum 0)) most) ∷ ‵ (vacancy R p) ∷ []) ∵ fsplit ! $
-          keep ! (0 ∷ 2 ∷ []) $ by ! (differ b v.0 (gnum 0) (full_shown (R.coded.code v.1)) IsOut tt (λ z. z) _)
+          fpick ! (λ fits. drop ! $ fsplit ! $ keep ! (0 ∷ 2 ∷ []) $ by ! (differ b v.0 (gnum 0) (full_shown (R.coded.code v.1)) IsOut tt (λ z. z) _))
 
       pub leaves_room : (b : ℕ) → A.inv I ∗ (⟦ U (agreed_on b (gnum 0)) most ⟧ ∗ ⟦ vacancy R p ⟧) ⊢ H.⇛ ⟦ U (agreed_on b gnil) most ⟧
       leaves_room b = inside (⟦ U (agreed_on b (gnum 0)) most ⟧ ∗ ⟦ vacancy R p ⟧) ⟦ U (agreed_on b gnil) most ⟧ (leaves_in b)
@@ -162,8 +163,8 @@ module _ {M : Type 1} {𝓤 : Ura M} (𝓛 : Logic 𝓤) where
           suffices ! _ (upd_i 𝓤 Z) $
           move ! (2 ∷ []) $ rewrite ! 0 (λ (m : ℕ). ‵ (tokens m 1)) (λ j. (same j).0) refl $ move ! (1 ∷ 0 ∷ []) $ fjoin ! $
           fpack ! ℕ (λ m. part γ i m (gnum 0) 1) b $ fpack ! St st None $ frame ! $ done !))
-      opens_in b (Some (Some v)) = qed 𝓛 (‵ (st (Some (Some v))) ∷ ‵ (U (agreed_on b gnil) most) ∷ []) ∵ fsplit ! $ keep ! (0 ∷ 2 ∷ []) $
-          by ! (differ b v.0 gnil (full_shown (R.coded.code v.1)) IsVacant tt (λ z. z) _)
+      opens_in b (Some (Some v)) = qed 𝓛 (‵ (st (Some (Some v))) ∷ ‵ (U (agreed_on b gnil) most) ∷ []) ∵ fsplit ! $ fpick ! (λ fits. drop ! $ fsplit ! $
+          keep ! (0 ∷ 2 ∷ []) $ by ! (differ b v.0 gnil (full_shown (R.coded.code v.1)) IsVacant tt (λ z. z) _))
 
       pub opens_room : (b : ℕ) → A.inv I ∗ ⟦ U (agreed_on b gnil) most ⟧ ⊢ H.⇛ (⟦ U (agreed_on b (gnum 0)) most ⟧ ∗ ⟦ vacancy R p ⟧)
       opens_room b = inside ⟦ U (agreed_on b gnil) most ⟧ (⟦ U (agreed_on b (gnum 0)) most ⟧ ∗ ⟦ vacancy R p ⟧) (opens_in b)
@@ -171,9 +172,9 @@ module _ {M : Type 1} {𝓤 : Ura M} (𝓛 : Logic 𝓤) where
       abbrev Whole : X → Fml
       Whole x = lies_at R full_share p x
 
-      fills_in : (b : ℕ) (x : X) (v : St) → ⟦ st v ⟧ ∗ (⟦ U (agreed_on b (gnum 0)) most ⟧ ∗ ⟦ fsep (lent_at R p x (b ∷ [])) (flent (b ∷ []) (Whole x)) ⟧)
+      fills_in : (b : ℕ) (x : X) → FitsIn x → (v : St) → ⟦ st v ⟧ ∗ (⟦ U (agreed_on b (gnum 0)) most ⟧ ∗ ⟦ fsep (lent_at R p x (b ∷ [])) (flent (b ∷ []) (Whole x)) ⟧)
           ⊢ upd 𝓤 (⟦ I ⟧ ∗ ⟦ U (agreed_on b (full_shown (R.coded.code x))) most ⟧)
-      fills_in b x None = let w : Gv = full_shown (R.coded.code x) in let h : Gv = agreed_on b w in let h' : Gv = agreed_on b (gnum 0) in
+      fills_in b x fits None = let w : Gv = full_shown (R.coded.code x) in let h : Gv = agreed_on b w in let h' : Gv = agreed_on b (gnum 0) in
           let Z : Pr = ⟦ I ⟧ ∗ ⟦ U h most ⟧ in let Lent : Fml = fsep (lent_at R p x (b ∷ [])) (flent (b ∷ []) (Whole x)) in
           qed 𝓛 (‵ (st None) ∷ ‵ (U h' most) ∷ ‵ Lent ∷ []) ∵ fpick ! (λ c. fsplit ! $ move ! (0 ∷ 2 ∷ []) $
           use2 𝓛 (given (Meets (agreed_on c (gnum 0)) h' 1 most) (‵ (U (agreed_on c (gnum 0)) 1) ⊛ ‵ (U h' most)))
@@ -182,16 +183,17 @@ module _ {M : Type 1} {𝓤 : Ura M} (𝓛 : Logic 𝓤) where
           use2 𝓛 (raw (upd 𝓤 (⟦ U h 1 ⟧ ∗ ⟦ U h most ⟧))) (turns (agreed_on c (gnum 0)) h' h) $ settle 𝓛 Z (‵ (U h 1) ⊛ ‵ (U h most)) $ split ! $
           suffices ! _ (upd_i 𝓤 Z) $
           move ! (2 ∷ []) $ rewrite ! 0 (λ (m : ℕ). ‵ (tokens m 1)) (λ j. (same j).0) refl $ move ! (1 ∷ 0 ∷ []) $ fjoin ! $ move ! (0 ∷ 2 ∷ []) $ fjoin ! $
-          fpack ! St st (Some (Some (b, x))) $ done !))
-      fills_in b x (Some None) = qed 𝓛 (‵ (st (Some None)) ∷ ‵ (U (agreed_on b (gnum 0)) most) ∷ ‵ (fsep (lent_at R p x (b ∷ [])) (flent (b ∷ [])
+          nothing ! $ fpack ! (FitsIn x) (λ _. ftrue) fits $ fjoin ! $ fpack ! St st (Some (Some (b, x))) $ done !))
+      fills_in b x fits (Some None) = qed 𝓛 (‵ (st (Some None)) ∷ ‵ (U (agreed_on b (gnum 0)) most) ∷ ‵ (fsep (lent_at R p x (b ∷ [])) (flent (b ∷ [])
           (Whole x))) ∷ []) ∵ fpick ! (λ c. fsplit ! $ keep ! (0 ∷ 2 ∷ []) $ by ! (differ b c (gnum 0) gnil IsOut tt (λ z. z) _))
-      fills_in b x (Some (Some v)) = qed 𝓛 (‵ (st (Some (Some v))) ∷ ‵ (U (agreed_on b (gnum 0)) most) ∷ ‵ (fsep (lent_at R p x (b ∷ [])) (flent (b ∷ [])
-          (Whole x))) ∷ []) ∵ fsplit ! $ keep ! (0 ∷ 2 ∷ []) $ by ! (differ b v.0 (gnum 0) (full_shown (R.coded.code v.1)) IsOut tt (λ z. z) _)
+      fills_in b x fits (Some (Some v)) = qed 𝓛 (‵ (st (Some (Some v))) ∷ ‵ (U (agreed_on b (gnum 0)) most) ∷ ‵ (fsep (lent_at R p x (b ∷ [])) (flent (b ∷ [])
+          (Whole x))) ∷ []) ∵ fsplit ! $ fpick ! (λ _. drop ! $ fsplit ! $ keep ! (0 ∷ 2 ∷ []) $
+          by ! (differ b v.0 (gnum 0) (full_shown (R.coded.code v.1)) IsOut tt (λ z. z) _))
 
-      pub fills : (b : ℕ) (x : X) → A.inv I ∗ (⟦ U (agreed_on b (gnum 0)) most ⟧ ∗ ⟦ fsep (lent_at R p x (b ∷ [])) (flent (b ∷ []) (Whole x)) ⟧)
+      pub fills : (b : ℕ) (x : X) → FitsIn x → A.inv I ∗ (⟦ U (agreed_on b (gnum 0)) most ⟧ ∗ ⟦ fsep (lent_at R p x (b ∷ [])) (flent (b ∷ []) (Whole x)) ⟧)
           ⊢ H.⇛ ⟦ U (agreed_on b (full_shown (R.coded.code x))) most ⟧
-      fills b x = inside (⟦ U (agreed_on b (gnum 0)) most ⟧ ∗ ⟦ fsep (lent_at R p x (b ∷ [])) (flent (b ∷ [])
-          (Whole x)) ⟧) ⟦ U (agreed_on b (full_shown (R.coded.code x))) most ⟧ (fills_in b x)
+      fills b x fits = inside (⟦ U (agreed_on b (gnum 0)) most ⟧ ∗ ⟦ fsep (lent_at R p x (b ∷ [])) (flent (b ∷ [])
+          (Whole x)) ⟧) ⟦ U (agreed_on b (full_shown (R.coded.code x))) most ⟧ (fills_in b x fits)
 
       module _ (x : X) (l μ : Lft) (q : Share) (lends : Lends 𝓛 (Whole x) (lent_at R p x) l) (inc : Incl μ l) where
         -- the value is shared for the round
@@ -202,23 +204,3 @@ module _ {M : Type 1} {𝓤 : Ura M} (𝓛 : Logic 𝓤) where
             use2 𝓛 (later (‵ (lent_at R p x (a ∷ [])) ⊛ ‵ (flft (a ∷ []) e) ⊛ ‵ (flft μ q)))
             (lends (a ∷ []) ((a ∷ [], e) ∷ (μ, q) ∷ []) (Incl-trans (meet_⊑_right (a ∷ []) μ) inc) (meet_⊑_left (a ∷ []) μ)) $ await ! tt $ split3 ! $
             move ! (0 ∷ 3 ∷ []) $ fjoin ! $ now ! $ done !
-
-        abbrev pub Founded : ℕ → Pr
-        Founded a = A.inv I ∗ ⟦ part γ i a (full_shown (R.coded.code x)) most ⟧ ∗ ⟦ book_owns γ (suc i) ⟧ ∗ A.lft μ q
-
-        -- a place for the next number
-        pub founds : ⟦ book_owns γ i ⟧ ∗ ⟦ Whole x ⟧ ∗ A.lft μ q ⊢ H.⇛ (ex 𝓤 Founded)
-        founds = let w : Gv = full_shown (R.coded.code x) in qed 𝓛 (‵ (book_owns γ i) ∷ ‵ (Whole x) ∷ ‵ (flft μ q) ∷ []) ∵ updating ! $
-            lft_new ! tt (λ a. let h : Gv = agreed_on a w in
-            move ! (1 ∷ []) $ use1 𝓛 (later (‵ (book_owns γ (suc i)) ⊛ ‵ (U h (2 ^ 63)))) (issues 𝓛 γ i h) $ await ! tt $ split ! $ move ! (3 ∷ 2 ∷ 4 ∷ []) $
-            use3 𝓛 (later (‵ (fsep (lent_at R p x (a ∷ [])) (flent (a ∷ []) (Whole x))) ⊛ ‵ (flft (a ∷ []) full_share) ⊛ ‵ (flft μ q)))
-            (freezes a full_share) $ await ! tt $ split3 ! $
-            move ! (1 ∷ []) $ use1 𝓛 (‵ (tokens a (2 ^ 63))) (tokens_in 𝓛 a (2 ^ 63) full_share (Counts-all 63)) $
-            use1 𝓛 (‵ (tokens a 1) ⊛ ‵ (tokens a most)) (tokens_cut 𝓛 a (2 ^ 63) 1 most (omega arith) (omega arith) (omega arith) (omega arith)) $ split ! $
-            move ! (5 ∷ []) $
-            use1 𝓛 (given ((2 ^ 63) ≤ 2 ^ 63) (‵ (U h 1) ⊛ ‵ (U h most))) (splits 𝓛 γ i h (2 ^ 63) 1 most (omega arith) (omega arith) (omega arith)) $
-            learn ! (λ fits. split ! $
-            -- [1; most; the place's token; the others; what is lent; the outer token; the book]
-            move ! (0 ∷ 2 ∷ []) $ fjoin ! $ move ! (0 ∷ 3 ∷ []) $ fjoin ! $ fpack ! St st (Some (Some (a, x))) $
-            use1 𝓛 (later (‵ (finv I))) (𝓛.invs.inv_new I) $ await ! tt $
-            move ! (1 ∷ 2 ∷ []) $ fjoin ! $ now ! $ show ! Founded a $ move ! (1 ∷ 0 ∷ 3 ∷ 2 ∷ []) $ done !))

@@ -1,4 +1,5 @@
--- What a shelf owns: the rule of each of its places, in an invariant. And what its calls ask and tell of the stakes that a seat carries.
+-- What a plot owns: each place and a unit of it. What a shelf owns: the rule of each of its places, in an invariant. And what its calls ask and tell of the
+-- stakes that a seat carries.
 use Rattle.std.specs.Prelude.{◌≡◌, ◌+◌, ◌-◌, ◌*◌, ◌^◌, ◌<◌, ℕ, zero, suc, Option, None, Some, List, [], ◌∷◌, ◌++◌, take, drop}
 use mathlib.Core.Option.{some}
 use lib.ListN.{get_elem?}
@@ -39,32 +40,47 @@ abbrev pub vacancy : RattleType → Ptr → Fml
 vacancy R p = room_for (raw (lone R.mir)) p
 
 module _ (R : RattleType) (p : Ptr) (γ i : ℕ) where
-  -- the place keeps one unit of its number. It is out of use while a value is moved; vacant; or full: then the value is shared for the round, and comes back
-  -- after it
-  abbrev pub state : Option (Option (ℕ × R.Denot)) → Fml
-  state None = fex ℕ (λ a. part γ i a (gnum 0) 1)
-  state (Some None) = fex ℕ (λ a. fsep (part γ i a gnil 1) (vacancy R p))
-  state (Some (Some v)) = fsep (part γ i v.0 (full_shown (R.coded.code v.1)) 1) (fsep (lent_at R p v.1 (v.0 ∷ [])) (flent (v.0 ∷ [])
-      (lies_at R full_share p v.1)))
+  -- a vacant place, and one unit of its number
+  abbrev pub plain_place : Fml
+  plain_place = fex ℕ (λ a. fsep (part γ i a gnil 1) (vacancy R p))
 
-  abbrev pub rule : Fml
-  rule = fex (Option (Option (ℕ × R.Denot))) state
+  -- Only a value that fits lies in the place.
+  module _ (FitsIn : R.Denot → Type 0) where
+    -- the place keeps one unit of its number. It is out of use while a value is moved; vacant; or full: then the value is shared for the round, and comes back
+    -- after it
+    abbrev pub state : Option (Option (ℕ × R.Denot)) → Fml
+    state None = fex ℕ (λ a. part γ i a (gnum 0) 1)
+    state (Some None) = plain_place
+    state (Some (Some v)) = fsep (fact (FitsIn v.1)) (fsep (part γ i v.0 (full_shown (R.coded.code v.1)) 1) (fsep (lent_at R p v.1 (v.0 ∷ []))
+        (flent (v.0 ∷ []) (lies_at R full_share p v.1))))
 
--- the rules of n places side by side, of the number i and those after it
+    abbrev pub rule : Fml
+    rule = fex (Option (Option (ℕ × R.Denot))) state
+
 module _ (R : RattleType) (b γ : ℕ) where
-  abbrev pub rules : ℕ → ℕ → ℕ → Fml
-  rules zero i o = ftrue
-  rules (suc n) i o = fsep (finv (rule R (block_ptr b o) γ i)) (rules n (suc i) (o + (mem R).size))
+  -- n vacant places side by side, of the number i and those after it
+  abbrev pub plots : ℕ → ℕ → ℕ → Fml
+  plots zero i o = ftrue
+  plots (suc n) i o = fsep (plain_place R (block_ptr b o) γ i) (plots n (suc i) (o + (mem R).size))
 
--- where a shelf of n places lies: its size is one of memory
-abbrev pub Fits : (R : RattleType) → Ptr → ℕ → Type 0
-Fits R p n = InBlock p × (n * (mem R).size < 2 ^ 63)
+  -- the rules of such places
+  module _ (FitsIn : R.Denot → Type 0) where
+    abbrev pub rules : ℕ → ℕ → ℕ → Fml
+    rules zero i o = ftrue
+    rules (suc n) i o = fsep (finv (rule R (block_ptr b o) γ i FitsIn)) (rules n (suc i) (o + (mem R).size))
 
-abbrev pub shelf_owns : (R : RattleType) → Ptr → ℕ → ℕ → Fml
-shelf_owns R p γ n = fsep (fact (Fits R p n)) (rules R (block_of p) γ n 0 (count_of p))
+-- where n places lie: their size is one of memory
+abbrev pub Spans : (R : RattleType) → Ptr → ℕ → Type 0
+Spans R p n = InBlock p × (n * (mem R).size < 2 ^ 63)
 
-abbrev pub shelf_shares : (R : RattleType) → Ptr → ℕ → ℕ → Lft → Fml
-shelf_shares R p γ n = said (shelf_owns R p γ n)
+abbrev pub plot_owns : (R : RattleType) → Ptr → ℕ → ℕ → Fml
+plot_owns R p γ n = fsep (fact (Spans R p n)) (plots R (block_of p) γ n 0 (count_of p))
+
+abbrev pub shelf_owns : (R : RattleType) → (R.Denot → Type 0) → Ptr → ℕ → ℕ → Fml
+shelf_owns R FitsIn p γ n = fsep (fact (Spans R p n)) (rules R (block_of p) γ FitsIn n 0 (count_of p))
+
+abbrev pub shelf_shares : (R : RattleType) → (R.Denot → Type 0) → Ptr → ℕ → ℕ → Lft → Fml
+shelf_shares R FitsIn p γ n = said (shelf_owns R FitsIn p γ n)
 
 -- ---- lots
 -- k units of the number i of the book γ, which aren't lent

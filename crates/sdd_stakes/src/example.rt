@@ -5,15 +5,15 @@ ghost use Rattle.sdd_stakes.specs.Seats.{lots, plain};
 ghost use Rattle.sdd_stakes.specs.Shelf.{CanShow, Shows, showing, IsFull, IsVacant, HasWhole, vacant, all_turned};
 
 use crate::seats::settle;
-use crate::shelf::Shelf;
+use crate::shelf::{Fits, Shelf};
 use crate::stake::Stake;
 use atomic_table::{Seat, Shared, TableRule};
 use sdd_places::{Ended, Tenure, end_round};
 use sdd_token::WHOLE;
 
 /// A value that is shown can be shown again under the same tenure: by one stake, both are the same value.
-pub fn shows_again<'g, T, V, K, P: TableRule<Stake, V, K>>(
-    shelf: &Shelf<T>,
+pub fn shows_again<'g, T, F: Fits<T>, V, K, P: TableRule<Stake, V, K>>(
+    shelf: &Shelf<T, F>,
     at: usize,
     seat: &mut Seat<Stake, V>,
     table: &Shared<Stake, V, K, P>,
@@ -33,8 +33,8 @@ pub fn shows_again<'g, T, V, K, P: TableRule<Stake, V, K>>(
 }
 
 /// What was put is taken, once the tenure has ended under which it was shown.
-pub fn takes_what_was_put<T, V, K, P: TableRule<Stake, V, K>>(
-    shelf: &Shelf<T>,
+pub fn takes_what_was_put<T, F: Fits<T>, V, K, P: TableRule<Stake, V, K>>(
+    shelf: &Shelf<T, F>,
     at: usize,
     seat: &mut Seat<Stake, V>,
     table: &Shared<Stake, V, K, P>,
@@ -47,6 +47,7 @@ pub fn takes_what_was_put<T, V, K, P: TableRule<Stake, V, K>>(
     requires whole { HasWhole shelf.now.book at count IsVacant (lots seat.old.me.1) }
     requires free { AllFreeFor tenure.old.round (lots seat.old.me.1) }
     requires all { tenure.old.units ≡ WHOLE }
+    requires fits { F.fits shelf.now.table shelf.now.book shelf.now.size value }
     ensures value { result ≡ value }
 {
     shelf.put(at, seat, table, count, value);
@@ -57,8 +58,8 @@ pub fn takes_what_was_put<T, V, K, P: TableRule<Stake, V, K>>(
 }
 
 /// A value is taken by stakes that were lent to a tenure, once it has ended.
-pub fn takes_what_was_shown<T, V, K, P: TableRule<Stake, V, K>>(
-    shelf: &Shelf<T>,
+pub fn takes_what_was_shown<T, F: Fits<T>, V, K, P: TableRule<Stake, V, K>>(
+    shelf: &Shelf<T, F>,
     at: usize,
     seat: &mut Seat<Stake, V>,
     table: &Shared<Stake, V, K, P>,
@@ -76,8 +77,8 @@ pub fn takes_what_was_shown<T, V, K, P: TableRule<Stake, V, K>>(
 }
 
 /// What was shown under one tenure is shown under the next one, once the first has ended.
-pub fn shows_what_was_shown<'g, T, V, K, P: TableRule<Stake, V, K>>(
-    shelf: &Shelf<T>,
+pub fn shows_what_was_shown<'g, T, F: Fits<T>, V, K, P: TableRule<Stake, V, K>>(
+    shelf: &Shelf<T, F>,
     at: usize,
     seat: &mut Seat<Stake, V>,
     table: &Shared<Stake, V, K, P>,
@@ -95,7 +96,7 @@ pub fn shows_what_was_shown<'g, T, V, K, P: TableRule<Stake, V, K>>(
 }
 
 /// By a unit that is cut off a stake in a full place, the same value is viewed each time. The stake has the unit back in the end.
-pub fn views_by_a_grip<T: Copy>(shelf: &Shelf<T>, at: usize, stake: &mut Stake) -> (T, T)
+pub fn views_by_a_grip<T: Copy, F: Fits<T>>(shelf: &Shelf<T, F>, at: usize, stake: &mut Stake) -> (T, T)
     requires inside { at < shelf.now.size }
     requires book { stake.old.lot.book ≡ shelf.now.book }
     requires number { stake.old.lot.number ≡ at }

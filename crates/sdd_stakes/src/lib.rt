@@ -4,6 +4,7 @@
 
 pub mod example;
 mod ledger;
+mod plot;
 mod seats;
 mod shelf;
 mod stake;
@@ -11,8 +12,9 @@ mod stock;
 mod title;
 
 pub use ledger::Ledger;
+pub use plot::Plot;
 pub use seats::settle;
-pub use shelf::Shelf;
+pub use shelf::{Fits, Shelf};
 pub use stake::Stake;
 pub use stock::Stock;
 pub use title::Title;

@@ -1,12 +1,14 @@
 use denote.RattleType.{RattleType}
 use denote.Param.Send.{IsSend, IsSync, owning_send, struct_send, sendable}
-use denote.Builtin.{RawPtr}
-use denote.Struct.Struct.{exits_of}
+use denote.Struct.Struct.{Struct, exits_of}
 use denote.Struct.Owning.{shape, fields, to}
 use Rattle.std_alloc.proofs.SendSync.{quiet}
+use Rattle.sdd_stakes.specs.declared.shelf.Fits.{Ghosts}
 use Rattle.sdd_stakes.specs.contracts.shelf.Shelf.{the_row, the_type}
 use Rattle.sdd_stakes.proofs.ShelfSent.{shelf_Keyless}
 
-pub send : (T : RattleType) → IsSend T → IsSync T → IsSend (the_row T)
-send T s y = let O = the_type T in let ps : IsSend RawPtr = search sendable in owning_send O (ps, tt) (λ d. shelf_Keyless T s y d.ptr d.book d.size)
-    (λ k. quiet (to O) (exits_of k (fields O)) ((struct_send (shape O) (ps, tt)).leaving k))
+pub send : (T F : RattleType) (g : Ghosts F.Denot T.Denot) → IsSend T → IsSync T → IsSend (the_row T F g)
+send T F g s y = record {
+  owned = λ d vs. ((λ vss. (tt, (tt, ((λ uss. (tt, tt)), tt)))), shelf_Keyless T (g.fits d.table d.book d.size) s y d.ptr d.book d.size);
+  leaving = λ k f vs. tt;
+}

@@ -1,10 +1,11 @@
 use denote.RattleType.{RattleType}
-use denote.Param.Send.{IsSend, IsSync, struct_sync, sendable}
-use denote.Builtin.{RawPtr}
-use denote.Struct.Owning.{shape, to}
+use denote.Param.Send.{IsSend, IsSync, sendable}
+use denote.Struct.Struct.{Struct}
+use denote.Struct.Owning.{shape}
+use Rattle.sdd_stakes.specs.declared.shelf.Fits.{Ghosts}
 use Rattle.sdd_stakes.specs.contracts.shelf.Shelf.{the_row, the_type}
 use Rattle.sdd_stakes.proofs.ShelfSent.{shelf_Keyless}
 
-pub sync : (T : RattleType) → IsSend T → IsSync T → IsSync (the_row T)
-sync T s y = let py : IsSync RawPtr = search sendable in
-    record { shared = λ d b o κ. ((struct_sync (shape (the_type T)) (py, tt)).shared (to (the_type T) d) b o κ, shelf_Keyless T s y d.ptr d.book d.size) }
+pub sync : (T F : RattleType) (g : Ghosts F.Denot T.Denot) → IsSend T → IsSync T → IsSync (the_row T F g)
+sync T F g s y = let fields : IsSync (Struct (shape (the_type T F g))) = search sendable depth 20 in
+    record { shared = λ d b o κ. (fields.shared (d.ptr, (tt, tt)) b o κ, shelf_Keyless T (g.fits d.table d.book d.size) s y d.ptr d.book d.size) }

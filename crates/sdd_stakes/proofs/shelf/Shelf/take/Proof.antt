@@ -28,7 +28,7 @@ use Rattle.atomic_table.specs.contracts.shared.Shared as table
 use Rattle.atomic_table.specs.contracts.shared.Seat as seat
 use Rattle.sdd_stakes.specs.contracts.stake.Stake as stake
 use Rattle.sdd_stakes.specs.contracts.shelf.Shelf as shelf
-use Rattle.sdd_stakes.proofs.Fields.{strip_of, ShelfData, shelf_told, shelf_opens}
+use Rattle.sdd_stakes.proofs.Fields.{shelf_of, ShelfData, shelf_told, shelf_opens}
 use Rattle.sdd_stakes.proofs.Carried.{Shuts, opens_all, lots_long}
 use Rattle.sdd_stakes.proofs.Collect.{whole_out, whole_in, top_long, agree_top}
 use Rattle.sdd_stakes.proofs.Takes.{round_begins, round_ends, takes_out, leaves_room}
@@ -39,13 +39,13 @@ use Rattle.sdd_stakes.proofs.shelf.Shelf.take.Code as code
 
 pub take_spec : {M : Type 1} → statement M
 unfolding Rattle.atomic_table.specs.Seated.seal
-take_spec 𝓤 𝓛 𝓜 𝓡 wired T V K P L _ _ _ g d _ =
-    let H = 𝓛.H in let A = 𝓛.A in let 𝓣 = tables 𝓤 H 𝓜 𝓡 𝓡.env in let R : RattleType = param 0 T in let W : RattleType = param 1 V in
-    let X : RattleType = param 2 K in let Y : RattleType = param 3 P in let S : RattleType = stake.the_row in let En = ended T V K P g d in
-    let inst = bounded (a_type ∷ a_type ∷ a_type ∷ a_type ∷ []) (T, (V, (K, (P, tt)))) (dcons d dnil) in let fn = inst_fn inst code.function in
+take_spec 𝓤 𝓛 𝓜 𝓡 wired T F V K P L _ _ _ _ gF dF g d _ _ =
+    let H = 𝓛.H in let A = 𝓛.A in let 𝓣 = tables 𝓤 H 𝓜 𝓡 𝓡.env in let R : RattleType = param 0 T in let B : RattleType = param 1 F in let W : RattleType = param 2 V in
+    let X : RattleType = param 3 K in let Y : RattleType = param 4 P in let S : RattleType = stake.the_row in let En = ended T F V K P gF dF g d in
+    let inst = bounded (a_type ∷ a_type ∷ a_type ∷ a_type ∷ a_type ∷ []) (T, (F, (V, (K, (P, tt))))) (dcons dF (dcons d dnil)) in let fn = inst_fn inst code.function in
     let ty = layout T in
-    let Row : RattleType = shelf.the_row R in let Sr : RattleType = seat.the_row S W in let Tr : RattleType = table.the_row S W X Y g in
-    let D : RattleType = ShelfData R in let DH : RattleType = HandData S W X Y g in let c = clauses T V K P g d 𝓛 𝓜.mem 𝓡.returns in
+    let Row : RattleType = shelf.the_row R B gF in let Sr : RattleType = seat.the_row S W in let Tr : RattleType = table.the_row S W X Y g in
+    let D : RattleType = ShelfData R B gF in let DH : RattleType = HandData S W X Y g in let c = clauses T F V K P gF dF g d 𝓛 𝓜.mem 𝓡.returns in
     let self = RefOf (0 ∷ []) tt (plain (λ _. Row)) (λ _. tt) in let sitter = plain (λ _. Sr) in
     let about = RefOf (2 ∷ []) tt (plain (λ _. Tr)) (λ _. tt) in let num = plain (λ _. usize) in
     let hs : Stays En.signature.params En.kept = (
@@ -62,16 +62,16 @@ take_spec 𝓤 𝓛 𝓜 𝓡 wired T V K P L _ _ _ g d _ =
       ),
     ) in
     proved 𝓛 En hs c 𝓜 𝓡 (
-      Goes-dropped 𝓛 7 self yes (λ κs x f. refl),
+      Goes-dropped 𝓛 8 self yes (λ κs x f. refl),
       (
-        Goes-dropped 𝓛 7 num yes (λ κs x f. refl),
+        Goes-dropped 𝓛 8 num yes (λ κs x f. refl),
         (
-          Goes-ref 𝓛 7 1 tt sitter,
-          (Goes-dropped 𝓛 7 about yes (λ κs x f. refl), (Goes-dropped 𝓛 7 num yes (λ κs x f. refl), tt)),
+          Goes-ref 𝓛 8 1 tt sitter,
+          (Goes-dropped 𝓛 8 about yes (λ κs x f. refl), (Goes-dropped 𝓛 8 num yes (λ κs x f. refl), tt)),
         ),
       ),
     )
-    (#self inst) fn (code.unfolded 𝓤 H 𝓜 𝓡 wired (T, (V, (K, (P, tt)))) d)
+    (#self inst) fn (code.unfolded 𝓤 H 𝓜 𝓡 wired (T, (F, (V, (K, (P, tt))))) dF d)
     (λ κs. (shr_vals, (uint_vals w64, (mut_vals, (shr_vals, (uint_vals w64, tt))))))
     (λ κs. (shr_Tells (named 0) κs.0 Row, (uint_Tells w64, (mut_Tells (named 1) κs.1.0 Sr, (shr_Tells (named 2) κs.1.1.0 Tr, (uint_Tells w64, tt))))))
     (λ κs qs bounds a gh are.
@@ -83,7 +83,8 @@ take_spec 𝓤 𝓛 𝓜 𝓡 wired T V K P L _ _ _ g d _ =
     let hold : List Lot = lots xs in let more : List Lot = lib.ListN.drop k hold in
     let bag : TableId → List (ℕ × S.Denot) → Fml = λ u us. carried (age u) S (where_ u) (names u) u.slots us in
     let others : Fml = fsep (flft κs.1.1.1.0 qs.1.1.1.0) (fsep (flft κs.1.1.1.1.0 qs.1.1.1.1.0) (fsep (flft κs.1.1.1.1.1.0 qs.1.1.1.1.1.0)
-    (fsep (flft κs.1.1.1.1.1.1.0 qs.1.1.1.1.1.1.0) ftrue))) in
+    (fsep (flft κs.1.1.1.1.1.1.0 qs.1.1.1.1.1.1.0) (fsep (flft κs.1.1.1.1.1.1.1.0 qs.1.1.1.1.1.1.1.0) ftrue)))) in
+    let Fit : T.Denot → Type 0 = gF.fits f.table γ N in
     let AtTable : Type 0 = s.table_id ≡ z in let Inside : Type 0 = i < N in let All : Type 0 = HasWhole γ i k IsFull hold in
     let y : (walk_of 𝓛 En hs c).Ghost = (
       (
@@ -108,8 +109,8 @@ take_spec 𝓤 𝓛 𝓜 𝓡 wired T V K P L _ _ _ g d _ =
       gh,
     ) in let Post : Val → SProp 𝓤 = (walk_of 𝓛 En hs c).post y in
     qed 𝓛 (((‵ (flft κ qs.0) ⊛ ‵ (flft κs.1.0 qs.1.0) ⊛ ‵ (flft κ″ qs.1.1.0) ⊛ ‵ others) ⊛ ‵ (owns (types_at En.signature.params κs) a y.0.4)) ∷
-    raw (fact 𝓤 _) ∷ raw (fact 𝓤 _) ∷ raw (fact 𝓤 _) ∷ raw (fact 𝓤 _) ∷ raw (fact 𝓤 AtTable) ∷ raw (fact 𝓤 Inside) ∷ raw (fact 𝓤 All) ∷ []) ∵
-    keep ! (5 ∷ 6 ∷ 7 ∷ 0 ∷ []) $ heard ! AtTable (λ at_table. heard ! Inside (λ near. heard ! All (λ top. let n : ℕ = top.newest.round in
+    raw (fact 𝓤 _) ∷ raw (fact 𝓤 _) ∷ raw (fact 𝓤 _) ∷ raw (fact 𝓤 _) ∷ raw (fact 𝓤 _) ∷ raw (fact 𝓤 AtTable) ∷ raw (fact 𝓤 Inside) ∷ raw (fact 𝓤 All) ∷ []) ∵
+    keep ! (6 ∷ 7 ∷ 8 ∷ 0 ∷ []) $ heard ! AtTable (λ at_table. heard ! Inside (λ near. heard ! All (λ top. let n : ℕ = top.newest.round in
     let u : Gv = top.newest.shown in
     split ! $ split3 ! $ move ! (2 ∷ []) $ split ! $ move ! (4 ∷ []) $ fsplit ! $ move ! (1 ∷ []) $ fsplit ! $ drop ! $ fsplit ! $ move ! (2 ∷ 0 ∷ 1 ∷ []) $
     move ! (2 ∷ []) $ fsplit ! $ fsplit ! $ drop ! $
@@ -117,8 +118,9 @@ take_spec 𝓤 𝓛 𝓜 𝓡 wired T V K P L _ _ _ g d _ =
     (lent_out 𝓛 (table.struct S W X Y g) (table.the_codes S.Denot V.Denot K.Denot P.Denot S.coded W.coded X.coded Y.coded (marker.the_row (Tuple (Y ∷ W ∷ X ∷
     []))).coded) (table.the_heap S W X Y g) (table.the_lent S W X Y g) κ″ t b″ o″) $
     split ! $ drop ! $ move ! (2 ∷ []) $ fsplit ! $ drop ! $
-    use1 𝓛 (‵ (hidden_shr D κ (p, tt) b o) ⊛ ‵ (fhide (shelf_shares R p γ N κ))) (lent_out 𝓛 (shelf.struct R) (shelf.the_codes T.Denot R.coded)
-    (shelf.the_heap R) (shelf.the_lent R) κ f b o) $ split ! $
+    use1 𝓛 (‵ (hidden_shr D κ (p, (tt, tt)) b o) ⊛ ‵ (fhide (shelf_shares R Fit p γ N κ))) (lent_out 𝓛 (shelf.struct R B gF) (shelf.the_codes T.Denot F.Denot R.coded B.coded
+    (marker.the_row B).coded)
+    (shelf.the_heap R B gF) (shelf.the_lent R B gF) κ f b o) $ split ! $
     move ! (4 ∷ []) $ fsplit3 ! $ keep ! (3 ∷ 4 ∷ 5 ∷ 1 ∷ 2 ∷ 7 ∷ 8 ∷ 9 ∷ 10 ∷ []) $
     enter ! 𝓣.C 𝓣.Λ fn (vptr b o ∷ vint w64 i ∷ vptr b' o' ∷ vptr b″ o″ ∷ vint w64 k ∷ []) Post $
     alloc_all ! (λ l. pass_all ! refl ((tt, tt), ((tt, record { fits = are.1.0.1 }), ((tt, tt), ((tt, tt), ((tt, record { fits = are.1.1.1.1.0.1 }), tt))))) $
@@ -126,7 +128,7 @@ take_spec 𝓤 𝓛 𝓜 𝓡 wired T V K P L _ _ _ g d _ =
     move ! (1 ∷ []) $ unhide ! $ fsplit ! $ fpick ! (λ fit. drop ! $
     let small : size < 2 ^ 63 = one_below N size (2 ^ 63) (omega arith) fit.1 in let tiny : size < 2 ^ 64 = omega arith in
     let near_enough : i * size < 2 ^ 63 = times_below i N size (2 ^ 63) (omega arith) fit.1 in let fm : i * size < 2 ^ 64 = omega arith in
-    use1 𝓛 (‵ (finv (rule R here γ i))) (rule_at 𝓛 R bp γ N (count_of p) i near) $
+    use1 𝓛 (‵ (finv (rule R here γ i Fit))) (rule_at 𝓛 R Fit bp γ N (count_of p) i near) $
     move ! (2 ∷ []) $ unhide ! $ fsplit ! $ move ! (1 ∷ []) $ drop ! $ move ! (0 ∷ 5 ∷ []) $
     shr_bor-open ! tt (tokens_halve 𝓛 α) (λ r. move ! (4 ∷ 5 ∷ 8 ∷ []) $
     opens ! tt Sr b' o' (λ ts. move ! (1 ∷ []) $ fsplit ! $ move ! (1 ∷ []) $ fsplit ! $ move ! (1 ∷ []) $
@@ -138,25 +140,25 @@ take_spec 𝓤 𝓛 𝓜 𝓡 wired T V K P L _ _ _ g d _ =
     -- the place; the others; the token]
     use0 𝓛 (later (some (λ (m : ℕ). ‵ (tokens m 1) ⊛ ‵ (tokens m most)))) (round_begins 𝓛) $ await ! tt $ pick ! (λ m. split ! $
     move ! (3 ∷ 0 ∷ []) $ join ! $ move ! (2 ∷ 0 ∷ []) $ join ! $ move ! (11 ∷ []) $
-    use1 𝓛 (‵ (finv (rule R here γ i)) ⊛ ‵ (finv (rule R here γ i))) (𝓛.invs.inv_dup (rule R here γ i)) $ split ! $ move ! (0 ∷ 2 ∷ []) $
-    use2 𝓛 (later (some (λ (x : T.Denot). given (u ≡ full_shown (R.coded.code x))
+    use1 𝓛 (‵ (finv (rule R here γ i Fit)) ⊛ ‵ (finv (rule R here γ i Fit))) (𝓛.invs.inv_dup (rule R here γ i Fit)) $ split ! $ move ! (0 ∷ 2 ∷ []) $
+    use2 𝓛 (later (some (λ (x : T.Denot). given ((u ≡ full_shown (R.coded.code x)) × Fit x)
     (‵ (units γ i (agreed_on m (gnum 0)) most) ⊛ ‵ (tokens n (2 ^ 63)) ⊛ ‵ (flent (n ∷ []) (lies_at R full_share here x))))))
-    (takes_out 𝓛 γ i R here n u m top.so) $ await ! tt $ pick ! (λ x. learn ! (λ so. split3 ! $ move ! (1 ∷ 2 ∷ []) $
+    (takes_out 𝓛 γ i R Fit here n u m top.so) $ await ! tt $ pick ! (λ x. learn ! (λ so. split3 ! $ move ! (1 ∷ 2 ∷ []) $
     use2 𝓛 (later (‵ (lies_at R full_share here x))) (round_ends 𝓛 n (lies_at R full_share here x)) $ await ! tt $
     use1 𝓛 (some (λ (v : Val). ‵ (fat full_share ty bp op v) ⊛ ‵ (R.own_val x (v ∷ [])))) (part_out 𝓛 R refl full_share x bp op) $ pick ! (λ v. split ! $
     move ! (1 ∷ []) $
     peeks ! R (Is R) (shows 𝓛 R) x (v ∷ []) (λ is. let tv : Tr₀ (has_ty ty v) × WT v = (((param_laws 0 T L).lawful 𝓛).typed x (v ∷ []) is).0 in
     move ! (14 ∷ 16 ∷ []) $
-    looks ! tt D (shelf_opens R 𝓛) (p, tt) b o (λ q vs. move ! (1 ∷ []) $ peeks ! D (Is D) (shows 𝓛 D) (p, tt) vs (λ is-so.
-    let ev : vs ≡ strip_of (block_ptr bp (count_of p)) ∷ [] = shelf_told R p vs is-so ∙ ap (λ (q : Ptr). strip_of q ∷ []) (at_block p fit.0) in
+    looks ! tt D (shelf_opens R B gF 𝓛) (p, (tt, tt)) b o (λ q vs. move ! (1 ∷ []) $ peeks ! D (Is D) (shows 𝓛 D) (p, (tt, tt)) vs (λ is-so.
+    let ev : vs ≡ shelf_of (block_ptr bp (count_of p)) ∷ [] = shelf_told R B gF p vs is-so ∙ ap (λ (q : Ptr). shelf_of q ∷ []) (at_block p fit.0) in
     rewrite ! 1 (λ (ws : List Val). ‵ (cell_at q D.mir ws b o)) ev refl $
     sets ! (of_opd ! (load ! (through ! refl (fld ! refl (stop !))) (look_in ! 1 (sub ! 0 refl (whole !))))) refl (tt, tt) $
-    rewrite ! 1 (λ (ws : List Val). ‵ (cell_at q D.mir ws b o)) (sym ev) refl $ move ! (1 ∷ 0 ∷ 2 ∷ []) $ shuts ! tt D q (p, tt) vs b o $
+    rewrite ! 1 (λ (ws : List Val). ‵ (cell_at q D.mir ws b o)) (sym ev) refl $ move ! (1 ∷ 0 ∷ 2 ∷ []) $ shuts ! tt D q (p, (tt, tt)) vs b o $
     first ! $ blocks ! $ sets ! (bin ! (get ! refl) (size_lit ! (record { fits = tiny })) (record { fits = fm })) refl (tt, record { fits = fm }) $
     sets ! (bin ! (get ! refl) (get ! refl) tt) refl (tt, tt) $ sets_last ! (of_opd ! (load ! (through ! refl (stop !)) (look ! 3 refl))) refl tv $
     exec ! 𝓣.C 𝓣.Λ Ev (after 2 fn.body) (at_ret Ev Post) $ sets ! (of_opd ! (get ! refl)) refl tv $
     move ! (3 ∷ []) $ use1 𝓛 (‵ (froom ty bp op)) (𝓛.laws.at_room ty bp op v) $ use1 𝓛 (‵ (froom (bare ty) bp op)) (𝓛.laws.room-raw ty bp op) $
-    move ! (4 ∷ 0 ∷ []) $ join ! $ move ! (4 ∷ 0 ∷ []) $ use2 𝓛 (later (‵ (units γ i (agreed_on m gnil) most))) (leaves_room 𝓛 γ i R here m) $ await ! tt $
+    move ! (4 ∷ 0 ∷ []) $ join ! $ move ! (4 ∷ 0 ∷ []) $ use2 𝓛 (later (‵ (units γ i (agreed_on m gnil) most))) (leaves_room 𝓛 γ i R Fit here m) $ await ! tt $
     let hold' : List Lot = top_turned m gnil k hold in let long = top_long m gnil k hold ∙ lots_long xs in let ys = with_lots xs hold' in
     let s' : Sr.Denot = record s { me = (s.me.0, ys) } in
     move ! (0 ∷ 4 ∷ []) $ fjoin ! $ move ! (0 ∷ 4 ∷ []) $ use2 𝓛 (‵ (purse hold')) (whole_in 𝓛 γ i n u k hold m gnil all_) $
@@ -170,7 +172,8 @@ take_spec 𝓤 𝓛 𝓜 𝓡 wired T V K P L _ _ _ g d _ =
     nothing ! $ fjoin ! $ move ! (1 ∷ 0 ∷ []) $ fjoin ! $ nothing ! $ fjoin ! $ nothing ! $ fjoin ! $
     let Value : Type 0 = (n' : ℕ) × AreWhole γ i n' (full_shown (R.coded.code x)) k hold in
     let Seats : Type 0 = (m' : ℕ) × (s' ≡ record s { me = (s.me.0, with_lots xs (top_turned m' gnil k hold)) }) in
-    use0 𝓛 (raw (fact 𝓤 Value)) (fact_i 𝓤 Value (emp 𝓤) (n, subst (λ (v : Gv). AreWhole γ i n v k hold) so all_)) $
+    use0 𝓛 (raw (fact 𝓤 (Fit x))) (fact_i 𝓤 (Fit x) (emp 𝓤) so.1) $
+    use0 𝓛 (raw (fact 𝓤 Value)) (fact_i 𝓤 Value (emp 𝓤) (n, subst (λ (v : Gv). AreWhole γ i n v k hold) so.0 all_)) $ join ! $
     use0 𝓛 (raw (fact 𝓤 Seats)) (fact_i 𝓤 Seats (emp 𝓤) (m, refl)) $ join ! $
     returns ! (look_at ! 0 refl) $ free_all ! refl $ keep ! (2 ∷ 1 ∷ 4 ∷ 0 ∷ []) $
     by ! (leaves 𝓛 En hs c y v x (tt, (tt, (s', (tt, (tt, tt))))) (tt, (tt, (tt, (tt, (tt, tt))))))))))))))))))))))

@@ -1,5 +1,5 @@
 -- A title owns nothing.
-use Rattle.atomic_table.proofs.Names.{◌≡◌, [], ◌∷◌, refl, a_type, named, Val, vptr, inst_fn, SProp, emp, ‵, raw, ◌⊛◌, ◌$◌, ◌∵◌, !, qed, by, keep, split, fjoin, use0, no_more, and_then, returns, enter, alloc_all, pass_all, free_all, look_at, get, sets, agg, tables, yes, RattleType, owns, types_at, plain, nothing, param, layouts, alive, Stays, stay_dropped, walk_of, Goes-dropped, fact, fact_i, RefOf, shr_vals, shr_Tells}
+use Rattle.atomic_table.proofs.Names.{◌≡◌, [], ◌∷◌, refl, a_type, named, Val, vptr, inst_fn, SProp, emp, ‵, raw, ◌⊛◌, ◌$◌, ◌∵◌, !, qed, by, keep, split, fjoin, use0, no_more, and_then, returns, enter, alloc_all, pass_all, free_all, look_at, get, sets, agg, tables, yes, RattleType, owns, types_at, plain, nothing, param, bounded, dcons, dnil, alive, Stays, stay_dropped, walk_of, Goes-dropped, fact, fact_i, RefOf, shr_vals, shr_Tells}
 use Rattle.atomic_table.proofs.Walks.{proved, leaves}
 use Rattle.sdd_stakes.specs.contracts.shelf.Shelf as shelf
 use Rattle.sdd_stakes.specs.contracts.title.Title as title
@@ -10,11 +10,11 @@ use Rattle.sdd_stakes.proofs.shelf.Shelf.title.Statement.{statement}
 use Rattle.sdd_stakes.proofs.shelf.Shelf.title.Code as code
 
 pub title_spec : {M : Type 1} → statement M
-title_spec 𝓤 𝓛 𝓜 𝓡 wired T _ =
-    let H = 𝓛.H in let 𝓣 = tables 𝓤 H 𝓜 𝓡 𝓡.env in let R : RattleType = param 0 T in let En = ended T in let c = clauses T 𝓛 𝓜.mem 𝓡.returns in
-    let inst = layouts (a_type ∷ []) (T, tt) in let fn = inst_fn inst code.function in let Row : RattleType = shelf.the_row R in
+title_spec 𝓤 𝓛 𝓜 𝓡 wired T F _ _ gF dF _ =
+    let H = 𝓛.H in let 𝓣 = tables 𝓤 H 𝓜 𝓡 𝓡.env in let R : RattleType = param 0 T in let B : RattleType = param 1 F in let En = ended T F gF dF in let c = clauses T F gF dF 𝓛 𝓜.mem 𝓡.returns in
+    let inst = bounded (a_type ∷ a_type ∷ []) (T, (F, tt)) (dcons dF dnil) in let fn = inst_fn inst code.function in let Row : RattleType = shelf.the_row R B gF in
     let self = RefOf (0 ∷ []) tt (plain (λ _. Row)) (λ _. tt) in let hs : Stays En.signature.params En.kept = (stay_dropped self yes, tt) in
-    proved 𝓛 En hs c 𝓜 𝓡 (Goes-dropped 𝓛 2 self yes (λ κs x f. refl), tt) (#self inst) fn (code.unfolded 𝓤 H 𝓜 𝓡 wired (T, tt))
+    proved 𝓛 En hs c 𝓜 𝓡 (Goes-dropped 𝓛 3 self yes (λ κs x f. refl), tt) (#self inst) fn (code.unfolded 𝓤 H 𝓜 𝓡 wired (T, (F, tt)) dF)
     (λ κs. (shr_vals, tt)) (λ κs. (shr_Tells (named 0) κs.0 Row, tt)) (λ κs qs bounds a gh are.
     let at : Val = vptr a.0.ref_ptr.0 a.0.ref_ptr.1 in let r : title.the_row.Denot = record { of = record {}; book = a.0.now.book } in
     let y : (walk_of 𝓛 En hs c).Ghost = ((κs, qs, bounds, a, (at ∷ [], tt)), gh) in let Post : Val → SProp 𝓤 = (walk_of 𝓛 En hs c).post y in

@@ -1,4 +1,4 @@
--- `of` makes vacant places of the room, each with its rule, and a stake in each.
+-- `of` makes vacant places of the room, each with a number, and a stake in each.
 use Rattle.atomic_table.proofs.Names.{◌≡◌, ℕ, ◌^◌, ◌<◌, List, [], ◌∷◌, refl, ap, Val, vstruct, vcons, vnil, inst_fn, SProp, emp, id⊢, ftrue, ‵, raw, ◌⊛◌, some, given, later, ◌$◌, ◌∵◌, !, qed, by, move, keep, split, join, fsplit, fjoin, fpack, pick, learn, use0, use1, use2, await, rewrite, feq_i, stop, fld, of_opd, no_more, and_then, returns, enter, alloc_all, pass_all, free_all, look_at, get, get_in, sets, is, agg, sub, whole, tables, no, RattleType, Valss, owns, types_at, plain, Ptr, block_ptr, ptr_val, nothing, param, Stays, stay_dropped, walk_of, Goes-dropped, fact, fact_i, heard, WT, alive}
 use base.Fml.{froom}
 use base.Logic.{never}
@@ -18,22 +18,22 @@ use Rattle.sdd_token.proofs.Steps.{book_new}
 use Rattle.sdd_places.proofs.Rooms.{Rm, Hd, held, room_had, hold_made, room_told}
 use Rattle.sdd_stakes.specs.Stakes.{Lot, purse}
 use Rattle.sdd_stakes.specs.Memory.{IsHoldOf}
-use Rattle.sdd_stakes.specs.Shelf.{Fits, rules, AreVacant}
-use Rattle.sdd_stakes.proofs.Fields.{strip_of, token_val, ShelfData, shelf_made, StockData, stock_made}
+use Rattle.sdd_stakes.specs.Shelf.{Spans, plots, AreVacant}
+use Rattle.sdd_stakes.proofs.Fields.{strip_of, token_val, PlotData, plot_made, StockData, stock_made}
 use Rattle.sdd_stakes.proofs.Housing.{lays}
 use Rattle.sdd_stakes.specs.contracts.stock.Stock as stock
-use Rattle.sdd_stakes.specs.contracts.shelf.Shelf as shelf
-use Rattle.sdd_stakes.specs.contracts.shelf.Shelf.of.{ended, clauses}
-use Rattle.sdd_stakes.specs.contracts.shelf.Shelf.of.Key.{name as #self}
-use Rattle.sdd_stakes.proofs.shelf.Shelf.of.Statement.{statement}
-use Rattle.sdd_stakes.proofs.shelf.Shelf.of.Code as code
+use Rattle.sdd_stakes.specs.contracts.plot.Plot as plot
+use Rattle.sdd_stakes.specs.contracts.plot.Plot.of.{ended, clauses}
+use Rattle.sdd_stakes.specs.contracts.plot.Plot.of.Key.{name as #self}
+use Rattle.sdd_stakes.proofs.plot.Plot.of.Statement.{statement}
+use Rattle.sdd_stakes.proofs.plot.Plot.of.Code as code
 
 pub of_spec : {M : Type 1} → statement M
 of_spec 𝓤 𝓛 𝓜 𝓡 wired T A L LA g d dd _ _ =
     let H = 𝓛.H in let 𝓣 = tables 𝓤 H 𝓜 𝓡 𝓡.env in let E : El = record { row = T; laws = L } in
     let Z : Al = record { row = A; laws = LA; g = g; d = d; drops = dd } in
     let R : RattleType = param 0 T in let Rr : RattleType = Rm E Z in let En = ended T A g d dd in let c = clauses T A g d dd 𝓛 𝓜.mem 𝓡.returns in
-    let Row : RattleType = shelf.the_row R in let Sr : RattleType = stock.the_row in
+    let Row : RattleType = plot.the_row R in let Sr : RattleType = stock.the_row in
     let inst = args E Z in let fn = inst_fn inst code.function in
     let self = plain (λ _. Rr) in let hs : Stays En.signature.params En.kept = (stay_dropped self no, tt) in
     proved 𝓛 En hs c 𝓜 𝓡 (Goes-dropped 𝓛 2 self no (λ κs x f. refl), tt) (#self inst) fn (code.unfolded 𝓤 H 𝓜 𝓡 wired (T, (A, tt)) d dd)
@@ -52,13 +52,13 @@ of_spec 𝓤 𝓛 𝓜 𝓡 wired T A L LA g d dd _ _ =
     let lease : WT (lease_val q n) = (tt, (record { fits = fk }, (tt, tt))) in
     let all : Val = vstruct (vcons (strip_of q) (vcons token_val (vcons (lease_val q n) vnil))) in
     use0 𝓛 (later (some (λ (γ : ℕ). ‵ (book_owns γ 0)))) (book_new 𝓛) $ await ! tt $ pick ! (λ γ.
-    use2 𝓛 (later (some (λ (ls : List Lot). given (AreVacant γ 0 n ls) (‵ (rules R b γ n 0 o) ⊛ ‵ (purse ls))))) (lays E 𝓛 γ b n 0 o) $ await ! tt $
+    use2 𝓛 (later (some (λ (ls : List Lot). given (AreVacant γ 0 n ls) (‵ (plots R b γ n 0 o) ⊛ ‵ (purse ls))))) (lays E 𝓛 γ b n 0 o) $ await ! tt $
     pick ! (λ ls. learn ! (λ vacant. split ! $
-    -- [the rules; the stakes; the right; _; the tokens]
-    nothing ! $ fpack ! (Fits R q n) (λ _. ftrue) (tt, fits.0) $ fjoin ! $
-    use0 𝓛 (‵ ((ShelfData R).own_val (q, tt) (strip_of q ∷ []))) (shelf_made R 𝓛 q) $ fjoin ! $ move ! (1 ∷ []) $
+    -- [the places; the stakes; the right; _; the tokens]
+    nothing ! $ fpack ! (Spans R q n) (λ _. ftrue) (tt, fits.0) $ fjoin ! $
+    use0 𝓛 (‵ ((PlotData R).own_val (q, tt) (strip_of q ∷ []))) (plot_made R 𝓛 q) $ fjoin ! $ move ! (1 ∷ []) $
     use0 𝓛 (‵ (StockData.own_val (tt, tt) (token_val ∷ []))) (stock_made 𝓛) $ fjoin ! $ move ! (2 ∷ []) $ hold_made E Z ! h.alloc b o n fk $
-    -- [the right; the stock; the shelf; _; the tokens]
+    -- [the right; the stock; the plot; _; the tokens]
     let new : Row.Denot = record { ptr = q; book = γ; size = n } in let rest : Sr.Denot = record { of = record {}; lots = ls } in
     nothing ! $ move ! (1 ∷ 0 ∷ []) $ fjoin ! $ move ! (1 ∷ 0 ∷ []) $ fjoin ! $ move ! (1 ∷ 0 ∷ []) $ fjoin ! $
     feq_i ! (List Val) (all ∷ []) (all ∷ []) refl $ fjoin ! $
