@@ -14,6 +14,10 @@ Home = holding.Home
 abbrev pub nowhere : token.Home
 nowhere = record { name = 0; size = 0; tables = [] }
 
+-- what a value may hold: it is of these slots
+abbrev pub home_of_slots : TableId → ℕ → ℕ → Home
+home_of_slots table book size = record { slots = home_of_table table book size; cells = nowhere; readers = nowhere }
+
 -- the slots of its domain, and no cells. Each reader is numbered in a home of its own, and there may be so many
 abbrev pub home_at : TableId → ℕ → Limits → Home
 home_at table book limits = record {

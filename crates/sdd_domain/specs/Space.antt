@@ -27,6 +27,21 @@ Sees shown holds m = IsShown shown holds (home_in m) m.shown
 abbrev pub is_lone : Member → Bool
 is_lone m = m.limits.participants == 1
 
+-- where it sits
+abbrev pub seat_in : Member → Seat
+seat_in m = record {
+  place = m.place;
+  places = m.limits.participants;
+  lives = [];
+  live = true;
+  loan = 0;
+  home = home_in m;
+  reader = m.reader;
+  nesting = m.limits.nesting;
+  exact = is_lone m;
+  lone = is_lone m;
+}
+
 module _ {T : Type 0} where
   -- what a slot shows: to a lone participant the value that is in it, and else what one of its guards sees there
   abbrev pub ShowsBy : Bool → (T → Gv) → (T → List Holding) → Partaker T → ℕ → T → Type 0
@@ -37,18 +52,7 @@ module _ {T : Type 0} where
   Shows shown holds p = ShowsBy (is_lone p.member) shown holds p
 
   abbrev pub seat_of : Partaker T → Seat
-  seat_of p = record {
-    place = p.member.place;
-    places = p.member.limits.participants;
-    lives = [];
-    live = true;
-    loan = 0;
-    home = home_in p.member;
-    reader = p.member.reader;
-    nesting = p.member.limits.nesting;
-    exact = is_lone p.member;
-    lone = is_lone p.member;
-  }
+  seat_of p = seat_in p.member
 
   abbrev pub known_of : Partaker T → Known
   known_of p = record { told = p.member.known; since = p.member.since }

@@ -7,7 +7,7 @@ use Rattle.sdd_rule.specs.Codes.{free_word, owned_word, waiting_word, waiting, f
 use Rattle.sdd_rule.specs.Sums.{total}
 use Rattle.sdd_rule.specs.Slots.{waits_in}
 use Rattle.sdd_homes.specs.Fillings.{newest}
-use Rattle.sdd_domain.specs.Waits.{waiting_of}
+use Rattle.sdd_domain.specs.Waits.{what_of, waiting_of, ripe, unripe}
 use Rattle.sdd_domain.specs.Member.{Member, IsLone, word_of}
 
 -- which values are in slots, with their codes
@@ -34,7 +34,8 @@ pub record AreTied {T : Type 0} (m : Member) (entries : Entries T) : Type 0 wher
   pub waits : (slot : ℕ) → slot < m.limits.slots → total (waits_in slot) m.slots.waits ≡ waiting (word_of m slot)
   pub inside : (slot : ℕ) → 0 < total (waits_in slot) m.slots.waits → slot < m.limits.slots
   pub kept : (slot : ℕ) → slot < m.limits.slots → full (word_of m slot) ≡ 1 → Agrees (newest slot m.filled) (slice_index_or entries slot None)
-  pub bags : m.own.bags.waiting ≡ map waiting_of m.slots.waits
+  pub bags : m.own.bags.waiting ≡ map waiting_of (unripe m.slots.waits)
+  pub due : m.due ≡ map what_of (ripe m.slots.waits)
   pub now : 0 < m.own.guards → m.known ≡ m.own.found
 
 abbrev pub IsTied : {T : Type 0} → Member → Entries T → Type 0

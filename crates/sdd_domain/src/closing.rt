@@ -7,7 +7,7 @@ ghost use Rattle.sdd_rule.specs.Words.{all_words};
 ghost use Rattle.sdd_rule.specs.Slots.{slot_at};
 ghost use Rattle.sdd_rule.specs.Parts.{no_counts};
 ghost use Rattle.sdd_base.specs.Holding.{AreOf};
-ghost use Rattle.sdd_domain.specs.Shelf.{home_of_shelf};
+ghost use Rattle.sdd_domain.specs.Homes.{home_of_slots};
 ghost use Rattle.sdd_homes.specs.Homes.{AreHome};
 ghost use Rattle.sdd_homes.specs.Counts.{full_slots};
 ghost use Rattle.sdd_board.specs.Board.{id_of, sizes_of, places_of};
@@ -15,6 +15,7 @@ ghost use Rattle.sdd_board.specs.Sizes.{AreSmall};
 ghost use Rattle.sdd_board.specs.Token.{view};
 ghost use Rattle.sdd_domain.specs.Receipt.{Receipt as Ended, HasTaken};
 
+use crate::at_home::AtHome;
 use crate::receipt::Receipt;
 use atomic_table::Closed;
 use sdd_base::inner::{
@@ -135,7 +136,7 @@ fn let_be(right: Right) {
 
 /// What a value holds is let go of where nothing is out any more: no owner is there then, nor a cell.
 struct Discard<'s, T: Item<T>> {
-    shelf: &'s Shelf<T>,
+    shelf: &'s Shelf<T, AtHome>,
 }
 
 impl<T: Item<T>> Drop for Discard<'_, T> {
@@ -145,12 +146,13 @@ impl<T: Item<T>> Drop for Discard<'_, T> {
 }
 
 impl<T: Item<T>> Giver<T> for Discard<'_, T> {
-    ghost use Rattle.std.specs.Prelude.{tt};
-    ghost use Rattle.sdd_domain.specs.Closing.{nothing, nobody, seat_at};
+    ghost use Rattle.sdd_store.specs.Time.{nobody};
+    ghost use Rattle.sdd_domain.specs.Homes.{home_of_slots};
+    ghost use Rattle.sdd_domain.specs.Closing.{nothing, seat_of};
 
     ghost world = { λ d. nothing };
 
-    ghost seat = { λ d. seat_at d.shelf.now };
+    ghost seat = { λ d. seat_of (home_of_slots d.shelf.now.table d.shelf.now.book d.shelf.now.size) };
 
     ghost own = { λ _. nobody };
 
@@ -168,22 +170,26 @@ impl<T: Item<T>> Giver<T> for Discard<'_, T> {
         let_be(right_of_shared(owner));
     }
 
+    /// A domain has no cells yet.
     fn atomic_owned(&mut self, cell: AtomicOwned<T>) {
-        let_be(right_of_cell(cell));
+        let _right = right_of_cell(cell);
+        unreachable!()
     }
 
     fn atomic_shared(&mut self, cell: AtomicShared<T>) {
-        let_be(right_of_shared_cell(cell));
+        let _right = right_of_shared_cell(cell);
+        unreachable!()
     }
 
     fn atomic_raw(&mut self, cell: AtomicRaw<T>) {
-        let _ = right_of_raw_cell(cell);
+        let _right = right_of_raw_cell(cell);
+        unreachable!()
     }
 }
 
 /// A value of a domain that is closed gives up what it holds.
-fn discard<T: Item<T>>(value: T, shelf: &Shelf<T>)
-    requires { AreOf (home_of_shelf shelf.now) (T.holds value) }
+fn spend<T: Item<T>>(value: T, shelf: &Shelf<T, AtHome>)
+    requires { AreOf (home_of_slots shelf.now.table shelf.now.book shelf.now.size) (T.holds value) }
 {
     let mut giver = Discard { shelf };
     value.give_up(&mut giver);
@@ -192,7 +198,7 @@ fn discard<T: Item<T>>(value: T, shelf: &Shelf<T>)
 /// Moves out and drops the value of each slot that has one, and gathers all stakes. How many values there were.
 pub fn take_all<T: Item<T>>(
     closed: &mut Closed<Stake, Global>,
-    shelf: &Shelf<T>,
+    shelf: &Shelf<T, AtHome>,
     title: &Title,
     sizes: &Sizes,
 ) -> (Stock, usize)
@@ -215,7 +221,7 @@ pub fn take_all<T: Item<T>>(
         slot -= 1;
         let mut whole = gather_home(closed, title, sizes, slot, &mut left);
         if is_full(closed.word(first + slot as usize)) {
-            discard(shelf.take_by(slot as usize, &mut whole), shelf);
+            spend(shelf.take_by(slot as usize, &mut whole), shelf);
             taken += 1;
         }
         whole.redeem(&mut stock);

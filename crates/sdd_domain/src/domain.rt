@@ -1,12 +1,13 @@
 ghost use Rattle.std.specs.Prelude.{◌≡◌, ℕ, ◌+◌, ◌^◌, ◌≤◌, ◌⊎◌, [], All, IfOk, MatchResult, length, vec_capacity};
 ghost use Rattle.sdd_base.specs.Limits.{AreInRange};
-ghost use Rattle.sdd_stakes.specs.Memory.{IsHoldOf};
+ghost use Rattle.sdd_stakes.specs.Memory.{IsHoldOf, IsHoldOfShelf};
 ghost use Rattle.sdd_stakes.specs.Shelf.{AreVacant};
 ghost use Rattle.sdd_homes.specs.Homes.{homes_for};
 ghost use Rattle.sdd_board.specs.Board.{sizes_of};
 ghost use Rattle.sdd_domain.specs.Shelf.{sizes_in, IsShelfOf};
 ghost use Rattle.sdd_domain.specs.Receipt.{Receipt as Ended, AddsUp, capped, sum_of, with_reclaimed};
 
+use crate::at_home::AtHome;
 use crate::closing::{settled, take_all, take_all_counts};
 use crate::receipt::{Receipt, count_reclaimed};
 use sdd_base::{Item, Limits};
@@ -15,7 +16,7 @@ use sdd_core::Refused;
 use sdd_homes::{gather_all, lay_all};
 use sdd_places::Hold;
 use sdd_rule::Sizes;
-use sdd_stakes::{Shelf, Stake, Stock};
+use sdd_stakes::{Plot, Shelf, Stake, Stock};
 use sdd_store::Tally;
 use std::alloc::{AllocError, Global};
 use std_alloc::room::may_hold;
@@ -25,12 +26,12 @@ use std_alloc::room::may_hold;
 /// Each has a [`Local`](crate::Local) of its own. A domain must be spent by `close`.
 pub struct Domain<T: Item<T>> {
     pub(crate) board: Board,
-    pub(crate) shelf: Shelf<T>,
+    pub(crate) shelf: Shelf<T, AtHome>,
     hold: Hold<T, Global>,
     pub(crate) limits: Limits,
     pub(crate) alloc: Global,
     ghost limited: { AreInRange limits × (sizes_of board ≡ sizes_in limits) },
-    ghost shelved: { IsShelfOf board shelf × IsHoldOf shelf alloc hold },
+    ghost shelved: { IsShelfOf board shelf × IsHoldOfShelf shelf alloc hold },
 }
 
 fn sizes_for(limits: &Limits) -> Sizes
@@ -45,10 +46,10 @@ fn sizes_for(limits: &Limits) -> Sizes
 }
 
 /// Room for so many values, none of which is there.
-fn new_shelf<T>(
+fn new_plot<T>(
     alloc: Global,
     slots: usize,
-) -> Result<(Shelf<T>, Stock, Hold<T, Global>), AllocError>
+) -> Result<(Plot<T>, Stock, Hold<T, Global>), AllocError>
     ensures size { IfOk result (λ made. made.0.size ≡ slots) }
     ensures stock { IfOk result (λ made. AreVacant made.0.book 0 slots made.1.lots) }
     ensures hold { IfOk result (λ made. IsHoldOf made.0 alloc made.2) }
@@ -56,7 +57,7 @@ fn new_shelf<T>(
     if !may_hold::<T>(slots) {
         return Err(AllocError);
     }
-    Shelf::new(&alloc, slots)
+    Plot::new(&alloc, slots)
 }
 
 /// Room for the stakes of so many places in so many slots. They have no bytes.
@@ -111,25 +112,28 @@ impl<T: Item<T>> Domain<T> {
         let Ok(mut laid) = new_homes(alloc, participants as usize, slots as usize) else {
             return Err(Refused::NoMemory);
         };
-        let Ok((shelf, stock, hold)) = new_shelf(alloc, slots as usize) else {
+        let Ok((plot, stock, hold)) = new_plot(alloc, slots as usize) else {
             return Err(Refused::NoMemory);
         };
         let plan = Plan {
             sizes: sizes_for(&limits),
-            title: shelf.title(),
+            title: plot.title(),
         };
         lay_all(&mut laid, stock, &plan.title, participants, slots);
         match Board::new(alloc, &plan, laid) {
-            Ok(board) => Ok(Domain {
-                board,
-                shelf,
-                hold,
-                limits,
-                alloc,
-            }),
+            Ok(board) => {
+                let shelf = plot.found(&board.table.shared);
+                Ok(Domain {
+                    board,
+                    shelf,
+                    hold,
+                    limits,
+                    alloc,
+                })
+            }
             Err(laid) => {
                 let stock = gather_all(laid, &plan.title, participants, slots);
-                shelf.close(&alloc, stock, hold);
+                plot.close(&alloc, stock, hold);
                 Err(Refused::NoMemory)
             }
         }

@@ -1,6 +1,7 @@
 //! A domain: what participants in several threads share, values and guards over them.
 #![tactic(auto)]
 
+mod at_home;
 mod changes;
 mod claims;
 mod closing;
@@ -10,6 +11,7 @@ mod known;
 pub mod local;
 mod membership;
 pub mod receipt;
+mod reclaiming;
 mod scan;
 mod shut;
 mod space;

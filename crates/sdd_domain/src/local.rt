@@ -14,7 +14,6 @@ use sdd_store::Tally;
 use std::marker::Model;
 
 mod laws;
-mod reclaiming;
 
 /// A participant of a domain.
 ///

@@ -10,6 +10,7 @@ ghost use Rattle.sdd_domain.specs.Domain.{home_of, book_of, limits_of};
 ghost use Rattle.sdd_domain.specs.Homes.{home_at, home_in};
 ghost use Rattle.sdd_domain.specs.Member.{CanNest, IsGuarded, IsNew, IsEntered, Reclaims, Closes, IsTold};
 ghost use Rattle.sdd_base.specs.Guard.{reader_of};
+ghost use Rattle.sdd_base.specs.Holding.{AreOf};
 ghost use Rattle.sdd_places.specs.declared.tenures.Stage.TheVariants.{Closed as is_closed};
 
 use crate::changes::arrive;
@@ -279,8 +280,9 @@ impl<'d, T: Item<T>> Membership<'d, T> {
     /// Moves the value out of the next item that is due, and gives back its slot.
     #[inline]
     pub(crate) fn reclaim_next(&mut self) -> Option<T>
-        ensures { MatchOption result ((self.old.due ≡ []) × (self.new ≡ self.old))
+        ensures reclaimed { MatchOption result ((self.old.due ≡ []) × (self.new ≡ self.old))
             (λ value. (slot : ℕ) × Reclaims slot (showing T.row value) self.old self.new) }
+        ensures home { IfSome result (λ value. AreOf (home_in self.old) (T.holds value)) }
     {
         let Some(What::Item(slot)) = self.due.next() else {
             return None;

@@ -3,8 +3,9 @@ ghost use Rattle.sdd_stakes.specs.Shelf.{showing};
 
 use crate::domain::Domain;
 use crate::local::Local;
+use crate::reclaiming::change;
 use sdd_base::inner::value_of_ptr;
-use sdd_base::{Caller, Guard, Guards, Item, Items, Look, LookThrough, Plain, Ptr, Shows};
+use sdd_base::{Caller, Guard, Guards, Item, Items, Look, LookThrough, Ptr, Shows};
 use sdd_core::Refused;
 use sdd_token::{Kind, Right};
 
@@ -121,7 +122,14 @@ impl<T: Item<T>> Caller<T> for Local<'_, T> {
 impl<T: Item<T>> Guards<T> for Local<'_, T> {
     #[inline]
     fn open_guard(&mut self) -> Result<Guard, Refused> {
-        self.membership.open_guard()
+        if self.membership.is_guarded() {
+            return self.membership.nest();
+        }
+        let (guard, is_change) = self.membership.enter();
+        if is_change {
+            change(&mut self.membership, &self.ledger);
+        }
+        Ok(guard)
     }
 
     #[inline]
@@ -150,7 +158,6 @@ impl<T: Item<T>> Guards<T> for Local<'_, T> {
     }
 }
 
-/// Values that hold owners or cells aren't taken yet: a participant drops what it reclaims.
 impl<T: Item<T>> Items<T> for Local<'_, T> {
     ghost use Rattle.sdd_store.specs.Table.{IsFull};
     ghost use Rattle.sdd_domain.specs.Local.{world_of};

@@ -10,6 +10,8 @@ ghost use Rattle.sdd_homes.specs.Homes.{Carries, Moves};
 ghost use Rattle.sdd_homes.specs.HomeSteps.{HasAll, resting};
 ghost use Rattle.sdd_homes.specs.Records.{IsIn};
 ghost use Rattle.sdd_board.specs.Board.{id_of, book_of, places_of, slots_of};
+ghost use Rattle.sdd_base.specs.Holding.{AreOf};
+ghost use Rattle.sdd_domain.specs.Homes.{home_of_slots};
 ghost use Rattle.sdd_domain.specs.Shelf.{IsShelfOf};
 ghost use Rattle.sdd_domain.specs.Waits.{GivesOneBack};
 ghost use Rattle.sdd_token.specs.Owner.{witness_of_owner};
@@ -18,6 +20,8 @@ ghost use Rattle.sdd_board.specs.Grips.{IsGripOf, IsUnitOf};
 ghost use Rattle.sdd_domain.specs.Values.{with_filled, LetsWait, WasFilled};
 ghost use Rattle.sdd_board.specs.Token.{view, epoch, slots, Knows, Taught, Moved};
 
+use crate::at_home::AtHome;
+use sdd_base::Item;
 use sdd_board::grips::{cut_grip, join_grip};
 use sdd_board::steps::slots::{cut, give_back, house, retire, take_last, take_out};
 use sdd_board::{Board, Token};
@@ -28,9 +32,9 @@ use sdd_witness::Witness;
 /// Moves a value into the place of a slot that was claimed, whose owner is a token of its own then, which shows the value, with a unit of the place's
 /// number. The owner may be one of several.
 #[inline]
-pub fn put_value<T>(
+pub fn put_value<T: Item<T>>(
     board: &Board,
-    shelf: &Shelf<T>,
+    shelf: &Shelf<T, AtHome>,
     token: &mut Token,
     slot: u32,
     shared: bool,
@@ -38,6 +42,7 @@ pub fn put_value<T>(
 ) -> (Witness, Grip)
     requires home { token.old.table_id ≡ id_of board.now }
     requires shelf { IsShelfOf board.now shelf.now }
+    requires fits { AreOf (home_of_slots (id_of board.now) (book_of board.now) (slots_of board.now)) (T.holds value) }
     requires knows { Knows board.now token.old }
     requires inside { slot < slots_of board.now }
     requires place { HasPlace (epoch token.old) }
@@ -76,7 +81,12 @@ pub fn let_wait(board: &Board, token: &mut Token, slot: u32, grip: Grip)
 }
 
 /// Moves the value of an item out that has seen three changes, and gives back its slot. A lone participant moved that value in.
-pub fn take_value<T>(board: &Board, shelf: &Shelf<T>, token: &mut Token, slot: u32) -> T
+pub fn take_value<T: Item<T>>(
+    board: &Board,
+    shelf: &Shelf<T, AtHome>,
+    token: &mut Token,
+    slot: u32,
+) -> T
     requires home { token.old.table_id ≡ id_of board.now }
     requires shelf { IsShelfOf board.now shelf.now }
     requires knows { Knows board.now token.old }
@@ -85,6 +95,7 @@ pub fn take_value<T>(board: &Board, shelf: &Shelf<T>, token: &mut Token, slot: u
     requires rests { (view token.old).stakes.moves ≡ None }
     requires due { IsDue (view token.old) slot }
     ensures given_back { Taught (GivesOneBack slot) token.old (free_word 0) token.new }
+    ensures fits { AreOf (home_of_slots (id_of board.now) (book_of board.now) (slots_of board.now)) (T.holds result) }
     ensures lone { IsLone (epoch token.old) → WasFilled slot (showing T.row result) (view token.old) }
 {
     take_out(board, token, slot);

@@ -4,6 +4,8 @@ ghost use base.Stored.{Gv};
 ghost use Rattle.sdd_token.specs.Kind.{IsOwner, is_shared};
 ghost use Rattle.sdd_token.specs.Right.{number_of, home_of, kind_of};
 ghost use Rattle.sdd_base.specs.Guard.{reader_of};
+ghost use Rattle.sdd_base.specs.Holding.{AreOf};
+ghost use Rattle.sdd_domain.specs.Homes.{home_in};
 ghost use Rattle.sdd_stakes.specs.Shelf.{showing};
 ghost use Rattle.sdd_domain.specs.Member.{IsLone, IsUsedUp, KnowsOwner, MakesAt, LooksAt, RetiresAt};
 ghost use Rattle.sdd_domain.specs.Items.{slots_home, HasValue, IsRightTo};
@@ -43,7 +45,8 @@ impl<'d, T: Item<T>> Membership<'d, T> {
         kind: Kind,
         ledger: &mut Ledger<T>,
     ) -> Result<Right, (T, Refused)>
-        requires { IsOwner kind }
+        requires owner { IsOwner kind }
+        requires home { AreOf (home_in self.old) (T.holds value) }
         ensures made { MatchResult result
             (λ right. MakesAt (number_of right) (is_shared kind) (showing T.row value) self.old self.new × IsRightTo self.old kind (showing T.row value) right)
             (λ e. (e.0 ≡ value) × (self.new ≡ self.old) × ((e.1 ≡ Refused.NoSlot) ⊎ (e.1 ≡ Refused.Contended))
@@ -84,6 +87,7 @@ impl<'d, T: Item<T>> Membership<'d, T> {
     ) -> Result<Right, (F, Refused)>
         requires callable { F.pre make }
         requires owner { IsOwner kind }
+        requires home { (value : T) → F.post make value → AreOf (home_in self.old) (T.holds value) }
         ensures { MatchResult result
             (λ right. (value : T) × F.post make value × MakesAt (number_of right) (is_shared kind) (showing T.row value) self.old self.new
             × IsRightTo self.old kind (showing T.row value) right
@@ -122,6 +126,7 @@ impl<'d, T: Item<T>> Membership<'d, T> {
         ensures looks { LooksAt (number_of right.now) (is_shared (kind_of right.now)) (showing T.row result.now) self.old self.new }
         ensures once { IsOnce self.new.shown }
         ensures value { HasValue (showing T.row result.now) right.now }
+        ensures home { AreOf (home_in self.old) (T.holds result.now) }
         ensures recalled { IsLone self.old → KnowsOwner self.old (number_of right.now) (is_shared (kind_of right.now)) (showing T.row result.now) }
     {
         let tenure = tenure_of(guard);
