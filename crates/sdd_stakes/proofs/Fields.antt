@@ -1,7 +1,8 @@
 -- The data fields of a `Stake`, a `Plot` and a `Shelf`. Assumes `Logic`.
-use Rattle.std.proofs.Common.{◌≡◌, List, [], ◌∷◌, ◌++◌, refl, ap, ◌∙◌}
+use Rattle.std.proofs.Common.{◌≡◌, T, List, [], ◌∷◌, ◌++◌, refl, ap, ◌∙◌}
 use seplogic.Ra.Ura.{Ura}
-use mir.Val.{Val, vstruct, vcons, vnil, of_list}
+use mir.Syntax.{ty_ptr, ty_struct, tcons, tnil}
+use mir.Val.{Val, vstruct, vcons, vnil, of_list, has_ty, WT}
 use base.Logic.{ent, emp}
 use types.Logic.{Logic, sem}
 use denote.RattleType.{RattleType}
@@ -9,13 +10,14 @@ use denote.Laws.{Is}
 use denote.Shadow.{makes_shadow}
 use denote.Struct.Struct.{Struct}
 use denote.Struct.Owning.{shape}
-pub use Rattle.atomic_table.proofs.Fields.{token_val, strip_of}
+pub use Rattle.atomic_table.proofs.Fields.{token_val, strip_of, strip_good}
 use denote.Opens.{Opens}
 use denote.Copied.{Struct-Copied}
-use denote.RawPtr.{Ptr, ptr_val}
+use denote.RawPtr.{Ptr, block_ptr, null_ptr, ptr_val, InBlock}
 use denote.Struct.Laws.{RawPtr-copy, field_copy}
 use Rattle.core.specs.contracts.marker.PhantomData as marker
 use Rattle.sdd_stakes.specs.declared.shelf.Fits.{Ghosts}
+use Rattle.sdd_stakes.specs.contracts.clearing.Clearing as clearing
 use Rattle.sdd_stakes.specs.contracts.plot.Plot as plot
 use Rattle.sdd_stakes.specs.contracts.shelf.Shelf as shelf
 use Rattle.sdd_stakes.specs.contracts.stake.Stake as stake
@@ -42,8 +44,21 @@ module _ (R : RattleType) where
   pub plot_made : {M : Type 1} {𝓤 : Ura M} (𝓛 : Logic 𝓤) (p : Ptr) → ent 𝓤 (emp 𝓤) (sem 𝓛 (PlotData.own_val (p, tt) (strip_of p ∷ [])))
   plot_made 𝓛 p = makes_shadow 𝓛 (PlotData.own_val (p, tt) (strip_of p ∷ [])) (λ vss. (tt, (tt, tt))) ((ptr_val p ∷ [], tt), (refl, (refl, tt)))
 
+  abbrev pub ClearingData : RattleType
+  ClearingData = Struct (shape (clearing.the_type R))
+
+  pub clearing_told : (p : Ptr) (vs : List Val) → Is ClearingData (p, tt) vs → vs ≡ strip_of p ∷ []
+  clearing_told p vs is = is.1.0 ∙ ap (λ (ws : List Val). vstruct (of_list (ws ++ [])) ∷ []) is.1.1.0
+
+  pub clearing_made : {M : Type 1} {𝓤 : Ura M} (𝓛 : Logic 𝓤) (p : Ptr) → ent 𝓤 (emp 𝓤) (sem 𝓛 (ClearingData.own_val (p, tt) (strip_of p ∷ [])))
+  clearing_made 𝓛 p = makes_shadow 𝓛 (ClearingData.own_val (p, tt) (strip_of p ∷ [])) (λ vss. (tt, (tt, tt))) ((ptr_val p ∷ [], tt), (refl, (refl, tt)))
+
 abbrev pub shelf_of : Ptr → Val
 shelf_of p = vstruct (vcons (ptr_val p) (vcons (vstruct vnil) vnil))
+
+pub shelf_good : (p : Ptr) → InBlock p → T (has_ty (ty_struct [] (tcons ty_ptr (tcons (ty_struct [] tnil) tnil))) (shelf_of p)) × WT (shelf_of p)
+shelf_good (block_ptr b o) i = (tt, (tt, (tt, tt)))
+shelf_good null_ptr i = absurd i
 
 module _ (R Y : RattleType) (g : Ghosts Y.Denot R.Denot) where
   abbrev pub ShelfData : RattleType

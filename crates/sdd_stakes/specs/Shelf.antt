@@ -8,6 +8,7 @@ use base.Stored.{Gv, gnil, gnum, gcons}
 use base.Fml.{Lft, Fml, ftrue, fsep, fex, flent, finv}
 use denote.RattleType.{RattleType}
 use mir.Raw.{raw}
+use mir.Syntax.{ty_array}
 use denote.Memory.{lone, mem}
 use denote.RawPtr.{Ptr, block_ptr, block_of, count_of, InBlock, lies_at, room_for}
 use denote.Sharing.{said}
@@ -75,6 +76,10 @@ Spans R p n = InBlock p × (n * (mem R).size < 2 ^ 63)
 
 abbrev pub plot_owns : (R : RattleType) → Ptr → ℕ → ℕ → Fml
 plot_owns R p γ n = fsep (fact (Spans R p n)) (plots R (block_of p) γ n 0 (count_of p))
+
+-- their memory alone
+abbrev pub clearing_owns : (R : RattleType) → Ptr → ℕ → Fml
+clearing_owns R p n = fsep (fact (Spans R p n)) (room_for (raw (ty_array (lone R.mir) n)) p)
 
 abbrev pub shelf_owns : (R : RattleType) → (R.Denot → Type 0) → Ptr → ℕ → ℕ → Fml
 shelf_owns R FitsIn p γ n = fsep (fact (Spans R p n)) (rules R (block_of p) γ FitsIn n 0 (count_of p))

@@ -2,6 +2,7 @@
 //! grip, and looks at the value by that alone.
 #![tactic(auto)]
 
+mod clearing;
 pub mod example;
 mod ledger;
 mod plot;

@@ -3,6 +3,7 @@ ghost use Rattle.std.specs.Prelude.{◌≡◌, ℕ, IfOk};
 ghost use Rattle.sdd_stakes.specs.Shelf.{plot_owns, AreVacant};
 ghost use Rattle.std_alloc.specs.Vec.Ownership.{FitsInBlock};
 
+use crate::clearing::Clearing;
 use crate::shelf::{Fits, Shelf};
 use crate::stake::Stake;
 use crate::stock::Stock;
@@ -11,7 +12,6 @@ use atomic_table::{Shared, TableRule};
 use sdd_places::{Hold, Room};
 use std::alloc::{AllocError, Allocator};
 use std::marker::{Model, PhantomData};
-use std::mem::{align_of, size_of};
 
 /// Room for values, side by side, each with a number of one book. All places are vacant, and nobody else knows them.
 pub struct Plot<T> {
@@ -84,11 +84,16 @@ impl<T> Plot<T> {
         requires hold { IsHoldOf self alloc.now hold }
         requires stock { AreVacant self.book 0 self.size stock.lots }
     {
-        let Stock { of: _ } = stock;
-        let Plot { ptr: _ } = self;
-        let Hold { ptr, len, by: _ } = hold;
-        unsafe {
-            alloc.deallocate(ptr as *mut u8, len * size_of::<T>(), align_of::<T>());
-        }
+        stock.discard();
+        self.clear().free(alloc, hold);
+    }
+
+    /// The memory of the places. Nobody else knows them.
+    fn clear(self) -> Clearing<T>
+        ensures place { result.ptr ≡ self.ptr }
+        ensures size { result.size ≡ self.size }
+    {
+        let Plot { ptr } = self;
+        Clearing { ptr }
     }
 }

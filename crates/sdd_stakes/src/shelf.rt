@@ -4,6 +4,7 @@ ghost use Rattle.atomic_table.specs.Seated.{TableId, table_id_coded};
 ghost use Rattle.sdd_stakes.specs.Seats.{lots, OnlyLends};
 ghost use Rattle.sdd_stakes.specs.Shelf.{shelf_owns, shelf_shares, CanShow, Shows, IsFull, IsVacant, HasWhole, AreWhole, IsWhole, lot, most, showing, vacant, all_turned, AreVacant};
 
+use crate::clearing::Clearing;
 use crate::stake::Stake;
 use crate::stock::Stock;
 use crate::title::Title;
@@ -12,7 +13,6 @@ use sdd_places::{Hold, Tenure};
 use sdd_token::Grip;
 use std::alloc::Allocator;
 use std::marker::{Model, PhantomData};
-use std::mem::{align_of, size_of};
 
 /// Which values may lie in a shelf.
 pub trait Fits<T> {
@@ -50,12 +50,18 @@ impl<T, F: Fits<T>> Shelf<T, F> {
         requires hold { IsHoldOfShelf self alloc.now hold }
         requires stock { AreVacant self.book 0 self.size stock.lots }
     {
+        self.clear(stock).free(alloc, hold);
+    }
+
+    /// The memory of the places, by the stakes in all of them. They are vacant.
+    fn clear(self, stock: Stock) -> Clearing<T>
+        requires { AreVacant self.book 0 self.size stock.lots }
+        ensures place { result.ptr ≡ self.ptr }
+        ensures size { result.size ≡ self.size }
+    {
         let Stock { of: _ } = stock;
-        let Shelf { ptr: _, of: _ } = self;
-        let Hold { ptr, len, by: _ } = hold;
-        unsafe {
-            alloc.deallocate(ptr as *mut u8, len * size_of::<T>(), align_of::<T>());
-        }
+        let Shelf { ptr, of: _ } = self;
+        Clearing { ptr }
     }
 
     /// Lets go of the places. Their memory, and the values in it, stay where they are.
