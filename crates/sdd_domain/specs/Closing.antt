@@ -4,7 +4,9 @@ use Rattle.sdd_store.specs.Tally.{no_items}
 use Rattle.sdd_base.specs.Holding.{Home}
 use Rattle.sdd_base.specs.Seat.{Seat}
 use Rattle.sdd_base.specs.World.{World}
-use Rattle.sdd_domain.specs.Homes.{nowhere}
+use Rattle.sdd_base.specs.Known.{Known}
+use Rattle.sdd_stakes.specs.declared.shelf.Shelf.{Shelf}
+use Rattle.sdd_domain.specs.Homes.{nowhere, home_of_slots}
 
 -- a world without anything
 abbrev pub nothing : {T : Type 0} → World T
@@ -18,6 +20,9 @@ nothing = record {
   jobs = [];
   tally = no_items;
 }
+
+abbrev pub nothing_known : Known
+nothing_known = record { told = 0; since = 0 }
 
 -- a seat of which no call says exactly what it does
 abbrev pub seat_of : Home → Seat
@@ -33,3 +38,6 @@ seat_of home = record {
   exact = false;
   lone = false;
 }
+
+abbrev pub seat_at : {T F : Type 0} → Shelf T F → Seat
+seat_at shelf = seat_of (home_of_slots shelf.table shelf.book shelf.size)

@@ -14,7 +14,7 @@ pub mod Values
 pub mod Posed
 pub mod Tied
 pub mod Local
-pub mod Reclaiming
 pub mod Sound
 pub mod Space
+pub mod Reclaiming
 pub mod Laws

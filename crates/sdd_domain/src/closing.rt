@@ -7,6 +7,14 @@ ghost use Rattle.sdd_rule.specs.Words.{all_words};
 ghost use Rattle.sdd_rule.specs.Slots.{slot_at};
 ghost use Rattle.sdd_rule.specs.Parts.{no_counts};
 ghost use Rattle.sdd_base.specs.Holding.{AreOf};
+ghost use Rattle.sdd_base.specs.Known.{KnowsOn};
+ghost use Rattle.sdd_base.specs.Own.{GrowsOn};
+ghost use Rattle.sdd_base.specs.Owned as owned;
+ghost use Rattle.sdd_base.specs.RawCell as raw_cell;
+ghost use Rattle.sdd_base.specs.Seat.{IsSeated};
+ghost use Rattle.sdd_base.specs.Shared as shared;
+ghost use Rattle.sdd_store.specs.Time.{nobody};
+ghost use Rattle.sdd_domain.specs.Closing.{nothing, nothing_known, seat_at};
 ghost use Rattle.sdd_domain.specs.Homes.{home_of_slots};
 ghost use Rattle.sdd_homes.specs.Homes.{AreHome};
 ghost use Rattle.sdd_homes.specs.Counts.{full_slots};
@@ -146,42 +154,68 @@ impl<T: Item<T>> Drop for Discard<'_, T> {
 }
 
 impl<T: Item<T>> Giver<T> for Discard<'_, T> {
-    ghost use Rattle.sdd_store.specs.Time.{nobody};
-    ghost use Rattle.sdd_domain.specs.Homes.{home_of_slots};
-    ghost use Rattle.sdd_domain.specs.Closing.{nothing, seat_of};
-
     ghost world = { λ d. nothing };
 
-    ghost seat = { λ d. seat_of (home_of_slots d.shelf.now.table d.shelf.now.book d.shelf.now.size) };
+    ghost seat = { λ d. seat_at d.shelf.now };
 
     ghost own = { λ _. nobody };
 
-    ghost known = { λ _. record { told = 0; since = 0 } };
+    ghost known = { λ _. nothing_known };
 
     ghost Kept = { ℕ };
 
     ghost kept = { λ _. 0 };
 
-    fn owned(&mut self, owner: Owned<T>) {
+    fn owned(&mut self, owner: Owned<T>)
+        requires seated { IsSeated (seat_at self.old.shelf.now) }
+        requires home { owned.slots_home owner ≡ (seat_at self.old.shelf.now).home.slots }
+        ensures seat { seat_at self.new.shelf.now ≡ seat_at self.old.shelf.now }
+        ensures own { GrowsOn nobody nobody }
+        ensures known { KnowsOn nothing_known nothing_known }
+    {
         let_be(right_of_owner(owner));
     }
 
-    fn shared(&mut self, owner: Shared<T>) {
+    fn shared(&mut self, owner: Shared<T>)
+        requires seated { IsSeated (seat_at self.old.shelf.now) }
+        requires home { shared.slots_home owner ≡ (seat_at self.old.shelf.now).home.slots }
+        ensures seat { seat_at self.new.shelf.now ≡ seat_at self.old.shelf.now }
+        ensures own { GrowsOn nobody nobody }
+        ensures known { KnowsOn nothing_known nothing_known }
+    {
         let_be(right_of_shared(owner));
     }
 
     /// A domain has no cells yet.
-    fn atomic_owned(&mut self, cell: AtomicOwned<T>) {
+    fn atomic_owned(&mut self, cell: AtomicOwned<T>)
+        requires seated { IsSeated (seat_at self.old.shelf.now) }
+        requires home { owned.cells_home cell ≡ (seat_at self.old.shelf.now).home.cells }
+        ensures seat { seat_at self.new.shelf.now ≡ seat_at self.old.shelf.now }
+        ensures own { GrowsOn nobody nobody }
+        ensures known { KnowsOn nothing_known nothing_known }
+    {
         let _right = right_of_cell(cell);
         unreachable!()
     }
 
-    fn atomic_shared(&mut self, cell: AtomicShared<T>) {
+    fn atomic_shared(&mut self, cell: AtomicShared<T>)
+        requires seated { IsSeated (seat_at self.old.shelf.now) }
+        requires home { shared.cells_home cell ≡ (seat_at self.old.shelf.now).home.cells }
+        ensures seat { seat_at self.new.shelf.now ≡ seat_at self.old.shelf.now }
+        ensures own { GrowsOn nobody nobody }
+        ensures known { KnowsOn nothing_known nothing_known }
+    {
         let _right = right_of_shared_cell(cell);
         unreachable!()
     }
 
-    fn atomic_raw(&mut self, cell: AtomicRaw<T>) {
+    fn atomic_raw(&mut self, cell: AtomicRaw<T>)
+        requires seated { IsSeated (seat_at self.old.shelf.now) }
+        requires home { raw_cell.cells_home cell ≡ (seat_at self.old.shelf.now).home.cells }
+        ensures seat { seat_at self.new.shelf.now ≡ seat_at self.old.shelf.now }
+        ensures own { GrowsOn nobody nobody }
+        ensures known { KnowsOn nothing_known nothing_known }
+    {
         let _right = right_of_raw_cell(cell);
         unreachable!()
     }

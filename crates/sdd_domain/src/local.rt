@@ -7,6 +7,7 @@ ghost use Rattle.sdd_domain.specs.Member.{IsGuarded, IsLone, IsNew};
 use crate::domain::Domain;
 use crate::membership::Membership;
 use crate::receipt::Receipt;
+use crate::reclaiming::Partner;
 use sdd_base::Item;
 use sdd_core::Refused;
 use sdd_stakes::Ledger;
@@ -19,9 +20,8 @@ mod laws;
 ///
 /// It must be spent by `end`. It is *lone* where its domain has one place: then nobody else changes the domain, and what its calls do is said exactly.
 pub struct Local<'d, T: Item<T>> {
-    pub(crate) membership: Membership<'d, T>,
-    /// Which value it moved into each slot, for clauses.
-    pub(crate) ledger: Ledger<T>,
+    /// Its membership, with which value it moved into each slot, for clauses.
+    pub(crate) partner: Partner<'d, T>,
 }
 
 impl<'d, T: Item<T>> Model for Local<'d, T> {
@@ -30,9 +30,9 @@ impl<'d, T: Item<T>> Model for Local<'d, T> {
 
     ghost Value = { Partaker T };
 
-    ghost view = { λ l. record { member = l.membership; entries = l.ledger.entries } };
+    ghost view = { λ l. l.partner };
 
-    ghost invariant = { λ l. IsSound T.holds l.membership l.ledger.entries };
+    ghost invariant = { λ l. IsSound T.holds l.partner };
 }
 
 impl<'d, T: Item<T>> Local<'d, T> {
@@ -49,7 +49,9 @@ impl<'d, T: Item<T>> Local<'d, T> {
     {
         let membership = Membership::register(domain)?;
         let ledger = Ledger::new(domain.limits.slots as usize);
-        Ok(Local { membership, ledger })
+        Ok(Local {
+            partner: Partner { membership, ledger },
+        })
     }
 
     /// Ends the participant, whose place isn't free again. What waits with it goes on waiting, and is reclaimed at the close of the domain.
@@ -60,10 +62,13 @@ impl<'d, T: Item<T>> Local<'d, T> {
             (λ receipt. ¬ (IsGuarded self.entry.member) × (receipt ≡ record { home = self.entry.member.home; tally = self.entry.member.tally }))
             (λ local. IsGuarded self.entry.member × (local ≡ self.entry)) }
     {
-        let Local { membership, ledger } = self;
+        let Local { partner } = self;
+        let Partner { membership, ledger } = partner;
         match membership.end() {
             Ok(receipt) => Ok(receipt),
-            Err(membership) => Err(Local { membership, ledger }),
+            Err(membership) => Err(Local {
+                partner: Partner { membership, ledger },
+            }),
         }
     }
 
@@ -72,13 +77,13 @@ impl<'d, T: Item<T>> Local<'d, T> {
         ensures home { home_at (home_of result.now) (book_of result.now) (limits_of result.now) ≡ home_in self.now.member }
         ensures limits { limits_of result.now ≡ self.now.member.limits }
     {
-        self.membership.domain()
+        self.partner.membership.domain()
     }
 
     /// How many items it made, reclaimed and dropped in place.
     pub fn tally(&self) -> Tally
         ensures { result ≡ self.now.member.tally }
     {
-        self.membership.tally()
+        self.partner.membership.tally()
     }
 }

@@ -1,17 +1,20 @@
 //! A change reclaims what is due, and a value that is reclaimed gives up what it holds.
 ghost use Rattle.std.specs.Prelude.{◌≡◌, ℕ, List, []};
-ghost use Rattle.sdd_base.specs.Holding.{AreOf};
 ghost use Rattle.sdd_base.specs.Known.{KnowsOn};
 ghost use Rattle.sdd_base.specs.Own.{GrowsOn, all_awaiting};
-ghost use Rattle.sdd_base.specs.Steps.{given_all, all_reclaimed};
+ghost use Rattle.sdd_base.specs.Owned as owned;
+ghost use Rattle.sdd_base.specs.RawCell as raw_cell;
+ghost use Rattle.sdd_base.specs.Seat.{IsSeated, IsExact};
+ghost use Rattle.sdd_base.specs.Shared as shared;
+ghost use Rattle.sdd_base.specs.Steps.{given, given_all, all_reclaimed};
 ghost use Rattle.sdd_base.specs.Steps as steps;
-ghost use Rattle.sdd_stakes.specs.Shelf.{showing};
 ghost use Rattle.sdd_store.specs.Time.{settled};
 ghost use Rattle.sdd_domain.specs.Homes.{home_in};
 ghost use Rattle.sdd_domain.specs.Local.{Partaker};
 ghost use Rattle.sdd_domain.specs.Member.{IsLone};
-ghost use Rattle.sdd_domain.specs.Reclaiming.{kept_of, rest_of, known_by, world_with, AreCodes};
-ghost use Rattle.sdd_domain.specs.Tied.{IsTied};
+ghost use Rattle.sdd_domain.specs.Local.{world_of};
+ghost use Rattle.sdd_domain.specs.Reclaiming.{kept_of, rest_of};
+ghost use Rattle.sdd_domain.specs.Space.{seat_of, known_of};
 
 use crate::membership::Membership;
 use sdd_base::inner::{
@@ -19,112 +22,133 @@ use sdd_base::inner::{
 };
 use sdd_base::{AtomicOwned, AtomicRaw, AtomicShared, Giver, Item, Owned, Shared};
 use sdd_stakes::Ledger;
+use std::marker::Model;
 
-/// Retires for a participant what it is given.
-struct Retirement<'m, 'd, T: Item<T>> {
-    membership: &'m mut Membership<'d, T>,
-    ledger: &'m Ledger<T>,
-    ghost tied: { IsTied membership.now ledger.now.entries },
+/// A participant with the ledger of what it moved into slots, also while it reclaims.
+pub struct Partner<'d, T: Item<T>> {
+    pub membership: Membership<'d, T>,
+    pub ledger: Ledger<T>,
 }
 
-impl<T: Item<T>> Drop for Retirement<'_, '_, T> {
-    fn drop(self)
-        ensures { self.exit.0.now ≡ self.entry.membership.now }
-    {
-        let Retirement {
-            membership: _,
-            ledger: _,
-        } = self;
-    }
+impl<'d, T: Item<T>> Model for Partner<'d, T> {
+    ghost use Rattle.sdd_domain.specs.Local.{Partaker};
+    ghost use Rattle.sdd_domain.specs.Tied.{IsTied};
+
+    ghost Value = { Partaker T };
+
+    ghost view = { λ p. record { member = p.membership; entries = p.ledger.entries } };
+
+    ghost invariant = { λ p. IsTied p.membership p.ledger.entries };
 }
 
-impl<T: Item<T>> Giver<T> for Retirement<'_, '_, T> {
-    ghost use Rattle.sdd_domain.specs.Space.{seat_in};
+/// It retires what it is given.
+impl<T: Item<T>> Giver<T> for Partner<'_, T> {
+    ghost world = { λ p. world_of p };
 
-    ghost world = { λ r. world_with r.membership.now r.ledger.now.entries };
+    ghost seat = { λ p. seat_of p };
 
-    ghost seat = { λ r. record (seat_in r.membership.now) { loan = r.membership.ghost_name } };
+    ghost own = { λ p. p.member.own };
 
-    ghost own = { λ r. r.membership.now.own };
-
-    ghost known = { λ r. known_by r.membership.now };
+    ghost known = { λ p. known_of p };
 
     ghost Kept = { Partaker T };
 
-    ghost kept = { λ r. record { member = kept_of r.membership.now; entries = r.ledger.now.entries } };
+    ghost kept = { λ p. kept_of p };
 
-    fn owned(&mut self, owner: Owned<T>) {
+    fn owned(&mut self, owner: Owned<T>)
+        requires seated { IsSeated (seat_of self.old) }
+        requires home { owned.slots_home owner ≡ (home_in self.old.member).slots }
+        ensures seat { seat_of self.new ≡ seat_of self.old }
+        ensures own { GrowsOn self.old.member.own self.new.member.own }
+        ensures known { KnowsOn (known_of self.old) (known_of self.new) }
+        ensures kept { kept_of self.new ≡ kept_of self.old }
+        ensures exact { IsExact (seat_of self.old) → world_of self.new ≡ given (world_of self.old) self.old.member.place (owned.holding_of owner) }
+    {
         self.membership.let_go(right_of_owner(owner));
     }
 
     /// A domain gives out no owner of which there are others.
-    fn shared(&mut self, owner: Shared<T>) {
+    fn shared(&mut self, owner: Shared<T>)
+        requires seated { IsSeated (seat_of self.old) }
+        requires home { shared.slots_home owner ≡ (home_in self.old.member).slots }
+        ensures seat { seat_of self.new ≡ seat_of self.old }
+        ensures own { GrowsOn self.old.member.own self.new.member.own }
+        ensures known { KnowsOn (known_of self.old) (known_of self.new) }
+        ensures kept { kept_of self.new ≡ kept_of self.old }
+        ensures exact { IsExact (seat_of self.old) → world_of self.new ≡ given (world_of self.old) self.old.member.place (shared.holding_of owner) }
+    {
         self.membership.let_go(right_of_shared(owner));
     }
 
     /// A domain has no cells yet.
-    fn atomic_owned(&mut self, cell: AtomicOwned<T>) {
+    fn atomic_owned(&mut self, cell: AtomicOwned<T>)
+        requires seated { IsSeated (seat_of self.old) }
+        requires home { owned.cells_home cell ≡ (home_in self.old.member).cells }
+        ensures seat { seat_of self.new ≡ seat_of self.old }
+        ensures own { GrowsOn self.old.member.own self.new.member.own }
+        ensures known { KnowsOn (known_of self.old) (known_of self.new) }
+        ensures kept { kept_of self.new ≡ kept_of self.old }
+        ensures exact { IsExact (seat_of self.old) → world_of self.new ≡ given (world_of self.old) self.old.member.place (owned.cell_holding cell) }
+    {
         let _right = right_of_cell(cell);
         unreachable!()
     }
 
-    fn atomic_shared(&mut self, cell: AtomicShared<T>) {
+    fn atomic_shared(&mut self, cell: AtomicShared<T>)
+        requires seated { IsSeated (seat_of self.old) }
+        requires home { shared.cells_home cell ≡ (home_in self.old.member).cells }
+        ensures seat { seat_of self.new ≡ seat_of self.old }
+        ensures own { GrowsOn self.old.member.own self.new.member.own }
+        ensures known { KnowsOn (known_of self.old) (known_of self.new) }
+        ensures kept { kept_of self.new ≡ kept_of self.old }
+        ensures exact { IsExact (seat_of self.old) → world_of self.new ≡ given (world_of self.old) self.old.member.place (shared.cell_holding cell) }
+    {
         let _right = right_of_shared_cell(cell);
         unreachable!()
     }
 
-    fn atomic_raw(&mut self, cell: AtomicRaw<T>) {
+    fn atomic_raw(&mut self, cell: AtomicRaw<T>)
+        requires seated { IsSeated (seat_of self.old) }
+        requires home { raw_cell.cells_home cell ≡ (home_in self.old.member).cells }
+        ensures seat { seat_of self.new ≡ seat_of self.old }
+        ensures own { GrowsOn self.old.member.own self.new.member.own }
+        ensures known { KnowsOn (known_of self.old) (known_of self.new) }
+        ensures kept { kept_of self.new ≡ kept_of self.old }
+        ensures exact { IsExact (seat_of self.old) → world_of self.new ≡ given (world_of self.old) self.old.member.place (raw_cell.cell_holding cell) }
+    {
         let _right = right_of_raw_cell(cell);
         unreachable!()
     }
 }
 
-/// A value that was reclaimed gives up to the participant what it holds.
-fn give_up<T: Item<T>>(membership: &mut Membership<'_, T>, ledger: &Ledger<T>, value: T)
-    requires tied { IsTied membership.old ledger.now.entries }
-    requires held { AreOf (home_in membership.old) (T.holds value) }
-    ensures tied { IsTied membership.new ledger.now.entries }
-    ensures own { GrowsOn membership.old.own membership.new.own }
-    ensures known { KnowsOn (known_by membership.old) (known_by membership.new) }
-    ensures kept { kept_of membership.new ≡ kept_of membership.old }
-    ensures exact { IsLone membership.old → world_with membership.new ledger.now.entries
-        ≡ given_all (world_with membership.old ledger.now.entries) membership.old.place (T.holds value) }
-{
-    let mut giver = Retirement { membership, ledger };
-    value.give_up(&mut giver);
-}
-
-/// What is due is reclaimed, one after another, and what each value held is retired then.
-fn reclaim_due<T: Item<T>>(membership: &mut Membership<'_, T>, ledger: &Ledger<T>)
-    requires tied { IsTied membership.old ledger.now.entries }
-    requires codes { AreCodes (showing T.row) ledger.now.entries }
-    ensures tied { IsTied membership.new ledger.now.entries }
-    ensures own { GrowsOn membership.old.own membership.new.own }
-    ensures none { membership.old.due ≡ [] → membership.new.own ≡ membership.old.own }
-    ensures known { KnowsOn (known_by membership.old) (known_by membership.new) }
-    ensures rest { rest_of membership.new ≡ rest_of membership.old }
-    ensures due { membership.new.due ≡ [] }
-    ensures exact { IsLone membership.old → world_with membership.new ledger.now.entries
-        ≡ all_reclaimed T.holds (world_with membership.old ledger.now.entries) membership.old.place membership.old.due }
-{
-    while let Some(value) = membership.reclaim_next() {
-        give_up(membership, ledger, value);
+impl<T: Item<T>> Partner<'_, T> {
+    /// What is due is reclaimed, one after another, and what each value held is retired then.
+    fn reclaim_due(&mut self)
+        ensures own { GrowsOn self.old.member.own self.new.member.own }
+        ensures none { self.old.member.due ≡ [] → self.new.member.own ≡ self.old.member.own }
+        ensures known { KnowsOn (known_of self.old) (known_of self.new) }
+        ensures rest { rest_of self.new ≡ rest_of self.old }
+        ensures due { self.new.member.due ≡ [] }
+        ensures exact { IsLone self.old.member → world_of self.new
+            ≡ all_reclaimed T.holds (world_of self.old) self.old.member.place self.old.member.due }
+    {
+        self.ledger.codes();
+        while let Some(value) = self.membership.reclaim_next() {
+            value.give_up(self);
+        }
     }
-}
 
-/// A change: what is due is reclaimed, and what each value held is retired then; and then it is decided whether anything waits.
-#[inline(never)]
-pub fn change<T: Item<T>>(membership: &mut Membership<'_, T>, ledger: &Ledger<T>)
-    requires tied { IsTied membership.old ledger.now.entries }
-    ensures tied { IsTied membership.new ledger.now.entries }
-    ensures own { (given : List ℕ) × (membership.new.own ≡ settled (all_awaiting given membership.old.own)) × (membership.old.due ≡ [] → given ≡ []) }
-    ensures known { KnowsOn (known_by membership.old) (known_by membership.new) }
-    ensures rest { rest_of membership.new ≡ rest_of membership.old }
-    ensures due { membership.new.due ≡ [] }
-    ensures exact { IsLone membership.old → world_with membership.new ledger.now.entries ≡ steps.settled
-        (all_reclaimed T.holds (world_with membership.old ledger.now.entries) membership.old.place membership.old.due) membership.old.place }
-{
-    ledger.codes();
-    reclaim_due(membership, ledger);
-    membership.settle();
+    /// A change: what is due is reclaimed, and what each value held is retired then; and then it is decided whether anything waits.
+    #[inline(never)]
+    pub fn change(&mut self)
+        ensures own { (given : List ℕ) × (self.new.member.own ≡ settled (all_awaiting given self.old.member.own)) × (self.old.member.due ≡ [] → given ≡ []) }
+        ensures known { KnowsOn (known_of self.old) (known_of self.new) }
+        ensures rest { rest_of self.new ≡ rest_of self.old }
+        ensures due { self.new.member.due ≡ [] }
+        ensures exact { IsLone self.old.member → world_of self.new
+            ≡ steps.settled (all_reclaimed T.holds (world_of self.old) self.old.member.place self.old.member.due) self.old.member.place }
+    {
+        self.reclaim_due();
+        self.membership.settle();
+    }
 }

@@ -3,7 +3,7 @@ ghost use Rattle.sdd_stakes.specs.Shelf.{showing};
 
 use crate::domain::Domain;
 use crate::local::Local;
-use crate::reclaiming::change;
+use crate::reclaiming::Partner;
 use sdd_base::inner::value_of_ptr;
 use sdd_base::{Caller, Guard, Guards, Item, Items, Look, LookThrough, Ptr, Shows};
 use sdd_core::Refused;
@@ -34,7 +34,7 @@ impl<T: Item<T>> Look<T> for Local<'_, T> {
 
     #[inline]
     fn value<'a>(&'a self, right: &'a Right) -> &'a T {
-        self.membership.domain().shelf.view(right.number() as usize, right.grip())
+        self.partner.membership.domain().shelf.view(right.number() as usize, right.grip())
     }
 }
 
@@ -122,39 +122,39 @@ impl<T: Item<T>> Caller<T> for Local<'_, T> {
 impl<T: Item<T>> Guards<T> for Local<'_, T> {
     #[inline]
     fn open_guard(&mut self) -> Result<Guard, Refused> {
-        if self.membership.is_guarded() {
-            return self.membership.nest();
+        if self.partner.membership.is_guarded() {
+            return self.partner.membership.nest();
         }
-        let (guard, is_change) = self.membership.enter();
+        let (guard, is_change) = self.partner.membership.enter();
         if is_change {
-            change(&mut self.membership, &self.ledger);
+            self.partner.change();
         }
         Ok(guard)
     }
 
     #[inline]
     fn close_guard(&mut self, guard: Guard) {
-        self.membership.close_guard(guard);
+        self.partner.membership.close_guard(guard);
     }
 
     #[inline]
     fn count(&mut self) -> u64 {
-        self.membership.count()
+        self.partner.membership.count()
     }
 
     #[inline]
     fn has_garbage(&self) -> bool {
-        self.membership.has_garbage()
+        self.partner.membership.has_garbage()
     }
 
     #[inline]
     fn stir(&mut self) {
-        self.membership.stir();
+        self.partner.membership.stir();
     }
 
     #[inline]
     fn accelerate(&mut self) {
-        self.membership.accelerate();
+        self.partner.membership.accelerate();
     }
 }
 
@@ -168,27 +168,29 @@ impl<T: Item<T>> Items<T> for Local<'_, T> {
 
     #[inline]
     fn make(&mut self, value: T, kind: Kind) -> Result<Right, (T, Refused)> {
-        self.membership.make(value, kind, &mut self.ledger)
+        let Partner { membership, ledger } = &mut self.partner;
+        membership.make(value, kind, ledger)
     }
 
     fn make_with<F: FnOnce() -> T>(&mut self, make: F, kind: Kind) -> Result<Right, (F, Refused)> {
-        self.membership.make_with(make, kind, &mut self.ledger)
+        let Partner { membership, ledger } = &mut self.partner;
+        membership.make_with(make, kind, ledger)
     }
 
     #[inline]
     fn guarded<'g>(&mut self, right: &Right, guard: &'g Guard) -> &'g T {
-        self.ledger.codes();
-        self.membership.guarded(right, guard)
+        self.partner.ledger.codes();
+        self.partner.membership.guarded(right, guard)
     }
 
     #[inline]
     fn let_go(&mut self, right: Right, _kind: Kind) -> bool {
-        self.membership.let_go(right);
+        self.partner.membership.let_go(right);
         true
     }
 
     fn owned_is_shown(&mut self, right: &Right) {
-        self.ledger.codes();
-        self.membership.recall_owner(right);
+        self.partner.ledger.codes();
+        self.partner.membership.recall_owner(right);
     }
 }

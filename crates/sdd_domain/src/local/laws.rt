@@ -20,7 +20,7 @@ impl<T: Item<T>> Local<'_, T> {
         ensures place { IsPlaceOf (world_of self.now) self.now.member.place }
         ensures shut { (self.now.member.own.guards ≡ 0) ↔ ¬ (IsGuarded (world_of self.now)) }
     {
-        let _ledger = &self.ledger;
+        let _ledger = &self.partner.ledger;
     }
 }
 
