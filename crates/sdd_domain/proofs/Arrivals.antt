@@ -1,11 +1,11 @@
--- What an outermost opening leaves, with a change and without one
+-- What an outermost opening leaves, before anything is reclaimed, with a change and without one
 use Rattle.std.proofs.Common.{◌≡◌, ◌≢◌, ℕ, ◌+◌, ◌<◌, ◌≤◌, if◌then◌else◌, not, List, [], ◌∷◌, length, map, sym, refl, ap, ◌∙◌, eq-eqb, ne_eqb, arith}
 use mathlib.Core.Bool.{Bool, true, false, cond}
 use Rattle.atomic_table.specs.declared.shared.Seat.{Seat}
 use Rattle.sdd_store.specs.declared.waiting.What.{What}
 use Rattle.sdd_store.specs.declared.time.Participant.{Participant}
 use Rattle.sdd_store.specs.Waiting.{Waiting, aged, due, left}
-use Rattle.sdd_store.specs.Time.{nested, rotated, settled, due_next}
+use Rattle.sdd_store.specs.Time.{nested, rotated, due_next}
 use Rattle.sdd_stakes.specs.declared.stake.Stake.{Stake}
 use Rattle.sdd_rule.specs.declared.EpochView.{EpochView}
 use Rattle.sdd_rule.specs.declared.SlotsView.{SlotsView}
@@ -20,48 +20,20 @@ use Rattle.sdd_rule.proofs.Sums.{total_map}
 use Rattle.sdd_board.specs.declared.board.Board.{Board}
 use Rattle.sdd_board.specs.Board.{slots_of}
 use Rattle.sdd_board.specs.Token.{view, epoch, slots, Taught, Stepped, HasPublished}
-use Rattle.sdd_domain.specs.Waits.{waiting_of, is_ripe, unripe, waits_at, due_at, arrived_at, freed, gone_more, GivesAllBack, Arrives}
+use Rattle.sdd_domain.specs.Waits.{what_of, waiting_of, ripe, unripe, aged_at, due_at, arrived_at, Arrives}
 use Rattle.sdd_domain.specs.Posed.{IsPosed}
-use Rattle.sdd_domain.proofs.Reclaims.{aged_alike, left_alike, none_more}
+use Rattle.sdd_domain.proofs.Reclaims.{aged_alike, left_alike, all_left}
 use Rattle.sdd_domain.proofs.Posing.{posed_arrived, has_place}
 
 -- where nothing waits a change only finds the count
-pub quiet_change : (count : ℕ) (p : Participant) → p.countdown ≡ 128 → p.bags.waiting ≡ [] → record p { found = count } ≡ settled (rotated count p)
-quiet_change count p full none =
-    let paces : p.countdown ≡ elim (left (aged p.bags.waiting)) [ [] ↦ 128 | x ∷ xs ↦ 127 ]
-    = full ∙ sym (ap (λ (ws : List Waiting). elim (left (aged ws)) [ [] ↦ 128 | x ∷ xs ↦ 127 ]) none) in
-    let waits : p.bags.waiting ≡ left (aged p.bags.waiting) = none ∙ sym (ap (λ (ws : List Waiting). left (aged ws)) none) in
-    λ i. record p { found = count; countdown = paces i; bags = record p.bags { waiting = waits i } }
+pub quiet_change : (count : ℕ) (p : Participant) → p.bags.waiting ≡ [] → record p { found = count } ≡ rotated count p
+quiet_change count p none = let waits : p.bags.waiting ≡ left (aged p.bags.waiting)
+    = none ∙ sym (ap (λ (ws : List Waiting). left (aged ws)) none) in
+    λ i. record p { found = count; bags = record p.bags { waiting = waits i } }
 
-no_items : (xs : List WaitingItem) → map waiting_of xs ≡ [] → xs ≡ []
-no_items [] e = refl
-no_items (x ∷ xs) e = absurd cc
-
-pub none_given : (v : View) (own : Participant) → own.bags.waiting ≡ [] → aged own.bags.waiting ≡ map waiting_of v.slots.waits
-    → GivesAllBack (due_next own) v 0 v
-none_given v own none bags =
-    let e : v.slots.waits ≡ [] = no_items v.slots.waits (sym bags ∙ ap aged none) in
-    let waits : v.slots.waits ≡ unripe v.slots.waits = e ∙ sym (ap unripe e) in
-    let words : v.words ≡ freed v.sizes (due_next own) v.words = sym (ap (λ (ws : List Waiting). freed v.sizes (due (aged ws)) v.words) none) in
-    let stakes : v.stakes ≡ gone_more (length (due_next own)) v.stakes
-    = sym (ap (λ (ws : List Waiting). gone_more (length (due (aged ws))) v.stakes) none ∙ none_more v.stakes) in
-    λ i. record v { slots = record v.slots { waits = waits i }; stakes = stakes i; words = words i }
-
-settled_idle : (ws : List Waiting) → ◌≡◌ {A = ℕ} (elim ws [ [] ↦ 128 | x ∷ xs ↦ 127 ]) 128 → ws ≡ []
-settled_idle [] e = refl
-settled_idle (x ∷ xs) e = absurd (omega arith)
-
-settled_low : (ws : List Waiting) → ◌≤◌ (elim ws as (λ _. ℕ) [ [] ↦ 128 | x ∷ xs ↦ 127 ]) 128
-settled_low [] = omega arith
-settled_low (x ∷ xs) = omega arith
-
-pub one_fewer : (f : WaitingItem → ℕ) (b : Bool) (x : WaitingItem) (xs : List WaitingItem) → total f (cond b (x ∷ xs) xs) ≤ f x + total f xs
-one_fewer f true x xs = omega arith
-one_fewer f false x xs = omega arith
-
-pub fewer_left : (i : ℕ) (xs : List WaitingItem) → total (waits_in i) (unripe xs) ≤ total (waits_in i) xs
-fewer_left i [] = omega arith
-fewer_left i (x ∷ xs) = let a = one_fewer (waits_in i) (not (is_ripe x)) x (unripe xs) in let b = fewer_left i xs in omega arith
+-- and nothing is due
+pub quiet_due : (p : Participant) → p.bags.waiting ≡ [] → due_next p ≡ []
+quiet_due p none = ap (λ (ws : List Waiting). due (aged ws)) none
 
 pub same_items : (i : ℕ) (xs : List WaitingItem) → total (waits_in i) (map older xs) ≡ total (waits_in i) xs
 same_items i xs = total_map (waits_in i) older (λ x. refl) xs
@@ -74,21 +46,21 @@ has_changed v ne = ap (λ (b : Bool). if b then v.slots else record v.slots { wa
 
 module _ (count : ℕ) (own : Participant) where
   pub stayed : own.found ≡ count → arrived_at count own ≡ own
-  stayed e = ap (λ (b : Bool). if b then own else settled (rotated count own)) (eq-eqb own.found count e)
+  stayed e = ap (λ (b : Bool). if b then own else rotated count own) (eq-eqb own.found count e)
 
-  pub moved : own.found ≢ count → arrived_at count own ≡ settled (rotated count own)
-  moved ne = ap (λ (b : Bool). if b then own else settled (rotated count own)) (ne_eqb own.found count ne)
+  pub moved : own.found ≢ count → arrived_at count own ≡ rotated count own
+  moved ne = ap (λ (b : Bool). if b then own else rotated count own) (ne_eqb own.found count ne)
 
-  waits_stayed : (xs : List WaitingItem) → own.found ≡ count → waits_at count own xs ≡ xs
-  waits_stayed xs e = ap (λ (b : Bool). if b then xs else unripe (map older xs)) (eq-eqb own.found count e)
+  aged_stayed : (xs : List WaitingItem) → own.found ≡ count → aged_at count own xs ≡ xs
+  aged_stayed xs e = ap (λ (b : Bool). if b then xs else map older xs) (eq-eqb own.found count e)
 
-  waits_moved : (xs : List WaitingItem) → own.found ≢ count → waits_at count own xs ≡ unripe (map older xs)
-  waits_moved xs ne = ap (λ (b : Bool). if b then xs else unripe (map older xs)) (ne_eqb own.found count ne)
+  aged_moved : (xs : List WaitingItem) → own.found ≢ count → aged_at count own xs ≡ map older xs
+  aged_moved xs ne = ap (λ (b : Bool). if b then xs else map older xs) (ne_eqb own.found count ne)
 
-  due_stayed : own.found ≡ count → due_at count own ≡ []
+  pub due_stayed : own.found ≡ count → due_at count own ≡ []
   due_stayed e = ap (λ (b : Bool). if b then [] else due_next own) (eq-eqb own.found count e)
 
-  due_moved : own.found ≢ count → due_at count own ≡ due_next own
+  pub due_moved : own.found ≢ count → due_at count own ≡ due_next own
   due_moved ne = ap (λ (b : Bool). if b then [] else due_next own) (ne_eqb own.found count ne)
 
 module _ (b : Board) (p : ℕ) (own : Participant) (count : ℕ) where
@@ -114,14 +86,13 @@ module _ (b : Board) (p : ℕ) (own : Participant) (count : ℕ) where
           number = pub_.0.1 ∙ read.0.0.1;
           others = pub_.0.2 ∙ read.0.0.2;
           sizes = pub_.0.3 ∙ read.0.0.3;
-          stakes = pub_.0.4 ∙ (read.0.0.4 ∙ sym (ap (λ (l : List What). gone_more (length l) s.me.0.stakes) (due_stayed count own same)
-              ∙ none_more s.me.0.stakes));
+          stakes = pub_.0.4 ∙ read.0.0.4;
           knew = read.1.1;
           knows = (let f = ap (λ (x : EpochView). x.since) epochs in omega arith);
           known = ap (λ (x : EpochView). x.known) epochs ∙ sym (ap (λ (x : EpochView). x.since) epochs);
           lone = λ one. let k = read.1.3 one (has_place b p own s q) in (k, ap (λ (x : EpochView). x.since) epochs ∙ (lone one ∙ k));
-          slots = keeps ∙ sym (ap (λ (xs : List WaitingItem). record s.me.0.slots { waits = xs }) (waits_stayed count own s.me.0.slots.waits same));
-          words = (pub_.3 ∙ read.0.3) ∙ sym (ap (λ (l : List What). freed s.me.0.sizes l s.me.0.words) (due_stayed count own same));
+          slots = keeps ∙ sym (ap (λ (xs : List WaitingItem). record s.me.0.slots { waits = xs }) (aged_stayed count own s.me.0.slots.waits same));
+          words = pub_.3 ∙ read.0.3;
         },
       )
 
@@ -135,51 +106,37 @@ module _ (b : Board) (p : ℕ) (own : Participant) (count : ℕ) where
         (λ e. apart (sym q.found ∙ (sym (ap (λ (x : EpochView). x.found) known_now) ∙ (sym e ∙ ap (λ (x : EpochView). x.count) known_now))))
         ∙ ap (λ (l : SlotsView). record l { waits = map older l.waits }) (write.0.2 ∙ read.0.2))
 
-    pub bags_now : aged own.bags.waiting ≡ map waiting_of (slots w).waits
-    bags_now = ap aged q.bags ∙ (aged_alike s.me.0.slots.waits ∙ sym (ap (λ (l : SlotsView). map waiting_of l.waits) older_now))
-
-    pub inside_now : (i : ℕ) → 0 < items_at i (view w) → i < slots_of b
-    inside_now i some_wait = q.waiting i (let a = ap (λ (l : SlotsView). total (waits_in i) l.waits) older_now in
-        let m = same_items i s.me.0.slots.waits in omega arith)
-
-    -- another count is found: what waits has seen one change more, and what is due is given back
-    pub arrived_moved : (z : Seat Stake View) → own.guards ≡ 0 → Taught (GivesAllBack (due_next own)) w 0 z
-        → IsPosed b p (nested (settled (rotated count own))) z × Arrives count own s z
-    arrived_moved z shut gives =
+    -- another count is found: what waits has seen one change more, and what is due comes out of the bags
+    pub arrived_moved : own.guards ≡ 0 → ripe s.me.0.slots.waits ≡ [] → IsPosed b p (nested (rotated count own)) w × Arrives count own s w
+    arrived_moved shut settled =
         let g : ℕ = pub_.4.0 in let e : EpochView = epoch s in let xs : List WaitingItem = s.me.0.slots.waits in
-        let epochs : epoch z ≡ published (counted (knowing e count) count) g
-        = ap (λ (v : View). v.epoch) gives.3 ∙ (pub_.4.1 ∙ ap (λ (x : EpochView). published x g) known_now) in
+        let epochs : epoch w ≡ published (counted (knowing e count) count) g = pub_.4.1 ∙ ap (λ (x : EpochView). published x g) known_now in
         let low : count ≤ g = (let low = pub_.4.2 in let k = ap (λ (x : EpochView). x.known) known_now in omega arith) in
         let lone : IsLone e → g ≡ count
         = λ one. pub_.4.3 (ap (λ (x : EpochView). x.all) known_now ∙ one) ∙ ap (λ (x : EpochView). x.known) known_now in
-        let keeps : slots z ≡ record s.me.0.slots { waits = unripe (map older xs) }
-        = ap (λ (v : View). v.slots) gives.3 ∙ ap (λ (l : SlotsView). record l { waits = unripe l.waits }) older_now in
-        let table : z.table_id ≡ s.table_id = gives.0 ∙ (pub_.0.0 ∙ (write.0.0.0 ∙ read.0.0.0)) in
-        let number : z.id ≡ s.id = gives.1 ∙ (pub_.0.1 ∙ (write.0.0.1 ∙ read.0.0.1)) in
-        let others : z.me.1 ≡ s.me.1 = gives.2 ∙ (pub_.0.2 ∙ (write.0.0.2 ∙ read.0.0.2)) in
-        let before : w.me.0.sizes ≡ s.me.0.sizes = pub_.0.3 ∙ (write.0.0.3 ∙ read.0.0.3) in
-        let stakes : z.me.0.stakes ≡ gone_more (length (due_next own)) s.me.0.stakes
-        = ap (λ (v : View). v.stakes) gives.3 ∙ ap (gone_more (length (due_next own))) (pub_.0.4 ∙ (write.0.0.4 ∙ read.0.0.4)) in
-        let words : w.me.0.words ≡ s.me.0.words = pub_.3 ∙ (write.0.3 ∙ read.0.3) in
-        let sizes : z.me.0.sizes ≡ s.me.0.sizes = ap (λ (v : View). v.sizes) gives.3 ∙ before in
+        let table : w.table_id ≡ s.table_id = pub_.0.0 ∙ (write.0.0.0 ∙ read.0.0.0) in
+        let others : w.me.1 ≡ s.me.1 = pub_.0.2 ∙ (write.0.0.2 ∙ read.0.0.2) in
+        let sizes : w.me.0.sizes ≡ s.me.0.sizes = pub_.0.3 ∙ (write.0.0.3 ∙ read.0.0.3) in
+        let stakes : w.me.0.stakes ≡ s.me.0.stakes = pub_.0.4 ∙ (write.0.0.4 ∙ read.0.0.4) in
+        let all : unripe xs ≡ xs = all_left xs (ap (map what_of) settled) in
         let bags : left (aged own.bags.waiting) ≡ map waiting_of (unripe (map older xs))
-        = ap (λ (ws : List Waiting). left (aged ws)) q.bags ∙ (ap left (aged_alike xs) ∙ left_alike (map older xs)) in (
-          posed_arrived b p own (settled (rotated count own)) count g (unripe (map older xs)) s z q table others sizes
-              (λ i. record (stakes i) { counts = s.me.0.stakes.counts }) epochs low lone keeps
-              (λ i. let a = fewer_left i (map older xs) in let m = same_items i xs in omega arith)
-              refl shut bags refl (settled_low (left (aged own.bags.waiting))) (settled_idle (left (aged own.bags.waiting))),
+        = ap (λ (ws : List Waiting). left (aged ws)) (q.bags ∙ ap (map waiting_of) all) ∙ (ap left (aged_alike xs) ∙ left_alike (map older xs)) in
+        let idle : own.countdown ≡ 128 → left (aged own.bags.waiting) ≡ [] = λ full. ap (λ (ws : List Waiting). left (aged ws)) (q.idle full) in (
+          posed_arrived b p own (rotated count own) count g (map older xs) s w q table others sizes
+              (λ i. record (stakes i) { counts = s.me.0.stakes.counts }) epochs low lone older_now
+              (λ i. let m = same_items i xs in omega arith)
+              refl shut bags refl q.pace idle,
           record {
             table = table;
-            number = number;
+            number = pub_.0.1 ∙ (write.0.0.1 ∙ read.0.0.1);
             others = others;
             sizes = sizes;
-            stakes = stakes ∙ sym (ap (λ (l : List What). gone_more (length l) s.me.0.stakes) (due_moved count own apart));
+            stakes = stakes;
             knew = read.1.1;
             knows = (let f = ap (λ (x : EpochView). x.since) epochs in omega arith);
             known = ap (λ (x : EpochView). x.known) epochs ∙ sym (ap (λ (x : EpochView). x.since) epochs);
             lone = λ one. let k = read.1.3 one (has_place b p own s q) in (k, ap (λ (x : EpochView). x.since) epochs ∙ (lone one ∙ k));
-            slots = keeps ∙ sym (ap (λ (l : List WaitingItem). record s.me.0.slots { waits = l }) (waits_moved count own xs apart));
-            words = ap (λ (v : View). v.words) gives.3 ∙ ((λ i. freed (before i) (due_next own) (words i))
-                ∙ sym (ap (λ (l : List What). freed s.me.0.sizes l s.me.0.words) (due_moved count own apart)));
+            slots = older_now ∙ sym (ap (λ (l : List WaitingItem). record s.me.0.slots { waits = l }) (aged_moved count own xs apart));
+            words = pub_.3 ∙ (write.0.3 ∙ read.0.3);
           },
         )

@@ -36,10 +36,11 @@ use Rattle.sdd_board.specs.Board.{book_of, places_of, slots_of}
 use Rattle.sdd_board.specs.Token.{view, epoch, slots, Taught, Moved, MovedAlone}
 use Rattle.sdd_board.specs.Owner.{disowned}
 use Rattle.sdd_domain.specs.Sight.{IsOnce}
-use Rattle.sdd_domain.specs.Waits.{waiting_of}
+use Rattle.sdd_domain.specs.Waits.{waiting_of, unripe}
 use Rattle.sdd_domain.specs.Claims.{Gains}
 use Rattle.sdd_domain.specs.Values.{with_filled, LetsWait}
 use Rattle.sdd_domain.specs.Posed.{IsPurse, AreLentTo, IsPosed}
+use Rattle.sdd_domain.proofs.Ripe.{unripe_too}
 use Rattle.sdd_domain.proofs.Moving.{row_out, rest_out, now_seen, still_seen}
 
 stirs : (c : ℕ) → ¬ (stirred c ≡ 128)
@@ -122,7 +123,7 @@ module _ (b : Board) (p : ℕ) where
         quiet = record { owns = q.quiet.owns; shares = q.quiet.shares; holds = q.quiet.holds; looked = q.quiet.looked };
         waiting = λ i some_wait. dite (ℕ_discrete slot i) (λ e. subst (λ (k : ℕ). k < slots_of b) e low)
             (λ ne. q.waiting i (let o = is_other i slot ne in let t = total_snoc (waits_in i) s.me.0.slots.waits (retired_now slot r.0) in omega arith));
-        bags = ap (λ (l : List Waiting). l ++ fresh (Item slot) ∷ []) q.bags ∙ sym (map-append waiting_of s.me.0.slots.waits (retired_now slot r.0 ∷ []));
+        bags = ap (λ (l : List Waiting). l ++ fresh (Item slot) ∷ []) q.bags ∙ sym (unripe_too (retired_now slot r.0) refl s.me.0.slots.waits);
         room = q.room;
         pace = stirs_low own.countdown q.pace;
         idle = λ e. absurd (stirs own.countdown e);
@@ -133,7 +134,7 @@ module _ (b : Board) (p : ℕ) where
       → record t.me.0.stakes { counts = s.me.0.stakes.counts } ≡ s.me.0.stakes → epoch t ≡ published (counted (knowing (epoch s) c) c) g → c ≤
       g → (IsLone (epoch s) → g ≡ c)
       → slots t ≡ record s.me.0.slots { waits = xs } → ((i : ℕ) → total (waits_in i) xs ≤ items_at i (view s))
-      → new.found ≡ c → new.guards ≡ 0 → new.bags.waiting ≡ map waiting_of xs → new.bags.room ≡ own.bags.room
+      → new.found ≡ c → new.guards ≡ 0 → new.bags.waiting ≡ map waiting_of (unripe xs) → new.bags.room ≡ own.bags.room
       → new.countdown ≤ 128 → (new.countdown ≡ 128 → new.bags.waiting ≡ []) → IsPosed b p (nested new) t
   posed_arrived own new c g xs s t q table others sizes stakes epochs low one_only keeps fewer found none bags room pace idle =
       let is : t.me.0 ≡ record t.me.0 { epoch = published (counted (knowing (epoch s) c) c) g; slots = record s.me.0.slots { waits = xs } }

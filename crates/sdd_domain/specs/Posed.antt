@@ -86,7 +86,7 @@ pub record IsTenureOf (own : Participant) (part : Part Stage) : Type 0 where
   pub kind : part.kind ≡ (if is_open own then Open else Closed)
 
 -- what was taken out of the bags is what has seen three changes; there is room for as much as waits, and it looks for slots of the board
-pub record IsReady (b : Board) (own : Participant) (due : Pending) (known_slots : ℕ) (waits : List WaitingItem) : Type 0 where
-  pub due : due.items ≡ map what_of (ripe waits)
-  pub large : own.bags.room ≤ due.room
+pub record IsReady (b : Board) (own : Participant) (pending : Pending) (known_slots : ℕ) (waits : List WaitingItem) : Type 0 where
+  pub due : pending.items ≡ map what_of (ripe waits)
+  pub large : own.bags.room ≤ pending.room
   pub slots : known_slots ≡ slots_of b
