@@ -150,7 +150,7 @@ module _ (γ : ℕ) (sizes : Sizes) (slots id : ℕ) (me : Mine) (i : ℕ) (f : 
             (λ (l : Settles me.0 j × (p ≡ sizes.participants)). inr l) o)) out;
         same = λ j _. before_slots sizes s.words i y j low;
         mover = still_mover me.0 (record me.0 { epoch = e }) refl (lives (get_or s.words i 0) e t.2) (λ _ o. o) (λ _ o. o) (h.homes.moving id me.0 at);
-        alike = (refl, refl, refl);
+        alike = (refl, refl, refl, λ _. refl);
         counts = refl;
         lives = lives (get_or s.words i 0) e t.2;
         had = had s h e t.2;
@@ -180,13 +180,13 @@ module _ (γ : ℕ) (sizes : Sizes) (slots : ℕ) where
       (λ (s' : Sees v j × (v.epoch.place ≡ p)). inl (s'.0, (stays e t.2).1 ∙ s'.1)) (λ (l : Settles v j × (p ≡ n)). inr l) o)) out in
       let movers = still_mover v (record v { epoch = e }) refl (λ _. (stays e t.2).0) (λ _ o. o) (λ _ o. o) (h.homes.moving id v at) in
       subst (IsCalm γ sizes slots id me i (λ _. y) s y) (sym t.1) (changed_or_not v calm
-      record { more = more; same = same; mover = movers; alike = (refl, refl, refl); counts = refl; lives = λ _. (stays e t.2).0; had = λ _ _. inl live }
+      record { more = more; same = same; mover = movers; alike = (refl, refl, refl, λ _. refl); counts = refl; lives = λ _. (stays e t.2).0; had = λ _ _. inl live }
       record {
         more = more;
         same = same;
         mover = still_mover v (record v { epoch = e; slots = record v.slots { waits = map older v.slots.waits } }) refl (λ _. (stays e t.2).0) (λ _ o. o)
             (λ j o. let k = total_map (waits_in j) older (λ x. refl) v.slots.waits in omega arith) (h.homes.moving id v at);
-        alike = (refl, refl, refl);
+        alike = (refl, refl, refl, λ j. total_map (waits_in j) older (λ x. refl) v.slots.waits);
         counts = refl;
         lives = λ _. (stays e t.2).0;
         had = λ _ _. inl live;
@@ -210,12 +210,12 @@ module _ (γ : ℕ) (sizes : Sizes) (slots : ℕ) where
         act = keeps;
         valid = tt;
         homes = part.calm γ sizes s.words s.views s.homes h.homes id v at (set s.words i 3) now (λ j p out. out) same (none_out now rests);
-        records = records.calm sizes s.views s.homes h.records id v at now (refl, refl, refl);
+        records = records.calm sizes s.views s.homes h.records id v at now (refl, refl, refl, λ _. refl);
         counts = counted sizes s.words s.views h.counts id v at (set s.words i 3) now
             (let f = as_full sizes s.words (set s.words i 3) (λ j low. ap full (same j low)) in omega arith)
             (let more = ended_more s.words v.epoch.place (omega arith) (λ e. omega arith) sizes.participants inside in omega arith)
             (λ _ none. absurd (omega arith));
-        filled = filled_same sizes s.views h.filled id v at now refl refl (λ z. absurd (omega arith));
+        filled = filled_same sizes s.views h.filled id v at now refl refl refl (λ z. absurd (omega arith));
         tells = tells;
       })
 

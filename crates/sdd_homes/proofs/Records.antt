@@ -1,24 +1,25 @@
 -- What is known of what slots show, after one step of one participant
-use Rattle.std.proofs.Common.{◌≡◌, ◌≢◌, ◌⊎◌, inl, inr, ℕ, zero, suc, ◌<◌, ◌≤◌, List, [], ◌∷◌, ◌++◌, map, set, sym, refl, ap, ◌∙◌, subst, ⊎_elim, arith}
+use Rattle.std.proofs.Common.{◌≡◌, ◌≢◌, ◌⊎◌, inl, inr, ℕ, zero, suc, ◌<◌, ◌≤◌, eqb, List, [], ◌∷◌, ◌++◌, map, set, sym, refl, ap, ◌∙◌, subst, ⊎_elim, arith, eq-eqb, ne_eqb}
 use mathlib.Core.Option.{some, some-injective, some-ne-none}
 use mathlib.Core.Logic.{dite}
 use native.Mathlib.Decide.{ℕ_discrete}
 use lib.ListN.{get_elem?}
 use base.Stored.{Gv}
-use Rattle.std.specs.Prelude.{Some, None}
+use Rattle.std.specs.Prelude.{Some, None, not}
 use Rattle.atomic_table.proofs.Lists.{at_set, at_snoc}
 use Rattle.sdd_stakes.specs.declared.stake.Stake.{Stake}
 use Rattle.sdd_rule.specs.declared.Showing.{Showing}
 use Rattle.sdd_rule.specs.declared.StakesView.{StakesView}
 use Rattle.sdd_rule.specs.declared.View.{View}
 use Rattle.sdd_rule.specs.declared.Sizes.{Sizes}
-use Rattle.sdd_rule.specs.Slots.{OwnsAlone, Sees}
-use Rattle.sdd_rule.specs.Sums.{times}
+use Rattle.sdd_rule.specs.Slots.{waits_in, items_at, OwnsAlone, Sees}
+use Rattle.sdd_rule.specs.Sums.{total, is, times}
 use Rattle.sdd_rule.proofs.Frame.{each_set, each_snoc}
-use Rattle.sdd_rule.proofs.Sums.{is_same, is_other, both_set}
+use Rattle.sdd_rule.proofs.Sums.{is_same, is_other, both_set, total_has, total_kept, total_gone, total_some, at_filter}
 use Rattle.sdd_rule.specs.Moves.{all_in}
 use Rattle.sdd_homes.specs.Homes.{Homes, LiesAt, Moves}
 use Rattle.sdd_homes.specs.Records.{slot_shown, IsIn, KnowsShown, IsKnown, IsTelling, RecordsPart}
+use Rattle.sdd_homes.specs.HomeSteps.{without_record}
 
 -- ---- records in a list
 in_pick : (r : Showing) (rs : List Showing) (i : ℕ) (g : Gv) (k : ℕ) (s : Showing) → get_elem? (r ∷ rs) k ≡ some s → s.slot ≡ i → s.value ≡ g
@@ -50,6 +51,46 @@ in_times [] i g h = absurd (in_none i g h)
 in_times (r ∷ rs) i g h = ⊎_elim (λ (t : (r.slot ≡ i) × (r.value ≡ g)). let o = is_same i r.slot t.0 in omega arith)
     (λ (t : IsIn rs i g). let o = in_times rs i g t in omega arith) (in_either r rs i g h)
 
+-- ---- two lists of them
+module _ (i : ℕ) (g : Gv) where
+  pub in_both : (rs ss : List Showing) → IsIn (rs ++ ss) i g → IsIn rs i g ⊎ IsIn ss i g
+  in_both [] ss h = inr h
+  in_both (r ∷ rs) ss h = ⊎_elim (λ (e : (r.slot ≡ i) × (r.value ≡ g)). inl (in_head r rs i g e.0 e.1))
+      (λ (t : IsIn (rs ++ ss) i g). ⊎_elim (λ (a : IsIn rs i g). inl (in_tail r rs i g a)) (λ (b : IsIn ss i g). inr b) (in_both rs ss t))
+      (in_either r (rs ++ ss) i g h)
+
+  pub in_front : (rs ss : List Showing) → IsIn rs i g → IsIn (rs ++ ss) i g
+  in_front [] ss h = absurd (in_none i g h)
+  in_front (r ∷ rs) ss h = ⊎_elim (λ (e : (r.slot ≡ i) × (r.value ≡ g)). in_head r (rs ++ ss) i g e.0 e.1)
+      (λ (t : IsIn rs i g). in_tail r (rs ++ ss) i g (in_front rs ss t)) (in_either r rs i g h)
+
+  pub in_back : (rs ss : List Showing) → IsIn ss i g → IsIn (rs ++ ss) i g
+  in_back [] ss h = h
+  in_back (r ∷ rs) ss h = in_tail r (rs ++ ss) i g (in_back rs ss h)
+
+-- ---- those of other slots
+abbrev of_slot : ℕ → Showing → ℕ
+of_slot i r = is i r.slot
+
+in_total : (rs : List Showing) (i : ℕ) (g : Gv) → IsIn rs i g → 0 < total (of_slot i) rs
+in_total rs i g h = let a = total_has (of_slot i) rs h.0 h.1 h.2 in let b = is_same i h.1.slot h.3 in omega arith
+
+total_in : (rs : List Showing) (i : ℕ) → 0 < total (of_slot i) rs → (g : Gv) × IsIn rs i g
+total_in rs i more = let t = total_some (of_slot i) rs more in let there = t.3 in
+    (t.1.value, (t.0, t.1, t.2, dite (ℕ_discrete t.1.slot i) (λ e. e) (λ ne. absurd (let z = is_other i t.1.slot ne in omega arith)), refl))
+
+pub in_others : (slot : ℕ) (rs : List Showing) (i : ℕ) (g : Gv) → IsIn (without_record slot rs) i g → (i ≢ slot) × IsIn rs i g
+in_others slot rs i g h = (
+  λ e. let gone = total_gone (of_slot slot) (λ (r : Showing). not (eqb r.slot slot)) (λ x t. is_other slot x.slot (λ e. grind (arith, eq-eqb x.slot slot e))) rs in
+      let a = in_total (without_record slot rs) slot g (subst (λ (k : ℕ). IsIn (without_record slot rs) k g) e h) in omega arith,
+  let q = at_filter (λ (r : Showing). not (eqb r.slot slot)) rs h.0 h.1 h.2 in (q.0, h.1, q.1, h.3, h.4),
+)
+
+pub in_kept : (slot : ℕ) (rs : List Showing) (i : ℕ) (g : Gv) → i ≢ slot → IsIn rs i g → (k : Gv) × IsIn (without_record slot rs) i k
+in_kept slot rs i g ne h = let a = in_total rs i g h in
+    let kept = total_kept (of_slot i) (λ (r : Showing). not (eqb r.slot slot)) (λ x t. is_other i x.slot (λ e. grind (arith, ne_eqb x.slot slot))) rs in
+    total_in (without_record slot rs) i (omega arith)
+
 -- ---- one participant
 pub sees_told : (v : View) → IsTelling v → (i : ℕ) (g : Gv) → IsIn v.stakes.sees i g → Sees v i
 sees_told v t i g h = subst (λ (l : List ℕ). 0 < times i l) t.sees (in_times v.stakes.sees i g h)
@@ -60,6 +101,7 @@ told_seen v t i h = in_some v.stakes.sees i (subst (λ (l : List ℕ). 0 < times
 -- what it knows of slots and of stakes is as before
 abbrev pub IsAlike : View → View → Type 0
 IsAlike v w = (record w.stakes { counts = v.stakes.counts } ≡ v.stakes) × (w.slots.owns ≡ v.slots.owns) × (w.slots.sees ≡ v.slots.sees)
+    × ((i : ℕ) → items_at i w ≡ items_at i v)
 
 pub telling_alike : (v w : View) → IsAlike v w → IsTelling v → IsTelling w
 telling_alike v w same t = record {
@@ -68,19 +110,32 @@ telling_alike v w same t = record {
   owned = λ i o still. let b = t.owned i (subst (λ (l : List ℕ). 0 < times i l) same.1 o) (λ m. still (ap (λ (s : StakesView). s.moves) same.0 ∙ m)) in
       (b.0, subst (λ (s : StakesView). IsIn s.owns i b.0) (sym same.0) b.1);
   sees = ap (λ (s : StakesView). map slot_shown s.sees) same.0 ∙ (t.sees ∙ sym same.2);
+  waits = λ i g h. let b = t.waits i g (subst (λ (s : StakesView). IsIn s.waits i g) same.0 h) in
+      (subst (λ (k : ℕ). 0 < k) (sym (same.3 i)) b.0, λ m. b.1 (ap (λ (s : StakesView). s.moves) (sym same.0) ∙ m));
+  waiting = λ i o still. let b = t.waiting i (subst (λ (k : ℕ). 0 < k) (same.3 i) o) (λ m. still (ap (λ (s : StakesView). s.moves) same.0 ∙ m)) in
+      (b.0, subst (λ (s : StakesView). IsIn s.waits i b.0) (sym same.0) b.1);
 }
 
--- one that owns nothing, and sees nothing
-pub telling_none : (w : View) → w.stakes.owns ≡ [] → w.slots.owns ≡ [] → w.stakes.sees ≡ [] → w.slots.sees ≡ [] → IsTelling w
-telling_none w e e' f f' = record {
+-- one that owns nothing, sees nothing, and with which no item waits
+pub telling_none : (w : View) → w.stakes.owns ≡ [] → w.slots.owns ≡ [] → w.stakes.sees ≡ [] → w.slots.sees ≡ [] → w.stakes.waits ≡ []
+    → w.slots.waits ≡ [] → IsTelling w
+telling_none w e e' f f' q q' = record {
   owns = λ i g h. absurd (in_none i g (subst (λ (l : List Showing). IsIn l i g) e h));
   owned = λ i o still. let t = ap (times i) e' in absurd (omega arith);
   sees = ap (map slot_shown) f ∙ sym f';
+  waits = λ i g h. absurd (in_none i g (subst (λ (l : List Showing). IsIn l i g) q h));
+  waiting = λ i o still. let t = ap (total (waits_in i)) q' in absurd (omega arith);
 }
 
-pub knows_none : (w : View) → w.stakes.owns ≡ [] → w.stakes.sees ≡ [] → (i : ℕ) (g : Gv) → ¬ (KnowsShown w i g)
-knows_none w e f i g k = ⊎_elim (λ (h : IsIn w.stakes.owns i g). in_none i g (subst (λ (l : List Showing). IsIn l i g) e h))
-    (λ (h : IsIn w.stakes.sees i g). in_none i g (subst (λ (l : List Showing). IsIn l i g) f h)) k
+-- it knows it of a slot of its own, of one that it sees, or of one whose item waits with it
+pub known_by : {P : Type 0} (v : View) (i : ℕ) (g : Gv) → (IsIn v.stakes.owns i g → P) → (IsIn v.stakes.sees i g → P) → (IsIn v.stakes.waits i g → P)
+    → KnowsShown v i g → P
+known_by v i g owns sees waits k = ⊎_elim owns (λ (t : IsIn v.stakes.sees i g ⊎ IsIn v.stakes.waits i g). ⊎_elim sees waits t) k
+
+pub knows_none : (w : View) → w.stakes.owns ≡ [] → w.stakes.sees ≡ [] → w.stakes.waits ≡ [] → (i : ℕ) (g : Gv) → ¬ (KnowsShown w i g)
+knows_none w e f q i g k = let none : (l : List Showing) → l ≡ [] → ¬ (IsIn l i g)
+    = λ l z h. in_none i g (subst (λ (l : List Showing). IsIn l i g) z h) in
+    known_by w i g (none w.stakes.owns e) (none w.stakes.sees f) (none w.stakes.waits q) k
 
 -- what the one moves the other doesn't see
 abbrev pub NotSeen : View → View → Type 0
@@ -108,12 +163,13 @@ module _ (sizes : Sizes) (vs : List View) (hs : Homes) (part : RecordsPart sizes
     apart = λ j k v w i e e' m. apart j k v w e e' i m;
   }
 
-  -- nobody knows what a slot shows that nobody sees, and that no one owns but who moves its value
+  -- nobody knows what a slot shows that nobody sees, and that no one owns, nor has its item, but who moves its value
   pub unknown : (i : ℕ) → ((j : ℕ) (u : View) → get_elem? vs j ≡ some u → ¬ (Sees u i))
-      → ((j : ℕ) (u : View) → get_elem? vs j ≡ some u → OwnsAlone u i → Moves u i) → (g : Gv) → ¬ (IsKnown vs i g)
-  unknown i blind owners g k = let t = part.each k.0 k.1 k.2 in ⊎_elim
-      (λ (h : IsIn k.1.stakes.owns i g). let o = t.owns i g h in o.1 (owners k.0 k.1 k.2 o.0))
-      (λ (h : IsIn k.1.stakes.sees i g). blind k.0 k.1 k.2 (sees_told k.1 t i g h)) k.3
+      → ((j : ℕ) (u : View) → get_elem? vs j ≡ some u → OwnsAlone u i ⊎ (0 < items_at i u) → Moves u i) → (g : Gv) → ¬ (IsKnown vs i g)
+  unknown i blind movers g k = let t = part.each k.0 k.1 k.2 in known_by k.1 i g
+      (λ h. let o = t.owns i g h in o.1 (movers k.0 k.1 k.2 (inl o.0)))
+      (λ h. blind k.0 k.1 k.2 (sees_told k.1 t i g h))
+      (λ h. let o = t.waits i g h in o.1 (movers k.0 k.1 k.2 (inr o.0))) k.3
 
   -- a new token, which moves none, and sees none
   pub arrives : (t : View) → IsTelling t → ((i : ℕ) (g : Gv) → KnowsShown t i g → IsKnown vs i g) → t.stakes.moves ≡ None → t.slots.sees ≡ []
@@ -151,8 +207,9 @@ module _ (sizes : Sizes) (vs : List View) (hs : Homes) (part : RecordsPart sizes
 
     pub calm : (w : View) → IsAlike v w → RecordsPart sizes (set vs id w) hs
     calm w same = no_more w hs (telling_alike v w same (part.each id v at))
-        (λ i g k. mine i g (⊎_elim (λ (h : IsIn w.stakes.owns i g). inl (subst (λ (s : StakesView). IsIn s.owns i g) same.0 h))
-        (λ (h : IsIn w.stakes.sees i g). inr (subst (λ (s : StakesView). IsIn s.sees i g) same.0 h)) k))
+        (λ i g k. mine i g (known_by w i g (λ h. inl (subst (λ (s : StakesView). IsIn s.owns i g) same.0 h))
+        (λ h. inr (inl (subst (λ (s : StakesView). IsIn s.sees i g) same.0 h)))
+        (λ h. inr (inr (subst (λ (s : StakesView). IsIn s.waits i g) same.0 h))) k))
         (λ i p y _ _ l. inl l) (λ i m. ap (λ (s : StakesView). s.moves) (sym same.0) ∙ m)
         (λ i s. subst (λ (l : List ℕ). 0 < times i l) same.2 s)
 

@@ -3,7 +3,7 @@ use Rattle.std.proofs.Common.{◌≡◌, ◌≢◌, ◌⊎◌, inl, inr, ℕ, su
 use mathlib.Core.Option.{none, some, some-injective}
 use mathlib.Core.Logic.{dite}
 use native.Mathlib.Decide.{ℕ_discrete, dec_lt}
-use Rattle.std.specs.Prelude.{Some, None}
+use Rattle.std.specs.Prelude.{Some, None, not}
 use lib.ListN.{get_elem?}
 use lib.Seq.{set-get_or}
 use prog.Atomic.{either}
@@ -33,30 +33,31 @@ use Rattle.sdd_rule.proofs.Ended as ended
 use Rattle.sdd_rule.proofs.Codes.{sound, free_is, owned_is, waiting_is}
 use Rattle.sdd_rule.proofs.EpochSteps as over
 use Rattle.sdd_rule.proofs.SlotSteps as steps
+use Rattle.sdd_rule.proofs.Owning.{item_gone, item_kept}
 use Rattle.sdd_rule.proofs.Owning as owning
 use Rattle.sdd_rule.proofs.Holding as holding
 use Rattle.sdd_rule.proofs.Lift.{blind}
 use Rattle.sdd_rule.proofs.Lone.{finds}
 use Rattle.sdd_rule.proofs.SlotWords.{owner_in, owners_in}
-use Rattle.sdd_rule.proofs.Sums.{is_same, is_other, without_same, without_other, total_has, total_two}
+use Rattle.sdd_rule.proofs.Sums.{is_same, is_other, without_same, without_other, total_has, total_two, at_filter}
 use Rattle.sdd_rule.proofs.Waits.{waits_once}
 use Rattle.sdd_witness.specs.Steps.{AllowsAlone, AllowsBeside, moved}
 use Rattle.sdd_rule.specs.Moves.{all_in}
 use Rattle.sdd_homes.specs.Homes.{Carries, stake_at, share, Has, IsShown, Moves, Settles, IsOneOut, IsOut, NoneOut, LiesAt, HomesPart}
 use Rattle.sdd_homes.specs.Housed.{Housed}
-use Rattle.sdd_homes.specs.HomeSteps.{Mine, HasAll, HasLast, IsValue, Purse, moving, settling, making, giving, resting, telling, untold, sighting, unsighted, ClaimsAll, Houses, TakesOut, TakesHeld, TakesLast, RetiresOne, GivesAll, DiscardsAll, Watches, Recalls, ClosesHome, OfSlot}
+use Rattle.sdd_homes.specs.HomeSteps.{Mine, HasAll, HasLast, IsValue, Purse, moving, settling, making, giving, resting, telling, untold, remembering, forgetting, sighting, unsighted, IsNewest, ClaimsAll, Houses, TakesOut, TakesHeld, TakesLast, RetiresOne, GivesAll, DiscardsAll, Watches, Recalls, ClosesHome, OfSlot}
 use Rattle.sdd_homes.specs.Records.{IsIn, KnowsShown, IsKnown, IsTelling, RecordsPart}
 use Rattle.sdd_homes.specs.Counts.{ended_places}
-use Rattle.sdd_homes.specs.Fillings.{FilledPart}
+use Rattle.sdd_homes.specs.Fillings.{HasRecord, Tells, FilledPart}
 use Rattle.sdd_homes.proofs.Part.{none_out, only_seen, of_another, before_slots, one_taken}
 use Rattle.sdd_homes.proofs.Part as part
 use Rattle.sdd_homes.proofs.Places.{one_slot}
 use Rattle.sdd_homes.proofs.Counts.{ended_spared, as_full, one_full, counted, uncounted, uncounted_alone}
-use Rattle.sdd_homes.proofs.Records.{in_either, in_none, told_seen}
+use Rattle.sdd_homes.proofs.Records.{in_either, in_none, in_both, in_others, known_by, told_seen}
 use Rattle.sdd_homes.proofs.Records as records
-use Rattle.sdd_homes.proofs.Fillings.{TellsNoMore, tells_none, filled_after, filled_same, filled_housed}
+use Rattle.sdd_homes.proofs.Fillings.{TellsNoMore, has_none, has_either, told_by, tells_old, filled_after, filled_same, filled_housed}
 use Rattle.sdd_homes.proofs.Rows.{Taken, takes_row, gives_row, gives_purse, last_given, taken_lies, given_lies}
-use Rattle.sdd_homes.proofs.Telling.{one_moved, none_moved, none_settled, settles_only, one_settled, settling_tells, one_view, owns_it, claimed_tells, moving_tells, held_tells, retired_tells, housed_tells, rested_tells, none_owns, unknown_owned, unknown_waiting, comes_home}
+use Rattle.sdd_homes.proofs.Telling.{one_moved, none_moved, none_settled, settles_only, one_settled, settling_tells, one_view, owns_it, claimed_tells, moving_tells, held_tells, retired_tells, housed_tells, rested_tells, none_owns, none_waits, unknown_owned, unknown_waiting, comes_home}
 use Rattle.sdd_homes.proofs.Tops.{rest_is, share_one}
 use Rattle.sdd_homes.proofs.Lift.{Keeps, Follows, IsCalm, keeps_ended, lift_homes, lift_calm, stands, stands_by}
 
@@ -137,8 +138,14 @@ module _ (slots id : ℕ) (me : Mine) (live : HasPlace me.0.epoch) where
     filled_by : (w : View) → w.stakes.filled ≡ v.stakes.filled → TellsNoMore w s.views → FilledPart sizes (set s.views id w)
     filled_by w same tells = filled_after sizes s.views h.filled id v at w same tells (λ _ _. inl live)
 
-    still_filled : (w : View) → w.stakes.filled ≡ v.stakes.filled → w.stakes.owns ≡ v.stakes.owns → FilledPart sizes (set s.views id w)
-    still_filled w same owns = filled_same sizes s.views h.filled id v at w same owns (λ _. live)
+    still_filled : (w : View) → w.stakes.filled ≡ v.stakes.filled → w.stakes.owns ≡ v.stakes.owns → w.stakes.waits ≡ v.stakes.waits
+        → FilledPart sizes (set s.views id w)
+    still_filled w same owns waits = filled_same sizes s.views h.filled id v at w same owns waits (λ _. live)
+
+    -- the records that it has are among those that it had
+    tells_old_by : (w : View) → ((r : Showing) → HasRecord w.stakes.owns r → Tells v r) → ((r : Showing) → HasRecord w.stakes.waits r → Tells v r)
+        → TellsNoMore w s.views
+    tells_old_by w owns waits = tells_old sizes s.views h.filled id v at w (told_by w v owns waits)
 
   -- what it has out but for the stakes that it may take is out still: what its guards see
   still_seen : (w : View) → v.stakes.moves ≡ None → w.slots.sees ≡ v.slots.sees → w.epoch.place ≡ v.epoch.place → (j p : ℕ) → IsOut n v j p → IsOut n w j p
@@ -186,7 +193,8 @@ module _ (slots id : ℕ) (me : Mine) (live : HasPlace me.0.epoch) where
       within = let l = h.kept.parts.slots.long in omega arith
 
       -- where nobody sees the slot or has stakes in it out, all may be taken, which show what its word says
-      pub all_taken : (o : ℕ) → alive (slot_at sizes s.words slot) ≡ o → (Is : Gv → Type 0) → ((g : Gv) → IsShown (slot_at sizes s.words slot) g → Is g)
+      pub all_taken : (o : ℕ) → alive (slot_at sizes s.words slot) ≡ o → (Is : Gv → Type 0)
+          → ((p : ℕ) (y : Stake) → p ≤ n → LiesAt n s.homes slot p y → IsShown (slot_at sizes s.words slot) y.lot.shown → Is y.lot.shown)
           → ((j : ℕ) (u : View) → get_elem? s.views j ≡ some u → ¬ (Sees u slot) × ¬ (Moves u slot) × ¬ (Settles u slot))
           → Taken γ n slot o Is s.homes me.1 (suc n)
       all_taken o owners Is shown unseen = takes_row γ n slot o Is s.homes me.1 (suc n) (λ p l.
@@ -194,7 +202,7 @@ module _ (slots id : ℕ) (me : Mine) (live : HasPlace me.0.epoch) where
           (λ (a : IsOneOut n u slot p). ⊎_elim (λ (o : Sees u slot × (u.epoch.place ≡ p)). (unseen j u e).0 o.0)
           (λ (l : Settles u slot × (p ≡ n)). (unseen j u e).2 l.0) a) out) in
           let has = subst (λ (k : ℕ). Has γ slot (share n k p) (IsShown (slot_at sizes s.words slot)) b.0) owners
-          (h.homes.home slot p b.0 inside (omega arith) b.1) in (b.0, b.1, (has.0, shown b.0.lot.shown has.1)))
+          (h.homes.home slot p b.0 inside (omega arith) b.1) in (b.0, b.1, (has.0, shown p b.0 (omega arith) b.1 has.1)))
 
       -- no place ends by a step on a slot
       over_slot : (y : ℕ) → ended_places s.words n ≤ ended_places (set s.words i y) n
@@ -215,7 +223,7 @@ module _ (slots id : ℕ) (me : Mine) (live : HasPlace me.0.epoch) where
         exchanged x (free_word 0) (owned_word 0) (λ y. Follows γ sizes id i me told s y w)
         (λ hit. let free = free_is 0 (omega arith) in let dead : alive x ≡ 0 = ap alive hit ∙ free.0 in let quiet : waiting x ≡ 0 = ap waiting hit ∙ free.1 in
         let empty : full x ≡ 0 = ap full hit ∙ free.2 in
-        let tk = all_taken s h 0 dead IsVacant (λ g sh. sh.1 empty) (λ j u e. (
+        let tk = all_taken s h 0 dead IsVacant (λ p y _ _ sh. sh.1 empty) (λ j u e. (
           owning.fresh codes sound sizes s.words s.views h.kept.parts.slots id v at slot empty j u e,
           still_free γ sizes s h slot j u e dead quiet,
           unsettled γ sizes s h slot j u e dead,
@@ -232,7 +240,8 @@ module _ (slots id : ℕ) (me : Mine) (live : HasPlace me.0.epoch) where
               );
           records = records.comes_to_move sizes s.views s.homes h.records id v at slot now (homes_after s.homes me.1 tk.act)
               (claimed_tells v (h.records.each id v at) slot rests
-              (λ o. let a = ((h.kept.parts.slots.each id v at).alone slot o).0 in omega arith) (owned_word 0))
+              (λ o. let a = ((h.kept.parts.slots.each id v at).alone slot o).0 in omega arith)
+              (λ o. let a = total_has (items_at slot) s.views id v at in let sum = h.kept.parts.slots.waited slot in omega arith) (owned_word 0))
               (records.mine sizes s.views s.homes h.records id v at)
               (λ j p y _ near l. (taken_lies γ n slot 0 IsVacant s.homes me.1 tk j p y near l).1) refl (λ j m. one_moved now slot j refl m)
               (owning.fresh codes sound sizes s.words s.views h.kept.parts.slots id v at slot empty);
@@ -240,7 +249,7 @@ module _ (slots id : ℕ) (me : Mine) (live : HasPlace me.0.epoch) where
               (let f = one_full sizes s.words slot (owned_word 0) inside h.kept.parts.slots.long in
               let y = full_owned (owned_word 0) (let q = (owned_is 0 (omega arith)).0 in omega arith) in omega arith)
               (let o = over_slot s h (owned_word 0) in omega arith) (λ none. absurd (omega arith));
-          filled = still_filled s h at now refl refl;
+          filled = still_filled s h at now refl refl refl;
           tells = at_once (λ slot. ClaimsAll slot (free_word 0) (owned_word 0)) x (now, carried_after me.1 tk.act)
               ((λ _. (refl, tk.row)), (λ no. absurd (no hit)), c.2);
         })
@@ -250,10 +259,10 @@ module _ (slots id : ℕ) (me : Mine) (live : HasPlace me.0.epoch) where
           valid = tt;
           homes = part.calm γ sizes s.words s.views s.homes h.homes id v at (set s.words i x) v (λ j p out. out) (λ j _. same_words s h j)
               (h.homes.moving id v at);
-          records = records.calm sizes s.views s.homes h.records id v at v (refl, refl, refl);
+          records = records.calm sizes s.views s.homes h.records id v at v (refl, refl, refl, λ _. refl);
           counts = uncounted sizes s.words s.views h.counts id v at (set s.words i x) v refl (λ l. l)
               (as_full sizes s.words (set s.words i x) (λ j _. ap full (same_words s h j))) (over_slot s h x);
-          filled = still_filled s h at v refl refl;
+          filled = still_filled s h at v refl refl refl;
           tells = at_once (λ slot. ClaimsAll slot (free_word 0) (owned_word 0)) x me ((λ hit. absurd (miss hit)), (λ _. refl), c.2);
         }))
 
@@ -272,31 +281,34 @@ module _ (slots id : ℕ) (me : Mine) (live : HasPlace me.0.epoch) where
               (part.gives γ sizes s.words s.views s.homes h.homes id v at slot 1 (IsValue value) rest me.1 g s.words w one
               (λ g so. (λ _. so.0, λ e. absurd (omega arith))) (seen_but w slot mine refl refl) (λ j _ _. refl) (none_out w refl))
               (records.comes_to_know sizes s.views s.homes h.records id v at slot value w (homes_after s.homes me.1 g.act)
-              (housed_tells v (h.records.each id v at) slot mine own shared value) unknown
-              (λ i g k. ⊎_elim
-              (λ (a : IsIn (r ∷ v.stakes.owns) i g). ⊎_elim (λ (e : (slot ≡ i) × (value ≡ g)). inl (sym e.0, sym e.1))
+              (housed_tells v (h.records.each id v at) slot mine own (none_waits γ sizes s h slot id v at own id v at) shared value) unknown
+              (λ i g k. known_by w i g
+              (λ a. ⊎_elim (λ (e : (slot ≡ i) × (value ≡ g)). inl (sym e.0, sym e.1))
               (λ (b : IsIn v.stakes.owns i g). inr (known i g (inl b))) (in_either r v.stakes.owns i g a))
-              (λ (a : IsIn v.stakes.sees i g). inr (known i g (inr a))) k)
+              (λ a. inr (known i g (inr (inl a)))) (λ a. inr (known i g (inr (inr a)))) k)
               (λ j p y _ near lies. ⊎_elim (λ (b : (j ≡ slot) × Has γ slot (share n 1 p) (IsValue value) y). inl (b.0, b.1.1.1))
               (λ (b : (j ≢ slot) × LiesAt n s.homes j p y). inr b) (given_lies γ n slot 1 (IsValue value) s.homes rest me.1 g j p y near lies))
               (λ j. none_moved w j refl) (λ j a. a))
               (filled_housed sizes s.views h.filled id v at s.words h.kept.parts.epoch live r
-              (λ x t e. unknown x.value (t.0, t.2, t.3, inl (t.1, x, t.4, sym e, refl))) w refl refl),
+              (λ x t e. unknown x.value (t.0, t.1, t.2, ⊎_elim (λ (a : HasRecord t.1.stakes.owns x). inl (a.0, x, a.1, sym e, refl))
+              (λ (a : HasRecord t.1.stakes.waits x). inr (inr (a.0, x, a.1, sym e, refl))) t.3)) w refl refl refl),
           (refl, g.carried ∙ sym (rest_is γ slot n 1 (IsValue value) rest (suc n) me.1 row)),
         )
 
     -- where nobody sees a slot, and its value may be moved out by this one alone, all stakes in it are taken
     moves_out : (o : ℕ) (s : State Stake View) (h : Housed γ sizes s) → get_elem? s.views id ≡ some v → v.stakes.moves ≡ None
-        → alive (slot_at sizes s.words slot) ≡ o → full (slot_at sizes s.words slot) ≡ 1 → OwnsAlone v slot ⊎ (0 < items_at slot v)
+        → alive (slot_at sizes s.words slot) ≡ o → (Is : Gv → Type 0)
+        → ((p : ℕ) (y : Stake) → p ≤ n → LiesAt n s.homes slot p y → IsShown (slot_at sizes s.words slot) y.lot.shown → Is y.lot.shown)
+        → OwnsAlone v slot ⊎ (0 < items_at slot v)
         → ((j : ℕ) (u : View) → get_elem? s.views j ≡ some u → ¬ (Sees u slot))
         → ((j : ℕ) (u : View) → get_elem? s.views j ≡ some u → id ≢ j → ¬ (Moves u slot) × ¬ (Settles u slot))
         → (t : StakesView) → t.counts ≡ v.stakes.counts → t.moves ≡ Some (all_in slot) → IsTelling (record v { stakes = t })
         → ((j : ℕ) (g : Gv) → KnowsShown (record v { stakes = t }) j g → KnowsShown v j g)
         → t.filled ≡ v.stakes.filled → TellsNoMore (record v { stakes = t }) s.views
         → (w : View) × (a : Act Stake) × Valid s.homes me.1 a
-        × Housed γ sizes (moved s id me.1 w a) × (w ≡ record v { stakes = t }) × HasAll γ slot n o IsFull me.1 (carried_after me.1 a)
-    moves_out o s h at rests owners filled may unseen still t same is tells known kept no_more = let w : View = record v { stakes = t } in
-        let tk = all_taken s h o owners IsFull (λ g sh. sh.0 filled) (λ j u e. (
+        × Housed γ sizes (moved s id me.1 w a) × (w ≡ record v { stakes = t }) × HasAll γ slot n o Is me.1 (carried_after me.1 a)
+    moves_out o s h at rests owners Is shown may unseen still t same is tells known kept no_more = let w : View = record v { stakes = t } in
+        let tk = all_taken s h o owners Is shown (λ j u e. (
           unseen j u e,
           (λ m. dite (ℕ_discrete id j)
               (λ one. none_moved v slot rests (subst (λ (z : View). Moves z slot) (one_view s.views id j u v e at (sym one)) m))
@@ -309,7 +321,7 @@ module _ (slots id : ℕ) (me : Mine) (live : HasPlace me.0.epoch) where
           tk.act,
           tk.valid,
           stands_by γ sizes id v s h at t same (homes_after s.homes me.1 tk.act)
-              (part.takes γ sizes s.words s.views s.homes h.homes id v at slot o IsFull me.1 tk s.words w is
+              (part.takes γ sizes s.words s.views s.homes h.homes id v at slot o Is me.1 tk s.words w is
               (λ j p _. still_seen w rests refl refl j p) (λ j _ _. refl) (
                 (λ j m. let e : slot ≡ j = sym (one_moved w slot j is m) in
                     (live, subst (λ (k : ℕ). OwnsAlone v k ⊎ (0 < items_at k v)) e may)),
@@ -317,28 +329,48 @@ module _ (slots id : ℕ) (me : Mine) (live : HasPlace me.0.epoch) where
               ))
               (records.comes_to_move sizes s.views s.homes h.records id v at slot w (homes_after s.homes me.1 tk.act) tells
               (λ j g k. records.mine sizes s.views s.homes h.records id v at j g (known j g k))
-              (λ j p y _ near l. (taken_lies γ n slot o IsFull s.homes me.1 tk j p y near l).1) refl (λ j m. one_moved w slot j is m) unseen)
+              (λ j p y _ near l. (taken_lies γ n slot o Is s.homes me.1 tk j p y near l).1) refl (λ j m. one_moved w slot j is m) unseen)
               (filled_by s h at w kept no_more),
           refl,
           tk.row,
         )
 
+    -- what is remembered of an item that waits with a lone participant it moved in last
+    remembered_filled : (s : State Stake View) → Housed γ sizes s → get_elem? s.views id ≡ some v → (value : Gv) → IsIn v.stakes.waits slot value
+        → IsLone v.epoch → (shared : Bool) × IsNewest slot shared value v
+    remembered_filled s h at value there lone = let r : Showing = there.1 in let one = one_place γ sizes s h id v at lone in (
+      r.shared,
+      subst (λ (z : ℕ × Gv). IsNewest z.0 r.shared z.1 v) (λ d. (there.3 d, there.4 d))
+          (h.filled.knows one id id v v r at live at (inr (there.0, there.2))),
+    )
+
     -- the value of an item that is due is to be moved out
     pub takes_out : v.stakes.moves ≡ None → IsDue v slot → MayAlone (TakesOut slot me)
     takes_out rests due s h _ at = let k : ℕ = due.0 in let item : WaitingItem = due.1 in let p = h.kept.parts in
         let once = waits_once codes sound sizes s.words s.views p.slots id v at slot k item due.2 due.3 in
-        let waits : 0 < items_at slot v = omega arith in
+        let waits : 0 < items_at slot v = omega arith in let tells = h.records.each id v at in
         let here_waits = total_has (items_at slot) s.views id v at in let sum = p.slots.waited slot in
         let filled = (sound.waits (slot_at sizes s.words slot) (omega arith)).1 in
         let dead : alive (slot_at sizes s.words slot) ≡ 0 = dite (dec_lt 0 (alive (slot_at sizes s.words slot)))
         (λ l. absurd (let w = (sound.lives (slot_at sizes s.words slot) l).0 in omega arith)) (λ none. omega arith) in
-        let m = moves_out 0 s h at rests dead filled (inr waits)
+        let there = tells.waiting slot waits (none_moved v slot rests) in let value : Gv = there.0 in
+        let known = records.mine sizes s.views s.homes h.records id v at slot value (inr (inr there.1)) in
+        let w : View = moving slot (forgetting slot v) in
+        let m = moves_out 0 s h at rests dead (IsValue value)
+        (λ q y near lies sh. (sh.0 filled, h.records.home slot q value y inside near known lies)) (inr waits)
         (λ j u e sees. owning.unseen codes sound sizes s.words s.views p.slots id v at p.epoch k item due.2 due.4 j u e (subst (Sees u) (sym due.3) sees))
         (λ j u e ne. (still_waiting γ sizes s h slot id j v u at e ne waits, unsettled γ sizes s h slot j u e dead))
-        (record v.stakes { moves = Some (all_in slot) }) refl refl
-        (moving_tells v (h.records.each id v at) slot rests (none_owns γ sizes s h slot id v at waits id v at)) (λ j g k. k) refl
-        (λ m r e. (id, m, v, at, e)) in
-        (m.0, m.1, m.2, m.3, (m.4, m.5))
+        w.stakes refl refl
+        (moving_tells v tells slot rests (none_owns γ sizes s h slot id v at waits id v at))
+        (λ j g. known_by w j g (λ a. inl a) (λ a. inr (inl a)) (λ a. inr (inr (in_others slot v.stakes.waits j g a).1))) refl
+        (tells_old_by s h at w (λ r a. inl a)
+        (λ r a. inr (at_filter (λ (x : Showing). not (eqb x.slot slot)) v.stakes.waits a.0 r a.1))) in (
+          m.0,
+          m.1,
+          m.2,
+          m.3,
+          record { value = value; view = m.4; stakes = m.5; remembered = there.1; filled = remembered_filled s h at value there.1 },
+        )
 
     -- it was moved out
     pub gives_all : Moves v slot → IsDue v slot → (rest : Carries) → HasAll γ slot n 0 IsVacant rest me.1
@@ -359,14 +391,15 @@ module _ (slots id : ℕ) (me : Mine) (live : HasPlace me.0.epoch) where
               (seen_but (giving now) slot mine refl refl) (others s.words y) (none_out (giving now) refl);
           records = let waits : 0 < items_at slot v = (let once = c.1 in omega arith) in
               comes_home γ sizes s h slot id v at 0 IsVacant rest me.1 g (unknown_waiting γ sizes s h slot id v at mine waits) (giving now)
-              (rested_tells v (h.records.each id v at) slot mine (giving now) refl (λ _ _. refl) (none_owns γ sizes s h slot id v at waits id v at) refl)
+              (rested_tells v (h.records.each id v at) slot mine (giving now) refl (λ _ _. refl) (none_owns γ sizes s h slot id v at waits id v at)
+              (λ j ne. item_kept slot j ne v.slots.waits) (λ o. let z = item_gone slot v.slots.waits in omega arith) refl)
               refl refl;
           counts = let once = c.1 in let here = total_has (items_at slot) s.views id v at in let sum = h.kept.parts.slots.waited slot in
               let was = (sound.waits (slot_at sizes s.words slot) (omega arith)).1 in
               counted sizes s.words s.views h.counts id v at (set s.words i y) (giving now)
               (let f = one_full sizes s.words slot y inside h.kept.parts.slots.long in omega arith)
               (let o = over_slot s h y in omega arith) (λ none. absurd (omega arith));
-          filled = still_filled s h at (giving now) refl refl;
+          filled = still_filled s h at (giving now) refl refl refl;
           tells = at_once GivesAll y (giving now, carried_after me.1 g.act)
               (now, (refl, c.1), refl, g.carried ∙ sym (rest_is γ slot n 0 IsVacant rest (suc n) me.1 row));
         })
@@ -375,12 +408,13 @@ module _ (slots id : ℕ) (me : Mine) (live : HasPlace me.0.epoch) where
     pub takes_held : v.stakes.moves ≡ None → v.slots.owns ≡ slot ∷ [] → Holds v slot → n ≤ v.slots.looked → MayAlone (TakesHeld slot me)
     takes_held rests owns held all s h _ at = let p = h.kept.parts in let tells = h.records.each id v at in
         let own = owns_it v slot owns in let one = ((p.slots.each id v at).alone slot own).0 in
-        let m = moves_out 1 s h at rests one (full_owned (slot_at sizes s.words slot) (omega arith)) (inl own)
+        let filled = full_owned (slot_at sizes s.words slot) (omega arith) in let w : View = moving slot (untold v) in
+        let m = moves_out 1 s h at rests one IsFull (λ q y _ _ sh. sh.0 filled) (inl own)
         (holding.unseen_held codes sound sizes s.words s.views p.slots id v at p.epoch slot held all)
         (λ j u e ne. (still_owned γ sizes s h slot id j v u at e ne (omega arith), unsettled_owned γ sizes s h slot id j v u at e ne own))
-        (record v.stakes { moves = Some (all_in slot); owns = [] }) refl refl (held_tells v tells slot owns)
-        (λ j g k. ⊎_elim (λ (a : IsIn [] j g). absurd (in_none j g a)) (λ (a : IsIn v.stakes.sees j g). inr a) k) refl
-        (tells_none (moving slot (untold v)) s.views refl) in
+        w.stakes refl refl (held_tells v tells slot owns rests (none_waits γ sizes s h slot id v at own id v at))
+        (λ j g. known_by w j g (λ a. absurd (in_none j g a)) (λ a. inr (inl a)) (λ a. inr (inr a))) refl
+        (tells_old_by s h at w (λ r a. absurd (has_none r [] refl a)) (λ r a. inr a)) in
         (m.0, m.1, m.2, m.3, (m.4, m.5))
 
     -- it has gone
@@ -403,14 +437,14 @@ module _ (slots id : ℕ) (me : Mine) (live : HasPlace me.0.epoch) where
           records = let own = (h.kept.parts.slots.each id v at).held slot held in
               comes_home γ sizes s h slot id v at 0 IsVacant rest me.1 g (unknown_owned γ sizes s h slot id v at mine own) (giving now)
               (rested_tells v (h.records.each id v at) slot mine (giving now) refl (λ i ne. without_other slot i ne v.slots.owns)
-              (λ o. let z = without_same slot v.slots.owns in omega arith) refl)
+              (λ o. let z = without_same slot v.slots.owns in omega arith) (λ _ _. refl) (none_waits γ sizes s h slot id v at own id v at) refl)
               refl refl;
           counts = let one = ((h.kept.parts.slots.each id v at).alone slot ((h.kept.parts.slots.each id v at).held slot held)).0 in
               let was = full_owned (slot_at sizes s.words slot) (omega arith) in
               counted sizes s.words s.views h.counts id v at (set s.words i y) (giving now)
               (let f = one_full sizes s.words slot y inside h.kept.parts.slots.long in omega arith)
               (let o = over_slot s h y in omega arith) (λ none. absurd (omega arith));
-          filled = still_filled s h at (giving now) refl refl;
+          filled = still_filled s h at (giving now) refl refl refl;
           tells = at_once DiscardsAll y (giving now, carried_after me.1 g.act)
               (refl, g.carried ∙ sym (rest_is γ slot n 0 IsVacant rest (suc n) me.1 row));
         })
@@ -424,7 +458,7 @@ module _ (slots id : ℕ) (me : Mine) (live : HasPlace me.0.epoch) where
           more = λ j p out. out;
           same = λ j _. same_words s h j;
           mover = h.homes.moving id v at;
-          alike = (refl, refl, refl);
+          alike = (refl, refl, refl, λ _. refl);
           counts = refl;
           lives = λ l. l;
           had = λ _ l. inl l;
@@ -462,7 +496,7 @@ module _ (slots id : ℕ) (me : Mine) (live : HasPlace me.0.epoch) where
               (records.no_more sizes s.views s.homes r id v at w (set s.homes spot none) (settling_tells v (r.each id v at) slot rests)
               mine (λ j p z _ _ lies. inl (one_taken s.homes spot (stake_at n j p) z lies))
               (λ j m. absurd (settles_only w slot j refl m)) (λ j a. a))
-              (still_filled s h at w refl refl),
+              (still_filled s h at w refl refl refl),
           (λ value told. (refl, (refl, it value told, refl))),
         )
 
@@ -475,7 +509,7 @@ module _ (slots id : ℕ) (me : Mine) (live : HasPlace me.0.epoch) where
         (spares (λ _. y) (λ _. AtSlot Retires i v y) (λ r w t. ap (λ (u : View). u.places) (t slot refl).3))
         (steps.retires id v live slot 0 inside own free (omega arith))
         (λ s w h at t. let c = t slot refl in let one = ((h.kept.parts.slots.each id v at).alone slot own).0 in let r = h.records in
-        let was = full_owned (slot_at sizes s.words slot) (omega arith) in let now : View = resting (untold (retired slot y c.0 v)) in
+        let was = full_owned (slot_at sizes s.words slot) (omega arith) in let now : View = resting (remembering (retired slot y c.0 v)) in
         let word : slot_at sizes (set s.words i y) slot ≡ y = here s.words y (within s h) in let is = waiting_is 0 (omega arith) in
         let will = (sound.waits y (let q = is.1 in omega arith)).1 in
         let same : full (slot_at sizes (set s.words i y) slot) ≡ full (slot_at sizes s.words slot) = ap full word ∙ (will ∙ sym was) in
@@ -495,8 +529,11 @@ module _ (slots id : ℕ) (me : Mine) (live : HasPlace me.0.epoch) where
               (λ (l : Settles v j × (p ≡ n)). inr (one_settled v slot j mine l.0, l.1)) a) out)
               (others s.words y) (none_out now refl));
           records = subst (RecordsPart sizes (set s.views id now)) (sym g.given)
-              (records.no_more sizes s.views s.homes r id v at now (set s.homes spot (some g.last)) (retired_tells v (r.each id v at) slot owns y c.0)
-              (λ j g k. ⊎_elim (λ (a : IsIn [] j g). absurd (in_none j g a)) (λ (a : IsIn v.stakes.sees j g). mine_known j g (inr a)) k)
+              (records.no_more sizes s.views s.homes r id v at now (set s.homes spot (some g.last))
+              (retired_tells v (r.each id v at) slot owns y c.0 mine value told_it)
+              (λ j g k. known_by now j g (λ a. absurd (in_none j g a)) (λ a. mine_known j g (inr (inl a)))
+              (λ a. ⊎_elim (λ (b : IsIn v.stakes.owns j g). mine_known j g (inl b)) (λ (b : IsIn v.stakes.waits j g). mine_known j g (inr (inr b)))
+              (in_both j g v.stakes.owns v.stakes.waits a)) k)
               (λ j p z _ near lies. ⊎_elim
               (λ (e : (stake_at n j p ≡ spot) × (some g.last ≡ some z)). inr (λ a known.
               ap (λ (x : Stake). x.lot.shown) (sym (some-injective g.last z e.1)) ∙ (g.has.1.1
@@ -509,7 +546,7 @@ module _ (slots id : ℕ) (me : Mine) (live : HasPlace me.0.epoch) where
               (as_full sizes s.words (set s.words i y) (λ j low. dite (ℕ_discrete j slot)
               (λ e. subst (λ (k : ℕ). full (slot_at sizes (set s.words i y) k) ≡ full (slot_at sizes s.words k)) (sym e) same)
               (λ ne. ap full (others s.words y j low ne)))) (over_slot s h y);
-          filled = filled_by s h at now refl (tells_none now s.views refl);
+          filled = filled_by s h at now refl (tells_old_by s h at now (λ r a. absurd (has_none r [] refl a)) (has_either v.stakes.owns v.stakes.waits));
           tells = at_once RetiresOne y (now, carried_after me.1 gives) (retired slot y c.0 v, (c.0, c.1, c.2, refl, c.4, c.5), refl, g.carried);
         })
 
@@ -528,9 +565,9 @@ module _ (slots id : ℕ) (me : Mine) (live : HasPlace me.0.epoch) where
           tt,
           stands_by γ sizes id v s h at v.stakes refl s.homes
               (part.calm γ sizes s.words s.views s.homes h.homes id v at s.words v (λ j p out. out) (λ j _. refl) (h.homes.moving id v at))
-              (records.calm sizes s.views s.homes r id v at v (refl, refl, refl)) (still_filled s h at v refl refl),
+              (records.calm sizes s.views s.homes r id v at v (refl, refl, refl, λ _. refl)) (still_filled s h at v refl refl refl),
           (
-            (λ _. (refl, subst (IsIn v.stakes.sees slot) (r.agree slot is.0 value (mine slot is.0 (inr is.1)) known) is.1)),
+            (λ _. (refl, subst (IsIn v.stakes.sees slot) (r.agree slot is.0 value (mine slot is.0 (inr (inl is.1))) known) is.1)),
             (λ unseen. absurd (unseen sees)),
           ),
         ))
@@ -562,11 +599,16 @@ module _ (slots id : ℕ) (me : Mine) (live : HasPlace me.0.epoch) where
               (λ j p out. let o = only_seen n v rests j p out in inr (inl (let a = o.0 in omega arith, o.1)))
               (none_out now rests))
               (records.kept sizes s.views s.homes r id v at now (set s.homes spot none)
-              record { owns = tells.owns; owned = tells.owned; sees = ap (λ (l : List ℕ). slot ∷ l) tells.sees }
-              (λ j g k. ⊎_elim (λ (a : IsIn v.stakes.owns j g). mine j g (inl a))
-              (λ (a : IsIn (record_now ∷ v.stakes.sees) j g). ⊎_elim
+              record {
+                owns = tells.owns;
+                owned = tells.owned;
+                sees = ap (λ (l : List ℕ). slot ∷ l) tells.sees;
+                waits = tells.waits;
+                waiting = tells.waiting;
+              }
+              (λ j g k. known_by now j g (λ a. mine j g (inl a)) (λ a. ⊎_elim
               (λ (e : (slot ≡ j) × (value ≡ g)). subst (λ (z : ℕ × Gv). IsKnown s.views z.0 z.1) (λ d. (e.0 d, e.1 d)) known)
-              (λ (c : IsIn v.stakes.sees j g). mine j g (inr c)) (in_either record_now v.stakes.sees j g a)) k)
+              (λ (c : IsIn v.stakes.sees j g). mine j g (inr (inl c))) (in_either record_now v.stakes.sees j g a)) (λ a. mine j g (inr (inr a))) k)
               (λ j p z _ _ lies. inl (one_taken s.homes spot (stake_at n j p) z lies))
               (λ j m. absurd (none_moved v j rests m))
               (λ j x _ e. (
@@ -574,7 +616,7 @@ module _ (slots id : ℕ) (me : Mine) (live : HasPlace me.0.epoch) where
                 (λ k m sees. dite (ℕ_discrete k slot) (λ same. still j x e (subst (Moves x) same m))
                     (λ ne. r.apart j id x v k e at m (let o = is_other k slot (λ e. ne (sym e)) in omega arith))),
               )))
-              (uncounted_alone sizes s.words s.views h.counts id v at now refl refl) (still_filled s h at now refl refl),
+              (uncounted_alone sizes s.words s.views h.counts id v at now refl refl) (still_filled s h at now refl refl refl),
           ((λ sees. absurd (unseen sees)), (λ _. (y, it, refl))),
         ))
 
@@ -588,7 +630,7 @@ module _ (slots id : ℕ) (me : Mine) (live : HasPlace me.0.epoch) where
           more = λ j p out. out;
           same = λ j _. same_words s h j;
           mover = h.homes.moving id v at;
-          alike = (refl, refl, refl);
+          alike = (refl, refl, refl, λ _. refl);
           counts = refl;
           lives = λ l. l;
           had = λ _ l. inl l;
@@ -603,7 +645,7 @@ module _ (slots id : ℕ) (me : Mine) (live : HasPlace me.0.epoch) where
           more = λ j p out. out;
           same = λ j _. same_words s h j;
           mover = h.homes.moving id v at;
-          alike = (refl, refl, refl);
+          alike = (refl, refl, refl, λ _. refl);
           counts = refl;
           lives = λ l. l;
           had = λ _ l. inl l;
@@ -621,7 +663,7 @@ module _ (slots id : ℕ) (me : Mine) (live : HasPlace me.0.epoch) where
     (
       refl,
       λ lone. let one = one_place γ sizes s h id v at lone in record {
-        newest = h.filled.knows one id jd 0 v u (record { slot = slot; shared = shared; value = value }) at live there first;
+        newest = h.filled.knows one id jd v u (record { slot = slot; shared = shared; value = value }) at live there (inl (0, first));
         alive = ap alive (sym (finds sizes s.words s.views h.kept.parts.lone id v at one live slot))
             ∙ ((h.kept.parts.slots.each jd u there).alone slot own).0;
       },
@@ -644,7 +686,7 @@ module _ (slots id : ℕ) (me : Mine) (live : HasPlace me.0.epoch) where
         more = λ k p out. out;
         same = same;
         mover = h.homes.moving id v at;
-        alike = (refl, refl, refl);
+        alike = (refl, refl, refl, λ _. refl);
         counts = refl;
         lives = λ l. l;
         had = λ _ l. inl l;
@@ -653,7 +695,7 @@ module _ (slots id : ℕ) (me : Mine) (live : HasPlace me.0.epoch) where
         more = λ k p out. out;
         same = same;
         mover = h.homes.moving id v at;
-        alike = (refl, refl, refl);
+        alike = (refl, refl, refl, λ _. refl);
         counts = refl;
         lives = λ l. l;
         had = λ _ l. inl l;
@@ -682,18 +724,18 @@ module _ (slots id : ℕ) (me : Mine) (live : HasPlace me.0.epoch) where
         homes = part.closes γ sizes s.words s.views s.homes h.homes id v at q le near me.1 g (set s.words j 1) (unsighted now) told.sees refl
             rests (λ k sees. ap full (same k) ∙ f.full k sees) (λ k _. same k) (none_out (unsighted now) rests);
         records = records.no_more sizes s.views s.homes r id v at (unsighted now) (homes_after s.homes me.1 g.act)
-            record { owns = told.owns; owned = told.owned; sees = refl }
-            (λ k a c. ⊎_elim (λ (d : IsIn v.stakes.owns k a). mine k a (inl d)) (λ (d : IsIn [] k a). absurd (in_none k a d)) c)
+            record { owns = told.owns; owned = told.owned; sees = refl; waits = told.waits; waiting = told.waiting }
+            (λ k a c. known_by (unsighted now) k a (λ d. mine k a (inl d)) (λ d. absurd (in_none k a d)) (λ d. mine k a (inr (inr d))) c)
             (λ k p y _ near' lies. ⊎_elim
             (λ (d : (k' : ℕ) × (a : Gv) × IsIn v.stakes.sees k' a × (stake_at n k p ≡ stake_at n k' q) × Has γ k' 1 (IsValue a) y).
-            inr (λ a c. d.4.1.1 ∙ r.agree d.0 d.1 a (mine d.0 d.1 (inr d.2))
+            inr (λ a c. d.4.1.1 ∙ r.agree d.0 d.1 a (mine d.0 d.1 (inr (inl d.2)))
             (subst (λ (l : ℕ). IsKnown s.views l a) (one_slot n k d.0 p q near' le d.3) c)))
             (λ (d : LiesAt n s.homes k p y). inl d) (g.home (stake_at n k p) y lies))
             (λ k m. m) (λ k sees. absurd (omega arith));
         counts = uncounted sizes s.words s.views h.counts id v at (set s.words j 1) (unsighted now) refl (λ _. omega arith)
             (as_full sizes s.words (set s.words j 1) (λ k _. ap full (same k)))
             (ended_spared sizes s.words j 1 (own_place γ sizes id v live 1 s h at) n (omega arith));
-        filled = still_filled s h at (unsighted now) refl refl;
+        filled = still_filled s h at (unsighted now) refl refl refl;
         tells = (now, refl, refl, g.carried);
       })
 
@@ -742,7 +784,7 @@ module _ (γ : ℕ) (sizes : Sizes) (slots id : ℕ) (me : Mine) (p : ℕ) (insi
           more = λ j q out. out;
           same = same;
           mover = mover;
-          alike = (refl, refl, refl);
+          alike = (refl, refl, refl, λ _. refl);
           counts = refl;
           lives = λ l. l;
           had = λ _ l. inl l;
@@ -751,7 +793,7 @@ module _ (γ : ℕ) (sizes : Sizes) (slots id : ℕ) (me : Mine) (p : ℕ) (insi
           more = λ j q out. out;
           same = same;
           mover = mover;
-          alike = (refl, refl, refl);
+          alike = (refl, refl, refl, λ _. refl);
           counts = refl;
           lives = λ l. l;
           had = λ _ l. inl l;
@@ -823,7 +865,7 @@ module _ (γ : ℕ) (sizes : Sizes) (slots id : ℕ) (me : Mine) (slot : ℕ) (n
         more = λ j q out. out;
         same = λ j _. ap (λ (l : List ℕ). slot_at sizes l j) (as_before s h at);
         mover = h.homes.moving id me.0 at;
-        alike = (refl, refl, refl);
+        alike = (refl, refl, refl, λ _. refl);
         counts = refl;
         lives = λ l. l;
         had = λ _ l. inl l;

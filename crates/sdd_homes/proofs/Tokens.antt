@@ -1,5 +1,5 @@
 -- The start, a new token, owners that are cut off as a token and taken in again, and what is at home at the end
-use Rattle.std.proofs.Common.{◌≡◌, ◌≢◌, inl, inr, ℕ, zero, suc, ◌+◌, ◌<◌, ◌≤◌, Bool, List, [], ◌∷◌, ◌++◌, length, get_or, set, sym, refl, ap, ◌∙◌, subst, ⊎_elim, arith}
+use Rattle.std.proofs.Common.{◌≡◌, ◌≢◌, ◌⊎◌, inl, inr, ℕ, zero, suc, ◌+◌, ◌<◌, ◌≤◌, Bool, List, [], ◌∷◌, ◌++◌, length, get_or, set, sym, refl, ap, ◌∙◌, subst, ⊎_elim, arith}
 use Rattle.std.proofs.lemmas.List.{length-map}
 use mathlib.Core.Option.{some, some-injective, some-ne-none}
 use mathlib.Core.Logic.{dite}
@@ -31,14 +31,14 @@ use Rattle.sdd_homes.specs.Housed.{Housed}
 use Rattle.sdd_homes.specs.HomeSteps.{parting, departing, regained, uncounting, counts_of, counts_token, counting}
 use Rattle.sdd_homes.specs.Records.{IsIn, KnowsShown, IsKnown, IsTelling, RecordsPart}
 use Rattle.sdd_homes.specs.Counts.{made_by, gone_by, over_by, full_slots, HasNoCounts, CountsByPlace, CountsPart}
-use Rattle.sdd_homes.specs.Fillings.{FilledPart}
+use Rattle.sdd_homes.specs.Fillings.{HasRecord, FilledPart}
 use Rattle.sdd_homes.proofs.Counts.{ended_few, uncounted_alone, more_counts}
 use Rattle.sdd_homes.proofs.Places.{inside}
 use Rattle.sdd_homes.proofs.Part.{none_out, only_seen}
 use Rattle.sdd_homes.proofs.Part as part
-use Rattle.sdd_homes.proofs.Records.{in_head, in_tail, in_either, in_none, telling_none, knows_none}
+use Rattle.sdd_homes.proofs.Records.{in_head, in_tail, in_either, in_none, known_by, telling_none, knows_none}
 use Rattle.sdd_homes.proofs.Records as records
-use Rattle.sdd_homes.proofs.Fillings.{IsTold, tells_none, filled_more, filled_after, filled_same}
+use Rattle.sdd_homes.proofs.Fillings.{IsTold, has_none, has_either, told_by, tells_none, tells_old, filled_more, filled_after, filled_same}
 use Rattle.sdd_homes.proofs.Steps.{still_free, unsettled}
 use Rattle.sdd_homes.proofs.Telling.{none_moved}
 
@@ -61,12 +61,12 @@ module _ (γ : ℕ) (sizes : Sizes) where
           homes = subst (λ (w : View). HomesPart γ sizes s.words (s.views ++ w ∷ []) s.homes) (sym r.2.0)
               (part.arrives γ sizes s.words s.views s.homes h.homes t (nothing_out sizes.participants t refl refl) (none_out t refl));
           records = subst (λ (w : View). RecordsPart sizes (s.views ++ w ∷ []) s.homes) (sym r.2.0)
-              (records.arrives sizes s.views s.homes h.records t (telling_none t refl refl refl refl) (λ i g k. absurd (knows_none t refl refl i g k))
+              (records.arrives sizes s.views s.homes h.records t (telling_none t refl refl refl refl refl refl) (λ i g k. absurd (knows_none t refl refl refl i g k))
               refl refl);
           counts = subst (λ (w : View). CountsPart sizes s.words (s.views ++ w ∷ [])) (sym r.2.0)
               (more_counts sizes s.words s.views h.counts t refl refl refl);
           filled = subst (λ (w : View). FilledPart sizes (s.views ++ w ∷ [])) (sym r.2.0)
-              (filled_more sizes s.views h.filled t (tells_none t s.views refl) (λ z. absurd (omega arith)));
+              (filled_more sizes s.views h.filled t (tells_none t s.views refl refl) (λ z. absurd (omega arith)));
         },
         r.2.1,
       )
@@ -94,13 +94,13 @@ module _ (γ : ℕ) (sizes : Sizes) where
       each = λ j v e. subst CountsByPlace (only j v e) (λ _ _. (refl, refl));
     };
     records = record {
-      each = λ j v e. subst IsTelling (only j v e) (telling_none (idle sizes γ) refl refl refl refl);
+      each = λ j v e. subst IsTelling (only j v e) (telling_none (idle sizes γ) refl refl refl refl refl refl);
       agree = λ i g h a b. absurd (none_known i g a);
       home = λ i p g y low near a l. absurd (none_known i g a);
       apart = λ j k v w i e e' m. absurd (none_moved v i (subst (λ (u : View). u.stakes.moves ≡ None) (only j v e) refl) m);
     };
     filled = record {
-      knows = λ one j k m v u r e live. absurd (let f = ap (λ (w : View). w.epoch.state) (only j v e) in omega arith);
+      knows = λ one j k v u r e live. absurd (let f = ap (λ (w : View). w.epoch.state) (only j v e) in omega arith);
     };
   }
     where
@@ -109,7 +109,7 @@ module _ (γ : ℕ) (sizes : Sizes) where
       only (suc j) v e = absurd (some-ne-none v (sym e))
 
       none_known : (i : ℕ) (g : Gv) → ¬ (IsKnown (idle sizes γ ∷ []) i g)
-      none_known i g k = knows_none (idle sizes γ) refl refl i g (subst (λ (u : View). KnowsShown u i g) (sym (only k.0 k.1 k.2)) k.3)
+      none_known i g k = knows_none (idle sizes γ) refl refl refl i g (subst (λ (u : View). KnowsShown u i g) (sym (only k.0 k.1 k.2)) k.3)
 
   -- the only owner that it has goes to a token of its own, with what is known of its slot, where none is held and no value is moved
   pub parts_owner : (id : ℕ) (v : View) (slot : ℕ) → v.slots.owns ≡ slot ∷ [] → v.slots.holds ≡ None → v.stakes.moves ≡ None
@@ -125,8 +125,14 @@ module _ (γ : ℕ) (sizes : Sizes) where
         owned = λ i o still. told.owned i
             (let e = ap (times i) owns in let e' = ap (λ (l : List ℕ). times i (first l)) owns in omega arith) (none_moved v i rests);
         sees = refl;
+        waits = λ i g k. absurd (in_none i g k);
+        waiting = λ i o. absurd (omega arith);
       }
-      (λ i g k. ⊎_elim (λ (a : IsIn v.stakes.owns i g). mine i g (inl a)) (λ (a : IsIn [] i g). absurd (in_none i g a)) k) refl refl in record {
+      (λ i g k. known_by t i g (λ a. mine i g (inl a)) (λ a. absurd (in_none i g a)) (λ a. absurd (in_none i g a)) k) refl refl in
+      let mine_then = records.mine sizes vs s.homes came id v (at_longer s.views (t ∷ []) id v at) in
+      let known_then = filled_more sizes s.views h.filled t
+      (λ r x. ⊎_elim (λ (a : HasRecord v.stakes.owns r). (id, v, at, inl a)) (λ (a : HasRecord [] r). absurd (has_none r [] refl a)) x)
+      (λ z. absurd (omega arith)) in record {
         kept = kept.parts_owner sizes id v w.stakes t.stakes free s h.kept at;
         homes = part.arrives γ sizes s.words (set s.views id w) s.homes
             (part.calm γ sizes s.words s.views s.homes h.homes id v at s.words w (λ i p out. out) (λ i _. refl) (none_out w rests))
@@ -137,21 +143,25 @@ module _ (γ : ℕ) (sizes : Sizes) where
               owns = λ i g k. absurd (in_none i g k);
               owned = λ i o still. absurd (let e = ap (λ (l : List ℕ). times i (others l)) owns in omega arith);
               sees = told.sees;
+              waits = told.waits;
+              waiting = told.waiting;
             }
-            (λ i g k. ⊎_elim (λ (a : IsIn [] i g). absurd (in_none i g a))
-            (λ (a : IsIn v.stakes.sees i g). (id, v, at_longer s.views (t ∷ []) id v at, inr a)) k)
+            (λ i g k. known_by w i g (λ a. absurd (in_none i g a)) (λ a. mine_then i g (inr (inl a))) (λ a. mine_then i g (inr (inr a))) k)
             (λ i p y _ _ l. inl l) (λ i m. m) (λ i a. a));
         counts = more_counts sizes s.words (set s.views id w) (uncounted_alone sizes s.words s.views h.counts id v at w refl refl) t refl refl refl;
         filled = subst (FilledPart sizes) (set_front s.views (t ∷ []) id v w at)
-            (filled_after sizes vs (filled_more sizes s.views h.filled t (λ m x e. (id, m, v, at, e)) (λ z. absurd (omega arith)))
-            id v (at_longer s.views (t ∷ []) id v at) w refl (tells_none w vs refl) (λ _ live. inl live));
+            (filled_after sizes vs known_then id v (at_longer s.views (t ∷ []) id v at) w refl
+            (tells_old sizes vs known_then id v (at_longer s.views (t ∷ []) id v at) w
+            (told_by w v (λ r a. absurd (has_none r [] refl a)) (λ r a. inr a))) (λ _ live. inl live));
       }
 
   -- the first record is of the owner's token, and the others were known
   come_in : (vs : List View) (now : Showing) (other id : ℕ) (t v : View) → get_elem? vs other ≡ some t → get_elem? vs id ≡ some v
-      → t.stakes.owns ≡ now ∷ [] → (m : ℕ) (r : Showing) → get_elem? (now ∷ v.stakes.owns) m ≡ some r → IsTold vs r
-  come_in vs now other id t v was at one zero r e = (other, 0, t, was, ap (λ (l : List Showing). get_elem? l 0) one ∙ e)
-  come_in vs now other id t v was at one (suc m) r e = (id, m, v, at, e)
+      → t.stakes.owns ≡ now ∷ [] → (r : Showing) → HasRecord (now ∷ v.stakes.owns) r ⊎ HasRecord v.stakes.waits r → IsTold vs r
+  come_in vs now other id t v was at one r x = ⊎_elim (λ (a : HasRecord (now ∷ v.stakes.owns) r). ⊎_elim
+      (λ (b : HasRecord (now ∷ []) r). (other, t, was, inl (subst (λ (l : List Showing). HasRecord l r) (sym one) b)))
+      (λ (b : HasRecord v.stakes.owns r). (id, v, at, inl b)) (has_either (now ∷ []) v.stakes.owns r a))
+      (λ (a : HasRecord v.stakes.waits r). (id, v, at, inr a)) x
 
   -- and comes back
   pub joins_owner : (id : ℕ) (v : View) (other slot : ℕ) (shared : Bool) (value : Gv) → v.stakes.moves ≡ None
@@ -170,22 +180,24 @@ module _ (γ : ℕ) (sizes : Sizes) where
             (λ ne. let b = told.owned i (let q = is_other i slot ne in omega arith) (none_moved v i rests) in
             (b.0, in_tail now v.stakes.owns i b.0 b.1));
         sees = told.sees;
+        waits = told.waits;
+        waiting = told.waiting;
       }
-      (λ i g k. ⊎_elim
-      (λ (a : IsIn (now ∷ v.stakes.owns) i g). ⊎_elim (λ (e : (slot ≡ i) × (value ≡ g)). (other, t, was, inl (in_head now [] i g e.0 e.1)))
+      (λ i g k. known_by w i g
+      (λ a. ⊎_elim (λ (e : (slot ≡ i) × (value ≡ g)). (other, t, was, inl (in_head now [] i g e.0 e.1)))
       (λ (b : IsIn v.stakes.owns i g). mine i g (inl b)) (in_either now v.stakes.owns i g a))
-      (λ (a : IsIn v.stakes.sees i g). mine i g (inr a)) k)
+      (λ a. mine i g (inr (inl a))) (λ a. mine i g (inr (inr a))) k)
       (λ i p y _ _ l. inl l) (λ i m. m) (λ i a. a) in record {
         kept = kept.joins_owners sizes id v other (slot ∷ []) [] w.stakes t.stakes s h.kept at apart there;
         homes = part.calm γ sizes s.words vs s.homes
             (part.calm γ sizes s.words s.views s.homes h.homes id v at s.words w (λ i p out. out) (λ i _. refl) (none_out w rests))
             other t there s.words t' (λ i p out. absurd (nothing_out sizes.participants t refl refl i p out)) (λ i _. refl) (none_out t' refl);
-        records = records.no_more sizes vs s.homes came other t there t' s.homes (telling_none t' refl refl refl refl)
-            (λ i g k. absurd (knows_none t' refl refl i g k)) (λ i p y _ _ l. inl l) (λ i m. absurd (none_moved t' i refl m))
+        records = records.no_more sizes vs s.homes came other t there t' s.homes (telling_none t' refl refl refl refl refl refl)
+            (λ i g k. absurd (knows_none t' refl refl refl i g k)) (λ i p y _ _ l. inl l) (λ i m. absurd (none_moved t' i refl m))
             (λ i a. absurd (omega arith));
         counts = uncounted_alone sizes s.words vs (uncounted_alone sizes s.words s.views h.counts id v at w refl refl) other t there t' refl refl;
         filled = filled_after sizes vs (filled_after sizes s.views h.filled id v at w refl (come_in s.views now other id t v was at refl) (λ _ live. inl live))
-            other t there t' refl (tells_none t' vs refl) (λ _ live. inl live);
+            other t there t' refl (tells_none t' vs refl refl) (λ _ live. inl live);
       }
 
   -- the counts of ended places go to a token of their own
@@ -196,8 +208,8 @@ module _ (γ : ℕ) (sizes : Sizes) where
     homes = part.arrives γ sizes s.words (set s.views id w) s.homes
         (part.calm γ sizes s.words s.views s.homes h.homes id v at s.words w (λ i p out. out) (λ i _. refl) (h.homes.moving id v at))
         t (nothing_out sizes.participants t refl refl) (none_out t refl);
-    records = records.arrives sizes (set s.views id w) s.homes (records.calm sizes s.views s.homes h.records id v at w (refl, refl, refl)) t
-        (telling_none t refl refl refl refl) (λ i g k. absurd (knows_none t refl refl i g k)) refl refl;
+    records = records.arrives sizes (set s.views id w) s.homes (records.calm sizes s.views s.homes h.records id v at w (refl, refl, refl, λ _. refl)) t
+        (telling_none t refl refl refl refl refl refl) (λ i g k. absurd (knows_none t refl refl refl i g k)) refl refl;
     counts = record {
       items = let a = total_set made_by s.views id v w at in let a' = total_snoc made_by (set s.views id w) t in
           let b = total_set gone_by s.views id v w at in let b' = total_snoc gone_by (set s.views id w) t in let d = c.items in omega arith;
@@ -206,8 +218,8 @@ module _ (γ : ℕ) (sizes : Sizes) where
           (each_set CountsByPlace CountsByPlace s.views id w (λ _ _. (refl, refl)) (λ j u _ e. c.each j u e)) (λ _ none. absurd (omega arith));
     };
     filled = let us : List View = set s.views id w in
-        filled_more sizes us (filled_same sizes s.views h.filled id v at w refl refl (λ live. live))
-        t (tells_none t us refl) (λ z. absurd (omega arith));
+        filled_more sizes us (filled_same sizes s.views h.filled id v at w refl refl refl (λ live. live))
+        t (tells_none t us refl refl) (λ z. absurd (omega arith));
   }
 
   -- and come to another
@@ -220,8 +232,8 @@ module _ (γ : ℕ) (sizes : Sizes) where
         homes = part.calm γ sizes s.words vs s.homes
             (part.calm γ sizes s.words s.views s.homes h.homes id v at s.words w (λ i p out. out) (λ i _. refl) (h.homes.moving id v at))
             other t there s.words t' (λ i p out. absurd (nothing_out sizes.participants t refl refl i p out)) (λ i _. refl) (none_out t' refl);
-        records = records.calm sizes vs s.homes (records.calm sizes s.views s.homes h.records id v at w (refl, refl, refl)) other t there t'
-            (refl, refl, refl);
+        records = records.calm sizes vs s.homes (records.calm sizes s.views s.homes h.records id v at w (refl, refl, refl, λ _. refl)) other t there t'
+            (refl, refl, refl, λ _. refl);
         counts = record {
           items = let a = total_set made_by s.views id v w at in let a' = total_set made_by vs other t t' there in
               let b = total_set gone_by s.views id v w at in let b' = total_set gone_by vs other t t' there in let e = c.items in omega arith;
@@ -233,8 +245,8 @@ module _ (γ : ℕ) (sizes : Sizes) where
               (λ j u _ e. c.each j u e) j u e);
         };
         filled = filled_after sizes vs
-            (filled_same sizes s.views h.filled id v at w refl refl (λ live. live))
-            other t there t' refl (tells_none t' vs refl) (λ _ live. inl live);
+            (filled_same sizes s.views h.filled id v at w refl refl refl (λ live. live))
+            other t there t' refl (tells_none t' vs refl refl) (λ _ live. inl live);
       }
 
   -- a token counts no more places than there are

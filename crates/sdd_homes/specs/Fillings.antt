@@ -1,5 +1,5 @@
--- The fillings' part of the rule: what a lone participant knows of owners, by what it moved into slots
-use Rattle.std.specs.Prelude.{◌≡◌, ℕ, ◌==◌, if◌then◌else◌, List, [], ◌∷◌, Option, Some, None}
+-- The fillings' part of the rule: what a lone participant knows of owners and of items that wait, by what it moved into slots
+use Rattle.std.specs.Prelude.{◌≡◌, ◌⊎◌, ℕ, ◌==◌, if◌then◌else◌, List, [], ◌∷◌, Option, Some, None}
 use mathlib.Core.Option.{some}
 use lib.ListN.{get_elem?}
 use Rattle.sdd_rule.specs.declared.Showing.{Showing}
@@ -12,7 +12,15 @@ abbrev pub newest : ℕ → List Showing → Option Showing
 newest slot [] = None
 newest slot (r ∷ rs) = if r.slot == slot then Some r else newest slot rs
 
--- where there is one place, its participant knows what the token of each owner tells
+-- one of these records is this one
+abbrev pub HasRecord : List Showing → Showing → Type 0
+HasRecord rs r = (m : ℕ) × (get_elem? rs m ≡ some r)
+
+-- it has this record, of a slot whose only owner it has, or whose item waits with it
+abbrev pub Tells : View → Showing → Type 0
+Tells u r = HasRecord u.stakes.owns r ⊎ HasRecord u.stakes.waits r
+
+-- where there is one place, its participant knows what the token of each owner tells, and what is remembered of each item that waits
 pub record FilledPart (sizes : Sizes) (vs : List View) : Type 0 where
-  pub knows : sizes.participants ≡ 1 → (j k m : ℕ) (v u : View) (r : Showing) → get_elem? vs j ≡ some v → HasPlace v.epoch → get_elem? vs k ≡ some u
-      → get_elem? u.stakes.owns m ≡ some r → newest r.slot v.stakes.filled ≡ Some r
+  pub knows : sizes.participants ≡ 1 → (j k : ℕ) (v u : View) (r : Showing) → get_elem? vs j ≡ some v → HasPlace v.epoch → get_elem? vs k ≡ some u
+      → Tells u r → newest r.slot v.stakes.filled ≡ Some r

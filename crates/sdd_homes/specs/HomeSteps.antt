@@ -1,5 +1,6 @@
 -- What a seat carries, and what each step that takes or gives stakes makes of it
-use Rattle.std.specs.Prelude.{◌≡◌, ◌≢◌, ℕ, zero, suc, ◌+◌, Bool, List, [], ◌∷◌, ◌++◌, drop, slice_index, Some, None}
+use Rattle.std.specs.Prelude.{◌≡◌, ◌≢◌, ℕ, zero, suc, ◌+◌, ◌==◌, not, Bool, List, [], ◌∷◌, ◌++◌, drop, slice_index, Some, None}
+use Rattle.std.specs.List.{filter}
 use base.Stored.{Gv}
 use Rattle.atomic_table.specs.Table.{Me}
 use Rattle.sdd_stakes.specs.Shelf.{IsFull, IsVacant}
@@ -96,6 +97,18 @@ telling slot shared value v = record v {
 abbrev pub untold : View → View
 untold v = record v { stakes = record v.stakes { owns = [] } }
 
+-- what it knew of its own slots it knows of items that wait with it
+abbrev pub remembering : View → View
+remembering v = record v { stakes = record v.stakes { owns = []; waits = v.stakes.owns ++ v.stakes.waits } }
+
+-- the records of other slots
+abbrev pub without_record : ℕ → List Showing → List Showing
+without_record slot = filter (λ (r : Showing). not (r.slot == slot))
+
+-- it knows no more what an item of this slot shows that waits with it
+abbrev pub forgetting : ℕ → View → View
+forgetting slot v = record v { stakes = record v.stakes { waits = without_record slot v.stakes.waits } }
+
 -- a guard sees a slot, and what it shows
 abbrev pub sighting : ℕ → Bool → Gv → View → View
 sighting slot shared value v = record (seeing slot v) {
@@ -135,9 +148,18 @@ ClaimsAll slot old y me x me' =
 abbrev pub Houses : ℕ → Bool → Gv → Mine → Mine → Type 0
 Houses slot shared value me me' = (me'.0 ≡ resting (telling slot shared value me.0)) × (me'.1 ≡ drop (suc (places_of me)) me.1)
 
--- the value of an item that nobody sees is to be moved out, so that all stakes in it are out
-abbrev pub TakesOut : ℕ → Mine → Mine → Type 0
-TakesOut slot me me' = (me'.0 ≡ moving slot me.0) × HasAll (book_of me) slot (places_of me) 0 IsFull me.1 me'.1
+-- of what it moved into the slot the newest is this
+abbrev pub IsNewest : ℕ → Bool → Gv → View → Type 0
+IsNewest slot shared value v = newest slot v.stakes.filled ≡ Some (record { slot = slot; shared = shared; value = value })
+
+-- the value of an item that nobody sees is to be moved out, so that all stakes in it are out: they show what was remembered of it, and no more is;
+-- a lone participant moved this into the slot last
+pub record TakesOut (slot : ℕ) (me me' : Mine) : Type 0 where
+  pub value : Gv
+  pub view : me'.0 ≡ moving slot (forgetting slot me.0)
+  pub stakes : HasAll (book_of me) slot (places_of me) 0 (IsValue value) me.1 me'.1
+  pub remembered : IsIn me.0.stakes.waits slot value
+  pub filled : IsLone me.0.epoch → (shared : Bool) × IsNewest slot shared value me.0
 
 -- the same of an item whose slot is held: its owner, whose unit is out, knows no more what it shows
 abbrev pub TakesHeld : ℕ → Mine → Mine → Type 0
@@ -147,9 +169,9 @@ TakesHeld slot me me' = (me'.0 ≡ moving slot (untold me.0)) × HasAll (book_of
 abbrev pub TakesLast : ℕ → Gv → Mine → Mine → Type 0
 TakesLast slot value me me' = (me'.0 ≡ settling slot me.0) × HasLast (book_of me) slot (places_of me) 1 (IsValue value) me.1 me'.1
 
--- an owned item waits from now on, of which no owner knows any more, and the last stake goes home, with the owner's unit
+-- an owned item waits from now on, and what its owner knew is remembered; the last stake goes home, with the owner's unit
 abbrev pub RetiresOne : ℕ → Mine → ℕ → Mine → Type 0
-RetiresOne slot me y me' = (v : View) × Retires slot me.0 y v × (me'.0 ≡ resting (untold v)) × (me'.1 ≡ drop 1 me.1)
+RetiresOne slot me y me' = (v : View) × Retires slot me.0 y v × (me'.0 ≡ resting (remembering v)) × (me'.1 ≡ drop 1 me.1)
 
 -- it was moved out: the slot is free, and all stakes in it go home
 abbrev pub GivesAll : ℕ → Mine → ℕ → Mine → Type 0
@@ -167,7 +189,7 @@ Watches slot shared value me me' = (Sees me.0 slot → (me' ≡ me) × IsIn me.0
 
 -- what the token of a slot's owner tells is what this one moved into the slot last, and by the words that it knows the slot has an owner
 pub record IsRecalled (slot : ℕ) (shared : Bool) (value : Gv) (v : View) : Type 0 where
-  pub newest : newest slot v.stakes.filled ≡ Some (record { slot = slot; shared = shared; value = value })
+  pub newest : IsNewest slot shared value v
   pub alive : alive (slice_index v.words (behind v.sizes slot)) ≡ 1
 
 -- beside a slot's owner a lone participant learns what it knows of the slot, and nothing changes

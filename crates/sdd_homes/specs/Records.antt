@@ -1,4 +1,4 @@
--- What is known of what slots show: by a token of its owner, once the value was moved in, and by who sees it under a guard
+-- What is known of what slots show: by a token of its owner, once the value was moved in, by who sees it under a guard, and by whom its item waits with
 use Rattle.std.specs.Prelude.{◌≡◌, ◌⊎◌, ℕ, ◌<◌, ◌≤◌, List, map}
 use mathlib.Core.Option.{some}
 use lib.ListN.{get_elem?}
@@ -6,7 +6,7 @@ use base.Stored.{Gv}
 use Rattle.sdd_rule.specs.declared.Showing.{Showing}
 use Rattle.sdd_rule.specs.declared.View.{View}
 use Rattle.sdd_rule.specs.declared.Sizes.{Sizes}
-use Rattle.sdd_rule.specs.Slots.{OwnsAlone, Sees}
+use Rattle.sdd_rule.specs.Slots.{items_at, OwnsAlone, Sees}
 use Rattle.sdd_stakes.specs.declared.stake.Stake.{Stake}
 use Rattle.sdd_homes.specs.Homes.{Homes, LiesAt, Moves}
 
@@ -18,17 +18,20 @@ abbrev pub IsIn : List Showing → ℕ → Gv → Type 0
 IsIn rs i g = (k : ℕ) × (r : Showing) × (get_elem? rs k ≡ some r) × (r.slot ≡ i) × (r.value ≡ g)
 
 abbrev pub KnowsShown : View → ℕ → Gv → Type 0
-KnowsShown v i g = IsIn v.stakes.owns i g ⊎ IsIn v.stakes.sees i g
+KnowsShown v i g = IsIn v.stakes.owns i g ⊎ (IsIn v.stakes.sees i g ⊎ IsIn v.stakes.waits i g)
 
 -- somebody knows it
 abbrev pub IsKnown : List View → ℕ → Gv → Type 0
 IsKnown vs i g = (j : ℕ) × (v : View) × (get_elem? vs j ≡ some v) × KnowsShown v i g
 
--- it has a record of each slot whose only owner it has, but of one whose value it moves, and one for each time that it sees a slot; and no others
+-- it has a record of each slot whose only owner it has, but of one whose value it moves, and of each whose item waits with it, but for the same;
+-- and one for each time that it sees a slot; and no others
 pub record IsTelling (v : View) : Type 0 where
   pub owns : (i : ℕ) (g : Gv) → IsIn v.stakes.owns i g → OwnsAlone v i × ¬ (Moves v i)
   pub owned : (i : ℕ) → OwnsAlone v i → ¬ (Moves v i) → (g : Gv) × IsIn v.stakes.owns i g
   pub sees : map slot_shown v.stakes.sees ≡ v.slots.sees
+  pub waits : (i : ℕ) (g : Gv) → IsIn v.stakes.waits i g → (0 < items_at i v) × ¬ (Moves v i)
+  pub waiting : (i : ℕ) → 0 < items_at i v → ¬ (Moves v i) → (g : Gv) × IsIn v.stakes.waits i g
 
 -- all that is known of a slot is one value, which the stakes at home show; and nobody sees a slot whose value is moved
 pub record RecordsPart (sizes : Sizes) (vs : List View) (hs : Homes) : Type 0 where

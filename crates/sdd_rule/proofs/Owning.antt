@@ -25,10 +25,10 @@ abbrev pub owning : View → List ℕ → List ℕ → List ℕ → View
 owning v os ss known = record v { slots = record v.slots { owns = os; shares = ss }; words = known }
 
 -- the items without those of the slot i
-item_gone : (i : ℕ) (xs : List WaitingItem) → total (waits_in i) (without_item i xs) ≡ 0
+pub item_gone : (i : ℕ) (xs : List WaitingItem) → total (waits_in i) (without_item i xs) ≡ 0
 item_gone i xs = total_gone (waits_in i) (λ (x : WaitingItem). not (eqb x.slot i)) (λ x t. is_other i x.slot (λ e. grind (arith, eq-eqb x.slot i e))) xs
 
-item_kept : (i j : ℕ) → j ≢ i → (xs : List WaitingItem) → total (waits_in j) (without_item i xs) ≡ total (waits_in j) xs
+pub item_kept : (i j : ℕ) → j ≢ i → (xs : List WaitingItem) → total (waits_in j) (without_item i xs) ≡ total (waits_in j) xs
 item_kept i j ne xs = total_kept (waits_in j) (λ (x : WaitingItem). not (eqb x.slot i)) (λ x t. is_other j x.slot (λ e. grind (arith, ne_eqb x.slot i))) xs
 
 module _ (z : Code) (sound : IsSound z) (sizes : Sizes) (ws : List ℕ) (vs : List View) (s : SlotsPart z sizes ws vs) (id : ℕ) (v : View)

@@ -33,7 +33,7 @@ no_counts = record { made = 0; gone = 0; over = 0 }
 
 -- it moves no value and knows of none, and the values' places are of this book
 abbrev pub at_rest : ℕ → StakesView
-at_rest book = record { book = book; moves = None; owns = []; sees = []; filled = []; counts = no_counts }
+at_rest book = record { book = book; moves = None; owns = []; sees = []; waits = []; filled = []; counts = no_counts }
 
 -- a token that knows nothing, but how many of each there are and which book
 abbrev pub idle : Sizes → ℕ → View

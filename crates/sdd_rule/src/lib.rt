@@ -104,6 +104,8 @@ pub struct StakesView {
     pub owns: [Showing; 0],
     /// What the slots show that it sees under its guards, one entry for each time.
     pub sees: [Showing; 0],
+    /// What the slots show of the items that wait with it.
+    pub waits: [Showing; 0],
     /// What it moved into slots, the newest first.
     pub filled: [Showing; 0],
     pub counts: CountsView,
