@@ -9,7 +9,7 @@ use base.Stored.{Gv}
 use Rattle.sdd_stakes.specs.Stakes.{Lot, AllFreeFor, unlent}
 use Rattle.sdd_stakes.specs.Seats.{lots, plain, OnlyLends}
 use Rattle.sdd_stakes.specs.declared.stake.Stake.{Stake}
-use Rattle.sdd_stakes.specs.Shelf.{most, IsVacant, CanShow, Shows, HasWhole, all_turned}
+use Rattle.sdd_stakes.specs.Shelf.{most, IsFull, IsVacant, CanShow, Shows, HasWhole, AreWhole, all_turned}
 use Rattle.sdd_rule.specs.declared.Showing.{Showing}
 use Rattle.sdd_rule.specs.declared.View.{View}
 use Rattle.sdd_rule.specs.SlotSteps.{given_back, Knew, LooksAtSlot}
@@ -19,7 +19,7 @@ use Rattle.sdd_rule.proofs.Sums.{is_other}
 use Rattle.sdd_homes.specs.Homes.{Carries, Has, stake_at}
 use Rattle.sdd_homes.specs.Records.{slot_shown, IsIn}
 use Rattle.sdd_homes.proofs.Records.{in_head, in_tail}
-use Rattle.sdd_homes.specs.HomeSteps.{Mine, HasAll, IsValue, Purse, ClaimsAll, book_of, places_of, moving, making, giving, with_gone}
+use Rattle.sdd_homes.specs.HomeSteps.{Mine, HasRow, HasAll, IsValue, Purse, ClaimsAll, book_of, places_of, moving, making, giving, with_gone}
 use Rattle.sdd_homes.proofs.Tops.{whole, all_after, rest_is}
 use Rattle.atomic_table.specs.declared.shared.Seat.{Seat}
 use Rattle.sdd_board.specs.Token.{Taught, Moved}
@@ -39,6 +39,25 @@ module _ (γ i n k : ℕ) (count : k ≡ n + 1) where
   pub row_after : (Is Js : Gv → Type 0) (g : Gv) (a : ℕ) (rest xs ys : Carries) → Js g → HasAll γ i n 0 Is rest xs → ys ≡ all_turned a g k xs
       → HasAll γ i n 0 Js rest ys
   row_after Is Js g a rest xs ys so row e = all_after γ i n 0 Is Js g rest xs ys so row (a, e ∙ ap (λ (k : ℕ). all_turned a g k xs) as_many)
+
+-- stakes that show a value show that the place is full
+row_full : (γ i n o m : ℕ) (g : Gv) (rest xs : Carries) → HasRow γ i n o (IsValue g) rest m xs → HasRow γ i n o IsFull rest m xs
+row_full γ i n o zero g rest xs row = row
+row_full γ i n o (suc m) g rest [] row = row
+row_full γ i n o (suc m) g rest (x ∷ xs) row = (row.0, (row.1.0, row.1.1.0), row_full γ i n o m g rest xs row.2)
+
+pub all_full : (γ i n : ℕ) (g : Gv) (rest xs : Carries) → HasAll γ i n 0 (IsValue g) rest xs → HasAll γ i n 0 IsFull rest xs
+all_full γ i n g rest xs row = row_full γ i n 0 (suc n) g rest xs row
+
+-- the value that is moved out is the one that they show
+first_shown : (γ i n : ℕ) (g h : Gv) (γ' a : ℕ) (rest xs : Carries) → HasAll γ i n 0 (IsValue g) rest xs → AreWhole γ' i a h (suc n) (lots xs) → h ≡ g
+first_shown γ i n g h γ' a rest [] row are = absurd row
+first_shown γ i n g h γ' a rest (x ∷ xs) row are = sym (ap (λ (l : Lot). l.shown) are.0.0) ∙ row.1.1.1
+
+pub shown_out : (γ i n k : ℕ) → k ≡ n + 1 → (g h : Gv) (γ' a : ℕ) (rest xs : Carries) → HasAll γ i n 0 (IsValue g) rest xs
+    → AreWhole γ' i a h k (lots xs) → h ≡ g
+shown_out γ i n k count g h γ' a rest xs row are = first_shown γ i n g h γ' a rest xs row
+    (subst (λ (j : ℕ). AreWhole γ' i a h j (lots xs)) (let e : k ≡ suc n = omega arith in e) are)
 
 -- all go home, and what was out before is out still
 pub rest_out : (γ i n n' o : ℕ) (Is : Gv → Type 0) (rest xs zs : Carries) → n' ≡ n → HasAll γ i n o Is rest xs → zs ≡ drop (suc n') xs → zs ≡ rest

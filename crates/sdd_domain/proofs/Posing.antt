@@ -31,7 +31,7 @@ use Rattle.sdd_rule.specs.Codes.{owned_word}
 use Rattle.sdd_homes.specs.Homes.{Carries, Has, stake_at}
 use Rattle.sdd_homes.specs.Records.{slot_shown, IsIn}
 use Rattle.sdd_homes.proofs.Records.{in_head, in_either, in_times}
-use Rattle.sdd_homes.specs.HomeSteps.{Mine, IsValue, Watches, Recalls, regained, resting, untold, with_made}
+use Rattle.sdd_homes.specs.HomeSteps.{Mine, IsValue, Watches, Recalls, regained, remembering, resting, with_made}
 use Rattle.sdd_board.specs.Board.{book_of, places_of, slots_of}
 use Rattle.sdd_board.specs.Token.{view, epoch, slots, Taught, Moved, MovedAlone}
 use Rattle.sdd_board.specs.Owner.{disowned}
@@ -49,11 +49,12 @@ stirs c e = grind arith
 stirs_low : (c : ℕ) → c ≤ 128 → stirred c ≤ 128
 stirs_low c low = grind arith
 
--- an item of the slot waits too
-abbrev pub waiting_too : ℕ → ℕ → ℕ → View → View
-waiting_too slot y count v = record v {
+-- an item of the slot waits too, and what it shows is remembered
+abbrev pub waiting_too : ℕ → Bool → Gv → ℕ → ℕ → View → View
+waiting_too slot shared value y count v = record v {
   epoch = knowing v.epoch count;
   slots = record v.slots { waits = v.slots.waits ++ retired_now slot count ∷ [] };
+  stakes = record v.stakes { waits = record { slot = slot; shared = shared; value = value } ∷ v.stakes.waits };
   words = noted slot y v;
 }
 
@@ -73,26 +74,29 @@ module _ (b : Board) (p : ℕ) where
 
   -- what is known once the item of an owner that was taken in waits
   retired_view : (slot y count : ℕ) (shared : Bool) (value : Gv) (v : View) → v.slots.owns ≡ [] → v.stakes.owns ≡ []
-      → untold (retired slot y count (regained v (owner_of slot shared value))) ≡ waiting_too slot y count v
+      → remembering (retired slot y count (regained v (owner_of slot shared value))) ≡ waiting_too slot shared value y count v
   retired_view slot y count shared value v owns told =
       let none : without slot (slot ∷ v.slots.owns) ≡ v.slots.owns = ap (λ (l : List ℕ). without slot (slot ∷ l)) owns
       ∙ (ap (λ (c : Bool). cond (not c) (slot ∷ []) []) (eq-eqb slot slot refl) ∙ sym owns) in
       λ d. record v {
         epoch = knowing v.epoch count;
         slots = record v.slots { owns = none d; waits = v.slots.waits ++ retired_now slot count ∷ [] };
-        stakes = record v.stakes { owns = sym told d };
+        stakes = record v.stakes {
+          owns = sym told d;
+          waits = record { slot = slot; shared = shared; value = value } ∷ (told d ++ v.stakes.waits);
+        };
         words = noted slot y v;
       }
 
   -- the token after an owner was taken in and its item retired
   pub retires_to : (own : Participant) (slot : ℕ) (shared : Bool) (value : Gv) (s t u : Seat Stake View) → IsPosed b p own s
       → Taught (λ v _ w. w ≡ regained v (owner_of slot shared value)) s 0 t → Moved (LetsWait slot) t 4 u
-      → (count : ℕ) × (u.me.0 ≡ waiting_too slot 4 count (view s)) × ((epoch s).known ≤ count) × (IsLone (epoch s) → count ≡ (epoch s).known)
+      → (count : ℕ) × (u.me.0 ≡ waiting_too slot shared value 4 count (view s)) × ((epoch s).known ≤ count) × (IsLone (epoch s) → count ≡ (epoch s).known)
       × (IsOpen (epoch s) → count ≤ (epoch s).since + 1)
   retires_to own slot shared value s t u q took e = let r = e.2.1 in let v : View = view s in let v' : View = regained v (owner_of slot shared value) in
       let epochs : epoch t ≡ epoch s = ap (λ (w : View). w.epoch) took.3 in (
         r.0,
-        e.2.2 ∙ (ap untold (r.3 ∙ ap (retired slot 4 r.0) took.3) ∙ retired_view slot 4 r.0 shared value v q.quiet.owns q.sight.owns),
+        e.2.2 ∙ (ap remembering (r.3 ∙ ap (retired slot 4 r.0) took.3) ∙ retired_view slot 4 r.0 shared value v q.quiet.owns q.sight.owns),
         subst (λ (x : EpochView). x.known ≤ r.0) epochs r.1,
         subst (λ (x : EpochView). IsLone x → r.0 ≡ x.known) epochs r.2,
         subst (λ (x : EpochView). IsOpen x → r.0 ≤ x.since + 1) epochs r.4,

@@ -7,7 +7,7 @@ use Rattle.sdd_stakes.specs.declared.stake.Stake.{Stake}
 use Rattle.sdd_rule.specs.declared.View.{View}
 use Rattle.sdd_rule.specs.SlotSteps.{Retires, retired}
 use Rattle.sdd_homes.specs.Homes.{Carries}
-use Rattle.sdd_homes.specs.HomeSteps.{HasLast, IsValue, RetiresOne, settling, resting, untold}
+use Rattle.sdd_homes.specs.HomeSteps.{HasLast, IsValue, RetiresOne, settling, resting, remembering}
 use Rattle.sdd_board.specs.Token.{view, Moved}
 use Rattle.sdd_domain.specs.Values.{LetsWait}
 
@@ -31,7 +31,7 @@ module _ (γ slot n : ℕ) (value : Gv) (s t c u : Seat Stake View) (rests : (vi
         (
           now,
           (r.0, r.1, r.2, refl, r.4, r.5),
-          o.2 ∙ (ap (λ (w : View). resting (untold w)) r.3 ∙ (λ d. record (untold now) { stakes = record (untold now).stakes { moves = sym rests d } })),
+          o.2 ∙ (ap (λ (w : View). resting (remembering w)) r.3 ∙ (λ d. record (remembering now) { stakes = record (remembering now).stakes { moves = sym rests d } })),
           o.3 ∙ last_over γ slot n 0 (IsValue value) s.me.1 c.me.1 row,
         ),
       )

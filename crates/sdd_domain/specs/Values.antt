@@ -1,12 +1,11 @@
 -- Values of a domain's items: what an owner shows is one value, what was moved into a slot last, and an owner that goes
-use Rattle.std.specs.Prelude.{◌≡◌, ℕ, Bool, ◌∷◌, Some}
+use Rattle.std.specs.Prelude.{◌≡◌, ℕ, Bool, ◌∷◌}
 use Rattle.std.proofs.Common.{sym, ap, ◌∙◌}
 use base.Stored.{Gv, gnil, gnum, gcons}
 use denote.RattleType.{RattleType}
 use Rattle.sdd_rule.specs.declared.View.{View}
 use Rattle.sdd_rule.specs.SlotSteps.{Retires}
-use Rattle.sdd_homes.specs.Fillings.{newest}
-use Rattle.sdd_homes.specs.HomeSteps.{Mine, untold}
+use Rattle.sdd_homes.specs.HomeSteps.{Mine, IsNewest, remembering}
 use Rattle.sdd_stakes.specs.Shelf.{showing}
 use Rattle.sdd_token.specs.declared.right.Right.{Right}
 use Rattle.sdd_token.specs.Owner.{one-shown}
@@ -33,8 +32,8 @@ with_filled slot shared value v =
 
 -- what it moved into the slot last shows this
 abbrev pub WasFilled : ℕ → Gv → View → Type 0
-WasFilled slot value v = (shared : Bool) × (newest slot v.stakes.filled ≡ Some (record { slot = slot; shared = shared; value = value }))
+WasFilled slot value v = (shared : Bool) × IsNewest slot shared value v
 
--- an owned item waits from now on, of which no owner knows any more; its owner's unit has come home
+-- an owned item waits from now on, and what its owner knew is remembered; its owner's unit has come home
 abbrev pub LetsWait : ℕ → Mine → ℕ → Mine → Type 0
-LetsWait slot me y me' = (v : View) × Retires slot me.0 y v × (me'.0 ≡ untold v) × (me'.1 ≡ me.1)
+LetsWait slot me y me' = (v : View) × Retires slot me.0 y v × (me'.0 ≡ remembering v) × (me'.1 ≡ me.1)

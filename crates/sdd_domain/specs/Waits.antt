@@ -4,17 +4,14 @@ use Rattle.sdd_store.specs.declared.waiting.What.{What}
 use Rattle.sdd_store.specs.declared.waiting.What.TheVariants.{Item, Job}
 use Rattle.sdd_store.specs.declared.time.Participant.{Participant}
 use Rattle.sdd_store.specs.Waiting.{Waiting}
-use Rattle.sdd_store.specs.Time.{due_next, rotated, settled}
+use Rattle.sdd_store.specs.Time.{due_next, rotated}
 use Rattle.atomic_table.specs.declared.shared.Seat.{Seat}
-use Rattle.sdd_rule.specs.declared.Sizes.{Sizes}
 use Rattle.sdd_rule.specs.declared.WaitingItem.{WaitingItem}
-use Rattle.sdd_rule.specs.declared.StakesView.{StakesView}
 use Rattle.sdd_rule.specs.declared.View.{View}
-use Rattle.sdd_rule.specs.Codes.{free_word}
 use Rattle.sdd_rule.specs.Epoch.{IsLone}
 use Rattle.sdd_rule.specs.Slots.{items_at}
-use Rattle.sdd_homes.specs.HomeSteps.{with_gone}
-use Rattle.sdd_rule.specs.SlotSteps.{behind, given_back, older}
+use Rattle.sdd_homes.specs.HomeSteps.{with_gone, forgetting}
+use Rattle.sdd_rule.specs.SlotSteps.{given_back, older}
 
 -- an item of a slot, in the bags
 abbrev pub what_of : WaitingItem → What
@@ -45,9 +42,9 @@ due_at count own = if own.found == count then [] else due_next own
 abbrev pub arrived_at : ℕ → Participant → Participant
 arrived_at count own = if own.found == count then own else rotated count own
 
--- the slot is free, in which one item waited, and is counted as gone
+-- the slot is free, in which one item waited, which is remembered no more, and is counted as gone
 abbrev pub GivesOneBack : ℕ → View → ℕ → View → Type 0
-GivesOneBack slot v y w = (w ≡ with_gone (given_back slot y v)) × (items_at slot v ≡ 1)
+GivesOneBack slot v y w = (w ≡ with_gone (given_back slot y (forgetting slot v))) × (items_at slot v ≡ 1)
 
 -- the token after an outermost opening that found a count
 pub record Arrives {S : Type 0} (count : ℕ) (own : Participant) (s s' : Seat S View) : Type 0 where

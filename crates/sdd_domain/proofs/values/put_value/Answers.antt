@@ -1,4 +1,7 @@
-use Rattle.std.proofs.Common.{ℕ, ◌+◌, [], ◌∷◌, ap, refl, ◌∙◌, arith}
+use Rattle.std.proofs.Common.{ℕ, ◌+◌, [], ◌∷◌, ap, sym, refl, ◌∙◌, subst, arith}
+use Rattle.atomic_table.specs.Seated.{TableId}
+use Rattle.sdd_base.specs.Holding.{AreOf}
+use Rattle.sdd_domain.specs.Homes.{home_of_slots}
 use base.Stored.{Gv}
 use Rattle.sdd_stakes.specs.Shelf.{IsVacant, showing}
 use Rattle.sdd_rule.specs.declared.View.{View}
@@ -15,6 +18,10 @@ pub put-requires-clause-whole : goal.put-requires-clause-whole
 put-requires-clause-whole g c = let b = c.args.board.now in let sized = b.sized.0 in let few = sized.participants in let r = c.requires in
     may_move (book_of b) c.args.slot (places_of b) (c.places-count.result + 1) (ap (λ (k : ℕ). k + 1) c.places-count.ensures) IsVacant
     c.args.shelf.now.book r.shelf.book (omega arith) r.row.0 c.args.token.now.me.1 r.row.1
+
+pub put-requires-clause-fits : goal.put-requires-clause-fits
+put-requires-clause-fits g c = let s = c.requires.shelf in subst (λ (t : TableId × ℕ × ℕ). AreOf (home_of_slots t.0 t.1 t.2) (g.T.Item.holds c.args.value))
+    (λ d. (sym s.table d, sym s.book d, sym s.size d)) c.requires.fits
 
 pub cut_grip-grip-requires-clause-row : goal.cut_grip-grip-requires-clause-row
 cut_grip-grip-requires-clause-row g c = let b = c.args.board.now in let r = c.requires in let put = c.put.ensures.seat in (

@@ -1,0 +1,148 @@
+-- What a lone participant reclaims, for its world
+use Rattle.std.proofs.Common.{◌≡◌, ◌≢◌, ℕ, ◌<◌, ◌≤◌, IsTrue, List, [], ◌∷◌, Some, None, length, map, set, slice_index_or, sym, refl, ap, ◌∙◌, subst, arith, length-set}
+use Rattle.std.specs.Prelude.{Option, Bool}
+use mathlib.Core.Logic.{dite}
+use native.Mathlib.Decide.{ℕ_discrete}
+use base.Stored.{Gv}
+use denote.RattleType.{RattleType}
+use Rattle.sdd_store.specs.declared.waiting.What.{What}
+use Rattle.sdd_store.specs.declared.waiting.What.TheVariants.{Item}
+use Rattle.sdd_store.specs.Waiting.{Waiting}
+use Rattle.sdd_store.specs.Tally.{one_reclaimed}
+use Rattle.sdd_store.specs.declared.standing.Standing.{Standing}
+use Rattle.sdd_store.specs.declared.standing.Standing.TheVariants.{Retired}
+use Rattle.sdd_stakes.specs.Shelf.{showing}
+use Rattle.sdd_rule.specs.declared.Showing.{Showing}
+use Rattle.sdd_rule.specs.declared.Sizes.{Sizes}
+use Rattle.sdd_rule.specs.declared.WaitingItem.{WaitingItem}
+use Rattle.sdd_rule.specs.Codes.{waiting, full}
+use Rattle.sdd_rule.specs.SlotSteps.{behind, without_item}
+use Rattle.sdd_rule.specs.Sums.{total}
+use Rattle.sdd_rule.specs.Slots.{waits_in}
+use Rattle.sdd_rule.proofs.Codes.{sound, free_is}
+use Rattle.sdd_rule.proofs.Owning.{item_gone, item_kept}
+use Rattle.sdd_homes.specs.Fillings.{newest}
+use Rattle.sdd_base.specs.Holding.{Holding}
+use Rattle.sdd_base.specs.World.{World, standing_at, value_at}
+use Rattle.sdd_base.specs.Steps.{waiting_value, taken_out, given_all, all_reclaimed, slot_reclaimed}
+use Rattle.sdd_base.specs.Steps as steps
+use Rattle.sdd_domain.specs.Member.{Member, IsLone, Reclaims, word_of}
+use Rattle.sdd_domain.specs.Waits.{what_of, waiting_of, ripe, unripe}
+use Rattle.sdd_domain.specs.Values.{one_showing}
+use Rattle.sdd_domain.specs.Tied.{Agrees, AreTied, is_plain_word}
+use Rattle.sdd_domain.specs.Local.{Partaker, listing, standing_by, value_by, standing_in, value_in, world_of}
+use Rattle.sdd_domain.proofs.Listings.{listing_at, listing_set}
+use Rattle.sdd_domain.proofs.Reclaims.{first_goes, no_more}
+use Rattle.sdd_domain.proofs.Words.{waiting_waits, word_same, word_other}
+
+value_or : Gv → Option Showing → Gv
+value_or g None = g
+value_or g (Some s) = s.value
+
+entry_of : {T : Type 0} (g : Gv) (r : Option Showing) (e : Option (T × Gv)) (slot : ℕ) (shared : Bool)
+    → r ≡ Some (record { slot = slot; shared = shared; value = g }) → Agrees r e → (x : T × Gv) × (e ≡ Some x) × (x.1 ≡ g)
+unfolding value_or
+entry_of g None e slot shared is a = absurd a
+entry_of g (Some r) None slot shared is a = absurd a
+entry_of g (Some r) (Some x) slot shared is a = (x, refl, a ∙ ap (value_or g) is)
+
+-- an item of its slot goes
+module _ (R : RattleType) (p : Partaker R.Denot) (t : AreTied p.member p.entries)
+    (codes : (place : ℕ) (y : R.Denot) (g : Gv) → slice_index_or p.entries place None ≡ Some (y, g) → g ≡ showing R y)
+    (slot : ℕ) (x : R.Denot) (m : Member) (is : Reclaims slot (showing R x) p.member m) (one : IsLone p.member) where
+  abbrev n : ℕ
+  n = p.member.limits.slots
+
+  abbrev z : Sizes
+  z = p.member.sizes
+
+  abbrev ws : List ℕ
+  ws = p.member.words
+
+  abbrev now : Member
+  now = record p.member {
+    tally = one_reclaimed p.member.tally;
+    slots = record p.member.slots { waits = without_item slot p.member.slots.waits };
+    words = set p.member.words (behind p.member.sizes slot) 0;
+    due = m.due;
+  }
+
+  abbrev then : Partaker R.Denot
+  then = record { member = now; entries = p.entries }
+
+  here : slot < p.member.sizes.slots
+  here = let l = is.inside in let s = t.slots in omega arith
+
+  waits_here : word_of p.member slot ≡ 4
+  waits_here = waiting_waits (word_of p.member slot) (t.plain slot is.inside) (let w = t.waits slot is.inside in let o = is.once in omega arith)
+
+  same : word_of now slot ≡ 0
+  same = word_same z ws t.long slot 0 here
+
+  other : (i : ℕ) → i ≢ slot → word_of now i ≡ word_of p.member i
+  other i ne = word_other z ws t.long slot 0 i ne
+
+  entry : (e : R.Denot × Gv) × (slice_index_or p.entries slot None ≡ Some e) × (e.1 ≡ showing R x)
+  entry = entry_of (showing R x) (newest slot p.member.filled) (slice_index_or p.entries slot None) slot (is.lone one).0 (is.lone one).1
+      (t.kept slot is.inside (sound.waits (word_of p.member slot)
+      (let w = t.waits slot is.inside in let o = is.once in omega arith)).1)
+
+  same_value : entry.0.0 ≡ x
+  same_value = one_showing R entry.0.0 x (sym (codes slot entry.0.0 entry.0.1 entry.1) ∙ entry.2)
+
+  stands_here : standing_at (world_of p) slot ≡ Some Retired
+  stands_here = listing_at n (standing_in p) slot None is.inside ∙ ap (λ (w : ℕ). standing_by w (newest slot p.member.filled)) waits_here
+
+  value_here : value_at (world_of p) slot ≡ Some x
+  value_here = listing_at n (value_in p) slot None is.inside ∙ ((λ d. value_by (waits_here d) (entry.1 d)) ∙ ap Some same_value)
+
+  freed_is : world_of then ≡ steps.freed (world_of p) slot
+  freed_is =
+      let standings : listing n (standing_in then) ≡ set (listing n (standing_in p)) slot None
+      = listing_set n (standing_in p) (standing_in then) slot (λ i l ne. ap (λ (v : ℕ). standing_by v (newest i p.member.filled)) (other i ne))
+      ∙ ap (λ (v : ℕ). set (listing n (standing_in p)) slot (standing_by v (newest slot p.member.filled))) same in
+      let values : listing n (value_in then) ≡ set (listing n (value_in p)) slot None
+      = listing_set n (value_in p) (value_in then) slot (λ i l ne. ap (λ (v : ℕ). value_by v (slice_index_or p.entries i None)) (other i ne))
+      ∙ ap (λ (v : ℕ). set (listing n (value_in p)) slot (value_by v (slice_index_or p.entries slot None))) same in
+      λ d. record (world_of then) { standings = standings d; values = values d }
+
+  goes_now : (holds : R.Denot → List Holding) → slot_reclaimed holds (world_of p) p.member.place slot
+      ≡ given_all (world_of then) p.member.place (holds x)
+  goes_now holds = let w : World R.Denot = world_of p in let k : ℕ = p.member.place in
+      ap (λ (s : Option Standing). taken_out holds w k slot (waiting_value w slot s)) stands_here
+      ∙ (ap (taken_out holds w k slot) value_here ∙ ap (λ (v : World R.Denot). given_all v k (holds x)) (sym freed_is))
+
+  goes_first : (map what_of (ripe (without_item slot p.member.slots.waits)) ≡ m.due)
+      × (unripe (without_item slot p.member.slots.waits) ≡ unripe p.member.slots.waits)
+  goes_first = first_goes slot m.due p.member.slots.waits (sym t.due ∙ is.first) is.once
+
+  tied_now : AreTied now p.entries
+  tied_now = record {
+    place = t.place;
+    slots = t.slots;
+    long = length-set ws (behind z slot) 0 ∙ t.long;
+    wide = t.wide;
+    plain = λ i l. dite (ℕ_discrete i slot) (λ e. subst (λ (w : ℕ). IsTrue (is_plain_word w)) (sym (ap (word_of now) e ∙ same)) refl)
+        (λ ne. subst (λ (w : ℕ). IsTrue (is_plain_word w)) (sym (other i ne)) (t.plain i l));
+    waits = λ i l. dite (ℕ_discrete i slot)
+        (λ e. let g = item_gone slot p.member.slots.waits in let u = ap (λ (j : ℕ). total (waits_in j) (without_item slot p.member.slots.waits)) e in
+        let a = ap waiting (ap (word_of now) e ∙ same) in let f = (free_is 0 (omega arith)).1 in omega arith)
+        (λ ne. let k = item_kept slot i ne p.member.slots.waits in let w = t.waits i l in let s = ap waiting (other i ne) in omega arith);
+    inside = λ i some_wait. t.inside i (let f = no_more slot i p.member.slots.waits in omega arith);
+    kept = λ i l filled. dite (ℕ_discrete i slot)
+        (λ e. absurd (let f = (free_is 0 (omega arith)).2 in let g = ap full (ap (word_of now) e ∙ same) in omega arith))
+        (λ ne. t.kept i l (sym (ap full (other i ne)) ∙ filled));
+    bags = t.bags ∙ ap (map waiting_of) (sym goes_first.1);
+    due = sym goes_first.0;
+    now = t.now;
+  }
+
+  pub tied_then : AreTied m p.entries
+  tied_then = subst (λ (y : Member). AreTied y p.entries) (sym is.member) tied_now
+
+  -- what it gives up then is what the reclaiming of the item does, and the others go as before
+  pub reclaims_on : (holds : R.Denot → List Holding) → all_reclaimed holds (world_of p) p.member.place p.member.due
+      ≡ all_reclaimed holds (given_all (world_of (record { member = m; entries = p.entries })) p.member.place (holds x)) p.member.place m.due
+  reclaims_on holds = let k : ℕ = p.member.place in ap (all_reclaimed holds (world_of p) k) is.first
+      ∙ (ap (λ (w : World R.Denot). all_reclaimed holds w k m.due) (goes_now holds)
+      ∙ ap (λ (y : Member). all_reclaimed holds (given_all (world_of (record { member = y; entries = p.entries })) k (holds x)) k m.due) (sym is.member))
