@@ -1,6 +1,6 @@
 -- What the calls of a lone participant on guards are for its world
-use Rattle.std.proofs.Common.{◌≡◌, ◌≢◌, ℕ, ◌-◌, ◌<◌, Bool, true, false, IsTrue, List, [], sym, ap, ◌∙◌, subst, arith}
-use Rattle.std.specs.Prelude.{Result, Ok, Err, MatchResult, if◌then◌else◌, nat_lt}
+use Rattle.std.proofs.Common.{◌≡◌, ◌≢◌, ℕ, ◌-◌, ◌<◌, not, Bool, true, false, IsTrue, List, [], sym, ap, ◌∙◌, subst, eq-eqb, ne_eqb, arith}
+use Rattle.std.specs.Prelude.{if◌then◌else◌, nat_lt}
 use mathlib.Core.Logic.{dite}
 use native.Mathlib.Decide.{dec_lt}
 use base.Stored.{Gv}
@@ -12,15 +12,17 @@ use Rattle.std.proofs.lemmas.Bool.{true≢false}
 use Rattle.sdd_store.specs.Time as time
 use Rattle.sdd_base.specs.Holding.{Holding}
 use Rattle.sdd_base.specs.Ptr.{KeepsShown}
-use Rattle.sdd_base.specs.Steps.{opened, nested}
-use Rattle.sdd_domain.specs.Member.{Member, IsLone, IsGuarded, CanNest, Opens, Closes}
+use Rattle.sdd_base.specs.World.{World}
+use Rattle.sdd_base.specs.Steps.{opened, nested, caught_up, changed, all_reclaimed}
+use Rattle.sdd_base.specs.Steps as steps
+use Rattle.sdd_domain.specs.Member.{Member, IsLone, IsGuarded, IsEntered, Closes}
 use Rattle.sdd_domain.specs.Tied.{AreTied, IsTied}
 use Rattle.sdd_domain.specs.Local.{Partaker, world_of}
 use Rattle.sdd_domain.specs.Space.{Shows, is_lone}
 use Rattle.sdd_domain.specs.Laws.{own_is_place}
 use Rattle.sdd_domain.proofs.Kept.{keeps_own}
-use Rattle.sdd_domain.proofs.Alone.{alone, steps_alone}
-use Rattle.sdd_domain.proofs.Openings.{opens_alone, tied_opens}
+use Rattle.sdd_domain.proofs.Alone.{alone, alone_is, steps_alone}
+use Rattle.sdd_domain.proofs.Openings.{enters_same, enters_changed, is_changed_member}
 
 open_guards : (own : Participant) → 0 < own.guards → is_open own ≡ true
 open_guards own some_open = grind arith
@@ -45,8 +47,9 @@ still_guarded old new is opens last = let own = ap (λ (m : Member). m.own) is.m
 pub guarded_is : {T : Type 0} (v p : Partaker T) → v ≡ p → IsTrue (is_open p.member.own) → IsGuarded v.member
 guarded_is v p is opens = subst (λ (q : Partaker _). IsGuarded q.member) (sym is) (grind arith)
 
-module _ {T : Type 0} (v : Partaker T) (m : Member) where
-  tied_nested : AreTied v.member v.entries → IsGuarded v.member → AreTied (record v.member { own = time.nested v.member.own }) v.entries
+-- ---- an opening
+module _ {T : Type 0} (v : Partaker T) where
+  pub tied_nested : AreTied v.member v.entries → IsGuarded v.member → AreTied (record v.member { own = time.nested v.member.own }) v.entries
   tied_nested t some_open = record {
     place = t.place;
     slots = t.slots;
@@ -57,72 +60,49 @@ module _ {T : Type 0} (v : Partaker T) (m : Member) where
     inside = t.inside;
     kept = t.kept;
     bags = t.bags;
+    due = t.due;
     now = λ _. t.now some_open;
   }
 
-  pub tied_opened : IsTied v.member v.entries → Opens v.member m → IsLone v.member → AreTied m v.entries
-  tied_opened tied is one = dite (dec_lt 0 v.member.own.guards)
-      (λ some_open. subst (λ (x : Member). AreTied x v.entries) (sym (is.nested some_open)) (tied_nested (tied one) some_open))
-      (λ none. let o = is.outermost none in tied_opens v (tied one) o.0 m one (omega arith) o.1)
+  module _ (holds : T → List Holding) where
+    -- one guard more beside others
+    pub nests : IsGuarded v.member → world_of (record v { member = record v.member { own = time.nested v.member.own } }) ≡ nested (world_of v) v.member.place
+        → world_of (record v { member = record v.member { own = time.nested v.member.own } }) ≡ opened holds (world_of v) v.member.place
+    nests some_open is = is ∙ sym (ap (λ (b : Bool). if b then nested (world_of v) v.member.place else caught_up holds (nested (world_of v) v.member.place) v.member.place)
+        (ap time.is_open (sym (own_is_place v)) ∙ open_guards v.member.own some_open))
 
-  place_stays : Opens v.member m → m.place ≡ v.member.place
-  place_stays is = dite (dec_lt 0 v.member.own.guards) (λ some_open. ap (λ (x : Member). x.place) (is.nested some_open))
-      (λ none. ap (λ (x : Member). x.place) (is.outermost none).1.member)
+    module _ (t : AreTied v.member v.entries) (settled : v.member.due ≡ []) (count : ℕ) (m : Member) (one : IsLone v.member)
+        (shut : v.member.own.guards ≡ 0) (is : IsEntered count v.member m) where
+      -- the outermost one finds the count that it found before
+      pub opens_same : v.member.own.found ≡ v.member.known → alone (record { member = m; entries = v.entries }) ≡ opened holds (alone v) 0
+      opens_same e = enters_same v t settled count m one is e
+          ∙ sym (ap (λ (b : Bool). if b then nested (alone v) 0 else caught_up holds (nested (alone v) 0) 0) (closed_guards v.member.own shut)
+          ∙ ap (λ (b : Bool). if not b then changed holds (nested (alone v) 0) 0 else nested (alone v) 0) (eq-eqb v.member.own.found v.member.known e))
 
-  pub limits_stay : Opens v.member m → m.limits.participants ≡ v.member.limits.participants
-  limits_stay is = dite (dec_lt 0 v.member.own.guards) (λ some_open. ap (λ (x : Member). x.limits.participants) (is.nested some_open))
-      (λ none. ap (λ (x : Member). x.limits.participants) (is.outermost none).1.member)
+      -- or another one: then all that is due is reclaimed
+      pub opens_changed : v.member.own.found ≢ v.member.known
+          → steps.settled (all_reclaimed holds (alone (record { member = m; entries = v.entries })) 0 m.due) 0 ≡ opened holds (alone v) 0
+      opens_changed ne = let due : m.due ≡ time.due_next v.member.own = ap (λ (x : Member). x.due) (is_changed_member v t settled count m one is ne) in
+          (λ d. steps.settled (all_reclaimed holds (enters_changed v t settled count m one is ne d) 0 (due d)) 0)
+          ∙ sym (ap (λ (b : Bool). if b then nested (alone v) 0 else caught_up holds (nested (alone v) 0) 0) (closed_guards v.member.own shut)
+          ∙ ap (λ (b : Bool). if not b then changed holds (nested (alone v) 0) 0 else nested (alone v) 0) (ne_eqb v.member.own.found v.member.known ne))
 
-  pub opens_world : IsTied v.member v.entries → Opens v.member m → IsLone v.member → (holds : T → List Holding) → ((x : T) → holds x ≡ [])
-      → world_of (record v { member = m }) ≡ opened holds (world_of v) v.member.place
-  opens_world tied is one holds nothing = let t = tied one in steps_alone (opened holds) v (record v { member = m }) t.place (place_stays is ∙ t.place)
-      (dite (dec_lt 0 v.member.own.guards)
-      (λ some_open. ap (λ (x : Member). alone (record v { member = x })) (is.nested some_open)
-      ∙ sym (ap (λ (b : Bool). if b then nested (alone v) 0 else Rattle.sdd_base.specs.Steps.caught_up holds (nested (alone v) 0) 0)
-      (open_guards v.member.own some_open)))
-      (λ none. let o = is.outermost none in opens_alone v t o.0 m one (omega arith) o.1 holds nothing))
+      place_first : m.place ≡ 0
+      place_first = ap (λ (x : Member). x.place) is.member ∙ t.place
 
-  answered : {A : Type 0} (IsReader : A → Type 0) (r : Result A Refused) → IsTied v.member v.entries → IsLone v.member → (holds : T → List Holding)
-      → ((x : T) → holds x ≡ [])
-      → MatchResult r (λ a. IsReader a × CanNest v.member × Opens v.member m) (λ e. (e ≡ Refused.TooManyGuards) × ¬ (CanNest v.member) × (m ≡ v.member))
-      → MatchResult r (λ _. time.CanNest (world_of v).time v.member.place × (world_of (record v { member = m }) ≡ opened holds (world_of v) v.member.place))
-      (λ e. (e ≡ Refused.TooManyGuards) × ¬ (time.CanNest (world_of v).time v.member.place) × (world_of (record v { member = m }) ≡ world_of v))
-  answered IsReader (Ok a) tied one holds nothing did = (
-    subst (λ (x : Participant). x.guards < v.member.limits.nesting) (own_is_place v) did.1,
-    opens_world tied did.2 one holds nothing,
-  )
-  answered IsReader (Err e) tied one holds nothing did = (
-    did.0,
-    (λ may. did.1 (subst (λ (x : Participant). x.guards < v.member.limits.nesting) (sym (own_is_place v)) may)),
-    ap (λ (x : Member). world_of (record v { member = x })) did.2,
-  )
+      -- the same of its world, wherever it sits
+      pub opened_same : v.member.own.found ≡ v.member.known → world_of (record { member = m; entries = v.entries }) ≡ opened holds (world_of v) v.member.place
+      opened_same e = steps_alone (opened holds) v (record { member = m; entries = v.entries }) t.place place_first (opens_same e)
 
-  -- for an answer
-  pub exact_opened : {A : Type 0} (IsReader : A → Type 0) (r : Result A Refused) (p : Partaker T) → v ≡ p → IsTied v.member v.entries
-      → (holds : T → List Holding) → ((x : T) → holds x ≡ [])
-      → MatchResult r (λ a. IsReader a × CanNest v.member × Opens v.member m) (λ e. (e ≡ Refused.TooManyGuards) × ¬ (CanNest v.member) × (m ≡ v.member))
-      → IsTrue (is_lone p.member)
-      → MatchResult r (λ _. time.CanNest (world_of p).time p.member.place × (world_of (record v { member = m }) ≡ opened holds (world_of p) p.member.place))
-      (λ e. (e ≡ Refused.TooManyGuards) × ¬ (time.CanNest (world_of p).time p.member.place) × (world_of (record v { member = m }) ≡ world_of p))
-  exact_opened IsReader r p is tied holds nothing did exact = subst (λ (q : Partaker T).
-      MatchResult r (λ _. time.CanNest (world_of q).time q.member.place × (world_of (record v { member = m }) ≡ opened holds (world_of q) q.member.place))
-      (λ e. (e ≡ Refused.TooManyGuards) × ¬ (time.CanNest (world_of q).time q.member.place) × (world_of (record v { member = m }) ≡ world_of q))) is
-      (answered IsReader r tied (lone_is v.member (subst (λ (q : Partaker T). IsTrue (is_lone q.member)) (sym is) exact)) holds nothing did)
+      pub opened_changed : v.member.own.found ≢ v.member.known → (after : World T)
+          → after ≡ steps.settled (all_reclaimed holds (world_of (record { member = m; entries = v.entries })) m.place m.due) m.place
+          → after ≡ opened holds (world_of v) v.member.place
+      opened_changed ne after e = e
+          ∙ ((λ d. steps.settled (all_reclaimed holds (alone_is (record { member = m; entries = v.entries }) place_first d) (place_first d) m.due) (place_first d))
+          ∙ (opens_changed ne ∙ (λ d. opened holds (sym (alone_is v t.place) d) (sym t.place d))))
 
-  pub tied_answered : {A : Type 0} (IsReader : A → Type 0) (r : Result A Refused) → IsTied v.member v.entries
-      → MatchResult r (λ a. IsReader a × CanNest v.member × Opens v.member m) (λ e. (e ≡ Refused.TooManyGuards) × ¬ (CanNest v.member) × (m ≡ v.member))
-      → IsTied m v.entries
-  tied_answered IsReader (Ok a) tied did one = tied_opened tied did.2 (sym (limits_stay did.2) ∙ one)
-  tied_answered IsReader (Err e) tied did one = subst (λ (x : Member). IsTied x v.entries) (sym did.2) tied one
-
+module _ {T : Type 0} (v : Partaker T) (m : Member) where
   module _ (shown : T → Gv) (holds : T → List Holding) where
-    pub keeps_opened : {A : Type 0} (IsReader : A → Type 0) (r : Result A Refused) (p : Partaker T) → v ≡ p
-        → MatchResult r (λ a. IsReader a × CanNest v.member × Opens v.member m) (λ e. (e ≡ Refused.TooManyGuards) × ¬ (CanNest v.member) × (m ≡ v.member))
-        → IsGuarded v.member → KeepsShown (Shows shown holds p) (Shows shown holds (record v { member = m }))
-    keeps_opened IsReader (Ok a) p is did some_open = keeps_own shown holds v p is m (time.nested v.member.own) v.member.known v.member.since
-        (did.2.nested some_open)
-    keeps_opened IsReader (Err e) p is did some_open = keeps_own shown holds v p is m v.member.own v.member.known v.member.since did.2
-
     -- a close under which a guard stays open
     pub keeps_closed : (p : Partaker T) → v ≡ p → (own : Participant) (known : ℕ)
         → m ≡ record v.member { own = own; known = known; slots = m.slots; shown = m.shown } → m.slots ≡ v.member.slots → m.shown ≡ v.member.shown

@@ -118,6 +118,7 @@ module _ {T : Type 0} (v : Partaker T) (k : ℕ) (shared : Bool) (x : T) (g : Gv
           (λ ne. subst (λ (z : Option Showing × Option (T × Gv)). Agrees z.0 z.1) (λ d. (sym (filled_then i ne) d, sym (entry_then i ne) d))
           (t.kept i l (sym (ap full (word_then i ne)) ∙ filled)));
       bags = t.bags;
+      due = t.due;
       now = t.now;
     }
 

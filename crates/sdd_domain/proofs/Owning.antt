@@ -1,8 +1,7 @@
 -- What a lone participant's looks at an owner's item, and its letting go, are for its world
-use Rattle.std.proofs.Common.{◌≡◌, ◌≢◌, ◌↔◌, ℕ, ◌<◌, Bool, true, false, IsTrue, List, [], ◌∷◌, ◌++◌, Some, None, set, slice_index_or, sym, refl, ap, ◌∙◌, subst, arith, length-set}
+use Rattle.std.proofs.Common.{◌≡◌, ◌≢◌, ◌↔◌, ℕ, ◌<◌, Bool, true, false, IsTrue, List, [], ◌∷◌, ◌++◌, Some, None, map, set, slice_index_or, sym, refl, ap, ◌∙◌, subst, arith, length-set}
 use Rattle.std.specs.Prelude.{Option, if◌then◌else◌}
 use Rattle.std.proofs.lemmas.Bool.{true≢false}
-use Rattle.std.proofs.lemmas.List.{map-append}
 use mathlib.Core.Logic.{dite}
 use native.Mathlib.Decide.{ℕ_discrete, dec_lt}
 use base.Stored.{Gv}
@@ -39,7 +38,7 @@ use Rattle.sdd_domain.specs.Items.{HasValue}
 use Rattle.sdd_domain.specs.Sight.{IsOnce}
 use Rattle.sdd_domain.specs.Values.{one_showing, one_value}
 use Rattle.sdd_domain.specs.Laws.{same_value, shows_is_value}
-use Rattle.sdd_domain.specs.Waits.{waiting_of}
+use Rattle.sdd_domain.specs.Waits.{what_of}
 use Rattle.sdd_domain.specs.Tied.{Agrees, AreTied, IsTied, is_plain_word}
 use Rattle.sdd_domain.specs.Local.{Partaker, listing, standing_by, value_by, standing_in, value_in, world_of}
 use Rattle.sdd_domain.specs.Space.{ShowsBy, Shows, is_lone}
@@ -49,6 +48,7 @@ use Rattle.sdd_domain.proofs.Words.{owned_alive, inside, word_same, word_other}
 use Rattle.sdd_domain.proofs.Members.{shown_now}
 use Rattle.sdd_domain.proofs.Alone.{alone, steps_alone}
 use Rattle.sdd_domain.proofs.Exact.{lone_is}
+use Rattle.sdd_domain.proofs.Ripe.{ripe_snoc, unripe_too}
 
 abbrev value_or : Gv → Option Showing → Gv
 value_or g None = g
@@ -112,17 +112,17 @@ module _ (R : RattleType) (v : Partaker R.Denot) (m : Member) (right : Right) (x
           ap (λ (w : World R.Denot). value_at w (number_of right)) same_world
           ∙ (has_value v (tied lone) (number_of right) (is_shared (kind_of right)) (showing R x) (recalled lone) ∙ ap Some same)
 
-      shows_by : (holds : R.Denot → List Holding) → holds x ≡ [] → IsOnce m.shown → (b : Bool) → (IsTrue b → IsLone v.member)
+      shows_by : (holds : R.Denot → List Holding) → AreOf (home_in v.member) (holds x) → IsOnce m.shown → (b : Bool) → (IsTrue b → IsLone v.member)
           → ShowsBy b (showing R) holds after (number_of right) x
-      shows_by holds none once true lone = is_value (lone refl)
-      shows_by holds none once false lone = let there = shown_now (number_of right) (is_shared (kind_of right)) (showing R x) v.member m looks in record {
+      shows_by holds at once true lone = is_value (lone refl)
+      shows_by holds at once false lone = let there = shown_now (number_of right) (is_shared (kind_of right)) (showing R x) v.member m looks in record {
         known = there;
         only = λ other is. once (number_of right) other (showing R x) is there;
-        home = subst (λ (hs : List Holding). AreOf (home_in m) hs) (sym none) tt;
+        home = subst (λ (y : Member). AreOf (home_in y) (holds x)) (sym only_looks) at;
       }
 
-      pub shows_it : (holds : R.Denot → List Holding) → holds x ≡ [] → IsOnce m.shown → Shows (showing R) holds after (number_of right) x
-      shows_it holds none once = shows_by holds none once (is_lone m) lone_then
+      pub shows_it : (holds : R.Denot → List Holding) → AreOf (home_in v.member) (holds x) → IsOnce m.shown → Shows (showing R) holds after (number_of right) x
+      shows_it holds at once = shows_by holds at once (is_lone m) lone_then
 
     keeps_by : (holds : R.Denot → List Holding) → IsOnce m.shown → (b : Bool) (i : ℕ) (u : R.Denot) → ShowsBy b (showing R) holds v i u
         → ShowsBy b (showing R) holds after i u
@@ -230,7 +230,8 @@ module _ {T : Type 0} (v : Partaker T) (m : Member) (k : ℕ) (shared : Bool) (g
       kept = λ i l filled. dite (ℕ_discrete i k)
           (λ e. t.kept i l (ap full (ap (word_of v.member) e ∙ was) ∙ (sound.lives 1 (let o = (owned_is 0 (omega arith)).0 in omega arith)).1))
           (λ ne. t.kept i l (sym (ap full (word_then i ne)) ∙ filled));
-      bags = ap (λ (l : List Waiting). l ++ fresh (Item k) ∷ []) t.bags ∙ sym (map-append waiting_of v.member.slots.waits (retired_now k count ∷ []));
+      bags = ap (λ (l : List Waiting). l ++ fresh (Item k) ∷ []) t.bags ∙ sym (unripe_too (retired_now k count) refl v.member.slots.waits);
+      due = t.due ∙ ap (map what_of) (sym (ripe_snoc (retired_now k count) refl v.member.slots.waits));
       now = t.now;
     }
 

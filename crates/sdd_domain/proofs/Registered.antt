@@ -17,7 +17,8 @@ use Rattle.sdd_rule.specs.Slots.{waits_in}
 use Rattle.sdd_rule.proofs.Codes.{free_is}
 use Rattle.sdd_homes.specs.Fillings.{newest}
 use Rattle.sdd_domain.specs.Member.{Member, IsLone, IsNew, word_of}
-use Rattle.sdd_domain.specs.Waits.{waiting_of}
+use Rattle.sdd_store.specs.declared.waiting.What.{What}
+use Rattle.sdd_domain.specs.Waits.{what_of, waiting_of, ripe, unripe}
 use Rattle.sdd_domain.specs.Tied.{Entries, IsTied, is_plain_word}
 use Rattle.sdd_domain.specs.Local.{Partaker, IsBlankAlone, listing, standing_by, value_by, standing_in, value_in, world_of}
 use Rattle.sdd_domain.proofs.Listings.{listing_same}
@@ -54,12 +55,16 @@ module _ {T : Type 0} (home : TableId) (book : ℕ) (most : Limits) (m : Member)
     waits = λ i l. nothing_waits i ∙ (sym ((free_is 0 (omega arith)).1) ∙ ap waiting (sym (word_free i)));
     inside = λ i some_wait. absurd (let n = nothing_waits i in omega arith);
     kept = λ i l filled. absurd (let f = (free_is 0 (omega arith)).2 in let g = ap full (word_free i) in omega arith);
-    bags = ap (λ (p : Participant). p.bags.waiting) is.own ∙ sym (ap (λ (s : SlotsView). map_waits s.waits) is.slots);
+    bags = ap (λ (p : Participant). p.bags.waiting) is.own ∙ sym (ap (λ (s : SlotsView). map_waits (unripe s.waits)) is.slots);
+    due = is.due ∙ sym (ap (λ (s : SlotsView). map_due (ripe s.waits)) is.slots);
     now = λ some_open. absurd (let g = ap (λ (p : Participant). p.guards) is.own in omega arith);
   }
     where
       map_waits : List WaitingItem → List Waiting
       map_waits = Rattle.std.proofs.Common.map waiting_of
+
+      map_due : List WaitingItem → List What
+      map_due = Rattle.std.proofs.Common.map what_of
 
   pub blank_new : IsLone m → IsBlankAlone most (world_of (record { member = m; entries = es }))
   blank_new one = let q : Partaker T = record { member = m; entries = es } in record {

@@ -1,7 +1,10 @@
 -- The world of a lone participant is whole, and each call leaves it so
-use Rattle.std.proofs.Common.{◌≡◌, inl, inr, ℕ, zero, suc, true, false, IsTrue, List, [], ◌∷◌, None, Some, map, replicate, slice_index_or, sym, refl, ap, ◌∙◌, subst, eq-eqb, arith, ◌⊎◌, ◌↔◌, ⊎_elim, nat_lt}
+use Rattle.std.proofs.Common.{◌≡◌, inl, inr, ℕ, zero, suc, true, false, IsTrue, List, [], ◌∷◌, None, Some, map, replicate, slice_index_or, sym, refl, ap, ◌∙◌, subst, eq-eqb, arith, ◌⊎◌, ◌↔◌, ⊎_elim, nat_lt, length, set, length-set, get_or-set_same, get_or-set_other}
 use Rattle.std.specs.Prelude.{Option, Result, Ok, Err, MatchResult, is_some, sum_by, count_by}
-use Rattle.std.proofs.lemmas.List.{length-replicate}
+use Rattle.std.proofs.lemmas.List.{length-replicate, get_or_past}
+use mathlib.Core.Logic.{dite}
+use native.Mathlib.Decide.{ℕ_discrete, dec_lt}
+use Rattle.sdd_stakes.specs.Shelf.{showing}
 use Rattle.std.proofs.lemmas.Bool.Decides.{nat_tests}
 use base.Stored.{Gv}
 use denote.RattleType.{RattleType}
@@ -21,7 +24,7 @@ use Rattle.sdd_store.specs.declared.standing.Standing.{Standing}
 use Rattle.sdd_store.specs.declared.tally.Tally.{Tally}
 use Rattle.sdd_store.specs.declared.time.Participant.{Participant}
 use Rattle.sdd_base.specs.declared.limits.Limits.{Limits}
-use Rattle.sdd_base.specs.Holding.{Holding}
+use Rattle.sdd_base.specs.Holding.{Home, Holding, AreOf}
 use Rattle.sdd_base.specs.World.{World, IsGuarded, standing_at}
 use Rattle.sdd_base.specs.Calls.{IsFirst}
 use Rattle.sdd_base.specs.Steps.{opened}
@@ -29,16 +32,16 @@ use Rattle.sdd_base.specs.Whole.{IsWhole, IsAbreast, AreHoused, times_with, jobs
 use Rattle.sdd_base.proofs.Accounts.{blank-at}
 use Rattle.sdd_base.proofs.Four.{AllClosed, all-closed, not-guarded}
 use Rattle.sdd_base.proofs.Housed.{Whole-opened, Whole-made_as, Whole-owner_given, live-taken}
-use Rattle.sdd_domain.specs.Member.{Member, IsLone, IsNew, CanNest, Opens, RetiresAt, KnowsOwner}
+use Rattle.sdd_domain.specs.Homes.{home_in}
+use Rattle.sdd_domain.specs.Member.{Member, IsLone, IsNew, RetiresAt, KnowsOwner}
 use Rattle.sdd_domain.specs.Tied.{Entries, IsTied}
 use Rattle.sdd_domain.specs.Local.{Partaker, IsBlankAlone, world_of}
 use Rattle.sdd_domain.specs.Space.{is_lone}
 use Rattle.sdd_domain.specs.Laws.{own_is_place}
 use Rattle.sdd_domain.specs.Sound.{IsSound}
-use Rattle.sdd_domain.proofs.Exact.{limits_stay, tied_answered, opens_world}
-use Rattle.sdd_domain.proofs.Makes.{Answers, answered_tied, did_world}
-use Rattle.sdd_domain.proofs.Owning.{let_go_tied, let_go_world}
-use Rattle.sdd_domain.proofs.Registered.{tied_new, blank_new}
+use Rattle.sdd_domain.proofs.Makes.{Answers, did_world}
+use Rattle.sdd_domain.proofs.Owning.{let_go_world}
+use Rattle.sdd_domain.proofs.Registered.{blank_new}
 
 no_guards : (own : Participant) → time.is_open own ≡ false → own.guards ≡ 0
 no_guards own shut = grind (arith, nat_tests, shut)
@@ -95,6 +98,16 @@ alone_bare : (most : Limits) (p : ℕ) → time.phase_at (alone_time most) p ≡
 alone_bare most zero none = refl
 alone_bare most (suc p) none = refl
 
+none-some : {A : Type 0} {x : A} → ◌≡◌ {A = Option A} None (Some x) → ⊥
+none-some e = cc
+
+value_in_entry : {A B : Type 0} (x y : A × B) → Some x ≡ Some y → x.0 ≡ y.0
+value_in_entry x y e = ap (λ (o : Option (_ × _)). entry_or x o) e
+  where
+    entry_or : {A B : Type 0} → A × B → Option (A × B) → A
+    entry_or d None = d.0
+    entry_or d (Some e) = e.0
+
 module _ {T : Type 0} where
   pub lives : (p : Partaker T) → IsLive (world_of p).time p.member.place
   lives p = ((let e = length-replicate (suc p.member.place) p.member.own in omega arith), live_at p.member.place)
@@ -131,53 +144,70 @@ module _ {T : Type 0} where
         let d = ap (λ (ss : List (Option Standing)). count_by is_some ss) is.standings ∙ none_taken Standing most.slots in omega arith;
   }
 
-  pub sound_new : (home : TableId) (book : ℕ) (most : Limits) (m : Member) (es : Entries T) → IsNew home book most m → es ≡ replicate most.slots None → IsSound m es
-  sound_new home book most m es is none = record {
-    tied = tied_new home book most m es is none;
+  pub sound_new : (holds : T → List Holding) (home : TableId) (book : ℕ) (most : Limits) (m : Member) (es : Entries T) → IsNew home book most m
+      → es ≡ replicate most.slots None → IsSound holds (record { member = m; entries = es })
+  sound_new holds home book most m es is none = record {
+    settled = is.due;
+    home = λ place value g there. absurd (none-some (sym (ap (λ (l : Entries T). slice_index_or l place None) none ∙ blank-at most.slots place) ∙ there));
     whole = λ one. whole_blank most (world_of (record { member = m; entries = es })) (blank_new home book most m es is none one);
   }
 
-  module _ (v : Partaker T) (m : Member) (sound : IsSound v.member v.entries) where
-    pub sound_opened : {A : Type 0} (IsReader : A → Type 0) (r : Result A Refused) (holds : T → List Holding) → ((x : T) → holds x ≡ [])
-        → MatchResult r (λ a. IsReader a × CanNest v.member × Opens v.member m) (λ e. (e ≡ Refused.TooManyGuards) × ¬ (CanNest v.member) × (m ≡ v.member))
-        → IsSound m v.entries
-    sound_opened IsReader (Ok a) holds nothing did = record {
-      tied = tied_answered v m IsReader (Ok a) sound.tied did;
-      whole = λ one. let lone : IsLone v.member = sym (limits_stay v m did.2) ∙ one in
-          whole_by v (record v { member = m }) (opened holds) (Whole-opened holds) (opens_world v m sound.tied did.2 lone holds nothing) (sound.whole lone);
+  module _ (holds : T → List Holding) (v : Partaker T) (m : Member) (sound : IsSound holds v) where
+    -- what becomes of a participant whose entries stay
+    pub sound_then : m.due ≡ [] → home_in m ≡ home_in v.member → (IsLone m → IsWhole (world_of (record v { member = m }))) → IsSound holds (record v { member = m })
+    sound_then settled home whole = record {
+      settled = settled;
+      home = λ place value g there. subst (λ (h : Home). AreOf h (holds value)) (sym home) (sound.home place value g there);
+      whole = whole;
     }
-    sound_opened IsReader (Err e) holds nothing did = subst (λ (x : Member). IsSound x v.entries) (sym did.2) sound
 
-    -- a call that changes the world by one step
     pub sound_step : (step : World T → ℕ → World T) → ((w : World T) (k : ℕ) → IsLive w.time k → IsWhole w → IsWhole (step w k))
-        → m.limits ≡ v.member.limits → IsTied m v.entries
-        → (IsLone v.member → world_of (record v { member = m }) ≡ step (world_of v) v.member.place) → IsSound m v.entries
-    sound_step step keeps limits tied same = record {
-      tied = tied;
-      whole = λ one. let lone : IsLone v.member = sym (ap (λ (l : Limits). l.participants) limits) ∙ one in
-          whole_by v (record v { member = m }) step keeps (same lone) (sound.whole lone);
-    }
+        → m.due ≡ v.member.due → home_in m ≡ home_in v.member
+        → (IsLone v.member → world_of (record v { member = m }) ≡ step (world_of v) v.member.place) → IsSound holds (record v { member = m })
+    sound_step step keeps due home same = sound_then (due ∙ sound.settled) home
+        (λ one. let lone : IsLone v.member = ap (λ (h : Home). h.readers.size) (sym home) ∙ one in
+        whole_by v (record v { member = m }) step keeps (same lone) (sound.whole lone))
 
-    pub sound_let_go : (right : Right) (count : ℕ) → RetiresAt (number_of right) count v.member m
-        → (IsLone v.member → (g : Gv) × KnowsOwner v.member (number_of right) (is_shared (kind_of right)) g) → IsSound m v.entries
-    sound_let_go right count is knows = record {
-      tied = let_go_tied v m right count is sound.tied knows v refl;
-      whole = λ one. let lone : IsLone v.member = sym (ap (λ (y : Member). y.limits.participants) is.member) ∙ one in
-          let w : World T = world_of v in
-          subst (λ (u : World T). IsWhole u) (sym (let_go_world v m right count is sound.tied knows v refl (lone_true v.member lone)))
-          (Whole-owner_given w v.member.place (number_of right) (live-taken w.time v.member.place (lives v)) (standing_at w (number_of right)) refl
-          (sound.whole lone));
-    }
+    pub sound_let_go : (right : Right) (count : ℕ) → IsTied v.member v.entries → RetiresAt (number_of right) count v.member m
+        → (IsLone v.member → (g : Gv) × KnowsOwner v.member (number_of right) (is_shared (kind_of right)) g) → IsSound holds (record v { member = m })
+    sound_let_go right count tied is knows = sound_then (ap (λ (y : Member). y.due) is.member ∙ sound.settled) (ap home_in is.member)
+        (λ one. let lone : IsLone v.member = sym (ap (λ (y : Member). y.limits.participants) is.member) ∙ one in
+        let w : World T = world_of v in
+        subst (λ (u : World T). IsWhole u) (sym (let_go_world v m right count is tied knows v refl (lone_true v.member lone)))
+        (Whole-owner_given w v.member.place (number_of right) (live-taken w.time v.member.place (lives v)) (standing_at w (number_of right)) refl
+        (sound.whole lone)))
+
+    -- an opening
+    pub sound_opened : m.due ≡ [] → home_in m ≡ home_in v.member
+        → (IsLone v.member → world_of (record v { member = m }) ≡ opened holds (world_of v) v.member.place) → IsSound holds (record v { member = m })
+    sound_opened due home same = sound_then due home
+        (λ one. let lone : IsLone v.member = ap (λ (h : Home). h.readers.size) (sym home) ∙ one in
+        whole_by v (record v { member = m }) (opened holds) (Whole-opened holds) (same lone) (sound.whole lone))
 
 -- for an answer of `make`
-module _ (R : RattleType) (v : Partaker R.Denot) (m : Member) (es : Entries R.Denot) (kind : Kind) {B : Type 0} (P : R.Denot → Type 0)
-    (Back Why : B × Refused → Type 0) where
-  pub sound_made : (r : Result Right (B × Refused)) → Answers R v m es kind P Back Why r → IsSound v.member v.entries → IsSound m es
-  sound_made (Ok right) a sound = record {
-    tied = answered_tied R v m es kind P Back Why (Ok right) a sound.tied;
+module _ (R : RattleType) (holds : R.Denot → List Holding) (v : Partaker R.Denot) (m : Member) (es : Entries R.Denot) (kind : Kind) {B : Type 0}
+    (P : R.Denot → Type 0) (Back Why : B × Refused → Type 0) where
+  entered_home : (k : ℕ) (x : R.Denot) → es ≡ set v.entries k (Some (x, showing R x)) → AreOf (home_in m) (holds x) → home_in m ≡ home_in v.member
+      → IsSound holds v → (place : ℕ) (value : R.Denot) (g : Gv) → slice_index_or es place None ≡ Some (value, g) → AreOf (home_in m) (holds value)
+  entered_home k x e at home sound place value g there = let is : slice_index_or (set v.entries k (Some (x, showing R x))) place None ≡ Some (value, g)
+      = sym (ap (λ (l : Entries R.Denot). slice_index_or l place None) e) ∙ there in dite (ℕ_discrete place k)
+      (λ same. dite (dec_lt k (length v.entries))
+      (λ low. subst (λ (y : R.Denot). AreOf (home_in m) (holds y))
+      (value_in_entry (x, showing R x) (value, g) (sym (ap (λ (j : ℕ). slice_index_or (set v.entries k (Some (x, showing R x))) j None) same
+      ∙ get_or-set_same v.entries k (Some (x, showing R x)) None low) ∙ is)) at)
+      (λ past. absurd (none-some (sym (ap (λ (j : ℕ). slice_index_or (set v.entries k (Some (x, showing R x))) j None) same
+      ∙ get_or_past (set v.entries k (Some (x, showing R x))) k None (let l = length-set v.entries k (Some (x, showing R x)) in omega arith)) ∙ is))))
+      (λ ne. subst (λ (h : Home). AreOf h (holds value)) (sym home)
+      (sound.home place value g (sym (get_or-set_other v.entries k place (Some (x, showing R x)) None (λ e. ne (sym e))) ∙ is)))
+
+  pub sound_made : (r : Result Right (B × Refused)) → Answers R v m es kind P Back Why r → ((x : R.Denot) → P x → AreOf (home_in v.member) (holds x))
+      → IsTied v.member v.entries → IsSound holds v → IsSound holds (record { member = m; entries = es })
+  sound_made (Ok right) a at tied sound = let home : home_in m ≡ home_in v.member = ap home_in a.2.member in record {
+    settled = ap (λ (z : Member). z.due) a.2.member ∙ sound.settled;
+    home = entered_home (number_of right) a.0 a.4 (subst (λ (h : Home). AreOf h (holds a.0)) (sym home) (at a.0 a.1)) home sound;
     whole = λ one. let lone : IsLone v.member = sym (ap (λ (z : Member). z.limits.participants) a.2.member) ∙ one in
-        let w = did_world R v m es kind a.0 right (a.2, a.3, a.4) sound.tied lone in
+        let w = did_world R v m es kind a.0 right (a.2, a.3, a.4) tied lone in
         subst (λ (u : World R.Denot). IsWhole u) (sym w.1)
         (Whole-made_as (world_of v) (number_of right) a.0 (first_standing kind) (first_is kind) w.0 (sound.whole lone));
   }
-  sound_made (Err e) a sound = subst (λ (p : Partaker R.Denot). IsSound p.member p.entries) (λ d. record { member = sym a.1 d; entries = sym a.4 d }) sound
+  sound_made (Err e) a at tied sound = subst (λ (p : Partaker R.Denot). IsSound holds p) (λ d. record { member = sym a.1 d; entries = sym a.4 d }) sound
