@@ -4,8 +4,8 @@ ghost use Rattle.sdd_stakes.specs.Stakes.{AllFreeFor};
 ghost use Rattle.sdd_stakes.specs.Seats.{lots, plain};
 ghost use Rattle.sdd_stakes.specs.Shelf.{CanShow, Shows, showing, IsFull, IsVacant, HasWhole, vacant, all_turned};
 
-use crate::seats::settle;
 use crate::plot::Plot;
+use crate::seats::settle;
 use crate::shelf::{Fits, Shelf};
 use crate::stake::Stake;
 use atomic_table::{Seat, Shared, TableRule};
@@ -98,7 +98,11 @@ pub fn shows_what_was_shown<'g, T, F: Fits<T>, V, K, P: TableRule<Stake, V, K>>(
 }
 
 /// By a unit that is cut off a stake in a full place, the same value is viewed each time. The stake has the unit back in the end.
-pub fn views_by_a_grip<T: Copy, F: Fits<T>>(shelf: &Shelf<T, F>, at: usize, stake: &mut Stake) -> (T, T)
+pub fn views_by_a_grip<T: Copy, F: Fits<T>>(
+    shelf: &Shelf<T, F>,
+    at: usize,
+    stake: &mut Stake,
+) -> (T, T)
     requires inside { at < shelf.now.size }
     requires book { stake.old.lot.book ≡ shelf.now.book }
     requires number { stake.old.lot.number ≡ at }
