@@ -123,7 +123,8 @@ module _ {M : Type 1} {𝓤 : Ura M} (𝓛 : Logic 𝓤) where
           let same = (coded× coded_ℕ itself).inj (b, w) (a, g) met in split ! $ move ! (3 ∷ []) $ fsplit ! $
           use1 𝓛 (‵ (lent_at R p x (b ∷ [])) ⊛ ‵ (lent_at R p x (b ∷ []))) (contraction 𝓛 (lent_at R p x) (laws x) (b ∷ [])) $ split ! $
           move ! (1 ∷ 2 ∷ []) $ fjoin ! $
-          move ! (2 ∷ 4 ∷ []) $ fjoin ! $ move ! (0 ∷ 1 ∷ []) $ fjoin ! $ nothing ! $ fpack ! (FitsIn x) (λ _. ftrue) fits $ fjoin ! $ fpack ! (Option (Option (ℕ × X))) st (Some (Some v)) $ suffices ! _ (upd_i 𝓤 Z) $
+          move ! (2 ∷ 4 ∷ []) $ fjoin ! $ move ! (0 ∷ 1 ∷ []) $ fjoin ! $ nothing ! $ fpack ! (FitsIn x) (λ _. ftrue) fits $ fjoin ! $
+          fpack ! (Option (Option (ℕ × X))) st (Some (Some v)) $ suffices ! _ (upd_i 𝓤 Z) $
           frame ! $
           show ! (Told a g S) x $ check ! (sym (λ j. (same j).1), fits) $ rewrite ! 0 (λ (m : ℕ). ‵ (lent_at R p x (m ∷ []))) (λ j. (same j).0) refl $
           done !))

@@ -56,7 +56,8 @@ module _ {M : Type 1} {𝓤 : Ura M} (𝓛 : Logic 𝓤) (R : RattleType) (FitsI
         rewrite ! 0 (λ (m : ℕ). ‵ (one k m)) (place_is size o k) refl $ done !
 
   pub shelf_twice : (p : Ptr) (γ n : ℕ) → ⟦ shelf_owns R FitsIn p γ n ⟧ ⊢ ⟦ shelf_owns R FitsIn p γ n ⟧ ∗ ⟦ shelf_owns R FitsIn p γ n ⟧
-  shelf_twice p γ n = let every : Fml = rules R (block_of p) γ FitsIn n 0 (count_of p) in qed 𝓛 (‵ (shelf_owns R FitsIn p γ n) ∷ []) ∵ fsplit ! $ fpick ! (λ fit. drop ! $
+  shelf_twice p γ n = let every : Fml = rules R (block_of p) γ FitsIn n 0 (count_of p) in qed 𝓛 (‵ (shelf_owns R FitsIn p γ n) ∷ []) ∵ fsplit ! $
+      fpick ! (λ fit. drop ! $
       use1 𝓛 (‵ every ⊛ ‵ every) (rules_twice (block_of p) γ n 0 (count_of p)) $ split ! $
       nothing ! $ fpack ! (Spans R p n) (λ _. ftrue) fit $ move ! (0 ∷ 1 ∷ []) $ fjoin ! $
       nothing ! $ fpack ! (Spans R p n) (λ _. ftrue) fit $ move ! (0 ∷ 2 ∷ []) $ fjoin ! $ move ! (1 ∷ 0 ∷ []) $ done !)

@@ -1,5 +1,5 @@
 -- A value leaves its place by all units but the place's own, and comes into it. Assumes `Logic`.
-use Rattle.std.proofs.Common.{◌≡◌, ℕ, suc, ◌+◌, ◌^◌, ◌≤◌, [], ◌∷◌, sym, refl, subst, arith}
+use Rattle.std.proofs.Common.{◌≡◌, ℕ, ◌+◌, ◌^◌, ◌≤◌, [], ◌∷◌, sym, refl, subst, arith}
 use Rattle.std.specs.Prelude.{Option, None, Some}
 use seplogic.Ra.Ura.{Ura}
 use base.Fraction.{full_share}
@@ -10,7 +10,7 @@ use contract.BorrowLft.{meet_⊑_left, meet_⊑_right}
 use denote.Struct.Lending.{Lends}
 use base.Fml.{Incl, Incl-trans, Lft, Share, Fml, ftrue, fsep, flft, flent, finv}
 use types.Logic.{Logic, sem}
-use types.Kit.{‵, raw, ◌⊛◌, given, later, ◌$◌, ◌∵◌, !, qed, by, move, keep, drop, frame, assume, use1, use2, use3, split, split3, join, fsplit, fjoin, fpick, fpack, learn, check, show, suffices, settle, rewrite, updating, await, now, done}
+use types.Kit.{‵, raw, ◌⊛◌, given, later, ◌$◌, ◌∵◌, !, qed, by, move, keep, drop, frame, assume, use1, use2, split, split3, join, fsplit, fjoin, fpick, fpack, learn, check, show, suffices, settle, rewrite, updating, await, now, done}
 use types.Tokens.{lft_new, lft_end, lent_back, bor_new}
 use denote.RattleType.{RattleType}
 use denote.RawPtr.{Ptr, lies_at}
@@ -112,7 +112,8 @@ module _ {M : Type 1} {𝓤 : Ura M} (𝓛 : Logic 𝓤) where
           fpick ! (λ c. fsplit ! $ keep ! (0 ∷ 2 ∷ []) $ by ! (differ a c g gnil IsFull full (λ z. z) _))
       takes_in a g b full (Some (Some v)) = let c : ℕ = v.0 in let x : X = v.1 in let w : Gv = full_shown (R.coded.code x) in
           let Z : Pr = ⟦ I ⟧ ∗ ex 𝓤 (TakenOut a g b) in let h : Gv = agreed_on b (gnum 0) in
-          qed 𝓛 (‵ (st (Some (Some v))) ∷ ‵ (U (agreed_on a g) most) ∷ ‵ (tokens a most) ∷ ‵ (tokens b 1) ∷ []) ∵ fsplit ! $ fpick ! (λ fits. drop ! $ fsplit ! $ fsplit ! $
+          qed 𝓛 (‵ (st (Some (Some v))) ∷ ‵ (U (agreed_on a g) most) ∷ ‵ (tokens a most) ∷ ‵ (tokens b 1) ∷ []) ∵ fsplit ! $ fpick ! (λ fits. drop ! $
+          fsplit ! $ fsplit ! $
           move ! (0 ∷ 3 ∷ []) $
           use2 𝓛 (given (Meets (agreed_on c w) (agreed_on a g) 1 most) (‵ (U (agreed_on c w) 1) ⊛ ‵ (U (agreed_on a g) most))) (apart_at 𝓛 γ i (agreed_on c w)
           (agreed_on a g) 1 most) $ learn ! (λ met.
@@ -172,7 +173,8 @@ module _ {M : Type 1} {𝓤 : Ura M} (𝓛 : Logic 𝓤) where
       abbrev Whole : X → Fml
       Whole x = lies_at R full_share p x
 
-      fills_in : (b : ℕ) (x : X) → FitsIn x → (v : St) → ⟦ st v ⟧ ∗ (⟦ U (agreed_on b (gnum 0)) most ⟧ ∗ ⟦ fsep (lent_at R p x (b ∷ [])) (flent (b ∷ []) (Whole x)) ⟧)
+      fills_in : (b : ℕ) (x : X) → FitsIn x → (v : St)
+          → ⟦ st v ⟧ ∗ (⟦ U (agreed_on b (gnum 0)) most ⟧ ∗ ⟦ fsep (lent_at R p x (b ∷ [])) (flent (b ∷ []) (Whole x)) ⟧)
           ⊢ upd 𝓤 (⟦ I ⟧ ∗ ⟦ U (agreed_on b (full_shown (R.coded.code x))) most ⟧)
       fills_in b x fits None = let w : Gv = full_shown (R.coded.code x) in let h : Gv = agreed_on b w in let h' : Gv = agreed_on b (gnum 0) in
           let Z : Pr = ⟦ I ⟧ ∗ ⟦ U h most ⟧ in let Lent : Fml = fsep (lent_at R p x (b ∷ [])) (flent (b ∷ []) (Whole x)) in

@@ -24,4 +24,3 @@ pub record IsOn {T F : Type 0} (plot : Plot T) (shelf : Shelf T F) : Type 0 wher
   pub place : shelf.ptr ≡ plot.ptr
   pub book : shelf.book ≡ plot.book
   pub size : shelf.size ≡ plot.size
-

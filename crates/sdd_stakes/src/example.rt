@@ -4,12 +4,14 @@ ghost use Rattle.sdd_stakes.specs.Stakes.{AllFreeFor};
 ghost use Rattle.sdd_stakes.specs.Seats.{lots, plain};
 ghost use Rattle.sdd_stakes.specs.Shelf.{CanShow, Shows, showing, IsFull, IsVacant, HasWhole, vacant, all_turned};
 
+use crate::plot::Plot;
 use crate::seats::settle;
 use crate::shelf::{Fits, Shelf};
 use crate::stake::Stake;
 use atomic_table::{Seat, Shared, TableRule};
 use sdd_places::{Ended, Tenure, end_round};
 use sdd_token::WHOLE;
+use std::alloc::{AllocError, Allocator};
 
 /// A value that is shown can be shown again under the same tenure: by one stake, both are the same value.
 pub fn shows_again<'g, T, F: Fits<T>, V, K, P: TableRule<Stake, V, K>>(
@@ -96,7 +98,11 @@ pub fn shows_what_was_shown<'g, T, F: Fits<T>, V, K, P: TableRule<Stake, V, K>>(
 }
 
 /// By a unit that is cut off a stake in a full place, the same value is viewed each time. The stake has the unit back in the end.
-pub fn views_by_a_grip<T: Copy, F: Fits<T>>(shelf: &Shelf<T, F>, at: usize, stake: &mut Stake) -> (T, T)
+pub fn views_by_a_grip<T: Copy, F: Fits<T>>(
+    shelf: &Shelf<T, F>,
+    at: usize,
+    stake: &mut Stake,
+) -> (T, T)
     requires inside { at < shelf.now.size }
     requires book { stake.old.lot.book ≡ shelf.now.book }
     requires number { stake.old.lot.number ≡ at }
@@ -112,4 +118,40 @@ pub fn views_by_a_grip<T: Copy, F: Fits<T>>(shelf: &Shelf<T, F>, at: usize, stak
     let second = *shelf.view(at, &grip);
     stake.join(Stake::of_grip(grip));
     (first, second)
+}
+
+/// Numbers of places, each smaller than how many places there are.
+pub struct Numbers;
+
+impl Fits<usize> for Numbers {
+    ghost fits = { λ _ _ size number. number < size };
+}
+
+/// The number in a place goes down by one, and stays zero. It is one of a place still.
+pub fn counts_down<V, K, P: TableRule<Stake, V, K>>(
+    shelf: &Shelf<usize, Numbers>,
+    at: usize,
+    seat: &mut Seat<Stake, V>,
+    table: &Shared<Stake, V, K, P>,
+    count: usize,
+)
+    requires table { seat.old.table_id ≡ table.now.table_id }
+    requires inside { at < shelf.now.size }
+    requires whole { HasWhole shelf.now.book at count IsFull (lots seat.old.me.1) }
+    ensures { HasWhole shelf.now.book at count IsFull (lots seat.new.me.1) }
+{
+    let number = shelf.take(at, seat, table, count);
+    let next = number.saturating_sub(1);
+    shelf.put(at, seat, table, count, next);
+}
+
+/// A shelf of vacant places is closed by the stakes and the hold that came with its plot.
+pub fn closes_what_was_founded<F: Fits<u64>, A: Allocator, V, K, P: TableRule<Stake, V, K>>(
+    alloc: &A,
+    table: &Shared<Stake, V, K, P>,
+) -> Result<(), AllocError> {
+    let (plot, stock, hold) = Plot::new(alloc, 2)?;
+    let shelf: Shelf<u64, F> = plot.found(table);
+    shelf.close(alloc, stock, hold);
+    Ok(())
 }

@@ -7,7 +7,7 @@ use std::marker::{Model, PhantomData};
 
 const _: () = prove!(size_of::<Stock>() == 0);
 
-/// Stakes in a row, without bytes: those of a new shelf before they come into the slots of a table, and those of a shelf that is to be closed.
+/// Stakes in a row, without bytes: those of a new plot before they come into the slots of a table, and those of a shelf that is to be closed.
 pub struct Stock {
     pub(crate) of: PhantomData<u64>,
     pub ghost lots: { List Lot } by { lots_coded },

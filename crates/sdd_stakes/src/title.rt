@@ -1,4 +1,4 @@
-//! Which book a shelf's places are of, for clauses.
+//! Which book the places of a plot and its shelf are of, for clauses.
 ghost use Rattle.std.specs.Prelude.{ℕ};
 ghost use base.Fml.{ftrue};
 
@@ -6,7 +6,7 @@ use std::marker::{Model, PhantomData};
 
 const _: () = prove!(size_of::<Title>() == 0);
 
-/// The book of a shelf, as a value without bytes that owns nothing.
+/// The book of a plot and its shelf, as a value without bytes that owns nothing.
 pub struct Title {
     pub(crate) of: PhantomData<u64>,
     pub ghost book: { ℕ },

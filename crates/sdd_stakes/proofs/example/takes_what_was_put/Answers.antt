@@ -6,13 +6,13 @@ use Rattle.sdd_stakes.specs.Shelf.{showing, IsVacant, IsFull, HasWhole}
 use Rattle.sdd_stakes.proofs.Turns.{Carries, put-whole, put-free, whole-shows, whole-settled, same-value}
 use Rattle.sdd_stakes.proofs.example.takes_what_was_put.Goals as goal
 
--- src/example.rt:52:9
+-- src/example.rt:56:9
 pub show-shown-requires-clause-stake : goal.show-shown-requires-clause-stake
 show-shown-requires-clause-stake g c = let put = c.put.ensures.seat in let γ = c.args.shelf.now.book in let i = c.args.at in let n = c.args.count in
     let ys = c.put.new.seat.me.1 in whole-shows γ i n c.args.tenure.now.round (lots ys)
     (put-whole γ i n (showing g.row.T c.args.value) IsVacant IsFull c.args.seat.now.me.1 ys tt c.requires.whole (put.0, λ j. (put.1 j).me.1))
 
--- src/example.rt:54:5
+-- src/example.rt:58:5
 pub settle-requires-clause-lent : goal.settle-requires-clause-lent
 settle-requires-clause-lent g c = let put = c.put.ensures.seat in let zs = c.show-shown.new.seat.me.1 in
     subst (λ t. AllFreeFor t (lots zs)) (sym c.end_round-ended.ensures.ended) (c.show-shown.ensures.lent.1
@@ -21,7 +21,7 @@ settle-requires-clause-lent g c = let put = c.put.ensures.seat in let zs = c.sho
       λ j. (put.1 j).me.1,
     )))
 
--- src/example.rt:55:5
+-- src/example.rt:59:5
 pub take-requires-clause-whole : goal.take-requires-clause-whole
 take-requires-clause-whole g c = let put = c.put.ensures.seat in let γ = c.args.shelf.now.book in let i = c.args.at in let n = c.args.count in
     let ys = c.put.new.seat.me.1 in
@@ -29,7 +29,7 @@ take-requires-clause-whole g c = let put = c.put.ensures.seat in let γ = c.args
     (whole-settled γ i n IsFull ys c.show-shown.new.seat.me.1 c.show-shown.ensures.lent.0
     (put-whole γ i n (showing g.row.T c.args.value) IsVacant IsFull c.args.seat.now.me.1 ys tt c.requires.whole (put.0, λ j. (put.1 j).me.1)))
 
--- src/example.rt:35:1
+-- src/example.rt:38:1
 pub returns : goal.returns
 returns g c = let put = c.put.ensures.seat in let γ = c.args.shelf.now.book in let i = c.args.at in let n = c.args.count in
     let ys = c.put.new.seat.me.1 in let w = showing g.row.T c.args.value in let taken = c.take.ensures.value in

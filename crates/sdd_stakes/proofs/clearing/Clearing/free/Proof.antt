@@ -4,7 +4,7 @@ use Prim.Native.Nat.{ℕ, ◌*◌, ◌<◌, ◌^◌}
 use native.Mathlib.Omega.{arith}
 use mathlib.Core.List.{List, [], ◌∷◌, ◌++◌}
 use lib.Dec.{T}
-use mir.Syntax.{Fn, w64, ty_unit, ty_array}
+use mir.Syntax.{Fn, w64, ty_unit}
 use mir.Val.{Val, vunit, vint, vptr, has_ty, WT}
 use base.Logic.{id⊢, SProp, ent}
 use base.Fml.{ftrue, froom, flft, Incl-trans}
@@ -25,7 +25,7 @@ use denote.Triple.Clauses.{Clauses, Ended, closing}
 use denote.Triple.Spec.{Meets, triple_of}
 use denote.Triple.Table.{entered}
 use sound.WpLaws.{fm_of, WpFn-mono}
-use types.Kit.{fpick, use2, ‵, raw, ◌⊛◌, later, given, at_ret, ◌$◌, ◌∵◌, !, qed, move, keep, drop, use1, use3, learn, split, join, rewrite, fsplit, fjoin, fjoin3, feq_i, feq_l, suffices, await, done}
+use types.Kit.{fpick, ‵, raw, ◌⊛◌, later, given, at_ret, ◌$◌, ◌∵◌, !, qed, move, keep, drop, use1, use3, learn, split, join, rewrite, fsplit, fjoin, fjoin3, feq_i, feq_l, suffices, await, done}
 use types.Part.{whole, sub}
 use types.Run.{stop, fld, size_word, align_word, unit_lit, no_more, and_then, of_opd, bin, first, blocks, exec, returns, enter}
 use types.ByLocal.{alloc_all, pass_all, free_all, look_at, get, get_in, is, sets, lands_last, env}

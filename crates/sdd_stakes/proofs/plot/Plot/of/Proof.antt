@@ -73,7 +73,8 @@ of_spec 𝓤 𝓛 𝓜 𝓡 wired T A L LA g d dd _ _ =
     sets ! (agg ! (and_then ! (get ! refl) (and_then ! (get ! refl) (and_then ! (get ! refl) (no_more !))))) refl (tt, lease) $
     sets ! (agg ! (and_then ! (get ! refl) (and_then ! (get ! refl) (and_then ! (get ! refl) (no_more !))))) refl (tt, ((tt, tt), ((tt, tt), (lease, tt)))) $
     let Told : Type 0 = IsHoldOf new h.alloc (held E Z h.alloc b o n) in let Vacant : Type 0 = AreVacant γ 0 n ls in
-    use0 𝓛 (raw (fact 𝓤 Told)) (fact_i 𝓤 Told (emp 𝓤) (record { place = refl; size = refl; from = refl })) $ use0 𝓛 (raw (fact 𝓤 Vacant)) (fact_i 𝓤 Vacant (emp 𝓤) vacant) $ join ! $
+    use0 𝓛 (raw (fact 𝓤 Told)) (fact_i 𝓤 Told (emp 𝓤) (record { place = refl; size = refl; from = refl })) $
+    use0 𝓛 (raw (fact 𝓤 Vacant)) (fact_i 𝓤 Vacant (emp 𝓤) vacant) $ join ! $
     use0 𝓛 (raw (fact 𝓤 (n ≡ n))) (fact_i 𝓤 (n ≡ n) (emp 𝓤) refl) $ join ! $ nothing ! $ nothing ! $ fjoin ! $
     returns ! (look_at ! 0 refl) $ free_all ! refl $ keep ! (4 ∷ 0 ∷ 2 ∷ 1 ∷ []) $
     by ! (leaves 𝓛 En hs c z all (new, rest, held E Z h.alloc b o n) (tt, tt) (tt, tt))))))))))

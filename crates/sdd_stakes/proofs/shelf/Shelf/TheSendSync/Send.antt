@@ -1,10 +1,7 @@
 use denote.RattleType.{RattleType}
-use denote.Param.Send.{IsSend, IsSync, owning_send, struct_send, sendable}
-use denote.Struct.Struct.{Struct, exits_of}
-use denote.Struct.Owning.{shape, fields, to}
-use Rattle.std_alloc.proofs.SendSync.{quiet}
+use denote.Param.Send.{IsSend, IsSync}
 use Rattle.sdd_stakes.specs.declared.shelf.Fits.{Ghosts}
-use Rattle.sdd_stakes.specs.contracts.shelf.Shelf.{the_row, the_type}
+use Rattle.sdd_stakes.specs.contracts.shelf.Shelf.{the_row}
 use Rattle.sdd_stakes.proofs.ShelfSent.{shelf_Keyless}
 
 pub send : (T F : RattleType) (g : Ghosts F.Denot T.Denot) → IsSend T → IsSync T → IsSend (the_row T F g)

@@ -46,9 +46,11 @@ pub put_spec : {M : Type 1} → statement M
 unfolding Rattle.atomic_table.specs.Seated.seal
 put_spec 𝓤 𝓛 𝓜 𝓡 wired T F V K P L _ _ _ _ gF dF g d _ _ =
     let H = 𝓛.H in let A = 𝓛.A in let 𝓣 = tables 𝓤 H 𝓜 𝓡 𝓡.env in let E : El = record { row = T; laws = L } in let R : RattleType = param 0 T in
-    let B : RattleType = param 1 F in let W : RattleType = param 2 V in let X : RattleType = param 3 K in let Y : RattleType = param 4 P in let S : RattleType = stake.the_row in
+    let B : RattleType = param 1 F in let W : RattleType = param 2 V in let X : RattleType = param 3 K in let Y : RattleType = param 4 P in
+    let S : RattleType = stake.the_row in
     let En = ended T F V K P gF dF g d in
-    let inst = bounded (a_type ∷ a_type ∷ a_type ∷ a_type ∷ a_type ∷ []) (T, (F, (V, (K, (P, tt))))) (dcons dF (dcons d dnil)) in let fn = inst_fn inst code.function in
+    let inst = bounded (a_type ∷ a_type ∷ a_type ∷ a_type ∷ a_type ∷ []) (T, (F, (V, (K, (P, tt))))) (dcons dF (dcons d dnil)) in
+    let fn = inst_fn inst code.function in
     let ty = layout T in let LR = param_laws 0 T L in
     let Row : RattleType = shelf.the_row R B gF in let Sr : RattleType = seat.the_row S W in let Tr : RattleType = table.the_row S W X Y g in
     let D : RattleType = ShelfData R B gF in let DH : RattleType = HandData S W X Y g in let c = clauses T F V K P gF dF g d 𝓛 𝓜.mem 𝓡.returns in
@@ -109,8 +111,8 @@ put_spec 𝓤 𝓛 𝓜 𝓡 wired T F V K P L _ _ _ _ gF dF g d _ _ =
     (lent_out 𝓛 (table.struct S W X Y g) (table.the_codes S.Denot V.Denot K.Denot P.Denot S.coded W.coded X.coded Y.coded (marker.the_row (Tuple (Y ∷ W ∷ X ∷
     []))).coded) (table.the_heap S W X Y g) (table.the_lent S W X Y g) κ″ t b″ o″) $
     split ! $ drop ! $ move ! (3 ∷ []) $ fsplit ! $ drop ! $
-    use1 𝓛 (‵ (hidden_shr D κ (p, (tt, tt)) b o) ⊛ ‵ (fhide (shelf_shares R Fit p γ N κ))) (lent_out 𝓛 (shelf.struct R B gF) (shelf.the_codes T.Denot F.Denot R.coded B.coded
-    (marker.the_row B).coded)
+    use1 𝓛 (‵ (hidden_shr D κ (p, (tt, tt)) b o) ⊛ ‵ (fhide (shelf_shares R Fit p γ N κ)))
+    (lent_out 𝓛 (shelf.struct R B gF) (shelf.the_codes T.Denot F.Denot R.coded B.coded (marker.the_row B).coded)
     (shelf.the_heap R B gF) (shelf.the_lent R B gF) κ f b o) $ split ! $
     move ! (4 ∷ []) $ fsplit ! $ move ! (6 ∷ []) $ fsplit3 ! $ keep ! (5 ∷ 6 ∷ 7 ∷ 1 ∷ 2 ∷ 3 ∷ 9 ∷ 10 ∷ 11 ∷ 12 ∷ []) $
     enter ! 𝓣.C 𝓣.Λ fn (vptr b o ∷ vint w64 i ∷ vptr b' o' ∷ vptr b″ o″ ∷ vint w64 k ∷ vy ∷ []) Post $
@@ -142,7 +144,8 @@ put_spec 𝓤 𝓛 𝓜 𝓡 wired T F V K P L _ _ _ _ gF dF g d _ _ =
     use1 𝓛 (given (AreWhole γ i n top.newest.shown k hold) (‵ (purse hold))) (agree_top 𝓛 γ i k hold top.newest top.others top.there top.parts top.whole) $
     learn ! (λ all₀. let all_ : AreWhole γ i n gnil k hold = subst (λ (v : Gv). AreWhole γ i n v k hold) top.so all₀ in
     use1 𝓛 (‵ (part γ i n gnil most) ⊛ ‵ (purse more)) (whole_out 𝓛 γ i n gnil k hold all_) $ split ! $ fsplit ! $
-    move ! (11 ∷ []) $ use1 𝓛 (‵ (finv (rule R here γ i Fit)) ⊛ ‵ (finv (rule R here γ i Fit))) (𝓛.invs.inv_dup (rule R here γ i Fit)) $ split ! $ move ! (0 ∷ 2 ∷ []) $
+    move ! (11 ∷ []) $ use1 𝓛 (‵ (finv (rule R here γ i Fit)) ⊛ ‵ (finv (rule R here γ i Fit))) (𝓛.invs.inv_dup (rule R here γ i Fit)) $ split ! $
+    move ! (0 ∷ 2 ∷ []) $
     use2 𝓛 (later (‵ (units γ i (agreed_on n (gnum 0)) most) ⊛ ‵ (vacancy R here))) (opens_room 𝓛 γ i R Fit here n) $ await ! tt $ split ! $ move ! (1 ∷ []) $
     use1 𝓛 (‵ (froom ty bp op)) (𝓛.laws.raw-room ty bp op) $ move ! (13 ∷ 16 ∷ []) $
     looks ! tt D (shelf_opens R B gF 𝓛) (p, (tt, tt)) b o (λ q vs. move ! (1 ∷ []) $ peeks ! D (Is D) (shows 𝓛 D) (p, (tt, tt)) vs (λ is-so.

@@ -38,9 +38,11 @@ use Rattle.sdd_stakes.proofs.shelf.Shelf.show.Code as code
 pub show_spec : {M : Type 1} → statement M
 unfolding Rattle.atomic_table.specs.Seated.seal
 show_spec 𝓤 𝓛 𝓜 𝓡 wired T F V K P L _ _ _ _ gF dF g d _ _ =
-    let H = 𝓛.H in let A = 𝓛.A in let 𝓣 = tables 𝓤 H 𝓜 𝓡 𝓡.env in let R : RattleType = param 0 T in let B : RattleType = param 1 F in let W : RattleType = param 2 V in
+    let H = 𝓛.H in let A = 𝓛.A in let 𝓣 = tables 𝓤 H 𝓜 𝓡 𝓡.env in let R : RattleType = param 0 T in let B : RattleType = param 1 F in
+    let W : RattleType = param 2 V in
     let X : RattleType = param 3 K in let Y : RattleType = param 4 P in let S : RattleType = stake.the_row in let En = ended T F V K P gF dF g d in
-    let inst = bounded (a_type ∷ a_type ∷ a_type ∷ a_type ∷ a_type ∷ []) (T, (F, (V, (K, (P, tt))))) (dcons dF (dcons d dnil)) in let fn = inst_fn inst code.function in
+    let inst = bounded (a_type ∷ a_type ∷ a_type ∷ a_type ∷ a_type ∷ []) (T, (F, (V, (K, (P, tt))))) (dcons dF (dcons d dnil)) in
+    let fn = inst_fn inst code.function in
     let laws = (param_laws 0 T L).shr_laws in
     let Row : RattleType = shelf.the_row R B gF in let Sr : RattleType = seat.the_row S W in let Tr : RattleType = table.the_row S W X Y g in
     let Sg : RattleType = stage.the_row in let Ten : RattleType = part.the_row Sg in
@@ -137,8 +139,8 @@ show_spec 𝓤 𝓛 𝓜 𝓡 wired T F V K P L _ _ _ _ gF dF g d _ _ =
     (lent_out 𝓛 (table.struct S W X Y g) (table.the_codes S.Denot V.Denot K.Denot P.Denot S.coded W.coded X.coded Y.coded (marker.the_row (Tuple (Y ∷ W ∷ X ∷
     []))).coded) (table.the_heap S W X Y g) (table.the_lent S W X Y g) κ″ t b″ o″) $
     split ! $ drop ! $ move ! (3 ∷ []) $ fsplit ! $ drop ! $
-    use1 𝓛 (‵ (hidden_shr D κ (p, (tt, tt)) b o) ⊛ ‵ (fhide (shelf_shares R Fit p γ m κ))) (lent_out 𝓛 (shelf.struct R B gF) (shelf.the_codes T.Denot F.Denot R.coded B.coded
-    (marker.the_row B).coded)
+    use1 𝓛 (‵ (hidden_shr D κ (p, (tt, tt)) b o) ⊛ ‵ (fhide (shelf_shares R Fit p γ m κ)))
+    (lent_out 𝓛 (shelf.struct R B gF) (shelf.the_codes T.Denot F.Denot R.coded B.coded (marker.the_row B).coded)
     (shelf.the_heap R B gF) (shelf.the_lent R B gF) κ f b o) $ split ! $
     move ! (5 ∷ []) $ fsplit3 ! $ keep ! (3 ∷ 4 ∷ 5 ∷ 6 ∷ 1 ∷ 2 ∷ 8 ∷ 9 ∷ 10 ∷ 11 ∷ []) $
     -- [the field; the rule; the table; the tenure; the seat's value; its borrow; the table's token; the others; the tokens of self and of the seat]
@@ -154,8 +156,9 @@ show_spec 𝓤 𝓛 𝓜 𝓡 wired T F V K P L _ _ _ _ gF dF g d _ _ =
     rewrite ! 0 (λ (u : TableId). ‵ (bag u xs)) at_table refl $
     move ! (10 ∷ 9 ∷ []) $ join ! $ move ! (1 ∷ 9 ∷ 0 ∷ []) $
     use3 𝓛 (later (‵ (bag z ys) ⊛ ‵ (flft α r) ⊛ some (λ (x : T.Denot). given ((h.shown ≡ full_shown (R.coded.code x)) × Fit x) (‵ (lent_at R here x κ‴)))))
-    (with_all 𝓛 α (where_ z) (names z) z.slots xs hold' r (sep 𝓤 (A.inv (rule R here γ i Fit)) (sem 𝓛 (tenure_shares τ κ‴))) (ex 𝓤 (Shows 𝓛 R Fit here γ i ls h κ‴))
-    (set_long xs n (lent_to τ h)) (shows_beside 𝓛 R Fit here γ i ls hold n τ h κ‴ at sees.of_book sees.of_number sees.full sees.free)) $ await ! tt $ split3 ! $
+    (with_all 𝓛 α (where_ z) (names z) z.slots xs hold' r (sep 𝓤 (A.inv (rule R here γ i Fit)) (sem 𝓛 (tenure_shares τ κ‴)))
+    (ex 𝓤 (Shows 𝓛 R Fit here γ i ls h κ‴)) (set_long xs n (lent_to τ h))
+    (shows_beside 𝓛 R Fit here γ i ls hold n τ h κ‴ at sees.of_book sees.of_number sees.full sees.free)) $ await ! tt $ split3 ! $
     move ! (2 ∷ []) $ pick ! (λ x. learn ! (λ so. move ! (1 ∷ []) $ rewrite ! 0 (λ (u : TableId). ‵ (bag u ys)) (sym at_table) refl $ move ! (3 ∷ 0 ∷ []) $
     fjoin ! $ move ! (3 ∷ 0 ∷ []) $ fjoin ! $
     move ! (3 ∷ 0 ∷ 4 ∷ 5 ∷ 6 ∷ []) $ closes ! tt Sr s' ts b' o' $ feq_i ! (List Val) (vptr b' o' ∷ []) (vptr b' o' ∷ []) refl $ fjoin3 ! $

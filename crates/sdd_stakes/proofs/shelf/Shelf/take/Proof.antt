@@ -40,9 +40,11 @@ use Rattle.sdd_stakes.proofs.shelf.Shelf.take.Code as code
 pub take_spec : {M : Type 1} → statement M
 unfolding Rattle.atomic_table.specs.Seated.seal
 take_spec 𝓤 𝓛 𝓜 𝓡 wired T F V K P L _ _ _ _ gF dF g d _ _ =
-    let H = 𝓛.H in let A = 𝓛.A in let 𝓣 = tables 𝓤 H 𝓜 𝓡 𝓡.env in let R : RattleType = param 0 T in let B : RattleType = param 1 F in let W : RattleType = param 2 V in
+    let H = 𝓛.H in let A = 𝓛.A in let 𝓣 = tables 𝓤 H 𝓜 𝓡 𝓡.env in let R : RattleType = param 0 T in let B : RattleType = param 1 F in
+    let W : RattleType = param 2 V in
     let X : RattleType = param 3 K in let Y : RattleType = param 4 P in let S : RattleType = stake.the_row in let En = ended T F V K P gF dF g d in
-    let inst = bounded (a_type ∷ a_type ∷ a_type ∷ a_type ∷ a_type ∷ []) (T, (F, (V, (K, (P, tt))))) (dcons dF (dcons d dnil)) in let fn = inst_fn inst code.function in
+    let inst = bounded (a_type ∷ a_type ∷ a_type ∷ a_type ∷ a_type ∷ []) (T, (F, (V, (K, (P, tt))))) (dcons dF (dcons d dnil)) in
+    let fn = inst_fn inst code.function in
     let ty = layout T in
     let Row : RattleType = shelf.the_row R B gF in let Sr : RattleType = seat.the_row S W in let Tr : RattleType = table.the_row S W X Y g in
     let D : RattleType = ShelfData R B gF in let DH : RattleType = HandData S W X Y g in let c = clauses T F V K P gF dF g d 𝓛 𝓜.mem 𝓡.returns in
@@ -118,8 +120,8 @@ take_spec 𝓤 𝓛 𝓜 𝓡 wired T F V K P L _ _ _ _ gF dF g d _ _ =
     (lent_out 𝓛 (table.struct S W X Y g) (table.the_codes S.Denot V.Denot K.Denot P.Denot S.coded W.coded X.coded Y.coded (marker.the_row (Tuple (Y ∷ W ∷ X ∷
     []))).coded) (table.the_heap S W X Y g) (table.the_lent S W X Y g) κ″ t b″ o″) $
     split ! $ drop ! $ move ! (2 ∷ []) $ fsplit ! $ drop ! $
-    use1 𝓛 (‵ (hidden_shr D κ (p, (tt, tt)) b o) ⊛ ‵ (fhide (shelf_shares R Fit p γ N κ))) (lent_out 𝓛 (shelf.struct R B gF) (shelf.the_codes T.Denot F.Denot R.coded B.coded
-    (marker.the_row B).coded)
+    use1 𝓛 (‵ (hidden_shr D κ (p, (tt, tt)) b o) ⊛ ‵ (fhide (shelf_shares R Fit p γ N κ)))
+    (lent_out 𝓛 (shelf.struct R B gF) (shelf.the_codes T.Denot F.Denot R.coded B.coded (marker.the_row B).coded)
     (shelf.the_heap R B gF) (shelf.the_lent R B gF) κ f b o) $ split ! $
     move ! (4 ∷ []) $ fsplit3 ! $ keep ! (3 ∷ 4 ∷ 5 ∷ 1 ∷ 2 ∷ 7 ∷ 8 ∷ 9 ∷ 10 ∷ []) $
     enter ! 𝓣.C 𝓣.Λ fn (vptr b o ∷ vint w64 i ∷ vptr b' o' ∷ vptr b″ o″ ∷ vint w64 k ∷ []) Post $

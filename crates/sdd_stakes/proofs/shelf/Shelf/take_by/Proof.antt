@@ -30,7 +30,8 @@ use Rattle.sdd_stakes.proofs.shelf.Shelf.take_by.Code as code
 
 pub take_by_spec : {M : Type 1} → statement M
 take_by_spec 𝓤 𝓛 𝓜 𝓡 wired T F L _ gF dF _ =
-    let H = 𝓛.H in let 𝓣 = tables 𝓤 H 𝓜 𝓡 𝓡.env in let R : RattleType = param 0 T in let B : RattleType = param 1 F in let S : RattleType = stake.the_row in let En = ended T F gF dF in
+    let H = 𝓛.H in let 𝓣 = tables 𝓤 H 𝓜 𝓡 𝓡.env in let R : RattleType = param 0 T in let B : RattleType = param 1 F in let S : RattleType = stake.the_row in
+    let En = ended T F gF dF in
     let inst = bounded (a_type ∷ a_type ∷ []) (T, (F, tt)) (dcons dF dnil) in let fn = inst_fn inst code.function in let ty = layout T in
     let Row : RattleType = shelf.the_row R B gF in let D : RattleType = ShelfData R B gF in let c = clauses T F gF dF 𝓛 𝓜.mem 𝓡.returns in
     let self = RefOf (0 ∷ []) tt (plain (λ _. Row)) (λ _. tt) in let held = plain (λ _. S) in let num = plain (λ _. usize) in
@@ -52,8 +53,8 @@ take_by_spec 𝓤 𝓛 𝓜 𝓡 wired T F L _ gF dF _ =
     raw (fact 𝓤 _) ∷ raw (fact 𝓤 _) ∷ raw (fact 𝓤 Inside) ∷ raw (fact 𝓤 Whole) ∷ raw (fact 𝓤 Full) ∷ []) ∵
     keep ! (3 ∷ 4 ∷ 5 ∷ 0 ∷ []) $ heard ! Inside (λ near. heard ! Whole (λ all_units. heard ! Full (λ full.
     split ! $ split3 ! $ move ! (3 ∷ []) $ fsplit ! $ move ! (1 ∷ []) $ fsplit ! $ drop ! $ fsplit ! $ move ! (2 ∷ []) $ fsplit ! $ drop ! $
-    use1 𝓛 (‵ (hidden_shr D κ (p, (tt, tt)) b o) ⊛ ‵ (fhide (shelf_shares R Fit p γ N κ))) (lent_out 𝓛 (shelf.struct R B gF) (shelf.the_codes T.Denot F.Denot R.coded B.coded
-    (marker.the_row B).coded)
+    use1 𝓛 (‵ (hidden_shr D κ (p, (tt, tt)) b o) ⊛ ‵ (fhide (shelf_shares R Fit p γ N κ)))
+    (lent_out 𝓛 (shelf.struct R B gF) (shelf.the_codes T.Denot F.Denot R.coded B.coded (marker.the_row B).coded)
     (shelf.the_heap R B gF) (shelf.the_lent R B gF) κ f b o) $ split ! $
     -- [the shelf's place; its rules; the stake; _; the token; the stake's token; the others]
     move ! (2 ∷ []) $ fsplit3 ! $ keep ! (3 ∷ 4 ∷ 1 ∷ 2 ∷ 6 ∷ 7 ∷ 8 ∷ []) $
@@ -94,6 +95,7 @@ take_by_spec 𝓤 𝓛 𝓜 𝓡 wired T F L _ gF dF _ =
     move ! (1 ∷ 5 ∷ []) $ join ! $ move ! (2 ∷ 0 ∷ []) $ join ! $ move ! (1 ∷ []) $ nothing ! $ move ! (1 ∷ 0 ∷ []) $ fjoin ! $
     nothing ! $ fjoin ! $ nothing ! $ fjoin ! $
     let Value : Type 0 = u ≡ full_shown (R.coded.code x) in let Vacant : Type 0 = (m' : ℕ) × (s'.lot ≡ lot γ i m' gnil most) in
-    use0 𝓛 (raw (fact 𝓤 (Fit x))) (fact_i 𝓤 (Fit x) (emp 𝓤) so.1) $ use0 𝓛 (raw (fact 𝓤 Value)) (fact_i 𝓤 Value (emp 𝓤) so.0) $ join ! $ use0 𝓛 (raw (fact 𝓤 Vacant)) (fact_i 𝓤 Vacant (emp 𝓤) (m, refl)) $ join ! $
+    use0 𝓛 (raw (fact 𝓤 (Fit x))) (fact_i 𝓤 (Fit x) (emp 𝓤) so.1) $ use0 𝓛 (raw (fact 𝓤 Value)) (fact_i 𝓤 Value (emp 𝓤) so.0) $ join ! $
+    use0 𝓛 (raw (fact 𝓤 Vacant)) (fact_i 𝓤 Vacant (emp 𝓤) (m, refl)) $ join ! $
     returns ! (look_at ! 0 refl) $ free_all ! refl $ keep ! (2 ∷ 1 ∷ 4 ∷ 0 ∷ []) $
     by ! (leaves 𝓛 En hs c y v x (tt, (tt, (s', tt))) (tt, (tt, (tt, tt))))))))))))))))))

@@ -31,7 +31,8 @@ use Rattle.sdd_stakes.proofs.shelf.Shelf.view.Code as code
 
 pub view_spec : {M : Type 1} → statement M
 view_spec 𝓤 𝓛 𝓜 𝓡 wired T F L _ gF dF _ =
-    let H = 𝓛.H in let 𝓣 = tables 𝓤 H 𝓜 𝓡 𝓡.env in let R : RattleType = param 0 T in let B : RattleType = param 1 F in let En = ended T F gF dF in let c = clauses T F gF dF 𝓛 𝓜.mem 𝓡.returns in
+    let H = 𝓛.H in let 𝓣 = tables 𝓤 H 𝓜 𝓡 𝓡.env in let R : RattleType = param 0 T in let B : RattleType = param 1 F in let En = ended T F gF dF in
+    let c = clauses T F gF dF 𝓛 𝓜.mem 𝓡.returns in
     let inst = bounded (a_type ∷ a_type ∷ []) (T, (F, tt)) (dcons dF dnil) in let fn = inst_fn inst code.function in let laws = (param_laws 0 T L).shr_laws in
     let Row : RattleType = shelf.the_row R B gF in let Gr : RattleType = grip.the_row in let D : RattleType = ShelfData R B gF in
     let self = RefOf (0 ∷ []) tt (plain (λ _. Row)) (λ _. tt) in let num = plain (λ _. usize) in let arg = RefOf (0 ∷ []) tt (plain (λ _. Gr)) (λ _. tt) in
@@ -61,8 +62,8 @@ view_spec 𝓤 𝓛 𝓜 𝓡 wired T F L _ gF dF _ =
     (lent_out 𝓛 grip.struct (grip.the_codes (marker.the_row u64).coded) grip.the_heap grip.the_lent κ d b' o') $ split ! $ drop ! $
     -- [the grip; _; self; ..]
     move ! (2 ∷ []) $
-    use1 𝓛 (‵ (hidden_shr D κ (p, (tt, tt)) b o) ⊛ ‵ (fhide (shelf_shares R Fit p γ m κ))) (lent_out 𝓛 (shelf.struct R B gF) (shelf.the_codes T.Denot F.Denot R.coded B.coded
-    (marker.the_row B).coded)
+    use1 𝓛 (‵ (hidden_shr D κ (p, (tt, tt)) b o) ⊛ ‵ (fhide (shelf_shares R Fit p γ m κ)))
+    (lent_out 𝓛 (shelf.struct R B gF) (shelf.the_codes T.Denot F.Denot R.coded B.coded (marker.the_row B).coded)
     (shelf.the_heap R B gF) (shelf.the_lent R B gF) κ f b o) $ split ! $ keep ! (0 ∷ 1 ∷ 2 ∷ 5 ∷ 6 ∷ []) $
     -- [the field; the rule; the grip; the token; the others]
     enter ! 𝓣.C 𝓣.Λ fn (vptr b o ∷ vint w64 i ∷ vptr b' o' ∷ []) Post $
