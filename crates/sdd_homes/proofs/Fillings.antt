@@ -1,6 +1,6 @@
 -- What a lone participant knows of owners and of items that wait, after one step of one participant
-use Rattle.std.proofs.Common.{◌≡◌, ◌≢◌, ◌⊎◌, inl, inr, ℕ, zero, suc, List, [], ◌∷◌, ◌++◌, map, set, sym, refl, ap, ◌∙◌, subst, ⊎_elim, eq-eqb, ne_eqb}
-use Rattle.std.specs.Prelude.{Some}
+use Rattle.std.proofs.Common.{◌≡◌, ◌≢◌, ◌⊎◌, inl, inr, ℕ, zero, suc, eqb, List, [], ◌∷◌, ◌++◌, map, set, sym, refl, ap, ◌∙◌, subst, ⊎_elim, eq-eqb, ne_eqb}
+use Rattle.std.specs.Prelude.{Some, not}
 use mathlib.Core.Bool.{cond}
 use mathlib.Core.Option.{some, some-injective, some-ne-none}
 use lib.ListN.{get_elem?}
@@ -12,7 +12,9 @@ use Rattle.sdd_rule.specs.declared.Sizes.{Sizes}
 use Rattle.sdd_rule.specs.Epoch.{HasPlace, EpochPart}
 use Rattle.sdd_rule.specs.Parts.{epoch_of}
 use Rattle.sdd_rule.proofs.Epoch.{no_other}
+use Rattle.sdd_rule.proofs.Sums.{at_filter}
 use Rattle.sdd_homes.specs.Fillings.{newest, HasRecord, Tells, FilledPart}
+use Rattle.sdd_homes.specs.HomeSteps.{without_record}
 use Rattle.sdd_homes.proofs.Records.{IsAlike}
 
 -- ---- the newest record
@@ -46,6 +48,10 @@ at_either (x ∷ rs) ss (suc k) r e = ⊎_elim (λ (a : HasRecord rs r). inl (su
 
 pub has_either : (rs ss : List Showing) (r : Showing) → HasRecord (rs ++ ss) r → HasRecord rs r ⊎ HasRecord ss r
 has_either rs ss r h = at_either rs ss h.0 r h.1
+
+-- the records of other slots were there
+pub has_old : (slot : ℕ) (rs : List Showing) (r : Showing) → HasRecord (without_record slot rs) r → HasRecord rs r
+has_old slot rs r h = at_filter (λ (x : Showing). not (eqb x.slot slot)) rs h.0 r h.1
 
 pub tells_none : (w : View) (vs : List View) → w.stakes.owns ≡ [] → w.stakes.waits ≡ [] → TellsNoMore w vs
 tells_none w vs none none' r t = absurd (⊎_elim (has_none r w.stakes.owns none) (has_none r w.stakes.waits none') t)
@@ -101,7 +107,7 @@ module _ (sizes : Sizes) (vs : List View) (f : FilledPart sizes vs) where
 
     -- what it knows of stakes is as before
     pub filled_alike : (w : View) → IsAlike v w → (sizes.participants ≡ 1 → HasPlace w.epoch → HasPlace v.epoch ⊎ NoneTold vs) → FilledPart sizes (set vs id w)
-    filled_alike w same had = filled_after w (ap (λ (s : StakesView). s.filled) same.0) 
+    filled_alike w same had = filled_after w (ap (λ (s : StakesView). s.filled) same.0)
         (tells_same w (ap (λ (s : StakesView). s.owns) same.0) (ap (λ (s : StakesView). s.waits) same.0)) had
 
     -- it moved something into a slot of which nothing was told

@@ -180,7 +180,15 @@ module _ (γ : ℕ) (sizes : Sizes) (slots : ℕ) where
       (λ (s' : Sees v j × (v.epoch.place ≡ p)). inl (s'.0, (stays e t.2).1 ∙ s'.1)) (λ (l : Settles v j × (p ≡ n)). inr l) o)) out in
       let movers = still_mover v (record v { epoch = e }) refl (λ _. (stays e t.2).0) (λ _ o. o) (λ _ o. o) (h.homes.moving id v at) in
       subst (IsCalm γ sizes slots id me i (λ _. y) s y) (sym t.1) (changed_or_not v calm
-      record { more = more; same = same; mover = movers; alike = (refl, refl, refl, λ _. refl); counts = refl; lives = λ _. (stays e t.2).0; had = λ _ _. inl live }
+      record {
+        more = more;
+        same = same;
+        mover = movers;
+        alike = (refl, refl, refl, λ _. refl);
+        counts = refl;
+        lives = λ _. (stays e t.2).0;
+        had = λ _ _. inl live;
+      }
       record {
         more = more;
         same = same;

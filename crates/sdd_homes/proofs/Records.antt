@@ -79,17 +79,23 @@ total_in : (rs : List Showing) (i : ℕ) → 0 < total (of_slot i) rs → (g : G
 total_in rs i more = let t = total_some (of_slot i) rs more in let there = t.3 in
     (t.1.value, (t.0, t.1, t.2, dite (ℕ_discrete t.1.slot i) (λ e. e) (λ ne. absurd (let z = is_other i t.1.slot ne in omega arith)), refl))
 
+none_same : (slot : ℕ) (rs : List Showing) → total (of_slot slot) (without_record slot rs) ≡ 0
+none_same slot rs = total_gone (of_slot slot) (λ (r : Showing). not (eqb r.slot slot))
+    (λ x t. is_other slot x.slot (λ e. grind (arith, eq-eqb x.slot slot e))) rs
+
+same_other : (slot i : ℕ) (rs : List Showing) → i ≢ slot → total (of_slot i) (without_record slot rs) ≡ total (of_slot i) rs
+same_other slot i rs ne = total_kept (of_slot i) (λ (r : Showing). not (eqb r.slot slot))
+    (λ x t. is_other i x.slot (λ e. grind (arith, ne_eqb x.slot slot))) rs
+
 pub in_others : (slot : ℕ) (rs : List Showing) (i : ℕ) (g : Gv) → IsIn (without_record slot rs) i g → (i ≢ slot) × IsIn rs i g
 in_others slot rs i g h = (
-  λ e. let gone = total_gone (of_slot slot) (λ (r : Showing). not (eqb r.slot slot)) (λ x t. is_other slot x.slot (λ e. grind (arith, eq-eqb x.slot slot e))) rs in
+  λ e. let none = none_same slot rs in
       let a = in_total (without_record slot rs) slot g (subst (λ (k : ℕ). IsIn (without_record slot rs) k g) e h) in omega arith,
   let q = at_filter (λ (r : Showing). not (eqb r.slot slot)) rs h.0 h.1 h.2 in (q.0, h.1, q.1, h.3, h.4),
 )
 
 pub in_kept : (slot : ℕ) (rs : List Showing) (i : ℕ) (g : Gv) → i ≢ slot → IsIn rs i g → (k : Gv) × IsIn (without_record slot rs) i k
-in_kept slot rs i g ne h = let a = in_total rs i g h in
-    let kept = total_kept (of_slot i) (λ (r : Showing). not (eqb r.slot slot)) (λ x t. is_other i x.slot (λ e. grind (arith, ne_eqb x.slot slot))) rs in
-    total_in (without_record slot rs) i (omega arith)
+in_kept slot rs i g ne h = let a = in_total rs i g h in let kept = same_other slot i rs ne in total_in (without_record slot rs) i (omega arith)
 
 -- ---- one participant
 pub sees_told : (v : View) → IsTelling v → (i : ℕ) (g : Gv) → IsIn v.stakes.sees i g → Sees v i

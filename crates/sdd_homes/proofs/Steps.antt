@@ -3,7 +3,7 @@ use Rattle.std.proofs.Common.{◌≡◌, ◌≢◌, ◌⊎◌, inl, inr, ℕ, su
 use mathlib.Core.Option.{none, some, some-injective}
 use mathlib.Core.Logic.{dite}
 use native.Mathlib.Decide.{ℕ_discrete, dec_lt}
-use Rattle.std.specs.Prelude.{Some, None, not}
+use Rattle.std.specs.Prelude.{Some, None}
 use lib.ListN.{get_elem?}
 use lib.Seq.{set-get_or}
 use prog.Atomic.{either}
@@ -39,7 +39,7 @@ use Rattle.sdd_rule.proofs.Holding as holding
 use Rattle.sdd_rule.proofs.Lift.{blind}
 use Rattle.sdd_rule.proofs.Lone.{finds}
 use Rattle.sdd_rule.proofs.SlotWords.{owner_in, owners_in}
-use Rattle.sdd_rule.proofs.Sums.{is_same, is_other, without_same, without_other, total_has, total_two, at_filter}
+use Rattle.sdd_rule.proofs.Sums.{is_same, is_other, without_same, without_other, total_has, total_two}
 use Rattle.sdd_rule.proofs.Waits.{waits_once}
 use Rattle.sdd_witness.specs.Steps.{AllowsAlone, AllowsBeside, moved}
 use Rattle.sdd_rule.specs.Moves.{all_in}
@@ -55,7 +55,7 @@ use Rattle.sdd_homes.proofs.Places.{one_slot}
 use Rattle.sdd_homes.proofs.Counts.{ended_spared, as_full, one_full, counted, uncounted, uncounted_alone}
 use Rattle.sdd_homes.proofs.Records.{in_either, in_none, in_both, in_others, known_by, told_seen}
 use Rattle.sdd_homes.proofs.Records as records
-use Rattle.sdd_homes.proofs.Fillings.{TellsNoMore, has_none, has_either, told_by, tells_old, filled_after, filled_same, filled_housed}
+use Rattle.sdd_homes.proofs.Fillings.{TellsNoMore, has_none, has_either, has_old, told_by, tells_old, filled_after, filled_same, filled_housed}
 use Rattle.sdd_homes.proofs.Rows.{Taken, takes_row, gives_row, gives_purse, last_given, taken_lies, given_lies}
 use Rattle.sdd_homes.proofs.Telling.{one_moved, none_moved, none_settled, settles_only, one_settled, settling_tells, one_view, owns_it, claimed_tells, moving_tells, held_tells, retired_tells, housed_tells, rested_tells, none_owns, none_waits, unknown_owned, unknown_waiting, comes_home}
 use Rattle.sdd_homes.proofs.Tops.{rest_is, share_one}
@@ -290,8 +290,13 @@ module _ (slots id : ℕ) (me : Mine) (live : HasPlace me.0.epoch) where
               (λ (b : (j ≢ slot) × LiesAt n s.homes j p y). inr b) (given_lies γ n slot 1 (IsValue value) s.homes rest me.1 g j p y near lies))
               (λ j. none_moved w j refl) (λ j a. a))
               (filled_housed sizes s.views h.filled id v at s.words h.kept.parts.epoch live r
-              (λ x t e. unknown x.value (t.0, t.1, t.2, ⊎_elim (λ (a : HasRecord t.1.stakes.owns x). inl (a.0, x, a.1, sym e, refl))
-              (λ (a : HasRecord t.1.stakes.waits x). inr (inr (a.0, x, a.1, sym e, refl))) t.3)) w refl refl refl),
+              (λ x t e. unknown x.value (
+                t.0,
+                t.1,
+                t.2,
+                ⊎_elim (λ (a : HasRecord t.1.stakes.owns x). inl (a.0, x, a.1, sym e, refl))
+                    (λ (a : HasRecord t.1.stakes.waits x). inr (inr (a.0, x, a.1, sym e, refl))) t.3,
+              )) w refl refl refl),
           (refl, g.carried ∙ sym (rest_is γ slot n 1 (IsValue value) rest (suc n) me.1 row)),
         )
 
@@ -363,8 +368,7 @@ module _ (slots id : ℕ) (me : Mine) (live : HasPlace me.0.epoch) where
         w.stakes refl refl
         (moving_tells v tells slot rests (none_owns γ sizes s h slot id v at waits id v at))
         (λ j g. known_by w j g (λ a. inl a) (λ a. inr (inl a)) (λ a. inr (inr (in_others slot v.stakes.waits j g a).1))) refl
-        (tells_old_by s h at w (λ r a. inl a)
-        (λ r a. inr (at_filter (λ (x : Showing). not (eqb x.slot slot)) v.stakes.waits a.0 r a.1))) in (
+        (tells_old_by s h at w (λ r a. inl a) (λ r a. inr (has_old slot v.stakes.waits r a))) in (
           m.0,
           m.1,
           m.2,

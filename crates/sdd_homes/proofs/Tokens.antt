@@ -61,8 +61,8 @@ module _ (γ : ℕ) (sizes : Sizes) where
           homes = subst (λ (w : View). HomesPart γ sizes s.words (s.views ++ w ∷ []) s.homes) (sym r.2.0)
               (part.arrives γ sizes s.words s.views s.homes h.homes t (nothing_out sizes.participants t refl refl) (none_out t refl));
           records = subst (λ (w : View). RecordsPart sizes (s.views ++ w ∷ []) s.homes) (sym r.2.0)
-              (records.arrives sizes s.views s.homes h.records t (telling_none t refl refl refl refl refl refl) (λ i g k. absurd (knows_none t refl refl refl i g k))
-              refl refl);
+              (records.arrives sizes s.views s.homes h.records t (telling_none t refl refl refl refl refl refl)
+              (λ i g k. absurd (knows_none t refl refl refl i g k)) refl refl);
           counts = subst (λ (w : View). CountsPart sizes s.words (s.views ++ w ∷ [])) (sym r.2.0)
               (more_counts sizes s.words s.views h.counts t refl refl refl);
           filled = subst (λ (w : View). FilledPart sizes (s.views ++ w ∷ [])) (sym r.2.0)

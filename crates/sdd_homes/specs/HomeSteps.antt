@@ -152,8 +152,8 @@ Houses slot shared value me me' = (me'.0 ≡ resting (telling slot shared value 
 abbrev pub IsNewest : ℕ → Bool → Gv → View → Type 0
 IsNewest slot shared value v = newest slot v.stakes.filled ≡ Some (record { slot = slot; shared = shared; value = value })
 
--- the value of an item that nobody sees is to be moved out, so that all stakes in it are out: they show what was remembered of it, and no more is;
--- a lone participant moved this into the slot last
+-- the value of an item that nobody sees is to be moved out, so that all stakes in it are out: they show what was remembered of it, which is forgotten
+-- then; and a lone participant moved this into the slot last
 pub record TakesOut (slot : ℕ) (me me' : Mine) : Type 0 where
   pub value : Gv
   pub view : me'.0 ≡ moving slot (forgetting slot me.0)
