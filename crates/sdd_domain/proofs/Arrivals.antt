@@ -1,6 +1,8 @@
 -- What an outermost opening leaves, before anything is reclaimed, with a change and without one
 use Rattle.std.proofs.Common.{◌≡◌, ◌≢◌, ℕ, ◌+◌, ◌<◌, ◌≤◌, if◌then◌else◌, not, List, [], ◌∷◌, length, map, sym, refl, ap, ◌∙◌, eq-eqb, ne_eqb, arith}
-use mathlib.Core.Bool.{Bool, true, false, cond}
+use mathlib.Core.Bool.{Bool, true, false}
+use mathlib.Core.Logic.{dite}
+use native.Mathlib.Decide.{ℕ_discrete}
 use Rattle.atomic_table.specs.declared.shared.Seat.{Seat}
 use Rattle.sdd_store.specs.declared.waiting.What.{What}
 use Rattle.sdd_store.specs.declared.time.Participant.{Participant}
@@ -22,7 +24,7 @@ use Rattle.sdd_board.specs.Board.{slots_of}
 use Rattle.sdd_board.specs.Token.{view, epoch, slots, Taught, Stepped, HasPublished}
 use Rattle.sdd_domain.specs.Waits.{what_of, waiting_of, ripe, unripe, aged_at, due_at, arrived_at, Arrives}
 use Rattle.sdd_domain.specs.Posed.{IsPosed}
-use Rattle.sdd_domain.proofs.Reclaims.{aged_alike, left_alike, all_left}
+use Rattle.sdd_domain.proofs.Reclaims.{aged_alike, left_alike, due_alike, all_left}
 use Rattle.sdd_domain.proofs.Posing.{posed_arrived, has_place}
 
 -- where nothing waits a change only finds the count
@@ -62,6 +64,20 @@ module _ (count : ℕ) (own : Participant) where
 
   pub due_moved : own.found ≢ count → due_at count own ≡ due_next own
   due_moved ne = ap (λ (b : Bool). if b then [] else due_next own) (ne_eqb own.found count ne)
+
+  -- no guard more or fewer is open
+  pub as_open : (arrived_at count own).guards ≡ own.guards
+  as_open = dite (ℕ_discrete own.found count) (λ e. ap (λ (p : Participant). p.guards) (stayed e)) (λ ne. ap (λ (p : Participant). p.guards) (moved ne))
+
+  pub as_large : (arrived_at count own).bags.room ≡ own.bags.room
+  as_large = dite (ℕ_discrete own.found count) (λ e. ap (λ (p : Participant). p.bags.room) (stayed e)) (λ ne. ap (λ (p : Participant). p.bags.room) (moved ne))
+
+  -- what has seen three changes is due
+  pub due_ripe : (xs : List WaitingItem) → own.bags.waiting ≡ map waiting_of (unripe xs) → ripe xs ≡ [] → due_at count own ≡ map what_of (ripe (aged_at count own xs))
+  due_ripe xs bags settled = let all : unripe xs ≡ xs = all_left xs (ap (map what_of) settled) in dite (ℕ_discrete own.found count)
+      (λ e. due_stayed e ∙ sym (ap (λ (l : List WaitingItem). map what_of (ripe l)) (aged_stayed xs e) ∙ ap (map what_of) settled))
+      (λ ne. due_moved ne ∙ (ap (λ (ws : List Waiting). due (aged ws)) (bags ∙ ap (map waiting_of) all)
+      ∙ (ap due (aged_alike xs) ∙ (due_alike (map older xs) ∙ sym (ap (λ (l : List WaitingItem). map what_of (ripe l)) (aged_moved xs ne))))))
 
 module _ (b : Board) (p : ℕ) (own : Participant) (count : ℕ) where
   -- the same count is found again

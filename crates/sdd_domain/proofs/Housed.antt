@@ -1,6 +1,15 @@
 -- What is of one home is of another with the same slots and cells
-use Rattle.std.proofs.Common.{◌≡◌, ℕ, List, [], ◌∷◌, ap, ◌∙◌}
+use Rattle.std.proofs.Common.{◌≡◌, ℕ, List, [], ◌∷◌, sym, refl, ap, ◌∙◌}
 use Rattle.atomic_table.specs.Seated.{TableId}
+use Rattle.sdd_board.specs.declared.board.Board.{Board}
+use Rattle.sdd_board.specs.Board.{id_of, book_of, sizes_of, slots_of}
+use Rattle.sdd_base.specs.declared.limits.Limits.{Limits}
+use Rattle.sdd_rule.specs.declared.Sizes.{Sizes}
+use Rattle.sdd_token.specs.Right.{home_of_table}
+use Rattle.sdd_stakes.specs.declared.shelf.Shelf.{Shelf}
+use Rattle.sdd_domain.specs.Shelf.{sizes_in, IsShelfOf}
+use Rattle.sdd_domain.specs.Homes.{home_of_slots, home_in}
+use Rattle.sdd_domain.specs.Member.{Member}
 use Rattle.sdd_base.specs.Holding.{Home, Holding, owned, shared, atomic_owned, atomic_shared, atomic_raw, AreOf}
 
 pub re_homed : (a b : Home) → a.slots ≡ b.slots → a.cells ≡ b.cells → (hs : List Holding) → AreOf a hs → AreOf b hs
@@ -10,3 +19,31 @@ re_homed a b slots cells (shared k h ∷ hs) of_a = (of_a.0 ∙ slots, re_homed 
 re_homed a b slots cells (atomic_owned k h ∷ hs) of_a = (of_a.0 ∙ cells, re_homed a b slots cells hs of_a.1)
 re_homed a b slots cells (atomic_shared k h ∷ hs) of_a = (of_a.0 ∙ cells, re_homed a b slots cells hs of_a.1)
 re_homed a b slots cells (atomic_raw k h ∷ hs) of_a = (of_a.0 ∙ cells, re_homed a b slots cells hs of_a.1)
+
+-- the participant is one of this board's domain
+pub record IsOn (b : Board) (m : Member) : Type 0 where
+  pub home : m.home ≡ id_of b
+  pub book : m.book ≡ book_of b
+  pub slots : m.limits.slots ≡ slots_of b
+
+pub on_board : (l : Limits) (b : Board) (table : TableId) → table ≡ id_of b → sizes_of b ≡ sizes_in l → (m : Member) → m.home ≡ table → m.book ≡ book_of b → m.limits ≡ l
+    → IsOn b m
+on_board l b table same sizes m home book limits = record {
+  home = home ∙ same;
+  book = book;
+  slots = ap (λ (x : Limits). x.slots) limits ∙ sym (ap (λ (z : Sizes). z.slots) sizes);
+}
+
+module _ (b : Board) (m : Member) (on : IsOn b m) where
+  -- what may be held in the domain of the board is of the participant's home
+  pub to_board : (hs : List Holding) → AreOf (home_in m) hs → AreOf (home_of_slots (id_of b) (book_of b) (slots_of b)) hs
+  to_board = re_homed (home_in m) (home_of_slots (id_of b) (book_of b) (slots_of b)) (λ d. home_of_table (on.home d) (on.book d) (on.slots d)) refl
+
+  pub from_board : (hs : List Holding) → AreOf (home_of_slots (id_of b) (book_of b) (slots_of b)) hs → AreOf (home_in m) hs
+  from_board = re_homed (home_of_slots (id_of b) (book_of b) (slots_of b)) (home_in m)
+      (λ d. home_of_table (sym on.home d) (sym on.book d) (sym on.slots d)) refl
+
+  pub from_shelf : {T F : Type 0} (shelf : Shelf T F) → IsShelfOf b shelf → (hs : List Holding) → AreOf (home_of_slots shelf.table shelf.book shelf.size) hs
+      → AreOf (home_in m) hs
+  from_shelf shelf s = re_homed (home_of_slots shelf.table shelf.book shelf.size) (home_in m)
+      (λ d. home_of_table ((s.table ∙ sym on.home) d) ((s.book ∙ sym on.book) d) ((s.size ∙ sym on.slots) d)) refl

@@ -32,7 +32,7 @@ with_token m s = record m {
   words = s.me.0.words;
 }
 
-abbrev with_view : Member → TableId → View → Member
+abbrev pub with_view : Member → TableId → View → Member
 with_view m id v = record m {
   home = id;
   known = v.epoch.known;

@@ -6,6 +6,7 @@ use Rattle.std.proofs.lemmas.List.{map-append}
 use mathlib.Core.Logic.{dite}
 use native.Mathlib.Decide.{ℕ_discrete, dec_lt}
 use Rattle.atomic_table.specs.declared.shared.Seat.{Seat}
+use Rattle.sdd_store.specs.declared.waiting.What.{What}
 use Rattle.sdd_store.specs.declared.waiting.What.TheVariants.{Item}
 use Rattle.sdd_store.specs.declared.time.Participant.{Participant}
 use Rattle.sdd_store.specs.Waiting.{Waiting, fresh}
@@ -36,7 +37,8 @@ use Rattle.sdd_board.specs.Board.{book_of, places_of, slots_of}
 use Rattle.sdd_board.specs.Token.{view, epoch, slots, Taught, Moved, MovedAlone}
 use Rattle.sdd_board.specs.Owner.{disowned}
 use Rattle.sdd_domain.specs.Sight.{IsOnce}
-use Rattle.sdd_domain.specs.Waits.{waiting_of, unripe}
+use Rattle.sdd_domain.specs.Waits.{what_of, waiting_of, ripe, unripe, GivesOneBack}
+use Rattle.sdd_domain.proofs.Reclaims.{first_goes, no_more}
 use Rattle.sdd_domain.specs.Claims.{Gains}
 use Rattle.sdd_domain.specs.Values.{with_filled, LetsWait}
 use Rattle.sdd_domain.specs.Posed.{IsPurse, AreLentTo, IsPosed}
@@ -131,6 +133,35 @@ module _ (b : Board) (p : ℕ) where
         room = q.room;
         pace = stirs_low own.countdown q.pace;
         idle = λ e. absurd (stirs own.countdown e);
+      }
+
+  -- the first that was due was moved out
+  pub posed_reclaims : (own : Participant) (slot : ℕ) (rest : List What) (s t : Seat Stake View) → IsPosed b p own s
+      → map what_of (ripe (slots s).waits) ≡ Item slot ∷ rest → Taught (GivesOneBack slot) s 0 t → IsPosed b p own t
+  posed_reclaims own slot rest s t q first e = let goes = first_goes slot rest s.me.0.slots.waits first e.3.1 in
+      subst (λ (v : View). IsPosed b p own (record t { me = (v, t.me.1) })) (sym e.3.0) record {
+        home = e.0 ∙ q.home;
+        purse = subst (λ (xs : Carries). IsPurse (book_of b) (places_of b) p s.me.0.stakes.sees xs) (sym e.2) q.purse;
+        sight = record { owns = q.sight.owns; sees = q.sight.sees; once = q.sight.once };
+        unseen = q.unseen;
+        rests = q.rests;
+        all = q.all;
+        place = q.place;
+        inside = q.inside;
+        count = q.count;
+        closed = q.closed;
+        opened = q.opened;
+        near = q.near;
+        lone = q.lone;
+        free = q.free;
+        knows = q.knows;
+        found = q.found;
+        quiet = record { owns = q.quiet.owns; shares = q.quiet.shares; holds = q.quiet.holds; looked = q.quiet.looked };
+        waiting = λ i some_wait. q.waiting i (let m = no_more slot i s.me.0.slots.waits in omega arith);
+        bags = q.bags ∙ ap (map waiting_of) (sym goes.1);
+        room = q.room;
+        pace = q.pace;
+        idle = q.idle;
       }
 
   pub posed_arrived : (own new : Participant) (c g : ℕ) (xs : List WaitingItem) (s t : Seat Stake View) → IsPosed b p own s → t.table_id ≡ s.table_id

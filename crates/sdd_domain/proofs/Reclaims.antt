@@ -13,7 +13,7 @@ use Rattle.sdd_rule.specs.declared.View.{View}
 use Rattle.sdd_rule.specs.declared.Sizes.{Sizes}
 use Rattle.sdd_rule.specs.Codes.{free_word}
 use Rattle.sdd_rule.specs.Sums.{total}
-use Rattle.sdd_rule.specs.Slots.{waits_in, items_at}
+use Rattle.sdd_rule.specs.Slots.{waits_in}
 use Rattle.sdd_rule.specs.SlotSteps.{older, behind, without_item, IsDue}
 use Rattle.sdd_rule.proofs.Sums.{is_same, is_other, total_has}
 use Rattle.sdd_domain.specs.Waits.{what_of, waiting_of, is_ripe, ripe, unripe}
@@ -124,3 +124,18 @@ no_more slot i (x ∷ xs) = let r = no_more slot i xs in ⊎_elim
     (λ (t : (x.slot == slot) ≡ false). let e : without_item slot (x ∷ xs) ≡ x ∷ without_item slot xs
     = ap (λ (b : Bool). cond (not b) (x ∷ without_item slot xs) (without_item slot xs)) t in let s = ap (λ (l : List WaitingItem). total (waits_in i) l) e in omega arith)
     (either_way (x.slot == slot))
+
+-- so is the slot of the first one a slot of the board
+pub first_inside : (n slot : ℕ) (rest : List What) (xs : List WaitingItem) → map what_of (ripe xs) ≡ Item slot ∷ rest
+    → ((i : ℕ) → 0 < total (waits_in i) xs → i < n) → slot < n
+first_inside n slot rest xs e inside = let one = first_is_due slot rest xs e in
+    inside slot (let here = total_has (waits_in slot) xs one.0 one.1 one.2 in let i = is_same slot one.1.slot one.3 in omega arith)
+
+-- what is due is an item of a slot
+pub first_item : (what : What) (rest : List What) (xs : List WaitingItem) → map what_of xs ≡ what ∷ rest → (slot : ℕ) × (what ≡ Item slot)
+first_item what rest [] e = absurd cc
+first_item what rest (x ∷ xs) e = (x.slot, cc)
+
+pub none_ripe : (xs : List WaitingItem) → map what_of xs ≡ [] → xs ≡ []
+none_ripe [] e = refl
+none_ripe (x ∷ xs) e = absurd cc

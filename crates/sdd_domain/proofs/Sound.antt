@@ -198,7 +198,7 @@ module _ (R : RattleType) (holds : R.Denot → List Holding) (v : Partaker R.Den
       (λ past. absurd (none-some (sym (ap (λ (j : ℕ). slice_index_or (set v.entries k (Some (x, showing R x))) j None) same
       ∙ get_or_past (set v.entries k (Some (x, showing R x))) k None (let l = length-set v.entries k (Some (x, showing R x)) in omega arith)) ∙ is))))
       (λ ne. subst (λ (h : Home). AreOf h (holds value)) (sym home)
-      (sound.home place value g (sym (get_or-set_other v.entries k place (Some (x, showing R x)) None (λ e. ne (sym e))) ∙ is)))
+      (sound.home place value g (sym (get_or-set_other v.entries k place (Some (x, showing R x)) None ne) ∙ is)))
 
   pub sound_made : (r : Result Right (B × Refused)) → Answers R v m es kind P Back Why r → ((x : R.Denot) → P x → AreOf (home_in v.member) (holds x))
       → IsTied v.member v.entries → IsSound holds v → IsSound holds (record { member = m; entries = es })

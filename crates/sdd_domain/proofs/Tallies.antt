@@ -2,7 +2,7 @@
 use Rattle.std.proofs.Common.{◌≡◌, ℕ, zero, suc, ◌+◌, List, [], ◌∷◌, ◌++◌, All, map, sum, refl, arith}
 use Rattle.std.proofs.lemmas.List.Sums.{sum_by-cons}
 use Rattle.sdd_store.specs.declared.tally.Tally.{Tally}
-use Rattle.sdd_store.specs.Tally.{one_made}
+use Rattle.sdd_store.specs.Tally.{one_made, one_reclaimed}
 use Rattle.sdd_rule.specs.declared.CountsView.{CountsView}
 use Rattle.sdd_rule.specs.Parts.{no_counts}
 use Rattle.sdd_homes.specs.HomeSteps.{counts_added}
@@ -11,6 +11,10 @@ use Rattle.sdd_domain.specs.Receipt.{Receipt, sum_of, with_reclaimed, IsTallied,
 -- an item more
 pub tallied_made : (t : Tally) (c : CountsView) → IsTallied 0 t c → IsTallied 0 (one_made t) (record c { made = c.made + 1 })
 tallied_made t c i = let m = i.made in record { over = i.over; made = omega arith; reclaimed = i.reclaimed; in_place = i.in_place }
+
+-- one that was reclaimed
+pub tallied_reclaimed : (t : Tally) (c : CountsView) → IsTallied 0 t c → IsTallied 0 (one_reclaimed t) (record c { gone = c.gone + 1 })
+tallied_reclaimed t c i = let r = i.reclaimed in record { over = i.over; made = i.made; reclaimed = omega arith; in_place = i.in_place }
 
 -- its place has ended
 pub tallied_ended : (t : Tally) (c : CountsView) → IsTallied 0 t c → IsTallied 1 t (record c { over = c.over + 1 })

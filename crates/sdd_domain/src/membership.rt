@@ -284,8 +284,9 @@ impl<'d, T: Item<T>> Membership<'d, T> {
             (λ value. (slot : ℕ) × Reclaims slot (showing T.row value) self.old self.new) }
         ensures home { IfSome result (λ value. AreOf (home_in self.old) (T.holds value)) }
     {
-        let Some(What::Item(slot)) = self.due.next() else {
-            return None;
+        let what = self.due.next()?;
+        let What::Item(slot) = what else {
+            unreachable!()
         };
         let value = take_value(&self.domain.board, &self.domain.shelf, &mut self.token, slot);
         self.known.remember(slot);
@@ -301,10 +302,12 @@ impl<'d, T: Item<T>> Membership<'d, T> {
         self.own.countdown = if self.own.bags.is_empty() { 128 } else { 127 };
     }
 
-    /// A law, which does nothing when the program runs: while a guard is open, the count that is known is the one at its publish or the next.
+    /// What is always true of a participant, as a call that does nothing when the program runs: it has a place, and while a guard is open the count
+    /// that it knows is the one at its publish or the next.
     #[inline]
-    pub(crate) fn is_near(&self)
-        ensures { IsGuarded self.now → (self.now.since ≤ self.now.known) × (self.now.known ≤ self.now.since + 1) }
+    pub(crate) fn stands(&self)
+        ensures inside { self.now.place < self.now.limits.participants }
+        ensures near { IsGuarded self.now → (self.now.since ≤ self.now.known) × (self.now.known ≤ self.now.since + 1) }
     {
         let _token = &self.token;
     }

@@ -133,6 +133,7 @@ impl<T: Item<T>> Partner<'_, T> {
             ≡ all_reclaimed T.holds (world_of self.old) self.old.member.place self.old.member.due }
     {
         self.ledger.codes();
+        self.membership.stands();
         while let Some(value) = self.membership.reclaim_next() {
             value.give_up(self);
         }

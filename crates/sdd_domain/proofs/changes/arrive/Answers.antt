@@ -1,4 +1,4 @@
-use Rattle.std.proofs.Common.{sym, ap, ◌∙◌, subst, eq-eqb, ne_eqb, not, Bool}
+use Rattle.std.proofs.Common.{◌≡◌, ◌≢◌, ℕ, sym, ap, ◌∙◌, subst, eq-eqb, ne_eqb, not, Bool}
 use Rattle.sdd_store.specs.declared.time.Participant.{Participant}
 use Rattle.sdd_store.specs.Time.{nested}
 use Rattle.sdd_domain.specs.Posed.{IsPosed}
@@ -6,13 +6,14 @@ use Rattle.sdd_domain.proofs.Arrivals.{stayed, moved, due_stayed, due_moved, arr
 use Rattle.sdd_domain.proofs.changes.arrive.Goals as goal
 
 pub returns-clause-posed : goal.returns-clause-posed
-returns-clause-posed g c = subst (λ (o : Participant). IsPosed c.args.board.now c.args.place (nested o) c.publish-2.new.token) (sym c.change.ensures.own)
+returns-clause-posed c = subst (λ (o : Participant). IsPosed c.args.board.now c.args.place (nested o) c.publish-2.new.token) (sym c.change.ensures.own)
     (arrived_moved c.args.board.now c.args.place c.args.own.now c.read-count.result c.args.token.now c.read-count.new.token c.write.new.token
     c.publish-2.new.token c.requires.posed c.read-count.ensures (λ e. c.if-count-own.false (sym e)) c.write.ensures c.publish-2.ensures
     c.requires.closed c.requires.settled).0
 
 pub returns-clause-arrived : goal.returns-clause-arrived
-returns-clause-arrived g c = let apart = λ e. c.if-count-own.false (sym e) in let own = c.args.own.now in let count = c.read-count.result in (
+returns-clause-arrived c = let own : Participant = c.args.own.now in let count : ℕ = c.read-count.result in
+    let apart : own.found ≢ count = λ e. c.if-count-own.false (sym e) in (
   count,
   (arrived_moved c.args.board.now c.args.place own count c.args.token.now c.read-count.new.token c.write.new.token
       c.publish-2.new.token c.requires.posed c.read-count.ensures apart c.write.ensures c.publish-2.ensures
@@ -23,12 +24,12 @@ returns-clause-arrived g c = let apart = λ e. c.if-count-own.false (sym e) in l
 )
 
 pub returns-then-count-own-clause-posed : goal.returns-then-count-own-clause-posed
-returns-then-count-own-clause-posed g c =
+returns-then-count-own-clause-posed c =
     (arrived_same c.args.board.now c.args.place c.args.own.now c.read-count.result c.args.token.now c.read-count.new.token c.publish.new.token
     c.requires.posed c.requires.closed c.read-count.ensures (sym c.if-count-own.true) c.publish.ensures).0
 
 pub returns-then-count-own-clause-arrived : goal.returns-then-count-own-clause-arrived
-returns-then-count-own-clause-arrived g c = let own = c.args.own.now in let count = c.read-count.result in (
+returns-then-count-own-clause-arrived c = let own : Participant = c.args.own.now in let count : ℕ = c.read-count.result in (
   count,
   (arrived_same c.args.board.now c.args.place own count c.args.token.now c.read-count.new.token c.publish.new.token
       c.requires.posed c.requires.closed c.read-count.ensures (sym c.if-count-own.true) c.publish.ensures).1,

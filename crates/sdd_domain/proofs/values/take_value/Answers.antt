@@ -1,4 +1,4 @@
-use Rattle.std.proofs.Common.{ℕ, ◌+◌, ap, sym, ◌∙◌, refl, subst, arith}
+use Rattle.std.proofs.Common.{◌≡◌, ℕ, ◌+◌, ap, sym, ◌∙◌, refl, subst, arith}
 use Rattle.atomic_table.specs.declared.shared.Seat.{Seat}
 use Rattle.sdd_stakes.specs.declared.stake.Stake.{Stake}
 use base.Stored.{Gv}
@@ -26,8 +26,9 @@ take-value-requires-clause-whole g c = let b = c.args.board.now in let sized = b
 
 pub give_back-requires-clause-row : goal.give_back-requires-clause-row
 give_back-requires-clause-row g c = let b = c.args.board.now in let r = c.requires in let take = c.take-value.ensures.seat in
-    let row = subst (λ (t : ℕ × Sizes). HasAll t.0 c.args.slot t.1.participants 0 IsFull c.args.token.now.me.1 c.take_out.new.token.me.1)
-    (λ d. (r.knows.1 d, r.knows.0 d)) c.take_out.ensures.2.1 in (
+    let out = c.take_out.ensures.2 in
+    let row = subst (λ (t : ℕ × Sizes). HasAll t.0 c.args.slot t.1.participants 0 (IsValue out.value) c.args.token.now.me.1 c.take_out.new.token.me.1)
+    (λ d. (r.knows.1 d, r.knows.0 d)) out.stakes in (
       c.args.token.now.me.1,
       row_after (book_of b) c.args.slot (places_of b) (c.places-count.result + 1) (ap (λ (k : ℕ). k + 1) c.places-count.ensures)
           (IsValue out.value) IsVacant vacant take.0 c.args.token.now.me.1 c.take_out.new.token.me.1 c.take-value.new.seat.me.1 refl row (ap (λ (s : Seat Stake

@@ -1,5 +1,91 @@
-use Rattle.std.proofs.Common.{rules}
+use Rattle.std.proofs.Common.{◌≡◌, ℕ, ◌+◌, ◌≤◌, ◌==◌, not, List, map, rules, sym, refl, ap, ◌∙◌, subst, arith}
+use Rattle.atomic_table.specs.declared.shared.Seat.{Seat}
+use Rattle.sdd_stakes.specs.declared.stake.Stake.{Stake}
+use Rattle.sdd_store.specs.Time.{nested}
+use Rattle.sdd_store.specs.declared.time.Participant.{Participant}
+use Rattle.sdd_rule.specs.declared.Sizes.{Sizes}
+use Rattle.sdd_rule.specs.declared.SlotsView.{SlotsView}
+use Rattle.sdd_rule.specs.declared.StakesView.{StakesView}
+use Rattle.sdd_rule.specs.declared.WaitingItem.{WaitingItem}
+use Rattle.sdd_homes.specs.Homes.{Carries}
+use Rattle.sdd_token.specs.declared.part.Part.{Part}
+use Rattle.sdd_places.specs.declared.tenures.Stage.{Stage}
+use Rattle.sdd_places.specs.declared.tenures.Stage.TheVariants.{Closed}
+use Rattle.sdd_domain.specs.Member.{Member, IsEntered}
+use Rattle.sdd_domain.specs.Posed.{IsPosed, IsTenureOf, AreLentTo}
+use Rattle.sdd_domain.specs.Receipt.{IsTallied}
+use Rattle.sdd_domain.specs.Waits.{what_of, ripe, arrived_at, aged_at}
+use Rattle.sdd_domain.proofs.Arrivals.{as_open, as_large, due_ripe}
+use Rattle.sdd_domain.proofs.Members.{with_view}
+use Rattle.sdd_domain.proofs.Reclaims.{none_ripe}
 use Rattle.sdd_domain.proofs.membership.Membership.enter.Goals as goal
 
-pub returns-clause-opened : goal.returns-clause-opened
-returns-clause-opened g c = (c.arrive.result, search rules)
+abbrev Tenure : Type 0
+Tenure = Part Stage
+
+pub arrive-changed-requires-clause-settled : goal.arrive-changed-requires-clause-settled
+arrive-changed-requires-clause-settled g c = none_ripe (ripe c.self.inside.token.me.0.slots.waits)
+    (sym c.self.invariant.4.due ∙ (ap (λ (m : Member). m.due) c.self.view_is ∙ c.requires.settled))
+
+pub invariant_of-self : goal.invariant_of-self
+invariant_of-self g c = let l = c.self.inside in let i = c.self.invariant in let b = l.domain.now.board in
+    let own : Participant = c.arrive-changed.new.own in let a = c.arrive-changed.ensures.arrived in let count : ℕ = a.0 in let arrives = a.1 in
+    let none = none_ripe (ripe l.token.me.0.slots.waits) (sym i.4.due ∙ (ap (λ (m : Member). m.due) c.self.view_is ∙ c.requires.settled)) in
+    let shut : l.own.guards ≡ 0 = search rules in
+    let guards : own.guards ≡ 0 = ap (λ (p : Participant). p.guards) a.2 ∙ (as_open count l.own ∙ shut) in
+    let one : own.guards + 1 ≡ 1 = omega arith in
+    let opened : nested own ≡ record own { guards = 1 } = λ d. record own { guards = one d } in
+    let large : own.bags.room ≡ l.own.bags.room = ap (λ (p : Participant). p.bags.room) a.2 ∙ as_large count l.own in (
+      subst (λ (o : Participant). IsPosed b l.place o c.arrive-changed.new.token) opened c.arrive-changed.ensures.posed,
+      i.1,
+      record {
+        units = (let s = ap (λ (t : Tenure). t.units) c.split.ensures.rest in let t = ap (λ (t : Tenure). t.units) c.set.ensures in let u = i.2.units in omega arith);
+        kind = ap (λ (t : Tenure). t.kind) c.split.ensures.rest ∙ ap (λ (t : Tenure). t.kind) c.set.ensures;
+      },
+      subst (λ (z : ℕ × Carries). AreLentTo z.0 z.1) (λ d. ((sym (ap (λ (t : Tenure). t.round) c.split.ensures.rest
+          ∙ ap (λ (t : Tenure). t.round) c.set.ensures)) d, sym arrives.others d)) i.3,
+      record {
+        due = a.3 ∙ (due_ripe count l.own l.token.me.0.slots.waits i.0.bags none
+            ∙ ap (λ (xs : List WaitingItem). map what_of (ripe xs)) (sym (ap (λ (s : SlotsView). s.waits) arrives.slots)));
+        large = subst (λ (n : ℕ). n ≤ c.arrive-changed.new.due.room) (sym large) c.arrive-changed.ensures.room;
+        slots = i.4.slots;
+      },
+      subst (IsTallied 0 l.tally) (sym (ap (λ (s : StakesView). s.counts) arrives.stakes)) i.5,
+    )
+
+pub returns-clause-entered : goal.returns-clause-entered
+returns-clause-entered g c = let l = c.self.inside in let i = c.self.invariant in let a = c.arrive-changed.ensures.arrived in let count : ℕ = a.0 in
+    let arrives = a.1 in let old : Member = c.self.view_is 0 in let own : Participant = c.arrive-changed.new.own in
+    let shut : l.own.guards ≡ 0 = search rules in
+    let guards : own.guards ≡ 0 = ap (λ (p : Participant). p.guards) a.2 ∙ (as_open count l.own ∙ shut) in
+    let one : 1 ≡ own.guards + 1 = omega arith in
+    let opened : record own { guards = 1 } ≡ nested (arrived_at count l.own) = (λ d. record own { guards = one d }) ∙ ap nested a.2 in
+    let tenure = ap (λ (t : Tenure). record t { units = 0; kind = Closed }) c.split.ensures.rest
+    ∙ ap (λ (t : Tenure). record t { units = 0; kind = Closed }) c.set.ensures in
+    let token = c.arrive-changed.new.token in
+    let now : Member = record (with_view old token.table_id token.me.0) {
+      reader = record { home = c.split.new.self.home; number = c.split.new.self.number };
+      own = record own { guards = 1 };
+      due = c.arrive-changed.new.due.items;
+    } in let entered : IsEntered count old now = record {
+      member = λ d. record old {
+        home = arrives.table d;
+        reader = record { home = (tenure d).home; number = (tenure d).number };
+        own = opened d;
+        known = arrives.known d;
+        since = token.me.0.epoch.since;
+        sizes = arrives.sizes d;
+        slots = arrives.slots d;
+        shown = (arrives.stakes d).sees;
+        filled = (arrives.stakes d).filled;
+        words = arrives.words d;
+        due = a.3 d;
+      };
+      knew = arrives.knew;
+      knows = arrives.knows;
+      lone = λ one_place. arrives.lone (i.0.all ∙ (ap (λ (z : Sizes). z.participants) l.domain.now.limited.1 ∙ one_place));
+    } in (
+      count,
+      subst (λ (m : Member). IsEntered count m now) c.self.view_is entered,
+      a.4 ∙ ap (λ (m : Member). not (m.own.found == count)) c.self.view_is,
+    )

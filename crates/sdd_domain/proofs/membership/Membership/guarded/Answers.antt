@@ -1,5 +1,5 @@
 use Rattle.std.specs.Prelude.{Bool}
-use Rattle.std.proofs.Common.{◌≡◌, ℕ, ◌<◌, rules, sym, ap, ◌∙◌, subst}
+use Rattle.std.proofs.Common.{◌≡◌, ℕ, ◌<◌, rules, refl, sym, ap, ◌∙◌, subst}
 use base.Stored.{Gv}
 use Rattle.sdd_token.specs.Owner.{witness_of_owner}
 use Rattle.sdd_token.specs.Right.{number_of, kind_of, grip_of}
@@ -15,7 +15,10 @@ use Rattle.sdd_stakes.specs.declared.stake.Stake.{Stake}
 use Rattle.sdd_rule.specs.declared.View.{View}
 use Rattle.sdd_rule.specs.declared.Sizes.{Sizes}
 use Rattle.sdd_domain.specs.Sight.{IsOnce}
-use Rattle.sdd_domain.specs.Posed.{AreLentTo}
+use Rattle.sdd_base.specs.Holding.{AreOf}
+use Rattle.sdd_domain.specs.Homes.{home_in}
+use Rattle.sdd_domain.proofs.Housed.{on_board, from_shelf}
+use Rattle.sdd_domain.specs.Posed.{IsReady, AreLentTo}
 use Rattle.sdd_domain.specs.Receipt.{IsTallied}
 use Rattle.sdd_domain.proofs.Moving.{can_show, shows_known}
 use Rattle.sdd_domain.proofs.Posing.{watched, posed_shows, same_recalled}
@@ -55,7 +58,8 @@ invariant_of-self g c = let l = c.self.inside in let b = l.domain.now.board in l
       inv.1,
       inv.2,
       subst (λ (t : ℕ). AreLentTo t c.show.new.seat.me.1) c.agree.ensures.round posed.1,
-      inv.4,
+      subst (IsReady b l.own l.due l.known.slots) (sym (ap (λ (x : Seat Stake View). x.me.0.slots.waits) c.show.ensures.seat
+          ∙ ap (λ (v : View). v.slots.waits) seen.view)) inv.4,
       subst (IsTallied 0 l.tally) (sym (ap (λ (x : Seat Stake View). x.me.0.stakes.counts) c.show.ensures.seat
           ∙ ap (λ (v : View). v.stakes.counts) seen.view)) inv.5,
     )
@@ -129,3 +133,9 @@ returns-clause-recalled g c = let l = c.self.inside in let b = l.domain.now.boar
     (subst (λ (v : Gv). IsLone (c.self.view_is 0) → KnowsOwner (c.self.view_is 0) slot shared v) is
     (recalls_to (c.self.view_is 0) slot shared shown l.token c.recall.new.token recalled
     (inv.0.all ∙ ap (λ (z : Sizes). z.participants) l.domain.now.limited.1)))
+
+pub returns-clause-home : goal.returns-clause-home
+returns-clause-home g c = let l = c.self.inside in let b = l.domain.now.board in let inv = c.self.invariant in
+    subst (λ (m : Member). AreOf (home_in m) (g.T.Item.holds c.show.result.now)) c.self.view_is
+    (from_shelf b (c.self.view_is 0) (on_board l.domain.now.limits b l.token.table_id inv.0.home l.domain.now.limited.1 (c.self.view_is 0) refl refl refl)
+    l.domain.now.shelf l.domain.now.shelved.0 (g.T.Item.holds c.show.result.now) c.show.ensures.fits)

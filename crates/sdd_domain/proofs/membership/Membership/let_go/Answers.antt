@@ -1,5 +1,10 @@
 use lib.ListN.{get_elem?}
-use Rattle.std.proofs.Common.{◌≡◌, ℕ, ◌<◌, rules, refl, sym, ap, ◌∙◌, subst, vec_capacity}
+use Rattle.std.proofs.Common.{◌≡◌, ℕ, ◌<◌, ◌≤◌, map, length, rules, refl, sym, ap, ◌∙◌, subst, arith}
+use Rattle.std.proofs.lemmas.List.{length-map}
+use Rattle.sdd_store.specs.Waiting.{Waiting}
+use Rattle.sdd_rule.specs.SlotSteps.{retired_now}
+use Rattle.sdd_domain.specs.Waits.{what_of, waiting_of, ripe, unripe}
+use Rattle.sdd_domain.proofs.Ripe.{ripe_snoc, fewer_unripe}
 use Rattle.sdd_token.specs.Owner.{witness_of_owner}
 use Rattle.sdd_board.specs.Board.{slots_of}
 use Rattle.sdd_store.specs.declared.waiting.What.TheVariants.{Item}
@@ -40,12 +45,17 @@ invariant_of-self g c = let l = c.self.inside in let board = l.domain.now.board 
     let inside : slot < slots_of board = search rules in
     subst (λ (o : Participant). IsPosed board l.place o c.let_wait.new.token
     × l.nesting ≡ l.domain.now.limits.nesting × IsTenureOf o l.tenure × AreLentTo l.tenure.round c.let_wait.new.token.me.1
-    × IsReady board o l.bag.items (vec_capacity l.bag) l.known.slots × IsTallied 0 l.tally c.let_wait.new.token.me.0.stakes.counts) (sym own_is) (
+    × IsReady board o l.due l.known.slots c.let_wait.new.token.me.0.slots.waits × IsTallied 0 l.tally c.let_wait.new.token.me.0.stakes.counts) (sym own_is) (
       posed_retires board l.place l.own slot shared shown l.token c.take_in.new.token c.let_wait.new.token i.0 inside took c.let_wait.ensures,
       i.1,
       record { units = i.2.units; kind = i.2.kind },
       subst (AreLentTo l.tenure.round) (sym (c.let_wait.ensures.2.3 ∙ took.2)) i.3,
-      record { empty = i.4.empty; large = i.4.large; slots = i.4.slots },
+      record {
+        due = i.4.due ∙ (ap (map what_of) (sym (ripe_snoc (retired_now slot retired.0) refl l.token.me.0.slots.waits))
+            ∙ ap (λ (v : View). map what_of (ripe v.slots.waits)) (sym retired.1));
+        large = i.4.large;
+        slots = i.4.slots;
+      },
       subst (IsTallied 0 l.tally) (sym (ap (λ (v : View). v.stakes.counts) retired.1)) i.5,
     )
 
@@ -65,3 +75,19 @@ let_wait-requires-clause-told g c = let by = c.into_owner-owner.ensures.owner (h
     let shown : Gv = c.into_owner-owner.result.1.shown in let slot : ℕ = c.number-slot.result in let shared : Bool = is_shared (kind_of c.args.right) in
     let took = c.take_in.ensures slot shared shown (by.owner ∙ ap (λ (k : ℕ). witness_of_owner k shared shown) (sym c.number-slot.ensures)) in
     (shown, (0, record { slot = slot; shared = shared; value = shown }, ap (λ (v : View). get_elem? v.stakes.owns 0) took.3, refl, refl))
+
+pub push-requires : goal.push-requires
+push-requires g c = let l = c.self.inside in let board = l.domain.now.board in let q = c.self.invariant.0 in
+    let by = c.into_owner-owner.ensures.owner (has_tables c.args.self.now c.args.right c.requires) in let shown : Gv = c.into_owner-owner.result.1.shown in
+    let slot : ℕ = c.number-slot.result in let shared : Bool = is_shared (kind_of c.args.right) in
+    let took = c.take_in.ensures slot shared shown (by.owner ∙ ap (λ (k : ℕ). witness_of_owner k shared shown) (sym c.number-slot.ensures)) in
+    let same = same_recalled board l.place slot shared shown l.token c.recall.new.token (c.recall.ensures slot shared shown
+    (by.owner ∙ ap (λ (k : ℕ). witness_of_owner k shared shown) (sym c.number-slot.ensures))) in
+    let before : View = c.recall.new.token.me.0 in
+    let room = c.let_wait.ensures.2.1.5 in
+    let waits = ap (λ (v : View). length v.slots.waits) took.3 in let sizes = ap (λ (v : View). v.sizes.slots) took.3 in
+    let w = ap (λ (t : Seat Stake View). length t.me.0.slots.waits) same in let z = ap (λ (t : Seat Stake View). t.me.0.sizes.slots) same in
+    let few = fewer_unripe l.token.me.0.slots.waits in
+    let many : length l.own.bags.waiting ≡ length (unripe l.token.me.0.slots.waits)
+    = ap length q.bags ∙ length-map (unripe l.token.me.0.slots.waits) waiting_of in
+    let known = ap (λ (x : Sizes). x.slots) q.knows.0 in let most = q.room in omega arith
