@@ -1,6 +1,6 @@
 -- The world of a lone participant is whole, and each call leaves it so
-use Rattle.std.proofs.Common.{◌≡◌, inl, inr, ℕ, zero, suc, true, false, IsTrue, List, [], ◌∷◌, None, Some, map, replicate, slice_index_or, sym, refl, ap, ◌∙◌, subst, eq-eqb, arith, ◌⊎◌, ◌↔◌, ⊎_elim, nat_lt, length, set, length-set, get_or-set_same, get_or-set_other}
-use Rattle.std.specs.Prelude.{Option, Result, Ok, Err, MatchResult, is_some, sum_by, count_by}
+use Rattle.std.proofs.Common.{◌≡◌, inl, inr, ℕ, zero, suc, ◌<◌, ◌≤◌, Bool, true, false, IsTrue, List, [], ◌∷◌, None, Some, map, replicate, slice_index_or, sym, refl, ap, ◌∙◌, subst, eq-eqb, arith, ◌⊎◌, ◌↔◌, ⊎_elim, nat_lt, length, set, length-set, get_or-set_same, get_or-set_other}
+use Rattle.std.specs.Prelude.{option_map, if◌then◌else◌, ◌==◌, Option, Result, Ok, Err, MatchResult, is_some, sum_by, count_by}
 use Rattle.std.proofs.lemmas.List.{length-replicate, get_or_past}
 use mathlib.Core.Logic.{dite}
 use native.Mathlib.Decide.{ℕ_discrete, dec_lt}
@@ -33,10 +33,11 @@ use Rattle.sdd_base.proofs.Accounts.{blank-at}
 use Rattle.sdd_base.proofs.Four.{AllClosed, all-closed, not-guarded}
 use Rattle.sdd_base.proofs.Housed.{Whole-opened, Whole-made_as, Whole-owner_given, live-taken}
 use Rattle.sdd_domain.specs.Homes.{home_in}
-use Rattle.sdd_domain.specs.Member.{Member, IsLone, IsNew, RetiresAt, KnowsOwner}
+use Rattle.sdd_domain.specs.Member.{Member, word_of, IsLone, IsNew, RetiresAt, KnowsOwner}
 use Rattle.sdd_domain.specs.Tied.{Entries, IsTied}
-use Rattle.sdd_domain.specs.Local.{Partaker, IsBlankAlone, world_of}
-use Rattle.sdd_domain.specs.Space.{is_lone}
+use Rattle.sdd_domain.specs.Local.{Partaker, IsBlankAlone, value_in, world_of}
+use Rattle.sdd_domain.specs.Space.{ShowsBy, Shows, is_lone}
+use Rattle.sdd_domain.proofs.Listings.{listing_at, listing_past}
 use Rattle.sdd_domain.specs.Laws.{own_is_place}
 use Rattle.sdd_domain.specs.Sound.{IsSound}
 use Rattle.sdd_domain.proofs.Makes.{Answers, did_world}
@@ -183,6 +184,28 @@ module _ {T : Type 0} where
     sound_opened due home same = sound_then due home
         (λ one. let lone : IsLone v.member = ap (λ (h : Home). h.readers.size) (sym home) ∙ one in
         whole_by v (record v { member = m }) (opened holds) (Whole-opened holds) (same lone) (sound.whole lone))
+
+-- what is shown holds what is of its home
+module _ {T : Type 0} (shown : T → Gv) (holds : T → List Holding) (p : Partaker T) (sound : IsSound holds p) where
+  entry_behind : (value : T) (free : Bool) (e : Option (T × Gv)) → (if free then None else option_map (λ (x : T × Gv). x.0) e) ≡ Some value
+      → (g : Gv) × (e ≡ Some (value, g))
+  entry_behind value true e is = absurd (none-some is)
+  entry_behind value false None is = absurd (none-some is)
+  entry_behind value false (Some x) is = (x.1, ap (λ (o : Option T). Some (some_or x.0 o, x.1)) is)
+    where
+      some_or : {A : Type 0} → A → Option A → A
+      some_or d None = d
+      some_or d (Some y) = y
+
+  held_by : (b : Bool) (k : ℕ) (value : T) → ShowsBy b shown holds p k value → AreOf (home_in p.member) (holds value)
+  held_by false k value h = h.home
+  held_by true k value h = dite (dec_lt k p.member.limits.slots)
+      (λ low. let e = entry_behind value (word_of p.member k == 0) (slice_index_or p.entries k None)
+      (sym (listing_at p.member.limits.slots (value_in p) k None low) ∙ h) in sound.home k value e.0 e.1)
+      (λ past. absurd (none-some (sym (listing_past p.member.limits.slots (value_in p) k None (omega arith)) ∙ h)))
+
+  pub held_at_home : (k : ℕ) (value : T) → Shows shown holds p k value → AreOf (home_in p.member) (holds value)
+  held_at_home k value h = held_by (is_lone p.member) k value h
 
 -- for an answer of `make`
 module _ (R : RattleType) (holds : R.Denot → List Holding) (v : Partaker R.Denot) (m : Member) (es : Entries R.Denot) (kind : Kind) {B : Type 0}

@@ -1,5 +1,5 @@
 //! A change reclaims what is due, and a value that is reclaimed gives up what it holds.
-ghost use Rattle.std.specs.Prelude.{◌≡◌, ℕ, List, []};
+ghost use Rattle.std.specs.Prelude.{◌≡◌, ◌+◌, ◌≤◌, ℕ, List, []};
 ghost use Rattle.sdd_base.specs.Known.{KnowsOn};
 ghost use Rattle.sdd_base.specs.Own.{GrowsOn, all_awaiting};
 ghost use Rattle.sdd_base.specs.Owned as owned;
@@ -11,7 +11,7 @@ ghost use Rattle.sdd_base.specs.Steps as steps;
 ghost use Rattle.sdd_store.specs.Time.{settled};
 ghost use Rattle.sdd_domain.specs.Homes.{home_in};
 ghost use Rattle.sdd_domain.specs.Local.{Partaker};
-ghost use Rattle.sdd_domain.specs.Member.{IsLone};
+ghost use Rattle.sdd_domain.specs.Member.{IsGuarded, IsLone};
 ghost use Rattle.sdd_domain.specs.Local.{world_of};
 ghost use Rattle.sdd_domain.specs.Reclaiming.{kept_of, rest_of};
 ghost use Rattle.sdd_domain.specs.Space.{seat_of, known_of};
@@ -146,10 +146,12 @@ impl<T: Item<T>> Partner<'_, T> {
         ensures known { KnowsOn (known_of self.old) (known_of self.new) }
         ensures rest { rest_of self.new ≡ rest_of self.old }
         ensures due { self.new.member.due ≡ [] }
+        ensures near { IsGuarded self.new.member → self.new.member.known ≤ self.new.member.since + 1 }
         ensures exact { IsLone self.old.member → world_of self.new
             ≡ steps.settled (all_reclaimed T.holds (world_of self.old) self.old.member.place self.old.member.due) self.old.member.place }
     {
         self.reclaim_due();
         self.membership.settle();
+        self.membership.stands();
     }
 }

@@ -21,7 +21,9 @@ impl<T: Item<T>> Shows<T> for Local<'_, T> {
 
     ghost owns_value = { λ _ right value. HasValue (showing T.row value) right };
 
-    fn shown_is_of_home(&self) {}
+    fn shown_is_of_home(&self) {
+        let _partner = &self.partner;
+    }
 
     ghost one_owned = { λ _ right u v a b. one_value T.row right u v a b };
 

@@ -1,20 +1,22 @@
-use Rattle.std.proofs.Common.{◌≡◌, rules}
+use Rattle.std.proofs.Common.{◌≡◌, sym, ap, ◌∙◌, subst}
 use Rattle.sdd_stakes.specs.Shelf.{showing}
-use Rattle.sdd_domain.proofs.Kept.{keeps_own}
-use Rattle.sdd_domain.specs.Member.{Member, IsLone}
-use Rattle.sdd_domain.specs.Tied.{IsTied}
+use Rattle.sdd_domain.specs.Homes.{home_in}
+use Rattle.sdd_domain.specs.Member.{Member}
 use Rattle.sdd_domain.specs.Local.{Partaker, world_of}
+use Rattle.sdd_domain.specs.declared.local.Local.TheInside.{Inside}
+use Rattle.sdd_domain.specs.Sound.{IsSound}
+use Rattle.sdd_domain.proofs.Kept.{keeps_own}
 use Rattle.sdd_domain.proofs.Sound.{sound_step}
 use Rattle.sdd_domain.proofs.space.LocalGuards.count.Goals as goal
 
 pub invariant_of-self : goal.invariant_of-self
-invariant_of-self g c = let p : Partaker g.row.T.Denot = c.self.view_is 0 in let m : Member = c.count.new.self in
-    let limits : c.count.new.self.limits ≡ c.self.inside.membership.limits = search rules in
-    let tied : IsTied c.count.new.self c.self.inside.ledger.entries = search rules in
-    let same : IsLone c.self.inside.membership → world_of {T = g.row.T.Denot} (record { member = c.count.new.self; entries = c.self.inside.ledger.entries })
-    ≡ (world_of {T = g.row.T.Denot} (record { member = c.self.inside.membership; entries = c.self.inside.ledger.entries })) = search rules in
-    sound_step p m c.self.invariant (λ w _. w) (λ w _ _ whole. whole) limits tied same
+invariant_of-self g c = let v : Partaker g.row.T.Denot = (c.self-inside.view_is 0).partner in let inner : v ≡ c.self.inside.partner = ap (λ (i : Inside g.row.T.Denot). i.partner) c.self-inside.view_is in
+    let told = c.count.ensures in
+    sound_step g.T.Item.holds v c.count.new.self (subst (IsSound g.T.Item.holds) (sym inner) c.self.invariant) (λ w _. w) (λ w _ _ whole. whole)
+    (ap (λ (m : Member). m.due) told.member) (ap home_in told.member)
+    (λ one. ap (λ (m : Member). world_of (record v { member = m })) (told.member ∙ (λ d. record v.member { known = told.lone one d })))
 
 pub returns-clause-keeps : goal.returns-clause-keeps
-returns-clause-keeps g c = let m = c.self.inside.membership in
-    keeps_own (showing g.row.T) g.T.Item.holds _ _ c.self.view_is c.count.new.self m.own _ m.since c.count.ensures.member
+returns-clause-keeps g c = let v : Partaker g.row.T.Denot = (c.self-inside.view_is 0).partner in let inner : v ≡ c.self.inside.partner = ap (λ (i : Inside g.row.T.Denot). i.partner) c.self-inside.view_is in
+    keeps_own (showing g.row.T) g.T.Item.holds v c.args.self.now (inner ∙ c.self.view_is) c.count.new.self v.member.own c.count.result v.member.since
+    c.count.ensures.member

@@ -1,22 +1,27 @@
-use Rattle.std.proofs.Common.{◌≡◌, rules}
+use Rattle.std.proofs.Common.{◌≡◌, sym, refl, ap, ◌∙◌, subst}
 use Rattle.sdd_stakes.specs.Shelf.{showing}
-use Rattle.sdd_domain.proofs.Kept.{keeps_own}
+use Rattle.sdd_store.specs.Time as time
 use Rattle.sdd_base.specs.Steps.{stirred}
 use Rattle.sdd_base.proofs.Housed.{Whole-stirred}
-use Rattle.sdd_domain.specs.Member.{Member, IsLone}
-use Rattle.sdd_domain.specs.Tied.{IsTied}
+use Rattle.sdd_domain.specs.Homes.{home_in}
+use Rattle.sdd_domain.specs.Member.{Member}
 use Rattle.sdd_domain.specs.Local.{Partaker, world_of}
+use Rattle.sdd_domain.specs.declared.local.Local.TheInside.{Inside}
+use Rattle.sdd_domain.specs.Sound.{IsSound}
+use Rattle.sdd_domain.proofs.Alone.{steps_alone}
+use Rattle.sdd_domain.proofs.Kept.{keeps_own}
 use Rattle.sdd_domain.proofs.Sound.{sound_step}
 use Rattle.sdd_domain.proofs.space.LocalGuards.stir.Goals as goal
 
 pub invariant_of-self : goal.invariant_of-self
-invariant_of-self g c = let p : Partaker g.row.T.Denot = c.self.view_is 0 in let m : Member = c.stir.new.self in
-    let limits : c.stir.new.self.limits ≡ c.self.inside.membership.limits = search rules in
-    let tied : IsTied c.stir.new.self c.self.inside.ledger.entries = search rules in
-    let same : IsLone c.self.inside.membership → world_of {T = g.row.T.Denot} (record { member = c.stir.new.self; entries = c.self.inside.ledger.entries })
-    ≡ stirred (world_of {T = g.row.T.Denot} (record { member = c.self.inside.membership; entries = c.self.inside.ledger.entries })) c.self.inside.membership.place = search rules in
-    sound_step p m c.self.invariant stirred Whole-stirred limits tied same
+invariant_of-self g c = let v : Partaker g.row.T.Denot = (c.self-inside.view_is 0).partner in let inner : v ≡ c.self.inside.partner = ap (λ (i : Inside g.row.T.Denot). i.partner) c.self-inside.view_is in
+    let did = c.stir.ensures in
+    sound_step g.T.Item.holds v c.stir.new.self (subst (IsSound g.T.Item.holds) (sym inner) c.self.invariant) stirred Whole-stirred
+    (ap (λ (m : Member). m.due) did) (ap home_in did)
+    (λ one. let first = (c.self-inside.invariant one).place in ap (λ (m : Member). world_of (record v { member = m })) did
+    ∙ steps_alone stirred v (record v { member = record v.member { own = time.with_garbage v.member.own } }) first first refl)
 
 pub returns-clause-keeps : goal.returns-clause-keeps
-returns-clause-keeps g c = let m = c.self.inside.membership in
-    keeps_own (showing g.row.T) g.T.Item.holds _ _ c.self.view_is c.stir.new.self _ m.known m.since c.stir.ensures
+returns-clause-keeps g c = let v : Partaker g.row.T.Denot = (c.self-inside.view_is 0).partner in let inner : v ≡ c.self.inside.partner = ap (λ (i : Inside g.row.T.Denot). i.partner) c.self-inside.view_is in
+    keeps_own (showing g.row.T) g.T.Item.holds v c.args.self.now (inner ∙ c.self.view_is) c.stir.new.self (time.with_garbage v.member.own) v.member.known v.member.since
+    c.stir.ensures
