@@ -180,6 +180,7 @@ impl<T: Plain<T> + Drop> Items<T> for Local<'_, T> {
         true
     }
 
+    #[inline]
     fn owned_is_shown(&mut self, right: &Right) {
         self.ledger.codes();
         self.membership.recall_owner(right);
