@@ -33,7 +33,10 @@ impl<T: Plain<T> + Drop> Look<T> for Local<'_, T> {
 
     #[inline]
     fn value<'a>(&'a self, right: &'a Right) -> &'a T {
-        self.membership.domain().shelf.view(right.number() as usize, right.grip())
+        self.membership
+            .domain()
+            .shelf
+            .view(right.number() as usize, right.grip())
     }
 }
 
