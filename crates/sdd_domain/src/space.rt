@@ -191,6 +191,7 @@ impl<T: Item<T>> Items<T> for Local<'_, T> {
         true
     }
 
+    #[inline]
     fn owned_is_shown(&mut self, right: &Right) {
         self.partner.ledger.codes();
         self.partner.membership.recall_owner(right);

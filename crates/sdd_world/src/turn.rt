@@ -206,7 +206,8 @@ impl<T: Item<T>, J: Job> Items<T> for Turn<'_, T, J> {
         world.core.let_go(self.place, right, kind)
     }
 
-    ghost owned_is_shown = { λ _ _ _ _. (λ h. h, λ h. h) };
+    #[inline]
+    fn owned_is_shown(&mut self, _right: &Right) {}
 }
 
 impl<T: Item<T>, J: Job> Edits<T> for Turn<'_, T, J> {

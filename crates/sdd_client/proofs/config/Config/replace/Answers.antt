@@ -1,6 +1,6 @@
 use Rattle.std.proofs.Common.{ℕ}
 use Rattle.sdd_base.specs.Seat.{IsExact}
-use Rattle.sdd_base.specs.Shared.{right_of, slot_of}
+use Rattle.sdd_base.specs.Shared.{slot_of}
 use Rattle.sdd_client.specs.Config.{cell_of}
 use Rattle.sdd_client.proofs.Replacing.{replaces}
 use Rattle.sdd_client.proofs.config.Config.replace.Goals as goal
@@ -11,12 +11,14 @@ returns-clause-exact g c = λ exact slot owners old set.
     let next : ℕ = slot_of c.in_ok-next.next in
     let make = c.in_ok-next.ensures in let swap = c.swap-before.ensures in let release = c.release.ensures in
     let made = make.exact exact in
+    let law = c.shared_is_shown.ensures in
     let first : IsExact (seat c.new.new.s) = rw make.seat exact in
-    let swapped = rw c.in-Some.is at (swap.exact first) in
-    let second : IsExact (seat c.swap-before.new.s) = rw swap.seat first in
-    let gone = rw (swap.seat, make.seat) at (release.exact second) in
+    let same : IsExact (seat c.shared_is_shown.new.s) = rw law.same first in
+    let swapped = rw (c.in-Some.is, law.same) at (swap.exact same) in
+    let second : IsExact (seat c.swap-before.new.s) = rw swap.seat same in
+    let gone = rw (swap.seat, law.same, make.seat) at (release.exact second) in
     let third : IsExact (seat c.release.new.s) = rw release.seat second in
-    let put = (g.met.S.Items.owned_is_shown c.new.new.s first (right_of c.in_ok-next.next) c.args.value).0 make.shown in
+    let put : g.S.Shows.shows c.shared_is_shown.new.s next c.args.value = rw law.same ((law.shown first c.args.value).0 make.shown) in
     let shown = (g.met.S.Caller.shows_is_value c.release.new.s third next c.args.value).0
     (release.keeps next c.args.value (swap.keeps next c.args.value put)) in
     let done =
