@@ -9,6 +9,10 @@ pub record Known : Type 0 where
   -- while a guard of it is open, the count of epochs is this one or the next
   pub since : ℕ
 
+-- of which nothing is told, where the count doesn't move
+abbrev pub nothing_told : Known
+nothing_told = record { told = 0; since = 0 }
+
 -- it forgets nothing, and what holds while its guard is open goes on to hold
 pub record KnowsOn (old new : Known) : Type 0 where
   pub told : old.told ≤ new.told

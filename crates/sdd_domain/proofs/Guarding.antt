@@ -58,6 +58,10 @@ pub same_count : {T : Type 0} (holds : T → List Holding) (p q : Partaker T) �
 same_count holds p q same = ap (λ (w : World _). w.time.count) same
     ∙ (opens holds (world_of p) p.member.place (lives p).0 (time.is_open (place_at (world_of p) p.member.place)) refl).count
 
+-- one guard more is within the limit
+pub can_nest : {T : Type 0} (v : Partaker T) → CanNest v.member → time.CanNest (world_of v).time v.member.place
+can_nest v may = subst (λ (x : Participant). x.guards < v.member.limits.nesting) (own_is_place v) may
+
 -- one guard more beside others
 module _ {T : Type 0} (v : Partaker T) (m : Member) {A : Type 0} (IsReader : A → Type 0) (holds : T → List Holding) where
   abbrev pub Did : Result A Refused → Type 0
@@ -74,13 +78,10 @@ module _ {T : Type 0} (v : Partaker T) (m : Member) {A : Type 0} (IsReader : A �
       (world_nested did.2 some_open tied)
   nested_sound (Err e) did some_open tied sound = subst (λ (y : Member). IsSound holds (record v { member = y })) (sym did.2) sound
 
-  pub can_nest : CanNest v.member → time.CanNest (world_of v).time v.member.place
-  can_nest may = subst (λ (x : Participant). x.guards < v.member.limits.nesting) (own_is_place v) may
-
   answered : (r : Result A Refused) → Did r → IsGuarded v.member → IsTied v.member v.entries → IsLone v.member
       → MatchResult r (λ _. time.CanNest (world_of v).time v.member.place × (world_of (record v { member = m }) ≡ opened holds (world_of v) v.member.place))
       (λ e. (e ≡ Refused.TooManyGuards) × ¬ (time.CanNest (world_of v).time v.member.place) × (world_of (record v { member = m }) ≡ world_of v))
-  answered (Ok a) did some_open tied one = (can_nest did.1, world_nested did.2 some_open tied one)
+  answered (Ok a) did some_open tied one = (can_nest v did.1, world_nested did.2 some_open tied one)
   answered (Err e) did some_open tied one = (
     did.0,
     (λ may. did.1 (subst (λ (x : Participant). x.guards < v.member.limits.nesting) (sym (own_is_place v)) may)),

@@ -4,7 +4,6 @@ use Rattle.sdd_store.specs.Tally.{no_items}
 use Rattle.sdd_base.specs.Holding.{Home}
 use Rattle.sdd_base.specs.Seat.{Seat}
 use Rattle.sdd_base.specs.World.{World}
-use Rattle.sdd_base.specs.Known.{Known}
 use Rattle.sdd_stakes.specs.declared.shelf.Shelf.{Shelf}
 use Rattle.sdd_domain.specs.Homes.{nowhere, home_of_slots}
 
@@ -20,9 +19,6 @@ nothing = record {
   jobs = [];
   tally = no_items;
 }
-
-abbrev pub nothing_known : Known
-nothing_known = record { told = 0; since = 0 }
 
 -- a seat of which no call says exactly what it does
 abbrev pub seat_of : Home → Seat

@@ -7,14 +7,14 @@ ghost use Rattle.sdd_rule.specs.Words.{all_words};
 ghost use Rattle.sdd_rule.specs.Slots.{slot_at};
 ghost use Rattle.sdd_rule.specs.Parts.{no_counts};
 ghost use Rattle.sdd_base.specs.Holding.{AreOf};
-ghost use Rattle.sdd_base.specs.Known.{KnowsOn};
+ghost use Rattle.sdd_base.specs.Known.{KnowsOn, nothing_told};
 ghost use Rattle.sdd_base.specs.Own.{GrowsOn};
 ghost use Rattle.sdd_base.specs.Owned as owned;
 ghost use Rattle.sdd_base.specs.RawCell as raw_cell;
 ghost use Rattle.sdd_base.specs.Seat.{IsSeated};
 ghost use Rattle.sdd_base.specs.Shared as shared;
 ghost use Rattle.sdd_store.specs.Time.{nobody};
-ghost use Rattle.sdd_domain.specs.Closing.{nothing, nothing_known, seat_at};
+ghost use Rattle.sdd_domain.specs.Closing.{nothing, seat_at};
 ghost use Rattle.sdd_domain.specs.Homes.{home_of_slots};
 ghost use Rattle.sdd_homes.specs.Homes.{AreHome};
 ghost use Rattle.sdd_homes.specs.Counts.{full_slots};
@@ -160,7 +160,7 @@ impl<T: Item<T>> Giver<T> for Discard<'_, T> {
 
     ghost own = { λ _. nobody };
 
-    ghost known = { λ _. nothing_known };
+    ghost known = { λ _. nothing_told };
 
     ghost Kept = { ℕ };
 
@@ -171,7 +171,7 @@ impl<T: Item<T>> Giver<T> for Discard<'_, T> {
         requires home { owned.slots_home owner ≡ (seat_at self.old.shelf.now).home.slots }
         ensures seat { seat_at self.new.shelf.now ≡ seat_at self.old.shelf.now }
         ensures own { GrowsOn nobody nobody }
-        ensures known { KnowsOn nothing_known nothing_known }
+        ensures known { KnowsOn nothing_told nothing_told }
     {
         let_be(right_of_owner(owner));
     }
@@ -181,7 +181,7 @@ impl<T: Item<T>> Giver<T> for Discard<'_, T> {
         requires home { shared.slots_home owner ≡ (seat_at self.old.shelf.now).home.slots }
         ensures seat { seat_at self.new.shelf.now ≡ seat_at self.old.shelf.now }
         ensures own { GrowsOn nobody nobody }
-        ensures known { KnowsOn nothing_known nothing_known }
+        ensures known { KnowsOn nothing_told nothing_told }
     {
         let_be(right_of_shared(owner));
     }
@@ -192,7 +192,7 @@ impl<T: Item<T>> Giver<T> for Discard<'_, T> {
         requires home { owned.cells_home cell ≡ (seat_at self.old.shelf.now).home.cells }
         ensures seat { seat_at self.new.shelf.now ≡ seat_at self.old.shelf.now }
         ensures own { GrowsOn nobody nobody }
-        ensures known { KnowsOn nothing_known nothing_known }
+        ensures known { KnowsOn nothing_told nothing_told }
     {
         let _right = right_of_cell(cell);
         unreachable!()
@@ -203,7 +203,7 @@ impl<T: Item<T>> Giver<T> for Discard<'_, T> {
         requires home { shared.cells_home cell ≡ (seat_at self.old.shelf.now).home.cells }
         ensures seat { seat_at self.new.shelf.now ≡ seat_at self.old.shelf.now }
         ensures own { GrowsOn nobody nobody }
-        ensures known { KnowsOn nothing_known nothing_known }
+        ensures known { KnowsOn nothing_told nothing_told }
     {
         let _right = right_of_shared_cell(cell);
         unreachable!()
@@ -214,7 +214,7 @@ impl<T: Item<T>> Giver<T> for Discard<'_, T> {
         requires home { raw_cell.cells_home cell ≡ (seat_at self.old.shelf.now).home.cells }
         ensures seat { seat_at self.new.shelf.now ≡ seat_at self.old.shelf.now }
         ensures own { GrowsOn nobody nobody }
-        ensures known { KnowsOn nothing_known nothing_known }
+        ensures known { KnowsOn nothing_told nothing_told }
     {
         let _right = right_of_raw_cell(cell);
         unreachable!()

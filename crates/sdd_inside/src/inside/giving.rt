@@ -6,6 +6,8 @@ ghost use Rattle.sdd_base.specs.RawCell as raw_cell;
 ghost use Rattle.sdd_store.specs.Time as time;
 ghost use Rattle.sdd_base.specs.Holding.{AreOf};
 ghost use Rattle.sdd_base.specs.Seat.{seat_for, IsSeated, IsExact};
+ghost use Rattle.sdd_base.specs.Known.{KnowsOn, nothing_told};
+ghost use Rattle.sdd_base.specs.Lending.{Lending};
 ghost use Rattle.sdd_base.specs.Own.{GrowsOn};
 ghost use Rattle.sdd_base.specs.Owned.{slots_home, cells_home, holding_of, cell_holding};
 ghost use Rattle.sdd_base.specs.World.{KeepsSizes, place_at, HasPlace};
@@ -40,7 +42,11 @@ impl<T: Item<T>, J: Job> Giver<T> for Retirement<'_, T, J> {
 
     ghost own = { λ r. place_at r.core.now.world r.place };
 
-    ghost lending = { λ r. r.core.now.lending };
+    ghost known = { λ _. nothing_told };
+
+    ghost Kept = { Lending };
+
+    ghost kept = { λ r. r.core.now.lending };
 
     fn owned(&mut self, owner: Owned<T>)
         requires seated { IsSeated (seat_for self.old.core.now.world self.old.place self.old.core.ghost_name) }
@@ -48,7 +54,8 @@ impl<T: Item<T>, J: Job> Giver<T> for Retirement<'_, T, J> {
         ensures seat { seat_for self.new.core.now.world self.new.place self.new.core.ghost_name ≡
             seat_for self.old.core.now.world self.old.place self.old.core.ghost_name }
         ensures own { GrowsOn (place_at self.old.core.now.world self.old.place) (place_at self.new.core.now.world self.new.place) }
-        ensures lending { self.new.core.now.lending ≡ self.old.core.now.lending }
+        ensures known { KnowsOn nothing_told nothing_told }
+        ensures kept { self.new.core.now.lending ≡ self.old.core.now.lending }
         ensures exact { IsExact (seat_for self.old.core.now.world self.old.place self.old.core.ghost_name) →
             self.new.core.now.world ≡ given self.old.core.now.world self.old.place (holding_of owner) }
     {
@@ -63,7 +70,8 @@ impl<T: Item<T>, J: Job> Giver<T> for Retirement<'_, T, J> {
         ensures seat { seat_for self.new.core.now.world self.new.place self.new.core.ghost_name ≡
             seat_for self.old.core.now.world self.old.place self.old.core.ghost_name }
         ensures own { GrowsOn (place_at self.old.core.now.world self.old.place) (place_at self.new.core.now.world self.new.place) }
-        ensures lending { self.new.core.now.lending ≡ self.old.core.now.lending }
+        ensures known { KnowsOn nothing_told nothing_told }
+        ensures kept { self.new.core.now.lending ≡ self.old.core.now.lending }
         ensures exact { IsExact (seat_for self.old.core.now.world self.old.place self.old.core.ghost_name) →
             self.new.core.now.world ≡ given self.old.core.now.world self.old.place (shared.holding_of owner) }
     {
@@ -78,7 +86,8 @@ impl<T: Item<T>, J: Job> Giver<T> for Retirement<'_, T, J> {
         ensures seat { seat_for self.new.core.now.world self.new.place self.new.core.ghost_name ≡
             seat_for self.old.core.now.world self.old.place self.old.core.ghost_name }
         ensures own { GrowsOn (place_at self.old.core.now.world self.old.place) (place_at self.new.core.now.world self.new.place) }
-        ensures lending { self.new.core.now.lending ≡ self.old.core.now.lending }
+        ensures known { KnowsOn nothing_told nothing_told }
+        ensures kept { self.new.core.now.lending ≡ self.old.core.now.lending }
         ensures exact { IsExact (seat_for self.old.core.now.world self.old.place self.old.core.ghost_name) →
             self.new.core.now.world ≡ given self.old.core.now.world self.old.place (cell_holding cell) }
     {
@@ -92,7 +101,8 @@ impl<T: Item<T>, J: Job> Giver<T> for Retirement<'_, T, J> {
         ensures seat { seat_for self.new.core.now.world self.new.place self.new.core.ghost_name ≡
             seat_for self.old.core.now.world self.old.place self.old.core.ghost_name }
         ensures own { GrowsOn (place_at self.old.core.now.world self.old.place) (place_at self.new.core.now.world self.new.place) }
-        ensures lending { self.new.core.now.lending ≡ self.old.core.now.lending }
+        ensures known { KnowsOn nothing_told nothing_told }
+        ensures kept { self.new.core.now.lending ≡ self.old.core.now.lending }
         ensures exact { IsExact (seat_for self.old.core.now.world self.old.place self.old.core.ghost_name) →
             self.new.core.now.world ≡ given self.old.core.now.world self.old.place (shared.cell_holding cell) }
     {
@@ -105,7 +115,8 @@ impl<T: Item<T>, J: Job> Giver<T> for Retirement<'_, T, J> {
         ensures seat { seat_for self.new.core.now.world self.new.place self.new.core.ghost_name ≡
             seat_for self.old.core.now.world self.old.place self.old.core.ghost_name }
         ensures own { GrowsOn (place_at self.old.core.now.world self.old.place) (place_at self.new.core.now.world self.new.place) }
-        ensures lending { self.new.core.now.lending ≡ self.old.core.now.lending }
+        ensures known { KnowsOn nothing_told nothing_told }
+        ensures kept { self.new.core.now.lending ≡ self.old.core.now.lending }
         ensures exact { IsExact (seat_for self.old.core.now.world self.old.place self.old.core.ghost_name) →
             self.new.core.now.world ≡ given self.old.core.now.world self.old.place (raw_cell.cell_holding cell) }
     {
