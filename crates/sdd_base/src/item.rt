@@ -99,11 +99,6 @@ pub trait Item<I>: Sized {
         ensures exact { IsExact (G.seat giver.old) → G.world giver.new ≡ given_all (G.world giver.old) (G.seat giver.old).place (holds self) };
 }
 
-/// A value that holds neither owners nor cells.
-pub trait Plain<I>: Item<I> {
-    ghost holds_nothing: { (v : Self) → Self.holds v ≡ [] };
-}
-
 impl<I> Item<I> for u8 {
     ghost holds = { λ _. [] };
 
@@ -180,82 +175,4 @@ impl<I> Item<I> for String {
     ghost holds = { λ _. [] };
 
     fn give_up<G: Giver<I>>(self, _giver: &mut G) {}
-}
-
-impl<I> Plain<I> for u8 {
-    ghost use Rattle.std.specs.Prelude.{refl};
-
-    ghost holds_nothing = { λ _. refl };
-}
-
-impl<I> Plain<I> for u16 {
-    ghost use Rattle.std.specs.Prelude.{refl};
-
-    ghost holds_nothing = { λ _. refl };
-}
-
-impl<I> Plain<I> for u32 {
-    ghost use Rattle.std.specs.Prelude.{refl};
-
-    ghost holds_nothing = { λ _. refl };
-}
-
-impl<I> Plain<I> for u64 {
-    ghost use Rattle.std.specs.Prelude.{refl};
-
-    ghost holds_nothing = { λ _. refl };
-}
-
-impl<I> Plain<I> for u128 {
-    ghost use Rattle.std.specs.Prelude.{refl};
-
-    ghost holds_nothing = { λ _. refl };
-}
-
-impl<I> Plain<I> for usize {
-    ghost use Rattle.std.specs.Prelude.{refl};
-
-    ghost holds_nothing = { λ _. refl };
-}
-
-impl<I> Plain<I> for i8 {
-    ghost use Rattle.std.specs.Prelude.{refl};
-
-    ghost holds_nothing = { λ _. refl };
-}
-
-impl<I> Plain<I> for i16 {
-    ghost use Rattle.std.specs.Prelude.{refl};
-
-    ghost holds_nothing = { λ _. refl };
-}
-
-impl<I> Plain<I> for i32 {
-    ghost use Rattle.std.specs.Prelude.{refl};
-
-    ghost holds_nothing = { λ _. refl };
-}
-
-impl<I> Plain<I> for i64 {
-    ghost use Rattle.std.specs.Prelude.{refl};
-
-    ghost holds_nothing = { λ _. refl };
-}
-
-impl<I> Plain<I> for i128 {
-    ghost use Rattle.std.specs.Prelude.{refl};
-
-    ghost holds_nothing = { λ _. refl };
-}
-
-impl<I> Plain<I> for isize {
-    ghost use Rattle.std.specs.Prelude.{refl};
-
-    ghost holds_nothing = { λ _. refl };
-}
-
-impl<I> Plain<I> for String {
-    ghost use Rattle.std.specs.Prelude.{refl};
-
-    ghost holds_nothing = { λ _. refl };
 }

@@ -22,7 +22,7 @@ pub use atomic_owned::{AtomicOwned, OwnedPtrPair};
 pub use atomic_raw::AtomicRaw;
 pub use atomic_shared::{AtomicShared, SharedPtrPair};
 pub use guard::Guard;
-pub use item::{Giver, Item, Plain};
+pub use item::{Giver, Item};
 pub use limits::Limits;
 pub use look::{Look, LookThrough, Shows};
 pub use owned::Owned;

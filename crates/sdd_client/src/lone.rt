@@ -12,7 +12,7 @@ ghost use Rattle.sdd_domain.specs.Member.{IsLone};
 ghost use Rattle.sdd_domain.specs.Space.{seat_of};
 
 use crate::guards::accelerated;
-use sdd_base::{Guard, Items, Owned, Plain};
+use sdd_base::{Guard, Item, Items, Owned};
 use sdd_core::Refused;
 use sdd_domain::{Domain, Local};
 use sdd_world::{Place, World};
@@ -81,7 +81,7 @@ pub fn first_item(domain: &Domain<u64>) -> Result<u64, Refused>
 }
 
 /// Four accelerated guards of the only participant of a domain, one after another: what waited is reclaimed.
-pub fn four_guards<T: Plain<T> + Drop>(local: &mut Local<'_, T>)
+pub fn four_guards<T: Item<T>>(local: &mut Local<'_, T>)
     requires seated { IsSeated (seat_of local.old) }
     requires lone { IsLone local.old.member }
     requires shut { local.old.member.own.guards ≡ 0 }
@@ -99,7 +99,7 @@ pub fn four_guards<T: Plain<T> + Drop>(local: &mut Local<'_, T>)
 }
 
 /// An accelerated guard of the only participant of a domain, which has none open.
-fn goes_on<T: Plain<T> + Drop>(local: &mut Local<'_, T>)
+fn goes_on<T: Item<T>>(local: &mut Local<'_, T>)
     requires seated { IsSeated (seat_of local.old) }
     requires lone { IsLone local.old.member }
     requires shut { local.old.member.own.guards ≡ 0 }

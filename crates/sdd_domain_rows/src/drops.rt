@@ -4,7 +4,7 @@ ghost use Rattle.sdd_base.specs.Seat.{IsSeated};
 ghost use Rattle.sdd_domain.specs.Space.{seat_of};
 
 use crate::steps::{ONE_SLOT, closed, ended, is_tally, new_domain, registered, turn};
-use sdd_base::{Giver, Item, Limits, Owned, Plain};
+use sdd_base::{Giver, Item, Limits, Owned};
 use sdd_domain::Local;
 use std::alloc::Global;
 use std::process::Abort;
@@ -22,12 +22,6 @@ impl<I> Item<I> for Counted {
     ghost holds = { λ _. [] };
 
     fn give_up<G: Giver<I>>(self, _giver: &mut G) {}
-}
-
-impl<I> Plain<I> for Counted {
-    ghost use Rattle.std.specs.Prelude.{refl};
-
-    ghost holds_nothing = { λ _. refl };
 }
 
 /// Two slots.

@@ -7,6 +7,8 @@ mod domains;
 #[cfg(test)]
 mod drops;
 #[cfg(test)]
+mod held;
+#[cfg(test)]
 mod items;
 #[cfg(test)]
 mod sharing;

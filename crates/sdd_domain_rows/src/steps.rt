@@ -7,7 +7,7 @@ ghost use Rattle.sdd_domain.specs.Space.{seat_of, slots_home};
 ghost use Rattle.sdd_domain.specs.Receipt.{AddsUp};
 ghost use Rattle.sdd_domain_rows.specs.Slots.{slots_in, IsReceiptIn, AreReceiptsIn, AreOfAll};
 
-use sdd_base::{Guard, Limits, Owned, Plain};
+use sdd_base::{Guard, Item, Limits, Owned};
 use sdd_core::Refused;
 use sdd_domain::{Domain, Local, Receipt};
 use sdd_store::Tally;
@@ -29,18 +29,18 @@ pub const TWO_AND_ONE_SLOT: Limits = Limits {
     ..ONE_SLOT
 };
 
-pub fn new_domain<T>(rt: &(impl Abort + AllocGlobal), limits: Limits) -> Domain<T> {
+pub fn new_domain<T: Item<T>>(rt: &(impl Abort + AllocGlobal), limits: Limits) -> Domain<T> {
     Domain::new(rt.alloc(), limits).expect(rt, "the limits are in range")
 }
 
-pub fn registered<'d, T>(rt: &impl Abort, domain: &'d Domain<T>) -> Local<'d, T>
+pub fn registered<'d, T: Item<T>>(rt: &impl Abort, domain: &'d Domain<T>) -> Local<'d, T>
     ensures seated { IsSeated (seat_of result) }
     ensures home { slots_home result ≡ slots_in domain.now }
 {
     Local::register(domain).expect(rt, "a place is free")
 }
 
-pub fn ended<T>(rt: &impl Abort, local: Local<'_, T>) -> Receipt
+pub fn ended<T: Item<T>>(rt: &impl Abort, local: Local<'_, T>) -> Receipt
     ensures { IsReceiptIn (slots_home local.entry) result }
 {
     match local.end() {
@@ -50,7 +50,7 @@ pub fn ended<T>(rt: &impl Abort, local: Local<'_, T>) -> Receipt
 }
 
 /// Each close of these tests is this one.
-fn close_of<T: Drop>(
+fn close_of<T: Item<T>>(
     domain: Domain<T>,
     receipts: Vec<Receipt>,
 ) -> Result<Tally, (Domain<T>, Vec<Receipt>, Refused)>
@@ -62,7 +62,7 @@ fn close_of<T: Drop>(
 }
 
 /// The tally of the whole domain. It adds up where there is a receipt for each place.
-pub fn closed<T: Drop>(rt: &impl Abort, domain: Domain<T>, receipts: Vec<Receipt>) -> Tally
+pub fn closed<T: Item<T>>(rt: &impl Abort, domain: Domain<T>, receipts: Vec<Receipt>) -> Tally
     requires { AreReceiptsIn (slots_in domain) receipts.items }
     ensures { AreOfAll domain receipts.items → AddsUp result }
 {
@@ -73,11 +73,11 @@ pub fn closed<T: Drop>(rt: &impl Abort, domain: Domain<T>, receipts: Vec<Receipt
 }
 
 /// The same domain and as many receipts come back, since an item has an owner.
-pub fn not_closed(
+pub fn not_closed<T: Item<T>>(
     rt: &impl Abort,
-    domain: Domain<u64>,
+    domain: Domain<T>,
     receipts: Vec<Receipt>,
-) -> (Domain<u64>, Vec<Receipt>)
+) -> (Domain<T>, Vec<Receipt>)
     requires { AreReceiptsIn (slots_in domain) receipts.items }
     ensures { (result.0 ≡ domain) × (result.1 ≡ receipts) }
 {
@@ -97,7 +97,7 @@ pub fn is_tally(rt: &impl Abort, tally: Tally, made: u128, reclaimed: u128) {
     assert_eq!(rt; tally.in_place, 0);
 }
 
-pub fn opened<T: Plain<T> + Drop>(rt: &impl Abort, local: &mut Local<'_, T>) -> Guard
+pub fn opened<T: Item<T>>(rt: &impl Abort, local: &mut Local<'_, T>) -> Guard
     requires { IsSeated (seat_of local.old) }
     ensures seat { seat_of local.new ≡ seat_of local.old }
     ensures reader { reader_of result ≡ (seat_of local.old).reader }
@@ -105,7 +105,7 @@ pub fn opened<T: Plain<T> + Drop>(rt: &impl Abort, local: &mut Local<'_, T>) -> 
     Guard::new::<T, Local<'_, T>>(local).expect(rt, "a guard may be opened")
 }
 
-pub fn close<T: Plain<T> + Drop>(guard: Guard, local: &mut Local<'_, T>)
+pub fn close<T: Item<T>>(guard: Guard, local: &mut Local<'_, T>)
     requires seated { IsSeated (seat_of local.old) }
     requires reader { reader_of guard ≡ (seat_of local.old).reader }
     ensures { seat_of local.new ≡ seat_of local.old }
@@ -114,7 +114,7 @@ pub fn close<T: Plain<T> + Drop>(guard: Guard, local: &mut Local<'_, T>)
 }
 
 /// Closes a guard that scans then, if it is the last one.
-pub fn close_and_scan<T: Plain<T> + Drop>(guard: Guard, local: &mut Local<'_, T>)
+pub fn close_and_scan<T: Item<T>>(guard: Guard, local: &mut Local<'_, T>)
     requires seated { IsSeated (seat_of local.old) }
     requires reader { reader_of guard ≡ (seat_of local.old).reader }
     ensures { seat_of local.new ≡ seat_of local.old }
@@ -124,7 +124,7 @@ pub fn close_and_scan<T: Plain<T> + Drop>(guard: Guard, local: &mut Local<'_, T>
 }
 
 /// Opens an accelerated guard, and closes it.
-pub fn turn<T: Plain<T> + Drop>(rt: &impl Abort, local: &mut Local<'_, T>)
+pub fn turn<T: Item<T>>(rt: &impl Abort, local: &mut Local<'_, T>)
     requires { IsSeated (seat_of local.old) }
     ensures { seat_of local.new ≡ seat_of local.old }
 {
@@ -132,7 +132,7 @@ pub fn turn<T: Plain<T> + Drop>(rt: &impl Abort, local: &mut Local<'_, T>)
     close_and_scan(guard, local);
 }
 
-pub fn turns<T: Plain<T> + Drop>(rt: &impl Abort, local: &mut Local<'_, T>, times: u32)
+pub fn turns<T: Item<T>>(rt: &impl Abort, local: &mut Local<'_, T>, times: u32)
     requires { IsSeated (seat_of local.old) }
     ensures { seat_of local.new ≡ seat_of local.old }
 {

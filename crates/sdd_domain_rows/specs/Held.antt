@@ -1,0 +1,13 @@
+-- What a value of these tests holds
+use Rattle.std.specs.Prelude.{List, [], ◌∷◌}
+use Rattle.sdd_base.specs.Holding.{Holding}
+use Rattle.sdd_base.specs.Owned as owned
+use Rattle.sdd_domain_rows.specs.declared.held.Node.{Node, out-Node}
+use Rattle.sdd_domain_rows.specs.declared.held.Node.TheOpen.{Last, Before}
+
+-- the last one nothing, any other the owner of the next
+abbrev pub holdings_of : Node → List Holding
+holdings_of node = elim (out-Node node) [
+  | Last number ↦ []
+  | Before number next ↦ owned.holding_of next ∷ []
+]
