@@ -8,7 +8,7 @@ pub mod Domain
 pub mod Receipt
 pub mod Member
 pub mod Homes
-pub mod Closing
+pub mod Spending
 pub mod Items
 pub mod Values
 pub mod Posed

@@ -6,16 +6,6 @@ ghost use Rattle.sdd_rule.specs.Codes as codes;
 ghost use Rattle.sdd_rule.specs.Words.{all_words};
 ghost use Rattle.sdd_rule.specs.Slots.{slot_at};
 ghost use Rattle.sdd_rule.specs.Parts.{no_counts};
-ghost use Rattle.sdd_base.specs.Holding.{AreOf};
-ghost use Rattle.sdd_base.specs.Known.{KnowsOn, nothing_told};
-ghost use Rattle.sdd_base.specs.Own.{GrowsOn};
-ghost use Rattle.sdd_base.specs.Owned as owned;
-ghost use Rattle.sdd_base.specs.RawCell as raw_cell;
-ghost use Rattle.sdd_base.specs.Seat.{IsSeated};
-ghost use Rattle.sdd_base.specs.Shared as shared;
-ghost use Rattle.sdd_store.specs.Time.{nobody};
-ghost use Rattle.sdd_domain.specs.Closing.{nothing, seat_at};
-ghost use Rattle.sdd_domain.specs.Homes.{home_of_slots};
 ghost use Rattle.sdd_homes.specs.Homes.{AreHome};
 ghost use Rattle.sdd_homes.specs.Counts.{full_slots};
 ghost use Rattle.sdd_board.specs.Board.{id_of, sizes_of, places_of};
@@ -25,11 +15,9 @@ ghost use Rattle.sdd_domain.specs.Receipt.{Receipt as Ended, HasTaken};
 
 use crate::at_home::AtHome;
 use crate::receipt::Receipt;
+use crate::spending::spend;
 use atomic_table::Closed;
-use sdd_base::inner::{
-    right_of_cell, right_of_owner, right_of_raw_cell, right_of_shared, right_of_shared_cell,
-};
-use sdd_base::{AtomicOwned, AtomicRaw, AtomicShared, Giver, Item, Owned, Shared};
+use sdd_base::Item;
 use sdd_board::steps::counts::take_counts;
 use sdd_board::steps::slots::{FREE, WAITING, look_for_owner};
 use sdd_board::words::{first_slot, state_word};
@@ -37,7 +25,6 @@ use sdd_board::{Board, Token, steps};
 use sdd_homes::gather_home;
 use sdd_rule::Sizes;
 use sdd_stakes::{Shelf, Stake, Stock, Title};
-use sdd_token::Right;
 use std::alloc::Global;
 
 /// The word of a slot with a value in it.
@@ -136,100 +123,7 @@ pub fn take_all_counts(board: &Board, token: &mut Token, mut receipts: Vec<Recei
     }
 }
 
-/// Lets go of a right, without a word of it.
-fn let_be(right: Right) {
-    let (_owner, grip) = right.into_owner();
-    grip.discard();
-}
-
-/// What a value holds is let go of where nothing is out any more: no owner is there then, nor a cell.
-struct Discard<'s, T: Item<T>> {
-    shelf: &'s Shelf<T, AtHome>,
-}
-
-impl<T: Item<T>> Drop for Discard<'_, T> {
-    fn drop(self) {
-        let Discard { shelf: _ } = self;
-    }
-}
-
-impl<T: Item<T>> Giver<T> for Discard<'_, T> {
-    ghost world = { λ d. nothing };
-
-    ghost seat = { λ d. seat_at d.shelf.now };
-
-    ghost own = { λ _. nobody };
-
-    ghost known = { λ _. nothing_told };
-
-    ghost Kept = { ℕ };
-
-    ghost kept = { λ _. 0 };
-
-    fn owned(&mut self, owner: Owned<T>)
-        requires seated { IsSeated (seat_at self.old.shelf.now) }
-        requires home { owned.slots_home owner ≡ (seat_at self.old.shelf.now).home.slots }
-        ensures seat { seat_at self.new.shelf.now ≡ seat_at self.old.shelf.now }
-        ensures own { GrowsOn nobody nobody }
-        ensures known { KnowsOn nothing_told nothing_told }
-    {
-        let_be(right_of_owner(owner));
-    }
-
-    fn shared(&mut self, owner: Shared<T>)
-        requires seated { IsSeated (seat_at self.old.shelf.now) }
-        requires home { shared.slots_home owner ≡ (seat_at self.old.shelf.now).home.slots }
-        ensures seat { seat_at self.new.shelf.now ≡ seat_at self.old.shelf.now }
-        ensures own { GrowsOn nobody nobody }
-        ensures known { KnowsOn nothing_told nothing_told }
-    {
-        let_be(right_of_shared(owner));
-    }
-
-    /// A domain has no cells yet.
-    fn atomic_owned(&mut self, cell: AtomicOwned<T>)
-        requires seated { IsSeated (seat_at self.old.shelf.now) }
-        requires home { owned.cells_home cell ≡ (seat_at self.old.shelf.now).home.cells }
-        ensures seat { seat_at self.new.shelf.now ≡ seat_at self.old.shelf.now }
-        ensures own { GrowsOn nobody nobody }
-        ensures known { KnowsOn nothing_told nothing_told }
-    {
-        let _right = right_of_cell(cell);
-        unreachable!()
-    }
-
-    fn atomic_shared(&mut self, cell: AtomicShared<T>)
-        requires seated { IsSeated (seat_at self.old.shelf.now) }
-        requires home { shared.cells_home cell ≡ (seat_at self.old.shelf.now).home.cells }
-        ensures seat { seat_at self.new.shelf.now ≡ seat_at self.old.shelf.now }
-        ensures own { GrowsOn nobody nobody }
-        ensures known { KnowsOn nothing_told nothing_told }
-    {
-        let _right = right_of_shared_cell(cell);
-        unreachable!()
-    }
-
-    fn atomic_raw(&mut self, cell: AtomicRaw<T>)
-        requires seated { IsSeated (seat_at self.old.shelf.now) }
-        requires home { raw_cell.cells_home cell ≡ (seat_at self.old.shelf.now).home.cells }
-        ensures seat { seat_at self.new.shelf.now ≡ seat_at self.old.shelf.now }
-        ensures own { GrowsOn nobody nobody }
-        ensures known { KnowsOn nothing_told nothing_told }
-    {
-        let _right = right_of_raw_cell(cell);
-        unreachable!()
-    }
-}
-
-/// A value of a domain that is closed gives up what it holds.
-fn spend<T: Item<T>>(value: T, shelf: &Shelf<T, AtHome>)
-    requires { AreOf (home_of_slots shelf.now.table shelf.now.book shelf.now.size) (T.holds value) }
-{
-    let mut giver = Discard { shelf };
-    value.give_up(&mut giver);
-}
-
-/// Moves out and drops the value of each slot that has one, and gathers all stakes. How many values there were.
+/// Moves out and ends the value of each slot that has one, and gathers all stakes. How many values there were.
 pub fn take_all<T: Item<T>>(
     closed: &mut Closed<Stake, Global>,
     shelf: &Shelf<T, AtHome>,

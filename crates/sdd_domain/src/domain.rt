@@ -46,10 +46,7 @@ fn sizes_for(limits: &Limits) -> Sizes
 }
 
 /// Room for so many values, none of which is there.
-fn new_plot<T>(
-    alloc: Global,
-    slots: usize,
-) -> Result<(Plot<T>, Stock, Hold<T, Global>), AllocError>
+fn new_plot<T>(alloc: Global, slots: usize) -> Result<(Plot<T>, Stock, Hold<T, Global>), AllocError>
     ensures size { IfOk result (λ made. made.0.size ≡ slots) }
     ensures stock { IfOk result (λ made. AreVacant made.0.book 0 slots made.1.lots) }
     ensures hold { IfOk result (λ made. IsHoldOf made.0 alloc made.2) }
@@ -139,10 +136,11 @@ impl<T: Item<T>> Domain<T> {
         }
     }
 
-    /// Closes a domain, with receipts of its participants, and answers their tallies together. What waits still is moved out and dropped, and
+    /// Closes a domain, with receipts of its participants, and answers their tallies together. What waits still is moved out and ended, and
     /// counts as reclaimed; all memory is given back. Where there is a receipt for each place, what was made was reclaimed.
     ///
-    /// `OwnerOut` where something is still out: an item that has an owner, or a participant that hasn't ended. The domain and the receipts come back.
+    /// `OwnerOut` where something is still out: an item that has an owner, also one that lies in a value which waits, or a participant that hasn't
+    /// ended. The domain and the receipts come back.
     pub fn close(self, receipts: Vec<Receipt>) -> Result<Tally, (Domain<T>, Vec<Receipt>, Refused)>
         requires homes { All (λ (r : Ended). r.home ≡ home_of self) receipts.items }
         ensures closed { MatchResult result

@@ -15,6 +15,7 @@ mod reclaiming;
 mod scan;
 mod shut;
 mod space;
+mod spending;
 mod values;
 
 pub use domain::Domain;

@@ -21,8 +21,8 @@ use crate::receipt::Receipt;
 use crate::scan::scan;
 use crate::shut::shut;
 use crate::values::take_value;
-use sdd_base::{Guard, Item};
 use sdd_base::inner::{guard_with, part_of_guard};
+use sdd_base::{Guard, Item};
 use sdd_board::steps::counts::cut_counts;
 use sdd_board::{Board, Token, steps};
 use sdd_core::Refused;
@@ -288,7 +288,12 @@ impl<'d, T: Item<T>> Membership<'d, T> {
         let What::Item(slot) = what else {
             unreachable!()
         };
-        let value = take_value(&self.domain.board, &self.domain.shelf, &mut self.token, slot);
+        let value = take_value(
+            &self.domain.board,
+            &self.domain.shelf,
+            &mut self.token,
+            slot,
+        );
         self.known.remember(slot);
         self.tally.count_reclaimed();
         Some(value)

@@ -36,7 +36,11 @@ impl<T: Item<T>> Look<T> for Local<'_, T> {
 
     #[inline]
     fn value<'a>(&'a self, right: &'a Right) -> &'a T {
-        self.partner.membership.domain().shelf.view(right.number() as usize, right.grip())
+        self.partner
+            .membership
+            .domain()
+            .shelf
+            .view(right.number() as usize, right.grip())
     }
 }
 

@@ -14,14 +14,14 @@ returns-clause-posed c = subst (λ (o : Participant). IsPosed c.args.board.now c
 pub returns-clause-arrived : goal.returns-clause-arrived
 returns-clause-arrived c = let own : Participant = c.args.own.now in let count : ℕ = c.read-count.result in
     let apart : own.found ≢ count = λ e. c.if-count-own.false (sym e) in (
-  count,
-  (arrived_moved c.args.board.now c.args.place own count c.args.token.now c.read-count.new.token c.write.new.token
-      c.publish-2.new.token c.requires.posed c.read-count.ensures apart c.write.ensures c.publish-2.ensures
-      c.requires.closed c.requires.settled).1,
-  c.change.ensures.own ∙ sym (moved count own apart),
-  c.change.ensures.due ∙ sym (due_moved count own apart),
-  sym (ap not (ne_eqb own.found count apart)),
-)
+      count,
+      (arrived_moved c.args.board.now c.args.place own count c.args.token.now c.read-count.new.token c.write.new.token
+          c.publish-2.new.token c.requires.posed c.read-count.ensures apart c.write.ensures c.publish-2.ensures
+          c.requires.closed c.requires.settled).1,
+      c.change.ensures.own ∙ sym (moved count own apart),
+      c.change.ensures.due ∙ sym (due_moved count own apart),
+      sym (ap not (ne_eqb own.found count apart)),
+    )
 
 pub returns-then-count-own-clause-posed : goal.returns-then-count-own-clause-posed
 returns-then-count-own-clause-posed c =

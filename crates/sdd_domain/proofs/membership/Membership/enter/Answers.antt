@@ -42,8 +42,11 @@ invariant_of-self g c = let l = c.self.inside in let i = c.self.invariant in let
         units = (let s = ap (λ (t : Tenure). t.units) c.split.ensures.rest in let t = ap (λ (t : Tenure). t.units) c.set.ensures in let u = i.2.units in omega arith);
         kind = ap (λ (t : Tenure). t.kind) c.split.ensures.rest ∙ ap (λ (t : Tenure). t.kind) c.set.ensures;
       },
-      subst (λ (z : ℕ × Carries). AreLentTo z.0 z.1) (λ d. ((sym (ap (λ (t : Tenure). t.round) c.split.ensures.rest
-          ∙ ap (λ (t : Tenure). t.round) c.set.ensures)) d, sym arrives.others d)) i.3,
+      subst (λ (z : ℕ × Carries). AreLentTo z.0 z.1) (λ d. (
+        (sym (ap (λ (t : Tenure). t.round) c.split.ensures.rest
+            ∙ ap (λ (t : Tenure). t.round) c.set.ensures)) d,
+        sym arrives.others d,
+      )) i.3,
       record {
         due = a.3 ∙ (due_ripe count l.own l.token.me.0.slots.waits i.0.bags none
             ∙ ap (λ (xs : List WaitingItem). map what_of (ripe xs)) (sym (ap (λ (s : SlotsView). s.waits) arrives.slots)));
