@@ -26,6 +26,7 @@ pub trait Giver<I> {
     ghost own: { Self → Participant };
     /// What the participant that reclaims knows of the count of epochs.
     ghost known: { Self → Known };
+
     ghost Kept: { Type 0 };
     /// What no call changes beside: what is lent of the values, say.
     ghost kept: { Self → Kept };

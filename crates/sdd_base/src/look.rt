@@ -25,7 +25,8 @@ pub trait Shows<T: Item<T>> {
     ghost one_owned: { (s : Self) (right : Right) (u v : T) → owns_value s right u → owns_value s right v → u ≡ v };
 
     /// Where each slot of a home shows what it showed, an owner's item has the value that it had.
-    ghost keeps_owned: { (s t : Self) → home s ≡ home t → KeepsShown (shows s) (shows t) → (right : Right) (v : T) → owns_value s right v → owns_value t right v };
+    ghost keeps_owned: { (s t : Self) → home s ≡ home t → KeepsShown (shows s) (shows t) →
+        (right : Right) (v : T) → owns_value s right v → owns_value t right v };
 }
 
 /// Where pointers can be looked through: a world, a turn at it, a domain, a participant of it.

@@ -1,10 +1,9 @@
 -- What an outermost opening leaves, before anything is reclaimed, with a change and without one
-use Rattle.std.proofs.Common.{◌≡◌, ◌≢◌, ℕ, ◌+◌, ◌<◌, ◌≤◌, if◌then◌else◌, not, List, [], ◌∷◌, length, map, sym, refl, ap, ◌∙◌, eq-eqb, ne_eqb, arith}
-use mathlib.Core.Bool.{Bool, true, false}
+use Rattle.std.proofs.Common.{◌≡◌, ◌≢◌, ℕ, ◌≤◌, if◌then◌else◌, List, [], map, sym, refl, ap, ◌∙◌, eq-eqb, ne_eqb, arith}
+use mathlib.Core.Bool.{Bool}
 use mathlib.Core.Logic.{dite}
 use native.Mathlib.Decide.{ℕ_discrete}
 use Rattle.atomic_table.specs.declared.shared.Seat.{Seat}
-use Rattle.sdd_store.specs.declared.waiting.What.{What}
 use Rattle.sdd_store.specs.declared.time.Participant.{Participant}
 use Rattle.sdd_store.specs.Waiting.{Waiting, aged, due, left}
 use Rattle.sdd_store.specs.Time.{nested, rotated, due_next}
@@ -16,12 +15,11 @@ use Rattle.sdd_rule.specs.declared.View.{View}
 use Rattle.sdd_rule.specs.Epoch.{IsLone}
 use Rattle.sdd_rule.specs.Steps.{knowing, counted, published, Reads, Counts}
 use Rattle.sdd_rule.specs.Sums.{total}
-use Rattle.sdd_rule.specs.Slots.{items_at, waits_in}
+use Rattle.sdd_rule.specs.Slots.{waits_in}
 use Rattle.sdd_rule.specs.SlotSteps.{older, changed}
 use Rattle.sdd_rule.proofs.Sums.{total_map}
 use Rattle.sdd_board.specs.declared.board.Board.{Board}
-use Rattle.sdd_board.specs.Board.{slots_of}
-use Rattle.sdd_board.specs.Token.{view, epoch, slots, Taught, Stepped, HasPublished}
+use Rattle.sdd_board.specs.Token.{view, epoch, slots, Stepped, HasPublished}
 use Rattle.sdd_domain.specs.Waits.{what_of, waiting_of, ripe, unripe, aged_at, due_at, arrived_at, Arrives}
 use Rattle.sdd_domain.specs.Posed.{IsPosed}
 use Rattle.sdd_domain.proofs.Reclaims.{aged_alike, left_alike, due_alike, all_left}

@@ -1,10 +1,7 @@
 -- What the calls of a lone participant on guards are for its world
 use Rattle.std.proofs.Common.{◌≡◌, ◌≢◌, ℕ, ◌-◌, ◌<◌, not, Bool, true, false, IsTrue, List, [], sym, ap, ◌∙◌, subst, eq-eqb, ne_eqb, arith}
 use Rattle.std.specs.Prelude.{if◌then◌else◌, nat_lt}
-use mathlib.Core.Logic.{dite}
-use native.Mathlib.Decide.{dec_lt}
 use base.Stored.{Gv}
-use Rattle.sdd_core.specs.declared.refused.Refused.{Refused}
 use Rattle.sdd_store.specs.declared.time.Participant.{Participant}
 use Rattle.sdd_store.specs.Time.{is_open, counted_down}
 use Rattle.sdd_base.specs.Own.{closed_with}
@@ -16,7 +13,7 @@ use Rattle.sdd_base.specs.World.{World}
 use Rattle.sdd_base.specs.Steps.{opened, nested, caught_up, changed, all_reclaimed}
 use Rattle.sdd_base.specs.Steps as steps
 use Rattle.sdd_domain.specs.Member.{Member, IsLone, IsGuarded, IsEntered, Closes}
-use Rattle.sdd_domain.specs.Tied.{AreTied, IsTied}
+use Rattle.sdd_domain.specs.Tied.{AreTied}
 use Rattle.sdd_domain.specs.Local.{Partaker, world_of}
 use Rattle.sdd_domain.specs.Space.{Shows, is_lone}
 use Rattle.sdd_domain.specs.Laws.{own_is_place}

@@ -1,7 +1,6 @@
 -- What the opening of a guard is for a participant's world, one beside others and the outermost one
-use Rattle.std.proofs.Common.{◌≡◌, ◌≢◌, ℕ, zero, suc, ◌+◌, ◌<◌, ◌≤◌, ◌==◌, not, Bool, true, false, IsTrue, List, [], ◌∷◌, nat_lt, sym, refl, ap, ◌∙◌, subst, arith}
+use Rattle.std.proofs.Common.{◌≡◌, ◌≢◌, ℕ, ◌<◌, ◌==◌, not, Bool, true, false, IsTrue, List, [], ◌∷◌, sym, refl, ap, ◌∙◌, subst, arith}
 use Rattle.std.specs.Prelude.{Result, Ok, Err, MatchResult}
-use Rattle.std.proofs.lemmas.Bool.{true≢false}
 use Rattle.std.proofs.Common.{eq-eqb, ne_eqb}
 use mathlib.Core.Logic.{dite}
 use native.Mathlib.Decide.{ℕ_discrete}
@@ -17,15 +16,15 @@ use Rattle.sdd_base.specs.Steps.{opened, nested}
 use Rattle.sdd_base.specs.World.{World, place_at}
 use Rattle.sdd_base.proofs.Own.{all_awaiting-found, opens}
 use Rattle.sdd_domain.specs.Homes.{home_in}
-use Rattle.sdd_domain.specs.Member.{Member, IsLone, IsGuarded, CanNest, IsEntered}
-use Rattle.sdd_domain.specs.Tied.{AreTied, IsTied}
+use Rattle.sdd_domain.specs.Member.{Member, IsLone, IsGuarded, CanNest}
+use Rattle.sdd_domain.specs.Tied.{IsTied}
 use Rattle.sdd_domain.specs.Local.{Partaker, world_of}
 use Rattle.sdd_domain.specs.Space.{Shows, is_lone}
 use Rattle.sdd_domain.specs.Sound.{IsSound}
 use Rattle.sdd_domain.specs.Waits.{arrived_at}
 use Rattle.sdd_domain.specs.Laws.{own_is_place}
 use Rattle.sdd_domain.proofs.Alone.{steps_alone}
-use Rattle.sdd_domain.proofs.Arrivals.{stayed, moved, as_open}
+use Rattle.sdd_domain.proofs.Arrivals.{stayed, moved}
 use Rattle.sdd_domain.proofs.Exact.{lone_is, nests}
 use Rattle.sdd_domain.proofs.Kept.{keeps_own}
 use Rattle.sdd_domain.proofs.Sound.{lives, sound_opened}

@@ -1,25 +1,21 @@
 -- What an opening of a lone participant does to its world before anything is reclaimed, and that all is tied after it
 use Rattle.std.proofs.Common.{◌≡◌, ◌≢◌, ℕ, ◌<◌, ◌==◌, false, List, [], ◌∷◌, map, sym, refl, ap, ◌∙◌, subst, eq-eqb, ne_eqb, arith}
-use Rattle.std.specs.Prelude.{Bool, if◌then◌else◌}
+use Rattle.std.specs.Prelude.{if◌then◌else◌}
 use mathlib.Core.Logic.{dite}
 use native.Mathlib.Decide.{ℕ_discrete}
-use Rattle.sdd_store.specs.declared.waiting.What.{What}
 use Rattle.sdd_store.specs.Waiting.{Waiting, aged, due, left}
 use Rattle.sdd_store.specs.Time.{due_next}
 use Rattle.sdd_store.specs.Time as time
 use Rattle.sdd_rule.specs.declared.WaitingItem.{WaitingItem}
 use Rattle.sdd_rule.specs.SlotSteps.{older}
-use Rattle.sdd_rule.specs.Sums.{total}
-use Rattle.sdd_rule.specs.Slots.{waits_in}
-use Rattle.sdd_base.specs.World.{World}
 use Rattle.sdd_base.specs.Steps.{nested, rotated}
 use Rattle.sdd_domain.specs.Member.{Member, IsLone, IsEntered}
-use Rattle.sdd_domain.specs.Waits.{what_of, waiting_of, ripe, unripe, aged_at, arrived_at, due_at}
+use Rattle.sdd_domain.specs.Waits.{what_of, waiting_of, ripe, unripe}
 use Rattle.sdd_domain.specs.Tied.{AreTied}
 use Rattle.sdd_domain.specs.Local.{Partaker}
 use Rattle.sdd_domain.proofs.Arrivals.{same_items}
 use Rattle.sdd_domain.proofs.Reclaims.{aged_alike, left_alike, due_alike, all_left}
-use Rattle.sdd_domain.proofs.Alone.{alone, alone_with}
+use Rattle.sdd_domain.proofs.Alone.{alone}
 
 module _ {T : Type 0} (p : Partaker T) (tied : AreTied p.member p.entries) (settled : p.member.due ≡ []) where
   abbrev xs : List WaitingItem

@@ -2,7 +2,6 @@
 use Rattle.std.proofs.Common.{◌≡◌, ⊎_elim, ℕ, ◌+◌, ◌^◌, ◌<◌, ◌≤◌, not, List, [], ◌∷◌, ◌++◌, map, drop, suc, sym, refl, ap, ◌∙◌, subst, eq-eqb, arith}
 use mathlib.Core.Bool.{Bool, cond}
 use base.Stored.{Gv}
-use Rattle.std.proofs.lemmas.List.{map-append}
 use mathlib.Core.Logic.{dite}
 use native.Mathlib.Decide.{ℕ_discrete, dec_lt}
 use Rattle.atomic_table.specs.declared.shared.Seat.{Seat}

@@ -1,6 +1,5 @@
 -- What is due comes first of all that has seen three changes, and the rest goes on waiting
-use Rattle.std.proofs.Common.{◌≡◌, ◌≢◌, ◌⊎◌, ℕ, zero, suc, ◌+◌, ◌<◌, ◌≤◌, ◌==◌, not, nat_lt, List, [], ◌∷◌, map, filter, length, drop, get_or, set, drop-cons, sym, refl, ap, ◌∙◌, subst, inl, inr, ⊎_elim, eq-eqb, ne_eqb, arith}
-use Rattle.std.proofs.lemmas.Grind.{common_steps}
+use Rattle.std.proofs.Common.{◌≡◌, ◌≢◌, ◌⊎◌, ℕ, suc, ◌<◌, ◌≤◌, ◌==◌, not, nat_lt, List, [], ◌∷◌, map, filter, sym, refl, ap, ◌∙◌, inl, inr, ⊎_elim, eq-eqb, ne_eqb, arith}
 use mathlib.Core.Bool.{Bool, true, false, cond}
 use mathlib.Core.Option.{some}
 use lib.ListN.{get_elem?}
@@ -8,13 +7,9 @@ use Rattle.sdd_store.specs.declared.waiting.What.{What}
 use Rattle.sdd_store.specs.declared.waiting.What.TheVariants.{Item, Job}
 use Rattle.sdd_store.specs.Waiting.{Waiting, aged, due, left}
 use Rattle.sdd_rule.specs.declared.WaitingItem.{WaitingItem}
-use Rattle.sdd_rule.specs.declared.StakesView.{StakesView}
-use Rattle.sdd_rule.specs.declared.View.{View}
-use Rattle.sdd_rule.specs.declared.Sizes.{Sizes}
-use Rattle.sdd_rule.specs.Codes.{free_word}
 use Rattle.sdd_rule.specs.Sums.{total}
 use Rattle.sdd_rule.specs.Slots.{waits_in}
-use Rattle.sdd_rule.specs.SlotSteps.{older, behind, without_item, IsDue}
+use Rattle.sdd_rule.specs.SlotSteps.{older, without_item}
 use Rattle.sdd_rule.proofs.Sums.{is_same, is_other, total_has}
 use Rattle.sdd_domain.specs.Waits.{what_of, waiting_of, is_ripe, ripe, unripe}
 

@@ -1,5 +1,5 @@
 -- Who takes what values hold when a domain is closed: nobody, in no world
-use Rattle.std.specs.Prelude.{ℕ, [], true, false}
+use Rattle.std.specs.Prelude.{[], true, false}
 use Rattle.sdd_store.specs.Tally.{no_items}
 use Rattle.sdd_base.specs.Holding.{Home}
 use Rattle.sdd_base.specs.Seat.{Seat}

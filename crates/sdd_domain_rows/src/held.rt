@@ -7,7 +7,8 @@ ghost use Rattle.sdd_domain.specs.Space.{seat_of, slots_home};
 ghost use Rattle.sdd_domain_rows.specs.Held.{holdings_of};
 
 use crate::steps::{
-    ONE_SLOT, closed, ended, is_tally, new_domain, not_closed, opened, registered, turn, turns, close_and_scan,
+    ONE_SLOT, close_and_scan, closed, ended, is_tally, new_domain, not_closed, opened, registered,
+    turn, turns,
 };
 use sdd_base::{Giver, Item, Limits, Owned};
 use sdd_domain::Local;
@@ -132,7 +133,9 @@ fn another_participant_retires_what_a_value_held(rt: HostRuntime) {
     is_tally(&rt, maker.tally(), 3, 0);
     is_tally(&rt, other.tally(), 0, 3);
     let mut receipts = vec![in rt.alloc(); ended(&rt, maker)].expect(&rt, "there is memory");
-    receipts.push(ended(&rt, other)).expect(&rt, "there is memory");
+    receipts
+        .push(ended(&rt, other))
+        .expect(&rt, "there is memory");
     is_tally(&rt, closed(&rt, domain, receipts), 3, 3);
 }
 

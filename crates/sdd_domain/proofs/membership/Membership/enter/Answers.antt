@@ -1,6 +1,4 @@
-use Rattle.std.proofs.Common.{◌≡◌, ℕ, ◌+◌, ◌≤◌, ◌==◌, not, List, map, rules, sym, refl, ap, ◌∙◌, subst, arith}
-use Rattle.atomic_table.specs.declared.shared.Seat.{Seat}
-use Rattle.sdd_stakes.specs.declared.stake.Stake.{Stake}
+use Rattle.std.proofs.Common.{◌≡◌, ℕ, ◌+◌, ◌≤◌, ◌==◌, not, List, map, rules, sym, ap, ◌∙◌, subst, arith}
 use Rattle.sdd_store.specs.Time.{nested}
 use Rattle.sdd_store.specs.declared.time.Participant.{Participant}
 use Rattle.sdd_rule.specs.declared.Sizes.{Sizes}
@@ -12,9 +10,9 @@ use Rattle.sdd_token.specs.declared.part.Part.{Part}
 use Rattle.sdd_places.specs.declared.tenures.Stage.{Stage}
 use Rattle.sdd_places.specs.declared.tenures.Stage.TheVariants.{Closed}
 use Rattle.sdd_domain.specs.Member.{Member, IsEntered}
-use Rattle.sdd_domain.specs.Posed.{IsPosed, IsTenureOf, AreLentTo}
+use Rattle.sdd_domain.specs.Posed.{IsPosed, AreLentTo}
 use Rattle.sdd_domain.specs.Receipt.{IsTallied}
-use Rattle.sdd_domain.specs.Waits.{what_of, ripe, arrived_at, aged_at}
+use Rattle.sdd_domain.specs.Waits.{what_of, ripe, arrived_at}
 use Rattle.sdd_domain.proofs.Arrivals.{as_open, as_large, due_ripe}
 use Rattle.sdd_domain.proofs.Members.{with_view}
 use Rattle.sdd_domain.proofs.Reclaims.{none_ripe}

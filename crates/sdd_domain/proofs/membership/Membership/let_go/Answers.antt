@@ -1,7 +1,6 @@
 use lib.ListN.{get_elem?}
-use Rattle.std.proofs.Common.{◌≡◌, ℕ, ◌<◌, ◌≤◌, map, length, rules, refl, sym, ap, ◌∙◌, subst, arith}
+use Rattle.std.proofs.Common.{◌≡◌, ℕ, ◌<◌, map, length, rules, refl, sym, ap, ◌∙◌, subst, arith}
 use Rattle.std.proofs.lemmas.List.{length-map}
-use Rattle.sdd_store.specs.Waiting.{Waiting}
 use Rattle.sdd_rule.specs.SlotSteps.{retired_now}
 use Rattle.sdd_domain.specs.Waits.{what_of, waiting_of, ripe, unripe}
 use Rattle.sdd_domain.proofs.Ripe.{ripe_snoc, fewer_unripe}

@@ -1,7 +1,4 @@
-use Rattle.std.proofs.Common.{◌≡◌, ℕ, ◌<◌, ◌≤◌, ◌∷◌, map, refl, sym, ap, ◌∙◌, subst, arith}
-use Rattle.std.specs.Prelude.{Some}
-use Rattle.atomic_table.specs.declared.shared.Seat.{Seat}
-use Rattle.sdd_stakes.specs.declared.stake.Stake.{Stake}
+use Rattle.std.proofs.Common.{◌≡◌, ℕ, ◌<◌, ◌≤◌, ◌∷◌, map, refl, sym, ap, ◌∙◌, subst}
 use Rattle.sdd_stakes.specs.Shelf.{showing}
 use Rattle.sdd_store.specs.declared.waiting.What.{What}
 use Rattle.sdd_store.specs.declared.waiting.What.TheVariants.{Item}
@@ -13,7 +10,7 @@ use Rattle.sdd_rule.specs.declared.View.{View}
 use Rattle.sdd_base.specs.Holding.{AreOf}
 use Rattle.sdd_domain.specs.Homes.{home_in}
 use Rattle.sdd_domain.specs.Member.{Member, Reclaims}
-use Rattle.sdd_domain.specs.Posed.{AreLentTo, IsReady}
+use Rattle.sdd_domain.specs.Posed.{AreLentTo}
 use Rattle.sdd_domain.specs.Receipt.{IsTallied}
 use Rattle.sdd_domain.specs.Waits.{what_of, ripe}
 use Rattle.sdd_domain.proofs.Housed.{on_board, from_board}

@@ -1,5 +1,4 @@
-use Rattle.std.proofs.Common.{◌≡◌, ℕ, List, [], refl, sym, ap, ◌∙◌, subst}
-use Rattle.sdd_store.specs.declared.time.Participant.{Participant}
+use Rattle.std.proofs.Common.{ℕ, refl, ap, ◌∙◌}
 use Rattle.sdd_store.specs.Time.{settled}
 use Rattle.sdd_base.specs.Steps as steps
 use Rattle.sdd_base.specs.Steps.{all_reclaimed}

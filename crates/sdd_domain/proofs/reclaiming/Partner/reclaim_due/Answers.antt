@@ -1,14 +1,12 @@
-use Rattle.std.proofs.Common.{◌≡◌, ℕ, ◌<◌, List, [], ◌∷◌, None, Some, slice_index_or, sym, refl, ap, ◌∙◌, subst, arith}
-use base.Stored.{Gv}
+use Rattle.std.proofs.Common.{◌≡◌, [], None, Some, slice_index_or, sym, refl, ap, ◌∙◌, subst, arith}
 use Rattle.sdd_store.specs.declared.time.Participant.{Participant}
 use Rattle.sdd_store.specs.Tally.{no_items}
 use Rattle.sdd_base.specs.Known.{Known, KnowsOn}
-use Rattle.sdd_base.specs.Own.{HasGrown, GrowsOn}
+use Rattle.sdd_base.specs.Own.{HasGrown}
 use Rattle.sdd_base.specs.Steps.{given_all, all_reclaimed}
-use Rattle.sdd_base.specs.World.{World}
 use Rattle.sdd_domain.specs.Local.{Partaker, world_of}
 use Rattle.sdd_domain.specs.Member.{Member, IsLone}
-use Rattle.sdd_domain.specs.Reclaiming.{kept_of, rest_of}
+use Rattle.sdd_domain.specs.Reclaiming.{rest_of}
 use Rattle.sdd_domain.specs.Space.{known_of}
 use Rattle.sdd_domain.specs.Tied.{Entries}
 use Rattle.sdd_domain.proofs.Giving.{knows_more}

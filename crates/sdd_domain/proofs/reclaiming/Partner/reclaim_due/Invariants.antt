@@ -1,4 +1,4 @@
-use Rattle.std.proofs.Common.{◌≡◌, ℕ, [], length}
+use Rattle.std.proofs.Common.{◌≡◌, [], length}
 use Rattle.sdd_base.specs.Known.{KnowsOn}
 use Rattle.sdd_base.specs.Own.{GrowsOn}
 use Rattle.sdd_base.specs.Steps.{all_reclaimed}

@@ -7,7 +7,7 @@ use Rattle.sdd_domain.specs.Member.{Member, IsLone}
 use Rattle.sdd_domain.specs.Local.{Partaker, world_of}
 use Rattle.sdd_domain.specs.declared.local.Local.TheInside.{Inside}
 use Rattle.sdd_domain.specs.Sound.{IsSound}
-use Rattle.sdd_domain.proofs.Exact.{keeps_closed, still_guarded, guarded_is}
+use Rattle.sdd_domain.proofs.Exact.{keeps_closed, still_guarded}
 use Rattle.sdd_domain.proofs.Sound.{sound_step}
 use Rattle.sdd_domain.proofs.space.LocalGuards.close_guard.Goals as goal
 

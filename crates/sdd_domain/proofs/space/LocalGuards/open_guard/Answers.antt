@@ -1,14 +1,12 @@
-use Rattle.std.proofs.Common.{◌≡◌, ◌≢◌, ℕ, ◌+◌, ◌<◌, ◌≤◌, [], rules, true, false, IsTrue, sym, refl, ap, ◌∙◌, subst, arith}
+use Rattle.std.proofs.Common.{◌≡◌, ◌≢◌, ◌<◌, ◌≤◌, rules, IsTrue, sym, ap, ◌∙◌, subst, arith}
 use Rattle.sdd_stakes.specs.Shelf.{showing}
 use Rattle.sdd_store.specs.declared.time.Participant.{Participant}
 use Rattle.sdd_store.specs.Time as time
 use Rattle.sdd_base.specs.Steps.{opened}
-use Rattle.sdd_base.specs.World.{World}
 use Rattle.sdd_domain.specs.Homes.{home_in}
-use Rattle.sdd_domain.specs.Member.{Member, IsLone, IsGuarded, IsEntered}
+use Rattle.sdd_domain.specs.Member.{Member, IsLone, IsGuarded}
 use Rattle.sdd_domain.specs.Local.{Partaker, world_of}
 use Rattle.sdd_domain.specs.declared.local.Local.TheInside.{Inside}
-use Rattle.sdd_domain.specs.Reclaiming.{rest_of}
 use Rattle.sdd_domain.specs.Sound.{IsSound}
 use Rattle.sdd_domain.specs.Space.{is_lone}
 use Rattle.sdd_domain.proofs.Arrivals.{due_stayed}

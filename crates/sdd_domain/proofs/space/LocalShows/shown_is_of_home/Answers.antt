@@ -1,4 +1,4 @@
-use Rattle.std.proofs.Common.{sym, subst}
+use Rattle.std.proofs.Common.{subst}
 use Rattle.sdd_stakes.specs.Shelf.{showing}
 use Rattle.sdd_domain.specs.Local.{Partaker}
 use Rattle.sdd_domain.specs.Sound.{IsSound}
