@@ -1,5 +1,5 @@
 -- Where the slots and the participants of a domain are numbered
-use Rattle.std.specs.Prelude.{ℕ, []}
+use Rattle.std.specs.Prelude.{ℕ, ◌^◌, []}
 use Rattle.atomic_table.specs.Seated.{TableId}
 use Rattle.sdd_token.specs.Units as token
 use Rattle.sdd_token.specs.Right.{home_of_table}
@@ -14,15 +14,19 @@ Home = holding.Home
 abbrev pub nowhere : token.Home
 nowhere = record { name = 0; size = 0; tables = [] }
 
+-- where cells will be numbered: a domain has none yet
+abbrev pub no_cells : token.Home
+no_cells = record nowhere { size = 2 ^ 24 }
+
 -- what a value may hold: it is of these slots
 abbrev pub home_of_slots : TableId → ℕ → ℕ → Home
-home_of_slots table book size = record { slots = home_of_table table book size; cells = nowhere; readers = nowhere }
+home_of_slots table book size = record { slots = home_of_table table book size; cells = no_cells; readers = nowhere }
 
 -- the slots of its domain, and no cells. Each reader is numbered in a home of its own, and there may be so many
 abbrev pub home_at : TableId → ℕ → Limits → Home
 home_at table book limits = record {
   slots = home_of_table table book limits.slots;
-  cells = nowhere;
+  cells = no_cells;
   readers = record nowhere { size = limits.participants };
 }
 

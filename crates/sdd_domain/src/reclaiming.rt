@@ -80,7 +80,7 @@ impl<T: Item<T>> Giver<T> for Partner<'_, T> {
         self.membership.let_go(right_of_shared(owner));
     }
 
-    /// A domain has no cells yet.
+    /// A domain has no cells yet, so that nothing becomes of this one.
     fn atomic_owned(&mut self, cell: AtomicOwned<T>)
         requires seated { IsSeated (seat_of self.old) }
         requires home { owned.cells_home cell ≡ (home_in self.old.member).cells }
@@ -90,8 +90,7 @@ impl<T: Item<T>> Giver<T> for Partner<'_, T> {
         ensures kept { kept_of self.new ≡ kept_of self.old }
         ensures exact { IsExact (seat_of self.old) → world_of self.new ≡ given (world_of self.old) self.old.member.place (owned.cell_holding cell) }
     {
-        let _right = right_of_cell(cell);
-        unreachable!()
+        right_of_cell(cell).let_go();
     }
 
     fn atomic_shared(&mut self, cell: AtomicShared<T>)
@@ -103,8 +102,7 @@ impl<T: Item<T>> Giver<T> for Partner<'_, T> {
         ensures kept { kept_of self.new ≡ kept_of self.old }
         ensures exact { IsExact (seat_of self.old) → world_of self.new ≡ given (world_of self.old) self.old.member.place (shared.cell_holding cell) }
     {
-        let _right = right_of_shared_cell(cell);
-        unreachable!()
+        right_of_shared_cell(cell).let_go();
     }
 
     fn atomic_raw(&mut self, cell: AtomicRaw<T>)
@@ -116,8 +114,7 @@ impl<T: Item<T>> Giver<T> for Partner<'_, T> {
         ensures kept { kept_of self.new ≡ kept_of self.old }
         ensures exact { IsExact (seat_of self.old) → world_of self.new ≡ given (world_of self.old) self.old.member.place (raw_cell.cell_holding cell) }
     {
-        let _right = right_of_raw_cell(cell);
-        unreachable!()
+        right_of_raw_cell(cell).let_go();
     }
 }
 

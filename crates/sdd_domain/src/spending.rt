@@ -17,13 +17,6 @@ use sdd_base::inner::{
 };
 use sdd_base::{AtomicOwned, AtomicRaw, AtomicShared, Giver, Item, Owned, Shared};
 use sdd_stakes::Shelf;
-use sdd_token::Right;
-
-/// Lets go of a right, without a word of it.
-fn let_be(right: Right) {
-    let (_owner, grip) = right.into_owner();
-    grip.discard();
-}
 
 /// What a value holds is let go of where nothing is out any more: no owner is there then, nor a cell.
 struct Discard<'s, T: Item<T>> {
@@ -56,7 +49,7 @@ impl<T: Item<T>> Giver<T> for Discard<'_, T> {
         ensures own { GrowsOn nobody nobody }
         ensures known { KnowsOn nothing_told nothing_told }
     {
-        let_be(right_of_owner(owner));
+        right_of_owner(owner).let_go();
     }
 
     fn shared(&mut self, owner: Shared<T>)
@@ -66,10 +59,10 @@ impl<T: Item<T>> Giver<T> for Discard<'_, T> {
         ensures own { GrowsOn nobody nobody }
         ensures known { KnowsOn nothing_told nothing_told }
     {
-        let_be(right_of_shared(owner));
+        right_of_shared(owner).let_go();
     }
 
-    /// A domain has no cells yet.
+    /// A domain has no cells yet, so that nothing becomes of this one.
     fn atomic_owned(&mut self, cell: AtomicOwned<T>)
         requires seated { IsSeated (seat_at self.old.shelf.now) }
         requires home { owned.cells_home cell ≡ (seat_at self.old.shelf.now).home.cells }
@@ -77,8 +70,7 @@ impl<T: Item<T>> Giver<T> for Discard<'_, T> {
         ensures own { GrowsOn nobody nobody }
         ensures known { KnowsOn nothing_told nothing_told }
     {
-        let _right = right_of_cell(cell);
-        unreachable!()
+        right_of_cell(cell).let_go();
     }
 
     fn atomic_shared(&mut self, cell: AtomicShared<T>)
@@ -88,8 +80,7 @@ impl<T: Item<T>> Giver<T> for Discard<'_, T> {
         ensures own { GrowsOn nobody nobody }
         ensures known { KnowsOn nothing_told nothing_told }
     {
-        let _right = right_of_shared_cell(cell);
-        unreachable!()
+        right_of_shared_cell(cell).let_go();
     }
 
     fn atomic_raw(&mut self, cell: AtomicRaw<T>)
@@ -99,8 +90,7 @@ impl<T: Item<T>> Giver<T> for Discard<'_, T> {
         ensures own { GrowsOn nobody nobody }
         ensures known { KnowsOn nothing_told nothing_told }
     {
-        let _right = right_of_raw_cell(cell);
-        unreachable!()
+        right_of_raw_cell(cell).let_go();
     }
 }
 

@@ -39,7 +39,7 @@ impl Kind {
 /// In a domain there is no book of the slots. Its witness is then the token of the slot's owner, its grip is of the slot's number and shows what the
 /// token does, and its part, of a book of its own, says the kind alone.
 ///
-/// It can be neither copied nor let go, only redeemed where it was granted.
+/// It can be neither copied nor let go of by chance: it is redeemed where it was granted.
 pub struct Right {
     pub(crate) number: u32,
     pub(crate) part: Part<Kind>,
@@ -86,6 +86,12 @@ impl Right {
             witness,
             grip,
         }
+    }
+
+    /// Lets go of the right for ever: nobody has it again, nor redeems it.
+    pub fn let_go(self) {
+        let (_owner, grip) = self.into_owner();
+        grip.discard();
     }
 
     /// The token of the owner of the slot, and the unit of the number of its place, in a domain; blank ones else.
@@ -238,6 +244,11 @@ const _: () = prove!(size_of::<RawRight>() == 4);
 
 impl RawRight {
     ghost use Rattle.sdd_token.specs.Right.{raw_number_of};
+
+    /// Lets go of the right for ever: nobody has it again, nor redeems it.
+    pub fn let_go(self) {
+        let RawRight { number: _, part: _ } = self;
+    }
 
     /// The number that the right is to.
     pub fn number(&self) -> u32
