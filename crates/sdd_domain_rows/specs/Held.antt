@@ -2,8 +2,8 @@
 use Rattle.std.specs.Prelude.{List, [], ◌∷◌}
 use Rattle.sdd_base.specs.Holding.{Holding}
 use Rattle.sdd_base.specs.Owned as owned
-use Rattle.sdd_domain_rows.specs.declared.held.Node.{Node, out-Node}
-use Rattle.sdd_domain_rows.specs.declared.held.Node.TheOpen.{Last, Before}
+use Rattle.sdd_domain_rows.specs.declared.node.Node.{Node, out-Node}
+use Rattle.sdd_domain_rows.specs.declared.node.Node.TheOpen.{Last, Before}
 
 -- the last one nothing, any other the owner of the next
 abbrev pub holdings_of : Node → List Holding

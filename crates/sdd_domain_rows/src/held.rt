@@ -6,30 +6,14 @@ ghost use Rattle.sdd_base.specs.Seat.{IsSeated};
 ghost use Rattle.sdd_domain.specs.Space.{seat_of, slots_home};
 ghost use Rattle.sdd_domain_rows.specs.Held.{holdings_of};
 
+use crate::node::Node;
 use crate::steps::{
     ONE_SLOT, close_and_scan, closed, ended, is_tally, new_domain, not_closed, opened, registered,
     turn, turns,
 };
-use sdd_base::{Giver, Item, Limits, Owned};
+use sdd_base::{Limits, Owned};
 use sdd_domain::Local;
 use std::process::Abort;
-
-/// A number, and before it the owner of another one, if there is one.
-pub enum Node {
-    Last(u64),
-    Before(u64, Owned<Node>),
-}
-
-impl Item<Node> for Node {
-    ghost holds = { holdings_of };
-
-    fn give_up<G: Giver<Node>>(self, giver: &mut G) {
-        match self {
-            Node::Last(_) => {}
-            Node::Before(_, next) => giver.owned(next),
-        }
-    }
-}
 
 /// Three slots.
 const THREE_SLOTS: Limits = Limits {

@@ -10,6 +10,7 @@ mod drops;
 mod held;
 #[cfg(test)]
 mod items;
+mod node;
 #[cfg(test)]
 mod sharing;
 #[cfg(test)]
