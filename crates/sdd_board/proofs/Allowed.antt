@@ -21,7 +21,7 @@ use Rattle.sdd_rule.specs.Epoch.{HasPlace, IsClosed, IsOpen, Scans}
 use Rattle.sdd_rule.specs.Steps.{Keeps, nobody, passed_by, knowing, scanning, IsNext, Registers, Reads, Counts, Publishes, Ends, Locks, LooksAtState, LooksAtCount, Advances, Unlocks}
 use Rattle.sdd_rule.specs.Slots.{OwnsAlone, Holds}
 use Rattle.sdd_rule.specs.SlotSteps.{blank, changed, OnEpoch, PublishesAll, IsDue, LooksAtSlot, TakesHold, LetsGo, LooksForGuard, AtSlot}
-use Rattle.sdd_rule.specs.Ended.{Bars, LooksForOwner}
+use Rattle.sdd_rule.specs.Ended.{Bars, LooksForValue}
 use Rattle.sdd_rule.proofs.Epoch as epochs
 use Rattle.sdd_rule.proofs.EpochSteps as over
 use Rattle.sdd_rule.proofs.Ended.{Spares}
@@ -167,10 +167,10 @@ module _ (γ : ℕ) (sizes : Sizes) (slots id : ℕ) (me : Mine) where
   may_bar i p is inside next = subst (λ (i : ℕ). May i (λ x. either (eqb x 0) 3 x) (Told (Bars i) me)) (sym is)
       (steps.bars γ sizes slots id me p inside next)
 
-  pub may_look_for_owner : (i slot : ℕ) → i ≡ slot_word sizes slot → slot ≡ me.0.places.quiet → sizes.participants ≤ me.0.places.ended
-      → May i (λ x. x) (Told LooksForOwner me)
-  may_look_for_owner i slot is next all = subst (λ (i : ℕ). May i (λ x. x) (Told LooksForOwner me)) (sym is)
-      (steps.looks_for_owner γ sizes slots id me slot next all)
+  pub may_look_for_value : (i slot : ℕ) → i ≡ slot_word sizes slot → slot ≡ me.0.places.quiet → sizes.participants ≤ me.0.places.ended
+      → May i (λ x. x) (Told LooksForValue me)
+  may_look_for_value i slot is next all = subst (λ (i : ℕ). May i (λ x. x) (Told LooksForValue me)) (sym is)
+      (steps.looks_for_value γ sizes slots id me slot next all)
 
   pub may_lock : IsOpen v → ¬ (Scans v) → May lock_word (λ x. either (eqb x 0) 1 x) (Told (OnEpoch Locks) me)
   may_lock is_open free = may_epoch Locks lock_word (λ x. either (eqb x 0) 1 x) (omega arith) (λ _ _ _ _. omega arith)

@@ -2,7 +2,7 @@
 ghost use Rattle.std.specs.Prelude.{◌≡◌, ◌+◌, ◌<◌, ◌≤◌, ℕ, MatchResult};
 ghost use Rattle.sdd_rule.specs.Words as words;
 ghost use Rattle.sdd_rule.specs.Words.{all_words};
-ghost use Rattle.sdd_rule.specs.Codes.{alive};
+ghost use Rattle.sdd_rule.specs.Codes.{full};
 ghost use Rattle.sdd_rule.specs.Slots.{slot_at};
 ghost use Rattle.core.specs.Mem.Slots.{slots_items, slots_len, IsFull};
 ghost use Rattle.sdd_homes.specs.Homes.{AreLaid, AreHome};
@@ -90,7 +90,7 @@ impl Board {
     }
 
     /// The words and the stakes, by a token that knows that all places have ended: all stakes lie in their homes.
-    /// Where it has the counts of all places, what was made has gone or lies in a slot. A slot that it knows to be quiet has no owner.
+    /// Where it has the counts of all places, what was made has gone or lies in a slot. A slot that it knows to be quiet is free.
     pub fn close(self, token: Token) -> Closed<Stake, Global>
         requires home { token.table_id ≡ id_of self }
         requires ended { places_of self ≤ token.me.0.places.ended }
@@ -98,7 +98,7 @@ impl Board {
         ensures places { over_by token.me.0 ≤ places_of self }
         ensures counted { over_by token.me.0 ≡ places_of self
             → made_by token.me.0 ≡ gone_by token.me.0 + full_slots (sizes_of self) (slots_items result.words) }
-        ensures quiet { (i : ℕ) → i < token.me.0.places.quiet → alive (slot_at (sizes_of self) (slots_items result.words) i) ≡ 0 }
+        ensures quiet { (i : ℕ) → i < token.me.0.places.quiet → full (slot_at (sizes_of self) (slots_items result.words) i) ≡ 0 }
         ensures words { (slots_len result.words ≡ all_words (sizes_of self)) × IsFull result.words }
     {
         let Board {

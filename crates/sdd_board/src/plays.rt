@@ -2,7 +2,7 @@
 ghost use Rattle.std.specs.Prelude.{[], true, false};
 ghost use Rattle.sdd_rule.specs.Steps.{Registers, Reads, Counts, Locks, LooksAtState, LooksAtCount, Advances, Unlocks};
 ghost use Rattle.sdd_rule.specs.SlotSteps.{OnEpoch, PublishesAll, LooksAtSlot, TakesHold, LetsGo, LooksForGuard, AtSlot};
-ghost use Rattle.sdd_rule.specs.Ended.{Bars, LooksForOwner};
+ghost use Rattle.sdd_rule.specs.Ended.{Bars, LooksForValue};
 ghost use Rattle.sdd_rule.specs.Parts.{owner_token};
 ghost use Rattle.sdd_homes.specs.HomeSteps.{ClaimsAll, TakesOut, TakesHeld, RetiresOne, GivesAll, DiscardsAll, ClosesHome, EndsAll, OfSlot, parting, departing, regained, uncounting, counts_of, counting};
 ghost use Rattle.sdd_board.specs.Token.{Sits, Told, HousesMoved, TakesOwned, WatchesOwned, RecallsOwned};
@@ -180,10 +180,10 @@ impl Play<Stake, View> for Discard {
     ghost then = { λ step. OfSlot DiscardsAll step.word };
 }
 
-pub struct LookForOwner;
+pub struct LookForValue;
 
-impl Play<Stake, View> for LookForOwner {
-    ghost then = { λ _. Told LooksForOwner };
+impl Play<Stake, View> for LookForValue {
+    ghost then = { λ _. Told LooksForValue };
 }
 
 pub struct Part;

@@ -41,6 +41,10 @@ still_guarded old new is opens last = let own = ap (λ (m : Member). m.own) is.m
     let none : is_open (closed_with false old.own) ≡ false = closed_last old.own last in
     absurd (true≢false (sym opens ∙ (ap is_open own ∙ none)))
 
+-- the close of the only guard leaves none
+pub closed_none : (old new : Member) → Closes old new → old.own.guards ≡ 1 → ¬ (IsGuarded new)
+closed_none old new is last some_open = absurd (still_guarded old new is (open_guards new.own some_open) last)
+
 pub guarded_is : {T : Type 0} (v p : Partaker T) → v ≡ p → IsTrue (is_open p.member.own) → IsGuarded v.member
 guarded_is v p is opens = subst (λ (q : Partaker _). IsGuarded q.member) (sym is) (grind arith)
 

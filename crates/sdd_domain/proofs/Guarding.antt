@@ -24,7 +24,7 @@ use Rattle.sdd_domain.specs.Sound.{IsSound}
 use Rattle.sdd_domain.specs.Waits.{arrived_at}
 use Rattle.sdd_domain.specs.Laws.{own_is_place}
 use Rattle.sdd_domain.proofs.Alone.{steps_alone}
-use Rattle.sdd_domain.proofs.Arrivals.{stayed, moved}
+use Rattle.sdd_domain.proofs.Arrivals.{stayed, moved, as_open}
 use Rattle.sdd_domain.proofs.Exact.{lone_is, nests}
 use Rattle.sdd_domain.proofs.Kept.{keeps_own}
 use Rattle.sdd_domain.proofs.Sound.{lives, sound_opened}
@@ -51,6 +51,14 @@ found_after given count own = all_awaiting-found given (time.nested (arrived_at 
 
 pub open_after : (given : List ℕ) (count : ℕ) (own : Participant) → 0 < (settled (all_awaiting given (time.nested (arrived_at count own)))).guards
 open_after given count own = let g = all_guards given (time.nested (arrived_at count own)) in omega arith
+
+-- one guard is open then, whether the opening was a change or not
+pub one_before : (count : ℕ) (own : Participant) → own.guards ≡ 0 → (time.nested (arrived_at count own)).guards ≡ 1
+one_before count own shut = let o = as_open count own in omega arith
+
+pub one_after : (given : List ℕ) (count : ℕ) (own : Participant) → own.guards ≡ 0
+    → (settled (all_awaiting given (time.nested (arrived_at count own)))).guards ≡ 1
+one_after given count own shut = all_guards given (time.nested (arrived_at count own)) ∙ one_before count own shut
 
 -- an opening doesn't raise the count
 pub same_count : {T : Type 0} (holds : T → List Holding) (p q : Partaker T) → world_of q ≡ opened holds (world_of p) p.member.place → q.member.known ≡ p.member.known

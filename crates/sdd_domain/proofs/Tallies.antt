@@ -1,12 +1,12 @@
 -- Tallies of what a participant knows, and of all receipts together
-use Rattle.std.proofs.Common.{◌≡◌, ℕ, zero, suc, ◌+◌, List, [], ◌∷◌, ◌++◌, All, map, sum, refl, arith}
+use Rattle.std.proofs.Common.{◌≡◌, ℕ, zero, suc, ◌+◌, List, [], ◌∷◌, ◌++◌, All, map, sum, refl, ap, ◌∙◌, arith}
 use Rattle.std.proofs.lemmas.List.Sums.{sum_by-cons}
 use Rattle.sdd_store.specs.declared.tally.Tally.{Tally}
-use Rattle.sdd_store.specs.Tally.{one_made, one_reclaimed}
+use Rattle.sdd_store.specs.Tally.{one_more, one_made, one_reclaimed}
 use Rattle.sdd_rule.specs.declared.CountsView.{CountsView}
 use Rattle.sdd_rule.specs.Parts.{no_counts}
 use Rattle.sdd_homes.specs.HomeSteps.{counts_added}
-use Rattle.sdd_domain.specs.Receipt.{Receipt, sum_of, with_reclaimed, IsTallied, AddsUp, HasTaken, made_in, reclaimed_in, in_place_in}
+use Rattle.sdd_domain.specs.Receipt.{Receipt, capped, sum_of, with_reclaimed, IsTallied, AddsUp, HasTaken, made_in, reclaimed_in, in_place_in}
 
 -- an item more
 pub tallied_made : (t : Tally) (c : CountsView) → IsTallied 0 t c → IsTallied 0 (one_made t) (record c { made = c.made + 1 })
@@ -19,6 +19,19 @@ tallied_reclaimed t c i = let r = i.reclaimed in record { over = i.over; made = 
 -- its place has ended
 pub tallied_ended : (t : Tally) (c : CountsView) → IsTallied 0 t c → IsTallied 1 t (record c { over = c.over + 1 })
 tallied_ended t c i = let o = i.over in record { over = omega arith; made = i.made; reclaimed = i.reclaimed; in_place = i.in_place }
+
+-- one that was reclaimed, and so many others
+pub one_first : (n : ℕ) (t : Tally) → with_reclaimed n (one_reclaimed t) ≡ with_reclaimed (suc n) t
+one_first zero t = refl
+one_first (suc n) t = λ d. record t { reclaimed = (let e : capped (one_more t.reclaimed + suc n) ≡ capped (t.reclaimed + suc (suc n)) = omega arith in e d) }
+
+-- so many, and so many others
+pub many_more : (m n k : ℕ) (t : Tally) → k ≡ m + n → with_reclaimed n (with_reclaimed m t) ≡ with_reclaimed k t
+many_more zero n k t both = ap (λ (j : ℕ). with_reclaimed j t) (let e : n ≡ k = omega arith in e)
+many_more (suc m) zero k t both = ap (λ (j : ℕ). with_reclaimed j t) (let e : suc m ≡ k = omega arith in e)
+many_more (suc m) (suc n) k t both =
+    (λ d. record t { reclaimed = (let e : capped (capped (t.reclaimed + suc m) + suc n) ≡ capped (t.reclaimed + suc (m + suc n)) = omega arith in e d) })
+    ∙ ap (λ (j : ℕ). with_reclaimed j t) (let e : suc (m + suc n) ≡ k = omega arith in e)
 
 pub none_taken : HasTaken [] no_counts
 none_taken = record { over = refl; made = λ _. refl; reclaimed = λ _. refl; in_place = refl }
@@ -43,7 +56,6 @@ front_all P [] ys h k d l = absurd (omega arith)
 front_all P (x ∷ xs) ys h zero d l = h 0 d (omega arith)
 front_all P (x ∷ xs) ys h (suc k) d l = front_all P xs ys (λ j d l. h (suc j) d (omega arith)) k d (omega arith)
 
--- so many that wait still go at the close
-pub adds_up : (rs : List Receipt) (c : CountsView) (waiting : ℕ) → HasTaken rs c → c.made ≡ c.gone + waiting → AddsUp (with_reclaimed waiting (sum_of rs))
-adds_up rs c zero h e few = let m = h.made (omega arith) in let g = h.reclaimed (omega arith) in let p = h.in_place in omega arith
-adds_up rs c (suc waiting) h e few = let m = h.made (omega arith) in let g = h.reclaimed (omega arith) in let p = h.in_place in omega arith
+-- what was made was reclaimed
+pub adds_up : (rs : List Receipt) (c : CountsView) → HasTaken rs c → c.made ≡ c.gone → AddsUp (sum_of rs)
+adds_up rs c h e few = let m = h.made (omega arith) in let g = h.reclaimed (omega arith) in let p = h.in_place in omega arith

@@ -2,6 +2,8 @@
 use Rattle.sdd_base.specs.declared.limits.Limits.{Limits}
 use Rattle.atomic_table.specs.Seated.{TableId}
 use Rattle.std.specs.Prelude.{ℕ}
+use Rattle.sdd_token.specs.Units as token
+use Rattle.sdd_token.specs.Right.{home_of_table}
 use Rattle.sdd_board.specs.Board.{id_of}
 use Rattle.sdd_board.specs.Board as board
 use Rattle.sdd_domain.specs.declared.domain.Domain.{Domain}
@@ -16,3 +18,7 @@ limits_of d = d.limits
 -- the book of its values' places
 abbrev pub book_of : {T : Type 0} → Domain T → ℕ
 book_of d = board.book_of d.board
+
+-- where its slots are numbered
+abbrev pub slots_in : {T : Type 0} → Domain T → token.Home
+slots_in d = home_of_table (home_of d) (book_of d) (limits_of d).slots

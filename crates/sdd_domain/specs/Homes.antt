@@ -14,7 +14,7 @@ Home = holding.Home
 abbrev pub nowhere : token.Home
 nowhere = record { name = 0; size = 0; tables = [] }
 
--- where cells will be numbered: a domain has none yet
+-- where cells will be numbered: a domain has none yet. It has a size, since who is given a cell must be able to be called
 abbrev pub no_cells : token.Home
 no_cells = record nowhere { size = 2 ^ 24 }
 

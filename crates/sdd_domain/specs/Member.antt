@@ -1,5 +1,5 @@
 -- A participant's membership of a domain as its callers see it, and what each call does to it
-use Rattle.std.specs.Prelude.{◌≡◌, ◌≢◌, ◌⊎◌, ℕ, ◌+◌, ◌^◌, ◌<◌, ◌≤◌, Bool, Some, false, List, [], ◌∷◌, ◌++◌, slice_index, slice_set}
+use Rattle.std.specs.Prelude.{◌≡◌, ◌≢◌, ◌⊎◌, ℕ, ◌+◌, ◌^◌, ◌<◌, ◌≤◌, Bool, Some, true, false, List, [], ◌∷◌, ◌++◌, slice_index, slice_set}
 use base.Stored.{Gv}
 use Rattle.atomic_table.specs.Seated.{TableId}
 use Rattle.sdd_base.specs.declared.limits.Limits.{Limits}
@@ -46,6 +46,10 @@ pub record Member : Type 0 where
 -- no other participant may be
 abbrev pub IsLone : Member → Type 0
 IsLone m = m.limits.participants ≡ 1
+
+-- something waits with it
+abbrev pub waits : Member → Bool
+waits m = elim (m.own.bags.waiting) [ [] ↦ false | x ∷ xs ↦ true ]
 
 -- a guard is open
 abbrev pub IsGuarded : Member → Type 0

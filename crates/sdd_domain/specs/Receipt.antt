@@ -1,15 +1,16 @@
--- What an ended participant made and reclaimed
-use Rattle.std.specs.Prelude.{◌≡◌, ℕ, zero, suc, ◌+◌, ◌-◌, ◌^◌, ◌<◌, min, List, length, map, sum}
-use Rattle.atomic_table.specs.Seated.{TableId}
+-- What a participant leaves that has ended
+use Rattle.std.specs.Prelude.{◌≡◌, ℕ, zero, suc, ◌+◌, ◌-◌, ◌^◌, ◌<◌, ◌≤◌, min, Bool, false, List, [], ◌∷◌, length, map, sum}
+use Rattle.sdd_token.specs.Units as token
 use base.Stored.{Gv}
 use Rattle.sdd_rule.specs.declared.CountsView.{CountsView}
 use Rattle.sdd_board.specs.Counts.{witness_of_counts}
 use Rattle.sdd_store.specs.declared.tally.Tally.{Tally}
 
--- of which domain it is, and the tally
+-- where its domain's slots are numbered, the tally, and whether something waits still
 pub record Receipt : Type 0 where
-  pub home : TableId
+  pub home : token.Home
   pub tally : Tally
+  pub waits : Bool
 
 -- a number no longer grows at 2^128 - 1
 abbrev pub most_counted : ℕ
@@ -61,3 +62,16 @@ pub record HasTaken (rs : List Receipt) (counts : CountsView) : Type 0 where
   pub made : sum (map made_in rs) < most_counted → counts.made ≡ sum (map made_in rs)
   pub reclaimed : counts.gone < most_counted → counts.gone ≡ sum (map reclaimed_in rs)
   pub in_place : sum (map in_place_in rs) ≡ 0
+
+-- a receipt whose participant has reclaimed so many items more; where nothing waited it is the same
+pub record IsSettled (items : ℕ) (old new : Receipt) : Type 0 where
+  pub home : new.home ≡ old.home
+  pub tally : new.tally ≡ with_reclaimed items old.tally
+  pub over : old.waits ≡ false → new ≡ old
+
+-- the same receipts, whose participants have reclaimed so many items more together
+abbrev pub AreSettled : ℕ → List Receipt → List Receipt → Type 0
+AreSettled items [] [] = items ≡ 0
+AreSettled items [] (new ∷ news) = ⊥
+AreSettled items (old ∷ olds) [] = ⊥
+AreSettled items (old ∷ olds) (new ∷ news) = (own : ℕ) × (own ≤ items) × IsSettled own old new × AreSettled (items - own) olds news

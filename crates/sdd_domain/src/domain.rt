@@ -1,15 +1,15 @@
-ghost use Rattle.std.specs.Prelude.{◌≡◌, ℕ, ◌+◌, ◌^◌, ◌≤◌, ◌⊎◌, [], All, IfOk, MatchResult, length, vec_capacity};
+ghost use Rattle.std.specs.Prelude.{◌≡◌, ℕ, ◌+◌, ◌^◌, ◌≤◌, ◌⊎◌, [], All, IfErr, IfOk, MatchResult, length, vec_capacity};
 ghost use Rattle.sdd_base.specs.Limits.{AreInRange};
 ghost use Rattle.sdd_stakes.specs.Memory.{IsHoldOf, IsHoldOfShelf};
 ghost use Rattle.sdd_stakes.specs.Shelf.{AreVacant};
 ghost use Rattle.sdd_homes.specs.Homes.{homes_for};
 ghost use Rattle.sdd_board.specs.Board.{sizes_of};
 ghost use Rattle.sdd_domain.specs.Shelf.{sizes_in, IsShelfOf};
-ghost use Rattle.sdd_domain.specs.Receipt.{Receipt as Ended, AddsUp, capped, sum_of, with_reclaimed};
+ghost use Rattle.sdd_domain.specs.Receipt.{Receipt as Ended, AddsUp, AreSettled, capped, sum_of, with_reclaimed};
 
 use crate::at_home::AtHome;
-use crate::closing::{settled, take_all, take_all_counts};
-use crate::receipt::{Receipt, count_reclaimed};
+use crate::closing::{are_over, gather_all_stakes, settle_all, settled, take_all_counts};
+use crate::receipt::Receipt;
 use sdd_base::{Item, Limits};
 use sdd_board::{Board, Plan};
 use sdd_core::Refused;
@@ -80,7 +80,7 @@ fn add(sum: Tally, tally: Tally) -> Tally
 }
 
 /// The tallies of all receipts together.
-fn tally_of(receipts: &Vec<Receipt>) -> Tally
+fn tally_of<T: Item<T>>(receipts: &Vec<Receipt<T>>) -> Tally
     ensures { result ≡ sum_of receipts.now.items }
 {
     let mut sum = Tally::new();
@@ -91,7 +91,7 @@ fn tally_of(receipts: &Vec<Receipt>) -> Tally
 }
 
 impl<T: Item<T>> Domain<T> {
-    ghost use Rattle.sdd_domain.specs.Domain.{home_of, limits_of};
+    ghost use Rattle.sdd_domain.specs.Domain.{limits_of, slots_in};
 
     /// A domain without participants, at epoch 0. All memory is taken here: for its words, and for as many values as there are slots.
     ///
@@ -136,20 +136,30 @@ impl<T: Item<T>> Domain<T> {
         }
     }
 
-    /// Closes a domain, with receipts of its participants, and answers their tallies together. What waits still is moved out and ended, and
-    /// counts as reclaimed; all memory is given back. Where there is a receipt for each place, what was made was reclaimed.
+    /// Closes a domain, with receipts of its participants, and answers their tallies together. What waits with them is reclaimed first, and what that
+    /// gives up; all memory is given back. Where there is a receipt for each place, what was made was reclaimed.
     ///
-    /// `OwnerOut` where something is still out: an item that has an owner, also one that lies in a value which waits, or a participant that hasn't
-    /// ended. The domain and the receipts come back.
-    pub fn close(self, receipts: Vec<Receipt>) -> Result<Tally, (Domain<T>, Vec<Receipt>, Refused)>
-        requires homes { All (λ (r : Ended). r.home ≡ home_of self) receipts.items }
-        ensures closed { MatchResult result
-            (λ tally. (waiting : ℕ) × (waiting ≤ (limits_of self).slots) × (tally ≡ with_reclaimed waiting (sum_of receipts.items)))
-            (λ back. (back.0 ≡ self) × (back.1 ≡ receipts) × (back.2 ≡ Refused.OwnerOut)) }
+    /// `OwnerOut` where something is still out: an item that has an owner, a participant that hasn't ended, or one with which items wait and whose
+    /// receipt isn't here. The domain and the receipts come back, and what waited with them has been reclaimed.
+    pub fn close(
+        self,
+        mut receipts: Vec<Receipt<T>>,
+    ) -> Result<Tally, (Domain<T>, Vec<Receipt<T>>, Refused)>
+        requires homes { All (λ (r : Ended). r.home ≡ slots_in self) receipts.items }
+        ensures closed { (waiting : ℕ) × (waiting ≤ (limits_of self).slots) × MatchResult result
+            (λ tally. tally ≡ with_reclaimed waiting (sum_of receipts.items))
+            (λ back. (back.0 ≡ self) × AreSettled waiting receipts.items back.1.items × (back.2 ≡ Refused.OwnerOut)) }
+        ensures again { IfErr result (λ back. All (λ (r : Ended). r.home ≡ slots_in back.0) back.1.items) }
         ensures whole { IfOk result (λ tally. (length receipts.items ≤ (limits_of self).participants)
             × (length receipts.items ≡ (limits_of self).participants → AddsUp tally)) }
     {
-        let Some(mut token) = settled(&self.board, self.limits.slots as u32) else {
+        let slots = self.limits.slots;
+        let mut left = slots as usize;
+        settle_all(&self, &mut receipts, &mut left);
+        if !are_over(&receipts) {
+            return Err((self, receipts, Refused::OwnerOut));
+        }
+        let Some(mut token) = settled(&self.board, slots as u32) else {
             return Err((self, receipts, Refused::OwnerOut));
         };
         let Domain {
@@ -160,13 +170,12 @@ impl<T: Item<T>> Domain<T> {
             alloc,
         } = self;
         let title = shelf.title();
-        let mut tally = tally_of(&receipts);
+        let tally = tally_of(&receipts);
         take_all_counts(&board, &mut token, receipts);
         let mut closed = board.close(token);
-        let (stock, waiting) = take_all(&mut closed, &shelf, &title, &sizes_for(&limits));
+        let stock = gather_all_stakes(&mut closed, &title, &sizes_for(&limits));
         closed.free();
         shelf.close(&alloc, stock, hold);
-        count_reclaimed(&mut tally, waiting);
         Ok(tally)
     }
 

@@ -1,5 +1,5 @@
 //! What an opening took out of the bags.
-ghost use Rattle.std.specs.Prelude.{◌≡◌, ◌≤◌, [], ◌∷◌, MatchOption, IfOk};
+ghost use Rattle.std.specs.Prelude.{◌≡◌, ◌≤◌, [], ◌∷◌, MatchOption, IfOk, length};
 ghost use Rattle.sdd_store.specs.Waiting.{aged, due, left};
 
 use sdd_store::{Bags, What};
@@ -46,6 +46,14 @@ impl Due {
         self.bag.clear();
         self.taken = 0;
         bags.rotate(&mut self.bag);
+    }
+
+    /// How much of it there is.
+    #[inline]
+    pub fn len(&self) -> usize
+        ensures { result ≡ length self.now.items }
+    {
+        self.bag.len() - self.taken
     }
 
     /// The next of it.

@@ -6,7 +6,9 @@ mod changes;
 mod claims;
 mod closing;
 pub mod domain;
+mod draining;
 mod due;
+mod ended;
 mod known;
 pub mod local;
 mod membership;
@@ -15,7 +17,6 @@ mod reclaiming;
 mod scan;
 mod shut;
 mod space;
-mod spending;
 mod values;
 
 pub use domain::Domain;

@@ -2,7 +2,8 @@
 ghost use Rattle.std.specs.Prelude.{◌≡◌, ◌⊎◌, IfErr, IfOk, MatchResult};
 ghost use Rattle.sdd_domain.specs.Domain.{home_of, book_of, limits_of};
 ghost use Rattle.sdd_domain.specs.Homes.{home_at, home_in};
-ghost use Rattle.sdd_domain.specs.Member.{IsGuarded, IsLone, IsNew};
+ghost use Rattle.sdd_domain.specs.Member.{IsGuarded, IsLone, IsNew, waits};
+ghost use Rattle.sdd_domain.specs.Space.{slots_home};
 
 use crate::domain::Domain;
 use crate::membership::Membership;
@@ -54,22 +55,21 @@ impl<'d, T: Item<T>> Local<'d, T> {
         })
     }
 
-    /// Ends the participant, whose place isn't free again. What waits with it goes on waiting, and is reclaimed at the close of the domain.
+    /// Ends the participant. Its place isn't free again; what waits with it goes on waiting, in the receipt, and is reclaimed at the close of the
+    /// domain.
     ///
     /// Where one of its guards is open it comes back.
-    pub fn end(self) -> Result<Receipt, Local<'d, T>>
+    pub fn end(self) -> Result<Receipt<T>, Local<'d, T>>
         ensures { MatchResult result
-            (λ receipt. ¬ (IsGuarded self.entry.member) × (receipt ≡ record { home = self.entry.member.home; tally = self.entry.member.tally }))
+            (λ receipt. ¬ (IsGuarded self.entry.member)
+            × (receipt ≡ record { home = slots_home self.entry; tally = self.entry.member.tally; waits = waits self.entry.member }))
             (λ local. IsGuarded self.entry.member × (local ≡ self.entry)) }
     {
-        let Local { partner } = self;
-        let Partner { membership, ledger } = partner;
-        match membership.end() {
-            Ok(receipt) => Ok(receipt),
-            Err(membership) => Err(Local {
-                partner: Partner { membership, ledger },
-            }),
+        if self.partner.membership.is_guarded() {
+            return Err(self);
         }
+        let Local { partner } = self;
+        Ok(Receipt::of(partner))
     }
 
     /// Its domain, through which owners look at their items also while the participant goes on.

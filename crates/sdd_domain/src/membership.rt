@@ -1,14 +1,15 @@
 //! A participant's part in a domain: its guards, what waits with it, and the items that it makes and lets go.
-ghost use Rattle.std.specs.Prelude.{◌≡◌, ◌↔◌, ◌⊎◌, ◌+◌, ◌^◌, ◌<◌, ◌≤◌, ◌==◌, ℕ, [], IsTrue, not, IfSome, IfOk, IfErr, MatchOption, MatchResult};
+ghost use Rattle.std.specs.Prelude.{◌≡◌, ◌↔◌, ◌⊎◌, ◌+◌, ◌^◌, ◌<◌, ◌≤◌, ◌==◌, ℕ, [], false, length, IsTrue, not, IfSome, IfOk, IfErr, MatchOption, MatchResult};
 ghost use Rattle.sdd_stakes.specs.Shelf.{showing};
-ghost use Rattle.sdd_store.specs.Time.{accelerated, has_garbage, nested, settled, with_garbage};
+ghost use Rattle.sdd_store.specs.Time.{accelerated, due_next, has_garbage, nested, settled, with_garbage};
 ghost use Rattle.sdd_rule.specs.Steps.{nobody, Takes};
 ghost use Rattle.sdd_rule.specs.SlotSteps.{blank};
 ghost use Rattle.sdd_board.specs.Board.{id_of, sizes_of, places_of};
 ghost use Rattle.sdd_board.specs.Token.{epoch, words_known, IsSameBut};
 ghost use Rattle.sdd_domain.specs.Domain.{home_of, book_of, limits_of};
 ghost use Rattle.sdd_domain.specs.Homes.{home_at, home_in};
-ghost use Rattle.sdd_domain.specs.Member.{CanNest, IsGuarded, IsNew, IsEntered, Reclaims, Closes, IsTold};
+ghost use Rattle.sdd_domain.specs.Items.{slots_home};
+ghost use Rattle.sdd_domain.specs.Member.{waits, CanNest, IsGuarded, IsNew, IsEntered, Reclaims, Closes, IsTold};
 ghost use Rattle.sdd_base.specs.Guard.{reader_of};
 ghost use Rattle.sdd_base.specs.Holding.{AreOf};
 ghost use Rattle.sdd_places.specs.declared.tenures.Stage.TheVariants.{Closed as is_closed};
@@ -16,14 +17,13 @@ ghost use Rattle.sdd_places.specs.declared.tenures.Stage.TheVariants.{Closed as 
 use crate::changes::arrive;
 use crate::domain::Domain;
 use crate::due::Due;
+use crate::ended::Ended;
 use crate::known::Known;
-use crate::receipt::Receipt;
 use crate::scan::scan;
 use crate::shut::shut;
 use crate::values::take_value;
 use sdd_base::inner::{guard_with, part_of_guard};
 use sdd_base::{Guard, Item};
-use sdd_board::steps::counts::cut_counts;
 use sdd_board::{Board, Token, steps};
 use sdd_core::Refused;
 use sdd_places::{Stage, Tenure};
@@ -32,6 +32,7 @@ use sdd_token::{Book, WHOLE};
 use std::alloc::{AllocError, Global};
 use std::marker::Model;
 
+pub mod dormant;
 mod items;
 
 /// A participant's membership of a domain: its place, its bags, and what it knows of the words.
@@ -189,17 +190,11 @@ impl<'d, T: Item<T>> Membership<'d, T> {
         })
     }
 
-    /// Ends the participant, whose place isn't free again. What waits with it goes on waiting, and is reclaimed at the close of the domain.
-    ///
-    /// Where one of its guards is open it comes back.
-    pub fn end(self) -> Result<Receipt, Membership<'d, T>>
-        ensures { MatchResult result
-            (λ receipt. ¬ (IsGuarded self.entry) × (receipt ≡ record { home = self.entry.home; tally = self.entry.tally }))
-            (λ local. IsGuarded self.entry × (local ≡ self.entry)) }
+    /// Ends the participant, whose place isn't free again.
+    pub fn end(self) -> Ended
+        requires { ¬ (IsGuarded self) }
+        ensures { result ≡ record { home = slots_home self.entry; tally = self.entry.tally; waits = false } }
     {
-        if self.own.guards > 0 {
-            return Err(self);
-        }
         let Membership {
             domain,
             mut token,
@@ -212,7 +207,29 @@ impl<'d, T: Item<T>> Membership<'d, T> {
             tally,
         } = self;
         steps::end(&domain.board, &mut token, place);
-        Ok(Receipt::new(cut_counts(&domain.board, token), tally))
+        Ended::new(token, domain.limits.slots, tally)
+    }
+
+    /// Something waits with the participant.
+    pub fn waits(&self) -> bool
+        ensures { result ≡ waits self.now }
+    {
+        !self.own.bags.is_empty()
+    }
+
+    /// How much its next change makes due.
+    pub fn next_due(&self) -> usize
+        ensures { result ≡ length (due_next self.now.own) }
+    {
+        self.own.bags.due().len()
+    }
+
+    /// How much an opening has still to reclaim.
+    #[inline]
+    pub fn now_due(&self) -> usize
+        ensures { result ≡ length self.now.due }
+    {
+        self.due.len()
     }
 
     /// Its domain.

@@ -1,5 +1,5 @@
 //! A change reclaims what is due, and a value that is reclaimed gives up what it holds.
-ghost use Rattle.std.specs.Prelude.{◌≡◌, ◌+◌, ◌≤◌, ℕ, List, []};
+ghost use Rattle.std.specs.Prelude.{◌≡◌, ◌+◌, ◌≤◌, ℕ, List, [], length};
 ghost use Rattle.sdd_base.specs.Known.{KnowsOn};
 ghost use Rattle.sdd_base.specs.Own.{GrowsOn, all_awaiting};
 ghost use Rattle.sdd_base.specs.Owned as owned;
@@ -12,6 +12,7 @@ ghost use Rattle.sdd_store.specs.Time.{settled};
 ghost use Rattle.sdd_domain.specs.Homes.{home_in};
 ghost use Rattle.sdd_domain.specs.Local.{Partaker};
 ghost use Rattle.sdd_domain.specs.Member.{IsGuarded, IsLone};
+ghost use Rattle.sdd_domain.specs.Receipt.{with_reclaimed};
 ghost use Rattle.sdd_domain.specs.Local.{world_of};
 ghost use Rattle.sdd_domain.specs.Reclaiming.{kept_of, rest_of};
 ghost use Rattle.sdd_domain.specs.Space.{seat_of, known_of};
@@ -120,12 +121,14 @@ impl<T: Item<T>> Giver<T> for Partner<'_, T> {
 
 impl<T: Item<T>> Partner<'_, T> {
     /// What is due is reclaimed, one after another, and what each value held is retired then.
-    fn reclaim_due(&mut self)
+    #[inline(never)]
+    fn reclaim_all(&mut self)
         ensures own { GrowsOn self.old.member.own self.new.member.own }
         ensures none { self.old.member.due ≡ [] → self.new.member.own ≡ self.old.member.own }
         ensures known { KnowsOn (known_of self.old) (known_of self.new) }
         ensures rest { rest_of self.new ≡ rest_of self.old }
         ensures due { self.new.member.due ≡ [] }
+        ensures reclaimed { self.new.member.tally ≡ with_reclaimed (length self.old.member.due) self.old.member.tally }
         ensures exact { IsLone self.old.member → world_of self.new
             ≡ all_reclaimed T.holds (world_of self.old) self.old.member.place self.old.member.due }
     {
@@ -136,13 +139,31 @@ impl<T: Item<T>> Partner<'_, T> {
         }
     }
 
+    /// The same, where nothing is due by a test alone.
+    #[inline]
+    fn reclaim_due(&mut self)
+        ensures own { GrowsOn self.old.member.own self.new.member.own }
+        ensures none { self.old.member.due ≡ [] → self.new.member.own ≡ self.old.member.own }
+        ensures known { KnowsOn (known_of self.old) (known_of self.new) }
+        ensures rest { rest_of self.new ≡ rest_of self.old }
+        ensures due { self.new.member.due ≡ [] }
+        ensures reclaimed { self.new.member.tally ≡ with_reclaimed (length self.old.member.due) self.old.member.tally }
+        ensures exact { IsLone self.old.member → world_of self.new
+            ≡ all_reclaimed T.holds (world_of self.old) self.old.member.place self.old.member.due }
+    {
+        if self.membership.now_due() > 0 {
+            self.reclaim_all();
+        }
+    }
+
     /// A change: what is due is reclaimed, and what each value held is retired then; and then it is decided whether anything waits.
-    #[inline(never)]
+    #[inline]
     pub fn change(&mut self)
         ensures own { (given : List ℕ) × (self.new.member.own ≡ settled (all_awaiting given self.old.member.own)) × (self.old.member.due ≡ [] → given ≡ []) }
         ensures known { KnowsOn (known_of self.old) (known_of self.new) }
         ensures rest { rest_of self.new ≡ rest_of self.old }
         ensures due { self.new.member.due ≡ [] }
+        ensures reclaimed { self.new.member.tally ≡ with_reclaimed (length self.old.member.due) self.old.member.tally }
         ensures near { IsGuarded self.new.member → self.new.member.known ≤ self.new.member.since + 1 }
         ensures exact { IsLone self.old.member → world_of self.new
             ≡ steps.settled (all_reclaimed T.holds (world_of self.old) self.old.member.place self.old.member.due) self.old.member.place }

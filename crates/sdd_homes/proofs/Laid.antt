@@ -9,6 +9,8 @@ use Rattle.atomic_table.proofs.Lists.{at_longer, at_last}
 use Rattle.sdd_stakes.specs.Stakes.{Lot}
 use Rattle.sdd_stakes.specs.Shelf.{most, lot, vacant, IsWhole, IsVacant, AreVacant}
 use Rattle.sdd_stakes.specs.declared.stake.Stake.{Stake}
+use Rattle.sdd_rule.specs.Codes.{alive, full}
+use Rattle.sdd_rule.proofs.Codes.{sound}
 use Rattle.sdd_homes.specs.Homes.{stake_at, homes_for, share, Has, AreLaidTo}
 use Rattle.sdd_homes.proofs.Places.{one_slot, one_stake}
 use Rattle.sdd_homes.proofs.Tops.{share_one, share_last}
@@ -83,6 +85,10 @@ module _ (γ n : ℕ) (owners : ℕ → ℕ) (Is : ℕ → Gv → Type 0) where
       → Has γ i (share n (owners i) p) (Is i) y
   found i p k j xs y near low at there laid = let a = laid.each i p near low in
       subst (Has γ i (share n (owners i) p) (Is i)) (some-injective a.0 y (sym a.1 ∙ (ap (get_elem? xs) (sym at) ∙ there))) a.2
+
+-- a free slot has no owner
+pub free_unowned : (x : ℕ) → full x ≡ 0 → alive x ≡ 0
+free_unowned x free = dite (ℕ_discrete (alive x) 0) (λ none. none) (λ some. absurd (let is = (sound.lives x (omega arith)).1 in omega arith))
 
 -- ---- the units of one slot
 module _ (γ i n : ℕ) where

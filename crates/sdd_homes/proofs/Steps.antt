@@ -27,7 +27,7 @@ use Rattle.sdd_rule.specs.Sums.{times}
 use Rattle.sdd_rule.specs.Slots.{slot_at, owners_at, items_at, OwnsAlone, Sees, Holds}
 use Rattle.sdd_rule.specs.SlotSteps.{without, retired, given_back, discarded, seeing, AtSlot, Claims, Retires, GivesBack, LooksAtSlot, TakesHold, LetsGo, Discards, LooksForGuard, ClosesAll, IsDue}
 use Rattle.sdd_rule.specs.Parts.{epoch_of}
-use Rattle.sdd_rule.specs.Ended.{AreEnded, AreQuiet, past, past_quiet, Bars, LooksForOwner}
+use Rattle.sdd_rule.specs.Ended.{AreEnded, AreQuiet, past, past_quiet, Bars, LooksForValue}
 use Rattle.sdd_rule.proofs.Ended.{Spares, one_spared, Hushes, one_hushed}
 use Rattle.sdd_rule.proofs.Ended as ended
 use Rattle.sdd_rule.proofs.Codes.{sound, free_is, owned_is, waiting_is}
@@ -822,7 +822,7 @@ module _ (γ : ℕ) (sizes : Sizes) (slots id : ℕ) (me : Mine) (p : ℕ) (insi
       (λ s w h at t. bars_calm s h at w (⊎_elim (λ (c : ((get_or s.words spot 0 ≡ 0) ⊎ (get_or s.words spot 0 ≡ 3)) × (w ≡ past p me.0)). inl c.1)
       (λ (e : w ≡ me.0). inr e) (which_of (get_or s.words spot 0) w t)))
 
--- the word of the next slot is looked at, whether it has an owner, by a token that knows that all places have ended
+-- the word of the next slot is looked at, whether it is free, by a token that knows that all places have ended
 module _ (γ : ℕ) (sizes : Sizes) (slots id : ℕ) (me : Mine) (slot : ℕ) (next : slot ≡ me.0.places.quiet)
     (all : sizes.participants ≤ me.0.places.ended) where
   abbrev word : ℕ
@@ -839,31 +839,31 @@ module _ (γ : ℕ) (sizes : Sizes) (slots id : ℕ) (me : Mine) (slot : ℕ) (n
     quiet_before : AreQuiet sizes s.words me.0
     quiet_before = h.kept.places.quiet id me.0 at
 
-    quiet_now : alive (get_or s.words word 0) ≡ 0 → AreQuiet sizes s.words (past_quiet me.0)
+    quiet_now : full (get_or s.words word 0) ≡ 0 → AreQuiet sizes s.words (past_quiet me.0)
     quiet_now dead k low = (
-      dite (ℕ_discrete k slot) (λ e. ap (λ (j : ℕ). alive (slot_at sizes s.words j)) e ∙ dead) (λ ne. (quiet_before k (omega arith)).0),
+      dite (ℕ_discrete k slot) (λ e. ap (λ (j : ℕ). full (slot_at sizes s.words j)) e ∙ dead) (λ ne. (quiet_before k (omega arith)).0),
       all,
     )
 
-  look_keeps_all : Keeps γ sizes slots id me word (λ x. x) (LooksForOwner me.0)
+  look_keeps_all : Keeps γ sizes slots id me word (λ x. x) (LooksForValue me.0)
   look_keeps_all s w h at t = let x : ℕ = get_or s.words word 0 in let ended = h.kept.places.ended id me.0 at in (
     (λ p low e was. was),
     subst (λ (ws : List ℕ). AreEnded sizes ws w) (sym (as_before s h at))
-        (dite (ℕ_discrete (alive x) 0) (λ dead. subst (AreEnded sizes s.words) (sym (t.0 dead)) ended)
-        (λ has. subst (AreEnded sizes s.words) (sym (t.1 has)) ended)),
+        (dite (ℕ_discrete (full x) 0) (λ dead. subst (AreEnded sizes s.words) (sym (t.0 dead)) ended)
+        (λ taken. subst (AreEnded sizes s.words) (sym (t.1 taken)) ended)),
     inr (λ k e dead. dead),
     subst (λ (ws : List ℕ). AreQuiet sizes ws w) (sym (as_before s h at))
-        (dite (ℕ_discrete (alive x) 0) (λ dead. subst (AreQuiet sizes s.words) (sym (t.0 dead)) (quiet_now s h at dead))
-        (λ has. subst (AreQuiet sizes s.words) (sym (t.1 has)) (quiet_before s h at))),
+        (dite (ℕ_discrete (full x) 0) (λ dead. subst (AreQuiet sizes s.words) (sym (t.0 dead)) (quiet_now s h at dead))
+        (λ taken. subst (AreQuiet sizes s.words) (sym (t.1 taken)) (quiet_before s h at))),
   )
 
   -- it knows no more but of places and of what is quiet
-  looked_for : (r : ℕ) (w : View) → LooksForOwner me.0 r w → (t : PlacesView) × (w ≡ record me.0 { places = t })
-  looked_for r w t = dite (ℕ_discrete (alive r) 0) (λ dead. ((past_quiet me.0).places, t.0 dead)) (λ has. (me.0.places, t.1 has))
+  looked_for : (r : ℕ) (w : View) → LooksForValue me.0 r w → (t : PlacesView) × (w ≡ record me.0 { places = t })
+  looked_for r w t = dite (ℕ_discrete (full r) 0) (λ dead. ((past_quiet me.0).places, t.0 dead)) (λ taken. (me.0.places, t.1 taken))
 
-  pub looks_for_owner : Allows (Housed γ sizes) slots id me word (λ x. x) (λ r me'. (me'.1 ≡ me.1) × LooksForOwner me.0 r me'.0)
-  looks_for_owner = lift_calm γ sizes slots id me word (λ x. x) (LooksForOwner me.0) (λ r me'. (me'.1 ≡ me.1) × LooksForOwner me.0 r me'.0)
-      look_keeps_all (ended.looks_for_owner sizes id word me.0) (λ r w t. (refl, t))
+  pub looks_for_value : Allows (Housed γ sizes) slots id me word (λ x. x) (λ r me'. (me'.1 ≡ me.1) × LooksForValue me.0 r me'.0)
+  looks_for_value = lift_calm γ sizes slots id me word (λ x. x) (LooksForValue me.0) (λ r me'. (me'.1 ≡ me.1) × LooksForValue me.0 r me'.0)
+      look_keeps_all (ended.looks_for_value sizes id word me.0) (λ r w t. (refl, t))
       (λ s w h at t. let x : ℕ = get_or s.words word 0 in
       subst (IsCalm γ sizes slots id me word (λ x. x) s x) (sym (looked_for x w t).1) record {
         more = λ j q out. out;

@@ -4,9 +4,9 @@ ghost use mathlib.Core.Option.{some};
 ghost use lib.ListN.{get_elem?};
 ghost use Rattle.core.specs.Mem.Slots.{slots_items};
 ghost use Rattle.sdd_stakes.specs.Shelf.{most, IsWhole, IsVacant, AreVacant};
-ghost use Rattle.sdd_rule.specs.Codes.{alive};
+ghost use Rattle.sdd_rule.specs.Codes.{full};
 ghost use Rattle.sdd_rule.specs.Slots.{slot_at};
-ghost use Rattle.sdd_homes.specs.Homes.{stake_at, no_owners, all_vacant, IsShown, AreLaidTo, AreLaid, AreHome};
+ghost use Rattle.sdd_homes.specs.Homes.{stake_at, no_owners, all_vacant, AreLaidTo, AreLaid, AreHome};
 
 use atomic_table::Closed;
 use sdd_rule::Sizes;
@@ -66,7 +66,7 @@ fn take_last_home<A: Allocator>(
     closed.take(*left)
 }
 
-/// The stakes in the last slot of a closed table, which has no owner, as one.
+/// The stakes in the last slot of a closed table, which is free, as one.
 pub fn gather_home<A: Allocator>(
     closed: &mut Closed<Stake, A>,
     title: &Title,
@@ -78,9 +78,9 @@ pub fn gather_home<A: Allocator>(
     requires few { sizes.now.participants < most }
     requires left { left.old ≡ stake_at sizes.now.participants (slot + 1) 0 }
     requires home { AreHome title.now.book sizes.now left.old closed.old }
-    requires quiet { alive (slot_at sizes.now (slots_items closed.old.words) slot) ≡ 0 }
+    requires free { full (slot_at sizes.now (slots_items closed.old.words) slot) ≡ 0 }
     ensures whole { IsWhole title.now.book slot result.lot }
-    ensures shown { IsShown (slot_at sizes.now (slots_items closed.new.words) slot) result.lot.shown }
+    ensures vacant { IsVacant result.lot.shown }
     ensures home { AreHome title.now.book sizes.now left.new closed.new }
     ensures left { left.new ≡ stake_at sizes.now.participants slot 0 }
     ensures words { closed.new.words ≡ closed.old.words }

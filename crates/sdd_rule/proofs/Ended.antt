@@ -1,4 +1,4 @@
--- Places that have ended stay so, and one that is free may be ended by a token without a place. Once all have, a slot without an owner stays quiet.
+-- Places that have ended stay so, and one that is free may be ended by a token without a place. Once all have, a slot that is free stays quiet.
 use Rattle.std.proofs.Common.{◌≡◌, ◌⊎◌, ℕ, ◌+◌, ◌<◌, eqb, List, length, map, get_or, set, sym, refl, ap, ◌∙◌, subst, ⊎_elim, arith, length-set, get_or-set_other, get_or-set_same}
 use Rattle.std.proofs.lemmas.List.{get_or_past}
 use mathlib.Core.Option.{some}
@@ -12,10 +12,10 @@ use Rattle.sdd_rule.specs.declared.PlacesView.{PlacesView}
 use Rattle.sdd_rule.specs.declared.View.{View}
 use Rattle.sdd_rule.specs.declared.Sizes.{Sizes}
 use Rattle.sdd_rule.specs.Words.{state_word, slot_word}
-use Rattle.sdd_rule.specs.Codes.{codes, alive}
+use Rattle.sdd_rule.specs.Codes.{codes, full}
 use Rattle.sdd_rule.specs.Epoch.{HasPlace, EpochPart}
 use Rattle.sdd_rule.specs.Steps.{Steps}
-use Rattle.sdd_rule.specs.Ended.{AreEnded, AreQuiet, past, past_quiet, Bars, LooksForOwner}
+use Rattle.sdd_rule.specs.Ended.{AreEnded, AreQuiet, past, past_quiet, Bars, LooksForValue}
 use Rattle.sdd_rule.specs.Parts.{epoch_of, Parts}
 use Rattle.sdd_rule.proofs.Frame.{Each, each_set}
 use Rattle.sdd_rule.proofs.Codes.{sound}
@@ -55,22 +55,22 @@ none_quiet sizes ws vs epochs ended quiet id v at live j u e = let f = epochs.ea
     (λ l. let all = (quiet j u e 0 l).1 in let over = ended j u e v.epoch.place low (omega arith) in absurd (omega arith)) (λ none. omega arith)
 
 module _ (sizes : Sizes) (ws : List ℕ) (i y : ℕ) where
-  -- a step that stores y in the word i gives no slot an owner that has none
+  -- a step that stores y in the word i leaves a slot free that is free
   abbrev pub Hushes : Type 0
-  Hushes = (k : ℕ) → i ≡ slot_word sizes k → alive (get_or ws i 0) ≡ 0 → alive y ≡ 0
+  Hushes = (k : ℕ) → i ≡ slot_word sizes k → full (get_or ws i 0) ≡ 0 → full y ≡ 0
 
   pub one_hushed : (vs : List View) (j : ℕ) (v w : View) → get_elem? vs j ≡ some v → NoneQuiet vs ⊎ Hushes → w.places ≡ v.places → AreQuiet sizes ws v
       → AreQuiet sizes (set ws i y) w
   one_hushed vs j v w at hushes same old k low = let q = ap (λ (x : PlacesView). x.quiet) same in let e = ap (λ (x : PlacesView). x.ended) same in
       let was = old k (omega arith) in let word : ℕ = slot_word sizes k in (
         dite (ℕ_discrete word i)
-            (λ is. let here : alive (get_or ws i 0) ≡ 0 = ap (λ (d : ℕ). alive (get_or ws d 0)) (sym is) ∙ was.0 in
-            let silent : alive y ≡ 0 = ⊎_elim (λ (none : NoneQuiet vs). absurd (let z = none j v at in omega arith))
+            (λ is. let here : full (get_or ws i 0) ≡ 0 = ap (λ (d : ℕ). full (get_or ws d 0)) (sym is) ∙ was.0 in
+            let silent : full y ≡ 0 = ⊎_elim (λ (none : NoneQuiet vs). absurd (let z = none j v at in omega arith))
             (λ (hush : Hushes). hush k (sym is) here) hushes in
-            ap (λ (d : ℕ). alive (get_or (set ws i y) d 0)) is ∙ dite (dec_lt i (length ws))
-            (λ l. ap alive (get_or-set_same ws i y 0 l) ∙ silent)
-            (λ far. ap alive (get_or_past (set ws i y) i 0 (omega (arith, length-set ws i y))) ∙ sound.free.0))
-            (λ ne. ap alive (get_or-set_other ws i word y 0 ne) ∙ was.0),
+            ap (λ (d : ℕ). full (get_or (set ws i y) d 0)) is ∙ dite (dec_lt i (length ws))
+            (λ l. ap full (get_or-set_same ws i y 0 l) ∙ silent)
+            (λ far. ap full (get_or_past (set ws i y) i 0 (omega (arith, length-set ws i y))) ∙ sound.free.2))
+            (λ ne. ap full (get_or-set_other ws i word y 0 ne) ∙ was.0),
         (let all = was.1 in omega arith),
       )
 
@@ -107,9 +107,9 @@ module _ (sizes : Sizes) where
         λ q is. ((λ t. absurd (⊎_elim (λ (e : x ≡ 0). miss e) (λ (e : x ≡ 3). not_over e) t)), (λ _ _. refl)),
       )))
 
-  -- a look whether a slot has an owner changes no word
-  pub looks_for_owner : (id i : ℕ) (v : View) → Steps (Parts sizes) id v i (λ x. x) (LooksForOwner v)
-  looks_for_owner id i v ws vs k at small = let x : ℕ = get_or ws i 0 in
-      let here : Parts sizes (set ws i x) vs = subst (λ (l : List ℕ). Parts sizes l vs) (sym (set-get_or ws i 0)) k in dite (ℕ_discrete (alive x) 0)
+  -- a look whether a slot is free changes no word
+  pub looks_for_value : (id i : ℕ) (v : View) → Steps (Parts sizes) id v i (λ x. x) (LooksForValue v)
+  looks_for_value id i v ws vs k at small = let x : ℕ = get_or ws i 0 in
+      let here : Parts sizes (set ws i x) vs = subst (λ (l : List ℕ). Parts sizes l vs) (sym (set-get_or ws i 0)) k in dite (ℕ_discrete (full x) 0)
       (λ none. (past_quiet v, blind_places sizes (set ws i x) vs id v at here (past_quiet v).places, ((λ _. refl), (λ has. absurd (has none)))))
       (λ has. (v, subst (λ (l : List View). Parts sizes (set ws i x) l) (sym (set_again vs id v at)) here, ((λ none. absurd (has none)), (λ _. refl))))

@@ -2,7 +2,7 @@
 ghost use Rattle.std.specs.Prelude.{◌≡◌, ◌<◌, ℕ};
 ghost use Rattle.atomic_table.specs.Seated.{TableId, table_id_coded};
 ghost use Rattle.sdd_stakes.specs.Seats.{lots, OnlyLends};
-ghost use Rattle.sdd_stakes.specs.Shelf.{shelf_owns, shelf_shares, CanShow, Shows, IsFull, IsVacant, HasWhole, AreWhole, IsWhole, lot, most, showing, vacant, all_turned, AreVacant};
+ghost use Rattle.sdd_stakes.specs.Shelf.{shelf_owns, shelf_shares, CanShow, Shows, IsFull, IsVacant, HasWhole, AreWhole, showing, vacant, all_turned, AreVacant};
 
 use crate::clearing::Clearing;
 use crate::stake::Stake;
@@ -126,20 +126,6 @@ impl<T, F: Fits<T>> Shelf<T, F> {
         let _ = seat;
         let _ = table;
         let _ = count;
-        let p = self.ptr;
-        unsafe { p.add(at).read() }
-    }
-
-    /// Moves the value out of a full place, by a stake with all units of its number but the place's own, which shows then that it is vacant.
-    pub fn take_by(&self, at: usize, stake: &mut Stake) -> T
-        requires inside { at < self.now.size }
-        requires whole { IsWhole self.now.book at stake.old.lot }
-        requires full { IsFull stake.old.lot.shown }
-        ensures vacant { (round : ℕ) × (stake.new.lot ≡ lot self.now.book at round vacant most) }
-        ensures value { stake.old.lot.shown ≡ showing T.row result }
-        ensures fits { F.fits self.now.table self.now.book self.now.size result }
-    {
-        let _ = stake;
         let p = self.ptr;
         unsafe { p.add(at).read() }
     }

@@ -198,7 +198,7 @@ impl Share {
 
 /// The rights of several owners of a number, in one piece.
 ///
-/// It can be neither copied nor let go, only redeemed where it was granted.
+/// It can't be copied, but be redeemed where it was granted, or let go of for ever.
 pub struct Shares {
     pub(crate) number: u32,
     pub(crate) count: u64,
@@ -230,7 +230,7 @@ impl Shares {
 
 /// A right to a number that is out as raw: a cell of raw pointers has one. There is no owner of such a number.
 ///
-/// It can be neither copied nor let go, only redeemed where it was granted.
+/// It can't be copied, but be redeemed where it was granted, or let go of for ever.
 pub struct RawRight {
     pub(crate) number: u32,
     pub(crate) part: Part<Kind>,

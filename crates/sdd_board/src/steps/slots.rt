@@ -8,7 +8,7 @@ ghost use Rattle.sdd_rule.specs.Codes.{free_word, owned_word, waiting_word};
 ghost use Rattle.sdd_rule.specs.Epoch.{HasPlace, IsOpen};
 ghost use Rattle.sdd_rule.specs.Slots.{OwnsAlone, Holds};
 ghost use Rattle.sdd_rule.specs.SlotSteps.{IsDue, LooksAtSlot, TakesHold, LetsGo, LooksForGuard};
-ghost use Rattle.sdd_rule.specs.Ended.{LooksForOwner};
+ghost use Rattle.sdd_rule.specs.Ended.{LooksForValue};
 ghost use Rattle.sdd_rule.specs.Parts.{owner_of};
 ghost use Rattle.sdd_stakes.specs.Shelf.{IsVacant};
 ghost use Rattle.sdd_homes.specs.Homes.{Carries, Moves, Settles};
@@ -22,7 +22,7 @@ ghost use Rattle.sdd_board.specs.Token.{view, epoch, slots, Taught, Moved, Moved
 use crate::board::{Board, Token};
 use crate::plays::{
     Claim, Discard, GiveBack, Hold, House, HouseShared, LetGo, LookAtSlot, LookForGuard,
-    LookForOwner, Part, Recall, Retire, TakeHeld, TakeIn, TakeLast, TakeOut, Watch,
+    LookForValue, Part, Recall, Retire, TakeHeld, TakeIn, TakeLast, TakeOut, Watch,
 };
 use crate::words::state_word;
 use sdd_witness::{Witness, part, rejoin, step_alone, step_beside};
@@ -267,18 +267,18 @@ pub fn discard(board: &Board, token: &mut Token, slot: u32)
         .store::<Discard>(token, board.slot_word(slot), FREE);
 }
 
-/// Looks at the word of the next slot, by a token that knows that all places have ended. Where it has no owner then it never has one again.
-pub fn look_for_owner(board: &Board, token: &mut Token, slot: u32) -> u64
+/// Looks at the word of the next slot, by a token that knows that all places have ended. Where it is free then it stays so.
+pub fn look_for_value(board: &Board, token: &mut Token, slot: u32) -> u64
     requires home { token.old.table_id ≡ id_of board.now }
     requires inside { slot < slots_of board.now }
     requires ended { places_of board.now ≤ (view token.old).places.ended }
     requires next { slot ≡ (view token.old).places.quiet }
-    ensures { Taught LooksForOwner token.old result token.new }
+    ensures { Taught LooksForValue token.old result token.new }
 {
     board
         .table
         .shared
-        .load::<LookForOwner>(token, board.slot_word(slot))
+        .load::<LookForValue>(token, board.slot_word(slot))
 }
 
 /// Cuts the only owner that the participant has off, as a token of its own. No word is touched.

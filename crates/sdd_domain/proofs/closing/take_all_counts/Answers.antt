@@ -1,4 +1,4 @@
-use Rattle.std.proofs.Common.{◌≡◌, List, [], ◌∷◌, ◌++◌, All, sym, ap, ◌∙◌, subst, append_assoc}
+use Rattle.std.proofs.Common.{◌≡◌, false, List, [], ◌∷◌, ◌++◌, All, sym, ap, ◌∙◌, subst, append_assoc}
 use Rattle.sdd_rule.specs.declared.View.{View}
 use Rattle.sdd_board.specs.Board.{id_of}
 use Rattle.sdd_domain.specs.Receipt.{Receipt, HasTaken}
@@ -6,12 +6,13 @@ use Rattle.sdd_domain.proofs.Tallies.{front_all, one_taken}
 use Rattle.sdd_domain.proofs.closing.take_all_counts.Goals as goal
 
 pub loop-receipt-preserved : goal.loop-receipt-preserved
-loop-receipt-preserved c = let inv = c.loop-receipt.invariant in let left = c.into_counts.ensures.counts in let took = c.take_counts.ensures left.0 left.1 in
+loop-receipt-preserved g c = let inv = c.loop-receipt.invariant in let left = c.into_counts.ensures.counts in let took = c.take_counts.ensures left.0 left.1 in
     let r : Receipt = c.in-Some.receipt in let done : List Receipt = inv.taken.0 in let rest : List Receipt = c.pop.new.self.items in
-    let of_domain : Receipt → Type 0 = λ r. r.home ≡ id_of c.args.board.now in
+    let of_domain : Receipt → Type 0 = λ r. r.home.tables ≡ id_of c.args.board.now ∷ [] in let is_over : Receipt → Type 0 = λ r. r.waits ≡ false in
     let items : c.loop-receipt.receipts.items ≡ rest ++ r ∷ [] = c.in-Some.ensures.items in record {
       home = took.0 ∙ inv.home;
       homes = front_all of_domain rest (r ∷ []) (subst (All of_domain) items inv.homes);
+      over = front_all is_over rest (r ∷ []) (subst (All is_over) items inv.over);
       places = ap (λ (v : View). v.places) took.3 ∙ inv.places;
       taken = (
         r ∷ done,

@@ -1,16 +1,17 @@
-use Rattle.std.proofs.Common.{◌≡◌, List, ◌++◌, All}
+use Rattle.std.proofs.Common.{◌≡◌, false, List, [], ◌∷◌, ◌++◌, All}
 use Rattle.sdd_board.specs.Board.{id_of}
 use Rattle.sdd_domain.specs.Receipt.{Receipt, HasTaken}
 use Rattle.sdd_domain.proofs.closing.take_all_counts.Given as goal
 
 -- the receipts that are left, and those that were taken
 abbrev pub invariant-loop-receipt : goal.invariant-loop-receipt
-invariant-loop-receipt l = record {
+invariant-loop-receipt g l = record {
   home : l.token.table_id ≡ id_of l.board;
-  homes : All (λ (r : Receipt). r.home ≡ id_of l.board) l.receipts.items;
+  homes : All (λ (r : Receipt). r.home.tables ≡ id_of l.board ∷ []) l.receipts.items;
+  over : All (λ (r : Receipt). r.waits ≡ false) l.receipts.items;
   places : l.token.me.0.places ≡ l.fn.token.me.0.places;
   taken : (done : List Receipt) × (l.fn.receipts.items ≡ l.receipts.items ++ done) × HasTaken done l.token.me.0.stakes.counts;
 }
 
 abbrev pub decreases-loop-receipt : goal.decreases-loop-receipt
-decreases-loop-receipt l = goal.left-loop-receipt l
+decreases-loop-receipt g l = goal.left-loop-receipt g l

@@ -3,4 +3,4 @@ use Rattle.sdd_domain.specs.Receipt.{sum_of}
 use Rattle.sdd_domain.proofs.domain.tally_of.Given as goal
 
 abbrev pub invariant-loop-receipt : goal.invariant-loop-receipt
-invariant-loop-receipt l = l.sum ≡ sum_of (take l.receipt-index l.receipts.items)
+invariant-loop-receipt g l = l.sum ≡ sum_of (take l.receipt-index l.receipts.items)

@@ -7,7 +7,7 @@ use Rattle.sdd_rule.specs.Codes.{alive}
 use Rattle.sdd_rule.specs.Slots.{slot_at}
 use Rattle.sdd_homes.specs.Homes.{stake_at, homes_for, IsShown}
 use Rattle.sdd_homes.proofs.Places.{inside}
-use Rattle.sdd_homes.proofs.Laid.{next_stake, next_slot, found, one_joined, unit_of, rest_of}
+use Rattle.sdd_homes.proofs.Laid.{next_stake, next_slot, found, one_joined, unit_of, rest_of, free_unowned}
 use Rattle.sdd_homes.proofs.gather.gather_home.Goals as goal
 
 pub take_last_home-whole-requires-clause-some : goal.take_last_home-whole-requires-clause-some
@@ -20,13 +20,13 @@ loop-place-init g c = let γ : ℕ = c.args.title.now.book in let z = c.args.siz
     let e = next_slot n i (i + 1) (n - 0) refl (omega arith) in let left : t.new.left ≡ stake_at n i (n - 0) = omega arith in
     let words = t.ensures.same.0 in
     let Is : ℕ → Gv → Type 0 = λ j. IsShown (slot_at z (slots_items c.args.closed.now.words) j) in
-    let own : ℕ → ℕ = λ j. alive (slot_at z (slots_items c.args.closed.now.words) j) in let quiet = c.requires.quiet in
+    let own : ℕ → ℕ = λ j. alive (slot_at z (slots_items c.args.closed.now.words) j) in let none : own i ≡ 0 = free_unowned _ c.requires.free in
     let has = found γ n own Is i (n - 0) (homes_for n z.slots) t.new.left (slots_items c.args.closed.now.slots) t.result (omega arith)
     (inside n z.slots i (n - 0) c.requires.inside (omega arith)) left t.ensures.stake c.requires.home.laid in record {
       home = t.ensures.home;
       left = left;
       whole = rest_of γ i n (own i) (Is i) (n - 0) (most - n + 0) t.result (omega arith) (omega arith) has;
-      shown = subst (λ (w : _). IsShown (slot_at z (slots_items w) i) t.result.lot.shown) (sym words) has.1;
+      vacant = has.1.1 c.requires.free;
       words = words;
     }
 
@@ -81,7 +81,6 @@ loop-place-preserved g c = let γ : ℕ = c.args.title.now.book in let z = c.arg
       left = left;
       whole = one_joined γ i n c.loop-place.whole.lot t.result.lot c.join.new.self.lot (most - n + p) (most - n + (p + 1)) (omega arith) inv.whole unit
           c.join.ensures.joined;
-      shown = subst (λ (t : _ × Gv). IsShown (slot_at z (slots_items t.0) i) t.1)
-          (λ d. (sym words d, sym (ap (λ (h : Lot). h.shown) c.join.ensures.joined) d)) inv.shown;
+      vacant = ap (λ (h : Lot). h.shown) c.join.ensures.joined ∙ inv.vacant;
       words = words ∙ inv.words;
     }

@@ -1,6 +1,6 @@
 use Rattle.sdd_board.specs.Board.{book_of, sizes_of}
 use Rattle.std.proofs.Common.{ℕ, List, ◌+◌, sym, ap, ◌∙◌}
-use Rattle.sdd_rule.specs.Codes.{alive}
+use Rattle.sdd_rule.specs.Codes.{full}
 use Rattle.sdd_rule.specs.Slots.{slot_at}
 use Rattle.sdd_homes.specs.Counts.{gone_by, full_slots}
 use Rattle.sdd_homes.proofs.Tokens.{few_over, all_counted}
@@ -22,4 +22,4 @@ returns-clause-counted c all = let fin = c.close_with.ensures.values.2 in let v 
 
 pub returns-clause-quiet : goal.returns-clause-quiet
 returns-clause-quiet c i low = let fin = c.close_with.ensures.values.2 in let z = sizes_of c.args.self in
-    ap (λ (ws : List ℕ). alive (slot_at z ws i)) (sym fin.2) ∙ (fin.1.0.kept.places.quiet c.args.token.id c.args.token.me.0 fin.1.1 i low).0
+    ap (λ (ws : List ℕ). full (slot_at z ws i)) (sym fin.2) ∙ (fin.1.0.kept.places.quiet c.args.token.id c.args.token.me.0 fin.1.1 i low).0

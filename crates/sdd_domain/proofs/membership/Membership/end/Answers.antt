@@ -1,17 +1,10 @@
-use Rattle.std.proofs.Common.{sym, ap, subst, arith}
+use Rattle.std.proofs.Common.{sym, ap, subst}
 use Rattle.sdd_rule.specs.declared.CountsView.{CountsView}
 use Rattle.sdd_rule.specs.declared.View.{View}
 use Rattle.sdd_domain.specs.Receipt.{IsTallied}
 use Rattle.sdd_domain.proofs.Tallies.{tallied_ended}
 use Rattle.sdd_domain.proofs.membership.Membership.end.Goals as goal
 
-pub cut_counts-requires-clause-over : goal.cut_counts-requires-clause-over
-cut_counts-requires-clause-over g c = let e = ap (λ (v : View). v.stakes.counts.over) c.end.ensures.3 in omega arith
-
 pub new-requires : goal.new-requires
-new-requires g c = let l = c.self.inside in (
-  c.end.new.token.me.0.stakes.counts,
-  c.cut_counts.ensures.counts,
-  subst (λ (k : CountsView). IsTallied 1 l.tally k) (sym (ap (λ (v : View). v.stakes.counts) c.end.ensures.3))
-      (tallied_ended l.tally l.token.me.0.stakes.counts c.self.invariant.5),
-)
+new-requires g c = let l = c.self.inside in subst (λ (k : CountsView). IsTallied 1 l.tally k)
+    (sym (ap (λ (v : View). v.stakes.counts) c.end.ensures.3)) (tallied_ended l.tally l.token.me.0.stakes.counts c.self.invariant.5)

@@ -1,6 +1,6 @@
 use Rattle.std.proofs.Common.{◌≡◌}
 use Rattle.sdd_board.specs.Board.{id_of}
-use Rattle.sdd_domain.proofs.closing.are_unowned.Given as goal
+use Rattle.sdd_domain.proofs.closing.are_free.Given as goal
 
 abbrev pub invariant-loop-slot : goal.invariant-loop-slot
 invariant-loop-slot l = record {

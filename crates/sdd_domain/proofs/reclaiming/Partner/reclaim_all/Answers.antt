@@ -1,18 +1,21 @@
-use Rattle.std.proofs.Common.{◌≡◌, [], None, Some, slice_index_or, sym, refl, ap, ◌∙◌, subst, arith}
+use Rattle.std.proofs.Common.{◌≡◌, List, [], None, Some, length, slice_index_or, sym, refl, ap, ◌∙◌, subst, arith}
 use Rattle.sdd_store.specs.declared.time.Participant.{Participant}
+use Rattle.sdd_store.specs.declared.waiting.What.{What}
 use Rattle.sdd_store.specs.Tally.{no_items}
 use Rattle.sdd_base.specs.Known.{Known, KnowsOn}
 use Rattle.sdd_base.specs.Own.{HasGrown}
 use Rattle.sdd_base.specs.Steps.{given_all, all_reclaimed}
 use Rattle.sdd_domain.specs.Local.{Partaker, world_of}
 use Rattle.sdd_domain.specs.Member.{Member, IsLone}
+use Rattle.sdd_domain.specs.Receipt.{with_reclaimed}
 use Rattle.sdd_domain.specs.Reclaiming.{rest_of}
 use Rattle.sdd_domain.specs.Space.{known_of}
 use Rattle.sdd_domain.specs.Tied.{Entries}
 use Rattle.sdd_domain.proofs.Giving.{knows_more}
 use Rattle.sdd_domain.proofs.Going.{tied_then, reclaims_on}
 use Rattle.sdd_domain.proofs.Sound.{lone_true}
-use Rattle.sdd_domain.proofs.reclaiming.Partner.reclaim_due.Goals as goal
+use Rattle.sdd_domain.proofs.Tallies.{one_first}
+use Rattle.sdd_domain.proofs.reclaiming.Partner.reclaim_all.Goals as goal
 
 pub invariant_of-self : goal.invariant_of-self
 invariant_of-self g c one = let v : Partaker g.row.T.Denot = c.self-in-loop-value.view_is 0 in let m : Member = c.reclaim_next.new.self in
@@ -47,6 +50,11 @@ loop-value-preserved g c = let T : Type 0 = g.row.T.Denot in let holds = g.T.Ite
       none = λ empty. absurd (let gone : [] ≡ _ = sym (ap (λ (z : Partaker g.row.T.Denot). z.member.due) is ∙ (inv.none empty).1) ∙ did.1.first in cc);
       known = knows_more _ (known_of q) (known_of w) inv.known (subst (λ (k : Known). KnowsOn k (known_of w)) (sym known) give.known);
       rest = rest ∙ inv.rest;
+      reclaimed = (λ d. with_reclaimed (length (give.kept d).member.due) (give.kept d).member.tally)
+          ∙ (ap (λ (y : Member). with_reclaimed (length m.due) y.tally) did.1.member
+          ∙ (one_first (length m.due) v.member.tally
+          ∙ (ap (λ (l : List What). with_reclaimed (length l) v.member.tally) (sym did.1.first)
+          ∙ (ap (λ (z : Partaker g.row.T.Denot). with_reclaimed (length z.member.due) z.member.tally) is ∙ inv.reclaimed))));
       exact = λ lone. let here : IsLone v.member = ap (λ (z : Partaker g.row.T.Denot). z.member.limits.participants) (ap rest_of is ∙ inv.rest) ∙ lone in
           let there : IsLone m = ap (λ (y : Member). y.limits.participants) did.1.member ∙ here in
           let kept = ap (λ (z : Partaker g.row.T.Denot). z.member) give.kept in
@@ -65,3 +73,8 @@ returns-clause-own g c = λ start grown. let same = c.in_default.ensures.reclaim
     subst (λ (o : Participant). HasGrown start o)
     (sym (ap (λ (y : Member). y.own) same ∙ ap (λ (z : Partaker g.row.T.Denot). z.member.own) c.self-in-loop-value.view_is))
     (c.loop-value.invariant.own start grown)
+
+pub returns-clause-reclaimed : goal.returns-clause-reclaimed
+returns-clause-reclaimed g c = let v : Partaker g.row.T.Denot = c.self-in-loop-value.view_is 0 in let same = c.in_default.ensures.reclaimed in
+    ap (λ (y : Member). y.tally) same.1 ∙ (ap (λ (l : List What). with_reclaimed (length l) v.member.tally) (sym same.0)
+    ∙ (ap (λ (z : Partaker g.row.T.Denot). with_reclaimed (length z.member.due) z.member.tally) c.self-in-loop-value.view_is ∙ c.loop-value.invariant.reclaimed))

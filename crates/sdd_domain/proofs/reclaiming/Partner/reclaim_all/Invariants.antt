@@ -4,9 +4,10 @@ use Rattle.sdd_base.specs.Own.{GrowsOn}
 use Rattle.sdd_base.specs.Steps.{all_reclaimed}
 use Rattle.sdd_domain.specs.Local.{world_of}
 use Rattle.sdd_domain.specs.Member.{IsLone}
+use Rattle.sdd_domain.specs.Receipt.{with_reclaimed}
 use Rattle.sdd_domain.specs.Reclaiming.{rest_of}
 use Rattle.sdd_domain.specs.Space.{known_of}
-use Rattle.sdd_domain.proofs.reclaiming.Partner.reclaim_due.Given as goal
+use Rattle.sdd_domain.proofs.reclaiming.Partner.reclaim_all.Given as goal
 
 -- to reclaim what is left is to reclaim all
 abbrev pub invariant-loop-value : goal.invariant-loop-value
@@ -15,6 +16,7 @@ invariant-loop-value g l = record {
   none : l.fn.self.member.due ≡ [] → (l.self.member.own ≡ l.fn.self.member.own) × (l.self.member.due ≡ []);
   known : KnowsOn (known_of l.fn.self) (known_of l.self);
   rest : rest_of l.self ≡ rest_of l.fn.self;
+  reclaimed : with_reclaimed (length l.self.member.due) l.self.member.tally ≡ with_reclaimed (length l.fn.self.member.due) l.fn.self.member.tally;
   exact : IsLone l.fn.self.member → all_reclaimed g.T.Item.holds (world_of l.self) l.self.member.place l.self.member.due
       ≡ all_reclaimed g.T.Item.holds (world_of l.fn.self) l.fn.self.member.place l.fn.self.member.due;
 }

@@ -1,0 +1,56 @@
+//! A participant reclaims what waits with it, where nobody else takes part any more.
+ghost use Rattle.std.specs.Prelude.{◌≡◌, ◌-◌, ◌≤◌, [], length};
+ghost use Rattle.sdd_store.specs.Time.{due_next};
+ghost use Rattle.sdd_domain.specs.Member.{IsGuarded};
+ghost use Rattle.sdd_domain.specs.Receipt.{with_reclaimed};
+ghost use Rattle.sdd_domain.specs.Space.{slots_home};
+
+use crate::reclaiming::Partner;
+use sdd_base::Item;
+
+impl<T: Item<T>> Partner<'_, T> {
+    /// Opens an accelerated guard and closes it. How many items were reclaimed, and whether the opening was a change.
+    fn turn_over(&mut self) -> (usize, bool)
+        requires shut { ¬ (IsGuarded self.old.member) }
+        requires settled { self.old.member.due ≡ [] }
+        ensures shut { ¬ (IsGuarded self.new.member) }
+        ensures settled { self.new.member.due ≡ [] }
+        ensures home { slots_home self.new ≡ slots_home self.old }
+        ensures few { result.0 ≤ length (due_next self.old.member.own) }
+        ensures reclaimed { self.new.member.tally ≡ with_reclaimed result.0 self.old.member.tally }
+    {
+        let (guard, is_change) = self.membership.enter();
+        let items = self.membership.now_due();
+        if is_change {
+            self.change();
+        }
+        self.membership.accelerate();
+        self.membership.close_guard(guard);
+        (items, is_change)
+    }
+
+    /// Reclaims what waits, and what that gives up, as many items as are left at most. It stops where the count of epochs doesn't rise.
+    ///
+    /// An item is due after three changes, and what its value holds waits from then on: so four turns for each slot, and four more, are enough.
+    pub fn drain(&mut self, left: &mut usize)
+        requires shut { ¬ (IsGuarded self.old.member) }
+        requires settled { self.old.member.due ≡ [] }
+        ensures shut { ¬ (IsGuarded self.new.member) }
+        ensures settled { self.new.member.due ≡ [] }
+        ensures home { slots_home self.new ≡ slots_home self.old }
+        ensures few { left.new ≤ left.old }
+        ensures reclaimed { self.new.member.tally ≡ with_reclaimed (left.old - left.new) self.old.member.tally }
+    {
+        let slots = self.membership.domain().limits.slots as usize;
+        for turn in 0..4 * (slots + 1) {
+            if !self.membership.waits() || self.membership.next_due() > *left {
+                return;
+            }
+            let (items, is_change) = self.turn_over();
+            *left -= items;
+            if turn > 0 && !is_change {
+                return;
+            }
+        }
+    }
+}
