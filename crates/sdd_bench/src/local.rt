@@ -1,14 +1,16 @@
 //! The operations by a participant of a domain.
-ghost use Rattle.std.specs.Prelude.{◌≡◌, Err};
+ghost use Rattle.std.specs.Prelude.{◌≡◌, [], ◌∷◌, ◌++◌, All, Err, is_ok, if◌then◌else◌};
 ghost use Rattle.sdd_base.specs.Limits.{AreInRange};
 ghost use Rattle.sdd_base.specs.Seat.{IsSeated};
+ghost use Rattle.sdd_domain.specs.Domain.{slots_in};
+ghost use Rattle.sdd_domain.specs.Receipt.{Receipt as Ended};
 ghost use Rattle.sdd_domain.specs.Space.{seat_of};
 
 use crate::operation::Task;
 use crate::turns;
 use sdd_base::{Limits, Owned};
 use sdd_core::Refused;
-use sdd_domain::{Domain, Local};
+use sdd_domain::{Domain, Local, Receipt};
 use sdd_store::Tally;
 use std::alloc::Global;
 
@@ -28,9 +30,10 @@ pub fn run(
     ensures limits { ¬ (AreInRange limits) → result ≡ Err Refused.BadLimits }
 {
     let domain: Domain<u64> = Domain::new(alloc, limits)?;
-    let done = in_domain(&domain, beside, task, turns);
-    match domain.close(Vec::new(alloc)) {
-        Ok(_nobody) => done,
+    let mut receipts = Vec::new(alloc);
+    let done = in_domain(&domain, &mut receipts, beside, task, turns);
+    match domain.close(receipts) {
+        Ok(_all) => done,
         Err((domain, _receipts, refused)) => {
             domain.leak();
             Err(refused)
@@ -40,27 +43,54 @@ pub fn run(
 
 fn in_domain(
     domain: &Domain<u64>,
+    receipts: &mut Vec<Receipt<u64>>,
     beside: bool,
     task: Task,
     turns: u64,
-) -> Result<(Tally, u64), Refused> {
+) -> Result<(Tally, u64), Refused>
+    requires { All (λ (r : Ended). r.home ≡ slots_in domain.now) receipts.old.items }
+    ensures { All (λ (r : Ended). r.home ≡ slots_in domain.now) receipts.new.items }
+{
     if !beside {
-        return by_one(domain, task, turns);
+        return by_one(domain, receipts, task, turns);
     }
     let idle = Local::register(domain)?;
-    let done = by_one(domain, task, turns);
+    let done = by_one(domain, receipts, task, turns);
     match idle.end() {
-        Ok(_receipt) => done,
+        Ok(receipt) => keep(receipts, receipt)?,
+        Err(_) => unreachable!(),
+    }
+    done
+}
+
+fn by_one(
+    domain: &Domain<u64>,
+    receipts: &mut Vec<Receipt<u64>>,
+    task: Task,
+    turns: u64,
+) -> Result<(Tally, u64), Refused>
+    requires { All (λ (r : Ended). r.home ≡ slots_in domain.now) receipts.old.items }
+    ensures { All (λ (r : Ended). r.home ≡ slots_in domain.now) receipts.new.items }
+{
+    let mut local = Local::register(domain)?;
+    let done = worked(&mut local, task, turns);
+    match local.end() {
+        Ok(receipt) => {
+            let tally = receipt.tally();
+            keep(receipts, receipt)?;
+            Ok((tally, done?))
+        }
         Err(_) => unreachable!(),
     }
 }
 
-fn by_one(domain: &Domain<u64>, task: Task, turns: u64) -> Result<(Tally, u64), Refused> {
-    let mut local = Local::register(domain)?;
-    let done = worked(&mut local, task, turns);
-    match local.end() {
-        Ok(receipt) => Ok((receipt.tally(), done?)),
-        Err(_) => unreachable!(),
+/// One receipt more for the close.
+fn keep(receipts: &mut Vec<Receipt<u64>>, receipt: Receipt<u64>) -> Result<(), Refused>
+    ensures { receipts.new.items ≡ (if is_ok result then receipts.old.items ++ receipt ∷ [] else receipts.old.items) }
+{
+    match receipts.push(receipt) {
+        Ok(()) => Ok(()),
+        Err(_) => Err(Refused::NoMemory),
     }
 }
 

@@ -2,7 +2,8 @@
 ghost use Rattle.std.specs.Prelude.{◌≡◌};
 ghost use Rattle.sdd_base.specs.Seat.{IsSeated};
 ghost use Rattle.sdd_domain.specs.Space.{seat_of, slots_home};
-ghost use Rattle.sdd_domain_rows.specs.Slots.{slots_in, IsReceiptIn, AreReceiptsIn};
+ghost use Rattle.sdd_domain.specs.Domain.{slots_in};
+ghost use Rattle.sdd_domain_rows.specs.Slots.{IsReceiptIn, AreReceiptsIn};
 
 use crate::steps::{close, closed, ended, is_tally, new_domain, opened, registered};
 use sdd_base::{Guard, Limits};
@@ -89,14 +90,14 @@ fn refusal(rt: &impl Abort, domain: &Domain<u64>) -> Refused {
 }
 
 /// The domain closes, in which nothing was made.
-fn closed_unused(rt: &impl Abort, domain: Domain<u64>, receipts: Vec<Receipt>)
+fn closed_unused(rt: &impl Abort, domain: Domain<u64>, receipts: Vec<Receipt<u64>>)
     requires { AreReceiptsIn (slots_in domain) receipts.items }
 {
     is_tally(rt, closed(rt, domain, receipts), 0, 0);
 }
 
 /// What a thread does: it registers, runs twenty accelerated guards, and ends.
-fn takes_part(rt: &impl Abort, domain: &Domain<u64>) -> Receipt
+fn takes_part(rt: &impl Abort, domain: &Domain<u64>) -> Receipt<u64>
     ensures { IsReceiptIn (slots_in domain.now) result }
 {
     let mut local = registered(rt, domain);

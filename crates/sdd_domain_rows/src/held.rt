@@ -8,7 +8,7 @@ ghost use Rattle.sdd_domain_rows.specs.Held.{holdings_of};
 
 use crate::node::Node;
 use crate::steps::{
-    ONE_SLOT, close_and_scan, closed, ended, is_tally, new_domain, not_closed, opened, registered,
+    ONE_SLOT, add, close_and_scan, closed, ended, is_tally, new_domain, not_closed, opened, registered,
     turn, turns,
 };
 use sdd_base::{Limits, Owned};
@@ -123,15 +123,70 @@ fn another_participant_retires_what_a_value_held(rt: HostRuntime) {
     is_tally(&rt, closed(&rt, domain, receipts), 3, 3);
 }
 
-/// As long as a value waits that holds an owner, its domain isn't closed.
+/// The close of a domain reclaims what waits, and what that gives up then, one after another.
 #[test]
-fn an_owner_in_a_value_that_waits_is_out(rt: HostRuntime) {
+fn the_close_reclaims_what_a_value_held(rt: HostRuntime) {
     let domain = new_domain::<Node>(&rt, THREE_SLOTS);
     let mut local = registered(&rt, &domain);
     let owner = three(&rt, &mut local);
     owner.retire(&mut local);
     turn(&rt, &mut local);
     let receipts = vec![in rt.alloc(); ended(&rt, local)].expect(&rt, "there is memory");
-    let (domain, _receipts) = not_closed(&rt, domain, receipts);
+    is_tally(&rt, closed(&rt, domain, receipts), 3, 3);
+}
+
+/// What waits with one participant may hold the owner of what another one made.
+#[test]
+fn the_close_reclaims_what_waits_with_each_participant(rt: HostRuntime) {
+    let domain = new_domain::<Node>(&rt, TWO_AND_THREE_SLOTS);
+    let mut maker = registered(&rt, &domain);
+    let mut other = registered(&rt, &domain);
+    let last = made(&rt, &mut maker, Node::Last(3));
+    let before = made(&rt, &mut other, Node::Before(2, last));
+    let alone = made(&rt, &mut maker, Node::Last(1));
+    alone.retire(&mut maker);
+    before.retire(&mut other);
+    let mut receipts = vec![in rt.alloc(); ended(&rt, maker)].expect(&rt, "there is memory");
+    receipts
+        .push(ended(&rt, other))
+        .expect(&rt, "there is memory");
+    is_tally(&rt, closed(&rt, domain, receipts), 3, 3);
+}
+
+/// A close that is refused has reclaimed what waited, and nothing that an owner has. Once that has gone the domain is closed.
+#[test]
+fn a_refused_close_reclaims_what_waits(rt: HostRuntime) {
+    let domain = new_domain::<Node>(&rt, TWO_AND_THREE_SLOTS);
+    let mut local = registered(&rt, &domain);
+    let kept = made(&rt, &mut local, Node::Last(3));
+    let last = made(&rt, &mut local, Node::Last(2));
+    let before = made(&rt, &mut local, Node::Before(1, last));
+    before.retire(&mut local);
+    let receipt = ended(&rt, local);
+    is_tally(&rt, receipt.tally(), 3, 0);
+    assert!(rt; receipt.waits());
+    let receipts = vec![in rt.alloc(); receipt].expect(&rt, "there is memory");
+    let (domain, mut receipts) = not_closed(&rt, domain, receipts);
+    for receipt in &receipts {
+        is_tally(&rt, receipt.tally(), 3, 2);
+        assert!(rt; !receipt.waits());
+    }
+    assert_eq!(rt; receipts.len(), 1);
+    assert_eq!(rt; number_of(kept.get(&domain)), 3);
+    let mut other = registered(&rt, &domain);
+    kept.retire(&mut other);
+    add(&rt, &domain, &mut receipts, ended(&rt, other));
+    is_tally(&rt, closed(&rt, domain, receipts), 3, 3);
+}
+
+/// Whose receipt is gone with which items wait, takes part for ever.
+#[test]
+fn a_domain_is_not_closed_without_a_receipt_with_which_items_wait(rt: HostRuntime) {
+    let domain = new_domain::<Node>(&rt, THREE_SLOTS);
+    let mut local = registered(&rt, &domain);
+    let owner = made(&rt, &mut local, Node::Last(1));
+    owner.retire(&mut local);
+    assert!(rt; ended(&rt, local).waits());
+    let (domain, _receipts) = not_closed(&rt, domain, Vec::new(rt.alloc()));
     domain.leak();
 }

@@ -4,7 +4,7 @@ ghost use Rattle.sdd_base.specs.Seat.{IsSeated};
 ghost use Rattle.sdd_domain.specs.Space.{seat_of};
 
 use crate::steps::{
-    TWO_AND_ONE_SLOT, close, close_and_scan, closed, ended, has, has_no_slot, is_tally, made,
+    TWO_AND_ONE_SLOT, add, close, close_and_scan, closed, ended, has, has_no_slot, is_tally, made,
     new_domain, not_closed, opened, registered, retire, shows, turn, turns,
 };
 use sdd_domain::Local;
@@ -150,8 +150,6 @@ fn a_domain_is_not_closed_while_an_item_has_an_owner(rt: HostRuntime) {
     assert_eq!(rt; receipts.len(), 1);
     let mut other = registered(&rt, &domain);
     retire(owner, &mut other);
-    receipts
-        .push(ended(&rt, other))
-        .expect(&rt, "there is memory");
+    add(&rt, &domain, &mut receipts, ended(&rt, other));
     is_tally(&rt, closed(&rt, domain, receipts), 1, 1);
 }

@@ -5,7 +5,8 @@ ghost use Rattle.sdd_base.specs.Guard.{reader_of};
 ghost use Rattle.sdd_base.specs.Owned as owned;
 ghost use Rattle.sdd_domain.specs.Space.{seat_of, slots_home};
 ghost use Rattle.sdd_domain.specs.Receipt.{AddsUp};
-ghost use Rattle.sdd_domain_rows.specs.Slots.{slots_in, IsReceiptIn, AreReceiptsIn, AreOfAll};
+ghost use Rattle.sdd_domain.specs.Domain.{slots_in};
+ghost use Rattle.sdd_domain_rows.specs.Slots.{IsReceiptIn, AreReceiptsIn, AreOfAll};
 
 use sdd_base::{Guard, Item, Limits, Owned};
 use sdd_core::Refused;
@@ -40,7 +41,7 @@ pub fn registered<'d, T: Item<T>>(rt: &impl Abort, domain: &'d Domain<T>) -> Loc
     Local::register(domain).expect(rt, "a place is free")
 }
 
-pub fn ended<T: Item<T>>(rt: &impl Abort, local: Local<'_, T>) -> Receipt
+pub fn ended<T: Item<T>>(rt: &impl Abort, local: Local<'_, T>) -> Receipt<T>
     ensures { IsReceiptIn (slots_home local.entry) result }
 {
     match local.end() {
@@ -52,17 +53,17 @@ pub fn ended<T: Item<T>>(rt: &impl Abort, local: Local<'_, T>) -> Receipt
 /// Each close of these tests is this one.
 fn close_of<T: Item<T>>(
     domain: Domain<T>,
-    receipts: Vec<Receipt>,
-) -> Result<Tally, (Domain<T>, Vec<Receipt>, Refused)>
+    receipts: Vec<Receipt<T>>,
+) -> Result<Tally, (Domain<T>, Vec<Receipt<T>>, Refused)>
     requires { AreReceiptsIn (slots_in domain) receipts.items }
-    ensures back { IfErr result (λ back. (back.0 ≡ domain) × (back.1 ≡ receipts)) }
+    ensures back { IfErr result (λ back. (back.0 ≡ domain) × AreReceiptsIn (slots_in domain) back.1.items) }
     ensures whole { IfOk result (λ tally. AreOfAll domain receipts.items → AddsUp tally) }
 {
     domain.close(receipts)
 }
 
 /// The tally of the whole domain. It adds up where there is a receipt for each place.
-pub fn closed<T: Item<T>>(rt: &impl Abort, domain: Domain<T>, receipts: Vec<Receipt>) -> Tally
+pub fn closed<T: Item<T>>(rt: &impl Abort, domain: Domain<T>, receipts: Vec<Receipt<T>>) -> Tally
     requires { AreReceiptsIn (slots_in domain) receipts.items }
     ensures { AreOfAll domain receipts.items → AddsUp result }
 {
@@ -72,22 +73,52 @@ pub fn closed<T: Item<T>>(rt: &impl Abort, domain: Domain<T>, receipts: Vec<Rece
     }
 }
 
-/// The same domain and as many receipts come back, since an item has an owner.
+/// The same domain comes back, and receipts of it, since something is out.
 pub fn not_closed<T: Item<T>>(
     rt: &impl Abort,
     domain: Domain<T>,
-    receipts: Vec<Receipt>,
-) -> (Domain<T>, Vec<Receipt>)
+    receipts: Vec<Receipt<T>>,
+) -> (Domain<T>, Vec<Receipt<T>>)
     requires { AreReceiptsIn (slots_in domain) receipts.items }
-    ensures { (result.0 ≡ domain) × (result.1 ≡ receipts) }
+    ensures { (result.0 ≡ domain) × AreReceiptsIn (slots_in domain) result.1.items }
 {
     match close_of(domain, receipts) {
-        Ok(_tally) => panic!(rt; "an item has an owner"),
+        Ok(_tally) => panic!(rt; "something is out"),
         Err((domain, receipts, refused)) => {
             assert!(rt; refused == Refused::OwnerOut);
             (domain, receipts)
         }
     }
+}
+
+/// One receipt more, of the same domain.
+pub fn add<T: Item<T>>(
+    rt: &impl Abort,
+    domain: &Domain<T>,
+    receipts: &mut Vec<Receipt<T>>,
+    receipt: Receipt<T>,
+)
+    requires all { AreReceiptsIn (slots_in domain.now) receipts.old.items }
+    requires one { IsReceiptIn (slots_in domain.now) receipt }
+    ensures { AreReceiptsIn (slots_in domain.now) receipts.new.items }
+{
+    let _ = domain;
+    receipts.push(receipt).expect(rt, "there is memory");
+}
+
+/// The receipts of both, of the same domain.
+pub fn add_all<T: Item<T>>(
+    rt: &impl Abort,
+    domain: &Domain<T>,
+    receipts: &mut Vec<Receipt<T>>,
+    mut others: Vec<Receipt<T>>,
+)
+    requires all { AreReceiptsIn (slots_in domain.now) receipts.old.items }
+    requires others { AreReceiptsIn (slots_in domain.now) others.items }
+    ensures { AreReceiptsIn (slots_in domain.now) receipts.new.items }
+{
+    let _ = domain;
+    receipts.append(&mut others).expect(rt, "there is memory");
 }
 
 /// So many were made and reclaimed, and none was dropped in place.

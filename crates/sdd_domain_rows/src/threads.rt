@@ -3,10 +3,11 @@ ghost use Rattle.std.specs.Prelude.{◌≡◌};
 ghost use Rattle.sdd_base.specs.Seat.{IsSeated};
 ghost use Rattle.sdd_base.specs.Owned as owned;
 ghost use Rattle.sdd_domain.specs.Space.{seat_of, slots_home};
-ghost use Rattle.sdd_domain_rows.specs.Slots.{slots_in, IsReceiptIn};
+ghost use Rattle.sdd_domain.specs.Domain.{slots_in};
+ghost use Rattle.sdd_domain_rows.specs.Slots.{IsReceiptIn, AreReceiptsIn};
 
 use crate::steps::{
-    ONE_SLOT, close, close_and_scan, closed, ended, has_no_slot, is_tally, made, new_domain,
+    ONE_SLOT, add_all, close, close_and_scan, closed, ended, has_no_slot, is_tally, made, new_domain,
     opened, registered, retire, shows, turn, turns,
 };
 use sdd_base::{Limits, Owned};
@@ -64,7 +65,7 @@ fn uses_many(rt: &impl Abort, local: &mut Local<'_, u64>, values: u64) -> u64
 }
 
 /// What a thread does: it registers, uses so many values, and ends.
-fn works(rt: &impl Abort, domain: &Domain<u64>, values: u64) -> Receipt
+fn works(rt: &impl Abort, domain: &Domain<u64>, values: u64) -> Receipt<u64>
     ensures { IsReceiptIn (slots_in domain.now) result }
 {
     let mut local = registered(rt, domain);
@@ -74,12 +75,25 @@ fn works(rt: &impl Abort, domain: &Domain<u64>, values: u64) -> Receipt
     receipt
 }
 
-fn two(rt: &(impl Abort + Threads + Sync), domain: &Domain<u64>) {
-    join(rt, || works(rt, domain, 200), || works(rt, domain, 200));
+/// What two threads leave.
+fn two(
+    rt: &(impl Abort + Threads + Sync),
+    domain: &Domain<u64>,
+) -> (Receipt<u64>, Receipt<u64>)
+    ensures { IsReceiptIn (slots_in domain.now) result.0 × IsReceiptIn (slots_in domain.now) result.1 }
+{
+    join(rt, || works(rt, domain, 200), || works(rt, domain, 200))
 }
 
-fn four(rt: &(impl Abort + Threads + Sync), domain: &Domain<u64>) {
-    join(rt, || two(rt, domain), || two(rt, domain));
+/// What four threads leave.
+fn four(
+    rt: &(impl Abort + AllocGlobal + Threads + Sync),
+    domain: &Domain<u64>,
+) -> Vec<Receipt<u64>>
+    ensures { AreReceiptsIn (slots_in domain.now) result.items }
+{
+    let ((first, second), (third, fourth)) = join(rt, || two(rt, domain), || two(rt, domain));
+    vec![in rt.alloc(); first, second, third, fourth].expect(rt, "there is memory")
 }
 
 /// Many rounds, since few of them have two threads exchange a word at one moment.
@@ -87,10 +101,10 @@ fn four(rt: &(impl Abort + Threads + Sync), domain: &Domain<u64>) {
 fn eight_threads_share_four_slots(rt: HostRuntime) {
     for _ in 0..50 {
         let domain = new_domain::<u64>(&rt, FEW_SLOTS);
-        join(&rt, || four(&rt, &domain), || four(&rt, &domain));
-        let local = registered(&rt, &domain);
-        ended(&rt, local);
-        closed(&rt, domain, Vec::new(rt.alloc()));
+        let (mut receipts, others) = join(&rt, || four(&rt, &domain), || four(&rt, &domain));
+        add_all(&rt, &domain, &mut receipts, others);
+        let tally = closed(&rt, domain, receipts);
+        assert_eq!(rt; tally.reclaimed, tally.made);
     }
 }
 
@@ -138,7 +152,7 @@ fn looks_often(rt: &impl Abort, local: &mut Local<'_, u64>, owner: &Owned<u64>, 
 }
 
 /// What a reader's thread does: it registers, looks at an item of another participant, under guards and without one, and ends.
-fn reads(rt: &impl Abort, domain: &Domain<u64>, owner: &Owned<u64>, value: u64) -> Receipt
+fn reads(rt: &impl Abort, domain: &Domain<u64>, owner: &Owned<u64>, value: u64) -> Receipt<u64>
     requires { owned.slots_home owner.now ≡ slots_in domain.now }
 {
     let mut local = registered(rt, domain);
@@ -189,7 +203,7 @@ fn readers_look_at_what_writers_share(rt: HostRuntime) {
 
 /// What the thread of a new owner does: it takes and retires the item, and makes what it can. While
 /// another guard is open it reclaims nothing.
-fn retires(rt: &impl Abort, domain: &Domain<u64>, given: &mut Option<Owned<u64>>) -> Receipt
+fn retires(rt: &impl Abort, domain: &Domain<u64>, given: &mut Option<Owned<u64>>) -> Receipt<u64>
     requires { owned.IsOfSlots (slots_in domain.now) given.old }
     ensures { IsReceiptIn (slots_in domain.now) result }
 {

@@ -125,7 +125,7 @@ fn the_only_participant_of_a_domain_is_answered_as_a_turn_is(rt: HostRuntime) {
         assert!(rt; shown.third == Some(Refused::TooManyGuards));
     }
     match local.end() {
-        Ok(_receipt) => {}
+        Ok(receipt) => assert!(rt; !receipt.waits()),
         Err(_local) => panic!(rt; "a guard is open"),
     }
     match domain.close(Vec::new(rt.alloc())) {

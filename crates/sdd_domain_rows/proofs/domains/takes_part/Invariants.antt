@@ -1,7 +1,7 @@
 use Rattle.std.specs.Prelude.{◌≡◌}
 use Rattle.sdd_base.specs.Seat.{IsSeated}
 use Rattle.sdd_domain.specs.Space.{seat_of, slots_home}
-use Rattle.sdd_domain_rows.specs.Slots.{slots_in}
+use Rattle.sdd_domain.specs.Domain.{slots_in}
 use Rattle.sdd_domain_rows.proofs.domains.takes_part.Given as goal
 
 abbrev pub invariant-loop : goal.invariant-loop
