@@ -1,11 +1,10 @@
 -- What cells that are filled and emptied leave
-use Rattle.std.proofs.Common.{◌≡◌, ◌≢◌, ◌⊎◌, inl, inr, ℕ, ◌+◌, ◌<◌, ◌≤◌, List, [], ◌∷◌, Bool, true, false, length, refl, sym, ap, ◌∙◌, arith, subst, Some, None, Option}
+use Rattle.std.proofs.Common.{◌≡◌, ℕ, List, [], ◌∷◌, Bool, true, false, refl, sym, ap, ◌∙◌, subst, Some, None, Option}
 use Rattle.std.specs.Prelude.{is_some}
-use Rattle.std.proofs.lemmas.List.{get_or-set_same, get_or-set_other, length-set, set-set}
-use Rattle.sdd_core.specs.declared.tag.Tag.TheVariants.{None as no_tag}
+use Rattle.std.proofs.lemmas.List.{get_or-set_same}
 use Rattle.sdd_store.specs.declared.waiting.What.{What}
 use Rattle.sdd_store.specs.declared.waiting.What.TheVariants.{Item, Job}
-use Rattle.sdd_store.specs.Table.{Entries, IsEmptyAt, entry_at, with_entry, without_entry}
+use Rattle.sdd_store.specs.Table.{Entries, entry_at, with_entry}
 use Rattle.sdd_store.specs.Time.{is_open, finds_another, due_next}
 use Rattle.sdd_store.specs.declared.standing.Cell.{Cell}
 use Rattle.sdd_store.specs.declared.standing.Standing.{Standing}
@@ -15,8 +14,7 @@ use Rattle.sdd_base.specs.Holding.{Holding}
 use Rattle.sdd_base.specs.World.{World, place_at, standing_at, value_at}
 use Rattle.sdd_base.specs.Steps.{made, nulled, with_cell, opened, changed, taken_out, waiting_value, reclaimed, all_reclaimed}
 use Rattle.sdd_base.specs.Steps as steps
-use Rattle.sdd_base.specs.Out.{out, HoldsNothing}
-use Rattle.sdd_base.proofs.Out.{out-laws}
+use Rattle.sdd_base.specs.Out.{HoldsNothing}
 use Rattle.sdd_bench.specs.Leaves.{IsFilled}
 use Rattle.sdd_bench.proofs.Leaving.{nothing}
 

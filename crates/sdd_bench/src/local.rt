@@ -1,5 +1,5 @@
 //! The operations by a participant of a domain.
-ghost use Rattle.std.specs.Prelude.{◌≡◌, [], ◌∷◌, ◌++◌, All, Err, is_ok, if◌then◌else◌};
+ghost use Rattle.std.specs.Prelude.{◌≡◌, All, Err};
 ghost use Rattle.sdd_base.specs.Limits.{AreInRange};
 ghost use Rattle.sdd_base.specs.Seat.{IsSeated};
 ghost use Rattle.sdd_domain.specs.Domain.{slots_in};
@@ -57,7 +57,7 @@ fn in_domain(
     let idle = Local::register(domain)?;
     let done = by_one(domain, receipts, task, turns);
     match idle.end() {
-        Ok(receipt) => keep(receipts, receipt)?,
+        Ok(receipt) => keep(domain, receipts, receipt)?,
         Err(_) => unreachable!(),
     }
     done
@@ -77,7 +77,7 @@ fn by_one(
     match local.end() {
         Ok(receipt) => {
             let tally = receipt.tally();
-            keep(receipts, receipt)?;
+            keep(domain, receipts, receipt)?;
             Ok((tally, done?))
         }
         Err(_) => unreachable!(),
@@ -85,9 +85,16 @@ fn by_one(
 }
 
 /// One receipt more for the close.
-fn keep(receipts: &mut Vec<Receipt<u64>>, receipt: Receipt<u64>) -> Result<(), Refused>
-    ensures { receipts.new.items ≡ (if is_ok result then receipts.old.items ++ receipt ∷ [] else receipts.old.items) }
+fn keep(
+    domain: &Domain<u64>,
+    receipts: &mut Vec<Receipt<u64>>,
+    receipt: Receipt<u64>,
+) -> Result<(), Refused>
+    requires all { All (λ (r : Ended). r.home ≡ slots_in domain.now) receipts.old.items }
+    requires one { receipt.home ≡ slots_in domain.now }
+    ensures { All (λ (r : Ended). r.home ≡ slots_in domain.now) receipts.new.items }
 {
+    let _ = domain;
     match receipts.push(receipt) {
         Ok(()) => Ok(()),
         Err(_) => Err(Refused::NoMemory),

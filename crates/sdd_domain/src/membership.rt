@@ -217,6 +217,14 @@ impl<'d, T: Item<T>> Membership<'d, T> {
         !self.own.bags.is_empty()
     }
 
+    /// Nothing waits with the participant, and nothing is due.
+    #[inline]
+    pub fn is_idle(&self) -> bool
+        ensures { IsTrue result ↔ ((self.now.own.bags.waiting ≡ []) × (self.now.due ≡ [])) }
+    {
+        self.own.bags.is_empty() && self.due.len() == 0
+    }
+
     /// How much its next change makes due.
     pub fn next_due(&self) -> usize
         ensures { result ≡ length (due_next self.now.own) }

@@ -121,8 +121,7 @@ impl<T: Item<T>> Giver<T> for Partner<'_, T> {
 
 impl<T: Item<T>> Partner<'_, T> {
     /// What is due is reclaimed, one after another, and what each value held is retired then.
-    #[inline(never)]
-    fn reclaim_all(&mut self)
+    fn reclaim_due(&mut self)
         ensures own { GrowsOn self.old.member.own self.new.member.own }
         ensures none { self.old.member.due ≡ [] → self.new.member.own ≡ self.old.member.own }
         ensures known { KnowsOn (known_of self.old) (known_of self.new) }
@@ -139,26 +138,9 @@ impl<T: Item<T>> Partner<'_, T> {
         }
     }
 
-    /// The same, where nothing is due by a test alone.
-    #[inline]
-    fn reclaim_due(&mut self)
-        ensures own { GrowsOn self.old.member.own self.new.member.own }
-        ensures none { self.old.member.due ≡ [] → self.new.member.own ≡ self.old.member.own }
-        ensures known { KnowsOn (known_of self.old) (known_of self.new) }
-        ensures rest { rest_of self.new ≡ rest_of self.old }
-        ensures due { self.new.member.due ≡ [] }
-        ensures reclaimed { self.new.member.tally ≡ with_reclaimed (length self.old.member.due) self.old.member.tally }
-        ensures exact { IsLone self.old.member → world_of self.new
-            ≡ all_reclaimed T.holds (world_of self.old) self.old.member.place self.old.member.due }
-    {
-        if self.membership.now_due() > 0 {
-            self.reclaim_all();
-        }
-    }
-
-    /// A change: what is due is reclaimed, and what each value held is retired then; and then it is decided whether anything waits.
-    #[inline]
-    pub fn change(&mut self)
+    /// What is due is reclaimed; and then it is decided whether anything waits.
+    #[inline(never)]
+    fn reclaim(&mut self)
         ensures own { (given : List ℕ) × (self.new.member.own ≡ settled (all_awaiting given self.old.member.own)) × (self.old.member.due ≡ [] → given ≡ []) }
         ensures known { KnowsOn (known_of self.old) (known_of self.new) }
         ensures rest { rest_of self.new ≡ rest_of self.old }
@@ -171,5 +153,27 @@ impl<T: Item<T>> Partner<'_, T> {
         self.reclaim_due();
         self.membership.settle();
         self.membership.stands();
+    }
+
+    /// A change: what is due is reclaimed, and what each value held is retired then; and then it is decided whether anything waits.
+    ///
+    /// Where nothing waits and nothing is due, all is done here.
+    #[inline(never)]
+    pub fn change(&mut self)
+        ensures own { (given : List ℕ) × (self.new.member.own ≡ settled (all_awaiting given self.old.member.own)) × (self.old.member.due ≡ [] → given ≡ []) }
+        ensures known { KnowsOn (known_of self.old) (known_of self.new) }
+        ensures rest { rest_of self.new ≡ rest_of self.old }
+        ensures due { self.new.member.due ≡ [] }
+        ensures reclaimed { self.new.member.tally ≡ with_reclaimed (length self.old.member.due) self.old.member.tally }
+        ensures near { IsGuarded self.new.member → self.new.member.known ≤ self.new.member.since + 1 }
+        ensures exact { IsLone self.old.member → world_of self.new
+            ≡ steps.settled (all_reclaimed T.holds (world_of self.old) self.old.member.place self.old.member.due) self.old.member.place }
+    {
+        if self.membership.is_idle() {
+            self.membership.settle();
+            self.membership.stands();
+        } else {
+            self.reclaim();
+        }
     }
 }

@@ -8,8 +8,8 @@ ghost use Rattle.sdd_domain_rows.specs.Held.{holdings_of};
 
 use crate::node::Node;
 use crate::steps::{
-    ONE_SLOT, add, close_and_scan, closed, ended, is_tally, new_domain, not_closed, opened, registered,
-    turn, turns,
+    ONE_SLOT, add, close_and_scan, closed, ended, is_tally, new_domain, not_closed, opened,
+    registered, turn, turns,
 };
 use sdd_base::{Limits, Owned};
 use sdd_domain::Local;

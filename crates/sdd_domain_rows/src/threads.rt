@@ -7,8 +7,8 @@ ghost use Rattle.sdd_domain.specs.Domain.{slots_in};
 ghost use Rattle.sdd_domain_rows.specs.Slots.{IsReceiptIn, AreReceiptsIn};
 
 use crate::steps::{
-    ONE_SLOT, add_all, close, close_and_scan, closed, ended, has_no_slot, is_tally, made, new_domain,
-    opened, registered, retire, shows, turn, turns,
+    ONE_SLOT, add_all, close, close_and_scan, closed, ended, has_no_slot, is_tally, made,
+    new_domain, opened, registered, retire, shows, turn, turns,
 };
 use sdd_base::{Limits, Owned};
 use sdd_domain::{Domain, Local, Receipt};
@@ -76,20 +76,14 @@ fn works(rt: &impl Abort, domain: &Domain<u64>, values: u64) -> Receipt<u64>
 }
 
 /// What two threads leave.
-fn two(
-    rt: &(impl Abort + Threads + Sync),
-    domain: &Domain<u64>,
-) -> (Receipt<u64>, Receipt<u64>)
+fn two(rt: &(impl Abort + Threads + Sync), domain: &Domain<u64>) -> (Receipt<u64>, Receipt<u64>)
     ensures { IsReceiptIn (slots_in domain.now) result.0 × IsReceiptIn (slots_in domain.now) result.1 }
 {
     join(rt, || works(rt, domain, 200), || works(rt, domain, 200))
 }
 
 /// What four threads leave.
-fn four(
-    rt: &(impl Abort + AllocGlobal + Threads + Sync),
-    domain: &Domain<u64>,
-) -> Vec<Receipt<u64>>
+fn four(rt: &(impl Abort + AllocGlobal + Threads + Sync), domain: &Domain<u64>) -> Vec<Receipt<u64>>
     ensures { AreReceiptsIn (slots_in domain.now) result.items }
 {
     let ((first, second), (third, fourth)) = join(rt, || two(rt, domain), || two(rt, domain));

@@ -26,18 +26,24 @@ impl Tally {
     pub fn count_made(&mut self)
         ensures { self.new ≡ one_made self.old }
     {
-        self.made = self.made.saturating_add(1);
+        if let Some(made) = self.made.checked_add(1) {
+            self.made = made;
+        }
     }
 
     pub fn count_reclaimed(&mut self)
         ensures { self.new ≡ one_reclaimed self.old }
     {
-        self.reclaimed = self.reclaimed.saturating_add(1);
+        if let Some(reclaimed) = self.reclaimed.checked_add(1) {
+            self.reclaimed = reclaimed;
+        }
     }
 
     pub fn count_in_place(&mut self)
         ensures { self.new ≡ one_in_place self.old }
     {
-        self.in_place = self.in_place.saturating_add(1);
+        if let Some(in_place) = self.in_place.checked_add(1) {
+            self.in_place = in_place;
+        }
     }
 }

@@ -1,9 +1,6 @@
-use Rattle.std.proofs.Common.{◌≡◌, ℕ, Some, None, ap, ◌∙◌}
-use Rattle.std.proofs.lemmas.List.{get_or-set_same}
+use Rattle.std.proofs.Common.{ℕ}
 use Rattle.sdd_core.specs.declared.tag.Tag.TheVariants.{None as no_tag}
-use Rattle.sdd_store.specs.Table.{entry_at}
 use Rattle.sdd_base.specs.Owned.{slot_of, cell_of}
-use Rattle.sdd_base.specs.World.{World}
 use Rattle.sdd_bench.proofs.Filling.{set-there, filled-on}
 use Rattle.sdd_bench.proofs.cells.swap.Goals as goal
 

@@ -14,7 +14,8 @@ use Rattle.sdd_domain.proofs.Sound.{sound_step}
 use Rattle.sdd_domain.proofs.space.LocalGuards.accelerate.Goals as goal
 
 pub invariant_of-self : goal.invariant_of-self
-invariant_of-self g c = let v : Partaker g.row.T.Denot = (c.self-inside.view_is 0).partner in let inner : v ≡ c.self.inside.partner = ap (λ (i : Inside g.row.T.Denot). i.partner) c.self-inside.view_is in
+invariant_of-self g c = let v : Partaker g.row.T.Denot = (c.self-inside.view_is 0).partner in
+    let inner : v ≡ c.self.inside.partner = ap (λ (i : Inside g.row.T.Denot). i.partner) c.self-inside.view_is in
     let did = c.accelerate.ensures in
     sound_step g.T.Item.holds v c.accelerate.new.self (subst (IsSound g.T.Item.holds) (sym inner) c.self.invariant) accelerated Whole-accelerated
     (ap (λ (m : Member). m.due) did) (ap home_in did)
@@ -22,6 +23,7 @@ invariant_of-self g c = let v : Partaker g.row.T.Denot = (c.self-inside.view_is 
     ∙ steps_alone accelerated v (record v { member = record v.member { own = time.accelerated v.member.own } }) first first refl)
 
 pub returns-clause-keeps : goal.returns-clause-keeps
-returns-clause-keeps g c = let v : Partaker g.row.T.Denot = (c.self-inside.view_is 0).partner in let inner : v ≡ c.self.inside.partner = ap (λ (i : Inside g.row.T.Denot). i.partner) c.self-inside.view_is in
+returns-clause-keeps g c = let v : Partaker g.row.T.Denot = (c.self-inside.view_is 0).partner in
+    let inner : v ≡ c.self.inside.partner = ap (λ (i : Inside g.row.T.Denot). i.partner) c.self-inside.view_is in
     keeps_own (showing g.row.T) g.T.Item.holds v c.args.self.now (inner ∙ c.self.view_is) c.accelerate.new.self (time.accelerated v.member.own) v.member.known v.member.since
     c.accelerate.ensures

@@ -10,13 +10,15 @@ use Rattle.sdd_domain.proofs.Sound.{sound_step}
 use Rattle.sdd_domain.proofs.space.LocalGuards.count.Goals as goal
 
 pub invariant_of-self : goal.invariant_of-self
-invariant_of-self g c = let v : Partaker g.row.T.Denot = (c.self-inside.view_is 0).partner in let inner : v ≡ c.self.inside.partner = ap (λ (i : Inside g.row.T.Denot). i.partner) c.self-inside.view_is in
+invariant_of-self g c = let v : Partaker g.row.T.Denot = (c.self-inside.view_is 0).partner in
+    let inner : v ≡ c.self.inside.partner = ap (λ (i : Inside g.row.T.Denot). i.partner) c.self-inside.view_is in
     let told = c.count.ensures in
     sound_step g.T.Item.holds v c.count.new.self (subst (IsSound g.T.Item.holds) (sym inner) c.self.invariant) (λ w _. w) (λ w _ _ whole. whole)
     (ap (λ (m : Member). m.due) told.member) (ap home_in told.member)
     (λ one. ap (λ (m : Member). world_of (record v { member = m })) (told.member ∙ (λ d. record v.member { known = told.lone one d })))
 
 pub returns-clause-keeps : goal.returns-clause-keeps
-returns-clause-keeps g c = let v : Partaker g.row.T.Denot = (c.self-inside.view_is 0).partner in let inner : v ≡ c.self.inside.partner = ap (λ (i : Inside g.row.T.Denot). i.partner) c.self-inside.view_is in
+returns-clause-keeps g c = let v : Partaker g.row.T.Denot = (c.self-inside.view_is 0).partner in
+    let inner : v ≡ c.self.inside.partner = ap (λ (i : Inside g.row.T.Denot). i.partner) c.self-inside.view_is in
     keeps_own (showing g.row.T) g.T.Item.holds v c.args.self.now (inner ∙ c.self.view_is) c.count.new.self v.member.own c.count.result v.member.since
     c.count.ensures.member

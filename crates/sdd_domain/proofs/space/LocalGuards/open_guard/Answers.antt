@@ -23,28 +23,33 @@ use Rattle.sdd_domain.proofs.space.LocalGuards.open_guard.Goals.{then-is_change,
 use Rattle.sdd_domain.proofs.space.LocalGuards.open_guard.Goals as goal
 
 pub invariant_of-self : goal.invariant_of-self
-invariant_of-self g c = let v : Partaker g.row.T.Denot = (c.self-inside.view_is 0).partner in let inner : v ≡ c.self.inside.partner = ap (λ (i : Inside g.row.T.Denot). i.partner) c.self-inside.view_is in
+invariant_of-self g c = let v : Partaker g.row.T.Denot = (c.self-inside.view_is 0).partner in
+    let inner : v ≡ c.self.inside.partner = ap (λ (i : Inside g.row.T.Denot). i.partner) c.self-inside.view_is in
     let some_open : IsGuarded v.member = search rules in
     nested_sound v c.nest.new.self _ g.T.Item.holds c.nest.result c.nest.ensures some_open c.self-inside.invariant
     (subst (IsSound g.T.Item.holds) (sym inner) c.self.invariant)
 
 pub returns-then-is_guarded-clause-exact : goal.returns-then-is_guarded-clause-exact
-returns-then-is_guarded-clause-exact g c = let v : Partaker g.row.T.Denot = (c.self-inside.view_is 0).partner in let inner : v ≡ c.self.inside.partner = ap (λ (i : Inside g.row.T.Denot). i.partner) c.self-inside.view_is in
+returns-then-is_guarded-clause-exact g c = let v : Partaker g.row.T.Denot = (c.self-inside.view_is 0).partner in
+    let inner : v ≡ c.self.inside.partner = ap (λ (i : Inside g.row.T.Denot). i.partner) c.self-inside.view_is in
     let some_open : IsGuarded v.member = search rules in
     nested_exact v c.nest.new.self _ g.T.Item.holds c.nest.result c.args.self.now (inner ∙ c.self.view_is) c.nest.ensures some_open c.self-inside.invariant
 
 pub returns-then-is_guarded-clause-keeps : goal.returns-then-is_guarded-clause-keeps
-returns-then-is_guarded-clause-keeps g c = λ is_open. let v : Partaker g.row.T.Denot = (c.self-inside.view_is 0).partner in let inner : v ≡ c.self.inside.partner = ap (λ (i : Inside g.row.T.Denot). i.partner) c.self-inside.view_is in
+returns-then-is_guarded-clause-keeps g c = λ is_open. let v : Partaker g.row.T.Denot = (c.self-inside.view_is 0).partner in
+    let inner : v ≡ c.self.inside.partner = ap (λ (i : Inside g.row.T.Denot). i.partner) c.self-inside.view_is in
     nested_keeps v c.nest.new.self _ g.T.Item.holds (showing g.row.T) c.nest.result c.args.self.now (inner ∙ c.self.view_is) c.nest.ensures
 
 pub invariant_of-self-inside-then-is_change : goal.invariant_of-self-inside-then-is_change
-invariant_of-self-inside-then-is_change g c one = let v : Partaker g.row.T.Denot = (c.self-inside.view_is 0).partner in let inner : v ≡ c.self.inside.partner = ap (λ (i : Inside g.row.T.Denot). i.partner) c.self-inside.view_is in
+invariant_of-self-inside-then-is_change g c one = let v : Partaker g.row.T.Denot = (c.self-inside.view_is 0).partner in
+    let inner : v ≡ c.self.inside.partner = ap (λ (i : Inside g.row.T.Denot). i.partner) c.self-inside.view_is in
     let e = c.enter-guard.ensures.entered in let settled = ap (λ (z : Partaker g.row.T.Denot). z.member.due) inner ∙ c.self.invariant.settled in
     let lone : IsLone v.member = sym (ap (λ (y : Member). y.limits.participants) e.1.member) ∙ one in
     tied_enters v (c.self-inside.invariant lone) settled e.0 c.enter-guard.new.self lone e.1
 
 pub invariant_of-self-then-is_change : goal.invariant_of-self-then-is_change
-invariant_of-self-then-is_change g c = let v : Partaker g.row.T.Denot = (c.self-inside.view_is 0).partner in let inner : v ≡ c.self.inside.partner = ap (λ (i : Inside g.row.T.Denot). i.partner) c.self-inside.view_is in
+invariant_of-self-then-is_change g c = let v : Partaker g.row.T.Denot = (c.self-inside.view_is 0).partner in
+    let inner : v ≡ c.self.inside.partner = ap (λ (i : Inside g.row.T.Denot). i.partner) c.self-inside.view_is in
     let holds = g.T.Item.holds in let q : Partaker g.row.T.Denot = c.change.new.self in
     let e = c.enter-guard.ensures.entered in let settled = ap (λ (z : Partaker g.row.T.Denot). z.member.due) inner ∙ c.self.invariant.settled in
     let shut : v.member.own.guards ≡ 0 = search rules in
@@ -58,7 +63,8 @@ invariant_of-self-then-is_change g c = let v : Partaker g.row.T.Denot = (c.self-
     (λ f. apart (f ∙ sym (e.1.lone lone).0)) (world_of q) (c.change.ensures.exact there)))
 
 pub invariant_of-self-else-is_change : goal.invariant_of-self-else-is_change
-invariant_of-self-else-is_change g c = let v : Partaker g.row.T.Denot = (c.self-inside.view_is 0).partner in let inner : v ≡ c.self.inside.partner = ap (λ (i : Inside g.row.T.Denot). i.partner) c.self-inside.view_is in
+invariant_of-self-else-is_change g c = let v : Partaker g.row.T.Denot = (c.self-inside.view_is 0).partner in
+    let inner : v ≡ c.self.inside.partner = ap (λ (i : Inside g.row.T.Denot). i.partner) c.self-inside.view_is in
     let holds = g.T.Item.holds in let m : Member = c.enter-guard.new.self in
     let e = c.enter-guard.ensures.entered in let settled = ap (λ (z : Partaker g.row.T.Denot). z.member.due) inner ∙ c.self.invariant.settled in
     let shut : v.member.own.guards ≡ 0 = search rules in
@@ -70,7 +76,8 @@ invariant_of-self-else-is_change g c = let v : Partaker g.row.T.Denot = (c.self-
 -- the world after it, with a change and without one
 opened_there : (g : Over) (c : goal.Joined-is_change g) → IsLone (c.self-inside.view_is 0).partner.member
     → world_of c.if-is_change.self ≡ opened g.T.Item.holds (world_of (c.self-inside.view_is 0).partner) (c.self-inside.view_is 0).partner.member.place
-opened_there g c lone = let v : Partaker g.row.T.Denot = (c.self-inside.view_is 0).partner in let inner : v ≡ c.self.inside.partner = ap (λ (i : Inside g.row.T.Denot). i.partner) c.self-inside.view_is in
+opened_there g c lone = let v : Partaker g.row.T.Denot = (c.self-inside.view_is 0).partner in
+    let inner : v ≡ c.self.inside.partner = ap (λ (i : Inside g.row.T.Denot). i.partner) c.self-inside.view_is in
     let holds = g.T.Item.holds in let m : Member = c.enter-guard.new.self in let tied = c.self-inside.invariant lone in
     let e = c.enter-guard.ensures.entered in let settled = ap (λ (z : Partaker g.row.T.Denot). z.member.due) inner ∙ c.self.invariant.settled in
     let shut : v.member.own.guards ≡ 0 = search rules in
@@ -84,7 +91,8 @@ opened_there g c lone = let v : Partaker g.row.T.Denot = (c.self-inside.view_is 
     ]
 
 pub returns-clause-exact : goal.returns-clause-exact
-returns-clause-exact g c = λ exact. let v : Partaker g.row.T.Denot = (c.self-inside.view_is 0).partner in let inner : v ≡ c.self.inside.partner = ap (λ (i : Inside g.row.T.Denot). i.partner) c.self-inside.view_is in
+returns-clause-exact g c = λ exact. let v : Partaker g.row.T.Denot = (c.self-inside.view_is 0).partner in
+    let inner : v ≡ c.self.inside.partner = ap (λ (i : Inside g.row.T.Denot). i.partner) c.self-inside.view_is in
     let now = inner ∙ c.self.view_is in
     let lone = lone_is v.member (subst (λ (q : Partaker g.row.T.Denot). IsTrue (is_lone q.member)) (sym now) exact) in (
       subst (λ (q : Partaker g.row.T.Denot). time.CanNest (world_of q).time q.member.place) now (can_nest v c.enter-guard.ensures.nests),
@@ -92,13 +100,15 @@ returns-clause-exact g c = λ exact. let v : Partaker g.row.T.Denot = (c.self-in
     )
 
 pub returns-clause-lone : goal.returns-clause-lone
-returns-clause-lone g c = λ one. let v : Partaker g.row.T.Denot = (c.self-inside.view_is 0).partner in let inner : v ≡ c.self.inside.partner = ap (λ (i : Inside g.row.T.Denot). i.partner) c.self-inside.view_is in
+returns-clause-lone g c = λ one. let v : Partaker g.row.T.Denot = (c.self-inside.view_is 0).partner in
+    let inner : v ≡ c.self.inside.partner = ap (λ (i : Inside g.row.T.Denot). i.partner) c.self-inside.view_is in
     let now = inner ∙ c.self.view_is in
     let lone = lone_is v.member (subst (λ (q : Partaker g.row.T.Denot). IsTrue (is_lone q.member)) (sym now) one) in
     same_count g.T.Item.holds v c.if-is_change.self (opened_there g c lone) ∙ ap (λ (q : Partaker g.row.T.Denot). q.member.known) now
 
 pub returns-clause-known : goal.returns-clause-known
-returns-clause-known g c = let v : Partaker g.row.T.Denot = (c.self-inside.view_is 0).partner in let inner : v ≡ c.self.inside.partner = ap (λ (i : Inside g.row.T.Denot). i.partner) c.self-inside.view_is in
+returns-clause-known g c = let v : Partaker g.row.T.Denot = (c.self-inside.view_is 0).partner in
+    let inner : v ≡ c.self.inside.partner = ap (λ (i : Inside g.row.T.Denot). i.partner) c.self-inside.view_is in
     let now = inner ∙ c.self.view_is in let p : Partaker g.row.T.Denot = c.args.self.now in let m : Member = c.enter-guard.new.self in
     let e = c.enter-guard.ensures.entered in let shut : v.member.own.guards ≡ 0 = search rules in
     let own : m.own ≡ time.nested (arrived_at e.0 v.member.own) = ap (λ (y : Member). y.own) e.1.member in

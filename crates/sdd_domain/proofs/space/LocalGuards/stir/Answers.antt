@@ -14,7 +14,8 @@ use Rattle.sdd_domain.proofs.Sound.{sound_step}
 use Rattle.sdd_domain.proofs.space.LocalGuards.stir.Goals as goal
 
 pub invariant_of-self : goal.invariant_of-self
-invariant_of-self g c = let v : Partaker g.row.T.Denot = (c.self-inside.view_is 0).partner in let inner : v ≡ c.self.inside.partner = ap (λ (i : Inside g.row.T.Denot). i.partner) c.self-inside.view_is in
+invariant_of-self g c = let v : Partaker g.row.T.Denot = (c.self-inside.view_is 0).partner in
+    let inner : v ≡ c.self.inside.partner = ap (λ (i : Inside g.row.T.Denot). i.partner) c.self-inside.view_is in
     let did = c.stir.ensures in
     sound_step g.T.Item.holds v c.stir.new.self (subst (IsSound g.T.Item.holds) (sym inner) c.self.invariant) stirred Whole-stirred
     (ap (λ (m : Member). m.due) did) (ap home_in did)
@@ -22,6 +23,7 @@ invariant_of-self g c = let v : Partaker g.row.T.Denot = (c.self-inside.view_is 
     ∙ steps_alone stirred v (record v { member = record v.member { own = time.with_garbage v.member.own } }) first first refl)
 
 pub returns-clause-keeps : goal.returns-clause-keeps
-returns-clause-keeps g c = let v : Partaker g.row.T.Denot = (c.self-inside.view_is 0).partner in let inner : v ≡ c.self.inside.partner = ap (λ (i : Inside g.row.T.Denot). i.partner) c.self-inside.view_is in
+returns-clause-keeps g c = let v : Partaker g.row.T.Denot = (c.self-inside.view_is 0).partner in
+    let inner : v ≡ c.self.inside.partner = ap (λ (i : Inside g.row.T.Denot). i.partner) c.self-inside.view_is in
     keeps_own (showing g.row.T) g.T.Item.holds v c.args.self.now (inner ∙ c.self.view_is) c.stir.new.self (time.with_garbage v.member.own) v.member.known v.member.since
     c.stir.ensures

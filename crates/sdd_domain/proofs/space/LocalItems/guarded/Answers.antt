@@ -9,18 +9,21 @@ use Rattle.sdd_domain.proofs.Sound.{sound_step}
 use Rattle.sdd_domain.proofs.space.LocalItems.guarded.Goals as goal
 
 pub invariant_of-self : goal.invariant_of-self
-invariant_of-self g c = let v : Partaker g.row.T.Denot = (c.self-inside.view_is 0).partner in let inner : v ≡ c.self.inside.partner = ap (λ (i : Inside g.row.T.Denot). i.partner) c.self-inside.view_is in
+invariant_of-self g c = let v : Partaker g.row.T.Denot = (c.self-inside.view_is 0).partner in
+    let inner : v ≡ c.self.inside.partner = ap (λ (i : Inside g.row.T.Denot). i.partner) c.self-inside.view_is in
     let looks = c.guarded.ensures.looks in let m : Member = c.guarded.new.self in
     let only = only_looks g.row.T v m c.args.right.now c.guarded.result.now looks in
     sound_step g.T.Item.holds v m (subst (IsSound g.T.Item.holds) (sym inner) c.self.invariant) (λ w _. w) (λ w _ _ whole. whole)
     (ap (λ (y : Member). y.due) only) (ap home_in only) (λ _. same_world g.row.T v m c.args.right.now c.guarded.result.now looks)
 
 pub returns-clause-shown : goal.returns-clause-shown
-returns-clause-shown g c = let v : Partaker g.row.T.Denot = (c.self-inside.view_is 0).partner in let inner : v ≡ c.self.inside.partner = ap (λ (i : Inside g.row.T.Denot). i.partner) c.self-inside.view_is in
+returns-clause-shown g c = let v : Partaker g.row.T.Denot = (c.self-inside.view_is 0).partner in
+    let inner : v ≡ c.self.inside.partner = ap (λ (i : Inside g.row.T.Denot). i.partner) c.self-inside.view_is in
     shows_it g.row.T v c.guarded.new.self c.args.right.now c.guarded.result.now c.guarded.ensures.looks c.self-inside.invariant
     c.codes.ensures c.guarded.ensures.recalled g.T.Item.holds c.guarded.ensures.home c.guarded.ensures.once
 
 pub returns-clause-keeps : goal.returns-clause-keeps
-returns-clause-keeps g c = let v : Partaker g.row.T.Denot = (c.self-inside.view_is 0).partner in let inner : v ≡ c.self.inside.partner = ap (λ (i : Inside g.row.T.Denot). i.partner) c.self-inside.view_is in
+returns-clause-keeps g c = let v : Partaker g.row.T.Denot = (c.self-inside.view_is 0).partner in
+    let inner : v ≡ c.self.inside.partner = ap (λ (i : Inside g.row.T.Denot). i.partner) c.self-inside.view_is in
     keeps_it g.row.T v c.guarded.new.self c.args.right.now c.guarded.result.now c.guarded.ensures.looks g.T.Item.holds c.guarded.ensures.once
     c.args.self.now (inner ∙ c.self.view_is)

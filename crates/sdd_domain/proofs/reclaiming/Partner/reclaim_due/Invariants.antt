@@ -7,7 +7,7 @@ use Rattle.sdd_domain.specs.Member.{IsLone}
 use Rattle.sdd_domain.specs.Receipt.{with_reclaimed}
 use Rattle.sdd_domain.specs.Reclaiming.{rest_of}
 use Rattle.sdd_domain.specs.Space.{known_of}
-use Rattle.sdd_domain.proofs.reclaiming.Partner.reclaim_all.Given as goal
+use Rattle.sdd_domain.proofs.reclaiming.Partner.reclaim_due.Given as goal
 
 -- to reclaim what is left is to reclaim all
 abbrev pub invariant-loop-value : goal.invariant-loop-value

@@ -15,7 +15,7 @@ use Rattle.sdd_domain.proofs.Giving.{knows_more}
 use Rattle.sdd_domain.proofs.Going.{tied_then, reclaims_on}
 use Rattle.sdd_domain.proofs.Sound.{lone_true}
 use Rattle.sdd_domain.proofs.Tallies.{one_first}
-use Rattle.sdd_domain.proofs.reclaiming.Partner.reclaim_all.Goals as goal
+use Rattle.sdd_domain.proofs.reclaiming.Partner.reclaim_due.Goals as goal
 
 pub invariant_of-self : goal.invariant_of-self
 invariant_of-self g c one = let v : Partaker g.row.T.Denot = c.self-in-loop-value.view_is 0 in let m : Member = c.reclaim_next.new.self in
