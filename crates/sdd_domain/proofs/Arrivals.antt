@@ -1,12 +1,12 @@
 -- What an outermost opening leaves, before anything is reclaimed, with a change and without one
-use Rattle.std.proofs.Common.{◌≡◌, ◌≢◌, ℕ, ◌≤◌, if◌then◌else◌, List, [], map, sym, refl, ap, ◌∙◌, eq-eqb, ne_eqb, arith}
+use Rattle.std.proofs.Common.{◌≡◌, ◌≢◌, ℕ, ◌≤◌, ⊎_elim, if◌then◌else◌, true, false, List, [], ◌∷◌, map, sym, refl, ap, ◌∙◌, eq-eqb, ne_eqb, arith}
 use mathlib.Core.Bool.{Bool}
 use mathlib.Core.Logic.{dite}
 use native.Mathlib.Decide.{ℕ_discrete}
 use Rattle.atomic_table.specs.declared.shared.Seat.{Seat}
 use Rattle.sdd_store.specs.declared.time.Participant.{Participant}
 use Rattle.sdd_store.specs.Waiting.{Waiting, aged, due, left}
-use Rattle.sdd_store.specs.Time.{nested, rotated, due_next}
+use Rattle.sdd_store.specs.Time.{nested, rotated, settled, due_next}
 use Rattle.sdd_stakes.specs.declared.stake.Stake.{Stake}
 use Rattle.sdd_rule.specs.declared.EpochView.{EpochView}
 use Rattle.sdd_rule.specs.declared.SlotsView.{SlotsView}
@@ -20,16 +20,17 @@ use Rattle.sdd_rule.specs.SlotSteps.{older, changed}
 use Rattle.sdd_rule.proofs.Sums.{total_map}
 use Rattle.sdd_board.specs.declared.board.Board.{Board}
 use Rattle.sdd_board.specs.Token.{view, epoch, slots, Stepped, HasPublished}
-use Rattle.sdd_domain.specs.Waits.{what_of, waiting_of, ripe, unripe, aged_at, due_at, arrived_at, Arrives}
+use Rattle.sdd_domain.specs.Waits.{what_of, waiting_of, ripe, unripe, aged_at, due_at, arrived_at, Arrives, HasArrived}
 use Rattle.sdd_domain.specs.Posed.{IsPosed}
 use Rattle.sdd_domain.proofs.Reclaims.{aged_alike, left_alike, due_alike, all_left}
 use Rattle.sdd_domain.proofs.Posing.{posed_arrived, has_place}
 
--- where nothing waits a change only finds the count
-pub quiet_change : (count : ℕ) (p : Participant) → p.bags.waiting ≡ [] → record p { found = count } ≡ rotated count p
+-- where nothing waits a change only finds the count, and that nothing waits
+pub quiet_change : (count : ℕ) (p : Participant) → p.bags.waiting ≡ [] → record p { found = count; countdown = 128 } ≡ settled (rotated count p)
 quiet_change count p none = let waits : p.bags.waiting ≡ left (aged p.bags.waiting)
     = none ∙ sym (ap (λ (ws : List Waiting). left (aged ws)) none) in
-    λ i. record p { found = count; bags = record p.bags { waiting = waits i } }
+    let paced : 128 ≡ (settled (rotated count p)).countdown = sym (ap (λ (ws : List Waiting). elim (left (aged ws)) [ [] ↦ 128 | x ∷ xs ↦ 127 ]) none) in
+    λ i. record p { found = count; countdown = paced i; bags = record p.bags { waiting = waits i } }
 
 -- and nothing is due
 pub quiet_due : (p : Participant) → p.bags.waiting ≡ [] → due_next p ≡ []
@@ -69,6 +70,17 @@ module _ (count : ℕ) (own : Participant) where
 
   pub as_large : (arrived_at count own).bags.room ≡ own.bags.room
   as_large = dite (ℕ_discrete own.found count) (λ e. ap (λ (p : Participant). p.bags.room) (stayed e)) (λ ne. ap (λ (p : Participant). p.bags.room) (moved ne))
+
+  -- nor is it so whether the opening is over or not, and the room stays
+  pub has_open : (b : Bool) (new : Participant) → HasArrived count b own new → new.guards ≡ own.guards
+  has_open true new h = ap (λ (p : Participant). p.guards) (h.change refl).1 ∙ as_open
+  has_open false new h = ⊎_elim (λ (t : (own.found ≡ count) × (new ≡ arrived_at count own)). ap (λ (p : Participant). p.guards) t.1 ∙ as_open)
+      (λ (t : (own.found ≢ count) × (own.bags.waiting ≡ []) × (new ≡ settled (arrived_at count own))). ap (λ (p : Participant). p.guards) t.2 ∙ as_open) (h.over refl)
+
+  pub has_room : (b : Bool) (new : Participant) → HasArrived count b own new → new.bags.room ≡ own.bags.room
+  has_room true new h = ap (λ (p : Participant). p.bags.room) (h.change refl).1 ∙ as_large
+  has_room false new h = ⊎_elim (λ (t : (own.found ≡ count) × (new ≡ arrived_at count own)). ap (λ (p : Participant). p.bags.room) t.1 ∙ as_large)
+      (λ (t : (own.found ≢ count) × (own.bags.waiting ≡ []) × (new ≡ settled (arrived_at count own))). ap (λ (p : Participant). p.bags.room) t.2 ∙ as_large) (h.over refl)
 
   -- what has seen three changes is due
   pub due_ripe : (xs : List WaitingItem) → own.bags.waiting ≡ map waiting_of (unripe xs) → ripe xs ≡ [] → due_at count own ≡ map what_of (ripe (aged_at count own xs))
@@ -154,3 +166,30 @@ module _ (b : Board) (p : ℕ) (own : Participant) (count : ℕ) where
             words = pub_.3 ∙ (write.0.3 ∙ read.0.3);
           },
         )
+
+-- a participant is posed still once it is decided that nothing waits
+pub posed_settled : (b : Board) (p : ℕ) (own : Participant) (token : Seat Stake View) → own.bags.waiting ≡ [] → IsPosed b p own token → IsPosed b p (settled own) token
+posed_settled b p own token none q = let paced : (settled own).countdown ≡ 128 = ap (λ (ws : List Waiting). elim ws [ [] ↦ 128 | x ∷ xs ↦ 127 ]) none in record {
+  home = q.home;
+  purse = q.purse;
+  sight = q.sight;
+  unseen = q.unseen;
+  rests = q.rests;
+  all = q.all;
+  place = q.place;
+  inside = q.inside;
+  count = q.count;
+  closed = q.closed;
+  opened = q.opened;
+  near = q.near;
+  lone = q.lone;
+  free = q.free;
+  knows = q.knows;
+  found = q.found;
+  quiet = q.quiet;
+  waiting = q.waiting;
+  bags = q.bags;
+  room = q.room;
+  pace = omega arith;
+  idle = λ _. none;
+}

@@ -1,5 +1,5 @@
 -- What the calls of a lone participant on guards are for its world
-use Rattle.std.proofs.Common.{◌≡◌, ◌≢◌, ℕ, ◌-◌, ◌<◌, not, Bool, true, false, IsTrue, List, [], sym, ap, ◌∙◌, subst, eq-eqb, ne_eqb, arith}
+use Rattle.std.proofs.Common.{◌≡◌, ◌≢◌, ℕ, ◌-◌, ◌<◌, not, Bool, true, false, IsTrue, List, [], refl, sym, ap, ◌∙◌, subst, eq-eqb, ne_eqb, arith}
 use Rattle.std.specs.Prelude.{if◌then◌else◌, nat_lt}
 use base.Stored.{Gv}
 use Rattle.sdd_store.specs.declared.time.Participant.{Participant}
@@ -65,6 +65,21 @@ module _ {T : Type 0} (v : Partaker T) where
     now = λ _. t.now some_open;
   }
 
+  pub tied_settled : (m : Member) → AreTied m v.entries → AreTied (record m { own = time.settled m.own }) v.entries
+  tied_settled m t = record {
+    place = t.place;
+    slots = t.slots;
+    long = t.long;
+    wide = t.wide;
+    plain = t.plain;
+    waits = t.waits;
+    inside = t.inside;
+    kept = t.kept;
+    bags = t.bags;
+    due = t.due;
+    now = t.now;
+  }
+
   module _ (holds : T → List Holding) where
     -- one guard more beside others
     pub nests : IsGuarded v.member → world_of (record v { member = record v.member { own = time.nested v.member.own } }) ≡ nested (world_of v) v.member.place
@@ -101,6 +116,15 @@ module _ {T : Type 0} (v : Partaker T) where
       opened_changed ne after e = e
           ∙ ((λ d. steps.settled (all_reclaimed holds (alone_is (record { member = m; entries = v.entries }) place_first d) (place_first d) m.due) (place_first d))
           ∙ (opens_changed ne ∙ (λ d. opened holds (sym (alone_is v t.place) d) (sym t.place d))))
+
+      -- or nothing waited: then it is decided at once
+      pub opened_idle : v.member.own.found ≢ v.member.known → m.due ≡ [] → (n : Member) → n ≡ record m { own = time.settled m.own }
+          → world_of (record { member = n; entries = v.entries }) ≡ opened holds (world_of v) v.member.place
+      opened_idle ne none n is_settled = let p : Partaker T = record { member = m; entries = v.entries } in
+          opened_changed ne (world_of (record { member = n; entries = v.entries }))
+          (ap (λ (y : Member). world_of (record { member = y; entries = v.entries })) is_settled
+          ∙ (steps_alone (λ (w : World T) (k : ℕ). steps.settled w k) p (record p { member = record m { own = time.settled m.own } }) place_first place_first refl
+          ∙ (λ d. steps.settled (all_reclaimed holds (world_of p) m.place (sym none d)) m.place)))
 
 module _ {T : Type 0} (v : Partaker T) (m : Member) where
   module _ (shown : T → Gv) (holds : T → List Holding) where

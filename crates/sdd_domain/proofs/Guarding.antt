@@ -1,7 +1,6 @@
 -- What the opening of a guard is for a participant's world, one beside others and the outermost one
-use Rattle.std.proofs.Common.{◌≡◌, ◌≢◌, ℕ, ◌<◌, ◌==◌, not, Bool, true, false, IsTrue, List, [], ◌∷◌, sym, refl, ap, ◌∙◌, subst, arith}
+use Rattle.std.proofs.Common.{◌≡◌, ◌≢◌, ℕ, ◌<◌, ◌≤◌, ◌⊎◌, Bool, true, false, IsTrue, List, [], ◌∷◌, sym, refl, ap, ◌∙◌, subst, inl, inr, ⊎_elim, arith}
 use Rattle.std.specs.Prelude.{Result, Ok, Err, MatchResult}
-use Rattle.std.proofs.Common.{eq-eqb, ne_eqb}
 use mathlib.Core.Logic.{dite}
 use native.Mathlib.Decide.{ℕ_discrete}
 use base.Stored.{Gv}
@@ -16,8 +15,8 @@ use Rattle.sdd_base.specs.Steps.{opened, nested}
 use Rattle.sdd_base.specs.World.{World, place_at}
 use Rattle.sdd_base.proofs.Own.{all_awaiting-found, opens}
 use Rattle.sdd_domain.specs.Homes.{home_in}
-use Rattle.sdd_domain.specs.Member.{Member, IsLone, IsGuarded, CanNest}
-use Rattle.sdd_domain.specs.Tied.{IsTied}
+use Rattle.sdd_domain.specs.Member.{Member, IsLone, IsGuarded, CanNest, IsEntered, GoesOn}
+use Rattle.sdd_domain.specs.Tied.{AreTied, IsTied}
 use Rattle.sdd_domain.specs.Local.{Partaker, world_of}
 use Rattle.sdd_domain.specs.Space.{Shows, is_lone}
 use Rattle.sdd_domain.specs.Sound.{IsSound}
@@ -25,24 +24,29 @@ use Rattle.sdd_domain.specs.Waits.{arrived_at}
 use Rattle.sdd_domain.specs.Laws.{own_is_place}
 use Rattle.sdd_domain.proofs.Alone.{steps_alone}
 use Rattle.sdd_domain.proofs.Arrivals.{stayed, moved, as_open}
-use Rattle.sdd_domain.proofs.Exact.{lone_is, nests}
+use Rattle.sdd_domain.proofs.Exact.{lone_is, nests, tied_settled}
 use Rattle.sdd_domain.proofs.Kept.{keeps_own}
+use Rattle.sdd_domain.proofs.Openings.{tied_enters}
+use Rattle.sdd_domain.proofs.Reclaims.{either_way}
 use Rattle.sdd_domain.proofs.Sound.{lives, sound_opened}
 
--- where a change is told the participant had found another count, and where none is the same
-pub another : (own : Participant) (count : ℕ) (b : Bool) → b ≡ not (own.found == count) → b ≡ true → own.found ≢ count
-another own count b e told same = absurd (let c : true ≡ false = sym told ∙ (e ∙ ap not (eq-eqb own.found count same)) in cc)
+-- an opening that goes on has entered, and one that is over, unless nothing waited
+module _ (count : ℕ) (b : Bool) (old m new : Member) (is : IsEntered count old m) (goes : GoesOn count b old m new) where
+  pub goes_on : b ≡ true → (old.own.found ≢ count) × IsEntered count old new
+  goes_on told = let g = goes.change told in (g.0, subst (IsEntered count old) (sym g.1) is)
 
-pub the_same : (own : Participant) (count : ℕ) (b : Bool) → b ≡ not (own.found == count) → b ≡ false → own.found ≡ count
-the_same own count b e told = dite (ℕ_discrete own.found count) (λ same. same)
-    (λ ne. absurd (let c : false ≡ true = sym told ∙ (e ∙ ap not (ne_eqb own.found count ne)) in cc))
+  abbrev pub WasIdle : Type 0
+  WasIdle = (old.own.found ≢ count) × (m.due ≡ []) × (new ≡ record m { own = settled m.own })
+
+  pub is_over : b ≡ false → ((old.own.found ≡ count) × IsEntered count old new) ⊎ WasIdle
+  is_over told = ⊎_elim (λ (g : (old.own.found ≡ count) × (new ≡ m)). inl (g.0, subst (IsEntered count old) (sym g.1) is)) (λ (g : WasIdle). inr g) (goes.over told)
 
 -- the count that is found last after an opening, and how many guards are open
 pub found_there : (count : ℕ) (own : Participant) → (arrived_at count own).found ≡ count
 found_there count own = dite (ℕ_discrete own.found count) (λ e. ap (λ (p : Participant). p.found) (stayed count own e) ∙ e)
     (λ ne. ap (λ (p : Participant). p.found) (moved count own ne))
 
-all_guards : (ks : List ℕ) (p : Participant) → (all_awaiting ks p).guards ≡ p.guards
+pub all_guards : (ks : List ℕ) (p : Participant) → (all_awaiting ks p).guards ≡ p.guards
 all_guards [] p = refl
 all_guards (k ∷ ks) p = all_guards ks (time.awaiting (Rattle.sdd_store.specs.declared.waiting.What.TheVariants.Item k) p)
 
@@ -52,13 +56,42 @@ found_after given count own = all_awaiting-found given (time.nested (arrived_at 
 pub open_after : (given : List ℕ) (count : ℕ) (own : Participant) → 0 < (settled (all_awaiting given (time.nested (arrived_at count own)))).guards
 open_after given count own = let g = all_guards given (time.nested (arrived_at count own)) in omega arith
 
--- one guard is open then, whether the opening was a change or not
-pub one_before : (count : ℕ) (own : Participant) → own.guards ≡ 0 → (time.nested (arrived_at count own)).guards ≡ 1
+-- one guard is open then
+one_before : (count : ℕ) (own : Participant) → own.guards ≡ 0 → (time.nested (arrived_at count own)).guards ≡ 1
 one_before count own shut = let o = as_open count own in omega arith
 
-pub one_after : (given : List ℕ) (count : ℕ) (own : Participant) → own.guards ≡ 0
-    → (settled (all_awaiting given (time.nested (arrived_at count own)))).guards ≡ 1
-one_after given count own shut = all_guards given (time.nested (arrived_at count own)) ∙ one_before count own shut
+-- what is known after an opening
+pub record Stands (count : ℕ) (old new : Member) : Type 0 where
+  pub limits : new.limits ≡ old.limits
+  pub found : new.own.found ≡ count
+  pub known : new.known ≡ new.since
+  pub knows : count ≤ new.since
+  pub one : old.own.guards ≡ 0 → new.own.guards ≡ 1
+
+pub stands : (count : ℕ) (b : Bool) (old m new : Member) → IsEntered count old m → GoesOn count b old m new → Stands count old new
+stands count b old m new is goes = let there : Stands count old m = record {
+  limits = ap (λ (y : Member). y.limits) is.member;
+  found = ap (λ (y : Member). y.own.found) is.member ∙ found_there count old.own;
+  known = ap (λ (y : Member). y.known) is.member;
+  knows = is.knows;
+  one = λ shut. ap (λ (y : Member). y.own.guards) is.member ∙ one_before count old.own shut;
+} in
+    let idle : Stands count old (record m { own = settled m.own }) =
+    record { limits = there.limits; found = there.found; known = there.known; knows = there.knows; one = there.one } in
+    ⊎_elim (λ (t : b ≡ true). subst (Stands count old) (sym (goes.change t).1) there)
+    (λ (f : b ≡ false). ⊎_elim (λ (g : (old.own.found ≡ count) × (new ≡ m)). subst (Stands count old) (sym g.1) there)
+    (λ (g : (old.own.found ≢ count) × (m.due ≡ []) × (new ≡ record m { own = settled m.own })). subst (Stands count old) (sym g.2) idle) (goes.over f))
+    (either_way b)
+
+-- a lone participant's words, bags and ledger have the same after it
+pub tied_stands : {T : Type 0} (v : Partaker T) → AreTied v.member v.entries → v.member.due ≡ [] → (count : ℕ) (b : Bool) (m new : Member) → IsLone v.member
+    → IsEntered count v.member m → GoesOn count b v.member m new → AreTied new v.entries
+tied_stands v t none count b m new one is goes = let there : AreTied m v.entries = tied_enters v t none count m one is in
+    let Tied = λ (y : Member). AreTied y v.entries in
+    ⊎_elim (λ (told : b ≡ true). subst Tied (sym (goes.change told).1) there)
+    (λ (told : b ≡ false). ⊎_elim (λ (g : (v.member.own.found ≡ count) × (new ≡ m)). subst Tied (sym g.1) there)
+    (λ (g : (v.member.own.found ≢ count) × (m.due ≡ []) × (new ≡ record m { own = settled m.own })). subst Tied (sym g.2) (tied_settled v m there)) (goes.over told))
+    (either_way b)
 
 -- an opening doesn't raise the count
 pub same_count : {T : Type 0} (holds : T → List Holding) (p q : Partaker T) → world_of q ≡ opened holds (world_of p) p.member.place → q.member.known ≡ p.member.known

@@ -13,7 +13,7 @@ use Rattle.sdd_rule.specs.SlotSteps.{older, without_item}
 use Rattle.sdd_rule.proofs.Sums.{is_same, is_other, total_has}
 use Rattle.sdd_domain.specs.Waits.{what_of, waiting_of, is_ripe, ripe, unripe}
 
-either_way : (b : Bool) → (b ≡ true) ⊎ (b ≡ false)
+pub either_way : (b : Bool) → (b ≡ true) ⊎ (b ≡ false)
 either_way true = inl refl
 either_way false = inr refl
 

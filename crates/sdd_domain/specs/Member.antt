@@ -6,7 +6,7 @@ use Rattle.sdd_base.specs.declared.limits.Limits.{Limits}
 use Rattle.sdd_store.specs.declared.time.Participant.{Participant}
 use Rattle.sdd_store.specs.declared.waiting.What.{What}
 use Rattle.sdd_store.specs.declared.waiting.What.TheVariants.{Item}
-use Rattle.sdd_store.specs.Time.{newcomer, nested, awaiting}
+use Rattle.sdd_store.specs.Time.{newcomer, nested, settled, awaiting}
 use Rattle.sdd_base.specs.Guard.{Reader}
 use Rattle.sdd_base.specs.Own.{closed_with}
 use Rattle.sdd_store.specs.declared.tally.Tally.{Tally}
@@ -90,6 +90,13 @@ pub record IsEntered (count : ℕ) (old new : Member) : Type 0 where
   pub knew : old.known ≤ count
   pub knows : count ≤ new.since
   pub lone : IsLone old → (count ≡ old.known) × (new.since ≡ old.known)
+
+-- after such an opening something is to be reclaimed or decided, where it found another count and something waited; else nothing is: no other count was
+-- found, or nothing waited
+pub record GoesOn (count : ℕ) (goes_on : Bool) (old entered new : Member) : Type 0 where
+  pub change : goes_on ≡ true → (old.own.found ≢ count) × (new ≡ entered)
+  pub over : goes_on ≡ false → ((old.own.found ≡ count) × (new ≡ entered))
+      ⊎ ((old.own.found ≢ count) × (entered.due ≡ []) × (new ≡ record entered { own = settled entered.own }))
 
 -- the item of the slot was due before all others, and its value, which shows this, was moved out; the slot is free. A lone participant moved that
 -- value in

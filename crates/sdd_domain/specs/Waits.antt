@@ -1,10 +1,10 @@
 -- What waits with a participant, as its rule and as its bags have it
-use Rattle.std.specs.Prelude.{◌≡◌, ℕ, ◌≤◌, ◌==◌, Bool, List, [], map, filter, not, nat_lt, if◌then◌else◌}
+use Rattle.std.specs.Prelude.{◌≡◌, ◌≢◌, ◌⊎◌, ℕ, ◌≤◌, ◌==◌, Bool, true, false, List, [], map, filter, not, nat_lt, if◌then◌else◌}
 use Rattle.sdd_store.specs.declared.waiting.What.{What}
 use Rattle.sdd_store.specs.declared.waiting.What.TheVariants.{Item}
 use Rattle.sdd_store.specs.declared.time.Participant.{Participant}
 use Rattle.sdd_store.specs.Waiting.{Waiting}
-use Rattle.sdd_store.specs.Time.{due_next, rotated}
+use Rattle.sdd_store.specs.Time.{due_next, rotated, settled}
 use Rattle.atomic_table.specs.declared.shared.Seat.{Seat}
 use Rattle.sdd_rule.specs.declared.WaitingItem.{WaitingItem}
 use Rattle.sdd_rule.specs.declared.View.{View}
@@ -41,6 +41,12 @@ due_at count own = if own.found == count then [] else due_next own
 -- what the participant keeps of its own then, but for the guard
 abbrev pub arrived_at : ℕ → Participant → Participant
 arrived_at count own = if own.found == count then own else rotated count own
+
+-- and what it keeps where that is not all yet: another count was found, and something waited; or where it is: no other count was found, or nothing waited
+pub record HasArrived (count : ℕ) (goes_on : Bool) (old new : Participant) : Type 0 where
+  pub change : goes_on ≡ true → (old.found ≢ count) × (new ≡ arrived_at count old)
+  pub over : goes_on ≡ false → ((old.found ≡ count) × (new ≡ arrived_at count old))
+      ⊎ ((old.found ≢ count) × (old.bags.waiting ≡ []) × (new ≡ settled (arrived_at count old)))
 
 -- the slot is free, in which one item waited, which is remembered no more, and is counted as gone
 abbrev pub GivesOneBack : ℕ → View → ℕ → View → Type 0

@@ -1,31 +1,36 @@
 //! An outermost opening: the count is published, and where that is a change what is due comes out of the bags.
-ghost use Rattle.std.specs.Prelude.{◌≡◌, ◌==◌, ◌≤◌, ℕ, [], not};
+ghost use Rattle.std.specs.Prelude.{◌≡◌, ◌≤◌, ℕ, [], true, false};
 ghost use Rattle.sdd_store.specs.Time.{nested};
 ghost use Rattle.sdd_store.specs.Time as time;
 ghost use Rattle.sdd_board.specs.Token.{slots};
-ghost use Rattle.sdd_domain.specs.Waits.{ripe, arrived_at, due_at, Arrives};
+ghost use Rattle.sdd_domain.specs.Waits.{ripe, due_at, Arrives, HasArrived};
 ghost use Rattle.sdd_domain.specs.Posed.{IsPosed};
 
 use crate::due::Due;
 use sdd_board::{Board, Token, steps};
 use sdd_store::Participant;
 
-/// Another count was found: what waits has seen one change more, and what has seen three then is due.
+/// Another count was found: what waits has seen one change more, and what has seen three then is due. Where nothing waited that is all, and it is false.
 #[inline]
-fn change(own: &mut Participant, due: &mut Due, count: u64)
+fn change(own: &mut Participant, due: &mut Due, count: u64) -> bool
     requires none { due.old.items ≡ [] }
     requires room { own.old.bags.room ≤ due.old.room }
-    ensures own { own.new ≡ time.rotated count own.old }
+    ensures own { result ≡ true → own.new ≡ time.rotated count own.old }
+    ensures idle { result ≡ false → (own.old.bags.waiting ≡ []) × (own.new ≡ time.settled (time.rotated count own.old)) }
     ensures due { due.new.items ≡ time.due_next own.old }
     ensures room { own.old.bags.room ≤ due.new.room }
 {
     own.found = count;
-    if !own.bags.is_empty() {
-        due.rotate(&mut own.bags);
+    if own.bags.is_empty() {
+        own.countdown = 128;
+        return false;
     }
+    due.rotate(&mut own.bags);
+    true
 }
 
-/// Reads the count, writes it where it isn't there already, and then publishes it. The count was another one than was found last where this is true.
+/// Reads the count, writes it where it isn't there already, and then publishes it. Where this is true, the count was another one than was found last,
+/// and something waited: what is due then is to be reclaimed.
 #[inline]
 pub fn arrive(
     board: &Board,
@@ -40,8 +45,8 @@ pub fn arrive(
     requires none { due.old.items ≡ [] }
     requires room { own.old.bags.room ≤ due.old.room }
     ensures posed { IsPosed board.now place (nested own.new) token.new }
-    ensures arrived { (count : ℕ) × Arrives count own.old token.old token.new × (own.new ≡ arrived_at count own.old)
-        × (due.new.items ≡ due_at count own.old) × (result ≡ not (own.old.found == count)) }
+    ensures arrived { (count : ℕ) × Arrives count own.old token.old token.new × HasArrived count result own.old own.new
+        × (due.new.items ≡ due_at count own.old) }
     ensures room { own.old.bags.room ≤ due.new.room }
 {
     let count = steps::read(board, token);
@@ -51,6 +56,5 @@ pub fn arrive(
     }
     steps::write(board, token, place, count);
     steps::publish(board, token, place);
-    change(own, due, count);
-    true
+    change(own, due, count)
 }

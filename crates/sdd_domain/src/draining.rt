@@ -9,7 +9,7 @@ use crate::reclaiming::Partner;
 use sdd_base::Item;
 
 impl<T: Item<T>> Partner<'_, T> {
-    /// Opens an accelerated guard and closes it. How many items were reclaimed, and whether the opening was a change.
+    /// Opens an accelerated guard and closes it. How many items were reclaimed, and whether the opening was a change with which something waited.
     fn turn_over(&mut self) -> (usize, bool)
         requires shut { ¬ (IsGuarded self.old.member) }
         requires settled { self.old.member.due ≡ [] }
@@ -19,14 +19,14 @@ impl<T: Item<T>> Partner<'_, T> {
         ensures few { result.0 ≤ length (due_next self.old.member.own) }
         ensures reclaimed { self.new.member.tally ≡ with_reclaimed result.0 self.old.member.tally }
     {
-        let (guard, is_change) = self.membership.enter();
+        let (guard, goes_on) = self.membership.enter();
         let items = self.membership.now_due();
-        if is_change {
+        if goes_on {
             self.change();
         }
         self.membership.accelerate();
         self.membership.close_guard(guard);
-        (items, is_change)
+        (items, goes_on)
     }
 
     /// Reclaims what waits, and what that gives up, as many items as are left at most. It stops where the count of epochs doesn't rise.
@@ -46,9 +46,9 @@ impl<T: Item<T>> Partner<'_, T> {
             if !self.membership.waits() || self.membership.next_due() > *left {
                 return;
             }
-            let (items, is_change) = self.turn_over();
+            let (items, goes_on) = self.turn_over();
             *left -= items;
-            if turn > 0 && !is_change {
+            if turn > 0 && !goes_on {
                 return;
             }
         }

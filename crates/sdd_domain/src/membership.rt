@@ -9,7 +9,7 @@ ghost use Rattle.sdd_board.specs.Token.{epoch, words_known, IsSameBut};
 ghost use Rattle.sdd_domain.specs.Domain.{home_of, book_of, limits_of};
 ghost use Rattle.sdd_domain.specs.Homes.{home_at, home_in};
 ghost use Rattle.sdd_domain.specs.Items.{slots_home};
-ghost use Rattle.sdd_domain.specs.Member.{waits, CanNest, IsGuarded, IsNew, IsEntered, Reclaims, Closes, IsTold};
+ghost use Rattle.sdd_domain.specs.Member.{waits, CanNest, IsGuarded, IsNew, IsEntered, GoesOn, Member, Reclaims, Closes, IsTold};
 ghost use Rattle.sdd_base.specs.Guard.{reader_of};
 ghost use Rattle.sdd_base.specs.Holding.{AreOf};
 ghost use Rattle.sdd_places.specs.declared.tenures.Stage.TheVariants.{Closed as is_closed};
@@ -217,14 +217,6 @@ impl<'d, T: Item<T>> Membership<'d, T> {
         !self.own.bags.is_empty()
     }
 
-    /// Nothing waits with the participant, and nothing is due.
-    #[inline]
-    pub fn is_idle(&self) -> bool
-        ensures { IsTrue result ↔ ((self.now.own.bags.waiting ≡ []) × (self.now.due ≡ [])) }
-    {
-        self.own.bags.is_empty() && self.due.len() == 0
-    }
-
     /// How much its next change makes due.
     pub fn next_due(&self) -> usize
         ensures { result ≡ length (due_next self.now.own) }
@@ -281,16 +273,16 @@ impl<'d, T: Item<T>> Membership<'d, T> {
         }
     }
 
-    /// The outermost opening, and whether it is a change: it is where it finds another count than the last one. What is due then is to be reclaimed.
+    /// The outermost opening. Where it finds another count than the last one, and something waits, it is true: then what is due is to be reclaimed.
     #[inline]
     pub(crate) fn enter(&mut self) -> (Guard, bool)
         requires shut { ¬ (IsGuarded self.old) }
         requires settled { self.old.due ≡ [] }
         ensures reader { reader_of result.0 ≡ self.old.reader }
         ensures nests { CanNest self.old }
-        ensures entered { (count : ℕ) × IsEntered count self.old self.new × (result.1 ≡ not (self.old.own.found == count)) }
+        ensures entered { (count : ℕ) × (entered : Member) × IsEntered count self.old entered × GoesOn count result.1 self.old entered self.new }
     {
-        let changed = arrive(
+        let goes_on = arrive(
             &self.domain.board,
             &mut self.token,
             self.place,
@@ -299,7 +291,7 @@ impl<'d, T: Item<T>> Membership<'d, T> {
         );
         self.own.guards = 1;
         self.tenure.set(&Stage::Open, &());
-        (guard_with(self.tenure.split(1)), changed)
+        (guard_with(self.tenure.split(1)), goes_on)
     }
 
     /// Moves the value out of the next item that is due, and gives back its slot.

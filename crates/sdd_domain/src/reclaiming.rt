@@ -138,9 +138,9 @@ impl<T: Item<T>> Partner<'_, T> {
         }
     }
 
-    /// What is due is reclaimed; and then it is decided whether anything waits.
+    /// The rest of a change: what is due is reclaimed, and what each value held is retired then; and then it is decided whether anything waits.
     #[inline(never)]
-    fn reclaim(&mut self)
+    pub fn change(&mut self)
         ensures own { (given : List ℕ) × (self.new.member.own ≡ settled (all_awaiting given self.old.member.own)) × (self.old.member.due ≡ [] → given ≡ []) }
         ensures known { KnowsOn (known_of self.old) (known_of self.new) }
         ensures rest { rest_of self.new ≡ rest_of self.old }
@@ -153,27 +153,5 @@ impl<T: Item<T>> Partner<'_, T> {
         self.reclaim_due();
         self.membership.settle();
         self.membership.stands();
-    }
-
-    /// A change: what is due is reclaimed, and what each value held is retired then; and then it is decided whether anything waits.
-    ///
-    /// Where nothing waits and nothing is due, all is done here.
-    #[inline(never)]
-    pub fn change(&mut self)
-        ensures own { (given : List ℕ) × (self.new.member.own ≡ settled (all_awaiting given self.old.member.own)) × (self.old.member.due ≡ [] → given ≡ []) }
-        ensures known { KnowsOn (known_of self.old) (known_of self.new) }
-        ensures rest { rest_of self.new ≡ rest_of self.old }
-        ensures due { self.new.member.due ≡ [] }
-        ensures reclaimed { self.new.member.tally ≡ with_reclaimed (length self.old.member.due) self.old.member.tally }
-        ensures near { IsGuarded self.new.member → self.new.member.known ≤ self.new.member.since + 1 }
-        ensures exact { IsLone self.old.member → world_of self.new
-            ≡ steps.settled (all_reclaimed T.holds (world_of self.old) self.old.member.place self.old.member.due) self.old.member.place }
-    {
-        if self.membership.is_idle() {
-            self.membership.settle();
-            self.membership.stands();
-        } else {
-            self.reclaim();
-        }
     }
 }

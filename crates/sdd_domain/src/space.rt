@@ -131,8 +131,8 @@ impl<T: Item<T>> Guards<T> for Local<'_, T> {
         if self.partner.membership.is_guarded() {
             return self.partner.membership.nest();
         }
-        let (guard, is_change) = self.partner.membership.enter();
-        if is_change {
+        let (guard, goes_on) = self.partner.membership.enter();
+        if goes_on {
             self.partner.change();
         }
         Ok(guard)
