@@ -1,4 +1,4 @@
-ghost use Rattle.std.specs.Prelude.{◌≡◌, ℕ, ◌+◌, ◌^◌, ◌≤◌, ◌⊎◌, [], All, IfErr, IfOk, MatchResult, length, vec_capacity};
+ghost use Rattle.std.specs.Prelude.{◌≡◌, ℕ, List, false, ◌+◌, ◌^◌, ◌≤◌, ◌⊎◌, [], All, IfErr, IfOk, MatchResult, length, vec_capacity};
 ghost use Rattle.sdd_base.specs.Limits.{AreInRange};
 ghost use Rattle.sdd_stakes.specs.Memory.{IsHoldOf, IsHoldOfShelf};
 ghost use Rattle.sdd_stakes.specs.Shelf.{AreVacant};
@@ -146,9 +146,10 @@ impl<T: Item<T>> Domain<T> {
         mut receipts: Vec<Receipt<T>>,
     ) -> Result<Tally, (Domain<T>, Vec<Receipt<T>>, Refused)>
         requires homes { All (λ (r : Ended). r.home ≡ slots_in self) receipts.items }
-        ensures closed { (waiting : ℕ) × (waiting ≤ (limits_of self).slots) × MatchResult result
-            (λ tally. tally ≡ with_reclaimed waiting (sum_of receipts.items))
-            (λ back. (back.0 ≡ self) × AreSettled waiting receipts.items back.1.items × (back.2 ≡ Refused.OwnerOut)) }
+        ensures settled { (waiting : ℕ) × (waiting ≤ (limits_of self).slots) × (settled : List Ended) × AreSettled waiting receipts.items settled
+            × MatchResult result
+            (λ tally. (tally ≡ sum_of settled) × (tally ≡ with_reclaimed waiting (sum_of receipts.items)) × All (λ (r : Ended). r.waits ≡ false) settled)
+            (λ back. (back.0 ≡ self) × (back.1.items ≡ settled) × (back.2 ≡ Refused.OwnerOut)) }
         ensures again { IfErr result (λ back. All (λ (r : Ended). r.home ≡ slots_in back.0) back.1.items) }
         ensures whole { IfOk result (λ tally. (length receipts.items ≤ (limits_of self).participants)
             × (length receipts.items ≡ (limits_of self).participants → AddsUp tally)) }

@@ -25,11 +25,17 @@ take_all_counts-requires-clause-homes g c k d low = ap (λ (h : token.Home). h.t
     (home_again (λ (h : token.Home). h ≡ slots_in c.args.self) _ c.args.receipts.items c.settle_all.new.receipts.items c.settle_all.ensures.settled
     c.requires.homes k d low)
 
-pub returns-clause-closed : goal.returns-clause-closed
-returns-clause-closed g c = (
+pub returns-clause-settled : goal.returns-clause-settled
+returns-clause-settled g c = let ended : List Receipt = c.settle_all.new.receipts.items in (
   c.args.self.limits.slots - c.settle_all.new.left,
   (omega arith),
-  c.tally_of-tally.ensures ∙ settled_sum _ c.args.receipts.items c.settle_all.new.receipts.items c.settle_all.ensures.settled,
+  ended,
+  c.settle_all.ensures.settled,
+  (
+    c.tally_of-tally.ensures,
+    c.tally_of-tally.ensures ∙ settled_sum _ c.args.receipts.items ended c.settle_all.ensures.settled,
+    c.are_over.ensures c.if-not-are_over.false,
+  ),
 )
 
 pub returns-clause-whole : goal.returns-clause-whole
