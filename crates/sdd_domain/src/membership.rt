@@ -15,6 +15,7 @@ ghost use Rattle.sdd_base.specs.Holding.{AreOf};
 ghost use Rattle.sdd_places.specs.declared.tenures.Stage.TheVariants.{Closed as is_closed};
 
 use crate::changes::arrive;
+use crate::counting::count_reclaimed;
 use crate::domain::Domain;
 use crate::due::Due;
 use crate::ended::Ended;
@@ -312,7 +313,7 @@ impl<'d, T: Item<T>> Membership<'d, T> {
             slot,
         );
         self.known.remember(slot);
-        self.tally.count_reclaimed();
+        count_reclaimed(&mut self.tally);
         Some(value)
     }
 

@@ -12,6 +12,7 @@ ghost use Rattle.sdd_domain.specs.Items.{slots_home, HasValue, IsRightTo};
 ghost use Rattle.sdd_domain.specs.Sight.{IsOnce};
 
 use crate::claims::claim_free;
+use crate::counting::count_made;
 use crate::membership::Membership;
 use crate::values::{let_wait, put_value};
 use sdd_base::inner::tenure_of;
@@ -70,7 +71,7 @@ impl<'d, T: Item<T>> Membership<'d, T> {
                     shared,
                     value,
                 );
-                self.tally.count_made();
+                count_made(&mut self.tally);
                 Ok(Right::of_witness(slot, slots as usize, kind, owner, grip))
             }
             Err(refused) => Err((value, refused)),
@@ -111,7 +112,7 @@ impl<'d, T: Item<T>> Membership<'d, T> {
                     shared,
                     value,
                 );
-                self.tally.count_made();
+                count_made(&mut self.tally);
                 Ok(Right::of_witness(slot, slots as usize, kind, owner, grip))
             }
             Err(refused) => Err((make, refused)),
