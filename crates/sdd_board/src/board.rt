@@ -11,8 +11,8 @@ ghost use Rattle.sdd_board.specs.Sizes.{AreSmall};
 
 use crate::words::{first_slot, word_count};
 use atomic_table::{Closed, Refused, Seat, Table, TableRule};
-use sdd_views::{Sizes, View};
 use sdd_stakes::{Stake, Title};
+use sdd_views::{Sizes, View};
 use std::alloc::Global;
 
 /// How many of each a domain has, and of which book its values' places are.

@@ -8,8 +8,8 @@ ghost use Rattle.sdd_homes.specs.HomeSteps.{ClaimsAll, TakesOut, TakesHeld, Reti
 ghost use Rattle.sdd_board.specs.Token.{Sits, Told, HousesMoved, TakesOwned, WatchesOwned, RecallsOwned};
 
 use atomic_table::{Join, Play, Split};
-use sdd_views::View;
 use sdd_stakes::Stake;
+use sdd_views::View;
 use sdd_witness::{Alone, Beside};
 
 pub struct Sit;

@@ -21,8 +21,8 @@ use sdd_board::steps::slots::{FREE, look_for_value};
 use sdd_board::words::state_word;
 use sdd_board::{Board, Token, steps};
 use sdd_homes::gather_home;
-use sdd_views::Sizes;
 use sdd_stakes::{Stake, Stock, Title};
+use sdd_views::Sizes;
 use std::alloc::Global;
 use std::mem;
 

@@ -190,11 +190,7 @@ impl<'d, T: Item<T>> Membership<'d, T> {
             return Err(Refused::NoPlace);
         };
         steps::write(&domain.board, &mut token, place, 0);
-        known.begin_at(share_of(
-            place,
-            domain.board.places(),
-            domain.limits.slots as u32,
-        ));
+        known.begin_at(share_of(place, domain.board.places(), domain.limits.slots as u32));
         Ok(Membership {
             domain,
             token,

@@ -171,10 +171,12 @@ returns-clause-retired g c =
     let own_is : c.stir.new.self ≡ awaiting (Item slot) l.own
     = c.stir.ensures ∙ (ap (λ (bags : Bags). with_garbage (record l.own { bags = bags })) c.push.ensures ∙ ap (λ (k : ℕ). awaiting (Item k) l.own) c.number-slot.ensures) in
     let old : Member = c.self.view_is 0 in
-    let home : c.let_wait.new.token.table_id ≡ l.token.table_id = waits.0 ∙ took.0 in
-    (retired.0, subst (λ (m : Member). RetiresAt slot retired.0 m
-    (record (with_view old c.let_wait.new.token.table_id c.let_wait.new.token.me.0) { own = c.stir.new.self })) c.self.view_is record {
-      member = λ d. record (with_view old (home d) (retired.1 d)) { own = own_is d };
-      knew = retired.2;
-      lone = λ one. retired.3 ((q.all ∙ ap (λ (z : Sizes). z.participants) l.domain.now.limited.1) ∙ one);
-    })
+    let home : c.let_wait.new.token.table_id ≡ l.token.table_id = waits.0 ∙ took.0 in (
+      retired.0,
+      subst (λ (m : Member). RetiresAt slot retired.0 m
+          (record (with_view old c.let_wait.new.token.table_id c.let_wait.new.token.me.0) { own = c.stir.new.self })) c.self.view_is record {
+            member = λ d. record (with_view old (home d) (retired.1 d)) { own = own_is d };
+            knew = retired.2;
+            lone = λ one. retired.3 ((q.all ∙ ap (λ (z : Sizes). z.participants) l.domain.now.limited.1) ∙ one);
+          },
+    )
