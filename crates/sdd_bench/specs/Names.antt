@@ -5,7 +5,7 @@ use Rattle.sdd_bench.specs.declared.threads.Timed.TheVariants.{Guard, Nested as 
 use Rattle.sdd_bench.specs.declared.operation.Guarding.TheVariants.{Outermost, Nested, Accelerated}
 use Rattle.sdd_bench.specs.declared.operation.Task.TheVariants.{Guards, Items, HalfFull, Looks, Reads, Gets}
 use Rattle.sdd_bench.specs.declared.operation.Operation.{Operation}
-use Rattle.sdd_bench.specs.declared.operation.Operation.TheVariants.{World, Local, Beside, Item, Job, Read, Look, Load, Share, Raw, Swap}
+use Rattle.sdd_bench.specs.declared.operation.Operation.TheVariants.{World, Local, Beside, Places, Item, Job, Read, Look, Load, Share, Raw, Swap}
 
 abbrev pub name_of : Operation → List ℕ
 name_of (World Outermost) = codes "world-outermost"
@@ -27,6 +27,7 @@ name_of (Beside HalfFull) = codes "beside-half-full"
 name_of (Beside Looks) = codes "beside-look"
 name_of (Beside Reads) = codes "beside-read"
 name_of (Beside Gets) = codes "beside-get"
+name_of Places = codes "domain-places"
 name_of Item = codes "world-item"
 name_of Job = codes "world-job"
 name_of Read = codes "world-read"

@@ -85,7 +85,7 @@ fn by_one(
 }
 
 /// One receipt more for the close.
-fn keep(
+pub fn keep(
     domain: &Domain<u64>,
     receipts: &mut Vec<Receipt<u64>>,
     receipt: Receipt<u64>,

@@ -4,6 +4,7 @@
 mod cells;
 mod local;
 mod operation;
+mod places;
 mod rounds;
 mod spans;
 mod threads;
@@ -49,6 +50,16 @@ const FOR_TWO: Limits = Limits {
     cells: 2,
     jobs: 1024,
     nesting: 2,
+    tries: 1,
+};
+
+/// As many participants as a domain may have.
+const CROWD: Limits = Limits {
+    participants: 1024,
+    slots: 1,
+    cells: 1,
+    jobs: 0,
+    nesting: 1,
     tries: 1,
 };
 
@@ -127,5 +138,6 @@ fn done(alloc: Global, operation: Operation, turns: u64) -> Result<(Tally, u64),
         Operation::Swap => world::run(alloc, LIMITS, Work::Swaps, turns),
         Operation::Local(task) => local::run(alloc, LIMITS, false, task, turns),
         Operation::Beside(task) => local::run(alloc, FOR_TWO, true, task, turns),
+        Operation::Places => places::run(alloc, CROWD, turns),
     }
 }

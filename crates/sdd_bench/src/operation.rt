@@ -38,6 +38,8 @@ pub enum Operation {
     Local(Task),
     /// By a participant of a domain, beside one that does nothing.
     Beside(Task),
+    /// As many participants as a domain may have register, and all end; and the domain is closed.
+    Places,
     /// In a world, an item is made and retired under a guard, and what is due is reclaimed.
     Item,
     /// In a world, a job is deferred under a guard, and what is due runs.
@@ -88,6 +90,7 @@ pub fn named(word: &str) -> Option<Operation>
         "beside-look" => Some(Operation::Beside(Task::Looks)),
         "beside-read" => Some(Operation::Beside(Task::Reads)),
         "beside-get" => Some(Operation::Beside(Task::Gets)),
+        "domain-places" => Some(Operation::Places),
         _ => None,
     }
 }

@@ -8,7 +8,8 @@ ghost use Rattle.sdd_base.specs.Seat.{IsSeated, IsExact};
 ghost use Rattle.sdd_base.specs.Shared as shared;
 ghost use Rattle.sdd_base.specs.Steps.{given, given_all, all_reclaimed};
 ghost use Rattle.sdd_base.specs.Steps as steps;
-ghost use Rattle.sdd_store.specs.Time.{settled};
+ghost use Rattle.sdd_store.specs.Time.{awaiting, settled};
+ghost use Rattle.sdd_store.specs.declared.waiting.What.TheVariants.{Item as item};
 ghost use Rattle.sdd_domain.specs.Homes.{home_in};
 ghost use Rattle.sdd_domain.specs.Local.{Partaker};
 ghost use Rattle.sdd_domain.specs.Member.{IsGuarded, IsLone};
@@ -63,6 +64,7 @@ impl<T: Item<T>> Giver<T> for Partner<'_, T> {
         ensures own { GrowsOn self.old.member.own self.new.member.own }
         ensures known { KnowsOn (known_of self.old) (known_of self.new) }
         ensures kept { kept_of self.new ≡ kept_of self.old }
+        ensures waits { self.new.member.own ≡ awaiting (item (owned.slot_of owner)) self.old.member.own }
         ensures exact { IsExact (seat_of self.old) → world_of self.new ≡ given (world_of self.old) self.old.member.place (owned.holding_of owner) }
     {
         self.membership.let_go(right_of_owner(owner));

@@ -70,6 +70,8 @@ fn try_lock(board: &Board, token: &mut Token) -> u64
 }
 
 /// Raises the count by one, if it is the own one, nobody else scans, and every other place passes. The last count stays.
+// A function of its own, so that the close of a guard stays short enough to be compiled into its caller.
+#[inline(never)]
 pub fn scan(board: &Board, token: &mut Token, place: usize, count: u64)
     requires home { token.old.table_id ≡ id_of board.now }
     requires own { (place ≡ (epoch token.old).place) × (place < places_of board.now) }

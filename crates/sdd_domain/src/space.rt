@@ -126,6 +126,7 @@ impl<T: Item<T>> Caller<T> for Local<'_, T> {
 }
 
 impl<T: Item<T>> Guards<T> for Local<'_, T> {
+    // The compiler puts an opening into its caller as long as it is short: that is all but spent. Five instructions more here, and each guard takes 12 more.
     #[inline]
     fn open_guard(&mut self) -> Result<Guard, Refused> {
         if self.partner.membership.is_guarded() {
