@@ -41,10 +41,11 @@ set_twice [] i a b = refl
 set_twice (x ∷ xs) zero a b = refl
 set_twice (x ∷ xs) (suc i) a b = ap (λ (l : List _). x ∷ l) (set_twice xs i a b)
 
--- no part reads what is known of stakes
-pub blind : (sizes : Sizes) (ws : List ℕ) (vs : List View) (id : ℕ) (u v : View) → get_elem? vs id ≡ some u → Parts sizes ws (set vs id v)
-    → (t : StakesView) → Parts sizes ws (set vs id (record v { stakes = t }))
-blind sizes ws vs id u v was p t = let us : List View = set vs id v in let w : View = record v { stakes = t } in
+-- no part reads what is known of stakes, and which owners have their units
+pub blind_units : (sizes : Sizes) (ws : List ℕ) (vs : List View) (id : ℕ) (u v : View) → get_elem? vs id ≡ some u → Parts sizes ws (set vs id v)
+    → (t : StakesView) (units : List ℕ) → Parts sizes ws (set vs id (record v { stakes = t; slots = record v.slots { drawn = units } }))
+blind_units sizes ws vs id u v was p t units = let us : List View = set vs id v in
+    let w : View = record v { stakes = t; slots = record v.slots { drawn = units } } in
     let at : get_elem? us id ≡ some v = set_here vs id v (epochs.at_length vs id u was) in let f = p.slots.each id v at in
     subst (Parts sizes ws) (set_twice vs id v w) record {
       epoch = subst (λ (l : List EpochView). EpochPart sizes.participants ws l) (sym (same_epochs us id v w at refl)) p.epoch;
@@ -55,6 +56,10 @@ blind sizes ws vs id u v was p t = let us : List View = set vs id v in let w : V
           (record { since = a.since; looked = a.looked }, record { since = b.since; looked = b.looked }));
       lone = lone_same sizes ws us p.lone id v at w refl (λ z. z);
     }
+
+pub blind : (sizes : Sizes) (ws : List ℕ) (vs : List View) (id : ℕ) (u v : View) → get_elem? vs id ≡ some u → Parts sizes ws (set vs id v)
+    → (t : StakesView) → Parts sizes ws (set vs id (record v { stakes = t }))
+blind sizes ws vs id u v was p t = blind_units sizes ws vs id u v was p t v.slots.drawn
 
 -- nor of ended places
 pub blind_places : (sizes : Sizes) (ws : List ℕ) (vs : List View) (id : ℕ) (v : View) → get_elem? vs id ≡ some v → Parts sizes ws vs
@@ -102,18 +107,18 @@ module _ {S : Type 0} (sizes : Sizes) where
   )
 
   -- the table at the start
-  pub begins : (book : ℕ) (ws : List ℕ) (xs : List S) → length ws ≡ all_words sizes → ((i : ℕ) → get_or ws i 0 ≡ 0)
-      → Kept sizes (opening ws xs (idle sizes book))
-  begins book ws xs long none = record {
+  pub begins : (book : ℕ) (t : StakesView) (ws : List ℕ) (xs : List S) → length ws ≡ all_words sizes → ((i : ℕ) → get_or ws i 0 ≡ 0)
+      → Kept sizes (opening ws xs (record (idle sizes book) { stakes = t }))
+  begins book t ws xs long none = let w : View = record (idle sizes book) { stakes = t } in record {
     parts = record {
       epoch = epochs.begins sizes.participants ws (omega arith) none;
-      slots = starts codes sound sizes ws (idle sizes book) long none refl;
-      lone = record { knows = λ one j v e z. let e' = ap (λ (x : View). x.epoch.state) (only (idle sizes book) j v e) in absurd (omega arith) };
+      slots = starts codes sound sizes ws w long none refl;
+      lone = record { knows = λ one j v e z. let e' = ap (λ (x : View). x.epoch.state) (only w j v e) in absurd (omega arith) };
     };
     places = record {
       wide = omega arith;
-      ended = λ j v e p _ l. let e' = ap (λ (x : View). x.places.ended) (only (idle sizes book) j v e) in absurd (omega arith);
-      quiet = λ j v e i l. let e' = ap (λ (x : View). x.places.quiet) (only (idle sizes book) j v e) in absurd (omega arith);
+      ended = λ j v e p _ l. let e' = ap (λ (x : View). x.places.ended) (only w j v e) in absurd (omega arith);
+      quiet = λ j v e i l. let e' = ap (λ (x : View). x.places.quiet) (only w j v e) in absurd (omega arith);
     };
   }
     where
