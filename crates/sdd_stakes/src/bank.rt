@@ -20,8 +20,8 @@ pub trait Treasury<V> {
 
 /// What a deal with a bank tells.
 pub trait Deals<V> {
-    // Of the seat before, what was dealt, and the seat after.
-    ghost then: { Mine V → Lot → Mine V → Type 0 };
+    // Of the number that is dealt in, the seat before, what was dealt, and the seat after.
+    ghost then: { ℕ → Mine V → Lot → Mine V → Type 0 };
 }
 
 /// Units in an invariant beside a table's. One seat's view is with them there, and tells which they are. No bytes, and nothing that could be lost.
@@ -60,19 +60,22 @@ impl<V, K, P: TableRule<Stake, V, K>, B: Treasury<V>> Bank<V, K, P, B> {
         }
     }
 
-    /// Some units go out.
+    /// Some units go out. The number says of what; it isn't read when the program runs.
+    #[inline]
     pub fn draw<M: Deals<V>>(
         &self,
         table: &Shared<Stake, V, K, P>,
         seat: &mut Seat<Stake, V>,
+        number: u64,
     ) -> Stake
         requires table { (seat.old.table_id ≡ table.now.table_id) × (self.now.table_id ≡ table.now.table_id) }
         requires allowed { AllowsDeal (P.holds self.now.key) Leaves B.ours B.banked table.now.table_id.slots seat.old.id seat.old.me self.now.id
-            (λ _. Unit {0}) (M.then seat.old.me) }
+            (λ _. Unit {0}) (M.then number seat.old.me) }
         ensures seat { (seat.new.table_id ≡ seat.old.table_id) × (seat.new.id ≡ seat.old.id) }
-        ensures then { M.then seat.old.me result.lot seat.new.me }
+        ensures then { M.then number seat.old.me result.lot seat.new.me }
     {
         let _ = table;
+        let _ = number;
         Stake { of: PhantomData }
     }
 }

@@ -67,9 +67,9 @@ impl Stake {
     )
         requires table { (seat.old.table_id ≡ table.now.table_id) × (bank.now.table_id ≡ table.now.table_id) }
         requires allowed { AllowsDeal (P.holds bank.now.key) Comes B.ours B.banked table.now.table_id.slots seat.old.id seat.old.me bank.now.id
-            (λ l. l ≡ self.lot) (M.then seat.old.me) }
+            (λ l. l ≡ self.lot) (M.then self.lot.number seat.old.me) }
         ensures seat { (seat.new.table_id ≡ seat.old.table_id) × (seat.new.id ≡ seat.old.id) }
-        ensures then { M.then seat.old.me self.lot seat.new.me }
+        ensures then { M.then self.lot.number seat.old.me self.lot seat.new.me }
     {
         let _ = bank;
         let _ = table;
