@@ -22,3 +22,4 @@ pub mod InPlace
 pub mod Letting
 pub mod Sharing
 pub mod Accounts
+pub mod Composed

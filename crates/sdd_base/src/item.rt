@@ -16,6 +16,9 @@ use crate::atomic_shared::AtomicShared;
 use crate::owned::Owned;
 use crate::shared::Shared;
 
+mod composed;
+mod plain;
+
 /// Takes what a value gives up: each last owner among it is retired at that moment, by the participant that reclaims the value.
 pub trait Giver<I> {
     /// What the calls change.
@@ -84,7 +87,8 @@ pub trait Giver<I> {
 
 /// A value that may hold owners and cells of a space of items `I`.
 ///
-/// A space of `T` needs `T: Item<T>`. Whole numbers and `String` give up nothing, whatever `I` is.
+/// A space of `T` needs `T: Item<T>`. Whole numbers, `bool`, `char`, `()` and `String` give up nothing, whatever `I` is; an `Option` or a tuple gives up
+/// what its parts do, in their order.
 pub trait Item<I>: Sized {
     /// What it gives up, in order.
     ghost holds: { Self → List Holding };
@@ -98,82 +102,4 @@ pub trait Item<I>: Sized {
         ensures known { KnowsOn (G.known giver.old) (G.known giver.new) }
         ensures kept { G.kept giver.new ≡ G.kept giver.old }
         ensures exact { IsExact (G.seat giver.old) → G.world giver.new ≡ given_all (G.world giver.old) (G.seat giver.old).place (holds self) };
-}
-
-impl<I> Item<I> for u8 {
-    ghost holds = { λ _. [] };
-
-    fn give_up<G: Giver<I>>(self, _giver: &mut G) {}
-}
-
-impl<I> Item<I> for u16 {
-    ghost holds = { λ _. [] };
-
-    fn give_up<G: Giver<I>>(self, _giver: &mut G) {}
-}
-
-impl<I> Item<I> for u32 {
-    ghost holds = { λ _. [] };
-
-    fn give_up<G: Giver<I>>(self, _giver: &mut G) {}
-}
-
-impl<I> Item<I> for u64 {
-    ghost holds = { λ _. [] };
-
-    fn give_up<G: Giver<I>>(self, _giver: &mut G) {}
-}
-
-impl<I> Item<I> for u128 {
-    ghost holds = { λ _. [] };
-
-    fn give_up<G: Giver<I>>(self, _giver: &mut G) {}
-}
-
-impl<I> Item<I> for usize {
-    ghost holds = { λ _. [] };
-
-    fn give_up<G: Giver<I>>(self, _giver: &mut G) {}
-}
-
-impl<I> Item<I> for i8 {
-    ghost holds = { λ _. [] };
-
-    fn give_up<G: Giver<I>>(self, _giver: &mut G) {}
-}
-
-impl<I> Item<I> for i16 {
-    ghost holds = { λ _. [] };
-
-    fn give_up<G: Giver<I>>(self, _giver: &mut G) {}
-}
-
-impl<I> Item<I> for i32 {
-    ghost holds = { λ _. [] };
-
-    fn give_up<G: Giver<I>>(self, _giver: &mut G) {}
-}
-
-impl<I> Item<I> for i64 {
-    ghost holds = { λ _. [] };
-
-    fn give_up<G: Giver<I>>(self, _giver: &mut G) {}
-}
-
-impl<I> Item<I> for i128 {
-    ghost holds = { λ _. [] };
-
-    fn give_up<G: Giver<I>>(self, _giver: &mut G) {}
-}
-
-impl<I> Item<I> for isize {
-    ghost holds = { λ _. [] };
-
-    fn give_up<G: Giver<I>>(self, _giver: &mut G) {}
-}
-
-impl<I> Item<I> for String {
-    ghost holds = { λ _. [] };
-
-    fn give_up<G: Giver<I>>(self, _giver: &mut G) {}
 }

@@ -1,13 +1,14 @@
 -- All participants with which something waits reclaim it, one after another.
 use Rattle.std.proofs.Common.{◌≡◌, ℕ, zero, suc, ◌+◌, ◌-◌, ◌<◌, List, [], ◌∷◌, ◌++◌, All, length, length-append, append_assoc, append-nil, map, sum, slice_index_or, slice_set, sym, refl, ap, ◌∙◌, subst, arith}
 use Rattle.std.proofs.Math.Seq.{set-append_seam, get_or-append_seam}
+use Rattle.std.proofs.lemmas.List.{get_or_append_left}
 use Rattle.std.proofs.lemmas.List.Sums.{sum_by-cons}
 use Rattle.sdd_token.specs.Units as token
 use Rattle.sdd_store.specs.declared.tally.Tally.{Tally}
 use Rattle.sdd_domain.specs.Receipt.{Receipt, capped, sum_of, with_reclaimed, made_in, reclaimed_in, in_place_in, IsSettled, AreSettled}
 
 -- one receipt more
-one_settled : (items own : ℕ) (xs ys : List Receipt) (x y : Receipt) → AreSettled items xs ys → IsSettled own x y → AreSettled (items + own) (xs ++ x ∷ []) (ys ++ y ∷ [])
+pub one_settled : (items own : ℕ) (xs ys : List Receipt) (x y : Receipt) → AreSettled items xs ys → IsSettled own x y → AreSettled (items + own) (xs ++ x ∷ []) (ys ++ y ∷ [])
 one_settled items own [] [] x y are is = (own, (omega arith), is, (omega arith))
 one_settled items own [] (z ∷ ys) x y are is = absurd are
 one_settled items own (z ∷ xs) [] x y are is = absurd are
@@ -47,9 +48,12 @@ none_of : (xs : List Receipt) → length xs ≡ 0 → xs ≡ []
 none_of [] none = refl
 none_of (x ∷ xs) none = absurd (omega arith)
 
-one_of : (P : Receipt → Type 0) (xs ys : List Receipt) (x : Receipt) → All P (xs ++ x ∷ ys) → P x
+pub one_of : (P : Receipt → Type 0) (xs ys : List Receipt) (x : Receipt) → All P (xs ++ x ∷ ys) → P x
 one_of P [] ys x all = all 0 x (omega arith)
 one_of P (z ∷ xs) ys x all = one_of P xs ys x (λ k d low. all (suc k) d (omega arith))
+
+pub front_of : (P : Receipt → Type 0) (xs ys : List Receipt) → All P (xs ++ ys) → All P xs
+front_of P xs ys all k d low = subst P (get_or_append_left xs ys d k low) (all k d (let both = length-append xs ys in omega arith))
 
 module _ (items step : ℕ) (start now : List Receipt) (g : Going items step start now) where
   -- as many as there were

@@ -21,9 +21,10 @@ use sdd_board::steps::slots::{FREE, look_for_value};
 use sdd_board::words::state_word;
 use sdd_board::{Board, Token, steps};
 use sdd_homes::gather_home;
-use sdd_views::Sizes;
 use sdd_stakes::{Stake, Stock, Title};
+use sdd_views::Sizes;
 use std::alloc::Global;
+use std::mem;
 
 /// The word of a slot in which no value is.
 fn is_free(word: u64) -> bool
@@ -99,14 +100,20 @@ pub fn settled(board: &Board, slots: u32) -> Option<Token>
 }
 
 /// Each participant in turn reclaims what waits with it, all together as many items as are left at most.
+// The last receipt stands in the place of the one that is being settled.
 pub fn settle_all<T: Item<T>>(domain: &Domain<T>, receipts: &mut Vec<Receipt<T>>, left: &mut usize)
     requires homes { All (λ (r : Ended). r.home ≡ slots_in domain.now) receipts.old.items }
     ensures few { left.new ≤ left.old }
     ensures settled { AreSettled (left.old - left.new) receipts.old.items receipts.new.items }
 {
+    let Some(mut held) = receipts.pop() else {
+        return;
+    };
     for index in 0..receipts.len() {
-        receipts[index].settle(domain, left);
+        let receipt = mem::replace(&mut receipts[index], held);
+        held = mem::replace(&mut receipts[index], receipt.settle(domain, left));
     }
+    receipts.push_reserved(held.settle(domain, left));
 }
 
 /// With none of the participants anything waits.

@@ -15,9 +15,9 @@ use sdd_board::{Board, Plan};
 use sdd_core::Refused;
 use sdd_homes::{gather_all, lay_all};
 use sdd_places::Hold;
-use sdd_views::Sizes;
 use sdd_stakes::{Plot, Shelf, Stake, Stock};
 use sdd_store::Tally;
+use sdd_views::Sizes;
 use std::alloc::{AllocError, Global};
 use std_alloc::room::may_hold;
 

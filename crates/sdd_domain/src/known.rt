@@ -42,7 +42,9 @@ impl Known {
     /// The next walk begins at this slot.
     pub fn begin_at(&mut self, slot: u32)
         requires { slot ≤ self.old.slots }
-        ensures { self.new ≡ record self.old { next = slot } }
+        ensures slots { self.new.slots ≡ self.old.slots }
+        ensures next { self.new.next ≡ slot }
+        ensures given_back { self.new.given_back ≡ self.old.given_back }
     {
         self.next = slot;
     }

@@ -1,5 +1,5 @@
 //! A participant's part in a domain: its guards, what waits with it, and the items that it makes and lets go.
-ghost use Rattle.std.specs.Prelude.{◌≡◌, ◌↔◌, ◌⊎◌, ◌+◌, ◌^◌, ◌<◌, ◌≤◌, ◌==◌, ℕ, [], false, length, IsTrue, not, IfSome, IfOk, IfErr, MatchOption, MatchResult};
+ghost use Rattle.std.specs.Prelude.{◌≡◌, ◌↔◌, ◌⊎◌, ◌+◌, ◌*◌, ◌/◌, ◌^◌, ◌<◌, ◌≤◌, ◌==◌, ℕ, [], false, length, IsTrue, not, IfSome, IfOk, IfErr, MatchOption, MatchResult};
 ghost use Rattle.sdd_stakes.specs.Shelf.{showing};
 ghost use Rattle.sdd_store.specs.Time.{accelerated, due_next, has_garbage, nested, settled, with_garbage};
 ghost use Rattle.sdd_views.specs.Views.{nobody};
@@ -118,19 +118,24 @@ fn take_place(board: &Board, token: &mut Token) -> Option<usize>
     ensures taken { IfSome result (λ place. (place < places_of board.now) × Takes (nobody (places_of board.now)) place (epoch token.new)) }
 {
     for place in 0..board.places() {
-        if steps::is_free(board, place) && steps::register(board, token, place) == steps::FREE {
+        if !steps::is_free(board, place) {
+            continue;
+        }
+        if steps::register(board, token, place) == steps::FREE {
             return Some(place);
         }
     }
     None
 }
 
-/// Where the share of the slots begins in which the participant of a place looks first: as far from the others' as can be.
+/// Where the share of the slots begins in which the participant of a place looks first: the places divide the slots evenly.
 fn share_of(place: usize, places: usize, slots: u32) -> u32
-    requires { place < places }
-    ensures { result ≤ slots }
+    requires inside { place < places }
+    requires few { places ≤ 2 ^ 32 }
+    ensures begins { result ≡ slots * place / places }
+    ensures inside { result ≤ slots }
 {
-    (slots as usize / places * place) as u32
+    (slots as usize * place / places) as u32
 }
 
 /// What a registering without memory is refused with: where no place is free either, that goes before.
@@ -185,11 +190,7 @@ impl<'d, T: Item<T>> Membership<'d, T> {
             return Err(Refused::NoPlace);
         };
         steps::write(&domain.board, &mut token, place, 0);
-        known.begin_at(share_of(
-            place,
-            domain.board.places(),
-            domain.limits.slots as u32,
-        ));
+        known.begin_at(share_of(place, domain.board.places(), domain.limits.slots as u32));
         Ok(Membership {
             domain,
             token,

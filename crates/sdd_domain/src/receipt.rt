@@ -15,7 +15,6 @@ use sdd_stakes::Ledger;
 use sdd_store::Tally;
 use sdd_witness::Witness;
 use std::marker::Model;
-use std::mem;
 
 /// A participant that takes no part any more, and with which items wait.
 #[derive(Drop)]
@@ -97,47 +96,30 @@ impl<T: Item<T>> Receipt<T> {
     }
 
     /// Has its participant reclaim what waits with it, in its domain, as many items as are left at most.
-    pub(crate) fn settle(&mut self, domain: &Domain<T>, left: &mut usize)
-        requires { self.old.home ≡ slots_in domain.now }
-        ensures few { left.new ≤ left.old }
-        ensures settled { IsSettled (left.old - left.new) self.old self.new }
-    {
-        *left = mem::replace_with(
-            self,
-            *left,
-            |receipt: Receipt<T>, left: usize| requires { receipt.home ≡ slots_in domain.now } {
-                receipt.settled(domain, left)
-            },
-        );
-    }
-
-    /// The same, and how many items are left then.
-    fn settled(self, domain: &Domain<T>, mut left: usize) -> (Receipt<T>, usize)
+    pub(crate) fn settle(self, domain: &Domain<T>, left: &mut usize) -> Receipt<T>
         requires { self.home ≡ slots_in domain.now }
-        ensures few { result.1 ≤ left }
-        ensures settled { IsSettled (left - result.1) self result.0 }
+        ensures few { left.new ≤ left.old }
+        ensures settled { IsSettled (left.old - left.new) self result }
     {
         let Receipt { left: rest } = self;
         let Estate { dormant, ledger } = match rest {
             Left::Nothing(ended) => {
-                let receipt = Receipt {
+                return Receipt {
                     left: Left::Nothing(ended),
                 };
-                return (receipt, left);
             }
             Left::Items(estate) => estate,
         };
-        let receipt = match dormant.wake(domain) {
+        match dormant.wake(domain) {
             Ok(membership) => {
                 let mut partner = Partner { membership, ledger };
-                partner.drain(&mut left);
+                partner.drain(left);
                 Receipt::of(partner)
             }
             Err(dormant) => Receipt {
                 left: Left::Items(Estate { dormant, ledger }),
             },
-        };
-        (receipt, left)
+        }
     }
 
     /// The counts behind the tally of a participant with which nothing waits.

@@ -1,5 +1,5 @@
 use Rattle.std.specs.Prelude.{Bool}
-use Rattle.std.proofs.Common.{◌≡◌, ℕ, ◌<◌, rules, refl, sym, ap, ◌∙◌, subst}
+use Rattle.std.proofs.Common.{◌≡◌, ℕ, ◌<◌, arith, rules, refl, sym, ap, ◌∙◌, subst}
 use base.Stored.{Gv}
 use Rattle.sdd_token.specs.Owner.{witness_of_owner}
 use Rattle.sdd_token.specs.Right.{number_of, kind_of, grip_of}
@@ -9,7 +9,8 @@ use Rattle.sdd_board.specs.Token.{MovedAlone}
 use Rattle.sdd_stakes.specs.Seats.{lots}
 use Rattle.sdd_stakes.specs.Shelf.{CanShow, Shows, showing}
 use Rattle.sdd_homes.proofs.Records.{in_times}
-use Rattle.sdd_board.specs.Board.{book_of, places_of}
+use Rattle.sdd_token.specs.Units.{Home}
+use Rattle.sdd_board.specs.Board.{id_of, book_of, places_of, slots_of}
 use Rattle.atomic_table.specs.declared.shared.Seat.{Seat}
 use Rattle.sdd_stakes.specs.declared.stake.Stake.{Stake}
 use Rattle.sdd_views.specs.declared.View.{View}
@@ -139,3 +140,63 @@ returns-clause-home g c = let l = c.self.inside in let b = l.domain.now.board in
     subst (λ (m : Member). AreOf (home_in m) (g.T.Item.holds c.show.result.now)) c.self.view_is
     (from_shelf b (c.self.view_is 0) (on_board l.domain.now.limits b l.token.table_id inv.0.home l.domain.now.limited.1 (c.self.view_is 0) refl refl refl)
     l.domain.now.shelf l.domain.now.shelved.0 (g.T.Item.holds c.show.result.now) c.show.ensures.fits)
+
+-- what was known before the owner was recalled is known still
+pub watch-requires-clause-home : goal.watch-requires-clause-home
+watch-requires-clause-home g c =
+    let q = c.self.invariant.0 in let l = c.self.inside in let b = l.domain.now.board in let slot : ℕ = number_of c.args.right.now in
+    let own = c.witness-owner.ensures.owner (has_tables c.args.self.now c.args.right.now c.requires.home) in
+    let shared : Bool = is_shared (kind_of c.args.right.now) in let shown : Gv = (grip_of c.args.right.now).shown in
+    let same = same_recalled b l.place slot shared shown l.token c.recall.new.token (c.recall.ensures slot shared shown own.owner) in
+    ap (λ (x : Seat Stake View). x.table_id) same ∙ q.home
+
+pub watch-requires-clause-knows : goal.watch-requires-clause-knows
+watch-requires-clause-knows g c =
+    let q = c.self.invariant.0 in let l = c.self.inside in let b = l.domain.now.board in let slot : ℕ = number_of c.args.right.now in
+    let own = c.witness-owner.ensures.owner (has_tables c.args.self.now c.args.right.now c.requires.home) in
+    let shared : Bool = is_shared (kind_of c.args.right.now) in let shown : Gv = (grip_of c.args.right.now).shown in
+    let same = same_recalled b l.place slot shared shown l.token c.recall.new.token (c.recall.ensures slot shared shown own.owner) in
+    (ap (λ (x : Seat Stake View). x.me.0.sizes) same ∙ q.knows.0, ap (λ (x : Seat Stake View). x.me.0.stakes.book) same ∙ q.knows.1)
+
+pub watch-requires-clause-open : goal.watch-requires-clause-open
+watch-requires-clause-open g c =
+    let q = c.self.invariant.0 in let l = c.self.inside in let b = l.domain.now.board in let slot : ℕ = number_of c.args.right.now in
+    let own = c.witness-owner.ensures.owner (has_tables c.args.self.now c.args.right.now c.requires.home) in
+    let shared : Bool = is_shared (kind_of c.args.right.now) in let shown : Gv = (grip_of c.args.right.now).shown in
+    let same = same_recalled b l.place slot shared shown l.token c.recall.new.token (c.recall.ensures slot shared shown own.owner) in
+    let some_open : 0 < l.own.guards = search rules in ap (λ (x : Seat Stake View). x.me.0.epoch.state) same ∙ q.opened some_open
+
+pub watch-requires-clause-near : goal.watch-requires-clause-near
+watch-requires-clause-near g c =
+    let q = c.self.invariant.0 in let l = c.self.inside in let b = l.domain.now.board in let slot : ℕ = number_of c.args.right.now in
+    let own = c.witness-owner.ensures.owner (has_tables c.args.self.now c.args.right.now c.requires.home) in
+    let shared : Bool = is_shared (kind_of c.args.right.now) in let shown : Gv = (grip_of c.args.right.now).shown in
+    let same = same_recalled b l.place slot shared shown l.token c.recall.new.token (c.recall.ensures slot shared shown own.owner) in
+    let place = ap (λ (x : Seat Stake View). x.me.0.epoch.place) same in let at = q.place in let inside = q.inside in omega arith
+
+pub watch-requires-clause-rests : goal.watch-requires-clause-rests
+watch-requires-clause-rests g c =
+    let q = c.self.invariant.0 in let l = c.self.inside in let b = l.domain.now.board in let slot : ℕ = number_of c.args.right.now in
+    let own = c.witness-owner.ensures.owner (has_tables c.args.self.now c.args.right.now c.requires.home) in
+    let shared : Bool = is_shared (kind_of c.args.right.now) in let shown : Gv = (grip_of c.args.right.now).shown in
+    let same = same_recalled b l.place slot shared shown l.token c.recall.new.token (c.recall.ensures slot shared shown own.owner) in
+    ap (λ (x : Seat Stake View). x.me.0.stakes.moves) same ∙ q.rests
+
+pub show-requires-clause-table : goal.show-requires-clause-table
+show-requires-clause-table g c =
+    let q = c.self.invariant.0 in let l = c.self.inside in let b = l.domain.now.board in let slot : ℕ = number_of c.args.right.now in
+    let own = c.witness-owner.ensures.owner (has_tables c.args.self.now c.args.right.now c.requires.home) in
+    let shared : Bool = is_shared (kind_of c.args.right.now) in let shown : Gv = (grip_of c.args.right.now).shown in
+    let same = same_recalled b l.place slot shared shown l.token c.recall.new.token (c.recall.ensures slot shared shown own.owner) in
+    (c.watch.ensures slot shared shown own.owner).0 ∙ (ap (λ (x : Seat Stake View). x.table_id) same ∙ q.home)
+
+pub watch-requires-clause-owner : goal.watch-requires-clause-owner
+watch-requires-clause-owner g c =
+    let q = c.self.invariant.0 in let l = c.self.inside in let b = l.domain.now.board in let slot : ℕ = number_of c.args.right.now in
+    let own = c.witness-owner.ensures.owner (has_tables c.args.self.now c.args.right.now c.requires.home) in
+    let shared : Bool = is_shared (kind_of c.args.right.now) in let shown : Gv = (grip_of c.args.right.now).shown in
+    let tables = own.table in let mine = ap (λ (h : Home). h.tables) c.requires.home in let there = ap (λ (m : Member). m.home) c.self.view_is in
+    let board = q.home in
+    let table : c.witness-owner.result.now.table_id ≡ id_of b = cc in
+    let inside : slot < slots_of b = search rules in
+    (table, (slot, shared, shown, inside, own.owner))

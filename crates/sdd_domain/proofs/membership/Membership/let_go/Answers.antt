@@ -1,5 +1,7 @@
 use lib.ListN.{get_elem?}
-use Rattle.std.proofs.Common.{◌≡◌, ℕ, ◌<◌, map, length, rules, refl, sym, ap, ◌∙◌, subst, arith}
+use mathlib.Core.Logic.{dite}
+use native.Mathlib.Decide.{dec_lt}
+use Rattle.std.proofs.Common.{List, [], ◌∷◌, ◌≡◌, ℕ, ◌<◌, map, length, rules, refl, sym, ap, ◌∙◌, subst, arith}
 use Rattle.std.proofs.lemmas.List.{length-map}
 use Rattle.sdd_rule.specs.SlotSteps.{retired_now}
 use Rattle.sdd_domain.specs.Waits.{what_of, waiting_of, ripe, unripe}
@@ -20,11 +22,12 @@ use Rattle.sdd_stakes.specs.declared.stake.Stake.{Stake}
 use Rattle.sdd_homes.specs.HomeSteps.{regained}
 use Rattle.sdd_token.specs.Kind.{is_shared}
 use Rattle.sdd_token.specs.Right.{number_of, kind_of}
-use Rattle.sdd_board.specs.Token.{Taught}
+use Rattle.sdd_board.specs.Token.{Taught, Moved}
+use Rattle.sdd_domain.specs.Values.{LetsWait}
 use Rattle.std.specs.Prelude.{Bool}
 use base.Stored.{Gv}
-use Rattle.sdd_domain.specs.Member.{Member, IsLone, KnowsOwner}
-use Rattle.sdd_domain.proofs.Members.{recalls_to, has_tables}
+use Rattle.sdd_domain.specs.Member.{Member, IsLone, KnowsOwner, RetiresAt}
+use Rattle.sdd_domain.proofs.Members.{with_view, recalls_to, has_tables}
 use Rattle.sdd_domain.proofs.Posing.{posed_retires, retires_to, same_recalled}
 use Rattle.sdd_domain.proofs.membership.Membership.let_go.Goals as goal
 
@@ -90,3 +93,90 @@ push-requires g c = let l = c.self.inside in let board = l.domain.now.board in l
     let many : length l.own.bags.waiting ≡ length (unripe l.token.me.0.slots.waits)
     = ap length q.bags ∙ length-map (unripe l.token.me.0.slots.waits) waiting_of in
     let known = ap (λ (x : Sizes). x.slots) q.knows.0 in let most = q.room in omega arith
+
+-- what was known before the owner was recalled and taken in is known still
+pub take_in-requires-clause-home : goal.take_in-requires-clause-home
+take_in-requires-clause-home g c =
+    let q = c.self.invariant.0 in let l = c.self.inside in let slot : ℕ = number_of c.args.right in let shared : Bool = is_shared (kind_of c.args.right) in
+    let by = c.into_owner-owner.ensures.owner (has_tables c.args.self.now c.args.right c.requires) in let shown : Gv = c.into_owner-owner.result.1.shown in
+    let same = same_recalled l.domain.now.board l.place slot shared shown l.token c.recall.new.token (c.recall.ensures slot shared shown by.owner) in
+    ap (λ (x : Seat Stake View). x.table_id) same ∙ q.home
+
+pub take_in-requires-clause-rests : goal.take_in-requires-clause-rests
+take_in-requires-clause-rests g c =
+    let q = c.self.invariant.0 in let l = c.self.inside in let slot : ℕ = number_of c.args.right in let shared : Bool = is_shared (kind_of c.args.right) in
+    let by = c.into_owner-owner.ensures.owner (has_tables c.args.self.now c.args.right c.requires) in let shown : Gv = c.into_owner-owner.result.1.shown in
+    let same = same_recalled l.domain.now.board l.place slot shared shown l.token c.recall.new.token (c.recall.ensures slot shared shown by.owner) in
+    ap (λ (x : Seat Stake View). x.me.0.stakes.moves) same ∙ q.rests
+
+pub let_wait-requires-clause-home : goal.let_wait-requires-clause-home
+let_wait-requires-clause-home g c =
+    let q = c.self.invariant.0 in let l = c.self.inside in let slot : ℕ = number_of c.args.right in let shared : Bool = is_shared (kind_of c.args.right) in
+    let by = c.into_owner-owner.ensures.owner (has_tables c.args.self.now c.args.right c.requires) in let shown : Gv = c.into_owner-owner.result.1.shown in
+    let same = same_recalled l.domain.now.board l.place slot shared shown l.token c.recall.new.token (c.recall.ensures slot shared shown by.owner) in
+    let took = subst (λ (x : Seat Stake View). Taught (λ v _ w. w ≡ regained v (owner_of slot shared shown)) x 0 c.take_in.new.token) same
+    (c.take_in.ensures slot shared shown by.owner) in
+    took.0 ∙ q.home
+
+pub let_wait-requires-clause-knows : goal.let_wait-requires-clause-knows
+let_wait-requires-clause-knows g c =
+    let q = c.self.invariant.0 in let l = c.self.inside in let slot : ℕ = number_of c.args.right in let shared : Bool = is_shared (kind_of c.args.right) in
+    let by = c.into_owner-owner.ensures.owner (has_tables c.args.self.now c.args.right c.requires) in let shown : Gv = c.into_owner-owner.result.1.shown in
+    let same = same_recalled l.domain.now.board l.place slot shared shown l.token c.recall.new.token (c.recall.ensures slot shared shown by.owner) in
+    let took = subst (λ (x : Seat Stake View). Taught (λ v _ w. w ≡ regained v (owner_of slot shared shown)) x 0 c.take_in.new.token) same
+    (c.take_in.ensures slot shared shown by.owner) in
+    (ap (λ (v : View). v.sizes) took.3 ∙ q.knows.0, ap (λ (v : View). v.stakes.book) took.3 ∙ q.knows.1)
+
+pub let_wait-requires-clause-place : goal.let_wait-requires-clause-place
+let_wait-requires-clause-place g c =
+    let q = c.self.invariant.0 in let l = c.self.inside in let slot : ℕ = number_of c.args.right in let shared : Bool = is_shared (kind_of c.args.right) in
+    let by = c.into_owner-owner.ensures.owner (has_tables c.args.self.now c.args.right c.requires) in let shown : Gv = c.into_owner-owner.result.1.shown in
+    let same = same_recalled l.domain.now.board l.place slot shared shown l.token c.recall.new.token (c.recall.ensures slot shared shown by.owner) in
+    let took = subst (λ (x : Seat Stake View). Taught (λ v _ w. w ≡ regained v (owner_of slot shared shown)) x 0 c.take_in.new.token) same
+    (c.take_in.ensures slot shared shown by.owner) in
+    let state = ap (λ (v : View). v.epoch.state) took.3 in
+    dite (dec_lt 0 l.own.guards) (λ some. subst (λ (k : ℕ). 0 < k) (sym (state ∙ q.opened some)) (omega arith))
+    (λ none. subst (λ (k : ℕ). 0 < k) (sym (state ∙ q.closed (omega arith))) (omega arith))
+
+pub let_wait-requires-clause-own : goal.let_wait-requires-clause-own
+let_wait-requires-clause-own g c =
+    let q = c.self.invariant.0 in let l = c.self.inside in let slot : ℕ = number_of c.args.right in let shared : Bool = is_shared (kind_of c.args.right) in
+    let by = c.into_owner-owner.ensures.owner (has_tables c.args.self.now c.args.right c.requires) in let shown : Gv = c.into_owner-owner.result.1.shown in
+    let same = same_recalled l.domain.now.board l.place slot shared shown l.token c.recall.new.token (c.recall.ensures slot shared shown by.owner) in
+    let took = subst (λ (x : Seat Stake View). Taught (λ v _ w. w ≡ regained v (owner_of slot shared shown)) x 0 c.take_in.new.token) same
+    (c.take_in.ensures slot shared shown by.owner) in
+    let none = ap (λ (v : View). v.slots.holds) took.3 ∙ q.quiet.holds in (
+      ap (λ (v : View). v.slots.owns) took.3 ∙ (ap (λ (is : List ℕ). slot ∷ is) q.quiet.owns ∙ ap (λ (k : ℕ). k ∷ []) (sym c.number-slot.ensures)),
+      λ held. cc,
+    )
+
+pub let_wait-requires-clause-rests : goal.let_wait-requires-clause-rests
+let_wait-requires-clause-rests g c =
+    let q = c.self.invariant.0 in let l = c.self.inside in let slot : ℕ = number_of c.args.right in let shared : Bool = is_shared (kind_of c.args.right) in
+    let by = c.into_owner-owner.ensures.owner (has_tables c.args.self.now c.args.right c.requires) in let shown : Gv = c.into_owner-owner.result.1.shown in
+    let same = same_recalled l.domain.now.board l.place slot shared shown l.token c.recall.new.token (c.recall.ensures slot shared shown by.owner) in
+    let took = subst (λ (x : Seat Stake View). Taught (λ v _ w. w ≡ regained v (owner_of slot shared shown)) x 0 c.take_in.new.token) same
+    (c.take_in.ensures slot shared shown by.owner) in
+    ap (λ (v : View). v.stakes.moves) took.3 ∙ q.rests
+
+pub returns-clause-retired : goal.returns-clause-retired
+returns-clause-retired g c =
+    let q = c.self.invariant.0 in let l = c.self.inside in let slot : ℕ = number_of c.args.right in let shared : Bool = is_shared (kind_of c.args.right) in
+    let by = c.into_owner-owner.ensures.owner (has_tables c.args.self.now c.args.right c.requires) in let shown : Gv = c.into_owner-owner.result.1.shown in
+    let same = same_recalled l.domain.now.board l.place slot shared shown l.token c.recall.new.token (c.recall.ensures slot shared shown by.owner) in
+    let took = subst (λ (x : Seat Stake View). Taught (λ v _ w. w ≡ regained v (owner_of slot shared shown)) x 0 c.take_in.new.token) same
+    (c.take_in.ensures slot shared shown by.owner) in
+    let waits = subst (λ (k : ℕ). Moved (LetsWait k) c.take_in.new.token 4 c.let_wait.new.token) c.number-slot.ensures c.let_wait.ensures in
+    let retired = retires_to l.domain.now.board l.place l.own slot shared shown l.token c.take_in.new.token c.let_wait.new.token q took waits in
+    let own_is : c.stir.new.self ≡ awaiting (Item slot) l.own
+    = c.stir.ensures ∙ (ap (λ (bags : Bags). with_garbage (record l.own { bags = bags })) c.push.ensures ∙ ap (λ (k : ℕ). awaiting (Item k) l.own) c.number-slot.ensures) in
+    let old : Member = c.self.view_is 0 in
+    let home : c.let_wait.new.token.table_id ≡ l.token.table_id = waits.0 ∙ took.0 in (
+      retired.0,
+      subst (λ (m : Member). RetiresAt slot retired.0 m
+          (record (with_view old c.let_wait.new.token.table_id c.let_wait.new.token.me.0) { own = c.stir.new.self })) c.self.view_is record {
+            member = λ d. record (with_view old (home d) (retired.1 d)) { own = own_is d };
+            knew = retired.2;
+            lone = λ one. retired.3 ((q.all ∙ ap (λ (z : Sizes). z.participants) l.domain.now.limited.1) ∙ one);
+          },
+    )

@@ -72,7 +72,7 @@ returns-clause-reclaimed g c = let l = c.self.inside in let b = l.domain.now.boa
     let all : l.token.me.0.epoch.all ≡ l.domain.now.limits.participants = inv.0.all ∙ ap (λ (z : Sizes). z.participants) l.domain.now.limited.1 in
     let on = on_board l.domain.now.limits b l.token.table_id inv.0.home l.domain.now.limited.1 old refl refl refl in
     let low = first_inside (slots_of b) slot rest l.token.me.0.slots.waits first inv.0.waiting in
-    let now : Member = record (with_view old token.table_id token.me.0) { tally = c.count_reclaimed.new.tally; due = rest } in (
+    let now : Member = record (with_view old token.table_id token.me.0) { tally = c.count_reclaimed.new.self; due = rest } in (
       slot,
       subst (λ (m : Member). Reclaims slot (showing g.row.T c.take_value-value.result) m now) c.self.view_is record {
         inside = subst (λ (n : ℕ). slot < n) (sym on.slots) low;
