@@ -147,7 +147,8 @@ let_wait-requires-clause-own g c =
     (c.take_in.ensures slot shared shown by.owner) in
     let none = ap (λ (v : View). v.slots.holds) took.3 ∙ q.quiet.holds in (
       ap (λ (v : View). v.slots.owns) took.3 ∙ (ap (λ (is : List ℕ). slot ∷ is) q.quiet.owns ∙ ap (λ (k : ℕ). k ∷ []) (sym c.number-slot.ensures)),
-      λ held. cc,
+      (λ held. cc),
+      ap (λ (v : View). v.slots.drawn) took.3 ∙ (ap (λ (is : List ℕ). slot ∷ is) q.quiet.drawn ∙ ap (λ (k : ℕ). k ∷ []) (sym c.number-slot.ensures)),
     )
 
 pub let_wait-requires-clause-rests : goal.let_wait-requires-clause-rests
