@@ -25,8 +25,12 @@ home_at_end γ sizes closed id v all fin full = let n : ℕ = sizes.participants
     let deep = h.homes.deep in record {
       laid = record {
         long = sym long ∙ deep;
-        each = λ i p near low. let inside = slot_low n sizes.slots i p low in let a = all_home γ sizes s h id v fin.1.1 all i p inside near in
-            (a.0, fin.4 (stake_at n i p) a.0 a.1, subst (λ (ws : List ℕ). Has γ i (share n (away n (full_at sizes ws i)) p) (IsShown (full_at sizes ws i)) a.0) fin.2 a.2);
+        each = λ i p near low. let inside = slot_low n sizes.slots i p low in let a = all_home γ sizes s h id v fin.1.1 all i p inside near in (
+          a.0,
+          fin.4 (stake_at n i p) a.0 a.1,
+          subst (λ (ws : List ℕ). Has γ i (share n (away n (full_at sizes ws i)) p) (IsShown
+              (full_at sizes ws i)) a.0) fin.2 a.2,
+        );
       };
       low = omega arith;
       here = λ j low. full j (omega arith) low;

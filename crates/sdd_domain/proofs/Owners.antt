@@ -38,7 +38,8 @@ pub record IsFurnished (n slot : ℕ) (shared : Bool) (value : Gv) (s t : Seat S
   pub given : t.me.1 ≡ drop (suc n) s.me.1
 
 -- so it is after the value was moved in, all units but those of the stakes were cut off, and the step that tells of it
-module _ (b : Board) (slot count : ℕ) (shared : Bool) (value : Gv) (s p c t : Seat Stake View) (knows : Knows b s) (all : count ≡ places_of b + 1) (moves : Moves (view s) slot)
+module _ (b : Board) (slot count : ℕ) (shared : Bool) (value : Gv) (s p c t : Seat Stake View) (knows : Knows b s) (all : count ≡ places_of b + 1)
+    (moves : Moves (view s) slot)
     (rest : Carries) (row : HasAll (book_of b) slot (places_of b) 0 IsVacant rest s.me.1) (a : ℕ) (full : IsFull value)
     (put : p ≡ record s { me = (s.me.0, all_turned a value count s.me.1) }) where
   pub row_put : HasAll (book_of b) slot (places_of b) 0 (IsValue value) rest p.me.1
@@ -54,7 +55,8 @@ module _ (b : Board) (slot count : ℕ) (shared : Bool) (value : Gv) (s p c t : 
 
     module _ (left : HasAll (book_of b) slot (places_of b) (spare (places_of b)) (IsValue value) rest c.me.1) where
       pub furnished : ((slot : ℕ) (g : Gv) (rest : Carries) → Moves (view c) slot
-          → HasAll (book_of b) slot (places_of b) (spare (places_of b)) (IsValue g) rest c.me.1 → MovedAlone (Houses slot shared g) c t) → IsFurnished (places_of b) slot shared value s t
+          → HasAll (book_of b) slot (places_of b) (spare (places_of b)) (IsValue g) rest c.me.1 → MovedAlone (Houses slot shared g) c t)
+          → IsFurnished (places_of b) slot shared value s t
       furnished housed = let h = housed slot value rest moves_cut left in record {
         table = h.0 ∙ (cut.0 ∙ ap (λ (s : Seat Stake View). s.table_id) put);
         number = h.1 ∙ (cut.1 ∙ ap (λ (s : Seat Stake View). s.id) put);

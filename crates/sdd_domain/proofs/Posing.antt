@@ -97,7 +97,8 @@ module _ (b : Board) (p : ℕ) where
   retires_to own slot shared value s t u q took e = let r = e.2.1 in let v : View = view s in let v' : View = regained v (owner_of slot shared value) in
       let epochs : epoch t ≡ epoch s = ap (λ (w : View). w.epoch) took.3 in (
         r.0,
-        e.2.2 ∙ (ap remembering (r.3 ∙ ap (λ (w : View). retired slot 4 r.0 (undrawing w)) took.3) ∙ retired_view slot 4 r.0 shared value v q.quiet.owns q.sight.owns),
+        e.2.2 ∙ (ap remembering (r.3 ∙ ap (λ (w : View). retired slot 4 r.0
+            (undrawing w)) took.3) ∙ retired_view slot 4 r.0 shared value v q.quiet.owns q.sight.owns),
         subst (λ (x : EpochView). x.known ≤ r.0) epochs r.1,
         subst (λ (x : EpochView). IsLone x → r.0 ≡ x.known) epochs r.2,
         subst (λ (x : EpochView). IsOpen x → r.0 ≤ x.since + 1) epochs r.4,
@@ -207,7 +208,8 @@ module _ (b : Board) (p : ℕ) where
   pub made_view : (own : Participant) (slot : ℕ) (shared : Bool) (value : Gv) (s t u : Seat Stake View) → IsPosed b p own s → Gains slot s t
       → view u ≡ disowned (resting (with_filled slot shared value (view t)))
       → view u ≡ with_filled slot shared value (with_made (record (view s) { words = noted slot (owned_word 0) (view s) }))
-  made_view own slot shared value s t u q gains is = let v : View = view s in is ∙ (ap (λ (w : View). disowned (resting (with_filled slot shared value w))) gains.view
+  made_view own slot shared value s t u q gains is = let v : View = view s in is ∙ (ap (λ (w : View). disowned (resting
+      (with_filled slot shared value w))) gains.view
       ∙ (λ d. record v {
         slots = record v.slots { owns = sym q.quiet.owns d };
         stakes = record (with_filled slot shared value (with_made v)).stakes { moves = sym q.rests d };
@@ -215,7 +217,8 @@ module _ (b : Board) (p : ℕ) where
       }))
 
   pub posed_makes : (own : Participant) (slot : ℕ) (shared : Bool) (value : Gv) (s t u : Seat Stake View) → IsPosed b p own s → Gains slot s t
-      → u.table_id ≡ t.table_id → view u ≡ disowned (resting (with_filled slot shared value (view t))) → u.me.1 ≡ drop (suc (places_of b)) t.me.1 → IsPosed b p own u × (u.me.1 ≡ s.me.1)
+      → u.table_id ≡ t.table_id → view u ≡ disowned (resting (with_filled slot shared value (view t))) → u.me.1 ≡ drop (suc (places_of b)) t.me.1
+      → IsPosed b p own u × (u.me.1 ≡ s.me.1)
   posed_makes own slot shared value s t u q gains table is given =
       let row = row_out (book_of b) (places_of b) slot s.me t.me.1 q.knows.1 (ap (λ (z : Sizes). z.participants) q.knows.0) gains.row in
       let others : u.me.1 ≡ s.me.1 = rest_out (book_of b) slot (places_of b) (places_of b) 0 IsVacant s.me.1 t.me.1 u.me.1 refl row given in (

@@ -1,5 +1,5 @@
 -- What is known once the value of an item is to be moved out, and all units of its place but the place's own have come together
-use Rattle.std.proofs.Common.{◌≡◌, ℕ, ap, sym, ◌∙◌, subst}
+use Rattle.std.proofs.Common.{◌≡◌, ℕ, ◌∙◌, subst}
 use base.Stored.{Gv}
 use Rattle.atomic_table.specs.declared.shared.Seat.{Seat}
 use Rattle.sdd_stakes.specs.Stakes.{Lot}

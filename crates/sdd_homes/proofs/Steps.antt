@@ -71,6 +71,9 @@ use Rattle.sdd_homes.proofs.Lift.{Keeps, Follows, IsCalm, keeps_ended, lift_home
 full_owned : (x : ℕ) → 0 < alive x → full x ≡ 1
 full_owned x h = (sound.lives x h).1
 
+vacant_shown : (f : ℕ) (g : Gv) → f ≡ 0 → IsVacant g → IsShown f g
+vacant_shown f g empty vacant = (λ e. absurd (omega arith), λ _. vacant)
+
 -- a word that has an owner, or waits, isn't both, nor free
 module _ (γ : ℕ) (sizes : Sizes) (s : State Stake View) (h : Housed γ sizes s) (i : ℕ) where
   x : ℕ
@@ -265,7 +268,7 @@ module _ (slots id : ℕ) (me : Mine) (live : HasPlace me.0.epoch) where
           tells = at_once (λ slot. ClaimsAll slot (free_word 0) (owned_word 0)) x me ((λ hit. absurd (miss hit)), (λ _. refl), c.2);
         }))
 
-    -- what is known to be the bank's deals
+    -- deals with the bank
     module _ (bd : ℕ) where
       abbrev pub MayDeal : (List Lot → Lot → List Lot → Type 0) → (Lot → Type 0) → (Lot → Mine → Type 0) → Type 0
       MayDeal Goes = AllowsDeal (Housed γ sizes) Goes IsBank banked slots id me bd
@@ -495,7 +498,8 @@ module _ (slots id : ℕ) (me : Mine) (live : HasPlace me.0.epoch) where
           act = g.act;
           valid = g.valid;
           homes = part.gives γ sizes s.words s.views s.homes h.homes id v at slot 0 IsVacant rest me.1 g (set s.words i y) (giving now)
-              (ap (λ (x : ℕ). away n (full x)) (here s.words y (within s h)) ∙ ap (away n) empty) (λ g vacant. (λ e. let f = ap full (here s.words y (within s h)) in absurd (omega arith), λ _. vacant))
+              (ap (λ (x : ℕ). away n (full x)) (here s.words y (within s h)) ∙ ap (away n) empty)
+              (λ g vacant. vacant_shown (full_at sizes (set s.words i y) slot) g (ap full (here s.words y (within s h)) ∙ empty) vacant)
               (seen_but (giving now) slot mine refl refl) (others s.words y) (none_out (giving now) refl);
           records = let waits : 0 < items_at slot v = (let once = c.1 in omega arith) in
               comes_home γ sizes s h slot id v at 0 IsVacant rest me.1 g (unknown_waiting γ sizes s h slot id v at mine waits) (giving now)
@@ -550,7 +554,8 @@ module _ (slots id : ℕ) (me : Mine) (live : HasPlace me.0.epoch) where
           act = g.act;
           valid = g.valid;
           homes = part.gives γ sizes s.words s.views s.homes h.homes id v at slot 0 IsVacant rest me.1 g (set s.words i y) (giving now)
-              (ap (λ (x : ℕ). away n (full x)) (here s.words y (within s h)) ∙ ap (away n) empty) (λ g vacant. (λ e. let f = ap full (here s.words y (within s h)) in absurd (omega arith), λ _. vacant))
+              (ap (λ (x : ℕ). away n (full x)) (here s.words y (within s h)) ∙ ap (away n) empty)
+              (λ g vacant. vacant_shown (full_at sizes (set s.words i y) slot) g (ap full (here s.words y (within s h)) ∙ empty) vacant)
               (seen_but (giving now) slot mine refl refl) (others s.words y) (none_out (giving now) refl);
           records = let own = (h.kept.parts.slots.each id v at).held slot held in
               comes_home γ sizes s h slot id v at 0 IsVacant rest me.1 g (unknown_owned γ sizes s h slot id v at mine own) (giving now)

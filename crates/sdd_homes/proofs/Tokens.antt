@@ -127,7 +127,8 @@ module _ (γ : ℕ) (sizes : Sizes) where
   -- the only owner that it has goes to a token of its own, with what is known of its slot, where none is held and no value is moved
   pub parts_owner : (id : ℕ) (v : View) (slot : ℕ) → v.slots.owns ≡ slot ∷ [] → v.slots.drawn ≡ slot ∷ [] → v.slots.holds ≡ None
       → v.stakes.moves ≡ None → Splits (Housed γ sizes) id v (parting v) (departing v)
-  parts_owner id v slot owns drawn free rests s h at = let t : View = departing v in let w : View = parting v in let r = h.records in let told = r.each id v at in
+  parts_owner id v slot owns drawn free rests s h at = let t : View = departing v in let w : View = parting v in let r = h.records in
+      let told = r.each id v at in
       let vs : List View = s.views ++ t ∷ [] in let mine = records.mine sizes s.views s.homes r id v at in
       let came = records.arrives sizes s.views s.homes r t
       record {
@@ -230,7 +231,14 @@ module _ (γ : ℕ) (sizes : Sizes) where
     homes = part.arrives γ sizes s.words (set s.views id w) s.homes
         (part.calm γ sizes s.words s.views s.homes h.homes id v at s.words w (λ i p out. out) (λ i _. refl) (h.homes.moving id v at))
         t (nothing_out t refl refl) (none_out t refl);
-    records = records.arrives sizes (set s.views id w) s.homes (records.calm sizes s.views s.homes h.records id v at w (refl, refl, refl, (λ _. refl), refl, refl)) t
+    records = records.arrives sizes (set s.views id w) s.homes (records.calm sizes s.views s.homes h.records id v at w (
+      refl,
+      refl,
+      refl,
+      (λ _. refl),
+      refl,
+      refl,
+    )) t
         (telling_none t refl refl refl refl refl refl) (λ i g k. absurd (knows_none t refl refl refl i g k)) refl refl;
     counts = record {
       items = let a = total_set made_by s.views id v w at in let a' = total_snoc made_by (set s.views id w) t in
@@ -273,11 +281,19 @@ module _ (γ : ℕ) (sizes : Sizes) where
   joins_counts id v other d s h at apart there = let t : View = counts_token d in let t' : View = owner_token [] [] in let w : View = counting v t in
       let vs : List View = set s.views id w in let c = h.counts in
       let was : get_elem? s.views other ≡ some t = sym (set_else s.views id other w apart) ∙ there in record {
-        kept = kept.takes_in sizes id v other v.slots.owns v.slots.shares v.slots.drawn [] [] w.stakes t.stakes (λ i. (omega arith, omega arith)) s h.kept at apart there;
+        kept = kept.takes_in sizes id v other v.slots.owns v.slots.shares v.slots.drawn [] [] w.stakes t.stakes (λ i.
+            (omega arith, omega arith)) s h.kept at apart there;
         homes = part.calm γ sizes s.words vs s.homes
             (part.calm γ sizes s.words s.views s.homes h.homes id v at s.words w (λ i p out. out) (λ i _. refl) (h.homes.moving id v at))
             other t there s.words t' (λ i p out. absurd (nothing_out t refl refl i p out)) (λ i _. refl) (none_out t' refl);
-        records = records.calm sizes vs s.homes (records.calm sizes s.views s.homes h.records id v at w (refl, refl, refl, (λ _. refl), refl, refl)) other t there t'
+        records = records.calm sizes vs s.homes (records.calm sizes s.views s.homes h.records id v at w (
+          refl,
+          refl,
+          refl,
+          (λ _. refl),
+          refl,
+          refl,
+        )) other t there t'
             (refl, refl, refl, (λ _. refl), refl, refl);
         counts = record {
           items = let a = total_set made_by s.views id v w at in let a' = total_set made_by vs other t t' there in

@@ -57,8 +57,8 @@ pub record Balances (γ : ℕ) (sizes : Sizes) (ws : List ℕ) (vs : List View) 
   pub deposits : AreDeposits γ (banked b)
   pub sums : (i : ℕ) → i < sizes.slots → units_at i (banked b) + total (drawn_at i) vs ≡ outside sizes ws vs i
 
--- the book of the values' places, the words, and what all participants know: one is the bank's at most, or may found it, and it balances; an owner has one
--- unit at most; and where nothing is outside, none is drawn, as long as there is no bank
+-- the book of the values' places, the words, and what all participants know: one token at most is the bank's, which balances, or may found the bank, and
+-- then nothing is outside; an owner has one unit at most; and where nothing is outside, none is drawn
 pub record BankPart (γ : ℕ) (sizes : Sizes) (ws : List ℕ) (vs : List View) : Type 0 where
   pub single : total offices vs ≤ 1
   pub low : (j : ℕ) (v : View) → get_elem? vs j ≡ some v → (i : ℕ) → drawn_at i v ≤ owners_at i v

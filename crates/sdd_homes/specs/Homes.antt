@@ -109,7 +109,8 @@ AreLaid γ n m stakes = AreLaidTo γ n (homes_for n m) none_away all_vacant stak
 
 -- of a closed table: in the first k homes their stakes lie still, the others are empty; what those in a slot show is as the slot's word says
 pub record AreHome {A : Type 0} (γ : ℕ) (sizes : Sizes) (k : ℕ) (closed : Closed Stake A) : Type 0 where
-  pub laid : AreLaidTo γ sizes.participants (homes_for sizes.participants sizes.slots) (λ i. away sizes.participants (full_at sizes (slots_items closed.words) i))
+  pub laid : AreLaidTo γ sizes.participants (homes_for sizes.participants sizes.slots)
+      (λ i. away sizes.participants (full_at sizes (slots_items closed.words) i))
       (λ i. IsShown (full_at sizes (slots_items closed.words) i)) (slots_items closed.slots)
   pub low : k ≤ slots_len closed.slots
   pub here : (j : ℕ) → j < k → slice_index_or (slots_filled closed.slots) j false ≡ true

@@ -34,7 +34,8 @@ cut_rest-grip-requires-clause-row g c = let b = c.args.board.now in let r = c.re
 pub house-requires-clause-row : goal.house-requires-clause-row
 house-requires-clause-row g c = let b = c.args.board.now in let r = c.requires in let put = c.put.ensures.seat in let slot : ℕ = c.args.slot in
     let value : Gv = showing g.row.T c.args.value in let one = is_same slot slot refl in let all = ap (λ (k : ℕ). k + 1) c.places-count.ensures in
-    let cut = c.cut_rest-grip in let row = row_put b slot (c.places-count.result + 1) c.args.shared value c.args.token.now c.put.new.seat c.put.new.seat c.put.new.seat r.knows
+    let cut = c.cut_rest-grip in
+    let row = row_put b slot (c.places-count.result + 1) c.args.shared value c.args.token.now c.put.new.seat c.put.new.seat c.put.new.seat r.knows
     all r.own.0 r.row.0 r.row.1 put.0 tt put.1 in
     let same = view_cut b slot (c.places-count.result + 1) c.args.shared value c.args.token.now c.put.new.seat cut.new.token cut.new.token r.knows all r.own.0
     r.row.0 r.row.1 put.0 tt put.1 cut.ensures.token in (
@@ -53,9 +54,9 @@ cut-requires-clause-one g c = let b = c.args.board.now in let r = c.requires in 
     let f = furnished b c.args.slot (c.places-count.result + 1) c.args.shared (showing g.row.T c.args.value) c.args.token.now c.put.new.seat
     c.cut_rest-grip.new.token c.house.new.token r.knows (ap (λ (k : ℕ). k + 1) c.places-count.ensures) r.own.0 r.row.0 r.row.1 put.0 tt put.1
     c.cut_rest-grip.ensures.token (c.cut_rest-grip.ensures.row (showing g.row.T c.args.value) r.row.0
-    (row_put b c.args.slot (c.places-count.result + 1) c.args.shared (showing g.row.T c.args.value) c.args.token.now c.put.new.seat c.put.new.seat c.put.new.seat
-    r.knows (ap (λ (k : ℕ). k + 1) c.places-count.ensures) r.own.0 r.row.0 r.row.1 put.0 tt put.1)).0 c.house.ensures in
-    (
+    (row_put b c.args.slot (c.places-count.result + 1) c.args.shared
+    (showing g.row.T c.args.value) c.args.token.now c.put.new.seat c.put.new.seat c.put.new.seat
+    r.knows (ap (λ (k : ℕ). k + 1) c.places-count.ensures) r.own.0 r.row.0 r.row.1 put.0 tt put.1)).0 c.house.ensures in (
       c.args.slot,
       ap (λ (v : View). v.slots.owns) f.view ∙ r.own.1,
       ap (λ (v : View). v.slots.drawn) f.view ∙ ap (λ (l : List ℕ). c.args.slot ∷ l) r.free.1,
@@ -66,7 +67,8 @@ cut-requires-clause-home g c = let b = c.args.board.now in let r = c.requires in
     let f = furnished b c.args.slot (c.places-count.result + 1) c.args.shared (showing g.row.T c.args.value) c.args.token.now c.put.new.seat
     c.cut_rest-grip.new.token c.house.new.token r.knows (ap (λ (k : ℕ). k + 1) c.places-count.ensures) r.own.0 r.row.0 r.row.1 put.0 tt put.1
     c.cut_rest-grip.ensures.token (c.cut_rest-grip.ensures.row (showing g.row.T c.args.value) r.row.0
-    (row_put b c.args.slot (c.places-count.result + 1) c.args.shared (showing g.row.T c.args.value) c.args.token.now c.put.new.seat c.put.new.seat c.put.new.seat
+    (row_put b c.args.slot (c.places-count.result + 1) c.args.shared
+    (showing g.row.T c.args.value) c.args.token.now c.put.new.seat c.put.new.seat c.put.new.seat
     r.knows (ap (λ (k : ℕ). k + 1) c.places-count.ensures) r.own.0 r.row.0 r.row.1 put.0 tt put.1)).0 c.house.ensures in
     f.table ∙ r.home
 
@@ -75,7 +77,8 @@ cut-requires-clause-free g c = let b = c.args.board.now in let r = c.requires in
     let f = furnished b c.args.slot (c.places-count.result + 1) c.args.shared (showing g.row.T c.args.value) c.args.token.now c.put.new.seat
     c.cut_rest-grip.new.token c.house.new.token r.knows (ap (λ (k : ℕ). k + 1) c.places-count.ensures) r.own.0 r.row.0 r.row.1 put.0 tt put.1
     c.cut_rest-grip.ensures.token (c.cut_rest-grip.ensures.row (showing g.row.T c.args.value) r.row.0
-    (row_put b c.args.slot (c.places-count.result + 1) c.args.shared (showing g.row.T c.args.value) c.args.token.now c.put.new.seat c.put.new.seat c.put.new.seat
+    (row_put b c.args.slot (c.places-count.result + 1) c.args.shared
+    (showing g.row.T c.args.value) c.args.token.now c.put.new.seat c.put.new.seat c.put.new.seat
     r.knows (ap (λ (k : ℕ). k + 1) c.places-count.ensures) r.own.0 r.row.0 r.row.1 put.0 tt put.1)).0 c.house.ensures in
     ap (λ (v : View). v.slots.holds) f.view ∙ r.free.0
 
@@ -84,7 +87,8 @@ cut-requires-clause-rests g c = let b = c.args.board.now in let r = c.requires i
     let f = furnished b c.args.slot (c.places-count.result + 1) c.args.shared (showing g.row.T c.args.value) c.args.token.now c.put.new.seat
     c.cut_rest-grip.new.token c.house.new.token r.knows (ap (λ (k : ℕ). k + 1) c.places-count.ensures) r.own.0 r.row.0 r.row.1 put.0 tt put.1
     c.cut_rest-grip.ensures.token (c.cut_rest-grip.ensures.row (showing g.row.T c.args.value) r.row.0
-    (row_put b c.args.slot (c.places-count.result + 1) c.args.shared (showing g.row.T c.args.value) c.args.token.now c.put.new.seat c.put.new.seat c.put.new.seat
+    (row_put b c.args.slot (c.places-count.result + 1) c.args.shared
+    (showing g.row.T c.args.value) c.args.token.now c.put.new.seat c.put.new.seat c.put.new.seat
     r.knows (ap (λ (k : ℕ). k + 1) c.places-count.ensures) r.own.0 r.row.0 r.row.1 put.0 tt put.1)).0 c.house.ensures in
     ap (λ (v : View). v.stakes.moves) f.view
 
@@ -93,7 +97,8 @@ returns-clause-home g c = let b = c.args.board.now in let r = c.requires in let 
     let f = furnished b c.args.slot (c.places-count.result + 1) c.args.shared (showing g.row.T c.args.value) c.args.token.now c.put.new.seat
     c.cut_rest-grip.new.token c.house.new.token r.knows (ap (λ (k : ℕ). k + 1) c.places-count.ensures) r.own.0 r.row.0 r.row.1 put.0 tt put.1
     c.cut_rest-grip.ensures.token (c.cut_rest-grip.ensures.row (showing g.row.T c.args.value) r.row.0
-    (row_put b c.args.slot (c.places-count.result + 1) c.args.shared (showing g.row.T c.args.value) c.args.token.now c.put.new.seat c.put.new.seat c.put.new.seat
+    (row_put b c.args.slot (c.places-count.result + 1) c.args.shared
+    (showing g.row.T c.args.value) c.args.token.now c.put.new.seat c.put.new.seat c.put.new.seat
     r.knows (ap (λ (k : ℕ). k + 1) c.places-count.ensures) r.own.0 r.row.0 r.row.1 put.0 tt put.1)).0 c.house.ensures in
     (c.cut.ensures.participant.0 ∙ f.table, c.cut.ensures.participant.1 ∙ f.number)
 
@@ -102,16 +107,19 @@ returns-clause-view g c = let b = c.args.board.now in let r = c.requires in let 
     let f = furnished b c.args.slot (c.places-count.result + 1) c.args.shared (showing g.row.T c.args.value) c.args.token.now c.put.new.seat
     c.cut_rest-grip.new.token c.house.new.token r.knows (ap (λ (k : ℕ). k + 1) c.places-count.ensures) r.own.0 r.row.0 r.row.1 put.0 tt put.1
     c.cut_rest-grip.ensures.token (c.cut_rest-grip.ensures.row (showing g.row.T c.args.value) r.row.0
-    (row_put b c.args.slot (c.places-count.result + 1) c.args.shared (showing g.row.T c.args.value) c.args.token.now c.put.new.seat c.put.new.seat c.put.new.seat
+    (row_put b c.args.slot (c.places-count.result + 1) c.args.shared
+    (showing g.row.T c.args.value) c.args.token.now c.put.new.seat c.put.new.seat c.put.new.seat
     r.knows (ap (λ (k : ℕ). k + 1) c.places-count.ensures) r.own.0 r.row.0 r.row.1 put.0 tt put.1)).0 c.house.ensures in
-    c.cut.ensures.participant.3 ∙ (ap parting f.view ∙ parted_view c.args.slot c.args.shared (showing g.row.T c.args.value) c.args.token.now.me.0 r.own.1 r.own.2)
+    c.cut.ensures.participant.3 ∙ (ap parting f.view ∙ parted_view c.args.slot c.args.shared
+    (showing g.row.T c.args.value) c.args.token.now.me.0 r.own.1 r.own.2)
 
 pub returns-clause-given : goal.returns-clause-given
 returns-clause-given g c = let b = c.args.board.now in let r = c.requires in let put = c.put.ensures.seat in
     let f = furnished b c.args.slot (c.places-count.result + 1) c.args.shared (showing g.row.T c.args.value) c.args.token.now c.put.new.seat
     c.cut_rest-grip.new.token c.house.new.token r.knows (ap (λ (k : ℕ). k + 1) c.places-count.ensures) r.own.0 r.row.0 r.row.1 put.0 tt put.1
     c.cut_rest-grip.ensures.token (c.cut_rest-grip.ensures.row (showing g.row.T c.args.value) r.row.0
-    (row_put b c.args.slot (c.places-count.result + 1) c.args.shared (showing g.row.T c.args.value) c.args.token.now c.put.new.seat c.put.new.seat c.put.new.seat
+    (row_put b c.args.slot (c.places-count.result + 1) c.args.shared
+    (showing g.row.T c.args.value) c.args.token.now c.put.new.seat c.put.new.seat c.put.new.seat
     r.knows (ap (λ (k : ℕ). k + 1) c.places-count.ensures) r.own.0 r.row.0 r.row.1 put.0 tt put.1)).0 c.house.ensures in
     c.cut.ensures.participant.2 ∙ f.given
 
@@ -120,7 +128,8 @@ returns-clause-owner g c = let b = c.args.board.now in let r = c.requires in let
     let f = furnished b c.args.slot (c.places-count.result + 1) c.args.shared (showing g.row.T c.args.value) c.args.token.now c.put.new.seat
     c.cut_rest-grip.new.token c.house.new.token r.knows (ap (λ (k : ℕ). k + 1) c.places-count.ensures) r.own.0 r.row.0 r.row.1 put.0 tt put.1
     c.cut_rest-grip.ensures.token (c.cut_rest-grip.ensures.row (showing g.row.T c.args.value) r.row.0
-    (row_put b c.args.slot (c.places-count.result + 1) c.args.shared (showing g.row.T c.args.value) c.args.token.now c.put.new.seat c.put.new.seat c.put.new.seat
+    (row_put b c.args.slot (c.places-count.result + 1) c.args.shared
+    (showing g.row.T c.args.value) c.args.token.now c.put.new.seat c.put.new.seat c.put.new.seat
     r.knows (ap (λ (k : ℕ). k + 1) c.places-count.ensures) r.own.0 r.row.0 r.row.1 put.0 tt put.1)).0 c.house.ensures in (
       c.cut.ensures.owner.0,
       c.cut.ensures.owner.1 ∙ ap (λ (v : View). the_row.coded.code v ∷ [])
@@ -130,5 +139,6 @@ returns-clause-owner g c = let b = c.args.board.now in let r = c.requires in let
 pub returns-clause-grip : goal.returns-clause-grip
 returns-clause-grip g c = let b = c.args.board.now in let r = c.requires in let put = c.put.ensures.seat in
     (c.cut_rest-grip.ensures.row (showing g.row.T c.args.value) r.row.0
-    (row_put b c.args.slot (c.places-count.result + 1) c.args.shared (showing g.row.T c.args.value) c.args.token.now c.put.new.seat c.put.new.seat c.put.new.seat
+    (row_put b c.args.slot (c.places-count.result + 1) c.args.shared
+    (showing g.row.T c.args.value) c.args.token.now c.put.new.seat c.put.new.seat c.put.new.seat
     r.knows (ap (λ (k : ℕ). k + 1) c.places-count.ensures) r.own.0 r.row.0 r.row.1 put.0 tt put.1)).1

@@ -5,4 +5,5 @@ use Rattle.sdd_board.proofs.steps.slots.take_held.Goals as goal
 
 pub draw-requires-clause-allowed : goal.draw-requires-clause-allowed
 draw-requires-clause-allowed c = let r = c.requires in let b = c.args.board.now in
-    as_banked b Leaves _ _ _ _ _ _ (may_take_held (book_of b) (sizes_of b) _ _ _ r.knows.0 r.knows.1 r.place _ c.args.slot r.inside r.rests r.held.1 r.held.2 r.held.0 r.looked)
+    as_banked b Leaves _ _ _ _ _ _ (may_take_held (book_of b)
+    (sizes_of b) _ _ _ r.knows.0 r.knows.1 r.place _ c.args.slot r.inside r.rests r.held.1 r.held.2 r.held.0 r.looked)

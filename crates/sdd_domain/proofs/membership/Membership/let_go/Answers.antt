@@ -170,7 +170,8 @@ returns-clause-retired g c =
     let waits = subst (λ (k : ℕ). Moved (LetsWait k) c.take_in.new.token 4 c.let_wait.new.token) c.number-slot.ensures c.let_wait.ensures in
     let retired = retires_to l.domain.now.board l.place l.own slot shared shown l.token c.take_in.new.token c.let_wait.new.token q took waits in
     let own_is : c.stir.new.self ≡ awaiting (Item slot) l.own
-    = c.stir.ensures ∙ (ap (λ (bags : Bags). with_garbage (record l.own { bags = bags })) c.push.ensures ∙ ap (λ (k : ℕ). awaiting (Item k) l.own) c.number-slot.ensures) in
+    = c.stir.ensures ∙ (ap (λ (bags : Bags). with_garbage (record l.own { bags = bags })) c.push.ensures ∙ ap (λ (k : ℕ). awaiting
+    (Item k) l.own) c.number-slot.ensures) in
     let old : Member = c.self.view_is 0 in
     let home : c.let_wait.new.token.table_id ≡ l.token.table_id = waits.0 ∙ took.0 in (
       retired.0,
