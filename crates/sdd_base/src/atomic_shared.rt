@@ -178,6 +178,8 @@ impl<T: Item<T>> AtomicShared<T> {
         ensures own { S.own s.new ≡ S.own s.old }
         ensures known { KnowsOn (S.known s.old) (S.known s.new) }
         ensures shown { IsShown (S.shows s.new) result }
+        ensures owned { IsExact (S.seat s.old) →
+            IfSome (slot_named result) (λ slot. (owners : ℕ) × IsSharedBy owners (standing_at (S.world s.old) slot)) }
         ensures exact { IsExact (S.seat s.old) → (entry_at (S.world s.old).cells (cell_of self.now) ≡ Some (cell_seen result)) ×
             (S.world s.new ≡ S.world s.old) }
         ensures keeps { KeepsShown (S.shows s.old) (S.shows s.new) }

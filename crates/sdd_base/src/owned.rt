@@ -97,6 +97,7 @@ impl<T: Item<T>> Owned<T> {
         requires home { slots_home self.now ≡ (L.home at.now).slots }
         ensures shown { L.knows_slots at.now → L.shows at.now (slot_of self.now) result.now }
         ensures value { L.owns_value at.now (right_of self.now) result.now }
+        ensures held { AreOf (L.home at.now) (T.holds result.now) }
     {
         at.value(self.right())
     }
