@@ -24,3 +24,4 @@ pub mod Adopting
 pub mod Under
 pub mod Passing
 pub mod Accounts
+pub mod Refusals
