@@ -182,7 +182,7 @@ module _ (γ : ℕ) (sizes : Sizes) (slots id : ℕ) (me : Mine) where
   pub may_look_at_lock : IsOpen v → ¬ (Scans v) → May lock_word (λ x. x) (Told (OnEpoch LooksAtLock) me)
   may_look_at_lock is_open free = may_epoch LooksAtLock lock_word (λ x. x) (omega arith) (λ _ _ _ _. omega arith)
       (λ x w t _. ap (λ (u : EpochView). u.place) t.0)
-      (λ x w t z. subst HasPlace t.0 z) (λ s h at p low e was. was)
+      (λ x w t z. subst HasPlace (sym t.0) z) (λ s h at p low e was. was)
       (epochs.looks_at_lock sizes.participants id v is_open free)
 
   pub may_look_at_state : (i q : ℕ) → i ≡ state_word q → q < sizes.participants → IsNext v q → May i (λ x. x) (Told (OnEpoch (LooksAtState i)) me)
