@@ -26,7 +26,7 @@ use crate::private_collector::PrivateCollector;
 use crate::ptr::Ptr;
 use crate::raw_ptr::RawPtr;
 use crate::shared::Shared;
-use crate::space::SharedItems;
+use crate::space::Several;
 use sdd_core::{Refused, Tag};
 use sdd_places::{Stage, Tenure};
 use sdd_store::{Cell, Pointer, Standing};
@@ -229,7 +229,7 @@ pub fn pointer_of_raw<T>(ptr: &RawPtr<T>) -> Pointer
 /// Puts a value into a free slot, with two owners at once.
 ///
 /// `NoSlot` where none is free; `Contended`, in a domain alone, where as many exchanges were lost as its limits allow. The value comes back.
-pub fn make_two<T: Item<T>, S: SharedItems<T>>(
+pub fn make_two<T: Item<T>, S: Several<T>>(
     value: T,
     s: &mut S,
 ) -> Result<(Shared<T>, Shared<T>), (T, Refused)>

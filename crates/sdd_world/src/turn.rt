@@ -8,7 +8,7 @@ ghost use Rattle.sdd_base.specs.Ptr.{shown_by};
 use crate::world::{Place, World};
 use sdd_base::{
     Caller, Cells, Collectors, Deferrals, Edits, Guard, Guards, Item, Items, Look, LookThrough,
-    Ptr, RawCells, RawItems, RawPtr, SharedItems, Shows, Space, inner,
+    Ptr, RawCells, RawItems, RawPtr, Several, SharedItems, Shows, Space, inner,
 };
 use sdd_core::{Refused, Tag};
 use sdd_store::{Cell, Idle, Job, Pointer};
@@ -254,7 +254,7 @@ impl<T: Item<T>, J: Job> Edits<T> for Turn<'_, T, J> {
     }
 }
 
-impl<T: Item<T>, J: Job> SharedItems<T> for Turn<'_, T, J> {
+impl<T: Item<T>, J: Job> Several<T> for Turn<'_, T, J> {
     fn make_several(&mut self, value: T, owners: u64) -> Result<(Right, Shares), (T, Refused)> {
         let world = &mut *self.world;
         match world.core.make_several(value, owners) {
@@ -267,7 +267,9 @@ impl<T: Item<T>, J: Job> SharedItems<T> for Turn<'_, T, J> {
     fn split_off(&mut self, _right: &Right, several: Shares) -> (Right, Option<Shares>) {
         several.split_off()
     }
+}
 
+impl<T: Item<T>, J: Job> SharedItems<T> for Turn<'_, T, J> {
     fn add_owner(&mut self, right: &Right) -> Result<Right, Refused> {
         let world = &mut *self.world;
         world.core.add_owner(right)
