@@ -12,13 +12,14 @@ use Rattle.sdd_witness.specs.Steps.{AllowsAlone, AllowsBeside}
 use Rattle.atomic_table.specs.declared.shared.Seat.{Seat}
 use Rattle.sdd_stakes.specs.declared.stake.Stake.{Stake}
 use Rattle.sdd_stakes.specs.Shelf.{IsVacant}
-use Rattle.sdd_rule.specs.declared.EpochView.{EpochView}
-use Rattle.sdd_rule.specs.declared.View.{View}
-use Rattle.sdd_rule.specs.declared.Sizes.{Sizes}
+use Rattle.sdd_views.specs.declared.EpochView.{EpochView}
+use Rattle.sdd_views.specs.declared.View.{View}
+use Rattle.sdd_views.specs.declared.Sizes.{Sizes}
 use Rattle.sdd_rule.specs.Words.{global_word, lock_word, state_word, count_word, slot_word, after_places}
 use Rattle.sdd_rule.specs.Codes.{free_word, owned_word, waiting_word}
 use Rattle.sdd_rule.specs.Epoch.{HasPlace, IsClosed, IsOpen, Scans}
-use Rattle.sdd_rule.specs.Steps.{Keeps, nobody, passed_by, knowing, scanning, IsNext, Registers, Reads, Counts, Publishes, Ends, Locks, LooksAtState, LooksAtCount, Advances, Unlocks}
+use Rattle.sdd_views.specs.Views.{nobody, owner_of}
+use Rattle.sdd_rule.specs.Steps.{Keeps, passed_by, knowing, scanning, IsNext, Registers, Reads, Counts, Publishes, Ends, Locks, LooksAtLock, LooksAtState, LooksAtCount, Advances, Unlocks}
 use Rattle.sdd_rule.specs.Slots.{OwnsAlone, Holds}
 use Rattle.sdd_rule.specs.SlotSteps.{blank, changed, OnEpoch, PublishesAll, IsDue, LooksAtSlot, TakesHold, LetsGo, LooksForGuard, AtSlot}
 use Rattle.sdd_rule.specs.Ended.{Bars, LooksForValue}
@@ -36,7 +37,7 @@ use Rattle.sdd_homes.proofs.Steps as steps
 use Rattle.sdd_homes.proofs.Fillings.{NoneTold}
 use Rattle.sdd_homes.proofs.Telling.{one_moved, owns_it, none_told}
 use Rattle.sdd_homes.proofs.Tokens.{enters}
-use Rattle.sdd_rule.specs.Parts.{idle, owner_of}
+use Rattle.sdd_rule.specs.Parts.{idle}
 use Rattle.sdd_board.specs.Token.{Sits, Told, IsSame, IsSameBut, Stepped, Taught, Moved, HousesMoved, TakesOwned, WatchesOwned, RecallsOwned, HasPublished, shown_last}
 
 -- which of two it is now a number tells, and what holds of both holds of it
@@ -177,6 +178,12 @@ module _ (γ : ℕ) (sizes : Sizes) (slots id : ℕ) (me : Mine) where
       (λ x w t _. which (λ (u : EpochView). u.place ≡ v.place) (scanning v) v w x 0 t.0 t.1 refl refl)
       (λ x w t z. which HasPlace (scanning v) v w x 0 t.0 t.1 z z) (λ s h at p low e was. absurd (omega arith))
       (epochs.locks sizes.participants id v is_open free)
+
+  pub may_look_at_lock : IsOpen v → ¬ (Scans v) → May lock_word (λ x. x) (Told (OnEpoch LooksAtLock) me)
+  may_look_at_lock is_open free = may_epoch LooksAtLock lock_word (λ x. x) (omega arith) (λ _ _ _ _. omega arith)
+      (λ x w t _. ap (λ (u : EpochView). u.place) t.0)
+      (λ x w t z. subst HasPlace t.0 z) (λ s h at p low e was. was)
+      (epochs.looks_at_lock sizes.participants id v is_open free)
 
   pub may_look_at_state : (i q : ℕ) → i ≡ state_word q → q < sizes.participants → IsNext v q → May i (λ x. x) (Told (OnEpoch (LooksAtState i)) me)
   may_look_at_state i q is inside next = subst (λ (i : ℕ). May i (λ x. x) (Told (OnEpoch (LooksAtState i)) me)) (sym is)

@@ -1,8 +1,8 @@
 -- The token of counts, as it leaves a participant
 use Rattle.std.specs.Prelude.{List, [], ◌∷◌}
 use base.Stored.{Gv}
-use Rattle.sdd_rule.specs.declared.CountsView.{CountsView}
-use Rattle.sdd_rule.specs.contracts.View.{the_row}
+use Rattle.sdd_views.specs.declared.CountsView.{CountsView}
+use Rattle.sdd_views.specs.contracts.View.{the_row}
 use Rattle.sdd_homes.specs.HomeSteps.{counts_token}
 
 -- the views of a witness that knows these counts

@@ -1,6 +1,6 @@
 -- How many of each a domain has
 use Rattle.std.specs.Prelude.{◌^◌, ◌≤◌}
-use Rattle.sdd_rule.specs.declared.Sizes.{Sizes}
+use Rattle.sdd_views.specs.declared.Sizes.{Sizes}
 
 -- within the ranges of a domain's limits
 pub record AreSmall (sizes : Sizes) : Type 0 where

@@ -3,13 +3,13 @@ use Rattle.std.specs.Prelude.{◌≡◌, ℕ, Bool, List, [], ◌∷◌}
 use base.Stored.{Gv, gnil}
 use Rattle.atomic_table.specs.Table.{Me, Step}
 use Rattle.atomic_table.specs.declared.shared.Seat.{Seat}
-use Rattle.sdd_rule.specs.declared.EpochView.{EpochView}
-use Rattle.sdd_rule.specs.declared.SlotsView.{SlotsView}
-use Rattle.sdd_rule.specs.declared.View.{View}
+use Rattle.sdd_views.specs.declared.EpochView.{EpochView}
+use Rattle.sdd_views.specs.declared.SlotsView.{SlotsView}
+use Rattle.sdd_views.specs.declared.View.{View}
 use Rattle.sdd_rule.specs.Steps.{Publishes}
 use Rattle.sdd_rule.specs.SlotSteps.{changed}
 use Rattle.sdd_stakes.specs.declared.stake.Stake.{Stake}
-use Rattle.sdd_rule.specs.Parts.{owner_of}
+use Rattle.sdd_views.specs.Views.{owner_of}
 use Rattle.sdd_homes.specs.Homes.{Carries, Moves}
 use Rattle.sdd_homes.specs.Records.{IsIn}
 use Rattle.sdd_homes.specs.HomeSteps.{Mine, Houses, TakesLast, Watches, Recalls, ClosesHome}

@@ -11,7 +11,7 @@ ghost use Rattle.sdd_board.specs.Sizes.{AreSmall};
 
 use crate::words::{first_slot, word_count};
 use atomic_table::{Closed, Refused, Seat, Table, TableRule};
-use sdd_rule::{Sizes, View};
+use sdd_views::{Sizes, View};
 use sdd_stakes::{Stake, Title};
 use std::alloc::Global;
 

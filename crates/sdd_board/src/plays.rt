@@ -1,14 +1,14 @@
 //! What each step tells.
 ghost use Rattle.std.specs.Prelude.{[], true, false};
-ghost use Rattle.sdd_rule.specs.Steps.{Registers, Reads, Counts, Locks, LooksAtState, LooksAtCount, Advances, Unlocks};
+ghost use Rattle.sdd_rule.specs.Steps.{Registers, Reads, Counts, Locks, LooksAtLock, LooksAtState, LooksAtCount, Advances, Unlocks};
 ghost use Rattle.sdd_rule.specs.SlotSteps.{OnEpoch, PublishesAll, LooksAtSlot, TakesHold, LetsGo, LooksForGuard, AtSlot};
 ghost use Rattle.sdd_rule.specs.Ended.{Bars, LooksForValue};
-ghost use Rattle.sdd_rule.specs.Parts.{owner_token};
+ghost use Rattle.sdd_views.specs.Views.{owner_token};
 ghost use Rattle.sdd_homes.specs.HomeSteps.{ClaimsAll, TakesOut, TakesHeld, RetiresOne, GivesAll, DiscardsAll, ClosesHome, EndsAll, OfSlot, parting, departing, regained, uncounting, counts_of, counting};
 ghost use Rattle.sdd_board.specs.Token.{Sits, Told, HousesMoved, TakesOwned, WatchesOwned, RecallsOwned};
 
 use atomic_table::{Join, Play, Split};
-use sdd_rule::View;
+use sdd_views::View;
 use sdd_stakes::Stake;
 use sdd_witness::{Alone, Beside};
 
@@ -64,6 +64,12 @@ pub struct Lock;
 
 impl Play<Stake, View> for Lock {
     ghost then = { λ _. Told (OnEpoch Locks) };
+}
+
+pub struct LookAtLock;
+
+impl Play<Stake, View> for LookAtLock {
+    ghost then = { λ _. Told (OnEpoch LooksAtLock) };
 }
 
 pub struct LookAtState;

@@ -2,7 +2,8 @@
 ghost use Rattle.std.specs.Prelude.{◌≡◌, ◌+◌, ◌^◌, ◌<◌, [], None};
 ghost use Rattle.sdd_rule.specs.Words as words;
 ghost use Rattle.sdd_rule.specs.Epoch.{IsClosed, IsOpen, Scans};
-ghost use Rattle.sdd_rule.specs.Steps.{nobody, IsNext, Registers, Reads, Counts, Locks, LooksAtState, LooksAtCount, Advances, Unlocks};
+ghost use Rattle.sdd_views.specs.Views.{nobody};
+ghost use Rattle.sdd_rule.specs.Steps.{IsNext, Registers, Reads, Counts, Locks, LooksAtLock, LooksAtState, LooksAtCount, Advances, Unlocks};
 ghost use Rattle.sdd_rule.specs.Parts.{idle};
 ghost use Rattle.sdd_board.specs.Board.{id_of, sizes_of, book_of, places_of};
 ghost use Rattle.sdd_rule.specs.SlotSteps.{blank};
@@ -15,8 +16,8 @@ pub mod slots;
 
 use crate::board::{Board, Token};
 use crate::plays::{
-    Advance, Bar, Close, End, Lock, LookAtCount, LookAtState, Publish, Read, Register, Sit, Unlock,
-    Write,
+    Advance, Bar, Close, End, Lock, LookAtCount, LookAtLock, LookAtState, Publish, Read, Register,
+    Sit, Unlock, Write,
 };
 use crate::words::{GLOBAL, LOCK, count_word, state_word};
 
@@ -147,6 +148,15 @@ pub fn lock(board: &Board, token: &mut Token) -> u64
         .table
         .shared
         .compare_exchange::<Lock>(token, LOCK, 0, 1)
+}
+
+/// Looks at the lock of a scan, which nobody writes by that. Someone else has it where this isn't 0.
+pub fn look_at_lock(board: &Board, token: &mut Token) -> u64
+    requires home { token.old.table_id ≡ id_of board.now }
+    requires open { IsOpen (epoch token.old) × ¬ (Scans (epoch token.old)) }
+    ensures { Stepped LooksAtLock token.old result token.new }
+{
+    board.table.shared.load::<LookAtLock>(token, LOCK)
 }
 
 /// Looks at the state of the next place.

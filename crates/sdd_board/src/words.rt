@@ -2,12 +2,17 @@
 ghost use Rattle.std.specs.Prelude.{◌≡◌, ◌^◌, ◌<◌, ◌≤◌};
 ghost use Rattle.sdd_rule.specs.Words as words;
 
-use sdd_rule::Sizes;
+use sdd_views::Sizes;
 
+/// How far apart words stand that different participants write: two lines of the cache, as processors fetch them by pairs.
+const LINE: usize = 16;
 /// The global count.
 pub const GLOBAL: usize = 0;
 /// The lock of a scan.
-pub const LOCK: usize = 1;
+pub const LOCK: usize = LINE;
+
+/// Where the words of places begin.
+const FIRST_PLACE: usize = 2 * LINE;
 
 /// The state of a place.
 #[inline]
@@ -15,16 +20,16 @@ pub fn state_word(place: usize) -> usize
     requires { place < 2 ^ 32 }
     ensures { result ≡ words.state_word place }
 {
-    2 * place + 3
+    LINE * place + FIRST_PLACE
 }
 
-/// The count of a place.
+/// The count of a place, which nobody but its participant writes either.
 #[inline]
 pub fn count_word(place: usize) -> usize
     requires { place < 2 ^ 32 }
     ensures { result ≡ words.count_word place }
 {
-    2 * place + 4
+    LINE * place + FIRST_PLACE + 1
 }
 
 /// Where the slots' words begin.
@@ -34,7 +39,7 @@ pub fn first_slot(sizes: &Sizes) -> u64
     requires cells { sizes.now.cells ≤ 2 ^ 32 }
     ensures { result ≡ words.first_slot sizes.now }
 {
-    2 * sizes.participants + 3 + sizes.jobs + sizes.cells
+    LINE as u64 * sizes.participants + FIRST_PLACE as u64 + sizes.jobs + 2 * sizes.cells
 }
 
 /// How many words there are.
@@ -45,5 +50,5 @@ pub fn word_count(sizes: &Sizes) -> u64
     requires cells { sizes.now.cells ≤ 2 ^ 32 }
     ensures { result ≡ words.all_words sizes.now }
 {
-    2 * sizes.participants + 3 + sizes.jobs + sizes.cells + sizes.slots
+    first_slot(sizes) + sizes.slots
 }

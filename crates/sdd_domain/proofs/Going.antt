@@ -9,8 +9,8 @@ use Rattle.sdd_store.specs.Tally.{one_reclaimed}
 use Rattle.sdd_store.specs.declared.standing.Standing.{Standing}
 use Rattle.sdd_store.specs.declared.standing.Standing.TheVariants.{Retired}
 use Rattle.sdd_stakes.specs.Shelf.{showing}
-use Rattle.sdd_rule.specs.declared.Showing.{Showing}
-use Rattle.sdd_rule.specs.declared.Sizes.{Sizes}
+use Rattle.sdd_views.specs.declared.Showing.{Showing}
+use Rattle.sdd_views.specs.declared.Sizes.{Sizes}
 use Rattle.sdd_rule.specs.Codes.{waiting, full}
 use Rattle.sdd_rule.specs.SlotSteps.{behind, without_item}
 use Rattle.sdd_rule.specs.Sums.{total}

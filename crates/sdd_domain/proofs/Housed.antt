@@ -4,7 +4,7 @@ use Rattle.atomic_table.specs.Seated.{TableId}
 use Rattle.sdd_board.specs.declared.board.Board.{Board}
 use Rattle.sdd_board.specs.Board.{id_of, book_of, sizes_of, slots_of}
 use Rattle.sdd_base.specs.declared.limits.Limits.{Limits}
-use Rattle.sdd_rule.specs.declared.Sizes.{Sizes}
+use Rattle.sdd_views.specs.declared.Sizes.{Sizes}
 use Rattle.sdd_token.specs.Right.{home_of_table}
 use Rattle.sdd_stakes.specs.declared.shelf.Shelf.{Shelf}
 use Rattle.sdd_domain.specs.Shelf.{sizes_in, IsShelfOf}

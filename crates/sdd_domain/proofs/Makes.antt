@@ -17,7 +17,7 @@ use Rattle.sdd_token.specs.declared.right.Right.{Right}
 use Rattle.sdd_token.specs.Kind.{is_shared}
 use Rattle.sdd_token.specs.Right.{number_of}
 use Rattle.sdd_standings.specs.Slots.{first_standing}
-use Rattle.sdd_rule.specs.declared.Showing.{Showing}
+use Rattle.sdd_views.specs.declared.Showing.{Showing}
 use Rattle.sdd_rule.specs.Codes.{waiting, full}
 use Rattle.sdd_rule.specs.SlotSteps.{behind}
 use Rattle.sdd_rule.proofs.Codes.{free_is, owned_is}

@@ -6,7 +6,7 @@ use base.Stored.{Gv}
 use Rattle.atomic_table.specs.Seated.{TableId}
 use Rattle.atomic_table.specs.declared.shared.Seat.{Seat}
 use Rattle.sdd_stakes.specs.declared.stake.Stake.{Stake}
-use Rattle.sdd_rule.specs.declared.View.{View}
+use Rattle.sdd_views.specs.declared.View.{View}
 use Rattle.sdd_rule.specs.Sums.{times}
 use Rattle.sdd_homes.specs.Records.{IsIn}
 use Rattle.sdd_homes.specs.HomeSteps.{Mine, Watches, Recalls}

@@ -10,8 +10,8 @@ use Rattle.sdd_stakes.specs.Stakes.{Lot, AllFreeFor, unlent}
 use Rattle.sdd_stakes.specs.Seats.{lots, plain, OnlyLends}
 use Rattle.sdd_stakes.specs.declared.stake.Stake.{Stake}
 use Rattle.sdd_stakes.specs.Shelf.{most, IsFull, IsVacant, CanShow, Shows, HasWhole, AreWhole, all_turned}
-use Rattle.sdd_rule.specs.declared.Showing.{Showing}
-use Rattle.sdd_rule.specs.declared.View.{View}
+use Rattle.sdd_views.specs.declared.Showing.{Showing}
+use Rattle.sdd_views.specs.declared.View.{View}
 use Rattle.sdd_rule.specs.SlotSteps.{given_back, Knew, LooksAtSlot}
 use Rattle.sdd_rule.specs.Codes.{free_word, owned_word}
 use Rattle.sdd_rule.specs.Sums.{times}

@@ -6,7 +6,7 @@ use native.Mathlib.Decide.{ℕ_discrete}
 use Rattle.sdd_store.specs.Waiting.{Waiting, aged, due, left}
 use Rattle.sdd_store.specs.Time.{due_next}
 use Rattle.sdd_store.specs.Time as time
-use Rattle.sdd_rule.specs.declared.WaitingItem.{WaitingItem}
+use Rattle.sdd_views.specs.declared.WaitingItem.{WaitingItem}
 use Rattle.sdd_rule.specs.SlotSteps.{older}
 use Rattle.sdd_base.specs.Steps.{nested, rotated}
 use Rattle.sdd_domain.specs.Member.{Member, IsLone, IsEntered}

@@ -5,10 +5,10 @@ use base.Stored.{Gv}
 use Rattle.atomic_table.specs.declared.shared.Seat.{Seat}
 use Rattle.sdd_stakes.specs.declared.stake.Stake.{Stake}
 use Rattle.sdd_stakes.specs.Shelf.{IsFull, IsVacant, all_turned}
-use Rattle.sdd_rule.specs.declared.Sizes.{Sizes}
-use Rattle.sdd_rule.specs.declared.View.{View}
+use Rattle.sdd_views.specs.declared.Sizes.{Sizes}
+use Rattle.sdd_views.specs.declared.View.{View}
 use Rattle.sdd_rule.specs.SlotSteps.{first, others}
-use Rattle.sdd_rule.specs.Parts.{owner_of, owner_token, at_rest}
+use Rattle.sdd_views.specs.Views.{owner_of, owner_token, at_rest}
 use Rattle.sdd_homes.specs.Homes.{Carries, Moves}
 use Rattle.sdd_homes.specs.HomeSteps.{HasAll, IsValue, Houses, parting, departing, resting, telling}
 use Rattle.sdd_board.specs.declared.board.Board.{Board}

@@ -17,8 +17,8 @@ use Rattle.sdd_token.specs.declared.right.Right.{Right}
 use Rattle.sdd_token.specs.Kind.{is_shared}
 use Rattle.sdd_token.specs.Right.{number_of, kind_of}
 use Rattle.sdd_standings.specs.Slots.{IsOwnedBy, has_others}
-use Rattle.sdd_rule.specs.declared.Showing.{Showing}
-use Rattle.sdd_rule.specs.declared.SlotsView.{SlotsView}
+use Rattle.sdd_views.specs.declared.Showing.{Showing}
+use Rattle.sdd_views.specs.declared.SlotsView.{SlotsView}
 use Rattle.sdd_rule.specs.Codes.{waiting, full}
 use Rattle.sdd_rule.specs.SlotSteps.{behind, retired_now}
 use Rattle.sdd_rule.specs.Sums.{times}

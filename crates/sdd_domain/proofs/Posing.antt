@@ -11,22 +11,22 @@ use Rattle.sdd_store.specs.declared.time.Participant.{Participant}
 use Rattle.sdd_store.specs.Waiting.{Waiting, fresh}
 use Rattle.sdd_store.specs.Time.{stirred, awaiting, nested}
 use Rattle.sdd_stakes.specs.declared.stake.Stake.{Stake}
-use Rattle.sdd_rule.specs.declared.EpochView.{EpochView}
-use Rattle.sdd_rule.specs.declared.Showing.{Showing}
-use Rattle.sdd_rule.specs.declared.StakesView.{StakesView}
-use Rattle.sdd_rule.specs.declared.WaitingItem.{WaitingItem}
-use Rattle.sdd_rule.specs.declared.View.{View}
+use Rattle.sdd_views.specs.declared.EpochView.{EpochView}
+use Rattle.sdd_views.specs.declared.Showing.{Showing}
+use Rattle.sdd_views.specs.declared.StakesView.{StakesView}
+use Rattle.sdd_views.specs.declared.WaitingItem.{WaitingItem}
+use Rattle.sdd_views.specs.declared.View.{View}
 use Rattle.sdd_rule.specs.Epoch.{HasPlace, IsLone, IsOpen}
 use Rattle.sdd_rule.specs.Steps.{knowing, counted, published}
 use Rattle.sdd_rule.specs.Sums.{total, times}
 use Rattle.sdd_rule.specs.Slots.{items_at, waits_in}
 use Rattle.sdd_rule.specs.SlotSteps.{retired_now, retired, noted, without}
-use Rattle.sdd_rule.specs.Parts.{owner_of}
+use Rattle.sdd_views.specs.Views.{owner_of}
 use Rattle.sdd_rule.proofs.Sums.{is_other, total_snoc}
 use Rattle.sdd_board.specs.declared.board.Board.{Board}
 use Rattle.sdd_stakes.specs.Seats.{OnlyLends}
 use Rattle.sdd_stakes.specs.Shelf.{IsVacant}
-use Rattle.sdd_rule.specs.declared.Sizes.{Sizes}
+use Rattle.sdd_views.specs.declared.Sizes.{Sizes}
 use Rattle.sdd_rule.specs.Codes.{owned_word}
 use Rattle.sdd_homes.specs.Homes.{Carries, Has, stake_at}
 use Rattle.sdd_homes.specs.Records.{slot_shown, IsIn}

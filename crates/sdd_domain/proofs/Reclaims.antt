@@ -6,7 +6,7 @@ use lib.ListN.{get_elem?}
 use Rattle.sdd_store.specs.declared.waiting.What.{What}
 use Rattle.sdd_store.specs.declared.waiting.What.TheVariants.{Item, Job}
 use Rattle.sdd_store.specs.Waiting.{Waiting, aged, due, left}
-use Rattle.sdd_rule.specs.declared.WaitingItem.{WaitingItem}
+use Rattle.sdd_views.specs.declared.WaitingItem.{WaitingItem}
 use Rattle.sdd_rule.specs.Sums.{total}
 use Rattle.sdd_rule.specs.Slots.{waits_in}
 use Rattle.sdd_rule.specs.SlotSteps.{older, without_item}

@@ -7,8 +7,8 @@ use Rattle.sdd_store.specs.Waiting.{Waiting}
 use Rattle.sdd_store.specs.declared.time.Participant.{Participant}
 use Rattle.sdd_store.specs.declared.phases.Phase.TheVariants.{Live}
 use Rattle.sdd_base.specs.declared.limits.Limits.{Limits}
-use Rattle.sdd_rule.specs.declared.SlotsView.{SlotsView}
-use Rattle.sdd_rule.specs.declared.WaitingItem.{WaitingItem}
+use Rattle.sdd_views.specs.declared.SlotsView.{SlotsView}
+use Rattle.sdd_views.specs.declared.WaitingItem.{WaitingItem}
 use Rattle.sdd_rule.specs.Codes.{waiting, full}
 use Rattle.sdd_rule.specs.Words.{words_behind}
 use Rattle.sdd_rule.specs.SlotSteps.{behind}

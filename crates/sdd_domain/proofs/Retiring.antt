@@ -4,7 +4,7 @@ use Rattle.std.specs.Prelude.{None}
 use base.Stored.{Gv}
 use Rattle.atomic_table.specs.declared.shared.Seat.{Seat}
 use Rattle.sdd_stakes.specs.declared.stake.Stake.{Stake}
-use Rattle.sdd_rule.specs.declared.View.{View}
+use Rattle.sdd_views.specs.declared.View.{View}
 use Rattle.sdd_rule.specs.SlotSteps.{Retires, retired}
 use Rattle.sdd_homes.specs.Homes.{Carries}
 use Rattle.sdd_homes.specs.HomeSteps.{HasLast, IsValue, RetiresOne, settling, resting, remembering}

@@ -2,7 +2,7 @@
 use Rattle.std.proofs.Common.{◌≡◌, ◌+◌, ◌≤◌, not, List, [], ◌∷◌, ◌++◌, map, length, refl, ap, ◌∙◌, arith}
 use mathlib.Core.Bool.{Bool, true, false, cond}
 use Rattle.sdd_store.specs.Waiting.{Waiting}
-use Rattle.sdd_rule.specs.declared.WaitingItem.{WaitingItem}
+use Rattle.sdd_views.specs.declared.WaitingItem.{WaitingItem}
 use Rattle.sdd_domain.specs.Waits.{waiting_of, is_ripe, ripe, unripe}
 
 module _ {A : Type 0} where

@@ -1,5 +1,6 @@
 -- All participants with which something waits reclaim it, one after another.
-use Rattle.std.proofs.Common.{◌≡◌, ℕ, zero, suc, ◌+◌, ◌-◌, ◌<◌, List, [], ◌∷◌, ◌++◌, All, length, length-append, append_assoc, append-nil, take, drop, map, sum, slice_index_or, sym, refl, ap, ◌∙◌, subst, arith}
+use Rattle.std.proofs.Common.{◌≡◌, ℕ, zero, suc, ◌+◌, ◌-◌, ◌<◌, List, [], ◌∷◌, ◌++◌, All, length, length-append, append_assoc, append-nil, map, sum, slice_index_or, slice_set, sym, refl, ap, ◌∙◌, subst, arith}
+use Rattle.std.proofs.Math.Seq.{set-append_seam, get_or-append_seam}
 use Rattle.std.proofs.lemmas.List.Sums.{sum_by-cons}
 use Rattle.sdd_token.specs.Units as token
 use Rattle.sdd_store.specs.declared.tally.Tally.{Tally}
@@ -18,18 +19,25 @@ one_settled items own (z ∷ xs) (u ∷ ys) x y are is = let few = are.1 in (
       (one_settled (items - are.0) own xs ys x y are.3 is),
 )
 
--- of so many receipts the first ones are settled, and lie behind the others
+-- as many are settled as there were
+pub as_many : (items : ℕ) (xs ys : List Receipt) → AreSettled items xs ys → length ys ≡ length xs
+as_many items [] [] are = refl
+as_many items [] (y ∷ ys) are = absurd are
+as_many items (x ∷ xs) [] are = absurd are
+as_many items (x ∷ xs) (y ∷ ys) are = let rest = as_many (items - are.0) xs ys are.3 in omega arith
+
+-- of so many receipts the first ones are settled
 pub record Going (items step : ℕ) (start now : List Receipt) : Type 0 where
   pub took : List Receipt
   pub rest : List Receipt
   pub done : List Receipt
   pub before : start ≡ took ++ rest
-  pub after : now ≡ rest ++ done
+  pub after : now ≡ done ++ rest
   pub long : length took ≡ step
   pub are : AreSettled items took done
 
 pub begins : (items step : ℕ) (xs : List Receipt) → items ≡ 0 → step ≡ 0 → Going items step xs xs
-begins items step xs none first = record { took = []; rest = xs; done = []; before = refl; after = sym (append-nil xs); long = sym first; are = none }
+begins items step xs none first = record { took = []; rest = xs; done = []; before = refl; after = refl; long = sym first; are = none }
 
 pub first_of : (xs : List Receipt) → 0 < length xs → (x : Receipt) × (rest : List Receipt) × (xs ≡ x ∷ rest)
 first_of [] some = absurd (omega arith)
@@ -44,32 +52,42 @@ one_of P [] ys x all = all 0 x (omega arith)
 one_of P (z ∷ xs) ys x all = one_of P xs ys x (λ k d low. all (suc k) d (omega arith))
 
 module _ (items step : ℕ) (start now : List Receipt) (g : Going items step start now) where
+  -- as many as there were
+  pub still_long : length now ≡ length start
+  still_long = let a = ap length g.before ∙ length-append g.took g.rest in let b = ap length g.after ∙ length-append g.done g.rest in
+      let same = as_many items g.took g.done g.are in omega arith
+
   module _ (low : step < length start) where
     abbrev pub next : (x : Receipt) × (rest : List Receipt) × (g.rest ≡ x ∷ rest)
     next = first_of g.rest (let both = ap length g.before ∙ length-append g.took g.rest in let long = g.long in omega arith)
 
-    here : now ≡ next.0 ∷ (next.1 ++ g.done)
-    here = g.after ∙ ap (λ (l : List Receipt). l ++ g.done) next.2
+    here : now ≡ g.done ++ next.0 ∷ next.1
+    here = g.after ∙ ap (λ (l : List Receipt). g.done ++ l) next.2
 
     there : start ≡ g.took ++ next.0 ∷ next.1
     there = g.before ∙ ap (λ (l : List Receipt). g.took ++ l) next.2
 
-    -- the next one is the first that lies there
-    pub first_is : (x : Receipt) → x ≡ slice_index_or now 0 x → x ≡ next.0
-    first_is x is = is ∙ ap (λ (l : List Receipt). slice_index_or l 0 x) here
+    as_far : length g.done ≡ step
+    as_far = as_many items g.took g.done g.are ∙ g.long
 
-    pub still_home : (P : Receipt → Type 0) (x : Receipt) → x ≡ slice_index_or now 0 x → All P start → P x
-    still_home P x is all = subst P (sym (first_is x is)) (one_of P g.took next.1 next.0 (subst (All P) there all))
+    -- the next one is the one that lies there
+    pub next_is : (x d : Receipt) → x ≡ slice_index_or now step d → x ≡ next.0
+    next_is x d is = is ∙ (ap (λ (l : List Receipt). slice_index_or l step d) here ∙ (ap (λ (k : ℕ). slice_index_or (g.done ++ next.0 ∷ next.1) k d) (sym as_far)
+        ∙ get_or-append_seam g.done next.0 next.1 d))
 
-    -- it is settled, and comes behind the others
-    pub goes_on : (own items' step' : ℕ) (x y : Receipt) (left : List Receipt) → x ≡ slice_index_or now 0 x → left ≡ take 0 now ++ drop 1 now → IsSettled own x y
-        → items' ≡ items + own → step' ≡ step + 1 → Going items' step' start (left ++ y ∷ [])
-    goes_on own items' step' x y left is out settled more after = let first : next.0 ≡ x = sym (first_is x is) in record {
+    pub still_home : (P : Receipt → Type 0) (x d : Receipt) → x ≡ slice_index_or now step d → All P start → P x
+    still_home P x d is all = subst P (sym (next_is x d is)) (one_of P g.took next.1 next.0 (subst (All P) there all))
+
+    -- it is settled where it lies
+    pub goes_on : (own items' step' : ℕ) (x d y : Receipt) → x ≡ slice_index_or now step d → IsSettled own x y
+        → items' ≡ items + own → step' ≡ step + 1 → Going items' step' start (slice_set now step y)
+    goes_on own items' step' x d y is settled more after = let first : next.0 ≡ x = sym (next_is x d is) in record {
       took = g.took ++ next.0 ∷ [];
       rest = next.1;
       done = g.done ++ y ∷ [];
       before = there ∙ sym (append_assoc g.took (next.0 ∷ []) next.1);
-      after = ap (λ (l : List Receipt). l ++ y ∷ []) (out ∙ ap (drop 1) here) ∙ append_assoc next.1 g.done (y ∷ []);
+      after = ap (λ (l : List Receipt). slice_set l step y) here ∙ (ap (λ (k : ℕ). slice_set (g.done ++ next.0 ∷ next.1) k y) (sym as_far)
+          ∙ (set-append_seam g.done next.0 next.1 y ∙ sym (append_assoc g.done (y ∷ []) next.1)));
       long = (let both = length-append g.took (next.0 ∷ []) in let long = g.long in omega arith);
       are = subst (λ (n : ℕ). AreSettled n (g.took ++ next.0 ∷ []) (g.done ++ y ∷ [])) (sym more)
           (one_settled items own g.took g.done next.0 y g.are (subst (λ (r : Receipt). IsSettled own r y) (sym first) settled));
@@ -80,16 +98,10 @@ module _ (items step : ℕ) (start now : List Receipt) (g : Going items step sta
   ends all = let both = ap length g.before ∙ length-append g.took g.rest in let long = g.long in
       let none : g.rest ≡ [] = none_of g.rest (omega arith) in
       let start_is : start ≡ g.took = g.before ∙ (ap (λ (l : List Receipt). g.took ++ l) none ∙ append-nil g.took) in
-      let now_is : now ≡ g.done = g.after ∙ ap (λ (l : List Receipt). l ++ g.done) none in
+      let now_is : now ≡ g.done = g.after ∙ (ap (λ (l : List Receipt). g.done ++ l) none ∙ append-nil g.done) in
       subst (λ (l : List Receipt × List Receipt). AreSettled items l.0 l.1) (λ d. (sym start_is d, sym now_is d)) g.are
 
 -- ---- what is so of receipts is so of the settled ones
-pub as_many : (items : ℕ) (xs ys : List Receipt) → AreSettled items xs ys → length ys ≡ length xs
-as_many items [] [] are = refl
-as_many items [] (y ∷ ys) are = absurd are
-as_many items (x ∷ xs) [] are = absurd are
-as_many items (x ∷ xs) (y ∷ ys) are = let rest = as_many (items - are.0) xs ys are.3 in omega arith
-
 pub home_again : (P : token.Home → Type 0) (items : ℕ) (xs ys : List Receipt) → AreSettled items xs ys → All (λ (r : Receipt). P r.home) xs
     → All (λ (r : Receipt). P r.home) ys
 home_again P items [] [] are all k d low = absurd (omega arith)

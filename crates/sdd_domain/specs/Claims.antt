@@ -3,7 +3,7 @@ use Rattle.std.specs.Prelude.{◌≡◌, ℕ, ◌<◌, slice_index}
 use Rattle.atomic_table.specs.declared.shared.Seat.{Seat}
 use Rattle.sdd_stakes.specs.Shelf.{IsVacant}
 use Rattle.sdd_stakes.specs.declared.stake.Stake.{Stake}
-use Rattle.sdd_rule.specs.declared.View.{View}
+use Rattle.sdd_views.specs.declared.View.{View}
 use Rattle.sdd_rule.specs.Codes.{free_word, owned_word}
 use Rattle.sdd_rule.specs.Epoch.{IsLone}
 use Rattle.sdd_rule.specs.SlotSteps.{behind}

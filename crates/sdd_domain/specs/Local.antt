@@ -5,7 +5,7 @@ use Rattle.sdd_store.specs.Time.{Time, newcomer}
 use Rattle.sdd_store.specs.declared.phases.Phase.TheVariants.{Live}
 use Rattle.sdd_store.specs.declared.standing.Standing.{Standing}
 use Rattle.sdd_store.specs.declared.standing.Standing.TheVariants.{Owned, Shared, Retired}
-use Rattle.sdd_rule.specs.declared.Showing.{Showing}
+use Rattle.sdd_views.specs.declared.Showing.{Showing}
 use Rattle.sdd_rule.specs.Codes.{free_word, waiting_word}
 use Rattle.sdd_homes.specs.Fillings.{newest}
 use Rattle.sdd_standings.specs.Cells.{null_pointer}

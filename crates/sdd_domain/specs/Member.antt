@@ -11,13 +11,14 @@ use Rattle.sdd_base.specs.Guard.{Reader}
 use Rattle.sdd_base.specs.Own.{closed_with}
 use Rattle.sdd_store.specs.declared.tally.Tally.{Tally}
 use Rattle.sdd_store.specs.Tally.{no_items, one_made, one_reclaimed}
-use Rattle.sdd_rule.specs.declared.Sizes.{Sizes}
-use Rattle.sdd_rule.specs.declared.Showing.{Showing}
-use Rattle.sdd_rule.specs.declared.SlotsView.{SlotsView}
+use Rattle.sdd_views.specs.declared.Sizes.{Sizes}
+use Rattle.sdd_views.specs.declared.Showing.{Showing}
+use Rattle.sdd_views.specs.declared.SlotsView.{SlotsView}
 use Rattle.sdd_rule.specs.Codes.{free_word, owned_word, waiting_word, alive}
 use Rattle.sdd_rule.specs.Sums.{times, total}
 use Rattle.sdd_rule.specs.Slots.{waits_in}
-use Rattle.sdd_rule.specs.SlotSteps.{bare, blank, behind, retired_now, without_item}
+use Rattle.sdd_views.specs.Views.{bare}
+use Rattle.sdd_rule.specs.SlotSteps.{blank, behind, retired_now, without_item}
 use Rattle.sdd_homes.specs.Records.{IsIn}
 use Rattle.sdd_homes.specs.Fillings.{newest}
 use Rattle.sdd_domain.specs.Waits.{aged_at, due_at, arrived_at}

@@ -2,7 +2,7 @@
 use Rattle.std.specs.Prelude.{◌≡◌, ℕ, zero, suc, ◌+◌, ◌-◌, ◌^◌, ◌<◌, ◌≤◌, min, Bool, false, List, [], ◌∷◌, length, map, sum}
 use Rattle.sdd_token.specs.Units as token
 use base.Stored.{Gv}
-use Rattle.sdd_rule.specs.declared.CountsView.{CountsView}
+use Rattle.sdd_views.specs.declared.CountsView.{CountsView}
 use Rattle.sdd_board.specs.Counts.{witness_of_counts}
 use Rattle.sdd_store.specs.declared.tally.Tally.{Tally}
 

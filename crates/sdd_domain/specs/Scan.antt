@@ -1,6 +1,6 @@
 -- What a scan leaves
 use Rattle.std.specs.Prelude.{◌≡◌, ℕ, ◌+◌, ◌^◌, ◌<◌, ◌≤◌}
-use Rattle.sdd_rule.specs.declared.EpochView.{EpochView}
+use Rattle.sdd_views.specs.declared.EpochView.{EpochView}
 use Rattle.sdd_rule.specs.Epoch.{IsOpen, Scans, IsLone}
 use Rattle.sdd_rule.specs.Steps.{Advances}
 

@@ -6,7 +6,7 @@ use Rattle.sdd_base.specs.Holding.{Holding, AreOf}
 use Rattle.sdd_base.specs.Known.{Known}
 use Rattle.sdd_base.specs.Seat.{Seat}
 use Rattle.sdd_base.specs.World.{value_at}
-use Rattle.sdd_rule.specs.declared.Showing.{Showing}
+use Rattle.sdd_views.specs.declared.Showing.{Showing}
 use Rattle.sdd_homes.specs.Records.{IsIn}
 use Rattle.sdd_domain.specs.Member.{Member}
 use Rattle.sdd_domain.specs.Homes.{Home, home_in}

@@ -1,7 +1,7 @@
 -- What a lone participant's words, its bags and its ledger have to do with one another
 use Rattle.std.specs.Prelude.{◌≡◌, ℕ, ◌<◌, ◌==◌, ◌||◌, Bool, IsTrue, List, Option, Some, None, length, map, slice_index_or}
 use base.Stored.{Gv}
-use Rattle.sdd_rule.specs.declared.Showing.{Showing}
+use Rattle.sdd_views.specs.declared.Showing.{Showing}
 use Rattle.sdd_rule.specs.Words.{words_behind}
 use Rattle.sdd_rule.specs.Codes.{free_word, owned_word, waiting_word, waiting, full}
 use Rattle.sdd_rule.specs.Sums.{total}

@@ -3,7 +3,7 @@ use Rattle.std.specs.Prelude.{◌≡◌, ℕ, Bool, ◌∷◌}
 use Rattle.std.proofs.Common.{sym, ap, ◌∙◌}
 use base.Stored.{Gv, gnil, gnum, gcons}
 use denote.RattleType.{RattleType}
-use Rattle.sdd_rule.specs.declared.View.{View}
+use Rattle.sdd_views.specs.declared.View.{View}
 use Rattle.sdd_rule.specs.SlotSteps.{Retires}
 use Rattle.sdd_homes.specs.HomeSteps.{Mine, IsNewest, remembering}
 use Rattle.sdd_stakes.specs.Shelf.{showing}

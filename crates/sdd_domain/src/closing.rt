@@ -4,7 +4,7 @@ ghost use Rattle.core.specs.Mem.Slots.{slots_items, slots_filled, slots_len};
 ghost use Rattle.sdd_stakes.specs.Shelf.{AreVacant};
 ghost use Rattle.sdd_rule.specs.Codes as codes;
 ghost use Rattle.sdd_rule.specs.Slots.{slot_at};
-ghost use Rattle.sdd_rule.specs.Parts.{no_counts};
+ghost use Rattle.sdd_views.specs.Views.{no_counts};
 ghost use Rattle.sdd_homes.specs.Homes.{AreHome};
 ghost use Rattle.sdd_board.specs.Board.{id_of, sizes_of, places_of};
 ghost use Rattle.sdd_board.specs.Sizes.{AreSmall};
@@ -21,7 +21,7 @@ use sdd_board::steps::slots::{FREE, look_for_value};
 use sdd_board::words::state_word;
 use sdd_board::{Board, Token, steps};
 use sdd_homes::gather_home;
-use sdd_rule::Sizes;
+use sdd_views::Sizes;
 use sdd_stakes::{Stake, Stock, Title};
 use std::alloc::Global;
 
@@ -104,9 +104,8 @@ pub fn settle_all<T: Item<T>>(domain: &Domain<T>, receipts: &mut Vec<Receipt<T>>
     ensures few { left.new ≤ left.old }
     ensures settled { AreSettled (left.old - left.new) receipts.old.items receipts.new.items }
 {
-    for _settled in 0..receipts.len() {
-        let receipt = receipts.remove(0);
-        receipts.push_reserved(receipt.settle(domain, left));
+    for index in 0..receipts.len() {
+        receipts[index].settle(domain, left);
     }
 }
 

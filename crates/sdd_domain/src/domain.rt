@@ -15,7 +15,7 @@ use sdd_board::{Board, Plan};
 use sdd_core::Refused;
 use sdd_homes::{gather_all, lay_all};
 use sdd_places::Hold;
-use sdd_rule::Sizes;
+use sdd_views::Sizes;
 use sdd_stakes::{Plot, Shelf, Stake, Stock};
 use sdd_store::Tally;
 use std::alloc::{AllocError, Global};

@@ -39,6 +39,14 @@ impl Known {
         self.next
     }
 
+    /// The next walk begins at this slot.
+    pub fn begin_at(&mut self, slot: u32)
+        requires { slot ≤ self.old.slots }
+        ensures { self.new ≡ record self.old { next = slot } }
+    {
+        self.next = slot;
+    }
+
     /// A slot was found: the next walk begins behind it.
     pub fn find(&mut self, slot: u32)
         requires { slot < self.old.slots }

@@ -5,7 +5,6 @@ mod at_home;
 mod changes;
 mod claims;
 mod closing;
-mod counting;
 pub mod domain;
 mod draining;
 mod due;

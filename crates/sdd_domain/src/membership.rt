@@ -2,7 +2,8 @@
 ghost use Rattle.std.specs.Prelude.{◌≡◌, ◌↔◌, ◌⊎◌, ◌+◌, ◌^◌, ◌<◌, ◌≤◌, ◌==◌, ℕ, [], false, length, IsTrue, not, IfSome, IfOk, IfErr, MatchOption, MatchResult};
 ghost use Rattle.sdd_stakes.specs.Shelf.{showing};
 ghost use Rattle.sdd_store.specs.Time.{accelerated, due_next, has_garbage, nested, settled, with_garbage};
-ghost use Rattle.sdd_rule.specs.Steps.{nobody, Takes};
+ghost use Rattle.sdd_views.specs.Views.{nobody};
+ghost use Rattle.sdd_rule.specs.Steps.{Takes};
 ghost use Rattle.sdd_rule.specs.SlotSteps.{blank};
 ghost use Rattle.sdd_board.specs.Board.{id_of, sizes_of, places_of};
 ghost use Rattle.sdd_board.specs.Token.{epoch, words_known, IsSameBut};
@@ -15,7 +16,6 @@ ghost use Rattle.sdd_base.specs.Holding.{AreOf};
 ghost use Rattle.sdd_places.specs.declared.tenures.Stage.TheVariants.{Closed as is_closed};
 
 use crate::changes::arrive;
-use crate::counting::count_reclaimed;
 use crate::domain::Domain;
 use crate::due::Due;
 use crate::ended::Ended;
@@ -109,7 +109,7 @@ impl Room {
     }
 }
 
-/// Takes a free place.
+/// Takes a free place: the first one that is found so. An exchange is tried only there, since it takes a place's line from its participant.
 fn take_place(board: &Board, token: &mut Token) -> Option<usize>
     requires home { token.old.table_id ≡ id_of board.now }
     requires idle { epoch token.old ≡ nobody (places_of board.now) }
@@ -118,11 +118,19 @@ fn take_place(board: &Board, token: &mut Token) -> Option<usize>
     ensures taken { IfSome result (λ place. (place < places_of board.now) × Takes (nobody (places_of board.now)) place (epoch token.new)) }
 {
     for place in 0..board.places() {
-        if steps::register(board, token, place) == steps::FREE {
+        if steps::is_free(board, place) && steps::register(board, token, place) == steps::FREE {
             return Some(place);
         }
     }
     None
+}
+
+/// Where the share of the slots begins in which the participant of a place looks first: as far from the others' as can be.
+fn share_of(place: usize, places: usize, slots: u32) -> u32
+    requires { place < places }
+    ensures { result ≤ slots }
+{
+    (slots as usize / places * place) as u32
 }
 
 /// What a registering without memory is refused with: where no place is free either, that goes before.
@@ -167,12 +175,21 @@ impl<'d, T: Item<T>> Membership<'d, T> {
         let Ok(room) = Room::new(domain.alloc, domain.limits.slots as u32) else {
             return Err(want_of_memory(&domain.board));
         };
-        let Room { bags, due, known } = room;
+        let Room {
+            bags,
+            due,
+            mut known,
+        } = room;
         let mut token = steps::sit(&domain.board);
         let Some(place) = take_place(&domain.board, &mut token) else {
             return Err(Refused::NoPlace);
         };
         steps::write(&domain.board, &mut token, place, 0);
+        known.begin_at(share_of(
+            place,
+            domain.board.places(),
+            domain.limits.slots as u32,
+        ));
         Ok(Membership {
             domain,
             token,
@@ -313,7 +330,7 @@ impl<'d, T: Item<T>> Membership<'d, T> {
             slot,
         );
         self.known.remember(slot);
-        count_reclaimed(&mut self.tally);
+        self.tally.count_reclaimed();
         Some(value)
     }
 

@@ -15,6 +15,7 @@ use sdd_stakes::Ledger;
 use sdd_store::Tally;
 use sdd_witness::Witness;
 use std::marker::Model;
+use std::mem;
 
 /// A participant that takes no part any more, and with which items wait.
 #[derive(Drop)]
@@ -96,30 +97,47 @@ impl<T: Item<T>> Receipt<T> {
     }
 
     /// Has its participant reclaim what waits with it, in its domain, as many items as are left at most.
-    pub(crate) fn settle(self, domain: &Domain<T>, left: &mut usize) -> Receipt<T>
-        requires { self.home ≡ slots_in domain.now }
+    pub(crate) fn settle(&mut self, domain: &Domain<T>, left: &mut usize)
+        requires { self.old.home ≡ slots_in domain.now }
         ensures few { left.new ≤ left.old }
-        ensures settled { IsSettled (left.old - left.new) self result }
+        ensures settled { IsSettled (left.old - left.new) self.old self.new }
+    {
+        *left = mem::replace_with(
+            self,
+            *left,
+            |receipt: Receipt<T>, left: usize| requires { receipt.home ≡ slots_in domain.now } {
+                receipt.settled(domain, left)
+            },
+        );
+    }
+
+    /// The same, and how many items are left then.
+    fn settled(self, domain: &Domain<T>, mut left: usize) -> (Receipt<T>, usize)
+        requires { self.home ≡ slots_in domain.now }
+        ensures few { result.1 ≤ left }
+        ensures settled { IsSettled (left - result.1) self result.0 }
     {
         let Receipt { left: rest } = self;
         let Estate { dormant, ledger } = match rest {
             Left::Nothing(ended) => {
-                return Receipt {
+                let receipt = Receipt {
                     left: Left::Nothing(ended),
                 };
+                return (receipt, left);
             }
             Left::Items(estate) => estate,
         };
-        match dormant.wake(domain) {
+        let receipt = match dormant.wake(domain) {
             Ok(membership) => {
                 let mut partner = Partner { membership, ledger };
-                partner.drain(left);
+                partner.drain(&mut left);
                 Receipt::of(partner)
             }
             Err(dormant) => Receipt {
                 left: Left::Items(Estate { dormant, ledger }),
             },
-        }
+        };
+        (receipt, left)
     }
 
     /// The counts behind the tally of a participant with which nothing waits.

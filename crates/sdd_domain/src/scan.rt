@@ -1,9 +1,9 @@
 //! A scan of all places.
 ghost use Rattle.std.specs.Prelude.{◌≡◌, ℕ, ◌<◌, true, false};
 ghost use Rattle.sdd_rule.specs.Epoch.{IsOpen, Scans};
-ghost use Rattle.sdd_rule.specs.Steps.{IsNext, passed_by};
+ghost use Rattle.sdd_rule.specs.Steps.{IsNext, Locks, passed_by};
 ghost use Rattle.sdd_board.specs.Board.{id_of, places_of};
-ghost use Rattle.sdd_board.specs.Token.{epoch, IsSameBut};
+ghost use Rattle.sdd_board.specs.Token.{epoch, IsSameBut, Stepped};
 ghost use Rattle.sdd_domain.specs.Scan.{looked_to, Raises, Scanned};
 
 use sdd_board::{Board, Token, steps};
@@ -55,6 +55,20 @@ fn raise(board: &Board, token: &mut Token, count: u64)
     }
 }
 
+/// Tries to take the lock, where a look finds it free: an exchange would take its line from all others that look there, also where it fails.
+/// Someone else had it where this isn't 0.
+fn try_lock(board: &Board, token: &mut Token) -> u64
+    requires home { token.old.table_id ≡ id_of board.now }
+    requires open { IsOpen (epoch token.old) × ¬ (Scans (epoch token.old)) }
+    ensures { Stepped Locks token.old result token.new }
+{
+    let found = steps::look_at_lock(board, token);
+    if found != 0 {
+        return found;
+    }
+    steps::lock(board, token)
+}
+
 /// Raises the count by one, if it is the own one, nobody else scans, and every other place passes. The last count stays.
 pub fn scan(board: &Board, token: &mut Token, place: usize, count: u64)
     requires home { token.old.table_id ≡ id_of board.now }
@@ -68,7 +82,7 @@ pub fn scan(board: &Board, token: &mut Token, place: usize, count: u64)
     if steps::read(board, token) != count {
         return;
     }
-    if steps::lock(board, token) != 0 {
+    if try_lock(board, token) != 0 {
         return;
     }
     if all_pass(board, token, place, count) {

@@ -1,7 +1,7 @@
 //! The last close of a participant's guards.
 ghost use Rattle.std.specs.Prelude.{◌≡◌, ◌+◌, ◌<◌, None};
 ghost use Rattle.sdd_places.specs.declared.tenures.Stage.TheVariants.{Closed as is_closed};
-ghost use Rattle.sdd_rule.specs.declared.View.{View};
+ghost use Rattle.sdd_views.specs.declared.View.{View};
 ghost use Rattle.sdd_rule.specs.SlotSteps.{ClosesAll};
 ghost use Rattle.sdd_rule.specs.Epoch.{IsOpen, Scans};
 ghost use Rattle.sdd_board.specs.Board.{id_of, book_of, places_of};

@@ -5,9 +5,9 @@ use mathlib.Core.Option.{some}
 use mathlib.Core.Logic.{dite}
 use native.Mathlib.Decide.{ℕ_discrete, dec_lt}
 use lib.ListN.{get_elem?}
-use Rattle.sdd_rule.specs.declared.CountsView.{CountsView}
-use Rattle.sdd_rule.specs.declared.View.{View}
-use Rattle.sdd_rule.specs.declared.Sizes.{Sizes}
+use Rattle.sdd_views.specs.declared.CountsView.{CountsView}
+use Rattle.sdd_views.specs.declared.View.{View}
+use Rattle.sdd_views.specs.declared.Sizes.{Sizes}
 use Rattle.sdd_rule.specs.Words.{first_slot, state_word, slot_word, all_words}
 use Rattle.sdd_rule.specs.Sums.{is}
 use Rattle.sdd_rule.specs.Codes.{full}

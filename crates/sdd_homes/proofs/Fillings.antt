@@ -5,10 +5,10 @@ use mathlib.Core.Bool.{cond}
 use mathlib.Core.Option.{some, some-injective, some-ne-none}
 use lib.ListN.{get_elem?}
 use Rattle.atomic_table.proofs.Lists.{at_map, at_set, at_snoc}
-use Rattle.sdd_rule.specs.declared.Showing.{Showing}
-use Rattle.sdd_rule.specs.declared.StakesView.{StakesView}
-use Rattle.sdd_rule.specs.declared.View.{View}
-use Rattle.sdd_rule.specs.declared.Sizes.{Sizes}
+use Rattle.sdd_views.specs.declared.Showing.{Showing}
+use Rattle.sdd_views.specs.declared.StakesView.{StakesView}
+use Rattle.sdd_views.specs.declared.View.{View}
+use Rattle.sdd_views.specs.declared.Sizes.{Sizes}
 use Rattle.sdd_rule.specs.Epoch.{HasPlace, EpochPart}
 use Rattle.sdd_rule.specs.Parts.{epoch_of}
 use Rattle.sdd_rule.proofs.Epoch.{no_other}

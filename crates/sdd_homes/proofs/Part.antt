@@ -9,8 +9,8 @@ use base.Stored.{Gv}
 use Rattle.atomic_table.proofs.Lists.{at_set, at_longer, set_else, set_here}
 use Rattle.atomic_table.specs.Table.{homes_after}
 use Rattle.sdd_stakes.specs.declared.stake.Stake.{Stake}
-use Rattle.sdd_rule.specs.declared.View.{View}
-use Rattle.sdd_rule.specs.declared.Sizes.{Sizes}
+use Rattle.sdd_views.specs.declared.View.{View}
+use Rattle.sdd_views.specs.declared.Sizes.{Sizes}
 use Rattle.sdd_rule.specs.Words.{slot_word, first_slot}
 use Rattle.sdd_rule.specs.Codes.{alive, full}
 use Rattle.sdd_rule.specs.Epoch.{HasPlace}

@@ -8,10 +8,10 @@ use base.Stored.{Gv}
 use Rattle.std.specs.Prelude.{Some, None, not}
 use Rattle.atomic_table.proofs.Lists.{at_set, at_snoc}
 use Rattle.sdd_stakes.specs.declared.stake.Stake.{Stake}
-use Rattle.sdd_rule.specs.declared.Showing.{Showing}
-use Rattle.sdd_rule.specs.declared.StakesView.{StakesView}
-use Rattle.sdd_rule.specs.declared.View.{View}
-use Rattle.sdd_rule.specs.declared.Sizes.{Sizes}
+use Rattle.sdd_views.specs.declared.Showing.{Showing}
+use Rattle.sdd_views.specs.declared.StakesView.{StakesView}
+use Rattle.sdd_views.specs.declared.View.{View}
+use Rattle.sdd_views.specs.declared.Sizes.{Sizes}
 use Rattle.sdd_rule.specs.Slots.{waits_in, items_at, OwnsAlone, Sees}
 use Rattle.sdd_rule.specs.Sums.{total, is, times}
 use Rattle.sdd_rule.proofs.Frame.{each_set, each_snoc}

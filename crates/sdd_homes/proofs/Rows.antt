@@ -8,7 +8,7 @@ use base.Stored.{Gv}
 use Rattle.atomic_table.proofs.Lists.{at_set, set_else, set_here}
 use Rattle.atomic_table.specs.Table.{Act, keeps, takes, gives, chain, homes_after, carried_after, Valid}
 use Rattle.sdd_stakes.specs.declared.stake.Stake.{Stake}
-use Rattle.sdd_rule.specs.declared.Showing.{Showing}
+use Rattle.sdd_views.specs.declared.Showing.{Showing}
 use Rattle.sdd_rule.specs.Sums.{times}
 use Rattle.sdd_rule.proofs.Sums.{is_same, is_other}
 use Rattle.sdd_homes.specs.Homes.{Homes, Carries, stake_at, homes_for, share, Has, LiesAt, IsAtHome}

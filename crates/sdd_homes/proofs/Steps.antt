@@ -13,12 +13,12 @@ use Rattle.atomic_table.specs.Table.{State, Act, keeps, takes, gives, Valid, All
 use Rattle.atomic_table.proofs.Lists.{at_map, at_set, exchanged, set_again}
 use Rattle.sdd_stakes.specs.Shelf.{IsFull, IsVacant}
 use Rattle.sdd_stakes.specs.declared.stake.Stake.{Stake}
-use Rattle.sdd_rule.specs.declared.Showing.{Showing}
-use Rattle.sdd_rule.specs.declared.PlacesView.{PlacesView}
-use Rattle.sdd_rule.specs.declared.StakesView.{StakesView}
-use Rattle.sdd_rule.specs.declared.WaitingItem.{WaitingItem}
-use Rattle.sdd_rule.specs.declared.View.{View}
-use Rattle.sdd_rule.specs.declared.Sizes.{Sizes}
+use Rattle.sdd_views.specs.declared.Showing.{Showing}
+use Rattle.sdd_views.specs.declared.PlacesView.{PlacesView}
+use Rattle.sdd_views.specs.declared.StakesView.{StakesView}
+use Rattle.sdd_views.specs.declared.WaitingItem.{WaitingItem}
+use Rattle.sdd_views.specs.declared.View.{View}
+use Rattle.sdd_views.specs.declared.Sizes.{Sizes}
 use Rattle.sdd_rule.specs.Words.{slot_word, state_word}
 use Rattle.sdd_rule.specs.Codes.{codes, alive, waiting, full, free_word, owned_word, waiting_word}
 use Rattle.sdd_rule.specs.Epoch.{HasPlace, IsOpen, Scans, IsLone}

@@ -9,10 +9,10 @@ use lib.ListN.{get_elem?}
 use base.Stored.{Gv}
 use Rattle.atomic_table.specs.Table.{State, homes_after}
 use Rattle.sdd_stakes.specs.declared.stake.Stake.{Stake}
-use Rattle.sdd_rule.specs.declared.Showing.{Showing}
-use Rattle.sdd_rule.specs.declared.StakesView.{StakesView}
-use Rattle.sdd_rule.specs.declared.View.{View}
-use Rattle.sdd_rule.specs.declared.Sizes.{Sizes}
+use Rattle.sdd_views.specs.declared.Showing.{Showing}
+use Rattle.sdd_views.specs.declared.StakesView.{StakesView}
+use Rattle.sdd_views.specs.declared.View.{View}
+use Rattle.sdd_views.specs.declared.Sizes.{Sizes}
 use Rattle.sdd_rule.specs.Words.{slot_word}
 use Rattle.sdd_rule.specs.Codes.{codes, alive, waiting}
 use Rattle.sdd_rule.specs.Sums.{is, times}
@@ -21,7 +21,7 @@ use Rattle.sdd_rule.specs.SlotSteps.{without, retired, retired_now}
 use Rattle.sdd_rule.proofs.Codes.{sound}
 use Rattle.sdd_rule.proofs.SlotWords.{owners_in}
 use Rattle.sdd_rule.proofs.Sums.{is_same, is_other, without_same, without_other, total_has, total_two, total_snoc}
-use Rattle.sdd_rule.specs.declared.Move.{Move}
+use Rattle.sdd_views.specs.declared.Move.{Move}
 use Rattle.sdd_rule.specs.Moves.{all_in, last_in}
 use Rattle.sdd_homes.specs.Homes.{Carries, share, Has, Moves, Settles, LiesAt}
 use Rattle.sdd_homes.specs.Housed.{Housed}

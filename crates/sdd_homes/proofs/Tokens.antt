@@ -11,17 +11,18 @@ use Rattle.atomic_table.specs.Table.{State, Enters, Splits, Joins, opening}
 use Rattle.atomic_table.proofs.Lists.{at_map, at_longer, set_else}
 use Rattle.sdd_stakes.specs.Shelf.{IsVacant, most}
 use Rattle.sdd_stakes.specs.declared.stake.Stake.{Stake}
-use Rattle.sdd_rule.specs.declared.Showing.{Showing}
-use Rattle.sdd_rule.specs.declared.CountsView.{CountsView}
-use Rattle.sdd_rule.specs.declared.View.{View}
-use Rattle.sdd_rule.specs.declared.Sizes.{Sizes}
+use Rattle.sdd_views.specs.declared.Showing.{Showing}
+use Rattle.sdd_views.specs.declared.CountsView.{CountsView}
+use Rattle.sdd_views.specs.declared.View.{View}
+use Rattle.sdd_views.specs.declared.Sizes.{Sizes}
 use Rattle.sdd_rule.specs.Words.{first_slot, all_words}
 use Rattle.sdd_rule.specs.Codes.{alive, waiting, full}
 use Rattle.sdd_rule.specs.Sums.{times}
 use Rattle.sdd_rule.specs.Slots.{slot_at, OwnsAlone, Sees}
 use Rattle.sdd_rule.specs.SlotSteps.{first, others}
 use Rattle.sdd_rule.specs.Epoch.{HasPlace}
-use Rattle.sdd_rule.specs.Parts.{epoch_of, idle, owner_token, owner_of}
+use Rattle.sdd_views.specs.Views.{owner_token, owner_of}
+use Rattle.sdd_rule.specs.Parts.{epoch_of, idle}
 use Rattle.sdd_rule.proofs.Codes.{sound}
 use Rattle.sdd_rule.proofs.Lift as kept
 use Rattle.sdd_rule.proofs.Frame.{each_set, each_snoc}

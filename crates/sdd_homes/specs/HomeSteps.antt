@@ -5,12 +5,12 @@ use base.Stored.{Gv}
 use Rattle.atomic_table.specs.Table.{Me}
 use Rattle.sdd_stakes.specs.Shelf.{IsFull, IsVacant}
 use Rattle.sdd_stakes.specs.declared.stake.Stake.{Stake}
-use Rattle.sdd_rule.specs.declared.Showing.{Showing}
-use Rattle.sdd_rule.specs.declared.CountsView.{CountsView}
-use Rattle.sdd_rule.specs.declared.View.{View}
+use Rattle.sdd_views.specs.declared.Showing.{Showing}
+use Rattle.sdd_views.specs.declared.CountsView.{CountsView}
+use Rattle.sdd_views.specs.declared.View.{View}
 use Rattle.sdd_rule.specs.SlotSteps.{behind, Knew, claimed, discarded, seeing, first, parted, joined, Retires, ClosesAll, GivesBack}
 use Rattle.sdd_rule.specs.Moves.{all_in, last_in}
-use Rattle.sdd_rule.specs.Parts.{owner_token, at_rest, no_counts}
+use Rattle.sdd_views.specs.Views.{owner_token, at_rest, no_counts}
 use Rattle.sdd_rule.specs.Steps.{ended}
 use Rattle.sdd_rule.specs.Words.{slot_word}
 use Rattle.sdd_rule.specs.Codes.{alive}

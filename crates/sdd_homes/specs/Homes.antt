@@ -10,8 +10,8 @@ use Rattle.core.specs.Mem.Slots.{slots_items, slots_filled, slots_len}
 use Rattle.atomic_table.specs.declared.owned.Closed.{Closed}
 use Rattle.sdd_stakes.specs.Shelf.{IsFull, IsVacant, most, lot}
 use Rattle.sdd_stakes.specs.declared.stake.Stake.{Stake}
-use Rattle.sdd_rule.specs.declared.View.{View}
-use Rattle.sdd_rule.specs.declared.Sizes.{Sizes}
+use Rattle.sdd_views.specs.declared.View.{View}
+use Rattle.sdd_views.specs.declared.Sizes.{Sizes}
 use Rattle.sdd_rule.specs.Codes.{alive, full}
 use Rattle.sdd_rule.specs.Moves.{all_in, last_in}
 use Rattle.sdd_rule.specs.Epoch.{HasPlace}

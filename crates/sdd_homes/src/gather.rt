@@ -9,7 +9,7 @@ ghost use Rattle.sdd_rule.specs.Slots.{slot_at};
 ghost use Rattle.sdd_homes.specs.Homes.{stake_at, no_owners, all_vacant, AreLaidTo, AreLaid, AreHome};
 
 use atomic_table::Closed;
-use sdd_rule::Sizes;
+use sdd_views::Sizes;
 use sdd_stakes::{Stake, Stock, Title};
 use std::alloc::Allocator;
 

@@ -17,20 +17,10 @@ use denote.Shares.{Shares}
 use denote.Struct.Lending.{lent_at, lent_at_shr_laws, Lends, Lends-lies, Lends-nothing, Lends-both, Lends-first}
 use denote.Model.Laws.{Lends-some}
 use Rattle.atomic_table.specs.Seated.{fact}
+use Rattle.sdd_witness.proofs.Kept.{kept_laws, Lends-kept}
 use Rattle.sdd_token.specs.Units.{tokens}
 use Rattle.sdd_token.proofs.Steps.{Lends-tokens}
 use Rattle.sdd_places.specs.Block.{AreHome, shared, stakes_of, rest, held, spot, held_shares, spot_shares, spots, spots_shares}
-
--- what can be had twice stays, whatever the lifetime
-pub kept_laws : (P : Fml) → ((M : Type 1) (𝓤 : Ura M) (𝓛 : Logic 𝓤) → ent 𝓤 (sem 𝓛 P) (sep 𝓤 (sem 𝓛 P) (sem 𝓛 P))) → ShrLaws (said P)
-kept_laws P twice = record { contraction = λ M 𝓤 𝓛 κ. twice M 𝓤 𝓛; mono = λ M 𝓤 𝓛 κ' κ. snd∗ 𝓤 (sem 𝓛 (before κ' κ)) (sem 𝓛 P) }
-
-pub Lends-kept : {M : Type 1} {𝓤 : Ura M} (𝓛 : Logic 𝓤) (P : Fml) → ent 𝓤 (sem 𝓛 P) (sep 𝓤 (sem 𝓛 P) (sem 𝓛 P)) → (l : Lft) → Lends 𝓛 P (said P) l
-Lends-kept {𝓤 = 𝓤} 𝓛 P twice l κ ts inc sp = let Back = 𝓛.H.⇛ (sep 𝓤 (𝓛.A.bor κ P) (lfts 𝓛 ts)) in
-    qed 𝓛 (‵ (fbor κ P) ∷ raw (lfts 𝓛 ts) ∷ []) ∵ updating ! $
-    use2 𝓛 (later (‵ P ⊛ raw (wand 𝓤 (sem 𝓛 P) Back))) (𝓛.more.bor_acc_by κ ts P sp) $ await ! tt $ split ! $
-    use1 𝓛 (‵ P ⊛ ‵ P) twice $ split ! $ move ! (0 ∷ 2 ∷ []) $
-    use2 𝓛 (later (‵ (fbor κ P) ⊛ raw (lfts 𝓛 ts))) (apply∗ 𝓤 (sem 𝓛 P) Back) $ await ! tt $ split ! $ drop ! $ move ! (1 ∷ 0 ∷ []) $ now ! $ done !
 
 -- ---- a value and its stakes
 module _ (R : RattleType) (L : RowLaws R) where

@@ -8,9 +8,9 @@ use lib.ListN.{get_elem?}
 use lib.Seq.{set-get_or}
 use prog.Atomic.{either}
 use Rattle.atomic_table.proofs.Lists.{at_map, exchanged, set_again}
-use Rattle.sdd_rule.specs.declared.PlacesView.{PlacesView}
-use Rattle.sdd_rule.specs.declared.View.{View}
-use Rattle.sdd_rule.specs.declared.Sizes.{Sizes}
+use Rattle.sdd_views.specs.declared.PlacesView.{PlacesView}
+use Rattle.sdd_views.specs.declared.View.{View}
+use Rattle.sdd_views.specs.declared.Sizes.{Sizes}
 use Rattle.sdd_rule.specs.Words.{state_word, slot_word}
 use Rattle.sdd_rule.specs.Codes.{codes, full}
 use Rattle.sdd_rule.specs.Epoch.{HasPlace, EpochPart}

@@ -7,10 +7,11 @@ use lib.ListN.{get_elem?}
 use lib.Seq.{set-get_or}
 use prog.Atomic.{either}
 use Rattle.atomic_table.proofs.Lists.{set_here, set_else, exchanged, at_longer}
-use Rattle.sdd_rule.specs.declared.EpochView.{EpochView}
+use Rattle.sdd_views.specs.declared.EpochView.{EpochView}
 use Rattle.sdd_rule.specs.Words.{global_word, lock_word, state_word, count_word, after_places}
 use Rattle.sdd_rule.specs.Epoch.{HasPlace, IsClosed, IsOpen, Scans, IsLone, Fits, Apart, EpochPart}
-use Rattle.sdd_rule.specs.Steps.{Steps, Rises, Keeps, nobody, registered, knowing, counted, published, closed, ended, scanning, passed_by, unlocked, IsNext, Registers, Reads, Counts, Publishes, Closes, Ends, Locks, LooksAtState, LooksAtCount, Advances, Unlocks}
+use Rattle.sdd_views.specs.Views.{nobody}
+use Rattle.sdd_rule.specs.Steps.{Steps, Rises, Keeps, registered, knowing, counted, published, closed, ended, scanning, passed_by, unlocked, IsNext, Registers, Reads, Counts, Publishes, Closes, Ends, Locks, LooksAtLock, LooksAtState, LooksAtCount, Advances, Unlocks}
 use Rattle.sdd_rule.proofs.Frame.{each_set, two_set, each_snoc, two_snoc}
 
 pub at_length : {A : Type 0} (l : List A) (i : ℕ) (a : A) → get_elem? l i ≡ some a → i < length l
@@ -53,7 +54,7 @@ module _ (n : ℕ) where
       )) f
 
   -- a participant whose words a step does not name
-  untouched : (ws : List ℕ) (i x : ℕ) (u : EpochView) → 1 < i → (HasPlace u → (i ≢ state_word u.place) × (i ≢ count_word u.place)) → Fits n ws u
+  untouched : (ws : List ℕ) (i x : ℕ) (u : EpochView) → lock_word < i → (HasPlace u → (i ≢ state_word u.place) × (i ≢ count_word u.place)) → Fits n ws u
       → Fits n (set ws i x) u
   untouched ws i x u high apart f = spared ws (set ws i x) u (get_or-set_other ws i global_word x 0 (λ e. omega arith))
       (λ _. get_or-set_other ws i lock_word x 0 (λ e. omega arith))
@@ -123,7 +124,7 @@ module _ (n : ℕ) where
       → ((u : EpochView) → Fits n ws u → Apart v u → Apart u v → Apart w u × Apart u w)
       → (Scans v → Scans w) → EpochPart n (set ws i x) (set vs id w)
   own ws vs id i x v w t at live which mine others goes =
-      let high : 1 < i = ⊎_elim (λ (e : (i ≡ state_word v.place) × (0 < x)). let e0 = e.0 in omega arith) (λ (e : i ≡ count_word v.place). omega arith) which in
+      let high : lock_word < i = ⊎_elim (λ (e : (i ≡ state_word v.place) × (0 < x)). let e0 = e.0 in omega arith) (λ (e : i ≡ count_word v.place). omega arith) which in
       let f = t.each id v at in let inside = f.inside live in let wide = t.wide in
       moved ws vs id i x v w t at mine
       (λ j u apart e f a b. let o = others u f a b in (
@@ -282,15 +283,26 @@ module _ (n : ℕ) where
         refl,
       )
 
+  -- a lone participant that doesn't scan finds the lock free
+  unlocked_alone : (ws : List ℕ) (vs : List EpochView) (id : ℕ) (v : EpochView) → EpochPart n ws vs → get_elem? vs id ≡ some v → HasPlace v → ¬ (Scans v)
+      → IsLone v → get_or ws lock_word 0 ≡ 0
+  unlocked_alone ws vs id v t at placed free a' = let x : ℕ = get_or ws lock_word 0 in let f = t.each id v at in let wide = t.wide in
+      let inside = f.inside placed in let a : n ≡ 1 = sym (f.all (λ z. omega arith)) ∙ a' in
+      dite (ℕ_discrete x 0) (λ e. e) (λ e. let h = t.held e in let g = t.each h.0 h.1 h.2 in let l = (g.locked h.3).1 in let in' = g.inside (omega arith) in
+      absurd (dite (ℕ_discrete h.0 id)
+      (λ same. free (subst (λ (u : EpochView). Scans u) (some-injective _ _ (sym h.2 ∙ (ap (get_elem? vs) same ∙ at))) h.3))
+      (λ other. (t.two h.0 id h.1 v other h.2 at).places (omega arith) (omega arith) (omega arith))))
+
+  -- look at the lock
+  pub looks_at_lock : (id : ℕ) (v : EpochView) → IsOpen v → ¬ (Scans v) → Keeps n id v lock_word (λ x. x) (LooksAtLock v)
+  looks_at_lock id v is_open free ws vs t at small =
+      (v, unmoved ws vs id lock_word v t at, level v, (refl, unlocked_alone ws vs id v t at (omega arith) free))
+
   -- take the lock
   pub locks : (id : ℕ) (v : EpochView) → IsOpen v → ¬ (Scans v) → Keeps n id v lock_word (λ x. either (eqb x 0) 1 x) (Locks v)
   locks id v is_open free ws vs t at small = let x : ℕ = get_or ws lock_word 0 in let f = t.each id v at in let wide = t.wide in
       let inside = f.inside (omega arith) in
-      let never : IsLone v → x ≡ 0 = λ a'. let a : n ≡ 1 = sym (f.all (λ z. omega arith)) ∙ a' in
-      dite (ℕ_discrete x 0) (λ e. e) (λ e. let h = t.held e in let g = t.each h.0 h.1 h.2 in let l = (g.locked h.3).1 in let in' = g.inside (omega arith) in
-      absurd (dite (ℕ_discrete h.0 id)
-      (λ same. free (subst (λ (u : EpochView). Scans u) (some-injective _ _ (sym h.2 ∙ (ap (get_elem? vs) same ∙ at))) h.3))
-      (λ other. (t.two h.0 id h.1 v other h.2 at).places (omega arith) (omega arith) (omega arith)))) in
+      let never : IsLone v → x ≡ 0 = unlocked_alone ws vs id v t at (omega arith) free in
       exchanged x 0 1 (λ y. (w : EpochView) × EpochPart n (set ws lock_word y) (set vs id w) × Rises v w × Locks v x w)
       (λ hit. let w : EpochView = scanning v in let zero_same = get_or-set_other ws lock_word global_word 1 0 (λ e. omega arith) in (
         w,

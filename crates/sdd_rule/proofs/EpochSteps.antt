@@ -5,13 +5,14 @@ use native.Mathlib.Decide.{ℕ_discrete}
 use lib.Seq.{map-set}
 use prog.Atomic.{either}
 use Rattle.atomic_table.proofs.Lists.{at_map}
-use Rattle.sdd_rule.specs.declared.EpochView.{EpochView}
-use Rattle.sdd_rule.specs.declared.View.{View}
-use Rattle.sdd_rule.specs.declared.Sizes.{Sizes}
+use Rattle.sdd_views.specs.declared.EpochView.{EpochView}
+use Rattle.sdd_views.specs.declared.View.{View}
+use Rattle.sdd_views.specs.declared.Sizes.{Sizes}
 use Rattle.sdd_rule.specs.Words.{state_word, after_places}
 use Rattle.sdd_rule.specs.Codes.{codes}
 use Rattle.sdd_rule.specs.Epoch.{HasPlace, IsClosed, IsOpen, Scans, EpochPart}
-use Rattle.sdd_rule.specs.Steps.{Steps, Keeps, nobody, published, closed, Registers}
+use Rattle.sdd_views.specs.Views.{nobody}
+use Rattle.sdd_rule.specs.Steps.{Steps, Keeps, published, closed, Registers}
 use Rattle.sdd_rule.specs.SlotSteps.{blank, changed, unseeing, OnEpoch, PublishesAll, ClosesAll}
 use Rattle.sdd_rule.specs.Parts.{epoch_of, with_epoch, with_both, Parts}
 use Rattle.sdd_rule.proofs.Codes.{sound}

@@ -6,11 +6,11 @@ use lib.ListN.{get_elem?}
 use lib.Seq.{map-set}
 use Rattle.atomic_table.specs.Table.{Enters, Splits, Joins, opening}
 use Rattle.atomic_table.proofs.Lists.{at_map, at_snoc, set_again, set_else, set_here}
-use Rattle.sdd_rule.specs.declared.EpochView.{EpochView}
-use Rattle.sdd_rule.specs.declared.PlacesView.{PlacesView}
-use Rattle.sdd_rule.specs.declared.StakesView.{StakesView}
-use Rattle.sdd_rule.specs.declared.View.{View}
-use Rattle.sdd_rule.specs.declared.Sizes.{Sizes}
+use Rattle.sdd_views.specs.declared.EpochView.{EpochView}
+use Rattle.sdd_views.specs.declared.PlacesView.{PlacesView}
+use Rattle.sdd_views.specs.declared.StakesView.{StakesView}
+use Rattle.sdd_views.specs.declared.View.{View}
+use Rattle.sdd_views.specs.declared.Sizes.{Sizes}
 use Rattle.sdd_rule.specs.Codes.{codes}
 use Rattle.sdd_rule.specs.Words.{all_words}
 use Rattle.sdd_rule.specs.Sums.{is, times}
@@ -19,8 +19,8 @@ use Rattle.sdd_rule.proofs.Sums.{total_append}
 use Rattle.std.specs.Prelude.{Some, None}
 use Rattle.sdd_rule.specs.Epoch.{HasPlace, EpochPart}
 use Rattle.sdd_rule.specs.Slots.{Holds, LonePart}
-use Rattle.sdd_rule.specs.Steps.{nobody}
-use Rattle.sdd_rule.specs.Parts.{epoch_of, idle, owner_token, Parts, Kept}
+use Rattle.sdd_views.specs.Views.{nobody, owner_token}
+use Rattle.sdd_rule.specs.Parts.{epoch_of, idle, Parts, Kept}
 use Rattle.sdd_rule.specs.Ended.{AreEnded, AreQuiet}
 use Rattle.sdd_rule.proofs.Frame.{Each, each_set, each_snoc}
 use Rattle.sdd_rule.proofs.Codes.{sound}

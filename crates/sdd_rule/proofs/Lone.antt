@@ -4,8 +4,8 @@ use Rattle.std.proofs.lemmas.List.{drop-set-lt, drop-set-add, get_or-drop}
 use mathlib.Core.Option.{some}
 use lib.ListN.{get_elem?}
 use Rattle.atomic_table.proofs.Lists.{at_map, at_set}
-use Rattle.sdd_rule.specs.declared.View.{View}
-use Rattle.sdd_rule.specs.declared.Sizes.{Sizes}
+use Rattle.sdd_views.specs.declared.View.{View}
+use Rattle.sdd_views.specs.declared.Sizes.{Sizes}
 use Rattle.sdd_rule.specs.Words.{after_places, slot_word, words_behind, all_words}
 use Rattle.sdd_rule.specs.Epoch.{HasPlace, EpochPart}
 use Rattle.sdd_rule.specs.Slots.{slot_at, LonePart}

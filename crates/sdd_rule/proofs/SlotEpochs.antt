@@ -5,11 +5,11 @@ use mathlib.Core.Bool.{cond}
 use mathlib.Core.Logic.{dite}
 use native.Mathlib.Decide.{ℕ_discrete}
 use lib.ListN.{get_elem?}
-use Rattle.sdd_rule.specs.declared.EpochView.{EpochView}
-use Rattle.sdd_rule.specs.declared.WaitingItem.{WaitingItem}
-use Rattle.sdd_rule.specs.declared.SlotsView.{SlotsView}
-use Rattle.sdd_rule.specs.declared.View.{View}
-use Rattle.sdd_rule.specs.declared.Sizes.{Sizes}
+use Rattle.sdd_views.specs.declared.EpochView.{EpochView}
+use Rattle.sdd_views.specs.declared.WaitingItem.{WaitingItem}
+use Rattle.sdd_views.specs.declared.SlotsView.{SlotsView}
+use Rattle.sdd_views.specs.declared.View.{View}
+use Rattle.sdd_views.specs.declared.Sizes.{Sizes}
 use Rattle.sdd_rule.specs.Words.{first_cell}
 use Rattle.sdd_rule.specs.Epoch.{IsClosed, IsOpen}
 use Rattle.sdd_rule.specs.Steps.{Rises, published, closed}

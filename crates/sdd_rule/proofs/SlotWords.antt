@@ -4,9 +4,9 @@ use mathlib.Core.Option.{some}
 use mathlib.Core.Logic.{dite}
 use native.Mathlib.Decide.{ℕ_discrete}
 use lib.ListN.{get_elem?}
-use Rattle.sdd_rule.specs.declared.WaitingItem.{WaitingItem}
-use Rattle.sdd_rule.specs.declared.View.{View}
-use Rattle.sdd_rule.specs.declared.Sizes.{Sizes}
+use Rattle.sdd_views.specs.declared.WaitingItem.{WaitingItem}
+use Rattle.sdd_views.specs.declared.View.{View}
+use Rattle.sdd_views.specs.declared.Sizes.{Sizes}
 use Rattle.sdd_rule.specs.Words.{first_cell, cell_word, slot_word}
 use Rattle.sdd_rule.specs.Sums.{times}
 use Rattle.sdd_rule.specs.Codes.{Code, IsSound}

@@ -6,15 +6,15 @@ use mathlib.Core.Logic.{dite}
 use native.Mathlib.Decide.{ℕ_discrete}
 use lib.ListN.{get_elem?}
 use Rattle.atomic_table.proofs.Lists.{at_snoc, set_else}
-use Rattle.sdd_rule.specs.declared.SlotsView.{SlotsView}
-use Rattle.sdd_rule.specs.declared.StakesView.{StakesView}
-use Rattle.sdd_rule.specs.declared.View.{View}
-use Rattle.sdd_rule.specs.declared.Sizes.{Sizes}
+use Rattle.sdd_views.specs.declared.SlotsView.{SlotsView}
+use Rattle.sdd_views.specs.declared.StakesView.{StakesView}
+use Rattle.sdd_views.specs.declared.View.{View}
+use Rattle.sdd_views.specs.declared.Sizes.{Sizes}
 use Rattle.sdd_rule.specs.Words.{first_cell, cell_word, slot_word, all_words}
 use Rattle.sdd_rule.specs.Sums.{total, times}
 use Rattle.sdd_rule.specs.Codes.{Code, IsSound}
 use Rattle.sdd_rule.specs.Slots.{slot_at, owners_at, waits_in, items_at, Sees, Holds, Tallies, IsGuarded, SlotsPart}
-use Rattle.sdd_rule.specs.SlotSteps.{bare, owning_only}
+use Rattle.sdd_views.specs.Views.{bare, owning_only}
 use Rattle.sdd_rule.proofs.Frame.{each_set, each_snoc}
 use Rattle.sdd_rule.proofs.Sums.{total_set, total_snoc, span_zero, both_set}
 use Rattle.sdd_rule.proofs.Owning.{owning}

@@ -1,7 +1,7 @@
 -- What is known of places that have ended, and of slots once all have
 use Rattle.std.specs.Prelude.{◌≡◌, ◌≢◌, ◌⊎◌, ℕ, ◌+◌, ◌<◌, ◌≤◌, List, slice_index}
-use Rattle.sdd_rule.specs.declared.View.{View}
-use Rattle.sdd_rule.specs.declared.Sizes.{Sizes}
+use Rattle.sdd_views.specs.declared.View.{View}
+use Rattle.sdd_views.specs.declared.Sizes.{Sizes}
 use Rattle.sdd_rule.specs.Words.{state_word}
 use Rattle.sdd_rule.specs.Codes.{full}
 use Rattle.sdd_rule.specs.Slots.{slot_at}

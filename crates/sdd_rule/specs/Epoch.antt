@@ -2,7 +2,7 @@
 use Rattle.std.specs.Prelude.{◌≡◌, ◌≢◌, ℕ, ◌+◌, ◌<◌, ◌≤◌, List, length, slice_index}
 use mathlib.Core.Option.{some}
 use lib.ListN.{get_elem?}
-use Rattle.sdd_rule.specs.declared.EpochView.{EpochView}
+use Rattle.sdd_views.specs.declared.EpochView.{EpochView}
 use Rattle.sdd_rule.specs.Words.{global_word, lock_word, state_word, count_word, after_places}
 
 abbrev pub HasPlace : EpochView → Type 0

@@ -1,6 +1,6 @@
 -- The stakes in the value of a slot that a participant has out
 use Rattle.std.specs.Prelude.{ℕ, true, false}
-use Rattle.sdd_rule.specs.declared.Move.{Move}
+use Rattle.sdd_views.specs.declared.Move.{Move}
 
 -- all in the slot i, and the last one alone
 abbrev pub all_in : ℕ → Move

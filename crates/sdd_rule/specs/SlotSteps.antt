@@ -1,25 +1,17 @@
 -- What each step makes of what the participant knows of slots, and what it tells
-use Rattle.std.specs.Prelude.{◌≡◌, ◌≢◌, ℕ, ◌+◌, ◌==◌, ◌<◌, ◌≤◌, not, if◌then◌else◌, List, [], ◌∷◌, ◌++◌, map, length, replicate, slice_index, slice_set, Some, None}
+use Rattle.std.specs.Prelude.{◌≡◌, ◌≢◌, ℕ, ◌+◌, ◌*◌, ◌==◌, ◌<◌, ◌≤◌, not, if◌then◌else◌, List, [], ◌∷◌, ◌++◌, map, length, replicate, slice_index, slice_set, Some, None}
 use Rattle.std.specs.List.{filter}
 use mathlib.Core.Option.{some}
 use lib.ListN.{get_elem?}
-use Rattle.sdd_rule.specs.declared.EpochView.{EpochView}
-use Rattle.sdd_rule.specs.declared.SlotsView.{SlotsView}
-use Rattle.sdd_rule.specs.declared.WaitingItem.{WaitingItem}
-use Rattle.sdd_rule.specs.declared.View.{View}
-use Rattle.sdd_rule.specs.declared.Sizes.{Sizes}
+use Rattle.sdd_views.specs.declared.EpochView.{EpochView}
+use Rattle.sdd_views.specs.declared.SlotsView.{SlotsView}
+use Rattle.sdd_views.specs.declared.WaitingItem.{WaitingItem}
+use Rattle.sdd_views.specs.declared.View.{View}
+use Rattle.sdd_views.specs.declared.Sizes.{Sizes}
 use Rattle.sdd_rule.specs.Words.{words_behind, state_word, slot_word}
 use Rattle.sdd_rule.specs.Epoch.{HasPlace, IsOpen, IsLone}
 use Rattle.sdd_rule.specs.Slots.{items_at}
 use Rattle.sdd_rule.specs.Steps.{knowing, closed, Publishes}
-
--- it owns nothing, sees nothing, and no item waits with it
-abbrev pub bare : SlotsView
-bare = record { owns = []; shares = []; sees = []; waits = []; holds = None; looked = 0 }
-
--- it owns these, and that is all
-abbrev pub owning_only : List ℕ → List ℕ → SlotsView
-owning_only owns shares = record bare { owns = owns; shares = shares }
 
 -- the words behind the places' before anybody takes part
 abbrev pub blank : Sizes → List ℕ
@@ -27,7 +19,7 @@ blank sizes = replicate (words_behind sizes) 0
 
 -- where a slot's word is among those behind the places'
 abbrev pub behind : Sizes → ℕ → ℕ
-behind sizes slot = sizes.jobs + sizes.cells + slot
+behind sizes slot = sizes.jobs + 2 * sizes.cells + slot
 
 -- what is known of these words once y is in that of a slot
 abbrev pub noted : ℕ → ℕ → View → List ℕ
@@ -67,7 +59,7 @@ abbrev pub claimed : ℕ → ℕ → View → View
 claimed slot y v = record v { slots = record v.slots { owns = slot ∷ v.slots.owns }; words = noted slot y v }
 
 abbrev pub retired_now : ℕ → ℕ → WaitingItem
-retired_now slot count = record { slot = slot; retired_at = count; changes = 0 }
+retired_now slot count = record { slot = slot; retired_at = count; changes = 0; name = 0 }
 
 -- its item is retired at a count
 abbrev pub retired : ℕ → ℕ → ℕ → View → View

@@ -1,8 +1,8 @@
 -- What each step of the epoch's part makes of what the participant knows, and what it tells
-use Rattle.std.specs.Prelude.{◌≡◌, ◌≢◌, ◌⊎◌, ℕ, ◌+◌, ◌^◌, ◌<◌, ◌≤◌, List, slice_index, slice_set}
+use Rattle.std.specs.Prelude.{None, ◌≡◌, ◌≢◌, ◌⊎◌, ℕ, ◌+◌, ◌^◌, ◌<◌, ◌≤◌, List, slice_index, slice_set}
 use mathlib.Core.Option.{some}
 use lib.ListN.{get_elem?}
-use Rattle.sdd_rule.specs.declared.EpochView.{EpochView}
+use Rattle.sdd_views.specs.declared.EpochView.{EpochView}
 use Rattle.sdd_rule.specs.Words.{state_word, count_word}
 use Rattle.sdd_rule.specs.Epoch.{HasPlace, IsOpen, Scans, IsLone, EpochPart}
 
@@ -23,11 +23,8 @@ abbrev pub Keeps : ℕ → ℕ → EpochView → ℕ → (ℕ → ℕ) → (ℕ 
 Keeps n id v i f then = (ws : List ℕ) (vs : List EpochView) → EpochPart n ws vs → get_elem? vs id ≡ some v → slice_index ws i < 2 ^ 64
     → (w : EpochView) × EpochPart n (slice_set ws i (f (slice_index ws i))) (slice_set vs id w) × Rises v w × then (slice_index ws i) w
 
-abbrev pub nobody : ℕ → EpochView
-nobody n = record { all = n; place = 0; state = 0; count = 0; since = 0; known = 0; found = 0; scans = 0; looked = 0; ended = 0 }
-
 abbrev pub registered : ℕ → ℕ → ℕ → ℕ → EpochView
-registered n p c g = record { all = n; place = p; state = 1; count = c; since = 0; known = g; found = 0; scans = 0; looked = 0; ended = 0 }
+registered n p c g = record { all = n; place = p; state = 1; count = c; since = 0; known = g; found = 0; scans = 0; looked = 0; ended = 0; adopts = None }
 
 abbrev pub knowing : EpochView → ℕ → EpochView
 knowing v c = record v { known = c }
@@ -83,6 +80,10 @@ Ends v x w = w ≡ ended v
 
 abbrev pub Locks : EpochView → ℕ → EpochView → Type 0
 Locks v x w = (x ≡ 0 → w ≡ scanning v) × (x ≢ 0 → w ≡ v) × (IsLone v → x ≡ 0)
+
+-- a look at the lock, which a lone participant finds free
+abbrev pub LooksAtLock : EpochView → ℕ → EpochView → Type 0
+LooksAtLock v x w = (w ≡ v) × (IsLone v → x ≡ 0)
 
 abbrev pub LooksAtState : ℕ → EpochView → ℕ → EpochView → Type 0
 LooksAtState i v x w = (q : ℕ) → i ≡ state_word q → (x ≢ 2 → w ≡ passed_by v q) × (x ≡ 2 → w ≡ v)

@@ -1,27 +1,32 @@
 -- Where the words of a domain are
 use Rattle.std.specs.Prelude.{ℕ, ◌+◌, ◌*◌}
-use Rattle.sdd_rule.specs.declared.Sizes.{Sizes}
+use Rattle.sdd_views.specs.declared.Sizes.{Sizes}
+
+-- How far apart those words stand that different participants write: a processor keeps words by lines of 8, which it fetches
+-- by pairs, and who writes one takes the whole from all others that read there. So each participant writes in lines of its own.
+abbrev pub line : ℕ
+line = 16
 
 abbrev pub global_word : ℕ
 global_word = 0
 
 abbrev pub lock_word : ℕ
-lock_word = 1
+lock_word = line
 
 -- the ended mark
 abbrev pub mark_word : ℕ
-mark_word = 2
-
--- the state of a place: 0 free, 1 closed, 2 open, 3 ended
-abbrev pub state_word : ℕ → ℕ
-state_word place = 2 * place + 3
-
-abbrev pub count_word : ℕ → ℕ
-count_word place = 2 * place + 4
+mark_word = line + 1
 
 -- behind the words of n places
 abbrev pub after_places : ℕ → ℕ
-after_places n = 2 * n + 3
+after_places n = line * n + 2 * line
+
+-- the state of a place: 0 free, 1 closed, 2 open, 3 ended
+abbrev pub state_word : ℕ → ℕ
+state_word place = after_places place
+
+abbrev pub count_word : ℕ → ℕ
+count_word place = after_places place + 1
 
 abbrev pub job_word : Sizes → ℕ → ℕ
 job_word sizes job = after_places sizes.participants + job
@@ -32,16 +37,20 @@ first_cell sizes = after_places sizes.participants + sizes.jobs
 abbrev pub cell_word : Sizes → ℕ → ℕ
 cell_word sizes cell = first_cell sizes + cell
 
+-- where a cell for raw pointers has its pointer, beside its mark
+abbrev pub pointer_word : Sizes → ℕ → ℕ
+pointer_word sizes cell = first_cell sizes + sizes.cells + cell
+
 -- behind all others: a word past the last one reads 0, so that a number past the last slot is that of a free slot
 abbrev pub first_slot : Sizes → ℕ
-first_slot sizes = after_places sizes.participants + sizes.jobs + sizes.cells
+first_slot sizes = after_places sizes.participants + sizes.jobs + 2 * sizes.cells
 
 abbrev pub slot_word : Sizes → ℕ → ℕ
 slot_word sizes slot = first_slot sizes + slot
 
 -- how many words there are behind the places'
 abbrev pub words_behind : Sizes → ℕ
-words_behind sizes = sizes.jobs + sizes.cells + sizes.slots
+words_behind sizes = sizes.jobs + 2 * sizes.cells + sizes.slots
 
 -- and in all
 abbrev pub all_words : Sizes → ℕ

@@ -223,12 +223,13 @@ closed t p =
 abbrev pub waiting_count : Participant → ℕ
 waiting_count p = length p.bags.waiting
 
--- each place has its room and its phase, there is memory for as many as there may be, and where one has ended the mark is set
-pub record IsTimely (places : List Participant) (phases : Phases) (marked : Bool) (room capacity : ℕ) : Type 0 where
+-- each place has its room and its phase, there is memory for as many as there may be, where one has ended the mark is set, and a guard may be opened
+pub record IsTimely (places : List Participant) (phases : Phases) (marked : Bool) (nesting room capacity : ℕ) : Type 0 where
   pub reserved : All (λ (p : Participant). p.bags.room ≡ room) places
   pub phased : length phases.entries ≡ length places
   pub kept : phases.room ≤ capacity
   pub told : marked ≡ false → NobodyEnded phases.entries
+  pub nests : 0 < nesting
 
 -- as many places, the same participants and limits, and as much waits as before
 pub record KeepsPlaces (old new : Time) : Type 0 where

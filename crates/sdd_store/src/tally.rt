@@ -1,5 +1,5 @@
 ghost use Rattle.std.specs.Prelude.{◌≡◌};
-ghost use Rattle.sdd_store.specs.Tally.{no_items, one_in_place, one_made, one_reclaimed};
+ghost use Rattle.sdd_store.specs.Tally.{no_items, one_in_place, one_made, one_more, one_reclaimed};
 
 /// How many items a participant or a world made, reclaimed and dropped in place.
 ///
@@ -23,27 +23,35 @@ impl Tally {
         }
     }
 
+    #[inline]
     pub fn count_made(&mut self)
         ensures { self.new ≡ one_made self.old }
     {
-        if let Some(made) = self.made.checked_add(1) {
-            self.made = made;
-        }
+        count(&mut self.made);
     }
 
+    #[inline]
     pub fn count_reclaimed(&mut self)
         ensures { self.new ≡ one_reclaimed self.old }
     {
-        if let Some(reclaimed) = self.reclaimed.checked_add(1) {
-            self.reclaimed = reclaimed;
-        }
+        count(&mut self.reclaimed);
     }
 
+    #[inline]
     pub fn count_in_place(&mut self)
         ensures { self.new ≡ one_in_place self.old }
     {
-        if let Some(in_place) = self.in_place.checked_add(1) {
-            self.in_place = in_place;
-        }
+        count(&mut self.in_place);
+    }
+}
+
+/// One more, unless the number has no more room: then the sum wraps round to 0, which the processor's carry tells without a test of its own.
+#[inline]
+fn count(number: &mut u128)
+    ensures { number.new ≡ one_more number.old }
+{
+    let sum = number.wrapping_add(1);
+    if sum != 0 {
+        *number = sum;
     }
 }

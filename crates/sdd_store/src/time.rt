@@ -61,7 +61,7 @@ impl Model for Time {
       room = t.room;
     } };
 
-    ghost invariant = { λ t. IsTimely t.places.items t.phases t.marked t.room (vec_capacity t.places) };
+    ghost invariant = { λ t. IsTimely t.places.items t.phases t.marked t.nesting t.room (vec_capacity t.places) };
 }
 
 impl Participant {
@@ -130,6 +130,7 @@ impl Time {
         nesting: u32,
         room: usize,
     ) -> Result<Time, AllocError>
+        requires { 0 < nesting }
         ensures { IfOk result (λ t. t ≡
             record { count = count; marked = false; places = []; phases = []; participants = participants; nesting = nesting; room = room }) }
     {
@@ -232,12 +233,13 @@ impl Time {
         self.places[place].guards > 0
     }
 
-    /// One guard more is within the limit.
+    /// One guard more is within the limit, as the first one always is.
     pub fn can_nest(&self, place: usize) -> bool
         requires { place < length self.now.places }
         ensures { IsTrue result ↔ CanNest self.now place }
     {
-        self.places[place].guards < self.nesting
+        let guards = self.places[place].guards;
+        guards == 0 || guards < self.nesting
     }
 
     /// A guard of some place is open.
@@ -457,13 +459,14 @@ impl Time {
     pub fn close(&mut self, place: usize)
         requires live { IsLive self.old place }
         requires room { sum_by waiting_count self.old.places ≤ self.old.room }
+        requires open { IsTrue (is_open (place_at self.old place)) }
         ensures closed { self.new ≡ closed self.old place }
         ensures kept { KeepsPlaces self.old self.new }
     {
-        match self.places[place].guards {
-            0 => {}
-            1 => self.leave(place),
-            _ => self.places[place].guards -= 1,
+        if self.places[place].guards > 1 {
+            self.places[place].guards -= 1;
+        } else {
+            self.leave(place);
         }
     }
 

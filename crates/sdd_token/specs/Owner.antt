@@ -4,10 +4,10 @@ use Rattle.std.proofs.Common.{ap}
 use mathlib.Core.HLevel.{→_prop}
 use base.Stored.{Gv, gnil, Coded-set, coded_list}
 use Rattle.atomic_table.specs.Seated.{itself}
-use Rattle.sdd_rule.specs.declared.View.{View}
-use Rattle.sdd_rule.specs.declared.Showing.{Showing}
-use Rattle.sdd_rule.specs.contracts.View.{the_row}
-use Rattle.sdd_rule.specs.Parts.{owner_of}
+use Rattle.sdd_views.specs.declared.View.{View}
+use Rattle.sdd_views.specs.declared.Showing.{Showing}
+use Rattle.sdd_views.specs.contracts.View.{the_row}
+use Rattle.sdd_views.specs.Views.{owner_of}
 
 -- the views of a witness that is the token of the owner of a slot, which shows this; it may be one of several
 abbrev pub witness_of_owner : ℕ → Bool → Gv → List Gv

@@ -9,7 +9,7 @@ ghost use Rattle.sdd_rule.specs.Epoch.{HasPlace, IsOpen};
 ghost use Rattle.sdd_rule.specs.Slots.{OwnsAlone, Holds};
 ghost use Rattle.sdd_rule.specs.SlotSteps.{IsDue, LooksAtSlot, TakesHold, LetsGo, LooksForGuard};
 ghost use Rattle.sdd_rule.specs.Ended.{LooksForValue};
-ghost use Rattle.sdd_rule.specs.Parts.{owner_of};
+ghost use Rattle.sdd_views.specs.Views.{owner_of};
 ghost use Rattle.sdd_stakes.specs.Shelf.{IsVacant};
 ghost use Rattle.sdd_homes.specs.Homes.{Carries, Moves, Settles};
 ghost use Rattle.sdd_homes.specs.Records.{IsIn};

@@ -12,7 +12,6 @@ ghost use Rattle.sdd_domain.specs.Items.{slots_home, HasValue, IsRightTo};
 ghost use Rattle.sdd_domain.specs.Sight.{IsOnce};
 
 use crate::claims::claim_free;
-use crate::counting::count_made;
 use crate::membership::Membership;
 use crate::values::{let_wait, put_value};
 use sdd_base::inner::tenure_of;
@@ -71,7 +70,7 @@ impl<'d, T: Item<T>> Membership<'d, T> {
                     shared,
                     value,
                 );
-                count_made(&mut self.tally);
+                self.tally.count_made();
                 Ok(Right::of_witness(slot, slots as usize, kind, owner, grip))
             }
             Err(refused) => Err((value, refused)),
@@ -112,7 +111,7 @@ impl<'d, T: Item<T>> Membership<'d, T> {
                     shared,
                     value,
                 );
-                count_made(&mut self.tally);
+                self.tally.count_made();
                 Ok(Right::of_witness(slot, slots as usize, kind, owner, grip))
             }
             Err(refused) => Err((make, refused)),

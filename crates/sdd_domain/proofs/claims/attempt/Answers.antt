@@ -1,5 +1,5 @@
 use Rattle.std.proofs.Common.{true≢false, ap, arith}
-use Rattle.sdd_rule.specs.declared.Sizes.{Sizes}
+use Rattle.sdd_views.specs.declared.Sizes.{Sizes}
 use Rattle.sdd_domain.proofs.Moving.{gains}
 use Rattle.sdd_domain.proofs.claims.attempt.Goals as goal
 

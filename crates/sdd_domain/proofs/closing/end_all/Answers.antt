@@ -1,5 +1,5 @@
 use Rattle.std.proofs.Common.{◌≡◌, ◌⊎◌, ap, ◌∙◌, inl, inr, refl}
-use Rattle.sdd_rule.specs.declared.View.{View}
+use Rattle.sdd_views.specs.declared.View.{View}
 use Rattle.sdd_domain.proofs.closing.end_all.Goals.{else-state-ne-FREE-via-then-state-ne-FREE+else-state-ne-ENDED, else-state-ne-FREE-via-else-state-ne-FREE}
 use Rattle.sdd_domain.proofs.closing.end_all.Goals as goal
 

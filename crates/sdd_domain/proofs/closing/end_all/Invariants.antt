@@ -1,5 +1,5 @@
 use Rattle.std.proofs.Common.{◌≡◌}
-use Rattle.sdd_rule.specs.Parts.{no_counts}
+use Rattle.sdd_views.specs.Views.{no_counts}
 use Rattle.sdd_board.specs.Board.{id_of}
 use Rattle.sdd_domain.proofs.closing.end_all.Given as goal
 

@@ -1,5 +1,5 @@
 use Rattle.std.proofs.Common.{refl, ◌∙◌, subst, arith}
-use Rattle.sdd_rule.specs.declared.EpochView.{EpochView}
+use Rattle.sdd_views.specs.declared.EpochView.{EpochView}
 use Rattle.sdd_rule.specs.Steps.{Takes}
 use Rattle.sdd_board.proofs.Allowed.{same_but_on}
 use Rattle.sdd_domain.proofs.membership.take_place.Goals as goal

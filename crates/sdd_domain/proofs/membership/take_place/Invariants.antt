@@ -1,5 +1,5 @@
 use Rattle.std.proofs.Common.{◌≡◌}
-use Rattle.sdd_rule.specs.Steps.{nobody}
+use Rattle.sdd_views.specs.Views.{nobody}
 use Rattle.sdd_rule.specs.SlotSteps.{blank}
 use Rattle.sdd_board.specs.Token.{epoch, words_known, IsSameBut}
 use Rattle.sdd_board.specs.Board.{sizes_of, places_of}

@@ -1,7 +1,7 @@
 use Rattle.std.proofs.Common.{ℕ, ap, sym, ◌∙◌, subst, arith}
 use Rattle.sdd_rule.specs.Codes.{waiting_word}
-use Rattle.sdd_rule.specs.declared.Sizes.{Sizes}
-use Rattle.sdd_rule.specs.declared.View.{View}
+use Rattle.sdd_views.specs.declared.Sizes.{Sizes}
+use Rattle.sdd_views.specs.declared.View.{View}
 use Rattle.sdd_homes.specs.HomeSteps.{HasLast, IsValue}
 use Rattle.sdd_homes.specs.Records.{IsIn}
 use Rattle.sdd_board.specs.Board.{book_of, places_of}

@@ -4,8 +4,8 @@ use Rattle.sdd_base.specs.Holding.{AreOf}
 use Rattle.sdd_domain.specs.Homes.{home_of_slots}
 use base.Stored.{Gv}
 use Rattle.sdd_stakes.specs.Shelf.{IsVacant, showing}
-use Rattle.sdd_rule.specs.declared.View.{View}
-use Rattle.sdd_rule.specs.contracts.View.{the_row}
+use Rattle.sdd_views.specs.declared.View.{View}
+use Rattle.sdd_views.specs.contracts.View.{the_row}
 use Rattle.sdd_rule.specs.Sums.{times}
 use Rattle.sdd_rule.proofs.Sums.{is_same}
 use Rattle.sdd_homes.specs.HomeSteps.{parting, departing}

@@ -4,8 +4,8 @@ use Rattle.sdd_stakes.specs.declared.stake.Stake.{Stake}
 use base.Stored.{Gv}
 use Rattle.atomic_table.specs.Seated.{TableId}
 use Rattle.sdd_stakes.specs.Shelf.{IsFull, IsVacant, vacant, showing}
-use Rattle.sdd_rule.specs.declared.Sizes.{Sizes}
-use Rattle.sdd_rule.specs.declared.View.{View}
+use Rattle.sdd_views.specs.declared.Sizes.{Sizes}
+use Rattle.sdd_views.specs.declared.View.{View}
 use Rattle.sdd_rule.specs.Slots.{items_at}
 use Rattle.sdd_rule.specs.SlotSteps.{given_back}
 use Rattle.sdd_homes.specs.HomeSteps.{HasAll, IsValue, IsNewest, forgetting, giving}

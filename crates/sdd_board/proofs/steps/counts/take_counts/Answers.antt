@@ -1,5 +1,5 @@
 use Rattle.std.proofs.Common.{sym, ap, ◌∙◌}
-use Rattle.sdd_rule.specs.declared.View.{View}
+use Rattle.sdd_views.specs.declared.View.{View}
 use Rattle.sdd_homes.specs.HomeSteps.{Mine, counts_token, counting}
 use Rattle.sdd_homes.proofs.Tokens.{joins_counts}
 use Rattle.sdd_board.proofs.Shown.{view_is}

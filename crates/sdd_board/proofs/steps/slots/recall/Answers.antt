@@ -1,5 +1,5 @@
 use Rattle.std.proofs.Common.{sym, ◌∙◌}
-use Rattle.sdd_rule.specs.Parts.{owner_of}
+use Rattle.sdd_views.specs.Views.{owner_of}
 use Rattle.sdd_board.proofs.Allowed.{may_recall}
 use Rattle.sdd_board.proofs.Shown.{view_is}
 use Rattle.sdd_board.proofs.steps.slots.recall.Goals as goal

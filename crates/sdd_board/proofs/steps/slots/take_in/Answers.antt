@@ -1,6 +1,6 @@
 use Rattle.std.proofs.Common.{sym, ap, ◌∙◌}
-use Rattle.sdd_rule.specs.declared.View.{View}
-use Rattle.sdd_rule.specs.Parts.{owner_of}
+use Rattle.sdd_views.specs.declared.View.{View}
+use Rattle.sdd_views.specs.Views.{owner_of}
 use Rattle.sdd_homes.specs.HomeSteps.{Mine, regained}
 use Rattle.sdd_homes.proofs.Tokens.{joins_owner}
 use Rattle.sdd_board.proofs.Shown.{view_is}

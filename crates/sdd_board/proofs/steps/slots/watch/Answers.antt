@@ -1,5 +1,5 @@
 use Rattle.std.proofs.Common.{sym, ◌∙◌, arith}
-use Rattle.sdd_rule.specs.Parts.{owner_of}
+use Rattle.sdd_views.specs.Views.{owner_of}
 use Rattle.sdd_board.proofs.Allowed.{may_watch}
 use Rattle.sdd_board.proofs.Shown.{view_is}
 use Rattle.sdd_board.proofs.steps.slots.watch.Goals as goal

@@ -1,8 +1,8 @@
 use Rattle.std.proofs.Common.{◌≡◌, ℕ, ◌+◌, ◌-◌, ◌≤◌, List, length, sym, ap, ◌∙◌, subst, arith}
 use Rattle.core.specs.Mem.Slots.{slots_items}
 use Rattle.sdd_token.specs.Units as token
-use Rattle.sdd_rule.specs.declared.PlacesView.{PlacesView}
-use Rattle.sdd_rule.specs.declared.Sizes.{Sizes}
+use Rattle.sdd_views.specs.declared.PlacesView.{PlacesView}
+use Rattle.sdd_views.specs.declared.Sizes.{Sizes}
 use Rattle.sdd_homes.specs.Counts.{full_slots}
 use Rattle.sdd_board.specs.Board.{sizes_of}
 use Rattle.sdd_domain.specs.Domain.{slots_in}

@@ -1,10 +1,10 @@
 use Rattle.std.proofs.Common.{◌≡◌, ◌≢◌, ℕ, ◌+◌, ◌≤◌, List, [], map, rules, refl, sym, ap, ◌∙◌, subst, inl, inr, ⊎_elim, arith}
 use Rattle.sdd_store.specs.Time.{nested, settled}
 use Rattle.sdd_store.specs.declared.time.Participant.{Participant}
-use Rattle.sdd_rule.specs.declared.Sizes.{Sizes}
-use Rattle.sdd_rule.specs.declared.SlotsView.{SlotsView}
-use Rattle.sdd_rule.specs.declared.StakesView.{StakesView}
-use Rattle.sdd_rule.specs.declared.WaitingItem.{WaitingItem}
+use Rattle.sdd_views.specs.declared.Sizes.{Sizes}
+use Rattle.sdd_views.specs.declared.SlotsView.{SlotsView}
+use Rattle.sdd_views.specs.declared.StakesView.{StakesView}
+use Rattle.sdd_views.specs.declared.WaitingItem.{WaitingItem}
 use Rattle.sdd_homes.specs.Homes.{Carries}
 use Rattle.sdd_token.specs.declared.part.Part.{Part}
 use Rattle.sdd_places.specs.declared.tenures.Stage.{Stage}

@@ -12,8 +12,8 @@ use Rattle.sdd_homes.proofs.Records.{in_times}
 use Rattle.sdd_board.specs.Board.{book_of, places_of}
 use Rattle.atomic_table.specs.declared.shared.Seat.{Seat}
 use Rattle.sdd_stakes.specs.declared.stake.Stake.{Stake}
-use Rattle.sdd_rule.specs.declared.View.{View}
-use Rattle.sdd_rule.specs.declared.Sizes.{Sizes}
+use Rattle.sdd_views.specs.declared.View.{View}
+use Rattle.sdd_views.specs.declared.Sizes.{Sizes}
 use Rattle.sdd_domain.specs.Sight.{IsOnce}
 use Rattle.sdd_base.specs.Holding.{AreOf}
 use Rattle.sdd_domain.specs.Homes.{home_in}

@@ -1,5 +1,5 @@
 use Rattle.std.proofs.Common.{rules, arith, ◌≡◌, ◌<◌, ◌^◌, subst, ap, ◌∙◌}
-use Rattle.sdd_rule.specs.declared.Sizes.{Sizes}
+use Rattle.sdd_views.specs.declared.Sizes.{Sizes}
 use Rattle.sdd_domain.specs.Member.{Member, IsLone}
 use Rattle.sdd_domain.proofs.Posing.{known_fits}
 use Rattle.sdd_domain.proofs.membership.Membership.leave.Given.{Over}

@@ -3,8 +3,8 @@ use Rattle.sdd_base.specs.Holding.{AreOf}
 use Rattle.sdd_domain.specs.Homes.{home_in}
 use Rattle.sdd_domain.specs.Member.{Member}
 use Rattle.sdd_domain.proofs.Housed.{to_board, on_board}
-use Rattle.sdd_rule.specs.declared.Sizes.{Sizes}
-use Rattle.sdd_rule.specs.declared.View.{View}
+use Rattle.sdd_views.specs.declared.Sizes.{Sizes}
+use Rattle.sdd_views.specs.declared.View.{View}
 use Rattle.sdd_store.specs.declared.tally.Tally.{Tally}
 use Rattle.sdd_store.specs.Tally.{one_made}
 use Rattle.sdd_stakes.specs.Shelf.{showing}

@@ -3,6 +3,12 @@ use Rattle.sdd_base.proofs.Housed.{Whole-closed}
 use Rattle.sdd_inside.proofs.Lending.{joins, free-joined, reader-there, guard-there, sizes-closed, lent-closed, lent-left}
 use Rattle.sdd_inside.proofs.inside.Core.close.Goals as goal
 
+pub close-requires-clause-open : goal.close-requires-clause-open
+close-requires-clause-open g c =
+    let lent = rw (← c.self.view_is) at c.requires.lent in
+    rw (ltb-true 0 (place_at c.self.inside.time c.args.place).guards
+    (guard-there _ _ lent c.args.place c.args.part.units c.requires.part.units c.join.ensures.fits)) tt
+
 pub settle_loans-requires-clause-lent : goal.settle_loans-requires-clause-lent
 settle_loans-requires-clause-lent g c =
     let p = c.args.place in

@@ -8,7 +8,7 @@ use denote.Struct.Lending.{of_Lends}
 use Rattle.core.specs.contracts.marker.PhantomData as P
 use Rattle.sdd_places.specs.contracts.tenure.Ended as C
 use Rattle.sdd_places.proofs.tenure.Ended.TheLaw.Statement.{statement}
-use Rattle.sdd_places.proofs.Shares.{kept_laws, Lends-kept}
+use Rattle.sdd_witness.proofs.Kept.{kept_laws, Lends-kept}
 
 pub shares : statement
 shares = of_Lends C.struct (C.the_codes (P.the_row u64).coded) C.the_heap C.the_lent

@@ -6,7 +6,7 @@ use denote.Struct.Laws.{field_copy}
 use denote.Struct.Lending.{of_Lends}
 use Rattle.core.specs.contracts.marker.PhantomData as P
 use Rattle.atomic_table.specs.Seated.{fact}
-use Rattle.sdd_places.proofs.Shares.{kept_laws, Lends-kept}
+use Rattle.sdd_witness.proofs.Kept.{kept_laws, Lends-kept}
 use Rattle.sdd_stakes.specs.Ledger.{AreCoded}
 use Rattle.sdd_stakes.specs.contracts.ledger.Ledger as C
 use Rattle.sdd_stakes.proofs.ledger.Ledger.TheLaw.Statement.{statement}

@@ -6,7 +6,7 @@ use denote.Struct.Field.{RawPtr-field}
 use denote.Struct.Laws.{RawPtr-copy, field_copy}
 use denote.Struct.Lending.{of_Lends}
 use Rattle.core.specs.contracts.marker.PhantomData as P
-use Rattle.sdd_places.proofs.Shares.{kept_laws, Lends-kept}
+use Rattle.sdd_witness.proofs.Kept.{kept_laws, Lends-kept}
 use Rattle.sdd_stakes.specs.declared.shelf.Fits.{Ghosts}
 use Rattle.sdd_stakes.specs.Shelf.{shelf_owns}
 use Rattle.sdd_stakes.specs.contracts.shelf.Shelf as C

@@ -15,6 +15,7 @@ invariant_of-self c =
       reserved = kept.reserved;
       phased = kept.phased;
       kept = kept.kept;
+      nests = kept.nests;
       told = λ unmarked q.
           ap (λ (u : Time). is_ended (entry_at u.phases q)) (c.self-then-self.view_is ∙ c.adopt.ensures)
           ∙ none-left t c.args.place c.requires.live same q;
