@@ -15,7 +15,7 @@ use sdd_stakes::Ledger;
 use sdd_store::Tally;
 use sdd_witness::Witness;
 use std::marker::Model;
-use std::mem;
+use core::mem;
 
 /// A participant that takes no part any more, and with which items wait.
 #[derive(Drop)]
