@@ -1,5 +1,7 @@
 -- The names of the operations
 use Rattle.std.specs.Prelude.{ℕ, List, codes}
+use Rattle.sdd_bench.specs.declared.threads.Timed.{Timed}
+use Rattle.sdd_bench.specs.declared.threads.Timed.TheVariants.{Guard, Nested as NestedGuard, Accelerate, MakeAndRetire}
 use Rattle.sdd_bench.specs.declared.operation.Guarding.TheVariants.{Outermost, Nested, Accelerated}
 use Rattle.sdd_bench.specs.declared.operation.Task.TheVariants.{Guards, Items, HalfFull, Looks, Reads, Gets}
 use Rattle.sdd_bench.specs.declared.operation.Operation.{Operation}
@@ -33,3 +35,10 @@ name_of Load = codes "world-load"
 name_of Share = codes "world-share"
 name_of Raw = codes "world-raw"
 name_of Swap = codes "world-swap"
+
+-- The names of what is timed
+abbrev pub name_of_timed : Timed → List ℕ
+name_of_timed Guard = codes "guard"
+name_of_timed NestedGuard = codes "nested"
+name_of_timed Accelerate = codes "accelerate"
+name_of_timed MakeAndRetire = codes "make-and-retire"

@@ -101,8 +101,9 @@ fn keep(
     }
 }
 
+/// Does the task that often, and answers the sum of what was seen.
 #[inline(always)]
-fn worked(local: &mut Local<'_, u64>, task: Task, turns: u64) -> Result<u64, Refused>
+pub fn worked(local: &mut Local<'_, u64>, task: Task, turns: u64) -> Result<u64, Refused>
     requires { IsSeated (seat_of local.old) }
     ensures { (seat_of local.new ≡ seat_of local.old) × (local.new.member.own.guards ≡ local.old.member.own.guards) }
 {

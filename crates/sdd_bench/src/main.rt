@@ -4,6 +4,9 @@
 mod cells;
 mod local;
 mod operation;
+mod rounds;
+mod spans;
+mod threads;
 mod turns;
 mod world;
 
@@ -14,10 +17,21 @@ use sdd_store::Tally;
 use std::alloc::Global;
 use std::process::ExitCode;
 use std::rt::Env;
+use std::sync::Wait;
+use std::thread::Threads;
+use std::time::Clock;
 use std::{env, io};
 use world::Work;
 
-const USAGE: &str = "usage: sdd-bench OPERATION TURNS";
+const USAGE: &str = "usage: sdd-bench OPERATION TURNS, or sdd-bench threads [TURNS]";
+
+/// What the program is to do.
+enum Wanted {
+    /// To do an operation that often.
+    Operation(Operation, u64),
+    /// To time what participants do at once, that often in each round, or as often as takes about a millisecond.
+    Threads(Option<u64>),
+}
 
 /// A thousand items or jobs wait at most: three times 128, and a few more.
 const LIMITS: Limits = Limits {
@@ -40,10 +54,37 @@ const FOR_TWO: Limits = Limits {
 
 fn main(rt: HostRuntime) -> io::Result<ExitCode> {
     let words = env::args(&rt)?.skip(1).collect::<Vec<String>>(rt.alloc())?;
-    let Some((operation, turns)) = asked(words.as_slice()) else {
-        println!(rt; "{USAGE}")?;
-        return Ok(ExitCode::from(2));
-    };
+    match asked(words.as_slice()) {
+        Some(Wanted::Operation(operation, turns)) => do_operation(&rt, operation, turns),
+        Some(Wanted::Threads(turns)) => time_threads(&rt, turns),
+        None => {
+            println!(rt; "{USAGE}")?;
+            Ok(ExitCode::from(2))
+        }
+    }
+}
+
+/// What the words ask for.
+fn asked(words: &[String]) -> Option<Wanted> {
+    match words {
+        [word] if word.as_str() == "threads" => Some(Wanted::Threads(None)),
+        [word, turns] => {
+            let turns = turns.as_str().parse::<u64>().ok()?;
+            if word.as_str() == "threads" {
+                return Some(Wanted::Threads(Some(turns)));
+            }
+            Some(Wanted::Operation(named(word.as_str())?, turns))
+        }
+        _ => None,
+    }
+}
+
+/// Does an operation that often, and prints what it left.
+fn do_operation<R: Print + AllocGlobal>(
+    rt: &R,
+    operation: Operation,
+    turns: u64,
+) -> io::Result<ExitCode> {
     match done(rt.alloc(), operation, turns) {
         Ok((tally, sum)) => {
             println!(rt;
@@ -59,14 +100,18 @@ fn main(rt: HostRuntime) -> io::Result<ExitCode> {
     }
 }
 
-/// The operation, and how often.
-fn asked(words: &[String]) -> Option<(Operation, u64)> {
-    let [word, turns] = words else {
-        return None;
-    };
-    let operation = named(word.as_str())?;
-    let turns = turns.as_str().parse::<u64>().ok()?;
-    Some((operation, turns))
+/// Prints a row for each thing that participants do at once.
+fn time_threads<R: Threads + Wait + Clock + Print + AllocGlobal + Sync>(
+    rt: &R,
+    turns: Option<u64>,
+) -> io::Result<ExitCode> {
+    match threads::print_rows(rt, turns)? {
+        Ok(()) => Ok(ExitCode::from(0)),
+        Err(trouble) => {
+            println!(rt; "{trouble}")?;
+            Ok(ExitCode::from(1))
+        }
+    }
 }
 
 fn done(alloc: Global, operation: Operation, turns: u64) -> Result<(Tally, u64), Refused> {

@@ -1,0 +1,247 @@
+//! What participants in several threads take for what they do at once.
+ghost use Rattle.std.specs.Prelude.{◌≡◌, All, IfOk};
+ghost use Rattle.sdd_domain.specs.Domain.{slots_in};
+ghost use Rattle.sdd_domain.specs.Receipt.{Receipt as Ended};
+ghost use Rattle.sdd_bench.specs.Names.{name_of_timed};
+
+use crate::operation::{Guarding, Task};
+use crate::rounds::{Course, Findings, Meeting, Trouble, takes_part};
+use crate::spans::{Span, Tenths, median_of};
+use sdd_base::Limits;
+use sdd_core::Refused;
+use sdd_domain::Domain;
+use std::alloc::Global;
+use std::sync::Wait;
+use std::thread::{Threads, join};
+use std::time::{Clock, Instant};
+use std::{io, thread};
+
+/// While the thread of a participant rests under an open guard nothing is reclaimed: so many slots that the others find one in each turn of a round.
+const LIMITS: Limits = Limits {
+    participants: 4,
+    slots: 1 << 18,
+    cells: 1,
+    jobs: 0,
+    nesting: 2,
+    tries: 65535,
+};
+
+/// What is timed.
+#[derive(Clone, Copy, Debug, PartialEq, Eq)]
+pub enum Timed {
+    /// An outermost guard is opened and closed.
+    Guard,
+    /// The same under an open guard.
+    Nested,
+    /// A guard is opened, accelerated and closed.
+    Accelerate,
+    /// Under a guard, an item is made and retired, and what is due is reclaimed.
+    MakeAndRetire,
+}
+
+const ALL_TIMED: [Timed; 4] = [
+    Timed::Guard,
+    Timed::Nested,
+    Timed::Accelerate,
+    Timed::MakeAndRetire,
+];
+
+impl Timed {
+    /// What stands in its rows.
+    fn name(self) -> &'static str
+        ensures { result.now ≡ name_of_timed self }
+    {
+        match self {
+            Timed::Guard => "guard",
+            Timed::Nested => "nested",
+            Timed::Accelerate => "accelerate",
+            Timed::MakeAndRetire => "make-and-retire",
+        }
+    }
+
+    fn task(self) -> Task {
+        match self {
+            Timed::Guard => Task::Guards(Guarding::Outermost),
+            Timed::Nested => Task::Guards(Guarding::Nested),
+            Timed::Accelerate => Task::Guards(Guarding::Accelerated),
+            Timed::MakeAndRetire => Task::Items,
+        }
+    }
+
+    /// So many turns take about a millisecond.
+    fn turns(self) -> u64 {
+        match self {
+            Timed::Guard => 50_000,
+            Timed::Nested => 100_000,
+            Timed::Accelerate => 10_000,
+            Timed::MakeAndRetire => 10_000,
+        }
+    }
+}
+
+/// How many threads there are.
+#[derive(Clone, Copy, Debug, PartialEq, Eq)]
+enum Crowd {
+    One,
+    Two,
+    Four,
+}
+
+const CROWDS: [Crowd; 3] = [Crowd::One, Crowd::Two, Crowd::Four];
+
+impl Crowd {
+    fn threads(self) -> u64 {
+        match self {
+            Crowd::One => 1,
+            Crowd::Two => 2,
+            Crowd::Four => 4,
+        }
+    }
+}
+
+/// Prints the rows, up to the first that meets with trouble.
+pub fn print_rows<R: Threads + Wait + Clock + Print + AllocGlobal + Sync>(
+    rt: &R,
+    turns: Option<u64>,
+) -> io::Result<Result<(), Trouble>> {
+    for timed in ALL_TIMED {
+        let turns = turns.unwrap_or(timed.turns());
+        if let Err(trouble) = print_rows_of(rt, timed, turns)? {
+            return Ok(Err(trouble));
+        }
+    }
+    Ok(Ok(()))
+}
+
+/// Prints a row for each number of threads that have a processor each.
+fn print_rows_of<R: Threads + Wait + Clock + Print + AllocGlobal + Sync>(
+    rt: &R,
+    timed: Timed,
+    turns: u64,
+) -> io::Result<Result<(), Trouble>> {
+    let processors = thread::available_parallelism(rt)?.get() as u64;
+    for crowd in CROWDS {
+        if crowd.threads() > processors {
+            break;
+        }
+        match time_of(rt, rt.alloc(), timed.task(), crowd, turns) {
+            Ok(time) => print_row(rt, timed, crowd, time)?,
+            Err(trouble) => return Ok(Err(trouble)),
+        }
+    }
+    Ok(Ok(()))
+}
+
+/// The nanoseconds that a turn took, or a `-` where the threads never worked at once.
+fn print_row(rt: &impl Print, timed: Timed, crowd: Crowd, time: Option<Tenths>) -> io::Result<()> {
+    let name = timed.name();
+    let threads = crowd.threads();
+    match time {
+        Some(tenths) => println!(rt; "{name} {threads} {tenths}"),
+        None => println!(rt; "{name} {threads} -"),
+    }
+}
+
+/// What a turn takes in a domain of its own.
+fn time_of<R: Threads + Wait + Clock + Sync>(
+    rt: &R,
+    alloc: Global,
+    task: Task,
+    crowd: Crowd,
+    turns: u64,
+) -> Result<Option<Tenths>, Trouble> {
+    let Ok(origin) = Instant::now(rt) else {
+        return Err(Trouble::NoClock);
+    };
+    let domain: Domain<u64> = Domain::new(alloc, LIMITS)?;
+    let meeting = Meeting::new(crowd.threads());
+    let course = Course {
+        domain: &domain,
+        meeting: &meeting,
+        origin,
+        task,
+        turns,
+    };
+    match runs(rt, alloc, crowd, &course) {
+        Ok(findings) => {
+            let spans = closed(domain, findings)?;
+            Ok(median_of(alloc, spans.as_slice(), turns)?)
+        }
+        Err(trouble) => {
+            domain.leak();
+            Err(trouble)
+        }
+    }
+}
+
+/// Closes the domain. When each participant worked.
+fn closed(domain: Domain<u64>, findings: Findings) -> Result<Vec<Vec<Span>>, Refused>
+    requires { All (λ (r : Ended). r.home ≡ slots_in domain) findings.receipts.items }
+{
+    let Findings { receipts, spans } = findings;
+    match domain.close(receipts) {
+        Ok(_tally) => Ok(spans),
+        Err((domain, _receipts, refused)) => {
+            domain.leak();
+            Err(refused)
+        }
+    }
+}
+
+/// All threads run the course.
+fn runs<R: Threads + Wait + Clock + Sync>(
+    rt: &R,
+    alloc: Global,
+    crowd: Crowd,
+    course: &Course<'_>,
+) -> Result<Findings, Trouble>
+    ensures { IfOk result (λ found. All (λ (r : Ended). r.home ≡ slots_in course.now.domain.now) found.receipts.items) }
+{
+    match crowd {
+        Crowd::One => takes_part(rt, alloc, course),
+        Crowd::Two => two(rt, alloc, course),
+        Crowd::Four => four(rt, alloc, course),
+    }
+}
+
+fn two<R: Threads + Wait + Clock + Sync>(
+    rt: &R,
+    alloc: Global,
+    course: &Course<'_>,
+) -> Result<Findings, Trouble>
+    ensures { IfOk result (λ found. All (λ (r : Ended). r.home ≡ slots_in course.now.domain.now) found.receipts.items) }
+{
+    let (first, second) = join(
+        rt,
+        || takes_part(rt, alloc, course),
+        || takes_part(rt, alloc, course),
+    );
+    together(course, first?, second?)
+}
+
+fn four<R: Threads + Wait + Clock + Sync>(
+    rt: &R,
+    alloc: Global,
+    course: &Course<'_>,
+) -> Result<Findings, Trouble>
+    ensures { IfOk result (λ found. All (λ (r : Ended). r.home ≡ slots_in course.now.domain.now) found.receipts.items) }
+{
+    let (first, second) = join(rt, || two(rt, alloc, course), || two(rt, alloc, course));
+    together(course, first?, second?)
+}
+
+/// The findings of both, in one domain.
+fn together(
+    course: &Course<'_>,
+    mut first: Findings,
+    mut second: Findings,
+) -> Result<Findings, Trouble>
+    requires first { All (λ (r : Ended). r.home ≡ slots_in course.now.domain.now) first.receipts.items }
+    requires second { All (λ (r : Ended). r.home ≡ slots_in course.now.domain.now) second.receipts.items }
+    ensures { IfOk result (λ found. All (λ (r : Ended). r.home ≡ slots_in course.now.domain.now) found.receipts.items) }
+{
+    let _ = course;
+    first.receipts.append(&mut second.receipts)?;
+    first.spans.append(&mut second.spans)?;
+    Ok(first)
+}
