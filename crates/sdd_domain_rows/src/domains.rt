@@ -28,7 +28,7 @@ const ONE: Limits = Limits {
 };
 
 /// Where memory is wanting the place stays free, so that a second try takes it.
-fn registered_at_last<'d>(rt: &impl Abort, domain: &'d Domain<u64>) -> Local<'d, u64>
+pub fn registered_at_last<'d>(rt: &impl Abort, domain: &'d Domain<u64>) -> Local<'d, u64>
     ensures { slots_home result ≡ slots_in domain.now }
 {
     match Local::register(domain) {
@@ -41,7 +41,7 @@ fn registered_at_last<'d>(rt: &impl Abort, domain: &'d Domain<u64>) -> Local<'d,
 }
 
 /// The epoch that a guard shows now.
-fn shown(guard: &Guard, local: &mut Local<'_, u64>) -> u8
+pub fn shown(guard: &Guard, local: &mut Local<'_, u64>) -> u8
     requires { IsSeated (seat_of local.old) }
     ensures { seat_of local.new ≡ seat_of local.old }
 {
@@ -49,7 +49,7 @@ fn shown(guard: &Guard, local: &mut Local<'_, u64>) -> u8
 }
 
 /// Opens, accelerates and closes a guard, and tells which epoch it showed.
-fn accelerated(rt: &impl Abort, local: &mut Local<'_, u64>) -> u8
+pub fn accelerated(rt: &impl Abort, local: &mut Local<'_, u64>) -> u8
     requires { IsSeated (seat_of local.old) }
     ensures { seat_of local.new ≡ seat_of local.old }
 {
@@ -82,7 +82,7 @@ fn refused_guard(rt: &impl Abort, local: &mut Local<'_, u64>) -> Refused
 }
 
 /// What one more participant is refused with.
-fn refusal(rt: &impl Abort, domain: &Domain<u64>) -> Refused {
+pub fn refusal(rt: &impl Abort, domain: &Domain<u64>) -> Refused {
     match Local::register(domain) {
         Ok(_local) => panic!(rt; "a place is free"),
         Err(refused) => refused,

@@ -1,5 +1,5 @@
 //! Worked examples of domains, as tests: which epoch each guard of a participant shows, alone,
-//! beside another one and in threads; and what items do there.
+//! beside another one and in threads; which places and slots are given out; and what items do there.
 #![tactic(auto)]
 
 #[cfg(test)]
@@ -12,7 +12,11 @@ mod held;
 mod items;
 mod node;
 #[cfg(test)]
+mod places;
+#[cfg(test)]
 mod sharing;
+#[cfg(test)]
+mod slots;
 #[cfg(test)]
 mod steps;
 #[cfg(test)]
