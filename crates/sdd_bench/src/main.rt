@@ -1,4 +1,4 @@
-//! The program `sdd-bench`: does an operation so often, for whoever counts its instructions.
+//! The program `sdd-bench`: does an operation so often, for whoever counts its instructions; and times what participants in several threads do at once.
 #![tactic(auto)]
 
 mod cells;

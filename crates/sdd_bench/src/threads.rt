@@ -211,12 +211,11 @@ fn two<R: Threads + Wait + Clock + Sync>(
 ) -> Result<Findings, Trouble>
     ensures { IfOk result (λ found. All (λ (r : Ended). r.home ≡ slots_in course.now.domain.now) found.receipts.items) }
 {
-    let (first, second) = join(
-        rt,
-        || takes_part(rt, alloc, course),
-        || takes_part(rt, alloc, course),
-    );
-    together(course, first?, second?)
+    let part = move || -> Result<Findings, Trouble>
+        ensures { IfOk result (λ found. All (λ (r : Ended). r.home ≡ slots_in course.entry.now.domain.now) found.receipts.items) }
+    { takes_part(rt, alloc, course) };
+    let (first, second) = join(rt, &part, &part);
+    together(course, first, second)
 }
 
 fn four<R: Threads + Wait + Clock + Sync>(
@@ -226,22 +225,27 @@ fn four<R: Threads + Wait + Clock + Sync>(
 ) -> Result<Findings, Trouble>
     ensures { IfOk result (λ found. All (λ (r : Ended). r.home ≡ slots_in course.now.domain.now) found.receipts.items) }
 {
-    let (first, second) = join(rt, || two(rt, alloc, course), || two(rt, alloc, course));
-    together(course, first?, second?)
+    let part = move || -> Result<Findings, Trouble>
+        ensures { IfOk result (λ found. All (λ (r : Ended). r.home ≡ slots_in course.entry.now.domain.now) found.receipts.items) }
+    { two(rt, alloc, course) };
+    let (first, second) = join(rt, &part, &part);
+    together(course, first, second)
 }
 
 /// The findings of both, in one domain.
 fn together(
     course: &Course<'_>,
-    mut first: Findings,
-    mut second: Findings,
+    first: Result<Findings, Trouble>,
+    second: Result<Findings, Trouble>,
 ) -> Result<Findings, Trouble>
-    requires first { All (λ (r : Ended). r.home ≡ slots_in course.now.domain.now) first.receipts.items }
-    requires second { All (λ (r : Ended). r.home ≡ slots_in course.now.domain.now) second.receipts.items }
+    requires first { IfOk first (λ found. All (λ (r : Ended). r.home ≡ slots_in course.now.domain.now) found.receipts.items) }
+    requires second { IfOk second (λ found. All (λ (r : Ended). r.home ≡ slots_in course.now.domain.now) found.receipts.items) }
     ensures { IfOk result (λ found. All (λ (r : Ended). r.home ≡ slots_in course.now.domain.now) found.receipts.items) }
 {
     let _ = course;
-    first.receipts.append(&mut second.receipts)?;
-    first.spans.append(&mut second.spans)?;
-    Ok(first)
+    let mut all = first?;
+    let mut others = second?;
+    all.receipts.append(&mut others.receipts)?;
+    all.spans.append(&mut others.spans)?;
+    Ok(all)
 }

@@ -25,7 +25,7 @@ const EIGHT_SLOTS: Limits = Limits {
     ..ONE_SLOT
 };
 
-/// More slots than a page of words has.
+/// More slots than 2^12.
 const MANY_SLOTS: Limits = Limits {
     participants: 2,
     slots: 5000,
