@@ -219,7 +219,9 @@ subtracts slots id me free some_owned s K homes at fits = let v : View = me.0 in
         bounded = omega arith;
         single = let k = total_set keeps vs id v w at in let one = K.single in omega arith;
         ended = back vs id v w at (λ k u. u.last ≡ 1 → total owned (set vs id w) ≡ 0)
-            (λ l. dite (ℕ_discrete n 1) (λ is. omega arith) (λ no. let m : v.last ≡ 1 = sym (ap (λ (x : _). either x 1 v.last) (ne_eqb n 1 no)) ∙ l in let z = K.ended id v at m in absurd (omega arith)))
+            (λ l. dite (ℕ_discrete n 1) (λ is. omega arith) (λ no.
+            let m : v.last ≡ 1 = sym (ap (λ (x : _). either x 1 v.last) (ne_eqb n 1 no)) ∙ l in
+            let z = K.ended id v at m in absurd (omega arith)))
             (λ k u _ e l. let z = K.ended k u e l in absurd (omega arith));
         backed = keep_backed vs id v w at refl refl refl refl refl (λ o. let f = free.owner in absurd (omega arith)) K.backed;
       },
@@ -301,7 +303,8 @@ pub joins : (id : ℕ) (v : View) (other bd : ℕ) → JoinsFree Kept (λ b. b.l
 joins id v other bd s b K at at_o at_b our two far free = let w : View = regained v in let vs : List View = s.views in
     let ws : List View = set (set vs id w) other blank in let apart : id ≢ other = λ e. two (sym e) in
     let at_o' : get_elem? (set vs id w) other ≡ some one_owner = set_else vs id other w two ∙ at_o in
-    let sums : (f : View → ℕ) → total f ws + f one_owner + f v ≡ total f vs + f w + f blank = λ f. let t = total_set f vs id v w at in let r = total_set f (set vs id w) other one_owner blank at_o' in omega arith in
+    let sums : (f : View → ℕ) → total f ws + f one_owner + f v ≡ total f vs + f w + f blank
+    = λ f. let t = total_set f vs id v w at in let r = total_set f (set vs id w) other one_owner blank at_o' in omega arith in
     let a = sums owned in let h = sums held in let k = sums keeps in let counts = K.counted in let most = K.bounded in let single = K.single in
     let has = total_has owned vs other one_owner at_o in
     let mine_of : (i : ℕ) (p : Pledge) → Backed vs i p → p.seat ≢ other = λ i p B. free_of other b.books p free (B.booked bd b at_b our) in

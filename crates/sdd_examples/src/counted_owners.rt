@@ -3,8 +3,6 @@ ghost use Rattle.std.specs.Prelude.{◌≡◌, ◌<◌, ◌-◌, ◌/◌, ◌+�
 ghost use Rattle.sdd_examples.specs.CountedOwners.{owner_views, IsFree, Spent, Freed};
 
 mod plays;
-#[cfg(test)]
-mod tests;
 mod views;
 
 use crate::counted_owners::plays::{Cut, Found, Half, Leave, Make, Pledges, Rule, TakeIn};
@@ -29,7 +27,7 @@ impl Owners {
     /// A word with one owner, which the first participant has.
     pub fn new(alloc: Global) -> Result<(Owners, Participant), AllocError>
         ensures { IfOk result (λ t. (t.1.table_id ≡ t.0.table.shared.table_id) × (t.1.me.0.owned ≡ 1)
-            × (t.1.me.0.room ≡ 9223372036854775807) × IsFree t.1.me.0) }
+            × (t.1.me.0.room ≡ 9223372036854775807) × (t.1.me.0.last ≡ 0) × IsFree t.1.me.0) }
     {
         let (table, mut participant) = Table::<(), View, (), Rule, Global>::of_words(
             alloc,
@@ -48,9 +46,10 @@ impl Owners {
         requires home { participant.old.table_id ≡ self.now.table.shared.table_id }
         requires free { IsFree participant.old.me.0 }
         ensures this { (participant.new.table_id ≡ participant.old.table_id) × IsFree participant.new.me.0
-            × (participant.new.me.0.owned ≡ participant.old.me.0.owned)
+            × (participant.new.me.0.owned ≡ participant.old.me.0.owned) × (participant.new.me.0.last ≡ participant.old.me.0.last)
             × (participant.new.me.0.room ≡ participant.old.me.0.room - participant.old.me.0.room / 2) }
-        ensures other { (result.table_id ≡ participant.old.table_id) × IsFree result.me.0 × (result.me.0.room ≡ participant.old.me.0.room / 2) }
+        ensures other { (result.table_id ≡ participant.old.table_id) × IsFree result.me.0 × (result.me.0.owned ≡ 0) × (result.me.0.last ≡ 0)
+            × (result.me.0.room ≡ participant.old.me.0.room / 2) }
     {
         self.table.shared.split_seat::<Half>(participant)
     }
@@ -61,7 +60,9 @@ impl Owners {
         requires free { IsFree participant.old.me.0 }
         requires one { 0 < participant.old.me.0.owned }
         ensures owner { (result.table_id ≡ self.now.table.shared.table_id) × (result.views ≡ owner_views) }
-        ensures participant { (participant.new.table_id ≡ participant.old.table_id) × IsFree participant.new.me.0 × (participant.new.me.0.room ≡ participant.old.me.0.room) }
+        ensures participant { (participant.new.table_id ≡ participant.old.table_id) × IsFree participant.new.me.0
+            × (participant.new.me.0.owned ≡ participant.old.me.0.owned - 1) × (participant.new.me.0.last ≡ participant.old.me.0.last)
+            × (participant.new.me.0.room ≡ participant.old.me.0.room) }
     {
         part::<_, _, _, _, Cut>(&self.table.shared, participant)
     }

@@ -2,6 +2,9 @@
 //!
 //! No value of these types is made: a token carries one for the proofs alone. Who only carries a token reads no more than this crate; what words and views
 //! have to do with one another is the rule of `sdd_rule`.
+//!
+//! No step of a domain sets these: `adopts` of an epoch's view; `drawn`, `jobs`, `closes`, `empties` and `over` of a slots'; rights to cells; `links` and
+//! `banked`; what is counted as `in_place` or `registered`; pledges; and what is `plain`. They are what `specs/Views` says of a token that knows nothing.
 #![tactic(auto)]
 
 ghost use base.Stored.{Gv};
@@ -37,9 +40,9 @@ pub struct EpochView {
     pub adopts: Option<u64>,
 }
 
-/// What is known of places that are barred, and of slots once all are.
+/// What is known of ended places, and of slots once all have ended.
 pub struct PlacesView {
-    /// Each place below this one is nobody's any more.
+    /// Each place below this one has ended.
     pub ended: u64,
     /// No slot below this one has an owner, and none will: all places have ended.
     pub quiet: u64,
@@ -52,7 +55,7 @@ pub struct WaitingItem {
     pub retired_at: u64,
     /// How many changes of the count it has seen since.
     pub changes: u64,
-    /// Which of all retirements its own is: a slot is used again, a retirement isn't.
+    /// Which of all retirements its own is: a slot is used again, a retirement isn't. 0 as long as no step tells them apart.
     pub name: u64,
 }
 

@@ -12,11 +12,10 @@ pub settle-requires : goal.settle-requires
 settle-requires g c =
     let long : vec_len c.pop.new.self ≡ length c.pop.new.self.items = c.pop.new.self.ok.0 in
     let end = c.len-index-end.ensures in let test = c.loop-index-test.true in
+    let is_home : Receipt → Type 0 = λ r. r.home ≡ slots_in c.args.domain.now in
     still_home _ _ c.pop.new.self.items c.loop-index.receipts.items c.loop-index.invariant.going (omega arith)
-    (λ (r : Receipt). r.home ≡ slots_in c.args.domain.now) c.replace-receipt.result c.index_mut.result.now
-    (c.replace-receipt.ensures.value ∙ c.index_mut.ensures.value)
-    (front_of (λ (r : Receipt). r.home ≡ slots_in c.args.domain.now) c.pop.new.self.items (c.in-Some.held ∷ []) (subst (All (λ (r : Receipt). r.home ≡ slots_in c.args.domain.now)) c.in-Some.ensures.items
-    c.requires.homes))
+    is_home c.replace-receipt.result c.index_mut.result.now (c.replace-receipt.ensures.value ∙ c.index_mut.ensures.value)
+    (front_of is_home c.pop.new.self.items (c.in-Some.held ∷ []) (subst (All is_home) c.in-Some.ensures.items c.requires.homes))
 
 pub loop-index-preserved : goal.loop-index-preserved
 loop-index-preserved g c =

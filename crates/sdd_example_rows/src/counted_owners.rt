@@ -1,7 +1,7 @@
 ghost use Rattle.std.specs.Prelude.{◌≡◌, ◌<◌};
 ghost use Rattle.sdd_examples.specs.CountedOwners.{owner_views, IsFree};
 
-use crate::counted_owners::{Owners, Participant};
+use sdd_examples::counted_owners::{Owners, Participant};
 use sdd_witness::Witness;
 use std::test::Fail;
 use std::thread::join;
