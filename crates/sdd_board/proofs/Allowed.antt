@@ -1,17 +1,18 @@
 -- What each call of the table asks for
-use Rattle.std.proofs.Common.{None, ◌≤◌, ◌≡◌, ◌≢◌, ◌⊎◌, inl, inr, ℕ, ◌+◌, ◌<◌, Bool, false, eqb, List, [], ◌∷◌, get_or, set, sym, refl, ap, ◌∙◌, subst, arith}
-use lib.Seq.{set-get_or}
+use Rattle.std.proofs.Common.{None, ◌≤◌, ◌≡◌, ◌≢◌, ◌⊎◌, inl, inr, ℕ, ◌+◌, ◌-◌, ◌<◌, Bool, false, eqb, List, [], ◌∷◌, get_or, sym, refl, ap, ◌∙◌, subst, arith}
 use base.Stored.{Gv, gnil}
 use mathlib.Core.Option.{none, some}
 use mathlib.Core.Logic.{dite}
 use native.Mathlib.Decide.{ℕ_discrete}
 use lib.ListN.{get_elem?}
 use prog.Atomic.{either}
-use Rattle.atomic_table.specs.Table.{State, step, Allows, Enters, homes_after, carried_after}
-use Rattle.sdd_witness.specs.Steps.{AllowsAlone, AllowsBeside}
+use Rattle.atomic_table.specs.Table.{State, step, Allows, Enters, carried_after}
+use Rattle.sdd_witness.specs.Steps.{AllowsBeside}
 use Rattle.atomic_table.specs.declared.shared.Seat.{Seat}
 use Rattle.sdd_stakes.specs.declared.stake.Stake.{Stake}
-use Rattle.sdd_stakes.specs.Shelf.{IsVacant}
+use Rattle.sdd_stakes.specs.Shelf.{IsVacant, lot}
+use Rattle.sdd_stakes.specs.Stakes.{Lot}
+use Rattle.sdd_stakes.specs.Bank.{Comes, Leaves, AllowsDeal}
 use Rattle.sdd_views.specs.declared.EpochView.{EpochView}
 use Rattle.sdd_views.specs.declared.View.{View}
 use Rattle.sdd_views.specs.declared.Sizes.{Sizes}
@@ -27,18 +28,21 @@ use Rattle.sdd_rule.proofs.Epoch as epochs
 use Rattle.sdd_rule.proofs.EpochSteps as over
 use Rattle.sdd_rule.proofs.Ended.{Spares}
 use Rattle.sdd_rule.proofs.Sums.{is_same}
-use Rattle.sdd_homes.specs.Homes.{Carries, Moves, Settles}
+use Rattle.sdd_homes.specs.Homes.{Carries, Moves, spare}
+use Rattle.sdd_homes.specs.Banked.{IsBank, banked, founder}
 use Rattle.sdd_homes.specs.Records.{IsIn}
 use Rattle.sdd_homes.specs.Housed.{Housed}
-use Rattle.sdd_homes.specs.HomeSteps.{Mine, HasAll, HasLast, IsValue, Purse, ClaimsAll, Houses, TakesOut, TakesHeld, TakesLast, RetiresOne, GivesAll, DiscardsAll, Watches, Recalls, ClosesHome, EndsAll, OfSlot}
+use Rattle.sdd_homes.specs.HomeSteps.{Mine, HasAll, IsValue, Purse, ClaimsAll, Houses, EntersUnit, TakesOut, TakesHeld, IsDeposit, RetiresOne, GivesAll, DiscardsAll, Watches, Recalls, ClosesHome, EndsAll, OfSlot}
 use Rattle.sdd_homes.proofs.Lift.{lift_epoch, lift_publish, lift_end}
 use Rattle.sdd_homes.proofs.Steps.{own_place}
 use Rattle.sdd_homes.proofs.Steps as steps
 use Rattle.sdd_homes.proofs.Fillings.{NoneTold}
-use Rattle.sdd_homes.proofs.Telling.{one_moved, owns_it, none_told}
+use Rattle.sdd_homes.proofs.Telling.{one_moved, none_told}
 use Rattle.sdd_homes.proofs.Tokens.{enters}
-use Rattle.sdd_rule.specs.Parts.{idle}
-use Rattle.sdd_board.specs.Token.{Sits, Told, IsSame, IsSameBut, Stepped, Taught, Moved, HousesMoved, TakesOwned, WatchesOwned, RecallsOwned, HasPublished, shown_last}
+use Rattle.sdd_board.specs.declared.board.Board.{Board}
+use Rattle.sdd_board.specs.declared.board.Plan.{Plan}
+use Rattle.sdd_board.specs.Board.{book_of, sizes_of}
+use Rattle.sdd_board.specs.Token.{Sits, Told, IsSame, IsSameBut, Stepped, Taught, Moved, HousesMoved, WatchesOwned, RecallsOwned, HasPublished, shown_last}
 
 -- which of two it is now a number tells, and what holds of both holds of it
 which : (P : EpochView → Type 0) (a b w : EpochView) (x c : ℕ) → (x ≡ c → w ≡ a) → (x ≢ c → w ≡ b) → P a → P b → P w
@@ -53,15 +57,15 @@ one_slot_moved : (w : View) (i j : ℕ) → Moves w i → Moves w j → i ≡ j
 one_slot_moved w i j m m' = one_moved w j i m' m
 
 -- who has all stakes in a slot sees by the last what it shows
-last_shown : (γ i n : ℕ) (value : Gv) (rest xs : Carries) → HasAll γ i n 1 (IsValue value) rest xs → shown_last xs ≡ value
-last_shown γ i n value rest [] row = absurd row
-last_shown γ i n value rest (x ∷ xs) row = row.1.1.1
+last_shown : (γ i n o : ℕ) (value : Gv) (rest xs : Carries) → HasAll γ i n o (IsValue value) rest xs → shown_last xs ≡ value
+last_shown γ i n o value rest [] row = absurd row
+last_shown γ i n o value rest (x ∷ xs) row = row.1.1.1
 
 -- so it knows what the step told that moved this value in
-pub as_housed : (γ slot n : ℕ) (a b : Bool) (value : Gv) (rest : Carries) (me me' : Mine) → b ≡ a → Moves me.0 slot → HasAll γ slot n 1 (IsValue value) rest me.1
-    → HousesMoved a me me' → Houses slot b value me me'
-as_housed γ slot n a b value rest me me' is moves row e =
-    subst (λ (t : Bool × Gv). Houses slot t.0 t.1 me me') (λ d. (sym is d, last_shown γ slot n value rest me.1 row d)) (e slot moves)
+pub as_housed : (γ slot n o : ℕ) (a b : Bool) (value : Gv) (rest : Carries) (me me' : Mine) → b ≡ a → Moves me.0 slot
+    → HasAll γ slot n o (IsValue value) rest me.1 → HousesMoved a me me' → Houses slot b value me me'
+as_housed γ slot n o a b value rest me me' is moves row e =
+    subst (λ (t : Bool × Gv). Houses slot t.0 t.1 me me') (λ d. (sym is d, last_shown γ slot n o value rest me.1 row d)) (e slot moves)
 
 first_owned : View → ℕ
 first_owned w = elim w.slots.owns [ [] ↦ 0 | i ∷ is ↦ i ]
@@ -92,8 +96,8 @@ module _ (i j : ℕ) (a b : Bool) (g h : Gv) (e : owner_of i a g ≡ owner_of j 
 
 -- a new token
 pub may_sit : (γ : ℕ) (sizes : Sizes) (slots i : ℕ)
-    → Enters (Housed γ sizes) slots i (λ r w. Sits (step {S = Stake} slots i 0 0 none) (idle sizes γ, []) r (w, []))
-may_sit γ sizes slots i = enters γ sizes slots i (λ r w. Sits (step {S = Stake} slots i 0 0 none) (idle sizes γ, []) r (w, [])) (λ r. refl)
+    → Enters (Housed γ sizes) slots i (λ r w. Sits (step {S = Stake} slots i 0 0 none) (founder sizes γ, []) r (w, []))
+may_sit γ sizes slots i = enters γ sizes slots i (λ r w. Sits (step {S = Stake} slots i 0 0 none) (founder sizes γ, []) r (w, [])) (λ r. refl)
 
 module _ (γ : ℕ) (sizes : Sizes) (slots id : ℕ) (me : Mine) where
   abbrev v : EpochView
@@ -237,42 +241,62 @@ module _ (γ : ℕ) (sizes : Sizes) (slots id : ℕ) (me : Mine) where
     may_look_for_guard i place is low next = as_known i (state_word place) (λ x. x) (λ j. Told (LooksForGuard j) me) is
         (steps.looks_for_guard slots id me live place (let e = ap (λ (z : Sizes). z.participants) same in omega arith) next)
 
-    -- on no word
-    alone_known : (told : Mine → Type 0) → AllowsAlone (Housed me.0.stakes.book me.0.sizes) slots id me told → AllowsAlone (Housed γ sizes) slots id me told
-    alone_known told = subst (λ (t : ℕ × Sizes). AllowsAlone (Housed t.0 t.1) slots id me told) (λ d. (book d, same d))
-
     row_as_known : (slot o : ℕ) (Is : Gv → Type 0) (rest : Carries) → HasAll γ slot sizes.participants o Is rest me.1
         → HasAll me.0.stakes.book slot me.0.sizes.participants o Is rest me.1
     row_as_known slot o Is rest = subst (λ (t : ℕ × Sizes). HasAll t.0 slot t.1.participants o Is rest me.1) (λ d. (sym book d, sym same d))
 
-    pub may_house : (slot : ℕ) → slot < sizes.slots → Moves me.0 slot → OwnsAlone me.0 slot → (shared : Bool) (value : Gv) (rest : Carries)
-        → HasAll γ slot sizes.participants 1 (IsValue value) rest me.1 → AllowsAlone (Housed γ sizes) slots id me (HousesMoved shared me)
-    may_house slot inside moves mine shared value rest row = let within : slot < me.0.sizes.slots = (let e = ap (λ (z : Sizes). z.slots) same in omega arith) in
-        alone_known (HousesMoved shared me) (λ s h long at.
-        let a = steps.houses slots id me live slot within moves mine shared value rest (row_as_known slot 1 (IsValue value) rest row) s h long at in (
-          a.0,
-          a.1,
-          a.2,
-          a.3,
-          (λ other m. subst (λ (t : ℕ × Gv). Houses t.0 shared t.1 me (a.0, carried_after me.1 a.1))
-              (λ d. (one_slot_moved me.0 slot other moves m d, sym (last_shown γ slot sizes.participants value rest me.1 row) d)) a.4),
-        ))
+    -- with the bank
+    module _ (bd : ℕ) (slot : ℕ) (inside : slot < sizes.slots) where
+      abbrev Deals : (List Lot → Lot → List Lot → Type 0) → (Lot → Type 0) → (Lot → Mine → Type 0) → Type 0
+      Deals Goes = AllowsDeal (Housed γ sizes) Goes IsBank banked slots id me bd
 
-    pub may_take_last : (slot : ℕ) → slot < sizes.slots → me.0.slots.owns ≡ slot ∷ [] → me.0.stakes.moves ≡ None
-        → AllowsAlone (Housed γ sizes) slots id me (TakesOwned me)
-    may_take_last slot inside owns rests = let within : slot < me.0.sizes.slots = (let e = ap (λ (z : Sizes). z.slots) same in omega arith) in
-        alone_known (TakesOwned me) (λ s h long at. let a = steps.takes_last slots id me live slot within rests (owns_it me.0 slot owns) s h long at in (
-          a.0,
-          a.1,
-          a.2,
-          a.3,
-          (λ other is. let one : slot ≡ other = ap first_slot (sym owns ∙ is) in
-              subst (λ (k : ℕ). (value : Gv) → IsIn me.0.stakes.owns k value → TakesLast k value me (a.0, carried_after me.1 a.1)) one a.4),
-        ))
-      where
-        first_slot : List ℕ → ℕ
-        first_slot [] = 0
-        first_slot (k ∷ ks) = k
+      deal_known : (Goes : List Lot → Lot → List Lot → Type 0) (Offered : Lot → Type 0) (Then : Lot → Mine → Type 0)
+          → AllowsDeal (Housed me.0.stakes.book me.0.sizes) Goes IsBank banked slots id me bd Offered Then → Deals Goes Offered Then
+      deal_known Goes Offered Then =
+          subst (λ (t : ℕ × Sizes). AllowsDeal (Housed t.0 t.1) Goes IsBank banked slots id me bd Offered Then) (λ d. (book d, same d))
+
+      known_slot : slot < me.0.sizes.slots
+      known_slot = let e = ap (λ (z : Sizes). z.slots) same in omega arith
+
+      abbrev n : ℕ
+      n = sizes.participants
+
+      pub may_house : Moves me.0 slot → OwnsAlone me.0 slot → (shared : Bool) (value : Gv) (rest : Carries)
+          → HasAll γ slot n (spare n) (IsValue value) rest me.1 → (l : Lot) → l ≡ lot γ slot l.round l.shown (spare n - 1)
+          → Deals Comes (λ k. k ≡ l) (λ _. HousesMoved shared me)
+      may_house moves mine shared value rest row l is = deal_known Comes (λ k. k ≡ l) (λ _. HousesMoved shared me) (λ s b h long at there ours ne.
+          let known = subst (λ (z : Sizes). HasAll me.0.stakes.book slot me.0.sizes.participants (spare z.participants) (IsValue value) rest me.1) (sym same)
+          (row_as_known slot (spare n) (IsValue value) rest row) in
+          let lot_known = subst (λ (t : ℕ × Sizes). l ≡ lot t.0 slot l.round l.shown (spare t.1.participants - 1)) (λ d. (sym book d, sym same d)) is in
+          let a = steps.houses slots id me live slot known_slot bd moves mine shared value rest known l lot_known s b h long at there ours ne in record {
+            view = a.view;
+            bank = a.bank;
+            lot = a.lot;
+            act = a.act;
+            valid = a.valid;
+            holds = a.holds;
+            ours = a.ours;
+            goes = a.goes;
+            offered = a.offered;
+            then = λ other m. subst (λ (t : ℕ × Gv). Houses t.0 shared t.1 me (a.view, carried_after me.1 a.act))
+                (λ d. (one_slot_moved me.0 slot other moves m d, sym (last_shown γ slot n (spare n) value rest me.1 row) d)) a.then;
+          })
+
+      pub may_enter_unit : OwnsAlone me.0 slot → (others : List ℕ) → me.0.slots.drawn ≡ slot ∷ others → (l : Lot) → l ≡ lot γ slot l.round l.shown 1
+          → Deals Comes (λ k. k ≡ l) (λ _. EntersUnit me)
+      may_enter_unit mine others drawn l is = deal_known Comes (λ k. k ≡ l) (λ _. EntersUnit me)
+          (steps.enters_unit slots id me live slot known_slot bd mine others drawn l
+          (subst (λ (b : ℕ). l ≡ lot b slot l.round l.shown 1) (sym book) is))
+
+      pub may_take_out : me.0.stakes.moves ≡ None → IsDue me.0 slot → Deals Leaves (λ _. Unit {0}) (λ l me'. TakesOut slot me me' × IsDeposit slot me l)
+      may_take_out rests due = deal_known Leaves (λ _. Unit {0}) (λ l me'. TakesOut slot me me' × IsDeposit slot me l)
+          (steps.takes_out slots id me live slot known_slot bd rests due)
+
+      pub may_take_held : me.0.stakes.moves ≡ None → me.0.slots.owns ≡ slot ∷ [] → me.0.slots.drawn ≡ [] → Holds me.0 slot → n ≤ me.0.slots.looked
+          → Deals Leaves (λ _. Unit {0}) (λ l me'. TakesHeld slot me me' × IsDeposit slot me l)
+      may_take_held rests mine drawn held all = deal_known Leaves (λ _. Unit {0}) (λ l me'. TakesHeld slot me me' × IsDeposit slot me l)
+          (steps.takes_held slots id me live slot known_slot bd rests mine drawn held
+          (let e = ap (λ (z : Sizes). z.participants) same in omega arith))
 
     -- beside an owner's token
     beside_known : (jd : ℕ) (w : View) (told : Mine → Type 0) → AllowsBeside (Housed me.0.stakes.book me.0.sizes) slots id me jd w told
@@ -333,27 +357,10 @@ module _ (γ : ℕ) (sizes : Sizes) (slots id : ℕ) (me : Mine) where
       pub may_look : May i (λ x. x) (Told (AtSlot LooksAtSlot i) me)
       may_look = at_slot (λ x. x) (λ j. Told (AtSlot LooksAtSlot j) me) (steps.looks slots id me live slot within)
 
-      pub may_retire : me.0.slots.owns ≡ slot ∷ [] → ¬ (Holds me.0 slot) → Settles me.0 slot → (value : Gv) → IsIn me.0.stakes.owns slot value
-          → (rest : Carries) → HasLast γ slot sizes.participants 0 (IsValue value) rest me.1
-          → May i (λ _. waiting_word 0) (λ _. OfSlot RetiresOne i me (waiting_word 0))
-      may_retire mine free settles value told rest row = at_slot (λ _. waiting_word 0) (λ j _. OfSlot RetiresOne j me (waiting_word 0))
-          (steps.retires slots id me live slot within mine free settles value told rest
-          (subst (λ (t : ℕ × Sizes). HasLast t.0 slot t.1.participants 0 (IsValue value) rest me.1) (λ d. (sym book d, sym same d)) row))
-
-      -- a step on no word, taken with a load of the slot's
-      by_load : (R : ℕ → Mine → Mine → Type 0) → AllowsAlone (Housed me.0.stakes.book me.0.sizes) slots id me (R slot me)
-          → May i (λ x. x) (OfSlot (λ slot me _. R slot me) i me)
-      by_load R step = at_slot (λ x. x) (λ j. OfSlot (λ slot me _. R slot me) j me) (λ s h long at small. let a = step s h long at in (
-        a.0,
-        a.1,
-        a.2,
-        subst (λ (ws : List ℕ). Housed me.0.stakes.book me.0.sizes record { words = ws; homes = homes_after s.homes me.1 a.1; views = set s.views id a.0 })
-            (sym (set-get_or s.words (slot_word me.0.sizes slot) 0)) a.3,
-        (λ other is. let same : slot ≡ other = omega arith in subst (λ (k : ℕ). R k me (a.0, carried_after me.1 a.1)) same a.4),
-      ))
-
-      pub may_take_out : me.0.stakes.moves ≡ None → IsDue me.0 slot → May i (λ x. x) (OfSlot (λ slot me _. TakesOut slot me) i me)
-      may_take_out rests due = by_load TakesOut (steps.takes_out slots id me live slot within rests due)
+      pub may_retire : me.0.slots.owns ≡ slot ∷ [] → ¬ (Holds me.0 slot) → me.0.slots.drawn ≡ [] → me.0.stakes.moves ≡ None → (value : Gv)
+          → IsIn me.0.stakes.owns slot value → May i (λ _. waiting_word 0) (λ _. OfSlot RetiresOne i me (waiting_word 0))
+      may_retire mine free drawn rests value told = at_slot (λ _. waiting_word 0) (λ j _. OfSlot RetiresOne j me (waiting_word 0))
+          (steps.retires slots id me live slot within mine free drawn rests value told)
 
       pub may_give_back : Moves me.0 slot → IsDue me.0 slot → (rest : Carries) → HasAll γ slot sizes.participants 0 IsVacant rest me.1
           → May i (λ _. free_word 0) (λ _. OfSlot GivesAll i me (free_word 0))
@@ -366,14 +373,17 @@ module _ (γ : ℕ) (sizes : Sizes) (slots id : ℕ) (me : Mine) where
       pub may_let_go : Holds me.0 slot → May i (λ x. x) (Told (AtSlot LetsGo i) me)
       may_let_go held = at_slot (λ x. x) (λ j. Told (AtSlot LetsGo j) me) (steps.lets_go slots id me live slot within held)
 
-      pub may_take_held : me.0.stakes.moves ≡ None → me.0.slots.owns ≡ slot ∷ [] → Holds me.0 slot → sizes.participants ≤ me.0.slots.looked
-          → May i (λ x. x) (OfSlot (λ slot me _. TakesHeld slot me) i me)
-      may_take_held rests mine held all = by_load TakesHeld (steps.takes_held slots id me live slot within rests mine held (all_looked all))
-
       pub may_discard : Moves me.0 slot → Holds me.0 slot → sizes.participants ≤ me.0.slots.looked → (rest : Carries)
           → HasAll γ slot sizes.participants 0 IsVacant rest me.1 → May i (λ _. free_word 0) (λ _. OfSlot DiscardsAll i me (free_word 0))
       may_discard moves held all rest row = at_slot (λ _. free_word 0) (λ j _. OfSlot DiscardsAll j me (free_word 0))
           (steps.discards slots id me live slot within moves held (all_looked all) rest (row_known IsVacant rest row))
+
+-- the bank is of the board's plan
+pub as_banked : (b : Board) (Goes : List Lot → Lot → List Lot → Type 0) (slots id : ℕ) (me : Mine) (bd : ℕ) (Offered : Lot → Type 0)
+    (Then : Lot → Mine → Type 0) → AllowsDeal (Housed (book_of b) (sizes_of b)) Goes IsBank banked slots id me bd Offered Then
+    → AllowsDeal (Housed b.bank.key.title.book b.bank.key.sizes) Goes IsBank banked slots id me bd Offered Then
+as_banked b Goes slots id me bd Offered Then =
+    subst (λ (k : Plan). AllowsDeal (Housed k.title.book k.sizes) Goes IsBank banked slots id me bd Offered Then) (sym b.banked.1)
 
 -- the token after a step that takes or gives stakes
 pub moved_at : (s t : Seat Stake View) (r : ℕ) → t.table_id ≡ s.table_id → t.id ≡ s.id → (R : ℕ → Mine → ℕ → Mine → Type 0) (i slot : ℕ) (sizes : Sizes)

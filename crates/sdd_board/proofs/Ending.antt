@@ -9,9 +9,7 @@ use Rattle.atomic_table.specs.declared.owned.Closed.{Closed}
 use Rattle.sdd_stakes.specs.declared.stake.Stake.{Stake}
 use Rattle.sdd_views.specs.declared.View.{View}
 use Rattle.sdd_views.specs.declared.Sizes.{Sizes}
-use Rattle.sdd_rule.specs.Codes.{alive}
-use Rattle.sdd_rule.specs.Slots.{slot_at}
-use Rattle.sdd_homes.specs.Homes.{stake_at, homes_for, share, Has, IsShown, AreHome}
+use Rattle.sdd_homes.specs.Homes.{stake_at, homes_for, share, away, full_at, Has, IsShown, AreHome}
 use Rattle.sdd_homes.specs.Housed.{Housed}
 use Rattle.sdd_homes.proofs.Tokens.{all_home}
 
@@ -27,8 +25,12 @@ home_at_end γ sizes closed id v all fin full = let n : ℕ = sizes.participants
     let deep = h.homes.deep in record {
       laid = record {
         long = sym long ∙ deep;
-        each = λ i p near low. let inside = slot_low n sizes.slots i p low in let a = all_home γ sizes s h id v fin.1.1 all i p inside near in
-            (a.0, fin.4 (stake_at n i p) a.0 a.1, subst (λ (ws : List ℕ). Has γ i (share n (alive (slot_at sizes ws i)) p) (IsShown (slot_at sizes ws i)) a.0) fin.2 a.2);
+        each = λ i p near low. let inside = slot_low n sizes.slots i p low in let a = all_home γ sizes s h id v fin.1.1 all i p inside near in (
+          a.0,
+          fin.4 (stake_at n i p) a.0 a.1,
+          subst (λ (ws : List ℕ). Has γ i (share n (away n (full_at sizes ws i)) p) (IsShown
+              (full_at sizes ws i)) a.0) fin.2 a.2,
+        );
       };
       low = omega arith;
       here = λ j low. full j (omega arith) low;

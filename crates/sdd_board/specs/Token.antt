@@ -11,8 +11,8 @@ use Rattle.sdd_rule.specs.SlotSteps.{changed}
 use Rattle.sdd_stakes.specs.declared.stake.Stake.{Stake}
 use Rattle.sdd_views.specs.Views.{owner_of}
 use Rattle.sdd_homes.specs.Homes.{Carries, Moves}
-use Rattle.sdd_homes.specs.Records.{IsIn}
-use Rattle.sdd_homes.specs.HomeSteps.{Mine, Houses, TakesLast, Watches, Recalls, ClosesHome}
+use Rattle.sdd_homes.specs.Banked.{founded}
+use Rattle.sdd_homes.specs.HomeSteps.{Mine, Houses, Watches, Recalls, ClosesHome}
 use Rattle.sdd_board.specs.declared.board.Board.{Board}
 use Rattle.sdd_board.specs.Board.{sizes_of, book_of}
 
@@ -30,9 +30,9 @@ module _ {S : Type 0} where
   abbrev pub words_known : Seat S View → List ℕ
   words_known s = s.me.0.words
 
-  -- a new token, which is as the first one
+  -- a new token, which is as the first one, but may not found the bank
   abbrev pub Sits : Step S → Me S View → ℕ → Me S View → Type 0
-  Sits st m r m' = m' ≡ m
+  Sits st m r m' = m' ≡ (founded m.0, m.1)
 
   -- a step that tells R: of what was known before, the number found and what is known after
   abbrev pub Told : (View → ℕ → View → Type 0) → Me S View → ℕ → Me S View → Type 0
@@ -75,10 +75,6 @@ shown_last (x ∷ xs) = x.1.lot.shown
 -- the value of the slot that it moves was moved in, for an owner that may be one of several
 abbrev pub HousesMoved : Bool → Mine → Mine → Type 0
 HousesMoved shared me me' = (slot : ℕ) → Moves me.0 slot → Houses slot shared (shown_last me.1) me me'
-
--- the last stake in the one slot that it owns is out
-abbrev pub TakesOwned : Mine → Mine → Type 0
-TakesOwned me me' = (slot : ℕ) → me.0.slots.owns ≡ slot ∷ [] → (value : Gv) → IsIn me.0.stakes.owns slot value → TakesLast slot value me me'
 
 -- a guard sees a slot beside the token of its owner
 abbrev pub WatchesOwned : View → Mine → Mine → Type 0

@@ -9,9 +9,10 @@ ghost use Rattle.sdd_homes.specs.Homes.{AreLaid, AreHome};
 ghost use Rattle.sdd_homes.specs.Counts.{made_by, gone_by, over_by, full_slots};
 ghost use Rattle.sdd_board.specs.Sizes.{AreSmall};
 
+use crate::plays::Found;
 use crate::words::{first_slot, word_count};
 use atomic_table::{Closed, Refused, Seat, Table, TableRule};
-use sdd_stakes::{Stake, Title};
+use sdd_stakes::{Bank, Stake, Title, Treasury};
 use sdd_views::{Sizes, View};
 use std::alloc::Global;
 
@@ -26,12 +27,23 @@ pub struct Plan {
 pub struct Rule;
 
 impl TableRule<Stake, View, Plan> for Rule {
-    ghost use Rattle.sdd_rule.specs.Parts.{idle};
+    ghost use Rattle.sdd_homes.specs.Banked.{founder};
     ghost use Rattle.sdd_homes.specs.Housed.{Housed};
 
     ghost holds = { λ plan s. Housed plan.title.book plan.sizes s };
 
-    ghost first = { λ plan. idle plan.sizes plan.title.book };
+    ghost first = { λ plan. founder plan.sizes plan.title.book };
+}
+
+/// How the bank's view tells what it has.
+pub struct Vault;
+
+impl Treasury<View> for Vault {
+    ghost use Rattle.sdd_homes.specs.Banked as bank;
+
+    ghost ours = { bank.IsBank };
+
+    ghost banked = { bank.banked };
 }
 
 /// What a participant knows of the words, and the stakes that it has out.
@@ -41,10 +53,13 @@ pub type Token = Seat<Stake, View>;
 #[derive(Drop)]
 pub struct Board {
     pub table: Table<Stake, View, Plan, Rule, Global>,
+    /// What is of the values that lie in slots, and neither in their stakes nor with their owners.
+    pub bank: Bank<View, Plan, Rule, Vault>,
     places: usize,
     /// Where the slots' words begin.
     first_slot: usize,
     ghost sized: { AreSmall table.shared.key.sizes × (table.shared.table_id.words ≡ all_words table.shared.key.sizes) },
+    ghost banked: { (bank.table_id ≡ table.shared.table_id) × (bank.key ≡ table.shared.key) },
     ghost placed: { (places ≡ table.shared.key.sizes.participants) × (first_slot ≡ words.first_slot table.shared.key.sizes) },
 }
 
@@ -63,11 +78,15 @@ impl Board {
             return Err(laid);
         };
         match Table::new(alloc, words.as_slice(), laid, plan) {
-            Ok((table, _)) => Ok(Board {
-                table,
-                places: plan.sizes.participants as usize,
-                first_slot: first_slot(&plan.sizes) as usize,
-            }),
+            Ok((table, mut seat)) => {
+                let bank = Bank::found::<Found>(&table.shared, &mut seat);
+                Ok(Board {
+                    table,
+                    bank,
+                    places: plan.sizes.participants as usize,
+                    first_slot: first_slot(&plan.sizes) as usize,
+                })
+            }
             Err(Refused { slots }) => Err(slots),
         }
     }
@@ -103,6 +122,7 @@ impl Board {
     {
         let Board {
             table,
+            bank: _,
             places: _,
             first_slot: _,
         } = self;

@@ -1,15 +1,16 @@
-//! An owner's unit of the number of its value's place: it is cut off the last stake in the slot, and comes back to it.
-ghost use Rattle.std.specs.Prelude.{◌≡◌, ◌<◌};
+//! The last stake in a slot, all of whose stakes a token has: what goes to the bank and with the owner is cut off it, and comes back to it.
+ghost use Rattle.std.specs.Prelude.{◌≡◌, ◌-◌, ◌<◌};
 ghost use base.Stored.{Gv};
-ghost use Rattle.sdd_homes.specs.Homes.{Carries, stake_at};
-ghost use Rattle.sdd_homes.specs.HomeSteps.{HasAll, HasLast, IsValue};
+ghost use Rattle.sdd_stakes.specs.Shelf.{lot};
+ghost use Rattle.sdd_homes.specs.Homes.{Carries, stake_at, spare};
+ghost use Rattle.sdd_homes.specs.HomeSteps.{HasAll, IsValue};
 ghost use Rattle.sdd_board.specs.Board.{id_of, book_of, places_of, slots_of};
 ghost use Rattle.sdd_board.specs.Grips.{IsGripOf, IsUnitOf};
 ghost use Rattle.sdd_board.specs.Token.{view};
 
 use crate::board::{Board, Token};
 use sdd_stakes::Stake;
-use sdd_token::Grip;
+use sdd_token::{Grip, WHOLE};
 
 impl Board {
     /// Where the last stake in a slot is at home.
@@ -20,35 +21,60 @@ impl Board {
     {
         slot as usize * (self.places() + 1) + self.places()
     }
+
+    /// How many units of a value's place are neither its own nor in the stakes at home.
+    #[inline]
+    fn spare(&self) -> u64
+        ensures { result ≡ spare (places_of self.now) }
+    {
+        WHOLE - 2 - self.places() as u64
+    }
 }
 
-/// Cuts a unit off the last stake in a slot, all of whose stakes the token took last: it goes with the slot's owner.
+/// Cuts all units but one off the last stake in a slot, all of whose stakes the token took last: one goes with the slot's owner, the rest to the bank.
 #[inline]
-pub fn cut_grip(board: &Board, token: &mut Token, slot: u32) -> Grip
+pub fn cut_rest(board: &Board, token: &mut Token, slot: u32) -> (Grip, Stake)
     requires home { token.old.table_id ≡ id_of board.now }
     requires inside { slot < slots_of board.now }
-    requires row { (value : Gv) × (rest : Carries) × HasAll (book_of board.now) slot (places_of board.now) 0 (IsValue value) rest token.old.me.1 }
+    requires row { (value : Gv) × (others : Carries) × HasAll (book_of board.now) slot (places_of board.now) 0 (IsValue value) others token.old.me.1 }
     ensures token { (token.new.table_id ≡ token.old.table_id) × (token.new.id ≡ token.old.id) × (view token.new ≡ view token.old) }
-    ensures row { (value : Gv) (rest : Carries) → HasAll (book_of board.now) slot (places_of board.now) 0 (IsValue value) rest token.old.me.1
-        → HasAll (book_of board.now) slot (places_of board.now) 1 (IsValue value) rest token.new.me.1 × IsGripOf (book_of board.now) slot value result }
+    ensures row { (value : Gv) (others : Carries) → HasAll (book_of board.now) slot (places_of board.now) 0 (IsValue value) others token.old.me.1
+        → HasAll (book_of board.now) slot (places_of board.now) (spare (places_of board.now)) (IsValue value) others token.new.me.1
+        × IsGripOf (book_of board.now) slot value result.0 }
+    ensures rest { result.1.lot ≡ lot (book_of board.now) slot result.1.lot.round result.1.lot.shown (spare (places_of board.now) - 1) }
 {
     let home = board.last_home(slot);
     let last = token.slot_mut(&board.table.shared, home);
-    last.split(1).into_grip()
+    let mut rest = last.split(board.spare());
+    let grip = rest.split(1).into_grip();
+    (grip, rest)
 }
 
-/// An owner's unit comes back to the last stake in its slot, which the token took last.
+/// All units but those at home come back to the last stake in a slot, all of whose stakes the token took last.
 #[inline]
-pub fn join_grip(board: &Board, token: &mut Token, slot: u32, grip: Grip)
+pub fn join_rest(board: &Board, token: &mut Token, slot: u32, rest: Stake)
     requires home { token.old.table_id ≡ id_of board.now }
     requires inside { slot < slots_of board.now }
-    requires unit { IsUnitOf (book_of board.now) slot grip }
-    requires last { (value : Gv) × (rest : Carries) × HasLast (book_of board.now) slot (places_of board.now) 1 (IsValue value) rest token.old.me.1 }
+    requires rest { rest.lot ≡ lot (book_of board.now) slot rest.lot.round rest.lot.shown (spare (places_of board.now)) }
+    requires row { (value : Gv) × (others : Carries)
+        × HasAll (book_of board.now) slot (places_of board.now) (spare (places_of board.now)) (IsValue value) others token.old.me.1 }
     ensures token { (token.new.table_id ≡ token.old.table_id) × (token.new.id ≡ token.old.id) × (view token.new ≡ view token.old) }
-    ensures last { (value : Gv) (rest : Carries) → HasLast (book_of board.now) slot (places_of board.now) 1 (IsValue value) rest token.old.me.1
-        → HasLast (book_of board.now) slot (places_of board.now) 0 (IsValue value) rest token.new.me.1 }
+    ensures row { (value : Gv) (others : Carries)
+        → HasAll (book_of board.now) slot (places_of board.now) (spare (places_of board.now)) (IsValue value) others token.old.me.1
+        → HasAll (book_of board.now) slot (places_of board.now) 0 (IsValue value) others token.new.me.1 }
 {
     let home = board.last_home(slot);
     let last = token.slot_mut(&board.table.shared, home);
-    last.join(Stake::of_grip(grip));
+    last.join(rest);
+}
+
+/// An owner's unit, as a stake.
+#[inline]
+pub fn unit_of(board: &Board, slot: u32, grip: Grip) -> Stake
+    requires { IsUnitOf (book_of board.now) slot grip }
+    ensures { result.lot ≡ lot (book_of board.now) slot result.lot.round result.lot.shown 1 }
+{
+    let _ = board;
+    let _ = slot;
+    Stake::of_grip(grip)
 }

@@ -4,13 +4,14 @@ ghost use Rattle.sdd_rule.specs.Steps.{Registers, Reads, Counts, Locks, LooksAtL
 ghost use Rattle.sdd_rule.specs.SlotSteps.{OnEpoch, PublishesAll, LooksAtSlot, TakesHold, LetsGo, LooksForGuard, AtSlot};
 ghost use Rattle.sdd_rule.specs.Ended.{Bars, LooksForValue};
 ghost use Rattle.sdd_views.specs.Views.{owner_token};
-ghost use Rattle.sdd_homes.specs.HomeSteps.{ClaimsAll, TakesOut, TakesHeld, RetiresOne, GivesAll, DiscardsAll, ClosesHome, EndsAll, OfSlot, parting, departing, regained, uncounting, counts_of, counting};
-ghost use Rattle.sdd_board.specs.Token.{Sits, Told, HousesMoved, TakesOwned, WatchesOwned, RecallsOwned};
+ghost use Rattle.sdd_homes.specs.Banked.{founded, bank_of};
+ghost use Rattle.sdd_homes.specs.HomeSteps.{ClaimsAll, TakesOut, TakesHeld, IsDeposit, RetiresOne, GivesAll, DiscardsAll, ClosesHome, EndsAll, EntersUnit, OfSlot, parting, departing, regained, uncounting, counts_of, counting};
+ghost use Rattle.sdd_board.specs.Token.{Sits, Told, HousesMoved, WatchesOwned, RecallsOwned};
 
 use atomic_table::{Join, Play, Split};
-use sdd_stakes::Stake;
+use sdd_stakes::{Deals, Stake};
 use sdd_views::View;
-use sdd_witness::{Alone, Beside};
+use sdd_witness::Beside;
 
 pub struct Sit;
 
@@ -104,20 +105,20 @@ impl Play<Stake, View> for Claim {
 
 pub struct House;
 
-impl Alone<Stake, View> for House {
-    ghost then = { HousesMoved false };
+impl Deals<View> for House {
+    ghost then = { λ _ me _. HousesMoved false me };
 }
 
 pub struct HouseShared;
 
-impl Alone<Stake, View> for HouseShared {
-    ghost then = { HousesMoved true };
+impl Deals<View> for HouseShared {
+    ghost then = { λ _ me _. HousesMoved true me };
 }
 
-pub struct TakeLast;
+pub struct EnterUnit;
 
-impl Alone<Stake, View> for TakeLast {
-    ghost then = { TakesOwned };
+impl Deals<View> for EnterUnit {
+    ghost then = { λ _ me _. EntersUnit me };
 }
 
 pub struct Retire;
@@ -128,14 +129,14 @@ impl Play<Stake, View> for Retire {
 
 pub struct TakeOut;
 
-impl Play<Stake, View> for TakeOut {
-    ghost then = { λ step. OfSlot (λ slot me _. TakesOut slot me) step.word };
+impl Deals<View> for TakeOut {
+    ghost then = { λ slot me l me'. TakesOut slot me me' × IsDeposit slot me l };
 }
 
 pub struct TakeHeld;
 
-impl Play<Stake, View> for TakeHeld {
-    ghost then = { λ step. OfSlot (λ slot me _. TakesHeld slot me) step.word };
+impl Deals<View> for TakeHeld {
+    ghost then = { λ slot me l me'. TakesHeld slot me me' × IsDeposit slot me l };
 }
 
 pub struct GiveBack;
@@ -190,6 +191,14 @@ pub struct LookForValue;
 
 impl Play<Stake, View> for LookForValue {
     ghost then = { λ _. Told LooksForValue };
+}
+
+pub struct Found;
+
+impl Split<View> for Found {
+    ghost left = { founded };
+
+    ghost right = { bank_of };
 }
 
 pub struct Part;

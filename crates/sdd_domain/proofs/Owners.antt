@@ -9,8 +9,8 @@ use Rattle.sdd_views.specs.declared.Sizes.{Sizes}
 use Rattle.sdd_views.specs.declared.View.{View}
 use Rattle.sdd_rule.specs.SlotSteps.{first, others}
 use Rattle.sdd_views.specs.Views.{owner_of, owner_token, at_rest}
-use Rattle.sdd_homes.specs.Homes.{Carries, Moves}
-use Rattle.sdd_homes.specs.HomeSteps.{HasAll, IsValue, Houses, parting, departing, resting, telling}
+use Rattle.sdd_homes.specs.Homes.{Carries, Moves, spare}
+use Rattle.sdd_homes.specs.HomeSteps.{HasAll, IsValue, Houses, parting, departing, resting, telling, drawing}
 use Rattle.sdd_board.specs.declared.board.Board.{Board}
 use Rattle.sdd_board.specs.Board.{book_of, places_of}
 use Rattle.sdd_board.specs.Owner.{disowned}
@@ -19,13 +19,13 @@ use Rattle.sdd_domain.specs.Values.{with_filled}
 use Rattle.sdd_domain.proofs.Moving.{row_after, rest_out}
 
 module _ (slot : ℕ) (shared : Bool) (value : Gv) (v : View) (owns : v.slots.owns ≡ slot ∷ []) (told : v.stakes.owns ≡ []) where
-  pub parted_view : parting (resting (telling slot shared value v)) ≡ disowned (resting (with_filled slot shared value v))
+  pub parted_view : parting (resting (telling slot shared value (drawing slot v))) ≡ disowned (resting (with_filled slot shared value v))
   parted_view = λ d. record v {
     slots = record v.slots { owns = ap others owns d };
     stakes = record v.stakes { moves = None; owns = sym told d; filled = record { slot = slot; shared = shared; value = value } ∷ v.stakes.filled };
   }
 
-  pub departed_view : departing (resting (telling slot shared value v)) ≡ owner_of slot shared value
+  pub departed_view : departing (resting (telling slot shared value (drawing slot v))) ≡ owner_of slot shared value
   departed_view = λ d. record (owner_token (ap first owns d) []) {
     stakes = record (at_rest 0) { owns = record { slot = slot; shared = shared; value = value } ∷ told d };
   }
@@ -34,11 +34,12 @@ module _ (slot : ℕ) (shared : Bool) (value : Gv) (v : View) (owns : v.slots.ow
 pub record IsFurnished (n slot : ℕ) (shared : Bool) (value : Gv) (s t : Seat Stake View) : Type 0 where
   pub table : t.table_id ≡ s.table_id
   pub number : t.id ≡ s.id
-  pub view : t.me.0 ≡ resting (telling slot shared value s.me.0)
+  pub view : t.me.0 ≡ resting (telling slot shared value (drawing slot s.me.0))
   pub given : t.me.1 ≡ drop (suc n) s.me.1
 
--- so it is after the value was moved in, the owner's unit was cut off, and the step that tells of it
-module _ (b : Board) (slot count : ℕ) (shared : Bool) (value : Gv) (s p c t : Seat Stake View) (knows : Knows b s) (all : count ≡ places_of b + 1) (moves : Moves (view s) slot)
+-- so it is after the value was moved in, all units but those of the stakes were cut off, and the step that tells of it
+module _ (b : Board) (slot count : ℕ) (shared : Bool) (value : Gv) (s p c t : Seat Stake View) (knows : Knows b s) (all : count ≡ places_of b + 1)
+    (moves : Moves (view s) slot)
     (rest : Carries) (row : HasAll (book_of b) slot (places_of b) 0 IsVacant rest s.me.1) (a : ℕ) (full : IsFull value)
     (put : p ≡ record s { me = (s.me.0, all_turned a value count s.me.1) }) where
   pub row_put : HasAll (book_of b) slot (places_of b) 0 (IsValue value) rest p.me.1
@@ -52,14 +53,15 @@ module _ (b : Board) (slot count : ℕ) (shared : Bool) (value : Gv) (s p c t : 
     pub moves_cut : Moves (view c) slot
     moves_cut = ap (λ (v : View). v.stakes.moves) view_cut ∙ moves
 
-    module _ (left : HasAll (book_of b) slot (places_of b) 1 (IsValue value) rest c.me.1) where
-      pub furnished : ((slot : ℕ) (g : Gv) (rest : Carries) → Moves (view c) slot → HasAll (book_of b) slot (places_of b) 1 (IsValue g) rest c.me.1
-          → MovedAlone (Houses slot shared g) c t) → IsFurnished (places_of b) slot shared value s t
+    module _ (left : HasAll (book_of b) slot (places_of b) (spare (places_of b)) (IsValue value) rest c.me.1) where
+      pub furnished : ((slot : ℕ) (g : Gv) (rest : Carries) → Moves (view c) slot
+          → HasAll (book_of b) slot (places_of b) (spare (places_of b)) (IsValue g) rest c.me.1 → MovedAlone (Houses slot shared g) c t)
+          → IsFurnished (places_of b) slot shared value s t
       furnished housed = let h = housed slot value rest moves_cut left in record {
         table = h.0 ∙ (cut.0 ∙ ap (λ (s : Seat Stake View). s.table_id) put);
         number = h.1 ∙ (cut.1 ∙ ap (λ (s : Seat Stake View). s.id) put);
-        view = h.2.0 ∙ ap (λ (v : View). resting (telling slot shared value v)) view_cut;
-        given = rest_out (book_of b) slot (places_of b) c.me.0.sizes.participants 1 (IsValue value) rest c.me.1 t.me.1
+        view = h.2.0 ∙ ap (λ (v : View). resting (telling slot shared value (drawing slot v))) view_cut;
+        given = rest_out (book_of b) slot (places_of b) c.me.0.sizes.participants (spare (places_of b)) (IsValue value) rest c.me.1 t.me.1
             (ap (λ (v : View). v.sizes.participants) view_cut ∙ ap (λ (z : Sizes). z.participants) knows.0) left h.2.1
             ∙ sym (rest_out (book_of b) slot (places_of b) (places_of b) 0 IsVacant rest s.me.1 (drop (suc (places_of b)) s.me.1) refl row refl);
       }

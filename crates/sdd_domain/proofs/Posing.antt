@@ -31,7 +31,7 @@ use Rattle.sdd_rule.specs.Codes.{owned_word}
 use Rattle.sdd_homes.specs.Homes.{Carries, Has, stake_at}
 use Rattle.sdd_homes.specs.Records.{slot_shown, IsIn}
 use Rattle.sdd_homes.proofs.Records.{in_head, in_either, in_times}
-use Rattle.sdd_homes.specs.HomeSteps.{Mine, IsValue, Watches, Recalls, regained, remembering, resting, with_made}
+use Rattle.sdd_homes.specs.HomeSteps.{Mine, IsValue, Watches, Recalls, regained, undrawing, remembering, resting, with_made}
 use Rattle.sdd_board.specs.Board.{book_of, places_of, slots_of}
 use Rattle.sdd_board.specs.Token.{view, epoch, slots, Taught, Moved, MovedAlone}
 use Rattle.sdd_board.specs.Owner.{disowned}
@@ -75,7 +75,7 @@ module _ (b : Board) (p : ℕ) where
 
   -- what is known once the item of an owner that was taken in waits
   retired_view : (slot y count : ℕ) (shared : Bool) (value : Gv) (v : View) → v.slots.owns ≡ [] → v.stakes.owns ≡ []
-      → remembering (retired slot y count (regained v (owner_of slot shared value))) ≡ waiting_too slot shared value y count v
+      → remembering (retired slot y count (undrawing (regained v (owner_of slot shared value)))) ≡ waiting_too slot shared value y count v
   retired_view slot y count shared value v owns told =
       let none : without slot (slot ∷ v.slots.owns) ≡ v.slots.owns = ap (λ (l : List ℕ). without slot (slot ∷ l)) owns
       ∙ (ap (λ (c : Bool). cond (not c) (slot ∷ []) []) (eq-eqb slot slot refl) ∙ sym owns) in
@@ -97,7 +97,8 @@ module _ (b : Board) (p : ℕ) where
   retires_to own slot shared value s t u q took e = let r = e.2.1 in let v : View = view s in let v' : View = regained v (owner_of slot shared value) in
       let epochs : epoch t ≡ epoch s = ap (λ (w : View). w.epoch) took.3 in (
         r.0,
-        e.2.2 ∙ (ap remembering (r.3 ∙ ap (retired slot 4 r.0) took.3) ∙ retired_view slot 4 r.0 shared value v q.quiet.owns q.sight.owns),
+        e.2.2 ∙ (ap remembering (r.3 ∙ ap (λ (w : View). retired slot 4 r.0
+            (undrawing w)) took.3) ∙ retired_view slot 4 r.0 shared value v q.quiet.owns q.sight.owns),
         subst (λ (x : EpochView). x.known ≤ r.0) epochs r.1,
         subst (λ (x : EpochView). IsLone x → r.0 ≡ x.known) epochs r.2,
         subst (λ (x : EpochView). IsOpen x → r.0 ≤ x.since + 1) epochs r.4,
@@ -125,7 +126,7 @@ module _ (b : Board) (p : ℕ) where
         free = q.free;
         knows = q.knows;
         found = q.found;
-        quiet = record { owns = q.quiet.owns; shares = q.quiet.shares; holds = q.quiet.holds; looked = q.quiet.looked };
+        quiet = record { owns = q.quiet.owns; shares = q.quiet.shares; drawn = q.quiet.drawn; holds = q.quiet.holds; looked = q.quiet.looked };
         waiting = λ i some_wait. dite (ℕ_discrete slot i) (λ e. subst (λ (k : ℕ). k < slots_of b) e low)
             (λ ne. q.waiting i (let o = is_other i slot ne in let t = total_snoc (waits_in i) s.me.0.slots.waits (retired_now slot r.0) in omega arith));
         bags = ap (λ (l : List Waiting). l ++ fresh (Item slot) ∷ []) q.bags ∙ sym (unripe_too (retired_now slot r.0) refl s.me.0.slots.waits);
@@ -155,7 +156,7 @@ module _ (b : Board) (p : ℕ) where
         free = q.free;
         knows = q.knows;
         found = q.found;
-        quiet = record { owns = q.quiet.owns; shares = q.quiet.shares; holds = q.quiet.holds; looked = q.quiet.looked };
+        quiet = record { owns = q.quiet.owns; shares = q.quiet.shares; drawn = q.quiet.drawn; holds = q.quiet.holds; looked = q.quiet.looked };
         waiting = λ i some_wait. q.waiting i (let m = no_more slot i s.me.0.slots.waits in omega arith);
         bags = q.bags ∙ ap (map waiting_of) (sym goes.1);
         room = q.room;
@@ -195,7 +196,7 @@ module _ (b : Board) (p : ℕ) where
         free = q.free;
         knows = (sizes ∙ q.knows.0, ap (λ (k : StakesView). k.book) stakes ∙ q.knows.1);
         found = sym found;
-        quiet = record { owns = q.quiet.owns; shares = q.quiet.shares; holds = q.quiet.holds; looked = q.quiet.looked };
+        quiet = record { owns = q.quiet.owns; shares = q.quiet.shares; drawn = q.quiet.drawn; holds = q.quiet.holds; looked = q.quiet.looked };
         waiting = λ i some_wait. q.waiting i (let f = fewer i in omega arith);
         bags = bags;
         room = room ∙ q.room;
@@ -207,7 +208,8 @@ module _ (b : Board) (p : ℕ) where
   pub made_view : (own : Participant) (slot : ℕ) (shared : Bool) (value : Gv) (s t u : Seat Stake View) → IsPosed b p own s → Gains slot s t
       → view u ≡ disowned (resting (with_filled slot shared value (view t)))
       → view u ≡ with_filled slot shared value (with_made (record (view s) { words = noted slot (owned_word 0) (view s) }))
-  made_view own slot shared value s t u q gains is = let v : View = view s in is ∙ (ap (λ (w : View). disowned (resting (with_filled slot shared value w))) gains.view
+  made_view own slot shared value s t u q gains is = let v : View = view s in is ∙ (ap (λ (w : View). disowned (resting
+      (with_filled slot shared value w))) gains.view
       ∙ (λ d. record v {
         slots = record v.slots { owns = sym q.quiet.owns d };
         stakes = record (with_filled slot shared value (with_made v)).stakes { moves = sym q.rests d };
@@ -215,7 +217,8 @@ module _ (b : Board) (p : ℕ) where
       }))
 
   pub posed_makes : (own : Participant) (slot : ℕ) (shared : Bool) (value : Gv) (s t u : Seat Stake View) → IsPosed b p own s → Gains slot s t
-      → u.table_id ≡ t.table_id → view u ≡ disowned (resting (with_filled slot shared value (view t))) → u.me.1 ≡ drop (suc (places_of b)) t.me.1 → IsPosed b p own u × (u.me.1 ≡ s.me.1)
+      → u.table_id ≡ t.table_id → view u ≡ disowned (resting (with_filled slot shared value (view t))) → u.me.1 ≡ drop (suc (places_of b)) t.me.1
+      → IsPosed b p own u × (u.me.1 ≡ s.me.1)
   posed_makes own slot shared value s t u q gains table is given =
       let row = row_out (book_of b) (places_of b) slot s.me t.me.1 q.knows.1 (ap (λ (z : Sizes). z.participants) q.knows.0) gains.row in
       let others : u.me.1 ≡ s.me.1 = rest_out (book_of b) slot (places_of b) (places_of b) 0 IsVacant s.me.1 t.me.1 u.me.1 refl row given in (
@@ -236,7 +239,7 @@ module _ (b : Board) (p : ℕ) where
           free = q.free;
           knows = q.knows;
           found = q.found;
-          quiet = record { owns = q.quiet.owns; shares = q.quiet.shares; holds = q.quiet.holds; looked = q.quiet.looked };
+          quiet = record { owns = q.quiet.owns; shares = q.quiet.shares; drawn = q.quiet.drawn; holds = q.quiet.holds; looked = q.quiet.looked };
           waiting = q.waiting;
           bags = q.bags;
           room = q.room;
@@ -271,7 +274,7 @@ module _ (b : Board) (p : ℕ) where
         free = q.free;
         knows = q.knows;
         found = q.found;
-        quiet = record { owns = q.quiet.owns; shares = q.quiet.shares; holds = q.quiet.holds; looked = q.quiet.looked };
+        quiet = record { owns = q.quiet.owns; shares = q.quiet.shares; drawn = q.quiet.drawn; holds = q.quiet.holds; looked = q.quiet.looked };
         waiting = q.waiting;
         bags = q.bags;
         room = q.room;

@@ -37,6 +37,7 @@ pub record IsNear (v : EpochView) : Type 0 where
 pub record IsQuiet (v : SlotsView) : Type 0 where
   pub owns : v.owns ≡ []
   pub shares : v.shares ≡ []
+  pub drawn : v.drawn ≡ []
   pub holds : v.holds ≡ None
   pub looked : v.looked ≡ 0
 

@@ -5,7 +5,7 @@ use base.Stored.{Gv, gnil, gnum, gcons}
 use denote.RattleType.{RattleType}
 use Rattle.sdd_views.specs.declared.View.{View}
 use Rattle.sdd_rule.specs.SlotSteps.{Retires}
-use Rattle.sdd_homes.specs.HomeSteps.{Mine, IsNewest, remembering}
+use Rattle.sdd_homes.specs.HomeSteps.{Mine, IsNewest, undrawing, remembering}
 use Rattle.sdd_stakes.specs.Shelf.{showing}
 use Rattle.sdd_token.specs.declared.right.Right.{Right}
 use Rattle.sdd_token.specs.Owner.{one-shown}
@@ -34,6 +34,6 @@ with_filled slot shared value v =
 abbrev pub WasFilled : ℕ → Gv → View → Type 0
 WasFilled slot value v = (shared : Bool) × IsNewest slot shared value v
 
--- an owned item waits from now on, and what its owner knew is remembered; its owner's unit has come home
+-- an owned item waits from now on, and what its owner knew is remembered; its owner's unit is in the bank
 abbrev pub LetsWait : ℕ → Mine → ℕ → Mine → Type 0
-LetsWait slot me y me' = (v : View) × Retires slot me.0 y v × (me'.0 ≡ remembering v) × (me'.1 ≡ me.1)
+LetsWait slot me y me' = (v : View) × Retires slot (undrawing me.0) y v × (me'.0 ≡ remembering v) × (me'.1 ≡ me.1)

@@ -22,8 +22,8 @@ ghost use Rattle.sdd_board.specs.Token.{view, epoch, slots, Knows, Taught, Moved
 
 use crate::at_home::AtHome;
 use sdd_base::Item;
-use sdd_board::grips::{cut_grip, join_grip};
-use sdd_board::steps::slots::{cut, give_back, house, retire, take_last, take_out};
+use sdd_board::grips::{cut_rest, join_rest, unit_of};
+use sdd_board::steps::slots::{cut, enter_unit, give_back, house, retire, take_out};
 use sdd_board::{Board, Token};
 use sdd_stakes::Shelf;
 use sdd_token::Grip;
@@ -47,7 +47,7 @@ pub fn put_value<T: Item<T>>(
     requires inside { slot < slots_of board.now }
     requires place { HasPlace (epoch token.old) }
     requires own { Moves (view token.old) slot × ((slots token.old).owns ≡ slot ∷ []) × ((view token.old).stakes.owns ≡ []) }
-    requires free { (slots token.old).holds ≡ None }
+    requires free { ((slots token.old).holds ≡ None) × ((slots token.old).drawn ≡ []) }
     requires row { (rest : Carries) × HasAll (book_of board.now) slot (places_of board.now) 0 IsVacant rest token.old.me.1 }
     ensures home { (token.new.table_id ≡ token.old.table_id) × (token.new.id ≡ token.old.id) }
     ensures view { view token.new ≡ disowned (resting (with_filled slot shared (showing T.row value) (view token.old))) }
@@ -57,26 +57,26 @@ pub fn put_value<T: Item<T>>(
 {
     let count = board.places() + 1;
     shelf.put(slot as usize, token, &board.table.shared, count, value);
-    let grip = cut_grip(board, token, slot);
-    house(board, token, shared);
+    let (grip, rest) = cut_rest(board, token, slot);
+    house(board, token, rest, shared);
     (cut(board, token), grip)
 }
 
-/// Retires the item of an owner that was taken in, whose unit comes back to the last stake in its slot.
+/// Retires the item of an owner that was taken in, whose unit goes to the bank.
 #[inline]
 pub fn let_wait(board: &Board, token: &mut Token, slot: u32, grip: Grip)
     requires home { token.old.table_id ≡ id_of board.now }
     requires knows { Knows board.now token.old }
     requires inside { slot < slots_of board.now }
     requires place { HasPlace (epoch token.old) }
-    requires own { ((slots token.old).owns ≡ slot ∷ []) × ¬ (Holds (view token.old) slot) }
+    requires own { ((slots token.old).owns ≡ slot ∷ []) × ¬ (Holds (view token.old) slot) × ((slots token.old).drawn ≡ slot ∷ []) }
     requires told { (value : Gv) × IsIn (view token.old).stakes.owns slot value }
     requires unit { IsUnitOf (book_of board.now) slot grip }
     requires rests { (view token.old).stakes.moves ≡ None }
     ensures { Moved (LetsWait slot) token.old (waiting_word 0) token.new }
 {
-    take_last(board, token);
-    join_grip(board, token, slot, grip);
+    let unit = unit_of(board, slot, grip);
+    enter_unit(board, token, slot, unit);
     retire(board, token, slot);
 }
 
@@ -98,7 +98,8 @@ pub fn take_value<T: Item<T>>(
     ensures fits { AreOf (home_of_slots (id_of board.now) (book_of board.now) (slots_of board.now)) (T.holds result) }
     ensures lone { IsLone (epoch token.old) → WasFilled slot (showing T.row result) (view token.old) }
 {
-    take_out(board, token, slot);
+    let rest = take_out(board, token, slot);
+    join_rest(board, token, slot, rest);
     let count = board.places() + 1;
     let value = shelf.take(slot as usize, token, &board.table.shared, count);
     give_back(board, token, slot);

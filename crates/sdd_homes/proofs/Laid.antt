@@ -9,8 +9,6 @@ use Rattle.atomic_table.proofs.Lists.{at_longer, at_last}
 use Rattle.sdd_stakes.specs.Stakes.{Lot}
 use Rattle.sdd_stakes.specs.Shelf.{most, lot, vacant, IsWhole, IsVacant, AreVacant}
 use Rattle.sdd_stakes.specs.declared.stake.Stake.{Stake}
-use Rattle.sdd_rule.specs.Codes.{alive, full}
-use Rattle.sdd_rule.proofs.Codes.{sound}
 use Rattle.sdd_homes.specs.Homes.{stake_at, homes_for, share, Has, AreLaidTo}
 use Rattle.sdd_homes.proofs.Places.{one_slot, one_stake}
 use Rattle.sdd_homes.proofs.Tops.{share_one, share_last}
@@ -42,25 +40,30 @@ front [] y j low = absurd (omega arith)
 front (x ∷ xs) y zero low = refl
 front (x ∷ xs) y (suc j) low = front xs y j (omega arith)
 
-module _ (γ n : ℕ) (owners : ℕ → ℕ) (Is : ℕ → Gv → Type 0) where
-  pub none_laid : AreLaidTo γ n (stake_at n 0 0) owners Is []
+module _ (γ n : ℕ) (elsewhere : ℕ → ℕ) (Is : ℕ → Gv → Type 0) where
+  pub none_laid : AreLaidTo γ n (stake_at n 0 0) elsewhere Is []
   none_laid = record { long = sym (first_home n); each = λ i p near low. let z = first_home n in absurd (omega arith) }
 
   -- one stake more
-  pub one_more : (i p k : ℕ) (xs : List Stake) (y : Stake) → p ≤ n → k ≡ stake_at n i p → AreLaidTo γ n k owners Is xs → Has γ i (share n (owners i) p) (Is i) y
-      → AreLaidTo γ n (suc k) owners Is (xs ++ y ∷ [])
+  pub one_more : (i p k : ℕ) (xs : List Stake) (y : Stake) → p ≤ n → k ≡ stake_at n i p → AreLaidTo γ n k elsewhere Is xs
+      → Has γ i (share n (elsewhere i) p) (Is i) y
+      → AreLaidTo γ n (suc k) elsewhere Is (xs ++ y ∷ [])
   one_more i p k xs y near at laid has = let long = laid.long in record {
     long = let e = length-append xs (y ∷ []) in omega arith;
     each = λ j q near' low. dite (ℕ_discrete (stake_at n j q) (stake_at n i p))
         (λ e. let slot = one_slot n j i q p near' near e in
-        let place : q ≡ p = one_stake n i q p (subst (λ (t : ℕ). stake_at n t q ≡ stake_at n i p) slot e) in
-        (y, at_last xs y (stake_at n j q) (omega arith), subst (λ (t : ℕ × ℕ). Has γ t.0 (share n (owners t.0) t.1) (Is t.0) y) (λ d. (sym slot d, sym place d)) has))
+        let place : q ≡ p = one_stake n i q p (subst (λ (t : ℕ). stake_at n t q ≡ stake_at n i p) slot e) in (
+          y,
+          at_last xs y (stake_at n j q) (omega arith),
+          subst (λ (t : ℕ × ℕ). Has γ t.0 (share n (elsewhere t.0) t.1) (Is t.0) y) (λ d.
+              (sym slot d, sym place d)) has,
+        ))
         (λ ne. let a = laid.each j q near' (omega arith) in (a.0, at_longer xs (y ∷ []) (stake_at n j q) a.0 a.1, a.2));
   }
 
   -- and one less
-  pub one_less : (i p k : ℕ) (xs : List Stake) (y : Stake) → p ≤ n → k ≡ stake_at n i p → AreLaidTo γ n (suc k) owners Is (xs ++ y ∷ [])
-      → AreLaidTo γ n k owners Is xs × Has γ i (share n (owners i) p) (Is i) y
+  pub one_less : (i p k : ℕ) (xs : List Stake) (y : Stake) → p ≤ n → k ≡ stake_at n i p → AreLaidTo γ n (suc k) elsewhere Is (xs ++ y ∷ [])
+      → AreLaidTo γ n k elsewhere Is xs × Has γ i (share n (elsewhere i) p) (Is i) y
   one_less i p k xs y near at laid = let e = length-append xs (y ∷ []) in let long = laid.long in let short : length xs ≡ k = omega arith in
       let mine = laid.each i p near (omega arith) in
       let same : mine.0 ≡ y = some-injective mine.0 y (sym mine.1 ∙ at_last xs y (stake_at n i p) (omega arith)) in (
@@ -68,27 +71,25 @@ module _ (γ n : ℕ) (owners : ℕ → ℕ) (Is : ℕ → Gv → Type 0) where
           long = short;
           each = λ j q near' low. let a = laid.each j q near' (omega arith) in (a.0, sym (front xs y (stake_at n j q) (omega arith)) ∙ a.1, a.2);
         },
-        subst (Has γ i (share n (owners i) p) (Is i)) same mine.2,
+        subst (Has γ i (share n (elsewhere i) p) (Is i)) same mine.2,
       )
 
-  pub pushed : (i p k : ℕ) (xs ys : List Stake) (y : Stake) → ys ≡ xs ++ y ∷ [] → p ≤ n → k ≡ suc (stake_at n i p) → AreLaidTo γ n (stake_at n i p) owners Is xs
-      → Has γ i (share n (owners i) p) (Is i) y → AreLaidTo γ n k owners Is ys
-  pushed i p k xs ys y is near at laid has = subst (λ (t : ℕ × List Stake). AreLaidTo γ n t.0 owners Is t.1) (λ d. (sym at d, sym is d))
+  pub pushed : (i p k : ℕ) (xs ys : List Stake) (y : Stake) → ys ≡ xs ++ y ∷ [] → p ≤ n → k ≡ suc (stake_at n i p)
+      → AreLaidTo γ n (stake_at n i p) elsewhere Is xs
+      → Has γ i (share n (elsewhere i) p) (Is i) y → AreLaidTo γ n k elsewhere Is ys
+  pushed i p k xs ys y is near at laid has = subst (λ (t : ℕ × List Stake). AreLaidTo γ n t.0 elsewhere Is t.1) (λ d. (sym at d, sym is d))
       (one_more i p (stake_at n i p) xs y near refl laid has)
 
-  pub popped : (i p k : ℕ) (xs ys : List Stake) (y : Stake) → xs ≡ ys ++ y ∷ [] → p ≤ n → k ≡ suc (stake_at n i p) → AreLaidTo γ n k owners Is xs
-      → AreLaidTo γ n (stake_at n i p) owners Is ys × Has γ i (share n (owners i) p) (Is i) y
+  pub popped : (i p k : ℕ) (xs ys : List Stake) (y : Stake) → xs ≡ ys ++ y ∷ [] → p ≤ n → k ≡ suc (stake_at n i p) → AreLaidTo γ n k elsewhere Is xs
+      → AreLaidTo γ n (stake_at n i p) elsewhere Is ys × Has γ i (share n (elsewhere i) p) (Is i) y
   popped i p k xs ys y is near at laid = one_less i p (stake_at n i p) ys y near refl
-      (subst (λ (t : ℕ × List Stake). AreLaidTo γ n t.0 owners Is t.1) (λ d. (at d, is d)) laid)
+      (subst (λ (t : ℕ × List Stake). AreLaidTo γ n t.0 elsewhere Is t.1) (λ d. (at d, is d)) laid)
 
-  pub found : (i p k j : ℕ) (xs : List Stake) (y : Stake) → p ≤ n → stake_at n i p < k → j ≡ stake_at n i p → get_elem? xs j ≡ some y → AreLaidTo γ n k owners Is xs
-      → Has γ i (share n (owners i) p) (Is i) y
+  pub found : (i p k j : ℕ) (xs : List Stake) (y : Stake) → p ≤ n → stake_at n i p < k → j ≡ stake_at n i p → get_elem? xs j ≡ some y
+      → AreLaidTo γ n k elsewhere Is xs
+      → Has γ i (share n (elsewhere i) p) (Is i) y
   found i p k j xs y near low at there laid = let a = laid.each i p near low in
-      subst (Has γ i (share n (owners i) p) (Is i)) (some-injective a.0 y (sym a.1 ∙ (ap (get_elem? xs) (sym at) ∙ there))) a.2
-
--- a free slot has no owner
-pub free_unowned : (x : ℕ) → full x ≡ 0 → alive x ≡ 0
-free_unowned x free = dite (ℕ_discrete (alive x) 0) (λ none. none) (λ some. absurd (let is = (sound.lives x (omega arith)).1 in omega arith))
+      subst (Has γ i (share n (elsewhere i) p) (Is i)) (some-injective a.0 y (sym a.1 ∙ (ap (get_elem? xs) (sym at) ∙ there))) a.2
 
 -- ---- the units of one slot
 module _ (γ i n : ℕ) where
@@ -112,10 +113,12 @@ module _ (γ i n : ℕ) where
   pub unit_of : (o : ℕ) (Is : Gv → Type 0) (p : ℕ) (y : Stake) → p < n → Has γ i (share n o p) Is y → y.lot ≡ lot γ i y.lot.round y.lot.shown 1
   unit_of o Is p y near has = subst (λ (u : ℕ). y.lot ≡ lot γ i y.lot.round y.lot.shown u) (share_one n o p near) has.0
 
-  pub rest_of : (o : ℕ) (Is : Gv → Type 0) (p u : ℕ) (y : Stake) → p ≡ n → u ≡ most - n - o → Has γ i (share n o p) Is y → y.lot ≡ lot γ i y.lot.round y.lot.shown u
+  pub rest_of : (o : ℕ) (Is : Gv → Type 0) (p u : ℕ) (y : Stake) → p ≡ n → u ≡ most - n - o → Has γ i (share n o p) Is y
+      → y.lot ≡ lot γ i y.lot.round y.lot.shown u
   rest_of o Is p u y e e' has = subst (λ (u : ℕ). y.lot ≡ lot γ i y.lot.round y.lot.shown u) (ap (share n o) e ∙ (share_last n o ∙ sym e')) has.0
 
-  pub unit_has : (o : ℕ) (Is : Gv → Type 0) (p u : ℕ) (l : Lot) (y : Stake) → p < n → l ≡ lot γ i l.round l.shown u → y.lot ≡ record l { units = 1 } → Is l.shown
+  pub unit_has : (o : ℕ) (Is : Gv → Type 0) (p u : ℕ) (l : Lot) (y : Stake) → p < n → l ≡ lot γ i l.round l.shown u → y.lot ≡ record l { units = 1 }
+      → Is l.shown
       → Has γ i (share n o p) Is y
   unit_has o Is p u l y near is one so = (
     subst (λ (u : ℕ). y.lot ≡ lot γ i y.lot.round y.lot.shown u) (sym (share_one n o p near)) (one_apart l y.lot u is one),

@@ -1,5 +1,5 @@
 -- A step that keeps the words' parts, the homes' part, what is known of what slots show and of owners, and the counts is a step of the table.
-use Rattle.std.proofs.Common.{◌≡◌, ◌⊎◌, inl, inr, ℕ, ◌<◌, map, get_or, set, sym, refl, ap, ◌∙◌, subst, ⊎_elim, arith, length-set, eq-eqb, ne_eqb}
+use Rattle.std.proofs.Common.{◌≡◌, ◌⊎◌, inl, inr, ℕ, ◌<◌, List, map, get_or, set, sym, refl, ap, ◌∙◌, subst, ⊎_elim, arith, length-set, eq-eqb, ne_eqb}
 use Rattle.std.specs.Prelude.{None}
 use mathlib.Core.Bool.{cond}
 use mathlib.Core.Option.{some}
@@ -7,6 +7,7 @@ use mathlib.Core.Logic.{dite}
 use native.Mathlib.Decide.{ℕ_discrete}
 use lib.ListN.{get_elem?}
 use Rattle.atomic_table.specs.Table.{State, Act, keeps, Valid, carried_after, homes_after, Allows}
+use Rattle.sdd_stakes.specs.Stakes.{Lot}
 use Rattle.sdd_stakes.specs.declared.stake.Stake.{Stake}
 use Rattle.sdd_views.specs.declared.EpochView.{EpochView}
 use Rattle.sdd_views.specs.declared.PlacesView.{PlacesView}
@@ -15,19 +16,21 @@ use Rattle.sdd_views.specs.declared.StakesView.{StakesView}
 use Rattle.sdd_views.specs.declared.View.{View}
 use Rattle.sdd_views.specs.declared.Sizes.{Sizes}
 use Rattle.sdd_rule.specs.Words.{first_slot, state_word}
-use Rattle.sdd_rule.specs.Codes.{full}
 use Rattle.sdd_rule.specs.Epoch.{HasPlace, IsClosed, IsOpen}
 use Rattle.sdd_rule.specs.Steps.{Steps, Publishes, Ends}
-use Rattle.sdd_rule.specs.Slots.{slot_at, waits_in, Sees}
+use Rattle.sdd_rule.specs.Slots.{waits_in}
 use Rattle.sdd_rule.specs.SlotSteps.{older, changed, OnEpoch, PublishesAll}
 use Rattle.sdd_rule.specs.Parts.{epoch_of, Parts}
-use Rattle.atomic_table.proofs.Lists.{at_map, set_again}
+use Rattle.atomic_table.proofs.Lists.{at_map, set_again, set_else}
 use Rattle.sdd_rule.proofs.Frame.{each_set}
 use Rattle.sdd_rule.proofs.Sums.{total_map}
 use Rattle.sdd_rule.proofs.Lift.{blind}
 use Rattle.sdd_rule.specs.Ended.{AreEnded, AreQuiet}
 use Rattle.sdd_rule.proofs.Ended.{Spares, one_spared, all_spared, NoneQuiet, none_quiet, Hushes, one_hushed, all_hushed}
-use Rattle.sdd_homes.specs.Homes.{Homes, Moves, Settles, IsOneOut, IsOut, IsMover, HomesPart}
+use Rattle.sdd_homes.specs.Homes.{Homes, full_at, Moves, SeesFrom, IsOut, IsMover, HomesPart}
+use Rattle.sdd_homes.specs.Banked.{BankPart}
+use Rattle.sdd_homes.proofs.Banks.{with_deposits}
+use Rattle.sdd_homes.proofs.Banks as banks
 use Rattle.sdd_homes.specs.Records.{RecordsPart}
 use Rattle.sdd_homes.specs.Counts.{CountsPart}
 use Rattle.sdd_homes.specs.Fillings.{FilledPart}
@@ -49,6 +52,7 @@ pub record Follows (γ : ℕ) (sizes : Sizes) (id i : ℕ) (me : Mine) (told : �
   pub records : RecordsPart sizes (set s.views id (record w { stakes = stakes })) (homes_after s.homes me.1 act)
   pub counts : CountsPart sizes (set s.words i y) (set s.views id (record w { stakes = stakes }))
   pub filled : FilledPart sizes (set s.views id (record w { stakes = stakes }))
+  pub bank : BankPart γ sizes (set s.words i y) (set s.views id (record w { stakes = stakes }))
   pub tells : told (get_or s.words i 0) (record w { stakes = stakes }, carried_after me.1 act)
 
 module _ (γ : ℕ) (sizes : Sizes) (slots id : ℕ) (me : Mine) (i : ℕ) (f : ℕ → ℕ) where
@@ -100,14 +104,15 @@ module _ (γ : ℕ) (sizes : Sizes) (slots id : ℕ) (me : Mine) (i : ℕ) (f : 
           records = b.records;
           counts = b.counts;
           filled = b.filled;
+          bank = b.bank;
         },
         b.tells,
       )
 
   -- a step that takes and gives none, and has a place still if it had one; and had one if it has one, or there is no owner yet
   pub record IsCalm (s : State Stake View) (y : ℕ) (w : View) : Type 0 where
-    pub more : (j p : ℕ) → IsOut sizes.participants me.0 j p → IsOut sizes.participants w j p
-    pub same : (j : ℕ) → j < sizes.slots → slot_at sizes (set s.words i y) j ≡ slot_at sizes s.words j
+    pub more : (j p : ℕ) → IsOut me.0 j p → IsOut w j p
+    pub same : (j : ℕ) → j < sizes.slots → full_at sizes (set s.words i y) j ≡ full_at sizes s.words j
     pub mover : IsMover w
     pub alike : IsAlike me.0 w
     pub counts : w.stakes.counts ≡ me.0.stakes.counts
@@ -126,8 +131,9 @@ module _ (γ : ℕ) (sizes : Sizes) (slots id : ℕ) (me : Mine) (i : ℕ) (f : 
         homes = part.calm γ sizes s.words s.views s.homes h.homes id me.0 at (set s.words i y) w c.more c.same c.mover;
         records = records.calm sizes s.views s.homes h.records id me.0 at w c.alike;
         counts = uncounted sizes s.words s.views h.counts id me.0 at (set s.words i y) w c.counts c.lives
-            (as_full sizes s.words (set s.words i y) (λ j low. ap full (c.same j low))) (ended_spared sizes s.words i y (ends s w h at t).0 sizes.participants (omega arith));
+            (as_full sizes s.words (set s.words i y) c.same) (ended_spared sizes s.words i y (ends s w h at t).0 sizes.participants (omega arith));
         filled = filled_alike sizes s.views h.filled id me.0 at w c.alike c.had;
+        bank = banks.alike γ sizes s.words s.views h.bank id me.0 at (set s.words i y) w c.alike c.same;
         tells = tells (get_or s.words i 0) w t;
       })
 
@@ -145,12 +151,10 @@ module _ (γ : ℕ) (sizes : Sizes) (slots id : ℕ) (me : Mine) (i : ℕ) (f : 
       let y : ℕ = f (get_or s.words i 0) in let e : EpochView = t.0 in let own = h.kept.parts.slots.each id me.0 at in
       subst (IsCalm s y) (sym t.1) record {
         more = λ j p out. ⊎_elim (λ (m : Moves me.0 j). inl m)
-            (λ (o : IsOneOut sizes.participants me.0 j p). inr (⊎_elim
-            (λ (s' : Sees me.0 j × (me.0.epoch.place ≡ p)). inl (s'.0, stays (get_or s.words i 0) e t.2 (own.guarded j s'.0) ∙ s'.1))
-            (λ (l : Settles me.0 j × (p ≡ sizes.participants)). inr l) o)) out;
+            (λ (o : SeesFrom me.0 j p). inr (o.0, stays (get_or s.words i 0) e t.2 (own.guarded j o.0) ∙ o.1)) out;
         same = λ j _. before_slots sizes s.words i y j low;
         mover = still_mover me.0 (record me.0 { epoch = e }) refl (lives (get_or s.words i 0) e t.2) (λ _ o. o) (λ _ o. o) (h.homes.moving id me.0 at);
-        alike = (refl, refl, refl, λ _. refl);
+        alike = (refl, refl, refl, (λ _. refl), refl, refl);
         counts = refl;
         lives = lives (get_or s.words i 0) e t.2;
         had = had s h e t.2;
@@ -175,16 +179,15 @@ module _ (γ : ℕ) (sizes : Sizes) (slots : ℕ) where
       (λ s w h at t. let v : View = me.0 in let e : EpochView = t.0 in
       let calm : SlotsView → Type 0 = λ x. IsCalm γ sizes slots id me i (λ _. y) s y (record v { epoch = e; slots = x }) in
       let same = λ (j : ℕ) (_ : j < sizes.slots). before_slots sizes s.words i y j low in let n : ℕ = sizes.participants in
-      let more : (j p : ℕ) → IsOut n v j p → IsOut n (record v { epoch = e }) j p
-      = λ j p out. ⊎_elim (λ (m : Moves v j). inl m) (λ (o : IsOneOut n v j p). inr (⊎_elim
-      (λ (s' : Sees v j × (v.epoch.place ≡ p)). inl (s'.0, (stays e t.2).1 ∙ s'.1)) (λ (l : Settles v j × (p ≡ n)). inr l) o)) out in
+      let more : (j p : ℕ) → IsOut v j p → IsOut (record v { epoch = e }) j p
+      = λ j p out. ⊎_elim (λ (m : Moves v j). inl m) (λ (o : SeesFrom v j p). inr (o.0, (stays e t.2).1 ∙ o.1)) out in
       let movers = still_mover v (record v { epoch = e }) refl (λ _. (stays e t.2).0) (λ _ o. o) (λ _ o. o) (h.homes.moving id v at) in
       subst (IsCalm γ sizes slots id me i (λ _. y) s y) (sym t.1) (changed_or_not v calm
       record {
         more = more;
         same = same;
         mover = movers;
-        alike = (refl, refl, refl, λ _. refl);
+        alike = (refl, refl, refl, (λ _. refl), refl, refl);
         counts = refl;
         lives = λ _. (stays e t.2).0;
         had = λ _ _. inl live;
@@ -194,7 +197,7 @@ module _ (γ : ℕ) (sizes : Sizes) (slots : ℕ) where
         same = same;
         mover = still_mover v (record v { epoch = e; slots = record v.slots { waits = map older v.slots.waits } }) refl (λ _. (stays e t.2).0) (λ _ o. o)
             (λ j o. let k = total_map (waits_in j) older (λ x. refl) v.slots.waits in omega arith) (h.homes.moving id v at);
-        alike = (refl, refl, refl, λ j. total_map (waits_in j) older (λ x. refl) v.slots.waits);
+        alike = (refl, refl, refl, (λ j. total_map (waits_in j) older (λ x. refl) v.slots.waits), refl, refl);
         counts = refl;
         lives = λ _. (stays e t.2).0;
         had = λ _ _. inl live;
@@ -218,12 +221,13 @@ module _ (γ : ℕ) (sizes : Sizes) (slots : ℕ) where
         act = keeps;
         valid = tt;
         homes = part.calm γ sizes s.words s.views s.homes h.homes id v at (set s.words i 3) now (λ j p out. out) same (none_out now rests);
-        records = records.calm sizes s.views s.homes h.records id v at now (refl, refl, refl, λ _. refl);
+        records = records.calm sizes s.views s.homes h.records id v at now (refl, refl, refl, (λ _. refl), refl, refl);
         counts = counted sizes s.words s.views h.counts id v at (set s.words i 3) now
-            (let f = as_full sizes s.words (set s.words i 3) (λ j low. ap full (same j low)) in omega arith)
+            (let f = as_full sizes s.words (set s.words i 3) same in omega arith)
             (let more = ended_more s.words v.epoch.place (omega arith) (λ e. omega arith) sizes.participants inside in omega arith)
             (λ _ none. absurd (omega arith));
         filled = filled_same sizes s.views h.filled id v at now refl refl refl (λ z. absurd (omega arith));
+        bank = banks.alike γ sizes s.words s.views h.bank id v at (set s.words i 3) now (refl, refl, refl, (λ _. refl), refl, refl) same;
         tells = tells;
       })
 
@@ -231,9 +235,9 @@ module _ (γ : ℕ) (sizes : Sizes) (slots : ℕ) where
 module _ (γ : ℕ) (sizes : Sizes) (id : ℕ) (v : View) (s : State Stake View) (h : Housed γ sizes s) (at : get_elem? s.views id ≡ some v) where
   pub stands : (w : View) → w.places ≡ v.places → Parts sizes s.words (set s.views id w) → (hs : Homes)
       → HomesPart γ sizes s.words (set s.views id w) hs → RecordsPart sizes (set s.views id w) hs → CountsPart sizes s.words (set s.views id w)
-      → FilledPart sizes (set s.views id w)
+      → FilledPart sizes (set s.views id w) → BankPart γ sizes s.words (set s.views id w)
       → Housed γ sizes record { words = s.words; homes = hs; views = set s.views id w }
-  stands w same parts hs homes records counts filled = record {
+  stands w same parts hs homes records counts filled bank = record {
     kept = record {
       parts = parts;
       places = record {
@@ -249,12 +253,46 @@ module _ (γ : ℕ) (sizes : Sizes) (id : ℕ) (v : View) (s : State Stake View)
     records = records;
     counts = counts;
     filled = filled;
+    bank = bank;
   }
 
   -- which changes only what is known of stakes, but for what was made
   pub stands_by : (t : StakesView) → t.counts ≡ v.stakes.counts → (hs : Homes) → HomesPart γ sizes s.words (set s.views id (record v { stakes = t })) hs
       → RecordsPart sizes (set s.views id (record v { stakes = t })) hs → FilledPart sizes (set s.views id (record v { stakes = t }))
+      → BankPart γ sizes s.words (set s.views id (record v { stakes = t }))
       → Housed γ sizes record { words = s.words; homes = hs; views = set s.views id (record v { stakes = t }) }
-  stands_by t same hs homes records filled = stands (record v { stakes = t }) refl
+  stands_by t same hs homes records filled bank = stands (record v { stakes = t }) refl
       (blind sizes s.words s.views id v v at (subst (Parts sizes s.words) (sym (set_again s.views id v at)) h.kept.parts) t) hs homes records
-      (uncounted_alone sizes s.words s.views h.counts id v at (record v { stakes = t }) same refl) filled
+      (uncounted_alone sizes s.words s.views h.counts id v at (record v { stakes = t }) same refl) filled bank
+
+  -- which changes what the bank has, too
+  pub stands_dealt : (w : View) → w.places ≡ v.places → Parts sizes s.words (set s.views id w) → (hs : Homes)
+      → HomesPart γ sizes s.words (set s.views id w) hs → RecordsPart sizes (set s.views id w) hs → CountsPart sizes s.words (set s.views id w)
+      → FilledPart sizes (set s.views id w) → (bd : ℕ) (b : View) → get_elem? s.views bd ≡ some b → ¬ (id ≡ bd) → (ls : List Lot)
+      → BankPart γ sizes s.words (set (set s.views id w) bd (with_deposits ls b))
+      → Housed γ sizes record { words = s.words; homes = hs; views = set (set s.views id w) bd (with_deposits ls b) }
+  stands_dealt w same parts hs lie told made fill bd b there ne ls bank = let vs : List View = set s.views id w in
+      let b' : View = with_deposits ls b in let now : get_elem? vs bd ≡ some b = set_else s.views id bd w (λ e. ne (sym e)) ∙ there in
+      let t = told.each bd b now in let mine = records.mine sizes vs hs told bd b now in record {
+        kept = record {
+          parts = blind sizes s.words vs bd b b now (subst (Parts sizes s.words) (sym (set_again vs bd b now)) parts) b'.stakes;
+          places = record {
+            wide = h.kept.places.wide;
+            ended = each_set (AreEnded sizes s.words) (AreEnded sizes s.words) vs bd b' (h.kept.places.ended bd b there)
+                (λ j u _ e. each_set (AreEnded sizes s.words) (AreEnded sizes s.words) s.views id w
+                (λ p low l. h.kept.places.ended id v at p low (subst (λ (x : PlacesView). p < x.ended) same l))
+                (λ j u _ e. h.kept.places.ended j u e) j u e);
+            quiet = each_set (AreQuiet sizes s.words) (AreQuiet sizes s.words) vs bd b' (h.kept.places.quiet bd b there)
+                (λ j u _ e. each_set (AreQuiet sizes s.words) (AreQuiet sizes s.words) s.views id w
+                (subst (λ (x : PlacesView). AreQuiet sizes s.words (record v { places = x })) (sym same) (h.kept.places.quiet id v at))
+                (λ j u _ e. h.kept.places.quiet j u e) j u e);
+          };
+        };
+        homes = part.calm γ sizes s.words vs hs lie bd b now s.words b' (λ i p out. out) (λ i _. refl) (lie.moving bd b now);
+        records = records.no_more sizes vs hs told bd b now b' hs
+            record { owns = t.owns; owned = t.owned; sees = t.sees; waits = t.waits; waiting = t.waiting }
+            mine (λ i p y _ _ l. inl l) (λ i m. m) (λ i a. a);
+        counts = uncounted_alone sizes s.words vs made bd b now b' refl refl;
+        filled = filled_same sizes vs fill bd b now b' refl refl refl (λ live. live);
+        bank = bank;
+      }

@@ -16,7 +16,6 @@ use Rattle.sdd_rule.specs.Slots.{waits_in, items_at, OwnsAlone, Sees}
 use Rattle.sdd_rule.specs.Sums.{total, is, times}
 use Rattle.sdd_rule.proofs.Frame.{each_set, each_snoc}
 use Rattle.sdd_rule.proofs.Sums.{is_same, is_other, both_set, total_has, total_kept, total_gone, total_some, at_filter}
-use Rattle.sdd_rule.specs.Moves.{all_in}
 use Rattle.sdd_homes.specs.Homes.{Homes, LiesAt, Moves}
 use Rattle.sdd_homes.specs.Records.{slot_shown, IsIn, KnowsShown, IsKnown, IsTelling, RecordsPart}
 use Rattle.sdd_homes.specs.HomeSteps.{without_record}
@@ -107,7 +106,7 @@ told_seen v t i h = in_some v.stakes.sees i (subst (λ (l : List ℕ). 0 < times
 -- what it knows of slots and of stakes is as before
 abbrev pub IsAlike : View → View → Type 0
 IsAlike v w = (record w.stakes { counts = v.stakes.counts } ≡ v.stakes) × (w.slots.owns ≡ v.slots.owns) × (w.slots.sees ≡ v.slots.sees)
-    × ((i : ℕ) → items_at i w ≡ items_at i v)
+    × ((i : ℕ) → items_at i w ≡ items_at i v) × (w.slots.drawn ≡ v.slots.drawn) × (w.slots.shares ≡ v.slots.shares)
 
 pub telling_alike : (v w : View) → IsAlike v w → IsTelling v → IsTelling w
 telling_alike v w same t = record {
@@ -180,7 +179,7 @@ module _ (sizes : Sizes) (vs : List View) (hs : Homes) (part : RecordsPart sizes
   -- a new token, which moves none, and sees none
   pub arrives : (t : View) → IsTelling t → ((i : ℕ) (g : Gv) → KnowsShown t i g → IsKnown vs i g) → t.stakes.moves ≡ None → t.slots.sees ≡ []
       → RecordsPart sizes (vs ++ t ∷ []) hs
-  arrives t tells known rests blind = let still : (i : ℕ) → ¬ (Moves t i) = λ i m. let e : None ≡ Some (all_in i) = sym rests ∙ m in cc in
+  arrives t tells known rests blind = let still : (i : ℕ) → ¬ (Moves t i) = λ i m. let e : None ≡ Some i = sym rests ∙ m in cc in
       kept_by (vs ++ t ∷ []) hs (each_snoc IsTelling vs t part.each tells)
       (λ i g k. ⊎_elim (λ (a : get_elem? vs k.0 ≡ some k.1). (k.0, k.1, a, k.3))
       (λ (e : t ≡ k.1). known i g (subst (λ (u : View). KnowsShown u i g) (sym e) k.3)) (at_snoc vs t k.1 k.0 k.2))

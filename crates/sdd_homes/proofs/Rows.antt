@@ -1,5 +1,5 @@
 -- All stakes in a slot are taken from home in one step, and given home in one step.
-use Rattle.std.proofs.Common.{◌≡◌, ◌≢◌, ◌⊎◌, inl, inr, ℕ, zero, suc, ◌<◌, ◌≤◌, List, [], ◌∷◌, drop, map, length, set, sym, refl, ap, ◌∙◌, subst, ⊎_elim, arith, length-set}
+use Rattle.std.proofs.Common.{◌≡◌, ◌≢◌, ◌⊎◌, inl, inr, ℕ, zero, suc, ◌<◌, ◌≤◌, List, [], ◌∷◌, map, length, set, sym, refl, ap, ◌∙◌, subst, ⊎_elim, arith, length-set}
 use mathlib.Core.Option.{none, some, some-injective, some-ne-none}
 use mathlib.Core.Logic.{dite}
 use native.Mathlib.Decide.{ℕ_discrete}
@@ -12,7 +12,7 @@ use Rattle.sdd_views.specs.declared.Showing.{Showing}
 use Rattle.sdd_rule.specs.Sums.{times}
 use Rattle.sdd_rule.proofs.Sums.{is_same, is_other}
 use Rattle.sdd_homes.specs.Homes.{Homes, Carries, stake_at, homes_for, share, Has, LiesAt, IsAtHome}
-use Rattle.sdd_homes.specs.HomeSteps.{HasRow, HasLast, IsValue, Purse}
+use Rattle.sdd_homes.specs.HomeSteps.{HasRow, IsValue, Purse}
 use Rattle.sdd_homes.specs.Records.{slot_shown, IsIn}
 use Rattle.sdd_homes.proofs.Places.{inside, one_slot, one_stake}
 use Rattle.sdd_homes.proofs.Records.{in_head, in_tail}
@@ -109,24 +109,6 @@ module _ (γ n i o : ℕ) (Is : Gv → Type 0) where
   given_lies hs rest xs g j p y near lies = dite (ℕ_discrete j i)
       (λ e. inl (e, g.home p y (omega arith) (subst (λ (k : ℕ). LiesAt n (homes_after hs xs g.act) k p y) e lies)))
       (λ ne. inr (ne, sym (g.else (stake_at n j p) (λ q l e. ne (one_slot n j i p q near (omega arith) e))) ∙ lies))
-
--- the last stake in a slot goes home
-pub record LastGiven (γ n i o : ℕ) (Is : Gv → Type 0) (hs : Homes) (rest xs : Carries) : Type 0 where
-  pub last : Stake
-  pub has : Has γ i (share n o n) Is last
-  pub given : homes_after hs xs gives ≡ set hs (stake_at n i n) (some last)
-  pub carried : carried_after xs gives ≡ drop 1 xs
-  pub others : drop 1 xs ≡ rest
-
-pub last_given : (γ n i o : ℕ) (Is : Gv → Type 0) (hs : Homes) (rest xs : Carries) → HasLast γ i n o Is rest xs → LastGiven γ n i o Is hs rest xs
-last_given γ n i o Is hs rest [] row = absurd row
-last_given γ n i o Is hs rest (x ∷ xs) row = record {
-  last = x.1;
-  has = row.1;
-  given = ap (λ (k : ℕ). set hs k (some x.1)) row.0;
-  carried = refl;
-  others = row.2;
-}
 
 -- all that a guard has goes home
 module _ (γ n q m : ℕ) (near : q ≤ n) where

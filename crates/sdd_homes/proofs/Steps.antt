@@ -1,6 +1,6 @@
 -- The steps that take stakes from home or give them, and the other steps on slots
-use Rattle.std.proofs.Common.{◌≡◌, ◌≢◌, ◌⊎◌, inl, inr, ℕ, suc, ◌<◌, ◌≤◌, Bool, eqb, List, [], ◌∷◌, length, get_or, set, sym, refl, ap, ◌∙◌, subst, ⊎_elim, arith, get_or-set_same}
-use mathlib.Core.Option.{none, some, some-injective}
+use Rattle.std.proofs.Common.{◌≡◌, ◌≢◌, ◌⊎◌, inl, inr, ℕ, suc, ◌+◌, ◌-◌, ◌<◌, ◌≤◌, Bool, eqb, List, [], ◌∷◌, length, get_or, set, sym, refl, ap, ◌∙◌, subst, ⊎_elim, arith, get_or-set_same}
+use mathlib.Core.Option.{none, some}
 use mathlib.Core.Logic.{dite}
 use native.Mathlib.Decide.{ℕ_discrete, dec_lt}
 use Rattle.std.specs.Prelude.{Some, None}
@@ -9,9 +9,9 @@ use lib.Seq.{set-get_or}
 use prog.Atomic.{either}
 use base.Stored.{Gv}
 use Rattle.std.proofs.lemmas.List.{get_or_past}
-use Rattle.atomic_table.specs.Table.{State, Act, keeps, takes, gives, Valid, Allows, carried_after, homes_after}
-use Rattle.atomic_table.proofs.Lists.{at_map, at_set, exchanged, set_again}
-use Rattle.sdd_stakes.specs.Shelf.{IsFull, IsVacant}
+use Rattle.atomic_table.specs.Table.{State, keeps, takes, Allows, carried_after, homes_after}
+use Rattle.atomic_table.proofs.Lists.{at_map, exchanged, set_again}
+use Rattle.sdd_stakes.specs.Shelf.{IsFull, IsVacant, lot}
 use Rattle.sdd_stakes.specs.declared.stake.Stake.{Stake}
 use Rattle.sdd_views.specs.declared.Showing.{Showing}
 use Rattle.sdd_views.specs.declared.PlacesView.{PlacesView}
@@ -23,9 +23,9 @@ use Rattle.sdd_rule.specs.Words.{slot_word, state_word}
 use Rattle.sdd_rule.specs.Codes.{codes, alive, waiting, full, free_word, owned_word, waiting_word}
 use Rattle.sdd_rule.specs.Epoch.{HasPlace, IsOpen, Scans, IsLone}
 use Rattle.sdd_rule.specs.Steps.{Steps}
-use Rattle.sdd_rule.specs.Sums.{times}
+use Rattle.sdd_rule.specs.Sums.{total, times, is as is_at}
 use Rattle.sdd_rule.specs.Slots.{slot_at, owners_at, items_at, OwnsAlone, Sees, Holds}
-use Rattle.sdd_rule.specs.SlotSteps.{without, retired, given_back, discarded, seeing, AtSlot, Claims, Retires, GivesBack, LooksAtSlot, TakesHold, LetsGo, Discards, LooksForGuard, ClosesAll, IsDue}
+use Rattle.sdd_rule.specs.SlotSteps.{others as tail, without, retired, given_back, discarded, seeing, AtSlot, Claims, Retires, GivesBack, LooksAtSlot, TakesHold, LetsGo, Discards, LooksForGuard, ClosesAll, IsDue}
 use Rattle.sdd_rule.specs.Parts.{epoch_of}
 use Rattle.sdd_rule.specs.Ended.{AreEnded, AreQuiet, past, past_quiet, Bars, LooksForValue}
 use Rattle.sdd_rule.proofs.Ended.{Spares, one_spared, Hushes, one_hushed}
@@ -36,33 +36,43 @@ use Rattle.sdd_rule.proofs.SlotSteps as steps
 use Rattle.sdd_rule.proofs.Owning.{item_gone, item_kept}
 use Rattle.sdd_rule.proofs.Owning as owning
 use Rattle.sdd_rule.proofs.Holding as holding
-use Rattle.sdd_rule.proofs.Lift.{blind}
+use Rattle.sdd_rule.proofs.Lift.{blind, blind_units}
+use Rattle.sdd_rule.specs.Parts.{Parts}
 use Rattle.sdd_rule.proofs.Lone.{finds}
 use Rattle.sdd_rule.proofs.SlotWords.{owner_in, owners_in}
-use Rattle.sdd_rule.proofs.Sums.{is_same, is_other, without_same, without_other, total_has, total_two}
+use Rattle.sdd_stakes.specs.Stakes.{Lot}
+use Rattle.sdd_stakes.specs.Deposits.{units_at}
+use Rattle.sdd_stakes.specs.Bank.{Leaves, Comes, Deal, AllowsDeal}
+use Rattle.sdd_stakes.proofs.Deposits.{draws_all, brings}
+use Rattle.sdd_rule.proofs.Sums.{is_same, is_other, without_same, without_other, total_has, total_two, total_zero, total_only}
 use Rattle.sdd_rule.proofs.Waits.{waits_once}
-use Rattle.sdd_witness.specs.Steps.{AllowsAlone, AllowsBeside, moved}
-use Rattle.sdd_rule.specs.Moves.{all_in}
-use Rattle.sdd_homes.specs.Homes.{Carries, stake_at, share, Has, IsShown, Moves, Settles, IsOneOut, IsOut, NoneOut, LiesAt, HomesPart}
+use Rattle.sdd_witness.specs.Steps.{AllowsAlone, AllowsBeside}
+use Rattle.sdd_homes.specs.Homes.{Carries, stake_at, share, spare, away, full_at, Has, IsShown, Moves, SeesFrom, NoneOut, IsOut, LiesAt}
 use Rattle.sdd_homes.specs.Housed.{Housed}
-use Rattle.sdd_homes.specs.HomeSteps.{Mine, HasAll, HasLast, IsValue, Purse, moving, settling, making, giving, resting, telling, untold, remembering, forgetting, sighting, unsighted, IsNewest, ClaimsAll, Houses, TakesOut, TakesHeld, TakesLast, RetiresOne, GivesAll, DiscardsAll, Watches, Recalls, ClosesHome, OfSlot}
-use Rattle.sdd_homes.specs.Records.{IsIn, KnowsShown, IsKnown, IsTelling, RecordsPart}
+use Rattle.sdd_homes.specs.Banked.{drawn_at, moves_at, banked, IsBank, outside}
+use Rattle.sdd_homes.specs.HomeSteps.{Mine, HasAll, IsValue, Purse, moving, making, giving, resting, telling, drawing, undrawing, untold, remembering, forgetting, sighting, unsighted, IsNewest, ClaimsAll, Houses, EntersUnit, TakesOut, TakesHeld, IsDeposit, RetiresOne, GivesAll, DiscardsAll, Watches, Recalls, ClosesHome, OfSlot}
+use Rattle.sdd_homes.specs.Records.{IsIn, KnowsShown, IsKnown, IsTelling}
 use Rattle.sdd_homes.specs.Counts.{ended_places}
 use Rattle.sdd_homes.specs.Fillings.{HasRecord, Tells, FilledPart}
 use Rattle.sdd_homes.proofs.Part.{none_out, only_seen, of_another, before_slots, one_taken}
 use Rattle.sdd_homes.proofs.Part as part
+use Rattle.sdd_homes.proofs.Banks.{moves_none, moves_one, moves_other, moves_rest, outside_free, outside_moved, outside_there, outside_same, total_below, with_deposits, banked_then}
+use Rattle.sdd_homes.proofs.Banks as banks
 use Rattle.sdd_homes.proofs.Places.{one_slot}
 use Rattle.sdd_homes.proofs.Counts.{ended_spared, as_full, one_full, counted, uncounted, uncounted_alone}
 use Rattle.sdd_homes.proofs.Records.{in_either, in_none, in_both, in_others, known_by, told_seen}
 use Rattle.sdd_homes.proofs.Records as records
 use Rattle.sdd_homes.proofs.Fillings.{TellsNoMore, has_none, has_either, has_old, told_by, tells_old, filled_after, filled_same, filled_housed}
-use Rattle.sdd_homes.proofs.Rows.{Taken, takes_row, gives_row, gives_purse, last_given, taken_lies, given_lies}
-use Rattle.sdd_homes.proofs.Telling.{one_moved, none_moved, none_settled, settles_only, one_settled, settling_tells, one_view, owns_it, claimed_tells, moving_tells, held_tells, retired_tells, housed_tells, rested_tells, none_owns, none_waits, unknown_owned, unknown_waiting, comes_home}
+use Rattle.sdd_homes.proofs.Rows.{Taken, takes_row, gives_row, gives_purse, taken_lies, given_lies}
+use Rattle.sdd_homes.proofs.Telling.{one_moved, none_moved, one_view, owns_it, claimed_tells, moving_tells, held_tells, retired_tells, housed_tells, rested_tells, none_owns, none_waits, unknown_owned, unknown_waiting, comes_home}
 use Rattle.sdd_homes.proofs.Tops.{rest_is, share_one}
-use Rattle.sdd_homes.proofs.Lift.{Keeps, Follows, IsCalm, keeps_ended, lift_homes, lift_calm, stands, stands_by}
+use Rattle.sdd_homes.proofs.Lift.{Keeps, Follows, IsCalm, keeps_ended, lift_homes, lift_calm, stands, stands_by, stands_dealt}
 
 full_owned : (x : ℕ) → 0 < alive x → full x ≡ 1
 full_owned x h = (sound.lives x h).1
+
+vacant_shown : (f : ℕ) (g : Gv) → f ≡ 0 → IsVacant g → IsShown f g
+vacant_shown f g empty vacant = (λ e. absurd (omega arith), λ _. vacant)
 
 -- a word that has an owner, or waits, isn't both, nor free
 module _ (γ : ℕ) (sizes : Sizes) (s : State Stake View) (h : Housed γ sizes s) (i : ℕ) where
@@ -75,16 +85,7 @@ module _ (γ : ℕ) (sizes : Sizes) (s : State Stake View) (h : Housed γ sizes 
   still_free j u e dead quiet m = ⊎_elim
       (λ (o : OwnsAlone u i). let g = ((h.kept.parts.slots.each j u e).alone i o).0 in absurd (omega arith))
       (λ (o : 0 < items_at i u). let t = total_has (items_at i) s.views j u e in let w = h.kept.parts.slots.waited i in absurd (omega arith))
-      ((h.homes.moving j u e).0 i m).1
-
-  -- nobody takes an owner's unit home to a slot without owners
-  pub unsettled : (j : ℕ) (u : View) → get_elem? s.views j ≡ some u → alive (slot_at sizes s.words i) ≡ 0 → ¬ (Settles u i)
-  unsettled j u e dead l = let o = ((h.homes.moving j u e).1 i l).1 in let g = ((h.kept.parts.slots.each j u e).alone i o).0 in omega arith
-
-  -- where a participant has the only owner, none else does
-  unsettled_owned : (id j : ℕ) (v u : View) → get_elem? s.views id ≡ some v → get_elem? s.views j ≡ some u → id ≢ j → OwnsAlone v i → ¬ (Settles u i)
-  unsettled_owned id j v u at e ne own l = let o = ((h.homes.moving j u e).1 i l).1 in let a = ((h.kept.parts.slots.each id v at).alone i own).0 in
-      let both = owners_in codes sound sizes s.words s.views h.kept.parts.slots id j i v u ne at e in omega arith
+      (h.homes.moving j u e i m).1
 
   -- where a participant has an owner, or an item that waits, none else moves the value
   still_owned : (id j : ℕ) (v u : View) → get_elem? s.views id ≡ some v → get_elem? s.views j ≡ some u → id ≢ j → 0 < owners_at i v → ¬ (Moves u i)
@@ -93,7 +94,7 @@ module _ (γ : ℕ) (sizes : Sizes) (s : State Stake View) (h : Housed γ sizes 
       (λ (o : OwnsAlone u i). let g = ((h.kept.parts.slots.each j u e).alone i o).0 in
       let both = owners_in codes sound sizes s.words s.views h.kept.parts.slots id j i v u ne at e in absurd (omega arith))
       (λ (o : 0 < items_at i u). let t = total_has (items_at i) s.views j u e in let w = h.kept.parts.slots.waited i in absurd (omega arith))
-      ((h.homes.moving j u e).0 i m).1
+      (h.homes.moving j u e i m).1
 
   still_waiting : (id j : ℕ) (v u : View) → get_elem? s.views id ≡ some v → get_elem? s.views j ≡ some u → id ≢ j → 0 < items_at i v → ¬ (Moves u i)
   still_waiting id j v u at e ne waits m = let t = total_has (items_at i) s.views id v at in let w = h.kept.parts.slots.waited i in
@@ -101,7 +102,7 @@ module _ (γ : ℕ) (sizes : Sizes) (s : State Stake View) (h : Housed γ sizes 
       (λ (o : OwnsAlone u i). let g = ((h.kept.parts.slots.each j u e).alone i o).0 in let l = (sound.lives (slot_at sizes s.words i) (omega arith)).0 in
       absurd (omega arith))
       (λ (o : 0 < items_at i u). let both = total_two (items_at i) s.views id j v u ne at e in absurd (omega arith))
-      ((h.homes.moving j u e).0 i m).1
+      (h.homes.moving j u e i m).1
 
 -- the own place hasn't ended
 pub own_place : (γ : ℕ) (sizes : Sizes) (id : ℕ) (v : View) → HasPlace v.epoch → (y : ℕ) (s : State Stake View) → Housed γ sizes s
@@ -148,17 +149,15 @@ module _ (slots id : ℕ) (me : Mine) (live : HasPlace me.0.epoch) where
     tells_old_by w owns waits = tells_old sizes s.views h.filled id v at w (told_by w v owns waits)
 
   -- what it has out but for the stakes that it may take is out still: what its guards see
-  still_seen : (w : View) → v.stakes.moves ≡ None → w.slots.sees ≡ v.slots.sees → w.epoch.place ≡ v.epoch.place → (j p : ℕ) → IsOut n v j p → IsOut n w j p
-  still_seen w rests sees place j p out = let o = only_seen n v rests j p out in
-      inr (inl (subst (λ (l : List ℕ). 0 < times j l) (sym sees) o.0, place ∙ o.1))
+  still_seen : (w : View) → v.stakes.moves ≡ None → w.slots.sees ≡ v.slots.sees → w.epoch.place ≡ v.epoch.place → (j p : ℕ) → IsOut v j p → IsOut w j p
+  still_seen w rests sees place j p out = let o = only_seen v rests j p out in
+      inr (subst (λ (l : List ℕ). 0 < times j l) (sym sees) o.0, place ∙ o.1)
 
   -- the same of one that moves the value of a slot, but for this slot
-  seen_but : (w : View) (slot : ℕ) → Moves v slot → w.slots.sees ≡ v.slots.sees → w.epoch.place ≡ v.epoch.place → (j p : ℕ) → j ≢ slot → IsOut n v j p
-      → IsOut n w j p
+  seen_but : (w : View) (slot : ℕ) → Moves v slot → w.slots.sees ≡ v.slots.sees → w.epoch.place ≡ v.epoch.place → (j p : ℕ) → j ≢ slot → IsOut v j p
+      → IsOut w j p
   seen_but w slot mine sees place j p ne out = ⊎_elim (λ (m : Moves v j). absurd (ne (one_moved v slot j mine m)))
-      (λ (a : IsOneOut n v j p). ⊎_elim
-      (λ (o : Sees v j × (v.epoch.place ≡ p)). inr (inl (subst (λ (l : List ℕ). 0 < times j l) (sym sees) o.0, place ∙ o.1)))
-      (λ (l : Settles v j × (p ≡ n)). absurd (settles_only v j slot l.0 mine)) a) out
+      (λ (o : SeesFrom v j p). inr (subst (λ (l : List ℕ). 0 < times j l) (sym sees) o.0, place ∙ o.1)) out
 
   module _ (slot : ℕ) (inside : slot < sizes.slots) where
     abbrev i : ℕ
@@ -168,8 +167,8 @@ module _ (slots id : ℕ) (me : Mine) (live : HasPlace me.0.epoch) where
     at_once : (R : ℕ → Mine → ℕ → Mine → Type 0) (x : ℕ) (me' : Mine) → R slot me x me' → OfSlot R i me x me'
     at_once R x me' r other is = let same : slot ≡ other = omega arith in subst (λ (k : ℕ). R k me x me') same r
 
-    -- the other slots' words are as before
-    others : (ws : List ℕ) (y j : ℕ) → j < sizes.slots → j ≢ slot → slot_at sizes (set ws i y) j ≡ slot_at sizes ws j
+    -- the other slots are as full as before
+    others : (ws : List ℕ) (y j : ℕ) → j < sizes.slots → j ≢ slot → full_at sizes (set ws i y) j ≡ full_at sizes ws j
     others ws y j _ ne = of_another sizes ws slot y j ne
 
     here : (ws : List ℕ) (y : ℕ) → i < length ws → slot_at sizes (set ws i y) slot ≡ y
@@ -193,15 +192,14 @@ module _ (slots id : ℕ) (me : Mine) (live : HasPlace me.0.epoch) where
       within = let l = h.kept.parts.slots.long in omega arith
 
       -- where nobody sees the slot or has stakes in it out, all may be taken, which show what its word says
-      pub all_taken : (o : ℕ) → alive (slot_at sizes s.words slot) ≡ o → (Is : Gv → Type 0)
-          → ((p : ℕ) (y : Stake) → p ≤ n → LiesAt n s.homes slot p y → IsShown (slot_at sizes s.words slot) y.lot.shown → Is y.lot.shown)
-          → ((j : ℕ) (u : View) → get_elem? s.views j ≡ some u → ¬ (Sees u slot) × ¬ (Moves u slot) × ¬ (Settles u slot))
+      pub all_taken : (o : ℕ) → away n (full_at sizes s.words slot) ≡ o → (Is : Gv → Type 0)
+          → ((p : ℕ) (y : Stake) → p ≤ n → LiesAt n s.homes slot p y → IsShown (full_at sizes s.words slot) y.lot.shown → Is y.lot.shown)
+          → ((j : ℕ) (u : View) → get_elem? s.views j ≡ some u → ¬ (Sees u slot) × ¬ (Moves u slot))
           → Taken γ n slot o Is s.homes me.1 (suc n)
-      all_taken o owners Is shown unseen = takes_row γ n slot o Is s.homes me.1 (suc n) (λ p l.
+      all_taken o elsewhere Is shown unseen = takes_row γ n slot o Is s.homes me.1 (suc n) (λ p l.
           let b = h.homes.back slot p inside (omega arith) (λ j u e out. ⊎_elim (λ (m : Moves u slot). (unseen j u e).1 m)
-          (λ (a : IsOneOut n u slot p). ⊎_elim (λ (o : Sees u slot × (u.epoch.place ≡ p)). (unseen j u e).0 o.0)
-          (λ (l : Settles u slot × (p ≡ n)). (unseen j u e).2 l.0) a) out) in
-          let has = subst (λ (k : ℕ). Has γ slot (share n k p) (IsShown (slot_at sizes s.words slot)) b.0) owners
+          (λ (o : SeesFrom u slot p). (unseen j u e).0 o.0) out) in
+          let has = subst (λ (k : ℕ). Has γ slot (share n k p) (IsShown (full_at sizes s.words slot)) b.0) elsewhere
           (h.homes.home slot p b.0 inside (omega arith) b.1) in (b.0, b.1, (has.0, shown p b.0 (omega arith) b.1 has.1)))
 
       -- no place ends by a step on a slot
@@ -209,8 +207,8 @@ module _ (slots id : ℕ) (me : Mine) (live : HasPlace me.0.epoch) where
       over_slot y = ended_spared sizes s.words i y (λ p low e was. absurd (omega arith)) n (omega arith)
 
       -- a load leaves the words
-      same_words : (j : ℕ) → slot_at sizes (set s.words i (get_or s.words i 0)) j ≡ slot_at sizes s.words j
-      same_words j = ap (λ (l : List ℕ). slot_at sizes l j) (set-get_or s.words i 0)
+      same_words : (j : ℕ) → full_at sizes (set s.words i (get_or s.words i 0)) j ≡ full_at sizes s.words j
+      same_words j = ap (λ (l : List ℕ). full_at sizes l j) (set-get_or s.words i 0)
 
     -- claim a free slot
     pub claims : v.stakes.moves ≡ None → May i (λ x. either (eqb x (free_word 0)) (owned_word 0) x)
@@ -223,21 +221,18 @@ module _ (slots id : ℕ) (me : Mine) (live : HasPlace me.0.epoch) where
         exchanged x (free_word 0) (owned_word 0) (λ y. Follows γ sizes id i me told s y w)
         (λ hit. let free = free_is 0 (omega arith) in let dead : alive x ≡ 0 = ap alive hit ∙ free.0 in let quiet : waiting x ≡ 0 = ap waiting hit ∙ free.1 in
         let empty : full x ≡ 0 = ap full hit ∙ free.2 in
-        let tk = all_taken s h 0 dead IsVacant (λ p y _ _ sh. sh.1 empty) (λ j u e. (
+        let tk = all_taken s h 0 (ap (away n) empty) IsVacant (λ p y _ _ sh. sh.1 empty) (λ j u e. (
           owning.fresh codes sound sizes s.words s.views h.kept.parts.slots id v at slot empty j u e,
           still_free γ sizes s h slot j u e dead quiet,
-          unsettled γ sizes s h slot j u e dead,
         )) in let now : View = making slot (owned_word 0) v in
         subst (Follows γ sizes id i me told s (owned_word 0)) (sym (c.0 hit)) record {
           stakes = now.stakes;
           act = tk.act;
           valid = tk.valid;
           homes = part.takes γ sizes s.words s.views s.homes h.homes id v at slot 0 IsVacant me.1 tk (set s.words i (owned_word 0)) now refl
-              (λ j p _. still_seen now rests refl refl j p) (others s.words (owned_word 0)) (
-                (λ j m. let e : j ≡ slot = one_moved now slot j refl m in let one = is_same slot slot refl in
-                    (live, inl (subst (λ (k : ℕ). 0 < times k (slot ∷ v.slots.owns)) (sym e) (omega arith)))),
-                (λ j l. absurd (settles_only now j slot l refl)),
-              );
+              (λ j p _. still_seen now rests refl refl j p) (others s.words (owned_word 0))
+              (λ j m. let e : j ≡ slot = one_moved now slot j refl m in let one = is_same slot slot refl in
+              (live, inl (subst (λ (k : ℕ). 0 < times k (slot ∷ v.slots.owns)) (sym e) (omega arith))));
           records = records.comes_to_move sizes s.views s.homes h.records id v at slot now (homes_after s.homes me.1 tk.act)
               (claimed_tells v (h.records.each id v at) slot rests
               (λ o. let a = ((h.kept.parts.slots.each id v at).alone slot o).0 in omega arith)
@@ -250,6 +245,11 @@ module _ (slots id : ℕ) (me : Mine) (live : HasPlace me.0.epoch) where
               let y = full_owned (owned_word 0) (let q = (owned_is 0 (omega arith)).0 in omega arith) in omega arith)
               (let o = over_slot s h (owned_word 0) in omega arith) (λ none. absurd (omega arith));
           filled = still_filled s h at now refl refl refl;
+          bank = banks.moves_over γ sizes s.words s.views h.bank id v at (set s.words i (owned_word 0)) now slot
+              record { bank = refl; founds = refl; book = refl; banked = refl; drawn = refl } (λ k. let l = h.bank.low id v at k in omega arith)
+              (outside_free sizes s.words s.views slot empty)
+              (banks.moving_outside γ sizes s.words s.views h.bank id v at (set s.words i (owned_word 0)) now slot refl)
+              (λ k ne. moves_other k now slot refl ne ∙ sym (moves_rest k v rests)) (others s.words (owned_word 0));
           tells = at_once (λ slot. ClaimsAll slot (free_word 0) (owned_word 0)) x (now, carried_after me.1 tk.act)
               ((λ _. (refl, tk.row)), (λ no. absurd (no hit)), c.2);
         })
@@ -259,86 +259,191 @@ module _ (slots id : ℕ) (me : Mine) (live : HasPlace me.0.epoch) where
           valid = tt;
           homes = part.calm γ sizes s.words s.views s.homes h.homes id v at (set s.words i x) v (λ j p out. out) (λ j _. same_words s h j)
               (h.homes.moving id v at);
-          records = records.calm sizes s.views s.homes h.records id v at v (refl, refl, refl, λ _. refl);
+          records = records.calm sizes s.views s.homes h.records id v at v (refl, refl, refl, (λ _. refl), refl, refl);
           counts = uncounted sizes s.words s.views h.counts id v at (set s.words i x) v refl (λ l. l)
-              (as_full sizes s.words (set s.words i x) (λ j _. ap full (same_words s h j))) (over_slot s h x);
+              (as_full sizes s.words (set s.words i x) (λ j _. same_words s h j)) (over_slot s h x);
           filled = still_filled s h at v refl refl refl;
+          bank = banks.alike γ sizes s.words s.views h.bank id v at (set s.words i x) v (refl, refl, refl, (λ _. refl), refl, refl)
+              (λ j _. same_words s h j);
           tells = at_once (λ slot. ClaimsAll slot (free_word 0) (owned_word 0)) x me ((λ hit. absurd (miss hit)), (λ _. refl), c.2);
         }))
 
-    -- a value was moved in
-    pub houses : Moves v slot → OwnsAlone v slot → (shared : Bool) (value : Gv) (rest : Carries) → HasAll γ slot n 1 (IsValue value) rest me.1
-        → MayAlone (Houses slot shared value me)
-    houses mine own shared value rest row s h _ at = let w : View = resting (telling slot shared value v) in
-        let r : Showing = record { slot = slot; shared = shared; value = value } in let unknown = unknown_owned γ sizes s h slot id v at mine own in
-        let g = gives_row γ n slot 1 (IsValue value) sizes.slots inside (suc n) (omega arith) s.homes rest me.1 h.homes.deep row in
-        let one = ((h.kept.parts.slots.each id v at).alone slot own).0 in let filled = full_owned (slot_at sizes s.words slot) (omega arith) in
-        let known = records.mine sizes s.views s.homes h.records id v at in (
-          w,
-          g.act,
-          g.valid,
-          stands_by γ sizes id v s h at w.stakes refl (homes_after s.homes me.1 g.act)
-              (part.gives γ sizes s.words s.views s.homes h.homes id v at slot 1 (IsValue value) rest me.1 g s.words w one
-              (λ g so. (λ _. so.0, λ e. absurd (omega arith))) (seen_but w slot mine refl refl) (λ j _ _. refl) (none_out w refl))
-              (records.comes_to_know sizes s.views s.homes h.records id v at slot value w (homes_after s.homes me.1 g.act)
-              (housed_tells v (h.records.each id v at) slot mine own (none_waits γ sizes s h slot id v at own id v at) shared value) unknown
-              (λ i g k. known_by w i g
-              (λ a. ⊎_elim (λ (e : (slot ≡ i) × (value ≡ g)). inl (sym e.0, sym e.1))
-              (λ (b : IsIn v.stakes.owns i g). inr (known i g (inl b))) (in_either r v.stakes.owns i g a))
-              (λ a. inr (known i g (inr (inl a)))) (λ a. inr (known i g (inr (inr a)))) k)
-              (λ j p y _ near lies. ⊎_elim (λ (b : (j ≡ slot) × Has γ slot (share n 1 p) (IsValue value) y). inl (b.0, b.1.1.1))
-              (λ (b : (j ≢ slot) × LiesAt n s.homes j p y). inr b) (given_lies γ n slot 1 (IsValue value) s.homes rest me.1 g j p y near lies))
-              (λ j. none_moved w j refl) (λ j a. a))
-              (filled_housed sizes s.views h.filled id v at s.words h.kept.parts.epoch live r
-              (λ x t e. unknown x.value (
-                t.0,
-                t.1,
-                t.2,
-                ⊎_elim (λ (a : HasRecord t.1.stakes.owns x). inl (a.0, x, a.1, sym e, refl))
-                    (λ (a : HasRecord t.1.stakes.waits x). inr (inr (a.0, x, a.1, sym e, refl))) t.3,
-              )) w refl refl refl),
-          (refl, g.carried ∙ sym (rest_is γ slot n 1 (IsValue value) rest (suc n) me.1 row)),
-        )
+    -- deals with the bank
+    module _ (bd : ℕ) where
+      abbrev pub MayDeal : (List Lot → Lot → List Lot → Type 0) → (Lot → Type 0) → (Lot → Mine → Type 0) → Type 0
+      MayDeal Goes = AllowsDeal (Housed γ sizes) Goes IsBank banked slots id me bd
 
-    -- where nobody sees a slot, and its value may be moved out by this one alone, all stakes in it are taken
-    moves_out : (o : ℕ) (s : State Stake View) (h : Housed γ sizes s) → get_elem? s.views id ≡ some v → v.stakes.moves ≡ None
-        → alive (slot_at sizes s.words slot) ≡ o → (Is : Gv → Type 0)
-        → ((p : ℕ) (y : Stake) → p ≤ n → LiesAt n s.homes slot p y → IsShown (slot_at sizes s.words slot) y.lot.shown → Is y.lot.shown)
-        → OwnsAlone v slot ⊎ (0 < items_at slot v)
-        → ((j : ℕ) (u : View) → get_elem? s.views j ≡ some u → ¬ (Sees u slot))
-        → ((j : ℕ) (u : View) → get_elem? s.views j ≡ some u → id ≢ j → ¬ (Moves u slot) × ¬ (Settles u slot))
-        → (t : StakesView) → t.counts ≡ v.stakes.counts → t.moves ≡ Some (all_in slot) → IsTelling (record v { stakes = t })
-        → ((j : ℕ) (g : Gv) → KnowsShown (record v { stakes = t }) j g → KnowsShown v j g)
-        → t.filled ≡ v.stakes.filled → TellsNoMore (record v { stakes = t }) s.views
-        → (w : View) × (a : Act Stake) × Valid s.homes me.1 a
-        × Housed γ sizes (moved s id me.1 w a) × (w ≡ record v { stakes = t }) × HasAll γ slot n o Is me.1 (carried_after me.1 a)
-    moves_out o s h at rests owners Is shown may unseen still t same is tells known kept no_more = let w : View = record v { stakes = t } in
-        let tk = all_taken s h o owners Is shown (λ j u e. (
-          unseen j u e,
-          (λ m. dite (ℕ_discrete id j)
-              (λ one. none_moved v slot rests (subst (λ (z : View). Moves z slot) (one_view s.views id j u v e at (sym one)) m))
-              (λ ne. (still j u e ne).0 m)),
-          (λ l. dite (ℕ_discrete id j)
-              (λ one. none_settled v slot rests (subst (λ (z : View). Settles z slot) (one_view s.views id j u v e at (sym one)) l))
-              (λ ne. (still j u e ne).1 l)),
-        )) in (
-          w,
-          tk.act,
-          tk.valid,
-          stands_by γ sizes id v s h at t same (homes_after s.homes me.1 tk.act)
-              (part.takes γ sizes s.words s.views s.homes h.homes id v at slot o Is me.1 tk s.words w is
-              (λ j p _. still_seen w rests refl refl j p) (λ j _ _. refl) (
+      -- a value was moved in, and what its owner doesn't keep of it goes to the bank
+      pub houses : Moves v slot → OwnsAlone v slot → (shared : Bool) (value : Gv) (rest : Carries)
+          → HasAll γ slot n (spare n) (IsValue value) rest me.1 → (l : Lot) → l ≡ lot γ slot l.round l.shown (spare n - 1)
+          → MayDeal Comes (λ k. k ≡ l) (λ _. Houses slot shared value me)
+      houses mine own shared value rest row l is s b h _ at there bank ne = let w : View = resting (telling slot shared value (drawing slot v)) in
+          let r : Showing = record { slot = slot; shared = shared; value = value } in let unknown = unknown_owned γ sizes s h slot id v at mine own in
+          let few = h.homes.few in
+          let g = gives_row γ n slot (spare n) (IsValue value) sizes.slots inside (suc n) (omega arith) s.homes rest me.1 h.homes.deep row in
+          let one = ((h.kept.parts.slots.each id v at).alone slot own).0 in let filled = full_owned (slot_at sizes s.words slot) (omega arith) in
+          let tells = housed_tells v (h.records.each id v at) slot mine own (none_waits γ sizes s h slot id v at own id v at) shared value in
+          let known = records.mine sizes s.views s.homes h.records id v at in let number = ap (λ (k : Lot). k.number) is in
+          let units = ap (λ (k : Lot). k.units) is in
+          let d = brings γ (banked b) l (banks.has_deposits γ sizes s.words s.views h.bank id v at bd b there bank ne) (ap (λ (k : Lot). k.book) is)
+          (ap (λ (k : Lot). k.lent) is) (omega arith) in let ls : List Lot = d.0 in let brought = d.1 in
+          let still = λ (j : ℕ) (u : View) (e : get_elem? s.views j ≡ some u) (apart : id ≢ j).
+          still_owned γ sizes s h slot id j v u at e apart (omega arith) in
+          let vs' : List View = set (set s.views id w) bd (with_deposits ls b) in
+          let was = banks.moved_outside γ sizes s.words s.views h.bank id v at slot mine in
+          let alone = total_only (moves_at slot) s.views id v at (λ j u apart e. moves_none slot u (still j u e (λ same. apart (sym same)))) in
+          let now : outside sizes s.words vs' slot ≡ spare n = outside_there sizes s.words vs' slot (λ none. omega arith)
+          (let t = banks.total_dealt γ sizes s.words s.views h.bank id v at bd b there bank ne (moves_at slot) w ls refl in omega arith) in record {
+            view = w;
+            bank = with_deposits ls b;
+            lot = l;
+            act = g.act;
+            valid = g.valid;
+            holds = stands_dealt γ sizes id v s h at w refl
+                (blind_units sizes s.words s.views id v v at (subst (Parts sizes s.words) (sym (set_again s.views id v at)) h.kept.parts) w.stakes
+                (slot ∷ v.slots.drawn)) (homes_after s.homes me.1 g.act)
+                (part.gives γ sizes s.words s.views s.homes h.homes id v at slot (spare n) (IsValue value) rest me.1 g s.words w
+                (ap (away n) filled)
+                (λ g so. (λ _. so.0, λ e. absurd (omega arith))) (seen_but w slot mine refl refl) (λ j _ _. refl) (none_out w refl))
+                (records.comes_to_know sizes s.views s.homes h.records id v at slot value w (homes_after s.homes me.1 g.act)
+                record { owns = tells.owns; owned = tells.owned; sees = tells.sees; waits = tells.waits; waiting = tells.waiting } unknown
+                (λ i g k. known_by w i g
+                (λ a. ⊎_elim (λ (e : (slot ≡ i) × (value ≡ g)). inl (sym e.0, sym e.1))
+                (λ (b : IsIn v.stakes.owns i g). inr (known i g (inl b))) (in_either r v.stakes.owns i g a))
+                (λ a. inr (known i g (inr (inl a)))) (λ a. inr (known i g (inr (inr a)))) k)
+                (λ j p y _ near lies. ⊎_elim (λ (b : (j ≡ slot) × Has γ slot (share n (spare n) p) (IsValue value) y). inl (b.0, b.1.1.1))
+                (λ (b : (j ≢ slot) × LiesAt n s.homes j p y). inr b)
+                (given_lies γ n slot (spare n) (IsValue value) s.homes rest me.1 g j p y near lies))
+                (λ j. none_moved w j refl) (λ j a. a))
+                (uncounted_alone sizes s.words s.views h.counts id v at w refl refl)
+                (filled_housed sizes s.views h.filled id v at s.words h.kept.parts.epoch live r
+                (λ x t e. unknown x.value (
+                  t.0,
+                  t.1,
+                  t.2,
+                  ⊎_elim (λ (a : HasRecord t.1.stakes.owns x). inl (a.0, x, a.1, sym e, refl))
+                      (λ (a : HasRecord t.1.stakes.waits x). inr (inr (a.0, x, a.1, sym e, refl))) t.3,
+                )) w refl refl refl) bd b there ne ls
+                (banks.deals γ sizes s.words s.views h.bank id v at bd b there bank ne w ls brought.deposits refl refl
+                (λ k. dite (ℕ_discrete k slot)
+                (λ e. let o = is_same k slot (sym e) in let none = banks.none_drawn γ sizes s.words s.views h.bank id v at slot inside mine in
+                let z = ap (λ (x : ℕ). drawn_at x v) e in let owner = ap (λ (x : ℕ). times x v.slots.owns) e in omega arith)
+                (λ apart. let o = is_other k slot (λ e. apart (sym e)) in let low = h.bank.low id v at k in omega arith))
+                (λ k near. dite (ℕ_discrete k slot)
+                (λ e. let o = is_same k slot (sym e) in let sum = brought.sum in let x = ap (λ (y : ℕ). units_at y ls) (e ∙ sym number) in
+                let y = ap (λ (y : ℕ). units_at y (banked b)) (e ∙ sym number) in let u = ap (outside sizes s.words s.views) e in
+                let u' = ap (outside sizes s.words vs') e in omega arith)
+                (λ apart. let o = is_other k slot (λ e. apart (sym e)) in let same = brought.others k (λ e. apart (e ∙ number)) in
+                let u = outside_same sizes s.words s.words s.views vs' k refl
+                (let t = banks.total_dealt γ sizes s.words s.views h.bank id v at bd b there bank ne (moves_at k) w ls refl in
+                let z = moves_other k v slot mine apart in omega arith) in omega arith)));
+            ours = bank;
+            goes = subst (Comes (banked b) l) (sym (banked_then γ ls b (h.bank.banks bd b there bank).book brought.deposits)) brought.comes;
+            offered = refl;
+            then = (refl, g.carried ∙ sym (rest_is γ slot n (spare n) (IsValue value) rest (suc n) me.1 row));
+          }
+
+      -- where nobody sees a slot, and its value may be moved out by this one alone, all stakes in it are taken, and the bank's deposit of it, as none is drawn
+      moves_out : (s : State Stake View) (b : View) (h : Housed γ sizes s) → get_elem? s.views id ≡ some v → get_elem? s.views bd ≡ some b → IsBank b
+          → ¬ (id ≡ bd) → v.stakes.moves ≡ None → full_at sizes s.words slot ≡ 1 → total (drawn_at slot) s.views ≡ 0 → (Is : Gv → Type 0)
+          → ((p : ℕ) (y : Stake) → p ≤ n → LiesAt n s.homes slot p y → IsShown (full_at sizes s.words slot) y.lot.shown → Is y.lot.shown)
+          → OwnsAlone v slot ⊎ (0 < items_at slot v)
+          → ((j : ℕ) (u : View) → get_elem? s.views j ≡ some u → ¬ (Sees u slot))
+          → ((j : ℕ) (u : View) → get_elem? s.views j ≡ some u → id ≢ j → ¬ (Moves u slot))
+          → (t : StakesView) → t.counts ≡ v.stakes.counts → t.moves ≡ Some slot → t.bank ≡ v.stakes.bank → t.founds ≡ v.stakes.founds
+          → IsTelling (record v { stakes = t })
+          → ((j : ℕ) (g : Gv) → KnowsShown (record v { stakes = t }) j g → KnowsShown v j g)
+          → t.filled ≡ v.stakes.filled → TellsNoMore (record v { stakes = t }) s.views → (Then : Lot → Mine → Type 0)
+          → ((l : Lot) (xs : Carries) → IsDeposit slot me l → HasAll γ slot n (spare n) Is me.1 xs → Then l (record v { stakes = t }, xs))
+          → Deal (Housed γ sizes) Leaves IsBank banked s b id me bd (λ _. Unit {0}) Then
+      moves_out s b h at there bank ne rests filled undrawn Is shown may unseen still t same is bank_is founds_is tells known kept no_more Then told =
+          let w : View = record v { stakes = t } in
+          let tk = all_taken s h (spare n) (ap (away n) filled) Is shown (λ j u e. (
+            unseen j u e,
+            λ m. dite (ℕ_discrete id j)
+                (λ one. none_moved v slot rests (subst (λ (z : View). Moves z slot) (one_view s.views id j u v e at (sym one)) m))
+                (λ apart. still j u e apart m),
+          )) in
+          let few = h.homes.few in let balance = h.bank.banks bd b there bank in let deposits = balance.deposits in let sum = balance.sums slot inside in
+          let nobody = total_zero (moves_at slot) s.views (λ j u e. dite (ℕ_discrete id j)
+          (λ one. ap (moves_at slot) (one_view s.views id j u v e at (sym one)) ∙ moves_rest slot v rests)
+          (λ apart. moves_none slot u (still j u e apart))) in
+          let was = outside_there sizes s.words s.views slot (λ empty. omega arith) nobody in
+          let d = draws_all γ slot (banked b) deposits (omega arith) in let l : Lot = d.0 in let ls : List Lot = d.1 in let goes = d.3 in
+          let whole : l.units ≡ spare n = (let e = d.2 in omega arith) in
+          let vs' : List View = set (set s.views id w) bd (with_deposits ls b) in
+          let now : outside sizes s.words vs' slot ≡ 0 = outside_moved sizes s.words vs' slot
+          (let m = banks.total_dealt γ sizes s.words s.views h.bank id v at bd b there bank ne (moves_at slot) w ls refl in
+          let one = moves_one slot w is in let z = moves_rest slot v rests in omega arith) in record {
+            view = w;
+            bank = with_deposits ls b;
+            lot = l;
+            act = tk.act;
+            valid = tk.valid;
+            holds = stands_dealt γ sizes id v s h at w refl
+                (blind sizes s.words s.views id v v at (subst (Parts sizes s.words) (sym (set_again s.views id v at)) h.kept.parts) t)
+                (homes_after s.homes me.1 tk.act)
+                (part.takes γ sizes s.words s.views s.homes h.homes id v at slot (spare n) Is me.1 tk s.words w is
+                (λ j p _. still_seen w rests refl refl j p) (λ j _ _. refl)
                 (λ j m. let e : slot ≡ j = sym (one_moved w slot j is m) in
-                    (live, subst (λ (k : ℕ). OwnsAlone v k ⊎ (0 < items_at k v)) e may)),
-                (λ j l. absurd (settles_only w j slot l is)),
-              ))
-              (records.comes_to_move sizes s.views s.homes h.records id v at slot w (homes_after s.homes me.1 tk.act) tells
-              (λ j g k. records.mine sizes s.views s.homes h.records id v at j g (known j g k))
-              (λ j p y _ near l. (taken_lies γ n slot o Is s.homes me.1 tk j p y near l).1) refl (λ j m. one_moved w slot j is m) unseen)
-              (filled_by s h at w kept no_more),
-          refl,
-          tk.row,
-        )
+                (live, subst (λ (k : ℕ). OwnsAlone v k ⊎ (0 < items_at k v)) e may)))
+                (records.comes_to_move sizes s.views s.homes h.records id v at slot w (homes_after s.homes me.1 tk.act) tells
+                (λ j g k. records.mine sizes s.views s.homes h.records id v at j g (known j g k))
+                (λ j p y _ near l. (taken_lies γ n slot (spare n) Is s.homes me.1 tk j p y near l).1) refl (λ j m. one_moved w slot j is m) unseen)
+                (uncounted_alone sizes s.words s.views h.counts id v at w same refl)
+                (filled_by s h at w kept no_more) bd b there ne ls
+                (banks.deals γ sizes s.words s.views h.bank id v at bd b there bank ne w ls goes.deposits bank_is founds_is (h.bank.low id v at)
+                (λ k near. dite (ℕ_discrete k slot)
+                (λ e. let less = goes.less in let x = ap (λ (y : ℕ). units_at y ls) e in let y = ap (λ (y : ℕ). units_at y (banked b)) e in
+                let u = ap (outside sizes s.words s.views) e in let u' = ap (outside sizes s.words vs') e in omega arith)
+                (λ apart. let others = goes.others k apart in
+                let u = outside_same sizes s.words s.words s.views vs' k refl
+                (let m = banks.total_dealt γ sizes s.words s.views h.bank id v at bd b there bank ne (moves_at k) w ls refl in
+                let z = moves_other k w slot is apart in let z' = moves_rest k v rests in omega arith) in omega arith)));
+            ours = bank;
+            goes = subst (Leaves (banked b) l) (sym (banked_then γ ls b balance.book goes.deposits)) goes.goes;
+            offered = tt;
+            then = told l (carried_after me.1 tk.act)
+                (λ i. record l { book = goes.book i; number = goes.number i; units = whole i; lent = goes.free i }) tk.row;
+          }
+
+      -- an owner's unit goes to the bank
+      pub enters_unit : OwnsAlone v slot → (others : List ℕ) → v.slots.drawn ≡ slot ∷ others → (l : Lot) → l ≡ lot γ slot l.round l.shown 1
+          → MayDeal Comes (λ k. k ≡ l) (λ _. EntersUnit me)
+      enters_unit own more drawn l is s b h _ at there bank ne = let w : View = undrawing v in
+          let number = ap (λ (k : Lot). k.number) is in let units = ap (λ (k : Lot). k.units) is in
+          let d = brings γ (banked b) l (banks.has_deposits γ sizes s.words s.views h.bank id v at bd b there bank ne) (ap (λ (k : Lot). k.book) is)
+          (ap (λ (k : Lot). k.lent) is) (omega arith) in let ls : List Lot = d.0 in let brought = d.1 in
+          let told = h.records.each id v at in let mine = records.mine sizes s.views s.homes h.records id v at in
+          let vs' : List View = set (set s.views id w) bd (with_deposits ls b) in
+          let less : (k : ℕ) → drawn_at k w + is_at k slot ≡ drawn_at k v
+          = λ k. let a = ap (times k) drawn in let c = ap (λ (xs : List ℕ). times k (tail xs)) drawn in omega arith in record {
+            view = w;
+            bank = with_deposits ls b;
+            lot = l;
+            act = keeps;
+            valid = tt;
+            holds = stands_dealt γ sizes id v s h at w refl
+                (blind_units sizes s.words s.views id v v at (subst (Parts sizes s.words) (sym (set_again s.views id v at)) h.kept.parts) w.stakes
+                w.slots.drawn) s.homes
+                (part.calm γ sizes s.words s.views s.homes h.homes id v at s.words w (λ j p out. out) (λ j _. refl) (h.homes.moving id v at))
+                (records.no_more sizes s.views s.homes h.records id v at w s.homes
+                record { owns = told.owns; owned = told.owned; sees = told.sees; waits = told.waits; waiting = told.waiting }
+                mine (λ j p y _ _ l. inl l) (λ j m. m) (λ j a. a))
+                (uncounted_alone sizes s.words s.views h.counts id v at w refl refl) (still_filled s h at w refl refl refl) bd b there ne ls
+                (banks.deals γ sizes s.words s.views h.bank id v at bd b there bank ne w ls brought.deposits refl refl
+                (λ k. let low = h.bank.low id v at k in let e = less k in omega arith)
+                (λ k near. let u = outside_same sizes s.words s.words s.views vs' k refl
+                (let t = banks.total_dealt γ sizes s.words s.views h.bank id v at bd b there bank ne (moves_at k) w ls refl in omega arith) in
+                let e = less k in dite (ℕ_discrete k slot)
+                (λ same. let o = is_same k slot (sym same) in let sum = brought.sum in let x = ap (λ (y : ℕ). units_at y ls) (same ∙ sym number) in
+                let y = ap (λ (y : ℕ). units_at y (banked b)) (same ∙ sym number) in omega arith)
+                (λ apart. let o = is_other k slot (λ e. apart (sym e)) in let same = brought.others k (λ e. apart (e ∙ number)) in omega arith)));
+            ours = bank;
+            goes = subst (Comes (banked b) l) (sym (banked_then γ ls b (h.bank.banks bd b there bank).book brought.deposits)) brought.comes;
+            offered = refl;
+            then = (refl, refl);
+          }
 
     -- what is remembered of an item that waits with a lone participant it moved in last
     remembered_filled : (s : State Stake View) → Housed γ sizes s → get_elem? s.views id ≡ some v → (value : Gv) → IsIn v.stakes.waits slot value
@@ -350,31 +455,33 @@ module _ (slots id : ℕ) (me : Mine) (live : HasPlace me.0.epoch) where
     )
 
     -- the value of an item that is due is to be moved out
-    pub takes_out : v.stakes.moves ≡ None → IsDue v slot → MayAlone (TakesOut slot me)
-    takes_out rests due s h _ at = let k : ℕ = due.0 in let item : WaitingItem = due.1 in let p = h.kept.parts in
+    pub takes_out : (bd : ℕ) → v.stakes.moves ≡ None → IsDue v slot
+        → MayDeal bd Leaves (λ _. Unit {0}) (λ l me'. TakesOut slot me me' × IsDeposit slot me l)
+    takes_out bd rests due s b h _ at held bank ne = let k : ℕ = due.0 in let item : WaitingItem = due.1 in let p = h.kept.parts in
         let once = waits_once codes sound sizes s.words s.views p.slots id v at slot k item due.2 due.3 in
         let waits : 0 < items_at slot v = omega arith in let tells = h.records.each id v at in
         let here_waits = total_has (items_at slot) s.views id v at in let sum = p.slots.waited slot in
         let filled = (sound.waits (slot_at sizes s.words slot) (omega arith)).1 in
         let dead : alive (slot_at sizes s.words slot) ≡ 0 = dite (dec_lt 0 (alive (slot_at sizes s.words slot)))
         (λ l. absurd (let w = (sound.lives (slot_at sizes s.words slot) l).0 in omega arith)) (λ none. omega arith) in
+        let undrawn : total (drawn_at slot) s.views ≡ 0 = (let low = total_below (drawn_at slot) (owners_at slot) s.views (λ j u e. h.bank.low j u e slot) in
+        let owned = p.slots.owned slot in omega arith) in
         let there = tells.waiting slot waits (none_moved v slot rests) in let value : Gv = there.0 in
         let known = records.mine sizes s.views s.homes h.records id v at slot value (inr (inr there.1)) in
         let w : View = moving slot (forgetting slot v) in
-        let m = moves_out 0 s h at rests dead (IsValue value)
+        moves_out bd s b h at held bank ne rests filled undrawn (IsValue value)
         (λ q y near lies sh. (sh.0 filled, h.records.home slot q value y inside near known lies)) (inr waits)
         (λ j u e sees. owning.unseen codes sound sizes s.words s.views p.slots id v at p.epoch k item due.2 due.4 j u e (subst (Sees u) (sym due.3) sees))
-        (λ j u e ne. (still_waiting γ sizes s h slot id j v u at e ne waits, unsettled γ sizes s h slot j u e dead))
-        w.stakes refl refl
+        (λ j u e ne. still_waiting γ sizes s h slot id j v u at e ne waits)
+        w.stakes refl refl refl refl
         (moving_tells v tells slot rests (none_owns γ sizes s h slot id v at waits id v at))
         (λ j g. known_by w j g (λ a. inl a) (λ a. inr (inl a)) (λ a. inr (inr (in_others slot v.stakes.waits j g a).1))) refl
-        (tells_old_by s h at w (λ r a. inl a) (λ r a. inr (has_old slot v.stakes.waits r a))) in (
-          m.0,
-          m.1,
-          m.2,
-          m.3,
-          record { value = value; view = m.4; stakes = m.5; remembered = there.1; filled = remembered_filled s h at value there.1 },
-        )
+        (tells_old_by s h at w (λ r a. inl a) (λ r a. inr (has_old slot v.stakes.waits r a)))
+        (λ l me'. TakesOut slot me me' × IsDeposit slot me l)
+        (λ l xs is row. (
+          record { value = value; view = refl; stakes = row; remembered = there.1; filled = remembered_filled s h at value there.1 },
+          is,
+        ))
 
     -- it was moved out
     pub gives_all : Moves v slot → IsDue v slot → (rest : Carries) → HasAll γ slot n 0 IsVacant rest me.1
@@ -391,7 +498,8 @@ module _ (slots id : ℕ) (me : Mine) (live : HasPlace me.0.epoch) where
           act = g.act;
           valid = g.valid;
           homes = part.gives γ sizes s.words s.views s.homes h.homes id v at slot 0 IsVacant rest me.1 g (set s.words i y) (giving now)
-              (ap alive (here s.words y (within s h)) ∙ (free_is 0 (omega arith)).0) (λ g vacant. (λ e. let f = ap full (here s.words y (within s h)) in absurd (omega arith), λ _. vacant))
+              (ap (λ (x : ℕ). away n (full x)) (here s.words y (within s h)) ∙ ap (away n) empty)
+              (λ g vacant. vacant_shown (full_at sizes (set s.words i y) slot) g (ap full (here s.words y (within s h)) ∙ empty) vacant)
               (seen_but (giving now) slot mine refl refl) (others s.words y) (none_out (giving now) refl);
           records = let waits : 0 < items_at slot v = (let once = c.1 in omega arith) in
               comes_home γ sizes s h slot id v at 0 IsVacant rest me.1 g (unknown_waiting γ sizes s h slot id v at mine waits) (giving now)
@@ -404,22 +512,32 @@ module _ (slots id : ℕ) (me : Mine) (live : HasPlace me.0.epoch) where
               (let f = one_full sizes s.words slot y inside h.kept.parts.slots.long in omega arith)
               (let o = over_slot s h y in omega arith) (λ none. absurd (omega arith));
           filled = still_filled s h at (giving now) refl refl refl;
+          bank = banks.moves_over γ sizes s.words s.views h.bank id v at (set s.words i y) (giving now) slot
+              record { bank = refl; founds = refl; book = refl; banked = refl; drawn = refl } (h.bank.low id v at)
+              (banks.moved_outside γ sizes s.words s.views h.bank id v at slot mine)
+              (outside_free sizes (set s.words i y) (set s.views id (giving now)) slot (ap full (here s.words y (within s h)) ∙ empty))
+              (λ k ne. sym (moves_other k v slot mine ne)) (others s.words y);
           tells = at_once GivesAll y (giving now, carried_after me.1 g.act)
               (now, (refl, c.1), refl, g.carried ∙ sym (rest_is γ slot n 0 IsVacant rest (suc n) me.1 row));
         })
 
     -- the value of an item whose slot is held is to be moved out, after a look at each place
-    pub takes_held : v.stakes.moves ≡ None → v.slots.owns ≡ slot ∷ [] → Holds v slot → n ≤ v.slots.looked → MayAlone (TakesHeld slot me)
-    takes_held rests owns held all s h _ at = let p = h.kept.parts in let tells = h.records.each id v at in
+    pub takes_held : (bd : ℕ) → v.stakes.moves ≡ None → v.slots.owns ≡ slot ∷ [] → v.slots.drawn ≡ [] → Holds v slot → n ≤ v.slots.looked
+        → MayDeal bd Leaves (λ _. Unit {0}) (λ l me'. TakesHeld slot me me' × IsDeposit slot me l)
+    takes_held bd rests owns empty held all s b h _ at there bank ne = let p = h.kept.parts in let tells = h.records.each id v at in
         let own = owns_it v slot owns in let one = ((p.slots.each id v at).alone slot own).0 in
         let filled = full_owned (slot_at sizes s.words slot) (omega arith) in let w : View = moving slot (untold v) in
-        let m = moves_out 1 s h at rests one IsFull (λ q y _ _ sh. sh.0 filled) (inl own)
+        let undrawn : total (drawn_at slot) s.views ≡ 0 = total_zero (drawn_at slot) s.views (λ j u e. dite (ℕ_discrete id j)
+        (λ same. ap (drawn_at slot) (one_view s.views id j u v e at (sym same)) ∙ ap (times slot) empty)
+        (λ ne. let low = h.bank.low j u e slot in
+        let both = owners_in codes sound sizes s.words s.views p.slots id j slot v u ne at e in omega arith)) in
+        moves_out bd s b h at there bank ne rests filled undrawn IsFull (λ q y _ _ sh. sh.0 filled) (inl own)
         (holding.unseen_held codes sound sizes s.words s.views p.slots id v at p.epoch slot held all)
-        (λ j u e ne. (still_owned γ sizes s h slot id j v u at e ne (omega arith), unsettled_owned γ sizes s h slot id j v u at e ne own))
-        w.stakes refl refl (held_tells v tells slot owns rests (none_waits γ sizes s h slot id v at own id v at))
+        (λ j u e ne. still_owned γ sizes s h slot id j v u at e ne (omega arith))
+        w.stakes refl refl refl refl (held_tells v tells slot owns rests (none_waits γ sizes s h slot id v at own id v at))
         (λ j g. known_by w j g (λ a. absurd (in_none j g a)) (λ a. inr (inl a)) (λ a. inr (inr a))) refl
-        (tells_old_by s h at w (λ r a. absurd (has_none r [] refl a)) (λ r a. inr a)) in
-        (m.0, m.1, m.2, m.3, (m.4, m.5))
+        (tells_old_by s h at w (λ r a. absurd (has_none r [] refl a)) (λ r a. inr a))
+        (λ l me'. TakesHeld slot me me' × IsDeposit slot me l) (λ l xs is row. ((refl, row), is))
 
     -- it has gone
     pub discards : Moves v slot → Holds v slot → n ≤ v.slots.looked → (rest : Carries) → HasAll γ slot n 0 IsVacant rest me.1
@@ -436,7 +554,8 @@ module _ (slots id : ℕ) (me : Mine) (live : HasPlace me.0.epoch) where
           act = g.act;
           valid = g.valid;
           homes = part.gives γ sizes s.words s.views s.homes h.homes id v at slot 0 IsVacant rest me.1 g (set s.words i y) (giving now)
-              (ap alive (here s.words y (within s h)) ∙ (free_is 0 (omega arith)).0) (λ g vacant. (λ e. let f = ap full (here s.words y (within s h)) in absurd (omega arith), λ _. vacant))
+              (ap (λ (x : ℕ). away n (full x)) (here s.words y (within s h)) ∙ ap (away n) empty)
+              (λ g vacant. vacant_shown (full_at sizes (set s.words i y) slot) g (ap full (here s.words y (within s h)) ∙ empty) vacant)
               (seen_but (giving now) slot mine refl refl) (others s.words y) (none_out (giving now) refl);
           records = let own = (h.kept.parts.slots.each id v at).held slot held in
               comes_home γ sizes s h slot id v at 0 IsVacant rest me.1 g (unknown_owned γ sizes s h slot id v at mine own) (giving now)
@@ -449,6 +568,15 @@ module _ (slots id : ℕ) (me : Mine) (live : HasPlace me.0.epoch) where
               (let f = one_full sizes s.words slot y inside h.kept.parts.slots.long in omega arith)
               (let o = over_slot s h y in omega arith) (λ none. absurd (omega arith));
           filled = still_filled s h at (giving now) refl refl refl;
+          bank = banks.moves_over γ sizes s.words s.views h.bank id v at (set s.words i y) (giving now) slot
+              record { bank = refl; founds = refl; book = refl; banked = refl; drawn = refl }
+              (λ k. let low = h.bank.low id v at k in dite (ℕ_discrete k slot)
+              (λ e. let none = banks.none_drawn γ sizes s.words s.views h.bank id v at slot inside mine in
+              let z = ap (λ (j : ℕ). drawn_at j v) e in omega arith)
+              (λ ne. let o = without_other slot k ne v.slots.owns in omega arith))
+              (banks.moved_outside γ sizes s.words s.views h.bank id v at slot mine)
+              (outside_free sizes (set s.words i y) (set s.views id (giving now)) slot (ap full (here s.words y (within s h)) ∙ empty))
+              (λ k ne. sym (moves_other k v slot mine ne)) (others s.words y);
           tells = at_once DiscardsAll y (giving now, carried_after me.1 g.act)
               (refl, g.carried ∙ sym (rest_is γ slot n 0 IsVacant rest (suc n) me.1 row));
         })
@@ -462,96 +590,47 @@ module _ (slots id : ℕ) (me : Mine) (live : HasPlace me.0.epoch) where
           more = λ j p out. out;
           same = λ j _. same_words s h j;
           mover = h.homes.moving id v at;
-          alike = (refl, refl, refl, λ _. refl);
+          alike = (refl, refl, refl, (λ _. refl), refl, refl);
           counts = refl;
           lives = λ l. l;
           had = λ _ l. inl l;
         })
 
-    -- the last stake in a slot of its own is taken, to which its unit comes home
-    pub takes_last : v.stakes.moves ≡ None → OwnsAlone v slot → MayAlone (λ me'. (value : Gv) → IsIn v.stakes.owns slot value → TakesLast slot value me me')
-    takes_last rests own s h _ at = let p = h.kept.parts in let r = h.records in let w : View = settling slot v in
-        let one = ((p.slots.each id v at).alone slot own).0 in let filled = full_owned (slot_at sizes s.words slot) (omega arith) in
-        let mine = records.mine sizes s.views s.homes r id v at in
-        let away : NoneOut n s.views slot n = λ j u e out. ⊎_elim
-        (λ (m : Moves u slot). dite (ℕ_discrete id j)
-        (λ same. none_moved v slot rests (subst (λ (z : View). Moves z slot) (one_view s.views id j u v e at (sym same)) m))
-        (λ ne. still_owned γ sizes s h slot id j v u at e ne (omega arith) m))
-        (λ (a : IsOneOut n u slot n). ⊎_elim
-        (λ (o : Sees u slot × (u.epoch.place ≡ n)). let open_guard = (p.slots.each j u e).guarded slot o.0 in
-        let in' = (p.epoch.each j u.epoch (at_map epoch_of s.views j u e)).inside (omega arith) in let e' = o.1 in omega arith)
-        (λ (l : Settles u slot × (n ≡ n)). dite (ℕ_discrete id j)
-        (λ same. none_settled v slot rests (subst (λ (z : View). Settles z slot) (one_view s.views id j u v e at (sym same)) l.0))
-        (λ ne. unsettled_owned γ sizes s h slot id j v u at e ne own l.0)) a) out in
-        let b = h.homes.back slot n inside (omega arith) away in let y : Stake = b.0 in let spot : ℕ = stake_at n slot n in
-        let has = h.homes.home slot n y inside (omega arith) b.1 in
-        let it : (value : Gv) → IsIn v.stakes.owns slot value → Has γ slot (share n 1 n) (IsValue value) y
-        = λ value told. subst (λ (k : ℕ). Has γ slot (share n k n) (IsValue value) y) one
-        (has.0, (has.1.0 filled, r.home slot n value y inside (omega arith) (mine slot value (inl told)) b.1)) in (
-          w,
-          takes spot y,
-          b.1,
-          stands_by γ sizes id v s h at w.stakes refl (set s.homes spot none)
-              (part.takes_one γ sizes s.words s.views s.homes h.homes id v at slot n (omega arith) w (inr (inr (refl, refl)))
-              (still_seen w rests refl refl) (
-                (λ j m. absurd (settles_only w slot j refl m)),
-                (λ j l. (live, subst (OwnsAlone v) (sym (one_settled w slot j refl l)) own)),
-              ))
-              (records.no_more sizes s.views s.homes r id v at w (set s.homes spot none) (settling_tells v (r.each id v at) slot rests)
-              mine (λ j p z _ _ lies. inl (one_taken s.homes spot (stake_at n j p) z lies))
-              (λ j m. absurd (settles_only w slot j refl m)) (λ j a. a))
-              (still_filled s h at w refl refl refl),
-          (λ value told. (refl, (refl, it value told, refl))),
-        )
-
-    -- retire the item, whose last stake goes home with its owner's unit
-    pub retires : v.slots.owns ≡ slot ∷ [] → ¬ (Holds v slot) → Settles v slot → (value : Gv) → IsIn v.stakes.owns slot value → (rest : Carries)
-        → HasLast γ slot n 0 (IsValue value) rest me.1 → May i (λ _. waiting_word 0) (λ _. OfSlot RetiresOne i me (waiting_word 0))
-    retires owns free mine value told_it rest row = let y : ℕ = waiting_word 0 in let told : ℕ → Mine → Type 0 = λ _. OfSlot RetiresOne i me y in
+    -- retire the item, whose owner's unit is in the bank
+    pub retires : v.slots.owns ≡ slot ∷ [] → ¬ (Holds v slot) → v.slots.drawn ≡ [] → v.stakes.moves ≡ None → (value : Gv) → IsIn v.stakes.owns slot value
+        → May i (λ _. waiting_word 0) (λ _. OfSlot RetiresOne i me (waiting_word 0))
+    retires owns free empty rests value told_it = let y : ℕ = waiting_word 0 in let told : ℕ → Mine → Type 0 = λ _. OfSlot RetiresOne i me y in
         let own = owns_it v slot owns in
         lift_homes γ sizes slots id me i (λ _. y) (λ _. AtSlot Retires i v y) told
         (spares (λ _. y) (λ _. AtSlot Retires i v y) (λ r w t. ap (λ (u : View). u.places) (t slot refl).3))
         (steps.retires id v live slot 0 inside own free (omega arith))
         (λ s w h at t. let c = t slot refl in let one = ((h.kept.parts.slots.each id v at).alone slot own).0 in let r = h.records in
-        let was = full_owned (slot_at sizes s.words slot) (omega arith) in let now : View = resting (remembering (retired slot y c.0 v)) in
+        let was = full_owned (slot_at sizes s.words slot) (omega arith) in let now : View = remembering (retired slot y c.0 v) in
         let word : slot_at sizes (set s.words i y) slot ≡ y = here s.words y (within s h) in let is = waiting_is 0 (omega arith) in
         let will = (sound.waits y (let q = is.1 in omega arith)).1 in
-        let same : full (slot_at sizes (set s.words i y) slot) ≡ full (slot_at sizes s.words slot) = ap full word ∙ (will ∙ sym was) in
-        let g = last_given γ n slot 0 (IsValue value) s.homes rest me.1 row in let spot : ℕ = stake_at n slot n in
-        let has : Has γ slot (share n (alive (slot_at sizes (set s.words i y) slot)) n) (IsShown (slot_at sizes (set s.words i y) slot)) g.last
-        = subst (λ (k : ℕ). Has γ slot (share n k n) (IsShown (slot_at sizes (set s.words i y) slot)) g.last) (sym (ap alive word ∙ is.0))
-        (g.has.0, (λ _. g.has.1.0, λ none. absurd (omega arith))) in
+        let same : (j : ℕ) → j < sizes.slots → full_at sizes (set s.words i y) j ≡ full_at sizes s.words j
+        = λ j low. dite (ℕ_discrete j slot)
+        (λ e. subst (λ (k : ℕ). full_at sizes (set s.words i y) k ≡ full_at sizes s.words k) (sym e) (ap full word ∙ (will ∙ sym was)))
+        (λ ne. others s.words y j low ne) in
         let mine_known = records.mine sizes s.views s.homes r id v at in
         subst (Follows γ sizes id i me told s y) (sym c.3) record {
           stakes = now.stakes;
-          act = gives;
+          act = keeps;
           valid = tt;
-          homes = subst (HomesPart γ sizes (set s.words i y) (set s.views id now)) (sym g.given)
-              (part.gives_last γ sizes s.words s.views s.homes h.homes id v at slot inside g.last (set s.words i y) now has same
-              (λ j p out. ⊎_elim (λ (m : Moves v j). absurd (settles_only v slot j mine m))
-              (λ (a : IsOneOut n v j p). ⊎_elim (λ (o : Sees v j × (v.epoch.place ≡ p)). inl (inr (inl o)))
-              (λ (l : Settles v j × (p ≡ n)). inr (one_settled v slot j mine l.0, l.1)) a) out)
-              (others s.words y) (none_out now refl));
-          records = subst (RecordsPart sizes (set s.views id now)) (sym g.given)
-              (records.no_more sizes s.views s.homes r id v at now (set s.homes spot (some g.last))
-              (retired_tells v (r.each id v at) slot owns y c.0 mine value told_it)
+          homes = part.calm γ sizes s.words s.views s.homes h.homes id v at (set s.words i y) now (λ j p out. out) same (none_out now rests);
+          records = records.no_more sizes s.views s.homes r id v at now s.homes
+              (retired_tells v (r.each id v at) slot owns y c.0 rests value told_it)
               (λ j g k. known_by now j g (λ a. absurd (in_none j g a)) (λ a. mine_known j g (inr (inl a)))
               (λ a. ⊎_elim (λ (b : IsIn v.stakes.owns j g). mine_known j g (inl b)) (λ (b : IsIn v.stakes.waits j g). mine_known j g (inr (inr b)))
               (in_both j g v.stakes.owns v.stakes.waits a)) k)
-              (λ j p z _ near lies. ⊎_elim
-              (λ (e : (stake_at n j p ≡ spot) × (some g.last ≡ some z)). inr (λ a known.
-              ap (λ (x : Stake). x.lot.shown) (sym (some-injective g.last z e.1)) ∙ (g.has.1.1
-              ∙ r.agree slot value a (mine_known slot value (inl told_it))
-              (subst (λ (k : ℕ). IsKnown s.views k a) (one_slot n j slot p n near (omega arith) e.0) known))))
-              (λ (e : (stake_at n j p ≢ spot) × (get_elem? s.homes (stake_at n j p) ≡ some (some z))). inl e.1)
-              (at_set s.homes spot (stake_at n j p) (some g.last) (some z) lies))
-              (λ j m. absurd (none_moved now j refl m)) (λ j a. a));
+              (λ j p z _ _ lies. inl lies) (λ j m. m) (λ j a. a);
           counts = uncounted sizes s.words s.views h.counts id v at (set s.words i y) now refl (λ l. l)
-              (as_full sizes s.words (set s.words i y) (λ j low. dite (ℕ_discrete j slot)
-              (λ e. subst (λ (k : ℕ). full (slot_at sizes (set s.words i y) k) ≡ full (slot_at sizes s.words k)) (sym e) same)
-              (λ ne. ap full (others s.words y j low ne)))) (over_slot s h y);
+              (as_full sizes s.words (set s.words i y) same) (over_slot s h y);
           filled = filled_by s h at now refl (tells_old_by s h at now (λ r a. absurd (has_none r [] refl a)) (has_either v.stakes.owns v.stakes.waits));
-          tells = at_once RetiresOne y (now, carried_after me.1 gives) (retired slot y c.0 v, (c.0, c.1, c.2, refl, c.4, c.5), refl, g.carried);
+          bank = banks.calm γ sizes s.words s.views h.bank id v at (set s.words i y) now
+              record { bank = refl; founds = refl; book = refl; banked = refl; drawn = refl } refl
+              (λ k. let z = ap (times k) empty in omega arith) same;
+          tells = at_once RetiresOne y (now, me.1) (retired slot y c.0 v, (c.0, c.1, c.2, refl, c.4, c.5), refl, refl);
         })
 
     -- a guard comes to see it beside its owner, who knows what it shows
@@ -569,7 +648,8 @@ module _ (slots id : ℕ) (me : Mine) (live : HasPlace me.0.epoch) where
           tt,
           stands_by γ sizes id v s h at v.stakes refl s.homes
               (part.calm γ sizes s.words s.views s.homes h.homes id v at s.words v (λ j p out. out) (λ j _. refl) (h.homes.moving id v at))
-              (records.calm sizes s.views s.homes r id v at v (refl, refl, refl, λ _. refl)) (still_filled s h at v refl refl refl),
+              (records.calm sizes s.views s.homes r id v at v (refl, refl, refl, (λ _. refl), refl, refl)) (still_filled s h at v refl refl refl)
+              (banks.alike γ sizes s.words s.views h.bank id v at s.words v (refl, refl, refl, (λ _. refl), refl, refl) (λ _ _. refl)),
           (
             (λ _. (refl, subst (IsIn v.stakes.sees slot) (r.agree slot is.0 value (mine slot is.0 (inr (inl is.1))) known) is.1)),
             (λ unseen. absurd (unseen sees)),
@@ -582,25 +662,24 @@ module _ (slots id : ℕ) (me : Mine) (live : HasPlace me.0.epoch) where
         = λ j x e m. dite (ℕ_discrete jd j)
         (λ same. ((r.each jd u there).owns slot value told).1 (subst (λ (z : View). Moves z slot) (one_view s.views jd j x u e there (sym same)) m))
         (λ ne. still_owned γ sizes s h slot jd j u x there e ne owners m) in
-        let away : NoneOut n s.views slot q = λ j x e out. ⊎_elim (λ (m : Moves x slot). still j x e m)
-        (λ (a : IsOneOut n x slot q). ⊎_elim (λ (o : Sees x slot × (x.epoch.place ≡ q)). dite (ℕ_discrete id j)
+        let nobody : NoneOut s.views slot q = λ j x e out. ⊎_elim (λ (m : Moves x slot). still j x e m)
+        (λ (o : SeesFrom x slot q). dite (ℕ_discrete id j)
         (λ same. unseen (subst (λ (z : View). Sees z slot) (one_view s.views id j x v e at (sym same)) o.0))
         (λ ne. let theirs = (p.slots.each j x e).guarded slot o.0 in
         let apart = (p.epoch.two id j v.epoch x.epoch ne (at_map epoch_of s.views id v at)
-        (at_map epoch_of s.views j x e)).places live (omega arith) in apart (sym o.1)))
-        (λ (l : Settles x slot × (q ≡ n)). let e = l.1 in omega arith) a) out in
-        let b = h.homes.back slot q inside (omega arith) away in let y : Stake = b.0 in let spot : ℕ = stake_at n slot q in
+        (at_map epoch_of s.views j x e)).places live (omega arith) in apart (sym o.1))) out in
+        let b = h.homes.back slot q inside (omega arith) nobody in let y : Stake = b.0 in let spot : ℕ = stake_at n slot q in
         let has = h.homes.home slot q y inside (omega arith) b.1 in let shows = r.home slot q value y inside (omega arith) known b.1 in
         let it : Has γ slot 1 (IsValue value) y
-        = subst (λ (k : ℕ). Has γ slot k (IsValue value) y) (share_one n (alive (slot_at sizes s.words slot)) q near) (has.0, (has.1.0 filled, shows)) in (
+        = subst (λ (k : ℕ). Has γ slot k (IsValue value) y) (share_one n (away n (full_at sizes s.words slot)) q near) (has.0, (has.1.0 filled, shows)) in (
           now,
           takes spot y,
           b.1,
           stands γ sizes id v s h at now refl (blind sizes s.words s.views id v (seeing slot v) at
               (steps.watches_beside id v live slot is_open jd u owners free s.words s.views p at there) now.stakes)
               (set s.homes spot none)
-              (part.takes_one γ sizes s.words s.views s.homes h.homes id v at slot q (omega arith) now (inr (inl (omega arith, refl)))
-              (λ j p out. let o = only_seen n v rests j p out in inr (inl (let a = o.0 in omega arith, o.1)))
+              (part.takes_one γ sizes s.words s.views s.homes h.homes id v at slot q (omega arith) now (inr (omega arith, refl))
+              (λ j p out. let o = only_seen v rests j p out in inr (let a = o.0 in omega arith, o.1))
               (none_out now rests))
               (records.kept sizes s.views s.homes r id v at now (set s.homes spot none)
               record {
@@ -620,7 +699,9 @@ module _ (slots id : ℕ) (me : Mine) (live : HasPlace me.0.epoch) where
                 (λ k m sees. dite (ℕ_discrete k slot) (λ same. still j x e (subst (Moves x) same m))
                     (λ ne. r.apart j id x v k e at m (let o = is_other k slot (λ e. ne (sym e)) in omega arith))),
               )))
-              (uncounted_alone sizes s.words s.views h.counts id v at now refl refl) (still_filled s h at now refl refl refl),
+              (uncounted_alone sizes s.words s.views h.counts id v at now refl refl) (still_filled s h at now refl refl refl)
+              (banks.calm γ sizes s.words s.views h.bank id v at s.words now
+              record { bank = refl; founds = refl; book = refl; banked = refl; drawn = refl } refl (h.bank.low id v at) (λ _ _. refl)),
           ((λ sees. absurd (unseen sees)), (λ _. (y, it, refl))),
         ))
 
@@ -634,7 +715,7 @@ module _ (slots id : ℕ) (me : Mine) (live : HasPlace me.0.epoch) where
           more = λ j p out. out;
           same = λ j _. same_words s h j;
           mover = h.homes.moving id v at;
-          alike = (refl, refl, refl, λ _. refl);
+          alike = (refl, refl, refl, (λ _. refl), refl, refl);
           counts = refl;
           lives = λ l. l;
           had = λ _ l. inl l;
@@ -649,7 +730,7 @@ module _ (slots id : ℕ) (me : Mine) (live : HasPlace me.0.epoch) where
           more = λ j p out. out;
           same = λ j _. same_words s h j;
           mover = h.homes.moving id v at;
-          alike = (refl, refl, refl, λ _. refl);
+          alike = (refl, refl, refl, (λ _. refl), refl, refl);
           counts = refl;
           lives = λ l. l;
           had = λ _ l. inl l;
@@ -684,13 +765,13 @@ module _ (slots id : ℕ) (me : Mine) (live : HasPlace me.0.epoch) where
       (steps.looks id v live place next)
       (λ r w t. (refl, t))
       (λ s w h at t. let c = t place refl in let x : ℕ = get_or s.words j 0 in
-      let same = λ (k : ℕ) (_ : k < sizes.slots). ap (λ (l : List ℕ). slot_at sizes l k) (set-get_or s.words j 0) in
+      let same = λ (k : ℕ) (_ : k < sizes.slots). ap (λ (l : List ℕ). full_at sizes l k) (set-get_or s.words j 0) in
       let calm = λ (w : View). IsCalm γ sizes slots id me j (λ x. x) s x w in dite (ℕ_discrete x 2)
       (λ e. subst calm (sym (c.1 e)) record {
         more = λ k p out. out;
         same = same;
         mover = h.homes.moving id v at;
-        alike = (refl, refl, refl, λ _. refl);
+        alike = (refl, refl, refl, (λ _. refl), refl, refl);
         counts = refl;
         lives = λ l. l;
         had = λ _ l. inl l;
@@ -699,7 +780,7 @@ module _ (slots id : ℕ) (me : Mine) (live : HasPlace me.0.epoch) where
         more = λ k p out. out;
         same = same;
         mover = h.homes.moving id v at;
-        alike = (refl, refl, refl, λ _. refl);
+        alike = (refl, refl, refl, (λ _. refl), refl, refl);
         counts = refl;
         lives = λ l. l;
         had = λ _ l. inl l;
@@ -726,7 +807,7 @@ module _ (slots id : ℕ) (me : Mine) (live : HasPlace me.0.epoch) where
         act = g.act;
         valid = g.valid;
         homes = part.closes γ sizes s.words s.views s.homes h.homes id v at q le near me.1 g (set s.words j 1) (unsighted now) told.sees refl
-            rests (λ k sees. ap full (same k) ∙ f.full k sees) (λ k _. same k) (none_out (unsighted now) rests);
+            rests (λ k sees. same k ∙ f.full k sees) (λ k _. same k) (none_out (unsighted now) rests);
         records = records.no_more sizes s.views s.homes r id v at (unsighted now) (homes_after s.homes me.1 g.act)
             record { owns = told.owns; owned = told.owned; sees = refl; waits = told.waits; waiting = told.waiting }
             (λ k a c. known_by (unsighted now) k a (λ d. mine k a (inl d)) (λ d. absurd (in_none k a d)) (λ d. mine k a (inr (inr d))) c)
@@ -737,9 +818,11 @@ module _ (slots id : ℕ) (me : Mine) (live : HasPlace me.0.epoch) where
             (λ (d : LiesAt n s.homes k p y). inl d) (g.home (stake_at n k p) y lies))
             (λ k m. m) (λ k sees. absurd (omega arith));
         counts = uncounted sizes s.words s.views h.counts id v at (set s.words j 1) (unsighted now) refl (λ _. omega arith)
-            (as_full sizes s.words (set s.words j 1) (λ k _. ap full (same k)))
+            (as_full sizes s.words (set s.words j 1) (λ k _. same k))
             (ended_spared sizes s.words j 1 (own_place γ sizes id v live 1 s h at) n (omega arith));
         filled = still_filled s h at (unsighted now) refl refl refl;
+        bank = banks.calm γ sizes s.words s.views h.bank id v at (set s.words j 1) (unsighted now)
+            record { bank = refl; founds = refl; book = refl; banked = refl; drawn = refl } refl (h.bank.low id v at) (λ k _. same k);
         tells = (now, refl, refl, g.carried);
       })
 
@@ -788,7 +871,7 @@ module _ (γ : ℕ) (sizes : Sizes) (slots id : ℕ) (me : Mine) (p : ℕ) (insi
           more = λ j q out. out;
           same = same;
           mover = mover;
-          alike = (refl, refl, refl, λ _. refl);
+          alike = (refl, refl, refl, (λ _. refl), refl, refl);
           counts = refl;
           lives = λ l. l;
           had = λ _ l. inl l;
@@ -797,7 +880,7 @@ module _ (γ : ℕ) (sizes : Sizes) (slots id : ℕ) (me : Mine) (p : ℕ) (insi
           more = λ j q out. out;
           same = same;
           mover = mover;
-          alike = (refl, refl, refl, λ _. refl);
+          alike = (refl, refl, refl, (λ _. refl), refl, refl);
           counts = refl;
           lives = λ l. l;
           had = λ _ l. inl l;
@@ -867,9 +950,9 @@ module _ (γ : ℕ) (sizes : Sizes) (slots id : ℕ) (me : Mine) (slot : ℕ) (n
       (λ s w h at t. let x : ℕ = get_or s.words word 0 in
       subst (IsCalm γ sizes slots id me word (λ x. x) s x) (sym (looked_for x w t).1) record {
         more = λ j q out. out;
-        same = λ j _. ap (λ (l : List ℕ). slot_at sizes l j) (as_before s h at);
+        same = λ j _. ap (λ (l : List ℕ). full_at sizes l j) (as_before s h at);
         mover = h.homes.moving id me.0 at;
-        alike = (refl, refl, refl, λ _. refl);
+        alike = (refl, refl, refl, (λ _. refl), refl, refl);
         counts = refl;
         lives = λ l. l;
         had = λ _ l. inl l;

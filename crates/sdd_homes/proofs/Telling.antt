@@ -1,10 +1,9 @@
 -- What a participant knows of what slots show, after each of its steps that may change it
-use Rattle.std.proofs.Common.{◌≡◌, ◌≢◌, inl, inr, ℕ, suc, ◌+◌, ◌<◌, Bool, true, false, List, [], ◌∷◌, map, get_or, set, sym, refl, ap, ◌∙◌, subst, ⊎_elim, arith}
+use Rattle.std.proofs.Common.{◌≡◌, ◌≢◌, inl, inr, ℕ, suc, ◌+◌, ◌<◌, Bool, List, [], ◌∷◌, map, get_or, set, sym, refl, ap, ◌∙◌, subst, ⊎_elim, arith}
 use mathlib.Core.Option.{some, some-injective}
 use mathlib.Core.Logic.{dite}
 use native.Mathlib.Decide.{ℕ_discrete}
 use Rattle.std.specs.Prelude.{Option, Some, None}
-use Rattle.std.proofs.lemmas.Bool.{true≢false}
 use lib.ListN.{get_elem?}
 use base.Stored.{Gv}
 use Rattle.atomic_table.specs.Table.{State, homes_after}
@@ -21,11 +20,9 @@ use Rattle.sdd_rule.specs.SlotSteps.{without, retired, retired_now}
 use Rattle.sdd_rule.proofs.Codes.{sound}
 use Rattle.sdd_rule.proofs.SlotWords.{owners_in}
 use Rattle.sdd_rule.proofs.Sums.{is_same, is_other, without_same, without_other, total_has, total_two, total_snoc}
-use Rattle.sdd_views.specs.declared.Move.{Move}
-use Rattle.sdd_rule.specs.Moves.{all_in, last_in}
-use Rattle.sdd_homes.specs.Homes.{Carries, share, Has, Moves, Settles, LiesAt}
+use Rattle.sdd_homes.specs.Homes.{Carries, share, Has, Moves, LiesAt}
 use Rattle.sdd_homes.specs.Housed.{Housed}
-use Rattle.sdd_homes.specs.HomeSteps.{moving, settling, making, resting, telling, untold, remembering, forgetting}
+use Rattle.sdd_homes.specs.HomeSteps.{moving, making, resting, telling, untold, remembering, forgetting}
 use Rattle.sdd_homes.specs.Records.{slot_shown, IsIn, IsKnown, IsTelling, RecordsPart}
 use Rattle.sdd_homes.specs.Fillings.{HasRecord}
 use Rattle.sdd_homes.proofs.Records.{in_head, in_tail, in_either, in_none, in_both, in_front, in_back, in_others, in_kept, known_by}
@@ -33,29 +30,15 @@ use Rattle.sdd_homes.proofs.Records as records
 use Rattle.sdd_homes.proofs.Fillings.{NoneTold}
 use Rattle.sdd_homes.proofs.Rows.{Given, given_lies}
 
-abbrev slot_moved : Option Move → ℕ
+abbrev slot_moved : Option ℕ → ℕ
 slot_moved None = 0
-slot_moved (Some m) = m.slot
+slot_moved (Some i) = i
 
 pub one_moved : (v : View) (i j : ℕ) → Moves v i → Moves v j → j ≡ i
 one_moved v i j m m' = ap slot_moved (sym m' ∙ m)
 
 pub none_moved : (v : View) (i : ℕ) → v.stakes.moves ≡ None → ¬ (Moves v i)
-none_moved v i rests m = let e : None ≡ Some (all_in i) = sym rests ∙ m in cc
-
-pub none_settled : (v : View) (i : ℕ) → v.stakes.moves ≡ None → ¬ (Settles v i)
-none_settled v i rests m = let e : None ≡ Some (last_in i) = sym rests ∙ m in cc
-
-abbrev whole_moved : Option Move → Bool
-whole_moved None = true
-whole_moved (Some m) = m.whole
-
--- who takes an owner's unit home moves no value
-pub settles_only : (v : View) (i j : ℕ) → Settles v i → ¬ (Moves v j)
-settles_only v i j l m = let e : false ≡ true = ap whole_moved (sym l ∙ m) in true≢false (sym e)
-
-pub one_settled : (v : View) (i j : ℕ) → Settles v i → Settles v j → j ≡ i
-one_settled v i j m m' = ap slot_moved (sym m' ∙ m)
+none_moved v i rests m = let e : None ≡ Some i = sym rests ∙ m in cc
 
 -- one seat has one view
 pub one_view : (vs : List View) (id j : ℕ) (u v : View) → get_elem? vs j ≡ some u → get_elem? vs id ≡ some v → j ≡ id → u ≡ v
@@ -78,7 +61,7 @@ module _ (v : View) (t : IsTelling v) (slot : ℕ) where
       let l : OwnsAlone w i = omega arith in l,
       λ m. never (subst (OwnsAlone v) (one_moved w slot i refl m) o),
     );
-    owned = λ i o still. dite (ℕ_discrete i slot) (λ e. absurd (still (ap (λ (k : ℕ). Some (all_in k)) (sym e))))
+    owned = λ i o still. dite (ℕ_discrete i slot) (λ e. absurd (still (ap (λ (k : ℕ). Some k) (sym e))))
         (λ ne. t.owned i (let q = is_other i slot (λ e. ne (sym e)) in omega arith) (none_moved v i rests));
     sees = t.sees;
     waits = λ i g h. let o = (t.waits i g h).0 in (o, λ m. quiet (subst (λ (k : ℕ). 0 < items_at k v) (one_moved w slot i refl m) o));
@@ -93,24 +76,14 @@ module _ (v : View) (t : IsTelling v) (slot : ℕ) where
     sees = t.sees;
     waits = λ i g h. let o = in_others slot v.stakes.waits i g h in ((t.waits i g o.1).0, λ m. o.0 (one_moved w slot i refl m));
     waiting = λ i o still. let b = t.waiting i o (none_moved v i rests) in
-        in_kept slot v.stakes.waits i b.0 (λ e. still (ap (λ (k : ℕ). Some (all_in k)) (sym e))) b.1;
-  }
-
-  -- it takes its owner's unit home
-  pub settling_tells : v.stakes.moves ≡ None → IsTelling (settling slot v)
-  settling_tells rests = record {
-    owns = λ i g h. ((t.owns i g h).0, settles_only (settling slot v) slot i refl);
-    owned = λ i o still. t.owned i o (none_moved v i rests);
-    sees = t.sees;
-    waits = λ i g h. ((t.waits i g h).0, settles_only (settling slot v) slot i refl);
-    waiting = λ i o still. t.waiting i o (none_moved v i rests);
+        in_kept slot v.stakes.waits i b.0 (λ e. still (ap (λ (k : ℕ). Some k) (sym e))) b.1;
   }
 
   module _ (owns : v.slots.owns ≡ slot ∷ []) where
     pub held_tells : v.stakes.moves ≡ None → ¬ (0 < items_at slot v) → IsTelling (moving slot (untold v))
     held_tells rests quiet = record {
       owns = λ i g h. absurd (in_none i g h);
-      owned = λ i o still. dite (ℕ_discrete i slot) (λ e. absurd (still (ap (λ (k : ℕ). Some (all_in k)) (sym e))))
+      owned = λ i o still. dite (ℕ_discrete i slot) (λ e. absurd (still (ap (λ (k : ℕ). Some k) (sym e))))
           (λ ne. absurd (let z = owns_no_more v slot owns i ne in omega arith));
       sees = t.sees;
       waits = λ i g h. let o = (t.waits i g h).0 in
@@ -122,9 +95,9 @@ module _ (v : View) (t : IsTelling v) (slot : ℕ) where
     items_then : (y count i : ℕ) → items_at i (retired slot y count v) ≡ items_at i v + is i slot
     items_then y count i = total_snoc (waits_in i) v.slots.waits (retired_now slot count)
 
-    pub retired_tells : (y count : ℕ) → Settles v slot → (value : Gv) → IsIn v.stakes.owns slot value
-        → IsTelling (resting (remembering (retired slot y count v)))
-    retired_tells y count settles value told = let mine : List Showing = v.stakes.owns in let old : List Showing = v.stakes.waits in record {
+    pub retired_tells : (y count : ℕ) → v.stakes.moves ≡ None → (value : Gv) → IsIn v.stakes.owns slot value
+        → IsTelling (remembering (retired slot y count v))
+    retired_tells y count rests value told = let mine : List Showing = v.stakes.owns in let old : List Showing = v.stakes.waits in record {
       owns = λ i g h. absurd (in_none i g h);
       owned = λ i o still. dite (ℕ_discrete i slot)
           (λ e. absurd (let z = without_same slot v.slots.owns in let c = ap (λ (k : ℕ). times k (without slot v.slots.owns)) e in omega arith))
@@ -135,12 +108,12 @@ module _ (v : View) (t : IsTelling v) (slot : ℕ) where
             (λ (a : IsIn mine i g). dite (ℕ_discrete i slot) (λ e. let one = is_same i slot (sym e) in omega arith)
             (λ ne. absurd (let o = (t.owns i g a).0 in let z = owns_no_more v slot owns i ne in omega arith)))
             (λ (b : IsIn old i g). let o = (t.waits i g b).0 in omega arith) (in_both i g mine old h),
-        none_moved (resting v) i refl,
+        none_moved v i rests,
       );
       waiting = λ i o still. dite (ℕ_discrete i slot)
           (λ e. (value, in_front i value mine old (subst (λ (k : ℕ). IsIn mine k value) (sym e) told)))
           (λ ne. let now = items_then y count i in let z = is_other i slot (λ e. ne (sym e)) in
-          let b = t.waiting i (omega arith) (settles_only v slot i settles) in (b.0, in_back i b.0 mine old b.1));
+          let b = t.waiting i (omega arith) (none_moved v i rests) in (b.0, in_back i b.0 mine old b.1));
     }
 
   module _ (mine : Moves v slot) where
@@ -166,7 +139,7 @@ module _ (v : View) (t : IsTelling v) (slot : ℕ) where
         → ¬ (OwnsAlone w slot) → ((i : ℕ) → i ≢ slot → items_at i w ≡ items_at i v) → ¬ (0 < items_at slot w) → w.slots.sees ≡ v.slots.sees → IsTelling w
     rested_tells w is same never same' quiet seen = record {
       owns = λ i g h. let o = t.owns i g (subst (λ (k : StakesView). IsIn k.owns i g) is h) in let b = o.0 in
-          let e = same i (λ e. o.1 (mine ∙ ap (λ (k : ℕ). Some (all_in k)) (sym e))) in (
+          let e = same i (λ e. o.1 (mine ∙ ap (λ (k : ℕ). Some k) (sym e))) in (
             let l : OwnsAlone w i = omega arith in l,
             none_moved w i (ap (λ (k : StakesView). k.moves) is),
           );
@@ -175,7 +148,7 @@ module _ (v : View) (t : IsTelling v) (slot : ℕ) where
           (b.0, subst (λ (k : StakesView). IsIn k.owns i b.0) (sym is) b.1));
       sees = ap (λ (k : StakesView). map slot_shown k.sees) is ∙ (t.sees ∙ sym seen);
       waits = λ i g h. let o = t.waits i g (subst (λ (k : StakesView). IsIn k.waits i g) is h) in let b = o.0 in
-          let e = same' i (λ e. o.1 (mine ∙ ap (λ (k : ℕ). Some (all_in k)) (sym e))) in
+          let e = same' i (λ e. o.1 (mine ∙ ap (λ (k : ℕ). Some k) (sym e))) in
           (subst (λ (k : ℕ). 0 < k) (sym e) b, none_moved w i (ap (λ (k : StakesView). k.moves) is));
       waiting = λ i o still. dite (ℕ_discrete i slot) (λ e. absurd (quiet (subst (λ (k : ℕ). 0 < items_at k w) e o)))
           (λ ne. let b = t.waiting i (subst (λ (k : ℕ). 0 < k) (same' i ne) o) (λ m. ne (one_moved v slot i mine m)) in

@@ -1,5 +1,5 @@
 -- The start, a new token, owners that are cut off as a token and taken in again, and what is at home at the end
-use Rattle.std.proofs.Common.{◌≡◌, ◌≢◌, ◌⊎◌, inl, inr, ℕ, zero, suc, ◌+◌, ◌<◌, ◌≤◌, Bool, List, [], ◌∷◌, ◌++◌, length, get_or, set, sym, refl, ap, ◌∙◌, subst, ⊎_elim, arith}
+use Rattle.std.proofs.Common.{◌≡◌, ◌≢◌, ◌⊎◌, inl, inr, ℕ, zero, suc, ◌+◌, ◌<◌, ◌≤◌, Bool, true, false, List, [], ◌∷◌, ◌++◌, length, get_or, set, sym, refl, ap, ◌∙◌, subst, ⊎_elim, arith}
 use Rattle.std.proofs.lemmas.List.{length-map}
 use mathlib.Core.Option.{some, some-injective, some-ne-none}
 use mathlib.Core.Logic.{dite}
@@ -17,8 +17,8 @@ use Rattle.sdd_views.specs.declared.View.{View}
 use Rattle.sdd_views.specs.declared.Sizes.{Sizes}
 use Rattle.sdd_rule.specs.Words.{first_slot, all_words}
 use Rattle.sdd_rule.specs.Codes.{alive, waiting, full}
-use Rattle.sdd_rule.specs.Sums.{times}
-use Rattle.sdd_rule.specs.Slots.{slot_at, OwnsAlone, Sees}
+use Rattle.sdd_rule.specs.Sums.{is, times}
+use Rattle.sdd_rule.specs.Slots.{slot_at, OwnsAlone}
 use Rattle.sdd_rule.specs.SlotSteps.{first, others}
 use Rattle.sdd_rule.specs.Epoch.{HasPlace}
 use Rattle.sdd_views.specs.Views.{owner_token, owner_of}
@@ -26,8 +26,11 @@ use Rattle.sdd_rule.specs.Parts.{epoch_of, idle}
 use Rattle.sdd_rule.proofs.Codes.{sound}
 use Rattle.sdd_rule.proofs.Lift as kept
 use Rattle.sdd_rule.proofs.Frame.{each_set, each_snoc}
-use Rattle.sdd_rule.proofs.Sums.{is_same, is_other, total_set, total_snoc, total_has, total_two, total_only, span_zero}
-use Rattle.sdd_homes.specs.Homes.{stake_at, share, Has, IsShown, Moves, Settles, IsOneOut, IsOut, LiesAt, AreLaid, HomesPart}
+use Rattle.sdd_rule.proofs.Sums.{is_same, is_other, total_set, total_snoc, total_has, total_two, total_only, total_append, span_zero}
+use Rattle.sdd_homes.specs.Homes.{stake_at, share, away, full_at, Has, IsShown, Moves, SeesFrom, IsOut, LiesAt, AreLaid, HomesPart}
+use Rattle.sdd_homes.specs.Banked.{BankPart, founder, founded, bank_of}
+use Rattle.sdd_homes.proofs.Banks.{HasUnits, outside_free}
+use Rattle.sdd_homes.proofs.Banks as banks
 use Rattle.sdd_homes.specs.Housed.{Housed}
 use Rattle.sdd_homes.specs.HomeSteps.{parting, departing, regained, uncounting, counts_of, counts_token, counting}
 use Rattle.sdd_homes.specs.Records.{IsIn, KnowsShown, IsKnown, IsTelling, RecordsPart}
@@ -40,11 +43,11 @@ use Rattle.sdd_homes.proofs.Part as part
 use Rattle.sdd_homes.proofs.Records.{in_head, in_tail, in_either, in_none, known_by, telling_none, knows_none}
 use Rattle.sdd_homes.proofs.Records as records
 use Rattle.sdd_homes.proofs.Fillings.{IsTold, has_none, has_either, told_by, tells_none, tells_old, filled_more, filled_after, filled_same}
-use Rattle.sdd_homes.proofs.Steps.{still_free, unsettled}
+use Rattle.sdd_homes.proofs.Steps.{still_free}
 use Rattle.sdd_homes.proofs.Telling.{none_moved}
 
-nothing_out : (n : ℕ) (v : View) → v.stakes.moves ≡ None → v.slots.sees ≡ [] → (i p : ℕ) → ¬ (IsOut n v i p)
-nothing_out n v rests blind i p out = let o = only_seen n v rests i p out in let a = ap (times i) blind in let b = o.0 in absurd (omega arith)
+nothing_out : (v : View) → v.stakes.moves ≡ None → v.slots.sees ≡ [] → (i p : ℕ) → ¬ (IsOut v i p)
+nothing_out v rests blind i p out = let o = only_seen v rests i p out in let a = ap (times i) blind in let b = o.0 in absurd (omega arith)
 
 set_front : {A : Type 0} (l m : List A) (i : ℕ) (a b : A) → get_elem? l i ≡ some a → set (l ++ m) i b ≡ set l i b ++ m
 set_front [] m i a b e = absurd (some-ne-none a (sym e))
@@ -60,7 +63,7 @@ module _ (γ : ℕ) (sizes : Sizes) where
         record {
           kept = r.1;
           homes = subst (λ (w : View). HomesPart γ sizes s.words (s.views ++ w ∷ []) s.homes) (sym r.2.0)
-              (part.arrives γ sizes s.words s.views s.homes h.homes t (nothing_out sizes.participants t refl refl) (none_out t refl));
+              (part.arrives γ sizes s.words s.views s.homes h.homes t (nothing_out t refl refl) (none_out t refl));
           records = subst (λ (w : View). RecordsPart sizes (s.views ++ w ∷ []) s.homes) (sym r.2.0)
               (records.arrives sizes s.views s.homes h.records t (telling_none t refl refl refl refl refl refl)
               (λ i g k. absurd (knows_none t refl refl refl i g k)) refl refl);
@@ -68,24 +71,25 @@ module _ (γ : ℕ) (sizes : Sizes) where
               (more_counts sizes s.words s.views h.counts t refl refl refl);
           filled = subst (λ (w : View). FilledPart sizes (s.views ++ w ∷ [])) (sym r.2.0)
               (filled_more sizes s.views h.filled t (tells_none t s.views refl refl) (λ z. absurd (omega arith)));
+          bank = subst (λ (w : View). BankPart γ sizes s.words (s.views ++ w ∷ [])) (sym r.2.0)
+              (banks.arrives γ sizes s.words s.views h.bank t refl refl refl refl);
         },
         r.2.1,
       )
 
   -- the table at the start
-  pub begins : (ws : List ℕ) (xs : List Stake) → length ws ≡ all_words sizes → ((i : ℕ) → get_or ws i 0 ≡ 0) → suc sizes.participants < most
-      → AreLaid γ sizes.participants sizes.slots xs → Housed γ sizes (opening ws xs (idle sizes γ))
+  pub begins : (ws : List ℕ) (xs : List Stake) → length ws ≡ all_words sizes → ((i : ℕ) → get_or ws i 0 ≡ 0) → suc (suc sizes.participants) < most
+      → AreLaid γ sizes.participants sizes.slots xs → Housed γ sizes (opening ws xs (founder sizes γ))
   begins ws xs long none few laid = let n : ℕ = sizes.participants in record {
-    kept = kept.begins sizes γ ws xs long none;
+    kept = kept.begins sizes γ (founder sizes γ).stakes ws xs long none;
     homes = record {
       few = few;
       deep = length-map xs some ∙ laid.long;
       home = λ i p y low near lies. let l = laid.each i p near (inside n sizes.slots i p low near) in
           let same : l.0 ≡ y = some-injective l.0 y (some-injective (some l.0) (some y) (sym (at_map some xs (stake_at n i p) l.0 l.1) ∙ lies)) in
           let has = subst (Has γ i (share n 0 p) IsVacant) same l.2 in let word = none (Rattle.sdd_rule.specs.Words.slot_word sizes i) in
-          let dead : alive (slot_at sizes ws i) ≡ 0 = ap alive word ∙ sound.free.0 in
-          let empty : full (slot_at sizes ws i) ≡ 0 = ap full word ∙ sound.free.2 in
-          subst (λ (k : ℕ). Has γ i (share n k p) (IsShown (slot_at sizes ws i)) y) (sym dead) (has.0, (λ e. absurd (omega arith), λ _. has.1));
+          let empty : full_at sizes ws i ≡ 0 = ap full word ∙ sound.free.2 in
+          subst (λ (k : ℕ). Has γ i (share n k p) (IsShown (full_at sizes ws i)) y) (sym (ap (away n) empty)) (has.0, (λ e. absurd (omega arith), λ _. has.1));
       back = λ i p low near away. let l = laid.each i p near (inside n sizes.slots i p low near) in (l.0, at_map some xs (stake_at n i p) l.0 l.1);
       moving = λ j v e. none_out v (subst (λ (u : View). u.stakes.moves ≡ None) (only j v e) refl);
     };
@@ -95,7 +99,7 @@ module _ (γ : ℕ) (sizes : Sizes) where
       each = λ j v e. subst CountsByPlace (only j v e) (λ _ _. (refl, refl));
     };
     records = record {
-      each = λ j v e. subst IsTelling (only j v e) (telling_none (idle sizes γ) refl refl refl refl refl refl);
+      each = λ j v e. subst IsTelling (only j v e) (telling_none (founder sizes γ) refl refl refl refl refl refl);
       agree = λ i g h a b. absurd (none_known i g a);
       home = λ i p g y low near a l. absurd (none_known i g a);
       apart = λ j k v w i e e' m. absurd (none_moved v i (subst (λ (u : View). u.stakes.moves ≡ None) (only j v e) refl) m);
@@ -103,19 +107,28 @@ module _ (γ : ℕ) (sizes : Sizes) where
     filled = record {
       knows = λ one j k v u r e live. absurd (let f = ap (λ (w : View). w.epoch.state) (only j v e) in omega arith);
     };
+    bank = record {
+      single = omega arith;
+      low = λ j v e. subst HasUnits (only j v e) (λ i. omega arith);
+      quiet = λ i near z. refl;
+      founds = λ j v e is i near. outside_free sizes ws (founder sizes γ ∷ []) i
+          (ap full (none (Rattle.sdd_rule.specs.Words.slot_word sizes i)) ∙ sound.free.2);
+      banks = λ j v e is. let f : false ≡ true = ap (λ (u : View). u.stakes.bank) (only j v e) ∙ is in absurd cc;
+    };
   }
     where
-      only : (j : ℕ) (v : View) → get_elem? (idle sizes γ ∷ []) j ≡ some v → idle sizes γ ≡ v
+      only : (j : ℕ) (v : View) → get_elem? (founder sizes γ ∷ []) j ≡ some v → founder sizes γ ≡ v
       only zero v e = some-injective _ _ e
       only (suc j) v e = absurd (some-ne-none v (sym e))
 
-      none_known : (i : ℕ) (g : Gv) → ¬ (IsKnown (idle sizes γ ∷ []) i g)
-      none_known i g k = knows_none (idle sizes γ) refl refl refl i g (subst (λ (u : View). KnowsShown u i g) (sym (only k.0 k.1 k.2)) k.3)
+      none_known : (i : ℕ) (g : Gv) → ¬ (IsKnown (founder sizes γ ∷ []) i g)
+      none_known i g k = knows_none (founder sizes γ) refl refl refl i g (subst (λ (u : View). KnowsShown u i g) (sym (only k.0 k.1 k.2)) k.3)
 
   -- the only owner that it has goes to a token of its own, with what is known of its slot, where none is held and no value is moved
-  pub parts_owner : (id : ℕ) (v : View) (slot : ℕ) → v.slots.owns ≡ slot ∷ [] → v.slots.holds ≡ None → v.stakes.moves ≡ None
-      → Splits (Housed γ sizes) id v (parting v) (departing v)
-  parts_owner id v slot owns free rests s h at = let t : View = departing v in let w : View = parting v in let r = h.records in let told = r.each id v at in
+  pub parts_owner : (id : ℕ) (v : View) (slot : ℕ) → v.slots.owns ≡ slot ∷ [] → v.slots.drawn ≡ slot ∷ [] → v.slots.holds ≡ None
+      → v.stakes.moves ≡ None → Splits (Housed γ sizes) id v (parting v) (departing v)
+  parts_owner id v slot owns drawn free rests s h at = let t : View = departing v in let w : View = parting v in let r = h.records in
+      let told = r.each id v at in
       let vs : List View = s.views ++ t ∷ [] in let mine = records.mine sizes s.views s.homes r id v at in
       let came = records.arrives sizes s.views s.homes r t
       record {
@@ -137,7 +150,7 @@ module _ (γ : ℕ) (sizes : Sizes) where
         kept = kept.parts_owner sizes id v w.stakes t.stakes free s h.kept at;
         homes = part.arrives γ sizes s.words (set s.views id w) s.homes
             (part.calm γ sizes s.words s.views s.homes h.homes id v at s.words w (λ i p out. out) (λ i _. refl) (none_out w rests))
-            t (nothing_out sizes.participants t refl refl) (none_out t refl);
+            t (nothing_out t refl refl) (none_out t refl);
         records = subst (λ (us : List View). RecordsPart sizes us s.homes) (set_front s.views (t ∷ []) id v w at)
             (records.no_more sizes vs s.homes came id v (at_longer s.views (t ∷ []) id v at) w s.homes
             record {
@@ -154,6 +167,12 @@ module _ (γ : ℕ) (sizes : Sizes) where
             (filled_after sizes vs known_then id v (at_longer s.views (t ∷ []) id v at) w refl
             (tells_old sizes vs known_then id v (at_longer s.views (t ∷ []) id v at) w
             (told_by w v (λ r a. absurd (has_none r [] refl a)) (λ r a. inr a))) (λ _ live. inl live));
+        bank = banks.parts γ sizes s.words s.views h.bank id v at w t
+            record { bank = refl; founds = refl; book = refl; banked = refl; moves = refl } refl refl refl
+            (λ i. let d = ap (λ (l : List ℕ). times i (others l)) drawn in omega arith)
+            (λ i. let o = ap (λ (l : List ℕ). times i (first l)) owns in let a = total_append (is i) (first v.slots.owns) [] in omega arith)
+            (λ i. let d = ap (λ (l : List ℕ). times i (others l)) drawn in let d' = ap (times i) drawn in
+            let o = ap (λ (l : List ℕ). times i (first l)) owns in let a = total_append (is i) (first v.slots.owns) [] in omega arith);
       }
 
   -- the first record is of the owner's token, and the others were known
@@ -192,24 +211,34 @@ module _ (γ : ℕ) (sizes : Sizes) where
         kept = kept.joins_owners sizes id v other (slot ∷ []) [] w.stakes t.stakes s h.kept at apart there;
         homes = part.calm γ sizes s.words vs s.homes
             (part.calm γ sizes s.words s.views s.homes h.homes id v at s.words w (λ i p out. out) (λ i _. refl) (none_out w rests))
-            other t there s.words t' (λ i p out. absurd (nothing_out sizes.participants t refl refl i p out)) (λ i _. refl) (none_out t' refl);
+            other t there s.words t' (λ i p out. absurd (nothing_out t refl refl i p out)) (λ i _. refl) (none_out t' refl);
         records = records.no_more sizes vs s.homes came other t there t' s.homes (telling_none t' refl refl refl refl refl refl)
             (λ i g k. absurd (knows_none t' refl refl refl i g k)) (λ i p y _ _ l. inl l) (λ i m. absurd (none_moved t' i refl m))
             (λ i a. absurd (omega arith));
         counts = uncounted_alone sizes s.words vs (uncounted_alone sizes s.words s.views h.counts id v at w refl refl) other t there t' refl refl;
         filled = filled_after sizes vs (filled_after sizes s.views h.filled id v at w refl (come_in s.views now other id t v was at refl) (λ _ live. inl live))
             other t there t' refl (tells_none t' vs refl refl) (λ _ live. inl live);
+        bank = banks.joins γ sizes s.words s.views h.bank id v at other t t' w there apart
+            record { bank = refl; founds = refl; book = refl; banked = refl; moves = refl } refl refl refl refl refl refl refl
+            (λ i. let low = h.bank.low id v at i in omega arith) (λ i. omega arith);
       }
 
   -- the counts of ended places go to a token of their own
   pub parts_counts : (id : ℕ) (v : View) → 0 < over_by v → Splits (Housed γ sizes) id v (uncounting v) (counts_of v)
   parts_counts id v over s h at = let t : View = counts_of v in let w : View = uncounting v in let c = h.counts in let p = h.kept.parts.slots in record {
-    kept = kept.cuts sizes id v v.slots.owns v.slots.shares [] [] w.stakes t.stakes (λ i. (omega arith, omega arith))
+    kept = kept.cuts sizes id v v.slots.owns v.slots.shares v.slots.drawn [] [] w.stakes t.stakes (λ i. (omega arith, omega arith))
         (λ i held. (p.each id v at).held i held) s h.kept at;
     homes = part.arrives γ sizes s.words (set s.views id w) s.homes
         (part.calm γ sizes s.words s.views s.homes h.homes id v at s.words w (λ i p out. out) (λ i _. refl) (h.homes.moving id v at))
-        t (nothing_out sizes.participants t refl refl) (none_out t refl);
-    records = records.arrives sizes (set s.views id w) s.homes (records.calm sizes s.views s.homes h.records id v at w (refl, refl, refl, λ _. refl)) t
+        t (nothing_out t refl refl) (none_out t refl);
+    records = records.arrives sizes (set s.views id w) s.homes (records.calm sizes s.views s.homes h.records id v at w (
+      refl,
+      refl,
+      refl,
+      (λ _. refl),
+      refl,
+      refl,
+    )) t
         (telling_none t refl refl refl refl refl refl) (λ i g k. absurd (knows_none t refl refl refl i g k)) refl refl;
     counts = record {
       items = let a = total_set made_by s.views id v w at in let a' = total_snoc made_by (set s.views id w) t in
@@ -221,7 +250,30 @@ module _ (γ : ℕ) (sizes : Sizes) where
     filled = let us : List View = set s.views id w in
         filled_more sizes us (filled_same sizes s.views h.filled id v at w refl refl refl (λ live. live))
         t (tells_none t us refl refl) (λ z. absurd (omega arith));
+    bank = banks.parts γ sizes s.words s.views h.bank id v at w t
+        record { bank = refl; founds = refl; book = refl; banked = refl; moves = refl } refl refl refl (h.bank.low id v at) (λ i. omega arith)
+        (λ i. omega arith);
   }
+
+  -- the bank is founded
+  pub founds_bank : (id : ℕ) (v : View) → v.stakes.founds ≡ true → v.stakes.book ≡ γ → Splits (Housed γ sizes) id v (founded v) (bank_of v)
+  founds_bank id v may book s h at = let t : View = bank_of v in let w : View = founded v in let told = h.records.each id v at in
+      let us : List View = set s.views id w in let p = h.kept.parts.slots in record {
+        kept = kept.cuts sizes id v v.slots.owns v.slots.shares v.slots.drawn [] [] w.stakes t.stakes (λ i. (omega arith, omega arith))
+            (λ i held. (p.each id v at).held i held) s h.kept at;
+        homes = part.arrives γ sizes s.words us s.homes
+            (part.calm γ sizes s.words s.views s.homes h.homes id v at s.words w (λ i p out. out) (λ i _. refl) (h.homes.moving id v at))
+            t (nothing_out t refl refl) (none_out t refl);
+        records = records.arrives sizes us s.homes
+            (records.no_more sizes s.views s.homes h.records id v at w s.homes
+            record { owns = told.owns; owned = told.owned; sees = told.sees; waits = told.waits; waiting = told.waiting }
+            (records.mine sizes s.views s.homes h.records id v at) (λ i p y _ _ l. inl l) (λ i m. m) (λ i a. a))
+            t (telling_none t refl refl refl refl refl refl) (λ i g k. absurd (knows_none t refl refl refl i g k)) refl refl;
+        counts = more_counts sizes s.words us (uncounted_alone sizes s.words s.views h.counts id v at w refl refl) t refl refl refl;
+        filled = filled_more sizes us (filled_same sizes s.views h.filled id v at w refl refl refl (λ live. live))
+            t (tells_none t us refl refl) (λ z. absurd (omega arith));
+        bank = banks.bank_founded γ sizes s.words s.views h.bank id v at may book;
+      }
 
   -- and come to another
   pub joins_counts : (id : ℕ) (v : View) (other : ℕ) (d : CountsView)
@@ -229,12 +281,20 @@ module _ (γ : ℕ) (sizes : Sizes) where
   joins_counts id v other d s h at apart there = let t : View = counts_token d in let t' : View = owner_token [] [] in let w : View = counting v t in
       let vs : List View = set s.views id w in let c = h.counts in
       let was : get_elem? s.views other ≡ some t = sym (set_else s.views id other w apart) ∙ there in record {
-        kept = kept.takes_in sizes id v other v.slots.owns v.slots.shares [] [] w.stakes t.stakes (λ i. (omega arith, omega arith)) s h.kept at apart there;
+        kept = kept.takes_in sizes id v other v.slots.owns v.slots.shares v.slots.drawn [] [] w.stakes t.stakes (λ i.
+            (omega arith, omega arith)) s h.kept at apart there;
         homes = part.calm γ sizes s.words vs s.homes
             (part.calm γ sizes s.words s.views s.homes h.homes id v at s.words w (λ i p out. out) (λ i _. refl) (h.homes.moving id v at))
-            other t there s.words t' (λ i p out. absurd (nothing_out sizes.participants t refl refl i p out)) (λ i _. refl) (none_out t' refl);
-        records = records.calm sizes vs s.homes (records.calm sizes s.views s.homes h.records id v at w (refl, refl, refl, λ _. refl)) other t there t'
-            (refl, refl, refl, λ _. refl);
+            other t there s.words t' (λ i p out. absurd (nothing_out t refl refl i p out)) (λ i _. refl) (none_out t' refl);
+        records = records.calm sizes vs s.homes (records.calm sizes s.views s.homes h.records id v at w (
+          refl,
+          refl,
+          refl,
+          (λ _. refl),
+          refl,
+          refl,
+        )) other t there t'
+            (refl, refl, refl, (λ _. refl), refl, refl);
         counts = record {
           items = let a = total_set made_by s.views id v w at in let a' = total_set made_by vs other t t' there in
               let b = total_set gone_by s.views id v w at in let b' = total_set gone_by vs other t t' there in let e = c.items in omega arith;
@@ -248,6 +308,9 @@ module _ (γ : ℕ) (sizes : Sizes) where
         filled = filled_after sizes vs
             (filled_same sizes s.views h.filled id v at w refl refl refl (λ live. live))
             other t there t' refl (tells_none t' vs refl refl) (λ _ live. inl live);
+        bank = banks.joins γ sizes s.words s.views h.bank id v at other t t' w there apart
+            record { bank = refl; founds = refl; book = refl; banked = refl; moves = refl } refl refl refl refl refl refl refl
+            (h.bank.low id v at) (λ i. omega arith);
       }
 
   -- a token counts no more places than there are
@@ -258,12 +321,10 @@ module _ (γ : ℕ) (sizes : Sizes) where
   pub free_at_home : (s : State Stake View) → Housed γ sizes s → (i p : ℕ) → i < sizes.slots → p ≤ sizes.participants
       → alive (slot_at sizes s.words i) ≡ 0 → waiting (slot_at sizes s.words i) ≡ 0 → full (slot_at sizes s.words i) ≡ 0
       → (y : Stake) × LiesAt sizes.participants s.homes i p y × Has γ i (share sizes.participants 0 p) IsVacant y
-  free_at_home s h i p low near dead quiet empty = let b = h.homes.back i p low near (λ j u e out. ⊎_elim
+  free_at_home s h i p low near dead quiet empty = let n : ℕ = sizes.participants in let b = h.homes.back i p low near (λ j u e out. ⊎_elim
       (λ (m : Moves u i). still_free γ sizes s h i j u e dead quiet m)
-      (λ (a : IsOneOut sizes.participants u i p). ⊎_elim
-      (λ (o : Sees u i × (u.epoch.place ≡ p)). let f = (h.kept.parts.slots.each j u e).full i o.0 in absurd (omega arith))
-      (λ (l : Settles u i × (p ≡ sizes.participants)). unsettled γ sizes s h i j u e dead l.0) a) out) in
-      let has = subst (λ (k : ℕ). Has γ i (share sizes.participants k p) (IsShown (slot_at sizes s.words i)) b.0) dead (h.homes.home i p b.0 low near b.1) in
+      (λ (o : SeesFrom u i p). let f = (h.kept.parts.slots.each j u e).full i o.0 in absurd (omega arith)) out) in
+      let has = subst (λ (k : ℕ). Has γ i (share n k p) (IsShown (full_at sizes s.words i)) b.0) (ap (away n) empty) (h.homes.home i p b.0 low near b.1) in
       (b.0, b.1, (has.0, has.1.1 empty))
 
   -- once a token knows that all places have ended, nobody has one
@@ -276,13 +337,11 @@ module _ (γ : ℕ) (sizes : Sizes) where
   pub all_home : (s : State Stake View) → Housed γ sizes s → (id : ℕ) (v : View) → get_elem? s.views id ≡ some v → sizes.participants ≤ v.places.ended
       → (i p : ℕ) → i < sizes.slots → p ≤ sizes.participants
       → (y : Stake) × LiesAt sizes.participants s.homes i p y
-      × Has γ i (share sizes.participants (alive (slot_at sizes s.words i)) p) (IsShown (slot_at sizes s.words i)) y
+      × Has γ i (share sizes.participants (away sizes.participants (full_at sizes s.words i)) p) (IsShown (full_at sizes s.words i)) y
   all_home s h id v at all i p low near = let b = h.homes.back i p low near (λ j u e out. no_place s h id v at all j u e (⊎_elim
-      (λ (m : Moves u i). ((h.homes.moving j u e).0 i m).0)
-      (λ (a : IsOneOut sizes.participants u i p). ⊎_elim
-      (λ (o : Sees u i × (u.epoch.place ≡ p)). let open_guard = (h.kept.parts.slots.each j u e).guarded i o.0 in
-      let live : HasPlace u.epoch = omega arith in live)
-      (λ (l : Settles u i × (p ≡ sizes.participants)). ((h.homes.moving j u e).1 i l.0).0) a) out)) in
+      (λ (m : Moves u i). (h.homes.moving j u e i m).0)
+      (λ (o : SeesFrom u i p). let open_guard = (h.kept.parts.slots.each j u e).guarded i o.0 in
+      let live : HasPlace u.epoch = omega arith in live) out)) in
       (b.0, b.1, h.homes.home i p b.0 low near b.1)
 
   -- where a token counts all places, what was made has gone, or lies in a slot

@@ -9,7 +9,7 @@ use Rattle.sdd_stakes.specs.Seats.{lots, with_lots}
 use Rattle.sdd_stakes.specs.Shelf.{most, lot, units_in, Parts, HasWhole, top_turned, all_turned}
 use Rattle.sdd_stakes.specs.declared.stake.Stake.{Stake}
 use Rattle.sdd_homes.specs.Homes.{Carries, share, Has}
-use Rattle.sdd_homes.specs.HomeSteps.{HasRow, HasAll, HasLast}
+use Rattle.sdd_homes.specs.HomeSteps.{HasRow, HasAll}
 
 pub share_one : (n o p : ℕ) → p < n → share n o p ≡ 1
 share_one n o p l = ap (λ b. either b (most - n - o) 1) (ne_eqb p n (λ e. omega arith))
@@ -76,8 +76,8 @@ module _ (γ i n : ℕ) where
   rest_is o Is rest (suc m) [] row = absurd row
   rest_is o Is rest (suc m) (x ∷ xs) row = rest_is o Is rest m xs row.2
 
-  -- ---- an owner's unit
-  -- the last stake after one of its units went, or came
+  -- ---- the last stake's units
+  -- the last stake after some of its units went, or came
   last_with : (o o' : ℕ) (Is : Gv → Type 0) (x y : Stake) (u : ℕ) → u ≡ most - n - o' → Has γ i (share n o n) Is x → y.lot ≡ record x.lot { units = u }
       → Has γ i (share n o' n) Is y
   last_with o o' Is x y u units has is = let round = ap (λ (l : Lot). l.round) is in let shown = ap (λ (l : Lot). l.shown) is in (
@@ -96,14 +96,8 @@ module _ (γ i n : ℕ) where
     row_alike o o' Is rest m (omega arith) zs row.2,
   )
 
-  module _ (Is : Gv → Type 0) (rest : Carries) (k : ℕ) (x y : Stake) (xs : Carries) where
-    -- a unit of the last stake goes with an owner
-    pub unit_out : HasAll γ i n 0 Is rest ((k, x) ∷ xs) → y.lot ≡ record x.lot { units = x.lot.units - 1 } → HasAll γ i n 1 Is rest ((k, y) ∷ xs)
-    unit_out row is = let u : x.lot.units ≡ most - n - 0 = ap (λ (l : Lot). l.units) row.1.0 ∙ share_last n 0 in
-        (row.0, last_with 0 1 Is x y (x.lot.units - 1) (omega arith) row.1 is, row_alike 0 1 Is rest n (omega arith) xs row.2)
-
-    -- and comes back, where the last stake alone is out
-    pub unit_in_last : n < most → HasLast γ i n 1 Is rest ((k, x) ∷ xs) → y.lot ≡ record x.lot { units = x.lot.units + 1 }
-        → HasLast γ i n 0 Is rest ((k, y) ∷ xs)
-    unit_in_last few row is = let u : x.lot.units ≡ most - n - 1 = ap (λ (l : Lot). l.units) row.1.0 ∙ share_last n 1 in
-        (row.0, last_with 1 0 Is x y (x.lot.units + 1) (omega arith) row.1 is, row.2)
+  -- the last stake has other units then
+  pub units_else : (o o' : ℕ) (Is : Gv → Type 0) (rest : Carries) (k : ℕ) (x y : Stake) (xs : Carries) (u : ℕ) → u ≡ most - n - o'
+      → y.lot ≡ record x.lot { units = u } → HasAll γ i n o Is rest ((k, x) ∷ xs) → HasAll γ i n o' Is rest ((k, y) ∷ xs)
+  units_else o o' Is rest k x y xs u units is row =
+      (row.0, last_with o o' Is x y u units row.1 is, row_alike o o' Is rest n (omega arith) xs row.2)

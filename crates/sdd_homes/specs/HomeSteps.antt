@@ -3,27 +3,27 @@ use Rattle.std.specs.Prelude.{◌≡◌, ◌≢◌, ℕ, zero, suc, ◌+◌, ◌
 use Rattle.std.specs.List.{filter}
 use base.Stored.{Gv}
 use Rattle.atomic_table.specs.Table.{Me}
-use Rattle.sdd_stakes.specs.Shelf.{IsFull, IsVacant}
+use Rattle.sdd_stakes.specs.Stakes.{Lot}
+use Rattle.sdd_stakes.specs.Shelf.{IsFull, IsVacant, lot}
 use Rattle.sdd_stakes.specs.declared.stake.Stake.{Stake}
 use Rattle.sdd_views.specs.declared.Showing.{Showing}
 use Rattle.sdd_views.specs.declared.CountsView.{CountsView}
 use Rattle.sdd_views.specs.declared.View.{View}
-use Rattle.sdd_rule.specs.SlotSteps.{behind, Knew, claimed, discarded, seeing, first, parted, joined, Retires, ClosesAll, GivesBack}
-use Rattle.sdd_rule.specs.Moves.{all_in, last_in}
+use Rattle.sdd_rule.specs.SlotSteps.{behind, Knew, claimed, discarded, seeing, first, others, parted, joined, Retires, ClosesAll, GivesBack}
 use Rattle.sdd_views.specs.Views.{owner_token, at_rest, no_counts}
 use Rattle.sdd_rule.specs.Steps.{ended}
 use Rattle.sdd_rule.specs.Words.{slot_word}
 use Rattle.sdd_rule.specs.Codes.{alive}
 use Rattle.sdd_rule.specs.Epoch.{IsLone}
 use Rattle.sdd_rule.specs.Slots.{Sees}
-use Rattle.sdd_homes.specs.Homes.{Carries, stake_at, share, Has}
+use Rattle.sdd_homes.specs.Homes.{Carries, stake_at, share, spare, Has}
 use Rattle.sdd_homes.specs.Records.{IsIn}
 use Rattle.sdd_homes.specs.Fillings.{newest}
 
 abbrev pub Mine : Type 0
 Mine = Me Stake View
 
--- the first m stakes in the slot i, which has so many owners, the last of them taken last, and then the rest
+-- the first m stakes in the slot i, of which so many units are elsewhere, the last of them taken last, and then the rest
 abbrev pub HasRow : ℕ → ℕ → ℕ → ℕ → (Gv → Type 0) → Carries → ℕ → Carries → Type 0
 HasRow γ i n o Is rest zero xs = xs ≡ rest
 HasRow γ i n o Is rest (suc m) [] = ⊥
@@ -32,11 +32,6 @@ HasRow γ i n o Is rest (suc m) (x ∷ xs) = (x.0 ≡ stake_at n i m) × Has γ 
 -- all stakes in the slot i, and then the rest
 abbrev pub HasAll : ℕ → ℕ → ℕ → ℕ → (Gv → Type 0) → Carries → Carries → Type 0
 HasAll γ i n o Is rest xs = HasRow γ i n o Is rest (suc n) xs
-
--- the last stake in the slot i, and then the rest
-abbrev pub HasLast : ℕ → ℕ → ℕ → ℕ → (Gv → Type 0) → Carries → Carries → Type 0
-HasLast γ i n o Is rest [] = ⊥
-HasLast γ i n o Is rest (x ∷ xs) = (x.0 ≡ stake_at n i n) × Has γ i (share n o n) Is x.1 × (xs ≡ rest)
 
 -- a value that is shown, and it is this one
 abbrev pub IsValue : Gv → Gv → Type 0
@@ -51,13 +46,9 @@ Purse γ n q (r ∷ records) (x ∷ xs) = (x.0 ≡ stake_at n r.slot q) × Has �
 
 -- it moves the value of the slot from now on
 abbrev pub moving : ℕ → View → View
-moving slot v = record v { stakes = record v.stakes { moves = Some (all_in slot) } }
+moving slot v = record v { stakes = record v.stakes { moves = Some slot } }
 
--- it takes its owner's unit home to the slot
-abbrev pub settling : ℕ → View → View
-settling slot v = record v { stakes = record v.stakes { moves = Some (last_in slot) } }
-
--- it does neither
+-- it moves none
 abbrev pub resting : View → View
 resting v = record v { stakes = record v.stakes { moves = None } }
 
@@ -92,6 +83,14 @@ telling slot shared value v = record v {
     filled = record { slot = slot; shared = shared; value = value } ∷ v.stakes.filled;
   };
 }
+
+-- its owner of the slot has its unit
+abbrev pub drawing : ℕ → View → View
+drawing slot v = record v { slots = record v.slots { drawn = slot ∷ v.slots.drawn } }
+
+-- the unit of the owner that drew last is in the bank again
+abbrev pub undrawing : View → View
+undrawing v = record v { slots = record v.slots { drawn = others v.slots.drawn } }
 
 -- it knows of no slot of its own any more
 abbrev pub untold : View → View
@@ -144,9 +143,13 @@ ClaimsAll slot old y me x me' =
     (x ≡ old → (me'.0 ≡ making slot y me.0) × HasAll (book_of me) slot (places_of me) 0 IsVacant me.1 me'.1)
     × (x ≢ old → me' ≡ me) × Knew slot me.0 x
 
--- the value of an owned slot was moved in, and all stakes in it, which show it, go home, but for the owner's unit
+-- the value of an owned slot was moved in, and all stakes in it, which show it, go home with a unit each; the owner has its unit, and the bank the rest
 abbrev pub Houses : ℕ → Bool → Gv → Mine → Mine → Type 0
-Houses slot shared value me me' = (me'.0 ≡ resting (telling slot shared value me.0)) × (me'.1 ≡ drop (suc (places_of me)) me.1)
+Houses slot shared value me me' = (me'.0 ≡ resting (telling slot shared value (drawing slot me.0))) × (me'.1 ≡ drop (suc (places_of me)) me.1)
+
+-- its owner's unit goes to the bank
+abbrev pub EntersUnit : Mine → Mine → Type 0
+EntersUnit me me' = (me'.0 ≡ undrawing me.0) × (me'.1 ≡ me.1)
 
 -- of what it moved into the slot the newest is this
 abbrev pub IsNewest : ℕ → Bool → Gv → View → Type 0
@@ -157,21 +160,21 @@ IsNewest slot shared value v = newest slot v.stakes.filled ≡ Some (record { sl
 pub record TakesOut (slot : ℕ) (me me' : Mine) : Type 0 where
   pub value : Gv
   pub view : me'.0 ≡ moving slot (forgetting slot me.0)
-  pub stakes : HasAll (book_of me) slot (places_of me) 0 (IsValue value) me.1 me'.1
+  pub stakes : HasAll (book_of me) slot (places_of me) (spare (places_of me)) (IsValue value) me.1 me'.1
   pub remembered : IsIn me.0.stakes.waits slot value
   pub filled : IsLone me.0.epoch → (shared : Bool) × IsNewest slot shared value me.0
 
--- the same of an item whose slot is held: its owner, whose unit is out, knows no more what it shows
+-- the same of an item whose slot is held: its owner knows no more what it shows
 abbrev pub TakesHeld : ℕ → Mine → Mine → Type 0
-TakesHeld slot me me' = (me'.0 ≡ moving slot (untold me.0)) × HasAll (book_of me) slot (places_of me) 1 IsFull me.1 me'.1
+TakesHeld slot me me' = (me'.0 ≡ moving slot (untold me.0)) × HasAll (book_of me) slot (places_of me) (spare (places_of me)) IsFull me.1 me'.1
 
--- the last stake in a slot of its own is out, to which the owner's unit comes home; it shows what the owner knows
-abbrev pub TakesLast : ℕ → Gv → Mine → Mine → Type 0
-TakesLast slot value me me' = (me'.0 ≡ settling slot me.0) × HasLast (book_of me) slot (places_of me) 1 (IsValue value) me.1 me'.1
+-- the lot is all that the bank had of the slot
+abbrev pub IsDeposit : ℕ → Mine → Lot → Type 0
+IsDeposit slot me l = l ≡ lot (book_of me) slot l.round l.shown (spare (places_of me))
 
--- an owned item waits from now on, and what its owner knew is remembered; the last stake goes home, with the owner's unit
+-- an owned item waits from now on, and what its owner knew is remembered
 abbrev pub RetiresOne : ℕ → Mine → ℕ → Mine → Type 0
-RetiresOne slot me y me' = (v : View) × Retires slot me.0 y v × (me'.0 ≡ resting (remembering v)) × (me'.1 ≡ drop 1 me.1)
+RetiresOne slot me y me' = (v : View) × Retires slot me.0 y v × (me'.0 ≡ remembering v) × (me'.1 ≡ me.1)
 
 -- it was moved out: the slot is free, and all stakes in it go home
 abbrev pub GivesAll : ℕ → Mine → ℕ → Mine → Type 0

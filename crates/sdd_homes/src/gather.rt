@@ -6,7 +6,7 @@ ghost use Rattle.core.specs.Mem.Slots.{slots_items};
 ghost use Rattle.sdd_stakes.specs.Shelf.{most, IsWhole, IsVacant, AreVacant};
 ghost use Rattle.sdd_rule.specs.Codes.{full};
 ghost use Rattle.sdd_rule.specs.Slots.{slot_at};
-ghost use Rattle.sdd_homes.specs.Homes.{stake_at, no_owners, all_vacant, AreLaidTo, AreLaid, AreHome};
+ghost use Rattle.sdd_homes.specs.Homes.{stake_at, none_away, all_vacant, AreLaidTo, AreLaid, AreHome};
 
 use atomic_table::Closed;
 use sdd_stakes::{Stake, Stock, Title};
@@ -15,11 +15,11 @@ use std::alloc::Allocator;
 
 /// The stakes in the last slot, as one.
 fn gather_slot(laid: &mut Vec<Stake>, title: &Title, slot: u32, participants: u32) -> Stake
-    requires laid { AreLaidTo title.now.book participants (stake_at participants (slot + 1) 0) no_owners all_vacant laid.old.items }
+    requires laid { AreLaidTo title.now.book participants (stake_at participants (slot + 1) 0) none_away all_vacant laid.old.items }
     requires few { participants < most }
     ensures whole { IsWhole title.now.book slot result.lot }
     ensures vacant { IsVacant result.lot.shown }
-    ensures laid { AreLaidTo title.now.book participants (stake_at participants slot 0) no_owners all_vacant laid.new.items }
+    ensures laid { AreLaidTo title.now.book participants (stake_at participants slot 0) none_away all_vacant laid.new.items }
 {
     let _ = title;
     let _ = slot;

@@ -1,18 +1,18 @@
 //! The stakes in the places of a new shelf, dealt to their homes.
 ghost use Rattle.std.specs.Prelude.{◌≡◌, ◌+◌, ◌<◌, ◌≤◌, [], vec_len, vec_capacity};
 ghost use Rattle.sdd_stakes.specs.Shelf.{most, IsWhole, IsVacant, AreVacant};
-ghost use Rattle.sdd_homes.specs.Homes.{stake_at, homes_for, no_owners, all_vacant, AreLaidTo, AreLaid};
+ghost use Rattle.sdd_homes.specs.Homes.{stake_at, homes_for, none_away, all_vacant, AreLaidTo, AreLaid};
 
 use sdd_stakes::{Stake, Stock, Title};
 
 /// Deals the stakes in one slot: one unit for each place, and the rest.
 fn lay_slot(laid: &mut Vec<Stake>, whole: Stake, slot: u32, participants: u32)
-    requires laid { AreLaidTo whole.lot.book participants (stake_at participants slot 0) no_owners all_vacant laid.old.items }
+    requires laid { AreLaidTo whole.lot.book participants (stake_at participants slot 0) none_away all_vacant laid.old.items }
     requires room { vec_len laid.old + participants < vec_capacity laid.old }
     requires few { participants < most }
     requires whole { IsWhole whole.lot.book slot whole.lot }
     requires vacant { IsVacant whole.lot.shown }
-    ensures laid { AreLaidTo whole.lot.book participants (stake_at participants (slot + 1) 0) no_owners all_vacant laid.new.items }
+    ensures laid { AreLaidTo whole.lot.book participants (stake_at participants (slot + 1) 0) none_away all_vacant laid.new.items }
     ensures capacity { vec_capacity laid.new ≡ vec_capacity laid.old }
 {
     let _ = slot;

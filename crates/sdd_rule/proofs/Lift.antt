@@ -26,9 +26,8 @@ use Rattle.sdd_rule.proofs.Frame.{Each, each_set, each_snoc}
 use Rattle.sdd_rule.proofs.Codes.{sound}
 use Rattle.sdd_rule.proofs.Epoch.{seated}
 use Rattle.sdd_rule.proofs.Epoch as epochs
-use Rattle.sdd_rule.proofs.Owning.{owning}
 use Rattle.sdd_rule.proofs.SlotWords.{view_step}
-use Rattle.sdd_rule.proofs.Tokens.{sits, starts}
+use Rattle.sdd_rule.proofs.Tokens.{with_owners, sits, starts}
 use Rattle.sdd_rule.proofs.Tokens as tokens
 use Rattle.sdd_rule.proofs.Lone.{lone_same}
 
@@ -42,10 +41,11 @@ set_twice [] i a b = refl
 set_twice (x ∷ xs) zero a b = refl
 set_twice (x ∷ xs) (suc i) a b = ap (λ (l : List _). x ∷ l) (set_twice xs i a b)
 
--- no part reads what is known of stakes
-pub blind : (sizes : Sizes) (ws : List ℕ) (vs : List View) (id : ℕ) (u v : View) → get_elem? vs id ≡ some u → Parts sizes ws (set vs id v)
-    → (t : StakesView) → Parts sizes ws (set vs id (record v { stakes = t }))
-blind sizes ws vs id u v was p t = let us : List View = set vs id v in let w : View = record v { stakes = t } in
+-- no part reads what is known of stakes, and which owners have their units
+pub blind_units : (sizes : Sizes) (ws : List ℕ) (vs : List View) (id : ℕ) (u v : View) → get_elem? vs id ≡ some u → Parts sizes ws (set vs id v)
+    → (t : StakesView) (units : List ℕ) → Parts sizes ws (set vs id (record v { stakes = t; slots = record v.slots { drawn = units } }))
+blind_units sizes ws vs id u v was p t units = let us : List View = set vs id v in
+    let w : View = record v { stakes = t; slots = record v.slots { drawn = units } } in
     let at : get_elem? us id ≡ some v = set_here vs id v (epochs.at_length vs id u was) in let f = p.slots.each id v at in
     subst (Parts sizes ws) (set_twice vs id v w) record {
       epoch = subst (λ (l : List EpochView). EpochPart sizes.participants ws l) (sym (same_epochs us id v w at refl)) p.epoch;
@@ -56,6 +56,10 @@ blind sizes ws vs id u v was p t = let us : List View = set vs id v in let w : V
           (record { since = a.since; looked = a.looked }, record { since = b.since; looked = b.looked }));
       lone = lone_same sizes ws us p.lone id v at w refl (λ z. z);
     }
+
+pub blind : (sizes : Sizes) (ws : List ℕ) (vs : List View) (id : ℕ) (u v : View) → get_elem? vs id ≡ some u → Parts sizes ws (set vs id v)
+    → (t : StakesView) → Parts sizes ws (set vs id (record v { stakes = t }))
+blind sizes ws vs id u v was p t = blind_units sizes ws vs id u v was p t v.slots.drawn
 
 -- nor of ended places
 pub blind_places : (sizes : Sizes) (ws : List ℕ) (vs : List View) (id : ℕ) (v : View) → get_elem? vs id ≡ some v → Parts sizes ws vs
@@ -103,18 +107,18 @@ module _ {S : Type 0} (sizes : Sizes) where
   )
 
   -- the table at the start
-  pub begins : (book : ℕ) (ws : List ℕ) (xs : List S) → length ws ≡ all_words sizes → ((i : ℕ) → get_or ws i 0 ≡ 0)
-      → Kept sizes (opening ws xs (idle sizes book))
-  begins book ws xs long none = record {
+  pub begins : (book : ℕ) (t : StakesView) (ws : List ℕ) (xs : List S) → length ws ≡ all_words sizes → ((i : ℕ) → get_or ws i 0 ≡ 0)
+      → Kept sizes (opening ws xs (record (idle sizes book) { stakes = t }))
+  begins book t ws xs long none = let w : View = record (idle sizes book) { stakes = t } in record {
     parts = record {
       epoch = epochs.begins sizes.participants ws (omega arith) none;
-      slots = starts codes sound sizes ws (idle sizes book) long none refl;
-      lone = record { knows = λ one j v e z. let e' = ap (λ (x : View). x.epoch.state) (only (idle sizes book) j v e) in absurd (omega arith) };
+      slots = starts codes sound sizes ws w long none refl;
+      lone = record { knows = λ one j v e z. let e' = ap (λ (x : View). x.epoch.state) (only w j v e) in absurd (omega arith) };
     };
     places = record {
       wide = omega arith;
-      ended = λ j v e p _ l. let e' = ap (λ (x : View). x.places.ended) (only (idle sizes book) j v e) in absurd (omega arith);
-      quiet = λ j v e i l. let e' = ap (λ (x : View). x.places.quiet) (only (idle sizes book) j v e) in absurd (omega arith);
+      ended = λ j v e p _ l. let e' = ap (λ (x : View). x.places.ended) (only w j v e) in absurd (omega arith);
+      quiet = λ j v e i l. let e' = ap (λ (x : View). x.places.quiet) (only w j v e) in absurd (omega arith);
     };
   }
     where
@@ -123,18 +127,18 @@ module _ {S : Type 0} (sizes : Sizes) where
       only t (suc j) v e = absurd (some-ne-none v (sym e))
 
   -- owners are cut off as a token, but for the one of a slot that is held
-  pub cuts : (id : ℕ) (v : View) (os ss os' ss' : List ℕ) (mine theirs : StakesView)
+  pub cuts : (id : ℕ) (v : View) (os ss units os' ss' : List ℕ) (mine theirs : StakesView)
       → ((i : ℕ) → (times i v.slots.owns ≡ times i os + times i os') × (times i v.slots.shares ≡ times i ss + times i ss'))
       → ((i : ℕ) → Holds v i → 0 < times i os) → Splits (Kept {S = S} sizes) id v
-      (record (owning v os ss v.words) { stakes = mine }) (record (owner_token os' ss') { stakes = theirs })
-  cuts id v os ss os' ss' mine theirs parts held s k at = let n : ℕ = sizes.participants in
-      let w : View = record (owning v os ss v.words) { stakes = mine } in let t : View = record (owner_token os' ss') { stakes = theirs } in
+      (with_owners v os ss units mine) (record (owner_token os' ss') { stakes = theirs })
+  cuts id v os ss units os' ss' mine theirs parts held s k at = let n : ℕ = sizes.participants in
+      let w : View = with_owners v os ss units mine in let t : View = record (owner_token os' ss') { stakes = theirs } in
       let vs : List View = set s.views id w in record {
         parts = record {
           epoch = subst (λ (l : List EpochView). EpochPart n s.words l)
               (sym (map-append epoch_of vs (t ∷ []) ∙ ap (λ (l : List EpochView). l ++ nobody 0 ∷ []) (same_epochs s.views id v w at refl)))
               (seated n 0 (λ z. absurd (z refl)) s.words (map epoch_of s.views) k.parts.epoch);
-          slots = tokens.cuts codes sizes s.words s.views k.parts.slots id v at os ss mine t os' ss' refl parts held;
+          slots = tokens.cuts codes sizes s.words s.views k.parts.slots id v at os ss units mine t os' ss' refl parts held;
           lone = snoc_lone sizes s.words vs t (λ z. absurd (omega arith)) (lone_same sizes s.words s.views k.parts.lone id v at w refl (λ z. z));
         };
         places = record {
@@ -147,18 +151,18 @@ module _ {S : Type 0} (sizes : Sizes) where
       }
 
   -- and taken in again
-  pub takes_in : (id : ℕ) (v : View) (other : ℕ) (os ss os' ss' : List ℕ) (mine theirs : StakesView)
+  pub takes_in : (id : ℕ) (v : View) (other : ℕ) (os ss units os' ss' : List ℕ) (mine theirs : StakesView)
       → ((i : ℕ) → (times i os ≡ times i v.slots.owns + times i os') × (times i ss ≡ times i v.slots.shares + times i ss'))
       → Joins (Kept {S = S} sizes) id v other (record (owner_token os' ss') { stakes = theirs })
-      (record (owning v os ss v.words) { stakes = mine }) (owner_token [] [])
-  takes_in id v other os ss os' ss' mine theirs parts s k at apart there = let n : ℕ = sizes.participants in
-      let w : View = record (owning v os ss v.words) { stakes = mine } in let t : View = record (owner_token os' ss') { stakes = theirs } in
+      (with_owners v os ss units mine) (owner_token [] [])
+  takes_in id v other os ss units os' ss' mine theirs parts s k at apart there = let n : ℕ = sizes.participants in
+      let w : View = with_owners v os ss units mine in let t : View = record (owner_token os' ss') { stakes = theirs } in
       let t' : View = owner_token [] [] in let vs : List View = set s.views id w in
       let was : get_elem? s.views other ≡ some t = sym (set_else s.views id other w apart) ∙ there in record {
         parts = record {
           epoch = subst (λ (l : List EpochView). EpochPart n s.words l)
               (sym (same_epochs vs other t t' there refl ∙ same_epochs s.views id v w at refl)) k.parts.epoch;
-          slots = tokens.takes_in codes sizes s.words s.views k.parts.slots id v at os ss mine other t t' os' ss' refl refl parts apart was;
+          slots = tokens.takes_in codes sizes s.words s.views k.parts.slots id v at os ss units mine other t t' os' ss' refl refl parts apart was;
           lone = lone_same sizes s.words vs (lone_same sizes s.words s.views k.parts.lone id v at w refl (λ z. z)) other t there t' refl (λ z. z);
         };
         places = record {
@@ -171,7 +175,7 @@ module _ {S : Type 0} (sizes : Sizes) where
   -- the only owner of the first slot goes to a token of its own, where none is held
   pub parts_owner : (id : ℕ) (v : View) (mine theirs : StakesView) → v.slots.holds ≡ None → Splits (Kept {S = S} sizes) id v
       (record (parted v) { stakes = mine }) (record (owner_token (first v.slots.owns) []) { stakes = theirs })
-  parts_owner id v mine theirs free = cuts id v (others v.slots.owns) v.slots.shares (first v.slots.owns) [] mine theirs
+  parts_owner id v mine theirs free = cuts id v (others v.slots.owns) v.slots.shares (others v.slots.drawn) (first v.slots.owns) [] mine theirs
       (λ i. (both i v.slots.owns, omega arith)) (λ i h. let c : None ≡ Some i = sym free ∙ h in cc)
     where
       both : (i : ℕ) (os : List ℕ) → times i os ≡ times i (others os) + times i (first os)
@@ -182,5 +186,5 @@ module _ {S : Type 0} (sizes : Sizes) where
   pub joins_owners : (id : ℕ) (v : View) (other : ℕ) (os ss : List ℕ) (mine theirs : StakesView)
       → Joins (Kept {S = S} sizes) id v other (record (owner_token os ss) { stakes = theirs })
       (record (joined v (owner_token os ss)) { stakes = mine }) (owner_token [] [])
-  joins_owners id v other os ss mine theirs = takes_in id v other (os ++ v.slots.owns) (ss ++ v.slots.shares) os ss mine theirs
+  joins_owners id v other os ss mine theirs = takes_in id v other (os ++ v.slots.owns) (ss ++ v.slots.shares) ((os ++ ss) ++ v.slots.drawn) os ss mine theirs
       (λ i. (let e = total_append (is i) os v.slots.owns in omega arith, let e = total_append (is i) ss v.slots.shares in omega arith))

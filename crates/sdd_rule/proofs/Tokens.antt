@@ -17,7 +17,6 @@ use Rattle.sdd_rule.specs.Slots.{slot_at, owners_at, waits_in, items_at, Sees, H
 use Rattle.sdd_views.specs.Views.{bare, owning_only}
 use Rattle.sdd_rule.proofs.Frame.{each_set, each_snoc}
 use Rattle.sdd_rule.proofs.Sums.{total_set, total_snoc, span_zero, both_set}
-use Rattle.sdd_rule.proofs.Owning.{owning}
 
 none_in : {X : Type 0} {P : Type 0} (x : X) (i : ℕ) → get_elem? [] i ≡ some x → P
 none_in x i e = absurd (some-ne-none x (sym e))
@@ -52,6 +51,10 @@ module _ (t : View) (os ss : List ℕ) (is : t.slots ≡ owning_only os ss) wher
   items_of : (i : ℕ) → items_at i t ≡ 0
   items_of i = ap (λ (s : SlotsView). total (waits_in i) s.waits) is
 
+-- it has these owners, and these units of theirs; and what is known of stakes may be anything
+abbrev pub with_owners : View → List ℕ → List ℕ → List ℕ → StakesView → View
+with_owners v os ss units known = record v { slots = record v.slots { owns = os; shares = ss; drawn = units }; stakes = known }
+
 module _ (z : Code) (sizes : Sizes) (ws : List ℕ) (vs : List View) (s : SlotsPart z sizes ws vs) where
   -- a new token, whose owners another one lost
   joined : (t : View) (os ss : List ℕ) → t.slots ≡ owning_only os ss → (vs' : List View)
@@ -75,10 +78,9 @@ module _ (z : Code) (sizes : Sizes) (ws : List ℕ) (vs : List View) (s : SlotsP
   pub sits : (t : View) → t.slots ≡ bare → SlotsPart z sizes ws (vs ++ t ∷ [])
   sits t is = joined t [] [] is vs (λ i. omega arith) (λ i. refl) (λ i own. absurd (omega arith)) s.each s.two
 
-  -- what is known of stakes may be anything after it
-  module _ (id : ℕ) (v : View) (at : get_elem? vs id ≡ some v) (os ss : List ℕ) (known : StakesView) where
+  module _ (id : ℕ) (v : View) (at : get_elem? vs id ≡ some v) (os ss units : List ℕ) (known : StakesView) where
     abbrev after : View
-    after = record (owning v os ss v.words) { stakes = known }
+    after = with_owners v os ss units known
 
     -- some owners go to a new token, but for the one of a slot that is held
     pub cuts : (t : View) (os' ss' : List ℕ) → t.slots ≡ owning_only os' ss'

@@ -6,5 +6,4 @@ pub mod Slots
 pub mod Steps
 pub mod SlotSteps
 pub mod Ended
-pub mod Moves
 pub mod Parts

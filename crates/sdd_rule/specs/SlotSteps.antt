@@ -46,13 +46,19 @@ abbrev pub others : List ℕ → List ℕ
 others [] = []
 others (x ∷ xs) = xs
 
--- the only owner of the first slot goes, to a token of its own
+-- the only owner of the first slot goes, to a token of its own, with its unit
 abbrev pub parted : View → View
-parted v = record v { slots = record v.slots { owns = others v.slots.owns } }
+parted v = record v { slots = record v.slots { owns = others v.slots.owns; drawn = others v.slots.drawn } }
 
--- the owners that another knows come
+-- the owners that another knows come, with their units
 abbrev pub joined : View → View → View
-joined v w = record v { slots = record v.slots { owns = w.slots.owns ++ v.slots.owns; shares = w.slots.shares ++ v.slots.shares } }
+joined v w = record v {
+  slots = record v.slots {
+    owns = w.slots.owns ++ v.slots.owns;
+    shares = w.slots.shares ++ v.slots.shares;
+    drawn = w.slots.drawn ++ v.slots.drawn;
+  };
+}
 
 -- a slot is claimed, and its word is y then
 abbrev pub claimed : ℕ → ℕ → View → View

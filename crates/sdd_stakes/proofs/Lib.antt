@@ -10,3 +10,6 @@ pub mod Housing
 pub mod Holds
 pub mod Turns
 pub mod Ledgers
+pub mod Banking
+pub mod BankSent
+pub mod Deposits

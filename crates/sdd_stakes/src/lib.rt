@@ -2,6 +2,7 @@
 //! grip, and looks at the value by that alone.
 #![tactic(auto)]
 
+mod bank;
 mod clearing;
 pub mod example;
 mod ledger;
@@ -12,6 +13,7 @@ mod stake;
 mod stock;
 mod title;
 
+pub use bank::{Bank, Deals, Treasury};
 pub use ledger::Ledger;
 pub use plot::Plot;
 pub use seats::settle;

@@ -2,7 +2,9 @@
 ghost use Rattle.std.specs.Prelude.{◌≡◌, ◌+◌, ◌-◌, ◌<◌, ◌≤◌, ◌∷◌, None};
 ghost use Rattle.sdd_stakes.specs.Stakes.{Lot, lot_coded, holding};
 
+use crate::bank::{Bank, Deals, Treasury};
 use crate::stock::Stock;
+use atomic_table::{Seat, Shared, TableRule};
 use sdd_token::{Grip, WHOLE};
 use std::marker::{Model, PhantomData};
 
@@ -21,6 +23,7 @@ impl Model for Stake {
 impl Stake {
     ghost use Rattle.sdd_stakes.specs.Shelf.{IsFull};
     ghost use Rattle.sdd_stakes.specs.Grips.{lot_of};
+    ghost use Rattle.sdd_stakes.specs.Bank.{AllowsDeal, Comes};
 
     /// Some units, as a stake of their own. At least one stays.
     pub fn split(&mut self, units: u64) -> Stake
@@ -53,6 +56,24 @@ impl Stake {
     {
         let Stake { of: _ } = self;
         let _ = stock;
+    }
+
+    /// Goes into a bank.
+    pub fn enter<V, K, P: TableRule<Stake, V, K>, B: Treasury<V>, M: Deals<V>>(
+        self,
+        bank: &Bank<V, K, P, B>,
+        table: &Shared<Stake, V, K, P>,
+        seat: &mut Seat<Stake, V>,
+    )
+        requires table { (seat.old.table_id ≡ table.now.table_id) × (bank.now.table_id ≡ table.now.table_id) }
+        requires allowed { AllowsDeal (P.holds bank.now.key) Comes B.ours B.banked table.now.table_id.slots seat.old.id seat.old.me bank.now.id
+            (λ l. l ≡ self.lot) (M.then self.lot.number seat.old.me) }
+        ensures seat { (seat.new.table_id ≡ seat.old.table_id) × (seat.new.id ≡ seat.old.id) }
+        ensures then { M.then self.lot.number seat.old.me self.lot seat.new.me }
+    {
+        let _ = bank;
+        let _ = table;
+        let Stake { of: _ } = self;
     }
 
     /// One unit of a full place's number, as its owner's grip.

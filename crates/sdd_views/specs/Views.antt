@@ -1,5 +1,5 @@
 -- What tokens know at first, and what that of an owner knows
-use Rattle.std.specs.Prelude.{ℕ, Bool, false, List, [], ◌∷◌, None}
+use Rattle.std.specs.Prelude.{ℕ, Bool, false, List, [], ◌∷◌, ◌++◌, None}
 use base.Stored.{Gv}
 use Rattle.sdd_views.specs.declared.EpochView.{EpochView}
 use Rattle.sdd_views.specs.declared.SlotsView.{SlotsView}
@@ -35,9 +35,9 @@ bare = record {
   over = None;
 }
 
--- it owns these, and that is all
+-- it owns these, each with its unit, and that is all
 abbrev pub owning_only : List ℕ → List ℕ → SlotsView
-owning_only owns shares = record bare { owns = owns; shares = shares }
+owning_only owns shares = record bare { owns = owns; shares = shares; drawn = owns ++ shares }
 
 -- it has the right to no cell
 abbrev pub no_rights : CellsView
@@ -53,6 +53,8 @@ at_rest book = record {
   book = book;
   links = 0;
   moves = None;
+  bank = false;
+  founds = false;
   banked = [];
   owns = [];
   sees = [];

@@ -134,13 +134,6 @@ pub struct CountsView {
     pub registered: u64,
 }
 
-/// The stakes in a slot that a participant has out, beside those of the slots that its guards see.
-pub struct Move {
-    pub slot: u64,
-    /// All of them, as the value is moved in or out; else the last one alone, to which the owner's unit comes back.
-    pub whole: bool,
-}
-
 /// Units of a value's place that lie in the bank.
 pub struct Deposit {
     pub slot: u64,
@@ -159,8 +152,12 @@ pub struct StakesView {
     pub book: u64,
     /// The book of the places of what is kept beside the values.
     pub links: u64,
-    /// What it has out to move a value, or to take an owner's unit home.
-    pub moves: Option<Move>,
+    /// The slot whose value it moves in or out: it has all stakes in it out.
+    pub moves: Option<u64>,
+    /// Whether it is the bank's.
+    pub bank: bool,
+    /// Whether it may found the bank: one token may, once.
+    pub founds: bool,
     /// What lies in the bank, where it is the bank's.
     pub banked: [Deposit; 0],
     /// What the slots show whose only owner it has, once the value was moved in.

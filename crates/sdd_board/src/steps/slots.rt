@@ -1,7 +1,7 @@
 //! The atomic steps on slots, by a participant, and one by a token that knows that all places have ended.
 //!
 //! A slot is free, owned by one owner, or its item waits. A lone participant knows each word beforehand.
-ghost use Rattle.std.specs.Prelude.{◌≡◌, ◌<◌, ◌≤◌, ℕ, Bool, [], ◌∷◌, None};
+ghost use Rattle.std.specs.Prelude.{◌≡◌, ◌-◌, ◌<◌, ◌≤◌, ℕ, Bool, List, [], ◌∷◌, None};
 ghost use base.Stored.{Gv};
 ghost use Rattle.sdd_rule.specs.Words as words;
 ghost use Rattle.sdd_rule.specs.Codes.{free_word, owned_word, waiting_word};
@@ -10,22 +10,23 @@ ghost use Rattle.sdd_rule.specs.Slots.{OwnsAlone, Holds};
 ghost use Rattle.sdd_rule.specs.SlotSteps.{IsDue, LooksAtSlot, TakesHold, LetsGo, LooksForGuard};
 ghost use Rattle.sdd_rule.specs.Ended.{LooksForValue};
 ghost use Rattle.sdd_views.specs.Views.{owner_of};
-ghost use Rattle.sdd_stakes.specs.Shelf.{IsVacant};
-ghost use Rattle.sdd_homes.specs.Homes.{Carries, Moves, Settles};
+ghost use Rattle.sdd_stakes.specs.Shelf.{IsVacant, lot};
+ghost use Rattle.sdd_homes.specs.Homes.{Carries, Moves, spare};
 ghost use Rattle.sdd_homes.specs.Records.{IsIn};
-ghost use Rattle.sdd_homes.specs.HomeSteps.{HasAll, HasLast, IsValue, ClaimsAll, Houses, TakesOut, TakesHeld, GivesAll, DiscardsAll, RetiresOne, Watches, Recalls, parting, regained};
+ghost use Rattle.sdd_homes.specs.HomeSteps.{HasAll, IsValue, ClaimsAll, Houses, EntersUnit, TakesOut, TakesHeld, IsDeposit, GivesAll, DiscardsAll, RetiresOne, Watches, Recalls, parting, regained};
 ghost use Rattle.sdd_board.specs.Board.{id_of, book_of, places_of, slots_of};
 ghost use Rattle.sdd_token.specs.Owner.{witness_of_owner};
 ghost use Rattle.sdd_board.specs.Owner.{IsCutOff};
-ghost use Rattle.sdd_board.specs.Token.{view, epoch, slots, Taught, Moved, MovedAlone, TakesOwned, Knows};
+ghost use Rattle.sdd_board.specs.Token.{view, epoch, slots, Taught, Moved, MovedAlone, Knows};
 
 use crate::board::{Board, Token};
 use crate::plays::{
-    Claim, Discard, GiveBack, Hold, House, HouseShared, LetGo, LookAtSlot, LookForGuard,
-    LookForValue, Part, Recall, Retire, TakeHeld, TakeIn, TakeLast, TakeOut, Watch,
+    Claim, Discard, EnterUnit, GiveBack, Hold, House, HouseShared, LetGo, LookAtSlot, LookForGuard,
+    LookForValue, Part, Recall, Retire, TakeHeld, TakeIn, TakeOut, Watch,
 };
 use crate::words::state_word;
-use sdd_witness::{Witness, part, rejoin, step_alone, step_beside};
+use sdd_stakes::Stake;
+use sdd_witness::{Witness, part, rejoin, step_beside};
 
 /// Nobody's slot.
 pub const FREE: u64 = 0;
@@ -65,50 +66,52 @@ pub fn claim(board: &Board, token: &mut Token, slot: u32) -> u64
         .compare_exchange::<Claim>(token, board.slot_word(slot), FREE, OWNED)
 }
 
-/// The value of the slot that it moves was moved in, and the stakes in it show that: all go home, but the unit that goes with its owner, who may be
-/// one of several. No word is touched.
+/// The value of the slot that it moves was moved in, and the stakes in it show that: all go home with a unit each, and the rest, but the owner's unit,
+/// goes to the bank. The owner may be one of several. No word is touched.
 #[inline]
-pub fn house(board: &Board, token: &mut Token, shared: bool)
+pub fn house(board: &Board, token: &mut Token, rest: Stake, shared: bool)
     requires home { token.old.table_id ≡ id_of board.now }
     requires knows { Knows board.now token.old }
     requires place { HasPlace (epoch token.old) }
     requires row { (slot : ℕ) × (value : Gv) × (slot < slots_of board.now) × Moves (view token.old) slot × OwnsAlone (view token.old) slot
-        × ((rest : Carries) × HasAll (book_of board.now) slot (places_of board.now) 1 (IsValue value) rest token.old.me.1) }
-    ensures { (slot : ℕ) (value : Gv) (rest : Carries) → Moves (view token.old) slot
-        → HasAll (book_of board.now) slot (places_of board.now) 1 (IsValue value) rest token.old.me.1
+        × ((others : Carries) × HasAll (book_of board.now) slot (places_of board.now) (spare (places_of board.now)) (IsValue value) others token.old.me.1)
+        × (rest.lot ≡ lot (book_of board.now) slot rest.lot.round rest.lot.shown (spare (places_of board.now) - 1)) }
+    ensures { (slot : ℕ) (value : Gv) (others : Carries) → Moves (view token.old) slot
+        → HasAll (book_of board.now) slot (places_of board.now) (spare (places_of board.now)) (IsValue value) others token.old.me.1
         → MovedAlone (Houses slot shared value) token.old token.new }
 {
     if shared {
-        step_alone::<_, _, _, _, HouseShared>(&board.table.shared, token);
+        rest.enter::<_, _, _, _, HouseShared>(&board.bank, &board.table.shared, token);
     } else {
-        step_alone::<_, _, _, _, House>(&board.table.shared, token);
+        rest.enter::<_, _, _, _, House>(&board.bank, &board.table.shared, token);
     }
 }
 
-/// Takes the last stake in the one slot that the participant owns, to which its owner's unit comes home. No word is touched.
+/// The unit of an owner that goes, or comes into a cell, is in the bank from now on. No word is touched.
 #[inline]
-pub fn take_last(board: &Board, token: &mut Token)
+pub fn enter_unit(board: &Board, token: &mut Token, slot: u32, unit: Stake)
     requires home { token.old.table_id ≡ id_of board.now }
     requires knows { Knows board.now token.old }
+    requires inside { slot < slots_of board.now }
     requires place { HasPlace (epoch token.old) }
-    requires own { (slot : ℕ) × (slot < slots_of board.now) × ((slots token.old).owns ≡ slot ∷ []) }
-    requires rests { (view token.old).stakes.moves ≡ None }
-    ensures { MovedAlone TakesOwned token.old token.new }
+    requires own { OwnsAlone (view token.old) slot × ((others : List ℕ) × ((slots token.old).drawn ≡ slot ∷ others)) }
+    requires unit { unit.lot ≡ lot (book_of board.now) slot unit.lot.round unit.lot.shown 1 }
+    ensures { MovedAlone EntersUnit token.old token.new }
 {
-    step_alone::<_, _, _, _, TakeLast>(&board.table.shared, token);
+    let _ = slot;
+    unit.enter::<_, _, _, _, EnterUnit>(&board.bank, &board.table.shared, token);
 }
 
-/// Retires the item of a slot of its own, which waits with the participant from now on. The last stake in it goes home, with the owner's unit.
+/// Retires the item of a slot of its own, which waits with the participant from now on. The owner's unit is in the bank.
 #[inline]
 pub fn retire(board: &Board, token: &mut Token, slot: u32)
     requires home { token.old.table_id ≡ id_of board.now }
     requires knows { Knows board.now token.old }
     requires inside { slot < slots_of board.now }
     requires place { HasPlace (epoch token.old) }
-    requires own { ((slots token.old).owns ≡ slot ∷ []) × ¬ (Holds (view token.old) slot) }
-    requires last { Settles (view token.old) slot
-        × ((value : Gv) × IsIn (view token.old).stakes.owns slot value
-        × ((rest : Carries) × HasLast (book_of board.now) slot (places_of board.now) 0 (IsValue value) rest token.old.me.1)) }
+    requires own { ((slots token.old).owns ≡ slot ∷ []) × ¬ (Holds (view token.old) slot) × ((slots token.old).drawn ≡ []) }
+    requires rests { (view token.old).stakes.moves ≡ None }
+    requires told { (value : Gv) × IsIn (view token.old).stakes.owns slot value }
     ensures { Moved (RetiresOne slot) token.old (waiting_word 0) token.new }
 {
     board
@@ -117,21 +120,21 @@ pub fn retire(board: &Board, token: &mut Token, slot: u32)
         .store::<Retire>(token, board.slot_word(slot), WAITING);
 }
 
-/// Takes all stakes in the slot of an item that has seen three changes, so that nobody sees it any more. Answers the slot's word.
+/// Takes all stakes in the slot of an item that has seen three changes, so that nobody sees it any more, and what the bank has of it. No word is touched.
 #[inline]
-pub fn take_out(board: &Board, token: &mut Token, slot: u32) -> u64
+pub fn take_out(board: &Board, token: &mut Token, slot: u32) -> Stake
     requires home { token.old.table_id ≡ id_of board.now }
     requires knows { Knows board.now token.old }
     requires inside { slot < slots_of board.now }
     requires place { HasPlace (epoch token.old) }
     requires rests { (view token.old).stakes.moves ≡ None }
     requires due { IsDue (view token.old) slot }
-    ensures { Moved (λ me _. TakesOut slot me) token.old result token.new }
+    ensures taken { MovedAlone (TakesOut slot) token.old token.new }
+    ensures deposit { IsDeposit slot token.old.me result.lot }
 {
     board
-        .table
-        .shared
-        .load::<TakeOut>(token, board.slot_word(slot))
+        .bank
+        .draw::<TakeOut>(&board.table.shared, token, slot as u64)
 }
 
 /// Gives back the slot of an item whose value was moved out: all stakes in it go home.
@@ -231,22 +234,22 @@ pub fn let_go(board: &Board, token: &mut Token, slot: u32) -> u64
         .load::<LetGo>(token, board.slot_word(slot))
 }
 
-/// Takes all stakes in the slot that is held, once every place was looked at. Answers the slot's word.
+/// Takes all stakes in the slot that is held, once every place was looked at, and what the bank has of it. No word is touched.
 #[inline]
-pub fn take_held(board: &Board, token: &mut Token, slot: u32) -> u64
+pub fn take_held(board: &Board, token: &mut Token, slot: u32) -> Stake
     requires home { token.old.table_id ≡ id_of board.now }
     requires knows { Knows board.now token.old }
     requires inside { slot < slots_of board.now }
     requires place { HasPlace (epoch token.old) }
     requires rests { (view token.old).stakes.moves ≡ None }
-    requires held { Holds (view token.old) slot × ((slots token.old).owns ≡ slot ∷ []) }
+    requires held { Holds (view token.old) slot × ((slots token.old).owns ≡ slot ∷ []) × ((slots token.old).drawn ≡ []) }
     requires looked { places_of board.now ≤ (slots token.old).looked }
-    ensures { Moved (λ me _. TakesHeld slot me) token.old result token.new }
+    ensures taken { MovedAlone (TakesHeld slot) token.old token.new }
+    ensures deposit { IsDeposit slot token.old.me result.lot }
 {
     board
-        .table
-        .shared
-        .load::<TakeHeld>(token, board.slot_word(slot))
+        .bank
+        .draw::<TakeHeld>(&board.table.shared, token, slot as u64)
 }
 
 /// Frees the slot that is held, whose value was moved out: its item has gone at once, and all stakes in it go home.
@@ -281,11 +284,11 @@ pub fn look_for_value(board: &Board, token: &mut Token, slot: u32) -> u64
         .load::<LookForValue>(token, board.slot_word(slot))
 }
 
-/// Cuts the only owner that the participant has off, as a token of its own. No word is touched.
+/// Cuts the only owner that the participant has off, as a token of its own, with its unit. No word is touched.
 #[inline]
 pub fn cut(board: &Board, token: &mut Token) -> Witness
     requires home { token.old.table_id ≡ id_of board.now }
-    requires one { (slot : ℕ) × ((slots token.old).owns ≡ slot ∷ []) }
+    requires one { (slot : ℕ) × ((slots token.old).owns ≡ slot ∷ []) × ((slots token.old).drawn ≡ slot ∷ []) }
     requires free { (slots token.old).holds ≡ None }
     requires rests { (view token.old).stakes.moves ≡ None }
     ensures participant { Taught (λ v _ w. w ≡ parting v) token.old 0 token.new }

@@ -1,4 +1,4 @@
-use Rattle.std.proofs.Common.{ℕ, ◌≡◌, ◌+◌, ◌-◌, ◌<◌, ◌++◌, ◌∷◌, [], All, List, length, vec_len, refl, sym, ap, ◌∙◌, subst, arith, get_or-set_same}
+use Rattle.std.proofs.Common.{ℕ, ◌≡◌, ◌+◌, ◌-◌, ◌++◌, ◌∷◌, [], All, List, length, vec_len, refl, sym, ◌∙◌, subst, arith, get_or-set_same}
 use Rattle.std.proofs.lemmas.List.{set-set}
 use Rattle.sdd_domain.specs.Domain.{slots_in}
 use Rattle.sdd_domain.specs.Receipt.{Receipt, IsSettled, AreSettled}

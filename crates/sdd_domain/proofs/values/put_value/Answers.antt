@@ -1,4 +1,4 @@
-use Rattle.std.proofs.Common.{ℕ, ◌+◌, [], ◌∷◌, ap, sym, refl, ◌∙◌, subst, arith}
+use Rattle.std.proofs.Common.{ℕ, ◌+◌, List, [], ◌∷◌, ap, sym, refl, ◌∙◌, subst, arith}
 use Rattle.atomic_table.specs.Seated.{TableId}
 use Rattle.sdd_base.specs.Holding.{AreOf}
 use Rattle.sdd_domain.specs.Homes.{home_of_slots}
@@ -23,8 +23,8 @@ pub put-requires-clause-fits : goal.put-requires-clause-fits
 put-requires-clause-fits g c = let s = c.requires.shelf in subst (λ (t : TableId × ℕ × ℕ). AreOf (home_of_slots t.0 t.1 t.2) (g.T.Item.holds c.args.value))
     (λ d. (sym s.table d, sym s.book d, sym s.size d)) c.requires.fits
 
-pub cut_grip-grip-requires-clause-row : goal.cut_grip-grip-requires-clause-row
-cut_grip-grip-requires-clause-row g c = let b = c.args.board.now in let r = c.requires in let put = c.put.ensures.seat in (
+pub cut_rest-grip-requires-clause-row : goal.cut_rest-grip-requires-clause-row
+cut_rest-grip-requires-clause-row g c = let b = c.args.board.now in let r = c.requires in let put = c.put.ensures.seat in (
   showing g.row.T c.args.value,
   r.row.0,
   row_put b c.args.slot (c.places-count.result + 1) c.args.shared (showing g.row.T c.args.value) c.args.token.now c.put.new.seat c.put.new.seat c.put.new.seat
@@ -34,7 +34,8 @@ cut_grip-grip-requires-clause-row g c = let b = c.args.board.now in let r = c.re
 pub house-requires-clause-row : goal.house-requires-clause-row
 house-requires-clause-row g c = let b = c.args.board.now in let r = c.requires in let put = c.put.ensures.seat in let slot : ℕ = c.args.slot in
     let value : Gv = showing g.row.T c.args.value in let one = is_same slot slot refl in let all = ap (λ (k : ℕ). k + 1) c.places-count.ensures in
-    let cut = c.cut_grip-grip in let row = row_put b slot (c.places-count.result + 1) c.args.shared value c.args.token.now c.put.new.seat c.put.new.seat c.put.new.seat r.knows
+    let cut = c.cut_rest-grip in
+    let row = row_put b slot (c.places-count.result + 1) c.args.shared value c.args.token.now c.put.new.seat c.put.new.seat c.put.new.seat r.knows
     all r.own.0 r.row.0 r.row.1 put.0 tt put.1 in
     let same = view_cut b slot (c.places-count.result + 1) c.args.shared value c.args.token.now c.put.new.seat cut.new.token cut.new.token r.knows all r.own.0
     r.row.0 r.row.1 put.0 tt put.1 cut.ensures.token in (
@@ -45,77 +46,90 @@ house-requires-clause-row g c = let b = c.args.board.now in let r = c.requires i
           put.0 tt put.1 cut.ensures.token,
       (let e = ap (λ (v : View). times slot v.slots.owns) same in let e' = ap (times slot) r.own.1 in omega arith),
       (r.row.0, (cut.ensures.row value r.row.0 row).0),
+      cut.ensures.rest,
     )
 
 pub cut-requires-clause-one : goal.cut-requires-clause-one
 cut-requires-clause-one g c = let b = c.args.board.now in let r = c.requires in let put = c.put.ensures.seat in
     let f = furnished b c.args.slot (c.places-count.result + 1) c.args.shared (showing g.row.T c.args.value) c.args.token.now c.put.new.seat
-    c.cut_grip-grip.new.token c.house.new.token r.knows (ap (λ (k : ℕ). k + 1) c.places-count.ensures) r.own.0 r.row.0 r.row.1 put.0 tt put.1
-    c.cut_grip-grip.ensures.token (c.cut_grip-grip.ensures.row (showing g.row.T c.args.value) r.row.0
-    (row_put b c.args.slot (c.places-count.result + 1) c.args.shared (showing g.row.T c.args.value) c.args.token.now c.put.new.seat c.put.new.seat c.put.new.seat
-    r.knows (ap (λ (k : ℕ). k + 1) c.places-count.ensures) r.own.0 r.row.0 r.row.1 put.0 tt put.1)).0 c.house.ensures in
-    (c.args.slot, ap (λ (v : View). v.slots.owns) f.view ∙ r.own.1)
+    c.cut_rest-grip.new.token c.house.new.token r.knows (ap (λ (k : ℕ). k + 1) c.places-count.ensures) r.own.0 r.row.0 r.row.1 put.0 tt put.1
+    c.cut_rest-grip.ensures.token (c.cut_rest-grip.ensures.row (showing g.row.T c.args.value) r.row.0
+    (row_put b c.args.slot (c.places-count.result + 1) c.args.shared
+    (showing g.row.T c.args.value) c.args.token.now c.put.new.seat c.put.new.seat c.put.new.seat
+    r.knows (ap (λ (k : ℕ). k + 1) c.places-count.ensures) r.own.0 r.row.0 r.row.1 put.0 tt put.1)).0 c.house.ensures in (
+      c.args.slot,
+      ap (λ (v : View). v.slots.owns) f.view ∙ r.own.1,
+      ap (λ (v : View). v.slots.drawn) f.view ∙ ap (λ (l : List ℕ). c.args.slot ∷ l) r.free.1,
+    )
 
 pub cut-requires-clause-home : goal.cut-requires-clause-home
 cut-requires-clause-home g c = let b = c.args.board.now in let r = c.requires in let put = c.put.ensures.seat in
     let f = furnished b c.args.slot (c.places-count.result + 1) c.args.shared (showing g.row.T c.args.value) c.args.token.now c.put.new.seat
-    c.cut_grip-grip.new.token c.house.new.token r.knows (ap (λ (k : ℕ). k + 1) c.places-count.ensures) r.own.0 r.row.0 r.row.1 put.0 tt put.1
-    c.cut_grip-grip.ensures.token (c.cut_grip-grip.ensures.row (showing g.row.T c.args.value) r.row.0
-    (row_put b c.args.slot (c.places-count.result + 1) c.args.shared (showing g.row.T c.args.value) c.args.token.now c.put.new.seat c.put.new.seat c.put.new.seat
+    c.cut_rest-grip.new.token c.house.new.token r.knows (ap (λ (k : ℕ). k + 1) c.places-count.ensures) r.own.0 r.row.0 r.row.1 put.0 tt put.1
+    c.cut_rest-grip.ensures.token (c.cut_rest-grip.ensures.row (showing g.row.T c.args.value) r.row.0
+    (row_put b c.args.slot (c.places-count.result + 1) c.args.shared
+    (showing g.row.T c.args.value) c.args.token.now c.put.new.seat c.put.new.seat c.put.new.seat
     r.knows (ap (λ (k : ℕ). k + 1) c.places-count.ensures) r.own.0 r.row.0 r.row.1 put.0 tt put.1)).0 c.house.ensures in
     f.table ∙ r.home
 
 pub cut-requires-clause-free : goal.cut-requires-clause-free
 cut-requires-clause-free g c = let b = c.args.board.now in let r = c.requires in let put = c.put.ensures.seat in
     let f = furnished b c.args.slot (c.places-count.result + 1) c.args.shared (showing g.row.T c.args.value) c.args.token.now c.put.new.seat
-    c.cut_grip-grip.new.token c.house.new.token r.knows (ap (λ (k : ℕ). k + 1) c.places-count.ensures) r.own.0 r.row.0 r.row.1 put.0 tt put.1
-    c.cut_grip-grip.ensures.token (c.cut_grip-grip.ensures.row (showing g.row.T c.args.value) r.row.0
-    (row_put b c.args.slot (c.places-count.result + 1) c.args.shared (showing g.row.T c.args.value) c.args.token.now c.put.new.seat c.put.new.seat c.put.new.seat
+    c.cut_rest-grip.new.token c.house.new.token r.knows (ap (λ (k : ℕ). k + 1) c.places-count.ensures) r.own.0 r.row.0 r.row.1 put.0 tt put.1
+    c.cut_rest-grip.ensures.token (c.cut_rest-grip.ensures.row (showing g.row.T c.args.value) r.row.0
+    (row_put b c.args.slot (c.places-count.result + 1) c.args.shared
+    (showing g.row.T c.args.value) c.args.token.now c.put.new.seat c.put.new.seat c.put.new.seat
     r.knows (ap (λ (k : ℕ). k + 1) c.places-count.ensures) r.own.0 r.row.0 r.row.1 put.0 tt put.1)).0 c.house.ensures in
-    ap (λ (v : View). v.slots.holds) f.view ∙ r.free
+    ap (λ (v : View). v.slots.holds) f.view ∙ r.free.0
 
 pub cut-requires-clause-rests : goal.cut-requires-clause-rests
 cut-requires-clause-rests g c = let b = c.args.board.now in let r = c.requires in let put = c.put.ensures.seat in
     let f = furnished b c.args.slot (c.places-count.result + 1) c.args.shared (showing g.row.T c.args.value) c.args.token.now c.put.new.seat
-    c.cut_grip-grip.new.token c.house.new.token r.knows (ap (λ (k : ℕ). k + 1) c.places-count.ensures) r.own.0 r.row.0 r.row.1 put.0 tt put.1
-    c.cut_grip-grip.ensures.token (c.cut_grip-grip.ensures.row (showing g.row.T c.args.value) r.row.0
-    (row_put b c.args.slot (c.places-count.result + 1) c.args.shared (showing g.row.T c.args.value) c.args.token.now c.put.new.seat c.put.new.seat c.put.new.seat
+    c.cut_rest-grip.new.token c.house.new.token r.knows (ap (λ (k : ℕ). k + 1) c.places-count.ensures) r.own.0 r.row.0 r.row.1 put.0 tt put.1
+    c.cut_rest-grip.ensures.token (c.cut_rest-grip.ensures.row (showing g.row.T c.args.value) r.row.0
+    (row_put b c.args.slot (c.places-count.result + 1) c.args.shared
+    (showing g.row.T c.args.value) c.args.token.now c.put.new.seat c.put.new.seat c.put.new.seat
     r.knows (ap (λ (k : ℕ). k + 1) c.places-count.ensures) r.own.0 r.row.0 r.row.1 put.0 tt put.1)).0 c.house.ensures in
     ap (λ (v : View). v.stakes.moves) f.view
 
 pub returns-clause-home : goal.returns-clause-home
 returns-clause-home g c = let b = c.args.board.now in let r = c.requires in let put = c.put.ensures.seat in
     let f = furnished b c.args.slot (c.places-count.result + 1) c.args.shared (showing g.row.T c.args.value) c.args.token.now c.put.new.seat
-    c.cut_grip-grip.new.token c.house.new.token r.knows (ap (λ (k : ℕ). k + 1) c.places-count.ensures) r.own.0 r.row.0 r.row.1 put.0 tt put.1
-    c.cut_grip-grip.ensures.token (c.cut_grip-grip.ensures.row (showing g.row.T c.args.value) r.row.0
-    (row_put b c.args.slot (c.places-count.result + 1) c.args.shared (showing g.row.T c.args.value) c.args.token.now c.put.new.seat c.put.new.seat c.put.new.seat
+    c.cut_rest-grip.new.token c.house.new.token r.knows (ap (λ (k : ℕ). k + 1) c.places-count.ensures) r.own.0 r.row.0 r.row.1 put.0 tt put.1
+    c.cut_rest-grip.ensures.token (c.cut_rest-grip.ensures.row (showing g.row.T c.args.value) r.row.0
+    (row_put b c.args.slot (c.places-count.result + 1) c.args.shared
+    (showing g.row.T c.args.value) c.args.token.now c.put.new.seat c.put.new.seat c.put.new.seat
     r.knows (ap (λ (k : ℕ). k + 1) c.places-count.ensures) r.own.0 r.row.0 r.row.1 put.0 tt put.1)).0 c.house.ensures in
     (c.cut.ensures.participant.0 ∙ f.table, c.cut.ensures.participant.1 ∙ f.number)
 
 pub returns-clause-view : goal.returns-clause-view
 returns-clause-view g c = let b = c.args.board.now in let r = c.requires in let put = c.put.ensures.seat in
     let f = furnished b c.args.slot (c.places-count.result + 1) c.args.shared (showing g.row.T c.args.value) c.args.token.now c.put.new.seat
-    c.cut_grip-grip.new.token c.house.new.token r.knows (ap (λ (k : ℕ). k + 1) c.places-count.ensures) r.own.0 r.row.0 r.row.1 put.0 tt put.1
-    c.cut_grip-grip.ensures.token (c.cut_grip-grip.ensures.row (showing g.row.T c.args.value) r.row.0
-    (row_put b c.args.slot (c.places-count.result + 1) c.args.shared (showing g.row.T c.args.value) c.args.token.now c.put.new.seat c.put.new.seat c.put.new.seat
+    c.cut_rest-grip.new.token c.house.new.token r.knows (ap (λ (k : ℕ). k + 1) c.places-count.ensures) r.own.0 r.row.0 r.row.1 put.0 tt put.1
+    c.cut_rest-grip.ensures.token (c.cut_rest-grip.ensures.row (showing g.row.T c.args.value) r.row.0
+    (row_put b c.args.slot (c.places-count.result + 1) c.args.shared
+    (showing g.row.T c.args.value) c.args.token.now c.put.new.seat c.put.new.seat c.put.new.seat
     r.knows (ap (λ (k : ℕ). k + 1) c.places-count.ensures) r.own.0 r.row.0 r.row.1 put.0 tt put.1)).0 c.house.ensures in
-    c.cut.ensures.participant.3 ∙ (ap parting f.view ∙ parted_view c.args.slot c.args.shared (showing g.row.T c.args.value) c.args.token.now.me.0 r.own.1 r.own.2)
+    c.cut.ensures.participant.3 ∙ (ap parting f.view ∙ parted_view c.args.slot c.args.shared
+    (showing g.row.T c.args.value) c.args.token.now.me.0 r.own.1 r.own.2)
 
 pub returns-clause-given : goal.returns-clause-given
 returns-clause-given g c = let b = c.args.board.now in let r = c.requires in let put = c.put.ensures.seat in
     let f = furnished b c.args.slot (c.places-count.result + 1) c.args.shared (showing g.row.T c.args.value) c.args.token.now c.put.new.seat
-    c.cut_grip-grip.new.token c.house.new.token r.knows (ap (λ (k : ℕ). k + 1) c.places-count.ensures) r.own.0 r.row.0 r.row.1 put.0 tt put.1
-    c.cut_grip-grip.ensures.token (c.cut_grip-grip.ensures.row (showing g.row.T c.args.value) r.row.0
-    (row_put b c.args.slot (c.places-count.result + 1) c.args.shared (showing g.row.T c.args.value) c.args.token.now c.put.new.seat c.put.new.seat c.put.new.seat
+    c.cut_rest-grip.new.token c.house.new.token r.knows (ap (λ (k : ℕ). k + 1) c.places-count.ensures) r.own.0 r.row.0 r.row.1 put.0 tt put.1
+    c.cut_rest-grip.ensures.token (c.cut_rest-grip.ensures.row (showing g.row.T c.args.value) r.row.0
+    (row_put b c.args.slot (c.places-count.result + 1) c.args.shared
+    (showing g.row.T c.args.value) c.args.token.now c.put.new.seat c.put.new.seat c.put.new.seat
     r.knows (ap (λ (k : ℕ). k + 1) c.places-count.ensures) r.own.0 r.row.0 r.row.1 put.0 tt put.1)).0 c.house.ensures in
     c.cut.ensures.participant.2 ∙ f.given
 
 pub returns-clause-owner : goal.returns-clause-owner
 returns-clause-owner g c = let b = c.args.board.now in let r = c.requires in let put = c.put.ensures.seat in
     let f = furnished b c.args.slot (c.places-count.result + 1) c.args.shared (showing g.row.T c.args.value) c.args.token.now c.put.new.seat
-    c.cut_grip-grip.new.token c.house.new.token r.knows (ap (λ (k : ℕ). k + 1) c.places-count.ensures) r.own.0 r.row.0 r.row.1 put.0 tt put.1
-    c.cut_grip-grip.ensures.token (c.cut_grip-grip.ensures.row (showing g.row.T c.args.value) r.row.0
-    (row_put b c.args.slot (c.places-count.result + 1) c.args.shared (showing g.row.T c.args.value) c.args.token.now c.put.new.seat c.put.new.seat c.put.new.seat
+    c.cut_rest-grip.new.token c.house.new.token r.knows (ap (λ (k : ℕ). k + 1) c.places-count.ensures) r.own.0 r.row.0 r.row.1 put.0 tt put.1
+    c.cut_rest-grip.ensures.token (c.cut_rest-grip.ensures.row (showing g.row.T c.args.value) r.row.0
+    (row_put b c.args.slot (c.places-count.result + 1) c.args.shared
+    (showing g.row.T c.args.value) c.args.token.now c.put.new.seat c.put.new.seat c.put.new.seat
     r.knows (ap (λ (k : ℕ). k + 1) c.places-count.ensures) r.own.0 r.row.0 r.row.1 put.0 tt put.1)).0 c.house.ensures in (
       c.cut.ensures.owner.0,
       c.cut.ensures.owner.1 ∙ ap (λ (v : View). the_row.coded.code v ∷ [])
@@ -124,6 +138,7 @@ returns-clause-owner g c = let b = c.args.board.now in let r = c.requires in let
 
 pub returns-clause-grip : goal.returns-clause-grip
 returns-clause-grip g c = let b = c.args.board.now in let r = c.requires in let put = c.put.ensures.seat in
-    (c.cut_grip-grip.ensures.row (showing g.row.T c.args.value) r.row.0
-    (row_put b c.args.slot (c.places-count.result + 1) c.args.shared (showing g.row.T c.args.value) c.args.token.now c.put.new.seat c.put.new.seat c.put.new.seat
+    (c.cut_rest-grip.ensures.row (showing g.row.T c.args.value) r.row.0
+    (row_put b c.args.slot (c.places-count.result + 1) c.args.shared
+    (showing g.row.T c.args.value) c.args.token.now c.put.new.seat c.put.new.seat c.put.new.seat
     r.knows (ap (λ (k : ℕ). k + 1) c.places-count.ensures) r.own.0 r.row.0 r.row.1 put.0 tt put.1)).1

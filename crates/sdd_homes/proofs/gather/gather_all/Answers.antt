@@ -1,13 +1,13 @@
 use Rattle.std.proofs.Common.{◌≡◌, ℕ, ◌-◌, List, length, sym, ap, subst, vec_len, arith}
 use Rattle.sdd_stakes.specs.Stakes.{Lot}
 use Rattle.sdd_stakes.specs.Shelf.{AreVacant}
-use Rattle.sdd_homes.specs.Homes.{stake_at, no_owners, all_vacant, AreLaidTo}
+use Rattle.sdd_homes.specs.Homes.{stake_at, none_away, all_vacant, AreLaidTo}
 use Rattle.sdd_homes.proofs.Laid.{first_home, all_homes, vacant_more}
 use Rattle.sdd_homes.proofs.gather.gather_all.Goals as goal
 
 pub loop-slot-init : goal.loop-slot-init
 loop-slot-init c = let γ : ℕ = c.args.title.now.book in let n : ℕ = c.args.participants in let m : ℕ = c.args.slots in record {
-  laid = subst (λ (k : ℕ). AreLaidTo γ n k no_owners all_vacant c.args.laid.items) (all_homes n m) c.requires.laid;
+  laid = subst (λ (k : ℕ). AreLaidTo γ n k none_away all_vacant c.args.laid.items) (all_homes n m) c.requires.laid;
   stock = subst (λ (t : ℕ × List Lot). AreVacant γ m t.0 t.1) (λ d. (let e : 0 ≡ m - m = omega arith in e d, sym c.new-stock.ensures d)) tt;
   low = omega arith;
 }

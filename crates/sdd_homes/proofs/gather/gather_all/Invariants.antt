@@ -1,11 +1,11 @@
 use Rattle.std.proofs.Common.{◌-◌, ◌≤◌}
 use Rattle.sdd_stakes.specs.Shelf.{AreVacant}
-use Rattle.sdd_homes.specs.Homes.{stake_at, no_owners, all_vacant, AreLaidTo}
+use Rattle.sdd_homes.specs.Homes.{stake_at, none_away, all_vacant, AreLaidTo}
 use Rattle.sdd_homes.proofs.gather.gather_all.Given as goal
 
 abbrev pub invariant-loop-slot : goal.invariant-loop-slot
 invariant-loop-slot l = record {
-  laid : AreLaidTo l.title.book l.participants (stake_at l.participants l.slot 0) no_owners all_vacant l.laid.items;
+  laid : AreLaidTo l.title.book l.participants (stake_at l.participants l.slot 0) none_away all_vacant l.laid.items;
   stock : AreVacant l.title.book l.slot (l.slots - l.slot) l.stock.lots;
   low : l.slot ≤ l.slots;
 }

@@ -1,15 +1,15 @@
 use Rattle.std.proofs.Common.{◌≡◌, ℕ, ◌+◌, ◌-◌, length, sym, refl, ap, ◌∙◌, subst, vec_len, arith}
 use Rattle.sdd_stakes.specs.Stakes.{Lot}
 use Rattle.sdd_stakes.specs.Shelf.{AreVacant}
-use Rattle.sdd_homes.specs.Homes.{stake_at, no_owners, all_vacant, AreLaidTo}
+use Rattle.sdd_homes.specs.Homes.{stake_at, none_away, all_vacant, AreLaidTo}
 use Rattle.sdd_homes.proofs.Places.{inside}
 use Rattle.sdd_homes.proofs.Laid.{row_ends, all_homes, none_laid, vacant_first}
 use Rattle.sdd_homes.proofs.lay.lay_all.Goals as goal
 
 pub loop-slot-init : goal.loop-slot-init
 loop-slot-init c = record {
-  laid = subst (AreLaidTo c.args.title.now.book c.args.participants (stake_at c.args.participants 0 0) no_owners all_vacant) (sym c.requires.empty)
-      (none_laid c.args.title.now.book c.args.participants no_owners all_vacant);
+  laid = subst (AreLaidTo c.args.title.now.book c.args.participants (stake_at c.args.participants 0 0) none_away all_vacant) (sym c.requires.empty)
+      (none_laid c.args.title.now.book c.args.participants none_away all_vacant);
   stock = subst (λ (k : ℕ). AreVacant c.args.title.now.book 0 k c.args.stock.lots) (let e : c.args.slots ≡ c.args.slots - 0 = omega arith in e)
       c.requires.stock;
   capacity = refl;
@@ -20,7 +20,7 @@ lay_slot-requires-clause-laid c = let γ : ℕ = c.args.title.now.book in let n 
     let inv = c.loop-slot.invariant in
     let first = vacant_first γ i (i + 1) (c.args.slots - (i + 1)) (c.args.slots - i) c.loop-slot.stock.lots c.issue.result.lot c.issue.new.self.lots refl
     (omega arith) c.issue.ensures inv.stock in
-    subst (λ (b : ℕ). AreLaidTo b n (stake_at n i 0) no_owners all_vacant c.loop-slot.laid.items) (sym (ap (λ (h : Lot). h.book) first.0)) inv.laid
+    subst (λ (b : ℕ). AreLaidTo b n (stake_at n i 0) none_away all_vacant c.loop-slot.laid.items) (sym (ap (λ (h : Lot). h.book) first.0)) inv.laid
 
 pub lay_slot-requires-clause-room : goal.lay_slot-requires-clause-room
 lay_slot-requires-clause-room c = let n : ℕ = c.args.participants in let i : ℕ = c.loop-slot.slot in let inv = c.loop-slot.invariant in
@@ -29,5 +29,5 @@ lay_slot-requires-clause-room c = let n : ℕ = c.args.participants in let i : �
 
 pub returns : goal.returns
 returns c = let n : ℕ = c.args.participants in
-    subst (λ (k : ℕ). AreLaidTo c.args.title.now.book n k no_owners all_vacant c.loop-slot.laid.items)
+    subst (λ (k : ℕ). AreLaidTo c.args.title.now.book n k none_away all_vacant c.loop-slot.laid.items)
     (ap (λ (i : ℕ). stake_at n i 0) (let e : c.loop-slot.slot ≡ c.args.slots = omega arith in e) ∙ sym (all_homes n c.args.slots)) c.loop-slot.invariant.laid

@@ -1,11 +1,11 @@
 use Rattle.std.proofs.Common.{◌≡◌, ◌+◌, ◌-◌, vec_len, vec_capacity}
 use Rattle.sdd_stakes.specs.Shelf.{most, lot, IsVacant}
-use Rattle.sdd_homes.specs.Homes.{stake_at, no_owners, all_vacant, AreLaidTo}
+use Rattle.sdd_homes.specs.Homes.{stake_at, none_away, all_vacant, AreLaidTo}
 use Rattle.sdd_homes.proofs.lay.lay_slot.Given as goal
 
 abbrev pub invariant-loop-place : goal.invariant-loop-place
 invariant-loop-place l = record {
-  laid : AreLaidTo l.fn.whole.lot.book l.participants (stake_at l.participants l.slot l._place) no_owners all_vacant l.laid.items;
+  laid : AreLaidTo l.fn.whole.lot.book l.participants (stake_at l.participants l.slot l._place) none_away all_vacant l.laid.items;
   rest : l.rest.lot ≡ lot l.fn.whole.lot.book l.slot l.rest.lot.round l.rest.lot.shown (most - l._place);
   vacant : IsVacant l.rest.lot.shown;
   room : vec_len l.laid ≡ vec_len l.fn.laid + l._place;

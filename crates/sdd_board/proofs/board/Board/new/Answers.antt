@@ -1,8 +1,10 @@
-use Rattle.std.proofs.Common.{◌≡◌, ℕ, List, ◌∙◌, ap, get_or, length, replicate, arith}
+use Rattle.std.proofs.Common.{◌≡◌, ℕ, List, ◌∙◌, sym, ap, get_or, length, replicate, arith}
 use Rattle.std.proofs.lemmas.List.{length-replicate}
 use Rattle.std.proofs.lemmas.Grind.{common_steps}
 use Rattle.sdd_rule.specs.Words.{all_words}
-use Rattle.sdd_homes.proofs.Tokens.{begins}
+use Rattle.sdd_homes.proofs.Tokens.{begins, founds_bank}
+use Rattle.sdd_homes.specs.HomeSteps.{Mine}
+use Rattle.sdd_board.specs.declared.board.Plan.{Plan}
 use Rattle.sdd_board.proofs.Zeros.{zeros}
 use Rattle.sdd_board.proofs.board.Board.new.Goals as goal
 
@@ -11,3 +13,7 @@ new-requires c = let plan = c.args.plan.now in let n : ℕ = all_words plan.size
     let blank : c.as_slice.result.now ≡ replicate n 0 = grind (arith, common_steps, c.in-Ok.ensures.items_if_clones_equal) in
     begins plan.title.book plan.sizes c.as_slice.result.now c.args.laid.items (ap length blank ∙ length-replicate {A = ℕ} n 0)
     (λ i. ap (λ (l : List ℕ). get_or l i 0) blank ∙ zeros n i) (omega arith) c.requires.laid
+
+pub found-bank-requires-clause-cut : goal.found-bank-requires-clause-cut
+found-bank-requires-clause-cut c = let e = c.in-Ok-new.ensures.ok in founds_bank _ _ _ _ (ap (λ (m : Mine). m.0.stakes.founds) e.4)
+    (ap (λ (m : Mine). m.0.stakes.book) e.4 ∙ sym (ap (λ (p : Plan). p.title.book) e.5))

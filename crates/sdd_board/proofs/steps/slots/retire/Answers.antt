@@ -8,8 +8,7 @@ pub store-requires : goal.store-requires
 store-requires c = let r = c.requires in (
   r.home,
   omega arith,
-  may_retire _ _ _ _ _ r.knows.0 r.knows.1 r.place _ c.args.slot c.slot_word.ensures r.inside r.own.0 r.own.1 r.last.0 r.last.1.0
-      r.last.1.1 r.last.1.2.0 r.last.1.2.1,
+  may_retire _ _ _ _ _ r.knows.0 r.knows.1 r.place _ c.args.slot c.slot_word.ensures r.inside r.own.0 r.own.1 r.own.2 r.rests r.told.0 r.told.1,
 )
 
 pub returns : goal.returns

@@ -1,16 +1,9 @@
-use Rattle.std.proofs.Common.{ℕ, arith}
-use Rattle.sdd_homes.specs.HomeSteps.{Mine, TakesHeld}
-use Rattle.sdd_board.proofs.Allowed.{moved_at, may_take_held}
+use Rattle.sdd_stakes.specs.Bank.{Leaves}
+use Rattle.sdd_board.specs.Board.{book_of, sizes_of}
+use Rattle.sdd_board.proofs.Allowed.{as_banked, may_take_held}
 use Rattle.sdd_board.proofs.steps.slots.take_held.Goals as goal
 
-pub load-requires : goal.load-requires
-load-requires c = let r = c.requires in (
-  r.home,
-  omega arith,
-  may_take_held _ _ _ _ _ r.knows.0 r.knows.1 r.place _ c.args.slot c.slot_word.ensures r.inside r.rests r.held.1 r.held.0 r.looked,
-)
-
-pub returns : goal.returns
-returns c = let e = c.load.ensures in
-    moved_at c.args.token.now _ c.load.result e.0 e.1 (λ (slot : ℕ) (me : Mine) (_ : ℕ). TakesHeld slot me) _ c.args.slot _ c.slot_word.ensures
-    c.requires.knows.0 e.2
+pub draw-requires-clause-allowed : goal.draw-requires-clause-allowed
+draw-requires-clause-allowed c = let r = c.requires in let b = c.args.board.now in
+    as_banked b Leaves _ _ _ _ _ _ (may_take_held (book_of b)
+    (sizes_of b) _ _ _ r.knows.0 r.knows.1 r.place _ c.args.slot r.inside r.rests r.held.1 r.held.2 r.held.0 r.looked)

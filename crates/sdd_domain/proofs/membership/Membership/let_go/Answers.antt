@@ -147,7 +147,8 @@ let_wait-requires-clause-own g c =
     (c.take_in.ensures slot shared shown by.owner) in
     let none = ap (λ (v : View). v.slots.holds) took.3 ∙ q.quiet.holds in (
       ap (λ (v : View). v.slots.owns) took.3 ∙ (ap (λ (is : List ℕ). slot ∷ is) q.quiet.owns ∙ ap (λ (k : ℕ). k ∷ []) (sym c.number-slot.ensures)),
-      λ held. cc,
+      (λ held. cc),
+      ap (λ (v : View). v.slots.drawn) took.3 ∙ (ap (λ (is : List ℕ). slot ∷ is) q.quiet.drawn ∙ ap (λ (k : ℕ). k ∷ []) (sym c.number-slot.ensures)),
     )
 
 pub let_wait-requires-clause-rests : goal.let_wait-requires-clause-rests
@@ -169,7 +170,8 @@ returns-clause-retired g c =
     let waits = subst (λ (k : ℕ). Moved (LetsWait k) c.take_in.new.token 4 c.let_wait.new.token) c.number-slot.ensures c.let_wait.ensures in
     let retired = retires_to l.domain.now.board l.place l.own slot shared shown l.token c.take_in.new.token c.let_wait.new.token q took waits in
     let own_is : c.stir.new.self ≡ awaiting (Item slot) l.own
-    = c.stir.ensures ∙ (ap (λ (bags : Bags). with_garbage (record l.own { bags = bags })) c.push.ensures ∙ ap (λ (k : ℕ). awaiting (Item k) l.own) c.number-slot.ensures) in
+    = c.stir.ensures ∙ (ap (λ (bags : Bags). with_garbage (record l.own { bags = bags })) c.push.ensures ∙ ap (λ (k : ℕ). awaiting
+    (Item k) l.own) c.number-slot.ensures) in
     let old : Member = c.self.view_is 0 in
     let home : c.let_wait.new.token.table_id ≡ l.token.table_id = waits.0 ∙ took.0 in (
       retired.0,

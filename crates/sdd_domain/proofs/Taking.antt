@@ -1,0 +1,39 @@
+-- What is known once the value of an item is to be moved out, and all units of its place but the place's own have come together
+use Rattle.std.proofs.Common.{◌≡◌, ℕ, ◌∙◌, subst}
+use base.Stored.{Gv}
+use Rattle.atomic_table.specs.declared.shared.Seat.{Seat}
+use Rattle.sdd_stakes.specs.Stakes.{Lot}
+use Rattle.sdd_stakes.specs.Shelf.{lot}
+use Rattle.sdd_stakes.specs.declared.stake.Stake.{Stake}
+use Rattle.sdd_views.specs.declared.Sizes.{Sizes}
+use Rattle.sdd_views.specs.declared.View.{View}
+use Rattle.sdd_homes.specs.Homes.{Carries, spare}
+use Rattle.sdd_homes.specs.HomeSteps.{HasAll, IsValue, TakesOut, IsDeposit, moving, forgetting}
+use Rattle.sdd_board.specs.declared.board.Board.{Board}
+use Rattle.sdd_board.specs.Board.{book_of, places_of}
+use Rattle.sdd_board.specs.Token.{view, Knows}
+
+-- the token before, with all stakes in the slot out, and with what the bank had joined to the last of them
+module _ (b : Board) (slot : ℕ) (s t u : Seat Stake View) (knows : Knows b s) where
+  abbrev γ : ℕ
+  γ = book_of b
+
+  abbrev n : ℕ
+  n = places_of b
+
+  pub deposit_known : (l : Lot) → IsDeposit slot s.me l → l ≡ lot γ slot l.round l.shown (spare n)
+  deposit_known l is = subst (λ (k : ℕ × Sizes). l ≡ lot k.0 slot l.round l.shown (spare k.1.participants)) (λ d. (knows.1 d, knows.0 d)) is
+
+  module _ (out : TakesOut slot s.me t.me) where
+    pub row_taken : HasAll γ slot n (spare n) (IsValue out.value) s.me.1 t.me.1
+    row_taken = subst (λ (k : ℕ × Sizes). HasAll k.0 slot k.1.participants (spare k.1.participants) (IsValue out.value) s.me.1 t.me.1)
+        (λ d. (knows.1 d, knows.0 d)) out.stakes
+
+    module _ (joined : (u.table_id ≡ t.table_id) × (u.id ≡ t.id) × (view u ≡ view t))
+        (rows : (value : Gv) (others : Carries) → HasAll γ slot n (spare n) (IsValue value) others t.me.1
+        → HasAll γ slot n 0 (IsValue value) others u.me.1) where
+      pub row_joined : HasAll γ slot n 0 (IsValue out.value) s.me.1 u.me.1
+      row_joined = rows out.value s.me.1 row_taken
+
+      pub view_joined : view u ≡ moving slot (forgetting slot (view s))
+      view_joined = joined.2 ∙ out.view
