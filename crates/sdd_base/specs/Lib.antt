@@ -25,3 +25,4 @@ pub mod Under
 pub mod Passing
 pub mod Accounts
 pub mod Composed
+pub mod Refusals

@@ -1,6 +1,6 @@
-ghost use Rattle.std.specs.Prelude.{◌≡◌, ◌≢◌, ◌↔◌, IfOk, IsOk, IsTrue, MatchResult, None, Some, if◌then◌else◌};
+ghost use Rattle.std.specs.Prelude.{◌≡◌, ◌≢◌, ◌↔◌, ◌⊎◌, IfErr, IfOk, IsOk, IsTrue, MatchResult, None, Some, if◌then◌else◌};
 ghost use Rattle.sdd_base.specs.World.{World, pointer_at};
-ghost use Rattle.sdd_base.specs.Seat.{IsSeated, IsExact};
+ghost use Rattle.sdd_base.specs.Seat.{IsSeated, IsExact, IsLone};
 ghost use Rattle.sdd_base.specs.Known.{KnowsOn};
 ghost use Rattle.sdd_base.specs.Ptr.{KeepsShown};
 ghost use Rattle.sdd_base.specs.RawPtr as raw;
@@ -51,13 +51,15 @@ impl<T> AtomicRaw<T> {
 impl<T: Item<T>> AtomicRaw<T> {
     /// A cell with this pointer.
     ///
-    /// `NoCell` where no cell is free.
+    /// `NoCell` where no cell is free; `Contended`, in a domain alone, where as many exchanges were lost as its limits allow.
     pub fn new<S: RawCells<T>>(ptr: RawPtr<T>, s: &mut S) -> Result<AtomicRaw<T>, Refused>
         requires seated { IsSeated (S.seat s.old) }
         ensures seat { S.seat s.new ≡ S.seat s.old }
         ensures own { S.own s.new ≡ S.own s.old }
         ensures known { KnowsOn (S.known s.old) (S.known s.new) }
         ensures home { IfOk result (λ cell. cells_home cell ≡ (S.seat s.old).home.cells) }
+        ensures back { IfErr result (λ e. (e ≡ Refused.NoCell) ⊎ (e ≡ Refused.Contended)) }
+        ensures lone { IsLone (S.seat s.old) → IfErr result (λ e. e ≡ Refused.NoCell) }
         ensures exact { IsExact (S.seat s.old) → MatchResult result
             (λ cell. IsEmptyAt (S.world s.old).cells (cell_of cell) × (S.world s.new ≡ pointing (S.world s.old) (cell_of cell) (raw.pointer_of ptr)))
             (λ e. IsFull (S.world s.old).cells × (e ≡ Refused.NoCell) × (S.world s.new ≡ S.world s.old)) }
@@ -68,13 +70,15 @@ impl<T: Item<T>> AtomicRaw<T> {
 
     /// A cell with the null pointer, without a tag.
     ///
-    /// `NoCell` where no cell is free.
+    /// `NoCell` where no cell is free; `Contended`, in a domain alone, where as many exchanges were lost as its limits allow.
     pub fn null<S: RawCells<T>>(s: &mut S) -> Result<AtomicRaw<T>, Refused>
         requires seated { IsSeated (S.seat s.old) }
         ensures seat { S.seat s.new ≡ S.seat s.old }
         ensures own { S.own s.new ≡ S.own s.old }
         ensures known { KnowsOn (S.known s.old) (S.known s.new) }
         ensures home { IfOk result (λ cell. cells_home cell ≡ (S.seat s.old).home.cells) }
+        ensures back { IfErr result (λ e. (e ≡ Refused.NoCell) ⊎ (e ≡ Refused.Contended)) }
+        ensures lone { IsLone (S.seat s.old) → IfErr result (λ e. e ≡ Refused.NoCell) }
         ensures exact { IsExact (S.seat s.old) → MatchResult result
             (λ cell. IsEmptyAt (S.world s.old).cells (cell_of cell) × (S.world s.new ≡ pointing (S.world s.old) (cell_of cell) null_pointer))
             (λ e. IsFull (S.world s.old).cells × (e ≡ Refused.NoCell) × (S.world s.new ≡ S.world s.old)) }
@@ -158,6 +162,8 @@ impl<T: Item<T>> AtomicRaw<T> {
     }
 
     /// Sets the tag of the cell's pointer, if the condition holds of it, and answers whether it did. In a world the condition is asked once.
+    ///
+    /// `Contended`, in a domain alone, where as many exchanges were lost as its limits allow.
     pub fn update_tag_if<S: RawCells<T>, F: FnMut(RawPtr<T>) -> bool>(
         &self,
         tag: Tag,
@@ -170,6 +176,8 @@ impl<T: Item<T>> AtomicRaw<T> {
         ensures seat { S.seat s.new ≡ S.seat s.old }
         ensures own { S.own s.new ≡ S.own s.old }
         ensures known { KnowsOn (S.known s.old) (S.known s.new) }
+        ensures back { IfErr result (λ e. e ≡ Refused.Contended) }
+        ensures lone { IsLone (S.seat s.old) → IsOk result }
         ensures exact { IsExact (S.seat s.old) → IsOk result × IfOk result (λ changed. (ptr : RawPtr T) ×
             (pointer_at (S.world s.old) (cell_of self.now) ≡ Some (raw.pointer_of ptr)) × F.post condition ptr changed ×
             (S.world s.new ≡ (if changed
@@ -181,6 +189,8 @@ impl<T: Item<T>> AtomicRaw<T> {
 
     /// The cell has the pointer that `f` makes of its own, if it makes one: the one before comes back as `Ok`. Else its pointer does as `Err`. In a world
     /// `f` is called once.
+    ///
+    /// `Contended`, in a domain alone, where as many exchanges were lost as its limits allow.
     pub fn fetch_update<S: RawCells<T>, F: FnMut(RawPtr<T>) -> Option<RawPtr<T>>>(
         &self,
         f: F,
@@ -194,6 +204,8 @@ impl<T: Item<T>> AtomicRaw<T> {
         ensures seat { S.seat s.new ≡ S.seat s.old }
         ensures own { S.own s.new ≡ S.own s.old }
         ensures known { KnowsOn (S.known s.old) (S.known s.new) }
+        ensures back { IfErr result (λ e. e ≡ Refused.Contended) }
+        ensures lone { IsLone (S.seat s.old) → IsOk result }
         ensures exact { IsExact (S.seat s.old) → IsOk result × IfOk result (λ updated. MatchResult updated
             (λ was. (next : RawPtr T) × (pointer_at (S.world s.old) (cell_of self.now) ≡ Some (raw.pointer_of was)) × F.post f was (Some next) ×
             (S.world s.new ≡ with_pointer (S.world s.old) (cell_of self.now) (raw.pointer_of next)))

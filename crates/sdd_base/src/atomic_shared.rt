@@ -3,11 +3,12 @@ ghost use Rattle.sdd_token.specs.Right.{kind_of};
 ghost use Rattle.sdd_standings.specs.Slots.{IsSharedBy};
 ghost use Rattle.sdd_base.specs.Holding.{AreOf};
 ghost use Rattle.sdd_base.specs.World.{World, standing_at};
-ghost use Rattle.sdd_base.specs.Seat.{IsSeated, IsExact};
+ghost use Rattle.sdd_base.specs.Seat.{IsSeated, IsExact, IsLone};
 ghost use Rattle.sdd_base.specs.Known.{KnowsOn};
 ghost use Rattle.sdd_base.specs.Own.{IsSpilled};
 ghost use Rattle.sdd_base.specs.Ptr.{KeepsShown, IsShown, cell_seen, slot_named, shown_by, tag_of};
 ghost use Rattle.sdd_base.specs.RawPtr as raw;
+ghost use Rattle.sdd_base.specs.Refusals.{IsRefusedItsCell, IsRefusedItsCopy};
 ghost use Rattle.sdd_base.specs.Guard.{reader_of};
 ghost use Rattle.sdd_base.specs.Steps.{made_shared, nulled, with_cell, without_cell, with_standing, cell_closed};
 ghost use Rattle.sdd_base.specs.Shared.{right_of, slot_of, slots_home, cell_right, cell_of, cells_home, cell_with, IsOfSlots};
@@ -68,7 +69,8 @@ impl<T> AtomicShared<T> {
 impl<T: Item<T>> AtomicShared<T> {
     /// A cell that holds the owner of a new item, with tag None.
     ///
-    /// `NoSlot` where no slot is free, else `NoCell` where no cell is; the value comes back.
+    /// `NoSlot` where no slot is free, else `NoCell` where no cell is; `Contended`, in a domain alone, where as many exchanges were lost as its limits
+    /// allow. The value comes back.
     pub fn new<S: Cells<T>>(value: T, s: &mut S) -> Result<AtomicShared<T>, (T, Refused)>
         requires seated { IsSeated (S.seat s.old) }
         requires home { AreOf (S.seat s.old).home (T.holds value) }
@@ -76,8 +78,10 @@ impl<T: Item<T>> AtomicShared<T> {
         ensures own { S.own s.new ≡ S.own s.old }
         ensures known { KnowsOn (S.known s.old) (S.known s.new) }
         ensures home { IfOk result (λ cell. cells_home cell ≡ (S.seat s.old).home.cells) }
-        ensures shown { IfOk result (λ cell. (slot : ℕ) × S.shows s.new slot value ×
-            (IsExact (S.seat s.old) → entry_at (S.world s.new).cells (cell_of cell) ≡ Some (record { held = Some slot; tag = no_tag }))) }
+        ensures shown { IsExact (S.seat s.old) → IfOk result (λ cell. (slot : ℕ) × S.shows s.new slot value ×
+            (entry_at (S.world s.new).cells (cell_of cell) ≡ Some (record { held = Some slot; tag = no_tag }))) }
+        ensures back { IfErr result (λ e. (e.0 ≡ value) × IsRefusedItsCell e.1) }
+        ensures lone { IsLone (S.seat s.old) → IfErr result (λ e. e.1 ≢ Refused.Contended) }
         ensures exact { IsExact (S.seat s.old) → MatchResult result
             (λ cell. (slot : ℕ) × IsEmptyAt (S.world s.old).standings slot × IsEmptyAt (S.world s.old).cells (cell_of cell) ×
             (S.world s.new ≡ with_cell (made_shared (S.world s.old) slot value) (cell_of cell) (record { held = Some slot; tag = no_tag })))
@@ -90,7 +94,7 @@ impl<T: Item<T>> AtomicShared<T> {
 
     /// A cell that holds this owner, with tag None.
     ///
-    /// `NoCell` where no cell is free; the owner comes back.
+    /// `NoCell` where no cell is free; `Contended`, in a domain alone, where as many exchanges were lost as its limits allow. The owner comes back.
     pub fn from<S: Cells<T>>(
         owner: Shared<T>,
         s: &mut S,
@@ -101,7 +105,8 @@ impl<T: Item<T>> AtomicShared<T> {
         ensures own { S.own s.new ≡ S.own s.old }
         ensures known { KnowsOn (S.known s.old) (S.known s.new) }
         ensures home { IfOk result (λ cell. cells_home cell ≡ (S.seat s.old).home.cells) }
-        ensures back { IfErr result (λ e. right_of e.0 ≡ right_of owner) }
+        ensures back { IfErr result (λ e. (right_of e.0 ≡ right_of owner) × ((e.1 ≡ Refused.NoCell) ⊎ (e.1 ≡ Refused.Contended))) }
+        ensures lone { IsLone (S.seat s.old) → IfErr result (λ e. e.1 ≡ Refused.NoCell) }
         ensures exact { IsExact (S.seat s.old) → MatchResult result
             (λ cell. IsEmptyAt (S.world s.old).cells (cell_of cell) ×
             (S.world s.new ≡ with_cell (S.world s.old) (cell_of cell) (cell_with (Some owner) no_tag)))
@@ -119,13 +124,15 @@ impl<T: Item<T>> AtomicShared<T> {
 
     /// A cell that holds nothing.
     ///
-    /// `NoCell` where no cell is free.
+    /// `NoCell` where no cell is free; `Contended`, in a domain alone, where as many exchanges were lost as its limits allow.
     pub fn null<S: Cells<T>>(s: &mut S) -> Result<AtomicShared<T>, Refused>
         requires seated { IsSeated (S.seat s.old) }
         ensures seat { S.seat s.new ≡ S.seat s.old }
         ensures own { S.own s.new ≡ S.own s.old }
         ensures known { KnowsOn (S.known s.old) (S.known s.new) }
         ensures home { IfOk result (λ cell. cells_home cell ≡ (S.seat s.old).home.cells) }
+        ensures back { IfErr result (λ e. (e ≡ Refused.NoCell) ⊎ (e ≡ Refused.Contended)) }
+        ensures lone { IsLone (S.seat s.old) → IfErr result (λ e. e ≡ Refused.NoCell) }
         ensures exact { IsExact (S.seat s.old) → MatchResult result
             (λ cell. IsEmptyAt (S.world s.old).cells (cell_of cell) × (S.world s.new ≡ nulled (S.world s.old) (cell_of cell)))
             (λ e. IsFull (S.world s.old).cells × (e ≡ Refused.NoCell) × (S.world s.new ≡ S.world s.old)) }
@@ -178,6 +185,8 @@ impl<T: Item<T>> AtomicShared<T> {
         ensures own { S.own s.new ≡ S.own s.old }
         ensures known { KnowsOn (S.known s.old) (S.known s.new) }
         ensures shown { IsShown (S.shows s.new) result }
+        ensures owned { IsExact (S.seat s.old) →
+            IfSome (slot_named result) (λ slot. (owners : ℕ) × IsSharedBy owners (standing_at (S.world s.old) slot)) }
         ensures exact { IsExact (S.seat s.old) → (entry_at (S.world s.old).cells (cell_of self.now) ≡ Some (cell_seen result)) ×
             (S.world s.new ≡ S.world s.old) }
         ensures keeps { KeepsShown (S.shows s.old) (S.shows s.new) }
@@ -208,6 +217,8 @@ impl<T: Item<T>> AtomicShared<T> {
     }
 
     /// Sets the tag, if the condition holds of what the cell holds, and answers whether it did. In a world the condition is asked once.
+    ///
+    /// `Contended`, in a domain alone, where as many exchanges were lost as its limits allow.
     pub fn update_tag_if<S: Cells<T>, F: FnMut(RawPtr<T>) -> bool>(
         &self,
         tag: Tag,
@@ -220,6 +231,8 @@ impl<T: Item<T>> AtomicShared<T> {
         ensures seat { S.seat s.new ≡ S.seat s.old }
         ensures own { S.own s.new ≡ S.own s.old }
         ensures known { KnowsOn (S.known s.old) (S.known s.new) }
+        ensures back { IfErr result (λ e. e ≡ Refused.Contended) }
+        ensures lone { IsLone (S.seat s.old) → IsOk result }
         ensures exact { IsExact (S.seat s.old) → IsOk result × IfOk result (λ changed. (ptr : RawPtr T) ×
             (entry_at (S.world s.old).cells (cell_of self.now) ≡ Some (raw.cell_seen ptr)) × F.post condition ptr changed ×
             (S.world s.new ≡ (if changed then with_cell (S.world s.old) (cell_of self.now) (record (raw.cell_seen ptr) { tag = tag }) else S.world s.old))) }
@@ -329,7 +342,7 @@ impl<T: Item<T>> AtomicShared<T> {
 
     /// One owner more of the item that the cell holds; None where it holds nothing.
     ///
-    /// `TooManyOwners` where 2^62 own it, cells counted.
+    /// `TooManyOwners` where 2^62 own it, cells counted; `Contended`, in a domain alone, where as many exchanges were lost as its limits allow.
     pub fn get_shared<S: SharedItems<T> + Cells<T>>(
         &self,
         guard: &Guard,
@@ -342,6 +355,8 @@ impl<T: Item<T>> AtomicShared<T> {
         ensures own { S.own s.new ≡ S.own s.old }
         ensures known { KnowsOn (S.known s.old) (S.known s.new) }
         ensures owner { IfOk result (IsOfSlots (S.seat s.old).home.slots) }
+        ensures back { IfErr result (λ e. (e ≡ Refused.TooManyOwners) ⊎ (e ≡ Refused.Contended)) }
+        ensures lone { IsLone (S.seat s.old) → IfErr result (λ e. e ≡ Refused.TooManyOwners) }
         ensures exact { IsExact (S.seat s.old) → (cell : Cell) × (entry_at (S.world s.old).cells (cell_of self.now) ≡ Some cell) × MatchResult result
             (λ o. (option_map slot_of o ≡ cell.held) × MatchOption o (S.world s.new ≡ S.world s.old)
             (λ owner. (owners : ℕ) × IsSharedBy owners (standing_at (S.world s.old) (slot_of owner)) × (owners < 2 ^ 62) ×
@@ -355,7 +370,8 @@ impl<T: Item<T>> AtomicShared<T> {
 
     /// Another cell that holds one owner more of the same item, or nothing, with the same tag.
     ///
-    /// `NoCell` where no cell is free, else `TooManyOwners` where 2^62 own the item, cells counted.
+    /// `NoCell` where no cell is free, else `TooManyOwners` where 2^62 own the item, cells counted; `Contended`, in a domain alone, where as many exchanges
+    /// were lost as its limits allow.
     pub fn clone<S: Cells<T>>(&self, guard: &Guard, s: &mut S) -> Result<AtomicShared<T>, Refused>
         requires seated { IsSeated (S.seat s.old) }
         requires home { cells_home self.now ≡ (S.seat s.old).home.cells }
@@ -364,6 +380,8 @@ impl<T: Item<T>> AtomicShared<T> {
         ensures own { IsSpilled (S.own s.old) (S.own s.new) }
         ensures known { KnowsOn (S.known s.old) (S.known s.new) }
         ensures home { IfOk result (λ other. cells_home other ≡ (S.seat s.old).home.cells) }
+        ensures back { IfErr result IsRefusedItsCopy }
+        ensures lone { IsLone (S.seat s.old) → IfErr result (λ e. e ≢ Refused.Contended) }
         ensures exact { IsExact (S.seat s.old) → (cell : Cell) × (entry_at (S.world s.old).cells (cell_of self.now) ≡ Some cell) × MatchResult result
             (λ other. IsEmptyAt (S.world s.old).cells (cell_of other) × MatchOption cell.held
             (S.world s.new ≡ with_cell (S.world s.old) (cell_of other) cell)

@@ -21,7 +21,7 @@ pub struct Guard {
 const _: () = prove!(size_of::<Guard>() == 0);
 
 impl Guard {
-    ghost use Rattle.std.specs.Prelude.{◌≡◌, ◌%◌, ℕ, MatchResult, IfErr, IfOk, IsTrue};
+    ghost use Rattle.std.specs.Prelude.{◌≡◌, ◌%◌, ◌⊎◌, ℕ, MatchResult, IfErr, IfOk, IsTrue};
     ghost use Rattle.sdd_store.specs.declared.waiting.What.TheVariants.{Job};
     ghost use Rattle.sdd_store.specs.Table.{IsEmptyAt, IsFull};
     ghost use Rattle.sdd_core.specs.Epoch.{epoch_of};
@@ -139,7 +139,8 @@ impl Guard {
     /// the third outermost opening from now on that finds another count of epochs, or, where the participant has ended before, that one of whoever
     /// adopted what it left. A job that still waits as its world is closed runs then. Its place is free as soon as it ran.
     ///
-    /// `NoJob` where as many jobs wait as the limits say: the job comes back, and hasn't run.
+    /// `NoJob` where as many jobs wait as the limits say; `Contended`, in a domain alone, where as many exchanges were lost as its limits allow. The job
+    /// comes back, and hasn't run.
     pub fn defer_execute<T: Item<T>, S: Deferrals<T>>(
         &self,
         job: S::Job,
@@ -152,7 +153,8 @@ impl Guard {
             (λ _. (place : ℕ) × (S.own s.new ≡ time.awaiting (Job place) (S.own s.old)))
             (λ _. S.own s.new ≡ S.own s.old) }
         ensures known { KnowsOn (S.known s.old) (S.known s.new) }
-        ensures back { IfErr result (λ e. e.0 ≡ job) }
+        ensures back { IfErr result (λ e. (e.0 ≡ job) × ((e.1 ≡ Refused.NoJob) ⊎ (e.1 ≡ Refused.Contended))) }
+        ensures lone { IsLone (S.seat s.old) → IfErr result (λ e. e.1 ≡ Refused.NoJob) }
         ensures exact { IsExact (S.seat s.old) → MatchResult result
             (λ _. (place : ℕ) × IsEmptyAt (S.world s.old).jobs place × (S.world s.new ≡ deferred (S.world s.old) (S.seat s.old).place place))
             (λ e. IsFull (S.world s.old).jobs × (e.1 ≡ Refused.NoJob) × (S.world s.new ≡ S.world s.old)) }

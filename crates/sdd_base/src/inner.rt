@@ -1,8 +1,15 @@
 //! What the spaces need beyond the public surface: an owner, a cell, a guard and a pointer as what they are made of.
-ghost use Rattle.std.specs.Prelude.{◌≡◌, None, Some, option_copied};
+ghost use Rattle.std.specs.Prelude.{◌≡◌, ◌⊎◌, IfErr, IfOk, MatchResult, None, Some, option_copied};
 ghost use Rattle.sdd_token.specs.Right.{kind_of};
 ghost use Rattle.sdd_base.specs.Owned.{slot_of, right_of, cell_right};
 ghost use Rattle.sdd_base.specs.Shared as shared;
+ghost use Rattle.sdd_base.specs.Holding.{AreOf};
+ghost use Rattle.sdd_base.specs.World.{World};
+ghost use Rattle.sdd_base.specs.Seat.{IsSeated, IsExact, IsLone};
+ghost use Rattle.sdd_base.specs.Known.{KnowsOn};
+ghost use Rattle.sdd_base.specs.Ptr.{KeepsShown};
+ghost use Rattle.sdd_base.specs.Steps.{made_as};
+ghost use Rattle.sdd_store.specs.Table.{IsEmptyAt, IsFull};
 ghost use Rattle.sdd_base.specs.RawPtr as raw;
 ghost use Rattle.sdd_base.specs.Ptr.{slot_named, shown_by, tag_of};
 ghost use Rattle.sdd_base.specs.Guard.{reader_of, Reader};
@@ -13,14 +20,16 @@ use crate::atomic_owned::AtomicOwned;
 use crate::atomic_raw::AtomicRaw;
 use crate::atomic_shared::AtomicShared;
 use crate::guard::Guard;
+use crate::item::Item;
 use crate::owned::Owned;
 use crate::private_collector::PrivateCollector;
 use crate::ptr::Ptr;
 use crate::raw_ptr::RawPtr;
 use crate::shared::Shared;
-use sdd_core::Tag;
+use crate::space::Several;
+use sdd_core::{Refused, Tag};
 use sdd_places::{Stage, Tenure};
-use sdd_store::{Cell, Pointer};
+use sdd_store::{Cell, Pointer, Standing};
 use sdd_token::{Kind, RawRight, Right};
 
 /// The owner whose right this is.
@@ -215,4 +224,38 @@ pub fn pointer_of_raw<T>(ptr: &RawPtr<T>) -> Pointer
     ensures { result ≡ raw.pointer_of ptr.now }
 {
     ptr.pointer()
+}
+
+/// Puts a value into a free slot, with two owners at once.
+///
+/// `NoSlot` where none is free; `Contended`, in a domain alone, where as many exchanges were lost as its limits allow. The value comes back.
+pub fn make_two<T: Item<T>, S: Several<T>>(
+    value: T,
+    s: &mut S,
+) -> Result<(Shared<T>, Shared<T>), (T, Refused)>
+    requires seated { IsSeated (S.seat s.old) }
+    requires home { AreOf (S.seat s.old).home (T.holds value) }
+    ensures seat { S.seat s.new ≡ S.seat s.old }
+    ensures own { S.own s.new ≡ S.own s.old }
+    ensures known { KnowsOn (S.known s.old) (S.known s.new) }
+    ensures home { IfOk result (λ both. (shared.slots_home both.0 ≡ (S.seat s.old).home.slots) × (shared.slots_home both.1 ≡ (S.seat s.old).home.slots)) }
+    ensures one { IfOk result (λ both. shared.slot_of both.1 ≡ shared.slot_of both.0) }
+    ensures shown { IfOk result (λ both. S.owns_value s.new (shared.right_of both.0) value × S.owns_value s.new (shared.right_of both.1) value) }
+    ensures back { IfErr result (λ e. (e.0 ≡ value) × ((e.1 ≡ Refused.NoSlot) ⊎ (e.1 ≡ Refused.Contended))) }
+    ensures lone { IsLone (S.seat s.old) → IfErr result (λ e. e.1 ≡ Refused.NoSlot) }
+    ensures exact { IsExact (S.seat s.old) → MatchResult result
+        (λ both. IsEmptyAt (S.world s.old).standings (shared.slot_of both.0) ×
+        (S.world s.new ≡ made_as (S.world s.old) (shared.slot_of both.0) value (Standing.Shared 2)))
+        (λ e. IsFull (S.world s.old).standings × (e ≡ (value, Refused.NoSlot)) × (S.world s.new ≡ S.world s.old)) }
+    ensures keeps { KeepsShown (S.shows s.old) (S.shows s.new) }
+{
+    let (first, other) = match s.make_several(value, 2) {
+        Ok(made) => made,
+        Err(refused) => return Err(refused),
+    };
+    let (second, rest) = s.split_off(&first, other);
+    match rest {
+        None => Ok((Shared::of_right(first), Shared::of_right(second))),
+        Some(_) => unreachable!(),
+    }
 }

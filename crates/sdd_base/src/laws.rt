@@ -1,8 +1,9 @@
 //! Laws of every space, as functions that callers can cite by calling them.
-ghost use Rattle.std.specs.Prelude.{◌≡◌, ◌↔◌, ◌⊎◌, IfErr, IfOk, IsTrue};
+ghost use Rattle.std.specs.Prelude.{◌≡◌, ◌↔◌, ◌⊎◌, ℕ, IfErr, IfOk, IsTrue, None, length};
 ghost use Rattle.sdd_core.specs.Epoch.{epoch_after};
 ghost use Rattle.sdd_base.specs.Guard.{reader_of};
 ghost use Rattle.sdd_base.specs.Holding.{AreOf};
+ghost use Rattle.sdd_base.specs.World.{World, standing_at, value_at};
 ghost use Rattle.sdd_base.specs.Seat.{IsSeated, IsExact, IsLone};
 ghost use Rattle.sdd_base.specs.Known.{KnowsOn};
 ghost use Rattle.sdd_base.specs.Owned.{right_of, slot_of, slots_home};
@@ -14,7 +15,7 @@ use crate::guard::Guard;
 use crate::item::Item;
 use crate::owned::Owned;
 use crate::shared::Shared;
-use crate::space::{Guards, Items, RawItems};
+use crate::space::{Caller, Guards, Items, RawItems};
 use sdd_core::{Epoch, Refused};
 
 /// The epoch, asked twice under one open guard: the second answer is the first one or its `next`.
@@ -91,4 +92,12 @@ pub fn shared_is_shown<T: Item<T>, S: Items<T>>(owner: &Shared<T>, s: &mut S)
         S.owns_value s.old (shared.right_of owner.now) value ↔ S.shows s.old (shared.slot_of owner.now) value }
 {
     s.owned_is_shown(owner.right());
+}
+
+/// In an exact space there is a place for a value in each slot, and a slot that is free has none.
+pub fn values_fit_slots<T: Item<T>, S: Caller<T>>(s: &S)
+    ensures many { IsExact (S.seat s.now) → length (S.world s.now).values ≡ length (S.world s.now).standings }
+    ensures bare { IsExact (S.seat s.now) → (k : ℕ) → standing_at (S.world s.now) k ≡ None → value_at (S.world s.now) k ≡ None }
+{
+    s.values_fit_slots();
 }

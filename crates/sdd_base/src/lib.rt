@@ -31,6 +31,6 @@ pub use ptr::Ptr;
 pub use raw_ptr::RawPtr;
 pub use shared::Shared;
 pub use space::{
-    Caller, Cells, Collectors, Deferrals, Edits, Guards, Items, RawCells, RawItems, SharedItems,
-    Space,
+    Caller, Cells, Collectors, Deferrals, Edits, Guards, Items, RawCells, RawItems, Several,
+    SharedItems, Space,
 };

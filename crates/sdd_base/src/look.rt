@@ -44,9 +44,10 @@ pub trait Look<T: Item<T>>: LookThrough<T> {
     /// It knows what each slot shows. A world does; a domain, whose slots others fill and free, knows an owner's item alone.
     ghost knows_slots: { Self → Type 0 };
 
-    /// The value of an owner's item.
+    /// The value of an owner's item. What it holds is of this home, so that a cell that stands in it can be loaded from.
     fn value<'a>(&'a self, right: &'a Right) -> &'a T
         requires home { home_of right.now ≡ (Self.home self.now).slots }
         ensures shown { Self.knows_slots self.now → Self.shows self.now (number_of right.now) result.now }
-        ensures value { Self.owns_value self.now right.now result.now };
+        ensures value { Self.owns_value self.now right.now result.now }
+        ensures held { AreOf (Self.home self.now) (T.holds result.now) };
 }

@@ -97,6 +97,7 @@ impl<T: Item<T>> Owned<T> {
         requires home { slots_home self.now ≡ (L.home at.now).slots }
         ensures shown { L.knows_slots at.now → L.shows at.now (slot_of self.now) result.now }
         ensures value { L.owns_value at.now (right_of self.now) result.now }
+        ensures held { AreOf (L.home at.now) (T.holds result.now) }
     {
         at.value(self.right())
     }
@@ -220,14 +221,16 @@ impl<T: Item<T>> Owned<T> {
         requires callable { F.IsAlwaysCallable f }
         requires held { (was now : T) (r : R) → FnOnceReturnsAtMut F.FnOnce f was r now →
             AreOf (S.seat s.old).home (T.holds was) → AreOf (S.seat s.old).home (T.holds now) }
-        ensures same { self.new ≡ self.old }
+        ensures slot { slot_of self.new ≡ slot_of self.old }
+        ensures home { slots_home self.new ≡ slots_home self.old }
+        ensures same { IfErr result (λ _. right_of self.new ≡ right_of self.old) }
         ensures seat { S.seat s.new ≡ S.seat s.old }
         ensures own { S.own s.new ≡ S.own s.old }
         ensures known { KnowsOn (S.known s.old) (S.known s.new) }
         ensures owned { IsExact (S.seat s.old) → standing_at (S.world s.old) (slot_of self.old) ≡ Some Standing.Owned }
-        ensures back { IfErr result (λ e. e.0 ≡ f) }
-        ensures shown { IfOk result (λ r. (was : T) × (now : T) × S.shows s.old (slot_of self.old) was × FnOnceReturnsAtMut F.FnOnce f was r now ×
-            S.shows s.new (slot_of self.old) now) }
+        ensures back { IfErr result (λ e. (e.0 ≡ f) × (e.1 ≡ Refused.GuardOpen)) }
+        ensures shown { IfOk result (λ r. (was : T) × (now : T) × S.owns_value s.old (right_of self.old) was ×
+            FnOnceReturnsAtMut F.FnOnce f was r now × S.owns_value s.new (right_of self.new) now) }
         ensures exact { IsExact (S.seat s.old) → MatchResult result
             (λ r. ¬ (IsGuarded (S.world s.old)) ×
             ((was : T) × (now : T) × (value_at (S.world s.old) (slot_of self.old) ≡ Some was) × FnOnceReturnsAtMut F.FnOnce f was r now ×
@@ -236,20 +239,20 @@ impl<T: Item<T>> Owned<T> {
         ensures keeps { MatchResult result (λ _. KeepsOthers (slot_of self.old) (S.shows s.old) (S.shows s.new))
             (λ _. KeepsShown (S.shows s.old) (S.shows s.new)) }
     {
-        s.edit(self.right(), Kind::Owned, f)
+        s.edit(&mut self.right.right, Kind::Owned, f)
     }
 
     /// Drops the item in its place, where no guard of any participant is open: its value gives up at once what it holds, and its slot is free.
     ///
-    /// `GuardOpen` where one is: the owner comes back.
+    /// `GuardOpen` where one is: the owner comes back, and nothing more waits than before.
     pub fn drop_in_place<S: Edits<T>>(self, s: &mut S) -> Result<(), (Owned<T>, Refused)>
         requires seated { IsSeated (S.seat s.old) }
         requires home { slots_home self ≡ (S.seat s.old).home.slots }
         ensures seat { S.seat s.new ≡ S.seat s.old }
-        ensures own { GrowsOn (S.own s.old) (S.own s.new) }
+        ensures own { MatchResult result (λ _. GrowsOn (S.own s.old) (S.own s.new)) (λ _. S.own s.new ≡ S.own s.old) }
         ensures known { KnowsOn (S.known s.old) (S.known s.new) }
         ensures owned { IsExact (S.seat s.old) → standing_at (S.world s.old) (slot_of self) ≡ Some Standing.Owned }
-        ensures back { IfErr result (λ e. right_of e.0 ≡ right_of self) }
+        ensures back { IfErr result (λ e. (right_of e.0 ≡ right_of self) × (e.1 ≡ Refused.GuardOpen)) }
         ensures exact { IsExact (S.seat s.old) → MatchResult result
             (λ _. ¬ (IsGuarded (S.world s.old)) × (S.world s.new ≡ dropped T.holds (S.world s.old) (S.seat s.old).place (slot_of self)))
             (λ e. IsGuarded (S.world s.old) × (e.1 ≡ Refused.GuardOpen) × (S.world s.new ≡ S.world s.old)) }

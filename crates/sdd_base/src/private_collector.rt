@@ -1,6 +1,6 @@
-ghost use Rattle.std.specs.Prelude.{ℕ, ◌≡◌, ◌↔◌, IfErr, IfOk, IsTrue, MatchResult, Some, if◌then◌else◌};
+ghost use Rattle.std.specs.Prelude.{ℕ, ◌≡◌, ◌≢◌, ◌↔◌, ◌⊎◌, IfErr, IfOk, IsTrue, MatchResult, Some, if◌then◌else◌};
 ghost use Rattle.sdd_base.specs.World.{World, IsGuarded, standing_at};
-ghost use Rattle.sdd_base.specs.Seat.{IsSeated, IsExact};
+ghost use Rattle.sdd_base.specs.Seat.{IsSeated, IsExact, IsLone};
 ghost use Rattle.sdd_base.specs.Known.{KnowsOn};
 ghost use Rattle.sdd_base.specs.Own.{IsCollected};
 ghost use Rattle.sdd_base.specs.Ptr.{KeepsShown};
@@ -69,13 +69,15 @@ impl<T> PrivateCollector<T> {
 impl<T: Item<T>> PrivateCollector<T> {
     /// A collector for which nothing waits.
     ///
-    /// `NoCell` where no cell is free.
+    /// `NoCell` where no cell is free; `Contended`, in a domain alone, where as many exchanges were lost as its limits allow.
     pub fn new<S: RawCells<T>>(s: &mut S) -> Result<PrivateCollector<T>, Refused>
         requires seated { IsSeated (S.seat s.old) }
         ensures seat { S.seat s.new ≡ S.seat s.old }
         ensures own { S.own s.new ≡ S.own s.old }
         ensures known { KnowsOn (S.known s.old) (S.known s.new) }
         ensures home { IfOk result (λ collector. cells_home collector ≡ (S.seat s.old).home.cells) }
+        ensures back { IfErr result (λ e. (e ≡ Refused.NoCell) ⊎ (e ≡ Refused.Contended)) }
+        ensures lone { IsLone (S.seat s.old) → IfErr result (λ e. e ≡ Refused.NoCell) }
         ensures exact { IsExact (S.seat s.old) → MatchResult result
             (λ collector. IsEmptyAt (S.world s.old).cells (collector_of collector) ×
             (S.world s.new ≡ pointing (S.world s.old) (collector_of collector) null_pointer))
@@ -129,7 +131,7 @@ impl<T: Item<T>> PrivateCollector<T> {
     }
 
     /// Frees the collector's cell. What waits for the collector, with whichever participant, also with one that has ended, is reclaimed at once, and what
-    /// its values give up waits with the calling participant.
+    /// its values give up waits with the calling participant. Each slot whose item didn't wait for it shows what it showed.
     ///
     /// `GuardOpen` where a guard of any participant is open: the collector comes back, and nothing has changed.
     pub fn close<S: Collectors<T>>(self, s: &mut S) -> Result<(), (PrivateCollector<T>, Refused)>
@@ -138,11 +140,14 @@ impl<T: Item<T>> PrivateCollector<T> {
         ensures seat { S.seat s.new ≡ S.seat s.old }
         ensures own { MatchResult result (λ _. IsCollected (S.own s.old) (S.own s.new)) (λ _. S.own s.new ≡ S.own s.old) }
         ensures known { KnowsOn (S.known s.old) (S.known s.new) }
-        ensures back { IfErr result (λ e. e.0 ≡ self) }
+        ensures back { IfErr result (λ e. (e.0 ≡ self) × (e.1 ≡ Refused.GuardOpen)) }
         ensures exact { IsExact (S.seat s.old) → MatchResult result
             (λ _. ¬ (IsGuarded (S.world s.old)) × IsNullCell (S.world s.old) (collector_of self) ×
             (S.world s.new ≡ collector_closed T.holds (S.world s.old) (S.seat s.old).place (collector_of self)))
             (λ e. IsGuarded (S.world s.old) × (e.1 ≡ Refused.GuardOpen) × (S.world s.new ≡ S.world s.old)) }
+        ensures others { (k : ℕ) (value : T) →
+            (IsExact (S.seat s.old) → standing_at (S.world s.old) k ≢ Some (Standing.Private (collector_of self))) → S.shows s.old k value →
+            S.shows s.new k value }
         ensures keeps { IfErr result (λ _. KeepsShown (S.shows s.old) (S.shows s.new)) }
     {
         match s.close_collector(self.into_right()) {

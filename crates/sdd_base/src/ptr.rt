@@ -177,14 +177,14 @@ impl<'g, T> Ptr<'g, T> {
 }
 
 impl<'g, T: Item<T>> Ptr<'g, T> {
-    ghost use Rattle.std.specs.Prelude.{ℕ, ◌≡◌, ◌↔◌, ◌+◌, ◌^◌, ◌<◌, IfOk, IfSome, IsSome, MatchOption, MatchResult, None, Some, option_copied};
+    ghost use Rattle.std.specs.Prelude.{ℕ, ◌≡◌, ◌↔◌, ◌+◌, ◌^◌, ◌<◌, ◌⊎◌, IfErr, IfOk, IfSome, IsSome, MatchOption, MatchResult, None, Some, option_copied};
     ghost use Rattle.sdd_standings.specs.Slots.{IsSharedBy, owners_of};
     ghost use Rattle.sdd_store.specs.declared.standing.Standing.TheVariants.{Shared as shared_by};
     ghost use Rattle.sdd_base.specs.World.{World, standing_at};
-    ghost use Rattle.sdd_base.specs.Seat.{IsSeated, IsExact};
+    ghost use Rattle.sdd_base.specs.Seat.{IsSeated, IsExact, IsLone};
     ghost use Rattle.sdd_base.specs.Known.{KnowsOn};
     ghost use Rattle.sdd_base.specs.Steps.{with_standing};
-    ghost use Rattle.sdd_base.specs.Shared.{IsOfSlots, slot_of};
+    ghost use Rattle.sdd_base.specs.Shared.{IsOfSlots, right_of, slot_of};
     ghost use Rattle.sdd_base.specs.Ptr.{KeepsShown, IsNull, shown_by, slot_named};
 
     /// The value of the item, which is the one that the pointer was made with, whatever was called since; None for null.
@@ -199,7 +199,7 @@ impl<'g, T: Item<T>> Ptr<'g, T> {
 
     /// One owner more of the item, if it is shared: None for null, for an item with one owner that can't be shared, and after the last owner went.
     ///
-    /// `TooManyOwners` where 2^62 own it, cells counted.
+    /// `TooManyOwners` where 2^62 own it, cells counted; `Contended`, in a domain alone, where as many exchanges were lost as its limits allow.
     pub fn get_shared<S: SharedItems<T>>(&self, s: &mut S) -> Result<Option<Shared<T>>, Refused>
         requires seated { IsSeated (S.seat s.old) }
         ensures seat { S.seat s.new ≡ S.seat s.old }
@@ -207,6 +207,9 @@ impl<'g, T: Item<T>> Ptr<'g, T> {
         ensures known { KnowsOn (S.known s.old) (S.known s.new) }
         ensures owner { IfOk result (IsOfSlots (S.seat s.old).home.slots) }
         ensures slot { IfOk result (λ o. IfSome o (λ owner. slot_named self.now ≡ Some (slot_of owner))) }
+        ensures value { IfOk result (λ o. IfSome o (λ owner. (v : T) → S.shows s.old (slot_of owner) v → S.owns_value s.new (right_of owner) v)) }
+        ensures back { IfErr result (λ e. (e ≡ Refused.TooManyOwners) ⊎ (e ≡ Refused.Contended)) }
+        ensures lone { IsLone (S.seat s.old) → IfErr result (λ e. e ≡ Refused.TooManyOwners) }
         ensures exact { IsExact (S.seat s.old) → MatchResult result
             (λ o. MatchOption o
             ((S.world s.new ≡ S.world s.old) × IfSome (slot_named self.now) (λ slot. owners_of (standing_at (S.world s.old) slot) ≡ None))

@@ -96,6 +96,7 @@ impl<T: Item<T>> Shared<T> {
         requires home { slots_home self.now ≡ (L.home at.now).slots }
         ensures shown { L.knows_slots at.now → L.shows at.now (slot_of self.now) result.now }
         ensures value { L.owns_value at.now (right_of self.now) result.now }
+        ensures held { AreOf (L.home at.now) (T.holds result.now) }
     {
         at.value(self.right())
     }
@@ -190,7 +191,7 @@ impl<T: Item<T>> Shared<T> {
         }
     }
 
-    /// One owner more of the same item.
+    /// One owner more of the same item, with the same value.
     ///
     /// `TooManyOwners` where 2^62 own it, cells counted.
     pub fn clone<S: SharedItems<T>>(&self, s: &mut S) -> Result<Shared<T>, Refused>
@@ -201,6 +202,8 @@ impl<T: Item<T>> Shared<T> {
         ensures known { KnowsOn (S.known s.old) (S.known s.new) }
         ensures home { IfOk result (λ other. slots_home other ≡ (S.seat s.old).home.slots) }
         ensures slot { IfOk result (λ other. slot_of other ≡ slot_of self.now) }
+        ensures value { IfOk result (λ other. (v : T) → S.owns_value s.old (right_of self.now) v → S.owns_value s.new (right_of other) v) }
+        ensures back { IfErr result (λ e. e ≡ Refused.TooManyOwners) }
         ensures exact { IsExact (S.seat s.old) → (owners : ℕ) × IsSharedBy owners (standing_at (S.world s.old) (slot_of self.now)) × MatchResult result
             (λ _. (owners < 2 ^ 62) × (S.world s.new ≡ with_standing (S.world s.old) (slot_of self.now) (Standing.Shared (owners + 1))))
             (λ e. (owners ≡ 2 ^ 62) × (e ≡ Refused.TooManyOwners) × (S.world s.new ≡ S.world s.old)) }
@@ -237,13 +240,15 @@ impl<T: Item<T>> Shared<T> {
         requires callable { F.IsAlwaysCallable f }
         requires held { (was now : T) (r : R) → FnOnceReturnsAtMut F.FnOnce f was r now →
             AreOf (S.seat s.old).home (T.holds was) → AreOf (S.seat s.old).home (T.holds now) }
-        ensures same { self.new ≡ self.old }
+        ensures slot { slot_of self.new ≡ slot_of self.old }
+        ensures home { slots_home self.new ≡ slots_home self.old }
+        ensures same { IfErr result (λ _. right_of self.new ≡ right_of self.old) }
         ensures seat { S.seat s.new ≡ S.seat s.old }
         ensures own { S.own s.new ≡ S.own s.old }
         ensures known { KnowsOn (S.known s.old) (S.known s.new) }
-        ensures back { IfErr result (λ e. e.0 ≡ f) }
-        ensures shown { IfOk result (λ r. (was : T) × (now : T) × S.shows s.old (slot_of self.old) was × FnOnceReturnsAtMut F.FnOnce f was r now ×
-            S.shows s.new (slot_of self.old) now) }
+        ensures back { IfErr result (λ e. (e.0 ≡ f) × ((e.1 ≡ Refused.NotAlone) ⊎ (e.1 ≡ Refused.GuardOpen))) }
+        ensures shown { IfOk result (λ r. (was : T) × (now : T) × S.owns_value s.old (right_of self.old) was ×
+            FnOnceReturnsAtMut F.FnOnce f was r now × S.owns_value s.new (right_of self.new) now) }
         ensures exact { IsExact (S.seat s.old) → (owners : ℕ) × IsSharedBy owners (standing_at (S.world s.old) (slot_of self.old)) × MatchResult result
             (λ r. (owners ≡ 1) × ¬ (IsGuarded (S.world s.old)) ×
             ((was : T) × (now : T) × (value_at (S.world s.old) (slot_of self.old) ≡ Some was) × FnOnceReturnsAtMut F.FnOnce f was r now ×
@@ -253,20 +258,22 @@ impl<T: Item<T>> Shared<T> {
         ensures keeps { MatchResult result (λ _. KeepsOthers (slot_of self.old) (S.shows s.old) (S.shows s.new))
             (λ _. KeepsShown (S.shows s.old) (S.shows s.new)) }
     {
-        s.edit(self.right(), Kind::Shared, f)
+        s.edit(&mut self.right.right, Kind::Shared, f)
     }
 
     /// Gives this owner up, and answers whether it was the last, cells counted. The last one's item is dropped in its place, where no guard of any
     /// participant is open: its value gives up at once what it holds, and its slot is free.
     ///
-    /// `GuardOpen` where this is the last owner and a guard is open: it comes back.
+    /// `GuardOpen` where this is the last owner and a guard is open; `Contended`, in a domain alone, where as many exchanges were lost as its limits
+    /// allow. The owner comes back, and nothing more waits than before.
     pub fn drop_in_place<S: Edits<T>>(self, s: &mut S) -> Result<bool, (Shared<T>, Refused)>
         requires seated { IsSeated (S.seat s.old) }
         requires home { slots_home self ≡ (S.seat s.old).home.slots }
         ensures seat { S.seat s.new ≡ S.seat s.old }
-        ensures own { GrowsOn (S.own s.old) (S.own s.new) }
+        ensures own { MatchResult result (λ _. GrowsOn (S.own s.old) (S.own s.new)) (λ _. S.own s.new ≡ S.own s.old) }
         ensures known { KnowsOn (S.known s.old) (S.known s.new) }
-        ensures back { IfErr result (λ e. right_of e.0 ≡ right_of self) }
+        ensures back { IfErr result (λ e. (right_of e.0 ≡ right_of self) × ((e.1 ≡ Refused.GuardOpen) ⊎ (e.1 ≡ Refused.Contended))) }
+        ensures lone { IsLone (S.seat s.old) → IfErr result (λ e. e.1 ≡ Refused.GuardOpen) }
         ensures exact { IsExact (S.seat s.old) → (owners : ℕ) × IsSharedBy owners (standing_at (S.world s.old) (slot_of self)) × MatchResult result
             (λ last. MatchBool last
             ((owners ≡ 1) × ¬ (IsGuarded (S.world s.old)) × (S.world s.new ≡ dropped T.holds (S.world s.old) (S.seat s.old).place (slot_of self)))

@@ -11,6 +11,7 @@ pub mod guards;
 pub mod items;
 pub mod raw_cells;
 pub mod raw_items;
+pub mod several;
 pub mod shared_items;
 
 use crate::item::Item;
@@ -24,6 +25,7 @@ pub use guards::Guards;
 pub use items::Items;
 pub use raw_cells::RawCells;
 pub use raw_items::RawItems;
+pub use several::Several;
 pub use shared_items::SharedItems;
 
 /// A world or domain as one participant has it, with all its parts.

@@ -8,7 +8,7 @@ use Rattle.sdd_views.specs.declared.Sizes.{Sizes}
 use Rattle.sdd_token.specs.Right.{home_of_table}
 use Rattle.sdd_stakes.specs.declared.shelf.Shelf.{Shelf}
 use Rattle.sdd_domain.specs.Shelf.{sizes_in, IsShelfOf}
-use Rattle.sdd_domain.specs.Homes.{home_of_slots, home_in}
+use Rattle.sdd_domain.specs.Homes.{home_at, home_of_slots, home_in}
 use Rattle.sdd_domain.specs.Member.{Member}
 use Rattle.sdd_base.specs.Holding.{Home, Holding, owned, shared, atomic_owned, atomic_shared, atomic_raw, AreOf}
 
@@ -47,3 +47,9 @@ module _ (b : Board) (m : Member) (on : IsOn b m) where
       → AreOf (home_in m) hs
   from_shelf shelf s = re_homed (home_of_slots shelf.table shelf.book shelf.size) (home_in m)
       (λ d. home_of_table ((s.table ∙ sym on.home) d) ((s.book ∙ sym on.book) d) ((s.size ∙ sym on.slots) d)) refl
+
+-- what a value in a domain holds is of the domain's home
+pub of_domain : {T F : Type 0} (l : Limits) (b : Board) (shelf : Shelf T F) → sizes_of b ≡ sizes_in l → IsShelfOf b shelf → (hs : List Holding) →
+    AreOf (home_of_slots shelf.table shelf.book shelf.size) hs → AreOf (home_at (id_of b) (book_of b) l) hs
+of_domain l b shelf sizes s = re_homed (home_of_slots shelf.table shelf.book shelf.size) (home_at (id_of b) (book_of b) l)
+    (λ d. home_of_table (s.table d) (s.book d) ((s.size ∙ ap (λ (z : Sizes). z.slots) sizes) d)) refl

@@ -1,9 +1,9 @@
 //! The search for a free slot.
-ghost use Rattle.std.specs.Prelude.{◌≡◌, ◌⊎◌, ◌<◌, ◌≤◌, ℕ, true, false, None, IfOk, MatchOption, MatchResult};
+ghost use Rattle.std.specs.Prelude.{◌≡◌, ◌⊎◌, ◌<◌, ◌≤◌, ℕ, true, false, None, IfOk, IsTrue, MatchOption, MatchResult};
 ghost use Rattle.sdd_rule.specs.Epoch.{HasPlace, IsLone};
 ghost use Rattle.sdd_board.specs.Board.{id_of, slots_of};
 ghost use Rattle.sdd_board.specs.Token.{view, epoch, Knows};
-ghost use Rattle.sdd_domain.specs.Claims.{IsUnmoved, Gains, Misses, Loses};
+ghost use Rattle.sdd_domain.specs.Claims.{IsKnownFree, IsUnmoved, Gains, Misses, Loses};
 
 use crate::known::Known;
 use sdd_board::steps::slots::{FREE, claim, look};
@@ -130,6 +130,24 @@ fn search(
         return Ok(slot);
     }
     Err(Refused::NoSlot)
+}
+
+/// A slot is found free by a walk over all of them, which claims none.
+pub fn finds_free(board: &Board, token: &mut Token, slots: u32) -> bool
+    requires home { token.old.table_id ≡ id_of board.now }
+    requires knows { Knows board.now token.old }
+    requires slots { slots ≡ slots_of board.now }
+    requires place { HasPlace (epoch token.old) }
+    ensures same { IsUnmoved token.old token.new }
+    ensures found { IsTrue result → IsLone (epoch token.old) → (slot : ℕ) × (slot < slots_of board.now) × IsKnownFree token.old slot }
+    ensures missed { ¬ (IsTrue result) → Misses (λ k. k < slots_of board.now) token.old token.new }
+{
+    for slot in 0..slots {
+        if look(board, token, slot) == FREE {
+            return true;
+        }
+    }
+    false
 }
 
 /// Claims a free slot: one that was given back, or else the first one of a walk over all slots, once round. All stakes in it are out then.

@@ -118,6 +118,8 @@ impl<T: Item<T>> Caller<T> for Local<'_, T> {
 
     ghost world = { λ p. world_of p };
 
+    fn values_fit_slots(&self) {}
+
     ghost home_is_seat = { λ _. refl };
 
     ghost own_is_place = { λ p _. own_is_place p };
@@ -194,6 +196,15 @@ impl<T: Item<T>> Items<T> for Local<'_, T> {
     fn let_go(&mut self, right: Right, _kind: Kind) -> bool {
         self.partner.membership.let_go(right);
         true
+    }
+
+    #[inline]
+    fn slots(&self) -> u64 {
+        self.partner.membership.domain().limits.slots
+    }
+
+    fn has_slot(&mut self) -> bool {
+        self.partner.membership.has_slot()
     }
 
     #[inline]

@@ -5,3 +5,4 @@ pub mod Copying
 pub mod Letting
 pub mod Sound
 pub mod InPlace
+pub mod Several

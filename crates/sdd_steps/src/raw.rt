@@ -23,7 +23,7 @@ use sdd_desk::Val;
 use sdd_lines::Reply;
 use sdd_store::{Idle, Pointer};
 
-/// The number of an owner's item is changed in its place; the owner comes back.
+/// The number of an owner's item is changed in its place; an owner of the same item comes back.
 pub struct PutsNumber {
     pub owner: AnOwner,
     pub number: u64,
@@ -34,7 +34,7 @@ impl Step for PutsNumber {
 
     ghost asks = { λ step home _ _. IsOf home (owner_holding step.owner) };
 
-    ghost does = { λ step _ _ before out after. (out.0 ≡ step.owner)
+    ghost does = { λ step _ _ before out after. (owner_holding out.0 ≡ owner_holding step.owner)
         × ((k : ℕ) × (desk.slot_of (Some (owner_holding step.owner)) ≡ Some k)
         × MatchResult out.1 (λ _. MayInPlace before k × Puts before k step.number after) (λ e. RefusedInPlace before k e × (after ≡ before))) };
 

@@ -88,6 +88,25 @@ impl Right {
         }
     }
 
+    /// The right that has this unit of a number of a book, which several may own.
+    fn of_part(number: u32, part: Part<Kind>) -> Right
+        requires named { part.number ≡ number }
+        requires inside { number < part.home.size }
+        requires kind { part.kind ≡ Kind.Shared }
+        requires single { part.units ≡ 1 }
+        requires books { part.home.tables ≡ [] }
+        ensures number { number_of result ≡ number }
+        ensures home { home_of result ≡ part.home }
+        ensures kind { kind_of result ≡ Kind.Shared }
+    {
+        Right {
+            number,
+            part,
+            witness: Witness::blank(),
+            grip: Grip::blank(),
+        }
+    }
+
     /// Lets go of the right for ever: nobody has it again, nor redeems it.
     pub fn let_go(self) {
         let (_owner, grip) = self.into_owner();
@@ -130,7 +149,7 @@ impl Right {
 
 /// The right of the one owner of a number.
 pub struct Sole {
-    right: Right,
+    pub right: Right,
     pub ghost kind: { right.part.kind ≡ Kind.Owned },
 }
 
@@ -164,7 +183,7 @@ impl Sole {
 
 /// The right of one owner of a number that others may own too.
 pub struct Share {
-    right: Right,
+    pub right: Right,
     pub ghost kind: { right.part.kind ≡ Kind.Shared },
 }
 
@@ -208,10 +227,38 @@ pub struct Shares {
     pub ghost kind: { part.kind ≡ Kind.Shared },
     pub ghost some: { 1 ≤ count },
     pub ghost due: { part.units ≡ count },
+    pub ghost books: { part.home.tables ≡ [] },
 }
 
 impl Shares {
-    ghost use Rattle.sdd_token.specs.Shares.{number_of, count_of};
+    ghost use Rattle.std.specs.Prelude.{◌+◌, IfSome, MatchOption};
+    ghost use Rattle.sdd_token.specs.Shares.{number_of, home_of, count_of};
+    ghost use Rattle.sdd_token.specs.Right as right;
+
+    /// The right of one of the owners, and those of the others, if there are more.
+    pub fn split_off(self) -> (Right, Option<Shares>)
+        ensures right_home { right.home_of result.0 ≡ home_of self }
+        ensures right_number { right.number_of result.0 ≡ number_of self }
+        ensures right_kind { right.kind_of result.0 ≡ Kind.Shared }
+        ensures others { IfSome result.1 (λ rest. (home_of rest ≡ home_of self) × (number_of rest ≡ number_of self)) }
+        ensures count { MatchOption result.1 (count_of self ≡ 1) (λ rest. count_of rest + 1 ≡ count_of self) }
+    {
+        let Shares {
+            number,
+            count,
+            mut part,
+        } = self;
+        if count == 1 {
+            return (Right::of_part(number, part), None);
+        }
+        let one = part.split(1);
+        let rest = Shares {
+            number,
+            count: count - 1,
+            part,
+        };
+        (Right::of_part(number, one), Some(rest))
+    }
 
     /// The number that the rights are to.
     pub fn number(&self) -> u32

@@ -3,3 +3,4 @@ pub mod Closing
 pub mod Pointers
 pub mod Sweeping
 pub mod AllGo
+pub mod Filled

@@ -8,11 +8,11 @@ ghost use Rattle.sdd_base.specs.Ptr.{shown_by};
 use crate::world::{Place, World};
 use sdd_base::{
     Caller, Cells, Collectors, Deferrals, Edits, Guard, Guards, Item, Items, Look, LookThrough,
-    Ptr, RawCells, RawItems, RawPtr, SharedItems, Shows, Space, inner,
+    Ptr, RawCells, RawItems, RawPtr, Several, SharedItems, Shows, Space, inner,
 };
 use sdd_core::{Refused, Tag};
 use sdd_store::{Cell, Idle, Job, Pointer};
-use sdd_token::{Kind, RawRight, Right};
+use sdd_token::{Kind, RawRight, Right, Shares};
 
 /// One participant's turn at a world: the space in which it makes its calls.
 pub struct Turn<'w, T: Item<T>, J: Job = Idle> {
@@ -66,6 +66,7 @@ impl<T: Item<T>, J: Job> Look<T> for World<T, J> {
     ghost knows_slots = { λ _. Unit {0} };
 
     fn value<'a>(&'a self, right: &'a Right) -> &'a T {
+        self.core.values_are_of_home();
         self.core.value(right)
     }
 }
@@ -105,6 +106,7 @@ impl<T: Item<T>, J: Job> Look<T> for Turn<'_, T, J> {
 
     fn value<'a>(&'a self, right: &'a Right) -> &'a T {
         let world: &World<T, J> = self.world;
+        world.core.values_are_of_home();
         world.core.value(right)
     }
 }
@@ -131,6 +133,11 @@ impl<T: Item<T>, J: Job> Caller<T> for Turn<'_, T, J> {
     ghost known = { λ t. record { told = t.world.now.time.count; since = t.world.now.time.count } };
 
     ghost world = { λ t. t.world.now };
+
+    fn values_fit_slots(&self) {
+        let world: &World<T, J> = self.world;
+        let _core = &world.core;
+    }
 
     ghost home_is_seat = { λ _. refl };
 
@@ -206,6 +213,16 @@ impl<T: Item<T>, J: Job> Items<T> for Turn<'_, T, J> {
         world.core.let_go(self.place, right, kind)
     }
 
+    fn slots(&self) -> u64 {
+        let world: &World<T, J> = self.world;
+        world.core.slots()
+    }
+
+    fn has_slot(&mut self) -> bool {
+        let world = &mut *self.world;
+        !world.core.is_full()
+    }
+
     #[inline]
     fn owned_is_shown(&mut self, _right: &Right) {}
 }
@@ -213,7 +230,7 @@ impl<T: Item<T>, J: Job> Items<T> for Turn<'_, T, J> {
 impl<T: Item<T>, J: Job> Edits<T> for Turn<'_, T, J> {
     fn edit<R, F: FnOnce(&mut T) -> R>(
         &mut self,
-        right: &Right,
+        right: &mut Right,
         kind: Kind,
         f: F,
     ) -> Result<R, (F, Refused)> {
@@ -234,6 +251,21 @@ impl<T: Item<T>, J: Job> Edits<T> for Turn<'_, T, J> {
                 Ok(true)
             }
         }
+    }
+}
+
+impl<T: Item<T>, J: Job> Several<T> for Turn<'_, T, J> {
+    fn make_several(&mut self, value: T, owners: u64) -> Result<(Right, Shares), (T, Refused)> {
+        let world = &mut *self.world;
+        match world.core.make_several(value, owners) {
+            Ok(made) => Ok(made),
+            Err(value) => Err((value, Refused::NoSlot)),
+        }
+    }
+
+    #[inline]
+    fn split_off(&mut self, _right: &Right, several: Shares) -> (Right, Option<Shares>) {
+        several.split_off()
     }
 }
 

@@ -1,6 +1,6 @@
-ghost use Rattle.std.specs.Prelude.{◌≡◌, ◌↔◌, ℕ, Some};
+ghost use Rattle.std.specs.Prelude.{◌≡◌, ◌↔◌, ℕ, None, Some, length};
 ghost use Rattle.sdd_store.specs.declared.time.Participant.{Participant};
-ghost use Rattle.sdd_base.specs.World.{World, place_at, value_at};
+ghost use Rattle.sdd_base.specs.World.{World, place_at, standing_at, value_at};
 ghost use Rattle.sdd_base.specs.Seat.{Seat, IsExact};
 ghost use Rattle.sdd_base.specs.Known.{Known};
 
@@ -17,6 +17,11 @@ pub trait Caller<T: Item<T>>: Shows<T> {
     ghost known: { Self → Known };
     /// What the calls change.
     ghost world: { Self → World T };
+
+    /// A law, which does nothing when the program runs: in an exact space there is a place for a value in each slot, and a slot that is free has none.
+    fn values_fit_slots(&self)
+        ensures many { IsExact (seat self.now) → length (world self.now).values ≡ length (world self.now).standings }
+        ensures bare { IsExact (seat self.now) → (k : ℕ) → standing_at (world self.now) k ≡ None → value_at (world self.now) k ≡ None };
 
     /// The space is where the participant sits.
     ghost home_is_seat: { (s : Self) → Self.home s ≡ (seat s).home };

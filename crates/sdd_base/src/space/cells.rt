@@ -3,7 +3,7 @@ ghost use Rattle.sdd_store.specs.Table.{IsEmptyAt, IsFull, entry_at};
 ghost use Rattle.sdd_base.specs.Holding.{AreOf};
 ghost use Rattle.sdd_base.specs.World.{standing_at};
 ghost use Rattle.sdd_core.specs.declared.tag.Tag.TheVariants.{None as no_tag};
-ghost use Rattle.sdd_base.specs.Seat.{IsSeated, IsExact};
+ghost use Rattle.sdd_base.specs.Seat.{IsSeated, IsExact, IsLone};
 ghost use Rattle.sdd_base.specs.Own.{IsSpilled};
 ghost use Rattle.sdd_base.specs.Known.{KnowsOn};
 ghost use Rattle.sdd_token.specs.Kind.{IsOwner};
@@ -11,6 +11,7 @@ ghost use Rattle.sdd_token.specs.Right.{number_of, home_of, kind_of};
 ghost use Rattle.sdd_standings.specs.Slots.{IsOwnedBy, IsSharedBy, first_standing};
 ghost use Rattle.sdd_standings.specs.Cells.{MayHold, cell_with, slot_held};
 ghost use Rattle.sdd_base.specs.Guard.{reader_of};
+ghost use Rattle.sdd_base.specs.Refusals.{IsRefusedItsCell, IsRefusedItsCopy};
 ghost use Rattle.sdd_base.specs.Ptr.{KeepsShown, IsShown, slot_named, cell_seen};
 ghost use Rattle.sdd_base.specs.RawPtr as raw;
 ghost use Rattle.sdd_base.specs.Steps.{made_as, with_standing, with_cell, without_cell};
@@ -29,6 +30,8 @@ use sdd_token::{Kind, Right};
 /// A cell is here the right that its owner has to it.
 pub trait Cells<T: Item<T>>: Caller<T> {
     /// A free cell for owners of this kind, which holds this one, if there is one, with this tag.
+    ///
+    /// `NoCell` where none is free; `Contended`, in a domain alone, where as many exchanges were lost as its limits allow.
     fn make_cell(
         &mut self,
         held: Option<Right>,
@@ -43,7 +46,8 @@ pub trait Cells<T: Item<T>>: Caller<T> {
         ensures known { KnowsOn (Self.known self.old) (Self.known self.new) }
         ensures home { IfOk result (λ cell. home_of cell ≡ (Self.seat self.old).home.cells) }
         ensures kind { IfOk result (λ cell. kind_of cell ≡ kind) }
-        ensures back { IfErr result (λ e. e.0 ≡ held) }
+        ensures back { IfErr result (λ e. (e.0 ≡ held) × ((e.1 ≡ Refused.NoCell) ⊎ (e.1 ≡ Refused.Contended))) }
+        ensures lone { IsLone (Self.seat self.old) → IfErr result (λ e. e.1 ≡ Refused.NoCell) }
         ensures exact { IsExact (Self.seat self.old) → MatchResult result
             (λ cell. IsEmptyAt (Self.world self.old).cells (number_of cell) ×
             (Self.world self.new ≡ with_cell (Self.world self.old) (number_of cell) (cell_with held tag)))
@@ -51,6 +55,9 @@ pub trait Cells<T: Item<T>>: Caller<T> {
         ensures keeps { KeepsShown (Self.shows self.old) (Self.shows self.new) };
 
     /// Puts a value into a free slot, and its owner, which is of this kind, into a free cell.
+    ///
+    /// `NoSlot` where no slot is free, else `NoCell` where no cell is; `Contended`, in a domain alone, where as many exchanges were lost as its limits
+    /// allow.
     fn make_in_cell(&mut self, value: T, kind: Kind) -> Result<Right, (T, Refused)>
         requires seated { IsSeated (Self.seat self.old) }
         requires home { AreOf (Self.seat self.old).home (T.holds value) }
@@ -60,8 +67,10 @@ pub trait Cells<T: Item<T>>: Caller<T> {
         ensures known { KnowsOn (Self.known self.old) (Self.known self.new) }
         ensures home { IfOk result (λ cell. home_of cell ≡ (Self.seat self.old).home.cells) }
         ensures kind { IfOk result (λ cell. kind_of cell ≡ kind) }
-        ensures shown { IfOk result (λ cell. (slot : ℕ) × Self.shows self.new slot value ×
-            (IsExact (Self.seat self.old) → entry_at (Self.world self.new).cells (number_of cell) ≡ Some (record { held = Some slot; tag = no_tag }))) }
+        ensures shown { IsExact (Self.seat self.old) → IfOk result (λ cell. (slot : ℕ) × Self.shows self.new slot value ×
+            (entry_at (Self.world self.new).cells (number_of cell) ≡ Some (record { held = Some slot; tag = no_tag }))) }
+        ensures back { IfErr result (λ e. (e.0 ≡ value) × IsRefusedItsCell e.1) }
+        ensures lone { IsLone (Self.seat self.old) → IfErr result (λ e. e.1 ≢ Refused.Contended) }
         ensures exact { IsExact (Self.seat self.old) → MatchResult result
             (λ cell. (slot : ℕ) × IsEmptyAt (Self.world self.old).standings slot × IsEmptyAt (Self.world self.old).cells (number_of cell) ×
             (Self.world self.new ≡ with_cell (made_as (Self.world self.old) slot value (first_standing kind)) (number_of cell)
@@ -141,6 +150,8 @@ pub trait Cells<T: Item<T>>: Caller<T> {
         ensures keeps { KeepsShown (Self.shows self.old) (Self.shows self.new) };
 
     /// The cell has another tag, if the condition holds of what it holds.
+    ///
+    /// `Contended`, in a domain alone, where as many exchanges were lost as its limits allow.
     fn set_tag_if<F: FnMut(RawPtr<T>) -> bool>(
         &mut self,
         cell: &Right,
@@ -153,6 +164,8 @@ pub trait Cells<T: Item<T>>: Caller<T> {
         ensures seat { Self.seat self.new ≡ Self.seat self.old }
         ensures own { Self.own self.new ≡ Self.own self.old }
         ensures known { KnowsOn (Self.known self.old) (Self.known self.new) }
+        ensures back { IfErr result (λ e. e ≡ Refused.Contended) }
+        ensures lone { IsLone (Self.seat self.old) → IsOk result }
         ensures exact { IsExact (Self.seat self.old) → IsOk result × IfOk result (λ changed. (ptr : RawPtr T) ×
             (entry_at (Self.world self.old).cells (number_of cell.now) ≡ Some (raw.cell_seen ptr)) × F.post condition ptr changed ×
             (Self.world self.new ≡ (if changed then with_cell (Self.world self.old) (number_of cell.now) (record (raw.cell_seen ptr) { tag = tag })
@@ -160,6 +173,9 @@ pub trait Cells<T: Item<T>>: Caller<T> {
         ensures keeps { KeepsShown (Self.shows self.old) (Self.shows self.new) };
 
     /// Another cell that holds one owner more of what a cell holds, if it holds anything, with its tag.
+    ///
+    /// `NoCell` where no cell is free, else `TooManyOwners` where as many share the item as may; `Contended`, in a domain alone, where as many exchanges
+    /// were lost as its limits allow.
     fn copy_cell(&mut self, cell: &Right, guard: &Guard) -> Result<Right, Refused>
         requires seated { IsSeated (Self.seat self.old) }
         requires home { home_of cell.now ≡ (Self.seat self.old).home.cells }
@@ -170,6 +186,8 @@ pub trait Cells<T: Item<T>>: Caller<T> {
         ensures known { KnowsOn (Self.known self.old) (Self.known self.new) }
         ensures home { IfOk result (λ other. home_of other ≡ (Self.seat self.old).home.cells) }
         ensures kind { IfOk result (λ other. kind_of other ≡ Kind.Shared) }
+        ensures back { IfErr result IsRefusedItsCopy }
+        ensures lone { IsLone (Self.seat self.old) → IfErr result (λ e. e ≢ Refused.Contended) }
         ensures exact { IsExact (Self.seat self.old) → (old : Cell) × (entry_at (Self.world self.old).cells (number_of cell.now) ≡ Some old) ×
             MatchResult result
             (λ other. IsEmptyAt (Self.world self.old).cells (number_of other) × MatchOption old.held

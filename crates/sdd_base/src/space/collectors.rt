@@ -1,4 +1,4 @@
-ghost use Rattle.std.specs.Prelude.{◌≡◌, ◌↔◌, IfErr, IsTrue, MatchResult, if◌then◌else◌};
+ghost use Rattle.std.specs.Prelude.{◌≡◌, ◌≢◌, ◌↔◌, ℕ, IfErr, IsTrue, MatchResult, Some, if◌then◌else◌};
 ghost use Rattle.sdd_store.specs.declared.waiting.What.TheVariants.{Item};
 ghost use Rattle.sdd_store.specs.Time as time;
 ghost use Rattle.sdd_base.specs.World.{IsGuarded, standing_at};
@@ -14,6 +14,7 @@ ghost use Rattle.sdd_base.specs.Out.{IsNullCell};
 use crate::item::Item;
 use crate::space::caller::Caller;
 use sdd_core::Refused;
+use sdd_store::Standing;
 use sdd_token::{Kind, RawRight, Right};
 
 /// Items that wait for a collector.
@@ -45,10 +46,13 @@ pub trait Collectors<T: Item<T>>: Caller<T> {
         ensures seat { Self.seat self.new ≡ Self.seat self.old }
         ensures own { MatchResult result (λ _. IsCollected (Self.own self.old) (Self.own self.new)) (λ _. Self.own self.new ≡ Self.own self.old) }
         ensures known { KnowsOn (Self.known self.old) (Self.known self.new) }
-        ensures back { IfErr result (λ e. e.0 ≡ collector) }
+        ensures back { IfErr result (λ e. (e.0 ≡ collector) × (e.1 ≡ Refused.GuardOpen)) }
         ensures exact { IsExact (Self.seat self.old) → MatchResult result
             (λ _. ¬ (IsGuarded (Self.world self.old)) × IsNullCell (Self.world self.old) (raw_number_of collector) ×
             (Self.world self.new ≡ collector_closed T.holds (Self.world self.old) (Self.seat self.old).place (raw_number_of collector)))
             (λ e. IsGuarded (Self.world self.old) × (e.1 ≡ Refused.GuardOpen) × (Self.world self.new ≡ Self.world self.old)) }
+        ensures others { (k : ℕ) (value : T) →
+            (IsExact (Self.seat self.old) → standing_at (Self.world self.old) k ≢ Some (Standing.Private (raw_number_of collector))) →
+            Self.shows self.old k value → Self.shows self.new k value }
         ensures keeps { IfErr result (λ _. KeepsShown (Self.shows self.old) (Self.shows self.new)) };
 }

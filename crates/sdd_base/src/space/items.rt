@@ -1,4 +1,4 @@
-ghost use Rattle.std.specs.Prelude.{◌≡◌, ◌↔◌, ◌⊎◌, IfErr, IfOk, IsTrue, MatchResult, if◌then◌else◌};
+ghost use Rattle.std.specs.Prelude.{◌≡◌, ◌↔◌, ◌⊎◌, IfErr, IfOk, IsTrue, MatchResult, length, if◌then◌else◌};
 ghost use Rattle.sdd_store.specs.declared.waiting.What.TheVariants.{Item};
 ghost use Rattle.sdd_store.specs.Time as time;
 ghost use Rattle.sdd_store.specs.Table.{IsEmptyAt, IsFull};
@@ -94,6 +94,22 @@ pub trait Items<T: Item<T>>: Caller<T> {
             IsTrue result ↔ ¬ (IsTrue (has_others (standing_at (Self.world self.old) (number_of right)))) }
         ensures exact { IsExact (Self.seat self.old) → Self.world self.new ≡
             owner_given (Self.world self.old) (Self.seat self.old).place (number_of right) (standing_at (Self.world self.old) (number_of right)) }
+        ensures keeps { KeepsShown (Self.shows self.old) (Self.shows self.new) };
+
+    /// How many slots there are.
+    fn slots(&self) -> u64
+        ensures size { result ≡ (Self.seat self.now).home.slots.size }
+        ensures exact { IsExact (Self.seat self.now) → result ≡ length (Self.world self.now).standings };
+
+    /// A slot was found free. Where others fill slots too, it may be full again when that is answered.
+    fn has_slot(&mut self) -> bool
+        requires seated { IsSeated (Self.seat self.old) }
+        ensures seat { Self.seat self.new ≡ Self.seat self.old }
+        ensures own { Self.own self.new ≡ Self.own self.old }
+        ensures known { KnowsOn (Self.known self.old) (Self.known self.new) }
+        ensures lone { IsLone (Self.seat self.old) → IsTrue result ↔ ¬ (is_used_up self.old) }
+        ensures exact { IsExact (Self.seat self.old) →
+            (IsTrue result ↔ ¬ (IsFull (Self.world self.old).standings)) × (Self.world self.new ≡ Self.world self.old) }
         ensures keeps { KeepsShown (Self.shows self.old) (Self.shows self.new) };
 
     /// A law, which changes nothing: in an exact space an owner's item has the value that its slot shows.

@@ -1,7 +1,7 @@
-ghost use Rattle.std.specs.Prelude.{◌≡◌, ◌≢◌, IfOk, IsOk, MatchResult, None, Some, if◌then◌else◌};
+ghost use Rattle.std.specs.Prelude.{◌≡◌, ◌≢◌, ◌⊎◌, IfErr, IfOk, IsOk, MatchResult, None, Some, if◌then◌else◌};
 ghost use Rattle.sdd_store.specs.Table.{IsEmptyAt, IsFull};
 ghost use Rattle.sdd_base.specs.World.{pointer_at};
-ghost use Rattle.sdd_base.specs.Seat.{IsSeated, IsExact};
+ghost use Rattle.sdd_base.specs.Seat.{IsSeated, IsExact, IsLone};
 ghost use Rattle.sdd_base.specs.Known.{KnowsOn};
 ghost use Rattle.sdd_token.specs.Right.{raw_number_of, raw_home_of};
 ghost use Rattle.sdd_base.specs.Ptr.{KeepsShown};
@@ -19,12 +19,16 @@ use sdd_token::RawRight;
 /// The cells of a world or domain that hold raw pointers.
 pub trait RawCells<T: Item<T>>: Caller<T> {
     /// A free cell that points to this.
+    ///
+    /// `NoCell` where none is free; `Contended`, in a domain alone, where as many exchanges were lost as its limits allow.
     fn make_raw_cell(&mut self, pointer: Pointer) -> Result<RawRight, Refused>
         requires seated { IsSeated (Self.seat self.old) }
         ensures seat { Self.seat self.new ≡ Self.seat self.old }
         ensures own { Self.own self.new ≡ Self.own self.old }
         ensures known { KnowsOn (Self.known self.old) (Self.known self.new) }
         ensures home { IfOk result (λ cell. raw_home_of cell ≡ (Self.seat self.old).home.cells) }
+        ensures back { IfErr result (λ e. (e ≡ Refused.NoCell) ⊎ (e ≡ Refused.Contended)) }
+        ensures lone { IsLone (Self.seat self.old) → IfErr result (λ e. e ≡ Refused.NoCell) }
         ensures exact { IsExact (Self.seat self.old) → MatchResult result
             (λ cell. IsEmptyAt (Self.world self.old).cells (raw_number_of cell) ×
             (Self.world self.new ≡ pointing (Self.world self.old) (raw_number_of cell) pointer))
@@ -73,6 +77,8 @@ pub trait RawCells<T: Item<T>>: Caller<T> {
         ensures keeps { KeepsShown (Self.shows self.old) (Self.shows self.new) };
 
     /// A raw cell's pointer has another tag, if the condition holds of it.
+    ///
+    /// `Contended`, in a domain alone, where as many exchanges were lost as its limits allow.
     fn tag_pointer_if<F: FnMut(RawPtr<T>) -> bool>(
         &mut self,
         cell: &RawRight,
@@ -85,6 +91,8 @@ pub trait RawCells<T: Item<T>>: Caller<T> {
         ensures seat { Self.seat self.new ≡ Self.seat self.old }
         ensures own { Self.own self.new ≡ Self.own self.old }
         ensures known { KnowsOn (Self.known self.old) (Self.known self.new) }
+        ensures back { IfErr result (λ e. e ≡ Refused.Contended) }
+        ensures lone { IsLone (Self.seat self.old) → IsOk result }
         ensures exact { IsExact (Self.seat self.old) → IsOk result × IfOk result (λ changed. (ptr : RawPtr T) ×
             (pointer_at (Self.world self.old) (raw_number_of cell.now) ≡ Some (raw.pointer_of ptr)) × F.post condition ptr changed ×
             (Self.world self.new ≡ (if changed
@@ -92,6 +100,8 @@ pub trait RawCells<T: Item<T>>: Caller<T> {
         ensures keeps { KeepsShown (Self.shows self.old) (Self.shows self.new) };
 
     /// A raw cell points to what `f` makes of its pointer, if that is anything. What it pointed to, or points to still.
+    ///
+    /// `Contended`, in a domain alone, where as many exchanges were lost as its limits allow.
     fn update_pointer<F: FnMut(RawPtr<T>) -> Option<RawPtr<T>>>(
         &mut self,
         cell: &RawRight,
@@ -103,6 +113,8 @@ pub trait RawCells<T: Item<T>>: Caller<T> {
         ensures seat { Self.seat self.new ≡ Self.seat self.old }
         ensures own { Self.own self.new ≡ Self.own self.old }
         ensures known { KnowsOn (Self.known self.old) (Self.known self.new) }
+        ensures back { IfErr result (λ e. e ≡ Refused.Contended) }
+        ensures lone { IsLone (Self.seat self.old) → IsOk result }
         ensures exact { IsExact (Self.seat self.old) → IsOk result × IfOk result (λ updated. MatchResult updated
             (λ was. (next : RawPtr T) × (pointer_at (Self.world self.old) (raw_number_of cell.now) ≡ Some (raw.pointer_of was)) × F.post f was (Some next) ×
             (Self.world self.new ≡ with_pointer (Self.world self.old) (raw_number_of cell.now) (raw.pointer_of next)))

@@ -1,6 +1,6 @@
-ghost use Rattle.std.specs.Prelude.{◌≡◌, ◌+◌, ◌^◌, ◌<◌, ℕ, IfOk, IfSome, MatchOption, MatchResult, None};
+ghost use Rattle.std.specs.Prelude.{◌≡◌, ◌+◌, ◌^◌, ◌<◌, ◌⊎◌, ℕ, IfErr, IfOk, IfSome, MatchOption, MatchResult, None};
 ghost use Rattle.sdd_base.specs.World.{standing_at};
-ghost use Rattle.sdd_base.specs.Seat.{IsSeated, IsExact};
+ghost use Rattle.sdd_base.specs.Seat.{IsSeated, IsExact, IsLone};
 ghost use Rattle.sdd_base.specs.Known.{KnowsOn};
 ghost use Rattle.sdd_token.specs.Right.{number_of, home_of, kind_of};
 ghost use Rattle.sdd_standings.specs.Slots.{IsSharedBy, owners_of};
@@ -15,7 +15,9 @@ use sdd_token::{Kind, Right};
 
 /// Items with several owners.
 pub trait SharedItems<T: Item<T>>: Caller<T> {
-    /// One owner more of the item of a shared owner.
+    /// One owner more of the item of a shared owner, whose value it has too.
+    ///
+    /// `TooManyOwners` where as many share the item as may.
     fn add_owner(&mut self, right: &Right) -> Result<Right, Refused>
         requires seated { IsSeated (Self.seat self.old) }
         requires home { home_of right.now ≡ (Self.seat self.old).home.slots }
@@ -26,6 +28,8 @@ pub trait SharedItems<T: Item<T>>: Caller<T> {
         ensures home { IfOk result (λ other. home_of other ≡ (Self.seat self.old).home.slots) }
         ensures slot { IfOk result (λ other. number_of other ≡ number_of right.now) }
         ensures kind { IfOk result (λ other. kind_of other ≡ Kind.Shared) }
+        ensures value { IfOk result (λ other. (v : T) → Self.owns_value self.old right.now v → Self.owns_value self.new other v) }
+        ensures back { IfErr result (λ e. e ≡ Refused.TooManyOwners) }
         ensures exact { IsExact (Self.seat self.old) → (owners : ℕ) × IsSharedBy owners (standing_at (Self.world self.old) (number_of right.now)) ×
             MatchResult result
             (λ _. (owners < 2 ^ 62) ×
@@ -33,7 +37,9 @@ pub trait SharedItems<T: Item<T>>: Caller<T> {
             (λ e. (owners ≡ 2 ^ 62) × (e ≡ Refused.TooManyOwners) × (Self.world self.new ≡ Self.world self.old)) }
         ensures keeps { KeepsShown (Self.shows self.old) (Self.shows self.new) };
 
-    /// One owner more of the item in a slot, if it is shared.
+    /// One owner more of the item in a slot, if it is shared. What the slot shows is its value.
+    ///
+    /// `TooManyOwners` where as many share the item as may; `Contended`, in a domain alone, where others changed how many do too often meanwhile.
     fn upgrade(&mut self, slot: u32) -> Result<Option<Right>, Refused>
         requires seated { IsSeated (Self.seat self.old) }
         ensures seat { Self.seat self.new ≡ Self.seat self.old }
@@ -42,6 +48,9 @@ pub trait SharedItems<T: Item<T>>: Caller<T> {
         ensures home { IfOk result (λ o. IfSome o (λ right. home_of right ≡ (Self.seat self.old).home.slots)) }
         ensures slot { IfOk result (λ o. IfSome o (λ right. number_of right ≡ slot)) }
         ensures kind { IfOk result (λ o. IfSome o (λ right. kind_of right ≡ Kind.Shared)) }
+        ensures value { IfOk result (λ o. IfSome o (λ right. (v : T) → Self.shows self.old slot v → Self.owns_value self.new right v)) }
+        ensures back { IfErr result (λ e. (e ≡ Refused.TooManyOwners) ⊎ (e ≡ Refused.Contended)) }
+        ensures lone { IsLone (Self.seat self.old) → IfErr result (λ e. e ≡ Refused.TooManyOwners) }
         ensures exact { IsExact (Self.seat self.old) → MatchResult result
             (λ o. MatchOption o
             ((owners_of (standing_at (Self.world self.old) slot) ≡ None) × (Self.world self.new ≡ Self.world self.old))

@@ -1,5 +1,5 @@
 //! Items in slots: a participant makes one, looks at it beside its owner, and lets it go.
-ghost use Rattle.std.specs.Prelude.{◌≡◌, ◌⊎◌, ℕ, MatchResult, Some, slice_set};
+ghost use Rattle.std.specs.Prelude.{◌≡◌, ◌<◌, ◌⊎◌, ℕ, IsTrue, MatchResult, Some, slice_set};
 ghost use base.Stored.{Gv};
 ghost use Rattle.sdd_token.specs.Kind.{IsOwner, is_shared};
 ghost use Rattle.sdd_token.specs.Right.{number_of, home_of, kind_of};
@@ -7,11 +7,11 @@ ghost use Rattle.sdd_base.specs.Guard.{reader_of};
 ghost use Rattle.sdd_base.specs.Holding.{AreOf};
 ghost use Rattle.sdd_domain.specs.Homes.{home_in};
 ghost use Rattle.sdd_stakes.specs.Shelf.{showing};
-ghost use Rattle.sdd_domain.specs.Member.{IsLone, IsUsedUp, KnowsOwner, MakesAt, LooksAt, RetiresAt};
+ghost use Rattle.sdd_domain.specs.Member.{IsFree, IsLone, IsUsedUp, KnowsOwner, MakesAt, LooksAt, RetiresAt};
 ghost use Rattle.sdd_domain.specs.Items.{slots_home, HasValue, IsRightTo};
 ghost use Rattle.sdd_domain.specs.Sight.{IsOnce};
 
-use crate::claims::claim_free;
+use crate::claims::{claim_free, finds_free};
 use crate::membership::Membership;
 use crate::values::{let_wait, put_value};
 use sdd_base::inner::tenure_of;
@@ -116,6 +116,16 @@ impl<'d, T: Item<T>> Membership<'d, T> {
             }
             Err(refused) => Err((make, refused)),
         }
+    }
+
+    /// A slot is found free. What others do meanwhile isn't known.
+    pub(crate) fn has_slot(&mut self) -> bool
+        ensures same { self.new ≡ self.old }
+        ensures found { IsTrue result → IsLone self.old → (slot : ℕ) × (slot < self.old.limits.slots) × IsFree self.old slot }
+        ensures missed { ¬ (IsTrue result) → IsLone self.old → IsUsedUp self.old }
+    {
+        let slots = self.domain.limits.slots;
+        finds_free(&self.domain.board, &mut self.token, slots as u32)
     }
 
     /// The value of an owner's item, for as long as the guard is borrowed. The owner may be with another participant of the domain.

@@ -1,8 +1,9 @@
 //! Items are made, looked at and changed in their place.
 ghost use Rattle.std.specs.Fn.{FnOnceReturnsAtMut};
-ghost use Rattle.std.specs.Prelude.{◌≡◌, ℕ, Some, IsSome, MatchOption, MatchResult, IsTrue, ◌↔◌};
+ghost use Rattle.std.specs.Prelude.{◌≡◌, ℕ, ◌+◌, ◌^◌, ◌≤◌, Some, IfOk, IsSome, MatchOption, MatchResult, IsTrue, length, ◌↔◌};
 ghost use Rattle.sdd_token.specs.Kind.{IsOwner};
 ghost use Rattle.sdd_token.specs.Right.{number_of, home_of, kind_of};
+ghost use Rattle.sdd_token.specs.Shares as shares;
 ghost use Rattle.sdd_standings.specs.Slots.{IsOwnedBy, first_standing};
 ghost use Rattle.sdd_store.specs.Table.{IsEmptyAt, IsFull};
 ghost use Rattle.sdd_base.specs.Holding.{AreOf};
@@ -16,9 +17,17 @@ use super::Core;
 use sdd_base::Item;
 use sdd_core::Refused;
 use sdd_store::{Job, Standing};
-use sdd_token::{Kind, Right};
+use sdd_token::{Kind, Right, Shares};
 
 impl<T: Item<T>, J: Job> Core<T, J> {
+    /// How many slots there are.
+    pub fn slots(&self) -> u64
+        ensures home { result ≡ self.now.world.home.slots.size }
+        ensures standings { result ≡ length self.now.world.standings }
+    {
+        self.slots.len() as u64
+    }
+
     /// No slot is free.
     pub fn is_full(&self) -> bool
         ensures { IsTrue result ↔ IsFull self.now.world.standings }
@@ -59,6 +68,29 @@ impl<T: Item<T>, J: Job> Core<T, J> {
     {
         match self.make(value, kind) {
             Ok(right) => right,
+            Err(_) => unreachable!(),
+        }
+    }
+
+    /// Puts a value into a free slot, for so many owners at once, who share it: the right of one, and those of the others in one piece.
+    pub fn make_several(&mut self, value: T, owners: u64) -> Result<(Right, Shares), T>
+        requires home { AreOf self.old.world.home (T.holds value) }
+        requires several { 2 ≤ owners }
+        requires most { owners ≤ 2 ^ 62 }
+        ensures made { MatchResult result
+            (λ made. (home_of made.0 ≡ self.old.world.home.slots) × (kind_of made.0 ≡ Kind.Shared) × IsEmptyAt self.old.world.standings (number_of made.0) ×
+            (self.new ≡ record self.old { world = made_as self.old.world (number_of made.0) value (Standing.Shared owners) }))
+            (λ back. IsFull self.old.world.standings × (back ≡ value) × (self.new ≡ self.old)) }
+        ensures others { IfOk result (λ made. (shares.home_of made.1 ≡ self.old.world.home.slots) × (shares.number_of made.1 ≡ number_of made.0) ×
+            (shares.count_of made.1 + 1 ≡ owners)) }
+        ensures sizes { KeepsSizes self.old.world self.new.world }
+        ensures whole { IsWhole self.old.world → IsWhole self.new.world }
+        ensures lent { IsWhole self.old.world → AreLent self.old → AreLent self.new }
+        ensures keeps { IsWhole self.old.world → (k : ℕ) (v : T) → value_at self.old.world k ≡ Some v → value_at self.new.world k ≡ Some v }
+    {
+        let right = self.make(value, Kind::Shared)?;
+        match self.add_owners(&right, owners - 1) {
+            Ok(others) => Ok((right, others)),
             Err(_) => unreachable!(),
         }
     }

@@ -46,7 +46,7 @@ back c =
     let out = rw c.in-Err.is at c.step_at-held.ensures.done.1 in
     let owners =
     put-back h c.take.new.self.entries c.put_back.new.self.entries c.args.owner.0 _ _ (sym c.in-Some-take.ensures.taken)
-    c.in-Some-take.ensures.spent c.put_back.ensures.back (ap owner_holding c.step_at-held.ensures.done.0) in
+    c.in-Some-take.ensures.spent c.put_back.ensures.back c.step_at-held.ensures.done.0 in
     same-desk h c.step_at-held.new.world c.put_back.new.self.entries out.2.1 owners
 
 pub invariant_of-stage : goal.invariant_of-stage
@@ -76,7 +76,7 @@ put c =
     let number = c.if-not-is_number.ensures.0 refl in
     let owners =
     put-back h c.take.new.self.entries c.put_back.new.self.entries c.args.owner.0 _ _ (sym c.in-Some-take.ensures.taken)
-    c.in-Some-take.ensures.spent c.put_back.ensures.back (ap owner_holding c.step_at-held.ensures.done.0) in
+    c.in-Some-take.ensures.spent c.put_back.ensures.back c.step_at-held.ensures.done.0 in
     acts-put h c.stage.invariant c.is_whole.ensures c.args.name _ (got h.places c.args.name.0 _ c.in-Some.ensures) c.args.owner x
     (sym c.in-Some-take.ensures.taken) c.args.number out.0 number.0 _ _ c.put_back.new.self.entries out.1
     (same-value h x _ _ _ slot out.1 c.value_of.ensures.2) number.1 out.2.0 out.2.1 owners

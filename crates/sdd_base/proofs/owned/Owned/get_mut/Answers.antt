@@ -1,4 +1,4 @@
-use Rattle.std.proofs.Common.{◌≡◌, ℕ, Some}
+use Rattle.std.proofs.Common.{◌≡◌, ℕ, Some, rules}
 use Rattle.std.proofs.lemmas.Result.{MatchResult-weaker}
 use Rattle.sdd_store.specs.declared.standing.Standing.TheVariants.{Owned}
 use Rattle.sdd_base.specs.Owned.{slot_of}
@@ -10,7 +10,7 @@ pub returns-clause-exact : goal.returns-clause-exact
 returns-clause-exact g c = λ is_exact.
     let slot : ℕ = slot_of c.args.self.now in
     let w = g.S.Caller.world c.args.s.now in
-    let found = rw (c.right.ensures.right) at (c.edit.ensures.owned is_exact) in
-    let sole : standing_at w slot ≡ Some Owned = found.alone (rw (c.right.ensures.right) at c.right.ensures.kind) in
-    let said = rw (c.right.ensures.right) at (c.edit.ensures.exact is_exact) in
-    MatchResult-weaker c.edit.result said (λ r h. (h.0.quiet, h.1)) (λ e h. let why = refused-sole w slot e.1 sole h.0 in (why.0, why.1, h.1))
+    let found = c.edit.ensures.owned is_exact in
+    let sole : standing_at w slot ≡ Some Owned = found.alone (search rules) in
+    MatchResult-weaker c.edit.result (c.edit.ensures.exact is_exact) (λ r h. (h.0.quiet, h.1))
+    (λ e h. let why = refused-sole w slot e.1 sole h.0 in (why.0, why.1, h.1))

@@ -13,7 +13,7 @@ fill_cell-requires-clause-room g c full =
     false≢true (sym c.if-has_no_cell.false ∙ c.has_no_cell.ensures.1 (subst IsFull cells full))
 
 pub returns-clause-shown : goal.returns-clause-shown
-returns-clause-shown g c =
+returns-clause-shown g c = λ _.
     let slot : ℕ = number_of c.fill-right.result in
     let w = c.world.inside.core.world in
     let filled = c.fill-right.ensures in
@@ -22,5 +22,5 @@ returns-clause-shown g c =
     let inside : slot < length w.values = omega (arith, long, filled.empty.0) in (
       slot,
       rw (celled.made, filled.made) (get_or-set_same w.values slot (Some c.args.value) None inside),
-      λ _. rw celled.made (get_or-set_same _ _ _ None celled.empty.0),
+      rw celled.made (get_or-set_same _ _ _ None celled.empty.0),
     )

@@ -1,6 +1,7 @@
 use Rattle.std.proofs.Common.{ℕ, ◌≡◌, ◌∙◌, arith, false, true, refl, sym}
 use Rattle.sdd_token.specs.Right.{raw_number_of}
 use Rattle.sdd_base.proofs.Own.{collector-own}
+use Rattle.sdd_base.proofs.Collecting.{collected-ends}
 use Rattle.sdd_inside.proofs.Collecting.{count-closed}
 use Rattle.sdd_world.proofs.turn.TurnCollectors.close_collector.Goals as goal
 
@@ -25,3 +26,11 @@ returns-clause-exact g c exact = (
   rw c.world.view_is at c.close_collector.ensures.null,
   rw (c.close_collector.ensures.closed, c.world.view_is) refl,
 )
+
+pub returns-clause-others : goal.returns-clause-others
+returns-clause-others g c k value other is =
+    let w = c.args.self.now.world.now in
+    let p : ℕ = c.args.self.now.place in
+    let number : ℕ = raw_number_of c.args.collector in
+    let ends = collected-ends g.T.Item.holds w (rw c.world.view_is at c.world.invariant.2) p number c.requires.seated.0 in
+    rw (c.close_collector.ensures.closed, c.world.view_is) (ends.keeps k (other refl) ∙ is)
