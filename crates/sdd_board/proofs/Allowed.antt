@@ -23,10 +23,10 @@ use Rattle.sdd_views.specs.Views.{nobody, owner_of}
 use Rattle.sdd_rule.specs.Steps.{Keeps, passed_by, knowing, scanning, IsNext, Registers, Reads, Counts, Publishes, Ends, Locks, LooksAtLock, LooksAtState, LooksAtCount, Advances, Unlocks}
 use Rattle.sdd_rule.specs.Slots.{OwnsAlone, Holds}
 use Rattle.sdd_rule.specs.SlotSteps.{blank, changed, OnEpoch, PublishesAll, IsDue, LooksAtSlot, TakesHold, LetsGo, LooksForGuard, AtSlot}
-use Rattle.sdd_rule.specs.Ended.{Bars, LooksForValue}
+use Rattle.sdd_rule.specs.Barred.{IsNobodys, Bars, LooksForValue}
 use Rattle.sdd_rule.proofs.Epoch as epochs
 use Rattle.sdd_rule.proofs.EpochSteps as over
-use Rattle.sdd_rule.proofs.Ended.{Spares}
+use Rattle.sdd_rule.proofs.Barred.{Spares}
 use Rattle.sdd_rule.proofs.Sums.{is_same}
 use Rattle.sdd_homes.specs.Homes.{Carries, Moves, spare}
 use Rattle.sdd_homes.specs.Banked.{IsBank, banked, founder}
@@ -167,10 +167,10 @@ module _ (γ : ℕ) (sizes : Sizes) (slots id : ℕ) (me : Mine) where
       (epochs.ends sizes.participants id v shut))
       (own_place γ sizes id me.0 (omega arith) 3) (refl, refl))
 
-  pub may_bar : (i p : ℕ) → i ≡ state_word p → p < sizes.participants → p ≡ me.0.places.ended
-      → May i (λ x. either (eqb x 0) 3 x) (Told (Bars i) me)
-  may_bar i p is inside next = subst (λ (i : ℕ). May i (λ x. either (eqb x 0) 3 x) (Told (Bars i) me)) (sym is)
-      (steps.bars γ sizes slots id me p inside next)
+  pub may_bar : (i p state : ℕ) → i ≡ state_word p → p < sizes.participants → p ≡ me.0.places.ended → IsNobodys state
+      → May i (λ x. either (eqb x state) 4 x) (Told (Bars state i) me)
+  may_bar i p state is inside next nobodys = subst (λ (i : ℕ). May i (λ x. either (eqb x state) 4 x) (Told (Bars state i) me)) (sym is)
+      (steps.bars γ sizes slots id me p state inside next nobodys)
 
   pub may_look_for_value : (i slot : ℕ) → i ≡ slot_word sizes slot → slot ≡ me.0.places.quiet → sizes.participants ≤ me.0.places.ended
       → May i (λ x. x) (Told LooksForValue me)
