@@ -39,13 +39,6 @@ pub fn sit(board: &Board) -> Token
     board.table.shared.load_new_seat::<Sit>(GLOBAL).1
 }
 
-/// The place is free at the moment of this call.
-pub fn is_free(board: &Board, place: usize) -> bool
-    requires { place < places_of board.now }
-{
-    board.table.shared.peek(state_word(place)) == FREE
-}
-
 /// Tries to take a place, and answers its state before.
 pub fn register(board: &Board, token: &mut Token, place: usize) -> u64
     requires home { token.old.table_id ≡ id_of board.now }
