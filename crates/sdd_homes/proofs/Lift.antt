@@ -224,7 +224,7 @@ module _ (γ : ℕ) (sizes : Sizes) (slots : ℕ) where
         records = records.calm sizes s.views s.homes h.records id v at now (refl, refl, refl, (λ _. refl), refl, refl);
         counts = counted sizes s.words s.views h.counts id v at (set s.words i 3) now
             (let f = as_full sizes s.words (set s.words i 3) same in omega arith)
-            (let more = ended_more s.words v.epoch.place (omega arith) (λ e. omega arith) sizes.participants inside in omega arith)
+            (let more = ended_more s.words v.epoch.place (omega arith) (omega arith) sizes.participants inside in omega arith)
             (λ _ none. absurd (omega arith));
         filled = filled_same sizes s.views h.filled id v at now refl refl refl (λ z. absurd (omega arith));
         bank = banks.alike γ sizes s.words s.views h.bank id v at (set s.words i 3) now (refl, refl, refl, (λ _. refl), refl, refl) same;

@@ -761,7 +761,7 @@ module _ (slots id : ℕ) (me : Mine) (live : HasPlace me.0.epoch) where
   looks_for_guard place low next = let j : ℕ = state_word place in
       lift_calm γ sizes slots id me j (λ x. x) (LooksForGuard j v) (λ r me'. (me'.1 ≡ me.1) × LooksForGuard j v r me'.0)
       (keeps_ended γ sizes slots id me j (λ x. x) (LooksForGuard j v) (λ r w t. let c = t place refl in dite (ℕ_discrete r 2)
-      (λ e. ap (λ (u : View). u.places) (c.1 e)) (λ ne. ap (λ (u : View). u.places) (c.0 ne))) (λ s h at p low e was. was) (inl live))
+      (λ e. ap (λ (u : View). u.places) (c.1 e)) (λ ne. ap (λ (u : View). u.places) (c.0 ne))) (λ s h at p low e was. omega arith) (inl live))
       (steps.looks id v live place next)
       (λ r w t. (refl, t))
       (λ s w h at t. let c = t place refl in let x : ℕ = get_or s.words j 0 in
@@ -940,7 +940,7 @@ module _ (γ : ℕ) (sizes : Sizes) (slots id : ℕ) (me : Mine) (slot : ℕ) (n
 
   look_keeps_all : Keeps γ sizes slots id me word (λ x. x) (LooksForValue me.0)
   look_keeps_all s w h at t = let x : ℕ = get_or s.words word 0 in let ended = h.kept.places.ended id me.0 at in (
-    (λ p low e was. was),
+    (λ p low e was. omega arith),
     subst (λ (ws : List ℕ). AreBarred sizes ws w) (sym (as_before s h at))
         (dite (ℕ_discrete (full x) 0) (λ dead. subst (AreBarred sizes s.words) (sym (t.0 dead)) ended)
         (λ taken. subst (AreBarred sizes s.words) (sym (t.1 taken)) ended)),
