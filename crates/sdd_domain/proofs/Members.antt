@@ -14,7 +14,7 @@ use Rattle.sdd_homes.proofs.Records.{in_head}
 use Rattle.std.specs.Prelude.{◌≢◌, Bool, [], ◌∷◌}
 use Rattle.sdd_token.specs.declared.right.Right.{Right}
 use Rattle.sdd_token.specs.Units.{Home}
-use Rattle.sdd_token.specs.Right.{home_of}
+use Rattle.sdd_token.specs.Right.{home_of, AreSlotsOfTable}
 use Rattle.sdd_domain.specs.Items.{slots_home}
 use Rattle.sdd_domain.specs.Member.{Member, IsLone, LooksAt, KnowsOwner}
 use Rattle.sdd_board.specs.Token.{MovedAlone}
@@ -70,5 +70,8 @@ pub recalls_to : (m : Member) (slot : ℕ) (shared : Bool) (value : Gv) (s t : S
 recalls_to m slot shared value s t recalled all lone = let r = recalled.2.1 (all ∙ lone) in record { newest = r.newest; alive = r.alive }
 
 -- an owner of its domain has a token
-pub has_tables : (m : Member) (right : Right) → home_of right ≡ slots_home m → (home_of right).tables ≢ []
-has_tables m right e none = let apart : m.home ∷ [] ≡ [] = sym (ap (λ (h : Home). h.tables) e) ∙ none in cc
+pub has_tables : (m : Member) (right : Right) → home_of right ≡ slots_home m → AreSlotsOfTable (home_of right)
+has_tables m right e = (
+  (λ none. let apart : m.home ∷ [] ≡ [] = sym (ap (λ (h : Home). h.tables) e) ∙ none in cc),
+  ap (λ (h : Home). h.cells) e,
+)

@@ -1,5 +1,5 @@
 -- Where the slots and the participants of a domain are numbered
-use Rattle.std.specs.Prelude.{ℕ, ◌^◌, []}
+use Rattle.std.specs.Prelude.{ℕ, ◌^◌, false, []}
 use Rattle.atomic_table.specs.Seated.{TableId}
 use Rattle.sdd_token.specs.Units as token
 use Rattle.sdd_token.specs.Right.{home_of_table}
@@ -12,7 +12,7 @@ Home = holding.Home
 
 -- where nothing is numbered
 abbrev pub nowhere : token.Home
-nowhere = record { name = 0; size = 0; tables = [] }
+nowhere = record { name = 0; size = 0; tables = []; cells = false }
 
 -- where cells will be numbered: a domain has none yet. It has a size, since who is given a cell must be able to be called
 abbrev pub no_cells : token.Home

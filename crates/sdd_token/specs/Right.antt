@@ -1,9 +1,10 @@
 -- The right to a number
-use Rattle.std.specs.Prelude.{ℕ, ◌≡◌, Bool, List, [], ◌∷◌}
+use Rattle.std.specs.Prelude.{ℕ, ◌≡◌, ◌≢◌, Bool, true, false, List, [], ◌∷◌}
 use base.Stored.{Gv}
 use Rattle.atomic_table.specs.Seated.{TableId}
 use Rattle.sdd_witness.specs.declared.witness.Witness.{Witness}
-use Rattle.sdd_token.specs.Owner.{witness_of_owner}
+use Rattle.sdd_views.specs.declared.CellKind.{CellKind}
+use Rattle.sdd_token.specs.Owner.{witness_of_owner, witness_of_cell, is_cell}
 use Rattle.sdd_token.specs.Units.{Home}
 use Rattle.sdd_token.specs.declared.grip.Grip.{Grip}
 use Rattle.sdd_token.specs.declared.right.Kind.{Kind}
@@ -17,16 +18,32 @@ number_of right = right.number
 
 -- the home of the slots of a domain, which are those of its table; the places of their values are of this book
 abbrev pub home_of_table : TableId → ℕ → ℕ → Home
-home_of_table table book size = record { name = book; size = size; tables = table ∷ [] }
+home_of_table table book size = record { name = book; size = size; tables = table ∷ []; cells = false }
 
--- with a witness it is the home of its table, and else the one of the part
-abbrev pub home_by : List Gv → TableId → ℕ → Home → Home
-home_by [] table book home = home
-home_by (g ∷ gs) table book home = home_of_table table book home.size
+-- the home of its cells
+abbrev pub cells_of_table : TableId → ℕ → Home
+cells_of_table table size = record { name = 0; size = size; tables = table ∷ []; cells = true }
+
+-- these are the slots of a domain
+abbrev pub AreSlotsOfTable : Home → Type 0
+AreSlotsOfTable home = (home.tables ≢ []) × (home.cells ≡ false)
+
+-- these are its cells
+abbrev pub AreCellsOfTable : Home → Type 0
+AreCellsOfTable home = (home.tables ≢ []) × (home.cells ≡ true)
+
+abbrev pub home_in_table : Bool → TableId → ℕ → ℕ → Home
+home_in_table true table book size = cells_of_table table size
+home_in_table false table book size = home_of_table table book size
+
+-- with a witness it is a home of its table, and else the one of the part
+abbrev pub home_by : List Gv → TableId → ℕ → Bool → Home → Home
+home_by [] table book cell home = home
+home_by (g ∷ gs) table book cell home = home_in_table cell table book home.size
 
 -- the home whose number it is
 abbrev pub home_of : Right → Home
-home_of right = home_by right.witness.views right.witness.table_id right.grip.book right.part.home
+home_of right = home_by right.witness.views right.witness.table_id right.grip.book (is_cell right.part.number) right.part.home
 
 -- in a domain: the token of the owner of the slot
 abbrev pub witness_of : Right → Witness
@@ -44,6 +61,11 @@ pub record IsOwnerBy (home : Home) (slot : ℕ) (shared : Bool) (witness : Witne
   pub number : grip.number ≡ slot
   pub owner : witness.views ≡ witness_of_owner slot shared grip.shown
 
+-- the witness is the token of the right to this cell of the home's table
+pub record IsCellBy (home : Home) (cell : ℕ) (kind : CellKind) (witness : Witness) : Type 0 where
+  pub table : home.tables ≡ witness.table_id ∷ []
+  pub right : witness.views ≡ witness_of_cell cell kind
+
 -- whether its owner is the only one that there may be
 abbrev pub kind_of : Right → Kind
 kind_of right = right.part.kind
@@ -53,7 +75,11 @@ abbrev pub raw_number_of : RawRight → ℕ
 raw_number_of right = right.number
 
 abbrev pub raw_home_of : RawRight → Home
-raw_home_of right = right.part.home
+raw_home_of right = home_by right.witness.views right.witness.table_id 0 true right.part.home
+
+-- in a domain: the token of the right to the cell
+abbrev pub raw_witness_of : RawRight → Witness
+raw_witness_of right = right.witness
 
 -- the home that a badge names
 abbrev pub badge_home : Badge → Home

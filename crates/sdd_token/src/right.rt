@@ -1,7 +1,8 @@
-ghost use Rattle.std.specs.Prelude.{◌≡◌, ◌≢◌, ◌<◌, ◌≤◌, []};
+ghost use Rattle.std.specs.Prelude.{◌≡◌, ◌≢◌, ◌<◌, ◌≤◌, [], true, false};
 ghost use Rattle.sdd_token.specs.declared.right.Kind.{Kind};
 ghost use Rattle.sdd_token.specs.Kind.{right_units, is_shared, IsOwner};
-ghost use Rattle.sdd_token.specs.Owner.{witness_of_owner, codes-prop};
+ghost use Rattle.sdd_views.specs.declared.CellKind.{CellKind};
+ghost use Rattle.sdd_token.specs.Owner.{witness_of_owner, witness_of_cell, is_cell, cell_kind, codes-prop};
 
 use crate::grip::Grip;
 use crate::part::{Book, Part, WHOLE};
@@ -36,8 +37,9 @@ impl Kind {
 
 /// The right of an owner to a number: all its units but the one that its space keeps, where nobody else may be an owner, and a single one else.
 ///
-/// In a domain there is no book of the slots. Its witness is then the token of the slot's owner, its grip is of the slot's number and shows what the
-/// token does, and its part, of a book of its own, says the kind alone.
+/// In a domain there is no book of the slots or cells, and its part, of a book of its own, says the kind, and whether it is to a slot or a cell. The
+/// witness of a right to a slot is the token of the slot's owner, and its grip is of the slot's number and shows what the token does; that of a right to
+/// a cell is the cell's token.
 ///
 /// It can be neither copied nor let go of by chance: it is redeemed where it was granted.
 pub struct Right {
@@ -50,14 +52,15 @@ pub struct Right {
     pub ghost owner: { IsOwner part.kind },
     pub ghost due: { witness.views ≡ [] → part.units ≡ right_units part.kind },
     pub ghost books: { part.home.tables ≡ [] },
-    pub ghost placed: { witness.views ≢ [] → grip.number ≡ number },
-    pub ghost owns: { witness.views ≢ [] → witness.views ≡ witness_of_owner number (is_shared part.kind) grip.shown } by { codes-prop },
+    pub ghost placed: { witness.views ≢ [] → is_cell part.number ≡ false → grip.number ≡ number },
+    pub ghost owns: { witness.views ≢ [] × (is_cell part.number ≡ false) → witness.views ≡ witness_of_owner number (is_shared part.kind) grip.shown } by { codes-prop },
+    pub ghost reaches: { witness.views ≢ [] × (is_cell part.number ≡ true) → witness.views ≡ witness_of_cell number (cell_kind (is_shared part.kind)) } by { codes-prop },
 }
 
 const _: () = prove!(size_of::<Right>() == 4);
 
 impl Right {
-    ghost use Rattle.sdd_token.specs.Right.{number_of, home_of, kind_of, home_of_table, witness_of, grip_of, IsOwnerBy};
+    ghost use Rattle.sdd_token.specs.Right.{number_of, home_of, kind_of, home_of_table, cells_of_table, AreSlotsOfTable, AreCellsOfTable, witness_of, grip_of, IsOwnerBy, IsCellBy};
 
     /// The number that the right is to.
     pub fn number(&self) -> u32
@@ -88,6 +91,27 @@ impl Right {
         }
     }
 
+    /// The right to a cell of a domain, by its token. The domain has so many cells.
+    pub fn of_cell(number: u32, size: usize, kind: Kind, witness: Witness) -> Right
+        requires cell { witness.views ≡ witness_of_cell number (cell_kind (is_shared kind)) }
+        requires inside { number < size }
+        requires kind { IsOwner kind }
+        ensures number { number_of result ≡ number }
+        ensures home { home_of result ≡ cells_of_table witness.table_id size }
+        ensures kind { kind_of result ≡ kind }
+        ensures witness { witness_of result ≡ witness }
+    {
+        let mut book = Book::new(size);
+        let _ = book.issue(&kind);
+        let part = book.issue(&kind);
+        Right {
+            number,
+            part,
+            witness,
+            grip: Grip::blank(),
+        }
+    }
+
     /// The right that has this unit of a number of a book, which several may own.
     fn of_part(number: u32, part: Part<Kind>) -> Right
         requires named { part.number ≡ number }
@@ -113,11 +137,13 @@ impl Right {
         grip.discard();
     }
 
-    /// The token of the owner of the slot, and the unit of the number of its place, in a domain; blank ones else.
+    /// The token of the owner of the slot, and the unit of the number of its place, in a domain; of a right to a cell the cell's token, and a blank unit;
+    /// blank ones else.
     pub fn into_owner(self) -> (Witness, Grip)
         ensures witness { result.0 ≡ witness_of self }
         ensures grip { result.1 ≡ grip_of self }
-        ensures owner { (home_of self).tables ≢ [] → IsOwnerBy (home_of self) (number_of self) (is_shared (kind_of self)) result.0 result.1 }
+        ensures owner { AreSlotsOfTable (home_of self) → IsOwnerBy (home_of self) (number_of self) (is_shared (kind_of self)) result.0 result.1 }
+        ensures cell { AreCellsOfTable (home_of self) → IsCellBy (home_of self) (number_of self) (cell_kind (is_shared (kind_of self))) result.0 }
     {
         let Right {
             number: _,
@@ -128,11 +154,13 @@ impl Right {
         (witness, grip)
     }
 
-    /// The token of the owner of the slot, in a domain; a blank one else.
+    /// The token of the owner of the slot, or of the right to the cell, in a domain; a blank one else.
     pub fn witness(&self) -> &Witness
         ensures witness { result.now ≡ witness_of self.now }
-        ensures owner { (home_of self.now).tables ≢ [] →
+        ensures owner { AreSlotsOfTable (home_of self.now) →
             IsOwnerBy (home_of self.now) (number_of self.now) (is_shared (kind_of self.now)) result.now (grip_of self.now) }
+        ensures cell { AreCellsOfTable (home_of self.now) →
+            IsCellBy (home_of self.now) (number_of self.now) (cell_kind (is_shared (kind_of self.now))) result.now }
     {
         &self.witness
     }
@@ -140,7 +168,7 @@ impl Right {
     /// The unit of the number of the slot's place, in a domain; a blank one else.
     pub fn grip(&self) -> &Grip
         ensures grip { result.now ≡ grip_of self.now }
-        ensures owner { (home_of self.now).tables ≢ [] →
+        ensures owner { AreSlotsOfTable (home_of self.now) →
             IsOwnerBy (home_of self.now) (number_of self.now) (is_shared (kind_of self.now)) (witness_of self.now) result.now }
     {
         &self.grip
@@ -277,24 +305,70 @@ impl Shares {
 
 /// A right to a number that is out as raw: a cell of raw pointers has one. There is no owner of such a number.
 ///
+/// In a domain its witness is the cell's token, and its part is of a book of its own.
+///
 /// It can't be copied, but be redeemed where it was granted, or let go of for ever.
 pub struct RawRight {
     pub(crate) number: u32,
     pub(crate) part: Part<Kind>,
-    pub ghost named: { part.number ≡ number },
+    pub(crate) witness: Witness,
+    pub ghost named: { witness.views ≡ [] → part.number ≡ number },
     pub ghost inside: { number < part.home.size },
     pub ghost kind: { part.kind ≡ Kind.Raw },
-    pub ghost due: { part.units ≡ right_units part.kind },
+    pub ghost due: { witness.views ≡ [] → part.units ≡ right_units part.kind },
+    pub ghost books: { part.home.tables ≡ [] },
+    pub ghost reaches: { witness.views ≢ [] → witness.views ≡ witness_of_cell number CellKind.Raw } by { codes-prop },
 }
 
 const _: () = prove!(size_of::<RawRight>() == 4);
 
 impl RawRight {
-    ghost use Rattle.sdd_token.specs.Right.{raw_number_of};
+    ghost use Rattle.sdd_token.specs.Right.{raw_number_of, raw_home_of, raw_witness_of, cells_of_table, AreCellsOfTable, IsCellBy};
+
+    /// The right to a cell of raw pointers of a domain, by its token. The domain has so many cells.
+    pub fn of_cell(number: u32, size: usize, witness: Witness) -> RawRight
+        requires cell { witness.views ≡ witness_of_cell number CellKind.Raw }
+        requires inside { number < size }
+        ensures number { raw_number_of result ≡ number }
+        ensures home { raw_home_of result ≡ cells_of_table witness.table_id size }
+        ensures witness { raw_witness_of result ≡ witness }
+    {
+        let mut book = Book::new(size);
+        RawRight {
+            number,
+            part: book.issue(&Kind::Raw),
+            witness,
+        }
+    }
+
+    /// The cell's token, in a domain; a blank one else.
+    pub fn witness(&self) -> &Witness
+        ensures witness { result.now ≡ raw_witness_of self.now }
+        ensures cell { AreCellsOfTable (raw_home_of self.now) → IsCellBy (raw_home_of self.now) (raw_number_of self.now) CellKind.Raw result.now }
+    {
+        &self.witness
+    }
+
+    /// The same, of a right that is spent by that.
+    pub fn into_witness(self) -> Witness
+        ensures witness { result ≡ raw_witness_of self }
+        ensures cell { AreCellsOfTable (raw_home_of self) → IsCellBy (raw_home_of self) (raw_number_of self) CellKind.Raw result }
+    {
+        let RawRight {
+            number: _,
+            part: _,
+            witness,
+        } = self;
+        witness
+    }
 
     /// Lets go of the right for ever: nobody has it again, nor redeems it.
     pub fn let_go(self) {
-        let RawRight { number: _, part: _ } = self;
+        let RawRight {
+            number: _,
+            part: _,
+            witness: _,
+        } = self;
     }
 
     /// The number that the right is to.

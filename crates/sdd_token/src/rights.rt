@@ -240,7 +240,11 @@ impl Rights {
         let kept = &mut self.parts[number as usize];
         kept.set(&Kind::Raw, &());
         let part = kept.split(Kind::Raw.units());
-        RawRight { number, part }
+        RawRight {
+            number,
+            part,
+            witness: Witness::blank(),
+        }
     }
 
     /// Takes a right to a number that is out as raw back.
@@ -253,8 +257,14 @@ impl Rights {
         ensures kept { self.new.kept ≡ slice_set self.old.kept result
             (record (kept_at self.old result) { units = (kept_at self.old result).units + right_units Kind.Raw }) }
     {
-        let RawRight { number, part } = right;
-        self.join(number as usize, part);
+        let RawRight {
+            number,
+            mut part,
+            witness: _,
+        } = right;
+        let kept = &mut self.parts[number as usize];
+        kept.apart(&mut part);
+        kept.join(part);
         number
     }
 
@@ -264,6 +274,6 @@ impl Rights {
         ensures inside { raw_number_of raw.now < self.now.home.size }
         ensures kind { (kept_at self.now (raw_number_of raw.now)).kind ≡ Kind.Raw }
     {
-        self.agree(raw.number as usize, &raw.part);
+        self.parts[raw.number as usize].agree(&raw.part);
     }
 }

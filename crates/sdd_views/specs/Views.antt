@@ -4,6 +4,7 @@ use base.Stored.{Gv}
 use Rattle.sdd_views.specs.declared.EpochView.{EpochView}
 use Rattle.sdd_views.specs.declared.SlotsView.{SlotsView}
 use Rattle.sdd_views.specs.declared.PlacesView.{PlacesView}
+use Rattle.sdd_views.specs.declared.CellKind.{CellKind}
 use Rattle.sdd_views.specs.declared.CellsView.{CellsView}
 use Rattle.sdd_views.specs.declared.CountsView.{CountsView}
 use Rattle.sdd_views.specs.declared.StakesView.{StakesView}
@@ -89,3 +90,7 @@ abbrev pub owner_of : ℕ → Bool → Gv → View
 owner_of slot shared value = record (owner_token (slot ∷ []) []) {
   stakes = record (at_rest 0) { owns = record { slot = slot; shared = shared; value = value } ∷ [] };
 }
+
+-- the token of the right to a cell of this kind
+abbrev pub right_to : ℕ → CellKind → View
+right_to cell kind = record (owner_token [] []) { cells = record { rights = record { cell = cell; kind = kind } ∷ [] } }

@@ -1,5 +1,6 @@
 -- A book is a new name, with every number under it.
 use Rattle.sdd_token.proofs.Names.{List, [], ◌∷◌, refl, ℕ, a_type, Val, inst_fn, SProp, emp, ‵, raw, ◌⊛◌, ◌$◌, ◌∵◌, !, qed, by, keep, split, join, fjoin, use0, some, later, pick, await, no_more, and_then, returns, enter, alloc_all, pass_all, free_all, look_at, get, sets, agg, tables, RattleType, owns, types_at, nothing, param, layouts, alive, Stays, walk_of, fact, fact_i, ◌≡◌, proved, leaves, token_val, plain, usize, stay_dropped, Goes-dropped, yes, uint_vals, uint_Tells, w64, vint}
+use Rattle.std.specs.Prelude.{false}
 use Rattle.atomic_table.specs.Seated.{TableId}
 use Rattle.sdd_token.specs.Units.{book_owns}
 use Rattle.sdd_token.proofs.Steps.{book_new}
@@ -26,4 +27,4 @@ new_spec 𝓤 𝓛 𝓜 𝓡 wired U _ =
     use0 𝓛 (raw (fact 𝓤 (none ≡ none))) (fact_i 𝓤 (none ≡ none) (emp 𝓤) refl) $ use0 𝓛 (raw (fact 𝓤 (0 ≡ 0))) (fact_i 𝓤 (0 ≡ 0) (emp 𝓤) refl) $ join ! $
     use0 𝓛 (raw (fact 𝓤 (m ≡ m))) (fact_i 𝓤 (m ≡ m) (emp 𝓤) refl) $ join ! $ nothing ! $
     nothing ! $ fjoin ! $ returns ! (look_at ! 0 refl) $ free_all ! refl $ keep ! (3 ∷ 0 ∷ 2 ∷ 1 ∷ []) $
-    by ! (leaves 𝓛 En hs c y token_val (record { of = record {}; home = record { name = γ; size = m; tables = none }; next = 0 }) (tt, tt) (tt, tt)))))
+    by ! (leaves 𝓛 En hs c y token_val (record { of = record {}; home = record { name = γ; size = m; tables = none; cells = false }; next = 0 }) (tt, tt) (tt, tt)))))
