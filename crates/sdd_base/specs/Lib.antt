@@ -26,3 +26,4 @@ pub mod Passing
 pub mod Accounts
 pub mod Composed
 pub mod Refusals
+pub mod Undisturbed

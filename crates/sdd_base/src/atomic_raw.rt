@@ -2,8 +2,7 @@ ghost use Rattle.std.specs.Prelude.{◌≡◌, ◌≢◌, ◌↔◌, IfErr, IfOk
 ghost use Rattle.sdd_base.specs.World.{World, pointer_at};
 ghost use Rattle.sdd_base.specs.Seat.{IsSeated, IsExact};
 ghost use Rattle.sdd_base.specs.Refusals.{IsContended, IsRefusedBy};
-ghost use Rattle.sdd_base.specs.Known.{KnowsOn};
-ghost use Rattle.sdd_base.specs.Ptr.{KeepsShown};
+ghost use Rattle.sdd_base.specs.Undisturbed.{Undisturbed};
 ghost use Rattle.sdd_base.specs.RawPtr as raw;
 ghost use Rattle.sdd_base.specs.Guard.{reader_of};
 ghost use Rattle.sdd_base.specs.Out.{IsNullCell};
@@ -55,15 +54,12 @@ impl<T: Item<T>> AtomicRaw<T> {
     /// `NoCell` where no cell is free; `Contended`, in a domain alone, where as many exchanges were lost as its limits allow.
     pub fn new<S: RawCells<T>>(ptr: RawPtr<T>, s: &mut S) -> Result<AtomicRaw<T>, Refused>
         requires seated { IsSeated (S.seat s.old) }
-        ensures seat { S.seat s.new ≡ S.seat s.old }
-        ensures own { S.own s.new ≡ S.own s.old }
-        ensures known { KnowsOn (S.known s.old) (S.known s.new) }
+        ensures undisturbed { Undisturbed S.seat S.own S.known S.shows s.old s.new }
         ensures home { IfOk result (λ cell. cells_home cell ≡ (S.seat s.old).home.cells) }
         ensures back { IfErr result (IsRefusedBy (S.seat s.old) Refused.NoCell) }
         ensures exact { IsExact (S.seat s.old) → MatchResult result
             (λ cell. IsEmptyAt (S.world s.old).cells (cell_of cell) × (S.world s.new ≡ pointing (S.world s.old) (cell_of cell) (raw.pointer_of ptr)))
             (λ e. IsFull (S.world s.old).cells × (e ≡ Refused.NoCell) × (S.world s.new ≡ S.world s.old)) }
-        ensures keeps { KeepsShown (S.shows s.old) (S.shows s.new) }
     {
         Ok(AtomicRaw::of_right(s.make_raw_cell(ptr.pointer())?))
     }
@@ -73,15 +69,12 @@ impl<T: Item<T>> AtomicRaw<T> {
     /// `NoCell` where no cell is free; `Contended`, in a domain alone, where as many exchanges were lost as its limits allow.
     pub fn null<S: RawCells<T>>(s: &mut S) -> Result<AtomicRaw<T>, Refused>
         requires seated { IsSeated (S.seat s.old) }
-        ensures seat { S.seat s.new ≡ S.seat s.old }
-        ensures own { S.own s.new ≡ S.own s.old }
-        ensures known { KnowsOn (S.known s.old) (S.known s.new) }
+        ensures undisturbed { Undisturbed S.seat S.own S.known S.shows s.old s.new }
         ensures home { IfOk result (λ cell. cells_home cell ≡ (S.seat s.old).home.cells) }
         ensures back { IfErr result (IsRefusedBy (S.seat s.old) Refused.NoCell) }
         ensures exact { IsExact (S.seat s.old) → MatchResult result
             (λ cell. IsEmptyAt (S.world s.old).cells (cell_of cell) × (S.world s.new ≡ pointing (S.world s.old) (cell_of cell) null_pointer))
             (λ e. IsFull (S.world s.old).cells × (e ≡ Refused.NoCell) × (S.world s.new ≡ S.world s.old)) }
-        ensures keeps { KeepsShown (S.shows s.old) (S.shows s.new) }
     {
         AtomicRaw::new(RawPtr::null(), s)
     }
@@ -90,12 +83,9 @@ impl<T: Item<T>> AtomicRaw<T> {
     pub fn is_null<S: RawCells<T>>(&self, s: &mut S) -> bool
         requires seated { IsSeated (S.seat s.old) }
         requires home { cells_home self.now ≡ (S.seat s.old).home.cells }
-        ensures seat { S.seat s.new ≡ S.seat s.old }
-        ensures own { S.own s.new ≡ S.own s.old }
-        ensures known { KnowsOn (S.known s.old) (S.known s.new) }
+        ensures undisturbed { Undisturbed S.seat S.own S.known S.shows s.old s.new }
         ensures exact { IsExact (S.seat s.old) → (S.world s.new ≡ S.world s.old) ×
             ((pointer : Pointer) × (pointer_at (S.world s.old) (cell_of self.now) ≡ Some pointer) × (IsTrue result ↔ (pointer.named ≡ None))) }
-        ensures keeps { KeepsShown (S.shows s.old) (S.shows s.new) }
     {
         s.pointer(&self.right).named.is_none()
     }
@@ -104,12 +94,9 @@ impl<T: Item<T>> AtomicRaw<T> {
     pub fn tag<S: RawCells<T>>(&self, s: &mut S) -> Tag
         requires seated { IsSeated (S.seat s.old) }
         requires home { cells_home self.now ≡ (S.seat s.old).home.cells }
-        ensures seat { S.seat s.new ≡ S.seat s.old }
-        ensures own { S.own s.new ≡ S.own s.old }
-        ensures known { KnowsOn (S.known s.old) (S.known s.new) }
+        ensures undisturbed { Undisturbed S.seat S.own S.known S.shows s.old s.new }
         ensures exact { IsExact (S.seat s.old) → (S.world s.new ≡ S.world s.old) ×
             ((pointer : Pointer) × (pointer_at (S.world s.old) (cell_of self.now) ≡ Some pointer) × (result ≡ pointer.tag)) }
-        ensures keeps { KeepsShown (S.shows s.old) (S.shows s.new) }
     {
         s.pointer(&self.right).tag
     }
@@ -119,12 +106,9 @@ impl<T: Item<T>> AtomicRaw<T> {
         requires seated { IsSeated (S.seat s.old) }
         requires home { cells_home self.now ≡ (S.seat s.old).home.cells }
         requires reader { reader_of guard.now ≡ (S.seat s.old).reader }
-        ensures seat { S.seat s.new ≡ S.seat s.old }
-        ensures own { S.own s.new ≡ S.own s.old }
-        ensures known { KnowsOn (S.known s.old) (S.known s.new) }
+        ensures undisturbed { Undisturbed S.seat S.own S.known S.shows s.old s.new }
         ensures exact { IsExact (S.seat s.old) →
             (pointer_at (S.world s.old) (cell_of self.now) ≡ Some (raw.pointer_of result)) × (S.world s.new ≡ S.world s.old) }
-        ensures keeps { KeepsShown (S.shows s.old) (S.shows s.new) }
     {
         let _ = guard;
         RawPtr::of_pointer(s.pointer(&self.right))
@@ -134,11 +118,8 @@ impl<T: Item<T>> AtomicRaw<T> {
     pub fn store<S: RawCells<T>>(&self, ptr: RawPtr<T>, s: &mut S)
         requires seated { IsSeated (S.seat s.old) }
         requires home { cells_home self.now ≡ (S.seat s.old).home.cells }
-        ensures seat { S.seat s.new ≡ S.seat s.old }
-        ensures own { S.own s.new ≡ S.own s.old }
-        ensures known { KnowsOn (S.known s.old) (S.known s.new) }
+        ensures undisturbed { Undisturbed S.seat S.own S.known S.shows s.old s.new }
         ensures exact { IsExact (S.seat s.old) → S.world s.new ≡ with_pointer (S.world s.old) (cell_of self.now) (raw.pointer_of ptr) }
-        ensures keeps { KeepsShown (S.shows s.old) (S.shows s.new) }
     {
         let _ = s.swap_pointer(&self.right, ptr.pointer());
     }
@@ -148,13 +129,10 @@ impl<T: Item<T>> AtomicRaw<T> {
         requires seated { IsSeated (S.seat s.old) }
         requires home { cells_home self.now ≡ (S.seat s.old).home.cells }
         requires reader { reader_of guard.now ≡ (S.seat s.old).reader }
-        ensures seat { S.seat s.new ≡ S.seat s.old }
-        ensures own { S.own s.new ≡ S.own s.old }
-        ensures known { KnowsOn (S.known s.old) (S.known s.new) }
+        ensures undisturbed { Undisturbed S.seat S.own S.known S.shows s.old s.new }
         ensures exact { IsExact (S.seat s.old) →
             (pointer_at (S.world s.old) (cell_of self.now) ≡ Some (raw.pointer_of result)) ×
             (S.world s.new ≡ with_pointer (S.world s.old) (cell_of self.now) (raw.pointer_of ptr)) }
-        ensures keeps { KeepsShown (S.shows s.old) (S.shows s.new) }
     {
         let _ = guard;
         RawPtr::of_pointer(s.swap_pointer(&self.right, ptr.pointer()))
@@ -172,15 +150,12 @@ impl<T: Item<T>> AtomicRaw<T> {
         requires seated { IsSeated (S.seat s.old) }
         requires home { cells_home self.now ≡ (S.seat s.old).home.cells }
         requires callable { F.IsAlwaysCallable condition }
-        ensures seat { S.seat s.new ≡ S.seat s.old }
-        ensures own { S.own s.new ≡ S.own s.old }
-        ensures known { KnowsOn (S.known s.old) (S.known s.new) }
+        ensures undisturbed { Undisturbed S.seat S.own S.known S.shows s.old s.new }
         ensures back { IfErr result (IsContended (S.seat s.old)) }
         ensures exact { IsExact (S.seat s.old) → IsOk result × IfOk result (λ changed. (ptr : RawPtr T) ×
             (pointer_at (S.world s.old) (cell_of self.now) ≡ Some (raw.pointer_of ptr)) × F.post condition ptr changed ×
             (S.world s.new ≡ (if changed
             then with_pointer (S.world s.old) (cell_of self.now) (record (raw.pointer_of ptr) { tag = tag }) else S.world s.old))) }
-        ensures keeps { KeepsShown (S.shows s.old) (S.shows s.new) }
     {
         s.tag_pointer_if(&self.right, tag, condition)
     }
@@ -199,15 +174,12 @@ impl<T: Item<T>> AtomicRaw<T> {
         requires home { cells_home self.now ≡ (S.seat s.old).home.cells }
         requires callable { F.IsAlwaysCallable f }
         requires reader { reader_of guard.now ≡ (S.seat s.old).reader }
-        ensures seat { S.seat s.new ≡ S.seat s.old }
-        ensures own { S.own s.new ≡ S.own s.old }
-        ensures known { KnowsOn (S.known s.old) (S.known s.new) }
+        ensures undisturbed { Undisturbed S.seat S.own S.known S.shows s.old s.new }
         ensures back { IfErr result (IsContended (S.seat s.old)) }
         ensures exact { IsExact (S.seat s.old) → IsOk result × IfOk result (λ updated. MatchResult updated
             (λ was. (next : RawPtr T) × (pointer_at (S.world s.old) (cell_of self.now) ≡ Some (raw.pointer_of was)) × F.post f was (Some next) ×
             (S.world s.new ≡ with_pointer (S.world s.old) (cell_of self.now) (raw.pointer_of next)))
             (λ now. (pointer_at (S.world s.old) (cell_of self.now) ≡ Some (raw.pointer_of now)) × F.post f now None × (S.world s.new ≡ S.world s.old))) }
-        ensures keeps { KeepsShown (S.shows s.old) (S.shows s.new) }
     {
         let _ = guard;
         s.update_pointer(&self.right, f)
@@ -224,16 +196,13 @@ impl<T: Item<T>> AtomicRaw<T> {
         requires seated { IsSeated (S.seat s.old) }
         requires home { cells_home self.now ≡ (S.seat s.old).home.cells }
         requires reader { reader_of guard.now ≡ (S.seat s.old).reader }
-        ensures seat { S.seat s.new ≡ S.seat s.old }
-        ensures own { S.own s.new ≡ S.own s.old }
-        ensures known { KnowsOn (S.known s.old) (S.known s.new) }
+        ensures undisturbed { Undisturbed S.seat S.own S.known S.shows s.old s.new }
         ensures old { IfOk result (λ ptr. ptr ≡ current) }
         ensures exact { IsExact (S.seat s.old) → MatchResult result
             (λ _. (pointer_at (S.world s.old) (cell_of self.now) ≡ Some (raw.pointer_of current)) ×
             (S.world s.new ≡ with_pointer (S.world s.old) (cell_of self.now) (raw.pointer_of new)))
             (λ ptr. (pointer_at (S.world s.old) (cell_of self.now) ≡ Some (raw.pointer_of ptr)) × (raw.pointer_of ptr ≢ raw.pointer_of current) ×
             (S.world s.new ≡ S.world s.old)) }
-        ensures keeps { KeepsShown (S.shows s.old) (S.shows s.new) }
     {
         let _ = guard;
         match s.exchange_pointer(&self.right, current.pointer(), new.pointer()) {
@@ -246,12 +215,9 @@ impl<T: Item<T>> AtomicRaw<T> {
     pub fn close<S: RawCells<T>>(self, s: &mut S)
         requires seated { IsSeated (S.seat s.old) }
         requires home { cells_home self ≡ (S.seat s.old).home.cells }
-        ensures seat { S.seat s.new ≡ S.seat s.old }
-        ensures own { S.own s.new ≡ S.own s.old }
-        ensures known { KnowsOn (S.known s.old) (S.known s.new) }
+        ensures undisturbed { Undisturbed S.seat S.own S.known S.shows s.old s.new }
         ensures exact { IsExact (S.seat s.old) → IsNullCell (S.world s.old) (cell_of self) ×
             (S.world s.new ≡ without_cell (S.world s.old) (cell_of self)) }
-        ensures keeps { KeepsShown (S.shows s.old) (S.shows s.new) }
     {
         s.close_raw_cell(self.into_right());
     }

@@ -5,9 +5,9 @@ ghost use Rattle.sdd_base.specs.Holding.{AreOf};
 ghost use Rattle.sdd_base.specs.World.{World, standing_at};
 ghost use Rattle.sdd_base.specs.Seat.{IsSeated, IsExact};
 ghost use Rattle.sdd_base.specs.Refusals.{IsContended, IsRefusedBy};
-ghost use Rattle.sdd_base.specs.Known.{KnowsOn};
+ghost use Rattle.sdd_base.specs.Undisturbed.{Undisturbed, Unmoved};
 ghost use Rattle.sdd_base.specs.Own.{IsSpilled};
-ghost use Rattle.sdd_base.specs.Ptr.{KeepsShown, IsShown, cell_seen, slot_named, shown_by, tag_of};
+ghost use Rattle.sdd_base.specs.Ptr.{IsShown, cell_seen, slot_named, shown_by, tag_of};
 ghost use Rattle.sdd_base.specs.RawPtr as raw;
 ghost use Rattle.sdd_base.specs.Guard.{reader_of};
 ghost use Rattle.sdd_base.specs.Steps.{made_shared, nulled, with_cell, without_cell, with_standing, cell_closed};
@@ -74,9 +74,7 @@ impl<T: Item<T>> AtomicShared<T> {
     pub fn new<S: Cells<T>>(value: T, s: &mut S) -> Result<AtomicShared<T>, (T, Refused)>
         requires seated { IsSeated (S.seat s.old) }
         requires home { AreOf (S.seat s.old).home (T.holds value) }
-        ensures seat { S.seat s.new ≡ S.seat s.old }
-        ensures own { S.own s.new ≡ S.own s.old }
-        ensures known { KnowsOn (S.known s.old) (S.known s.new) }
+        ensures undisturbed { Undisturbed S.seat S.own S.known S.shows s.old s.new }
         ensures home { IfOk result (λ cell. cells_home cell ≡ (S.seat s.old).home.cells) }
         ensures shown { IsExact (S.seat s.old) → IfOk result (λ cell. (slot : ℕ) × S.shows s.new slot value ×
             (entry_at (S.world s.new).cells (cell_of cell) ≡ Some (record { held = Some slot; tag = no_tag }))) }
@@ -86,7 +84,6 @@ impl<T: Item<T>> AtomicShared<T> {
             (S.world s.new ≡ with_cell (made_shared (S.world s.old) slot value) (cell_of cell) (record { held = Some slot; tag = no_tag })))
             (λ e. (IsFull (S.world s.old).standings × (e ≡ (value, Refused.NoSlot)) ⊎
             ¬ (IsFull (S.world s.old).standings) × IsFull (S.world s.old).cells × (e ≡ (value, Refused.NoCell))) × (S.world s.new ≡ S.world s.old)) }
-        ensures keeps { KeepsShown (S.shows s.old) (S.shows s.new) }
     {
         Ok(AtomicShared::of_right(s.make_in_cell(value, Kind::Shared)?))
     }
@@ -100,16 +97,13 @@ impl<T: Item<T>> AtomicShared<T> {
     ) -> Result<AtomicShared<T>, (Shared<T>, Refused)>
         requires seated { IsSeated (S.seat s.old) }
         requires home { slots_home owner ≡ (S.seat s.old).home.slots }
-        ensures seat { S.seat s.new ≡ S.seat s.old }
-        ensures own { S.own s.new ≡ S.own s.old }
-        ensures known { KnowsOn (S.known s.old) (S.known s.new) }
+        ensures undisturbed { Undisturbed S.seat S.own S.known S.shows s.old s.new }
         ensures home { IfOk result (λ cell. cells_home cell ≡ (S.seat s.old).home.cells) }
         ensures back { IfErr result (λ e. (right_of e.0 ≡ right_of owner) × IsRefusedBy (S.seat s.old) Refused.NoCell e.1) }
         ensures exact { IsExact (S.seat s.old) → MatchResult result
             (λ cell. IsEmptyAt (S.world s.old).cells (cell_of cell) ×
             (S.world s.new ≡ with_cell (S.world s.old) (cell_of cell) (cell_with (Some owner) no_tag)))
             (λ e. IsFull (S.world s.old).cells × (e.1 ≡ Refused.NoCell) × (S.world s.new ≡ S.world s.old)) }
-        ensures keeps { KeepsShown (S.shows s.old) (S.shows s.new) }
     {
         match s.make_cell(Some(owner.into_right()), Tag::None, Kind::Shared) {
             Ok(cell) => Ok(AtomicShared::of_right(cell)),
@@ -125,15 +119,12 @@ impl<T: Item<T>> AtomicShared<T> {
     /// `NoCell` where no cell is free; `Contended`, in a domain alone, where as many exchanges were lost as its limits allow.
     pub fn null<S: Cells<T>>(s: &mut S) -> Result<AtomicShared<T>, Refused>
         requires seated { IsSeated (S.seat s.old) }
-        ensures seat { S.seat s.new ≡ S.seat s.old }
-        ensures own { S.own s.new ≡ S.own s.old }
-        ensures known { KnowsOn (S.known s.old) (S.known s.new) }
+        ensures undisturbed { Undisturbed S.seat S.own S.known S.shows s.old s.new }
         ensures home { IfOk result (λ cell. cells_home cell ≡ (S.seat s.old).home.cells) }
         ensures back { IfErr result (IsRefusedBy (S.seat s.old) Refused.NoCell) }
         ensures exact { IsExact (S.seat s.old) → MatchResult result
             (λ cell. IsEmptyAt (S.world s.old).cells (cell_of cell) × (S.world s.new ≡ nulled (S.world s.old) (cell_of cell)))
             (λ e. IsFull (S.world s.old).cells × (e ≡ Refused.NoCell) × (S.world s.new ≡ S.world s.old)) }
-        ensures keeps { KeepsShown (S.shows s.old) (S.shows s.new) }
     {
         match s.make_cell(None, Tag::None, Kind::Shared) {
             Ok(cell) => Ok(AtomicShared::of_right(cell)),
@@ -148,12 +139,9 @@ impl<T: Item<T>> AtomicShared<T> {
     pub fn is_null<S: Cells<T>>(&self, s: &mut S) -> bool
         requires seated { IsSeated (S.seat s.old) }
         requires home { cells_home self.now ≡ (S.seat s.old).home.cells }
-        ensures seat { S.seat s.new ≡ S.seat s.old }
-        ensures own { S.own s.new ≡ S.own s.old }
-        ensures known { KnowsOn (S.known s.old) (S.known s.new) }
+        ensures undisturbed { Undisturbed S.seat S.own S.known S.shows s.old s.new }
         ensures exact { IsExact (S.seat s.old) → (S.world s.new ≡ S.world s.old) ×
             ((cell : Cell) × (entry_at (S.world s.old).cells (cell_of self.now) ≡ Some cell) × (IsTrue result ↔ (cell.held ≡ None))) }
-        ensures keeps { KeepsShown (S.shows s.old) (S.shows s.new) }
     {
         s.cell(self.right()).held.is_none()
     }
@@ -162,12 +150,9 @@ impl<T: Item<T>> AtomicShared<T> {
     pub fn tag<S: Cells<T>>(&self, s: &mut S) -> Tag
         requires seated { IsSeated (S.seat s.old) }
         requires home { cells_home self.now ≡ (S.seat s.old).home.cells }
-        ensures seat { S.seat s.new ≡ S.seat s.old }
-        ensures own { S.own s.new ≡ S.own s.old }
-        ensures known { KnowsOn (S.known s.old) (S.known s.new) }
+        ensures undisturbed { Undisturbed S.seat S.own S.known S.shows s.old s.new }
         ensures exact { IsExact (S.seat s.old) → (S.world s.new ≡ S.world s.old) ×
             ((cell : Cell) × (entry_at (S.world s.old).cells (cell_of self.now) ≡ Some cell) × (result ≡ cell.tag)) }
-        ensures keeps { KeepsShown (S.shows s.old) (S.shows s.new) }
     {
         s.cell(self.right()).tag
     }
@@ -178,15 +163,12 @@ impl<T: Item<T>> AtomicShared<T> {
         requires seated { IsSeated (S.seat s.old) }
         requires home { cells_home self.now ≡ (S.seat s.old).home.cells }
         requires reader { reader_of guard.now ≡ (S.seat s.old).reader }
-        ensures seat { S.seat s.new ≡ S.seat s.old }
-        ensures own { S.own s.new ≡ S.own s.old }
-        ensures known { KnowsOn (S.known s.old) (S.known s.new) }
+        ensures undisturbed { Undisturbed S.seat S.own S.known S.shows s.old s.new }
         ensures shown { IsShown (S.shows s.new) result }
         ensures owned { IsExact (S.seat s.old) →
             IfSome (slot_named result) (λ slot. (owners : ℕ) × IsSharedBy owners (standing_at (S.world s.old) slot)) }
         ensures exact { IsExact (S.seat s.old) → (entry_at (S.world s.old).cells (cell_of self.now) ≡ Some (cell_seen result)) ×
             (S.world s.new ≡ S.world s.old) }
-        ensures keeps { KeepsShown (S.shows s.old) (S.shows s.new) }
     {
         s.load(self.right(), guard)
     }
@@ -200,13 +182,10 @@ impl<T: Item<T>> AtomicShared<T> {
         requires seated { IsSeated (S.seat s.old) }
         requires home { cells_home self.now ≡ (S.seat s.old).home.cells }
         requires owner { IsOfSlots (S.seat s.old).home.slots next.0 }
-        ensures seat { S.seat s.new ≡ S.seat s.old }
-        ensures own { S.own s.new ≡ S.own s.old }
-        ensures known { KnowsOn (S.known s.old) (S.known s.new) }
+        ensures undisturbed { Undisturbed S.seat S.own S.known S.shows s.old s.new }
         ensures owner { IsOfSlots (S.seat s.old).home.slots result.0 }
         ensures exact { IsExact (S.seat s.old) → (entry_at (S.world s.old).cells (cell_of self.now) ≡ Some (cell_with result.0 result.1)) ×
             (S.world s.new ≡ with_cell (S.world s.old) (cell_of self.now) (cell_with next.0 next.1)) }
-        ensures keeps { KeepsShown (S.shows s.old) (S.shows s.new) }
     {
         let (owner, tag) = next;
         let (old, old_tag) = s.swap(self.right(), Shared::into_held(owner), tag);
@@ -225,14 +204,11 @@ impl<T: Item<T>> AtomicShared<T> {
         requires seated { IsSeated (S.seat s.old) }
         requires home { cells_home self.now ≡ (S.seat s.old).home.cells }
         requires callable { F.IsAlwaysCallable condition }
-        ensures seat { S.seat s.new ≡ S.seat s.old }
-        ensures own { S.own s.new ≡ S.own s.old }
-        ensures known { KnowsOn (S.known s.old) (S.known s.new) }
+        ensures undisturbed { Undisturbed S.seat S.own S.known S.shows s.old s.new }
         ensures back { IfErr result (IsContended (S.seat s.old)) }
         ensures exact { IsExact (S.seat s.old) → IsOk result × IfOk result (λ changed. (ptr : RawPtr T) ×
             (entry_at (S.world s.old).cells (cell_of self.now) ≡ Some (raw.cell_seen ptr)) × F.post condition ptr changed ×
             (S.world s.new ≡ (if changed then with_cell (S.world s.old) (cell_of self.now) (record (raw.cell_seen ptr) { tag = tag }) else S.world s.old))) }
-        ensures keeps { KeepsShown (S.shows s.old) (S.shows s.new) }
     {
         s.set_tag_if(self.right(), tag, condition)
     }
@@ -250,9 +226,7 @@ impl<T: Item<T>> AtomicShared<T> {
         requires home { cells_home self.now ≡ (S.seat s.old).home.cells }
         requires owner { IsOfSlots (S.seat s.old).home.slots next.0 }
         requires reader { reader_of guard.now ≡ (S.seat s.old).reader }
-        ensures seat { S.seat s.new ≡ S.seat s.old }
-        ensures own { S.own s.new ≡ S.own s.old }
-        ensures known { KnowsOn (S.known s.old) (S.known s.new) }
+        ensures undisturbed { Undisturbed S.seat S.own S.known S.shows s.old s.new }
         ensures owner { IfOk result (λ o. IsOfSlots (S.seat s.old).home.slots o.0) }
         ensures old { IfOk result (λ o. option_map slot_of o.0 ≡ slot_named current.entry) }
         ensures now { IfOk result (λ o. cell_seen o.1 ≡ cell_with next.0 next.1) }
@@ -263,7 +237,6 @@ impl<T: Item<T>> AtomicShared<T> {
             (S.world s.new ≡ with_cell (S.world s.old) (cell_of self.now) (cell_with next.0 next.1)))
             (λ e. (entry_at (S.world s.old).cells (cell_of self.now) ≡ Some (cell_seen e.1)) × (cell_seen e.1 ≢ cell_seen current.entry) ×
             (S.world s.new ≡ S.world s.old)) }
-        ensures keeps { KeepsShown (S.shows s.old) (S.shows s.new) }
     {
         let (owner, tag) = next;
         let expected = Cell {
@@ -288,9 +261,7 @@ impl<T: Item<T>> AtomicShared<T> {
         requires home { cells_home self.now ≡ (S.seat s.old).home.cells }
         requires owner { IsOfSlots (S.seat s.old).home.slots next.0 }
         requires reader { reader_of guard.now ≡ (S.seat s.old).reader }
-        ensures seat { S.seat s.new ≡ S.seat s.old }
-        ensures own { S.own s.new ≡ S.own s.old }
-        ensures known { KnowsOn (S.known s.old) (S.known s.new) }
+        ensures undisturbed { Undisturbed S.seat S.own S.known S.shows s.old s.new }
         ensures owner { IfOk result (λ o. IsOfSlots (S.seat s.old).home.slots o.0) }
         ensures old { IfOk result (λ o. option_map slot_of o.0 ≡ slot_named current.entry) }
         ensures now { IfOk result (λ o. cell_seen o.1 ≡ cell_with next.0 next.1) }
@@ -301,7 +272,6 @@ impl<T: Item<T>> AtomicShared<T> {
             (S.world s.new ≡ with_cell (S.world s.old) (cell_of self.now) (cell_with next.0 next.1)))
             (λ e. (entry_at (S.world s.old).cells (cell_of self.now) ≡ Some (cell_seen e.1)) × (cell_seen e.1 ≢ cell_seen current.entry) ×
             (S.world s.new ≡ S.world s.old)) }
-        ensures keeps { KeepsShown (S.shows s.old) (S.shows s.new) }
     {
         self.compare_exchange(current, next, guard, s)
     }
@@ -310,13 +280,10 @@ impl<T: Item<T>> AtomicShared<T> {
     pub fn into_shared<S: Cells<T>>(self, s: &mut S) -> Option<Shared<T>>
         requires seated { IsSeated (S.seat s.old) }
         requires home { cells_home self ≡ (S.seat s.old).home.cells }
-        ensures seat { S.seat s.new ≡ S.seat s.old }
-        ensures own { S.own s.new ≡ S.own s.old }
-        ensures known { KnowsOn (S.known s.old) (S.known s.new) }
+        ensures undisturbed { Undisturbed S.seat S.own S.known S.shows s.old s.new }
         ensures owner { IsOfSlots (S.seat s.old).home.slots result }
         ensures exact { IsExact (S.seat s.old) → ((tag : Tag) × (entry_at (S.world s.old).cells (cell_of self) ≡ Some (cell_with result tag))) ×
             (S.world s.new ≡ without_cell (S.world s.old) (cell_of self)) }
-        ensures keeps { KeepsShown (S.shows s.old) (S.shows s.new) }
     {
         Shared::of_held(s.take_cell(self.into_right()))
     }
@@ -325,11 +292,9 @@ impl<T: Item<T>> AtomicShared<T> {
     pub fn close<S: Items<T> + Cells<T>>(self, s: &mut S)
         requires seated { IsSeated (S.seat s.old) }
         requires home { cells_home self ≡ (S.seat s.old).home.cells }
-        ensures seat { S.seat s.new ≡ S.seat s.old }
+        ensures unmoved { Unmoved S.seat S.known S.shows s.old s.new }
         ensures own { IsSpilled (S.own s.old) (S.own s.new) }
-        ensures known { KnowsOn (S.known s.old) (S.known s.new) }
         ensures exact { IsExact (S.seat s.old) → S.world s.new ≡ cell_closed (S.world s.old) (S.seat s.old).place (cell_of self) }
-        ensures keeps { KeepsShown (S.shows s.old) (S.shows s.new) }
     {
         if let Some(right) = s.take_cell(self.into_right()) {
             let _ = s.let_go(right, Kind::Shared);
@@ -347,9 +312,7 @@ impl<T: Item<T>> AtomicShared<T> {
         requires seated { IsSeated (S.seat s.old) }
         requires home { cells_home self.now ≡ (S.seat s.old).home.cells }
         requires reader { reader_of guard.now ≡ (S.seat s.old).reader }
-        ensures seat { S.seat s.new ≡ S.seat s.old }
-        ensures own { S.own s.new ≡ S.own s.old }
-        ensures known { KnowsOn (S.known s.old) (S.known s.new) }
+        ensures undisturbed { Undisturbed S.seat S.own S.known S.shows s.old s.new }
         ensures owner { IfOk result (IsOfSlots (S.seat s.old).home.slots) }
         ensures back { IfErr result (IsRefusedBy (S.seat s.old) Refused.TooManyOwners) }
         ensures exact { IsExact (S.seat s.old) → (cell : Cell) × (entry_at (S.world s.old).cells (cell_of self.now) ≡ Some cell) × MatchResult result
@@ -358,7 +321,6 @@ impl<T: Item<T>> AtomicShared<T> {
             (S.world s.new ≡ with_standing (S.world s.old) (slot_of owner) (Standing.Shared (owners + 1)))))
             (λ e. (e ≡ Refused.TooManyOwners) × IfSome cell.held (λ slot. IsSharedBy (2 ^ 62) (standing_at (S.world s.old) slot)) × IsSome cell.held ×
             (S.world s.new ≡ S.world s.old)) }
-        ensures keeps { KeepsShown (S.shows s.old) (S.shows s.new) }
     {
         s.load(self.right(), guard).get_shared(s)
     }
@@ -371,9 +333,8 @@ impl<T: Item<T>> AtomicShared<T> {
         requires seated { IsSeated (S.seat s.old) }
         requires home { cells_home self.now ≡ (S.seat s.old).home.cells }
         requires reader { reader_of guard.now ≡ (S.seat s.old).reader }
-        ensures seat { S.seat s.new ≡ S.seat s.old }
+        ensures unmoved { Unmoved S.seat S.known S.shows s.old s.new }
         ensures own { IsSpilled (S.own s.old) (S.own s.new) }
-        ensures known { KnowsOn (S.known s.old) (S.known s.new) }
         ensures home { IfOk result (λ other. cells_home other ≡ (S.seat s.old).home.cells) }
         ensures back { IfErr result (λ e. (e ≡ Refused.NoCell) ⊎ IsRefusedBy (S.seat s.old) Refused.TooManyOwners e) }
         ensures exact { IsExact (S.seat s.old) → (cell : Cell) × (entry_at (S.world s.old).cells (cell_of self.now) ≡ Some cell) × MatchResult result
@@ -384,7 +345,6 @@ impl<T: Item<T>> AtomicShared<T> {
             (λ e. (S.world s.new ≡ S.world s.old) × (IsFull (S.world s.old).cells × (e ≡ Refused.NoCell) ⊎
             ¬ (IsFull (S.world s.old).cells) × (e ≡ Refused.TooManyOwners) × IsSome cell.held ×
             IfSome cell.held (λ slot. IsSharedBy (2 ^ 62) (standing_at (S.world s.old) slot)))) }
-        ensures keeps { KeepsShown (S.shows s.old) (S.shows s.new) }
     {
         Ok(AtomicShared::of_right(s.copy_cell(self.right(), guard)?))
     }

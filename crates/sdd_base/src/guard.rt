@@ -30,6 +30,7 @@ impl Guard {
     ghost use Rattle.sdd_base.specs.Refusals.{IsRefusedBy};
     ghost use Rattle.sdd_base.specs.Own.{IsOpened, IsClosed};
     ghost use Rattle.sdd_base.specs.Known.{KnowsOn, KnowsOpened, KnowsClosed, IsNear, IsRaisedBy};
+    ghost use Rattle.sdd_base.specs.Undisturbed.{Undisturbed, Unmoved};
     ghost use Rattle.sdd_base.specs.Ptr.{KeepsShown};
     ghost use Rattle.sdd_base.specs.Guard.{reader_of};
     ghost use Rattle.sdd_base.specs.Steps.{opened, closed, deferred, stirred, accelerated};
@@ -100,14 +101,11 @@ impl Guard {
     #[inline]
     pub fn epoch<T: Item<T>, S: Guards<T>>(&self, s: &mut S) -> Epoch
         requires seated { IsSeated (S.seat s.old) }
-        ensures seat { S.seat s.new ≡ S.seat s.old }
-        ensures own { S.own s.new ≡ S.own s.old }
-        ensures known { KnowsOn (S.known s.old) (S.known s.new) }
+        ensures undisturbed { Undisturbed S.seat S.own S.known S.shows s.old s.new }
         ensures told { result ≡ epoch_of (S.known s.new).told }
         ensures near { IsNear (S.own s.new) (S.known s.new) }
         ensures lone { IsLone (S.seat s.old) → (S.known s.new).told ≡ (S.known s.old).told }
         ensures exact { IsExact (S.seat s.old) → (result ≡ epoch_of (S.world s.old).time.count) × (S.world s.new ≡ S.world s.old) }
-        ensures keeps { KeepsShown (S.shows s.old) (S.shows s.new) }
     {
         epoch_of_count(s.count())
     }
@@ -126,12 +124,10 @@ impl Guard {
     #[inline]
     pub fn set_has_garbage<T: Item<T>, S: Guards<T>>(&self, s: &mut S)
         requires seated { IsSeated (S.seat s.old) }
-        ensures seat { S.seat s.new ≡ S.seat s.old }
+        ensures unmoved { Unmoved S.seat S.known S.shows s.old s.new }
         ensures own { S.own s.new ≡ with_garbage (S.own s.old) }
-        ensures known { KnowsOn (S.known s.old) (S.known s.new) }
         ensures lone { IsLone (S.seat s.old) → S.known s.new ≡ S.known s.old }
         ensures exact { IsExact (S.seat s.old) → S.world s.new ≡ stirred (S.world s.old) (S.seat s.old).place }
-        ensures keeps { KeepsShown (S.shows s.old) (S.shows s.new) }
     {
         s.stir();
     }
@@ -149,16 +145,14 @@ impl Guard {
     ) -> Result<(), (S::Job, Refused)>
         requires seated { IsSeated (S.seat s.old) }
         requires reader { reader_of self.now ≡ (S.seat s.old).reader }
-        ensures seat { S.seat s.new ≡ S.seat s.old }
+        ensures unmoved { Unmoved S.seat S.known S.shows s.old s.new }
         ensures own { MatchResult result
             (λ _. (place : ℕ) × (S.own s.new ≡ time.awaiting (Job place) (S.own s.old)))
             (λ _. S.own s.new ≡ S.own s.old) }
-        ensures known { KnowsOn (S.known s.old) (S.known s.new) }
         ensures back { IfErr result (λ e. (e.0 ≡ job) × IsRefusedBy (S.seat s.old) Refused.NoJob e.1) }
         ensures exact { IsExact (S.seat s.old) → MatchResult result
             (λ _. (place : ℕ) × IsEmptyAt (S.world s.old).jobs place × (S.world s.new ≡ deferred (S.world s.old) (S.seat s.old).place place))
             (λ e. IsFull (S.world s.old).jobs × (e.1 ≡ Refused.NoJob) × (S.world s.new ≡ S.world s.old)) }
-        ensures keeps { KeepsShown (S.shows s.old) (S.shows s.new) }
     {
         match s.defer(job) {
             Ok(_place) => Ok(()),
@@ -170,12 +164,10 @@ impl Guard {
     #[inline]
     pub fn accelerate<T: Item<T>, S: Guards<T>>(&self, s: &mut S)
         requires seated { IsSeated (S.seat s.old) }
-        ensures seat { S.seat s.new ≡ S.seat s.old }
+        ensures unmoved { Unmoved S.seat S.known S.shows s.old s.new }
         ensures own { S.own s.new ≡ time.accelerated (S.own s.old) }
-        ensures known { KnowsOn (S.known s.old) (S.known s.new) }
         ensures lone { IsLone (S.seat s.old) → S.known s.new ≡ S.known s.old }
         ensures exact { IsExact (S.seat s.old) → S.world s.new ≡ accelerated (S.world s.old) (S.seat s.old).place }
-        ensures keeps { KeepsShown (S.shows s.old) (S.shows s.new) }
     {
         s.accelerate();
     }

@@ -7,8 +7,7 @@ ghost use Rattle.sdd_base.specs.Holding.{AreOf};
 ghost use Rattle.sdd_base.specs.World.{World};
 ghost use Rattle.sdd_base.specs.Seat.{IsSeated, IsExact};
 ghost use Rattle.sdd_base.specs.Refusals.{IsRefusedBy};
-ghost use Rattle.sdd_base.specs.Known.{KnowsOn};
-ghost use Rattle.sdd_base.specs.Ptr.{KeepsShown};
+ghost use Rattle.sdd_base.specs.Undisturbed.{Undisturbed};
 ghost use Rattle.sdd_base.specs.Steps.{made_as};
 ghost use Rattle.sdd_store.specs.Table.{IsEmptyAt, IsFull};
 ghost use Rattle.sdd_base.specs.RawPtr as raw;
@@ -236,9 +235,7 @@ pub fn make_two<T: Item<T>, S: Several<T>>(
 ) -> Result<(Shared<T>, Shared<T>), (T, Refused)>
     requires seated { IsSeated (S.seat s.old) }
     requires home { AreOf (S.seat s.old).home (T.holds value) }
-    ensures seat { S.seat s.new ≡ S.seat s.old }
-    ensures own { S.own s.new ≡ S.own s.old }
-    ensures known { KnowsOn (S.known s.old) (S.known s.new) }
+    ensures undisturbed { Undisturbed S.seat S.own S.known S.shows s.old s.new }
     ensures home { IfOk result (λ both. (shared.slots_home both.0 ≡ (S.seat s.old).home.slots) × (shared.slots_home both.1 ≡ (S.seat s.old).home.slots)) }
     ensures one { IfOk result (λ both. shared.slot_of both.1 ≡ shared.slot_of both.0) }
     ensures shown { IfOk result (λ both. S.owns_value s.new (shared.right_of both.0) value × S.owns_value s.new (shared.right_of both.1) value) }
@@ -247,7 +244,6 @@ pub fn make_two<T: Item<T>, S: Several<T>>(
         (λ both. IsEmptyAt (S.world s.old).standings (shared.slot_of both.0) ×
         (S.world s.new ≡ made_as (S.world s.old) (shared.slot_of both.0) value (Standing.Shared 2)))
         (λ e. IsFull (S.world s.old).standings × (e ≡ (value, Refused.NoSlot)) × (S.world s.new ≡ S.world s.old)) }
-    ensures keeps { KeepsShown (S.shows s.old) (S.shows s.new) }
 {
     let (first, other) = match s.make_several(value, 2) {
         Ok(made) => made,

@@ -6,8 +6,8 @@ ghost use Rattle.sdd_base.specs.Holding.{AreOf};
 ghost use Rattle.sdd_base.specs.World.{World, standing_at, value_at};
 ghost use Rattle.sdd_base.specs.Seat.{IsSeated, IsExact, IsLone};
 ghost use Rattle.sdd_base.specs.Known.{KnowsOn};
+ghost use Rattle.sdd_base.specs.Undisturbed.{Undisturbed};
 ghost use Rattle.sdd_base.specs.Owned.{right_of, slot_of, slots_home};
-ghost use Rattle.sdd_base.specs.Ptr.{KeepsShown};
 ghost use Rattle.sdd_base.specs.Shared as shared;
 ghost use Rattle.sdd_store.specs.Time.{is_open};
 
@@ -60,15 +60,12 @@ pub fn shows_what_was_made<'g, T: Item<T>, S: Items<T>>(
     requires seated { IsSeated (S.seat s.old) }
     requires home { AreOf (S.seat s.old).home (T.holds value) }
     requires reader { reader_of guard.now ≡ (S.seat s.old).reader }
-    ensures seat { S.seat s.new ≡ S.seat s.old }
-    ensures own { S.own s.new ≡ S.own s.old }
-    ensures known { KnowsOn (S.known s.old) (S.known s.new) }
+    ensures undisturbed { Undisturbed S.seat S.own S.known S.shows s.old s.new }
     ensures home { IfOk result (λ made. slots_home made.0 ≡ (S.seat s.old).home.slots) }
     ensures value { IfOk result (λ made. S.owns_value s.new (right_of made.0) value) }
     ensures seen { IfOk result (λ made. made.1.now ≡ value) }
     ensures back { IfErr result (λ e. (e.0 ≡ value) × ((e.1 ≡ Refused.NoSlot) ⊎ (e.1 ≡ Refused.Contended))) }
     ensures lone { IsLone (S.seat s.old) → IfErr result (λ e. (e.1 ≡ Refused.NoSlot) × S.is_used_up s.old) }
-    ensures keeps { KeepsShown (S.shows s.old) (S.shows s.new) }
 {
     let owner = Owned::new(value, s)?;
     let seen = owner.get_guarded_ref(guard, s);

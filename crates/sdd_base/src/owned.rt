@@ -5,6 +5,7 @@ ghost use Rattle.sdd_base.specs.Holding.{AreOf};
 ghost use Rattle.sdd_base.specs.World.{World, IsGuarded, standing_at, value_at};
 ghost use Rattle.sdd_base.specs.Seat.{IsSeated, IsExact, IsLone};
 ghost use Rattle.sdd_base.specs.Known.{KnowsOn};
+ghost use Rattle.sdd_base.specs.Undisturbed.{Undisturbed, Unmoved};
 ghost use Rattle.sdd_base.specs.Own.{GrowsOn};
 ghost use Rattle.sdd_base.specs.Steps.{made, retired, with_standing, with_value, dropped};
 ghost use Rattle.sdd_base.specs.Owned.{right_of, slot_of, slots_home, IsOfSlots};
@@ -107,13 +108,10 @@ impl<T: Item<T>> Owned<T> {
         requires seated { IsSeated (S.seat s.old) }
         requires home { slots_home self.now ≡ (S.seat s.old).home.slots }
         requires reader { reader_of guard.now ≡ (S.seat s.old).reader }
-        ensures seat { S.seat s.new ≡ S.seat s.old }
-        ensures own { S.own s.new ≡ S.own s.old }
-        ensures known { KnowsOn (S.known s.old) (S.known s.new) }
+        ensures undisturbed { Undisturbed S.seat S.own S.known S.shows s.old s.new }
         ensures shown { S.shows s.new (slot_of self.now) result.now }
         ensures value { S.owns_value s.new (right_of self.now) result.now }
         ensures exact { IsExact (S.seat s.old) → S.world s.new ≡ S.world s.old }
-        ensures keeps { KeepsShown (S.shows s.old) (S.shows s.new) }
     {
         s.guarded(self.right(), guard)
     }
@@ -124,16 +122,13 @@ impl<T: Item<T>> Owned<T> {
         requires seated { IsSeated (S.seat s.old) }
         requires home { slots_home self.now ≡ (S.seat s.old).home.slots }
         requires reader { reader_of guard.now ≡ (S.seat s.old).reader }
-        ensures seat { S.seat s.new ≡ S.seat s.old }
-        ensures own { S.own s.new ≡ S.own s.old }
-        ensures known { KnowsOn (S.known s.old) (S.known s.new) }
+        ensures undisturbed { Undisturbed S.seat S.own S.known S.shows s.old s.new }
         ensures slot { slot_named result ≡ Some (slot_of self.now) }
         ensures tag { tag_of result ≡ no_tag }
         ensures shown { IfSome (shown_by result) (S.shows s.new (slot_of self.now)) }
         ensures value { IfSome (shown_by result) (S.owns_value s.new (right_of self.now)) }
         ensures full { IsSome (shown_by result) }
         ensures exact { IsExact (S.seat s.old) → S.world s.new ≡ S.world s.old }
-        ensures keeps { KeepsShown (S.shows s.old) (S.shows s.new) }
     {
         let value = s.guarded(self.right(), guard);
         Ptr::to(self.slot(), value)
@@ -146,9 +141,7 @@ impl<T: Item<T>> Owned<T> {
     pub fn new<S: Items<T>>(value: T, s: &mut S) -> Result<Owned<T>, (T, Refused)>
         requires seated { IsSeated (S.seat s.old) }
         requires home { AreOf (S.seat s.old).home (T.holds value) }
-        ensures seat { S.seat s.new ≡ S.seat s.old }
-        ensures own { S.own s.new ≡ S.own s.old }
-        ensures known { KnowsOn (S.known s.old) (S.known s.new) }
+        ensures undisturbed { Undisturbed S.seat S.own S.known S.shows s.old s.new }
         ensures home { IfOk result (λ owner. slots_home owner ≡ (S.seat s.old).home.slots) }
         ensures shown { IfOk result (λ owner. S.owns_value s.new (right_of owner) value) }
         ensures back { IfErr result (λ e. (e.0 ≡ value) × ((e.1 ≡ Refused.NoSlot) ⊎ (e.1 ≡ Refused.Contended))) }
@@ -156,7 +149,6 @@ impl<T: Item<T>> Owned<T> {
         ensures exact { IsExact (S.seat s.old) → MatchResult result
             (λ owner. IsEmptyAt (S.world s.old).standings (slot_of owner) × (S.world s.new ≡ made (S.world s.old) (slot_of owner) value))
             (λ e. IsFull (S.world s.old).standings × (e ≡ (value, Refused.NoSlot)) × (S.world s.new ≡ S.world s.old)) }
-        ensures keeps { KeepsShown (S.shows s.old) (S.shows s.new) }
     {
         match s.make(value, Kind::Owned) {
             Ok(right) => Ok(Owned::of_right(right)),
@@ -174,9 +166,7 @@ impl<T: Item<T>> Owned<T> {
         requires seated { IsSeated (S.seat s.old) }
         requires callable { F.pre f }
         requires home { (value : T) → F.post f value → AreOf (S.seat s.old).home (T.holds value) }
-        ensures seat { S.seat s.new ≡ S.seat s.old }
-        ensures own { S.own s.new ≡ S.own s.old }
-        ensures known { KnowsOn (S.known s.old) (S.known s.new) }
+        ensures undisturbed { Undisturbed S.seat S.own S.known S.shows s.old s.new }
         ensures home { IfOk result (λ owner. slots_home owner ≡ (S.seat s.old).home.slots) }
         ensures shown { IfOk result (λ owner. (value : T) × F.post f value × S.owns_value s.new (right_of owner) value) }
         ensures back { IfErr result (λ e. (e.0 ≡ f) × ((e.1 ≡ Refused.NoSlot) ⊎ (e.1 ≡ Refused.Contended))) }
@@ -185,7 +175,6 @@ impl<T: Item<T>> Owned<T> {
             (λ owner. IsEmptyAt (S.world s.old).standings (slot_of owner) ×
             ((value : T) × F.post f value × (S.world s.new ≡ made (S.world s.old) (slot_of owner) value)))
             (λ e. IsFull (S.world s.old).standings × (e ≡ (f, Refused.NoSlot)) × (S.world s.new ≡ S.world s.old)) }
-        ensures keeps { KeepsShown (S.shows s.old) (S.shows s.new) }
     {
         match s.make_with(f, Kind::Owned) {
             Ok(right) => Ok(Owned::of_right(right)),
@@ -197,12 +186,10 @@ impl<T: Item<T>> Owned<T> {
     pub fn retire<S: Items<T>>(self, s: &mut S)
         requires seated { IsSeated (S.seat s.old) }
         requires home { slots_home self ≡ (S.seat s.old).home.slots }
-        ensures seat { S.seat s.new ≡ S.seat s.old }
+        ensures unmoved { Unmoved S.seat S.known S.shows s.old s.new }
         ensures own { S.own s.new ≡ time.awaiting (Item (slot_of self)) (S.own s.old) }
         ensures owned { IsExact (S.seat s.old) → standing_at (S.world s.old) (slot_of self) ≡ Some Standing.Owned }
-        ensures known { KnowsOn (S.known s.old) (S.known s.new) }
         ensures exact { IsExact (S.seat s.old) → S.world s.new ≡ retired (S.world s.old) (S.seat s.old).place (slot_of self) }
-        ensures keeps { KeepsShown (S.shows s.old) (S.shows s.new) }
     {
         let _ = s.let_go(self.into_right(), Kind::Owned);
     }
@@ -269,14 +256,11 @@ impl<T: Item<T>> Owned<T> {
     pub fn into_raw<S: RawItems<T>>(self, s: &mut S) -> RawPtr<T>
         requires seated { IsSeated (S.seat s.old) }
         requires home { slots_home self ≡ (S.seat s.old).home.slots }
-        ensures seat { S.seat s.new ≡ S.seat s.old }
-        ensures own { S.own s.new ≡ S.own s.old }
-        ensures known { KnowsOn (S.known s.old) (S.known s.new) }
+        ensures undisturbed { Undisturbed S.seat S.own S.known S.shows s.old s.new }
         ensures slot { raw.slot_named result ≡ Some (slot_of self) }
         ensures tag { raw.tag_of result ≡ no_tag }
         ensures owned { IsExact (S.seat s.old) → standing_at (S.world s.old) (slot_of self) ≡ Some Standing.Owned }
         ensures exact { IsExact (S.seat s.old) → S.world s.new ≡ with_standing (S.world s.old) (slot_of self) Standing.Raw }
-        ensures keeps { KeepsShown (S.shows s.old) (S.shows s.new) }
     {
         let slot = s.put_out_raw(self.into_right());
         RawPtr::of(Some(slot), Tag::None)
@@ -285,16 +269,13 @@ impl<T: Item<T>> Owned<T> {
     /// The owner of an item that is out as raw: none for null, and for a slot whose item isn't out as raw. The pointer's tag is ignored.
     pub fn from_raw<S: RawItems<T>>(ptr: RawPtr<T>, s: &mut S) -> Option<Owned<T>>
         requires seated { IsSeated (S.seat s.old) }
-        ensures seat { S.seat s.new ≡ S.seat s.old }
-        ensures own { S.own s.new ≡ S.own s.old }
-        ensures known { KnowsOn (S.known s.old) (S.known s.new) }
+        ensures undisturbed { Undisturbed S.seat S.own S.known S.shows s.old s.new }
         ensures home { IsOfSlots (S.seat s.old).home.slots result }
         ensures slot { IfSome result (λ owner. raw.slot_named ptr ≡ Some (slot_of owner)) }
         ensures exact { IsExact (S.seat s.old) → MatchOption result
             (IfSome (raw.slot_named ptr) (λ slot. standing_at (S.world s.old) slot ≢ Some Standing.Raw) × (S.world s.new ≡ S.world s.old))
             (λ owner. (standing_at (S.world s.old) (slot_of owner) ≡ Some Standing.Raw) ×
             (S.world s.new ≡ with_standing (S.world s.old) (slot_of owner) Standing.Owned)) }
-        ensures keeps { KeepsShown (S.shows s.old) (S.shows s.new) }
     {
         let slot = ptr.slot()?;
         Owned::of_held(s.take_back_raw(slot))

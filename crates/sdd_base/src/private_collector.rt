@@ -3,6 +3,7 @@ ghost use Rattle.sdd_base.specs.World.{World, IsGuarded, standing_at};
 ghost use Rattle.sdd_base.specs.Seat.{IsSeated, IsExact};
 ghost use Rattle.sdd_base.specs.Refusals.{IsRefusedBy};
 ghost use Rattle.sdd_base.specs.Known.{KnowsOn};
+ghost use Rattle.sdd_base.specs.Undisturbed.{Undisturbed, Unmoved};
 ghost use Rattle.sdd_base.specs.Own.{IsCollected};
 ghost use Rattle.sdd_base.specs.Ptr.{KeepsShown};
 ghost use Rattle.sdd_base.specs.Guard.{reader_of};
@@ -73,16 +74,13 @@ impl<T: Item<T>> PrivateCollector<T> {
     /// `NoCell` where no cell is free; `Contended`, in a domain alone, where as many exchanges were lost as its limits allow.
     pub fn new<S: RawCells<T>>(s: &mut S) -> Result<PrivateCollector<T>, Refused>
         requires seated { IsSeated (S.seat s.old) }
-        ensures seat { S.seat s.new ≡ S.seat s.old }
-        ensures own { S.own s.new ≡ S.own s.old }
-        ensures known { KnowsOn (S.known s.old) (S.known s.new) }
+        ensures undisturbed { Undisturbed S.seat S.own S.known S.shows s.old s.new }
         ensures home { IfOk result (λ collector. cells_home collector ≡ (S.seat s.old).home.cells) }
         ensures back { IfErr result (IsRefusedBy (S.seat s.old) Refused.NoCell) }
         ensures exact { IsExact (S.seat s.old) → MatchResult result
             (λ collector. IsEmptyAt (S.world s.old).cells (collector_of collector) ×
             (S.world s.new ≡ pointing (S.world s.old) (collector_of collector) null_pointer))
             (λ e. IsFull (S.world s.old).cells × (e ≡ Refused.NoCell) × (S.world s.new ≡ S.world s.old)) }
-        ensures keeps { KeepsShown (S.shows s.old) (S.shows s.new) }
     {
         Ok(PrivateCollector::of_right(s.make_raw_cell(RawPtr::<T>::null().pointer())?))
     }
@@ -93,13 +91,11 @@ impl<T: Item<T>> PrivateCollector<T> {
         requires collector { cells_home self.now ≡ (S.seat s.old).home.cells }
         requires home { owned.slots_home owner ≡ (S.seat s.old).home.slots }
         requires reader { reader_of guard.now ≡ (S.seat s.old).reader }
-        ensures seat { S.seat s.new ≡ S.seat s.old }
+        ensures unmoved { Unmoved S.seat S.known S.shows s.old s.new }
         ensures own { S.own s.new ≡ time.awaiting (Item (owned.slot_of owner)) (S.own s.old) }
         ensures owned { IsExact (S.seat s.old) → standing_at (S.world s.old) (owned.slot_of owner) ≡ Some Standing.Owned }
-        ensures known { KnowsOn (S.known s.old) (S.known s.new) }
         ensures exact { IsExact (S.seat s.old) → S.world s.new ≡
             collected (S.world s.old) (S.seat s.old).place (collector_of self.now) (owned.slot_of owner) }
-        ensures keeps { KeepsShown (S.shows s.old) (S.shows s.new) }
     {
         let _ = guard;
         let _ = s.collect(&self.right, owner.into_right(), Kind::Owned);
@@ -117,14 +113,12 @@ impl<T: Item<T>> PrivateCollector<T> {
         requires collector { cells_home self.now ≡ (S.seat s.old).home.cells }
         requires home { shared.slots_home owner ≡ (S.seat s.old).home.slots }
         requires reader { reader_of guard.now ≡ (S.seat s.old).reader }
-        ensures seat { S.seat s.new ≡ S.seat s.old }
+        ensures unmoved { Unmoved S.seat S.known S.shows s.old s.new }
         ensures own { S.own s.new ≡ (if result then time.awaiting (Item (shared.slot_of owner)) (S.own s.old) else S.own s.old) }
-        ensures known { KnowsOn (S.known s.old) (S.known s.new) }
         ensures exact { IsExact (S.seat s.old) → (owners : ℕ) × IsSharedBy owners (standing_at (S.world s.old) (shared.slot_of owner)) ×
             (IsTrue result ↔ (owners ≡ 1)) ×
             (S.world s.new ≡ owner_collected (S.world s.old) (S.seat s.old).place (collector_of self.now) (shared.slot_of owner)
             (Some (Standing.Shared owners))) }
-        ensures keeps { KeepsShown (S.shows s.old) (S.shows s.new) }
     {
         let _ = guard;
         s.collect(&self.right, owner.into_right(), Kind::Shared)

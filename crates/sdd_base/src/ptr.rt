@@ -183,10 +183,10 @@ impl<'g, T: Item<T>> Ptr<'g, T> {
     ghost use Rattle.sdd_base.specs.World.{World, standing_at};
     ghost use Rattle.sdd_base.specs.Seat.{IsSeated, IsExact};
     ghost use Rattle.sdd_base.specs.Refusals.{IsRefusedBy};
-    ghost use Rattle.sdd_base.specs.Known.{KnowsOn};
+    ghost use Rattle.sdd_base.specs.Undisturbed.{Undisturbed};
     ghost use Rattle.sdd_base.specs.Steps.{with_standing};
     ghost use Rattle.sdd_base.specs.Shared.{IsOfSlots, right_of, slot_of};
-    ghost use Rattle.sdd_base.specs.Ptr.{KeepsShown, IsNull, shown_by, slot_named};
+    ghost use Rattle.sdd_base.specs.Ptr.{IsNull, shown_by, slot_named};
 
     /// The value of the item, which is the one that the pointer was made with, whatever was called since; None for null.
     ///
@@ -203,9 +203,7 @@ impl<'g, T: Item<T>> Ptr<'g, T> {
     /// `TooManyOwners` where 2^62 own it, cells counted; `Contended`, in a domain alone, where as many exchanges were lost as its limits allow.
     pub fn get_shared<S: SharedItems<T>>(&self, s: &mut S) -> Result<Option<Shared<T>>, Refused>
         requires seated { IsSeated (S.seat s.old) }
-        ensures seat { S.seat s.new ≡ S.seat s.old }
-        ensures own { S.own s.new ≡ S.own s.old }
-        ensures known { KnowsOn (S.known s.old) (S.known s.new) }
+        ensures undisturbed { Undisturbed S.seat S.own S.known S.shows s.old s.new }
         ensures owner { IfOk result (IsOfSlots (S.seat s.old).home.slots) }
         ensures slot { IfOk result (λ o. IfSome o (λ owner. slot_named self.now ≡ Some (slot_of owner))) }
         ensures value { IfOk result (λ o. IfSome o (λ owner. (v : T) → S.shows s.old (slot_of owner) v → S.owns_value s.new (right_of owner) v)) }
@@ -217,7 +215,6 @@ impl<'g, T: Item<T>> Ptr<'g, T> {
             (S.world s.new ≡ with_standing (S.world s.old) (slot_of owner) (shared_by (owners + 1)))))
             (λ e. (e ≡ Refused.TooManyOwners) × (S.world s.new ≡ S.world s.old) ×
             ((slot : ℕ) × (slot_named self.now ≡ Some slot) × IsSharedBy (2 ^ 62) (standing_at (S.world s.old) slot))) }
-        ensures keeps { KeepsShown (S.shows s.old) (S.shows s.new) }
     {
         let Some(slot) = self.slot() else {
             return Ok(None);

@@ -175,10 +175,10 @@ impl<T: Item<T>> RawPtr<T> {
     ghost use Rattle.sdd_store.specs.declared.standing.Standing.TheVariants.{Raw};
     ghost use Rattle.sdd_base.specs.World.{World, standing_at};
     ghost use Rattle.sdd_base.specs.Seat.{IsSeated, IsExact};
-    ghost use Rattle.sdd_base.specs.Known.{KnowsOn};
+    ghost use Rattle.sdd_base.specs.Undisturbed.{Undisturbed};
     ghost use Rattle.sdd_base.specs.Guard.{reader_of};
     ghost use Rattle.sdd_base.specs.RawPtr.{slot_named, cell_seen};
-    ghost use Rattle.sdd_base.specs.Ptr.{KeepsShown, IsShown};
+    ghost use Rattle.sdd_base.specs.Ptr.{IsShown};
     ghost use Rattle.sdd_base.specs.Ptr as guarded;
 
     /// A pointer to the item, with the same tag, where it is out as raw; it shows its value for as long as the guard is borrowed, whatever becomes of the
@@ -186,14 +186,11 @@ impl<T: Item<T>> RawPtr<T> {
     pub fn into_ptr<'g, S: RawItems<T>>(self, s: &mut S, guard: &'g Guard) -> Option<Ptr<'g, T>>
         requires seated { IsSeated (S.seat s.old) }
         requires reader { reader_of guard.now ≡ (S.seat s.old).reader }
-        ensures seat { S.seat s.new ≡ S.seat s.old }
-        ensures own { S.own s.new ≡ S.own s.old }
-        ensures known { KnowsOn (S.known s.old) (S.known s.new) }
+        ensures undisturbed { Undisturbed S.seat S.own S.known S.shows s.old s.new }
         ensures same { IfSome result (λ ptr. guarded.cell_seen ptr ≡ cell_seen self) }
         ensures shown { IfSome result (λ ptr. IsShown (S.shows s.new) ptr) }
         ensures exact { IsExact (S.seat s.old) →
             (IsSome result ↔ IfSome (slot_named self) (λ slot. standing_at (S.world s.old) slot ≡ Some Raw)) × (S.world s.new ≡ S.world s.old) }
-        ensures keeps { KeepsShown (S.shows s.old) (S.shows s.new) }
     {
         let Some(slot) = self.slot() else {
             return Some(Ptr::null().with_tag(self.tag));

@@ -6,6 +6,7 @@ ghost use Rattle.sdd_base.specs.World.{World, IsGuarded, standing_at, value_at};
 ghost use Rattle.sdd_base.specs.Seat.{IsSeated, IsExact, IsLone};
 ghost use Rattle.sdd_base.specs.Refusals.{IsRefusedBy};
 ghost use Rattle.sdd_base.specs.Known.{KnowsOn};
+ghost use Rattle.sdd_base.specs.Undisturbed.{Undisturbed, Unmoved};
 ghost use Rattle.sdd_base.specs.Own.{GrowsOn};
 ghost use Rattle.sdd_base.specs.Steps.{made_shared, with_standing, with_value, dropped, owner_given};
 ghost use Rattle.sdd_base.specs.Shared.{right_of, slot_of, slots_home};
@@ -107,13 +108,10 @@ impl<T: Item<T>> Shared<T> {
         requires seated { IsSeated (S.seat s.old) }
         requires home { slots_home self.now ≡ (S.seat s.old).home.slots }
         requires reader { reader_of guard.now ≡ (S.seat s.old).reader }
-        ensures seat { S.seat s.new ≡ S.seat s.old }
-        ensures own { S.own s.new ≡ S.own s.old }
-        ensures known { KnowsOn (S.known s.old) (S.known s.new) }
+        ensures undisturbed { Undisturbed S.seat S.own S.known S.shows s.old s.new }
         ensures shown { S.shows s.new (slot_of self.now) result.now }
         ensures value { S.owns_value s.new (right_of self.now) result.now }
         ensures exact { IsExact (S.seat s.old) → S.world s.new ≡ S.world s.old }
-        ensures keeps { KeepsShown (S.shows s.old) (S.shows s.new) }
     {
         s.guarded(self.right(), guard)
     }
@@ -124,16 +122,13 @@ impl<T: Item<T>> Shared<T> {
         requires seated { IsSeated (S.seat s.old) }
         requires home { slots_home self.now ≡ (S.seat s.old).home.slots }
         requires reader { reader_of guard.now ≡ (S.seat s.old).reader }
-        ensures seat { S.seat s.new ≡ S.seat s.old }
-        ensures own { S.own s.new ≡ S.own s.old }
-        ensures known { KnowsOn (S.known s.old) (S.known s.new) }
+        ensures undisturbed { Undisturbed S.seat S.own S.known S.shows s.old s.new }
         ensures slot { slot_named result ≡ Some (slot_of self.now) }
         ensures tag { tag_of result ≡ no_tag }
         ensures shown { IfSome (shown_by result) (S.shows s.new (slot_of self.now)) }
         ensures value { IfSome (shown_by result) (S.owns_value s.new (right_of self.now)) }
         ensures full { IsSome (shown_by result) }
         ensures exact { IsExact (S.seat s.old) → S.world s.new ≡ S.world s.old }
-        ensures keeps { KeepsShown (S.shows s.old) (S.shows s.new) }
     {
         let value = s.guarded(self.right(), guard);
         Ptr::to(self.slot(), value)
@@ -145,9 +140,7 @@ impl<T: Item<T>> Shared<T> {
     pub fn new<S: Items<T>>(value: T, s: &mut S) -> Result<Shared<T>, (T, Refused)>
         requires seated { IsSeated (S.seat s.old) }
         requires home { AreOf (S.seat s.old).home (T.holds value) }
-        ensures seat { S.seat s.new ≡ S.seat s.old }
-        ensures own { S.own s.new ≡ S.own s.old }
-        ensures known { KnowsOn (S.known s.old) (S.known s.new) }
+        ensures undisturbed { Undisturbed S.seat S.own S.known S.shows s.old s.new }
         ensures home { IfOk result (λ owner. slots_home owner ≡ (S.seat s.old).home.slots) }
         ensures shown { IfOk result (λ owner. S.owns_value s.new (right_of owner) value) }
         ensures back { IfErr result (λ e. (e.0 ≡ value) × ((e.1 ≡ Refused.NoSlot) ⊎ (e.1 ≡ Refused.Contended))) }
@@ -155,7 +148,6 @@ impl<T: Item<T>> Shared<T> {
         ensures exact { IsExact (S.seat s.old) → MatchResult result
             (λ owner. IsEmptyAt (S.world s.old).standings (slot_of owner) × (S.world s.new ≡ made_shared (S.world s.old) (slot_of owner) value))
             (λ e. IsFull (S.world s.old).standings × (e ≡ (value, Refused.NoSlot)) × (S.world s.new ≡ S.world s.old)) }
-        ensures keeps { KeepsShown (S.shows s.old) (S.shows s.new) }
     {
         match s.make(value, Kind::Shared) {
             Ok(right) => Ok(Shared::of_right(right)),
@@ -173,9 +165,7 @@ impl<T: Item<T>> Shared<T> {
         requires seated { IsSeated (S.seat s.old) }
         requires callable { F.pre f }
         requires home { (value : T) → F.post f value → AreOf (S.seat s.old).home (T.holds value) }
-        ensures seat { S.seat s.new ≡ S.seat s.old }
-        ensures own { S.own s.new ≡ S.own s.old }
-        ensures known { KnowsOn (S.known s.old) (S.known s.new) }
+        ensures undisturbed { Undisturbed S.seat S.own S.known S.shows s.old s.new }
         ensures home { IfOk result (λ owner. slots_home owner ≡ (S.seat s.old).home.slots) }
         ensures shown { IfOk result (λ owner. (value : T) × F.post f value × S.owns_value s.new (right_of owner) value) }
         ensures back { IfErr result (λ e. (e.0 ≡ f) × ((e.1 ≡ Refused.NoSlot) ⊎ (e.1 ≡ Refused.Contended))) }
@@ -184,7 +174,6 @@ impl<T: Item<T>> Shared<T> {
             (λ owner. IsEmptyAt (S.world s.old).standings (slot_of owner) ×
             ((value : T) × F.post f value × (S.world s.new ≡ made_shared (S.world s.old) (slot_of owner) value)))
             (λ e. IsFull (S.world s.old).standings × (e ≡ (f, Refused.NoSlot)) × (S.world s.new ≡ S.world s.old)) }
-        ensures keeps { KeepsShown (S.shows s.old) (S.shows s.new) }
     {
         match s.make_with(f, Kind::Shared) {
             Ok(right) => Ok(Shared::of_right(right)),
@@ -201,9 +190,7 @@ impl<T: Item<T>> Shared<T> {
         s: &mut S,
     ) -> Result<Shared<T>, (Ptr<'g, T>, Option<Refused>)>
         requires seated { IsSeated (S.seat s.old) }
-        ensures seat { S.seat s.new ≡ S.seat s.old }
-        ensures own { S.own s.new ≡ S.own s.old }
-        ensures known { KnowsOn (S.known s.old) (S.known s.new) }
+        ensures undisturbed { Undisturbed S.seat S.own S.known S.shows s.old s.new }
         ensures home { IfOk result (λ owner. slots_home owner ≡ (S.seat s.old).home.slots) }
         ensures slot { IfOk result (λ owner. slot_named ptr.entry ≡ Some (slot_of owner)) }
         ensures value { IfOk result (λ owner. (v : T) → S.shows s.old (slot_of owner) v → S.owns_value s.new (right_of owner) v) }
@@ -215,7 +202,6 @@ impl<T: Item<T>> Shared<T> {
             (IfSome (slot_named ptr.entry) (λ slot. owners_of (standing_at (S.world s.old) slot) ≡ None))
             (λ why. (why ≡ Refused.TooManyOwners) ×
             ((slot : ℕ) × (slot_named ptr.entry ≡ Some slot) × IsSharedBy (2 ^ 62) (standing_at (S.world s.old) slot)))) }
-        ensures keeps { KeepsShown (S.shows s.old) (S.shows s.new) }
     {
         match ptr.get_shared(s) {
             Ok(Some(owner)) => Ok(owner),
@@ -230,9 +216,7 @@ impl<T: Item<T>> Shared<T> {
     pub fn clone<S: SharedItems<T>>(&self, s: &mut S) -> Result<Shared<T>, Refused>
         requires seated { IsSeated (S.seat s.old) }
         requires home { slots_home self.now ≡ (S.seat s.old).home.slots }
-        ensures seat { S.seat s.new ≡ S.seat s.old }
-        ensures own { S.own s.new ≡ S.own s.old }
-        ensures known { KnowsOn (S.known s.old) (S.known s.new) }
+        ensures undisturbed { Undisturbed S.seat S.own S.known S.shows s.old s.new }
         ensures home { IfOk result (λ other. slots_home other ≡ (S.seat s.old).home.slots) }
         ensures slot { IfOk result (λ other. slot_of other ≡ slot_of self.now) }
         ensures value { IfOk result (λ other. (v : T) → S.owns_value s.old (right_of self.now) v → S.owns_value s.new (right_of other) v) }
@@ -240,7 +224,6 @@ impl<T: Item<T>> Shared<T> {
         ensures exact { IsExact (S.seat s.old) → (owners : ℕ) × IsSharedBy owners (standing_at (S.world s.old) (slot_of self.now)) × MatchResult result
             (λ _. (owners < 2 ^ 62) × (S.world s.new ≡ with_standing (S.world s.old) (slot_of self.now) (Standing.Shared (owners + 1))))
             (λ e. (owners ≡ 2 ^ 62) × (e ≡ Refused.TooManyOwners) × (S.world s.new ≡ S.world s.old)) }
-        ensures keeps { KeepsShown (S.shows s.old) (S.shows s.new) }
     {
         Ok(Shared::of_right(s.add_owner(self.right())?))
     }
@@ -249,13 +232,11 @@ impl<T: Item<T>> Shared<T> {
     pub fn release<S: Items<T>>(self, s: &mut S) -> bool
         requires seated { IsSeated (S.seat s.old) }
         requires home { slots_home self ≡ (S.seat s.old).home.slots }
-        ensures seat { S.seat s.new ≡ S.seat s.old }
+        ensures unmoved { Unmoved S.seat S.known S.shows s.old s.new }
         ensures own { S.own s.new ≡ (if result then time.awaiting (Item (slot_of self)) (S.own s.old) else S.own s.old) }
-        ensures known { KnowsOn (S.known s.old) (S.known s.new) }
         ensures exact { IsExact (S.seat s.old) → (owners : ℕ) × IsSharedBy owners (standing_at (S.world s.old) (slot_of self)) ×
             (IsTrue result ↔ (owners ≡ 1)) ×
             (S.world s.new ≡ owner_given (S.world s.old) (S.seat s.old).place (slot_of self) (Some (Standing.Shared owners))) }
-        ensures keeps { KeepsShown (S.shows s.old) (S.shows s.new) }
     {
         s.let_go(self.into_right(), Kind::Shared)
     }

@@ -6,13 +6,13 @@ ghost use Rattle.sdd_core.specs.declared.tag.Tag.TheVariants.{None as no_tag};
 ghost use Rattle.sdd_base.specs.Seat.{IsSeated, IsExact};
 ghost use Rattle.sdd_base.specs.Refusals.{IsContended, IsRefusedBy};
 ghost use Rattle.sdd_base.specs.Own.{IsSpilled};
-ghost use Rattle.sdd_base.specs.Known.{KnowsOn};
+ghost use Rattle.sdd_base.specs.Undisturbed.{Undisturbed, Unmoved};
 ghost use Rattle.sdd_token.specs.Kind.{IsOwner};
 ghost use Rattle.sdd_token.specs.Right.{number_of, home_of, kind_of};
 ghost use Rattle.sdd_standings.specs.Slots.{IsOwnedBy, IsSharedBy, first_standing};
 ghost use Rattle.sdd_standings.specs.Cells.{MayHold, cell_with, slot_held};
 ghost use Rattle.sdd_base.specs.Guard.{reader_of};
-ghost use Rattle.sdd_base.specs.Ptr.{KeepsShown, IsShown, slot_named, cell_seen};
+ghost use Rattle.sdd_base.specs.Ptr.{IsShown, slot_named, cell_seen};
 ghost use Rattle.sdd_base.specs.RawPtr as raw;
 ghost use Rattle.sdd_base.specs.Steps.{made_as, with_standing, with_cell, without_cell};
 
@@ -41,17 +41,14 @@ pub trait Cells<T: Item<T>>: Caller<T> {
         requires seated { IsSeated (Self.seat self.old) }
         requires owner { IsOwner kind }
         requires held { MayHold (Self.seat self.old).home.slots kind held }
-        ensures seat { Self.seat self.new ≡ Self.seat self.old }
-        ensures own { Self.own self.new ≡ Self.own self.old }
-        ensures known { KnowsOn (Self.known self.old) (Self.known self.new) }
+        ensures undisturbed { Undisturbed Self.seat Self.own Self.known Self.shows self.old self.new }
         ensures home { IfOk result (λ cell. home_of cell ≡ (Self.seat self.old).home.cells) }
         ensures kind { IfOk result (λ cell. kind_of cell ≡ kind) }
         ensures back { IfErr result (λ e. (e.0 ≡ held) × IsRefusedBy (Self.seat self.old) Refused.NoCell e.1) }
         ensures exact { IsExact (Self.seat self.old) → MatchResult result
             (λ cell. IsEmptyAt (Self.world self.old).cells (number_of cell) ×
             (Self.world self.new ≡ with_cell (Self.world self.old) (number_of cell) (cell_with held tag)))
-            (λ e. IsFull (Self.world self.old).cells × (e ≡ (held, Refused.NoCell)) × (Self.world self.new ≡ Self.world self.old)) }
-        ensures keeps { KeepsShown (Self.shows self.old) (Self.shows self.new) };
+            (λ e. IsFull (Self.world self.old).cells × (e ≡ (held, Refused.NoCell)) × (Self.world self.new ≡ Self.world self.old)) };
 
     /// Puts a value into a free slot, and its owner, which is of this kind, into a free cell.
     ///
@@ -61,9 +58,7 @@ pub trait Cells<T: Item<T>>: Caller<T> {
         requires seated { IsSeated (Self.seat self.old) }
         requires home { AreOf (Self.seat self.old).home (T.holds value) }
         requires owner { IsOwner kind }
-        ensures seat { Self.seat self.new ≡ Self.seat self.old }
-        ensures own { Self.own self.new ≡ Self.own self.old }
-        ensures known { KnowsOn (Self.known self.old) (Self.known self.new) }
+        ensures undisturbed { Undisturbed Self.seat Self.own Self.known Self.shows self.old self.new }
         ensures home { IfOk result (λ cell. home_of cell ≡ (Self.seat self.old).home.cells) }
         ensures kind { IfOk result (λ cell. kind_of cell ≡ kind) }
         ensures shown { IsExact (Self.seat self.old) → IfOk result (λ cell. (slot : ℕ) × Self.shows self.new slot value ×
@@ -75,48 +70,38 @@ pub trait Cells<T: Item<T>>: Caller<T> {
             (record { held = Some slot; tag = no_tag })))
             (λ e. (IsFull (Self.world self.old).standings × (e ≡ (value, Refused.NoSlot)) ⊎
             ¬ (IsFull (Self.world self.old).standings) × IsFull (Self.world self.old).cells × (e ≡ (value, Refused.NoCell))) ×
-            (Self.world self.new ≡ Self.world self.old)) }
-        ensures keeps { KeepsShown (Self.shows self.old) (Self.shows self.new) };
+            (Self.world self.new ≡ Self.world self.old)) };
 
     /// What a cell holds at this moment.
     fn cell(&mut self, cell: &Right) -> Cell
         requires seated { IsSeated (Self.seat self.old) }
         requires home { home_of cell.now ≡ (Self.seat self.old).home.cells }
-        ensures seat { Self.seat self.new ≡ Self.seat self.old }
-        ensures own { Self.own self.new ≡ Self.own self.old }
-        ensures known { KnowsOn (Self.known self.old) (Self.known self.new) }
+        ensures undisturbed { Undisturbed Self.seat Self.own Self.known Self.shows self.old self.new }
         ensures exact { IsExact (Self.seat self.old) →
-            (entry_at (Self.world self.old).cells (number_of cell.now) ≡ Some result) × (Self.world self.new ≡ Self.world self.old) }
-        ensures keeps { KeepsShown (Self.shows self.old) (Self.shows self.new) };
+            (entry_at (Self.world self.old).cells (number_of cell.now) ≡ Some result) × (Self.world self.new ≡ Self.world self.old) };
 
     /// A pointer to what a cell holds, with the cell's tag.
     fn load<'g>(&mut self, cell: &Right, guard: &'g Guard) -> Ptr<'g, T>
         requires seated { IsSeated (Self.seat self.old) }
         requires home { home_of cell.now ≡ (Self.seat self.old).home.cells }
         requires reader { reader_of guard.now ≡ (Self.seat self.old).reader }
-        ensures seat { Self.seat self.new ≡ Self.seat self.old }
-        ensures own { Self.own self.new ≡ Self.own self.old }
-        ensures known { KnowsOn (Self.known self.old) (Self.known self.new) }
+        ensures undisturbed { Undisturbed Self.seat Self.own Self.known Self.shows self.old self.new }
         ensures shown { IsShown (Self.shows self.new) result }
         ensures owned { IsExact (Self.seat self.old) →
             IfSome (slot_named result) (λ slot. IsOwnedBy (kind_of cell.now) (standing_at (Self.world self.old) slot)) }
         ensures exact { IsExact (Self.seat self.old) →
-            (entry_at (Self.world self.old).cells (number_of cell.now) ≡ Some (cell_seen result)) × (Self.world self.new ≡ Self.world self.old) }
-        ensures keeps { KeepsShown (Self.shows self.old) (Self.shows self.new) };
+            (entry_at (Self.world self.old).cells (number_of cell.now) ≡ Some (cell_seen result)) × (Self.world self.new ≡ Self.world self.old) };
 
     /// The cell holds another owner, or none, and has this tag. What it held, and its tag, come back.
     fn swap(&mut self, cell: &Right, new: Option<Right>, tag: Tag) -> (Option<Right>, Tag)
         requires seated { IsSeated (Self.seat self.old) }
         requires home { home_of cell.now ≡ (Self.seat self.old).home.cells }
         requires held { MayHold (Self.seat self.old).home.slots (kind_of cell.now) new }
-        ensures seat { Self.seat self.new ≡ Self.seat self.old }
-        ensures own { Self.own self.new ≡ Self.own self.old }
-        ensures known { KnowsOn (Self.known self.old) (Self.known self.new) }
+        ensures undisturbed { Undisturbed Self.seat Self.own Self.known Self.shows self.old self.new }
         ensures held { MayHold (Self.seat self.old).home.slots (kind_of cell.now) result.0 }
         ensures exact { IsExact (Self.seat self.old) →
             (entry_at (Self.world self.old).cells (number_of cell.now) ≡ Some (cell_with result.0 result.1)) ×
-            (Self.world self.new ≡ with_cell (Self.world self.old) (number_of cell.now) (cell_with new tag)) }
-        ensures keeps { KeepsShown (Self.shows self.old) (Self.shows self.new) };
+            (Self.world self.new ≡ with_cell (Self.world self.old) (number_of cell.now) (cell_with new tag)) };
 
     /// The same, if the cell holds what was expected. Then what it held comes back, with a pointer to what it holds now; else the one handed in,
     /// with a pointer to what it holds.
@@ -132,9 +117,7 @@ pub trait Cells<T: Item<T>>: Caller<T> {
         requires home { home_of cell.now ≡ (Self.seat self.old).home.cells }
         requires held { MayHold (Self.seat self.old).home.slots (kind_of cell.now) new }
         requires reader { reader_of guard.now ≡ (Self.seat self.old).reader }
-        ensures seat { Self.seat self.new ≡ Self.seat self.old }
-        ensures own { Self.own self.new ≡ Self.own self.old }
-        ensures known { KnowsOn (Self.known self.old) (Self.known self.new) }
+        ensures undisturbed { Undisturbed Self.seat Self.own Self.known Self.shows self.old self.new }
         ensures held { IfOk result (λ o. MayHold (Self.seat self.old).home.slots (kind_of cell.now) o.0) }
         ensures old { IfOk result (λ o. slot_held o.0 ≡ current.held) }
         ensures now { IfOk result (λ o. cell_seen o.1 ≡ cell_with new tag) }
@@ -144,8 +127,7 @@ pub trait Cells<T: Item<T>>: Caller<T> {
             (λ _. (entry_at (Self.world self.old).cells (number_of cell.now) ≡ Some current) ×
             (Self.world self.new ≡ with_cell (Self.world self.old) (number_of cell.now) (cell_with new tag)))
             (λ e. (entry_at (Self.world self.old).cells (number_of cell.now) ≡ Some (cell_seen e.1)) × (cell_seen e.1 ≢ current) ×
-            (Self.world self.new ≡ Self.world self.old)) }
-        ensures keeps { KeepsShown (Self.shows self.old) (Self.shows self.new) };
+            (Self.world self.new ≡ Self.world self.old)) };
 
     /// The cell has another tag, if the condition holds of what it holds.
     ///
@@ -159,15 +141,12 @@ pub trait Cells<T: Item<T>>: Caller<T> {
         requires seated { IsSeated (Self.seat self.old) }
         requires home { home_of cell.now ≡ (Self.seat self.old).home.cells }
         requires callable { F.IsAlwaysCallable condition }
-        ensures seat { Self.seat self.new ≡ Self.seat self.old }
-        ensures own { Self.own self.new ≡ Self.own self.old }
-        ensures known { KnowsOn (Self.known self.old) (Self.known self.new) }
+        ensures undisturbed { Undisturbed Self.seat Self.own Self.known Self.shows self.old self.new }
         ensures back { IfErr result (IsContended (Self.seat self.old)) }
         ensures exact { IsExact (Self.seat self.old) → IsOk result × IfOk result (λ changed. (ptr : RawPtr T) ×
             (entry_at (Self.world self.old).cells (number_of cell.now) ≡ Some (raw.cell_seen ptr)) × F.post condition ptr changed ×
             (Self.world self.new ≡ (if changed then with_cell (Self.world self.old) (number_of cell.now) (record (raw.cell_seen ptr) { tag = tag })
-            else Self.world self.old))) }
-        ensures keeps { KeepsShown (Self.shows self.old) (Self.shows self.new) };
+            else Self.world self.old))) };
 
     /// Another cell that holds one owner more of what a cell holds, if it holds anything, with its tag.
     ///
@@ -178,9 +157,8 @@ pub trait Cells<T: Item<T>>: Caller<T> {
         requires home { home_of cell.now ≡ (Self.seat self.old).home.cells }
         requires kind { kind_of cell.now ≡ Kind.Shared }
         requires reader { reader_of guard.now ≡ (Self.seat self.old).reader }
-        ensures seat { Self.seat self.new ≡ Self.seat self.old }
+        ensures unmoved { Unmoved Self.seat Self.known Self.shows self.old self.new }
         ensures own { IsSpilled (Self.own self.old) (Self.own self.new) }
-        ensures known { KnowsOn (Self.known self.old) (Self.known self.new) }
         ensures home { IfOk result (λ other. home_of other ≡ (Self.seat self.old).home.cells) }
         ensures kind { IfOk result (λ other. kind_of other ≡ Kind.Shared) }
         ensures back { IfErr result (λ e. (e ≡ Refused.NoCell) ⊎ IsRefusedBy (Self.seat self.old) Refused.TooManyOwners e) }
@@ -192,20 +170,16 @@ pub trait Cells<T: Item<T>>: Caller<T> {
             (Self.world self.new ≡ with_cell (with_standing (Self.world self.old) slot (Standing.Shared (owners + 1))) (number_of other) old)))
             (λ e. (Self.world self.new ≡ Self.world self.old) × (IsFull (Self.world self.old).cells × (e ≡ Refused.NoCell) ⊎
             ¬ (IsFull (Self.world self.old).cells) × (e ≡ Refused.TooManyOwners) × IsSome old.held ×
-            IfSome old.held (λ slot. IsSharedBy (2 ^ 62) (standing_at (Self.world self.old) slot)))) }
-        ensures keeps { KeepsShown (Self.shows self.old) (Self.shows self.new) };
+            IfSome old.held (λ slot. IsSharedBy (2 ^ 62) (standing_at (Self.world self.old) slot)))) };
 
     /// Gives a cell up. What it held comes back.
     fn take_cell(&mut self, cell: Right) -> Option<Right>
         requires seated { IsSeated (Self.seat self.old) }
         requires home { home_of cell ≡ (Self.seat self.old).home.cells }
-        ensures seat { Self.seat self.new ≡ Self.seat self.old }
-        ensures own { Self.own self.new ≡ Self.own self.old }
-        ensures known { KnowsOn (Self.known self.old) (Self.known self.new) }
+        ensures undisturbed { Undisturbed Self.seat Self.own Self.known Self.shows self.old self.new }
         ensures held { MayHold (Self.seat self.old).home.slots (kind_of cell) result }
         ensures exact { IsExact (Self.seat self.old) →
             IfSome (entry_at (Self.world self.old).cells (number_of cell)) (λ old. old.held ≡ slot_held result) ×
             IsSome (entry_at (Self.world self.old).cells (number_of cell)) ×
-            (Self.world self.new ≡ without_cell (Self.world self.old) (number_of cell)) }
-        ensures keeps { KeepsShown (Self.shows self.old) (Self.shows self.new) };
+            (Self.world self.new ≡ without_cell (Self.world self.old) (number_of cell)) };
 }

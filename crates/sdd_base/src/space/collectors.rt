@@ -6,6 +6,7 @@ ghost use Rattle.sdd_base.specs.Seat.{IsSeated, IsExact};
 ghost use Rattle.sdd_base.specs.Own.{IsCollected};
 ghost use Rattle.sdd_base.specs.Collecting.{owner_collected, collector_closed};
 ghost use Rattle.sdd_base.specs.Known.{KnowsOn};
+ghost use Rattle.sdd_base.specs.Undisturbed.{Unmoved};
 ghost use Rattle.sdd_token.specs.Right.{number_of, home_of, kind_of, raw_number_of, raw_home_of};
 ghost use Rattle.sdd_standings.specs.Slots.{IsOwnedBy, has_others};
 ghost use Rattle.sdd_base.specs.Ptr.{KeepsShown};
@@ -25,17 +26,15 @@ pub trait Collectors<T: Item<T>>: Caller<T> {
         requires collector { raw_home_of collector.now ≡ (Self.seat self.old).home.cells }
         requires home { home_of right ≡ (Self.seat self.old).home.slots }
         requires kind { kind_of right ≡ kind }
-        ensures seat { Self.seat self.new ≡ Self.seat self.old }
+        ensures unmoved { Unmoved Self.seat Self.known Self.shows self.old self.new }
         ensures own { Self.own self.new ≡ (if result then time.awaiting (Item (number_of right)) (Self.own self.old) else Self.own self.old) }
         ensures sole { kind_of right ≡ Kind.Owned → IsTrue result }
         ensures owned { IsExact (Self.seat self.old) → IsOwnedBy (kind_of right) (standing_at (Self.world self.old) (number_of right)) }
-        ensures known { KnowsOn (Self.known self.old) (Self.known self.new) }
         ensures last { IsExact (Self.seat self.old) →
             IsTrue result ↔ ¬ (IsTrue (has_others (standing_at (Self.world self.old) (number_of right)))) }
         ensures exact { IsExact (Self.seat self.old) → Self.world self.new ≡
             owner_collected (Self.world self.old) (Self.seat self.old).place (raw_number_of collector.now) (number_of right)
-            (standing_at (Self.world self.old) (number_of right)) }
-        ensures keeps { KeepsShown (Self.shows self.old) (Self.shows self.new) };
+            (standing_at (Self.world self.old) (number_of right)) };
 
     /// Gives a collector up. What waits for it, with whomever, is reclaimed at once, where no guard is open.
     ///

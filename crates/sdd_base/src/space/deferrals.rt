@@ -4,8 +4,7 @@ ghost use Rattle.sdd_store.specs.Time as time;
 ghost use Rattle.sdd_store.specs.Table.{IsEmptyAt, IsFull};
 ghost use Rattle.sdd_base.specs.Seat.{IsSeated, IsExact};
 ghost use Rattle.sdd_base.specs.Refusals.{IsRefusedBy};
-ghost use Rattle.sdd_base.specs.Known.{KnowsOn};
-ghost use Rattle.sdd_base.specs.Ptr.{KeepsShown};
+ghost use Rattle.sdd_base.specs.Undisturbed.{Unmoved};
 ghost use Rattle.sdd_base.specs.Steps.{deferred};
 
 use crate::item::Item;
@@ -24,15 +23,13 @@ pub trait Deferrals<T: Item<T>>: Caller<T> {
     /// comes back.
     fn defer(&mut self, job: Self::Job) -> Result<u32, (Self::Job, Refused)>
         requires seated { IsSeated (Self.seat self.old) }
-        ensures seat { Self.seat self.new ≡ Self.seat self.old }
+        ensures unmoved { Unmoved Self.seat Self.known Self.shows self.old self.new }
         ensures own { MatchResult result
             (λ number. Self.own self.new ≡ time.awaiting (Job number) (Self.own self.old))
             (λ _. Self.own self.new ≡ Self.own self.old) }
-        ensures known { KnowsOn (Self.known self.old) (Self.known self.new) }
         ensures back { IfErr result (λ e. (e.0 ≡ job) × IsRefusedBy (Self.seat self.old) Refused.NoJob e.1) }
         ensures exact { IsExact (Self.seat self.old) → MatchResult result
             (λ number. IsEmptyAt (Self.world self.old).jobs number ×
             (Self.world self.new ≡ deferred (Self.world self.old) (Self.seat self.old).place number))
-            (λ e. IsFull (Self.world self.old).jobs × (e.1 ≡ Refused.NoJob) × (Self.world self.new ≡ Self.world self.old)) }
-        ensures keeps { KeepsShown (Self.shows self.old) (Self.shows self.new) };
+            (λ e. IsFull (Self.world self.old).jobs × (e.1 ≡ Refused.NoJob) × (Self.world self.new ≡ Self.world self.old)) };
 }

@@ -5,6 +5,7 @@ ghost use Rattle.sdd_base.specs.World.{place_at};
 ghost use Rattle.sdd_base.specs.Seat.{IsSeated, IsExact, IsLone, MayNest};
 ghost use Rattle.sdd_base.specs.Own.{IsOpened, IsClosed};
 ghost use Rattle.sdd_base.specs.Known.{KnowsOn, KnowsOpened, KnowsClosed, IsNear, IsRaisedBy};
+ghost use Rattle.sdd_base.specs.Undisturbed.{Undisturbed, Unmoved};
 ghost use Rattle.sdd_base.specs.Guard.{reader_of};
 ghost use Rattle.sdd_base.specs.Ptr.{KeepsShown};
 ghost use Rattle.sdd_base.specs.Steps.{opened, closed, stirred, accelerated};
@@ -51,14 +52,11 @@ pub trait Guards<T: Item<T>>: Caller<T> {
     /// The count of epochs, as the participant is told it now.
     fn count(&mut self) -> u64
         requires seated { IsSeated (Self.seat self.old) }
-        ensures seat { Self.seat self.new ≡ Self.seat self.old }
-        ensures own { Self.own self.new ≡ Self.own self.old }
-        ensures known { KnowsOn (Self.known self.old) (Self.known self.new) }
+        ensures undisturbed { Undisturbed Self.seat Self.own Self.known Self.shows self.old self.new }
         ensures told { result ≡ (Self.known self.new).told }
         ensures near { IsNear (Self.own self.new) (Self.known self.new) }
         ensures lone { IsLone (Self.seat self.old) → (Self.known self.new).told ≡ (Self.known self.old).told }
-        ensures exact { IsExact (Self.seat self.old) → (result ≡ (Self.world self.old).time.count) × (Self.world self.new ≡ Self.world self.old) }
-        ensures keeps { KeepsShown (Self.shows self.old) (Self.shows self.new) };
+        ensures exact { IsExact (Self.seat self.old) → (result ≡ (Self.world self.old).time.count) × (Self.world self.new ≡ Self.world self.old) };
 
     fn has_garbage(&self) -> bool
         requires seated { IsSeated (Self.seat self.now) }
@@ -67,19 +65,15 @@ pub trait Guards<T: Item<T>>: Caller<T> {
 
     fn stir(&mut self)
         requires seated { IsSeated (Self.seat self.old) }
-        ensures seat { Self.seat self.new ≡ Self.seat self.old }
+        ensures unmoved { Unmoved Self.seat Self.known Self.shows self.old self.new }
         ensures own { Self.own self.new ≡ with_garbage (Self.own self.old) }
-        ensures known { KnowsOn (Self.known self.old) (Self.known self.new) }
         ensures lone { IsLone (Self.seat self.old) → Self.known self.new ≡ Self.known self.old }
-        ensures exact { IsExact (Self.seat self.old) → Self.world self.new ≡ stirred (Self.world self.old) (Self.seat self.old).place }
-        ensures keeps { KeepsShown (Self.shows self.old) (Self.shows self.new) };
+        ensures exact { IsExact (Self.seat self.old) → Self.world self.new ≡ stirred (Self.world self.old) (Self.seat self.old).place };
 
     fn accelerate(&mut self)
         requires seated { IsSeated (Self.seat self.old) }
-        ensures seat { Self.seat self.new ≡ Self.seat self.old }
+        ensures unmoved { Unmoved Self.seat Self.known Self.shows self.old self.new }
         ensures own { Self.own self.new ≡ time.accelerated (Self.own self.old) }
-        ensures known { KnowsOn (Self.known self.old) (Self.known self.new) }
         ensures lone { IsLone (Self.seat self.old) → Self.known self.new ≡ Self.known self.old }
-        ensures exact { IsExact (Self.seat self.old) → Self.world self.new ≡ accelerated (Self.world self.old) (Self.seat self.old).place }
-        ensures keeps { KeepsShown (Self.shows self.old) (Self.shows self.new) };
+        ensures exact { IsExact (Self.seat self.old) → Self.world self.new ≡ accelerated (Self.world self.old) (Self.seat self.old).place };
 }

@@ -5,12 +5,11 @@ ghost use Rattle.sdd_store.specs.Table.{IsEmptyAt, IsFull};
 ghost use Rattle.sdd_base.specs.Holding.{AreOf};
 ghost use Rattle.sdd_base.specs.World.{standing_at};
 ghost use Rattle.sdd_base.specs.Seat.{IsSeated, IsExact, IsLone};
-ghost use Rattle.sdd_base.specs.Known.{KnowsOn};
+ghost use Rattle.sdd_base.specs.Undisturbed.{Undisturbed, Unmoved};
 ghost use Rattle.sdd_token.specs.Kind.{IsOwner};
 ghost use Rattle.sdd_token.specs.Right.{number_of, home_of, kind_of};
 ghost use Rattle.sdd_standings.specs.Slots.{IsOwnedBy, first_standing, has_others};
 ghost use Rattle.sdd_base.specs.Guard.{reader_of};
-ghost use Rattle.sdd_base.specs.Ptr.{KeepsShown};
 ghost use Rattle.sdd_base.specs.Steps.{made_as, owner_given};
 
 use crate::guard::Guard;
@@ -31,9 +30,7 @@ pub trait Items<T: Item<T>>: Caller<T> {
         requires seated { IsSeated (Self.seat self.old) }
         requires home { AreOf (Self.seat self.old).home (T.holds value) }
         requires owner { IsOwner kind }
-        ensures seat { Self.seat self.new ≡ Self.seat self.old }
-        ensures own { Self.own self.new ≡ Self.own self.old }
-        ensures known { KnowsOn (Self.known self.old) (Self.known self.new) }
+        ensures undisturbed { Undisturbed Self.seat Self.own Self.known Self.shows self.old self.new }
         ensures home { IfOk result (λ right. home_of right ≡ (Self.seat self.old).home.slots) }
         ensures kind { IfOk result (λ right. kind_of right ≡ kind) }
         ensures shown { IfOk result (λ right. Self.owns_value self.new right value) }
@@ -42,8 +39,7 @@ pub trait Items<T: Item<T>>: Caller<T> {
         ensures exact { IsExact (Self.seat self.old) → MatchResult result
             (λ right. IsEmptyAt (Self.world self.old).standings (number_of right) ×
             (Self.world self.new ≡ made_as (Self.world self.old) (number_of right) value (first_standing kind)))
-            (λ e. IsFull (Self.world self.old).standings × (e ≡ (value, Refused.NoSlot)) × (Self.world self.new ≡ Self.world self.old)) }
-        ensures keeps { KeepsShown (Self.shows self.old) (Self.shows self.new) };
+            (λ e. IsFull (Self.world self.old).standings × (e ≡ (value, Refused.NoSlot)) × (Self.world self.new ≡ Self.world self.old)) };
 
     /// Makes a value and puts it into a free slot, for an owner of this kind; where none is free it isn't made.
     fn make_with<F: FnOnce() -> T>(&mut self, make: F, kind: Kind) -> Result<Right, (F, Refused)>
@@ -51,9 +47,7 @@ pub trait Items<T: Item<T>>: Caller<T> {
         requires callable { F.pre make }
         requires home { (value : T) → F.post make value → AreOf (Self.seat self.old).home (T.holds value) }
         requires owner { IsOwner kind }
-        ensures seat { Self.seat self.new ≡ Self.seat self.old }
-        ensures own { Self.own self.new ≡ Self.own self.old }
-        ensures known { KnowsOn (Self.known self.old) (Self.known self.new) }
+        ensures undisturbed { Undisturbed Self.seat Self.own Self.known Self.shows self.old self.new }
         ensures home { IfOk result (λ right. home_of right ≡ (Self.seat self.old).home.slots) }
         ensures kind { IfOk result (λ right. kind_of right ≡ kind) }
         ensures shown { IfOk result (λ right. (value : T) × F.post make value × Self.owns_value self.new right value) }
@@ -62,21 +56,17 @@ pub trait Items<T: Item<T>>: Caller<T> {
         ensures exact { IsExact (Self.seat self.old) → MatchResult result
             (λ right. IsEmptyAt (Self.world self.old).standings (number_of right) ×
             ((value : T) × F.post make value × (Self.world self.new ≡ made_as (Self.world self.old) (number_of right) value (first_standing kind))))
-            (λ e. IsFull (Self.world self.old).standings × (e ≡ (make, Refused.NoSlot)) × (Self.world self.new ≡ Self.world self.old)) }
-        ensures keeps { KeepsShown (Self.shows self.old) (Self.shows self.new) };
+            (λ e. IsFull (Self.world self.old).standings × (e ≡ (make, Refused.NoSlot)) × (Self.world self.new ≡ Self.world self.old)) };
 
     /// The value of an owner's item, for as long as the guard is borrowed, whatever becomes of the item.
     fn guarded<'g>(&mut self, right: &Right, guard: &'g Guard) -> &'g T
         requires seated { IsSeated (Self.seat self.old) }
         requires home { home_of right.now ≡ (Self.seat self.old).home.slots }
         requires reader { reader_of guard.now ≡ (Self.seat self.old).reader }
-        ensures seat { Self.seat self.new ≡ Self.seat self.old }
-        ensures own { Self.own self.new ≡ Self.own self.old }
-        ensures known { KnowsOn (Self.known self.old) (Self.known self.new) }
+        ensures undisturbed { Undisturbed Self.seat Self.own Self.known Self.shows self.old self.new }
         ensures shown { Self.shows self.new (number_of right.now) result.now }
         ensures value { Self.owns_value self.new right.now result.now }
-        ensures exact { IsExact (Self.seat self.old) → Self.world self.new ≡ Self.world self.old }
-        ensures keeps { KeepsShown (Self.shows self.old) (Self.shows self.new) };
+        ensures exact { IsExact (Self.seat self.old) → Self.world self.new ≡ Self.world self.old };
 
     /// An owner of this kind lets its item go, and is told whether it was the last. The last one's item waits with the participant.
     ///
@@ -85,16 +75,14 @@ pub trait Items<T: Item<T>>: Caller<T> {
         requires seated { IsSeated (Self.seat self.old) }
         requires home { home_of right ≡ (Self.seat self.old).home.slots }
         requires kind { kind_of right ≡ kind }
-        ensures seat { Self.seat self.new ≡ Self.seat self.old }
+        ensures unmoved { Unmoved Self.seat Self.known Self.shows self.old self.new }
         ensures own { Self.own self.new ≡ (if result then time.awaiting (Item (number_of right)) (Self.own self.old) else Self.own self.old) }
         ensures sole { kind_of right ≡ Kind.Owned → IsTrue result }
         ensures owned { IsExact (Self.seat self.old) → IsOwnedBy (kind_of right) (standing_at (Self.world self.old) (number_of right)) }
-        ensures known { KnowsOn (Self.known self.old) (Self.known self.new) }
         ensures last { IsExact (Self.seat self.old) →
             IsTrue result ↔ ¬ (IsTrue (has_others (standing_at (Self.world self.old) (number_of right)))) }
         ensures exact { IsExact (Self.seat self.old) → Self.world self.new ≡
-            owner_given (Self.world self.old) (Self.seat self.old).place (number_of right) (standing_at (Self.world self.old) (number_of right)) }
-        ensures keeps { KeepsShown (Self.shows self.old) (Self.shows self.new) };
+            owner_given (Self.world self.old) (Self.seat self.old).place (number_of right) (standing_at (Self.world self.old) (number_of right)) };
 
     /// How many slots there are.
     fn slots(&self) -> u64
@@ -104,13 +92,10 @@ pub trait Items<T: Item<T>>: Caller<T> {
     /// A slot was found free. Where others fill slots too, it may be full again when that is answered.
     fn has_slot(&mut self) -> bool
         requires seated { IsSeated (Self.seat self.old) }
-        ensures seat { Self.seat self.new ≡ Self.seat self.old }
-        ensures own { Self.own self.new ≡ Self.own self.old }
-        ensures known { KnowsOn (Self.known self.old) (Self.known self.new) }
+        ensures undisturbed { Undisturbed Self.seat Self.own Self.known Self.shows self.old self.new }
         ensures lone { IsLone (Self.seat self.old) → IsTrue result ↔ ¬ (is_used_up self.old) }
         ensures exact { IsExact (Self.seat self.old) →
-            (IsTrue result ↔ ¬ (IsFull (Self.world self.old).standings)) × (Self.world self.new ≡ Self.world self.old) }
-        ensures keeps { KeepsShown (Self.shows self.old) (Self.shows self.new) };
+            (IsTrue result ↔ ¬ (IsFull (Self.world self.old).standings)) × (Self.world self.new ≡ Self.world self.old) };
 
     /// A law, which changes nothing: in an exact space an owner's item has the value that its slot shows.
     fn owned_is_shown(&mut self, right: &Right)

@@ -3,9 +3,8 @@ ghost use Rattle.sdd_store.specs.Table.{IsEmptyAt, IsFull};
 ghost use Rattle.sdd_base.specs.World.{pointer_at};
 ghost use Rattle.sdd_base.specs.Seat.{IsSeated, IsExact};
 ghost use Rattle.sdd_base.specs.Refusals.{IsContended, IsRefusedBy};
-ghost use Rattle.sdd_base.specs.Known.{KnowsOn};
+ghost use Rattle.sdd_base.specs.Undisturbed.{Undisturbed};
 ghost use Rattle.sdd_token.specs.Right.{raw_number_of, raw_home_of};
-ghost use Rattle.sdd_base.specs.Ptr.{KeepsShown};
 ghost use Rattle.sdd_base.specs.RawPtr as raw;
 ghost use Rattle.sdd_base.specs.Out.{IsNullCell};
 ghost use Rattle.sdd_base.specs.Steps.{with_pointer, pointing, without_cell};
@@ -24,39 +23,30 @@ pub trait RawCells<T: Item<T>>: Caller<T> {
     /// `NoCell` where none is free; `Contended`, in a domain alone, where as many exchanges were lost as its limits allow.
     fn make_raw_cell(&mut self, pointer: Pointer) -> Result<RawRight, Refused>
         requires seated { IsSeated (Self.seat self.old) }
-        ensures seat { Self.seat self.new ≡ Self.seat self.old }
-        ensures own { Self.own self.new ≡ Self.own self.old }
-        ensures known { KnowsOn (Self.known self.old) (Self.known self.new) }
+        ensures undisturbed { Undisturbed Self.seat Self.own Self.known Self.shows self.old self.new }
         ensures home { IfOk result (λ cell. raw_home_of cell ≡ (Self.seat self.old).home.cells) }
         ensures back { IfErr result (IsRefusedBy (Self.seat self.old) Refused.NoCell) }
         ensures exact { IsExact (Self.seat self.old) → MatchResult result
             (λ cell. IsEmptyAt (Self.world self.old).cells (raw_number_of cell) ×
             (Self.world self.new ≡ pointing (Self.world self.old) (raw_number_of cell) pointer))
-            (λ e. IsFull (Self.world self.old).cells × (e ≡ Refused.NoCell) × (Self.world self.new ≡ Self.world self.old)) }
-        ensures keeps { KeepsShown (Self.shows self.old) (Self.shows self.new) };
+            (λ e. IsFull (Self.world self.old).cells × (e ≡ Refused.NoCell) × (Self.world self.new ≡ Self.world self.old)) };
 
     /// What a raw cell points to at this moment.
     fn pointer(&mut self, cell: &RawRight) -> Pointer
         requires seated { IsSeated (Self.seat self.old) }
         requires home { raw_home_of cell.now ≡ (Self.seat self.old).home.cells }
-        ensures seat { Self.seat self.new ≡ Self.seat self.old }
-        ensures own { Self.own self.new ≡ Self.own self.old }
-        ensures known { KnowsOn (Self.known self.old) (Self.known self.new) }
+        ensures undisturbed { Undisturbed Self.seat Self.own Self.known Self.shows self.old self.new }
         ensures exact { IsExact (Self.seat self.old) →
-            (pointer_at (Self.world self.old) (raw_number_of cell.now) ≡ Some result) × (Self.world self.new ≡ Self.world self.old) }
-        ensures keeps { KeepsShown (Self.shows self.old) (Self.shows self.new) };
+            (pointer_at (Self.world self.old) (raw_number_of cell.now) ≡ Some result) × (Self.world self.new ≡ Self.world self.old) };
 
     /// A raw cell points to this. What it pointed to.
     fn swap_pointer(&mut self, cell: &RawRight, new: Pointer) -> Pointer
         requires seated { IsSeated (Self.seat self.old) }
         requires home { raw_home_of cell.now ≡ (Self.seat self.old).home.cells }
-        ensures seat { Self.seat self.new ≡ Self.seat self.old }
-        ensures own { Self.own self.new ≡ Self.own self.old }
-        ensures known { KnowsOn (Self.known self.old) (Self.known self.new) }
+        ensures undisturbed { Undisturbed Self.seat Self.own Self.known Self.shows self.old self.new }
         ensures exact { IsExact (Self.seat self.old) →
             (pointer_at (Self.world self.old) (raw_number_of cell.now) ≡ Some result) ×
-            (Self.world self.new ≡ with_pointer (Self.world self.old) (raw_number_of cell.now) new) }
-        ensures keeps { KeepsShown (Self.shows self.old) (Self.shows self.new) };
+            (Self.world self.new ≡ with_pointer (Self.world self.old) (raw_number_of cell.now) new) };
 
     /// The same, if it points to what was expected; else what it points to comes back.
     fn exchange_pointer(
@@ -67,14 +57,11 @@ pub trait RawCells<T: Item<T>>: Caller<T> {
     ) -> Result<(), Pointer>
         requires seated { IsSeated (Self.seat self.old) }
         requires home { raw_home_of cell.now ≡ (Self.seat self.old).home.cells }
-        ensures seat { Self.seat self.new ≡ Self.seat self.old }
-        ensures own { Self.own self.new ≡ Self.own self.old }
-        ensures known { KnowsOn (Self.known self.old) (Self.known self.new) }
+        ensures undisturbed { Undisturbed Self.seat Self.own Self.known Self.shows self.old self.new }
         ensures exact { IsExact (Self.seat self.old) → MatchResult result
             (λ _. (pointer_at (Self.world self.old) (raw_number_of cell.now) ≡ Some current) ×
             (Self.world self.new ≡ with_pointer (Self.world self.old) (raw_number_of cell.now) new))
-            (λ now. (pointer_at (Self.world self.old) (raw_number_of cell.now) ≡ Some now) × (now ≢ current) × (Self.world self.new ≡ Self.world self.old)) }
-        ensures keeps { KeepsShown (Self.shows self.old) (Self.shows self.new) };
+            (λ now. (pointer_at (Self.world self.old) (raw_number_of cell.now) ≡ Some now) × (now ≢ current) × (Self.world self.new ≡ Self.world self.old)) };
 
     /// A raw cell's pointer has another tag, if the condition holds of it.
     ///
@@ -88,15 +75,12 @@ pub trait RawCells<T: Item<T>>: Caller<T> {
         requires seated { IsSeated (Self.seat self.old) }
         requires home { raw_home_of cell.now ≡ (Self.seat self.old).home.cells }
         requires callable { F.IsAlwaysCallable condition }
-        ensures seat { Self.seat self.new ≡ Self.seat self.old }
-        ensures own { Self.own self.new ≡ Self.own self.old }
-        ensures known { KnowsOn (Self.known self.old) (Self.known self.new) }
+        ensures undisturbed { Undisturbed Self.seat Self.own Self.known Self.shows self.old self.new }
         ensures back { IfErr result (IsContended (Self.seat self.old)) }
         ensures exact { IsExact (Self.seat self.old) → IsOk result × IfOk result (λ changed. (ptr : RawPtr T) ×
             (pointer_at (Self.world self.old) (raw_number_of cell.now) ≡ Some (raw.pointer_of ptr)) × F.post condition ptr changed ×
             (Self.world self.new ≡ (if changed
-            then with_pointer (Self.world self.old) (raw_number_of cell.now) (record (raw.pointer_of ptr) { tag = tag }) else Self.world self.old))) }
-        ensures keeps { KeepsShown (Self.shows self.old) (Self.shows self.new) };
+            then with_pointer (Self.world self.old) (raw_number_of cell.now) (record (raw.pointer_of ptr) { tag = tag }) else Self.world self.old))) };
 
     /// A raw cell points to what `f` makes of its pointer, if that is anything. What it pointed to, or points to still.
     ///
@@ -109,25 +93,19 @@ pub trait RawCells<T: Item<T>>: Caller<T> {
         requires seated { IsSeated (Self.seat self.old) }
         requires home { raw_home_of cell.now ≡ (Self.seat self.old).home.cells }
         requires callable { F.IsAlwaysCallable f }
-        ensures seat { Self.seat self.new ≡ Self.seat self.old }
-        ensures own { Self.own self.new ≡ Self.own self.old }
-        ensures known { KnowsOn (Self.known self.old) (Self.known self.new) }
+        ensures undisturbed { Undisturbed Self.seat Self.own Self.known Self.shows self.old self.new }
         ensures back { IfErr result (IsContended (Self.seat self.old)) }
         ensures exact { IsExact (Self.seat self.old) → IsOk result × IfOk result (λ updated. MatchResult updated
             (λ was. (next : RawPtr T) × (pointer_at (Self.world self.old) (raw_number_of cell.now) ≡ Some (raw.pointer_of was)) × F.post f was (Some next) ×
             (Self.world self.new ≡ with_pointer (Self.world self.old) (raw_number_of cell.now) (raw.pointer_of next)))
             (λ now. (pointer_at (Self.world self.old) (raw_number_of cell.now) ≡ Some (raw.pointer_of now)) × F.post f now None ×
-            (Self.world self.new ≡ Self.world self.old))) }
-        ensures keeps { KeepsShown (Self.shows self.old) (Self.shows self.new) };
+            (Self.world self.new ≡ Self.world self.old))) };
 
     /// Gives a raw cell up. It holds nothing.
     fn close_raw_cell(&mut self, cell: RawRight)
         requires seated { IsSeated (Self.seat self.old) }
         requires home { raw_home_of cell ≡ (Self.seat self.old).home.cells }
-        ensures seat { Self.seat self.new ≡ Self.seat self.old }
-        ensures own { Self.own self.new ≡ Self.own self.old }
-        ensures known { KnowsOn (Self.known self.old) (Self.known self.new) }
+        ensures undisturbed { Undisturbed Self.seat Self.own Self.known Self.shows self.old self.new }
         ensures exact { IsExact (Self.seat self.old) → IsNullCell (Self.world self.old) (raw_number_of cell) ×
-            (Self.world self.new ≡ without_cell (Self.world self.old) (raw_number_of cell)) }
-        ensures keeps { KeepsShown (Self.shows self.old) (Self.shows self.new) };
+            (Self.world self.new ≡ without_cell (Self.world self.old) (raw_number_of cell)) };
 }

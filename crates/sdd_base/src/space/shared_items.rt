@@ -2,10 +2,9 @@ ghost use Rattle.std.specs.Prelude.{◌≡◌, ◌+◌, ◌^◌, ◌<◌, ℕ, I
 ghost use Rattle.sdd_base.specs.World.{standing_at};
 ghost use Rattle.sdd_base.specs.Seat.{IsSeated, IsExact};
 ghost use Rattle.sdd_base.specs.Refusals.{IsRefusedBy};
-ghost use Rattle.sdd_base.specs.Known.{KnowsOn};
+ghost use Rattle.sdd_base.specs.Undisturbed.{Undisturbed};
 ghost use Rattle.sdd_token.specs.Right.{number_of, home_of, kind_of};
 ghost use Rattle.sdd_standings.specs.Slots.{IsSharedBy, owners_of};
-ghost use Rattle.sdd_base.specs.Ptr.{KeepsShown};
 ghost use Rattle.sdd_base.specs.Steps.{with_standing};
 
 use crate::item::Item;
@@ -23,9 +22,7 @@ pub trait SharedItems<T: Item<T>>: Caller<T> {
         requires seated { IsSeated (Self.seat self.old) }
         requires home { home_of right.now ≡ (Self.seat self.old).home.slots }
         requires kind { kind_of right.now ≡ Kind.Shared }
-        ensures seat { Self.seat self.new ≡ Self.seat self.old }
-        ensures own { Self.own self.new ≡ Self.own self.old }
-        ensures known { KnowsOn (Self.known self.old) (Self.known self.new) }
+        ensures undisturbed { Undisturbed Self.seat Self.own Self.known Self.shows self.old self.new }
         ensures home { IfOk result (λ other. home_of other ≡ (Self.seat self.old).home.slots) }
         ensures slot { IfOk result (λ other. number_of other ≡ number_of right.now) }
         ensures kind { IfOk result (λ other. kind_of other ≡ Kind.Shared) }
@@ -35,17 +32,14 @@ pub trait SharedItems<T: Item<T>>: Caller<T> {
             MatchResult result
             (λ _. (owners < 2 ^ 62) ×
             (Self.world self.new ≡ with_standing (Self.world self.old) (number_of right.now) (Standing.Shared (owners + 1))))
-            (λ e. (owners ≡ 2 ^ 62) × (e ≡ Refused.TooManyOwners) × (Self.world self.new ≡ Self.world self.old)) }
-        ensures keeps { KeepsShown (Self.shows self.old) (Self.shows self.new) };
+            (λ e. (owners ≡ 2 ^ 62) × (e ≡ Refused.TooManyOwners) × (Self.world self.new ≡ Self.world self.old)) };
 
     /// One owner more of the item in a slot, if it is shared. What the slot shows is its value.
     ///
     /// `TooManyOwners` where as many share the item as may; `Contended`, in a domain alone, where others changed how many do too often meanwhile.
     fn upgrade(&mut self, slot: u32) -> Result<Option<Right>, Refused>
         requires seated { IsSeated (Self.seat self.old) }
-        ensures seat { Self.seat self.new ≡ Self.seat self.old }
-        ensures own { Self.own self.new ≡ Self.own self.old }
-        ensures known { KnowsOn (Self.known self.old) (Self.known self.new) }
+        ensures undisturbed { Undisturbed Self.seat Self.own Self.known Self.shows self.old self.new }
         ensures home { IfOk result (λ o. IfSome o (λ right. home_of right ≡ (Self.seat self.old).home.slots)) }
         ensures slot { IfOk result (λ o. IfSome o (λ right. number_of right ≡ slot)) }
         ensures kind { IfOk result (λ o. IfSome o (λ right. kind_of right ≡ Kind.Shared)) }
@@ -56,6 +50,5 @@ pub trait SharedItems<T: Item<T>>: Caller<T> {
             ((owners_of (standing_at (Self.world self.old) slot) ≡ None) × (Self.world self.new ≡ Self.world self.old))
             (λ _. (owners : ℕ) × IsSharedBy owners (standing_at (Self.world self.old) slot) × (owners < 2 ^ 62) ×
             (Self.world self.new ≡ with_standing (Self.world self.old) slot (Standing.Shared (owners + 1)))))
-            (λ e. IsSharedBy (2 ^ 62) (standing_at (Self.world self.old) slot) × (e ≡ Refused.TooManyOwners) × (Self.world self.new ≡ Self.world self.old)) }
-        ensures keeps { KeepsShown (Self.shows self.old) (Self.shows self.new) };
+            (λ e. IsSharedBy (2 ^ 62) (standing_at (Self.world self.old) slot) × (e ≡ Refused.TooManyOwners) × (Self.world self.new ≡ Self.world self.old)) };
 }

@@ -21,7 +21,7 @@ returns-clause-world g c =
     let here : slot_of c.in-Some.owner ≡ slot =
     ap (λ (o : Option ℕ). unwrap_or o 0) (sym c.in-Some.ensures.slot ∙ c.into_raw-ptr.ensures.slot) in
     let out = c.into_raw-ptr.ensures.exact c.requires.exact in
-    let there = (c.in-Some.ensures.exact (rw c.into_raw-ptr.ensures.seat c.requires.exact)).1 in
+    let there = (c.in-Some.ensures.exact (rw c.into_raw-ptr.ensures.undisturbed.seat c.requires.exact)).1 in
     there
     ∙ ap (λ (k : ℕ). with_standing (g.S.Caller.world c.into_raw-ptr.new.s) k Owned) here
     ∙ ap (λ (u : World _). with_standing u slot Owned) out

@@ -9,7 +9,7 @@ loop-turn-preserved g c =
     (under-guard _ _ _ _ _ (own c.new.new.s) (own c.accelerate.new.s) _ _ (world c.new.new.s) (world c.accelerate.new.s) _
     opening.seat opening.own.1 (λ exact. (opening.exact exact).1)
     (record {
-      seat = faster.seat;
+      seat = faster.unmoved.seat;
       guards = as-many faster.own;
       kept = λ exact. as-much (faster.exact exact);
     })

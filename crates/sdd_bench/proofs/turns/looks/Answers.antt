@@ -11,7 +11,7 @@ returns-in-Ok-new g c =
     two-leave _ _ _ _ _ _ _ _ _ _
     (world c.args.space.now) (world c.new.new.s) (world c.new-2.new.s) (world c.retire.new.s) (world c.retire-in-Ok-new.new.s)
     (slot_of c.in-Ok.one) (slot_of c.in-Ok-new.other) 1 3
-    one.seat one.own one.exact other.seat other.own other.exact first.seat first.own first.exact second.seat second.own second.exact
+    one.seat one.own one.exact other.seat other.own other.exact first.unmoved.seat first.own first.exact second.unmoved.seat second.own second.exact
 
 pub returns-in-Err-new : goal.returns-in-Err-new
 returns-in-Err-new g c =
@@ -23,4 +23,4 @@ returns-in-Err-new g c =
     let is = one.exact exact in
     let same = (none.exact (subst (λ (s : Seat). IsExact s) (sym one.seat) exact)).2 in
     (is.0, same ∙ is.1))
-    last.seat last.own last.exact
+    last.unmoved.seat last.own last.exact

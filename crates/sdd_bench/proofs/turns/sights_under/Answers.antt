@@ -17,4 +17,4 @@ returns-in-Ok-new g c =
     let is = other.exact exact in
     let same = found.exact (subst (λ (s : Seat). IsExact s) (sym other.seat) exact) in
     (is.0, same ∙ is.1))
-    first.seat first.own first.exact second.seat second.own second.exact
+    first.unmoved.seat first.own first.exact second.unmoved.seat second.own second.exact

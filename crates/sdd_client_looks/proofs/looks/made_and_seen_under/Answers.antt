@@ -12,8 +12,8 @@ returns-clause-first g c =
     let right = right_of c.in-Ok.owner in
     let first = c.get_guarded_ref-first in
     let kept = items.keeps_owned c.new.new.s first.new.s
-    (caller.home_is_seat c.new.new.s ∙ (ap (λ (x : Seat). x.home) (sym first.ensures.seat) ∙ sym (caller.home_is_seat first.new.s)))
-    first.ensures.keeps right c.args.value c.in-Ok.ensures.shown in
+    (caller.home_is_seat c.new.new.s ∙ (ap (λ (x : Seat). x.home) (sym first.ensures.undisturbed.seat) ∙ sym (caller.home_is_seat first.new.s)))
+    first.ensures.undisturbed.shown right c.args.value c.in-Ok.ensures.shown in
     items.one_owned first.new.s right first.result.now c.args.value first.ensures.value kept
 
 pub returns-clause-second : goal.returns-clause-second
@@ -24,14 +24,14 @@ returns-clause-second g c =
     let first = c.get_guarded_ref-first in
     let inner = c.new-2 in
     let second = c.get_guarded_ref-second in
-    let opened : IsTrue (is_open (g.S.Caller.own first.new.s)) = ap is_open (first.ensures.own ∙ c.in-Ok.ensures.own) ∙ c.requires.open in
+    let opened : IsTrue (is_open (g.S.Caller.own first.new.s)) = ap is_open (first.ensures.undisturbed.own ∙ c.in-Ok.ensures.own) ∙ c.requires.open in
     let at_first = items.keeps_owned c.new.new.s first.new.s
-    (caller.home_is_seat c.new.new.s ∙ (ap (λ (x : Seat). x.home) (sym first.ensures.seat) ∙ sym (caller.home_is_seat first.new.s)))
-    first.ensures.keeps right c.args.value c.in-Ok.ensures.shown in
+    (caller.home_is_seat c.new.new.s ∙ (ap (λ (x : Seat). x.home) (sym first.ensures.undisturbed.seat) ∙ sym (caller.home_is_seat first.new.s)))
+    first.ensures.undisturbed.shown right c.args.value c.in-Ok.ensures.shown in
     let at_inner = items.keeps_owned first.new.s inner.new.s
     (caller.home_is_seat first.new.s ∙ (ap (λ (x : Seat). x.home) (sym c.in-Ok-new.ensures.seat) ∙ sym (caller.home_is_seat inner.new.s)))
     (c.in-Ok-new.ensures.keeps opened) right c.args.value at_first in
     let kept = items.keeps_owned inner.new.s second.new.s
-    (caller.home_is_seat inner.new.s ∙ (ap (λ (x : Seat). x.home) (sym second.ensures.seat) ∙ sym (caller.home_is_seat second.new.s)))
-    second.ensures.keeps right c.args.value at_inner in
+    (caller.home_is_seat inner.new.s ∙ (ap (λ (x : Seat). x.home) (sym second.ensures.undisturbed.seat) ∙ sym (caller.home_is_seat second.new.s)))
+    second.ensures.undisturbed.shown right c.args.value at_inner in
     items.one_owned second.new.s right second.result.now c.args.value second.ensures.value kept

@@ -5,28 +5,22 @@ returns-in-Ok g c =
     let made = c.in-Ok.ensures in
     rw (c.of_right.ensures)
     record {
-      seat = made.seat;
-      own = made.own;
-      known = made.known;
+      undisturbed = made.undisturbed;
       home = made.home;
       shown = made.shown;
       back = made.back;
       lone = made.lone;
       exact = made.exact;
-      keeps = made.keeps;
     }
 
 pub returns-in-Err : goal.returns-in-Err
 returns-in-Err g c =
     let kept = c.in-Err.ensures in
     record {
-      seat = kept.seat;
-      own = kept.own;
-      known = kept.known;
+      undisturbed = kept.undisturbed;
       home = kept.home;
       shown = kept.shown;
       back = kept.back;
       lone = kept.lone;
       exact = kept.exact;
-      keeps = kept.keeps;
     }

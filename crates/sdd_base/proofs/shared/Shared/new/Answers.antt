@@ -12,29 +12,23 @@ returns-in-Ok g c =
     let was = g.S.Caller.world c.args.s.now in
     let now = g.S.Caller.world c.make.new.self in
     record {
-      seat = put.seat;
-      own = put.own;
-      known = put.known;
+      undisturbed = put.undisturbed;
       home = ap home_of same ∙ put.home;
       shown = subst (λ (r : Right). g.S.Shows.owns_value c.make.new.self r c.args.value) (sym same) put.shown;
       back = put.back;
       lone = put.lone;
       exact = λ e.
           subst (λ (r : Right). IsEmptyAt was.standings (number_of r) × (now ≡ made_shared was (number_of r) c.args.value)) (sym same) (put.exact e);
-      keeps = put.keeps;
     }
 
 pub returns-in-Err : goal.returns-in-Err
 returns-in-Err g c =
     let kept = c.in-Err.ensures in
     record {
-      seat = kept.seat;
-      own = kept.own;
-      known = kept.known;
+      undisturbed = kept.undisturbed;
       home = kept.home;
       shown = kept.shown;
       back = kept.back;
       lone = kept.lone;
       exact = kept.exact;
-      keeps = kept.keeps;
     }
