@@ -7,8 +7,8 @@ use Rattle.sdd_bench.proofs.cells.swap.Goals as goal
 pub returns-in-Some-default-clause-filled : goal.returns-in-Some-default-clause-filled
 returns-in-Some-default-clause-filled g c = λ exact.
     let cell : ℕ = cell_of c.args.cell.now in
-    let swapped = c.swap.ensures.exact (rw c.in-Ok.ensures.seat exact) in
-    let retired = c.retire.ensures.exact (rw (c.swap.ensures.undisturbed.seat, c.in-Ok.ensures.seat) exact) in
+    let swapped = c.swap.ensures.exact (rw c.in-Ok.ensures.undisturbed.seat exact) in
+    let retired = c.retire.ensures.exact (rw (c.swap.ensures.undisturbed.seat, c.in-Ok.ensures.undisturbed.seat) exact) in
     (slot_of c.in-Ok.next, no_tag, rw (retired, swapped.1) (set-there _ cell _ _ swapped.0))
 
 pub returns-in-Err-clause-filled : goal.returns-in-Err-clause-filled

@@ -6,14 +6,15 @@ pub returns-in-Ok : goal.returns-in-Ok
 returns-in-Ok g n c =
     let making = c.in-Ok.ensures in let retiring = c.retire.ensures in
     let world = g.S.Caller.world in
-    item-around _ _ _ _ _ _ _ _ (world c.args.space.now) (world c.new.new.s) (world c.items_beside-done.new.space) (world c.retire.new.s) (slot_of c.in-Ok.owner) c.args.others
-    making.seat making.own making.exact c.items_beside-done.ensures retiring.unmoved.seat retiring.own retiring.owned retiring.exact
+    item-around _ _ _ _ _ _ _ _ (world c.args.space.now) (world c.new.new.s) (world c.items_beside-done.new.space) (world c.retire.new.s)
+    (slot_of c.in-Ok.owner) c.args.others
+    making.undisturbed.seat making.undisturbed.own making.exact c.items_beside-done.ensures retiring.unmoved.seat retiring.own retiring.owned retiring.exact
 
 pub returns-in-Err : goal.returns-in-Err
 returns-in-Err g n c =
     let none = c.in-Err.ensures in
     record {
-      seat = none.seat;
-      guards = as-many none.own;
+      seat = none.undisturbed.seat;
+      guards = as-many none.undisturbed.own;
       kept = λ exact. as-much ((none.exact exact).2);
     }

@@ -10,8 +10,8 @@ returns-in-Err g c =
     (under-guard _ _ _ _ _ (own c.new.new.s) (own c.new-in-loop-turn.new.s) _ _ (world c.new.new.s) (world c.new-in-loop-turn.new.s) _
     opening.seat opening.own.1 (λ exact. (opening.exact exact).1)
     (record {
-      seat = none.seat;
-      guards = as-many none.own;
+      seat = none.undisturbed.seat;
+      guards = as-many none.undisturbed.own;
       kept = λ exact. as-much ((none.exact exact).2);
     })
     closing.seat closing.own closing.exact)
@@ -25,5 +25,5 @@ loop-turn-preserved g c =
     (under-guard _ _ _ _ _ (own c.new.new.s) (own c.retire.new.s) _ _ (world c.new.new.s) (world c.retire.new.s) _
     opening.seat opening.own.1 (λ exact. (opening.exact exact).1)
     (item-leaves _ _ _ _ _ _ (world c.new.new.s) (world c.new-in-loop-turn.new.s) (world c.retire.new.s) (slot_of c.in-Ok.owner) c.loop-turn.turn
-    making.seat making.own making.exact retiring.unmoved.seat retiring.own retiring.exact)
+    making.undisturbed.seat making.undisturbed.own making.exact retiring.unmoved.seat retiring.own retiring.exact)
     closing.seat closing.own closing.exact)

@@ -11,7 +11,7 @@ returns-in-Err g c =
     (under-guard _ _ _ _ _ (own c.new.new.s) (own c.defer_execute-deferred.new.s) _ _ (world c.new.new.s) (world c.defer_execute-deferred.new.s) _
     opening.seat opening.own.1 (λ exact. (opening.exact exact).1)
     (record {
-      seat = none.seat;
+      seat = none.unmoved.seat;
       guards = as-many none.own;
       kept = λ exact. as-much ((none.exact exact).2);
     })
@@ -26,7 +26,7 @@ loop-preserved g c =
     (under-guard _ _ _ _ _ (own c.new.new.s) (own c.defer_execute-deferred.new.s) _ _ (world c.new.new.s) (world c.defer_execute-deferred.new.s) _
     opening.seat opening.own.1 (λ exact. (opening.exact exact).1)
     (record {
-      seat = deferring.seat;
+      seat = deferring.unmoved.seat;
       guards = ap (λ (p : Participant). p.guards) deferring.own.1;
       kept = λ exact. as-much ((deferring.exact exact).2);
     })

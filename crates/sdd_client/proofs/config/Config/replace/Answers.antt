@@ -12,11 +12,11 @@ returns-clause-exact g c = λ exact slot owners old set.
     let make = c.in_ok-next.ensures in let swap = c.swap-before.ensures in let release = c.release.ensures in
     let made = make.exact exact in
     let law = c.shared_is_shown.ensures in
-    let first : IsExact (seat c.new.new.s) = rw make.seat exact in
+    let first : IsExact (seat c.new.new.s) = rw make.undisturbed.seat exact in
     let same : IsExact (seat c.shared_is_shown.new.s) = rw law.same first in
     let swapped = rw (c.in-Some.is, law.same) at (swap.exact same) in
     let second : IsExact (seat c.swap-before.new.s) = rw swap.undisturbed.seat same in
-    let gone = rw (swap.undisturbed.seat, law.same, make.seat) at (release.exact second) in
+    let gone = rw (swap.undisturbed.seat, law.same, make.undisturbed.seat) at (release.exact second) in
     let third : IsExact (seat c.release.new.s) = rw release.unmoved.seat second in
     let put : g.S.Shows.shows c.shared_is_shown.new.s next c.args.value = rw law.same ((law.shown first c.args.value).0 make.shown) in
     let shown = (g.met.S.Caller.shows_is_value c.release.new.s third next c.args.value).0

@@ -1,4 +1,4 @@
-use Rattle.std.proofs.Common.{◌≡◌, sym, ap, ◌∙◌, subst}
+use Rattle.std.proofs.Common.{rules, ◌≡◌, sym, ap, ◌∙◌, subst}
 use Rattle.sdd_stakes.specs.Shelf.{showing}
 use Rattle.sdd_domain.specs.Homes.{home_in}
 use Rattle.sdd_domain.specs.Member.{Member}
@@ -17,8 +17,13 @@ invariant_of-self g c = let v : Partaker g.row.T.Denot = (c.self-inside.view_is 
     (ap (λ (m : Member). m.due) told.member) (ap home_in told.member)
     (λ one. ap (λ (m : Member). world_of (record v { member = m })) (told.member ∙ (λ d. record v.member { known = told.lone one d })))
 
-pub returns-clause-keeps : goal.returns-clause-keeps
-returns-clause-keeps g c = let v : Partaker g.row.T.Denot = (c.self-inside.view_is 0).partner in
+pub returns-clause-undisturbed : goal.returns-clause-undisturbed
+returns-clause-undisturbed g c = let v : Partaker g.row.T.Denot = (c.self-inside.view_is 0).partner in
     let inner : v ≡ c.self.inside.partner = ap (λ (i : Inside g.row.T.Denot). i.partner) c.self-inside.view_is in
-    keeps_own (showing g.row.T) g.T.Item.holds v c.args.self.now (inner ∙ c.self.view_is) c.count.new.self v.member.own c.count.result v.member.since
-    c.count.ensures.member
+    record {
+      seat = search rules;
+      own = search rules;
+      known = search rules;
+      shown = keeps_own (showing g.row.T) g.T.Item.holds v c.args.self.now (inner ∙ c.self.view_is) c.count.new.self v.member.own c.count.result v.member.since
+    c.count.ensures.member;
+    }

@@ -1,4 +1,4 @@
-use Rattle.std.proofs.Common.{◌≡◌, sym, refl, ap, ◌∙◌, subst}
+use Rattle.std.proofs.Common.{rules, ◌≡◌, sym, refl, ap, ◌∙◌, subst}
 use Rattle.sdd_stakes.specs.Shelf.{showing}
 use Rattle.sdd_store.specs.Time as time
 use Rattle.sdd_base.specs.Steps.{stirred}
@@ -22,8 +22,12 @@ invariant_of-self g c = let v : Partaker g.row.T.Denot = (c.self-inside.view_is 
     (λ one. let first = (c.self-inside.invariant one).place in ap (λ (m : Member). world_of (record v { member = m })) did
     ∙ steps_alone stirred v (record v { member = record v.member { own = time.with_garbage v.member.own } }) first first refl)
 
-pub returns-clause-keeps : goal.returns-clause-keeps
-returns-clause-keeps g c = let v : Partaker g.row.T.Denot = (c.self-inside.view_is 0).partner in
+pub returns-clause-unmoved : goal.returns-clause-unmoved
+returns-clause-unmoved g c = let v : Partaker g.row.T.Denot = (c.self-inside.view_is 0).partner in
     let inner : v ≡ c.self.inside.partner = ap (λ (i : Inside g.row.T.Denot). i.partner) c.self-inside.view_is in
-    keeps_own (showing g.row.T) g.T.Item.holds v c.args.self.now (inner ∙ c.self.view_is) c.stir.new.self (time.with_garbage v.member.own) v.member.known v.member.since
-    c.stir.ensures
+    record {
+      seat = search rules;
+      known = search rules;
+      shown = keeps_own (showing g.row.T) g.T.Item.holds v c.args.self.now (inner ∙ c.self.view_is) c.stir.new.self (time.with_garbage v.member.own) v.member.known v.member.since
+    c.stir.ensures;
+    }

@@ -1,4 +1,4 @@
-use Rattle.std.proofs.Common.{◌≡◌, sym, ap, ◌∙◌, subst}
+use Rattle.std.proofs.Common.{rules, ◌≡◌, sym, ap, ◌∙◌, subst}
 use Rattle.sdd_domain.specs.Homes.{home_in}
 use Rattle.sdd_domain.specs.Member.{Member}
 use Rattle.sdd_domain.specs.Local.{Partaker}
@@ -22,8 +22,13 @@ returns-clause-shown g c = let v : Partaker g.row.T.Denot = (c.self-inside.view_
     shows_it g.row.T v c.guarded.new.self c.args.right.now c.guarded.result.now c.guarded.ensures.looks c.self-inside.invariant
     c.codes.ensures c.guarded.ensures.recalled g.T.Item.holds c.guarded.ensures.home c.guarded.ensures.once
 
-pub returns-clause-keeps : goal.returns-clause-keeps
-returns-clause-keeps g c = let v : Partaker g.row.T.Denot = (c.self-inside.view_is 0).partner in
+pub returns-clause-undisturbed : goal.returns-clause-undisturbed
+returns-clause-undisturbed g c = let v : Partaker g.row.T.Denot = (c.self-inside.view_is 0).partner in
     let inner : v ≡ c.self.inside.partner = ap (λ (i : Inside g.row.T.Denot). i.partner) c.self-inside.view_is in
-    keeps_it g.row.T v c.guarded.new.self c.args.right.now c.guarded.result.now c.guarded.ensures.looks g.T.Item.holds c.guarded.ensures.once
-    c.args.self.now (inner ∙ c.self.view_is)
+    record {
+      seat = search rules;
+      own = search rules;
+      known = search rules;
+      shown = keeps_it g.row.T v c.guarded.new.self c.args.right.now c.guarded.result.now c.guarded.ensures.looks g.T.Item.holds c.guarded.ensures.once
+    c.args.self.now (inner ∙ c.self.view_is);
+    }

@@ -1,4 +1,4 @@
-use Rattle.std.proofs.Common.{◌≡◌, sym, ap, ◌∙◌, subst}
+use Rattle.std.proofs.Common.{rules, ◌≡◌, sym, ap, ◌∙◌, subst}
 use Rattle.sdd_stakes.specs.Shelf.{showing}
 use Rattle.sdd_domain.specs.Local.{Partaker}
 use Rattle.sdd_domain.specs.declared.local.Local.TheInside.{Inside}
@@ -38,9 +38,13 @@ returns-clause-exact g c = let v : Partaker g.row.T.Denot = (c.self-inside.view_
     let r = c.let_go.ensures.retired in
     let_go_world v c.let_go.new.self c.args.right r.0 r.1 c.self-inside.invariant c.let_go.ensures.recalled c.args.self.now (inner ∙ c.self.view_is)
 
-pub returns-clause-keeps : goal.returns-clause-keeps
-returns-clause-keeps g c = let v : Partaker g.row.T.Denot = (c.self-inside.view_is 0).partner in
+pub returns-clause-unmoved : goal.returns-clause-unmoved
+returns-clause-unmoved g c = let v : Partaker g.row.T.Denot = (c.self-inside.view_is 0).partner in
     let inner : v ≡ c.self.inside.partner = ap (λ (i : Inside g.row.T.Denot). i.partner) c.self-inside.view_is in
     let r = c.let_go.ensures.retired in
-    let_go_keeps v c.let_go.new.self c.args.right r.0 r.1 c.self-inside.invariant c.let_go.ensures.recalled c.args.self.now (inner ∙ c.self.view_is)
-    (showing g.row.T) g.T.Item.holds
+    record {
+      seat = search rules;
+      known = search rules;
+      shown = let_go_keeps v c.let_go.new.self c.args.right r.0 r.1 c.self-inside.invariant c.let_go.ensures.recalled c.args.self.now
+          (inner ∙ c.self.view_is) (showing g.row.T) g.T.Item.holds;
+    }

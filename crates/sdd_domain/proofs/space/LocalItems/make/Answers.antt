@@ -1,4 +1,4 @@
-use Rattle.std.proofs.Common.{◌≡◌, ◌⊎◌, sym, ◌∙◌, subst}
+use Rattle.std.proofs.Common.{rules, ◌≡◌, ◌⊎◌, sym, ◌∙◌, subst}
 use Rattle.sdd_core.specs.declared.refused.Refused.{Refused}
 use Rattle.sdd_domain.proofs.Sound.{sound_made}
 use Rattle.sdd_base.specs.Holding.{AreOf}
@@ -43,8 +43,13 @@ returns-clause-exact g c = λ exact. value_exact g.row.T (c.self-2.view_is 0) c.
     (as_answered g.row.T (c.self-2.view_is 0) c.make.new.self c.make.new.ledger.entries c.args.kind c.args.value
     (λ e. (e.1 ≡ Refused.NoSlot) ⊎ (e.1 ≡ Refused.Contended)) c.make.result c.make.ensures.made c.make.ensures.entry) c.self-2.invariant exact)
 
-pub returns-clause-keeps : goal.returns-clause-keeps
-returns-clause-keeps g c = answered_keeps g.row.T (c.self-2.view_is 0) c.make.new.self c.make.new.ledger.entries c.args.kind
+pub returns-clause-undisturbed : goal.returns-clause-undisturbed
+returns-clause-undisturbed g c = record {
+      seat = search rules;
+      own = search rules;
+      known = search rules;
+      shown = answered_keeps g.row.T (c.self-2.view_is 0) c.make.new.self c.make.new.ledger.entries c.args.kind
     (λ y. y ≡ c.args.value) (λ e. e.0 ≡ c.args.value) (λ e. (e.1 ≡ Refused.NoSlot) ⊎ (e.1 ≡ Refused.Contended)) g.T.Item.holds c.make.result c.args.self.now (c.self-2.view_is ∙ c.self.view_is)
     (as_answered g.row.T (c.self-2.view_is 0) c.make.new.self c.make.new.ledger.entries c.args.kind c.args.value
-    (λ e. (e.1 ≡ Refused.NoSlot) ⊎ (e.1 ≡ Refused.Contended)) c.make.result c.make.ensures.made c.make.ensures.entry) c.self-2.invariant
+    (λ e. (e.1 ≡ Refused.NoSlot) ⊎ (e.1 ≡ Refused.Contended)) c.make.result c.make.ensures.made c.make.ensures.entry) c.self-2.invariant;
+    }

@@ -1,4 +1,4 @@
-use Rattle.std.proofs.Common.{◌≡◌, ◌⊎◌, sym, ◌∙◌, subst}
+use Rattle.std.proofs.Common.{rules, ◌≡◌, ◌⊎◌, sym, ◌∙◌, subst}
 use Rattle.sdd_core.specs.declared.refused.Refused.{Refused}
 use Rattle.sdd_domain.proofs.Sound.{sound_made}
 use Rattle.sdd_base.specs.Holding.{AreOf}
@@ -36,7 +36,12 @@ returns-clause-exact g c = answered_exact g.row.T (c.self-2.view_is 0) c.make_wi
     (λ x. g.F.FnOnce.post c.args.make tt x) c.args.make (λ e. (e.1 ≡ Refused.NoSlot) ⊎ (e.1 ≡ Refused.Contended))
     c.make_with.result c.args.self.now (c.self-2.view_is ∙ c.self.view_is) c.make_with.ensures c.self-2.invariant
 
-pub returns-clause-keeps : goal.returns-clause-keeps
-returns-clause-keeps g c = answered_keeps g.row.T (c.self-2.view_is 0) c.make_with.new.self c.make_with.new.ledger.entries c.args.kind
+pub returns-clause-undisturbed : goal.returns-clause-undisturbed
+returns-clause-undisturbed g c = record {
+      seat = search rules;
+      own = search rules;
+      known = search rules;
+      shown = answered_keeps g.row.T (c.self-2.view_is 0) c.make_with.new.self c.make_with.new.ledger.entries c.args.kind
     (λ x. g.F.FnOnce.post c.args.make tt x) (λ e. e.0 ≡ c.args.make) (λ e. (e.1 ≡ Refused.NoSlot) ⊎ (e.1 ≡ Refused.Contended))
-    g.T.Item.holds c.make_with.result c.args.self.now (c.self-2.view_is ∙ c.self.view_is) c.make_with.ensures c.self-2.invariant
+    g.T.Item.holds c.make_with.result c.args.self.now (c.self-2.view_is ∙ c.self.view_is) c.make_with.ensures c.self-2.invariant;
+    }
