@@ -24,5 +24,6 @@ pub mod Adopting
 pub mod Under
 pub mod Passing
 pub mod Accounts
+pub mod Ledger
 pub mod Composed
 pub mod Refusals

@@ -1,0 +1,146 @@
+-- The ledger of a world: of each owner and of each right to a cell there are as many as the world needs
+use Rattle.std.specs.Prelude.{ℕ, ◌+◌, ◌≡◌, ◌≤◌, ◌==◌, Bool, false, IsSome, IsTrue, List, length, Option, None, Some, is_some, sum_by, count_by}
+use Rattle.sdd_store.specs.Time.{IsVacant, is_open}
+use Rattle.sdd_store.specs.Table.{IsEmptyAt, entry_at}
+use Rattle.sdd_store.specs.declared.standing.Standing.{Standing}
+use Rattle.sdd_store.specs.declared.standing.Standing.TheVariants.{Owned, Raw, Shared}
+use Rattle.sdd_store.specs.declared.standing.Cell.{Cell}
+use Rattle.sdd_store.specs.declared.standing.Pointer.{Pointer}
+use Rattle.sdd_standings.specs.Slots.{IsSharedBy}
+use Rattle.sdd_base.specs.Holding.{Holding, owned, shared, atomic_owned, atomic_shared, atomic_raw}
+use Rattle.sdd_base.specs.World.{World, place_at, standing_at, value_at, IsGuarded, IsPlaceOf}
+use Rattle.sdd_base.specs.Whole.{IsWhole, once_if}
+use Rattle.sdd_base.specs.Out.{IsNullCell}
+use Rattle.sdd_base.specs.InPlace.{IsAlone, MayInPlace}
+use Rattle.sdd_base.specs.Calls.{IsFirst}
+use Rattle.sdd_base.specs.Collecting.{collected, collector_closed}
+use Rattle.sdd_base.specs.Accounts.{owner_count, is_owner_of, inner_owners}
+use Rattle.sdd_base.specs.Steps.{made_as, with_standing, with_value, with_cell, without_cell, dropped, retired, deferred, owner_given, cell_closed, held_in, opened, closed, stirred, accelerated, registered, ended}
+
+-- what there is so much of: owners of the slot's item, or rights to the cell
+pub data Claim : Type 0 where
+  owner_of : (slot : ℕ) → Claim
+  right_to : (cell : ℕ) → Claim
+
+-- none of any
+abbrev pub nothing : Claim → ℕ
+nothing u = 0
+
+-- one of this
+abbrev pub one : Claim → Claim → ℕ
+one (owner_of k) (owner_of j) = once_if (k == j)
+one (owner_of k) (right_to c) = 0
+one (right_to c) (owner_of k) = 0
+one (right_to c) (right_to d) = once_if (c == d)
+
+-- the owner that a cell holds, if it holds one
+abbrev pub owner_held : Option ℕ → Claim → ℕ
+owner_held None u = 0
+owner_held (Some k) u = one (owner_of k) u
+
+-- one thing that a value holds is the right to the cell
+abbrev pub is_right_to : ℕ → Holding → Bool
+is_right_to c (owned k home) = false
+is_right_to c (shared k home) = false
+is_right_to c (atomic_owned d home) = d == c
+is_right_to c (atomic_shared d home) = d == c
+is_right_to c (atomic_raw d home) = d == c
+
+-- so many of each are among these
+abbrev pub claims : List Holding → Claim → ℕ
+claims hs (owner_of k) = count_by (is_owner_of k) hs
+claims hs (right_to c) = count_by (is_right_to c) hs
+
+module _ {T : Type 0} where
+  -- so many the world needs: the owners that an item has, and one right to a cell that is taken
+  abbrev pub needed : World T → Claim → ℕ
+  needed w (owner_of k) = owner_count (standing_at w k)
+  needed w (right_to c) = once_if (is_some (entry_at w.cells c))
+
+module _ {T : Type 0} (holds : T → List Holding) where
+  -- how many rights to the cell a value holds, if one is there
+  abbrev pub times_kept : ℕ → Option T → ℕ
+  times_kept c None = 0
+  times_kept c (Some value) = count_by (is_right_to c) (holds value)
+
+  -- so many are inside: owners in cells and in values, rights in values
+  abbrev pub inside : World T → Claim → ℕ
+  inside w (owner_of k) = inner_owners holds w k
+  inside w (right_to c) = sum_by (times_kept c) w.values
+
+  -- of each there are as many as the world needs: so many outside, and the others inside
+  abbrev pub IsLedger : (outside : Claim → ℕ) → World T → Type 0
+  IsLedger outside w = (u : Claim) → needed w u ≡ outside u + inside w u
+
+  -- a call of a world: the world before, what the call takes from outside, the world afterwards, and what it gives
+  pub data Moves : World T → (Claim → ℕ) → World T → (Claim → ℕ) → Type 0 where
+    registers : (w : World T) (p : ℕ) → IsVacant w.time p → Moves w nothing (registered w p) nothing
+    ends : (w : World T) (p : ℕ) → IsPlaceOf w p → ¬ (IsTrue (is_open (place_at w p))) → Moves w nothing (ended w p) nothing
+    opens : (w : World T) (p : ℕ) → IsPlaceOf w p → Moves w nothing (opened holds w p) nothing
+    closes : (w : World T) (p : ℕ) → IsPlaceOf w p → Moves w nothing (closed w p) nothing
+    stirs : (w : World T) (p : ℕ) → IsPlaceOf w p → Moves w nothing (stirred w p) nothing
+    accelerates : (w : World T) (p : ℕ) → IsPlaceOf w p → Moves w nothing (accelerated w p) nothing
+    defers : (w : World T) (p j : ℕ) → IsPlaceOf w p → IsEmptyAt w.jobs j → Moves w nothing (deferred w p j) nothing
+    changes_pointers : (w : World T) (pointers : List Pointer) → length pointers ≡ length w.pointers →
+        Moves w nothing (record w { pointers = pointers }) nothing
+    -- the first owner of a new item, whose value has what it holds from outside
+    makes : (w : World T) (k : ℕ) (value : T) (s : Standing) → IsFirst s → IsEmptyAt w.standings k →
+        Moves w (claims (holds value)) (made_as w k value s) (one (owner_of k))
+    -- one owner more: no owner is needed for it, but a pointer
+    shares : (w : World T) (k n : ℕ) → IsSharedBy n (standing_at w k) → Moves w nothing (with_standing w k (Shared (n + 1))) (one (owner_of k))
+    retires : (w : World T) (p k : ℕ) → IsPlaceOf w p → standing_at w k ≡ Some Owned → Moves w (one (owner_of k)) (retired w p k) nothing
+    releases : (w : World T) (p k n : ℕ) → IsPlaceOf w p → standing_at w k ≡ Some (Shared n) →
+        Moves w (one (owner_of k)) (owner_given w p k (Some (Shared n))) nothing
+    collects : (w : World T) (p c k : ℕ) → IsPlaceOf w p → IsAlone (standing_at w k) → Moves w (one (owner_of k)) (collected w p c k) nothing
+    drops : (w : World T) (p k : ℕ) → IsPlaceOf w p → MayInPlace w k → Moves w (one (owner_of k)) (dropped holds w p k) nothing
+    puts_out_raw : (w : World T) (k : ℕ) → standing_at w k ≡ Some Owned → Moves w (one (owner_of k)) (with_standing w k Raw) nothing
+    takes_back_raw : (w : World T) (k : ℕ) → standing_at w k ≡ Some Raw → Moves w nothing (with_standing w k Owned) (one (owner_of k))
+    -- the one owner is there before and afterwards; what the value holds comes from outside, and what the one before held is there
+    edits : (w : World T) (k : ℕ) (old value : T) → MayInPlace w k → value_at w k ≡ Some old →
+        Moves w (λ u. one (owner_of k) u + claims (holds value) u) (with_value w k value) (λ u. one (owner_of k) u + claims (holds old) u)
+    makes_cell : (w : World T) (c : ℕ) (cell : Cell) → IsEmptyAt w.cells c → Moves w (owner_held cell.held) (with_cell w c cell) (one (right_to c))
+    changes_cell : (w : World T) (c : ℕ) (old cell : Cell) → entry_at w.cells c ≡ Some old →
+        Moves w (owner_held cell.held) (with_cell w c cell) (owner_held old.held)
+    spends_cell : (w : World T) (c : ℕ) (old : Cell) → entry_at w.cells c ≡ Some old → Moves w (one (right_to c)) (without_cell w c) (owner_held old.held)
+    closes_cell : (w : World T) (p c : ℕ) → IsPlaceOf w p → Moves w (one (right_to c)) (cell_closed w p c) nothing
+    closes_collector : (w : World T) (p c : ℕ) → IsPlaceOf w p → ¬ (IsGuarded w) → IsNullCell w c →
+        Moves w (one (right_to c)) (collector_closed holds w p c) nothing
+
+  -- it is a call that sets the cell
+  abbrev pub SetsCell : {v w : World T} {ins outs : Claim → ℕ} → Moves v ins w outs → ℕ → Type 0
+  SetsCell (changes_cell w c old cell is) d = d ≡ c
+  SetsCell other d = ⊥
+
+  -- what a call keeps, where some have what it takes, and others so many besides
+  pub record Keeps {v w : World T} {ins outs : Claim → ℕ} (move : Moves v ins w outs) : Type 0 where
+    pub whole : IsWhole w
+    -- what it takes is outside no more, and what it gives is
+    pub ledger : (others : Claim → ℕ) → IsLedger (λ u. others u + ins u) v → IsLedger (λ u. others u + outs u) w
+    -- nothing comes inside but what it takes
+    pub no_more : (u : Claim) → inside w u ≤ inside v u + ins u
+    -- an item that others own, or that a cell or a value holds, has the value that it had
+    pub values : (others : Claim → ℕ) → IsLedger (λ u. others u + ins u) v → (k : ℕ) → 1 ≤ others (owner_of k) + inside w (owner_of k) →
+        value_at w k ≡ value_at v k
+    -- a cell to which others, or a value, have the right is as it was, unless this call sets it
+    pub cells : (others : Claim → ℕ) → IsLedger (λ u. others u + ins u) v → (c : ℕ) → 1 ≤ others (right_to c) + inside w (right_to c) →
+        ¬ (SetsCell move c) → entry_at w.cells c ≡ entry_at v.cells c
+
+  -- what a ledger tells of a world
+  pub record Tells (outside : Claim → ℕ) (w : World T) : Type 0 where
+    -- who has the right to a cell is alone: the cell is there, and nobody else and no value has the right to it
+    pub alone : (c : ℕ) → 1 ≤ outside (right_to c) →
+        IsSome (entry_at w.cells c) × (outside (right_to c) ≡ 1) × (inside w (right_to c) ≡ 0)
+    -- as many share an item as are outside and inside
+    pub shared : (k owners : ℕ) → IsSharedBy owners (standing_at w k) → owners ≡ outside (owner_of k) + inside w (owner_of k)
+    -- an item that can't be shared has one owner
+    pub owned : (k : ℕ) → standing_at w k ≡ Some Owned → outside (owner_of k) + inside w (owner_of k) ≡ 1
+    -- what a cell holds is inside
+    pub held : (c k : ℕ) → held_in (entry_at w.cells c) ≡ Some k → 1 ≤ inside w (owner_of k)
+
+-- the law: each call keeps the ledger
+abbrev pub KeepsItsLedger : {T : Type 0} → (T → List Holding) → World T → Type 0
+KeepsItsLedger {T} holds v = (ins outs : Claim → ℕ) (w : World T) → (move : Moves holds v ins w outs) → Keeps holds move
+
+-- the law: and it tells how items and cells stand
+abbrev pub LedgerTells : {T : Type 0} → (T → List Holding) → World T → Type 0
+LedgerTells holds w = (outside : Claim → ℕ) → IsLedger holds outside w → Tells holds outside w
