@@ -1,6 +1,6 @@
 -- Each call keeps the ledger, and what a ledger tells
 use Rattle.std.proofs.Common.{◌≡◌, ◌≢◌, ◌⊎◌, inl, inr, ℕ, ◌+◌, ◌<◌, ◌≤◌, Bool, true, false, List, length, Option, Some, None, IsSome, is_some, cond, map, sum_by, count_by, refl, sym, ap, ◌∙◌, arith}
-use Rattle.std.specs.Prelude.{◌==◌, max}
+use Rattle.std.specs.Prelude.{◌==◌, ◌-◌, max, IfSome}
 use Rattle.std.proofs.lemmas.List.{length-set, get_or-set_other}
 use Rattle.std.proofs.lemmas.List.Sums.{sum_by-set}
 use Rattle.std.proofs.lemmas.Bool.Decides.{nat_tests}
@@ -18,13 +18,14 @@ use Rattle.sdd_base.specs.Calls.{Calls}
 use Rattle.sdd_base.specs.Collecting.{collector_closed, waiting_for, without_collector}
 use Rattle.sdd_base.specs.Holding.{Holding}
 use Rattle.sdd_base.specs.InPlace.{IsAlone, MayInPlace}
-use Rattle.sdd_base.specs.Ledger.{Claim, owner_of, right_to, nothing, one, owner_held, claims, is_right_to, times_kept, needed, inside, IsLedger, Moves, SetsCell, Keeps, Tells, KeepsItsLedger, LedgerTells}
+use Rattle.sdd_base.specs.Ledger.{Claim, owner_of, right_to, nothing, one, owner_held, claims, is_right_to, times_kept, needed, inside, IsLedger, Moves, Sets, Keeps, Tells, CallsBeside, IsStill, StaysMine, KeepsItsLedger, LedgerTells, StaysWithItsOwner}
+use Rattle.sdd_base.specs.Ledger.CallsBeside.{no_call, one_call}
 use Rattle.sdd_base.specs.Ledger.Moves.{registers, ends, opens, closes, stirs, accelerates, defers, changes_pointers, makes, shares, retires, releases, collects, drops, puts_out_raw, takes_back_raw, edits, makes_cell, changes_cell, spends_cell, closes_cell, closes_collector}
 use Rattle.sdd_base.specs.Out.{IsNullCell}
 use Rattle.sdd_base.specs.Steps.{held_in, with_cell, with_value}
 use Rattle.sdd_base.specs.Whole.{IsWhole, once_if}
 use Rattle.sdd_base.specs.World.{World, IsBlank, standing_at, value_at}
-use Rattle.sdd_base.proofs.Accounts.{none-filled, filled-inside, blank-at, blank-sum, fewer, cell-inner, accounted-out, accounted-blank, accounted-owner_given, accounted-with_cell, accounted-without_cell, accounted-cell_closed, accounted-all_reclaimed, accounted-opened, accounted-dropped, accounted-with_value, accounted-made_as, accounted-shared, accounted-put_out_raw, accounted-taken_back_raw}
+use Rattle.sdd_base.proofs.Accounts.{none-filled, filled-inside, blank-at, blank-sum, fewer, cell-inner, sum-out, accounted-out, accounted-blank, accounted-owner_given, accounted-with_cell, accounted-without_cell, accounted-cell_closed, accounted-all_reclaimed, accounted-opened, accounted-dropped, accounted-with_value, accounted-made_as, accounted-shared, accounted-put_out_raw, accounted-taken_back_raw}
 use Rattle.sdd_base.proofs.Left.{Whole-called}
 use Rattle.sdd_base.proofs.Rights.{AreHeld, once-where, there-inside, held-as, held-cell_made, held-cell_changed, held-cell_spent, held-owner_given, held-cell_closed, held-dropped_out, held-all_reclaimed, held-opened, held-with_value}
 use Rattle.sdd_base.proofs.Sheds.{Sheds, sheds-same, sheds-cell, sheds-owner_given, sheds-cell_closed, sheds-dropped, sheds-opened, sheds-collector_closed, sheds-inside}
@@ -196,6 +197,14 @@ module _ {T : Type 0} (holds : T → List Holding) where
       IsSome (entry_at w.cells c)
   right-there w outside c a some = once-some (is_some (entry_at w.cells c)) (omega (arith, a (right_to c), some))
 
+  in-cell : (w : World T) (c k : ℕ) → held_in (entry_at w.cells c) ≡ Some k → 1 ≤ inside holds w (owner_of k)
+  in-cell w c k is = omega (arith, cell-inner holds w c k is)
+
+  in-value : (w : World T) (k : ℕ) (value : T) → value_at w k ≡ Some value → (u : Claim) → claims (holds value) u ≤ inside holds w u
+  in-value w k value is (owner_of j) =
+      omega (arith, ap (times_held holds j) is, sum-out (times_held holds j) refl w.values k)
+  in-value w k value is (right_to c) = omega (arith, ap (times_kept holds c) is, sum-out (times_kept holds c) refl w.values k)
+
   pub ledger-tells : (w : World T) → LedgerTells holds w
   ledger-tells w outside a = record {
     alone = λ c some.
@@ -204,7 +213,9 @@ module _ {T : Type 0} (holds : T → List Holding) where
         (there, omega (arith, needs, some, a (right_to c)), omega (arith, needs, some, a (right_to c)));
     shared = λ k n is. omega (arith, a (owner_of k), ap owner_count is.shared, is.some);
     owned = λ k is. omega (arith, a (owner_of k), ap owner_count is);
-    held = λ c k is. omega (arith, cell-inner holds w c k is);
+    free = λ k is. let none : owner_count (standing_at w k) ≡ 0 = ap owner_count is in (omega (arith, none, a (owner_of k)), omega (arith, none, a (owner_of k)));
+    in_cell = λ c k is. in-cell w c k is;
+    in_value = λ k value is u. in-value w k value is u;
   }
 
   -- a world without items
@@ -322,10 +333,66 @@ module _ {T : Type 0} (holds : T → List Holding) where
         no_more = cell-inside w c cell (there-inside w.cells c (ap is_some is));
         values = λ others a k some. refl;
         cells = λ others a d some free. elim (same-or-not d c) [
-          | inl e ↦ absurd (free e)
+          | inl e ↦ absurd (free (ap right_to e))
           | inr apart ↦ get_or-set_other w.cells c d (Some cell) None apart
         ];
       }
 
   pub keeps-its-ledger : (v : World T) → IsWhole v → KeepsItsLedger holds v
   keeps-its-ledger v i ins outs w move = keeps move i
+
+  -- ---- calls of others, one after another
+  record IsKept (mine theirs : Claim → ℕ) (old new : World T) (u : Claim) : Type 0 where
+    whole : IsWhole new
+    stays : StaysMine holds mine theirs old new u
+
+  held-still : (old v w : World T) (held : Option ℕ) → ((k : ℕ) → held ≡ Some k → value_at w k ≡ value_at v k) →
+      IfSome held (λ k. value_at v k ≡ value_at old k) → IfSome held (λ k. value_at w k ≡ value_at old k)
+  held-still old v w None same was = was
+  held-still old v w (Some k) same was = same k refl ∙ was
+
+  held-same : (w : World T) (held : Option ℕ) → IfSome held (λ k. value_at w k ≡ value_at w k)
+  held-same w None = tt
+  held-same w (Some k) = refl
+
+  still-same : (w : World T) (u : Claim) → IsStill w w u
+  still-same w (owner_of k) = (refl, refl)
+  still-same w (right_to c) = (refl, held-same w (held_in (entry_at w.cells c)))
+
+  still-on : (old v w : World T) (others ins outs : Claim → ℕ) (u : Claim) (move : Moves holds v ins w outs) → Keeps holds move →
+      IsLedger holds (λ x. others x + ins x) v → 1 ≤ others u → ¬ (Sets holds move u) → needed w u ≡ needed v u → IsStill old v u → IsStill old w u
+  still-on old v w others ins outs (owner_of k) move keeps a some free as_many was =
+      (as_many ∙ was.0, keeps.values others a k (omega (arith, some)) ∙ was.1)
+  still-on old v w others ins outs (right_to c) move keeps a some free as_many was =
+      let same = keeps.cells others a c (omega (arith, some)) free ∙ was.0 in (
+        same,
+        held-still old v w (held_in (entry_at old.cells c))
+        (λ k is. keeps.values others a k (omega (arith, in-cell w c k (ap held_in same ∙ is)))) was.1,
+      )
+
+  stays : (mine : Claim → ℕ) (u : Claim) → 1 ≤ mine u → {old new : World T} {first theirs : Claim → ℕ} → CallsBeside holds u old first new theirs →
+      IsWhole old → IsLedger holds (λ x. mine x + first x) old → first u ≡ 0 → inside holds old u ≡ 0 → IsKept mine theirs old new u
+  stays mine u some (no_call w theirs) i a none inner =
+      record { whole = i; stays = record { ledger = a; none_theirs = none; none_inside = inner; still = still-same w u } }
+  stays mine u some (one_call t v w first theirs now ins outs calls move have get none_out free) i a none inner =
+      let was = stays mine u some calls i a none inner in
+      let s = was.stays in
+      let others : Claim → ℕ = λ x. mine x + (theirs x - ins x) in
+      let before : IsLedger holds (λ x. others x + ins x) v = λ x. omega (arith, s.ledger x, have x) in
+      let kept = keeps move was.whole in
+      let after : IsLedger holds (λ x. mine x + now x) w = λ x. omega (arith, kept.ledger others before x, have x, get x) in
+      let gone : now u ≡ 0 = omega (arith, have u, get u, none_out, s.none_theirs) in
+      let inner_none : inside holds w u ≡ 0 = omega (arith, kept.no_more u, s.none_inside, have u, s.none_theirs) in
+      let as_many : needed w u ≡ needed v u = omega (arith, after u, s.ledger u, gone, inner_none, s.none_inside, s.none_theirs) in
+      record {
+        whole = kept.whole;
+        stays = record {
+          ledger = after;
+          none_theirs = gone;
+          none_inside = inner_none;
+          still = still-on t v w others ins outs u move kept before (omega (arith, some)) free as_many s.still;
+        };
+      }
+
+  pub stays-with-its-owner : (old : World T) → IsWhole old → StaysWithItsOwner holds old
+  stays-with-its-owner old i u mine first theirs new a some none inner calls = (stays mine u some calls i a none inner).stays

@@ -1,5 +1,5 @@
 -- The ledger of a world: of each owner and of each right to a cell there are as many as the world needs
-use Rattle.std.specs.Prelude.{ℕ, ◌+◌, ◌≡◌, ◌≤◌, ◌==◌, Bool, false, IsSome, IsTrue, List, length, Option, None, Some, is_some, sum_by, count_by}
+use Rattle.std.specs.Prelude.{ℕ, ◌+◌, ◌≡◌, ◌≤◌, ◌==◌, Bool, false, IfSome, IsSome, IsTrue, List, length, Option, None, Some, is_some, sum_by, count_by}
 use Rattle.sdd_store.specs.Time.{IsVacant, is_open}
 use Rattle.sdd_store.specs.Table.{IsEmptyAt, entry_at}
 use Rattle.sdd_store.specs.declared.standing.Standing.{Standing}
@@ -57,6 +57,12 @@ module _ {T : Type 0} where
   needed w (owner_of k) = owner_count (standing_at w k)
   needed w (right_to c) = once_if (is_some (entry_at w.cells c))
 
+  -- an item has as many owners and the same value; a cell is the same, and so is the value of what it holds
+  abbrev pub IsStill : World T → World T → Claim → Type 0
+  IsStill old new (owner_of k) = (needed new (owner_of k) ≡ needed old (owner_of k)) × (value_at new k ≡ value_at old k)
+  IsStill old new (right_to c) =
+      (entry_at new.cells c ≡ entry_at old.cells c) × IfSome (held_in (entry_at old.cells c)) (λ k. value_at new k ≡ value_at old k)
+
 module _ {T : Type 0} (holds : T → List Holding) where
   -- how many rights to the cell a value holds, if one is there
   abbrev pub times_kept : ℕ → Option T → ℕ
@@ -106,12 +112,12 @@ module _ {T : Type 0} (holds : T → List Holding) where
     closes_collector : (w : World T) (p c : ℕ) → IsPlaceOf w p → ¬ (IsGuarded w) → IsNullCell w c →
         Moves w (one (right_to c)) (collector_closed holds w p c) nothing
 
-  -- it is a call that sets the cell
-  abbrev pub SetsCell : {v w : World T} {ins outs : Claim → ℕ} → Moves v ins w outs → ℕ → Type 0
-  SetsCell (changes_cell w c old cell is) d = d ≡ c
-  SetsCell other d = ⊥
+  -- it is the right to the cell that the call sets
+  abbrev pub Sets : {v w : World T} {ins outs : Claim → ℕ} → Moves v ins w outs → Claim → Type 0
+  Sets (changes_cell w c old cell is) u = u ≡ right_to c
+  Sets other u = ⊥
 
-  -- what a call keeps, where some have what it takes, and others so many besides
+  -- what a call keeps: its caller has what it takes, and others have so many besides
   pub record Keeps {v w : World T} {ins outs : Claim → ℕ} (move : Moves v ins w outs) : Type 0 where
     pub whole : IsWhole w
     -- what it takes is outside no more, and what it gives is
@@ -123,24 +129,46 @@ module _ {T : Type 0} (holds : T → List Holding) where
         value_at w k ≡ value_at v k
     -- a cell to which others, or a value, have the right is as it was, unless this call sets it
     pub cells : (others : Claim → ℕ) → IsLedger (λ u. others u + ins u) v → (c : ℕ) → 1 ≤ others (right_to c) + inside w (right_to c) →
-        ¬ (SetsCell move c) → entry_at w.cells c ≡ entry_at v.cells c
+        ¬ (Sets move (right_to c)) → entry_at w.cells c ≡ entry_at v.cells c
 
   -- what a ledger tells of a world
   pub record Tells (outside : Claim → ℕ) (w : World T) : Type 0 where
     -- who has the right to a cell is alone: the cell is there, and nobody else and no value has the right to it
-    pub alone : (c : ℕ) → 1 ≤ outside (right_to c) →
-        IsSome (entry_at w.cells c) × (outside (right_to c) ≡ 1) × (inside w (right_to c) ≡ 0)
+    pub alone : (c : ℕ) → 1 ≤ outside (right_to c) → IsSome (entry_at w.cells c) × (outside (right_to c) ≡ 1) × (inside w (right_to c) ≡ 0)
     -- as many share an item as are outside and inside
     pub shared : (k owners : ℕ) → IsSharedBy owners (standing_at w k) → owners ≡ outside (owner_of k) + inside w (owner_of k)
     -- an item that can't be shared has one owner
     pub owned : (k : ℕ) → standing_at w k ≡ Some Owned → outside (owner_of k) + inside w (owner_of k) ≡ 1
-    -- what a cell holds is inside
-    pub held : (c k : ℕ) → held_in (entry_at w.cells c) ≡ Some k → 1 ≤ inside w (owner_of k)
+    -- of what isn't there nobody has any
+    pub free : (k : ℕ) → standing_at w k ≡ None → (outside (owner_of k) ≡ 0) × (inside w (owner_of k) ≡ 0)
+    -- what a cell holds is inside, and so is what a value holds
+    pub in_cell : (c k : ℕ) → held_in (entry_at w.cells c) ≡ Some k → 1 ≤ inside w (owner_of k)
+    pub in_value : (k : ℕ) (value : T) → value_at w k ≡ Some value → (u : Claim) → claims (holds value) u ≤ inside w u
+
+  -- calls of others, one after another, by which they get none of this and don't set it; so many of each they have before, and afterwards
+  pub data CallsBeside (u : Claim) : World T → (Claim → ℕ) → World T → (Claim → ℕ) → Type 0 where
+    no_call : (w : World T) (theirs : Claim → ℕ) → CallsBeside u w theirs w theirs
+    one_call : (t v w : World T) (before theirs now ins outs : Claim → ℕ) → CallsBeside u t before v theirs → (move : Moves v ins w outs) →
+        ((x : Claim) → ins x ≤ theirs x) → ((x : Claim) → now x + ins x ≡ theirs x + outs x) → outs u ≡ 0 → ¬ (Sets move u) →
+        CallsBeside u t before w now
+
+  -- it is as it was, and all of it is still mine
+  pub record StaysMine (mine theirs : Claim → ℕ) (old new : World T) (u : Claim) : Type 0 where
+    pub ledger : IsLedger (λ x. mine x + theirs x) new
+    pub none_theirs : theirs u ≡ 0
+    pub none_inside : inside new u ≡ 0
+    pub still : IsStill old new u
 
 -- the law: each call keeps the ledger
 abbrev pub KeepsItsLedger : {T : Type 0} → (T → List Holding) → World T → Type 0
 KeepsItsLedger {T} holds v = (ins outs : Claim → ℕ) (w : World T) → (move : Moves holds v ins w outs) → Keeps holds move
 
--- the law: and it tells how items and cells stand
+-- the law: it tells how items and cells stand
 abbrev pub LedgerTells : {T : Type 0} → (T → List Holding) → World T → Type 0
 LedgerTells holds w = (outside : Claim → ℕ) → IsLedger holds outside w → Tells holds outside w
+
+-- the law: who has all owners of an item, or the right to a cell, has them still after calls of others, and the item or the cell is as it was
+abbrev pub StaysWithItsOwner : {T : Type 0} → (T → List Holding) → World T → Type 0
+StaysWithItsOwner {T} holds old = (u : Claim) (mine before theirs : Claim → ℕ) (new : World T) →
+    IsLedger holds (λ x. mine x + before x) old → 1 ≤ mine u → before u ≡ 0 → inside holds old u ≡ 0 → CallsBeside holds u old before new theirs →
+    StaysMine holds mine theirs old new u

@@ -9,8 +9,6 @@ ghost use Rattle.sdd_base.specs.Known.{KnowsOn};
 ghost use Rattle.sdd_base.specs.Owned.{right_of, slot_of, slots_home};
 ghost use Rattle.sdd_base.specs.Ptr.{KeepsShown};
 ghost use Rattle.sdd_base.specs.Shared as shared;
-ghost use Rattle.sdd_base.specs.Ledger.{KeepsItsLedger, LedgerTells};
-ghost use Rattle.sdd_base.specs.Whole.{IsWhole};
 ghost use Rattle.sdd_store.specs.Time.{is_open};
 
 use crate::guard::Guard;
@@ -103,9 +101,3 @@ pub fn values_fit_slots<T: Item<T>, S: Caller<T>>(s: &S)
 {
     s.values_fit_slots();
 }
-
-/// TEMPORARY
-pub fn try_ledger<T: Item<T>>()
-    ensures kept { (w : World T) → IsWhole w → KeepsItsLedger T.holds w }
-    ensures tells { (w : World T) → LedgerTells T.holds w }
-{}
