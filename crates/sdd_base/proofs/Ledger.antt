@@ -1,6 +1,6 @@
 -- Each call keeps the ledger, and what a ledger tells
-use Rattle.std.proofs.Common.{◌≡◌, ◌≢◌, ◌⊎◌, inl, inr, ℕ, ◌+◌, ◌<◌, ◌≤◌, Bool, true, false, List, length, Option, Some, None, IsSome, is_some, cond, map, sum_by, count_by, refl, sym, ap, ◌∙◌, arith}
-use Rattle.std.specs.Prelude.{◌==◌, ◌-◌, max, IfSome}
+use Rattle.std.proofs.Common.{◌≡◌, ◌≢◌, inl, inr, ℕ, ◌+◌, ◌<◌, ◌≤◌, Bool, true, false, List, length, Option, Some, None, IsSome, is_some, cond, sum_by, refl, sym, ap, ◌∙◌, arith}
+use Rattle.std.specs.Prelude.{◌==◌, ◌-◌, IfSome}
 use Rattle.std.proofs.lemmas.List.{length-set, get_or-set_other}
 use Rattle.std.proofs.lemmas.List.Sums.{sum_by-set}
 use Rattle.std.proofs.lemmas.Bool.Decides.{nat_tests}
@@ -10,15 +10,14 @@ use Rattle.sdd_store.specs.Time.{Time}
 use Rattle.sdd_store.specs.Time as time
 use Rattle.sdd_store.specs.declared.standing.Cell.{Cell}
 use Rattle.sdd_store.specs.declared.standing.Standing.{Standing}
-use Rattle.sdd_store.specs.declared.standing.Standing.TheVariants.{Owned, Raw, Shared, Private as privately}
+use Rattle.sdd_store.specs.declared.standing.Standing.TheVariants.{Owned, Raw, Shared, Retired, Private as privately}
 use Rattle.sdd_store.specs.declared.waiting.What.TheVariants.{Item}
-use Rattle.sdd_standings.specs.Slots.{IsSharedBy}
-use Rattle.sdd_base.specs.Accounts.{IsAccounted, owner_count, holds_slot, is_of, is_owner_of, times_held}
+use Rattle.sdd_base.specs.Accounts.{IsAccounted, owner_count, holds_slot, is_of, times_held}
 use Rattle.sdd_base.specs.Calls.{Calls}
 use Rattle.sdd_base.specs.Collecting.{collector_closed, waiting_for, without_collector}
 use Rattle.sdd_base.specs.Holding.{Holding}
 use Rattle.sdd_base.specs.InPlace.{IsAlone, MayInPlace}
-use Rattle.sdd_base.specs.Ledger.{Claim, owner_of, right_to, nothing, one, owner_held, claims, is_right_to, times_kept, needed, inside, IsLedger, Moves, Sets, Keeps, Tells, CallsBeside, IsStill, StaysMine, KeepsItsLedger, LedgerTells, StaysWithItsOwner}
+use Rattle.sdd_base.specs.Ledger.{Claim, owner_of, right_to, nothing, owner_held, claims, times_kept, needed, inside, IsLedger, Moves, Sets, Keeps, CallsBeside, IsStill, StaysMine, Tells, HasOwners, LedgerLaws}
 use Rattle.sdd_base.specs.Ledger.CallsBeside.{no_call, one_call}
 use Rattle.sdd_base.specs.Ledger.Moves.{registers, ends, opens, closes, stirs, accelerates, defers, changes_pointers, makes, shares, retires, releases, collects, drops, puts_out_raw, takes_back_raw, edits, makes_cell, changes_cell, spends_cell, closes_cell, closes_collector}
 use Rattle.sdd_base.specs.Out.{IsNullCell}
@@ -30,7 +29,6 @@ use Rattle.sdd_base.proofs.Left.{Whole-called}
 use Rattle.sdd_base.proofs.Rights.{AreHeld, once-where, there-inside, held-as, held-cell_made, held-cell_changed, held-cell_spent, held-owner_given, held-cell_closed, held-dropped_out, held-all_reclaimed, held-opened, held-with_value}
 use Rattle.sdd_base.proofs.Sheds.{Sheds, sheds-same, sheds-cell, sheds-owner_given, sheds-cell_closed, sheds-dropped, sheds-opened, sheds-collector_closed, sheds-inside}
 use Rattle.sdd_base.proofs.Standings.{out-some, alone-out, out-inside}
-use Rattle.sdd_base.proofs.Weights.{in_range}
 use Rattle.sdd_base.proofs.Whole.{one_where, filled-there}
 
 -- what a cell holds, as slot j and as cell c count it
@@ -52,6 +50,14 @@ same-count k = grind (arith, nat_tests)
 alone-count : (s : Option Standing) → IsAlone s → owner_count s ≡ 1
 alone-count s (inl e) = ap owner_count e
 alone-count s (inr e) = ap owner_count e
+
+has-owners : (n : ℕ) (s : Option Standing) → 1 ≤ n → n ≡ owner_count s → HasOwners n s
+has-owners n None l e = absurd (omega (arith, l, e))
+has-owners n (Some Owned) l e = inl (refl, e)
+has-owners n (Some Raw) l e = absurd (omega (arith, l, e))
+has-owners n (Some (Shared m)) l e = inr (m, refl, e)
+has-owners n (Some Retired) l e = absurd (omega (arith, l, e))
+has-owners n (Some (privately c)) l e = absurd (omega (arith, l, e))
 
 some-value : {T : Type 0} (v : Option T) → is_some v ≡ true → (u : T) × (v ≡ Some u)
 some-value None e = absurd (cc)
@@ -178,7 +184,7 @@ module _ {T : Type 0} (holds : T → List Holding) where
       held-all_reclaimed holds p (λ d. others d + 0) (without_collector w c) (waiting_for w c)
       (held-cell_spent holds w c _ (λ d. others d + 0) (λ j. omega arith) a)
 
-  pub ledger-kept : {v w : World T} {ins outs : Claim → ℕ} → Moves holds v ins w outs → IsWhole v → (others : Claim → ℕ) →
+  ledger-kept : {v w : World T} {ins outs : Claim → ℕ} → Moves holds v ins w outs → IsWhole v → (others : Claim → ℕ) →
       IsLedger holds (λ u. others u + ins u) v → IsLedger holds (λ u. others u + outs u) w
   ledger-kept move i others a (owner_of k) = owners move i (λ j. others (owner_of j)) (λ j. a (owner_of j)) k
   ledger-kept move i others a (right_to c) = rights move i (λ d. others (right_to d)) (λ d. a (right_to d)) c
@@ -205,13 +211,14 @@ module _ {T : Type 0} (holds : T → List Holding) where
       omega (arith, ap (times_held holds j) is, sum-out (times_held holds j) refl w.values k)
   in-value w k value is (right_to c) = omega (arith, ap (times_kept holds c) is, sum-out (times_kept holds c) refl w.values k)
 
-  pub ledger-tells : (w : World T) → LedgerTells holds w
+  ledger-tells : (w : World T) (outside : Claim → ℕ) → IsLedger holds outside w → Tells holds outside w
   ledger-tells w outside a = record {
     alone = λ c some.
         let there = right-there w outside c a (omega (arith, some)) in
         let needs : once_if (is_some (entry_at w.cells c)) ≡ 1 = ap once_if there in
         (there, omega (arith, needs, some, a (right_to c)), omega (arith, needs, some, a (right_to c)));
     shared = λ k n is. omega (arith, a (owner_of k), ap owner_count is.shared, is.some);
+    stands = λ k some. has-owners _ (standing_at w k) some (sym (a (owner_of k)));
     owned = λ k is. omega (arith, a (owner_of k), ap owner_count is);
     free = λ k is. let none : owner_count (standing_at w k) ≡ 0 = ap owner_count is in (omega (arith, none, a (owner_of k)), omega (arith, none, a (owner_of k)));
     in_cell = λ c k is. in-cell w c k is;
@@ -219,7 +226,7 @@ module _ {T : Type 0} (holds : T → List Holding) where
   }
 
   -- a world without items
-  pub ledger-blank : (w : World T) (t : Time) (slots cells jobs : ℕ) → IsBlank t slots cells jobs w → IsLedger holds nothing w
+  ledger-blank : (w : World T) (t : Time) (slots cells jobs : ℕ) → IsBlank t slots cells jobs w → IsLedger holds nothing w
   ledger-blank w t slots cells jobs blank (owner_of k) = accounted-blank holds w t slots cells jobs blank k
   ledger-blank w t slots cells jobs blank (right_to c) =
       let free = ap (λ (cs : Entries Cell). once_if (is_some (entry_at cs c))) blank.cells ∙ ap (λ (x : Option Cell). once_if (is_some x)) (blank-at cells c) in
@@ -257,8 +264,8 @@ module _ {T : Type 0} (holds : T → List Holding) where
       cells = λ others a c some free. elim (s.cells c) [
         | inl same ↦ same
         | inr gone ↦ absurd (
-          let there = right-there w (λ u. others u + outs u) c (ledger-kept move i others a) (omega (arith, some)) in
-          let never : false ≡ true = sym (ap is_some gone) ∙ there in cc)
+            let there = right-there w (λ u. others u + outs u) c (ledger-kept move i others a) (omega (arith, some)) in
+            let never : false ≡ true = sym (ap is_some gone) ∙ there in cc)
       ];
     }
 
@@ -290,8 +297,8 @@ module _ {T : Type 0} (holds : T → List Holding) where
         no_more = more;
         values = λ others a j some. elim (same-or-not j k) [
           | inl e ↦ absurd (
-            let free : owner_count (standing_at w j) ≡ 0 = rw e (ap owner_count empty.1) in
-            omega (arith, free, a (owner_of j), more (owner_of j), some))
+              let free : owner_count (standing_at w j) ≡ 0 = rw e (ap owner_count empty.1) in
+              omega (arith, free, a (owner_of j), more (owner_of j), some))
           | inr apart ↦ get_or-set_other w.values k j (Some value) None apart
         ];
         cells = λ others a c some free. refl;
@@ -304,9 +311,9 @@ module _ {T : Type 0} (holds : T → List Holding) where
         no_more = λ u. omega (arith, set-inside w k value (alone-within w k i may) u);
         values = λ others a j some. elim (same-or-not j k) [
           | inl e ↦ absurd (
-            let needs : owner_count (standing_at w j) ≡ 1 = rw e (alone-count (standing_at w k) may.alone) in
-            let own : once_if (k == j) ≡ 1 = rw e (same-count k) in
-            omega (arith, needs, own, ledger-kept move i others a (owner_of j), some))
+              let needs : owner_count (standing_at w j) ≡ 1 = rw e (alone-count (standing_at w k) may.alone) in
+              let own : once_if (k == j) ≡ 1 = rw e (same-count k) in
+              omega (arith, needs, own, ledger-kept move i others a (owner_of j), some))
           | inr apart ↦ get_or-set_other w.values k j (Some value) None apart
         ];
         cells = λ others a c some free. refl;
@@ -320,8 +327,8 @@ module _ {T : Type 0} (holds : T → List Holding) where
         values = λ others a k some. refl;
         cells = λ others a d some free. elim (same-or-not d c) [
           | inl e ↦ absurd (
-            let none : once_if (is_some (entry_at w.cells d)) ≡ 0 = rw e (ap (λ (x : Option Cell). once_if (is_some x)) empty.1) in
-            omega (arith, none, a (right_to d), some))
+              let none : once_if (is_some (entry_at w.cells d)) ≡ 0 = rw e (ap (λ (x : Option Cell). once_if (is_some x)) empty.1) in
+              omega (arith, none, a (right_to d), some))
           | inr apart ↦ get_or-set_other w.cells c d (Some cell) None apart
         ];
       }
@@ -337,9 +344,6 @@ module _ {T : Type 0} (holds : T → List Holding) where
           | inr apart ↦ get_or-set_other w.cells c d (Some cell) None apart
         ];
       }
-
-  pub keeps-its-ledger : (v : World T) → IsWhole v → KeepsItsLedger holds v
-  keeps-its-ledger v i ins outs w move = keeps move i
 
   -- ---- calls of others, one after another
   record IsKept (mine theirs : Claim → ℕ) (old new : World T) (u : Claim) : Type 0 where
@@ -367,7 +371,7 @@ module _ {T : Type 0} (holds : T → List Holding) where
       let same = keeps.cells others a c (omega (arith, some)) free ∙ was.0 in (
         same,
         held-still old v w (held_in (entry_at old.cells c))
-        (λ k is. keeps.values others a k (omega (arith, in-cell w c k (ap held_in same ∙ is)))) was.1,
+            (λ k is. keeps.values others a k (omega (arith, in-cell w c k (ap held_in same ∙ is)))) was.1,
       )
 
   stays : (mine : Claim → ℕ) (u : Claim) → 1 ≤ mine u → {old new : World T} {first theirs : Claim → ℕ} → CallsBeside holds u old first new theirs →
@@ -394,5 +398,10 @@ module _ {T : Type 0} (holds : T → List Holding) where
         };
       }
 
-  pub stays-with-its-owner : (old : World T) → IsWhole old → StaysWithItsOwner holds old
-  stays-with-its-owner old i u mine first theirs new a some none inner calls = (stays mine u some calls i a none inner).stays
+  pub ledger-laws : (w : World T) → LedgerLaws holds w
+  ledger-laws w = record {
+    blank = λ t slots cells jobs blank. ledger-blank w t slots cells jobs blank;
+    kept = λ i ins outs new move. keeps move i;
+    tells = λ outside a. ledger-tells w outside a;
+    stays = λ i u mine first theirs new a some none inner calls. (stays mine u some calls i a none inner).stays;
+  }

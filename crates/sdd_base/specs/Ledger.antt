@@ -1,6 +1,6 @@
 -- The ledger of a world: of each owner and of each right to a cell there are as many as the world needs
-use Rattle.std.specs.Prelude.{ℕ, ◌+◌, ◌≡◌, ◌≤◌, ◌==◌, Bool, false, IfSome, IsSome, IsTrue, List, length, Option, None, Some, is_some, sum_by, count_by}
-use Rattle.sdd_store.specs.Time.{IsVacant, is_open}
+use Rattle.std.specs.Prelude.{ℕ, ◌+◌, ◌≡◌, ◌≤◌, ◌⊎◌, ◌==◌, max, Bool, false, IfSome, IsSome, IsTrue, List, length, Option, None, Some, is_some, sum_by, count_by}
+use Rattle.sdd_store.specs.Time.{Time, IsVacant, is_open}
 use Rattle.sdd_store.specs.Table.{IsEmptyAt, entry_at}
 use Rattle.sdd_store.specs.declared.standing.Standing.{Standing}
 use Rattle.sdd_store.specs.declared.standing.Standing.TheVariants.{Owned, Raw, Shared}
@@ -8,7 +8,7 @@ use Rattle.sdd_store.specs.declared.standing.Cell.{Cell}
 use Rattle.sdd_store.specs.declared.standing.Pointer.{Pointer}
 use Rattle.sdd_standings.specs.Slots.{IsSharedBy}
 use Rattle.sdd_base.specs.Holding.{Holding, owned, shared, atomic_owned, atomic_shared, atomic_raw}
-use Rattle.sdd_base.specs.World.{World, place_at, standing_at, value_at, IsGuarded, IsPlaceOf}
+use Rattle.sdd_base.specs.World.{World, IsBlank, place_at, standing_at, value_at, IsGuarded, IsPlaceOf}
 use Rattle.sdd_base.specs.Whole.{IsWhole, once_if}
 use Rattle.sdd_base.specs.Out.{IsNullCell}
 use Rattle.sdd_base.specs.InPlace.{IsAlone, MayInPlace}
@@ -50,6 +50,10 @@ is_right_to c (atomic_raw d home) = d == c
 abbrev pub claims : List Holding → Claim → ℕ
 claims hs (owner_of k) = count_by (is_owner_of k) hs
 claims hs (right_to c) = count_by (is_right_to c) hs
+
+-- the item has so many owners
+abbrev pub HasOwners : ℕ → Option Standing → Type 0
+HasOwners n s = (s ≡ Some Owned) × (n ≡ 1) ⊎ ((m : ℕ) × (s ≡ Some (Shared m)) × (n ≡ max 1 m))
 
 module _ {T : Type 0} where
   -- so many the world needs: the owners that an item has, and one right to a cell that is taken
@@ -137,6 +141,9 @@ module _ {T : Type 0} (holds : T → List Holding) where
     pub alone : (c : ℕ) → 1 ≤ outside (right_to c) → IsSome (entry_at w.cells c) × (outside (right_to c) ≡ 1) × (inside w (right_to c) ≡ 0)
     -- as many share an item as are outside and inside
     pub shared : (k owners : ℕ) → IsSharedBy owners (standing_at w k) → owners ≡ outside (owner_of k) + inside w (owner_of k)
+    -- what has owners stands as owned by one, or as shared by so many
+    pub stands : (k : ℕ) → 1 ≤ outside (owner_of k) + inside w (owner_of k) →
+        HasOwners (outside (owner_of k) + inside w (owner_of k)) (standing_at w k)
     -- an item that can't be shared has one owner
     pub owned : (k : ℕ) → standing_at w k ≡ Some Owned → outside (owner_of k) + inside w (owner_of k) ≡ 1
     -- of what isn't there nobody has any
@@ -159,16 +166,14 @@ module _ {T : Type 0} (holds : T → List Holding) where
     pub none_inside : inside new u ≡ 0
     pub still : IsStill old new u
 
--- the law: each call keeps the ledger
-abbrev pub KeepsItsLedger : {T : Type 0} → (T → List Holding) → World T → Type 0
-KeepsItsLedger {T} holds v = (ins outs : Claim → ℕ) (w : World T) → (move : Moves holds v ins w outs) → Keeps holds move
-
--- the law: it tells how items and cells stand
-abbrev pub LedgerTells : {T : Type 0} → (T → List Holding) → World T → Type 0
-LedgerTells holds w = (outside : Claim → ℕ) → IsLedger holds outside w → Tells holds outside w
-
--- the law: who has all owners of an item, or the right to a cell, has them still after calls of others, and the item or the cell is as it was
-abbrev pub StaysWithItsOwner : {T : Type 0} → (T → List Holding) → World T → Type 0
-StaysWithItsOwner {T} holds old = (u : Claim) (mine before theirs : Claim → ℕ) (new : World T) →
-    IsLedger holds (λ x. mine x + before x) old → 1 ≤ mine u → before u ≡ 0 → inside holds old u ≡ 0 → CallsBeside holds u old before new theirs →
-    StaysMine holds mine theirs old new u
+-- the laws of the ledger
+pub record LedgerLaws {T : Type 0} (holds : T → List Holding) (w : World T) : Type 0 where
+  -- a world without items needs nothing
+  pub blank : (t : Time) (slots cells jobs : ℕ) → IsBlank t slots cells jobs w → IsLedger holds nothing w
+  -- each call keeps it
+  pub kept : IsWhole w → (ins outs : Claim → ℕ) (new : World T) (move : Moves holds w ins new outs) → Keeps holds move
+  -- it tells how items and cells stand
+  pub tells : (outside : Claim → ℕ) → IsLedger holds outside w → Tells holds outside w
+  -- who has all owners of an item, or the right to a cell, has them still after calls of others, and the item or the cell is as it was
+  pub stays : IsWhole w → (u : Claim) (mine before theirs : Claim → ℕ) (new : World T) → IsLedger holds (λ x. mine x + before x) w → 1 ≤ mine u →
+      before u ≡ 0 → inside holds w u ≡ 0 → CallsBeside holds u w before new theirs → StaysMine holds mine theirs w new u

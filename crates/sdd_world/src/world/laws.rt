@@ -3,16 +3,15 @@ ghost use Rattle.sdd_base.specs.Whole.{IsWhole};
 ghost use Rattle.sdd_base.specs.Out.{OutLaws};
 ghost use Rattle.sdd_base.specs.Jobs.{RunsJobsOnce};
 ghost use Rattle.sdd_base.specs.Left.{FourGuardsReclaim, GoesAtLatest, GoesInTime};
-ghost use Rattle.sdd_base.specs.World.{World, IsNew};
-ghost use Rattle.std.specs.Prelude.{ℕ};
+ghost use Rattle.sdd_base.specs.World.{World};
 ghost use Rattle.sdd_base.specs.Passing.{GuardsPass, ItemsPass};
 ghost use Rattle.sdd_base.specs.Collecting.{CollectedEnds};
 ghost use Rattle.sdd_base.specs.Adopting.{AdoptsWhatIsLeft};
-ghost use Rattle.sdd_base.specs.Ledger.{IsLedger, KeepsItsLedger, LedgerTells, nothing};
+ghost use Rattle.sdd_base.specs.Ledger.{LedgerLaws};
 ghost use Rattle.sdd_base.specs.Under.{KeepsCollectedUnderGuards, KeepsFreshUnderGuards, KeepsUnderGuards};
 
 use super::World;
-use sdd_base::{Item, Limits};
+use sdd_base::Item;
 use sdd_store::Job;
 
 impl<T: Item<T>, J: Job> World<T, J> {
@@ -29,12 +28,11 @@ impl<T: Item<T>, J: Job> World<T, J> {
         ensures { (w : World T J) → OutLaws T.holds w }
     {}
 
-    /// Of each owner and of each right to a cell there are as many as the world needs: those outside, which the caller counts, and those in cells and in
-    /// values. A new world has none, each call takes some and gives some, and they tell how items and cells stand.
+    /// Of each owner and of each right to a cell there are as many as the world needs: so many outside, as the caller counts them, and the others in
+    /// cells and in values. So who has all owners of an item knows what `release` will answer, and who has a cell knows that nobody else has it, and that
+    /// no call of others changes what it holds, but by a reference to the cell.
     pub fn keeps_its_ledger(&self)
-        ensures empty { (limits : Limits) (count : ℕ) → IsNew limits count self.now → IsLedger T.holds nothing self.now }
-        ensures kept { (w : World T J) → IsWhole w → KeepsItsLedger T.holds w }
-        ensures tells { (w : World T J) → LedgerTells T.holds w }
+        ensures { (w : World T J) → LedgerLaws T.holds w }
     {}
 
     /// A job that waits is run once, by the opening that finds it due, and its place is free after that.
