@@ -220,7 +220,9 @@ module _ {T : Type 0} (holds : T → List Holding) where
     shared = λ k n is. omega (arith, a (owner_of k), ap owner_count is.shared, is.some);
     stands = λ k some. has-owners _ (standing_at w k) some (sym (a (owner_of k)));
     owned = λ k is. omega (arith, a (owner_of k), ap owner_count is);
-    free = λ k is. let none : owner_count (standing_at w k) ≡ 0 = ap owner_count is in (omega (arith, none, a (owner_of k)), omega (arith, none, a (owner_of k)));
+    free = λ k is.
+        let none : owner_count (standing_at w k) ≡ 0 = ap owner_count is in
+        (omega (arith, none, a (owner_of k)), omega (arith, none, a (owner_of k)));
     in_cell = λ c k is. in-cell w c k is;
     in_value = λ k value is u. in-value w k value is u;
   }
