@@ -17,7 +17,7 @@ use Rattle.sdd_base.specs.Calls.{Calls}
 use Rattle.sdd_base.specs.Collecting.{collector_closed, waiting_for, without_collector}
 use Rattle.sdd_base.specs.Holding.{Holding}
 use Rattle.sdd_base.specs.InPlace.{IsAlone, MayInPlace}
-use Rattle.sdd_base.specs.Ledger.{Claim, owner_of, right_to, nothing, owner_held, claims, times_kept, needed, inside, IsLedger, Moves, Sets, Keeps, CallsBeside, IsStill, StaysMine, Tells, HasOwners, LedgerLaws}
+use Rattle.sdd_base.specs.Ledger.{Claim, owner_of, right_to, nothing, owner_held, claims, times_kept, needed, inside, IsLedger, Moves, Sets, put, Keeps, CallsBeside, IsStill, StaysMine, Tells, HasOwners, LedgerLaws}
 use Rattle.sdd_base.specs.Ledger.CallsBeside.{no_call, one_call}
 use Rattle.sdd_base.specs.Ledger.Moves.{registers, ends, opens, closes, stirs, accelerates, defers, changes_pointers, makes, shares, retires, releases, collects, drops, puts_out_raw, takes_back_raw, edits, makes_cell, changes_cell, spends_cell, closes_cell, closes_collector}
 use Rattle.sdd_base.specs.Out.{IsNullCell}
@@ -248,6 +248,13 @@ module _ {T : Type 0} (holds : T → List Holding) where
       omega (arith, held-where j cell.held, sum_by-set (λ (x : Option Cell). cond (holds_slot j x) 1 0) w.cells c (Some cell) None l)
   cell-inside w c cell l (right_to d) = omega arith
 
+  put-taken : {v w : World T} {ins outs : Claim → ℕ} (move : Moves holds v ins w outs) (u : Claim) → put holds move u ≤ ins u
+  put-taken (makes w k value s first empty) u = omega arith
+  put-taken (edits w k old value may is) u = omega arith
+  put-taken (makes_cell w c cell free) u = omega arith
+  put-taken (changes_cell w c old cell is) u = omega arith
+  put-taken other u = omega arith
+
   -- ---- each call keeps it
   module _ {v w : World T} {ins outs : Claim → ℕ} (move : Moves holds v ins w outs) (i : IsWhole v) where
     whole : IsWhole w
@@ -259,6 +266,7 @@ module _ {T : Type 0} (holds : T → List Holding) where
       whole = whole;
       ledger = λ others a. ledger-kept move i others a;
       no_more = λ u. omega (arith, sheds-inside holds v w s u);
+      taken = put-taken move;
       values = λ others a k some. elim (s.values k) [
         | inl same ↦ same
         | inr gone ↦ absurd (owned-there w (λ u. others u + outs u) k whole (ledger-kept move i others a) (omega (arith, some)) gone)
@@ -297,6 +305,7 @@ module _ {T : Type 0} (holds : T → List Holding) where
         whole = whole move i;
         ledger = λ others a. ledger-kept move i others a;
         no_more = more;
+        taken = put-taken move;
         values = λ others a j some. elim (same-or-not j k) [
           | inl e ↦ absurd (
               let free : owner_count (standing_at w j) ≡ 0 = rw e (ap owner_count empty.1) in
@@ -310,7 +319,8 @@ module _ {T : Type 0} (holds : T → List Holding) where
       record {
         whole = whole move i;
         ledger = λ others a. ledger-kept move i others a;
-        no_more = λ u. omega (arith, set-inside w k value (alone-within w k i may) u);
+        no_more = set-inside w k value (alone-within w k i may);
+        taken = put-taken move;
         values = λ others a j some. elim (same-or-not j k) [
           | inl e ↦ absurd (
               let needs : owner_count (standing_at w j) ≡ 1 = rw e (alone-count (standing_at w k) may.alone) in
@@ -326,6 +336,7 @@ module _ {T : Type 0} (holds : T → List Holding) where
         whole = whole move i;
         ledger = λ others a. ledger-kept move i others a;
         no_more = cell-inside w c cell empty.0;
+        taken = put-taken move;
         values = λ others a k some. refl;
         cells = λ others a d some free. elim (same-or-not d c) [
           | inl e ↦ absurd (
@@ -340,6 +351,7 @@ module _ {T : Type 0} (holds : T → List Holding) where
         whole = whole move i;
         ledger = λ others a. ledger-kept move i others a;
         no_more = cell-inside w c cell (there-inside w.cells c (ap is_some is));
+        taken = put-taken move;
         values = λ others a k some. refl;
         cells = λ others a d some free. elim (same-or-not d c) [
           | inl e ↦ absurd (free (ap right_to e))
@@ -388,7 +400,7 @@ module _ {T : Type 0} (holds : T → List Holding) where
       let kept = keeps move was.whole in
       let after : IsLedger holds (λ x. mine x + now x) w = λ x. omega (arith, kept.ledger others before x, have x, get x) in
       let gone : now u ≡ 0 = omega (arith, have u, get u, none_out, s.none_theirs) in
-      let inner_none : inside holds w u ≡ 0 = omega (arith, kept.no_more u, s.none_inside, have u, s.none_theirs) in
+      let inner_none : inside holds w u ≡ 0 = omega (arith, kept.no_more u, kept.taken u, s.none_inside, have u, s.none_theirs) in
       let as_many : needed w u ≡ needed v u = omega (arith, after u, s.ledger u, gone, inner_none, s.none_inside, s.none_theirs) in
       record {
         whole = kept.whole;

@@ -121,13 +121,22 @@ module _ {T : Type 0} (holds : T → List Holding) where
   Sets (changes_cell w c old cell is) u = u ≡ right_to c
   Sets other u = ⊥
 
+  -- so many of each the call puts inside: into a value, or into a cell
+  abbrev pub put : {v w : World T} {ins outs : Claim → ℕ} → Moves v ins w outs → Claim → ℕ
+  put (makes w k value s first empty) u = claims (holds value) u
+  put (edits w k old value may is) u = claims (holds value) u
+  put (makes_cell w c cell free) u = owner_held cell.held u
+  put (changes_cell w c old cell is) u = owner_held cell.held u
+  put other u = 0
+
   -- what a call keeps: its caller has what it takes, and others have so many besides
   pub record Keeps {v w : World T} {ins outs : Claim → ℕ} (move : Moves v ins w outs) : Type 0 where
     pub whole : IsWhole w
     -- what it takes is outside no more, and what it gives is
     pub ledger : (others : Claim → ℕ) → IsLedger (λ u. others u + ins u) v → IsLedger (λ u. others u + outs u) w
-    -- nothing comes inside but what it takes
-    pub no_more : (u : Claim) → inside w u ≤ inside v u + ins u
+    -- nothing comes inside but what it puts there, which is of what it takes
+    pub no_more : (u : Claim) → inside w u ≤ inside v u + put move u
+    pub taken : (u : Claim) → put move u ≤ ins u
     -- an item that others own, or that a cell or a value holds, has the value that it had
     pub values : (others : Claim → ℕ) → IsLedger (λ u. others u + ins u) v → (k : ℕ) → 1 ≤ others (owner_of k) + inside w (owner_of k) →
         value_at w k ≡ value_at v k
