@@ -38,11 +38,11 @@ one-here k j e = let same : (k == j) ≡ true = grind (arith, nat_tests) in rw s
 none-here : (k j : ℕ) → j ≢ k → one_where (k == j) ≡ 0
 none-here k j apart = let other : (k == j) ≡ false = grind (arith, nat_tests) in rw other refl
 
-none-filled : {T : Type 0} (v : Option T) → is_some v ≡ false → v ≡ None
+pub none-filled : {T : Type 0} (v : Option T) → is_some v ≡ false → v ≡ None
 none-filled None e = refl
 none-filled (Some v) e = absurd (cc)
 
-filled-inside : {A B : Type 0} (vs : List (Option A)) (ss : List (Option B)) (k : ℕ) → map is_some vs ≡ map is_some ss → k < length ss → k < length vs
+pub filled-inside : {A B : Type 0} (vs : List (Option A)) (ss : List (Option B)) (k : ℕ) → map is_some vs ≡ map is_some ss → k < length ss → k < length vs
 filled-inside vs ss k e l =
     let same : length (map is_some vs) ≡ length (map is_some ss) = ap (λ (bs : List Bool). length bs) e in
     omega (arith, l, same, length-map vs is_some, length-map ss is_some)
@@ -56,7 +56,7 @@ blank-at zero k = refl
 blank-at (suc n) zero = refl
 blank-at (suc n) (suc k) = blank-at n k
 
-blank-sum : {E : Type 0} (f : Option E → ℕ) → f None ≡ 0 → (n : ℕ) → sum_by f (replicate n None) ≡ 0
+pub blank-sum : {E : Type 0} (f : Option E → ℕ) → f None ≡ 0 → (n : ℕ) → sum_by f (replicate n None) ≡ 0
 blank-sum f none zero = refl
 blank-sum f none (suc n) = omega (arith, none, sum_by-cons f None (replicate n None), blank-sum f none n)
 
@@ -116,7 +116,7 @@ module _ {T : Type 0} (holds : T → List Holding) where
       rw (get_or-set_other w.standings k j s None apart) (omega (arith, less, none-here k j apart, a))
 
   -- one of several, or the last
-  fewer : (w : World T) (t : Time) (k : ℕ) (s : Option Standing) (outside now : ℕ → ℕ) → k < length w.standings →
+  pub fewer : (w : World T) (t : Time) (k : ℕ) (s : Option Standing) (outside now : ℕ → ℕ) → k < length w.standings →
       owner_count (standing_at w k) ≡ owner_count s + 1 → ((j : ℕ) → outside j ≡ now j + one_where (k == j)) → IsAccounted holds outside w →
       IsAccounted holds now (record w { time = t; standings = slice_set w.standings k s })
   fewer w t k s outside now l count less a j = fewer-at w k j s outside now l count (less j) (same-or-not j k) (a j)

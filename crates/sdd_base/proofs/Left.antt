@@ -517,7 +517,7 @@ module _ {T : Type 0} where
     goes-at-latest w i =
         record { bounded = λ q k seen h. left-bounded w q k seen i h; lowered = openings-lower w i; never_raised = no-call-raises w i }
 
-    Whole-called : {w new : World T} → Calls holds w new → IsWhole w → IsWhole new
+    pub Whole-called : {w new : World T} → Calls holds w new → IsWhole w → IsWhole new
     Whole-called (registers w r vacant) i = Whole-registered w r vacant i
     Whole-called (ends w r l shut) i = Whole-ended w r l shut i
     Whole-called (opens w r l) i = Whole-opened holds w r l i

@@ -23,3 +23,6 @@ pub mod Letting
 pub mod Sharing
 pub mod Accounts
 pub mod Composed
+pub mod Rights
+pub mod Sheds
+pub mod Ledger

@@ -24,6 +24,7 @@ pub mod Adopting
 pub mod Under
 pub mod Passing
 pub mod Accounts
+pub mod Ledger
 pub mod Composed
 pub mod Refusals
 pub mod Undisturbed

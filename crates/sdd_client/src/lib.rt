@@ -2,6 +2,7 @@
 #![tactic(auto)]
 
 pub mod config;
+pub mod counts;
 pub mod guards;
 pub mod items;
 pub mod lone;

@@ -2,9 +2,10 @@
 ghost use Rattle.std.specs.Prelude.{◌≡◌, ◌↔◌};
 ghost use Rattle.sdd_base.specs.Whole.{IsWhole};
 ghost use Rattle.sdd_base.specs.Left.{FourGuardsReclaim, GoesAtLatest, GoesInTime};
+ghost use Rattle.sdd_base.specs.Ledger.{LedgerLaws};
 ghost use Rattle.sdd_base.specs.Passing.{GuardsPass};
 ghost use Rattle.sdd_base.specs.Under.{KeepsFreshUnderGuards, KeepsUnderGuards};
-ghost use Rattle.sdd_base.specs.World.{IsGuarded, IsPlaceOf};
+ghost use Rattle.sdd_base.specs.World.{World, IsGuarded, IsPlaceOf};
 ghost use Rattle.sdd_domain.specs.Local.{world_of};
 ghost use Rattle.sdd_domain.specs.Member.{IsLone};
 
@@ -52,4 +53,10 @@ impl<T: Item<T>> Local<'_, T> {
     {
         self.is_whole();
     }
+
+    /// Of each owner and of each right to a cell there are as many as a world needs: so many outside, as the caller counts them, and the others in cells
+    /// and in values. So it is in a lone participant's world: `is_whole` says that it is whole, and each call that it makes is one of a world.
+    pub fn keeps_its_ledger(&self)
+        ensures { (w : World T) → LedgerLaws T.holds w }
+    {}
 }

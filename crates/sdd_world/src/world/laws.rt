@@ -7,6 +7,7 @@ ghost use Rattle.sdd_base.specs.World.{World};
 ghost use Rattle.sdd_base.specs.Passing.{GuardsPass, ItemsPass};
 ghost use Rattle.sdd_base.specs.Collecting.{CollectedEnds};
 ghost use Rattle.sdd_base.specs.Adopting.{AdoptsWhatIsLeft};
+ghost use Rattle.sdd_base.specs.Ledger.{LedgerLaws};
 ghost use Rattle.sdd_base.specs.Under.{KeepsCollectedUnderGuards, KeepsFreshUnderGuards, KeepsUnderGuards};
 
 use super::World;
@@ -25,6 +26,13 @@ impl<T: Item<T>, J: Job> World<T, J> {
     /// What each call puts out of the world's hands, and what it takes back.
     pub fn counts_what_is_out(&self)
         ensures { (w : World T J) → OutLaws T.holds w }
+    {}
+
+    /// Of each owner and of each right to a cell there are as many as the world needs: so many outside, as the caller counts them, and the others in
+    /// cells and in values. So who has all owners of an item knows what `release` will answer, and who has a cell knows that nobody else has it, and that
+    /// no call of others changes what it holds, but by a reference to the cell.
+    pub fn keeps_its_ledger(&self)
+        ensures { (w : World T J) → LedgerLaws T.holds w }
     {}
 
     /// A job that waits is run once, by the opening that finds it due, and its place is free after that.
