@@ -1,12 +1,8 @@
-//! Epoch-based delayed reclamation, after the crate `sdd`: every public name of the port, and what scripts mean.
+//! Epoch-based delayed reclamation, after the crate `sdd`: every public name of worlds, domains and machines.
+//!
+//! Scripts are in `sdd_script`, so that a program without them needs none of their crates.
 #![tactic(auto)]
 
-pub mod script;
-
-pub use script::{
-    Action, Answer, Call, CellName, CollectorName, Ended, Fault, GuardName, ItemName, JobName,
-    Names, OwnerName, PlaceName, Reader, Reply, Scene, Sink, Source, Value, Writer, play, run,
-};
 pub use sdd_base::laws::{
     comes_back, epoch_moves_by_one, owned_is_shown, shared_is_shown, shows_what_was_made,
 };
