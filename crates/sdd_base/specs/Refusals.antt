@@ -1,12 +1,13 @@
--- Why a call that needs more than one thing may be refused, in any space
+-- Why a call may be refused, in any space
 use Rattle.std.specs.Prelude.{◌≡◌, ◌⊎◌}
 use Rattle.sdd_core.specs.declared.refused.Refused.{Refused}
-use Rattle.sdd_core.specs.declared.refused.Refused.TheVariants.{NoSlot, NoCell, TooManyOwners, Contended}
+use Rattle.sdd_core.specs.declared.refused.Refused.TheVariants.{Contended}
+use Rattle.sdd_base.specs.Seat.{Seat, IsLone}
 
--- a value is to lie in a slot, and its owner in a cell
-abbrev pub IsRefusedItsCell : Refused → Type 0
-IsRefusedItsCell e = (e ≡ NoSlot) ⊎ ((e ≡ NoCell) ⊎ (e ≡ Contended))
+-- as many exchanges were lost as the limits allow, to others: a lone participant loses none
+abbrev pub IsContended : Seat → Refused → Type 0
+IsContended s e = (e ≡ Contended) × ¬ (IsLone s)
 
--- one owner more is to lie in another cell
-abbrev pub IsRefusedItsCopy : Refused → Type 0
-IsRefusedItsCopy e = (e ≡ NoCell) ⊎ ((e ≡ TooManyOwners) ⊎ (e ≡ Contended))
+-- for this reason, or since others won too often
+abbrev pub IsRefusedBy : Seat → Refused → Refused → Type 0
+IsRefusedBy s why e = (e ≡ why) ⊎ IsContended s e

@@ -3,12 +3,12 @@ ghost use Rattle.sdd_token.specs.Right.{kind_of};
 ghost use Rattle.sdd_standings.specs.Slots.{IsSharedBy};
 ghost use Rattle.sdd_base.specs.Holding.{AreOf};
 ghost use Rattle.sdd_base.specs.World.{World, standing_at};
-ghost use Rattle.sdd_base.specs.Seat.{IsSeated, IsExact, IsLone};
+ghost use Rattle.sdd_base.specs.Seat.{IsSeated, IsExact};
+ghost use Rattle.sdd_base.specs.Refusals.{IsContended, IsRefusedBy};
 ghost use Rattle.sdd_base.specs.Known.{KnowsOn};
 ghost use Rattle.sdd_base.specs.Own.{IsSpilled};
 ghost use Rattle.sdd_base.specs.Ptr.{KeepsShown, IsShown, cell_seen, slot_named, shown_by, tag_of};
 ghost use Rattle.sdd_base.specs.RawPtr as raw;
-ghost use Rattle.sdd_base.specs.Refusals.{IsRefusedItsCell};
 ghost use Rattle.sdd_base.specs.Guard.{reader_of};
 ghost use Rattle.sdd_base.specs.Steps.{made, nulled, with_cell, without_cell, with_standing, cell_closed};
 ghost use Rattle.sdd_base.specs.Owned.{right_of, slot_of, slots_home, cell_right, cell_of, cells_home, cell_with, IsOfSlots};
@@ -80,8 +80,7 @@ impl<T: Item<T>> AtomicOwned<T> {
         ensures home { IfOk result (λ cell. cells_home cell ≡ (S.seat s.old).home.cells) }
         ensures shown { IsExact (S.seat s.old) → IfOk result (λ cell. (slot : ℕ) × S.shows s.new slot value ×
             (entry_at (S.world s.new).cells (cell_of cell) ≡ Some (record { held = Some slot; tag = no_tag }))) }
-        ensures back { IfErr result (λ e. (e.0 ≡ value) × IsRefusedItsCell e.1) }
-        ensures lone { IsLone (S.seat s.old) → IfErr result (λ e. e.1 ≢ Refused.Contended) }
+        ensures back { IfErr result (λ e. (e.0 ≡ value) × ((e.1 ≡ Refused.NoSlot) ⊎ IsRefusedBy (S.seat s.old) Refused.NoCell e.1)) }
         ensures exact { IsExact (S.seat s.old) → MatchResult result
             (λ cell. (slot : ℕ) × IsEmptyAt (S.world s.old).standings slot × IsEmptyAt (S.world s.old).cells (cell_of cell) ×
             (S.world s.new ≡ with_cell (made (S.world s.old) slot value) (cell_of cell) (record { held = Some slot; tag = no_tag })))
@@ -105,8 +104,7 @@ impl<T: Item<T>> AtomicOwned<T> {
         ensures own { S.own s.new ≡ S.own s.old }
         ensures known { KnowsOn (S.known s.old) (S.known s.new) }
         ensures home { IfOk result (λ cell. cells_home cell ≡ (S.seat s.old).home.cells) }
-        ensures back { IfErr result (λ e. (right_of e.0 ≡ right_of owner) × ((e.1 ≡ Refused.NoCell) ⊎ (e.1 ≡ Refused.Contended))) }
-        ensures lone { IsLone (S.seat s.old) → IfErr result (λ e. e.1 ≡ Refused.NoCell) }
+        ensures back { IfErr result (λ e. (right_of e.0 ≡ right_of owner) × IsRefusedBy (S.seat s.old) Refused.NoCell e.1) }
         ensures exact { IsExact (S.seat s.old) → MatchResult result
             (λ cell. IsEmptyAt (S.world s.old).cells (cell_of cell) ×
             (S.world s.new ≡ with_cell (S.world s.old) (cell_of cell) (cell_with (Some owner) no_tag)))
@@ -131,8 +129,7 @@ impl<T: Item<T>> AtomicOwned<T> {
         ensures own { S.own s.new ≡ S.own s.old }
         ensures known { KnowsOn (S.known s.old) (S.known s.new) }
         ensures home { IfOk result (λ cell. cells_home cell ≡ (S.seat s.old).home.cells) }
-        ensures back { IfErr result (λ e. (e ≡ Refused.NoCell) ⊎ (e ≡ Refused.Contended)) }
-        ensures lone { IsLone (S.seat s.old) → IfErr result (λ e. e ≡ Refused.NoCell) }
+        ensures back { IfErr result (IsRefusedBy (S.seat s.old) Refused.NoCell) }
         ensures exact { IsExact (S.seat s.old) → MatchResult result
             (λ cell. IsEmptyAt (S.world s.old).cells (cell_of cell) × (S.world s.new ≡ nulled (S.world s.old) (cell_of cell)))
             (λ e. IsFull (S.world s.old).cells × (e ≡ Refused.NoCell) × (S.world s.new ≡ S.world s.old)) }
@@ -230,8 +227,7 @@ impl<T: Item<T>> AtomicOwned<T> {
         ensures seat { S.seat s.new ≡ S.seat s.old }
         ensures own { S.own s.new ≡ S.own s.old }
         ensures known { KnowsOn (S.known s.old) (S.known s.new) }
-        ensures back { IfErr result (λ e. e ≡ Refused.Contended) }
-        ensures lone { IsLone (S.seat s.old) → IsOk result }
+        ensures back { IfErr result (IsContended (S.seat s.old)) }
         ensures exact { IsExact (S.seat s.old) → IsOk result × IfOk result (λ changed. (ptr : RawPtr T) ×
             (entry_at (S.world s.old).cells (cell_of self.now) ≡ Some (raw.cell_seen ptr)) × F.post condition ptr changed ×
             (S.world s.new ≡ (if changed then with_cell (S.world s.old) (cell_of self.now) (record (raw.cell_seen ptr) { tag = tag }) else S.world s.old))) }

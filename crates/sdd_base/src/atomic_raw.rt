@@ -1,6 +1,7 @@
-ghost use Rattle.std.specs.Prelude.{◌≡◌, ◌≢◌, ◌↔◌, ◌⊎◌, IfErr, IfOk, IsOk, IsTrue, MatchResult, None, Some, if◌then◌else◌};
+ghost use Rattle.std.specs.Prelude.{◌≡◌, ◌≢◌, ◌↔◌, IfErr, IfOk, IsOk, IsTrue, MatchResult, None, Some, if◌then◌else◌};
 ghost use Rattle.sdd_base.specs.World.{World, pointer_at};
-ghost use Rattle.sdd_base.specs.Seat.{IsSeated, IsExact, IsLone};
+ghost use Rattle.sdd_base.specs.Seat.{IsSeated, IsExact};
+ghost use Rattle.sdd_base.specs.Refusals.{IsContended, IsRefusedBy};
 ghost use Rattle.sdd_base.specs.Known.{KnowsOn};
 ghost use Rattle.sdd_base.specs.Ptr.{KeepsShown};
 ghost use Rattle.sdd_base.specs.RawPtr as raw;
@@ -58,8 +59,7 @@ impl<T: Item<T>> AtomicRaw<T> {
         ensures own { S.own s.new ≡ S.own s.old }
         ensures known { KnowsOn (S.known s.old) (S.known s.new) }
         ensures home { IfOk result (λ cell. cells_home cell ≡ (S.seat s.old).home.cells) }
-        ensures back { IfErr result (λ e. (e ≡ Refused.NoCell) ⊎ (e ≡ Refused.Contended)) }
-        ensures lone { IsLone (S.seat s.old) → IfErr result (λ e. e ≡ Refused.NoCell) }
+        ensures back { IfErr result (IsRefusedBy (S.seat s.old) Refused.NoCell) }
         ensures exact { IsExact (S.seat s.old) → MatchResult result
             (λ cell. IsEmptyAt (S.world s.old).cells (cell_of cell) × (S.world s.new ≡ pointing (S.world s.old) (cell_of cell) (raw.pointer_of ptr)))
             (λ e. IsFull (S.world s.old).cells × (e ≡ Refused.NoCell) × (S.world s.new ≡ S.world s.old)) }
@@ -77,8 +77,7 @@ impl<T: Item<T>> AtomicRaw<T> {
         ensures own { S.own s.new ≡ S.own s.old }
         ensures known { KnowsOn (S.known s.old) (S.known s.new) }
         ensures home { IfOk result (λ cell. cells_home cell ≡ (S.seat s.old).home.cells) }
-        ensures back { IfErr result (λ e. (e ≡ Refused.NoCell) ⊎ (e ≡ Refused.Contended)) }
-        ensures lone { IsLone (S.seat s.old) → IfErr result (λ e. e ≡ Refused.NoCell) }
+        ensures back { IfErr result (IsRefusedBy (S.seat s.old) Refused.NoCell) }
         ensures exact { IsExact (S.seat s.old) → MatchResult result
             (λ cell. IsEmptyAt (S.world s.old).cells (cell_of cell) × (S.world s.new ≡ pointing (S.world s.old) (cell_of cell) null_pointer))
             (λ e. IsFull (S.world s.old).cells × (e ≡ Refused.NoCell) × (S.world s.new ≡ S.world s.old)) }
@@ -176,8 +175,7 @@ impl<T: Item<T>> AtomicRaw<T> {
         ensures seat { S.seat s.new ≡ S.seat s.old }
         ensures own { S.own s.new ≡ S.own s.old }
         ensures known { KnowsOn (S.known s.old) (S.known s.new) }
-        ensures back { IfErr result (λ e. e ≡ Refused.Contended) }
-        ensures lone { IsLone (S.seat s.old) → IsOk result }
+        ensures back { IfErr result (IsContended (S.seat s.old)) }
         ensures exact { IsExact (S.seat s.old) → IsOk result × IfOk result (λ changed. (ptr : RawPtr T) ×
             (pointer_at (S.world s.old) (cell_of self.now) ≡ Some (raw.pointer_of ptr)) × F.post condition ptr changed ×
             (S.world s.new ≡ (if changed
@@ -204,8 +202,7 @@ impl<T: Item<T>> AtomicRaw<T> {
         ensures seat { S.seat s.new ≡ S.seat s.old }
         ensures own { S.own s.new ≡ S.own s.old }
         ensures known { KnowsOn (S.known s.old) (S.known s.new) }
-        ensures back { IfErr result (λ e. e ≡ Refused.Contended) }
-        ensures lone { IsLone (S.seat s.old) → IsOk result }
+        ensures back { IfErr result (IsContended (S.seat s.old)) }
         ensures exact { IsExact (S.seat s.old) → IsOk result × IfOk result (λ updated. MatchResult updated
             (λ was. (next : RawPtr T) × (pointer_at (S.world s.old) (cell_of self.now) ≡ Some (raw.pointer_of was)) × F.post f was (Some next) ×
             (S.world s.new ≡ with_pointer (S.world s.old) (cell_of self.now) (raw.pointer_of next)))

@@ -21,12 +21,13 @@ pub struct Guard {
 const _: () = prove!(size_of::<Guard>() == 0);
 
 impl Guard {
-    ghost use Rattle.std.specs.Prelude.{◌≡◌, ◌%◌, ◌⊎◌, ℕ, MatchResult, IfErr, IfOk, IsTrue};
+    ghost use Rattle.std.specs.Prelude.{◌≡◌, ◌%◌, ℕ, MatchResult, IfErr, IfOk, IsTrue};
     ghost use Rattle.sdd_store.specs.declared.waiting.What.TheVariants.{Job};
     ghost use Rattle.sdd_store.specs.Table.{IsEmptyAt, IsFull};
     ghost use Rattle.sdd_core.specs.Epoch.{epoch_of};
     ghost use Rattle.sdd_base.specs.World.{World, place_at};
     ghost use Rattle.sdd_base.specs.Seat.{IsSeated, IsExact, IsLone, MayNest};
+    ghost use Rattle.sdd_base.specs.Refusals.{IsRefusedBy};
     ghost use Rattle.sdd_base.specs.Own.{IsOpened, IsClosed};
     ghost use Rattle.sdd_base.specs.Known.{KnowsOn, KnowsOpened, KnowsClosed, IsNear, IsRaisedBy};
     ghost use Rattle.sdd_base.specs.Ptr.{KeepsShown};
@@ -153,8 +154,7 @@ impl Guard {
             (λ _. (place : ℕ) × (S.own s.new ≡ time.awaiting (Job place) (S.own s.old)))
             (λ _. S.own s.new ≡ S.own s.old) }
         ensures known { KnowsOn (S.known s.old) (S.known s.new) }
-        ensures back { IfErr result (λ e. (e.0 ≡ job) × ((e.1 ≡ Refused.NoJob) ⊎ (e.1 ≡ Refused.Contended))) }
-        ensures lone { IsLone (S.seat s.old) → IfErr result (λ e. e.1 ≡ Refused.NoJob) }
+        ensures back { IfErr result (λ e. (e.0 ≡ job) × IsRefusedBy (S.seat s.old) Refused.NoJob e.1) }
         ensures exact { IsExact (S.seat s.old) → MatchResult result
             (λ _. (place : ℕ) × IsEmptyAt (S.world s.old).jobs place × (S.world s.new ≡ deferred (S.world s.old) (S.seat s.old).place place))
             (λ e. IsFull (S.world s.old).jobs × (e.1 ≡ Refused.NoJob) × (S.world s.new ≡ S.world s.old)) }

@@ -1,11 +1,12 @@
 //! What the spaces need beyond the public surface: an owner, a cell, a guard and a pointer as what they are made of.
-ghost use Rattle.std.specs.Prelude.{◌≡◌, ◌⊎◌, IfErr, IfOk, MatchResult, None, Some, option_copied};
+ghost use Rattle.std.specs.Prelude.{◌≡◌, IfErr, IfOk, MatchResult, None, Some, option_copied};
 ghost use Rattle.sdd_token.specs.Right.{kind_of};
 ghost use Rattle.sdd_base.specs.Owned.{slot_of, right_of, cell_right};
 ghost use Rattle.sdd_base.specs.Shared as shared;
 ghost use Rattle.sdd_base.specs.Holding.{AreOf};
 ghost use Rattle.sdd_base.specs.World.{World};
-ghost use Rattle.sdd_base.specs.Seat.{IsSeated, IsExact, IsLone};
+ghost use Rattle.sdd_base.specs.Seat.{IsSeated, IsExact};
+ghost use Rattle.sdd_base.specs.Refusals.{IsRefusedBy};
 ghost use Rattle.sdd_base.specs.Known.{KnowsOn};
 ghost use Rattle.sdd_base.specs.Ptr.{KeepsShown};
 ghost use Rattle.sdd_base.specs.Steps.{made_as};
@@ -241,8 +242,7 @@ pub fn make_two<T: Item<T>, S: Several<T>>(
     ensures home { IfOk result (λ both. (shared.slots_home both.0 ≡ (S.seat s.old).home.slots) × (shared.slots_home both.1 ≡ (S.seat s.old).home.slots)) }
     ensures one { IfOk result (λ both. shared.slot_of both.1 ≡ shared.slot_of both.0) }
     ensures shown { IfOk result (λ both. S.owns_value s.new (shared.right_of both.0) value × S.owns_value s.new (shared.right_of both.1) value) }
-    ensures back { IfErr result (λ e. (e.0 ≡ value) × ((e.1 ≡ Refused.NoSlot) ⊎ (e.1 ≡ Refused.Contended))) }
-    ensures lone { IsLone (S.seat s.old) → IfErr result (λ e. e.1 ≡ Refused.NoSlot) }
+    ensures back { IfErr result (λ e. (e.0 ≡ value) × IsRefusedBy (S.seat s.old) Refused.NoSlot e.1) }
     ensures exact { IsExact (S.seat s.old) → MatchResult result
         (λ both. IsEmptyAt (S.world s.old).standings (shared.slot_of both.0) ×
         (S.world s.new ≡ made_as (S.world s.old) (shared.slot_of both.0) value (Standing.Shared 2)))

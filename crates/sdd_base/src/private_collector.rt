@@ -1,6 +1,7 @@
-ghost use Rattle.std.specs.Prelude.{ℕ, ◌≡◌, ◌≢◌, ◌↔◌, ◌⊎◌, IfErr, IfOk, IsTrue, MatchResult, Some, if◌then◌else◌};
+ghost use Rattle.std.specs.Prelude.{ℕ, ◌≡◌, ◌≢◌, ◌↔◌, IfErr, IfOk, IsTrue, MatchResult, Some, if◌then◌else◌};
 ghost use Rattle.sdd_base.specs.World.{World, IsGuarded, standing_at};
-ghost use Rattle.sdd_base.specs.Seat.{IsSeated, IsExact, IsLone};
+ghost use Rattle.sdd_base.specs.Seat.{IsSeated, IsExact};
+ghost use Rattle.sdd_base.specs.Refusals.{IsRefusedBy};
 ghost use Rattle.sdd_base.specs.Known.{KnowsOn};
 ghost use Rattle.sdd_base.specs.Own.{IsCollected};
 ghost use Rattle.sdd_base.specs.Ptr.{KeepsShown};
@@ -76,8 +77,7 @@ impl<T: Item<T>> PrivateCollector<T> {
         ensures own { S.own s.new ≡ S.own s.old }
         ensures known { KnowsOn (S.known s.old) (S.known s.new) }
         ensures home { IfOk result (λ collector. cells_home collector ≡ (S.seat s.old).home.cells) }
-        ensures back { IfErr result (λ e. (e ≡ Refused.NoCell) ⊎ (e ≡ Refused.Contended)) }
-        ensures lone { IsLone (S.seat s.old) → IfErr result (λ e. e ≡ Refused.NoCell) }
+        ensures back { IfErr result (IsRefusedBy (S.seat s.old) Refused.NoCell) }
         ensures exact { IsExact (S.seat s.old) → MatchResult result
             (λ collector. IsEmptyAt (S.world s.old).cells (collector_of collector) ×
             (S.world s.new ≡ pointing (S.world s.old) (collector_of collector) null_pointer))

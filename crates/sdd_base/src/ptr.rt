@@ -177,11 +177,12 @@ impl<'g, T> Ptr<'g, T> {
 }
 
 impl<'g, T: Item<T>> Ptr<'g, T> {
-    ghost use Rattle.std.specs.Prelude.{ℕ, ◌≡◌, ◌↔◌, ◌+◌, ◌^◌, ◌<◌, ◌⊎◌, IfErr, IfOk, IfSome, IsSome, MatchOption, MatchResult, None, Some, option_copied};
+    ghost use Rattle.std.specs.Prelude.{ℕ, ◌≡◌, ◌↔◌, ◌+◌, ◌^◌, ◌<◌, IfErr, IfOk, IfSome, IsSome, MatchOption, MatchResult, None, Some, option_copied};
     ghost use Rattle.sdd_standings.specs.Slots.{IsSharedBy, owners_of};
     ghost use Rattle.sdd_store.specs.declared.standing.Standing.TheVariants.{Shared as shared_by};
     ghost use Rattle.sdd_base.specs.World.{World, standing_at};
-    ghost use Rattle.sdd_base.specs.Seat.{IsSeated, IsExact, IsLone};
+    ghost use Rattle.sdd_base.specs.Seat.{IsSeated, IsExact};
+    ghost use Rattle.sdd_base.specs.Refusals.{IsRefusedBy};
     ghost use Rattle.sdd_base.specs.Known.{KnowsOn};
     ghost use Rattle.sdd_base.specs.Steps.{with_standing};
     ghost use Rattle.sdd_base.specs.Shared.{IsOfSlots, right_of, slot_of};
@@ -208,8 +209,7 @@ impl<'g, T: Item<T>> Ptr<'g, T> {
         ensures owner { IfOk result (IsOfSlots (S.seat s.old).home.slots) }
         ensures slot { IfOk result (λ o. IfSome o (λ owner. slot_named self.now ≡ Some (slot_of owner))) }
         ensures value { IfOk result (λ o. IfSome o (λ owner. (v : T) → S.shows s.old (slot_of owner) v → S.owns_value s.new (right_of owner) v)) }
-        ensures back { IfErr result (λ e. (e ≡ Refused.TooManyOwners) ⊎ (e ≡ Refused.Contended)) }
-        ensures lone { IsLone (S.seat s.old) → IfErr result (λ e. e ≡ Refused.TooManyOwners) }
+        ensures back { IfErr result (IsRefusedBy (S.seat s.old) Refused.TooManyOwners) }
         ensures exact { IsExact (S.seat s.old) → MatchResult result
             (λ o. MatchOption o
             ((S.world s.new ≡ S.world s.old) × IfSome (slot_named self.now) (λ slot. owners_of (standing_at (S.world s.old) slot) ≡ None))

@@ -1,9 +1,10 @@
 ghost use Rattle.std.specs.Fn.{FnOnceReturnsAtMut};
-ghost use Rattle.std.specs.Prelude.{ℕ, ◌≡◌, ◌+◌, ◌^◌, ◌<◌, ◌↔◌, ◌⊎◌, ◌-◌, IfErr, IfOk, IfSome, IsSome, IsTrue, MatchBool, MatchResult, Some, None, option_map, if◌then◌else◌};
+ghost use Rattle.std.specs.Prelude.{ℕ, ◌≡◌, ◌+◌, ◌^◌, ◌<◌, ◌↔◌, ◌⊎◌, ◌-◌, IfErr, IfOk, IfSome, IsSome, IsTrue, MatchBool, MatchOption, MatchResult, Some, None, option_map, if◌then◌else◌};
 ghost use Rattle.sdd_token.specs.Right.{kind_of};
 ghost use Rattle.sdd_base.specs.Holding.{AreOf};
 ghost use Rattle.sdd_base.specs.World.{World, IsGuarded, standing_at, value_at};
 ghost use Rattle.sdd_base.specs.Seat.{IsSeated, IsExact, IsLone};
+ghost use Rattle.sdd_base.specs.Refusals.{IsRefusedBy};
 ghost use Rattle.sdd_base.specs.Known.{KnowsOn};
 ghost use Rattle.sdd_base.specs.Own.{GrowsOn};
 ghost use Rattle.sdd_base.specs.Steps.{made_shared, with_standing, with_value, dropped, owner_given};
@@ -11,7 +12,7 @@ ghost use Rattle.sdd_base.specs.Shared.{right_of, slot_of, slots_home};
 ghost use Rattle.sdd_core.specs.declared.tag.Tag.TheVariants.{None as no_tag};
 ghost use Rattle.sdd_base.specs.Ptr.{slot_named, shown_by, tag_of, KeepsOthers, KeepsShown};
 ghost use Rattle.sdd_base.specs.Guard.{reader_of};
-ghost use Rattle.sdd_standings.specs.Slots.{IsSharedBy};
+ghost use Rattle.sdd_standings.specs.Slots.{IsSharedBy, owners_of};
 ghost use Rattle.sdd_store.specs.Table.{IsEmptyAt, IsFull};
 ghost use Rattle.sdd_store.specs.Time as time;
 ghost use Rattle.sdd_store.specs.declared.waiting.What.TheVariants.{Item};
@@ -191,6 +192,38 @@ impl<T: Item<T>> Shared<T> {
         }
     }
 
+    /// One owner more of the item that a pointer names, if it is shared.
+    ///
+    /// The pointer comes back for null, for an item with one owner that can't be shared, and after the last owner went; with `TooManyOwners` where 2^62 own
+    /// the item, cells counted; and with `Contended`, in a domain alone, where as many exchanges were lost as its limits allow.
+    pub fn try_from_ptr<'g, S: SharedItems<T>>(
+        ptr: Ptr<'g, T>,
+        s: &mut S,
+    ) -> Result<Shared<T>, (Ptr<'g, T>, Option<Refused>)>
+        requires seated { IsSeated (S.seat s.old) }
+        ensures seat { S.seat s.new ≡ S.seat s.old }
+        ensures own { S.own s.new ≡ S.own s.old }
+        ensures known { KnowsOn (S.known s.old) (S.known s.new) }
+        ensures home { IfOk result (λ owner. slots_home owner ≡ (S.seat s.old).home.slots) }
+        ensures slot { IfOk result (λ owner. slot_named ptr.entry ≡ Some (slot_of owner)) }
+        ensures value { IfOk result (λ owner. (v : T) → S.shows s.old (slot_of owner) v → S.owns_value s.new (right_of owner) v) }
+        ensures back { IfErr result (λ e. (e.0 ≡ ptr.entry) × IfSome e.1 (IsRefusedBy (S.seat s.old) Refused.TooManyOwners)) }
+        ensures exact { IsExact (S.seat s.old) → MatchResult result
+            (λ owner. (owners : ℕ) × IsSharedBy owners (standing_at (S.world s.old) (slot_of owner)) × (owners < 2 ^ 62) ×
+            (S.world s.new ≡ with_standing (S.world s.old) (slot_of owner) (Standing.Shared (owners + 1))))
+            (λ e. (S.world s.new ≡ S.world s.old) × MatchOption e.1
+            (IfSome (slot_named ptr.entry) (λ slot. owners_of (standing_at (S.world s.old) slot) ≡ None))
+            (λ why. (why ≡ Refused.TooManyOwners) ×
+            ((slot : ℕ) × (slot_named ptr.entry ≡ Some slot) × IsSharedBy (2 ^ 62) (standing_at (S.world s.old) slot)))) }
+        ensures keeps { KeepsShown (S.shows s.old) (S.shows s.new) }
+    {
+        match ptr.get_shared(s) {
+            Ok(Some(owner)) => Ok(owner),
+            Ok(None) => Err((ptr, None)),
+            Err(refused) => Err((ptr, Some(refused))),
+        }
+    }
+
     /// One owner more of the same item, with the same value.
     ///
     /// `TooManyOwners` where 2^62 own it, cells counted.
@@ -272,8 +305,7 @@ impl<T: Item<T>> Shared<T> {
         ensures seat { S.seat s.new ≡ S.seat s.old }
         ensures own { MatchResult result (λ _. GrowsOn (S.own s.old) (S.own s.new)) (λ _. S.own s.new ≡ S.own s.old) }
         ensures known { KnowsOn (S.known s.old) (S.known s.new) }
-        ensures back { IfErr result (λ e. (right_of e.0 ≡ right_of self) × ((e.1 ≡ Refused.GuardOpen) ⊎ (e.1 ≡ Refused.Contended))) }
-        ensures lone { IsLone (S.seat s.old) → IfErr result (λ e. e.1 ≡ Refused.GuardOpen) }
+        ensures back { IfErr result (λ e. (right_of e.0 ≡ right_of self) × IsRefusedBy (S.seat s.old) Refused.GuardOpen e.1) }
         ensures exact { IsExact (S.seat s.old) → (owners : ℕ) × IsSharedBy owners (standing_at (S.world s.old) (slot_of self)) × MatchResult result
             (λ last. MatchBool last
             ((owners ≡ 1) × ¬ (IsGuarded (S.world s.old)) × (S.world s.new ≡ dropped T.holds (S.world s.old) (S.seat s.old).place (slot_of self)))

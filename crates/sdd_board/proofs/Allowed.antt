@@ -5,6 +5,7 @@ use mathlib.Core.Option.{none, some}
 use mathlib.Core.Logic.{dite}
 use native.Mathlib.Decide.{ℕ_discrete}
 use lib.ListN.{get_elem?}
+use Rattle.atomic_table.proofs.Lists.{exchanged}
 use prog.Atomic.{either}
 use Rattle.atomic_table.specs.Table.{State, step, Allows, Enters, carried_after}
 use Rattle.sdd_witness.specs.Steps.{AllowsBeside}
@@ -23,10 +24,10 @@ use Rattle.sdd_views.specs.Views.{nobody, owner_of}
 use Rattle.sdd_rule.specs.Steps.{Keeps, passed_by, knowing, scanning, IsNext, Registers, Reads, Counts, Publishes, Ends, Locks, LooksAtLock, LooksAtState, LooksAtCount, Advances, Unlocks}
 use Rattle.sdd_rule.specs.Slots.{OwnsAlone, Holds}
 use Rattle.sdd_rule.specs.SlotSteps.{blank, changed, OnEpoch, PublishesAll, IsDue, LooksAtSlot, TakesHold, LetsGo, LooksForGuard, AtSlot}
-use Rattle.sdd_rule.specs.Ended.{Bars, LooksForValue}
+use Rattle.sdd_rule.specs.Barred.{IsNobodys, Bars, LooksForValue}
 use Rattle.sdd_rule.proofs.Epoch as epochs
 use Rattle.sdd_rule.proofs.EpochSteps as over
-use Rattle.sdd_rule.proofs.Ended.{Spares}
+use Rattle.sdd_rule.proofs.Barred.{Spares}
 use Rattle.sdd_rule.proofs.Sums.{is_same}
 use Rattle.sdd_homes.specs.Homes.{Carries, Moves, spare}
 use Rattle.sdd_homes.specs.Banked.{IsBank, banked, founder}
@@ -139,12 +140,13 @@ module _ (γ : ℕ) (sizes : Sizes) (slots id : ℕ) (me : Mine) where
       subst (λ (i : ℕ). May i (λ x. either (eqb x 0) 1 x) (Told (OnEpoch (Registers i)) me)) (sym is)
       (lift_epoch γ sizes slots id me (state_word p) (λ x. either (eqb x 0) 1 x) (Registers (state_word p)) (Told (OnEpoch (Registers (state_word p))) me)
       (omega arith) (λ r w t o. absurd (omega arith)) (λ r w t z. absurd (omega arith)) (taken p inside)
-      (λ s h at q low e was. ap (λ (x : ℕ). either (eqb x 0) 1 x) was)
+      (λ s h at q low e was. let x : ℕ = get_or s.words (state_word p) 0 in
+      exchanged x 0 1 (λ y. x ≤ y) (λ hit. omega arith) (λ miss. omega arith))
       (over.registers sizes id p me.0 none_yet clean inside) (λ r w t. (refl, t)))
 
   pub may_read : May global_word (λ x. x) (Told (OnEpoch Reads) me)
   may_read = may_epoch Reads global_word (λ x. x) (omega arith) (λ _ w t z. subst HasPlace t.0 z) (λ _ w t _. ap (λ (u : EpochView). u.place) t.0)
-      (λ _ w t z. subst HasPlace (sym t.0) z) (λ s h at p low e was. was) (epochs.reads sizes.participants id v)
+      (λ _ w t z. subst HasPlace (sym t.0) z) (λ s h at p low e was. omega arith) (epochs.reads sizes.participants id v)
 
   pub may_write : (i c : ℕ) → IsClosed v → i ≡ count_word v.place → v.place < sizes.participants → May i (λ _. c) (λ _. Told (OnEpoch Counts) me c)
   may_write i c shut is inside = subst (λ (i : ℕ). May i (λ _. c) (λ _. Told (OnEpoch Counts) me c)) (sym is)
@@ -167,10 +169,10 @@ module _ (γ : ℕ) (sizes : Sizes) (slots id : ℕ) (me : Mine) where
       (epochs.ends sizes.participants id v shut))
       (own_place γ sizes id me.0 (omega arith) 3) (refl, refl))
 
-  pub may_bar : (i p : ℕ) → i ≡ state_word p → p < sizes.participants → p ≡ me.0.places.ended
-      → May i (λ x. either (eqb x 0) 3 x) (Told (Bars i) me)
-  may_bar i p is inside next = subst (λ (i : ℕ). May i (λ x. either (eqb x 0) 3 x) (Told (Bars i) me)) (sym is)
-      (steps.bars γ sizes slots id me p inside next)
+  pub may_bar : (i p state : ℕ) → i ≡ state_word p → p < sizes.participants → p ≡ me.0.places.ended → IsNobodys state
+      → May i (λ x. either (eqb x state) 4 x) (Told (Bars state i) me)
+  may_bar i p state is inside next nobodys = subst (λ (i : ℕ). May i (λ x. either (eqb x state) 4 x) (Told (Bars state i) me)) (sym is)
+      (steps.bars γ sizes slots id me p state inside next nobodys)
 
   pub may_look_for_value : (i slot : ℕ) → i ≡ slot_word sizes slot → slot ≡ me.0.places.quiet → sizes.participants ≤ me.0.places.ended
       → May i (λ x. x) (Told LooksForValue me)
@@ -186,7 +188,7 @@ module _ (γ : ℕ) (sizes : Sizes) (slots id : ℕ) (me : Mine) where
   pub may_look_at_lock : IsOpen v → ¬ (Scans v) → May lock_word (λ x. x) (Told (OnEpoch LooksAtLock) me)
   may_look_at_lock is_open free = may_epoch LooksAtLock lock_word (λ x. x) (omega arith) (λ _ _ _ _. omega arith)
       (λ x w t _. ap (λ (u : EpochView). u.place) t.0)
-      (λ x w t z. subst HasPlace (sym t.0) z) (λ s h at p low e was. was)
+      (λ x w t z. subst HasPlace (sym t.0) z) (λ s h at p low e was. omega arith)
       (epochs.looks_at_lock sizes.participants id v is_open free)
 
   pub may_look_at_state : (i q : ℕ) → i ≡ state_word q → q < sizes.participants → IsNext v q → May i (λ x. x) (Told (OnEpoch (LooksAtState i)) me)
@@ -194,7 +196,7 @@ module _ (γ : ℕ) (sizes : Sizes) (slots id : ℕ) (me : Mine) where
       (may_epoch (LooksAtState (state_word q)) (state_word q) (λ x. x) (omega arith)
       (λ x w t. had v v (passed_by v q) w x 2 (t q refl).1 (t q refl).0 (λ z. z) (λ z. z))
       (λ x w t _. which (λ (u : EpochView). u.place ≡ v.place) v (passed_by v q) w x 2 (t q refl).1 (t q refl).0 refl refl)
-      (λ x w t z. which HasPlace v (passed_by v q) w x 2 (t q refl).1 (t q refl).0 z z) (λ s h at p low e was. was)
+      (λ x w t z. which HasPlace v (passed_by v q) w x 2 (t q refl).1 (t q refl).0 z z) (λ s h at p low e was. omega arith)
       (epochs.looks_at_state sizes.participants id v q next))
 
   pub may_look_at_count : (i q : ℕ) → i ≡ count_word q → q < sizes.participants → IsNext v q → May i (λ x. x) (Told (OnEpoch (LooksAtCount i)) me)
@@ -202,7 +204,7 @@ module _ (γ : ℕ) (sizes : Sizes) (slots id : ℕ) (me : Mine) where
       (may_epoch (LooksAtCount (count_word q)) (count_word q) (λ x. x) (omega arith)
       (λ x w t. had v (passed_by v q) v w x v.count (t q refl).0 (t q refl).1 (λ z. z) (λ z. z))
       (λ x w t _. which (λ (u : EpochView). u.place ≡ v.place) (passed_by v q) v w x v.count (t q refl).0 (t q refl).1 refl refl)
-      (λ x w t z. which HasPlace (passed_by v q) v w x v.count (t q refl).0 (t q refl).1 z z) (λ s h at p low e was. was)
+      (λ x w t z. which HasPlace (passed_by v q) v w x v.count (t q refl).0 (t q refl).1 z z) (λ s h at p low e was. omega arith)
       (epochs.looks_at_count sizes.participants id v q next))
 
   pub may_advance : (c d : ℕ) → c ≡ v.count → d ≡ v.count + 1 → IsNext v sizes.participants

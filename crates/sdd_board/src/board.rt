@@ -108,7 +108,7 @@ impl Board {
         self.places
     }
 
-    /// The words and the stakes, by a token that knows that all places have ended: all stakes lie in their homes.
+    /// The words and the stakes, by a token that knows that all places are barred: all stakes lie in their homes.
     /// Where it has the counts of all places, what was made has gone or lies in a slot. A slot that it knows to be quiet is free.
     pub fn close(self, token: Token) -> Closed<Stake, Global>
         requires home { token.table_id ≡ id_of self }

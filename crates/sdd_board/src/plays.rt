@@ -2,7 +2,7 @@
 ghost use Rattle.std.specs.Prelude.{[], true, false};
 ghost use Rattle.sdd_rule.specs.Steps.{Registers, Reads, Counts, Locks, LooksAtLock, LooksAtState, LooksAtCount, Advances, Unlocks};
 ghost use Rattle.sdd_rule.specs.SlotSteps.{OnEpoch, PublishesAll, LooksAtSlot, TakesHold, LetsGo, LooksForGuard, AtSlot};
-ghost use Rattle.sdd_rule.specs.Ended.{Bars, LooksForValue};
+ghost use Rattle.sdd_rule.specs.Barred.{Bars, LooksForValue};
 ghost use Rattle.sdd_views.specs.Views.{owner_token};
 ghost use Rattle.sdd_homes.specs.Banked.{founded, bank_of};
 ghost use Rattle.sdd_homes.specs.HomeSteps.{ClaimsAll, TakesOut, TakesHeld, IsDeposit, RetiresOne, GivesAll, DiscardsAll, ClosesHome, EndsAll, EntersUnit, OfSlot, parting, departing, regained, uncounting, counts_of, counting};
@@ -58,7 +58,7 @@ impl Play<Stake, View> for End {
 pub struct Bar;
 
 impl Play<Stake, View> for Bar {
-    ghost then = { λ step. Told (Bars step.word) };
+    ghost then = { λ step. Told (Bars step.first step.word) };
 }
 
 pub struct Lock;

@@ -7,7 +7,7 @@ ghost use Rattle.sdd_rule.specs.Steps.{IsNext, Registers, Reads, Counts, Locks, 
 ghost use Rattle.sdd_rule.specs.Parts.{idle};
 ghost use Rattle.sdd_board.specs.Board.{id_of, sizes_of, book_of, places_of};
 ghost use Rattle.sdd_rule.specs.SlotSteps.{blank};
-ghost use Rattle.sdd_rule.specs.Ended.{Bars};
+ghost use Rattle.sdd_rule.specs.Barred.{IsNobodys, Bars};
 ghost use Rattle.sdd_homes.specs.HomeSteps.{Purse, EndsAll};
 ghost use Rattle.sdd_board.specs.Token.{view, epoch, words_known, Stepped, Taught, HasPublished, HasClosed, Knows};
 
@@ -29,19 +29,14 @@ pub const CLOSED: u64 = 1;
 pub const OPEN: u64 = 2;
 /// Its participant has ended.
 pub const ENDED: u64 = 3;
+/// Nobody's, and nobody takes part there any more.
+pub const BARRED: u64 = 4;
 
 /// A token without a place.
 pub fn sit(board: &Board) -> Token
     ensures { (result.table_id ≡ id_of board.now) × (result.me ≡ (idle (sizes_of board.now) (book_of board.now), [])) }
 {
     board.table.shared.load_new_seat::<Sit>(GLOBAL).1
-}
-
-/// The place is free at the moment of this call.
-pub fn is_free(board: &Board, place: usize) -> bool
-    requires { place < places_of board.now }
-{
-    board.table.shared.peek(state_word(place)) == FREE
 }
 
 /// Tries to take a place, and answers its state before.
@@ -126,16 +121,18 @@ pub fn end(board: &Board, token: &mut Token, place: usize)
         .store::<End>(token, state_word(place), ENDED);
 }
 
-/// Ends a place as long as it is free, by a token without a place. Answers its state before: it hasn't ended then where this is a participant's.
-pub fn bar(board: &Board, token: &mut Token, place: usize) -> u64
+/// Bars a place that is nobody's as long as it is in this state, by a token without a place. Answers its state before: it is barred then where this is
+/// that state, or `BARRED`.
+pub fn bar(board: &Board, token: &mut Token, place: usize, state: u64) -> u64
     requires home { token.old.table_id ≡ id_of board.now }
     requires next { (place < places_of board.now) × (place ≡ (view token.old).places.ended) }
-    ensures { Taught (Bars (words.state_word place)) token.old result token.new }
+    requires nobodys { IsNobodys state }
+    ensures { Taught (Bars state (words.state_word place)) token.old result token.new }
 {
     board
         .table
         .shared
-        .compare_exchange::<Bar>(token, state_word(place), FREE, ENDED)
+        .compare_exchange::<Bar>(token, state_word(place), state, BARRED)
 }
 
 /// Tries to take the lock of a scan. Someone else had it where this isn't 0.

@@ -15,10 +15,12 @@ impl Example for Releases {
         let ptr = owner.get_guarded_ptr(&guard, s);
         let other = shared::copied(rt, s, &owner);
         assert!(rt; shared::upgraded(rt, s, ptr) == Some(false));
+        assert!(rt; shared::converted(rt, s, ptr) == Some(false));
         assert!(rt; *owner.get_guarded_ref(&guard, s) == 47);
         assert!(rt; !shared::release(s, owner));
         assert!(rt; shared::release(s, other));
         assert!(rt; shared::upgraded(rt, s, ptr) == None);
+        assert!(rt; shared::converted(rt, s, ptr) == None);
         assert!(rt; seen(s, ptr) == Some(47));
         close(s, guard);
     }

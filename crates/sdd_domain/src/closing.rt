@@ -2,6 +2,7 @@
 ghost use Rattle.std.specs.Prelude.{◌≡◌, ◌-◌, ◌≤◌, ◌<◌, ℕ, [], ◌∷◌, true, false, All, IfSome, slice_index_or};
 ghost use Rattle.core.specs.Mem.Slots.{slots_items, slots_filled, slots_len};
 ghost use Rattle.sdd_stakes.specs.Shelf.{AreVacant};
+ghost use Rattle.sdd_rule.specs.Barred.{past};
 ghost use Rattle.sdd_rule.specs.Codes as codes;
 ghost use Rattle.sdd_rule.specs.Slots.{slot_at};
 ghost use Rattle.sdd_views.specs.Views.{no_counts};
@@ -40,12 +41,30 @@ fn is_quiet(board: &Board, slots: u32) -> bool
 {
     (0..board.places()).all(|place| {
         let state = board.table.shared.peek(state_word(place));
-        state == steps::FREE || state == steps::ENDED
+        state == steps::FREE || state == steps::ENDED || state == steps::BARRED
     }) && (0..slots).all(|slot| is_free(board.table.shared.peek(board.slot_word(slot))))
 }
 
-/// Ends each place that is free. A token that knows that all have ended, unless one is a participant's.
-fn end_all(board: &Board) -> Option<Token>
+/// Bars the next place, unless it is a participant's: whether it is barred then.
+fn bars(board: &Board, token: &mut Token, place: usize) -> bool
+    requires home { token.old.table_id ≡ id_of board.now }
+    requires next { (place < places_of board.now) × (place ≡ (view token.old).places.ended) }
+    ensures home { token.new.table_id ≡ id_of board.now }
+    ensures barred { result ≡ true → view token.new ≡ past place (view token.old) }
+{
+    let found = steps::bar(board, token, place, steps::FREE);
+    if found == steps::FREE || found == steps::BARRED {
+        return true;
+    }
+    if found != steps::ENDED {
+        return false;
+    }
+    let found = steps::bar(board, token, place, steps::ENDED);
+    found == steps::ENDED || found == steps::BARRED
+}
+
+/// Bars each place that is nobody's. A token that knows that all are barred, unless one is a participant's.
+fn bar_all(board: &Board) -> Option<Token>
     ensures home { IfSome result (λ token. token.table_id ≡ id_of board.now) }
     ensures ended { IfSome result (λ token. places_of board.now ≤ (view token).places.ended) }
     ensures counts { IfSome result (λ token. (view token).stakes.counts ≡ no_counts) }
@@ -53,15 +72,14 @@ fn end_all(board: &Board) -> Option<Token>
 {
     let mut token = steps::sit(board);
     for place in 0..board.places() {
-        let state = steps::bar(board, &mut token, place);
-        if state != steps::FREE && state != steps::ENDED {
+        if !bars(board, &mut token, place) {
             return None;
         }
     }
     Some(token)
 }
 
-/// Looks at each slot in turn, once all places have ended. All are free, and stay so, which the token knows then; unless one is found that isn't.
+/// Looks at each slot in turn, once all places are barred. All are free, and stay so, which the token knows then; unless one is found that isn't.
 fn are_free(board: &Board, token: &mut Token, slots: u32) -> bool
     requires home { token.old.table_id ≡ id_of board.now }
     requires slots { slots ≡ (sizes_of board.now).slots }
@@ -80,7 +98,7 @@ fn are_free(board: &Board, token: &mut Token, slots: u32) -> bool
     true
 }
 
-/// A token that knows that all places have ended and all slots are free, where that is so: nothing is out any more, and nothing waits.
+/// A token that knows that all places are barred and all slots are free, where that is so: nothing is out any more, and nothing waits.
 pub fn settled(board: &Board, slots: u32) -> Option<Token>
     requires { slots ≡ (sizes_of board.now).slots }
     ensures home { IfSome result (λ token. token.table_id ≡ id_of board.now) }
@@ -91,7 +109,7 @@ pub fn settled(board: &Board, slots: u32) -> Option<Token>
     if !is_quiet(board, slots) {
         return None;
     }
-    let mut token = end_all(board)?;
+    let mut token = bar_all(board)?;
     if are_free(board, &mut token, slots) {
         Some(token)
     } else {

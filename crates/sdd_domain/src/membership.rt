@@ -25,6 +25,7 @@ use crate::shut::shut;
 use crate::values::take_value;
 use sdd_base::inner::{guard_with, part_of_guard};
 use sdd_base::{Guard, Item};
+use sdd_board::words::state_word;
 use sdd_board::{Board, Token, steps};
 use sdd_core::Refused;
 use sdd_places::{Stage, Tenure};
@@ -109,6 +110,13 @@ impl Room {
     }
 }
 
+/// A place seems to be free: a peek proves nothing of the moment after, but takes the place's line from nobody.
+fn seems_free(board: &Board, place: usize) -> bool
+    requires { place < places_of board.now }
+{
+    board.table.shared.peek(state_word(place)) == steps::FREE
+}
+
 /// Takes a free place: the first one that is found so. An exchange is tried only there, since it takes a place's line from its participant.
 fn take_place(board: &Board, token: &mut Token) -> Option<usize>
     requires home { token.old.table_id ≡ id_of board.now }
@@ -118,7 +126,7 @@ fn take_place(board: &Board, token: &mut Token) -> Option<usize>
     ensures taken { IfSome result (λ place. (place < places_of board.now) × Takes (nobody (places_of board.now)) place (epoch token.new)) }
 {
     for place in 0..board.places() {
-        if !steps::is_free(board, place) {
+        if !seems_free(board, place) {
             continue;
         }
         if steps::register(board, token, place) == steps::FREE {
@@ -142,7 +150,7 @@ fn share_of(place: usize, places: usize, slots: u32) -> u32
 fn want_of_memory(board: &Board) -> Refused
     ensures { (result ≡ Refused.NoPlace) ⊎ (result ≡ Refused.NoMemory) }
 {
-    if (0..board.places()).any(|place| steps::is_free(board, place)) {
+    if (0..board.places()).any(|place| seems_free(board, place)) {
         Refused::NoMemory
     } else {
         Refused::NoPlace

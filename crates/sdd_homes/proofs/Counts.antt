@@ -1,44 +1,54 @@
 -- The counts' part after one step of one participant
-use Rattle.std.proofs.Common.{◌≡◌, ◌≢◌, ℕ, zero, suc, ◌+◌, ◌<◌, ◌≤◌, List, [], ◌∷◌, ◌++◌, length, get_or, set, sym, refl, ap, ◌∙◌, arith, get_or-set_other, get_or-set_same}
+use Rattle.std.proofs.Common.{◌≡◌, ℕ, zero, suc, ◌+◌, ◌<◌, ◌≤◌, leb, true, false, List, [], ◌∷◌, ◌++◌, length, get_or, set, sym, refl, ap, ◌∙◌, ⊎_elim, arith, get_or-set_other, get_or-set_same}
+use Rattle.std.proofs.lemmas.Bool.{le-leb}
+use Rattle.std.proofs.lemmas.Bool.Decides.{leb_tells}
 use Rattle.std.proofs.lemmas.List.{get_or_past}
 use mathlib.Core.Option.{some}
 use mathlib.Core.Logic.{dite}
 use native.Mathlib.Decide.{ℕ_discrete, dec_lt}
 use lib.ListN.{get_elem?}
+use prog.Atomic.{either}
 use Rattle.sdd_views.specs.declared.CountsView.{CountsView}
 use Rattle.sdd_views.specs.declared.View.{View}
 use Rattle.sdd_views.specs.declared.Sizes.{Sizes}
 use Rattle.sdd_rule.specs.Words.{first_slot, state_word, slot_word, all_words}
-use Rattle.sdd_rule.specs.Sums.{is}
 use Rattle.sdd_rule.specs.Codes.{full}
 use Rattle.sdd_rule.specs.Epoch.{HasPlace}
 use Rattle.sdd_rule.specs.Slots.{slot_at}
-use Rattle.sdd_rule.proofs.Ended.{Spares}
+use Rattle.sdd_rule.proofs.Barred.{Spares}
 use Rattle.sdd_rule.proofs.Frame.{each_set, each_snoc}
-use Rattle.sdd_rule.proofs.Sums.{total_set, total_snoc, is_same, is_other, span_same, span_set}
-use Rattle.sdd_homes.specs.Counts.{made_by, gone_by, over_by, ended_places, full_slots, CountsByPlace, CountsPart}
+use Rattle.sdd_rule.proofs.Sums.{total_set, total_snoc, span_same, span_set}
+use Rattle.sdd_homes.specs.Counts.{made_by, gone_by, over_by, over, ended_places, full_slots, CountsByPlace, CountsPart}
 
-is_few : (i j : ℕ) → is i j ≤ 1
-is_few i j = dite (ℕ_discrete j i) (λ e. let o = is_same i j e in omega arith) (λ ne. let o = is_other i j ne in omega arith)
+-- ---- places that have ended, or are barred
+over_is : (x : ℕ) → 3 ≤ x → over x ≡ 1
+over_is x l = ap (λ (b : _). either b 1 0) (le-leb 3 x l)
 
--- ---- places that have ended
+over_few : (x : ℕ) → over x ≤ 1
+over_few x = ⊎_elim (λ (t : (leb 3 x ≡ true) × (3 ≤ x)). let e = ap (λ (b : _). either b 1 0) t.0 in omega arith)
+    (λ (t : (leb 3 x ≡ false) × (x < 3)). let e = ap (λ (b : _). either b 1 0) t.0 in omega arith) (leb_tells 3 x)
+
+over_not : (x : ℕ) → x < 3 → over x ≡ 0
+over_not x low = ⊎_elim (λ (t : (leb 3 x ≡ true) × (3 ≤ x)). let t1 = t.1 in absurd (omega arith))
+    (λ (t : (leb 3 x ≡ false) × (x < 3)). ap (λ (b : _). either b 1 0) t.0) (leb_tells 3 x)
+
 pub ended_few : (ws : List ℕ) (m : ℕ) → ended_places ws m ≤ m
 ended_few ws zero = omega arith
-ended_few ws (suc m) = let a = is_few 3 (get_or ws (state_word m) 0) in let b = ended_few ws m in omega arith
+ended_few ws (suc m) = let a = over_few (get_or ws (state_word m) 0) in let b = ended_few ws m in omega arith
 
-within : (ws : List ℕ) (i : ℕ) → get_or ws i 0 ≡ 3 → i < length ws
+within : (ws : List ℕ) (i : ℕ) → 3 ≤ get_or ws i 0 → i < length ws
 within ws i was = dite (dec_lt i (length ws)) (λ l. l) (λ far. absurd (let z = get_or_past ws i 0 (omega arith) in omega arith))
 
 -- a step that spares them makes them no fewer
-one_ended : (ws : List ℕ) (i y p : ℕ) → (i ≡ state_word p → get_or ws i 0 ≡ 3 → y ≡ 3)
-    → is 3 (get_or ws (state_word p) 0) ≤ is 3 (get_or (set ws i y) (state_word p) 0)
-one_ended ws i y p spares = let x : ℕ = get_or ws (state_word p) 0 in dite (ℕ_discrete x 3)
-    (λ over. let now : get_or (set ws i y) (state_word p) 0 ≡ 3 = dite (ℕ_discrete i (state_word p))
-    (λ e. let was : get_or ws i 0 ≡ 3 = ap (λ (k : ℕ). get_or ws k 0) e ∙ over in
-    ap (λ (k : ℕ). get_or (set ws i y) k 0) (sym e) ∙ (get_or-set_same ws i y 0 (within ws i was) ∙ spares e was))
-    (λ ne. get_or-set_other ws i (state_word p) y 0 (λ e. ne (sym e)) ∙ over) in
-    let a = is_same 3 (get_or (set ws i y) (state_word p) 0) now in let b = is_few 3 x in omega arith)
-    (λ ne. let o = is_other 3 x ne in omega arith)
+one_ended : (ws : List ℕ) (i y p : ℕ) → (i ≡ state_word p → 3 ≤ get_or ws i 0 → get_or ws i 0 ≤ y)
+    → over (get_or ws (state_word p) 0) ≤ over (get_or (set ws i y) (state_word p) 0)
+one_ended ws i y p spares = let x : ℕ = get_or ws (state_word p) 0 in dite (dec_lt 2 x)
+    (λ was. let now : 3 ≤ get_or (set ws i y) (state_word p) 0 = dite (ℕ_discrete i (state_word p))
+    (λ e. let here = ap (λ (k : ℕ). get_or ws k 0) e in let more = spares e (omega arith) in
+    let there = ap (λ (k : ℕ). get_or (set ws i y) k 0) (sym e) ∙ get_or-set_same ws i y 0 (within ws i (omega arith)) in omega arith)
+    (λ ne. let same = get_or-set_other ws i (state_word p) y 0 (λ e. ne (sym e)) in omega arith) in
+    let a = over_is (get_or (set ws i y) (state_word p) 0) now in let b = over_few x in omega arith)
+    (λ not. let o = over_not x (omega arith) in omega arith)
 
 pub ended_spared : (sizes : Sizes) (ws : List ℕ) (i y : ℕ) → Spares sizes ws i y → (m : ℕ) → m ≤ sizes.participants
     → ended_places ws m ≤ ended_places (set ws i y) m
@@ -47,16 +57,16 @@ ended_spared sizes ws i y spares (suc m) low = let a = one_ended ws i y m (spare
     let b = ended_spared sizes ws i y spares m (omega arith) in omega arith
 
 -- one more place ends
-pub ended_more : (ws : List ℕ) (p : ℕ) → state_word p < length ws → get_or ws (state_word p) 0 ≢ 3 → (m : ℕ) → p < m
+pub ended_more : (ws : List ℕ) (p : ℕ) → state_word p < length ws → get_or ws (state_word p) 0 < 3 → (m : ℕ) → p < m
     → ended_places ws m + 1 ≤ ended_places (set ws (state_word p) 3) m
-ended_more ws p low never zero inside = absurd (omega arith)
-ended_more ws p low never (suc m) inside = let i : ℕ = state_word p in let z : Sizes = record { participants = m; slots = 0; jobs = 0; cells = 0 } in
+ended_more ws p low before zero inside = absurd (omega arith)
+ended_more ws p low before (suc m) inside = let i : ℕ = state_word p in let z : Sizes = record { participants = m; slots = 0; jobs = 0; cells = 0 } in
     dite (ℕ_discrete p m)
-    (λ e. let was = is_other 3 (get_or ws (state_word m) 0) (λ d. never (ap (λ (k : ℕ). get_or ws (state_word k) 0) e ∙ d)) in
-    let now = is_same 3 (get_or (set ws i 3) (state_word m) 0)
-    (ap (λ (k : ℕ). get_or (set ws i 3) (state_word k) 0) (sym e) ∙ get_or-set_same ws i 3 0 low) in
-    let b = ended_spared z ws i 3 (λ q l is was. refl) m (omega arith) in omega arith)
-    (λ ne. let a = one_ended ws i 3 m (λ _ _. refl) in let b = ended_more ws p low never m (omega arith) in omega arith)
+    (λ e. let here = ap (λ (k : ℕ). get_or ws (state_word k) 0) e in let was = over_not (get_or ws (state_word m) 0) (omega arith) in
+    let there = ap (λ (k : ℕ). get_or (set ws i 3) (state_word k) 0) (sym e) ∙ get_or-set_same ws i 3 0 low in
+    let now = over_is (get_or (set ws i 3) (state_word m) 0) (omega arith) in
+    let b = ended_spared z ws i 3 (λ q l is was. let same = ap (λ (k : ℕ). get_or ws k 0) is in omega arith) m (omega arith) in omega arith)
+    (λ ne. let a = one_ended ws i 3 m (λ _ was. omega arith) in let b = ended_more ws p low before m (omega arith) in omega arith)
 
 -- ---- slots that have an item
 pub as_full : (sizes : Sizes) (ws ws' : List ℕ) → ((j : ℕ) → j < sizes.slots → full (slot_at sizes ws' j) ≡ full (slot_at sizes ws j))

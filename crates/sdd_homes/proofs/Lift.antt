@@ -25,8 +25,8 @@ use Rattle.atomic_table.proofs.Lists.{at_map, set_again, set_else}
 use Rattle.sdd_rule.proofs.Frame.{each_set}
 use Rattle.sdd_rule.proofs.Sums.{total_map}
 use Rattle.sdd_rule.proofs.Lift.{blind}
-use Rattle.sdd_rule.specs.Ended.{AreEnded, AreQuiet}
-use Rattle.sdd_rule.proofs.Ended.{Spares, one_spared, all_spared, NoneQuiet, none_quiet, Hushes, one_hushed, all_hushed}
+use Rattle.sdd_rule.specs.Barred.{AreBarred, AreQuiet}
+use Rattle.sdd_rule.proofs.Barred.{Spares, one_spared, all_spared, NoneQuiet, none_quiet, Hushes, one_hushed, all_hushed}
 use Rattle.sdd_homes.specs.Homes.{Homes, full_at, Moves, SeesFrom, IsOut, IsMover, HomesPart}
 use Rattle.sdd_homes.specs.Banked.{BankPart}
 use Rattle.sdd_homes.proofs.Banks.{with_deposits}
@@ -59,7 +59,7 @@ module _ (γ : ℕ) (sizes : Sizes) (slots id : ℕ) (me : Mine) (i : ℕ) (f : 
   -- the places that have ended stay so, and those that are known of after the step have ended; and the same of quiet slots
   abbrev pub Keeps : (ℕ → View → Type 0) → Type 0
   Keeps then = (s : State Stake View) (w : View) → Housed γ sizes s → get_elem? s.views id ≡ some me.0 → then (get_or s.words i 0) w
-      → Spares sizes s.words i (f (get_or s.words i 0)) × AreEnded sizes (set s.words i (f (get_or s.words i 0))) w
+      → Spares sizes s.words i (f (get_or s.words i 0)) × AreBarred sizes (set s.words i (f (get_or s.words i 0))) w
       × (NoneQuiet s.views ⊎ Hushes sizes s.words i (f (get_or s.words i 0))) × AreQuiet sizes (set s.words i (f (get_or s.words i 0))) w
 
   -- while somebody has a place nobody knows of a quiet slot; and a step on a word before the slots' leaves theirs
@@ -224,7 +224,7 @@ module _ (γ : ℕ) (sizes : Sizes) (slots : ℕ) where
         records = records.calm sizes s.views s.homes h.records id v at now (refl, refl, refl, (λ _. refl), refl, refl);
         counts = counted sizes s.words s.views h.counts id v at (set s.words i 3) now
             (let f = as_full sizes s.words (set s.words i 3) same in omega arith)
-            (let more = ended_more s.words v.epoch.place (omega arith) (λ e. omega arith) sizes.participants inside in omega arith)
+            (let more = ended_more s.words v.epoch.place (omega arith) (omega arith) sizes.participants inside in omega arith)
             (λ _ none. absurd (omega arith));
         filled = filled_same sizes s.views h.filled id v at now refl refl refl (λ z. absurd (omega arith));
         bank = banks.alike γ sizes s.words s.views h.bank id v at (set s.words i 3) now (refl, refl, refl, (λ _. refl), refl, refl) same;
@@ -242,7 +242,7 @@ module _ (γ : ℕ) (sizes : Sizes) (id : ℕ) (v : View) (s : State Stake View)
       parts = parts;
       places = record {
         wide = h.kept.places.wide;
-        ended = each_set (AreEnded sizes s.words) (AreEnded sizes s.words) s.views id w
+        ended = each_set (AreBarred sizes s.words) (AreBarred sizes s.words) s.views id w
             (λ p low l. h.kept.places.ended id v at p low (subst (λ (x : PlacesView). p < x.ended) same l)) (λ j u _ e. h.kept.places.ended j u e);
         quiet = each_set (AreQuiet sizes s.words) (AreQuiet sizes s.words) s.views id w
             (subst (λ (x : PlacesView). AreQuiet sizes s.words (record v { places = x })) (sym same) (h.kept.places.quiet id v at))
@@ -278,8 +278,8 @@ module _ (γ : ℕ) (sizes : Sizes) (id : ℕ) (v : View) (s : State Stake View)
           parts = blind sizes s.words vs bd b b now (subst (Parts sizes s.words) (sym (set_again vs bd b now)) parts) b'.stakes;
           places = record {
             wide = h.kept.places.wide;
-            ended = each_set (AreEnded sizes s.words) (AreEnded sizes s.words) vs bd b' (h.kept.places.ended bd b there)
-                (λ j u _ e. each_set (AreEnded sizes s.words) (AreEnded sizes s.words) s.views id w
+            ended = each_set (AreBarred sizes s.words) (AreBarred sizes s.words) vs bd b' (h.kept.places.ended bd b there)
+                (λ j u _ e. each_set (AreBarred sizes s.words) (AreBarred sizes s.words) s.views id w
                 (λ p low l. h.kept.places.ended id v at p low (subst (λ (x : PlacesView). p < x.ended) same l))
                 (λ j u _ e. h.kept.places.ended j u e) j u e);
             quiet = each_set (AreQuiet sizes s.words) (AreQuiet sizes s.words) vs bd b' (h.kept.places.quiet bd b there)

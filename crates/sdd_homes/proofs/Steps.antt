@@ -27,9 +27,9 @@ use Rattle.sdd_rule.specs.Sums.{total, times, is as is_at}
 use Rattle.sdd_rule.specs.Slots.{slot_at, owners_at, items_at, OwnsAlone, Sees, Holds}
 use Rattle.sdd_rule.specs.SlotSteps.{others as tail, without, retired, given_back, discarded, seeing, AtSlot, Claims, Retires, GivesBack, LooksAtSlot, TakesHold, LetsGo, Discards, LooksForGuard, ClosesAll, IsDue}
 use Rattle.sdd_rule.specs.Parts.{epoch_of}
-use Rattle.sdd_rule.specs.Ended.{AreEnded, AreQuiet, past, past_quiet, Bars, LooksForValue}
-use Rattle.sdd_rule.proofs.Ended.{Spares, one_spared, Hushes, one_hushed}
-use Rattle.sdd_rule.proofs.Ended as ended
+use Rattle.sdd_rule.specs.Barred.{IsNobodys, IsBarred, AreBarred, AreQuiet, past, past_quiet, Bars, LooksForValue}
+use Rattle.sdd_rule.proofs.Barred.{Spares, one_spared, Hushes, one_hushed}
+use Rattle.sdd_rule.proofs.Barred as barring
 use Rattle.sdd_rule.proofs.Codes.{sound, free_is, owned_is, waiting_is}
 use Rattle.sdd_rule.proofs.EpochSteps as over
 use Rattle.sdd_rule.proofs.SlotSteps as steps
@@ -761,7 +761,7 @@ module _ (slots id : ℕ) (me : Mine) (live : HasPlace me.0.epoch) where
   looks_for_guard place low next = let j : ℕ = state_word place in
       lift_calm γ sizes slots id me j (λ x. x) (LooksForGuard j v) (λ r me'. (me'.1 ≡ me.1) × LooksForGuard j v r me'.0)
       (keeps_ended γ sizes slots id me j (λ x. x) (LooksForGuard j v) (λ r w t. let c = t place refl in dite (ℕ_discrete r 2)
-      (λ e. ap (λ (u : View). u.places) (c.1 e)) (λ ne. ap (λ (u : View). u.places) (c.0 ne))) (λ s h at p low e was. was) (inl live))
+      (λ e. ap (λ (u : View). u.places) (c.1 e)) (λ ne. ap (λ (u : View). u.places) (c.0 ne))) (λ s h at p low e was. omega arith) (inl live))
       (steps.looks id v live place next)
       (λ r w t. (refl, t))
       (λ s w h at t. let c = t place refl in let x : ℕ = get_or s.words j 0 in
@@ -826,31 +826,41 @@ module _ (slots id : ℕ) (me : Mine) (live : HasPlace me.0.epoch) where
         tells = (now, refl, refl, g.carried);
       })
 
--- a place is ended, as long as it is free, by a token without a place
-module _ (γ : ℕ) (sizes : Sizes) (slots id : ℕ) (me : Mine) (p : ℕ) (inside : p < sizes.participants) (next : p ≡ me.0.places.ended) where
+-- a place that is nobody's is barred, by a token without a place
+module _ (γ : ℕ) (sizes : Sizes) (slots id : ℕ) (me : Mine) (p state : ℕ) (inside : p < sizes.participants) (next : p ≡ me.0.places.ended)
+    (nobodys : IsNobodys state) where
   abbrev spot : ℕ
   spot = state_word p
 
-  abbrev free_no_more : ℕ → ℕ
-  free_no_more x = either (eqb x 0) 3 x
+  abbrev bar_it : ℕ → ℕ
+  bar_it x = either (eqb x state) 4 x
+
+  -- it makes no place less so that has ended, and bars it
+  no_less : (x : ℕ) → x ≤ bar_it x
+  no_less x = exchanged x state 4 (λ y. x ≤ y)
+      (λ hit. ⊎_elim (λ (none : state ≡ 0). omega arith) (λ (over : state ≡ 3). omega arith) nobodys) (λ miss. omega arith)
+
+  bars_it : (x : ℕ) → (x ≡ state) ⊎ IsBarred x → IsBarred (bar_it x)
+  bars_it x c = exchanged x state 4 IsBarred (λ hit. omega arith)
+      (λ miss. ⊎_elim (λ (e : x ≡ state). absurd (miss e)) (λ (b : IsBarred x). b) c)
 
   module _ (s : State Stake View) (h : Housed γ sizes s) (at : get_elem? s.views id ≡ some me.0) where
     abbrev found : ℕ
     found = get_or s.words spot 0
 
     abbrev left : ℕ
-    left = free_no_more found
+    left = bar_it found
 
     left_over : Spares sizes s.words spot left
-    left_over q low e was = ap free_no_more was
+    left_over q low e was = no_less found
 
-    still_over : AreEnded sizes (set s.words spot left) me.0
+    still_over : AreBarred sizes (set s.words spot left) me.0
     still_over = one_spared sizes s.words spot left me.0 me.0 left_over refl (h.kept.places.ended id me.0 at)
 
-    now_over : left ≡ 3 → AreEnded sizes (set s.words spot left) (past p me.0)
+    now_over : IsBarred left → AreBarred sizes (set s.words spot left) (past p me.0)
     now_over over q low l = dite (ℕ_discrete q p)
-        (λ e. ap (λ (k : ℕ). get_or (set s.words spot left) (state_word k) 0) e
-        ∙ (get_or-set_same s.words spot left 0 (let wide = h.kept.parts.epoch.wide in omega arith) ∙ over))
+        (λ e. let there = ap (λ (k : ℕ). get_or (set s.words spot left) (state_word k) 0) e
+        ∙ get_or-set_same s.words spot left 0 (let wide = h.kept.parts.epoch.wide in omega arith) in omega arith)
         (λ ne. still_over q low (omega arith))
 
     hushed : Hushes sizes s.words spot left
@@ -863,9 +873,9 @@ module _ (γ : ℕ) (sizes : Sizes) (slots id : ℕ) (me : Mine) (p : ℕ) (insi
     now_quiet : AreQuiet sizes (set s.words spot left) (past p me.0)
     now_quiet k low = absurd (let all = (still_quiet k low).1 in omega arith)
 
-    bars_calm : (w : View) → (w ≡ past p me.0) ⊎ (w ≡ me.0) → IsCalm γ sizes slots id me spot free_no_more s left w
+    bars_calm : (w : View) → (w ≡ past p me.0) ⊎ (w ≡ me.0) → IsCalm γ sizes slots id me spot bar_it s left w
     bars_calm w which = let same = λ (j : ℕ) (_ : j < sizes.slots). before_slots sizes s.words spot left j (omega arith) in
-        let calm = IsCalm γ sizes slots id me spot free_no_more s left in
+        let calm = IsCalm γ sizes slots id me spot bar_it s left in
         let mover = h.homes.moving id me.0 at in
         ⊎_elim (λ (e : w ≡ past p me.0). subst calm (sym e) record {
           more = λ j q out. out;
@@ -886,26 +896,26 @@ module _ (γ : ℕ) (sizes : Sizes) (slots id : ℕ) (me : Mine) (p : ℕ) (insi
           had = λ _ l. inl l;
         }) which
 
-  which_of : (r : ℕ) (w : View) → Bars spot me.0 r w → ((r ≡ 0) ⊎ (r ≡ 3)) × (w ≡ past p me.0) ⊎ (w ≡ me.0)
-  which_of r w t = let c = t p refl in dite (ℕ_discrete r 0) (λ e. inl (inl e, c.0 (inl e)))
-      (λ ne. dite (ℕ_discrete r 3) (λ e. inl (inr e, c.0 (inr e))) (λ ne'. inr (c.1 ne ne')))
+  which_of : (r : ℕ) (w : View) → Bars state spot me.0 r w → ((r ≡ state) ⊎ IsBarred r) × (w ≡ past p me.0) ⊎ (w ≡ me.0)
+  which_of r w t = let c = t p refl in dite (ℕ_discrete r state) (λ e. inl (inl e, c.0 (inl e)))
+      (λ ne. dite (dec_lt 3 r) (λ b. inl (inr (omega arith), c.0 (inr (omega arith)))) (λ no. inr (c.1 ne (λ b. no (omega arith)))))
 
-  pub bars : Allows (Housed γ sizes) slots id me spot free_no_more (λ r me'. (me'.1 ≡ me.1) × Bars spot me.0 r me'.0)
-  bars = lift_calm γ sizes slots id me spot free_no_more (Bars spot me.0) (λ r me'. (me'.1 ≡ me.1) × Bars spot me.0 r me'.0)
-      (λ s w h at t. let x : ℕ = get_or s.words spot 0 in let y : ℕ = free_no_more x in (
+  pub bars : Allows (Housed γ sizes) slots id me spot bar_it (λ r me'. (me'.1 ≡ me.1) × Bars state spot me.0 r me'.0)
+  bars = lift_calm γ sizes slots id me spot bar_it (Bars state spot me.0) (λ r me'. (me'.1 ≡ me.1) × Bars state spot me.0 r me'.0)
+      (λ s w h at t. let x : ℕ = get_or s.words spot 0 in let y : ℕ = bar_it x in (
         left_over s h at,
-        ⊎_elim (λ (c : ((x ≡ 0) ⊎ (x ≡ 3)) × (w ≡ past p me.0)). subst (AreEnded sizes (set s.words spot y)) (sym c.1)
-            (now_over s h at (⊎_elim (λ (e : x ≡ 0). ap free_no_more e) (λ (e : x ≡ 3). ap free_no_more e) c.0)))
-            (λ (e : w ≡ me.0). subst (AreEnded sizes (set s.words spot y)) (sym e) (still_over s h at)) (which_of x w t),
+        ⊎_elim (λ (c : ((x ≡ state) ⊎ IsBarred x) × (w ≡ past p me.0)). subst (AreBarred sizes (set s.words spot y)) (sym c.1)
+            (now_over s h at (bars_it x c.0)))
+            (λ (e : w ≡ me.0). subst (AreBarred sizes (set s.words spot y)) (sym e) (still_over s h at)) (which_of x w t),
         inr (hushed s h at),
-        ⊎_elim (λ (c : ((x ≡ 0) ⊎ (x ≡ 3)) × (w ≡ past p me.0)). subst (AreQuiet sizes (set s.words spot y)) (sym c.1) (now_quiet s h at))
+        ⊎_elim (λ (c : ((x ≡ state) ⊎ IsBarred x) × (w ≡ past p me.0)). subst (AreQuiet sizes (set s.words spot y)) (sym c.1) (now_quiet s h at))
             (λ (e : w ≡ me.0). subst (AreQuiet sizes (set s.words spot y)) (sym e) (still_quiet s h at)) (which_of x w t),
       ))
-      (ended.bars sizes id p me.0 inside) (λ r w t. (refl, t))
-      (λ s w h at t. bars_calm s h at w (⊎_elim (λ (c : ((get_or s.words spot 0 ≡ 0) ⊎ (get_or s.words spot 0 ≡ 3)) × (w ≡ past p me.0)). inl c.1)
+      (barring.bars sizes id p state me.0 inside nobodys) (λ r w t. (refl, t))
+      (λ s w h at t. bars_calm s h at w (⊎_elim (λ (c : ((get_or s.words spot 0 ≡ state) ⊎ IsBarred (get_or s.words spot 0)) × (w ≡ past p me.0)). inl c.1)
       (λ (e : w ≡ me.0). inr e) (which_of (get_or s.words spot 0) w t)))
 
--- the word of the next slot is looked at, whether it is free, by a token that knows that all places have ended
+-- the word of the next slot is looked at, whether it is free, by a token that knows that all places are barred
 module _ (γ : ℕ) (sizes : Sizes) (slots id : ℕ) (me : Mine) (slot : ℕ) (next : slot ≡ me.0.places.quiet)
     (all : sizes.participants ≤ me.0.places.ended) where
   abbrev word : ℕ
@@ -930,10 +940,10 @@ module _ (γ : ℕ) (sizes : Sizes) (slots id : ℕ) (me : Mine) (slot : ℕ) (n
 
   look_keeps_all : Keeps γ sizes slots id me word (λ x. x) (LooksForValue me.0)
   look_keeps_all s w h at t = let x : ℕ = get_or s.words word 0 in let ended = h.kept.places.ended id me.0 at in (
-    (λ p low e was. was),
-    subst (λ (ws : List ℕ). AreEnded sizes ws w) (sym (as_before s h at))
-        (dite (ℕ_discrete (full x) 0) (λ dead. subst (AreEnded sizes s.words) (sym (t.0 dead)) ended)
-        (λ taken. subst (AreEnded sizes s.words) (sym (t.1 taken)) ended)),
+    (λ p low e was. omega arith),
+    subst (λ (ws : List ℕ). AreBarred sizes ws w) (sym (as_before s h at))
+        (dite (ℕ_discrete (full x) 0) (λ dead. subst (AreBarred sizes s.words) (sym (t.0 dead)) ended)
+        (λ taken. subst (AreBarred sizes s.words) (sym (t.1 taken)) ended)),
     inr (λ k e dead. dead),
     subst (λ (ws : List ℕ). AreQuiet sizes ws w) (sym (as_before s h at))
         (dite (ℕ_discrete (full x) 0) (λ dead. subst (AreQuiet sizes s.words) (sym (t.0 dead)) (quiet_now s h at dead))
@@ -946,7 +956,7 @@ module _ (γ : ℕ) (sizes : Sizes) (slots id : ℕ) (me : Mine) (slot : ℕ) (n
 
   pub looks_for_value : Allows (Housed γ sizes) slots id me word (λ x. x) (λ r me'. (me'.1 ≡ me.1) × LooksForValue me.0 r me'.0)
   looks_for_value = lift_calm γ sizes slots id me word (λ x. x) (LooksForValue me.0) (λ r me'. (me'.1 ≡ me.1) × LooksForValue me.0 r me'.0)
-      look_keeps_all (ended.looks_for_value sizes id word me.0) (λ r w t. (refl, t))
+      look_keeps_all (barring.looks_for_value sizes id word me.0) (λ r w t. (refl, t))
       (λ s w h at t. let x : ℕ = get_or s.words word 0 in
       subst (IsCalm γ sizes slots id me word (λ x. x) s x) (sym (looked_for x w t).1) record {
         more = λ j q out. out;

@@ -1,11 +1,12 @@
 -- The counts' part of the rule: what was made lies in slots, or has gone again
-use Rattle.std.specs.Prelude.{◌≡◌, ℕ, zero, suc, ◌+◌, ◌≤◌, List, slice_index}
+use Rattle.std.specs.Prelude.{◌≡◌, ℕ, zero, suc, ◌+◌, ◌≤◌, List, slice_index, leb}
 use mathlib.Core.Option.{some}
 use lib.ListN.{get_elem?}
+use prog.Atomic.{either}
 use Rattle.sdd_views.specs.declared.View.{View}
 use Rattle.sdd_views.specs.declared.Sizes.{Sizes}
 use Rattle.sdd_rule.specs.Words.{first_slot, state_word}
-use Rattle.sdd_rule.specs.Sums.{total, span, is}
+use Rattle.sdd_rule.specs.Sums.{total, span}
 use Rattle.sdd_rule.specs.Codes.{full}
 
 -- how many items it made, how many it gave back, and how many places it counts for that have ended
@@ -18,10 +19,14 @@ gone_by v = v.stakes.counts.gone
 abbrev pub over_by : View → ℕ
 over_by v = v.stakes.counts.over
 
--- how many of the first places have ended
+-- 1 where a place in this state has ended, or is barred
+abbrev pub over : ℕ → ℕ
+over state = either (leb 3 state) 1 0
+
+-- how many of the first places have ended, or are barred
 abbrev pub ended_places : List ℕ → ℕ → ℕ
 ended_places ws zero = 0
-ended_places ws (suc p) = is 3 (slice_index ws (state_word p)) + ended_places ws p
+ended_places ws (suc p) = over (slice_index ws (state_word p)) + ended_places ws p
 
 -- how many slots have an item
 abbrev pub full_slots : Sizes → List ℕ → ℕ

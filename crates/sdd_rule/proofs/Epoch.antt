@@ -517,21 +517,23 @@ module _ (n : ℕ) where
     held = λ locked. t.held (λ e. locked (get_or-set_other ws i lock_word x 0 (λ e. omega arith) ∙ e));
   }
 
-  -- a place that is free is ended, by somebody without a place
-  pub barred : (ws : List ℕ) (vs : List EpochView) (p : ℕ) → EpochPart n ws vs → p < n → get_or ws (state_word p) 0 ≡ 0
-      → EpochPart n (set ws (state_word p) 3) vs
-  barred ws vs p t inside free = let i : ℕ = state_word p in let wide = t.wide in record {
-    wide = omega (arith, length-set ws i 3);
+  -- a place that is nobody's is barred, by somebody without a place
+  pub barred : (ws : List ℕ) (vs : List EpochView) (p : ℕ) → EpochPart n ws vs → p < n
+      → (get_or ws (state_word p) 0 ≡ 0) ⊎ (get_or ws (state_word p) 0 ≡ 3) → EpochPart n (set ws (state_word p) 4) vs
+  barred ws vs p t inside nobodys = let i : ℕ = state_word p in let wide = t.wide in record {
+    wide = omega (arith, length-set ws i 4);
     each = λ j u e. let f = t.each j u e in
-        untouched ws i 3 u (omega arith)
+        untouched ws i 4 u (omega arith)
         (λ z. (
-          (λ c. let same : p ≡ u.place = omega arith in let s = f.state z in let s' = ap (λ (k : ℕ). get_or ws (state_word k) 0) same in omega arith),
+          (λ c. let same : p ≡ u.place = omega arith in let s = f.state z in let few = f.states in
+          let s' = ap (λ (k : ℕ). get_or ws (state_word k) 0) same in
+          ⊎_elim (λ (none : get_or ws i 0 ≡ 0). omega arith) (λ (over : get_or ws i 0 ≡ 3). omega arith) nobodys),
           (λ c. omega arith),
         )) f;
     two = t.two;
-    unused = λ one none. let is : state_word 0 ≡ i = omega arith in let now = get_or-set_same ws i 3 0 (omega arith) in
-        let now' : get_or (set ws i 3) (state_word 0) 0 ≡ 3 = ap (λ (k : ℕ). get_or (set ws i 3) k 0) is ∙ now in absurd (omega arith);
-    held = λ locked. t.held (λ e. locked (get_or-set_other ws i lock_word 3 0 (λ e. omega arith) ∙ e));
+    unused = λ one none. let is : state_word 0 ≡ i = omega arith in let now = get_or-set_same ws i 4 0 (omega arith) in
+        let now' : get_or (set ws i 4) (state_word 0) 0 ≡ 4 = ap (λ (k : ℕ). get_or (set ws i 4) k 0) is ∙ now in absurd (omega arith);
+    held = λ locked. t.held (λ e. locked (get_or-set_other ws i lock_word 4 0 (λ e. omega arith) ∙ e));
   }
 
   -- a step may have its participant know the count of its moment

@@ -13,4 +13,4 @@ pub mod Waits
 pub mod EpochSteps
 pub mod SlotSteps
 pub mod Lift
-pub mod Ended
+pub mod Barred

@@ -21,7 +21,7 @@ use Rattle.sdd_rule.specs.Epoch.{HasPlace, EpochPart}
 use Rattle.sdd_rule.specs.Slots.{Holds, LonePart}
 use Rattle.sdd_views.specs.Views.{nobody, owner_token}
 use Rattle.sdd_rule.specs.Parts.{epoch_of, idle, Parts, Kept}
-use Rattle.sdd_rule.specs.Ended.{AreEnded, AreQuiet}
+use Rattle.sdd_rule.specs.Barred.{AreBarred, AreQuiet}
 use Rattle.sdd_rule.proofs.Frame.{Each, each_set, each_snoc}
 use Rattle.sdd_rule.proofs.Codes.{sound}
 use Rattle.sdd_rule.proofs.Epoch.{seated}
@@ -99,7 +99,7 @@ module _ {S : Type 0} (sizes : Sizes) where
       };
       places = record {
         wide = k.places.wide;
-        ended = each_snoc (AreEnded sizes s.words) s.views w k.places.ended (λ p _ l. absurd (omega arith));
+        ended = each_snoc (AreBarred sizes s.words) s.views w k.places.ended (λ p _ l. absurd (omega arith));
         quiet = each_snoc (AreQuiet sizes s.words) s.views w k.places.quiet (λ i l. absurd (omega arith));
       };
     },
@@ -143,7 +143,7 @@ module _ {S : Type 0} (sizes : Sizes) where
         };
         places = record {
           wide = k.places.wide;
-          ended = each_snoc (AreEnded sizes s.words) vs t (moved (AreEnded sizes s.words) s.views id v w at k.places.ended (λ e. e))
+          ended = each_snoc (AreBarred sizes s.words) vs t (moved (AreBarred sizes s.words) s.views id v w at k.places.ended (λ e. e))
               (λ p _ l. absurd (omega arith));
           quiet = each_snoc (AreQuiet sizes s.words) vs t (moved (AreQuiet sizes s.words) s.views id v w at k.places.quiet (λ q. q))
               (λ i l. absurd (omega arith));
@@ -167,7 +167,7 @@ module _ {S : Type 0} (sizes : Sizes) where
         };
         places = record {
           wide = k.places.wide;
-          ended = moved (AreEnded sizes s.words) vs other t t' there (moved (AreEnded sizes s.words) s.views id v w at k.places.ended (λ e. e)) (λ e. e);
+          ended = moved (AreBarred sizes s.words) vs other t t' there (moved (AreBarred sizes s.words) s.views id v w at k.places.ended (λ e. e)) (λ e. e);
           quiet = moved (AreQuiet sizes s.words) vs other t t' there (moved (AreQuiet sizes s.words) s.views id v w at k.places.quiet (λ q. q)) (λ q. q);
         };
       }

@@ -5,5 +5,5 @@ pub mod Epoch
 pub mod Slots
 pub mod Steps
 pub mod SlotSteps
-pub mod Ended
+pub mod Barred
 pub mod Parts

@@ -13,7 +13,7 @@ use Rattle.sdd_rule.specs.Epoch.{EpochPart}
 use Rattle.sdd_rule.specs.Slots.{SlotsPart, LonePart}
 use Rattle.sdd_views.specs.Views.{nobody, none_ended, bare, no_rights, at_rest, no_pledges}
 use Rattle.sdd_rule.specs.SlotSteps.{blank}
-use Rattle.sdd_rule.specs.Ended.{AreEnded, AreQuiet}
+use Rattle.sdd_rule.specs.Barred.{AreBarred, AreQuiet}
 
 abbrev pub epoch_of : View → EpochView
 epoch_of v = v.epoch
@@ -48,7 +48,7 @@ module _ {S : Type 0} (sizes : Sizes) (s : State S View) where
   -- what ended places left, and the mark: the word is there; a place that has ended stays so, and a slot that is quiet then
   pub record PlacesPart : Type 0 where
     pub wide : mark_word < length s.words
-    pub ended : (j : ℕ) (v : View) → get_elem? s.views j ≡ some v → AreEnded sizes s.words v
+    pub ended : (j : ℕ) (v : View) → get_elem? s.views j ≡ some v → AreBarred sizes s.words v
     pub quiet : (j : ℕ) (v : View) → get_elem? s.views j ≡ some v → AreQuiet sizes s.words v
 
   pub record Kept : Type 0 where

@@ -3,7 +3,8 @@ ghost use Rattle.sdd_store.specs.Table.{IsEmptyAt, IsFull, entry_at};
 ghost use Rattle.sdd_base.specs.Holding.{AreOf};
 ghost use Rattle.sdd_base.specs.World.{standing_at};
 ghost use Rattle.sdd_core.specs.declared.tag.Tag.TheVariants.{None as no_tag};
-ghost use Rattle.sdd_base.specs.Seat.{IsSeated, IsExact, IsLone};
+ghost use Rattle.sdd_base.specs.Seat.{IsSeated, IsExact};
+ghost use Rattle.sdd_base.specs.Refusals.{IsContended, IsRefusedBy};
 ghost use Rattle.sdd_base.specs.Own.{IsSpilled};
 ghost use Rattle.sdd_base.specs.Known.{KnowsOn};
 ghost use Rattle.sdd_token.specs.Kind.{IsOwner};
@@ -11,7 +12,6 @@ ghost use Rattle.sdd_token.specs.Right.{number_of, home_of, kind_of};
 ghost use Rattle.sdd_standings.specs.Slots.{IsOwnedBy, IsSharedBy, first_standing};
 ghost use Rattle.sdd_standings.specs.Cells.{MayHold, cell_with, slot_held};
 ghost use Rattle.sdd_base.specs.Guard.{reader_of};
-ghost use Rattle.sdd_base.specs.Refusals.{IsRefusedItsCell, IsRefusedItsCopy};
 ghost use Rattle.sdd_base.specs.Ptr.{KeepsShown, IsShown, slot_named, cell_seen};
 ghost use Rattle.sdd_base.specs.RawPtr as raw;
 ghost use Rattle.sdd_base.specs.Steps.{made_as, with_standing, with_cell, without_cell};
@@ -46,8 +46,7 @@ pub trait Cells<T: Item<T>>: Caller<T> {
         ensures known { KnowsOn (Self.known self.old) (Self.known self.new) }
         ensures home { IfOk result (λ cell. home_of cell ≡ (Self.seat self.old).home.cells) }
         ensures kind { IfOk result (λ cell. kind_of cell ≡ kind) }
-        ensures back { IfErr result (λ e. (e.0 ≡ held) × ((e.1 ≡ Refused.NoCell) ⊎ (e.1 ≡ Refused.Contended))) }
-        ensures lone { IsLone (Self.seat self.old) → IfErr result (λ e. e.1 ≡ Refused.NoCell) }
+        ensures back { IfErr result (λ e. (e.0 ≡ held) × IsRefusedBy (Self.seat self.old) Refused.NoCell e.1) }
         ensures exact { IsExact (Self.seat self.old) → MatchResult result
             (λ cell. IsEmptyAt (Self.world self.old).cells (number_of cell) ×
             (Self.world self.new ≡ with_cell (Self.world self.old) (number_of cell) (cell_with held tag)))
@@ -69,8 +68,7 @@ pub trait Cells<T: Item<T>>: Caller<T> {
         ensures kind { IfOk result (λ cell. kind_of cell ≡ kind) }
         ensures shown { IsExact (Self.seat self.old) → IfOk result (λ cell. (slot : ℕ) × Self.shows self.new slot value ×
             (entry_at (Self.world self.new).cells (number_of cell) ≡ Some (record { held = Some slot; tag = no_tag }))) }
-        ensures back { IfErr result (λ e. (e.0 ≡ value) × IsRefusedItsCell e.1) }
-        ensures lone { IsLone (Self.seat self.old) → IfErr result (λ e. e.1 ≢ Refused.Contended) }
+        ensures back { IfErr result (λ e. (e.0 ≡ value) × ((e.1 ≡ Refused.NoSlot) ⊎ IsRefusedBy (Self.seat self.old) Refused.NoCell e.1)) }
         ensures exact { IsExact (Self.seat self.old) → MatchResult result
             (λ cell. (slot : ℕ) × IsEmptyAt (Self.world self.old).standings slot × IsEmptyAt (Self.world self.old).cells (number_of cell) ×
             (Self.world self.new ≡ with_cell (made_as (Self.world self.old) slot value (first_standing kind)) (number_of cell)
@@ -164,8 +162,7 @@ pub trait Cells<T: Item<T>>: Caller<T> {
         ensures seat { Self.seat self.new ≡ Self.seat self.old }
         ensures own { Self.own self.new ≡ Self.own self.old }
         ensures known { KnowsOn (Self.known self.old) (Self.known self.new) }
-        ensures back { IfErr result (λ e. e ≡ Refused.Contended) }
-        ensures lone { IsLone (Self.seat self.old) → IsOk result }
+        ensures back { IfErr result (IsContended (Self.seat self.old)) }
         ensures exact { IsExact (Self.seat self.old) → IsOk result × IfOk result (λ changed. (ptr : RawPtr T) ×
             (entry_at (Self.world self.old).cells (number_of cell.now) ≡ Some (raw.cell_seen ptr)) × F.post condition ptr changed ×
             (Self.world self.new ≡ (if changed then with_cell (Self.world self.old) (number_of cell.now) (record (raw.cell_seen ptr) { tag = tag })
@@ -186,8 +183,7 @@ pub trait Cells<T: Item<T>>: Caller<T> {
         ensures known { KnowsOn (Self.known self.old) (Self.known self.new) }
         ensures home { IfOk result (λ other. home_of other ≡ (Self.seat self.old).home.cells) }
         ensures kind { IfOk result (λ other. kind_of other ≡ Kind.Shared) }
-        ensures back { IfErr result IsRefusedItsCopy }
-        ensures lone { IsLone (Self.seat self.old) → IfErr result (λ e. e ≢ Refused.Contended) }
+        ensures back { IfErr result (λ e. (e ≡ Refused.NoCell) ⊎ IsRefusedBy (Self.seat self.old) Refused.TooManyOwners e) }
         ensures exact { IsExact (Self.seat self.old) → (old : Cell) × (entry_at (Self.world self.old).cells (number_of cell.now) ≡ Some old) ×
             MatchResult result
             (λ other. IsEmptyAt (Self.world self.old).cells (number_of other) × MatchOption old.held

@@ -1,8 +1,9 @@
-ghost use Rattle.std.specs.Prelude.{◌≡◌, ◌⊎◌, IfErr, MatchResult};
+ghost use Rattle.std.specs.Prelude.{◌≡◌, IfErr, MatchResult};
 ghost use Rattle.sdd_store.specs.declared.waiting.What.TheVariants.{Job};
 ghost use Rattle.sdd_store.specs.Time as time;
 ghost use Rattle.sdd_store.specs.Table.{IsEmptyAt, IsFull};
-ghost use Rattle.sdd_base.specs.Seat.{IsSeated, IsExact, IsLone};
+ghost use Rattle.sdd_base.specs.Seat.{IsSeated, IsExact};
+ghost use Rattle.sdd_base.specs.Refusals.{IsRefusedBy};
 ghost use Rattle.sdd_base.specs.Known.{KnowsOn};
 ghost use Rattle.sdd_base.specs.Ptr.{KeepsShown};
 ghost use Rattle.sdd_base.specs.Steps.{deferred};
@@ -28,8 +29,7 @@ pub trait Deferrals<T: Item<T>>: Caller<T> {
             (λ number. Self.own self.new ≡ time.awaiting (Job number) (Self.own self.old))
             (λ _. Self.own self.new ≡ Self.own self.old) }
         ensures known { KnowsOn (Self.known self.old) (Self.known self.new) }
-        ensures back { IfErr result (λ e. (e.0 ≡ job) × ((e.1 ≡ Refused.NoJob) ⊎ (e.1 ≡ Refused.Contended))) }
-        ensures lone { IsLone (Self.seat self.old) → IfErr result (λ e. e.1 ≡ Refused.NoJob) }
+        ensures back { IfErr result (λ e. (e.0 ≡ job) × IsRefusedBy (Self.seat self.old) Refused.NoJob e.1) }
         ensures exact { IsExact (Self.seat self.old) → MatchResult result
             (λ number. IsEmptyAt (Self.world self.old).jobs number ×
             (Self.world self.new ≡ deferred (Self.world self.old) (Self.seat self.old).place number))

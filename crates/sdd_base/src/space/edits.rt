@@ -2,7 +2,8 @@ ghost use Rattle.std.specs.Fn.{FnOnceReturnsAtMut};
 ghost use Rattle.std.specs.Prelude.{◌≡◌, ◌⊎◌, IfErr, IfOk, IsTrue, MatchBool, MatchResult, Some};
 ghost use Rattle.sdd_base.specs.Holding.{AreOf};
 ghost use Rattle.sdd_base.specs.World.{IsGuarded, standing_at, value_at};
-ghost use Rattle.sdd_base.specs.Seat.{IsSeated, IsExact, IsLone};
+ghost use Rattle.sdd_base.specs.Seat.{IsSeated, IsExact};
+ghost use Rattle.sdd_base.specs.Refusals.{IsRefusedBy};
 ghost use Rattle.sdd_base.specs.Own.{GrowsOn};
 ghost use Rattle.sdd_base.specs.Known.{KnowsOn};
 ghost use Rattle.sdd_token.specs.Right.{number_of, home_of, kind_of};
@@ -67,8 +68,7 @@ pub trait Edits<T: Item<T>>: Caller<T> {
         ensures seat { Self.seat self.new ≡ Self.seat self.old }
         ensures own { MatchResult result (λ _. GrowsOn (Self.own self.old) (Self.own self.new)) (λ _. Self.own self.new ≡ Self.own self.old) }
         ensures known { KnowsOn (Self.known self.old) (Self.known self.new) }
-        ensures back { IfErr result (λ e. (e.0 ≡ right) × ((e.1 ≡ Refused.GuardOpen) ⊎ (e.1 ≡ Refused.Contended))) }
-        ensures lone { IsLone (Self.seat self.old) → IfErr result (λ e. e.1 ≡ Refused.GuardOpen) }
+        ensures back { IfErr result (λ e. (e.0 ≡ right) × IsRefusedBy (Self.seat self.old) Refused.GuardOpen e.1) }
         ensures sole { kind ≡ Kind.Owned → IfErr result (λ e. e.1 ≡ Refused.GuardOpen) }
         ensures owned { IsExact (Self.seat self.old) → IsOwnedBy (kind_of right) (standing_at (Self.world self.old) (number_of right)) }
         ensures exact { IsExact (Self.seat self.old) → MatchResult result

@@ -1,7 +1,8 @@
-ghost use Rattle.std.specs.Prelude.{◌≡◌, ◌≢◌, ◌⊎◌, IfErr, IfOk, IsOk, MatchResult, None, Some, if◌then◌else◌};
+ghost use Rattle.std.specs.Prelude.{◌≡◌, ◌≢◌, IfErr, IfOk, IsOk, MatchResult, None, Some, if◌then◌else◌};
 ghost use Rattle.sdd_store.specs.Table.{IsEmptyAt, IsFull};
 ghost use Rattle.sdd_base.specs.World.{pointer_at};
-ghost use Rattle.sdd_base.specs.Seat.{IsSeated, IsExact, IsLone};
+ghost use Rattle.sdd_base.specs.Seat.{IsSeated, IsExact};
+ghost use Rattle.sdd_base.specs.Refusals.{IsContended, IsRefusedBy};
 ghost use Rattle.sdd_base.specs.Known.{KnowsOn};
 ghost use Rattle.sdd_token.specs.Right.{raw_number_of, raw_home_of};
 ghost use Rattle.sdd_base.specs.Ptr.{KeepsShown};
@@ -27,8 +28,7 @@ pub trait RawCells<T: Item<T>>: Caller<T> {
         ensures own { Self.own self.new ≡ Self.own self.old }
         ensures known { KnowsOn (Self.known self.old) (Self.known self.new) }
         ensures home { IfOk result (λ cell. raw_home_of cell ≡ (Self.seat self.old).home.cells) }
-        ensures back { IfErr result (λ e. (e ≡ Refused.NoCell) ⊎ (e ≡ Refused.Contended)) }
-        ensures lone { IsLone (Self.seat self.old) → IfErr result (λ e. e ≡ Refused.NoCell) }
+        ensures back { IfErr result (IsRefusedBy (Self.seat self.old) Refused.NoCell) }
         ensures exact { IsExact (Self.seat self.old) → MatchResult result
             (λ cell. IsEmptyAt (Self.world self.old).cells (raw_number_of cell) ×
             (Self.world self.new ≡ pointing (Self.world self.old) (raw_number_of cell) pointer))
@@ -91,8 +91,7 @@ pub trait RawCells<T: Item<T>>: Caller<T> {
         ensures seat { Self.seat self.new ≡ Self.seat self.old }
         ensures own { Self.own self.new ≡ Self.own self.old }
         ensures known { KnowsOn (Self.known self.old) (Self.known self.new) }
-        ensures back { IfErr result (λ e. e ≡ Refused.Contended) }
-        ensures lone { IsLone (Self.seat self.old) → IsOk result }
+        ensures back { IfErr result (IsContended (Self.seat self.old)) }
         ensures exact { IsExact (Self.seat self.old) → IsOk result × IfOk result (λ changed. (ptr : RawPtr T) ×
             (pointer_at (Self.world self.old) (raw_number_of cell.now) ≡ Some (raw.pointer_of ptr)) × F.post condition ptr changed ×
             (Self.world self.new ≡ (if changed
@@ -113,8 +112,7 @@ pub trait RawCells<T: Item<T>>: Caller<T> {
         ensures seat { Self.seat self.new ≡ Self.seat self.old }
         ensures own { Self.own self.new ≡ Self.own self.old }
         ensures known { KnowsOn (Self.known self.old) (Self.known self.new) }
-        ensures back { IfErr result (λ e. e ≡ Refused.Contended) }
-        ensures lone { IsLone (Self.seat self.old) → IsOk result }
+        ensures back { IfErr result (IsContended (Self.seat self.old)) }
         ensures exact { IsExact (Self.seat self.old) → IsOk result × IfOk result (λ updated. MatchResult updated
             (λ was. (next : RawPtr T) × (pointer_at (Self.world self.old) (raw_number_of cell.now) ≡ Some (raw.pointer_of was)) × F.post f was (Some next) ×
             (Self.world self.new ≡ with_pointer (Self.world self.old) (raw_number_of cell.now) (raw.pointer_of next)))

@@ -1,6 +1,7 @@
-ghost use Rattle.std.specs.Prelude.{◌≡◌, ◌+◌, ◌^◌, ◌≤◌, ◌⊎◌, IfErr, IfOk, IfSome, MatchOption, MatchResult};
+ghost use Rattle.std.specs.Prelude.{◌≡◌, ◌+◌, ◌^◌, ◌≤◌, IfErr, IfOk, IfSome, MatchOption, MatchResult};
 ghost use Rattle.sdd_base.specs.World.{World};
-ghost use Rattle.sdd_base.specs.Seat.{IsSeated, IsExact, IsLone};
+ghost use Rattle.sdd_base.specs.Seat.{IsSeated, IsExact};
+ghost use Rattle.sdd_base.specs.Refusals.{IsRefusedBy};
 ghost use Rattle.sdd_base.specs.Known.{KnowsOn};
 ghost use Rattle.sdd_base.specs.Holding.{AreOf};
 ghost use Rattle.sdd_token.specs.Right.{number_of, home_of, kind_of};
@@ -32,8 +33,7 @@ pub trait Several<T: Item<T>>: Caller<T> {
         ensures kind { IfOk result (λ made. kind_of made.0 ≡ Kind.Shared) }
         ensures others { IfOk result (λ made. (shares.number_of made.1 ≡ number_of made.0) × (shares.count_of made.1 + 1 ≡ owners)) }
         ensures shown { IfOk result (λ made. Self.owns_value self.new made.0 value) }
-        ensures back { IfErr result (λ e. (e.0 ≡ value) × ((e.1 ≡ Refused.NoSlot) ⊎ (e.1 ≡ Refused.Contended))) }
-        ensures lone { IsLone (Self.seat self.old) → IfErr result (λ e. e.1 ≡ Refused.NoSlot) }
+        ensures back { IfErr result (λ e. (e.0 ≡ value) × IsRefusedBy (Self.seat self.old) Refused.NoSlot e.1) }
         ensures exact { IsExact (Self.seat self.old) → MatchResult result
             (λ made. IsEmptyAt (Self.world self.old).standings (number_of made.0) ×
             (Self.world self.new ≡ made_as (Self.world self.old) (number_of made.0) value (Standing.Shared owners)))

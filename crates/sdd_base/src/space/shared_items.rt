@@ -1,6 +1,7 @@
-ghost use Rattle.std.specs.Prelude.{◌≡◌, ◌+◌, ◌^◌, ◌<◌, ◌⊎◌, ℕ, IfErr, IfOk, IfSome, MatchOption, MatchResult, None};
+ghost use Rattle.std.specs.Prelude.{◌≡◌, ◌+◌, ◌^◌, ◌<◌, ℕ, IfErr, IfOk, IfSome, MatchOption, MatchResult, None};
 ghost use Rattle.sdd_base.specs.World.{standing_at};
-ghost use Rattle.sdd_base.specs.Seat.{IsSeated, IsExact, IsLone};
+ghost use Rattle.sdd_base.specs.Seat.{IsSeated, IsExact};
+ghost use Rattle.sdd_base.specs.Refusals.{IsRefusedBy};
 ghost use Rattle.sdd_base.specs.Known.{KnowsOn};
 ghost use Rattle.sdd_token.specs.Right.{number_of, home_of, kind_of};
 ghost use Rattle.sdd_standings.specs.Slots.{IsSharedBy, owners_of};
@@ -49,8 +50,7 @@ pub trait SharedItems<T: Item<T>>: Caller<T> {
         ensures slot { IfOk result (λ o. IfSome o (λ right. number_of right ≡ slot)) }
         ensures kind { IfOk result (λ o. IfSome o (λ right. kind_of right ≡ Kind.Shared)) }
         ensures value { IfOk result (λ o. IfSome o (λ right. (v : T) → Self.shows self.old slot v → Self.owns_value self.new right v)) }
-        ensures back { IfErr result (λ e. (e ≡ Refused.TooManyOwners) ⊎ (e ≡ Refused.Contended)) }
-        ensures lone { IsLone (Self.seat self.old) → IfErr result (λ e. e ≡ Refused.TooManyOwners) }
+        ensures back { IfErr result (IsRefusedBy (Self.seat self.old) Refused.TooManyOwners) }
         ensures exact { IsExact (Self.seat self.old) → MatchResult result
             (λ o. MatchOption o
             ((owners_of (standing_at (Self.world self.old) slot) ≡ None) × (Self.world self.new ≡ Self.world self.old))

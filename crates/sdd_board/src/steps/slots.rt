@@ -1,4 +1,4 @@
-//! The atomic steps on slots, by a participant, and one by a token that knows that all places have ended.
+//! The atomic steps on slots, by a participant, and one by a token that knows that all places are barred.
 //!
 //! A slot is free, owned by one owner, or its item waits. A lone participant knows each word beforehand.
 ghost use Rattle.std.specs.Prelude.{◌≡◌, ◌-◌, ◌<◌, ◌≤◌, ℕ, Bool, List, [], ◌∷◌, None};
@@ -8,7 +8,7 @@ ghost use Rattle.sdd_rule.specs.Codes.{free_word, owned_word, waiting_word};
 ghost use Rattle.sdd_rule.specs.Epoch.{HasPlace, IsOpen};
 ghost use Rattle.sdd_rule.specs.Slots.{OwnsAlone, Holds};
 ghost use Rattle.sdd_rule.specs.SlotSteps.{IsDue, LooksAtSlot, TakesHold, LetsGo, LooksForGuard};
-ghost use Rattle.sdd_rule.specs.Ended.{LooksForValue};
+ghost use Rattle.sdd_rule.specs.Barred.{LooksForValue};
 ghost use Rattle.sdd_views.specs.Views.{owner_of};
 ghost use Rattle.sdd_stakes.specs.Shelf.{IsVacant, lot};
 ghost use Rattle.sdd_homes.specs.Homes.{Carries, Moves, spare};
@@ -270,7 +270,7 @@ pub fn discard(board: &Board, token: &mut Token, slot: u32)
         .store::<Discard>(token, board.slot_word(slot), FREE);
 }
 
-/// Looks at the word of the next slot, by a token that knows that all places have ended. Where it is free then it stays so.
+/// Looks at the word of the next slot, by a token that knows that all places are barred. Where it is free then it stays so.
 pub fn look_for_value(board: &Board, token: &mut Token, slot: u32) -> u64
     requires home { token.old.table_id ≡ id_of board.now }
     requires inside { slot < slots_of board.now }

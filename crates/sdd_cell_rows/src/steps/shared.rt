@@ -69,6 +69,24 @@ pub fn upgraded<S: Items<u64> + SharedItems<u64>>(
     Some(owner.release(s))
 }
 
+/// The same by a call that gives the pointer back where there is none.
+pub fn converted<S: Items<u64> + SharedItems<u64>>(
+    rt: &impl Abort,
+    s: &mut S,
+    ptr: Ptr<'_, u64>,
+) -> Option<bool>
+    requires seated { IsSeated (S.seat s.old) }
+    ensures seat { S.seat s.new ≡ S.seat s.old }
+{
+    match Shared::try_from_ptr(ptr, s) {
+        Ok(owner) => Some(owner.release(s)),
+        Err((back, refused)) => {
+            assert!(rt; back == ptr && refused.is_none());
+            None
+        }
+    }
+}
+
 /// What another owner is refused with. If it is had, it is given up again.
 pub fn refused_copy<S: Items<u64> + SharedItems<u64>>(
     s: &mut S,

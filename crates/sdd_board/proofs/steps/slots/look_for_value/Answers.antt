@@ -1,5 +1,5 @@
 use Rattle.std.proofs.Common.{arith}
-use Rattle.sdd_rule.specs.Ended.{LooksForValue}
+use Rattle.sdd_rule.specs.Barred.{LooksForValue}
 use Rattle.sdd_board.proofs.Allowed.{taught, may_look_for_value}
 use Rattle.sdd_board.proofs.steps.slots.look_for_value.Goals as goal
 

@@ -1,7 +1,7 @@
 use Rattle.std.proofs.Common.{◌≡◌}
 use Rattle.sdd_views.specs.Views.{no_counts}
 use Rattle.sdd_board.specs.Board.{id_of}
-use Rattle.sdd_domain.proofs.closing.end_all.Given as goal
+use Rattle.sdd_domain.proofs.closing.bar_all.Given as goal
 
 abbrev pub invariant-loop-place : goal.invariant-loop-place
 invariant-loop-place l = record {

@@ -1,7 +1,7 @@
 use Rattle.std.proofs.Common.{◌≡◌, ◌⊎◌, ap, ◌∙◌, inl, inr, refl}
 use Rattle.sdd_views.specs.declared.View.{View}
-use Rattle.sdd_domain.proofs.closing.end_all.Goals.{else-state-ne-FREE-via-then-state-ne-FREE+else-state-ne-ENDED, else-state-ne-FREE-via-else-state-ne-FREE}
-use Rattle.sdd_domain.proofs.closing.end_all.Goals as goal
+use Rattle.sdd_domain.proofs.closing.bar_all.Goals.{else-state-ne-FREE-via-then-state-ne-FREE+else-state-ne-ENDED, else-state-ne-FREE-via-else-state-ne-FREE}
+use Rattle.sdd_domain.proofs.closing.bar_all.Goals as goal
 
 pub loop-place-preserved : goal.loop-place-preserved
 loop-place-preserved c = let e = c.bar-state.ensures in let x = c.bar-state.result in
