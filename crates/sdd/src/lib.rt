@@ -5,11 +5,12 @@
 
 pub use sdd_base::laws::{
     comes_back, epoch_moves_by_one, owned_is_shown, shared_is_shown, shows_what_was_made,
+    values_fit_slots,
 };
 pub use sdd_base::{
     AtomicOwned, AtomicRaw, AtomicShared, Caller, Cells, Collectors, Deferrals, Edits, Giver,
     Guard, Guards, Item, Items, Limits, Look, LookThrough, Owned, OwnedPtrPair, PrivateCollector,
-    Ptr, RawCells, RawItems, RawPtr, Shared, SharedItems, SharedPtrPair, Shows, Space,
+    Ptr, RawCells, RawItems, RawPtr, Several, Shared, SharedItems, SharedPtrPair, Shows, Space,
 };
 pub use sdd_core::{Epoch, Refused, Tag};
 pub use sdd_domain::{Domain, Local, Receipt};
