@@ -87,8 +87,8 @@ pub trait Giver<I> {
 
 /// A value that may hold owners and cells of a space of items `I`.
 ///
-/// A space of `T` needs `T: Item<T>`. Whole numbers, `bool`, `char`, `()` and `String` give up nothing, whatever `I` is; an `Option` or a tuple gives up
-/// what its parts do, in their order.
+/// A space of `T` needs `T: Item<T>`. Whole numbers, `bool`, `char`, `()` and `String` give up nothing, whatever `I` is; an `Option`, a
+/// tuple or an array gives up what its parts do, in their order.
 pub trait Item<I>: Sized {
     /// What it gives up, in order.
     ghost holds: { Self → List Holding };

@@ -1,10 +1,10 @@
 //! Ample memory at the greatest sizes. A body that refuses with `NoMemory` beyond some size meets every contract.
 
-use sdd::{
-    Action, Call, Ended, ItemName, Limits, OwnerName, PlaceName, Reader, Reply, Value, Writer,
-    play, run,
-};
+use sdd_base::Limits;
 use sdd_command::USUAL_LIMITS;
+use sdd_script::{
+    Action, Call, Ended, ItemName, OwnerName, PlaceName, Reader, Reply, Value, Writer, play, run,
+};
 use std::alloc::{AllocError, Global};
 use std::test::Fail;
 

@@ -1,10 +1,11 @@
 //! Plays: how they end, and what they write.
 
 use crate::devices::{Page, Trickle};
-use sdd::{
-    Action, Call, Ended, Limits, PlaceName, Reader, Refused, Tally, Value, Writer, play, run,
-};
+use sdd_base::Limits;
 use sdd_command::USUAL_LIMITS;
+use sdd_core::Refused;
+use sdd_script::{Action, Call, Ended, PlaceName, Reader, Value, Writer, play, run};
+use sdd_store::Tally;
 use std::alloc::{AllocError, Global};
 
 /// The shortest way of an item: it is made and retired, and goes at the third later opening that finds another epoch.

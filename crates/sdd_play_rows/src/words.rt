@@ -1,7 +1,8 @@
 //! What the arguments choose, and the status of each end.
 
-use sdd::{Ended, Limits};
+use sdd_base::Limits;
 use sdd_command::{Choice, Outcome, USUAL_LIMITS, chosen, status};
+use sdd_script::Ended;
 use std::alloc::{AllocError, Global};
 use std::test::Fail;
 

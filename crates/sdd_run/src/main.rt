@@ -1,14 +1,14 @@
 //! The program `sdd-run`: plays the script of standard input, and prints a line for each call.
 //!
 //! Here the host's arguments, input and printing meet the program's decisions, which stand under clauses: `sdd_command`
-//! says what the arguments ask for, what is printed besides a play, on which stream, and the status, and `sdd::play`
+//! says what the arguments ask for, what is printed besides a play, on which stream, and the status, and `sdd_script::play`
 //! what a play reads and writes. No clause says what the host gives or prints.
 #![tactic(auto)]
 
-use sdd::{Reader, Writer, play};
 use sdd_command::{
     Choice, Outcome, after_printing, asked, failure, line, status, without_arguments,
 };
+use sdd_script::{Reader, Writer, play};
 use std::process::ExitCode;
 use std::rt::Env;
 use std::{env, io};

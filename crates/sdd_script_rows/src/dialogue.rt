@@ -11,9 +11,11 @@
 
 use crate::plays::played;
 use crate::verdict::Verdict;
-use sdd::{Ended, Limits, Reply, Tally, run};
+use sdd_base::Limits;
 use sdd_command::USUAL_LIMITS;
 use sdd_lines::{Script, parse_all};
+use sdd_script::{Ended, Reply, run};
+use sdd_store::Tally;
 use std::alloc::{AllocError, Global};
 
 /// The lines of a script, and the answers that are expected of them.

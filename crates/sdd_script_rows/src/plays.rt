@@ -1,8 +1,9 @@
 //! Plays of scripts.
 
 use crate::verdict::Verdict;
-use sdd::{Ended, Limits, Reader, Writer, play};
+use sdd_base::Limits;
 use sdd_command::USUAL_LIMITS;
+use sdd_script::{Ended, Reader, Writer, play};
 use std::alloc::{AllocError, Global};
 
 /// How a play of a script within these limits ends, and what it writes.

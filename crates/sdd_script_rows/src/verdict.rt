@@ -1,6 +1,6 @@
 //! What comes of an example.
 
-use sdd::Ended;
+use sdd_script::Ended;
 use std::fmt;
 
 #[derive(Drop)]

@@ -1,5 +1,5 @@
 //! Values made of values.
-ghost use Rattle.std.specs.Prelude.{[], ◌++◌};
+ghost use Rattle.std.specs.Prelude.{[], ◌++◌, flat_map};
 ghost use Rattle.sdd_base.specs.Composed.{held_if_some};
 
 use crate::item::{Giver, Item};
@@ -42,5 +42,41 @@ impl<I, A: Item<I>, B: Item<I>, C: Item<I>, D: Item<I>> Item<I> for (A, B, C, D)
         let (first, second, third, fourth) = self;
         first.give_up(giver);
         (second, third, fourth).give_up(giver);
+    }
+}
+
+impl<I, T: Item<I>> Item<I> for [T; 1] {
+    ghost holds = { λ parts. flat_map T.holds parts };
+
+    fn give_up<G: Giver<I>>(self, giver: &mut G) {
+        let [only] = self;
+        only.give_up(giver);
+    }
+}
+
+impl<I, T: Item<I>> Item<I> for [T; 2] {
+    ghost holds = { λ parts. flat_map T.holds parts };
+
+    fn give_up<G: Giver<I>>(self, giver: &mut G) {
+        let [first, second] = self;
+        (first, second).give_up(giver);
+    }
+}
+
+impl<I, T: Item<I>> Item<I> for [T; 3] {
+    ghost holds = { λ parts. flat_map T.holds parts };
+
+    fn give_up<G: Giver<I>>(self, giver: &mut G) {
+        let [first, second, third] = self;
+        (first, second, third).give_up(giver);
+    }
+}
+
+impl<I, T: Item<I>> Item<I> for [T; 4] {
+    ghost holds = { λ parts. flat_map T.holds parts };
+
+    fn give_up<G: Giver<I>>(self, giver: &mut G) {
+        let [first, second, third, fourth] = self;
+        (first, second, third, fourth).give_up(giver);
     }
 }

@@ -4,9 +4,9 @@ ghost use Rattle.sdd_base.specs.Limits.{AreInRange};
 ghost use Rattle.sdd_lines.specs.Answer.{text_of_all};
 ghost use Rattle.sdd_lines.specs.declared.answer.Answer.{Answer};
 ghost use Rattle.sdd_lines.specs.declared.call.Call.{Call};
-ghost use Rattle.sdd.specs.Play.{AreAnswers, Prints, Plays, IsSilent, read_failures, write_failures};
+ghost use Rattle.sdd_script.specs.Play.{AreAnswers, Prints, Plays, IsSilent, read_failures, write_failures};
 
-use crate::script::runner::run;
+use crate::runner::run;
 use sdd_base::Limits;
 use sdd_core::Refused;
 use sdd_lines::{

@@ -2,7 +2,7 @@ use Rattle.std.proofs.Common.{refl}
 use Rattle.sdd_lines.specs.declared.call.Call.TheVariants.{Tally}
 use Rattle.sdd_lines.specs.declared.answer.Reply.TheVariants as reply
 use Rattle.sdd_hand.proofs.Acts.{still}
-use Rattle.sdd.proofs.script.line.reply_to.Goals as goal
+use Rattle.sdd_script.proofs.line.reply_to.Goals as goal
 
 pub returns-in-Tally : goal.returns-in-Tally
 returns-in-Tally c =

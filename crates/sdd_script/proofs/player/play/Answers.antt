@@ -1,5 +1,5 @@
-use Rattle.sdd.proofs.Plays.{reads_all}
-use Rattle.sdd.proofs.script.player.play.Goals as goal
+use Rattle.sdd_script.proofs.Plays.{reads_all}
+use Rattle.sdd_script.proofs.player.play.Goals as goal
 
 pub returns-clause-plays : goal.returns-clause-plays
 returns-clause-plays g c = record {

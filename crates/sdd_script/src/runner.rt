@@ -3,8 +3,8 @@ ghost use Rattle.std.specs.Prelude.{◌≡◌, ◌⊎◌, IfOk, MatchResult};
 ghost use Rattle.sdd_base.specs.Limits.{AreInRange};
 ghost use Rattle.sdd_desk.specs.Script.{IsRun};
 
-use crate::script::line::step;
-use crate::script::scene::Scene;
+use crate::line::step;
+use crate::scene::Scene;
 use sdd_base::Limits;
 use sdd_core::Refused;
 use sdd_guard_acts::leaving::close;

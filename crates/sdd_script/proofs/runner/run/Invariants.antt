@@ -1,6 +1,6 @@
 use Rattle.std.proofs.Common.{◌≡◌, ◌≤◌, length, take, vec_capacity}
 use Rattle.sdd_desk.specs.Script.{Runs}
-use Rattle.sdd.proofs.script.runner.run.Given as goal
+use Rattle.sdd_script.proofs.runner.run.Given as goal
 
 -- the calls so far ran
 abbrev pub invariant-loop-call : goal.invariant-loop-call

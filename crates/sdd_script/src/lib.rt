@@ -1,4 +1,5 @@
 //! Scripts: calls on a world, and what they answer.
+#![tactic(auto)]
 
 mod line;
 pub mod player;

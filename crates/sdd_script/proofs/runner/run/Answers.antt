@@ -3,7 +3,7 @@ use Rattle.std.proofs.Common.{length, ap, arith}
 use Rattle.std.proofs.lemmas.List.{length_push}
 use Rattle.sdd_lines.specs.declared.call.Call.TheVariants.{Register}
 use Rattle.sdd_desk.proofs.Runs.{runs-push}
-use Rattle.sdd.proofs.script.runner.run.Goals as goal
+use Rattle.sdd_script.proofs.runner.run.Goals as goal
 
 pub loop-call-preserved : goal.loop-call-preserved
 loop-call-preserved c =
