@@ -16,7 +16,7 @@ use Rattle.sdd_views.specs.declared.Sizes.{Sizes}
 abbrev pub nobody : ℕ → EpochView
 nobody n = record { all = n; place = 0; state = 0; count = 0; since = 0; known = 0; found = 0; scans = 0; looked = 0; ended = 0; adopts = None }
 
--- it knows of no place that has ended
+-- it knows of no place that is barred
 abbrev pub none_ended : PlacesView
 none_ended = record { ended = 0; quiet = 0 }
 

@@ -40,11 +40,11 @@ pub struct EpochView {
     pub adopts: Option<u64>,
 }
 
-/// What is known of ended places, and of slots once all have ended.
+/// What is known of barred places, and of slots once all are barred.
 pub struct PlacesView {
-    /// Each place below this one has ended.
+    /// Each place below this one is barred: nobody takes part there, nor will.
     pub ended: u64,
-    /// No slot below this one has an owner, and none will: all places have ended.
+    /// No slot below this one has an owner, and none will: all places are barred.
     pub quiet: u64,
 }
 
