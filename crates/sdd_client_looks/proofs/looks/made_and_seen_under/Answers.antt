@@ -24,7 +24,8 @@ returns-clause-second g c =
     let first = c.get_guarded_ref-first in
     let inner = c.new-2 in
     let second = c.get_guarded_ref-second in
-    let opened : IsTrue (is_open (g.S.Caller.own first.new.s)) = ap is_open (first.ensures.undisturbed.own ∙ c.in-Ok.ensures.undisturbed.own) ∙ c.requires.open in
+    let opened : IsTrue (is_open (g.S.Caller.own first.new.s)) =
+    ap is_open (first.ensures.undisturbed.own ∙ c.in-Ok.ensures.undisturbed.own) ∙ c.requires.open in
     let at_first = items.keeps_owned c.new.new.s first.new.s
     (caller.home_is_seat c.new.new.s ∙ (ap (λ (x : Seat). x.home) (sym first.ensures.undisturbed.seat) ∙ sym (caller.home_is_seat first.new.s)))
     first.ensures.undisturbed.shown right c.args.value c.in-Ok.ensures.shown in

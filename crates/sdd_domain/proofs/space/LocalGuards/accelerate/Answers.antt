@@ -28,6 +28,6 @@ returns-clause-unmoved g c = let v : Partaker g.row.T.Denot = (c.self-inside.vie
     record {
       seat = search rules;
       known = search rules;
-      shown = keeps_own (showing g.row.T) g.T.Item.holds v c.args.self.now (inner ∙ c.self.view_is) c.accelerate.new.self (time.accelerated v.member.own) v.member.known v.member.since
-    c.accelerate.ensures;
+      shown = keeps_own (showing g.row.T) g.T.Item.holds v c.args.self.now (inner ∙ c.self.view_is)
+          c.accelerate.new.self (time.accelerated v.member.own) v.member.known v.member.since c.accelerate.ensures;
     }

@@ -24,6 +24,6 @@ returns-clause-undisturbed g c = let v : Partaker g.row.T.Denot = (c.self-inside
       seat = search rules;
       own = search rules;
       known = search rules;
-      shown = keeps_own (showing g.row.T) g.T.Item.holds v c.args.self.now (inner ∙ c.self.view_is) c.count.new.self v.member.own c.count.result v.member.since
-    c.count.ensures.member;
+      shown = keeps_own (showing g.row.T) g.T.Item.holds v c.args.self.now (inner ∙ c.self.view_is)
+          c.count.new.self v.member.own c.count.result v.member.since c.count.ensures.member;
     }
