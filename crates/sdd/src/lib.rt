@@ -18,5 +18,6 @@ pub use sdd_base::{
 pub use sdd_core::{Epoch, Refused, Tag};
 pub use sdd_domain::{Domain, Local, Receipt};
 pub use sdd_machine::machine::{Did, Machine, Step, safety};
+pub use sdd_schedules::play_steps;
 pub use sdd_store::{Deferred, Idle, Job, Tally};
 pub use sdd_world::{Place, Turn, World};

@@ -11,6 +11,8 @@ use sdd_lines::inner::number;
 pub enum Choice {
     /// To play the script of standard input on a world within these limits, which may be out of their ranges.
     Script(Limits),
+    /// To play the schedule of standard input, which has a step of the machine on each line.
+    Steps,
     /// Nothing that the program does: it tells how it is used.
     Usage,
 }
@@ -35,17 +37,18 @@ pub fn asked(arguments: &[String]) -> Choice
     }
 }
 
-/// What the words behind the program's name ask for: no word for the usual limits, or six numbers in the order of
-/// `Limits`, written as in a script.
+/// What the words behind the program's name ask for: no word for the usual limits, six numbers in the order of
+/// `Limits`, written as in a script, or the one word `steps`.
 pub fn chosen(words: &[String]) -> Choice
     ensures { Chooses (map string_bytes words.now) result }
 {
-    if words.is_empty() {
-        return Choice::Script(USUAL_LIMITS);
-    }
-    match limits(words) {
-        Some(limits) => Choice::Script(limits),
-        None => Choice::Usage,
+    match words {
+        [] => Choice::Script(USUAL_LIMITS),
+        [word] if word.as_str() == "steps" => Choice::Steps,
+        _ => match limits(words) {
+            Some(limits) => Choice::Script(limits),
+            None => Choice::Usage,
+        },
     }
 }
 

@@ -29,8 +29,8 @@ use Rattle.sdd_lines.specs.declared.call.Argument.{Argument}
 use Rattle.sdd_lines.specs.declared.call.Argument.TheVariants.{Number, Guard, Owner, Item, Cell, Collector, Tag, Word}
 use Rattle.sdd_lines.specs.declared.call.Word.{Word as FixedWord}
 use Rattle.sdd_lines.specs.declared.call.Word.TheVariants.{Owned, Shared, Of, If, Was, Now}
-use Rattle.sdd_lines.specs.Call.{IsNumber, IsWordOf, joined, fixed, word_of, spoken, words_of, line_of, HasNumber, HasNumbers, IsTextOf, IsCallText}
-use Rattle.sdd_lines.specs.Reading.{words, IsNumberOf, number_at, numbered_at, numbered_argument_at, plain_arguments, argument_among, argument_at, place_call_at, call_at, most_arguments, arguments_at, few_arguments_at, with_arguments, called, ◌>>=◌}
+use Rattle.sdd_lines.specs.Call.{IsNumber, IsWordOf, joined, words, fixed, word_of, spoken, words_of, line_of, HasNumber, HasNumbers, IsTextOf, IsCallText}
+use Rattle.sdd_lines.specs.Reading.{IsNumberOf, number_at, numbered_at, numbered_argument_at, plain_arguments, argument_among, argument_at, place_call_at, call_at, most_arguments, arguments_at, few_arguments_at, with_arguments, called, ◌>>=◌}
 use Rattle.std.proofs.lemmas.Bool.Decides.{nat_tests}
 use Rattle.std.proofs.lemmas.Grind.{common_steps}
 use Rattle.std.specs.Prelude.{codes, if◌then◌else◌}
