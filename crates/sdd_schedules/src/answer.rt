@@ -1,7 +1,7 @@
 //! The answers of a schedule, each of which is a line.
 
 ghost use Rattle.std.specs.Prelude.{◌≡◌, ◌++◌, codes, OnOk, IfOk, IfErr, string_bytes};
-ghost use Rattle.sdd_schedules.specs.Answer.{text_of, text_of_all, text_of_fault};
+ghost use Rattle.sdd_schedules.specs.Answer.{found, text_of, text_of_all, text_of_fault};
 
 use sdd_core::Refused;
 use sdd_machine::Did;
@@ -43,13 +43,21 @@ fn push_answer(text: &mut String, answer: Did) -> Result<(), AllocError>
             count,
             changed,
             reclaimed,
-        } => {
-            let found = if changed { "changed" } else { "same" };
-            write!(text, "opened {count} {found} reclaimed {reclaimed}\n")
-        }
+        } => write!(
+            text,
+            "opened {count} {} reclaimed {reclaimed}\n",
+            found(changed)
+        ),
         Did::Looked { passed: true } => text.push_str("passed\n"),
         Did::Looked { passed: false } => text.push_str("not passed\n"),
         Did::Advanced { raised: true } => text.push_str("raised\n"),
         Did::Advanced { raised: false } => text.push_str("not raised\n"),
     }
+}
+
+/// What is said of a count, beside the one found at the opening before.
+fn found(changed: bool) -> &'static str
+    ensures { result.now ≡ found changed }
+{
+    if changed { "changed" } else { "same" }
 }
