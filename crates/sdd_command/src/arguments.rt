@@ -1,7 +1,7 @@
 //! What the program's arguments ask for.
-ghost use Rattle.std.specs.Prelude.{drop, map, MatchOption, string_bytes};
+ghost use Rattle.std.specs.Prelude.{◌↔◌, IsTrue, drop, map, MatchOption, string_bytes};
 ghost use Rattle.sdd_base.specs.declared.limits.Limits.{Limits};
-ghost use Rattle.sdd_command.specs.Choice.{AreLimits, Chooses};
+ghost use Rattle.sdd_command.specs.Choice.{AreLimits, AreSteps, Chooses};
 
 use sdd_base::Limits;
 use sdd_lines::inner::number;
@@ -42,13 +42,25 @@ pub fn asked(arguments: &[String]) -> Choice
 pub fn chosen(words: &[String]) -> Choice
     ensures { Chooses (map string_bytes words.now) result }
 {
+    if words.is_empty() {
+        return Choice::Script(USUAL_LIMITS);
+    }
+    if are_steps(words) {
+        return Choice::Steps;
+    }
+    match limits(words) {
+        Some(limits) => Choice::Script(limits),
+        None => Choice::Usage,
+    }
+}
+
+/// Whether the words ask for a schedule.
+fn are_steps(words: &[String]) -> bool
+    ensures { IsTrue result ↔ AreSteps (map string_bytes words.now) }
+{
     match words {
-        [] => Choice::Script(USUAL_LIMITS),
-        [word] if word.as_str() == "steps" => Choice::Steps,
-        _ => match limits(words) {
-            Some(limits) => Choice::Script(limits),
-            None => Choice::Usage,
-        },
+        [word] => word.as_str() == "steps",
+        _ => false,
     }
 }
 

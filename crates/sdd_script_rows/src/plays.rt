@@ -1,7 +1,7 @@
-//! Plays of scripts.
+//! Plays of scripts and of schedules.
 
 use crate::verdict::Verdict;
-use sdd::{Ended, Limits, Reader, Writer, play};
+use sdd::{Ended, Limits, Reader, Writer, play, play_steps};
 use sdd_command::USUAL_LIMITS;
 use std::alloc::{AllocError, Global};
 
@@ -17,6 +17,20 @@ pub fn played(alloc: Global, limits: Limits, script: &[u8]) -> (Ended, Vec<u8>) 
 /// A play of a script within the usual limits writes what is expected, however it ends.
 pub fn compared(alloc: Global, script: &str, expected: &str) -> Verdict {
     let (ended, written) = played(alloc, USUAL_LIMITS, script.as_bytes());
+    judged(ended, written, expected)
+}
+
+/// A play of a schedule writes what is expected, however it ends.
+pub fn compared_steps(alloc: Global, schedule: &str, expected: &str) -> Verdict {
+    let mut written = Vec::new(alloc);
+    let mut reader = Reader::new(schedule.as_bytes());
+    let mut writer = Writer::new(&mut written);
+    let ended = play_steps(alloc, &mut reader, &mut writer);
+    judged(ended, written, expected)
+}
+
+/// What was written, beside what is expected.
+fn judged(ended: Ended, written: Vec<u8>, expected: &str) -> Verdict {
     if ended == Ended::NoMemory {
         return Verdict::Ended(ended);
     }
