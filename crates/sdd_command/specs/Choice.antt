@@ -1,9 +1,9 @@
 -- What the program is to do, by its arguments
-use Rattle.std.specs.Prelude.{◌≡◌, ℕ, List, [], ◌∷◌}
+use Rattle.std.specs.Prelude.{◌≡◌, ℕ, List, [], ◌∷◌, codes}
 use Rattle.sdd_base.specs.declared.limits.Limits.{Limits}
 use Rattle.sdd_lines.specs.Call.{IsWordOf}
 use Rattle.sdd_command.specs.declared.arguments.Choice.{Choice}
-use Rattle.sdd_command.specs.declared.arguments.Choice.TheVariants.{Script, Usage}
+use Rattle.sdd_command.specs.declared.arguments.Choice.TheVariants.{Script, Steps, Usage}
 
 -- the limits of a script where none are given
 abbrev pub usual_limits : Limits
@@ -20,9 +20,14 @@ AreWordsOf (n ∷ numbers) [] = ⊥
 abbrev pub AreLimits : Limits → List (List ℕ) → Type 0
 AreLimits l words = AreWordsOf (l.participants ∷ l.slots ∷ l.cells ∷ l.jobs ∷ l.nesting ∷ l.tries ∷ []) words
 
+-- the words ask for a schedule
+abbrev pub AreSteps : List (List ℕ) → Type 0
+AreSteps words = words ≡ codes "steps" ∷ []
+
 -- what these arguments choose
 abbrev pub Chooses : List (List ℕ) → Choice → Type 0
 Chooses [] (Script limits) = limits ≡ usual_limits
-Chooses [] Usage = ⊥
+Chooses [] choice = ⊥
 Chooses (word ∷ words) (Script limits) = AreLimits limits (word ∷ words)
-Chooses (word ∷ words) Usage = ¬ ((limits : Limits) × AreLimits limits (word ∷ words))
+Chooses (word ∷ words) Steps = AreSteps (word ∷ words)
+Chooses (word ∷ words) Usage = ¬ (AreSteps (word ∷ words)) × ¬ ((limits : Limits) × AreLimits limits (word ∷ words))

@@ -2,7 +2,7 @@
 use Rattle.std.specs.Prelude.{ℕ, Bool, true, false, List, Option, Some, None, codes}
 use Rattle.std.specs.declared.io.ErrorKind.{ErrorKind}
 use Rattle.std.specs.declared.io.ErrorKind.TheVariants.{InvalidData}
-use Rattle.sdd_lines.specs.declared.ended.Ended.TheVariants.{Played, NotACall, LimitsOutOfRange, CannotRead, CannotWrite, NoMemory}
+use Rattle.sdd_lines.specs.declared.ended.Ended.TheVariants.{Played, NotACall, NotAStep, LimitsOutOfRange, CannotRead, CannotWrite, NoMemory}
 use Rattle.sdd_command.specs.declared.outcome.Outcome.{Outcome}
 use Rattle.sdd_command.specs.declared.outcome.Outcome.TheVariants.{Usage, Play}
 
@@ -13,7 +13,7 @@ without_arguments_of kind = Play NoMemory
 
 -- the line on standard output
 abbrev pub line_of : Outcome → Option (List ℕ)
-line_of Usage = Some (codes "usage: sdd-run [participants slots cells jobs nesting tries]")
+line_of Usage = Some (codes "usage: sdd-run [steps | participants slots cells jobs nesting tries]")
 line_of (Play LimitsOutOfRange) = Some (codes "limits out of range")
 line_of (Play ended) = None
 
@@ -33,6 +33,7 @@ abbrev pub status_of : Outcome → ℕ
 status_of Usage = 2
 status_of (Play Played) = 0
 status_of (Play (NotACall n)) = 2
+status_of (Play (NotAStep n)) = 2
 status_of (Play LimitsOutOfRange) = 2
 status_of (Play CannotRead) = 1
 status_of (Play CannotWrite) = 1

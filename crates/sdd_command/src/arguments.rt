@@ -1,7 +1,7 @@
 //! What the program's arguments ask for.
-ghost use Rattle.std.specs.Prelude.{drop, map, MatchOption, string_bytes};
+ghost use Rattle.std.specs.Prelude.{◌↔◌, IsTrue, drop, map, MatchOption, string_bytes};
 ghost use Rattle.sdd_base.specs.declared.limits.Limits.{Limits};
-ghost use Rattle.sdd_command.specs.Choice.{AreLimits, Chooses};
+ghost use Rattle.sdd_command.specs.Choice.{AreLimits, AreSteps, Chooses};
 
 use sdd_base::Limits;
 use sdd_lines::inner::number;
@@ -11,6 +11,8 @@ use sdd_lines::inner::number;
 pub enum Choice {
     /// To play the script of standard input on a world within these limits, which may be out of their ranges.
     Script(Limits),
+    /// To play the schedule of standard input, which has a step of the machine on each line.
+    Steps,
     /// Nothing that the program does: it tells how it is used.
     Usage,
 }
@@ -35,17 +37,30 @@ pub fn asked(arguments: &[String]) -> Choice
     }
 }
 
-/// What the words behind the program's name ask for: no word for the usual limits, or six numbers in the order of
-/// `Limits`, written as in a script.
+/// What the words behind the program's name ask for: no word for the usual limits, six numbers in the order of
+/// `Limits`, written as in a script, or the one word `steps`.
 pub fn chosen(words: &[String]) -> Choice
     ensures { Chooses (map string_bytes words.now) result }
 {
     if words.is_empty() {
         return Choice::Script(USUAL_LIMITS);
     }
+    if are_steps(words) {
+        return Choice::Steps;
+    }
     match limits(words) {
         Some(limits) => Choice::Script(limits),
         None => Choice::Usage,
+    }
+}
+
+/// Whether the words ask for a schedule.
+fn are_steps(words: &[String]) -> bool
+    ensures { IsTrue result ↔ AreSteps (map string_bytes words.now) }
+{
+    match words {
+        [word] => word.as_str() == "steps",
+        _ => false,
     }
 }
 

@@ -31,12 +31,13 @@ pub fn line(outcome: Outcome) -> Option<&'static str>
     ensures { option_map (λ line. line.now) result ≡ line_of outcome }
 {
     let Outcome::Play(ended) = outcome else {
-        return Some("usage: sdd-run [participants slots cells jobs nesting tries]");
+        return Some("usage: sdd-run [steps | participants slots cells jobs nesting tries]");
     };
     match ended {
         Ended::LimitsOutOfRange => Some("limits out of range"),
         Ended::Played
         | Ended::NotACall(_)
+        | Ended::NotAStep(_)
         | Ended::CannotRead
         | Ended::CannotWrite
         | Ended::NoMemory => None,
@@ -65,7 +66,7 @@ pub fn failure(outcome: Outcome) -> Option<&'static str>
         Ended::CannotRead => Some("cannot read"),
         Ended::CannotWrite => Some("cannot write"),
         Ended::NoMemory => Some("no memory"),
-        Ended::Played | Ended::NotACall(_) | Ended::LimitsOutOfRange => None,
+        Ended::Played | Ended::NotACall(_) | Ended::NotAStep(_) | Ended::LimitsOutOfRange => None,
     }
 }
 
@@ -79,7 +80,7 @@ pub fn status(outcome: Outcome) -> u8
     };
     match ended {
         Ended::Played => 0,
-        Ended::NotACall(_) | Ended::LimitsOutOfRange => 2,
+        Ended::NotACall(_) | Ended::NotAStep(_) | Ended::LimitsOutOfRange => 2,
         Ended::CannotRead | Ended::CannotWrite | Ended::NoMemory => 1,
     }
 }

@@ -29,15 +29,15 @@ use Rattle.sdd_lines.specs.declared.call.Argument.{Argument}
 use Rattle.sdd_lines.specs.declared.call.Argument.TheVariants.{Number, Guard, Owner, Item, Cell, Collector, Tag, Word}
 use Rattle.sdd_lines.specs.declared.call.Word.{Word as FixedWord}
 use Rattle.sdd_lines.specs.declared.call.Word.TheVariants.{Owned, Shared, Of, If, Was, Now}
-use Rattle.sdd_lines.specs.Call.{IsNumber, IsWordOf, joined, fixed, word_of, spoken, words_of, line_of, HasNumber, HasNumbers, IsTextOf, IsCallText}
-use Rattle.sdd_lines.specs.Reading.{words, IsNumberOf, number_at, numbered_at, numbered_argument_at, plain_arguments, argument_among, argument_at, place_call_at, call_at, most_arguments, arguments_at, few_arguments_at, with_arguments, called, ◌>>=◌}
+use Rattle.sdd_lines.specs.Call.{IsNumber, IsWordOf, joined, words, fixed, word_of, spoken, words_of, line_of, HasNumber, HasNumbers, IsTextOf, IsCallText}
+use Rattle.sdd_lines.specs.Reading.{IsNumberOf, number_at, numbered_at, numbered_argument_at, plain_arguments, argument_among, argument_at, place_call_at, call_at, most_arguments, arguments_at, few_arguments_at, with_arguments, called, ◌>>=◌}
 use Rattle.std.proofs.lemmas.Bool.Decides.{nat_tests}
 use Rattle.std.proofs.lemmas.Grind.{common_steps}
 use Rattle.std.specs.Prelude.{codes, if◌then◌else◌}
 
 -- ---- words
 
-abbrev HasNoSpace : List ℕ → Type 0
+abbrev pub HasNoSpace : List ℕ → Type 0
 HasNoSpace word = All (λ b. eqb b 32 ≡ false) word
 
 no_space : (bs : List ℕ) → ((i : ℕ) → i < length bs → get_or bs i 0 ≢ 32) → HasNoSpace bs
@@ -184,14 +184,14 @@ pub ruleset by_word = (all_read, bad_word, many_words)
 -- ---- a call as words
 
 -- a word of ASCII, with no space and at most so many bytes
-record IsWord (most : ℕ) (word : List ℕ) : Type 0 where
-  plain : All (IsInRange 33 126) word
-  short : length word ≤ most
+pub record IsWord (most : ℕ) (word : List ℕ) : Type 0 where
+  pub plain : All (IsInRange 33 126) word
+  pub short : length word ≤ most
 
 literal_word : (most : ℕ) (word : List ℕ) → AllByRecursion (IsInRange 33 126) word → length word ≤ most → IsWord most word
 literal_word most word h l = record { plain = All-from_recursion (IsInRange 33 126) word h; short = l }
 
-number_word : (n : ℕ) → IsNumber n → IsWord 20 (decimal n)
+pub number_word : (n : ℕ) → IsNumber n → IsWord 20 (decimal n)
 number_word n h = record {
   plain = All-from_get_or (IsInRange 33 126) (decimal n) 0 (λ i l.
       let digit = digit_at (decimal n) i (digits_decimal own n h) l in (omega (arith, digit.0), omega (arith, digit.1)));
@@ -205,7 +205,7 @@ name_word letter n l h = record {
 }
 
 -- each byte is one that may stand in a word: a test, which a written word computes
-abbrev is_plain : List ℕ → Bool
+abbrev pub is_plain : List ℕ → Bool
 is_plain [] = true
 is_plain (b ∷ bs) = leb 33 b && leb b 126 && is_plain bs
 
@@ -213,7 +213,7 @@ all_plain : (bs : List ℕ) → is_plain bs ≡ true → AllByRecursion (IsInRan
 all_plain [] e = tt
 all_plain (b ∷ bs) e = grind (arith, nat_tests, all_plain bs)
 
-written_word : (most : ℕ) (word : List ℕ) → is_plain word ≡ true → leb (length word) most ≡ true → IsWord most word
+pub written_word : (most : ℕ) (word : List ℕ) → is_plain word ≡ true → leb (length word) most ≡ true → IsWord most word
 written_word most word plain short = literal_word most word (all_plain word plain) (leb-true (length word) most short)
 
 ruleset as_words = (rules, literal_word, number_word, name_word)
@@ -245,22 +245,22 @@ argument_word (Tag t) h = tag_word t
 argument_word (Word w) h = fixed_word w
 argument_word a h = search (as_words, h)
 
-unspaced : (word : List ℕ) → All (IsInRange 33 126) word → HasNoSpace word
+pub unspaced : (word : List ℕ) → All (IsInRange 33 126) word → HasNoSpace word
 unspaced word = All-weaker (IsInRange 33 126) (λ b. eqb b 32 ≡ false) (λ b h. ne_eqb b 32 (λ e. omega (arith, h.0))) word
 
 ascii : (word : List ℕ) → All (IsInRange 33 126) word → IsAscii word
 ascii word h = IsAscii-from_all word (All-weaker (IsInRange 33 126) (λ b. b < 128) (λ b k. omega (arith, k.1)) word h)
 
 -- words that are joined are no other words, ASCII, and have at most so many bytes
-record AreJoined (most : ℕ) (ws : List (List ℕ)) : Type 0 where
-  apart : words (joined ws) ≡ ws
-  ascii : IsAscii (joined ws)
-  short : length (joined ws) ≤ most
+pub record AreJoined (most : ℕ) (ws : List (List ℕ)) : Type 0 where
+  pub apart : words (joined ws) ≡ ws
+  pub ascii : IsAscii (joined ws)
+  pub short : length (joined ws) ≤ most
 
-one_joined : (n : ℕ) (w : List ℕ) → IsWord n w → AreJoined n (w ∷ [])
+pub one_joined : (n : ℕ) (w : List ℕ) → IsWord n w → AreJoined n (w ∷ [])
 one_joined n w h = record { apart = slice_split_none _ w (unspaced w h.plain); ascii = ascii w h.plain; short = h.short }
 
-more_joined : (n m : ℕ) (w v : List ℕ) (ws : List (List ℕ)) → IsWord n w → AreJoined m (v ∷ ws) → AreJoined (n + (1 + m)) (w ∷ v ∷ ws)
+pub more_joined : (n m : ℕ) (w v : List ℕ) (ws : List (List ℕ)) → IsWord n w → AreJoined m (v ∷ ws) → AreJoined (n + (1 + m)) (w ∷ v ∷ ws)
 more_joined n m w v ws h rest = record {
   apart = slice_split_at _ w 32 _ (unspaced w h.plain) refl ∙ ap (λ vs. w ∷ vs) rest.apart;
   ascii = IsAscii-append w _ (ascii w h.plain) (IsAscii-cons 32 _ (lit< tt) rest.ascii);

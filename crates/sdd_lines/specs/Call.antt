@@ -1,6 +1,6 @@
 -- The texts of calls: words, with one space between two of them
-use Rattle.std.specs.Prelude.{◌≡◌, ℕ, ◌^◌, ◌<◌, List, [], ◌∷◌, Some, None, codes, map}
-use Rattle.std.specs.List.{join_with_byte, AllByRecursion}
+use Rattle.std.specs.Prelude.{◌≡◌, ℕ, ◌^◌, ◌<◌, ◌==◌, List, [], ◌∷◌, Some, None, codes, map}
+use Rattle.std.specs.List.{join_with_byte, slice_split, AllByRecursion}
 use Rattle.std.specs.Fmt.{decimal}
 use Rattle.sdd_lines.specs.Name.{place, guard, owner, item, cell, collector, tag}
 use Rattle.sdd_lines.specs.declared.call.Action.{Action}
@@ -16,6 +16,10 @@ use Rattle.sdd_lines.specs.declared.call.Call.TheVariants.{Register, Tally, At}
 -- words as a text
 abbrev pub joined : List (List ℕ) → List ℕ
 joined words = join_with_byte 32 words
+
+-- the words between the spaces of a text
+abbrev pub words : List ℕ → List (List ℕ)
+words text = slice_split (λ byte. byte == 32) text
 
 -- a word that a line has in a fixed place
 abbrev pub fixed : FixedWord → List ℕ

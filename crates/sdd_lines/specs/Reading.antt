@@ -1,12 +1,11 @@
 -- Reading a line, word by word. Only private functions cite this: what a line is, `Call` says by the calls' own texts.
 use Rattle.std.specs.Prelude.{◌≡◌, ℕ, ◌^◌, ◌&&◌, List, [], ◌∷◌, Option, Some, None, IfSome, codes, length, if◌then◌else◌, ◌==◌, nat_lt}
-use Rattle.std.specs.List.{slice_split}
 use Rattle.std.specs.Option.{option_and_then}
 use Rattle.std.specs.Fmt.{decimal}
 use Rattle.std.specs.Str.{bytes_eq}
 use Rattle.std.specs.Str.Parse.{digits_value}
 use Rattle.sdd_core.specs.declared.tag.Tag.TheVariants as tag
-use Rattle.sdd_lines.specs.Call.{spoken, word_of, IsWordOf}
+use Rattle.sdd_lines.specs.Call.{words, spoken, word_of, IsWordOf}
 use Rattle.sdd_lines.specs.declared.call.Action.{Action}
 use Rattle.sdd_lines.specs.declared.call.Action.TheVariants as action
 use Rattle.sdd_lines.specs.declared.call.Value.TheVariants as value
@@ -19,10 +18,6 @@ use Rattle.sdd_lines.specs.declared.call.Call.TheVariants.{Register, Tally, At}
 infixl 10 ◌>>=◌
 abbrev pub ◌>>=◌ : {A B : Type 0} → Option A → (A → Option B) → Option B
 o >>= f = option_and_then f o
-
--- the words between the spaces of a text
-abbrev pub words : List ℕ → List (List ℕ)
-words text = slice_split (λ byte. byte == 32) text
 
 -- the one number that a word is, if it is any
 pub record IsNumberOf (word : List ℕ) (number : Option ℕ) : Type 0 where

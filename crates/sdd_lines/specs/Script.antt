@@ -1,7 +1,7 @@
--- The lines of a script, and the calls that they are
+-- The lines of a text, and what they are: the calls of a script, say
 use Rattle.std.specs.Prelude.{◌≡◌, ℕ, ◌+◌, ◌<◌, ◌≤◌, List, [], ◌∷◌, ◌++◌, length, map, if◌then◌else◌, ◌==◌}
 use Rattle.std.specs.List.{onto_first, AllByRecursion}
-use Rattle.sdd_lines.specs.Call.{line_of, HasNumbers, IsCallText}
+use Rattle.sdd_lines.specs.Call.{line_of, HasNumbers}
 use Rattle.sdd_lines.specs.declared.call.Call.{Call}
 use Rattle.sdd_lines.specs.declared.script.Script.{Script}
 use Rattle.sdd_lines.specs.declared.script.Script.TheVariants.{Calls, Fault}
@@ -15,22 +15,36 @@ lines (byte ∷ bytes) = if byte == 10 then [] ∷ lines bytes else onto_first b
 abbrev pub most_calls : ℕ
 most_calls = 65536
 
--- the lines are calls, and these are they
-pub record AreCalls (text : List ℕ) (calls : List Call) : Type 0 where
-  pub texts : lines text ≡ map line_of calls
-  pub numbers : AllByRecursion HasNumbers calls
-  pub few : length calls ≤ most_calls
+-- What a line can be, a call say, has one text, where its numbers are in their ranges, and so it fits.
 
--- line n, counted from 1, is the first that is no call: the lines before it are calls, and it is the text of none, or they are as many as may be
-pub record IsFirstFault (text : List ℕ) (n : ℕ) : Type 0 where
-  pub before : List Call
+-- a line is the text of one that fits
+abbrev pub IsTextOfSome : {A : Type 0} → (A → List ℕ) → (A → Type 0) → List ℕ → Type 0
+IsTextOfSome {A} text_of Fits line = (x : A) × (Fits x × (text_of x ≡ line))
+
+-- the lines of a text are the texts of these
+pub record AreLines {A : Type 0} (text_of : A → List ℕ) (Fits : A → Type 0) (text : List ℕ) (xs : List A) : Type 0 where
+  pub texts : lines text ≡ map text_of xs
+  pub numbers : AllByRecursion Fits xs
+  pub few : length xs ≤ most_calls
+
+-- line n, counted from 1, is the first that is the text of none: the lines before it are the texts of some, and it is that of none, or they are as many as may be
+pub record IsFirstOther {A : Type 0} (text_of : A → List ℕ) (Fits : A → Type 0) (text : List ℕ) (n : ℕ) : Type 0 where
+  pub before : List A
   pub line : List ℕ
   pub after : List (List ℕ)
-  pub texts : lines text ≡ map line_of before ++ line ∷ after
-  pub numbers : AllByRecursion HasNumbers before
+  pub texts : lines text ≡ map text_of before ++ line ∷ after
+  pub numbers : AllByRecursion Fits before
   pub few : length before ≤ most_calls
   pub counted : n ≡ length before + 1
-  pub fault : ¬ ((length before < most_calls) × IsCallText line)
+  pub fault : ¬ ((length before < most_calls) × IsTextOfSome text_of Fits line)
+
+-- the lines are calls, and these are they
+abbrev pub AreCalls : List ℕ → List Call → Type 0
+AreCalls text calls = AreLines line_of HasNumbers text calls
+
+-- line n is the first that is no call
+abbrev pub IsFirstFault : List ℕ → ℕ → Type 0
+IsFirstFault text n = IsFirstOther line_of HasNumbers text n
 
 -- a text is this script
 abbrev pub IsScript : List ℕ → Script → Type 0

@@ -1,9 +1,10 @@
-//! What a program needs that takes numbers as a script does.
+//! What is needed where numbers and lines are read as those of a script.
 
 ghost use Rattle.std.specs.Prelude.{ℕ, MatchOption};
 ghost use Rattle.sdd_lines.specs.Call.{IsWordOf};
 
 use crate::call::reading;
+pub use crate::first::{first_line, split_word};
 
 /// The number of 64 bits that a word is in its one form, or `None` where it is none.
 pub fn number(word: &str) -> Option<u64>

@@ -1,12 +1,12 @@
 //! A whole script: its lines as calls, or the first that is no call.
 
-ghost use Rattle.std.specs.Prelude.{◌≡◌, List, ◌<◌, ◌∷◌, length, MatchOption, IfOk, IfErr};
+ghost use Rattle.std.specs.Prelude.{◌≡◌, List, ◌<◌, MatchOption, IfOk, IfErr};
 ghost use Rattle.sdd_lines.specs.Call.{IsTextOf, IsCallText};
 ghost use Rattle.sdd_lines.specs.declared.call.Call.{Call};
-ghost use Rattle.sdd_lines.specs.Script.{most_calls, lines, AreCalls, IsCalls, IsScript};
+ghost use Rattle.sdd_lines.specs.Script.{most_calls, AreCalls, IsCalls, IsScript};
 
 use crate::call::Call;
-use crate::first::first_at;
+use crate::first::first_line;
 use sdd_core::Refused;
 use std::alloc::Global;
 
@@ -56,18 +56,5 @@ fn call_after(before: usize, line: &[u8]) -> Option<Call>
         Call::parse(line)
     } else {
         None
-    }
-}
-
-/// The line that a text begins with, without its line feed, and what follows it.
-#[tactic(auto, using(crate::proofs::Scripts::lines_at, crate::proofs::Scripts::lines_none, std::proofs::lemmas::List::take_rest))]
-fn first_line(text: &[u8]) -> (&[u8], &[u8])
-    requires { 0 < length text.now }
-    ensures lines { lines text.now ≡ result.0.now ∷ lines result.1.now }
-    ensures shorter { length result.1.now < length text.now }
-{
-    match first_at(text, b'\n') {
-        Some(end) => (&text[..end], &text[end + 1..]),
-        None => (text, &[]),
     }
 }

@@ -1,7 +1,7 @@
 //! What the arguments choose, and the status of each end.
 
 use sdd_base::Limits;
-use sdd_command::{Choice, Outcome, USUAL_LIMITS, chosen, status};
+use sdd_command::{Choice, Outcome, USUAL_LIMITS, chosen, line, status};
 use sdd_script::Ended;
 use std::alloc::{AllocError, Global};
 use std::test::Fail;
@@ -37,10 +37,21 @@ fn six_numbers_choose_limits_in_their_order(rt: HostRuntime) -> Result<(), Fail>
 }
 
 #[test]
+fn the_word_steps_chooses_a_schedule(rt: HostRuntime) -> Result<(), Fail> {
+    let choice = chosen(words(rt.alloc(), "steps")?.as_slice());
+    assert_eq!(rt; choice, Choice::Steps);
+    Ok(())
+}
+
+#[test]
 fn other_words_choose_the_usage(rt: HostRuntime) -> Result<(), Fail> {
     for line in [
         "8",
-        "steps",
+        "step",
+        "Steps",
+        "steps steps",
+        "steps 8 64 128 8 8 1",
+        "8 64 128 8 8 steps",
         "8 64 128 8 8",
         "8 64 128 8 8 1 1",
         "8 64 128 8 8 one",
@@ -61,6 +72,7 @@ fn each_end_has_its_status(rt: HostRuntime) {
     for (ended, code) in [
         (Ended::Played, 0),
         (Ended::NotACall(3), 2),
+        (Ended::NotAStep(3), 2),
         (Ended::LimitsOutOfRange, 2),
         (Ended::CannotRead, 1),
         (Ended::CannotWrite, 1),
@@ -68,4 +80,13 @@ fn each_end_has_its_status(rt: HostRuntime) {
     ] {
         assert_eq!(rt; status(Outcome::Play(ended)), code, "{ended:?}");
     }
+}
+
+#[test]
+fn the_usage_has_a_line(rt: HostRuntime) {
+    assert_eq!(rt;
+        line(Outcome::Usage),
+        Some("usage: sdd-run [steps | participants slots cells jobs nesting tries]")
+    );
+    assert_eq!(rt; status(Outcome::Usage), 2);
 }

@@ -1,14 +1,14 @@
-//! The program `sdd-run`: plays the script of standard input, and prints a line for each call.
+//! The program `sdd-run`: plays the script or the schedule of standard input, and prints a line for each call or step.
 //!
 //! Here the host's arguments, input and printing meet the program's decisions, which stand under clauses: `sdd_command`
-//! says what the arguments ask for, what is printed besides a play, on which stream, and the status, and `sdd_script::play`
-//! what a play reads and writes. No clause says what the host gives or prints.
+//! says what the arguments ask for, what is printed besides a play, on which stream, and the status, and `sdd_script::play` and
+//! `sdd_script::play_steps` what a play reads and writes. No clause says what the host gives or prints.
 #![tactic(auto)]
 
 use sdd_command::{
     Choice, Outcome, after_printing, asked, failure, line, status, without_arguments,
 };
-use sdd_script::{Reader, Writer, play};
+use sdd_script::{Reader, Writer, play, play_steps};
 use std::process::ExitCode;
 use std::rt::Env;
 use std::{env, io};
@@ -19,6 +19,11 @@ fn main(rt: HostRuntime) -> ExitCode {
             let mut reader = Reader::new(rt.reader());
             let mut writer = Writer::new(io::writer(&rt));
             Outcome::Play(play(rt.alloc(), limits, &mut reader, &mut writer))
+        }
+        Ok(Choice::Steps) => {
+            let mut reader = Reader::new(rt.reader());
+            let mut writer = Writer::new(io::writer(&rt));
+            Outcome::Play(play_steps(rt.alloc(), &mut reader, &mut writer))
         }
         Ok(Choice::Usage) => Outcome::Usage,
         Err(kind) => without_arguments(kind),

@@ -1,4 +1,4 @@
-//! Scripts: calls on a world, and what they answer.
+//! Scripts: calls on a world, and what they answer; and schedules, which are steps of a machine.
 #![tactic(auto)]
 
 mod line;
@@ -14,3 +14,4 @@ pub use sdd_lines::{
     Action, Answer, Call, CellName, CollectorName, Ended, Fault, GuardName, ItemName, JobName,
     Names, OwnerName, PlaceName, Reader, Reply, Sink, Source, Value, Writer,
 };
+pub use sdd_schedules::play_steps;

@@ -4,7 +4,8 @@ ghost use Rattle.sdd_base.specs.Limits.{AreInRange};
 ghost use Rattle.sdd_lines.specs.Answer.{text_of_all};
 ghost use Rattle.sdd_lines.specs.declared.answer.Answer.{Answer};
 ghost use Rattle.sdd_lines.specs.declared.call.Call.{Call};
-ghost use Rattle.sdd_script.specs.Play.{AreAnswers, Prints, Plays, IsSilent, read_failures, write_failures};
+ghost use Rattle.sdd_lines.specs.Play.{Plays, IsSilent, read_failures, write_failures};
+ghost use Rattle.sdd_script.specs.Play.{AreAnswers, Prints};
 
 use crate::runner::run;
 use sdd_base::Limits;
@@ -27,7 +28,7 @@ pub fn play<R: Source, W: Sink>(
     writer: &mut W,
 ) -> Ended
     ensures limits { (result ≡ Ended.LimitsOutOfRange) ↔ ¬ (AreInRange limits) }
-    ensures plays { Plays limits (R.remaining reader.old) (R.remaining reader.new)
+    ensures plays { Plays (Prints limits) (R.remaining reader.old) (R.remaining reader.new)
         (W.contents writer.old) (W.contents writer.new) result }
 
     // Nothing is read where a limit is out of range, and nothing written where the play ends before it writes.

@@ -1,5 +1,5 @@
 //! Worked examples of scripts: each example of `data/` is played, and it is told whether each of its lines is answered
-//! by what stands beside it; and so is each script of `examples/`, with the file of what it writes.
+//! by what stands beside it; and so is each script and each schedule of `examples/`, with the file of what it writes.
 //!
 //! The module `dialogue` says what an example looks like.
 #![tactic(auto)]
@@ -9,7 +9,7 @@ mod plays;
 mod verdict;
 
 use dialogue::Dialogue;
-use plays::compared;
+use plays::{compared, compared_steps};
 use std::alloc::{AllocError, Global};
 use std::rt::Files;
 use std::{fs, io};
@@ -43,7 +43,7 @@ const GROUPS: [&str; 12] = [
     "invalid_lines",
 ];
 
-/// The folder of scripts.
+/// The folder of scripts and schedules.
 const SCRIPTS: &str = "examples";
 
 fn main(rt: HostRuntime) -> io::Result<()> {
@@ -58,6 +58,12 @@ fn main(rt: HostRuntime) -> io::Result<()> {
         let script = fs::read_to_string(&rt, format!(in rt.alloc(); "{SCRIPTS}/{name}.sdd")?)?;
         let expected = fs::read_to_string(&rt, format!(in rt.alloc(); "{SCRIPTS}/{name}.out")?)?;
         let verdict = compared(rt.alloc(), script.as_str(), expected.as_str());
+        println!(rt; "{SCRIPTS}/{name}: {verdict}")?;
+    }
+    for name in names(&rt, SCRIPTS, ".steps")? {
+        let schedule = fs::read_to_string(&rt, format!(in rt.alloc(); "{SCRIPTS}/{name}.steps")?)?;
+        let expected = fs::read_to_string(&rt, format!(in rt.alloc(); "{SCRIPTS}/{name}.out")?)?;
+        let verdict = compared_steps(rt.alloc(), schedule.as_str(), expected.as_str());
         println!(rt; "{SCRIPTS}/{name}: {verdict}")?;
     }
     Ok(())

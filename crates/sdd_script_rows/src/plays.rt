@@ -1,9 +1,9 @@
-//! Plays of scripts.
+//! Plays of scripts and of schedules.
 
 use crate::verdict::Verdict;
 use sdd_base::Limits;
 use sdd_command::USUAL_LIMITS;
-use sdd_script::{Ended, Reader, Writer, play};
+use sdd_script::{Ended, Reader, Writer, play, play_steps};
 use std::alloc::{AllocError, Global};
 
 /// How a play of a script within these limits ends, and what it writes.
@@ -18,6 +18,20 @@ pub fn played(alloc: Global, limits: Limits, script: &[u8]) -> (Ended, Vec<u8>) 
 /// A play of a script within the usual limits writes what is expected, however it ends.
 pub fn compared(alloc: Global, script: &str, expected: &str) -> Verdict {
     let (ended, written) = played(alloc, USUAL_LIMITS, script.as_bytes());
+    judged(ended, written, expected)
+}
+
+/// A play of a schedule writes what is expected, however it ends.
+pub fn compared_steps(alloc: Global, schedule: &str, expected: &str) -> Verdict {
+    let mut written = Vec::new(alloc);
+    let mut reader = Reader::new(schedule.as_bytes());
+    let mut writer = Writer::new(&mut written);
+    let ended = play_steps(alloc, &mut reader, &mut writer);
+    judged(ended, written, expected)
+}
+
+/// What was written, beside what is expected.
+fn judged(ended: Ended, written: Vec<u8>, expected: &str) -> Verdict {
     if ended == Ended::NoMemory {
         return Verdict::Ended(ended);
     }

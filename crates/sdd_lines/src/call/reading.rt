@@ -3,23 +3,14 @@
 ghost use Rattle.std.specs.Prelude.{◌≡◌, [], ◌∷◌, ◌<◌, Some, IfSome, MatchOption, map};
 ghost use Rattle.std.specs.List.{AllByRecursion};
 ghost use Rattle.std.specs.Fmt.{decimal};
-ghost use Rattle.sdd_lines.specs.Call.{IsNumber, HasNumber, word_of, spoken, HasNumbers, words_of};
-ghost use Rattle.sdd_lines.specs.Reading.{words, IsNumberOf, numbered_at, argument_at, numbered_argument_at, few_arguments_at, with_arguments, called, action_at, call_at};
+ghost use Rattle.sdd_lines.specs.Call.{IsNumber, HasNumber, word_of, spoken, HasNumbers, words, words_of};
+ghost use Rattle.sdd_lines.specs.Reading.{IsNumberOf, numbered_at, argument_at, numbered_argument_at, few_arguments_at, with_arguments, called, action_at, call_at};
 
 use super::arguments::Arguments;
 use super::{Action, Argument, Call, Value, Word};
-use crate::first::first_at;
+use crate::first::split_word;
 use crate::name::{CellName, CollectorName, GuardName, ItemName, OwnerName, PlaceName};
 use sdd_core::Tag;
-
-/// The first word, and what follows the space behind it, if there is one.
-#[tactic(auto, using(crate::proofs::Lines::by_space))]
-fn split_word(text: &str) -> Option<(&str, &str)>
-    ensures { MatchOption result (words text.now ≡ text.now ∷ []) (λ parts. words text.now ≡ parts.0.now ∷ words parts.1.now) }
-{
-    let space = first_at(text.as_bytes(), b' ')?;
-    Some((&text[..space], &text[space + 1..]))
-}
 
 /// The number that a word is in its one form: without a sign and without a leading zero.
 #[tactic(auto, using(crate::proofs::Lines::one_form))]

@@ -1,5 +1,5 @@
 use Rattle.std.proofs.Common.{arith}
-use Rattle.sdd_lines.specs.Reading.{words}
+use Rattle.sdd_lines.specs.Call.{words}
 use Rattle.sdd_lines.proofs.Lines.{all_read}
 use Rattle.sdd_lines.proofs.call.reading.arguments.Goals as goal
 

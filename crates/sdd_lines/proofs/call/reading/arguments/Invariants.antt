@@ -2,8 +2,7 @@ use Rattle.std.proofs.Common.{◌≡◌, ◌++◌, length, map}
 use denote.Shadow.{shadow}
 use denote.Text.{Utf8}
 use Rattle.std.specs.List.{AllByRecursion}
-use Rattle.sdd_lines.specs.Call.{word_of, HasNumber}
-use Rattle.sdd_lines.specs.Reading.{words}
+use Rattle.sdd_lines.specs.Call.{word_of, words, HasNumber}
 use Rattle.sdd_lines.proofs.call.reading.arguments.Given as goal
 
 -- the arguments so far, and the words that are left, are the words of the text

@@ -2,7 +2,7 @@
 use Rattle.std.proofs.Common.{◌≡◌, ℕ, List, ◌++◌, Option, None, Some, IfSome, sym, ap, ◌∙◌, append-nil}
 use Rattle.std.specs.Io.KnownBytes.{IsAtEnd}
 use Rattle.sdd_lines.specs.Device.{ConsumesSome}
-use Rattle.sdd_script.specs.Play.{ReadsAll}
+use Rattle.sdd_lines.specs.Play.{ReadsAll}
 
 -- a reader that is at its end and told its bytes gave them all
 pub reads_all : (old new : Option (List ℕ)) (text : List ℕ) → IfSome old (λ all. text ≡ all) → ConsumesSome old new → IsAtEnd new → ReadsAll old new text
