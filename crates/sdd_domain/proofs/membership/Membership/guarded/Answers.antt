@@ -200,3 +200,14 @@ watch-requires-clause-owner g c =
     let table : c.witness-owner.result.now.table_id ≡ id_of b = cc in
     let inside : slot < slots_of b = search rules in
     (table, (slot, shared, shown, inside, own.owner))
+
+pub recall-requires-clause-owner : goal.recall-requires-clause-owner
+recall-requires-clause-owner g c =
+    let q = c.self.invariant.0 in let l = c.self.inside in let b = l.domain.now.board in let slot : ℕ = number_of c.args.right.now in
+    let own = c.witness-owner.ensures.owner (has_tables c.args.self.now c.args.right.now c.requires.home) in
+    let shared : Bool = is_shared (kind_of c.args.right.now) in let shown : Gv = (grip_of c.args.right.now).shown in
+    let tables = own.table in let mine = ap (λ (h : Home). h.tables) c.requires.home in let there = ap (λ (m : Member). m.home) c.self.view_is in
+    let board = q.home in
+    let table : c.witness-owner.result.now.table_id ≡ id_of b = cc in
+    let inside : slot < slots_of b = search rules in
+    (table, (slot, shared, shown, inside, own.owner))

@@ -7,7 +7,8 @@ use Rattle.sdd_rule.specs.SlotSteps.{retired_now}
 use Rattle.sdd_domain.specs.Waits.{what_of, waiting_of, ripe, unripe}
 use Rattle.sdd_domain.proofs.Ripe.{ripe_snoc, fewer_unripe}
 use Rattle.sdd_token.specs.Owner.{witness_of_owner}
-use Rattle.sdd_board.specs.Board.{slots_of}
+use Rattle.sdd_board.specs.Board.{id_of, slots_of}
+use Rattle.sdd_token.specs.Units.{Home}
 use Rattle.sdd_store.specs.declared.waiting.What.TheVariants.{Item}
 use Rattle.sdd_store.specs.declared.time.Participant.{Participant}
 use Rattle.sdd_store.specs.Bags.{Bags}
@@ -182,3 +183,11 @@ returns-clause-retired g c =
             lone = λ one. retired.3 ((q.all ∙ ap (λ (z : Sizes). z.participants) l.domain.now.limited.1) ∙ one);
           },
     )
+
+pub take_in-requires-clause-owner : goal.take_in-requires-clause-owner
+take_in-requires-clause-owner g c = let q = c.self.invariant.0 in let b = c.self.inside.domain.now.board in
+    let by = c.into_owner-owner.ensures.owner (has_tables c.args.self.now c.args.right c.requires) in
+    let tables = by.table in let mine = ap (λ (h : Home). h.tables) c.requires in let there = ap (λ (m : Member). m.home) c.self.view_is in
+    let board = q.home in
+    let table : c.into_owner-owner.result.0.table_id ≡ id_of b = cc in
+    (table, (number_of c.args.right, is_shared (kind_of c.args.right), c.into_owner-owner.result.1.shown, by.owner))
