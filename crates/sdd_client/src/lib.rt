@@ -2,7 +2,6 @@
 #![tactic(auto)]
 
 pub mod config;
-pub mod counts;
 pub mod guards;
 pub mod items;
 pub mod lone;

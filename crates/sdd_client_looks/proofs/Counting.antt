@@ -1,5 +1,5 @@
 -- What the ledger tells two owners of an item, and who has a cell, over calls of others
-use Rattle.std.proofs.Common.{◌≡◌, ◌∙◌, ℕ, ◌+◌, ◌≤◌, List, Some, inr, refl, sym, ap, subst, arith}
+use Rattle.std.proofs.Common.{◌≡◌, ◌∙◌, ℕ, ◌+◌, ◌≤◌, List, Bool, false, Some, IsTrue, slice_index_or, inr, refl, sym, ap, subst, arith}
 use Rattle.std.specs.Prelude.{◌==◌}
 use Rattle.std.proofs.lemmas.Bool.Decides.{nat_tests}
 use Rattle.sdd_store.specs.Table.{IsEmptyAt}
@@ -9,6 +9,7 @@ use Rattle.sdd_base.specs.Holding.{Holding}
 use Rattle.sdd_base.specs.Ledger.{Claim, owner_of, right_to, nothing, one, claims, inside, IsLedger, Moves, put, CallsBeside, LedgerLaws, IsStill}
 use Rattle.sdd_base.specs.Ledger.CallsBeside.{no_call, one_call}
 use Rattle.sdd_base.specs.Ledger.Moves.{opens, closes, makes, shares, releases}
+use Rattle.sdd_base.specs.Seat.{Seat, seat_on}
 use Rattle.sdd_base.specs.Steps.{opened, closed, made_shared, owner_given, with_standing}
 use Rattle.sdd_base.specs.Whole.{IsWhole, once_if}
 use Rattle.sdd_base.specs.World.{World, IsPlaceOf, standing_at}
@@ -16,6 +17,12 @@ use Rattle.sdd_base.specs.World.{World, IsPlaceOf, standing_at}
 -- one is one
 pub one-itself : (k : ℕ) → once_if (k == k) ≡ 1
 one-itself k = grind (arith, nat_tests)
+
+-- a place is one still, where the same places are
+pub place-on : {T : Type 0} (w u : World T) (a b c d : ℕ) → seat_on u a b ≡ seat_on w c d → (p : ℕ) → IsPlaceOf w p → IsPlaceOf u p
+place-on w u a b c d same p live =
+    let lives = ap (λ (s : Seat). s.lives) same in
+    (omega (arith, ap (λ (s : Seat). s.places) same, live.0), subst (λ (bs : List Bool). IsTrue (slice_index_or bs p false)) (sym lives) live.1)
 
 module _ {T : Type 0} (holds : T → List Holding) where
   -- a guard is opened and closed
