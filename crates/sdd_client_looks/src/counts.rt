@@ -20,9 +20,10 @@ pub fn comes_by<T: Item<T>>(world: &mut World<T>, other: &Place)
     ensures home { world.new.home ≡ world.old.home }
 {
     let mut turn = world.at(other);
-    if let Ok(guard) = Guard::new(&mut turn) {
-        guard.close(&mut turn);
-    }
+    let Ok(guard) = Guard::new(&mut turn) else {
+        return;
+    };
+    guard.close(&mut turn);
 }
 
 /// Makes an item with two owners and releases both, while somebody else comes by in between: the second release answers that it was the last.
@@ -67,8 +68,8 @@ pub fn finds_it_again<'g, T: Item<T>>(
 {
     world.keeps_its_ledger();
     world.is_whole();
-    let before = cell.load(guard, &mut world.at(mine)).as_ref(world);
+    let before = cell.load(guard, &mut world.at(mine)).as_ref(&*world);
     comes_by(world, other);
-    let after = cell.load(guard, &mut world.at(mine)).as_ref(world);
+    let after = cell.load(guard, &mut world.at(mine)).as_ref(&*world);
     (before, after)
 }
