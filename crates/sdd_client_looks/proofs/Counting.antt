@@ -1,7 +1,8 @@
 -- What the ledger tells two owners of an item, and who has a cell, over calls of others
-use Rattle.std.proofs.Common.{◌≡◌, ◌∙◌, ℕ, ◌+◌, ◌≤◌, List, Bool, false, Some, IsTrue, slice_index_or, inr, refl, sym, ap, subst, arith}
+use Rattle.std.proofs.Common.{◌≡◌, ◌∙◌, ℕ, ◌+◌, ◌≤◌, List, Bool, false, None, Some, IsTrue, slice_index_or, inr, refl, sym, ap, subst, arith}
 use Rattle.std.specs.Prelude.{◌==◌}
 use Rattle.std.proofs.lemmas.Bool.Decides.{nat_tests}
+use Rattle.std.proofs.lemmas.List.{get_or-set_same}
 use Rattle.sdd_store.specs.Table.{IsEmptyAt}
 use Rattle.sdd_store.specs.declared.standing.Standing.TheVariants.{Shared}
 use Rattle.sdd_standings.specs.Slots.{IsSharedBy}
@@ -49,20 +50,21 @@ module _ {T : Type 0} (holds : T → List Holding) where
         (record { whole = kept.whole; ledger = kept.ledger rest a; inner = kept.no_more u })
 
     -- the second of two owners is the last, whatever others called since the first was released
-    pub last-of-two : (w made two left now : World T) (value : T) (k n m p last : ℕ) (others : Claim → ℕ) → IsWhole w → IsPlaceOf w p →
-        IsLedger holds (λ x. others x + claims (holds value) x) w → IsEmptyAt w.standings k → made ≡ made_shared w k value →
-        IsSharedBy n (standing_at made k) → two ≡ with_standing made k (Shared (n + 1)) → IsSharedBy m (standing_at two k) →
-        left ≡ owner_given two p k (Some (Shared m)) → CallsBeside holds (owner_of k) left others now others → IsSharedBy last (standing_at now k) →
-        last ≡ 1
-    last-of-two w made two left now value k n m p last others i live a empty make shared share both release calls shown =
+    pub last-of-two : (w two left now : World T) (value : T) (k m p last : ℕ) (others : Claim → ℕ) → IsWhole w → IsPlaceOf w p →
+        IsLedger holds (λ x. others x + claims (holds value) x) w → IsEmptyAt w.standings k →
+        two ≡ with_standing (made_shared w k value) k (Shared 2) → IsSharedBy m (standing_at two k) → left ≡ owner_given two p k (Some (Shared m)) →
+        CallsBeside holds (owner_of k) left others now others → IsSharedBy last (standing_at now k) → last ≡ 1
+    last-of-two w two left now value k m p last others i live a empty make both release calls shown =
         let u = owner_of k in
         let mine : Claim → ℕ = λ x. others x + one u x in
+        let made = made_shared w k value in
         let none = ((laws w).tells (λ x. others x + claims (holds value) x) a).free k empty.1 in
-        let first = next w (made_shared w k value) made (claims (holds value)) (one u) others u (makes w k value (Shared 1) (inr refl) empty) i a make in
-        let second = next made (with_standing made k (Shared (n + 1))) two nothing (one u) mine u (shares made k n shared) first.whole
-        (λ x. omega (arith, first.ledger x)) share in
-        let there : IsPlaceOf two p = subst (λ (z : World T). IsPlaceOf z p)
-        (sym (share ∙ ap (λ (z : World T). with_standing z k (Shared (n + 1))) make)) live in
+        let first = next w made made (claims (holds value)) (one u) others u (makes w k value (Shared 1) (inr refl) empty) i a refl in
+        let shared : IsSharedBy 1 (standing_at made k) =
+        record { shared = get_or-set_same w.standings k (Some (Shared 1)) None empty.0; some = omega arith; most = omega arith } in
+        let second = next made (with_standing made k (Shared 2)) two nothing (one u) mine u (shares made k 1 shared) first.whole
+        (λ x. omega (arith, first.ledger x)) make in
+        let there : IsPlaceOf two p = subst (λ (z : World T). IsPlaceOf z p) (sym make) live in
         let third = next two (owner_given two p k (Some (Shared m))) left (one u) nothing mine u (releases two p k m there both.shared) second.whole
         second.ledger release in
         let zero : inside holds left u ≡ 0 = omega (arith, none.0, none.1, first.inner, second.inner, third.inner) in

@@ -3,13 +3,16 @@ ghost use Rattle.std.specs.Prelude.{◌≡◌, ◌+◌, ℕ, IfOk, IsTrue, optio
 ghost use Rattle.sdd_base.specs.Guard.{reader_of};
 ghost use Rattle.sdd_base.specs.Holding.{AreOf};
 ghost use Rattle.sdd_base.specs.Ledger.{Claim, right_to, claims, one, CallsBeside, IsLedger, IsStill};
-ghost use Rattle.sdd_base.specs.Seat.{reader_at};
-ghost use Rattle.sdd_base.specs.Shared.{cell_of, cells_home};
+ghost use Rattle.sdd_base.specs.Seat.{IsExact, IsSeated, reader_at};
+ghost use Rattle.sdd_base.specs.Shared.{cell_of, cells_home, slot_of, slots_home};
+ghost use Rattle.sdd_base.specs.Steps.{made_shared, with_standing};
 ghost use Rattle.sdd_base.specs.World.{IsPlaceOf};
+ghost use Rattle.sdd_store.specs.Table.{IsEmptyAt};
 ghost use Rattle.sdd_world.specs.Place.{index_of};
 
-use sdd_base::{AtomicShared, Guard, Item, Shared};
+use sdd_base::{AtomicShared, Guard, Item, Items, Shared, SharedItems};
 use sdd_core::Refused;
+use sdd_store::Standing;
 use sdd_world::{Place, World};
 
 /// What somebody else calls meanwhile: opens a guard, if one more may be open, and closes it. What waited for that is reclaimed, and gives up what it held.
@@ -19,11 +22,33 @@ pub fn comes_by<T: Item<T>>(world: &mut World<T>, other: &Place)
     ensures places { (p : ℕ) → IsPlaceOf world.old p → IsPlaceOf world.new p }
     ensures home { world.new.home ≡ world.old.home }
 {
-    let mut turn = world.at(other);
-    let Ok(guard) = Guard::new(&mut turn) else {
+    let Ok(guard) = Guard::new(&mut world.at(other)) else {
         return;
     };
-    guard.close(&mut turn);
+    guard.close(&mut world.at(other));
+}
+
+/// Makes an item with two owners.
+///
+/// `NoSlot` where no slot is free; the value comes back.
+pub fn made_for_two<T: Item<T>, S: Items<T> + SharedItems<T>>(
+    value: T,
+    s: &mut S,
+) -> Result<(Shared<T>, Shared<T>), (T, Refused)>
+    requires seated { IsSeated (S.seat s.old) }
+    requires exact { IsExact (S.seat s.old) }
+    requires home { AreOf (S.seat s.old).home (T.holds value) }
+    ensures seat { S.seat s.new ≡ S.seat s.old }
+    ensures home { IfOk result (λ both. (slots_home both.0 ≡ (S.seat s.old).home.slots) × (slots_home both.1 ≡ (S.seat s.old).home.slots)) }
+    ensures same { IfOk result (λ both. slot_of both.1 ≡ slot_of both.0) }
+    ensures made { IfOk result (λ both. IsEmptyAt (S.world s.old).standings (slot_of both.0) ×
+        (S.world s.new ≡ with_standing (made_shared (S.world s.old) (slot_of both.0) value) (slot_of both.0) (Standing.Shared 2))) }
+{
+    let first = Shared::new(value, s)?;
+    let Ok(second) = first.clone(s) else {
+        unreachable!()
+    };
+    Ok((first, second))
 }
 
 /// Makes an item with two owners and releases both, while somebody else comes by in between: the second release answers that it was the last.
@@ -42,10 +67,7 @@ pub fn second_is_the_last<T: Item<T>>(
 {
     world.keeps_its_ledger();
     world.is_whole();
-    let first = Shared::new(value, &mut world.at(mine))?;
-    let Ok(second) = first.clone(&mut world.at(mine)) else {
-        unreachable!()
-    };
+    let (first, second) = made_for_two(value, &mut world.at(mine))?;
     let _ = first.release(&mut world.at(mine));
     comes_by(world, other);
     Ok(second.release(&mut world.at(mine)))
