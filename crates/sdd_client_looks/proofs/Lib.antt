@@ -1,2 +1,1 @@
 mod Opened
-mod Counting
