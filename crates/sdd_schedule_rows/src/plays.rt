@@ -92,9 +92,7 @@ fn only_want_of_memory_ends_a_play_early(rt: HostRuntime) {
         (A_FAULT, Ended::NotAStep(2), ITS_LINE),
         ("", Ended::Played, ""),
     ] {
-        let mut times = 0;
-        while times < 2 {
-            times += 1;
+        for _ in 0..2 {
             let Ok((ended, page)) = played(rt.alloc(), text) else {
                 continue;
             };
