@@ -12,19 +12,21 @@ ghost use Rattle.sdd_desk.specs.Desk.{slot_of};
 ghost use Rattle.sdd_steps.specs.Owners.{cell_holding, cell_number, filling_holding, filling_kind, holding_around};
 
 use crate::holding::{ACell, Filling};
-use crate::step::Step;
+use crate::step::CellStep;
 use sdd_base::inner::{slot_of_owner, slot_of_ptr, slot_of_shared};
-use sdd_base::{AtomicOwned, AtomicShared, Guard, RawPtr, Space};
+use sdd_base::{
+    AtomicOwned, AtomicShared, Cells, Collectors, Guard, Items, RawCells, RawPtr, SharedItems,
+};
 use sdd_core::Tag;
 use sdd_desk::Val;
-use sdd_store::{Cell, Idle};
+use sdd_store::Cell;
 
 /// A new cell, filled with this.
 pub struct MakesCell {
     pub filling: Filling,
 }
 
-impl Step for MakesCell {
+impl CellStep for MakesCell {
     type Out = ACell;
 
     ghost asks = { λ step home _ world. ¬ (IsFull world.cells) × IfSome (filling_holding step.filling) (IsOf home) };
@@ -33,7 +35,10 @@ impl Step for MakesCell {
         IsEmptyAt before.cells k
         × (after ≡ with_cell before k (record { held = slot_of (filling_holding step.filling); tag = no_tag })) };
 
-    fn done<S: Space<Val, Job = Idle>>(self, s: &mut S) -> ACell {
+    fn done<S: Items<Val> + SharedItems<Val> + Cells<Val> + RawCells<Val> + Collectors<Val>>(
+        self,
+        s: &mut S,
+    ) -> ACell {
         let MakesCell { filling } = self;
         match filling {
             Filling::Sole(None) => match AtomicOwned::null(s) {
@@ -62,14 +67,17 @@ pub struct LoadsCell<'a> {
     pub guard: &'a Guard,
 }
 
-impl Step for LoadsCell<'_> {
+impl CellStep for LoadsCell<'_> {
     type Out = Cell;
 
     ghost asks = { λ step home reader _. IsOf home (cell_holding step.cell.now) × (reader_of step.guard.now ≡ reader) };
 
     ghost does = { λ step _ _ before loaded after. (entry_at before.cells (cell_number step.cell.now) ≡ Some loaded) × (after ≡ before) };
 
-    fn done<S: Space<Val, Job = Idle>>(self, s: &mut S) -> Cell {
+    fn done<S: Items<Val> + SharedItems<Val> + Cells<Val> + RawCells<Val> + Collectors<Val>>(
+        self,
+        s: &mut S,
+    ) -> Cell {
         let LoadsCell { cell, guard } = self;
         let ptr = match cell {
             ACell::Sole(cell) => cell.load(guard, s),
@@ -87,7 +95,7 @@ pub struct ReadsTag<'a> {
     pub cell: &'a ACell,
 }
 
-impl Step for ReadsTag<'_> {
+impl CellStep for ReadsTag<'_> {
     type Out = Tag;
 
     ghost asks = { λ step home _ _. IsOf home (cell_holding step.cell.now) };
@@ -95,7 +103,10 @@ impl Step for ReadsTag<'_> {
     ghost does = { λ step _ _ before tag after. (held : Cell) × (entry_at before.cells (cell_number step.cell.now) ≡ Some held) × (tag ≡ held.tag) ×
         (after ≡ before) };
 
-    fn done<S: Space<Val, Job = Idle>>(self, s: &mut S) -> Tag {
+    fn done<S: Items<Val> + SharedItems<Val> + Cells<Val> + RawCells<Val> + Collectors<Val>>(
+        self,
+        s: &mut S,
+    ) -> Tag {
         let ReadsTag { cell } = self;
         match cell {
             ACell::Sole(cell) => cell.tag(s),
@@ -111,7 +122,7 @@ pub struct TagsIf<'a> {
     pub was: Tag,
 }
 
-impl Step for TagsIf<'_> {
+impl CellStep for TagsIf<'_> {
     type Out = bool;
 
     ghost asks = { λ step home _ _. IsOf home (cell_holding step.cell.now) };
@@ -120,7 +131,10 @@ impl Step for TagsIf<'_> {
         × (IsTrue had ↔ (held.tag ≡ step.was))
         × (after ≡ (if had then with_cell before (cell_number step.cell.now) (record held { tag = step.tag }) else before)) };
 
-    fn done<S: Space<Val, Job = Idle>>(self, s: &mut S) -> bool {
+    fn done<S: Items<Val> + SharedItems<Val> + Cells<Val> + RawCells<Val> + Collectors<Val>>(
+        self,
+        s: &mut S,
+    ) -> bool {
         let TagsIf { cell, tag, was } = self;
         let has_tag = move |ptr: RawPtr<Val>| -> bool
             ensures { IsTrue result ↔ (tag_held ptr ≡ was) }
@@ -143,14 +157,17 @@ pub struct PeeksCell<'a> {
     pub cell: &'a ACell,
 }
 
-impl Step for PeeksCell<'_> {
+impl CellStep for PeeksCell<'_> {
     type Out = Option<u32>;
 
     ghost asks = { λ step home _ _. IsOf home (cell_holding step.cell.now) };
 
     ghost does = { λ step _ _ before slot after. (slot ≡ held_in (entry_at before.cells (cell_number step.cell.now))) × (after ≡ before) };
 
-    fn done<S: Space<Val, Job = Idle>>(self, s: &mut S) -> Option<u32> {
+    fn done<S: Items<Val> + SharedItems<Val> + Cells<Val> + RawCells<Val> + Collectors<Val>>(
+        self,
+        s: &mut S,
+    ) -> Option<u32> {
         let PeeksCell { cell } = self;
         match cell {
             ACell::Sole(cell) => {
@@ -180,14 +197,17 @@ pub struct ClosesCell {
     pub cell: ACell,
 }
 
-impl Step for ClosesCell {
+impl CellStep for ClosesCell {
     type Out = ();
 
     ghost asks = { λ step home _ _. IsOf home (cell_holding step.cell) };
 
     ghost does = { λ step _ place before _ after. after ≡ cell_closed before place (cell_number step.cell) };
 
-    fn done<S: Space<Val, Job = Idle>>(self, s: &mut S) {
+    fn done<S: Items<Val> + SharedItems<Val> + Cells<Val> + RawCells<Val> + Collectors<Val>>(
+        self,
+        s: &mut S,
+    ) {
         let ClosesCell { cell } = self;
         match cell {
             ACell::Sole(cell) => cell.close(s),

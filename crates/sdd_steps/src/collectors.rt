@@ -16,17 +16,16 @@ ghost use Rattle.sdd_desk.specs.Val.{holdings_of};
 ghost use Rattle.sdd_steps.specs.Owners.{owner_holding};
 
 use crate::holding::AnOwner;
-use crate::step::Step;
-use sdd_base::{Guard, PrivateCollector, Space};
+use crate::step::CellStep;
+use sdd_base::{Cells, Collectors, Guard, Items, PrivateCollector, RawCells, SharedItems};
 use sdd_core::Refused;
 use sdd_desk::Val;
 use sdd_lines::Reply;
-use sdd_store::Idle;
 
 /// A new collector, for which nothing waits.
 pub struct MakesCollector;
 
-impl Step for MakesCollector {
+impl CellStep for MakesCollector {
     type Out = Result<PrivateCollector<Val>, Refused>;
 
     ghost asks = { λ _ _ _ _. Unit {0} };
@@ -36,7 +35,10 @@ impl Step for MakesCollector {
         (λ collector. IsEmptyAt before.cells (collector_of collector) × (after ≡ pointing before (collector_of collector) null_pointer))
         (λ e. IsFull before.cells × (e ≡ refused.NoCell) × (after ≡ before)) };
 
-    fn done<S: Space<Val, Job = Idle>>(self, s: &mut S) -> Result<PrivateCollector<Val>, Refused> {
+    fn done<S: Items<Val> + SharedItems<Val> + Cells<Val> + RawCells<Val> + Collectors<Val>>(
+        self,
+        s: &mut S,
+    ) -> Result<PrivateCollector<Val>, Refused> {
         let MakesCollector = self;
         PrivateCollector::new(s)
     }
@@ -50,7 +52,7 @@ pub struct GivesToCollector<'a> {
     pub guard: &'a Guard,
 }
 
-impl Step for GivesToCollector<'_> {
+impl CellStep for GivesToCollector<'_> {
     type Out = Reply;
 
     ghost asks = { λ step home reader _. (cells_home step.collector.now ≡ home.cells) × IsOf home (owner_holding step.owner)
@@ -58,7 +60,10 @@ impl Step for GivesToCollector<'_> {
 
     ghost does = { λ step _ place before reply after. Collects before place (collector_of step.collector.now) (owner_holding step.owner) reply after };
 
-    fn done<S: Space<Val, Job = Idle>>(self, s: &mut S) -> Reply {
+    fn done<S: Items<Val> + SharedItems<Val> + Cells<Val> + RawCells<Val> + Collectors<Val>>(
+        self,
+        s: &mut S,
+    ) -> Reply {
         let GivesToCollector {
             collector,
             owner,
@@ -80,7 +85,7 @@ pub struct ClosesCollector {
     pub collector: PrivateCollector<Val>,
 }
 
-impl Step for ClosesCollector {
+impl CellStep for ClosesCollector {
     type Out = Result<(), (PrivateCollector<Val>, Refused)>;
 
     ghost asks = { λ step home _ _. cells_home step.collector ≡ home.cells };
@@ -91,7 +96,7 @@ impl Step for ClosesCollector {
         × (after ≡ collector_closed holdings_of before place (collector_of step.collector)))
         (λ e. IsGuarded before × (e.1 ≡ refused.GuardOpen) × (after ≡ before)) };
 
-    fn done<S: Space<Val, Job = Idle>>(
+    fn done<S: Items<Val> + SharedItems<Val> + Cells<Val> + RawCells<Val> + Collectors<Val>>(
         self,
         s: &mut S,
     ) -> Result<(), (PrivateCollector<Val>, Refused)> {

@@ -16,12 +16,12 @@ ghost use Rattle.sdd_core.specs.declared.refused.Refused.TheVariants as refused;
 ghost use Rattle.sdd_base.specs.Shared as shared;
 
 use crate::holding::{ACell, Filling};
-use crate::step::Step;
+use crate::step::CellStep;
 use sdd_base::inner::slot_of_ptr;
-use sdd_base::{AtomicShared, Guard, Ptr, Shared, Space};
+use sdd_base::{AtomicShared, Cells, Collectors, Guard, Items, Ptr, RawCells, Shared, SharedItems};
 use sdd_core::{Refused, Tag};
 use sdd_desk::Val;
-use sdd_store::{Cell, Idle};
+use sdd_store::Cell;
 
 /// The cell holds this from now on, with this tag. Out come what it held, and the tag before.
 pub struct SwapsIn<'a> {
@@ -30,7 +30,7 @@ pub struct SwapsIn<'a> {
     pub tag: Tag,
 }
 
-impl Step for SwapsIn<'_> {
+impl CellStep for SwapsIn<'_> {
     type Out = (Filling, Tag);
 
     ghost asks = { λ step home _ _. IsOf home (cell_holding step.cell.now) × (filling_kind step.next ≡ cell_kind step.cell.now)
@@ -40,7 +40,10 @@ impl Step for SwapsIn<'_> {
         × (filling_holding out.0 ≡ held_as (cell_kind step.cell.now) held.held home.slots)
         × (after ≡ with_cell before (cell_number step.cell.now) (record { held = slot_of (filling_holding step.next); tag = step.tag })) };
 
-    fn done<S: Space<Val, Job = Idle>>(self, s: &mut S) -> (Filling, Tag) {
+    fn done<S: Items<Val> + SharedItems<Val> + Cells<Val> + RawCells<Val> + Collectors<Val>>(
+        self,
+        s: &mut S,
+    ) -> (Filling, Tag) {
         let SwapsIn { cell, next, tag } = self;
         match (cell, next) {
             (ACell::Sole(cell), Filling::Sole(next)) => {
@@ -65,7 +68,7 @@ pub struct ExchangesIn<'a> {
     pub tag: Tag,
 }
 
-impl Step for ExchangesIn<'_> {
+impl CellStep for ExchangesIn<'_> {
     type Out = Result<Filling, (Filling, Cell)>;
 
     ghost asks = { λ step home reader _. (reader_of step.guard.now ≡ reader) × IsOf home (cell_holding step.cell.now)
@@ -78,7 +81,10 @@ impl Step for ExchangesIn<'_> {
         (λ e. (filling_holding e.0 ≡ filling_holding step.next) × (entry_at before.cells (cell_number step.cell.now) ≡ Some e.1)
         × (e.1 ≢ cell_seen step.current) × (after ≡ before)) };
 
-    fn done<S: Space<Val, Job = Idle>>(self, s: &mut S) -> Result<Filling, (Filling, Cell)> {
+    fn done<S: Items<Val> + SharedItems<Val> + Cells<Val> + RawCells<Val> + Collectors<Val>>(
+        self,
+        s: &mut S,
+    ) -> Result<Filling, (Filling, Cell)> {
         let ExchangesIn {
             cell,
             guard,
@@ -119,7 +125,7 @@ pub struct TakesOut {
     pub cell: ACell,
 }
 
-impl Step for TakesOut {
+impl CellStep for TakesOut {
     type Out = Filling;
 
     ghost asks = { λ step home _ _. IsOf home (cell_holding step.cell) };
@@ -128,7 +134,10 @@ impl Step for TakesOut {
         × (filling_holding filling ≡ held_as (cell_kind step.cell) held.held home.slots)
         × (after ≡ without_cell before (cell_number step.cell)) };
 
-    fn done<S: Space<Val, Job = Idle>>(self, s: &mut S) -> Filling {
+    fn done<S: Items<Val> + SharedItems<Val> + Cells<Val> + RawCells<Val> + Collectors<Val>>(
+        self,
+        s: &mut S,
+    ) -> Filling {
         let TakesOut { cell } = self;
         match cell {
             ACell::Sole(cell) => Filling::Sole(cell.into_owned(s)),
@@ -143,7 +152,7 @@ pub struct SharesHeld<'a> {
     pub cell: &'a AtomicShared<Val>,
 }
 
-impl Step for SharesHeld<'_> {
+impl CellStep for SharesHeld<'_> {
     type Out = Result<Option<Shared<Val>>, Refused>;
 
     ghost asks = { λ step home reader _. (reader_of step.guard.now ≡ reader) × (shared.cells_home step.cell.now ≡ home.cells) };
@@ -156,7 +165,10 @@ impl Step for SharesHeld<'_> {
         (λ e. (e ≡ refused.TooManyOwners) × IfSome held.held (λ slot. IsSharedBy (2 ^ 62) (standing_at before slot)) × IsSome held.held
         × (after ≡ before))) };
 
-    fn done<S: Space<Val, Job = Idle>>(self, s: &mut S) -> Result<Option<Shared<Val>>, Refused> {
+    fn done<S: Items<Val> + SharedItems<Val> + Cells<Val> + RawCells<Val> + Collectors<Val>>(
+        self,
+        s: &mut S,
+    ) -> Result<Option<Shared<Val>>, Refused> {
         let SharesHeld { guard, cell } = self;
         cell.get_shared(guard, s)
     }
@@ -168,7 +180,7 @@ pub struct CopiesCell<'a> {
     pub cell: &'a AtomicShared<Val>,
 }
 
-impl Step for CopiesCell<'_> {
+impl CellStep for CopiesCell<'_> {
     type Out = Result<AtomicShared<Val>, Refused>;
 
     ghost asks = { λ step home reader _. (reader_of step.guard.now ≡ reader) × (shared.cells_home step.cell.now ≡ home.cells) };
@@ -183,7 +195,10 @@ impl Step for CopiesCell<'_> {
         ¬ (IsFull before.cells) × (e ≡ refused.TooManyOwners) × IsSome held.held
         × IfSome held.held (λ slot. IsSharedBy (2 ^ 62) (standing_at before slot))))) };
 
-    fn done<S: Space<Val, Job = Idle>>(self, s: &mut S) -> Result<AtomicShared<Val>, Refused> {
+    fn done<S: Items<Val> + SharedItems<Val> + Cells<Val> + RawCells<Val> + Collectors<Val>>(
+        self,
+        s: &mut S,
+    ) -> Result<AtomicShared<Val>, Refused> {
         let CopiesCell { guard, cell } = self;
         cell.clone(guard, s)
     }

@@ -10,7 +10,7 @@ ghost use Rattle.sdd_base.specs.Steps.{closed, deferred, stirred, accelerated};
 ghost use Rattle.sdd_desk.specs.declared.val.Val.{Val};
 
 use crate::step::Step;
-use sdd_base::{Guard, Space};
+use sdd_base::{Deferrals, Edits, Guard, Guards, Items, Look, RawItems, SharedItems};
 use sdd_core::{Epoch, Refused};
 use sdd_desk::Val;
 use sdd_store::Idle;
@@ -27,7 +27,15 @@ impl Step for ShowsEpoch<'_> {
 
     ghost does = { λ _ _ _ before epoch after. (epoch ≡ epoch_of before.time.count) × (after ≡ before) };
 
-    fn done<S: Space<Val, Job = Idle>>(self, s: &mut S) -> Epoch {
+    fn done<
+        S: Look<Val>
+            + Guards<Val>
+            + Items<Val>
+            + Edits<Val>
+            + SharedItems<Val>
+            + RawItems<Val>
+            + Deferrals<Val, Job = Idle>,
+    >(self, s: &mut S) -> Epoch {
         let ShowsEpoch { guard } = self;
         guard.epoch(s)
     }
@@ -45,7 +53,15 @@ impl Step for ShowsGarbage<'_> {
 
     ghost does = { λ _ _ place before result after. (result ≡ has_garbage (place_at before place)) × (after ≡ before) };
 
-    fn done<S: Space<Val, Job = Idle>>(self, s: &mut S) -> bool {
+    fn done<
+        S: Look<Val>
+            + Guards<Val>
+            + Items<Val>
+            + Edits<Val>
+            + SharedItems<Val>
+            + RawItems<Val>
+            + Deferrals<Val, Job = Idle>,
+    >(self, s: &mut S) -> bool {
         let ShowsGarbage { guard } = self;
         guard.has_garbage(s)
     }
@@ -63,7 +79,15 @@ impl Step for SetsGarbage<'_> {
 
     ghost does = { λ _ _ place before _ after. after ≡ stirred before place };
 
-    fn done<S: Space<Val, Job = Idle>>(self, s: &mut S) {
+    fn done<
+        S: Look<Val>
+            + Guards<Val>
+            + Items<Val>
+            + Edits<Val>
+            + SharedItems<Val>
+            + RawItems<Val>
+            + Deferrals<Val, Job = Idle>,
+    >(self, s: &mut S) {
         let SetsGarbage { guard } = self;
         guard.set_has_garbage(s);
     }
@@ -81,7 +105,15 @@ impl Step for Accelerates<'_> {
 
     ghost does = { λ _ _ place before _ after. after ≡ accelerated before place };
 
-    fn done<S: Space<Val, Job = Idle>>(self, s: &mut S) {
+    fn done<
+        S: Look<Val>
+            + Guards<Val>
+            + Items<Val>
+            + Edits<Val>
+            + SharedItems<Val>
+            + RawItems<Val>
+            + Deferrals<Val, Job = Idle>,
+    >(self, s: &mut S) {
         let Accelerates { guard } = self;
         guard.accelerate(s);
     }
@@ -99,7 +131,15 @@ impl Step for ClosesGuard {
 
     ghost does = { λ _ _ place before _ after. after ≡ closed before place };
 
-    fn done<S: Space<Val, Job = Idle>>(self, s: &mut S) {
+    fn done<
+        S: Look<Val>
+            + Guards<Val>
+            + Items<Val>
+            + Edits<Val>
+            + SharedItems<Val>
+            + RawItems<Val>
+            + Deferrals<Val, Job = Idle>,
+    >(self, s: &mut S) {
         let ClosesGuard { guard } = self;
         guard.close(s);
     }
@@ -117,7 +157,15 @@ impl Step for DefersJob {
         (λ number. IsEmptyAt before.jobs number × (after ≡ deferred before place number))
         (λ e. IsFull before.jobs × (e ≡ refused.NoJob) × (after ≡ before)) };
 
-    fn done<S: Space<Val, Job = Idle>>(self, s: &mut S) -> Result<u32, Refused> {
+    fn done<
+        S: Look<Val>
+            + Guards<Val>
+            + Items<Val>
+            + Edits<Val>
+            + SharedItems<Val>
+            + RawItems<Val>
+            + Deferrals<Val, Job = Idle>,
+    >(self, s: &mut S) -> Result<u32, Refused> {
         let DefersJob = self;
         match s.defer(Idle) {
             Ok(number) => Ok(number),

@@ -9,10 +9,9 @@ ghost use Rattle.sdd_steps.specs.Owners.{owner_holding};
 ghost use Rattle.sdd_desk.specs.Held.{standing_first, holding_first};
 
 use crate::holding::AnOwner;
-use crate::step::Step;
-use sdd_base::{AtomicOwned, Owned, Shared, Space};
+use crate::step::CellStep;
+use sdd_base::{AtomicOwned, Cells, Collectors, Items, Owned, RawCells, Shared, SharedItems};
 use sdd_desk::{Body, Ownership, Val};
-use sdd_store::Idle;
 
 /// A new item, which holds this, and a cell for its link.
 pub struct MakesItem {
@@ -20,7 +19,7 @@ pub struct MakesItem {
     pub ownership: Ownership,
 }
 
-impl Step for MakesItem {
+impl CellStep for MakesItem {
     type Out = AnOwner;
 
     ghost asks = { λ step home _ world. ¬ (IsFull world.cells) × ¬ (IsFull world.standings) × AreOf home (owner_in step.body) };
@@ -30,7 +29,10 @@ impl Step for MakesItem {
         × (body_of entry ≡ step.body) × (link_of entry ≡ cell) × (link_home entry ≡ home.cells)
         × (after ≡ made_as (nulled before cell) k entry (standing_first step.ownership)) };
 
-    fn done<S: Space<Val, Job = Idle>>(self, s: &mut S) -> AnOwner {
+    fn done<S: Items<Val> + SharedItems<Val> + Cells<Val> + RawCells<Val> + Collectors<Val>>(
+        self,
+        s: &mut S,
+    ) -> AnOwner {
         let MakesItem { body, ownership } = self;
         let Ok(link) = AtomicOwned::null(s) else {
             unreachable!()

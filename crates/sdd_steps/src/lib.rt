@@ -12,4 +12,4 @@ pub mod raw;
 pub mod step;
 
 pub use holding::{ACell, AnOwner, Filling};
-pub use step::Step;
+pub use step::{CellStep, Step};

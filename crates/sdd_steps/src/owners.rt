@@ -12,7 +12,7 @@ ghost use Rattle.sdd_base.specs.Shared as shared_owner;
 ghost use Rattle.sdd_store.specs.declared.standing.Standing.TheVariants as standing;
 
 use crate::step::Step;
-use sdd_base::{Owned, Ptr, Shared, Space};
+use sdd_base::{Deferrals, Edits, Guards, Items, Look, Owned, Ptr, RawItems, Shared, SharedItems};
 use sdd_core::Refused;
 use sdd_desk::Val;
 use sdd_store::Idle;
@@ -30,7 +30,15 @@ impl Step for RetiresItem {
     ghost does = { λ step _ place before _ after. (after ≡ retired before place (slot_of step.owner)) ×
         (standing_at before (slot_of step.owner) ≡ Some standing.Owned) };
 
-    fn done<S: Space<Val, Job = Idle>>(self, s: &mut S) {
+    fn done<
+        S: Look<Val>
+            + Guards<Val>
+            + Items<Val>
+            + Edits<Val>
+            + SharedItems<Val>
+            + RawItems<Val>
+            + Deferrals<Val, Job = Idle>,
+    >(self, s: &mut S) {
         let RetiresItem { owner } = self;
         owner.retire(s);
     }
@@ -50,7 +58,15 @@ impl Step for ReleasesOwner {
         (IsTrue was_last ↔ (owners ≡ 1))
         × (after ≡ owner_given before place (shared_owner.slot_of step.owner) (Some (shared_by owners))) };
 
-    fn done<S: Space<Val, Job = Idle>>(self, s: &mut S) -> bool {
+    fn done<
+        S: Look<Val>
+            + Guards<Val>
+            + Items<Val>
+            + Edits<Val>
+            + SharedItems<Val>
+            + RawItems<Val>
+            + Deferrals<Val, Job = Idle>,
+    >(self, s: &mut S) -> bool {
         let ReleasesOwner { owner } = self;
         owner.release(s)
     }
@@ -72,7 +88,15 @@ impl Step for ClonesOwner<'_> {
         (λ _. (owners < 2 ^ 62) × (after ≡ with_standing before (shared_owner.slot_of step.owner.now) (shared_by (owners + 1))))
         (λ e. (owners ≡ 2 ^ 62) × (e ≡ refused.TooManyOwners) × (after ≡ before))) };
 
-    fn done<S: Space<Val, Job = Idle>>(self, s: &mut S) -> Result<Shared<Val>, Refused> {
+    fn done<
+        S: Look<Val>
+            + Guards<Val>
+            + Items<Val>
+            + Edits<Val>
+            + SharedItems<Val>
+            + RawItems<Val>
+            + Deferrals<Val, Job = Idle>,
+    >(self, s: &mut S) -> Result<Shared<Val>, Refused> {
         let ClonesOwner { owner } = self;
         owner.clone(s)
     }
@@ -96,7 +120,15 @@ impl Step for SharesItem<'_> {
         × (after ≡ with_standing before slot (shared_by (owners + 1)))))
         (λ e. (e ≡ refused.TooManyOwners) × IsSharedBy (2 ^ 62) (standing_at before slot) × (after ≡ before)) };
 
-    fn done<S: Space<Val, Job = Idle>>(self, s: &mut S) -> Result<Option<Shared<Val>>, Refused> {
+    fn done<
+        S: Look<Val>
+            + Guards<Val>
+            + Items<Val>
+            + Edits<Val>
+            + SharedItems<Val>
+            + RawItems<Val>
+            + Deferrals<Val, Job = Idle>,
+    >(self, s: &mut S) -> Result<Option<Shared<Val>>, Refused> {
         let SharesItem { ptr } = self;
         ptr.get_shared(s)
     }

@@ -17,7 +17,7 @@ ghost use Rattle.sdd_desk.specs.Desk as desk;
 use crate::holding::AnOwner;
 use crate::step::Step;
 use sdd_base::inner::raw_ptr_of;
-use sdd_base::{Guard, Owned, Space};
+use sdd_base::{Deferrals, Edits, Guard, Guards, Items, Look, Owned, RawItems, SharedItems};
 use sdd_core::{Refused, Tag};
 use sdd_desk::Val;
 use sdd_lines::Reply;
@@ -38,7 +38,15 @@ impl Step for PutsNumber {
         × ((k : ℕ) × (desk.slot_of (Some (owner_holding step.owner)) ≡ Some k)
         × MatchResult out.1 (λ _. MayInPlace before k × Puts before k step.number after) (λ e. RefusedInPlace before k e × (after ≡ before))) };
 
-    fn done<S: Space<Val, Job = Idle>>(self, s: &mut S) -> (AnOwner, Result<(), Refused>) {
+    fn done<
+        S: Look<Val>
+            + Guards<Val>
+            + Items<Val>
+            + Edits<Val>
+            + SharedItems<Val>
+            + RawItems<Val>
+            + Deferrals<Val, Job = Idle>,
+    >(self, s: &mut S) -> (AnOwner, Result<(), Refused>) {
         let PutsNumber { owner, number } = self;
         let put = move |value: &mut Val|
             ensures { Renumbers value.old number value.new }
@@ -73,7 +81,15 @@ impl Step for DropsOwner {
         (λ e. (owner_holding e.0 ≡ owner_holding step.owner) × (e.1 ≡ refused.GuardOpen) × RefusesDrop before (owner_holding step.owner)
         × (after ≡ before)) };
 
-    fn done<S: Space<Val, Job = Idle>>(self, s: &mut S) -> Result<Reply, (AnOwner, Refused)> {
+    fn done<
+        S: Look<Val>
+            + Guards<Val>
+            + Items<Val>
+            + Edits<Val>
+            + SharedItems<Val>
+            + RawItems<Val>
+            + Deferrals<Val, Job = Idle>,
+    >(self, s: &mut S) -> Result<Reply, (AnOwner, Refused)> {
         let DropsOwner { owner } = self;
         match owner {
             AnOwner::Sole(held) => match held.drop_in_place(s) {
@@ -101,7 +117,15 @@ impl Step for GoesRaw {
     ghost does = { λ step _ _ before _ after. (standing_at before (slot_of step.owner) ≡ Some standing.Owned)
         × (after ≡ with_standing before (slot_of step.owner) standing.Raw) };
 
-    fn done<S: Space<Val, Job = Idle>>(self, s: &mut S) {
+    fn done<
+        S: Look<Val>
+            + Guards<Val>
+            + Items<Val>
+            + Edits<Val>
+            + SharedItems<Val>
+            + RawItems<Val>
+            + Deferrals<Val, Job = Idle>,
+    >(self, s: &mut S) {
         let GoesRaw { owner } = self;
         let _ = owner.into_raw(s);
     }
@@ -121,7 +145,15 @@ impl Step for ComesBack {
         × MatchOption out ((standing_at before step.slot ≢ Some standing.Raw) × (after ≡ before))
         (λ _. (standing_at before step.slot ≡ Some standing.Raw) × (after ≡ with_standing before step.slot standing.Owned)) };
 
-    fn done<S: Space<Val, Job = Idle>>(self, s: &mut S) -> Option<Owned<Val>> {
+    fn done<
+        S: Look<Val>
+            + Guards<Val>
+            + Items<Val>
+            + Edits<Val>
+            + SharedItems<Val>
+            + RawItems<Val>
+            + Deferrals<Val, Job = Idle>,
+    >(self, s: &mut S) -> Option<Owned<Val>> {
         let ComesBack { slot } = self;
         let ptr = raw_ptr_of(Pointer {
             named: Some(slot),
@@ -145,7 +177,15 @@ impl<'g> Step for SeesRaw<'g> {
     ghost does = { λ step _ _ before out after. MatchOption out (standing_at before step.slot ≢ Some standing.Raw)
         (λ value. (standing_at before step.slot ≡ Some standing.Raw) × (value_at before step.slot ≡ Some value.now)) × (after ≡ before) };
 
-    fn done<S: Space<Val, Job = Idle>>(self, s: &mut S) -> Option<&'g Val> {
+    fn done<
+        S: Look<Val>
+            + Guards<Val>
+            + Items<Val>
+            + Edits<Val>
+            + SharedItems<Val>
+            + RawItems<Val>
+            + Deferrals<Val, Job = Idle>,
+    >(self, s: &mut S) -> Option<&'g Val> {
         let SeesRaw { slot, guard } = self;
         let ptr = raw_ptr_of(Pointer {
             named: Some(slot),

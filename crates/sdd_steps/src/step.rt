@@ -6,11 +6,13 @@ ghost use Rattle.sdd_base.specs.Seat.{IsSeated, IsExact};
 ghost use Rattle.sdd_base.specs.World.{World};
 ghost use Rattle.sdd_desk.specs.declared.val.Val.{Val};
 
-use sdd_base::Space;
+use sdd_base::{
+    Cells, Collectors, Deferrals, Edits, Guards, Items, Look, RawCells, RawItems, SharedItems,
+};
 use sdd_desk::Val;
 use sdd_store::Idle;
 
-/// What a participant does in a space that nobody else changes, where jobs do nothing.
+/// What a participant does with guards, owners and pointers, in a space that nobody else changes, where jobs do nothing.
 pub trait Step {
     type Out;
 
@@ -19,7 +21,35 @@ pub trait Step {
     /// What is so then: at a home and a place, of the world before, of the answer and of the world after.
     ghost does: { Self → Home → ℕ → World Val → Self.Out → World Val → Type 0 };
 
-    fn done<S: Space<Val, Job = Idle>>(self, s: &mut S) -> Self::Out
+    fn done<
+        S: Look<Val>
+            + Guards<Val>
+            + Items<Val>
+            + Edits<Val>
+            + SharedItems<Val>
+            + RawItems<Val>
+            + Deferrals<Val, Job = Idle>,
+    >(self, s: &mut S) -> Self::Out
+        requires seated { IsSeated (S.seat s.old) }
+        requires exact { IsExact (S.seat s.old) }
+        requires asked { asks self (S.seat s.old).home (S.seat s.old).reader (S.world s.old) }
+        ensures seat { S.seat s.new ≡ S.seat s.old }
+        ensures done { does self (S.seat s.old).home (S.seat s.old).place (S.world s.old) result (S.world s.new) };
+}
+
+/// What a participant does with cells and collectors, in a space that nobody else changes.
+pub trait CellStep {
+    type Out;
+
+    /// What must be so in a home, of the participant with these guards, and of the world.
+    ghost asks: { Self → Home → Reader → World Val → Type 0 };
+    /// What is so then: at a home and a place, of the world before, of the answer and of the world after.
+    ghost does: { Self → Home → ℕ → World Val → Self.Out → World Val → Type 0 };
+
+    fn done<S: Items<Val> + SharedItems<Val> + Cells<Val> + RawCells<Val> + Collectors<Val>>(
+        self,
+        s: &mut S,
+    ) -> Self::Out
         requires seated { IsSeated (S.seat s.old) }
         requires exact { IsExact (S.seat s.old) }
         requires asked { asks self (S.seat s.old).home (S.seat s.old).reader (S.world s.old) }

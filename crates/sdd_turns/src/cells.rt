@@ -13,7 +13,7 @@ ghost use Rattle.sdd_desk.specs.declared.val.Val.{Val};
 ghost use Rattle.sdd_desk.specs.Desk.{slot_of};
 ghost use Rattle.sdd_steps.specs.Owners.{cell_holding, cell_number, filling_holding, filling_kind, holding_around};
 
-use crate::turn::step_at;
+use crate::turn::cell_step_at;
 use sdd_base::Guard;
 use sdd_core::Tag;
 use sdd_desk::Val;
@@ -30,7 +30,7 @@ pub fn cell_around(world: &mut World<Val>, place: &Place, filling: Filling) -> A
     ensures made { (k : ℕ) × (cell_holding result ≡ holding_around (filling_kind filling) k world.old.home.cells) × IsEmptyAt world.old.cells k
         × (world.new ≡ with_cell world.old k (record { held = slot_of (filling_holding filling); tag = no_tag })) }
 {
-    step_at(world, place, MakesCell { filling })
+    cell_step_at(world, place, MakesCell { filling })
 }
 
 /// What a cell holds, and its tag, as a pointer shows them that is loaded under a guard of the participant.
@@ -41,7 +41,7 @@ pub fn cell_loaded(world: &mut World<Val>, place: &Place, cell: &ACell, guard: &
     ensures loaded { entry_at world.old.cells (cell_number cell.now) ≡ Some result }
     ensures world { world.new ≡ world.old }
 {
-    step_at(world, place, LoadsCell { cell, guard })
+    cell_step_at(world, place, LoadsCell { cell, guard })
 }
 
 /// The tag of a cell.
@@ -51,7 +51,7 @@ pub fn tag_of(world: &mut World<Val>, place: &Place, cell: &ACell) -> Tag
     ensures tag { (held : Cell) × (entry_at world.old.cells (cell_number cell.now) ≡ Some held) × (result ≡ held.tag) }
     ensures world { world.new ≡ world.old }
 {
-    step_at(world, place, ReadsTag { cell })
+    cell_step_at(world, place, ReadsTag { cell })
 }
 
 /// Gives a cell a tag if it has this one, and answers whether it had.
@@ -61,7 +61,7 @@ pub fn tag_if(world: &mut World<Val>, place: &Place, cell: &ACell, tag: Tag, was
     ensures tagged { (held : Cell) × (entry_at world.old.cells (cell_number cell.now) ≡ Some held) × (IsTrue result ↔ (held.tag ≡ was))
         × (world.new ≡ (if result then with_cell world.old (cell_number cell.now) (record held { tag = tag }) else world.old)) }
 {
-    step_at(world, place, TagsIf { cell, tag, was })
+    cell_step_at(world, place, TagsIf { cell, tag, was })
 }
 
 /// The slot whose item a cell holds, which no guard is needed for: it is taken out and put back.
@@ -71,7 +71,7 @@ pub fn slot_in(world: &mut World<Val>, place: &Place, cell: &ACell) -> Option<u3
     ensures slot { result ≡ held_in (entry_at world.old.cells (cell_number cell.now)) }
     ensures world { world.new ≡ world.old }
 {
-    step_at(world, place, PeeksCell { cell })
+    cell_step_at(world, place, PeeksCell { cell })
 }
 
 /// A cell is closed, and the participant is given what it held.
@@ -80,5 +80,5 @@ pub fn close_at(world: &mut World<Val>, place: &Place, cell: ACell)
     requires home { IsOf world.old.home (cell_holding cell) }
     ensures { world.new ≡ cell_closed world.old (index_of place.now) (cell_number cell) }
 {
-    step_at(world, place, ClosesCell { cell });
+    cell_step_at(world, place, ClosesCell { cell });
 }

@@ -16,7 +16,7 @@ ghost use Rattle.sdd_desk.specs.Collecting.{Collects};
 ghost use Rattle.sdd_desk.specs.Val.{holdings_of};
 ghost use Rattle.sdd_steps.specs.Owners.{owner_holding};
 
-use crate::turn::step_at;
+use crate::turn::cell_step_at;
 use sdd_base::{Guard, PrivateCollector};
 use sdd_core::Refused;
 use sdd_desk::Val;
@@ -33,7 +33,7 @@ pub fn collector_at(world: &mut World<Val>, place: &Place) -> Result<PrivateColl
         (λ collector. IsEmptyAt world.old.cells (collector_of collector) × (world.new ≡ pointing world.old (collector_of collector) null_pointer))
         (λ e. IsFull world.old.cells × (e ≡ Refused.NoCell) × (world.new ≡ world.old)) }
 {
-    step_at(world, place, MakesCollector)
+    cell_step_at(world, place, MakesCollector)
 }
 
 /// An owner is given to a collector, under a guard of the participant.
@@ -50,7 +50,7 @@ pub fn give_to(
     requires reader { reader_of guard.now ≡ reader_at world.old (index_of place.now) }
     ensures collects { Collects world.old (index_of place.now) (collector_of collector.now) (owner_holding owner) result world.new }
 {
-    step_at(
+    cell_step_at(
         world,
         place,
         GivesToCollector {
@@ -75,5 +75,5 @@ pub fn close_at(
         × (world.new ≡ collector_closed holdings_of world.old (index_of place.now) (collector_of collector)))
         (λ e. IsGuarded world.old × (e.1 ≡ Refused.GuardOpen) × (world.new ≡ world.old)) }
 {
-    step_at(world, place, ClosesCollector { collector })
+    cell_step_at(world, place, ClosesCollector { collector })
 }

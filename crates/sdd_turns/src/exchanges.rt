@@ -17,7 +17,7 @@ ghost use Rattle.sdd_desk.specs.Desk.{slot_of};
 ghost use Rattle.sdd_steps.specs.Owners.{cell_holding, cell_kind, cell_number, filling_holding, filling_kind, held_as};
 ghost use Rattle.sdd_base.specs.Shared as shared;
 
-use crate::turn::step_at;
+use crate::turn::cell_step_at;
 use sdd_base::inner::null_with;
 use sdd_base::{AtomicShared, Guard, Ptr, Shared};
 use sdd_core::{Refused, Tag};
@@ -64,7 +64,7 @@ pub fn swap_in(
         × (filling_holding result.0 ≡ held_as (cell_kind cell.now) held.held world.old.home.slots)
         × (world.new ≡ with_cell world.old (cell_number cell.now) (record { held = slot_of (filling_holding next); tag = tag })) }
 {
-    step_at(world, place, SwapsIn { cell, next, tag })
+    cell_step_at(world, place, SwapsIn { cell, next, tag })
 }
 
 /// The cell holds this from now on, with this tag, if it held that: then what it held comes back. Else what was to go in, and what the cell holds.
@@ -124,7 +124,7 @@ fn exchange_in<'g>(
         next,
         tag,
     };
-    step_at(world, place, exchanges)
+    cell_step_at(world, place, exchanges)
 }
 
 /// The cell is spent, and what it held comes back.
@@ -135,7 +135,7 @@ pub fn take_out(world: &mut World<Val>, place: &Place, cell: ACell) -> Filling
         × (filling_holding result ≡ held_as (cell_kind cell) held.held world.old.home.slots)
         × (world.new ≡ without_cell world.old (cell_number cell)) }
 {
-    step_at(world, place, TakesOut { cell })
+    cell_step_at(world, place, TakesOut { cell })
 }
 
 /// One owner more of what the cell holds, if it holds something.
@@ -156,7 +156,7 @@ pub fn share_held(
         (λ e. (e ≡ Refused.TooManyOwners) × IfSome held.held (λ slot. IsSharedBy (2 ^ 62) (standing_at world.old slot)) × IsSome held.held
         × (world.new ≡ world.old)) }
 {
-    step_at(world, place, SharesHeld { guard, cell })
+    cell_step_at(world, place, SharesHeld { guard, cell })
 }
 
 /// Another cell, with one owner more of what the cell holds, if it holds something.
@@ -179,5 +179,5 @@ pub fn copy_held(
         ¬ (IsFull world.old.cells) × (e ≡ Refused.TooManyOwners) × IsSome held.held
         × IfSome held.held (λ slot. IsSharedBy (2 ^ 62) (standing_at world.old slot)))) }
 {
-    step_at(world, place, CopiesCell { guard, cell })
+    cell_step_at(world, place, CopiesCell { guard, cell })
 }

@@ -13,7 +13,7 @@ ghost use Rattle.sdd_desk.specs.Val.{body_of, owner_in, link_of, link_home};
 ghost use Rattle.sdd_steps.specs.Owners.{owner_holding};
 ghost use Rattle.sdd_desk.specs.Held.{standing_first, holding_first};
 
-use crate::turn::step_at;
+use crate::turn::cell_step_at;
 use sdd_base::Guard;
 use sdd_desk::{Body, Ownership, Val};
 use sdd_steps::holding::AnOwner;
@@ -37,7 +37,7 @@ pub fn make_item(
         × (body_of entry ≡ body) × (link_of entry ≡ cell) × (link_home entry ≡ world.old.home.cells)
         × (world.new ≡ made_as (nulled world.old cell) k entry (standing_first ownership)) }
 {
-    step_at(world, place, MakesItem { body, ownership })
+    cell_step_at(world, place, MakesItem { body, ownership })
 }
 
 /// The value in a slot, as a pointer to its item shows it under a guard of the participant.

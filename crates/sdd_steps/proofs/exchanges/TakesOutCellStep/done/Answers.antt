@@ -1,7 +1,7 @@
 use Rattle.sdd_base.specs.Owned as owned
 use Rattle.sdd_base.specs.Shared as shared
 use Rattle.sdd_steps.proofs.Out.{sole-out, share-out}
-use Rattle.sdd_steps.proofs.exchanges.TakesOutStep.done.Goals as goal
+use Rattle.sdd_steps.proofs.exchanges.TakesOutCellStep.done.Goals as goal
 
 pub returns-in-Sole-clause-done : goal.returns-in-Sole-clause-done
 returns-in-Sole-clause-done g c =

@@ -2,7 +2,7 @@ use Rattle.std.proofs.Common.{refl}
 use Rattle.sdd_base.specs.Owned as owned
 use Rattle.sdd_base.specs.Shared as shared
 use Rattle.sdd_steps.proofs.Out.{sole-out, sole-slot, share-out, share-slot}
-use Rattle.sdd_steps.proofs.exchanges.SwapsInStep.done.Goals as goal
+use Rattle.sdd_steps.proofs.exchanges.SwapsInCellStep.done.Goals as goal
 
 pub returns-in-Sole-Sole-clause-done : goal.returns-in-Sole-Sole-clause-done
 returns-in-Sole-Sole-clause-done g c =

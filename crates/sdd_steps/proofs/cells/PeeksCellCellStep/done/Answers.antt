@@ -3,7 +3,7 @@ use Rattle.sdd_base.specs.Steps.{held_in}
 use Rattle.sdd_store.specs.Table.{entry_at}
 use Rattle.sdd_steps.specs.Owners.{cell_number}
 use Rattle.sdd_steps.proofs.Peeked.{as-before}
-use Rattle.sdd_steps.proofs.cells.PeeksCellStep.done.Goals as goal
+use Rattle.sdd_steps.proofs.cells.PeeksCellCellStep.done.Goals as goal
 
 pub returns-in-None-clause-done : goal.returns-in-None-clause-done
 returns-in-None-clause-done g c =

@@ -1,5 +1,5 @@
 use Rattle.sdd_base.specs.RawPtr as raw
-use Rattle.sdd_steps.proofs.cells.TagsIfStep.done.Goals as goal
+use Rattle.sdd_steps.proofs.cells.TagsIfCellStep.done.Goals as goal
 
 pub returns-in-Ok-clause-done : goal.returns-in-Ok-clause-done
 returns-in-Ok-clause-done g c =
