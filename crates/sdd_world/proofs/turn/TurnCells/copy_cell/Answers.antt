@@ -1,4 +1,4 @@
-use Rattle.std.proofs.Common.{ap, ◌≡◌, ℕ, Option, Some, None}
+use Rattle.std.proofs.Common.{ap, ℕ, Option, Some, None}
 use Rattle.std.specs.Prelude.{MatchOption}
 use Rattle.std.proofs.lemmas.Result.{MatchResult-weaker}
 use Rattle.sdd_inside.specs.Core.{Core}

@@ -1,4 +1,4 @@
-use Rattle.std.proofs.Common.{ap, ◌≡◌, ℕ, Some, None, slice_index_or, slice_set}
+use Rattle.std.proofs.Common.{ap, ℕ, Some, None}
 use Rattle.std.specs.Prelude.{is_some}
 use Rattle.std.proofs.lemmas.List.{get_or-set_same}
 use Rattle.sdd_token.specs.Right.{number_of}
