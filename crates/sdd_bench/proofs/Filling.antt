@@ -1,10 +1,11 @@
 -- What cells that are filled and emptied leave
-use Rattle.std.proofs.Common.{◌≡◌, ℕ, List, [], ◌∷◌, Bool, true, false, refl, sym, ap, ◌∙◌, subst, Some, None, Option}
+use Rattle.std.proofs.Common.{◌≡◌, ◌≢◌, ◌+◌, ℕ, List, [], ◌∷◌, Bool, true, false, refl, sym, ap, ◌∙◌, subst, Some, None, Option, arith}
 use Rattle.std.specs.Prelude.{is_some}
-use Rattle.std.proofs.lemmas.List.{get_or-set_same}
+use Rattle.std.proofs.lemmas.List.{get_or-set_same, get_or-set_other, set-set}
 use Rattle.sdd_store.specs.declared.waiting.What.{What}
 use Rattle.sdd_store.specs.declared.waiting.What.TheVariants.{Item, Job}
-use Rattle.sdd_store.specs.Table.{Entries, entry_at, with_entry}
+use Rattle.sdd_core.specs.declared.tag.Tag.TheVariants.{None as no_tag}
+use Rattle.sdd_store.specs.Table.{Entries, IsEmptyAt, entry_at, with_entry, without_entry}
 use Rattle.sdd_store.specs.Time.{is_open, finds_another, due_next}
 use Rattle.sdd_store.specs.declared.standing.Cell.{Cell}
 use Rattle.sdd_store.specs.declared.standing.Standing.{Standing}
@@ -14,7 +15,8 @@ use Rattle.sdd_base.specs.Holding.{Holding}
 use Rattle.sdd_base.specs.World.{World, place_at, standing_at, value_at}
 use Rattle.sdd_base.specs.Steps.{made, nulled, with_cell, opened, changed, taken_out, waiting_value, reclaimed, all_reclaimed}
 use Rattle.sdd_base.specs.Steps as steps
-use Rattle.sdd_base.specs.Out.{HoldsNothing}
+use Rattle.sdd_base.specs.Out.{HoldsNothing, out}
+use Rattle.sdd_base.proofs.Out.{out-laws}
 use Rattle.sdd_bench.specs.Leaves.{IsFilled}
 use Rattle.sdd_bench.proofs.Leaving.{nothing}
 
@@ -61,3 +63,29 @@ filled-on w v c e f = subst (λ (u : World ℕ). IsFilled u c) (sym e) f
 pub opened-filled : (w v : World ℕ) (p c : ℕ) → v ≡ opened nothing w p → IsFilled w c → IsFilled v c
 opened-filled w v p c e (slot, tag, is) =
     (slot, tag, ap (λ (u : World ℕ). entry_at u.cells c) e ∙ ap (λ (cells : Entries Cell). entry_at cells c) (opened-cells nothing (λ n. refl) p w) ∙ is)
+
+-- a cell that holds something isn't one that is empty
+pub apart : (cells : Entries Cell) (c d : ℕ) (x : Cell) → entry_at cells c ≡ Some x → IsEmptyAt cells d → d ≢ c
+apart cells c d x full empty = λ e. let never : Some x ≡ None = sym full ∙ ap (λ (n : ℕ). entry_at cells n) (sym e) ∙ empty.1 in absurd (cc)
+
+-- a cell that holds an owner holds it still where another one is filled with a new item, and where another one is freed
+pub filled-beside : (w v : World ℕ) (c d k value : ℕ) (cell : Cell) → v ≡ with_cell (made w k value) d cell → IsEmptyAt w.cells d → IsFilled w c → IsFilled v c
+filled-beside w v c d k value cell e empty (slot, tag, is) =
+    let other = apart w.cells c d _ is empty in
+    (slot, tag, ap (λ (u : World ℕ). entry_at u.cells c) e ∙ get_or-set_other w.cells d c (Some cell) None (λ e. other (sym e)) ∙ is)
+
+pub filled-without : (w v : World ℕ) (c d : ℕ) → v.cells ≡ without_entry w.cells d → c ≢ d → IsFilled w c → IsFilled v c
+filled-without w v c d e other (slot, tag, is) =
+    (slot, tag, ap (λ (cells : Entries Cell). entry_at cells c) e ∙ get_or-set_other w.cells d c None None other ∙ is)
+
+-- a new item and the cell that holds it are out
+pub filled-out : (w : World ℕ) (k c value : ℕ) (cell : Cell) → IsEmptyAt w.standings k → IsEmptyAt w.cells c →
+    out (with_cell (made w k value) c cell) ≡ out w + 2
+filled-out w k c value cell slot empty =
+    let u : World ℕ = made w k value in
+    let null : Cell = record { held = None; tag = no_tag } in
+    let m = (out-laws nothing w).making k value slot in
+    let n = (out-laws nothing u).nulling c empty in
+    let f = (out-laws nothing (nulled u c)).filling c cell (ap is_some (get_or-set_same w.cells c (Some null) None empty.0)) in
+    let twice : with_cell (nulled u c) c cell ≡ with_cell u c cell = ap (λ (cells : Entries Cell). record u { cells = cells }) (set-set w.cells c (Some null) (Some cell)) in
+    omega (arith, m, n, f, ap (λ (v : World ℕ). out v) twice)
