@@ -526,8 +526,8 @@ module _ (n : ℕ) where
         untouched ws i 4 u (omega arith)
         (λ z. (
           (λ c. let same : p ≡ u.place = omega arith in let s = f.state z in let few = f.states in
-          let s' = ap (λ (k : ℕ). get_or ws (state_word k) 0) same in
-          ⊎_elim (λ (none : get_or ws i 0 ≡ 0). omega arith) (λ (over : get_or ws i 0 ≡ 3). omega arith) nobodys),
+              let s' = ap (λ (k : ℕ). get_or ws (state_word k) 0) same in
+              ⊎_elim (λ (none : get_or ws i 0 ≡ 0). omega arith) (λ (over : get_or ws i 0 ≡ 3). omega arith) nobodys),
           (λ c. omega arith),
         )) f;
     two = t.two;

@@ -153,7 +153,7 @@ two_words text verb rest place None e f h o = λ w.
     let same = sym (text_words w.0 text w.1) ∙ e ∙ ap (λ vs. verb ∷ vs) f in
     let alone : others_of w.0 ≡ [] = no_others (others_of w.0) (ap (drop 2) same) in
     let at : place_named w.0 ≡ place =
-        own_digits (place_named w.0) place (omega (arith, w.1.0.0)) (omega (arith, h.0)) (ap (λ vs. get_or vs 1 []) same ∙ sym h.1) in
+    own_digits (place_named w.0) place (omega (arith, w.1.0.0)) (omega (arith, h.0)) (ap (λ vs. get_or vs 1 []) same ∙ sym h.1) in
     let is : verb_of w.0 ≡ verb = ap (λ vs. get_or vs 0 []) same in
     absurd (cc (step_said w.0 alone))
 two_words text verb rest place (Some step) e f h o =

@@ -55,7 +55,7 @@ are_answers steps = let size = size_for steps in record {
   as_many = as_many size [] steps;
   each = λ before after step e.
       subst (λ o. IsSomeAnd o (Answers size (history size before) step))
-      (sym (ap (λ l. slice_get (answers_behind size [] l) (length before)) (sym e) ∙ answer_at size [] before after step)) (answered size before step)
+      (sym (ap (λ l. slice_get (answers_behind size [] l) (length before)) (sym e) ∙ answer_at size [] before after step)) (answered size before step);
 }
 
 -- what is kept by every history is kept after each beginning of a list

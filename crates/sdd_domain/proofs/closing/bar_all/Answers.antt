@@ -4,8 +4,8 @@ use Rattle.sdd_domain.proofs.closing.bar_all.Goals as goal
 
 pub loop-place-preserved : goal.loop-place-preserved
 loop-place-preserved c = let e = c.bars.ensures.barred c.if-not-bars.false in record {
-      home = c.bars.ensures.home;
-      ended = ap (λ (v : View). v.places.ended) e;
-      quiet = ap (λ (v : View). v.places.quiet) e ∙ c.loop-place.invariant.quiet;
-      none = ap (λ (v : View). v.stakes.counts) e ∙ c.loop-place.invariant.none;
-    }
+  home = c.bars.ensures.home;
+  ended = ap (λ (v : View). v.places.ended) e;
+  quiet = ap (λ (v : View). v.places.quiet) e ∙ c.loop-place.invariant.quiet;
+  none = ap (λ (v : View). v.stakes.counts) e ∙ c.loop-place.invariant.none;
+}

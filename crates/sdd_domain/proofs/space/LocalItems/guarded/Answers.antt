@@ -30,5 +30,5 @@ returns-clause-undisturbed g c = let v : Partaker g.row.T.Denot = (c.self-inside
       own = search rules;
       known = search rules;
       shown = keeps_it g.row.T v c.guarded.new.self c.args.right.now c.guarded.result.now c.guarded.ensures.looks g.T.Item.holds c.guarded.ensures.once
-    c.args.self.now (inner ∙ c.self.view_is);
+          c.args.self.now (inner ∙ c.self.view_is);
     }

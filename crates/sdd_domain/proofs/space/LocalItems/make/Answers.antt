@@ -45,11 +45,11 @@ returns-clause-exact g c = λ exact. value_exact g.row.T (c.self-2.view_is 0) c.
 
 pub returns-clause-undisturbed : goal.returns-clause-undisturbed
 returns-clause-undisturbed g c = record {
-      seat = search rules;
-      own = search rules;
-      known = search rules;
-      shown = answered_keeps g.row.T (c.self-2.view_is 0) c.make.new.self c.make.new.ledger.entries c.args.kind
-    (λ y. y ≡ c.args.value) (λ e. e.0 ≡ c.args.value) (λ e. (e.1 ≡ Refused.NoSlot) ⊎ (e.1 ≡ Refused.Contended)) g.T.Item.holds c.make.result c.args.self.now (c.self-2.view_is ∙ c.self.view_is)
-    (as_answered g.row.T (c.self-2.view_is 0) c.make.new.self c.make.new.ledger.entries c.args.kind c.args.value
-    (λ e. (e.1 ≡ Refused.NoSlot) ⊎ (e.1 ≡ Refused.Contended)) c.make.result c.make.ensures.made c.make.ensures.entry) c.self-2.invariant;
-    }
+  seat = search rules;
+  own = search rules;
+  known = search rules;
+  shown = answered_keeps g.row.T (c.self-2.view_is 0) c.make.new.self c.make.new.ledger.entries c.args.kind
+      (λ y. y ≡ c.args.value) (λ e. e.0 ≡ c.args.value) (λ e. (e.1 ≡ Refused.NoSlot) ⊎ (e.1 ≡ Refused.Contended)) g.T.Item.holds c.make.result c.args.self.now (c.self-2.view_is ∙ c.self.view_is)
+      (as_answered g.row.T (c.self-2.view_is 0) c.make.new.self c.make.new.ledger.entries c.args.kind c.args.value
+      (λ e. (e.1 ≡ Refused.NoSlot) ⊎ (e.1 ≡ Refused.Contended)) c.make.result c.make.ensures.made c.make.ensures.entry) c.self-2.invariant;
+}

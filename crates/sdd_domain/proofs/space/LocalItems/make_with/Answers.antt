@@ -38,10 +38,10 @@ returns-clause-exact g c = answered_exact g.row.T (c.self-2.view_is 0) c.make_wi
 
 pub returns-clause-undisturbed : goal.returns-clause-undisturbed
 returns-clause-undisturbed g c = record {
-      seat = search rules;
-      own = search rules;
-      known = search rules;
-      shown = answered_keeps g.row.T (c.self-2.view_is 0) c.make_with.new.self c.make_with.new.ledger.entries c.args.kind
-    (λ x. g.F.FnOnce.post c.args.make tt x) (λ e. e.0 ≡ c.args.make) (λ e. (e.1 ≡ Refused.NoSlot) ⊎ (e.1 ≡ Refused.Contended))
-    g.T.Item.holds c.make_with.result c.args.self.now (c.self-2.view_is ∙ c.self.view_is) c.make_with.ensures c.self-2.invariant;
-    }
+  seat = search rules;
+  own = search rules;
+  known = search rules;
+  shown = answered_keeps g.row.T (c.self-2.view_is 0) c.make_with.new.self c.make_with.new.ledger.entries c.args.kind
+      (λ x. g.F.FnOnce.post c.args.make tt x) (λ e. e.0 ≡ c.args.make) (λ e. (e.1 ≡ Refused.NoSlot) ⊎ (e.1 ≡ Refused.Contended))
+      g.T.Item.holds c.make_with.result c.args.self.now (c.self-2.view_is ∙ c.self.view_is) c.make_with.ensures c.self-2.invariant;
+}

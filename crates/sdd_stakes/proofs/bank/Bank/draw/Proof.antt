@@ -33,10 +33,18 @@ draw_spec 𝓤 𝓛 𝓜 𝓡 wired V K P B Mv _ _ _ _ _ g d gB dB g' d' _ _ _ =
     let one = RefOf (0 ∷ []) tt (plain (λ _. Br)) (λ _. tt) in let about = RefOf (1 ∷ []) tt (plain (λ _. Row)) (λ _. tt) in let sitter = plain (λ _. Sr) in
     let num = plain (λ _. u64) in
     let hs : Stays En.signature.params En.kept =
-        (stay_dropped one yes, (stay_dropped about yes, (stay_ref (2 ∷ []) tt sitter, (stay_dropped num yes, tt)))) in
+    (stay_dropped one yes, (stay_dropped about yes, (stay_ref (2 ∷ []) tt sitter, (stay_dropped num yes, tt)))) in
     let c = clauses V K P B Mv g d gB dB g' d' 𝓛 𝓜.mem 𝓡.returns in
-    proved 𝓛 En hs c 𝓜 𝓡 (Goes-dropped 𝓛 8 one yes (λ κs x f. refl), (Goes-dropped 𝓛 8 about yes (λ κs x f. refl), (Goes-ref 𝓛 8 2 tt sitter,
-    (Goes-dropped 𝓛 8 num yes (λ κs x f. refl), tt))))
+    proved 𝓛 En hs c 𝓜 𝓡 (
+      Goes-dropped 𝓛 8 one yes (λ κs x f. refl),
+      (
+        Goes-dropped 𝓛 8 about yes (λ κs x f. refl),
+        (
+          Goes-ref 𝓛 8 2 tt sitter,
+          (Goes-dropped 𝓛 8 num yes (λ κs x f. refl), tt),
+        ),
+      ),
+    )
     (#self inst) fn (code.unfolded 𝓤 H 𝓜 𝓡 wired (V, (K, (P, (B, (Mv, tt))))) d dB d')
     (λ κs. (shr_vals, (shr_vals, (mut_vals, (uint_vals w64, tt)))))
     (λ κs. (shr_Tells (named 0) κs.0 Br, (shr_Tells (named 1) κs.1.0 Row, (mut_Tells (named 2) κs.1.1.0 Sr, (uint_Tells w64, tt))))) (λ κs qs bounds a gh are.
