@@ -50,7 +50,10 @@ impl<T: Item<T>> Setting<T> {
         let Setting { world, place: _ } = self;
         match world.close() {
             Ok(tally) => {
-                assert_eq!(rt; (tally.made, tally.reclaimed, tally.in_place), (made, made, 0));
+                assert_eq!(rt;
+                    (tally.made, tally.reclaimed, tally.in_place),
+                    (made, made, 0)
+                );
             }
             Err((_world, refused)) => panic!(rt; "{refused:?}"),
         }

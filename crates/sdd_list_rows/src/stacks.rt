@@ -5,23 +5,20 @@ ghost use Rattle.sdd_base.specs.Seat.{IsSeated};
 ghost use Rattle.sdd_lists.specs.Stack.{home_in};
 
 use crate::setting::{AMPLE, Setting, opened, released};
-use sdd_base::{Cells, Guard, Guards, Items, Look, Several, SharedItems, Space};
+use sdd_base::{Cells, Guard, Items, Limits, Look, Several, SharedItems};
+use sdd_core::Refused;
 use sdd_lists::{LinkedEntry, Stack};
 use std::process::Abort;
 
-/// Pushes a number, and gives the owner up.
-fn push<
-    S: Items<LinkedEntry<u64>>
-        + Several<LinkedEntry<u64>>
-        + Cells<LinkedEntry<u64>>
-        + Look<LinkedEntry<u64>>,
->(
-    rt: &impl Abort,
+type Entry = LinkedEntry<u64>;
+
+/// Pushes a number, and gives the owner up. What it is refused with comes back with the number.
+fn pushed<S: Items<Entry> + Several<Entry> + Cells<Entry> + Look<Entry>>(
     stack: &Stack<u64>,
     value: u64,
     guard: &Guard,
     s: &mut S,
-)
+) -> Result<(), (u64, Refused)>
     requires seated { IsSeated (S.seat s.old) }
     requires home { home_in stack.now ≡ (S.seat s.old).home.cells }
     requires reader { reader_of guard.now ≡ (S.seat s.old).reader }
@@ -30,18 +27,14 @@ fn push<
     match stack.push(value, guard, s) {
         Ok(owner) => {
             let _ = owner.release(s);
+            Ok(())
         }
-        Err((_value, refused)) => panic!(rt; "{refused:?}"),
+        Err(back) => Err(back),
     }
 }
 
 /// Pops a number.
-fn pop<
-    S: Items<LinkedEntry<u64>>
-        + SharedItems<LinkedEntry<u64>>
-        + Cells<LinkedEntry<u64>>
-        + Look<LinkedEntry<u64>>,
->(
+fn pop<S: Items<Entry> + SharedItems<Entry> + Cells<Entry> + Look<Entry>>(
     rt: &impl Abort,
     stack: &Stack<u64>,
     guard: &Guard,
@@ -52,24 +45,59 @@ fn pop<
     requires reader { reader_of guard.now ≡ (S.seat s.old).reader }
     ensures seat { S.seat s.new ≡ S.seat s.old }
 {
-    let popped = stack.pop(guard, s).expect(rt, "few own the entry")?;
-    Some(released(s, popped))
+    match stack.pop(guard, s) {
+        Ok(Some(owner)) => Some(released(s, owner)),
+        Ok(None) => None,
+        Err(refused) => panic!(rt; "{refused:?}"),
+    }
 }
 
 #[test]
 fn the_newest_is_popped_first(rt: HostRuntime) {
-    let mut setting: Setting<LinkedEntry<u64>> = Setting::new(&rt, AMPLE);
+    let mut setting: Setting<Entry> = Setting::new(&rt, AMPLE);
     {
         let s = &mut setting.world.at(&setting.place);
         let guard = opened(&rt, s);
         let stack = Stack::new(s).expect(&rt, "a cell is free");
-        push(&rt, &stack, 37, &guard, s);
-        push(&rt, &stack, 3, &guard, s);
+        assert!(rt; stack.is_empty(&guard, s));
+        assert_eq!(rt; pushed(&stack, 37, &guard, s), Ok(()));
+        assert_eq!(rt; pushed(&stack, 3, &guard, s), Ok(()));
+        assert_eq!(rt; stack.len(&guard, s), 2);
         assert_eq!(rt; pop(&rt, &stack, &guard, s), Some(3));
+        let newest = stack.peek_with(|newest| newest.map(|entry| *entry.as_ref()), &guard, s);
+        assert_eq!(rt; newest, Some(37));
         assert_eq!(rt; pop(&rt, &stack, &guard, s), Some(37));
         assert_eq!(rt; pop(&rt, &stack, &guard, s), None);
+        assert_eq!(rt; pushed(&stack, 1, &guard, s), Ok(()));
         stack.close(&guard, s);
         guard.close(s);
     }
-    setting.closed(&rt, 2);
+    setting.closed(&rt, 3);
+}
+
+/// With as many slots and cells, of which the stack has one cell, a push of 1 finds a place and one of 2 doesn't.
+fn refuses_the_second<R: Abort + AllocGlobal>(rt: &R, slots: u64, cells: u64, refused: Refused) {
+    let limits = Limits {
+        slots,
+        cells,
+        ..AMPLE
+    };
+    let mut setting: Setting<Entry> = Setting::new(rt, limits);
+    {
+        let s = &mut setting.world.at(&setting.place);
+        let guard = opened(rt, s);
+        let stack = Stack::new(s).expect(rt, "a cell is free");
+        assert_eq!(rt; pushed(&stack, 1, &guard, s), Ok(()));
+        assert_eq!(rt; pushed(&stack, 2, &guard, s), Err((2, refused)));
+        stack.close(&guard, s);
+        guard.close(s);
+    }
+    setting.closed(rt, 1);
+}
+
+#[test]
+fn no_slot_is_answered_before_no_cell(rt: HostRuntime) {
+    refuses_the_second(&rt, 1, 2, Refused::NoSlot);
+    refuses_the_second(&rt, 1, 3, Refused::NoSlot);
+    refuses_the_second(&rt, 2, 2, Refused::NoCell);
 }

@@ -20,6 +20,10 @@ pub none-of : {T : Type 0} (es : List (Entry T)) → length es ≤ 0 → es ≡ 
 none-of [] few = refl
 none-of (e ∷ es) few = absurd (omega (arith, few))
 
+pub empty-of : {T : Type 0} (es : List (Entry T)) → first_slot es ≡ None → es ≡ []
+empty-of [] none = refl
+empty-of (e ∷ es) none = absurd (cc)
+
 -- a tag that doesn't delete
 pub undeleting : (t : Tag) → t ≢ tag.Second → is_deleting t ≡ false
 undeleting tag.None other = refl
@@ -150,6 +154,14 @@ shows-it shows p v names is shown =
     let values : Some full.0 ≡ Some v = sym full.1 ∙ is in
     let value : full.0 ≡ v = cc in
     subst (λ (x : _). shows p.slot x) value full.2
+
+-- a pointer that names the same, and shows the same
+pub shown-as : {T : Type 0} (shows : ℕ → T → Type 0) (p q : Ptr T) → slot_named q ≡ slot_named p → shown_by q ≡ shown_by p → IsShown shows p →
+    IsShown shows q
+shown-as shows p q slots shown is = record {
+  full = λ k names. let full = is.full k (sym slots ∙ names) in (full.0, shown ∙ full.1, full.2);
+  null = λ names. shown ∙ is.null (sym slots ∙ names);
+}
 
 -- what a slot showed that shows it still
 pub shown-kept : {T : Type 0} (shown after : ℕ → T → Type 0) (p : Ptr T) → KeepsShown shown after → IsShown shown p → IsShown after p

@@ -6,3 +6,6 @@ pub mod Fresh
 pub mod Popping
 pub mod Pushing
 pub mod Grows
+pub mod Refusals
+pub mod Pouring
+pub mod Entering

@@ -15,6 +15,9 @@ module _ {T : Type 0} where
   abbrev pub value_of : LinkedEntry T → T
   value_of e = (out-LinkedEntry T e).instance
 
+  abbrev pub link_part : LinkedEntry T → List Holding
+  link_part e = cell_holding (out-LinkedEntry T e).next ∷ []
+
   -- what its value holds, and its link
   abbrev pub holdings_of : (T → List Holding) → LinkedEntry T → List Holding
-  holdings_of holds e = holds (value_of e) ++ (cell_holding (out-LinkedEntry T e).next ∷ [])
+  holdings_of holds e = holds (value_of e) ++ link_part e

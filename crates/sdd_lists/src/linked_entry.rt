@@ -81,8 +81,9 @@ impl<T: Item<LinkedEntry<T>>> Item<LinkedEntry<T>> for LinkedEntry<T> {
 }
 
 impl<T: Item<LinkedEntry<T>>> LinkedList for LinkedEntry<T> {
-    ghost use Rattle.sdd_lists.specs.Entries.{link_of, link_home_of};
+    ghost use Rattle.sdd_lists.specs.Entries.{link_of, link_home_of, link_part, value_of};
     ghost use Rattle.sdd_base.proofs.Composed.{rest-of};
+    ghost use Rattle.sdd_base.specs.Holding.{AreOf};
 
     ghost link = { link_of };
 
@@ -92,7 +93,7 @@ impl<T: Item<LinkedEntry<T>>> LinkedList for LinkedEntry<T> {
         &self.next
     }
 
-    ghost link_is_held = { λ home v are. (rest-of home _ _ are).0 };
+    ghost link_is_held = { λ home v are. let parts : AreOf home (link_part v) = rest-of home (T.holds (value_of v)) (link_part v) are in parts.0 };
 }
 
 impl<T> AsRef<T> for LinkedEntry<T> {

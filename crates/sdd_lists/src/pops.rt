@@ -9,7 +9,7 @@ ghost use Rattle.sdd_base.specs.Shared.{IsOfSlots, slots_home, cell_of, cells_ho
 ghost use Rattle.sdd_base.specs.World.{standing_at};
 ghost use Rattle.sdd_core.specs.declared.tag.Tag.{Tag};
 ghost use Rattle.sdd_standings.specs.Slots.{IsSharedBy};
-ghost use Rattle.sdd_lists.specs.Lists.{Entry, IsCrowded, IsList, IsTaken, Pops, left};
+ghost use Rattle.sdd_lists.specs.Lists.{Entry, IsCrowded, IsKept, IsList, IsTaken, Pops, left};
 
 use crate::linked_list::LinkedList;
 use crate::moves::{delete, let_go_of_first, trim};
@@ -58,6 +58,31 @@ pub(crate) fn take_first<T: LinkedList, S: Items<T> + SharedItems<T> + Cells<T> 
     }
     let_go_of_first(cell, front.link, s);
     Ok(owner)
+}
+
+/// One owner more of an entry that was found. Nothing else changes.
+///
+/// `TooManyOwners` where 2^62 own the entry.
+pub(crate) fn keep_first<T: LinkedList, S: SharedItems<T>>(
+    front: Front<'_, T>,
+    s: &mut S,
+) -> Result<Shared<T>, Refused>
+    requires seated { IsSeated (S.seat s.old) }
+    ensures seat { S.seat s.new ≡ S.seat s.old }
+    ensures own { S.own s.new ≡ S.own s.old }
+    ensures known { KnowsOn (S.known s.old) (S.known s.new) }
+    ensures owner { IfOk result (λ owner. slots_home owner ≡ (S.seat s.old).home.slots) }
+    ensures back { IfErr result (λ e. (e ≡ Refused.TooManyOwners) ⊎ (e ≡ Refused.Contended)) }
+    ensures exact { IsExact (S.seat s.old) → (e : Entry T) → slot_named front.entry.ptr ≡ Some e.slot →
+        ((n : ℕ) × IsSharedBy n (standing_at (S.world s.old) e.slot)) → MatchResult result
+        (λ owner. IsKept (S.world s.old) e owner (S.world s.new)) (λ why. IsCrowded (S.world s.old) e why (S.world s.new)) }
+    ensures keeps { KeepsShown (S.shows s.old) (S.shows s.new) }
+{
+    match front.ptr.get_shared(s) {
+        Ok(Some(owner)) => Ok(owner),
+        Ok(None) => Err(Refused::Contended),
+        Err(refused) => Err(refused),
+    }
 }
 
 /// Pops the first entry of the list in a cell that isn't deleted: it is deleted, and what is deleted before it is let go of with it.

@@ -1,11 +1,10 @@
 //! A container whose newest value comes out first.
-ghost use Rattle.std.specs.Prelude.{◌≡◌, ◌↔◌, ◌⊎◌, [], true, IfErr, IfOk, IfSome, IsTrue, List, MatchResult, is_some, length, option_copied};
-ghost use Rattle.std.specs.Borrow.{Bor};
+ghost use Rattle.std.specs.Prelude.{◌≡◌, ◌↔◌, ◌⊎◌, [], IfErr, IfOk, IsTrue, List, MatchResult, length, option_copied};
 ghost use Rattle.sdd_base.specs.Guard.{reader_of};
 ghost use Rattle.sdd_base.specs.Holding.{AreOf};
 ghost use Rattle.sdd_base.specs.Known.{KnowsOn};
 ghost use Rattle.sdd_base.specs.Own.{GrowsOn};
-ghost use Rattle.sdd_base.specs.Ptr.{IsShown, KeepsShown, shown_by, slot_named, tag_of};
+ghost use Rattle.sdd_base.specs.Ptr.{IsShown, KeepsShown, slot_named, tag_of};
 ghost use Rattle.sdd_base.specs.Refusals.{IsRefusedBy};
 ghost use Rattle.sdd_base.specs.Seat.{IsSeated, IsExact};
 ghost use Rattle.sdd_base.specs.Shared.{IsOfSlots, slots_home};
@@ -16,15 +15,14 @@ ghost use Rattle.sdd_lists.specs.Entries.{link_of};
 ghost use Rattle.sdd_lists.specs.Lists.{Entry, Pops, content, emptied, first_slot, first_value, left};
 
 use crate::linked_entry::LinkedEntry;
-use crate::moves::{give_up, let_go_of_all, trim};
-use crate::pops::{pop_first, take_first};
+use crate::moves::let_go_of_all;
+use crate::pops::pop_first;
 use crate::pushes::push_first;
-use crate::unpopped::Unpopped;
-use crate::walks::{count, find_first, first_value_in};
+use crate::walks::{count, find_first, shown_in};
 use sdd_base::{
     AtomicShared, Cells, Guard, Item, Items, LookThrough, Ptr, Several, Shared, SharedItems,
 };
-use sdd_core::{Refused, Tag};
+use sdd_core::Refused;
 
 /// Entries, of which the newest is popped first.
 pub struct Stack<T> {
@@ -32,7 +30,7 @@ pub struct Stack<T> {
 }
 
 impl<T: Item<LinkedEntry<T>>> Stack<T> {
-    ghost use Rattle.sdd_lists.specs.Stack.{IsStack, PopsIf, PushesOnto, cell_in, home_in, kept_by, poured};
+    ghost use Rattle.sdd_lists.specs.Stack.{IsStack, PushesOnto, cell_in, home_in};
 
     /// An empty stack.
     ///
@@ -82,7 +80,8 @@ impl<T: Item<LinkedEntry<T>>> Stack<T> {
             IfOk result (λ owner. PushesOnto (S.world s.old) (S.seat s.old).place (cell_in self.now) es value owner (S.world s.new)) }
         ensures keeps { KeepsShown (S.shows s.old) (S.shows s.new) }
     {
-        if !s.has_slot() {
+        let free = s.has_slot();
+        if !free {
             return Err((value, Refused::NoSlot));
         }
         let entry = match LinkedEntry::new(value, s) {
@@ -120,105 +119,6 @@ impl<T: Item<LinkedEntry<T>>> Stack<T> {
         pop_first(&self.newest, guard, s)
     }
 
-    /// The same as `push`, if the condition holds of the newest entry that isn't deleted, or of none; it is asked first.
-    ///
-    /// Without a refusal where it failed: the value comes back, and nothing has changed. Else refused as `push` is.
-    pub fn push_if<
-        F: FnMut(Option<&LinkedEntry<T>>) -> bool,
-        S: Items<LinkedEntry<T>>
-            + Several<LinkedEntry<T>>
-            + Cells<LinkedEntry<T>>
-            + LookThrough<LinkedEntry<T>>,
-    >(
-        &self,
-        value: T,
-        mut condition: F,
-        guard: &Guard,
-        s: &mut S,
-    ) -> Result<Shared<LinkedEntry<T>>, (T, Option<Refused>)>
-        requires seated { IsSeated (S.seat s.old) }
-        requires home { home_in self.now ≡ (S.seat s.old).home.cells }
-        requires value { AreOf (S.seat s.old).home (T.holds value) }
-        requires callable { F.IsAlwaysCallable condition }
-        requires reader { reader_of guard.now ≡ (S.seat s.old).reader }
-        ensures seat { S.seat s.new ≡ S.seat s.old }
-        ensures own { GrowsOn (S.own s.old) (S.own s.new) }
-        ensures known { KnowsOn (S.known s.old) (S.known s.new) }
-        ensures owner { IfOk result (λ owner. slots_home owner ≡ (S.seat s.old).home.slots) }
-        ensures back { IfErr result (λ e. e.0 ≡ value) }
-        ensures asked { IsExact (S.seat s.old) → (es : List (Entry (LinkedEntry T))) → IsStack (S.world s.old) (cell_in self.now) es →
-            (shown : _) × (option_copied shown ≡ first_value (left es)) × F.post condition shown (MatchResult result (λ _. true) (λ e. is_some e.1)) }
-        ensures refused { IsExact (S.seat s.old) → (es : List (Entry (LinkedEntry T))) → IsStack (S.world s.old) (cell_in self.now) es →
-            IfErr result (λ e. (S.world s.new ≡ S.world s.old) × IfSome e.1 (λ why. (IsFull (S.world s.old).standings × (why ≡ Refused.NoSlot) ⊎
-            ¬ (IsFull (S.world s.old).standings) × IsFull (S.world s.old).cells × (why ≡ Refused.NoCell)))) }
-        ensures list { IsExact (S.seat s.old) → (es : List (Entry (LinkedEntry T))) → IsStack (S.world s.old) (cell_in self.now) es →
-            IfOk result (λ owner. PushesOnto (S.world s.old) (S.seat s.old).place (cell_in self.now) es value owner (S.world s.new)) }
-        ensures keeps { KeepsShown (S.shows s.old) (S.shows s.new) }
-    {
-        let shown = match first_value_in(&self.newest, guard, s) {
-            Ok(shown) => shown,
-            Err(refused) => return Err((value, Some(refused))),
-        };
-        if !condition(shown) {
-            return Err((value, None));
-        }
-        match self.push(value, guard, s) {
-            Ok(owner) => Ok(owner),
-            Err((value, refused)) => Err((value, Some(refused))),
-        }
-    }
-
-    /// The same as `pop`, if the condition holds of the newest entry that isn't deleted; where there is none it isn't asked.
-    ///
-    /// `Kept` where it failed, and nothing is let go of. Else refused as `pop` is; `Kept` too, with `TooManyOwners`, where 2^62 own the entry.
-    pub fn pop_if<
-        F: FnMut(&LinkedEntry<T>) -> bool,
-        S: Items<LinkedEntry<T>>
-            + SharedItems<LinkedEntry<T>>
-            + Cells<LinkedEntry<T>>
-            + LookThrough<LinkedEntry<T>>,
-    >(
-        &self,
-        mut condition: F,
-        guard: &Guard,
-        s: &mut S,
-    ) -> Result<Option<Shared<LinkedEntry<T>>>, Unpopped<T>>
-        requires seated { IsSeated (S.seat s.old) }
-        requires home { home_in self.now ≡ (S.seat s.old).home.cells }
-        requires callable { F.IsAlwaysCallable condition }
-        requires reader { reader_of guard.now ≡ (S.seat s.old).reader }
-        ensures seat { S.seat s.new ≡ S.seat s.old }
-        ensures own { GrowsOn (S.own s.old) (S.own s.new) }
-        ensures known { KnowsOn (S.known s.old) (S.known s.new) }
-        ensures owner { MatchResult result (IsOfSlots (S.seat s.old).home.slots) (λ e. IsOfSlots (S.seat s.old).home.slots (kept_by e)) }
-        ensures list { IsExact (S.seat s.old) → (es : List (Entry (LinkedEntry T))) → IsStack (S.world s.old) (cell_in self.now) es →
-            PopsIf (λ value held. (shown : Bor (LinkedEntry T)) × (shown.now ≡ value) × F.post condition shown held)
-            (S.world s.old) (S.seat s.old).place (cell_in self.now) es result (S.world s.new) }
-        ensures keeps { KeepsShown (S.shows s.old) (S.shows s.new) }
-    {
-        match find_first(&self.newest, guard, s) {
-            Ok(Some(front)) => {
-                if condition(front.entry) {
-                    match take_first(&self.newest, front, guard, s) {
-                        Ok(owner) => Ok(Some(owner)),
-                        Err(refused) => Err(Unpopped::Refused(refused)),
-                    }
-                } else {
-                    match front.ptr.get_shared(s) {
-                        Ok(Some(owner)) => Err(Unpopped::Kept(owner)),
-                        Ok(None) => Err(Unpopped::Refused(Refused::Contended)),
-                        Err(refused) => Err(Unpopped::Refused(refused)),
-                    }
-                }
-            }
-            Ok(None) => match trim(&self.newest, guard, s) {
-                Ok(_) => Ok(None),
-                Err(refused) => Err(Unpopped::Refused(refused)),
-            },
-            Err(refused) => Err(Unpopped::Refused(refused)),
-        }
-    }
-
     /// A pointer to the newest entry that isn't deleted, without a tag; null where there is none.
     pub fn peek<'g, S: Items<LinkedEntry<T>> + Cells<LinkedEntry<T>> + LookThrough<LinkedEntry<T>>>(
         &self,
@@ -235,38 +135,15 @@ impl<T: Item<LinkedEntry<T>>> Stack<T> {
         ensures shown { IsShown (S.shows s.new) result }
         ensures tag { tag_of result ≡ no_tag }
         ensures list { IsExact (S.seat s.old) → (es : List (Entry (LinkedEntry T))) → IsStack (S.world s.old) (cell_in self.now) es →
-            (slot_named result ≡ first_slot (left es)) × (shown_by result ≡ first_value (left es)) }
+            slot_named result ≡ first_slot (left es) }
         ensures keeps { KeepsShown (S.shows s.old) (S.shows s.new) }
     {
-        let Ok(Some(front)) = find_first(&self.newest, guard, s) else {
-            return Ptr::null();
+        let front = match find_first(&self.newest, guard, s) {
+            Ok(Some(front)) => front,
+            Ok(None) => return Ptr::null(),
+            Err(_) => return Ptr::null(),
         };
         front.ptr.without_tag()
-    }
-
-    /// What the reader makes of the newest entry that isn't deleted, or of none.
-    pub fn peek_with<
-        R,
-        F: FnOnce(Option<&LinkedEntry<T>>) -> R,
-        S: Items<LinkedEntry<T>> + Cells<LinkedEntry<T>> + LookThrough<LinkedEntry<T>>,
-    >(&self, reader: F, guard: &Guard, s: &mut S) -> R
-        requires seated { IsSeated (S.seat s.old) }
-        requires home { home_in self.now ≡ (S.seat s.old).home.cells }
-        requires callable { F.IsAlwaysCallable reader }
-        requires reader_of_guard { reader_of guard.now ≡ (S.seat s.old).reader }
-        ensures seat { S.seat s.new ≡ S.seat s.old }
-        ensures own { S.own s.new ≡ S.own s.old }
-        ensures known { KnowsOn (S.known s.old) (S.known s.new) }
-        ensures world { IsExact (S.seat s.old) → S.world s.new ≡ S.world s.old }
-        ensures list { IsExact (S.seat s.old) → (es : List (Entry (LinkedEntry T))) → IsStack (S.world s.old) (cell_in self.now) es →
-            (shown : _) × (option_copied shown ≡ first_value (left es)) × F.post reader shown result }
-        ensures keeps { KeepsShown (S.shows s.old) (S.shows s.new) }
-    {
-        let shown = match first_value_in(&self.newest, guard, s) {
-            Ok(shown) => shown,
-            Err(_) => None,
-        };
-        reader(shown)
     }
 
     /// How many entries aren't deleted.
@@ -309,37 +186,6 @@ impl<T: Item<LinkedEntry<T>>> Stack<T> {
         self.peek(guard, s).is_null()
     }
 
-    /// Another stack with all the entries, deleted ones too. None is let go of, and this one is empty then.
-    ///
-    /// `NoCell` where no cell is free; `Contended`, in a domain alone, where as many exchanges were lost as its limits allow.
-    pub fn pop_all<S: Items<LinkedEntry<T>> + Cells<LinkedEntry<T>>>(
-        &self,
-        guard: &Guard,
-        s: &mut S,
-    ) -> Result<Stack<T>, Refused>
-        requires seated { IsSeated (S.seat s.old) }
-        requires home { home_in self.now ≡ (S.seat s.old).home.cells }
-        requires reader { reader_of guard.now ≡ (S.seat s.old).reader }
-        ensures seat { S.seat s.new ≡ S.seat s.old }
-        ensures own { GrowsOn (S.own s.old) (S.own s.new) }
-        ensures known { KnowsOn (S.known s.old) (S.known s.new) }
-        ensures home { IfOk result (λ stack. home_in stack ≡ (S.seat s.old).home.cells) }
-        ensures back { IfErr result (IsRefusedBy (S.seat s.old) Refused.NoCell) }
-        ensures refused { IsExact (S.seat s.old) →
-            IfErr result (λ e. IsFull (S.world s.old).cells × (e ≡ Refused.NoCell) × (S.world s.new ≡ S.world s.old)) }
-        ensures list { IsExact (S.seat s.old) → (es : List (Entry (LinkedEntry T))) → IsStack (S.world s.old) (cell_in self.now) es →
-            IfOk result (λ all. IsEmptyAt (S.world s.old).cells (cell_in all) × IsStack (S.world s.new) (cell_in self.now) [] ×
-            IsStack (S.world s.new) (cell_in all) es ×
-            (S.world s.new ≡ poured (S.world s.old) (cell_in self.now) (cell_in all) es)) }
-        ensures keeps { KeepsShown (S.shows s.old) (S.shows s.new) }
-    {
-        let newest = AtomicShared::null(s)?;
-        let (first, _) = self.newest.swap((None, Tag::None), s);
-        let (nothing, _) = newest.swap((first, Tag::None), s);
-        give_up(nothing, s);
-        Ok(Stack { newest })
-    }
-
     /// Ends the stack: each entry is deleted and let go of, the newest first, and the stack's cell is free.
     pub fn close<S: Items<LinkedEntry<T>> + Cells<LinkedEntry<T>> + LookThrough<LinkedEntry<T>>>(
         self,
@@ -359,5 +205,27 @@ impl<T: Item<LinkedEntry<T>>> Stack<T> {
         let Stack { newest } = self;
         let_go_of_all(&newest, guard, s);
         newest.close(s);
+    }
+
+    /// What the reader makes of the newest entry that isn't deleted, or of none.
+    pub fn peek_with<
+        R,
+        F: FnOnce(Option<&LinkedEntry<T>>) -> R,
+        S: Items<LinkedEntry<T>> + Cells<LinkedEntry<T>> + LookThrough<LinkedEntry<T>>,
+    >(&self, reader: F, guard: &Guard, s: &mut S) -> R
+        requires seated { IsSeated (S.seat s.old) }
+        requires home { home_in self.now ≡ (S.seat s.old).home.cells }
+        requires callable { F.IsAlwaysCallable reader }
+        requires reader_of_guard { reader_of guard.now ≡ (S.seat s.old).reader }
+        ensures seat { S.seat s.new ≡ S.seat s.old }
+        ensures own { S.own s.new ≡ S.own s.old }
+        ensures known { KnowsOn (S.known s.old) (S.known s.new) }
+        ensures world { IsExact (S.seat s.old) → S.world s.new ≡ S.world s.old }
+        ensures list { IsExact (S.seat s.old) → (es : List (Entry (LinkedEntry T))) → IsStack (S.world s.old) (cell_in self.now) es →
+            (shown : _) × (option_copied shown ≡ first_value (left es)) × F.post reader shown result }
+        ensures keeps { KeepsShown (S.shows s.old) (S.shows s.new) }
+    {
+        let shown = shown_in(&self.newest, guard, s);
+        reader(shown)
     }
 }

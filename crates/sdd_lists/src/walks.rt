@@ -138,6 +138,29 @@ pub(crate) fn first_value_in<'g, T: LinkedList, S: Items<T> + Cells<T> + LookThr
     }
 }
 
+/// The same, or None where that is refused.
+pub(crate) fn shown_in<'g, T: LinkedList, S: Items<T> + Cells<T> + LookThrough<T>>(
+    cell: &AtomicShared<T>,
+    guard: &'g Guard,
+    s: &mut S,
+) -> Option<&'g T>
+    requires seated { IsSeated (S.seat s.old) }
+    requires home { cells_home cell.now ≡ (S.seat s.old).home.cells }
+    requires reader { reader_of guard.now ≡ (S.seat s.old).reader }
+    ensures seat { S.seat s.new ≡ S.seat s.old }
+    ensures own { S.own s.new ≡ S.own s.old }
+    ensures known { KnowsOn (S.known s.old) (S.known s.new) }
+    ensures world { IsExact (S.seat s.old) → S.world s.new ≡ S.world s.old }
+    ensures exact { IsExact (S.seat s.old) → (t : Tag) (es : List (Entry T)) → IsList T.link (S.world s.old) (cell_of cell.now) t es →
+        option_copied result ≡ first_value (left es) }
+    ensures keeps { KeepsShown (S.shows s.old) (S.shows s.new) }
+{
+    match first_value_in(cell, guard, s) {
+        Ok(shown) => shown,
+        Err(_) => None,
+    }
+}
+
 /// 1 for the link of an entry that isn't deleted, and else 0.
 fn one_if_kept<T: Item<T>, S: Cells<T>>(link: &AtomicShared<T>, s: &mut S) -> u64
     requires seated { IsSeated (S.seat s.old) }
