@@ -22,11 +22,11 @@ loop-step-init g c = record {
 
 pub loop-step-preserved : goal.loop-step-preserved
 loop-step-preserved g c = record {
-  seat = c.let_go_of_first.ensures.unmoved.seat ∙ c.in-Some.ensures.seat ∙ c.loop-step.invariant.seat;
+  seat = c.let_go_of_first.ensures.unmoved.seat ∙ c.in-Some.ensures.undisturbed.seat ∙ c.loop-step.invariant.seat;
   own = λ start grown.
-      c.let_go_of_first.ensures.own start (grows-not (g.S.Caller.own c.loop-step.s) _ c.in-Some.ensures.own start (c.loop-step.invariant.own start grown));
-  known = knows-on (knows-on c.loop-step.invariant.known c.in-Some.ensures.known) c.let_go_of_first.ensures.unmoved.known;
-  keeps = λ k v was. c.let_go_of_first.ensures.unmoved.shown k v (c.in-Some.ensures.keeps k v (c.loop-step.invariant.keeps k v was));
+      c.let_go_of_first.ensures.own start (grows-not (g.S.Caller.own c.loop-step.s) _ c.in-Some.ensures.undisturbed.own start (c.loop-step.invariant.own start grown));
+  known = knows-on (knows-on c.loop-step.invariant.known c.in-Some.ensures.undisturbed.known) c.let_go_of_first.ensures.unmoved.known;
+  keeps = λ k v was. c.let_go_of_first.ensures.unmoved.shown k v (c.in-Some.ensures.undisturbed.shown k v (c.loop-step.invariant.keeps k v was));
   list = λ e t es list.
       let link = g.T.LinkedList.link in
       let place = (g.S.Caller.seat c.args.s.now).place in
@@ -34,7 +34,7 @@ loop-step-preserved g c = record {
       let w = g.S.Caller.world c.loop-step.s in
       let inv = c.loop-step.invariant.list e t es list in
       let at0 = c.loop-step.invariant.seat in
-      let at1 = c.in-Some.ensures.seat ∙ at0 in
+      let at1 = c.in-Some.ensures.undisturbed.seat ∙ at0 in
       let ex0 = subst (λ (s : Seat). IsExact s) (sym at0) e in
       let same = c.in-Some.ensures.world ex0 in
       let held : Cell = record { held = first_slot inv.0; tag = t } in
@@ -61,7 +61,7 @@ loop-step-preserved g c = record {
 
 pub returns-in_default-clause-own : goal.returns-in_default-clause-own
 returns-in_default-clause-own g c = λ start grown.
-    grows-not (g.S.Caller.own c.loop-step.s) _ c.in_default.ensures.own start (c.loop-step.invariant.own start grown)
+    grows-not (g.S.Caller.own c.loop-step.s) _ c.in_default.ensures.undisturbed.own start (c.loop-step.invariant.own start grown)
 
 pub returns-in_default-clause-exact : goal.returns-in_default-clause-exact
 returns-in_default-clause-exact g c = λ e t es list.

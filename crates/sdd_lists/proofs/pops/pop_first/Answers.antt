@@ -11,7 +11,7 @@ use Rattle.sdd_lists.proofs.pops.pop_first.Goals as goal
 
 pub returns-in-Ok-clause-own : goal.returns-in-Ok-clause-own
 returns-in-Ok-clause-own g c = λ start grown.
-    c.in-Ok.ensures.own start (grows-not (g.S.Caller.own c.args.s.now) _ c.in-Ok-Some.ensures.own start grown)
+    c.in-Ok.ensures.own start (grows-not (g.S.Caller.own c.args.s.now) _ c.in-Ok-Some.ensures.undisturbed.own start grown)
 
 pub returns-in-Ok-clause-exact : goal.returns-in-Ok-clause-exact
 returns-in-Ok-clause-exact g c = λ e t es list.
@@ -19,7 +19,7 @@ returns-in-Ok-clause-exact g c = λ e t es list.
     let w = g.S.Caller.world c.args.s.now in
     let cell : ℕ = cell_of c.args.cell.now in
     let held : Cell = record { held = first_slot es; tag = t } in
-    let at_find = c.in-Ok-Some.ensures.seat in
+    let at_find = c.in-Ok-Some.ensures.undisturbed.seat in
     let same = c.in-Ok-Some.ensures.world e in
     let found = rw c.in-Ok-Some.field-0-is at (c.in-Ok-Some.ensures.exact e es list.linked held list.begins refl) in
     let x : Entry _ = found.0 in
@@ -43,7 +43,7 @@ returns-in-Err-take_first-clause-exact g c = λ e t es list.
     let w = g.S.Caller.world c.args.s.now in
     let cell : ℕ = cell_of c.args.cell.now in
     let held : Cell = record { held = first_slot es; tag = t } in
-    let at_find = c.in-Ok-Some.ensures.seat in
+    let at_find = c.in-Ok-Some.ensures.undisturbed.seat in
     let same = c.in-Ok-Some.ensures.world e in
     let found = rw c.in-Ok-Some.field-0-is at (c.in-Ok-Some.ensures.exact e es list.linked held list.begins refl) in
     let x : Entry _ = found.0 in
@@ -66,7 +66,7 @@ returns-in-Ok-trim-clause-exact g c = λ e t es list.
     let w = g.S.Caller.world c.args.s.now in
     let cell : ℕ = cell_of c.args.cell.now in
     let held : Cell = record { held = first_slot es; tag = t } in
-    let at_find = c.in-Ok-None.ensures.seat in
+    let at_find = c.in-Ok-None.ensures.undisturbed.seat in
     let same = c.in-Ok-None.ensures.world e in
     let none = rw c.in-Ok-None.field-0-is at (c.in-Ok-None.ensures.exact e es list.linked held list.begins refl) in
     let ex : IsExact (g.S.Caller.seat c.find_first.new.s) = subst (λ (s : Seat). IsExact s) (sym at_find) e in
@@ -85,7 +85,7 @@ returns-in-Err-trim-clause-exact g c = λ e t es list.
     let w = g.S.Caller.world c.args.s.now in
     let cell : ℕ = cell_of c.args.cell.now in
     let held : Cell = record { held = first_slot es; tag = t } in
-    let at_find = c.in-Ok-None.ensures.seat in
+    let at_find = c.in-Ok-None.ensures.undisturbed.seat in
     let same = c.in-Ok-None.ensures.world e in
     let none = rw c.in-Ok-None.field-0-is at (c.in-Ok-None.ensures.exact e es list.linked held list.begins refl) in
     let ex : IsExact (g.S.Caller.seat c.find_first.new.s) = subst (λ (s : Seat). IsExact s) (sym at_find) e in

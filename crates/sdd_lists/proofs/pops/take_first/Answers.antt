@@ -45,7 +45,7 @@ returns-in-Err-trim-clause-exact g c = λ e t es list x rest first named cell_is
     let w = g.S.Caller.world c.args.s.now in
     let place = (g.S.Caller.seat c.args.s.now).place in
     let cell : ℕ = cell_of c.args.cell.now in
-    let at_get = c.in-Ok-Some.ensures.seat in
+    let at_get = c.in-Ok-Some.ensures.undisturbed.seat in
     let got = rw c.in-Ok-Some.field-0-is at (c.in-Ok-Some.ensures.exact e) in
     let named_by = rw c.in-Ok-Some.field-0-is at c.in-Ok-Some.ensures.slot in
     let names : Some (slot_of c.in-Ok-Some.owner) ≡ Some x.slot = sym named_by ∙ named in
@@ -67,7 +67,7 @@ returns-then-not-deleted-clause-exact g c = λ e t es list x rest first named ce
     let w = g.S.Caller.world c.args.s.now in
     let place = (g.S.Caller.seat c.args.s.now).place in
     let cell : ℕ = cell_of c.args.cell.now in
-    let at_get = c.in-Ok-Some.ensures.seat in
+    let at_get = c.in-Ok-Some.ensures.undisturbed.seat in
     let got = rw c.in-Ok-Some.field-0-is at (c.in-Ok-Some.ensures.exact e) in
     let named_by = rw c.in-Ok-Some.field-0-is at c.in-Ok-Some.ensures.slot in
     let names : Some (slot_of c.in-Ok-Some.owner) ≡ Some x.slot = sym named_by ∙ named in
@@ -100,7 +100,7 @@ returns-clause-exact g c = λ e t es list x rest first named cell_is shared.
     let w = g.S.Caller.world c.args.s.now in
     let place = (g.S.Caller.seat c.args.s.now).place in
     let cell : ℕ = cell_of c.args.cell.now in
-    let at_get = c.in-Ok-Some.ensures.seat in
+    let at_get = c.in-Ok-Some.ensures.undisturbed.seat in
     let got = rw c.in-Ok-Some.field-0-is at (c.in-Ok-Some.ensures.exact e) in
     let named_by = rw c.in-Ok-Some.field-0-is at c.in-Ok-Some.ensures.slot in
     let names : Some (slot_of c.in-Ok-Some.owner) ≡ Some x.slot = sym named_by ∙ named in
@@ -153,15 +153,15 @@ returns-clause-exact g c = λ e t es list x rest first named cell_is shared.
 pub returns-in-Err-trim-clause-own : goal.returns-in-Err-trim-clause-own
 returns-in-Err-trim-clause-own g c = λ start grown.
     grows-if c.release.result (slot_of c.in-Ok-Some.owner) _ _ c.release.ensures.own start
-    (c.in-Err-trim.ensures.own start (grows-not (g.S.Caller.own c.args.s.now) _ c.in-Ok-Some.ensures.own start grown))
+    (c.in-Err-trim.ensures.own start (grows-not (g.S.Caller.own c.args.s.now) _ c.in-Ok-Some.ensures.undisturbed.own start grown))
 
 pub returns-then-not-deleted-clause-own : goal.returns-then-not-deleted-clause-own
 returns-then-not-deleted-clause-own g c = λ start grown.
     grows-if c.release-then-not-deleted.result (slot_of c.in-Ok-Some.owner) _ _ c.release-then-not-deleted.ensures.own start
     (grows-not (g.S.Caller.own c.trim.new.s) _ c.delete-deleted.ensures.undisturbed.own start
-    (c.trim.ensures.own start (grows-not (g.S.Caller.own c.args.s.now) _ c.in-Ok-Some.ensures.own start grown)))
+    (c.trim.ensures.own start (grows-not (g.S.Caller.own c.args.s.now) _ c.in-Ok-Some.ensures.undisturbed.own start grown)))
 
 pub returns-clause-own : goal.returns-clause-own
 returns-clause-own g c = λ start grown.
     c.let_go_of_first.ensures.own start (grows-not (g.S.Caller.own c.trim.new.s) _ c.delete-deleted.ensures.undisturbed.own start
-    (c.trim.ensures.own start (grows-not (g.S.Caller.own c.args.s.now) _ c.in-Ok-Some.ensures.own start grown)))
+    (c.trim.ensures.own start (grows-not (g.S.Caller.own c.args.s.now) _ c.in-Ok-Some.ensures.undisturbed.own start grown)))

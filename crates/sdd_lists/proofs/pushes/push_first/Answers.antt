@@ -31,7 +31,7 @@ returns-clause-exact g c = λ e t es list clear far all.
     let value = c.args.value in
     let l : ℕ = link value in
     let k : ℕ = slot_of c.in-Ok.owners.0 in
-    let at1 = c.in-Ok.ensures.seat in
+    let at1 = c.in-Ok.ensures.undisturbed.seat in
     let at2 = c.trim.ensures.unmoved.seat ∙ at1 in
     let at3 = c.get_guarded_ref-entry.ensures.undisturbed.seat ∙ at2 in
     let ex1 : IsExact (g.S.Caller.seat c.make_two.new.s) = subst (λ (s : Seat). IsExact s) (sym at1) e in
@@ -76,11 +76,11 @@ returns-clause-exact g c = λ e t es list clear far all.
 pub returns-clause-own : goal.returns-clause-own
 returns-clause-own g c = λ start grown.
     c.put_in_front.ensures.own start (grows-not (g.S.Caller.own c.trim.new.s) _ c.get_guarded_ref-entry.ensures.undisturbed.own start
-    (c.trim.ensures.own start (grows-not (g.S.Caller.own c.args.s.now) _ c.in-Ok.ensures.own start grown)))
+    (c.trim.ensures.own start (grows-not (g.S.Caller.own c.args.s.now) _ c.in-Ok.ensures.undisturbed.own start grown)))
 
 pub returns-clause-value : goal.returns-clause-value
 returns-clause-value g c =
-    let at1 = c.in-Ok.ensures.seat in
+    let at1 = c.in-Ok.ensures.undisturbed.seat in
     let at2 = c.trim.ensures.unmoved.seat ∙ at1 in
     let at3 = c.get_guarded_ref-entry.ensures.undisturbed.seat ∙ at2 in
     let at4 = c.put_in_front.ensures.unmoved.seat ∙ at3 in

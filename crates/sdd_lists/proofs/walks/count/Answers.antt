@@ -12,10 +12,10 @@ use Rattle.sdd_lists.proofs.walks.count.Goals as goal
 
 pub loop-step-init : goal.loop-step-init
 loop-step-init g c = record {
-  seat = c.in-Some.ensures.seat;
-  own = c.in-Some.ensures.own;
-  known = c.in-Some.ensures.known;
-  keeps = c.in-Some.ensures.keeps;
+  seat = c.in-Some.ensures.undisturbed.seat;
+  own = c.in-Some.ensures.undisturbed.own;
+  known = c.in-Some.ensures.undisturbed.known;
+  keeps = c.in-Some.ensures.undisturbed.shown;
   world = c.in-Some.ensures.world;
   home = c.in-Some.ensures.home;
   link = c.in-Some.ensures.link;
@@ -42,10 +42,10 @@ returns-clause-exact g c = λ e t es list.
 
 pub loop-step-preserved : goal.loop-step-preserved
 loop-step-preserved g c = record {
-  seat = c.in-Some-first_in.ensures.seat ∙ c.one_if_kept-count.ensures.undisturbed.seat ∙ c.loop-step.invariant.seat;
-  own = c.in-Some-first_in.ensures.own ∙ c.one_if_kept-count.ensures.undisturbed.own ∙ c.loop-step.invariant.own;
-  known = knows-on (knows-on c.loop-step.invariant.known c.one_if_kept-count.ensures.undisturbed.known) c.in-Some-first_in.ensures.known;
-  keeps = λ k v was. c.in-Some-first_in.ensures.keeps k v (c.one_if_kept-count.ensures.undisturbed.shown k v (c.loop-step.invariant.keeps k v was));
+  seat = c.in-Some-first_in.ensures.undisturbed.seat ∙ c.one_if_kept-count.ensures.undisturbed.seat ∙ c.loop-step.invariant.seat;
+  own = c.in-Some-first_in.ensures.undisturbed.own ∙ c.one_if_kept-count.ensures.undisturbed.own ∙ c.loop-step.invariant.own;
+  known = knows-on (knows-on c.loop-step.invariant.known c.one_if_kept-count.ensures.undisturbed.known) c.in-Some-first_in.ensures.undisturbed.known;
+  keeps = λ k v was. c.in-Some-first_in.ensures.undisturbed.shown k v (c.one_if_kept-count.ensures.undisturbed.shown k v (c.loop-step.invariant.keeps k v was));
   world = λ e.
       let at_loop = c.loop-step.invariant.seat in
       c.in-Some-first_in.ensures.world (subst (λ (s : Seat). IsExact s) (sym (c.one_if_kept-count.ensures.undisturbed.seat ∙ at_loop)) e)

@@ -14,13 +14,13 @@ use Rattle.sdd_lists.proofs.walks.find_first.Goals as goal
 
 pub loop-step-init : goal.loop-step-init
 loop-step-init g c = record {
-  seat = c.in-Some.ensures.seat;
-  own = c.in-Some.ensures.own;
-  known = c.in-Some.ensures.known;
+  seat = c.in-Some.ensures.undisturbed.seat;
+  own = c.in-Some.ensures.undisturbed.own;
+  known = c.in-Some.ensures.undisturbed.known;
   link = c.in-Some.ensures.link;
   shown = c.in-Some.ensures.shown;
   value = c.in-Some.ensures.value;
-  keeps = c.in-Some.ensures.keeps;
+  keeps = c.in-Some.ensures.undisturbed.shown;
   world = c.in-Some.ensures.world;
   home = c.in-Some.ensures.home;
   found = λ e es linked held there first.
@@ -45,13 +45,13 @@ returns-clause-exact g c = λ e es linked held there first.
 
 pub loop-step-preserved : goal.loop-step-preserved
 loop-step-preserved g c = record {
-  seat = c.in-Some-first_in.ensures.seat ∙ c.tag.ensures.undisturbed.seat ∙ c.loop-step.invariant.seat;
-  own = c.in-Some-first_in.ensures.own ∙ c.tag.ensures.undisturbed.own ∙ c.loop-step.invariant.own;
-  known = knows-on (knows-on c.loop-step.invariant.known c.tag.ensures.undisturbed.known) c.in-Some-first_in.ensures.known;
+  seat = c.in-Some-first_in.ensures.undisturbed.seat ∙ c.tag.ensures.undisturbed.seat ∙ c.loop-step.invariant.seat;
+  own = c.in-Some-first_in.ensures.undisturbed.own ∙ c.tag.ensures.undisturbed.own ∙ c.loop-step.invariant.own;
+  known = knows-on (knows-on c.loop-step.invariant.known c.tag.ensures.undisturbed.known) c.in-Some-first_in.ensures.undisturbed.known;
   link = c.in-Some-first_in.ensures.link;
   shown = c.in-Some-first_in.ensures.shown;
   value = c.in-Some-first_in.ensures.value;
-  keeps = λ k v was. c.in-Some-first_in.ensures.keeps k v (c.tag.ensures.undisturbed.shown k v (c.loop-step.invariant.keeps k v was));
+  keeps = λ k v was. c.in-Some-first_in.ensures.undisturbed.shown k v (c.tag.ensures.undisturbed.shown k v (c.loop-step.invariant.keeps k v was));
   world = λ e.
       let at_loop = c.loop-step.invariant.seat in
       c.in-Some-first_in.ensures.world (subst (λ (s : Seat). IsExact s) (sym (c.tag.ensures.undisturbed.seat ∙ at_loop)) e)

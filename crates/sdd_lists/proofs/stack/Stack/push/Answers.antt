@@ -27,7 +27,7 @@ returns-in-Ok-push_first-clause-list g c = λ e es list.
     let at0 = c.has_slot-free.ensures.undisturbed.seat in
     let ex0 : IsExact (g.S.Caller.seat c.has_slot-free.new.self) = subst (λ (s : Seat). IsExact s) (sym at0) e in
     let same = (c.has_slot-free.ensures.exact e).1 in
-    let at1 = c.in-Ok.ensures.seat ∙ at0 in
+    let at1 = c.in-Ok.ensures.undisturbed.seat ∙ at0 in
     let ex1 : IsExact (g.S.Caller.seat c.new.new.s) = subst (λ (s : Seat). IsExact s) (sym at1) e in
     let made = c.in-Ok.ensures.exact ex0 in
     let free : IsEmptyAt w.cells l = subst (λ (x : World _). IsEmptyAt x.cells l) same made.0 in
@@ -68,7 +68,7 @@ returns-in-Err-push_first-clause-refused g c = λ e.
     let seen = c.has_slot-free.ensures.exact e in
     let at0 = c.has_slot-free.ensures.undisturbed.seat in
     let ex0 : IsExact (g.S.Caller.seat c.has_slot-free.new.self) = subst (λ (s : Seat). IsExact s) (sym at0) e in
-    let at1 = c.in-Ok.ensures.seat ∙ at0 in
+    let at1 = c.in-Ok.ensures.undisturbed.seat ∙ at0 in
     let made = c.in-Ok.ensures.exact ex0 in
     let same : g.S.Caller.world c.new.new.s ≡ nulled w (link_of c.in-Ok.entry) = made.1 ∙ ap (λ (x : World _). nulled x (link_of c.in-Ok.entry)) seen.1 in
     let full = (c.in-Err-push_first.ensures.refused (subst (λ (s : Seat). IsExact s) (sym at1) e)).0 in
@@ -77,23 +77,23 @@ returns-in-Err-push_first-clause-refused g c = λ e.
 
 pub returns-in-Err-push_first-clause-back : goal.returns-in-Err-push_first-clause-back
 returns-in-Err-push_first-clause-back g c =
-    let at1 = c.in-Ok.ensures.seat ∙ c.has_slot-free.ensures.undisturbed.seat in (
+    let at1 = c.in-Ok.ensures.undisturbed.seat ∙ c.has_slot-free.ensures.undisturbed.seat in (
       c.close.ensures.value ∙ ap value_of c.in-Err-push_first.ensures.back.0 ∙ c.in-Ok.ensures.value,
       no-cell-or (g.S.Caller.seat c.args.s.now) c.in-Err-push_first.refused (subst (λ (s : Seat). IsRefusedBy s NoSlot c.in-Err-push_first.refused) at1 c.in-Err-push_first.ensures.back.1),
     )
 
 pub returns-in-Ok-push_first-clause-own : goal.returns-in-Ok-push_first-clause-own
 returns-in-Ok-push_first-clause-own g c = λ start grown.
-    c.in-Ok-push_first.ensures.own start (grows-not (g.S.Caller.own c.args.s.now) _ (c.in-Ok.ensures.own ∙ c.has_slot-free.ensures.undisturbed.own) start grown)
+    c.in-Ok-push_first.ensures.own start (grows-not (g.S.Caller.own c.args.s.now) _ (c.in-Ok.ensures.undisturbed.own ∙ c.has_slot-free.ensures.undisturbed.own) start grown)
 
 pub returns-in-Err-push_first-clause-own : goal.returns-in-Err-push_first-clause-own
 returns-in-Err-push_first-clause-own g c = λ start grown.
     grows-spilled _ _ c.close.ensures.own start
-    (c.in-Err-push_first.ensures.own start (grows-not (g.S.Caller.own c.args.s.now) _ (c.in-Ok.ensures.own ∙ c.has_slot-free.ensures.undisturbed.own) start grown))
+    (c.in-Err-push_first.ensures.own start (grows-not (g.S.Caller.own c.args.s.now) _ (c.in-Ok.ensures.undisturbed.own ∙ c.has_slot-free.ensures.undisturbed.own) start grown))
 
 pub push_first-requires-clause-value : goal.push_first-requires-clause-value
 push_first-requires-clause-value g c =
-    let at1 = c.in-Ok.ensures.seat ∙ c.has_slot-free.ensures.undisturbed.seat in
+    let at1 = c.in-Ok.ensures.undisturbed.seat ∙ c.has_slot-free.ensures.undisturbed.seat in
     let held = entry-held g.T.Item.holds (g.S.Caller.seat c.args.s.now).home c.in-Ok.entry c.args.value c.in-Ok.ensures.value c.requires.value
     (c.in-Ok.ensures.home ∙ ap (λ (s : Seat). s.home.cells) c.has_slot-free.ensures.undisturbed.seat) in
     subst (λ (s : Seat). AreOf s.home (holdings_of g.T.Item.holds c.in-Ok.entry)) (sym at1) held
