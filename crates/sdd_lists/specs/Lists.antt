@@ -26,7 +26,26 @@ may_delete tag.First = true
 may_delete tag.Second = false
 may_delete tag.Both = false
 
--- the tag of the link of a deleted entry
+-- of an entry that is neither marked nor deleted, of one that is marked, and of one that is deleted
+abbrev pub is_clearing : Tag → Bool
+is_clearing tag.None = true
+is_clearing tag.First = false
+is_clearing tag.Second = false
+is_clearing tag.Both = false
+
+abbrev pub is_marking : Tag → Bool
+is_marking tag.None = false
+is_marking tag.First = true
+is_marking tag.Second = false
+is_marking tag.Both = false
+
+abbrev pub is_ending : Tag → Bool
+is_ending tag.None = false
+is_ending tag.First = false
+is_ending tag.Second = true
+is_ending tag.Both = true
+
+-- the tag of the link of an entry that lists let go of
 abbrev pub is_deleting : Tag → Bool
 is_deleting tag.None = false
 is_deleting tag.First = false

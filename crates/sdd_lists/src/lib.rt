@@ -7,8 +7,10 @@ mod moves;
 mod pops;
 mod pushes;
 pub mod stack;
+pub mod unpopped;
 mod walks;
 
 pub use linked_entry::LinkedEntry;
 pub use linked_list::LinkedList;
 pub use stack::Stack;
+pub use unpopped::Unpopped;

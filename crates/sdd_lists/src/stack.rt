@@ -1,5 +1,6 @@
 //! A container whose newest value comes out first.
-ghost use Rattle.std.specs.Prelude.{◌≡◌, ◌↔◌, ◌⊎◌, [], IfErr, IfOk, IsTrue, List, MatchResult, length, option_copied};
+ghost use Rattle.std.specs.Prelude.{◌≡◌, ◌↔◌, ◌⊎◌, [], true, IfErr, IfOk, IfSome, IsTrue, List, MatchResult, is_some, length, option_copied};
+ghost use Rattle.std.specs.Borrow.{Bor};
 ghost use Rattle.sdd_base.specs.Guard.{reader_of};
 ghost use Rattle.sdd_base.specs.Holding.{AreOf};
 ghost use Rattle.sdd_base.specs.Known.{KnowsOn};
@@ -15,14 +16,15 @@ ghost use Rattle.sdd_lists.specs.Entries.{link_of};
 ghost use Rattle.sdd_lists.specs.Lists.{Entry, Pops, content, emptied, first_slot, first_value, left};
 
 use crate::linked_entry::LinkedEntry;
-use crate::moves::let_go_of_all;
-use crate::pops::pop_first;
+use crate::moves::{give_up, let_go_of_all, trim};
+use crate::pops::{keep_first, pop_first, take_first};
 use crate::pushes::push_first;
-use crate::walks::{count, find_first, shown_in};
+use crate::unpopped::Unpopped;
+use crate::walks::{count, find_first, first_value_in, shown_in};
 use sdd_base::{
     AtomicShared, Cells, Guard, Item, Items, LookThrough, Ptr, Several, Shared, SharedItems,
 };
-use sdd_core::Refused;
+use sdd_core::{Refused, Tag};
 
 /// Entries, of which the newest is popped first.
 pub struct Stack<T> {
@@ -30,7 +32,7 @@ pub struct Stack<T> {
 }
 
 impl<T: Item<LinkedEntry<T>>> Stack<T> {
-    ghost use Rattle.sdd_lists.specs.Stack.{IsStack, PushesOnto, cell_in, home_in};
+    ghost use Rattle.sdd_lists.specs.Stack.{IsStack, PopsIf, PushesOnto, cell_in, home_in, kept_by, poured};
 
     /// An empty stack.
     ///
@@ -207,6 +209,107 @@ impl<T: Item<LinkedEntry<T>>> Stack<T> {
         newest.close(s);
     }
 
+    /// The same as `push`, if the condition holds of the newest entry that isn't deleted, or of none; it is asked first.
+    ///
+    /// Without a refusal where it failed: the value comes back, and nothing has changed. Else refused as `push` is.
+    pub fn push_if<
+        F: FnMut(Option<&LinkedEntry<T>>) -> bool,
+        S: Items<LinkedEntry<T>>
+            + Several<LinkedEntry<T>>
+            + Cells<LinkedEntry<T>>
+            + LookThrough<LinkedEntry<T>>,
+    >(
+        &self,
+        value: T,
+        mut condition: F,
+        guard: &Guard,
+        s: &mut S,
+    ) -> Result<Shared<LinkedEntry<T>>, (T, Option<Refused>)>
+        requires seated { IsSeated (S.seat s.old) }
+        requires home { home_in self.now ≡ (S.seat s.old).home.cells }
+        requires value { AreOf (S.seat s.old).home (T.holds value) }
+        requires callable { F.IsAlwaysCallable condition }
+        requires reader { reader_of guard.now ≡ (S.seat s.old).reader }
+        ensures seat { S.seat s.new ≡ S.seat s.old }
+        ensures own { GrowsOn (S.own s.old) (S.own s.new) }
+        ensures known { KnowsOn (S.known s.old) (S.known s.new) }
+        ensures owner { IfOk result (λ owner. slots_home owner ≡ (S.seat s.old).home.slots) }
+        ensures back { IfErr result (λ e. e.0 ≡ value) }
+        ensures asked { IsExact (S.seat s.old) → (es : List (Entry (LinkedEntry T))) → IsStack (S.world s.old) (cell_in self.now) es →
+            (shown : _) × (option_copied shown ≡ first_value (left es)) × F.post condition shown (MatchResult result (λ _. true) (λ e. is_some e.1)) }
+        ensures refused { IsExact (S.seat s.old) → (es : List (Entry (LinkedEntry T))) → IsStack (S.world s.old) (cell_in self.now) es →
+            IfErr result (λ e. (S.world s.new ≡ S.world s.old) × IfSome e.1 (λ why. (IsFull (S.world s.old).standings × (why ≡ Refused.NoSlot) ⊎
+            ¬ (IsFull (S.world s.old).standings) × IsFull (S.world s.old).cells × (why ≡ Refused.NoCell)))) }
+        ensures list { IsExact (S.seat s.old) → (es : List (Entry (LinkedEntry T))) → IsStack (S.world s.old) (cell_in self.now) es →
+            IfOk result (λ owner. PushesOnto (S.world s.old) (S.seat s.old).place (cell_in self.now) es value owner (S.world s.new)) }
+        ensures keeps { KeepsShown (S.shows s.old) (S.shows s.new) }
+    {
+        let shown = match first_value_in(&self.newest, guard, s) {
+            Ok(shown) => shown,
+            Err(refused) => return Err((value, Some(refused))),
+        };
+        let holds = condition(shown);
+        if !holds {
+            return Err((value, None));
+        }
+        match self.push(value, guard, s) {
+            Ok(owner) => Ok(owner),
+            Err((value, refused)) => Err((value, Some(refused))),
+        }
+    }
+
+    /// The same as `pop`, if the condition holds of the newest entry that isn't deleted; where there is none it isn't asked.
+    ///
+    /// `Kept` where it failed, and nothing is let go of. Else refused as `pop` is; `Kept` too, with `TooManyOwners`, where 2^62 own the entry.
+    pub fn pop_if<
+        F: FnMut(&LinkedEntry<T>) -> bool,
+        S: Items<LinkedEntry<T>>
+            + SharedItems<LinkedEntry<T>>
+            + Cells<LinkedEntry<T>>
+            + LookThrough<LinkedEntry<T>>,
+    >(
+        &self,
+        mut condition: F,
+        guard: &Guard,
+        s: &mut S,
+    ) -> Result<Option<Shared<LinkedEntry<T>>>, Unpopped<T>>
+        requires seated { IsSeated (S.seat s.old) }
+        requires home { home_in self.now ≡ (S.seat s.old).home.cells }
+        requires callable { F.IsAlwaysCallable condition }
+        requires reader { reader_of guard.now ≡ (S.seat s.old).reader }
+        ensures seat { S.seat s.new ≡ S.seat s.old }
+        ensures own { GrowsOn (S.own s.old) (S.own s.new) }
+        ensures known { KnowsOn (S.known s.old) (S.known s.new) }
+        ensures owner { MatchResult result (IsOfSlots (S.seat s.old).home.slots) (λ e. IsOfSlots (S.seat s.old).home.slots (kept_by e)) }
+        ensures list { IsExact (S.seat s.old) → (es : List (Entry (LinkedEntry T))) → IsStack (S.world s.old) (cell_in self.now) es →
+            PopsIf (λ value held. (shown : Bor (LinkedEntry T)) × (shown.now ≡ value) × F.post condition shown held)
+            (S.world s.old) (S.seat s.old).place (cell_in self.now) es result (S.world s.new) }
+        ensures keeps { KeepsShown (S.shows s.old) (S.shows s.new) }
+    {
+        let front = match find_first(&self.newest, guard, s) {
+            Ok(Some(front)) => front,
+            Ok(None) => {
+                return match trim(&self.newest, guard, s) {
+                    Ok(_) => Ok(None),
+                    Err(refused) => Err(Unpopped::Refused(refused)),
+                };
+            }
+            Err(refused) => return Err(Unpopped::Refused(refused)),
+        };
+        let holds = condition(front.entry);
+        if holds {
+            match take_first(&self.newest, front, guard, s) {
+                Ok(owner) => Ok(Some(owner)),
+                Err(refused) => Err(Unpopped::Refused(refused)),
+            }
+        } else {
+            match keep_first(front, s) {
+                Ok(owner) => Err(Unpopped::Kept(owner)),
+                Err(refused) => Err(Unpopped::Refused(refused)),
+            }
+        }
+    }
+
     /// What the reader makes of the newest entry that isn't deleted, or of none.
     pub fn peek_with<
         R,
@@ -227,5 +330,39 @@ impl<T: Item<LinkedEntry<T>>> Stack<T> {
     {
         let shown = shown_in(&self.newest, guard, s);
         reader(shown)
+    }
+
+    /// Another stack with all the entries, deleted ones too. None is let go of, and this one is empty then.
+    ///
+    /// `NoCell` where no cell is free; `Contended`, in a domain alone, where as many exchanges were lost as its limits allow.
+    pub fn pop_all<S: Items<LinkedEntry<T>> + Cells<LinkedEntry<T>>>(
+        &self,
+        guard: &Guard,
+        s: &mut S,
+    ) -> Result<Stack<T>, Refused>
+        requires seated { IsSeated (S.seat s.old) }
+        requires home { home_in self.now ≡ (S.seat s.old).home.cells }
+        requires reader { reader_of guard.now ≡ (S.seat s.old).reader }
+        ensures seat { S.seat s.new ≡ S.seat s.old }
+        ensures own { GrowsOn (S.own s.old) (S.own s.new) }
+        ensures known { KnowsOn (S.known s.old) (S.known s.new) }
+        ensures home { IfOk result (λ stack. home_in stack ≡ (S.seat s.old).home.cells) }
+        ensures back { IfErr result (IsRefusedBy (S.seat s.old) Refused.NoCell) }
+        ensures refused { IsExact (S.seat s.old) →
+            IfErr result (λ e. IsFull (S.world s.old).cells × (e ≡ Refused.NoCell) × (S.world s.new ≡ S.world s.old)) }
+        ensures list { IsExact (S.seat s.old) → (es : List (Entry (LinkedEntry T))) → IsStack (S.world s.old) (cell_in self.now) es →
+            IfOk result (λ all. IsEmptyAt (S.world s.old).cells (cell_in all) × IsStack (S.world s.new) (cell_in self.now) [] ×
+            IsStack (S.world s.new) (cell_in all) es ×
+            (S.world s.new ≡ poured (S.world s.old) (cell_in self.now) (cell_in all) es)) }
+        ensures keeps { KeepsShown (S.shows s.old) (S.shows s.new) }
+    {
+        let newest = match AtomicShared::null(s) {
+            Ok(newest) => newest,
+            Err(refused) => return Err(refused),
+        };
+        let (first, _) = self.newest.swap((None, Tag::None), s);
+        let (nothing, _) = newest.swap((first, Tag::None), s);
+        give_up(nothing, s);
+        Ok(Stack { newest })
     }
 }
