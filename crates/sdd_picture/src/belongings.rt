@@ -4,7 +4,7 @@ use sdd_lines::{CellName, ItemName, OwnerName};
 use std::alloc::{AllocError, Global};
 
 /// An item.
-#[derive(Clone, Copy, Debug, PartialEq, Eq)]
+#[derive(Clone, Copy)]
 struct Belonging {
     owners: u64,
     /// The item whose owner its value holds.

@@ -8,7 +8,7 @@ use std::alloc::{AllocError, Global};
 const IDLE: u8 = 128;
 
 /// What a participant has seen, and what waits with it.
-#[derive(Clone, Copy, Debug, PartialEq, Eq)]
+#[derive(Clone, Copy)]
 struct Standing {
     /// The count that its last outermost opening found.
     found: u64,
@@ -22,7 +22,7 @@ struct Standing {
 }
 
 /// What an outermost close does beside closing.
-#[derive(Clone, Copy, Debug, PartialEq, Eq)]
+#[derive(Clone, Copy)]
 pub enum Scan {
     /// It does not scan, or another count stands than the one that it found.
     None,

@@ -17,14 +17,14 @@ pub struct Layout {
 }
 
 /// A participant's row.
-#[derive(Clone, Copy, Debug, PartialEq, Eq)]
+#[derive(Clone, Copy)]
 pub struct Row {
     pub top: u64,
     pub bottom: u64,
 }
 
 /// A rectangle.
-#[derive(Clone, Copy, Debug, PartialEq, Eq)]
+#[derive(Clone, Copy)]
 pub struct Area {
     pub x: u64,
     pub y: u64,

@@ -6,7 +6,7 @@
 use std::alloc::{AllocError, Global};
 
 /// What happened in a line.
-#[derive(Clone, Copy, Debug, PartialEq, Eq)]
+#[derive(Clone, Copy)]
 pub enum Event {
     /// A participant with this number in its name comes.
     Registered {
@@ -51,14 +51,14 @@ pub enum Event {
 }
 
 /// How an item went.
-#[derive(Clone, Copy, Debug, PartialEq, Eq)]
+#[derive(Clone, Copy)]
 pub enum Fate {
     Reclaimed,
     DroppedInPlace,
 }
 
 /// How far a participant is with a guard.
-#[derive(Clone, Copy, Debug, PartialEq, Eq)]
+#[derive(Clone, Copy)]
 pub enum Phase {
     /// It has read the count, and not published it yet.
     Reading,
@@ -67,7 +67,7 @@ pub enum Phase {
 }
 
 /// A guard in one of its phases.
-#[derive(Clone, Copy, Debug, PartialEq, Eq)]
+#[derive(Clone, Copy)]
 pub struct Bar {
     pub guard: Option<u64>,
     pub phase: Phase,
@@ -79,7 +79,7 @@ pub struct Bar {
 }
 
 /// A participant, and its row.
-#[derive(Debug, Drop)]
+#[derive(Drop)]
 pub struct Participant {
     pub name: u64,
     pub from: usize,
@@ -94,14 +94,14 @@ pub struct Participant {
 
 /// A time in which an item was in use, or waited with a participant. It lasts until the next of its item begins, or the
 /// item goes.
-#[derive(Clone, Copy, Debug, PartialEq, Eq)]
+#[derive(Clone, Copy)]
 pub struct Stay {
     pub from: usize,
     pub with: Option<usize>,
 }
 
 /// An item, and its row.
-#[derive(Debug, Drop)]
+#[derive(Drop)]
 pub struct Item {
     pub name: u64,
     pub stays: Vec<Stay>,
@@ -110,14 +110,14 @@ pub struct Item {
 }
 
 /// A line in which the epoch was raised.
-#[derive(Clone, Copy, Debug, PartialEq, Eq)]
+#[derive(Clone, Copy)]
 pub struct Raise {
     pub line: usize,
     pub epoch: u64,
 }
 
 /// A line in which a participant took over what another had left.
-#[derive(Clone, Copy, Debug, PartialEq, Eq)]
+#[derive(Clone, Copy)]
 pub struct Adoption {
     pub line: usize,
     pub from: usize,

@@ -5,8 +5,8 @@ use crate::{schedule, script};
 use sdd_base::Limits;
 use sdd_core::Refused;
 use sdd_lines::{
-    Answer, Call, Ended, ReadEnd, Script, Sink, Source, parse_all, print_fault, read_to_end,
-    write_all,
+    Answer, Call, Ended, ReadEnd, Script, Sink, Source, parse_all, print_all, print_fault,
+    read_to_end, write_all,
 };
 use sdd_machine::{Did, Step};
 use sdd_schedules::{Schedule, take_all};
@@ -91,10 +91,11 @@ fn drawn_calls(
     text: &[u8],
     calls: &[Call],
     answers: &[Answer],
-) -> Result<Vec<u8>, AllocError> {
+) -> Result<Vec<u8>, Refused> {
     let picture = script::picture_of(alloc, calls, answers)?;
-    let titles = titles_of_calls(alloc, text, answers)?;
-    draw(alloc, &picture, titles.as_slice())
+    let printed = print_all(alloc, answers)?;
+    let titles = titles(alloc, as_text(text), as_text(printed.as_slice()))?;
+    Ok(draw(alloc, &picture, titles.as_slice())?)
 }
 
 fn drawn_steps(
@@ -102,50 +103,25 @@ fn drawn_steps(
     text: &[u8],
     steps: &[Step],
     answers: &[Did],
-) -> Result<Vec<u8>, AllocError> {
+) -> Result<Vec<u8>, Refused> {
     let picture = schedule::picture_of(alloc, steps, answers)?;
-    let titles = titles_of_steps(alloc, text, answers)?;
-    draw(alloc, &picture, titles.as_slice())
+    let printed = sdd_schedules::print_all(alloc, answers)?;
+    let titles = titles(alloc, as_text(text), as_text(printed.as_slice()))?;
+    Ok(draw(alloc, &picture, titles.as_slice())?)
 }
 
-/// What is told of each call: its number, its line and its answer.
-fn titles_of_calls(
-    alloc: Global,
-    text: &[u8],
-    answers: &[Answer],
-) -> Result<Vec<String>, AllocError> {
+/// What is told of each line: its number, its text and what it was answered.
+fn titles(alloc: Global, text: &str, answers: &str) -> Result<Vec<String>, AllocError> {
     let mut titles = Vec::new(alloc);
     let mut number = 0u64;
-    for (line, answer) in text.split(|byte| *byte == b'\n').zip(answers.iter()) {
+    for (line, answer) in text.lines().zip(answers.lines()) {
         number = number.saturating_add(1);
-        let call = str::from_utf8(line).unwrap_or("");
-        let reply = answer.reply;
-        titles.push(format!(in alloc; "line {number}: {call}, answered {reply}")?)?;
+        titles.push(format!(in alloc; "line {number}: {line}, answered {answer}")?)?;
     }
     Ok(titles)
 }
 
-/// What is told of each step: its number, its line and what it did.
-fn titles_of_steps(alloc: Global, text: &[u8], answers: &[Did]) -> Result<Vec<String>, AllocError> {
-    let mut titles = Vec::new(alloc);
-    let mut number = 0u64;
-    for (line, did) in text.split(|byte| *byte == b'\n').zip(answers.iter()) {
-        number = number.saturating_add(1);
-        let step = str::from_utf8(line).unwrap_or("");
-        let done = word_of(*did);
-        titles.push(format!(in alloc; "line {number}: {step}, {done}")?)?;
-    }
-    Ok(titles)
-}
-
-fn word_of(did: Did) -> &'static str {
-    match did {
-        Did::NotPossible => "not possible",
-        Did::Done => "done",
-        Did::Opened { .. } => "opened",
-        Did::Looked { passed: true } => "passed",
-        Did::Looked { passed: false } => "not passed",
-        Did::Advanced { raised: true } => "raised",
-        Did::Advanced { raised: false } => "not raised",
-    }
+/// Calls, steps and answers are text.
+fn as_text(bytes: &[u8]) -> &str {
+    str::from_utf8(bytes).unwrap_or("")
 }

@@ -22,7 +22,7 @@ pub fn picture_of(alloc: Global, steps: &[Step], answers: &[Did]) -> Result<Pict
 }
 
 /// An item that was retired.
-#[derive(Clone, Copy, Debug, PartialEq, Eq)]
+#[derive(Clone, Copy)]
 struct Retired {
     /// The participant with which it waits, if it still does.
     with: Option<usize>,

@@ -69,7 +69,9 @@ impl Follower {
             Call::Tally => Ok(()),
             Call::At(place, action) => {
                 let participant = place.0 as usize;
-                self.act(participant, action, answer.reply)?;
+                self.acts(participant, action, answer.reply)?;
+                self.acts_on_items(participant, action, answer.reply)?;
+                self.acts_on_cells(participant, action, answer.reply)?;
                 self.reclaims(participant, answer)
             }
         }
@@ -80,8 +82,8 @@ impl Follower {
         self.note(Event::Registered { name })
     }
 
-    /// What a participant does with guards and jobs, and its end.
-    fn act(&mut self, participant: usize, action: Action, reply: Reply) -> Result<(), AllocError> {
+    /// What a participant does with guards and jobs, and its end, where it was not refused.
+    fn acts(&mut self, participant: usize, action: Action, reply: Reply) -> Result<(), AllocError> {
         match (action, reply) {
             (Action::Open, Reply::Guard(guard, epoch)) => self.opens(participant, guard, epoch),
             (Action::Close(guard), Reply::Done) => self.closes(participant, guard),
@@ -95,7 +97,7 @@ impl Follower {
                 self.epochs.accelerate(participant);
                 Ok(())
             }
-            _ => self.act_on_items(participant, action, reply),
+            _ => Ok(()),
         }
     }
 
@@ -172,7 +174,7 @@ impl Follower {
     }
 
     /// What a participant does with items and their owners.
-    fn act_on_items(
+    fn acts_on_items(
         &mut self,
         participant: usize,
         action: Action,
@@ -205,7 +207,7 @@ impl Follower {
             (Action::Unraw(item), Reply::Owner(_)) => {
                 self.belongings.name_owner(Some(index_of(item)))
             }
-            _ => self.act_on_cells(participant, action, reply),
+            _ => Ok(()),
         }
     }
 
@@ -261,7 +263,7 @@ impl Follower {
     }
 
     /// What a participant does with cells, and with the owners in them.
-    fn act_on_cells(
+    fn acts_on_cells(
         &mut self,
         participant: usize,
         action: Action,

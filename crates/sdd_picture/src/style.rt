@@ -5,7 +5,7 @@ pub const LEFT: u64 = 72;
 /// The room right of the last line.
 pub const RIGHT: u64 = 24;
 /// A picture is at least so wide, so that its key fits.
-pub const LEAST_WIDTH: u64 = 840;
+pub const LEAST_WIDTH: u64 = 880;
 
 /// The baselines of the numbers of lines and of the epochs, and where their vertical lines begin.
 pub const LINES_BASE: u64 = 20;
@@ -35,7 +35,7 @@ pub const KEY_GAP: u64 = 16;
 
 pub const KEY_LINE: u64 = 20;
 
-pub const KEY_ENTRY: u64 = 190;
+pub const KEY_ENTRY: u64 = 160;
 
 pub const KEY_SAMPLE: u64 = 26;
 

@@ -7,7 +7,7 @@ use crate::layout::Area;
 use std::alloc::{AllocError, Global};
 
 /// A point.
-#[derive(Clone, Copy, Debug, PartialEq, Eq)]
+#[derive(Clone, Copy)]
 pub struct Point {
     pub x: u64,
     pub y: u64,

@@ -11,19 +11,20 @@ impl Drawing {
     pub(super) fn key(&mut self) -> Result<(), AllocError> {
         let first = self.layout.bottom.saturating_add(style::KEY_GAP);
         let second = first.saturating_add(style::KEY_LINE);
-        self.key_bar(entry(0, first), style::BAR, "a0", "guard, epoch shown")?;
-        self.key_bar(entry(1, first), style::ITEM_BAR, "use", "item in use")?;
+        self.key_bar(entry(0, first), style::BAR, "a0", "guard, its epoch")?;
+        self.key_bar(entry(1, first), style::BAR, "read a0", "count read")?;
+        self.key_line(entry(2, first), "raise", "epoch raised")?;
+        self.key_line(entry(3, first), "left", "left behind")?;
+        self.key_arrow(entry(4, first), "adopted")?;
+        self.key_bar(entry(0, second), style::ITEM_BAR, "use", "item in use")?;
         self.key_bar(
-            entry(2, first),
+            entry(1, second),
             style::ITEM_BAR,
             "wait a0",
-            "waits with its holder",
+            "waits with p0",
         )?;
-        self.key_line(entry(3, first), "raise", "epoch raised")?;
-        self.key_mark(entry(0, second), Fate::Reclaimed, "reclaimed")?;
-        self.key_mark(entry(1, second), Fate::DroppedInPlace, "dropped in place")?;
-        self.key_line(entry(2, second), "left", "left by an ended one")?;
-        self.key_arrow(entry(3, second), "adopted")
+        self.key_mark(entry(2, second), Fate::Reclaimed, "reclaimed")?;
+        self.key_mark(entry(3, second), Fate::DroppedInPlace, "dropped in place")
     }
 
     fn key_bar(
@@ -87,7 +88,7 @@ impl Drawing {
     }
 }
 
-/// Where an entry of the key lies, of which each line has four.
+/// Where an entry of the key lies, of which each line has five at most.
 fn entry(place: u64, top: u64) -> Point {
     Point {
         x: style::KEY_ENTRY

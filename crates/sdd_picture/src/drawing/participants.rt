@@ -52,7 +52,7 @@ impl Drawing {
                 x: self.arrow_or_end(*adopted),
                 y,
             };
-            let title = format!(in self.alloc; "what p{name} left")?;
+            let title = format!(in self.alloc; "left behind by p{name}")?;
             self.page.line("left", end, adopted, title.as_str())?;
         }
         let label = format!(in self.alloc; "p{name}")?;
