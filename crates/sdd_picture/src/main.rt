@@ -4,16 +4,7 @@
 //! draws: it is safe, it ends, and pictures are looked at.
 #![tactic(auto)]
 
-mod belongings;
-mod drawing;
-mod epochs;
-mod layout;
-mod model;
 mod play;
-mod schedule;
-mod script;
-mod style;
-mod svg;
 
 use play::{draw_schedule, draw_script};
 use sdd_command::{

@@ -1,9 +1,8 @@
 //! Reading a script or a schedule, running it, and writing its picture.
 
-use crate::drawing::draw;
-use crate::{schedule, script};
 use sdd_base::Limits;
 use sdd_core::Refused;
+use sdd_drawing::{draw, schedule, script};
 use sdd_lines::{
     Answer, Call, Ended, ReadEnd, Script, Sink, Source, parse_all, print_all, print_fault,
     read_to_end, write_all,

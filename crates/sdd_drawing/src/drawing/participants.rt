@@ -3,7 +3,7 @@
 use super::Drawing;
 use crate::layout::{Area, Row};
 use crate::model::{Adoption, Bar, Participant, Phase, Picture};
-use crate::style;
+use crate::style::{self, colour};
 use crate::svg::Point;
 use std::alloc::AllocError;
 
@@ -56,11 +56,12 @@ impl Drawing {
             self.page.line("left", end, adopted, title.as_str())?;
         }
         let label = format!(in self.alloc; "p{name}")?;
+        let class = format!(in self.alloc; "end {}", colour(index))?;
         let at = Point {
             x: start.x.saturating_sub(style::PAD),
             y: y.saturating_add(style::PAD),
         };
-        self.page.text("end", at, label.as_str())
+        self.page.text(class.as_str(), at, label.as_str())
     }
 
     /// A guard in one of its phases.
@@ -73,11 +74,10 @@ impl Drawing {
             height: style::BAR,
         };
         let lines = self.lines(bar.from, bar.to)?;
-        let colour = index % style::COLOURS;
         match bar.phase {
             Phase::Reading => {
                 let title = format!(in self.alloc; "p{name} has read the count, {lines}")?;
-                let class = format!(in self.alloc; "read a{colour}")?;
+                let class = format!(in self.alloc; "read {}", colour(index))?;
                 self.page.area(class.as_str(), area, title.as_str())
             }
             Phase::Open { epoch } => {
@@ -86,8 +86,7 @@ impl Drawing {
                     None => format!(in self.alloc; "epoch {epoch}")?,
                 };
                 let title = format!(in self.alloc; "p{name}: {label}, {lines}")?;
-                let class = format!(in self.alloc; "a{colour}")?;
-                self.page.area(class.as_str(), area, title.as_str())?;
+                self.page.area(colour(index), area, title.as_str())?;
                 self.in_bar(area, label.as_str(), epoch)
             }
         }

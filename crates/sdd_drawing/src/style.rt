@@ -46,9 +46,6 @@ pub const PAD: u64 = 4;
 /// The half of a mark.
 pub const MARK: u64 = 4;
 
-/// How many colours participants have; the first one comes again after the last.
-pub const COLOURS: usize = 8;
-
 /// The classes of the elements. `a0` to `a7` are the participants' colours.
 pub const STYLE: &str = "<style>
 text{font:10px monospace;fill:#222;paint-order:stroke;stroke:#fff;stroke-width:3px;stroke-linejoin:round}
@@ -97,5 +94,19 @@ pub fn tick(lines: u64) -> u64 {
         0..=50 => 1,
         51..=250 => 5,
         _ => 10,
+    }
+}
+
+/// The class of a participant's colour. After the last one the first comes again.
+pub fn colour(participant: usize) -> &'static str {
+    match participant % 8 {
+        0 => "a0",
+        1 => "a1",
+        2 => "a2",
+        3 => "a3",
+        4 => "a4",
+        5 => "a5",
+        6 => "a6",
+        _ => "a7",
     }
 }

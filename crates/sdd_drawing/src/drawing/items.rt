@@ -4,7 +4,7 @@ use super::Drawing;
 use super::participants::name_of;
 use crate::layout::Area;
 use crate::model::{Fate, Item, Picture, Stay};
-use crate::style;
+use crate::style::{self, colour};
 use crate::svg::Point;
 use std::alloc::AllocError;
 
@@ -61,9 +61,8 @@ impl Drawing {
         let lines = self.lines(stay.from, end)?;
         match stay.with {
             Some(with) => {
-                let colour = with % style::COLOURS;
                 let holder = name_of(picture, with);
-                let class = format!(in self.alloc; "wait a{colour}")?;
+                let class = format!(in self.alloc; "wait {}", colour(with))?;
                 let title = format!(in self.alloc; "i{name} waits with p{holder}, {lines}")?;
                 self.page.area(class.as_str(), area, title.as_str())
             }

@@ -181,18 +181,14 @@ impl Follower {
         reply: Reply,
     ) -> Result<(), AllocError> {
         match (action, reply) {
-            (Action::Owned(value) | Action::Shared(value), Reply::Item(_, item)) => {
-                self.makes(item.0, value)
-            }
-            (Action::Retire(owner) | Action::Collect(owner, _, _), Reply::Done) => {
-                self.gives_up(participant, owner)
-            }
-            (Action::Release(owner) | Action::Collect(owner, _, _), Reply::Truth(_)) => {
-                self.gives_up(participant, owner)
-            }
-            (Action::Drop(owner), Reply::Done | Reply::Truth(_)) => {
-                self.drops(participant, owner)
-            }
+            (Action::Owned(value), Reply::Item(_, item)) => self.makes(item.0, value),
+            (Action::Shared(value), Reply::Item(_, item)) => self.makes(item.0, value),
+            (Action::Retire(owner), Reply::Done) => self.gives_up(participant, owner),
+            (Action::Release(owner), Reply::Truth(_)) => self.gives_up(participant, owner),
+            (Action::Collect(owner, _, _), Reply::Done) => self.gives_up(participant, owner),
+            (Action::Collect(owner, _, _), Reply::Truth(_)) => self.gives_up(participant, owner),
+            (Action::Drop(owner), Reply::Done) => self.drops(participant, owner),
+            (Action::Drop(owner), Reply::Truth(_)) => self.drops(participant, owner),
             (Action::Clone(owner), Reply::Owner(_)) => {
                 let item = self.belongings.of_owner(owner);
                 self.belongings.add_owner(item)
