@@ -181,10 +181,15 @@ impl Epochs {
         }
         self.ended = false;
         let count = self.count;
-        if count == u64::MAX || self.standings.iter().any(|standing| standing.holds(count)) {
+        if self.standings.iter().any(|standing| standing.holds(count)) {
             return Scan::Adopts;
         }
-        self.count = count + 1;
-        Scan::Raises(self.count)
+        match count.checked_add(1) {
+            Some(raised) => {
+                self.count = raised;
+                Scan::Raises(raised)
+            }
+            None => Scan::Adopts,
+        }
     }
 }

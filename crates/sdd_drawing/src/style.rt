@@ -1,5 +1,7 @@
 //! Sizes, in pixels, and colours of a picture.
 
+ghost use Rattle.std.specs.Prelude.{◌<◌};
+
 /// The room left of the first line.
 pub const LEFT: u64 = 72;
 /// The room right of the last line.
@@ -89,7 +91,9 @@ pub fn column_width(lines: u64) -> u64 {
 }
 
 /// From one numbered line to the next.
-pub fn tick(lines: u64) -> u64 {
+pub fn tick(lines: u64) -> u64
+    ensures { 0 < result }
+{
     match lines {
         0..=50 => 1,
         51..=250 => 5,
