@@ -90,8 +90,10 @@ pub fn finds_it_again<'g, T: Item<T>>(
 {
     world.keeps_its_ledger();
     world.is_whole();
-    let before = cell.load(guard, &mut world.at(mine)).as_ref(&*world);
+    let first = cell.load(guard, &mut world.at(mine));
+    let before = first.as_ref(&*world);
     comes_by(world, other);
-    let after = cell.load(guard, &mut world.at(mine)).as_ref(&*world);
+    let second = cell.load(guard, &mut world.at(mine));
+    let after = second.as_ref(&*world);
     (before, after)
 }
