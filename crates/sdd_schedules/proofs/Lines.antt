@@ -1,17 +1,17 @@
 -- The words of a line, and the step that they are
-use Rattle.std.proofs.Common.{◌≡◌, ℕ, ◌+◌, ◌^◌, ◌<◌, ◌≤◌, Bool, true, false, List, [], ◌∷◌, length, get_or, drop, map, Option, Some, None, OnSome, MatchOption, refl, sym, ap, subst, ◌∙◌, arith, rules}
+use Rattle.std.proofs.Common.{◌≡◌, ℕ, ◌^◌, ◌<◌, ◌≤◌, Bool, true, false, List, [], ◌∷◌, length, get_or, drop, map, Option, Some, None, OnSome, MatchOption, refl, sym, ap, subst, ◌∙◌, arith, rules}
 use Rattle.std.specs.Prelude.{codes, if◌then◌else◌, ◌==◌}
 use Rattle.std.specs.Fmt.{decimal}
 use Rattle.std.specs.List.{AllByRecursion}
 use Rattle.std.specs.Str.{IsAscii, IsUtf8, bytes_eq}
 use Rattle.std.specs.Str.Parse.{AllDigits, digits_value}
 use Rattle.std.proofs.lemmas.Slice.Eq.{bytes_eq-Decides}
-use Rattle.std.proofs.lemmas.List.Splits.{slice_split_none, length-slice_split, join_with_byte-slice_split}
+use Rattle.std.proofs.lemmas.List.Splits.{length-slice_split, join_with_byte-slice_split}
 use Rattle.std.proofs.lemmas.Str.Parse.{IsNumeralModel, numerals_by_value, tells_digits}
 use Rattle.std.proofs.lemmas.Fmt.{digits_value-decimal}
 use Rattle.std.proofs.lemmas.Str.{IsUtf8-from_ascii}
 use Rattle.sdd_lines.specs.Call.{IsWordOf, joined, words}
-use Rattle.sdd_lines.proofs.Lines.{IsWord, AreJoined, number_word, written_word, one_joined, more_joined, unspaced}
+use Rattle.sdd_lines.proofs.Lines.{IsWord, AreJoined, number_word, written_word, one_joined, more_joined}
 use Rattle.sdd_machine.specs.declared.machine.steps.Step.{Step}
 use Rattle.sdd_machine.specs.declared.machine.steps.Step.TheVariants.{Retire}
 use Rattle.sdd_machine.specs.Sizes.{place_named, item_named}
@@ -153,7 +153,7 @@ two_words text verb rest place None e f h o = λ w.
     let same = sym (text_words w.0 text w.1) ∙ e ∙ ap (λ vs. verb ∷ vs) f in
     let alone : others_of w.0 ≡ [] = no_others (others_of w.0) (ap (drop 2) same) in
     let at : place_named w.0 ≡ place =
-        own_digits (place_named w.0) place (omega (arith, w.1.0.0)) (omega (arith, h.0)) (ap (λ vs. get_or vs 1 []) same ∙ sym h.1) in
+    own_digits (place_named w.0) place (omega (arith, w.1.0.0)) (omega (arith, h.0)) (ap (λ vs. get_or vs 1 []) same ∙ sym h.1) in
     let is : verb_of w.0 ≡ verb = ap (λ vs. get_or vs 0 []) same in
     absurd (cc (step_said w.0 alone))
 two_words text verb rest place (Some step) e f h o =

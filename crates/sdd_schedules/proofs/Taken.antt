@@ -1,5 +1,5 @@
 -- What the steps of a list are answered, one by one
-use Rattle.std.proofs.Common.{◌≡◌, ◌≢◌, ℕ, ◌+◌, ◌<◌, Bool, true, false, cond, List, [], ◌∷◌, ◌++◌, length, Some, refl, sym, ap, subst, suc, ◌∙◌}
+use Rattle.std.proofs.Common.{◌≡◌, ◌≢◌, ℕ, Bool, true, false, List, [], ◌∷◌, ◌++◌, length, Some, refl, sym, ap, subst, suc, ◌∙◌}
 use Rattle.std.specs.Prelude.{if◌then◌else◌, IsSomeAnd}
 use Rattle.std.specs.List.{slice_get}
 use Rattle.sdd_machine.specs.declared.machine.steps.Step.{Step}
@@ -35,7 +35,8 @@ answer_at size past [] after step = refl
 answer_at size past (s ∷ before) after step = answer_at size (goes_on size past (s ∷ [])) before after step
 
 -- a publish that is possible tells what is due at it
-tells : (size : Size) (before : List Step) (place : ℕ) → possible (state size (history size before)) (Publish place) ≡ true → Tells size place (history size before)
+tells : (size : Size) (before : List Step) (place : ℕ) → possible (state size (history size before)) (Publish place) ≡ true →
+    Tells size place (history size before)
 tells size before place can =
     let moment = goes_on-append size [] before (Publish place ∷ []) ∙ ap (λ b. if b then Publish place ∷ history size before else history size before) can in
     (exact size (history size (before ++ Publish place ∷ [])) (goes_on_is size [] (before ++ Publish place ∷ []) tt)).told place (history size before) moment
@@ -55,7 +56,7 @@ are_answers steps = let size = size_for steps in record {
   as_many = as_many size [] steps;
   each = λ before after step e.
       subst (λ o. IsSomeAnd o (Answers size (history size before) step))
-      (sym (ap (λ l. slice_get (answers_behind size [] l) (length before)) (sym e) ∙ answer_at size [] before after step)) (answered size before step)
+      (sym (ap (λ l. slice_get (answers_behind size [] l) (length before)) (sym e) ∙ answer_at size [] before after step)) (answered size before step);
 }
 
 -- what is kept by every history is kept after each beginning of a list

@@ -1,4 +1,3 @@
-use Rattle.std.proofs.Common.{rules, refl}
 use Rattle.sdd_schedules.proofs.Lines.{none_then, no_place, no_item, two_words}
 use Rattle.sdd_schedules.proofs.line.step.Goals as goal
 
