@@ -2,7 +2,7 @@
 ghost use Rattle.std.specs.Prelude.{◌≡◌};
 ghost use Rattle.sdd_base.specs.Guard.{reader_of};
 ghost use Rattle.sdd_base.specs.Holding.{AreOf};
-ghost use Rattle.sdd_base.specs.Shared.{slots_home, cells_home, IsOfSlots};
+ghost use Rattle.sdd_base.specs.Shared.{slot_of, slots_home, cells_home, IsOfSlots};
 ghost use Rattle.sdd_base.specs.Seat.{IsSeated};
 
 use crate::steps::{Read, close, opened, seen};
@@ -239,7 +239,8 @@ pub fn put<S: Edits<u64>>(s: &mut S, owner: &mut Shared<u64>, value: u64) -> Res
     requires seated { IsSeated (S.seat s.old) }
     requires home { slots_home owner.old ≡ (S.seat s.old).home.slots }
     ensures seat { S.seat s.new ≡ S.seat s.old }
-    ensures same { owner.new ≡ owner.old }
+    ensures home { slots_home owner.new ≡ slots_home owner.old }
+    ensures slot { slot_of owner.new ≡ slot_of owner.old }
 {
     match owner.get_mut(|number| std::mem::replace(number, value), s) {
         Ok(was) => Ok(was),
