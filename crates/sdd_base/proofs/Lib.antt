@@ -19,6 +19,7 @@ pub mod Left
 pub mod Passing
 pub mod Nesting
 pub mod InPlace
+pub mod SameOwner
 pub mod Letting
 pub mod Sharing
 pub mod Accounts

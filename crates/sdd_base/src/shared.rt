@@ -256,7 +256,8 @@ impl<T: Item<T>> Shared<T> {
             AreOf (S.seat s.old).home (T.holds was) → AreOf (S.seat s.old).home (T.holds now) }
         ensures slot { slot_of self.new ≡ slot_of self.old }
         ensures home { slots_home self.new ≡ slots_home self.old }
-        ensures same { IfErr result (λ _. right_of self.new ≡ right_of self.old) }
+        ensures same { IfErr result (λ _. self.new ≡ self.old) }
+        ensures kept { S.keeps_right → self.new ≡ self.old }
         ensures seat { S.seat s.new ≡ S.seat s.old }
         ensures own { S.own s.new ≡ S.own s.old }
         ensures known { KnowsOn (S.known s.old) (S.known s.new) }

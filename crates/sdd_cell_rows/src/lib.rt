@@ -14,7 +14,6 @@ mod in_place;
 #[cfg(test)]
 mod most_owners;
 #[cfg(test)]
-#[cfg(test)]
 mod raw_cells;
 #[cfg(test)]
 mod raw_items;

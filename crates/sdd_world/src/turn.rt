@@ -228,6 +228,8 @@ impl<T: Item<T>, J: Job> Items<T> for Turn<'_, T, J> {
 }
 
 impl<T: Item<T>, J: Job> Edits<T> for Turn<'_, T, J> {
+    ghost keeps_right = { Unit {0} };
+
     fn edit<R, F: FnOnce(&mut T) -> R>(
         &mut self,
         right: &mut Right,

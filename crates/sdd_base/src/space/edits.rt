@@ -19,8 +19,11 @@ use sdd_token::{Kind, Right};
 
 /// Items that are changed and dropped in their place.
 pub trait Edits<T: Item<T>>: Caller<T> {
+    /// An owner's right stays as it is when the value of its item changes. In a world it does; in a domain the right tells the value.
+    ghost keeps_right: { Type 0 } = { ⊥ };
+
     /// Changes the value of an owner's item in its place, where the owner, which is of this kind, is alone and no guard is open. It owns the same item
-    /// afterwards, and its right tells the new value where rights tell values.
+    /// afterwards, and its right tells the new value where rights tell values, and else is the same.
     ///
     /// `NotAlone` where others own the item, and else `GuardOpen`: `f` comes back uncalled.
     fn edit<R, F: FnOnce(&mut T) -> R>(
@@ -42,6 +45,7 @@ pub trait Edits<T: Item<T>>: Caller<T> {
         ensures slot { number_of right.new ≡ number_of right.old }
         ensures kind { kind_of right.new ≡ kind_of right.old }
         ensures same { IfErr result (λ _. right.new ≡ right.old) }
+        ensures kept { Self.keeps_right → right.new ≡ right.old }
         ensures back { IfErr result (λ e. (e.0 ≡ f) × ((e.1 ≡ Refused.NotAlone) ⊎ (e.1 ≡ Refused.GuardOpen))) }
         ensures sole { kind ≡ Kind.Owned → IfErr result (λ e. e.1 ≡ Refused.GuardOpen) }
         ensures shown { IfOk result (λ r. (was : T) × (now : T) × Self.owns_value self.old right.old was ×

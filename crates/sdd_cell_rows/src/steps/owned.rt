@@ -180,6 +180,7 @@ pub fn put<S: Edits<u64>>(s: &mut S, owner: &mut Owned<u64>, value: u64) -> Resu
     ensures seat { S.seat s.new ≡ S.seat s.old }
     ensures home { slots_home owner.new ≡ slots_home owner.old }
     ensures slot { slot_of owner.new ≡ slot_of owner.old }
+    ensures same { S.keeps_right → owner.new ≡ owner.old }
 {
     match owner.get_mut(|number| std::mem::replace(number, value), s) {
         Ok(was) => Ok(was),

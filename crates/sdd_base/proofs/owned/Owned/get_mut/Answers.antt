@@ -1,10 +1,17 @@
 use Rattle.std.proofs.Common.{◌≡◌, ℕ, Some, rules}
-use Rattle.std.proofs.lemmas.Result.{MatchResult-weaker}
+use Rattle.std.proofs.lemmas.Result.{IfErr-weaker, MatchResult-weaker}
 use Rattle.sdd_store.specs.declared.standing.Standing.TheVariants.{Owned}
 use Rattle.sdd_base.specs.Owned.{slot_of}
 use Rattle.sdd_base.specs.World.{standing_at}
 use Rattle.sdd_base.proofs.InPlace.{refused-sole}
+use Rattle.sdd_base.proofs.SameOwner.{same-owned}
 use Rattle.sdd_base.proofs.owned.Owned.get_mut.Goals as goal
+
+pub returns-clause-same : goal.returns-clause-same
+returns-clause-same g c = IfErr-weaker c.edit.result _ _ (λ e same. same-owned c.args.self.now c.edit.new.right _ same) c.edit.ensures.same
+
+pub returns-clause-kept : goal.returns-clause-kept
+returns-clause-kept g c = λ keeps. same-owned c.args.self.now c.edit.new.right _ (c.edit.ensures.kept keeps)
 
 pub returns-clause-exact : goal.returns-clause-exact
 returns-clause-exact g c = λ is_exact.

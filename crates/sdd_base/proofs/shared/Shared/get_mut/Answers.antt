@@ -1,9 +1,16 @@
 use Rattle.std.proofs.Common.{ℕ, rules}
-use Rattle.std.proofs.lemmas.Result.{MatchResult-weaker}
+use Rattle.std.proofs.lemmas.Result.{IfErr-weaker, MatchResult-weaker}
 use Rattle.sdd_base.specs.Shared.{slot_of}
 use Rattle.sdd_base.specs.World.{standing_at}
 use Rattle.sdd_base.proofs.InPlace.{alone-one, refused-shared}
+use Rattle.sdd_base.proofs.SameOwner.{same-shared}
 use Rattle.sdd_base.proofs.shared.Shared.get_mut.Goals as goal
+
+pub returns-clause-same : goal.returns-clause-same
+returns-clause-same g c = IfErr-weaker c.edit.result _ _ (λ e same. same-shared c.args.self.now c.edit.new.right _ same) c.edit.ensures.same
+
+pub returns-clause-kept : goal.returns-clause-kept
+returns-clause-kept g c = λ keeps. same-shared c.args.self.now c.edit.new.right _ (c.edit.ensures.kept keeps)
 
 pub returns-clause-exact : goal.returns-clause-exact
 returns-clause-exact g c = λ is_exact.
