@@ -3,21 +3,21 @@ use Rattle.std.proofs.Common.{◌≡◌, ◌⊎◌, inl, inr, ℕ, ◌+◌, ◌<
 use Rattle.std.specs.Prelude.{◌==◌, if◌then◌else◌}
 use Rattle.std.proofs.lemmas.List.{get_or-set_same, get_or-set_other, get_or_past, length-set}
 use Rattle.std.proofs.lemmas.Bool.Decides.{nat_tests}
-use Rattle.sdd_store.specs.declared.waiting.What.{What}
-use Rattle.sdd_store.specs.declared.waiting.What.TheVariants.{Item}
-use Rattle.sdd_store.specs.Table.{IsEmptyAt}
-use Rattle.sdd_store.specs.Time.{adopting, is_open, nested, rotated, nobody, finds_another, due_next, awaiting}
-use Rattle.sdd_store.specs.declared.time.Participant.{Participant}
-use Rattle.sdd_store.specs.declared.standing.Standing.TheVariants.{Owned, Retired}
-use Rattle.sdd_base.specs.Holding.{Holding}
-use Rattle.sdd_base.specs.World.{World, place_at, standing_at}
-use Rattle.sdd_base.specs.Steps.{opened, closed, changed, made, retired, all_reclaimed}
-use Rattle.sdd_base.specs.Steps as steps
-use Rattle.sdd_base.specs.Own.{IsOpened, IsClosed, opened_at, closed_with}
-use Rattle.sdd_base.specs.Out.{is_out, out, HoldsNothing}
-use Rattle.sdd_base.specs.Seat.{Seat, IsExact}
-use Rattle.sdd_base.proofs.Whole.{all_awaiting-guards, below-or-past}
-use Rattle.sdd_base.proofs.Out.{out-laws}
+use Rattle.sdd_participants.specs.declared.waiting.LimboEntry.{LimboEntry}
+use Rattle.sdd_participants.specs.declared.waiting.LimboEntry.TheVariants.{Item}
+use Rattle.sdd_participants.specs.Slab.{IsEmptyAt}
+use Rattle.sdd_participants.specs.EpochState.{adopting, is_open, nested, rotated, nobody, finds_another, due_next, awaiting}
+use Rattle.sdd_participants.specs.declared.epoch_state.Participant.{Participant}
+use Rattle.sdd_participants.specs.declared.standing.Standing.TheVariants.{Owned, Retired}
+use Rattle.sdd_space.specs.OwnerOrCell.{OwnerOrCell}
+use Rattle.sdd_space.specs.World.{World, place_at, standing_at}
+use Rattle.sdd_space.specs.Steps.{opened, closed, changed, made, retired, all_reclaimed}
+use Rattle.sdd_space.specs.Steps as steps
+use Rattle.sdd_space.specs.Own.{IsOpened, IsClosed, opened_at, closed_with}
+use Rattle.sdd_space.specs.Out.{is_out, out, HoldsNothing}
+use Rattle.sdd_space.specs.CallerId.{CallerId, IsExact}
+use Rattle.sdd_space.proofs.Whole.{all_awaiting-guards, below-or-past}
+use Rattle.sdd_space.proofs.Out.{out-laws}
 use Rattle.sdd_bench.specs.Leaves.{Leaves}
 
 pub as-many : {old new : Participant} → new ≡ old → new.guards ≡ old.guards
@@ -48,10 +48,10 @@ closes-one : (old new : Participant) (n : ℕ) → old.guards ≡ n + 1 → IsCl
 closes-one old new n g c =
     ap (λ (p : Participant). p.guards) c.own ∙ closed-guards c.marked (adopting c.left old) n g (nat_lt 1 old.guards) refl
 
-pub exact-on : (s r : Seat) → r ≡ s → IsExact s → IsExact r
-exact-on s r e exact = subst (λ (x : Seat). IsExact x) (sym e) exact
+pub exact-on : (s r : CallerId) → r ≡ s → IsExact s → IsExact r
+exact-on s r e exact = subst (λ (x : CallerId). IsExact x) (sym e) exact
 
-module _ {T : Type 0} (holds : T → List Holding) (plain : HoldsNothing holds) where
+module _ {T : Type 0} (holds : T → List OwnerOrCell) (plain : HoldsNothing holds) where
   caught : (w : World T) (p : ℕ) (b : Bool) → finds_another w.time p ≡ b → steps.caught_up holds w p ≡ (if b then changed holds w p else w)
   caught w p b e = rw e refl
 
@@ -62,7 +62,7 @@ module _ {T : Type 0} (holds : T → List Holding) (plain : HoldsNothing holds) 
   past-caught : (w : World T) (p : ℕ) → place_at w p ≡ nobody → (b : Bool) → finds_another w.time p ≡ b → out (steps.caught_up holds w p) ≡ out w
   past-caught w p none true e =
       let due : due_next (place_at w p) ≡ [] = ap (λ (x : Participant). due_next x) none in
-      ap (λ (u : World T). out u) (caught w p true e) ∙ ap (λ (xs : List What). out (all_reclaimed holds (steps.rotated w p) p xs)) due
+      ap (λ (u : World T). out u) (caught w p true e) ∙ ap (λ (xs : List LimboEntry). out (all_reclaimed holds (steps.rotated w p) p xs)) due
   past-caught w p none false e = ap (λ (u : World T). out u) (caught w p false e)
 
   past-out : (w : World T) (p : ℕ) → is_open (place_at w p) ≡ false → place_at (steps.nested w p) p ≡ nobody → out (opened holds w p) ≡ out w
@@ -100,11 +100,11 @@ module _ {T : Type 0} (holds : T → List Holding) (plain : HoldsNothing holds) 
       omega (arith, m, n, r, s)
 
 -- a number holds nothing
-abbrev pub nothing : ℕ → List Holding
+abbrev pub nothing : ℕ → List OwnerOrCell
 nothing n = []
 
 -- one after another
-pub in-turn : (s0 s1 s2 : Seat) (o0 o1 o2 : Participant) (w0 w1 w2 : World ℕ) → Leaves s0 o0 w0 s1 o1 w1 → Leaves s1 o1 w1 s2 o2 w2 → Leaves s0 o0 w0 s2 o2 w2
+pub in-turn : (s0 s1 s2 : CallerId) (o0 o1 o2 : Participant) (w0 w1 w2 : World ℕ) → Leaves s0 o0 w0 s1 o1 w1 → Leaves s1 o1 w1 s2 o2 w2 → Leaves s0 o0 w0 s2 o2 w2
 in-turn s0 s1 s2 o0 o1 o2 w0 w1 w2 l m =
     record {
       seat = m.seat ∙ l.seat;
@@ -113,7 +113,7 @@ in-turn s0 s1 s2 o0 o1 o2 w0 w1 w2 l m =
     }
 
 -- a guard opened, what leaves all, and the guard closed
-pub under-guard : (s0 s1 s2 s3 : Seat) (o0 o1 o2 o3 : Participant) (w0 w1 w2 w3 : World ℕ) →
+pub under-guard : (s0 s1 s2 s3 : CallerId) (o0 o1 o2 o3 : Participant) (w0 w1 w2 w3 : World ℕ) →
     s1 ≡ s0 → IsOpened o0 o1 → (IsExact s0 → w1 ≡ opened nothing w0 s0.place) → Leaves s1 o1 w1 s2 o2 w2 →
     s3 ≡ s2 → IsClosed o2 o3 → (IsExact s2 → w3 ≡ closed w2 s2.place) → Leaves s0 o0 w0 s3 o3 w3
 under-guard s0 s1 s2 s3 o0 o1 o2 o3 w0 w1 w2 w3 first opening is_opened l last closing is_closed =
@@ -128,7 +128,7 @@ under-guard s0 s1 s2 s3 o0 o1 o2 o3 w0 w1 w2 w3 first opening is_opened l last c
     }
 
 -- an item made and retired
-pub item-leaves : (s0 s1 s2 : Seat) (o0 o1 o2 : Participant) (w0 w1 w2 : World ℕ) (k value : ℕ) →
+pub item-leaves : (s0 s1 s2 : CallerId) (o0 o1 o2 : Participant) (w0 w1 w2 : World ℕ) (k value : ℕ) →
     s1 ≡ s0 → o1 ≡ o0 → (IsExact s0 → IsEmptyAt w0.standings k × (w1 ≡ made w0 k value)) →
     s2 ≡ s1 → o2 ≡ awaiting (Item k) o1 → (IsExact s1 → w2 ≡ retired w1 s1.place k) → Leaves s0 o0 w0 s2 o2 w2
 item-leaves s0 s1 s2 o0 o1 o2 w0 w1 w2 k value first own is_made last own_after is_retired =
@@ -142,7 +142,7 @@ item-leaves s0 s1 s2 o0 o1 o2 w0 w1 w2 k value first own is_made last own_after 
     }
 
 -- two items made, and then retired
-pub two-leave : (s0 s1 s2 s3 s4 : Seat) (o0 o1 o2 o3 o4 : Participant) (w0 w1 w2 w3 w4 : World ℕ) (k j a b : ℕ) →
+pub two-leave : (s0 s1 s2 s3 s4 : CallerId) (o0 o1 o2 o3 o4 : Participant) (w0 w1 w2 w3 w4 : World ℕ) (k j a b : ℕ) →
     s1 ≡ s0 → o1 ≡ o0 → (IsExact s0 → IsEmptyAt w0.standings k × (w1 ≡ made w0 k a)) →
     s2 ≡ s1 → o2 ≡ o1 → (IsExact s1 → IsEmptyAt w1.standings j × (w2 ≡ made w1 j b)) →
     s3 ≡ s2 → o3 ≡ awaiting (Item k) o2 → (IsExact s2 → w3 ≡ retired w2 s2.place k) →
@@ -163,7 +163,7 @@ two-leave s0 s1 s2 s3 s4 o0 o1 o2 o3 o4 w0 w1 w2 w3 w4 k j a b e1 p1 m1 e2 p2 m2
     }
 
 -- an item made, what leaves all, and the item retired
-pub item-around : (s0 s1 s2 s3 : Seat) (o0 o1 o2 o3 : Participant) (w0 w1 w2 w3 : World ℕ) (k value : ℕ) →
+pub item-around : (s0 s1 s2 s3 : CallerId) (o0 o1 o2 o3 : Participant) (w0 w1 w2 w3 : World ℕ) (k value : ℕ) →
     s1 ≡ s0 → o1 ≡ o0 → (IsExact s0 → IsEmptyAt w0.standings k × (w1 ≡ made w0 k value)) → Leaves s1 o1 w1 s2 o2 w2 →
     s3 ≡ s2 → o3 ≡ awaiting (Item k) o2 → (IsExact s2 → standing_at w2 k ≡ Some Owned) → (IsExact s2 → w3 ≡ retired w2 s2.place k) →
     Leaves s0 o0 w0 s3 o3 w3

@@ -1,13 +1,13 @@
 //! The loops with cells, written once for every space.
 ghost use Rattle.std.specs.Prelude.{◌≡◌, ◌+◌, IfOk, MatchResult};
-ghost use Rattle.sdd_store.specs.Table.{without_entry};
-ghost use Rattle.sdd_base.specs.Guard.{reader_of};
-ghost use Rattle.sdd_base.specs.Out.{out};
-ghost use Rattle.sdd_base.specs.Owned.{cell_of, cells_home};
-ghost use Rattle.sdd_base.specs.Seat.{IsExact, IsSeated};
+ghost use Rattle.sdd_participants.specs.Slab.{without_entry};
+ghost use Rattle.sdd_space.specs.Guard.{reader_of};
+ghost use Rattle.sdd_space.specs.Out.{out};
+ghost use Rattle.sdd_space.specs.Owned.{cell_of, cells_home};
+ghost use Rattle.sdd_space.specs.CallerId.{IsExact, IsSeated};
 ghost use Rattle.sdd_bench.specs.Leaves.{IsFilled, Leaves};
 
-use sdd_base::{AtomicOwned, Cells, Guard, Guards, Items, Look, Owned, Space};
+use sdd_space::{AtomicOwned, Cells, Guard, Guards, Items, Look, Owned, Space};
 use sdd_core::{Refused, Tag};
 
 /// Opens a guard, puts two items into cells, loads from them that often, and gives all back.

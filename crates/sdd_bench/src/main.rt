@@ -12,9 +12,9 @@ mod turns;
 mod world;
 
 use operation::{Operation, named};
-use sdd_base::Limits;
+use sdd_space::Limits;
 use sdd_core::Refused;
-use sdd_store::Tally;
+use sdd_participants::Tally;
 use std::alloc::Global;
 use std::process::ExitCode;
 use std::rt::Env;

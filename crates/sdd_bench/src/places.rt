@@ -1,13 +1,13 @@
 //! A domain all of whose places are taken, and its close.
 ghost use Rattle.std.specs.Prelude.{◌≡◌, All};
 ghost use Rattle.sdd_domain.specs.Domain.{slots_in};
-ghost use Rattle.sdd_domain.specs.Receipt.{Receipt as Ended};
+ghost use Rattle.sdd_domain.specs.Receipt.{Receipt as EndedCounts};
 
 use crate::local::keep;
-use sdd_base::Limits;
+use sdd_space::Limits;
 use sdd_core::Refused;
 use sdd_domain::{Domain, Local, Receipt};
-use sdd_store::Tally;
+use sdd_participants::Tally;
 use std::alloc::Global;
 
 /// Makes and closes a domain that often, all of whose places were taken. The last tally, and how many participants registered.

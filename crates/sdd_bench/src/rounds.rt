@@ -1,8 +1,8 @@
 //! Rounds in which several participants work at once, each in a thread of its own.
 ghost use Rattle.std.specs.Prelude.{◌≡◌, All, IfOk};
-ghost use Rattle.sdd_base.specs.Seat.{IsSeated};
+ghost use Rattle.sdd_space.specs.CallerId.{IsSeated};
 ghost use Rattle.sdd_domain.specs.Domain.{slots_in};
-ghost use Rattle.sdd_domain.specs.Receipt.{Receipt as Ended};
+ghost use Rattle.sdd_domain.specs.Receipt.{Receipt as EndedCounts};
 ghost use Rattle.sdd_domain.specs.Space.{seat_of};
 
 use crate::local::worked;

@@ -1,13 +1,13 @@
 //! What participants in several threads take for what they do at once.
 ghost use Rattle.std.specs.Prelude.{◌≡◌, All, IfOk};
 ghost use Rattle.sdd_domain.specs.Domain.{slots_in};
-ghost use Rattle.sdd_domain.specs.Receipt.{Receipt as Ended};
+ghost use Rattle.sdd_domain.specs.Receipt.{Receipt as EndedCounts};
 ghost use Rattle.sdd_bench.specs.Names.{name_of_timed};
 
 use crate::operation::{Guarding, Task};
 use crate::rounds::{Course, Findings, Meeting, Trouble, takes_part};
 use crate::spans::{Span, Tenths, median_of};
-use sdd_base::Limits;
+use sdd_space::Limits;
 use sdd_core::Refused;
 use sdd_domain::Domain;
 use std::alloc::Global;

@@ -1,18 +1,18 @@
 //! The loops whose instructions are counted, written once for every space.
 ghost use Rattle.std.specs.Prelude.{◌≡◌, Some};
-ghost use Rattle.sdd_store.specs.declared.standing.Standing.TheVariants.{Shared as shared_by};
-ghost use Rattle.sdd_base.specs.Seat.{IsExact, IsSeated};
-ghost use Rattle.sdd_base.specs.Guard.{reader_of};
-ghost use Rattle.sdd_base.specs.World.{standing_at};
-ghost use Rattle.sdd_base.specs.Owned.{slot_of, slots_home};
-ghost use Rattle.sdd_base.specs.Shared as shared;
+ghost use Rattle.sdd_participants.specs.declared.standing.Standing.TheVariants.{Shared as shared_by};
+ghost use Rattle.sdd_space.specs.CallerId.{IsExact, IsSeated};
+ghost use Rattle.sdd_space.specs.Guard.{reader_of};
+ghost use Rattle.sdd_space.specs.World.{standing_at};
+ghost use Rattle.sdd_space.specs.Owned.{slot_of, slots_home};
+ghost use Rattle.sdd_space.specs.Shared as shared;
 ghost use Rattle.sdd_bench.specs.Leaves.{Leaves};
 
 use crate::operation::Guarding;
-use sdd_base::laws::comes_back;
-use sdd_base::{Deferrals, Guard, Guards, Items, Look, Owned, RawItems, Shared, SharedItems};
+use sdd_space::laws::comes_back;
+use sdd_space::{Deferrals, Guard, Guards, Items, Look, Owned, RawItems, Shared, SharedItems};
 use sdd_core::Refused;
-use sdd_store::Idle;
+use sdd_participants::Idle;
 
 /// Does something with guards that often.
 #[inline(always)]

@@ -1,17 +1,17 @@
 //! The operations in a world of one participant.
 ghost use Rattle.std.specs.Prelude.{◌≡◌, [], Err, IfOk};
-ghost use Rattle.sdd_base.specs.Limits.{AreInRange};
-ghost use Rattle.sdd_base.specs.Out.{out};
-ghost use Rattle.sdd_base.specs.Seat.{IsExact, IsSeated};
-ghost use Rattle.sdd_base.specs.Whole.{IsCounted};
-ghost use Rattle.sdd_base.specs.World.{IsGuarded};
+ghost use Rattle.sdd_space.specs.Limits.{AreInRange};
+ghost use Rattle.sdd_space.specs.Out.{out};
+ghost use Rattle.sdd_space.specs.CallerId.{IsExact, IsSeated};
+ghost use Rattle.sdd_space.specs.Whole.{IsCounted};
+ghost use Rattle.sdd_space.specs.World.{IsGuarded};
 ghost use Rattle.sdd_bench.specs.Leaves.{Leaves};
 
 use crate::operation::Guarding;
 use crate::{cells, turns};
-use sdd_base::{Limits, Space};
+use sdd_space::{Limits, Space};
 use sdd_core::Refused;
-use sdd_store::{Idle, Tally};
+use sdd_participants::{Idle, Tally};
 use sdd_world::World;
 use std::alloc::Global;
 

@@ -1,10 +1,10 @@
 -- The lines on cells
-use Rattle.sdd_desk.specs.declared.ownership.Ownership.TheVariants as ownership
-use Rattle.sdd_desk.specs.declared.ownership.Ownership.{Ownership}
-use Rattle.sdd_lines.specs.declared.name.OwnerName.{OwnerName}
+use Rattle.sdd_script_model.specs.declared.owner_kind.OwnerKind.TheVariants as ownership
+use Rattle.sdd_script_model.specs.declared.owner_kind.OwnerKind.{OwnerKind}
+use Rattle.sdd_script_text.specs.declared.name.OwnerName.{OwnerName}
 use Rattle.std.specs.Prelude.{Option}
-use Rattle.sdd_lines.specs.declared.call.Action.{Action}
-use Rattle.sdd_lines.specs.declared.call.Action.TheVariants as call
+use Rattle.sdd_script_text.specs.declared.call.Action.{Action}
+use Rattle.sdd_script_text.specs.declared.call.Action.TheVariants as call
 
 -- an action on a cell as a whole
 abbrev pub IsCellAct : Action → Type 0
@@ -26,6 +26,6 @@ IsHeldAct (call.Share cell guard) = Unit {0}
 IsHeldAct other = ⊥
 
 -- the line that makes a cell that holds owners of this kind
-abbrev pub making_cell : Ownership → Option OwnerName → Action
+abbrev pub making_cell : OwnerKind → Option OwnerName → Action
 making_cell ownership.Sole x = call.CellOwned x
 making_cell ownership.Shared x = call.CellShared x

@@ -1,30 +1,30 @@
 //! What participants do with cells.
-#![tactic(auto, using(sdd_hand::proofs::Taken::in_hand))]
+#![tactic(auto, using(sdd_script_names::proofs::Taken::in_hand))]
 
 ghost use Rattle.std.specs.Prelude.{◌≡◌, ◌<◌, MatchResult, Some};
-ghost use Rattle.sdd_store.specs.declared.standing.Cell.{Cell};
+ghost use Rattle.sdd_participants.specs.declared.standing.CellContents.{CellContents};
 ghost use Rattle.sdd_cell_acts.specs.Lines.{making_cell};
-ghost use Rattle.sdd_desk.specs.Script.{Acts};
+ghost use Rattle.sdd_script_model.specs.Script.{Acts};
 
 use sdd_core::{Refused, Tag};
-use sdd_desk::Ownership;
-use sdd_hand::Stage;
-use sdd_hand::items::date_if_waiting;
-use sdd_hand::owners::{fits, take_filling};
-use sdd_hand::participants::under;
-use sdd_lines::{Action, Call, CellName, GuardName, ItemName, OwnerName, PlaceName, Reply};
-use sdd_store::Cell;
-use sdd_turns::cells::{cell_around, cell_loaded, close_at, slot_in, tag_if, tag_of};
+use sdd_script_model::OwnerKind;
+use sdd_script_names::Interpreter;
+use sdd_script_names::items::date_if_waiting;
+use sdd_script_names::owners::{fits, take_filling};
+use sdd_script_names::participants::under;
+use sdd_script_text::{Action, Call, CellName, GuardName, ItemName, OwnerName, PlaceName, Reply};
+use sdd_participants::CellContents;
+use sdd_turn_commands::cells::{cell_around, cell_loaded, close_at, slot_in, tag_if, tag_of};
 use sdd_world::inner::has_no_cell;
 use std::alloc::AllocError;
 
 /// `P cell owned X`, `P cell shared X`: a cell for owners of that kind, with this one or none in it. `NoCell` is a reply, and then the owner keeps its
 /// name. Refused where memory for the cell's name is, and then nothing has changed.
 pub fn make_cell(
-    stage: &mut Stage,
+    stage: &mut Interpreter,
     name: PlaceName,
     owner: Option<OwnerName>,
-    ownership: Ownership,
+    ownership: OwnerKind,
 ) -> Result<Reply, AllocError>
     ensures acts { MatchResult result (λ reply. Acts stage.old (Call.At name (making_cell ownership owner)) reply stage.new) (λ _. stage.new ≡ stage.old) }
 {
@@ -46,7 +46,7 @@ pub fn make_cell(
 }
 
 /// `P load C G`: the item that a cell points to, or null, and its tag.
-pub fn load(stage: &mut Stage, name: PlaceName, cell: CellName, guard: GuardName) -> Reply
+pub fn load(stage: &mut Interpreter, name: PlaceName, cell: CellName, guard: GuardName) -> Reply
     ensures acts { Acts stage.old (Call.At name (Action.Load cell guard)) result stage.new }
 {
     let Some((attending, held)) = under(&stage.hand.places, &stage.hand.guards, name, guard) else {
@@ -65,7 +65,7 @@ pub fn load(stage: &mut Stage, name: PlaceName, cell: CellName, guard: GuardName
 }
 
 /// `P tag C`: the tag of a cell.
-pub fn tag(stage: &mut Stage, name: PlaceName, cell: CellName) -> Reply
+pub fn tag(stage: &mut Interpreter, name: PlaceName, cell: CellName) -> Reply
     ensures acts { Acts stage.old (Call.At name (Action.Tag cell)) result stage.new }
 {
     let Some(attending) = stage.hand.places.get(name.0) else {
@@ -79,7 +79,7 @@ pub fn tag(stage: &mut Stage, name: PlaceName, cell: CellName) -> Reply
 }
 
 /// `P tagif C T if T`: a cell has the first tag where it had the second, and whether it had is told.
-pub fn set_tag_if(stage: &mut Stage, name: PlaceName, cell: CellName, tag: Tag, was: Tag) -> Reply
+pub fn set_tag_if(stage: &mut Interpreter, name: PlaceName, cell: CellName, tag: Tag, was: Tag) -> Reply
     ensures acts { Acts stage.old (Call.At name (Action.TagIf cell tag was)) result stage.new }
 {
     let Some(attending) = stage.hand.places.get(name.0) else {
@@ -93,7 +93,7 @@ pub fn set_tag_if(stage: &mut Stage, name: PlaceName, cell: CellName, tag: Tag, 
 }
 
 /// `P close C`: the cell is closed, and the participant given what it held.
-pub fn close_cell(stage: &mut Stage, name: PlaceName, cell: CellName) -> Reply
+pub fn close_cell(stage: &mut Interpreter, name: PlaceName, cell: CellName) -> Reply
     ensures acts { Acts stage.old (Call.At name (Action.CloseCell cell)) result stage.new }
 {
     let Some(attending) = stage.hand.places.get(name.0) else {

@@ -1,25 +1,25 @@
 //! What participants do with the owners that cells hold.
-#![tactic(auto, using(sdd_hand::proofs::Taken::in_hand))]
+#![tactic(auto, using(sdd_script_names::proofs::Taken::in_hand))]
 
 ghost use Rattle.std.specs.Prelude.{◌≡◌, ◌<◌, None, Some, MatchResult};
-ghost use Rattle.sdd_store.specs.declared.standing.Cell.{Cell};
-ghost use Rattle.sdd_desk.specs.Script.{Acts};
+ghost use Rattle.sdd_participants.specs.declared.standing.CellContents.{CellContents};
+ghost use Rattle.sdd_script_model.specs.Script.{Acts};
 
 use sdd_core::{Refused, Tag};
-use sdd_hand::Stage;
-use sdd_hand::items::{item_seen, slot_compared};
-use sdd_hand::owners::{fits, give_filling, put_back, shared_cell_of, take_filling, told_back};
-use sdd_hand::participants::under;
-use sdd_lines::{Action, Call, CellName, GuardName, ItemName, OwnerName, PlaceName, Reply};
-use sdd_steps::holding::{ACell, AnOwner};
-use sdd_store::Cell;
-use sdd_turns::exchanges::{copy_held, exchange_at, share_held, swap_in, take_out};
+use sdd_script_names::Interpreter;
+use sdd_script_names::items::{item_seen, slot_compared};
+use sdd_script_names::owners::{fits, give_filling, put_back, shared_cell_of, take_filling, told_back};
+use sdd_script_names::participants::under;
+use sdd_script_text::{Action, Call, CellName, GuardName, ItemName, OwnerName, PlaceName, Reply};
+use sdd_space_commands::holding::{AnyCell, AnyOwner};
+use sdd_participants::CellContents;
+use sdd_turn_commands::exchanges::{copy_held, exchange_at, share_held, swap_in, take_out};
 use std::alloc::AllocError;
 
 /// `P swap C X T`: an owner, or none, goes into a cell with a tag, and what was there comes out. Refused where memory for a name is, and then nothing has
 /// changed.
 pub fn swap(
-    stage: &mut Stage,
+    stage: &mut Interpreter,
     name: PlaceName,
     cell: CellName,
     owner: Option<OwnerName>,
@@ -47,7 +47,7 @@ pub fn swap(
 /// `P cas C G was Y T now X T`: a swap, where the cell points to that, its tag counted; else what it points to is told. Refused where memory for a name
 /// is, and then nothing has changed.
 pub fn exchange(
-    stage: &mut Stage,
+    stage: &mut Interpreter,
     name: PlaceName,
     cell: CellName,
     guard: GuardName,
@@ -85,7 +85,7 @@ pub fn exchange(
     stage.hand.world.is_whole();
     let next = take_filling(&mut stage.hand.owners, holder.ownership(), owner);
     let place = &attending.place;
-    let compared = Cell {
+    let compared = CellContents {
         held: slot,
         tag: was,
     };
@@ -110,7 +110,7 @@ pub fn exchange(
 }
 
 /// `P into C`: the cell is spent, and the owner in it, if there is one, comes out. Refused where memory for its name is, and then nothing has changed.
-pub fn into_owner(stage: &mut Stage, name: PlaceName, cell: CellName) -> Result<Reply, AllocError>
+pub fn into_owner(stage: &mut Interpreter, name: PlaceName, cell: CellName) -> Result<Reply, AllocError>
     ensures acts { MatchResult result (λ reply. Acts stage.old (Call.At name (Action.Into cell)) reply stage.new) (λ _. stage.new ≡ stage.old) }
 {
     let Some(attending) = stage.hand.places.get(name.0) else {
@@ -132,7 +132,7 @@ pub fn into_owner(stage: &mut Stage, name: PlaceName, cell: CellName) -> Result<
 /// `P copy C G`: a cell with one owner more of what a cell of counted owners holds. `NoCell` and `TooManyOwners` are replies. Refused where memory for
 /// the name is, and then nothing has changed.
 pub fn copy(
-    stage: &mut Stage,
+    stage: &mut Interpreter,
     name: PlaceName,
     cell: CellName,
     guard: GuardName,
@@ -152,7 +152,7 @@ pub fn copy(
     };
     match copy_held(&mut stage.hand.world, &attending.place, &held.guard, holder) {
         Ok(other) => {
-            let name = stage.hand.cells.give(ACell::Share(other));
+            let name = stage.hand.cells.give(AnyCell::Share(other));
             Ok(Reply::Cell(CellName(name)))
         }
         Err(refused) => Ok(Reply::Refused(refused)),
@@ -162,7 +162,7 @@ pub fn copy(
 /// `P share C G`: one owner more of what a cell of counted owners holds, or none. `TooManyOwners` is a reply. Refused where memory for the name is, and
 /// then nothing has changed.
 pub fn share(
-    stage: &mut Stage,
+    stage: &mut Interpreter,
     name: PlaceName,
     cell: CellName,
     guard: GuardName,
@@ -179,7 +179,7 @@ pub fn share(
     stage.hand.world.is_whole();
     match share_held(&mut stage.hand.world, &attending.place, &held.guard, holder) {
         Ok(Some(owner)) => {
-            let name = stage.hand.owners.give(AnOwner::Share(owner));
+            let name = stage.hand.owners.give(AnyOwner::Share(owner));
             Ok(Reply::Owner(OwnerName(name)))
         }
         Ok(None) => Ok(Reply::Nothing),

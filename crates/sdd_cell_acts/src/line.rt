@@ -1,24 +1,24 @@
 //! The actions of this crate, and what each answers.
 ghost use Rattle.std.specs.Prelude.{◌≡◌, MatchOption, MatchResult};
-ghost use Rattle.sdd_desk.specs.Script.{Acts};
+ghost use Rattle.sdd_script_model.specs.Script.{Acts};
 ghost use Rattle.sdd_cell_acts.specs.Lines.{IsCellAct, IsHeldAct};
 
 use crate::{cells, exchanges};
 use sdd_core::Refused;
-use sdd_desk::Ownership;
-use sdd_hand::Stage;
-use sdd_lines::{Action, Call, PlaceName, Reply};
+use sdd_script_model::OwnerKind;
+use sdd_script_names::Interpreter;
+use sdd_script_text::{Action, Call, PlaceName, Reply};
 
 /// An action on a cell as a whole. None where the action is another.
-pub fn act(stage: &mut Stage, name: PlaceName, action: Action) -> Result<Option<Reply>, Refused>
+pub fn act(stage: &mut Interpreter, name: PlaceName, action: Action) -> Result<Option<Reply>, Refused>
     ensures acts { MatchResult result
         (λ o. MatchOption o (¬ (IsCellAct action) × (stage.new ≡ stage.old))
         (λ reply. IsCellAct action × Acts stage.old (Call.At name action) reply stage.new))
         (λ refused. (refused ≡ Refused.NoMemory) × (stage.new ≡ stage.old)) }
 {
     Ok(Some(match action {
-        Action::CellOwned(owner) => cells::make_cell(stage, name, owner, Ownership::Sole)?,
-        Action::CellShared(owner) => cells::make_cell(stage, name, owner, Ownership::Shared)?,
+        Action::CellOwned(owner) => cells::make_cell(stage, name, owner, OwnerKind::Sole)?,
+        Action::CellShared(owner) => cells::make_cell(stage, name, owner, OwnerKind::Shared)?,
         Action::Load(cell, guard) => cells::load(stage, name, cell, guard),
         Action::Tag(cell) => cells::tag(stage, name, cell),
         Action::TagIf(cell, tag, was) => cells::set_tag_if(stage, name, cell, tag, was),
@@ -29,7 +29,7 @@ pub fn act(stage: &mut Stage, name: PlaceName, action: Action) -> Result<Option<
 
 /// An action on the owner that a cell holds. None where the action is another.
 pub fn act_on_held(
-    stage: &mut Stage,
+    stage: &mut Interpreter,
     name: PlaceName,
     action: Action,
 ) -> Result<Option<Reply>, Refused>

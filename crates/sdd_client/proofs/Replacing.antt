@@ -4,13 +4,13 @@ use Rattle.sdd_core.specs.declared.tag.Tag.{Tag}
 use Rattle.std.specs.Prelude.{is_some}
 use Rattle.std.proofs.lemmas.List.{get_or-set_same, get_or-set_other}
 use Rattle.sdd_core.specs.declared.tag.Tag.TheVariants.{None as no_tag}
-use Rattle.sdd_store.specs.Table.{IsEmptyAt, entry_at}
-use Rattle.sdd_store.specs.declared.standing.Standing.TheVariants.{Shared, Retired}
+use Rattle.sdd_participants.specs.Slab.{IsEmptyAt, entry_at}
+use Rattle.sdd_participants.specs.declared.standing.Standing.TheVariants.{Shared, Retired}
 use Rattle.sdd_standings.specs.Slots.{IsSharedBy}
-use Rattle.sdd_slots.proofs.SlotsKept.{inside-some}
-use Rattle.sdd_base.specs.World.{World, standing_at, value_at}
-use Rattle.sdd_base.specs.Steps.{held_in, made_shared, owner_given, with_cell}
-use Rattle.sdd_base.proofs.Standings.{owner-given}
+use Rattle.sdd_world_slots.proofs.SlotsKept.{inside-some}
+use Rattle.sdd_space.specs.World.{World, standing_at, value_at}
+use Rattle.sdd_space.specs.Steps.{held_in, made_shared, owner_given, with_cell}
+use Rattle.sdd_space.proofs.Standings.{owner-given}
 use Rattle.sdd_client.specs.Config.{IsSetTo, replaced}
 
 module _ {T : Type 0} (w : World T) (p cell slot owners next : ℕ) (old value : T) (set : IsSetTo w cell slot owners old)

@@ -1,12 +1,12 @@
 -- What a configuration is set to, and what its replacement makes of a world
 use Rattle.std.specs.Prelude.{ℕ, ◌≡◌, Some}
 use Rattle.sdd_core.specs.declared.tag.Tag.TheVariants.{None as no_tag}
-use Rattle.sdd_token.specs.Units.{Home}
-use Rattle.sdd_store.specs.Table.{entry_at}
-use Rattle.sdd_store.specs.declared.standing.Standing.TheVariants.{Shared}
-use Rattle.sdd_base.specs.World.{World, standing_at, value_at}
-use Rattle.sdd_base.specs.Steps.{made_shared, owner_given, with_cell}
-use Rattle.sdd_base.specs.Shared as shared
+use Rattle.sdd_rights.specs.Units.{GhostName}
+use Rattle.sdd_participants.specs.Slab.{entry_at}
+use Rattle.sdd_participants.specs.declared.standing.Standing.TheVariants.{Shared}
+use Rattle.sdd_space.specs.World.{World, standing_at, value_at}
+use Rattle.sdd_space.specs.Steps.{made_shared, owner_given, with_cell}
+use Rattle.sdd_space.specs.Shared as shared
 use Rattle.sdd_client.specs.declared.config.Config.{Config}
 
 module _ {T : Type 0} where
@@ -14,7 +14,7 @@ module _ {T : Type 0} where
   abbrev pub cell_of : Config T → ℕ
   cell_of c = shared.cell_of c.cell
 
-  abbrev pub cells_home : Config T → Home
+  abbrev pub cells_home : Config T → GhostName
   cells_home c = shared.cells_home c.cell
 
   -- the cell holds one of so many owners of the item in a slot, which shows this value

@@ -1,17 +1,17 @@
 //! A configuration that many read and few replace.
 ghost use Rattle.std.specs.Prelude.{ℕ, ◌≡◌, IfOk, MatchResult, Some, option_copied};
-ghost use Rattle.sdd_store.specs.Table.{IsEmptyAt, IsFull};
-ghost use Rattle.sdd_base.specs.Guard.{reader_of};
-ghost use Rattle.sdd_base.specs.Holding.{AreOf};
-ghost use Rattle.sdd_base.specs.Ptr.{KeepsShown};
-ghost use Rattle.sdd_base.specs.Seat.{IsExact, IsSeated, reader_at};
-ghost use Rattle.sdd_base.specs.Steps.{cell_closed};
-ghost use Rattle.sdd_base.specs.World.{World, IsPlaceOf};
+ghost use Rattle.sdd_participants.specs.Slab.{IsEmptyAt, IsFull};
+ghost use Rattle.sdd_space.specs.Guard.{reader_of};
+ghost use Rattle.sdd_space.specs.OwnerOrCell.{AreOf};
+ghost use Rattle.sdd_space.specs.Ptr.{KeepsShown};
+ghost use Rattle.sdd_space.specs.CallerId.{IsExact, IsSeated, reader_at};
+ghost use Rattle.sdd_space.specs.Steps.{cell_closed};
+ghost use Rattle.sdd_space.specs.World.{World, IsPlaceOf};
 ghost use Rattle.sdd_world.specs.Place.{index_of};
 ghost use Rattle.sdd_client.specs.Config.{IsSetTo, cell_of, cells_home, replaced};
 
-use sdd_base::laws::shared_is_shown;
-use sdd_base::{AtomicShared, Cells, Guard, Item, Items, Look, Shared};
+use sdd_space::laws::shared_is_shown;
+use sdd_space::{AtomicShared, Cells, Guard, Item, Items, Look, Shared};
 use sdd_core::{Refused, Tag};
 use sdd_world::{Place, World};
 

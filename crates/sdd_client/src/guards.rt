@@ -1,21 +1,21 @@
 //! Guards in a world, and what can be known under them.
 ghost use Rattle.std.specs.Prelude.{◌≡◌, IsTrue, Some, ℕ, ◌+◌, ◌^◌, ◌<◌, ◌≤◌, None};
-ghost use Rattle.sdd_base.specs.World.{World, IsGuarded, IsPlaceOf, place_at, standing_at, value_at};
-ghost use Rattle.sdd_base.specs.Out.{out};
-ghost use Rattle.sdd_base.specs.Left.{Waits, accelerated_guard, four_guards};
-ghost use Rattle.sdd_base.specs.Passing.{Passes};
-ghost use Rattle.sdd_base.specs.Whole.{IsCounted, taken};
-ghost use Rattle.sdd_base.specs.Left.{left};
-ghost use Rattle.sdd_base.specs.Adopting.{AdoptsWhatIsLeft};
-ghost use Rattle.sdd_base.specs.Under.{CallsUnder};
-ghost use Rattle.sdd_base.specs.Owned.{slot_of, slots_home};
-ghost use Rattle.sdd_base.specs.Seat.{IsSeated, IsExact, MayNest};
-ghost use Rattle.sdd_store.specs.Time.{is_open};
+ghost use Rattle.sdd_space.specs.World.{World, IsGuarded, IsPlaceOf, place_at, standing_at, value_at};
+ghost use Rattle.sdd_space.specs.Out.{out};
+ghost use Rattle.sdd_space.specs.Left.{Waits, accelerated_guard, four_guards};
+ghost use Rattle.sdd_space.specs.Passing.{Passes};
+ghost use Rattle.sdd_space.specs.Whole.{IsCounted, taken};
+ghost use Rattle.sdd_space.specs.Left.{left};
+ghost use Rattle.sdd_space.specs.Adopting.{AdoptsWhatIsLeft};
+ghost use Rattle.sdd_space.specs.Under.{CallsUnder};
+ghost use Rattle.sdd_space.specs.Owned.{slot_of, slots_home};
+ghost use Rattle.sdd_space.specs.CallerId.{IsSeated, IsExact, MayNest};
+ghost use Rattle.sdd_participants.specs.EpochState.{is_open};
 ghost use Rattle.sdd_world.specs.Place.{index_of};
 
-use sdd_base::laws::epoch_moves_by_one;
-use sdd_base::{Guard, Guards, Item, Owned};
-use sdd_store::{Idle, Standing};
+use sdd_space::laws::epoch_moves_by_one;
+use sdd_space::{Guard, Guards, Item, Owned};
+use sdd_participants::{Idle, Standing};
 use sdd_world::{Place, World};
 
 /// Opens a guard, accelerates it and closes it.

@@ -1,14 +1,14 @@
 //! Items in any space.
 ghost use Rattle.std.specs.Prelude.{◌≡◌, ℕ, IfOk, MatchResult, Some};
-ghost use Rattle.sdd_store.specs.Table.{IsEmptyAt, IsFull};
-ghost use Rattle.sdd_base.specs.Seat.{IsSeated, IsExact};
-ghost use Rattle.sdd_base.specs.Steps.{made, retired};
-ghost use Rattle.sdd_base.specs.World.{place_at, value_at};
-ghost use Rattle.sdd_base.specs.Owned.{slot_of, slots_home};
-ghost use Rattle.sdd_store.specs.Time.{has_garbage};
+ghost use Rattle.sdd_participants.specs.Slab.{IsEmptyAt, IsFull};
+ghost use Rattle.sdd_space.specs.CallerId.{IsSeated, IsExact};
+ghost use Rattle.sdd_space.specs.Steps.{made, retired};
+ghost use Rattle.sdd_space.specs.World.{place_at, value_at};
+ghost use Rattle.sdd_space.specs.Owned.{slot_of, slots_home};
+ghost use Rattle.sdd_participants.specs.EpochState.{has_garbage};
 
-use sdd_base::laws::{comes_back, owned_is_shown};
-use sdd_base::{Guard, Guards, Items, Look, Owned, RawItems};
+use sdd_space::laws::{comes_back, owned_is_shown};
+use sdd_space::{Guard, Guards, Items, Look, Owned, RawItems};
 use sdd_core::Refused;
 
 /// Makes an item, reads it and retires it; answers what was read, which is what was put in.

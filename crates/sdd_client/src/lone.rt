@@ -1,18 +1,18 @@
 //! The only participant of a domain is answered as a participant of a world is: one function does for both.
 ghost use Rattle.std.specs.Prelude.{◌≡◌, ◌⊎◌, ◌+◌, ◌^◌, ◌<◌, ◌≤◌, ℕ, MatchResult, None};
-ghost use Rattle.sdd_store.specs.Table.{IsEmptyAt, IsFull};
-ghost use Rattle.sdd_base.specs.Left.{Waits, accelerated_guard, four_guards};
-ghost use Rattle.sdd_base.specs.Seat.{IsSeated, IsExact};
-ghost use Rattle.sdd_base.specs.Steps.{made, retired};
-ghost use Rattle.sdd_base.specs.World.{World, IsPlaceOf, standing_at};
+ghost use Rattle.sdd_participants.specs.Slab.{IsEmptyAt, IsFull};
+ghost use Rattle.sdd_space.specs.Left.{Waits, accelerated_guard, four_guards};
+ghost use Rattle.sdd_space.specs.CallerId.{IsSeated, IsExact};
+ghost use Rattle.sdd_space.specs.Steps.{made, retired};
+ghost use Rattle.sdd_space.specs.World.{World, IsPlaceOf, standing_at};
 ghost use Rattle.sdd_world.specs.Place.{index_of};
 ghost use Rattle.sdd_domain.specs.Domain.{limits_of};
 ghost use Rattle.sdd_domain.specs.Local.{world_of};
-ghost use Rattle.sdd_domain.specs.Member.{IsLone};
+ghost use Rattle.sdd_domain.specs.LocalState.{IsLone};
 ghost use Rattle.sdd_domain.specs.Space.{seat_of};
 
 use crate::guards::accelerated;
-use sdd_base::{Guard, Item, Items, Owned};
+use sdd_space::{Guard, Item, Items, Owned};
 use sdd_core::Refused;
 use sdd_domain::{Domain, Local};
 use sdd_world::{Place, World};

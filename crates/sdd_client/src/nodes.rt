@@ -1,10 +1,10 @@
 //! Items that hold a cell with the owner of the next one.
 ghost use Rattle.std.specs.Prelude.{ℕ, ◌≡◌, IfSome, Some, option_copied};
-ghost use Rattle.sdd_base.specs.Guard.{reader_of};
-ghost use Rattle.sdd_base.specs.Ptr.{KeepsShown};
-ghost use Rattle.sdd_base.specs.Seat.{IsExact, IsSeated};
+ghost use Rattle.sdd_space.specs.Guard.{reader_of};
+ghost use Rattle.sdd_space.specs.Ptr.{KeepsShown};
+ghost use Rattle.sdd_space.specs.CallerId.{IsExact, IsSeated};
 
-use sdd_base::{AtomicShared, Cells, Giver, Guard, Item, Look};
+use sdd_space::{AtomicShared, Cells, Giver, Guard, Item, Look};
 
 /// A value, and a cell with the owner of the next node, or with nothing.
 pub struct Node {

@@ -1,12 +1,12 @@
 //! Owners look at their items without a guard: over a turn at a world, and over a participant of a domain.
 ghost use Rattle.std.specs.Prelude.{◌≡◌, ◌⊎◌, IfErr, IfOk};
-ghost use Rattle.sdd_base.specs.Owned.{slots_home};
-ghost use Rattle.sdd_base.specs.Seat.{IsSeated};
-ghost use Rattle.sdd_base.specs.World.{World, IsPlaceOf};
+ghost use Rattle.sdd_space.specs.Owned.{slots_home};
+ghost use Rattle.sdd_space.specs.CallerId.{IsSeated};
+ghost use Rattle.sdd_space.specs.World.{World, IsPlaceOf};
 ghost use Rattle.sdd_world.specs.Place.{index_of};
 ghost use Rattle.sdd_domain.specs.Space.{seat_of};
 
-use sdd_base::{Items, Look, Owned};
+use sdd_space::{Items, Look, Owned};
 use sdd_core::Refused;
 use sdd_domain::Local;
 use sdd_world::{Place, World};

@@ -1,21 +1,21 @@
 //! Whole programs: from a new world to its end.
 ghost use Rattle.std.specs.Prelude.{◌≡◌, ℕ, ◌+◌, ◌^◌, ◌<◌, ◌≤◌, MatchResult, length};
-ghost use Rattle.sdd_store.specs.Table.{IsEmptyAt};
-ghost use Rattle.sdd_store.specs.Tally.{no_items};
-ghost use Rattle.sdd_base.specs.Limits.{AreInRange};
-ghost use Rattle.sdd_base.specs.World.{World, IsGuarded, IsPlaceOf};
-ghost use Rattle.sdd_base.specs.Whole.{taken};
-ghost use Rattle.sdd_base.specs.Out.{out, HoldsNothing};
-ghost use Rattle.sdd_base.specs.Steps.{made, retired};
+ghost use Rattle.sdd_participants.specs.Slab.{IsEmptyAt};
+ghost use Rattle.sdd_participants.specs.Tally.{no_items};
+ghost use Rattle.sdd_space.specs.Limits.{AreInRange};
+ghost use Rattle.sdd_space.specs.World.{World, IsGuarded, IsPlaceOf};
+ghost use Rattle.sdd_space.specs.Whole.{taken};
+ghost use Rattle.sdd_space.specs.Out.{out, HoldsNothing};
+ghost use Rattle.sdd_space.specs.Steps.{made, retired};
 ghost use Rattle.sdd_world.specs.Closing.{Accounts};
 ghost use Rattle.sdd_world.specs.Place.{index_of};
-ghost use Rattle.sdd_base.specs.Passing.{HavePassed};
+ghost use Rattle.sdd_space.specs.Passing.{HavePassed};
 
 use crate::guards::four_guards;
 use crate::items::made_and_read;
-use sdd_base::{Item, Limits, Owned};
+use sdd_space::{Item, Limits, Owned};
 use sdd_core::Refused;
-use sdd_store::Tally;
+use sdd_participants::Tally;
 use sdd_world::{Place, World};
 use std::alloc::Global;
 

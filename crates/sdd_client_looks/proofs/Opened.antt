@@ -2,10 +2,10 @@
 use Rattle.std.proofs.Common.{◌≡◌, ℕ, ◌+◌, List, [], ◌∷◌, Bool, true, false, IsTrue, nat_lt, refl, ap, ◌∙◌, arith}
 use Rattle.std.specs.Prelude.{◌==◌, if◌then◌else◌}
 use Rattle.std.proofs.lemmas.Bool.Decides.{nat_tests}
-use Rattle.sdd_store.specs.declared.time.Participant.{Participant}
-use Rattle.sdd_store.specs.declared.waiting.What.TheVariants.{Item}
-use Rattle.sdd_store.specs.Time.{is_open, nested, rotated, awaiting}
-use Rattle.sdd_base.specs.Own.{IsOpened, all_awaiting, changed_at}
+use Rattle.sdd_participants.specs.declared.epoch_state.Participant.{Participant}
+use Rattle.sdd_participants.specs.declared.waiting.LimboEntry.TheVariants.{Item}
+use Rattle.sdd_participants.specs.EpochState.{is_open, nested, rotated, awaiting}
+use Rattle.sdd_space.specs.Own.{IsOpened, all_awaiting, changed_at}
 
 guards-stay : (slots : List ℕ) (p : Participant) → (all_awaiting slots p).guards ≡ p.guards
 guards-stay [] p = refl

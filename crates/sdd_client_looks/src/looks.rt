@@ -1,15 +1,15 @@
 //! Looks through a pointer while others go on.
 ghost use Rattle.std.specs.Prelude.{◌≡◌, ◌≢◌, [], IfErr, IfOk, IsSome, IsTrue, MatchResult, Some};
-ghost use Rattle.sdd_store.specs.Time.{CanNest, is_open};
-ghost use Rattle.sdd_base.specs.Guard.{reader_of};
-ghost use Rattle.sdd_base.specs.Holding.{AreOf};
-ghost use Rattle.sdd_base.specs.Owned.{slot_of, slots_home};
-ghost use Rattle.sdd_base.specs.Seat.{IsSeated};
-ghost use Rattle.sdd_base.specs.Steps.{opened};
-ghost use Rattle.sdd_base.specs.World.{World, IsPlaceOf, value_at};
+ghost use Rattle.sdd_participants.specs.EpochState.{CanNest, is_open};
+ghost use Rattle.sdd_space.specs.Guard.{reader_of};
+ghost use Rattle.sdd_space.specs.OwnerOrCell.{AreOf};
+ghost use Rattle.sdd_space.specs.Owned.{slot_of, slots_home};
+ghost use Rattle.sdd_space.specs.CallerId.{IsSeated};
+ghost use Rattle.sdd_space.specs.Steps.{opened};
+ghost use Rattle.sdd_space.specs.World.{World, IsPlaceOf, value_at};
 ghost use Rattle.sdd_world.specs.Place.{index_of};
 
-use sdd_base::{Guard, Guards, Item, Items, Look, Owned};
+use sdd_space::{Guard, Guards, Item, Items, Look, Owned};
 use sdd_core::Refused;
 use sdd_world::{Place, World};
 

@@ -2,7 +2,7 @@
 use Rattle.std.specs.Prelude.{ℕ, Bool, true, false, List, Option, Some, None, codes}
 use Rattle.std.specs.declared.io.ErrorKind.{ErrorKind}
 use Rattle.std.specs.declared.io.ErrorKind.TheVariants.{InvalidData}
-use Rattle.sdd_lines.specs.declared.ended.Ended.TheVariants.{Played, NotACall, NotAStep, LimitsOutOfRange, CannotRead, CannotWrite, NoMemory}
+use Rattle.sdd_script_text.specs.declared.ended.Ended.TheVariants.{Played, NotACall, NotAStep, LimitsOutOfRange, CannotRead, CannotWrite, NoMemory}
 use Rattle.sdd_command.specs.declared.outcome.Outcome.{Outcome}
 use Rattle.sdd_command.specs.declared.outcome.Outcome.TheVariants.{Usage, Play}
 

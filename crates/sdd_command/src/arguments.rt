@@ -1,10 +1,10 @@
 //! What the program's arguments ask for.
 ghost use Rattle.std.specs.Prelude.{◌↔◌, IsTrue, drop, map, MatchOption, string_bytes};
-ghost use Rattle.sdd_base.specs.declared.limits.Limits.{Limits};
+ghost use Rattle.sdd_space.specs.declared.limits.Limits.{Limits};
 ghost use Rattle.sdd_command.specs.Choice.{AreLimits, AreSteps, Chooses};
 
-use sdd_base::Limits;
-use sdd_lines::inner::number;
+use sdd_space::Limits;
+use sdd_script_text::inner::number;
 
 /// What the arguments ask for.
 #[derive(Clone, Copy, Debug, PartialEq, Eq)]

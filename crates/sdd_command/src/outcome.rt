@@ -3,7 +3,7 @@ ghost use Rattle.std.specs.Prelude.{◌≡◌};
 ghost use Rattle.std.specs.Option.{option_map};
 ghost use Rattle.sdd_command.specs.Outcome.{line_of, failure_of, status_of, after_printing_of, without_arguments_of};
 
-use sdd_lines::Ended;
+use sdd_script_text::Ended;
 use std::io::ErrorKind;
 
 /// What the program came to.

@@ -1,27 +1,27 @@
 -- What the calls of a lone participant do to its world
 use Rattle.std.proofs.Common.{◌≡◌, ℕ, suc, false, List, [], ◌∷◌, Some, None, get_or, replicate, slice_index_or, sym, ◌∙◌}
 use Rattle.std.specs.Prelude.{Option}
-use Rattle.sdd_store.specs.declared.time.Participant.{Participant}
-use Rattle.sdd_store.specs.declared.phases.Phase.TheVariants.{Live}
-use Rattle.sdd_store.specs.declared.standing.Standing.{Standing}
-use Rattle.sdd_store.specs.declared.tally.Tally.{Tally}
-use Rattle.sdd_rule.specs.SlotSteps.{behind}
-use Rattle.sdd_homes.specs.Fillings.{newest}
+use Rattle.sdd_participants.specs.declared.epoch_state.Participant.{Participant}
+use Rattle.sdd_participants.specs.declared.place_states.PlaceState.TheVariants.{Live}
+use Rattle.sdd_participants.specs.declared.standing.Standing.{Standing}
+use Rattle.sdd_participants.specs.declared.tally.Tally.{Tally}
+use Rattle.sdd_word_invariant.specs.SlotSteps.{behind}
+use Rattle.sdd_domain_invariant.specs.Fillings.{newest}
 use Rattle.sdd_standings.specs.Cells.{null_pointer}
-use Rattle.sdd_base.specs.World.{World}
+use Rattle.sdd_space.specs.World.{World}
 use Rattle.sdd_domain.specs.Homes.{home_in}
-use Rattle.sdd_domain.specs.Local.{Partaker, listing, standing_by, value_by, world_of}
+use Rattle.sdd_domain.specs.Local.{LocalModel, listing, standing_by, value_by, world_of}
 
 -- ---- a world of one participant
 module _ {T : Type 0} where
-  abbrev pub standing_with : Partaker T → List ℕ → ℕ → Option Standing
+  abbrev pub standing_with : LocalModel T → List ℕ → ℕ → Option Standing
   standing_with p ws i = standing_by (get_or ws (behind p.member.sizes i) 0) (newest i p.member.filled)
 
-  abbrev pub value_with : Partaker T → List ℕ → ℕ → Option T
+  abbrev pub value_with : LocalModel T → List ℕ → ℕ → Option T
   value_with p ws i = value_by (get_or ws (behind p.member.sizes i) 0) (slice_index_or p.entries i None)
 
   -- that of this one, where it keeps so much of its own, and knows these words
-  abbrev pub alone_with : Partaker T → Participant → List ℕ → Tally → World T
+  abbrev pub alone_with : LocalModel T → Participant → List ℕ → Tally → World T
   alone_with p own ws tally = record {
     home = home_in p.member;
     time = record {
@@ -41,10 +41,10 @@ module _ {T : Type 0} where
     tally = tally;
   }
 
-  abbrev pub alone : Partaker T → World T
+  abbrev pub alone : LocalModel T → World T
   alone p = alone_with p p.member.own p.member.words p.member.tally
 
-  pub alone_is : (p : Partaker T) → p.member.place ≡ 0 → world_of p ≡ alone p
+  pub alone_is : (p : LocalModel T) → p.member.place ≡ 0 → world_of p ≡ alone p
   alone_is p first = λ d. record (world_of p) {
     time = record (world_of p).time {
       places = replicate (suc (first d)) p.member.own;
@@ -53,6 +53,6 @@ module _ {T : Type 0} where
   }
 
   -- a step of the first place is one of the participant's own
-  pub steps_alone : (step : World T → ℕ → World T) (p q : Partaker T) → p.member.place ≡ 0 → q.member.place ≡ 0 → alone q ≡ step (alone p) 0
+  pub steps_alone : (step : World T → ℕ → World T) (p q : LocalModel T) → p.member.place ≡ 0 → q.member.place ≡ 0 → alone q ≡ step (alone p) 0
       → world_of q ≡ step (world_of p) p.member.place
   steps_alone step p q first still same = alone_is q still ∙ (same ∙ (λ d. step (sym (alone_is p first) d) (sym first d)))

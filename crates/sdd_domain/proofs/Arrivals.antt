@@ -4,22 +4,22 @@ use mathlib.Core.Bool.{Bool}
 use mathlib.Core.Logic.{dite}
 use native.Mathlib.Decide.{ℕ_discrete}
 use Rattle.atomic_table.specs.declared.shared.Seat.{Seat}
-use Rattle.sdd_store.specs.declared.time.Participant.{Participant}
-use Rattle.sdd_store.specs.Waiting.{Waiting, aged, due, left}
-use Rattle.sdd_store.specs.Time.{nested, rotated, settled, due_next}
-use Rattle.sdd_stakes.specs.declared.stake.Stake.{Stake}
+use Rattle.sdd_participants.specs.declared.epoch_state.Participant.{Participant}
+use Rattle.sdd_participants.specs.Waiting.{Waiting, aged, due, left}
+use Rattle.sdd_participants.specs.EpochState.{nested, rotated, settled, due_next}
+use Rattle.sdd_shared_values.specs.declared.value_fraction.ValueFraction.{ValueFraction}
 use Rattle.sdd_views.specs.declared.EpochView.{EpochView}
 use Rattle.sdd_views.specs.declared.SlotsView.{SlotsView}
 use Rattle.sdd_views.specs.declared.WaitingItem.{WaitingItem}
 use Rattle.sdd_views.specs.declared.View.{View}
-use Rattle.sdd_rule.specs.Epoch.{IsLone}
-use Rattle.sdd_rule.specs.Steps.{knowing, counted, published, Reads, Counts}
-use Rattle.sdd_rule.specs.Sums.{total}
-use Rattle.sdd_rule.specs.Slots.{waits_in}
-use Rattle.sdd_rule.specs.SlotSteps.{older, changed}
-use Rattle.sdd_rule.proofs.Sums.{total_map}
-use Rattle.sdd_board.specs.declared.board.Board.{Board}
-use Rattle.sdd_board.specs.Token.{view, epoch, slots, Stepped, HasPublished}
+use Rattle.sdd_word_invariant.specs.Epoch.{IsLone}
+use Rattle.sdd_word_invariant.specs.Steps.{knowing, counted, published, Reads, Counts}
+use Rattle.sdd_word_invariant.specs.Sums.{total}
+use Rattle.sdd_word_invariant.specs.Slots.{waits_in}
+use Rattle.sdd_word_invariant.specs.SlotSteps.{older, changed}
+use Rattle.sdd_word_invariant.proofs.Sums.{total_map}
+use Rattle.sdd_atomics.specs.declared.domain_table.DomainTable.{DomainTable}
+use Rattle.sdd_atomics.specs.DomainSeat.{view, epoch, slots, Stepped, HasPublished}
 use Rattle.sdd_domain.specs.Waits.{what_of, waiting_of, ripe, unripe, aged_at, due_at, arrived_at, Arrives, HasArrived}
 use Rattle.sdd_domain.specs.Posed.{IsPosed}
 use Rattle.sdd_domain.proofs.Reclaims.{aged_alike, left_alike, due_alike, all_left}
@@ -89,9 +89,9 @@ module _ (count : ℕ) (own : Participant) where
       (λ ne. due_moved ne ∙ (ap (λ (ws : List Waiting). due (aged ws)) (bags ∙ ap (map waiting_of) all)
       ∙ (ap due (aged_alike xs) ∙ (due_alike (map older xs) ∙ sym (ap (λ (l : List WaitingItem). map what_of (ripe l)) (aged_moved xs ne))))))
 
-module _ (b : Board) (p : ℕ) (own : Participant) (count : ℕ) where
+module _ (b : DomainTable) (p : ℕ) (own : Participant) (count : ℕ) where
   -- the same count is found again
-  pub arrived_same : (s t u : Seat Stake View) → IsPosed b p own s → own.guards ≡ 0 → Stepped Reads s count t → own.found ≡ count → HasPublished t u
+  pub arrived_same : (s t u : Seat ValueFraction View) → IsPosed b p own s → own.guards ≡ 0 → Stepped Reads s count t → own.found ≡ count → HasPublished t u
       → IsPosed b p (nested own) u × Arrives count own s u
   arrived_same s t u q shut read same pub_ =
       let g : ℕ = pub_.4.0 in let e : EpochView = epoch s in
@@ -122,7 +122,7 @@ module _ (b : Board) (p : ℕ) (own : Participant) (count : ℕ) where
         },
       )
 
-  module _ (s t u w : Seat Stake View) (q : IsPosed b p own s) (read : Stepped Reads s count t) (apart : own.found ≢ count)
+  module _ (s t u w : Seat ValueFraction View) (q : IsPosed b p own s) (read : Stepped Reads s count t) (apart : own.found ≢ count)
       (write : Stepped Counts t count u) (pub_ : HasPublished u w) where
     known_now : epoch u ≡ counted (knowing (epoch s) count) count
     known_now = write.1 ∙ ap (λ (x : EpochView). counted x count) read.1.0
@@ -168,7 +168,7 @@ module _ (b : Board) (p : ℕ) (own : Participant) (count : ℕ) where
         )
 
 -- a participant is posed still once it is decided that nothing waits
-pub posed_settled : (b : Board) (p : ℕ) (own : Participant) (token : Seat Stake View) → own.bags.waiting ≡ [] → IsPosed b p own token → IsPosed b p (settled own) token
+pub posed_settled : (b : DomainTable) (p : ℕ) (own : Participant) (token : Seat ValueFraction View) → own.bags.waiting ≡ [] → IsPosed b p own token → IsPosed b p (settled own) token
 posed_settled b p own token none q = let paced : (settled own).countdown ≡ 128 = ap (λ (ws : List Waiting). elim ws [ [] ↦ 128 | x ∷ xs ↦ 127 ]) none in record {
   home = q.home;
   purse = q.purse;

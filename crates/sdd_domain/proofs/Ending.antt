@@ -1,12 +1,12 @@
 -- The number of homes, and what lies in slots once all are free.
 use Rattle.std.proofs.Common.{◌≡◌, ℕ, zero, suc, ◌+◌, ◌*◌, ◌<◌, List, slice_index, refl, ap, arith}
 use Rattle.sdd_views.specs.declared.Sizes.{Sizes}
-use Rattle.sdd_rule.specs.Codes.{full}
-use Rattle.sdd_rule.specs.Sums.{span}
-use Rattle.sdd_rule.specs.Words.{first_slot}
-use Rattle.sdd_rule.specs.Slots.{slot_at}
-use Rattle.sdd_homes.specs.Counts.{full_slots}
-use Rattle.sdd_homes.specs.Homes.{homes_for}
+use Rattle.sdd_word_invariant.specs.Codes.{full}
+use Rattle.sdd_word_invariant.specs.Sums.{span}
+use Rattle.sdd_word_invariant.specs.Words.{first_slot}
+use Rattle.sdd_word_invariant.specs.Slots.{slot_at}
+use Rattle.sdd_domain_invariant.specs.Counts.{full_slots}
+use Rattle.sdd_domain_invariant.specs.FractionsAtHome.{homes_for}
 
 pub many : (n m : ℕ) → m * (n + 1) ≡ homes_for n m
 unfolding homes_for

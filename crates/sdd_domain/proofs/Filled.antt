@@ -4,14 +4,14 @@ use mathlib.Core.Logic.{dite}
 use native.Mathlib.Decide.{dec_lt}
 use Rattle.std.specs.Prelude.{◌↔◌, ◌==◌, IsTrue, IsSome, option_map}
 use base.Stored.{Gv}
-use Rattle.sdd_store.specs.declared.standing.Standing.{Standing}
-use Rattle.sdd_store.specs.declared.standing.Standing.TheVariants.{Retired}
-use Rattle.sdd_store.specs.Table.{IsFull}
-use Rattle.sdd_views.specs.declared.Showing.{Showing}
-use Rattle.sdd_rule.specs.Codes.{free_word, waiting_word}
-use Rattle.sdd_base.specs.World.{standing_at, value_at}
-use Rattle.sdd_domain.specs.Member.{Member, IsFree, IsLone, IsUsedUp, word_of}
-use Rattle.sdd_domain.specs.Local.{Partaker, world_of, standing_in, value_in, owner_standing}
+use Rattle.sdd_participants.specs.declared.standing.Standing.{Standing}
+use Rattle.sdd_participants.specs.declared.standing.Standing.TheVariants.{Retired}
+use Rattle.sdd_participants.specs.Slab.{IsFull}
+use Rattle.sdd_views.specs.declared.ShownValue.{ShownValue}
+use Rattle.sdd_word_invariant.specs.Codes.{free_word, waiting_word}
+use Rattle.sdd_space.specs.World.{standing_at, value_at}
+use Rattle.sdd_domain.specs.LocalState.{LocalState, IsFree, IsLone, IsUsedUp, word_of}
+use Rattle.sdd_domain.specs.Local.{LocalModel, world_of, standing_in, value_in, owner_standing}
 use Rattle.sdd_domain.proofs.Listings.{listing_long, listing_at, listing_past, all_listed}
 use Rattle.sdd_domain.proofs.Makes.{used_up}
 
@@ -22,7 +22,7 @@ none_by true waits s e f is = refl
 none_by false true s e f is = cc
 none_by false false s e f is = cc
 
-module _ {T : Type 0} (p : Partaker T) where
+module _ {T : Type 0} (p : LocalModel T) where
   slots : ℕ
   slots = p.member.limits.slots
 

@@ -1,13 +1,13 @@
 -- What is given up waits with the participant
 use Rattle.std.proofs.Common.{◌≡◌, ℕ, zero, suc, List, [], ◌∷◌, ◌++◌, Option, None, replicate, slice_index_or, slice_set, refl, sym, ap, ◌∙◌, arith}
-use Rattle.sdd_store.specs.declared.waiting.What.{What}
-use Rattle.sdd_store.specs.declared.waiting.What.TheVariants.{Item}
-use Rattle.sdd_store.specs.declared.time.Participant.{Participant}
-use Rattle.sdd_store.specs.Time.{awaiting}
-use Rattle.sdd_base.specs.Known.{Known, KnowsOn}
-use Rattle.sdd_base.specs.Own.{all_awaiting, GrowsOn}
-use Rattle.sdd_base.specs.Steps.{cell_closed, spilled, held_in}
-use Rattle.sdd_domain.specs.Local.{Partaker, world_of}
+use Rattle.sdd_participants.specs.declared.waiting.LimboEntry.{LimboEntry}
+use Rattle.sdd_participants.specs.declared.waiting.LimboEntry.TheVariants.{Item}
+use Rattle.sdd_participants.specs.declared.epoch_state.Participant.{Participant}
+use Rattle.sdd_participants.specs.EpochState.{awaiting}
+use Rattle.sdd_space.specs.KnownEpochs.{KnownEpochs, KnowsOn}
+use Rattle.sdd_space.specs.Own.{all_awaiting, GrowsOn}
+use Rattle.sdd_space.specs.Steps.{cell_closed, spilled, held_in}
+use Rattle.sdd_domain.specs.Local.{LocalModel, world_of}
 
 one_more : (ks : List ℕ) (k : ℕ) (p : Participant) → awaiting (Item k) (all_awaiting ks p) ≡ all_awaiting (ks ++ k ∷ []) p
 one_more [] k p = refl
@@ -20,12 +20,12 @@ pub grows_not : (old new : Participant) → new ≡ old → GrowsOn old new
 grows_not old new e start grown = (grown.0, e ∙ grown.1)
 
 -- what was given up of what was due, of which nothing is where nothing was due
-pub given_of : (due : List What) (old new : Participant) → GrowsOn old new → (due ≡ [] → new ≡ old)
+pub given_of : (due : List LimboEntry) (old new : Participant) → GrowsOn old new → (due ≡ [] → new ≡ old)
     → (given : List ℕ) × (new ≡ all_awaiting given old) × (due ≡ [] → given ≡ [])
 given_of [] old new grows none = ([], none refl, λ _. refl)
 given_of (x ∷ xs) old new grows none = let g = grows old ([], refl) in (g.0, g.1, λ e. absurd cc)
 
-pub knows_more : (a b c : Known) → KnowsOn a b → KnowsOn b c → KnowsOn a c
+pub knows_more : (a b c : KnownEpochs) → KnowsOn a b → KnowsOn b c → KnowsOn a c
 knows_more a b c u v = let t = u.told in let s = v.told in record { told = omega arith; since = v.since ∙ u.since }
 
 -- ---- a cell that is given: there is none in a domain
@@ -40,6 +40,6 @@ module _ {E : Type 0} where
   none_set (suc n) zero = refl
   none_set (suc n) (suc c) = ap (λ (es : List (Option E)). None ∷ es) (none_set n c)
 
-pub no_cell_closed : {T : Type 0} (p : Partaker T) (place c : ℕ) → world_of p ≡ cell_closed (world_of p) place c
+pub no_cell_closed : {T : Type 0} (p : LocalModel T) (place c : ℕ) → world_of p ≡ cell_closed (world_of p) place c
 no_cell_closed p place c = let n : ℕ = p.member.limits.cells in
     sym (λ d. spilled (record (world_of p) { cells = none_set n c d }) place (held_in (none_at n c d)))

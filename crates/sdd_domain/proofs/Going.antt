@@ -5,37 +5,37 @@ use mathlib.Core.Logic.{dite}
 use native.Mathlib.Decide.{ℕ_discrete}
 use base.Stored.{Gv}
 use denote.RattleType.{RattleType}
-use Rattle.sdd_store.specs.Tally.{one_reclaimed}
-use Rattle.sdd_store.specs.declared.standing.Standing.{Standing}
-use Rattle.sdd_store.specs.declared.standing.Standing.TheVariants.{Retired}
-use Rattle.sdd_stakes.specs.Shelf.{showing}
-use Rattle.sdd_views.specs.declared.Showing.{Showing}
+use Rattle.sdd_participants.specs.Tally.{one_reclaimed}
+use Rattle.sdd_participants.specs.declared.standing.Standing.{Standing}
+use Rattle.sdd_participants.specs.declared.standing.Standing.TheVariants.{Retired}
+use Rattle.sdd_shared_values.specs.SharedValues.{showing}
+use Rattle.sdd_views.specs.declared.ShownValue.{ShownValue}
 use Rattle.sdd_views.specs.declared.Sizes.{Sizes}
-use Rattle.sdd_rule.specs.Codes.{waiting, full}
-use Rattle.sdd_rule.specs.SlotSteps.{behind, without_item}
-use Rattle.sdd_rule.specs.Sums.{total}
-use Rattle.sdd_rule.specs.Slots.{waits_in}
-use Rattle.sdd_rule.proofs.Codes.{sound, free_is}
-use Rattle.sdd_rule.proofs.Owning.{item_gone, item_kept}
-use Rattle.sdd_homes.specs.Fillings.{newest}
-use Rattle.sdd_base.specs.Holding.{Holding}
-use Rattle.sdd_base.specs.World.{World, standing_at, value_at}
-use Rattle.sdd_base.specs.Steps.{waiting_value, taken_out, given_all, all_reclaimed, slot_reclaimed}
-use Rattle.sdd_base.specs.Steps as steps
-use Rattle.sdd_domain.specs.Member.{Member, IsLone, Reclaims, word_of}
+use Rattle.sdd_word_invariant.specs.Codes.{waiting, full}
+use Rattle.sdd_word_invariant.specs.SlotSteps.{behind, without_item}
+use Rattle.sdd_word_invariant.specs.Sums.{total}
+use Rattle.sdd_word_invariant.specs.Slots.{waits_in}
+use Rattle.sdd_word_invariant.proofs.Codes.{sound, free_is}
+use Rattle.sdd_word_invariant.proofs.Owning.{item_gone, item_kept}
+use Rattle.sdd_domain_invariant.specs.Fillings.{newest}
+use Rattle.sdd_space.specs.OwnerOrCell.{OwnerOrCell}
+use Rattle.sdd_space.specs.World.{World, standing_at, value_at}
+use Rattle.sdd_space.specs.Steps.{waiting_value, taken_out, given_all, all_reclaimed, slot_reclaimed}
+use Rattle.sdd_space.specs.Steps as steps
+use Rattle.sdd_domain.specs.LocalState.{LocalState, IsLone, Reclaims, word_of}
 use Rattle.sdd_domain.specs.Waits.{what_of, waiting_of, ripe, unripe}
 use Rattle.sdd_domain.specs.Values.{one_showing}
 use Rattle.sdd_domain.specs.Tied.{Agrees, AreTied, is_plain_word}
-use Rattle.sdd_domain.specs.Local.{Partaker, listing, standing_by, value_by, standing_in, value_in, world_of}
+use Rattle.sdd_domain.specs.Local.{LocalModel, listing, standing_by, value_by, standing_in, value_in, world_of}
 use Rattle.sdd_domain.proofs.Listings.{listing_at, listing_set}
 use Rattle.sdd_domain.proofs.Reclaims.{first_goes, no_more}
 use Rattle.sdd_domain.proofs.Words.{waiting_waits, word_same, word_other}
 
-value_or : Gv → Option Showing → Gv
+value_or : Gv → Option ShownValue → Gv
 value_or g None = g
 value_or g (Some s) = s.value
 
-entry_of : {T : Type 0} (g : Gv) (r : Option Showing) (e : Option (T × Gv)) (slot : ℕ) (shared : Bool)
+entry_of : {T : Type 0} (g : Gv) (r : Option ShownValue) (e : Option (T × Gv)) (slot : ℕ) (shared : Bool)
     → r ≡ Some (record { slot = slot; shared = shared; value = g }) → Agrees r e → (x : T × Gv) × (e ≡ Some x) × (x.1 ≡ g)
 unfolding value_or
 entry_of g None e slot shared is a = absurd a
@@ -43,9 +43,9 @@ entry_of g (Some r) None slot shared is a = absurd a
 entry_of g (Some r) (Some x) slot shared is a = (x, refl, a ∙ ap (value_or g) is)
 
 -- an item of its slot goes
-module _ (R : RattleType) (p : Partaker R.Denot) (t : AreTied p.member p.entries)
+module _ (R : RattleType) (p : LocalModel R.Denot) (t : AreTied p.member p.entries)
     (codes : (place : ℕ) (y : R.Denot) (g : Gv) → slice_index_or p.entries place None ≡ Some (y, g) → g ≡ showing R y)
-    (slot : ℕ) (x : R.Denot) (m : Member) (is : Reclaims slot (showing R x) p.member m) (one : IsLone p.member) where
+    (slot : ℕ) (x : R.Denot) (m : LocalState) (is : Reclaims slot (showing R x) p.member m) (one : IsLone p.member) where
   abbrev n : ℕ
   n = p.member.limits.slots
 
@@ -55,7 +55,7 @@ module _ (R : RattleType) (p : Partaker R.Denot) (t : AreTied p.member p.entries
   abbrev ws : List ℕ
   ws = p.member.words
 
-  abbrev now : Member
+  abbrev now : LocalState
   now = record p.member {
     tally = one_reclaimed p.member.tally;
     slots = record p.member.slots { waits = without_item slot p.member.slots.waits };
@@ -63,7 +63,7 @@ module _ (R : RattleType) (p : Partaker R.Denot) (t : AreTied p.member p.entries
     due = m.due;
   }
 
-  abbrev then : Partaker R.Denot
+  abbrev then : LocalModel R.Denot
   then = record { member = now; entries = p.entries }
 
   here : slot < p.member.sizes.slots
@@ -102,7 +102,7 @@ module _ (R : RattleType) (p : Partaker R.Denot) (t : AreTied p.member p.entries
       ∙ ap (λ (v : ℕ). set (listing n (value_in p)) slot (value_by v (slice_index_or p.entries slot None))) same in
       λ d. record (world_of then) { standings = standings d; values = values d }
 
-  goes_now : (holds : R.Denot → List Holding) → slot_reclaimed holds (world_of p) p.member.place slot
+  goes_now : (holds : R.Denot → List OwnerOrCell) → slot_reclaimed holds (world_of p) p.member.place slot
       ≡ given_all (world_of then) p.member.place (holds x)
   goes_now holds = let w : World R.Denot = world_of p in let k : ℕ = p.member.place in
       ap (λ (s : Option Standing). taken_out holds w k slot (waiting_value w slot s)) stands_here
@@ -134,11 +134,11 @@ module _ (R : RattleType) (p : Partaker R.Denot) (t : AreTied p.member p.entries
   }
 
   pub tied_then : AreTied m p.entries
-  tied_then = subst (λ (y : Member). AreTied y p.entries) (sym is.member) tied_now
+  tied_then = subst (λ (y : LocalState). AreTied y p.entries) (sym is.member) tied_now
 
   -- what it gives up then is what the reclaiming of the item does, and the others go as before
-  pub reclaims_on : (holds : R.Denot → List Holding) → all_reclaimed holds (world_of p) p.member.place p.member.due
+  pub reclaims_on : (holds : R.Denot → List OwnerOrCell) → all_reclaimed holds (world_of p) p.member.place p.member.due
       ≡ all_reclaimed holds (given_all (world_of (record { member = m; entries = p.entries })) p.member.place (holds x)) p.member.place m.due
   reclaims_on holds = let k : ℕ = p.member.place in ap (all_reclaimed holds (world_of p) k) is.first
       ∙ (ap (λ (w : World R.Denot). all_reclaimed holds w k m.due) (goes_now holds)
-      ∙ ap (λ (y : Member). all_reclaimed holds (given_all (world_of (record { member = y; entries = p.entries })) k (holds x)) k m.due) (sym is.member))
+      ∙ ap (λ (y : LocalState). all_reclaimed holds (given_all (world_of (record { member = y; entries = p.entries })) k (holds x)) k m.due) (sym is.member))

@@ -1,18 +1,18 @@
 -- What is of one home is of another with the same slots and cells
 use Rattle.std.proofs.Common.{◌≡◌, List, [], ◌∷◌, sym, refl, ap, ◌∙◌}
 use Rattle.atomic_table.specs.Seated.{TableId}
-use Rattle.sdd_board.specs.declared.board.Board.{Board}
-use Rattle.sdd_board.specs.Board.{id_of, book_of, sizes_of, slots_of}
-use Rattle.sdd_base.specs.declared.limits.Limits.{Limits}
+use Rattle.sdd_atomics.specs.declared.domain_table.DomainTable.{DomainTable}
+use Rattle.sdd_atomics.specs.DomainTable.{id_of, book_of, sizes_of, slots_of}
+use Rattle.sdd_space.specs.declared.limits.Limits.{Limits}
 use Rattle.sdd_views.specs.declared.Sizes.{Sizes}
-use Rattle.sdd_token.specs.Right.{home_of_table}
-use Rattle.sdd_stakes.specs.declared.shelf.Shelf.{Shelf}
+use Rattle.sdd_rights.specs.Right.{home_of_table}
+use Rattle.sdd_shared_values.specs.declared.shared_values.SharedValues.{SharedValues}
 use Rattle.sdd_domain.specs.Shelf.{sizes_in, IsShelfOf}
 use Rattle.sdd_domain.specs.Homes.{home_at, home_of_slots, home_in}
-use Rattle.sdd_domain.specs.Member.{Member}
-use Rattle.sdd_base.specs.Holding.{Home, Holding, owned, shared, atomic_owned, atomic_shared, atomic_raw, AreOf}
+use Rattle.sdd_domain.specs.LocalState.{LocalState}
+use Rattle.sdd_space.specs.OwnerOrCell.{SpaceId, OwnerOrCell, owned, shared, atomic_owned, atomic_shared, atomic_raw, AreOf}
 
-pub re_homed : (a b : Home) → a.slots ≡ b.slots → a.cells ≡ b.cells → (hs : List Holding) → AreOf a hs → AreOf b hs
+pub re_homed : (a b : SpaceId) → a.slots ≡ b.slots → a.cells ≡ b.cells → (hs : List OwnerOrCell) → AreOf a hs → AreOf b hs
 re_homed a b slots cells [] of_a = tt
 re_homed a b slots cells (owned k h ∷ hs) of_a = (of_a.0 ∙ slots, re_homed a b slots cells hs of_a.1)
 re_homed a b slots cells (shared k h ∷ hs) of_a = (of_a.0 ∙ slots, re_homed a b slots cells hs of_a.1)
@@ -21,12 +21,12 @@ re_homed a b slots cells (atomic_shared k h ∷ hs) of_a = (of_a.0 ∙ cells, re
 re_homed a b slots cells (atomic_raw k h ∷ hs) of_a = (of_a.0 ∙ cells, re_homed a b slots cells hs of_a.1)
 
 -- the participant is one of this board's domain
-pub record IsOn (b : Board) (m : Member) : Type 0 where
+pub record IsOn (b : DomainTable) (m : LocalState) : Type 0 where
   pub home : m.home ≡ id_of b
   pub book : m.book ≡ book_of b
   pub slots : m.limits.slots ≡ slots_of b
 
-pub on_board : (l : Limits) (b : Board) (table : TableId) → table ≡ id_of b → sizes_of b ≡ sizes_in l → (m : Member) → m.home ≡ table → m.book ≡ book_of b → m.limits ≡ l
+pub on_board : (l : Limits) (b : DomainTable) (table : TableId) → table ≡ id_of b → sizes_of b ≡ sizes_in l → (m : LocalState) → m.home ≡ table → m.book ≡ book_of b → m.limits ≡ l
     → IsOn b m
 on_board l b table same sizes m home book limits = record {
   home = home ∙ same;
@@ -34,22 +34,22 @@ on_board l b table same sizes m home book limits = record {
   slots = ap (λ (x : Limits). x.slots) limits ∙ sym (ap (λ (z : Sizes). z.slots) sizes);
 }
 
-module _ (b : Board) (m : Member) (on : IsOn b m) where
+module _ (b : DomainTable) (m : LocalState) (on : IsOn b m) where
   -- what may be held in the domain of the board is of the participant's home
-  pub to_board : (hs : List Holding) → AreOf (home_in m) hs → AreOf (home_of_slots (id_of b) (book_of b) (slots_of b)) hs
+  pub to_board : (hs : List OwnerOrCell) → AreOf (home_in m) hs → AreOf (home_of_slots (id_of b) (book_of b) (slots_of b)) hs
   to_board = re_homed (home_in m) (home_of_slots (id_of b) (book_of b) (slots_of b)) (λ d. home_of_table (on.home d) (on.book d) (on.slots d)) refl
 
-  pub from_board : (hs : List Holding) → AreOf (home_of_slots (id_of b) (book_of b) (slots_of b)) hs → AreOf (home_in m) hs
+  pub from_board : (hs : List OwnerOrCell) → AreOf (home_of_slots (id_of b) (book_of b) (slots_of b)) hs → AreOf (home_in m) hs
   from_board = re_homed (home_of_slots (id_of b) (book_of b) (slots_of b)) (home_in m)
       (λ d. home_of_table (sym on.home d) (sym on.book d) (sym on.slots d)) refl
 
-  pub from_shelf : {T F : Type 0} (shelf : Shelf T F) → IsShelfOf b shelf → (hs : List Holding) → AreOf (home_of_slots shelf.table shelf.book shelf.size) hs
+  pub from_shelf : {T F : Type 0} (shelf : SharedValues T F) → IsShelfOf b shelf → (hs : List OwnerOrCell) → AreOf (home_of_slots shelf.table shelf.book shelf.size) hs
       → AreOf (home_in m) hs
   from_shelf shelf s = re_homed (home_of_slots shelf.table shelf.book shelf.size) (home_in m)
       (λ d. home_of_table ((s.table ∙ sym on.home) d) ((s.book ∙ sym on.book) d) ((s.size ∙ sym on.slots) d)) refl
 
 -- what a value in a domain holds is of the domain's home
-pub of_domain : {T F : Type 0} (l : Limits) (b : Board) (shelf : Shelf T F) → sizes_of b ≡ sizes_in l → IsShelfOf b shelf → (hs : List Holding) →
+pub of_domain : {T F : Type 0} (l : Limits) (b : DomainTable) (shelf : SharedValues T F) → sizes_of b ≡ sizes_in l → IsShelfOf b shelf → (hs : List OwnerOrCell) →
     AreOf (home_of_slots shelf.table shelf.book shelf.size) hs → AreOf (home_at (id_of b) (book_of b) l) hs
 of_domain l b shelf sizes s = re_homed (home_of_slots shelf.table shelf.book shelf.size) (home_at (id_of b) (book_of b) l)
     (λ d. home_of_table (s.table d) (s.book d) ((s.size ∙ ap (λ (z : Sizes). z.slots) sizes) d)) refl

@@ -1,30 +1,30 @@
 -- What a participant shows goes on to be shown
 use Rattle.std.proofs.Common.{◌≡◌, ℕ, Bool, true, false, List, sym, subst}
 use base.Stored.{Gv}
-use Rattle.sdd_store.specs.declared.time.Participant.{Participant}
-use Rattle.sdd_base.specs.Holding.{Holding}
-use Rattle.sdd_base.specs.Ptr.{KeepsShown}
-use Rattle.sdd_domain.specs.Member.{Member}
-use Rattle.sdd_domain.specs.Local.{Partaker}
+use Rattle.sdd_participants.specs.declared.epoch_state.Participant.{Participant}
+use Rattle.sdd_space.specs.OwnerOrCell.{OwnerOrCell}
+use Rattle.sdd_space.specs.Ptr.{KeepsShown}
+use Rattle.sdd_domain.specs.LocalState.{LocalState}
+use Rattle.sdd_domain.specs.Local.{LocalModel}
 use Rattle.sdd_domain.specs.Space.{ShowsBy, Shows, is_lone}
 
 -- what it keeps of its own, and what it knows of the count, are so
-abbrev pub with_own : Member → Participant → ℕ → ℕ → Member
+abbrev pub with_own : LocalState → Participant → ℕ → ℕ → LocalState
 with_own m own known since = record m { own = own; known = known; since = since }
 
-module _ {T : Type 0} (shown : T → Gv) (holds : T → List Holding) where
+module _ {T : Type 0} (shown : T → Gv) (holds : T → List OwnerOrCell) where
   -- as its fields have it
-  keeps_from : (v p q : Partaker T) → v ≡ p → KeepsShown (Shows shown holds v) (Shows shown holds q) → KeepsShown (Shows shown holds p) (Shows shown holds q)
-  keeps_from v p q is kept k value h = kept k value (subst (λ (z : Partaker T). Shows shown holds z k value) (sym is) h)
+  keeps_from : (v p q : LocalModel T) → v ≡ p → KeepsShown (Shows shown holds v) (Shows shown holds q) → KeepsShown (Shows shown holds p) (Shows shown holds q)
+  keeps_from v p q is kept k value h = kept k value (subst (λ (z : LocalModel T). Shows shown holds z k value) (sym is) h)
 
-  own_by : (v : Partaker T) (own : Participant) (known since : ℕ) (b : Bool) (k : ℕ) (value : T) → ShowsBy b shown holds v k value
+  own_by : (v : LocalModel T) (own : Participant) (known since : ℕ) (b : Bool) (k : ℕ) (value : T) → ShowsBy b shown holds v k value
       → ShowsBy b shown holds (record v { member = with_own v.member own known since }) k value
   own_by v own known since true k value h = h
   own_by v own known since false k value h = h
 
   -- whatever becomes of its own data and of the count
-  pub keeps_own : (v p : Partaker T) → v ≡ p → (m : Member) (own : Participant) (known since : ℕ) → m ≡ with_own v.member own known since
+  pub keeps_own : (v p : LocalModel T) → v ≡ p → (m : LocalState) (own : Participant) (known since : ℕ) → m ≡ with_own v.member own known since
       → KeepsShown (Shows shown holds p) (Shows shown holds (record v { member = m }))
   keeps_own v p is m own known since changed = keeps_from v p (record v { member = m }) is (λ k value h.
-      subst (λ (x : Member). Shows shown holds (record v { member = x }) k value) (sym changed)
+      subst (λ (x : LocalState). Shows shown holds (record v { member = x }) k value) (sym changed)
       (own_by v own known since (is_lone v.member) k value h))

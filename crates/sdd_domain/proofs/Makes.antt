@@ -6,37 +6,37 @@ use native.Mathlib.Decide.{ℕ_discrete, dec_lt}
 use base.Stored.{Gv}
 use denote.RattleType.{RattleType}
 use Rattle.sdd_core.specs.declared.refused.Refused.{Refused}
-use Rattle.sdd_store.specs.declared.standing.Standing.{Standing}
-use Rattle.sdd_store.specs.declared.standing.Standing.TheVariants.{Owned, Shared}
-use Rattle.sdd_store.specs.Table.{IsEmptyAt, IsFull}
-use Rattle.sdd_store.specs.Tally.{one_made}
-use Rattle.sdd_stakes.specs.Shelf.{showing}
-use Rattle.sdd_token.specs.declared.right.Kind.{Kind}
-use Rattle.sdd_token.specs.declared.right.Kind.TheVariants as kinds
-use Rattle.sdd_token.specs.declared.right.Right.{Right}
-use Rattle.sdd_token.specs.Kind.{is_shared}
-use Rattle.sdd_token.specs.Right.{number_of}
+use Rattle.sdd_participants.specs.declared.standing.Standing.{Standing}
+use Rattle.sdd_participants.specs.declared.standing.Standing.TheVariants.{Owned, Shared}
+use Rattle.sdd_participants.specs.Slab.{IsEmptyAt, IsFull}
+use Rattle.sdd_participants.specs.Tally.{one_made}
+use Rattle.sdd_shared_values.specs.SharedValues.{showing}
+use Rattle.sdd_rights.specs.declared.right.StandingKind.{StandingKind}
+use Rattle.sdd_rights.specs.declared.right.StandingKind.TheVariants as kinds
+use Rattle.sdd_rights.specs.declared.right.Right.{Right}
+use Rattle.sdd_rights.specs.StandingKind.{is_shared}
+use Rattle.sdd_rights.specs.Right.{number_of}
 use Rattle.sdd_standings.specs.Slots.{first_standing}
-use Rattle.sdd_views.specs.declared.Showing.{Showing}
-use Rattle.sdd_rule.specs.Codes.{waiting, full}
-use Rattle.sdd_rule.specs.SlotSteps.{behind}
-use Rattle.sdd_rule.proofs.Codes.{free_is, owned_is}
-use Rattle.sdd_homes.specs.Fillings.{newest}
-use Rattle.sdd_homes.proofs.Fillings.{newest_now, newest_before}
-use Rattle.sdd_base.specs.Holding.{Holding}
-use Rattle.sdd_base.specs.Ptr.{KeepsShown}
-use Rattle.sdd_base.specs.World.{value_at}
-use Rattle.sdd_base.specs.Steps.{made_as}
-use Rattle.sdd_domain.specs.Member.{Member, IsLone, IsUsedUp, MakesAt, word_of}
+use Rattle.sdd_views.specs.declared.ShownValue.{ShownValue}
+use Rattle.sdd_word_invariant.specs.Codes.{waiting, full}
+use Rattle.sdd_word_invariant.specs.SlotSteps.{behind}
+use Rattle.sdd_word_invariant.proofs.Codes.{free_is, owned_is}
+use Rattle.sdd_domain_invariant.specs.Fillings.{newest}
+use Rattle.sdd_domain_invariant.proofs.Fillings.{newest_now, newest_before}
+use Rattle.sdd_space.specs.OwnerOrCell.{OwnerOrCell}
+use Rattle.sdd_space.specs.Ptr.{KeepsShown}
+use Rattle.sdd_space.specs.World.{value_at}
+use Rattle.sdd_space.specs.Steps.{made_as}
+use Rattle.sdd_domain.specs.LocalState.{LocalState, IsLone, IsUsedUp, MakesAt, word_of}
 use Rattle.sdd_domain.specs.Items.{HasValue, IsRightTo}
 use Rattle.sdd_domain.specs.Tied.{Entries, Agrees, AreTied, IsTied, is_plain_word}
-use Rattle.sdd_domain.specs.Local.{Partaker, listing, standing_by, value_by, owner_standing, standing_in, value_in, world_of}
+use Rattle.sdd_domain.specs.Local.{LocalModel, listing, standing_by, value_by, owner_standing, standing_in, value_in, world_of}
 use Rattle.sdd_domain.specs.Space.{ShowsBy, Shows, is_lone}
 use Rattle.sdd_domain.proofs.Listings.{listing_at, listing_long, listing_past, listing_set, listing_all}
 use Rattle.sdd_domain.proofs.Words.{word_same, word_other}
 use Rattle.sdd_domain.proofs.Exact.{lone_is}
 
-first_by : (kind : Kind) → first_standing kind ≡ (if is_shared kind then Shared 1 else Owned)
+first_by : (kind : StandingKind) → first_standing kind ≡ (if is_shared kind then Shared 1 else Owned)
 first_by kinds.Free = refl
 first_by kinds.Owned = refl
 first_by kinds.Raw = refl
@@ -44,34 +44,34 @@ first_by kinds.Shared = refl
 first_by kinds.Retired = refl
 
 -- a slot that isn't free has a standing
-some_standing : (word : ℕ) (r : Option Showing) → word ≢ 0 → (s : Standing) × (standing_by word r ≡ Some s)
+some_standing : (word : ℕ) (r : Option ShownValue) → word ≢ 0 → (s : Standing) × (standing_by word r ≡ Some s)
 some_standing word r taken = dite (ℕ_discrete word 4) (λ e. (_, ap (λ (x : ℕ). standing_by x r) e))
     (λ ne. (owner_standing r, not_either word r taken ne))
   where
-    not_either : (word : ℕ) (r : Option Showing) → word ≢ 0 → word ≢ 4 → standing_by word r ≡ Some (owner_standing r)
+    not_either : (word : ℕ) (r : Option ShownValue) → word ≢ 0 → word ≢ 4 → standing_by word r ≡ Some (owner_standing r)
     not_either word r a b = grind arith
 
 is_there : (s : Standing) → IsSome (Some s)
 is_there s = refl
 
-pub used_up : {T : Type 0} (p : Partaker T) → IsUsedUp p.member → IsFull (world_of p).standings
+pub used_up : {T : Type 0} (p : LocalModel T) → IsUsedUp p.member → IsFull (world_of p).standings
 used_up p used = listing_all (λ (e : Option Standing). IsSome e) p.member.limits.slots (standing_in p)
     (λ i low. let s = some_standing (word_of p.member i) (newest i p.member.filled) (used i low) in
     subst (λ (e : Option Standing). IsSome e) (sym s.1) (is_there s.0))
 
-module _ {T : Type 0} (v : Partaker T) (k : ℕ) (shared : Bool) (x : T) (g : Gv) where
-  abbrev r : Showing
+module _ {T : Type 0} (v : LocalModel T) (k : ℕ) (shared : Bool) (x : T) (g : Gv) where
+  abbrev r : ShownValue
   r = record { slot = k; shared = shared; value = g }
 
   -- what it is once the item was made
-  abbrev pub made_member : Member
+  abbrev pub made_member : LocalState
   made_member = record v.member {
     tally = one_made v.member.tally;
     filled = record { slot = k; shared = shared; value = g } ∷ v.member.filled;
     words = set v.member.words (behind v.member.sizes k) 1;
   }
 
-  abbrev pub made_partaker : Partaker T
+  abbrev pub made_partaker : LocalModel T
   made_partaker = record { member = made_member; entries = set v.entries k (Some (x, g)) }
 
   module _ (t : AreTied v.member v.entries) (low : k < v.member.limits.slots) (free : word_of v.member k ≡ 0) where
@@ -97,7 +97,7 @@ module _ {T : Type 0} (v : Partaker T) (k : ℕ) (shared : Bool) (x : T) (g : Gv
     entry_then i ne = get_or-set_other v.entries k i (Some (x, g)) None ne
 
     agrees_now : Agrees (newest k made_member.filled) (slice_index_or made_partaker.entries k None)
-    agrees_now = subst (λ (z : Option Showing × Option (T × Gv)). Agrees z.0 z.1) (λ d. (sym (newest_now r v.member.filled) d, sym entry_now d)) refl
+    agrees_now = subst (λ (z : Option ShownValue × Option (T × Gv)). Agrees z.0 z.1) (λ d. (sym (newest_now r v.member.filled) d, sym entry_now d)) refl
 
     pub tied_made : AreTied made_member made_partaker.entries
     tied_made = record {
@@ -115,7 +115,7 @@ module _ {T : Type 0} (v : Partaker T) (k : ℕ) (shared : Bool) (x : T) (g : Gv
       inside = t.inside;
       kept = λ i l filled. dite (ℕ_discrete i k)
           (λ e. subst (λ (j : ℕ). Agrees (newest j made_member.filled) (slice_index_or made_partaker.entries j None)) (sym e) agrees_now)
-          (λ ne. subst (λ (z : Option Showing × Option (T × Gv)). Agrees z.0 z.1) (λ d. (sym (filled_then i ne) d, sym (entry_then i ne) d))
+          (λ ne. subst (λ (z : Option ShownValue × Option (T × Gv)). Agrees z.0 z.1) (λ d. (sym (filled_then i ne) d, sym (entry_then i ne) d))
           (t.kept i l (sym (ap full (word_then i ne)) ∙ filled)));
       bags = t.bags;
       due = t.due;
@@ -160,8 +160,8 @@ module _ {T : Type 0} (v : Partaker T) (k : ℕ) (shared : Bool) (x : T) (g : Gv
         no_value e = absurd cc
 
 -- ---- for an answer
-module _ (R : RattleType) (v : Partaker R.Denot) (m : Member) (es : Entries R.Denot) (kind : Kind) where
-  abbrev after : Partaker R.Denot
+module _ (R : RattleType) (v : LocalModel R.Denot) (m : LocalState) (es : Entries R.Denot) (kind : StandingKind) where
+  abbrev after : LocalModel R.Denot
   after = record { member = m; entries = es }
 
   -- it made this, for this owner
@@ -181,8 +181,8 @@ module _ (R : RattleType) (v : Partaker R.Denot) (m : Member) (es : Entries R.De
     is_made = λ d. record { member = did.0.member d; entries = did.2 d }
 
     did_tied : IsTied v.member v.entries → IsTied m es
-    did_tied tied one = let lone : IsLone v.member = sym (ap (λ (z : Member). z.limits.participants) did.0.member) ∙ one in
-        subst (λ (p : Partaker R.Denot). AreTied p.member p.entries) (sym is_made)
+    did_tied tied one = let lone : IsLone v.member = sym (ap (λ (z : LocalState). z.limits.participants) did.0.member) ∙ one in
+        subst (λ (p : LocalModel R.Denot). AreTied p.member p.entries) (sym is_made)
         (tied_made v (number_of right) (is_shared kind) x (showing R x) (tied lone) did.0.inside (did.0.lone lone))
 
     pub did_world : IsTied v.member v.entries → IsLone v.member → IsEmptyAt (world_of v).standings (number_of right)
@@ -193,13 +193,13 @@ module _ (R : RattleType) (v : Partaker R.Denot) (m : Member) (es : Entries R.De
           ∙ ap (made_as (world_of v) (number_of right) x) (sym (first_by kind))),
     )
 
-    keeps_by : (holds : R.Denot → List Holding) (b : Bool) → (IsTrue b → IsLone v.member) → IsTied v.member v.entries → (i : ℕ) (u : R.Denot)
+    keeps_by : (holds : R.Denot → List OwnerOrCell) (b : Bool) → (IsTrue b → IsLone v.member) → IsTied v.member v.entries → (i : ℕ) (u : R.Denot)
         → ShowsBy b (showing R) holds v i u → ShowsBy b (showing R) holds (made_partaker v (number_of right) (is_shared kind) x (showing R x)) i u
     keeps_by holds true lone tied i u h = value_kept v (number_of right) (is_shared kind) x (showing R x) (tied (lone refl)) did.0.inside (did.0.lone (lone refl)) i u h
     keeps_by holds false lone tied i u h = h
 
-    did_keep : (holds : R.Denot → List Holding) → IsTied v.member v.entries → KeepsShown (Shows (showing R) holds v) (Shows (showing R) holds after)
-    did_keep holds tied i u h = subst (λ (p : Partaker R.Denot). Shows (showing R) holds p i u) (sym is_made)
+    did_keep : (holds : R.Denot → List OwnerOrCell) → IsTied v.member v.entries → KeepsShown (Shows (showing R) holds v) (Shows (showing R) holds after)
+    did_keep holds tied i u h = subst (λ (p : LocalModel R.Denot). Shows (showing R) holds p i u) (sym is_made)
         (keeps_by holds (is_lone v.member) (λ exact. lone_is v.member exact) tied i u h)
 
   module _ {B : Type 0} (P : R.Denot → Type 0) (Back Why : B × Refused → Type 0) where
@@ -209,32 +209,32 @@ module _ (R : RattleType) (v : Partaker R.Denot) (m : Member) (es : Entries R.De
 
     pub answered_tied : (r : Result Right (B × Refused)) → Answers r → IsTied v.member v.entries → IsTied m es
     answered_tied (Ok right) a tied = did_tied a.0 right (a.2, a.3, a.4) tied
-    answered_tied (Err e) a tied = subst (λ (p : Partaker R.Denot). IsTied p.member p.entries) (λ d. record { member = sym a.1 d; entries = sym a.4 d }) tied
+    answered_tied (Err e) a tied = subst (λ (p : LocalModel R.Denot). IsTied p.member p.entries) (λ d. record { member = sym a.1 d; entries = sym a.4 d }) tied
 
     pub answered_owns : (r : Result Right (B × Refused)) → Answers r → IfOk r (λ right. (x : R.Denot) × P x × HasValue (showing R x) right)
     answered_owns (Ok right) a = (a.0, a.1, a.3.value)
     answered_owns (Err e) a = tt
 
-    pub answered_lone : (r : Result Right (B × Refused)) (p : Partaker R.Denot) → v ≡ p → Answers r → IsTrue (is_lone p.member)
+    pub answered_lone : (r : Result Right (B × Refused)) (p : LocalModel R.Denot) → v ≡ p → Answers r → IsTrue (is_lone p.member)
         → IfErr r (λ e. (e.1 ≡ Refused.NoSlot) × IsFull (world_of p).standings)
     answered_lone (Ok right) p is a exact = tt
-    answered_lone (Err e) p is a exact = let n = a.3 (lone_is v.member (subst (λ (q : Partaker R.Denot). IsTrue (is_lone q.member)) (sym is) exact)) in
-        (n.0, subst (λ (q : Partaker R.Denot). IsFull (world_of q).standings) is (used_up v n.1))
+    answered_lone (Err e) p is a exact = let n = a.3 (lone_is v.member (subst (λ (q : LocalModel R.Denot). IsTrue (is_lone q.member)) (sym is) exact)) in
+        (n.0, subst (λ (q : LocalModel R.Denot). IsFull (world_of q).standings) is (used_up v n.1))
 
-    pub answered_keeps : (holds : R.Denot → List Holding) (r : Result Right (B × Refused)) (p : Partaker R.Denot) → v ≡ p → Answers r
+    pub answered_keeps : (holds : R.Denot → List OwnerOrCell) (r : Result Right (B × Refused)) (p : LocalModel R.Denot) → v ≡ p → Answers r
         → IsTied v.member v.entries → KeepsShown (Shows (showing R) holds p) (Shows (showing R) holds after)
-    answered_keeps holds (Ok right) p is a tied i u h = did_keep a.0 right (a.2, a.3, a.4) holds tied i u (subst (λ (q : Partaker R.Denot). Shows (showing R) holds q i u) (sym is) h)
-    answered_keeps holds (Err e) p is a tied i u h = subst (λ (q : Partaker R.Denot). Shows (showing R) holds q i u)
+    answered_keeps holds (Ok right) p is a tied i u h = did_keep a.0 right (a.2, a.3, a.4) holds tied i u (subst (λ (q : LocalModel R.Denot). Shows (showing R) holds q i u) (sym is) h)
+    answered_keeps holds (Err e) p is a tied i u h = subst (λ (q : LocalModel R.Denot). Shows (showing R) holds q i u)
         (sym is ∙ (λ d. record { member = sym a.1 d; entries = sym a.4 d })) h
 
-    pub answered_world : (r : Result Right (B × Refused)) (p : Partaker R.Denot) → v ≡ p → Answers r → IsTied v.member v.entries → IsTrue (is_lone p.member)
+    pub answered_world : (r : Result Right (B × Refused)) (p : LocalModel R.Denot) → v ≡ p → Answers r → IsTied v.member v.entries → IsTrue (is_lone p.member)
         → MatchResult r (λ right. IsEmptyAt (world_of p).standings (number_of right)
         × ((x : R.Denot) × P x × (world_of after ≡ made_as (world_of p) (number_of right) x (first_standing kind))))
         (λ e. IsFull (world_of p).standings × (Back e × (e.1 ≡ Refused.NoSlot)) × (world_of after ≡ world_of p))
-    answered_world (Ok right) p is a tied exact = let lone = lone_is v.member (subst (λ (q : Partaker R.Denot). IsTrue (is_lone q.member)) (sym is) exact) in
+    answered_world (Ok right) p is a tied exact = let lone = lone_is v.member (subst (λ (q : LocalModel R.Denot). IsTrue (is_lone q.member)) (sym is) exact) in
         let w = did_world a.0 right (a.2, a.3, a.4) tied lone in (
-          subst (λ (q : Partaker R.Denot). IsEmptyAt (world_of q).standings (number_of right)) is w.0,
-          (a.0, a.1, w.1 ∙ ap (λ (q : Partaker R.Denot). made_as (world_of q) (number_of right) a.0 (first_standing kind)) is),
+          subst (λ (q : LocalModel R.Denot). IsEmptyAt (world_of q).standings (number_of right)) is w.0,
+          (a.0, a.1, w.1 ∙ ap (λ (q : LocalModel R.Denot). made_as (world_of q) (number_of right) a.0 (first_standing kind)) is),
         )
     answered_world (Err e) p is a tied exact = let n = answered_lone (Err e) p is a exact in (
       n.1,
@@ -243,7 +243,7 @@ module _ (R : RattleType) (v : Partaker R.Denot) (m : Member) (es : Entries R.De
     )
 
   pub answered_exact : {B : Type 0} (P : R.Denot → Type 0) (back : B) (Why : B × Refused
-      → Type 0) (r : Result Right (B × Refused)) (p : Partaker R.Denot) → v ≡ p
+      → Type 0) (r : Result Right (B × Refused)) (p : LocalModel R.Denot) → v ≡ p
       → Answers P (λ e. e.0 ≡ back) Why r → IsTied v.member v.entries → IsTrue (is_lone p.member)
       → MatchResult r (λ right. IsEmptyAt (world_of p).standings (number_of right)
       × ((x : R.Denot) × P x × (world_of after ≡ made_as (world_of p) (number_of right) x (first_standing kind))))
@@ -266,7 +266,7 @@ module _ (R : RattleType) (v : Partaker R.Denot) (m : Member) (es : Entries R.De
   value_owns x (Ok right) a = subst (λ (y : R.Denot). HasValue (showing R y) right) a.1 a.2
   value_owns x (Err e) a = tt
 
-  pub value_exact : (x : R.Denot) (r : Result Right (R.Denot × Refused)) (p : Partaker R.Denot)
+  pub value_exact : (x : R.Denot) (r : Result Right (R.Denot × Refused)) (p : LocalModel R.Denot)
       → MatchResult r (λ right. IsEmptyAt (world_of p).standings (number_of right)
       × ((y : R.Denot) × (y ≡ x) × (world_of after ≡ made_as (world_of p) (number_of right) y (first_standing kind))))
       (λ e. IsFull (world_of p).standings × (e ≡ (x, Refused.NoSlot)) × (world_of after ≡ world_of p))

@@ -5,22 +5,22 @@ use native.Mathlib.Decide.{dec_lt}
 use base.Stored.{Gv}
 use Rattle.atomic_table.specs.Seated.{TableId}
 use Rattle.atomic_table.specs.declared.shared.Seat.{Seat}
-use Rattle.sdd_stakes.specs.declared.stake.Stake.{Stake}
+use Rattle.sdd_shared_values.specs.declared.value_fraction.ValueFraction.{ValueFraction}
 use Rattle.sdd_views.specs.declared.View.{View}
-use Rattle.sdd_rule.specs.Sums.{times}
-use Rattle.sdd_homes.specs.Records.{IsIn}
-use Rattle.sdd_homes.specs.HomeSteps.{Mine, Watches, Recalls}
-use Rattle.sdd_homes.proofs.Records.{in_head}
+use Rattle.sdd_word_invariant.specs.Sums.{times}
+use Rattle.sdd_domain_invariant.specs.Records.{IsIn}
+use Rattle.sdd_domain_invariant.specs.HomeSteps.{SeatState, Watches, Recalls}
+use Rattle.sdd_domain_invariant.proofs.Records.{in_head}
 use Rattle.std.specs.Prelude.{◌≢◌, Bool, [], ◌∷◌}
-use Rattle.sdd_token.specs.declared.right.Right.{Right}
-use Rattle.sdd_token.specs.Units.{Home}
-use Rattle.sdd_token.specs.Right.{home_of, AreSlotsOfTable}
+use Rattle.sdd_rights.specs.declared.right.Right.{Right}
+use Rattle.sdd_rights.specs.Units.{GhostName}
+use Rattle.sdd_rights.specs.Right.{home_of, AreSlotsOfTable}
 use Rattle.sdd_domain.specs.Items.{slots_home}
-use Rattle.sdd_domain.specs.Member.{Member, IsLone, LooksAt, KnowsOwner}
-use Rattle.sdd_board.specs.Token.{MovedAlone}
+use Rattle.sdd_domain.specs.LocalState.{LocalState, IsLone, LooksAt, KnowsOwner}
+use Rattle.sdd_atomics.specs.DomainSeat.{MovedAlone}
 
 -- a participant with this token
-abbrev pub with_token : Member → Seat Stake View → Member
+abbrev pub with_token : LocalState → Seat ValueFraction View → LocalState
 with_token m s = record m {
   home = s.table_id;
   known = s.me.0.epoch.known;
@@ -32,7 +32,7 @@ with_token m s = record m {
   words = s.me.0.words;
 }
 
-abbrev pub with_view : Member → TableId → View → Member
+abbrev pub with_view : LocalState → TableId → View → LocalState
 with_view m id v = record m {
   home = id;
   known = v.epoch.known;
@@ -44,34 +44,34 @@ with_view m id v = record m {
   words = v.words;
 }
 
-pub looks_at : (m : Member) (slot : ℕ) (shared : Bool) (value : Gv) (s u z : Seat Stake View) → MovedAlone (Watches slot shared value) s u
+pub looks_at : (m : LocalState) (slot : ℕ) (shared : Bool) (value : Gv) (s u z : Seat ValueFraction View) → MovedAlone (Watches slot shared value) s u
     → z ≡ record u { me = (u.me.0, z.me.1) } → LooksAt slot shared value (with_token m s) (with_token m z)
 looks_at m slot shared value s u z watched is = let w = watched.2 in
-    let table : z.table_id ≡ s.table_id = ap (λ (x : Seat Stake View). x.table_id) is ∙ watched.0 in
-    let view : z.me.0 ≡ u.me.0 = ap (λ (x : Seat Stake View). x.me.0) is in record {
+    let table : z.table_id ≡ s.table_id = ap (λ (x : Seat ValueFraction View). x.table_id) is ∙ watched.0 in
+    let view : z.me.0 ≡ u.me.0 = ap (λ (x : Seat ValueFraction View). x.me.0) is in record {
       seen = λ sees. let same = w.0 sees in (
-        (λ d. with_view m (table d) ((view ∙ ap (λ (x : Mine). x.0) same.0) d)),
+        (λ d. with_view m (table d) ((view ∙ ap (λ (x : SeatState). x.0) same.0) d)),
         same.1,
       );
-      unseen = λ blind. let o = w.1 blind in λ d. with_view m (table d) ((view ∙ ap (λ (x : Mine). x.0) o.2) d);
+      unseen = λ blind. let o = w.1 blind in λ d. with_view m (table d) ((view ∙ ap (λ (x : SeatState). x.0) o.2) d);
     }
 
 -- after a look what is shown is known, and what was known before
-module _ (slot : ℕ) (shared : Bool) (value : Gv) (old new : Member) (looks : LooksAt slot shared value old new) where
+module _ (slot : ℕ) (shared : Bool) (value : Gv) (old new : LocalState) (looks : LooksAt slot shared value old new) where
   pub shown_now : IsIn new.shown slot value
   shown_now = dite (dec_lt 0 (times slot old.slots.sees))
-      (λ sees. let s = looks.seen sees in subst (λ (m : Member). IsIn m.shown slot value) (sym s.0) s.1)
-      (λ blind. subst (λ (m : Member). IsIn m.shown slot value) (sym (looks.unseen blind))
+      (λ sees. let s = looks.seen sees in subst (λ (m : LocalState). IsIn m.shown slot value) (sym s.0) s.1)
+      (λ blind. subst (λ (m : LocalState). IsIn m.shown slot value) (sym (looks.unseen blind))
       (in_head (record { slot = slot; shared = shared; value = value }) old.shown slot value refl refl))
 
 -- beside a slot's owner a lone participant knows it
-pub recalls_to : (m : Member) (slot : ℕ) (shared : Bool) (value : Gv) (s t : Seat Stake View) → MovedAlone (Recalls slot shared value) s t
+pub recalls_to : (m : LocalState) (slot : ℕ) (shared : Bool) (value : Gv) (s t : Seat ValueFraction View) → MovedAlone (Recalls slot shared value) s t
     → s.me.0.epoch.all ≡ m.limits.participants → IsLone m → KnowsOwner (with_token m s) slot shared value
 recalls_to m slot shared value s t recalled all lone = let r = recalled.2.1 (all ∙ lone) in record { newest = r.newest; alive = r.alive }
 
 -- an owner of its domain has a token
-pub has_tables : (m : Member) (right : Right) → home_of right ≡ slots_home m → AreSlotsOfTable (home_of right)
+pub has_tables : (m : LocalState) (right : Right) → home_of right ≡ slots_home m → AreSlotsOfTable (home_of right)
 has_tables m right e = (
-  (λ none. let apart : m.home ∷ [] ≡ [] = sym (ap (λ (h : Home). h.tables) e) ∙ none in cc),
-  ap (λ (h : Home). h.cells) e,
+  (λ none. let apart : m.home ∷ [] ≡ [] = sym (ap (λ (h : GhostName). h.tables) e) ∙ none in cc),
+  ap (λ (h : GhostName). h.cells) e,
 )

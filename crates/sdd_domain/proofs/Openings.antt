@@ -3,21 +3,21 @@ use Rattle.std.proofs.Common.{◌≡◌, ◌≢◌, ℕ, ◌<◌, ◌==◌, fals
 use Rattle.std.specs.Prelude.{if◌then◌else◌}
 use mathlib.Core.Logic.{dite}
 use native.Mathlib.Decide.{ℕ_discrete}
-use Rattle.sdd_store.specs.Waiting.{Waiting, aged, due, left}
-use Rattle.sdd_store.specs.Time.{due_next}
-use Rattle.sdd_store.specs.Time as time
+use Rattle.sdd_participants.specs.Waiting.{Waiting, aged, due, left}
+use Rattle.sdd_participants.specs.EpochState.{due_next}
+use Rattle.sdd_participants.specs.EpochState as time
 use Rattle.sdd_views.specs.declared.WaitingItem.{WaitingItem}
-use Rattle.sdd_rule.specs.SlotSteps.{older}
-use Rattle.sdd_base.specs.Steps.{nested, rotated}
-use Rattle.sdd_domain.specs.Member.{Member, IsLone, IsEntered}
+use Rattle.sdd_word_invariant.specs.SlotSteps.{older}
+use Rattle.sdd_space.specs.Steps.{nested, rotated}
+use Rattle.sdd_domain.specs.LocalState.{LocalState, IsLone, IsEntered}
 use Rattle.sdd_domain.specs.Waits.{what_of, waiting_of, ripe, unripe}
 use Rattle.sdd_domain.specs.Tied.{AreTied}
-use Rattle.sdd_domain.specs.Local.{Partaker}
+use Rattle.sdd_domain.specs.Local.{LocalModel}
 use Rattle.sdd_domain.proofs.Arrivals.{same_items}
 use Rattle.sdd_domain.proofs.Reclaims.{aged_alike, left_alike, due_alike, all_left}
 use Rattle.sdd_domain.proofs.Alone.{alone}
 
-module _ {T : Type 0} (p : Partaker T) (tied : AreTied p.member p.entries) (settled : p.member.due ≡ []) where
+module _ {T : Type 0} (p : LocalModel T) (tied : AreTied p.member p.entries) (settled : p.member.due ≡ []) where
   abbrev xs : List WaitingItem
   xs = p.member.slots.waits
 
@@ -34,14 +34,14 @@ module _ {T : Type 0} (p : Partaker T) (tied : AreTied p.member p.entries) (sett
   left_are : left (aged p.member.own.bags.waiting) ≡ map waiting_of (unripe (map older p.member.slots.waits))
   left_are = ap (λ (ws : List Waiting). left (aged ws)) bags ∙ (ap left (aged_alike xs) ∙ left_alike (map older xs))
 
-  module _ (count : ℕ) (m : Member) (one : IsLone p.member) (is : IsEntered count p.member m) where
+  module _ (count : ℕ) (m : LocalState) (one : IsLone p.member) (is : IsEntered count p.member m) where
     found : count ≡ p.member.known
     found = (is.lone one).0
 
-    abbrev same_member : Member
+    abbrev same_member : LocalState
     same_member = record p.member { own = time.nested p.member.own; since = p.member.known; due = [] }
 
-    abbrev changed_member : Member
+    abbrev changed_member : LocalState
     changed_member = record p.member {
       own = time.nested (time.rotated p.member.known p.member.own);
       since = p.member.known;
@@ -75,10 +75,10 @@ module _ {T : Type 0} (p : Partaker T) (tied : AreTied p.member p.entries) (sett
 
     -- one guard more is open, and where another count is found what waits has seen one change more
     pub enters_same : p.member.own.found ≡ p.member.known → alone (record p { member = m }) ≡ nested (alone p) 0
-    enters_same e = ap (λ (x : Member). alone (record p { member = x })) (is_same_member e)
+    enters_same e = ap (λ (x : LocalState). alone (record p { member = x })) (is_same_member e)
 
     pub enters_changed : p.member.own.found ≢ p.member.known → alone (record p { member = m }) ≡ rotated (nested (alone p) 0) 0
-    enters_changed ne = ap (λ (x : Member). alone (record p { member = x })) (is_changed_member ne)
+    enters_changed ne = ap (λ (x : LocalState). alone (record p { member = x })) (is_changed_member ne)
 
     tied_same : p.member.own.found ≡ p.member.known → AreTied same_member p.entries
     tied_same e = record {
@@ -112,5 +112,5 @@ module _ {T : Type 0} (p : Partaker T) (tied : AreTied p.member p.entries) (sett
 
     pub tied_enters : AreTied m p.entries
     tied_enters = dite (ℕ_discrete p.member.own.found p.member.known)
-        (λ e. subst (λ (x : Member). AreTied x p.entries) (sym (is_same_member e)) (tied_same e))
-        (λ ne. subst (λ (x : Member). AreTied x p.entries) (sym (is_changed_member ne)) tied_changed)
+        (λ e. subst (λ (x : LocalState). AreTied x p.entries) (sym (is_same_member e)) (tied_same e))
+        (λ ne. subst (λ (x : LocalState). AreTied x p.entries) (sym (is_changed_member ne)) tied_changed)

@@ -3,18 +3,18 @@ use Rattle.std.proofs.Common.{◌≡◌, ℕ, suc, ◌+◌, [], ◌∷◌, drop,
 use Rattle.std.specs.Prelude.{Bool, None}
 use base.Stored.{Gv}
 use Rattle.atomic_table.specs.declared.shared.Seat.{Seat}
-use Rattle.sdd_stakes.specs.declared.stake.Stake.{Stake}
-use Rattle.sdd_stakes.specs.Shelf.{IsFull, IsVacant, all_turned}
+use Rattle.sdd_shared_values.specs.declared.value_fraction.ValueFraction.{ValueFraction}
+use Rattle.sdd_shared_values.specs.SharedValues.{IsFull, IsVacant, all_turned}
 use Rattle.sdd_views.specs.declared.Sizes.{Sizes}
 use Rattle.sdd_views.specs.declared.View.{View}
-use Rattle.sdd_rule.specs.SlotSteps.{first, others}
+use Rattle.sdd_word_invariant.specs.SlotSteps.{first, others}
 use Rattle.sdd_views.specs.Views.{owner_of, owner_token, at_rest}
-use Rattle.sdd_homes.specs.Homes.{Carries, Moves, spare}
-use Rattle.sdd_homes.specs.HomeSteps.{HasAll, IsValue, Houses, parting, departing, resting, telling, drawing}
-use Rattle.sdd_board.specs.declared.board.Board.{Board}
-use Rattle.sdd_board.specs.Board.{book_of, places_of}
-use Rattle.sdd_board.specs.Owner.{disowned}
-use Rattle.sdd_board.specs.Token.{view, Knows, MovedAlone}
+use Rattle.sdd_domain_invariant.specs.FractionsAtHome.{CarriedFractions, Moves, spare}
+use Rattle.sdd_domain_invariant.specs.HomeSteps.{HasAll, IsValue, Houses, parting, departing, resting, telling, drawing}
+use Rattle.sdd_atomics.specs.declared.domain_table.DomainTable.{DomainTable}
+use Rattle.sdd_atomics.specs.DomainTable.{book_of, places_of}
+use Rattle.sdd_atomics.specs.Owner.{disowned}
+use Rattle.sdd_atomics.specs.DomainSeat.{view, Knows, MovedAlone}
 use Rattle.sdd_domain.specs.Values.{with_filled}
 use Rattle.sdd_domain.proofs.Moving.{row_after, rest_out}
 
@@ -31,35 +31,35 @@ module _ (slot : ℕ) (shared : Bool) (value : Gv) (v : View) (owns : v.slots.ow
   }
 
 -- the value lies in its place, and the stakes in it are at home
-pub record IsFurnished (n slot : ℕ) (shared : Bool) (value : Gv) (s t : Seat Stake View) : Type 0 where
+pub record IsFurnished (n slot : ℕ) (shared : Bool) (value : Gv) (s t : Seat ValueFraction View) : Type 0 where
   pub table : t.table_id ≡ s.table_id
   pub number : t.id ≡ s.id
   pub view : t.me.0 ≡ resting (telling slot shared value (drawing slot s.me.0))
   pub given : t.me.1 ≡ drop (suc n) s.me.1
 
 -- so it is after the value was moved in, all units but those of the stakes were cut off, and the step that tells of it
-module _ (b : Board) (slot count : ℕ) (shared : Bool) (value : Gv) (s p c t : Seat Stake View) (knows : Knows b s) (all : count ≡ places_of b + 1)
+module _ (b : DomainTable) (slot count : ℕ) (shared : Bool) (value : Gv) (s p c t : Seat ValueFraction View) (knows : Knows b s) (all : count ≡ places_of b + 1)
     (moves : Moves (view s) slot)
-    (rest : Carries) (row : HasAll (book_of b) slot (places_of b) 0 IsVacant rest s.me.1) (a : ℕ) (full : IsFull value)
+    (rest : CarriedFractions) (row : HasAll (book_of b) slot (places_of b) 0 IsVacant rest s.me.1) (a : ℕ) (full : IsFull value)
     (put : p ≡ record s { me = (s.me.0, all_turned a value count s.me.1) }) where
   pub row_put : HasAll (book_of b) slot (places_of b) 0 (IsValue value) rest p.me.1
   row_put = row_after (book_of b) slot (places_of b) count all IsVacant (IsValue value) value a rest s.me.1 p.me.1 (full, refl) row
-      (ap (λ (s : Seat Stake View). s.me.1) put)
+      (ap (λ (s : Seat ValueFraction View). s.me.1) put)
 
   module _ (cut : (c.table_id ≡ p.table_id) × (c.id ≡ p.id) × (view c ≡ view p)) where
     pub view_cut : view c ≡ view s
-    view_cut = cut.2 ∙ ap (λ (s : Seat Stake View). s.me.0) put
+    view_cut = cut.2 ∙ ap (λ (s : Seat ValueFraction View). s.me.0) put
 
     pub moves_cut : Moves (view c) slot
     moves_cut = ap (λ (v : View). v.stakes.moves) view_cut ∙ moves
 
     module _ (left : HasAll (book_of b) slot (places_of b) (spare (places_of b)) (IsValue value) rest c.me.1) where
-      pub furnished : ((slot : ℕ) (g : Gv) (rest : Carries) → Moves (view c) slot
+      pub furnished : ((slot : ℕ) (g : Gv) (rest : CarriedFractions) → Moves (view c) slot
           → HasAll (book_of b) slot (places_of b) (spare (places_of b)) (IsValue g) rest c.me.1 → MovedAlone (Houses slot shared g) c t)
           → IsFurnished (places_of b) slot shared value s t
       furnished housed = let h = housed slot value rest moves_cut left in record {
-        table = h.0 ∙ (cut.0 ∙ ap (λ (s : Seat Stake View). s.table_id) put);
-        number = h.1 ∙ (cut.1 ∙ ap (λ (s : Seat Stake View). s.id) put);
+        table = h.0 ∙ (cut.0 ∙ ap (λ (s : Seat ValueFraction View). s.table_id) put);
+        number = h.1 ∙ (cut.1 ∙ ap (λ (s : Seat ValueFraction View). s.id) put);
         view = h.2.0 ∙ ap (λ (v : View). resting (telling slot shared value (drawing slot v))) view_cut;
         given = rest_out (book_of b) slot (places_of b) c.me.0.sizes.participants (spare (places_of b)) (IsValue value) rest c.me.1 t.me.1
             (ap (λ (v : View). v.sizes.participants) view_cut ∙ ap (λ (z : Sizes). z.participants) knows.0) left h.2.1

@@ -6,33 +6,33 @@ use mathlib.Core.Logic.{dite}
 use native.Mathlib.Decide.{ℕ_discrete, dec_lt}
 use base.Stored.{Gv}
 use denote.RattleType.{RattleType}
-use Rattle.sdd_store.specs.declared.standing.Standing.TheVariants.{Owned, Shared, Retired}
-use Rattle.sdd_store.specs.declared.waiting.What.TheVariants.{Item}
-use Rattle.sdd_store.specs.Waiting.{Waiting, fresh}
-use Rattle.sdd_store.specs.Time as time
-use Rattle.sdd_stakes.specs.Shelf.{showing}
-use Rattle.sdd_token.specs.declared.right.Kind.{Kind}
-use Rattle.sdd_token.specs.declared.right.Kind.TheVariants as kinds
-use Rattle.sdd_token.specs.declared.right.Right.{Right}
-use Rattle.sdd_token.specs.Kind.{is_shared}
-use Rattle.sdd_token.specs.Right.{number_of, kind_of}
+use Rattle.sdd_participants.specs.declared.standing.Standing.TheVariants.{Owned, Shared, Retired}
+use Rattle.sdd_participants.specs.declared.waiting.LimboEntry.TheVariants.{Item}
+use Rattle.sdd_participants.specs.Waiting.{Waiting, fresh}
+use Rattle.sdd_participants.specs.EpochState as time
+use Rattle.sdd_shared_values.specs.SharedValues.{showing}
+use Rattle.sdd_rights.specs.declared.right.StandingKind.{StandingKind}
+use Rattle.sdd_rights.specs.declared.right.StandingKind.TheVariants as kinds
+use Rattle.sdd_rights.specs.declared.right.Right.{Right}
+use Rattle.sdd_rights.specs.StandingKind.{is_shared}
+use Rattle.sdd_rights.specs.Right.{number_of, kind_of}
 use Rattle.sdd_standings.specs.Slots.{IsOwnedBy, has_others}
-use Rattle.sdd_views.specs.declared.Showing.{Showing}
+use Rattle.sdd_views.specs.declared.ShownValue.{ShownValue}
 use Rattle.sdd_views.specs.declared.SlotsView.{SlotsView}
-use Rattle.sdd_rule.specs.Codes.{waiting, full}
-use Rattle.sdd_rule.specs.SlotSteps.{behind, retired_now}
-use Rattle.sdd_rule.specs.Sums.{times}
-use Rattle.sdd_rule.specs.Slots.{waits_in}
-use Rattle.sdd_rule.proofs.Codes.{owned_is, waiting_is, sound}
-use Rattle.sdd_rule.proofs.Sums.{is_same, is_other, total_snoc}
-use Rattle.sdd_homes.specs.Fillings.{newest}
-use Rattle.sdd_homes.specs.Records.{IsIn}
-use Rattle.sdd_homes.proofs.Records.{in_tail}
-use Rattle.sdd_base.specs.Holding.{Holding, AreOf}
-use Rattle.sdd_base.specs.Ptr.{KeepsShown}
-use Rattle.sdd_base.specs.World.{World, value_at, standing_at}
-use Rattle.sdd_base.specs.Steps.{owner_given, retired}
-use Rattle.sdd_domain.specs.Member.{Member, IsLone, KnowsOwner, LooksAt, RetiresAt, word_of}
+use Rattle.sdd_word_invariant.specs.Codes.{waiting, full}
+use Rattle.sdd_word_invariant.specs.SlotSteps.{behind, retired_now}
+use Rattle.sdd_word_invariant.specs.Sums.{times}
+use Rattle.sdd_word_invariant.specs.Slots.{waits_in}
+use Rattle.sdd_word_invariant.proofs.Codes.{owned_is, waiting_is, sound}
+use Rattle.sdd_word_invariant.proofs.Sums.{is_same, is_other, total_snoc}
+use Rattle.sdd_domain_invariant.specs.Fillings.{newest}
+use Rattle.sdd_domain_invariant.specs.Records.{IsIn}
+use Rattle.sdd_domain_invariant.proofs.Records.{in_tail}
+use Rattle.sdd_space.specs.OwnerOrCell.{OwnerOrCell, AreOf}
+use Rattle.sdd_space.specs.Ptr.{KeepsShown}
+use Rattle.sdd_space.specs.World.{World, value_at, standing_at}
+use Rattle.sdd_space.specs.Steps.{owner_given, retired}
+use Rattle.sdd_domain.specs.LocalState.{LocalState, IsLone, KnowsOwner, LooksAt, RetiresAt, word_of}
 use Rattle.sdd_domain.specs.Homes.{home_in}
 use Rattle.sdd_domain.specs.Items.{HasValue}
 use Rattle.sdd_domain.specs.Sight.{IsOnce}
@@ -40,7 +40,7 @@ use Rattle.sdd_domain.specs.Values.{one_showing, one_value}
 use Rattle.sdd_domain.specs.Laws.{same_value, shows_is_value}
 use Rattle.sdd_domain.specs.Waits.{what_of}
 use Rattle.sdd_domain.specs.Tied.{Agrees, AreTied, IsTied, is_plain_word}
-use Rattle.sdd_domain.specs.Local.{Partaker, listing, standing_by, value_by, standing_in, value_in, world_of}
+use Rattle.sdd_domain.specs.Local.{LocalModel, listing, standing_by, value_by, standing_in, value_in, world_of}
 use Rattle.sdd_domain.specs.Space.{ShowsBy, Shows, is_lone}
 use Rattle.sdd_domain.specs.Space as space
 use Rattle.sdd_domain.proofs.Listings.{listing_at, listing_set, listing_same}
@@ -50,19 +50,19 @@ use Rattle.sdd_domain.proofs.Alone.{alone, steps_alone}
 use Rattle.sdd_domain.proofs.Exact.{lone_is}
 use Rattle.sdd_domain.proofs.Ripe.{ripe_snoc, unripe_too}
 
-abbrev value_or : Gv → Option Showing → Gv
+abbrev value_or : Gv → Option ShownValue → Gv
 value_or g None = g
 value_or g (Some s) = s.value
 
 -- ---- an owner's item
-module _ {T : Type 0} (v : Partaker T) (t : AreTied v.member v.entries) (k : ℕ) (shared : Bool) (g : Gv) (knows : KnowsOwner v.member k shared g) where
+module _ {T : Type 0} (v : LocalModel T) (t : AreTied v.member v.entries) (k : ℕ) (shared : Bool) (g : Gv) (knows : KnowsOwner v.member k shared g) where
   pub low : k < v.member.limits.slots
   low = let s = t.slots in let i = inside v.member.sizes v.member.words t.long k knows.alive in omega arith
 
   pub owned : word_of v.member k ≡ 1
   owned = owned_alive (word_of v.member k) (t.plain k low) knows.alive
 
-  entry_of : (r : Option Showing) (e : Option (T × Gv)) → r ≡ Some (record { slot = k; shared = shared; value = g }) → Agrees r e
+  entry_of : (r : Option ShownValue) (e : Option (T × Gv)) → r ≡ Some (record { slot = k; shared = shared; value = g }) → Agrees r e
       → (x : T × Gv) × (e ≡ Some x) × (x.1 ≡ g)
   entry_of None e is a = absurd a
   entry_of (Some r) None is a = absurd a
@@ -79,18 +79,18 @@ module _ {T : Type 0} (v : Partaker T) (t : AreTied v.member v.entries) (k : ℕ
   stands = listing_at v.member.limits.slots (standing_in v) k None low ∙ (λ d. standing_by (owned d) (knows.newest d))
 
 -- ---- a look
-module _ (R : RattleType) (v : Partaker R.Denot) (m : Member) (right : Right) (x : R.Denot) where
+module _ (R : RattleType) (v : LocalModel R.Denot) (m : LocalState) (right : Right) (x : R.Denot) where
   abbrev k : ℕ
   k = number_of right
 
   abbrev sh : Bool
   sh = is_shared (kind_of right)
 
-  abbrev after : Partaker R.Denot
+  abbrev after : LocalModel R.Denot
   after = record { member = m; entries = v.entries }
 
   module _ (looks : LooksAt (number_of right) (is_shared (kind_of right)) (showing R x) v.member m) where
-    only_by : (s : SlotsView) (h : List Showing) → m ≡ record v.member { slots = s; shown = h } → m ≡ record v.member { slots = m.slots; shown = m.shown }
+    only_by : (s : SlotsView) (h : List ShownValue) → m ≡ record v.member { slots = s; shown = h } → m ≡ record v.member { slots = m.slots; shown = m.shown }
     only_by s h e = e ∙ (λ d. record v.member { slots = (sym e d).slots; shown = (sym e d).shown })
 
     pub only_looks : m ≡ record v.member { slots = m.slots; shown = m.shown }
@@ -98,10 +98,10 @@ module _ (R : RattleType) (v : Partaker R.Denot) (m : Member) (right : Right) (x
         (λ blind. only_by _ _ (looks.unseen blind))
 
     pub same_world : world_of after ≡ world_of v
-    same_world = ap (λ (y : Member). world_of (record { member = y; entries = v.entries })) only_looks
+    same_world = ap (λ (y : LocalState). world_of (record { member = y; entries = v.entries })) only_looks
 
     lone_then : IsTrue (is_lone m) → IsLone v.member
-    lone_then exact = sym (ap (λ (y : Member). y.limits.participants) only_looks) ∙ lone_is m exact
+    lone_then exact = sym (ap (λ (y : LocalState). y.limits.participants) only_looks) ∙ lone_is m exact
 
     module _ (tied : IsTied v.member v.entries) (codes : (place : ℕ) (y : R.Denot) (g : Gv) → slice_index_or v.entries place None ≡ Some (y, g) → g
         ≡ showing R y)
@@ -112,37 +112,37 @@ module _ (R : RattleType) (v : Partaker R.Denot) (m : Member) (right : Right) (x
           ap (λ (w : World R.Denot). value_at w (number_of right)) same_world
           ∙ (has_value v (tied lone) (number_of right) (is_shared (kind_of right)) (showing R x) (recalled lone) ∙ ap Some same)
 
-      shows_by : (holds : R.Denot → List Holding) → AreOf (home_in v.member) (holds x) → IsOnce m.shown → (b : Bool) → (IsTrue b → IsLone v.member)
+      shows_by : (holds : R.Denot → List OwnerOrCell) → AreOf (home_in v.member) (holds x) → IsOnce m.shown → (b : Bool) → (IsTrue b → IsLone v.member)
           → ShowsBy b (showing R) holds after (number_of right) x
       shows_by holds at once true lone = is_value (lone refl)
       shows_by holds at once false lone = let there = shown_now (number_of right) (is_shared (kind_of right)) (showing R x) v.member m looks in record {
         known = there;
         only = λ other is. once (number_of right) other (showing R x) is there;
-        home = subst (λ (y : Member). AreOf (home_in y) (holds x)) (sym only_looks) at;
+        home = subst (λ (y : LocalState). AreOf (home_in y) (holds x)) (sym only_looks) at;
       }
 
-      pub shows_it : (holds : R.Denot → List Holding) → AreOf (home_in v.member) (holds x) → IsOnce m.shown → Shows (showing R) holds after (number_of right) x
+      pub shows_it : (holds : R.Denot → List OwnerOrCell) → AreOf (home_in v.member) (holds x) → IsOnce m.shown → Shows (showing R) holds after (number_of right) x
       shows_it holds at once = shows_by holds at once (is_lone m) lone_then
 
-    keeps_by : (holds : R.Denot → List Holding) → IsOnce m.shown → (b : Bool) (i : ℕ) (u : R.Denot) → ShowsBy b (showing R) holds v i u
+    keeps_by : (holds : R.Denot → List OwnerOrCell) → IsOnce m.shown → (b : Bool) (i : ℕ) (u : R.Denot) → ShowsBy b (showing R) holds v i u
         → ShowsBy b (showing R) holds after i u
     keeps_by holds once true i u h = ap (λ (w : World R.Denot). value_at w i) same_world ∙ h
     keeps_by holds once false i u h = dite (dec_lt 0 (times (number_of right) v.member.slots.sees))
-        (λ sees. subst (λ (y : Member). space.Sees (showing R) holds y i u) (sym (looks.seen sees).0) h)
-        (λ blind. let is = looks.unseen blind in let there : IsIn m.shown i (showing R u) = subst (λ (y : Member). IsIn y.shown i (showing R u)) (sym is)
+        (λ sees. subst (λ (y : LocalState). space.Sees (showing R) holds y i u) (sym (looks.seen sees).0) h)
+        (λ blind. let is = looks.unseen blind in let there : IsIn m.shown i (showing R u) = subst (λ (y : LocalState). IsIn y.shown i (showing R u)) (sym is)
         (in_tail (record { slot = number_of right; shared = is_shared (kind_of right); value = showing R x }) v.member.shown i (showing R u) h.known) in record {
           known = there;
           only = λ g other. once i g (showing R u) other there;
-          home = subst (λ (y : Member). AreOf (home_in y) (holds u)) (sym is) h.home;
+          home = subst (λ (y : LocalState). AreOf (home_in y) (holds u)) (sym is) h.home;
         })
 
-    pub keeps_it : (holds : R.Denot → List Holding) → IsOnce m.shown → (p : Partaker R.Denot) → v ≡ p
+    pub keeps_it : (holds : R.Denot → List OwnerOrCell) → IsOnce m.shown → (p : LocalModel R.Denot) → v ≡ p
         → KeepsShown (Shows (showing R) holds p) (Shows (showing R) holds after)
-    keeps_it holds once p is i u h = let before : Shows (showing R) holds v i u = subst (λ (q : Partaker R.Denot). Shows (showing R) holds q i u) (sym is) h in
+    keeps_it holds once p is i u h = let before : Shows (showing R) holds v i u = subst (λ (q : LocalModel R.Denot). Shows (showing R) holds q i u) (sym is) h in
         subst (λ (b : Bool). ShowsBy b (showing R) holds after i u) (ap is_lone (sym only_looks)) (keeps_by holds once (is_lone v.member) i u before)
 
 -- ---- what an owner tells is what its slot shows to a lone participant
-module _ (R : RattleType) (v : Partaker R.Denot) (right : Right) (tied : IsTied v.member v.entries)
+module _ (R : RattleType) (v : LocalModel R.Denot) (right : Right) (tied : IsTied v.member v.entries)
     (codes : (place : ℕ) (y : R.Denot) (g : Gv) → slice_index_or v.entries place None ≡ Some (y, g) → g ≡ showing R y)
     (recalled : IsLone v.member → (g : Gv) × HasValue g right × KnowsOwner v.member (number_of right) (is_shared (kind_of right)) g) where
   -- the value that it moved into the slot last is in it, and is what the owner tells
@@ -160,13 +160,13 @@ module _ (R : RattleType) (v : Partaker R.Denot) (right : Right) (tied : IsTied 
     (λ there. subst (λ (y : R.Denot). HasValue (showing R y) right) (same_value f.0 x (sym f.1 ∙ there)) f.2),
   )
 
-  pub has_shown : (holds : R.Denot → List Holding) (p : Partaker R.Denot) → v ≡ p → IsTrue (is_lone p.member) → (x : R.Denot)
+  pub has_shown : (holds : R.Denot → List OwnerOrCell) (p : LocalModel R.Denot) → v ≡ p → IsTrue (is_lone p.member) → (x : R.Denot)
       → HasValue (showing R x) right ↔ Shows (showing R) holds p (number_of right) x
   has_shown holds p same exact x =
-      let here = has_there x (lone_is v.member (subst (λ (q : Partaker R.Denot). IsTrue (is_lone q.member)) (sym same) exact)) in
+      let here = has_there x (lone_is v.member (subst (λ (q : LocalModel R.Denot). IsTrue (is_lone q.member)) (sym same) exact)) in
       let shows = shows_is_value (showing R) holds p (is_lone p.member) exact (number_of right) x in (
-        (λ has. shows.1 (subst (λ (q : Partaker R.Denot). value_at (world_of q) (number_of right) ≡ Some x) same (here.0 has))),
-        (λ shown. here.1 (subst (λ (q : Partaker R.Denot). value_at (world_of q) (number_of right) ≡ Some x) (sym same) (shows.0 shown))),
+        (λ has. shows.1 (subst (λ (q : LocalModel R.Denot). value_at (world_of q) (number_of right) ≡ Some x) same (here.0 has))),
+        (λ shown. here.1 (subst (λ (q : LocalModel R.Denot). value_at (world_of q) (number_of right) ≡ Some x) (sym same) (shows.0 shown))),
       )
 
 -- ---- an owner lets its item go
@@ -178,18 +178,18 @@ none_other : (shared : Bool) → has_others (Some (if shared then Shared 1 else 
 none_other true = refl
 none_other false = refl
 
-owned_by : (kind : Kind) → IsOwnedBy kind (Some (if is_shared kind then Shared 1 else Owned))
+owned_by : (kind : StandingKind) → IsOwnedBy kind (Some (if is_shared kind then Shared 1 else Owned))
 owned_by kinds.Free = record { alone = λ e. absurd cc; together = λ e. absurd cc }
 owned_by kinds.Owned = record { alone = λ _. refl; together = λ e. absurd cc }
 owned_by kinds.Raw = record { alone = λ e. absurd cc; together = λ e. absurd cc }
 owned_by kinds.Shared = record { alone = λ e. absurd cc; together = λ _. (1, record { shared = refl; some = omega arith; most = omega arith }) }
 owned_by kinds.Retired = record { alone = λ e. absurd cc; together = λ e. absurd cc }
 
-module _ {T : Type 0} (v : Partaker T) (m : Member) (k : ℕ) (shared : Bool) (g : Gv) (count : ℕ) (is : RetiresAt k count v.member m) where
-  abbrev later : Partaker T
+module _ {T : Type 0} (v : LocalModel T) (m : LocalState) (k : ℕ) (shared : Bool) (g : Gv) (count : ℕ) (is : RetiresAt k count v.member m) where
+  abbrev later : LocalModel T
   later = record { member = m; entries = v.entries }
 
-  abbrev waits_too : Member
+  abbrev waits_too : LocalState
   waits_too = record v.member {
     own = time.awaiting (Item k) v.member.own;
     slots = record v.member.slots { waits = v.member.slots.waits ++ retired_now k count ∷ [] };
@@ -197,7 +197,7 @@ module _ {T : Type 0} (v : Partaker T) (m : Member) (k : ℕ) (shared : Bool) (g
   }
 
   lone_still : IsLone m → IsLone v.member
-  lone_still one = sym (ap (λ (y : Member). y.limits.participants) is.member) ∙ one
+  lone_still one = sym (ap (λ (y : LocalState). y.limits.participants) is.member) ∙ one
 
   is_later : IsLone v.member → m ≡ waits_too
   is_later lone = is.member ∙ (λ d. record waits_too { known = is.lone lone d })
@@ -237,7 +237,7 @@ module _ {T : Type 0} (v : Partaker T) (m : Member) (k : ℕ) (shared : Bool) (g
 
     world_waits : alone (record { member = waits_too; entries = v.entries }) ≡ retired (alone v) 0 k
     world_waits =
-        let n : ℕ = v.member.limits.slots in let q : Partaker T = record { member = waits_too; entries = v.entries } in
+        let n : ℕ = v.member.limits.slots in let q : LocalModel T = record { member = waits_too; entries = v.entries } in
         let standings : listing n (standing_in q) ≡ set (listing n (standing_in v)) k (Some Retired)
         = listing_set n (standing_in v) (standing_in q) k (λ i l ne. ap (λ (y : ℕ). standing_by y (newest i v.member.filled)) (word_then i ne))
         ∙ ap (λ (y : ℕ). set (listing n (standing_in v)) k (standing_by y (newest k v.member.filled))) word_now in
@@ -257,58 +257,58 @@ module _ {T : Type 0} (v : Partaker T) (m : Member) (k : ℕ) (shared : Bool) (g
 
   module _ (tied : IsTied v.member v.entries) (knows : IsLone v.member → KnowsOwner v.member k shared g) where
     pub tied_later : IsTied m v.entries
-    tied_later one = let lone = lone_still one in subst (λ (y : Member). AreTied y v.entries) (sym (is_later lone)) (tied_waits (tied lone) (knows lone))
+    tied_later one = let lone = lone_still one in subst (λ (y : LocalState). AreTied y v.entries) (sym (is_later lone)) (tied_waits (tied lone) (knows lone))
 
     pub world_later : IsLone v.member → world_of later ≡ owner_given (world_of v) v.member.place k (standing_at (world_of v) k)
     world_later lone = let t = tied lone in let know = knows lone in
-        steps_alone (λ (w : World T) (p : ℕ). retired w p k) v later t.place (ap (λ (y : Member). y.place) is.member ∙ t.place)
-        (ap (λ (y : Member). alone (record { member = y; entries = v.entries })) (is_later lone) ∙ world_waits t know)
+        steps_alone (λ (w : World T) (p : ℕ). retired w p k) v later t.place (ap (λ (y : LocalState). y.place) is.member ∙ t.place)
+        (ap (λ (y : LocalState). alone (record { member = y; entries = v.entries })) (is_later lone) ∙ world_waits t know)
         ∙ (sym (retires_by (world_of v) v.member.place k shared) ∙ ap (owner_given (world_of v) v.member.place k) (sym (stands v t k shared g know)))
 
-    keeps_when : (shown : T → Gv) (holds : T → List Holding) (b : Bool) → (IsTrue b → IsLone v.member) → (i : ℕ) (u : T) → ShowsBy b shown holds v i u
+    keeps_when : (shown : T → Gv) (holds : T → List OwnerOrCell) (b : Bool) → (IsTrue b → IsLone v.member) → (i : ℕ) (u : T) → ShowsBy b shown holds v i u
         → ShowsBy b shown holds later i u
-    keeps_when shown holds true lone i u h = ap (λ (y : Member). value_at (world_of (record { member = y; entries = v.entries })) i) (is_later (lone refl))
+    keeps_when shown holds true lone i u h = ap (λ (y : LocalState). value_at (world_of (record { member = y; entries = v.entries })) i) (is_later (lone refl))
         ∙ value_waits (tied (lone refl)) (knows (lone refl)) i u h
-    keeps_when shown holds false lone i u h = subst (λ (y : Member). space.Sees shown holds y i u) (sym is.member) h
+    keeps_when shown holds false lone i u h = subst (λ (y : LocalState). space.Sees shown holds y i u) (sym is.member) h
 
 -- for an answer
-module _ {T : Type 0} (v : Partaker T) (m : Member) (right : Right) (count : ℕ) (is : RetiresAt (number_of right) count v.member m)
+module _ {T : Type 0} (v : LocalModel T) (m : LocalState) (right : Right) (count : ℕ) (is : RetiresAt (number_of right) count v.member m)
     (tied : IsTied v.member v.entries)
-    (knows : IsLone v.member → (g : Gv) × KnowsOwner v.member (number_of right) (is_shared (kind_of right)) g) (p : Partaker T) (same : v ≡ p) where
+    (knows : IsLone v.member → (g : Gv) × KnowsOwner v.member (number_of right) (is_shared (kind_of right)) g) (p : LocalModel T) (same : v ≡ p) where
   lone_of : IsTrue (is_lone p.member) → IsLone v.member
-  lone_of exact = lone_is v.member (subst (λ (q : Partaker T). IsTrue (is_lone q.member)) (sym same) exact)
+  lone_of exact = lone_is v.member (subst (λ (q : LocalModel T). IsTrue (is_lone q.member)) (sym same) exact)
 
   stands_now : (exact : IsTrue (is_lone p.member)) → standing_at (world_of p) (number_of right) ≡ Some (if is_shared (kind_of right) then Shared 1 else Owned)
-  stands_now exact = let lone = lone_of exact in subst (λ (q : Partaker T). standing_at (world_of q) (number_of right)
+  stands_now exact = let lone = lone_of exact in subst (λ (q : LocalModel T). standing_at (world_of q) (number_of right)
       ≡ Some (if is_shared (kind_of right) then Shared 1 else Owned)) same
       (stands v (tied lone) (number_of right) (is_shared (kind_of right)) (knows lone).0 (knows lone).1)
 
-  pub let_go_tied : IsTied m v.entries
-  let_go_tied one = let lone = sym (ap (λ (y : Member). y.limits.participants) is.member) ∙ one in
+  pub release_tied : IsTied m v.entries
+  release_tied one = let lone = sym (ap (λ (y : LocalState). y.limits.participants) is.member) ∙ one in
       tied_later v m (number_of right) (is_shared (kind_of right)) (knows lone).0 count is tied (λ _. (knows lone).1) one
 
-  pub let_go_owned : IsTrue (is_lone p.member) → IsOwnedBy (kind_of right) (standing_at (world_of p) (number_of right))
-  let_go_owned exact = subst (IsOwnedBy (kind_of right)) (sym (stands_now exact)) (owned_by (kind_of right))
+  pub release_owned : IsTrue (is_lone p.member) → IsOwnedBy (kind_of right) (standing_at (world_of p) (number_of right))
+  release_owned exact = subst (IsOwnedBy (kind_of right)) (sym (stands_now exact)) (owned_by (kind_of right))
 
-  pub let_go_last : IsTrue (is_lone p.member) → IsTrue true ↔ ¬ (IsTrue (has_others (standing_at (world_of p) (number_of right))))
-  let_go_last exact = let none : has_others (standing_at (world_of p) (number_of right)) ≡ false
+  pub release_last : IsTrue (is_lone p.member) → IsTrue true ↔ ¬ (IsTrue (has_others (standing_at (world_of p) (number_of right))))
+  release_last exact = let none : has_others (standing_at (world_of p) (number_of right)) ≡ false
       = ap has_others (stands_now exact) ∙ none_other (is_shared (kind_of right)) in
       ((λ _ some_other. true≢false (sym some_other ∙ none)), (λ _. refl))
 
-  pub let_go_world : IsTrue (is_lone p.member) → world_of (record { member = m; entries = v.entries })
+  pub release_world : IsTrue (is_lone p.member) → world_of (record { member = m; entries = v.entries })
       ≡ owner_given (world_of p) p.member.place (number_of right) (standing_at (world_of p) (number_of right))
-  let_go_world exact = let lone = lone_of exact in
+  release_world exact = let lone = lone_of exact in
       world_later v m (number_of right) (is_shared (kind_of right)) (knows lone).0 count is tied (λ _. (knows lone).1) lone
-      ∙ ap (λ (q : Partaker T). owner_given (world_of q) q.member.place (number_of right) (standing_at (world_of q) (number_of right))) same
+      ∙ ap (λ (q : LocalModel T). owner_given (world_of q) q.member.place (number_of right) (standing_at (world_of q) (number_of right))) same
 
-  keeps_late : (shown : T → Gv) (holds : T → List Holding) (b : Bool) → (IsTrue b → IsLone v.member) → (i : ℕ) (u : T) → ShowsBy b shown holds v i u
+  keeps_late : (shown : T → Gv) (holds : T → List OwnerOrCell) (b : Bool) → (IsTrue b → IsLone v.member) → (i : ℕ) (u : T) → ShowsBy b shown holds v i u
       → ShowsBy b shown holds (record { member = m; entries = v.entries }) i u
   keeps_late shown holds true lone i u h = keeps_when v m (number_of right) (is_shared (kind_of right)) (knows (lone refl)).0 count is tied
       (λ _. (knows (lone refl)).1) shown holds true lone i u h
-  keeps_late shown holds false lone i u h = subst (λ (y : Member). space.Sees shown holds y i u) (sym is.member) h
+  keeps_late shown holds false lone i u h = subst (λ (y : LocalState). space.Sees shown holds y i u) (sym is.member) h
 
-  pub let_go_keeps : (shown : T → Gv) (holds : T → List Holding)
+  pub release_keeps : (shown : T → Gv) (holds : T → List OwnerOrCell)
       → KeepsShown (Shows shown holds p) (Shows shown holds (record { member = m; entries = v.entries }))
-  let_go_keeps shown holds i u h = let before : Shows shown holds v i u = subst (λ (q : Partaker T). Shows shown holds q i u) (sym same) h in
+  release_keeps shown holds i u h = let before : Shows shown holds v i u = subst (λ (q : LocalModel T). Shows shown holds q i u) (sym same) h in
       subst (λ (b : Bool). ShowsBy b shown holds (record { member = m; entries = v.entries }) i u) (ap is_lone (sym is.member))
       (keeps_late shown holds (is_lone v.member) (λ exact. lone_is v.member exact) i u before)

@@ -5,36 +5,36 @@ use base.Stored.{Gv}
 use mathlib.Core.Logic.{dite}
 use native.Mathlib.Decide.{ℕ_discrete, dec_lt}
 use Rattle.atomic_table.specs.declared.shared.Seat.{Seat}
-use Rattle.sdd_store.specs.declared.waiting.What.{What}
-use Rattle.sdd_store.specs.declared.waiting.What.TheVariants.{Item}
-use Rattle.sdd_store.specs.declared.time.Participant.{Participant}
-use Rattle.sdd_store.specs.Waiting.{Waiting, fresh}
-use Rattle.sdd_store.specs.Time.{stirred, awaiting, nested}
-use Rattle.sdd_stakes.specs.declared.stake.Stake.{Stake}
+use Rattle.sdd_participants.specs.declared.waiting.LimboEntry.{LimboEntry}
+use Rattle.sdd_participants.specs.declared.waiting.LimboEntry.TheVariants.{Item}
+use Rattle.sdd_participants.specs.declared.epoch_state.Participant.{Participant}
+use Rattle.sdd_participants.specs.Waiting.{Waiting, fresh}
+use Rattle.sdd_participants.specs.EpochState.{stirred, awaiting, nested}
+use Rattle.sdd_shared_values.specs.declared.value_fraction.ValueFraction.{ValueFraction}
 use Rattle.sdd_views.specs.declared.EpochView.{EpochView}
-use Rattle.sdd_views.specs.declared.Showing.{Showing}
-use Rattle.sdd_views.specs.declared.StakesView.{StakesView}
+use Rattle.sdd_views.specs.declared.ShownValue.{ShownValue}
+use Rattle.sdd_views.specs.declared.FractionsView.{FractionsView}
 use Rattle.sdd_views.specs.declared.WaitingItem.{WaitingItem}
 use Rattle.sdd_views.specs.declared.View.{View}
-use Rattle.sdd_rule.specs.Epoch.{HasPlace, IsLone, IsOpen}
-use Rattle.sdd_rule.specs.Steps.{knowing, counted, published}
-use Rattle.sdd_rule.specs.Sums.{total, times}
-use Rattle.sdd_rule.specs.Slots.{items_at, waits_in}
-use Rattle.sdd_rule.specs.SlotSteps.{retired_now, retired, noted, without}
+use Rattle.sdd_word_invariant.specs.Epoch.{HasPlace, IsLone, IsOpen}
+use Rattle.sdd_word_invariant.specs.Steps.{knowing, counted, published}
+use Rattle.sdd_word_invariant.specs.Sums.{total, times}
+use Rattle.sdd_word_invariant.specs.Slots.{items_at, waits_in}
+use Rattle.sdd_word_invariant.specs.SlotSteps.{retired_now, retired, noted, without}
 use Rattle.sdd_views.specs.Views.{owner_of}
-use Rattle.sdd_rule.proofs.Sums.{is_other, total_snoc}
-use Rattle.sdd_board.specs.declared.board.Board.{Board}
-use Rattle.sdd_stakes.specs.Seats.{OnlyLends}
-use Rattle.sdd_stakes.specs.Shelf.{IsVacant}
+use Rattle.sdd_word_invariant.proofs.Sums.{is_other, total_snoc}
+use Rattle.sdd_atomics.specs.declared.domain_table.DomainTable.{DomainTable}
+use Rattle.sdd_shared_values.specs.Seats.{OnlyLends}
+use Rattle.sdd_shared_values.specs.SharedValues.{IsVacant}
 use Rattle.sdd_views.specs.declared.Sizes.{Sizes}
-use Rattle.sdd_rule.specs.Codes.{owned_word}
-use Rattle.sdd_homes.specs.Homes.{Carries, Has, stake_at}
-use Rattle.sdd_homes.specs.Records.{slot_shown, IsIn}
-use Rattle.sdd_homes.proofs.Records.{in_head, in_either, in_times}
-use Rattle.sdd_homes.specs.HomeSteps.{Mine, IsValue, Watches, Recalls, regained, undrawing, remembering, resting, with_made}
-use Rattle.sdd_board.specs.Board.{book_of, places_of, slots_of}
-use Rattle.sdd_board.specs.Token.{view, epoch, slots, Taught, Moved, MovedAlone}
-use Rattle.sdd_board.specs.Owner.{disowned}
+use Rattle.sdd_word_invariant.specs.Codes.{owned_word}
+use Rattle.sdd_domain_invariant.specs.FractionsAtHome.{CarriedFractions, Has, stake_at}
+use Rattle.sdd_domain_invariant.specs.Records.{slot_shown, IsIn}
+use Rattle.sdd_domain_invariant.proofs.Records.{in_head, in_either, in_times}
+use Rattle.sdd_domain_invariant.specs.HomeSteps.{SeatState, IsValue, Watches, Recalls, regained, undrawing, remembering, resting, with_made}
+use Rattle.sdd_atomics.specs.DomainTable.{book_of, places_of, slots_of}
+use Rattle.sdd_atomics.specs.DomainSeat.{view, epoch, slots, Taught, Moved, MovedAlone}
+use Rattle.sdd_atomics.specs.Owner.{disowned}
 use Rattle.sdd_domain.specs.Sight.{IsOnce}
 use Rattle.sdd_domain.specs.Waits.{what_of, waiting_of, ripe, unripe, GivesOneBack}
 use Rattle.sdd_domain.proofs.Reclaims.{first_goes, no_more}
@@ -59,18 +59,18 @@ waiting_too slot shared value y count v = record v {
   words = noted slot y v;
 }
 
-module _ (b : Board) (p : ℕ) where
-  pub has_place : (own : Participant) (s : Seat Stake View) → IsPosed b p own s → HasPlace (epoch s)
+module _ (b : DomainTable) (p : ℕ) where
+  pub has_place : (own : Participant) (s : Seat ValueFraction View) → IsPosed b p own s → HasPlace (epoch s)
   has_place own s q = dite (dec_lt 0 own.guards) (λ some_open. let e = q.opened some_open in omega arith)
       (λ none. let e = q.closed (omega arith) in omega arith)
 
   -- while a guard is open a lone participant knows the count that it found, which fits its type
-  pub known_fits : (own : Participant) (s : Seat Stake View) → IsPosed b p own s → 0 < own.guards → own.found < 2 ^ 64 → IsLone (epoch s)
+  pub known_fits : (own : Participant) (s : Seat ValueFraction View) → IsPosed b p own s → 0 < own.guards → own.found < 2 ^ 64 → IsLone (epoch s)
       → (epoch s).known < 2 ^ 64
   known_fits own s q some_open fits one = let known = q.lone some_open one in let count = q.count in omega arith
 
   -- beside an owner nothing changes
-  pub same_recalled : (slot : ℕ) (shared : Bool) (value : Gv) (s t : Seat Stake View) → MovedAlone (Recalls slot shared value) s t → t ≡ s
+  pub same_recalled : (slot : ℕ) (shared : Bool) (value : Gv) (s t : Seat ValueFraction View) → MovedAlone (Recalls slot shared value) s t → t ≡ s
   same_recalled slot shared value s t e = λ d. record t { table_id = e.0 d; id = e.1 d; me = e.2.0 d }
 
   -- what is known once the item of an owner that was taken in waits
@@ -90,7 +90,7 @@ module _ (b : Board) (p : ℕ) where
       }
 
   -- the token after an owner was taken in and its item retired
-  pub retires_to : (own : Participant) (slot : ℕ) (shared : Bool) (value : Gv) (s t u : Seat Stake View) → IsPosed b p own s
+  pub retires_to : (own : Participant) (slot : ℕ) (shared : Bool) (value : Gv) (s t u : Seat ValueFraction View) → IsPosed b p own s
       → Taught (λ v _ w. w ≡ regained v (owner_of slot shared value)) s 0 t → Moved (LetsWait slot) t 4 u
       → (count : ℕ) × (u.me.0 ≡ waiting_too slot shared value 4 count (view s)) × ((epoch s).known ≤ count) × (IsLone (epoch s) → count ≡ (epoch s).known)
       × (IsOpen (epoch s) → count ≤ (epoch s).since + 1)
@@ -104,13 +104,13 @@ module _ (b : Board) (p : ℕ) where
         subst (λ (x : EpochView). IsOpen x → r.0 ≤ x.since + 1) epochs r.4,
       )
 
-  pub posed_retires : (own : Participant) (slot : ℕ) (shared : Bool) (value : Gv) (s t u : Seat Stake View) → IsPosed b p own s → slot < slots_of b
+  pub posed_retires : (own : Participant) (slot : ℕ) (shared : Bool) (value : Gv) (s t u : Seat ValueFraction View) → IsPosed b p own s → slot < slots_of b
       → Taught (λ v _ w. w ≡ regained v (owner_of slot shared value)) s 0 t → Moved (LetsWait slot) t 4 u → IsPosed b p (awaiting (Item slot) own) u
   posed_retires own slot shared value s t u q low took e = let r = retires_to own slot shared value s t u q took e in
       let others : u.me.1 ≡ s.me.1 = e.2.3 ∙ took.2 in
       subst (λ (v : View). IsPosed b p (awaiting (Item slot) own) (record u { me = (v, u.me.1) })) (sym r.1) record {
         home = e.0 ∙ (took.0 ∙ q.home);
-        purse = subst (λ (xs : Carries). IsPurse (book_of b) (places_of b) p s.me.0.stakes.sees xs) (sym others) q.purse;
+        purse = subst (λ (xs : CarriedFractions). IsPurse (book_of b) (places_of b) p s.me.0.stakes.sees xs) (sym others) q.purse;
         sight = record { owns = q.sight.owns; sees = q.sight.sees; once = q.sight.once };
         unseen = q.unseen;
         rests = q.rests;
@@ -136,12 +136,12 @@ module _ (b : Board) (p : ℕ) where
       }
 
   -- the first that was due was moved out
-  pub posed_reclaims : (own : Participant) (slot : ℕ) (rest : List What) (s t : Seat Stake View) → IsPosed b p own s
+  pub posed_reclaims : (own : Participant) (slot : ℕ) (rest : List LimboEntry) (s t : Seat ValueFraction View) → IsPosed b p own s
       → map what_of (ripe (slots s).waits) ≡ Item slot ∷ rest → Taught (GivesOneBack slot) s 0 t → IsPosed b p own t
   posed_reclaims own slot rest s t q first e = let goes = first_goes slot rest s.me.0.slots.waits first e.3.1 in
       subst (λ (v : View). IsPosed b p own (record t { me = (v, t.me.1) })) (sym e.3.0) record {
         home = e.0 ∙ q.home;
-        purse = subst (λ (xs : Carries). IsPurse (book_of b) (places_of b) p s.me.0.stakes.sees xs) (sym e.2) q.purse;
+        purse = subst (λ (xs : CarriedFractions). IsPurse (book_of b) (places_of b) p s.me.0.stakes.sees xs) (sym e.2) q.purse;
         sight = record { owns = q.sight.owns; sees = q.sight.sees; once = q.sight.once };
         unseen = q.unseen;
         rests = q.rests;
@@ -164,7 +164,7 @@ module _ (b : Board) (p : ℕ) where
         idle = q.idle;
       }
 
-  pub posed_arrived : (own new : Participant) (c g : ℕ) (xs : List WaitingItem) (s t : Seat Stake View) → IsPosed b p own s → t.table_id ≡ s.table_id
+  pub posed_arrived : (own new : Participant) (c g : ℕ) (xs : List WaitingItem) (s t : Seat ValueFraction View) → IsPosed b p own s → t.table_id ≡ s.table_id
       → t.me.1 ≡ s.me.1 → t.me.0.sizes ≡ s.me.0.sizes
       → record t.me.0.stakes { counts = s.me.0.stakes.counts } ≡ s.me.0.stakes → epoch t ≡ published (counted (knowing (epoch s) c) c) g → c ≤
       g → (IsLone (epoch s) → g ≡ c)
@@ -176,15 +176,15 @@ module _ (b : Board) (p : ℕ) where
       = λ i. record t.me.0 { epoch = epochs i; slots = keeps i } in
       subst (λ (v : View). IsPosed b p (nested new) (record t { me = (v, t.me.1) })) (sym is) record {
         home = table ∙ q.home;
-        purse = subst (λ (k : List Showing × Carries). IsPurse (book_of b) (places_of b) p k.0 k.1)
-            (λ d. (sym (ap (λ (k : StakesView). k.sees) stakes) d, sym others d)) q.purse;
+        purse = subst (λ (k : List ShownValue × CarriedFractions). IsPurse (book_of b) (places_of b) p k.0 k.1)
+            (λ d. (sym (ap (λ (k : FractionsView). k.sees) stakes) d, sym others d)) q.purse;
         sight = record {
-          owns = ap (λ (k : StakesView). k.owns) stakes ∙ q.sight.owns;
-          sees = ap (λ (k : StakesView). map slot_shown k.sees) stakes ∙ q.sight.sees;
-          once = subst (λ (k : StakesView). IsOnce k.sees) (sym stakes) q.sight.once;
+          owns = ap (λ (k : FractionsView). k.owns) stakes ∙ q.sight.owns;
+          sees = ap (λ (k : FractionsView). map slot_shown k.sees) stakes ∙ q.sight.sees;
+          once = subst (λ (k : FractionsView). IsOnce k.sees) (sym stakes) q.sight.once;
         };
         unseen = λ z. absurd (omega arith);
-        rests = ap (λ (k : StakesView). k.moves) stakes ∙ q.rests;
+        rests = ap (λ (k : FractionsView). k.moves) stakes ∙ q.rests;
         all = q.all;
         place = q.place;
         inside = q.inside;
@@ -194,7 +194,7 @@ module _ (b : Board) (p : ℕ) where
         near = λ _. record { count = low; since = omega arith; known = omega arith };
         lone = λ _ one. one_only one;
         free = q.free;
-        knows = (sizes ∙ q.knows.0, ap (λ (k : StakesView). k.book) stakes ∙ q.knows.1);
+        knows = (sizes ∙ q.knows.0, ap (λ (k : FractionsView). k.book) stakes ∙ q.knows.1);
         found = sym found;
         quiet = record { owns = q.quiet.owns; shares = q.quiet.shares; drawn = q.quiet.drawn; holds = q.quiet.holds; looked = q.quiet.looked };
         waiting = λ i some_wait. q.waiting i (let f = fewer i in omega arith);
@@ -205,7 +205,7 @@ module _ (b : Board) (p : ℕ) where
       }
 
   -- a slot that it claimed has an item, whose owner left it
-  pub made_view : (own : Participant) (slot : ℕ) (shared : Bool) (value : Gv) (s t u : Seat Stake View) → IsPosed b p own s → Gains slot s t
+  pub made_view : (own : Participant) (slot : ℕ) (shared : Bool) (value : Gv) (s t u : Seat ValueFraction View) → IsPosed b p own s → Gains slot s t
       → view u ≡ disowned (resting (with_filled slot shared value (view t)))
       → view u ≡ with_filled slot shared value (with_made (record (view s) { words = noted slot (owned_word 0) (view s) }))
   made_view own slot shared value s t u q gains is = let v : View = view s in is ∙ (ap (λ (w : View). disowned (resting
@@ -216,7 +216,7 @@ module _ (b : Board) (p : ℕ) where
         words = noted slot (owned_word 0) v;
       }))
 
-  pub posed_makes : (own : Participant) (slot : ℕ) (shared : Bool) (value : Gv) (s t u : Seat Stake View) → IsPosed b p own s → Gains slot s t
+  pub posed_makes : (own : Participant) (slot : ℕ) (shared : Bool) (value : Gv) (s t u : Seat ValueFraction View) → IsPosed b p own s → Gains slot s t
       → u.table_id ≡ t.table_id → view u ≡ disowned (resting (with_filled slot shared value (view t))) → u.me.1 ≡ drop (suc (places_of b)) t.me.1
       → IsPosed b p own u × (u.me.1 ≡ s.me.1)
   posed_makes own slot shared value s t u q gains table is given =
@@ -224,7 +224,7 @@ module _ (b : Board) (p : ℕ) where
       let others : u.me.1 ≡ s.me.1 = rest_out (book_of b) slot (places_of b) (places_of b) 0 IsVacant s.me.1 t.me.1 u.me.1 refl row given in (
         subst (λ (w : View). IsPosed b p own (record u { me = (w, u.me.1) })) (sym (made_view own slot shared value s t u q gains is)) record {
           home = table ∙ (gains.table ∙ q.home);
-          purse = subst (λ (xs : Carries). IsPurse (book_of b) (places_of b) p s.me.0.stakes.sees xs) (sym others) q.purse;
+          purse = subst (λ (xs : CarriedFractions). IsPurse (book_of b) (places_of b) p s.me.0.stakes.sees xs) (sym others) q.purse;
           sight = record { owns = q.sight.owns; sees = q.sight.sees; once = q.sight.once };
           unseen = q.unseen;
           rests = q.rests;
@@ -250,10 +250,10 @@ module _ (b : Board) (p : ℕ) where
       )
 
   -- what its guards see, and what is known of that
-  abbrev pub with_sight : List ℕ → List Showing → View → View
+  abbrev pub with_sight : List ℕ → List ShownValue → View → View
   with_sight sees records v = record v { slots = record v.slots { sees = sees }; stakes = record v.stakes { sees = records } }
 
-  posed_seeing : (own : Participant) (sees : List ℕ) (records : List Showing) (s u : Seat Stake View) → IsPosed b p own s → 0 < own.guards
+  posed_seeing : (own : Participant) (sees : List ℕ) (records : List ShownValue) (s u : Seat ValueFraction View) → IsPosed b p own s → 0 < own.guards
       → u.table_id ≡ s.table_id → view u ≡ with_sight sees records (view s) → map slot_shown records ≡ sees → IsOnce records
       → IsPurse (book_of b) (places_of b) p records u.me.1 → IsPosed b p own u
   posed_seeing own sees records s u q some_open table is told once purse =
@@ -283,9 +283,9 @@ module _ (b : Board) (p : ℕ) where
       }
 
   -- what a participant has out after a look at a slot that shows this: the stake in it among others
-  pub record HasSeen (t slot : ℕ) (value : Gv) (s u : Seat Stake View) : Type 0 where
+  pub record HasSeen (t slot : ℕ) (value : Gv) (s u : Seat ValueFraction View) : Type 0 where
     pub sees : List ℕ
-    pub records : List Showing
+    pub records : List ShownValue
     pub view : u.me.0 ≡ with_sight sees records s.me.0
     pub told : map slot_shown records ≡ sees
     pub once : IsOnce records
@@ -293,9 +293,9 @@ module _ (b : Board) (p : ℕ) where
     pub lent : AreLentTo t u.me.1
     pub there : IsIn records slot value
 
-  once_more : (slot : ℕ) (shared : Bool) (value : Gv) (records : List Showing) → IsOnce records → ¬ (0 < times slot (map slot_shown records))
+  once_more : (slot : ℕ) (shared : Bool) (value : Gv) (records : List ShownValue) → IsOnce records → ¬ (0 < times slot (map slot_shown records))
       → IsOnce (record { slot = slot; shared = shared; value = value } ∷ records)
-  once_more slot shared value records once blind i g h a c = let r : Showing = record { slot = slot; shared = shared; value = value } in
+  once_more slot shared value records once blind i g h a c = let r : ShownValue = record { slot = slot; shared = shared; value = value } in
       let unknown : (k : Gv) → slot ≡ i → ¬ (IsIn records i k)
       = λ k e there. blind (subst (λ (j : ℕ). 0 < times j (map slot_shown records)) (sym e) (in_times records i k there)) in ⊎_elim
       (λ (x : (slot ≡ i) × (value ≡ g)). ⊎_elim (λ (y : (slot ≡ i) × (value ≡ h)). sym x.1 ∙ y.1)
@@ -303,40 +303,40 @@ module _ (b : Board) (p : ℕ) where
       (λ (x : IsIn records i g). ⊎_elim (λ (y : (slot ≡ i) × (value ≡ h)). absurd (unknown g y.0 x))
       (λ (y : IsIn records i h). once i g h x y) (in_either r records i h c)) (in_either r records i g a)
 
-  pub watched : (own : Participant) (t slot : ℕ) (shared : Bool) (value : Gv) (s u : Seat Stake View) → IsPosed b p own s → AreLentTo t s.me.1
+  pub watched : (own : Participant) (t slot : ℕ) (shared : Bool) (value : Gv) (s u : Seat ValueFraction View) → IsPosed b p own s → AreLentTo t s.me.1
       → MovedAlone (Watches slot shared value) s u → HasSeen t slot value s u
-  watched own t slot shared value s u q lent e = let w = e.2 in let γ : ℕ = book_of b in let n : ℕ = places_of b in let xs : Carries = s.me.1 in
-      let known : List Showing = s.me.0.stakes.sees in dite (dec_lt 0 (times slot s.me.0.slots.sees))
+  watched own t slot shared value s u q lent e = let w = e.2 in let γ : ℕ = book_of b in let n : ℕ = places_of b in let xs : CarriedFractions = s.me.1 in
+      let known : List ShownValue = s.me.0.stakes.sees in dite (dec_lt 0 (times slot s.me.0.slots.sees))
       (λ sees. let same = (w.0 sees).0 in record {
         sees = s.me.0.slots.sees;
         records = known;
-        view = ap (λ (m : Mine). m.0) same;
+        view = ap (λ (m : SeatState). m.0) same;
         told = q.sight.sees;
         once = q.sight.once;
-        purse = subst (λ (ys : Carries). IsPurse γ n p known ys) (sym (ap (λ (m : Mine). m.1) same)) q.purse;
-        lent = subst (AreLentTo t) (sym (ap (λ (m : Mine). m.1) same)) lent;
+        purse = subst (λ (ys : CarriedFractions). IsPurse γ n p known ys) (sym (ap (λ (m : SeatState). m.1) same)) q.purse;
+        lent = subst (AreLentTo t) (sym (ap (λ (m : SeatState). m.1) same)) lent;
         there = (w.0 sees).1;
       })
-      (λ blind. let o = w.1 blind in let y : Stake = o.0 in let spot : ℕ = stake_at (s.me.0.sizes.participants) slot s.me.0.epoch.place in
+      (λ blind. let o = w.1 blind in let y : ValueFraction = o.0 in let spot : ℕ = stake_at (s.me.0.sizes.participants) slot s.me.0.epoch.place in
       let at : spot ≡ stake_at n slot p = λ d. stake_at ((q.knows.0 d).participants) slot (q.place d) in
       let has = subst (λ (k : ℕ). Has k slot 1 (IsValue value) y) q.knows.1 o.1 in
       let both = now_seen γ n p t slot spot y known xs q.purse lent at shared value has in
-      let ys : u.me.1 ≡ (spot, y) ∷ xs = ap (λ (m : Mine). m.1) o.2 in let r : Showing = record { slot = slot; shared = shared; value = value } in record {
+      let ys : u.me.1 ≡ (spot, y) ∷ xs = ap (λ (m : SeatState). m.1) o.2 in let r : ShownValue = record { slot = slot; shared = shared; value = value } in record {
         sees = slot ∷ s.me.0.slots.sees;
         records = r ∷ known;
-        view = ap (λ (m : Mine). m.0) o.2;
+        view = ap (λ (m : SeatState). m.0) o.2;
         told = ap (λ (l : List ℕ). slot ∷ l) q.sight.sees;
         once = once_more slot shared value known q.sight.once (λ c. blind (subst (λ (l : List ℕ). 0 < times slot l) q.sight.sees c));
-        purse = subst (λ (ys : Carries). IsPurse γ n p (r ∷ known) ys) (sym ys) both.0;
+        purse = subst (λ (ys : CarriedFractions). IsPurse γ n p (r ∷ known) ys) (sym ys) both.0;
         lent = subst (AreLentTo t) (sym ys) both.1;
         there = in_head r known slot value refl refl;
       })
 
-  pub posed_shows : (own : Participant) (t slot : ℕ) (value : Gv) (s u z : Seat Stake View) → IsPosed b p own s → 0 < own.guards → u.table_id ≡ s.table_id
+  pub posed_shows : (own : Participant) (t slot : ℕ) (value : Gv) (s u z : Seat ValueFraction View) → IsPosed b p own s → 0 < own.guards → u.table_id ≡ s.table_id
       → HasSeen t slot value s u → z ≡ record u { me = (u.me.0, z.me.1) } → OnlyLends t u.me.1 z.me.1 → IsPosed b p own z × AreLentTo t z.me.1
   posed_shows own t slot value s u z q some_open table seen is lends =
       let still = still_seen (book_of b) (places_of b) p t seen.records u.me.1 z.me.1 lends seen.purse seen.lent in (
-        posed_seeing own seen.sees seen.records s z q some_open (ap (λ (x : Seat Stake View). x.table_id) is ∙ table)
-            (ap (λ (x : Seat Stake View). x.me.0) is ∙ seen.view) seen.told seen.once still.0,
+        posed_seeing own seen.sees seen.records s z q some_open (ap (λ (x : Seat ValueFraction View). x.table_id) is ∙ table)
+            (ap (λ (x : Seat ValueFraction View). x.me.0) is ∙ seen.view) seen.told seen.once still.0,
         still.1,
       )

@@ -3,14 +3,14 @@ use Rattle.std.proofs.Common.{◌≡◌, ◌≢◌, ◌⊎◌, ℕ, suc, ◌<◌
 use mathlib.Core.Bool.{Bool, true, false, cond}
 use mathlib.Core.Option.{some}
 use lib.ListN.{get_elem?}
-use Rattle.sdd_store.specs.declared.waiting.What.{What}
-use Rattle.sdd_store.specs.declared.waiting.What.TheVariants.{Item, Job}
-use Rattle.sdd_store.specs.Waiting.{Waiting, aged, due, left}
+use Rattle.sdd_participants.specs.declared.waiting.LimboEntry.{LimboEntry}
+use Rattle.sdd_participants.specs.declared.waiting.LimboEntry.TheVariants.{Item, Job}
+use Rattle.sdd_participants.specs.Waiting.{Waiting, aged, due, left}
 use Rattle.sdd_views.specs.declared.WaitingItem.{WaitingItem}
-use Rattle.sdd_rule.specs.Sums.{total}
-use Rattle.sdd_rule.specs.Slots.{waits_in}
-use Rattle.sdd_rule.specs.SlotSteps.{older, without_item}
-use Rattle.sdd_rule.proofs.Sums.{is_same, is_other, total_has}
+use Rattle.sdd_word_invariant.specs.Sums.{total}
+use Rattle.sdd_word_invariant.specs.Slots.{waits_in}
+use Rattle.sdd_word_invariant.specs.SlotSteps.{older, without_item}
+use Rattle.sdd_word_invariant.proofs.Sums.{is_same, is_other, total_has}
 use Rattle.sdd_domain.specs.Waits.{what_of, waiting_of, is_ripe, ripe, unripe}
 
 pub either_way : (b : Bool) → (b ≡ true) ⊎ (b ≡ false)
@@ -22,16 +22,16 @@ module _ {X Y : Type 0} (f : X → Y) where
   map_cond true x xs = refl
   map_cond false x xs = refl
 
-slot_in : What → ℕ
+slot_in : LimboEntry → ℕ
 slot_in (Item slot) = slot
 slot_in (Job place) = place
 
-head_slot : List What → ℕ
+head_slot : List LimboEntry → ℕ
 unfolding slot_in
 head_slot [] = 0
 head_slot (w ∷ ws) = slot_in w
 
-tail_of : List What → List What
+tail_of : List LimboEntry → List LimboEntry
 tail_of [] = []
 tail_of (w ∷ ws) = ws
 
@@ -48,10 +48,10 @@ left_alike (x ∷ xs) = ap (λ (l : List Waiting). cond (not (is_ripe x)) (waiti
 pub due_alike : (xs : List WaitingItem) → due (map waiting_of xs) ≡ map what_of (ripe xs)
 due_alike [] = refl
 due_alike (x ∷ xs) = map_cond (λ (w : Waiting). w.what) (is_ripe x) (waiting_of x) (filter (λ (w : Waiting). nat_lt 2 w.seen) (map waiting_of xs))
-    ∙ (ap (λ (l : List What). cond (is_ripe x) (what_of x ∷ l) l) (due_alike xs) ∙ sym (map_cond what_of (is_ripe x) x (ripe xs)))
+    ∙ (ap (λ (l : List LimboEntry). cond (is_ripe x) (what_of x ∷ l) l) (due_alike xs) ∙ sym (map_cond what_of (is_ripe x) x (ripe xs)))
 
 -- the first that is due is one of those that wait
-pub first_is_due : (slot : ℕ) (rest : List What) (xs : List WaitingItem) → map what_of (ripe xs) ≡ Item slot ∷ rest
+pub first_is_due : (slot : ℕ) (rest : List LimboEntry) (xs : List WaitingItem) → map what_of (ripe xs) ≡ Item slot ∷ rest
     → (k : ℕ) × (x : WaitingItem) × (get_elem? xs k ≡ some x) × (x.slot ≡ slot) × (3 ≤ x.changes)
 unfolding head_slot
 first_is_due slot rest [] e = absurd cc
@@ -72,7 +72,7 @@ none_out slot (x ∷ xs) e = let r = none_out slot xs (omega arith) in
     ap (λ (b : Bool). cond (not b) (x ∷ without_item slot xs) (without_item slot xs)) (ne_eqb x.slot slot ne) ∙ ap (λ (l : List WaitingItem). x ∷ l) r
 
 -- the first that is due goes, and nothing else
-pub first_goes : (slot : ℕ) (rest : List What) (xs : List WaitingItem) → map what_of (ripe xs) ≡ Item slot ∷ rest → total (waits_in slot) xs ≡ 1
+pub first_goes : (slot : ℕ) (rest : List LimboEntry) (xs : List WaitingItem) → map what_of (ripe xs) ≡ Item slot ∷ rest → total (waits_in slot) xs ≡ 1
     → (map what_of (ripe (without_item slot xs)) ≡ rest) × (unripe (without_item slot xs) ≡ unripe xs)
 unfolding head_slot tail_of
 first_goes slot rest [] e once = absurd cc
@@ -121,13 +121,13 @@ no_more slot i (x ∷ xs) = let r = no_more slot i xs in ⊎_elim
     (either_way (x.slot == slot))
 
 -- so is the slot of the first one a slot of the board
-pub first_inside : (n slot : ℕ) (rest : List What) (xs : List WaitingItem) → map what_of (ripe xs) ≡ Item slot ∷ rest
+pub first_inside : (n slot : ℕ) (rest : List LimboEntry) (xs : List WaitingItem) → map what_of (ripe xs) ≡ Item slot ∷ rest
     → ((i : ℕ) → 0 < total (waits_in i) xs → i < n) → slot < n
 first_inside n slot rest xs e inside = let one = first_is_due slot rest xs e in
     inside slot (let here = total_has (waits_in slot) xs one.0 one.1 one.2 in let i = is_same slot one.1.slot one.3 in omega arith)
 
 -- what is due is an item of a slot
-pub first_item : (what : What) (rest : List What) (xs : List WaitingItem) → map what_of xs ≡ what ∷ rest → (slot : ℕ) × (what ≡ Item slot)
+pub first_item : (what : LimboEntry) (rest : List LimboEntry) (xs : List WaitingItem) → map what_of xs ≡ what ∷ rest → (slot : ℕ) × (what ≡ Item slot)
 first_item what rest [] e = absurd cc
 first_item what rest (x ∷ xs) e = (x.slot, cc)
 

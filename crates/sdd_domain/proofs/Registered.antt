@@ -3,24 +3,24 @@ use Rattle.std.proofs.Common.{◌≡◌, ℕ, zero, suc, ◌+◌, ◌<◌, ◌�
 use Rattle.std.proofs.lemmas.List.{length-replicate}
 use Rattle.std.specs.Prelude.{Option}
 use Rattle.atomic_table.specs.Seated.{TableId}
-use Rattle.sdd_store.specs.Waiting.{Waiting}
-use Rattle.sdd_store.specs.declared.time.Participant.{Participant}
-use Rattle.sdd_store.specs.declared.phases.Phase.TheVariants.{Live}
-use Rattle.sdd_base.specs.declared.limits.Limits.{Limits}
+use Rattle.sdd_participants.specs.Waiting.{Waiting}
+use Rattle.sdd_participants.specs.declared.epoch_state.Participant.{Participant}
+use Rattle.sdd_participants.specs.declared.place_states.PlaceState.TheVariants.{Live}
+use Rattle.sdd_space.specs.declared.limits.Limits.{Limits}
 use Rattle.sdd_views.specs.declared.SlotsView.{SlotsView}
 use Rattle.sdd_views.specs.declared.WaitingItem.{WaitingItem}
-use Rattle.sdd_rule.specs.Codes.{waiting, full}
-use Rattle.sdd_rule.specs.Words.{words_behind}
-use Rattle.sdd_rule.specs.SlotSteps.{behind}
-use Rattle.sdd_rule.specs.Sums.{total}
-use Rattle.sdd_rule.specs.Slots.{waits_in}
-use Rattle.sdd_rule.proofs.Codes.{free_is}
-use Rattle.sdd_homes.specs.Fillings.{newest}
-use Rattle.sdd_domain.specs.Member.{Member, IsLone, IsNew, word_of}
-use Rattle.sdd_store.specs.declared.waiting.What.{What}
+use Rattle.sdd_word_invariant.specs.Codes.{waiting, full}
+use Rattle.sdd_word_invariant.specs.Words.{words_behind}
+use Rattle.sdd_word_invariant.specs.SlotSteps.{behind}
+use Rattle.sdd_word_invariant.specs.Sums.{total}
+use Rattle.sdd_word_invariant.specs.Slots.{waits_in}
+use Rattle.sdd_word_invariant.proofs.Codes.{free_is}
+use Rattle.sdd_domain_invariant.specs.Fillings.{newest}
+use Rattle.sdd_domain.specs.LocalState.{LocalState, IsLone, IsNew, word_of}
+use Rattle.sdd_participants.specs.declared.waiting.LimboEntry.{LimboEntry}
 use Rattle.sdd_domain.specs.Waits.{what_of, waiting_of, ripe, unripe}
 use Rattle.sdd_domain.specs.Tied.{Entries, IsTied, is_plain_word}
-use Rattle.sdd_domain.specs.Local.{Partaker, IsBlankAlone, listing, standing_by, value_by, standing_in, value_in, world_of}
+use Rattle.sdd_domain.specs.Local.{LocalModel, IsBlankAlone, listing, standing_by, value_by, standing_in, value_in, world_of}
 use Rattle.sdd_domain.proofs.Listings.{listing_same}
 
 zeros : (n i : ℕ) → ◌≡◌ {A = ℕ} (get_or (replicate n 0) i 0) 0
@@ -32,7 +32,7 @@ listing_none : {A : Type 0} (n : ℕ) → ◌≡◌ {A = List (Option A)} (listi
 listing_none zero = refl
 listing_none (suc n) = ap (λ l. None ∷ l) (listing_none n)
 
-module _ {T : Type 0} (home : TableId) (book : ℕ) (most : Limits) (m : Member) (es : Entries T) (is : IsNew home book most m) (none : es ≡ replicate most.slots None) where
+module _ {T : Type 0} (home : TableId) (book : ℕ) (most : Limits) (m : LocalState) (es : Entries T) (is : IsNew home book most m) (none : es ≡ replicate most.slots None) where
   word_free : (i : ℕ) → word_of m i ≡ 0
   word_free i = ap (λ (ws : List ℕ). get_or ws (behind m.sizes i) 0) is.words ∙ zeros (words_behind m.sizes) (behind m.sizes i)
 
@@ -63,11 +63,11 @@ module _ {T : Type 0} (home : TableId) (book : ℕ) (most : Limits) (m : Member)
       map_waits : List WaitingItem → List Waiting
       map_waits = Rattle.std.proofs.Common.map waiting_of
 
-      map_due : List WaitingItem → List What
+      map_due : List WaitingItem → List LimboEntry
       map_due = Rattle.std.proofs.Common.map what_of
 
   pub blank_new : IsLone m → IsBlankAlone most (world_of (record { member = m; entries = es }))
-  blank_new one = let q : Partaker T = record { member = m; entries = es } in record {
+  blank_new one = let q : LocalModel T = record { member = m; entries = es } in record {
     time = λ d. record {
       count = is.lone one d;
       marked = Rattle.std.proofs.Common.false;

@@ -1,7 +1,7 @@
 -- What is ripe of what waits, and what isn't
 use Rattle.std.proofs.Common.{◌≡◌, ◌+◌, ◌≤◌, not, List, [], ◌∷◌, ◌++◌, map, length, refl, ap, ◌∙◌, arith}
 use mathlib.Core.Bool.{Bool, true, false, cond}
-use Rattle.sdd_store.specs.Waiting.{Waiting}
+use Rattle.sdd_participants.specs.Waiting.{Waiting}
 use Rattle.sdd_views.specs.declared.WaitingItem.{WaitingItem}
 use Rattle.sdd_domain.specs.Waits.{waiting_of, is_ripe, ripe, unripe}
 

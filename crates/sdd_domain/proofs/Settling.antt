@@ -3,8 +3,8 @@ use Rattle.std.proofs.Common.{◌≡◌, ℕ, zero, suc, ◌+◌, ◌-◌, ◌<�
 use Rattle.std.proofs.Math.Seq.{set-append_seam, get_or-append_seam}
 use Rattle.std.proofs.lemmas.List.{get_or_append_left}
 use Rattle.std.proofs.lemmas.List.Sums.{sum_by-cons}
-use Rattle.sdd_token.specs.Units as token
-use Rattle.sdd_store.specs.declared.tally.Tally.{Tally}
+use Rattle.sdd_rights.specs.Units as token
+use Rattle.sdd_participants.specs.declared.tally.Tally.{Tally}
 use Rattle.sdd_domain.specs.Receipt.{Receipt, capped, sum_of, with_reclaimed, made_in, reclaimed_in, in_place_in, IsSettled, AreSettled}
 
 -- one receipt more
@@ -106,7 +106,7 @@ module _ (items step : ℕ) (start now : List Receipt) (g : Going items step sta
       subst (λ (l : List Receipt × List Receipt). AreSettled items l.0 l.1) (λ d. (sym start_is d, sym now_is d)) g.are
 
 -- ---- what is so of receipts is so of the settled ones
-pub home_again : (P : token.Home → Type 0) (items : ℕ) (xs ys : List Receipt) → AreSettled items xs ys → All (λ (r : Receipt). P r.home) xs
+pub home_again : (P : token.GhostName → Type 0) (items : ℕ) (xs ys : List Receipt) → AreSettled items xs ys → All (λ (r : Receipt). P r.home) xs
     → All (λ (r : Receipt). P r.home) ys
 home_again P items [] [] are all k d low = absurd (omega arith)
 home_again P items [] (y ∷ ys) are all k d low = absurd are

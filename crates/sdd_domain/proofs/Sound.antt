@@ -4,44 +4,44 @@ use Rattle.std.specs.Prelude.{option_map, if◌then◌else◌, ◌==◌, Option,
 use Rattle.std.proofs.lemmas.List.{length-replicate, get_or_past}
 use mathlib.Core.Logic.{dite}
 use native.Mathlib.Decide.{ℕ_discrete, dec_lt}
-use Rattle.sdd_stakes.specs.Shelf.{showing}
+use Rattle.sdd_shared_values.specs.SharedValues.{showing}
 use Rattle.std.proofs.lemmas.Bool.Decides.{nat_tests}
 use base.Stored.{Gv}
 use denote.RattleType.{RattleType}
 use Rattle.atomic_table.specs.Seated.{TableId}
 use Rattle.sdd_core.specs.declared.refused.Refused.{Refused}
-use Rattle.sdd_token.specs.declared.right.Kind.{Kind}
-use Rattle.sdd_token.specs.declared.right.Kind.TheVariants as kinds
-use Rattle.sdd_token.specs.declared.right.Right.{Right}
-use Rattle.sdd_token.specs.Kind.{is_shared}
-use Rattle.sdd_token.specs.Right.{number_of, kind_of}
+use Rattle.sdd_rights.specs.declared.right.StandingKind.{StandingKind}
+use Rattle.sdd_rights.specs.declared.right.StandingKind.TheVariants as kinds
+use Rattle.sdd_rights.specs.declared.right.Right.{Right}
+use Rattle.sdd_rights.specs.StandingKind.{is_shared}
+use Rattle.sdd_rights.specs.Right.{number_of, kind_of}
 use Rattle.sdd_standings.specs.Slots.{first_standing, is_waiting}
-use Rattle.sdd_store.specs.Phases.{is_live}
-use Rattle.sdd_store.specs.Time.{Time, IsLive, newcomer}
-use Rattle.sdd_store.specs.Time as time
-use Rattle.sdd_store.specs.declared.phases.Phase.TheVariants.{Live}
-use Rattle.sdd_store.specs.declared.standing.Standing.{Standing}
-use Rattle.sdd_store.specs.declared.tally.Tally.{Tally}
-use Rattle.sdd_store.specs.declared.time.Participant.{Participant}
-use Rattle.sdd_base.specs.declared.limits.Limits.{Limits}
-use Rattle.sdd_base.specs.Holding.{Home, Holding, AreOf}
-use Rattle.sdd_base.specs.World.{World, IsGuarded, standing_at}
-use Rattle.sdd_base.specs.Calls.{IsFirst}
-use Rattle.sdd_base.specs.Steps.{opened}
-use Rattle.sdd_base.specs.Whole.{IsWhole, IsAbreast, AreHoused, times_with, jobs_with, once_if}
-use Rattle.sdd_base.proofs.Accounts.{blank-at}
-use Rattle.sdd_base.proofs.Four.{AllClosed, all-closed, not-guarded}
-use Rattle.sdd_base.proofs.Housed.{Whole-opened, Whole-made_as, Whole-owner_given, live-taken}
+use Rattle.sdd_participants.specs.PlaceStates.{is_live}
+use Rattle.sdd_participants.specs.EpochState.{EpochState, IsLive, newcomer}
+use Rattle.sdd_participants.specs.EpochState as time
+use Rattle.sdd_participants.specs.declared.place_states.PlaceState.TheVariants.{Live}
+use Rattle.sdd_participants.specs.declared.standing.Standing.{Standing}
+use Rattle.sdd_participants.specs.declared.tally.Tally.{Tally}
+use Rattle.sdd_participants.specs.declared.epoch_state.Participant.{Participant}
+use Rattle.sdd_space.specs.declared.limits.Limits.{Limits}
+use Rattle.sdd_space.specs.OwnerOrCell.{SpaceId, OwnerOrCell, AreOf}
+use Rattle.sdd_space.specs.World.{World, IsGuarded, standing_at}
+use Rattle.sdd_space.specs.WorldStep.{IsFirst}
+use Rattle.sdd_space.specs.Steps.{opened}
+use Rattle.sdd_space.specs.Whole.{IsWhole, IsAbreast, AreHoused, times_with, jobs_with, once_if}
+use Rattle.sdd_space.proofs.Accounts.{blank-at}
+use Rattle.sdd_space.proofs.Four.{AllClosed, all-closed, not-guarded}
+use Rattle.sdd_space.proofs.Housed.{Whole-opened, Whole-made_as, Whole-owner_given, live-taken}
 use Rattle.sdd_domain.specs.Homes.{home_in}
-use Rattle.sdd_domain.specs.Member.{Member, word_of, IsLone, IsNew, RetiresAt, KnowsOwner}
+use Rattle.sdd_domain.specs.LocalState.{LocalState, word_of, IsLone, IsNew, RetiresAt, KnowsOwner}
 use Rattle.sdd_domain.specs.Tied.{Entries, IsTied}
-use Rattle.sdd_domain.specs.Local.{Partaker, IsBlankAlone, value_in, world_of}
+use Rattle.sdd_domain.specs.Local.{LocalModel, IsBlankAlone, value_in, world_of}
 use Rattle.sdd_domain.specs.Space.{ShowsBy, Shows, is_lone}
 use Rattle.sdd_domain.proofs.Listings.{listing_at, listing_past}
 use Rattle.sdd_domain.specs.Laws.{own_is_place}
 use Rattle.sdd_domain.specs.Sound.{IsSound}
 use Rattle.sdd_domain.proofs.Makes.{Answers, did_world}
-use Rattle.sdd_domain.proofs.Owning.{let_go_world}
+use Rattle.sdd_domain.proofs.Owning.{release_world}
 use Rattle.sdd_domain.proofs.Registered.{blank_new}
 
 no_guards : (own : Participant) → time.is_open own ≡ false → own.guards ≡ 0
@@ -65,18 +65,18 @@ none_taken : (A : Type 0) (n : ℕ) → count_by is_some (replicate {A = Option 
 none_taken A zero = refl
 none_taken A (suc n) = none_taken A n
 
-first_is : (kind : Kind) → IsFirst (first_standing kind)
+first_is : (kind : StandingKind) → IsFirst (first_standing kind)
 first_is kinds.Free = inl refl
 first_is kinds.Owned = inl refl
 first_is kinds.Raw = inl refl
 first_is kinds.Shared = inr refl
 first_is kinds.Retired = inl refl
 
-pub lone_true : (m : Member) → IsLone m → IsTrue (is_lone m)
+pub lone_true : (m : LocalState) → IsLone m → IsTrue (is_lone m)
 lone_true m one = eq-eqb m.limits.participants 1 one
 
 -- a participant that is the first and only one
-abbrev alone_time : Limits → Time
+abbrev alone_time : Limits → EpochState
 alone_time most = record {
   count = 0;
   marked = false;
@@ -110,22 +110,22 @@ value_in_entry x y e = ap (λ (o : Option (_ × _)). entry_or x o) e
     entry_or d (Some e) = e.0
 
 module _ {T : Type 0} where
-  pub lives : (p : Partaker T) → IsLive (world_of p).time p.member.place
+  pub lives : (p : LocalModel T) → IsLive (world_of p).time p.member.place
   lives p = ((let e = length-replicate (suc p.member.place) p.member.own in omega arith), live_at p.member.place)
 
-  all_shut : (p : Partaker T) → p.member.own.guards ≡ 0 → AllClosed (world_of p)
+  all_shut : (p : LocalModel T) → p.member.own.guards ≡ 0 → AllClosed (world_of p)
   all_shut p shut q = ⊎_elim (λ (e : time.place_at (world_of p).time q ≡ p.member.own). ap time.is_open e ∙ ap (nat_lt 0) shut)
       (λ (e : time.place_at (world_of p).time q ≡ time.nobody). ap time.is_open e) (alike (suc p.member.place) q p.member.own time.nobody)
 
   -- a guard is open in its world exactly while one of its own is
-  pub shut_there : (p : Partaker T) → (p.member.own.guards ≡ 0) ↔ ¬ (IsGuarded (world_of p))
+  pub shut_there : (p : LocalModel T) → (p.member.own.guards ≡ 0) ↔ ¬ (IsGuarded (world_of p))
   shut_there p = (
     (λ shut. not-guarded (world_of p) (all_shut p shut)),
     (λ quiet. no_guards p.member.own (ap time.is_open (own_is_place p) ∙ all-closed (world_of p) quiet p.member.place)),
   )
 
   -- after a step that leaves each world whole
-  pub whole_by : (p q : Partaker T) (step : World T → ℕ → World T) → ((w : World T) (k : ℕ) → IsLive w.time k → IsWhole w → IsWhole (step w k))
+  pub whole_by : (p q : LocalModel T) (step : World T → ℕ → World T) → ((w : World T) (k : ℕ) → IsLive w.time k → IsWhole w → IsWhole (step w k))
       → world_of q ≡ step (world_of p) p.member.place → IsWhole (world_of p) → IsWhole (world_of q)
   whole_by p q step keeps same whole = subst (λ (w : World T). IsWhole w) (sym same) (keeps (world_of p) p.member.place (lives p) whole)
 
@@ -133,19 +133,19 @@ module _ {T : Type 0} where
   whole_blank most w is = record {
     filled = ap (λ (vs : List (Option T)). map is_some vs) is.values ∙ (none_there T most.slots
         ∙ sym (ap (λ (ss : List (Option Standing)). map is_some ss) is.standings ∙ none_there Standing most.slots));
-    once = λ k. ap (λ (t : Time). sum_by (times_with k) t.places) is.time
+    once = λ k. ap (λ (t : EpochState). sum_by (times_with k) t.places) is.time
         ∙ sym (ap (λ (ss : List (Option Standing)). once_if (is_waiting (slice_index_or ss k None))) is.standings
         ∙ ap (λ (s : Option Standing). once_if (is_waiting s)) (blank-at most.slots k));
-    jobs_once = λ j. ap (λ (t : Time). sum_by (jobs_with j) t.places) is.time
+    jobs_once = λ j. ap (λ (t : EpochState). sum_by (jobs_with j) t.places) is.time
         ∙ sym (ap (λ js. once_if (is_some (slice_index_or js j None))) is.jobs ∙ ap (λ s. once_if (is_some s)) (blank-at most.jobs j));
-    abreast = λ p. subst (λ (t : Time). IsAbreast t.count (time.place_at t p)) (sym is.time) (alone_abreast most p);
-    housed = subst (λ (t : Time). AreHoused t) (sym is.time) (record { lengths = refl; shut = alone_shut most; bare = alone_bare most });
+    abreast = λ p. subst (λ (t : EpochState). IsAbreast t.count (time.place_at t p)) (sym is.time) (alone_abreast most p);
+    housed = subst (λ (t : EpochState). AreHoused t) (sym is.time) (record { lengths = refl; shut = alone_shut most; bare = alone_bare most });
     counted = λ _. let a = ap (λ (t : Tally). t.made) is.tally in let b = ap (λ (t : Tally). t.reclaimed) is.tally in
         let c = ap (λ (t : Tally). t.in_place) is.tally in
         let d = ap (λ (ss : List (Option Standing)). count_by is_some ss) is.standings ∙ none_taken Standing most.slots in omega arith;
   }
 
-  pub sound_new : (holds : T → List Holding) (home : TableId) (book : ℕ) (most : Limits) (m : Member) (es : Entries T) → IsNew home book most m
+  pub sound_new : (holds : T → List OwnerOrCell) (home : TableId) (book : ℕ) (most : Limits) (m : LocalState) (es : Entries T) → IsNew home book most m
       → es ≡ replicate most.slots None → IsSound holds (record { member = m; entries = es })
   sound_new holds home book most m es is none = record {
     settled = is.due;
@@ -153,12 +153,12 @@ module _ {T : Type 0} where
     whole = λ one. whole_blank most (world_of (record { member = m; entries = es })) (blank_new home book most m es is none one);
   }
 
-  module _ (holds : T → List Holding) (v : Partaker T) (m : Member) (sound : IsSound holds v) where
+  module _ (holds : T → List OwnerOrCell) (v : LocalModel T) (m : LocalState) (sound : IsSound holds v) where
     -- what becomes of a participant whose entries stay
     pub sound_then : m.due ≡ [] → home_in m ≡ home_in v.member → (IsLone m → IsWhole (world_of (record v { member = m }))) → IsSound holds (record v { member = m })
     sound_then settled home whole = record {
       settled = settled;
-      home = λ place value g there. subst (λ (h : Home). AreOf h (holds value)) (sym home) (sound.home place value g there);
+      home = λ place value g there. subst (λ (h : SpaceId). AreOf h (holds value)) (sym home) (sound.home place value g there);
       whole = whole;
     }
 
@@ -166,15 +166,15 @@ module _ {T : Type 0} where
         → m.due ≡ v.member.due → home_in m ≡ home_in v.member
         → (IsLone v.member → world_of (record v { member = m }) ≡ step (world_of v) v.member.place) → IsSound holds (record v { member = m })
     sound_step step keeps due home same = sound_then (due ∙ sound.settled) home
-        (λ one. let lone : IsLone v.member = ap (λ (h : Home). h.readers.size) (sym home) ∙ one in
+        (λ one. let lone : IsLone v.member = ap (λ (h : SpaceId). h.readers.size) (sym home) ∙ one in
         whole_by v (record v { member = m }) step keeps (same lone) (sound.whole lone))
 
-    pub sound_let_go : (right : Right) (count : ℕ) → IsTied v.member v.entries → RetiresAt (number_of right) count v.member m
+    pub sound_release : (right : Right) (count : ℕ) → IsTied v.member v.entries → RetiresAt (number_of right) count v.member m
         → (IsLone v.member → (g : Gv) × KnowsOwner v.member (number_of right) (is_shared (kind_of right)) g) → IsSound holds (record v { member = m })
-    sound_let_go right count tied is knows = sound_then (ap (λ (y : Member). y.due) is.member ∙ sound.settled) (ap home_in is.member)
-        (λ one. let lone : IsLone v.member = sym (ap (λ (y : Member). y.limits.participants) is.member) ∙ one in
+    sound_release right count tied is knows = sound_then (ap (λ (y : LocalState). y.due) is.member ∙ sound.settled) (ap home_in is.member)
+        (λ one. let lone : IsLone v.member = sym (ap (λ (y : LocalState). y.limits.participants) is.member) ∙ one in
         let w : World T = world_of v in
-        subst (λ (u : World T). IsWhole u) (sym (let_go_world v m right count is tied knows v refl (lone_true v.member lone)))
+        subst (λ (u : World T). IsWhole u) (sym (release_world v m right count is tied knows v refl (lone_true v.member lone)))
         (Whole-owner_given w v.member.place (number_of right) (live-taken w.time v.member.place (lives v)) (standing_at w (number_of right)) refl
         (sound.whole lone)))
 
@@ -182,11 +182,11 @@ module _ {T : Type 0} where
     pub sound_opened : m.due ≡ [] → home_in m ≡ home_in v.member
         → (IsLone v.member → world_of (record v { member = m }) ≡ opened holds (world_of v) v.member.place) → IsSound holds (record v { member = m })
     sound_opened due home same = sound_then due home
-        (λ one. let lone : IsLone v.member = ap (λ (h : Home). h.readers.size) (sym home) ∙ one in
+        (λ one. let lone : IsLone v.member = ap (λ (h : SpaceId). h.readers.size) (sym home) ∙ one in
         whole_by v (record v { member = m }) (opened holds) (Whole-opened holds) (same lone) (sound.whole lone))
 
 -- what is shown holds what is of its home
-module _ {T : Type 0} (shown : T → Gv) (holds : T → List Holding) (p : Partaker T) (sound : IsSound holds p) where
+module _ {T : Type 0} (shown : T → Gv) (holds : T → List OwnerOrCell) (p : LocalModel T) (sound : IsSound holds p) where
   entry_behind : (value : T) (free : Bool) (e : Option (T × Gv)) → (if free then None else option_map (λ (x : T × Gv). x.0) e) ≡ Some value
       → (g : Gv) × (e ≡ Some (value, g))
   entry_behind value true e is = absurd (none-some is)
@@ -208,7 +208,7 @@ module _ {T : Type 0} (shown : T → Gv) (holds : T → List Holding) (p : Parta
   held_at_home k value h = held_by (is_lone p.member) k value h
 
 -- for an answer of `make`
-module _ (R : RattleType) (holds : R.Denot → List Holding) (v : Partaker R.Denot) (m : Member) (es : Entries R.Denot) (kind : Kind) {B : Type 0}
+module _ (R : RattleType) (holds : R.Denot → List OwnerOrCell) (v : LocalModel R.Denot) (m : LocalState) (es : Entries R.Denot) (kind : StandingKind) {B : Type 0}
     (P : R.Denot → Type 0) (Back Why : B × Refused → Type 0) where
   entered_home : (k : ℕ) (x : R.Denot) → es ≡ set v.entries k (Some (x, showing R x)) → AreOf (home_in m) (holds x) → home_in m ≡ home_in v.member
       → IsSound holds v → (place : ℕ) (value : R.Denot) (g : Gv) → slice_index_or es place None ≡ Some (value, g) → AreOf (home_in m) (holds value)
@@ -220,17 +220,17 @@ module _ (R : RattleType) (holds : R.Denot → List Holding) (v : Partaker R.Den
       ∙ get_or-set_same v.entries k (Some (x, showing R x)) None low) ∙ is)) at)
       (λ past. absurd (none-some (sym (ap (λ (j : ℕ). slice_index_or (set v.entries k (Some (x, showing R x))) j None) same
       ∙ get_or_past (set v.entries k (Some (x, showing R x))) k None (let l = length-set v.entries k (Some (x, showing R x)) in omega arith)) ∙ is))))
-      (λ ne. subst (λ (h : Home). AreOf h (holds value)) (sym home)
+      (λ ne. subst (λ (h : SpaceId). AreOf h (holds value)) (sym home)
       (sound.home place value g (sym (get_or-set_other v.entries k place (Some (x, showing R x)) None ne) ∙ is)))
 
   pub sound_made : (r : Result Right (B × Refused)) → Answers R v m es kind P Back Why r → ((x : R.Denot) → P x → AreOf (home_in v.member) (holds x))
       → IsTied v.member v.entries → IsSound holds v → IsSound holds (record { member = m; entries = es })
   sound_made (Ok right) a at tied sound = let home : home_in m ≡ home_in v.member = ap home_in a.2.member in record {
-    settled = ap (λ (z : Member). z.due) a.2.member ∙ sound.settled;
-    home = entered_home (number_of right) a.0 a.4 (subst (λ (h : Home). AreOf h (holds a.0)) (sym home) (at a.0 a.1)) home sound;
-    whole = λ one. let lone : IsLone v.member = sym (ap (λ (z : Member). z.limits.participants) a.2.member) ∙ one in
+    settled = ap (λ (z : LocalState). z.due) a.2.member ∙ sound.settled;
+    home = entered_home (number_of right) a.0 a.4 (subst (λ (h : SpaceId). AreOf h (holds a.0)) (sym home) (at a.0 a.1)) home sound;
+    whole = λ one. let lone : IsLone v.member = sym (ap (λ (z : LocalState). z.limits.participants) a.2.member) ∙ one in
         let w = did_world R v m es kind a.0 right (a.2, a.3, a.4) tied lone in
         subst (λ (u : World R.Denot). IsWhole u) (sym w.1)
         (Whole-made_as (world_of v) (number_of right) a.0 (first_standing kind) (first_is kind) w.0 (sound.whole lone));
   }
-  sound_made (Err e) a at tied sound = subst (λ (p : Partaker R.Denot). IsSound holds p) (λ d. record { member = sym a.1 d; entries = sym a.4 d }) sound
+  sound_made (Err e) a at tied sound = subst (λ (p : LocalModel R.Denot). IsSound holds p) (λ d. record { member = sym a.1 d; entries = sym a.4 d }) sound

@@ -2,26 +2,26 @@
 use Rattle.std.proofs.Common.{◌≡◌, ℕ, ◌∙◌, subst}
 use base.Stored.{Gv}
 use Rattle.atomic_table.specs.declared.shared.Seat.{Seat}
-use Rattle.sdd_stakes.specs.Stakes.{Lot}
-use Rattle.sdd_stakes.specs.Shelf.{lot}
-use Rattle.sdd_stakes.specs.declared.stake.Stake.{Stake}
+use Rattle.sdd_shared_values.specs.ValueFractions.{FractionContent}
+use Rattle.sdd_shared_values.specs.SharedValues.{lot}
+use Rattle.sdd_shared_values.specs.declared.value_fraction.ValueFraction.{ValueFraction}
 use Rattle.sdd_views.specs.declared.Sizes.{Sizes}
 use Rattle.sdd_views.specs.declared.View.{View}
-use Rattle.sdd_homes.specs.Homes.{Carries, spare}
-use Rattle.sdd_homes.specs.HomeSteps.{HasAll, IsValue, TakesOut, IsDeposit, moving, forgetting}
-use Rattle.sdd_board.specs.declared.board.Board.{Board}
-use Rattle.sdd_board.specs.Board.{book_of, places_of}
-use Rattle.sdd_board.specs.Token.{view, Knows}
+use Rattle.sdd_domain_invariant.specs.FractionsAtHome.{CarriedFractions, spare}
+use Rattle.sdd_domain_invariant.specs.HomeSteps.{HasAll, IsValue, TakesOut, IsDeposit, moving, forgetting}
+use Rattle.sdd_atomics.specs.declared.domain_table.DomainTable.{DomainTable}
+use Rattle.sdd_atomics.specs.DomainTable.{book_of, places_of}
+use Rattle.sdd_atomics.specs.DomainSeat.{view, Knows}
 
 -- the token before, with all stakes in the slot out, and with what the bank had joined to the last of them
-module _ (b : Board) (slot : ℕ) (s t u : Seat Stake View) (knows : Knows b s) where
+module _ (b : DomainTable) (slot : ℕ) (s t u : Seat ValueFraction View) (knows : Knows b s) where
   abbrev γ : ℕ
   γ = book_of b
 
   abbrev n : ℕ
   n = places_of b
 
-  pub deposit_known : (l : Lot) → IsDeposit slot s.me l → l ≡ lot γ slot l.round l.shown (spare n)
+  pub deposit_known : (l : FractionContent) → IsDeposit slot s.me l → l ≡ lot γ slot l.round l.shown (spare n)
   deposit_known l is = subst (λ (k : ℕ × Sizes). l ≡ lot k.0 slot l.round l.shown (spare k.1.participants)) (λ d. (knows.1 d, knows.0 d)) is
 
   module _ (out : TakesOut slot s.me t.me) where
@@ -30,7 +30,7 @@ module _ (b : Board) (slot : ℕ) (s t u : Seat Stake View) (knows : Knows b s) 
         (λ d. (knows.1 d, knows.0 d)) out.stakes
 
     module _ (joined : (u.table_id ≡ t.table_id) × (u.id ≡ t.id) × (view u ≡ view t))
-        (rows : (value : Gv) (others : Carries) → HasAll γ slot n (spare n) (IsValue value) others t.me.1
+        (rows : (value : Gv) (others : CarriedFractions) → HasAll γ slot n (spare n) (IsValue value) others t.me.1
         → HasAll γ slot n 0 (IsValue value) others u.me.1) where
       pub row_joined : HasAll γ slot n 0 (IsValue out.value) s.me.1 u.me.1
       row_joined = rows out.value s.me.1 row_taken

@@ -1,11 +1,11 @@
 -- Tallies of what a participant knows, and of all receipts together
 use Rattle.std.proofs.Common.{◌≡◌, ℕ, zero, suc, ◌+◌, List, [], ◌∷◌, ◌++◌, All, map, sum, refl, ap, ◌∙◌, arith}
 use Rattle.std.proofs.lemmas.List.Sums.{sum_by-cons}
-use Rattle.sdd_store.specs.declared.tally.Tally.{Tally}
-use Rattle.sdd_store.specs.Tally.{one_more, one_made, one_reclaimed}
+use Rattle.sdd_participants.specs.declared.tally.Tally.{Tally}
+use Rattle.sdd_participants.specs.Tally.{one_more, one_made, one_reclaimed}
 use Rattle.sdd_views.specs.declared.CountsView.{CountsView}
 use Rattle.sdd_views.specs.Views.{no_counts}
-use Rattle.sdd_homes.specs.HomeSteps.{counts_added}
+use Rattle.sdd_domain_invariant.specs.HomeSteps.{counts_added}
 use Rattle.sdd_domain.specs.Receipt.{Receipt, capped, sum_of, with_reclaimed, IsTallied, AddsUp, HasTaken, made_in, reclaimed_in, in_place_in}
 
 -- an item more

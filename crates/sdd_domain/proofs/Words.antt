@@ -4,10 +4,10 @@ use mathlib.Core.Logic.{dite}
 use native.Mathlib.Decide.{dec_lt}
 use Rattle.std.proofs.lemmas.List.{get_or_past}
 use Rattle.sdd_views.specs.declared.Sizes.{Sizes}
-use Rattle.sdd_rule.specs.Words.{words_behind}
-use Rattle.sdd_rule.specs.Codes.{alive, waiting, full}
-use Rattle.sdd_rule.specs.SlotSteps.{behind}
-use Rattle.sdd_rule.proofs.Codes.{sound, free_is, owned_is, waiting_is}
+use Rattle.sdd_word_invariant.specs.Words.{words_behind}
+use Rattle.sdd_word_invariant.specs.Codes.{alive, waiting, full}
+use Rattle.sdd_word_invariant.specs.SlotSteps.{behind}
+use Rattle.sdd_word_invariant.proofs.Codes.{sound, free_is, owned_is, waiting_is}
 use Rattle.sdd_domain.specs.Tied.{is_plain_word}
 
 pub plain_is : (x : ℕ) → IsTrue (is_plain_word x) → (x ≡ 0) ⊎ ((x ≡ 1) ⊎ (x ≡ 4))

@@ -1,11 +1,11 @@
 -- A domain as its callers see it
-use Rattle.sdd_base.specs.declared.limits.Limits.{Limits}
+use Rattle.sdd_space.specs.declared.limits.Limits.{Limits}
 use Rattle.atomic_table.specs.Seated.{TableId}
 use Rattle.std.specs.Prelude.{ℕ}
-use Rattle.sdd_token.specs.Units as token
-use Rattle.sdd_token.specs.Right.{home_of_table}
-use Rattle.sdd_board.specs.Board.{id_of}
-use Rattle.sdd_board.specs.Board as board
+use Rattle.sdd_rights.specs.Units as token
+use Rattle.sdd_rights.specs.Right.{home_of_table}
+use Rattle.sdd_atomics.specs.DomainTable.{id_of}
+use Rattle.sdd_atomics.specs.DomainTable as board
 use Rattle.sdd_domain.specs.declared.domain.Domain.{Domain}
 
 -- which domain it is
@@ -20,5 +20,5 @@ abbrev pub book_of : {T : Type 0} → Domain T → ℕ
 book_of d = board.book_of d.board
 
 -- where its slots are numbered
-abbrev pub slots_in : {T : Type 0} → Domain T → token.Home
+abbrev pub slots_in : {T : Type 0} → Domain T → token.GhostName
 slots_in d = home_of_table (home_of d) (book_of d) (limits_of d).slots

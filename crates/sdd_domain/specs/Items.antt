@@ -1,16 +1,16 @@
 -- Owners of a domain's items
 use Rattle.std.specs.Prelude.{◌≡◌}
 use base.Stored.{Gv}
-use Rattle.sdd_token.specs.declared.right.Kind.{Kind}
-use Rattle.sdd_token.specs.declared.right.Right.{Right}
-use Rattle.sdd_token.specs.Units as token
-use Rattle.sdd_token.specs.Kind.{is_shared}
-use Rattle.sdd_token.specs.Owner.{witness_of_owner}
-use Rattle.sdd_token.specs.Right.{number_of, home_of, kind_of, witness_of, home_of_table}
-use Rattle.sdd_domain.specs.Member.{Member}
+use Rattle.sdd_rights.specs.declared.right.StandingKind.{StandingKind}
+use Rattle.sdd_rights.specs.declared.right.Right.{Right}
+use Rattle.sdd_rights.specs.Units as token
+use Rattle.sdd_rights.specs.StandingKind.{is_shared}
+use Rattle.sdd_rights.specs.Owner.{witness_of_owner}
+use Rattle.sdd_rights.specs.Right.{number_of, home_of, kind_of, witness_of, home_of_table}
+use Rattle.sdd_domain.specs.LocalState.{LocalState}
 
 -- where the slots of its domain are numbered
-abbrev pub slots_home : Member → token.Home
+abbrev pub slots_home : LocalState → token.GhostName
 slots_home m = home_of_table m.home m.book m.limits.slots
 
 -- the owner's item shows this value
@@ -18,7 +18,7 @@ abbrev pub HasValue : Gv → Right → Type 0
 HasValue value right = (witness_of right).views ≡ witness_of_owner (number_of right) (is_shared (kind_of right)) value
 
 -- an owner of this kind of an item of its domain, which shows this value
-pub record IsRightTo (m : Member) (k : Kind) (shown : Gv) (right : Right) : Type 0 where
+pub record IsRightTo (m : LocalState) (k : StandingKind) (shown : Gv) (right : Right) : Type 0 where
   pub home : home_of right ≡ slots_home m
   pub kind : kind_of right ≡ k
   pub value : HasValue shown right

@@ -4,12 +4,12 @@ use Rattle.std.specs.Prelude.{Option, Some, None}
 use Rattle.std.proofs.lemmas.Bool.{true≢false}
 use base.Stored.{Gv}
 use denote.RattleType.{RattleType}
-use Rattle.sdd_stakes.specs.Shelf.{showing}
-use Rattle.sdd_store.specs.Time.{nobody}
-use Rattle.sdd_base.specs.Holding.{Holding}
-use Rattle.sdd_base.specs.World.{place_at, value_at}
+use Rattle.sdd_shared_values.specs.SharedValues.{showing}
+use Rattle.sdd_participants.specs.EpochState.{nobody}
+use Rattle.sdd_space.specs.OwnerOrCell.{OwnerOrCell}
+use Rattle.sdd_space.specs.World.{place_at, value_at}
 use Rattle.sdd_domain.specs.Values.{one_showing}
-use Rattle.sdd_domain.specs.Local.{Partaker, world_of}
+use Rattle.sdd_domain.specs.Local.{LocalModel, world_of}
 use Rattle.sdd_domain.specs.Space.{ShowsBy}
 
 replicate_at : {A : Type 0} (n : ℕ) (x d : A) → slice_index_or (replicate (suc n) x) n d ≡ x
@@ -23,16 +23,16 @@ value_or d (Some x) = x
 pub same_value : {A : Type 0} (u v : A) → Some u ≡ Some v → u ≡ v
 same_value u v e = ap (value_or u) e
 
-pub own_is_place : {T : Type 0} (p : Partaker T) → p.member.own ≡ place_at (world_of p) p.member.place
+pub own_is_place : {T : Type 0} (p : LocalModel T) → p.member.own ≡ place_at (world_of p) p.member.place
 own_is_place p = sym (replicate_at p.member.place p.member.own nobody)
 
-module _ {T : Type 0} (shown : T → Gv) (holds : T → List Holding) where
-  pub shows_is_value : (p : Partaker T) (b : Bool) → IsTrue b → (slot : ℕ) (value : T) → ShowsBy b shown holds p slot value ↔ (value_at (world_of p) slot ≡ Some value)
+module _ {T : Type 0} (shown : T → Gv) (holds : T → List OwnerOrCell) where
+  pub shows_is_value : (p : LocalModel T) (b : Bool) → IsTrue b → (slot : ℕ) (value : T) → ShowsBy b shown holds p slot value ↔ (value_at (world_of p) slot ≡ Some value)
   shows_is_value p true exact slot value = (λ h. h, λ h. h)
   shows_is_value p false exact slot value = absurd (true≢false (sym exact))
 
-module _ (R : RattleType) (p : Partaker R.Denot) where
-  pub one_shown : (holds : R.Denot → List Holding) (slot : ℕ) (u v : R.Denot) (b : Bool) → ShowsBy b (showing R) holds p slot u
+module _ (R : RattleType) (p : LocalModel R.Denot) where
+  pub one_shown : (holds : R.Denot → List OwnerOrCell) (slot : ℕ) (u v : R.Denot) (b : Bool) → ShowsBy b (showing R) holds p slot u
       → ShowsBy b (showing R) holds p slot v → u ≡ v
   one_shown holds slot u v true a b = same_value u v (sym a ∙ b)
   one_shown holds slot u v false a b = one_showing R u v (b.only (showing R u) a.known)

@@ -1,23 +1,23 @@
 -- A participant of a domain with what it moved into slots, and the world of a lone one: nobody else changes its domain
 use Rattle.std.specs.Prelude.{ℕ, zero, suc, ◌==◌, List, [], ◌∷◌, Option, Some, None, replicate, slice_index_or, option_map, if◌then◌else◌, false}
 use base.Stored.{Gv}
-use Rattle.sdd_store.specs.Time.{Time, newcomer}
-use Rattle.sdd_store.specs.declared.phases.Phase.TheVariants.{Live}
-use Rattle.sdd_store.specs.declared.standing.Standing.{Standing}
-use Rattle.sdd_store.specs.declared.standing.Standing.TheVariants.{Owned, Shared, Retired}
-use Rattle.sdd_views.specs.declared.Showing.{Showing}
-use Rattle.sdd_rule.specs.Codes.{free_word, waiting_word}
-use Rattle.sdd_homes.specs.Fillings.{newest}
+use Rattle.sdd_participants.specs.EpochState.{EpochState, newcomer}
+use Rattle.sdd_participants.specs.declared.place_states.PlaceState.TheVariants.{Live}
+use Rattle.sdd_participants.specs.declared.standing.Standing.{Standing}
+use Rattle.sdd_participants.specs.declared.standing.Standing.TheVariants.{Owned, Shared, Retired}
+use Rattle.sdd_views.specs.declared.ShownValue.{ShownValue}
+use Rattle.sdd_word_invariant.specs.Codes.{free_word, waiting_word}
+use Rattle.sdd_domain_invariant.specs.Fillings.{newest}
 use Rattle.sdd_standings.specs.Cells.{null_pointer}
-use Rattle.sdd_base.specs.declared.limits.Limits.{Limits}
-use Rattle.sdd_base.specs.World.{World, IsBlank}
-use Rattle.sdd_domain.specs.Member.{Member, word_of}
+use Rattle.sdd_space.specs.declared.limits.Limits.{Limits}
+use Rattle.sdd_space.specs.World.{World, IsBlank}
+use Rattle.sdd_domain.specs.LocalState.{LocalState, word_of}
 use Rattle.sdd_domain.specs.Tied.{Entries}
 use Rattle.sdd_domain.specs.Homes.{home_in}
 
 -- its membership, and the ledger of what it moved into slots
-pub record Partaker (T : Type 0) : Type 0 where
-  pub member : Member
+pub record LocalModel (T : Type 0) : Type 0 where
+  pub member : LocalState
   pub entries : Entries T
 
 -- so many things, each by its number
@@ -26,12 +26,12 @@ listing zero f = []
 listing (suc n) f = f 0 ∷ listing n (λ i. f (suc i))
 
 -- an item that is out stands as its owner: one of several, or the only one
-abbrev pub owner_standing : Option Showing → Standing
+abbrev pub owner_standing : Option ShownValue → Standing
 owner_standing None = Owned
 owner_standing (Some r) = if r.shared then Shared 1 else Owned
 
 -- how a slot stands by its word, and by what was moved in last
-abbrev pub standing_by : ℕ → Option Showing → Option Standing
+abbrev pub standing_by : ℕ → Option ShownValue → Option Standing
 standing_by word filled =
     if word == free_word 0 then None else (if word == waiting_word 0 then Some Retired else Some (owner_standing filled))
 
@@ -39,7 +39,7 @@ abbrev pub value_by : {T : Type 0} → ℕ → Option (T × Gv) → Option T
 value_by word entry = if word == free_word 0 then None else option_map (λ e. e.0) entry
 
 -- the count that it knows, and itself, alone
-abbrev pub time_of : Member → Time
+abbrev pub time_of : LocalState → EpochState
 time_of m = record {
   count = m.known;
   marked = false;
@@ -51,14 +51,14 @@ time_of m = record {
 }
 
 module _ {T : Type 0} where
-  abbrev pub standing_in : Partaker T → ℕ → Option Standing
+  abbrev pub standing_in : LocalModel T → ℕ → Option Standing
   standing_in p slot = standing_by (word_of p.member slot) (newest slot p.member.filled)
 
-  abbrev pub value_in : Partaker T → ℕ → Option T
+  abbrev pub value_in : LocalModel T → ℕ → Option T
   value_in p slot = value_by (word_of p.member slot) (slice_index_or p.entries slot None)
 
   -- its domain as a world: all cells and all places of jobs are free
-  abbrev pub world_of : Partaker T → World T
+  abbrev pub world_of : LocalModel T → World T
   world_of p = record {
     home = home_in p.member;
     time = time_of p.member;

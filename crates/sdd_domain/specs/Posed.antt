@@ -1,31 +1,31 @@
 -- What holds of a participant between two calls
 use Rattle.std.specs.Prelude.{◌≡◌, ℕ, ◌+◌, ◌^◌, ◌<◌, ◌≤◌, List, [], None, map, if◌then◌else◌}
 use Rattle.atomic_table.specs.declared.shared.Seat.{Seat}
-use Rattle.sdd_store.specs.declared.time.Participant.{Participant}
-use Rattle.sdd_store.specs.Time.{is_open}
-use Rattle.sdd_token.specs.declared.part.Part.{Part}
-use Rattle.sdd_places.specs.declared.tenures.Stage.{Stage}
-use Rattle.sdd_places.specs.declared.tenures.Stage.TheVariants.{Closed, Open}
+use Rattle.sdd_participants.specs.declared.epoch_state.Participant.{Participant}
+use Rattle.sdd_participants.specs.EpochState.{is_open}
+use Rattle.sdd_rights.specs.declared.fraction.Fraction.{Fraction}
+use Rattle.sdd_values.specs.declared.read_sections.SectionState.{SectionState}
+use Rattle.sdd_values.specs.declared.read_sections.SectionState.TheVariants.{Closed, Open}
 use Rattle.sdd_views.specs.declared.EpochView.{EpochView}
 use Rattle.sdd_views.specs.declared.View.{View}
-use Rattle.sdd_rule.specs.Epoch.{IsClosed, IsOpen, Scans, IsLone}
-use Rattle.sdd_views.specs.declared.Showing.{Showing}
+use Rattle.sdd_word_invariant.specs.Epoch.{IsClosed, IsOpen, Scans, IsLone}
+use Rattle.sdd_views.specs.declared.ShownValue.{ShownValue}
 use Rattle.sdd_views.specs.declared.SlotsView.{SlotsView}
-use Rattle.sdd_views.specs.declared.StakesView.{StakesView}
-use Rattle.sdd_rule.specs.Slots.{items_at}
-use Rattle.sdd_stakes.specs.declared.stake.Stake.{Stake}
-use Rattle.sdd_stakes.specs.Stakes.{AllFreeFor}
-use Rattle.sdd_stakes.specs.Seats.{lots, plain}
-use Rattle.sdd_homes.specs.Homes.{Carries}
-use Rattle.sdd_homes.specs.Records.{slot_shown}
-use Rattle.sdd_homes.specs.HomeSteps.{Purse}
+use Rattle.sdd_views.specs.declared.FractionsView.{FractionsView}
+use Rattle.sdd_word_invariant.specs.Slots.{items_at}
+use Rattle.sdd_shared_values.specs.declared.value_fraction.ValueFraction.{ValueFraction}
+use Rattle.sdd_shared_values.specs.ValueFractions.{AllFreeFor}
+use Rattle.sdd_shared_values.specs.Seats.{lots, plain}
+use Rattle.sdd_domain_invariant.specs.FractionsAtHome.{CarriedFractions}
+use Rattle.sdd_domain_invariant.specs.Records.{slot_shown}
+use Rattle.sdd_domain_invariant.specs.HomeSteps.{Purse}
 use Rattle.sdd_domain.specs.Sight.{IsOnce}
-use Rattle.sdd_board.specs.declared.board.Board.{Board}
-use Rattle.sdd_board.specs.Board.{id_of, book_of, places_of, slots_of}
+use Rattle.sdd_atomics.specs.declared.domain_table.DomainTable.{DomainTable}
+use Rattle.sdd_atomics.specs.DomainTable.{id_of, book_of, places_of, slots_of}
 use Rattle.sdd_views.specs.declared.WaitingItem.{WaitingItem}
-use Rattle.sdd_domain.specs.Due.{Pending}
+use Rattle.sdd_domain.specs.DueItems.{Pending}
 use Rattle.sdd_domain.specs.Waits.{what_of, waiting_of, ripe, unripe}
-use Rattle.sdd_board.specs.Token.{view, epoch, slots, Knows}
+use Rattle.sdd_atomics.specs.DomainSeat.{view, epoch, slots, Knows}
 
 -- it has published its count; what it knows is the count at that publish or the next
 pub record IsNear (v : EpochView) : Type 0 where
@@ -42,21 +42,21 @@ pub record IsQuiet (v : SlotsView) : Type 0 where
   pub looked : v.looked ≡ 0
 
 -- what is known of what slots show: of those that the guards see, one value for each
-pub record IsSight (stakes : StakesView) (slots : SlotsView) : Type 0 where
+pub record IsSight (stakes : FractionsView) (slots : SlotsView) : Type 0 where
   pub owns : stakes.owns ≡ []
   pub sees : map slot_shown stakes.sees ≡ slots.sees
   pub once : IsOnce stakes.sees
 
 -- the stakes that are out: one in each slot that the guards see, which shows what is known
-unfoldable pub IsPurse : ℕ → ℕ → ℕ → List Showing → Carries → Type 0
+unfoldable pub IsPurse : ℕ → ℕ → ℕ → List ShownValue → CarriedFractions → Type 0
 IsPurse γ n p sees xs = Purse γ n p sees (plain xs)
 
 -- those are lent to the tenure t at most
-unfoldable pub AreLentTo : ℕ → Carries → Type 0
+unfoldable pub AreLentTo : ℕ → CarriedFractions → Type 0
 AreLentTo t xs = AllFreeFor t (lots xs)
 
 -- the board, the place, what it keeps of its own, and its token
-module _ (b : Board) (p : ℕ) (own : Participant) (token : Seat Stake View) where
+module _ (b : DomainTable) (p : ℕ) (own : Participant) (token : Seat ValueFraction View) where
   pub record IsPosed : Type 0 where
     pub home : token.table_id ≡ id_of b
     pub purse : IsPurse (book_of b) (places_of b) p (view token).stakes.sees token.me.1
@@ -82,12 +82,12 @@ module _ (b : Board) (p : ℕ) (own : Participant) (token : Seat Stake View) whe
     pub idle : own.countdown ≡ 128 → own.bags.waiting ≡ []
 
 -- the part of a tenure that the participant keeps: each of its open guards has one unit more, and the tenure is open exactly while one is
-pub record IsTenureOf (own : Participant) (part : Part Stage) : Type 0 where
+pub record IsTenureOf (own : Participant) (part : Fraction SectionState) : Type 0 where
   pub units : part.units + own.guards ≡ 2 ^ 63
   pub kind : part.kind ≡ (if is_open own then Open else Closed)
 
 -- what was taken out of the bags is what has seen three changes; there is room for as much as waits, and it looks for slots of the board
-pub record IsReady (b : Board) (own : Participant) (pending : Pending) (known_slots : ℕ) (waits : List WaitingItem) : Type 0 where
+pub record IsReady (b : DomainTable) (own : Participant) (pending : Pending) (known_slots : ℕ) (waits : List WaitingItem) : Type 0 where
   pub due : pending.items ≡ map what_of (ripe waits)
   pub large : own.bags.room ≤ pending.room
   pub slots : known_slots ≡ slots_of b

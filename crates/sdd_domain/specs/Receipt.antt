@@ -1,14 +1,14 @@
 -- What a participant leaves that has ended
 use Rattle.std.specs.Prelude.{◌≡◌, ℕ, zero, suc, ◌+◌, ◌-◌, ◌^◌, ◌<◌, ◌≤◌, min, Bool, false, List, [], ◌∷◌, length, map, sum}
-use Rattle.sdd_token.specs.Units as token
+use Rattle.sdd_rights.specs.Units as token
 use base.Stored.{Gv}
 use Rattle.sdd_views.specs.declared.CountsView.{CountsView}
-use Rattle.sdd_board.specs.Counts.{witness_of_counts}
-use Rattle.sdd_store.specs.declared.tally.Tally.{Tally}
+use Rattle.sdd_atomics.specs.Counts.{witness_of_counts}
+use Rattle.sdd_participants.specs.declared.tally.Tally.{Tally}
 
 -- where its domain's slots are numbered, the tally, and whether something waits still
 pub record Receipt : Type 0 where
-  pub home : token.Home
+  pub home : token.GhostName
   pub tally : Tally
   pub waits : Bool
 

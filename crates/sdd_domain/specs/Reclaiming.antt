@@ -1,17 +1,17 @@
 -- What a participant reclaims at an opening, and what that gives up
 use Rattle.std.specs.Prelude.{[]}
-use Rattle.sdd_store.specs.Time.{nobody}
-use Rattle.sdd_store.specs.Tally.{no_items}
-use Rattle.sdd_domain.specs.Member.{Member}
-use Rattle.sdd_domain.specs.Local.{Partaker}
+use Rattle.sdd_participants.specs.EpochState.{nobody}
+use Rattle.sdd_participants.specs.Tally.{no_items}
+use Rattle.sdd_domain.specs.LocalState.{LocalState}
+use Rattle.sdd_domain.specs.Local.{LocalModel}
 
 -- what a retirement leaves as it is
-abbrev pub kept_by : Member → Member
+abbrev pub kept_by : LocalState → LocalState
 kept_by m = record m { own = nobody; known = 0; slots = record m.slots { waits = [] }; words = [] }
 
-abbrev pub kept_of : {T : Type 0} → Partaker T → Partaker T
+abbrev pub kept_of : {T : Type 0} → LocalModel T → LocalModel T
 kept_of p = record p { member = kept_by p.member }
 
 -- what reclaiming leaves as it is
-abbrev pub rest_of : {T : Type 0} → Partaker T → Partaker T
+abbrev pub rest_of : {T : Type 0} → LocalModel T → LocalModel T
 rest_of p = record p { member = record (kept_by p.member) { tally = no_items; due = [] } }

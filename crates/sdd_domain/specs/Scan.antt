@@ -1,8 +1,8 @@
 -- What a scan leaves
 use Rattle.std.specs.Prelude.{◌≡◌, ℕ, ◌+◌, ◌^◌, ◌<◌, ◌≤◌}
 use Rattle.sdd_views.specs.declared.EpochView.{EpochView}
-use Rattle.sdd_rule.specs.Epoch.{IsOpen, Scans, IsLone}
-use Rattle.sdd_rule.specs.Steps.{Advances}
+use Rattle.sdd_word_invariant.specs.Epoch.{IsOpen, Scans, IsLone}
+use Rattle.sdd_word_invariant.specs.Steps.{Advances}
 
 -- the looks went on to the place k
 abbrev pub looked_to : EpochView → ℕ → EpochView

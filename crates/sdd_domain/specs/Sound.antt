@@ -1,14 +1,14 @@
 -- What is always true of a participant
 use Rattle.std.specs.Prelude.{ℕ, ◌≡◌, List, [], Some, None, slice_index_or}
 use base.Stored.{Gv}
-use Rattle.sdd_base.specs.Holding.{Holding, AreOf}
-use Rattle.sdd_base.specs.Whole.{IsWhole}
-use Rattle.sdd_domain.specs.Member.{IsLone}
+use Rattle.sdd_space.specs.OwnerOrCell.{OwnerOrCell, AreOf}
+use Rattle.sdd_space.specs.Whole.{IsWhole}
+use Rattle.sdd_domain.specs.LocalState.{IsLone}
 use Rattle.sdd_domain.specs.Homes.{home_in}
-use Rattle.sdd_domain.specs.Local.{Partaker, world_of}
+use Rattle.sdd_domain.specs.Local.{LocalModel, world_of}
 
 -- nothing is left to reclaim; what its values hold is of its domain; where it is lone its world is whole
-pub record IsSound {T : Type 0} (holds : T → List Holding) (p : Partaker T) : Type 0 where
+pub record IsSound {T : Type 0} (holds : T → List OwnerOrCell) (p : LocalModel T) : Type 0 where
   pub settled : p.member.due ≡ []
   pub home : (place : ℕ) (value : T) (g : Gv) → slice_index_or p.entries place None ≡ Some (value, g) → AreOf (home_in p.member) (holds value)
   pub whole : IsLone p.member → IsWhole (world_of p)

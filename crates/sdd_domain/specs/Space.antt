@@ -1,34 +1,34 @@
 -- A participant of a domain as the generic calls see it
 use Rattle.std.specs.Prelude.{ℕ, ◌≡◌, ◌==◌, Bool, List, [], Some, true, false}
 use base.Stored.{Gv}
-use Rattle.sdd_token.specs.Units as token
-use Rattle.sdd_base.specs.Holding.{Holding, AreOf}
-use Rattle.sdd_base.specs.Known.{Known}
-use Rattle.sdd_base.specs.Seat.{Seat}
-use Rattle.sdd_base.specs.World.{value_at}
-use Rattle.sdd_views.specs.declared.Showing.{Showing}
-use Rattle.sdd_homes.specs.Records.{IsIn}
-use Rattle.sdd_domain.specs.Member.{Member}
-use Rattle.sdd_domain.specs.Homes.{Home, home_in}
+use Rattle.sdd_rights.specs.Units as token
+use Rattle.sdd_space.specs.OwnerOrCell.{OwnerOrCell, AreOf}
+use Rattle.sdd_space.specs.KnownEpochs.{KnownEpochs}
+use Rattle.sdd_space.specs.CallerId.{CallerId}
+use Rattle.sdd_space.specs.World.{value_at}
+use Rattle.sdd_views.specs.declared.ShownValue.{ShownValue}
+use Rattle.sdd_domain_invariant.specs.Records.{IsIn}
+use Rattle.sdd_domain.specs.LocalState.{LocalState}
+use Rattle.sdd_domain.specs.Homes.{SpaceId, home_in}
 use Rattle.sdd_domain.specs.Items as items
-use Rattle.sdd_domain.specs.Local.{Partaker, world_of}
+use Rattle.sdd_domain.specs.Local.{LocalModel, world_of}
 
 -- by these records the slot shows this value and no other; and what the value holds is of this home
-pub record IsShown {T : Type 0} (shown : T → Gv) (holds : T → List Holding) (at : Home) (records : List Showing) (slot : ℕ) (value : T) : Type 0 where
+pub record IsShown {T : Type 0} (shown : T → Gv) (holds : T → List OwnerOrCell) (at : SpaceId) (records : List ShownValue) (slot : ℕ) (value : T) : Type 0 where
   pub known : IsIn records slot (shown value)
   pub only : (g : Gv) → IsIn records slot g → g ≡ shown value
   pub home : AreOf at (holds value)
 
 -- one of its guards sees the slot, which shows this value
-abbrev pub Sees : {T : Type 0} → (T → Gv) → (T → List Holding) → Member → ℕ → T → Type 0
+abbrev pub Sees : {T : Type 0} → (T → Gv) → (T → List OwnerOrCell) → LocalState → ℕ → T → Type 0
 Sees shown holds m = IsShown shown holds (home_in m) m.shown
 
 -- no other participant may be
-abbrev pub is_lone : Member → Bool
+abbrev pub is_lone : LocalState → Bool
 is_lone m = m.limits.participants == 1
 
 -- where it sits
-abbrev pub seat_in : Member → Seat
+abbrev pub seat_in : LocalState → CallerId
 seat_in m = record {
   place = m.place;
   places = m.limits.participants;
@@ -44,19 +44,19 @@ seat_in m = record {
 
 module _ {T : Type 0} where
   -- what a slot shows: to a lone participant the value that is in it, and else what one of its guards sees there
-  abbrev pub ShowsBy : Bool → (T → Gv) → (T → List Holding) → Partaker T → ℕ → T → Type 0
+  abbrev pub ShowsBy : Bool → (T → Gv) → (T → List OwnerOrCell) → LocalModel T → ℕ → T → Type 0
   ShowsBy true shown holds p slot value = value_at (world_of p) slot ≡ Some value
   ShowsBy false shown holds p slot value = Sees shown holds p.member slot value
 
-  abbrev pub Shows : (T → Gv) → (T → List Holding) → Partaker T → ℕ → T → Type 0
+  abbrev pub Shows : (T → Gv) → (T → List OwnerOrCell) → LocalModel T → ℕ → T → Type 0
   Shows shown holds p = ShowsBy (is_lone p.member) shown holds p
 
-  abbrev pub seat_of : Partaker T → Seat
+  abbrev pub seat_of : LocalModel T → CallerId
   seat_of p = seat_in p.member
 
-  abbrev pub known_of : Partaker T → Known
+  abbrev pub known_of : LocalModel T → KnownEpochs
   known_of p = record { told = p.member.known; since = p.member.since }
 
   -- where the slots of its domain are numbered
-  abbrev pub slots_home : Partaker T → token.Home
+  abbrev pub slots_home : LocalModel T → token.GhostName
   slots_home p = items.slots_home p.member

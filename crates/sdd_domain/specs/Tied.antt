@@ -1,14 +1,14 @@
 -- What a lone participant's words, its bags and its ledger have to do with one another
 use Rattle.std.specs.Prelude.{◌≡◌, ℕ, ◌<◌, ◌==◌, ◌||◌, Bool, IsTrue, List, Option, Some, None, length, map, slice_index_or}
 use base.Stored.{Gv}
-use Rattle.sdd_views.specs.declared.Showing.{Showing}
-use Rattle.sdd_rule.specs.Words.{words_behind}
-use Rattle.sdd_rule.specs.Codes.{free_word, owned_word, waiting_word, waiting, full}
-use Rattle.sdd_rule.specs.Sums.{total}
-use Rattle.sdd_rule.specs.Slots.{waits_in}
-use Rattle.sdd_homes.specs.Fillings.{newest}
+use Rattle.sdd_views.specs.declared.ShownValue.{ShownValue}
+use Rattle.sdd_word_invariant.specs.Words.{words_behind}
+use Rattle.sdd_word_invariant.specs.Codes.{free_word, owned_word, waiting_word, waiting, full}
+use Rattle.sdd_word_invariant.specs.Sums.{total}
+use Rattle.sdd_word_invariant.specs.Slots.{waits_in}
+use Rattle.sdd_domain_invariant.specs.Fillings.{newest}
 use Rattle.sdd_domain.specs.Waits.{what_of, waiting_of, ripe, unripe}
-use Rattle.sdd_domain.specs.Member.{Member, IsLone, word_of}
+use Rattle.sdd_domain.specs.LocalState.{LocalState, IsLone, word_of}
 
 -- which values are in slots, with their codes
 abbrev pub Entries : Type 0 → Type 0
@@ -19,13 +19,13 @@ abbrev pub is_plain_word : ℕ → Bool
 is_plain_word x = x == free_word 0 || (x == owned_word 0 || x == waiting_word 0)
 
 -- the ledger has the value whose code the record tells
-abbrev pub Agrees : {T : Type 0} → Option Showing → Option (T × Gv) → Type 0
+abbrev pub Agrees : {T : Type 0} → Option ShownValue → Option (T × Gv) → Type 0
 Agrees None e = ⊥
 Agrees (Some r) None = ⊥
 Agrees (Some r) (Some e) = e.1 ≡ r.value
 
 -- of a lone participant: what it knows of words and of what it moved in is what its bags and its ledger have
-pub record AreTied {T : Type 0} (m : Member) (entries : Entries T) : Type 0 where
+pub record AreTied {T : Type 0} (m : LocalState) (entries : Entries T) : Type 0 where
   pub place : m.place ≡ 0
   pub slots : m.sizes.slots ≡ m.limits.slots
   pub long : length m.words ≡ words_behind m.sizes
@@ -38,5 +38,5 @@ pub record AreTied {T : Type 0} (m : Member) (entries : Entries T) : Type 0 wher
   pub due : m.due ≡ map what_of (ripe m.slots.waits)
   pub now : 0 < m.own.guards → m.known ≡ m.own.found
 
-abbrev pub IsTied : {T : Type 0} → Member → Entries T → Type 0
+abbrev pub IsTied : {T : Type 0} → LocalState → Entries T → Type 0
 IsTied m entries = IsLone m → AreTied m entries

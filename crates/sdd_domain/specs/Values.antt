@@ -4,13 +4,13 @@ use Rattle.std.proofs.Common.{sym, ap, ◌∙◌}
 use base.Stored.{Gv, gnil, gnum, gcons}
 use denote.RattleType.{RattleType}
 use Rattle.sdd_views.specs.declared.View.{View}
-use Rattle.sdd_rule.specs.SlotSteps.{Retires}
-use Rattle.sdd_homes.specs.HomeSteps.{Mine, IsNewest, undrawing, remembering}
-use Rattle.sdd_stakes.specs.Shelf.{showing}
-use Rattle.sdd_token.specs.declared.right.Right.{Right}
-use Rattle.sdd_token.specs.Owner.{one-shown}
-use Rattle.sdd_token.specs.Kind.{is_shared}
-use Rattle.sdd_token.specs.Right.{number_of, kind_of}
+use Rattle.sdd_word_invariant.specs.SlotSteps.{Retires}
+use Rattle.sdd_domain_invariant.specs.HomeSteps.{SeatState, IsNewest, undrawing, remembering}
+use Rattle.sdd_shared_values.specs.SharedValues.{showing}
+use Rattle.sdd_rights.specs.declared.right.Right.{Right}
+use Rattle.sdd_rights.specs.Owner.{one-shown}
+use Rattle.sdd_rights.specs.StandingKind.{is_shared}
+use Rattle.sdd_rights.specs.Right.{number_of, kind_of}
 use Rattle.sdd_domain.specs.Items.{HasValue}
 
 abbrev rest_of : Gv → Gv
@@ -35,5 +35,5 @@ abbrev pub WasFilled : ℕ → Gv → View → Type 0
 WasFilled slot value v = (shared : Bool) × IsNewest slot shared value v
 
 -- an owned item waits from now on, and what its owner knew is remembered; its owner's unit is in the bank
-abbrev pub LetsWait : ℕ → Mine → ℕ → Mine → Type 0
+abbrev pub LetsWait : ℕ → SeatState → ℕ → SeatState → Type 0
 LetsWait slot me y me' = (v : View) × Retires slot (undrawing me.0) y v × (me'.0 ≡ remembering v) × (me'.1 ≡ me.1)

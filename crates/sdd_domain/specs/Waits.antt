@@ -1,20 +1,20 @@
 -- What waits with a participant, as its rule and as its bags have it
 use Rattle.std.specs.Prelude.{◌≡◌, ◌≢◌, ◌⊎◌, ℕ, ◌≤◌, ◌==◌, Bool, true, false, List, [], map, filter, not, nat_lt, if◌then◌else◌}
-use Rattle.sdd_store.specs.declared.waiting.What.{What}
-use Rattle.sdd_store.specs.declared.waiting.What.TheVariants.{Item}
-use Rattle.sdd_store.specs.declared.time.Participant.{Participant}
-use Rattle.sdd_store.specs.Waiting.{Waiting}
-use Rattle.sdd_store.specs.Time.{due_next, rotated, settled}
+use Rattle.sdd_participants.specs.declared.waiting.LimboEntry.{LimboEntry}
+use Rattle.sdd_participants.specs.declared.waiting.LimboEntry.TheVariants.{Item}
+use Rattle.sdd_participants.specs.declared.epoch_state.Participant.{Participant}
+use Rattle.sdd_participants.specs.Waiting.{Waiting}
+use Rattle.sdd_participants.specs.EpochState.{due_next, rotated, settled}
 use Rattle.atomic_table.specs.declared.shared.Seat.{Seat}
 use Rattle.sdd_views.specs.declared.WaitingItem.{WaitingItem}
 use Rattle.sdd_views.specs.declared.View.{View}
-use Rattle.sdd_rule.specs.Epoch.{IsLone}
-use Rattle.sdd_rule.specs.Slots.{items_at}
-use Rattle.sdd_homes.specs.HomeSteps.{with_gone, forgetting}
-use Rattle.sdd_rule.specs.SlotSteps.{given_back, older}
+use Rattle.sdd_word_invariant.specs.Epoch.{IsLone}
+use Rattle.sdd_word_invariant.specs.Slots.{items_at}
+use Rattle.sdd_domain_invariant.specs.HomeSteps.{with_gone, forgetting}
+use Rattle.sdd_word_invariant.specs.SlotSteps.{given_back, older}
 
 -- an item of a slot, in the bags
-abbrev pub what_of : WaitingItem → What
+abbrev pub what_of : WaitingItem → LimboEntry
 what_of x = Item x.slot
 
 abbrev pub waiting_of : WaitingItem → Waiting
@@ -35,7 +35,7 @@ abbrev pub aged_at : ℕ → Participant → List WaitingItem → List WaitingIt
 aged_at count own xs = if own.found == count then xs else map older xs
 
 -- what such an opening takes out of the bags
-abbrev pub due_at : ℕ → Participant → List What
+abbrev pub due_at : ℕ → Participant → List LimboEntry
 due_at count own = if own.found == count then [] else due_next own
 
 -- what the participant keeps of its own then, but for the guard

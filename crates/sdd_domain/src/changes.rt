@@ -1,18 +1,18 @@
 //! An outermost opening: the count is published, and where that is a change what is due comes out of the bags.
 ghost use Rattle.std.specs.Prelude.{◌≡◌, ◌≤◌, ℕ, [], true, false};
-ghost use Rattle.sdd_store.specs.Time.{nested};
-ghost use Rattle.sdd_store.specs.Time as time;
-ghost use Rattle.sdd_board.specs.Token.{slots};
+ghost use Rattle.sdd_participants.specs.EpochState.{nested};
+ghost use Rattle.sdd_participants.specs.EpochState as time;
+ghost use Rattle.sdd_atomics.specs.DomainSeat.{slots};
 ghost use Rattle.sdd_domain.specs.Waits.{ripe, due_at, Arrives, HasArrived};
 ghost use Rattle.sdd_domain.specs.Posed.{IsPosed};
 
-use crate::due::Due;
-use sdd_board::{Board, Token, steps};
-use sdd_store::Participant;
+use crate::due_items::DueItems;
+use sdd_atomics::{DomainTable, DomainSeat, steps};
+use sdd_participants::Participant;
 
 /// Another count was found: what waits has seen one change more, and what has seen three then is due. Where nothing waited that is all, and it is false.
 #[inline]
-fn change(own: &mut Participant, due: &mut Due, count: u64) -> bool
+fn change(own: &mut Participant, due: &mut DueItems, count: u64) -> bool
     requires none { due.old.items ≡ [] }
     requires room { own.old.bags.room ≤ due.old.room }
     ensures own { result ≡ true → own.new ≡ time.rotated count own.old }
@@ -33,11 +33,11 @@ fn change(own: &mut Participant, due: &mut Due, count: u64) -> bool
 /// and something waited: what is due then is to be reclaimed.
 #[inline]
 pub fn arrive(
-    board: &Board,
-    token: &mut Token,
+    board: &DomainTable,
+    token: &mut DomainSeat,
     place: usize,
     own: &mut Participant,
-    due: &mut Due,
+    due: &mut DueItems,
 ) -> bool
     requires posed { IsPosed board.now place own.old token.old }
     requires closed { own.old.guards ≡ 0 }

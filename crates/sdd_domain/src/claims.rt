@@ -1,17 +1,17 @@
 //! The search for a free slot.
 ghost use Rattle.std.specs.Prelude.{◌≡◌, ◌⊎◌, ◌<◌, ◌≤◌, ℕ, true, false, None, IfOk, IsTrue, MatchOption, MatchResult};
-ghost use Rattle.sdd_rule.specs.Epoch.{HasPlace, IsLone};
-ghost use Rattle.sdd_board.specs.Board.{id_of, slots_of};
-ghost use Rattle.sdd_board.specs.Token.{view, epoch, Knows};
+ghost use Rattle.sdd_word_invariant.specs.Epoch.{HasPlace, IsLone};
+ghost use Rattle.sdd_atomics.specs.DomainTable.{id_of, slots_of};
+ghost use Rattle.sdd_atomics.specs.DomainSeat.{view, epoch, Knows};
 ghost use Rattle.sdd_domain.specs.Claims.{IsKnownFree, IsUnmoved, Gains, Misses, Loses};
 
-use crate::known::Known;
-use sdd_board::steps::slots::{FREE, claim, look};
-use sdd_board::{Board, Token};
+use crate::free_slot_hints::FreeSlotHints;
+use sdd_atomics::steps::slots::{FREE, claim, look};
+use sdd_atomics::{DomainTable, DomainSeat};
 use sdd_core::Refused;
 
 /// One try at a slot, which is claimed if it is found free. So many exchanges more may be lost.
-fn attempt(board: &Board, token: &mut Token, slot: u32, left: &mut u64) -> Result<bool, Refused>
+fn attempt(board: &DomainTable, token: &mut DomainSeat, slot: u32, left: &mut u64) -> Result<bool, Refused>
     requires home { token.old.table_id ≡ id_of board.now }
     requires knows { Knows board.now token.old }
     requires rests { (view token.old).stakes.moves ≡ None }
@@ -38,9 +38,9 @@ fn attempt(board: &Board, token: &mut Token, slot: u32, left: &mut u64) -> Resul
 
 /// Tries the slots that were given back.
 fn try_known(
-    board: &Board,
-    token: &mut Token,
-    known: &mut Known,
+    board: &DomainTable,
+    token: &mut DomainSeat,
+    known: &mut FreeSlotHints,
     left: &mut u64,
 ) -> Result<Option<u32>, Refused>
     requires home { token.old.table_id ≡ id_of board.now }
@@ -68,8 +68,8 @@ fn try_known(
 
 /// Tries the slots from one up to another one.
 fn walk(
-    board: &Board,
-    token: &mut Token,
+    board: &DomainTable,
+    token: &mut DomainSeat,
     from: u32,
     to: u32,
     left: &mut u64,
@@ -98,9 +98,9 @@ fn walk(
 /// Tries the slots that were given back, and then all slots in a walk, once round. So many exchanges may be lost.
 #[inline(never)]
 fn search(
-    board: &Board,
-    token: &mut Token,
-    known: &mut Known,
+    board: &DomainTable,
+    token: &mut DomainSeat,
+    known: &mut FreeSlotHints,
     slots: u32,
     tries: u64,
 ) -> Result<u32, Refused>
@@ -133,7 +133,7 @@ fn search(
 }
 
 /// A slot is found free by a walk over all of them, which claims none.
-pub fn finds_free(board: &Board, token: &mut Token, slots: u32) -> bool
+pub fn finds_free(board: &DomainTable, token: &mut DomainSeat, slots: u32) -> bool
     requires home { token.old.table_id ≡ id_of board.now }
     requires knows { Knows board.now token.old }
     requires slots { slots ≡ slots_of board.now }
@@ -155,9 +155,9 @@ pub fn finds_free(board: &Board, token: &mut Token, slots: u32) -> bool
 /// `NoSlot` where none was found free; `Contended` where so many exchanges were lost.
 #[inline]
 pub fn claim_free(
-    board: &Board,
-    token: &mut Token,
-    known: &mut Known,
+    board: &DomainTable,
+    token: &mut DomainSeat,
+    known: &mut FreeSlotHints,
     slots: u32,
     tries: u64,
 ) -> Result<u32, Refused>

@@ -1,28 +1,28 @@
 //! The close of a domain: what waits is reclaimed, and once nobody takes part any more and all slots are free, all stakes are gathered.
 ghost use Rattle.std.specs.Prelude.{◌≡◌, ◌-◌, ◌≤◌, ◌<◌, ℕ, [], ◌∷◌, true, false, All, IfSome, slice_index_or};
 ghost use Rattle.core.specs.Mem.Slots.{slots_items, slots_filled, slots_len};
-ghost use Rattle.sdd_stakes.specs.Shelf.{AreVacant};
-ghost use Rattle.sdd_rule.specs.Barred.{past};
-ghost use Rattle.sdd_rule.specs.Codes as codes;
-ghost use Rattle.sdd_rule.specs.Slots.{slot_at};
+ghost use Rattle.sdd_shared_values.specs.SharedValues.{AreVacant};
+ghost use Rattle.sdd_word_invariant.specs.Barred.{past};
+ghost use Rattle.sdd_word_invariant.specs.Codes as codes;
+ghost use Rattle.sdd_word_invariant.specs.Slots.{slot_at};
 ghost use Rattle.sdd_views.specs.Views.{no_counts};
-ghost use Rattle.sdd_homes.specs.Homes.{AreHome};
-ghost use Rattle.sdd_board.specs.Board.{id_of, sizes_of, places_of};
-ghost use Rattle.sdd_board.specs.Sizes.{AreSmall};
-ghost use Rattle.sdd_board.specs.Token.{view};
+ghost use Rattle.sdd_domain_invariant.specs.FractionsAtHome.{AreHome};
+ghost use Rattle.sdd_atomics.specs.DomainTable.{id_of, sizes_of, places_of};
+ghost use Rattle.sdd_atomics.specs.Sizes.{AreSmall};
+ghost use Rattle.sdd_atomics.specs.DomainSeat.{view};
 ghost use Rattle.sdd_domain.specs.Domain.{slots_in};
-ghost use Rattle.sdd_domain.specs.Receipt.{Receipt as Ended, AreSettled, HasTaken};
+ghost use Rattle.sdd_domain.specs.Receipt.{Receipt as EndedCounts, AreSettled, HasTaken};
 
 use crate::domain::Domain;
 use crate::receipt::Receipt;
 use atomic_table::Closed;
-use sdd_base::Item;
-use sdd_board::steps::counts::take_counts;
-use sdd_board::steps::slots::{FREE, look_for_value};
-use sdd_board::words::state_word;
-use sdd_board::{Board, Token, steps};
-use sdd_homes::gather_home;
-use sdd_stakes::{Stake, Stock, Title};
+use sdd_space::Item;
+use sdd_atomics::steps::counts::take_counts;
+use sdd_atomics::steps::slots::{FREE, look_for_value};
+use sdd_atomics::words::state_word;
+use sdd_atomics::{DomainTable, DomainSeat, steps};
+use sdd_domain_invariant::gather_home;
+use sdd_shared_values::{ValueFraction, FractionList, ValuesName};
 use sdd_views::Sizes;
 use std::alloc::Global;
 use std::mem;
@@ -36,7 +36,7 @@ fn is_free(word: u64) -> bool
 
 /// At this moment no place is a participant's, and all slots are free. A peek changes nothing, so that a close that is refused here leaves the places
 /// as they were.
-fn is_quiet(board: &Board, slots: u32) -> bool
+fn is_quiet(board: &DomainTable, slots: u32) -> bool
     requires { slots ≡ (sizes_of board.now).slots }
 {
     (0..board.places()).all(|place| {
@@ -46,7 +46,7 @@ fn is_quiet(board: &Board, slots: u32) -> bool
 }
 
 /// Bars the next place, unless it is a participant's: whether it is barred then.
-fn bars(board: &Board, token: &mut Token, place: usize) -> bool
+fn bars(board: &DomainTable, token: &mut DomainSeat, place: usize) -> bool
     requires home { token.old.table_id ≡ id_of board.now }
     requires next { (place < places_of board.now) × (place ≡ (view token.old).places.ended) }
     ensures home { token.new.table_id ≡ id_of board.now }
@@ -64,7 +64,7 @@ fn bars(board: &Board, token: &mut Token, place: usize) -> bool
 }
 
 /// Bars each place that is nobody's. A token that knows that all are barred, unless one is a participant's.
-fn bar_all(board: &Board) -> Option<Token>
+fn bar_all(board: &DomainTable) -> Option<DomainSeat>
     ensures home { IfSome result (λ token. token.table_id ≡ id_of board.now) }
     ensures ended { IfSome result (λ token. places_of board.now ≤ (view token).places.ended) }
     ensures counts { IfSome result (λ token. (view token).stakes.counts ≡ no_counts) }
@@ -80,7 +80,7 @@ fn bar_all(board: &Board) -> Option<Token>
 }
 
 /// Looks at each slot in turn, once all places are barred. All are free, and stay so, which the token knows then; unless one is found that isn't.
-fn are_free(board: &Board, token: &mut Token, slots: u32) -> bool
+fn are_free(board: &DomainTable, token: &mut DomainSeat, slots: u32) -> bool
     requires home { token.old.table_id ≡ id_of board.now }
     requires slots { slots ≡ (sizes_of board.now).slots }
     requires ended { places_of board.now ≤ (view token.old).places.ended }
@@ -99,7 +99,7 @@ fn are_free(board: &Board, token: &mut Token, slots: u32) -> bool
 }
 
 /// A token that knows that all places are barred and all slots are free, where that is so: nothing is out any more, and nothing waits.
-pub fn settled(board: &Board, slots: u32) -> Option<Token>
+pub fn settled(board: &DomainTable, slots: u32) -> Option<DomainSeat>
     requires { slots ≡ (sizes_of board.now).slots }
     ensures home { IfSome result (λ token. token.table_id ≡ id_of board.now) }
     ensures ended { IfSome result (λ token. places_of board.now ≤ (view token).places.ended) }
@@ -147,7 +147,7 @@ pub fn are_over<T: Item<T>>(receipts: &Vec<Receipt<T>>) -> bool
 }
 
 /// Takes the counts of all receipts in.
-pub fn take_all_counts<T: Item<T>>(board: &Board, token: &mut Token, mut receipts: Vec<Receipt<T>>)
+pub fn take_all_counts<T: Item<T>>(board: &DomainTable, token: &mut DomainSeat, mut receipts: Vec<Receipt<T>>)
     requires home { token.old.table_id ≡ id_of board.now }
     requires homes { All (λ (r : Ended). r.home.tables ≡ id_of board.now ∷ []) receipts.items }
     requires over { All (λ (r : Ended). r.waits ≡ false) receipts.items }
@@ -162,14 +162,14 @@ pub fn take_all_counts<T: Item<T>>(board: &Board, token: &mut Token, mut receipt
 }
 
 /// All stakes, of a closed table in which all slots are free.
-pub fn gather_all_stakes(closed: &mut Closed<Stake, Global>, title: &Title, sizes: &Sizes) -> Stock
+pub fn gather_all_stakes(closed: &mut Closed<ValueFraction, Global>, title: &ValuesName, sizes: &Sizes) -> FractionList
     requires small { AreSmall sizes.now }
     requires home { AreHome title.now.book sizes.now (slots_len closed.old.slots) closed.old }
     requires free { (i : ℕ) → i < sizes.now.slots → codes.full (slot_at sizes.now (slots_items closed.old.words) i) ≡ 0 }
     ensures stock { AreVacant title.now.book 0 sizes.now.slots result.lots }
     ensures emptied { (k : ℕ) → k < slots_len closed.new.slots → slice_index_or (slots_filled closed.new.slots) k false ≡ false }
 {
-    let mut stock = Stock::new();
+    let mut stock = FractionList::new();
     let mut left = closed.slot_count();
     let mut slot = sizes.slots as u32;
     while slot > 0 {

@@ -1,22 +1,22 @@
 ghost use Rattle.std.specs.Prelude.{◌≡◌, ℕ, List, false, ◌+◌, ◌^◌, ◌≤◌, ◌⊎◌, [], All, IfErr, IfOk, MatchResult, length, vec_capacity};
-ghost use Rattle.sdd_base.specs.Limits.{AreInRange};
-ghost use Rattle.sdd_stakes.specs.Memory.{IsHoldOf, IsHoldOfShelf};
-ghost use Rattle.sdd_stakes.specs.Shelf.{AreVacant};
-ghost use Rattle.sdd_homes.specs.Homes.{homes_for};
-ghost use Rattle.sdd_board.specs.Board.{sizes_of};
+ghost use Rattle.sdd_space.specs.Limits.{AreInRange};
+ghost use Rattle.sdd_shared_values.specs.Memory.{IsHoldOf, IsHoldOfShelf};
+ghost use Rattle.sdd_shared_values.specs.SharedValues.{AreVacant};
+ghost use Rattle.sdd_domain_invariant.specs.FractionsAtHome.{homes_for};
+ghost use Rattle.sdd_atomics.specs.DomainTable.{sizes_of};
 ghost use Rattle.sdd_domain.specs.Shelf.{sizes_in, IsShelfOf};
-ghost use Rattle.sdd_domain.specs.Receipt.{Receipt as Ended, AddsUp, AreSettled, capped, sum_of, with_reclaimed};
+ghost use Rattle.sdd_domain.specs.Receipt.{Receipt as EndedCounts, AddsUp, AreSettled, capped, sum_of, with_reclaimed};
 
-use crate::at_home::AtHome;
+use crate::holds_own_domain::HoldsOwnDomain;
 use crate::closing::{are_over, gather_all_stakes, settle_all, settled, take_all_counts};
 use crate::receipt::Receipt;
-use sdd_base::{Item, Limits};
-use sdd_board::{Board, Plan};
+use sdd_space::{Item, Limits};
+use sdd_atomics::{DomainTable, TableLayout};
 use sdd_core::Refused;
-use sdd_homes::{gather_all, lay_all};
-use sdd_places::Hold;
-use sdd_stakes::{Plot, Shelf, Stake, Stock};
-use sdd_store::Tally;
+use sdd_domain_invariant::{gather_all, lay_all};
+use sdd_values::Freeable;
+use sdd_shared_values::{VacantValues, SharedValues, ValueFraction, FractionList};
+use sdd_participants::Tally;
 use sdd_views::Sizes;
 use std::alloc::{AllocError, Global};
 use std_alloc::room::may_hold;
@@ -25,9 +25,9 @@ use std_alloc::room::may_hold;
 ///
 /// Each has a [`Local`](crate::Local) of its own. A domain must be spent by `close`.
 pub struct Domain<T: Item<T>> {
-    pub(crate) board: Board,
-    pub(crate) shelf: Shelf<T, AtHome>,
-    hold: Hold<T, Global>,
+    pub(crate) board: DomainTable,
+    pub(crate) shelf: SharedValues<T, HoldsOwnDomain>,
+    hold: Freeable<T, Global>,
     pub(crate) limits: Limits,
     pub(crate) alloc: Global,
     ghost limited: { AreInRange limits × (sizes_of board ≡ sizes_in limits) },
@@ -46,7 +46,7 @@ fn sizes_for(limits: &Limits) -> Sizes
 }
 
 /// Room for so many values, none of which is there.
-fn new_plot<T>(alloc: Global, slots: usize) -> Result<(Plot<T>, Stock, Hold<T, Global>), AllocError>
+fn new_plot<T>(alloc: Global, slots: usize) -> Result<(VacantValues<T>, FractionList, Freeable<T, Global>), AllocError>
     ensures size { IfOk result (λ made. made.0.size ≡ slots) }
     ensures stock { IfOk result (λ made. AreVacant made.0.book 0 slots made.1.lots) }
     ensures hold { IfOk result (λ made. IsHoldOf made.0 alloc made.2) }
@@ -54,11 +54,11 @@ fn new_plot<T>(alloc: Global, slots: usize) -> Result<(Plot<T>, Stock, Hold<T, G
     if !may_hold::<T>(slots) {
         return Err(AllocError);
     }
-    Plot::new(&alloc, slots)
+    VacantValues::new(&alloc, slots)
 }
 
 /// Room for the stakes of so many places in so many slots. They have no bytes.
-fn new_homes(alloc: Global, participants: usize, slots: usize) -> Result<Vec<Stake>, AllocError>
+fn new_homes(alloc: Global, participants: usize, slots: usize) -> Result<Vec<ValueFraction>, AllocError>
     requires few { participants ≤ 1024 }
     requires small { slots ≤ 2 ^ 24 }
     ensures empty { IfOk result (λ laid. laid.items ≡ []) }
@@ -112,12 +112,12 @@ impl<T: Item<T>> Domain<T> {
         let Ok((plot, stock, hold)) = new_plot(alloc, slots as usize) else {
             return Err(Refused::NoMemory);
         };
-        let plan = Plan {
+        let plan = TableLayout {
             sizes: sizes_for(&limits),
             title: plot.title(),
         };
         lay_all(&mut laid, stock, &plan.title, participants, slots);
-        match Board::new(alloc, &plan, laid) {
+        match DomainTable::new(alloc, &plan, laid) {
             Ok(board) => {
                 let shelf = plot.found(&board.table.shared);
                 Ok(Domain {

@@ -1,19 +1,19 @@
 //! A participant reclaims what waits with it, where nobody else takes part any more.
 ghost use Rattle.std.specs.Prelude.{◌≡◌, ◌-◌, ◌≤◌, [], length};
-ghost use Rattle.sdd_store.specs.Time.{due_next};
-ghost use Rattle.sdd_domain.specs.Member.{IsGuarded};
+ghost use Rattle.sdd_participants.specs.EpochState.{due_next};
+ghost use Rattle.sdd_domain.specs.LocalState.{HasOpenGuard};
 ghost use Rattle.sdd_domain.specs.Receipt.{with_reclaimed};
 ghost use Rattle.sdd_domain.specs.Space.{slots_home};
 
-use crate::reclaiming::Partner;
-use sdd_base::Item;
+use crate::reclaiming::LocalGiver;
+use sdd_space::Item;
 
-impl<T: Item<T>> Partner<'_, T> {
+impl<T: Item<T>> LocalGiver<'_, T> {
     /// Opens an accelerated guard and closes it. How many items were reclaimed, and whether the opening was a change with which something waited.
     fn turn_over(&mut self) -> (usize, bool)
-        requires shut { ¬ (IsGuarded self.old.member) }
+        requires shut { ¬ (HasOpenGuard self.old.member) }
         requires settled { self.old.member.due ≡ [] }
-        ensures shut { ¬ (IsGuarded self.new.member) }
+        ensures shut { ¬ (HasOpenGuard self.new.member) }
         ensures settled { self.new.member.due ≡ [] }
         ensures home { slots_home self.new ≡ slots_home self.old }
         ensures few { result.0 ≤ length (due_next self.old.member.own) }
@@ -33,9 +33,9 @@ impl<T: Item<T>> Partner<'_, T> {
     ///
     /// An item is due after three changes, and what its value holds waits from then on: so four turns for each slot, and four more, are enough.
     pub fn drain(&mut self, left: &mut usize)
-        requires shut { ¬ (IsGuarded self.old.member) }
+        requires shut { ¬ (HasOpenGuard self.old.member) }
         requires settled { self.old.member.due ≡ [] }
-        ensures shut { ¬ (IsGuarded self.new.member) }
+        ensures shut { ¬ (HasOpenGuard self.new.member) }
         ensures settled { self.new.member.due ≡ [] }
         ensures home { slots_home self.new ≡ slots_home self.old }
         ensures few { left.new ≤ left.old }

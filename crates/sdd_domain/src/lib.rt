@@ -1,17 +1,17 @@
 //! A domain: what participants in several threads share, values and guards over them.
 #![tactic(auto)]
 
-mod at_home;
+mod holds_own_domain;
 mod changes;
 mod claims;
 mod closing;
 pub mod domain;
 mod draining;
-mod due;
-mod ended;
-mod known;
+mod due_items;
+mod ended_counts;
+mod free_slot_hints;
 pub mod local;
-mod membership;
+mod local_core;
 pub mod receipt;
 mod reclaiming;
 mod scan;

@@ -2,17 +2,17 @@
 ghost use Rattle.std.specs.Prelude.{◌≡◌, ◌⊎◌, IfErr, IfOk, MatchResult};
 ghost use Rattle.sdd_domain.specs.Domain.{home_of, book_of, limits_of};
 ghost use Rattle.sdd_domain.specs.Homes.{home_at, home_in};
-ghost use Rattle.sdd_domain.specs.Member.{IsGuarded, IsLone, IsNew, waits};
+ghost use Rattle.sdd_domain.specs.LocalState.{HasOpenGuard, IsLone, IsNew, waits};
 ghost use Rattle.sdd_domain.specs.Space.{slots_home};
 
 use crate::domain::Domain;
-use crate::membership::Membership;
+use crate::local_core::LocalCore;
 use crate::receipt::Receipt;
-use crate::reclaiming::Partner;
-use sdd_base::Item;
+use crate::reclaiming::LocalGiver;
+use sdd_space::Item;
 use sdd_core::Refused;
-use sdd_stakes::Ledger;
-use sdd_store::Tally;
+use sdd_shared_values::GhostValues;
+use sdd_participants::Tally;
 use std::marker::Model;
 
 mod laws;
@@ -22,14 +22,14 @@ mod laws;
 /// It must be spent by `end`. It is *lone* where its domain has one place: then nobody else changes the domain, and what its calls do is said exactly.
 pub struct Local<'d, T: Item<T>> {
     /// Its membership, with which value it moved into each slot, for clauses.
-    pub(crate) partner: Partner<'d, T>,
+    pub(crate) partner: LocalGiver<'d, T>,
 }
 
 impl<'d, T: Item<T>> Model for Local<'d, T> {
-    ghost use Rattle.sdd_domain.specs.Local.{Partaker};
+    ghost use Rattle.sdd_domain.specs.Local.{LocalModel};
     ghost use Rattle.sdd_domain.specs.Sound.{IsSound};
 
-    ghost Value = { Partaker T };
+    ghost Value = { LocalModel T };
 
     ghost view = { λ l. l.partner };
 
@@ -48,10 +48,10 @@ impl<'d, T: Item<T>> Local<'d, T> {
         ensures blank { IfOk result (λ local. IsLone local.member → IsBlankAlone (limits_of domain.now) (world_of local)) }
         ensures refused { IfErr result (λ e. (e ≡ Refused.NoPlace) ⊎ (e ≡ Refused.NoMemory)) }
     {
-        let membership = Membership::register(domain)?;
-        let ledger = Ledger::new(domain.limits.slots as usize);
+        let membership = LocalCore::register(domain)?;
+        let ledger = GhostValues::new(domain.limits.slots as usize);
         Ok(Local {
-            partner: Partner { membership, ledger },
+            partner: LocalGiver { membership, ledger },
         })
     }
 
@@ -61,9 +61,9 @@ impl<'d, T: Item<T>> Local<'d, T> {
     /// Where one of its guards is open it comes back.
     pub fn end(self) -> Result<Receipt<T>, Local<'d, T>>
         ensures { MatchResult result
-            (λ receipt. ¬ (IsGuarded self.entry.member)
+            (λ receipt. ¬ (HasOpenGuard self.entry.member)
             × (receipt ≡ record { home = slots_home self.entry; tally = self.entry.member.tally; waits = waits self.entry.member }))
-            (λ local. IsGuarded self.entry.member × (local ≡ self.entry)) }
+            (λ local. HasOpenGuard self.entry.member × (local ≡ self.entry)) }
     {
         if self.partner.membership.is_guarded() {
             return Err(self);

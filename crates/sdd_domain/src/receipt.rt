@@ -1,33 +1,33 @@
 ghost use Rattle.std.specs.Prelude.{◌≡◌, ◌-◌, ◌≤◌, [], ◌∷◌, false};
-ghost use Rattle.sdd_board.specs.Board.{id_of};
+ghost use Rattle.sdd_atomics.specs.DomainTable.{id_of};
 ghost use Rattle.sdd_domain.specs.Domain.{slots_in};
-ghost use Rattle.sdd_domain.specs.Member.{IsGuarded, waits};
+ghost use Rattle.sdd_domain.specs.LocalState.{HasOpenGuard, waits};
 ghost use Rattle.sdd_domain.specs.Receipt.{HasLeft, IsSettled};
 ghost use Rattle.sdd_domain.specs.Space.{slots_home};
 
 use crate::domain::Domain;
-use crate::ended::Ended;
-use crate::membership::dormant::Dormant;
-use crate::reclaiming::Partner;
-use sdd_base::Item;
-use sdd_board::Board;
-use sdd_stakes::Ledger;
-use sdd_store::Tally;
+use crate::ended_counts::EndedCounts;
+use crate::local_core::detached_local::DetachedLocal;
+use crate::reclaiming::LocalGiver;
+use sdd_space::Item;
+use sdd_atomics::DomainTable;
+use sdd_shared_values::GhostValues;
+use sdd_participants::Tally;
 use sdd_witness::Witness;
 use std::marker::Model;
 
 /// A participant that takes no part any more, and with which items wait.
 #[derive(Drop)]
-pub struct Estate<T: Item<T>> {
-    dormant: Dormant,
-    ledger: Ledger<T>,
+pub struct EndedLocal<T: Item<T>> {
+    dormant: DetachedLocal,
+    ledger: GhostValues<T>,
 }
 
-impl<T: Item<T>> Model for Estate<T> {
-    ghost use Rattle.sdd_domain.specs.Local.{Partaker};
+impl<T: Item<T>> Model for EndedLocal<T> {
+    ghost use Rattle.sdd_domain.specs.Local.{LocalModel};
     ghost use Rattle.sdd_domain.specs.Tied.{IsTied};
 
-    ghost Value = { Partaker T };
+    ghost Value = { LocalModel T };
 
     ghost view = { λ e. record { member = e.dormant; entries = e.ledger.entries } };
 
@@ -36,22 +36,22 @@ impl<T: Item<T>> Model for Estate<T> {
 
 /// What is left of a participant.
 #[derive(Drop)]
-pub enum Left<T: Item<T>> {
+pub enum ReceiptContents<T: Item<T>> {
     /// Nothing waited: its counts.
-    Nothing(Ended),
+    Nothing(EndedCounts),
     /// Itself, with the items that wait.
-    Items(Estate<T>),
+    Items(EndedLocal<T>),
 }
 
 /// What a participant that has ended leaves, for the close of its domain: what it made and reclaimed, and what waits still.
 #[derive(Drop)]
 pub struct Receipt<T: Item<T>> {
-    left: Left<T>,
+    left: ReceiptContents<T>,
 }
 
 impl<T: Item<T>> Model for Receipt<T> {
     ghost use Rattle.sdd_domain.specs.Receipt.{Receipt};
-    ghost use Rattle.sdd_domain.specs.Left.{receipt_of};
+    ghost use Rattle.sdd_domain.specs.ReceiptContents.{receipt_of};
 
     ghost Value = { Receipt };
 
@@ -60,17 +60,17 @@ impl<T: Item<T>> Model for Receipt<T> {
 
 impl<T: Item<T>> Receipt<T> {
     /// What a participant leaves that has no guard open.
-    pub(crate) fn of(partner: Partner<'_, T>) -> Receipt<T>
-        requires shut { ¬ (IsGuarded partner.member) }
+    pub(crate) fn of(partner: LocalGiver<'_, T>) -> Receipt<T>
+        requires shut { ¬ (HasOpenGuard partner.member) }
         requires settled { partner.member.due ≡ [] }
         ensures { result ≡ record { home = slots_home partner.entry; tally = partner.entry.member.tally; waits = waits partner.entry.member } }
     {
-        let Partner { membership, ledger } = partner;
+        let LocalGiver { membership, ledger } = partner;
         let left = if membership.waits() {
             let dormant = membership.rest();
-            Left::Items(Estate { dormant, ledger })
+            ReceiptContents::Items(EndedLocal { dormant, ledger })
         } else {
-            Left::Nothing(membership.end())
+            ReceiptContents::Nothing(membership.end())
         };
         Receipt { left }
     }
@@ -80,8 +80,8 @@ impl<T: Item<T>> Receipt<T> {
         ensures { result ≡ self.now.tally }
     {
         match &self.left {
-            Left::Nothing(ended) => ended.tally(),
-            Left::Items(estate) => estate.dormant.tally(),
+            ReceiptContents::Nothing(ended) => ended.tally(),
+            ReceiptContents::Items(estate) => estate.dormant.tally(),
         }
     }
 
@@ -90,8 +90,8 @@ impl<T: Item<T>> Receipt<T> {
         ensures { result ≡ self.now.waits }
     {
         match &self.left {
-            Left::Nothing(_) => false,
-            Left::Items(_) => true,
+            ReceiptContents::Nothing(_) => false,
+            ReceiptContents::Items(_) => true,
         }
     }
 
@@ -102,28 +102,28 @@ impl<T: Item<T>> Receipt<T> {
         ensures settled { IsSettled (left.old - left.new) self result }
     {
         let Receipt { left: rest } = self;
-        let Estate { dormant, ledger } = match rest {
-            Left::Nothing(ended) => {
+        let EndedLocal { dormant, ledger } = match rest {
+            ReceiptContents::Nothing(ended) => {
                 return Receipt {
-                    left: Left::Nothing(ended),
+                    left: ReceiptContents::Nothing(ended),
                 };
             }
-            Left::Items(estate) => estate,
+            ReceiptContents::Items(estate) => estate,
         };
         match dormant.wake(domain) {
             Ok(membership) => {
-                let mut partner = Partner { membership, ledger };
+                let mut partner = LocalGiver { membership, ledger };
                 partner.drain(left);
                 Receipt::of(partner)
             }
             Err(dormant) => Receipt {
-                left: Left::Items(Estate { dormant, ledger }),
+                left: ReceiptContents::Items(EndedLocal { dormant, ledger }),
             },
         }
     }
 
     /// The counts behind the tally of a participant with which nothing waits.
-    pub(crate) fn into_counts(self, board: &Board) -> Witness
+    pub(crate) fn into_counts(self, board: &DomainTable) -> Witness
         requires home { self.home.tables ≡ id_of board.now ∷ [] }
         requires over { self.waits ≡ false }
         ensures home { result.table_id ≡ id_of board.now }
@@ -131,8 +131,8 @@ impl<T: Item<T>> Receipt<T> {
     {
         let Receipt { left } = self;
         match left {
-            Left::Nothing(ended) => ended.into_counts(board),
-            Left::Items(_) => unreachable!(),
+            ReceiptContents::Nothing(ended) => ended.into_counts(board),
+            ReceiptContents::Items(_) => unreachable!(),
         }
     }
 }

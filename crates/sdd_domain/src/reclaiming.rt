@@ -1,42 +1,42 @@
 //! A change reclaims what is due, and a value that is reclaimed gives up what it holds.
 ghost use Rattle.std.specs.Prelude.{◌≡◌, ◌+◌, ◌≤◌, ℕ, List, [], length};
-ghost use Rattle.sdd_base.specs.Known.{KnowsOn};
-ghost use Rattle.sdd_base.specs.Own.{GrowsOn, all_awaiting};
-ghost use Rattle.sdd_base.specs.Owned as owned;
-ghost use Rattle.sdd_base.specs.RawCell as raw_cell;
-ghost use Rattle.sdd_base.specs.Seat.{IsSeated, IsExact};
-ghost use Rattle.sdd_base.specs.Shared as shared;
-ghost use Rattle.sdd_base.specs.Steps.{given, given_all, all_reclaimed};
-ghost use Rattle.sdd_base.specs.Steps as steps;
-ghost use Rattle.sdd_store.specs.Time.{awaiting, settled};
-ghost use Rattle.sdd_store.specs.declared.waiting.What.TheVariants.{Item as item};
+ghost use Rattle.sdd_space.specs.KnownEpochs.{KnowsOn};
+ghost use Rattle.sdd_space.specs.Own.{GrowsOn, all_awaiting};
+ghost use Rattle.sdd_space.specs.Owned as owned;
+ghost use Rattle.sdd_space.specs.RawCell as raw_cell;
+ghost use Rattle.sdd_space.specs.CallerId.{IsSeated, IsExact};
+ghost use Rattle.sdd_space.specs.Shared as shared;
+ghost use Rattle.sdd_space.specs.Steps.{given, given_all, all_reclaimed};
+ghost use Rattle.sdd_space.specs.Steps as steps;
+ghost use Rattle.sdd_participants.specs.EpochState.{awaiting, settled};
+ghost use Rattle.sdd_participants.specs.declared.waiting.LimboEntry.TheVariants.{Item as item};
 ghost use Rattle.sdd_domain.specs.Homes.{home_in};
-ghost use Rattle.sdd_domain.specs.Local.{Partaker};
-ghost use Rattle.sdd_domain.specs.Member.{IsGuarded, IsLone};
+ghost use Rattle.sdd_domain.specs.Local.{LocalModel};
+ghost use Rattle.sdd_domain.specs.LocalState.{HasOpenGuard, IsLone};
 ghost use Rattle.sdd_domain.specs.Receipt.{with_reclaimed};
 ghost use Rattle.sdd_domain.specs.Local.{world_of};
 ghost use Rattle.sdd_domain.specs.Reclaiming.{kept_of, rest_of};
 ghost use Rattle.sdd_domain.specs.Space.{seat_of, known_of};
 
-use crate::membership::Membership;
-use sdd_base::inner::{
+use crate::local_core::LocalCore;
+use sdd_space::inner::{
     right_of_cell, right_of_owner, right_of_raw_cell, right_of_shared, right_of_shared_cell,
 };
-use sdd_base::{AtomicOwned, AtomicRaw, AtomicShared, Giver, Item, Owned, Shared};
-use sdd_stakes::Ledger;
+use sdd_space::{AtomicOwned, AtomicRaw, AtomicShared, Giver, Item, Owned, Shared};
+use sdd_shared_values::GhostValues;
 use std::marker::Model;
 
 /// A participant with the ledger of what it moved into slots, also while it reclaims.
-pub struct Partner<'d, T: Item<T>> {
-    pub membership: Membership<'d, T>,
-    pub ledger: Ledger<T>,
+pub struct LocalGiver<'d, T: Item<T>> {
+    pub membership: LocalCore<'d, T>,
+    pub ledger: GhostValues<T>,
 }
 
-impl<'d, T: Item<T>> Model for Partner<'d, T> {
-    ghost use Rattle.sdd_domain.specs.Local.{Partaker};
+impl<'d, T: Item<T>> Model for LocalGiver<'d, T> {
+    ghost use Rattle.sdd_domain.specs.Local.{LocalModel};
     ghost use Rattle.sdd_domain.specs.Tied.{IsTied};
 
-    ghost Value = { Partaker T };
+    ghost Value = { LocalModel T };
 
     ghost view = { λ p. record { member = p.membership; entries = p.ledger.entries } };
 
@@ -44,7 +44,7 @@ impl<'d, T: Item<T>> Model for Partner<'d, T> {
 }
 
 /// It retires what it is given.
-impl<T: Item<T>> Giver<T> for Partner<'_, T> {
+impl<T: Item<T>> Giver<T> for LocalGiver<'_, T> {
     ghost world = { λ p. world_of p };
 
     ghost seat = { λ p. seat_of p };
@@ -53,7 +53,7 @@ impl<T: Item<T>> Giver<T> for Partner<'_, T> {
 
     ghost known = { λ p. known_of p };
 
-    ghost Kept = { Partaker T };
+    ghost Kept = { LocalModel T };
 
     ghost kept = { λ p. kept_of p };
 
@@ -67,7 +67,7 @@ impl<T: Item<T>> Giver<T> for Partner<'_, T> {
         ensures waits { self.new.member.own ≡ awaiting (item (owned.slot_of owner)) self.old.member.own }
         ensures exact { IsExact (seat_of self.old) → world_of self.new ≡ given (world_of self.old) self.old.member.place (owned.holding_of owner) }
     {
-        self.membership.let_go(right_of_owner(owner));
+        self.membership.release(right_of_owner(owner));
     }
 
     /// A domain gives out no owner of which there are others.
@@ -80,7 +80,7 @@ impl<T: Item<T>> Giver<T> for Partner<'_, T> {
         ensures kept { kept_of self.new ≡ kept_of self.old }
         ensures exact { IsExact (seat_of self.old) → world_of self.new ≡ given (world_of self.old) self.old.member.place (shared.holding_of owner) }
     {
-        self.membership.let_go(right_of_shared(owner));
+        self.membership.release(right_of_shared(owner));
     }
 
     /// A domain has no cells yet, so that nothing becomes of this one.
@@ -93,7 +93,7 @@ impl<T: Item<T>> Giver<T> for Partner<'_, T> {
         ensures kept { kept_of self.new ≡ kept_of self.old }
         ensures exact { IsExact (seat_of self.old) → world_of self.new ≡ given (world_of self.old) self.old.member.place (owned.cell_holding cell) }
     {
-        right_of_cell(cell).let_go();
+        right_of_cell(cell).forget();
     }
 
     fn atomic_shared(&mut self, cell: AtomicShared<T>)
@@ -105,7 +105,7 @@ impl<T: Item<T>> Giver<T> for Partner<'_, T> {
         ensures kept { kept_of self.new ≡ kept_of self.old }
         ensures exact { IsExact (seat_of self.old) → world_of self.new ≡ given (world_of self.old) self.old.member.place (shared.cell_holding cell) }
     {
-        right_of_shared_cell(cell).let_go();
+        right_of_shared_cell(cell).forget();
     }
 
     fn atomic_raw(&mut self, cell: AtomicRaw<T>)
@@ -117,11 +117,11 @@ impl<T: Item<T>> Giver<T> for Partner<'_, T> {
         ensures kept { kept_of self.new ≡ kept_of self.old }
         ensures exact { IsExact (seat_of self.old) → world_of self.new ≡ given (world_of self.old) self.old.member.place (raw_cell.cell_holding cell) }
     {
-        right_of_raw_cell(cell).let_go();
+        right_of_raw_cell(cell).forget();
     }
 }
 
-impl<T: Item<T>> Partner<'_, T> {
+impl<T: Item<T>> LocalGiver<'_, T> {
     /// What is due is reclaimed, one after another, and what each value held is retired then.
     fn reclaim_due(&mut self)
         ensures own { GrowsOn self.old.member.own self.new.member.own }
@@ -148,7 +148,7 @@ impl<T: Item<T>> Partner<'_, T> {
         ensures rest { rest_of self.new ≡ rest_of self.old }
         ensures due { self.new.member.due ≡ [] }
         ensures reclaimed { self.new.member.tally ≡ with_reclaimed (length self.old.member.due) self.old.member.tally }
-        ensures near { IsGuarded self.new.member → self.new.member.known ≤ self.new.member.since + 1 }
+        ensures near { HasOpenGuard self.new.member → self.new.member.known ≤ self.new.member.since + 1 }
         ensures exact { IsLone self.old.member → world_of self.new
             ≡ steps.settled (all_reclaimed T.holds (world_of self.old) self.old.member.place self.old.member.due) self.old.member.place }
     {

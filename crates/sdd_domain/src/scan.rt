@@ -1,15 +1,15 @@
 //! A scan of all places.
 ghost use Rattle.std.specs.Prelude.{◌≡◌, ℕ, ◌<◌, true, false};
-ghost use Rattle.sdd_rule.specs.Epoch.{IsOpen, Scans};
-ghost use Rattle.sdd_rule.specs.Steps.{IsNext, Locks, passed_by};
-ghost use Rattle.sdd_board.specs.Board.{id_of, places_of};
-ghost use Rattle.sdd_board.specs.Token.{epoch, IsSameBut, Stepped};
+ghost use Rattle.sdd_word_invariant.specs.Epoch.{IsOpen, Scans};
+ghost use Rattle.sdd_word_invariant.specs.Steps.{IsNext, Locks, passed_by};
+ghost use Rattle.sdd_atomics.specs.DomainTable.{id_of, places_of};
+ghost use Rattle.sdd_atomics.specs.DomainSeat.{epoch, IsSameBut, Stepped};
 ghost use Rattle.sdd_domain.specs.Scan.{looked_to, Raises, Scanned};
 
-use sdd_board::{Board, Token, steps};
+use sdd_atomics::{DomainTable, DomainSeat, steps};
 
 /// The next place has no guard open, or has published this count.
-fn passes(board: &Board, token: &mut Token, place: usize, count: u64) -> bool
+fn passes(board: &DomainTable, token: &mut DomainSeat, place: usize, count: u64) -> bool
     requires home { token.old.table_id ≡ id_of board.now }
     requires next { (place < places_of board.now) × IsNext (epoch token.old) place }
     requires count { count ≡ (epoch token.old).count }
@@ -24,7 +24,7 @@ fn passes(board: &Board, token: &mut Token, place: usize, count: u64) -> bool
 }
 
 /// Every place but the own one passes.
-fn all_pass(board: &Board, token: &mut Token, place: usize, count: u64) -> bool
+fn all_pass(board: &DomainTable, token: &mut DomainSeat, place: usize, count: u64) -> bool
     requires home { token.old.table_id ≡ id_of board.now }
     requires own { (place ≡ (epoch token.old).place) × (place < places_of board.now) }
     requires scans { Scans (epoch token.old) × ((epoch token.old).looked ≡ 0) }
@@ -43,7 +43,7 @@ fn all_pass(board: &Board, token: &mut Token, place: usize, count: u64) -> bool
 }
 
 /// Raises the count by one, if it is the own one still. The last count stays.
-fn raise(board: &Board, token: &mut Token, count: u64)
+fn raise(board: &DomainTable, token: &mut DomainSeat, count: u64)
     requires home { token.old.table_id ≡ id_of board.now }
     requires count { count ≡ (epoch token.old).count }
     requires passed { IsNext (epoch token.old) (places_of board.now) }
@@ -57,7 +57,7 @@ fn raise(board: &Board, token: &mut Token, count: u64)
 
 /// Tries to take the lock, where a look finds it free: an exchange would take its line from all others that look there, also where it fails.
 /// Someone else had it where this isn't 0.
-fn try_lock(board: &Board, token: &mut Token) -> u64
+fn try_lock(board: &DomainTable, token: &mut DomainSeat) -> u64
     requires home { token.old.table_id ≡ id_of board.now }
     requires open { IsOpen (epoch token.old) × ¬ (Scans (epoch token.old)) }
     ensures { Stepped Locks token.old result token.new }
@@ -72,7 +72,7 @@ fn try_lock(board: &Board, token: &mut Token) -> u64
 /// Raises the count by one, if it is the own one, nobody else scans, and every other place passes. The last count stays.
 // A function of its own, so that the close of a guard stays short enough to be compiled into its caller.
 #[inline(never)]
-pub fn scan(board: &Board, token: &mut Token, place: usize, count: u64)
+pub fn scan(board: &DomainTable, token: &mut DomainSeat, place: usize, count: u64)
     requires home { token.old.table_id ≡ id_of board.now }
     requires own { (place ≡ (epoch token.old).place) × (place < places_of board.now) }
     requires sized { (epoch token.old).all ≡ places_of board.now }

@@ -1,21 +1,21 @@
 //! The last close of a participant's guards.
 ghost use Rattle.std.specs.Prelude.{◌≡◌, ◌+◌, ◌<◌, None};
-ghost use Rattle.sdd_places.specs.declared.tenures.Stage.TheVariants.{Closed as is_closed};
+ghost use Rattle.sdd_values.specs.declared.read_sections.SectionState.TheVariants.{Closed as is_closed};
 ghost use Rattle.sdd_views.specs.declared.View.{View};
-ghost use Rattle.sdd_rule.specs.SlotSteps.{ClosesAll};
-ghost use Rattle.sdd_rule.specs.Epoch.{IsOpen, Scans};
-ghost use Rattle.sdd_board.specs.Board.{id_of, book_of, places_of};
-ghost use Rattle.sdd_homes.specs.HomeSteps.{unsighted};
-ghost use Rattle.sdd_board.specs.Token.{view, epoch, Knows};
+ghost use Rattle.sdd_word_invariant.specs.SlotSteps.{ClosesAll};
+ghost use Rattle.sdd_word_invariant.specs.Epoch.{IsOpen, Scans};
+ghost use Rattle.sdd_atomics.specs.DomainTable.{id_of, book_of, places_of};
+ghost use Rattle.sdd_domain_invariant.specs.HomeSteps.{unsighted};
+ghost use Rattle.sdd_atomics.specs.DomainSeat.{view, epoch, Knows};
 ghost use Rattle.sdd_domain.specs.Posed.{IsPurse, AreLentTo};
 
-use sdd_board::{Board, Token, steps};
-use sdd_places::{Stage, Tenure, end_round};
-use sdd_stakes::settle;
-use sdd_token::WHOLE;
+use sdd_atomics::{DomainTable, DomainSeat, steps};
+use sdd_values::{SectionState, ReadSection, end_round};
+use sdd_shared_values::settle;
+use sdd_rights::WHOLE;
 
 /// Ends a tenure, by the one part of it that was out, and publishes that no guard is open: all stakes that were lent to it go home.
-pub fn shut(board: &Board, token: &mut Token, place: usize, tenure: &mut Tenure, part: Tenure)
+pub fn shut(board: &DomainTable, token: &mut DomainSeat, place: usize, tenure: &mut ReadSection, part: ReadSection)
     requires home { token.old.table_id ≡ id_of board.now }
     requires knows { Knows board.now token.old }
     requires rests { (view token.old).stakes.moves ≡ None }
@@ -33,7 +33,7 @@ pub fn shut(board: &Board, token: &mut Token, place: usize, tenure: &mut Tenure,
     ensures whole { (tenure.new.units ≡ WHOLE) × (tenure.new.kind ≡ is_closed) }
 {
     tenure.join(part);
-    tenure.set(&Stage::Closed, &());
+    tenure.set(&SectionState::Closed, &());
     let ended = end_round(tenure);
     settle(token, &board.table.shared, &ended);
     steps::close(board, token, place);

@@ -1,13 +1,13 @@
 //! A participant as the generic calls of guards and items have it.
-ghost use Rattle.sdd_stakes.specs.Shelf.{showing};
+ghost use Rattle.sdd_shared_values.specs.SharedValues.{showing};
 
 use crate::domain::Domain;
 use crate::local::Local;
-use crate::reclaiming::Partner;
-use sdd_base::inner::value_of_ptr;
-use sdd_base::{Caller, Guard, Guards, Item, Items, Look, LookThrough, Ptr, Shows};
+use crate::reclaiming::LocalGiver;
+use sdd_space::inner::value_of_ptr;
+use sdd_space::{Caller, Guard, Guards, Item, Items, Look, LookThrough, Ptr, Shows};
 use sdd_core::Refused;
-use sdd_token::{Kind, Right};
+use sdd_rights::{StandingKind, Right};
 
 impl<T: Item<T>> Shows<T> for Local<'_, T> {
     ghost use Rattle.sdd_domain.specs.Homes.{home_in};
@@ -46,7 +46,7 @@ impl<T: Item<T>> Look<T> for Local<'_, T> {
 
 impl<T: Item<T>> LookThrough<T> for Local<'_, T> {
     ghost use Rattle.std.specs.Prelude.{◌≡◌, option_copied};
-    ghost use Rattle.sdd_base.specs.Ptr.{shown_by};
+    ghost use Rattle.sdd_space.specs.Ptr.{shown_by};
     ghost use Rattle.sdd_domain.specs.Space.{is_lone};
     ghost use Rattle.sdd_domain.specs.Laws.{one_shown};
 
@@ -92,7 +92,7 @@ impl<T: Item<T>> Look<T> for Domain<T> {
 /// A pointer that was loaded under a guard of a participant, where that participant isn't at hand.
 impl<T: Item<T>> LookThrough<T> for Domain<T> {
     ghost use Rattle.std.specs.Prelude.{◌≡◌, option_copied};
-    ghost use Rattle.sdd_base.specs.Ptr.{shown_by};
+    ghost use Rattle.sdd_space.specs.Ptr.{shown_by};
 
     #[inline]
     fn look<'g>(&self, ptr: Ptr<'g, T>) -> Option<&'g T>
@@ -130,7 +130,7 @@ impl<T: Item<T>> Caller<T> for Local<'_, T> {
 impl<T: Item<T>> Guards<T> for Local<'_, T> {
     // The compiler puts an opening into its caller as long as it is short: that is all but spent. Five instructions more here, and each guard takes 12 more.
     #[inline]
-    fn open_guard(&mut self) -> Result<Guard, Refused> {
+    fn new_guard(&mut self) -> Result<Guard, Refused> {
         if self.partner.membership.is_guarded() {
             return self.partner.membership.nest();
         }
@@ -157,8 +157,8 @@ impl<T: Item<T>> Guards<T> for Local<'_, T> {
     }
 
     #[inline]
-    fn stir(&mut self) {
-        self.partner.membership.stir();
+    fn set_has_garbage(&mut self) {
+        self.partner.membership.set_has_garbage();
     }
 
     #[inline]
@@ -168,7 +168,7 @@ impl<T: Item<T>> Guards<T> for Local<'_, T> {
 }
 
 impl<T: Item<T>> Items<T> for Local<'_, T> {
-    ghost use Rattle.sdd_store.specs.Table.{IsFull};
+    ghost use Rattle.sdd_participants.specs.Slab.{IsFull};
     ghost use Rattle.sdd_domain.specs.Local.{world_of};
 
     ghost is_used_up = { λ p. IsFull (world_of p).standings };
@@ -176,25 +176,25 @@ impl<T: Item<T>> Items<T> for Local<'_, T> {
     ghost used_up_is_full = { λ _ _. (λ full. full, λ full. full) };
 
     #[inline]
-    fn make(&mut self, value: T, kind: Kind) -> Result<Right, (T, Refused)> {
-        let Partner { membership, ledger } = &mut self.partner;
-        membership.make(value, kind, ledger)
+    fn new_item(&mut self, value: T, kind: StandingKind) -> Result<Right, (T, Refused)> {
+        let LocalGiver { membership, ledger } = &mut self.partner;
+        membership.new_item(value, kind, ledger)
     }
 
-    fn make_with<F: FnOnce() -> T>(&mut self, make: F, kind: Kind) -> Result<Right, (F, Refused)> {
-        let Partner { membership, ledger } = &mut self.partner;
-        membership.make_with(make, kind, ledger)
+    fn new_item_with<F: FnOnce() -> T>(&mut self, make: F, kind: StandingKind) -> Result<Right, (F, Refused)> {
+        let LocalGiver { membership, ledger } = &mut self.partner;
+        membership.new_item_with(make, kind, ledger)
     }
 
     #[inline]
-    fn guarded<'g>(&mut self, right: &Right, guard: &'g Guard) -> &'g T {
+    fn get_guarded<'g>(&mut self, right: &Right, guard: &'g Guard) -> &'g T {
         self.partner.ledger.codes();
-        self.partner.membership.guarded(right, guard)
+        self.partner.membership.get_guarded(right, guard)
     }
 
     #[inline]
-    fn let_go(&mut self, right: Right, _kind: Kind) -> bool {
-        self.partner.membership.let_go(right);
+    fn release(&mut self, right: Right, _kind: StandingKind) -> bool {
+        self.partner.membership.release(right);
         true
     }
 

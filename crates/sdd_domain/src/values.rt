@@ -1,45 +1,45 @@
 //! A value comes into the place of a slot, and leaves it.
 ghost use Rattle.std.specs.Prelude.{◌≡◌, ◌<◌, suc, drop, [], ◌∷◌, None};
 ghost use base.Stored.{Gv};
-ghost use Rattle.sdd_stakes.specs.Shelf.{IsVacant, showing};
-ghost use Rattle.sdd_rule.specs.Codes.{free_word, waiting_word};
-ghost use Rattle.sdd_rule.specs.Epoch.{HasPlace, IsLone};
-ghost use Rattle.sdd_rule.specs.Slots.{Holds};
-ghost use Rattle.sdd_rule.specs.SlotSteps.{IsDue};
-ghost use Rattle.sdd_homes.specs.Homes.{Carries, Moves};
-ghost use Rattle.sdd_homes.specs.HomeSteps.{HasAll, resting};
-ghost use Rattle.sdd_homes.specs.Records.{IsIn};
-ghost use Rattle.sdd_board.specs.Board.{id_of, book_of, places_of, slots_of};
-ghost use Rattle.sdd_base.specs.Holding.{AreOf};
+ghost use Rattle.sdd_shared_values.specs.SharedValues.{IsVacant, showing};
+ghost use Rattle.sdd_word_invariant.specs.Codes.{free_word, waiting_word};
+ghost use Rattle.sdd_word_invariant.specs.Epoch.{HasPlace, IsLone};
+ghost use Rattle.sdd_word_invariant.specs.Slots.{Holds};
+ghost use Rattle.sdd_word_invariant.specs.SlotSteps.{IsDue};
+ghost use Rattle.sdd_domain_invariant.specs.FractionsAtHome.{CarriedFractions, Moves};
+ghost use Rattle.sdd_domain_invariant.specs.HomeSteps.{HasAll, resting};
+ghost use Rattle.sdd_domain_invariant.specs.Records.{IsIn};
+ghost use Rattle.sdd_atomics.specs.DomainTable.{id_of, book_of, places_of, slots_of};
+ghost use Rattle.sdd_space.specs.OwnerOrCell.{AreOf};
 ghost use Rattle.sdd_domain.specs.Homes.{home_of_slots};
 ghost use Rattle.sdd_domain.specs.Shelf.{IsShelfOf};
 ghost use Rattle.sdd_domain.specs.Waits.{GivesOneBack};
-ghost use Rattle.sdd_token.specs.Owner.{witness_of_owner};
-ghost use Rattle.sdd_board.specs.Owner.{disowned};
-ghost use Rattle.sdd_board.specs.Grips.{IsGripOf, IsUnitOf};
+ghost use Rattle.sdd_rights.specs.Owner.{witness_of_owner};
+ghost use Rattle.sdd_atomics.specs.Owner.{disowned};
+ghost use Rattle.sdd_atomics.specs.Grips.{IsGripOf, IsUnitOf};
 ghost use Rattle.sdd_domain.specs.Values.{with_filled, LetsWait, WasFilled};
-ghost use Rattle.sdd_board.specs.Token.{view, epoch, slots, Knows, Taught, Moved};
+ghost use Rattle.sdd_atomics.specs.DomainSeat.{view, epoch, slots, Knows, Taught, Moved};
 
-use crate::at_home::AtHome;
-use sdd_base::Item;
-use sdd_board::grips::{cut_rest, join_rest, unit_of};
-use sdd_board::steps::slots::{cut, enter_unit, give_back, house, retire, take_out};
-use sdd_board::{Board, Token};
-use sdd_stakes::Shelf;
-use sdd_token::Grip;
+use crate::holds_own_domain::HoldsOwnDomain;
+use sdd_space::Item;
+use sdd_atomics::grips::{cut_rest, join_rest, unit_of};
+use sdd_atomics::steps::slots::{cut, enter_unit, give_back, house, retire, take_out};
+use sdd_atomics::{DomainTable, DomainSeat};
+use sdd_shared_values::SharedValues;
+use sdd_rights::ReadFraction;
 use sdd_witness::Witness;
 
 /// Moves a value into the place of a slot that was claimed, whose owner is a token of its own then, which shows the value, with a unit of the place's
 /// number. The owner may be one of several.
 #[inline]
 pub fn put_value<T: Item<T>>(
-    board: &Board,
-    shelf: &Shelf<T, AtHome>,
-    token: &mut Token,
+    board: &DomainTable,
+    shelf: &SharedValues<T, HoldsOwnDomain>,
+    token: &mut DomainSeat,
     slot: u32,
     shared: bool,
     value: T,
-) -> (Witness, Grip)
+) -> (Witness, ReadFraction)
     requires home { token.old.table_id ≡ id_of board.now }
     requires shelf { IsShelfOf board.now shelf.now }
     requires fits { AreOf (home_of_slots (id_of board.now) (book_of board.now) (slots_of board.now)) (T.holds value) }
@@ -48,7 +48,7 @@ pub fn put_value<T: Item<T>>(
     requires place { HasPlace (epoch token.old) }
     requires own { Moves (view token.old) slot × ((slots token.old).owns ≡ slot ∷ []) × ((view token.old).stakes.owns ≡ []) }
     requires free { ((slots token.old).holds ≡ None) × ((slots token.old).drawn ≡ []) }
-    requires row { (rest : Carries) × HasAll (book_of board.now) slot (places_of board.now) 0 IsVacant rest token.old.me.1 }
+    requires row { (rest : CarriedFractions) × HasAll (book_of board.now) slot (places_of board.now) 0 IsVacant rest token.old.me.1 }
     ensures home { (token.new.table_id ≡ token.old.table_id) × (token.new.id ≡ token.old.id) }
     ensures view { view token.new ≡ disowned (resting (with_filled slot shared (showing T.row value) (view token.old))) }
     ensures given { token.new.me.1 ≡ drop (suc (places_of board.now)) token.old.me.1 }
@@ -64,7 +64,7 @@ pub fn put_value<T: Item<T>>(
 
 /// Retires the item of an owner that was taken in, whose unit goes to the bank.
 #[inline]
-pub fn let_wait(board: &Board, token: &mut Token, slot: u32, grip: Grip)
+pub fn let_wait(board: &DomainTable, token: &mut DomainSeat, slot: u32, grip: ReadFraction)
     requires home { token.old.table_id ≡ id_of board.now }
     requires knows { Knows board.now token.old }
     requires inside { slot < slots_of board.now }
@@ -82,9 +82,9 @@ pub fn let_wait(board: &Board, token: &mut Token, slot: u32, grip: Grip)
 
 /// Moves the value of an item out that has seen three changes, and gives back its slot. A lone participant moved that value in.
 pub fn take_value<T: Item<T>>(
-    board: &Board,
-    shelf: &Shelf<T, AtHome>,
-    token: &mut Token,
+    board: &DomainTable,
+    shelf: &SharedValues<T, HoldsOwnDomain>,
+    token: &mut DomainSeat,
     slot: u32,
 ) -> T
     requires home { token.old.table_id ≡ id_of board.now }

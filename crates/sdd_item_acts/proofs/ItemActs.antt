@@ -5,57 +5,57 @@ use Rattle.std.specs.Option.{option_map}
 use Rattle.std.specs.Global.{Vec}
 use Rattle.std.proofs.lemmas.List.{length-map, length-set, map-set, map_push}
 use Rattle.sdd_core.specs.declared.refused.Refused.{Refused}
-use Rattle.sdd_store.specs.Table.{IsEmptyAt}
-use Rattle.sdd_store.specs.declared.waiting.What.TheVariants.{Item}
-use Rattle.sdd_base.specs.declared.owned.Owned.{Owned}
-use Rattle.sdd_base.specs.declared.shared.Shared.{Shared}
-use Rattle.sdd_base.specs.Calls.{IsFirst}
-use Rattle.sdd_base.specs.Calls.Calls.{makes, changes_cells}
-use Rattle.sdd_base.specs.Holding.{Holding}
-use Rattle.sdd_base.specs.Steps.{made_as, nulled}
-use Rattle.sdd_base.specs.Whole.{IsWhole}
-use Rattle.sdd_base.specs.World.{World, IsPlaceOf, value_at}
+use Rattle.sdd_participants.specs.Slab.{IsEmptyAt}
+use Rattle.sdd_participants.specs.declared.waiting.LimboEntry.TheVariants.{Item}
+use Rattle.sdd_space.specs.declared.owned.Owned.{Owned}
+use Rattle.sdd_space.specs.declared.shared.Shared.{Shared}
+use Rattle.sdd_space.specs.WorldStep.{IsFirst}
+use Rattle.sdd_space.specs.WorldStep.WorldStep.{makes, changes_cells}
+use Rattle.sdd_space.specs.OwnerOrCell.{OwnerOrCell}
+use Rattle.sdd_space.specs.Steps.{made_as, nulled}
+use Rattle.sdd_space.specs.Whole.{IsWhole}
+use Rattle.sdd_space.specs.World.{World, IsPlaceOf, value_at}
 use Rattle.sdd_world.specs.Place.{index_of}
-use Rattle.sdd_lines.specs.declared.name.PlaceName.{PlaceName}
-use Rattle.sdd_lines.specs.declared.name.GuardName.{GuardName}
-use Rattle.sdd_lines.specs.declared.name.OwnerName.{OwnerName}
-use Rattle.sdd_lines.specs.declared.name.ItemName.{ItemName}
-use Rattle.sdd_lines.specs.declared.call.Call.TheVariants.{At}
-use Rattle.sdd_lines.specs.declared.call.Action.TheVariants as call
-use Rattle.sdd_lines.specs.declared.call.Action.{Action}
-use Rattle.sdd_lines.specs.declared.call.Value.{Value}
-use Rattle.sdd_lines.specs.declared.call.Value.TheVariants.{Number, Of}
-use Rattle.sdd_lines.specs.declared.answer.Reply.TheVariants as reply
-use Rattle.sdd_desk.specs.declared.val.Body.{Body}
-use Rattle.sdd_desk.specs.declared.val.Body.TheVariants as body
-use Rattle.sdd_desk.specs.declared.val.Val.{Val}
-use Rattle.sdd_desk.specs.declared.ownership.Ownership.{Ownership}
-use Rattle.sdd_desk.specs.declared.ownership.Ownership.TheVariants as ownership
-use Rattle.sdd_steps.specs.declared.holding.AnOwner.{AnOwner}
-use Rattle.sdd_steps.specs.declared.holding.AnOwner.TheVariants.{Sole, Share}
-use Rattle.sdd_hand.specs.declared.participants.Attending.{Attending}
-use Rattle.sdd_hand.specs.declared.stage.Hand.{Hand}
-use Rattle.sdd_desk.specs.Val.{body_of, link_of, link_home}
-use Rattle.sdd_desk.specs.Desk.{Desk, opening_at, holding_at, place_of, slot_at, slot_of, in_world, with_owner, with_item}
-use Rattle.sdd_desk.specs.Script.{Acts, Meets, HasOpen, IsParticipant, IsThereToPut, IsValid, CanPointTo}
-use Rattle.sdd_desk.specs.Made.{IsPutIn, RefusesItem, owners_left, put_in}
-use Rattle.sdd_desk.specs.Script as script
-use Rattle.sdd_desk.specs.Script.AreCalls.{none as no_call, one_more}
-use Rattle.sdd_desk.specs.Shown.{Shows, told_of}
-use Rattle.sdd_hand.specs.Hand.{attending, BecomesBody}
-use Rattle.sdd_steps.specs.Owners.{owner_holding}
-use Rattle.sdd_hand.specs.Stage.{desk_of, IsTied}
+use Rattle.sdd_script_text.specs.declared.name.PlaceName.{PlaceName}
+use Rattle.sdd_script_text.specs.declared.name.GuardName.{GuardName}
+use Rattle.sdd_script_text.specs.declared.name.OwnerName.{OwnerName}
+use Rattle.sdd_script_text.specs.declared.name.ItemName.{ItemName}
+use Rattle.sdd_script_text.specs.declared.call.Call.TheVariants.{At}
+use Rattle.sdd_script_text.specs.declared.call.Action.TheVariants as call
+use Rattle.sdd_script_text.specs.declared.call.Action.{Action}
+use Rattle.sdd_script_text.specs.declared.call.Value.{Value}
+use Rattle.sdd_script_text.specs.declared.call.Value.TheVariants.{Number, Of}
+use Rattle.sdd_script_text.specs.declared.answer.Reply.TheVariants as reply
+use Rattle.sdd_script_model.specs.declared.val.Body.{Body}
+use Rattle.sdd_script_model.specs.declared.val.Body.TheVariants as body
+use Rattle.sdd_script_model.specs.declared.val.Val.{Val}
+use Rattle.sdd_script_model.specs.declared.owner_kind.OwnerKind.{OwnerKind}
+use Rattle.sdd_script_model.specs.declared.owner_kind.OwnerKind.TheVariants as ownership
+use Rattle.sdd_space_commands.specs.declared.holding.AnyOwner.{AnyOwner}
+use Rattle.sdd_space_commands.specs.declared.holding.AnyOwner.TheVariants.{Sole, Share}
+use Rattle.sdd_script_names.specs.declared.participants.NamedParticipant.{NamedParticipant}
+use Rattle.sdd_script_names.specs.declared.interpreter.Environment.{Environment}
+use Rattle.sdd_script_model.specs.Val.{body_of, link_of, link_home}
+use Rattle.sdd_script_model.specs.ScriptState.{ScriptState, opening_at, holding_at, place_of, slot_at, slot_of, in_world, with_owner, with_item}
+use Rattle.sdd_script_model.specs.Script.{Acts, Meets, HasOpen, IsParticipant, IsThereToPut, IsValid, CanPointTo}
+use Rattle.sdd_script_model.specs.Made.{IsPutIn, RefusesItem, owners_left, put_in}
+use Rattle.sdd_script_model.specs.Script as script
+use Rattle.sdd_script_model.specs.Script.AreCalls.{none as no_call, one_more}
+use Rattle.sdd_script_model.specs.Shown.{Shows, told_of}
+use Rattle.sdd_script_names.specs.Environment.{attending, BecomesBody}
+use Rattle.sdd_space_commands.specs.Owners.{owner_holding}
+use Rattle.sdd_script_names.specs.Interpreter.{desk_of, IsTied}
 use Rattle.sdd_item_acts.specs.Lines.{making}
-use Rattle.sdd_desk.specs.Held.{standing_first, holding_first}
-use Rattle.sdd_desk.proofs.Going.{sound-made, dated-made}
-use Rattle.sdd_hand.proofs.Acts as stage
-use Rattle.sdd_hand.proofs.Acts.{Does, does, goes, still, place}
+use Rattle.sdd_script_model.specs.Held.{standing_first, holding_first}
+use Rattle.sdd_script_model.proofs.Going.{sound-made, dated-made}
+use Rattle.sdd_script_names.proofs.Acts as stage
+use Rattle.sdd_script_names.proofs.Acts.{Does, does, goes, still, place}
 
-module _ (h : Hand) (t : IsTied h) (whole : IsWhole h.world) where
-  abbrev d : Desk
+module _ (h : Environment) (t : IsTied h) (whole : IsWhole h.world) where
+  abbrev d : ScriptState
   d = desk_of h
 
-  module _ (name : PlaceName) (a : Attending) (there : attending (Some a) ≡ opening_at d.places name.0) where
+  module _ (name : PlaceName) (a : NamedParticipant) (there : attending (Some a) ≡ opening_at d.places name.0) where
     abbrev n : ℕ
     n = name.0
 
@@ -91,7 +91,7 @@ module _ (h : Hand) (t : IsTied h) (whole : IsWhole h.world) where
     look-does i g (body.Shared x) does = does
 
     -- what an owner or an item shows
-    pub acts-read : (o : OwnerName) (x : AnOwner) (k : ℕ) (v : Val) → Some x ≡ slice_index_or h.owners.entries.items o.0 None →
+    pub acts-read : (o : OwnerName) (x : AnyOwner) (k : ℕ) (v : Val) → Some x ≡ slice_index_or h.owners.entries.items o.0 None →
         slot_of (Some (owner_holding x)) ≡ Some k → value_at h.world k ≡ Some v →
         Acts d (At name (call.Read o)) (told_of h.names.items (body_of v)) d
     acts-read o x k v mine slot shown =
@@ -108,7 +108,7 @@ module _ (h : Hand) (t : IsTied h) (whole : IsWhole h.world) where
     -- ---- items
 
     -- what becomes the body of an item is what the line puts in
-    put-is : (value : Value) (b : Body Val) (between : List (Option AnOwner)) → BecomesBody h.owners.entries.items value between b →
+    put-is : (value : Value) (b : Body Val) (between : List (Option AnyOwner)) → BecomesBody h.owners.entries.items value between b →
         IsPutIn d value b × IsThereToPut d value × (map (option_map owner_holding) between ≡ owners_left d.owners value)
     put-is (Number m) b between becomes = (becomes.0, tt, ap (map (option_map owner_holding)) becomes.1)
     put-is (Of o) b between (x, entry, is_body, taken) = (
@@ -116,22 +116,22 @@ module _ (h : Hand) (t : IsTied h) (whole : IsWhole h.world) where
       is-owner x (stage.named-owner h t whole o.0 x entry),
       ap (map (option_map owner_holding)) taken ∙ map-set (option_map owner_holding) h.owners.entries.items o.0 None,
     ) where
-      is-owner : (x : AnOwner) → holding_at d.owners o.0 ≡ Some (owner_holding x) → script.IsOwner d o.0
+      is-owner : (x : AnyOwner) → holding_at d.owners o.0 ≡ Some (owner_holding x) → script.IsOwner d o.0
       is-owner (Sole x) e = ap (λ s. is_some (slot_of s)) e
       is-owner (Share x) e = ap (λ s. is_some (slot_of s)) e
 
-    owners-long : (owners : List (Option Holding)) (value : Value) → length (owners_left owners value) ≡ length owners
+    owners-long : (owners : List (Option OwnerOrCell)) (value : Value) → length (owners_left owners value) ≡ length owners
     owners-long owners (Number m) = refl
     owners-long owners (Of o) = length-set owners o.0 None
 
-    module _ (own : Ownership) (value : Value) (k c : ℕ) (v : Val) where
-      abbrev made_entry : Desk
+    module _ (own : OwnerKind) (value : Value) (k c : ℕ) (v : Val) where
+      abbrev made_entry : ScriptState
       made_entry =
           with_owner (in_world (with_item (put_in d value) k) (made_as (nulled h.world c) k v (standing_first own))) (holding_first own k h.world.home.slots)
 
       made-meets : (o : OwnerName) (i : ItemName) → IsThereToPut d value → IsEmptyAt h.world.cells c → IsEmptyAt h.world.standings k →
           IsPutIn d value (body_of v) → link_of v ≡ c → link_home v ≡ h.world.home.cells → o.0 ≡ length d.owners → i.0 ≡ length d.slots →
-          (w : Ownership) → own ≡ w → Meets d (At name (making w value)) (reply.Item o i) made_entry
+          (w : OwnerKind) → own ≡ w → Meets d (At name (making w value)) (reply.Item o i) made_entry
       made-meets o i there_to_put cell slot is_body link home named item ownership.Sole e = rw e (
         (is-there, there_to_put),
         (
@@ -157,7 +157,7 @@ module _ (h : Hand) (t : IsTied h) (whole : IsWhole h.world) where
         ),
       )
 
-      pub acts-made : (w : World Val) (between owners : Vec (Option AnOwner)) (slots named : Vec ℕ) (x : AnOwner) (b : Body Val)
+      pub acts-made : (w : World Val) (between owners : Vec (Option AnyOwner)) (slots named : Vec ℕ) (x : AnyOwner) (b : Body Val)
           (o : OwnerName) (i : ItemName) → BecomesBody h.owners.entries.items value between.items b → body_of v ≡ b →
           IsEmptyAt h.world.cells c → IsEmptyAt h.world.standings k → link_of v ≡ c → link_home v ≡ h.world.home.cells →
           w ≡ made_as (nulled h.world c) k v (standing_first own) → owner_holding x ≡ holding_first own k h.world.home.slots →
@@ -184,13 +184,13 @@ module _ (h : Hand) (t : IsTied h) (whole : IsWhole h.world) where
                 (one_more h.world h.world _ (no_call h.world) (changes_cells h.world (nulled h.world c).cells (length-set h.world.cells c _)))
                 (makes (nulled h.world c) k v (standing_first own) (first-is own) slot);
           }) where
-            first-is : (own : Ownership) → IsFirst (standing_first own)
+            first-is : (own : OwnerKind) → IsFirst (standing_first own)
             first-is ownership.Sole = inl refl
             first-is ownership.Shared = inr refl
 
-    pub acts-refused : (own : Ownership) (value : Value) (refused : Refused) → IsThereToPut d value → RefusesItem h.world refused →
+    pub acts-refused : (own : OwnerKind) (value : Value) (refused : Refused) → IsThereToPut d value → RefusesItem h.world refused →
         Acts d (At name (making own value)) (reply.Refused refused) d
     acts-refused own value refused there_to_put full = still d (At name (making own value)) (reply.Refused refused) (by own) where
-      by : (w : Ownership) → Meets d (At name (making w value)) (reply.Refused refused) d
+      by : (w : OwnerKind) → Meets d (At name (making w value)) (reply.Refused refused) d
       by ownership.Sole = ((is-there, there_to_put), (full, refl))
       by ownership.Shared = ((is-there, there_to_put), (full, refl))

@@ -1,31 +1,31 @@
 -- The lines of items and owners that are invalid, since what they name is not there
 use Rattle.std.proofs.Common.{◌≡◌, ◌≢◌, Some, None, slice_index_or, sym}
-use Rattle.sdd_base.specs.declared.owned.Owned.{Owned}
-use Rattle.sdd_base.specs.declared.shared.Shared.{Shared}
-use Rattle.sdd_lines.specs.declared.name.PlaceName.{PlaceName}
-use Rattle.sdd_lines.specs.declared.name.GuardName.{GuardName}
-use Rattle.sdd_lines.specs.declared.name.OwnerName.{OwnerName}
-use Rattle.sdd_lines.specs.declared.name.ItemName.{ItemName}
-use Rattle.sdd_lines.specs.declared.call.Call.TheVariants.{At}
-use Rattle.sdd_lines.specs.declared.call.Action.TheVariants as call
-use Rattle.sdd_lines.specs.declared.call.Value.{Value}
-use Rattle.sdd_lines.specs.declared.call.Value.TheVariants.{Number, Of}
-use Rattle.sdd_lines.specs.declared.answer.Reply.TheVariants as reply
-use Rattle.sdd_desk.specs.declared.val.Val.{Val}
-use Rattle.sdd_desk.specs.declared.ownership.Ownership.{Ownership}
-use Rattle.sdd_desk.specs.declared.ownership.Ownership.TheVariants as ownership
-use Rattle.sdd_steps.specs.declared.holding.AnOwner.TheVariants.{Sole, Share}
-use Rattle.sdd_hand.specs.declared.stage.Hand.{Hand}
-use Rattle.sdd_hand.specs.declared.participants.Attending.{Attending}
-use Rattle.sdd_desk.specs.Desk.{Desk, opening_at}
-use Rattle.sdd_desk.specs.Script.{Acts, HasOpen, IsThereToPut}
-use Rattle.sdd_hand.specs.Hand.{attending, IsMissing, CanPointAt}
-use Rattle.sdd_hand.specs.Stage.{desk_of}
+use Rattle.sdd_space.specs.declared.owned.Owned.{Owned}
+use Rattle.sdd_space.specs.declared.shared.Shared.{Shared}
+use Rattle.sdd_script_text.specs.declared.name.PlaceName.{PlaceName}
+use Rattle.sdd_script_text.specs.declared.name.GuardName.{GuardName}
+use Rattle.sdd_script_text.specs.declared.name.OwnerName.{OwnerName}
+use Rattle.sdd_script_text.specs.declared.name.ItemName.{ItemName}
+use Rattle.sdd_script_text.specs.declared.call.Call.TheVariants.{At}
+use Rattle.sdd_script_text.specs.declared.call.Action.TheVariants as call
+use Rattle.sdd_script_text.specs.declared.call.Value.{Value}
+use Rattle.sdd_script_text.specs.declared.call.Value.TheVariants.{Number, Of}
+use Rattle.sdd_script_text.specs.declared.answer.Reply.TheVariants as reply
+use Rattle.sdd_script_model.specs.declared.val.Val.{Val}
+use Rattle.sdd_script_model.specs.declared.owner_kind.OwnerKind.{OwnerKind}
+use Rattle.sdd_script_model.specs.declared.owner_kind.OwnerKind.TheVariants as ownership
+use Rattle.sdd_space_commands.specs.declared.holding.AnyOwner.TheVariants.{Sole, Share}
+use Rattle.sdd_script_names.specs.declared.interpreter.Environment.{Environment}
+use Rattle.sdd_script_names.specs.declared.participants.NamedParticipant.{NamedParticipant}
+use Rattle.sdd_script_model.specs.ScriptState.{ScriptState, opening_at}
+use Rattle.sdd_script_model.specs.Script.{Acts, HasOpen, IsThereToPut}
+use Rattle.sdd_script_names.specs.Environment.{attending, IsMissing, CanPointAt}
+use Rattle.sdd_script_names.specs.Interpreter.{desk_of}
 use Rattle.sdd_item_acts.specs.Lines.{making}
-use Rattle.sdd_hand.proofs.Missing.{invalid, no-owner, no-sole, no-shared, points-not}
+use Rattle.sdd_script_names.proofs.Missing.{invalid, no-owner, no-sole, no-shared, points-not}
 
-module _ (h : Hand) where
-  abbrev d : Desk
+module _ (h : Environment) where
+  abbrev d : ScriptState
   d = desk_of h
 
   pub none-read : (name : PlaceName) (o : OwnerName) → None ≡ slice_index_or h.owners.entries.items o.0 None → Acts d (At name (call.Read o)) reply.Invalid d
@@ -49,7 +49,7 @@ module _ (h : Hand) where
   none-to-put (Number n) missing there = missing
   none-to-put (Of o) missing there = no-owner h o.0 (sym missing) there
 
-  pub none-made : (name : PlaceName) (own : Ownership) (value : Value) → IsMissing h.owners.entries.items value →
+  pub none-made : (name : PlaceName) (own : OwnerKind) (value : Value) → IsMissing h.owners.entries.items value →
       Acts d (At name (making own value)) reply.Invalid d
   none-made name ownership.Sole value missing = invalid d name (call.Owned value) (λ valid. none-to-put value missing valid.1)
   none-made name ownership.Shared value missing = invalid d name (call.Shared value) (λ valid. none-to-put value missing valid.1)
@@ -62,7 +62,7 @@ module _ (h : Hand) where
   pub shut-upgraded : (name : PlaceName) (i : ItemName) (g : GuardName) → ¬ (HasOpen d name.0 g.0) → Acts d (At name (call.Upgrade i g)) reply.Invalid d
   shut-upgraded name i g shut = invalid d name (call.Upgrade i g) (λ valid. shut valid.0)
 
-  module _ (name : PlaceName) (a : Attending) (there : attending (Some a) ≡ opening_at d.places name.0) where
+  module _ (name : PlaceName) (a : NamedParticipant) (there : attending (Some a) ≡ opening_at d.places name.0) where
     pub gone-looked : (i : ItemName) (g : GuardName) → ¬ (CanPointAt h.world h.slots.items h.names.items h.dates.items i.0 a.since) →
         Acts d (At name (call.Look i g)) reply.Invalid d
     gone-looked i g cannot = invalid d name (call.Look i g) (λ valid. points-not h name.0 a there i.0 cannot valid.1)

@@ -4,39 +4,39 @@ use Rattle.std.specs.Prelude.{IsTrue, ◌↔◌, nat_lt, ◌-◌}
 use Rattle.std.specs.Option.{option_map}
 use Rattle.std.specs.Global.{Vec}
 use Rattle.std.proofs.lemmas.List.{length-map}
-use Rattle.sdd_store.specs.declared.standing.Standing.TheVariants as standing
+use Rattle.sdd_participants.specs.declared.standing.Standing.TheVariants as standing
 use Rattle.sdd_standings.specs.Slots.{IsSharedBy}
-use Rattle.sdd_base.specs.declared.owned.Owned.{Owned}
-use Rattle.sdd_base.specs.declared.shared.Shared.{Shared}
-use Rattle.sdd_base.specs.Calls.Calls.{shares, retires, releases}
-use Rattle.sdd_base.specs.Holding as holding
-use Rattle.sdd_base.specs.Steps.{retired, owner_given, with_standing}
-use Rattle.sdd_base.specs.Whole.{IsWhole}
-use Rattle.sdd_base.specs.World.{World, IsPlaceOf, standing_at}
-use Rattle.sdd_base.specs.Owned as owned
-use Rattle.sdd_base.specs.Shared as shared
+use Rattle.sdd_space.specs.declared.owned.Owned.{Owned}
+use Rattle.sdd_space.specs.declared.shared.Shared.{Shared}
+use Rattle.sdd_space.specs.WorldStep.WorldStep.{shares, retires, releases}
+use Rattle.sdd_space.specs.OwnerOrCell as holding
+use Rattle.sdd_space.specs.Steps.{retired, owner_given, with_standing}
+use Rattle.sdd_space.specs.Whole.{IsWhole}
+use Rattle.sdd_space.specs.World.{World, IsPlaceOf, standing_at}
+use Rattle.sdd_space.specs.Owned as owned
+use Rattle.sdd_space.specs.Shared as shared
 use Rattle.sdd_world.specs.Place.{index_of}
-use Rattle.sdd_lines.specs.declared.name.PlaceName.{PlaceName}
-use Rattle.sdd_lines.specs.declared.name.GuardName.{GuardName}
-use Rattle.sdd_lines.specs.declared.name.OwnerName.{OwnerName}
-use Rattle.sdd_lines.specs.declared.name.ItemName.{ItemName}
-use Rattle.sdd_lines.specs.declared.call.Call.TheVariants.{At}
-use Rattle.sdd_lines.specs.declared.call.Action.TheVariants as call
-use Rattle.sdd_lines.specs.declared.answer.Reply.TheVariants as reply
-use Rattle.sdd_desk.specs.declared.val.Val.{Val}
-use Rattle.sdd_steps.specs.declared.holding.AnOwner.{AnOwner}
-use Rattle.sdd_steps.specs.declared.holding.AnOwner.TheVariants.{Sole, Share}
-use Rattle.sdd_hand.specs.declared.participants.Attending.{Attending}
-use Rattle.sdd_hand.specs.declared.stage.Hand.{Hand}
-use Rattle.sdd_desk.specs.Desk.{Desk, opening_at, place_of, slot_at, slot_of, sole_slot, shared_slot, in_world, with_owner, without_owner}
-use Rattle.sdd_desk.specs.Script.{HasOpen, IsParticipant, CanPointTo}
-use Rattle.sdd_desk.specs.Script.AreCalls.{none as no_call, one_more}
-use Rattle.sdd_hand.specs.Hand.{attending}
-use Rattle.sdd_steps.specs.Owners.{owner_holding}
-use Rattle.sdd_hand.specs.Stage.{desk_of, IsTied}
-use Rattle.sdd_desk.proofs.Going.{sound-retired, sound-released, dated-retired, dated-released, dated-shared}
-use Rattle.sdd_hand.proofs.Acts as stage
-use Rattle.sdd_hand.proofs.Acts.{Goes, Does, does, goes, place}
+use Rattle.sdd_script_text.specs.declared.name.PlaceName.{PlaceName}
+use Rattle.sdd_script_text.specs.declared.name.GuardName.{GuardName}
+use Rattle.sdd_script_text.specs.declared.name.OwnerName.{OwnerName}
+use Rattle.sdd_script_text.specs.declared.name.ItemName.{ItemName}
+use Rattle.sdd_script_text.specs.declared.call.Call.TheVariants.{At}
+use Rattle.sdd_script_text.specs.declared.call.Action.TheVariants as call
+use Rattle.sdd_script_text.specs.declared.answer.Reply.TheVariants as reply
+use Rattle.sdd_script_model.specs.declared.val.Val.{Val}
+use Rattle.sdd_space_commands.specs.declared.holding.AnyOwner.{AnyOwner}
+use Rattle.sdd_space_commands.specs.declared.holding.AnyOwner.TheVariants.{Sole, Share}
+use Rattle.sdd_script_names.specs.declared.participants.NamedParticipant.{NamedParticipant}
+use Rattle.sdd_script_names.specs.declared.interpreter.Environment.{Environment}
+use Rattle.sdd_script_model.specs.ScriptState.{ScriptState, opening_at, place_of, slot_at, slot_of, sole_slot, shared_slot, in_world, with_owner, without_owner}
+use Rattle.sdd_script_model.specs.Script.{HasOpen, IsParticipant, CanPointTo}
+use Rattle.sdd_script_model.specs.Script.AreCalls.{none as no_call, one_more}
+use Rattle.sdd_script_names.specs.Environment.{attending}
+use Rattle.sdd_space_commands.specs.Owners.{owner_holding}
+use Rattle.sdd_script_names.specs.Interpreter.{desk_of, IsTied}
+use Rattle.sdd_script_model.proofs.Going.{sound-retired, sound-released, dated-retired, dated-released, dated-shared}
+use Rattle.sdd_script_names.proofs.Acts as stage
+use Rattle.sdd_script_names.proofs.Acts.{Goes, Does, does, goes, place}
 
 home-given : (w : World Val) (p k count : ℕ) → (owner_given w p k (Some (standing.Shared count))).home ≡ w.home
 home-given w p k count = by (nat_lt 1 count) where
@@ -44,11 +44,11 @@ home-given w p k count = by (nat_lt 1 count) where
   by true = refl
   by false = refl
 
-module _ (h : Hand) (t : IsTied h) (whole : IsWhole h.world) where
-  abbrev d : Desk
+module _ (h : Environment) (t : IsTied h) (whole : IsWhole h.world) where
+  abbrev d : ScriptState
   d = desk_of h
 
-  module _ (name : PlaceName) (a : Attending) (there : attending (Some a) ≡ opening_at d.places name.0) where
+  module _ (name : PlaceName) (a : NamedParticipant) (there : attending (Some a) ≡ opening_at d.places name.0) where
     abbrev n : ℕ
     n = name.0
 
@@ -64,7 +64,7 @@ module _ (h : Hand) (t : IsTied h) (whole : IsWhole h.world) where
     in_range : IsPlaceOf h.world p
     in_range = stage.in_range h t whole name a there
 
-    pub acts-retired : (o : OwnerName) (w : World Val) (owners : Vec (Option AnOwner)) (dates : Vec ℕ) (x : Owned Val) →
+    pub acts-retired : (o : OwnerName) (w : World Val) (owners : Vec (Option AnyOwner)) (dates : Vec ℕ) (x : Owned Val) →
         slice_index_or h.owners.entries.items o.0 None ≡ Some (Sole x) →
         owners.items ≡ slice_set h.owners.entries.items o.0 None → dates.items ≡ slice_set h.dates.items (owned.slot_of x) h.moment →
         standing_at h.world (owned.slot_of x) ≡ Some standing.Owned → w ≡ retired h.world p (owned.slot_of x) →
@@ -73,7 +73,7 @@ module _ (h : Hand) (t : IsTied h) (whole : IsWhole h.world) where
         let k = owned.slot_of x in
         let entry = stage.named-owner h t whole o.0 (Sole x) mine in
         let gone = stage.owner-spent h t whole owners o.0 taken in
-        let left : Desk = record (in_world (without_owner d o.0) (retired h.world p k)) { dates = slice_set d.dates k d.moment } in
+        let left : ScriptState = record (in_world (without_owner d o.0) (retired h.world p k)) { dates = slice_set d.dates k d.moment } in
         does d (At name (call.Retire o)) reply.Done
         (goes (cc (world, gone, become))
         (sound-retired d t.sound whole p k o.0 in_range (ap sole_slot entry) stands) t.guards)
@@ -84,7 +84,7 @@ module _ (h : Hand) (t : IsTied h) (whole : IsWhole h.world) where
           calls = one_more h.world h.world _ (no_call h.world) (retires h.world p k in_range stands);
         })
 
-    pub acts-released : (o : OwnerName) (w : World Val) (owners : Vec (Option AnOwner)) (dates : Vec ℕ) (x : Shared Val) (b : Bool) (count : ℕ) →
+    pub acts-released : (o : OwnerName) (w : World Val) (owners : Vec (Option AnyOwner)) (dates : Vec ℕ) (x : Shared Val) (b : Bool) (count : ℕ) →
         slice_index_or h.owners.entries.items o.0 None ≡ Some (Share x) →
         owners.items ≡ slice_set h.owners.entries.items o.0 None →
         dates.items ≡ (if b then slice_set h.dates.items (shared.slot_of x) h.moment else h.dates.items) →
@@ -95,7 +95,7 @@ module _ (h : Hand) (t : IsTied h) (whole : IsWhole h.world) where
         let k = shared.slot_of x in
         let entry = stage.named-owner h t whole o.0 (Share x) mine in
         let gone = stage.owner-spent h t whole owners o.0 taken in
-        let left : Desk = record (in_world (without_owner d o.0) (owner_given h.world p k (Some (standing.Shared count)))) {
+        let left : ScriptState = record (in_world (without_owner d o.0) (owner_given h.world p k (Some (standing.Shared count)))) {
           dates = if b then slice_set d.dates k d.moment else d.dates;
         } in
         does d (At name (call.Release o)) (reply.Truth b)
@@ -110,14 +110,14 @@ module _ (h : Hand) (t : IsTied h) (whole : IsWhole h.world) where
         })
 
     -- one owner more of the item in slot k
-    module _ (w : World Val) (owners : Vec (Option AnOwner)) (x : Shared Val) (count : ℕ)
+    module _ (w : World Val) (owners : Vec (Option AnyOwner)) (x : Shared Val) (count : ℕ)
         (pushed : owners.items ≡ h.owners.entries.items ++ Some (Share x) ∷ []) (home : shared.slots_home x ≡ h.world.home.slots)
         (stands : IsSharedBy count (standing_at h.world (shared.slot_of x)))
         (world : w ≡ with_standing h.world (shared.slot_of x) (standing.Shared (count + 1))) where
       abbrev k : ℕ
       k = shared.slot_of x
 
-      abbrev more : Desk
+      abbrev more : ScriptState
       more = with_owner (in_world d (with_standing h.world k (standing.Shared (count + 1)))) (holding.shared k h.world.home.slots)
 
       gone : Goes (record h { world = w; owners = record { entries = owners } }) more

@@ -2,34 +2,34 @@
 use Rattle.std.proofs.Common.{◌≡◌, ◌≢◌, ℕ, ◌^◌, Some, None, is_some, slice_index_or, refl, ap}
 use Rattle.sdd_core.specs.declared.refused.Refused.{Refused}
 use Rattle.sdd_core.specs.declared.refused.Refused.TheVariants.{TooManyOwners}
-use Rattle.sdd_store.specs.declared.standing.Standing.TheVariants as standing
+use Rattle.sdd_participants.specs.declared.standing.Standing.TheVariants as standing
 use Rattle.sdd_standings.specs.Slots.{IsSharedBy}
-use Rattle.sdd_base.specs.Whole.{IsWhole}
-use Rattle.sdd_base.specs.World.{standing_at}
-use Rattle.sdd_base.specs.declared.shared.Shared.{Shared}
-use Rattle.sdd_base.specs.Shared as shared
-use Rattle.sdd_lines.specs.declared.name.PlaceName.{PlaceName}
-use Rattle.sdd_lines.specs.declared.name.GuardName.{GuardName}
-use Rattle.sdd_lines.specs.declared.name.OwnerName.{OwnerName}
-use Rattle.sdd_lines.specs.declared.name.ItemName.{ItemName}
-use Rattle.sdd_lines.specs.declared.call.Call.TheVariants.{At}
-use Rattle.sdd_lines.specs.declared.call.Action.TheVariants as call
-use Rattle.sdd_lines.specs.declared.answer.Reply.TheVariants as reply
-use Rattle.sdd_desk.specs.declared.val.Val.{Val}
-use Rattle.sdd_steps.specs.declared.holding.AnOwner.TheVariants.{Share}
-use Rattle.sdd_hand.specs.declared.stage.Hand.{Hand}
-use Rattle.sdd_hand.specs.declared.participants.Attending.{Attending}
-use Rattle.sdd_desk.specs.Desk.{Desk, opening_at, shared_slot, slot_at}
-use Rattle.sdd_desk.specs.Script.{Acts, HasOpen, CanPointTo}
-use Rattle.sdd_hand.specs.Hand.{attending}
-use Rattle.sdd_hand.specs.Stage.{desk_of, IsTied}
-use Rattle.sdd_hand.proofs.Acts.{is-there, named-owner, still}
+use Rattle.sdd_space.specs.Whole.{IsWhole}
+use Rattle.sdd_space.specs.World.{standing_at}
+use Rattle.sdd_space.specs.declared.shared.Shared.{Shared}
+use Rattle.sdd_space.specs.Shared as shared
+use Rattle.sdd_script_text.specs.declared.name.PlaceName.{PlaceName}
+use Rattle.sdd_script_text.specs.declared.name.GuardName.{GuardName}
+use Rattle.sdd_script_text.specs.declared.name.OwnerName.{OwnerName}
+use Rattle.sdd_script_text.specs.declared.name.ItemName.{ItemName}
+use Rattle.sdd_script_text.specs.declared.call.Call.TheVariants.{At}
+use Rattle.sdd_script_text.specs.declared.call.Action.TheVariants as call
+use Rattle.sdd_script_text.specs.declared.answer.Reply.TheVariants as reply
+use Rattle.sdd_script_model.specs.declared.val.Val.{Val}
+use Rattle.sdd_space_commands.specs.declared.holding.AnyOwner.TheVariants.{Share}
+use Rattle.sdd_script_names.specs.declared.interpreter.Environment.{Environment}
+use Rattle.sdd_script_names.specs.declared.participants.NamedParticipant.{NamedParticipant}
+use Rattle.sdd_script_model.specs.ScriptState.{ScriptState, opening_at, shared_slot, slot_at}
+use Rattle.sdd_script_model.specs.Script.{Acts, HasOpen, CanPointTo}
+use Rattle.sdd_script_names.specs.Environment.{attending}
+use Rattle.sdd_script_names.specs.Interpreter.{desk_of, IsTied}
+use Rattle.sdd_script_names.proofs.Acts.{is-there, named-owner, still}
 
-module _ (h : Hand) (t : IsTied h) (whole : IsWhole h.world) (name : PlaceName) where
-  abbrev d : Desk
+module _ (h : Environment) (t : IsTied h) (whole : IsWhole h.world) (name : PlaceName) where
+  abbrev d : ScriptState
   d = desk_of h
 
-  pub full-cloned : (a : Attending) → attending (Some a) ≡ opening_at d.places name.0 → (o : OwnerName) (y : Shared Val) (refused : Refused) →
+  pub full-cloned : (a : NamedParticipant) → attending (Some a) ≡ opening_at d.places name.0 → (o : OwnerName) (y : Shared Val) (refused : Refused) →
       slice_index_or h.owners.entries.items o.0 None ≡ Some (Share y) → refused ≡ TooManyOwners →
       IsSharedBy (2 ^ 62) (standing_at h.world (shared.slot_of y)) → Acts d (At name (call.Clone o)) (reply.Refused refused) d
   full-cloned a there o y refused mine is stands =

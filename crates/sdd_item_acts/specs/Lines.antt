@@ -1,9 +1,9 @@
 -- The lines on items and their owners
-use Rattle.sdd_desk.specs.declared.ownership.Ownership.TheVariants as ownership
-use Rattle.sdd_desk.specs.declared.ownership.Ownership.{Ownership}
-use Rattle.sdd_lines.specs.declared.call.Value.{Value}
-use Rattle.sdd_lines.specs.declared.call.Action.{Action}
-use Rattle.sdd_lines.specs.declared.call.Action.TheVariants as call
+use Rattle.sdd_script_model.specs.declared.owner_kind.OwnerKind.TheVariants as ownership
+use Rattle.sdd_script_model.specs.declared.owner_kind.OwnerKind.{OwnerKind}
+use Rattle.sdd_script_text.specs.declared.call.Value.{Value}
+use Rattle.sdd_script_text.specs.declared.call.Action.{Action}
+use Rattle.sdd_script_text.specs.declared.call.Action.TheVariants as call
 
 -- an action on an item or an owner
 abbrev pub IsItemAct : Action → Type 0
@@ -18,6 +18,6 @@ IsItemAct (call.Upgrade item guard) = Unit {0}
 IsItemAct other = ⊥
 
 -- the line that makes an item that is so owned
-abbrev pub making : Ownership → Value → Action
+abbrev pub making : OwnerKind → Value → Action
 making ownership.Sole value = call.Owned value
 making ownership.Shared value = call.Shared value

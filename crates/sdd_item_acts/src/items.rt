@@ -1,20 +1,20 @@
 //! How items of a script are made, and how they are seen.
-#![tactic(auto, using(sdd_hand::proofs::Taken::in_hand))]
+#![tactic(auto, using(sdd_script_names::proofs::Taken::in_hand))]
 
 ghost use Rattle.std.specs.Prelude.{◌≡◌, MatchOption, MatchResult};
-ghost use Rattle.sdd_store.specs.Table.{IsFull};
-ghost use Rattle.sdd_desk.specs.Made.{RefusesItem};
+ghost use Rattle.sdd_participants.specs.Slab.{IsFull};
+ghost use Rattle.sdd_script_model.specs.Made.{RefusesItem};
 ghost use Rattle.sdd_item_acts.specs.Lines.{making};
-ghost use Rattle.sdd_desk.specs.Script.{Acts};
+ghost use Rattle.sdd_script_model.specs.Script.{Acts};
 
 use sdd_core::Refused;
-use sdd_desk::{Ownership, Val};
-use sdd_hand::Stage;
-use sdd_hand::items::{slot_since, told};
-use sdd_hand::owners::{body_from, is_missing, value_of};
-use sdd_hand::participants::under;
-use sdd_lines::{Action, Call, GuardName, ItemName, OwnerName, PlaceName, Reply, Value};
-use sdd_turns::items::{make_item, value_shown};
+use sdd_script_model::{OwnerKind, Val};
+use sdd_script_names::Interpreter;
+use sdd_script_names::items::{slot_since, told};
+use sdd_script_names::owners::{body_from, is_missing, value_of};
+use sdd_script_names::participants::under;
+use sdd_script_text::{Action, Call, GuardName, ItemName, OwnerName, PlaceName, Reply, Value};
+use sdd_turn_commands::items::{make_item, value_shown};
 use sdd_world::World;
 use sdd_world::inner::{has_no_cell, has_no_slot};
 use std::alloc::AllocError;
@@ -22,10 +22,10 @@ use std::alloc::AllocError;
 /// `P owned V`, `P shared V`: an item with an owner of that kind, both named. `NoSlot` is a reply. Refused where memory for the names is, and then
 /// nothing has changed.
 pub fn make(
-    stage: &mut Stage,
+    stage: &mut Interpreter,
     name: PlaceName,
     value: Value,
-    ownership: Ownership,
+    ownership: OwnerKind,
 ) -> Result<Reply, AllocError>
     ensures acts { MatchResult result (λ reply. Acts stage.old (Call.At name (making ownership value)) reply stage.new) (λ _. stage.new ≡ stage.old) }
 {
@@ -54,7 +54,7 @@ pub fn make(
 }
 
 /// `P read O`: the value of an owner's item.
-pub fn read(stage: &mut Stage, name: PlaceName, owner: OwnerName) -> Reply
+pub fn read(stage: &mut Interpreter, name: PlaceName, owner: OwnerName) -> Reply
     ensures acts { Acts stage.old (Call.At name (Action.Read owner)) result stage.new }
 {
     let Some(_) = stage.hand.places.get(name.0) else {
@@ -71,7 +71,7 @@ pub fn read(stage: &mut Stage, name: PlaceName, owner: OwnerName) -> Reply
 }
 
 /// `P look I G`: the value of an item that the participant can point to.
-pub fn look(stage: &mut Stage, name: PlaceName, item: ItemName, guard: GuardName) -> Reply
+pub fn look(stage: &mut Interpreter, name: PlaceName, item: ItemName, guard: GuardName) -> Reply
     ensures acts { Acts stage.old (Call.At name (Action.Look item guard)) result stage.new }
 {
     let Some((attending, held)) = under(&stage.hand.places, &stage.hand.guards, name, guard) else {

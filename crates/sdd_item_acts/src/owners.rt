@@ -1,22 +1,22 @@
 //! What participants do with the owners of items.
-#![tactic(auto, using(sdd_hand::proofs::Taken::in_hand))]
+#![tactic(auto, using(sdd_script_names::proofs::Taken::in_hand))]
 
 ghost use Rattle.std.specs.Prelude.{◌≡◌, ◌<◌, None, Some, MatchResult};
-ghost use Rattle.sdd_desk.specs.Script.{Acts};
+ghost use Rattle.sdd_script_model.specs.Script.{Acts};
 
-use sdd_base::inner::{slot_of_owner, slot_of_shared};
+use sdd_space::inner::{slot_of_owner, slot_of_shared};
 use sdd_core::Refused;
-use sdd_hand::Stage;
-use sdd_hand::items::slot_since;
-use sdd_hand::owners::{shared_of, take_shared, take_sole};
-use sdd_hand::participants::under;
-use sdd_lines::{Action, Call, GuardName, ItemName, OwnerName, PlaceName, Reply};
-use sdd_steps::holding::AnOwner;
-use sdd_turns::owners::{clone_held, release_owner, retire_item, share_item};
+use sdd_script_names::Interpreter;
+use sdd_script_names::items::slot_since;
+use sdd_script_names::owners::{shared_of, take_shared, take_sole};
+use sdd_script_names::participants::under;
+use sdd_script_text::{Action, Call, GuardName, ItemName, OwnerName, PlaceName, Reply};
+use sdd_space_commands::holding::AnyOwner;
+use sdd_turn_commands::owners::{clone_held, release_owner, retire_item, share_item};
 use std::alloc::AllocError;
 
 /// `P retire O`: the item of its one owner waits, and the owner's name is spent.
-pub fn retire(stage: &mut Stage, name: PlaceName, owner: OwnerName) -> Reply
+pub fn retire(stage: &mut Interpreter, name: PlaceName, owner: OwnerName) -> Reply
     ensures acts { Acts stage.old (Call.At name (Action.Retire owner)) result stage.new }
 {
     let Some(attending) = stage.hand.places.get(name.0) else {
@@ -33,7 +33,7 @@ pub fn retire(stage: &mut Stage, name: PlaceName, owner: OwnerName) -> Reply
 }
 
 /// `P release O`: one of the counted owners goes, and tells whether it was the last, whose item waits.
-pub fn release(stage: &mut Stage, name: PlaceName, owner: OwnerName) -> Reply
+pub fn release(stage: &mut Interpreter, name: PlaceName, owner: OwnerName) -> Reply
     ensures acts { Acts stage.old (Call.At name (Action.Release owner)) result stage.new }
 {
     let Some(attending) = stage.hand.places.get(name.0) else {
@@ -53,7 +53,7 @@ pub fn release(stage: &mut Stage, name: PlaceName, owner: OwnerName) -> Reply
 
 /// `P clone O`: an owner more beside a counted one. `TooManyOwners` is a reply. Refused where memory for the name is, and then nothing has changed.
 pub fn clone_owner(
-    stage: &mut Stage,
+    stage: &mut Interpreter,
     name: PlaceName,
     owner: OwnerName,
 ) -> Result<Reply, AllocError>
@@ -69,7 +69,7 @@ pub fn clone_owner(
     stage.hand.world.is_whole();
     match clone_held(&mut stage.hand.world, &attending.place, held) {
         Ok(owner) => {
-            let name = stage.hand.owners.give(AnOwner::Share(owner));
+            let name = stage.hand.owners.give(AnyOwner::Share(owner));
             Ok(Reply::Owner(OwnerName(name)))
         }
         Err(refused) => Ok(Reply::Refused(refused)),
@@ -79,7 +79,7 @@ pub fn clone_owner(
 /// `P upgrade I G`: an owner more of an item that a pointer names, or none where its last owner went. `TooManyOwners` is a reply. Refused where memory
 /// for the name is, and then nothing has changed.
 pub fn upgrade(
-    stage: &mut Stage,
+    stage: &mut Interpreter,
     name: PlaceName,
     item: ItemName,
     guard: GuardName,
@@ -106,7 +106,7 @@ pub fn upgrade(
     };
     match share_item(&mut stage.hand.world, &attending.place, &held.guard, slot) {
         Ok(Some(owner)) => {
-            let name = stage.hand.owners.give(AnOwner::Share(owner));
+            let name = stage.hand.owners.give(AnyOwner::Share(owner));
             Ok(Reply::Owner(OwnerName(name)))
         }
         Ok(None) => Ok(Reply::Nothing),

@@ -2,10 +2,10 @@
 
 use sdd_core::Refused;
 use sdd_core::inner::epoch_of_count;
-use sdd_lines::{
+use sdd_script_text::{
     Answer, GuardName, ItemName, JobName, Names, PlaceName, Reply, print_all, print_fault,
 };
-use sdd_store::Tally;
+use sdd_participants::Tally;
 use std::alloc::{AllocError, Global};
 use std::test::Fail;
 
@@ -30,7 +30,7 @@ fn answer(
     })
 }
 
-/// The texts of all other replies stand beside their lines in the examples of `sdd_script_rows`.
+/// The texts of all other replies stand beside their lines in the examples of `sdd_script_examples`.
 #[test]
 fn replies_that_no_script_gets_have_texts(rt: HostRuntime) -> Result<(), Fail> {
     let alloc = rt.alloc();

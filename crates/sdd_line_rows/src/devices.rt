@@ -1,6 +1,6 @@
 //! Devices over std's readers and writers.
 
-use sdd_lines::{Writer, write_all};
+use sdd_script_text::{Writer, write_all};
 use std::test::Fail;
 
 #[test]

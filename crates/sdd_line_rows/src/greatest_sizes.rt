@@ -1,6 +1,6 @@
 //! The greatest sizes of texts, with ample memory. A body that refuses with `NoMemory` beyond some size meets every contract.
 
-use sdd_lines::{
+use sdd_script_text::{
     Answer, ItemName, Names, Reader, Reply, Script, parse_all, print_all, read_to_end,
 };
 use std::alloc::{AllocError, Global};

@@ -1,14 +1,14 @@
 //! Lines that are calls, and lines that are none.
 
 use sdd_core::Tag;
-use sdd_lines::{
+use sdd_script_text::{
     Action, Call, CellName, CollectorName, GuardName, OwnerName, PlaceName, Script, Value,
     parse_all,
 };
 use std::alloc::Global;
 use std::test::Fail;
 
-/// The other forms of lines are played, each with its answer, by `sdd_script_rows`.
+/// The other forms of lines are played, each with its answer, by `sdd_script_examples`.
 #[test]
 fn lines_are_calls(rt: HostRuntime) {
     let place = PlaceName(0);

@@ -10,7 +10,7 @@ use Rattle.std.specs.FinSet as set
 use Rattle.std.specs.List.{list_any}
 use Rattle.sdd_machine.specs.declared.machine.chains.Chain.{Chain}
 use Rattle.sdd_machine.specs.Table.{Items}
-use Rattle.sdd_machine.specs.Chains.{Linked, walk, items_of, occ, IsChain, no_chain, all_items, bag_of, AreChains}
+use Rattle.sdd_machine.specs.Chains.{ChainedBags, walk, items_of, occ, IsChain, no_chain, all_items, bag_of, AreChains}
 use Rattle.sdd_machine.proofs.Walks.{occ-append, at_head, occurs_at, length-walk, len-from_list}
 
 -- links that agree where a walk goes give the same walk
@@ -105,13 +105,13 @@ pub bags-set : (links : List ℕ) (cs : List Chain) (k : ℕ) (c : Chain) →
     map (bag_of links) (list_set cs k c) ≡ list_set (map (bag_of links) cs) k (bag_of links c)
 bags-set links cs k c = map-set (bag_of links) cs k c
 
-abbrev pub linked_of : List ℕ → List Chain → Linked
+abbrev pub linked_of : List ℕ → List Chain → ChainedBags
 linked_of links cs = record { items = length links; bags = map (bag_of links) cs }
 
 -- the number of a bag is that of a chain
-pub within_chains : (links : List ℕ) (cs : List Chain) (b : Linked) (k : ℕ) → linked_of links cs ≡ b → k < length b.bags → k < length cs
+pub within_chains : (links : List ℕ) (cs : List Chain) (b : ChainedBags) (k : ℕ) → linked_of links cs ≡ b → k < length b.bags → k < length cs
 within_chains links cs b k v l =
-    let a : k < length (map (bag_of links) cs) = subst (λ (d : Linked). k < length d.bags) (sym v) l in
+    let a : k < length (map (bag_of links) cs) = subst (λ (d : ChainedBags). k < length d.bags) (sym v) l in
     let z = length-map cs (bag_of links) in
     omega (arith, a, z)
 

@@ -6,7 +6,7 @@ use Rattle.std.specs.Ordering.{nat_cmp}
 use Rattle.std.specs.Cmp.{nat_cmp_total}
 use Rattle.std.specs.FinSet as set
 use Rattle.sdd_machine.specs.Table.{Items}
-use Rattle.sdd_machine.specs.Bags.{Trio, trio_at, no_items, has, put, rotated, all_of, joined, trios_of, AreTrios}
+use Rattle.sdd_machine.specs.Bags.{ThreeBags, trio_at, no_items, has, put, rotated, all_of, joined, trios_of, AreTrios}
 use Rattle.sdd_machine.specs.Chains.{bag_at}
 
 -- where the bags of a place begin
@@ -74,7 +74,7 @@ current-set [] p x l = absurd (omega arith)
 current-set (a ∷ []) p x l = absurd (omega arith)
 current-set (a ∷ b ∷ []) p x l = absurd (omega arith)
 current-set (a ∷ b ∷ c ∷ bs) zero x l = refl
-current-set (a ∷ b ∷ c ∷ bs) (suc p) x l = ap (λ (ts : List Trio). record { current = a; prev = b; next = c } ∷ ts) (current-set bs p x (omega arith))
+current-set (a ∷ b ∷ c ∷ bs) (suc p) x l = ap (λ (ts : List ThreeBags). record { current = a; prev = b; next = c } ∷ ts) (current-set bs p x (omega arith))
 
 pub put_trios : (bs : List Items) (p k i : ℕ) → k ≡ 3 * p → p < length (trios_of bs) →
     trios_of (list_set bs k (set.insert (bag_at bs k) i)) ≡ list_set (trios_of bs) p (put i (trio_at (trios_of bs) p))
@@ -101,7 +101,7 @@ turned_at (a ∷ b ∷ []) p l = absurd (omega arith)
 turned_at (a ∷ b ∷ c ∷ bs) zero l =
     ap (λ (x : Items). record { current = set.empty; prev = x; next = set.union set.empty b } ∷ trios_of bs) (union-empty a)
     ∙ ap (λ (x : Items). record { current = set.empty; prev = a; next = x } ∷ trios_of bs) (union-empty b)
-turned_at (a ∷ b ∷ c ∷ bs) (suc p) l = ap (λ (ts : List Trio). record { current = a; prev = b; next = c } ∷ ts) (turned_at bs p (omega arith))
+turned_at (a ∷ b ∷ c ∷ bs) (suc p) l = ap (λ (ts : List ThreeBags). record { current = a; prev = b; next = c } ∷ ts) (turned_at bs p (omega arith))
 
 pub turned_trios : (bs : List Items) (p first second third : ℕ) → first ≡ 3 * p → second ≡ 3 * p + 1 → third ≡ 3 * p + 2 → p < length (trios_of bs) →
     trios_of (turned first second third bs) ≡ list_set (trios_of bs) p (rotated (trio_at (trios_of bs) p))
@@ -149,7 +149,7 @@ emptied_trios [] r l = absurd (omega arith)
 emptied_trios (a ∷ []) r l = absurd (omega arith)
 emptied_trios (a ∷ b ∷ []) r l = absurd (omega arith)
 emptied_trios (a ∷ b ∷ c ∷ bs) zero l = refl
-emptied_trios (a ∷ b ∷ c ∷ bs) (suc r) l = ap (λ (ts : List Trio). record { current = a; prev = b; next = c } ∷ ts) (emptied_trios bs r (omega arith))
+emptied_trios (a ∷ b ∷ c ∷ bs) (suc r) l = ap (λ (ts : List ThreeBags). record { current = a; prev = b; next = c } ∷ ts) (emptied_trios bs r (omega arith))
 
 -- what is taken from them on the way
 taken_away : (bs : List Items) (r : ℕ) (a : Items) → r < length (trios_of bs) →
@@ -170,11 +170,11 @@ taken_at (a ∷ b ∷ []) p r lp lr ne = absurd (omega arith)
 taken_at (a ∷ b ∷ c ∷ bs) zero zero lp lr ne = absurd (ne refl)
 taken_at (a ∷ b ∷ c ∷ bs) zero (suc r) lp lr ne =
     ap (λ (x : Items). record { current = x; prev = b; next = c } ∷ trios_of (emptied r bs)) (taken_away bs r a (omega arith))
-    ∙ ap (λ (ts : List Trio). record { current = set.union a (all_of (trio_at (trios_of bs) r)); prev = b; next = c } ∷ ts) (emptied_trios bs r (omega arith))
+    ∙ ap (λ (ts : List ThreeBags). record { current = set.union a (all_of (trio_at (trios_of bs) r)); prev = b; next = c } ∷ ts) (emptied_trios bs r (omega arith))
 taken_at (a ∷ b ∷ c ∷ bs) (suc p) zero lp lr ne =
     let l : p < length (trios_of bs) = omega arith in
     ap (λ (ds : List Items). no_items ∷ trios_of ds) (three bs p a b c l)
-    ∙ (ap (λ (ts : List Trio). no_items ∷ ts) (current-set bs p (set.union (set.union (set.union (bag_at bs (at p)) a) b) c) l)
+    ∙ (ap (λ (ts : List ThreeBags). no_items ∷ ts) (current-set bs p (set.union (set.union (set.union (bag_at bs (at p)) a) b) c) l)
     ∙ ap (λ (x : Items). no_items ∷ list_set (trios_of bs) p (record (trio_at (trios_of bs) p) { current = x }))
     (ap (λ (x : Items). set.union (set.union (set.union x a) b) c) (current-at bs p l) ∙ union-three (trio_at (trios_of bs) p).current a b c))
   where
@@ -198,7 +198,7 @@ taken_at (a ∷ b ∷ c ∷ bs) (suc p) zero lp lr ne =
         ∙ (set-set bs k (set.union x b) (set.union (bag_at (list_set bs k (set.union x b)) k) c)
         ∙ ap (λ (y : Items). list_set bs k (set.union y c)) (get_or-set_same bs k (set.union x b) set.empty (inside bs p l)))
 taken_at (a ∷ b ∷ c ∷ bs) (suc p) (suc r) lp lr ne =
-    ap (λ (ts : List Trio). record { current = a; prev = b; next = c } ∷ ts) (taken_at bs p r (omega arith) (omega arith) (λ e. ne (ap suc e)))
+    ap (λ (ts : List ThreeBags). record { current = a; prev = b; next = c } ∷ ts) (taken_at bs p r (omega arith) (omega arith) (λ e. ne (ap suc e)))
 
 pub taken_trios_in : (bs : List Items) (p r to first second third : ℕ) → to ≡ 3 * p → first ≡ 3 * r → second ≡ 3 * r + 1 → third ≡ 3 * r + 2 →
     p < length (trios_of bs) → r < length (trios_of bs) → (p ≡ r → ⊥) →
@@ -216,7 +216,7 @@ taken_trios_in bs p r to first second third d e f g lp lr ne =
 -- new bags are empty
 new_at : (n : ℕ) → trios_of (replicate (at n) set.empty) ≡ replicate n no_items
 new_at zero = refl
-new_at (suc n) = ap (λ (ts : List Trio). no_items ∷ ts) (new_at n)
+new_at (suc n) = ap (λ (ts : List ThreeBags). no_items ∷ ts) (new_at n)
 
 pub new_trios : (n k : ℕ) → k ≡ 3 * n → trios_of (replicate k set.empty) ≡ replicate n no_items
 new_trios n k e = ap (λ (j : ℕ). trios_of (replicate j set.empty)) (e ∙ sym (at_is n)) ∙ new_at n

@@ -8,34 +8,34 @@ abbrev pub items_code : Coded Items
 items_code = set.code coded_ℕ
 
 -- the bags of one place
-pub record Trio : Type 0 where
+pub record ThreeBags : Type 0 where
   pub current : Items
   pub prev : Items
   pub next : Items
 
-abbrev pub no_items : Trio
+abbrev pub no_items : ThreeBags
 no_items = record { current = set.empty; prev = set.empty; next = set.empty }
 
-abbrev pub trio_code : Coded Trio
+abbrev pub trio_code : Coded ThreeBags
 trio_code =
     code_by (Items × (Items × Items)) (coded× items_code (coded× items_code items_code))
     (λ t. (t.current, (t.prev, t.next))) (λ t. record { current = t.0; prev = t.1.0; next = t.1.1 }) (λ _. refl)
 
 -- the bags of each place, and how many items there are
-pub record Bagged : Type 0 where
+pub record BagsOfPlaces : Type 0 where
   pub items : ℕ
-  pub trios : List Trio
+  pub trios : List ThreeBags
 
-abbrev pub bagged_code : Coded Bagged
+abbrev pub bagged_code : Coded BagsOfPlaces
 bagged_code =
-    code_by (ℕ × List Trio) (coded× coded_ℕ (coded_list trio_code))
+    code_by (ℕ × List ThreeBags) (coded× coded_ℕ (coded_list trio_code))
     (λ b. (b.items, b.trios)) (λ p. record { items = p.0; trios = p.1 }) (λ _. refl)
 
-abbrev pub trio_at : List Trio → ℕ → Trio
+abbrev pub trio_at : List ThreeBags → ℕ → ThreeBags
 trio_at trios place = slice_index_or trios place no_items
 
 -- bags by threes
-abbrev pub trios_of : List Items → List Trio
+abbrev pub trios_of : List Items → List ThreeBags
 trios_of [] = []
 trios_of (current ∷ []) = []
 trios_of (current ∷ prev ∷ []) = []
@@ -46,27 +46,27 @@ abbrev pub AreTrios : List Items → Type 0
 AreTrios bags = length bags ≡ 3 * length (trios_of bags)
 
 -- one of the three has it
-abbrev pub has : Trio → ℕ → Bool
+abbrev pub has : ThreeBags → ℕ → Bool
 has trio item = set.contains trio.current item || set.contains trio.prev item || set.contains trio.next item
 
 -- an item put into the current bag
-abbrev pub put : ℕ → Trio → Trio
+abbrev pub put : ℕ → ThreeBags → ThreeBags
 put item trio = record trio { current = set.insert trio.current item }
 
-abbrev pub put_at : ℕ → ℕ → List Trio → List Trio
+abbrev pub put_at : ℕ → ℕ → List ThreeBags → List ThreeBags
 put_at place item trios = slice_set trios place (put item (trio_at trios place))
 
 -- the bags move on by one, and what is in next is taken out
-abbrev pub rotated : Trio → Trio
+abbrev pub rotated : ThreeBags → ThreeBags
 rotated trio = record { current = set.empty; prev = trio.current; next = trio.prev }
 
-abbrev pub rotated_at : ℕ → List Trio → List Trio
+abbrev pub rotated_at : ℕ → List ThreeBags → List ThreeBags
 rotated_at place trios = slice_set trios place (rotated (trio_at trios place))
 
-abbrev pub all_of : Trio → Items
+abbrev pub all_of : ThreeBags → Items
 all_of trio = set.union trio.current (set.union trio.prev trio.next)
 
 -- everything in the bags of one place moved into the current bag of another
-abbrev pub joined : ℕ → ℕ → List Trio → List Trio
+abbrev pub joined : ℕ → ℕ → List ThreeBags → List ThreeBags
 joined to from trios =
     slice_set (slice_set trios from no_items) to (record (trio_at trios to) { current = set.union (trio_at trios to).current (all_of (trio_at trios from)) })

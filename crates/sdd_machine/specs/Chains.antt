@@ -42,11 +42,11 @@ pub record AreChains (links : List ℕ) (chains : List Chain) : Type 0 where
   pub once : (item : ℕ) → occ item (all_items links chains) ≤ 1
 
 -- bags, and how many items there are
-pub record Linked : Type 0 where
+pub record ChainedBags : Type 0 where
   pub items : ℕ
   pub bags : List Items
 
-abbrev pub linked_code : Coded Linked
+abbrev pub linked_code : Coded ChainedBags
 linked_code =
     code_by (ℕ × List Items) (coded× coded_ℕ (coded_list items_code))
     (λ b. (b.items, b.bags)) (λ p. record { items = p.0; bags = p.1 }) (λ _. refl)

@@ -17,7 +17,7 @@ mod steps;
 use crate::inner::machine_for;
 use bags::Bags;
 use places::{
-    Phase, Post, Scan, adopts, advanced, advances, free_ended, holds, is_idle, looks, skip,
+    Phase, PlacePhase, Scan, adopts, advanced, advances, free_ended, holds, is_idle, looks, skip,
 };
 use sdd_core::Refused;
 use std::alloc::Global;
@@ -36,7 +36,7 @@ pub const MAX_ITEMS: u32 = 16_777_216;
 #[derive(Drop)]
 pub struct Machine {
     count: u64,
-    posts: Vec<Post>,
+    posts: Vec<PlacePhase>,
     bags: Bags,
     retired: Vec<bool>,
     scan: Option<Scan>,
@@ -85,7 +85,7 @@ impl Machine {
         }
         Ok(Machine {
             count: 0,
-            posts: vec![in alloc; Post::FREE; places as usize]?,
+            posts: vec![in alloc; PlacePhase::FREE; places as usize]?,
             bags: Bags::new(alloc, places, items)?,
             retired: vec![in alloc; false; items as usize]?,
             scan: None,
@@ -173,7 +173,7 @@ impl Machine {
         requires busy { is_free phase ≡ false }
         ensures { self.new ≡ with_place self.old place (posted phase found) }
     {
-        self.posts[place as usize] = Post { phase, found };
+        self.posts[place as usize] = PlacePhase { phase, found };
     }
 
     fn rotate(&mut self, place: u32) -> u32
@@ -208,7 +208,7 @@ impl Machine {
         requires free { is_free (place_at self.old place).phase ≡ true }
         ensures { self.new ≡ after self.old (Step.Register place) }
     {
-        self.posts[place as usize] = Post {
+        self.posts[place as usize] = PlacePhase {
             phase: Phase::Closed,
             found: 0,
         };
@@ -358,7 +358,7 @@ impl Machine {
 }
 
 /// Moves everything left by ended places into the current bag of a place that isn't ended.
-fn gather(bags: &mut Bags, posts: &[Post], place: u32)
+fn gather(bags: &mut Bags, posts: &[PlacePhase], place: u32)
     requires few { length posts.now ≤ 1024 }
     requires place { place < length posts.now }
     requires same { length bags.old.trios ≡ length posts.now }

@@ -1,6 +1,6 @@
 //! Ample memory at the greatest sizes. A body that refuses with `NoMemory` beyond some size meets every contract.
 
-use sdd_base::Limits;
+use sdd_space::Limits;
 use sdd_command::USUAL_LIMITS;
 use sdd_script::{
     Action, Call, Ended, ItemName, OwnerName, PlaceName, Reader, Reply, Value, Writer, play, run,

@@ -1,11 +1,11 @@
 //! Plays: how they end, and what they write.
 
 use crate::devices::{Page, Trickle};
-use sdd_base::Limits;
+use sdd_space::Limits;
 use sdd_command::USUAL_LIMITS;
 use sdd_core::Refused;
 use sdd_script::{Action, Call, Ended, PlaceName, Reader, Value, Writer, play, run};
-use sdd_store::Tally;
+use sdd_participants::Tally;
 use std::alloc::{AllocError, Global};
 
 /// The shortest way of an item: it is made and retired, and goes at the third later opening that finds another epoch.

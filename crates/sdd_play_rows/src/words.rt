@@ -1,6 +1,6 @@
 //! What the arguments choose, and the status of each end.
 
-use sdd_base::Limits;
+use sdd_space::Limits;
 use sdd_command::{Choice, Outcome, USUAL_LIMITS, chosen, line, status};
 use sdd_script::Ended;
 use std::alloc::{AllocError, Global};

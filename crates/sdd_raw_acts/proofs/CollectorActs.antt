@@ -7,49 +7,49 @@ use Rattle.std.proofs.Math.ListN.{get_or-map}
 use Rattle.std.proofs.lemmas.Bool.{false≢true}
 use Rattle.std.proofs.lemmas.List.{length-map, map_push, set-get_or, set-set}
 use Rattle.sdd_core.specs.declared.refused.Refused.TheVariants.{GuardOpen, NoCell}
-use Rattle.sdd_store.specs.Table.{IsEmptyAt, IsFull, entry_at}
+use Rattle.sdd_participants.specs.Slab.{IsEmptyAt, IsFull, entry_at}
 use Rattle.sdd_standings.specs.Cells.{null_pointer}
-use Rattle.sdd_base.specs.declared.private_collector.PrivateCollector.{PrivateCollector}
-use Rattle.sdd_base.specs.Collecting.{collector_closed, waiting_for, without_collector as freed_collector}
-use Rattle.sdd_base.specs.Collector as collector
-use Rattle.sdd_base.specs.Holding as holding
-use Rattle.sdd_base.specs.Out.{IsNullCell}
-use Rattle.sdd_base.specs.Steps.{held_in, pointing}
-use Rattle.sdd_base.specs.Whole.{IsWhole}
-use Rattle.sdd_base.specs.World.{World, IsGuarded, IsPlaceOf}
+use Rattle.sdd_space.specs.declared.private_collector.PrivateCollector.{PrivateCollector}
+use Rattle.sdd_space.specs.Collecting.{collector_closed, waiting_for, without_collector as freed_collector}
+use Rattle.sdd_space.specs.Collector as collector
+use Rattle.sdd_space.specs.OwnerOrCell as holding
+use Rattle.sdd_space.specs.Out.{IsNullCell}
+use Rattle.sdd_space.specs.Steps.{held_in, pointing}
+use Rattle.sdd_space.specs.Whole.{IsWhole}
+use Rattle.sdd_space.specs.World.{World, IsGuarded, IsPlaceOf}
 use Rattle.sdd_world.specs.Place.{index_of}
-use Rattle.sdd_lines.specs.declared.name.PlaceName.{PlaceName}
-use Rattle.sdd_lines.specs.declared.name.GuardName.{GuardName}
-use Rattle.sdd_lines.specs.declared.name.OwnerName.{OwnerName}
-use Rattle.sdd_lines.specs.declared.name.ItemName.{ItemName}
-use Rattle.sdd_lines.specs.declared.name.CollectorName.{CollectorName}
-use Rattle.sdd_lines.specs.declared.call.Call.TheVariants.{At}
-use Rattle.sdd_lines.specs.declared.call.Action.TheVariants as call
-use Rattle.sdd_lines.specs.declared.answer.Reply.{Reply}
-use Rattle.sdd_lines.specs.declared.answer.Reply.TheVariants as reply
-use Rattle.sdd_desk.specs.declared.val.Val.{Val}
-use Rattle.sdd_desk.specs.Val.{holdings_of}
-use Rattle.sdd_desk.specs.Collecting.{Collects}
-use Rattle.sdd_desk.specs.Desk.{Desk, IsDated, collector_of, holding_at, in_world, opening_at, slot_of, without_collector}
-use Rattle.sdd_desk.specs.Held.{owners_in, slots_waiting_for, waits_among}
-use Rattle.sdd_desk.specs.Script.{Acts, Answers, HasOpen, IsCollector, IsOwner, IsParticipant, Meets}
-use Rattle.sdd_desk.specs.Shown.{item_in}
-use Rattle.sdd_steps.specs.declared.holding.AnOwner.{AnOwner}
-use Rattle.sdd_steps.specs.declared.holding.AnOwner.TheVariants.{Sole, Share}
-use Rattle.sdd_steps.specs.Owners.{collector_holding, owner_holding}
-use Rattle.sdd_hand.specs.declared.participants.Attending.{Attending}
-use Rattle.sdd_hand.specs.Hand.{attending, dated_if_waiting}
-use Rattle.sdd_hand.specs.declared.stage.Hand.{Hand}
-use Rattle.sdd_hand.specs.Stage.{GuardsIn, IsTied, desk_of}
-use Rattle.sdd_desk.proofs.Collected.{after_given, calls-collecting, dated-collecting, owner-inside, sound-collecting, sound-given}
-use Rattle.sdd_desk.proofs.CollectorGoing.{calls-uncollected, dated-uncollected, goes-uncollected, runs-uncollected, sound-uncollected}
-use Rattle.sdd_desk.proofs.Gone.{all-counts}
-use Rattle.sdd_hand.proofs.Collectors.{number-is, collectors-spent}
-use Rattle.sdd_hand.proofs.Acts.{Does, Goes, does, goes, in_range, is, is-there, named-owner, owner-spent, still}
+use Rattle.sdd_script_text.specs.declared.name.PlaceName.{PlaceName}
+use Rattle.sdd_script_text.specs.declared.name.GuardName.{GuardName}
+use Rattle.sdd_script_text.specs.declared.name.OwnerName.{OwnerName}
+use Rattle.sdd_script_text.specs.declared.name.ItemName.{ItemName}
+use Rattle.sdd_script_text.specs.declared.name.CollectorName.{CollectorName}
+use Rattle.sdd_script_text.specs.declared.call.Call.TheVariants.{At}
+use Rattle.sdd_script_text.specs.declared.call.Action.TheVariants as call
+use Rattle.sdd_script_text.specs.declared.answer.Reply.{Reply}
+use Rattle.sdd_script_text.specs.declared.answer.Reply.TheVariants as reply
+use Rattle.sdd_script_model.specs.declared.val.Val.{Val}
+use Rattle.sdd_script_model.specs.Val.{holdings_of}
+use Rattle.sdd_script_model.specs.Collecting.{Collects}
+use Rattle.sdd_script_model.specs.ScriptState.{ScriptState, IsDated, collector_of, holding_at, in_world, opening_at, slot_of, without_collector}
+use Rattle.sdd_script_model.specs.Held.{owners_in, slots_waiting_for, waits_among}
+use Rattle.sdd_script_model.specs.Script.{Acts, Answers, HasOpen, IsCollector, IsOwner, IsParticipant, Meets}
+use Rattle.sdd_script_model.specs.Shown.{item_in}
+use Rattle.sdd_space_commands.specs.declared.holding.AnyOwner.{AnyOwner}
+use Rattle.sdd_space_commands.specs.declared.holding.AnyOwner.TheVariants.{Sole, Share}
+use Rattle.sdd_space_commands.specs.Owners.{collector_holding, owner_holding}
+use Rattle.sdd_script_names.specs.declared.participants.NamedParticipant.{NamedParticipant}
+use Rattle.sdd_script_names.specs.Environment.{attending, dated_if_waiting}
+use Rattle.sdd_script_names.specs.declared.interpreter.Environment.{Environment}
+use Rattle.sdd_script_names.specs.Interpreter.{GuardsIn, IsTied, desk_of}
+use Rattle.sdd_script_model.proofs.Collected.{after_given, calls-collecting, dated-collecting, owner-inside, sound-collecting, sound-given}
+use Rattle.sdd_script_model.proofs.CollectorGoing.{calls-uncollected, dated-uncollected, goes-uncollected, runs-uncollected, sound-uncollected}
+use Rattle.sdd_script_model.proofs.Gone.{all-counts}
+use Rattle.sdd_script_names.proofs.Collectors.{number-is, collectors-spent}
+use Rattle.sdd_script_names.proofs.Acts.{Does, Goes, does, goes, in_range, is, is-there, named-owner, owner-spent, still}
 
 -- what a collector names, of its own home, and what a name of one stands for
-module _ (h : Hand) (t : IsTied h) where
-  abbrev d : Desk
+module _ (h : Environment) (t : IsTied h) where
+  abbrev d : ScriptState
   d = desk_of h
 
   pub no-collector : (k : ℕ) → None ≡ slice_index_or h.collectors.entries.items k None → ¬ (IsCollector d k)
@@ -59,7 +59,7 @@ module _ (h : Hand) (t : IsTied h) where
       false≢true (rw entry at there)
 
   -- the item of an owner that a name stands for has a date
-  pub owner-dated : IsWhole h.world → (o : ℕ) (x : AnOwner) (s : ℕ) → Some x ≡ slice_index_or h.owners.entries.items o None →
+  pub owner-dated : IsWhole h.world → (o : ℕ) (x : AnyOwner) (s : ℕ) → Some x ≡ slice_index_or h.owners.entries.items o None →
       slot_of (Some (owner_holding x)) ≡ Some s → s < length h.dates.items
   owner-dated whole o x s there slot =
       let entry : holding_at d.owners o ≡ Some (owner_holding x) =
@@ -79,7 +79,7 @@ module _ (h : Hand) (t : IsTied h) where
       ap (λ (u : World Val). record d { world = u; collectors = map (option_map collector_holding) after.items }) world
       ∙ ap (λ (ks : List (Option (PrivateCollector Val))). record d { collectors = map (option_map collector_holding) ks }) all
 
-module _ (h : Hand) (t : IsTied h) (whole : IsWhole h.world) (name : PlaceName) (a : Attending)
+module _ (h : Environment) (t : IsTied h) (whole : IsWhole h.world) (name : PlaceName) (a : NamedParticipant)
     (there : attending (Some a) ≡ opening_at (desk_of h).places name.0) where
   abbrev n : ℕ
   n = name.0
@@ -120,12 +120,12 @@ module _ (h : Hand) (t : IsTied h) (whole : IsWhole h.world) (name : PlaceName) 
 
   -- ---- an owner is given to a collector
 
-  owner-is : (x : AnOwner) → IsSome (slot_of (Some (owner_holding x)))
+  owner-is : (x : AnyOwner) → IsSome (slot_of (Some (owner_holding x)))
   owner-is (Sole x) = refl
   owner-is (Share x) = refl
 
-  pub acts-collected : (o : OwnerName) (g : GuardName) (r : CollectorName) (k : ℕ) (x : AnOwner) (y : PrivateCollector Val) (given : Reply) (w : World Val)
-      (owners : Vec (Option AnOwner)) (dates : Vec ℕ) → HasOpen (desk_of h) n g.0 → Some x ≡ slice_index_or h.owners.entries.items o.0 None →
+  pub acts-collected : (o : OwnerName) (g : GuardName) (r : CollectorName) (k : ℕ) (x : AnyOwner) (y : PrivateCollector Val) (given : Reply) (w : World Val)
+      (owners : Vec (Option AnyOwner)) (dates : Vec ℕ) → HasOpen (desk_of h) n g.0 → Some x ≡ slice_index_or h.owners.entries.items o.0 None →
       Some y ≡ slice_index_or h.collectors.entries.items r.0 None → slot_of (Some (owner_holding x)) ≡ Some k →
       Collects h.world p (collector.collector_of y) (owner_holding x) given w → owners.items ≡ slice_set h.owners.entries.items o.0 None →
       dates.items ≡ dated_if_waiting w (Some k) h.moment h.dates.items →
@@ -139,17 +139,17 @@ module _ (h : Hand) (t : IsTied h) (whole : IsWhole h.world) (name : PlaceName) 
       (goes (cc (gone, become)) left.sound
       (λ i. subst (λ z. GuardsIn z.readers (desk_of h).places (slice_index_or h.guards.entries.items i None)) (sym left.home) (t.guards i)))
       (record { meets = by x given mine did; dated = left.dated; line = refl; calls = left.calls }) where
-        entry : (x : AnOwner) → Some x ≡ slice_index_or h.owners.entries.items o.0 None → holding_at (desk_of h).owners o.0 ≡ Some (owner_holding x)
+        entry : (x : AnyOwner) → Some x ≡ slice_index_or h.owners.entries.items o.0 None → holding_at (desk_of h).owners o.0 ≡ Some (owner_holding x)
         entry x mine = named-owner h t whole o.0 x (sym mine)
 
         number : collector_of (holding_at (desk_of h).collectors r.0) ≡ Some (collector.collector_of y)
         number = number-is h t r.0 y its
 
-        is-valid : (x : AnOwner) → Some x ≡ slice_index_or h.owners.entries.items o.0 None →
+        is-valid : (x : AnyOwner) → Some x ≡ slice_index_or h.owners.entries.items o.0 None →
             HasOpen (desk_of h) n g.0 × IsOwner (desk_of h) o.0 × IsCollector (desk_of h) r.0
         is-valid x mine = (valid, subst (λ s. IsSome (slot_of s)) (sym (entry x mine)) (owner-is x), ap is_some number)
 
-        by : (x : AnOwner) (given : Reply) → Some x ≡ slice_index_or h.owners.entries.items o.0 None →
+        by : (x : AnyOwner) (given : Reply) → Some x ≡ slice_index_or h.owners.entries.items o.0 None →
             Collects h.world p (collector.collector_of y) (owner_holding x) given w → Meets (desk_of h) (At name (call.Collect o g r)) given
             (after_given (desk_of h) t.sound whole p (collector.collector_of y) k o.0 live w)
         by (Sole x) reply.Done mine did = (
@@ -183,10 +183,10 @@ module _ (h : Hand) (t : IsTied h) (whole : IsWhole h.world) (name : PlaceName) 
     abbrev slots : List ℕ
     slots = slots_waiting_for h.world c (length h.names.items)
 
-    abbrev closed : Desk
+    abbrev closed : ScriptState
     closed = record (in_world (without_collector (desk_of h) r.0) (collector_closed holdings_of h.world p c)) { dates = dates.items }
 
-    abbrev pub after_close : Hand
+    abbrev pub after_close : Environment
     after_close = record h { world = w; collectors = record { entries = collectors }; dates = dates }
 
     number : collector_of (holding_at (desk_of h).collectors r.0) ≡ Some c

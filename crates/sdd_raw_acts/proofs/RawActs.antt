@@ -6,58 +6,58 @@ use Rattle.std.proofs.Math.ListN.{get_or-map}
 use Rattle.std.proofs.lemmas.List.{length-map, map-set, set-get_or, set-set}
 use Rattle.sdd_core.specs.declared.refused.Refused.{Refused}
 use Rattle.sdd_core.specs.declared.refused.Refused.TheVariants.{GuardOpen}
-use Rattle.sdd_store.specs.declared.standing.Standing.TheVariants as standing
-use Rattle.sdd_base.specs.declared.owned.Owned.{Owned}
-use Rattle.sdd_base.specs.Holding as holding
-use Rattle.sdd_base.specs.Holding.{Holding}
-use Rattle.sdd_base.specs.InPlace.{MayInPlace, RefusedInPlace}
-use Rattle.sdd_base.specs.Steps.{with_standing}
-use Rattle.sdd_base.specs.Whole.{IsWhole}
-use Rattle.sdd_base.specs.World.{World, standing_at, value_at}
-use Rattle.sdd_base.specs.Owned as owned
+use Rattle.sdd_participants.specs.declared.standing.Standing.TheVariants as standing
+use Rattle.sdd_space.specs.declared.owned.Owned.{Owned}
+use Rattle.sdd_space.specs.OwnerOrCell as holding
+use Rattle.sdd_space.specs.OwnerOrCell.{OwnerOrCell}
+use Rattle.sdd_space.specs.InPlace.{MayInPlace, RefusedInPlace}
+use Rattle.sdd_space.specs.Steps.{with_standing}
+use Rattle.sdd_space.specs.Whole.{IsWhole}
+use Rattle.sdd_space.specs.World.{World, standing_at, value_at}
+use Rattle.sdd_space.specs.Owned as owned
 use Rattle.sdd_world.specs.Place.{index_of}
-use Rattle.sdd_lines.specs.declared.name.PlaceName.{PlaceName}
-use Rattle.sdd_lines.specs.declared.name.GuardName.{GuardName}
-use Rattle.sdd_lines.specs.declared.name.OwnerName.{OwnerName}
-use Rattle.sdd_lines.specs.declared.name.ItemName.{ItemName}
-use Rattle.sdd_lines.specs.declared.call.Call.TheVariants.{At}
-use Rattle.sdd_lines.specs.declared.call.Action.TheVariants as call
-use Rattle.sdd_lines.specs.declared.answer.Reply.{Reply}
-use Rattle.sdd_lines.specs.declared.answer.Reply.TheVariants as reply
-use Rattle.sdd_desk.specs.declared.val.Body.{Body}
-use Rattle.sdd_desk.specs.declared.val.Body.TheVariants as body
-use Rattle.sdd_desk.specs.declared.val.Val.{Val}
-use Rattle.sdd_desk.specs.Val.{body_of}
-use Rattle.sdd_desk.specs.Desk.{Desk, IsThere, opening_at, holding_at, slot_at, slot_of, sole_slot}
-use Rattle.sdd_desk.specs.Held.{slot_held}
-use Rattle.sdd_desk.specs.InPlace.{OwnsNumber, Puts, Drops, RefusesDrop, IsRaw}
-use Rattle.sdd_desk.specs.Script.{Acts, Meets, HasOpen, IsOwner}
-use Rattle.sdd_desk.specs.Shown.{told_of}
-use Rattle.sdd_steps.specs.declared.holding.AnOwner.{AnOwner}
-use Rattle.sdd_steps.specs.declared.holding.AnOwner.TheVariants.{Sole, Share}
-use Rattle.sdd_hand.specs.declared.participants.Attending.{Attending}
-use Rattle.sdd_hand.specs.declared.stage.Hand.{Hand}
-use Rattle.sdd_hand.specs.Hand.{attending, dated_if_waiting, CanPointAt}
-use Rattle.sdd_steps.specs.Owners.{owner_holding}
-use Rattle.sdd_hand.specs.Stage.{desk_of, GuardsIn, IsTied}
-use Rattle.sdd_desk.proofs.CellGoing.{dates_spilled}
-use Rattle.sdd_desk.proofs.InPlaceGoing.{calls-raw, dated-raw, sound-raw, calls-back, dated-back, sound-back, calls-put, dated-put, sound-put, after_drop, drop-leaves, value-held-out}
-use Rattle.sdd_desk.proofs.Stocked.{slot-inside}
-use Rattle.sdd_desk.proofs.Counting.{out-there}
+use Rattle.sdd_script_text.specs.declared.name.PlaceName.{PlaceName}
+use Rattle.sdd_script_text.specs.declared.name.GuardName.{GuardName}
+use Rattle.sdd_script_text.specs.declared.name.OwnerName.{OwnerName}
+use Rattle.sdd_script_text.specs.declared.name.ItemName.{ItemName}
+use Rattle.sdd_script_text.specs.declared.call.Call.TheVariants.{At}
+use Rattle.sdd_script_text.specs.declared.call.Action.TheVariants as call
+use Rattle.sdd_script_text.specs.declared.answer.Reply.{Reply}
+use Rattle.sdd_script_text.specs.declared.answer.Reply.TheVariants as reply
+use Rattle.sdd_script_model.specs.declared.val.Body.{Body}
+use Rattle.sdd_script_model.specs.declared.val.Body.TheVariants as body
+use Rattle.sdd_script_model.specs.declared.val.Val.{Val}
+use Rattle.sdd_script_model.specs.Val.{body_of}
+use Rattle.sdd_script_model.specs.ScriptState.{ScriptState, IsThere, opening_at, holding_at, slot_at, slot_of, sole_slot}
+use Rattle.sdd_script_model.specs.Held.{slot_held}
+use Rattle.sdd_script_model.specs.InPlace.{OwnsNumber, Puts, Drops, RefusesDrop, IsRaw}
+use Rattle.sdd_script_model.specs.Script.{Acts, Meets, HasOpen, IsOwner}
+use Rattle.sdd_script_model.specs.Shown.{told_of}
+use Rattle.sdd_space_commands.specs.declared.holding.AnyOwner.{AnyOwner}
+use Rattle.sdd_space_commands.specs.declared.holding.AnyOwner.TheVariants.{Sole, Share}
+use Rattle.sdd_script_names.specs.declared.participants.NamedParticipant.{NamedParticipant}
+use Rattle.sdd_script_names.specs.declared.interpreter.Environment.{Environment}
+use Rattle.sdd_script_names.specs.Environment.{attending, dated_if_waiting, CanPointAt}
+use Rattle.sdd_space_commands.specs.Owners.{owner_holding}
+use Rattle.sdd_script_names.specs.Interpreter.{desk_of, GuardsIn, IsTied}
+use Rattle.sdd_script_model.proofs.CellGoing.{dates_spilled}
+use Rattle.sdd_script_model.proofs.InPlaceGoing.{calls-raw, dated-raw, sound-raw, calls-back, dated-back, sound-back, calls-put, dated-put, sound-put, after_drop, drop-leaves, value-held-out}
+use Rattle.sdd_script_model.proofs.Stocked.{slot-inside}
+use Rattle.sdd_script_model.proofs.Counting.{out-there}
 use Rattle.std.specs.Prelude.{IfSome, ◌<◌}
-use Rattle.sdd_hand.proofs.Acts.{Does, does, goes, still, is, is-there, in_range, named-owner, owner-spent, owner-more}
-use Rattle.sdd_hand.proofs.Missing.{invalid}
+use Rattle.sdd_script_names.proofs.Acts.{Does, does, goes, still, is, is-there, in_range, named-owner, owner-spent, owner-more}
+use Rattle.sdd_script_names.proofs.Missing.{invalid}
 
 -- what is told of a slot's dates is the same
-dated-spilled : (d : Desk) (w : World Val) (held : Option ℕ) → dated_if_waiting w held d.moment d.dates ≡ dates_spilled d w held
+dated-spilled : (d : ScriptState) (w : World Val) (held : Option ℕ) → dated_if_waiting w held d.moment d.dates ≡ dates_spilled d w held
 dated-spilled d w None = refl
 dated-spilled d w (Some k) = refl
 
-some-slot : (x : AnOwner) (k : ℕ) (o : Option Holding) → o ≡ Some (owner_holding x) → slot_of (Some (owner_holding x)) ≡ Some k → slot_of o ≡ Some k
+some-slot : (x : AnyOwner) (k : ℕ) (o : Option OwnerOrCell) → o ≡ Some (owner_holding x) → slot_of (Some (owner_holding x)) ≡ Some k → slot_of o ≡ Some k
 some-slot x k o e slot = ap slot_of e ∙ slot
 
 -- an owner that was taken stands under its name again, as what it was
-pub put-back : (h : Hand) (between after : Vec (Option AnOwner)) (o : ℕ) (x y : AnOwner) → slice_index_or h.owners.entries.items o None ≡ Some x →
+pub put-back : (h : Environment) (between after : Vec (Option AnyOwner)) (o : ℕ) (x y : AnyOwner) → slice_index_or h.owners.entries.items o None ≡ Some x →
     between.items ≡ slice_set h.owners.entries.items o None → after.items ≡ slice_set between.items o (Some y) → owner_holding y ≡ owner_holding x →
     map (option_map owner_holding) after.items ≡ (desk_of h).owners
 put-back h between after o x y mine taken back same =
@@ -69,21 +69,21 @@ put-back h between after o x y mine taken back same =
     ∙ ap (λ z. slice_set (desk_of h).owners o z) entry ∙ set-get_or (desk_of h).owners o None
 
 -- an item that is there whenever it began to wait
-pub there-from : (h : Hand) (i : ℕ) → CanPointAt h.world h.slots.items h.names.items h.dates.items i 0 → IsThere (desk_of h) i
+pub there-from : (h : Environment) (i : ℕ) → CanPointAt h.world h.slots.items h.names.items h.dates.items i 0 → IsThere (desk_of h) i
 there-from h i can = record { last = can.last; taken = can.taken }
 
-pub there-not : (h : Hand) (i : ℕ) → ¬ (CanPointAt h.world h.slots.items h.names.items h.dates.items i 0) → ¬ (IsThere (desk_of h) i)
+pub there-not : (h : Environment) (i : ℕ) → ¬ (CanPointAt h.world h.slots.items h.names.items h.dates.items i 0) → ¬ (IsThere (desk_of h) i)
 there-not h i cannot there = cannot (record { last = there.last; taken = there.taken; fresh = λ waits. omega arith })
 
 -- where the world and what names of owners stand for are as before, so is the desk
-pub same-desk : (h : Hand) (w : World Val) (owners : Vec (Option AnOwner)) → w ≡ h.world → map (option_map owner_holding) owners.items ≡ (desk_of h).owners →
+pub same-desk : (h : Environment) (w : World Val) (owners : Vec (Option AnyOwner)) → w ≡ h.world → map (option_map owner_holding) owners.items ≡ (desk_of h).owners →
     desk_of (record h { world = w; owners = record { entries = owners } }) ≡ desk_of h
 same-desk h w owners world same =
     ap (λ (u : World Val). record (desk_of h) { world = u; owners = map (option_map owner_holding) owners.items }) world
-    ∙ ap (λ (os : List (Option Holding)). record (desk_of h) { owners = os }) same
+    ∙ ap (λ (os : List (Option OwnerOrCell)). record (desk_of h) { owners = os }) same
 
 -- the item whose owner a value holds has a date
-pub held-dated : (h : Hand) → IsTied h → (k : ℕ) (v : Val) → value_at h.world k ≡ Some v → (held : Option ℕ) → slot_held (body_of v) ≡ held →
+pub held-dated : (h : Environment) → IsTied h → (k : ℕ) (v : Val) → value_at h.world k ≡ Some v → (held : Option ℕ) → slot_held (body_of v) ≡ held →
     IfSome held (λ m. m < length h.dates.items)
 held-dated h t k v shown None same = tt
 held-dated h t k v shown (Some m) same =
@@ -91,27 +91,27 @@ held-dated h t k v shown (Some m) same =
     (slot-inside (desk_of h) t.sound.stocked m (out-there h.world m out)).1
 
 -- one name stands for one owner, of one item
-pub one-held : (x y : AnOwner) (o : Option AnOwner) → Some x ≡ o → Some y ≡ o → x ≡ y
+pub one-held : (x y : AnyOwner) (o : Option AnyOwner) → Some x ≡ o → Some y ≡ o → x ≡ y
 one-held x y o e f = let both : Some x ≡ Some y = e ∙ sym f in cc
 
-pub same-value : (h : Hand) (x : AnOwner) (j k : ℕ) (v : Val) → slot_of (Some (owner_holding x)) ≡ Some j → slot_of (Some (owner_holding x)) ≡ Some k →
+pub same-value : (h : Environment) (x : AnyOwner) (j k : ℕ) (v : Val) → slot_of (Some (owner_holding x)) ≡ Some j → slot_of (Some (owner_holding x)) ≡ Some k →
     value_at h.world j ≡ Some v → value_at h.world k ≡ Some v
 same-value h x j k v e f shown = let both : Some j ≡ Some k = sym e ∙ f in let same : j ≡ k = cc in rw (← same) shown
 
 -- who owns a number is an owner
-pub owned-is : (d : Desk) (o : ℕ) → OwnsNumber d o → IsOwner d o
+pub owned-is : (d : ScriptState) (o : ℕ) → OwnsNumber d o → IsOwner d o
 owned-is d o owns = ap is_some owns.3
 
-module _ (h : Hand) (t : IsTied h) (whole : IsWhole h.world) (name : PlaceName) (a : Attending)
+module _ (h : Environment) (t : IsTied h) (whole : IsWhole h.world) (name : PlaceName) (a : NamedParticipant)
     (there : attending (Some a) ≡ opening_at (desk_of h).places name.0) where
-  abbrev d : Desk
+  abbrev d : ScriptState
   d = desk_of h
 
   abbrev p : ℕ
   p = index_of a.place
 
   -- ---- an item goes raw
-  pub acts-raw : (o : OwnerName) (i : ItemName) (w : World Val) (owners : Vec (Option AnOwner)) (x : Owned Val) →
+  pub acts-raw : (o : OwnerName) (i : ItemName) (w : World Val) (owners : Vec (Option AnyOwner)) (x : Owned Val) →
       slice_index_or h.owners.entries.items o.0 None ≡ Some (Sole x) → owners.items ≡ slice_set h.owners.entries.items o.0 None →
       standing_at h.world (owned.slot_of x) ≡ Some standing.Owned → w ≡ with_standing h.world (owned.slot_of x) standing.Raw →
       i.0 ≡ slice_index h.names.items (owned.slot_of x) →
@@ -131,7 +131,7 @@ module _ (h : Hand) (t : IsTied h) (whole : IsWhole h.world) (name : PlaceName) 
       })
 
   -- ---- and comes back
-  pub acts-back : (i : ItemName) (r : OwnerName) (w : World Val) (owners : Vec (Option AnOwner)) (x : Owned Val) → IsThere d i.0 →
+  pub acts-back : (i : ItemName) (r : OwnerName) (w : World Val) (owners : Vec (Option AnyOwner)) (x : Owned Val) → IsThere d i.0 →
       owned.slot_of x ≡ slot_at d i.0 → owned.slots_home x ≡ h.world.home.slots → owners.items ≡ h.owners.entries.items ++ Some (Sole x) ∷ [] →
       IsRaw d i.0 → w ≡ with_standing h.world (slot_at d i.0) standing.Owned → r.0 ≡ length h.owners.entries.items →
       Does d (At name (call.Unraw i)) (reply.Owner r) (record h { world = w; owners = record { entries = owners } })
@@ -169,11 +169,11 @@ module _ (h : Hand) (t : IsTied h) (whole : IsWhole h.world) (name : PlaceName) 
   acts-unseen i g valid is_there other = still d (At name (call.See i g)) reply.Nothing ((valid, is_there), (other, refl))
 
   -- ---- an owner of this name
-  module _ (o : OwnerName) (x : AnOwner) (mine : slice_index_or h.owners.entries.items o.0 None ≡ Some x) where
+  module _ (o : OwnerName) (x : AnyOwner) (mine : slice_index_or h.owners.entries.items o.0 None ≡ Some x) where
     entry : holding_at d.owners o.0 ≡ Some (owner_holding x)
     entry = named-owner h t whole o.0 x mine
 
-    owner-is : (x : AnOwner) → IsSome (slot_of (Some (owner_holding x)))
+    owner-is : (x : AnyOwner) → IsSome (slot_of (Some (owner_holding x)))
     owner-is (Sole x) = refl
     owner-is (Share x) = refl
 
@@ -184,7 +184,7 @@ module _ (h : Hand) (t : IsTied h) (whole : IsWhole h.world) (name : PlaceName) 
     owns : (k : ℕ) (v : Val) → slot_of (Some (owner_holding x)) ≡ Some k → value_at h.world k ≡ Some v → (m : ℕ) → body_of v ≡ body.Number m → OwnsNumber d o.0
     owns k v slot shown m is_number = (k, v, m, ap slot_of entry ∙ slot, shown, is_number)
 
-    pub acts-put : (number k m : ℕ) (v : Val) (w : World Val) (owners : Vec (Option AnOwner)) → slot_of (Some (owner_holding x)) ≡ Some k →
+    pub acts-put : (number k m : ℕ) (v : Val) (w : World Val) (owners : Vec (Option AnyOwner)) → slot_of (Some (owner_holding x)) ≡ Some k →
         value_at h.world k ≡ Some v → body_of v ≡ body.Number m → MayInPlace h.world k → Puts h.world k number w →
         map (option_map owner_holding) owners.items ≡ d.owners →
         Does d (At name (call.Put o number)) reply.Done (record h { world = w; owners = record { entries = owners } })
@@ -218,7 +218,7 @@ module _ (h : Hand) (t : IsTied h) (whole : IsWhole h.world) (name : PlaceName) 
         none own.2 (ap body_of value ∙ own.5))
 
     -- an owner goes, alone or with its item
-    pub acts-dropped : (k : ℕ) (v : Val) (given : Reply) (w : World Val) (owners : Vec (Option AnOwner)) (dates : Vec ℕ) →
+    pub acts-dropped : (k : ℕ) (v : Val) (given : Reply) (w : World Val) (owners : Vec (Option AnyOwner)) (dates : Vec ℕ) →
         slot_of (Some (owner_holding x)) ≡ Some k → value_at h.world k ≡ Some v → Drops h.world p (owner_holding x) given w →
         owners.items ≡ slice_set h.owners.entries.items o.0 None →
         dates.items ≡ dated_if_waiting w (slot_held (body_of v)) h.moment h.dates.items →
@@ -235,10 +235,10 @@ module _ (h : Hand) (t : IsTied h) (whole : IsWhole h.world) (name : PlaceName) 
           said : Reply → Type 0
           said r = Meets d (At name (call.Drop o)) r (after_drop d t.sound whole p (in_range h t whole name a there) o.0 k v shown w)
 
-          tells : (z : Holding) → owner_holding x ≡ z → holding_at d.owners o.0 ≡ Some z
+          tells : (z : OwnerOrCell) → owner_holding x ≡ z → holding_at d.owners o.0 ≡ Some z
           tells z e = entry ∙ ap Some e
 
-          by : (z : Holding) (r : Reply) → Drops h.world p z r w → owner_holding x ≡ z → said r
+          by : (z : OwnerOrCell) (r : Reply) → Drops h.world p z r w → owner_holding x ≡ z → said r
           by (holding.owned j home) reply.Done did e =
               ((is-there h t whole name a there, is-owner), rw (is h t whole name a there) (holding.owned j home, w, tells _ e, did, refl))
           by (holding.shared j home) (reply.Truth true) did e =

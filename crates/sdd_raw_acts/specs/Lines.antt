@@ -1,6 +1,6 @@
 -- The lines on items in their place, on those that are out as raw, and with collectors
-use Rattle.sdd_lines.specs.declared.call.Action.{Action}
-use Rattle.sdd_lines.specs.declared.call.Action.TheVariants as call
+use Rattle.sdd_script_text.specs.declared.call.Action.{Action}
+use Rattle.sdd_script_text.specs.declared.call.Action.TheVariants as call
 
 -- an action on an item in its place or out as raw, or with a collector, but for its close
 abbrev pub IsRawAct : Action → Type 0

@@ -1,29 +1,29 @@
 //! What participants do with collectors.
-#![tactic(auto, using(sdd_hand::proofs::Taken::in_hand))]
+#![tactic(auto, using(sdd_script_names::proofs::Taken::in_hand))]
 
 ghost use Rattle.std.specs.Prelude.{◌≡◌, ◌<◌, ◌≤◌, ◌^◌, All, IsSome, IfOk, MatchResult, length, map};
 ghost use Rattle.std.specs.List.Sorted.{IsPermutation, IsNonDecreasingBy};
-ghost use Rattle.sdd_base.specs.World.{value_at};
-ghost use Rattle.sdd_lines.specs.declared.name.ItemName.{ItemName as Named};
-ghost use Rattle.sdd_desk.specs.Held.{owners_in, slots_waiting_for};
-ghost use Rattle.sdd_desk.specs.Shown.{item_in};
-ghost use Rattle.sdd_desk.specs.Script.{Acts, Answers};
+ghost use Rattle.sdd_space.specs.World.{value_at};
+ghost use Rattle.sdd_script_text.specs.declared.name.ItemName.{ItemName as Named};
+ghost use Rattle.sdd_script_model.specs.Held.{owners_in, slots_waiting_for};
+ghost use Rattle.sdd_script_model.specs.Shown.{item_in};
+ghost use Rattle.sdd_script_model.specs.Script.{Acts, Answers};
 
-use sdd_base::inner::number_of_collector;
+use sdd_space::inner::number_of_collector;
 use sdd_core::Refused;
-use sdd_desk::Val;
-use sdd_hand::Stage;
-use sdd_hand::items::{date_if_waiting, date_waiting, items_in, slots_for};
-use sdd_hand::participants::under;
-use sdd_lines::{
+use sdd_script_model::Val;
+use sdd_script_names::Interpreter;
+use sdd_script_names::items::{date_if_waiting, date_waiting, items_in, slots_for};
+use sdd_script_names::participants::under;
+use sdd_script_text::{
     Action, Answer, Call, CollectorName, GuardName, ItemName, Names, OwnerName, PlaceName, Reply,
 };
-use sdd_turns::collectors::{close_at, collector_at, give_to};
+use sdd_turn_commands::collectors::{close_at, collector_at, give_to};
 use sdd_world::World;
 use std::alloc::{AllocError, Global};
 
 /// `P collector`: a collector, named. `NoCell` is a reply. Refused where memory for the name is, and then nothing has changed.
-pub fn make_collector(stage: &mut Stage, name: PlaceName) -> Result<Reply, AllocError>
+pub fn make_collector(stage: &mut Interpreter, name: PlaceName) -> Result<Reply, AllocError>
     ensures acts { MatchResult result (λ reply. Acts stage.old (Call.At name Action.Collector) reply stage.new) (λ _. stage.new ≡ stage.old) }
 {
     let Some(attending) = stage.hand.places.get(name.0) else {
@@ -42,7 +42,7 @@ pub fn make_collector(stage: &mut Stage, name: PlaceName) -> Result<Reply, Alloc
 
 /// `P collect O G K`: an owner is given to a collector, and its name spent; the item of the last one waits for the collector.
 pub fn collect(
-    stage: &mut Stage,
+    stage: &mut Interpreter,
     name: PlaceName,
     owner: OwnerName,
     guard: GuardName,
@@ -75,7 +75,7 @@ pub fn collect(
 
 /// What waits for the collector is named.
 pub fn close_collector(
-    stage: &mut Stage,
+    stage: &mut Interpreter,
     name: PlaceName,
     collector: CollectorName,
 ) -> Result<Answer, AllocError>

@@ -1,15 +1,15 @@
 //! The actions of this crate, and what each answers.
 ghost use Rattle.std.specs.Prelude.{◌≡◌, MatchOption, MatchResult};
-ghost use Rattle.sdd_desk.specs.Script.{Acts};
+ghost use Rattle.sdd_script_model.specs.Script.{Acts};
 ghost use Rattle.sdd_raw_acts.specs.Lines.{IsRawAct};
 
 use crate::{collectors, raw};
 use sdd_core::Refused;
-use sdd_hand::Stage;
-use sdd_lines::{Action, Call, PlaceName, Reply};
+use sdd_script_names::Interpreter;
+use sdd_script_text::{Action, Call, PlaceName, Reply};
 
 /// An action on an item in its place or out as raw, or with a collector, but for its close. None where the action is another.
-pub fn act(stage: &mut Stage, name: PlaceName, action: Action) -> Result<Option<Reply>, Refused>
+pub fn act(stage: &mut Interpreter, name: PlaceName, action: Action) -> Result<Option<Reply>, Refused>
     ensures acts { MatchResult result
         (λ o. MatchOption o (¬ (IsRawAct action) × (stage.new ≡ stage.old))
         (λ reply. IsRawAct action × Acts stage.old (Call.At name action) reply stage.new))

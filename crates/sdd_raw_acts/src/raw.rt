@@ -1,23 +1,23 @@
 //! What participants do with items in their place, and with those that are out as raw.
-#![tactic(auto, using(sdd_hand::proofs::Taken::in_hand))]
+#![tactic(auto, using(sdd_script_names::proofs::Taken::in_hand))]
 
 ghost use Rattle.std.specs.Prelude.{◌≡◌, Some, MatchResult};
-ghost use Rattle.sdd_desk.specs.Script.{Acts};
+ghost use Rattle.sdd_script_model.specs.Script.{Acts};
 
-use sdd_base::inner::slot_of_owner;
+use sdd_space::inner::slot_of_owner;
 use sdd_core::Refused;
-use sdd_hand::Stage;
-use sdd_hand::items::{date_if_waiting, is_number, slot_given, slot_since, told};
-use sdd_hand::owners::{take_sole, value_of};
-use sdd_hand::participants::under;
-use sdd_lines::{Action, Call, GuardName, ItemName, OwnerName, PlaceName, Reply};
-use sdd_steps::holding::AnOwner;
-use sdd_steps::raw::{ComesBack, DropsOwner, GoesRaw, PutsNumber, SeesRaw};
-use sdd_turns::step_at;
+use sdd_script_names::Interpreter;
+use sdd_script_names::items::{date_if_waiting, is_number, slot_given, slot_since, told};
+use sdd_script_names::owners::{take_sole, value_of};
+use sdd_script_names::participants::under;
+use sdd_script_text::{Action, Call, GuardName, ItemName, OwnerName, PlaceName, Reply};
+use sdd_space_commands::holding::AnyOwner;
+use sdd_space_commands::raw::{ComeBack, DropOwner, GoRaw, PutNumber, SeeRaw};
+use sdd_turn_commands::step_at;
 use std::alloc::AllocError;
 
 /// `P put O n`: the number that an owner's item holds becomes this one, in its place. `NotAlone` and `GuardOpen` are replies.
-pub fn put(stage: &mut Stage, name: PlaceName, owner: OwnerName, number: u64) -> Reply
+pub fn put(stage: &mut Interpreter, name: PlaceName, owner: OwnerName, number: u64) -> Reply
     ensures acts { Acts stage.old (Call.At name (Action.Put owner number)) result stage.new }
 {
     let Some(attending) = stage.hand.places.get(name.0) else {
@@ -36,7 +36,7 @@ pub fn put(stage: &mut Stage, name: PlaceName, owner: OwnerName, number: u64) ->
     let (held, put) = step_at(
         &mut stage.hand.world,
         &attending.place,
-        PutsNumber {
+        PutNumber {
             owner: held,
             number,
         },
@@ -49,7 +49,7 @@ pub fn put(stage: &mut Stage, name: PlaceName, owner: OwnerName, number: u64) ->
 }
 
 /// `P drop O`: an owner is given up, and the item of one that is alone dropped in its place. `GuardOpen` is a reply, and then the owner keeps its name.
-pub fn drop_owner(stage: &mut Stage, name: PlaceName, owner: OwnerName) -> Reply
+pub fn drop_owner(stage: &mut Interpreter, name: PlaceName, owner: OwnerName) -> Reply
     ensures acts { Acts stage.old (Call.At name (Action.Drop owner)) result stage.new }
 {
     let Some(attending) = stage.hand.places.get(name.0) else {
@@ -61,7 +61,7 @@ pub fn drop_owner(stage: &mut Stage, name: PlaceName, owner: OwnerName) -> Reply
     stage.hand.world.is_whole();
     let given = slot_given(value_of(&held, &stage.hand.world));
     let place = &attending.place;
-    let reply = match step_at(&mut stage.hand.world, place, DropsOwner { owner: held }) {
+    let reply = match step_at(&mut stage.hand.world, place, DropOwner { owner: held }) {
         Ok(reply) => reply,
         Err((held, refused)) => {
             stage.hand.owners.put_back(owner.0, held);
@@ -74,7 +74,7 @@ pub fn drop_owner(stage: &mut Stage, name: PlaceName, owner: OwnerName) -> Reply
 }
 
 /// `P raw O`: the item of its one owner is out as raw, and the owner's name spent.
-pub fn put_out_raw(stage: &mut Stage, name: PlaceName, owner: OwnerName) -> Reply
+pub fn put_out_raw(stage: &mut Interpreter, name: PlaceName, owner: OwnerName) -> Reply
     ensures acts { Acts stage.old (Call.At name (Action.Raw owner)) result stage.new }
 {
     let Some(attending) = stage.hand.places.get(name.0) else {
@@ -85,13 +85,13 @@ pub fn put_out_raw(stage: &mut Stage, name: PlaceName, owner: OwnerName) -> Repl
     };
     stage.hand.world.is_whole();
     let slot = slot_of_owner(&owner);
-    step_at(&mut stage.hand.world, &attending.place, GoesRaw { owner });
+    step_at(&mut stage.hand.world, &attending.place, GoRaw { owner });
     Reply::Raw(ItemName(stage.hand.names[slot as usize]))
 }
 
 /// `P unraw I`: the owner of an item that is out as raw, or none. Refused where memory for its name is, and then nothing has changed.
 pub fn take_back_raw(
-    stage: &mut Stage,
+    stage: &mut Interpreter,
     name: PlaceName,
     item: ItemName,
 ) -> Result<Reply, AllocError>
@@ -108,9 +108,9 @@ pub fn take_back_raw(
     let Some(slot) = slot_since(&stage.hand.world, slots, names, dates, item, 0) else {
         return Ok(Reply::Invalid);
     };
-    match step_at(&mut stage.hand.world, &attending.place, ComesBack { slot }) {
+    match step_at(&mut stage.hand.world, &attending.place, ComeBack { slot }) {
         Some(owner) => {
-            let name = stage.hand.owners.give(AnOwner::Sole(owner));
+            let name = stage.hand.owners.give(AnyOwner::Sole(owner));
             Ok(Reply::Owner(OwnerName(name)))
         }
         None => Ok(Reply::Nothing),
@@ -118,7 +118,7 @@ pub fn take_back_raw(
 }
 
 /// `P see I G`: the value of an item that is out as raw, or none.
-pub fn see(stage: &mut Stage, name: PlaceName, item: ItemName, guard: GuardName) -> Reply
+pub fn see(stage: &mut Interpreter, name: PlaceName, item: ItemName, guard: GuardName) -> Reply
     ensures acts { Acts stage.old (Call.At name (Action.See item guard)) result stage.new }
 {
     let Some((attending, held)) = under(&stage.hand.places, &stage.hand.guards, name, guard) else {
@@ -133,7 +133,7 @@ pub fn see(stage: &mut Stage, name: PlaceName, item: ItemName, guard: GuardName)
     };
     let guard = &held.guard;
     let place = &attending.place;
-    let Some(value) = step_at(&mut stage.hand.world, place, SeesRaw { slot, guard }) else {
+    let Some(value) = step_at(&mut stage.hand.world, place, SeeRaw { slot, guard }) else {
         return Reply::Nothing;
     };
     told(value, names)

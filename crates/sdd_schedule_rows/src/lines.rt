@@ -1,6 +1,6 @@
 //! Lines that are steps, and lines that are none.
 
-use sdd_lines::{Ended, Reader, Writer};
+use sdd_script_text::{Ended, Reader, Writer};
 use sdd_machine::Step;
 use sdd_schedules::{Schedule, parse, parse_all, play_steps};
 use std::alloc::Global;

@@ -1,7 +1,7 @@
 //! Devices that fail, and memory that is refused.
 
 use crate::devices::{Page, Trickle};
-use sdd_lines::{Ended, Reader, Writer};
+use sdd_script_text::{Ended, Reader, Writer};
 use sdd_schedules::play_steps;
 use std::alloc::{AllocError, Global};
 

@@ -10,8 +10,8 @@ use Rattle.std.proofs.lemmas.List.Splits.{slice_split_none, length-slice_split, 
 use Rattle.std.proofs.lemmas.Str.Parse.{IsNumeralModel, numerals_by_value, tells_digits}
 use Rattle.std.proofs.lemmas.Fmt.{digits_value-decimal}
 use Rattle.std.proofs.lemmas.Str.{IsUtf8-from_ascii}
-use Rattle.sdd_lines.specs.Call.{IsWordOf, joined, words}
-use Rattle.sdd_lines.proofs.Lines.{IsWord, AreJoined, number_word, written_word, one_joined, more_joined, unspaced}
+use Rattle.sdd_script_text.specs.Call.{IsWordOf, joined, words}
+use Rattle.sdd_script_text.proofs.Lines.{IsWord, AreJoined, number_word, written_word, one_joined, more_joined, unspaced}
 use Rattle.sdd_machine.specs.declared.machine.steps.Step.{Step}
 use Rattle.sdd_machine.specs.declared.machine.steps.Step.TheVariants.{Retire}
 use Rattle.sdd_machine.specs.Sizes.{place_named, item_named}

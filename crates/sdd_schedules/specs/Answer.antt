@@ -2,7 +2,7 @@
 use Rattle.std.specs.Prelude.{ℕ, Bool, true, false, List, [], ◌∷◌, ◌++◌, codes}
 use Rattle.std.specs.List.{flat_map}
 use Rattle.std.specs.Fmt.{decimal}
-use Rattle.sdd_lines.specs.Call.{joined}
+use Rattle.sdd_script_text.specs.Call.{joined}
 use Rattle.sdd_machine.specs.declared.machine.steps.Did.{Did}
 use Rattle.sdd_machine.specs.declared.machine.steps.Did.TheVariants.{NotPossible, Done, Opened, Looked, Advanced}
 

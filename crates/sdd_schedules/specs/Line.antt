@@ -1,7 +1,7 @@
 -- The texts of steps: a verb and the numbers behind it, with one space between two words
 use Rattle.std.specs.Prelude.{◌≡◌, ℕ, ◌<◌, List, [], ◌∷◌, codes, map}
 use Rattle.std.specs.Fmt.{decimal}
-use Rattle.sdd_lines.specs.Call.{joined}
+use Rattle.sdd_script_text.specs.Call.{joined}
 use Rattle.sdd_machine.specs.declared.machine.steps.Step.{Step}
 use Rattle.sdd_machine.specs.declared.machine.steps.Step.TheVariants.{Register, Read, Publish, Retire, Lock, Adopt, Look, Advance, Unlock, Close, End}
 use Rattle.sdd_machine.specs.Sizes.{place_named, item_named}

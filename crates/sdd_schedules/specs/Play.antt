@@ -1,7 +1,7 @@
 -- The play of a schedule: what is to be written for what is read
 use Rattle.std.specs.Prelude.{◌≡◌, ℕ, List}
-use Rattle.sdd_lines.specs.declared.ended.Ended.{Ended}
-use Rattle.sdd_lines.specs.declared.ended.Ended.TheVariants.{Played, NotAStep}
+use Rattle.sdd_script_text.specs.declared.ended.Ended.{Ended}
+use Rattle.sdd_script_text.specs.declared.ended.Ended.TheVariants.{Played, NotAStep}
 use Rattle.sdd_machine.specs.declared.machine.steps.Step.{Step}
 use Rattle.sdd_machine.specs.declared.machine.steps.Did.{Did}
 use Rattle.sdd_machine.specs.History.{Safe, Exact}

@@ -1,7 +1,7 @@
 -- Schedules: the steps that are the lines of a text, and what each of them is answered
 use Rattle.std.specs.Prelude.{◌≡◌, ◌≢◌, ℕ, List, ◌∷◌, ◌++◌, length, IsSomeAnd}
 use Rattle.std.specs.List.{slice_get}
-use Rattle.sdd_lines.specs.Script.{AreLines, IsFirstOther}
+use Rattle.sdd_script_text.specs.Script.{AreLines, IsFirstOther}
 use Rattle.sdd_machine.specs.declared.machine.steps.Step.{Step}
 use Rattle.sdd_machine.specs.declared.machine.steps.Step.TheVariants.{Publish}
 use Rattle.sdd_machine.specs.declared.machine.steps.Did.{Did}

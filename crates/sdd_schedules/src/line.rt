@@ -4,7 +4,7 @@ ghost use Rattle.std.specs.Prelude.{◌≡◌, ℕ, ◌≤◌, length, MatchOpti
 ghost use Rattle.sdd_schedules.specs.Line.{IsBelow, IsTextOf, IsStepText};
 ghost use Rattle.sdd_schedules.specs.Reading.{called, steps_at};
 
-use sdd_lines::inner::{number, split_word};
+use sdd_script_text::inner::{number, split_word};
 use sdd_machine::Step;
 use sdd_machine::machine::{MAX_ITEMS, MAX_PLACES};
 use std::str;

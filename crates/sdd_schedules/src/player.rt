@@ -1,14 +1,14 @@
 //! Plays of schedules: from the bytes of steps to the bytes of their answers.
 
 ghost use Rattle.std.specs.Prelude.{◌≡◌, ◌≢◌, IfOk, IfErr};
-ghost use Rattle.sdd_lines.specs.Play.{Plays, IsSilent, read_failures, write_failures};
+ghost use Rattle.sdd_script_text.specs.Play.{Plays, IsSilent, read_failures, write_failures};
 ghost use Rattle.sdd_schedules.specs.Play.{Prints};
 
 use crate::answer::{print_all, print_fault};
 use crate::schedule::{Schedule, parse_all};
 use crate::taking::take_all;
 use sdd_core::Refused;
-use sdd_lines::{Ended, ReadEnd, Sink, Source, read_to_end, write_all};
+use sdd_script_text::{Ended, ReadEnd, Sink, Source, read_to_end, write_all};
 use std::alloc::Global;
 
 /// Reads a schedule, takes its steps in the machine that `safety` makes for them, and writes what each did, a line for

@@ -1,15 +1,15 @@
 //! A whole schedule: its lines as steps, or the first that is no step.
 
 ghost use Rattle.std.specs.Prelude.{◌≡◌, List, ◌<◌, MatchOption, IfOk, IfErr};
-ghost use Rattle.sdd_lines.specs.Script.{most_calls};
+ghost use Rattle.sdd_script_text.specs.Script.{most_calls};
 ghost use Rattle.sdd_machine.specs.declared.machine.steps.Step.{Step};
 ghost use Rattle.sdd_schedules.specs.Line.{IsTextOf, IsStepText};
 ghost use Rattle.sdd_schedules.specs.Schedule.{AreSteps, IsSteps, IsSchedule};
 
 use crate::line::parse;
 use sdd_core::Refused;
-use sdd_lines::MOST_CALLS;
-use sdd_lines::inner::first_line;
+use sdd_script_text::MOST_CALLS;
+use sdd_script_text::inner::first_line;
 use sdd_machine::Step;
 use std::alloc::Global;
 

@@ -1,18 +1,18 @@
 -- The play of a script: what is to be written for what is read
 use Rattle.std.specs.Prelude.{◌≡◌, ℕ, List}
-use Rattle.sdd_base.specs.declared.limits.Limits.{Limits}
-use Rattle.sdd_lines.specs.Answer.{text_of_all, text_of_fault}
-use Rattle.sdd_lines.specs.Script.{AreCalls, IsFirstFault}
-use Rattle.sdd_lines.specs.declared.call.Call.{Call}
-use Rattle.sdd_lines.specs.declared.answer.Answer.{Answer}
-use Rattle.sdd_lines.specs.declared.ended.Ended.{Ended}
-use Rattle.sdd_lines.specs.declared.ended.Ended.TheVariants.{Played, NotACall}
-use Rattle.sdd_desk.specs.Desk.{Desk}
-use Rattle.sdd_desk.specs.Script.{IsRun}
+use Rattle.sdd_space.specs.declared.limits.Limits.{Limits}
+use Rattle.sdd_script_text.specs.Answer.{text_of_all, text_of_fault}
+use Rattle.sdd_script_text.specs.Script.{AreCalls, IsFirstFault}
+use Rattle.sdd_script_text.specs.declared.call.Call.{Call}
+use Rattle.sdd_script_text.specs.declared.answer.Answer.{Answer}
+use Rattle.sdd_script_text.specs.declared.ended.Ended.{Ended}
+use Rattle.sdd_script_text.specs.declared.ended.Ended.TheVariants.{Played, NotACall}
+use Rattle.sdd_script_model.specs.ScriptState.{ScriptState}
+use Rattle.sdd_script_model.specs.Script.{IsRun}
 
 -- calls on a new world within these limits are answered so
 abbrev pub AreAnswers : Limits → List Call → List Answer → Type 0
-AreAnswers limits calls answers = (scene : Desk) × IsRun limits calls answers scene
+AreAnswers limits calls answers = (scene : ScriptState) × IsRun limits calls answers scene
 
 -- the lines of a text are calls, and these are the lines of their answers
 pub record PrintsAnswers (limits : Limits) (text printed : List ℕ) : Type 0 where

@@ -9,8 +9,8 @@ pub mod scene;
 pub use player::play;
 pub use runner::run;
 pub use scene::Scene;
-pub use sdd_desk::Val;
-pub use sdd_lines::{
+pub use sdd_script_model::Val;
+pub use sdd_script_text::{
     Action, Answer, Call, CellName, CollectorName, Ended, Fault, GuardName, ItemName, JobName,
     Names, OwnerName, PlaceName, Reader, Reply, Sink, Source, Value, Writer,
 };

@@ -1,18 +1,18 @@
 //! One line of a script.
 ghost use Rattle.std.specs.Prelude.{◌≡◌, ◌≢◌, ◌+◌, ◌^◌, ◌<◌, MatchResult};
-ghost use Rattle.sdd_base.specs.Left.{GoesInTime};
-ghost use Rattle.sdd_desk.specs.Val.{holdings_of};
-ghost use Rattle.sdd_desk.specs.Desk.{BeginsLine, later};
-ghost use Rattle.sdd_desk.specs.Script.{Acts, Answers, Step};
+ghost use Rattle.sdd_space.specs.Left.{GoesInTime};
+ghost use Rattle.sdd_script_model.specs.Val.{holdings_of};
+ghost use Rattle.sdd_script_model.specs.ScriptState.{BeginsLine, later};
+ghost use Rattle.sdd_script_model.specs.Script.{Acts, Answers, Step};
 
 use sdd_core::Refused;
-use sdd_guard_acts::{guards, participants};
-use sdd_hand::Stage;
-use sdd_lines::{Action, Answer, Call, CollectorName, PlaceName, Reply};
+use sdd_guard_commands::{guards, participants};
+use sdd_script_names::Interpreter;
+use sdd_script_text::{Action, Answer, Call, CollectorName, PlaceName, Reply};
 use sdd_raw_acts::collectors;
 
 /// One line. `NoMemory` alone refuses it.
-pub fn step(stage: &mut Stage, call: &Call) -> Result<Answer, Refused>
+pub fn step(stage: &mut Interpreter, call: &Call) -> Result<Answer, Refused>
     requires more { stage.old.moment + 1 < 2 ^ 64 }
     ensures step { MatchResult result (λ answer. Step stage.old call.now answer stage.new × GoesInTime holdings_of stage.new.world)
         (λ refused. (refused ≡ Refused.NoMemory) × (stage.new ≡ later stage.old)) }
@@ -24,7 +24,7 @@ pub fn step(stage: &mut Stage, call: &Call) -> Result<Answer, Refused>
 }
 
 /// What a call answers, in a line of its own.
-fn answer_to(stage: &mut Stage, call: &Call) -> Result<Answer, Refused>
+fn answer_to(stage: &mut Interpreter, call: &Call) -> Result<Answer, Refused>
     requires line { BeginsLine stage.old }
     ensures answers { MatchResult result (λ answer. Answers stage.old call.now answer stage.new)
         (λ refused. (refused ≡ Refused.NoMemory) × (stage.new ≡ stage.old)) }
@@ -42,7 +42,7 @@ fn answer_to(stage: &mut Stage, call: &Call) -> Result<Answer, Refused>
 }
 
 /// The reply to a call that opens no guard and closes no collector.
-fn reply_to(stage: &mut Stage, call: &Call) -> Result<Reply, Refused>
+fn reply_to(stage: &mut Interpreter, call: &Call) -> Result<Reply, Refused>
     requires line { BeginsLine stage.old }
     requires other { (name : PlaceName) → call.now ≢ Call.At name Action.Open }
     requires no_close { (name : PlaceName) (collector : CollectorName) → call.now ≢ Call.At name (Action.CloseCollector collector) }
@@ -57,14 +57,14 @@ fn reply_to(stage: &mut Stage, call: &Call) -> Result<Reply, Refused>
 }
 
 /// The reply to an action that opens no guard and closes no collector.
-fn act(stage: &mut Stage, name: PlaceName, action: Action) -> Result<Reply, Refused>
+fn act(stage: &mut Interpreter, name: PlaceName, action: Action) -> Result<Reply, Refused>
     requires line { BeginsLine stage.old }
     requires other { action ≢ Action.Open }
     requires no_close { (collector : CollectorName) → action ≢ Action.CloseCollector collector }
     ensures acts { MatchResult result (λ reply. Acts stage.old (Call.At name action) reply stage.new)
         (λ refused. (refused ≡ Refused.NoMemory) × (stage.new ≡ stage.old)) }
 {
-    if let Some(reply) = sdd_guard_acts::act(stage, name, action) {
+    if let Some(reply) = sdd_guard_commands::act(stage, name, action) {
         return Ok(reply);
     }
     if let Some(reply) = sdd_item_acts::act(stage, name, action)? {

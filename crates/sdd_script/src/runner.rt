@@ -1,15 +1,15 @@
 //! Runs of scripts.
 ghost use Rattle.std.specs.Prelude.{◌≡◌, ◌⊎◌, IfOk, MatchResult};
-ghost use Rattle.sdd_base.specs.Limits.{AreInRange};
-ghost use Rattle.sdd_desk.specs.Script.{IsRun};
+ghost use Rattle.sdd_space.specs.Limits.{AreInRange};
+ghost use Rattle.sdd_script_model.specs.Script.{IsRun};
 
 use crate::line::step;
 use crate::scene::Scene;
-use sdd_base::Limits;
+use sdd_space::Limits;
 use sdd_core::Refused;
-use sdd_guard_acts::leaving::close;
-use sdd_hand::Stage;
-use sdd_lines::{Answer, Call};
+use sdd_guard_commands::leaving::close;
+use sdd_script_names::Interpreter;
+use sdd_script_text::{Answer, Call};
 use std::alloc::Global;
 
 /// Runs calls on a new world, one after another, and answers each.
@@ -21,7 +21,7 @@ pub fn run(alloc: Global, limits: Limits, calls: &[Call]) -> Result<(Vec<Answer>
     ensures limits { MatchResult result (λ _. AreInRange limits)
         (λ refused. ((refused ≡ Refused.BadLimits) × ¬ (AreInRange limits)) ⊎ ((refused ≡ Refused.NoMemory) × AreInRange limits)) }
 {
-    let mut stage = Stage::new(alloc, limits)?;
+    let mut stage = Interpreter::new(alloc, limits)?;
     let mut answers = match Vec::with_capacity(alloc, calls.len()) {
         Ok(answers) => answers,
         Err(_) => {

@@ -1,10 +1,10 @@
 //! What a script leaves behind.
 ghost use Rattle.std.specs.Prelude.{◌≡◌, ◌+◌};
 
-use sdd_desk::Val;
-use sdd_guard_acts::leaving::close;
-use sdd_hand::Stage;
-use sdd_store::Tally;
+use sdd_script_model::Val;
+use sdd_guard_commands::leaving::close;
+use sdd_script_names::Interpreter;
+use sdd_participants::Tally;
 use sdd_world::World;
 use std::marker::Model;
 
@@ -12,15 +12,15 @@ use std::marker::Model;
 ///
 /// A scene must be spent by `close`.
 pub struct Scene {
-    stage: Stage,
+    stage: Interpreter,
 }
 
 impl Model for Scene {
     ghost use Rattle.std.specs.Coded.{codes};
-    ghost use Rattle.sdd_desk.specs.contracts.val.Val as val;
-    ghost use Rattle.sdd_desk.specs.Desk.{Desk};
+    ghost use Rattle.sdd_script_model.specs.contracts.val.Val as val;
+    ghost use Rattle.sdd_script_model.specs.ScriptState.{ScriptState};
 
-    ghost Value = { Desk };
+    ghost Value = { ScriptState };
 
     ghost coded = { Prim.hlevel (codes, val.the_row.coded) };
 
@@ -28,7 +28,7 @@ impl Model for Scene {
 }
 
 impl Scene {
-    pub(crate) fn of(stage: Stage) -> Scene
+    pub(crate) fn of(stage: Interpreter) -> Scene
         ensures { result ≡ stage }
     {
         Scene { stage }

@@ -1,23 +1,23 @@
 -- The slots of a world: how each stands, and its value
 use Rattle.std.specs.Prelude.{ℕ, ◌-◌, ◌^◌, ◌≤◌, ◌≡◌, Bool, true, false, IsTrue, List, length, map, is_some, nat_lt, Option, None, Some, slice_index_or, slice_set, if◌then◌else◌}
-use Rattle.sdd_token.specs.Units.{Home}
-use Rattle.sdd_token.specs.Rights.{Kept, whole, granted}
-use Rattle.sdd_token.specs.declared.right.Kind.{Kind}
-use Rattle.sdd_token.specs.declared.right.Kind.TheVariants as kind
-use Rattle.sdd_store.specs.Table.{Entries, entry_at, with_entry, without_entry}
-use Rattle.sdd_store.specs.declared.standing.Standing.{Standing}
-use Rattle.sdd_store.specs.declared.standing.Standing.TheVariants.{Owned, Raw, Shared, Retired, Private}
+use Rattle.sdd_rights.specs.Units.{GhostName}
+use Rattle.sdd_rights.specs.RightsAuthority.{Kept, whole, granted}
+use Rattle.sdd_rights.specs.declared.right.StandingKind.{StandingKind}
+use Rattle.sdd_rights.specs.declared.right.StandingKind.TheVariants as kind
+use Rattle.sdd_participants.specs.Slab.{Entries, entry_at, with_entry, without_entry}
+use Rattle.sdd_participants.specs.declared.standing.Standing.{Standing}
+use Rattle.sdd_participants.specs.declared.standing.Standing.TheVariants.{Owned, Raw, Shared, Retired, Private}
 
 -- the home whose numbers the slots are, how each slot stands, and what value is in it
 pub record Slots (T : Type 0) : Type 0 where
-  pub home : Home
+  pub home : GhostName
   pub standings : Entries Standing
   pub values : List (Option T)
   pub stakes : List (List (Option ℕ))
   pub readers : ℕ
 
 -- how the item of a new right of this kind stands
-abbrev pub first_standing : Kind → Standing
+abbrev pub first_standing : StandingKind → Standing
 first_standing kind.Free = Owned
 first_standing kind.Owned = Owned
 first_standing kind.Raw = Owned
@@ -43,17 +43,17 @@ has_others (Some Retired) = false
 has_others (Some (Private collector)) = false
 
 -- one owner fewer: after the last one the item stands so
-abbrev pub let_go_to : Standing → Option Standing → Standing
-let_go_to last None = last
-let_go_to last (Some Owned) = last
-let_go_to last (Some Raw) = last
-let_go_to last (Some (Shared owners)) = if nat_lt 1 owners then Shared (owners - 1) else last
-let_go_to last (Some Retired) = last
-let_go_to last (Some (Private collector)) = last
+abbrev pub released_to : Standing → Option Standing → Standing
+released_to last None = last
+released_to last (Some Owned) = last
+released_to last (Some Raw) = last
+released_to last (Some (Shared owners)) = if nat_lt 1 owners then Shared (owners - 1) else last
+released_to last (Some Retired) = last
+released_to last (Some (Private collector)) = last
 
 -- after the last one it waits
-abbrev pub let_go : Option Standing → Standing
-let_go = let_go_to Retired
+abbrev pub released_standing : Option Standing → Standing
+released_standing = released_to Retired
 
 -- so many owners share it, as many as there may be at most
 pub record IsSharedBy (owners : ℕ) (standing : Option Standing) : Type 0 where
@@ -62,7 +62,7 @@ pub record IsSharedBy (owners : ℕ) (standing : Option Standing) : Type 0 where
   pub most : owners ≤ 2 ^ 62
 
 -- an owner with a right of this kind finds the slot so
-pub record IsOwnedBy (k : Kind) (standing : Option Standing) : Type 0 where
+pub record IsOwnedBy (k : StandingKind) (standing : Option Standing) : Type 0 where
   pub alone : k ≡ kind.Owned → standing ≡ Some Owned
   pub together : k ≡ kind.Shared → (owners : ℕ) × IsSharedBy owners standing
 
@@ -116,7 +116,7 @@ abbrev pub IsBounded : Option Standing → Type 0
 IsBounded standing = (owners : ℕ) → standing ≡ Some (Shared owners) → IsSharedBy owners standing
 
 -- each number of the home is kept as it stands, and a value is exactly where a slot is not free
-pub record AreKept {T : Type 0} (home : Home) (kept : List Kept) (standings : Entries Standing) (values : List (Option T)) : Type 0 where
+pub record AreKept {T : Type 0} (home : GhostName) (kept : List Kept) (standings : Entries Standing) (values : List (Option T)) : Type 0 where
   pub sized : length standings ≡ home.size
   pub told : kept ≡ map kept_of standings
   pub filled : map is_some values ≡ map is_some standings

@@ -3,11 +3,11 @@ use Rattle.std.specs.Prelude.{ℕ, Bool, false, List, [], ◌∷◌, ◌++◌, N
 use base.Stored.{Gv}
 use Rattle.sdd_views.specs.declared.EpochView.{EpochView}
 use Rattle.sdd_views.specs.declared.SlotsView.{SlotsView}
-use Rattle.sdd_views.specs.declared.PlacesView.{PlacesView}
+use Rattle.sdd_views.specs.declared.EndedView.{EndedView}
 use Rattle.sdd_views.specs.declared.CellKind.{CellKind}
 use Rattle.sdd_views.specs.declared.CellsView.{CellsView}
 use Rattle.sdd_views.specs.declared.CountsView.{CountsView}
-use Rattle.sdd_views.specs.declared.StakesView.{StakesView}
+use Rattle.sdd_views.specs.declared.FractionsView.{FractionsView}
 use Rattle.sdd_views.specs.declared.PledgesView.{PledgesView}
 use Rattle.sdd_views.specs.declared.View.{View}
 use Rattle.sdd_views.specs.declared.Sizes.{Sizes}
@@ -17,7 +17,7 @@ abbrev pub nobody : ℕ → EpochView
 nobody n = record { all = n; place = 0; state = 0; count = 0; since = 0; known = 0; found = 0; scans = 0; looked = 0; ended = 0; adopts = None }
 
 -- it knows of no place that is barred
-abbrev pub none_ended : PlacesView
+abbrev pub none_ended : EndedView
 none_ended = record { ended = 0; quiet = 0 }
 
 -- it owns nothing, sees nothing, and no item waits with it
@@ -49,7 +49,7 @@ abbrev pub no_counts : CountsView
 no_counts = record { made = 0; gone = 0; in_place = 0; over = 0; registered = 0 }
 
 -- it moves no value and knows of none, and the values' places are of this book
-abbrev pub at_rest : ℕ → StakesView
+abbrev pub at_rest : ℕ → FractionsView
 at_rest book = record {
   book = book;
   links = 0;

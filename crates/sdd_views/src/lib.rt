@@ -1,7 +1,7 @@
 //! What is known of a domain: by a participant, by the token of an owner, by the right to a cell, and by what stands beside the table.
 //!
 //! No value of these types is made: a token carries one for the proofs alone. Who only carries a token reads no more than this crate; what words and views
-//! have to do with one another is the rule of `sdd_rule`.
+//! have to do with one another is the rule of `sdd_word_invariant`.
 //!
 //! No step of a domain sets these: `adopts` of an epoch's view; `jobs`, `closes`, `empties` and `over` of a slots'; rights to cells; `links`; what is
 //! counted as `in_place` or `registered`; pledges; and what is `plain`. They are what `specs/Views` says of a token that knows nothing.
@@ -41,7 +41,7 @@ pub struct EpochView {
 }
 
 /// What is known of barred places, and of slots once all are barred.
-pub struct PlacesView {
+pub struct EndedView {
     /// Each place below this one is barred: nobody takes part there, nor will.
     pub ended: u64,
     /// No slot below this one has an owner, and none will: all places are barred.
@@ -109,14 +109,14 @@ pub struct CellsView {
 }
 
 /// What a slot shows, as the code of its value.
-pub struct Showing {
+pub struct ShownValue {
     pub slot: u64,
     /// Whether its owner is one of several that there may be.
     pub shared: bool,
     pub ghost value: { Gv } by { itself },
 }
 
-impl Model for Showing {
+impl Model for ShownValue {
     ghost also_owns = { λ _. ftrue };
 }
 
@@ -147,7 +147,7 @@ impl Model for Deposit {
 }
 
 /// What a participant knows of the stakes in the values of slots, and of how many values it moved in and out.
-pub struct StakesView {
+pub struct FractionsView {
     /// The book of the values' places.
     pub book: u64,
     /// The book of the places of what is kept beside the values.
@@ -161,13 +161,13 @@ pub struct StakesView {
     /// What lies in the bank, where it is the bank's.
     pub banked: [Deposit; 0],
     /// What the slots show whose only owner it has, once the value was moved in.
-    pub owns: [Showing; 0],
+    pub owns: [ShownValue; 0],
     /// What the slots show that it sees under its guards, one entry for each time.
-    pub sees: [Showing; 0],
+    pub sees: [ShownValue; 0],
     /// What the slots show of the items that wait with it.
-    pub waits: [Showing; 0],
+    pub waits: [ShownValue; 0],
     /// What it moved into slots, the newest first.
-    pub filled: [Showing; 0],
+    pub filled: [ShownValue; 0],
     pub counts: CountsView,
 }
 
@@ -199,10 +199,10 @@ pub struct View {
     /// How many of each its domain has; none where it isn't a participant's token.
     pub sizes: Sizes,
     pub epoch: EpochView,
-    pub places: PlacesView,
+    pub places: EndedView,
     pub slots: SlotsView,
     pub cells: CellsView,
-    pub stakes: StakesView,
+    pub stakes: FractionsView,
     pub pledges: PledgesView,
     /// Where it is a lone participant: all words behind the places'.
     pub words: [u64; 0],

@@ -8,19 +8,19 @@ use atomic_table::{Join, Seat, Shared, Split, TableRule};
 use std::marker::PhantomData;
 
 /// What a step on no word tells.
-pub trait Alone<S, V> {
+pub trait GhostUpdate<S, V> {
     // Of the seat before and the seat after.
     ghost then: { Me S V → Me S V → Type 0 };
 }
 
 /// What a step beside a witness tells.
-pub trait Beside<S, V> {
+pub trait GhostUpdateBeside<S, V> {
     // Of the witness's view, the seat before and the seat after.
     ghost then: { V → Me S V → Me S V → Type 0 };
 }
 
 /// A step of the seat on no word.
-pub fn step_alone<S, V, K, P: TableRule<S, V, K>, M: Alone<S, V>>(
+pub fn step_alone<S, V, K, P: TableRule<S, V, K>, M: GhostUpdate<S, V>>(
     table: &Shared<S, V, K, P>,
     seat: &mut Seat<S, V>,
 )
@@ -33,7 +33,7 @@ pub fn step_alone<S, V, K, P: TableRule<S, V, K>, M: Alone<S, V>>(
 }
 
 /// A step of the seat on no word, beside a witness.
-pub fn step_beside<S, V, K, P: TableRule<S, V, K>, M: Beside<S, V>>(
+pub fn step_beside<S, V, K, P: TableRule<S, V, K>, M: GhostUpdateBeside<S, V>>(
     table: &Shared<S, V, K, P>,
     seat: &mut Seat<S, V>,
     witness: &Witness,

@@ -4,15 +4,15 @@ use Rattle.std.specs.Prelude.{◌==◌, max, is_some, IsSome, AllPairs, Contains
 use Rattle.std.proofs.lemmas.List.Sums.{sum_by-cons}
 use Rattle.std.proofs.lemmas.Bool.{cases_lt}
 use Rattle.std.proofs.lemmas.Bool.Decides.{nat_tests}
-use Rattle.sdd_store.specs.Table.{entry_at}
-use Rattle.sdd_store.specs.declared.standing.Standing.{Standing}
-use Rattle.sdd_store.specs.declared.standing.Standing.TheVariants.{Owned, Raw, Shared, Retired, Private as privately}
+use Rattle.sdd_participants.specs.Slab.{entry_at}
+use Rattle.sdd_participants.specs.declared.standing.Standing.{Standing}
+use Rattle.sdd_participants.specs.declared.standing.Standing.TheVariants.{Owned, Raw, Shared, Retired, Private as privately}
 use Rattle.sdd_standings.specs.Slots.{is_waiting}
-use Rattle.sdd_base.specs.World.{World, standing_at, value_at}
-use Rattle.sdd_base.specs.Steps.{held_in}
-use Rattle.sdd_base.specs.Holding.{Holding, owned, shared, atomic_owned, atomic_shared, atomic_raw}
-use Rattle.sdd_base.specs.Accounts.{owner_count, is_owner_of, is_of, holds_slot, times_held, IsAccounted}
-use Rattle.sdd_base.proofs.Whole.{one_where, count-cons, filled-there}
+use Rattle.sdd_space.specs.World.{World, standing_at, value_at}
+use Rattle.sdd_space.specs.Steps.{held_in}
+use Rattle.sdd_space.specs.OwnerOrCell.{OwnerOrCell, owned, shared, atomic_owned, atomic_shared, atomic_raw}
+use Rattle.sdd_space.specs.Accounts.{owner_count, is_owner_of, is_of, holds_slot, times_held, IsAccounted}
+use Rattle.sdd_space.proofs.Whole.{one_where, count-cons, filled-there}
 use Rattle.sdd_world.specs.Closing.{Owner, holder, slot_owned, cell_held, held_by, held_at, owns, Goes, AllGo}
 use Rattle.sdd_world.specs.Closing.Owner.{of_value, of_cell}
 use Rattle.sdd_world.specs.Closing.Holder.{the_item}
@@ -20,7 +20,7 @@ use Rattle.sdd_world.specs.Closing.Goes.{waits, given as by_giving, held as by_h
 use Rattle.sdd_world.proofs.Sweeping.{in-which, one-more-apart, all-uncounted}
 
 -- what a value holds is an owner of the slot's item, in either way of saying it
-is-owned : (k : ℕ) (h : Holding) → is_owner_of k h ≡ true → slot_owned (Some h) ≡ Some k
+is-owned : (k : ℕ) (h : OwnerOrCell) → is_owner_of k h ≡ true → slot_owned (Some h) ≡ Some k
 is-owned k (owned j home) e = let same : j ≡ k = grind (arith, nat_tests, e) in ap Some same
 is-owned k (shared j home) e = let same : j ≡ k = grind (arith, nat_tests, e) in ap Some same
 is-owned k (atomic_owned c home) e = absurd (cc)
@@ -30,7 +30,7 @@ is-owned k (atomic_raw c home) e = absurd (cc)
 same-slot : (j k : ℕ) → Some j ≡ Some k → (j == k) ≡ true
 same-slot j k e = let same : j ≡ k = cc in grind (arith, nat_tests, same)
 
-owned-is : (k : ℕ) (h : Holding) → slot_owned (Some h) ≡ Some k → is_owner_of k h ≡ true
+owned-is : (k : ℕ) (h : OwnerOrCell) → slot_owned (Some h) ≡ Some k → is_owner_of k h ≡ true
 owned-is k (owned j home) e = same-slot j k e
 owned-is k (shared j home) e = same-slot j k e
 owned-is k (atomic_owned c home) e = absurd (cc)
@@ -38,7 +38,7 @@ owned-is k (atomic_shared c home) e = absurd (cc)
 owned-is k (atomic_raw c home) e = absurd (cc)
 
 -- an owner among what is held is counted
-owner-counts : (k i : ℕ) (hs : List Holding) → slot_owned (slice_get hs i) ≡ Some k → 1 ≤ count_by (is_owner_of k) hs
+owner-counts : (k i : ℕ) (hs : List OwnerOrCell) → slot_owned (slice_get hs i) ≡ Some k → 1 ≤ count_by (is_owner_of k) hs
 owner-counts k i [] e = absurd (cc)
 owner-counts k zero (h ∷ hs) e =
     let one : one_where (is_owner_of k h) ≡ 1 = rw (owned-is k h e) refl in
@@ -59,7 +59,7 @@ bounded : (rank : ℕ → ℕ) (n : ℕ) → (b : ℕ) × ((j : ℕ) → j < n �
 bounded rank zero = (zero, λ j l. absurd (omega (arith, l)))
 bounded rank (suc n) = let before = bounded rank n in (before.0 + rank n + 1, λ j l. bound-next rank n before.0 j before.1 l (cases_lt j n))
 
-module _ {T : Type 0} (holds : T → List Holding) (w : World T) where
+module _ {T : Type 0} (holds : T → List OwnerOrCell) (w : World T) where
   -- the owner is in the value of slot j, from index n on, or in a later one's
   abbrev IsAfter : ℕ → ℕ → Owner → Type 0
   IsAfter j n (of_value a b) = (j < a) ⊎ ((a ≡ j) × (n ≤ b))
@@ -105,7 +105,7 @@ module _ {T : Type 0} (holds : T → List Holding) (w : World T) where
         count = ap suc f.count;
       }
 
-  found-next : (k j n later : ℕ) (h : Holding) (hs : List Holding) → held_at holds w j n ≡ Some h → (b : Bool) → is_owner_of k h ≡ b →
+  found-next : (k j n later : ℕ) (h : OwnerOrCell) (hs : List OwnerOrCell) → held_at holds w j n ≡ Some h → (b : Bool) → is_owner_of k h ≡ b →
       Found k j (suc n) (count_by (is_owner_of k) hs + later) → Found k j n (count_by (is_owner_of k) (h ∷ hs) + later)
   found-next k j n later h hs is true e f =
       let one : one_where (is_owner_of k h) ≡ 1 = rw e refl in
@@ -115,7 +115,7 @@ module _ {T : Type 0} (holds : T → List Holding) (w : World T) where
       let none : one_where (is_owner_of k h) ≡ 0 = rw e refl in
       Found-from k j (suc n) j n _ _ (later-after j n) (omega (arith, none, count-cons (is_owner_of k) h hs)) f
 
-  found-list : (k j n later : ℕ) (hs : List Holding) → ((m : ℕ) → held_at holds w j (n + m) ≡ slice_get hs m) → Found k (suc j) 0 later →
+  found-list : (k j n later : ℕ) (hs : List OwnerOrCell) → ((m : ℕ) → held_at holds w j (n + m) ≡ slice_get hs m) → Found k (suc j) 0 later →
       Found k j n (count_by (is_owner_of k) hs + later)
   found-list k j n later [] all f = Found-from k (suc j) 0 j n _ _ (slot-after j n) (omega arith) f
   found-list k j n later (h ∷ hs) all f =

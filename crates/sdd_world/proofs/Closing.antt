@@ -5,24 +5,24 @@ use Rattle.std.proofs.lemmas.Grind.{common_steps}
 use Rattle.std.proofs.lemmas.List.{length-map, length-set, get_or_past, get_or-set_same, set-set, set-get_or}
 use Rattle.std.proofs.lemmas.Bool.Decides.{nat_tests}
 use Rattle.std.proofs.lemmas.List.Sums.{sum_by-set, sum_by_push, sum_by-cons}
-use Rattle.sdd_store.specs.declared.waiting.What.{What}
-use Rattle.sdd_store.specs.Waiting.{Waiting, fresh, aged, left, older, is_due}
-use Rattle.sdd_store.specs.declared.waiting.What.TheVariants.{Item, Job}
-use Rattle.sdd_store.specs.Time.{without_waiting, Time, IsLive, with_place, nobody, pace_of, due_next, rotated}
-use Rattle.sdd_store.specs.Time as time
-use Rattle.sdd_store.specs.Table.{entry_at}
-use Rattle.sdd_store.specs.declared.time.Participant.{Participant}
-use Rattle.sdd_store.specs.declared.time.Pace.{Pace}
-use Rattle.sdd_store.specs.declared.standing.Standing.{Standing}
-use Rattle.sdd_store.specs.declared.standing.Standing.TheVariants.{Shared, Retired}
-use Rattle.sdd_base.specs.World.{World, standing_at, place_at}
-use Rattle.sdd_base.specs.Steps.{retired, with_standing, without_cell, spilled, cell_closed, held_in, owner_given, given, given_all, freed, taken_out, waiting_value, reclaimed, all_reclaimed, changed}
-use Rattle.sdd_base.specs.Steps as steps
-use Rattle.sdd_base.specs.Holding.{Holding, owned, shared, atomic_owned, atomic_shared, atomic_raw}
-use Rattle.sdd_base.specs.Out.{is_out}
-use Rattle.sdd_base.proofs.Standings.{out-inside, owner-given}
-use Rattle.sdd_inside.specs.Closing.{paced}
-use Rattle.sdd_inside.proofs.Lending.{SameGuards, guards-placed}
+use Rattle.sdd_participants.specs.declared.waiting.LimboEntry.{LimboEntry}
+use Rattle.sdd_participants.specs.Waiting.{Waiting, fresh, aged, left, older, is_due}
+use Rattle.sdd_participants.specs.declared.waiting.LimboEntry.TheVariants.{Item, Job}
+use Rattle.sdd_participants.specs.EpochState.{without_waiting, EpochState, IsLive, with_place, nobody, pace_of, due_next, rotated}
+use Rattle.sdd_participants.specs.EpochState as time
+use Rattle.sdd_participants.specs.Slab.{entry_at}
+use Rattle.sdd_participants.specs.declared.epoch_state.Participant.{Participant}
+use Rattle.sdd_participants.specs.declared.epoch_state.CountdownState.{CountdownState}
+use Rattle.sdd_participants.specs.declared.standing.Standing.{Standing}
+use Rattle.sdd_participants.specs.declared.standing.Standing.TheVariants.{Shared, Retired}
+use Rattle.sdd_space.specs.World.{World, standing_at, place_at}
+use Rattle.sdd_space.specs.Steps.{retired, with_standing, without_cell, spilled, cell_closed, held_in, owner_given, given, given_all, freed, taken_out, waiting_value, reclaimed, all_reclaimed, changed}
+use Rattle.sdd_space.specs.Steps as steps
+use Rattle.sdd_space.specs.OwnerOrCell.{OwnerOrCell, owned, shared, atomic_owned, atomic_shared, atomic_raw}
+use Rattle.sdd_space.specs.Out.{is_out}
+use Rattle.sdd_space.proofs.Standings.{out-inside, owner-given}
+use Rattle.sdd_world_core.specs.Closing.{paced}
+use Rattle.sdd_world_core.proofs.Lending.{SameGuards, guards-placed}
 use Rattle.sdd_world.specs.Closing.{aged_out, all_aged_out, emptied}
 
 -- how many changes it takes until what waits is gone, and one more
@@ -34,7 +34,7 @@ abbrev pub ahead : {T : Type 0} → List Waiting → World T → ℕ
 ahead waiting w = sum_by to_go waiting + 4 * count_by is_out w.standings
 
 -- the place has this pace, and this waits with it
-abbrev pub moved : Time → ℕ → ℕ → ℕ → List Waiting → Time
+abbrev pub moved : EpochState → ℕ → ℕ → ℕ → List Waiting → EpochState
 moved t p found countdown waiting =
     with_place t p (record (time.place_at t p) { found = found; countdown = countdown; bags = record (time.place_at t p).bags { waiting = waiting } })
 
@@ -46,15 +46,15 @@ pub record Moves {T : Type 0} (p : ℕ) (old new : World T) : Type 0 where
   pub time : new.time ≡ moved old.time p found countdown waiting
   pub no_more : ahead waiting new ≤ ahead (place_at old p).bags.waiting old
 
-moved-same : (t : Time) (p : ℕ) → t ≡ moved t p (time.place_at t p).found (time.place_at t p).countdown (time.place_at t p).bags.waiting
+moved-same : (t : EpochState) (p : ℕ) → t ≡ moved t p (time.place_at t p).found (time.place_at t p).countdown (time.place_at t p).bags.waiting
 moved-same t p = sym (ap (λ (ps : List Participant). record t { places = ps }) (set-get_or t.places p nobody))
 
-moved-place : (t : Time) (p found countdown : ℕ) (ws : List Waiting) → p < length t.places →
+moved-place : (t : EpochState) (p found countdown : ℕ) (ws : List Waiting) → p < length t.places →
     time.place_at (moved t p found countdown ws) p ≡ record
     (time.place_at t p) { found = found; countdown = countdown; bags = record (time.place_at t p).bags { waiting = ws } }
 moved-place t p found countdown ws l = get_or-set_same t.places p _ nobody l
 
-moved-moved : (t : Time) (p found countdown : ℕ) (ws : List Waiting) (found2 countdown2 : ℕ) (ws2 : List Waiting) → p < length t.places →
+moved-moved : (t : EpochState) (p found countdown : ℕ) (ws : List Waiting) (found2 countdown2 : ℕ) (ws2 : List Waiting) → p < length t.places →
     moved (moved t p found countdown ws) p found2 countdown2 ws2 ≡ moved t p found2 countdown2 ws2
 moved-moved t p found countdown ws found2 countdown2 ws2 l =
     let here = moved-place t p found countdown ws l in
@@ -77,7 +77,7 @@ fewer : (ws : List Waiting) → sum_by to_go (left (aged ws)) + length ws ≤ su
 fewer [] = omega arith
 fewer (x ∷ ws) = fewer-cons x ws (is_due (older x)) refl (fewer ws)
 
-paced-moved : (t : Time) (p found countdown : ℕ) (ws : List Waiting) (pace : Pace) → p < length t.places →
+paced-moved : (t : EpochState) (p found countdown : ℕ) (ws : List Waiting) (pace : CountdownState) → p < length t.places →
     time.paced_at (moved t p found countdown ws) p pace ≡ moved t p pace.found pace.countdown ws
 paced-moved t p found countdown ws pace l =
     let here = moved-place t p found countdown ws l in
@@ -108,7 +108,7 @@ module _ {T : Type 0} where
       }
 
   Moves-range : {p : ℕ} {u v : World T} → p < length u.time.places → Moves p u v → p < length v.time.places
-  Moves-range {p} l a = let e = ap (λ (t : Time). length t.places) a.time in grind (arith, common_steps, e)
+  Moves-range {p} l a = let e = ap (λ (t : EpochState). length t.places) a.time in grind (arith, common_steps, e)
 
   -- an item that is out begins to wait
   Moves-retired : (w : World T) (p k : ℕ) → is_out (standing_at w k) ≡ true → Moves p w (retired w p k)
@@ -140,14 +140,14 @@ module _ {T : Type 0} where
   Moves-cell_closed : (w : World T) (p c : ℕ) → p < length w.time.places → Moves p w (cell_closed w p c)
   Moves-cell_closed w p c l = Moves-trans l (Moves-without_cell w p c) (Moves-spilled (without_cell w c) p (held_in (entry_at w.cells c)))
 
-  Moves-given : (w : World T) (p : ℕ) (h : Holding) → p < length w.time.places → Moves p w (given w p h)
+  Moves-given : (w : World T) (p : ℕ) (h : OwnerOrCell) → p < length w.time.places → Moves p w (given w p h)
   Moves-given w p (owned k home) l = Moves-owner_given w p k (standing_at w k) refl
   Moves-given w p (shared k home) l = Moves-owner_given w p k (standing_at w k) refl
   Moves-given w p (atomic_owned c home) l = Moves-cell_closed w p c l
   Moves-given w p (atomic_shared c home) l = Moves-cell_closed w p c l
   Moves-given w p (atomic_raw c home) l = Moves-cell_closed w p c l
 
-  Moves-given_all : (w : World T) (p : ℕ) (hs : List Holding) → p < length w.time.places → Moves p w (given_all w p hs)
+  Moves-given_all : (w : World T) (p : ℕ) (hs : List OwnerOrCell) → p < length w.time.places → Moves p w (given_all w p hs)
   Moves-given_all w p [] l = Moves-refl p w
   Moves-given_all w p (h ∷ hs) l =
       let one = Moves-given w p h l in
@@ -158,7 +158,7 @@ module _ {T : Type 0} where
       let one = sum_by-set (λ s. cond (is_out s) 1 0) w.standings k None None l in
       record { found = _; countdown = _; waiting = _; time = moved-same w.time p; no_more = omega (arith, one) }
 
-  module _ (holds : T → List Holding) where
+  module _ (holds : T → List OwnerOrCell) where
     Moves-taken_out : (w : World T) (p k : ℕ) → p < length w.time.places → k < length w.standings → (value : Option T) → Moves p w (taken_out holds w p k value)
     Moves-taken_out w p k l lk None = Moves-refl p w
     Moves-taken_out w p k l lk (Some value) = Moves-trans l (Moves-freed w p k lk) (Moves-given_all (freed w k) p (holds value) l)
@@ -168,11 +168,11 @@ module _ {T : Type 0} where
     Moves-standing w p k l None is = Moves-refl p w
     Moves-standing w p k l (Some s) is = Moves-taken_out w p k l (in_range w.standings k s is) (waiting_value w k (Some s))
 
-    Moves-reclaimed : (w : World T) (p : ℕ) (x : What) → p < length w.time.places → Moves p w (reclaimed holds w p x)
+    Moves-reclaimed : (w : World T) (p : ℕ) (x : LimboEntry) → p < length w.time.places → Moves p w (reclaimed holds w p x)
     Moves-reclaimed w p (Item k) l = Moves-standing w p k l (standing_at w k) refl
     Moves-reclaimed w p (Job j) l = record { found = _; countdown = _; waiting = _; time = moved-same w.time p; no_more = omega arith }
 
-    Moves-all_reclaimed : (w : World T) (p : ℕ) (xs : List What) → p < length w.time.places → Moves p w (all_reclaimed holds w p xs)
+    Moves-all_reclaimed : (w : World T) (p : ℕ) (xs : List LimboEntry) → p < length w.time.places → Moves p w (all_reclaimed holds w p xs)
     Moves-all_reclaimed w p [] l = Moves-refl p w
     Moves-all_reclaimed w p (x ∷ xs) l =
         let one = Moves-reclaimed w p x l in
@@ -226,7 +226,7 @@ module _ {T : Type 0} where
   pub MovesWaiting-trans : {p : ℕ} {u v w : World T} → p < length u.time.places → MovesWaiting p u v → MovesWaiting p v w → MovesWaiting p u w
   MovesWaiting-trans {p} {u} {v} {w} l a b =
       let at_v : place_at v p ≡ record (place_at u p) { bags = record (place_at u p).bags { waiting = a.waiting } } =
-      ap (λ (t : Time). time.place_at t p) a.time ∙ moved-place u.time p (place_at u p).found (place_at u p).countdown a.waiting l in
+      ap (λ (t : EpochState). time.place_at t p) a.time ∙ moved-place u.time p (place_at u p).found (place_at u p).countdown a.waiting l in
       record {
         waiting = b.waiting;
         time = b.time ∙ ap (λ (x : Participant). moved v.time p x.found x.countdown b.waiting) at_v
@@ -234,7 +234,7 @@ module _ {T : Type 0} where
             ∙ moved-moved u.time p (place_at u p).found (place_at u p).countdown a.waiting (place_at u p).found (place_at u p).countdown b.waiting l;
       }
 
-  pub MovesWaiting-aged_out : (holds : T → List Holding) (w : World T) (p : ℕ) → p < length w.time.places → MovesWaiting p w (aged_out holds w p)
+  pub MovesWaiting-aged_out : (holds : T → List OwnerOrCell) (w : World T) (p : ℕ) → p < length w.time.places → MovesWaiting p w (aged_out holds w p)
   MovesWaiting-aged_out holds w p l =
       let m = Moves-changed holds w p l in
       let there = Moves-waiting m l in
@@ -248,12 +248,12 @@ module _ {T : Type 0} where
   MovesWaiting-range {p} {u} l m =
       omega (
         arith,
-        ap (λ (t : Time). length t.places) m.time,
+        ap (λ (t : EpochState). length t.places) m.time,
         length-set u.time.places p
             (record (place_at u p) { bags = record (place_at u p).bags { waiting = m.waiting } }),
       )
 
-  pub aged_out-range : (holds : T → List Holding) (w : World T) (p : ℕ) → p < length w.time.places → p < length (aged_out holds w p).time.places
+  pub aged_out-range : (holds : T → List OwnerOrCell) (w : World T) (p : ℕ) → p < length w.time.places → p < length (aged_out holds w p).time.places
   aged_out-range holds w p l = MovesWaiting-range l (MovesWaiting-aged_out holds w p l)
 
   -- where nothing waits with p any more
@@ -262,14 +262,14 @@ module _ {T : Type 0} where
   MovesWaiting-done {p} {u} {v} l m done =
       m.time ∙ ap (λ (ws : List Waiting). moved u.time p (place_at u p).found (place_at u p).countdown ws) (sym (MovesWaiting-here m l) ∙ done)
 
-  paced-ahead : (w : World T) (p : ℕ) (pace : Pace) → p < length w.time.places →
+  paced-ahead : (w : World T) (p : ℕ) (pace : CountdownState) → p < length w.time.places →
       ahead (place_at (paced w p pace) p).bags.waiting (paced w p pace) ≡ ahead (place_at w p).bags.waiting w
   paced-ahead w p pace l =
       ap (λ (x : Participant). sum_by to_go x.bags.waiting + 4 * count_by is_out w.standings)
       (get_or-set_same w.time.places p (time.paced pace (place_at w p)) nobody l)
 
   -- where something waits, such a change brings the end nearer
-  pub aged_out-ahead : (holds : T → List Holding) (w : World T) (p : ℕ) → p < length w.time.places → ((place_at w p).bags.waiting ≡ [] → ⊥) →
+  pub aged_out-ahead : (holds : T → List OwnerOrCell) (w : World T) (p : ℕ) → p < length w.time.places → ((place_at w p).bags.waiting ≡ [] → ⊥) →
       ahead (place_at (aged_out holds w p) p).bags.waiting (aged_out holds w p) < ahead (place_at w p).bags.waiting w
   aged_out-ahead holds w p l h =
       let same = paced-ahead (changed holds w p) p (pace_of (place_at w p)) (Moves-range l (Moves-changed holds w p l)) in
@@ -280,14 +280,14 @@ module _ {T : Type 0} where
   pub MovesWaiting-guards : {p : ℕ} {u v : World T} → p < length u.time.places → MovesWaiting p u v → SameGuards u v
   MovesWaiting-guards {p} {u} {v} l m q =
       let x : Participant = record (place_at u p) { bags = record (place_at u p).bags { waiting = m.waiting } } in
-      ap (λ (t : Time). (time.place_at t q).guards) m.time ∙ guards-placed u p x l refl q
+      ap (λ (t : EpochState). (time.place_at t q).guards) m.time ∙ guards-placed u p x l refl q
 
   -- nothing waits with p any more
   pub emptied-guards : (u v : World T) (p : ℕ) → p < length u.time.places → v.time ≡ with_place u.time p (without_waiting (place_at u p)) → SameGuards u v
-  emptied-guards u v p l e q = ap (λ (t : Time). (time.place_at t q).guards) e ∙ guards-placed u p (without_waiting (place_at u p)) l refl q
+  emptied-guards u v p l e q = ap (λ (t : EpochState). (time.place_at t q).guards) e ∙ guards-placed u p (without_waiting (place_at u p)) l refl q
 
 -- as many places of the list as i are emptied
-abbrev pub emptied_to : Time → ℕ → Time
+abbrev pub emptied_to : EpochState → ℕ → EpochState
 emptied_to t i = record t { places = map without_waiting (take i t.places) ++ drop i t.places }
 
 emptied_next : (xs : List Participant) (i : ℕ) → i < length xs →
@@ -297,12 +297,12 @@ emptied_next [] i l = absurd (omega arith)
 emptied_next (x ∷ xs) zero l = refl
 emptied_next (x ∷ xs) (suc i) l = ap (λ (r : List Participant). without_waiting x ∷ r) (emptied_next xs i (omega arith))
 
-pub emptied_to-more : (t : Time) (i : ℕ) → i < length t.places →
+pub emptied_to-more : (t : EpochState) (i : ℕ) → i < length t.places →
     with_place (emptied_to t i) i (without_waiting (time.place_at (emptied_to t i) i)) ≡ emptied_to t (i + 1)
 emptied_to-more t i l = rw add-one (ap (λ (ps : List Participant). record t { places = ps }) (emptied_next t.places i l))
 
 -- the same places are live where nothing waits with anyone
-pub emptied-live : (t : Time) (p : ℕ) → IsLive t p ↔ IsLive (emptied t) p
+pub emptied-live : (t : EpochState) (p : ℕ) → IsLive t p ↔ IsLive (emptied t) p
 emptied-live t p =
     let long = length-map t.places without_waiting in
     (λ live. (omega (arith, long, live.0), live.1), λ live. (omega (arith, long, live.0), live.1))

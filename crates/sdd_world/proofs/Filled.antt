@@ -2,9 +2,9 @@
 use Rattle.std.proofs.Common.{◌≡◌, ℕ, Bool, List, None, length, map, sym, ap, ◌∙◌}
 use Rattle.std.specs.Prelude.{is_some}
 use Rattle.std.proofs.lemmas.List.{length-map}
-use Rattle.sdd_slots.proofs.SlotsKept.{none-of}
-use Rattle.sdd_base.specs.World.{World, standing_at, value_at}
-use Rattle.sdd_base.proofs.Whole.{filled-there}
+use Rattle.sdd_world_slots.proofs.SlotsKept.{none-of}
+use Rattle.sdd_space.specs.World.{World, standing_at, value_at}
+use Rattle.sdd_space.proofs.Whole.{filled-there}
 
 module _ {T : Type 0} where
   -- there is a place for a value in each slot

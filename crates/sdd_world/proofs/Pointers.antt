@@ -1,18 +1,18 @@
 -- What is given up changes nothing that raw cells point to, and makes and loses no place of the table of jobs
 use Rattle.std.proofs.Common.{◌≡◌, ℕ, List, [], ◌∷◌, length, refl, ◌∙◌, Some, None, Option}
-use Rattle.sdd_store.specs.declared.waiting.What.{What}
-use Rattle.sdd_store.specs.declared.waiting.What.TheVariants.{Item, Job}
-use Rattle.sdd_store.specs.Time.{due_next}
-use Rattle.sdd_base.specs.Holding.{Holding}
-use Rattle.sdd_base.specs.World.{World, place_at, standing_at}
-use Rattle.sdd_base.specs.Steps.{given_all, freed, taken_out, waiting_value, reclaimed, all_reclaimed}
-use Rattle.sdd_base.specs.Steps as steps
-use Rattle.sdd_base.proofs.Opening.{keeps-given_all}
-use Rattle.sdd_base.proofs.Jobs.{length-all_reclaimed}
+use Rattle.sdd_participants.specs.declared.waiting.LimboEntry.{LimboEntry}
+use Rattle.sdd_participants.specs.declared.waiting.LimboEntry.TheVariants.{Item, Job}
+use Rattle.sdd_participants.specs.EpochState.{due_next}
+use Rattle.sdd_space.specs.OwnerOrCell.{OwnerOrCell}
+use Rattle.sdd_space.specs.World.{World, place_at, standing_at}
+use Rattle.sdd_space.specs.Steps.{given_all, freed, taken_out, waiting_value, reclaimed, all_reclaimed}
+use Rattle.sdd_space.specs.Steps as steps
+use Rattle.sdd_space.proofs.Opening.{keeps-given_all}
+use Rattle.sdd_space.proofs.Jobs.{length-all_reclaimed}
 use Rattle.sdd_world.specs.Closing.{aged_out, all_aged_out}
 
-module _ {T : Type 0} (holds : T → List Holding) where
-  given-pointers : (w : World T) (p : ℕ) (hs : List Holding) → (given_all w p hs).pointers ≡ w.pointers
+module _ {T : Type 0} (holds : T → List OwnerOrCell) where
+  given-pointers : (w : World T) (p : ℕ) (hs : List OwnerOrCell) → (given_all w p hs).pointers ≡ w.pointers
   given-pointers w p hs =
       keeps-given_all p (λ (u : World T). u.pointers ≡ w.pointers) (λ u k out e. e) (λ u c e. e) (λ u k n m is e. e) w hs refl
 
@@ -20,11 +20,11 @@ module _ {T : Type 0} (holds : T → List Holding) where
   taken-pointers w p k None = refl
   taken-pointers w p k (Some v) = given-pointers (freed w k) p (holds v)
 
-  reclaimed-pointers : (w : World T) (p : ℕ) (x : What) → (reclaimed holds w p x).pointers ≡ w.pointers
+  reclaimed-pointers : (w : World T) (p : ℕ) (x : LimboEntry) → (reclaimed holds w p x).pointers ≡ w.pointers
   reclaimed-pointers w p (Item k) = taken-pointers w p k (waiting_value w k (standing_at w k))
   reclaimed-pointers w p (Job j) = refl
 
-  all-pointers : (xs : List What) (w : World T) (p : ℕ) → (all_reclaimed holds w p xs).pointers ≡ w.pointers
+  all-pointers : (xs : List LimboEntry) (w : World T) (p : ℕ) → (all_reclaimed holds w p xs).pointers ≡ w.pointers
   all-pointers [] w p = refl
   all-pointers (x ∷ xs) w p = all-pointers xs (reclaimed holds w p x) p ∙ reclaimed-pointers w p x
 

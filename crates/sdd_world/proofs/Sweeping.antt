@@ -7,36 +7,36 @@ use Rattle.std.proofs.lemmas.List.{length-set, get_or-set_same, get_or-set_other
 use Rattle.std.proofs.lemmas.List.Sums.{sum_by-set, sum_by-cons}
 use Rattle.std.proofs.lemmas.List.Kept.{AllPairs-cons}
 use Rattle.std.proofs.lemmas.List.Elements.{Contains-get_or}
-use Rattle.sdd_store.specs.declared.waiting.What.{What}
-use Rattle.sdd_store.specs.declared.waiting.What.TheVariants.{Item, Job}
-use Rattle.sdd_store.specs.Time.{without_waiting, Time, due_next, nobody, pace_of}
-use Rattle.sdd_store.specs.Time as time
-use Rattle.sdd_store.specs.Table.{Entries, entry_at, with_entry, without_entry}
-use Rattle.sdd_store.specs.Tally.{one_reclaimed}
-use Rattle.sdd_store.specs.declared.time.Participant.{Participant}
-use Rattle.sdd_store.specs.declared.standing.Cell.{Cell}
-use Rattle.sdd_store.specs.declared.standing.Standing.{Standing}
-use Rattle.sdd_store.specs.declared.standing.Standing.TheVariants.{Owned, Raw, Shared, Retired, Private as privately}
+use Rattle.sdd_participants.specs.declared.waiting.LimboEntry.{LimboEntry}
+use Rattle.sdd_participants.specs.declared.waiting.LimboEntry.TheVariants.{Item, Job}
+use Rattle.sdd_participants.specs.EpochState.{without_waiting, EpochState, due_next, nobody, pace_of}
+use Rattle.sdd_participants.specs.EpochState as time
+use Rattle.sdd_participants.specs.Slab.{Entries, entry_at, with_entry, without_entry}
+use Rattle.sdd_participants.specs.Tally.{one_reclaimed}
+use Rattle.sdd_participants.specs.declared.epoch_state.Participant.{Participant}
+use Rattle.sdd_participants.specs.declared.standing.CellContents.{CellContents}
+use Rattle.sdd_participants.specs.declared.standing.Standing.{Standing}
+use Rattle.sdd_participants.specs.declared.standing.Standing.TheVariants.{Owned, Raw, Shared, Retired, Private as privately}
 use Rattle.sdd_standings.specs.Slots.{is_waiting, IsWaiting}
-use Rattle.sdd_base.specs.World.{World, standing_at, value_at, place_at}
-use Rattle.sdd_base.specs.Steps.{without_cell, spilled, cell_closed, held_in, owner_given, given, given_all, freed, taken_out, waiting_value, reclaimed, all_reclaimed, changed}
-use Rattle.sdd_base.specs.Steps as steps
-use Rattle.sdd_base.specs.Holding.{Holding, owned, shared, atomic_owned, atomic_shared, atomic_raw}
-use Rattle.sdd_base.specs.Whole.{times_with, jobs_with, once_if, taken, IsWhole}
-use Rattle.sdd_base.specs.Accounts.{owner_count}
-use Rattle.sdd_inside.specs.Closing.{NothingIsOut}
+use Rattle.sdd_space.specs.World.{World, standing_at, value_at, place_at}
+use Rattle.sdd_space.specs.Steps.{without_cell, spilled, cell_closed, held_in, owner_given, given, given_all, freed, taken_out, waiting_value, reclaimed, all_reclaimed, changed}
+use Rattle.sdd_space.specs.Steps as steps
+use Rattle.sdd_space.specs.OwnerOrCell.{OwnerOrCell, owned, shared, atomic_owned, atomic_shared, atomic_raw}
+use Rattle.sdd_space.specs.Whole.{times_with, jobs_with, once_if, taken, IsWhole}
+use Rattle.sdd_space.specs.Accounts.{owner_count}
+use Rattle.sdd_world_core.specs.Closing.{NothingIsOut}
 use Rattle.sdd_world.specs.Closing.{aged_out, all_aged_out, Closes, Owner, Holder, holder, slot_owned, cell_held, with_fewer, held_by, held_at, owns, AreAllOf, Goes, AllGo, with_reclaimed, Stays, Sweeps, Accounts}
 use Rattle.sdd_world.specs.Closing.Owner.{of_value, of_cell}
 use Rattle.sdd_world.specs.Closing.Holder.{the_item, the_cell}
 use Rattle.sdd_world.specs.Closing.Goes.{waits, given as by_giving, held as by_holding}
-use Rattle.sdd_base.proofs.Weights.{in_range}
-use Rattle.sdd_base.proofs.Standings.{out-inside, out-some, owner-given}
-use Rattle.sdd_base.specs.Out.{is_out, out, HoldsNothing}
-use Rattle.sdd_base.specs.Whole.{IsCounted}
-use Rattle.sdd_store.specs.declared.tally.Tally.{Tally}
-use Rattle.sdd_base.proofs.Whole.{one_where, waits-inside}
-use Rattle.sdd_base.proofs.Opening.{none-here}
-use Rattle.sdd_store.proofs.Adopting.{same-or-not}
+use Rattle.sdd_space.proofs.Weights.{in_range}
+use Rattle.sdd_space.proofs.Standings.{out-inside, out-some, owner-given}
+use Rattle.sdd_space.specs.Out.{is_out, out, HoldsNothing}
+use Rattle.sdd_space.specs.Whole.{IsCounted}
+use Rattle.sdd_participants.specs.declared.tally.Tally.{Tally}
+use Rattle.sdd_space.proofs.Whole.{one_where, waits-inside}
+use Rattle.sdd_space.proofs.Opening.{none-here}
+use Rattle.sdd_participants.proofs.Adopting.{same-or-not}
 use Rattle.sdd_world.proofs.Pointers.{all_aged_out-pointers, all_aged_out-jobs}
 
 -- ---- lists whose elements all differ
@@ -194,7 +194,7 @@ module _ {T : Type 0} where
       rw e (ap is_some here ∙ sym (out-some (standing_at w k) is))
   stands-there w k j s is (inr apart) = ap is_some (get_or-set_other w.standings k j (Some s) None apart)
 
-  Gave-stands : (w : World T) (k : ℕ) (s : Standing) (t : Time) → is_out (standing_at w k) ≡ true →
+  Gave-stands : (w : World T) (k : ℕ) (s : Standing) (t : EpochState) → is_out (standing_at w k) ≡ true →
       Gave k w (record w { time = t; standings = with_entry w.standings k s })
   Gave-stands w k s t is =
       let one = sum_by-set one_if w.standings k (Some s) None (out-inside w.standings k is) in
@@ -230,9 +230,9 @@ record Gains (G H : Owner → Type 0) (o : Owner) : Type 0 where
   new : G o → ⊥
   now : H o
 
-module _ {T : Type 0} (holds : T → List Holding) (old : World T) where
+module _ {T : Type 0} (holds : T → List OwnerOrCell) (old : World T) where
   -- the owner was given up, where slots and cells stand so
-  abbrev IsGiven : Pending → Entries Standing → Entries Cell → Owner → Type 0
+  abbrev IsGiven : Pending → Entries Standing → Entries CellContents → Owner → Type 0
   IsGiven x ss cs (of_value j i) = IsSome (standing_at old j) × IsNone (entry_at ss j) × IsPast x j i
   IsGiven x ss cs (of_cell c) = entry_at cs c ≡ None
 
@@ -263,7 +263,7 @@ module _ {T : Type 0} (holds : T → List Holding) (old : World T) where
   StateAt G w k = SlotState G k (standing_at w k) (value_at w k)
 
   -- a cell stays, or is closed
-  data CellState (c : ℕ) (e : Option Cell) : Type 0 where
+  data CellState (c : ℕ) (e : Option CellContents) : Type 0 where
     keeps : e ≡ entry_at old.cells c → CellState c e
     closed : Goes holds old (the_cell c) → e ≡ None → CellState c e
 
@@ -277,7 +277,7 @@ module _ {T : Type 0} (holds : T → List Holding) (old : World T) where
     cells : length w.cells ≡ length old.cells
 
   -- only time is another
-  Swept-time : (x : Pending) (w : World T) (t : Time) → Swept x w → Swept x (record w { time = t })
+  Swept-time : (x : Pending) (w : World T) (t : EpochState) → Swept x w → Swept x (record w { time = t })
   Swept-time x w t i = record { slot = i.slot; cell = i.cell; done = i.done; count = i.count; slots = i.slots; cells = i.cells }
 
   are-same : (G H : Owner → Type 0) (k : ℕ) (given : List Owner) → ((o : Owner) → G o → H o) →
@@ -405,7 +405,7 @@ module _ {T : Type 0} (holds : T → List Holding) (old : World T) where
   past-next s n j i past e = omega (arith, past e)
 
   -- as many slots are free, and the same cells
-  owner-keeps : (s n : ℕ) (ss ts : Entries Standing) (cs ds : Entries Cell) → ((j : ℕ) → is_some (entry_at ts j) ≡ is_some (entry_at ss j)) → ds ≡ cs →
+  owner-keeps : (s n : ℕ) (ss ts : Entries Standing) (cs ds : Entries CellContents) → ((j : ℕ) → is_some (entry_at ts j) ≡ is_some (entry_at ss j)) → ds ≡ cs →
       (o : Owner) → IsGiven (rest s n) ss cs o → IsGiven (rest s (suc n)) ts ds o
   owner-keeps s n ss ts cs ds there same (of_value j i) h = (h.0, there j ∙ h.1, past-next s n j i h.2)
   owner-keeps s n ss ts cs ds there same (of_cell c) h = rw same h
@@ -416,12 +416,12 @@ module _ {T : Type 0} (holds : T → List Holding) (old : World T) where
   past-or s n j i past (inr apart) which = inl (λ e. absurd (apart e))
 
   -- it was given up before, or is what is given up now
-  value-past : (s n : ℕ) (ss : Entries Standing) (cs : Entries Cell) (j i : ℕ) → IsSome (standing_at old j) → IsNone (entry_at ss j) →
+  value-past : (s n : ℕ) (ss : Entries Standing) (cs : Entries CellContents) (j i : ℕ) → IsSome (standing_at old j) → IsNone (entry_at ss j) →
       IsPast (rest s n) j i ⊎ ((j ≡ s) × (i ≡ n)) → IsGiven (rest s n) ss cs (of_value j i) ⊎ ((j ≡ s) × (i ≡ n))
   value-past s n ss cs j i some none (inl past) = inl (some, none, past)
   value-past s n ss cs j i some none (inr e) = inr e
 
-  value-only : (s n : ℕ) (ss ts : Entries Standing) (cs ds : Entries Cell) → ((j : ℕ) → is_some (entry_at ts j) ≡ is_some (entry_at ss j)) →
+  value-only : (s n : ℕ) (ss ts : Entries Standing) (cs ds : Entries CellContents) → ((j : ℕ) → is_some (entry_at ts j) ≡ is_some (entry_at ss j)) →
       (j i : ℕ) → IsGiven (rest s (suc n)) ts ds (of_value j i) → IsGiven (rest s n) ss cs (of_value j i) ⊎ ((j ≡ s) × (i ≡ n))
   value-only s n ss ts cs ds there j i h =
       value-past s n ss cs j i h.0 (sym (there j) ∙ h.1) (past-or s n j i h.2 (same-or-not j s) (same-or-not i n))
@@ -430,7 +430,7 @@ module _ {T : Type 0} (holds : T → List Holding) (old : World T) where
   value-same G s n j i (inl h) = inl h
   value-same G s n j i (inr e) = inr (rw (e.0, e.1) refl)
 
-  owner-only : (s n : ℕ) (ss ts : Entries Standing) (cs ds : Entries Cell) → ((j : ℕ) → is_some (entry_at ts j) ≡ is_some (entry_at ss j)) → ds ≡ cs →
+  owner-only : (s n : ℕ) (ss ts : Entries Standing) (cs ds : Entries CellContents) → ((j : ℕ) → is_some (entry_at ts j) ≡ is_some (entry_at ss j)) → ds ≡ cs →
       (o : Owner) → IsGiven (rest s (suc n)) ts ds o → IsGiven (rest s n) ss cs o ⊎ (o ≡ of_value s n)
   owner-only s n ss ts cs ds there same (of_value j i) h =
       value-same (IsGiven (rest s n) ss cs) s n j i (value-only s n ss ts cs ds there j i h)
@@ -508,22 +508,22 @@ module _ {T : Type 0} (holds : T → List Holding) (old : World T) where
         };
       }
 
-  cell-shut : (cs : Entries Cell) (c d : ℕ) → Goes holds old (the_cell c) → CellState d (entry_at cs d) → (d ≡ c) ⊎ (d ≢ c) →
+  cell-shut : (cs : Entries CellContents) (c d : ℕ) → Goes holds old (the_cell c) → CellState d (entry_at cs d) → (d ≡ c) ⊎ (d ≢ c) →
       CellState d (entry_at (without_entry cs c) d)
   cell-shut cs c d g s (inl e) = rw e (closed g (none-here cs c))
   cell-shut cs c d g s (inr apart) = rw (get_or-set_other cs c d None None apart) s
 
   -- what was given up before, and the owner that the cell holds
-  shut-keeps : (x : Pending) (ss ts : Entries Standing) (cs ds : Entries Cell) (c : ℕ) → ((j : ℕ) → is_some (entry_at ts j) ≡ is_some (entry_at ss j)) →
+  shut-keeps : (x : Pending) (ss ts : Entries Standing) (cs ds : Entries CellContents) (c : ℕ) → ((j : ℕ) → is_some (entry_at ts j) ≡ is_some (entry_at ss j)) →
       ds ≡ without_entry cs c → (o : Owner) → IsGiven x ss cs o → IsGiven x ts ds o
   shut-keeps x ss ts cs ds c there same (of_value j i) h = (h.0, there j ∙ h.1, h.2)
   shut-keeps x ss ts cs ds c there same (of_cell d) h = rw same (none-set cs c d h)
 
-  other-cell : (cs : Entries Cell) (c d : ℕ) → entry_at (without_entry cs c) d ≡ None → (d ≡ c) ⊎ (d ≢ c) → (entry_at cs d ≡ None) ⊎ (of_cell d ≡ of_cell c)
+  other-cell : (cs : Entries CellContents) (c d : ℕ) → entry_at (without_entry cs c) d ≡ None → (d ≡ c) ⊎ (d ≢ c) → (entry_at cs d ≡ None) ⊎ (of_cell d ≡ of_cell c)
   other-cell cs c d h (inl e) = inr (ap of_cell e)
   other-cell cs c d h (inr apart) = inl (sym (get_or-set_other cs c d None None apart) ∙ h)
 
-  shut-only : (x : Pending) (ss ts : Entries Standing) (cs ds : Entries Cell) (c : ℕ) → ((j : ℕ) → is_some (entry_at ts j) ≡ is_some (entry_at ss j)) →
+  shut-only : (x : Pending) (ss ts : Entries Standing) (cs ds : Entries CellContents) (c : ℕ) → ((j : ℕ) → is_some (entry_at ts j) ≡ is_some (entry_at ss j)) →
       ds ≡ without_entry cs c → (o : Owner) → IsGiven x ts ds o → IsGiven x ss cs o ⊎ (o ≡ of_cell c)
   shut-only x ss ts cs ds c there same (of_value j i) h = inl (h.0, sym (there j) ∙ h.1, h.2)
   shut-only x ss ts cs ds c there same (of_cell d) h = other-cell cs c d (rw same at h) (same-or-not d c)
@@ -550,7 +550,7 @@ module _ {T : Type 0} (holds : T → List Holding) (old : World T) where
       }
 
   -- what a cell holds now is what it held, or nothing
-  held-now : (c k : ℕ) (e : Option Cell) → CellState c e → held_in e ≡ Some k → held_in (entry_at old.cells c) ≡ Some k
+  held-now : (c k : ℕ) (e : Option CellContents) → CellState c e → held_in e ≡ Some k → held_in (entry_at old.cells c) ≡ Some k
   held-now c k e (keeps same) h = ap held_in (sym same) ∙ h
   held-now c k e (closed g none) h = absurd (some-held k (ap held_in none) h)
 
@@ -593,7 +593,7 @@ module _ {T : Type 0} (holds : T → List Holding) (old : World T) where
       (record { goes = a.goes; there = a.there; free = t.there s ∙ a.free; swept = t.swept })
 
   -- ---- all that a value holds is given up
-  gives : (s n : ℕ) (w : World T) (p : ℕ) (h : Holding) → held_at holds old s n ≡ Some h → Giving s n w → Giving s (suc n) (given w p h)
+  gives : (s n : ℕ) (w : World T) (p : ℕ) (h : OwnerOrCell) → held_at holds old s n ≡ Some h → Giving s n w → Giving s (suc n) (given w p h)
   gives s n w p (owned k home) is a = gives-owner s n w p k (ap slot_owned is) (ap cell_held is) a
   gives s n w p (shared k home) is a = gives-owner s n w p k (ap slot_owned is) (ap cell_held is) a
   gives s n w p (atomic_owned c home) is a = gives-closed s n w p c (ap slot_owned is) (ap cell_held is) a
@@ -611,11 +611,11 @@ module _ {T : Type 0} (holds : T → List Holding) (old : World T) where
   past-end : (s n j i : ℕ) → ((m : ℕ) → held_at holds old s (n + m) ≡ None) → (held_at holds old j i ≡ None → ⊥) → IsPast (rest s n) j i
   past-end s n j i none some e = past-end-if s n j i none some e (cases_lt i n)
 
-  end-to : (s n : ℕ) (ss : Entries Standing) (cs : Entries Cell) (o : Owner) → IsGiven (rest s n) ss cs o → IsGiven nothing ss cs o
+  end-to : (s n : ℕ) (ss : Entries Standing) (cs : Entries CellContents) (o : Owner) → IsGiven (rest s n) ss cs o → IsGiven nothing ss cs o
   end-to s n ss cs (of_value j i) h = (h.0, h.1, tt)
   end-to s n ss cs (of_cell c) h = h
 
-  end-from : (s n k : ℕ) (ss : Entries Standing) (cs : Entries Cell) → ((m : ℕ) → held_at holds old s (n + m) ≡ None) → (o : Owner) →
+  end-from : (s n k : ℕ) (ss : Entries Standing) (cs : Entries CellContents) → ((m : ℕ) → held_at holds old s (n + m) ≡ None) → (o : Owner) →
       owns holds old o ≡ Some k → IsGiven nothing ss cs o → IsGiven (rest s n) ss cs o
   end-from s n k ss cs none (of_value j i) of h = (h.0, h.1, past-end s n j i none (λ e. some-held k (ap slot_owned e) of))
   end-from s n k ss cs none (of_cell c) of h = h
@@ -632,7 +632,7 @@ module _ {T : Type 0} (holds : T → List Holding) (old : World T) where
         cells = i.cells;
       }
 
-  gives-all : (s n : ℕ) (w : World T) (p : ℕ) (hs : List Holding) → ((m : ℕ) → held_at holds old s (n + m) ≡ slice_get hs m) → Giving s n w →
+  gives-all : (s n : ℕ) (w : World T) (p : ℕ) (hs : List OwnerOrCell) → ((m : ℕ) → held_at holds old s (n + m) ≡ slice_get hs m) → Giving s n w →
       Swept nothing (given_all w p hs)
   gives-all s n w p [] all a = Swept-end s n w all a.swept
   gives-all s n w p (h ∷ hs) all a =
@@ -718,11 +718,11 @@ module _ {T : Type 0} (holds : T → List Holding) (old : World T) where
   Swept-standing w p k (Some Retired) is i = Swept-value w p k (ap is_waiting is) (value_at w k) refl i
   Swept-standing w p k (Some (privately c)) is i = Swept-value w p k (ap is_waiting is) (value_at w k) refl i
 
-  Swept-reclaimed : (w : World T) (p : ℕ) (x : What) → Swept nothing w → Swept nothing (reclaimed holds w p x)
+  Swept-reclaimed : (w : World T) (p : ℕ) (x : LimboEntry) → Swept nothing w → Swept nothing (reclaimed holds w p x)
   Swept-reclaimed w p (Item k) i = Swept-standing w p k (standing_at w k) refl i
   Swept-reclaimed w p (Job n) i = record { slot = i.slot; cell = i.cell; done = i.done; count = i.count; slots = i.slots; cells = i.cells }
 
-  Swept-all_reclaimed : (w : World T) (p : ℕ) (xs : List What) → Swept nothing w → Swept nothing (all_reclaimed holds w p xs)
+  Swept-all_reclaimed : (w : World T) (p : ℕ) (xs : List LimboEntry) → Swept nothing w → Swept nothing (all_reclaimed holds w p xs)
   Swept-all_reclaimed w p [] i = i
   Swept-all_reclaimed w p (x ∷ xs) i = Swept-all_reclaimed (reclaimed holds w p x) p xs (Swept-reclaimed w p x i)
 
@@ -844,7 +844,7 @@ module _ {T : Type 0} (holds : T → List Holding) (old : World T) where
       record {
         swept = rw c.changes.1 (Swept-all_aged_out old c.changes.0 Swept-start);
         idle =
-            λ k h. let none = ap (λ (t : Time). sum_by (times_with k) t.places) c.time
+            λ k h. let none = ap (λ (t : EpochState). sum_by (times_with k) t.places) c.time
             ∙ nobody-waits k old.time.places in absurd (omega (arith, none, rw h at (i.once k)));
       }
 
@@ -859,7 +859,7 @@ module _ {T : Type 0} (holds : T → List Holding) (old : World T) where
         cells_kept = λ d h. cell-kept new d h (e.swept.cell d);
         pointers = ap (λ (u : World T). u.pointers) c.changes.1 ∙ all_aged_out-pointers holds c.changes.0 old;
         ran = λ j. free-place (entry_at new.jobs j)
-            (sym (i.jobs_once j) ∙ ap (λ (t : Time). sum_by (jobs_with j) t.places) c.time ∙ nobody-defers j old.time.places);
+            (sym (i.jobs_once j) ∙ ap (λ (t : EpochState). sum_by (jobs_with j) t.places) c.time ∙ nobody-defers j old.time.places);
         reclaimed = e.swept.count;
         time = c.time;
         home = c.home;
@@ -876,7 +876,7 @@ module _ {T : Type 0} (holds : T → List Holding) (old : World T) where
   free-at-end new e all k (retires g a b) s is = absurd (e.idle k (ap is_waiting a))
   free-at-end new e all k (gone g a b) s is = a
 
-  cell-free-at-end : (new : World T) → Ended new → AllGo holds old → (c : ℕ) → CellState c (entry_at new.cells c) → (x : Option Cell) →
+  cell-free-at-end : (new : World T) → Ended new → AllGo holds old → (c : ℕ) → CellState c (entry_at new.cells c) → (x : Option CellContents) →
       entry_at old.cells c ≡ x → entry_at new.cells c ≡ None
   cell-free-at-end new e all c (keeps a) None is = a ∙ is
   cell-free-at-end new e all c (keeps a) (Some x) is = all-gone new e (the_cell c) (all.cells c (ap is_some is))
@@ -954,7 +954,7 @@ waits-inside-out (Some (Shared n)) h = absurd (cc)
 waits-inside-out (Some Retired) h = refl
 waits-inside-out (Some (privately c)) h = refl
 
-module _ {T : Type 0} (holds : T → List Holding) (w : World T) where
+module _ {T : Type 0} (holds : T → List OwnerOrCell) (w : World T) where
   -- where nothing is out, all goes
   pub none-out-goes : out w ≡ 0 → AllGo holds w
   none-out-goes e =
@@ -965,7 +965,7 @@ module _ {T : Type 0} (holds : T → List Holding) (w : World T) where
 
   plain-held : HoldsNothing holds → (x : Option T) (i : ℕ) → held_by holds x i ≡ None
   plain-held plain None i = refl
-  plain-held plain (Some value) i = ap (λ (hs : List Holding). slice_get hs i) (plain value)
+  plain-held plain (Some value) i = ap (λ (hs : List OwnerOrCell). slice_get hs i) (plain value)
 
   -- no cell goes, and nothing that a value would hold
   plain-cell : HoldsNothing holds → (c : ℕ) → Goes holds w (the_cell c) → ⊥
@@ -992,7 +992,7 @@ module _ {T : Type 0} (holds : T → List Holding) (w : World T) where
   plain-slot plain all k (Some s) e =
       subst (λ (x : Option Standing). is_out x ≡ false) e (waits-inside-out (standing_at w k) (plain-waits plain k (all.slots k (ap is_some e))))
 
-  plain-entry : HoldsNothing holds → AllGo holds w → (c : ℕ) → (x : Option Cell) → entry_at w.cells c ≡ x → is_some x ≡ false
+  plain-entry : HoldsNothing holds → AllGo holds w → (c : ℕ) → (x : Option CellContents) → entry_at w.cells c ≡ x → is_some x ≡ false
   plain-entry plain all c None e = refl
   plain-entry plain all c (Some x) e = absurd (plain-cell plain c (all.cells c (ap is_some e)))
 

@@ -1,24 +1,24 @@
 -- What the closing of a world does
 use Rattle.std.specs.Prelude.{ℕ, zero, suc, ◌+◌, ◌-◌, ◌<◌, ◌≡◌, ◌≢◌, ◌↔◌, AllPairs, Contains, IsSome, List, [], ◌∷◌, length, map, slice_get, Option, None, Some}
-use Rattle.sdd_store.specs.Time.{Time, pace_of, without_waiting}
-use Rattle.sdd_store.specs.Table.{entry_at}
-use Rattle.sdd_store.specs.Tally.{one_reclaimed}
-use Rattle.sdd_store.specs.declared.tally.Tally.{Tally}
-use Rattle.sdd_store.specs.declared.standing.Standing.{Standing}
-use Rattle.sdd_store.specs.declared.standing.Standing.TheVariants.{Owned, Raw, Shared, Retired, Private as privately}
+use Rattle.sdd_participants.specs.EpochState.{EpochState, pace_of, without_waiting}
+use Rattle.sdd_participants.specs.Slab.{entry_at}
+use Rattle.sdd_participants.specs.Tally.{one_reclaimed}
+use Rattle.sdd_participants.specs.declared.tally.Tally.{Tally}
+use Rattle.sdd_participants.specs.declared.standing.Standing.{Standing}
+use Rattle.sdd_participants.specs.declared.standing.Standing.TheVariants.{Owned, Raw, Shared, Retired, Private as privately}
 use Rattle.sdd_standings.specs.Slots.{IsWaiting}
-use Rattle.sdd_base.specs.Holding.{Holding, owned, shared, atomic_owned, atomic_shared, atomic_raw}
-use Rattle.sdd_base.specs.World.{World, place_at, standing_at, value_at}
-use Rattle.sdd_base.specs.Steps.{changed, held_in}
-use Rattle.sdd_base.specs.Whole.{taken, IsCounted}
-use Rattle.sdd_base.specs.Accounts.{owner_count}
-use Rattle.sdd_inside.specs.Closing.{paced}
+use Rattle.sdd_space.specs.OwnerOrCell.{OwnerOrCell, owned, shared, atomic_owned, atomic_shared, atomic_raw}
+use Rattle.sdd_space.specs.World.{World, place_at, standing_at, value_at}
+use Rattle.sdd_space.specs.Steps.{changed, held_in}
+use Rattle.sdd_space.specs.Whole.{taken, IsCounted}
+use Rattle.sdd_space.specs.Accounts.{owner_count}
+use Rattle.sdd_world_core.specs.Closing.{paced}
 
 -- nothing waits with anyone, nor at the place of anyone who has ended
-abbrev pub emptied : Time → Time
+abbrev pub emptied : EpochState → EpochState
 emptied t = record t { places = map without_waiting t.places }
 
-module _ {T : Type 0} (holds : T → List Holding) where
+module _ {T : Type 0} (holds : T → List OwnerOrCell) where
   -- a change of p, by which it finds no other count, and doesn't count down
   abbrev pub aged_out : World T → ℕ → World T
   aged_out w p = paced (changed holds w p) p (pace_of (place_at w p))
@@ -29,7 +29,7 @@ module _ {T : Type 0} (holds : T → List Holding) where
   all_aged_out w (p ∷ ps) = all_aged_out (aged_out w p) ps
 
 -- by such changes what waited was reclaimed, with what it gave up in turn; time is as before, but nothing waits
-pub record Closes {T : Type 0} (holds : T → List Holding) (old new : World T) : Type 0 where
+pub record Closes {T : Type 0} (holds : T → List OwnerOrCell) (old new : World T) : Type 0 where
   pub changes : (places : List ℕ) × (new ≡ all_aged_out holds old places)
   pub time : new.time ≡ emptied old.time
   pub home : new.home ≡ old.home
@@ -50,7 +50,7 @@ holder (of_value j i) = the_item j
 holder (of_cell c) = the_cell c
 
 -- the slot whose item it owns, if it is an owner
-abbrev pub slot_owned : Option Holding → Option ℕ
+abbrev pub slot_owned : Option OwnerOrCell → Option ℕ
 slot_owned None = None
 slot_owned (Some (owned k home)) = Some k
 slot_owned (Some (shared k home)) = Some k
@@ -59,7 +59,7 @@ slot_owned (Some (atomic_shared c home)) = None
 slot_owned (Some (atomic_raw c home)) = None
 
 -- the number of the cell, if it is one
-abbrev pub cell_held : Option Holding → Option ℕ
+abbrev pub cell_held : Option OwnerOrCell → Option ℕ
 cell_held None = None
 cell_held (Some (owned k home)) = None
 cell_held (Some (shared k home)) = None
@@ -76,14 +76,14 @@ with_fewer n (Some (Shared m)) = Some (Shared (m - n))
 with_fewer n (Some Retired) = Some Retired
 with_fewer n (Some (privately c)) = Some (privately c)
 
-module _ {T : Type 0} (holds : T → List Holding) where
+module _ {T : Type 0} (holds : T → List OwnerOrCell) where
   -- what a value holds at this index
-  abbrev pub held_by : Option T → ℕ → Option Holding
+  abbrev pub held_by : Option T → ℕ → Option OwnerOrCell
   held_by None i = None
   held_by (Some value) i = slice_get (holds value) i
 
   -- what the value in the slot holds at this index
-  abbrev pub held_at : World T → ℕ → ℕ → Option Holding
+  abbrev pub held_at : World T → ℕ → ℕ → Option OwnerOrCell
   held_at w j i = held_by (value_at w j) i
 
   -- the slot whose item the owner is of
@@ -92,21 +92,21 @@ module _ {T : Type 0} (holds : T → List Holding) where
   owns w (of_cell c) = held_in (entry_at w.cells c)
 
 -- distinct owners of the slot's item, as many as it has
-pub record AreAllOf {T : Type 0} (holds : T → List Holding) (w : World T) (k : ℕ) (owners : List Owner) : Type 0 where
+pub record AreAllOf {T : Type 0} (holds : T → List OwnerOrCell) (w : World T) (k : ℕ) (owners : List Owner) : Type 0 where
   pub each : (o : Owner) → Contains owners o → owns holds w o ≡ Some k
   pub distinct : AllPairs ◌≢◌ owners
   pub some : 0 < length owners
   pub all : length owners ≡ owner_count (standing_at w k)
 
 -- what goes with what waits: an item that waits itself, or whose owners are all held by what goes; and a cell that the value of such an item holds
-pub data Goes {T : Type 0} (holds : T → List Holding) (w : World T) : Holder → Type 0 where
+pub data Goes {T : Type 0} (holds : T → List OwnerOrCell) (w : World T) : Holder → Type 0 where
   waits : (k : ℕ) → IsWaiting (standing_at w k) → Goes holds w (the_item k)
   given : (k : ℕ) (owners : List Owner) → AreAllOf holds w k owners → ((o : Owner) → Contains owners o → Goes holds w (holder o)) →
       Goes holds w (the_item k)
   held : (j i c : ℕ) → cell_held (held_at holds w j i) ≡ Some c → Goes holds w (the_item j) → Goes holds w (the_cell c)
 
 -- all that is out goes with what waits
-pub record AllGo {T : Type 0} (holds : T → List Holding) (w : World T) : Type 0 where
+pub record AllGo {T : Type 0} (holds : T → List OwnerOrCell) (w : World T) : Type 0 where
   pub slots : (k : ℕ) → IsSome (standing_at w k) → Goes holds w (the_item k)
   pub cells : (c : ℕ) → IsSome (entry_at w.cells c) → Goes holds w (the_cell c)
 
@@ -116,7 +116,7 @@ with_reclaimed zero t = t
 with_reclaimed (suc n) t = one_reclaimed (with_reclaimed n t)
 
 -- the item stays, with its value; exactly those of its owners are given up whose holder goes
-pub record Stays {T : Type 0} (holds : T → List Holding) (old new : World T) (k : ℕ) : Type 0 where
+pub record Stays {T : Type 0} (holds : T → List OwnerOrCell) (old new : World T) (k : ℕ) : Type 0 where
   pub given : List Owner
   pub distinct : AllPairs ◌≢◌ given
   pub all : (o : Owner) → (Contains given o ↔ ((owns holds old o ≡ Some k) × Goes holds old (holder o)))
@@ -124,7 +124,7 @@ pub record Stays {T : Type 0} (holds : T → List Holding) (old new : World T) (
   pub value : value_at new k ≡ value_at old k
 
 -- what goes is free, and its items are counted as reclaimed; everything else is as before, but for the owners that went
-pub record Sweeps {T : Type 0} (holds : T → List Holding) (old new : World T) : Type 0 where
+pub record Sweeps {T : Type 0} (holds : T → List OwnerOrCell) (old new : World T) : Type 0 where
   pub gone : (k : ℕ) → Goes holds old (the_item k) → (standing_at new k ≡ None) × (value_at new k ≡ None)
   pub kept : (k : ℕ) → ¬ (Goes holds old (the_item k)) → Stays holds old new k
   pub cells_gone : (c : ℕ) → Goes holds old (the_cell c) → entry_at new.cells c ≡ None

@@ -1,34 +1,34 @@
 //! What a script, or a test, needs of a world beyond the public surface.
 ghost use Rattle.std.specs.Prelude.{◌≡◌, ◌↔◌, ◌+◌, ◌^◌, ◌<◌, ◌≤◌, ℕ, IfOk, IsSome, IsTrue, MatchResult, Some, map};
-ghost use Rattle.sdd_store.specs.Time.{is_open, phase_at};
-ghost use Rattle.sdd_base.specs.World.{IsPlaceOf, place_at, standing_at, value_at};
-ghost use Rattle.sdd_base.specs.Guard.{reader_of};
-ghost use Rattle.sdd_base.specs.Seat.{reader_at};
-ghost use Rattle.sdd_base.specs.Ptr.{slot_named, shown_by};
-ghost use Rattle.sdd_base.specs.Under.{Stays};
-ghost use Rattle.sdd_base.specs.Owned.{slot_of, slots_home, cell_of, cells_home};
-ghost use Rattle.sdd_base.specs.Shared as shared;
-ghost use Rattle.sdd_token.specs.Shares as shares;
+ghost use Rattle.sdd_participants.specs.EpochState.{is_open, phase_at};
+ghost use Rattle.sdd_space.specs.World.{IsPlaceOf, place_at, standing_at, value_at};
+ghost use Rattle.sdd_space.specs.Guard.{reader_of};
+ghost use Rattle.sdd_space.specs.CallerId.{reader_at};
+ghost use Rattle.sdd_space.specs.Ptr.{slot_named, shown_by};
+ghost use Rattle.sdd_space.specs.Under.{Stays};
+ghost use Rattle.sdd_space.specs.Owned.{slot_of, slots_home, cell_of, cells_home};
+ghost use Rattle.sdd_space.specs.Shared as shared;
+ghost use Rattle.sdd_rights.specs.SharedRights as shares;
 ghost use Rattle.sdd_standings.specs.Slots.{IsSharedBy};
-ghost use Rattle.sdd_store.specs.Table.{IsFull};
-ghost use Rattle.sdd_store.specs.declared.standing.Standing.TheVariants as standing;
-ghost use Rattle.sdd_base.specs.Steps.{reclaims, retired, owner_given, cell_closed, without_cell, with_standing};
-ghost use Rattle.sdd_base.specs.Out.{IsNullCell};
-ghost use Rattle.sdd_base.specs.Collector as collectors;
+ghost use Rattle.sdd_participants.specs.Slab.{IsFull};
+ghost use Rattle.sdd_participants.specs.declared.standing.Standing.TheVariants as standing;
+ghost use Rattle.sdd_space.specs.Steps.{reclaims, retired, owner_given, cell_closed, without_cell, with_standing};
+ghost use Rattle.sdd_space.specs.Out.{IsNullCell};
+ghost use Rattle.sdd_space.specs.Collector as collectors;
 ghost use Rattle.sdd_world.specs.Place.{index_of};
 
 use crate::world::{Place, World};
-use sdd_base::inner::{
+use sdd_space::inner::{
     ptr_to, right_in_shared, right_of_cell, right_of_collector, right_of_owner, right_of_shared,
     right_of_shared_cell, shared_of,
 };
-use sdd_base::{AtomicOwned, AtomicShared, Guard, Item, Owned, PrivateCollector, Ptr, Shared};
+use sdd_space::{AtomicOwned, AtomicShared, Guard, Item, Owned, PrivateCollector, Ptr, Shared};
 use sdd_core::Refused;
-use sdd_store::{Job, Standing, What};
-use sdd_token::{Kind, Shares};
+use sdd_participants::{Job, Standing, LimboEntry};
+use sdd_rights::{StandingKind, SharedRights};
 
 /// The items that the next opening of a participant reclaims, and the jobs that it runs.
-pub fn reclaims_next<'w, T: Item<T>, J: Job>(world: &'w World<T, J>, place: &Place) -> &'w [What]
+pub fn reclaims_next<'w, T: Item<T>, J: Job>(world: &'w World<T, J>, place: &Place) -> &'w [LimboEntry]
     requires { IsPlaceOf world.now (index_of place.now) }
     ensures { result.now ≡ reclaims world.now (index_of place.now) }
 {
@@ -97,7 +97,7 @@ pub fn leave<T: Item<T>, J: Job>(world: &mut World<T, J>, owner: Owned<T>)
     ensures owned { standing_at world.old (slot_of owner) ≡ Some standing.Owned }
     ensures left { (p : ℕ) × IsSome (phase_at world.old.time p) × (world.new ≡ retired world.old p (slot_of owner)) }
 {
-    world.leave(right_of_owner(owner), Kind::Owned);
+    world.leave(right_of_owner(owner), StandingKind::Owned);
 }
 
 /// The shared owner goes: if it was the last, its item waits at some place that isn't free.
@@ -108,7 +108,7 @@ pub fn leave_shared<T: Item<T>, J: Job>(world: &mut World<T, J>, owner: Shared<T
     ensures left { (p : ℕ) × IsSome (phase_at world.old.time p)
         × (world.new ≡ owner_given world.old p (shared.slot_of owner) (standing_at world.old (shared.slot_of owner))) }
 {
-    world.leave(right_of_shared(owner), Kind::Shared);
+    world.leave(right_of_shared(owner), StandingKind::Shared);
 }
 
 /// The item in a slot that is out as raw waits at some place that isn't free.
@@ -126,7 +126,7 @@ pub fn leave_cell<T: Item<T>, J: Job>(world: &mut World<T, J>, cell: AtomicOwned
     requires home { cells_home cell ≡ world.old.home.cells }
     ensures { (p : ℕ) × IsSome (phase_at world.old.time p) × (world.new ≡ cell_closed world.old p (cell_of cell)) }
 {
-    world.leave_cell(right_of_cell(cell), Kind::Owned);
+    world.leave_cell(right_of_cell(cell), StandingKind::Owned);
 }
 
 /// The cell is free, and some place that isn't free is given the shared owner that it held.
@@ -135,7 +135,7 @@ pub fn leave_shared_cell<T: Item<T>, J: Job>(world: &mut World<T, J>, cell: Atom
     requires home { shared.cells_home cell ≡ world.old.home.cells }
     ensures { (p : ℕ) × IsSome (phase_at world.old.time p) × (world.new ≡ cell_closed world.old p (shared.cell_of cell)) }
 {
-    world.leave_cell(right_of_shared_cell(cell), Kind::Shared);
+    world.leave_cell(right_of_shared_cell(cell), StandingKind::Shared);
 }
 
 /// A collector's cell is free. What waits for the collector waits on, and goes with the world at latest.
@@ -154,7 +154,7 @@ pub fn add_owners<T: Item<T>, J: Job>(
     world: &mut World<T, J>,
     owner: &Shared<T>,
     more: u64,
-) -> Result<Shares, Refused>
+) -> Result<SharedRights, Refused>
     requires home { shared.slots_home owner.now ≡ world.old.home.slots }
     requires some { 1 ≤ more }
     ensures home { IfOk result (λ several. shares.home_of several ≡ world.old.home.slots) }
@@ -168,12 +168,12 @@ pub fn add_owners<T: Item<T>, J: Job>(
 }
 
 /// Owners go that came in one piece, all but one, which is an owner as any other. With it the item has one at least, so nothing waits.
-pub fn let_go_but_one<T: Item<T>, J: Job>(world: &mut World<T, J>, several: Shares) -> Shared<T>
+pub fn release_all_but_one<T: Item<T>, J: Job>(world: &mut World<T, J>, several: SharedRights) -> Shared<T>
     requires { shares.home_of several ≡ world.old.home.slots }
     ensures home { shared.slots_home result ≡ world.old.home.slots }
     ensures slot { shared.slot_of result ≡ shares.number_of several }
     ensures exact { (others : ℕ) × IsSharedBy (others + shares.count_of several) (standing_at world.old (shares.number_of several))
         × (world.new ≡ with_standing world.old (shares.number_of several) (standing.Shared (others + 1))) }
 {
-    shared_of(world.core.let_go_but_one(several))
+    shared_of(world.core.release_all_but_one(several))
 }

@@ -1,18 +1,18 @@
 ghost use Rattle.std.specs.Prelude.{◌≡◌, option_copied};
-ghost use Rattle.sdd_base.specs.World.{World, IsPlaceOf};
+ghost use Rattle.sdd_space.specs.World.{World, IsPlaceOf};
 ghost use Rattle.sdd_world.specs.Place.{index_of};
 ghost use Rattle.sdd_world.specs.Shown.{one_value};
-ghost use Rattle.sdd_token.specs.Right.{number_of};
-ghost use Rattle.sdd_base.specs.Ptr.{shown_by};
+ghost use Rattle.sdd_rights.specs.Right.{number_of};
+ghost use Rattle.sdd_space.specs.Ptr.{shown_by};
 
 use crate::world::{Place, World};
-use sdd_base::{
-    Caller, Cells, Collectors, Deferrals, Edits, Guard, Guards, Item, Items, Look, LookThrough,
+use sdd_space::{
+    Caller, Cells, Collectors, Deferrals, InPlaceItems, Guard, Guards, Item, Items, Look, LookThrough,
     Ptr, RawCells, RawItems, RawPtr, Several, SharedItems, Shows, Space, inner,
 };
 use sdd_core::{Refused, Tag};
-use sdd_store::{Cell, Idle, Job, Pointer};
-use sdd_token::{Kind, RawRight, Right, Shares};
+use sdd_participants::{CellContents, Idle, Job, RawCellContents};
+use sdd_rights::{StandingKind, RawRight, Right, SharedRights};
 
 /// One participant's turn at a world: the space in which it makes its calls.
 pub struct Turn<'w, T: Item<T>, J: Job = Idle> {
@@ -45,7 +45,7 @@ impl<T: Item<T>, J: Job> World<T, J> {
 
 impl<T: Item<T>, J: Job> Shows<T> for World<T, J> {
     ghost use Rattle.std.specs.Prelude.{◌≡◌, Some};
-    ghost use Rattle.sdd_base.specs.World.{value_at};
+    ghost use Rattle.sdd_space.specs.World.{value_at};
 
     ghost home = { λ w. w.home };
 
@@ -83,7 +83,7 @@ impl<T: Item<T>, J: Job> LookThrough<T> for World<T, J> {
 
 impl<T: Item<T>, J: Job> Shows<T> for Turn<'_, T, J> {
     ghost use Rattle.std.specs.Prelude.{◌≡◌, Some};
-    ghost use Rattle.sdd_base.specs.World.{value_at};
+    ghost use Rattle.sdd_space.specs.World.{value_at};
 
     ghost home = { λ t. t.world.now.home };
 
@@ -123,8 +123,8 @@ impl<T: Item<T>, J: Job> LookThrough<T> for Turn<'_, T, J> {
 
 impl<T: Item<T>, J: Job> Caller<T> for Turn<'_, T, J> {
     ghost use Rattle.std.specs.Prelude.{refl};
-    ghost use Rattle.sdd_base.specs.Seat.{seat_on};
-    ghost use Rattle.sdd_base.specs.World.{place_at};
+    ghost use Rattle.sdd_space.specs.CallerId.{seat_on};
+    ghost use Rattle.sdd_space.specs.World.{place_at};
 
     ghost seat = { λ t. seat_on t.world.now t.place t.world.ghost_name };
 
@@ -147,7 +147,7 @@ impl<T: Item<T>, J: Job> Caller<T> for Turn<'_, T, J> {
 }
 
 impl<T: Item<T>, J: Job> Guards<T> for Turn<'_, T, J> {
-    fn open_guard(&mut self) -> Result<Guard, Refused> {
+    fn new_guard(&mut self) -> Result<Guard, Refused> {
         if !self.world.time().can_nest(self.place) {
             return Err(Refused::TooManyGuards);
         }
@@ -169,9 +169,9 @@ impl<T: Item<T>, J: Job> Guards<T> for Turn<'_, T, J> {
         self.world.time().has_garbage(self.place)
     }
 
-    fn stir(&mut self) {
+    fn set_has_garbage(&mut self) {
         let world = &mut *self.world;
-        world.core.stir(self.place);
+        world.core.set_has_garbage(self.place);
     }
 
     fn accelerate(&mut self) {
@@ -181,21 +181,21 @@ impl<T: Item<T>, J: Job> Guards<T> for Turn<'_, T, J> {
 }
 
 impl<T: Item<T>, J: Job> Items<T> for Turn<'_, T, J> {
-    ghost use Rattle.sdd_store.specs.Table.{IsFull};
+    ghost use Rattle.sdd_participants.specs.Slab.{IsFull};
 
     ghost is_used_up = { λ t. IsFull t.world.now.standings };
 
     ghost used_up_is_full = { λ _ _. (λ h. h, λ h. h) };
 
-    fn make(&mut self, value: T, kind: Kind) -> Result<Right, (T, Refused)> {
+    fn new_item(&mut self, value: T, kind: StandingKind) -> Result<Right, (T, Refused)> {
         let world = &mut *self.world;
-        match world.core.make(value, kind) {
+        match world.core.new_item(value, kind) {
             Ok(right) => Ok(right),
             Err(value) => Err((value, Refused::NoSlot)),
         }
     }
 
-    fn make_with<F: FnOnce() -> T>(&mut self, make: F, kind: Kind) -> Result<Right, (F, Refused)> {
+    fn new_item_with<F: FnOnce() -> T>(&mut self, make: F, kind: StandingKind) -> Result<Right, (F, Refused)> {
         let world = &mut *self.world;
         if world.core.is_full() {
             return Err((make, Refused::NoSlot));
@@ -203,14 +203,14 @@ impl<T: Item<T>, J: Job> Items<T> for Turn<'_, T, J> {
         Ok(world.core.fill(make(), kind))
     }
 
-    fn guarded<'g>(&mut self, right: &Right, guard: &'g Guard) -> &'g T {
+    fn get_guarded<'g>(&mut self, right: &Right, guard: &'g Guard) -> &'g T {
         let world = &mut *self.world;
         world.core.lend(self.place, right, inner::tenure_of(guard))
     }
 
-    fn let_go(&mut self, right: Right, kind: Kind) -> bool {
+    fn release(&mut self, right: Right, kind: StandingKind) -> bool {
         let world = &mut *self.world;
-        world.core.let_go(self.place, right, kind)
+        world.core.release(self.place, right, kind)
     }
 
     fn slots(&self) -> u64 {
@@ -227,26 +227,26 @@ impl<T: Item<T>, J: Job> Items<T> for Turn<'_, T, J> {
     fn owned_is_shown(&mut self, _right: &Right) {}
 }
 
-impl<T: Item<T>, J: Job> Edits<T> for Turn<'_, T, J> {
+impl<T: Item<T>, J: Job> InPlaceItems<T> for Turn<'_, T, J> {
     ghost keeps_right = { Unit {0} };
 
-    fn edit<R, F: FnOnce(&mut T) -> R>(
+    fn get_mut<R, F: FnOnce(&mut T) -> R>(
         &mut self,
         right: &mut Right,
-        kind: Kind,
+        kind: StandingKind,
         f: F,
     ) -> Result<R, (F, Refused)> {
         let world = &mut *self.world;
         if let Some(refused) = world.core.refused_in_place(right, kind) {
             return Err((f, refused));
         }
-        Ok(world.core.edit(right, f))
+        Ok(world.core.get_mut(right, f))
     }
 
-    fn drop_in_place(&mut self, right: Right, kind: Kind) -> Result<bool, (Right, Refused)> {
+    fn drop_in_place(&mut self, right: Right, kind: StandingKind) -> Result<bool, (Right, Refused)> {
         let world = &mut *self.world;
         match world.core.refused_in_place(&right, kind) {
-            Some(Refused::NotAlone) => Ok(world.core.let_go(self.place, right, kind)),
+            Some(Refused::NotAlone) => Ok(world.core.release(self.place, right, kind)),
             Some(refused) => Err((right, refused)),
             None => {
                 world.core.drop_in_place(self.place, right);
@@ -257,7 +257,7 @@ impl<T: Item<T>, J: Job> Edits<T> for Turn<'_, T, J> {
 }
 
 impl<T: Item<T>, J: Job> Several<T> for Turn<'_, T, J> {
-    fn make_several(&mut self, value: T, owners: u64) -> Result<(Right, Shares), (T, Refused)> {
+    fn make_several(&mut self, value: T, owners: u64) -> Result<(Right, SharedRights), (T, Refused)> {
         let world = &mut *self.world;
         match world.core.make_several(value, owners) {
             Ok(made) => Ok(made),
@@ -266,35 +266,35 @@ impl<T: Item<T>, J: Job> Several<T> for Turn<'_, T, J> {
     }
 
     #[inline]
-    fn split_off(&mut self, _right: &Right, several: Shares) -> (Right, Option<Shares>) {
+    fn split_off(&mut self, _right: &Right, several: SharedRights) -> (Right, Option<SharedRights>) {
         several.split_off()
     }
 }
 
 impl<T: Item<T>, J: Job> SharedItems<T> for Turn<'_, T, J> {
-    fn add_owner(&mut self, right: &Right) -> Result<Right, Refused> {
+    fn clone_owner(&mut self, right: &Right) -> Result<Right, Refused> {
         let world = &mut *self.world;
-        world.core.add_owner(right)
+        world.core.clone_owner(right)
     }
 
-    fn upgrade(&mut self, slot: u32) -> Result<Option<Right>, Refused> {
+    fn get_shared(&mut self, slot: u32) -> Result<Option<Right>, Refused> {
         let world = &mut *self.world;
-        world.core.upgrade(slot)
+        world.core.get_shared(slot)
     }
 }
 
 impl<T: Item<T>, J: Job> RawItems<T> for Turn<'_, T, J> {
-    fn put_out_raw(&mut self, right: Right) -> u32 {
+    fn into_raw(&mut self, right: Right) -> u32 {
         let world = &mut *self.world;
-        world.core.put_out_raw(right)
+        world.core.into_raw(right)
     }
 
-    fn take_back_raw(&mut self, slot: u32) -> Option<Right> {
+    fn from_raw(&mut self, slot: u32) -> Option<Right> {
         let world = &mut *self.world;
-        world.core.take_back_raw(slot)
+        world.core.from_raw(slot)
     }
 
-    fn guarded_raw<'g>(&mut self, slot: u32, guard: &'g Guard) -> Option<&'g T> {
+    fn get_guarded_raw<'g>(&mut self, slot: u32, guard: &'g Guard) -> Option<&'g T> {
         let world = &mut *self.world;
         world
             .core
@@ -303,20 +303,20 @@ impl<T: Item<T>, J: Job> RawItems<T> for Turn<'_, T, J> {
 }
 
 impl<T: Item<T>, J: Job> Cells<T> for Turn<'_, T, J> {
-    fn make_cell(
+    fn cell_from(
         &mut self,
         held: Option<Right>,
         tag: Tag,
-        kind: Kind,
+        kind: StandingKind,
     ) -> Result<Right, (Option<Right>, Refused)> {
         let world = &mut *self.world;
-        match world.core.make_cell(held, tag, kind) {
+        match world.core.cell_from(held, tag, kind) {
             Ok(cell) => Ok(cell),
             Err(held) => Err((held, Refused::NoCell)),
         }
     }
 
-    fn make_in_cell(&mut self, value: T, kind: Kind) -> Result<Right, (T, Refused)> {
+    fn new_in_cell(&mut self, value: T, kind: StandingKind) -> Result<Right, (T, Refused)> {
         let world = &mut *self.world;
         if world.core.is_full() {
             return Err((value, Refused::NoSlot));
@@ -328,7 +328,7 @@ impl<T: Item<T>, J: Job> Cells<T> for Turn<'_, T, J> {
         Ok(world.core.fill_cell(Some(right), Tag::None, kind))
     }
 
-    fn cell(&mut self, cell: &Right) -> Cell {
+    fn cell(&mut self, cell: &Right) -> CellContents {
         let world = &mut *self.world;
         world.core.cell(cell)
     }
@@ -344,23 +344,23 @@ impl<T: Item<T>, J: Job> Cells<T> for Turn<'_, T, J> {
         (world.core.swap(cell, new, tag), old)
     }
 
-    fn exchange<'g>(
+    fn compare_exchange<'g>(
         &mut self,
         cell: &Right,
-        current: Cell,
+        current: CellContents,
         new: Option<Right>,
         tag: Tag,
         guard: &'g Guard,
     ) -> Result<(Option<Right>, Ptr<'g, T>), (Option<Right>, Ptr<'g, T>)> {
         let world = &mut *self.world;
         let part = inner::tenure_of(guard);
-        match world.core.exchange(cell, current, new, tag) {
+        match world.core.compare_exchange(cell, current, new, tag) {
             Ok(old) => Ok((old, world.core.load(self.place, cell, part))),
             Err(back) => Err((back, world.core.load(self.place, cell, part))),
         }
     }
 
-    fn set_tag_if<F: FnMut(RawPtr<T>) -> bool>(
+    fn update_tag_if<F: FnMut(RawPtr<T>) -> bool>(
         &mut self,
         cell: &Right,
         tag: Tag,
@@ -374,45 +374,45 @@ impl<T: Item<T>, J: Job> Cells<T> for Turn<'_, T, J> {
         Ok(true)
     }
 
-    fn copy_cell(&mut self, cell: &Right, guard: &Guard) -> Result<Right, Refused> {
+    fn clone_cell(&mut self, cell: &Right, guard: &Guard) -> Result<Right, Refused> {
         let _ = guard;
         let world = &mut *self.world;
-        world.core.copy_cell(cell)
+        world.core.clone_cell(cell)
     }
 
-    fn take_cell(&mut self, cell: Right) -> Option<Right> {
+    fn into_contents(&mut self, cell: Right) -> Option<Right> {
         let world = &mut *self.world;
-        world.core.take_cell(cell)
+        world.core.into_contents(cell)
     }
 }
 
 impl<T: Item<T>, J: Job> RawCells<T> for Turn<'_, T, J> {
-    fn make_raw_cell(&mut self, pointer: Pointer) -> Result<RawRight, Refused> {
+    fn new_raw_cell(&mut self, pointer: RawCellContents) -> Result<RawRight, Refused> {
         let world = &mut *self.world;
-        match world.core.make_raw_cell(pointer) {
+        match world.core.new_raw_cell(pointer) {
             Some(cell) => Ok(cell),
             None => Err(Refused::NoCell),
         }
     }
 
-    fn pointer(&mut self, cell: &RawRight) -> Pointer {
+    fn pointer(&mut self, cell: &RawRight) -> RawCellContents {
         let world = &mut *self.world;
         world.core.pointer(cell)
     }
 
-    fn swap_pointer(&mut self, cell: &RawRight, new: Pointer) -> Pointer {
+    fn swap_raw(&mut self, cell: &RawRight, new: RawCellContents) -> RawCellContents {
         let world = &mut *self.world;
         let old = world.core.pointer(cell);
         world.core.point(cell, new);
         old
     }
 
-    fn exchange_pointer(
+    fn compare_exchange_raw(
         &mut self,
         cell: &RawRight,
-        current: Pointer,
-        new: Pointer,
-    ) -> Result<(), Pointer> {
+        current: RawCellContents,
+        new: RawCellContents,
+    ) -> Result<(), RawCellContents> {
         let world = &mut *self.world;
         let now = world.core.pointer(cell);
         if now != current {
@@ -422,7 +422,7 @@ impl<T: Item<T>, J: Job> RawCells<T> for Turn<'_, T, J> {
         Ok(())
     }
 
-    fn tag_pointer_if<F: FnMut(RawPtr<T>) -> bool>(
+    fn update_raw_tag_if<F: FnMut(RawPtr<T>) -> bool>(
         &mut self,
         cell: &RawRight,
         tag: Tag,
@@ -439,7 +439,7 @@ impl<T: Item<T>, J: Job> RawCells<T> for Turn<'_, T, J> {
         Ok(true)
     }
 
-    fn update_pointer<F: FnMut(RawPtr<T>) -> Option<RawPtr<T>>>(
+    fn fetch_update_raw<F: FnMut(RawPtr<T>) -> Option<RawPtr<T>>>(
         &mut self,
         cell: &RawRight,
         mut f: F,
@@ -460,7 +460,7 @@ impl<T: Item<T>, J: Job> RawCells<T> for Turn<'_, T, J> {
 }
 
 impl<T: Item<T>, J: Job> Collectors<T> for Turn<'_, T, J> {
-    fn collect(&mut self, collector: &RawRight, right: Right, kind: Kind) -> bool {
+    fn collect(&mut self, collector: &RawRight, right: Right, kind: StandingKind) -> bool {
         let world = &mut *self.world;
         let number = collector.number();
         world.core.collect(self.place, number, right, kind)
@@ -481,9 +481,9 @@ impl<T: Item<T>, J: Job> Collectors<T> for Turn<'_, T, J> {
 impl<T: Item<T>, J: Job> Deferrals<T> for Turn<'_, T, J> {
     type Job = J;
 
-    fn defer(&mut self, job: J) -> Result<u32, (J, Refused)> {
+    fn defer_execute(&mut self, job: J) -> Result<u32, (J, Refused)> {
         let world = &mut *self.world;
-        match world.core.defer(self.place, job) {
+        match world.core.defer_execute(self.place, job) {
             Ok(number) => Ok(number),
             Err(job) => Err((job, Refused::NoJob)),
         }

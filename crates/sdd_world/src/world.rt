@@ -1,25 +1,25 @@
 ghost use Rattle.std.specs.Prelude.{◌≡◌, ◌≢◌, ℕ, ◌+◌, ◌<◌, ◌≤◌, ◌⊎◌, [], false, map, length, Some, None, Option, IfOk, IfSome, MatchOption, MatchResult, IsSome, IsTrue, ◌↔◌};
-ghost use Rattle.sdd_token.specs.Right.{number_of, home_of, kind_of, raw_number_of, raw_home_of};
+ghost use Rattle.sdd_rights.specs.Right.{number_of, home_of, kind_of, raw_number_of, raw_home_of};
 ghost use Rattle.sdd_standings.specs.Slots.{IsOwnedBy};
-ghost use Rattle.sdd_store.specs.Time.{CanNest, phase_at, IsVacant, IsCrowded, is_open, due_next};
-ghost use Rattle.sdd_store.specs.Table.{IsEmptyAt, IsFull};
-ghost use Rattle.sdd_base.specs.Holding.{AreOf};
-ghost use Rattle.sdd_base.specs.World.{World, IsGuarded, IsPlaceOf, IsNew, place_at, standing_at, value_at};
-ghost use Rattle.sdd_base.specs.Guard.{reader_of};
-ghost use Rattle.sdd_base.specs.Seat.{reader_at};
-ghost use Rattle.sdd_base.specs.Under.{Stays};
-ghost use Rattle.sdd_base.specs.Out.{IsNullCell, out};
-ghost use Rattle.sdd_base.specs.Limits.{AreInRange};
-ghost use Rattle.sdd_base.specs.Steps.{made, retired, owner_given, nulled, cell_closed, without_cell, opened, changed, closed, stirred, accelerated, registered, ended, reclaims};
+ghost use Rattle.sdd_participants.specs.EpochState.{CanNest, phase_at, IsVacant, IsCrowded, is_open, due_next};
+ghost use Rattle.sdd_participants.specs.Slab.{IsEmptyAt, IsFull};
+ghost use Rattle.sdd_space.specs.OwnerOrCell.{AreOf};
+ghost use Rattle.sdd_space.specs.World.{World, IsGuarded, IsPlaceOf, IsNew, place_at, standing_at, value_at};
+ghost use Rattle.sdd_space.specs.Guard.{reader_of};
+ghost use Rattle.sdd_space.specs.CallerId.{reader_at};
+ghost use Rattle.sdd_space.specs.Under.{Stays};
+ghost use Rattle.sdd_space.specs.Out.{IsNullCell, out};
+ghost use Rattle.sdd_space.specs.Limits.{AreInRange};
+ghost use Rattle.sdd_space.specs.Steps.{made, retired, owner_given, nulled, cell_closed, without_cell, opened, changed, closed, stirred, accelerated, registered, ended, reclaims};
 
 mod closing;
 mod laws;
 
-use sdd_base::{Guard, Item, Limits, inner};
+use sdd_space::{Guard, Item, Limits, inner};
 use sdd_core::Refused;
-use sdd_inside::Core;
-use sdd_store::{Idle, Job, Standing, Tally, Time, What};
-use sdd_token::{Kind, RawRight, Right};
+use sdd_world_core::WorldCore;
+use sdd_participants::{Idle, Job, Standing, Tally, EpochState, LimboEntry};
+use sdd_rights::{StandingKind, RawRight, Right};
 use std::alloc::Global;
 use std::marker::Model;
 
@@ -27,16 +27,16 @@ use std::marker::Model;
 ///
 /// A world must be spent by `close`.
 pub struct World<T: Item<T>, J: Job = Idle> {
-    pub(crate) core: Core<T, J>,
-    pub(crate) spare: Vec<What>,
+    pub(crate) core: WorldCore<T, J>,
+    pub(crate) spare: Vec<LimboEntry>,
     alloc: Global,
 }
 
 impl<T: Item<T>, J: Job> Model for World<T, J> {
     ghost use Rattle.std.specs.Prelude.{◌≡◌, ◌≤◌, [], length, vec_capacity};
-    ghost use Rattle.sdd_base.specs.World.{World, most};
-    ghost use Rattle.sdd_base.specs.Whole.{IsWhole};
-    ghost use Rattle.sdd_inside.specs.Lending.{AreLent};
+    ghost use Rattle.sdd_space.specs.World.{World, most};
+    ghost use Rattle.sdd_space.specs.Whole.{IsWhole};
+    ghost use Rattle.sdd_world_core.specs.Lending.{AreLent};
 
     ghost Value = { World T };
 
@@ -90,7 +90,7 @@ impl<T: Item<T>, J: Job> World<T, J> {
             return Err(Refused::BadLimits);
         }
         let most = (limits.slots + limits.jobs) as usize;
-        let time = Time::new(
+        let time = EpochState::new(
             alloc,
             count,
             limits.participants as usize,
@@ -98,7 +98,7 @@ impl<T: Item<T>, J: Job> World<T, J> {
             most,
         )?;
         let spare = Vec::with_capacity(alloc, most)?;
-        let core = Core::new(
+        let core = WorldCore::new(
             alloc,
             time,
             limits.participants as u32,
@@ -150,7 +150,7 @@ impl<T: Item<T>, J: Job> World<T, J> {
     }
 
     /// The item of an owner of this kind waits at some place that isn't free, if it was the last.
-    pub(crate) fn leave(&mut self, right: Right, kind: Kind)
+    pub(crate) fn leave(&mut self, right: Right, kind: StandingKind)
         requires some { (p : ℕ) × IsSome (phase_at self.old.time p) }
         requires home { home_of right ≡ self.old.home.slots }
         requires kind { kind_of right ≡ kind }
@@ -171,7 +171,7 @@ impl<T: Item<T>, J: Job> World<T, J> {
     }
 
     /// A cell for owners of this kind is free, and some place that isn't free is given what it held.
-    pub(crate) fn leave_cell(&mut self, cell: Right, kind: Kind)
+    pub(crate) fn leave_cell(&mut self, cell: Right, kind: StandingKind)
         requires some { (p : ℕ) × IsSome (phase_at self.old.time p) }
         requires home { home_of cell ≡ self.old.home.cells }
         requires kind { kind_of cell ≡ kind }
@@ -223,14 +223,14 @@ impl<T: Item<T>, J: Job> World<T, J> {
         self.core.is_guarded()
     }
 
-    pub(crate) fn time(&self) -> &Time
+    pub(crate) fn time(&self) -> &EpochState
         ensures { result.now ≡ self.now.time }
     {
         self.core.time()
     }
 
     /// The items that the next opening of a place reclaims, and the jobs that it runs.
-    pub(crate) fn reclaims(&self, place: usize) -> &[What]
+    pub(crate) fn reclaims(&self, place: usize) -> &[LimboEntry]
         requires { IsPlaceOf self.now place }
         ensures { result.now ≡ reclaims self.now place }
     {

@@ -1,16 +1,16 @@
 //! What is always true of a participant, and of a lone one's world, as calls that give it out. They do nothing when the program runs.
 ghost use Rattle.std.specs.Prelude.{◌≡◌, ◌↔◌};
-ghost use Rattle.sdd_base.specs.Whole.{IsWhole};
-ghost use Rattle.sdd_base.specs.Left.{FourGuardsReclaim, GoesAtLatest, GoesInTime};
-ghost use Rattle.sdd_base.specs.Ledger.{LedgerLaws};
-ghost use Rattle.sdd_base.specs.Passing.{GuardsPass};
-ghost use Rattle.sdd_base.specs.Under.{KeepsFreshUnderGuards, KeepsUnderGuards};
-ghost use Rattle.sdd_base.specs.World.{World, IsGuarded, IsPlaceOf};
+ghost use Rattle.sdd_space.specs.Whole.{IsWhole};
+ghost use Rattle.sdd_space.specs.Left.{FourGuardsReclaim, GoesAtLatest, GoesInTime};
+ghost use Rattle.sdd_space.specs.Ledger.{LedgerLaws};
+ghost use Rattle.sdd_space.specs.Passing.{GuardsPass};
+ghost use Rattle.sdd_space.specs.Under.{KeepsFreshUnderGuards, KeepsUnderGuards};
+ghost use Rattle.sdd_space.specs.World.{World, IsGuarded, IsPlaceOf};
 ghost use Rattle.sdd_domain.specs.Local.{world_of};
-ghost use Rattle.sdd_domain.specs.Member.{IsLone};
+ghost use Rattle.sdd_domain.specs.LocalState.{IsLone};
 
 use super::Local;
-use sdd_base::Item;
+use sdd_space::Item;
 
 impl<T: Item<T>> Local<'_, T> {
     /// What the parts of its world keep true of each other: a value where a slot is taken, each item that waits once, the participant abreast of the

@@ -13,9 +13,9 @@ pub struct Bags {
 }
 
 impl Model for Bags {
-    ghost use Rattle.sdd_machine.specs.Bags.{Bagged, bagged_code, trios_of, AreTrios};
+    ghost use Rattle.sdd_machine.specs.Bags.{BagsOfPlaces, bagged_code, trios_of, AreTrios};
 
-    ghost Value = { Bagged };
+    ghost Value = { BagsOfPlaces };
 
     ghost coded = { bagged_code };
 

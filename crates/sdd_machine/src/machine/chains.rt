@@ -22,9 +22,9 @@ pub struct Chains {
 
 impl Model for Chains {
     ghost use Rattle.std.specs.Prelude.{length, map};
-    ghost use Rattle.sdd_machine.specs.Chains.{Linked, linked_code};
+    ghost use Rattle.sdd_machine.specs.Chains.{ChainedBags, linked_code};
 
-    ghost Value = { Linked };
+    ghost Value = { ChainedBags };
 
     ghost coded = { linked_code };
 

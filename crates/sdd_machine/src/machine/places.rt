@@ -23,7 +23,7 @@ pub struct Scan {
 
 /// What a place is doing, and the last count that it found.
 #[derive(Clone, Copy)]
-pub struct Post {
+pub struct PlacePhase {
     pub phase: Phase,
     pub found: u64,
 }
@@ -72,17 +72,17 @@ impl Phase {
     }
 }
 
-impl Post {
-    pub const FREE: Post = Post {
+impl PlacePhase {
+    pub const FREE: PlacePhase = PlacePhase {
         phase: Phase::Free,
         found: 0,
     };
 
-    pub fn freed(self) -> Post
+    pub fn freed(self) -> PlacePhase
         ensures { result ≡ freed_post self }
     {
         if self.phase.is_ended() {
-            Post {
+            PlacePhase {
                 phase: Phase::Free,
                 found: self.found,
             }
@@ -93,7 +93,7 @@ impl Post {
 }
 
 /// Frees the ended places.
-pub fn free_ended(posts: &mut [Post])
+pub fn free_ended(posts: &mut [PlacePhase])
     ensures { posts.new ≡ map freed_post posts.old }
 {
     for post in posts.iter_mut() {

@@ -1,15 +1,15 @@
 ghost use Rattle.std.specs.Prelude.{◌≡◌, ◌≢◌, [], ◌↔◌, ℕ, ◌⊎◌, IfErr, IfOk, IsOk, List, MatchResult};
-ghost use Rattle.sdd_store.specs.Time.{without_waiting, place_at, with_place};
-ghost use Rattle.sdd_base.specs.World.{World, IsGuarded, KeepsSizes, HasPlace, IsPlaceOf};
-ghost use Rattle.sdd_base.specs.Whole.{taken};
-ghost use Rattle.sdd_base.specs.Out.{out, HoldsNothing};
-ghost use Rattle.sdd_inside.specs.Closing.{NothingIsOut};
+ghost use Rattle.sdd_participants.specs.EpochState.{without_waiting, place_at, with_place};
+ghost use Rattle.sdd_space.specs.World.{World, IsGuarded, KeepsSizes, HasPlace, IsPlaceOf};
+ghost use Rattle.sdd_space.specs.Whole.{taken};
+ghost use Rattle.sdd_space.specs.Out.{out, HoldsNothing};
+ghost use Rattle.sdd_world_core.specs.Closing.{NothingIsOut};
 ghost use Rattle.sdd_world.specs.Closing.{aged_out, all_aged_out, Closes, AllGo, Accounts, Sweeps, with_reclaimed};
 
 use super::World;
-use sdd_base::Item;
+use sdd_space::Item;
 use sdd_core::Refused;
-use sdd_store::{Job, Tally};
+use sdd_participants::{Job, Tally};
 
 impl<T: Item<T>, J: Job> World<T, J> {
     /// Ends the world: reclaims what waits, with what it gives up in turn, and answers the tally. Participants need not have ended.

@@ -1,18 +1,18 @@
 //! What is always true of a world, as calls that give it out. They do nothing when the program runs.
-ghost use Rattle.sdd_base.specs.Whole.{IsWhole};
-ghost use Rattle.sdd_base.specs.Out.{OutLaws};
-ghost use Rattle.sdd_base.specs.Jobs.{RunsJobsOnce};
-ghost use Rattle.sdd_base.specs.Left.{FourGuardsReclaim, GoesAtLatest, GoesInTime};
-ghost use Rattle.sdd_base.specs.World.{World};
-ghost use Rattle.sdd_base.specs.Passing.{GuardsPass, ItemsPass};
-ghost use Rattle.sdd_base.specs.Collecting.{CollectedEnds};
-ghost use Rattle.sdd_base.specs.Adopting.{AdoptsWhatIsLeft};
-ghost use Rattle.sdd_base.specs.Ledger.{LedgerLaws};
-ghost use Rattle.sdd_base.specs.Under.{KeepsCollectedUnderGuards, KeepsFreshUnderGuards, KeepsUnderGuards};
+ghost use Rattle.sdd_space.specs.Whole.{IsWhole};
+ghost use Rattle.sdd_space.specs.Out.{OutLaws};
+ghost use Rattle.sdd_space.specs.Jobs.{RunsJobsOnce};
+ghost use Rattle.sdd_space.specs.Left.{FourGuardsReclaim, GoesAtLatest, GoesInTime};
+ghost use Rattle.sdd_space.specs.World.{World};
+ghost use Rattle.sdd_space.specs.Passing.{GuardsPass, ItemsPass};
+ghost use Rattle.sdd_space.specs.Collecting.{CollectedEnds};
+ghost use Rattle.sdd_space.specs.Adopting.{AdoptsWhatIsLeft};
+ghost use Rattle.sdd_space.specs.Ledger.{LedgerLaws};
+ghost use Rattle.sdd_space.specs.Under.{KeepsCollectedUnderGuards, KeepsFreshUnderGuards, KeepsUnderGuards};
 
 use super::World;
-use sdd_base::Item;
-use sdd_store::Job;
+use sdd_space::Item;
+use sdd_participants::Job;
 
 impl<T: Item<T>, J: Job> World<T, J> {
     /// What the parts of a world keep true of each other: a value where a slot is taken, each item that waits once, each participant abreast of the

@@ -1,7 +1,7 @@
 use Rattle.std.proofs.Common.{ℕ, Some, ◌∙◌, sym, arith}
 use Rattle.sdd_core.specs.declared.tag.Tag.TheVariants.{None as no_tag}
-use Rattle.sdd_store.specs.declared.standing.Cell.{Cell}
-use Rattle.sdd_base.specs.Owned.{cell_of}
+use Rattle.sdd_participants.specs.declared.standing.CellContents.{CellContents}
+use Rattle.sdd_space.specs.Owned.{cell_of}
 use Rattle.sdd_bench.proofs.Filling.{apart, filled-beside, filled-on, filled-out, filled-without}
 use Rattle.sdd_bench.proofs.Leaving.{as-many, as-much, exact-on}
 use Rattle.sdd_bench.proofs.cells.loads_under.Goals as goal
@@ -54,7 +54,7 @@ returns-in-Ok-new g c =
           let first = exact-on _ _ one.undisturbed.seat exact in
           let second = exact-on _ _ other.undisturbed.seat first in
           let third = exact-on _ _ sum.seat second in
-          let filled : ℕ → Cell = λ slot. record { held = Some slot; tag = no_tag } in
+          let filled : ℕ → CellContents = λ slot. record { held = Some slot; tag = no_tag } in
           let made = one.exact exact in
           let made_then = other.exact first in
           omega (

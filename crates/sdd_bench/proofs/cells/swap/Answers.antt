@@ -1,11 +1,11 @@
 use Rattle.std.proofs.Common.{ℕ, ◌∙◌, Some, ap, arith}
 use Rattle.std.specs.Prelude.{is_some}
 use Rattle.sdd_core.specs.declared.tag.Tag.TheVariants.{None as no_tag}
-use Rattle.sdd_base.specs.Owned.{slot_of, cell_of}
+use Rattle.sdd_space.specs.Owned.{slot_of, cell_of}
 use Rattle.sdd_bench.proofs.Filling.{set-there, filled-on}
-use Rattle.sdd_base.specs.Out.{is_out}
-use Rattle.sdd_base.specs.Owned.{cell_with}
-use Rattle.sdd_base.proofs.Out.{out-laws}
+use Rattle.sdd_space.specs.Out.{is_out}
+use Rattle.sdd_space.specs.Owned.{cell_with}
+use Rattle.sdd_space.proofs.Out.{out-laws}
 use Rattle.sdd_bench.proofs.Leaving.{as-many, as-much, exact-on, nothing}
 use Rattle.sdd_bench.proofs.cells.swap.Goals as goal
 

@@ -1,4 +1,4 @@
-use Rattle.sdd_base.specs.Owned.{cell_of}
+use Rattle.sdd_space.specs.Owned.{cell_of}
 use Rattle.sdd_bench.proofs.Leaving.{in-turn, under-guard, exact-on}
 use Rattle.sdd_bench.proofs.Filling.{filled-on, opened-filled}
 use Rattle.sdd_bench.proofs.cells.swaps_in.Goals as goal

@@ -1,5 +1,5 @@
-use Rattle.sdd_base.specs.Owned.{cell_of}
-use Rattle.sdd_base.specs.Seat.{IsExact}
+use Rattle.sdd_space.specs.Owned.{cell_of}
+use Rattle.sdd_space.specs.CallerId.{IsExact}
 use Rattle.sdd_bench.specs.Leaves.{IsFilled, Leaves}
 use Rattle.sdd_bench.proofs.cells.swaps_in.Given as goal
 

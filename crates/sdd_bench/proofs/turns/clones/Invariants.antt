@@ -1,8 +1,8 @@
 use Rattle.std.proofs.Common.{◌≡◌, Some}
-use Rattle.sdd_store.specs.declared.standing.Standing.TheVariants.{Shared}
-use Rattle.sdd_base.specs.Seat.{IsExact}
-use Rattle.sdd_base.specs.World.{standing_at}
-use Rattle.sdd_base.specs.Shared.{slot_of}
+use Rattle.sdd_participants.specs.declared.standing.Standing.TheVariants.{Shared}
+use Rattle.sdd_space.specs.CallerId.{IsExact}
+use Rattle.sdd_space.specs.World.{standing_at}
+use Rattle.sdd_space.specs.Shared.{slot_of}
 use Rattle.sdd_bench.specs.Leaves.{Leaves}
 use Rattle.sdd_bench.proofs.turns.clones.Given as goal
 

@@ -1,4 +1,4 @@
-use Rattle.sdd_base.specs.Owned.{slot_of}
+use Rattle.sdd_space.specs.Owned.{slot_of}
 use Rattle.sdd_bench.proofs.Leaving.{as-many, as-much, in-turn, under-guard, item-leaves}
 use Rattle.sdd_bench.proofs.turns.items.Goals as goal
 

@@ -1,6 +1,6 @@
 use Rattle.std.proofs.Common.{◌∙◌, subst, sym}
-use Rattle.sdd_base.specs.Seat.{Seat, IsExact}
-use Rattle.sdd_base.specs.Owned.{slot_of}
+use Rattle.sdd_space.specs.CallerId.{CallerId, IsExact}
+use Rattle.sdd_space.specs.Owned.{slot_of}
 use Rattle.sdd_bench.proofs.Leaving.{item-leaves, two-leave}
 use Rattle.sdd_bench.proofs.turns.looks.Goals as goal
 
@@ -22,6 +22,6 @@ returns-in-Err-new g c =
     (none.undisturbed.seat ∙ one.undisturbed.seat) (none.undisturbed.own ∙ one.undisturbed.own)
     (λ exact.
     let is = one.exact exact in
-    let same = (none.exact (subst (λ (s : Seat). IsExact s) (sym one.undisturbed.seat) exact)).2 in
+    let same = (none.exact (subst (λ (s : CallerId). IsExact s) (sym one.undisturbed.seat) exact)).2 in
     (is.0, same ∙ is.1))
     last.unmoved.seat last.own last.exact

@@ -1,5 +1,5 @@
 use Rattle.std.proofs.Common.{◌≡◌}
-use Rattle.sdd_base.specs.Owned.{slot_of, slots_home}
+use Rattle.sdd_space.specs.Owned.{slot_of, slots_home}
 use Rattle.sdd_bench.proofs.turns.round_trips.Given as goal
 
 abbrev pub invariant-loop-turn : goal.invariant-loop-turn

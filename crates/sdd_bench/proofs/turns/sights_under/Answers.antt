@@ -1,6 +1,6 @@
 use Rattle.std.proofs.Common.{◌∙◌, subst, sym}
-use Rattle.sdd_base.specs.Seat.{Seat, IsExact}
-use Rattle.sdd_base.specs.Owned.{slot_of}
+use Rattle.sdd_space.specs.CallerId.{CallerId, IsExact}
+use Rattle.sdd_space.specs.Owned.{slot_of}
 use Rattle.sdd_bench.proofs.Leaving.{two-leave}
 use Rattle.sdd_bench.proofs.turns.sights_under.Goals as goal
 
@@ -15,6 +15,6 @@ returns-in-Ok-new g c =
     one.undisturbed.seat one.undisturbed.own one.exact (found.seat ∙ other.undisturbed.seat) (found.own ∙ other.undisturbed.own)
     (λ exact.
     let is = other.exact exact in
-    let same = found.exact (subst (λ (s : Seat). IsExact s) (sym other.undisturbed.seat) exact) in
+    let same = found.exact (subst (λ (s : CallerId). IsExact s) (sym other.undisturbed.seat) exact) in
     (is.0, same ∙ is.1))
     first.unmoved.seat first.own first.exact second.unmoved.seat second.own second.exact

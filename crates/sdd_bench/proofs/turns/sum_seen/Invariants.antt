@@ -1,5 +1,5 @@
 use Rattle.std.proofs.Common.{◌≡◌}
-use Rattle.sdd_base.specs.Seat.{IsExact}
+use Rattle.sdd_space.specs.CallerId.{IsExact}
 use Rattle.sdd_bench.proofs.turns.sum_seen.Given as goal
 
 abbrev pub invariant-loop-turn : goal.invariant-loop-turn

@@ -1,7 +1,7 @@
 use Rattle.std.proofs.Common.{sym, ◌∙◌}
-use Rattle.sdd_lines.specs.declared.call.Action.TheVariants as call
-use Rattle.sdd_hand.proofs.Acts.{got}
-use Rattle.sdd_desk.proofs.Entry.{spent_twice}
+use Rattle.sdd_script_text.specs.declared.call.Action.TheVariants as call
+use Rattle.sdd_script_names.proofs.Acts.{got}
+use Rattle.sdd_script_model.proofs.Entry.{spent_twice}
 use Rattle.sdd_cell_acts.proofs.CellActs.{acts-cell_closed, cell-home, held-within, invalid-away, invalid-gone}
 use Rattle.sdd_cell_acts.proofs.cells.close_cell.Goals as goal
 

@@ -1,8 +1,8 @@
 use Rattle.std.proofs.Common.{◌≡◌, arith}
 use Rattle.std.proofs.lemmas.List.{get_or_read}
-use Rattle.sdd_lines.specs.declared.call.Action.TheVariants as call
-use Rattle.sdd_desk.specs.Shown.{item_held}
-use Rattle.sdd_hand.specs.Stage.{desk_of}
+use Rattle.sdd_script_text.specs.declared.call.Action.TheVariants as call
+use Rattle.sdd_script_model.specs.Shown.{item_held}
+use Rattle.sdd_script_names.specs.Interpreter.{desk_of}
 use Rattle.sdd_cell_acts.proofs.CellActs.{acts-loaded, cell-home, invalid-under, invalid-gone, slot-inside, told-item, told-none}
 use Rattle.sdd_cell_acts.proofs.cells.load.Goals as goal
 use Rattle.sdd_cell_acts.proofs.cells.load.Goals.{in-Some-held, in-None}

@@ -1,6 +1,6 @@
 use Rattle.std.proofs.Common.{length, ap, refl, ◌∙◌}
 use Rattle.std.proofs.lemmas.Bool.{false≢true}
-use Rattle.sdd_hand.proofs.Acts.{got}
+use Rattle.sdd_script_names.proofs.Acts.{got}
 use Rattle.sdd_cell_acts.proofs.CellActs.{acts-celled, acts-no_cell, filling-home, invalid-maker, invalid-unfit}
 use Rattle.sdd_cell_acts.proofs.cells.make_cell.Goals as goal
 

@@ -1,5 +1,5 @@
-use Rattle.sdd_lines.specs.declared.call.Action.TheVariants as call
-use Rattle.sdd_hand.proofs.Acts.{got}
+use Rattle.sdd_script_text.specs.declared.call.Action.TheVariants as call
+use Rattle.sdd_script_names.proofs.Acts.{got}
 use Rattle.sdd_cell_acts.proofs.CellActs.{acts-tagged, cell-home, invalid-away, invalid-gone}
 use Rattle.sdd_cell_acts.proofs.cells.set_tag_if.Goals as goal
 

@@ -1,15 +1,15 @@
 use Rattle.std.proofs.Common.{◌≡◌, ◌<◌, ℕ, List, length, refl, sym, ◌∙◌, subst}
 use Rattle.std.specs.Prelude.{IfSome}
 use Rattle.std.proofs.lemmas.Bool.{false≢true}
-use Rattle.sdd_lines.specs.declared.call.Call.TheVariants.{At}
-use Rattle.sdd_lines.specs.declared.call.Action.TheVariants as call
-use Rattle.sdd_lines.specs.declared.answer.Reply.TheVariants as reply
-use Rattle.sdd_steps.specs.Owners.{cell_kind}
-use Rattle.sdd_hand.specs.Stage.{desk_of}
-use Rattle.sdd_hand.proofs.Acts.{Does, goes}
-use Rattle.sdd_hand.proofs.Missing.{invalid}
+use Rattle.sdd_script_text.specs.declared.call.Call.TheVariants.{At}
+use Rattle.sdd_script_text.specs.declared.call.Action.TheVariants as call
+use Rattle.sdd_script_text.specs.declared.answer.Reply.TheVariants as reply
+use Rattle.sdd_space_commands.specs.Owners.{cell_kind}
+use Rattle.sdd_script_names.specs.Interpreter.{desk_of}
+use Rattle.sdd_script_names.proofs.Acts.{Does, goes}
+use Rattle.sdd_script_names.proofs.Missing.{invalid}
 use Rattle.sdd_cell_acts.proofs.ExchangeActs.{cell-home, no-fit, fits-not, put-home, room-kept, can-put-back, same-back, compares, compares-not, slot-compared, compared-stays, seen-as, seen-inside, acts-exchanged, differs}
-use Rattle.sdd_hand.proofs.Acts.{still-as}
+use Rattle.sdd_script_names.proofs.Acts.{still-as}
 use Rattle.sdd_cell_acts.proofs.exchanges.exchange.Goals as goal
 
 pub returns-in_default : goal.returns-in_default

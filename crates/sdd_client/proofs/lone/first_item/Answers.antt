@@ -1,8 +1,8 @@
 use Rattle.std.proofs.Common.{rules}
 use denote.Builtin.{u64}
-use Rattle.sdd_base.specs.Owned.{right_of}
-use Rattle.sdd_base.specs.Seat.{IsExact}
-use Rattle.sdd_domain.specs.Member.{IsLone}
+use Rattle.sdd_space.specs.Owned.{right_of}
+use Rattle.sdd_space.specs.CallerId.{IsExact}
+use Rattle.sdd_domain.specs.LocalState.{IsLone}
 use Rattle.sdd_domain.specs.Space.{seat_of}
 use Rattle.sdd_domain.specs.Values.{one_value}
 use Rattle.sdd_client.proofs.Emptiness.{full_is_not_blank}

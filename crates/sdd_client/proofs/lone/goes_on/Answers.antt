@@ -1,5 +1,5 @@
 use Rattle.std.proofs.Common.{sym, subst}
-use Rattle.sdd_base.specs.World.{World, IsGuarded}
+use Rattle.sdd_space.specs.World.{World, IsGuarded}
 use Rattle.sdd_client.proofs.lone.goes_on.Goals as goal
 
 pub returns-clause-shut : goal.returns-clause-shut

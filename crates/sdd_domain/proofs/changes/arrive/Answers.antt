@@ -1,7 +1,7 @@
 use Rattle.std.proofs.Common.{◌≡◌, ◌≢◌, ℕ, true, false, List, sym, ap, ◌∙◌, subst, inl, inr, ⊎_elim}
-use Rattle.sdd_store.specs.declared.time.Participant.{Participant}
-use Rattle.sdd_store.specs.Time.{nested, settled, rotated}
-use Rattle.sdd_store.specs.Waiting.{Waiting, aged, left}
+use Rattle.sdd_participants.specs.declared.epoch_state.Participant.{Participant}
+use Rattle.sdd_participants.specs.EpochState.{nested, settled, rotated}
+use Rattle.sdd_participants.specs.Waiting.{Waiting, aged, left}
 use Rattle.sdd_domain.specs.Posed.{IsPosed}
 use Rattle.sdd_domain.proofs.Arrivals.{stayed, moved, due_stayed, due_moved, arrived_same, arrived_moved, posed_settled}
 use Rattle.sdd_domain.proofs.Reclaims.{either_way}

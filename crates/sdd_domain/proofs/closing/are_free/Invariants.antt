@@ -1,5 +1,5 @@
 use Rattle.std.proofs.Common.{◌≡◌}
-use Rattle.sdd_board.specs.Board.{id_of}
+use Rattle.sdd_atomics.specs.DomainTable.{id_of}
 use Rattle.sdd_domain.proofs.closing.are_free.Given as goal
 
 abbrev pub invariant-loop-slot : goal.invariant-loop-slot

@@ -1,6 +1,6 @@
 use Rattle.std.proofs.Common.{◌≡◌}
 use Rattle.sdd_views.specs.Views.{no_counts}
-use Rattle.sdd_board.specs.Board.{id_of}
+use Rattle.sdd_atomics.specs.DomainTable.{id_of}
 use Rattle.sdd_domain.proofs.closing.bar_all.Given as goal
 
 abbrev pub invariant-loop-place : goal.invariant-loop-place

@@ -1,11 +1,11 @@
 use Rattle.std.proofs.Common.{◌≡◌, ℕ, ◌-◌, List, sym, refl, ap, ◌∙◌, subst, arith}
 use Rattle.core.specs.Mem.Slots.{slots_items, slots_counts}
-use Rattle.sdd_stakes.specs.Stakes.{Lot}
-use Rattle.sdd_stakes.specs.Shelf.{AreVacant}
-use Rattle.sdd_rule.specs.Codes.{full}
-use Rattle.sdd_rule.specs.Slots.{slot_at}
-use Rattle.sdd_homes.specs.Homes.{stake_at, AreHome}
-use Rattle.sdd_homes.proofs.Laid.{all_homes, first_home, vacant_more}
+use Rattle.sdd_shared_values.specs.ValueFractions.{FractionContent}
+use Rattle.sdd_shared_values.specs.SharedValues.{AreVacant}
+use Rattle.sdd_word_invariant.specs.Codes.{full}
+use Rattle.sdd_word_invariant.specs.Slots.{slot_at}
+use Rattle.sdd_domain_invariant.specs.FractionsAtHome.{stake_at, AreHome}
+use Rattle.sdd_domain_invariant.proofs.Laid.{all_homes, first_home, vacant_more}
 use Rattle.sdd_domain.proofs.closing.gather_all_stakes.Goals as goal
 
 pub loop-slot-init : goal.loop-slot-init
@@ -14,7 +14,7 @@ loop-slot-init c = let z = c.args.sizes.now in let γ : ℕ = c.args.title.now.b
       home = subst (λ (k : ℕ). AreHome γ z k c.args.closed.now) (sym count) home;
       left = count ∙ ((slots_counts c.args.closed.now.slots).0 ∙ (home.laid.long ∙ all_homes z.participants m));
       low = omega arith;
-      stock = subst (λ (t : ℕ × List Lot). AreVacant γ m t.0 t.1) (λ d. (let e : 0 ≡ m - m = omega arith in e d, sym c.new-stock.ensures d)) tt;
+      stock = subst (λ (t : ℕ × List FractionContent). AreVacant γ m t.0 t.1) (λ d. (let e : 0 ≡ m - m = omega arith in e d, sym c.new-stock.ensures d)) tt;
       words = refl;
     }
 

@@ -1,6 +1,6 @@
 use Rattle.std.proofs.Common.{◌≡◌, ◌-◌, ◌≤◌}
-use Rattle.sdd_stakes.specs.Shelf.{AreVacant}
-use Rattle.sdd_homes.specs.Homes.{stake_at, AreHome}
+use Rattle.sdd_shared_values.specs.SharedValues.{AreVacant}
+use Rattle.sdd_domain_invariant.specs.FractionsAtHome.{stake_at, AreHome}
 use Rattle.sdd_domain.proofs.closing.gather_all_stakes.Given as goal
 
 abbrev pub invariant-loop-slot : goal.invariant-loop-slot

@@ -1,6 +1,6 @@
 use Rattle.std.proofs.Common.{ap, ◌∙◌, arith, eqb-true}
-use Rattle.sdd_rule.specs.Codes.{full}
-use Rattle.sdd_rule.proofs.Codes.{free_is}
+use Rattle.sdd_word_invariant.specs.Codes.{full}
+use Rattle.sdd_word_invariant.proofs.Codes.{free_is}
 use Rattle.sdd_domain.proofs.closing.is_free.Goals as goal
 
 pub returns : goal.returns

@@ -1,6 +1,6 @@
 use Rattle.std.proofs.Common.{◌≡◌}
-use Rattle.sdd_rule.specs.Steps.{IsNext}
-use Rattle.sdd_board.specs.Token.{epoch, IsSameBut}
+use Rattle.sdd_word_invariant.specs.Steps.{IsNext}
+use Rattle.sdd_atomics.specs.DomainSeat.{epoch, IsSameBut}
 use Rattle.sdd_domain.specs.Scan.{looked_to}
 use Rattle.sdd_domain.proofs.scan.all_pass.Given as goal
 

@@ -1,26 +1,26 @@
 use Rattle.std.proofs.Common.{List, ap, sym, ◌∙◌, subst}
 use Rattle.atomic_table.specs.declared.shared.Seat.{Seat}
-use Rattle.sdd_token.specs.declared.part.Part.{Part}
-use Rattle.sdd_places.specs.declared.tenures.Stage.{Stage}
-use Rattle.sdd_stakes.specs.declared.stake.Stake.{Stake}
-use Rattle.sdd_views.specs.declared.Showing.{Showing}
+use Rattle.sdd_rights.specs.declared.fraction.Fraction.{Fraction}
+use Rattle.sdd_values.specs.declared.read_sections.SectionState.{SectionState}
+use Rattle.sdd_shared_values.specs.declared.value_fraction.ValueFraction.{ValueFraction}
+use Rattle.sdd_views.specs.declared.ShownValue.{ShownValue}
 use Rattle.sdd_views.specs.declared.View.{View}
-use Rattle.sdd_homes.specs.HomeSteps.{Purse}
-use Rattle.sdd_board.specs.Board.{book_of, places_of}
+use Rattle.sdd_domain_invariant.specs.HomeSteps.{Purse}
+use Rattle.sdd_atomics.specs.DomainTable.{book_of, places_of}
 use Rattle.sdd_domain.proofs.Moving.{all_settled, may_settle, no_purse, none_lent}
 use Rattle.sdd_domain.proofs.shut.shut.Goals as goal
 
 pub settle-requires-clause-lent : goal.settle-requires-clause-lent
 settle-requires-clause-lent c = may_settle c.args.tenure.now.round c.end_round-ended.result.name c.args.token.now.me.1
-    (c.end_round-ended.ensures.ended ∙ (ap (λ (t : Part Stage). t.round) c.set.ensures ∙ ap (λ (t : Part Stage). t.round) c.join.ensures.joined))
+    (c.end_round-ended.ensures.ended ∙ (ap (λ (t : Fraction SectionState). t.round) c.set.ensures ∙ ap (λ (t : Fraction SectionState). t.round) c.join.ensures.joined))
     c.requires.lent
 
 pub close-requires-clause-purse : goal.close-requires-clause-purse
 close-requires-clause-purse c = let b = c.args.board.now in let settled = c.settle.ensures in
-    subst (λ (sees : List Showing). Purse (book_of b) (places_of b) c.args.place sees c.settle.new.seat.me.1)
-    (sym (ap (λ (s : Seat Stake View). s.me.0.stakes.sees) settled))
+    subst (λ (sees : List ShownValue). Purse (book_of b) (places_of b) c.args.place sees c.settle.new.seat.me.1)
+    (sym (ap (λ (s : Seat ValueFraction View). s.me.0.stakes.sees) settled))
     (all_settled (book_of b) (places_of b) c.args.place c.args.token.now.me.0.stakes.sees c.args.token.now.me.1 c.settle.new.seat.me.1
-    (ap (λ (s : Seat Stake View). s.me.1) settled) c.requires.purse)
+    (ap (λ (s : Seat ValueFraction View). s.me.1) settled) c.requires.purse)
 
 pub returns-clause-purse : goal.returns-clause-purse
 returns-clause-purse c = let b = c.args.board.now in let e = c.close.ensures.2 in

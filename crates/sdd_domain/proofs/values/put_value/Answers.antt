@@ -1,15 +1,15 @@
 use Rattle.std.proofs.Common.{ℕ, ◌+◌, List, [], ◌∷◌, ap, sym, refl, ◌∙◌, subst, arith}
 use Rattle.atomic_table.specs.Seated.{TableId}
-use Rattle.sdd_base.specs.Holding.{AreOf}
+use Rattle.sdd_space.specs.OwnerOrCell.{AreOf}
 use Rattle.sdd_domain.specs.Homes.{home_of_slots}
 use base.Stored.{Gv}
-use Rattle.sdd_stakes.specs.Shelf.{IsVacant, showing}
+use Rattle.sdd_shared_values.specs.SharedValues.{IsVacant, showing}
 use Rattle.sdd_views.specs.declared.View.{View}
 use Rattle.sdd_views.specs.contracts.View.{the_row}
-use Rattle.sdd_rule.specs.Sums.{times}
-use Rattle.sdd_rule.proofs.Sums.{is_same}
-use Rattle.sdd_homes.specs.HomeSteps.{parting, departing}
-use Rattle.sdd_board.specs.Board.{book_of, places_of}
+use Rattle.sdd_word_invariant.specs.Sums.{times}
+use Rattle.sdd_word_invariant.proofs.Sums.{is_same}
+use Rattle.sdd_domain_invariant.specs.HomeSteps.{parting, departing}
+use Rattle.sdd_atomics.specs.DomainTable.{book_of, places_of}
 use Rattle.sdd_domain.proofs.Moving.{may_move}
 use Rattle.sdd_domain.proofs.Owners.{row_put, view_cut, moves_cut, furnished, parted_view, departed_view}
 use Rattle.sdd_domain.proofs.values.put_value.Goals as goal

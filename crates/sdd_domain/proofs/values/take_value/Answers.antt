@@ -1,17 +1,17 @@
 use Rattle.std.proofs.Common.{◌≡◌, ℕ, ◌+◌, ap, sym, ◌∙◌, refl, subst, arith}
 use Rattle.atomic_table.specs.declared.shared.Seat.{Seat}
-use Rattle.sdd_stakes.specs.declared.stake.Stake.{Stake}
+use Rattle.sdd_shared_values.specs.declared.value_fraction.ValueFraction.{ValueFraction}
 use base.Stored.{Gv}
 use Rattle.atomic_table.specs.Seated.{TableId}
-use Rattle.sdd_stakes.specs.Shelf.{IsFull, IsVacant, vacant, showing}
+use Rattle.sdd_shared_values.specs.SharedValues.{IsFull, IsVacant, vacant, showing}
 use Rattle.sdd_views.specs.declared.Sizes.{Sizes}
 use Rattle.sdd_views.specs.declared.View.{View}
-use Rattle.sdd_rule.specs.Slots.{items_at}
-use Rattle.sdd_rule.specs.SlotSteps.{given_back}
-use Rattle.sdd_homes.specs.HomeSteps.{IsValue, IsNewest, forgetting, giving}
-use Rattle.sdd_base.specs.Holding.{AreOf}
+use Rattle.sdd_word_invariant.specs.Slots.{items_at}
+use Rattle.sdd_word_invariant.specs.SlotSteps.{given_back}
+use Rattle.sdd_domain_invariant.specs.HomeSteps.{IsValue, IsNewest, forgetting, giving}
+use Rattle.sdd_space.specs.OwnerOrCell.{AreOf}
 use Rattle.sdd_domain.specs.Homes.{home_of_slots}
-use Rattle.sdd_board.specs.Board.{book_of, places_of}
+use Rattle.sdd_atomics.specs.DomainTable.{book_of, places_of}
 use Rattle.sdd_domain.proofs.Moving.{may_move, all_full, row_after, rest_out, rests_again, shown_out}
 use Rattle.sdd_domain.proofs.Taking.{deposit_known, row_taken, row_joined, view_joined}
 use Rattle.sdd_domain.proofs.values.take_value.Goals as goal
@@ -44,7 +44,7 @@ give_back-requires-clause-row g c = let b = c.args.board.now in let r = c.requir
       c.args.token.now.me.1,
       row_after (book_of b) c.args.slot (places_of b) (c.places-count.result + 1) (ap (λ (k : ℕ). k + 1) c.places-count.ensures)
           (IsValue out.value) IsVacant vacant take.0 c.args.token.now.me.1 c.join_rest.new.token.me.1 c.take-value.new.seat.me.1 refl row
-          (ap (λ (s : Seat Stake View). s.me.1) take.1),
+          (ap (λ (s : Seat ValueFraction View). s.me.1) take.1),
     )
 
 pub returns-clause-given_back : goal.returns-clause-given_back
@@ -54,12 +54,12 @@ returns-clause-given_back g c = let b = c.args.board.now in let n : ℕ = places
     let row = row_joined b slot c.args.token.now c.take_out-rest.new.token c.join_rest.new.token r.knows out joined c.join_rest.ensures.row in
     let empty = row_after (book_of b) slot n (c.places-count.result + 1) (ap (λ (k : ℕ). k + 1) c.places-count.ensures)
     (IsValue out.value) IsVacant vacant take.0 c.args.token.now.me.1 c.join_rest.new.token.me.1 c.take-value.new.seat.me.1 refl row
-    (ap (λ (s : Seat Stake View). s.me.1) take.1) in
-    let moved = ap (λ (s : Seat Stake View). s.me.0) take.1
+    (ap (λ (s : Seat ValueFraction View). s.me.1) take.1) in
+    let moved = ap (λ (s : Seat ValueFraction View). s.me.0) take.1
     ∙ view_joined b slot c.args.token.now c.take_out-rest.new.token c.join_rest.new.token r.knows out joined c.join_rest.ensures.row in
     let same = ap (λ (w : View). w.sizes.participants) moved ∙ ap (λ (z : Sizes). z.participants) r.knows.0 in (
-      back.0 ∙ (ap (λ (s : Seat Stake View). s.table_id) take.1 ∙ (joined.0 ∙ taken.0)),
-      back.1 ∙ (ap (λ (s : Seat Stake View). s.id) take.1 ∙ (joined.1 ∙ taken.1)),
+      back.0 ∙ (ap (λ (s : Seat ValueFraction View). s.table_id) take.1 ∙ (joined.0 ∙ taken.0)),
+      back.1 ∙ (ap (λ (s : Seat ValueFraction View). s.id) take.1 ∙ (joined.1 ∙ taken.1)),
       rest_out (book_of b) slot n c.take-value.new.seat.me.0.sizes.participants 0 IsVacant c.args.token.now.me.1 c.take-value.new.seat.me.1
           c.give_back.new.token.me.1 same empty back.2.3,
       (

@@ -1,11 +1,11 @@
 use Rattle.std.proofs.Common.{◌≡◌, ap, ◌∙◌, slice_index_or}
-use Rattle.sdd_desk.specs.Shown.{told_of}
-use Rattle.sdd_desk.specs.Val.{body_of}
+use Rattle.sdd_script_model.specs.Shown.{told_of}
+use Rattle.sdd_script_model.specs.Val.{body_of}
 use Rattle.sdd_item_acts.proofs.ItemActs.{acts-looked}
-use Rattle.sdd_hand.proofs.Acts.{stays-here}
+use Rattle.sdd_script_names.proofs.Acts.{stays-here}
 use Rattle.sdd_item_acts.proofs.MissingItems.{shut-looked, gone-looked}
-use Rattle.sdd_hand.proofs.Missing.{points}
-use Rattle.sdd_hand.proofs.Inside.{value-inside}
+use Rattle.sdd_script_names.proofs.Missing.{points}
+use Rattle.sdd_script_names.proofs.Inside.{value-inside}
 use Rattle.sdd_item_acts.proofs.items.look.Goals as goal
 
 pub returns-in_default : goal.returns-in_default

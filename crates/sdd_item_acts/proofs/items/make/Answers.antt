@@ -1,16 +1,16 @@
 use Rattle.std.proofs.Common.{◌≡◌, Some, refl, length, slice_set, sym, ap, ◌∙◌, arith, rules}
 use Rattle.std.specs.Vec.{with_item}
 use Rattle.std.proofs.lemmas.Bool.{false≢true}
-use Rattle.sdd_desk.specs.Desk.{slot_of}
-use Rattle.sdd_lines.specs.declared.call.Call.TheVariants.{At}
-use Rattle.sdd_lines.specs.declared.answer.Reply.TheVariants as reply
-use Rattle.sdd_hand.specs.declared.stage.Hand.{Hand}
-use Rattle.sdd_desk.specs.Script.{Acts, IsThereToPut}
-use Rattle.sdd_hand.specs.Stage.{desk_of, IsTied}
+use Rattle.sdd_script_model.specs.ScriptState.{slot_of}
+use Rattle.sdd_script_text.specs.declared.call.Call.TheVariants.{At}
+use Rattle.sdd_script_text.specs.declared.answer.Reply.TheVariants as reply
+use Rattle.sdd_script_names.specs.declared.interpreter.Environment.{Environment}
+use Rattle.sdd_script_model.specs.Script.{Acts, IsThereToPut}
+use Rattle.sdd_script_names.specs.Interpreter.{desk_of, IsTied}
 use Rattle.sdd_item_acts.specs.Lines.{making}
-use Rattle.sdd_hand.proofs.Acts.{got}
+use Rattle.sdd_script_names.proofs.Acts.{got}
 use Rattle.sdd_item_acts.proofs.ItemActs.{acts-refused, acts-made}
-use Rattle.sdd_hand.proofs.Missing.{nobody}
+use Rattle.sdd_script_names.proofs.Missing.{nobody}
 use Rattle.sdd_item_acts.proofs.MissingItems.{none-made}
 use Rattle.sdd_item_acts.proofs.Making.{first-slot, becomes-long, there-to-put, body-home}
 use Rattle.sdd_item_acts.proofs.items.make.Goals as goal
@@ -41,7 +41,7 @@ give-name-requires c =
     let long = becomes-long _ _ c.args.value _ c.in-Some-body_from.ensures.becomes in
     rw (long, c.in-Some-body_from.ensures.room) c.in_ok-make_room.ensures.room
 
-abbrev left : goal.After-give-name → Hand
+abbrev left : goal.After-give-name → Environment
 left c = record c.stage.inside.hand {
   world = c.make_item-owner.new.world;
   owners = c.give-name.new.self;

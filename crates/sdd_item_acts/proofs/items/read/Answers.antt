@@ -1,11 +1,11 @@
-use Rattle.sdd_hand.proofs.Acts.{got, owner-home}
+use Rattle.sdd_script_names.proofs.Acts.{got, owner-home}
 use Rattle.sdd_item_acts.proofs.ItemActs.{acts-read}
-use Rattle.sdd_hand.proofs.Missing.{nobody}
+use Rattle.sdd_script_names.proofs.Missing.{nobody}
 use Rattle.sdd_item_acts.proofs.MissingItems.{none-read}
-use Rattle.sdd_hand.proofs.Inside.{value-inside}
+use Rattle.sdd_script_names.proofs.Inside.{value-inside}
 use Rattle.std.proofs.Common.{◌≡◌, sym}
-use Rattle.sdd_desk.specs.Shown.{told_of}
-use Rattle.sdd_desk.specs.Val.{body_of}
+use Rattle.sdd_script_model.specs.Shown.{told_of}
+use Rattle.sdd_script_model.specs.Val.{body_of}
 use Rattle.sdd_item_acts.proofs.items.read.Goals as goal
 
 pub returns-in_default : goal.returns-in_default

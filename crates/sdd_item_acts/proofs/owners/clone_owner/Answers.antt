@@ -1,7 +1,7 @@
 use Rattle.std.proofs.Common.{length, sym, ap, ◌∙◌}
-use Rattle.sdd_hand.proofs.Acts.{got, owner-home}
+use Rattle.sdd_script_names.proofs.Acts.{got, owner-home}
 use Rattle.sdd_item_acts.proofs.OwnerActs.{acts-cloned}
-use Rattle.sdd_hand.proofs.Missing.{nobody}
+use Rattle.sdd_script_names.proofs.Missing.{nobody}
 use Rattle.sdd_item_acts.proofs.MissingItems.{none-cloned}
 use Rattle.sdd_item_acts.proofs.Unshared.{full-cloned}
 use Rattle.sdd_item_acts.proofs.owners.clone_owner.Goals as goal

@@ -1,12 +1,12 @@
 use Rattle.std.proofs.Common.{◌≡◌, slice_index_or, length, ap, ◌∙◌}
-use Rattle.sdd_lines.specs.declared.call.Action.TheVariants as call
-use Rattle.sdd_lines.specs.declared.call.Call.TheVariants.{At}
-use Rattle.sdd_lines.specs.declared.answer.Reply.TheVariants as reply
-use Rattle.sdd_hand.specs.Stage.{desk_of}
+use Rattle.sdd_script_text.specs.declared.call.Action.TheVariants as call
+use Rattle.sdd_script_text.specs.declared.call.Call.TheVariants.{At}
+use Rattle.sdd_script_text.specs.declared.answer.Reply.TheVariants as reply
+use Rattle.sdd_script_names.specs.Interpreter.{desk_of}
 use Rattle.sdd_item_acts.proofs.OwnerActs.{acts-upgraded}
-use Rattle.sdd_hand.proofs.Acts.{Does, stays-here}
+use Rattle.sdd_script_names.proofs.Acts.{Does, stays-here}
 use Rattle.sdd_item_acts.proofs.MissingItems.{gone-upgraded, shut-upgraded}
-use Rattle.sdd_hand.proofs.Missing.{points}
+use Rattle.sdd_script_names.proofs.Missing.{points}
 use Rattle.sdd_item_acts.proofs.Unshared.{alone-upgraded, full-upgraded}
 use Rattle.sdd_item_acts.proofs.owners.upgrade.Goals as goal
 

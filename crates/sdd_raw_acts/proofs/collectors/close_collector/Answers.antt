@@ -1,18 +1,18 @@
 use Rattle.std.proofs.Common.{◌≡◌, Option, Some, sym, ◌∙◌}
-use Rattle.sdd_base.specs.Collector.{collector_of}
-use Rattle.sdd_base.specs.declared.private_collector.PrivateCollector.{PrivateCollector}
-use Rattle.sdd_desk.specs.declared.val.Val.{Val}
-use Rattle.sdd_desk.proofs.Gone.{given-inside}
-use Rattle.sdd_desk.proofs.WaitingFor.{found-filled, found-inside}
-use Rattle.sdd_lines.specs.declared.call.Action.TheVariants as call
-use Rattle.sdd_lines.specs.declared.call.Call.TheVariants.{At}
-use Rattle.sdd_hand.specs.Stage.{desk_of}
-use Rattle.sdd_hand.proofs.Acts.{answers-plain, goes, got}
+use Rattle.sdd_space.specs.Collector.{collector_of}
+use Rattle.sdd_space.specs.declared.private_collector.PrivateCollector.{PrivateCollector}
+use Rattle.sdd_script_model.specs.declared.val.Val.{Val}
+use Rattle.sdd_script_model.proofs.Gone.{given-inside}
+use Rattle.sdd_script_model.proofs.WaitingFor.{found-filled, found-inside}
+use Rattle.sdd_script_text.specs.declared.call.Action.TheVariants as call
+use Rattle.sdd_script_text.specs.declared.call.Call.TheVariants.{At}
+use Rattle.sdd_script_names.specs.Interpreter.{desk_of}
+use Rattle.sdd_script_names.proofs.Acts.{answers-plain, goes, got}
 use Rattle.sdd_raw_acts.proofs.CollectorActs.{answers-closed, back-again, close-refused, no-collector, tied-closed}
-use Rattle.sdd_hand.proofs.Collectors.{collector-home}
-use Rattle.sdd_hand.proofs.Acts.{still-as}
-use Rattle.sdd_hand.proofs.Missing.{invalid, nobody}
-use Rattle.sdd_hand.proofs.Taken.{inside}
+use Rattle.sdd_script_names.proofs.Collectors.{collector-home}
+use Rattle.sdd_script_names.proofs.Acts.{still-as}
+use Rattle.sdd_script_names.proofs.Missing.{invalid, nobody}
+use Rattle.sdd_script_names.proofs.Taken.{inside}
 use Rattle.sdd_raw_acts.proofs.collectors.close_collector.Goals as goal
 
 pub returns-in_default : goal.returns-in_default

@@ -1,11 +1,11 @@
 use Rattle.std.proofs.Common.{sym, ◌∙◌}
-use Rattle.sdd_desk.proofs.Entry.{spent_twice}
-use Rattle.sdd_lines.specs.declared.call.Action.TheVariants as call
-use Rattle.sdd_hand.specs.Stage.{desk_of}
-use Rattle.sdd_hand.proofs.Acts.{owner-home}
+use Rattle.sdd_script_model.proofs.Entry.{spent_twice}
+use Rattle.sdd_script_text.specs.declared.call.Action.TheVariants as call
+use Rattle.sdd_script_names.specs.Interpreter.{desk_of}
+use Rattle.sdd_script_names.proofs.Acts.{owner-home}
 use Rattle.sdd_raw_acts.proofs.CollectorActs.{acts-collected, no-collector, owner-dated}
-use Rattle.sdd_hand.proofs.Collectors.{collector-home}
-use Rattle.sdd_hand.proofs.Missing.{invalid, no-owner}
+use Rattle.sdd_script_names.proofs.Collectors.{collector-home}
+use Rattle.sdd_script_names.proofs.Missing.{invalid, no-owner}
 use Rattle.sdd_raw_acts.proofs.collectors.collect.Goals as goal
 
 pub returns-in_default : goal.returns-in_default

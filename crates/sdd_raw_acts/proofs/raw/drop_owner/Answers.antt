@@ -1,10 +1,10 @@
 use Rattle.std.proofs.Common.{◌≡◌, refl, sym, ◌∙◌}
-use Rattle.sdd_lines.specs.declared.call.Action.TheVariants as call
-use Rattle.sdd_lines.specs.declared.call.Call.TheVariants.{At}
-use Rattle.sdd_desk.proofs.Entry.{spent_twice}
-use Rattle.sdd_hand.specs.Stage.{desk_of}
-use Rattle.sdd_hand.proofs.Acts.{Does, got, goes, owner-home, still-as}
-use Rattle.sdd_hand.proofs.Missing.{invalid, nobody, no-owner}
+use Rattle.sdd_script_text.specs.declared.call.Action.TheVariants as call
+use Rattle.sdd_script_text.specs.declared.call.Call.TheVariants.{At}
+use Rattle.sdd_script_model.proofs.Entry.{spent_twice}
+use Rattle.sdd_script_names.specs.Interpreter.{desk_of}
+use Rattle.sdd_script_names.proofs.Acts.{Does, got, goes, owner-home, still-as}
+use Rattle.sdd_script_names.proofs.Missing.{invalid, nobody, no-owner}
 use Rattle.sdd_raw_acts.proofs.RawActs.{acts-dropped, drop-refused, held-dated, put-back, same-desk}
 use Rattle.sdd_raw_acts.proofs.raw.drop_owner.Goals as goal
 

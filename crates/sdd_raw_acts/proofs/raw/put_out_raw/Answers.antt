@@ -1,15 +1,15 @@
-use Rattle.sdd_store.specs.declared.standing.Standing.TheVariants.{Owned}
-use Rattle.sdd_base.specs.World.{standing_at}
-use Rattle.sdd_hand.specs.declared.stage.Hand.{Hand}
+use Rattle.sdd_participants.specs.declared.standing.Standing.TheVariants.{Owned}
+use Rattle.sdd_space.specs.World.{standing_at}
+use Rattle.sdd_script_names.specs.declared.interpreter.Environment.{Environment}
 use Rattle.std.proofs.Common.{◌≡◌, ℕ, Some, ◌<◌, length, is_some, slice_index, ap, ◌∙◌}
 use Rattle.std.proofs.lemmas.List.{get_or_read}
-use Rattle.sdd_desk.proofs.Stocked.{slot-inside}
-use Rattle.sdd_lines.specs.declared.call.Action.TheVariants as call
-use Rattle.sdd_lines.specs.declared.call.Call.TheVariants.{At}
-use Rattle.sdd_lines.specs.declared.answer.Reply.TheVariants as reply
-use Rattle.sdd_hand.specs.Stage.{desk_of, IsTied}
-use Rattle.sdd_hand.proofs.Acts.{Does, got, owner-home}
-use Rattle.sdd_hand.proofs.Missing.{invalid, nobody, no-sole}
+use Rattle.sdd_script_model.proofs.Stocked.{slot-inside}
+use Rattle.sdd_script_text.specs.declared.call.Action.TheVariants as call
+use Rattle.sdd_script_text.specs.declared.call.Call.TheVariants.{At}
+use Rattle.sdd_script_text.specs.declared.answer.Reply.TheVariants as reply
+use Rattle.sdd_script_names.specs.Interpreter.{desk_of, IsTied}
+use Rattle.sdd_script_names.proofs.Acts.{Does, got, owner-home}
+use Rattle.sdd_script_names.proofs.Missing.{invalid, nobody, no-sole}
 use Rattle.sdd_raw_acts.proofs.RawActs.{acts-raw}
 use Rattle.sdd_raw_acts.proofs.raw.put_out_raw.Goals as goal
 
@@ -28,7 +28,7 @@ pub step_at-requires-clause-asked : goal.step_at-requires-clause-asked
 step_at-requires-clause-asked c = owner-home c.stage.inside.hand c.stage.invariant c.is_whole.ensures c.args.owner.0 _ c.in-Some-take_sole.ensures.0
 
 -- the item has a name
-named : (h : Hand) → IsTied h → (k s : ℕ) → s ≡ k → standing_at h.world k ≡ Some Owned → s < length h.names.items
+named : (h : Environment) → IsTied h → (k s : ℕ) → s ≡ k → standing_at h.world k ≡ Some Owned → s < length h.names.items
 named h t k s is stands = rw is (slot-inside (desk_of h) t.sound.stocked k (ap is_some stands)).0
 
 went : (c : goal.After-row_known-1) → Does (desk_of c.stage.inside.hand) (At c.args.name (call.Raw c.args.owner))

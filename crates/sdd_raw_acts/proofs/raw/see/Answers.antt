@@ -1,10 +1,10 @@
 use Rattle.std.proofs.Common.{◌≡◌, ap, ◌∙◌, slice_index_or}
-use Rattle.sdd_lines.specs.declared.call.Action.TheVariants as call
-use Rattle.sdd_desk.specs.Shown.{told_of}
-use Rattle.sdd_desk.specs.Val.{body_of}
-use Rattle.sdd_hand.specs.Stage.{desk_of}
-use Rattle.sdd_hand.proofs.Inside.{value-inside}
-use Rattle.sdd_hand.proofs.Missing.{invalid}
+use Rattle.sdd_script_text.specs.declared.call.Action.TheVariants as call
+use Rattle.sdd_script_model.specs.Shown.{told_of}
+use Rattle.sdd_script_model.specs.Val.{body_of}
+use Rattle.sdd_script_names.specs.Interpreter.{desk_of}
+use Rattle.sdd_script_names.proofs.Inside.{value-inside}
+use Rattle.sdd_script_names.proofs.Missing.{invalid}
 use Rattle.sdd_raw_acts.proofs.RawActs.{acts-seen, acts-unseen, there-from, there-not}
 use Rattle.sdd_raw_acts.proofs.raw.see.Goals as goal
 

@@ -1,6 +1,6 @@
 use Rattle.std.proofs.Common.{◌≡◌, ◌≤◌, ◌++◌, length, map}
 use Rattle.std.specs.List.{AllByRecursion}
-use Rattle.sdd_lines.specs.Script.{most_calls, lines}
+use Rattle.sdd_script_text.specs.Script.{most_calls, lines}
 use Rattle.sdd_schedules.specs.Line.{line_of, HasNumbers}
 use Rattle.sdd_schedules.proofs.schedule.parse_all.Given as goal
 

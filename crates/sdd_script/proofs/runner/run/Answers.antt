@@ -1,8 +1,8 @@
 use Rattle.std.proofs.lemmas.List.{take_more, take_all}
 use Rattle.std.proofs.Common.{length, ap, arith}
 use Rattle.std.proofs.lemmas.List.{length_push}
-use Rattle.sdd_lines.specs.declared.call.Call.TheVariants.{Register}
-use Rattle.sdd_desk.proofs.Runs.{runs-push}
+use Rattle.sdd_script_text.specs.declared.call.Call.TheVariants.{Register}
+use Rattle.sdd_script_model.proofs.Runs.{runs-push}
 use Rattle.sdd_script.proofs.runner.run.Goals as goal
 
 pub loop-call-preserved : goal.loop-call-preserved

@@ -1,5 +1,5 @@
 use Rattle.std.proofs.Common.{◌≡◌, ◌≤◌, length, take, vec_capacity}
-use Rattle.sdd_desk.specs.Script.{Runs}
+use Rattle.sdd_script_model.specs.Script.{Runs}
 use Rattle.sdd_script.proofs.runner.run.Given as goal
 
 -- the calls so far ran

@@ -1,6 +1,6 @@
 use Rattle.std.proofs.Common.{ℕ}
-use Rattle.sdd_base.specs.Seat.{IsExact}
-use Rattle.sdd_base.specs.Shared.{slot_of}
+use Rattle.sdd_space.specs.CallerId.{IsExact}
+use Rattle.sdd_space.specs.Shared.{slot_of}
 use Rattle.sdd_client.specs.Config.{cell_of}
 use Rattle.sdd_client.proofs.Replacing.{replaces}
 use Rattle.sdd_client.proofs.config.Config.replace.Goals as goal

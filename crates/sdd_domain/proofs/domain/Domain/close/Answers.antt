@@ -1,10 +1,10 @@
 use Rattle.std.proofs.Common.{◌≡◌, ℕ, ◌+◌, ◌-◌, ◌≤◌, List, length, sym, ap, ◌∙◌, subst, arith}
 use Rattle.core.specs.Mem.Slots.{slots_items}
-use Rattle.sdd_token.specs.Units as token
-use Rattle.sdd_views.specs.declared.PlacesView.{PlacesView}
+use Rattle.sdd_rights.specs.Units as token
+use Rattle.sdd_views.specs.declared.EndedView.{EndedView}
 use Rattle.sdd_views.specs.declared.Sizes.{Sizes}
-use Rattle.sdd_homes.specs.Counts.{full_slots}
-use Rattle.sdd_board.specs.Board.{sizes_of}
+use Rattle.sdd_domain_invariant.specs.Counts.{full_slots}
+use Rattle.sdd_atomics.specs.DomainTable.{sizes_of}
 use Rattle.sdd_domain.specs.Domain.{slots_in}
 use Rattle.sdd_domain.specs.Receipt.{Receipt, AddsUp}
 use Rattle.sdd_domain.proofs.Ending.{none_full}
@@ -13,16 +13,16 @@ use Rattle.sdd_domain.proofs.Tallies.{adds_up}
 use Rattle.sdd_domain.proofs.domain.Domain.close.Goals as goal
 
 pub returns-then-not-are_over-clause-again : goal.returns-then-not-are_over-clause-again
-returns-then-not-are_over-clause-again g c = home_again (λ (h : token.Home). h ≡ slots_in c.args.self) _ c.args.receipts.items c.settle_all.new.receipts.items
+returns-then-not-are_over-clause-again g c = home_again (λ (h : token.GhostName). h ≡ slots_in c.args.self) _ c.args.receipts.items c.settle_all.new.receipts.items
     c.settle_all.ensures.settled c.requires.homes
 
 pub returns-in_default-clause-again : goal.returns-in_default-clause-again
-returns-in_default-clause-again g c = home_again (λ (h : token.Home). h ≡ slots_in c.args.self) _ c.args.receipts.items c.settle_all.new.receipts.items
+returns-in_default-clause-again g c = home_again (λ (h : token.GhostName). h ≡ slots_in c.args.self) _ c.args.receipts.items c.settle_all.new.receipts.items
     c.settle_all.ensures.settled c.requires.homes
 
 pub take_all_counts-requires-clause-homes : goal.take_all_counts-requires-clause-homes
-take_all_counts-requires-clause-homes g c k d low = ap (λ (h : token.Home). h.tables)
-    (home_again (λ (h : token.Home). h ≡ slots_in c.args.self) _ c.args.receipts.items c.settle_all.new.receipts.items c.settle_all.ensures.settled
+take_all_counts-requires-clause-homes g c k d low = ap (λ (h : token.GhostName). h.tables)
+    (home_again (λ (h : token.GhostName). h ≡ slots_in c.args.self) _ c.args.receipts.items c.settle_all.new.receipts.items c.settle_all.ensures.settled
     c.requires.homes k d low)
 
 pub returns-clause-settled : goal.returns-clause-settled
@@ -45,7 +45,7 @@ returns-clause-whole g c = let z = sizes_of c.args.self.board in let ended : Lis
     let slots : z.slots ≡ c.args.self.limits.slots = ap (λ (z : Sizes). z.slots) c.args.self.limited.1 in
     let few : length ended ≤ z.participants = subst (λ (n : ℕ). n ≤ z.participants) taken.over closed.places in
     let quiet : c.args.self.limits.slots ≤ c.take_all_counts.new.token.me.0.places.quiet =
-    (let found = c.in-Some.ensures.quiet in let same = ap (λ (v : PlacesView). v.quiet) c.take_all_counts.ensures.places in omega arith) in
+    (let found = c.in-Some.ensures.quiet in let same = ap (λ (v : EndedView). v.quiet) c.take_all_counts.ensures.places in omega arith) in
     let ws : List ℕ = slots_items c.close-closed.result.words in
     let free : full_slots z ws ≡ 0 = none_full z ws (λ i low. closed.quiet i (omega arith)) in (
       (omega arith),

@@ -1,4 +1,4 @@
-use Rattle.sdd_base.proofs.Under.{keeps-under-guards, keeps-fresh-under-guards}
+use Rattle.sdd_space.proofs.Under.{keeps-under-guards, keeps-fresh-under-guards}
 use Rattle.sdd_domain.specs.Local.{world_of}
 use Rattle.sdd_domain.proofs.local.Local.keeps_under_guards.Goals as goal
 

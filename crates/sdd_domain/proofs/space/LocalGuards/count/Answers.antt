@@ -1,8 +1,8 @@
 use Rattle.std.proofs.Common.{rules, ◌≡◌, sym, ap, ◌∙◌, subst}
-use Rattle.sdd_stakes.specs.Shelf.{showing}
+use Rattle.sdd_shared_values.specs.SharedValues.{showing}
 use Rattle.sdd_domain.specs.Homes.{home_in}
-use Rattle.sdd_domain.specs.Member.{Member}
-use Rattle.sdd_domain.specs.Local.{Partaker, world_of}
+use Rattle.sdd_domain.specs.LocalState.{LocalState}
+use Rattle.sdd_domain.specs.Local.{LocalModel, world_of}
 use Rattle.sdd_domain.specs.declared.local.Local.TheInside.{Inside}
 use Rattle.sdd_domain.specs.Sound.{IsSound}
 use Rattle.sdd_domain.proofs.Kept.{keeps_own}
@@ -10,15 +10,15 @@ use Rattle.sdd_domain.proofs.Sound.{sound_step}
 use Rattle.sdd_domain.proofs.space.LocalGuards.count.Goals as goal
 
 pub invariant_of-self : goal.invariant_of-self
-invariant_of-self g c = let v : Partaker g.row.T.Denot = (c.self-inside.view_is 0).partner in
+invariant_of-self g c = let v : LocalModel g.row.T.Denot = (c.self-inside.view_is 0).partner in
     let inner : v ≡ c.self.inside.partner = ap (λ (i : Inside g.row.T.Denot). i.partner) c.self-inside.view_is in
     let told = c.count.ensures in
     sound_step g.T.Item.holds v c.count.new.self (subst (IsSound g.T.Item.holds) (sym inner) c.self.invariant) (λ w _. w) (λ w _ _ whole. whole)
-    (ap (λ (m : Member). m.due) told.member) (ap home_in told.member)
-    (λ one. ap (λ (m : Member). world_of (record v { member = m })) (told.member ∙ (λ d. record v.member { known = told.lone one d })))
+    (ap (λ (m : LocalState). m.due) told.member) (ap home_in told.member)
+    (λ one. ap (λ (m : LocalState). world_of (record v { member = m })) (told.member ∙ (λ d. record v.member { known = told.lone one d })))
 
 pub returns-clause-undisturbed : goal.returns-clause-undisturbed
-returns-clause-undisturbed g c = let v : Partaker g.row.T.Denot = (c.self-inside.view_is 0).partner in
+returns-clause-undisturbed g c = let v : LocalModel g.row.T.Denot = (c.self-inside.view_is 0).partner in
     let inner : v ≡ c.self.inside.partner = ap (λ (i : Inside g.row.T.Denot). i.partner) c.self-inside.view_is in
     record {
       seat = search rules;

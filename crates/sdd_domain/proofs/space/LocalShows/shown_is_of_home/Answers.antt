@@ -1,9 +1,9 @@
 use Rattle.std.proofs.Common.{subst}
-use Rattle.sdd_stakes.specs.Shelf.{showing}
-use Rattle.sdd_domain.specs.Local.{Partaker}
+use Rattle.sdd_shared_values.specs.SharedValues.{showing}
+use Rattle.sdd_domain.specs.Local.{LocalModel}
 use Rattle.sdd_domain.specs.Sound.{IsSound}
 use Rattle.sdd_domain.proofs.Sound.{held_at_home}
 use Rattle.sdd_domain.proofs.space.LocalShows.shown_is_of_home.Goals as goal
 
 pub returns : goal.returns
-returns g c = held_at_home (showing g.row.T) g.T.Item.holds c.args.self.now (subst (λ (p : Partaker g.row.T.Denot). IsSound g.T.Item.holds p) c.self.view_is c.self.invariant)
+returns g c = held_at_home (showing g.row.T) g.T.Item.holds c.args.self.now (subst (λ (p : LocalModel g.row.T.Denot). IsSound g.T.Item.holds p) c.self.view_is c.self.invariant)

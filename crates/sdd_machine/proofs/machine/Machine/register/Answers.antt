@@ -1,6 +1,6 @@
 use Rattle.std.proofs.Common.{◌≡◌, ◌<◌, true, length, refl, sym, ap, ◌∙◌, get_or, rules}
 use Rattle.sdd_machine.specs.declared.machine.places.Phase.TheVariants.{Closed}
-use Rattle.sdd_machine.specs.Bags.{Trio, no_items}
+use Rattle.sdd_machine.specs.Bags.{ThreeBags, no_items}
 use Rattle.sdd_machine.specs.Table.{Place, is_free, is_open, registered}
 use Rattle.sdd_machine.specs.Views.{free_post, place_of}
 use Rattle.sdd_machine.proofs.Places.{free_is}
@@ -35,4 +35,4 @@ returns c =
     sym (ap (λ (x : Place). is_free x.phase) (at_seen now count all_posts all_bags all_retired scan view same_length place)) ∙ c.requires.free in
     let empty : t ≡ no_items = c.self.invariant.free place free in
     with_post now count all_posts all_bags all_retired scan place (record { phase = Closed; found = 0 }) registered view same_length
-    (ap (λ (u : Trio). place_of (record { phase = Closed; found = 0 }) u) (sym empty))
+    (ap (λ (u : ThreeBags). place_of (record { phase = Closed; found = 0 }) u) (sym empty))

@@ -1,6 +1,6 @@
 use Rattle.std.proofs.Common.{◌<◌, length, refl, sym, ap, subst, ◌∙◌, get_or, arith}
 use Rattle.sdd_machine.specs.Table.{Place, rotated}
-use Rattle.sdd_machine.specs.Bags.{Trio, Bagged, no_items}
+use Rattle.sdd_machine.specs.Bags.{ThreeBags, BagsOfPlaces, no_items}
 use Rattle.sdd_machine.proofs.Seen.{at_seen, within_seen, with_trio}
 use Rattle.std.specs.FinSet as set
 use Rattle.std.proofs.Common.{List}
@@ -31,7 +31,7 @@ returns-clause-moved c =
     let count = c.self.inside.count in let all_posts = c.self.inside.posts.items in let all_bags = c.self.inside.bags.trios in
     let all_retired = c.self.inside.retired.items in let scan = c.self.inside.scan in let place = c.args.place in
     let t = get_or all_bags place no_items in
-    ap (λ (ts : List Trio). seen count all_posts ts all_retired scan) (ap (λ (b : Bagged). b.trios) c.rotate.ensures.moved)
+    ap (λ (ts : List ThreeBags). seen count all_posts ts all_retired scan) (ap (λ (b : BagsOfPlaces). b.trios) c.rotate.ensures.moved)
     ∙ with_trio c.args.self.now count all_posts all_bags all_retired scan place (bags.rotated t) rotated c.self.view_is c.self.invariant.same refl
 
 pub invariant_of-self : goal.invariant_of-self
@@ -40,5 +40,5 @@ invariant_of-self c =
     let all_retired = c.self.inside.retired.items in let scan = c.self.inside.scan in let place = c.args.place in
     let l : place < length all_bags =
     within_bags c.args.self.now count all_posts all_bags all_retired scan c.self.view_is c.self.invariant.same place c.requires in
-    subst (λ (b : Bagged). Fits all_posts b all_retired scan) (sym c.rotate.ensures.moved)
+    subst (λ (b : BagsOfPlaces). Fits all_posts b all_retired scan) (sym c.rotate.ensures.moved)
     (fits_rotated all_posts c.self.inside.bags all_retired scan place c.self.invariant l)

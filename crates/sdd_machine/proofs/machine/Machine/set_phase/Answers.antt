@@ -1,6 +1,6 @@
 use Rattle.std.proofs.Common.{◌≡◌, ◌<◌, length, sym, ap, get_or, rules}
 use Rattle.std.proofs.lemmas.List.{get_or_read}
-use Rattle.sdd_machine.specs.declared.machine.places.Post.{Post}
+use Rattle.sdd_machine.specs.declared.machine.places.PlacePhase.{PlacePhase}
 use Rattle.sdd_machine.specs.Table.{phased}
 use Rattle.sdd_machine.specs.Bags.{no_items}
 use Rattle.sdd_machine.specs.Views.{place_of, free_post}
@@ -26,7 +26,7 @@ returns c =
     get_or_read all_posts place c.index_mut.result.now h c.index_mut.ensures.value free_post in
     with_post now count all_posts all_bags all_retired scan place
     (record { phase = c.args.phase; found = c.index_mut.result.now.found }) (phased c.args.phase) view same_length
-    (ap (λ (x : Post). place_of (record { phase = c.args.phase; found = x.found }) (get_or all_bags place no_items)) (sym is))
+    (ap (λ (x : PlacePhase). place_of (record { phase = c.args.phase; found = x.found }) (get_or all_bags place no_items)) (sym is))
 
 pub invariant_of-self : goal.invariant_of-self
 invariant_of-self c =

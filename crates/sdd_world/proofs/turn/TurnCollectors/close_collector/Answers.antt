@@ -1,8 +1,8 @@
 use Rattle.std.proofs.Common.{ℕ, ◌≡◌, ◌∙◌, arith, false, true, refl, sym}
-use Rattle.sdd_token.specs.Right.{raw_number_of}
-use Rattle.sdd_base.proofs.Own.{collector-own}
-use Rattle.sdd_base.proofs.Collecting.{collected-ends}
-use Rattle.sdd_inside.proofs.Collecting.{count-closed}
+use Rattle.sdd_rights.specs.Right.{raw_number_of}
+use Rattle.sdd_space.proofs.Own.{collector-own}
+use Rattle.sdd_space.proofs.Collecting.{collected-ends}
+use Rattle.sdd_world_core.proofs.Collecting.{count-closed}
 use Rattle.sdd_world.proofs.turn.TurnCollectors.close_collector.Goals as goal
 
 pub returns-clause-own : goal.returns-clause-own

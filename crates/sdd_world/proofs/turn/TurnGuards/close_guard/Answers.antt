@@ -1,6 +1,6 @@
 use Rattle.std.proofs.Common.{ℕ}
-use Rattle.sdd_base.proofs.Closes.{goes-up, how-closed, inner-count, own-closed}
-use Rattle.sdd_store.specs.Time.{closed}
+use Rattle.sdd_space.proofs.Closes.{goes-up, how-closed, inner-count, own-closed}
+use Rattle.sdd_participants.specs.EpochState.{closed}
 use Rattle.sdd_world.proofs.turn.TurnGuards.close_guard.Goals as goal
 
 pub returns-clause-own : goal.returns-clause-own

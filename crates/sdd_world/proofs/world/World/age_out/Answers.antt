@@ -1,14 +1,14 @@
 use Rattle.std.proofs.Common.{◌<◌, ◌≢◌, [], length, arith}
-use Rattle.sdd_store.specs.Time.{pace_of}
-use Rattle.sdd_base.specs.World.{IsGuarded, place_at}
-use Rattle.sdd_base.specs.Steps.{changed}
-use Rattle.sdd_base.proofs.Housed.{Whole-changed, Whole-paced, IsTaken, items, taken-changed}
-use Rattle.sdd_base.proofs.Weights.{KeepsSizes-trans}
-use Rattle.sdd_base.proofs.Whole.{abreast-paced}
+use Rattle.sdd_participants.specs.EpochState.{pace_of}
+use Rattle.sdd_space.specs.World.{IsGuarded, place_at}
+use Rattle.sdd_space.specs.Steps.{changed}
+use Rattle.sdd_space.proofs.Housed.{Whole-changed, Whole-paced, IsTaken, items, taken-changed}
+use Rattle.sdd_space.proofs.Weights.{KeepsSizes-trans}
+use Rattle.sdd_space.proofs.Whole.{abreast-paced}
 use Rattle.sdd_world.specs.Closing.{aged_out}
 use Rattle.sdd_world.proofs.Closing.{MovesWaiting-aged_out, MovesWaiting-guards}
-use Rattle.sdd_inside.proofs.Lending.{readers-keep}
-use Rattle.sdd_inside.proofs.Quiet.{home-quiet, lent-quiet}
+use Rattle.sdd_world_core.proofs.Lending.{readers-keep}
+use Rattle.sdd_world_core.proofs.Quiet.{home-quiet, lent-quiet}
 use Rattle.sdd_world.proofs.world.World.age_out.Goals as goal
 
 pub change-requires-clause-home : goal.change-requires-clause-home

@@ -1,9 +1,9 @@
 use Rattle.std.proofs.Common.{◌<◌, ◌++◌, ap, ◌∙◌, sym, length, arith}
 use Rattle.std.proofs.lemmas.Grind.{common_steps}
-use Rattle.sdd_store.specs.Time.{without_waiting, place_at, with_place}
+use Rattle.sdd_participants.specs.EpochState.{without_waiting, place_at, with_place}
 use Rattle.sdd_world.specs.Closing.{all_aged_out}
 use Rattle.sdd_world.proofs.Closing.{all_aged_out-append, emptied_to-more, emptied-guards}
-use Rattle.sdd_inside.proofs.Quiet.{quiet-same}
+use Rattle.sdd_world_core.proofs.Quiet.{quiet-same}
 use Rattle.sdd_world.proofs.world.World.clear.Goals as goal
 
 pub loop-place-preserved : goal.loop-place-preserved

@@ -1,8 +1,8 @@
 use Rattle.std.proofs.Common.{◌≡◌, subst, sym, refl, inl, inr, ap, ◌∙◌, IsTrue}
-use Rattle.sdd_base.specs.World.{World, IsGuarded}
-use Rattle.sdd_base.specs.Whole.{IsCounted, IsWhole, taken}
-use Rattle.sdd_store.specs.declared.tally.Tally.{Tally}
-use Rattle.sdd_inside.specs.Closing.{NothingIsOut}
+use Rattle.sdd_space.specs.World.{World, IsGuarded}
+use Rattle.sdd_space.specs.Whole.{IsCounted, IsWhole, taken}
+use Rattle.sdd_participants.specs.declared.tally.Tally.{Tally}
+use Rattle.sdd_world_core.specs.Closing.{NothingIsOut}
 use Rattle.sdd_world.proofs.Closing.{emptied-live}
 use Rattle.sdd_world.proofs.Sweeping.{sweeps, nothing-out, all-went, all-counted, none-out-goes, plain-goes, none-taken-at-end, tally-accounts}
 use Rattle.sdd_world.proofs.world.World.close.Goals as goal

@@ -1,4 +1,4 @@
-use Rattle.sdd_base.proofs.Under.{keeps-under-guards, keeps-collected-under-guards, keeps-fresh-under-guards}
+use Rattle.sdd_space.proofs.Under.{keeps-under-guards, keeps-collected-under-guards, keeps-fresh-under-guards}
 use Rattle.sdd_world.proofs.world.World.keeps_under_guards.Goals as goal
 
 pub returns : goal.returns

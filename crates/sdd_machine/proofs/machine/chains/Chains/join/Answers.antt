@@ -2,7 +2,7 @@ use Rattle.std.proofs.Common.{◌≡◌, ℕ, ◌≤◌, ◌++◌, List, length,
 use Rattle.std.proofs.lemmas.List.{get_or_read, with_items_is}
 use Rattle.sdd_machine.specs.declared.machine.chains.Chain.{Chain}
 use Rattle.sdd_machine.specs.Table.{Items}
-use Rattle.sdd_machine.specs.Chains.{Linked, items_of, occ, no_chain, bag_of, moved_into, AreChains}
+use Rattle.sdd_machine.specs.Chains.{ChainedBags, items_of, occ, no_chain, bag_of, moved_into, AreChains}
 use Rattle.sdd_machine.proofs.Relinks.{within_chains, both_once, joins_of, join_chains, join_bags}
 use Rattle.sdd_machine.proofs.machine.chains.Chains.join.Goals as goal
 
@@ -55,4 +55,4 @@ returns c =
     ap (λ (ks : List ℕ). record { items = length ks; bags = map (bag_of ks) ds }) (with_items_is c.self.inside.links new_links fits)
     ∙ (ap (λ (n : ℕ). record { items = n; bags = map (bag_of new_links) ds }) size
     ∙ (ap (λ (bs : List Items). record { items = length ls; bags = bs }) (join_bags ls new_links cs to from chain j)
-    ∙ ap (λ (b : Linked). record { items = b.items; bags = moved_into to from b.bags }) v))
+    ∙ ap (λ (b : ChainedBags). record { items = b.items; bags = moved_into to from b.bags }) v))

@@ -3,7 +3,7 @@ use Rattle.std.proofs.lemmas.List.{get_or_read, with_items_is}
 use Rattle.std.specs.FinSet as set
 use Rattle.sdd_machine.specs.declared.machine.chains.Chain.{Chain}
 use Rattle.sdd_machine.specs.Table.{Items}
-use Rattle.sdd_machine.specs.Chains.{Linked, items_of, occ, no_chain, all_items, bag_of, bag_at, AreChains}
+use Rattle.sdd_machine.specs.Chains.{ChainedBags, items_of, occ, no_chain, all_items, bag_of, bag_at, AreChains}
 use Rattle.sdd_machine.proofs.Relinks.{within_chains, nowhere, put_once, put_chains, put_bags}
 use Rattle.sdd_machine.proofs.machine.chains.Chains.put.Goals as goal
 
@@ -14,7 +14,7 @@ joined-requires-clause-once c =
     let l = within_chains ls cs c.args.self.now c.args.bag v c.requires.bag in
     let k = c.args.bag in let item = c.args.item in
     let second = get_or_read cs k old_chain l c.index-chain.ensures no_chain in
-    let none : occ item (all_items ls cs) ≡ 0 = nowhere ls cs item (λ j. ap (λ (b : Linked). set.contains (bag_at b.bags j) item) v ∙ c.requires.nowhere j) in
+    let none : occ item (all_items ls cs) ≡ 0 = nowhere ls cs item (λ j. ap (λ (b : ChainedBags). set.contains (bag_at b.bags j) item) v ∙ c.requires.nowhere j) in
     λ i. put_once ls c.as_mut_slice.result.now cs k item i c.of.result old_chain c.self.invariant none c.as_mut_slice.ensures.value c.of.ensures second
 
 pub invariant_of-self : goal.invariant_of-self
@@ -25,7 +25,7 @@ invariant_of-self c =
     let l = within_chains ls cs c.args.self.now c.args.bag v c.requires.bag in
     let k = c.args.bag in let item = c.args.item in
     let second = get_or_read cs k old_chain l c.index-chain.ensures no_chain in
-    let none : occ item (all_items ls cs) ≡ 0 = nowhere ls cs item (λ j. ap (λ (b : Linked). set.contains (bag_at b.bags j) item) v ∙ c.requires.nowhere j) in
+    let none : occ item (all_items ls cs) ≡ 0 = nowhere ls cs item (λ j. ap (λ (b : ChainedBags). set.contains (bag_at b.bags j) item) v ∙ c.requires.nowhere j) in
     let size : length new_links ≡ length ls = (let a = c.joined.auto.links in let b = ap length same in omega (arith, a, b)) in
     let fits : length new_links ≡ c.self.inside.links.len = size ∙ sym c.self.inside.links.ok.0 in
     let items : items_of new_links chain ≡ item ∷ items_of ls (get_or cs k no_chain) =
@@ -44,7 +44,7 @@ returns c =
     let l = within_chains ls cs c.args.self.now c.args.bag v c.requires.bag in
     let k = c.args.bag in let item = c.args.item in
     let second = get_or_read cs k old_chain l c.index-chain.ensures no_chain in
-    let none : occ item (all_items ls cs) ≡ 0 = nowhere ls cs item (λ j. ap (λ (b : Linked). set.contains (bag_at b.bags j) item) v ∙ c.requires.nowhere j) in
+    let none : occ item (all_items ls cs) ≡ 0 = nowhere ls cs item (λ j. ap (λ (b : ChainedBags). set.contains (bag_at b.bags j) item) v ∙ c.requires.nowhere j) in
     let size : length new_links ≡ length ls = (let a = c.joined.auto.links in let b = ap length same in omega (arith, a, b)) in
     let fits : length new_links ≡ c.self.inside.links.len = size ∙ sym c.self.inside.links.ok.0 in
     let items : items_of new_links chain ≡ item ∷ items_of ls (get_or cs k no_chain) =
@@ -56,4 +56,4 @@ returns c =
     ap (λ (ks : List ℕ). record { items = length ks; bags = map (bag_of ks) ds }) (with_items_is c.self.inside.links new_links fits)
     ∙ (ap (λ (n : ℕ). record { items = n; bags = map (bag_of new_links) ds }) size
     ∙ (ap (λ (bs : List Items). record { items = length ls; bags = bs }) (put_bags ls new_links cs k item chain l none items others)
-    ∙ ap (λ (b : Linked). record { items = b.items; bags = slice_set b.bags k (set.insert (bag_at b.bags k) item) }) v))
+    ∙ ap (λ (b : ChainedBags). record { items = b.items; bags = slice_set b.bags k (set.insert (bag_at b.bags k) item) }) v))

@@ -1,0 +1,19 @@
+use Rattle.std.proofs.Common.{◌≡◌, ℕ, List, ◌∙◌, sym, ap, get_or, length, replicate, arith}
+use Rattle.std.proofs.lemmas.List.{length-replicate}
+use Rattle.std.proofs.lemmas.Grind.{common_steps}
+use Rattle.sdd_word_invariant.specs.Words.{all_words}
+use Rattle.sdd_domain_invariant.proofs.Tokens.{begins, founds_bank}
+use Rattle.sdd_domain_invariant.specs.HomeSteps.{SeatState}
+use Rattle.sdd_atomics.specs.declared.domain_table.TableLayout.{TableLayout}
+use Rattle.sdd_atomics.proofs.Zeros.{zeros}
+use Rattle.sdd_atomics.proofs.domain_table.DomainTable.new.Goals as goal
+
+pub new-requires : goal.new-requires
+new-requires c = let plan = c.args.plan.now in let n : ℕ = all_words plan.sizes in let few = c.requires.small.participants in
+    let blank : c.as_slice.result.now ≡ replicate n 0 = grind (arith, common_steps, c.in-Ok.ensures.items_if_clones_equal) in
+    begins plan.title.book plan.sizes c.as_slice.result.now c.args.laid.items (ap length blank ∙ length-replicate {A = ℕ} n 0)
+    (λ i. ap (λ (l : List ℕ). get_or l i 0) blank ∙ zeros n i) (omega arith) c.requires.laid
+
+pub found-bank-requires-clause-cut : goal.found-bank-requires-clause-cut
+found-bank-requires-clause-cut c = let e = c.in-Ok-new.ensures.ok in founds_bank _ _ _ _ (ap (λ (m : SeatState). m.0.stakes.founds) e.4)
+    (ap (λ (m : SeatState). m.0.stakes.book) e.4 ∙ sym (ap (λ (p : TableLayout). p.title.book) e.5))

@@ -1,0 +1,11 @@
+use Rattle.std.proofs.Common.{arith}
+use Rattle.sdd_word_invariant.specs.Steps.{Advances}
+use Rattle.sdd_atomics.proofs.Allowed.{told, may_advance}
+use Rattle.sdd_atomics.proofs.steps.advance.Goals as goal
+
+pub compare_exchange-requires : goal.compare_exchange-requires
+compare_exchange-requires c = let sized = c.args.board.now.sized in let r = c.requires in
+    (r.home, omega arith, may_advance _ _ _ _ _ _ _ r.count.0 (omega (arith, r.count)) r.passed)
+
+pub returns : goal.returns
+returns c = let e = c.compare_exchange.ensures in told c.args.token.now _ c.compare_exchange.result e.0 e.1 Advances e.2

@@ -1,0 +1,11 @@
+use Rattle.std.proofs.Common.{arith}
+use Rattle.sdd_domain_invariant.specs.HomeSteps.{EndsAll}
+use Rattle.sdd_atomics.proofs.Allowed.{taught, may_end}
+use Rattle.sdd_atomics.proofs.steps.end.Goals as goal
+
+pub store-requires : goal.store-requires
+store-requires c = let sized = c.args.board.now.sized in let r = c.requires in
+    (r.home, omega arith, may_end _ _ _ _ _ _ r.closed (omega (arith, r.own)) (omega (arith, r.own)) r.rests)
+
+pub returns : goal.returns
+returns c = let e = c.store.ensures in taught c.args.token.now _ 3 e.0 e.1 EndsAll e.2

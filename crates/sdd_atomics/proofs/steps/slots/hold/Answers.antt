@@ -1,0 +1,12 @@
+use Rattle.std.proofs.Common.{arith}
+use Rattle.sdd_word_invariant.specs.SlotSteps.{TakesHold}
+use Rattle.sdd_atomics.proofs.Allowed.{taught_at, may_hold}
+use Rattle.sdd_atomics.proofs.steps.slots.hold.Goals as goal
+
+pub load-requires : goal.load-requires
+load-requires c = let r = c.requires in
+    (r.home, omega arith, may_hold _ _ _ _ _ r.knows.0 r.knows.1 r.place _ c.args.slot c.slot_word.ensures r.inside r.own.0 r.own.1)
+
+pub returns : goal.returns
+returns c = let e = c.load.ensures in
+    taught_at c.args.token.now _ c.load.result e.0 e.1 TakesHold _ c.args.slot _ c.slot_word.ensures c.requires.knows.0 e.2

@@ -1,0 +1,10 @@
+use Rattle.std.proofs.Common.{arith}
+use Rattle.sdd_word_invariant.specs.Steps.{Unlocks}
+use Rattle.sdd_atomics.proofs.Allowed.{told, may_unlock}
+use Rattle.sdd_atomics.proofs.steps.unlock.Goals as goal
+
+pub store-requires : goal.store-requires
+store-requires c = let sized = c.args.board.now.sized in let r = c.requires in (r.home, omega arith, may_unlock _ _ _ _ _ r.scans)
+
+pub returns : goal.returns
+returns c = let e = c.store.ensures in told c.args.token.now _ 0 e.0 e.1 Unlocks e.2

@@ -1,0 +1,11 @@
+use Rattle.std.proofs.Common.{arith}
+use Rattle.sdd_word_invariant.specs.Steps.{Counts}
+use Rattle.sdd_atomics.proofs.Allowed.{told, may_write}
+use Rattle.sdd_atomics.proofs.steps.write.Goals as goal
+
+pub store-requires : goal.store-requires
+store-requires c = let sized = c.args.board.now.sized in let r = c.requires in
+    (r.home, omega arith, may_write _ _ _ _ _ _ _ r.closed (omega (arith, r.own)) (omega (arith, r.own)))
+
+pub returns : goal.returns
+returns c = let e = c.store.ensures in told c.args.token.now _ c.args.count e.0 e.1 Counts e.2

@@ -1,0 +1,10 @@
+-- The token of counts, as it leaves a participant
+use Rattle.std.specs.Prelude.{List, [], ◌∷◌}
+use base.Stored.{Gv}
+use Rattle.sdd_views.specs.declared.CountsView.{CountsView}
+use Rattle.sdd_views.specs.contracts.View.{the_row}
+use Rattle.sdd_domain_invariant.specs.HomeSteps.{counts_token}
+
+-- the views of a witness that knows these counts
+abbrev pub witness_of_counts : CountsView → List Gv
+witness_of_counts counts = the_row.coded.code (counts_token counts) ∷ []

@@ -1,0 +1,6 @@
+pub mod Sizes
+pub mod DomainTable
+pub mod DomainSeat
+pub mod Owner
+pub mod Counts
+pub mod Grips

@@ -1,0 +1,14 @@
+-- The token of an owner, as it leaves a participant
+use Rattle.std.specs.Prelude.{◌≡◌, List, [], ◌∷◌}
+use base.Stored.{Gv}
+use Rattle.sdd_views.specs.declared.View.{View}
+use Rattle.sdd_views.specs.contracts.View.{the_row}
+use Rattle.sdd_domain_invariant.specs.HomeSteps.{departing}
+
+-- these are the views of the owner that a participant with this view has cut off
+abbrev pub IsCutOff : View → List Gv → Type 0
+IsCutOff v views = views ≡ the_row.coded.code (departing v) ∷ []
+
+-- it has no owner any more
+abbrev pub disowned : View → View
+disowned v = record v { slots = record v.slots { owns = [] } }

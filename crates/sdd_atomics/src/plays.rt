@@ -1,0 +1,234 @@
+//! What each step tells.
+ghost use Rattle.std.specs.Prelude.{[], true, false};
+ghost use Rattle.sdd_word_invariant.specs.Steps.{Registers, Reads, Counts, Locks, LooksAtLock, LooksAtState, LooksAtCount, Advances, Unlocks};
+ghost use Rattle.sdd_word_invariant.specs.SlotSteps.{OnEpoch, PublishesAll, LooksAtSlot, TakesHold, LetsGo, LooksForGuard, AtSlot};
+ghost use Rattle.sdd_word_invariant.specs.Barred.{Bars, LooksForValue};
+ghost use Rattle.sdd_views.specs.Views.{owner_token};
+ghost use Rattle.sdd_domain_invariant.specs.Banked.{founded, bank_of};
+ghost use Rattle.sdd_domain_invariant.specs.HomeSteps.{ClaimsAll, TakesOut, TakesHeld, IsDeposit, RetiresOne, GivesAll, DiscardsAll, ClosesHome, EndsAll, EntersUnit, OfSlot, parting, departing, regained, uncounting, counts_of, counting};
+ghost use Rattle.sdd_atomics.specs.DomainSeat.{Sits, Told, HousesMoved, WatchesOwned, RecallsOwned};
+
+use atomic_table::{Join, Play, Split};
+use sdd_shared_values::{Deals, ValueFraction};
+use sdd_views::View;
+use sdd_witness::GhostUpdateBeside;
+
+pub struct NewSeat;
+
+impl Play<ValueFraction, View> for NewSeat {
+    ghost then = { Sits };
+}
+
+pub struct Register;
+
+impl Play<ValueFraction, View> for Register {
+    ghost then = { λ step. Told (OnEpoch (Registers step.word)) };
+}
+
+pub struct Read;
+
+impl Play<ValueFraction, View> for Read {
+    ghost then = { λ _. Told (OnEpoch Reads) };
+}
+
+pub struct Write;
+
+impl Play<ValueFraction, View> for Write {
+    ghost then = { λ _. Told (OnEpoch Counts) };
+}
+
+pub struct Publish;
+
+impl Play<ValueFraction, View> for Publish {
+    ghost then = { λ _. Told PublishesAll };
+}
+
+pub struct Close;
+
+impl Play<ValueFraction, View> for Close {
+    ghost then = { λ _. ClosesHome };
+}
+
+pub struct End;
+
+impl Play<ValueFraction, View> for End {
+    ghost then = { λ _. Told EndsAll };
+}
+
+pub struct Bar;
+
+impl Play<ValueFraction, View> for Bar {
+    ghost then = { λ step. Told (Bars step.first step.word) };
+}
+
+pub struct Lock;
+
+impl Play<ValueFraction, View> for Lock {
+    ghost then = { λ _. Told (OnEpoch Locks) };
+}
+
+pub struct LookAtLock;
+
+impl Play<ValueFraction, View> for LookAtLock {
+    ghost then = { λ _. Told (OnEpoch LooksAtLock) };
+}
+
+pub struct LookAtState;
+
+impl Play<ValueFraction, View> for LookAtState {
+    ghost then = { λ step. Told (OnEpoch (LooksAtState step.word)) };
+}
+
+pub struct LookAtCount;
+
+impl Play<ValueFraction, View> for LookAtCount {
+    ghost then = { λ step. Told (OnEpoch (LooksAtCount step.word)) };
+}
+
+pub struct Advance;
+
+impl Play<ValueFraction, View> for Advance {
+    ghost then = { λ _. Told (OnEpoch Advances) };
+}
+
+pub struct Unlock;
+
+impl Play<ValueFraction, View> for Unlock {
+    ghost then = { λ _. Told (OnEpoch Unlocks) };
+}
+
+pub struct Claim;
+
+impl Play<ValueFraction, View> for Claim {
+    ghost then = { λ step. OfSlot (λ slot. ClaimsAll slot step.first step.second) step.word };
+}
+
+pub struct FillSlot;
+
+impl Deals<View> for FillSlot {
+    ghost then = { λ _ me _. HousesMoved false me };
+}
+
+pub struct FillSharedSlot;
+
+impl Deals<View> for FillSharedSlot {
+    ghost then = { λ _ me _. HousesMoved true me };
+}
+
+pub struct EnterUnit;
+
+impl Deals<View> for EnterUnit {
+    ghost then = { λ _ me _. EntersUnit me };
+}
+
+pub struct Retire;
+
+impl Play<ValueFraction, View> for Retire {
+    ghost then = { λ step. OfSlot RetiresOne step.word };
+}
+
+pub struct TakeOut;
+
+impl Deals<View> for TakeOut {
+    ghost then = { λ slot me l me'. TakesOut slot me me' × IsDeposit slot me l };
+}
+
+pub struct TakeHeld;
+
+impl Deals<View> for TakeHeld {
+    ghost then = { λ slot me l me'. TakesHeld slot me me' × IsDeposit slot me l };
+}
+
+pub struct GiveBack;
+
+impl Play<ValueFraction, View> for GiveBack {
+    ghost then = { λ step. OfSlot GivesAll step.word };
+}
+
+pub struct LookAtSlot;
+
+impl Play<ValueFraction, View> for LookAtSlot {
+    ghost then = { λ step. Told (AtSlot LooksAtSlot step.word) };
+}
+
+pub struct SeeOwned;
+
+impl GhostUpdateBeside<ValueFraction, View> for SeeOwned {
+    ghost then = { WatchesOwned };
+}
+
+pub struct LearnOwned;
+
+impl GhostUpdateBeside<ValueFraction, View> for LearnOwned {
+    ghost then = { RecallsOwned };
+}
+
+pub struct Hold;
+
+impl Play<ValueFraction, View> for Hold {
+    ghost then = { λ step. Told (AtSlot TakesHold step.word) };
+}
+
+pub struct LookAtGuard;
+
+impl Play<ValueFraction, View> for LookAtGuard {
+    ghost then = { λ step. Told (LooksForGuard step.word) };
+}
+
+pub struct ReleaseHold;
+
+impl Play<ValueFraction, View> for ReleaseHold {
+    ghost then = { λ step. Told (AtSlot LetsGo step.word) };
+}
+
+pub struct Discard;
+
+impl Play<ValueFraction, View> for Discard {
+    ghost then = { λ step. OfSlot DiscardsAll step.word };
+}
+
+pub struct LookForValue;
+
+impl Play<ValueFraction, View> for LookForValue {
+    ghost then = { λ _. Told LooksForValue };
+}
+
+pub struct Found;
+
+impl Split<View> for Found {
+    ghost left = { founded };
+
+    ghost right = { bank_of };
+}
+
+pub struct CutOwner;
+
+impl Split<View> for CutOwner {
+    ghost left = { parting };
+
+    ghost right = { departing };
+}
+
+pub struct JoinOwner;
+
+impl Join<View> for JoinOwner {
+    ghost both = { regained };
+
+    ghost spent = { owner_token [] [] };
+}
+
+pub struct CutCounts;
+
+impl Split<View> for CutCounts {
+    ghost left = { uncounting };
+
+    ghost right = { counts_of };
+}
+
+pub struct TakeCounts;
+
+impl Join<View> for TakeCounts {
+    ghost both = { counting };
+
+    ghost spent = { owner_token [] [] };
+}

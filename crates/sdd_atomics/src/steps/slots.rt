@@ -1,0 +1,310 @@
+//! The atomic steps on slots, by a participant, and one by a token that knows that all places are barred.
+//!
+//! A slot is free, owned by one owner, or its item waits. A lone participant knows each word beforehand.
+ghost use Rattle.std.specs.Prelude.{◌≡◌, ◌-◌, ◌<◌, ◌≤◌, ℕ, Bool, List, [], ◌∷◌, None};
+ghost use base.Stored.{Gv};
+ghost use Rattle.sdd_word_invariant.specs.Words as words;
+ghost use Rattle.sdd_word_invariant.specs.Codes.{free_word, owned_word, waiting_word};
+ghost use Rattle.sdd_word_invariant.specs.Epoch.{HasPlace, IsOpen};
+ghost use Rattle.sdd_word_invariant.specs.Slots.{OwnsAlone, Holds};
+ghost use Rattle.sdd_word_invariant.specs.SlotSteps.{IsDue, LooksAtSlot, TakesHold, LetsGo, LooksForGuard};
+ghost use Rattle.sdd_word_invariant.specs.Barred.{LooksForValue};
+ghost use Rattle.sdd_views.specs.Views.{owner_of};
+ghost use Rattle.sdd_shared_values.specs.SharedValues.{IsVacant, lot};
+ghost use Rattle.sdd_domain_invariant.specs.FractionsAtHome.{CarriedFractions, Moves, spare};
+ghost use Rattle.sdd_domain_invariant.specs.Records.{IsIn};
+ghost use Rattle.sdd_domain_invariant.specs.HomeSteps.{HasAll, IsValue, ClaimsAll, Houses, EntersUnit, TakesOut, TakesHeld, IsDeposit, GivesAll, DiscardsAll, RetiresOne, Watches, Recalls, parting, regained};
+ghost use Rattle.sdd_atomics.specs.DomainTable.{id_of, book_of, places_of, slots_of};
+ghost use Rattle.sdd_rights.specs.Owner.{witness_of_owner};
+ghost use Rattle.sdd_atomics.specs.Owner.{IsCutOff};
+ghost use Rattle.sdd_atomics.specs.DomainSeat.{view, epoch, slots, Taught, Moved, MovedAlone, Knows};
+
+use crate::domain_table::{DomainTable, DomainSeat};
+use crate::plays::{
+    Claim, Discard, EnterUnit, GiveBack, Hold, FillSlot, FillSharedSlot, ReleaseHold, LookAtSlot, LookAtGuard,
+    LookForValue, CutOwner, LearnOwned, Retire, TakeHeld, JoinOwner, TakeOut, SeeOwned,
+};
+use crate::words::state_word;
+use sdd_shared_values::ValueFraction;
+use sdd_witness::{Witness, part, rejoin, step_beside};
+
+/// Nobody's slot.
+pub const FREE: u64 = 0;
+/// Its item has one owner, which isn't counted.
+pub const OWNED: u64 = 1;
+/// Its item is retired, and waits.
+pub const WAITING: u64 = 4;
+
+/// Looks at the word of a slot, which was free at this moment where this is `FREE`.
+#[inline]
+pub fn look(board: &DomainTable, token: &mut DomainSeat, slot: u32) -> u64
+    requires home { token.old.table_id ≡ id_of board.now }
+    requires knows { Knows board.now token.old }
+    requires inside { slot < slots_of board.now }
+    requires place { HasPlace (epoch token.old) }
+    ensures { Taught (LooksAtSlot slot) token.old result token.new }
+{
+    board
+        .table
+        .shared
+        .load::<LookAtSlot>(token, board.slot_word(slot))
+}
+
+/// Tries to claim a slot, and answers its word before. It was free where this is `FREE`: then all stakes in it are out.
+#[inline]
+pub fn claim(board: &DomainTable, token: &mut DomainSeat, slot: u32) -> u64
+    requires home { token.old.table_id ≡ id_of board.now }
+    requires knows { Knows board.now token.old }
+    requires inside { slot < slots_of board.now }
+    requires place { HasPlace (epoch token.old) }
+    requires rests { (view token.old).stakes.moves ≡ None }
+    ensures { Moved (ClaimsAll slot (free_word 0) (owned_word 0)) token.old result token.new }
+{
+    board
+        .table
+        .shared
+        .compare_exchange::<Claim>(token, board.slot_word(slot), FREE, OWNED)
+}
+
+/// The value of the slot that it moves was moved in, and the stakes in it show that: all go home with a unit each, and the rest, but the owner's unit,
+/// goes to the bank. The owner may be one of several. No word is touched.
+#[inline]
+pub fn house(board: &DomainTable, token: &mut DomainSeat, rest: ValueFraction, shared: bool)
+    requires home { token.old.table_id ≡ id_of board.now }
+    requires knows { Knows board.now token.old }
+    requires place { HasPlace (epoch token.old) }
+    requires row { (slot : ℕ) × (value : Gv) × (slot < slots_of board.now) × Moves (view token.old) slot × OwnsAlone (view token.old) slot
+        × ((others : CarriedFractions) × HasAll (book_of board.now) slot (places_of board.now) (spare (places_of board.now)) (IsValue value) others token.old.me.1)
+        × (rest.lot ≡ lot (book_of board.now) slot rest.lot.round rest.lot.shown (spare (places_of board.now) - 1)) }
+    ensures { (slot : ℕ) (value : Gv) (others : CarriedFractions) → Moves (view token.old) slot
+        → HasAll (book_of board.now) slot (places_of board.now) (spare (places_of board.now)) (IsValue value) others token.old.me.1
+        → MovedAlone (Houses slot shared value) token.old token.new }
+{
+    if shared {
+        rest.enter::<_, _, _, _, FillSharedSlot>(&board.bank, &board.table.shared, token);
+    } else {
+        rest.enter::<_, _, _, _, FillSlot>(&board.bank, &board.table.shared, token);
+    }
+}
+
+/// The unit of an owner that goes, or comes into a cell, is in the bank from now on. No word is touched.
+#[inline]
+pub fn enter_unit(board: &DomainTable, token: &mut DomainSeat, slot: u32, unit: ValueFraction)
+    requires home { token.old.table_id ≡ id_of board.now }
+    requires knows { Knows board.now token.old }
+    requires inside { slot < slots_of board.now }
+    requires place { HasPlace (epoch token.old) }
+    requires own { OwnsAlone (view token.old) slot × ((others : List ℕ) × ((slots token.old).drawn ≡ slot ∷ others)) }
+    requires unit { unit.lot ≡ lot (book_of board.now) slot unit.lot.round unit.lot.shown 1 }
+    ensures { MovedAlone EntersUnit token.old token.new }
+{
+    let _ = slot;
+    unit.enter::<_, _, _, _, EnterUnit>(&board.bank, &board.table.shared, token);
+}
+
+/// Retires the item of a slot of its own, which waits with the participant from now on. The owner's unit is in the bank.
+#[inline]
+pub fn retire(board: &DomainTable, token: &mut DomainSeat, slot: u32)
+    requires home { token.old.table_id ≡ id_of board.now }
+    requires knows { Knows board.now token.old }
+    requires inside { slot < slots_of board.now }
+    requires place { HasPlace (epoch token.old) }
+    requires own { ((slots token.old).owns ≡ slot ∷ []) × ¬ (Holds (view token.old) slot) × ((slots token.old).drawn ≡ []) }
+    requires rests { (view token.old).stakes.moves ≡ None }
+    requires told { (value : Gv) × IsIn (view token.old).stakes.owns slot value }
+    ensures { Moved (RetiresOne slot) token.old (waiting_word 0) token.new }
+{
+    board
+        .table
+        .shared
+        .store::<Retire>(token, board.slot_word(slot), WAITING);
+}
+
+/// Takes all stakes in the slot of an item that has seen three changes, so that nobody sees it any more, and what the bank has of it. No word is touched.
+#[inline]
+pub fn take_out(board: &DomainTable, token: &mut DomainSeat, slot: u32) -> ValueFraction
+    requires home { token.old.table_id ≡ id_of board.now }
+    requires knows { Knows board.now token.old }
+    requires inside { slot < slots_of board.now }
+    requires place { HasPlace (epoch token.old) }
+    requires rests { (view token.old).stakes.moves ≡ None }
+    requires due { IsDue (view token.old) slot }
+    ensures taken { MovedAlone (TakesOut slot) token.old token.new }
+    ensures deposit { IsDeposit slot token.old.me result.lot }
+{
+    board
+        .bank
+        .draw::<TakeOut>(&board.table.shared, token, slot as u64)
+}
+
+/// Gives back the slot of an item whose value was moved out: all stakes in it go home.
+#[inline]
+pub fn give_back(board: &DomainTable, token: &mut DomainSeat, slot: u32)
+    requires home { token.old.table_id ≡ id_of board.now }
+    requires knows { Knows board.now token.old }
+    requires inside { slot < slots_of board.now }
+    requires place { HasPlace (epoch token.old) }
+    requires due { Moves (view token.old) slot × IsDue (view token.old) slot }
+    requires row { (rest : CarriedFractions) × HasAll (book_of board.now) slot (places_of board.now) 0 IsVacant rest token.old.me.1 }
+    ensures { Moved (GivesAll slot) token.old (free_word 0) token.new }
+{
+    board
+        .table
+        .shared
+        .store::<GiveBack>(token, board.slot_word(slot), FREE);
+}
+
+/// The open guard sees a slot from now on beside its owner, which may be with another participant, and has the stake of its place out. No word is
+/// touched.
+#[inline]
+pub fn watch(board: &DomainTable, token: &mut DomainSeat, owner: &Witness)
+    requires home { token.old.table_id ≡ id_of board.now }
+    requires knows { Knows board.now token.old }
+    requires open { IsOpen (epoch token.old) }
+    requires near { (epoch token.old).place < places_of board.now }
+    requires rests { (view token.old).stakes.moves ≡ None }
+    requires owner { (owner.now.table_id ≡ id_of board.now)
+        × ((slot : ℕ) × (shared : Bool) × (value : Gv) × (slot < slots_of board.now) × (owner.now.views ≡ witness_of_owner slot shared value)) }
+    ensures { (slot : ℕ) (shared : Bool) (value : Gv) → owner.now.views ≡ witness_of_owner slot shared value
+        → MovedAlone (Watches slot shared value) token.old token.new }
+{
+    step_beside::<_, _, _, _, SeeOwned>(&board.table.shared, token, owner);
+}
+
+/// A lone participant learns beside the owner of a slot, which may be with another, that it moved into the slot last what the owner tells.
+/// Nothing changes, and no word is touched.
+#[inline]
+pub fn recall(board: &DomainTable, token: &mut DomainSeat, owner: &Witness)
+    requires home { token.old.table_id ≡ id_of board.now }
+    requires knows { Knows board.now token.old }
+    requires place { HasPlace (epoch token.old) }
+    requires owner { (owner.now.table_id ≡ id_of board.now)
+        × ((slot : ℕ) × (shared : Bool) × (value : Gv) × (slot < slots_of board.now) × (owner.now.views ≡ witness_of_owner slot shared value)) }
+    ensures { (slot : ℕ) (shared : Bool) (value : Gv) → owner.now.views ≡ witness_of_owner slot shared value
+        → MovedAlone (Recalls slot shared value) token.old token.new }
+{
+    step_beside::<_, _, _, _, LearnOwned>(&board.table.shared, token, owner);
+}
+
+/// Holds a slot of the participant's own, to find out whether a guard sees it. Answers its word.
+#[inline]
+pub fn hold(board: &DomainTable, token: &mut DomainSeat, slot: u32) -> u64
+    requires home { token.old.table_id ≡ id_of board.now }
+    requires knows { Knows board.now token.old }
+    requires inside { slot < slots_of board.now }
+    requires place { HasPlace (epoch token.old) }
+    requires own { OwnsAlone (view token.old) slot × ((slots token.old).holds ≡ None) }
+    ensures { Taught (TakesHold slot) token.old result token.new }
+{
+    board
+        .table
+        .shared
+        .load::<Hold>(token, board.slot_word(slot))
+}
+
+/// Looks at the state of the next place, while a slot is held: no guard there sees it where this isn't `OPEN`.
+#[inline]
+pub fn look_for_guard(board: &DomainTable, token: &mut DomainSeat, place: usize) -> u64
+    requires home { token.old.table_id ≡ id_of board.now }
+    requires knows { Knows board.now token.old }
+    requires inside { place < places_of board.now }
+    requires place { HasPlace (epoch token.old) }
+    requires next { place ≡ (slots token.old).looked }
+    ensures { Taught (LooksForGuard (words.state_word place)) token.old result token.new }
+{
+    board
+        .table
+        .shared
+        .load::<LookAtGuard>(token, state_word(place))
+}
+
+/// Lets go of the slot that is held. Answers its word.
+#[inline]
+pub fn release_hold(board: &DomainTable, token: &mut DomainSeat, slot: u32) -> u64
+    requires home { token.old.table_id ≡ id_of board.now }
+    requires knows { Knows board.now token.old }
+    requires inside { slot < slots_of board.now }
+    requires place { HasPlace (epoch token.old) }
+    requires held { Holds (view token.old) slot }
+    ensures { Taught (LetsGo slot) token.old result token.new }
+{
+    board
+        .table
+        .shared
+        .load::<ReleaseHold>(token, board.slot_word(slot))
+}
+
+/// Takes all stakes in the slot that is held, once every place was looked at, and what the bank has of it. No word is touched.
+#[inline]
+pub fn take_held(board: &DomainTable, token: &mut DomainSeat, slot: u32) -> ValueFraction
+    requires home { token.old.table_id ≡ id_of board.now }
+    requires knows { Knows board.now token.old }
+    requires inside { slot < slots_of board.now }
+    requires place { HasPlace (epoch token.old) }
+    requires rests { (view token.old).stakes.moves ≡ None }
+    requires held { Holds (view token.old) slot × ((slots token.old).owns ≡ slot ∷ []) × ((slots token.old).drawn ≡ []) }
+    requires looked { places_of board.now ≤ (slots token.old).looked }
+    ensures taken { MovedAlone (TakesHeld slot) token.old token.new }
+    ensures deposit { IsDeposit slot token.old.me result.lot }
+{
+    board
+        .bank
+        .draw::<TakeHeld>(&board.table.shared, token, slot as u64)
+}
+
+/// Frees the slot that is held, whose value was moved out: its item has gone at once, and all stakes in it go home.
+#[inline]
+pub fn discard(board: &DomainTable, token: &mut DomainSeat, slot: u32)
+    requires home { token.old.table_id ≡ id_of board.now }
+    requires knows { Knows board.now token.old }
+    requires inside { slot < slots_of board.now }
+    requires place { HasPlace (epoch token.old) }
+    requires held { Moves (view token.old) slot × Holds (view token.old) slot }
+    requires looked { places_of board.now ≤ (slots token.old).looked }
+    requires row { (rest : CarriedFractions) × HasAll (book_of board.now) slot (places_of board.now) 0 IsVacant rest token.old.me.1 }
+    ensures { Moved (DiscardsAll slot) token.old (free_word 0) token.new }
+{
+    board
+        .table
+        .shared
+        .store::<Discard>(token, board.slot_word(slot), FREE);
+}
+
+/// Looks at the word of the next slot, by a token that knows that all places are barred. Where it is free then it stays so.
+pub fn look_for_value(board: &DomainTable, token: &mut DomainSeat, slot: u32) -> u64
+    requires home { token.old.table_id ≡ id_of board.now }
+    requires inside { slot < slots_of board.now }
+    requires ended { places_of board.now ≤ (view token.old).places.ended }
+    requires next { slot ≡ (view token.old).places.quiet }
+    ensures { Taught LooksForValue token.old result token.new }
+{
+    board
+        .table
+        .shared
+        .load::<LookForValue>(token, board.slot_word(slot))
+}
+
+/// Cuts the only owner that the participant has off, as a token of its own, with its unit. No word is touched.
+#[inline]
+pub fn cut(board: &DomainTable, token: &mut DomainSeat) -> Witness
+    requires home { token.old.table_id ≡ id_of board.now }
+    requires one { (slot : ℕ) × ((slots token.old).owns ≡ slot ∷ []) × ((slots token.old).drawn ≡ slot ∷ []) }
+    requires free { (slots token.old).holds ≡ None }
+    requires rests { (view token.old).stakes.moves ≡ None }
+    ensures participant { Taught (λ v _ w. w ≡ parting v) token.old 0 token.new }
+    ensures owner { (result.table_id ≡ id_of board.now) × IsCutOff (view token.old) result.views }
+{
+    part::<_, _, _, _, CutOwner>(&board.table.shared, token)
+}
+
+/// Takes the owner of a slot in. No word is touched.
+#[inline]
+pub fn take_in(board: &DomainTable, token: &mut DomainSeat, owner: Witness)
+    requires home { token.old.table_id ≡ id_of board.now }
+    requires rests { (view token.old).stakes.moves ≡ None }
+    requires owner { (owner.table_id ≡ id_of board.now) × ((slot : ℕ) × (shared : Bool) × (value : Gv) × (owner.views ≡ witness_of_owner slot shared value)) }
+    ensures { (slot : ℕ) (shared : Bool) (value : Gv) → owner.views ≡ witness_of_owner slot shared value
+        → Taught (λ v _ w. w ≡ regained v (owner_of slot shared value)) token.old 0 token.new }
+{
+    rejoin::<_, _, _, _, JoinOwner>(&board.table.shared, token, owner);
+}

@@ -1,9 +1,0 @@
-use Rattle.std.proofs.Common.{◌≡◌, ℕ, suc, ◌+◌, ◌*◌, ◌∙◌, arith}
-use Rattle.sdd_homes.specs.Homes.{stake_at}
-use Rattle.sdd_board.specs.Board.{places_of}
-use Rattle.sdd_board.proofs.board.Board.last_home.Goals as goal
-
-pub returns : goal.returns
-unfolding stake_at
-returns c = let n : ℕ = places_of c.args.self.now in let e : n + 1 ≡ suc n = omega arith in
-    (λ d. c.args.slot * (c.places.ensures d + 1) + c.places-2.ensures d) ∙ (λ d. c.args.slot * e d + n)

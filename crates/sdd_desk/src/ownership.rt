@@ -1,6 +1,0 @@
-/// Whether an item has one owner or shares it.
-#[derive(Clone, Copy, Debug, PartialEq, Eq)]
-pub enum Ownership {
-    Sole,
-    Shared,
-}

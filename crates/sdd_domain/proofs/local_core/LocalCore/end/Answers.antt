@@ -1,0 +1,10 @@
+use Rattle.std.proofs.Common.{sym, ap, subst}
+use Rattle.sdd_views.specs.declared.CountsView.{CountsView}
+use Rattle.sdd_views.specs.declared.View.{View}
+use Rattle.sdd_domain.specs.Receipt.{IsTallied}
+use Rattle.sdd_domain.proofs.Tallies.{tallied_ended}
+use Rattle.sdd_domain.proofs.local_core.LocalCore.end.Goals as goal
+
+pub new-requires : goal.new-requires
+new-requires g c = let l = c.self.inside in subst (λ (k : CountsView). IsTallied 1 l.tally k)
+    (sym (ap (λ (v : View). v.stakes.counts) c.end.ensures.3)) (tallied_ended l.tally l.token.me.0.stakes.counts c.self.invariant.5)

@@ -1,0 +1,103 @@
+use Rattle.std.proofs.Common.{◌≡◌, ◌≢◌, ℕ, ◌+◌, ◌≤◌, List, [], map, rules, refl, sym, ap, ◌∙◌, subst, inl, inr, ⊎_elim, arith}
+use Rattle.sdd_participants.specs.EpochState.{nested, settled}
+use Rattle.sdd_participants.specs.declared.epoch_state.Participant.{Participant}
+use Rattle.sdd_views.specs.declared.Sizes.{Sizes}
+use Rattle.sdd_views.specs.declared.SlotsView.{SlotsView}
+use Rattle.sdd_views.specs.declared.FractionsView.{FractionsView}
+use Rattle.sdd_views.specs.declared.WaitingItem.{WaitingItem}
+use Rattle.sdd_domain_invariant.specs.FractionsAtHome.{CarriedFractions}
+use Rattle.sdd_rights.specs.declared.fraction.Fraction.{Fraction}
+use Rattle.sdd_values.specs.declared.read_sections.SectionState.{SectionState}
+use Rattle.sdd_values.specs.declared.read_sections.SectionState.TheVariants.{Closed}
+use Rattle.sdd_domain.specs.LocalState.{LocalState, IsEntered, GoesOn}
+use Rattle.sdd_domain.specs.Posed.{IsPosed, AreLentTo}
+use Rattle.sdd_domain.specs.Receipt.{IsTallied}
+use Rattle.sdd_domain.specs.Waits.{what_of, ripe, arrived_at, aged_at, due_at}
+use Rattle.sdd_domain.proofs.Arrivals.{has_open, has_room, due_moved, quiet_due, due_ripe}
+use Rattle.sdd_domain.proofs.Members.{with_view}
+use Rattle.sdd_domain.proofs.Reclaims.{none_ripe}
+use Rattle.sdd_domain.proofs.local_core.LocalCore.enter.Goals as goal
+
+abbrev Tenure : Type 0
+Tenure = Fraction SectionState
+
+pub arrive-goes_on-requires-clause-settled : goal.arrive-goes_on-requires-clause-settled
+arrive-goes_on-requires-clause-settled g c = none_ripe (ripe c.self.inside.token.me.0.slots.waits)
+    (sym c.self.invariant.4.due ∙ (ap (λ (m : LocalState). m.due) c.self.view_is ∙ c.requires.settled))
+
+pub invariant_of-self : goal.invariant_of-self
+invariant_of-self g c = let l = c.self.inside in let i = c.self.invariant in let b = l.domain.now.board in
+    let own : Participant = c.arrive-goes_on.new.own in let a = c.arrive-goes_on.ensures.arrived in let count : ℕ = a.0 in let arrives = a.1 in
+    let none = none_ripe (ripe l.token.me.0.slots.waits) (sym i.4.due ∙ (ap (λ (m : LocalState). m.due) c.self.view_is ∙ c.requires.settled)) in
+    let shut : l.own.guards ≡ 0 = search rules in
+    let guards : own.guards ≡ 0 = has_open count l.own c.arrive-goes_on.result own a.2 ∙ shut in
+    let one : own.guards + 1 ≡ 1 = omega arith in
+    let opened : nested own ≡ record own { guards = 1 } = λ d. record own { guards = one d } in
+    let large : own.bags.room ≡ l.own.bags.room = has_room count l.own c.arrive-goes_on.result own a.2 in (
+      subst (λ (o : Participant). IsPosed b l.place o c.arrive-goes_on.new.token) opened c.arrive-goes_on.ensures.posed,
+      i.1,
+      record {
+        units = (let s = ap (λ (t : Tenure). t.units) c.split.ensures.rest in let t = ap (λ (t : Tenure). t.units) c.set.ensures in let u = i.2.units in omega arith);
+        kind = ap (λ (t : Tenure). t.kind) c.split.ensures.rest ∙ ap (λ (t : Tenure). t.kind) c.set.ensures;
+      },
+      subst (λ (z : ℕ × CarriedFractions). AreLentTo z.0 z.1) (λ d. (
+        (sym (ap (λ (t : Tenure). t.round) c.split.ensures.rest
+            ∙ ap (λ (t : Tenure). t.round) c.set.ensures)) d,
+        sym arrives.others d,
+      )) i.3,
+      record {
+        due = a.3 ∙ (due_ripe count l.own l.token.me.0.slots.waits i.0.bags none
+            ∙ ap (λ (xs : List WaitingItem). map what_of (ripe xs)) (sym (ap (λ (s : SlotsView). s.waits) arrives.slots)));
+        large = subst (λ (n : ℕ). n ≤ c.arrive-goes_on.new.due.room) (sym large) c.arrive-goes_on.ensures.room;
+        slots = i.4.slots;
+      },
+      subst (IsTallied 0 l.tally) (sym (ap (λ (s : FractionsView). s.counts) arrives.stakes)) i.5,
+    )
+
+pub returns-clause-entered : goal.returns-clause-entered
+returns-clause-entered g c = let l = c.self.inside in let i = c.self.invariant in let a = c.arrive-goes_on.ensures.arrived in let count : ℕ = a.0 in
+    let arrives = a.1 in let has = a.2 in let old : LocalState = c.self.view_is 0 in let own : Participant = c.arrive-goes_on.new.own in
+    let token = c.arrive-goes_on.new.token in let shut : l.own.guards ≡ 0 = search rules in
+    let guards : own.guards ≡ 0 = has_open count l.own c.arrive-goes_on.result own has ∙ shut in let one : 1 ≡ own.guards + 1 = omega arith in
+    let opened : record own { guards = 1 } ≡ nested own = λ d. record own { guards = one d } in
+    let tenure = ap (λ (t : Tenure). record t { units = 0; kind = Closed }) c.split.ensures.rest
+    ∙ ap (λ (t : Tenure). record t { units = 0; kind = Closed }) c.set.ensures in
+    let now : LocalState = record (with_view old token.table_id token.me.0) {
+      reader = record { home = c.split.new.self.home; number = c.split.new.self.number };
+      own = record own { guards = 1 };
+      due = c.arrive-goes_on.new.due.items;
+    } in let m : LocalState = record old {
+      own = nested (arrived_at count old.own);
+      known = token.me.0.epoch.since;
+      since = token.me.0.epoch.since;
+      slots = record old.slots { waits = aged_at count old.own old.slots.waits };
+      due = due_at count old.own;
+    } in let entered : IsEntered count old m = record {
+      member = refl;
+      knew = arrives.knew;
+      knows = arrives.knows;
+      lone = λ one_place. arrives.lone (i.0.all ∙ (ap (λ (z : Sizes). z.participants) l.domain.now.limited.1 ∙ one_place));
+    } in let with_it : (x : Participant) → record own { guards = 1 } ≡ x → now ≡ record m { own = x } = λ x e d. record m {
+      home = arrives.table d;
+      reader = record { home = (tenure d).home; number = (tenure d).number };
+      own = e d;
+      known = arrives.known d;
+      sizes = arrives.sizes d;
+      slots = arrives.slots d;
+      shown = (arrives.stakes d).sees;
+      filled = (arrives.stakes d).filled;
+      words = arrives.words d;
+      due = a.3 d;
+    } in let goes : GoesOn count c.arrive-goes_on.result old m now = record {
+      change = λ t. let h = has.change t in (h.0, with_it (nested (arrived_at count l.own)) (opened ∙ ap nested h.1));
+      over = λ f. ⊎_elim
+          (λ (h : (l.own.found ≡ count) × (own ≡ arrived_at count l.own)). inl (h.0, with_it (nested (arrived_at count l.own)) (opened ∙ ap nested h.1)))
+          (λ (h : (l.own.found ≢ count) × (l.own.bags.waiting ≡ []) × (own ≡ settled (arrived_at count l.own))).
+          inr (h.0, due_moved count l.own h.0 ∙ quiet_due l.own h.1, with_it (settled (nested (arrived_at count l.own))) (opened ∙ ap nested h.2)))
+          (has.over f);
+    } in (
+      count,
+      m,
+      subst (λ (o : LocalState). IsEntered count o m) c.self.view_is entered,
+      subst (λ (o : LocalState). GoesOn count c.arrive-goes_on.result o m now) c.self.view_is goes,
+    )

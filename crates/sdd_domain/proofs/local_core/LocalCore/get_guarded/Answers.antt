@@ -1,0 +1,213 @@
+use Rattle.std.specs.Prelude.{Bool}
+use Rattle.std.proofs.Common.{◌≡◌, ℕ, ◌<◌, arith, rules, refl, sym, ap, ◌∙◌, subst}
+use base.Stored.{Gv}
+use Rattle.sdd_rights.specs.Owner.{witness_of_owner}
+use Rattle.sdd_rights.specs.Right.{number_of, kind_of, grip_of}
+use Rattle.sdd_rights.specs.StandingKind.{is_shared}
+use Rattle.sdd_domain_invariant.specs.HomeSteps.{Watches}
+use Rattle.sdd_atomics.specs.DomainSeat.{MovedAlone}
+use Rattle.sdd_shared_values.specs.Seats.{lots}
+use Rattle.sdd_shared_values.specs.SharedValues.{CanShow, Shows, showing}
+use Rattle.sdd_domain_invariant.proofs.Records.{in_times}
+use Rattle.sdd_rights.specs.Units.{GhostName}
+use Rattle.sdd_atomics.specs.DomainTable.{id_of, book_of, places_of, slots_of}
+use Rattle.atomic_table.specs.declared.shared.Seat.{Seat}
+use Rattle.sdd_shared_values.specs.declared.value_fraction.ValueFraction.{ValueFraction}
+use Rattle.sdd_views.specs.declared.View.{View}
+use Rattle.sdd_views.specs.declared.Sizes.{Sizes}
+use Rattle.sdd_domain.specs.Sight.{IsOnce}
+use Rattle.sdd_space.specs.OwnerOrCell.{AreOf}
+use Rattle.sdd_domain.specs.Homes.{home_in}
+use Rattle.sdd_domain.proofs.Housed.{on_board, from_shelf}
+use Rattle.sdd_domain.specs.Posed.{IsReady, AreLentTo}
+use Rattle.sdd_domain.specs.Receipt.{IsTallied}
+use Rattle.sdd_domain.proofs.Moving.{can_show, shows_known}
+use Rattle.sdd_domain.proofs.Posing.{watched, posed_shows, same_recalled}
+use Rattle.sdd_domain.proofs.Members.{with_token, looks_at, recalls_to, has_tables}
+use Rattle.sdd_domain.specs.LocalState.{LocalState, LooksAt, IsLone, KnowsOwner}
+use Rattle.sdd_witness.specs.declared.witness.Witness.{Witness}
+use Rattle.sdd_domain.proofs.local_core.LocalCore.get_guarded.Goals as goal
+
+pub show-requires-clause-stake : goal.show-requires-clause-stake
+show-requires-clause-stake g c = let l = c.self.inside in let b = l.domain.now.board in let t : ℕ = c.tenure_of-tenure.result.now.round in
+    let inv = c.self.invariant in let slot : ℕ = number_of c.args.right.now in
+    let own = c.witness-owner.ensures.owner (has_tables c.args.self.now c.args.right.now c.requires.home) in
+    let shared : Bool = is_shared (kind_of c.args.right.now) in let shown : Gv = (grip_of c.args.right.now).shown in
+    let recalled = c.recall.ensures slot shared shown own.owner in
+    let watch = subst (λ (x : Seat ValueFraction View). MovedAlone (Watches slot shared shown) x c.watch.new.token)
+    (same_recalled b l.place slot shared shown l.token c.recall.new.token recalled) (c.watch.ensures slot shared shown own.owner) in
+    let seen = watched b l.place l.own t slot shared shown l.token c.watch.new.token inv.0
+    (subst (λ (t : ℕ). AreLentTo t l.token.me.1) (sym c.agree.ensures.round) inv.3) watch in
+    subst (λ (k : ℕ × ℕ). CanShow k.0 k.1 t (lots c.watch.new.token.me.1)) (λ d. (sym l.domain.now.shelved.0.book d, sym c.number.ensures d))
+    (can_show (book_of b) (places_of b) l.place t slot seen.records c.watch.new.token.me.1 seen.purse seen.lent
+    (in_times seen.records slot shown seen.there))
+
+pub invariant_of-self : goal.invariant_of-self
+invariant_of-self g c = let l = c.self.inside in let b = l.domain.now.board in let t : ℕ = c.tenure_of-tenure.result.now.round in
+    let inv = c.self.invariant in let slot : ℕ = number_of c.args.right.now in
+    let own = c.witness-owner.ensures.owner (has_tables c.args.self.now c.args.right.now c.requires.home) in
+    let shared : Bool = is_shared (kind_of c.args.right.now) in let shown : Gv = (grip_of c.args.right.now).shown in
+    let recalled = c.recall.ensures slot shared shown own.owner in
+    let watch = subst (λ (x : Seat ValueFraction View). MovedAlone (Watches slot shared shown) x c.watch.new.token)
+    (same_recalled b l.place slot shared shown l.token c.recall.new.token recalled) (c.watch.ensures slot shared shown own.owner) in
+    let some_open : 0 < l.own.guards = search rules in
+    let seen = watched b l.place l.own t slot shared shown l.token c.watch.new.token inv.0
+    (subst (λ (t : ℕ). AreLentTo t l.token.me.1) (sym c.agree.ensures.round) inv.3) watch in
+    let posed = posed_shows b l.place l.own t slot shown l.token c.watch.new.token c.show.new.seat inv.0 some_open
+    watch.0 seen c.show.ensures.seat c.show.ensures.lent in (
+      posed.0,
+      inv.1,
+      inv.2,
+      subst (λ (t : ℕ). AreLentTo t c.show.new.seat.me.1) c.agree.ensures.round posed.1,
+      subst (IsReady b l.own l.due l.known.slots) (sym (ap (λ (x : Seat ValueFraction View). x.me.0.slots.waits) c.show.ensures.seat
+          ∙ ap (λ (v : View). v.slots.waits) seen.view)) inv.4,
+      subst (IsTallied 0 l.tally) (sym (ap (λ (x : Seat ValueFraction View). x.me.0.stakes.counts) c.show.ensures.seat
+          ∙ ap (λ (v : View). v.stakes.counts) seen.view)) inv.5,
+    )
+
+pub returns-clause-value : goal.returns-clause-value
+returns-clause-value g c = let l = c.self.inside in let b = l.domain.now.board in let t : ℕ = c.tenure_of-tenure.result.now.round in
+    let inv = c.self.invariant in let slot : ℕ = number_of c.args.right.now in
+    let own = c.witness-owner.ensures.owner (has_tables c.args.self.now c.args.right.now c.requires.home) in
+    let shared : Bool = is_shared (kind_of c.args.right.now) in let shown : Gv = (grip_of c.args.right.now).shown in
+    let recalled = c.recall.ensures slot shared shown own.owner in
+    let watch = subst (λ (x : Seat ValueFraction View). MovedAlone (Watches slot shared shown) x c.watch.new.token)
+    (same_recalled b l.place slot shared shown l.token c.recall.new.token recalled) (c.watch.ensures slot shared shown own.owner) in
+    let seen = watched b l.place l.own t slot shared shown l.token c.watch.new.token inv.0
+    (subst (λ (t : ℕ). AreLentTo t l.token.me.1) (sym c.agree.ensures.round) inv.3) watch in
+    let shows = subst (λ (k : ℕ). Shows l.domain.now.shelf.book k (showing g.row.T c.show.result.now) (lots c.watch.new.token.me.1)) c.number.ensures
+    c.show.ensures.value in
+    let is = seen.once slot shown (showing g.row.T c.show.result.now) seen.there
+    (shows_known (book_of b) (places_of b) l.place slot l.domain.now.shelf.book (showing g.row.T c.show.result.now) seen.records
+    c.watch.new.token.me.1 seen.purse shows) in
+    ap (λ (w : Witness). w.views) (sym c.witness-owner.ensures.witness) ∙ (own.owner ∙ ap (witness_of_owner slot shared) is)
+
+pub returns-clause-looks : goal.returns-clause-looks
+returns-clause-looks g c = let l = c.self.inside in let b = l.domain.now.board in let t : ℕ = c.tenure_of-tenure.result.now.round in
+    let inv = c.self.invariant in let slot : ℕ = number_of c.args.right.now in
+    let own = c.witness-owner.ensures.owner (has_tables c.args.self.now c.args.right.now c.requires.home) in
+    let shared : Bool = is_shared (kind_of c.args.right.now) in let shown : Gv = (grip_of c.args.right.now).shown in
+    let recalled = c.recall.ensures slot shared shown own.owner in
+    let watch = subst (λ (x : Seat ValueFraction View). MovedAlone (Watches slot shared shown) x c.watch.new.token)
+    (same_recalled b l.place slot shared shown l.token c.recall.new.token recalled) (c.watch.ensures slot shared shown own.owner) in
+    let seen = watched b l.place l.own t slot shared shown l.token c.watch.new.token inv.0
+    (subst (λ (t : ℕ). AreLentTo t l.token.me.1) (sym c.agree.ensures.round) inv.3) watch in
+    let shows = subst (λ (k : ℕ). Shows l.domain.now.shelf.book k (showing g.row.T c.show.result.now) (lots c.watch.new.token.me.1)) c.number.ensures
+    c.show.ensures.value in
+    let is = seen.once slot shown (showing g.row.T c.show.result.now) seen.there
+    (shows_known (book_of b) (places_of b) l.place slot l.domain.now.shelf.book (showing g.row.T c.show.result.now) seen.records
+    c.watch.new.token.me.1 seen.purse shows) in
+    subst (λ (m : LocalState). LooksAt slot shared (showing g.row.T c.show.result.now) m (with_token (c.self.view_is 0) c.show.new.seat)) c.self.view_is
+    (subst (λ (v : Gv). LooksAt slot shared v (c.self.view_is 0) (with_token (c.self.view_is 0) c.show.new.seat)) is
+    (looks_at (c.self.view_is 0) slot shared shown l.token c.watch.new.token c.show.new.seat watch c.show.ensures.seat))
+
+pub returns-clause-once : goal.returns-clause-once
+returns-clause-once g c = let l = c.self.inside in let b = l.domain.now.board in let t : ℕ = c.tenure_of-tenure.result.now.round in
+    let inv = c.self.invariant in let slot : ℕ = number_of c.args.right.now in
+    let own = c.witness-owner.ensures.owner (has_tables c.args.self.now c.args.right.now c.requires.home) in
+    let shared : Bool = is_shared (kind_of c.args.right.now) in let shown : Gv = (grip_of c.args.right.now).shown in
+    let recalled = c.recall.ensures slot shared shown own.owner in
+    let watch = subst (λ (x : Seat ValueFraction View). MovedAlone (Watches slot shared shown) x c.watch.new.token)
+    (same_recalled b l.place slot shared shown l.token c.recall.new.token recalled) (c.watch.ensures slot shared shown own.owner) in
+    let seen = watched b l.place l.own t slot shared shown l.token c.watch.new.token inv.0
+    (subst (λ (t : ℕ). AreLentTo t l.token.me.1) (sym c.agree.ensures.round) inv.3) watch in
+    let is : c.show.new.seat.me.0.stakes.sees ≡ seen.records = ap (λ (x : Seat ValueFraction View). x.me.0.stakes.sees) c.show.ensures.seat
+    ∙ ap (λ (v : View). v.stakes.sees) seen.view in
+    subst IsOnce (sym is) seen.once
+
+pub returns-clause-recalled : goal.returns-clause-recalled
+returns-clause-recalled g c = let l = c.self.inside in let b = l.domain.now.board in let t : ℕ = c.tenure_of-tenure.result.now.round in
+    let inv = c.self.invariant in let slot : ℕ = number_of c.args.right.now in
+    let own = c.witness-owner.ensures.owner (has_tables c.args.self.now c.args.right.now c.requires.home) in
+    let shared : Bool = is_shared (kind_of c.args.right.now) in let shown : Gv = (grip_of c.args.right.now).shown in
+    let recalled = c.recall.ensures slot shared shown own.owner in
+    let watch = subst (λ (x : Seat ValueFraction View). MovedAlone (Watches slot shared shown) x c.watch.new.token)
+    (same_recalled b l.place slot shared shown l.token c.recall.new.token recalled) (c.watch.ensures slot shared shown own.owner) in
+    let seen = watched b l.place l.own t slot shared shown l.token c.watch.new.token inv.0
+    (subst (λ (t : ℕ). AreLentTo t l.token.me.1) (sym c.agree.ensures.round) inv.3) watch in
+    let shows = subst (λ (k : ℕ). Shows l.domain.now.shelf.book k (showing g.row.T c.show.result.now) (lots c.watch.new.token.me.1)) c.number.ensures
+    c.show.ensures.value in
+    let is = seen.once slot shown (showing g.row.T c.show.result.now) seen.there
+    (shows_known (book_of b) (places_of b) l.place slot l.domain.now.shelf.book (showing g.row.T c.show.result.now) seen.records
+    c.watch.new.token.me.1 seen.purse shows) in
+    subst (λ (m : LocalState). IsLone m → KnowsOwner m slot shared (showing g.row.T c.show.result.now)) c.self.view_is
+    (subst (λ (v : Gv). IsLone (c.self.view_is 0) → KnowsOwner (c.self.view_is 0) slot shared v) is
+    (recalls_to (c.self.view_is 0) slot shared shown l.token c.recall.new.token recalled
+    (inv.0.all ∙ ap (λ (z : Sizes). z.participants) l.domain.now.limited.1)))
+
+pub returns-clause-home : goal.returns-clause-home
+returns-clause-home g c = let l = c.self.inside in let b = l.domain.now.board in let inv = c.self.invariant in
+    subst (λ (m : LocalState). AreOf (home_in m) (g.T.Item.holds c.show.result.now)) c.self.view_is
+    (from_shelf b (c.self.view_is 0) (on_board l.domain.now.limits b l.token.table_id inv.0.home l.domain.now.limited.1 (c.self.view_is 0) refl refl refl)
+    l.domain.now.shelf l.domain.now.shelved.0 (g.T.Item.holds c.show.result.now) c.show.ensures.fits)
+
+-- what was known before the owner was recalled is known still
+pub watch-requires-clause-home : goal.watch-requires-clause-home
+watch-requires-clause-home g c =
+    let q = c.self.invariant.0 in let l = c.self.inside in let b = l.domain.now.board in let slot : ℕ = number_of c.args.right.now in
+    let own = c.witness-owner.ensures.owner (has_tables c.args.self.now c.args.right.now c.requires.home) in
+    let shared : Bool = is_shared (kind_of c.args.right.now) in let shown : Gv = (grip_of c.args.right.now).shown in
+    let same = same_recalled b l.place slot shared shown l.token c.recall.new.token (c.recall.ensures slot shared shown own.owner) in
+    ap (λ (x : Seat ValueFraction View). x.table_id) same ∙ q.home
+
+pub watch-requires-clause-knows : goal.watch-requires-clause-knows
+watch-requires-clause-knows g c =
+    let q = c.self.invariant.0 in let l = c.self.inside in let b = l.domain.now.board in let slot : ℕ = number_of c.args.right.now in
+    let own = c.witness-owner.ensures.owner (has_tables c.args.self.now c.args.right.now c.requires.home) in
+    let shared : Bool = is_shared (kind_of c.args.right.now) in let shown : Gv = (grip_of c.args.right.now).shown in
+    let same = same_recalled b l.place slot shared shown l.token c.recall.new.token (c.recall.ensures slot shared shown own.owner) in
+    (ap (λ (x : Seat ValueFraction View). x.me.0.sizes) same ∙ q.knows.0, ap (λ (x : Seat ValueFraction View). x.me.0.stakes.book) same ∙ q.knows.1)
+
+pub watch-requires-clause-open : goal.watch-requires-clause-open
+watch-requires-clause-open g c =
+    let q = c.self.invariant.0 in let l = c.self.inside in let b = l.domain.now.board in let slot : ℕ = number_of c.args.right.now in
+    let own = c.witness-owner.ensures.owner (has_tables c.args.self.now c.args.right.now c.requires.home) in
+    let shared : Bool = is_shared (kind_of c.args.right.now) in let shown : Gv = (grip_of c.args.right.now).shown in
+    let same = same_recalled b l.place slot shared shown l.token c.recall.new.token (c.recall.ensures slot shared shown own.owner) in
+    let some_open : 0 < l.own.guards = search rules in ap (λ (x : Seat ValueFraction View). x.me.0.epoch.state) same ∙ q.opened some_open
+
+pub watch-requires-clause-near : goal.watch-requires-clause-near
+watch-requires-clause-near g c =
+    let q = c.self.invariant.0 in let l = c.self.inside in let b = l.domain.now.board in let slot : ℕ = number_of c.args.right.now in
+    let own = c.witness-owner.ensures.owner (has_tables c.args.self.now c.args.right.now c.requires.home) in
+    let shared : Bool = is_shared (kind_of c.args.right.now) in let shown : Gv = (grip_of c.args.right.now).shown in
+    let same = same_recalled b l.place slot shared shown l.token c.recall.new.token (c.recall.ensures slot shared shown own.owner) in
+    let place = ap (λ (x : Seat ValueFraction View). x.me.0.epoch.place) same in let at = q.place in let inside = q.inside in omega arith
+
+pub watch-requires-clause-rests : goal.watch-requires-clause-rests
+watch-requires-clause-rests g c =
+    let q = c.self.invariant.0 in let l = c.self.inside in let b = l.domain.now.board in let slot : ℕ = number_of c.args.right.now in
+    let own = c.witness-owner.ensures.owner (has_tables c.args.self.now c.args.right.now c.requires.home) in
+    let shared : Bool = is_shared (kind_of c.args.right.now) in let shown : Gv = (grip_of c.args.right.now).shown in
+    let same = same_recalled b l.place slot shared shown l.token c.recall.new.token (c.recall.ensures slot shared shown own.owner) in
+    ap (λ (x : Seat ValueFraction View). x.me.0.stakes.moves) same ∙ q.rests
+
+pub show-requires-clause-table : goal.show-requires-clause-table
+show-requires-clause-table g c =
+    let q = c.self.invariant.0 in let l = c.self.inside in let b = l.domain.now.board in let slot : ℕ = number_of c.args.right.now in
+    let own = c.witness-owner.ensures.owner (has_tables c.args.self.now c.args.right.now c.requires.home) in
+    let shared : Bool = is_shared (kind_of c.args.right.now) in let shown : Gv = (grip_of c.args.right.now).shown in
+    let same = same_recalled b l.place slot shared shown l.token c.recall.new.token (c.recall.ensures slot shared shown own.owner) in
+    (c.watch.ensures slot shared shown own.owner).0 ∙ (ap (λ (x : Seat ValueFraction View). x.table_id) same ∙ q.home)
+
+pub watch-requires-clause-owner : goal.watch-requires-clause-owner
+watch-requires-clause-owner g c =
+    let q = c.self.invariant.0 in let l = c.self.inside in let b = l.domain.now.board in let slot : ℕ = number_of c.args.right.now in
+    let own = c.witness-owner.ensures.owner (has_tables c.args.self.now c.args.right.now c.requires.home) in
+    let shared : Bool = is_shared (kind_of c.args.right.now) in let shown : Gv = (grip_of c.args.right.now).shown in
+    let tables = own.table in let mine = ap (λ (h : GhostName). h.tables) c.requires.home in let there = ap (λ (m : LocalState). m.home) c.self.view_is in
+    let board = q.home in
+    let table : c.witness-owner.result.now.table_id ≡ id_of b = cc in
+    let inside : slot < slots_of b = search rules in
+    (table, (slot, shared, shown, inside, own.owner))
+
+pub recall-requires-clause-owner : goal.recall-requires-clause-owner
+recall-requires-clause-owner g c =
+    let q = c.self.invariant.0 in let l = c.self.inside in let b = l.domain.now.board in let slot : ℕ = number_of c.args.right.now in
+    let own = c.witness-owner.ensures.owner (has_tables c.args.self.now c.args.right.now c.requires.home) in
+    let shared : Bool = is_shared (kind_of c.args.right.now) in let shown : Gv = (grip_of c.args.right.now).shown in
+    let tables = own.table in let mine = ap (λ (h : GhostName). h.tables) c.requires.home in let there = ap (λ (m : LocalState). m.home) c.self.view_is in
+    let board = q.home in
+    let table : c.witness-owner.result.now.table_id ≡ id_of b = cc in
+    let inside : slot < slots_of b = search rules in
+    (table, (slot, shared, shown, inside, own.owner))

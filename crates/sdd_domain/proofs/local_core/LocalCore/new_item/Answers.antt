@@ -1,0 +1,48 @@
+use Rattle.std.proofs.Common.{ap, sym, refl, ◌∙◌, subst}
+use Rattle.sdd_space.specs.OwnerOrCell.{AreOf}
+use Rattle.sdd_domain.specs.Homes.{home_in}
+use Rattle.sdd_domain.specs.LocalState.{LocalState}
+use Rattle.sdd_domain.proofs.Housed.{to_board, on_board}
+use Rattle.sdd_views.specs.declared.Sizes.{Sizes}
+use Rattle.sdd_views.specs.declared.View.{View}
+use Rattle.sdd_participants.specs.declared.tally.Tally.{Tally}
+use Rattle.sdd_participants.specs.Tally.{one_made}
+use Rattle.sdd_shared_values.specs.SharedValues.{showing}
+use Rattle.sdd_atomics.specs.DomainTable.{book_of, places_of}
+use Rattle.sdd_domain.specs.Posed.{AreLentTo, IsReady}
+use Rattle.sdd_domain.specs.Receipt.{IsTallied}
+use Rattle.sdd_domain.proofs.Moving.{row_out}
+use Rattle.sdd_domain.proofs.Posing.{posed_makes, made_view}
+use Rattle.sdd_domain.proofs.Tallies.{tallied_made}
+use Rattle.sdd_domain.proofs.local_core.LocalCore.new_item.Goals as goal
+
+pub put_value-owner-requires-clause-row : goal.put_value-owner-requires-clause-row
+put_value-owner-requires-clause-row g c = let l = c.self.inside in let b = l.domain.now.board in let q = c.self.invariant.0 in (
+  l.token.me.1,
+  row_out (book_of b) (places_of b) c.in-Ok.slot l.token.me c.claim_free.new.token.me.1 q.knows.1 (ap (λ (z : Sizes). z.participants) q.knows.0)
+      c.in-Ok.ensures.tried.row,
+)
+
+pub put_value-owner-requires-clause-fits : goal.put_value-owner-requires-clause-fits
+put_value-owner-requires-clause-fits g c = let l = c.self.inside in let b = l.domain.now.board in let q = c.self.invariant.0 in
+    to_board b (c.self.view_is 0) (on_board l.domain.now.limits b l.token.table_id q.home l.domain.now.limited.1 (c.self.view_is 0) refl refl refl)
+    (g.T.Item.holds c.args.value)
+    (subst (λ (m : LocalState). AreOf (home_in m) (g.T.Item.holds c.args.value)) (sym c.self.view_is) (c.requires.home))
+
+pub invariant_of-self : goal.invariant_of-self
+invariant_of-self g c = let l = c.self.inside in let b = l.domain.now.board in let inv = c.self.invariant in let put = c.put_value-owner.ensures in
+    let made = showing g.row.T c.args.value in let shared = c.is_one_of_several-shared.result in let slot = c.in-Ok.slot in
+    let claimed = c.claim_free.new.token in let token = c.put_value-owner.new.token in
+    let posed = posed_makes b l.place l.own slot shared made l.token claimed token inv.0 c.in-Ok.ensures.tried put.home.0 put.view put.given in (
+      posed.0,
+      inv.1,
+      inv.2,
+      subst (AreLentTo l.tenure.round) (sym posed.1) inv.3,
+      subst (IsReady b l.own l.due c.claim_free.new.known.slots) (sym (ap (λ (v : View). v.slots.waits)
+          (made_view b l.place l.own slot shared made l.token claimed token inv.0 c.in-Ok.ensures.tried put.view)))
+          (record { due = inv.4.due; large = inv.4.large; slots = c.claim_free.ensures.slots ∙ inv.4.slots }),
+      subst (λ (t : Tally). IsTallied 0 t token.me.0.stakes.counts) (sym c.count_made.ensures)
+          (subst (IsTallied 0 (one_made l.tally)) (sym (ap (λ (v : View). v.stakes.counts)
+          (made_view b l.place l.own slot shared made l.token claimed token inv.0 c.in-Ok.ensures.tried put.view)))
+          (tallied_made l.tally l.token.me.0.stakes.counts inv.5)),
+    )

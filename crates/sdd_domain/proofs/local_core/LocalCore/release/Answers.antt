@@ -1,0 +1,193 @@
+use lib.ListN.{get_elem?}
+use mathlib.Core.Logic.{dite}
+use native.Mathlib.Decide.{dec_lt}
+use Rattle.std.proofs.Common.{List, [], ◌∷◌, ◌≡◌, ℕ, ◌<◌, map, length, rules, refl, sym, ap, ◌∙◌, subst, arith}
+use Rattle.std.proofs.lemmas.List.{length-map}
+use Rattle.sdd_word_invariant.specs.SlotSteps.{retired_now}
+use Rattle.sdd_domain.specs.Waits.{what_of, waiting_of, ripe, unripe}
+use Rattle.sdd_domain.proofs.Ripe.{ripe_snoc, fewer_unripe}
+use Rattle.sdd_rights.specs.Owner.{witness_of_owner}
+use Rattle.sdd_atomics.specs.DomainTable.{id_of, slots_of}
+use Rattle.sdd_rights.specs.Units.{GhostName}
+use Rattle.sdd_participants.specs.declared.waiting.LimboEntry.TheVariants.{Item}
+use Rattle.sdd_participants.specs.declared.epoch_state.Participant.{Participant}
+use Rattle.sdd_participants.specs.Bags.{Bags}
+use Rattle.sdd_participants.specs.EpochState.{awaiting, with_garbage}
+use Rattle.sdd_domain.specs.Posed.{IsPosed, AreLentTo, IsTenureOf, IsReady}
+use Rattle.sdd_domain.specs.Receipt.{IsTallied}
+use Rattle.sdd_views.specs.declared.View.{View}
+use Rattle.atomic_table.specs.declared.shared.Seat.{Seat}
+use Rattle.sdd_views.specs.declared.Sizes.{Sizes}
+use Rattle.sdd_views.specs.Views.{owner_of}
+use Rattle.sdd_shared_values.specs.declared.value_fraction.ValueFraction.{ValueFraction}
+use Rattle.sdd_domain_invariant.specs.HomeSteps.{regained}
+use Rattle.sdd_rights.specs.StandingKind.{is_shared}
+use Rattle.sdd_rights.specs.Right.{number_of, kind_of}
+use Rattle.sdd_atomics.specs.DomainSeat.{Taught, Moved}
+use Rattle.sdd_domain.specs.Values.{LetsWait}
+use Rattle.std.specs.Prelude.{Bool}
+use base.Stored.{Gv}
+use Rattle.sdd_domain.specs.LocalState.{LocalState, IsLone, KnowsOwner, RetiresAt}
+use Rattle.sdd_domain.proofs.Members.{with_view, recalls_to, has_tables}
+use Rattle.sdd_domain.proofs.Posing.{posed_retires, retires_to, same_recalled}
+use Rattle.sdd_domain.proofs.local_core.LocalCore.release.Goals as goal
+
+pub invariant_of-self : goal.invariant_of-self
+invariant_of-self g c = let l = c.self.inside in let board = l.domain.now.board in let i = c.self.invariant in
+    let own_is : c.set_has_garbage.new.self ≡ awaiting (Item c.number-slot.result) l.own
+    = c.set_has_garbage.ensures ∙ ap (λ (bags : Bags). with_garbage (record l.own { bags = bags })) c.push.ensures in
+    let by = c.into_owner-owner.ensures.owner (has_tables c.args.self.now c.args.right c.requires) in let shown : Gv = c.into_owner-owner.result.1.shown in
+    let slot : ℕ = c.number-slot.result in
+    let shared : Bool = is_shared (kind_of c.args.right) in
+    let views = by.owner ∙ ap (λ (k : ℕ). witness_of_owner k shared shown) (sym c.number-slot.ensures) in
+    let recalled = c.recall.ensures slot shared shown views in
+    let same = same_recalled board l.place slot shared shown l.token c.recall.new.token recalled in
+    let took = subst (λ (x : Seat ValueFraction View). Taught (λ v _ w. w ≡ regained v (owner_of slot shared shown)) x 0 c.take_in.new.token) same
+    (c.take_in.ensures slot shared shown views) in
+    let retired = retires_to board l.place l.own slot shared shown l.token c.take_in.new.token c.let_wait.new.token i.0 took c.let_wait.ensures in
+    let inside : slot < slots_of board = search rules in
+    subst (λ (o : Participant). IsPosed board l.place o c.let_wait.new.token
+    × l.nesting ≡ l.domain.now.limits.nesting × IsTenureOf o l.tenure × AreLentTo l.tenure.round c.let_wait.new.token.me.1
+    × IsReady board o l.due l.known.slots c.let_wait.new.token.me.0.slots.waits × IsTallied 0 l.tally c.let_wait.new.token.me.0.stakes.counts) (sym own_is) (
+      posed_retires board l.place l.own slot shared shown l.token c.take_in.new.token c.let_wait.new.token i.0 inside took c.let_wait.ensures,
+      i.1,
+      record { units = i.2.units; kind = i.2.kind },
+      subst (AreLentTo l.tenure.round) (sym (c.let_wait.ensures.2.3 ∙ took.2)) i.3,
+      record {
+        due = i.4.due ∙ (ap (map what_of) (sym (ripe_snoc (retired_now slot retired.0) refl l.token.me.0.slots.waits))
+            ∙ ap (λ (v : View). map what_of (ripe v.slots.waits)) (sym retired.1));
+        large = i.4.large;
+        slots = i.4.slots;
+      },
+      subst (IsTallied 0 l.tally) (sym (ap (λ (v : View). v.stakes.counts) retired.1)) i.5,
+    )
+
+pub returns-clause-recalled : goal.returns-clause-recalled
+returns-clause-recalled g c = let l = c.self.inside in let board = l.domain.now.board in let i = c.self.invariant in
+    let slot : ℕ = number_of c.args.right in let shared : Bool = is_shared (kind_of c.args.right) in
+    let by = c.into_owner-owner.ensures.owner (has_tables c.args.self.now c.args.right c.requires) in let shown : Gv = c.into_owner-owner.result.1.shown in
+    let recalled = c.recall.ensures slot shared shown by.owner in
+    subst (λ (m : LocalState). IsLone m → (value : Gv) × KnowsOwner m slot shared value) c.self.view_is (λ lone. (
+      shown,
+      recalls_to (c.self.view_is 0) slot shared shown l.token c.recall.new.token recalled
+          (i.0.all ∙ ap (λ (z : Sizes). z.participants) l.domain.now.limited.1) lone,
+    ))
+
+pub let_wait-requires-clause-told : goal.let_wait-requires-clause-told
+let_wait-requires-clause-told g c = let by = c.into_owner-owner.ensures.owner (has_tables c.args.self.now c.args.right c.requires) in
+    let shown : Gv = c.into_owner-owner.result.1.shown in let slot : ℕ = c.number-slot.result in let shared : Bool = is_shared (kind_of c.args.right) in
+    let took = c.take_in.ensures slot shared shown (by.owner ∙ ap (λ (k : ℕ). witness_of_owner k shared shown) (sym c.number-slot.ensures)) in
+    (shown, (0, record { slot = slot; shared = shared; value = shown }, ap (λ (v : View). get_elem? v.stakes.owns 0) took.3, refl, refl))
+
+pub push-requires : goal.push-requires
+push-requires g c = let l = c.self.inside in let board = l.domain.now.board in let q = c.self.invariant.0 in
+    let by = c.into_owner-owner.ensures.owner (has_tables c.args.self.now c.args.right c.requires) in let shown : Gv = c.into_owner-owner.result.1.shown in
+    let slot : ℕ = c.number-slot.result in let shared : Bool = is_shared (kind_of c.args.right) in
+    let took = c.take_in.ensures slot shared shown (by.owner ∙ ap (λ (k : ℕ). witness_of_owner k shared shown) (sym c.number-slot.ensures)) in
+    let same = same_recalled board l.place slot shared shown l.token c.recall.new.token (c.recall.ensures slot shared shown
+    (by.owner ∙ ap (λ (k : ℕ). witness_of_owner k shared shown) (sym c.number-slot.ensures))) in
+    let before : View = c.recall.new.token.me.0 in
+    let room = c.let_wait.ensures.2.1.5 in
+    let waits = ap (λ (v : View). length v.slots.waits) took.3 in let sizes = ap (λ (v : View). v.sizes.slots) took.3 in
+    let w = ap (λ (t : Seat ValueFraction View). length t.me.0.slots.waits) same in let z = ap (λ (t : Seat ValueFraction View). t.me.0.sizes.slots) same in
+    let few = fewer_unripe l.token.me.0.slots.waits in
+    let many : length l.own.bags.waiting ≡ length (unripe l.token.me.0.slots.waits)
+    = ap length q.bags ∙ length-map (unripe l.token.me.0.slots.waits) waiting_of in
+    let known = ap (λ (x : Sizes). x.slots) q.knows.0 in let most = q.room in omega arith
+
+-- what was known before the owner was recalled and taken in is known still
+pub take_in-requires-clause-home : goal.take_in-requires-clause-home
+take_in-requires-clause-home g c =
+    let q = c.self.invariant.0 in let l = c.self.inside in let slot : ℕ = number_of c.args.right in let shared : Bool = is_shared (kind_of c.args.right) in
+    let by = c.into_owner-owner.ensures.owner (has_tables c.args.self.now c.args.right c.requires) in let shown : Gv = c.into_owner-owner.result.1.shown in
+    let same = same_recalled l.domain.now.board l.place slot shared shown l.token c.recall.new.token (c.recall.ensures slot shared shown by.owner) in
+    ap (λ (x : Seat ValueFraction View). x.table_id) same ∙ q.home
+
+pub take_in-requires-clause-rests : goal.take_in-requires-clause-rests
+take_in-requires-clause-rests g c =
+    let q = c.self.invariant.0 in let l = c.self.inside in let slot : ℕ = number_of c.args.right in let shared : Bool = is_shared (kind_of c.args.right) in
+    let by = c.into_owner-owner.ensures.owner (has_tables c.args.self.now c.args.right c.requires) in let shown : Gv = c.into_owner-owner.result.1.shown in
+    let same = same_recalled l.domain.now.board l.place slot shared shown l.token c.recall.new.token (c.recall.ensures slot shared shown by.owner) in
+    ap (λ (x : Seat ValueFraction View). x.me.0.stakes.moves) same ∙ q.rests
+
+pub let_wait-requires-clause-home : goal.let_wait-requires-clause-home
+let_wait-requires-clause-home g c =
+    let q = c.self.invariant.0 in let l = c.self.inside in let slot : ℕ = number_of c.args.right in let shared : Bool = is_shared (kind_of c.args.right) in
+    let by = c.into_owner-owner.ensures.owner (has_tables c.args.self.now c.args.right c.requires) in let shown : Gv = c.into_owner-owner.result.1.shown in
+    let same = same_recalled l.domain.now.board l.place slot shared shown l.token c.recall.new.token (c.recall.ensures slot shared shown by.owner) in
+    let took = subst (λ (x : Seat ValueFraction View). Taught (λ v _ w. w ≡ regained v (owner_of slot shared shown)) x 0 c.take_in.new.token) same
+    (c.take_in.ensures slot shared shown by.owner) in
+    took.0 ∙ q.home
+
+pub let_wait-requires-clause-knows : goal.let_wait-requires-clause-knows
+let_wait-requires-clause-knows g c =
+    let q = c.self.invariant.0 in let l = c.self.inside in let slot : ℕ = number_of c.args.right in let shared : Bool = is_shared (kind_of c.args.right) in
+    let by = c.into_owner-owner.ensures.owner (has_tables c.args.self.now c.args.right c.requires) in let shown : Gv = c.into_owner-owner.result.1.shown in
+    let same = same_recalled l.domain.now.board l.place slot shared shown l.token c.recall.new.token (c.recall.ensures slot shared shown by.owner) in
+    let took = subst (λ (x : Seat ValueFraction View). Taught (λ v _ w. w ≡ regained v (owner_of slot shared shown)) x 0 c.take_in.new.token) same
+    (c.take_in.ensures slot shared shown by.owner) in
+    (ap (λ (v : View). v.sizes) took.3 ∙ q.knows.0, ap (λ (v : View). v.stakes.book) took.3 ∙ q.knows.1)
+
+pub let_wait-requires-clause-place : goal.let_wait-requires-clause-place
+let_wait-requires-clause-place g c =
+    let q = c.self.invariant.0 in let l = c.self.inside in let slot : ℕ = number_of c.args.right in let shared : Bool = is_shared (kind_of c.args.right) in
+    let by = c.into_owner-owner.ensures.owner (has_tables c.args.self.now c.args.right c.requires) in let shown : Gv = c.into_owner-owner.result.1.shown in
+    let same = same_recalled l.domain.now.board l.place slot shared shown l.token c.recall.new.token (c.recall.ensures slot shared shown by.owner) in
+    let took = subst (λ (x : Seat ValueFraction View). Taught (λ v _ w. w ≡ regained v (owner_of slot shared shown)) x 0 c.take_in.new.token) same
+    (c.take_in.ensures slot shared shown by.owner) in
+    let state = ap (λ (v : View). v.epoch.state) took.3 in
+    dite (dec_lt 0 l.own.guards) (λ some. subst (λ (k : ℕ). 0 < k) (sym (state ∙ q.opened some)) (omega arith))
+    (λ none. subst (λ (k : ℕ). 0 < k) (sym (state ∙ q.closed (omega arith))) (omega arith))
+
+pub let_wait-requires-clause-own : goal.let_wait-requires-clause-own
+let_wait-requires-clause-own g c =
+    let q = c.self.invariant.0 in let l = c.self.inside in let slot : ℕ = number_of c.args.right in let shared : Bool = is_shared (kind_of c.args.right) in
+    let by = c.into_owner-owner.ensures.owner (has_tables c.args.self.now c.args.right c.requires) in let shown : Gv = c.into_owner-owner.result.1.shown in
+    let same = same_recalled l.domain.now.board l.place slot shared shown l.token c.recall.new.token (c.recall.ensures slot shared shown by.owner) in
+    let took = subst (λ (x : Seat ValueFraction View). Taught (λ v _ w. w ≡ regained v (owner_of slot shared shown)) x 0 c.take_in.new.token) same
+    (c.take_in.ensures slot shared shown by.owner) in
+    let none = ap (λ (v : View). v.slots.holds) took.3 ∙ q.quiet.holds in (
+      ap (λ (v : View). v.slots.owns) took.3 ∙ (ap (λ (is : List ℕ). slot ∷ is) q.quiet.owns ∙ ap (λ (k : ℕ). k ∷ []) (sym c.number-slot.ensures)),
+      (λ held. cc),
+      ap (λ (v : View). v.slots.drawn) took.3 ∙ (ap (λ (is : List ℕ). slot ∷ is) q.quiet.drawn ∙ ap (λ (k : ℕ). k ∷ []) (sym c.number-slot.ensures)),
+    )
+
+pub let_wait-requires-clause-rests : goal.let_wait-requires-clause-rests
+let_wait-requires-clause-rests g c =
+    let q = c.self.invariant.0 in let l = c.self.inside in let slot : ℕ = number_of c.args.right in let shared : Bool = is_shared (kind_of c.args.right) in
+    let by = c.into_owner-owner.ensures.owner (has_tables c.args.self.now c.args.right c.requires) in let shown : Gv = c.into_owner-owner.result.1.shown in
+    let same = same_recalled l.domain.now.board l.place slot shared shown l.token c.recall.new.token (c.recall.ensures slot shared shown by.owner) in
+    let took = subst (λ (x : Seat ValueFraction View). Taught (λ v _ w. w ≡ regained v (owner_of slot shared shown)) x 0 c.take_in.new.token) same
+    (c.take_in.ensures slot shared shown by.owner) in
+    ap (λ (v : View). v.stakes.moves) took.3 ∙ q.rests
+
+pub returns-clause-retired : goal.returns-clause-retired
+returns-clause-retired g c =
+    let q = c.self.invariant.0 in let l = c.self.inside in let slot : ℕ = number_of c.args.right in let shared : Bool = is_shared (kind_of c.args.right) in
+    let by = c.into_owner-owner.ensures.owner (has_tables c.args.self.now c.args.right c.requires) in let shown : Gv = c.into_owner-owner.result.1.shown in
+    let same = same_recalled l.domain.now.board l.place slot shared shown l.token c.recall.new.token (c.recall.ensures slot shared shown by.owner) in
+    let took = subst (λ (x : Seat ValueFraction View). Taught (λ v _ w. w ≡ regained v (owner_of slot shared shown)) x 0 c.take_in.new.token) same
+    (c.take_in.ensures slot shared shown by.owner) in
+    let waits = subst (λ (k : ℕ). Moved (LetsWait k) c.take_in.new.token 4 c.let_wait.new.token) c.number-slot.ensures c.let_wait.ensures in
+    let retired = retires_to l.domain.now.board l.place l.own slot shared shown l.token c.take_in.new.token c.let_wait.new.token q took waits in
+    let own_is : c.set_has_garbage.new.self ≡ awaiting (Item slot) l.own
+    = c.set_has_garbage.ensures ∙ (ap (λ (bags : Bags). with_garbage (record l.own { bags = bags })) c.push.ensures ∙ ap (λ (k : ℕ). awaiting
+    (Item k) l.own) c.number-slot.ensures) in
+    let old : LocalState = c.self.view_is 0 in
+    let home : c.let_wait.new.token.table_id ≡ l.token.table_id = waits.0 ∙ took.0 in (
+      retired.0,
+      subst (λ (m : LocalState). RetiresAt slot retired.0 m
+          (record (with_view old c.let_wait.new.token.table_id c.let_wait.new.token.me.0) { own = c.set_has_garbage.new.self })) c.self.view_is record {
+            member = λ d. record (with_view old (home d) (retired.1 d)) { own = own_is d };
+            knew = retired.2;
+            lone = λ one. retired.3 ((q.all ∙ ap (λ (z : Sizes). z.participants) l.domain.now.limited.1) ∙ one);
+          },
+    )
+
+pub take_in-requires-clause-owner : goal.take_in-requires-clause-owner
+take_in-requires-clause-owner g c = let q = c.self.invariant.0 in let b = c.self.inside.domain.now.board in
+    let by = c.into_owner-owner.ensures.owner (has_tables c.args.self.now c.args.right c.requires) in
+    let tables = by.table in let mine = ap (λ (h : GhostName). h.tables) c.requires in let there = ap (λ (m : LocalState). m.home) c.self.view_is in
+    let board = q.home in
+    let table : c.into_owner-owner.result.0.table_id ≡ id_of b = cc in
+    (table, (number_of c.args.right, is_shared (kind_of c.args.right), c.into_owner-owner.result.1.shown, by.owner))

@@ -1,0 +1,16 @@
+use Rattle.std.proofs.Common.{refl, ◌∙◌, subst, arith}
+use Rattle.sdd_views.specs.declared.EpochView.{EpochView}
+use Rattle.sdd_word_invariant.specs.Steps.{Takes}
+use Rattle.sdd_atomics.proofs.Allowed.{same_but_on}
+use Rattle.sdd_domain.proofs.local_core.take_place.Goals as goal
+
+pub returns-then-register-eq-FREE-clause-taken : goal.returns-then-register-eq-FREE-clause-taken
+returns-then-register-eq-FREE-clause-taken c = let took = (c.register.ensures.1 c.loop-place.place refl).0 c.if-register-eq-FREE.true in
+    (omega arith, subst (λ (v : EpochView). Takes v c.loop-place.place c.register.new.token.me.0.epoch) c.loop-place.invariant.idle took)
+
+pub loop-place-preserved : goal.loop-place-preserved
+loop-place-preserved c = let told = (c.register.ensures.1 c.loop-place.place refl).1 c.if-register-eq-FREE.false in record {
+  same = same_but_on c.args.token.now c.loop-place.token c.register.new.token c.loop-place.invariant.same c.register.ensures.0;
+  idle = told ∙ c.loop-place.invariant.idle;
+  blank = c.register.ensures.0.3 ∙ c.loop-place.invariant.blank;
+}

@@ -1,0 +1,13 @@
+use Rattle.std.proofs.Common.{◌≡◌}
+use Rattle.sdd_views.specs.Views.{nobody}
+use Rattle.sdd_word_invariant.specs.SlotSteps.{blank}
+use Rattle.sdd_atomics.specs.DomainSeat.{epoch, words_known, IsSameBut}
+use Rattle.sdd_atomics.specs.DomainTable.{sizes_of, places_of}
+use Rattle.sdd_domain.proofs.local_core.take_place.Given as goal
+
+abbrev pub invariant-loop-place : goal.invariant-loop-place
+invariant-loop-place l = record {
+  same : IsSameBut l.fn.token l.token;
+  idle : epoch l.token ≡ nobody (places_of l.board);
+  blank : words_known l.token ≡ blank (sizes_of l.board);
+}

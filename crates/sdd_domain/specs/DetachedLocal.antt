@@ -1,0 +1,29 @@
+-- A participant without its domain
+use Rattle.std.specs.Prelude.{◌≡◌, ℕ, []}
+use Rattle.atomic_table.specs.declared.shared.Seat.{Seat}
+use Rattle.sdd_participants.specs.declared.epoch_state.Participant.{Participant}
+use Rattle.sdd_participants.specs.declared.tally.Tally.{Tally}
+use Rattle.sdd_rights.specs.declared.fraction.Fraction.{Fraction}
+use Rattle.sdd_values.specs.declared.read_sections.SectionState.{SectionState}
+use Rattle.sdd_views.specs.declared.View.{View}
+use Rattle.sdd_shared_values.specs.declared.value_fraction.ValueFraction.{ValueFraction}
+use Rattle.sdd_space.specs.declared.limits.Limits.{Limits}
+use Rattle.sdd_atomics.specs.declared.domain_table.DomainTable.{DomainTable}
+use Rattle.sdd_atomics.specs.DomainTable.{sizes_of}
+use Rattle.sdd_domain.specs.DueItems.{Pending}
+use Rattle.sdd_domain.specs.Posed.{IsPosed, IsTenureOf, AreLentTo, IsReady}
+use Rattle.sdd_domain.specs.Receipt.{IsTallied}
+use Rattle.sdd_domain.specs.Shelf.{sizes_in}
+
+-- on the board of its domain it is as between two calls, with no guard open
+pub record IsDormant (limits : Limits) (place : ℕ) (own : Participant) (due : Pending) (known_slots : ℕ) (tenure : Fraction SectionState) (token : Seat ValueFraction View)
+    (tally : Tally) : Type 0 where
+  pub board : DomainTable
+  pub sizes : sizes_of board ≡ sizes_in limits
+  pub shut : own.guards ≡ 0
+  pub settled : due.items ≡ []
+  pub posed : IsPosed board place own token
+  pub tenure_is : IsTenureOf own tenure
+  pub lent : AreLentTo tenure.round token.me.1
+  pub ready : IsReady board own due known_slots token.me.0.slots.waits
+  pub tallied : IsTallied 0 tally token.me.0.stakes.counts

@@ -1,0 +1,186 @@
+-- A participant's membership of a domain as its callers see it, and what each call does to it
+use Rattle.std.specs.Prelude.{◌≡◌, ◌≢◌, ◌⊎◌, ℕ, ◌+◌, ◌^◌, ◌<◌, ◌≤◌, Bool, Some, true, false, List, [], ◌∷◌, ◌++◌, slice_index, slice_set}
+use base.Stored.{Gv}
+use Rattle.atomic_table.specs.Seated.{TableId}
+use Rattle.sdd_space.specs.declared.limits.Limits.{Limits}
+use Rattle.sdd_participants.specs.declared.epoch_state.Participant.{Participant}
+use Rattle.sdd_participants.specs.declared.waiting.LimboEntry.{LimboEntry}
+use Rattle.sdd_participants.specs.declared.waiting.LimboEntry.TheVariants.{Item}
+use Rattle.sdd_participants.specs.EpochState.{newcomer, nested, settled, awaiting}
+use Rattle.sdd_space.specs.Guard.{ReaderId}
+use Rattle.sdd_space.specs.Own.{closed_with}
+use Rattle.sdd_participants.specs.declared.tally.Tally.{Tally}
+use Rattle.sdd_participants.specs.Tally.{no_items, one_made, one_reclaimed}
+use Rattle.sdd_views.specs.declared.Sizes.{Sizes}
+use Rattle.sdd_views.specs.declared.ShownValue.{ShownValue}
+use Rattle.sdd_views.specs.declared.SlotsView.{SlotsView}
+use Rattle.sdd_word_invariant.specs.Codes.{free_word, owned_word, waiting_word, alive}
+use Rattle.sdd_word_invariant.specs.Sums.{times, total}
+use Rattle.sdd_word_invariant.specs.Slots.{waits_in}
+use Rattle.sdd_views.specs.Views.{bare}
+use Rattle.sdd_word_invariant.specs.SlotSteps.{blank, behind, retired_now, without_item}
+use Rattle.sdd_domain_invariant.specs.Records.{IsIn}
+use Rattle.sdd_domain_invariant.specs.Fillings.{newest}
+use Rattle.sdd_domain.specs.Waits.{aged_at, due_at, arrived_at}
+
+-- the domain, the book of its values' places, its limits, the place, whose guards are the participant's, what it keeps of its own, the greatest count that it knows,
+-- the global count at its last publish (0 before the first), what it made and reclaimed, how many of each its domain has,
+-- what it knows of slots, what those show that its guards see, what it moved into slots, the newest first, the words that it knows if it is lone,
+-- and what the opening of a guard has still to reclaim
+pub record LocalState : Type 0 where
+  pub home : TableId
+  pub book : ℕ
+  pub limits : Limits
+  pub place : ℕ
+  pub reader : ReaderId
+  pub own : Participant
+  pub known : ℕ
+  pub since : ℕ
+  pub tally : Tally
+  pub sizes : Sizes
+  pub slots : SlotsView
+  pub shown : List ShownValue
+  pub filled : List ShownValue
+  pub words : List ℕ
+  pub due : List LimboEntry
+
+-- no other participant may be
+abbrev pub IsLone : LocalState → Type 0
+IsLone m = m.limits.participants ≡ 1
+
+-- something waits with it
+abbrev pub waits : LocalState → Bool
+waits m = elim (m.own.bags.waiting) [ [] ↦ false | x ∷ xs ↦ true ]
+
+-- a guard is open
+abbrev pub HasOpenGuard : LocalState → Type 0
+HasOpenGuard m = 0 < m.own.guards
+
+-- one guard more is within the limit
+abbrev pub CanNest : LocalState → Type 0
+CanNest m = m.own.guards < m.limits.nesting
+
+-- it has just registered with this domain, as the only reader of a home of its own; where it is lone, the count is 0 then, and all is free
+pub record IsNew (domain : TableId) (book : ℕ) (most : Limits) (m : LocalState) : Type 0 where
+  pub home : m.home ≡ domain
+  pub book_is : m.book ≡ book
+  pub limits : m.limits ≡ most
+  pub place : m.place < most.participants
+  pub reader : (m.reader.home.size ≡ 1) × (m.reader.number ≡ 0)
+  pub own : m.own ≡ newcomer most.slots
+  pub since : m.since ≡ 0
+  pub lone : IsLone m → m.known ≡ 0
+  pub tally : m.tally ≡ no_items
+  pub sizes : (m.sizes.participants ≡ most.participants) × (m.sizes.slots ≡ most.slots)
+  pub slots : m.slots ≡ bare
+  pub shown : m.shown ≡ []
+  pub filled : m.filled ≡ []
+  pub words : m.words ≡ blank m.sizes
+  pub due : m.due ≡ []
+
+-- an outermost opening finds a count, which is at least the greatest that was known; where the participant is lone it is that one.
+-- What has seen three changes then is due
+pub record IsEntered (count : ℕ) (old new : LocalState) : Type 0 where
+  pub member : new ≡ record old {
+    own = nested (arrived_at count old.own);
+    known = new.since;
+    since = new.since;
+    slots = record old.slots { waits = aged_at count old.own old.slots.waits };
+    due = due_at count old.own;
+  }
+  pub knew : old.known ≤ count
+  pub knows : count ≤ new.since
+  pub lone : IsLone old → (count ≡ old.known) × (new.since ≡ old.known)
+
+-- after such an opening something is to be reclaimed or decided, where it found another count and something waited; else nothing is: no other count was
+-- found, or nothing waited
+pub record GoesOn (count : ℕ) (goes_on : Bool) (old entered new : LocalState) : Type 0 where
+  pub change : goes_on ≡ true → (old.own.found ≢ count) × (new ≡ entered)
+  pub over : goes_on ≡ false → ((old.own.found ≡ count) × (new ≡ entered))
+      ⊎ ((old.own.found ≢ count) × (entered.due ≡ []) × (new ≡ record entered { own = settled entered.own }))
+
+-- the item of the slot was due before all others, and its value, which shows this, was moved out; the slot is free. A lone participant moved that
+-- value in
+pub record Reclaims (slot : ℕ) (value : Gv) (old new : LocalState) : Type 0 where
+  pub inside : slot < old.limits.slots
+  pub first : old.due ≡ Item slot ∷ new.due
+  pub member : new ≡ record old {
+    tally = one_reclaimed old.tally;
+    slots = record old.slots { waits = without_item slot old.slots.waits };
+    words = slice_set old.words (behind old.sizes slot) (free_word 0);
+    due = new.due;
+  }
+  pub once : total (waits_in slot) old.slots.waits ≡ 1
+  pub lone : IsLone old → (shared : Bool) × (newest slot old.filled ≡ Some (record { slot = slot; shared = shared; value = value }))
+
+-- a guard is closed; without an open one nothing happens. The last close shows nothing any more, and at countdown 0 scans, which may
+-- raise the count, to one more than it was at the publish at most; where the participant is lone the scan does, but at the last count
+pub record Closes (old new : LocalState) : Type 0 where
+  pub member : new ≡ record old { own = closed_with false old.own; known = new.known; slots = new.slots; shown = new.shown }
+  pub unseen : old.own.guards ≡ 1 → (new.slots ≡ record old.slots { sees = [] }) × (new.shown ≡ [])
+  pub seen : old.own.guards ≢ 1 → (new.slots ≡ old.slots) × (new.shown ≡ old.shown)
+  pub knows : old.known ≤ new.known
+  pub near : HasOpenGuard old → new.known ≤ old.since + 1
+  pub quiet : (old.own.guards ≢ 1) ⊎ (old.own.countdown ≢ 0) → new.known ≡ old.known
+  pub raised : IsLone old → old.own.guards ≡ 1 → old.own.countdown ≡ 0 → old.known + 1 < 2 ^ 64 → new.known ≡ old.known + 1
+  pub last : IsLone old → old.own.guards ≡ 1 → old.own.countdown ≡ 0 → old.known + 1 ≡ 2 ^ 64 → new.known ≡ old.known
+  pub few : IsLone old → old.own.guards ≡ 1 → old.known < 2 ^ 64
+
+-- a count that is told is at least the greatest that was known, and known from then on;
+-- under a guard it is the one at the guard's publish or the next, and the greatest that was known or the next
+pub record IsTold (count : ℕ) (old new : LocalState) : Type 0 where
+  pub member : new ≡ record old { known = count }
+  pub knew : old.known ≤ count
+  pub guarded : HasOpenGuard old → (old.since ≤ count) × (count ≤ old.since + 1)
+  pub near : HasOpenGuard old → (count ≡ old.known) ⊎ (count ≡ old.known + 1)
+  pub lone : IsLone old → count ≡ old.known
+
+-- the word of a slot, as a lone participant knows it
+abbrev pub word_of : LocalState → ℕ → ℕ
+word_of m slot = slice_index m.words (behind m.sizes slot)
+
+-- by the words that a lone participant knows the slot is free
+abbrev pub IsFree : LocalState → ℕ → Type 0
+IsFree m slot = word_of m slot ≡ free_word 0
+
+-- by what a lone participant knows the slot has an owner, who is one of several or not, and shows this
+pub record KnowsOwner (m : LocalState) (slot : ℕ) (shared : Bool) (value : Gv) : Type 0 where
+  pub newest : newest slot m.filled ≡ Some (record { slot = slot; shared = shared; value = value })
+  pub alive : alive (word_of m slot) ≡ 1
+
+-- a slot that was free has an item, made by it, which shows this; its owner may be one of several
+pub record MakesAt (slot : ℕ) (shared : Bool) (value : Gv) (old new : LocalState) : Type 0 where
+  pub inside : slot < old.limits.slots
+  pub member : new ≡ record old {
+    tally = one_made old.tally;
+    filled = record { slot = slot; shared = shared; value = value } ∷ old.filled;
+    words = slice_set old.words (behind old.sizes slot) (owned_word 0);
+  }
+  pub lone : IsLone old → IsFree old slot
+
+-- its guards see the slot
+abbrev pub Sees : LocalState → ℕ → Type 0
+Sees m slot = 0 < times slot m.slots.sees
+
+-- its guards see a slot, if they didn't before, which shows this
+pub record LooksAt (slot : ℕ) (shared : Bool) (value : Gv) (old new : LocalState) : Type 0 where
+  pub seen : Sees old slot → (new ≡ old) × IsIn old.shown slot value
+  pub unseen : ¬ (Sees old slot) → new ≡ record old {
+    slots = record old.slots { sees = slot ∷ old.slots.sees };
+    shown = record { slot = slot; shared = shared; value = value } ∷ old.shown;
+  }
+
+-- no slot is free
+abbrev pub IsUsedUp : LocalState → Type 0
+IsUsedUp m = (slot : ℕ) → slot < m.limits.slots → ¬ (IsFree m slot)
+
+-- the item of a slot waits with it from now on, retired at the count of this moment
+pub record RetiresAt (slot count : ℕ) (old new : LocalState) : Type 0 where
+  pub member : new ≡ record old {
+    own = awaiting (Item slot) old.own;
+    known = count;
+    slots = record old.slots { waits = old.slots.waits ++ retired_now slot count ∷ [] };
+    words = slice_set old.words (behind old.sizes slot) (waiting_word 0);
+  }
+  pub knew : old.known ≤ count
+  pub lone : IsLone old → count ≡ old.known

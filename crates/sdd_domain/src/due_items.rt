@@ -1,0 +1,73 @@
+//! What an opening took out of the bags.
+ghost use Rattle.std.specs.Prelude.{◌≡◌, ◌≤◌, [], ◌∷◌, MatchOption, IfOk, length};
+ghost use Rattle.sdd_participants.specs.Waiting.{aged, due, left};
+
+use sdd_participants::{Bags, LimboEntry};
+use std::alloc::{AllocError, Global};
+use std::marker::Model;
+
+/// What is due, one after another: the oldest first. It is gone through once.
+#[derive(Drop)]
+pub struct DueItems {
+    bag: Vec<LimboEntry>,
+    /// How many of the bag were given out.
+    taken: usize,
+}
+
+impl Model for DueItems {
+    ghost use Rattle.std.specs.Prelude.{◌≤◌, drop, length, vec_capacity};
+    ghost use Rattle.sdd_domain.specs.DueItems.{Pending};
+
+    ghost Value = { Pending };
+
+    ghost view = { λ d. record { items = drop d.taken d.bag.items; room = vec_capacity d.bag } };
+
+    ghost invariant = { λ d. d.taken ≤ length d.bag.items };
+}
+
+impl DueItems {
+    /// Nothing, with room for so much.
+    pub fn with_room(alloc: Global, room: usize) -> Result<DueItems, AllocError>
+        ensures none { IfOk result (λ made. made.items ≡ []) }
+        ensures room { IfOk result (λ made. room ≤ made.room) }
+    {
+        let bag = Vec::with_capacity(alloc, room)?;
+        Ok(DueItems { bag, taken: 0 })
+    }
+
+    /// The bags rotate, and what is due comes out of them.
+    pub fn rotate(&mut self, bags: &mut Bags)
+        requires none { self.old.items ≡ [] }
+        requires room { bags.old.room ≤ self.old.room }
+        ensures taken { self.new.items ≡ due (aged bags.old.waiting) }
+        ensures kept { bags.new ≡ record bags.old { waiting = left (aged bags.old.waiting) } }
+        ensures room { bags.old.room ≤ self.new.room }
+    {
+        self.bag.clear();
+        self.taken = 0;
+        bags.rotate(&mut self.bag);
+    }
+
+    /// How much of it there is.
+    #[inline]
+    pub fn len(&self) -> usize
+        ensures { result ≡ length self.now.items }
+    {
+        self.bag.len() - self.taken
+    }
+
+    /// The next of it.
+    #[inline]
+    pub fn next(&mut self) -> Option<LimboEntry>
+        ensures next { MatchOption result ((self.old.items ≡ []) × (self.new ≡ self.old)) (λ what. self.old.items ≡ what ∷ self.new.items) }
+        ensures room { self.new.room ≡ self.old.room }
+    {
+        if self.taken < self.bag.len() {
+            let what = self.bag[self.taken];
+            self.taken += 1;
+            Some(what)
+        } else {
+            None
+        }
+    }
+}

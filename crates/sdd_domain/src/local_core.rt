@@ -1,0 +1,431 @@
+//! A participant's part in a domain: its guards, what waits with it, and the items that it makes and lets go.
+ghost use Rattle.std.specs.Prelude.{◌≡◌, ◌↔◌, ◌⊎◌, ◌+◌, ◌*◌, ◌/◌, ◌^◌, ◌<◌, ◌≤◌, ◌==◌, ℕ, [], false, length, IsTrue, not, IfSome, IfOk, IfErr, MatchOption, MatchResult};
+ghost use Rattle.sdd_shared_values.specs.SharedValues.{showing};
+ghost use Rattle.sdd_participants.specs.EpochState.{accelerated, due_next, has_garbage, nested, settled, with_garbage};
+ghost use Rattle.sdd_views.specs.Views.{nobody};
+ghost use Rattle.sdd_word_invariant.specs.Steps.{Takes};
+ghost use Rattle.sdd_word_invariant.specs.SlotSteps.{blank};
+ghost use Rattle.sdd_atomics.specs.DomainTable.{id_of, sizes_of, places_of};
+ghost use Rattle.sdd_atomics.specs.DomainSeat.{epoch, words_known, IsSameBut};
+ghost use Rattle.sdd_domain.specs.Domain.{home_of, book_of, limits_of};
+ghost use Rattle.sdd_domain.specs.Homes.{home_at, home_in};
+ghost use Rattle.sdd_domain.specs.Items.{slots_home};
+ghost use Rattle.sdd_domain.specs.LocalState.{waits, CanNest, HasOpenGuard, IsNew, IsEntered, GoesOn, LocalState, Reclaims, Closes, IsTold};
+ghost use Rattle.sdd_space.specs.Guard.{reader_of};
+ghost use Rattle.sdd_space.specs.OwnerOrCell.{AreOf};
+ghost use Rattle.sdd_values.specs.declared.read_sections.SectionState.TheVariants.{Closed as is_closed};
+
+use crate::changes::arrive;
+use crate::domain::Domain;
+use crate::due_items::DueItems;
+use crate::ended_counts::EndedCounts;
+use crate::free_slot_hints::FreeSlotHints;
+use crate::scan::scan;
+use crate::shut::shut;
+use crate::values::take_value;
+use sdd_space::inner::{guard_with, part_of_guard};
+use sdd_space::{Guard, Item};
+use sdd_atomics::words::state_word;
+use sdd_atomics::{DomainTable, DomainSeat, steps};
+use sdd_core::Refused;
+use sdd_values::{SectionState, ReadSection};
+use sdd_participants::{Bags, Participant, Tally, LimboEntry};
+use sdd_rights::{GhostKeys, WHOLE};
+use std::alloc::{AllocError, Global};
+use std::marker::Model;
+
+pub mod detached_local;
+mod items;
+
+/// A participant's membership of a domain: its place, its bags, and what it knows of the words.
+///
+/// It must be spent by `end`.
+pub struct LocalCore<'d, T: Item<T>> {
+    domain: &'d Domain<T>,
+    token: DomainSeat,
+    place: usize,
+    /// How many of its guards may be open at once, as the domain's limits say.
+    nesting: u32,
+    own: Participant,
+    /// What an opening took out of the bags, and has still to reclaim.
+    due: DueItems,
+    known: FreeSlotHints,
+    /// What its open guards don't have of its tenure: each of them has one unit.
+    tenure: ReadSection,
+    tally: Tally,
+}
+
+impl<'d, T: Item<T>> Model for LocalCore<'d, T> {
+    ghost use Rattle.std.specs.Prelude.{◌≡◌};
+    ghost use Rattle.sdd_domain.specs.Domain.{book_of};
+    ghost use Rattle.sdd_domain.specs.LocalState.{LocalState};
+    ghost use Rattle.sdd_domain.specs.Posed.{IsPosed, AreLentTo, IsTenureOf, IsReady};
+    ghost use Rattle.sdd_domain.specs.Receipt.{IsTallied};
+
+    ghost Value = { LocalState };
+
+    ghost view = { λ l. record {
+      home = l.token.table_id;
+      book = book_of l.domain.now;
+      limits = l.domain.now.limits;
+      place = l.place;
+      reader = record { home = l.tenure.home; number = l.tenure.number };
+      own = l.own;
+      known = l.token.me.0.epoch.known;
+      since = l.token.me.0.epoch.since;
+      tally = l.tally;
+      sizes = l.token.me.0.sizes;
+      slots = l.token.me.0.slots;
+      shown = l.token.me.0.stakes.sees;
+      filled = l.token.me.0.stakes.filled;
+      words = l.token.me.0.words;
+      due = l.due.items;
+    } };
+
+    ghost invariant = { λ l. IsPosed l.domain.now.board l.place l.own l.token × (l.nesting ≡ l.domain.now.limits.nesting) × IsTenureOf l.own l.tenure × AreLentTo l.tenure.round l.token.me.1
+        × IsReady l.domain.now.board l.own l.due l.known.slots l.token.me.0.slots.waits
+        × IsTallied 0 l.tally l.token.me.0.stakes.counts };
+}
+
+/// The memory of a participant.
+struct Room {
+    bags: Bags,
+    due: DueItems,
+    known: FreeSlotHints,
+}
+
+impl Room {
+    ghost use Rattle.std.specs.Prelude.{◌≤◌, []};
+
+    /// That for so many slots.
+    fn new(alloc: Global, slots: u32) -> Result<Room, AllocError>
+        ensures bags { IfOk result (λ room. room.bags ≡ record { waiting = []; room = slots }) }
+        ensures due { IfOk result (λ room. (room.due.items ≡ []) × (slots ≤ room.due.room)) }
+        ensures known { IfOk result (λ room. room.known.slots ≡ slots) }
+    {
+        let bags = Bags::with_room(alloc, slots as usize)?;
+        let due = DueItems::with_room(alloc, slots as usize)?;
+        let known = FreeSlotHints::new(alloc, slots)?;
+        Ok(Room { bags, due, known })
+    }
+}
+
+/// A place seems to be free: a peek proves nothing of the moment after, but takes the place's line from nobody.
+fn seems_free(board: &DomainTable, place: usize) -> bool
+    requires { place < places_of board.now }
+{
+    board.table.shared.peek(state_word(place)) == steps::FREE
+}
+
+/// Takes a free place: the first one that is found so. An exchange is tried only there, since it takes a place's line from its participant.
+fn take_place(board: &DomainTable, token: &mut DomainSeat) -> Option<usize>
+    requires home { token.old.table_id ≡ id_of board.now }
+    requires idle { epoch token.old ≡ nobody (places_of board.now) }
+    requires blank { words_known token.old ≡ blank (sizes_of board.now) }
+    ensures same { IsSameBut token.old token.new }
+    ensures taken { IfSome result (λ place. (place < places_of board.now) × Takes (nobody (places_of board.now)) place (epoch token.new)) }
+{
+    for place in 0..board.places() {
+        if !seems_free(board, place) {
+            continue;
+        }
+        if steps::register(board, token, place) == steps::FREE {
+            return Some(place);
+        }
+    }
+    None
+}
+
+/// Where the share of the slots begins in which the participant of a place looks first: the places divide the slots evenly.
+fn share_of(place: usize, places: usize, slots: u32) -> u32
+    requires inside { place < places }
+    requires few { places ≤ 2 ^ 32 }
+    ensures begins { result ≡ slots * place / places }
+    ensures inside { result ≤ slots }
+{
+    (slots as usize * place / places) as u32
+}
+
+/// What a registering without memory is refused with: where no place is free either, that goes before.
+fn want_of_memory(board: &DomainTable) -> Refused
+    ensures { (result ≡ Refused.NoPlace) ⊎ (result ≡ Refused.NoMemory) }
+{
+    if (0..board.places()).any(|place| seems_free(board, place)) {
+        Refused::NoMemory
+    } else {
+        Refused::NoPlace
+    }
+}
+
+/// A law, which does nothing when the program runs: a count that was found fits its type.
+#[inline]
+fn is_a_count(count: u64)
+    ensures { count < 2 ^ 64 }
+{
+    let _ = count;
+}
+
+/// The tenure of a new participant, whole and with no guard open: the only one of its home.
+fn own_tenure() -> ReadSection
+    ensures reader { (result.home.size ≡ 1) × (result.number ≡ 0) }
+    ensures closed { result.kind ≡ is_closed }
+    ensures whole { result.units ≡ WHOLE }
+{
+    let mut book = GhostKeys::new(1);
+    book.issue(&SectionState::Closed)
+}
+
+impl<'d, T: Item<T>> LocalCore<'d, T> {
+    /// Registers a participant.
+    ///
+    /// All memory is taken here, and none later: for what may wait with it, and for the slots that it gave back, as many
+    /// as there are slots. `NoPlace` where all places were found taken; `NoMemory` where this memory was refused.
+    #[tactic(auto, using(crate::proofs::Moving::no_purse, crate::proofs::Moving::none_lent))]
+    pub fn register(domain: &'d Domain<T>) -> Result<LocalCore<'d, T>, Refused>
+        ensures registered { IfOk result (IsNew (home_of domain.now) (book_of domain.now) (limits_of domain.now)) }
+        ensures refused { IfErr result (λ e. (e ≡ Refused.NoPlace) ⊎ (e ≡ Refused.NoMemory)) }
+    {
+        let Ok(room) = Room::new(domain.alloc, domain.limits.slots as u32) else {
+            return Err(want_of_memory(&domain.board));
+        };
+        let Room {
+            bags,
+            due,
+            mut known,
+        } = room;
+        let mut token = steps::sit(&domain.board);
+        let Some(place) = take_place(&domain.board, &mut token) else {
+            return Err(Refused::NoPlace);
+        };
+        steps::write(&domain.board, &mut token, place, 0);
+        known.begin_at(share_of(place, domain.board.places(), domain.limits.slots as u32));
+        Ok(LocalCore {
+            domain,
+            token,
+            place,
+            nesting: domain.limits.nesting as u32,
+            own: Participant {
+                found: 0,
+                countdown: 128,
+                guards: 0,
+                bags,
+            },
+            due,
+            known,
+            tenure: own_tenure(),
+            tally: Tally::new(),
+        })
+    }
+
+    /// Ends the participant, whose place isn't free again.
+    pub fn end(self) -> EndedCounts
+        requires { ¬ (HasOpenGuard self) }
+        ensures { result ≡ record { home = slots_home self.entry; tally = self.entry.tally; waits = false } }
+    {
+        let LocalCore {
+            domain,
+            mut token,
+            place,
+            nesting: _,
+            own: _,
+            due: _,
+            known: _,
+            tenure: _,
+            tally,
+        } = self;
+        steps::end(&domain.board, &mut token, place);
+        EndedCounts::new(token, domain.limits.slots, tally)
+    }
+
+    /// Something waits with the participant.
+    pub fn waits(&self) -> bool
+        ensures { result ≡ waits self.now }
+    {
+        !self.own.bags.is_empty()
+    }
+
+    /// How much its next change makes due.
+    pub fn next_due(&self) -> usize
+        ensures { result ≡ length (due_next self.now.own) }
+    {
+        self.own.bags.due().len()
+    }
+
+    /// How much an opening has still to reclaim.
+    #[inline]
+    pub fn now_due(&self) -> usize
+        ensures { result ≡ length self.now.due }
+    {
+        self.due.len()
+    }
+
+    /// Its domain.
+    pub fn domain(&self) -> &'d Domain<T>
+        ensures home { home_at (home_of result.now) (book_of result.now) (limits_of result.now) ≡ home_in self.now }
+        ensures limits { limits_of result.now ≡ self.now.limits }
+    {
+        self.domain
+    }
+
+    /// How many items it made, reclaimed and dropped in place.
+    pub fn tally(&self) -> Tally
+        ensures { result ≡ self.now.tally }
+    {
+        self.tally
+    }
+
+    /// A guard is open.
+    #[inline]
+    pub(crate) fn is_guarded(&self) -> bool
+        ensures { IsTrue result ↔ HasOpenGuard self.now }
+    {
+        self.own.guards > 0
+    }
+
+    /// Opens one more guard beside others.
+    ///
+    /// `TooManyGuards` where as many are open as may nest.
+    #[inline]
+    pub(crate) fn nest(&mut self) -> Result<Guard, Refused>
+        requires { HasOpenGuard self.old }
+        ensures { MatchResult result
+            (λ guard. (reader_of guard ≡ self.old.reader) × CanNest self.old × (self.new ≡ record self.old { own = nested self.old.own }))
+            (λ e. (e ≡ Refused.TooManyGuards) × ¬ (CanNest self.old) × (self.new ≡ self.old)) }
+    {
+        if self.own.guards < self.nesting {
+            self.own.guards += 1;
+            Ok(guard_with(self.tenure.split(1)))
+        } else {
+            Err(Refused::TooManyGuards)
+        }
+    }
+
+    /// The outermost opening. Where it finds another count than the last one, and something waits, it is true: then what is due is to be reclaimed.
+    #[inline]
+    pub(crate) fn enter(&mut self) -> (Guard, bool)
+        requires shut { ¬ (HasOpenGuard self.old) }
+        requires settled { self.old.due ≡ [] }
+        ensures reader { reader_of result.0 ≡ self.old.reader }
+        ensures nests { CanNest self.old }
+        ensures entered { (count : ℕ) × (entered : LocalState) × IsEntered count self.old entered × GoesOn count result.1 self.old entered self.new }
+    {
+        let goes_on = arrive(
+            &self.domain.board,
+            &mut self.token,
+            self.place,
+            &mut self.own,
+            &mut self.due,
+        );
+        self.own.guards = 1;
+        self.tenure.set(&SectionState::Open, &());
+        (guard_with(self.tenure.split(1)), goes_on)
+    }
+
+    /// Moves the value out of the next item that is due, and gives back its slot.
+    #[inline]
+    pub(crate) fn reclaim_next(&mut self) -> Option<T>
+        ensures reclaimed { MatchOption result ((self.old.due ≡ []) × (self.new ≡ self.old))
+            (λ value. (slot : ℕ) × Reclaims slot (showing T.row value) self.old self.new) }
+        ensures home { IfSome result (λ value. AreOf (home_in self.old) (T.holds value)) }
+    {
+        let what = self.due.next()?;
+        let LimboEntry::Item(slot) = what else {
+            unreachable!()
+        };
+        let value = take_value(
+            &self.domain.board,
+            &self.domain.shelf,
+            &mut self.token,
+            slot,
+        );
+        self.known.remember(slot);
+        self.tally.count_reclaimed();
+        Some(value)
+    }
+
+    /// It is decided whether anything waits.
+    #[inline]
+    pub(crate) fn settle(&mut self)
+        ensures { self.new ≡ record self.old { own = settled self.old.own } }
+    {
+        self.own.countdown = if self.own.bags.is_empty() { 128 } else { 127 };
+    }
+
+    /// What is always true of a participant, as a call that does nothing when the program runs: it has a place, and while a guard is open the count
+    /// that it knows is the one at its publish or the next.
+    #[inline]
+    pub(crate) fn stands(&self)
+        ensures inside { self.now.place < self.now.limits.participants }
+        ensures near { HasOpenGuard self.now → (self.now.since ≤ self.now.known) × (self.now.known ≤ self.now.since + 1) }
+    {
+        let _token = &self.token;
+    }
+
+    /// Closes a guard; the last one publishes the end, after a scan at countdown 0. Since the guard is here, one is open.
+    #[inline]
+    pub(crate) fn close_guard(&mut self, guard: Guard)
+        requires { reader_of guard ≡ self.old.reader }
+        ensures { Closes self.old self.new }
+    {
+        let mut part = part_of_guard(guard);
+        self.tenure.apart(&mut part);
+        if self.own.guards > 1 {
+            self.own.guards -= 1;
+            self.tenure.join(part);
+        } else {
+            self.leave(part);
+        }
+    }
+
+    /// The last close, which gives back the one part of the tenure that was out: the tenure ends.
+    #[inline]
+    fn leave(&mut self, part: ReadSection)
+        requires last { self.old.own.guards ≡ 1 }
+        requires reader { (part.home ≡ self.old.reader.home) × (part.number ≡ self.old.reader.number) }
+        requires single { part.units ≡ 1 }
+        ensures { Closes self.old self.new }
+    {
+        let board = &self.domain.board;
+        let place = self.place;
+        let scans = self.own.countdown == 0;
+        is_a_count(self.own.found);
+        // No place is marked as ended yet.
+        self.own.leave(false);
+        if scans {
+            scan(board, &mut self.token, place, self.own.found);
+        }
+        shut(board, &mut self.token, place, &mut self.tenure, part);
+    }
+
+    /// The count of epochs at this moment.
+    #[inline]
+    pub(crate) fn count(&mut self) -> u64
+        ensures { IsTold result self.old self.new }
+    {
+        steps::read(&self.domain.board, &mut self.token)
+    }
+
+    /// Something may wait with the participant.
+    #[inline]
+    pub(crate) fn has_garbage(&self) -> bool
+        ensures { result ≡ has_garbage self.now.own }
+    {
+        self.own.countdown != 128
+    }
+
+    /// Has the participant count down to a scan, as a retirement does.
+    #[inline]
+    pub(crate) fn set_has_garbage(&mut self)
+        ensures { self.new ≡ record self.old { own = with_garbage self.old.own } }
+    {
+        self.own.set_has_garbage();
+    }
+
+    /// Has the last close of the participant scan.
+    #[inline]
+    pub(crate) fn accelerate(&mut self)
+        ensures { self.new ≡ record self.old { own = accelerated self.old.own } }
+    {
+        self.own.countdown = 0;
+    }
+}

@@ -1,0 +1,127 @@
+//! A participant without its domain, between its end and the close of the domain.
+ghost use Rattle.std.specs.Prelude.{◌≡◌, [], MatchResult};
+ghost use Rattle.sdd_domain.specs.Domain.{home_of, book_of};
+ghost use Rattle.sdd_domain.specs.LocalState.{HasOpenGuard};
+
+use crate::domain::Domain;
+use crate::due_items::DueItems;
+use crate::free_slot_hints::FreeSlotHints;
+use crate::local_core::LocalCore;
+use sdd_space::{Item, Limits};
+use sdd_atomics::DomainSeat;
+use sdd_values::ReadSection;
+use sdd_participants::{Participant, Tally};
+use std::marker::Model;
+
+/// A membership with no guard open, which takes no part in its domain until it wakes there.
+#[derive(Drop)]
+pub struct DetachedLocal {
+    token: DomainSeat,
+    limits: Limits,
+    place: usize,
+    own: Participant,
+    due: DueItems,
+    known: FreeSlotHints,
+    tenure: ReadSection,
+    tally: Tally,
+}
+
+impl Model for DetachedLocal {
+    ghost use Rattle.sdd_domain.specs.LocalState.{LocalState};
+    ghost use Rattle.sdd_domain.specs.DetachedLocal.{IsDormant};
+
+    ghost Value = { LocalState };
+
+    ghost view = { λ d. record {
+      home = d.token.table_id;
+      book = d.token.me.0.stakes.book;
+      limits = d.limits;
+      place = d.place;
+      reader = record { home = d.tenure.home; number = d.tenure.number };
+      own = d.own;
+      known = d.token.me.0.epoch.known;
+      since = d.token.me.0.epoch.since;
+      tally = d.tally;
+      sizes = d.token.me.0.sizes;
+      slots = d.token.me.0.slots;
+      shown = d.token.me.0.stakes.sees;
+      filled = d.token.me.0.stakes.filled;
+      words = d.token.me.0.words;
+      due = d.due.items;
+    } };
+
+    ghost invariant = { λ d. IsDormant d.limits d.place d.own d.due d.known.slots d.tenure d.token d.tally };
+}
+
+impl<T: Item<T>> LocalCore<'_, T> {
+    /// Takes no part in its domain from now on. Its place stays its own.
+    pub fn rest(self) -> DetachedLocal
+        requires shut { ¬ (HasOpenGuard self) }
+        requires settled { self.due ≡ [] }
+        ensures { result ≡ self.entry }
+    {
+        let LocalCore {
+            domain,
+            token,
+            place,
+            nesting: _,
+            own,
+            due,
+            known,
+            tenure,
+            tally,
+        } = self;
+        DetachedLocal {
+            token,
+            limits: domain.limits,
+            place,
+            own,
+            due,
+            known,
+            tenure,
+            tally,
+        }
+    }
+}
+
+impl DetachedLocal {
+    /// How many items it made, reclaimed and dropped in place.
+    pub fn tally(&self) -> Tally
+        ensures { result ≡ self.now.tally }
+    {
+        self.tally
+    }
+
+    /// Takes part in its domain again. It comes back where the domain's limits are others.
+    pub fn wake<T: Item<T>>(self, domain: &Domain<T>) -> Result<LocalCore<'_, T>, DetachedLocal>
+        requires home { (self.home ≡ home_of domain.now) × (self.book ≡ book_of domain.now) }
+        ensures shut { ¬ (HasOpenGuard self) }
+        ensures settled { self.due ≡ [] }
+        ensures same { MatchResult result (λ membership. membership ≡ self) (λ dormant. dormant ≡ self) }
+    {
+        if self.limits != domain.limits {
+            return Err(self);
+        }
+        let DetachedLocal {
+            token,
+            limits: _,
+            place,
+            own,
+            due,
+            known,
+            tenure,
+            tally,
+        } = self;
+        Ok(LocalCore {
+            domain,
+            token,
+            place,
+            nesting: domain.limits.nesting as u32,
+            own,
+            due,
+            known,
+            tenure,
+            tally,
+        })
+    }
+}

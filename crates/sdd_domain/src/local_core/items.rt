@@ -1,0 +1,182 @@
+//! Items in slots: a participant makes one, looks at it beside its owner, and lets it go.
+ghost use Rattle.std.specs.Prelude.{◌≡◌, ◌<◌, ◌⊎◌, ℕ, IsTrue, MatchResult, Some, slice_set};
+ghost use base.Stored.{Gv};
+ghost use Rattle.sdd_rights.specs.StandingKind.{IsOwner, is_shared};
+ghost use Rattle.sdd_rights.specs.Right.{number_of, home_of, kind_of};
+ghost use Rattle.sdd_space.specs.Guard.{reader_of};
+ghost use Rattle.sdd_space.specs.OwnerOrCell.{AreOf};
+ghost use Rattle.sdd_domain.specs.Homes.{home_in};
+ghost use Rattle.sdd_shared_values.specs.SharedValues.{showing};
+ghost use Rattle.sdd_domain.specs.LocalState.{IsFree, IsLone, IsUsedUp, KnowsOwner, MakesAt, LooksAt, RetiresAt};
+ghost use Rattle.sdd_domain.specs.Items.{slots_home, HasValue, IsRightTo};
+ghost use Rattle.sdd_domain.specs.Sight.{IsOnce};
+
+use crate::claims::{claim_free, finds_free};
+use crate::local_core::LocalCore;
+use crate::values::{let_wait, put_value};
+use sdd_space::inner::tenure_of;
+use sdd_space::{Guard, Item};
+use sdd_atomics::steps::slots::{recall, take_in, watch};
+use sdd_core::Refused;
+use sdd_shared_values::GhostValues;
+use sdd_participants::LimboEntry;
+use sdd_rights::{StandingKind, Right};
+
+/// An owner of this kind may be one of several.
+#[inline]
+fn is_one_of_several(kind: StandingKind) -> bool
+    ensures { result ≡ is_shared kind }
+{
+    match kind {
+        StandingKind::Shared => true,
+        StandingKind::Free | StandingKind::Owned | StandingKind::Raw | StandingKind::Retired => false,
+    }
+}
+
+impl<'d, T: Item<T>> LocalCore<'d, T> {
+    /// Puts a value into a free slot, for an owner of this kind, and enters it in the ledger. No memory is taken.
+    ///
+    /// The value comes back where it is refused: `NoSlot` where a walk over all slots found none free; `Contended` where as many exchanges
+    /// were lost as the limits allow.
+    #[inline]
+    pub(crate) fn new_item(
+        &mut self,
+        value: T,
+        kind: StandingKind,
+        ledger: &mut GhostValues<T>,
+    ) -> Result<Right, (T, Refused)>
+        requires owner { IsOwner kind }
+        requires home { AreOf (home_in self.old) (T.holds value) }
+        ensures made { MatchResult result
+            (λ right. MakesAt (number_of right) (is_shared kind) (showing T.row value) self.old self.new × IsRightTo self.old kind (showing T.row value) right)
+            (λ e. (e.0 ≡ value) × (self.new ≡ self.old) × ((e.1 ≡ Refused.NoSlot) ⊎ (e.1 ≡ Refused.Contended))
+            × (IsLone self.old → (e.1 ≡ Refused.NoSlot) × IsUsedUp self.old)) }
+        ensures entry { MatchResult result
+            (λ right. ledger.new.entries ≡ slice_set ledger.old.entries (number_of right) (Some (value, showing T.row value)))
+            (λ _. ledger.new.entries ≡ ledger.old.entries) }
+    {
+        let slots = self.domain.limits.slots;
+        let tries = self.domain.limits.tries;
+        let board = &self.domain.board;
+        match claim_free(board, &mut self.token, &mut self.known, slots as u32, tries) {
+            Ok(slot) => {
+                ledger.fill(slot as usize, &value);
+                let shared = is_one_of_several(kind);
+                let (owner, grip) = put_value(
+                    board,
+                    &self.domain.shelf,
+                    &mut self.token,
+                    slot,
+                    shared,
+                    value,
+                );
+                self.tally.count_made();
+                Ok(Right::of_witness(slot, slots as usize, kind, owner, grip))
+            }
+            Err(refused) => Err((value, refused)),
+        }
+    }
+
+    /// Makes a value and puts it into a free slot; where it is refused, as `make` is, it isn't made.
+    #[inline]
+    pub(crate) fn new_item_with<F: FnOnce() -> T>(
+        &mut self,
+        make: F,
+        kind: StandingKind,
+        ledger: &mut GhostValues<T>,
+    ) -> Result<Right, (F, Refused)>
+        requires callable { F.pre make }
+        requires owner { IsOwner kind }
+        requires home { (value : T) → F.post make value → AreOf (home_in self.old) (T.holds value) }
+        ensures { MatchResult result
+            (λ right. (value : T) × F.post make value × MakesAt (number_of right) (is_shared kind) (showing T.row value) self.old self.new
+            × IsRightTo self.old kind (showing T.row value) right
+            × (ledger.new.entries ≡ slice_set ledger.old.entries (number_of right) (Some (value, showing T.row value))))
+            (λ e. (e.0 ≡ make) × (self.new ≡ self.old) × ((e.1 ≡ Refused.NoSlot) ⊎ (e.1 ≡ Refused.Contended))
+            × (IsLone self.old → (e.1 ≡ Refused.NoSlot) × IsUsedUp self.old) × (ledger.new.entries ≡ ledger.old.entries)) }
+    {
+        let slots = self.domain.limits.slots;
+        let tries = self.domain.limits.tries;
+        let board = &self.domain.board;
+        match claim_free(board, &mut self.token, &mut self.known, slots as u32, tries) {
+            Ok(slot) => {
+                let value = make();
+                ledger.fill(slot as usize, &value);
+                let shared = is_one_of_several(kind);
+                let (owner, grip) = put_value(
+                    board,
+                    &self.domain.shelf,
+                    &mut self.token,
+                    slot,
+                    shared,
+                    value,
+                );
+                self.tally.count_made();
+                Ok(Right::of_witness(slot, slots as usize, kind, owner, grip))
+            }
+            Err(refused) => Err((make, refused)),
+        }
+    }
+
+    /// A slot is found free. What others do meanwhile isn't known.
+    pub(crate) fn has_slot(&mut self) -> bool
+        ensures same { self.new ≡ self.old }
+        ensures found { IsTrue result → IsLone self.old → (slot : ℕ) × (slot < self.old.limits.slots) × IsFree self.old slot }
+        ensures missed { ¬ (IsTrue result) → IsLone self.old → IsUsedUp self.old }
+    {
+        let slots = self.domain.limits.slots;
+        finds_free(&self.domain.board, &mut self.token, slots as u32)
+    }
+
+    /// The value of an owner's item, for as long as the guard is borrowed. The owner may be with another participant of the domain.
+    #[inline]
+    pub(crate) fn get_guarded<'g>(&mut self, right: &Right, guard: &'g Guard) -> &'g T
+        requires home { home_of right.now ≡ slots_home self.old }
+        requires reader { reader_of guard.now ≡ self.old.reader }
+        ensures looks { LooksAt (number_of right.now) (is_shared (kind_of right.now)) (showing T.row result.now) self.old self.new }
+        ensures once { IsOnce self.new.shown }
+        ensures value { HasValue (showing T.row result.now) right.now }
+        ensures home { AreOf (home_in self.old) (T.holds result.now) }
+        ensures recalled { IsLone self.old → KnowsOwner self.old (number_of right.now) (is_shared (kind_of right.now)) (showing T.row result.now) }
+    {
+        let tenure = tenure_of(guard);
+        self.tenure.agree(tenure);
+        let board = &self.domain.board;
+        let owner = right.witness();
+        recall(board, &mut self.token, owner);
+        watch(board, &mut self.token, owner);
+        self.domain.shelf.show(
+            right.number() as usize,
+            &mut self.token,
+            &board.table.shared,
+            tenure,
+        )
+    }
+
+    /// Beside an owner a lone participant knows that it moved into the slot last what the owner tells. Nothing changes.
+    pub(crate) fn recall_owner(&mut self, right: &Right)
+        requires { home_of right.now ≡ slots_home self.old }
+        ensures same { self.new ≡ self.old }
+        ensures recalled { IsLone self.old → (value : Gv) × HasValue value right.now
+            × KnowsOwner self.old (number_of right.now) (is_shared (kind_of right.now)) value }
+    {
+        recall(&self.domain.board, &mut self.token, right.witness());
+    }
+
+    /// Retires an owner's item: it waits until three changes were seen. No memory is taken.
+    #[inline]
+    pub(crate) fn release(&mut self, right: Right)
+        requires { home_of right ≡ slots_home self.old }
+        ensures retired { (count : ℕ) × RetiresAt (number_of right) count self.old self.new }
+        ensures recalled { IsLone self.old → (value : Gv) × KnowsOwner self.old (number_of right) (is_shared (kind_of right)) value }
+    {
+        let slot = right.number();
+        let board = &self.domain.board;
+        let (owner, grip) = right.into_owner();
+        recall(board, &mut self.token, &owner);
+        take_in(board, &mut self.token, owner);
+        let_wait(board, &mut self.token, slot, grip);
+        self.own.bags.push(LimboEntry::Item(slot));
+        self.own.set_has_garbage();
+    }
+}

@@ -1,0 +1,969 @@
+-- The steps that take stakes from home or give them, and the other steps on slots
+use Rattle.std.proofs.Common.{◌≡◌, ◌≢◌, ◌⊎◌, inl, inr, ℕ, suc, ◌+◌, ◌-◌, ◌<◌, ◌≤◌, Bool, eqb, List, [], ◌∷◌, length, get_or, set, sym, refl, ap, ◌∙◌, subst, ⊎_elim, arith, get_or-set_same}
+use mathlib.Core.Option.{none, some}
+use mathlib.Core.Logic.{dite}
+use native.Mathlib.Decide.{ℕ_discrete, dec_lt}
+use Rattle.std.specs.Prelude.{Some, None}
+use lib.ListN.{get_elem?}
+use lib.Seq.{set-get_or}
+use prog.Atomic.{either}
+use base.Stored.{Gv}
+use Rattle.std.proofs.lemmas.List.{get_or_past}
+use Rattle.atomic_table.specs.Table.{State, keeps, takes, Allows, carried_after, homes_after}
+use Rattle.atomic_table.proofs.Lists.{at_map, exchanged, set_again}
+use Rattle.sdd_shared_values.specs.SharedValues.{IsFull, IsVacant, lot}
+use Rattle.sdd_shared_values.specs.declared.value_fraction.ValueFraction.{ValueFraction}
+use Rattle.sdd_views.specs.declared.ShownValue.{ShownValue}
+use Rattle.sdd_views.specs.declared.EndedView.{EndedView}
+use Rattle.sdd_views.specs.declared.FractionsView.{FractionsView}
+use Rattle.sdd_views.specs.declared.WaitingItem.{WaitingItem}
+use Rattle.sdd_views.specs.declared.View.{View}
+use Rattle.sdd_views.specs.declared.Sizes.{Sizes}
+use Rattle.sdd_word_invariant.specs.Words.{slot_word, state_word}
+use Rattle.sdd_word_invariant.specs.Codes.{codes, alive, waiting, full, free_word, owned_word, waiting_word}
+use Rattle.sdd_word_invariant.specs.Epoch.{HasPlace, IsOpen, Scans, IsLone}
+use Rattle.sdd_word_invariant.specs.Steps.{Steps}
+use Rattle.sdd_word_invariant.specs.Sums.{total, times, is as is_at}
+use Rattle.sdd_word_invariant.specs.Slots.{slot_at, owners_at, items_at, OwnsAlone, Sees, Holds}
+use Rattle.sdd_word_invariant.specs.SlotSteps.{others as tail, without, retired, given_back, discarded, seeing, AtSlot, Claims, Retires, GivesBack, LooksAtSlot, TakesHold, LetsGo, Discards, LooksForGuard, ClosesAll, IsDue}
+use Rattle.sdd_word_invariant.specs.Parts.{epoch_of}
+use Rattle.sdd_word_invariant.specs.Barred.{IsNobodys, IsBarred, AreBarred, AreQuiet, past, past_quiet, Bars, LooksForValue}
+use Rattle.sdd_word_invariant.proofs.Barred.{Spares, one_spared, Hushes, one_hushed}
+use Rattle.sdd_word_invariant.proofs.Barred as barring
+use Rattle.sdd_word_invariant.proofs.Codes.{sound, free_is, owned_is, waiting_is}
+use Rattle.sdd_word_invariant.proofs.EpochSteps as over
+use Rattle.sdd_word_invariant.proofs.SlotSteps as steps
+use Rattle.sdd_word_invariant.proofs.Owning.{item_gone, item_kept}
+use Rattle.sdd_word_invariant.proofs.Owning as owning
+use Rattle.sdd_word_invariant.proofs.Holding as holding
+use Rattle.sdd_word_invariant.proofs.Lift.{blind, blind_units}
+use Rattle.sdd_word_invariant.specs.Parts.{Parts}
+use Rattle.sdd_word_invariant.proofs.Lone.{finds}
+use Rattle.sdd_word_invariant.proofs.SlotWords.{owner_in, owners_in}
+use Rattle.sdd_shared_values.specs.ValueFractions.{FractionContent}
+use Rattle.sdd_shared_values.specs.Deposits.{units_at}
+use Rattle.sdd_shared_values.specs.Bank.{Leaves, Comes, Deal, AllowsDeal}
+use Rattle.sdd_shared_values.proofs.Deposits.{draws_all, brings}
+use Rattle.sdd_word_invariant.proofs.Sums.{is_same, is_other, without_same, without_other, total_has, total_two, total_zero, total_only}
+use Rattle.sdd_word_invariant.proofs.Waits.{waits_once}
+use Rattle.sdd_witness.specs.Steps.{AllowsAlone, AllowsBeside}
+use Rattle.sdd_domain_invariant.specs.FractionsAtHome.{CarriedFractions, stake_at, share, spare, away, full_at, Has, IsShown, Moves, SeesFrom, NoneOut, IsOut, LiesAt}
+use Rattle.sdd_domain_invariant.specs.DomainInvariant.{DomainInvariant}
+use Rattle.sdd_domain_invariant.specs.Banked.{drawn_at, moves_at, banked, IsBank, outside}
+use Rattle.sdd_domain_invariant.specs.HomeSteps.{SeatState, HasAll, IsValue, Purse, moving, making, giving, resting, telling, drawing, undrawing, untold, remembering, forgetting, sighting, unsighted, IsNewest, ClaimsAll, Houses, EntersUnit, TakesOut, TakesHeld, IsDeposit, RetiresOne, GivesAll, DiscardsAll, Watches, Recalls, ClosesHome, OfSlot}
+use Rattle.sdd_domain_invariant.specs.Records.{IsIn, KnowsShown, IsKnown, IsTelling}
+use Rattle.sdd_domain_invariant.specs.Counts.{ended_places}
+use Rattle.sdd_domain_invariant.specs.Fillings.{HasRecord, Tells, FilledPart}
+use Rattle.sdd_domain_invariant.proofs.Part.{none_out, only_seen, of_another, before_slots, one_taken}
+use Rattle.sdd_domain_invariant.proofs.Part as part
+use Rattle.sdd_domain_invariant.proofs.Banks.{moves_none, moves_one, moves_other, moves_rest, outside_free, outside_moved, outside_there, outside_same, total_below, with_deposits, banked_then}
+use Rattle.sdd_domain_invariant.proofs.Banks as banks
+use Rattle.sdd_domain_invariant.proofs.Places.{one_slot}
+use Rattle.sdd_domain_invariant.proofs.Counts.{ended_spared, as_full, one_full, counted, uncounted, uncounted_alone}
+use Rattle.sdd_domain_invariant.proofs.Records.{in_either, in_none, in_both, in_others, known_by, told_seen}
+use Rattle.sdd_domain_invariant.proofs.Records as records
+use Rattle.sdd_domain_invariant.proofs.Fillings.{TellsNoMore, has_none, has_either, has_old, told_by, tells_old, filled_after, filled_same, filled_housed}
+use Rattle.sdd_domain_invariant.proofs.Rows.{Taken, takes_row, gives_row, gives_purse, taken_lies, given_lies}
+use Rattle.sdd_domain_invariant.proofs.Telling.{one_moved, none_moved, one_view, owns_it, claimed_tells, moving_tells, held_tells, retired_tells, housed_tells, rested_tells, none_owns, none_waits, unknown_owned, unknown_waiting, comes_home}
+use Rattle.sdd_domain_invariant.proofs.Tops.{rest_is, share_one}
+use Rattle.sdd_domain_invariant.proofs.Lift.{Keeps, Follows, IsCalm, keeps_ended, lift_homes, lift_calm, stands, stands_by, stands_dealt}
+
+full_owned : (x : ℕ) → 0 < alive x → full x ≡ 1
+full_owned x h = (sound.lives x h).1
+
+vacant_shown : (f : ℕ) (g : Gv) → f ≡ 0 → IsVacant g → IsShown f g
+vacant_shown f g empty vacant = (λ e. absurd (omega arith), λ _. vacant)
+
+-- a word that has an owner, or waits, isn't both, nor free
+module _ (γ : ℕ) (sizes : Sizes) (s : State ValueFraction View) (h : DomainInvariant γ sizes s) (i : ℕ) where
+  x : ℕ
+  x = slot_at sizes s.words i
+
+  -- nobody moves the value of a slot without owners in which none waits
+  pub still_free : (j : ℕ) (u : View) → get_elem? s.views j ≡ some u → alive (slot_at sizes s.words i) ≡ 0
+      → waiting (slot_at sizes s.words i) ≡ 0 → ¬ (Moves u i)
+  still_free j u e dead quiet m = ⊎_elim
+      (λ (o : OwnsAlone u i). let g = ((h.kept.parts.slots.each j u e).alone i o).0 in absurd (omega arith))
+      (λ (o : 0 < items_at i u). let t = total_has (items_at i) s.views j u e in let w = h.kept.parts.slots.waited i in absurd (omega arith))
+      (h.homes.moving j u e i m).1
+
+  -- where a participant has an owner, or an item that waits, none else moves the value
+  still_owned : (id j : ℕ) (v u : View) → get_elem? s.views id ≡ some v → get_elem? s.views j ≡ some u → id ≢ j → 0 < owners_at i v → ¬ (Moves u i)
+  still_owned id j v u at e ne own m = let mine = owner_in codes sound sizes s.words s.views h.kept.parts.slots id i v at in
+      let l = (sound.lives (slot_at sizes s.words i) (omega arith)).0 in ⊎_elim
+      (λ (o : OwnsAlone u i). let g = ((h.kept.parts.slots.each j u e).alone i o).0 in
+      let both = owners_in codes sound sizes s.words s.views h.kept.parts.slots id j i v u ne at e in absurd (omega arith))
+      (λ (o : 0 < items_at i u). let t = total_has (items_at i) s.views j u e in let w = h.kept.parts.slots.waited i in absurd (omega arith))
+      (h.homes.moving j u e i m).1
+
+  still_waiting : (id j : ℕ) (v u : View) → get_elem? s.views id ≡ some v → get_elem? s.views j ≡ some u → id ≢ j → 0 < items_at i v → ¬ (Moves u i)
+  still_waiting id j v u at e ne waits m = let t = total_has (items_at i) s.views id v at in let w = h.kept.parts.slots.waited i in
+      let one = (sound.waits (slot_at sizes s.words i) (omega arith)).0 in ⊎_elim
+      (λ (o : OwnsAlone u i). let g = ((h.kept.parts.slots.each j u e).alone i o).0 in let l = (sound.lives (slot_at sizes s.words i) (omega arith)).0 in
+      absurd (omega arith))
+      (λ (o : 0 < items_at i u). let both = total_two (items_at i) s.views id j v u ne at e in absurd (omega arith))
+      (h.homes.moving j u e i m).1
+
+-- the own place hasn't ended
+pub own_place : (γ : ℕ) (sizes : Sizes) (id : ℕ) (v : View) → HasPlace v.epoch → (y : ℕ) (s : State ValueFraction View) → DomainInvariant γ sizes s
+    → get_elem? s.views id ≡ some v → Spares sizes s.words (state_word v.epoch.place) y
+own_place γ sizes id v live y s h at p low e was = let f = h.kept.parts.epoch.each id v.epoch (at_map epoch_of s.views id v at) in
+    let is = f.state live in let few = f.states in absurd (omega arith)
+
+-- a lone participant is the only one of its domain
+one_place : (γ : ℕ) (sizes : Sizes) (s : State ValueFraction View) → DomainInvariant γ sizes s → (id : ℕ) (v : View) → get_elem? s.views id ≡ some v → IsLone v.epoch
+    → sizes.participants ≡ 1
+one_place γ sizes s h id v at one = let f = h.kept.parts.epoch.each id v.epoch (at_map epoch_of s.views id v at) in sym (f.all (λ z. omega arith)) ∙ one
+
+module _ (slots id : ℕ) (me : SeatState) (live : HasPlace me.0.epoch) where
+  abbrev v : View
+  v = me.0
+
+  abbrev γ : ℕ
+  γ = me.0.stakes.book
+
+  abbrev sizes : Sizes
+  sizes = me.0.sizes
+
+  abbrev n : ℕ
+  n = me.0.sizes.participants
+
+  abbrev pub May : ℕ → (ℕ → ℕ) → (ℕ → SeatState → Type 0) → Type 0
+  May = Allows (DomainInvariant γ sizes) slots id me
+
+  abbrev pub MayAlone : (SeatState → Type 0) → Type 0
+  MayAlone = AllowsAlone (DomainInvariant γ sizes) slots id me
+
+  -- it moves nothing in, and tells of as many owners as before, or of none
+  module _ (s : State ValueFraction View) (h : DomainInvariant γ sizes s) (at : get_elem? s.views id ≡ some v) where
+    filled_by : (w : View) → w.stakes.filled ≡ v.stakes.filled → TellsNoMore w s.views → FilledPart sizes (set s.views id w)
+    filled_by w same tells = filled_after sizes s.views h.filled id v at w same tells (λ _ _. inl live)
+
+    still_filled : (w : View) → w.stakes.filled ≡ v.stakes.filled → w.stakes.owns ≡ v.stakes.owns → w.stakes.waits ≡ v.stakes.waits
+        → FilledPart sizes (set s.views id w)
+    still_filled w same owns waits = filled_same sizes s.views h.filled id v at w same owns waits (λ _. live)
+
+    -- the records that it has are among those that it had
+    tells_old_by : (w : View) → ((r : ShownValue) → HasRecord w.stakes.owns r → Tells v r) → ((r : ShownValue) → HasRecord w.stakes.waits r → Tells v r)
+        → TellsNoMore w s.views
+    tells_old_by w owns waits = tells_old sizes s.views h.filled id v at w (told_by w v owns waits)
+
+  -- what it has out but for the stakes that it may take is out still: what its guards see
+  still_seen : (w : View) → v.stakes.moves ≡ None → w.slots.sees ≡ v.slots.sees → w.epoch.place ≡ v.epoch.place → (j p : ℕ) → IsOut v j p → IsOut w j p
+  still_seen w rests sees place j p out = let o = only_seen v rests j p out in
+      inr (subst (λ (l : List ℕ). 0 < times j l) (sym sees) o.0, place ∙ o.1)
+
+  -- the same of one that moves the value of a slot, but for this slot
+  seen_but : (w : View) (slot : ℕ) → Moves v slot → w.slots.sees ≡ v.slots.sees → w.epoch.place ≡ v.epoch.place → (j p : ℕ) → j ≢ slot → IsOut v j p
+      → IsOut w j p
+  seen_but w slot mine sees place j p ne out = ⊎_elim (λ (m : Moves v j). absurd (ne (one_moved v slot j mine m)))
+      (λ (o : SeesFrom v j p). inr (subst (λ (l : List ℕ). 0 < times j l) (sym sees) o.0, place ∙ o.1)) out
+
+  module _ (slot : ℕ) (inside : slot < sizes.slots) where
+    abbrev i : ℕ
+    i = slot_word sizes slot
+
+    -- the word tells which slot it is
+    at_once : (R : ℕ → SeatState → ℕ → SeatState → Type 0) (x : ℕ) (me' : SeatState) → R slot me x me' → OfSlot R i me x me'
+    at_once R x me' r other is = let same : slot ≡ other = omega arith in subst (λ (k : ℕ). R k me x me') same r
+
+    -- the other slots are as full as before
+    others : (ws : List ℕ) (y j : ℕ) → j < sizes.slots → j ≢ slot → full_at sizes (set ws i y) j ≡ full_at sizes ws j
+    others ws y j _ ne = of_another sizes ws slot y j ne
+
+    here : (ws : List ℕ) (y : ℕ) → i < length ws → slot_at sizes (set ws i y) slot ≡ y
+    here ws y low = get_or-set_same ws i y 0 low
+
+    -- a slot's word is none of a place's
+    spares : (f : ℕ → ℕ) (then : ℕ → View → Type 0) → ((r : ℕ) (w : View) → then r w → w.places ≡ v.places) → Keeps γ sizes slots id me i f then
+    spares f then places = keeps_ended γ sizes slots id me i f then places (λ s h at p low e was. absurd (omega arith)) (inl live)
+
+    claim_keeps : Keeps γ sizes slots id me i (λ x. either (eqb x (free_word 0)) (owned_word 0) x)
+        (AtSlot (λ slot. Claims slot (free_word 0) (owned_word 0)) i v)
+    claim_keeps = spares (λ x. either (eqb x (free_word 0)) (owned_word 0) x) (AtSlot (λ slot. Claims slot (free_word 0) (owned_word 0)) i v)
+        (λ r w t. let c = t slot refl in dite (ℕ_discrete r (free_word 0)) (λ e. ap (λ (u : View). u.places) (c.0 e))
+        (λ ne. ap (λ (u : View). u.places) (c.1 ne)))
+
+    look_keeps : Keeps γ sizes slots id me i (λ x. x) (AtSlot LooksAtSlot i v)
+    look_keeps = spares (λ x. x) (AtSlot LooksAtSlot i v) (λ r w t. ap (λ (u : View). u.places) (t slot refl).0)
+
+    module _ (s : State ValueFraction View) (h : DomainInvariant γ sizes s) where
+      within : i < length s.words
+      within = let l = h.kept.parts.slots.long in omega arith
+
+      -- where nobody sees the slot or has stakes in it out, all may be taken, which show what its word says
+      pub all_taken : (o : ℕ) → away n (full_at sizes s.words slot) ≡ o → (Is : Gv → Type 0)
+          → ((p : ℕ) (y : ValueFraction) → p ≤ n → LiesAt n s.homes slot p y → IsShown (full_at sizes s.words slot) y.lot.shown → Is y.lot.shown)
+          → ((j : ℕ) (u : View) → get_elem? s.views j ≡ some u → ¬ (Sees u slot) × ¬ (Moves u slot))
+          → Taken γ n slot o Is s.homes me.1 (suc n)
+      all_taken o elsewhere Is shown unseen = takes_row γ n slot o Is s.homes me.1 (suc n) (λ p l.
+          let b = h.homes.back slot p inside (omega arith) (λ j u e out. ⊎_elim (λ (m : Moves u slot). (unseen j u e).1 m)
+          (λ (o : SeesFrom u slot p). (unseen j u e).0 o.0) out) in
+          let has = subst (λ (k : ℕ). Has γ slot (share n k p) (IsShown (full_at sizes s.words slot)) b.0) elsewhere
+          (h.homes.home slot p b.0 inside (omega arith) b.1) in (b.0, b.1, (has.0, shown p b.0 (omega arith) b.1 has.1)))
+
+      -- no place ends by a step on a slot
+      over_slot : (y : ℕ) → ended_places s.words n ≤ ended_places (set s.words i y) n
+      over_slot y = ended_spared sizes s.words i y (λ p low e was. absurd (omega arith)) n (omega arith)
+
+      -- a load leaves the words
+      same_words : (j : ℕ) → full_at sizes (set s.words i (get_or s.words i 0)) j ≡ full_at sizes s.words j
+      same_words j = ap (λ (l : List ℕ). full_at sizes l j) (set-get_or s.words i 0)
+
+    -- claim a free slot
+    pub claims : v.stakes.moves ≡ None → May i (λ x. either (eqb x (free_word 0)) (owned_word 0) x)
+        (OfSlot (λ slot. ClaimsAll slot (free_word 0) (owned_word 0)) i me)
+    claims rests = let told : ℕ → SeatState → Type 0 = OfSlot (λ slot. ClaimsAll slot (free_word 0) (owned_word 0)) i me in
+        let step = steps.claims id v live slot 0 inside (omega arith) in
+        lift_homes γ sizes slots id me i (λ x. either (eqb x (free_word 0)) (owned_word 0) x)
+        (AtSlot (λ slot. Claims slot (free_word 0) (owned_word 0)) i v) told claim_keeps step
+        (λ s w h at t. let x : ℕ = get_or s.words i 0 in let c = t slot refl in
+        exchanged x (free_word 0) (owned_word 0) (λ y. Follows γ sizes id i me told s y w)
+        (λ hit. let free = free_is 0 (omega arith) in let dead : alive x ≡ 0 = ap alive hit ∙ free.0 in let quiet : waiting x ≡ 0 = ap waiting hit ∙ free.1 in
+        let empty : full x ≡ 0 = ap full hit ∙ free.2 in
+        let tk = all_taken s h 0 (ap (away n) empty) IsVacant (λ p y _ _ sh. sh.1 empty) (λ j u e. (
+          owning.fresh codes sound sizes s.words s.views h.kept.parts.slots id v at slot empty j u e,
+          still_free γ sizes s h slot j u e dead quiet,
+        )) in let now : View = making slot (owned_word 0) v in
+        subst (Follows γ sizes id i me told s (owned_word 0)) (sym (c.0 hit)) record {
+          stakes = now.stakes;
+          act = tk.act;
+          valid = tk.valid;
+          homes = part.takes γ sizes s.words s.views s.homes h.homes id v at slot 0 IsVacant me.1 tk (set s.words i (owned_word 0)) now refl
+              (λ j p _. still_seen now rests refl refl j p) (others s.words (owned_word 0))
+              (λ j m. let e : j ≡ slot = one_moved now slot j refl m in let one = is_same slot slot refl in
+              (live, inl (subst (λ (k : ℕ). 0 < times k (slot ∷ v.slots.owns)) (sym e) (omega arith))));
+          records = records.comes_to_move sizes s.views s.homes h.records id v at slot now (homes_after s.homes me.1 tk.act)
+              (claimed_tells v (h.records.each id v at) slot rests
+              (λ o. let a = ((h.kept.parts.slots.each id v at).alone slot o).0 in omega arith)
+              (λ o. let a = total_has (items_at slot) s.views id v at in let sum = h.kept.parts.slots.waited slot in omega arith) (owned_word 0))
+              (records.mine sizes s.views s.homes h.records id v at)
+              (λ j p y _ near l. (taken_lies γ n slot 0 IsVacant s.homes me.1 tk j p y near l).1) refl (λ j m. one_moved now slot j refl m)
+              (owning.fresh codes sound sizes s.words s.views h.kept.parts.slots id v at slot empty);
+          counts = counted sizes s.words s.views h.counts id v at (set s.words i (owned_word 0)) now
+              (let f = one_full sizes s.words slot (owned_word 0) inside h.kept.parts.slots.long in
+              let y = full_owned (owned_word 0) (let q = (owned_is 0 (omega arith)).0 in omega arith) in omega arith)
+              (let o = over_slot s h (owned_word 0) in omega arith) (λ none. absurd (omega arith));
+          filled = still_filled s h at now refl refl refl;
+          bank = banks.moves_over γ sizes s.words s.views h.bank id v at (set s.words i (owned_word 0)) now slot
+              record { bank = refl; founds = refl; book = refl; banked = refl; drawn = refl } (λ k. let l = h.bank.low id v at k in omega arith)
+              (outside_free sizes s.words s.views slot empty)
+              (banks.moving_outside γ sizes s.words s.views h.bank id v at (set s.words i (owned_word 0)) now slot refl)
+              (λ k ne. moves_other k now slot refl ne ∙ sym (moves_rest k v rests)) (others s.words (owned_word 0));
+          tells = at_once (λ slot. ClaimsAll slot (free_word 0) (owned_word 0)) x (now, carried_after me.1 tk.act)
+              ((λ _. (refl, tk.row)), (λ no. absurd (no hit)), c.2);
+        })
+        (λ miss. subst (Follows γ sizes id i me told s x) (sym (c.1 miss)) record {
+          stakes = v.stakes;
+          act = keeps;
+          valid = tt;
+          homes = part.calm γ sizes s.words s.views s.homes h.homes id v at (set s.words i x) v (λ j p out. out) (λ j _. same_words s h j)
+              (h.homes.moving id v at);
+          records = records.calm sizes s.views s.homes h.records id v at v (refl, refl, refl, (λ _. refl), refl, refl);
+          counts = uncounted sizes s.words s.views h.counts id v at (set s.words i x) v refl (λ l. l)
+              (as_full sizes s.words (set s.words i x) (λ j _. same_words s h j)) (over_slot s h x);
+          filled = still_filled s h at v refl refl refl;
+          bank = banks.alike γ sizes s.words s.views h.bank id v at (set s.words i x) v (refl, refl, refl, (λ _. refl), refl, refl)
+              (λ j _. same_words s h j);
+          tells = at_once (λ slot. ClaimsAll slot (free_word 0) (owned_word 0)) x me ((λ hit. absurd (miss hit)), (λ _. refl), c.2);
+        }))
+
+    -- deals with the bank
+    module _ (bd : ℕ) where
+      abbrev pub MayDeal : (List FractionContent → FractionContent → List FractionContent → Type 0) → (FractionContent → Type 0) → (FractionContent → SeatState → Type 0) → Type 0
+      MayDeal Goes = AllowsDeal (DomainInvariant γ sizes) Goes IsBank banked slots id me bd
+
+      -- a value was moved in, and what its owner doesn't keep of it goes to the bank
+      pub houses : Moves v slot → OwnsAlone v slot → (shared : Bool) (value : Gv) (rest : CarriedFractions)
+          → HasAll γ slot n (spare n) (IsValue value) rest me.1 → (l : FractionContent) → l ≡ lot γ slot l.round l.shown (spare n - 1)
+          → MayDeal Comes (λ k. k ≡ l) (λ _. Houses slot shared value me)
+      houses mine own shared value rest row l is s b h _ at there bank ne = let w : View = resting (telling slot shared value (drawing slot v)) in
+          let r : ShownValue = record { slot = slot; shared = shared; value = value } in let unknown = unknown_owned γ sizes s h slot id v at mine own in
+          let few = h.homes.few in
+          let g = gives_row γ n slot (spare n) (IsValue value) sizes.slots inside (suc n) (omega arith) s.homes rest me.1 h.homes.deep row in
+          let one = ((h.kept.parts.slots.each id v at).alone slot own).0 in let filled = full_owned (slot_at sizes s.words slot) (omega arith) in
+          let tells = housed_tells v (h.records.each id v at) slot mine own (none_waits γ sizes s h slot id v at own id v at) shared value in
+          let known = records.mine sizes s.views s.homes h.records id v at in let number = ap (λ (k : FractionContent). k.number) is in
+          let units = ap (λ (k : FractionContent). k.units) is in
+          let d = brings γ (banked b) l (banks.has_deposits γ sizes s.words s.views h.bank id v at bd b there bank ne) (ap (λ (k : FractionContent). k.book) is)
+          (ap (λ (k : FractionContent). k.lent) is) (omega arith) in let ls : List FractionContent = d.0 in let brought = d.1 in
+          let still = λ (j : ℕ) (u : View) (e : get_elem? s.views j ≡ some u) (apart : id ≢ j).
+          still_owned γ sizes s h slot id j v u at e apart (omega arith) in
+          let vs' : List View = set (set s.views id w) bd (with_deposits ls b) in
+          let was = banks.moved_outside γ sizes s.words s.views h.bank id v at slot mine in
+          let alone = total_only (moves_at slot) s.views id v at (λ j u apart e. moves_none slot u (still j u e (λ same. apart (sym same)))) in
+          let now : outside sizes s.words vs' slot ≡ spare n = outside_there sizes s.words vs' slot (λ none. omega arith)
+          (let t = banks.total_dealt γ sizes s.words s.views h.bank id v at bd b there bank ne (moves_at slot) w ls refl in omega arith) in record {
+            view = w;
+            bank = with_deposits ls b;
+            lot = l;
+            act = g.act;
+            valid = g.valid;
+            holds = stands_dealt γ sizes id v s h at w refl
+                (blind_units sizes s.words s.views id v v at (subst (Parts sizes s.words) (sym (set_again s.views id v at)) h.kept.parts) w.stakes
+                (slot ∷ v.slots.drawn)) (homes_after s.homes me.1 g.act)
+                (part.gives γ sizes s.words s.views s.homes h.homes id v at slot (spare n) (IsValue value) rest me.1 g s.words w
+                (ap (away n) filled)
+                (λ g so. (λ _. so.0, λ e. absurd (omega arith))) (seen_but w slot mine refl refl) (λ j _ _. refl) (none_out w refl))
+                (records.comes_to_know sizes s.views s.homes h.records id v at slot value w (homes_after s.homes me.1 g.act)
+                record { owns = tells.owns; owned = tells.owned; sees = tells.sees; waits = tells.waits; waiting = tells.waiting } unknown
+                (λ i g k. known_by w i g
+                (λ a. ⊎_elim (λ (e : (slot ≡ i) × (value ≡ g)). inl (sym e.0, sym e.1))
+                (λ (b : IsIn v.stakes.owns i g). inr (known i g (inl b))) (in_either r v.stakes.owns i g a))
+                (λ a. inr (known i g (inr (inl a)))) (λ a. inr (known i g (inr (inr a)))) k)
+                (λ j p y _ near lies. ⊎_elim (λ (b : (j ≡ slot) × Has γ slot (share n (spare n) p) (IsValue value) y). inl (b.0, b.1.1.1))
+                (λ (b : (j ≢ slot) × LiesAt n s.homes j p y). inr b)
+                (given_lies γ n slot (spare n) (IsValue value) s.homes rest me.1 g j p y near lies))
+                (λ j. none_moved w j refl) (λ j a. a))
+                (uncounted_alone sizes s.words s.views h.counts id v at w refl refl)
+                (filled_housed sizes s.views h.filled id v at s.words h.kept.parts.epoch live r
+                (λ x t e. unknown x.value (
+                  t.0,
+                  t.1,
+                  t.2,
+                  ⊎_elim (λ (a : HasRecord t.1.stakes.owns x). inl (a.0, x, a.1, sym e, refl))
+                      (λ (a : HasRecord t.1.stakes.waits x). inr (inr (a.0, x, a.1, sym e, refl))) t.3,
+                )) w refl refl refl) bd b there ne ls
+                (banks.deals γ sizes s.words s.views h.bank id v at bd b there bank ne w ls brought.deposits refl refl
+                (λ k. dite (ℕ_discrete k slot)
+                (λ e. let o = is_same k slot (sym e) in let none = banks.none_drawn γ sizes s.words s.views h.bank id v at slot inside mine in
+                let z = ap (λ (x : ℕ). drawn_at x v) e in let owner = ap (λ (x : ℕ). times x v.slots.owns) e in omega arith)
+                (λ apart. let o = is_other k slot (λ e. apart (sym e)) in let low = h.bank.low id v at k in omega arith))
+                (λ k near. dite (ℕ_discrete k slot)
+                (λ e. let o = is_same k slot (sym e) in let sum = brought.sum in let x = ap (λ (y : ℕ). units_at y ls) (e ∙ sym number) in
+                let y = ap (λ (y : ℕ). units_at y (banked b)) (e ∙ sym number) in let u = ap (outside sizes s.words s.views) e in
+                let u' = ap (outside sizes s.words vs') e in omega arith)
+                (λ apart. let o = is_other k slot (λ e. apart (sym e)) in let same = brought.others k (λ e. apart (e ∙ number)) in
+                let u = outside_same sizes s.words s.words s.views vs' k refl
+                (let t = banks.total_dealt γ sizes s.words s.views h.bank id v at bd b there bank ne (moves_at k) w ls refl in
+                let z = moves_other k v slot mine apart in omega arith) in omega arith)));
+            ours = bank;
+            goes = subst (Comes (banked b) l) (sym (banked_then γ ls b (h.bank.banks bd b there bank).book brought.deposits)) brought.comes;
+            offered = refl;
+            then = (refl, g.carried ∙ sym (rest_is γ slot n (spare n) (IsValue value) rest (suc n) me.1 row));
+          }
+
+      -- where nobody sees a slot, and its value may be moved out by this one alone, all stakes in it are taken, and the bank's deposit of it, as none is drawn
+      moves_out : (s : State ValueFraction View) (b : View) (h : DomainInvariant γ sizes s) → get_elem? s.views id ≡ some v → get_elem? s.views bd ≡ some b → IsBank b
+          → ¬ (id ≡ bd) → v.stakes.moves ≡ None → full_at sizes s.words slot ≡ 1 → total (drawn_at slot) s.views ≡ 0 → (Is : Gv → Type 0)
+          → ((p : ℕ) (y : ValueFraction) → p ≤ n → LiesAt n s.homes slot p y → IsShown (full_at sizes s.words slot) y.lot.shown → Is y.lot.shown)
+          → OwnsAlone v slot ⊎ (0 < items_at slot v)
+          → ((j : ℕ) (u : View) → get_elem? s.views j ≡ some u → ¬ (Sees u slot))
+          → ((j : ℕ) (u : View) → get_elem? s.views j ≡ some u → id ≢ j → ¬ (Moves u slot))
+          → (t : FractionsView) → t.counts ≡ v.stakes.counts → t.moves ≡ Some slot → t.bank ≡ v.stakes.bank → t.founds ≡ v.stakes.founds
+          → IsTelling (record v { stakes = t })
+          → ((j : ℕ) (g : Gv) → KnowsShown (record v { stakes = t }) j g → KnowsShown v j g)
+          → t.filled ≡ v.stakes.filled → TellsNoMore (record v { stakes = t }) s.views → (Then : FractionContent → SeatState → Type 0)
+          → ((l : FractionContent) (xs : CarriedFractions) → IsDeposit slot me l → HasAll γ slot n (spare n) Is me.1 xs → Then l (record v { stakes = t }, xs))
+          → Deal (DomainInvariant γ sizes) Leaves IsBank banked s b id me bd (λ _. Unit {0}) Then
+      moves_out s b h at there bank ne rests filled undrawn Is shown may unseen still t same is bank_is founds_is tells known kept no_more Then told =
+          let w : View = record v { stakes = t } in
+          let tk = all_taken s h (spare n) (ap (away n) filled) Is shown (λ j u e. (
+            unseen j u e,
+            λ m. dite (ℕ_discrete id j)
+                (λ one. none_moved v slot rests (subst (λ (z : View). Moves z slot) (one_view s.views id j u v e at (sym one)) m))
+                (λ apart. still j u e apart m),
+          )) in
+          let few = h.homes.few in let balance = h.bank.banks bd b there bank in let deposits = balance.deposits in let sum = balance.sums slot inside in
+          let nobody = total_zero (moves_at slot) s.views (λ j u e. dite (ℕ_discrete id j)
+          (λ one. ap (moves_at slot) (one_view s.views id j u v e at (sym one)) ∙ moves_rest slot v rests)
+          (λ apart. moves_none slot u (still j u e apart))) in
+          let was = outside_there sizes s.words s.views slot (λ empty. omega arith) nobody in
+          let d = draws_all γ slot (banked b) deposits (omega arith) in let l : FractionContent = d.0 in let ls : List FractionContent = d.1 in let goes = d.3 in
+          let whole : l.units ≡ spare n = (let e = d.2 in omega arith) in
+          let vs' : List View = set (set s.views id w) bd (with_deposits ls b) in
+          let now : outside sizes s.words vs' slot ≡ 0 = outside_moved sizes s.words vs' slot
+          (let m = banks.total_dealt γ sizes s.words s.views h.bank id v at bd b there bank ne (moves_at slot) w ls refl in
+          let one = moves_one slot w is in let z = moves_rest slot v rests in omega arith) in record {
+            view = w;
+            bank = with_deposits ls b;
+            lot = l;
+            act = tk.act;
+            valid = tk.valid;
+            holds = stands_dealt γ sizes id v s h at w refl
+                (blind sizes s.words s.views id v v at (subst (Parts sizes s.words) (sym (set_again s.views id v at)) h.kept.parts) t)
+                (homes_after s.homes me.1 tk.act)
+                (part.takes γ sizes s.words s.views s.homes h.homes id v at slot (spare n) Is me.1 tk s.words w is
+                (λ j p _. still_seen w rests refl refl j p) (λ j _ _. refl)
+                (λ j m. let e : slot ≡ j = sym (one_moved w slot j is m) in
+                (live, subst (λ (k : ℕ). OwnsAlone v k ⊎ (0 < items_at k v)) e may)))
+                (records.comes_to_move sizes s.views s.homes h.records id v at slot w (homes_after s.homes me.1 tk.act) tells
+                (λ j g k. records.mine sizes s.views s.homes h.records id v at j g (known j g k))
+                (λ j p y _ near l. (taken_lies γ n slot (spare n) Is s.homes me.1 tk j p y near l).1) refl (λ j m. one_moved w slot j is m) unseen)
+                (uncounted_alone sizes s.words s.views h.counts id v at w same refl)
+                (filled_by s h at w kept no_more) bd b there ne ls
+                (banks.deals γ sizes s.words s.views h.bank id v at bd b there bank ne w ls goes.deposits bank_is founds_is (h.bank.low id v at)
+                (λ k near. dite (ℕ_discrete k slot)
+                (λ e. let less = goes.less in let x = ap (λ (y : ℕ). units_at y ls) e in let y = ap (λ (y : ℕ). units_at y (banked b)) e in
+                let u = ap (outside sizes s.words s.views) e in let u' = ap (outside sizes s.words vs') e in omega arith)
+                (λ apart. let others = goes.others k apart in
+                let u = outside_same sizes s.words s.words s.views vs' k refl
+                (let m = banks.total_dealt γ sizes s.words s.views h.bank id v at bd b there bank ne (moves_at k) w ls refl in
+                let z = moves_other k w slot is apart in let z' = moves_rest k v rests in omega arith) in omega arith)));
+            ours = bank;
+            goes = subst (Leaves (banked b) l) (sym (banked_then γ ls b balance.book goes.deposits)) goes.goes;
+            offered = tt;
+            then = told l (carried_after me.1 tk.act)
+                (λ i. record l { book = goes.book i; number = goes.number i; units = whole i; lent = goes.free i }) tk.row;
+          }
+
+      -- an owner's unit goes to the bank
+      pub enters_unit : OwnsAlone v slot → (others : List ℕ) → v.slots.drawn ≡ slot ∷ others → (l : FractionContent) → l ≡ lot γ slot l.round l.shown 1
+          → MayDeal Comes (λ k. k ≡ l) (λ _. EntersUnit me)
+      enters_unit own more drawn l is s b h _ at there bank ne = let w : View = undrawing v in
+          let number = ap (λ (k : FractionContent). k.number) is in let units = ap (λ (k : FractionContent). k.units) is in
+          let d = brings γ (banked b) l (banks.has_deposits γ sizes s.words s.views h.bank id v at bd b there bank ne) (ap (λ (k : FractionContent). k.book) is)
+          (ap (λ (k : FractionContent). k.lent) is) (omega arith) in let ls : List FractionContent = d.0 in let brought = d.1 in
+          let told = h.records.each id v at in let mine = records.mine sizes s.views s.homes h.records id v at in
+          let vs' : List View = set (set s.views id w) bd (with_deposits ls b) in
+          let less : (k : ℕ) → drawn_at k w + is_at k slot ≡ drawn_at k v
+          = λ k. let a = ap (times k) drawn in let c = ap (λ (xs : List ℕ). times k (tail xs)) drawn in omega arith in record {
+            view = w;
+            bank = with_deposits ls b;
+            lot = l;
+            act = keeps;
+            valid = tt;
+            holds = stands_dealt γ sizes id v s h at w refl
+                (blind_units sizes s.words s.views id v v at (subst (Parts sizes s.words) (sym (set_again s.views id v at)) h.kept.parts) w.stakes
+                w.slots.drawn) s.homes
+                (part.calm γ sizes s.words s.views s.homes h.homes id v at s.words w (λ j p out. out) (λ j _. refl) (h.homes.moving id v at))
+                (records.no_more sizes s.views s.homes h.records id v at w s.homes
+                record { owns = told.owns; owned = told.owned; sees = told.sees; waits = told.waits; waiting = told.waiting }
+                mine (λ j p y _ _ l. inl l) (λ j m. m) (λ j a. a))
+                (uncounted_alone sizes s.words s.views h.counts id v at w refl refl) (still_filled s h at w refl refl refl) bd b there ne ls
+                (banks.deals γ sizes s.words s.views h.bank id v at bd b there bank ne w ls brought.deposits refl refl
+                (λ k. let low = h.bank.low id v at k in let e = less k in omega arith)
+                (λ k near. let u = outside_same sizes s.words s.words s.views vs' k refl
+                (let t = banks.total_dealt γ sizes s.words s.views h.bank id v at bd b there bank ne (moves_at k) w ls refl in omega arith) in
+                let e = less k in dite (ℕ_discrete k slot)
+                (λ same. let o = is_same k slot (sym same) in let sum = brought.sum in let x = ap (λ (y : ℕ). units_at y ls) (same ∙ sym number) in
+                let y = ap (λ (y : ℕ). units_at y (banked b)) (same ∙ sym number) in omega arith)
+                (λ apart. let o = is_other k slot (λ e. apart (sym e)) in let same = brought.others k (λ e. apart (e ∙ number)) in omega arith)));
+            ours = bank;
+            goes = subst (Comes (banked b) l) (sym (banked_then γ ls b (h.bank.banks bd b there bank).book brought.deposits)) brought.comes;
+            offered = refl;
+            then = (refl, refl);
+          }
+
+    -- what is remembered of an item that waits with a lone participant it moved in last
+    remembered_filled : (s : State ValueFraction View) → DomainInvariant γ sizes s → get_elem? s.views id ≡ some v → (value : Gv) → IsIn v.stakes.waits slot value
+        → IsLone v.epoch → (shared : Bool) × IsNewest slot shared value v
+    remembered_filled s h at value there lone = let r : ShownValue = there.1 in let one = one_place γ sizes s h id v at lone in (
+      r.shared,
+      subst (λ (z : ℕ × Gv). IsNewest z.0 r.shared z.1 v) (λ d. (there.3 d, there.4 d))
+          (h.filled.knows one id id v v r at live at (inr (there.0, there.2))),
+    )
+
+    -- the value of an item that is due is to be moved out
+    pub takes_out : (bd : ℕ) → v.stakes.moves ≡ None → IsDue v slot
+        → MayDeal bd Leaves (λ _. Unit {0}) (λ l me'. TakesOut slot me me' × IsDeposit slot me l)
+    takes_out bd rests due s b h _ at held bank ne = let k : ℕ = due.0 in let item : WaitingItem = due.1 in let p = h.kept.parts in
+        let once = waits_once codes sound sizes s.words s.views p.slots id v at slot k item due.2 due.3 in
+        let waits : 0 < items_at slot v = omega arith in let tells = h.records.each id v at in
+        let here_waits = total_has (items_at slot) s.views id v at in let sum = p.slots.waited slot in
+        let filled = (sound.waits (slot_at sizes s.words slot) (omega arith)).1 in
+        let dead : alive (slot_at sizes s.words slot) ≡ 0 = dite (dec_lt 0 (alive (slot_at sizes s.words slot)))
+        (λ l. absurd (let w = (sound.lives (slot_at sizes s.words slot) l).0 in omega arith)) (λ none. omega arith) in
+        let undrawn : total (drawn_at slot) s.views ≡ 0 = (let low = total_below (drawn_at slot) (owners_at slot) s.views (λ j u e. h.bank.low j u e slot) in
+        let owned = p.slots.owned slot in omega arith) in
+        let there = tells.waiting slot waits (none_moved v slot rests) in let value : Gv = there.0 in
+        let known = records.mine sizes s.views s.homes h.records id v at slot value (inr (inr there.1)) in
+        let w : View = moving slot (forgetting slot v) in
+        moves_out bd s b h at held bank ne rests filled undrawn (IsValue value)
+        (λ q y near lies sh. (sh.0 filled, h.records.home slot q value y inside near known lies)) (inr waits)
+        (λ j u e sees. owning.unseen codes sound sizes s.words s.views p.slots id v at p.epoch k item due.2 due.4 j u e (subst (Sees u) (sym due.3) sees))
+        (λ j u e ne. still_waiting γ sizes s h slot id j v u at e ne waits)
+        w.stakes refl refl refl refl
+        (moving_tells v tells slot rests (none_owns γ sizes s h slot id v at waits id v at))
+        (λ j g. known_by w j g (λ a. inl a) (λ a. inr (inl a)) (λ a. inr (inr (in_others slot v.stakes.waits j g a).1))) refl
+        (tells_old_by s h at w (λ r a. inl a) (λ r a. inr (has_old slot v.stakes.waits r a)))
+        (λ l me'. TakesOut slot me me' × IsDeposit slot me l)
+        (λ l xs is row. (
+          record { value = value; view = refl; stakes = row; remembered = there.1; filled = remembered_filled s h at value there.1 },
+          is,
+        ))
+
+    -- it was moved out
+    pub gives_all : Moves v slot → IsDue v slot → (rest : CarriedFractions) → HasAll γ slot n 0 IsVacant rest me.1
+        → May i (λ _. free_word 0) (λ _. OfSlot GivesAll i me (free_word 0))
+    gives_all mine due rest row = let told : ℕ → SeatState → Type 0 = λ _. OfSlot GivesAll i me (free_word 0) in let y : ℕ = free_word 0 in
+        lift_homes γ sizes slots id me i (λ _. y) (λ _. AtSlot GivesBack i v y) told
+        (spares (λ _. y) (λ _. AtSlot GivesBack i v y) (λ r w t. ap (λ (u : View). u.places) (t slot refl).0))
+        (steps.gives_back id v live slot 0 due.0 due.1 due.2 due.3 due.4 inside (omega arith))
+        (λ s w h at t. let c = t slot refl in let now : View = given_back slot y v in
+        let g = gives_row γ n slot 0 IsVacant sizes.slots inside (suc n) (omega arith) s.homes rest me.1 h.homes.deep row in
+        let empty = (free_is 0 (omega arith)).2 in
+        subst (Follows γ sizes id i me told s y) (sym c.0) record {
+          stakes = (giving now).stakes;
+          act = g.act;
+          valid = g.valid;
+          homes = part.gives γ sizes s.words s.views s.homes h.homes id v at slot 0 IsVacant rest me.1 g (set s.words i y) (giving now)
+              (ap (λ (x : ℕ). away n (full x)) (here s.words y (within s h)) ∙ ap (away n) empty)
+              (λ g vacant. vacant_shown (full_at sizes (set s.words i y) slot) g (ap full (here s.words y (within s h)) ∙ empty) vacant)
+              (seen_but (giving now) slot mine refl refl) (others s.words y) (none_out (giving now) refl);
+          records = let waits : 0 < items_at slot v = (let once = c.1 in omega arith) in
+              comes_home γ sizes s h slot id v at 0 IsVacant rest me.1 g (unknown_waiting γ sizes s h slot id v at mine waits) (giving now)
+              (rested_tells v (h.records.each id v at) slot mine (giving now) refl (λ _ _. refl) (none_owns γ sizes s h slot id v at waits id v at)
+              (λ j ne. item_kept slot j ne v.slots.waits) (λ o. let z = item_gone slot v.slots.waits in omega arith) refl)
+              refl refl;
+          counts = let once = c.1 in let here = total_has (items_at slot) s.views id v at in let sum = h.kept.parts.slots.waited slot in
+              let was = (sound.waits (slot_at sizes s.words slot) (omega arith)).1 in
+              counted sizes s.words s.views h.counts id v at (set s.words i y) (giving now)
+              (let f = one_full sizes s.words slot y inside h.kept.parts.slots.long in omega arith)
+              (let o = over_slot s h y in omega arith) (λ none. absurd (omega arith));
+          filled = still_filled s h at (giving now) refl refl refl;
+          bank = banks.moves_over γ sizes s.words s.views h.bank id v at (set s.words i y) (giving now) slot
+              record { bank = refl; founds = refl; book = refl; banked = refl; drawn = refl } (h.bank.low id v at)
+              (banks.moved_outside γ sizes s.words s.views h.bank id v at slot mine)
+              (outside_free sizes (set s.words i y) (set s.views id (giving now)) slot (ap full (here s.words y (within s h)) ∙ empty))
+              (λ k ne. sym (moves_other k v slot mine ne)) (others s.words y);
+          tells = at_once GivesAll y (giving now, carried_after me.1 g.act)
+              (now, (refl, c.1), refl, g.carried ∙ sym (rest_is γ slot n 0 IsVacant rest (suc n) me.1 row));
+        })
+
+    -- the value of an item whose slot is held is to be moved out, after a look at each place
+    pub takes_held : (bd : ℕ) → v.stakes.moves ≡ None → v.slots.owns ≡ slot ∷ [] → v.slots.drawn ≡ [] → Holds v slot → n ≤ v.slots.looked
+        → MayDeal bd Leaves (λ _. Unit {0}) (λ l me'. TakesHeld slot me me' × IsDeposit slot me l)
+    takes_held bd rests owns empty held all s b h _ at there bank ne = let p = h.kept.parts in let tells = h.records.each id v at in
+        let own = owns_it v slot owns in let one = ((p.slots.each id v at).alone slot own).0 in
+        let filled = full_owned (slot_at sizes s.words slot) (omega arith) in let w : View = moving slot (untold v) in
+        let undrawn : total (drawn_at slot) s.views ≡ 0 = total_zero (drawn_at slot) s.views (λ j u e. dite (ℕ_discrete id j)
+        (λ same. ap (drawn_at slot) (one_view s.views id j u v e at (sym same)) ∙ ap (times slot) empty)
+        (λ ne. let low = h.bank.low j u e slot in
+        let both = owners_in codes sound sizes s.words s.views p.slots id j slot v u ne at e in omega arith)) in
+        moves_out bd s b h at there bank ne rests filled undrawn IsFull (λ q y _ _ sh. sh.0 filled) (inl own)
+        (holding.unseen_held codes sound sizes s.words s.views p.slots id v at p.epoch slot held all)
+        (λ j u e ne. still_owned γ sizes s h slot id j v u at e ne (omega arith))
+        w.stakes refl refl refl refl (held_tells v tells slot owns rests (none_waits γ sizes s h slot id v at own id v at))
+        (λ j g. known_by w j g (λ a. absurd (in_none j g a)) (λ a. inr (inl a)) (λ a. inr (inr a))) refl
+        (tells_old_by s h at w (λ r a. absurd (has_none r [] refl a)) (λ r a. inr a))
+        (λ l me'. TakesHeld slot me me' × IsDeposit slot me l) (λ l xs is row. ((refl, row), is))
+
+    -- it has gone
+    pub discards : Moves v slot → Holds v slot → n ≤ v.slots.looked → (rest : CarriedFractions) → HasAll γ slot n 0 IsVacant rest me.1
+        → May i (λ _. free_word 0) (λ _. OfSlot DiscardsAll i me (free_word 0))
+    discards mine held all rest row = let y : ℕ = free_word 0 in let told : ℕ → SeatState → Type 0 = λ _. OfSlot DiscardsAll i me y in
+        lift_homes γ sizes slots id me i (λ _. y) (λ _. AtSlot Discards i v y) told (spares (λ _. y) (λ _. AtSlot Discards i v y) (λ r w t. ap (λ (u
+        : View). u.places) (t slot refl)))
+        (steps.discards id v live slot 0 inside held all (omega arith))
+        (λ s w h at t. let now : View = discarded slot y v in
+        let g = gives_row γ n slot 0 IsVacant sizes.slots inside (suc n) (omega arith) s.homes rest me.1 h.homes.deep row in
+        let empty = (free_is 0 (omega arith)).2 in
+        subst (Follows γ sizes id i me told s y) (sym (t slot refl)) record {
+          stakes = (giving now).stakes;
+          act = g.act;
+          valid = g.valid;
+          homes = part.gives γ sizes s.words s.views s.homes h.homes id v at slot 0 IsVacant rest me.1 g (set s.words i y) (giving now)
+              (ap (λ (x : ℕ). away n (full x)) (here s.words y (within s h)) ∙ ap (away n) empty)
+              (λ g vacant. vacant_shown (full_at sizes (set s.words i y) slot) g (ap full (here s.words y (within s h)) ∙ empty) vacant)
+              (seen_but (giving now) slot mine refl refl) (others s.words y) (none_out (giving now) refl);
+          records = let own = (h.kept.parts.slots.each id v at).held slot held in
+              comes_home γ sizes s h slot id v at 0 IsVacant rest me.1 g (unknown_owned γ sizes s h slot id v at mine own) (giving now)
+              (rested_tells v (h.records.each id v at) slot mine (giving now) refl (λ i ne. without_other slot i ne v.slots.owns)
+              (λ o. let z = without_same slot v.slots.owns in omega arith) (λ _ _. refl) (none_waits γ sizes s h slot id v at own id v at) refl)
+              refl refl;
+          counts = let one = ((h.kept.parts.slots.each id v at).alone slot ((h.kept.parts.slots.each id v at).held slot held)).0 in
+              let was = full_owned (slot_at sizes s.words slot) (omega arith) in
+              counted sizes s.words s.views h.counts id v at (set s.words i y) (giving now)
+              (let f = one_full sizes s.words slot y inside h.kept.parts.slots.long in omega arith)
+              (let o = over_slot s h y in omega arith) (λ none. absurd (omega arith));
+          filled = still_filled s h at (giving now) refl refl refl;
+          bank = banks.moves_over γ sizes s.words s.views h.bank id v at (set s.words i y) (giving now) slot
+              record { bank = refl; founds = refl; book = refl; banked = refl; drawn = refl }
+              (λ k. let low = h.bank.low id v at k in dite (ℕ_discrete k slot)
+              (λ e. let none = banks.none_drawn γ sizes s.words s.views h.bank id v at slot inside mine in
+              let z = ap (λ (j : ℕ). drawn_at j v) e in omega arith)
+              (λ ne. let o = without_other slot k ne v.slots.owns in omega arith))
+              (banks.moved_outside γ sizes s.words s.views h.bank id v at slot mine)
+              (outside_free sizes (set s.words i y) (set s.views id (giving now)) slot (ap full (here s.words y (within s h)) ∙ empty))
+              (λ k ne. sym (moves_other k v slot mine ne)) (others s.words y);
+          tells = at_once DiscardsAll y (giving now, carried_after me.1 g.act)
+              (refl, g.carried ∙ sym (rest_is γ slot n 0 IsVacant rest (suc n) me.1 row));
+        })
+
+    -- look at the word
+    pub looks : May i (λ x. x) (λ r me'. (me'.1 ≡ me.1) × AtSlot LooksAtSlot i v r me'.0)
+    looks = lift_calm γ sizes slots id me i (λ x. x) (AtSlot LooksAtSlot i v) (λ r me'. (me'.1 ≡ me.1) × AtSlot LooksAtSlot i v r me'.0)
+        look_keeps (steps.looks_at id v live slot) (λ r w t. (refl, t))
+        (λ s w h at t. subst (IsCalm γ sizes slots id me i (λ x. x) s (get_or s.words i 0)) (sym (t slot refl).0)
+        record {
+          more = λ j p out. out;
+          same = λ j _. same_words s h j;
+          mover = h.homes.moving id v at;
+          alike = (refl, refl, refl, (λ _. refl), refl, refl);
+          counts = refl;
+          lives = λ l. l;
+          had = λ _ l. inl l;
+        })
+
+    -- retire the item, whose owner's unit is in the bank
+    pub retires : v.slots.owns ≡ slot ∷ [] → ¬ (Holds v slot) → v.slots.drawn ≡ [] → v.stakes.moves ≡ None → (value : Gv) → IsIn v.stakes.owns slot value
+        → May i (λ _. waiting_word 0) (λ _. OfSlot RetiresOne i me (waiting_word 0))
+    retires owns free empty rests value told_it = let y : ℕ = waiting_word 0 in let told : ℕ → SeatState → Type 0 = λ _. OfSlot RetiresOne i me y in
+        let own = owns_it v slot owns in
+        lift_homes γ sizes slots id me i (λ _. y) (λ _. AtSlot Retires i v y) told
+        (spares (λ _. y) (λ _. AtSlot Retires i v y) (λ r w t. ap (λ (u : View). u.places) (t slot refl).3))
+        (steps.retires id v live slot 0 inside own free (omega arith))
+        (λ s w h at t. let c = t slot refl in let one = ((h.kept.parts.slots.each id v at).alone slot own).0 in let r = h.records in
+        let was = full_owned (slot_at sizes s.words slot) (omega arith) in let now : View = remembering (retired slot y c.0 v) in
+        let word : slot_at sizes (set s.words i y) slot ≡ y = here s.words y (within s h) in let is = waiting_is 0 (omega arith) in
+        let will = (sound.waits y (let q = is.1 in omega arith)).1 in
+        let same : (j : ℕ) → j < sizes.slots → full_at sizes (set s.words i y) j ≡ full_at sizes s.words j
+        = λ j low. dite (ℕ_discrete j slot)
+        (λ e. subst (λ (k : ℕ). full_at sizes (set s.words i y) k ≡ full_at sizes s.words k) (sym e) (ap full word ∙ (will ∙ sym was)))
+        (λ ne. others s.words y j low ne) in
+        let mine_known = records.mine sizes s.views s.homes r id v at in
+        subst (Follows γ sizes id i me told s y) (sym c.3) record {
+          stakes = now.stakes;
+          act = keeps;
+          valid = tt;
+          homes = part.calm γ sizes s.words s.views s.homes h.homes id v at (set s.words i y) now (λ j p out. out) same (none_out now rests);
+          records = records.no_more sizes s.views s.homes r id v at now s.homes
+              (retired_tells v (r.each id v at) slot owns y c.0 rests value told_it)
+              (λ j g k. known_by now j g (λ a. absurd (in_none j g a)) (λ a. mine_known j g (inr (inl a)))
+              (λ a. ⊎_elim (λ (b : IsIn v.stakes.owns j g). mine_known j g (inl b)) (λ (b : IsIn v.stakes.waits j g). mine_known j g (inr (inr b)))
+              (in_both j g v.stakes.owns v.stakes.waits a)) k)
+              (λ j p z _ _ lies. inl lies) (λ j m. m) (λ j a. a);
+          counts = uncounted sizes s.words s.views h.counts id v at (set s.words i y) now refl (λ l. l)
+              (as_full sizes s.words (set s.words i y) same) (over_slot s h y);
+          filled = filled_by s h at now refl (tells_old_by s h at now (λ r a. absurd (has_none r [] refl a)) (has_either v.stakes.owns v.stakes.waits));
+          bank = banks.calm γ sizes s.words s.views h.bank id v at (set s.words i y) now
+              record { bank = refl; founds = refl; book = refl; banked = refl; drawn = refl } refl
+              (λ k. let z = ap (times k) empty in omega arith) same;
+          tells = at_once RetiresOne y (now, me.1) (retired slot y c.0 v, (c.0, c.1, c.2, refl, c.4, c.5), refl, refl);
+        })
+
+    -- a guard comes to see it beside its owner, who knows what it shows
+    pub watches : IsOpen v.epoch → v.epoch.place < n → v.stakes.moves ≡ None → (jd : ℕ) (u : View) (shared : Bool) (value : Gv) → OwnsAlone u slot
+        → ¬ (Holds u slot) → get_elem? u.stakes.owns 0 ≡ some (record { slot = slot; shared = shared; value = value })
+        → AllowsBeside (DomainInvariant γ sizes) slots id me jd u (Watches slot shared value me)
+    watches is_open near rests jd u shared value own free first s h _ at there = let p = h.kept.parts in let r = h.records in
+        let record_now : ShownValue = record { slot = slot; shared = shared; value = value } in
+        let told : IsIn u.stakes.owns slot value = (0, record_now, first, refl, refl) in
+        let tells = r.each id v at in let mine = records.mine sizes s.views s.homes r id v at in
+        let known : IsKnown s.views slot value = (jd, u, there, inl told) in dite (dec_lt 0 (times slot v.slots.sees))
+        (λ sees. let is = told_seen v tells slot sees in (
+          v,
+          keeps,
+          tt,
+          stands_by γ sizes id v s h at v.stakes refl s.homes
+              (part.calm γ sizes s.words s.views s.homes h.homes id v at s.words v (λ j p out. out) (λ j _. refl) (h.homes.moving id v at))
+              (records.calm sizes s.views s.homes r id v at v (refl, refl, refl, (λ _. refl), refl, refl)) (still_filled s h at v refl refl refl)
+              (banks.alike γ sizes s.words s.views h.bank id v at s.words v (refl, refl, refl, (λ _. refl), refl, refl) (λ _ _. refl)),
+          (
+            (λ _. (refl, subst (IsIn v.stakes.sees slot) (r.agree slot is.0 value (mine slot is.0 (inr (inl is.1))) known) is.1)),
+            (λ unseen. absurd (unseen sees)),
+          ),
+        ))
+        (λ unseen. let q : ℕ = v.epoch.place in let now : View = sighting slot shared value v in let one = is_same slot slot refl in
+        let alone = ((p.slots.each jd u there).alone slot own).0 in let filled = full_owned (slot_at sizes s.words slot) (omega arith) in
+        let owners : 0 < owners_at slot u = (let o = own in omega arith) in
+        let still : (j : ℕ) (x : View) → get_elem? s.views j ≡ some x → ¬ (Moves x slot)
+        = λ j x e m. dite (ℕ_discrete jd j)
+        (λ same. ((r.each jd u there).owns slot value told).1 (subst (λ (z : View). Moves z slot) (one_view s.views jd j x u e there (sym same)) m))
+        (λ ne. still_owned γ sizes s h slot jd j u x there e ne owners m) in
+        let nobody : NoneOut s.views slot q = λ j x e out. ⊎_elim (λ (m : Moves x slot). still j x e m)
+        (λ (o : SeesFrom x slot q). dite (ℕ_discrete id j)
+        (λ same. unseen (subst (λ (z : View). Sees z slot) (one_view s.views id j x v e at (sym same)) o.0))
+        (λ ne. let theirs = (p.slots.each j x e).guarded slot o.0 in
+        let apart = (p.epoch.two id j v.epoch x.epoch ne (at_map epoch_of s.views id v at)
+        (at_map epoch_of s.views j x e)).places live (omega arith) in apart (sym o.1))) out in
+        let b = h.homes.back slot q inside (omega arith) nobody in let y : ValueFraction = b.0 in let spot : ℕ = stake_at n slot q in
+        let has = h.homes.home slot q y inside (omega arith) b.1 in let shows = r.home slot q value y inside (omega arith) known b.1 in
+        let it : Has γ slot 1 (IsValue value) y
+        = subst (λ (k : ℕ). Has γ slot k (IsValue value) y) (share_one n (away n (full_at sizes s.words slot)) q near) (has.0, (has.1.0 filled, shows)) in (
+          now,
+          takes spot y,
+          b.1,
+          stands γ sizes id v s h at now refl (blind sizes s.words s.views id v (seeing slot v) at
+              (steps.watches_beside id v live slot is_open jd u owners free s.words s.views p at there) now.stakes)
+              (set s.homes spot none)
+              (part.takes_one γ sizes s.words s.views s.homes h.homes id v at slot q (omega arith) now (inr (omega arith, refl))
+              (λ j p out. let o = only_seen v rests j p out in inr (let a = o.0 in omega arith, o.1))
+              (none_out now rests))
+              (records.kept sizes s.views s.homes r id v at now (set s.homes spot none)
+              record {
+                owns = tells.owns;
+                owned = tells.owned;
+                sees = ap (λ (l : List ℕ). slot ∷ l) tells.sees;
+                waits = tells.waits;
+                waiting = tells.waiting;
+              }
+              (λ j g k. known_by now j g (λ a. mine j g (inl a)) (λ a. ⊎_elim
+              (λ (e : (slot ≡ j) × (value ≡ g)). subst (λ (z : ℕ × Gv). IsKnown s.views z.0 z.1) (λ d. (e.0 d, e.1 d)) known)
+              (λ (c : IsIn v.stakes.sees j g). mine j g (inr (inl c))) (in_either record_now v.stakes.sees j g a)) (λ a. mine j g (inr (inr a))) k)
+              (λ j p z _ _ lies. inl (one_taken s.homes spot (stake_at n j p) z lies))
+              (λ j m. absurd (none_moved v j rests m))
+              (λ j x _ e. (
+                (λ k m. absurd (none_moved v k rests m)),
+                (λ k m sees. dite (ℕ_discrete k slot) (λ same. still j x e (subst (Moves x) same m))
+                    (λ ne. r.apart j id x v k e at m (let o = is_other k slot (λ e. ne (sym e)) in omega arith))),
+              )))
+              (uncounted_alone sizes s.words s.views h.counts id v at now refl refl) (still_filled s h at now refl refl refl)
+              (banks.calm γ sizes s.words s.views h.bank id v at s.words now
+              record { bank = refl; founds = refl; book = refl; banked = refl; drawn = refl } refl (h.bank.low id v at) (λ _ _. refl)),
+          ((λ sees. absurd (unseen sees)), (λ _. (y, it, refl))),
+        ))
+
+    -- hold a slot, and let go of it
+    pub takes_hold : OwnsAlone v slot → v.slots.holds ≡ None → May i (λ x. x) (λ r me'. (me'.1 ≡ me.1) × AtSlot TakesHold i v r me'.0)
+    takes_hold own free = lift_calm γ sizes slots id me i (λ x. x) (AtSlot TakesHold i v) (λ r me'. (me'.1 ≡ me.1) × AtSlot TakesHold i v r me'.0)
+        (spares (λ x. x) (AtSlot TakesHold i v) (λ r w t. ap (λ (u : View). u.places) (t slot refl).0))
+        (steps.takes_hold id v live slot inside own free) (λ r w t. (refl, t))
+        (λ s w h at t. subst (IsCalm γ sizes slots id me i (λ x. x) s (get_or s.words i 0)) (sym (t slot refl).0)
+        record {
+          more = λ j p out. out;
+          same = λ j _. same_words s h j;
+          mover = h.homes.moving id v at;
+          alike = (refl, refl, refl, (λ _. refl), refl, refl);
+          counts = refl;
+          lives = λ l. l;
+          had = λ _ l. inl l;
+        })
+
+    pub lets_go : Holds v slot → May i (λ x. x) (λ r me'. (me'.1 ≡ me.1) × AtSlot LetsGo i v r me'.0)
+    lets_go held = lift_calm γ sizes slots id me i (λ x. x) (AtSlot LetsGo i v) (λ r me'. (me'.1 ≡ me.1) × AtSlot LetsGo i v r me'.0)
+        (spares (λ x. x) (AtSlot LetsGo i v) (λ r w t. ap (λ (u : View). u.places) (t slot refl).0))
+        (steps.lets_go id v live slot inside held) (λ r w t. (refl, t))
+        (λ s w h at t. subst (IsCalm γ sizes slots id me i (λ x. x) s (get_or s.words i 0)) (sym (t slot refl).0)
+        record {
+          more = λ j p out. out;
+          same = λ j _. same_words s h j;
+          mover = h.homes.moving id v at;
+          alike = (refl, refl, refl, (λ _. refl), refl, refl);
+          counts = refl;
+          lives = λ l. l;
+          had = λ _ l. inl l;
+        })
+
+  -- beside a slot's owner it learns what it knows of the slot, and nothing changes
+  pub recalls : (jd : ℕ) (u : View) (slot : ℕ) (shared : Bool) (value : Gv) → OwnsAlone u slot
+      → get_elem? u.stakes.owns 0 ≡ some (record { slot = slot; shared = shared; value = value })
+      → AllowsBeside (DomainInvariant γ sizes) slots id me jd u (Recalls slot shared value me)
+  recalls jd u slot shared value own first s h _ at there = (
+    v,
+    keeps,
+    tt,
+    subst (λ (vs : List View). DomainInvariant γ sizes record { words = s.words; homes = s.homes; views = vs }) (sym (set_again s.views id v at)) h,
+    (
+      refl,
+      λ lone. let one = one_place γ sizes s h id v at lone in record {
+        newest = h.filled.knows one id jd v u (record { slot = slot; shared = shared; value = value }) at live there (inl (0, first));
+        alive = ap alive (sym (finds sizes s.words s.views h.kept.parts.lone id v at one live slot))
+            ∙ ((h.kept.parts.slots.each jd u there).alone slot own).0;
+      },
+    ),
+  )
+
+  -- look at the next place for a guard
+  pub looks_for_guard : (place : ℕ) → place < n → place ≡ v.slots.looked
+      → May (state_word place) (λ x. x) (λ r me'. (me'.1 ≡ me.1) × LooksForGuard (state_word place) v r me'.0)
+  looks_for_guard place low next = let j : ℕ = state_word place in
+      lift_calm γ sizes slots id me j (λ x. x) (LooksForGuard j v) (λ r me'. (me'.1 ≡ me.1) × LooksForGuard j v r me'.0)
+      (keeps_ended γ sizes slots id me j (λ x. x) (LooksForGuard j v) (λ r w t. let c = t place refl in dite (ℕ_discrete r 2)
+      (λ e. ap (λ (u : View). u.places) (c.1 e)) (λ ne. ap (λ (u : View). u.places) (c.0 ne))) (λ s h at p low e was. omega arith) (inl live))
+      (steps.looks id v live place next)
+      (λ r w t. (refl, t))
+      (λ s w h at t. let c = t place refl in let x : ℕ = get_or s.words j 0 in
+      let same = λ (k : ℕ) (_ : k < sizes.slots). ap (λ (l : List ℕ). full_at sizes l k) (set-get_or s.words j 0) in
+      let calm = λ (w : View). IsCalm γ sizes slots id me j (λ x. x) s x w in dite (ℕ_discrete x 2)
+      (λ e. subst calm (sym (c.1 e)) record {
+        more = λ k p out. out;
+        same = same;
+        mover = h.homes.moving id v at;
+        alike = (refl, refl, refl, (λ _. refl), refl, refl);
+        counts = refl;
+        lives = λ l. l;
+        had = λ _ l. inl l;
+      })
+      (λ ne. subst calm (sym (c.0 ne)) record {
+        more = λ k p out. out;
+        same = same;
+        mover = h.homes.moving id v at;
+        alike = (refl, refl, refl, (λ _. refl), refl, refl);
+        counts = refl;
+        lives = λ l. l;
+        had = λ _ l. inl l;
+      }))
+
+  -- the last guard is closed, whose stakes go home
+  pub closes : IsOpen v.epoch → ¬ (Scans v.epoch) → v.epoch.place < n → v.stakes.moves ≡ None → Purse γ n v.epoch.place v.stakes.sees me.1
+      → May (state_word v.epoch.place) (λ _. 1) (λ _. ClosesHome me 1)
+  closes is_open free near rests purse = let j : ℕ = state_word v.epoch.place in let q : ℕ = v.epoch.place in let le : q ≤ n = omega arith in
+      lift_homes γ sizes slots id me j (λ _. 1) (λ _. ClosesAll v 1) (λ _. ClosesHome me 1)
+      (keeps_ended γ sizes slots id me j (λ _. 1) (λ _. ClosesAll v 1) (λ r w t. ap (λ (u : View). u.places) t) (own_place γ sizes id v live 1) (inl live))
+      (over.closes sizes id v is_open free near)
+      (λ s w h at t. let f = h.kept.parts.slots.each id v at in let long = h.kept.parts.slots.long in
+      let low : (k : ℕ) → 0 < times k v.slots.sees → k < sizes.slots = λ k sees. dite (dec_lt k sizes.slots) (λ l. l) (λ past. absurd
+      (let a = f.full k sees in let z : slot_at sizes s.words k ≡ 0 = get_or_past s.words (slot_word sizes k) 0 (omega arith) in
+      let b = ap full z ∙ sound.free.2 in omega arith)) in
+      let r = h.records in let told = r.each id v at in let mine = records.mine sizes s.views s.homes r id v at in
+      let g = gives_purse γ n q sizes.slots le v.stakes.sees (λ k a. low k (subst (λ (l : List ℕ). 0 < times k l) told.sees a))
+      s.homes me.1 h.homes.deep purse in
+      let now : View = record v { epoch = Rattle.sdd_word_invariant.specs.Steps.closed v.epoch; slots = Rattle.sdd_word_invariant.specs.SlotSteps.unseeing v } in
+      let same = λ (k : ℕ). before_slots sizes s.words j 1 k (omega arith) in
+      subst (Follows γ sizes id j me (λ _. ClosesHome me 1) s 1) (sym t) record {
+        stakes = record v.stakes { sees = [] };
+        act = g.act;
+        valid = g.valid;
+        homes = part.closes γ sizes s.words s.views s.homes h.homes id v at q le near me.1 g (set s.words j 1) (unsighted now) told.sees refl
+            rests (λ k sees. same k ∙ f.full k sees) (λ k _. same k) (none_out (unsighted now) rests);
+        records = records.no_more sizes s.views s.homes r id v at (unsighted now) (homes_after s.homes me.1 g.act)
+            record { owns = told.owns; owned = told.owned; sees = refl; waits = told.waits; waiting = told.waiting }
+            (λ k a c. known_by (unsighted now) k a (λ d. mine k a (inl d)) (λ d. absurd (in_none k a d)) (λ d. mine k a (inr (inr d))) c)
+            (λ k p y _ near' lies. ⊎_elim
+            (λ (d : (k' : ℕ) × (a : Gv) × IsIn v.stakes.sees k' a × (stake_at n k p ≡ stake_at n k' q) × Has γ k' 1 (IsValue a) y).
+            inr (λ a c. d.4.1.1 ∙ r.agree d.0 d.1 a (mine d.0 d.1 (inr (inl d.2)))
+            (subst (λ (l : ℕ). IsKnown s.views l a) (one_slot n k d.0 p q near' le d.3) c)))
+            (λ (d : LiesAt n s.homes k p y). inl d) (g.home (stake_at n k p) y lies))
+            (λ k m. m) (λ k sees. absurd (omega arith));
+        counts = uncounted sizes s.words s.views h.counts id v at (set s.words j 1) (unsighted now) refl (λ _. omega arith)
+            (as_full sizes s.words (set s.words j 1) (λ k _. same k))
+            (ended_spared sizes s.words j 1 (own_place γ sizes id v live 1 s h at) n (omega arith));
+        filled = still_filled s h at (unsighted now) refl refl refl;
+        bank = banks.calm γ sizes s.words s.views h.bank id v at (set s.words j 1) (unsighted now)
+            record { bank = refl; founds = refl; book = refl; banked = refl; drawn = refl } refl (h.bank.low id v at) (λ k _. same k);
+        tells = (now, refl, refl, g.carried);
+      })
+
+-- a place that is nobody's is barred, by a token without a place
+module _ (γ : ℕ) (sizes : Sizes) (slots id : ℕ) (me : SeatState) (p state : ℕ) (inside : p < sizes.participants) (next : p ≡ me.0.places.ended)
+    (nobodys : IsNobodys state) where
+  abbrev spot : ℕ
+  spot = state_word p
+
+  abbrev bar_it : ℕ → ℕ
+  bar_it x = either (eqb x state) 4 x
+
+  -- it makes no place less so that has ended, and bars it
+  no_less : (x : ℕ) → x ≤ bar_it x
+  no_less x = exchanged x state 4 (λ y. x ≤ y)
+      (λ hit. ⊎_elim (λ (none : state ≡ 0). omega arith) (λ (over : state ≡ 3). omega arith) nobodys) (λ miss. omega arith)
+
+  bars_it : (x : ℕ) → (x ≡ state) ⊎ IsBarred x → IsBarred (bar_it x)
+  bars_it x c = exchanged x state 4 IsBarred (λ hit. omega arith)
+      (λ miss. ⊎_elim (λ (e : x ≡ state). absurd (miss e)) (λ (b : IsBarred x). b) c)
+
+  module _ (s : State ValueFraction View) (h : DomainInvariant γ sizes s) (at : get_elem? s.views id ≡ some me.0) where
+    abbrev found : ℕ
+    found = get_or s.words spot 0
+
+    abbrev left : ℕ
+    left = bar_it found
+
+    left_over : Spares sizes s.words spot left
+    left_over q low e was = no_less found
+
+    still_over : AreBarred sizes (set s.words spot left) me.0
+    still_over = one_spared sizes s.words spot left me.0 me.0 left_over refl (h.kept.places.ended id me.0 at)
+
+    now_over : IsBarred left → AreBarred sizes (set s.words spot left) (past p me.0)
+    now_over over q low l = dite (ℕ_discrete q p)
+        (λ e. let there = ap (λ (k : ℕ). get_or (set s.words spot left) (state_word k) 0) e
+        ∙ get_or-set_same s.words spot left 0 (let wide = h.kept.parts.epoch.wide in omega arith) in omega arith)
+        (λ ne. still_over q low (omega arith))
+
+    hushed : Hushes sizes s.words spot left
+    hushed k e was = absurd (omega arith)
+
+    still_quiet : AreQuiet sizes (set s.words spot left) me.0
+    still_quiet = one_hushed sizes s.words spot left s.views id me.0 me.0 at (inr hushed) refl (h.kept.places.quiet id me.0 at)
+
+    -- as long as a place is left to end, no slot is known to be quiet
+    now_quiet : AreQuiet sizes (set s.words spot left) (past p me.0)
+    now_quiet k low = absurd (let all = (still_quiet k low).1 in omega arith)
+
+    bars_calm : (w : View) → (w ≡ past p me.0) ⊎ (w ≡ me.0) → IsCalm γ sizes slots id me spot bar_it s left w
+    bars_calm w which = let same = λ (j : ℕ) (_ : j < sizes.slots). before_slots sizes s.words spot left j (omega arith) in
+        let calm = IsCalm γ sizes slots id me spot bar_it s left in
+        let mover = h.homes.moving id me.0 at in
+        ⊎_elim (λ (e : w ≡ past p me.0). subst calm (sym e) record {
+          more = λ j q out. out;
+          same = same;
+          mover = mover;
+          alike = (refl, refl, refl, (λ _. refl), refl, refl);
+          counts = refl;
+          lives = λ l. l;
+          had = λ _ l. inl l;
+        })
+        (λ (e : w ≡ me.0). subst calm (sym e) record {
+          more = λ j q out. out;
+          same = same;
+          mover = mover;
+          alike = (refl, refl, refl, (λ _. refl), refl, refl);
+          counts = refl;
+          lives = λ l. l;
+          had = λ _ l. inl l;
+        }) which
+
+  which_of : (r : ℕ) (w : View) → Bars state spot me.0 r w → ((r ≡ state) ⊎ IsBarred r) × (w ≡ past p me.0) ⊎ (w ≡ me.0)
+  which_of r w t = let c = t p refl in dite (ℕ_discrete r state) (λ e. inl (inl e, c.0 (inl e)))
+      (λ ne. dite (dec_lt 3 r) (λ b. inl (inr (omega arith), c.0 (inr (omega arith)))) (λ no. inr (c.1 ne (λ b. no (omega arith)))))
+
+  pub bars : Allows (DomainInvariant γ sizes) slots id me spot bar_it (λ r me'. (me'.1 ≡ me.1) × Bars state spot me.0 r me'.0)
+  bars = lift_calm γ sizes slots id me spot bar_it (Bars state spot me.0) (λ r me'. (me'.1 ≡ me.1) × Bars state spot me.0 r me'.0)
+      (λ s w h at t. let x : ℕ = get_or s.words spot 0 in let y : ℕ = bar_it x in (
+        left_over s h at,
+        ⊎_elim (λ (c : ((x ≡ state) ⊎ IsBarred x) × (w ≡ past p me.0)). subst (AreBarred sizes (set s.words spot y)) (sym c.1)
+            (now_over s h at (bars_it x c.0)))
+            (λ (e : w ≡ me.0). subst (AreBarred sizes (set s.words spot y)) (sym e) (still_over s h at)) (which_of x w t),
+        inr (hushed s h at),
+        ⊎_elim (λ (c : ((x ≡ state) ⊎ IsBarred x) × (w ≡ past p me.0)). subst (AreQuiet sizes (set s.words spot y)) (sym c.1) (now_quiet s h at))
+            (λ (e : w ≡ me.0). subst (AreQuiet sizes (set s.words spot y)) (sym e) (still_quiet s h at)) (which_of x w t),
+      ))
+      (barring.bars sizes id p state me.0 inside nobodys) (λ r w t. (refl, t))
+      (λ s w h at t. bars_calm s h at w (⊎_elim (λ (c : ((get_or s.words spot 0 ≡ state) ⊎ IsBarred (get_or s.words spot 0)) × (w ≡ past p me.0)). inl c.1)
+      (λ (e : w ≡ me.0). inr e) (which_of (get_or s.words spot 0) w t)))
+
+-- the word of the next slot is looked at, whether it is free, by a token that knows that all places are barred
+module _ (γ : ℕ) (sizes : Sizes) (slots id : ℕ) (me : SeatState) (slot : ℕ) (next : slot ≡ me.0.places.quiet)
+    (all : sizes.participants ≤ me.0.places.ended) where
+  abbrev word : ℕ
+  word = slot_word sizes slot
+
+  module _ (s : State ValueFraction View) (h : DomainInvariant γ sizes s) (at : get_elem? s.views id ≡ some me.0) where
+    -- a look leaves the words
+    abbrev after : List ℕ
+    after = set s.words word (get_or s.words word 0)
+
+    as_before : after ≡ s.words
+    as_before = set-get_or s.words word 0
+
+    quiet_before : AreQuiet sizes s.words me.0
+    quiet_before = h.kept.places.quiet id me.0 at
+
+    quiet_now : full (get_or s.words word 0) ≡ 0 → AreQuiet sizes s.words (past_quiet me.0)
+    quiet_now dead k low = (
+      dite (ℕ_discrete k slot) (λ e. ap (λ (j : ℕ). full (slot_at sizes s.words j)) e ∙ dead) (λ ne. (quiet_before k (omega arith)).0),
+      all,
+    )
+
+  look_keeps_all : Keeps γ sizes slots id me word (λ x. x) (LooksForValue me.0)
+  look_keeps_all s w h at t = let x : ℕ = get_or s.words word 0 in let ended = h.kept.places.ended id me.0 at in (
+    (λ p low e was. omega arith),
+    subst (λ (ws : List ℕ). AreBarred sizes ws w) (sym (as_before s h at))
+        (dite (ℕ_discrete (full x) 0) (λ dead. subst (AreBarred sizes s.words) (sym (t.0 dead)) ended)
+        (λ taken. subst (AreBarred sizes s.words) (sym (t.1 taken)) ended)),
+    inr (λ k e dead. dead),
+    subst (λ (ws : List ℕ). AreQuiet sizes ws w) (sym (as_before s h at))
+        (dite (ℕ_discrete (full x) 0) (λ dead. subst (AreQuiet sizes s.words) (sym (t.0 dead)) (quiet_now s h at dead))
+        (λ taken. subst (AreQuiet sizes s.words) (sym (t.1 taken)) (quiet_before s h at))),
+  )
+
+  -- it knows no more but of places and of what is quiet
+  looked_for : (r : ℕ) (w : View) → LooksForValue me.0 r w → (t : EndedView) × (w ≡ record me.0 { places = t })
+  looked_for r w t = dite (ℕ_discrete (full r) 0) (λ dead. ((past_quiet me.0).places, t.0 dead)) (λ taken. (me.0.places, t.1 taken))
+
+  pub looks_for_value : Allows (DomainInvariant γ sizes) slots id me word (λ x. x) (λ r me'. (me'.1 ≡ me.1) × LooksForValue me.0 r me'.0)
+  looks_for_value = lift_calm γ sizes slots id me word (λ x. x) (LooksForValue me.0) (λ r me'. (me'.1 ≡ me.1) × LooksForValue me.0 r me'.0)
+      look_keeps_all (barring.looks_for_value sizes id word me.0) (λ r w t. (refl, t))
+      (λ s w h at t. let x : ℕ = get_or s.words word 0 in
+      subst (IsCalm γ sizes slots id me word (λ x. x) s x) (sym (looked_for x w t).1) record {
+        more = λ j q out. out;
+        same = λ j _. ap (λ (l : List ℕ). full_at sizes l j) (as_before s h at);
+        mover = h.homes.moving id me.0 at;
+        alike = (refl, refl, refl, (λ _. refl), refl, refl);
+        counts = refl;
+        lives = λ l. l;
+        had = λ _ l. inl l;
+      })

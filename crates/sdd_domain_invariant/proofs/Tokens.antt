@@ -1,0 +1,355 @@
+-- The start, a new token, owners that are cut off as a token and taken in again, and what is at home at the end
+use Rattle.std.proofs.Common.{◌≡◌, ◌≢◌, ◌⊎◌, inl, inr, ℕ, zero, suc, ◌+◌, ◌<◌, ◌≤◌, Bool, true, false, List, [], ◌∷◌, ◌++◌, length, get_or, set, sym, refl, ap, ◌∙◌, subst, ⊎_elim, arith}
+use Rattle.std.proofs.lemmas.List.{length-map}
+use mathlib.Core.Option.{some, some-injective, some-ne-none}
+use mathlib.Core.Logic.{dite}
+use native.Mathlib.Decide.{ℕ_discrete, dec_lt}
+use Rattle.std.specs.Prelude.{None}
+use lib.ListN.{get_elem?}
+use base.Stored.{Gv}
+use Rattle.atomic_table.specs.Table.{State, Enters, Splits, Joins, opening}
+use Rattle.atomic_table.proofs.Lists.{at_map, at_longer, set_else}
+use Rattle.sdd_shared_values.specs.SharedValues.{IsVacant, most}
+use Rattle.sdd_shared_values.specs.declared.value_fraction.ValueFraction.{ValueFraction}
+use Rattle.sdd_views.specs.declared.ShownValue.{ShownValue}
+use Rattle.sdd_views.specs.declared.CountsView.{CountsView}
+use Rattle.sdd_views.specs.declared.View.{View}
+use Rattle.sdd_views.specs.declared.Sizes.{Sizes}
+use Rattle.sdd_word_invariant.specs.Words.{first_slot, all_words}
+use Rattle.sdd_word_invariant.specs.Codes.{alive, waiting, full}
+use Rattle.sdd_word_invariant.specs.Sums.{is, times}
+use Rattle.sdd_word_invariant.specs.Slots.{slot_at, OwnsAlone}
+use Rattle.sdd_word_invariant.specs.SlotSteps.{first, others}
+use Rattle.sdd_word_invariant.specs.Epoch.{HasPlace}
+use Rattle.sdd_views.specs.Views.{owner_token, owner_of}
+use Rattle.sdd_word_invariant.specs.Parts.{epoch_of, idle}
+use Rattle.sdd_word_invariant.proofs.Codes.{sound}
+use Rattle.sdd_word_invariant.proofs.Lift as kept
+use Rattle.sdd_word_invariant.proofs.Frame.{each_set, each_snoc}
+use Rattle.sdd_word_invariant.proofs.Sums.{is_same, is_other, total_set, total_snoc, total_has, total_two, total_only, total_append, span_zero}
+use Rattle.sdd_domain_invariant.specs.FractionsAtHome.{stake_at, share, away, full_at, Has, IsShown, Moves, SeesFrom, IsOut, LiesAt, AreLaid, HomesPart}
+use Rattle.sdd_domain_invariant.specs.Banked.{BankPart, founder, founded, bank_of}
+use Rattle.sdd_domain_invariant.proofs.Banks.{HasUnits, outside_free}
+use Rattle.sdd_domain_invariant.proofs.Banks as banks
+use Rattle.sdd_domain_invariant.specs.DomainInvariant.{DomainInvariant}
+use Rattle.sdd_domain_invariant.specs.HomeSteps.{parting, departing, regained, uncounting, counts_of, counts_token, counting}
+use Rattle.sdd_domain_invariant.specs.Records.{IsIn, KnowsShown, IsKnown, IsTelling, RecordsPart}
+use Rattle.sdd_domain_invariant.specs.Counts.{made_by, gone_by, over_by, full_slots, HasNoCounts, CountsByPlace, CountsPart}
+use Rattle.sdd_domain_invariant.specs.Fillings.{HasRecord, FilledPart}
+use Rattle.sdd_domain_invariant.proofs.Counts.{ended_few, uncounted_alone, more_counts}
+use Rattle.sdd_domain_invariant.proofs.Places.{inside}
+use Rattle.sdd_domain_invariant.proofs.Part.{none_out, only_seen}
+use Rattle.sdd_domain_invariant.proofs.Part as part
+use Rattle.sdd_domain_invariant.proofs.Records.{in_head, in_tail, in_either, in_none, known_by, telling_none, knows_none}
+use Rattle.sdd_domain_invariant.proofs.Records as records
+use Rattle.sdd_domain_invariant.proofs.Fillings.{IsTold, has_none, has_either, told_by, tells_none, tells_old, filled_more, filled_after, filled_same}
+use Rattle.sdd_domain_invariant.proofs.Steps.{still_free}
+use Rattle.sdd_domain_invariant.proofs.Telling.{none_moved}
+
+nothing_out : (v : View) → v.stakes.moves ≡ None → v.slots.sees ≡ [] → (i p : ℕ) → ¬ (IsOut v i p)
+nothing_out v rests blind i p out = let o = only_seen v rests i p out in let a = ap (times i) blind in let b = o.0 in absurd (omega arith)
+
+set_front : {A : Type 0} (l m : List A) (i : ℕ) (a b : A) → get_elem? l i ≡ some a → set (l ++ m) i b ≡ set l i b ++ m
+set_front [] m i a b e = absurd (some-ne-none a (sym e))
+set_front (x ∷ xs) m zero a b e = refl
+set_front (x ∷ xs) m (suc i) a b e = ap (λ (l : List _). x ∷ l) (set_front xs m i a b e)
+
+module _ (γ : ℕ) (sizes : Sizes) where
+  -- a new token, which knows nothing
+  pub enters : (slots i : ℕ) (told : ℕ → View → Type 0) → ((r : ℕ) → told r (idle sizes γ)) → Enters (DomainInvariant γ sizes) slots i told
+  enters slots i told tells s h long small = let t : View = idle sizes γ in
+      let r = kept.enters sizes γ slots i (λ r w. (w ≡ t) × told r w) (λ r. (refl, tells r)) s h.kept long small in (
+        r.0,
+        record {
+          kept = r.1;
+          homes = subst (λ (w : View). HomesPart γ sizes s.words (s.views ++ w ∷ []) s.homes) (sym r.2.0)
+              (part.arrives γ sizes s.words s.views s.homes h.homes t (nothing_out t refl refl) (none_out t refl));
+          records = subst (λ (w : View). RecordsPart sizes (s.views ++ w ∷ []) s.homes) (sym r.2.0)
+              (records.arrives sizes s.views s.homes h.records t (telling_none t refl refl refl refl refl refl)
+              (λ i g k. absurd (knows_none t refl refl refl i g k)) refl refl);
+          counts = subst (λ (w : View). CountsPart sizes s.words (s.views ++ w ∷ [])) (sym r.2.0)
+              (more_counts sizes s.words s.views h.counts t refl refl refl);
+          filled = subst (λ (w : View). FilledPart sizes (s.views ++ w ∷ [])) (sym r.2.0)
+              (filled_more sizes s.views h.filled t (tells_none t s.views refl refl) (λ z. absurd (omega arith)));
+          bank = subst (λ (w : View). BankPart γ sizes s.words (s.views ++ w ∷ [])) (sym r.2.0)
+              (banks.arrives γ sizes s.words s.views h.bank t refl refl refl refl);
+        },
+        r.2.1,
+      )
+
+  -- the table at the start
+  pub begins : (ws : List ℕ) (xs : List ValueFraction) → length ws ≡ all_words sizes → ((i : ℕ) → get_or ws i 0 ≡ 0) → suc (suc sizes.participants) < most
+      → AreLaid γ sizes.participants sizes.slots xs → DomainInvariant γ sizes (opening ws xs (founder sizes γ))
+  begins ws xs long none few laid = let n : ℕ = sizes.participants in record {
+    kept = kept.begins sizes γ (founder sizes γ).stakes ws xs long none;
+    homes = record {
+      few = few;
+      deep = length-map xs some ∙ laid.long;
+      home = λ i p y low near lies. let l = laid.each i p near (inside n sizes.slots i p low near) in
+          let same : l.0 ≡ y = some-injective l.0 y (some-injective (some l.0) (some y) (sym (at_map some xs (stake_at n i p) l.0 l.1) ∙ lies)) in
+          let has = subst (Has γ i (share n 0 p) IsVacant) same l.2 in let word = none (Rattle.sdd_word_invariant.specs.Words.slot_word sizes i) in
+          let empty : full_at sizes ws i ≡ 0 = ap full word ∙ sound.free.2 in
+          subst (λ (k : ℕ). Has γ i (share n k p) (IsShown (full_at sizes ws i)) y) (sym (ap (away n) empty)) (has.0, (λ e. absurd (omega arith), λ _. has.1));
+      back = λ i p low near away. let l = laid.each i p near (inside n sizes.slots i p low near) in (l.0, at_map some xs (stake_at n i p) l.0 l.1);
+      moving = λ j v e. none_out v (subst (λ (u : View). u.stakes.moves ≡ None) (only j v e) refl);
+    };
+    counts = record {
+      items = let z = span_zero full ws (first_slot sizes) sizes.slots (λ d l. ap full (none (first_slot sizes + d)) ∙ sound.free.2) in omega arith;
+      places = omega arith;
+      each = λ j v e. subst CountsByPlace (only j v e) (λ _ _. (refl, refl));
+    };
+    records = record {
+      each = λ j v e. subst IsTelling (only j v e) (telling_none (founder sizes γ) refl refl refl refl refl refl);
+      agree = λ i g h a b. absurd (none_known i g a);
+      home = λ i p g y low near a l. absurd (none_known i g a);
+      apart = λ j k v w i e e' m. absurd (none_moved v i (subst (λ (u : View). u.stakes.moves ≡ None) (only j v e) refl) m);
+    };
+    filled = record {
+      knows = λ one j k v u r e live. absurd (let f = ap (λ (w : View). w.epoch.state) (only j v e) in omega arith);
+    };
+    bank = record {
+      single = omega arith;
+      low = λ j v e. subst HasUnits (only j v e) (λ i. omega arith);
+      quiet = λ i near z. refl;
+      founds = λ j v e is i near. outside_free sizes ws (founder sizes γ ∷ []) i
+          (ap full (none (Rattle.sdd_word_invariant.specs.Words.slot_word sizes i)) ∙ sound.free.2);
+      banks = λ j v e is. let f : false ≡ true = ap (λ (u : View). u.stakes.bank) (only j v e) ∙ is in absurd cc;
+    };
+  }
+    where
+      only : (j : ℕ) (v : View) → get_elem? (founder sizes γ ∷ []) j ≡ some v → founder sizes γ ≡ v
+      only zero v e = some-injective _ _ e
+      only (suc j) v e = absurd (some-ne-none v (sym e))
+
+      none_known : (i : ℕ) (g : Gv) → ¬ (IsKnown (founder sizes γ ∷ []) i g)
+      none_known i g k = knows_none (founder sizes γ) refl refl refl i g (subst (λ (u : View). KnowsShown u i g) (sym (only k.0 k.1 k.2)) k.3)
+
+  -- the only owner that it has goes to a token of its own, with what is known of its slot, where none is held and no value is moved
+  pub parts_owner : (id : ℕ) (v : View) (slot : ℕ) → v.slots.owns ≡ slot ∷ [] → v.slots.drawn ≡ slot ∷ [] → v.slots.holds ≡ None
+      → v.stakes.moves ≡ None → Splits (DomainInvariant γ sizes) id v (parting v) (departing v)
+  parts_owner id v slot owns drawn free rests s h at = let t : View = departing v in let w : View = parting v in let r = h.records in
+      let told = r.each id v at in
+      let vs : List View = s.views ++ t ∷ [] in let mine = records.mine sizes s.views s.homes r id v at in
+      let came = records.arrives sizes s.views s.homes r t
+      record {
+        owns = λ i g k. let o = (told.owns i g k).0 in (
+          let e = ap (times i) owns in let e' = ap (λ (l : List ℕ). times i (first l)) owns in let l : OwnsAlone t i = omega arith in l,
+          none_moved t i refl,
+        );
+        owned = λ i o still. told.owned i
+            (let e = ap (times i) owns in let e' = ap (λ (l : List ℕ). times i (first l)) owns in omega arith) (none_moved v i rests);
+        sees = refl;
+        waits = λ i g k. absurd (in_none i g k);
+        waiting = λ i o. absurd (omega arith);
+      }
+      (λ i g k. known_by t i g (λ a. mine i g (inl a)) (λ a. absurd (in_none i g a)) (λ a. absurd (in_none i g a)) k) refl refl in
+      let mine_then = records.mine sizes vs s.homes came id v (at_longer s.views (t ∷ []) id v at) in
+      let known_then = filled_more sizes s.views h.filled t
+      (λ r x. ⊎_elim (λ (a : HasRecord v.stakes.owns r). (id, v, at, inl a)) (λ (a : HasRecord [] r). absurd (has_none r [] refl a)) x)
+      (λ z. absurd (omega arith)) in record {
+        kept = kept.parts_owner sizes id v w.stakes t.stakes free s h.kept at;
+        homes = part.arrives γ sizes s.words (set s.views id w) s.homes
+            (part.calm γ sizes s.words s.views s.homes h.homes id v at s.words w (λ i p out. out) (λ i _. refl) (none_out w rests))
+            t (nothing_out t refl refl) (none_out t refl);
+        records = subst (λ (us : List View). RecordsPart sizes us s.homes) (set_front s.views (t ∷ []) id v w at)
+            (records.no_more sizes vs s.homes came id v (at_longer s.views (t ∷ []) id v at) w s.homes
+            record {
+              owns = λ i g k. absurd (in_none i g k);
+              owned = λ i o still. absurd (let e = ap (λ (l : List ℕ). times i (others l)) owns in omega arith);
+              sees = told.sees;
+              waits = told.waits;
+              waiting = told.waiting;
+            }
+            (λ i g k. known_by w i g (λ a. absurd (in_none i g a)) (λ a. mine_then i g (inr (inl a))) (λ a. mine_then i g (inr (inr a))) k)
+            (λ i p y _ _ l. inl l) (λ i m. m) (λ i a. a));
+        counts = more_counts sizes s.words (set s.views id w) (uncounted_alone sizes s.words s.views h.counts id v at w refl refl) t refl refl refl;
+        filled = subst (FilledPart sizes) (set_front s.views (t ∷ []) id v w at)
+            (filled_after sizes vs known_then id v (at_longer s.views (t ∷ []) id v at) w refl
+            (tells_old sizes vs known_then id v (at_longer s.views (t ∷ []) id v at) w
+            (told_by w v (λ r a. absurd (has_none r [] refl a)) (λ r a. inr a))) (λ _ live. inl live));
+        bank = banks.parts γ sizes s.words s.views h.bank id v at w t
+            record { bank = refl; founds = refl; book = refl; banked = refl; moves = refl } refl refl refl
+            (λ i. let d = ap (λ (l : List ℕ). times i (others l)) drawn in omega arith)
+            (λ i. let o = ap (λ (l : List ℕ). times i (first l)) owns in let a = total_append (is i) (first v.slots.owns) [] in omega arith)
+            (λ i. let d = ap (λ (l : List ℕ). times i (others l)) drawn in let d' = ap (times i) drawn in
+            let o = ap (λ (l : List ℕ). times i (first l)) owns in let a = total_append (is i) (first v.slots.owns) [] in omega arith);
+      }
+
+  -- the first record is of the owner's token, and the others were known
+  come_in : (vs : List View) (now : ShownValue) (other id : ℕ) (t v : View) → get_elem? vs other ≡ some t → get_elem? vs id ≡ some v
+      → t.stakes.owns ≡ now ∷ [] → (r : ShownValue) → HasRecord (now ∷ v.stakes.owns) r ⊎ HasRecord v.stakes.waits r → IsTold vs r
+  come_in vs now other id t v was at one r x = ⊎_elim (λ (a : HasRecord (now ∷ v.stakes.owns) r). ⊎_elim
+      (λ (b : HasRecord (now ∷ []) r). (other, t, was, inl (subst (λ (l : List ShownValue). HasRecord l r) (sym one) b)))
+      (λ (b : HasRecord v.stakes.owns r). (id, v, at, inl b)) (has_either (now ∷ []) v.stakes.owns r a))
+      (λ (a : HasRecord v.stakes.waits r). (id, v, at, inr a)) x
+
+  -- and comes back
+  pub joins_owner : (id : ℕ) (v : View) (other slot : ℕ) (shared : Bool) (value : Gv) → v.stakes.moves ≡ None
+      → Joins (DomainInvariant γ sizes) id v other (owner_of slot shared value) (regained v (owner_of slot shared value)) (owner_token [] [])
+  joins_owner id v other slot shared value rests s h at apart there = let t : View = owner_of slot shared value in let t' : View = owner_token [] [] in
+      let w : View = regained v t in let vs : List View = set s.views id w in let r = h.records in let told = r.each id v at in
+      let now : ShownValue = record { slot = slot; shared = shared; value = value } in let mine = records.mine sizes s.views s.homes r id v at in
+      let was : get_elem? s.views other ≡ some t = sym (set_else s.views id other w apart) ∙ there in
+      let came = records.no_more sizes s.views s.homes r id v at w s.homes
+      record {
+        owns = λ i g k. ⊎_elim
+            (λ (e : (slot ≡ i) × (value ≡ g)). (let o = is_same i slot e.0 in let l : OwnsAlone w i = omega arith in l, none_moved w i rests))
+            (λ (a : IsIn v.stakes.owns i g). let o = (told.owns i g a).0 in (let l : OwnsAlone w i = omega arith in l, none_moved w i rests))
+            (in_either now v.stakes.owns i g k);
+        owned = λ i o still. dite (ℕ_discrete slot i) (λ e. (value, in_head now v.stakes.owns i value e refl))
+            (λ ne. let b = told.owned i (let q = is_other i slot ne in omega arith) (none_moved v i rests) in
+            (b.0, in_tail now v.stakes.owns i b.0 b.1));
+        sees = told.sees;
+        waits = told.waits;
+        waiting = told.waiting;
+      }
+      (λ i g k. known_by w i g
+      (λ a. ⊎_elim (λ (e : (slot ≡ i) × (value ≡ g)). (other, t, was, inl (in_head now [] i g e.0 e.1)))
+      (λ (b : IsIn v.stakes.owns i g). mine i g (inl b)) (in_either now v.stakes.owns i g a))
+      (λ a. mine i g (inr (inl a))) (λ a. mine i g (inr (inr a))) k)
+      (λ i p y _ _ l. inl l) (λ i m. m) (λ i a. a) in record {
+        kept = kept.joins_owners sizes id v other (slot ∷ []) [] w.stakes t.stakes s h.kept at apart there;
+        homes = part.calm γ sizes s.words vs s.homes
+            (part.calm γ sizes s.words s.views s.homes h.homes id v at s.words w (λ i p out. out) (λ i _. refl) (none_out w rests))
+            other t there s.words t' (λ i p out. absurd (nothing_out t refl refl i p out)) (λ i _. refl) (none_out t' refl);
+        records = records.no_more sizes vs s.homes came other t there t' s.homes (telling_none t' refl refl refl refl refl refl)
+            (λ i g k. absurd (knows_none t' refl refl refl i g k)) (λ i p y _ _ l. inl l) (λ i m. absurd (none_moved t' i refl m))
+            (λ i a. absurd (omega arith));
+        counts = uncounted_alone sizes s.words vs (uncounted_alone sizes s.words s.views h.counts id v at w refl refl) other t there t' refl refl;
+        filled = filled_after sizes vs (filled_after sizes s.views h.filled id v at w refl (come_in s.views now other id t v was at refl) (λ _ live. inl live))
+            other t there t' refl (tells_none t' vs refl refl) (λ _ live. inl live);
+        bank = banks.joins γ sizes s.words s.views h.bank id v at other t t' w there apart
+            record { bank = refl; founds = refl; book = refl; banked = refl; moves = refl } refl refl refl refl refl refl refl
+            (λ i. let low = h.bank.low id v at i in omega arith) (λ i. omega arith);
+      }
+
+  -- the counts of ended places go to a token of their own
+  pub parts_counts : (id : ℕ) (v : View) → 0 < over_by v → Splits (DomainInvariant γ sizes) id v (uncounting v) (counts_of v)
+  parts_counts id v over s h at = let t : View = counts_of v in let w : View = uncounting v in let c = h.counts in let p = h.kept.parts.slots in record {
+    kept = kept.cuts sizes id v v.slots.owns v.slots.shares v.slots.drawn [] [] w.stakes t.stakes (λ i. (omega arith, omega arith))
+        (λ i held. (p.each id v at).held i held) s h.kept at;
+    homes = part.arrives γ sizes s.words (set s.views id w) s.homes
+        (part.calm γ sizes s.words s.views s.homes h.homes id v at s.words w (λ i p out. out) (λ i _. refl) (h.homes.moving id v at))
+        t (nothing_out t refl refl) (none_out t refl);
+    records = records.arrives sizes (set s.views id w) s.homes (records.calm sizes s.views s.homes h.records id v at w (
+      refl,
+      refl,
+      refl,
+      (λ _. refl),
+      refl,
+      refl,
+    )) t
+        (telling_none t refl refl refl refl refl refl) (λ i g k. absurd (knows_none t refl refl refl i g k)) refl refl;
+    counts = record {
+      items = let a = total_set made_by s.views id v w at in let a' = total_snoc made_by (set s.views id w) t in
+          let b = total_set gone_by s.views id v w at in let b' = total_snoc gone_by (set s.views id w) t in let d = c.items in omega arith;
+      places = let a = total_set over_by s.views id v w at in let a' = total_snoc over_by (set s.views id w) t in let d = c.places in omega arith;
+      each = each_snoc CountsByPlace (set s.views id w) t
+          (each_set CountsByPlace CountsByPlace s.views id w (λ _ _. (refl, refl)) (λ j u _ e. c.each j u e)) (λ _ none. absurd (omega arith));
+    };
+    filled = let us : List View = set s.views id w in
+        filled_more sizes us (filled_same sizes s.views h.filled id v at w refl refl refl (λ live. live))
+        t (tells_none t us refl refl) (λ z. absurd (omega arith));
+    bank = banks.parts γ sizes s.words s.views h.bank id v at w t
+        record { bank = refl; founds = refl; book = refl; banked = refl; moves = refl } refl refl refl (h.bank.low id v at) (λ i. omega arith)
+        (λ i. omega arith);
+  }
+
+  -- the bank is founded
+  pub founds_bank : (id : ℕ) (v : View) → v.stakes.founds ≡ true → v.stakes.book ≡ γ → Splits (DomainInvariant γ sizes) id v (founded v) (bank_of v)
+  founds_bank id v may book s h at = let t : View = bank_of v in let w : View = founded v in let told = h.records.each id v at in
+      let us : List View = set s.views id w in let p = h.kept.parts.slots in record {
+        kept = kept.cuts sizes id v v.slots.owns v.slots.shares v.slots.drawn [] [] w.stakes t.stakes (λ i. (omega arith, omega arith))
+            (λ i held. (p.each id v at).held i held) s h.kept at;
+        homes = part.arrives γ sizes s.words us s.homes
+            (part.calm γ sizes s.words s.views s.homes h.homes id v at s.words w (λ i p out. out) (λ i _. refl) (h.homes.moving id v at))
+            t (nothing_out t refl refl) (none_out t refl);
+        records = records.arrives sizes us s.homes
+            (records.no_more sizes s.views s.homes h.records id v at w s.homes
+            record { owns = told.owns; owned = told.owned; sees = told.sees; waits = told.waits; waiting = told.waiting }
+            (records.mine sizes s.views s.homes h.records id v at) (λ i p y _ _ l. inl l) (λ i m. m) (λ i a. a))
+            t (telling_none t refl refl refl refl refl refl) (λ i g k. absurd (knows_none t refl refl refl i g k)) refl refl;
+        counts = more_counts sizes s.words us (uncounted_alone sizes s.words s.views h.counts id v at w refl refl) t refl refl refl;
+        filled = filled_more sizes us (filled_same sizes s.views h.filled id v at w refl refl refl (λ live. live))
+            t (tells_none t us refl refl) (λ z. absurd (omega arith));
+        bank = banks.bank_founded γ sizes s.words s.views h.bank id v at may book;
+      }
+
+  -- and come to another
+  pub joins_counts : (id : ℕ) (v : View) (other : ℕ) (d : CountsView)
+      → Joins (DomainInvariant γ sizes) id v other (counts_token d) (counting v (counts_token d)) (owner_token [] [])
+  joins_counts id v other d s h at apart there = let t : View = counts_token d in let t' : View = owner_token [] [] in let w : View = counting v t in
+      let vs : List View = set s.views id w in let c = h.counts in
+      let was : get_elem? s.views other ≡ some t = sym (set_else s.views id other w apart) ∙ there in record {
+        kept = kept.takes_in sizes id v other v.slots.owns v.slots.shares v.slots.drawn [] [] w.stakes t.stakes (λ i.
+            (omega arith, omega arith)) s h.kept at apart there;
+        homes = part.calm γ sizes s.words vs s.homes
+            (part.calm γ sizes s.words s.views s.homes h.homes id v at s.words w (λ i p out. out) (λ i _. refl) (h.homes.moving id v at))
+            other t there s.words t' (λ i p out. absurd (nothing_out t refl refl i p out)) (λ i _. refl) (none_out t' refl);
+        records = records.calm sizes vs s.homes (records.calm sizes s.views s.homes h.records id v at w (
+          refl,
+          refl,
+          refl,
+          (λ _. refl),
+          refl,
+          refl,
+        )) other t there t'
+            (refl, refl, refl, (λ _. refl), refl, refl);
+        counts = record {
+          items = let a = total_set made_by s.views id v w at in let a' = total_set made_by vs other t t' there in
+              let b = total_set gone_by s.views id v w at in let b' = total_set gone_by vs other t t' there in let e = c.items in omega arith;
+          places = let a = total_set over_by s.views id v w at in let a' = total_set over_by vs other t t' there in let e = c.places in omega arith;
+          each = each_set CountsByPlace CountsByPlace vs other t' (λ _ _. (refl, refl))
+              (λ j u _ e. each_set CountsByPlace CountsByPlace s.views id w
+              (λ state over. let mine = c.each id v at state (omega arith) in let theirs = c.each other t was refl (omega arith) in
+              (let a = mine.0 in let b = theirs.0 in omega arith, let a = mine.1 in let b = theirs.1 in omega arith))
+              (λ j u _ e. c.each j u e) j u e);
+        };
+        filled = filled_after sizes vs
+            (filled_same sizes s.views h.filled id v at w refl refl refl (λ live. live))
+            other t there t' refl (tells_none t' vs refl refl) (λ _ live. inl live);
+        bank = banks.joins γ sizes s.words s.views h.bank id v at other t t' w there apart
+            record { bank = refl; founds = refl; book = refl; banked = refl; moves = refl } refl refl refl refl refl refl refl
+            (h.bank.low id v at) (λ i. omega arith);
+      }
+
+  -- a token counts no more places than there are
+  pub few_over : (s : State ValueFraction View) → DomainInvariant γ sizes s → (id : ℕ) (v : View) → get_elem? s.views id ≡ some v → over_by v ≤ sizes.participants
+  few_over s h id v at = let a = total_has over_by s.views id v at in let b = h.counts.places in let c = ended_few s.words sizes.participants in omega arith
+
+  -- all stakes in a slot that is free are at home, and show that it is vacant
+  pub free_at_home : (s : State ValueFraction View) → DomainInvariant γ sizes s → (i p : ℕ) → i < sizes.slots → p ≤ sizes.participants
+      → alive (slot_at sizes s.words i) ≡ 0 → waiting (slot_at sizes s.words i) ≡ 0 → full (slot_at sizes s.words i) ≡ 0
+      → (y : ValueFraction) × LiesAt sizes.participants s.homes i p y × Has γ i (share sizes.participants 0 p) IsVacant y
+  free_at_home s h i p low near dead quiet empty = let n : ℕ = sizes.participants in let b = h.homes.back i p low near (λ j u e out. ⊎_elim
+      (λ (m : Moves u i). still_free γ sizes s h i j u e dead quiet m)
+      (λ (o : SeesFrom u i p). let f = (h.kept.parts.slots.each j u e).full i o.0 in absurd (omega arith)) out) in
+      let has = subst (λ (k : ℕ). Has γ i (share n k p) (IsShown (full_at sizes s.words i)) b.0) (ap (away n) empty) (h.homes.home i p b.0 low near b.1) in
+      (b.0, b.1, (has.0, has.1.1 empty))
+
+  -- once a token knows that all places have ended, nobody has one
+  no_place : (s : State ValueFraction View) → DomainInvariant γ sizes s → (id : ℕ) (v : View) → get_elem? s.views id ≡ some v → sizes.participants ≤ v.places.ended
+      → (j : ℕ) (u : View) → get_elem? s.views j ≡ some u → ¬ (HasPlace u.epoch)
+  no_place s h id v at all j u e z = let f = h.kept.parts.epoch.each j u.epoch (at_map epoch_of s.views j u e) in let is = f.state z in let few = f.states in
+      let in' = f.inside z in let over = h.kept.places.ended id v at u.epoch.place in' (omega arith) in omega arith
+
+  -- and all stakes are at home, and show what their slots' words say
+  pub all_home : (s : State ValueFraction View) → DomainInvariant γ sizes s → (id : ℕ) (v : View) → get_elem? s.views id ≡ some v → sizes.participants ≤ v.places.ended
+      → (i p : ℕ) → i < sizes.slots → p ≤ sizes.participants
+      → (y : ValueFraction) × LiesAt sizes.participants s.homes i p y
+      × Has γ i (share sizes.participants (away sizes.participants (full_at sizes s.words i)) p) (IsShown (full_at sizes s.words i)) y
+  all_home s h id v at all i p low near = let b = h.homes.back i p low near (λ j u e out. no_place s h id v at all j u e (⊎_elim
+      (λ (m : Moves u i). (h.homes.moving j u e i m).0)
+      (λ (o : SeesFrom u i p). let open_guard = (h.kept.parts.slots.each j u e).guarded i o.0 in
+      let live : HasPlace u.epoch = omega arith in live) out)) in
+      (b.0, b.1, h.homes.home i p b.0 low near b.1)
+
+  -- where a token counts all places, what was made has gone, or lies in a slot
+  pub all_counted : (s : State ValueFraction View) → DomainInvariant γ sizes s → (id : ℕ) (v : View) → get_elem? s.views id ≡ some v → sizes.participants ≤ v.places.ended
+      → over_by v ≡ sizes.participants → made_by v ≡ gone_by v + full_slots sizes s.words
+  all_counted s h id v at all over = let c = h.counts in let few = ended_few s.words sizes.participants in let places = c.places in
+      let none : (j : ℕ) (u : View) → j ≢ id → get_elem? s.views j ≡ some u → HasNoCounts u
+      = λ j u ne e. let two = total_two over_by s.views id j v u (λ d. ne (sym d)) at e in
+      c.each j u e (dite (dec_lt 0 u.epoch.state) (λ live. absurd (no_place s h id v at all j u e live)) (λ z. omega arith)) (omega arith) in
+      let made = total_only made_by s.views id v at (λ j u ne e. (none j u ne e).0) in
+      let gone = total_only gone_by s.views id v at (λ j u ne e. (none j u ne e).1) in let items = c.items in omega arith

@@ -1,0 +1,22 @@
+-- The whole rule of a domain's table
+use Rattle.std.specs.Prelude.{ℕ}
+use Rattle.atomic_table.specs.Table.{State}
+use Rattle.sdd_shared_values.specs.declared.value_fraction.ValueFraction.{ValueFraction}
+use Rattle.sdd_views.specs.declared.View.{View}
+use Rattle.sdd_views.specs.declared.Sizes.{Sizes}
+use Rattle.sdd_word_invariant.specs.Parts.{WordInvariant}
+use Rattle.sdd_domain_invariant.specs.FractionsAtHome.{HomesPart}
+use Rattle.sdd_domain_invariant.specs.Records.{RecordsPart}
+use Rattle.sdd_domain_invariant.specs.Counts.{CountsPart}
+use Rattle.sdd_domain_invariant.specs.Fillings.{FilledPart}
+use Rattle.sdd_domain_invariant.specs.Banked.{BankPart}
+
+-- the words and what all participants know, the stakes at home, what is known of what slots show, what was made,
+-- what a lone participant knows of owners, and what the bank has
+pub record DomainInvariant (γ : ℕ) (sizes : Sizes) (s : State ValueFraction View) : Type 0 where
+  pub kept : WordInvariant sizes s
+  pub homes : HomesPart γ sizes s.words s.views s.homes
+  pub records : RecordsPart sizes s.views s.homes
+  pub counts : CountsPart sizes s.words s.views
+  pub filled : FilledPart sizes s.views
+  pub bank : BankPart γ sizes s.words s.views

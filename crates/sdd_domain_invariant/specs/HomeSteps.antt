@@ -1,0 +1,235 @@
+-- What a seat carries, and what each step that takes or gives stakes makes of it
+use Rattle.std.specs.Prelude.{◌≡◌, ◌≢◌, ℕ, zero, suc, ◌+◌, ◌==◌, not, Bool, List, [], ◌∷◌, ◌++◌, drop, slice_index, Some, None}
+use Rattle.std.specs.List.{filter}
+use base.Stored.{Gv}
+use Rattle.atomic_table.specs.Table.{Me}
+use Rattle.sdd_shared_values.specs.ValueFractions.{FractionContent}
+use Rattle.sdd_shared_values.specs.SharedValues.{IsFull, IsVacant, lot}
+use Rattle.sdd_shared_values.specs.declared.value_fraction.ValueFraction.{ValueFraction}
+use Rattle.sdd_views.specs.declared.ShownValue.{ShownValue}
+use Rattle.sdd_views.specs.declared.CountsView.{CountsView}
+use Rattle.sdd_views.specs.declared.View.{View}
+use Rattle.sdd_word_invariant.specs.SlotSteps.{behind, Knew, claimed, discarded, seeing, first, others, parted, joined, Retires, ClosesAll, GivesBack}
+use Rattle.sdd_views.specs.Views.{owner_token, at_rest, no_counts}
+use Rattle.sdd_word_invariant.specs.Steps.{ended}
+use Rattle.sdd_word_invariant.specs.Words.{slot_word}
+use Rattle.sdd_word_invariant.specs.Codes.{alive}
+use Rattle.sdd_word_invariant.specs.Epoch.{IsLone}
+use Rattle.sdd_word_invariant.specs.Slots.{Sees}
+use Rattle.sdd_domain_invariant.specs.FractionsAtHome.{CarriedFractions, stake_at, share, spare, Has}
+use Rattle.sdd_domain_invariant.specs.Records.{IsIn}
+use Rattle.sdd_domain_invariant.specs.Fillings.{newest}
+
+abbrev pub SeatState : Type 0
+SeatState = Me ValueFraction View
+
+-- the first m stakes in the slot i, of which so many units are elsewhere, the last of them taken last, and then the rest
+abbrev pub HasRow : ℕ → ℕ → ℕ → ℕ → (Gv → Type 0) → CarriedFractions → ℕ → CarriedFractions → Type 0
+HasRow γ i n o Is rest zero xs = xs ≡ rest
+HasRow γ i n o Is rest (suc m) [] = ⊥
+HasRow γ i n o Is rest (suc m) (x ∷ xs) = (x.0 ≡ stake_at n i m) × Has γ i (share n o m) Is x.1 × HasRow γ i n o Is rest m xs
+
+-- all stakes in the slot i, and then the rest
+abbrev pub HasAll : ℕ → ℕ → ℕ → ℕ → (Gv → Type 0) → CarriedFractions → CarriedFractions → Type 0
+HasAll γ i n o Is rest xs = HasRow γ i n o Is rest (suc n) xs
+
+-- a value that is shown, and it is this one
+abbrev pub IsValue : Gv → Gv → Type 0
+IsValue value g = IsFull g × (g ≡ value)
+
+-- the stakes of the place q in the slots of these records, in this order, each of which shows what its record says
+abbrev pub Purse : ℕ → ℕ → ℕ → List ShownValue → CarriedFractions → Type 0
+Purse γ n q [] [] = Unit {0}
+Purse γ n q [] (x ∷ xs) = ⊥
+Purse γ n q (r ∷ records) [] = ⊥
+Purse γ n q (r ∷ records) (x ∷ xs) = (x.0 ≡ stake_at n r.slot q) × Has γ r.slot 1 (IsValue r.value) x.1 × Purse γ n q records xs
+
+-- it moves the value of the slot from now on
+abbrev pub moving : ℕ → View → View
+moving slot v = record v { stakes = record v.stakes { moves = Some slot } }
+
+-- it moves none
+abbrev pub resting : View → View
+resting v = record v { stakes = record v.stakes { moves = None } }
+
+-- it made an item more
+abbrev pub with_made : View → View
+with_made v = record v { stakes = record v.stakes { counts = record v.stakes.counts { made = v.stakes.counts.made + 1 } } }
+
+-- it gave one more back
+abbrev pub with_gone : View → View
+with_gone v = record v { stakes = record v.stakes { counts = record v.stakes.counts { gone = v.stakes.counts.gone + 1 } } }
+
+-- it claims a slot, for an item that it makes
+abbrev pub making : ℕ → ℕ → View → View
+making slot y v = with_made (moving slot (claimed slot y v))
+
+-- it gives one back, and moves no value any more
+abbrev pub giving : View → View
+giving v = with_gone (resting v)
+
+-- its place has ended, and is counted
+abbrev pub leaving : View → View
+leaving v = record v {
+  epoch = ended v.epoch;
+  stakes = record v.stakes { counts = record v.stakes.counts { over = v.stakes.counts.over + 1 } };
+}
+
+-- it moved a value into a slot of its own, and knows what the slot shows; its owner may be one of several
+abbrev pub telling : ℕ → Bool → Gv → View → View
+telling slot shared value v = record v {
+  stakes = record v.stakes {
+    owns = record { slot = slot; shared = shared; value = value } ∷ v.stakes.owns;
+    filled = record { slot = slot; shared = shared; value = value } ∷ v.stakes.filled;
+  };
+}
+
+-- its owner of the slot has its unit
+abbrev pub drawing : ℕ → View → View
+drawing slot v = record v { slots = record v.slots { drawn = slot ∷ v.slots.drawn } }
+
+-- the unit of the owner that drew last is in the bank again
+abbrev pub undrawing : View → View
+undrawing v = record v { slots = record v.slots { drawn = others v.slots.drawn } }
+
+-- it knows of no slot of its own any more
+abbrev pub untold : View → View
+untold v = record v { stakes = record v.stakes { owns = [] } }
+
+-- what it knew of its own slots it knows of items that wait with it
+abbrev pub remembering : View → View
+remembering v = record v { stakes = record v.stakes { owns = []; waits = v.stakes.owns ++ v.stakes.waits } }
+
+-- the records of other slots
+abbrev pub without_record : ℕ → List ShownValue → List ShownValue
+without_record slot = filter (λ (r : ShownValue). not (r.slot == slot))
+
+-- it knows no more what an item of this slot shows that waits with it
+abbrev pub forgetting : ℕ → View → View
+forgetting slot v = record v { stakes = record v.stakes { waits = without_record slot v.stakes.waits } }
+
+-- a guard sees a slot, and what it shows
+abbrev pub sighting : ℕ → Bool → Gv → View → View
+sighting slot shared value v = record (seeing slot v) {
+  stakes = record v.stakes { sees = record { slot = slot; shared = shared; value = value } ∷ v.stakes.sees };
+}
+
+-- nothing is seen any more
+abbrev pub unsighted : View → View
+unsighted v = record v { stakes = record v.stakes { sees = [] } }
+
+-- the only owner that it has goes, to a token of its own, with what is known of it
+abbrev pub parting : View → View
+parting v = untold (parted v)
+
+abbrev pub departing : View → View
+departing v = record (owner_token (first v.slots.owns) []) { stakes = record (at_rest 0) { owns = v.stakes.owns } }
+
+-- the owners that another token knows come, with what it knows of them
+abbrev pub regained : View → View → View
+regained v w = record (joined v w) { stakes = record v.stakes { owns = w.stakes.owns ++ v.stakes.owns } }
+
+-- what the participant knew of stakes and how many there are of each place
+abbrev pub book_of : SeatState → ℕ
+book_of me = me.0.stakes.book
+
+abbrev pub places_of : SeatState → ℕ
+places_of me = me.0.sizes.participants
+
+-- each of these: the seat before, the number found (at a store the number stored), and the seat after
+-- the claim of a slot whose word is old as long as it is free: then all stakes in it are out, and show that it is vacant
+abbrev pub ClaimsAll : ℕ → ℕ → ℕ → SeatState → ℕ → SeatState → Type 0
+ClaimsAll slot old y me x me' =
+    (x ≡ old → (me'.0 ≡ making slot y me.0) × HasAll (book_of me) slot (places_of me) 0 IsVacant me.1 me'.1)
+    × (x ≢ old → me' ≡ me) × Knew slot me.0 x
+
+-- the value of an owned slot was moved in, and all stakes in it, which show it, go home with a unit each; the owner has its unit, and the bank the rest
+abbrev pub Houses : ℕ → Bool → Gv → SeatState → SeatState → Type 0
+Houses slot shared value me me' = (me'.0 ≡ resting (telling slot shared value (drawing slot me.0))) × (me'.1 ≡ drop (suc (places_of me)) me.1)
+
+-- its owner's unit goes to the bank
+abbrev pub EntersUnit : SeatState → SeatState → Type 0
+EntersUnit me me' = (me'.0 ≡ undrawing me.0) × (me'.1 ≡ me.1)
+
+-- of what it moved into the slot the newest is this
+abbrev pub IsNewest : ℕ → Bool → Gv → View → Type 0
+IsNewest slot shared value v = newest slot v.stakes.filled ≡ Some (record { slot = slot; shared = shared; value = value })
+
+-- the value of an item that nobody sees is to be moved out, so that all stakes in it are out: they show what was remembered of it, which is forgotten
+-- then; and a lone participant moved this into the slot last
+pub record TakesOut (slot : ℕ) (me me' : SeatState) : Type 0 where
+  pub value : Gv
+  pub view : me'.0 ≡ moving slot (forgetting slot me.0)
+  pub stakes : HasAll (book_of me) slot (places_of me) (spare (places_of me)) (IsValue value) me.1 me'.1
+  pub remembered : IsIn me.0.stakes.waits slot value
+  pub filled : IsLone me.0.epoch → (shared : Bool) × IsNewest slot shared value me.0
+
+-- the same of an item whose slot is held: its owner knows no more what it shows
+abbrev pub TakesHeld : ℕ → SeatState → SeatState → Type 0
+TakesHeld slot me me' = (me'.0 ≡ moving slot (untold me.0)) × HasAll (book_of me) slot (places_of me) (spare (places_of me)) IsFull me.1 me'.1
+
+-- the lot is all that the bank had of the slot
+abbrev pub IsDeposit : ℕ → SeatState → FractionContent → Type 0
+IsDeposit slot me l = l ≡ lot (book_of me) slot l.round l.shown (spare (places_of me))
+
+-- an owned item waits from now on, and what its owner knew is remembered
+abbrev pub RetiresOne : ℕ → SeatState → ℕ → SeatState → Type 0
+RetiresOne slot me y me' = (v : View) × Retires slot me.0 y v × (me'.0 ≡ remembering v) × (me'.1 ≡ me.1)
+
+-- it was moved out: the slot is free, and all stakes in it go home
+abbrev pub GivesAll : ℕ → SeatState → ℕ → SeatState → Type 0
+GivesAll slot me y me' = (v : View) × GivesBack slot me.0 y v × (me'.0 ≡ giving v) × (me'.1 ≡ drop (suc (places_of me)) me.1)
+
+-- the item of a slot that was held has gone at once: the slot is free, and all stakes in it go home
+abbrev pub DiscardsAll : ℕ → SeatState → ℕ → SeatState → Type 0
+DiscardsAll slot me y me' = (me'.0 ≡ giving (discarded slot y me.0)) × (me'.1 ≡ drop (suc (places_of me)) me.1)
+
+-- a guard sees a slot beside its owner, who knows what it shows: it has the stake of its place out, if it didn't before
+abbrev pub Watches : ℕ → Bool → Gv → SeatState → SeatState → Type 0
+Watches slot shared value me me' = (Sees me.0 slot → (me' ≡ me) × IsIn me.0.stakes.sees slot value)
+    × (¬ (Sees me.0 slot) → (y : ValueFraction) × Has (book_of me) slot 1 (IsValue value) y
+    × (me' ≡ (sighting slot shared value me.0, (stake_at (places_of me) slot me.0.epoch.place, y) ∷ me.1)))
+
+-- what the token of a slot's owner tells is what this one moved into the slot last, and by the words that it knows the slot has an owner
+pub record IsRecalled (slot : ℕ) (shared : Bool) (value : Gv) (v : View) : Type 0 where
+  pub newest : IsNewest slot shared value v
+  pub alive : alive (slice_index v.words (behind v.sizes slot)) ≡ 1
+
+-- beside a slot's owner a lone participant learns what it knows of the slot, and nothing changes
+abbrev pub Recalls : ℕ → Bool → Gv → SeatState → SeatState → Type 0
+Recalls slot shared value me me' = (me' ≡ me) × (IsLone me.0.epoch → IsRecalled slot shared value me.0)
+
+-- the last guard is closed: all that it had goes home
+abbrev pub ClosesHome : SeatState → ℕ → SeatState → Type 0
+ClosesHome me x me' = (v : View) × ClosesAll me.0 x v × (me'.0 ≡ unsighted v) × (me'.1 ≡ [])
+
+-- its place ends
+abbrev pub EndsAll : View → ℕ → View → Type 0
+EndsAll v x w = w ≡ leaving v
+
+-- the counts go to a token of their own, once the place has ended
+abbrev pub uncounting : View → View
+uncounting v = record v { stakes = record v.stakes { counts = no_counts } }
+
+abbrev pub counts_token : CountsView → View
+counts_token c = record (owner_token [] []) { stakes = record (at_rest 0) { counts = c } }
+
+abbrev pub counts_of : View → View
+counts_of v = counts_token v.stakes.counts
+
+-- the counts of another token come
+abbrev pub counts_added : CountsView → CountsView → CountsView
+counts_added a b = record {
+  made = a.made + b.made;
+  gone = a.gone + b.gone;
+  in_place = a.in_place + b.in_place;
+  over = a.over + b.over;
+  registered = a.registered + b.registered;
+}
+
+abbrev pub counting : View → View → View
+counting v w = record v { stakes = record v.stakes { counts = counts_added v.stakes.counts w.stakes.counts } }
+
+-- a step on the word i tells R of the slot whose word it is
+abbrev pub OfSlot : (ℕ → SeatState → ℕ → SeatState → Type 0) → ℕ → SeatState → ℕ → SeatState → Type 0
+OfSlot R i me x me' = (slot : ℕ) → i ≡ slot_word me.0.sizes slot → R slot me x me'

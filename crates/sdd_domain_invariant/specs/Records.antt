@@ -1,0 +1,42 @@
+-- What is known of what slots show: by a token of its owner, once the value was moved in, by who sees it under a guard, and by whom its item waits with
+use Rattle.std.specs.Prelude.{◌≡◌, ◌⊎◌, ℕ, ◌<◌, ◌≤◌, List, map}
+use mathlib.Core.Option.{some}
+use lib.ListN.{get_elem?}
+use base.Stored.{Gv}
+use Rattle.sdd_views.specs.declared.ShownValue.{ShownValue}
+use Rattle.sdd_views.specs.declared.View.{View}
+use Rattle.sdd_views.specs.declared.Sizes.{Sizes}
+use Rattle.sdd_word_invariant.specs.Slots.{items_at, OwnsAlone, Sees}
+use Rattle.sdd_shared_values.specs.declared.value_fraction.ValueFraction.{ValueFraction}
+use Rattle.sdd_domain_invariant.specs.FractionsAtHome.{FractionsAtHome, LiesAt, Moves}
+
+abbrev pub slot_shown : ShownValue → ℕ
+slot_shown r = r.slot
+
+-- one of these records says that the slot i shows g
+abbrev pub IsIn : List ShownValue → ℕ → Gv → Type 0
+IsIn rs i g = (k : ℕ) × (r : ShownValue) × (get_elem? rs k ≡ some r) × (r.slot ≡ i) × (r.value ≡ g)
+
+abbrev pub KnowsShown : View → ℕ → Gv → Type 0
+KnowsShown v i g = IsIn v.stakes.owns i g ⊎ (IsIn v.stakes.sees i g ⊎ IsIn v.stakes.waits i g)
+
+-- somebody knows it
+abbrev pub IsKnown : List View → ℕ → Gv → Type 0
+IsKnown vs i g = (j : ℕ) × (v : View) × (get_elem? vs j ≡ some v) × KnowsShown v i g
+
+-- it has a record of each slot whose only owner it has, and of each whose item waits with it, but of one whose value it moves; and one for each time
+-- that it sees a slot; and no others
+pub record IsTelling (v : View) : Type 0 where
+  pub owns : (i : ℕ) (g : Gv) → IsIn v.stakes.owns i g → OwnsAlone v i × ¬ (Moves v i)
+  pub owned : (i : ℕ) → OwnsAlone v i → ¬ (Moves v i) → (g : Gv) × IsIn v.stakes.owns i g
+  pub sees : map slot_shown v.stakes.sees ≡ v.slots.sees
+  pub waits : (i : ℕ) (g : Gv) → IsIn v.stakes.waits i g → (0 < items_at i v) × ¬ (Moves v i)
+  pub waiting : (i : ℕ) → 0 < items_at i v → ¬ (Moves v i) → (g : Gv) × IsIn v.stakes.waits i g
+
+-- all that is known of a slot is one value, which the stakes at home show; and nobody sees a slot whose value is moved
+pub record RecordsPart (sizes : Sizes) (vs : List View) (hs : FractionsAtHome) : Type 0 where
+  pub each : (j : ℕ) (v : View) → get_elem? vs j ≡ some v → IsTelling v
+  pub agree : (i : ℕ) (g h : Gv) → IsKnown vs i g → IsKnown vs i h → g ≡ h
+  pub home : (i p : ℕ) (g : Gv) (y : ValueFraction) → i < sizes.slots → p ≤ sizes.participants → IsKnown vs i g → LiesAt sizes.participants hs i p y
+      → y.lot.shown ≡ g
+  pub apart : (j k : ℕ) (v w : View) (i : ℕ) → get_elem? vs j ≡ some v → get_elem? vs k ≡ some w → Moves v i → ¬ (Sees w i)

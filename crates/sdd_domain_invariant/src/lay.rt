@@ -1,0 +1,45 @@
+//! The stakes in the places of a new shelf, dealt to their homes.
+ghost use Rattle.std.specs.Prelude.{◌≡◌, ◌+◌, ◌<◌, ◌≤◌, [], vec_len, vec_capacity};
+ghost use Rattle.sdd_shared_values.specs.SharedValues.{most, IsWhole, IsVacant, AreVacant};
+ghost use Rattle.sdd_domain_invariant.specs.FractionsAtHome.{stake_at, homes_for, none_away, all_vacant, AreLaidTo, AreLaid};
+
+use sdd_shared_values::{ValueFraction, FractionList, ValuesName};
+
+/// Deals the stakes in one slot: one unit for each place, and the rest.
+fn lay_slot(laid: &mut Vec<ValueFraction>, whole: ValueFraction, slot: u32, participants: u32)
+    requires laid { AreLaidTo whole.lot.book participants (stake_at participants slot 0) none_away all_vacant laid.old.items }
+    requires room { vec_len laid.old + participants < vec_capacity laid.old }
+    requires few { participants < most }
+    requires whole { IsWhole whole.lot.book slot whole.lot }
+    requires vacant { IsVacant whole.lot.shown }
+    ensures laid { AreLaidTo whole.lot.book participants (stake_at participants (slot + 1) 0) none_away all_vacant laid.new.items }
+    ensures capacity { vec_capacity laid.new ≡ vec_capacity laid.old }
+{
+    let _ = slot;
+    let mut rest = whole;
+    for _place in 0..participants {
+        laid.push_reserved(rest.split(1));
+    }
+    laid.push_reserved(rest);
+}
+
+/// Deals all stakes of a new shelf to the homes of so many slots. No memory is taken.
+pub fn lay_all(
+    laid: &mut Vec<ValueFraction>,
+    mut stock: FractionList,
+    title: &ValuesName,
+    participants: u32,
+    slots: u32,
+)
+    requires empty { laid.old.items ≡ [] }
+    requires room { homes_for participants slots ≤ vec_capacity laid.old }
+    requires few { participants < most }
+    requires stock { AreVacant title.now.book 0 slots stock.lots }
+    ensures { AreLaid title.now.book participants slots laid.new.items }
+{
+    let _ = title;
+    for slot in 0..slots {
+        lay_slot(laid, stock.issue(), slot, participants);
+    }
+    stock.discard();
+}

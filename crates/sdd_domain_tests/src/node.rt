@@ -1,0 +1,21 @@
+//! A value that may hold an owner.
+ghost use Rattle.sdd_domain_tests.specs.Held.{holdings_of};
+
+use sdd_space::{Giver, Item, Owned};
+
+/// A number, and before it the owner of another one, if there is one.
+pub enum Node {
+    Last(u64),
+    Before(u64, Owned<Node>),
+}
+
+impl Item<Node> for Node {
+    ghost holds = { holdings_of };
+
+    fn give_up<G: Giver<Node>>(self, giver: &mut G) {
+        match self {
+            Node::Last(_) => {}
+            Node::Before(_, next) => giver.owned(next),
+        }
+    }
+}

@@ -1,7 +1,0 @@
-use Rattle.sdd_inside.proofs.inside.Core.destroy.Goals as goal
-
-pub destroy-requires : goal.destroy-requires
-destroy-requires g c = (rw (← c.self.view_is) at c.requires).0
-
-pub destroy-requires-2 : goal.destroy-requires-2
-destroy-requires-2 g c = (rw (← c.self.view_is) at c.requires).1

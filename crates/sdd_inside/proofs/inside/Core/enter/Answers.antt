@@ -1,7 +1,0 @@
-use Rattle.sdd_base.proofs.Housed.{Whole-changes_nested}
-use Rattle.sdd_inside.proofs.inside.Core.enter.Goals as goal
-
-pub returns-then-open-clause-whole : goal.returns-then-open-clause-whole
-returns-then-open-clause-whole g c =
-    rw (c.change.ensures.changed, c.open.ensures.opened, ← c.self.view_is)
-    (λ i. Whole-changes_nested g.T.Item.holds _ c.args.place (rw (← c.self.view_is) at c.requires.place) i)

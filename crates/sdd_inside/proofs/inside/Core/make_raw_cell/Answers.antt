@@ -1,6 +1,0 @@
-use Rattle.std.proofs.Common.{refl}
-use Rattle.sdd_inside.proofs.Lending.{lent-cells}
-use Rattle.sdd_inside.proofs.inside.Core.make_raw_cell.Goals as goal
-
-pub returns-clause-lent : goal.returns-clause-lent
-returns-clause-lent g c = rw (← c.self.view_is) (λ _ k. lent-cells _ _ _ _ _ refl k)

@@ -1,3 +1,0 @@
-pub mod Core
-pub mod Lending
-pub mod Closing

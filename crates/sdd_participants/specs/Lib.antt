@@ -1,0 +1,9 @@
+pub mod Waiting
+pub mod Bags
+pub mod PlaceStates
+pub mod EpochState
+pub mod Tally
+pub mod Slab
+pub mod Renaming
+pub mod Jobs
+pub mod Collecting

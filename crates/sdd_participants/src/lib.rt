@@ -1,0 +1,20 @@
+//! What a world keeps by number, without values: its epoch and participants, tables of slots and cells, the tally.
+#![tactic(auto)]
+
+pub mod bags;
+pub mod jobs;
+pub mod place_states;
+pub mod standing;
+pub mod slab;
+pub mod tally;
+pub mod epoch_state;
+pub mod waiting;
+
+pub use bags::Bags;
+pub use jobs::{Deferred, Idle, Job, Jobs};
+pub use place_states::{PlaceState, PlaceStates};
+pub use standing::{CellContents, RawCellContents, Standing, StandingLookup};
+pub use slab::Slab;
+pub use tally::Tally;
+pub use epoch_state::{CountdownState, Participant, EpochState};
+pub use waiting::LimboEntry;

@@ -1,5 +1,0 @@
-use Rattle.sdd_places.proofs.Stakes.{are-settled}
-use Rattle.sdd_places.proofs.places.Places.settle.Goals as goal
-
-pub invariant_of-self : goal.invariant_of-self
-invariant_of-self g c = rw (c.settle.ensures.values, c.settle.ensures.stakes) (are-settled _ _ _ c.self.invariant c.args.reader)

@@ -1,7 +1,0 @@
--- Nobody owns a sight, so it may go anywhere.
-use denote.RattleType.{RattleType}
-use denote.Param.Send.{IsSend, IsSync}
-use Rattle.sdd_places.specs.contracts.sight.Sight.{the_row}
-
-pub send : (T : RattleType) → IsSync T → IsSend (the_row T)
-send T y = record { owned = λ d vs. ((λ _. tt), tt); leaving = λ k d vs. tt }

@@ -1,5 +1,0 @@
-use denote.Param.Send.{IsSync}
-use Rattle.sdd_places.specs.contracts.tenure.Ended.{the_row}
-
-pub sync : IsSync the_row
-sync = record { shared = λ d b o κ. ((((tt, (λ q. tt)), tt), (λ q. tt)), tt) }

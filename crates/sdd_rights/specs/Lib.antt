@@ -1,0 +1,8 @@
+pub mod Units
+pub mod Example
+pub mod ReadFraction
+pub mod StandingKind
+pub mod Owner
+pub mod Right
+pub mod RightsAuthority
+pub mod SharedRights

@@ -1,0 +1,388 @@
+ghost use Rattle.std.specs.Prelude.{◌≡◌, ◌≢◌, ◌<◌, ◌≤◌, [], true, false};
+ghost use Rattle.sdd_rights.specs.declared.right.StandingKind.{StandingKind};
+ghost use Rattle.sdd_rights.specs.StandingKind.{right_units, is_shared, IsOwner};
+ghost use Rattle.sdd_views.specs.declared.CellKind.{CellKind};
+ghost use Rattle.sdd_rights.specs.Owner.{witness_of_owner, witness_of_cell, is_cell, cell_kind, codes-prop};
+
+use crate::read_fraction::ReadFraction;
+use crate::fraction::{GhostKeys, Fraction, WHOLE};
+use sdd_witness::Witness;
+
+/// How a number of slots or cells stands, as all its units agree.
+#[derive(Clone, Copy, Debug, PartialEq, Eq)]
+pub enum StandingKind {
+    /// Nothing is there.
+    Free,
+    /// One owner has a right to it.
+    Owned,
+    /// It is out as raw, with nobody's right.
+    Raw,
+    /// Several owners have a unit each.
+    Shared,
+    /// It waits to be reclaimed.
+    Retired,
+}
+
+impl StandingKind {
+    /// How many units an owner has.
+    pub(crate) fn units(self) -> u64
+        ensures { result ≡ right_units self }
+    {
+        match self {
+            StandingKind::Owned => WHOLE - 1,
+            StandingKind::Free | StandingKind::Raw | StandingKind::Shared | StandingKind::Retired => 1,
+        }
+    }
+}
+
+/// The right of an owner to a number: all its units but the one that its space keeps, where nobody else may be an owner, and a single one else.
+///
+/// In a domain there is no book of the slots or cells, and its part, of a book of its own, says the kind, and whether it is to a slot or a cell. The
+/// witness of a right to a slot is the token of the slot's owner, and its grip is of the slot's number and shows what the token does; that of a right to
+/// a cell is the cell's token.
+///
+/// It can be neither copied nor let go of by chance: it is redeemed where it was granted.
+pub struct Right {
+    pub(crate) number: u32,
+    pub(crate) part: Fraction<StandingKind>,
+    pub(crate) witness: Witness,
+    pub(crate) grip: ReadFraction,
+    pub ghost named: { witness.views ≡ [] → part.number ≡ number },
+    pub ghost inside: { number < part.home.size },
+    pub ghost owner: { IsOwner part.kind },
+    pub ghost due: { witness.views ≡ [] → part.units ≡ right_units part.kind },
+    pub ghost books: { part.home.tables ≡ [] },
+    pub ghost placed: { witness.views ≢ [] → is_cell part.number ≡ false → grip.number ≡ number },
+    pub ghost owns: { witness.views ≢ [] × (is_cell part.number ≡ false) → witness.views ≡ witness_of_owner number (is_shared part.kind) grip.shown } by { codes-prop },
+    pub ghost reaches: { witness.views ≢ [] × (is_cell part.number ≡ true) → witness.views ≡ witness_of_cell number (cell_kind (is_shared part.kind)) } by { codes-prop },
+}
+
+const _: () = prove!(size_of::<Right>() == 4);
+
+impl Right {
+    ghost use Rattle.sdd_rights.specs.Right.{number_of, home_of, kind_of, home_of_table, cells_of_table, AreSlotsOfTable, AreCellsOfTable, witness_of, grip_of, IsOwnerBy, IsCellBy};
+
+    /// The number that the right is to.
+    pub fn number(&self) -> u32
+        ensures { result ≡ number_of self.now }
+    {
+        self.number
+    }
+
+    /// The right to a slot of a domain, by the token of its owner and a unit of the number of the slot's place. The domain has so many slots.
+    pub fn of_witness(number: u32, size: usize, kind: StandingKind, witness: Witness, grip: ReadFraction) -> Right
+        requires owner { witness.views ≡ witness_of_owner number (is_shared kind) grip.shown }
+        requires place { grip.number ≡ number }
+        requires inside { number < size }
+        requires kind { IsOwner kind }
+        ensures number { number_of result ≡ number }
+        ensures home { home_of result ≡ home_of_table witness.table_id grip.book size }
+        ensures kind { kind_of result ≡ kind }
+        ensures witness { witness_of result ≡ witness }
+        ensures grip { grip_of result ≡ grip }
+    {
+        let mut book = GhostKeys::new(size);
+        let part = book.issue(&kind);
+        Right {
+            number,
+            part,
+            witness,
+            grip,
+        }
+    }
+
+    /// The right to a cell of a domain, by its token. The domain has so many cells.
+    pub fn of_cell(number: u32, size: usize, kind: StandingKind, witness: Witness) -> Right
+        requires cell { witness.views ≡ witness_of_cell number (cell_kind (is_shared kind)) }
+        requires inside { number < size }
+        requires kind { IsOwner kind }
+        ensures number { number_of result ≡ number }
+        ensures home { home_of result ≡ cells_of_table witness.table_id size }
+        ensures kind { kind_of result ≡ kind }
+        ensures witness { witness_of result ≡ witness }
+    {
+        let mut book = GhostKeys::new(size);
+        let _ = book.issue(&kind);
+        let part = book.issue(&kind);
+        Right {
+            number,
+            part,
+            witness,
+            grip: ReadFraction::blank(),
+        }
+    }
+
+    /// The right that has this unit of a number of a book, which several may own.
+    fn of_part(number: u32, part: Fraction<StandingKind>) -> Right
+        requires named { part.number ≡ number }
+        requires inside { number < part.home.size }
+        requires kind { part.kind ≡ StandingKind.Shared }
+        requires single { part.units ≡ 1 }
+        requires books { part.home.tables ≡ [] }
+        ensures number { number_of result ≡ number }
+        ensures home { home_of result ≡ part.home }
+        ensures kind { kind_of result ≡ StandingKind.Shared }
+    {
+        Right {
+            number,
+            part,
+            witness: Witness::blank(),
+            grip: ReadFraction::blank(),
+        }
+    }
+
+    /// Lets go of the right for ever: nobody has it again, nor redeems it.
+    pub fn forget(self) {
+        let (_owner, grip) = self.into_owner();
+        grip.discard();
+    }
+
+    /// The token of the owner of the slot, and the unit of the number of its place, in a domain; of a right to a cell the cell's token, and a blank unit;
+    /// blank ones else.
+    pub fn into_owner(self) -> (Witness, ReadFraction)
+        ensures witness { result.0 ≡ witness_of self }
+        ensures grip { result.1 ≡ grip_of self }
+        ensures owner { AreSlotsOfTable (home_of self) → IsOwnerBy (home_of self) (number_of self) (is_shared (kind_of self)) result.0 result.1 }
+        ensures cell { AreCellsOfTable (home_of self) → IsCellBy (home_of self) (number_of self) (cell_kind (is_shared (kind_of self))) result.0 }
+    {
+        let Right {
+            number: _,
+            part: _,
+            witness,
+            grip,
+        } = self;
+        (witness, grip)
+    }
+
+    /// The token of the owner of the slot, or of the right to the cell, in a domain; a blank one else.
+    pub fn witness(&self) -> &Witness
+        ensures witness { result.now ≡ witness_of self.now }
+        ensures owner { AreSlotsOfTable (home_of self.now) →
+            IsOwnerBy (home_of self.now) (number_of self.now) (is_shared (kind_of self.now)) result.now (grip_of self.now) }
+        ensures cell { AreCellsOfTable (home_of self.now) →
+            IsCellBy (home_of self.now) (number_of self.now) (cell_kind (is_shared (kind_of self.now))) result.now }
+    {
+        &self.witness
+    }
+
+    /// The unit of the number of the slot's place, in a domain; a blank one else.
+    pub fn grip(&self) -> &ReadFraction
+        ensures grip { result.now ≡ grip_of self.now }
+        ensures owner { AreSlotsOfTable (home_of self.now) →
+            IsOwnerBy (home_of self.now) (number_of self.now) (is_shared (kind_of self.now)) (witness_of self.now) result.now }
+    {
+        &self.grip
+    }
+}
+
+/// The right of the one owner of a number.
+pub struct UniqueRight {
+    pub right: Right,
+    pub ghost kind: { right.part.kind ≡ StandingKind.Owned },
+}
+
+const _: () = prove!(size_of::<UniqueRight>() == 4);
+
+impl UniqueRight {
+    ghost use Rattle.sdd_rights.specs.Right.{kind_of};
+
+    pub fn of(right: Right) -> UniqueRight
+        requires { kind_of right ≡ StandingKind.Owned }
+        ensures { result.right ≡ right }
+    {
+        UniqueRight { right }
+    }
+
+    pub fn into_right(self) -> Right
+        ensures right { result ≡ self.right }
+        ensures kind { kind_of result ≡ StandingKind.Owned }
+    {
+        let UniqueRight { right } = self;
+        right
+    }
+
+    pub fn right(&self) -> &Right
+        ensures right { result.now ≡ self.now.right }
+        ensures kind { kind_of result.now ≡ StandingKind.Owned }
+    {
+        &self.right
+    }
+}
+
+/// The right of one owner of a number that others may own too.
+pub struct SharedRight {
+    pub right: Right,
+    pub ghost kind: { right.part.kind ≡ StandingKind.Shared },
+}
+
+const _: () = prove!(size_of::<SharedRight>() == 4);
+
+impl SharedRight {
+    ghost use Rattle.sdd_rights.specs.Right.{kind_of};
+
+    pub fn of(right: Right) -> SharedRight
+        requires { kind_of right ≡ StandingKind.Shared }
+        ensures { result.right ≡ right }
+    {
+        SharedRight { right }
+    }
+
+    pub fn into_right(self) -> Right
+        ensures right { result ≡ self.right }
+        ensures kind { kind_of result ≡ StandingKind.Shared }
+    {
+        let SharedRight { right } = self;
+        right
+    }
+
+    pub fn right(&self) -> &Right
+        ensures right { result.now ≡ self.now.right }
+        ensures kind { kind_of result.now ≡ StandingKind.Shared }
+    {
+        &self.right
+    }
+}
+
+/// The rights of several owners of a number, in one piece.
+///
+/// It can't be copied, but be redeemed where it was granted, or let go of for ever.
+pub struct SharedRights {
+    pub(crate) number: u32,
+    pub(crate) count: u64,
+    pub(crate) part: Fraction<StandingKind>,
+    pub ghost named: { part.number ≡ number },
+    pub ghost inside: { number < part.home.size },
+    pub ghost kind: { part.kind ≡ StandingKind.Shared },
+    pub ghost some: { 1 ≤ count },
+    pub ghost due: { part.units ≡ count },
+    pub ghost books: { part.home.tables ≡ [] },
+}
+
+impl SharedRights {
+    ghost use Rattle.std.specs.Prelude.{◌+◌, IfSome, MatchOption};
+    ghost use Rattle.sdd_rights.specs.SharedRights.{number_of, home_of, count_of};
+    ghost use Rattle.sdd_rights.specs.Right as right;
+
+    /// The right of one of the owners, and those of the others, if there are more.
+    pub fn split_off(self) -> (Right, Option<SharedRights>)
+        ensures right_home { right.home_of result.0 ≡ home_of self }
+        ensures right_number { right.number_of result.0 ≡ number_of self }
+        ensures right_kind { right.kind_of result.0 ≡ StandingKind.Shared }
+        ensures others { IfSome result.1 (λ rest. (home_of rest ≡ home_of self) × (number_of rest ≡ number_of self)) }
+        ensures count { MatchOption result.1 (count_of self ≡ 1) (λ rest. count_of rest + 1 ≡ count_of self) }
+    {
+        let SharedRights {
+            number,
+            count,
+            mut part,
+        } = self;
+        if count == 1 {
+            return (Right::of_part(number, part), None);
+        }
+        let one = part.split(1);
+        let rest = SharedRights {
+            number,
+            count: count - 1,
+            part,
+        };
+        (Right::of_part(number, one), Some(rest))
+    }
+
+    /// The number that the rights are to.
+    pub fn number(&self) -> u32
+        ensures { result ≡ number_of self.now }
+    {
+        self.number
+    }
+
+    /// How many owners' rights there are.
+    pub fn count(&self) -> u64
+        ensures { result ≡ count_of self.now }
+    {
+        self.count
+    }
+}
+
+/// A right to a number that is out as raw: a cell of raw pointers has one. There is no owner of such a number.
+///
+/// In a domain its witness is the cell's token, and its part is of a book of its own.
+///
+/// It can't be copied, but be redeemed where it was granted, or let go of for ever.
+pub struct RawRight {
+    pub(crate) number: u32,
+    pub(crate) part: Fraction<StandingKind>,
+    pub(crate) witness: Witness,
+    pub ghost named: { witness.views ≡ [] → part.number ≡ number },
+    pub ghost inside: { number < part.home.size },
+    pub ghost kind: { part.kind ≡ StandingKind.Raw },
+    pub ghost due: { witness.views ≡ [] → part.units ≡ right_units part.kind },
+    pub ghost books: { part.home.tables ≡ [] },
+    pub ghost reaches: { witness.views ≢ [] → witness.views ≡ witness_of_cell number CellKind.Raw } by { codes-prop },
+}
+
+const _: () = prove!(size_of::<RawRight>() == 4);
+
+impl RawRight {
+    ghost use Rattle.sdd_rights.specs.Right.{raw_number_of, raw_home_of, raw_witness_of, cells_of_table, AreCellsOfTable, IsCellBy};
+
+    /// The right to a cell of raw pointers of a domain, by its token. The domain has so many cells.
+    pub fn of_cell(number: u32, size: usize, witness: Witness) -> RawRight
+        requires cell { witness.views ≡ witness_of_cell number CellKind.Raw }
+        requires inside { number < size }
+        ensures number { raw_number_of result ≡ number }
+        ensures home { raw_home_of result ≡ cells_of_table witness.table_id size }
+        ensures witness { raw_witness_of result ≡ witness }
+    {
+        let mut book = GhostKeys::new(size);
+        RawRight {
+            number,
+            part: book.issue(&StandingKind::Raw),
+            witness,
+        }
+    }
+
+    /// The cell's token, in a domain; a blank one else.
+    pub fn witness(&self) -> &Witness
+        ensures witness { result.now ≡ raw_witness_of self.now }
+        ensures cell { AreCellsOfTable (raw_home_of self.now) → IsCellBy (raw_home_of self.now) (raw_number_of self.now) CellKind.Raw result.now }
+    {
+        &self.witness
+    }
+
+    /// The same, of a right that is spent by that.
+    pub fn into_witness(self) -> Witness
+        ensures witness { result ≡ raw_witness_of self }
+        ensures cell { AreCellsOfTable (raw_home_of self) → IsCellBy (raw_home_of self) (raw_number_of self) CellKind.Raw result }
+    {
+        let RawRight {
+            number: _,
+            part: _,
+            witness,
+        } = self;
+        witness
+    }
+
+    /// Lets go of the right for ever: nobody has it again, nor redeems it.
+    pub fn forget(self) {
+        let RawRight {
+            number: _,
+            part: _,
+            witness: _,
+        } = self;
+    }
+
+    /// The number that the right is to.
+    pub fn number(&self) -> u32
+        ensures { result ≡ raw_number_of self.now }
+    {
+        self.number
+    }
+}
+
+/// Whose numbers are meant: it names a home, and is a right to none of its numbers.
+#[derive(Drop)]
+pub struct NameWitness {
+    pub(crate) part: Fraction<StandingKind>,
+}
+
+const _: () = prove!(size_of::<NameWitness>() == 0);

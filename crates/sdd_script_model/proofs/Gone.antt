@@ -1,0 +1,548 @@
+-- What an opening does to a script's slots: which are freed, which begin to wait, and which names it answers
+use Rattle.std.specs.List.Sorted.{IsPermutation, IsNonDecreasingBy, IsStrictlyIncreasing}
+use Rattle.std.proofs.lemmas.List.{get_or-map as get_or-map_in}
+use Rattle.std.proofs.Math.ListN.{get_or-map}
+use Rattle.std.proofs.lemmas.List.Elements.{Contains-get_or}
+use Rattle.std.proofs.lemmas.List.Recursion.{is_sum_by}
+use Rattle.std.proofs.lemmas.List.Sorted.{sum_by-IsPermutation, IsPermutation-sym, Contains-permutation}
+use Rattle.std.proofs.lemmas.List.Sums.{get_or-le-sum_by, sum_by_more, sum_by_more_le, sum_by-append}
+use Rattle.sdd_rights.specs.Units.{GhostName}
+use Rattle.sdd_participants.specs.EpochState.{is_open, finds_another, due_next}
+use Rattle.sdd_participants.specs.declared.standing.Standing.TheVariants.{Shared as standing_shared, Retired}
+use Rattle.sdd_space.specs.Owned as owned
+use Rattle.sdd_space.specs.Shared as shared
+use Rattle.sdd_space.specs.OwnerOrCell.{atomic_owned}
+use Rattle.sdd_space.specs.Left.{Waits}
+use Rattle.sdd_space.specs.Steps as steps
+use Rattle.sdd_space.specs.Steps.{retired, with_standing, owner_given, cell_closed, freed, given_all, taken_out, waiting_value, reclaimed, all_reclaimed}
+use Rattle.sdd_space.specs.Accounts.{IsAccounted, is_owner_of, times_held}
+use Rattle.sdd_space.proofs.Accounts.{in_value-out}
+use Rattle.sdd_space.proofs.Entries.{one-place}
+use Rattle.sdd_space.proofs.Opening.{Nests, IsChange, how, before, due-here, opened-stays, opened-goes, keeps-owner_given, keeps-cell_closed, keeps-given_all}
+use Rattle.sdd_space.proofs.Safe.{opens-keeps}
+use Rattle.sdd_space.proofs.Standings.{owner-given, out-some, out-waits-not, waits-out-not}
+use Rattle.sdd_space.proofs.Whole.{some-waits, times-aged}
+use Rattle.sdd_script_text.specs.declared.name.ItemName.{ItemName}
+use Rattle.sdd_script_model.proofs.Entry.{at-other, at-default}
+use Rattle.sdd_script_model.proofs.StockWords.{◌≡◌, ◌≢◌, ◌⊎◌, ℕ, suc, ◌+◌, ◌-◌, ◌<◌, ◌≤◌, ◌==◌, ◌&&◌, ◌↔◌, Bool, true, false, nat_lt, if◌then◌else◌, List, [], ◌∷◌, ◌++◌, Option, Some, None, IsSome, is_some, map, length, count_by, slice_index_or, slice_set, inl, inr, refl, sym, ap, ◌∙◌, eq-eqb, ne_eqb, lt-ltb, cases_lt, arith, nat_tests, All, Contains, cases_eq, length-map, length-set, entry_at, without_entry, What, Item, Job, Standing, is_waiting, is_out, held_in, reclaims, IsWhole, is_of_slot, once_if, Holding, World, place_at, standing_at, value_at, one_where, times_among, count-cons, some-waits, filled-there, Val, holdings_of, body_of, link_of, zero, subst}
+use Rattle.sdd_script_model.specs.declared.val.Body.{Body}
+use Rattle.sdd_script_model.specs.declared.val.Body.TheVariants.{Number, Owned, Shared}
+use Rattle.sdd_script_model.specs.Val.{owner_in, link_home}
+use Rattle.sdd_script_model.specs.ScriptState.{ScriptState, IsThere, IsDated, slot_at, name_at, date_at, in_world}
+use Rattle.sdd_script_model.specs.Shown.{item_in}
+use Rattle.sdd_script_model.specs.Sound.{IsStocked, AreKept, named_owners}
+use Rattle.sdd_script_model.specs.Held.{slots_of, slots_in, owners_in, slots_among, waits_among}
+use Rattle.sdd_script_model.proofs.Stocked.{item-there, slot-inside}
+use Rattle.sdd_script_model.proofs.Keepers.{given-same, body-given, closed-bare, one-kept_on, waiting-there, keepers-as}
+
+-- ---- how often a list names something
+
+-- how often a slot is among these
+abbrev pub times_in : ℕ → List ℕ → ℕ
+times_in s slots = count_by (λ k. k == s) slots
+
+-- what passes one test passes another
+pub counts-le : {X : Type 0} (p q : X → Bool) (xs : List X) → ((x : X) → Contains xs x → p x ≡ true → q x ≡ true) → count_by p xs ≤ count_by q xs
+counts-le p q [] h = omega arith
+counts-le p q (x ∷ xs) h =
+    let rest = counts-le p q xs (λ y c. h y (suc c.0, (let lt = c.1 in omega arith), c.2)) in
+    let first = h x (0, omega arith, refl) in
+    let here = count-cons p x xs in
+    let there = count-cons q x xs in
+    grind arith
+
+pub count-map : {X Y : Type 0} (f : X → Y) (p : Y → Bool) (xs : List X) → count_by p (map f xs) ≡ count_by (λ x. p (f x)) xs
+count-map f p = is_sum_by (λ xs. count_by p (map f xs)) (λ x. one_where (p (f x))) refl (λ x xs. count-cons p (f x) (map f xs))
+
+-- what is there is counted
+pub counted-there : {X : Type 0} (q : X → Bool) (xs : List X) (x : X) → Contains xs x → q x ≡ true → 1 ≤ count_by q xs
+counted-there q xs x (k, lt, e) is = omega (arith, rw (e, is) at (get_or-le-sum_by (λ y. one_where (q y)) xs k x lt))
+
+pub contains-map : {X Y : Type 0} (f : X → Y) (xs : List X) (x : X) → Contains xs x → Contains (map f xs) (f x)
+contains-map f xs x (k, lt, e) = (k, omega (arith, lt, length-map xs f), get_or-map f xs k x ∙ ap f e)
+
+pub map-contains : {X Y : Type 0} (f : X → Y) (xs : List X) (d : X) (y : Y) → Contains (map f xs) y → (x : X) × Contains xs x × (f x ≡ y)
+map-contains f xs d y (k, lt, e) =
+    let lt : k < length xs = omega (arith, length-map xs f) in
+    (slice_index_or xs k d, Contains-get_or xs k d lt, sym (get_or-map_in f xs k d y lt) ∙ e)
+
+abbrev number : ItemName → ℕ
+number i = i.0
+
+abbrev first_item : ItemName
+first_item = record { 0 = 0 }
+
+-- numbers that do not fall, each of which is there once at most, rise
+pub rises : {X : Type 0} (f : X → ℕ) (d : X) (xs : List X) → IsNonDecreasingBy f xs → ((n : ℕ) → count_by (λ x. f x == n) xs ≤ 1) →
+    IsStrictlyIncreasing (map f xs)
+rises {X} f d xs up once k lt =
+    let lt : k + 1 < length xs = omega (arith, length-map xs f) in
+    let here : X → ℕ = λ x. one_where (f x == f (slice_index_or xs k d)) in
+    let both = sum_by_more_le here xs (k + 1) d lt in
+    let first = sum_by_more here xs k d (omega arith) in
+    let one = once (f (slice_index_or xs k d)) in
+    let le = up k (k + 1) d (omega arith) lt in
+    rw (get_or-map_in f xs k d 0 (omega arith), get_or-map_in f xs (k + 1) d 0 lt) (grind (arith, nat_tests))
+
+-- ---- what is reclaimed waits, and goes
+
+pub once-bound : (b : Bool) → once_if b ≤ 1
+once-bound true = omega arith
+once-bound false = omega arith
+
+-- what one opening makes due waits, each once
+reclaims-once : (w : World Val) (p s : ℕ) → IsWhole w → times_among s (reclaims w p) ≤ once_if (is_waiting (standing_at w s))
+reclaims-once w p s i =
+    let aged = times-aged s (place_at w p).bags.waiting in
+    let one = one-place s w.time.places p in
+    let all = i.once s in
+    grind arith
+
+reclaims-wait : (w : World Val) (p s : ℕ) → IsWhole w → 1 ≤ times_among s (reclaims w p) → is_waiting (standing_at w s) ≡ true
+reclaims-wait w p s i some = let once = reclaims-once w p s i in grind arith
+
+pub some-value : (o : Option Val) → is_some o ≡ true → (v : Val) × (o ≡ Some v)
+some-value None e = absurd (cc)
+some-value (Some v) e = (v, refl)
+
+pub reclaimed-counts : (w : World Val) (p s : ℕ) → Contains (reclaims w p) (Item s) → 1 ≤ times_among s (reclaims w p)
+reclaimed-counts w p s c = counted-there (is_of_slot s) (reclaims w p) (Item s) c (eq-eqb s s refl)
+
+module _ (w : World Val) (p : ℕ) (whole : IsWhole w) where
+  -- what is reclaimed waited before, with its value
+  pub counted-waits : (s : ℕ) → 1 ≤ times_among s (reclaims w p) →
+      (is_waiting (standing_at w s) ≡ true) × IsSome (standing_at w s) × IsSome (value_at w s)
+  counted-waits s some =
+      let waits = reclaims-wait w p s whole some in
+      let stands = some-waits (standing_at w s) waits in
+      (waits, stands, filled-there w s whole.filled ∙ stands)
+
+  pub reclaimed-waits : (s : ℕ) → Contains (reclaims w p) (Item s) →
+      (is_waiting (standing_at w s) ≡ true) × IsSome (standing_at w s) × IsSome (value_at w s)
+  reclaimed-waits s c = counted-waits s (reclaimed-counts w p s c)
+
+  module _ (l : p < length w.time.places) where
+    -- its slot is free afterwards
+    pub counted-gone : (s : ℕ) → 1 ≤ times_among s (reclaims w p) →
+        (standing_at (steps.opened holdings_of w p) s ≡ None) × (value_at (steps.opened holdings_of w p) s ≡ None)
+    counted-gone s some =
+        let was = counted-waits s some in
+        let value = some-value (value_at w s) was.2 in
+        let gone = opened-goes holdings_of w p l s (standing_at w s) value.0 was.0 some (record { standing = refl; value = value.1 }) in
+        (gone.standing, gone.value)
+
+    pub reclaimed-gone : (s : ℕ) → Contains (reclaims w p) (Item s) →
+        (standing_at (steps.opened holdings_of w p) s ≡ None) × (value_at (steps.opened holdings_of w p) s ≡ None)
+    reclaimed-gone s c = counted-gone s (reclaimed-counts w p s c)
+
+    -- what waits and isn't reclaimed stays
+    pub waiting-stays : (s : ℕ) → is_waiting (standing_at w s) ≡ true → times_among s (reclaims w p) ≡ 0 →
+        (standing_at (steps.opened holdings_of w p) s ≡ standing_at w s) × (value_at (steps.opened holdings_of w p) s ≡ value_at w s)
+    waiting-stays s waits none =
+        let stays = opened-stays holdings_of w p l s (standing_at w s) (value_at w s) (waits-out-not (standing_at w s) waits) none
+        (record { standing = refl; value = refl }) in
+        (stays.standing, stays.value)
+
+    -- a slot that is taken and isn't reclaimed is taken afterwards
+    pub taken-stays : (s : ℕ) → IsSome (standing_at w s) → times_among s (reclaims w p) ≡ 0 → IsSome (standing_at (steps.opened holdings_of w p) s)
+    taken-stays s some none = by (is_out (standing_at w s)) refl where
+      by : (b : Bool) → is_out (standing_at w s) ≡ b → IsSome (standing_at (steps.opened holdings_of w p) s)
+      by true out =
+          elim ((opens-keeps p s holdings_of w l whole out).1) [
+            | inl still ↦ out-some (standing_at (steps.opened holdings_of w p) s) still
+            | inr fresh ↦ some-waits (standing_at (steps.opened holdings_of w p) s) fresh.0
+          ]
+      by false idle =
+          let stays = opened-stays holdings_of w p l s (standing_at w s) (value_at w s) idle none (record { standing = refl; value = refl }) in
+          rw stays.standing some
+
+-- ---- what begins to wait was given up
+
+-- an owner that is given changes no other slot
+given-other : (w : World Val) (p k s : ℕ) (t : Option Standing) → standing_at w k ≡ t → s ≢ k → standing_at (owner_given w p k t) s ≡ standing_at w s
+given-other w p k s t is ne =
+    owner-given (λ u. standing_at u s ≡ standing_at w s) w p k t is refl (λ out. at-other w.standings k s (Some Retired) None ne)
+    (λ n several more. at-other w.standings k s (Some (standing_shared (n - 1))) None ne)
+
+-- what begins to wait when p is given what a value held is the item whose owner the body was
+pub body-waits : (w : World Val) (p c s : ℕ) (home : GhostName) (b : Body Val) → held_in (entry_at w.cells c) ≡ None → is_waiting (standing_at w s) ≡ false →
+    is_waiting (standing_at (given_all w p (owner_in b ++ atomic_owned c home ∷ [])) s) ≡ true → 1 ≤ times_in s (slots_of (owner_in b))
+body-waits w p c s home b bare idle waits = by b waits where
+  closes : (u : World Val) → u.cells ≡ w.cells → standing_at (cell_closed u p c) s ≡ standing_at u s
+  closes u cells =
+      let nothing : held_in (entry_at u.cells c) ≡ None = rw cells bare in
+      ap (λ v. standing_at v s) (closed-bare u p c nothing)
+
+  given : (k : ℕ) → is_waiting (standing_at (cell_closed (owner_given w p k (standing_at w k)) p c) s) ≡ true → 1 ≤ times_in s (k ∷ [])
+  given k waits =
+      elim (cases_eq s k) [
+        | inl e ↦ counted-there (λ j. j == s) (k ∷ []) k (0, omega arith, refl) (eq-eqb k s (sym e))
+        | inr ne ↦
+            (let g = given-same w p k (standing_at w k) refl in
+            let same = closes (owner_given w p k (standing_at w k)) g.1 ∙ given-other w p k s (standing_at w k) refl ne in
+            let never : false ≡ true = sym idle ∙ ap is_waiting (sym same) ∙ waits in absurd (cc))
+      ]
+
+  by : (b : Body Val) → is_waiting (standing_at (given_all w p (owner_in b ++ atomic_owned c home ∷ [])) s) ≡ true →
+      1 ≤ times_in s (slots_of (owner_in b))
+  by (Number n) waits = let never : false ≡ true = sym idle ∙ ap is_waiting (sym (closes w refl)) ∙ waits in absurd (cc)
+  by (Owned o) waits = given (owned.slot_of o) waits
+  by (Shared o) waits = given (shared.slot_of o) waits
+
+module _ (d : ScriptState) (p : ℕ) (start : World Val) (s : ℕ) where
+  -- the item of slot s doesn't wait yet; the values that are still there are those of the start
+  pub record IsBefore (w : World Val) : Type 0 where
+    pub kept : AreKept (in_world d w)
+    pub values : (k : ℕ) (v : Val) → value_at w k ≡ Some v → value_at start k ≡ Some v
+    pub idle : is_waiting (standing_at w s) ≡ false
+
+  freed-idle : (w : World Val) (k : ℕ) → is_waiting (standing_at w s) ≡ false → is_waiting (standing_at (freed w k) s) ≡ false
+  freed-idle w k idle =
+      elim (cases_eq s k) [
+        | inl e ↦ rw (e, at-default w.standings k None) refl
+        | inr ne ↦ rw (at-other w.standings k s None None ne) idle
+      ]
+
+  -- a value is taken out: who waits then was its owner's
+  out-gives : (w : World Val) (k : ℕ) (v : Option Val) → ((u : Val) → v ≡ Some u → value_at w k ≡ Some u) → IsBefore w →
+      is_waiting (standing_at (taken_out holdings_of w p k v) s) ≡ true → 1 ≤ times_in s (slots_in (value_at start k))
+  out-gives w k None is i waits = let never : false ≡ true = sym i.idle ∙ waits in absurd (cc)
+  out-gives w k (Some v) is i waits =
+      let there = is v refl in
+      let bare = i.kept.bare k (link_of v) (v, there, refl) in
+      rw (i.values k v there) (body-waits (freed w k) p (link_of v) s (link_home v) (body_of v) bare (freed-idle w k i.idle) waits)
+
+  -- and each value that is there then was there before
+  out-values : (w : World Val) (k : ℕ) (v : Option Val) → ((u : Val) → v ≡ Some u → value_at w k ≡ Some u) → AreKept (in_world d w) →
+      (j : ℕ) (u : Val) → value_at (taken_out holdings_of w p k v) j ≡ Some u → value_at w j ≡ Some u
+  out-values w k None is i j u h = h
+  out-values w k (Some v) is i j u h =
+      let there = is v refl in
+      let g = body-given (freed w k) p (link_of v) (link_home v) (body_of v) (i.bare k (link_of v) (v, there, refl)) in
+      let left : slice_index_or (slice_set w.values k None) j None ≡ Some u = sym (ap (λ vs. slice_index_or vs j None) g.0) ∙ h in
+      elim (cases_eq j k) [
+        | inl e ↦ absurd (let none : None ≡ Some u = sym (at-default w.values k None) ∙ ap (λ n. slice_index_or (slice_set w.values k None) n None) (sym e)
+            ∙ left in cc)
+        | inr ne ↦ sym (at-other w.values k j None None ne) ∙ left
+      ]
+
+  -- all that begins to wait was its owner's whose value was among these
+  pub all-give : (xs : List What) (w : World Val) → IsBefore w → is_waiting (standing_at (all_reclaimed holdings_of w p xs) s) ≡ true →
+      1 ≤ times_in s (owners_in start (slots_among xs))
+  all-give (Job j ∷ xs) w i waits =
+      all-give xs (reclaimed holdings_of w p (Job j)) (record { kept = one-kept_on d p w (Job j) i.kept; values = i.values; idle = i.idle }) waits
+  all-give [] w i waits = let never : false ≡ true = sym i.idle ∙ waits in absurd (cc)
+  all-give (Item k ∷ xs) w i waits = by (is_waiting (standing_at u s)) refl (λ now. all-give xs u now waits) where
+    ks : List ℕ
+    ks = slots_among xs
+
+    u : World Val
+    u = reclaimed holdings_of w p (Item k)
+
+    here : List ℕ
+    here = slots_in (value_at start k)
+
+    both : times_in s (here ++ owners_in start ks) ≡ times_in s here + times_in s (owners_in start ks)
+    both = sum_by-append (λ j. one_where (j == s)) here (owners_in start ks)
+
+    is : (v : Val) → waiting_value w k (standing_at w k) ≡ Some v → value_at w k ≡ Some v
+    is = waiting-there d p w k (standing_at w k)
+
+    by : (b : Bool) → is_waiting (standing_at u s) ≡ b → (IsBefore u → 1 ≤ times_in s (owners_in start ks)) →
+        1 ≤ times_in s (here ++ owners_in start ks)
+    by true now rest = omega (arith, both, out-gives w k (waiting_value w k (standing_at w k)) is i now)
+    by false idle rest =
+        let more = rest (record {
+          kept = one-kept_on d p w (Item k) i.kept;
+          values = λ j v h. i.values j v (out-values w k (waiting_value w k (standing_at w k)) is i.kept j v h);
+          idle = idle;
+        }) in
+        omega (arith, both, more)
+
+-- the owners that a body holds are those that its value holds
+body-times : (s c : ℕ) (home : GhostName) (b : Body Val) →
+    times_in s (slots_of (owner_in b)) ≤ count_by (is_owner_of s) (owner_in b ++ atomic_owned c home ∷ [])
+body-times s c home (Number n) = omega arith
+body-times s c home (Owned o) =
+    let one = count-cons (λ k. k == s) (owned.slot_of o) [] in
+    let all = count-cons (is_owner_of s) (owned.holding_of o) (atomic_owned c home ∷ []) in
+    omega (arith, one, all)
+body-times s c home (Shared o) =
+    let one = count-cons (λ k. k == s) (shared.slot_of o) [] in
+    let all = count-cons (is_owner_of s) (shared.holding_of o) (atomic_owned c home ∷ []) in
+    omega (arith, one, all)
+
+pub value-times : (s : ℕ) (v : Option Val) → times_in s (slots_in v) ≤ times_held holdings_of s v
+value-times s None = omega arith
+value-times s (Some v) = body-times s (link_of v) (link_home v) (body_of v)
+
+-- who is among the owners that these values hold is held by one of them
+held-by-one : (w : World Val) (s : ℕ) (slots : List ℕ) → 1 ≤ times_in s (owners_in w slots) → (j : ℕ) × (1 ≤ times_held holdings_of s (value_at w j))
+held-by-one w s [] some = absurd (omega (arith, some))
+held-by-one w s (j ∷ js) some =
+    elim (cases_lt 0 (times_held holdings_of s (value_at w j))) [
+      | inl here ↦ (j, here)
+      | inr none ↦
+          (let here : List ℕ = slots_in (value_at w j) in
+          let both : times_in s (here ++ owners_in w js) ≡ times_in s here + times_in s (owners_in w js) =
+          sum_by-append (λ k. one_where (k == s)) here (owners_in w js) in
+          held-by-one w s js (omega (arith, some, both, none, value-times s (value_at w j))))
+    ]
+
+-- ---- an opening of p, whose desk is sound
+
+module _ (d : ScriptState) (p : ℕ) (l : p < length d.world.time.places) (stocked : IsStocked d) (kept : AreKept d) (whole : IsWhole d.world)
+    (accounts : IsAccounted holdings_of (named_owners d) d.world) where
+  abbrev after : World Val
+  after = steps.opened holdings_of d.world p
+
+  -- whose owner a value holds is out
+  pub given-out : (slots : List ℕ) (s : ℕ) → 1 ≤ times_in s (owners_in d.world slots) → is_out (standing_at d.world s) ≡ true
+  given-out slots s some =
+      let held = held-by-one d.world s slots some in
+      in_value-out holdings_of d.world held.0 s (named_owners d) accounts held.1
+
+  -- and has a date
+  pub given-inside : (slots : List ℕ) → All (λ s. s < length d.dates) (owners_in d.world slots)
+  given-inside slots k e lt =
+      let s = slice_index_or (owners_in d.world slots) k e in
+      let some = counted-there (λ j. j == s) (owners_in d.world slots) s (Contains-get_or (owners_in d.world slots) k e lt) (eq-eqb s s refl) in
+      (slot-inside d stocked s (out-some (standing_at d.world s) (given-out slots s some))).1
+
+  -- slots are reclaimed
+  module _ (slots : List ℕ) (are : slots ≡ slots_among (reclaims d.world p)) where
+    begins-if : (s : ℕ) → is_waiting (standing_at d.world s) ≡ false → is_waiting (standing_at after s) ≡ true →
+        Nests holdings_of d.world p ⊎ IsChange holdings_of d.world p → 1 ≤ times_in s (owners_in d.world slots)
+    begins-if s idle waits (inl n) =
+        let never : false ≡ true = sym idle ∙ ap (λ (u : World Val). is_waiting (standing_at u s)) (sym n.nests) ∙ waits in absurd (cc)
+    begins-if s idle waits (inr c) =
+        let first = before holdings_of d.world p in
+        let due : due_next (place_at (steps.nested d.world p) p) ≡ reclaims d.world p = due-here holdings_of d.world p l ∙ sym c.due in
+        let now : is_waiting (standing_at (all_reclaimed holdings_of first p (reclaims d.world p)) s) ≡ true =
+        ap (λ xs. is_waiting (standing_at (all_reclaimed holdings_of first p xs) s)) (sym due)
+        ∙ ap (λ (u : World Val). is_waiting (standing_at u s)) (sym c.change) ∙ waits in
+        subst (λ ks. 1 ≤ times_in s (owners_in d.world ks)) (sym are) (all-give d p d.world s (reclaims d.world p) first (record {
+          kept = keepers-as d (in_world d first) kept refl refl refl refl;
+          values = λ k v h. h;
+          idle = idle;
+        }) now)
+
+    -- what begins to wait was given up by the values of these slots to p, and has seen no change
+    pub begins-waiting : (s : ℕ) → is_waiting (standing_at after s) ≡ true → is_waiting (standing_at d.world s) ≡ false →
+        (1 ≤ times_in s (owners_in d.world slots)) × Waits after p s 0
+    begins-waiting s waits idle =
+        let given = begins-if s idle waits (how holdings_of d.world p l) in
+        elim ((opens-keeps p s holdings_of d.world l whole (given-out slots s given)).1) [
+          | inl out ↦ absurd (let never : false ≡ true = sym (out-waits-not (standing_at after s) out) ∙ waits in cc)
+          | inr fresh ↦ (given, fresh.1)
+        ]
+
+    -- ---- the dates
+    dates-at : (old line s : ℕ) (b c : Bool) → is_waiting (standing_at after s) ≡ b → is_waiting (standing_at d.world s) ≡ c →
+        (if waits_among after (owners_in d.world slots) s then line else old) ≡ (if b then (if c then old else line) else old)
+    dates-at old line s false c now was = rw now (either-off (nat_lt 0 (times_in s (owners_in d.world slots)))) where
+      either-off : (b : Bool) → (if b && false then line else old) ≡ old
+      either-off true = refl
+      either-off false = refl
+    dates-at old line s true true now was =
+        let none : nat_lt 0 (times_in s (owners_in d.world slots)) ≡ false = none-given (cases_lt 0 (times_in s (owners_in d.world slots))) in
+        rw (now, none) refl where
+          none-given : (0 < times_in s (owners_in d.world slots)) ⊎ (times_in s (owners_in d.world slots) ≤ 0) →
+              nat_lt 0 (times_in s (owners_in d.world slots)) ≡ false
+          none-given (inl some) =
+              absurd (let never : false ≡ true = sym (out-waits-not (standing_at d.world s) (given-out slots s some)) ∙ was in cc)
+          none-given (inr none) = grind (arith, nat_tests)
+    dates-at old line s true false now was =
+        let some : nat_lt 0 (times_in s (owners_in d.world slots)) ≡ true =
+        lt-ltb 0 (times_in s (owners_in d.world slots)) (begins-waiting s now was).0 in
+        rw (now, some) refl
+
+    -- what begins to wait gets the date of this line
+    pub dated-opened : (new : ScriptState) → new.world ≡ after → length new.dates ≡ length d.dates →
+        ((s : ℕ) → date_at new s ≡ (if waits_among after (owners_in d.world slots) s then d.moment else date_at d s)) → IsDated d new
+    dated-opened new world long dates = record {
+      dated = λ s. rw world (dates s ∙ dates-at (date_at d s) d.moment s (is_waiting (standing_at after s)) (is_waiting (standing_at d.world s)) refl refl);
+      long = long;
+    }
+
+-- ---- the names that an opening answers
+
+pub counted-contains : (s : ℕ) (xs : List ℕ) → 1 ≤ times_in s xs → Contains xs s
+counted-contains s [] some = absurd (omega (arith, some))
+counted-contains s (x ∷ xs) some =
+    elim (cases_eq x s) [
+      | inl e ↦ (0, omega arith, e)
+      | inr ne ↦
+          (let one = count-cons (λ k. k == s) x xs in
+          let none : one_where (x == s) ≡ 0 = ap one_where (ne_eqb x s ne) in
+          let rest = counted-contains s xs (omega (arith, some, one, none)) in
+          let lt = rest.1 in
+          (suc rest.0, omega (arith, lt), rest.2))
+    ]
+
+-- a slot is among these exactly if its item is
+pub among-slots : (s : ℕ) (xs : List What) → times_among s xs ≡ times_in s (slots_among xs)
+among-slots s [] = refl
+among-slots s (Item k ∷ xs) = omega (arith, among-slots s xs, count-cons (is_of_slot s) (Item k) xs, count-cons (λ k. k == s) k (slots_among xs))
+among-slots s (Job j ∷ xs) = omega (arith, among-slots s xs, count-cons (is_of_slot s) (Job j) xs)
+
+pub slots-contain : (xs : List What) (s : ℕ) → Contains (slots_among xs) s → Contains xs (Item s)
+slots-contain [] s c = absurd (omega (arith, c.1))
+slots-contain (Item k ∷ xs) s (zero, l, e) = (zero, omega arith, ap Item e)
+slots-contain (Item k ∷ xs) s (suc n, l, e) = let rest = slots-contain xs s (n, omega (arith, l), e) in (suc rest.0, omega (arith, rest.1), rest.2)
+slots-contain (Job j ∷ xs) s c = let rest = slots-contain xs s c in (suc rest.0, omega (arith, rest.1), rest.2)
+
+pub contain-slots : (xs : List What) (s : ℕ) → Contains xs (Item s) → Contains (slots_among xs) s
+contain-slots [] s c = absurd (omega (arith, c.1))
+contain-slots (Item k ∷ xs) s (zero, l, e) = (zero, omega arith, cc (e))
+contain-slots (Item k ∷ xs) s (suc n, l, e) = let rest = contain-slots xs s (n, omega (arith, l), e) in (suc rest.0, omega (arith, rest.1), rest.2)
+contain-slots (Job j ∷ xs) s (zero, l, e) = absurd (cc (e))
+contain-slots (Job j ∷ xs) s (suc n, l, e) = contain-slots xs s (n, omega (arith, l), e)
+
+-- ---- the names of slots that are taken, each there once
+
+module _ (d : ScriptState) (stocked : IsStocked d) (slots : List ℕ) (taken : (s : ℕ) → Contains slots s → IsSome (standing_at d.world s))
+    (once : (s : ℕ) → times_in s slots ≤ 1) (found : List ItemName) (is : found ≡ map (item_in d.names) slots) where
+  -- a name is found exactly if its item is there, in one of them
+  found-there : (i : ItemName) → Contains found i ↔ (IsThere d i.0 × Contains slots (slot_at d i.0))
+  found-there i = rw is (there, back) where
+    there : Contains (map (item_in d.names) slots) i → IsThere d i.0 × Contains slots (slot_at d i.0)
+    there c =
+        let from = map-contains (item_in d.names) slots 0 i c in
+        let s = from.0 in
+        let name : name_at d s ≡ i.0 = ap number from.2 in
+        let home = item-there d stocked s (taken s from.1) in
+        let slot : slot_at d i.0 ≡ s = ap (slot_at d) (sym name) ∙ home.1 in
+        (rw name at home.0, rw slot from.1)
+
+    back : IsThere d i.0 × Contains slots (slot_at d i.0) → Contains (map (item_in d.names) slots) i
+    back h = rw (ap (λ n. record i { 0 = n }) h.0.last) at (contains-map (item_in d.names) slots (slot_at d i.0) h.1)
+
+  -- each of them once
+  found-once : (n : ℕ) → count_by (λ (i : ItemName). i.0 == n) found ≤ 1
+  found-once n =
+      let all : count_by (λ (i : ItemName). i.0 == n) found ≡ count_by (λ s. name_at d s == n) slots =
+      ap (count_by (λ (i : ItemName). i.0 == n)) is ∙ count-map (item_in d.names) (λ (i : ItemName). i.0 == n) slots in
+      let le : count_by (λ s. name_at d s == n) slots ≤ count_by (λ s. s == slot_at d n) slots =
+      counts-le (λ s. name_at d s == n) (λ s. s == slot_at d n) slots (λ s c e.
+      let home = (item-there d stocked s (taken s c)).1 in
+      let name : name_at d s ≡ n = grind (arith, nat_tests, e) in
+      eq-eqb s (slot_at d n) (sym home ∙ ap (slot_at d) name)) in
+      omega (arith, all, le, once (slot_at d n))
+
+  -- sorted they rise, and are exactly those of the items in these slots
+  pub names-found : (sorted : List ItemName) → IsPermutation found sorted → IsNonDecreasingBy (λ (i : ItemName). i.0) sorted →
+      IsStrictlyIncreasing (map (λ (i : ItemName). i.0) sorted) × ((i : ItemName) → Contains sorted i ↔ (IsThere d i.0 × Contains slots (slot_at d i.0)))
+  names-found sorted moved up = (
+    rises number first_item sorted up (λ n. omega (arith, found-once n, sum_by-IsPermutation (λ (i : ItemName). one_where (i.0 == n)) found sorted moved)),
+    (λ i. (
+      (λ c. (found-there i).0 (Contains-permutation sorted found i (IsPermutation-sym found sorted moved) c)),
+      (λ h. Contains-permutation found sorted i moved ((found-there i).1 h)),
+    )),
+  )
+
+module _ (d : ScriptState) (p : ℕ) (stocked : IsStocked d) (whole : IsWhole d.world) (slots : List ℕ) (are : slots ≡ slots_among (reclaims d.world p)) where
+  pub slot-reclaimed : (s : ℕ) → Contains slots s → Contains (reclaims d.world p) (Item s)
+  slot-reclaimed s c = slots-contain (reclaims d.world p) s (subst (λ ks. Contains ks s) are c)
+
+  pub times-slots : (s : ℕ) → times_among s (reclaims d.world p) ≡ times_in s slots
+  times-slots s = among-slots s (reclaims d.world p) ∙ ap (times_in s) (sym are)
+
+  slot-before : (s : ℕ) → Contains slots s → (is_waiting (standing_at d.world s) ≡ true) × IsSome (standing_at d.world s) × IsSome (value_at d.world s)
+  slot-before s c = reclaimed-waits d.world p whole s (slot-reclaimed s c)
+
+  -- each of them has a name, and a value
+  pub slots-inside : All (λ s. s < length d.names) slots
+  slots-inside k e lt =
+      let s = slice_index_or slots k e in
+      (slot-inside d stocked s (slot-before s (Contains-get_or slots k e lt)).1).0
+
+  pub slots-filled : All (λ s. IsSome (value_at d.world s)) slots
+  slots-filled k e lt = (slot-before (slice_index_or slots k e) (Contains-get_or slots k e lt)).2
+
+  -- a slot that is taken and isn't one of them is taken afterwards
+  pub others-stay : (s : ℕ) → p < length d.world.time.places → IsSome (standing_at d.world s) → (Contains slots s → ⊥) →
+      IsSome (standing_at (steps.opened holdings_of d.world p) s)
+  others-stay s l some not_one =
+      elim (cases_lt 0 (times_among s (reclaims d.world p))) [
+        | inl counted ↦ absurd (not_one (counted-contains s slots (omega (arith, counted, times-slots s))))
+        | inr none ↦ taken-stays d.world p whole l s some (omega (arith, none))
+      ]
+
+  -- each of them is there once
+  slots-once : (s : ℕ) → times_in s slots ≤ 1
+  slots-once s = omega (arith, times-slots s, reclaims-once d.world p s whole, once-bound (is_waiting (standing_at d.world s)))
+
+  -- what is answered rises, and names exactly the items that are reclaimed
+  pub names-go : (found : List ItemName) → found ≡ map (item_in d.names) slots → (sorted : List ItemName) → IsPermutation found sorted →
+      IsNonDecreasingBy (λ (i : ItemName). i.0) sorted →
+      IsStrictlyIncreasing (map (λ (i : ItemName). i.0) sorted)
+      × ((i : ItemName) → Contains sorted i ↔ (IsThere d i.0 × Contains (reclaims d.world p) (Item (slot_at d i.0))))
+  names-go found is sorted moved up =
+      let all = names-found d stocked slots (λ s c. (slot-before s c).1) slots-once found is sorted moved up in (
+        all.0,
+        (λ i. (
+          (λ c. let there = (all.1 i).0 c in (there.0, slot-reclaimed (slot_at d i.0) there.1)),
+          (λ h. (all.1 i).1 (h.0, subst (λ ks. Contains ks (slot_at d i.0)) (sym are) (contain-slots (reclaims d.world p) (slot_at d i.0) h.1))),
+        )),
+      )
+
+-- ---- an opening counts nothing but what it reclaims
+
+-- as many slots, items made and items dropped in place, and the same home
+pub record KeepsCounts {T : Type 0} (old new : World T) : Type 0 where
+  pub slots : length new.standings ≡ length old.standings
+  pub made : new.tally.made ≡ old.tally.made
+  pub in_place : new.tally.in_place ≡ old.tally.in_place
+  pub home : new.home ≡ old.home
+
+module _ {T : Type 0} (w : World T) (p : ℕ) where
+  counts-retired : (u : World T) (k : ℕ) → is_out (standing_at u k) ≡ true → KeepsCounts w u → KeepsCounts w (retired u p k)
+  counts-retired u k out i = record { slots = length-set u.standings k (Some Retired) ∙ i.slots; made = i.made; in_place = i.in_place; home = i.home }
+
+  counts-cell : (u : World T) (c : ℕ) → KeepsCounts w u → KeepsCounts w (record u { cells = without_entry u.cells c })
+  counts-cell u c i = record { slots = i.slots; made = i.made; in_place = i.in_place; home = i.home }
+
+  counts-shared : (u : World T) (k n m : ℕ) → standing_at u k ≡ Some (standing_shared n) → KeepsCounts w u →
+      KeepsCounts w (with_standing u k (standing_shared m))
+  counts-shared u k n m is i =
+      record { slots = length-set u.standings k (Some (standing_shared m)) ∙ i.slots; made = i.made; in_place = i.in_place; home = i.home }
+
+  counts-freed : (u : World T) (k : ℕ) → KeepsCounts w u → KeepsCounts w (freed u k)
+  counts-freed u k i = record { slots = length-set u.standings k None ∙ i.slots; made = i.made; in_place = i.in_place; home = i.home }
+
+  -- what p is given is not counted
+  pub counts-given : (k : ℕ) (s : Option Standing) → standing_at w k ≡ s → KeepsCounts w (owner_given w p k s)
+  counts-given k s is =
+      keeps-owner_given p (KeepsCounts w) counts-retired counts-cell counts-shared w k s is (record { slots = refl; made = refl; in_place = refl; home = refl })
+
+  pub counts-cell_closed : (c : ℕ) → KeepsCounts w (cell_closed w p c)
+  counts-cell_closed c =
+      keeps-cell_closed p (KeepsCounts w) counts-retired counts-cell counts-shared w c (record { slots = refl; made = refl; in_place = refl; home = refl })
+
+  pub counts-given_all : (hs : List Holding) → KeepsCounts w (given_all w p hs)
+  counts-given_all hs =
+      keeps-given_all p (KeepsCounts w) counts-retired counts-cell counts-shared w hs (record { slots = refl; made = refl; in_place = refl; home = refl })
+
+  module _ (holds : T → List Holding) where
+    out-counts : (u : World T) (k : ℕ) (v : Option T) → KeepsCounts w u → KeepsCounts w (taken_out holds u p k v)
+    out-counts u k None i = i
+    out-counts u k (Some v) i =
+        keeps-given_all p (KeepsCounts w) counts-retired counts-cell counts-shared (freed u k) (holds v) (counts-freed u k i)
+
+    pub all-counts : (xs : List What) (u : World T) → KeepsCounts w u → KeepsCounts w (all_reclaimed holds u p xs)
+    all-counts [] u i = i
+    all-counts (Item k ∷ xs) u i =
+        all-counts xs (reclaimed holds u p (Item k)) (out-counts u k (waiting_value u k (standing_at u k)) i)
+    all-counts (Job j ∷ xs) u i =
+        all-counts xs (reclaimed holds u p (Job j)) (record { slots = i.slots; made = i.made; in_place = i.in_place; home = i.home })
+
+    pub counts-opened : KeepsCounts w (steps.opened holds w p)
+    counts-opened = by (is_open (place_at w p)) (finds_another (steps.nested w p).time p) where
+      by : (b c : Bool) → (let u = steps.nested w p in KeepsCounts w (if b then u else (if c then steps.changed holds u p else u)))
+      by true c = record { slots = refl; made = refl; in_place = refl; home = refl }
+      by false false = record { slots = refl; made = refl; in_place = refl; home = refl }
+      by false true =
+          let first = steps.rotated (steps.nested w p) p in
+          let all = all-counts (due_next (place_at (steps.nested w p) p)) first (record { slots = refl; made = refl; in_place = refl; home = refl }) in
+          record { slots = all.slots; made = all.made; in_place = all.in_place; home = all.home }

@@ -1,0 +1,9 @@
+pub mod Val
+pub mod ScriptState
+pub mod Made
+pub mod Shown
+pub mod InPlace
+pub mod Collecting
+pub mod Script
+pub mod Sound
+pub mod Held

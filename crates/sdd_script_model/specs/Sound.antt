@@ -1,0 +1,103 @@
+-- What is always true of a desk
+use Rattle.std.specs.Prelude.{ℕ, ◌+◌, ◌^◌, ◌<◌, ◌≤◌, ◌≡◌, ◌==◌, Bool, false, IsTrue, IsSome, List, Option, None, Some, count_by, length, slice_index}
+use Rattle.sdd_participants.specs.EpochState.{is_open, phase_at}
+use Rattle.sdd_participants.specs.Slab.{Entries, entry_at}
+use Rattle.sdd_standings.specs.Slots.{is_waiting}
+use Rattle.sdd_space.specs.OwnerOrCell.{OwnerOrCell, IsOf}
+use Rattle.sdd_space.specs.World.{IsPlaceOf, place_at, standing_at, value_at}
+use Rattle.sdd_space.specs.Steps.{held_in}
+use Rattle.sdd_space.specs.Accounts.{IsAccounted, is_owner_of, times_held}
+use Rattle.sdd_space.specs.Under.{IsSafe}
+use Rattle.sdd_script_model.specs.declared.val.Val.{Val}
+use Rattle.sdd_script_model.specs.Val.{holdings_of, link_of}
+use Rattle.sdd_script_model.specs.ScriptState.{ScriptState, OpenSince, opening_at, holding_at, slot_at, name_at, date_at, cell_of, collector_of}
+
+-- which item is in which slot
+pub record IsStocked (d : ScriptState) : Type 0 where
+  -- a slot that is not free is that of the item that it has: so what is out as raw is out under its item's name
+  pub named : (s : ℕ) → IsSome (standing_at d.world s) → (name_at d s < length d.slots) × (slot_at d (name_at d s) ≡ s)
+  pub names : length d.names ≡ length d.world.standings
+  pub dates : length d.dates ≡ length d.world.standings
+  -- a slot is numbered by 32 bits
+  pub few : length d.names ≤ 2 ^ 32
+
+-- what keeps a cell: the value in a slot, whose link it is, or a name, of a cell or of a collector
+pub data Keeper : Type 0 where
+  value_in : (slot : ℕ) → Keeper
+  name_of : (cell : ℕ) → Keeper
+  collector_named : (collector : ℕ) → Keeper
+
+abbrev pub Keeps : ScriptState → Keeper → ℕ → Type 0
+Keeps d (value_in s) c = (v : Val) × (value_at d.world s ≡ Some v) × (link_of v ≡ c)
+Keeps d (name_of n) c = cell_of (holding_at d.cells n) ≡ Some c
+Keeps d (collector_named n) c = collector_of (holding_at d.collectors n) ≡ Some c
+
+-- the cells that are taken are those that something keeps, each one thing; links hold nothing
+pub record AreKept (d : ScriptState) : Type 0 where
+  pub keeper : (c : ℕ) → IsSome (entry_at d.world.cells c) → (k : Keeper) × Keeps d k c
+  pub taken : (k : Keeper) (c : ℕ) → Keeps d k c → IsSome (entry_at d.world.cells c)
+  pub apart : (j k : Keeper) (c : ℕ) → Keeps d j c → Keeps d k c → j ≡ k
+  pub bare : (s c : ℕ) → Keeps d (value_in s) c → held_in (entry_at d.world.cells c) ≡ None
+
+-- the guard is one of p's
+abbrev pub is_of : ℕ → Option OpenSince → Bool
+is_of p None = false
+is_of p (Some x) = x.place == p
+
+-- what is named is an owner of the slot's item
+abbrev pub owns : ℕ → Option OwnerOrCell → Bool
+owns k None = false
+owns k (Some h) = is_owner_of k h
+
+-- how many owners of the slot's item have names
+abbrev pub named_owners : ScriptState → ℕ → ℕ
+named_owners d k = count_by (owns k) d.owners
+
+-- what has a name is of the world's home
+abbrev pub AreAtHome : ScriptState → List (Option OwnerOrCell) → Type 0
+AreAtHome d hs = (n : ℕ) (h : OwnerOrCell) → holding_at hs n ≡ Some h → IsOf d.world.home h
+
+-- who is there, and which guards are open
+pub record IsAttended (d : ScriptState) : Type 0 where
+  pub inside : (n : ℕ) (x : OpenSince) → opening_at d.places n ≡ Some x → IsPlaceOf d.world x.place
+  pub apart : (n m : ℕ) (x y : OpenSince) → opening_at d.places n ≡ Some x → opening_at d.places m ≡ Some y → x.place ≡ y.place → n ≡ m
+  pub opened : (p : ℕ) → (place_at d.world p).guards ≡ count_by (is_of p) d.guards
+  -- a guard is that of a participant, which has not been without one since
+  pub since : (g : ℕ) (y : OpenSince) → opening_at d.guards g ≡ Some y →
+      (n : ℕ) × (x : OpenSince) × (opening_at d.places n ≡ Some x) × (x.place ≡ y.place) × (x.since ≤ y.since)
+  -- in a line so far
+  pub early : (n : ℕ) (x : OpenSince) → opening_at d.places n ≡ Some x → x.since ≤ d.moment
+  -- an item or a cell was made by some participant, and its place, or another, is not free
+  pub placed : 0 < length d.slots + length d.cells → (p : ℕ) × IsSome (phase_at d.world.time p)
+
+-- what began to wait since a participant's last outermost opening can't go as long as a guard of it is open
+abbrev pub IsKept : ScriptState → Type 0
+IsKept d = (n s : ℕ) (x : OpenSince) → opening_at d.places n ≡ Some x → IsTrue (is_open (place_at d.world x.place)) →
+    IsTrue (is_waiting (standing_at d.world s)) → x.since ≤ date_at d s → IsSafe d.world x.place s
+
+-- what a value holds is an owner of an item that was made before its own: so with no owner outside, and none out as raw, all goes
+abbrev pub IsLayered : ScriptState → Type 0
+IsLayered d = (j k : ℕ) → 1 ≤ times_held holdings_of k (value_at d.world j) → name_at d k < name_at d j
+
+-- each place of the table of jobs that is taken has a job's name, no two the same
+pub record AreDeferred (jobs : ℕ) (deferred : List ℕ) (table : Entries (Unit {0})) : Type 0 where
+  pub named : (k : ℕ) → IsSome (entry_at table k) → slice_index deferred k < jobs
+  pub apart : (k m : ℕ) → IsSome (entry_at table k) → IsSome (entry_at table m) → slice_index deferred k ≡ slice_index deferred m → k ≡ m
+  pub long : length deferred ≡ length table
+
+pub record IsSound (d : ScriptState) : Type 0 where
+  pub stocked : IsStocked d
+  pub cells : AreKept d
+  pub layered : IsLayered d
+  pub accounts : IsAccounted holdings_of (named_owners d) d.world
+  pub owners_home : AreAtHome d d.owners
+  pub cells_home : AreAtHome d d.cells
+  pub collectors_home : AreAtHome d d.collectors
+  pub attended : IsAttended d
+  pub kept : IsKept d
+  -- in a line so far
+  pub early : (s : ℕ) → date_at d s ≤ d.moment
+  pub made : d.world.tally.made ≡ length d.slots
+  pub deferred : AreDeferred d.jobs d.deferred d.world.jobs
+  -- a line defers one job at most
+  pub few : d.jobs ≤ d.moment

@@ -1,0 +1,10 @@
+//! What scripts mean: the desk that a script works at, what each line does to it and answers, and what is always true of it.
+//!
+//! No world runs here. The crate `sdd_script` runs scripts, and shows that its answers are those that are meant.
+#![tactic(auto)]
+
+pub mod owner_kind;
+pub mod val;
+
+pub use owner_kind::OwnerKind;
+pub use val::{Body, Val};

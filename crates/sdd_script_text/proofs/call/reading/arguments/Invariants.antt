@@ -1,0 +1,17 @@
+use Rattle.std.proofs.Common.{◌≡◌, ◌++◌, length, map}
+use denote.Shadow.{shadow}
+use denote.Text.{Utf8}
+use Rattle.std.specs.List.{AllByRecursion}
+use Rattle.sdd_script_text.specs.Call.{word_of, words, HasNumber}
+use Rattle.sdd_script_text.proofs.call.reading.arguments.Given as goal
+
+-- the arguments so far, and the words that are left, are the words of the text
+abbrev pub invariant-loop-word : goal.invariant-loop-word
+invariant-loop-word l = record {
+  text : shadow (Utf8 l.rest);
+  words : map word_of l.found ++ words l.rest ≡ words l.text;
+  numbers : AllByRecursion HasNumber l.found;
+}
+
+abbrev pub decreases-loop-word : goal.decreases-loop-word
+decreases-loop-word l = length (words l.rest)

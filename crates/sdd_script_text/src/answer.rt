@@ -1,0 +1,207 @@
+//! The answers of a script, each of which is a line.
+
+ghost use Rattle.std.specs.Prelude.{◌≡◌, ℕ, List, [], ◌∷◌, ◌++◌, map, Some, OnOk, IfOk, IfErr, string_bytes};
+ghost use Rattle.sdd_script_text.specs.Name.{tag as word_of_tag};
+ghost use Rattle.sdd_script_text.specs.Answer.{refusal, ending, text_of, text_of_all, text_of_fault};
+
+use crate::name::{
+    CellName, CollectorName, GuardName, ItemName, JobName, Names, OwnerName, PlaceName,
+};
+use sdd_core::inner::number_of_refusal;
+use sdd_core::{Epoch, Refused, Tag};
+use sdd_participants::Tally;
+use std::alloc::{AllocError, Global};
+use std::fmt;
+
+/// What a call answered.
+#[derive(Clone, Copy, Debug, PartialEq, Eq)]
+pub enum Reply {
+    /// `p0`: a new participant.
+    Place(PlaceName),
+    /// `made A reclaimed B in place C`: how many items there were.
+    Tally(Tally),
+    /// `g0 epoch E`: a new guard, and the epoch that it shows.
+    Guard(GuardName, Epoch),
+    /// An epoch, as its number.
+    Epoch(Epoch),
+    /// `true` or `false`.
+    Truth(bool),
+    /// `ok`: nothing else is to be told.
+    Done,
+    /// `j0`: a new job, which waits.
+    Job(JobName),
+    /// `k0`: a new collector.
+    Collector(CollectorName),
+    /// `o0 i0`: a new owner of a new item.
+    Item(OwnerName, ItemName),
+    /// `o0`: an owner of an item that was there.
+    Owner(OwnerName),
+    /// `none`: no owner, or nothing to see.
+    Nothing,
+    /// `i0`: the item that is out as raw.
+    Raw(ItemName),
+    /// A value that is a number, as `7`.
+    Value(u64),
+    /// `of i0`: a value that holds an owner of this item.
+    Holding(ItemName),
+    /// `c0`: a new cell.
+    Cell(CellName),
+    /// `i0 T` or `null T`: a pointer to an item, or to none, and its tag.
+    Pointer(Option<ItemName>, Tag),
+    /// A tag: `None`, `First`, `Second` or `Both`.
+    Tag(Tag),
+    /// `o0 T` or `none T`: the owner that a cell held, if any, and the cell's tag.
+    Swapped(Option<OwnerName>, Tag),
+    /// `ok o0` or `ok none`: a cell had what was expected, and held this owner, if any.
+    Exchanged(Option<OwnerName>),
+    /// `differs i0 T` or `differs null T`: a cell points to this, and not to what was expected. Nothing changed.
+    Differs(Option<ItemName>, Tag),
+    Refused(Refused),
+    /// The call names what was never given, is spent or is of the wrong kind. Nothing changed.
+    Invalid,
+}
+
+impl fmt::Display for Reply {
+    ghost use Rattle.std.specs.Prelude.{Some};
+    ghost use Rattle.sdd_script_text.specs.Call.{joined};
+    ghost use Rattle.sdd_script_text.specs.Answer.{words_of_reply};
+
+    ghost output = { λ reply. Some (joined (words_of_reply reply)) };
+
+    fn fmt<W: fmt::Write>(&self, f: &mut fmt::Formatter<W>) -> fmt::Result {
+        match *self {
+            Reply::Place(place) => write!(f, "{place}"),
+            Reply::Tally(
+                Tally {
+                    made,
+                    reclaimed,
+                    in_place,
+                },
+            ) => write!(f, "made {made} reclaimed {reclaimed} in place {in_place}"),
+            Reply::Guard(guard, epoch) => write!(f, "{guard} epoch {}", u8::from(epoch)),
+            Reply::Epoch(epoch) => write!(f, "{}", u8::from(epoch)),
+            Reply::Truth(truth) => write!(f, "{truth}"),
+            Reply::Done => write!(f, "ok"),
+            Reply::Job(job) => write!(f, "{job}"),
+            Reply::Collector(collector) => write!(f, "{collector}"),
+            Reply::Item(owner, item) => write!(f, "{owner} {item}"),
+            Reply::Owner(owner) => write!(f, "{owner}"),
+            Reply::Nothing => write!(f, "none"),
+            Reply::Raw(item) => write!(f, "{item}"),
+            Reply::Value(value) => write!(f, "{value}"),
+            Reply::Holding(item) => write!(f, "of {item}"),
+            Reply::Cell(cell) => write!(f, "{cell}"),
+            Reply::Pointer(Some(item), tag) => write!(f, "{item} {}", name_of_tag(tag)),
+            Reply::Pointer(None, tag) => write!(f, "null {}", name_of_tag(tag)),
+            Reply::Tag(tag) => write!(f, "{}", name_of_tag(tag)),
+            Reply::Swapped(Some(owner), tag) => write!(f, "{owner} {}", name_of_tag(tag)),
+            Reply::Swapped(None, tag) => write!(f, "none {}", name_of_tag(tag)),
+            Reply::Exchanged(Some(owner)) => write!(f, "ok {owner}"),
+            Reply::Exchanged(None) => write!(f, "ok none"),
+            Reply::Differs(Some(item), tag) => write!(f, "differs {item} {}", name_of_tag(tag)),
+            Reply::Differs(None, tag) => write!(f, "differs null {}", name_of_tag(tag)),
+            Reply::Refused(refused) => {
+                write!(
+                    f,
+                    "refused {} {}",
+                    number_of_refusal(refused),
+                    name_of(refused)
+                )
+            }
+            Reply::Invalid => write!(f, "invalid"),
+        }
+    }
+}
+
+/// An answer: the reply, and the items reclaimed and the jobs run during the call, as they are to be printed.
+#[derive(Debug, Drop)]
+pub struct Answer {
+    pub reply: Reply,
+    pub reclaimed: Names<ItemName>,
+    pub ran: Names<JobName>,
+}
+
+/// The text of answers: a line for each, ended by a line feed.
+///
+/// Refused with `NoMemory` alone.
+pub fn print_all(alloc: Global, answers: &[Answer]) -> Result<Vec<u8>, Refused>
+    ensures text { IfOk result (λ bytes. bytes.items ≡ text_of_all answers.now) }
+    ensures err { IfErr result (λ refused. refused ≡ Refused.NoMemory) }
+{
+    let mut text = String::new(alloc);
+    for answer in answers {
+        push_answer(&mut text, answer)?;
+    }
+    Ok(text.into_bytes())
+}
+
+/// The text that tells that the line with this number, counted from 1, is the first that is no call.
+///
+/// Refused with `NoMemory` alone.
+pub fn print_fault(alloc: Global, line: u64) -> Result<Vec<u8>, Refused>
+    ensures text { IfOk result (λ bytes. bytes.items ≡ text_of_fault line) }
+    ensures err { IfErr result (λ refused. refused ≡ Refused.NoMemory) }
+{
+    let text = format!(in alloc; "line {line}: not a call\n")?;
+    Ok(text.into_bytes())
+}
+
+fn push_answer(text: &mut String, answer: &Answer) -> Result<(), AllocError>
+    ensures { OnOk result
+        (string_bytes text.new ≡ string_bytes text.old ++ (text_of answer.now ++ 10 ∷ [])) }
+{
+    write!(text, "{}", answer.reply)?;
+    push_ending(text, "reclaimed", answer.reclaimed.as_slice())?;
+    push_ending(text, "ran", answer.ran.as_slice())?;
+    text.push('\n')
+}
+
+/// Adds the heading and each name, each after a space, where there are names.
+fn push_ending<N: fmt::Display>(
+    text: &mut String,
+    heading: &str,
+    names: &[N],
+) -> Result<(), AllocError>
+    ensures { (shown : N → List ℕ) → ((name : N) → N.output name ≡ Some (shown name)) →
+        OnOk result
+        (string_bytes text.new ≡ string_bytes text.old ++ ending heading.now (map shown names.now)) }
+{
+    if names.is_empty() {
+        return Ok(());
+    }
+    write!(text, " {heading}")?;
+    for name in names {
+        write!(text, " {name}")?;
+    }
+    Ok(())
+}
+
+fn name_of(refused: Refused) -> &'static str
+    ensures { result.now ≡ refusal refused }
+{
+    match refused {
+        Refused::NoSlot => "NoSlot",
+        Refused::NoCell => "NoCell",
+        Refused::NoJob => "NoJob",
+        Refused::NoPlace => "NoPlace",
+        Refused::NoMemory => "NoMemory",
+        Refused::TooManyGuards => "TooManyGuards",
+        Refused::GuardOpen => "GuardOpen",
+        Refused::NotAlone => "NotAlone",
+        Refused::OwnerOut => "OwnerOut",
+        Refused::Contended => "Contended",
+        Refused::TooManyOwners => "TooManyOwners",
+        Refused::BadLimits => "BadLimits",
+    }
+}
+
+fn name_of_tag(tag: Tag) -> &'static str
+    ensures { result.now ≡ word_of_tag tag }
+{
+    match tag {
+        Tag::None => "None",
+        Tag::First => "First",
+        Tag::Second => "Second",
+        Tag::Both => "Both",
+    }
+}

@@ -1,0 +1,145 @@
+//! The calls of a script, each of which is a line.
+
+mod arguments;
+pub(crate) mod reading;
+
+use crate::name::{CellName, CollectorName, GuardName, ItemName, OwnerName, PlaceName};
+use sdd_core::Tag;
+use std::str;
+
+/// A call of a script.
+#[derive(Clone, Copy, Debug, PartialEq, Eq)]
+pub enum Call {
+    Register,
+    Tally,
+    At(PlaceName, Action),
+}
+
+/// What a participant is to do.
+#[derive(Clone, Copy, Debug, PartialEq, Eq)]
+pub enum Action {
+    /// `open`: opens a guard.
+    Open,
+    /// `epoch G`: the epoch that a guard shows.
+    Epoch(GuardName),
+    /// `garbage G`: whether something may wait.
+    Garbage(GuardName),
+    /// `set G`: says that there is garbage.
+    Set(GuardName),
+    /// `accelerate G`: has the next outermost close try to raise the epoch.
+    Accelerate(GuardName),
+    /// `defer G`: defers a job that does nothing.
+    Defer(GuardName),
+    /// `owned V`: makes an item with one owner.
+    Owned(Value),
+    /// `shared V`: makes an item whose owners are counted.
+    Shared(Value),
+    /// `read O`: the value of an owner's item.
+    Read(OwnerName),
+    /// `look I G`: the value of an item that has no owner at hand, through a pointer to it.
+    Look(ItemName, GuardName),
+    /// `upgrade I G`: an owner more of an item, through a pointer to it.
+    Upgrade(ItemName, GuardName),
+    /// `retire O`: retires the item of its one owner.
+    Retire(OwnerName),
+    /// `release O`: gives up one of the counted owners.
+    Release(OwnerName),
+    /// `clone O`: an owner more beside a counted one.
+    Clone(OwnerName),
+    /// `put O n`: the number that an owner's item holds becomes this one, in its place.
+    Put(OwnerName, u64),
+    /// `drop O`: gives up an owner; the item of one that is alone is dropped in its place.
+    Drop(OwnerName),
+    /// `raw O`: puts the item of its one owner out as raw, with no owner.
+    Raw(OwnerName),
+    /// `unraw I`: the owner of an item that is out as raw.
+    Unraw(ItemName),
+    /// `see I G`: the value of an item that is out as raw.
+    See(ItemName, GuardName),
+    /// `cell owned X`: a cell that holds an owner, or `none`, and closes with it.
+    CellOwned(Option<OwnerName>),
+    /// `cell shared X`: a cell that holds a counted owner, or `none`.
+    CellShared(Option<OwnerName>),
+    /// `load C G`: what a cell points to, under a guard.
+    Load(CellName, GuardName),
+    /// `tag C`: the tag of a cell.
+    Tag(CellName),
+    /// `swap C X T`: puts an owner, or `none`, and a tag into a cell, and takes out what was there.
+    Swap(CellName, Option<OwnerName>, Tag),
+    /// `tagif C T if T`: gives a cell the first tag where it has the second.
+    TagIf(CellName, Tag, Tag),
+    /// `cas C G was Y T now X T`: where a cell points to an item, or `null`, with a tag, swaps that for an owner, or `none`, and a tag.
+    Exchange(CellName, GuardName, Option<ItemName>, Tag, Option<OwnerName>, Tag),
+    /// `copy C G`: a cell with one more owner of what a shared cell holds.
+    Copy(CellName, GuardName),
+    /// `share C G`: one more owner of what a shared cell holds.
+    Share(CellName, GuardName),
+    /// `into C`: ends a cell, and takes out the owner in it.
+    Into(CellName),
+    /// `collector`: a collector of items that end with it at latest.
+    Collector,
+    /// `collect O G K`: gives an owner to a collector.
+    Collect(OwnerName, GuardName, CollectorName),
+    /// `close G`: closes a guard.
+    Close(GuardName),
+    /// `close C`: closes a cell, and gives up what it holds.
+    CloseCell(CellName),
+    /// `close K`: closes a collector, and reclaims what waits for it.
+    CloseCollector(CollectorName),
+    /// `end`: the participant takes part no more.
+    End,
+}
+
+/// The value of a new item.
+#[derive(Clone, Copy, Debug, PartialEq, Eq)]
+pub enum Value {
+    /// A number, as `7`.
+    Number(u64),
+    /// An owner that goes into the value, as `of o0`.
+    Of(OwnerName),
+}
+
+/// An argument of a verb: a word of a line that is a number, a name, a tag or fixed.
+#[derive(Clone, Copy)]
+pub(crate) enum Argument {
+    Number(u64),
+    Guard(GuardName),
+    /// An owner, or `none`.
+    Owner(Option<OwnerName>),
+    /// An item, or `null`.
+    Item(Option<ItemName>),
+    Cell(CellName),
+    Collector(CollectorName),
+    Tag(Tag),
+    Word(Word),
+}
+
+/// A word that a line has in a fixed place.
+#[derive(Clone, Copy)]
+pub(crate) enum Word {
+    Owned,
+    Shared,
+    Of,
+    If,
+    Was,
+    Now,
+}
+
+impl Call {
+    ghost use Rattle.std.specs.Prelude.{◌≤◌, MatchOption, OnSome, length};
+    ghost use Rattle.sdd_script_text.specs.Call.{IsTextOf, IsCallText};
+
+    /// The call whose text a line is, without a line feed, or `None` where it is that of no call.
+    #[tactic(auto, using(crate::proofs::Lines::call_at_answers, crate::proofs::Lines::short_from_call, crate::proofs::Lines::utf8_from_call))]
+    pub fn parse(line: &[u8]) -> Option<Call>
+        ensures call { MatchOption result (¬ IsCallText line.now) (λ call. IsTextOf call line.now) }
+
+        // So a longer line is no call.
+        ensures short { OnSome result (length line.now ≤ 200) }
+    {
+        match str::from_utf8(line) {
+            Ok(text) => reading::call(text),
+            Err(_) => None,
+        }
+    }
+}

@@ -1,0 +1,296 @@
+//! Reading a line, word by word.
+
+ghost use Rattle.std.specs.Prelude.{◌≡◌, [], ◌∷◌, ◌<◌, Some, IfSome, MatchOption, map};
+ghost use Rattle.std.specs.List.{AllByRecursion};
+ghost use Rattle.std.specs.Fmt.{decimal};
+ghost use Rattle.sdd_script_text.specs.Call.{IsNumber, HasNumber, word_of, spoken, HasNumbers, words, words_of};
+ghost use Rattle.sdd_script_text.specs.Reading.{IsNumberOf, numbered_at, argument_at, numbered_argument_at, few_arguments_at, with_arguments, called, action_at, call_at};
+
+use super::arguments::Arguments;
+use super::{Action, Argument, Call, Value, Word};
+use crate::first::split_word;
+use crate::name::{CellName, CollectorName, GuardName, ItemName, OwnerName, PlaceName};
+use sdd_core::Tag;
+
+/// The number that a word is in its one form: without a sign and without a leading zero.
+#[tactic(auto, using(crate::proofs::Lines::one_form))]
+pub(crate) fn number(word: &str) -> Option<u64>
+    ensures { IsNumberOf word.now result }
+{
+    match word.as_bytes() {
+        [b'+', ..] | [b'0', _, ..] => None,
+        _ => word.parse().ok(),
+    }
+}
+
+/// The number of a name with this letter.
+#[tactic(auto, using(crate::proofs::Lines::lettered))]
+fn numbered(letter: char, word: &str) -> Option<u64>
+    requires { letter < 128 }
+    ensures is { result ≡ numbered_at letter word.now }
+    ensures sound { IfSome result (λ n. IsNumber n × (letter ∷ decimal n ≡ word.now)) }
+{
+    number(word.strip_prefix(letter)?)
+}
+
+#[tactic(auto, using(crate::proofs::Lines::one_argument))]
+fn argument(word: &str) -> Option<Argument>
+    ensures is { result ≡ argument_at word.now }
+    ensures sound { IfSome result (λ argument. HasNumber argument × (word_of argument ≡ word.now)) }
+{
+    match word {
+        "none" => Some(Argument::Owner(None)),
+        "null" => Some(Argument::Item(None)),
+        "None" => Some(Argument::Tag(Tag::None)),
+        "First" => Some(Argument::Tag(Tag::First)),
+        "Second" => Some(Argument::Tag(Tag::Second)),
+        "Both" => Some(Argument::Tag(Tag::Both)),
+        "owned" => Some(Argument::Word(Word::Owned)),
+        "shared" => Some(Argument::Word(Word::Shared)),
+        "of" => Some(Argument::Word(Word::Of)),
+        "if" => Some(Argument::Word(Word::If)),
+        "was" => Some(Argument::Word(Word::Was)),
+        "now" => Some(Argument::Word(Word::Now)),
+        _ => numbered_argument(word),
+    }
+}
+
+/// A number by itself, or behind a letter that says what it names.
+#[tactic(auto, using(crate::proofs::Lines::one_argument))]
+fn numbered_argument(word: &str) -> Option<Argument>
+    ensures is { result ≡ numbered_argument_at word.now }
+    ensures sound { IfSome result (λ argument. HasNumber argument × (word_of argument ≡ word.now)) }
+{
+    match word.as_bytes() {
+        [b'g', ..] => Some(Argument::Guard(GuardName(numbered('g', word)?))),
+        [b'o', ..] => Some(Argument::Owner(Some(OwnerName(numbered('o', word)?)))),
+        [b'i', ..] => Some(Argument::Item(Some(ItemName(numbered('i', word)?)))),
+        [b'c', ..] => Some(Argument::Cell(CellName(numbered('c', word)?))),
+        [b'k', ..] => Some(Argument::Collector(CollectorName(numbered('k', word)?))),
+        _ => Some(Argument::Number(number(word)?)),
+    }
+}
+
+/// The arguments that the words of a text are, or `None` where one is none or they are too many.
+#[tactic(auto, using(crate::proofs::Lines::by_word))]
+fn arguments(text: &str) -> Option<Arguments>
+    ensures is { result ≡ few_arguments_at (words text.now) }
+    ensures sound { IfSome result (λ arguments. AllByRecursion HasNumber arguments × (map word_of arguments ≡ words text.now)) }
+{
+    let mut found = Arguments::none();
+    let mut rest = text;
+    while let Some((word, after)) = split_word(rest) {
+        found.push(argument(word)?)?;
+        rest = after;
+    }
+    found.push(argument(rest)?)?;
+    Some(found)
+}
+
+/// The verbs, each with its arguments. Its own are those with none or with eight.
+fn spoken(verb: &str, arguments: &[Argument]) -> Option<Action>
+    ensures { result ≡ called verb.now (with_arguments arguments.now) }
+{
+    match *arguments {
+        [] => match verb {
+            "open" => Some(Action::Open),
+            "collector" => Some(Action::Collector),
+            "end" => Some(Action::End),
+            _ => None,
+        },
+        [argument] => with_one(verb, argument),
+        [first, second] => with_two(verb, first, second),
+        [first, second, third] => with_three(verb, first, second, third),
+        [first, second, third, fourth] => with_four(verb, first, second, third, fourth),
+        [
+            Argument::Cell(cell),
+            Argument::Guard(guard),
+            Argument::Word(Word::Was),
+            Argument::Item(item),
+            Argument::Tag(old),
+            Argument::Word(Word::Now),
+            Argument::Owner(held),
+            Argument::Tag(tag),
+        ] => match verb {
+            "cas" => Some(Action::Exchange(cell, guard, item, old, held, tag)),
+            _ => None,
+        },
+        _ => None,
+    }
+}
+
+/// The verbs with a number.
+fn with_number(verb: &str, number: u64) -> Option<Action>
+    ensures { result ≡ called verb.now (with_arguments (Argument.Number number ∷ [])) }
+{
+    match verb {
+        "owned" => Some(Action::Owned(Value::Number(number))),
+        "shared" => Some(Action::Shared(Value::Number(number))),
+        _ => None,
+    }
+}
+
+/// The verbs with a guard.
+fn with_guard(verb: &str, guard: GuardName) -> Option<Action>
+    ensures { result ≡ called verb.now (with_arguments (Argument.Guard guard ∷ [])) }
+{
+    match verb {
+        "epoch" => Some(Action::Epoch(guard)),
+        "garbage" => Some(Action::Garbage(guard)),
+        "set" => Some(Action::Set(guard)),
+        "accelerate" => Some(Action::Accelerate(guard)),
+        "defer" => Some(Action::Defer(guard)),
+        "close" => Some(Action::Close(guard)),
+        _ => None,
+    }
+}
+
+/// The verbs with an owner.
+fn with_owner(verb: &str, owner: OwnerName) -> Option<Action>
+    ensures { result ≡ called verb.now (with_arguments (Argument.Owner (Some owner) ∷ [])) }
+{
+    match verb {
+        "read" => Some(Action::Read(owner)),
+        "retire" => Some(Action::Retire(owner)),
+        "release" => Some(Action::Release(owner)),
+        "clone" => Some(Action::Clone(owner)),
+        "drop" => Some(Action::Drop(owner)),
+        "raw" => Some(Action::Raw(owner)),
+        _ => None,
+    }
+}
+
+/// The verbs with a cell.
+fn with_cell(verb: &str, cell: CellName) -> Option<Action>
+    ensures { result ≡ called verb.now (with_arguments (Argument.Cell cell ∷ [])) }
+{
+    match verb {
+        "tag" => Some(Action::Tag(cell)),
+        "into" => Some(Action::Into(cell)),
+        "close" => Some(Action::CloseCell(cell)),
+        _ => None,
+    }
+}
+
+/// The verbs with one argument.
+fn with_one(verb: &str, argument: Argument) -> Option<Action>
+    ensures { result ≡ called verb.now (with_arguments (argument ∷ [])) }
+{
+    match argument {
+        Argument::Number(number) => with_number(verb, number),
+        Argument::Guard(guard) => with_guard(verb, guard),
+        Argument::Owner(Some(owner)) => with_owner(verb, owner),
+        Argument::Cell(cell) => with_cell(verb, cell),
+        Argument::Item(Some(item)) => match verb {
+            "unraw" => Some(Action::Unraw(item)),
+            _ => None,
+        },
+        Argument::Collector(collector) => match verb {
+            "close" => Some(Action::CloseCollector(collector)),
+            _ => None,
+        },
+        _ => None,
+    }
+}
+
+/// The verbs with two arguments.
+fn with_two(verb: &str, first: Argument, second: Argument) -> Option<Action>
+    ensures { result ≡ called verb.now (with_arguments (first ∷ second ∷ [])) }
+{
+    match (first, second) {
+        (Argument::Item(Some(item)), Argument::Guard(guard)) => match verb {
+            "look" => Some(Action::Look(item, guard)),
+            "upgrade" => Some(Action::Upgrade(item, guard)),
+            "see" => Some(Action::See(item, guard)),
+            _ => None,
+        },
+        (Argument::Owner(Some(owner)), Argument::Number(number)) => match verb {
+            "put" => Some(Action::Put(owner, number)),
+            _ => None,
+        },
+        (Argument::Cell(cell), Argument::Guard(guard)) => match verb {
+            "load" => Some(Action::Load(cell, guard)),
+            "copy" => Some(Action::Copy(cell, guard)),
+            "share" => Some(Action::Share(cell, guard)),
+            _ => None,
+        },
+        (Argument::Word(Word::Of), Argument::Owner(Some(owner))) => match verb {
+            "owned" => Some(Action::Owned(Value::Of(owner))),
+            "shared" => Some(Action::Shared(Value::Of(owner))),
+            _ => None,
+        },
+        (Argument::Word(Word::Owned), Argument::Owner(held)) => match verb {
+            "cell" => Some(Action::CellOwned(held)),
+            _ => None,
+        },
+        (Argument::Word(Word::Shared), Argument::Owner(held)) => match verb {
+            "cell" => Some(Action::CellShared(held)),
+            _ => None,
+        },
+        _ => None,
+    }
+}
+
+/// The verbs with three arguments.
+fn with_three(verb: &str, first: Argument, second: Argument, third: Argument) -> Option<Action>
+    ensures { result ≡ called verb.now (with_arguments (first ∷ second ∷ third ∷ [])) }
+{
+    match (first, second, third) {
+        (Argument::Cell(cell), Argument::Owner(held), Argument::Tag(tag)) => match verb {
+            "swap" => Some(Action::Swap(cell, held, tag)),
+            _ => None,
+        },
+        (Argument::Owner(Some(owner)), Argument::Guard(guard), Argument::Collector(collector)) =>
+            match verb {
+                "collect" => Some(Action::Collect(owner, guard, collector)),
+                _ => None,
+            },
+        _ => None,
+    }
+}
+
+/// The verbs with four arguments.
+fn with_four(
+    verb: &str,
+    first: Argument,
+    second: Argument,
+    third: Argument,
+    fourth: Argument,
+) -> Option<Action>
+    ensures { result ≡ called verb.now (with_arguments (first ∷ second ∷ third ∷ fourth ∷ [])) }
+{
+    match (first, second, third, fourth) {
+        (Argument::Cell(cell), Argument::Tag(tag), Argument::Word(Word::If), Argument::Tag(old)) =>
+            match verb {
+                "tagif" => Some(Action::TagIf(cell, tag, old)),
+                _ => None,
+            },
+        _ => None,
+    }
+}
+
+#[tactic(auto, using(crate::proofs::Lines::said_by))]
+fn action(text: &str) -> Option<Action>
+    ensures is { result ≡ action_at (words text.now) }
+    ensures sound { IfSome result (λ action. AllByRecursion HasNumber (spoken action).1
+        × ((spoken action).0 ∷ map word_of (spoken action).1 ≡ words text.now)) }
+{
+    match split_word(text) {
+        Some((verb, rest)) => spoken(verb, arguments(rest)?.as_slice()),
+        None => spoken(text, &[]),
+    }
+}
+
+pub(super) fn call(text: &str) -> Option<Call>
+    ensures is { result ≡ call_at text.now }
+    ensures sound { IfSome result (λ call. HasNumbers call × (words_of call ≡ words text.now)) }
+{
+    match text {
+        "register" => Some(Call::Register),
+        "tally" => Some(Call::Tally),
+        _ => {
+            let (first, rest) = split_word(text)?;
+            Some(Call::At(PlaceName(numbered('p', first)?), action(rest)?))
+        }
+    }
+}

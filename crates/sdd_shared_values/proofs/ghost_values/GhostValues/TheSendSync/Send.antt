@@ -1,0 +1,7 @@
+-- A ledger owns nothing, so it may go to any thread.
+use denote.RattleType.{RattleType}
+use denote.Param.Send.{IsSend}
+use Rattle.sdd_shared_values.specs.contracts.ghost_values.GhostValues.{the_row}
+
+pub send : (T : RattleType) → IsSend (the_row T)
+send T = record { owned = λ d vs. ((λ vss. (tt, ((λ uss. (tt, tt)), tt))), (λ _. tt)); leaving = λ k f vs. tt }

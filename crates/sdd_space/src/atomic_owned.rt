@@ -1,0 +1,302 @@
+ghost use Rattle.std.specs.Prelude.{ℕ, ◌≡◌, ◌≢◌, ◌+◌, ◌^◌, ◌<◌, ◌⊎◌, ◌↔◌, IfErr, IfOk, IfSome, IsOk, IsSome, IsTrue, MatchOption, MatchResult, None, Some, if◌then◌else◌, option_map};
+ghost use Rattle.sdd_rights.specs.Right.{kind_of};
+ghost use Rattle.sdd_standings.specs.Slots.{IsSharedBy};
+ghost use Rattle.sdd_space.specs.OwnerOrCell.{AreOf};
+ghost use Rattle.sdd_space.specs.World.{World, standing_at};
+ghost use Rattle.sdd_space.specs.CallerId.{IsSeated, IsExact};
+ghost use Rattle.sdd_space.specs.Refusals.{IsContended, IsRefusedBy};
+ghost use Rattle.sdd_space.specs.Undisturbed.{Undisturbed, Unmoved};
+ghost use Rattle.sdd_space.specs.Own.{IsSpilled};
+ghost use Rattle.sdd_space.specs.Ptr.{IsShown, cell_seen, slot_named, shown_by, tag_of};
+ghost use Rattle.sdd_space.specs.RawPtr as raw;
+ghost use Rattle.sdd_space.specs.Guard.{reader_of};
+ghost use Rattle.sdd_space.specs.Steps.{made, nulled, with_cell, without_cell, with_standing, cell_closed};
+ghost use Rattle.sdd_space.specs.Owned.{right_of, slot_of, slots_home, cell_right, cell_of, cells_home, cell_with, IsOfSlots};
+ghost use Rattle.sdd_core.specs.declared.tag.Tag.TheVariants.{None as no_tag};
+ghost use Rattle.sdd_participants.specs.Slab.{IsEmptyAt, IsFull, entry_at};
+
+use crate::guard::Guard;
+use crate::item::Item;
+use crate::owned::Owned;
+use crate::ptr::Ptr;
+use crate::raw_ptr::RawPtr;
+use crate::space::{Cells, Items};
+use sdd_core::{Refused, Tag};
+use sdd_participants::{CellContents, Standing};
+use sdd_rights::{StandingKind, Right, UniqueRight};
+use std::marker::PhantomData;
+
+/// An owner, if there is one, and a pointer.
+pub type OwnedPtrPair<'g, T> = (Option<Owned<T>>, Ptr<'g, T>);
+
+/// A cell that holds an owner, or nothing, and a tag.
+///
+/// It must be spent: by `close`, by `into_owned`, or given into a value.
+pub struct AtomicOwned<T> {
+    right: UniqueRight,
+    of: PhantomData<T>,
+}
+
+const _: () = prove!(size_of::<AtomicOwned<u64>>() == 4);
+
+impl<T> AtomicOwned<T> {
+    pub(crate) fn of_right(right: Right) -> AtomicOwned<T>
+        requires { kind_of right ≡ StandingKind.Owned }
+        ensures { cell_right result ≡ right }
+    {
+        AtomicOwned {
+            right: UniqueRight::of(right),
+            of: PhantomData,
+        }
+    }
+
+    pub(crate) fn into_right(self) -> Right
+        ensures right { result ≡ cell_right self }
+        ensures kind { kind_of result ≡ StandingKind.Owned }
+    {
+        let AtomicOwned { right, of: _ } = self;
+        right.into_right()
+    }
+
+    pub(crate) fn right(&self) -> &Right
+        ensures right { result.now ≡ cell_right self.now }
+        ensures kind { kind_of result.now ≡ StandingKind.Owned }
+    {
+        self.right.right()
+    }
+}
+
+impl<T: Item<T>> AtomicOwned<T> {
+    /// A cell that holds the owner of a new item, with tag None.
+    ///
+    /// `NoSlot` where no slot is free, else `NoCell` where no cell is; `Contended`, in a domain alone, where as many exchanges were lost as its limits
+    /// allow. The value comes back.
+    pub fn new<S: Cells<T>>(value: T, s: &mut S) -> Result<AtomicOwned<T>, (T, Refused)>
+        requires seated { IsSeated (S.seat s.old) }
+        requires home { AreOf (S.seat s.old).home (T.holds value) }
+        ensures undisturbed { Undisturbed S.seat S.own S.known S.shows s.old s.new }
+        ensures home { IfOk result (λ cell. cells_home cell ≡ (S.seat s.old).home.cells) }
+        ensures shown { IsExact (S.seat s.old) → IfOk result (λ cell. (slot : ℕ) × S.shows s.new slot value ×
+            (entry_at (S.world s.new).cells (cell_of cell) ≡ Some (record { held = Some slot; tag = no_tag }))) }
+        ensures back { IfErr result (λ e. (e.0 ≡ value) × ((e.1 ≡ Refused.NoSlot) ⊎ IsRefusedBy (S.seat s.old) Refused.NoCell e.1)) }
+        ensures exact { IsExact (S.seat s.old) → MatchResult result
+            (λ cell. (slot : ℕ) × IsEmptyAt (S.world s.old).standings slot × IsEmptyAt (S.world s.old).cells (cell_of cell) ×
+            (S.world s.new ≡ with_cell (made (S.world s.old) slot value) (cell_of cell) (record { held = Some slot; tag = no_tag })))
+            (λ e. (IsFull (S.world s.old).standings × (e ≡ (value, Refused.NoSlot)) ⊎
+            ¬ (IsFull (S.world s.old).standings) × IsFull (S.world s.old).cells × (e ≡ (value, Refused.NoCell))) × (S.world s.new ≡ S.world s.old)) }
+    {
+        Ok(AtomicOwned::of_right(s.new_in_cell(value, StandingKind::Owned)?))
+    }
+
+    /// A cell that holds this owner, with tag None.
+    ///
+    /// `NoCell` where no cell is free; `Contended`, in a domain alone, where as many exchanges were lost as its limits allow. The owner comes back.
+    pub fn from<S: Cells<T>>(
+        owner: Owned<T>,
+        s: &mut S,
+    ) -> Result<AtomicOwned<T>, (Owned<T>, Refused)>
+        requires seated { IsSeated (S.seat s.old) }
+        requires home { slots_home owner ≡ (S.seat s.old).home.slots }
+        ensures undisturbed { Undisturbed S.seat S.own S.known S.shows s.old s.new }
+        ensures home { IfOk result (λ cell. cells_home cell ≡ (S.seat s.old).home.cells) }
+        ensures back { IfErr result (λ e. (right_of e.0 ≡ right_of owner) × IsRefusedBy (S.seat s.old) Refused.NoCell e.1) }
+        ensures exact { IsExact (S.seat s.old) → MatchResult result
+            (λ cell. IsEmptyAt (S.world s.old).cells (cell_of cell) ×
+            (S.world s.new ≡ with_cell (S.world s.old) (cell_of cell) (cell_with (Some owner) no_tag)))
+            (λ e. IsFull (S.world s.old).cells × (e.1 ≡ Refused.NoCell) × (S.world s.new ≡ S.world s.old)) }
+    {
+        match s.cell_from(Some(owner.into_right()), Tag::None, StandingKind::Owned) {
+            Ok(cell) => Ok(AtomicOwned::of_right(cell)),
+            Err((held, refused)) => match held {
+                Some(right) => Err((Owned::of_right(right), refused)),
+                None => unreachable!(),
+            },
+        }
+    }
+
+    /// A cell that holds nothing.
+    ///
+    /// `NoCell` where no cell is free; `Contended`, in a domain alone, where as many exchanges were lost as its limits allow.
+    pub fn null<S: Cells<T>>(s: &mut S) -> Result<AtomicOwned<T>, Refused>
+        requires seated { IsSeated (S.seat s.old) }
+        ensures undisturbed { Undisturbed S.seat S.own S.known S.shows s.old s.new }
+        ensures home { IfOk result (λ cell. cells_home cell ≡ (S.seat s.old).home.cells) }
+        ensures back { IfErr result (IsRefusedBy (S.seat s.old) Refused.NoCell) }
+        ensures exact { IsExact (S.seat s.old) → MatchResult result
+            (λ cell. IsEmptyAt (S.world s.old).cells (cell_of cell) × (S.world s.new ≡ nulled (S.world s.old) (cell_of cell)))
+            (λ e. IsFull (S.world s.old).cells × (e ≡ Refused.NoCell) × (S.world s.new ≡ S.world s.old)) }
+    {
+        match s.cell_from(None, Tag::None, StandingKind::Owned) {
+            Ok(cell) => Ok(AtomicOwned::of_right(cell)),
+            Err((held, refused)) => match held {
+                None => Err(refused),
+                Some(_) => unreachable!(),
+            },
+        }
+    }
+
+    /// The cell holds nothing.
+    pub fn is_null<S: Cells<T>>(&self, s: &mut S) -> bool
+        requires seated { IsSeated (S.seat s.old) }
+        requires home { cells_home self.now ≡ (S.seat s.old).home.cells }
+        ensures undisturbed { Undisturbed S.seat S.own S.known S.shows s.old s.new }
+        ensures exact { IsExact (S.seat s.old) → (S.world s.new ≡ S.world s.old) ×
+            ((cell : CellContents) × (entry_at (S.world s.old).cells (cell_of self.now) ≡ Some cell) × (IsTrue result ↔ (cell.held ≡ None))) }
+    {
+        s.cell(self.right()).held.is_none()
+    }
+
+    /// The cell's tag.
+    pub fn tag<S: Cells<T>>(&self, s: &mut S) -> Tag
+        requires seated { IsSeated (S.seat s.old) }
+        requires home { cells_home self.now ≡ (S.seat s.old).home.cells }
+        ensures undisturbed { Undisturbed S.seat S.own S.known S.shows s.old s.new }
+        ensures exact { IsExact (S.seat s.old) → (S.world s.new ≡ S.world s.old) ×
+            ((cell : CellContents) × (entry_at (S.world s.old).cells (cell_of self.now) ≡ Some cell) × (result ≡ cell.tag)) }
+    {
+        s.cell(self.right()).tag
+    }
+
+    /// A pointer to the item that the cell holds, with the cell's tag. It shows the item's value for as long as the guard is borrowed, whatever becomes of
+    /// the cell and the item. The guard is one of the participant that calls.
+    pub fn load<'g, S: Cells<T>>(&self, guard: &'g Guard, s: &mut S) -> Ptr<'g, T>
+        requires seated { IsSeated (S.seat s.old) }
+        requires home { cells_home self.now ≡ (S.seat s.old).home.cells }
+        requires reader { reader_of guard.now ≡ (S.seat s.old).reader }
+        ensures undisturbed { Undisturbed S.seat S.own S.known S.shows s.old s.new }
+        ensures shown { IsShown (S.shows s.new) result }
+        ensures owned { IsExact (S.seat s.old) → IfSome (slot_named result) (λ slot. standing_at (S.world s.old) slot ≡ Some Standing.Owned) }
+        ensures exact { IsExact (S.seat s.old) → (entry_at (S.world s.old).cells (cell_of self.now) ≡ Some (cell_seen result)) ×
+            (S.world s.new ≡ S.world s.old) }
+    {
+        s.load(self.right(), guard)
+    }
+
+    /// The cell holds this owner, or nothing, with this tag. Answers what it held, and the tag before.
+    pub fn swap<S: Cells<T>>(
+        &self,
+        next: (Option<Owned<T>>, Tag),
+        s: &mut S,
+    ) -> (Option<Owned<T>>, Tag)
+        requires seated { IsSeated (S.seat s.old) }
+        requires home { cells_home self.now ≡ (S.seat s.old).home.cells }
+        requires owner { IsOfSlots (S.seat s.old).home.slots next.0 }
+        ensures undisturbed { Undisturbed S.seat S.own S.known S.shows s.old s.new }
+        ensures owner { IsOfSlots (S.seat s.old).home.slots result.0 }
+        ensures exact { IsExact (S.seat s.old) → (entry_at (S.world s.old).cells (cell_of self.now) ≡ Some (cell_with result.0 result.1)) ×
+            (S.world s.new ≡ with_cell (S.world s.old) (cell_of self.now) (cell_with next.0 next.1)) }
+    {
+        let (owner, tag) = next;
+        let (old, old_tag) = s.swap(self.right(), Owned::into_held(owner), tag);
+        (Owned::of_held(old), old_tag)
+    }
+
+    /// Sets the tag, if the condition holds of what the cell holds, and answers whether it did. In a world the condition is asked once.
+    ///
+    /// `Contended`, in a domain alone, where as many exchanges were lost as its limits allow.
+    pub fn update_tag_if<S: Cells<T>, F: FnMut(RawPtr<T>) -> bool>(
+        &self,
+        tag: Tag,
+        condition: F,
+        s: &mut S,
+    ) -> Result<bool, Refused>
+        requires seated { IsSeated (S.seat s.old) }
+        requires home { cells_home self.now ≡ (S.seat s.old).home.cells }
+        requires callable { F.IsAlwaysCallable condition }
+        ensures undisturbed { Undisturbed S.seat S.own S.known S.shows s.old s.new }
+        ensures back { IfErr result (IsContended (S.seat s.old)) }
+        ensures exact { IsExact (S.seat s.old) → IsOk result × IfOk result (λ changed. (ptr : RawPtr T) ×
+            (entry_at (S.world s.old).cells (cell_of self.now) ≡ Some (raw.cell_seen ptr)) × F.post condition ptr changed ×
+            (S.world s.new ≡ (if changed then with_cell (S.world s.old) (cell_of self.now) (record (raw.cell_seen ptr) { tag = tag }) else S.world s.old))) }
+    {
+        s.update_tag_if(self.right(), tag, condition)
+    }
+
+    /// The cell holds this owner, or nothing, with this tag, if it held the item that the pointer names, or nothing where it is null, with the pointer's tag.
+    /// Then what it held comes back, with a pointer to what it holds now; else the owner handed in, with a pointer to what it holds.
+    pub fn compare_exchange<'g, S: Cells<T>>(
+        &self,
+        current: Ptr<'g, T>,
+        next: (Option<Owned<T>>, Tag),
+        guard: &'g Guard,
+        s: &mut S,
+    ) -> Result<OwnedPtrPair<'g, T>, OwnedPtrPair<'g, T>>
+        requires seated { IsSeated (S.seat s.old) }
+        requires home { cells_home self.now ≡ (S.seat s.old).home.cells }
+        requires owner { IsOfSlots (S.seat s.old).home.slots next.0 }
+        requires reader { reader_of guard.now ≡ (S.seat s.old).reader }
+        ensures undisturbed { Undisturbed S.seat S.own S.known S.shows s.old s.new }
+        ensures owner { IfOk result (λ o. IsOfSlots (S.seat s.old).home.slots o.0) }
+        ensures old { IfOk result (λ o. option_map slot_of o.0 ≡ slot_named current.entry) }
+        ensures now { IfOk result (λ o. cell_seen o.1 ≡ cell_with next.0 next.1) }
+        ensures back { IfErr result (λ e. option_map right_of e.0 ≡ option_map right_of next.0) }
+        ensures shown { MatchResult result (λ o. IsShown (S.shows s.new) o.1) (λ e. IsShown (S.shows s.new) e.1) }
+        ensures exact { IsExact (S.seat s.old) → MatchResult result
+            (λ _. (entry_at (S.world s.old).cells (cell_of self.now) ≡ Some (cell_seen current.entry)) ×
+            (S.world s.new ≡ with_cell (S.world s.old) (cell_of self.now) (cell_with next.0 next.1)))
+            (λ e. (entry_at (S.world s.old).cells (cell_of self.now) ≡ Some (cell_seen e.1)) × (cell_seen e.1 ≢ cell_seen current.entry) ×
+            (S.world s.new ≡ S.world s.old)) }
+    {
+        let (owner, tag) = next;
+        let expected = CellContents {
+            held: current.slot(),
+            tag: current.tag(),
+        };
+        match s.compare_exchange(self.right(), expected, Owned::into_held(owner), tag, guard) {
+            Ok((old, ptr)) => Ok((Owned::of_held(old), ptr)),
+            Err((back, ptr)) => Err((Owned::of_held(back), ptr)),
+        }
+    }
+
+    /// The same as `compare_exchange`: it never fails where the pointers are equal.
+    pub fn compare_exchange_weak<'g, S: Cells<T>>(
+        &self,
+        current: Ptr<'g, T>,
+        next: (Option<Owned<T>>, Tag),
+        guard: &'g Guard,
+        s: &mut S,
+    ) -> Result<OwnedPtrPair<'g, T>, OwnedPtrPair<'g, T>>
+        requires seated { IsSeated (S.seat s.old) }
+        requires home { cells_home self.now ≡ (S.seat s.old).home.cells }
+        requires owner { IsOfSlots (S.seat s.old).home.slots next.0 }
+        requires reader { reader_of guard.now ≡ (S.seat s.old).reader }
+        ensures undisturbed { Undisturbed S.seat S.own S.known S.shows s.old s.new }
+        ensures owner { IfOk result (λ o. IsOfSlots (S.seat s.old).home.slots o.0) }
+        ensures old { IfOk result (λ o. option_map slot_of o.0 ≡ slot_named current.entry) }
+        ensures now { IfOk result (λ o. cell_seen o.1 ≡ cell_with next.0 next.1) }
+        ensures back { IfErr result (λ e. option_map right_of e.0 ≡ option_map right_of next.0) }
+        ensures shown { MatchResult result (λ o. IsShown (S.shows s.new) o.1) (λ e. IsShown (S.shows s.new) e.1) }
+        ensures exact { IsExact (S.seat s.old) → MatchResult result
+            (λ _. (entry_at (S.world s.old).cells (cell_of self.now) ≡ Some (cell_seen current.entry)) ×
+            (S.world s.new ≡ with_cell (S.world s.old) (cell_of self.now) (cell_with next.0 next.1)))
+            (λ e. (entry_at (S.world s.old).cells (cell_of self.now) ≡ Some (cell_seen e.1)) × (cell_seen e.1 ≢ cell_seen current.entry) ×
+            (S.world s.new ≡ S.world s.old)) }
+    {
+        self.compare_exchange(current, next, guard, s)
+    }
+
+    /// Frees the cell. What it held comes back.
+    pub fn into_owned<S: Cells<T>>(self, s: &mut S) -> Option<Owned<T>>
+        requires seated { IsSeated (S.seat s.old) }
+        requires home { cells_home self ≡ (S.seat s.old).home.cells }
+        ensures undisturbed { Undisturbed S.seat S.own S.known S.shows s.old s.new }
+        ensures owner { IsOfSlots (S.seat s.old).home.slots result }
+        ensures exact { IsExact (S.seat s.old) → ((tag : Tag) × (entry_at (S.world s.old).cells (cell_of self) ≡ Some (cell_with result tag))) ×
+            (S.world s.new ≡ without_cell (S.world s.old) (cell_of self)) }
+    {
+        Owned::of_held(s.into_contents(self.into_right()))
+    }
+
+    /// Frees the cell, and retires what it holds.
+    pub fn close<S: Items<T> + Cells<T>>(self, s: &mut S)
+        requires seated { IsSeated (S.seat s.old) }
+        requires home { cells_home self ≡ (S.seat s.old).home.cells }
+        ensures unmoved { Unmoved S.seat S.known S.shows s.old s.new }
+        ensures own { IsSpilled (S.own s.old) (S.own s.new) }
+        ensures exact { IsExact (S.seat s.old) → S.world s.new ≡ cell_closed (S.world s.old) (S.seat s.old).place (cell_of self) }
+    {
+        if let Some(right) = s.into_contents(self.into_right()) {
+            let _ = s.release(right, StandingKind::Owned);
+        }
+    }
+}

@@ -1,0 +1,174 @@
+ghost use Rattle.std.specs.Prelude.{◌≡◌};
+ghost use Rattle.sdd_values.specs.declared.read_sections.SectionState.{SectionState};
+
+use crate::item::Item;
+use crate::space::{Deferrals, Guards};
+use sdd_core::inner::epoch_of_count;
+use sdd_core::{Epoch, Refused};
+use sdd_values::{SectionState, ReadSection};
+
+/// An open guard: its participant has published a count, and a scan gives up while this count is behind.
+///
+/// It must be spent by `close`. Guards of one participant nest, and share what their pointers show. A guard has no bytes.
+#[derive_where(Debug)]
+pub struct Guard {
+    #[derive_where(skip)]
+    part: ReadSection,
+    pub ghost open: { part.kind ≡ SectionState.Open },
+    pub ghost single: { part.units ≡ 1 },
+}
+
+const _: () = prove!(size_of::<Guard>() == 0);
+
+impl Guard {
+    ghost use Rattle.std.specs.Prelude.{◌≡◌, ◌%◌, ℕ, MatchResult, IfErr, IfOk, IsTrue};
+    ghost use Rattle.sdd_participants.specs.declared.waiting.LimboEntry.TheVariants.{Job};
+    ghost use Rattle.sdd_participants.specs.Slab.{IsEmptyAt, IsFull};
+    ghost use Rattle.sdd_core.specs.Epoch.{epoch_of};
+    ghost use Rattle.sdd_space.specs.World.{World, place_at};
+    ghost use Rattle.sdd_space.specs.CallerId.{IsSeated, IsExact, IsLone, MayNest};
+    ghost use Rattle.sdd_space.specs.Refusals.{IsRefusedBy};
+    ghost use Rattle.sdd_space.specs.Own.{IsOpened, IsClosed};
+    ghost use Rattle.sdd_space.specs.KnownEpochs.{KnowsOn, KnowsOpened, KnowsClosed, IsNear, IsRaisedBy};
+    ghost use Rattle.sdd_space.specs.Undisturbed.{Undisturbed, Unmoved};
+    ghost use Rattle.sdd_space.specs.Ptr.{KeepsShown};
+    ghost use Rattle.sdd_space.specs.Guard.{reader_of};
+    ghost use Rattle.sdd_space.specs.Steps.{opened, closed, deferred, stirred, accelerated};
+    ghost use Rattle.sdd_participants.specs.EpochState.{CanNest, is_open, with_garbage, has_garbage};
+    ghost use Rattle.sdd_participants.specs.EpochState as time;
+
+    /// Opens a guard. An outermost one publishes the count of epochs that it finds; if that is another than the participant found before, what
+    /// waits with it has seen one change more, and what has seen three is reclaimed.
+    ///
+    /// `TooManyGuards` where as many are open as may nest.
+    #[inline]
+    pub fn new<T: Item<T>, S: Guards<T>>(s: &mut S) -> Result<Guard, Refused>
+        requires seated { IsSeated (S.seat s.old) }
+        ensures seat { S.seat s.new ≡ S.seat s.old }
+        ensures reader { IfOk result (λ guard. reader_of guard ≡ (S.seat s.old).reader) }
+        ensures own { MatchResult result
+            (λ _. MayNest (S.seat s.old) (S.own s.old) × IsOpened (S.own s.old) (S.own s.new))
+            (λ e. (e ≡ Refused.TooManyGuards) × ¬ (MayNest (S.seat s.old) (S.own s.old)) × (S.own s.new ≡ S.own s.old)) }
+        ensures known { MatchResult result
+            (λ _. KnowsOpened (S.known s.old) (S.own s.old) (S.own s.new) (S.known s.new))
+            (λ _. KnowsOn (S.known s.old) (S.known s.new)) }
+        ensures lone { IsLone (S.seat s.old) → (S.known s.new).told ≡ (S.known s.old).told }
+        ensures exact { IsExact (S.seat s.old) → MatchResult result
+            (λ _. CanNest (S.world s.old).time (S.seat s.old).place × (S.world s.new ≡ opened T.holds (S.world s.old) (S.seat s.old).place))
+            (λ e. (e ≡ Refused.TooManyGuards) × ¬ (CanNest (S.world s.old).time (S.seat s.old).place) × (S.world s.new ≡ S.world s.old)) }
+        ensures keeps { IsTrue (is_open (S.own s.old)) → KeepsShown (S.shows s.old) (S.shows s.new) }
+    {
+        s.new_guard()
+    }
+
+    pub(crate) fn of_part(part: ReadSection) -> Guard
+        requires open { part.kind ≡ SectionState.Open }
+        requires single { part.units ≡ 1 }
+        ensures { result.part ≡ part }
+    {
+        Guard { part }
+    }
+
+    pub(crate) fn into_part(self) -> ReadSection
+        ensures { result ≡ self.part }
+    {
+        let Guard { part } = self;
+        part
+    }
+
+    pub(crate) fn part(&self) -> &ReadSection
+        ensures { result.now ≡ self.now.part }
+    {
+        &self.part
+    }
+
+    /// Closes the guard. The outermost close at countdown 0, as `accelerate` sets it, first tries to raise the count.
+    #[inline]
+    pub fn close<T: Item<T>, S: Guards<T>>(self, s: &mut S)
+        requires seated { IsSeated (S.seat s.old) }
+        requires reader { reader_of self ≡ (S.seat s.old).reader }
+        ensures seat { S.seat s.new ≡ S.seat s.old }
+        ensures own { IsClosed (S.own s.old) (S.own s.new) }
+        ensures known { KnowsClosed (S.known s.old) (S.known s.new) (S.own s.new) }
+        ensures lone { IsLone (S.seat s.old) → IsRaisedBy (S.own s.old) (S.known s.old).told (S.known s.new).told }
+        ensures exact { IsExact (S.seat s.old) → S.world s.new ≡ closed (S.world s.old) (S.seat s.old).place }
+        ensures keeps { IsTrue (is_open (S.own s.new)) → KeepsShown (S.shows s.old) (S.shows s.new) }
+    {
+        s.close_guard(self);
+    }
+
+    /// The global epoch at this moment, which isn't always the one that the guard published. Under one open guard it is the one answered before, or the next.
+    #[inline]
+    pub fn epoch<T: Item<T>, S: Guards<T>>(&self, s: &mut S) -> Epoch
+        requires seated { IsSeated (S.seat s.old) }
+        ensures undisturbed { Undisturbed S.seat S.own S.known S.shows s.old s.new }
+        ensures told { result ≡ epoch_of (S.known s.new).told }
+        ensures near { IsNear (S.own s.new) (S.known s.new) }
+        ensures lone { IsLone (S.seat s.old) → (S.known s.new).told ≡ (S.known s.old).told }
+        ensures exact { IsExact (S.seat s.old) → (result ≡ epoch_of (S.world s.old).time.count) × (S.world s.new ≡ S.world s.old) }
+    {
+        epoch_of_count(s.count())
+    }
+
+    /// Something may wait with the participant.
+    #[inline]
+    pub fn has_garbage<T: Item<T>, S: Guards<T>>(&self, s: &S) -> bool
+        requires seated { IsSeated (S.seat s.now) }
+        ensures own { result ≡ has_garbage (S.own s.now) }
+        ensures exact { IsExact (S.seat s.now) → result ≡ has_garbage (place_at (S.world s.now) (S.seat s.now).place) }
+    {
+        s.has_garbage()
+    }
+
+    /// Has the participant count down to a scan, as a retirement does.
+    #[inline]
+    pub fn set_has_garbage<T: Item<T>, S: Guards<T>>(&self, s: &mut S)
+        requires seated { IsSeated (S.seat s.old) }
+        ensures unmoved { Unmoved S.seat S.known S.shows s.old s.new }
+        ensures own { S.own s.new ≡ with_garbage (S.own s.old) }
+        ensures lone { IsLone (S.seat s.old) → S.known s.new ≡ S.known s.old }
+        ensures exact { IsExact (S.seat s.old) → S.world s.new ≡ stirred (S.world s.old) (S.seat s.old).place }
+    {
+        s.set_has_garbage();
+    }
+
+    /// Defers a job: it waits with the participant as an item does that is retired now, and runs once, within the opening at which it is due. That is
+    /// the third outermost opening from now on that finds another count of epochs, or, where the participant has ended before, that one of whoever
+    /// adopted what it left. A job that still waits as its world is closed runs then. Its place is free as soon as it ran.
+    ///
+    /// `NoJob` where as many jobs wait as the limits say; `Contended`, in a domain alone, where as many exchanges were lost as its limits allow. The job
+    /// comes back, and hasn't run.
+    pub fn defer_execute<T: Item<T>, S: Deferrals<T>>(
+        &self,
+        job: S::Job,
+        s: &mut S,
+    ) -> Result<(), (S::Job, Refused)>
+        requires seated { IsSeated (S.seat s.old) }
+        requires reader { reader_of self.now ≡ (S.seat s.old).reader }
+        ensures unmoved { Unmoved S.seat S.known S.shows s.old s.new }
+        ensures own { MatchResult result
+            (λ _. (place : ℕ) × (S.own s.new ≡ time.awaiting (Job place) (S.own s.old)))
+            (λ _. S.own s.new ≡ S.own s.old) }
+        ensures back { IfErr result (λ e. (e.0 ≡ job) × IsRefusedBy (S.seat s.old) Refused.NoJob e.1) }
+        ensures exact { IsExact (S.seat s.old) → MatchResult result
+            (λ _. (place : ℕ) × IsEmptyAt (S.world s.old).jobs place × (S.world s.new ≡ deferred (S.world s.old) (S.seat s.old).place place))
+            (λ e. IsFull (S.world s.old).jobs × (e.1 ≡ Refused.NoJob) × (S.world s.new ≡ S.world s.old)) }
+    {
+        match s.defer_execute(job) {
+            Ok(_place) => Ok(()),
+            Err(back) => Err(back),
+        }
+    }
+
+    /// Has the next outermost close of the participant scan.
+    #[inline]
+    pub fn accelerate<T: Item<T>, S: Guards<T>>(&self, s: &mut S)
+        requires seated { IsSeated (S.seat s.old) }
+        ensures unmoved { Unmoved S.seat S.known S.shows s.old s.new }
+        ensures own { S.own s.new ≡ time.accelerated (S.own s.old) }
+        ensures lone { IsLone (S.seat s.old) → S.known s.new ≡ S.known s.old }
+        ensures exact { IsExact (S.seat s.old) → S.world s.new ≡ accelerated (S.world s.old) (S.seat s.old).place }
+    {
+        s.accelerate();
+    }
+}

@@ -1,0 +1,257 @@
+//! What the spaces need beyond the public surface: an owner, a cell, a guard and a pointer as what they are made of.
+ghost use Rattle.std.specs.Prelude.{◌≡◌, IfErr, IfOk, MatchResult, None, Some, option_copied};
+ghost use Rattle.sdd_rights.specs.Right.{kind_of};
+ghost use Rattle.sdd_space.specs.Owned.{slot_of, right_of, cell_right};
+ghost use Rattle.sdd_space.specs.Shared as shared;
+ghost use Rattle.sdd_space.specs.OwnerOrCell.{AreOf};
+ghost use Rattle.sdd_space.specs.World.{World};
+ghost use Rattle.sdd_space.specs.CallerId.{IsSeated, IsExact};
+ghost use Rattle.sdd_space.specs.Refusals.{IsRefusedBy};
+ghost use Rattle.sdd_space.specs.Undisturbed.{Undisturbed};
+ghost use Rattle.sdd_space.specs.Steps.{made_as};
+ghost use Rattle.sdd_participants.specs.Slab.{IsEmptyAt, IsFull};
+ghost use Rattle.sdd_space.specs.RawPtr as raw;
+ghost use Rattle.sdd_space.specs.Ptr.{slot_named, shown_by, tag_of};
+ghost use Rattle.sdd_space.specs.Guard.{reader_of, ReaderId};
+ghost use Rattle.sdd_space.specs.Collector.{collector_of};
+ghost use Rattle.sdd_core.specs.declared.tag.Tag.TheVariants.{None as no_tag};
+
+use crate::atomic_owned::AtomicOwned;
+use crate::atomic_raw::AtomicRaw;
+use crate::atomic_shared::AtomicShared;
+use crate::guard::Guard;
+use crate::item::Item;
+use crate::owned::Owned;
+use crate::private_collector::PrivateCollector;
+use crate::ptr::Ptr;
+use crate::raw_ptr::RawPtr;
+use crate::shared::Shared;
+use crate::space::Several;
+use sdd_core::{Refused, Tag};
+use sdd_values::{SectionState, ReadSection};
+use sdd_participants::{CellContents, RawCellContents, Standing};
+use sdd_rights::{StandingKind, RawRight, Right};
+
+/// The owner whose right this is.
+pub fn owner_of<T>(right: Right) -> Owned<T>
+    requires { kind_of right ≡ StandingKind.Owned }
+    ensures { right_of result ≡ right }
+{
+    Owned::of_right(right)
+}
+
+/// The right of an owner.
+pub fn right_of_owner<T>(owner: Owned<T>) -> Right
+    ensures right { result ≡ right_of owner }
+    ensures kind { kind_of result ≡ StandingKind.Owned }
+{
+    owner.into_right()
+}
+
+/// The shared owner whose right this is.
+pub fn shared_of<T>(right: Right) -> Shared<T>
+    requires { kind_of right ≡ StandingKind.Shared }
+    ensures { shared.right_of result ≡ right }
+{
+    Shared::of_right(right)
+}
+
+/// The right of a shared owner.
+pub fn right_of_shared<T>(owner: Shared<T>) -> Right
+    ensures right { result ≡ shared.right_of owner }
+    ensures kind { kind_of result ≡ StandingKind.Shared }
+{
+    owner.into_right()
+}
+
+/// The same right, for as long as the owner is borrowed.
+pub fn right_in_shared<T>(owner: &Shared<T>) -> &Right
+    ensures right { result.now ≡ shared.right_of owner.now }
+    ensures kind { kind_of result.now ≡ StandingKind.Shared }
+{
+    owner.right()
+}
+
+/// The cell whose right this is.
+pub fn cell_with<T>(right: Right) -> AtomicOwned<T>
+    requires { kind_of right ≡ StandingKind.Owned }
+    ensures { cell_right result ≡ right }
+{
+    AtomicOwned::of_right(right)
+}
+
+/// The right of a cell.
+pub fn right_of_cell<T>(cell: AtomicOwned<T>) -> Right
+    ensures right { result ≡ cell_right cell }
+    ensures kind { kind_of result ≡ StandingKind.Owned }
+{
+    cell.into_right()
+}
+
+/// The cell of shared owners whose right this is.
+pub fn shared_cell_with<T>(right: Right) -> AtomicShared<T>
+    requires { kind_of right ≡ StandingKind.Shared }
+    ensures { shared.cell_right result ≡ right }
+{
+    AtomicShared::of_right(right)
+}
+
+/// The right of a cell of shared owners.
+pub fn right_of_shared_cell<T>(cell: AtomicShared<T>) -> Right
+    ensures right { result ≡ shared.cell_right cell }
+    ensures kind { kind_of result ≡ StandingKind.Shared }
+{
+    cell.into_right()
+}
+
+/// The slot that a pointer names, if it isn't null.
+pub fn slot_of_ptr<T>(ptr: &Ptr<'_, T>) -> Option<u32>
+    ensures { result ≡ slot_named ptr.now }
+{
+    ptr.slot()
+}
+
+/// The value that a pointer shows, if it isn't null.
+pub fn value_of_ptr<'g, T>(ptr: Ptr<'g, T>) -> Option<&'g T>
+    ensures { option_copied result ≡ shown_by ptr.entry }
+{
+    ptr.value()
+}
+
+/// The slot of an owner's item.
+pub fn slot_of_owner<T>(owner: &Owned<T>) -> u32
+    ensures { result ≡ slot_of owner.now }
+{
+    owner.slot()
+}
+
+/// The slot of a shared owner's item.
+pub fn slot_of_shared<T>(owner: &Shared<T>) -> u32
+    ensures { result ≡ shared.slot_of owner.now }
+{
+    owner.slot()
+}
+
+/// A null pointer with a tag.
+pub fn null_with<'g, T>(tag: Tag) -> Ptr<'g, T>
+    ensures slot { slot_named result ≡ None }
+    ensures shown { shown_by result ≡ None }
+    ensures tag { tag_of result ≡ tag }
+{
+    Ptr::null().with_tag(tag)
+}
+
+/// A raw pointer to what a cell holds.
+pub fn raw_ptr_to<T>(cell: CellContents) -> RawPtr<T>
+    ensures { raw.cell_seen result ≡ cell }
+{
+    RawPtr::of(cell.held, cell.tag)
+}
+
+/// A pointer to the item in a slot that shows this value.
+pub fn ptr_to<'g, T>(slot: u32, value: &'g T) -> Ptr<'g, T>
+    ensures slot { slot_named result ≡ Some slot }
+    ensures shown { shown_by result ≡ Some value.now }
+    ensures tag { tag_of result ≡ no_tag }
+{
+    Ptr::to(slot, value)
+}
+
+/// The guard that has this part of a tenure.
+pub fn guard_with(part: ReadSection) -> Guard
+    requires open { part.kind ≡ SectionState.Open }
+    requires single { part.units ≡ 1 }
+    ensures { reader_of result ≡ record { home = part.home; number = part.number } }
+{
+    Guard::of_part(part)
+}
+
+/// The part of its reader's tenure that a guard has.
+pub fn part_of_guard(guard: Guard) -> ReadSection
+    ensures reader { reader_of guard ≡ record { home = result.home; number = result.number } }
+    ensures open { result.kind ≡ SectionState.Open }
+    ensures single { result.units ≡ 1 }
+{
+    guard.into_part()
+}
+
+/// The same part, for as long as the guard is borrowed.
+pub fn tenure_of(guard: &Guard) -> &ReadSection
+    ensures reader { reader_of guard.now ≡ record { home = result.now.home; number = result.now.number } }
+    ensures open { result.now.kind ≡ SectionState.Open }
+    ensures single { result.now.units ≡ 1 }
+{
+    guard.part()
+}
+
+/// The raw cell whose right this is.
+pub fn raw_cell_with<T>(right: RawRight) -> AtomicRaw<T>
+    ensures { result.right ≡ right }
+{
+    AtomicRaw::of_right(right)
+}
+
+/// The right of a raw cell.
+pub fn right_of_raw_cell<T>(cell: AtomicRaw<T>) -> RawRight
+    ensures { result ≡ cell.right }
+{
+    cell.into_right()
+}
+
+/// The right of a collector's cell.
+pub fn right_of_collector<T>(collector: PrivateCollector<T>) -> RawRight
+    ensures { result ≡ collector.right }
+{
+    collector.into_right()
+}
+
+/// The number of a collector, which is that of its cell.
+pub fn number_of_collector<T>(collector: &PrivateCollector<T>) -> u32
+    ensures { result ≡ collector_of collector.now }
+{
+    collector.number()
+}
+
+/// The pointer that a raw cell has.
+pub fn raw_ptr_of<T>(pointer: RawCellContents) -> RawPtr<T>
+    ensures { raw.pointer_of result ≡ pointer }
+{
+    RawPtr::of_pointer(pointer)
+}
+
+/// What a raw cell has that points to the same.
+pub fn pointer_of_raw<T>(ptr: &RawPtr<T>) -> RawCellContents
+    ensures { result ≡ raw.pointer_of ptr.now }
+{
+    ptr.pointer()
+}
+
+/// Puts a value into a free slot, with two owners at once.
+///
+/// `NoSlot` where none is free; `Contended`, in a domain alone, where as many exchanges were lost as its limits allow. The value comes back.
+pub fn make_two<T: Item<T>, S: Several<T>>(
+    value: T,
+    s: &mut S,
+) -> Result<(Shared<T>, Shared<T>), (T, Refused)>
+    requires seated { IsSeated (S.seat s.old) }
+    requires home { AreOf (S.seat s.old).home (T.holds value) }
+    ensures undisturbed { Undisturbed S.seat S.own S.known S.shows s.old s.new }
+    ensures home { IfOk result (λ both. (shared.slots_home both.0 ≡ (S.seat s.old).home.slots) × (shared.slots_home both.1 ≡ (S.seat s.old).home.slots)) }
+    ensures one { IfOk result (λ both. shared.slot_of both.1 ≡ shared.slot_of both.0) }
+    ensures shown { IfOk result (λ both. S.owns_value s.new (shared.right_of both.0) value × S.owns_value s.new (shared.right_of both.1) value) }
+    ensures back { IfErr result (λ e. (e.0 ≡ value) × IsRefusedBy (S.seat s.old) Refused.NoSlot e.1) }
+    ensures exact { IsExact (S.seat s.old) → MatchResult result
+        (λ both. IsEmptyAt (S.world s.old).standings (shared.slot_of both.0) ×
+        (S.world s.new ≡ made_as (S.world s.old) (shared.slot_of both.0) value (Standing.Shared 2)))
+        (λ e. IsFull (S.world s.old).standings × (e ≡ (value, Refused.NoSlot)) × (S.world s.new ≡ S.world s.old)) }
+{
+    let (first, other) = match s.make_several(value, 2) {
+        Ok(made) => made,
+        Err(refused) => return Err(refused),
+    };
+    let (second, rest) = s.split_off(&first, other);
+    match rest {
+        None => Ok((Shared::of_right(first), Shared::of_right(second))),
+        Some(_) => unreachable!(),
+    }
+}

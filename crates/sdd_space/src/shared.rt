@@ -1,0 +1,305 @@
+ghost use Rattle.std.specs.Fn.{FnOnceReturnsAtMut};
+ghost use Rattle.std.specs.Prelude.{ℕ, ◌≡◌, ◌+◌, ◌^◌, ◌<◌, ◌↔◌, ◌⊎◌, ◌-◌, IfErr, IfOk, IfSome, IsSome, IsTrue, MatchBool, MatchOption, MatchResult, Some, None, option_map, if◌then◌else◌};
+ghost use Rattle.sdd_rights.specs.Right.{kind_of};
+ghost use Rattle.sdd_space.specs.OwnerOrCell.{AreOf};
+ghost use Rattle.sdd_space.specs.World.{World, IsGuarded, standing_at, value_at};
+ghost use Rattle.sdd_space.specs.CallerId.{IsSeated, IsExact, IsLone};
+ghost use Rattle.sdd_space.specs.Refusals.{IsRefusedBy};
+ghost use Rattle.sdd_space.specs.KnownEpochs.{KnowsOn};
+ghost use Rattle.sdd_space.specs.Undisturbed.{Undisturbed, Unmoved};
+ghost use Rattle.sdd_space.specs.Own.{GrowsOn};
+ghost use Rattle.sdd_space.specs.Steps.{made_shared, with_standing, with_value, dropped, owner_given};
+ghost use Rattle.sdd_space.specs.Shared.{right_of, slot_of, slots_home};
+ghost use Rattle.sdd_core.specs.declared.tag.Tag.TheVariants.{None as no_tag};
+ghost use Rattle.sdd_space.specs.Ptr.{slot_named, shown_by, tag_of, KeepsOthers, KeepsShown};
+ghost use Rattle.sdd_space.specs.Guard.{reader_of};
+ghost use Rattle.sdd_standings.specs.Slots.{IsSharedBy, owners_of};
+ghost use Rattle.sdd_participants.specs.Slab.{IsEmptyAt, IsFull};
+ghost use Rattle.sdd_participants.specs.EpochState as time;
+ghost use Rattle.sdd_participants.specs.declared.waiting.LimboEntry.TheVariants.{Item};
+
+use crate::guard::Guard;
+use crate::item::Item;
+use crate::look::Look;
+use crate::ptr::Ptr;
+use crate::space::{InPlaceItems, Items, SharedItems};
+use sdd_core::Refused;
+use sdd_participants::Standing;
+use sdd_rights::{StandingKind, Right, SharedRight};
+use std::marker::PhantomData;
+
+/// One owner of an item that others may own too: other `Shared`, and cells.
+///
+/// It must be spent: by `release`, or given into a cell or a value. The last owner's item is retired. It may lie in a value of its own item type.
+pub struct Shared<T> {
+    right: SharedRight,
+    of: PhantomData<T>,
+}
+
+const _: () = prove!(size_of::<Shared<u64>>() == 4);
+
+impl<T> Shared<T> {
+    pub(crate) fn of_right(right: Right) -> Shared<T>
+        requires { kind_of right ≡ StandingKind.Shared }
+        ensures { right_of result ≡ right }
+    {
+        Shared {
+            right: SharedRight::of(right),
+            of: PhantomData,
+        }
+    }
+
+    pub(crate) fn into_right(self) -> Right
+        ensures right { result ≡ right_of self }
+        ensures kind { kind_of result ≡ StandingKind.Shared }
+    {
+        let Shared { right, of: _ } = self;
+        right.into_right()
+    }
+
+    pub(crate) fn right(&self) -> &Right
+        ensures right { result.now ≡ right_of self.now }
+        ensures kind { kind_of result.now ≡ StandingKind.Shared }
+    {
+        self.right.right()
+    }
+
+    /// The owner that a cell held, if there is one.
+    pub(crate) fn of_held(held: Option<Right>) -> Option<Shared<T>>
+        requires { IfSome held (λ right. kind_of right ≡ StandingKind.Shared) }
+        ensures { option_map right_of result ≡ held }
+    {
+        match held {
+            Some(right) => Some(Shared::of_right(right)),
+            None => None,
+        }
+    }
+
+    pub(crate) fn into_held(owner: Option<Shared<T>>) -> Option<Right>
+        ensures right { result ≡ option_map right_of owner }
+        ensures kind { IfSome result (λ right. kind_of right ≡ StandingKind.Shared) }
+    {
+        match owner {
+            Some(owner) => Some(owner.into_right()),
+            None => None,
+        }
+    }
+
+    pub(crate) fn slot(&self) -> u32
+        ensures { result ≡ slot_of self.now }
+    {
+        self.right().number()
+    }
+}
+
+impl<T: Item<T>> Shared<T> {
+    /// The item's value. Its owners can look at it without a guard.
+    pub fn get<'a, L: Look<T>>(&'a self, at: &'a L) -> &'a T
+        requires home { slots_home self.now ≡ (L.home at.now).slots }
+        ensures shown { L.knows_slots at.now → L.shows at.now (slot_of self.now) result.now }
+        ensures value { L.owns_value at.now (right_of self.now) result.now }
+        ensures held { AreOf (L.home at.now) (T.holds result.now) }
+    {
+        at.value(self.right())
+    }
+
+    /// The item's value, for as long as the guard is borrowed, also after the item was retired. The guard is one of the participant that calls.
+    pub fn get_guarded_ref<'g, S: Items<T>>(&self, guard: &'g Guard, s: &mut S) -> &'g T
+        requires seated { IsSeated (S.seat s.old) }
+        requires home { slots_home self.now ≡ (S.seat s.old).home.slots }
+        requires reader { reader_of guard.now ≡ (S.seat s.old).reader }
+        ensures undisturbed { Undisturbed S.seat S.own S.known S.shows s.old s.new }
+        ensures shown { S.shows s.new (slot_of self.now) result.now }
+        ensures value { S.owns_value s.new (right_of self.now) result.now }
+        ensures exact { IsExact (S.seat s.old) → S.world s.new ≡ S.world s.old }
+    {
+        s.get_guarded(self.right(), guard)
+    }
+
+    /// A pointer to the item, which shows its value for as long as the guard is borrowed, also after the item was retired. The guard is one of the
+    /// participant that calls.
+    pub fn get_guarded_ptr<'g, S: Items<T>>(&self, guard: &'g Guard, s: &mut S) -> Ptr<'g, T>
+        requires seated { IsSeated (S.seat s.old) }
+        requires home { slots_home self.now ≡ (S.seat s.old).home.slots }
+        requires reader { reader_of guard.now ≡ (S.seat s.old).reader }
+        ensures undisturbed { Undisturbed S.seat S.own S.known S.shows s.old s.new }
+        ensures slot { slot_named result ≡ Some (slot_of self.now) }
+        ensures tag { tag_of result ≡ no_tag }
+        ensures shown { IfSome (shown_by result) (S.shows s.new (slot_of self.now)) }
+        ensures value { IfSome (shown_by result) (S.owns_value s.new (right_of self.now)) }
+        ensures full { IsSome (shown_by result) }
+        ensures exact { IsExact (S.seat s.old) → S.world s.new ≡ S.world s.old }
+    {
+        let value = s.get_guarded(self.right(), guard);
+        Ptr::to(self.slot(), value)
+    }
+
+    /// Puts a value into a free slot, with one owner.
+    ///
+    /// `NoSlot` where none is free; `Contended`, in a domain alone, where as many exchanges were lost as its limits allow. The value comes back.
+    pub fn new<S: Items<T>>(value: T, s: &mut S) -> Result<Shared<T>, (T, Refused)>
+        requires seated { IsSeated (S.seat s.old) }
+        requires home { AreOf (S.seat s.old).home (T.holds value) }
+        ensures undisturbed { Undisturbed S.seat S.own S.known S.shows s.old s.new }
+        ensures home { IfOk result (λ owner. slots_home owner ≡ (S.seat s.old).home.slots) }
+        ensures shown { IfOk result (λ owner. S.owns_value s.new (right_of owner) value) }
+        ensures back { IfErr result (λ e. (e.0 ≡ value) × ((e.1 ≡ Refused.NoSlot) ⊎ (e.1 ≡ Refused.Contended))) }
+        ensures lone { IsLone (S.seat s.old) → IfErr result (λ e. (e.1 ≡ Refused.NoSlot) × S.is_used_up s.old) }
+        ensures exact { IsExact (S.seat s.old) → MatchResult result
+            (λ owner. IsEmptyAt (S.world s.old).standings (slot_of owner) × (S.world s.new ≡ made_shared (S.world s.old) (slot_of owner) value))
+            (λ e. IsFull (S.world s.old).standings × (e ≡ (value, Refused.NoSlot)) × (S.world s.new ≡ S.world s.old)) }
+    {
+        match s.new_item(value, StandingKind::Shared) {
+            Ok(right) => Ok(Shared::of_right(right)),
+            Err(refused) => Err(refused),
+        }
+    }
+
+    /// Puts the value that `f` makes into a free slot, with one owner.
+    ///
+    /// `NoSlot` or `Contended` where `new` is refused so; `f` comes back uncalled.
+    pub fn new_with<S: Items<T>, F: FnOnce() -> T>(
+        f: F,
+        s: &mut S,
+    ) -> Result<Shared<T>, (F, Refused)>
+        requires seated { IsSeated (S.seat s.old) }
+        requires callable { F.pre f }
+        requires home { (value : T) → F.post f value → AreOf (S.seat s.old).home (T.holds value) }
+        ensures undisturbed { Undisturbed S.seat S.own S.known S.shows s.old s.new }
+        ensures home { IfOk result (λ owner. slots_home owner ≡ (S.seat s.old).home.slots) }
+        ensures shown { IfOk result (λ owner. (value : T) × F.post f value × S.owns_value s.new (right_of owner) value) }
+        ensures back { IfErr result (λ e. (e.0 ≡ f) × ((e.1 ≡ Refused.NoSlot) ⊎ (e.1 ≡ Refused.Contended))) }
+        ensures lone { IsLone (S.seat s.old) → IfErr result (λ e. (e.1 ≡ Refused.NoSlot) × S.is_used_up s.old) }
+        ensures exact { IsExact (S.seat s.old) → MatchResult result
+            (λ owner. IsEmptyAt (S.world s.old).standings (slot_of owner) ×
+            ((value : T) × F.post f value × (S.world s.new ≡ made_shared (S.world s.old) (slot_of owner) value)))
+            (λ e. IsFull (S.world s.old).standings × (e ≡ (f, Refused.NoSlot)) × (S.world s.new ≡ S.world s.old)) }
+    {
+        match s.new_item_with(f, StandingKind::Shared) {
+            Ok(right) => Ok(Shared::of_right(right)),
+            Err(refused) => Err(refused),
+        }
+    }
+
+    /// One owner more of the item that a pointer names, if it is shared.
+    ///
+    /// The pointer comes back for null, for an item with one owner that can't be shared, and after the last owner went; with `TooManyOwners` where 2^62 own
+    /// the item, cells counted; and with `Contended`, in a domain alone, where as many exchanges were lost as its limits allow.
+    pub fn try_from_ptr<'g, S: SharedItems<T>>(
+        ptr: Ptr<'g, T>,
+        s: &mut S,
+    ) -> Result<Shared<T>, (Ptr<'g, T>, Option<Refused>)>
+        requires seated { IsSeated (S.seat s.old) }
+        ensures undisturbed { Undisturbed S.seat S.own S.known S.shows s.old s.new }
+        ensures home { IfOk result (λ owner. slots_home owner ≡ (S.seat s.old).home.slots) }
+        ensures slot { IfOk result (λ owner. slot_named ptr.entry ≡ Some (slot_of owner)) }
+        ensures value { IfOk result (λ owner. (v : T) → S.shows s.old (slot_of owner) v → S.owns_value s.new (right_of owner) v) }
+        ensures back { IfErr result (λ e. (e.0 ≡ ptr.entry) × IfSome e.1 (IsRefusedBy (S.seat s.old) Refused.TooManyOwners)) }
+        ensures exact { IsExact (S.seat s.old) → MatchResult result
+            (λ owner. (owners : ℕ) × IsSharedBy owners (standing_at (S.world s.old) (slot_of owner)) × (owners < 2 ^ 62) ×
+            (S.world s.new ≡ with_standing (S.world s.old) (slot_of owner) (Standing.Shared (owners + 1))))
+            (λ e. (S.world s.new ≡ S.world s.old) × MatchOption e.1
+            (IfSome (slot_named ptr.entry) (λ slot. owners_of (standing_at (S.world s.old) slot) ≡ None))
+            (λ why. (why ≡ Refused.TooManyOwners) ×
+            ((slot : ℕ) × (slot_named ptr.entry ≡ Some slot) × IsSharedBy (2 ^ 62) (standing_at (S.world s.old) slot)))) }
+    {
+        match ptr.get_shared(s) {
+            Ok(Some(owner)) => Ok(owner),
+            Ok(None) => Err((ptr, None)),
+            Err(refused) => Err((ptr, Some(refused))),
+        }
+    }
+
+    /// One owner more of the same item, with the same value.
+    ///
+    /// `TooManyOwners` where 2^62 own it, cells counted.
+    pub fn clone<S: SharedItems<T>>(&self, s: &mut S) -> Result<Shared<T>, Refused>
+        requires seated { IsSeated (S.seat s.old) }
+        requires home { slots_home self.now ≡ (S.seat s.old).home.slots }
+        ensures undisturbed { Undisturbed S.seat S.own S.known S.shows s.old s.new }
+        ensures home { IfOk result (λ other. slots_home other ≡ (S.seat s.old).home.slots) }
+        ensures slot { IfOk result (λ other. slot_of other ≡ slot_of self.now) }
+        ensures value { IfOk result (λ other. (v : T) → S.owns_value s.old (right_of self.now) v → S.owns_value s.new (right_of other) v) }
+        ensures back { IfErr result (λ e. e ≡ Refused.TooManyOwners) }
+        ensures exact { IsExact (S.seat s.old) → (owners : ℕ) × IsSharedBy owners (standing_at (S.world s.old) (slot_of self.now)) × MatchResult result
+            (λ _. (owners < 2 ^ 62) × (S.world s.new ≡ with_standing (S.world s.old) (slot_of self.now) (Standing.Shared (owners + 1))))
+            (λ e. (owners ≡ 2 ^ 62) × (e ≡ Refused.TooManyOwners) × (S.world s.new ≡ S.world s.old)) }
+    {
+        Ok(Shared::of_right(s.clone_owner(self.right())?))
+    }
+
+    /// Gives this owner up, and answers whether it was the last, cells counted. The last one's item is retired: it waits with the calling participant.
+    pub fn release<S: Items<T>>(self, s: &mut S) -> bool
+        requires seated { IsSeated (S.seat s.old) }
+        requires home { slots_home self ≡ (S.seat s.old).home.slots }
+        ensures unmoved { Unmoved S.seat S.known S.shows s.old s.new }
+        ensures own { S.own s.new ≡ (if result then time.awaiting (Item (slot_of self)) (S.own s.old) else S.own s.old) }
+        ensures exact { IsExact (S.seat s.old) → (owners : ℕ) × IsSharedBy owners (standing_at (S.world s.old) (slot_of self)) ×
+            (IsTrue result ↔ (owners ≡ 1)) ×
+            (S.world s.new ≡ owner_given (S.world s.old) (S.seat s.old).place (slot_of self) (Some (Standing.Shared owners))) }
+    {
+        s.release(self.into_right(), StandingKind::Shared)
+    }
+
+    /// Changes the value by `f`, where this owner is alone, cells counted, and no guard of any participant is open.
+    ///
+    /// `NotAlone` where others own the item, and else `GuardOpen` where a guard is open: `f` comes back uncalled.
+    pub fn get_mut<R, F: FnOnce(&mut T) -> R, S: InPlaceItems<T>>(
+        &mut self,
+        f: F,
+        s: &mut S,
+    ) -> Result<R, (F, Refused)>
+        requires seated { IsSeated (S.seat s.old) }
+        requires home { slots_home self.old ≡ (S.seat s.old).home.slots }
+        requires callable { F.IsAlwaysCallable f }
+        requires held { (was now : T) (r : R) → FnOnceReturnsAtMut F.FnOnce f was r now →
+            AreOf (S.seat s.old).home (T.holds was) → AreOf (S.seat s.old).home (T.holds now) }
+        ensures slot { slot_of self.new ≡ slot_of self.old }
+        ensures home { slots_home self.new ≡ slots_home self.old }
+        ensures same { IfErr result (λ _. self.new ≡ self.old) }
+        ensures kept { S.keeps_right → self.new ≡ self.old }
+        ensures seat { S.seat s.new ≡ S.seat s.old }
+        ensures own { S.own s.new ≡ S.own s.old }
+        ensures known { KnowsOn (S.known s.old) (S.known s.new) }
+        ensures back { IfErr result (λ e. (e.0 ≡ f) × ((e.1 ≡ Refused.NotAlone) ⊎ (e.1 ≡ Refused.GuardOpen))) }
+        ensures shown { IfOk result (λ r. (was : T) × (now : T) × S.owns_value s.old (right_of self.old) was ×
+            FnOnceReturnsAtMut F.FnOnce f was r now × S.owns_value s.new (right_of self.new) now) }
+        ensures exact { IsExact (S.seat s.old) → (owners : ℕ) × IsSharedBy owners (standing_at (S.world s.old) (slot_of self.old)) × MatchResult result
+            (λ r. (owners ≡ 1) × ¬ (IsGuarded (S.world s.old)) ×
+            ((was : T) × (now : T) × (value_at (S.world s.old) (slot_of self.old) ≡ Some was) × FnOnceReturnsAtMut F.FnOnce f was r now ×
+            (S.world s.new ≡ with_value (S.world s.old) (slot_of self.old) now)))
+            (λ e. ((1 < owners) × (e.1 ≡ Refused.NotAlone) ⊎ (owners ≡ 1) × IsGuarded (S.world s.old) × (e.1 ≡ Refused.GuardOpen)) ×
+            (S.world s.new ≡ S.world s.old)) }
+        ensures keeps { MatchResult result (λ _. KeepsOthers (slot_of self.old) (S.shows s.old) (S.shows s.new))
+            (λ _. KeepsShown (S.shows s.old) (S.shows s.new)) }
+    {
+        s.get_mut(&mut self.right.right, StandingKind::Shared, f)
+    }
+
+    /// Gives this owner up, and answers whether it was the last, cells counted. The last one's item is dropped in its place, where no guard of any
+    /// participant is open: its value gives up at once what it holds, and its slot is free.
+    ///
+    /// `GuardOpen` where this is the last owner and a guard is open; `Contended`, in a domain alone, where as many exchanges were lost as its limits
+    /// allow. The owner comes back, and nothing more waits than before.
+    pub fn drop_in_place<S: InPlaceItems<T>>(self, s: &mut S) -> Result<bool, (Shared<T>, Refused)>
+        requires seated { IsSeated (S.seat s.old) }
+        requires home { slots_home self ≡ (S.seat s.old).home.slots }
+        ensures seat { S.seat s.new ≡ S.seat s.old }
+        ensures own { MatchResult result (λ _. GrowsOn (S.own s.old) (S.own s.new)) (λ _. S.own s.new ≡ S.own s.old) }
+        ensures known { KnowsOn (S.known s.old) (S.known s.new) }
+        ensures back { IfErr result (λ e. (right_of e.0 ≡ right_of self) × IsRefusedBy (S.seat s.old) Refused.GuardOpen e.1) }
+        ensures exact { IsExact (S.seat s.old) → (owners : ℕ) × IsSharedBy owners (standing_at (S.world s.old) (slot_of self)) × MatchResult result
+            (λ last. MatchBool last
+            ((owners ≡ 1) × ¬ (IsGuarded (S.world s.old)) × (S.world s.new ≡ dropped T.holds (S.world s.old) (S.seat s.old).place (slot_of self)))
+            ((1 < owners) × (S.world s.new ≡ with_standing (S.world s.old) (slot_of self) (Standing.Shared (owners - 1)))))
+            (λ e. (owners ≡ 1) × IsGuarded (S.world s.old) × (e.1 ≡ Refused.GuardOpen) × (S.world s.new ≡ S.world s.old)) }
+        ensures others { KeepsOthers (slot_of self) (S.shows s.old) (S.shows s.new) }
+        ensures keeps { MatchResult result (λ last. ¬ (IsTrue last) → KeepsShown (S.shows s.old) (S.shows s.new))
+            (λ _. KeepsShown (S.shows s.old) (S.shows s.new)) }
+    {
+        match s.drop_in_place(self.into_right(), StandingKind::Shared) {
+            Ok(last) => Ok(last),
+            Err((right, refused)) => Err((Shared::of_right(right), refused)),
+        }
+    }
+}

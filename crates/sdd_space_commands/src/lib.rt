@@ -1,0 +1,15 @@
+//! What each line of a script does in a space, as a value: over any space, of which it says what must be so and what is so then.
+#![tactic(auto)]
+
+pub mod cells;
+pub mod collectors;
+pub mod exchanges;
+pub mod guards;
+pub mod holding;
+pub mod items;
+pub mod owners;
+pub mod raw;
+pub mod step;
+
+pub use holding::{AnyCell, AnyOwner, CellOwner};
+pub use step::{CellCommand, SpaceCommand};

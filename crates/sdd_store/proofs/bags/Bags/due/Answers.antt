@@ -1,6 +1,0 @@
-use Rattle.std.proofs.Common.{sym}
-use Rattle.sdd_store.proofs.Aging.{due-aged}
-use Rattle.sdd_store.proofs.bags.Bags.due.Goals as goal
-
-pub returns : goal.returns
-returns c = rw (← c.self.view_is, c.as_slice.ensures.value) (sym (due-aged c.self.inside.next.items c.self.inside.previous.items c.self.inside.current.items))

@@ -1,8 +1,0 @@
-use Rattle.std.proofs.Common.{arith, vec_len}
-use Rattle.sdd_store.proofs.Listed.{full-by-length}
-use Rattle.sdd_store.proofs.table.Table.is_full.Goals as goal
-
-pub returns : goal.returns
-returns g c =
-    rw (← c.self.view_is, c.is_empty.ensures)
-    (full-by-length _ c.self.inside.empty.items _ (vec_len c.self.inside.empty) c.self.invariant (omega arith))

@@ -1,5 +1,0 @@
-use Rattle.sdd_store.proofs.Adopting.{keeps-closed}
-use Rattle.sdd_store.proofs.time.Time.close.Goals as goal
-
-pub returns-else-index-gt1-clause-kept : goal.returns-else-index-gt1-clause-kept
-returns-else-index-gt1-clause-kept c = rw c.leave.ensures (keeps-closed c.args.self.now c.args.place c.requires.live)

@@ -1,8 +1,0 @@
-/// What waits with a participant until it is due.
-#[derive(Clone, Copy, Debug, PartialEq, Eq)]
-pub enum What {
-    /// The item in a slot.
-    Item(u32),
-    /// The job in a place of the table of jobs.
-    Job(u32),
-}

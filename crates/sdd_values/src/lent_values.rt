@@ -1,0 +1,199 @@
+//! Places for values, each empty or with a value, which can be lent to readers.
+ghost use Rattle.std.specs.Fn.{FnOnceReturnsAtMut};
+ghost use Rattle.std.specs.Prelude.{◌≡◌, ◌<◌, ℕ, IfOk, IsSome, None, Some, length, option_copied, replicate, slice_set};
+ghost use Rattle.core.specs.Mem.Slots.{slots_items, slots_ptr, slots_len, IsFull};
+ghost use Rattle.sdd_values.specs.Block.{IsHome, IsFreeFor, stake_at, lent, settled, unlent};
+ghost use Rattle.sdd_values.specs.LentValues.{value_at};
+
+use crate::block::Block;
+use crate::uninit_block::{Freeable, UninitBlock};
+use crate::raw_slice::RawSlice;
+use crate::ended_section::EndedSection;
+use core::slots::Slots;
+use sdd_rights::Fraction;
+use std::alloc::{AllocError, Global};
+use std::marker::Model;
+use std_alloc::room::may_hold;
+
+/// Places side by side in one block of memory, which is taken when they are made.
+///
+/// A reader may look at a value for as long as its tenure is borrowed. While a value is lent to some reader, it is neither taken nor changed.
+pub struct LentValues<T> {
+    block: Block<Option<T>>,
+    size: usize,
+    readers: u32,
+    hold: Freeable<Option<T>, Global>,
+    alloc: Global,
+    ghost counted: { size ≡ length block.values },
+    ghost held: { (hold.ptr ≡ block.ptr) × (hold.len ≡ size) × (hold.alloc ≡ alloc) },
+}
+
+impl<T> Model for LentValues<T> {
+    ghost use Rattle.sdd_values.specs.LentValues.{LentValues, AreStakes};
+
+    ghost Value = { LentValues T };
+
+    ghost view = { λ p. record { values = p.block.values; stakes = p.block.stakes; readers = p.readers } };
+
+    ghost invariant = { λ p. AreStakes p.block.values p.block.stakes p.readers };
+}
+
+/// No place of the row has a value.
+fn empty<T>(row: &mut Slots<Option<T>>, size: usize)
+    requires { slots_len row.old ≡ size }
+    ensures full { IsFull row.new }
+    ensures items { slots_items row.new ≡ replicate size None }
+    ensures place { (slots_ptr row.new ≡ slots_ptr row.old) × (slots_len row.new ≡ slots_len row.old) }
+{
+    for at in 0..size {
+        row.put(at, None);
+    }
+}
+
+impl<T> LentValues<T> {
+    /// That many places, all empty, for that many readers.
+    pub fn new(alloc: Global, size: usize, readers: u32) -> Result<LentValues<T>, AllocError>
+        ensures values { IfOk result (λ places. places.values ≡ replicate size None) }
+        ensures stakes { IfOk result (λ places. places.stakes ≡ unlent size readers) }
+        ensures readers { IfOk result (λ places. places.readers ≡ readers) }
+    {
+        if !may_hold::<Option<T>>(size) {
+            return Err(AllocError);
+        }
+        let room = UninitBlock::new(&alloc, size)?;
+        let none = None;
+        let (mut row, hold) = room.open(&none);
+        let None = none else { unreachable!() };
+        empty(&mut row, size);
+        let block = Block::of(RawSlice::of(row), readers);
+        Ok(LentValues {
+            block,
+            size,
+            readers,
+            hold,
+            alloc,
+        })
+    }
+
+    /// How many places there are.
+    pub fn len(&self) -> usize
+        ensures { result ≡ length self.now.values }
+    {
+        self.size
+    }
+
+    /// The value in a place, if there is such a place and it has one.
+    pub fn get(&self, at: usize) -> Option<&T>
+        ensures { option_copied result ≡ value_at self.now at }
+    {
+        if at < self.size {
+            self.block.get(at).as_ref()
+        } else {
+            None
+        }
+    }
+
+    /// The value in a place that has one.
+    pub fn value(&self, at: usize) -> &T
+        requires inside { at < length self.now.values }
+        requires filled { IsSome (value_at self.now at) }
+        ensures { value_at self.now at ≡ Some result.now }
+    {
+        let Some(value) = self.block.get(at) else {
+            unreachable!()
+        };
+        value
+    }
+
+    /// Puts a value into an empty place.
+    pub fn put(&mut self, at: usize, value: T)
+        requires inside { at < length self.old.values }
+        requires empty { value_at self.old at ≡ None }
+        ensures { self.new ≡ record self.old { values = slice_set self.old.values at (Some value) } }
+    {
+        match self.block.edit(at).replace(value) {
+            None => {}
+            Some(_) => unreachable!(),
+        }
+    }
+
+    /// Takes the value out of a place. It is lent to nobody.
+    pub fn take(&mut self, at: usize) -> T
+        requires inside { at < length self.old.values }
+        requires filled { IsSome (value_at self.old at) }
+        requires home { IsHome self.old.stakes at }
+        ensures value { value_at self.old at ≡ Some result }
+        ensures taken { self.new ≡ record self.old { values = slice_set self.old.values at None } }
+    {
+        let Some(value) = self.block.edit(at).take() else {
+            unreachable!()
+        };
+        value
+    }
+
+    /// The value in a place, for a reader, for as long as its tenure is borrowed, whatever becomes of the places.
+    pub fn look<'g, K>(&mut self, at: usize, reader: usize, tenure: &'g Fraction<K>) -> &'g T
+        requires inside { at < length self.old.values }
+        requires reader { reader < self.old.readers }
+        requires filled { IsSome (value_at self.old at) }
+        requires free { IsFreeFor tenure.now.round (stake_at self.old.stakes at reader) }
+        ensures value { value_at self.old at ≡ Some result.now }
+        ensures lent { self.new ≡ record self.old { stakes = lent at reader tenure.now.round self.old.stakes } }
+    {
+        let Some(value) = self.block.look(at, reader, tenure) else {
+            unreachable!()
+        };
+        value
+    }
+
+    /// What a reader was lent in a tenure that has ended is home again, in all places at once.
+    pub fn settle(&mut self, reader: usize, ended: &EndedSection)
+        requires { (at : ℕ) → IsFreeFor ended.now.name (stake_at self.old.stakes at reader) }
+        ensures { self.new ≡ record self.old { stakes = settled reader self.old.stakes } }
+    {
+        self.block.settle(reader, ended);
+    }
+
+    /// Puts another value into a place that has one, which comes out. It is lent to nobody.
+    pub fn replace(&mut self, at: usize, value: T) -> T
+        requires inside { at < length self.old.values }
+        requires filled { IsSome (value_at self.old at) }
+        requires home { IsHome self.old.stakes at }
+        ensures was { value_at self.old at ≡ Some result }
+        ensures now { self.new ≡ record self.old { values = slice_set self.old.values at (Some value) } }
+    {
+        let Some(was) = self.block.edit(at).replace(value) else {
+            unreachable!()
+        };
+        was
+    }
+
+    /// Changes the value in a place. It is lent to nobody.
+    pub fn edit<R, F: FnOnce(&mut T) -> R>(&mut self, at: usize, f: F) -> R
+        requires inside { at < length self.old.values }
+        requires filled { IsSome (value_at self.old at) }
+        requires home { IsHome self.old.stakes at }
+        requires callable { F.IsAlwaysCallable f }
+        ensures { (was : T) × (now : T) × (value_at self.old at ≡ Some was) × FnOnceReturnsAtMut F.FnOnce f was result now ×
+            (self.new ≡ record self.old { values = slice_set self.old.values at (Some now) }) }
+    {
+        let Some(value) = self.block.edit(at) else {
+            unreachable!()
+        };
+        f(value)
+    }
+
+    /// Gives the memory back. The places are empty.
+    pub fn destroy(self)
+        requires { (at : ℕ) → value_at self at ≡ None }
+    {
+        let LentValues {
+            block,
+            size: _,
+            readers: _,
+            hold,
+            alloc,
+        } = self;
+        hold.release(&alloc, block.into_strip());
+    }
+}

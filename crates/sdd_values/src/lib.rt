@@ -1,0 +1,34 @@
+//! Places for values in one block of memory, which readers look at for as long as they have a guard.
+//!
+//! - [`LentValues`] has a number of places, each empty or with a value, and a number of readers. Its memory is taken once and given back by `destroy`.
+//! - A reader's *tenure* lasts while it has a guard. [`ReadSections`] keeps the tenures of a space's readers; each guard has a part of its reader's, a
+//!   [`ReadSection`], and guards of one reader that nest share one. When all parts are back the tenure can end, which an [`EndedSection`] shows.
+//! - For each value each reader has a *stake*, which is home or lent to the reader's tenure. `LentValues::look` lends it, and answers a reference that
+//!   lives as long as the guard's part is borrowed, whatever becomes of the places meanwhile. `LentValues::settle` has what a reader was lent home again
+//!   once its tenure has ended, in all places at once.
+//! - A value is taken or replaced only where all its stakes are home. So nobody can look at it any more.
+//!
+//! Stakes and tenures exist for proofs alone: they take no bytes, and beside the look itself no instruction runs for them.
+//!
+//! - A [`Nullable`] shows a value or nothing. A reference to one is a single word that can be copied, for a pointer that may be null.
+//!
+//! Below stands a block of values of any kind, which is proved by hand, as is the memory that it lies in. The modules [`example`], [`hall`] and
+//! [`seen`] show the use.
+#![tactic(auto)]
+
+mod block;
+pub mod example;
+pub mod hall;
+mod lent_values;
+mod uninit_block;
+pub mod seen;
+mod nullable;
+mod raw_slice;
+mod ended_section;
+mod read_sections;
+
+pub use lent_values::LentValues;
+pub use uninit_block::{Freeable, UninitBlock};
+pub use nullable::Nullable;
+pub use ended_section::{EndedSection, end_round};
+pub use read_sections::{SectionState, ReadSection, ReadSections};

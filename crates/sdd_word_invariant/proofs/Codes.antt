@@ -1,0 +1,174 @@
+-- The words as they are written are read as the rule asks.
+use Rattle.std.proofs.Common.{◌≡◌, ◌⊎◌, ℕ, suc, ◌+◌, ◌-◌, ◌*◌, ◌/◌, ◌%◌, ◌^◌, ◌<◌, ◌≤◌, eqb, leb, true, false, refl, ap, ◌∙◌, inl, inr, ⊎_elim, eq-eqb, ne_eqb, arith}
+use mathlib.Core.Logic.{dite}
+use native.Mathlib.Decide.{ℕ_discrete}
+use prog.Atomic.{either}
+use Rattle.std.proofs.lemmas.Bool.{le-leb}
+use Rattle.std.proofs.lemmas.Bool.Decides.{leb_tells}
+use Rattle.sdd_word_invariant.specs.Sums.{is}
+use Rattle.sdd_word_invariant.specs.Codes.{IsSound, codes, shared_base, free_word, owned_word, waiting_word, private_word, emptied_word, unowned, kind_alive, kind_waiting, kind_full, kind_valued, kind_emptying, emptying, emptying_word, left_word, alive, waiting, full, valued, counted, waits_for, names}
+
+lives : (q : ℕ) → 0 < kind_alive q → (kind_waiting q ≡ 0) × (kind_full q ≡ 1)
+lives q h = dite (ℕ_discrete q 1) (λ e. (ap kind_waiting e, ap kind_full e))
+    (λ n1. dite (ℕ_discrete q 3) (λ e. (ap kind_waiting e, ap kind_full e))
+    (λ n3. let a = ap (λ (t : _). either t 1 (either (eqb q 3) 1 0)) (ne_eqb q 1 n1) in let b = ap (λ (t : _). either t 1 0) (ne_eqb q 3 n3) in
+    absurd (omega arith)))
+
+waits : (q : ℕ) → 0 < kind_waiting q → (kind_waiting q ≡ 1) × (kind_full q ≡ 1)
+waits q h = dite (ℕ_discrete q 4) (λ e. (ap kind_waiting e, ap kind_full e))
+    (λ n4. dite (ℕ_discrete q 5) (λ e. (ap kind_waiting e, ap kind_full e))
+    (λ n5. dite (ℕ_discrete q 6) (λ e. (ap kind_waiting e, ap kind_full e))
+    (λ n6. dite (ℕ_discrete q 7) (λ e. (ap kind_waiting e, ap kind_full e))
+    (λ n7. let a = ap (λ (t : _). either t 1 (either (eqb q 5) 1 (either (eqb q 6) 1 (either (eqb q 7) 1 0)))) (ne_eqb q 4 n4) in
+    let b = ap (λ (t : _). either t 1 (either (eqb q 6) 1 (either (eqb q 7) 1 0))) (ne_eqb q 5 n5) in
+    let c = ap (λ (t : _). either t 1 (either (eqb q 7) 1 0)) (ne_eqb q 6 n6) in let d = ap (λ (t : _). either t 1 0) (ne_eqb q 7 n7) in
+    absurd (omega arith)))))
+
+empties : (q : ℕ) → 0 < kind_emptying q → (kind_emptying q ≡ 1) × (kind_alive q ≡ 0) × (kind_full q ≡ 1) × (kind_valued q ≡ 0)
+empties q h = dite (ℕ_discrete q 7) (λ e. (ap kind_emptying e, ap kind_alive e, ap kind_full e, ap kind_valued e))
+    (λ n7. dite (ℕ_discrete q 8) (λ e. (ap kind_emptying e, ap kind_alive e, ap kind_full e, ap kind_valued e))
+    (λ n8. let a = ap (λ (t : _). either t 1 (either (eqb q 8) 1 0)) (ne_eqb q 7 n7) in let b = ap (λ (t : _). either t 1 0) (ne_eqb q 8 n8) in
+    absurd (omega arith)))
+
+valued_is : (q : ℕ) → 0 < kind_alive q → kind_valued q ≡ 1
+valued_is q h = dite (ℕ_discrete q 1) (λ e. ap kind_valued e)
+    (λ n1. dite (ℕ_discrete q 3) (λ e. ap kind_valued e)
+    (λ n3. let a = ap (λ (t : _). either t 1 (either (eqb q 3) 1 0)) (ne_eqb q 1 n1) in let b = ap (λ (t : _). either t 1 0) (ne_eqb q 3 n3) in
+    absurd (omega arith)))
+
+-- a count: alive as long as one is left
+pub shared : (x : ℕ) → shared_base ≤ x → (alive x ≡ x - shared_base) × (waiting x ≡ is shared_base x) × (full x ≡ 1) × (counted x ≡ 1) × (valued x ≡ 1)
+unfolding alive waiting full counted valued
+shared x h = let e = le-leb shared_base x h in (
+  ap (λ (t : _). either t (x - shared_base) (kind_alive (x % 16))) e,
+  ap (λ (t : _). either t (is shared_base x) (kind_waiting (x % 16))) e,
+  ap (λ (t : _). either t 1 (kind_full (x % 16))) e,
+  ap (λ (t : _). either t 1 0) e,
+  ap (λ (t : _). either t 1 (kind_valued (x % 16))) e,
+)
+
+-- what is counted is shared
+pub counted_is : (x : ℕ) → counted x ≡ 1 → shared_base ≤ x
+unfolding counted
+counted_is x h = ⊎_elim (λ (t : (leb shared_base x ≡ true) × (shared_base ≤ x)). t.1)
+    (λ (t : (leb shared_base x ≡ false) × (x < shared_base)). let e = ap (λ (b : _). either b 1 0) t.0 in absurd (omega arith)) (leb_tells shared_base x)
+
+-- none is left: it waits
+pub none_left : (alive shared_base ≡ 0) × (waiting shared_base ≡ 1) × (full shared_base ≡ 1)
+unfolding alive waiting full
+none_left = (refl, refl, refl)
+
+pub some_left : (x : ℕ) → shared_base < x → (alive x ≡ x - shared_base) × (waiting x ≡ 0) × (full x ≡ 1) × (counted x ≡ 1)
+some_left x h = let s = shared x (omega arith) in (s.0, s.1 ∙ ap (λ (t : _). either t 1 0) (ne_eqb x shared_base (λ e. omega arith)), s.2, s.3)
+
+below : (a x : ℕ) → x < a → leb a x ≡ false
+below a x low = ⊎_elim (λ (t : (leb a x ≡ true) × (a ≤ x)). let t1 = t.1 in absurd (omega arith)) (λ (t : (leb a x ≡ false) × (x < a)). t.0) (leb_tells a x)
+
+-- a kind, with any generation
+pub kind : (x q : ℕ) → x < shared_base → x % 16 ≡ q
+    → (alive x ≡ kind_alive q) × (waiting x ≡ kind_waiting q) × (full x ≡ kind_full q) × (counted x ≡ 0) × (valued x ≡ kind_valued q)
+unfolding alive waiting full counted valued
+kind x q low e = let f = below shared_base x low in (
+  ap (λ (t : _). either t (x - shared_base) (kind_alive (x % 16))) f ∙ ap kind_alive e,
+  ap (λ (t : _). either t (is shared_base x) (kind_waiting (x % 16))) f ∙ ap kind_waiting e,
+  ap (λ (t : _). either t 1 (kind_full (x % 16))) f ∙ ap kind_full e,
+  ap (λ (t : _). either t 1 0) f,
+  ap (λ (t : _). either t 1 (kind_valued (x % 16))) f ∙ ap kind_valued e,
+)
+
+-- it waits for the collector k
+pub private_is : (k : ℕ) → private_word k < shared_base → (alive (private_word k) ≡ 0) × (waiting (private_word k) ≡ 1) × (waits_for k (private_word k) ≡ 1)
+unfolding waits_for
+private_is k low = let s = kind (private_word k) 5 low (omega arith) in let q : (16 * k + 5) / 16 ≡ k = omega arith in let r : (16 * k + 5) % 16 ≡ 5 = omega arith in (
+  s.0,
+  s.1,
+  ap (λ (t : _). either t 0 (either (eqb ((16 * k + 5) % 16) 5) (is k ((16 * k + 5) / 16)) 0)) (below shared_base (16 * k + 5) low)
+      ∙ (ap (λ (t : _). either t (is k ((16 * k + 5) / 16)) 0) (eq-eqb ((16 * k + 5) % 16) 5 r) ∙ (ap (is k) q ∙ ap (λ (t : _). either t 1 0) (eq-eqb k k refl))),
+)
+
+-- it was emptied: it waits still, and has no value
+pub emptied_is : (alive emptied_word ≡ 0) × (waiting emptied_word ≡ 1) × (full emptied_word ≡ 1) × (valued emptied_word ≡ 0)
+unfolding alive waiting full valued
+emptied_is = (refl, refl, refl, refl)
+
+-- a close empties it: the bag has it still; and has let go of it
+pub emptying_is : (waiting emptying_word ≡ 1) × (emptying emptying_word ≡ 1) × (waiting left_word ≡ 0) × (emptying left_word ≡ 1)
+unfolding waiting emptying
+emptying_is = (refl, refl, refl, refl)
+
+is_emptying : (x : ℕ) → 0 < emptying x → (emptying x ≡ 1) × (alive x ≡ 0) × (full x ≡ 1) × (valued x ≡ 0)
+unfolding emptying
+is_emptying x h = ⊎_elim (λ (t : (leb shared_base x ≡ true) × (shared_base ≤ x)).
+    let e = ap (λ (b : _). either b 0 (kind_emptying (x % 16))) t.0 in absurd (omega arith))
+    (λ (t : (leb shared_base x ≡ false) × (x < shared_base)). let f = ap (λ (b : _). either b 0 (kind_emptying (x % 16))) t.0 in
+    let s = kind x (x % 16) t.1 refl in let q = empties (x % 16) (omega arith) in (f ∙ q.0, s.0 ∙ q.1, s.2 ∙ q.2, s.4 ∙ q.3))
+    (leb_tells shared_base x)
+
+waits_privately : (k x : ℕ) → 0 < waits_for k x → (x < shared_base) × (x % 16 ≡ 5)
+unfolding waits_for
+waits_privately k x h = ⊎_elim (λ (t : (leb shared_base x ≡ true) × (shared_base ≤ x)).
+    let e = ap (λ (b : _). either b 0 (either (eqb (x % 16) 5) (is k (x / 16)) 0)) t.0 in absurd (omega arith))
+    (λ (t : (leb shared_base x ≡ false) × (x < shared_base)). dite (ℕ_discrete (x % 16) 5) (λ e. (t.1, e))
+    (λ ne. let f = ap (λ (b : _). either b 0 (either (eqb (x % 16) 5) (is k (x / 16)) 0)) t.0 in
+    let g = ap (λ (b : _). either b (is k (x / 16)) 0) (ne_eqb (x % 16) 5 ne) in absurd (omega arith)))
+    (leb_tells shared_base x)
+
+pub free_is : (g : ℕ) → free_word g < shared_base → (alive (free_word g) ≡ 0) × (waiting (free_word g) ≡ 0) × (full (free_word g) ≡ 0)
+free_is g low = let k = kind (free_word g) 0 low (omega arith) in (k.0, k.1, k.2)
+
+pub owned_is : (g : ℕ) → owned_word g < shared_base → (alive (owned_word g) ≡ 1) × (waiting (owned_word g) ≡ 0) × (counted (owned_word g) ≡ 0)
+owned_is g low = let k = kind (owned_word g) 1 low (omega arith) in (k.0, k.1, k.3)
+
+pub waiting_is : (g : ℕ) → waiting_word g < shared_base → (alive (waiting_word g) ≡ 0) × (waiting (waiting_word g) ≡ 1)
+waiting_is g low = let k = kind (waiting_word g) 4 low (omega arith) in (k.0, k.1)
+
+-- a cell's word that owns the slot i, of any generation
+pub cell_names : (x i t g : ℕ) → x ≡ 2 ^ 27 * g + (4 * suc i + t) → t < 4 → 4 * suc i + t < unowned → (a : ℕ) → names a x ≡ is a i
+unfolding names
+cell_names x i t g e small low a = let y : ℕ = x % 2 ^ 27 in let m : y ≡ 4 * suc i + t = omega arith in
+    let q : y / 4 ≡ suc i = omega arith in let r : y / 4 - 1 ≡ i = omega arith in
+    ap (λ (b : _). either b 0 (either (eqb (y / 4) 0) 0 (is a (y / 4 - 1)))) (below unowned y (omega arith))
+    ∙ (ap (λ (b : _). either b 0 (is a (y / 4 - 1))) (ne_eqb (y / 4) 0 (λ c. omega arith)) ∙ ap (is a) r)
+
+-- one that owns none
+pub cell_null : (x : ℕ) → (x % 2 ^ 27 < 4) ⊎ (unowned ≤ x % 2 ^ 27) → (a : ℕ) → names a x ≡ 0
+unfolding names
+cell_null x h a = let y : ℕ = x % 2 ^ 27 in ⊎_elim
+    (λ (l : y < 4). ap (λ (t : _). either t 0 (either (eqb (y / 4) 0) 0 (is a (y / 4 - 1)))) (below unowned y (omega arith))
+    ∙ ap (λ (t : _). either t 0 (is a (y / 4 - 1))) (eq-eqb (y / 4) 0 (omega arith)))
+    (λ (l : unowned ≤ y). ap (λ (t : _). either t 0 (either (eqb (y / 4) 0) 0 (is a (y / 4 - 1)))) (le-leb unowned y l)) h
+
+-- it owns one slot, or none
+pub which : (x : ℕ) → ((i : ℕ) × ((a : ℕ) → names a x ≡ is a i)) ⊎ ((a : ℕ) → names a x ≡ 0)
+which x = let y : ℕ = x % 2 ^ 27 in ⊎_elim (λ (t : (leb unowned y ≡ true) × (unowned ≤ y)). inr (cell_null x (inr t.1)))
+    (λ (t : (leb unowned y ≡ false) × (y < unowned)). let t1 = t.1 in dite (ℕ_discrete (y / 4) 0) (λ e. inr (cell_null x (inl (omega arith))))
+    (λ ne. inl (y / 4 - 1, cell_names x (y / 4 - 1) (y % 4) (x / 2 ^ 27) (omega arith) (omega arith) (omega arith))))
+    (leb_tells unowned y)
+
+free : (alive 0 ≡ 0) × (waiting 0 ≡ 0) × (full 0 ≡ 0)
+unfolding alive waiting full
+free = (refl, refl, refl)
+
+pub held_is : (alive 3 ≡ 1) × (counted 3 ≡ 0)
+unfolding alive counted
+held_is = (refl, refl)
+
+pub sound : IsSound codes
+sound = record {
+  lives = λ x h. ⊎_elim (λ (t : (leb shared_base x ≡ true) × (shared_base ≤ x)). let s = shared x t.1 in let s0 = s.0 in
+      let l = some_left x (omega arith) in (l.1, l.2))
+      (λ (t : (leb shared_base x ≡ false) × (x < shared_base)). let s = kind x (x % 16) t.1 refl in let s0 = s.0 in let q = lives (x % 16) (omega arith) in
+      (s.1 ∙ q.0, s.2 ∙ q.1)) (leb_tells shared_base x);
+  valued = λ x h. ⊎_elim (λ (t : (leb shared_base x ≡ true) × (shared_base ≤ x)). (shared x t.1).4)
+      (λ (t : (leb shared_base x ≡ false) × (x < shared_base)). let s = kind x (x % 16) t.1 refl in let s0 = s.0 in
+      s.4 ∙ valued_is (x % 16) (omega arith)) (leb_tells shared_base x);
+  emptying = is_emptying;
+  private = λ k x h. let p = waits_privately k x h in let s = kind x 5 p.0 p.1 in (s.1, s.4);
+  waits = λ x h. ⊎_elim (λ (t : (leb shared_base x ≡ true) × (shared_base ≤ x)). let s = shared x t.1 in let s1 = s.1 in
+      dite (ℕ_discrete x shared_base) (λ e. (s1 ∙ ap (λ (b : _). either b 1 0) (eq-eqb x shared_base e), s.2))
+      (λ ne. let n = ap (λ (b : _). either b 1 0) (ne_eqb x shared_base ne) in absurd (omega arith)))
+      (λ (t : (leb shared_base x ≡ false) × (x < shared_base)). let s = kind x (x % 16) t.1 refl in let s1 = s.1 in let q = waits (x % 16) (omega arith) in
+      (s.1 ∙ q.0, s.2 ∙ q.1)) (leb_tells shared_base x);
+  free = free;
+  null = λ i. cell_null 0 (inl (omega arith)) i;
+}

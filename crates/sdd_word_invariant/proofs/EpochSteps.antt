@@ -1,0 +1,91 @@
+-- The steps of the epoch's part keep the other parts too.
+use Rattle.std.proofs.Common.{◌≡◌, ℕ, ◌<◌, List, map, get_or, set, sym, refl, ap, ◌∙◌, subst, eqb, arith}
+use mathlib.Core.Logic.{dite}
+use native.Mathlib.Decide.{ℕ_discrete}
+use lib.Seq.{map-set}
+use prog.Atomic.{either}
+use Rattle.atomic_table.proofs.Lists.{at_map}
+use Rattle.sdd_views.specs.declared.EpochView.{EpochView}
+use Rattle.sdd_views.specs.declared.View.{View}
+use Rattle.sdd_views.specs.declared.Sizes.{Sizes}
+use Rattle.sdd_word_invariant.specs.Words.{state_word, after_places}
+use Rattle.sdd_word_invariant.specs.Codes.{codes}
+use Rattle.sdd_word_invariant.specs.Epoch.{HasPlace, IsClosed, IsOpen, Scans, EpochPart}
+use Rattle.sdd_views.specs.Views.{nobody}
+use Rattle.sdd_word_invariant.specs.Steps.{Steps, Keeps, published, closed, Registers}
+use Rattle.sdd_word_invariant.specs.SlotSteps.{blank, changed, unseeing, OnEpoch, PublishesAll, ClosesAll}
+use Rattle.sdd_word_invariant.specs.Parts.{epoch_of, with_epoch, with_both, Parts}
+use Rattle.sdd_word_invariant.proofs.Codes.{sound}
+use Rattle.sdd_word_invariant.proofs.Epoch as epochs
+use Rattle.sdd_word_invariant.proofs.SlotEpochs as slots
+use Rattle.sdd_word_invariant.proofs.Lone.{still_blank, lone_spared}
+
+module _ (sizes : Sizes) where
+  -- what the epoch's part sees of the views after a step
+  pub seen_after : (ws : List ℕ) (vs : List View) (id : ℕ) (w : View) → EpochPart sizes.participants ws (set (map epoch_of vs) id w.epoch)
+      → EpochPart sizes.participants ws (map epoch_of (set vs id w))
+  seen_after ws vs id w = subst (λ (l : List EpochView). EpochPart sizes.participants ws l) (sym (map-set epoch_of vs id w))
+
+  module _ (id : ℕ) (v : View) (i : ℕ) (f : ℕ → ℕ) (low : i < after_places sizes.participants) where
+    -- a step that takes no place, publishes nothing and closes nothing
+    pub mild : (R : EpochView → ℕ → EpochView → Type 0) → ((x : ℕ) (w : EpochView) → R v.epoch x w → HasPlace w → HasPlace v.epoch)
+        → Keeps sizes.participants id v.epoch i f (R v.epoch) → Steps (Parts sizes) id v i f (OnEpoch R v)
+    mild R had keeps ws vs p at small = let at' = at_map epoch_of vs id v at in let k = keeps ws (map epoch_of vs) p.epoch at' small in
+        let e : EpochView = k.0 in let w : View = with_epoch v e in let y : ℕ = f (get_or ws i 0) in (
+          w,
+          record {
+            epoch = seen_after (set ws i y) vs id w k.1;
+            slots = slots.mild codes sound sizes ws vs p.slots id v at i y (omega arith) e k.2;
+            lone = lone_spared sizes ws vs p.lone id v at i y w low refl (λ one z. p.lone.knows one id v at (had (get_or ws i 0) e k.3 z));
+          },
+          (e, refl, k.3),
+        )
+
+  -- a place is taken, by a token that knows nothing
+  pub registers : (id p : ℕ) (v : View) → v.epoch ≡ nobody sizes.participants → v.words ≡ blank sizes → p < sizes.participants
+      → Steps (Parts sizes) id v (state_word p) (λ x. either (eqb x 0) 1 x) (OnEpoch (Registers (state_word p)) v)
+  registers id p v none clean inside ws vs k at small = let n : ℕ = sizes.participants in let i : ℕ = state_word p in let at' = at_map epoch_of vs id v at in
+      let keeps = subst (λ (u : EpochView). Keeps n id u i (λ x. either (eqb x 0) 1 x) (Registers i u)) (sym none) (epochs.registers n id p inside) in
+      let r = keeps ws (map epoch_of vs) k.epoch at' small in let e : EpochView = r.0 in let w : View = with_epoch v e in
+      let y : ℕ = either (eqb (get_or ws i 0) 0) 1 (get_or ws i 0) in (
+        w,
+        record {
+          epoch = seen_after (set ws i y) vs id w r.1;
+          slots = slots.mild codes sound sizes ws vs k.slots id v at i y (omega arith) e r.2;
+          lone = lone_spared sizes ws vs k.lone id v at i y w (omega arith) refl (λ one z. dite (ℕ_discrete (get_or ws i 0) 0)
+              (λ hit. let first : 0 ≡ p = omega arith in
+              clean ∙ sym (still_blank sizes ws k.slots.long (k.epoch.unused one (ap (λ (q : ℕ). get_or ws (state_word q) 0) first ∙ hit))))
+              (λ miss. let same = ap (λ (u : EpochView). u.state) ((r.3 p refl).1 miss) in let free = ap (λ (u : EpochView). u.state) none in
+              absurd (omega arith)));
+        },
+        (e, refl, r.3),
+      )
+
+  pub publishes : (id : ℕ) (v : View) → IsClosed v.epoch → v.epoch.count ≡ v.epoch.known → v.epoch.place < sizes.participants
+      → Steps (Parts sizes) id v (state_word v.epoch.place) (λ _. 2) (λ _. PublishesAll v 2)
+  publishes id v shut now inside ws vs p at small = let i : ℕ = state_word v.epoch.place in let at' = at_map epoch_of vs id v at in
+      let k = epochs.publishes sizes.participants id v.epoch shut now ws (map epoch_of vs) p.epoch at' small in
+      let found = (p.epoch.each id v.epoch at').found in
+      let t = k.3 in let g : ℕ = t.0 in let w : View = with_both v (published v.epoch g) (changed v) in (
+        w,
+        record {
+          epoch = seen_after (set ws i 2) vs id w (subst (λ (e : EpochView). EpochPart sizes.participants (set ws i 2) (set (map epoch_of vs) id e)) t.1 k.1);
+          slots = slots.publishes codes sound sizes ws vs p.slots id v at i 2 (omega arith) g shut now t.2 found;
+          lone = lone_spared sizes ws vs p.lone id v at i 2 w (omega arith) refl (λ one z. p.lone.knows one id v at (omega arith));
+        },
+        (published v.epoch g, refl, (g, refl, t.2, t.3)),
+      )
+
+  pub closes : (id : ℕ) (v : View) → IsOpen v.epoch → ¬ (Scans v.epoch) → v.epoch.place < sizes.participants
+      → Steps (Parts sizes) id v (state_word v.epoch.place) (λ _. 1) (λ _. ClosesAll v 1)
+  closes id v is_open free inside ws vs p at small = let i : ℕ = state_word v.epoch.place in let at' = at_map epoch_of vs id v at in
+      let k = epochs.closes sizes.participants id v.epoch is_open free ws (map epoch_of vs) p.epoch at' small in
+      let w : View = with_both v (closed v.epoch) (unseeing v) in (
+        w,
+        record {
+          epoch = seen_after (set ws i 1) vs id w (subst (λ (e : EpochView). EpochPart sizes.participants (set ws i 1) (set (map epoch_of vs) id e)) k.2 k.1);
+          slots = slots.closes codes sound sizes ws vs p.slots id v at i 1 (omega arith);
+          lone = lone_spared sizes ws vs p.lone id v at i 1 w (omega arith) refl (λ one z. p.lone.knows one id v at (omega arith));
+        },
+        refl,
+      )

@@ -1,0 +1,195 @@
+-- The steps on slots keep all parts.
+use Rattle.std.proofs.Common.{None, ◌≡◌, ℕ, suc, ◌+◌, ◌<◌, ◌≤◌, eqb, List, map, get_or, set, sym, refl, ap, ◌∙◌, subst, arith}
+use mathlib.Core.Option.{some}
+use mathlib.Core.Logic.{dite}
+use native.Mathlib.Decide.{ℕ_discrete}
+use lib.ListN.{get_elem?}
+use lib.Seq.{set-get_or}
+use prog.Atomic.{either}
+use Rattle.atomic_table.proofs.Lists.{at_map, set_again, set_here, exchanged}
+use Rattle.sdd_views.specs.declared.EpochView.{EpochView}
+use Rattle.sdd_views.specs.declared.WaitingItem.{WaitingItem}
+use Rattle.sdd_views.specs.declared.View.{View}
+use Rattle.sdd_views.specs.declared.Sizes.{Sizes}
+use Rattle.sdd_word_invariant.specs.Words.{global_word, state_word, slot_word}
+use Rattle.sdd_word_invariant.specs.Codes.{codes, shared_base, free_word, owned_word, waiting_word}
+use Rattle.sdd_word_invariant.specs.Epoch.{HasPlace, IsOpen, EpochPart}
+use Rattle.sdd_word_invariant.specs.Slots.{slot_at, owners_at, items_at, OwnsAlone, Holds, SlotsPart}
+use Rattle.sdd_word_invariant.specs.Steps.{Steps}
+use Rattle.sdd_word_invariant.specs.SlotSteps.{noted, Knew, claimed, retired, given_back, seeing, Claims, Retires, GivesBack, AtSlot, held, release_hold, looked_past, discarded, TakesHold, LetsGo, Discards, LooksForGuard, LooksAtSlot}
+use Rattle.sdd_word_invariant.specs.Parts.{epoch_of, Parts}
+use Rattle.sdd_word_invariant.proofs.Codes.{sound, free_is, owned_is, waiting_is}
+use Rattle.sdd_word_invariant.proofs.Epoch as epochs
+use Rattle.sdd_word_invariant.proofs.EpochSteps.{seen_after}
+use Rattle.sdd_word_invariant.proofs.Owning as owning
+use Rattle.sdd_word_invariant.proofs.Seeing as seen
+use Rattle.sdd_word_invariant.proofs.Holding as holding
+use Rattle.sdd_word_invariant.proofs.Lone.{finds, lone_same, lone_noted}
+use Rattle.sdd_word_invariant.proofs.Waits as waits
+
+module _ (id : ℕ) (v : View) (live : HasPlace v.epoch) where
+  abbrev sizes : Sizes
+  sizes = v.sizes
+
+  module _ (ws : List ℕ) (vs : List View) (p : Parts sizes ws vs) (at : get_elem? vs id ≡ some v) where
+    at_epoch : get_elem? (map epoch_of vs) id ≡ some v.epoch
+    at_epoch = at_map epoch_of vs id v at
+
+    -- what is known of the epoch stays
+    same_epochs : EpochPart sizes.participants ws (set (map epoch_of vs) id v.epoch)
+    same_epochs = subst (λ (l : List EpochView). EpochPart sizes.participants ws l) (sym (set_again (map epoch_of vs) id v.epoch at_epoch)) p.epoch
+
+    -- the other parts after a step on a slot's word
+    around : (slot y : ℕ) (w : View) → HasPlace w.epoch → w.words ≡ noted slot y v → EpochPart sizes.participants ws (set (map epoch_of vs) id w.epoch)
+        → SlotsPart codes sizes (set ws (slot_word sizes slot) y) (set vs id w) → Parts sizes (set ws (slot_word sizes slot) y) (set vs id w)
+    around slot y w still is epoch slots = record {
+      epoch = seen_after sizes (set ws (slot_word sizes slot) y) vs id w
+          (epochs.behind sizes.participants ws (set (map epoch_of vs) id w.epoch) id (slot_word sizes slot) y w.epoch epoch
+          (set_here (map epoch_of vs) id w.epoch (epochs.at_length (map epoch_of vs) id v.epoch at_epoch)) still (omega arith));
+      slots = slots;
+      lone = lone_noted sizes ws vs p.lone id v at p.epoch live slot y w is;
+    }
+
+    -- nothing changes
+    unmoved : (i : ℕ) → Parts sizes (set ws i (get_or ws i 0)) (set vs id v)
+    unmoved i = subst (λ (l : List ℕ). Parts sizes l (set vs id v)) (sym (set-get_or ws i 0))
+        (subst (λ (l : List View). Parts sizes ws l) (sym (set_again vs id v at)) p)
+
+    -- a lone participant finds what it knew
+    knew : (slot : ℕ) → Knew slot v (slot_at sizes ws slot)
+    knew slot one = let f = p.epoch.each id v.epoch at_epoch in finds sizes ws vs p.lone id v at (sym (f.all (λ z. omega arith)) ∙ one) live slot
+
+  -- the word tells which slot it is
+  module _ (slot other : ℕ) (is : slot_word sizes slot ≡ slot_word sizes other) where
+    same_slot : slot ≡ other
+    same_slot = omega arith
+
+    knew_too : (x : ℕ) → Knew slot v x → Knew other v x
+    knew_too x = subst (λ (k : ℕ). Knew k v x) same_slot
+
+  -- claim a free slot
+  pub claims : (slot generation : ℕ) → slot < sizes.slots → owned_word generation < shared_base
+      → Steps (Parts sizes) id v (slot_word sizes slot) (λ x. either (eqb x (free_word generation)) (owned_word generation) x)
+      (AtSlot (λ slot. Claims slot (free_word generation) (owned_word generation)) (slot_word sizes slot) v)
+  claims slot g inside low ws vs p at small = let i : ℕ = slot_word sizes slot in let x : ℕ = get_or ws i 0 in let old : ℕ = free_word g in
+      let new : ℕ = owned_word g in let w : View = claimed slot new v in let told = knew ws vs p at slot in
+      exchanged x old new (λ y. (u : View) × Parts sizes (set ws i y) (set vs id u) × AtSlot (λ slot. Claims slot old new) i v x u)
+      (λ hit. let free = free_is g (omega arith) in let own = owned_is g low in (
+        w,
+        around ws vs p at slot new w live refl (same_epochs ws vs p at)
+            (owning.claims codes sound sizes ws vs p.slots id v at slot new (noted slot new v) inside
+            (ap codes.alive hit ∙ free.0) (ap codes.waiting hit ∙ free.1) own.0 own.2),
+        λ other is. ((λ _. ap (λ (k : ℕ). claimed k new v) (same_slot slot other is)), (λ no. absurd (no hit)), knew_too slot other is x told),
+      ))
+      (λ miss. (v, unmoved ws vs p at i, λ other is. ((λ e. absurd (miss e)), (λ _. refl), knew_too slot other is x told)))
+
+  -- look at the word of a slot
+  pub looks_at : (slot : ℕ) → Steps (Parts sizes) id v (slot_word sizes slot) (λ x. x) (AtSlot LooksAtSlot (slot_word sizes slot) v)
+  looks_at slot ws vs p at small = let i : ℕ = slot_word sizes slot in
+      (v, unmoved ws vs p at i, λ other is. (refl, knew_too slot other is (get_or ws i 0) (knew ws vs p at slot)))
+
+  -- retire an item of which it has the only owner
+  pub retires : (slot generation : ℕ) → slot < sizes.slots → OwnsAlone v slot → ¬ (Holds v slot) → waiting_word generation < shared_base
+      → Steps (Parts sizes) id v (slot_word sizes slot) (λ _. waiting_word generation)
+      (λ _. AtSlot Retires (slot_word sizes slot) v (waiting_word generation))
+  retires slot g inside mine free low ws vs p at small =
+      let count : ℕ = get_or ws global_word 0 in let y : ℕ = waiting_word g in let w : View = retired slot y count v in
+      let f = p.epoch.each id v.epoch (at_epoch ws vs p at) in let word = waiting_is g low in (
+        w,
+        around ws vs p at slot y w live refl (epochs.knows sizes.participants ws (map epoch_of vs) id v.epoch p.epoch (at_epoch ws vs p at))
+            (owning.retires codes sound sizes ws vs p.slots id v at p.epoch slot y (noted slot y v) inside mine free word.0 word.1),
+        λ other is. (
+          count,
+          f.known,
+          (λ one. f.lone (sym (f.all (λ z. omega arith)) ∙ one) live),
+          ap (λ (k : ℕ). retired k y count v) (same_slot slot other is),
+          (λ open_now. (f.published open_now).once),
+          waits.few_wait codes sound sizes ws vs p.slots id v at slot inside mine,
+        ),
+      )
+
+  -- give back the slot of an item that has seen three changes
+  pub gives_back : (slot generation k : ℕ) (x : WaitingItem) → get_elem? v.slots.waits k ≡ some x → x.slot ≡ slot → 3 ≤ x.changes
+      → slot < sizes.slots → free_word generation < shared_base
+      → Steps (Parts sizes) id v (slot_word sizes slot) (λ _. free_word generation) (λ _. AtSlot GivesBack (slot_word sizes slot) v (free_word generation))
+  gives_back slot g k x has same ripe inside low ws vs p at small =
+      let y : ℕ = free_word g in let w : View = given_back slot y v in let word = free_is g low in
+      let giving_back = λ (i : ℕ). owning.giving_back codes sound sizes ws vs p.slots id v at p.epoch i (noted slot y v) in (
+        w,
+        around ws vs p at slot y w live refl (same_epochs ws vs p at)
+            (subst (λ (i : ℕ). SlotsPart codes sizes (set ws (slot_word sizes i) y) (set vs id (giving_back i))) same
+            (owning.gives_back codes sound sizes ws vs p.slots id v at p.epoch k y x (noted slot y v) has ripe (omega arith) word.0 word.1)),
+        λ other is. (
+          ap (λ (k : ℕ). given_back k y v) (same_slot slot other is),
+          ap (λ (k : ℕ). items_at k v) (sym (same_slot slot other is)) ∙ waits.waits_once codes sound sizes ws vs p.slots id v at slot k x has same,
+        ),
+      )
+
+  -- a guard comes to see a slot beside its owner, who may be another: no word is looked at
+  pub watches_beside : (slot : ℕ) → IsOpen v.epoch → (k : ℕ) (u : View) → 0 < owners_at slot u → ¬ (Holds u slot) → (ws : List ℕ) (vs : List View)
+      → Parts sizes ws vs → get_elem? vs id ≡ some v → get_elem? vs k ≡ some u → Parts sizes ws (set vs id (seeing slot v))
+  watches_beside slot is_open k u mine free ws vs p at there = let w : View = seeing slot v in record {
+    epoch = seen_after sizes ws vs id w (same_epochs ws vs p at);
+    slots = seen.watches_beside codes sound sizes ws vs p.slots id v at k u there slot is_open mine free;
+    lone = lone_same sizes ws vs p.lone id v at w refl (λ z. z);
+  }
+
+  -- a load leaves the other parts
+  module _ (ws : List ℕ) (vs : List View) (p : Parts sizes ws vs) (at : get_elem? vs id ≡ some v) where
+    loaded : (i : ℕ) (w : View) → w.epoch ≡ v.epoch → w.words ≡ v.words → SlotsPart codes sizes ws (set vs id w)
+        → Parts sizes (set ws i (get_or ws i 0)) (set vs id w)
+    loaded i w same known slots = subst (λ (l : List ℕ). Parts sizes l (set vs id w)) (sym (set-get_or ws i 0)) record {
+      epoch = seen_after sizes ws vs id w
+          (subst (λ (e : EpochView). EpochPart sizes.participants ws (set (map epoch_of vs) id e)) (sym same) (same_epochs ws vs p at));
+      slots = slots;
+      lone = lone_same sizes ws vs p.lone id v at w known (λ z. subst HasPlace same z);
+    }
+
+  -- hold a slot, which needs no other word, as its owner isn't counted
+  pub takes_hold : (slot : ℕ) → slot < sizes.slots → OwnsAlone v slot → v.slots.holds ≡ None
+      → Steps (Parts sizes) id v (slot_word sizes slot) (λ x. x) (AtSlot TakesHold (slot_word sizes slot) v)
+  takes_hold slot inside mine free ws vs p at small = let i : ℕ = slot_word sizes slot in let x : ℕ = get_or ws i 0 in let w : View = held slot v in
+      let a = (p.slots.each id v at).alone slot mine in (
+        w,
+        loaded ws vs p at i w refl refl (subst (λ (l : List ℕ). SlotsPart codes sizes l (set vs id w)) (set-get_or ws i 0)
+            (holding.takes_hold codes sound sizes ws vs p.slots id v at slot x v.words inside mine free a.0 a.1)),
+        λ other is. (ap (λ (k : ℕ). held k v) (same_slot slot other is), knew_too slot other is x (knew ws vs p at slot)),
+      )
+
+  -- let go of it
+  pub lets_go : (slot : ℕ) → slot < sizes.slots → Holds v slot
+      → Steps (Parts sizes) id v (slot_word sizes slot) (λ x. x) (AtSlot LetsGo (slot_word sizes slot) v)
+  lets_go slot inside held ws vs p at small = let i : ℕ = slot_word sizes slot in let x : ℕ = get_or ws i 0 in let w : View = release_hold v in
+      let f = p.slots.each id v at in let a = f.alone slot (f.held slot held) in (
+        w,
+        loaded ws vs p at i w refl refl (subst (λ (l : List ℕ). SlotsPart codes sizes l (set vs id w)) (set-get_or ws i 0)
+            (holding.lets_go codes sound sizes ws vs p.slots id v at slot x v.words inside held a.0 a.1)),
+        λ other is. (refl, knew_too slot other is x (knew ws vs p at slot)),
+      )
+
+  -- its item goes at once, after a look at each place
+  pub discards : (slot generation : ℕ) → slot < sizes.slots → Holds v slot → sizes.participants ≤ v.slots.looked → free_word generation < shared_base
+      → Steps (Parts sizes) id v (slot_word sizes slot) (λ _. free_word generation) (λ _. AtSlot Discards (slot_word sizes slot) v (free_word generation))
+  discards slot g inside held all low ws vs p at small = let y : ℕ = free_word g in let w : View = discarded slot y v in let word = free_is g low in (
+    w,
+    around ws vs p at slot y w live refl (same_epochs ws vs p at)
+        (holding.discards codes sound sizes ws vs p.slots id v at p.epoch slot y (noted slot y v) inside held all word.0 word.1),
+    λ other is. ap (λ (k : ℕ). discarded k y v) (same_slot slot other is),
+  )
+
+  -- look at the next place for a guard that may see it
+  pub looks : (place : ℕ) → place ≡ v.slots.looked
+      → Steps (Parts sizes) id v (state_word place) (λ x. x) (LooksForGuard (state_word place) v)
+  looks place next ws vs p at small = let i : ℕ = state_word place in let x : ℕ = get_or ws i 0 in
+      let f = p.epoch.each id v.epoch (at_epoch ws vs p at) in
+      let own : (q : ℕ) → i ≡ state_word q → HasPlace v.epoch → q ≡ v.epoch.place → x ≡ v.epoch.state
+      = λ q is z e. ap (λ (k : ℕ). get_or ws k 0) (let same : i ≡ state_word v.epoch.place = omega arith in same) ∙ f.state z in
+      dite (ℕ_discrete x 2)
+      (λ e. (v, unmoved ws vs p at i, λ q is. ((λ no. absurd (no e)), (λ _. refl), own q is)))
+      (λ no. let w : View = looked_past place v in (
+        w,
+        loaded ws vs p at i w refl refl (subst (λ (k : ℕ). SlotsPart codes sizes ws (set vs id (record v { slots = record v.slots { looked = k } })))
+            (let e : suc place ≡ place + 1 = omega arith in e)
+            (holding.passes codes sound sizes ws vs p.slots id v at p.epoch place next no)),
+        λ q is. ((λ _. ap (λ (k : ℕ). looked_past k v) (let e : place ≡ q = omega arith in e)), (λ e. absurd (no e)), own q is),
+      ))

@@ -1,0 +1,114 @@
+-- How the words of slots and cells are read.
+--
+-- A slot, below 2^63: 16 * generation + kind, where the kind is 0 free, 1 owned, 2 raw, 3 held; 4 waiting; 16 * collector + 5 waiting for a collector;
+-- once the collector's close has claimed it, 7 while its value is moved out, 8 the same where its bag has let go of it meanwhile, and 6 emptied, and still
+-- in the bag. Shared by n owners: 2^63 + n; none left, it waits: 2^63.
+-- A cell: 0 free; else 2^27 * generation + 4 * (slot + 1) + tag, or a mark from 2^27 - 16 on, which owns nothing: null with a tag, raw pointers, a collector.
+use Rattle.std.specs.Prelude.{◌≡◌, ℕ, ◌+◌, ◌-◌, ◌*◌, ◌/◌, ◌%◌, ◌^◌, ◌<◌, eqb, leb}
+use prog.Atomic.{either}
+use Rattle.sdd_word_invariant.specs.Sums.{is}
+
+pub record WordReading : Type 0 where
+  -- how many owners the item of a slot has, those in cells too
+  pub alive : ℕ → ℕ
+  -- 1 where it waits
+  pub waiting : ℕ → ℕ
+  -- 1 where the slot isn't free
+  pub full : ℕ → ℕ
+  -- 1 where its value is there
+  pub valued : ℕ → ℕ
+  -- 1 where its owners are counted
+  pub counted : ℕ → ℕ
+  -- 1 where it waits for this collector
+  pub waits_for : ℕ → ℕ → ℕ
+  -- 1 while a close moves its value out
+  pub emptying : ℕ → ℕ
+  -- 1 where a cell's word owns the slot i
+  pub names : ℕ → ℕ → ℕ
+
+-- what the rule asks of a reading: an item with an owner doesn't wait, one waits once at most, and a word is 0 at the start
+pub record IsSound (z : WordReading) : Type 0 where
+  pub lives : (x : ℕ) → 0 < z.alive x → (z.waiting x ≡ 0) × (z.full x ≡ 1)
+  pub valued : (x : ℕ) → 0 < z.alive x → z.valued x ≡ 1
+  pub emptying : (x : ℕ) → 0 < z.emptying x → (z.emptying x ≡ 1) × (z.alive x ≡ 0) × (z.full x ≡ 1) × (z.valued x ≡ 0)
+  pub private : (k x : ℕ) → 0 < z.waits_for k x → (z.waiting x ≡ 1) × (z.valued x ≡ 1)
+  pub waits : (x : ℕ) → 0 < z.waiting x → (z.waiting x ≡ 1) × (z.full x ≡ 1)
+  pub free : (z.alive 0 ≡ 0) × (z.waiting 0 ≡ 0) × (z.full 0 ≡ 0)
+  pub null : (i : ℕ) → z.names i 0 ≡ 0
+
+abbrev pub free_word : ℕ → ℕ
+free_word generation = 16 * generation
+
+abbrev pub owned_word : ℕ → ℕ
+owned_word generation = 16 * generation + 1
+
+abbrev pub waiting_word : ℕ → ℕ
+waiting_word generation = 16 * generation + 4
+
+-- from here on the owners are counted
+abbrev pub shared_base : ℕ
+shared_base = 2 ^ 63
+
+abbrev pub shared_word : ℕ → ℕ
+shared_word owners = shared_base + owners
+
+abbrev pub kind_alive : ℕ → ℕ
+kind_alive q = either (eqb q 1) 1 (either (eqb q 3) 1 0)
+
+abbrev pub kind_waiting : ℕ → ℕ
+kind_waiting q = either (eqb q 4) 1 (either (eqb q 5) 1 (either (eqb q 6) 1 (either (eqb q 7) 1 0)))
+
+abbrev pub kind_full : ℕ → ℕ
+kind_full q = either (eqb q 0) 0 1
+
+abbrev pub kind_valued : ℕ → ℕ
+kind_valued q = either (eqb q 0) 0 (either (eqb q 6) 0 (either (eqb q 7) 0 (either (eqb q 8) 0 1)))
+
+abbrev pub kind_emptying : ℕ → ℕ
+kind_emptying q = either (eqb q 7) 1 (either (eqb q 8) 1 0)
+
+-- an item that a collector's close emptied
+abbrev pub emptied_word : ℕ
+emptied_word = 6
+
+-- one that a close empties, which is in a bag still, or no more
+abbrev pub emptying_word : ℕ
+emptying_word = 7
+
+abbrev pub left_word : ℕ
+left_word = 8
+
+-- one that waits for a collector
+abbrev pub private_word : ℕ → ℕ
+private_word collector = 16 * collector + 5
+
+unfoldable pub alive : ℕ → ℕ
+alive x = either (leb shared_base x) (x - shared_base) (kind_alive (x % 16))
+
+unfoldable pub waiting : ℕ → ℕ
+waiting x = either (leb shared_base x) (is shared_base x) (kind_waiting (x % 16))
+
+unfoldable pub full : ℕ → ℕ
+full x = either (leb shared_base x) 1 (kind_full (x % 16))
+
+unfoldable pub valued : ℕ → ℕ
+valued x = either (leb shared_base x) 1 (kind_valued (x % 16))
+
+unfoldable pub waits_for : ℕ → ℕ → ℕ
+waits_for k x = either (leb shared_base x) 0 (either (eqb (x % 16) 5) (is k (x / 16)) 0)
+
+unfoldable pub emptying : ℕ → ℕ
+emptying x = either (leb shared_base x) 0 (kind_emptying (x % 16))
+
+unfoldable pub counted : ℕ → ℕ
+counted x = either (leb shared_base x) 1 0
+
+-- from here on a cell's word, but for the generation, is a mark
+abbrev pub unowned : ℕ
+unowned = 2 ^ 27 - 16
+
+unfoldable pub names : ℕ → ℕ → ℕ
+names i x = either (leb unowned (x % 2 ^ 27)) 0 (either (eqb (x % 2 ^ 27 / 4) 0) 0 (is i (x % 2 ^ 27 / 4 - 1)))
+
+abbrev pub codes : WordReading
+codes = record { alive = alive; waiting = waiting; full = full; valued = valued; counted = counted; waits_for = waits_for; emptying = emptying; names = names }

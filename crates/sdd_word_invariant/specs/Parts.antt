@@ -1,0 +1,56 @@
+-- The rule of a domain: a record of its parts
+use Rattle.std.specs.Prelude.{◌≡◌, ℕ, ◌<◌, List, [], map, length}
+use mathlib.Core.Option.{some}
+use lib.ListN.{get_elem?}
+use Rattle.atomic_table.specs.Table.{State}
+use Rattle.sdd_views.specs.declared.EpochView.{EpochView}
+use Rattle.sdd_views.specs.declared.SlotsView.{SlotsView}
+use Rattle.sdd_views.specs.declared.View.{View}
+use Rattle.sdd_views.specs.declared.Sizes.{Sizes}
+use Rattle.sdd_word_invariant.specs.Words.{mark_word}
+use Rattle.sdd_word_invariant.specs.Codes.{codes}
+use Rattle.sdd_word_invariant.specs.Epoch.{EpochPart}
+use Rattle.sdd_word_invariant.specs.Slots.{SlotsPart, LonePart}
+use Rattle.sdd_views.specs.Views.{nobody, none_ended, bare, no_rights, at_rest, no_pledges}
+use Rattle.sdd_word_invariant.specs.SlotSteps.{blank}
+use Rattle.sdd_word_invariant.specs.Barred.{AreBarred, AreQuiet}
+
+abbrev pub epoch_of : View → EpochView
+epoch_of v = v.epoch
+
+abbrev pub with_epoch : View → EpochView → View
+with_epoch v w = record v { epoch = w }
+
+abbrev pub with_both : View → EpochView → SlotsView → View
+with_both v w s = record v { epoch = w; slots = s }
+
+-- a token that knows nothing, but how many of each there are and which book
+abbrev pub idle : Sizes → ℕ → View
+idle sizes book = record {
+  sizes = sizes;
+  epoch = nobody sizes.participants;
+  places = none_ended;
+  slots = bare;
+  cells = no_rights;
+  stakes = at_rest book;
+  pledges = no_pledges;
+  words = blank sizes;
+  plain = [];
+}
+
+-- the parts that speak of words and of what each participant knows
+pub record Parts (sizes : Sizes) (ws : List ℕ) (vs : List View) : Type 0 where
+  pub epoch : EpochPart sizes.participants ws (map epoch_of vs)
+  pub slots : SlotsPart codes sizes ws vs
+  pub lone : LonePart sizes ws vs
+
+module _ {S : Type 0} (sizes : Sizes) (s : State S View) where
+  -- what ended places left, and the mark: the word is there; a place that has ended stays so, and a slot that is quiet then
+  pub record PlacesPart : Type 0 where
+    pub wide : mark_word < length s.words
+    pub ended : (j : ℕ) (v : View) → get_elem? s.views j ≡ some v → AreBarred sizes s.words v
+    pub quiet : (j : ℕ) (v : View) → get_elem? s.views j ≡ some v → AreQuiet sizes s.words v
+
+  pub record WordInvariant : Type 0 where
+    pub parts : Parts sizes s.words s.views
+    pub places : PlacesPart

@@ -1,0 +1,167 @@
+-- What each step makes of what the participant knows of slots, and what it tells
+use Rattle.std.specs.Prelude.{◌≡◌, ◌≢◌, ℕ, ◌+◌, ◌*◌, ◌==◌, ◌<◌, ◌≤◌, not, if◌then◌else◌, List, [], ◌∷◌, ◌++◌, map, length, replicate, slice_index, slice_set, Some, None}
+use Rattle.std.specs.List.{filter}
+use mathlib.Core.Option.{some}
+use lib.ListN.{get_elem?}
+use Rattle.sdd_views.specs.declared.EpochView.{EpochView}
+use Rattle.sdd_views.specs.declared.SlotsView.{SlotsView}
+use Rattle.sdd_views.specs.declared.WaitingItem.{WaitingItem}
+use Rattle.sdd_views.specs.declared.View.{View}
+use Rattle.sdd_views.specs.declared.Sizes.{Sizes}
+use Rattle.sdd_word_invariant.specs.Words.{words_behind, state_word, slot_word}
+use Rattle.sdd_word_invariant.specs.Epoch.{HasPlace, IsOpen, IsLone}
+use Rattle.sdd_word_invariant.specs.Slots.{items_at}
+use Rattle.sdd_word_invariant.specs.Steps.{knowing, closed, Publishes}
+
+-- the words behind the places' before anybody takes part
+abbrev pub blank : Sizes → List ℕ
+blank sizes = replicate (words_behind sizes) 0
+
+-- where a slot's word is among those behind the places'
+abbrev pub behind : Sizes → ℕ → ℕ
+behind sizes slot = sizes.jobs + 2 * sizes.cells + slot
+
+-- what is known of these words once y is in that of a slot
+abbrev pub noted : ℕ → ℕ → View → List ℕ
+noted slot y v = slice_set v.words (behind v.sizes slot) y
+
+-- a lone participant finds what it knew
+abbrev pub Knew : ℕ → View → ℕ → Type 0
+Knew slot v x = IsLone v.epoch → x ≡ slice_index v.words (behind v.sizes slot)
+
+-- the slots other than this one
+abbrev pub without : ℕ → List ℕ → List ℕ
+without slot = filter (λ other. not (other == slot))
+
+-- the items of other slots
+abbrev pub without_item : ℕ → List WaitingItem → List WaitingItem
+without_item slot = filter (λ (x : WaitingItem). not (x.slot == slot))
+
+-- the first of a list, and the others
+abbrev pub first : List ℕ → List ℕ
+first [] = []
+first (x ∷ xs) = x ∷ []
+
+abbrev pub others : List ℕ → List ℕ
+others [] = []
+others (x ∷ xs) = xs
+
+-- the only owner of the first slot goes, to a token of its own, with its unit
+abbrev pub parted : View → View
+parted v = record v { slots = record v.slots { owns = others v.slots.owns; drawn = others v.slots.drawn } }
+
+-- the owners that another knows come, with their units
+abbrev pub joined : View → View → View
+joined v w = record v {
+  slots = record v.slots {
+    owns = w.slots.owns ++ v.slots.owns;
+    shares = w.slots.shares ++ v.slots.shares;
+    drawn = w.slots.drawn ++ v.slots.drawn;
+  };
+}
+
+-- a slot is claimed, and its word is y then
+abbrev pub claimed : ℕ → ℕ → View → View
+claimed slot y v = record v { slots = record v.slots { owns = slot ∷ v.slots.owns }; words = noted slot y v }
+
+abbrev pub retired_now : ℕ → ℕ → WaitingItem
+retired_now slot count = record { slot = slot; retired_at = count; changes = 0; name = 0 }
+
+-- its item is retired at a count
+abbrev pub retired : ℕ → ℕ → ℕ → View → View
+retired slot y count v = record v {
+  epoch = knowing v.epoch count;
+  slots = record v.slots { owns = without slot v.slots.owns; waits = v.slots.waits ++ retired_now slot count ∷ [] };
+  words = noted slot y v;
+}
+
+-- it is given back
+abbrev pub given_back : ℕ → ℕ → View → View
+given_back slot y v = record v { slots = record v.slots { waits = without_item slot v.slots.waits }; words = noted slot y v }
+
+-- a guard sees it
+abbrev pub seeing : ℕ → View → View
+seeing slot v = record v { slots = record v.slots { sees = slot ∷ v.slots.sees } }
+
+-- it holds a slot, and has looked at no place yet
+abbrev pub held : ℕ → View → View
+held slot v = record v { slots = record v.slots { holds = Some slot; looked = 0 } }
+
+-- it has looked at this place, the next one, where no guard is open
+abbrev pub looked_past : ℕ → View → View
+looked_past place v = record v { slots = record v.slots { looked = place + 1 } }
+
+-- it holds none
+abbrev pub release_hold : View → View
+release_hold v = record v { slots = record v.slots { holds = None; looked = 0 } }
+
+-- the item of the slot that is held goes at once
+abbrev pub discarded : ℕ → ℕ → View → View
+discarded slot y v = record v { slots = record v.slots { owns = without slot v.slots.owns; holds = None; looked = 0 }; words = noted slot y v }
+
+-- an item after one change more
+abbrev pub older : WaitingItem → WaitingItem
+older x = record x { changes = x.changes + 1 }
+
+-- at a publish: another count than the last one that was found is a change for each item that waits
+abbrev pub changed : View → SlotsView
+changed v = if v.epoch.count == v.epoch.found then v.slots else record v.slots { waits = map older v.slots.waits }
+
+-- at a close: nothing is seen any more
+abbrev pub unseeing : View → SlotsView
+unseeing v = record v.slots { sees = [] }
+
+-- an item of the slot waits with it that has seen three changes
+abbrev pub IsDue : View → ℕ → Type 0
+IsDue v slot = (k : ℕ) × (x : WaitingItem) × (get_elem? v.slots.waits k ≡ some x) × (x.slot ≡ slot) × (3 ≤ x.changes)
+
+-- each of these: what was known before, the number found (at a store the number stored), and what is known after
+-- a step of the epoch's part leaves what is known of the others
+abbrev pub OnEpoch : (EpochView → ℕ → EpochView → Type 0) → View → ℕ → View → Type 0
+OnEpoch R v x w = (e : EpochView) × (w ≡ record v { epoch = e }) × R v.epoch x e
+
+-- but for a publish and a close
+abbrev pub PublishesAll : View → ℕ → View → Type 0
+PublishesAll v x w = (e : EpochView) × (w ≡ record v { epoch = e; slots = changed v }) × Publishes v.epoch x e
+
+abbrev pub ClosesAll : View → ℕ → View → Type 0
+ClosesAll v x w = w ≡ record v { epoch = closed v.epoch; slots = unseeing v }
+
+-- the claim of a slot whose word is old as long as it is free
+abbrev pub Claims : ℕ → ℕ → ℕ → View → ℕ → View → Type 0
+Claims slot old y v x w = (x ≡ old → w ≡ claimed slot y v) × (x ≢ old → w ≡ v) × Knew slot v x
+
+-- an owned item waits from the count of this moment on, which is known after it: under an open guard the one at the publish, or one more.
+-- Fewer items than there are slots waited before
+abbrev pub Retires : ℕ → View → ℕ → View → Type 0
+Retires slot v y w = (count : ℕ) × (v.epoch.known ≤ count) × (IsLone v.epoch → count ≡ v.epoch.known) × (w ≡ retired slot y count v)
+    × (IsOpen v.epoch → count ≤ v.epoch.since + 1) × (length v.slots.waits < v.sizes.slots)
+
+-- the slot is free, in which one item waited
+abbrev pub GivesBack : ℕ → View → ℕ → View → Type 0
+GivesBack slot v y w = (w ≡ given_back slot y v) × (items_at slot v ≡ 1)
+
+-- the word of a slot is looked at
+abbrev pub LooksAtSlot : ℕ → View → ℕ → View → Type 0
+LooksAtSlot slot v x w = (w ≡ v) × Knew slot v x
+
+-- a slot of the participant's own is held
+abbrev pub TakesHold : ℕ → View → ℕ → View → Type 0
+TakesHold slot v x w = (w ≡ held slot v) × Knew slot v x
+
+-- it no longer is
+abbrev pub LetsGo : ℕ → View → ℕ → View → Type 0
+LetsGo slot v x w = (w ≡ release_hold v) × Knew slot v x
+
+-- its item goes at once
+abbrev pub Discards : ℕ → View → ℕ → View → Type 0
+Discards slot v y w = w ≡ discarded slot y v
+
+-- a look at the state of a place, whose word is i: is a guard open there, which may see what is held? Of its own place it knows
+abbrev pub LooksForGuard : ℕ → View → ℕ → View → Type 0
+LooksForGuard i v x w = (place : ℕ) → i ≡ state_word place
+    → (x ≢ 2 → w ≡ looked_past place v) × (x ≡ 2 → w ≡ v) × (HasPlace v.epoch → place ≡ v.epoch.place → x ≡ v.epoch.state)
+
+-- a step on the word i tells R of the slot whose word it is
+abbrev pub AtSlot : (ℕ → View → ℕ → View → Type 0) → ℕ → View → ℕ → View → Type 0
+AtSlot R i v x w = (slot : ℕ) → i ≡ slot_word v.sizes slot → R slot v x w

@@ -1,0 +1,71 @@
+-- The part of the rule for slots and cells
+use Rattle.std.specs.Prelude.{◌≡◌, ℕ, ◌+◌, ◌<◌, ◌≤◌, List, length, drop, slice_index, Some}
+use mathlib.Core.Option.{some}
+use lib.ListN.{get_elem?}
+use Rattle.sdd_views.specs.declared.EpochView.{EpochView}
+use Rattle.sdd_views.specs.declared.WaitingItem.{WaitingItem}
+use Rattle.sdd_views.specs.declared.View.{View}
+use Rattle.sdd_views.specs.declared.Sizes.{Sizes}
+use Rattle.sdd_word_invariant.specs.Words.{after_places, first_cell, slot_word, all_words}
+use Rattle.sdd_word_invariant.specs.Epoch.{HasPlace, IsOpen}
+use Rattle.sdd_word_invariant.specs.Sums.{total, span, is, times}
+use Rattle.sdd_word_invariant.specs.Codes.{WordReading}
+
+abbrev pub slot_at : Sizes → List ℕ → ℕ → ℕ
+slot_at sizes ws i = slice_index ws (slot_word sizes i)
+
+-- how many owners of the slot i it has
+abbrev pub owners_at : ℕ → View → ℕ
+owners_at i v = times i v.slots.owns + times i v.slots.shares
+
+abbrev pub waits_in : ℕ → WaitingItem → ℕ
+waits_in i x = is i x.slot
+
+-- how many items of the slot i wait with it
+abbrev pub items_at : ℕ → View → ℕ
+items_at i v = total (waits_in i) v.slots.waits
+
+-- it has the only owner of the slot i
+abbrev pub OwnsAlone : View → ℕ → Type 0
+OwnsAlone v i = 0 < times i v.slots.owns
+
+-- a guard of its own sees the slot i
+abbrev pub Sees : View → ℕ → Type 0
+Sees v i = 0 < times i v.slots.sees
+
+abbrev pub Holds : View → ℕ → Type 0
+Holds v i = v.slots.holds ≡ Some i
+
+-- an item that waits with a participant was retired at a count that this one knows;
+-- after k > 0 changes the last count that it found is at least the one at the retirement and k - 1 more
+pub record IsTimed (v : EpochView) (x : WaitingItem) : Type 0 where
+  pub known : x.retired_at ≤ v.known
+  pub found : 0 < x.changes → x.retired_at + x.changes ≤ v.found + 1
+
+-- what is true of one participant and the words
+pub record Tallies (z : WordReading) (sizes : Sizes) (ws : List ℕ) (v : View) : Type 0 where
+  pub timed : (k : ℕ) (x : WaitingItem) → get_elem? v.slots.waits k ≡ some x → IsTimed v.epoch x
+  pub guarded : (i : ℕ) → Sees v i → IsOpen v.epoch
+  pub full : (i : ℕ) → Sees v i → z.full (slot_at sizes ws i) ≡ 1
+  pub alone : (i : ℕ) → OwnsAlone v i → (z.alive (slot_at sizes ws i) ≡ 1) × (z.counted (slot_at sizes ws i) ≡ 0)
+  pub held : (i : ℕ) → Holds v i → OwnsAlone v i
+
+-- what is true of any two participants, and of one with itself: a guard that sees an item's slot has published at most at the item's
+-- retirement; and who holds a slot has not looked past a place whose guard sees it
+pub record IsGuarded (v w : View) : Type 0 where
+  pub since : (i k : ℕ) (x : WaitingItem) → Sees v i → get_elem? w.slots.waits k ≡ some x → x.slot ≡ i → v.epoch.since ≤ x.retired_at
+  pub looked : (i : ℕ) → Sees v i → Holds w i → w.slots.looked ≤ v.epoch.place
+
+-- the words, and what all participants know: the owners of a slot in views and in cells are as many as its word says,
+-- and an item waits with somebody exactly where the word says so
+pub record SlotsPart (z : WordReading) (sizes : Sizes) (ws : List ℕ) (vs : List View) : Type 0 where
+  pub long : length ws ≡ all_words sizes
+  pub owned : (i : ℕ) → z.alive (slot_at sizes ws i) ≡ total (owners_at i) vs + span (z.names i) ws (first_cell sizes) sizes.cells
+  pub waited : (i : ℕ) → z.waiting (slot_at sizes ws i) ≡ total (items_at i) vs
+  pub each : (j : ℕ) (v : View) → get_elem? vs j ≡ some v → Tallies z sizes ws v
+  pub two : (j k : ℕ) (v w : View) → get_elem? vs j ≡ some v → get_elem? vs k ≡ some w → IsGuarded v w
+
+-- where there is one place, its participant knows each word behind the places'
+pub record LonePart (sizes : Sizes) (ws : List ℕ) (vs : List View) : Type 0 where
+  pub knows : sizes.participants ≡ 1 → (j : ℕ) (v : View) → get_elem? vs j ≡ some v → HasPlace v.epoch
+      → v.words ≡ drop (after_places sizes.participants) ws

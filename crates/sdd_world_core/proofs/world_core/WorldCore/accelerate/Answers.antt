@@ -1,0 +1,22 @@
+use Rattle.std.proofs.Common.{ℕ, List, refl}
+use Rattle.sdd_participants.specs.EpochState as time
+use Rattle.sdd_participants.specs.declared.epoch_state.Participant.{Participant}
+use Rattle.sdd_space.specs.OwnerOrCell.{OwnerOrCell}
+use Rattle.sdd_space.specs.Loans.{Loans}
+use Rattle.sdd_space.specs.World.{World, IsPlaceOf, place_at}
+use Rattle.sdd_space.specs.Whole.{IsWhole}
+use Rattle.sdd_space.specs.Steps.{accelerated}
+use Rattle.sdd_world_core.specs.Lending.{AreLentOf}
+use Rattle.sdd_space.specs.WorldStep.WorldStep.{accelerates}
+use Rattle.sdd_world_core.proofs.Lending.{lent-call, guards-placed, readers-placed}
+use Rattle.sdd_world_core.proofs.world_core.WorldCore.accelerate.Goals as goal
+
+lent-after : {T : Type 0} (holds : T → List OwnerOrCell) (w : World T) (l : Loans) (p : ℕ) → IsPlaceOf w p → IsWhole w → AreLentOf w l →
+    AreLentOf (accelerated w p) l
+lent-after holds w l p live i k =
+    let x : Participant = time.accelerated (place_at w p) in
+    lent-call holds w (record w { time = time.with_place w.time p x }) l (accelerates w p live) i (λ h. readers-placed w p x h)
+    (guards-placed w p x live.0 refl) k
+
+pub returns-clause-lent : goal.returns-clause-lent
+returns-clause-lent g c = rw (← c.self.view_is, c.accelerate.ensures) (lent-after g.T.Item.holds _ _ c.args.place (rw (← c.self.view_is) at c.requires.place))

@@ -1,0 +1,42 @@
+use Rattle.std.proofs.Common.{ℕ, List, refl}
+use Rattle.sdd_participants.specs.Slab.{IsEmptyAt}
+use Rattle.sdd_participants.specs.EpochState as time
+use Rattle.sdd_participants.specs.declared.epoch_state.Participant.{Participant}
+use Rattle.sdd_participants.specs.declared.waiting.LimboEntry.TheVariants.{Job}
+use Rattle.sdd_space.specs.OwnerOrCell.{OwnerOrCell}
+use Rattle.sdd_space.specs.Loans.{Loans}
+use Rattle.sdd_space.specs.World.{World, IsPlaceOf, place_at}
+use Rattle.sdd_space.specs.Whole.{IsWhole}
+use Rattle.sdd_space.specs.Steps.{deferred}
+use Rattle.sdd_space.specs.WorldStep.WorldStep.{defers}
+use Rattle.sdd_world_core.specs.Lending.{AreLentOf}
+use Rattle.sdd_world_core.proofs.Lending.{lent-call, guards-placed, readers-placed}
+use Rattle.sdd_world_core.proofs.Sound.{job-room, sound-job}
+use Rattle.sdd_world_core.proofs.world_core.WorldCore.defer_execute.Goals as goal
+
+lent-after : {T : Type 0} (holds : T → List OwnerOrCell) (w : World T) (l : Loans) (p j : ℕ) → IsPlaceOf w p → IsEmptyAt w.jobs j → IsWhole w →
+    AreLentOf w l → AreLentOf (deferred w p j) l
+lent-after holds w l p j live free i k =
+    let x : Participant = time.awaiting (Job j) (place_at w p) in
+    lent-call holds w (deferred w p j) l (defers w p j live free) i
+    (λ h. let r = readers-placed w p x h in record { places = r.places; nesting = r.nesting }) (guards-placed w p x live.0 refl) k
+
+pub returns-clause-lent : goal.returns-clause-lent
+returns-clause-lent g c =
+    let put = c.in_ok-number.ensures.put in
+    rw (← c.self.view_is, put.1, c.wait.ensures)
+    (lent-after g.T.Item.holds _ _ c.args.place c.in_ok-number.number (rw (← c.self.view_is) at c.requires.place) put.0)
+
+pub wait-requires-clause-room : goal.wait-requires-clause-room
+wait-requires-clause-room g c =
+    let there = rw (← c.self.view_is) at c.requires.place in
+    let i = c.self.inside in
+    job-room g.T.Item.holds i.time i.slots i.cells i.jobs i.tenures c.args.place there.0 c.self.invariant c.in_ok-number.number c.in_ok-number.ensures.put.0
+
+pub invariant_of-self-2 : goal.invariant_of-self-2
+invariant_of-self-2 g c =
+    let there = rw (← c.self.view_is) at c.requires.place in
+    let i = c.self.inside in
+    let put = c.in_ok-number.ensures.put in
+    rw (put.1, c.wait.ensures)
+    (sound-job g.T.Item.holds i.time i.slots i.cells i.jobs i.tenures c.args.place there.0 c.self.invariant c.in_ok-number.number put.0)

@@ -1,0 +1,3 @@
+pub mod WorldCore
+pub mod Lending
+pub mod Closing

@@ -1,0 +1,70 @@
+//! What waits is reclaimed, or runs.
+ghost use Rattle.std.specs.Prelude.{◌≡◌, ℕ, ◌+◌, ◌<◌, ◌≤◌, Contains, length, MatchResult};
+ghost use Rattle.sdd_participants.specs.declared.waiting.LimboEntry.TheVariants.{Item};
+ghost use Rattle.sdd_participants.specs.Slab.{IsEmptyAt, IsFull};
+ghost use Rattle.sdd_space.specs.World.{most, weight, KeepsSizes, HasPlace, IsPlaceOf};
+ghost use Rattle.sdd_space.specs.Steps.{deferred, slot_reclaimed, reclaimed, all_reclaimed};
+ghost use Rattle.sdd_space.specs.Whole.{IsWhole};
+ghost use Rattle.sdd_values.specs.Block.{IsHome};
+ghost use Rattle.sdd_world_core.specs.Lending.{AreLent};
+
+use super::WorldCore;
+use sdd_space::Item;
+use sdd_participants::{Job, LimboEntry};
+
+impl<T: Item<T>, J: Job> WorldCore<T, J> {
+    /// A job waits with a place, if a place of the table of jobs is free, and which that is is told; else it comes back.
+    pub fn defer_execute(&mut self, place: usize, job: J) -> Result<u32, J>
+        requires place { IsPlaceOf self.old.world place }
+        ensures deferred { MatchResult result
+            (λ number. IsEmptyAt self.old.world.jobs number × (self.new ≡ record self.old { world = deferred self.old.world place number }))
+            (λ back. IsFull self.old.world.jobs × (back ≡ job) × (self.new ≡ self.old)) }
+        ensures sizes { KeepsSizes self.old.world self.new.world }
+        ensures whole { IsWhole self.old.world → IsWhole self.new.world }
+        ensures lent { IsWhole self.old.world → AreLent self.old → AreLent self.new }
+    {
+        let number = self.jobs.put(job)?;
+        self.time.wait(place, LimboEntry::Job(number));
+        Ok(number)
+    }
+
+    /// An item that waited is reclaimed, and its value gives up to the place what it holds.
+    fn reclaim_item(&mut self, place: usize, slot: u32)
+        requires place { HasPlace self.old.world place }
+        requires room { weight self.old.world < most self.old.world }
+        requires home { IsHome self.old.lending.stakes slot }
+        ensures { self.new ≡ record self.old { world = slot_reclaimed T.holds self.old.world place slot } }
+    {
+        let Some(value) = self.slots.reclaim(slot) else {
+            return;
+        };
+        self.tally.count_reclaimed();
+        self.give_up(place, value);
+    }
+
+    /// An item that waited is reclaimed, or a job that waited runs.
+    fn reclaim(&mut self, place: usize, what: LimboEntry)
+        requires place { HasPlace self.old.world place }
+        requires room { weight self.old.world < most self.old.world }
+        requires home { (k : ℕ) → what ≡ Item k → IsHome self.old.lending.stakes k }
+        ensures { self.new ≡ record self.old { world = reclaimed T.holds self.old.world place what } }
+    {
+        match what {
+            LimboEntry::Item(slot) => self.reclaim_item(place, slot),
+            LimboEntry::Job(number) => self.jobs.run(number),
+        }
+    }
+
+    /// The same of one after another.
+    pub(super) fn reclaim_all(&mut self, place: usize, due: &[LimboEntry])
+        requires place { HasPlace self.old.world place }
+        requires room { weight self.old.world + length due.now ≤ most self.old.world }
+        requires home { (k : ℕ) → Contains due.now (Item k) → IsHome self.old.lending.stakes k }
+        ensures reclaimed { self.new ≡ record self.old { world = all_reclaimed T.holds self.old.world place due.now } }
+        ensures sizes { KeepsSizes self.old.world self.new.world }
+    {
+        for what in due {
+            self.reclaim(place, *what);
+        }
+    }
+}
